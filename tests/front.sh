@@ -122,7 +122,7 @@ replaying() {
     echo replayed > "$work/lines"
     expect "./psci replay by the program that only replays" 0
     answers "./psci replay by the program that only replays"
-    touch -d "1 minute" "$fresh/crates/psci_present/src/lib.rt"
+    touch -d "1 minute" "$fresh/crates/psci_machine/src/lib.rt"
     PATH=$fresh/kit/bin:$PATH front_of "$fresh" replay
     if head -n 1 "$work/err" | grep -q "^psci: nothing of this run is proved"; then pass; else
         fail "./psci replay by a program that is older than a source: $(head -n 1 "$work/err")"

@@ -15,7 +15,7 @@ use Rattle.psci_script.specs.declared.fault.ReplayFault.TheVariants.{Script, Boa
 use Rattle.psci_script.specs.declared.fault.ReplayFault.TheVariants.{Memory}
 use Rattle.psci_script.specs.declared.fault.ScriptFault.TheVariants as faults
 use Rattle.psci_script.specs.Script.{transcript}
-use Rattle.psci_present.specs.Safe.{AlwaysSafe}
+use Rattle.psci_machine.specs.Safe.{AlwaysSafe}
 use Rattle.psci_script.specs.ScriptRun.{ScriptRun, run_of}
 use Rattle.psci_script.proofs.EndRows.{answering, board, entered, text}
 use Rattle.psci_answers.specs.ScriptRun.{AllSafe, IsSafeText, Prints, SaysRun, WritesPart}

@@ -6,7 +6,7 @@ use Rattle.std.proofs.lemmas.List.{append-nil, append_assoc}
 use Rattle.psci_script.specs.psci_board.Board.{BoardValue, IsBoard}
 use Rattle.psci_script.specs.psci_board.Verdict.{board_of}
 use Rattle.psci_script.specs.psci_board.declared.fault.BoardFault.{BoardFault}
-use Rattle.psci_present.specs.Safe.{AlwaysSafe}
+use Rattle.psci_machine.specs.Safe.{AlwaysSafe}
 use Rattle.psci_script.specs.psci_world_spec.declared.event.Event.{Event}
 use Rattle.psci_script.specs.psci_world_spec.declared.said.Record.{Record}
 use Rattle.psci_script.specs.psci_world_spec.Legal.{IsLegalPast, legal, legal_record, run_from}

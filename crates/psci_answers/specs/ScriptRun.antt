@@ -2,7 +2,7 @@
 use Rattle.std.specs.Prelude.{◌≡◌, ℕ, ◌+◌, List, [], ◌∷◌, ◌++◌, length, Option, None, Some, Result}
 use Rattle.std.specs.Prelude.{Ok, Err, IfSome, take}
 use Rattle.std.specs.Io.KnownBytes.{Appends}
-use Rattle.psci_present.specs.Safe.{AlwaysSafe}
+use Rattle.psci_machine.specs.Safe.{AlwaysSafe}
 use Rattle.psci_script.specs.psci_world_spec.declared.said.Record.{Record}
 use Rattle.psci_script.specs.psci_world_spec.Legal.{IsLegalPast}
 use Rattle.psci_script.specs.declared.fault.Replayed.{Replayed}

@@ -2,7 +2,7 @@
 
 ghost use Rattle.psci_answers.specs.ScriptRun.{AllSafe};
 
-use psci_present::{law_runs, law_safe};
+use psci_machine::{law_runs, law_safe};
 use psci_script::law_boards;
 
 /// The answer text of every script is that of the legal run of its events, up to the first fault,

@@ -6,7 +6,7 @@ ghost use Rattle.psci_script.specs.Run.{Replays};
 ghost use Rattle.psci_answers.specs.ScriptRun.{Prints};
 
 use crate::laws::law_safe_scripts;
-use psci_present::{Memory, Present};
+use psci_machine::{Memory, Present};
 use psci_script::{Answers, Board, Event, ReplayFault, Replayed, Sink, Source, Teller, tell};
 use std::alloc::{AllocError, Global};
 
@@ -21,7 +21,7 @@ struct Answering {
 }
 
 impl Teller<AnswerLines> for Answering {
-    ghost use Rattle.psci_present.specs.Seen.{IsPresent};
+    ghost use Rattle.psci_machine.specs.Present.{IsPresent};
     ghost use Rattle.psci_answers.specs.ScriptRun.{AnswersRun};
 
     ghost is_at = { λ answering form run. IsPresent run.board run.past answering.present };

@@ -10,9 +10,9 @@ use Rattle.psci_world_spec.specs.psci_messages.declared.kind.Kind.TheVariants as
 use Rattle.psci_world_spec.specs.psci_messages.declared.start.Cause.TheVariants as causes
 use Rattle.psci_shared.specs.declared.entry.FwEntry.{FwEntry}
 use Rattle.psci_shared_ctl.specs.declared.entry.CtlEntry.{CtlEntry}
-use Rattle.psci_audit_spec.specs.Entries.{Asked}
-use Rattle.psci_audit_spec.specs.Told.{asked}
-use Rattle.psci_audit_spec.proofs.ListRows.{start}
+use Rattle.psci_audit.specs.Entries.{Asked}
+use Rattle.psci_audit.specs.Told.{asked}
+use Rattle.psci_audit.proofs.ListRows.{start}
 use Rattle.psci_audit.specs.Merged.{IsIn, TicketsFit, asked_by, controlled_by, is_asked_first}
 use Rattle.psci_audit.specs.Merged.{merged}
 

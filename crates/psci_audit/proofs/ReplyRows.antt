@@ -18,7 +18,7 @@ use Rattle.psci_world_spec.specs.declared.said.Said.TheVariants.{Absent, Acked, 
 use Rattle.psci_world_spec.specs.declared.said.Said.TheVariants.{Taken}
 use Rattle.psci_world_spec.proofs.Scripts.{board}
 use Rattle.psci_world.specs.Seen.{WorldValue}
-use Rattle.psci_audit_spec.proofs.ListRows.{ack_3, boots, judging, start, start_3, version}
+use Rattle.psci_audit.proofs.ListRows.{ack_3, boots, judging, start, start_3, version}
 use Rattle.psci_audit.specs.Following.{Follows, IsStep}
 use Rattle.psci_audit.specs.Replies.{SaysDelivery, SaysKick, SaysOutcome, SaysTaken}
 

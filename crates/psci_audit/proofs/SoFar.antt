@@ -10,9 +10,9 @@ use Rattle.psci_world_spec.specs.declared.said.Record.{Record}
 use Rattle.psci_shared.specs.declared.entry.FwEntry.{FwEntry}
 use Rattle.psci_shared_ctl.specs.declared.entry.CtlEntry.{CtlEntry}
 use Rattle.psci_world.specs.Seen.{WorldValue}
-use Rattle.psci_audit_spec.specs.Entries.{Entry}
-use Rattle.psci_audit_spec.specs.Legal.{IsLegal}
-use Rattle.psci_audit_spec.specs.Told.{IsListOfSafe, Tells}
+use Rattle.psci_audit.specs.Entries.{Entry}
+use Rattle.psci_audit.specs.Legal.{IsLegal}
+use Rattle.psci_audit.specs.Told.{IsListOfSafe, Tells}
 use Rattle.psci_audit.specs.Following.{IsStep}
 use Rattle.psci_world.specs.psci_board.declared.memory.Memory.{Memory as NoMemory}
 use Rattle.psci_audit.specs.declared.fault.AuditFault.{AuditFault}

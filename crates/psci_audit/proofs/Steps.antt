@@ -30,14 +30,14 @@ use Rattle.psci_world_spec.specs.Legal.{if_stopped, legal, legal_record}
 use Rattle.psci_world_spec.specs.Lists.{indexed}
 use Rattle.psci_world_spec.specs.Places.{place}
 use Rattle.psci_world.specs.Seen.{WorldValue}
-use Rattle.psci_audit_spec.specs.Entries.{Entry, Asked, Controlled}
-use Rattle.psci_audit_spec.specs.Legal.{MayBe, MayWake}
-use Rattle.psci_audit_spec.specs.Told.{IsTold, Tells, asked, controlled}
-use Rattle.psci_audit_spec.proofs.Following.{call_next, deliver_next, enter_next, follows}
-use Rattle.psci_audit_spec.proofs.Following.{reset_next, take_next, wake_next}
-use Rattle.psci_audit_spec.proofs.Only.{may_follow}
-use Rattle.psci_audit_spec.proofs.Reading.{at_core}
-use Rattle.psci_audit_spec.proofs.Telling.{now_of}
+use Rattle.psci_audit.specs.Entries.{Entry, Asked, Controlled}
+use Rattle.psci_audit.specs.Legal.{MayBe, MayWake}
+use Rattle.psci_audit.specs.Told.{IsTold, Tells, asked, controlled}
+use Rattle.psci_audit.proofs.MayFollow.{call_next, deliver_next, enter_next, follows}
+use Rattle.psci_audit.proofs.MayFollow.{reset_next, take_next, wake_next}
+use Rattle.psci_audit.proofs.Only.{may_follow}
+use Rattle.psci_audit.proofs.Reading.{at_core}
+use Rattle.psci_audit.proofs.Telling.{now_of}
 use Rattle.psci_audit.specs.Following.{IsStep}
 use Rattle.psci_audit.specs.Replies.{SaysDelivery, SaysKick, SaysOutcome, SaysTaken}
 

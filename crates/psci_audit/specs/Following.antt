@@ -1,9 +1,9 @@
 -- One entry more.
 use Rattle.std.specs.Prelude.{Bool, true, false, List, ◌∷◌}
 use Rattle.psci_world.specs.Seen.{WorldValue}
-use Rattle.psci_audit_spec.specs.Entries.{Entry}
-use Rattle.psci_audit_spec.specs.Legal.{MayFollow}
-use Rattle.psci_audit_spec.specs.Told.{Tells}
+use Rattle.psci_audit.specs.Entries.{Entry}
+use Rattle.psci_audit.specs.Legal.{MayFollow}
+use Rattle.psci_audit.specs.Told.{Tells}
 
 -- whether an entry may follow those that the records tell, which then tell it too
 abbrev pub Follows : WorldValue → WorldValue → List Entry → Entry → Bool → Type 0

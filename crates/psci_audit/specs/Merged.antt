@@ -7,9 +7,9 @@ use Rattle.psci_world_spec.specs.psci_fw_spec.declared.call.FwCall.{FwCall}
 use Rattle.psci_world_spec.specs.psci_fw_spec.declared.call.FwCall.TheVariants as calls
 use Rattle.psci_shared.specs.declared.entry.FwEntry.{FwEntry}
 use Rattle.psci_shared_ctl.specs.declared.entry.CtlEntry.{CtlEntry}
-use Rattle.psci_audit_spec.specs.Entries.{Entry, Asked, Controlled}
-use Rattle.psci_audit_spec.specs.Legal.{IsLegal, MayFollow}
-use Rattle.psci_audit_spec.specs.Told.{asked, controlled}
+use Rattle.psci_audit.specs.Entries.{Entry, Asked, Controlled}
+use Rattle.psci_audit.specs.Legal.{IsLegal, MayFollow}
+use Rattle.psci_audit.specs.Told.{asked, controlled}
 use Rattle.psci_world.specs.psci_board.declared.memory.Memory.{Memory as NoMemory}
 use Rattle.psci_audit.specs.declared.fault.AuditFault.{AuditFault}
 use Rattle.psci_audit.specs.declared.fault.AuditFault.TheVariants.{Ticket, Illegal, Memory}

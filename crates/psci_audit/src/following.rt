@@ -3,10 +3,10 @@
 
 ghost use Rattle.std.specs.Prelude.{◌≡◌, ◌<◌, ◌↔◌, ℕ, IfOk, IsTrue, List, Some};
 ghost use Rattle.psci_audit.specs.Merged.{asked_by, controlled_by};
-ghost use Rattle.psci_audit.specs.psci_board.Board.{cores};
+ghost use Rattle.psci_world.specs.psci_board.Board.{cores};
 ghost use Rattle.psci_audit.specs.Following.{IsStep};
-ghost use Rattle.psci_audit_spec.specs.Entries.{Entry, Asked, Controlled};
-ghost use Rattle.psci_audit_spec.specs.Told.{Tells, asked, controlled};
+ghost use Rattle.psci_audit.specs.Entries.{Entry, Asked, Controlled};
+ghost use Rattle.psci_audit.specs.Told.{Tells, asked, controlled};
 ghost use Rattle.psci_world_spec.specs.psci_fw_spec.declared.call.FwCall.TheVariants as calls;
 ghost use Rattle.psci_world_spec.specs.psci_ctl_spec.declared.call.CtlCall.TheVariants as asks;
 ghost use Rattle.psci_world_spec.specs.psci_ctl_spec.Replies.{last_start};

@@ -3,14 +3,14 @@
 ghost use Rattle.std.specs.Prelude.{◌≡◌, ◌<◌, [], IfErr, IfOk, IsTrue, OnOk, length};
 ghost use Rattle.psci_audit.specs.Merged.{IsFault, IsFirstIllegal, IsFollowed, IsJudged, IsSound};
 ghost use Rattle.psci_audit.specs.Merged.{history_of, is_asked_first, merged};
-ghost use Rattle.psci_audit_spec.specs.Legal.{IsLegal};
-ghost use Rattle.psci_audit_spec.specs.Told.{IsListOfSafe, Tells};
+ghost use Rattle.psci_audit.specs.Legal.{IsLegal};
+ghost use Rattle.psci_audit.specs.Told.{IsListOfSafe, Tells};
 
 use crate::fault::AuditFault;
 use crate::following::{follow_controller, follow_firmware};
+use crate::laws::law_told;
 use crate::tickets::tickets_fit;
 use crate::trace::Trace;
-use psci_audit_spec::law_told;
 use psci_shared::FwEntry;
 use psci_shared_ctl::CtlEntry;
 use psci_world::{Board, Memory, World};

@@ -20,11 +20,11 @@ use Rattle.psci_world_spec.specs.psci_messages.declared.start.Cause.TheVariants 
 use Rattle.psci_world_spec.specs.psci_messages.declared.start.Start.{Start}
 use Rattle.psci_world_spec.specs.psci_messages.Message.{MessageValue}
 use Rattle.psci_world_spec.proofs.Scripts.{board, part}
-use Rattle.psci_audit_spec.specs.Entries.{Entry, Asked, Controlled}
-use Rattle.psci_audit_spec.specs.Legal.{IsLegal}
-use Rattle.psci_audit_spec.specs.Told.{asked, controlled}
-use Rattle.psci_audit_spec.proofs.ListRows.{boots, delivers_3, enters, judging, on_3}
-use Rattle.psci_audit_spec.proofs.ListRows.{number_in, resets, start, start_number, version}
+use Rattle.psci_audit.specs.Entries.{Entry, Asked, Controlled}
+use Rattle.psci_audit.specs.Legal.{IsLegal}
+use Rattle.psci_audit.specs.Told.{asked, controlled}
+use Rattle.psci_audit.proofs.ListRows.{boots, delivers_3, enters, judging, on_3}
+use Rattle.psci_audit.proofs.ListRows.{number_in, resets, start, start_number, version}
 
 -- a core calls a function with one argument, stops, and sends a message or none
 abbrev pub stops : ℕ → ℕ → ℕ → Option MessageValue → Entry

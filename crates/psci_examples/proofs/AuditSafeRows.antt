@@ -11,18 +11,18 @@ use Rattle.psci_world_spec.specs.Legal.{run_from}
 use Rattle.psci_world_spec.proofs.Runs.{stays_legal}
 use Rattle.psci_world_spec.proofs.Scripts as scripts
 use Rattle.psci_world_spec.proofs.Scripts.{IsSaid, board, call, part}
-use Rattle.psci_safe.specs.Claims.{claims, live_claims}
-use Rattle.psci_safe.specs.Hardware.{was_in_state}
-use Rattle.psci_safe.specs.Moments.{was_powered_down}
-use Rattle.psci_safe.specs.Openings.{openings, taken_up}
-use Rattle.psci_safe.specs.Test.{is_always_safe}
-use Rattle.psci_safe.proofs.AllTested.{always_tested}
-use Rattle.psci_audit_spec.specs.Entries.{Entry}
-use Rattle.psci_audit_spec.specs.Legal.{IsLegal}
-use Rattle.psci_audit_spec.specs.Told.{IsListOfSafe, Tells}
-use Rattle.psci_audit_spec.proofs.ListRows.{boots, enters, judging, number_in}
-use Rattle.psci_audit_spec.proofs.ListRows.{resets, start, start_3, start_number, version}
-use Rattle.psci_audit_spec.proofs.Only.{legal_list}
+use Rattle.psci_headline.specs.Claims.{claims, live_claims}
+use Rattle.psci_headline.specs.Hardware.{was_in_state}
+use Rattle.psci_headline.specs.Moments.{was_powered_down}
+use Rattle.psci_headline.specs.Openings.{openings, taken_up}
+use Rattle.psci_headline.specs.Test.{is_always_safe}
+use Rattle.psci_headline.proofs.AllTested.{always_tested}
+use Rattle.psci_audit.specs.Entries.{Entry}
+use Rattle.psci_audit.specs.Legal.{IsLegal}
+use Rattle.psci_audit.specs.Told.{IsListOfSafe, Tells}
+use Rattle.psci_audit.proofs.ListRows.{boots, enters, judging, number_in}
+use Rattle.psci_audit.proofs.ListRows.{resets, start, start_3, start_number, version}
+use Rattle.psci_audit.proofs.Only.{legal_list}
 use Rattle.psci_examples.proofs.AuditRows.{answered_while_halting, boots_in, by_the_last_life}
 use Rattle.psci_examples.proofs.AuditRows.{by_the_third, ends, message, on}
 use Rattle.psci_examples.proofs.AuditRows.{original_in_extended, refused, returns, stops}

@@ -4,26 +4,26 @@ use Rattle.std.proofs.Common.{◌==◌, cond, List, [], ◌∷◌, Some, refl, s
 use Rattle.std.proofs.Common.{sym, ◌∙◌, arith}
 use Rattle.std.specs.Prelude.{nat_le, slice_get}
 use Rattle.std.proofs.lemmas.Bool.{and_parts, eqb-false, eqb-true, ne_eqb, and_right}
-use Rattle.psci_world_laws.specs.psci_board.Board.{BoardValue, height, up}
-use Rattle.psci_world_laws.specs.psci_ctl_spec.History as controls
-use Rattle.psci_world_laws.specs.psci_ctl_spec.Values as controlled
-use Rattle.psci_world_laws.specs.psci_fw_spec.declared.status.Status.TheVariants as statuses
-use Rattle.psci_world_laws.specs.psci_fw_spec.History as remembers
-use Rattle.psci_world_laws.specs.psci_fw_spec.Values.{Values}
-use Rattle.psci_world_laws.specs.psci_messages.declared.kind.Kind.TheVariants.{Down}
-use Rattle.psci_world_laws.specs.psci_messages.Message.{AckValue, MessageValue}
-use Rattle.psci_world_laws.specs.psci_messages.Slots.{OfCore, is_kind, slot_of}
-use Rattle.psci_world_laws.specs.psci_fw_laws.Allowed.{IsAllowed, IsAwaited}
-use Rattle.psci_world_laws.specs.psci_fw_laws.Kept.{Holds}
-use Rattle.psci_world_laws.specs.psci_world_spec.declared.said.Record.{Record}
-use Rattle.psci_world_laws.specs.psci_world_spec.Histories.{ack_in, acks, controller_history}
-use Rattle.psci_world_laws.specs.psci_world_spec.Histories.{controller_values, firmware_history}
-use Rattle.psci_world_laws.specs.psci_world_spec.Histories.{firmware_values}
-use Rattle.psci_world_laws.specs.psci_world_spec.Histories.{sent}
-use Rattle.psci_world_laws.specs.psci_world_spec.Legal.{IsLegalPast}
-use Rattle.psci_world_laws.proofs.world_spec.Answered.{firmware_legal}
-use Rattle.psci_world_laws.specs.Agreement.{Agree}
-use Rattle.psci_safe.specs.Moments.{was_powered_down, is_reported_off}
+use Rattle.psci_board.specs.Board.{BoardValue, height, up}
+use Rattle.psci_ctl_spec.specs.History as controls
+use Rattle.psci_ctl_spec.specs.Values as controlled
+use Rattle.psci_fw_laws.specs.psci_fw_spec.declared.status.Status.TheVariants as statuses
+use Rattle.psci_fw_laws.specs.psci_fw_spec.History as remembers
+use Rattle.psci_fw_laws.specs.psci_fw_spec.Values.{Values}
+use Rattle.psci_ctl_spec.specs.psci_messages.declared.kind.Kind.TheVariants.{Down}
+use Rattle.psci_ctl_spec.specs.psci_messages.Message.{AckValue, MessageValue}
+use Rattle.psci_ctl_spec.specs.psci_messages.Slots.{OfCore, is_kind, slot_of}
+use Rattle.psci_fw_laws.specs.Allowed.{IsAllowed, IsAwaited}
+use Rattle.psci_fw_laws.specs.Kept.{Holds}
+use Rattle.psci_world_spec.specs.declared.said.Record.{Record}
+use Rattle.psci_world_spec.specs.Histories.{ack_in, acks, controller_history}
+use Rattle.psci_world_spec.specs.Histories.{controller_values, firmware_history}
+use Rattle.psci_world_spec.specs.Histories.{firmware_values}
+use Rattle.psci_world_spec.specs.Histories.{sent}
+use Rattle.psci_world_spec.specs.Legal.{IsLegalPast}
+use Rattle.psci_world_spec.proofs.Answered.{firmware_legal}
+use Rattle.psci_headline.specs.Agreement.{Agree}
+use Rattle.psci_headline.specs.Moments.{was_powered_down, is_reported_off}
 use Rattle.psci_headline.specs.PoweredDown.{AreDown}
 use Rattle.psci_headline.proofs.Acknowledging.{CoreLaws}
 use Rattle.psci_headline.proofs.CoreSteps.{IsStep, TurnsOff, step}
@@ -159,7 +159,7 @@ next_of b r past laws is =
     }
 
 pub first_life : (b : BoardValue) → (firmware_values b []).life ≡ 0
-unfolding firmware_history Rattle.psci_world_laws.specs.psci_fw_spec.History.values_of
+unfolding firmware_history Rattle.psci_fw_laws.specs.psci_fw_spec.History.values_of
 first_life b = refl
 
 no_acks : (k : ℕ) (a : AckValue) → slice_get (acks []) k ≡ Some a → ⊥
@@ -167,7 +167,7 @@ unfolding acks
 no_acks k a e = absurd (cc)
 
 pub first_controlled : (b : BoardValue) → controller_values b [] ≡ controlled.start_of_life b
-unfolding controller_history Rattle.psci_world_laws.specs.psci_ctl_spec.History.values_of
+unfolding controller_history Rattle.psci_ctl_spec.specs.History.values_of
 first_controlled b = refl
 
 first_down : (b : BoardValue) → CoreLaws b → AreDown b []

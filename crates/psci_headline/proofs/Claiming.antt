@@ -5,18 +5,18 @@ use Rattle.std.proofs.Common.{◌∙◌, subst}
 use Rattle.std.specs.Prelude.{nat_le, option_and_then, slice_get}
 use Rattle.std.proofs.lemmas.Bool.{and_from, eq-eqb, eqb-true, false_from_ne_true}
 use Rattle.std.proofs.lemmas.Bool.{le-leb, lt-ltb}
-use Rattle.psci_world_laws.specs.psci_board.Board.{BoardValue, HasNode, has_node, height, up}
-use Rattle.psci_world_laws.specs.psci_board.declared.node.Node.{Node}
-use Rattle.psci_world_laws.specs.psci_claims.psci_parts.declared.part.Part.{Part}
-use Rattle.psci_world_laws.specs.psci_messages.Message.{MessageValue}
-use Rattle.psci_world_laws.specs.psci_board.Paths.{is_on_path, is_path_place}
-use Rattle.psci_world_laws.specs.psci_fw_spec.Said.{listed}
-use Rattle.psci_world_laws.specs.psci_fw_spec.Values.{Values}
-use Rattle.psci_world_laws.specs.psci_fw_laws.Claims.{IsClaimOn, part_for}
-use Rattle.psci_world_laws.proofs.fw_laws.Parts.{claim_new, claim_old}
-use Rattle.psci_world_laws.specs.psci_world_spec.declared.said.Record.{Record}
-use Rattle.psci_world_laws.specs.psci_world_spec.Histories.{firmware_values, sent, sent_in}
-use Rattle.psci_safe.specs.Claims.{Claim, claim_by, claim_in, claims}
+use Rattle.psci_board.specs.Board.{BoardValue, HasNode, has_node, height, up}
+use Rattle.psci_board.specs.declared.node.Node.{Node}
+use Rattle.psci_fw_laws.specs.psci_claims.psci_parts.declared.part.Part.{Part}
+use Rattle.psci_ctl_spec.specs.psci_messages.Message.{MessageValue}
+use Rattle.psci_board.specs.Paths.{is_on_path, is_path_place}
+use Rattle.psci_fw_laws.specs.psci_fw_spec.Said.{listed}
+use Rattle.psci_fw_laws.specs.psci_fw_spec.Values.{Values}
+use Rattle.psci_fw_laws.specs.Claims.{IsClaimOn, part_for}
+use Rattle.psci_fw_laws.proofs.Parts.{claim_new, claim_old}
+use Rattle.psci_world_spec.specs.declared.said.Record.{Record}
+use Rattle.psci_world_spec.specs.Histories.{firmware_values, sent, sent_in}
+use Rattle.psci_headline.specs.Claims.{Claim, claim_by, claim_in, claims}
 
 -- The claim of one message ---------------------------------------------------------------------
 

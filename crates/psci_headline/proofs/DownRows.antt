@@ -4,17 +4,17 @@ use Rattle.std.proofs.Common.{◌≡◌, ◌≤◌, ◌<◌, ◌==◌, ◌||◌,
 use Rattle.std.proofs.Common.{List, [], ◌∷◌, None, Some, slice_get, refl, arith, sym, subst}
 use Rattle.std.proofs.lemmas.Bool.{ne_eqb}
 use Rattle.std.proofs.lemmas.Option.{same_Some}
-use Rattle.psci_world_laws.specs.psci_messages.declared.kind.Kind.TheVariants.{Down}
-use Rattle.psci_world_laws.specs.psci_messages.Message.{AckValue}
-use Rattle.psci_world_laws.specs.psci_fw_spec.Phases.{Running, Suspended, Away}
-use Rattle.psci_world_laws.specs.psci_world_spec.declared.event.Event.TheVariants.{Deliver, Enter}
-use Rattle.psci_world_laws.specs.psci_world_spec.declared.event.Event.TheVariants.{Take}
-use Rattle.psci_world_laws.specs.psci_world_spec.declared.said.Record.{Record}
-use Rattle.psci_world_laws.specs.psci_world_spec.Histories.{firmware_values}
-use Rattle.psci_world_laws.specs.psci_world_spec.Legal.{run_from}
-use Rattle.psci_world_laws.proofs.world_spec.Scripts.{acked, board, computing, off, on_3, retention}
-use Rattle.psci_world_laws.proofs.world_spec.Scripts.{system_reset, used}
-use Rattle.psci_safe.specs.Moments.{was_powered_down}
+use Rattle.psci_ctl_spec.specs.psci_messages.declared.kind.Kind.TheVariants.{Down}
+use Rattle.psci_ctl_spec.specs.psci_messages.Message.{AckValue}
+use Rattle.psci_fw_laws.specs.psci_fw_spec.Phases.{Running, Suspended, Away}
+use Rattle.psci_world_spec.specs.declared.event.Event.TheVariants.{Deliver, Enter}
+use Rattle.psci_world_spec.specs.declared.event.Event.TheVariants.{Take}
+use Rattle.psci_world_spec.specs.declared.said.Record.{Record}
+use Rattle.psci_world_spec.specs.Histories.{firmware_values}
+use Rattle.psci_world_spec.specs.Legal.{run_from}
+use Rattle.psci_world_spec.proofs.Scripts.{acked, board, computing, off, on_3, retention}
+use Rattle.psci_world_spec.proofs.Scripts.{system_reset, used}
+use Rattle.psci_headline.specs.Moments.{was_powered_down}
 use Rattle.psci_headline.specs.PoweredDown.{AreDown, IsDownBy}
 
 -- core 3 runs beside the boot core

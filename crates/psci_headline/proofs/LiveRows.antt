@@ -3,19 +3,19 @@ use Rattle.std.proofs.Common.{◌≡◌, ◌≤◌, ◌<◌, ℕ, zero, suc, pos
 use Rattle.std.proofs.Common.{true, false, List, [], ◌∷◌, None, Some}
 use Rattle.std.proofs.Common.{refl, arith, slice_get, ap, sym, ◌∙◌}
 use Rattle.std.specs.Prelude.{drop}
-use Rattle.psci_world_laws.specs.psci_board.Board.{size_below}
-use Rattle.psci_world_laws.specs.psci_board.declared.node.Node.{Node}
-use Rattle.psci_world_laws.specs.psci_messages.declared.kind.Kind.TheVariants.{Down}
-use Rattle.psci_world_laws.specs.psci_world_spec.declared.event.Event.{Event}
-use Rattle.psci_world_laws.specs.psci_world_spec.declared.event.Event.TheVariants.{Deliver, Enter}
-use Rattle.psci_world_laws.specs.psci_world_spec.declared.event.Event.TheVariants.{Wake}
-use Rattle.psci_world_laws.specs.psci_world_spec.declared.said.Record.{Record}
-use Rattle.psci_world_laws.specs.psci_world_spec.declared.said.Said.{Said}
-use Rattle.psci_world_laws.specs.psci_world_spec.Legal.{run_from}
-use Rattle.psci_world_laws.proofs.world_spec.Scripts.{acked, board, computing, off, on_3, part}
-use Rattle.psci_world_laws.proofs.world_spec.Scripts.{retention, returns, sends, stops}
-use Rattle.psci_world_laws.proofs.world_spec.Scripts.{one_core, system_reset, tall}
-use Rattle.psci_safe.specs.Claims.{Claim, claims, live_claims}
+use Rattle.psci_board.specs.Board.{size_below}
+use Rattle.psci_board.specs.declared.node.Node.{Node}
+use Rattle.psci_ctl_spec.specs.psci_messages.declared.kind.Kind.TheVariants.{Down}
+use Rattle.psci_world_spec.specs.declared.event.Event.{Event}
+use Rattle.psci_world_spec.specs.declared.event.Event.TheVariants.{Deliver, Enter}
+use Rattle.psci_world_spec.specs.declared.event.Event.TheVariants.{Wake}
+use Rattle.psci_world_spec.specs.declared.said.Record.{Record}
+use Rattle.psci_world_spec.specs.declared.said.Said.{Said}
+use Rattle.psci_world_spec.specs.Legal.{run_from}
+use Rattle.psci_world_spec.proofs.Scripts.{acked, board, computing, off, on_3, part}
+use Rattle.psci_world_spec.proofs.Scripts.{retention, returns, sends, stops}
+use Rattle.psci_world_spec.proofs.Scripts.{one_core, system_reset, tall}
+use Rattle.psci_headline.specs.Claims.{Claim, claims, live_claims}
 use Rattle.psci_headline.specs.Live.{AreApart, AreAsked, AreClaimed, NoneExecutes}
 
 -- core 3 runs beside the boot core

@@ -5,15 +5,15 @@ use Rattle.std.specs.Prelude.{nat_lt}
 use Rattle.std.proofs.lemmas.Bool.{and_from, and_parts, eq-eqb, eqb-true}
 use Rattle.std.proofs.lemmas.Bool.{false_from_ne_true, lt-ltb}
 use Rattle.std.proofs.lemmas.Bool.{ltb-true, not_from_false, or_left, or_right}
-use Rattle.psci_world_laws.specs.psci_board.Board.{BoardValue}
-use Rattle.psci_world_laws.specs.psci_ctl_spec.Replies.{is_this_life}
-use Rattle.psci_world_laws.specs.psci_fw_spec.declared.status.Status.{Status}
-use Rattle.psci_world_laws.specs.psci_fw_spec.declared.status.Status.TheVariants.{On, Off, Pending}
-use Rattle.psci_world_laws.specs.psci_fw_spec.SystemCalls.{is_off_status}
-use Rattle.psci_world_laws.specs.psci_world_spec.declared.said.Record.{Record}
-use Rattle.psci_world_laws.specs.psci_world_spec.Histories.{controller_values, firmware_values}
-use Rattle.psci_safe.specs.Moments.{depth_at, enters_or_resumes, was_powered_down, is_powered_down}
-use Rattle.psci_safe.specs.Moments.{is_reported_off}
+use Rattle.psci_board.specs.Board.{BoardValue}
+use Rattle.psci_ctl_spec.specs.Replies.{is_this_life}
+use Rattle.psci_fw_laws.specs.psci_fw_spec.declared.status.Status.{Status}
+use Rattle.psci_fw_laws.specs.psci_fw_spec.declared.status.Status.TheVariants.{On, Off, Pending}
+use Rattle.psci_fw_laws.specs.psci_fw_spec.SystemCalls.{is_off_status}
+use Rattle.psci_world_spec.specs.declared.said.Record.{Record}
+use Rattle.psci_world_spec.specs.Histories.{controller_values, firmware_values}
+use Rattle.psci_headline.specs.Moments.{depth_at, enters_or_resumes, was_powered_down}
+use Rattle.psci_headline.specs.Moments.{is_powered_down, is_reported_off}
 
 -- Moments --------------------------------------------------------------------------------------
 

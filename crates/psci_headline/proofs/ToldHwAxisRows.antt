@@ -1,20 +1,20 @@
 -- Worked examples: domains that were in standby as NODE_HW_STATE says, and domains that never were.
 use Rattle.std.proofs.Common.{◌≡◌, ℕ, Bool, true, false, List, [], ◌∷◌, refl}
-use Rattle.psci_world_laws.specs.psci_abi.psci_format.declared.format.Format.TheVariants.{Extended}
-use Rattle.psci_world_laws.specs.psci_board.Board.{BoardValue}
-use Rattle.psci_world_laws.specs.psci_board.declared.node.Node.{Node}
-use Rattle.psci_world_laws.specs.psci_messages.declared.kind.Kind.TheVariants.{Down}
-use Rattle.psci_world_laws.specs.psci_fw_spec.NodeHwState.{hw_code}
-use Rattle.psci_world_laws.specs.psci_world_spec.declared.event.Event.{Event}
-use Rattle.psci_world_laws.specs.psci_world_spec.declared.event.Event.TheVariants.{Deliver, Enter}
-use Rattle.psci_world_laws.specs.psci_world_spec.declared.event.Event.TheVariants.{Take, Wake}
-use Rattle.psci_world_laws.specs.psci_world_spec.declared.said.Record.{Record}
-use Rattle.psci_world_laws.specs.psci_world_spec.declared.said.Said.{Said}
-use Rattle.psci_world_laws.specs.psci_world_spec.Histories.{firmware_values}
-use Rattle.psci_world_laws.specs.psci_world_spec.Legal.{run_from}
-use Rattle.psci_world_laws.proofs.world_spec.Scripts.{acked, board, call, computing, on_3}
-use Rattle.psci_world_laws.proofs.world_spec.Scripts.{retention, system_off, system_reset, tall}
-use Rattle.psci_safe.specs.Hardware.{known_starts, said_hw}
+use Rattle.psci_world_spec.specs.psci_abi.psci_format.declared.format.Format.TheVariants.{Extended}
+use Rattle.psci_board.specs.Board.{BoardValue}
+use Rattle.psci_board.specs.declared.node.Node.{Node}
+use Rattle.psci_ctl_spec.specs.psci_messages.declared.kind.Kind.TheVariants.{Down}
+use Rattle.psci_fw_laws.specs.psci_fw_spec.NodeHwState.{hw_code}
+use Rattle.psci_world_spec.specs.declared.event.Event.{Event}
+use Rattle.psci_world_spec.specs.declared.event.Event.TheVariants.{Deliver, Enter}
+use Rattle.psci_world_spec.specs.declared.event.Event.TheVariants.{Take, Wake}
+use Rattle.psci_world_spec.specs.declared.said.Record.{Record}
+use Rattle.psci_world_spec.specs.declared.said.Said.{Said}
+use Rattle.psci_world_spec.specs.Histories.{firmware_values}
+use Rattle.psci_world_spec.specs.Legal.{run_from}
+use Rattle.psci_world_spec.proofs.Scripts.{acked, board, call, computing, on_3}
+use Rattle.psci_world_spec.proofs.Scripts.{retention, system_off, system_reset, tall}
+use Rattle.psci_headline.specs.Hardware.{known_starts, said_hw}
 use Rattle.psci_headline.specs.ToldHw.{is_standby_depth, was_so_deep}
 
 -- a domain: its level and place

@@ -1,13 +1,13 @@
 -- Worked examples: what a record says of the hardware state of a domain, and how deep it was.
 use Rattle.std.proofs.Common.{◌≡◌, ℕ, pos, Bool, true, false, List, [], ◌∷◌, None, Some, refl}
-use Rattle.psci_world_laws.specs.psci_board.declared.node.Node.{Node}
-use Rattle.psci_world_laws.specs.psci_world_spec.declared.event.Event.{Event}
-use Rattle.psci_world_laws.specs.psci_world_spec.declared.event.Event.TheVariants.{Deliver, Enter}
-use Rattle.psci_world_laws.specs.psci_world_spec.declared.event.Event.TheVariants.{Wake}
-use Rattle.psci_world_laws.specs.psci_world_spec.Legal.{run_from}
-use Rattle.psci_world_laws.proofs.world_spec.Scripts.{board, call, computing, nothing, off, on_3}
-use Rattle.psci_world_laws.proofs.world_spec.Scripts.{retention, returns, status_3, stops}
-use Rattle.psci_world_laws.proofs.world_spec.Scripts.{system_reset, tall}
+use Rattle.psci_board.specs.declared.node.Node.{Node}
+use Rattle.psci_world_spec.specs.declared.event.Event.{Event}
+use Rattle.psci_world_spec.specs.declared.event.Event.TheVariants.{Deliver, Enter}
+use Rattle.psci_world_spec.specs.declared.event.Event.TheVariants.{Wake}
+use Rattle.psci_world_spec.specs.Legal.{run_from}
+use Rattle.psci_world_spec.proofs.Scripts.{board, call, computing, nothing, off, on_3}
+use Rattle.psci_world_spec.proofs.Scripts.{retention, returns, status_3, stops}
+use Rattle.psci_world_spec.proofs.Scripts.{system_reset, tall}
 use Rattle.psci_headline.specs.ToldHw.{is_off_depth, is_standby_depth, told_hw, was_so_deep}
 
 -- a domain: its level and place

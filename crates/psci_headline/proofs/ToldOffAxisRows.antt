@@ -1,16 +1,16 @@
 -- Worked examples: domains of which all cores are off, and domains of which one is not.
 use Rattle.std.proofs.Common.{◌≡◌, ℕ, true, false, List, [], ◌∷◌, refl}
-use Rattle.psci_world_laws.specs.psci_abi.psci_format.declared.format.Format.TheVariants.{Extended}
-use Rattle.psci_world_laws.specs.psci_board.Board.{BoardValue}
-use Rattle.psci_world_laws.specs.psci_board.declared.node.Node.{Node}
-use Rattle.psci_world_laws.specs.psci_world_spec.declared.event.Event.{Event}
-use Rattle.psci_world_laws.specs.psci_world_spec.declared.event.Event.TheVariants.{Deliver, Enter}
-use Rattle.psci_world_laws.specs.psci_world_spec.declared.event.Event.TheVariants.{Wake}
-use Rattle.psci_world_laws.specs.psci_world_spec.declared.said.Record.{Record}
-use Rattle.psci_world_laws.specs.psci_world_spec.Legal.{run_from}
-use Rattle.psci_world_laws.proofs.world_spec.Scripts.{board, call, computing, off, on_3, retention}
-use Rattle.psci_world_laws.proofs.world_spec.Scripts.{system_off, system_reset, tall}
-use Rattle.psci_safe.specs.Moments.{was_powered_down}
+use Rattle.psci_world_spec.specs.psci_abi.psci_format.declared.format.Format.TheVariants.{Extended}
+use Rattle.psci_board.specs.Board.{BoardValue}
+use Rattle.psci_board.specs.declared.node.Node.{Node}
+use Rattle.psci_world_spec.specs.declared.event.Event.{Event}
+use Rattle.psci_world_spec.specs.declared.event.Event.TheVariants.{Deliver, Enter}
+use Rattle.psci_world_spec.specs.declared.event.Event.TheVariants.{Wake}
+use Rattle.psci_world_spec.specs.declared.said.Record.{Record}
+use Rattle.psci_world_spec.specs.Legal.{run_from}
+use Rattle.psci_world_spec.proofs.Scripts.{board, call, computing, off, on_3, retention}
+use Rattle.psci_world_spec.proofs.Scripts.{system_off, system_reset, tall}
+use Rattle.psci_headline.specs.Moments.{was_powered_down}
 use Rattle.psci_headline.proofs.ToldTest.{is_all_off}
 
 -- a domain: its level and place

@@ -1,17 +1,17 @@
 -- Worked examples: what a record says is OFF, and moments at which a domain is not off.
 use Rattle.std.proofs.Common.{◌≡◌, ◌<◌, ℕ, zero, suc, pos, true, false, List, [], ◌∷◌, None, Some}
 use Rattle.std.proofs.Common.{refl, arith}
-use Rattle.psci_world_laws.specs.psci_world_spec.declared.place.Place.TheVariants.{Running, Stopped}
-use Rattle.psci_world_laws.specs.psci_board.declared.node.Node.{Node}
-use Rattle.psci_world_laws.specs.psci_world_spec.declared.event.Event.{Event}
-use Rattle.psci_world_laws.specs.psci_world_spec.declared.event.Event.TheVariants.{Deliver, Enter}
-use Rattle.psci_world_laws.specs.psci_world_spec.declared.event.Event.TheVariants.{Take}
-use Rattle.psci_world_laws.specs.psci_world_spec.declared.said.Record.{Record}
-use Rattle.psci_world_laws.specs.psci_world_spec.Legal.{run_from}
-use Rattle.psci_world_laws.proofs.world_spec.Scripts.{board, call, computing, nothing, off, on_3}
-use Rattle.psci_world_laws.proofs.world_spec.Scripts.{retention, returns, status_3, stops}
-use Rattle.psci_world_laws.proofs.world_spec.Scripts.{system_reset, tall}
-use Rattle.psci_safe.specs.Moments.{was_powered_down}
+use Rattle.psci_world_spec.specs.declared.place.Place.TheVariants.{Running, Stopped}
+use Rattle.psci_board.specs.declared.node.Node.{Node}
+use Rattle.psci_world_spec.specs.declared.event.Event.{Event}
+use Rattle.psci_world_spec.specs.declared.event.Event.TheVariants.{Deliver, Enter}
+use Rattle.psci_world_spec.specs.declared.event.Event.TheVariants.{Take}
+use Rattle.psci_world_spec.specs.declared.said.Record.{Record}
+use Rattle.psci_world_spec.specs.Legal.{run_from}
+use Rattle.psci_world_spec.proofs.Scripts.{board, call, computing, nothing, off, on_3}
+use Rattle.psci_world_spec.proofs.Scripts.{retention, returns, status_3, stops}
+use Rattle.psci_world_spec.proofs.Scripts.{system_reset, tall}
+use Rattle.psci_headline.specs.Moments.{was_powered_down}
 use Rattle.psci_headline.specs.ToldOff.{AllOff, told_off}
 
 -- a domain: its level and place

@@ -4,16 +4,16 @@ use Rattle.std.proofs.Common.{not, List, refl, ap, sym, ◌∙◌, arith, inl, i
 use Rattle.std.specs.List.{list_all, range_with_len}
 use Rattle.std.proofs.lemmas.Bool.{and_from, and_parts, cases_Bool, cases_eq, eqb-true, eq-eqb}
 use Rattle.std.proofs.lemmas.Bool.{or_cases, or_left, or_right}
-use Rattle.psci_world_laws.specs.psci_board.Board.{BoardValue, cores, up}
-use Rattle.psci_world_laws.specs.psci_board.declared.node.Node.{Node}
-use Rattle.psci_world_laws.specs.psci_world_spec.declared.place.Place.{Place}
-use Rattle.psci_world_laws.specs.psci_world_spec.declared.place.Place.TheVariants.{Running, Started}
-use Rattle.psci_world_laws.specs.psci_world_spec.declared.place.Place.TheVariants.{Stopped}
-use Rattle.psci_world_laws.specs.psci_world_spec.declared.said.Record.{Record}
-use Rattle.psci_world_laws.specs.psci_world_spec.Histories.{firmware_values}
-use Rattle.psci_world_laws.specs.psci_world_spec.Places.{place}
-use Rattle.psci_safe.specs.Moments.{was_powered_down}
-use Rattle.psci_safe.specs.Test.{executes_outside}
+use Rattle.psci_board.specs.Board.{BoardValue, cores, up}
+use Rattle.psci_board.specs.declared.node.Node.{Node}
+use Rattle.psci_world_spec.specs.declared.place.Place.{Place}
+use Rattle.psci_world_spec.specs.declared.place.Place.TheVariants.{Running, Started}
+use Rattle.psci_world_spec.specs.declared.place.Place.TheVariants.{Stopped}
+use Rattle.psci_world_spec.specs.declared.said.Record.{Record}
+use Rattle.psci_world_spec.specs.Histories.{firmware_values}
+use Rattle.psci_world_spec.specs.Places.{place}
+use Rattle.psci_headline.specs.Moments.{was_powered_down}
+use Rattle.psci_headline.specs.Test.{executes_outside}
 use Rattle.psci_headline.specs.ToldOff.{AllOff}
 
 -- a core is below no such domain, or does not run and was powered down since it last went on

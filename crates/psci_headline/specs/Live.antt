@@ -1,12 +1,12 @@
 -- What the live claims on a domain say.
 use Rattle.std.specs.Prelude.{◌≡◌, ℕ, ◌<◌, true, List, Some, slice_get}
-use Rattle.psci_world_laws.specs.psci_board.Board.{BoardValue, HasNode, cores, up}
-use Rattle.psci_world_laws.specs.psci_board.declared.node.Node.{Node}
-use Rattle.psci_world_laws.specs.psci_world_spec.declared.said.Record.{Record}
-use Rattle.psci_world_laws.specs.psci_world_spec.Histories.{controller_values}
-use Rattle.psci_world_laws.specs.psci_world_spec.Places.{place}
-use Rattle.psci_safe.specs.Claims.{Claim, claims, live_claims}
-use Rattle.psci_safe.specs.Moments.{depth_at, executes}
+use Rattle.psci_board.specs.Board.{BoardValue, HasNode, cores, up}
+use Rattle.psci_board.specs.declared.node.Node.{Node}
+use Rattle.psci_world_spec.specs.declared.said.Record.{Record}
+use Rattle.psci_world_spec.specs.Histories.{controller_values}
+use Rattle.psci_world_spec.specs.Places.{place}
+use Rattle.psci_headline.specs.Claims.{Claim, claims, live_claims}
+use Rattle.psci_headline.specs.Moments.{depth_at, executes}
 
 -- two claims on a domain in a life, the later and the earlier one, have different generations
 abbrev pub AreApart : BoardValue → List Record → Type 0

@@ -1,14 +1,14 @@
 -- What acknowledgements and the start of a life say of cores that are powered down.
 use Rattle.std.specs.Prelude.{◌≡◌, ℕ, ◌<◌, ◌≤◌, true, List, Some, slice_get}
-use Rattle.psci_world_laws.specs.psci_board.Board.{BoardValue}
-use Rattle.psci_world_laws.specs.psci_messages.declared.kind.Kind.TheVariants.{Down}
-use Rattle.psci_world_laws.specs.psci_messages.Message.{AckValue}
-use Rattle.psci_world_laws.specs.psci_fw_spec.Phases.{Running, Away}
-use Rattle.psci_world_laws.specs.psci_fw_spec.Values.{Values}
-use Rattle.psci_world_laws.specs.psci_world_spec.declared.said.Record.{Record}
-use Rattle.psci_world_laws.specs.psci_world_spec.Histories.{acks, controller_values}
-use Rattle.psci_world_laws.specs.psci_world_spec.Histories.{firmware_values}
-use Rattle.psci_safe.specs.Moments.{was_powered_down, is_reported_off}
+use Rattle.psci_board.specs.Board.{BoardValue}
+use Rattle.psci_ctl_spec.specs.psci_messages.declared.kind.Kind.TheVariants.{Down}
+use Rattle.psci_ctl_spec.specs.psci_messages.Message.{AckValue}
+use Rattle.psci_fw_laws.specs.psci_fw_spec.Phases.{Running, Away}
+use Rattle.psci_fw_laws.specs.psci_fw_spec.Values.{Values}
+use Rattle.psci_world_spec.specs.declared.said.Record.{Record}
+use Rattle.psci_world_spec.specs.Histories.{acks, controller_values}
+use Rattle.psci_world_spec.specs.Histories.{firmware_values}
+use Rattle.psci_headline.specs.Moments.{was_powered_down, is_reported_off}
 
 -- What the acknowledgement of a Down of which a part was applied says of its core, beside the
 -- firmware's values.

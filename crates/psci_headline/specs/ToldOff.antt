@@ -1,21 +1,21 @@
 -- What AFFINITY_INFO tells: the cores of a domain that it says is OFF.
 use Rattle.std.specs.Prelude.{◌≡◌, ℕ, pos, ◌<◌, true, if◌then◌else◌, List, Option, None}
 use Rattle.std.specs.Ordering.{int_eq}
-use Rattle.psci_world_laws.specs.psci_abi.Calls.{request_of}
-use Rattle.psci_world_laws.specs.psci_abi.declared.request.Request.{Request}
-use Rattle.psci_world_laws.specs.psci_abi.declared.request.Request.TheVariants.{AffinityInfo}
-use Rattle.psci_world_laws.specs.psci_board.Board.{BoardValue, cores, node_of, up}
-use Rattle.psci_world_laws.specs.psci_board.declared.node.Node.{Node}
-use Rattle.psci_world_laws.specs.psci_fw_spec.declared.outcome.Act.TheVariants as acts
-use Rattle.psci_world_laws.specs.psci_world_spec.declared.event.Event.{Event}
-use Rattle.psci_world_laws.specs.psci_world_spec.declared.event.Event.TheVariants.{Call}
-use Rattle.psci_world_laws.specs.psci_world_spec.declared.place.Place.TheVariants.{Running}
-use Rattle.psci_world_laws.specs.psci_world_spec.declared.said.Record.{Record}
-use Rattle.psci_world_laws.specs.psci_world_spec.declared.said.Said.{Said}
-use Rattle.psci_world_laws.specs.psci_world_spec.declared.said.Said.TheVariants.{Fw}
-use Rattle.psci_world_laws.specs.psci_world_spec.Histories.{firmware_values}
-use Rattle.psci_world_laws.specs.psci_world_spec.Places.{place}
-use Rattle.psci_safe.specs.Moments.{was_powered_down}
+use Rattle.psci_world_spec.specs.psci_abi.Calls.{request_of}
+use Rattle.psci_world_spec.specs.psci_abi.declared.request.Request.{Request}
+use Rattle.psci_world_spec.specs.psci_abi.declared.request.Request.TheVariants.{AffinityInfo}
+use Rattle.psci_board.specs.Board.{BoardValue, cores, node_of, up}
+use Rattle.psci_board.specs.declared.node.Node.{Node}
+use Rattle.psci_fw_laws.specs.psci_fw_spec.declared.outcome.Act.TheVariants as acts
+use Rattle.psci_world_spec.specs.declared.event.Event.{Event}
+use Rattle.psci_world_spec.specs.declared.event.Event.TheVariants.{Call}
+use Rattle.psci_world_spec.specs.declared.place.Place.TheVariants.{Running}
+use Rattle.psci_world_spec.specs.declared.said.Record.{Record}
+use Rattle.psci_world_spec.specs.declared.said.Said.{Said}
+use Rattle.psci_world_spec.specs.declared.said.Said.TheVariants.{Fw}
+use Rattle.psci_world_spec.specs.Histories.{firmware_values}
+use Rattle.psci_world_spec.specs.Places.{place}
+use Rattle.psci_headline.specs.Moments.{was_powered_down}
 
 -- the core or domain that a request asks the status of
 abbrev pub asked_of : BoardValue → Request → Option Node

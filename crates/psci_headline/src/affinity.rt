@@ -1,14 +1,14 @@
 //! What AFFINITY_INFO tells of cores: the law is the contract of a function that does nothing.
 
 ghost use Rattle.std.specs.Prelude.{◌≡◌, ◌∷◌, List, Some};
-ghost use Rattle.psci_world_laws.specs.psci_board.Board.{BoardValue, IsBoard};
-ghost use Rattle.psci_world_laws.specs.psci_board.declared.node.Node.{Node};
+ghost use Rattle.psci_board.specs.Board.{BoardValue, IsBoard};
+ghost use Rattle.psci_board.specs.declared.node.Node.{Node};
 ghost use Rattle.psci_headline.specs.ToldOff.{AllOff, told_off};
-ghost use Rattle.psci_world_laws.specs.psci_world_spec.declared.said.Record.{Record};
-ghost use Rattle.psci_world_laws.specs.psci_world_spec.Legal.{IsLegalPast};
+ghost use Rattle.psci_world_spec.specs.declared.said.Record.{Record};
+ghost use Rattle.psci_world_spec.specs.Legal.{IsLegalPast};
 
 use crate::powered_down::law_off_is_down;
-use psci_world_laws::law_paths;
+use psci_board::law_paths;
 
 /// In a legal run, where a record answers AFFINITY_INFO of a core or domain with OFF, no core of it
 /// runs, and each was powered down since it last went on.

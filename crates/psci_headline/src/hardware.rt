@@ -2,20 +2,20 @@
 //! nothing.
 
 ghost use Rattle.std.specs.Prelude.{◌≡◌, ◌∷◌, ◌<◌, List, Some};
-ghost use Rattle.psci_world_laws.specs.psci_board.Board.{BoardValue, HasNode, IsBoard};
-ghost use Rattle.psci_world_laws.specs.psci_board.declared.node.Node.{Node};
-ghost use Rattle.psci_safe.specs.Hardware.{said_hw};
-ghost use Rattle.psci_safe.specs.Safe.{StatesWereReal};
+ghost use Rattle.psci_board.specs.Board.{BoardValue, HasNode, IsBoard};
+ghost use Rattle.psci_board.specs.declared.node.Node.{Node};
+ghost use Rattle.psci_headline.specs.Hardware.{said_hw};
+ghost use Rattle.psci_headline.specs.Safe.{StatesWereReal};
 ghost use Rattle.psci_headline.specs.ToldHw.{WasSoDeep, is_off_depth, is_standby_depth, told_hw};
-ghost use Rattle.psci_world_laws.specs.psci_fw_spec.declared.hw.Hw.TheVariants.{Off, Standby};
-ghost use Rattle.psci_world_laws.specs.psci_world_spec.declared.said.Record.{Record};
-ghost use Rattle.psci_world_laws.specs.psci_world_spec.Histories.{firmware_values};
-ghost use Rattle.psci_world_laws.specs.psci_world_spec.Legal.{IsLegalPast};
+ghost use Rattle.psci_fw_laws.specs.psci_fw_spec.declared.hw.Hw.TheVariants.{Off, Standby};
+ghost use Rattle.psci_world_spec.specs.declared.said.Record.{Record};
+ghost use Rattle.psci_world_spec.specs.Histories.{firmware_values};
+ghost use Rattle.psci_world_spec.specs.Legal.{IsLegalPast};
 
-use psci_world_laws::{
-    law_acknowledged, law_agreement, law_controlled, law_invariant, law_kept, law_known_below,
-    law_limits, law_paths, law_sent,
-};
+use crate::agreement::{law_acknowledged, law_agreement, law_controlled, law_sent};
+use psci_board::law_paths;
+use psci_ctl_spec::law_limits;
+use psci_fw_laws::{law_invariant, law_kept, law_known_below};
 
 /// In a legal run a domain that NODE_HW_STATE says is off was powered down at some moment of this
 /// life, by the starts that the firmware knows of; one that it says is in standby was in standby or

@@ -1,16 +1,18 @@
 //! Every legal run is safe. The law is the contract of a function that does nothing.
 
 ghost use Rattle.std.specs.Prelude.{List};
-ghost use Rattle.psci_world_laws.specs.psci_board.Board.{BoardValue, IsBoard};
-ghost use Rattle.psci_safe.specs.Safe.{AlwaysSafe};
-ghost use Rattle.psci_world_laws.specs.psci_world_spec.declared.said.Record.{Record};
-ghost use Rattle.psci_world_laws.specs.psci_world_spec.Legal.{IsLegalPast};
+ghost use Rattle.psci_board.specs.Board.{BoardValue, IsBoard};
+ghost use Rattle.psci_headline.specs.Safe.{AlwaysSafe};
+ghost use Rattle.psci_world_spec.specs.declared.said.Record.{Record};
+ghost use Rattle.psci_world_spec.specs.Legal.{IsLegalPast};
 
+use crate::agreement::law_agreement;
 use crate::hardware::law_states_real;
 use crate::live::{law_asked_claims, law_claimed_depths, law_live_claims, law_none_executes};
 use crate::openings::law_one_entry;
 use crate::powered_down::law_off_is_down;
-use psci_world_laws::{law_agreement, law_histories, law_paths};
+use psci_board::law_paths;
+use psci_world_spec::law_histories;
 
 /// A legal run is safe at every moment: no core that executes stands below a domain that is not
 /// fully on, and a core reported OFF was powered down since it last went on; each domain has at

@@ -1,18 +1,35 @@
-//! The headline: every legal run of the world is safe at every moment. The words and definitions
-//! are those of `psci_safe`; here are the laws, and the facts that carry them.
+//! What it is for a run to be safe, and that every legal run is; and what firmware and power
+//! controller know of each other on the way.
+//!
+//! - A *moment* is what is so after all records so far; a run has one after each record.
+//! - A *claim* on a power domain is what a Down asks of it, or the start of a life: a depth and a
+//!   *generation*, the sum of the known starts below. It is *live* while that is the sum of all.
+//! - An *opening* is an entry point and a context id for the next entry of a core.
+//! - Each thing that is said of a moment has a *test*: it computes, and says the same.
+//! - A core is *at its place* where a call or an entry may happen to it: running, or started.
 #![tactic(auto)]
 
 mod affinity;
+mod agreement;
 mod hardware;
 mod laws;
 mod live;
 mod openings;
 mod powered_down;
+mod testing;
 
 pub use affinity::law_told_off;
+pub use agreement::{law_acknowledged, law_agreement, law_controlled, law_never_refused, law_sent};
 pub use hardware::{law_states_real, law_told_hw};
 pub use laws::law_safe;
 pub use live::{law_asked_claims, law_claimed_depths, law_live_claims, law_none_executes};
 pub use openings::law_one_entry;
 pub use powered_down::law_off_is_down;
-pub use psci_world_laws::{law_messages, law_sent};
+pub use psci_board::law_paths;
+pub use psci_ctl_spec::{law_depths, law_limits};
+pub use psci_fw_laws::{
+    law_asked, law_caller, law_claimed, law_granted, law_invariant, law_kept, law_known_below,
+    law_messages, law_power_on, law_values,
+};
+pub use psci_world_spec::law_histories;
+pub use testing::law_tested;

@@ -1,15 +1,16 @@
 //! What holds of live claims: each law is the contract of a function that does nothing.
 
 ghost use Rattle.std.specs.Prelude.{List};
-ghost use Rattle.psci_world_laws.specs.psci_board.Board.{BoardValue, IsBoard};
+ghost use Rattle.psci_board.specs.Board.{BoardValue, IsBoard};
 ghost use Rattle.psci_headline.specs.Live.{AreApart, AreAsked, AreClaimed, NoneExecutes};
-ghost use Rattle.psci_world_laws.specs.psci_world_spec.declared.said.Record.{Record};
-ghost use Rattle.psci_world_laws.specs.psci_world_spec.Legal.{IsLegalPast};
+ghost use Rattle.psci_world_spec.specs.declared.said.Record.{Record};
+ghost use Rattle.psci_world_spec.specs.Legal.{IsLegalPast};
 
-use psci_world_laws::{
-    law_agreement, law_asked, law_claimed, law_controlled, law_depths, law_histories, law_kept,
-    law_limits, law_paths, law_sent,
-};
+use crate::agreement::{law_agreement, law_controlled, law_sent};
+use psci_board::law_paths;
+use psci_ctl_spec::{law_depths, law_limits};
+use psci_fw_laws::{law_asked, law_claimed, law_kept};
+use psci_world_spec::law_histories;
 
 /// In a legal run two different claims on one domain in one life have different generations: life,
 /// domain and generation name one claim.

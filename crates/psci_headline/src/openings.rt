@@ -1,12 +1,12 @@
 //! Entries and openings: the law is the contract of a function that does nothing.
 
 ghost use Rattle.std.specs.Prelude.{List};
-ghost use Rattle.psci_world_laws.specs.psci_board.Board.{BoardValue, IsBoard};
-ghost use Rattle.psci_world_laws.specs.psci_fw_spec.Exchange.{FwExchange};
-ghost use Rattle.psci_world_laws.specs.psci_fw_spec.Legal.{IsLegal};
-ghost use Rattle.psci_safe.specs.Openings.{AreTakenUp};
+ghost use Rattle.psci_board.specs.Board.{BoardValue, IsBoard};
+ghost use Rattle.psci_fw_laws.specs.psci_fw_spec.Exchange.{FwExchange};
+ghost use Rattle.psci_fw_laws.specs.psci_fw_spec.Legal.{IsLegal};
+ghost use Rattle.psci_headline.specs.Openings.{AreTakenUp};
 
-use psci_world_laws::{law_kept, law_power_on};
+use psci_fw_laws::{law_kept, law_power_on};
 
 /// In a legal history of the firmware each entry takes up one opening that was made for its core in
 /// its life, with its address and context id, and no two take up the same one. So an accepted

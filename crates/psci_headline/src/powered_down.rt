@@ -1,14 +1,14 @@
 //! Cores that are reported OFF: the law is the contract of a function that does nothing.
 
 ghost use Rattle.std.specs.Prelude.{List};
-ghost use Rattle.psci_world_laws.specs.psci_board.Board.{BoardValue, IsBoard};
-ghost use Rattle.psci_safe.specs.Safe.{OffIsDown};
-ghost use Rattle.psci_world_laws.specs.psci_world_spec.declared.said.Record.{Record};
-ghost use Rattle.psci_world_laws.specs.psci_world_spec.Legal.{IsLegalPast};
+ghost use Rattle.psci_board.specs.Board.{BoardValue, IsBoard};
+ghost use Rattle.psci_headline.specs.Safe.{OffIsDown};
+ghost use Rattle.psci_world_spec.specs.declared.said.Record.{Record};
+ghost use Rattle.psci_world_spec.specs.Legal.{IsLegalPast};
 
-use psci_world_laws::{
-    law_agreement, law_invariant, law_kept, law_known_below, law_paths, law_sent,
-};
+use crate::agreement::{law_agreement, law_sent};
+use psci_board::law_paths;
+use psci_fw_laws::{law_invariant, law_kept, law_known_below};
 
 /// In a legal run a core that is reported OFF does not run, and was powered down since it last went
 /// on.

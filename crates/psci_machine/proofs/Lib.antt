@@ -1,5 +1,9 @@
+mod Booked
 mod Events
 mod Following
 mod Kicks
 mod NextRows
+mod PresentRows
+mod Presents
 mod SeenRows
+pub use Rattle.psci_world_spec.proofs as world_spec

@@ -9,21 +9,21 @@ use Rattle.psci_headline.specs.Live.{AreAsked, AreClaimed}
 use Rattle.psci_headline.proofs.Claiming.{by_claim}
 use Rattle.psci_headline.proofs.LiveOnes.{is_live_one}
 use Rattle.psci_platform.specs.Platforms.{PlatformValue}
-use Rattle.psci_safe.specs.Claims.{Claim, asks_by, claim_by, claims}
-use Rattle.psci_world_laws.specs.psci_board.Board.{BoardValue, below, cores, height, size_below, up}
-use Rattle.psci_world_laws.specs.psci_board.declared.node.Node.{Node}
-use Rattle.psci_world_laws.specs.psci_board.Paths.{is_on_path}
-use Rattle.psci_world_laws.specs.psci_claims.psci_parts.declared.part.Part.{Part}
-use Rattle.psci_world_laws.specs.psci_ctl_spec.Values.{starts_below}
-use Rattle.psci_world_laws.specs.psci_fw_laws.Claims.{part_for}
-use Rattle.psci_world_laws.specs.psci_fw_spec.declared.mode.SuspendMode.{SuspendMode}
-use Rattle.psci_world_laws.specs.psci_fw_spec.declared.mode.SuspendMode.TheVariants.{Platform}
-use Rattle.psci_world_laws.specs.psci_fw_spec.declared.mode.SuspendMode.TheVariants.{OsInitiated}
-use Rattle.psci_world_laws.specs.psci_fw_spec.Views.{ask}
-use Rattle.psci_world_laws.specs.psci_messages.Message.{MessageValue}
-use Rattle.psci_world_laws.specs.psci_world_spec.declared.said.Record.{Record}
-use Rattle.psci_world_laws.specs.psci_world_spec.Histories.{controller_values, firmware_values}
-use Rattle.psci_world_laws.specs.psci_world_spec.Histories.{sent_in}
+use Rattle.psci_headline.specs.Claims.{Claim, asks_by, claim_by, claims}
+use Rattle.psci_headline.specs.psci_board.Board.{BoardValue, below, cores, height, size_below, up}
+use Rattle.psci_headline.specs.psci_board.declared.node.Node.{Node}
+use Rattle.psci_headline.specs.psci_board.Paths.{is_on_path}
+use Rattle.psci_headline.specs.psci_claims.psci_parts.declared.part.Part.{Part}
+use Rattle.psci_headline.specs.psci_ctl_spec.Values.{starts_below}
+use Rattle.psci_headline.specs.psci_fw_laws.Claims.{part_for}
+use Rattle.psci_headline.specs.psci_fw_spec.declared.mode.SuspendMode.{SuspendMode}
+use Rattle.psci_headline.specs.psci_fw_spec.declared.mode.SuspendMode.TheVariants.{Platform}
+use Rattle.psci_headline.specs.psci_fw_spec.declared.mode.SuspendMode.TheVariants.{OsInitiated}
+use Rattle.psci_headline.specs.psci_fw_spec.Views.{ask}
+use Rattle.psci_headline.specs.psci_messages.Message.{MessageValue}
+use Rattle.psci_headline.specs.psci_world_spec.declared.said.Record.{Record}
+use Rattle.psci_headline.specs.psci_world_spec.Histories.{controller_values, firmware_values}
+use Rattle.psci_headline.specs.psci_world_spec.Histories.{sent_in}
 use Rattle.psci_platform_safe.specs.Asked.{AllAsk, AskFor, IsAsAsked, depth_above, mode_of}
 use Rattle.psci_platform_safe.specs.Names.{IsCore, domain_above, mpidr_of, number}
 use Rattle.psci_platform_safe.specs.Words.{IsLegalOn, numbered}

@@ -2,13 +2,13 @@
 -- a life that is halting.
 use Rattle.std.proofs.Common.{◌≡◌, ◌≤◌, ◌++◌, ℕ, List, [], ◌∷◌, refl, arith}
 use Rattle.psci_platform.specs.Platforms.{PlatformValue}
-use Rattle.psci_world_laws.specs.psci_claims.psci_parts.declared.part.Part.{Part}
-use Rattle.psci_world_laws.specs.psci_messages.declared.kind.Kind.TheVariants.{Down}
-use Rattle.psci_world_laws.specs.psci_messages.Message.{MessageValue}
-use Rattle.psci_world_laws.specs.psci_world_spec.declared.event.Event.{Event}
-use Rattle.psci_world_laws.specs.psci_world_spec.declared.event.Event.TheVariants.{Deliver, Enter}
-use Rattle.psci_world_laws.specs.psci_world_spec.declared.said.Record.{Record}
-use Rattle.psci_world_laws.proofs.world_spec.Scripts.{call, off, part, system_off}
+use Rattle.psci_headline.specs.psci_claims.psci_parts.declared.part.Part.{Part}
+use Rattle.psci_headline.specs.psci_messages.declared.kind.Kind.TheVariants.{Down}
+use Rattle.psci_headline.specs.psci_messages.Message.{MessageValue}
+use Rattle.psci_headline.specs.psci_world_spec.declared.event.Event.{Event}
+use Rattle.psci_headline.specs.psci_world_spec.declared.event.Event.TheVariants.{Deliver, Enter}
+use Rattle.psci_headline.specs.psci_world_spec.declared.said.Record.{Record}
+use Rattle.psci_headline.proofs.world_spec.Scripts.{call, off, part, system_off}
 use Rattle.psci_platform_safe.specs.Asked.{WasAskedFor, asks}
 use Rattle.psci_platform_safe.specs.Names.{domain_above}
 use Rattle.psci_platform_safe.specs.Words.{run_on}

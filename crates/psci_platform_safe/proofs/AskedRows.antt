@@ -1,9 +1,9 @@
 -- Worked examples: what cores ask by their words, and moments at which they ask for a depth or not.
 use Rattle.std.proofs.Common.{◌≡◌, ◌≤◌, ◌++◌, ℕ, List, [], ◌∷◌, map, refl, arith}
-use Rattle.psci_world_laws.specs.psci_fw_spec.declared.mode.SuspendMode.TheVariants.{OsInitiated}
-use Rattle.psci_world_laws.specs.psci_world_spec.declared.event.Event.{Event}
-use Rattle.psci_world_laws.specs.psci_world_spec.declared.event.Event.TheVariants.{Deliver, Enter}
-use Rattle.psci_world_laws.proofs.world_spec.Scripts.{call, off}
+use Rattle.psci_headline.specs.psci_fw_spec.declared.mode.SuspendMode.TheVariants.{OsInitiated}
+use Rattle.psci_headline.specs.psci_world_spec.declared.event.Event.{Event}
+use Rattle.psci_headline.specs.psci_world_spec.declared.event.Event.TheVariants.{Deliver, Enter}
+use Rattle.psci_headline.proofs.world_spec.Scripts.{call, off}
 use Rattle.psci_platform_safe.specs.Asked.{AllAsk, AskFor, asks, depth_above}
 use Rattle.psci_platform_safe.proofs.Histories.{after, computing, core_1_on, suspend, two}
 

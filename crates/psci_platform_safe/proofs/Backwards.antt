@@ -13,21 +13,21 @@ use Rattle.psci_platform.specs.Described.{DescriptionValue}
 use Rattle.psci_platform.specs.Platforms.{PlatformValue}
 use Rattle.psci_platform.specs.States.{depth_at, depth_of, depths_of, states_of, word_for}
 use Rattle.psci_platform.proofs.Requests.{request_with, short, with_first}
-use Rattle.psci_world_laws.specs.psci_abi.Calls.{argument, low_half, request_of}
-use Rattle.psci_world_laws.specs.psci_abi.declared.registers.Regs.{Regs}
-use Rattle.psci_world_laws.specs.psci_abi.declared.request.Request.{Request}
-use Rattle.psci_world_laws.specs.psci_abi.declared.request.Request.TheVariants as requests
-use Rattle.psci_world_laws.specs.psci_abi.psci_format.declared.format.Format.{Format}
-use Rattle.psci_world_laws.specs.psci_abi.psci_format.declared.format.Format.TheVariants.{Extended}
-use Rattle.psci_world_laws.specs.psci_abi.psci_format.declared.format.Format.TheVariants.{Original}
-use Rattle.psci_world_laws.specs.psci_board.Board.{core_of, height}
-use Rattle.psci_world_laws.specs.psci_board.declared.node.Core.{Core}
-use Rattle.psci_world_laws.specs.psci_fw_spec.declared.mode.SuspendMode.{SuspendMode}
-use Rattle.psci_world_laws.specs.psci_fw_spec.declared.opening.Opening.{Opening}
-use Rattle.psci_world_laws.specs.psci_fw_spec.Effects.{rest_named, rest_of}
-use Rattle.psci_world_laws.specs.psci_state.Ask.{deepest_of, is_ask, is_deep}
-use Rattle.psci_world_laws.specs.psci_state.PowerState.{ask_of, word_of}
-use Rattle.psci_world_laws.specs.psci_state.declared.fault.BadState.{BadState}
+use Rattle.psci_headline.specs.psci_abi.Calls.{argument, low_half, request_of}
+use Rattle.psci_headline.specs.psci_abi.declared.registers.Regs.{Regs}
+use Rattle.psci_headline.specs.psci_abi.declared.request.Request.{Request}
+use Rattle.psci_headline.specs.psci_abi.declared.request.Request.TheVariants as requests
+use Rattle.psci_headline.specs.psci_abi.psci_format.declared.format.Format.{Format}
+use Rattle.psci_headline.specs.psci_abi.psci_format.declared.format.Format.TheVariants.{Extended}
+use Rattle.psci_headline.specs.psci_abi.psci_format.declared.format.Format.TheVariants.{Original}
+use Rattle.psci_headline.specs.psci_board.Board.{core_of, height}
+use Rattle.psci_headline.specs.psci_board.declared.node.Core.{Core}
+use Rattle.psci_headline.specs.psci_fw_spec.declared.mode.SuspendMode.{SuspendMode}
+use Rattle.psci_headline.specs.psci_fw_spec.declared.opening.Opening.{Opening}
+use Rattle.psci_headline.specs.psci_fw_spec.Effects.{rest_named, rest_of}
+use Rattle.psci_headline.specs.psci_state.Ask.{deepest_of, is_ask, is_deep}
+use Rattle.psci_headline.specs.psci_state.PowerState.{ask_of, word_of}
+use Rattle.psci_headline.specs.psci_state.declared.fault.BadState.{BadState}
 use Rattle.psci_platform_safe.specs.Names.{number}
 use Rattle.psci_platform_safe.specs.Opened.{IsPowerDown}
 use Rattle.psci_platform_safe.proofs.Numbers.{Laws}

@@ -1,11 +1,11 @@
 -- Worked examples: histories that break sentences 1, 2 and 5, at each level, in both modes, in life
 -- 2 and in a life that is halting.
 use Rattle.std.proofs.Common.{◌≡◌, ◌≤◌, ◌++◌, [], ◌∷◌, true, false, refl, arith}
-use Rattle.psci_world_laws.specs.psci_messages.declared.kind.Kind.TheVariants.{Down}
-use Rattle.psci_world_laws.specs.psci_world_spec.declared.event.Event.TheVariants.{Deliver, Enter}
-use Rattle.psci_world_laws.specs.psci_world_spec.declared.event.Event.TheVariants.{Wake}
-use Rattle.psci_world_laws.proofs.world_spec.Scripts.{acked, call, goes_down, off, part, resumes}
-use Rattle.psci_world_laws.proofs.world_spec.Scripts.{system_off, value}
+use Rattle.psci_headline.specs.psci_messages.declared.kind.Kind.TheVariants.{Down}
+use Rattle.psci_headline.specs.psci_world_spec.declared.event.Event.TheVariants.{Deliver, Enter}
+use Rattle.psci_headline.specs.psci_world_spec.declared.event.Event.TheVariants.{Wake}
+use Rattle.psci_headline.proofs.world_spec.Scripts.{acked, call, goes_down, off, part, resumes}
+use Rattle.psci_headline.proofs.world_spec.Scripts.{system_off, value}
 use Rattle.psci_platform_safe.specs.Safe.{NoneBelowSleeping, OffIsDown, OneLiveClaim}
 use Rattle.psci_platform_safe.specs.Safe.{StatesWereReal}
 use Rattle.psci_platform_safe.specs.Words.{run_on}

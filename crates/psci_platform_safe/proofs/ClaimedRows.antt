@@ -3,11 +3,11 @@
 use Rattle.std.proofs.Common.{◌≤◌, ◌++◌, ℕ, List, [], ◌∷◌, length, refl, arith}
 use Rattle.psci_headline.specs.ToldHw.{WasSoDeep, is_off_depth, is_standby_depth}
 use Rattle.psci_platform.specs.Platforms.{PlatformValue}
-use Rattle.psci_safe.specs.Claims.{live_claims}
-use Rattle.psci_world_laws.specs.psci_world_spec.declared.event.Event.TheVariants.{Deliver, Enter}
-use Rattle.psci_world_laws.specs.psci_world_spec.declared.event.Event.TheVariants.{Take}
-use Rattle.psci_world_laws.specs.psci_world_spec.declared.said.Record.{Record}
-use Rattle.psci_world_laws.proofs.world_spec.Scripts.{call, off, system_off}
+use Rattle.psci_headline.specs.Claims.{live_claims}
+use Rattle.psci_headline.specs.psci_world_spec.declared.event.Event.TheVariants.{Deliver, Enter}
+use Rattle.psci_headline.specs.psci_world_spec.declared.event.Event.TheVariants.{Take}
+use Rattle.psci_headline.specs.psci_world_spec.declared.said.Record.{Record}
+use Rattle.psci_headline.proofs.world_spec.Scripts.{call, off, system_off}
 use Rattle.psci_platform_safe.specs.Names.{domain_above}
 use Rattle.psci_platform_safe.specs.Safe.{OneLiveClaim}
 use Rattle.psci_platform_safe.specs.Words.{numbered, run_on}

@@ -1,11 +1,11 @@
 -- Worked examples: histories that break sentence 3 in both modes, in life 2, and in a life that is
 -- halting.
 use Rattle.std.proofs.Common.{◌≡◌, ◌≤◌, ◌<◌, ◌++◌, false, List, [], ◌∷◌, inl, inr, refl, arith}
-use Rattle.psci_world_laws.specs.psci_messages.declared.kind.Kind.TheVariants.{Down}
-use Rattle.psci_world_laws.specs.psci_world_spec.declared.event.Event.TheVariants.{Deliver, Enter}
-use Rattle.psci_world_laws.specs.psci_world_spec.declared.said.Record.{Record}
-use Rattle.psci_world_laws.proofs.world_spec.Scripts.{acked, call, goes_down, off, part, system_off}
-use Rattle.psci_world_laws.proofs.world_spec.Scripts.{system_reset}
+use Rattle.psci_headline.specs.psci_messages.declared.kind.Kind.TheVariants.{Down}
+use Rattle.psci_headline.specs.psci_world_spec.declared.event.Event.TheVariants.{Deliver, Enter}
+use Rattle.psci_headline.specs.psci_world_spec.declared.said.Record.{Record}
+use Rattle.psci_headline.proofs.world_spec.Scripts.{acked, call, goes_down, off, part, system_off}
+use Rattle.psci_headline.proofs.world_spec.Scripts.{system_reset}
 use Rattle.psci_platform_safe.specs.Safe.{NoDeeperThanAsked}
 use Rattle.psci_platform_safe.specs.Words.{run_on}
 use Rattle.psci_platform_safe.proofs.Histories.{after, computing, core_1_on, on_1, says, suspend}

@@ -1,10 +1,10 @@
 -- Worked examples: histories that break sentence 3, in which a domain is deeper than the cores
 -- below it had asked for: at each level, of each core, and where it is not powered down.
 use Rattle.std.proofs.Common.{◌≡◌, ◌≤◌, ◌<◌, false, List, [], ◌∷◌, inl, inr, refl, arith}
-use Rattle.psci_world_laws.specs.psci_messages.declared.kind.Kind.TheVariants.{Down}
-use Rattle.psci_world_laws.specs.psci_world_spec.declared.event.Event.TheVariants.{Deliver, Enter}
-use Rattle.psci_world_laws.specs.psci_world_spec.declared.said.Record.{Record}
-use Rattle.psci_world_laws.proofs.world_spec.Scripts.{acked, goes_down, part}
+use Rattle.psci_headline.specs.psci_messages.declared.kind.Kind.TheVariants.{Down}
+use Rattle.psci_headline.specs.psci_world_spec.declared.event.Event.TheVariants.{Deliver, Enter}
+use Rattle.psci_headline.specs.psci_world_spec.declared.said.Record.{Record}
+use Rattle.psci_headline.proofs.world_spec.Scripts.{acked, goes_down, part}
 use Rattle.psci_platform_safe.specs.Safe.{NoDeeperThanAsked}
 use Rattle.psci_platform_safe.specs.Words.{run_on}
 use Rattle.psci_platform_safe.proofs.Histories.{after, computing, core_1_on, says, suspend, tall}

@@ -5,41 +5,41 @@ use Rattle.std.proofs.Common.{inr, not, option_map}
 use Rattle.std.specs.Prelude.{nat_lt}
 use Rattle.std.proofs.lemmas.Bool.{eq-eqb, eqb-true, ltb-true}
 use Rattle.psci_platform.specs.Platforms.{PlatformValue}
-use Rattle.psci_world_laws.specs.psci_board.Board.{BoardValue, cores}
-use Rattle.psci_world_laws.specs.psci_ctl_spec.Replies.{last_start}
-use Rattle.psci_world_laws.specs.psci_fw_spec.declared.call.FwCall.TheVariants as calls
-use Rattle.psci_world_laws.specs.psci_fw_spec.declared.fault.FwFault.{FwFault}
-use Rattle.psci_world_laws.specs.psci_fw_spec.declared.fault.FwFault.TheVariants.{NoCore, NoLife}
-use Rattle.psci_world_laws.specs.psci_fw_spec.declared.fault.FwFault.TheVariants.{OldStart}
-use Rattle.psci_world_laws.specs.psci_fw_spec.declared.opening.Opening.{Opening}
-use Rattle.psci_world_laws.specs.psci_fw_spec.declared.outcome.Act.{Act}
-use Rattle.psci_world_laws.specs.psci_fw_spec.declared.outcome.Act.TheVariants as acts
-use Rattle.psci_world_laws.specs.psci_fw_spec.declared.outcome.Outcome.{Outcome}
-use Rattle.psci_world_laws.specs.psci_fw_spec.declared.reply.FwReply.{FwReply}
-use Rattle.psci_world_laws.specs.psci_fw_spec.declared.reply.FwReply.TheVariants as replies
-use Rattle.psci_world_laws.specs.psci_fw_spec.After.{change}
-use Rattle.psci_world_laws.specs.psci_fw_spec.Answer.{answer, reply_or}
-use Rattle.psci_world_laws.specs.psci_fw_spec.Changes.{with_arrival}
-use Rattle.psci_world_laws.specs.psci_fw_spec.CpuOff.{off_message}
-use Rattle.psci_world_laws.specs.psci_fw_spec.Entering.{enter_fault, enter_outcome, is_old}
-use Rattle.psci_world_laws.specs.psci_fw_spec.Entering.{outcome_at, resumes}
-use Rattle.psci_world_laws.specs.psci_fw_spec.Lives.{in_life, start_of_life}
-use Rattle.psci_world_laws.specs.psci_fw_spec.Outcomes.{stops, stops_with}
-use Rattle.psci_world_laws.specs.psci_fw_spec.Values.{Values}
-use Rattle.psci_world_laws.specs.psci_messages.declared.start.Start.{Start}
-use Rattle.psci_world_laws.specs.psci_world_spec.declared.event.Event.{Event}
-use Rattle.psci_world_laws.specs.psci_world_spec.declared.event.Event.TheVariants.{Enter}
-use Rattle.psci_world_laws.specs.psci_world_spec.declared.place.Place.{Place}
-use Rattle.psci_world_laws.specs.psci_world_spec.declared.place.Place.TheVariants.{Running, Started}
-use Rattle.psci_world_laws.specs.psci_world_spec.declared.place.Place.TheVariants.{Stopped}
-use Rattle.psci_world_laws.specs.psci_world_spec.declared.said.Record.{Record}
-use Rattle.psci_world_laws.specs.psci_world_spec.declared.said.Said.{Said}
-use Rattle.psci_world_laws.specs.psci_world_spec.declared.said.Said.TheVariants.{Absent, Fw}
-use Rattle.psci_world_laws.specs.psci_world_spec.declared.said.Sent.{Sent}
-use Rattle.psci_world_laws.specs.psci_world_spec.Histories.{controller_values, firmware_history}
-use Rattle.psci_world_laws.specs.psci_world_spec.Histories.{firmware_values}
-use Rattle.psci_world_laws.specs.psci_world_spec.Legal.{if_started, legal, said_of}
-use Rattle.psci_world_laws.specs.psci_world_spec.Places.{place}
+use Rattle.psci_headline.specs.psci_board.Board.{BoardValue, cores}
+use Rattle.psci_headline.specs.psci_ctl_spec.Replies.{last_start}
+use Rattle.psci_headline.specs.psci_fw_spec.declared.call.FwCall.TheVariants as calls
+use Rattle.psci_headline.specs.psci_fw_spec.declared.fault.FwFault.{FwFault}
+use Rattle.psci_headline.specs.psci_fw_spec.declared.fault.FwFault.TheVariants.{NoCore, NoLife}
+use Rattle.psci_headline.specs.psci_fw_spec.declared.fault.FwFault.TheVariants.{OldStart}
+use Rattle.psci_headline.specs.psci_fw_spec.declared.opening.Opening.{Opening}
+use Rattle.psci_headline.specs.psci_fw_spec.declared.outcome.Act.{Act}
+use Rattle.psci_headline.specs.psci_fw_spec.declared.outcome.Act.TheVariants as acts
+use Rattle.psci_headline.specs.psci_fw_spec.declared.outcome.Outcome.{Outcome}
+use Rattle.psci_headline.specs.psci_fw_spec.declared.reply.FwReply.{FwReply}
+use Rattle.psci_headline.specs.psci_fw_spec.declared.reply.FwReply.TheVariants as replies
+use Rattle.psci_headline.specs.psci_fw_spec.After.{change}
+use Rattle.psci_headline.specs.psci_fw_spec.Answer.{answer, reply_or}
+use Rattle.psci_headline.specs.psci_fw_spec.Changes.{with_arrival}
+use Rattle.psci_headline.specs.psci_fw_spec.CpuOff.{off_message}
+use Rattle.psci_headline.specs.psci_fw_spec.Entering.{enter_fault, enter_outcome, is_old}
+use Rattle.psci_headline.specs.psci_fw_spec.Entering.{outcome_at, resumes}
+use Rattle.psci_headline.specs.psci_fw_spec.Lives.{in_life, start_of_life}
+use Rattle.psci_headline.specs.psci_fw_spec.Outcomes.{stops, stops_with}
+use Rattle.psci_headline.specs.psci_fw_spec.Values.{Values}
+use Rattle.psci_headline.specs.psci_messages.declared.start.Start.{Start}
+use Rattle.psci_headline.specs.psci_world_spec.declared.event.Event.{Event}
+use Rattle.psci_headline.specs.psci_world_spec.declared.event.Event.TheVariants.{Enter}
+use Rattle.psci_headline.specs.psci_world_spec.declared.place.Place.{Place}
+use Rattle.psci_headline.specs.psci_world_spec.declared.place.Place.TheVariants.{Running, Started}
+use Rattle.psci_headline.specs.psci_world_spec.declared.place.Place.TheVariants.{Stopped}
+use Rattle.psci_headline.specs.psci_world_spec.declared.said.Record.{Record}
+use Rattle.psci_headline.specs.psci_world_spec.declared.said.Said.{Said}
+use Rattle.psci_headline.specs.psci_world_spec.declared.said.Said.TheVariants.{Absent, Fw}
+use Rattle.psci_headline.specs.psci_world_spec.declared.said.Sent.{Sent}
+use Rattle.psci_headline.specs.psci_world_spec.Histories.{controller_values, firmware_history}
+use Rattle.psci_headline.specs.psci_world_spec.Histories.{firmware_values}
+use Rattle.psci_headline.specs.psci_world_spec.Legal.{if_started, legal, said_of}
+use Rattle.psci_headline.specs.psci_world_spec.Places.{place}
 use Rattle.psci_platform_safe.specs.Asked.{life_of}
 use Rattle.psci_platform_safe.specs.Names.{number}
 use Rattle.psci_platform_safe.specs.Opened.{OneEntryEach, Waits, boot_opening}

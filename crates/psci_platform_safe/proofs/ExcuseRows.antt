@@ -2,12 +2,12 @@
 -- part, with another depth or of an older start, and the start of the life.
 use Rattle.std.proofs.Common.{◌≡◌, ◌∙◌, ◌≤◌, ◌<◌, ◌++◌, List, [], ◌∷◌, Some, inl, inr, refl, ap}
 use Rattle.std.proofs.Common.{arith}
-use Rattle.psci_world_laws.specs.psci_claims.psci_parts.declared.part.Part.{Part}
-use Rattle.psci_world_laws.specs.psci_messages.declared.kind.Kind.TheVariants.{Down}
-use Rattle.psci_world_laws.specs.psci_world_spec.declared.event.Event.TheVariants.{Deliver, Enter}
-use Rattle.psci_world_laws.specs.psci_world_spec.declared.event.Event.TheVariants.{Wake}
-use Rattle.psci_world_laws.specs.psci_world_spec.declared.said.Record.{Record}
-use Rattle.psci_world_laws.proofs.world_spec.Scripts.{goes_down, off, part}
+use Rattle.psci_headline.specs.psci_claims.psci_parts.declared.part.Part.{Part}
+use Rattle.psci_headline.specs.psci_messages.declared.kind.Kind.TheVariants.{Down}
+use Rattle.psci_headline.specs.psci_world_spec.declared.event.Event.TheVariants.{Deliver, Enter}
+use Rattle.psci_headline.specs.psci_world_spec.declared.event.Event.TheVariants.{Wake}
+use Rattle.psci_headline.specs.psci_world_spec.declared.said.Record.{Record}
+use Rattle.psci_headline.proofs.world_spec.Scripts.{goes_down, off, part}
 use Rattle.psci_platform_safe.specs.Safe.{NoDeeperThanAsked}
 use Rattle.psci_platform_safe.specs.Words.{run_on}
 use Rattle.psci_platform_safe.proofs.Histories.{after, computing, core_1_on, on_1, says, suspend}

@@ -6,18 +6,18 @@ use Rattle.psci_platform.specs.Described.{DescriptionValue}
 use Rattle.psci_platform.specs.Platforms.{PlatformValue}
 use Rattle.psci_platform.proofs.Machines.{all_functions, calling, checking, describes, down, level}
 use Rattle.psci_platform.proofs.Machines.{retained, row}
-use Rattle.psci_safe.specs.Claims.{claims, live_claims}
-use Rattle.psci_safe.specs.Moments.{was_powered_down}
-use Rattle.psci_safe.specs.Openings.{openings, taken_up}
+use Rattle.psci_headline.specs.Claims.{claims, live_claims}
+use Rattle.psci_headline.specs.Moments.{was_powered_down}
+use Rattle.psci_headline.specs.Openings.{openings, taken_up}
 use Rattle.psci_headline.specs.ToldHw.{was_so_deep}
-use Rattle.psci_world_laws.specs.psci_world_spec.declared.event.Event.{Event}
-use Rattle.psci_world_laws.specs.psci_world_spec.declared.event.Event.TheVariants.{Deliver, Enter}
-use Rattle.psci_world_laws.specs.psci_world_spec.declared.event.Event.TheVariants.{Take}
-use Rattle.psci_world_laws.specs.psci_world_spec.declared.said.Record.{Record}
-use Rattle.psci_world_laws.specs.psci_world_spec.declared.said.Said.{Said}
-use Rattle.psci_world_laws.proofs.world_spec.Scripts as scripts
-use Rattle.psci_world_laws.proofs.world_spec.Scripts.{board, call, off, system_reset}
-use Rattle.psci_world_laws.proofs.world_spec.Scripts.{tall as tall_board}
+use Rattle.psci_headline.specs.psci_world_spec.declared.event.Event.{Event}
+use Rattle.psci_headline.specs.psci_world_spec.declared.event.Event.TheVariants.{Deliver, Enter}
+use Rattle.psci_headline.specs.psci_world_spec.declared.event.Event.TheVariants.{Take}
+use Rattle.psci_headline.specs.psci_world_spec.declared.said.Record.{Record}
+use Rattle.psci_headline.specs.psci_world_spec.declared.said.Said.{Said}
+use Rattle.psci_headline.proofs.world_spec.Scripts as scripts
+use Rattle.psci_headline.proofs.world_spec.Scripts.{board, call, off, system_reset}
+use Rattle.psci_headline.proofs.world_spec.Scripts.{tall as tall_board}
 use Rattle.psci_platform_safe.specs.Words.{legal_for, numbered, run_on}
 
 -- what an example unfolds to compute what is said on a platform, and the sentences

@@ -2,11 +2,11 @@
 -- levels, in both modes, in life 2, and in a life that is halting.
 use Rattle.std.proofs.Common.{◌≡◌, ◌++◌, ℕ, true, List, [], ◌∷◌, refl}
 use Rattle.psci_platform.specs.Platforms.{PlatformValue}
-use Rattle.psci_safe.specs.Moments.{executes}
-use Rattle.psci_world_laws.specs.psci_world_spec.declared.event.Event.TheVariants.{Deliver, Enter}
-use Rattle.psci_world_laws.specs.psci_world_spec.declared.event.Event.TheVariants.{Take, Wake}
-use Rattle.psci_world_laws.specs.psci_world_spec.declared.said.Record.{Record}
-use Rattle.psci_world_laws.proofs.world_spec.Scripts.{call, off, system_off}
+use Rattle.psci_headline.specs.Moments.{executes}
+use Rattle.psci_headline.specs.psci_world_spec.declared.event.Event.TheVariants.{Deliver, Enter}
+use Rattle.psci_headline.specs.psci_world_spec.declared.event.Event.TheVariants.{Take, Wake}
+use Rattle.psci_headline.specs.psci_world_spec.declared.said.Record.{Record}
+use Rattle.psci_headline.proofs.world_spec.Scripts.{call, off, system_off}
 use Rattle.psci_platform_safe.specs.Asked.{depth_above}
 use Rattle.psci_platform_safe.specs.Safe.{IsOff, NoneBelowSleeping, place_of}
 use Rattle.psci_platform_safe.specs.Words.{run_on}

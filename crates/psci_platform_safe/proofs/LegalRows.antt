@@ -3,16 +3,16 @@ use Rattle.std.proofs.Common.{◌≡◌, ◌++◌, ℕ, pos, List, [], ◌∷◌
 use Rattle.std.proofs.Common.{Some, None, refl, arith, ap}
 use Rattle.std.specs.Ordering.{int_eq}
 use Rattle.psci_platform.specs.Platforms.{IsPlatform}
-use Rattle.psci_world_laws.specs.psci_fw_spec.declared.outcome.Act.TheVariants as acts
-use Rattle.psci_world_laws.specs.psci_messages.declared.kind.Kind.TheVariants.{Down, Start}
-use Rattle.psci_world_laws.specs.psci_world_spec.declared.event.Event.{Event}
-use Rattle.psci_world_laws.specs.psci_world_spec.declared.event.Event.TheVariants.{Deliver, Enter}
-use Rattle.psci_world_laws.specs.psci_world_spec.declared.event.Event.TheVariants.{Reset, Take}
-use Rattle.psci_world_laws.specs.psci_world_spec.declared.said.Record.{Record}
-use Rattle.psci_world_laws.specs.psci_world_spec.declared.said.Said.{Said}
-use Rattle.psci_world_laws.specs.psci_world_spec.declared.said.Said.TheVariants.{Fw}
-use Rattle.psci_world_laws.proofs.world_spec.Scripts.{acked, asks_on, call, enters, error}
-use Rattle.psci_world_laws.proofs.world_spec.Scripts.{goes_down, off, on_3, part, used, value}
+use Rattle.psci_headline.specs.psci_fw_spec.declared.outcome.Act.TheVariants as acts
+use Rattle.psci_headline.specs.psci_messages.declared.kind.Kind.TheVariants.{Down, Start}
+use Rattle.psci_headline.specs.psci_world_spec.declared.event.Event.{Event}
+use Rattle.psci_headline.specs.psci_world_spec.declared.event.Event.TheVariants.{Deliver, Enter}
+use Rattle.psci_headline.specs.psci_world_spec.declared.event.Event.TheVariants.{Reset, Take}
+use Rattle.psci_headline.specs.psci_world_spec.declared.said.Record.{Record}
+use Rattle.psci_headline.specs.psci_world_spec.declared.said.Said.{Said}
+use Rattle.psci_headline.specs.psci_world_spec.declared.said.Said.TheVariants.{Fw}
+use Rattle.psci_headline.proofs.world_spec.Scripts.{acked, asks_on, call, enters, error}
+use Rattle.psci_headline.proofs.world_spec.Scripts.{goes_down, off, on_3, part, used, value}
 use Rattle.psci_platform_safe.specs.Names.{IsAskedOf, mpidr_of, node_asked, number}
 use Rattle.psci_platform_safe.specs.Words.{IsLegalOn, numbered}
 use Rattle.psci_platform_safe.proofs.Histories.{after, computing, core_1_off, core_1_on, on_1, says}

@@ -7,13 +7,13 @@ use Rattle.std.specs.Prelude.{slice_index}
 use Rattle.std.proofs.lemmas.Bool.{cases_eq, eq-eqb}
 use Rattle.std.proofs.lemmas.List.{append-nil, append_assoc}
 use Rattle.psci_platform.specs.Platforms.{PlatformValue}
-use Rattle.psci_world_laws.specs.psci_board.declared.node.Node.{Node}
-use Rattle.psci_world_laws.specs.psci_claims.psci_parts.declared.part.Part.{Part}
-use Rattle.psci_world_laws.specs.psci_ctl_spec.Values.{starts_below}
-use Rattle.psci_world_laws.specs.psci_fw_laws.Claims.{part_for}
-use Rattle.psci_world_laws.specs.psci_messages.Message.{MessageValue}
-use Rattle.psci_world_laws.specs.psci_world_spec.declared.said.Record.{Record}
-use Rattle.psci_world_laws.specs.psci_world_spec.Histories.{controller_values, sent_in}
+use Rattle.psci_headline.specs.psci_board.declared.node.Node.{Node}
+use Rattle.psci_headline.specs.psci_claims.psci_parts.declared.part.Part.{Part}
+use Rattle.psci_headline.specs.psci_ctl_spec.Values.{starts_below}
+use Rattle.psci_headline.specs.psci_fw_laws.Claims.{part_for}
+use Rattle.psci_headline.specs.psci_messages.Message.{MessageValue}
+use Rattle.psci_headline.specs.psci_world_spec.declared.said.Record.{Record}
+use Rattle.psci_headline.specs.psci_world_spec.Histories.{controller_values, sent_in}
 use Rattle.psci_platform_safe.specs.Asked.{AskFor, mode_of}
 use Rattle.psci_platform_safe.specs.Names.{IsCore, domain_above, mpidr_of}
 use Rattle.psci_platform_safe.specs.Words.{numbered, said_in_numbers}

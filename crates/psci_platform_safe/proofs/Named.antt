@@ -5,8 +5,8 @@ use Rattle.psci_platform.specs.Cores.{boot_place, core_named, core_word, number_
 use Rattle.psci_platform.specs.Platforms.{IsPlatform, PlatformValue}
 use Rattle.psci_platform.specs.Swaps.{swap_for}
 use Rattle.psci_platform.specs.psci_fw_same.Renumbered.{IsRenumbering}
-use Rattle.psci_world_laws.specs.psci_board.Board.{IsBoard, core_of, cores, height, node_of, up}
-use Rattle.psci_world_laws.specs.psci_board.Laws.{PathLaws, WordLaws}
+use Rattle.psci_headline.specs.psci_board.Board.{IsBoard, core_of, cores, height, node_of, up}
+use Rattle.psci_headline.specs.psci_board.Laws.{PathLaws, WordLaws}
 use Rattle.psci_platform_safe.specs.Names.{number}
 use Rattle.psci_platform_safe.proofs.Numbers.{Laws}
 

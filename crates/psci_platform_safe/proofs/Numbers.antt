@@ -10,10 +10,10 @@ use Rattle.psci_platform.specs.Platforms.{IsPlatform, PlatformValue}
 use Rattle.psci_platform.specs.Swaps.{swap_for}
 use Rattle.psci_platform.specs.psci_fw_same.Renumbered.{IsRenumbering}
 use Rattle.psci_platform.proofs.Swapped.{core_inside}
-use Rattle.psci_world_laws.specs.psci_board.Board.{HasNode, IsBoard, core_of, cores, height}
-use Rattle.psci_world_laws.specs.psci_board.Board.{node_of, up}
-use Rattle.psci_world_laws.specs.psci_board.Laws.{PathLaws, WordLaws}
-use Rattle.psci_world_laws.specs.psci_board.declared.node.Node.{Node}
+use Rattle.psci_headline.specs.psci_board.Board.{HasNode, IsBoard, core_of, cores, height}
+use Rattle.psci_headline.specs.psci_board.Board.{node_of, up}
+use Rattle.psci_headline.specs.psci_board.Laws.{PathLaws, WordLaws}
+use Rattle.psci_headline.specs.psci_board.declared.node.Node.{Node}
 use Rattle.psci_platform_safe.specs.Names.{IsAskedOf, IsCore, domain_above, mpidr_of, node_asked}
 use Rattle.psci_platform_safe.specs.Names.{number}
 

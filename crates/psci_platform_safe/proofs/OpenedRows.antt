@@ -2,11 +2,11 @@
 use Rattle.std.proofs.Common.{◌≡◌, ◌++◌, ℕ, List, [], ◌∷◌, Some, inl, inr, refl, ap, arith, ◌∙◌}
 use Rattle.std.specs.Prelude.{slice_index}
 use Rattle.psci_platform.specs.States.{depth_at}
-use Rattle.psci_world_laws.specs.psci_fw_spec.declared.mode.SuspendMode.TheVariants.{Platform}
-use Rattle.psci_world_laws.specs.psci_fw_spec.declared.mode.SuspendMode.TheVariants.{OsInitiated}
-use Rattle.psci_world_laws.specs.psci_fw_spec.declared.opening.Opening.{Opening}
-use Rattle.psci_world_laws.specs.psci_world_spec.declared.event.Event.TheVariants.{Enter}
-use Rattle.psci_world_laws.proofs.world_spec.Scripts.{asks_on, goes_down, part}
+use Rattle.psci_headline.specs.psci_fw_spec.declared.mode.SuspendMode.TheVariants.{Platform}
+use Rattle.psci_headline.specs.psci_fw_spec.declared.mode.SuspendMode.TheVariants.{OsInitiated}
+use Rattle.psci_headline.specs.psci_fw_spec.declared.opening.Opening.{Opening}
+use Rattle.psci_headline.specs.psci_world_spec.declared.event.Event.TheVariants.{Enter}
+use Rattle.psci_headline.proofs.world_spec.Scripts.{asks_on, goes_down, part}
 use Rattle.psci_platform_safe.specs.Opened.{IsPowerDown, NoneEnters, Waits}
 use Rattle.psci_platform_safe.proofs.Histories.{after, computing, core_1_on, description, on_1}
 use Rattle.psci_platform_safe.proofs.Histories.{suspend, two}

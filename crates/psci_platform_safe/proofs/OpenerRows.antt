@@ -1,17 +1,17 @@
 -- Worked examples: what opens an entry point to a core, and records that open none, by each thing
 -- that is asked of them.
 use Rattle.std.proofs.Common.{◌≡◌, ◌∙◌, ℕ, [], ◌∷◌, None, inl, inr, refl, ap, arith, pos}
-use Rattle.psci_world_laws.specs.psci_abi.Calls.{request_of}
-use Rattle.psci_world_laws.specs.psci_abi.declared.registers.Regs.{Regs}
-use Rattle.psci_world_laws.specs.psci_abi.declared.request.Request.{Request}
-use Rattle.psci_world_laws.specs.psci_abi.declared.request.Request.TheVariants as requests
-use Rattle.psci_world_laws.specs.psci_fw_spec.declared.mode.SuspendMode.TheVariants.{Platform}
-use Rattle.psci_world_laws.specs.psci_fw_spec.declared.opening.Opening.{Opening}
-use Rattle.psci_world_laws.specs.psci_world_spec.declared.event.Event.{Event}
-use Rattle.psci_world_laws.specs.psci_world_spec.declared.event.Event.TheVariants.{Call, Enter}
-use Rattle.psci_world_laws.specs.psci_world_spec.declared.said.Record.{Record}
-use Rattle.psci_world_laws.proofs.world_spec.Scripts.{asks_on, call, enters, error, goes_down}
-use Rattle.psci_world_laws.proofs.world_spec.Scripts.{nothing, part, resumes, returns}
+use Rattle.psci_headline.specs.psci_abi.Calls.{request_of}
+use Rattle.psci_headline.specs.psci_abi.declared.registers.Regs.{Regs}
+use Rattle.psci_headline.specs.psci_abi.declared.request.Request.{Request}
+use Rattle.psci_headline.specs.psci_abi.declared.request.Request.TheVariants as requests
+use Rattle.psci_headline.specs.psci_fw_spec.declared.mode.SuspendMode.TheVariants.{Platform}
+use Rattle.psci_headline.specs.psci_fw_spec.declared.opening.Opening.{Opening}
+use Rattle.psci_headline.specs.psci_world_spec.declared.event.Event.{Event}
+use Rattle.psci_headline.specs.psci_world_spec.declared.event.Event.TheVariants.{Call, Enter}
+use Rattle.psci_headline.specs.psci_world_spec.declared.said.Record.{Record}
+use Rattle.psci_headline.proofs.world_spec.Scripts.{asks_on, call, enters, error, goes_down}
+use Rattle.psci_headline.proofs.world_spec.Scripts.{nothing, part, resumes, returns}
 use Rattle.psci_platform_safe.specs.Opened.{ByCpuOn, BySuspend, IsPowerDown, NoneEnters}
 use Rattle.psci_platform_safe.specs.Opened.{boot_opening}
 use Rattle.psci_platform_safe.proofs.Histories.{computing, on_1, suspend, tall, two}

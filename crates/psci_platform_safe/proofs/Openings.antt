@@ -1,13 +1,13 @@
 -- For worked examples: the records by which an opening that waits may have been made.
 use Rattle.std.proofs.Common.{◌≡◌, ◌∙◌, ◌⊎◌, ℕ, List, [], ◌∷◌, inl, inr, sym, ap, subst, arith}
 use Rattle.psci_platform.specs.Platforms.{PlatformValue}
-use Rattle.psci_world_laws.specs.psci_abi.Calls.{request_of}
-use Rattle.psci_world_laws.specs.psci_abi.declared.request.Request.{Request}
-use Rattle.psci_world_laws.specs.psci_abi.declared.request.Request.TheVariants as requests
-use Rattle.psci_world_laws.specs.psci_fw_spec.declared.opening.Opening.{Opening}
-use Rattle.psci_world_laws.specs.psci_world_spec.declared.event.Event.{Event}
-use Rattle.psci_world_laws.specs.psci_world_spec.declared.event.Event.TheVariants.{Call}
-use Rattle.psci_world_laws.specs.psci_world_spec.declared.said.Record.{Record}
+use Rattle.psci_headline.specs.psci_abi.Calls.{request_of}
+use Rattle.psci_headline.specs.psci_abi.declared.request.Request.{Request}
+use Rattle.psci_headline.specs.psci_abi.declared.request.Request.TheVariants as requests
+use Rattle.psci_headline.specs.psci_fw_spec.declared.opening.Opening.{Opening}
+use Rattle.psci_headline.specs.psci_world_spec.declared.event.Event.{Event}
+use Rattle.psci_headline.specs.psci_world_spec.declared.event.Event.TheVariants.{Call}
+use Rattle.psci_headline.specs.psci_world_spec.declared.said.Record.{Record}
 use Rattle.psci_platform_safe.specs.Asked.{life_of}
 use Rattle.psci_platform_safe.specs.Opened.{NoneEnters, Opens, boot_opening}
 use Rattle.psci_platform_safe.proofs.Histories.{after}

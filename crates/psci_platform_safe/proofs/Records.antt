@@ -4,43 +4,43 @@ use Rattle.std.proofs.Common.{◌∙◌, subst, inl, inr, option_map}
 use Rattle.psci_headline.proofs.Naming.{AreNamed}
 use Rattle.psci_platform.specs.Calls.{regs_for}
 use Rattle.psci_platform.specs.Platforms.{PlatformValue}
-use Rattle.psci_world_laws.specs.psci_abi.Calls.{request_of}
-use Rattle.psci_world_laws.specs.psci_abi.Codes.{success}
-use Rattle.psci_world_laws.specs.psci_abi.declared.code.Code.{Code}
-use Rattle.psci_world_laws.specs.psci_abi.declared.registers.Regs.{Regs}
-use Rattle.psci_world_laws.specs.psci_abi.declared.request.Request.TheVariants as requests
-use Rattle.psci_world_laws.specs.psci_board.Board.{BoardValue, core_of, cores}
-use Rattle.psci_world_laws.specs.psci_ctl_spec.Replies.{last_start}
-use Rattle.psci_world_laws.specs.psci_fw_spec.declared.call.FwCall.TheVariants as calls
-use Rattle.psci_world_laws.specs.psci_fw_spec.declared.fault.FwFault.{FwFault}
-use Rattle.psci_world_laws.specs.psci_fw_spec.declared.opening.Opening.{Opening}
-use Rattle.psci_world_laws.specs.psci_fw_spec.declared.outcome.Act.{Act}
-use Rattle.psci_world_laws.specs.psci_fw_spec.declared.outcome.Act.TheVariants as acts
-use Rattle.psci_world_laws.specs.psci_fw_spec.declared.outcome.Outcome.{Outcome}
-use Rattle.psci_world_laws.specs.psci_fw_spec.declared.reply.FwReply.TheVariants as replies
-use Rattle.psci_world_laws.specs.psci_fw_spec.After.{after, change}
-use Rattle.psci_world_laws.specs.psci_fw_spec.Answer.{answer, reply_or}
-use Rattle.psci_world_laws.specs.psci_fw_spec.Calls.{call_fault, outcome_of}
-use Rattle.psci_world_laws.specs.psci_fw_spec.Changes.{PowerOn, Rest, target}
-use Rattle.psci_world_laws.specs.psci_fw_spec.Effects.{AsksOn, Effect, Nothing, Rests, effect_of}
-use Rattle.psci_world_laws.specs.psci_fw_spec.Effects.{enter_effect, function_effect}
-use Rattle.psci_world_laws.specs.psci_fw_spec.Exchange.{FwExchange}
-use Rattle.psci_world_laws.specs.psci_fw_spec.History.{values_of}
-use Rattle.psci_world_laws.specs.psci_fw_spec.Values.{Values}
-use Rattle.psci_world_laws.specs.psci_messages.declared.start.Start.{Start}
-use Rattle.psci_world_laws.specs.psci_messages.declared.taken.Taken.{Taken}
-use Rattle.psci_world_laws.specs.psci_messages.Message.{AckValue, MessageValue}
-use Rattle.psci_world_laws.specs.psci_world_spec.declared.event.Event.{Event}
-use Rattle.psci_world_laws.specs.psci_world_spec.declared.event.Event.TheVariants.{Call, Enter}
-use Rattle.psci_world_laws.specs.psci_world_spec.declared.event.Event.TheVariants.{Take}
-use Rattle.psci_world_laws.specs.psci_world_spec.declared.said.Record.{Record}
-use Rattle.psci_world_laws.specs.psci_world_spec.declared.said.Said.{Said}
-use Rattle.psci_world_laws.specs.psci_world_spec.declared.said.Said.TheVariants.{Fw, Taken as Took}
-use Rattle.psci_world_laws.specs.psci_world_spec.declared.said.Sent.{Sent}
-use Rattle.psci_world_laws.specs.psci_world_spec.Histories.{acks, call, controller_values, entered}
-use Rattle.psci_world_laws.specs.psci_world_spec.Histories.{firmware_history, firmware_values}
-use Rattle.psci_world_laws.specs.psci_world_spec.Histories.{outcome_in, took}
-use Rattle.psci_world_laws.specs.psci_world_spec.Lists.{indexed}
+use Rattle.psci_headline.specs.psci_abi.Calls.{request_of}
+use Rattle.psci_headline.specs.psci_abi.Codes.{success}
+use Rattle.psci_headline.specs.psci_abi.declared.code.Code.{Code}
+use Rattle.psci_headline.specs.psci_abi.declared.registers.Regs.{Regs}
+use Rattle.psci_headline.specs.psci_abi.declared.request.Request.TheVariants as requests
+use Rattle.psci_headline.specs.psci_board.Board.{BoardValue, core_of, cores}
+use Rattle.psci_headline.specs.psci_ctl_spec.Replies.{last_start}
+use Rattle.psci_headline.specs.psci_fw_spec.declared.call.FwCall.TheVariants as calls
+use Rattle.psci_headline.specs.psci_fw_spec.declared.fault.FwFault.{FwFault}
+use Rattle.psci_headline.specs.psci_fw_spec.declared.opening.Opening.{Opening}
+use Rattle.psci_headline.specs.psci_fw_spec.declared.outcome.Act.{Act}
+use Rattle.psci_headline.specs.psci_fw_spec.declared.outcome.Act.TheVariants as acts
+use Rattle.psci_headline.specs.psci_fw_spec.declared.outcome.Outcome.{Outcome}
+use Rattle.psci_headline.specs.psci_fw_spec.declared.reply.FwReply.TheVariants as replies
+use Rattle.psci_headline.specs.psci_fw_spec.After.{after, change}
+use Rattle.psci_headline.specs.psci_fw_spec.Answer.{answer, reply_or}
+use Rattle.psci_headline.specs.psci_fw_spec.Calls.{call_fault, outcome_of}
+use Rattle.psci_headline.specs.psci_fw_spec.Changes.{PowerOn, Rest, target}
+use Rattle.psci_headline.specs.psci_fw_spec.Effects.{AsksOn, Effect, Nothing, Rests, effect_of}
+use Rattle.psci_headline.specs.psci_fw_spec.Effects.{enter_effect, function_effect}
+use Rattle.psci_headline.specs.psci_fw_spec.Exchange.{FwExchange}
+use Rattle.psci_headline.specs.psci_fw_spec.History.{values_of}
+use Rattle.psci_headline.specs.psci_fw_spec.Values.{Values}
+use Rattle.psci_headline.specs.psci_messages.declared.start.Start.{Start}
+use Rattle.psci_headline.specs.psci_messages.declared.taken.Taken.{Taken}
+use Rattle.psci_headline.specs.psci_messages.Message.{AckValue, MessageValue}
+use Rattle.psci_headline.specs.psci_world_spec.declared.event.Event.{Event}
+use Rattle.psci_headline.specs.psci_world_spec.declared.event.Event.TheVariants.{Call, Enter}
+use Rattle.psci_headline.specs.psci_world_spec.declared.event.Event.TheVariants.{Take}
+use Rattle.psci_headline.specs.psci_world_spec.declared.said.Record.{Record}
+use Rattle.psci_headline.specs.psci_world_spec.declared.said.Said.{Said}
+use Rattle.psci_headline.specs.psci_world_spec.declared.said.Said.TheVariants.{Fw, Taken as Took}
+use Rattle.psci_headline.specs.psci_world_spec.declared.said.Sent.{Sent}
+use Rattle.psci_headline.specs.psci_world_spec.Histories.{acks, call, controller_values, entered}
+use Rattle.psci_headline.specs.psci_world_spec.Histories.{firmware_history, firmware_values}
+use Rattle.psci_headline.specs.psci_world_spec.Histories.{outcome_in, took}
+use Rattle.psci_headline.specs.psci_world_spec.Lists.{indexed}
 use Rattle.psci_platform_safe.specs.Asked.{mode_of}
 use Rattle.psci_platform_safe.specs.Names.{IsCore, number}
 use Rattle.psci_platform_safe.specs.Opened.{Opens}

@@ -5,23 +5,23 @@ use Rattle.std.proofs.lemmas.List.{append-nil, append_assoc, reverse-append}
 use Rattle.std.specs.Prelude.{slice_get}
 use Rattle.psci_platform.specs.Platforms.{PlatformValue}
 use Rattle.psci_platform.specs.psci_fw_same.Renumbered.{core_by}
-use Rattle.psci_world_laws.specs.psci_board.Board.{BoardValue, cores}
-use Rattle.psci_world_laws.specs.psci_board.declared.node.Core.{Core}
-use Rattle.psci_world_laws.specs.psci_ctl_spec.Replies.{ack_by, ack_of, may_follow}
-use Rattle.psci_world_laws.specs.psci_ctl_spec.Values as controlled
-use Rattle.psci_world_laws.specs.psci_fw_laws.Kept.{Holds}
-use Rattle.psci_world_laws.specs.psci_fw_spec.Said.{listed}
-use Rattle.psci_world_laws.specs.psci_messages.declared.kind.Kind.{Kind}
-use Rattle.psci_world_laws.specs.psci_messages.declared.kind.Kind.TheVariants as kinds
-use Rattle.psci_world_laws.specs.psci_messages.Message.{AckValue, MessageValue}
-use Rattle.psci_world_laws.specs.psci_world_spec.declared.event.Event.{Event}
-use Rattle.psci_world_laws.specs.psci_world_spec.declared.said.Record.{Record}
-use Rattle.psci_world_laws.specs.psci_world_spec.declared.said.Said.{Said}
-use Rattle.psci_world_laws.specs.psci_world_spec.declared.said.Said.TheVariants.{Fw, Acked}
-use Rattle.psci_world_laws.specs.psci_world_spec.Histories.{ack_in, acks, firmware_values, sent}
-use Rattle.psci_world_laws.specs.psci_world_spec.Histories.{sent_in}
-use Rattle.psci_world_laws.specs.psci_world_spec.Legal.{IsLegalPast, legal, legal_record}
-use Rattle.psci_world_laws.specs.Acknowledged.{WasMade}
+use Rattle.psci_headline.specs.psci_board.Board.{BoardValue, cores}
+use Rattle.psci_headline.specs.psci_board.declared.node.Core.{Core}
+use Rattle.psci_headline.specs.psci_ctl_spec.Replies.{ack_by, ack_of, may_follow}
+use Rattle.psci_headline.specs.psci_ctl_spec.Values as controlled
+use Rattle.psci_headline.specs.psci_fw_laws.Kept.{Holds}
+use Rattle.psci_headline.specs.psci_fw_spec.Said.{listed}
+use Rattle.psci_headline.specs.psci_messages.declared.kind.Kind.{Kind}
+use Rattle.psci_headline.specs.psci_messages.declared.kind.Kind.TheVariants as kinds
+use Rattle.psci_headline.specs.psci_messages.Message.{AckValue, MessageValue}
+use Rattle.psci_headline.specs.psci_world_spec.declared.event.Event.{Event}
+use Rattle.psci_headline.specs.psci_world_spec.declared.said.Record.{Record}
+use Rattle.psci_headline.specs.psci_world_spec.declared.said.Said.{Said}
+use Rattle.psci_headline.specs.psci_world_spec.declared.said.Said.TheVariants.{Fw, Acked}
+use Rattle.psci_headline.specs.psci_world_spec.Histories.{ack_in, acks, firmware_values, sent}
+use Rattle.psci_headline.specs.psci_world_spec.Histories.{sent_in}
+use Rattle.psci_headline.specs.psci_world_spec.Legal.{IsLegalPast, legal, legal_record}
+use Rattle.psci_headline.specs.Acknowledged.{WasMade}
 use Rattle.psci_platform_safe.specs.Names.{mpidr_of, number}
 use Rattle.psci_platform_safe.specs.Words.{IsLegalOn, event_after, legal_for, numbered, run_on}
 use Rattle.psci_platform_safe.specs.Words.{said_for, said_in_numbers}

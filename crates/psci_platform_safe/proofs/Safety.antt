@@ -6,14 +6,14 @@ use Rattle.psci_headline.specs.Live.{AreAsked, AreClaimed}
 use Rattle.psci_headline.specs.ToldHw.{WasSoDeep, is_off_depth, is_standby_depth, told_hw}
 use Rattle.psci_headline.specs.ToldOff.{AllOff, told_off}
 use Rattle.psci_platform.specs.Platforms.{PlatformValue}
-use Rattle.psci_safe.specs.Safe.{AlwaysSafe, Safe}
-use Rattle.psci_world_laws.specs.psci_board.Board.{BoardValue}
-use Rattle.psci_world_laws.specs.psci_board.declared.node.Node.{Node}
-use Rattle.psci_world_laws.specs.psci_fw_laws.Kept.{Holds}
-use Rattle.psci_world_laws.specs.psci_fw_spec.Said.{listed}
-use Rattle.psci_world_laws.specs.psci_messages.Message.{MessageValue}
-use Rattle.psci_world_laws.specs.psci_world_spec.declared.said.Record.{Record}
-use Rattle.psci_world_laws.specs.psci_world_spec.Histories.{firmware_values, sent}
+use Rattle.psci_headline.specs.Safe.{AlwaysSafe, Safe}
+use Rattle.psci_headline.specs.psci_board.Board.{BoardValue}
+use Rattle.psci_headline.specs.psci_board.declared.node.Node.{Node}
+use Rattle.psci_headline.specs.psci_fw_laws.Kept.{Holds}
+use Rattle.psci_headline.specs.psci_fw_spec.Said.{listed}
+use Rattle.psci_headline.specs.psci_messages.Message.{MessageValue}
+use Rattle.psci_headline.specs.psci_world_spec.declared.said.Record.{Record}
+use Rattle.psci_headline.specs.psci_world_spec.Histories.{firmware_values, sent}
 use Rattle.psci_platform_safe.specs.Names.{domain_above, number}
 use Rattle.psci_platform_safe.specs.Safe.{AlwaysSafeOn, NoneBelowSleeping, OffIsDown, OneLiveClaim}
 use Rattle.psci_platform_safe.specs.Safe.{NoDeeperThanAsked, SafeOn, StatesWereReal}

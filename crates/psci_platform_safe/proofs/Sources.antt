@@ -3,18 +3,18 @@ use Rattle.std.proofs.Common.{◌≡◌, ℕ, ◌==◌, Bool, true, false, cond,
 use Rattle.std.proofs.Common.{ap, ◌∙◌, subst}
 use Rattle.std.specs.Option.{option_or}
 use Rattle.std.proofs.lemmas.Bool.{eqb-true, eq-eqb}
-use Rattle.psci_world_laws.specs.psci_board.Board.{BoardValue}
-use Rattle.psci_world_laws.specs.psci_fw_spec.declared.opening.Opening.{Opening}
-use Rattle.psci_world_laws.specs.psci_fw_spec.After.{change}
-use Rattle.psci_world_laws.specs.psci_fw_spec.Changes.{PowerOn, Rest, target}
-use Rattle.psci_world_laws.specs.psci_fw_spec.Effects.{Effect, Nothing, GoesOn, SetsMode, AsksOn}
-use Rattle.psci_world_laws.specs.psci_fw_spec.Effects.{Rests, Halts, Stops, Enters, Parks}
-use Rattle.psci_world_laws.specs.psci_fw_spec.Effects.{StopsAtOnce, Acknowledges}
-use Rattle.psci_world_laws.specs.psci_fw_spec.Lives.{first_opening, in_life, start_of_life}
-use Rattle.psci_world_laws.specs.psci_fw_spec.Said.{Arrival, arrived}
-use Rattle.psci_world_laws.specs.psci_fw_spec.Values.{Values}
-use Rattle.psci_world_laws.specs.psci_messages.declared.start.Start.{Start}
-use Rattle.psci_world_laws.specs.psci_messages.Message.{MessageValue}
+use Rattle.psci_headline.specs.psci_board.Board.{BoardValue}
+use Rattle.psci_headline.specs.psci_fw_spec.declared.opening.Opening.{Opening}
+use Rattle.psci_headline.specs.psci_fw_spec.After.{change}
+use Rattle.psci_headline.specs.psci_fw_spec.Changes.{PowerOn, Rest, target}
+use Rattle.psci_headline.specs.psci_fw_spec.Effects.{Effect, Nothing, GoesOn, SetsMode, AsksOn}
+use Rattle.psci_headline.specs.psci_fw_spec.Effects.{Rests, Halts, Stops, Enters, Parks}
+use Rattle.psci_headline.specs.psci_fw_spec.Effects.{StopsAtOnce, Acknowledges}
+use Rattle.psci_headline.specs.psci_fw_spec.Lives.{first_opening, in_life, start_of_life}
+use Rattle.psci_headline.specs.psci_fw_spec.Said.{Arrival, arrived}
+use Rattle.psci_headline.specs.psci_fw_spec.Values.{Values}
+use Rattle.psci_headline.specs.psci_messages.declared.start.Start.{Start}
+use Rattle.psci_headline.specs.psci_messages.Message.{MessageValue}
 
 -- an effect is no entry of this core
 abbrev pub NotEntered : Effect → ℕ → Type 0

@@ -2,7 +2,7 @@
 use Rattle.std.proofs.Common.{◌≡◌, ◌∙◌, ◌++◌, ℕ, List, [], ◌∷◌, Some, refl, sym, ap, arith}
 use Rattle.std.specs.Prelude.{slice_index}
 use Rattle.psci_platform.specs.States.{depth_at}
-use Rattle.psci_world_laws.specs.psci_world_spec.declared.event.Event.TheVariants.{Enter}
+use Rattle.psci_headline.specs.psci_world_spec.declared.event.Event.TheVariants.{Enter}
 use Rattle.psci_platform_safe.specs.Asked.{AsksByWord, IsFromStart, asks}
 use Rattle.psci_platform_safe.specs.Words.{run_on}
 use Rattle.psci_platform_safe.proofs.Histories.{computing, life_2, suspend, tall, tall_on, told}

@@ -9,44 +9,44 @@ use Rattle.psci_platform.specs.Calls.{first_argument, is_there, regs_for}
 use Rattle.psci_platform.specs.Described.{DescriptionValue}
 use Rattle.psci_platform.specs.Platforms.{PlatformValue}
 use Rattle.psci_platform.specs.States.{depth_at, depths_of, states_of, word_for}
-use Rattle.psci_world_laws.specs.psci_abi.Calls.{request_of}
-use Rattle.psci_world_laws.specs.psci_abi.declared.code.Code.{Code}
-use Rattle.psci_world_laws.specs.psci_abi.declared.registers.Regs.{Regs}
-use Rattle.psci_world_laws.specs.psci_abi.declared.request.Request.{Request}
-use Rattle.psci_world_laws.specs.psci_abi.declared.request.Request.TheVariants as requests
-use Rattle.psci_world_laws.specs.psci_board.Board.{BoardValue, IsBoard, cores, height}
-use Rattle.psci_world_laws.specs.psci_fw_spec.declared.call.FwCall.TheVariants as calls
-use Rattle.psci_world_laws.specs.psci_fw_spec.declared.fault.FwFault.{FwFault}
-use Rattle.psci_world_laws.specs.psci_fw_spec.declared.fault.FwFault.TheVariants.{NoCore, NoLife}
-use Rattle.psci_world_laws.specs.psci_fw_spec.declared.fault.FwFault.TheVariants.{NotRunning}
-use Rattle.psci_world_laws.specs.psci_fw_spec.declared.outcome.Act.TheVariants as acts
-use Rattle.psci_world_laws.specs.psci_fw_spec.declared.outcome.Outcome.{Outcome}
-use Rattle.psci_world_laws.specs.psci_fw_spec.declared.reply.FwReply.TheVariants as replies
-use Rattle.psci_world_laws.specs.psci_fw_spec.After.{change}
-use Rattle.psci_world_laws.specs.psci_fw_spec.Answer.{answer, reply_or}
-use Rattle.psci_world_laws.specs.psci_fw_spec.Calls.{call_fault, outcome_of}
-use Rattle.psci_world_laws.specs.psci_fw_spec.CpuSuspend.{ask_named, suspend_asked}
-use Rattle.psci_world_laws.specs.psci_fw_spec.Effects.{function_effect, rest_named}
-use Rattle.psci_world_laws.specs.psci_fw_spec.Legal.{IsLegal}
-use Rattle.psci_world_laws.specs.psci_fw_spec.Outcomes.{returns, stops}
-use Rattle.psci_world_laws.specs.psci_fw_spec.Phases.{Away, Pending, Phase, Running, Suspended}
-use Rattle.psci_world_laws.specs.psci_fw_spec.Phases.{activity_of, is_running, unless_pending}
-use Rattle.psci_world_laws.specs.psci_fw_spec.Values.{Values}
-use Rattle.psci_world_laws.specs.psci_fw_spec.Views.{ask}
-use Rattle.psci_world_laws.specs.psci_messages.Message.{MessageValue}
-use Rattle.psci_world_laws.specs.psci_state.Cores.{asks}
-use Rattle.psci_world_laws.specs.psci_state.PowerState.{ask_of}
-use Rattle.psci_world_laws.specs.psci_state.declared.fault.BadState.{BadState}
-use Rattle.psci_world_laws.specs.psci_world_spec.declared.event.Event.{Event}
-use Rattle.psci_world_laws.specs.psci_world_spec.declared.event.Event.TheVariants.{Call}
-use Rattle.psci_world_laws.specs.psci_world_spec.declared.said.Record.{Record}
-use Rattle.psci_world_laws.specs.psci_world_spec.declared.said.Said.{Said}
-use Rattle.psci_world_laws.specs.psci_world_spec.declared.said.Said.TheVariants.{Fw}
-use Rattle.psci_world_laws.specs.psci_world_spec.declared.said.Sent.{Sent}
-use Rattle.psci_world_laws.specs.psci_world_spec.Histories.{acks, call, controller_values}
-use Rattle.psci_world_laws.specs.psci_world_spec.Histories.{firmware_history, firmware_values}
-use Rattle.psci_world_laws.specs.psci_world_spec.Histories.{outcome_in}
-use Rattle.psci_world_laws.proofs.world_spec.Answered.{firmware_legal}
+use Rattle.psci_headline.specs.psci_abi.Calls.{request_of}
+use Rattle.psci_headline.specs.psci_abi.declared.code.Code.{Code}
+use Rattle.psci_headline.specs.psci_abi.declared.registers.Regs.{Regs}
+use Rattle.psci_headline.specs.psci_abi.declared.request.Request.{Request}
+use Rattle.psci_headline.specs.psci_abi.declared.request.Request.TheVariants as requests
+use Rattle.psci_headline.specs.psci_board.Board.{BoardValue, IsBoard, cores, height}
+use Rattle.psci_headline.specs.psci_fw_spec.declared.call.FwCall.TheVariants as calls
+use Rattle.psci_headline.specs.psci_fw_spec.declared.fault.FwFault.{FwFault}
+use Rattle.psci_headline.specs.psci_fw_spec.declared.fault.FwFault.TheVariants.{NoCore, NoLife}
+use Rattle.psci_headline.specs.psci_fw_spec.declared.fault.FwFault.TheVariants.{NotRunning}
+use Rattle.psci_headline.specs.psci_fw_spec.declared.outcome.Act.TheVariants as acts
+use Rattle.psci_headline.specs.psci_fw_spec.declared.outcome.Outcome.{Outcome}
+use Rattle.psci_headline.specs.psci_fw_spec.declared.reply.FwReply.TheVariants as replies
+use Rattle.psci_headline.specs.psci_fw_spec.After.{change}
+use Rattle.psci_headline.specs.psci_fw_spec.Answer.{answer, reply_or}
+use Rattle.psci_headline.specs.psci_fw_spec.Calls.{call_fault, outcome_of}
+use Rattle.psci_headline.specs.psci_fw_spec.CpuSuspend.{ask_named, suspend_asked}
+use Rattle.psci_headline.specs.psci_fw_spec.Effects.{function_effect, rest_named}
+use Rattle.psci_headline.specs.psci_fw_spec.Legal.{IsLegal}
+use Rattle.psci_headline.specs.psci_fw_spec.Outcomes.{returns, stops}
+use Rattle.psci_headline.specs.psci_fw_spec.Phases.{Away, Pending, Phase, Running, Suspended}
+use Rattle.psci_headline.specs.psci_fw_spec.Phases.{activity_of, is_running, unless_pending}
+use Rattle.psci_headline.specs.psci_fw_spec.Values.{Values}
+use Rattle.psci_headline.specs.psci_fw_spec.Views.{ask}
+use Rattle.psci_headline.specs.psci_messages.Message.{MessageValue}
+use Rattle.psci_headline.specs.psci_state.Cores.{asks}
+use Rattle.psci_headline.specs.psci_state.PowerState.{ask_of}
+use Rattle.psci_headline.specs.psci_state.declared.fault.BadState.{BadState}
+use Rattle.psci_headline.specs.psci_world_spec.declared.event.Event.{Event}
+use Rattle.psci_headline.specs.psci_world_spec.declared.event.Event.TheVariants.{Call}
+use Rattle.psci_headline.specs.psci_world_spec.declared.said.Record.{Record}
+use Rattle.psci_headline.specs.psci_world_spec.declared.said.Said.{Said}
+use Rattle.psci_headline.specs.psci_world_spec.declared.said.Said.TheVariants.{Fw}
+use Rattle.psci_headline.specs.psci_world_spec.declared.said.Sent.{Sent}
+use Rattle.psci_headline.specs.psci_world_spec.Histories.{acks, call, controller_values}
+use Rattle.psci_headline.specs.psci_world_spec.Histories.{firmware_history, firmware_values}
+use Rattle.psci_headline.specs.psci_world_spec.Histories.{outcome_in}
+use Rattle.psci_headline.proofs.world_spec.Answered.{firmware_legal}
 use Rattle.psci_platform_safe.specs.Asked.{AsksByWord, mode_of}
 use Rattle.psci_platform_safe.specs.Names.{number}
 use Rattle.psci_platform_safe.specs.Words.{IsLegalOn, event_after, numbered, said_in_numbers}

@@ -4,19 +4,19 @@ use Rattle.std.proofs.Common.{◌≡◌, ◌++◌, ℕ, false, List, [], ◌∷�
 use Rattle.std.proofs.Common.{refl, ap, arith}
 use Rattle.std.specs.Prelude.{option_map, unwrap_or}
 use Rattle.psci_platform.specs.Platforms.{IsPlatform}
-use Rattle.psci_safe.specs.Claims.{live_claims}
-use Rattle.psci_world_laws.specs.psci_board.declared.node.Node.{Node}
-use Rattle.psci_world_laws.specs.psci_messages.declared.kind.Kind.TheVariants.{Down, Off, Reset}
-use Rattle.psci_world_laws.specs.psci_messages.declared.kind.Kind.TheVariants.{Start}
-use Rattle.psci_world_laws.specs.psci_messages.declared.start.Cause.TheVariants as causes
-use Rattle.psci_world_laws.specs.psci_world_spec.declared.event.Event.{Event}
-use Rattle.psci_world_laws.specs.psci_world_spec.declared.event.Event.TheVariants.{Deliver, Enter}
-use Rattle.psci_world_laws.specs.psci_world_spec.declared.event.Event.TheVariants.{Take, Wake}
-use Rattle.psci_world_laws.specs.psci_world_spec.declared.said.Record.{Record}
-use Rattle.psci_world_laws.specs.psci_world_spec.declared.said.Said.{Said}
-use Rattle.psci_world_laws.proofs.world_spec.Scripts.{acked, asks_on, call, enters, goes_down}
-use Rattle.psci_world_laws.proofs.world_spec.Scripts.{halts, off, part, resumes, started}
-use Rattle.psci_world_laws.proofs.world_spec.Scripts.{system_off, system_reset, used, value}
+use Rattle.psci_headline.specs.Claims.{live_claims}
+use Rattle.psci_headline.specs.psci_board.declared.node.Node.{Node}
+use Rattle.psci_headline.specs.psci_messages.declared.kind.Kind.TheVariants.{Down, Off, Reset}
+use Rattle.psci_headline.specs.psci_messages.declared.kind.Kind.TheVariants.{Start}
+use Rattle.psci_headline.specs.psci_messages.declared.start.Cause.TheVariants as causes
+use Rattle.psci_headline.specs.psci_world_spec.declared.event.Event.{Event}
+use Rattle.psci_headline.specs.psci_world_spec.declared.event.Event.TheVariants.{Deliver, Enter}
+use Rattle.psci_headline.specs.psci_world_spec.declared.event.Event.TheVariants.{Take, Wake}
+use Rattle.psci_headline.specs.psci_world_spec.declared.said.Record.{Record}
+use Rattle.psci_headline.specs.psci_world_spec.declared.said.Said.{Said}
+use Rattle.psci_headline.proofs.world_spec.Scripts.{acked, asks_on, call, enters, goes_down}
+use Rattle.psci_headline.proofs.world_spec.Scripts.{halts, off, part, resumes, started}
+use Rattle.psci_headline.proofs.world_spec.Scripts.{system_off, system_reset, used, value}
 use Rattle.psci_platform_safe.specs.Asked.{asks, depth_above}
 use Rattle.psci_platform_safe.specs.Names.{IsAskedOf, domain_above, mpidr_of, number}
 use Rattle.psci_platform_safe.specs.Words.{numbered, run_on}

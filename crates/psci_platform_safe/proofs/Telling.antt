@@ -7,12 +7,12 @@ use Rattle.psci_platform.specs.Platforms.{PlatformValue}
 use Rattle.psci_platform.specs.Swaps.{swap_for}
 use Rattle.psci_platform.proofs.Requests.{request_with, short, with_first}
 use Rattle.psci_platform.proofs.Swapped.{core_inside}
-use Rattle.psci_world_laws.specs.psci_abi.Calls.{argument, request_of}
-use Rattle.psci_world_laws.specs.psci_abi.declared.registers.Regs.{Regs}
-use Rattle.psci_world_laws.specs.psci_abi.declared.request.Request.{Request}
-use Rattle.psci_world_laws.specs.psci_abi.declared.request.Request.TheVariants as requests
-use Rattle.psci_world_laws.specs.psci_board.Board.{cores}
-use Rattle.psci_world_laws.specs.psci_fw_spec.declared.mode.SuspendMode.{SuspendMode}
+use Rattle.psci_headline.specs.psci_abi.Calls.{argument, request_of}
+use Rattle.psci_headline.specs.psci_abi.declared.registers.Regs.{Regs}
+use Rattle.psci_headline.specs.psci_abi.declared.request.Request.{Request}
+use Rattle.psci_headline.specs.psci_abi.declared.request.Request.TheVariants as requests
+use Rattle.psci_headline.specs.psci_board.Board.{cores}
+use Rattle.psci_headline.specs.psci_fw_spec.declared.mode.SuspendMode.{SuspendMode}
 use Rattle.psci_platform_safe.proofs.Numbers.{Laws, named_inside}
 
 -- What is asked ---------------------------------------------------------------------------------

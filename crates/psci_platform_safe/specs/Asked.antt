@@ -2,19 +2,19 @@
 use Rattle.std.specs.Prelude.{◌≡◌, ◌⊎◌, ◌≤◌, ℕ, List, ◌∷◌, ◌++◌, Some, slice_index}
 use Rattle.psci_platform.specs.Platforms.{PlatformValue}
 use Rattle.psci_platform.specs.States.{depth_at as class_depth, states_of}
-use Rattle.psci_safe.specs.Moments.{depth_at}
-use Rattle.psci_world_laws.specs.psci_board.Board.{height}
-use Rattle.psci_world_laws.specs.psci_claims.psci_parts.declared.part.Part.{Part}
-use Rattle.psci_world_laws.specs.psci_ctl_spec.Values.{starts_below}
-use Rattle.psci_world_laws.specs.psci_fw_laws.Claims.{part_for}
-use Rattle.psci_world_laws.specs.psci_fw_spec.declared.mode.SuspendMode.{SuspendMode}
-use Rattle.psci_world_laws.specs.psci_fw_spec.declared.mode.SuspendMode.TheVariants.{Platform}
-use Rattle.psci_world_laws.specs.psci_fw_spec.declared.mode.SuspendMode.TheVariants.{OsInitiated}
-use Rattle.psci_world_laws.specs.psci_fw_spec.Views.{ask}
-use Rattle.psci_world_laws.specs.psci_messages.Message.{MessageValue}
-use Rattle.psci_world_laws.specs.psci_world_spec.declared.said.Record.{Record}
-use Rattle.psci_world_laws.specs.psci_world_spec.Histories.{controller_values, firmware_values}
-use Rattle.psci_world_laws.specs.psci_world_spec.Histories.{sent_in}
+use Rattle.psci_headline.specs.Moments.{depth_at}
+use Rattle.psci_headline.specs.psci_board.Board.{height}
+use Rattle.psci_headline.specs.psci_claims.psci_parts.declared.part.Part.{Part}
+use Rattle.psci_headline.specs.psci_ctl_spec.Values.{starts_below}
+use Rattle.psci_headline.specs.psci_fw_laws.Claims.{part_for}
+use Rattle.psci_headline.specs.psci_fw_spec.declared.mode.SuspendMode.{SuspendMode}
+use Rattle.psci_headline.specs.psci_fw_spec.declared.mode.SuspendMode.TheVariants.{Platform}
+use Rattle.psci_headline.specs.psci_fw_spec.declared.mode.SuspendMode.TheVariants.{OsInitiated}
+use Rattle.psci_headline.specs.psci_fw_spec.Views.{ask}
+use Rattle.psci_headline.specs.psci_messages.Message.{MessageValue}
+use Rattle.psci_headline.specs.psci_world_spec.declared.said.Record.{Record}
+use Rattle.psci_headline.specs.psci_world_spec.Histories.{controller_values, firmware_values}
+use Rattle.psci_headline.specs.psci_world_spec.Histories.{sent_in}
 use Rattle.psci_platform_safe.specs.Names.{AreBeside, domain_above, mpidr_of, number}
 use Rattle.psci_platform_safe.specs.Words.{numbered, said_in_numbers}
 

@@ -1,7 +1,7 @@
 -- Cores and power domains of a platform by their MPIDRs, and the firmware's numbers for them.
 use Rattle.std.specs.Prelude.{◌≡◌, ℕ, Option, Some, option_map, unwrap_or, slice_index}
-use Rattle.psci_world_laws.specs.psci_board.Board.{cores, up}
-use Rattle.psci_world_laws.specs.psci_board.declared.node.Node.{Node}
+use Rattle.psci_headline.specs.psci_board.Board.{cores, up}
+use Rattle.psci_headline.specs.psci_board.declared.node.Node.{Node}
 use Rattle.psci_platform.specs.Cores.{core_named, number_named}
 use Rattle.psci_platform.specs.Platforms.{PlatformValue}
 use Rattle.psci_platform.specs.Swaps.{swap_for}

@@ -3,23 +3,23 @@
 use Rattle.std.specs.Prelude.{◌≡◌, ℕ, pos, true, ◌<◌, ◌≤◌, List, [], ◌∷◌, length, Option, Some}
 use Rattle.psci_headline.specs.ToldHw.{WasSoDeep, is_off_depth, is_standby_depth}
 use Rattle.psci_platform.specs.Platforms.{PlatformValue}
-use Rattle.psci_safe.specs.Claims.{live_claims}
-use Rattle.psci_safe.specs.Moments.{executes, was_powered_down}
-use Rattle.psci_safe.specs.Openings.{AreTakenUp}
-use Rattle.psci_world_laws.specs.psci_abi.Calls.{request_of}
-use Rattle.psci_world_laws.specs.psci_abi.declared.registers.Regs.{Regs}
-use Rattle.psci_world_laws.specs.psci_abi.declared.request.Request.{Request}
-use Rattle.psci_world_laws.specs.psci_abi.declared.request.Request.TheVariants as requests
-use Rattle.psci_world_laws.specs.psci_board.Board.{height}
-use Rattle.psci_world_laws.specs.psci_fw_spec.declared.outcome.Act.TheVariants as acts
-use Rattle.psci_world_laws.specs.psci_world_spec.declared.event.Event.TheVariants.{Call}
-use Rattle.psci_world_laws.specs.psci_world_spec.declared.place.Place.{Place}
-use Rattle.psci_world_laws.specs.psci_world_spec.declared.place.Place.TheVariants.{Running}
-use Rattle.psci_world_laws.specs.psci_world_spec.declared.said.Record.{Record}
-use Rattle.psci_world_laws.specs.psci_world_spec.declared.said.Said.TheVariants.{Fw}
-use Rattle.psci_world_laws.specs.psci_world_spec.declared.said.Sent.{Sent}
-use Rattle.psci_world_laws.specs.psci_world_spec.Histories.{controller_values, firmware_history}
-use Rattle.psci_world_laws.specs.psci_world_spec.Places.{place}
+use Rattle.psci_headline.specs.Claims.{live_claims}
+use Rattle.psci_headline.specs.Moments.{executes, was_powered_down}
+use Rattle.psci_headline.specs.Openings.{AreTakenUp}
+use Rattle.psci_headline.specs.psci_abi.Calls.{request_of}
+use Rattle.psci_headline.specs.psci_abi.declared.registers.Regs.{Regs}
+use Rattle.psci_headline.specs.psci_abi.declared.request.Request.{Request}
+use Rattle.psci_headline.specs.psci_abi.declared.request.Request.TheVariants as requests
+use Rattle.psci_headline.specs.psci_board.Board.{height}
+use Rattle.psci_headline.specs.psci_fw_spec.declared.outcome.Act.TheVariants as acts
+use Rattle.psci_headline.specs.psci_world_spec.declared.event.Event.TheVariants.{Call}
+use Rattle.psci_headline.specs.psci_world_spec.declared.place.Place.{Place}
+use Rattle.psci_headline.specs.psci_world_spec.declared.place.Place.TheVariants.{Running}
+use Rattle.psci_headline.specs.psci_world_spec.declared.said.Record.{Record}
+use Rattle.psci_headline.specs.psci_world_spec.declared.said.Said.TheVariants.{Fw}
+use Rattle.psci_headline.specs.psci_world_spec.declared.said.Sent.{Sent}
+use Rattle.psci_headline.specs.psci_world_spec.Histories.{controller_values, firmware_history}
+use Rattle.psci_headline.specs.psci_world_spec.Places.{place}
 use Rattle.psci_platform_safe.specs.Asked.{IsAsAsked, depth_above, life_of}
 use Rattle.psci_platform_safe.specs.Names.{IsAskedOf, IsCore, domain_above, number}
 use Rattle.psci_platform_safe.specs.Opened.{OneEntryEach}

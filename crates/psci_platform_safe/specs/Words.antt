@@ -5,16 +5,16 @@ use Rattle.std.specs.Prelude.{List, [], ◌∷◌, option_map}
 use Rattle.psci_platform.specs.Calls.{regs_for}
 use Rattle.psci_platform.specs.Platforms.{PlatformValue}
 use Rattle.psci_platform.specs.psci_fw_same.Renumbered.{acknowledgement_by, message_by}
-use Rattle.psci_world_laws.specs.psci_fw_spec.declared.mode.SuspendMode.{SuspendMode}
-use Rattle.psci_world_laws.specs.psci_world_spec.declared.event.Event.{Event}
-use Rattle.psci_world_laws.specs.psci_world_spec.declared.event.Event.TheVariants.{Call, Enter}
-use Rattle.psci_world_laws.specs.psci_world_spec.declared.event.Event.TheVariants.{Wake, Reset}
-use Rattle.psci_world_laws.specs.psci_world_spec.declared.said.Record.{Record}
-use Rattle.psci_world_laws.specs.psci_world_spec.declared.said.Said.{Said}
-use Rattle.psci_world_laws.specs.psci_world_spec.declared.said.Said.TheVariants.{Fw, Acked}
-use Rattle.psci_world_laws.specs.psci_world_spec.declared.said.Sent.{Sent}
-use Rattle.psci_world_laws.specs.psci_world_spec.Histories.{firmware_values}
-use Rattle.psci_world_laws.specs.psci_world_spec.Legal.{IsLegalPast, legal}
+use Rattle.psci_headline.specs.psci_fw_spec.declared.mode.SuspendMode.{SuspendMode}
+use Rattle.psci_headline.specs.psci_world_spec.declared.event.Event.{Event}
+use Rattle.psci_headline.specs.psci_world_spec.declared.event.Event.TheVariants.{Call, Enter}
+use Rattle.psci_headline.specs.psci_world_spec.declared.event.Event.TheVariants.{Wake, Reset}
+use Rattle.psci_headline.specs.psci_world_spec.declared.said.Record.{Record}
+use Rattle.psci_headline.specs.psci_world_spec.declared.said.Said.{Said}
+use Rattle.psci_headline.specs.psci_world_spec.declared.said.Said.TheVariants.{Fw, Acked}
+use Rattle.psci_headline.specs.psci_world_spec.declared.said.Sent.{Sent}
+use Rattle.psci_headline.specs.psci_world_spec.Histories.{firmware_values}
+use Rattle.psci_headline.specs.psci_world_spec.Legal.{IsLegalPast, legal}
 use Rattle.psci_platform_safe.specs.Names.{mpidr_of, number}
 
 -- Events --------------------------------------------------------------------------------------

@@ -2,16 +2,16 @@
 
 ghost use Rattle.std.specs.Prelude.{◌≡◌, ◌<◌, ℕ, List, [], ◌∷◌, map, reverse, Some};
 ghost use Rattle.psci_platform.specs.Platforms.{IsPlatform, PlatformValue};
-ghost use Rattle.psci_world_laws.specs.psci_abi.Calls.{request_of};
-ghost use Rattle.psci_world_laws.specs.psci_abi.declared.registers.Regs.{Regs};
-ghost use Rattle.psci_world_laws.specs.psci_abi.declared.request.Request.TheVariants.{CpuSuspend};
-ghost use Rattle.psci_world_laws.specs.psci_board.Board.{IsBoard, cores};
-ghost use Rattle.psci_world_laws.specs.psci_fw_spec.declared.outcome.Act.TheVariants.{Stop};
-ghost use Rattle.psci_world_laws.specs.psci_world_spec.declared.event.Event.{Event};
-ghost use Rattle.psci_world_laws.specs.psci_world_spec.declared.event.Event.TheVariants.{Call};
-ghost use Rattle.psci_world_laws.specs.psci_world_spec.declared.said.Record.{Record};
-ghost use Rattle.psci_world_laws.specs.psci_world_spec.declared.said.Said.TheVariants.{Fw};
-ghost use Rattle.psci_world_laws.specs.psci_world_spec.declared.said.Sent.{Sent};
+ghost use Rattle.psci_headline.specs.psci_abi.Calls.{request_of};
+ghost use Rattle.psci_headline.specs.psci_abi.declared.registers.Regs.{Regs};
+ghost use Rattle.psci_headline.specs.psci_abi.declared.request.Request.TheVariants.{CpuSuspend};
+ghost use Rattle.psci_headline.specs.psci_board.Board.{IsBoard, cores};
+ghost use Rattle.psci_headline.specs.psci_fw_spec.declared.outcome.Act.TheVariants.{Stop};
+ghost use Rattle.psci_headline.specs.psci_world_spec.declared.event.Event.{Event};
+ghost use Rattle.psci_headline.specs.psci_world_spec.declared.event.Event.TheVariants.{Call};
+ghost use Rattle.psci_headline.specs.psci_world_spec.declared.said.Record.{Record};
+ghost use Rattle.psci_headline.specs.psci_world_spec.declared.said.Said.TheVariants.{Fw};
+ghost use Rattle.psci_headline.specs.psci_world_spec.declared.said.Sent.{Sent};
 ghost use Rattle.psci_platform_safe.specs.Asked.{AsksByWord};
 ghost use Rattle.psci_platform_safe.specs.Names.{IsCore, mpidr_of, number};
 ghost use Rattle.psci_platform_safe.specs.Opened.{OneEntryEach};
@@ -19,9 +19,11 @@ ghost use Rattle.psci_platform_safe.specs.Safe.{AlwaysSafeOn};
 ghost use Rattle.psci_platform_safe.specs.Words.{IsLegalOn, run_on};
 
 use psci_board::law_words;
-use psci_headline::{law_asked_claims, law_claimed_depths, law_safe, law_told_hw, law_told_off};
+use psci_headline::{
+    law_acknowledged, law_asked_claims, law_claimed_depths, law_kept, law_paths, law_power_on,
+    law_safe, law_sent, law_told_hw, law_told_off, law_values,
+};
 use psci_platform::{law_asked, law_boot_core, law_missing, law_mpidrs, law_named};
-use psci_world_laws::{law_acknowledged, law_kept, law_paths, law_power_on, law_sent, law_values};
 
 /// The firmware's numbers and the MPIDRs of a platform's cores name each other, and the boot core
 /// has number 0.

@@ -11,12 +11,12 @@ use Rattle.psci_ctl_spec.specs.Parts.{applied}
 use Rattle.psci_ctl_spec.specs.Values.{Values}
 use Rattle.psci_ctl_spec.specs.psci_messages.declared.kind.Kind.TheVariants as kinds
 use Rattle.psci_ctl_spec.specs.psci_messages.Message.{MessageValue, PartByPart}
-use Rattle.psci_world_laws.specs.psci_fw_spec.Phases.{Phase, Pending}
-use Rattle.psci_world_laws.specs.psci_fw_laws.Claims.{IsClaimOn, IsCurrent}
-use Rattle.psci_world_laws.specs.psci_fw_laws.Granted.{HasDeeper, NonePending}
-use Rattle.psci_world_laws.specs.psci_fw_laws.KnownBelow.{known_below}
-use Rattle.psci_world_laws.specs.psci_fw_laws.Live.{AreLive}
-use Rattle.psci_world_laws.proofs.fw_laws.Sums.{known_same}
+use Rattle.psci_headline.specs.psci_fw_spec.Phases.{Phase, Pending}
+use Rattle.psci_headline.specs.psci_fw_laws.Claims.{IsClaimOn, IsCurrent}
+use Rattle.psci_headline.specs.psci_fw_laws.Granted.{HasDeeper, NonePending}
+use Rattle.psci_headline.specs.psci_fw_laws.KnownBelow.{known_below}
+use Rattle.psci_headline.specs.psci_fw_laws.Live.{AreLive}
+use Rattle.psci_headline.proofs.fw_laws.Sums.{known_same}
 use Rattle.psci_settle.specs.Waiting.{IsLivePart}
 use Rattle.psci_settle.proofs.Claimed.{AreDeep, AreFirst, claim_deep}
 use Rattle.psci_settle.proofs.Covering.{AreCovered, OthersDeep, applied_at_least}

@@ -6,22 +6,22 @@ use Rattle.psci_ctl_spec.specs.Values as controlled
 use Rattle.psci_ctl_spec.specs.psci_messages.declared.kind.Kind.TheVariants as kinds
 use Rattle.psci_ctl_spec.specs.psci_messages.Message.{MessageValue}
 use Rattle.psci_ctl_spec.specs.psci_messages.Slots.{OfCore}
-use Rattle.psci_world_laws.specs.psci_fw_spec.Lives.{in_life}
-use Rattle.psci_world_laws.specs.psci_fw_spec.Values.{Values}
-use Rattle.psci_world_laws.proofs.fw_laws.Arriving.{found_life}
-use Rattle.psci_world_laws.specs.psci_world_spec.declared.event.Event.TheVariants.{Enter}
-use Rattle.psci_world_laws.specs.psci_world_spec.declared.place.Place.{Place}
-use Rattle.psci_world_laws.specs.psci_world_spec.declared.place.Place.TheVariants.{Started, Running}
-use Rattle.psci_world_laws.specs.psci_world_spec.declared.place.Place.TheVariants.{Stopped}
-use Rattle.psci_world_laws.specs.psci_world_spec.declared.said.Record.{Record}
-use Rattle.psci_world_laws.specs.psci_world_spec.Histories.{controller_values, firmware_values}
-use Rattle.psci_world_laws.specs.psci_world_spec.Histories.{sent}
-use Rattle.psci_world_laws.specs.psci_world_spec.Legal.{IsLegalPast, legal_record}
-use Rattle.psci_world_laws.specs.psci_world_spec.Lists.{indexed}
-use Rattle.psci_world_laws.specs.psci_world_spec.Places.{place}
-use Rattle.psci_world_laws.proofs.Agreeing.{found_own}
-use Rattle.psci_world_laws.proofs.Moving.{entry_moves}
-use Rattle.psci_world_laws.proofs.Placing.{last_is}
+use Rattle.psci_headline.specs.psci_fw_spec.Lives.{in_life}
+use Rattle.psci_headline.specs.psci_fw_spec.Values.{Values}
+use Rattle.psci_headline.proofs.fw_laws.Arriving.{found_life}
+use Rattle.psci_headline.specs.psci_world_spec.declared.event.Event.TheVariants.{Enter}
+use Rattle.psci_headline.specs.psci_world_spec.declared.place.Place.{Place}
+use Rattle.psci_headline.specs.psci_world_spec.declared.place.Place.TheVariants.{Started, Running}
+use Rattle.psci_headline.specs.psci_world_spec.declared.place.Place.TheVariants.{Stopped}
+use Rattle.psci_headline.specs.psci_world_spec.declared.said.Record.{Record}
+use Rattle.psci_headline.specs.psci_world_spec.Histories.{controller_values, firmware_values}
+use Rattle.psci_headline.specs.psci_world_spec.Histories.{sent}
+use Rattle.psci_headline.specs.psci_world_spec.Legal.{IsLegalPast, legal_record}
+use Rattle.psci_headline.specs.psci_world_spec.Lists.{indexed}
+use Rattle.psci_headline.specs.psci_world_spec.Places.{place}
+use Rattle.psci_headline.proofs.Agreeing.{found_own}
+use Rattle.psci_headline.proofs.Moving.{entry_moves}
+use Rattle.psci_headline.proofs.Placing.{last_is}
 use Rattle.psci_settle.specs.Drained.{deliveries}
 use Rattle.psci_settle.specs.Settling.{entering}
 use Rattle.psci_settle.specs.Settling.{is_started, step}

@@ -7,16 +7,16 @@ use Rattle.psci_ctl_spec.specs.Follows.{AreValues}
 use Rattle.psci_ctl_spec.specs.Laws.{AckLaws, SumLaws}
 use Rattle.psci_ctl_spec.specs.Values as controlled
 use Rattle.psci_ctl_spec.specs.psci_messages.Message.{AreClaims, PartByPart}
-use Rattle.psci_world_laws.specs.psci_fw_spec.Sent.{sent_messages}
-use Rattle.psci_world_laws.specs.psci_fw_laws.Kept.{Holds}
-use Rattle.psci_world_laws.specs.psci_world_spec.declared.said.Record.{Record}
-use Rattle.psci_world_laws.specs.psci_world_spec.Histories.{controller_values, firmware_history}
-use Rattle.psci_world_laws.specs.psci_world_spec.Histories.{firmware_values}
-use Rattle.psci_world_laws.specs.psci_world_spec.Histories.{sent}
-use Rattle.psci_world_laws.specs.psci_world_spec.Legal.{IsLegalPast}
-use Rattle.psci_world_laws.specs.psci_world_spec.Places.{place}
-use Rattle.psci_world_laws.specs.Agreement.{Agree}
-use Rattle.psci_world_laws.proofs.Agreed.{RunLaws}
+use Rattle.psci_headline.specs.psci_fw_spec.Sent.{sent_messages}
+use Rattle.psci_headline.specs.psci_fw_laws.Kept.{Holds}
+use Rattle.psci_headline.specs.psci_world_spec.declared.said.Record.{Record}
+use Rattle.psci_headline.specs.psci_world_spec.Histories.{controller_values, firmware_history}
+use Rattle.psci_headline.specs.psci_world_spec.Histories.{firmware_values}
+use Rattle.psci_headline.specs.psci_world_spec.Histories.{sent}
+use Rattle.psci_headline.specs.psci_world_spec.Legal.{IsLegalPast}
+use Rattle.psci_headline.specs.psci_world_spec.Places.{place}
+use Rattle.psci_headline.specs.Agreement.{Agree}
+use Rattle.psci_headline.proofs.Agreed.{RunLaws}
 use Rattle.psci_settle.proofs.Carried.{IsGiven}
 
 -- What the laws say of a board.

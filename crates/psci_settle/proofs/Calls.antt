@@ -10,24 +10,24 @@ use Rattle.psci_ctl_spec.specs.psci_messages.declared.kind.Kind.TheVariants as k
 use Rattle.psci_ctl_spec.specs.psci_messages.Message.{AckValue, MessageValue}
 use Rattle.psci_ctl_spec.specs.psci_messages.Slots.{Clear, OfCore, OfSystem, changed, is_kind}
 use Rattle.psci_ctl_spec.specs.psci_messages.Slots.{slot_of}
-use Rattle.psci_world_laws.specs.psci_fw_spec.declared.outcome.Act.{Act}
-use Rattle.psci_world_laws.specs.psci_fw_spec.declared.outcome.Act.TheVariants as acts
-use Rattle.psci_world_laws.specs.psci_fw_spec.After.{change}
-use Rattle.psci_world_laws.specs.psci_fw_spec.Changes.{with_mode, target}
-use Rattle.psci_world_laws.specs.psci_fw_spec.Effects.{Effect, Nothing, GoesOn, SetsMode, AsksOn}
-use Rattle.psci_world_laws.specs.psci_fw_spec.Effects.{Rests, Halts}
-use Rattle.psci_world_laws.specs.psci_fw_spec.Effects.{Stops, Enters, Parks, StopsAtOnce}
-use Rattle.psci_world_laws.specs.psci_fw_spec.Effects.{Acknowledges}
-use Rattle.psci_world_laws.specs.psci_fw_spec.Effects.{enter_effect}
-use Rattle.psci_world_laws.specs.psci_fw_spec.Lives.{in_life}
-use Rattle.psci_world_laws.specs.psci_fw_spec.Phases.{Phase, Away, Pending, Running, unless_pending}
-use Rattle.psci_world_laws.specs.psci_fw_spec.Said as says
-use Rattle.psci_world_laws.specs.psci_fw_spec.Values.{Values, updated}
-use Rattle.psci_world_laws.specs.psci_fw_laws.Allowed.{IsAllowed}
-use Rattle.psci_world_laws.specs.psci_fw_laws.Live.{AreLive}
-use Rattle.psci_world_laws.specs.psci_fw_laws.Messages.{is_system}
-use Rattle.psci_world_laws.proofs.fw_laws.Parts.{updated_here}
-use Rattle.psci_world_laws.proofs.Moving.{CallerLaws, is_call}
+use Rattle.psci_headline.specs.psci_fw_spec.declared.outcome.Act.{Act}
+use Rattle.psci_headline.specs.psci_fw_spec.declared.outcome.Act.TheVariants as acts
+use Rattle.psci_headline.specs.psci_fw_spec.After.{change}
+use Rattle.psci_headline.specs.psci_fw_spec.Changes.{with_mode, target}
+use Rattle.psci_headline.specs.psci_fw_spec.Effects.{Effect, Nothing, GoesOn, SetsMode, AsksOn}
+use Rattle.psci_headline.specs.psci_fw_spec.Effects.{Rests, Halts}
+use Rattle.psci_headline.specs.psci_fw_spec.Effects.{Stops, Enters, Parks, StopsAtOnce}
+use Rattle.psci_headline.specs.psci_fw_spec.Effects.{Acknowledges}
+use Rattle.psci_headline.specs.psci_fw_spec.Effects.{enter_effect}
+use Rattle.psci_headline.specs.psci_fw_spec.Lives.{in_life}
+use Rattle.psci_headline.specs.psci_fw_spec.Phases.{Phase, Away, Pending, Running, unless_pending}
+use Rattle.psci_headline.specs.psci_fw_spec.Said as says
+use Rattle.psci_headline.specs.psci_fw_spec.Values.{Values, updated}
+use Rattle.psci_headline.specs.psci_fw_laws.Allowed.{IsAllowed}
+use Rattle.psci_headline.specs.psci_fw_laws.Live.{AreLive}
+use Rattle.psci_headline.specs.psci_fw_laws.Messages.{is_system}
+use Rattle.psci_headline.proofs.fw_laws.Parts.{updated_here}
+use Rattle.psci_headline.proofs.Moving.{CallerLaws, is_call}
 use Rattle.psci_settle.specs.Waiting.{WaitingIn}
 use Rattle.psci_settle.proofs.Pursuing.{waiting_arrival, waiting_asked, waiting_core}
 use Rattle.psci_settle.proofs.Pursuing.{waiting_halting, waiting_phase, waiting_system}

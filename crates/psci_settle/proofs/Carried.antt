@@ -20,27 +20,27 @@ use Rattle.psci_ctl_spec.specs.Values as controlled
 use Rattle.psci_ctl_spec.specs.psci_messages.declared.kind.Kind.{Kind}
 use Rattle.psci_ctl_spec.specs.psci_messages.declared.kind.Kind.TheVariants as kinds
 use Rattle.psci_ctl_spec.specs.psci_messages.Message.{AckValue, AreClaims, MessageValue, PartByPart}
-use Rattle.psci_world_laws.specs.psci_fw_spec.declared.outcome.Act.{Act}
-use Rattle.psci_world_laws.specs.psci_fw_spec.After.{change}
-use Rattle.psci_world_laws.specs.psci_fw_spec.Changes.{with_acknowledgement}
-use Rattle.psci_world_laws.specs.psci_fw_spec.Effects.{Effect, enter_effect}
-use Rattle.psci_world_laws.specs.psci_fw_spec.Lives.{in_life, start_of_life}
-use Rattle.psci_world_laws.specs.psci_fw_spec.Said as says
-use Rattle.psci_world_laws.specs.psci_fw_spec.Values.{Values}
-use Rattle.psci_world_laws.specs.psci_fw_laws.Allowed.{IsAllowed}
-use Rattle.psci_world_laws.specs.psci_fw_laws.Kept.{Holds}
-use Rattle.psci_world_laws.specs.psci_fw_laws.Live.{AreLive}
-use Rattle.psci_world_laws.specs.psci_fw_laws.Messages.{AreSent}
-use Rattle.psci_world_laws.specs.psci_fw_laws.Outstanding.{AreOutstanding}
-use Rattle.psci_world_laws.proofs.fw_laws.Arriving.{first_holds, found_life}
-use Rattle.psci_world_laws.proofs.fw_laws.Consequences.{once_down}
-use Rattle.psci_world_laws.proofs.fw_laws.Living.{live_laws}
-use Rattle.psci_world_laws.proofs.fw_laws.Sums.{known_le}
-use Rattle.psci_world_laws.specs.psci_world_spec.declared.place.Place.{Place}
-use Rattle.psci_world_laws.specs.psci_world_spec.declared.place.Place.TheVariants as places
-use Rattle.psci_world_laws.proofs.Agreeing.{AreAgreed, found_other, found_own}
-use Rattle.psci_world_laws.proofs.Moving.{CallerLaws, IsCallOf, call_moves, entry_moves}
-use Rattle.psci_world_laws.proofs.Placing.{last_is, own_life}
+use Rattle.psci_headline.specs.psci_fw_spec.declared.outcome.Act.{Act}
+use Rattle.psci_headline.specs.psci_fw_spec.After.{change}
+use Rattle.psci_headline.specs.psci_fw_spec.Changes.{with_acknowledgement}
+use Rattle.psci_headline.specs.psci_fw_spec.Effects.{Effect, enter_effect}
+use Rattle.psci_headline.specs.psci_fw_spec.Lives.{in_life, start_of_life}
+use Rattle.psci_headline.specs.psci_fw_spec.Said as says
+use Rattle.psci_headline.specs.psci_fw_spec.Values.{Values}
+use Rattle.psci_headline.specs.psci_fw_laws.Allowed.{IsAllowed}
+use Rattle.psci_headline.specs.psci_fw_laws.Kept.{Holds}
+use Rattle.psci_headline.specs.psci_fw_laws.Live.{AreLive}
+use Rattle.psci_headline.specs.psci_fw_laws.Messages.{AreSent}
+use Rattle.psci_headline.specs.psci_fw_laws.Outstanding.{AreOutstanding}
+use Rattle.psci_headline.proofs.fw_laws.Arriving.{first_holds, found_life}
+use Rattle.psci_headline.proofs.fw_laws.Consequences.{once_down}
+use Rattle.psci_headline.proofs.fw_laws.Living.{live_laws}
+use Rattle.psci_headline.proofs.fw_laws.Sums.{known_le}
+use Rattle.psci_headline.specs.psci_world_spec.declared.place.Place.{Place}
+use Rattle.psci_headline.specs.psci_world_spec.declared.place.Place.TheVariants as places
+use Rattle.psci_headline.proofs.Agreeing.{AreAgreed, found_other, found_own}
+use Rattle.psci_headline.proofs.Moving.{CallerLaws, IsCallOf, call_moves, entry_moves}
+use Rattle.psci_headline.proofs.Placing.{last_is, own_life}
 use Rattle.psci_settle.specs.Waiting.{IsNamed, WaitingIn}
 use Rattle.psci_settle.proofs.Calls.{call_waits, entry_waits}
 use Rattle.psci_settle.proofs.Controls.{IsKnown, begun_waits, down_waits, start_told, start_waits}

@@ -11,9 +11,9 @@ use Rattle.psci_ctl_spec.specs.Values.{first_depth, starts_below}
 use Rattle.psci_board.specs.Paths.{is_on_path}
 use Rattle.psci_ctl_spec.specs.psci_messages.declared.kind.Kind.TheVariants.{Down}
 use Rattle.psci_ctl_spec.specs.psci_messages.Message.{MessageValue}
-use Rattle.psci_world_laws.specs.psci_fw_laws.Claims.{IsClaimOn, IsFromStart}
-use Rattle.psci_world_laws.specs.psci_fw_laws.KnownBelow.{known_below}
-use Rattle.psci_world_laws.proofs.fw_laws.Parts.{part_has}
+use Rattle.psci_headline.specs.psci_fw_laws.Claims.{IsClaimOn, IsFromStart}
+use Rattle.psci_headline.specs.psci_fw_laws.KnownBelow.{known_below}
+use Rattle.psci_headline.proofs.fw_laws.Parts.{part_has}
 use Rattle.psci_settle.specs.Waiting.{IsLivePart}
 use Rattle.psci_settle.proofs.Starting.{same_sum}
 

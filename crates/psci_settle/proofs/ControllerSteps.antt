@@ -15,23 +15,23 @@ use Rattle.psci_ctl_spec.specs.Replies.{ack_by}
 use Rattle.psci_ctl_spec.specs.declared.call.CtlCall.TheVariants as asked
 use Rattle.psci_ctl_spec.specs.Values as controlled
 use Rattle.psci_ctl_spec.specs.psci_messages.Message.{AckValue, MessageValue}
-use Rattle.psci_world_laws.specs.psci_fw_spec.Said.{listed}
-use Rattle.psci_world_laws.specs.psci_world_spec.declared.event.Event.TheVariants.{Wake, Reset}
-use Rattle.psci_world_laws.specs.psci_world_spec.declared.event.Event.TheVariants.{Deliver}
-use Rattle.psci_world_laws.specs.psci_world_spec.declared.said.Record.{Record}
-use Rattle.psci_world_laws.specs.psci_world_spec.declared.said.Said.{Said}
-use Rattle.psci_world_laws.specs.psci_world_spec.declared.said.Said.TheVariants as said
-use Rattle.psci_world_laws.specs.psci_world_spec.Histories.{ack_in, acks, controller_history}
-use Rattle.psci_world_laws.specs.psci_world_spec.Histories.{controller_values}
-use Rattle.psci_world_laws.specs.psci_world_spec.Histories.{delivered, firmware_values, sent}
-use Rattle.psci_world_laws.specs.psci_world_spec.Histories.{sent_in}
-use Rattle.psci_world_laws.specs.psci_world_spec.Legal.{legal}
-use Rattle.psci_world_laws.specs.psci_world_spec.Lists.{indexed}
-use Rattle.psci_world_laws.specs.psci_world_spec.Places.{place}
-use Rattle.psci_world_laws.proofs.Agreed.{RunLaws}
-use Rattle.psci_world_laws.proofs.Controlling.{after_control}
-use Rattle.psci_world_laws.proofs.Making.{IsDelivered, delivers}
-use Rattle.psci_world_laws.proofs.Numbering.{at_number}
+use Rattle.psci_headline.specs.psci_fw_spec.Said.{listed}
+use Rattle.psci_headline.specs.psci_world_spec.declared.event.Event.TheVariants.{Wake, Reset}
+use Rattle.psci_headline.specs.psci_world_spec.declared.event.Event.TheVariants.{Deliver}
+use Rattle.psci_headline.specs.psci_world_spec.declared.said.Record.{Record}
+use Rattle.psci_headline.specs.psci_world_spec.declared.said.Said.{Said}
+use Rattle.psci_headline.specs.psci_world_spec.declared.said.Said.TheVariants as said
+use Rattle.psci_headline.specs.psci_world_spec.Histories.{ack_in, acks, controller_history}
+use Rattle.psci_headline.specs.psci_world_spec.Histories.{controller_values}
+use Rattle.psci_headline.specs.psci_world_spec.Histories.{delivered, firmware_values, sent}
+use Rattle.psci_headline.specs.psci_world_spec.Histories.{sent_in}
+use Rattle.psci_headline.specs.psci_world_spec.Legal.{legal}
+use Rattle.psci_headline.specs.psci_world_spec.Lists.{indexed}
+use Rattle.psci_headline.specs.psci_world_spec.Places.{place}
+use Rattle.psci_headline.proofs.Agreed.{RunLaws}
+use Rattle.psci_headline.proofs.Controlling.{after_control}
+use Rattle.psci_headline.proofs.Making.{IsDelivered, delivers}
+use Rattle.psci_headline.proofs.Numbering.{at_number}
 use Rattle.psci_settle.proofs.BoardLaws.{Given}
 use Rattle.psci_settle.proofs.Carried.{WaitsNow, acked_waits, started_waits}
 use Rattle.psci_settle.proofs.Nexts.{Now, Next}

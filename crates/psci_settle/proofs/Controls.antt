@@ -22,13 +22,13 @@ use Rattle.psci_ctl_spec.specs.psci_messages.declared.kind.Kind.{Kind}
 use Rattle.psci_ctl_spec.specs.psci_messages.declared.kind.Kind.TheVariants as kinds
 use Rattle.psci_ctl_spec.specs.psci_messages.Message.{AckValue, ArePartsOf, AreClaims, MessageValue}
 use Rattle.psci_ctl_spec.specs.psci_messages.Message.{PartByPart}
-use Rattle.psci_world_laws.specs.psci_fw_spec.Lives.{start_of_life}
-use Rattle.psci_world_laws.specs.psci_fw_spec.Phases.{Phase, Away, Pending}
-use Rattle.psci_world_laws.specs.psci_fw_spec.Values.{Values}
-use Rattle.psci_world_laws.specs.psci_fw_laws.Claims.{AreRising}
-use Rattle.psci_world_laws.specs.psci_fw_laws.KnownBelow.{known_below}
-use Rattle.psci_world_laws.specs.psci_fw_laws.Live.{AreLive}
-use Rattle.psci_world_laws.specs.psci_fw_laws.Messages.{AreSent, IsSent}
+use Rattle.psci_headline.specs.psci_fw_spec.Lives.{start_of_life}
+use Rattle.psci_headline.specs.psci_fw_spec.Phases.{Phase, Away, Pending}
+use Rattle.psci_headline.specs.psci_fw_spec.Values.{Values}
+use Rattle.psci_headline.specs.psci_fw_laws.Claims.{AreRising}
+use Rattle.psci_headline.specs.psci_fw_laws.KnownBelow.{known_below}
+use Rattle.psci_headline.specs.psci_fw_laws.Live.{AreLive}
+use Rattle.psci_headline.specs.psci_fw_laws.Messages.{AreSent, IsSent}
 use Rattle.psci_settle.specs.Waiting.{AreWaiting, IsNamed, IsTold, WaitingIn, WasTold}
 use Rattle.psci_settle.proofs.Deepening.{AreApplied, waiting_deepened}
 use Rattle.psci_settle.proofs.Starting.{same_sum, waiting_started}

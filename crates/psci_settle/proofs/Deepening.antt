@@ -11,11 +11,11 @@ use Rattle.psci_board.specs.Paths.{is_on_path}
 use Rattle.psci_ctl_spec.specs.psci_messages.declared.kind.Kind.TheVariants.{Down}
 use Rattle.psci_ctl_spec.specs.psci_messages.Message.{AckValue, MessageValue}
 use Rattle.psci_ctl_spec.specs.psci_messages.Slots.{Slot}
-use Rattle.psci_world_laws.specs.psci_fw_spec.Phases.{Phase}
-use Rattle.psci_world_laws.specs.psci_fw_laws.Claims.{AreRising}
-use Rattle.psci_world_laws.specs.psci_fw_laws.KnownBelow.{known_below}
-use Rattle.psci_world_laws.proofs.fw_laws.Consequences.{once}
-use Rattle.psci_world_laws.proofs.fw_laws.Parts.{part_from}
+use Rattle.psci_headline.specs.psci_fw_spec.Phases.{Phase}
+use Rattle.psci_headline.specs.psci_fw_laws.Claims.{AreRising}
+use Rattle.psci_headline.specs.psci_fw_laws.KnownBelow.{known_below}
+use Rattle.psci_headline.proofs.fw_laws.Consequences.{once}
+use Rattle.psci_headline.proofs.fw_laws.Parts.{part_from}
 use Rattle.psci_settle.specs.Waiting.{AreWaiting, IsLivePart}
 use Rattle.psci_settle.proofs.Taking.{named}
 use Rattle.psci_settle.proofs.Starting.{same_sum}

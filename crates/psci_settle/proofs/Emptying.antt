@@ -14,15 +14,15 @@ use Rattle.psci_ctl_spec.specs.psci_messages.Message.{AckValue, MessageValue}
 use Rattle.psci_ctl_spec.specs.psci_messages.Slots.{Acknowledge, OfCore, answers, changed, is_done}
 use Rattle.psci_ctl_spec.specs.psci_messages.Slots.{is_kind, is_slot}
 use Rattle.psci_ctl_spec.specs.psci_messages.Slots.{left_by, slot_of, taken}
-use Rattle.psci_world_laws.specs.psci_fw_spec.Taking.{taken_by}
-use Rattle.psci_world_laws.specs.psci_fw_spec.Values.{Values}
-use Rattle.psci_world_laws.specs.psci_fw_laws.Messages.{is_system}
-use Rattle.psci_world_laws.specs.psci_fw_laws.Outstanding.{AreOutstanding}
-use Rattle.psci_world_laws.specs.psci_world_spec.declared.said.Record.{Record}
-use Rattle.psci_world_laws.specs.psci_world_spec.Histories.{controller_values, firmware_values}
-use Rattle.psci_world_laws.specs.psci_world_spec.Histories.{sent}
-use Rattle.psci_world_laws.specs.psci_world_spec.Legal.{IsLegalPast}
-use Rattle.psci_world_laws.proofs.Agreed.{RunLaws}
+use Rattle.psci_headline.specs.psci_fw_spec.Taking.{taken_by}
+use Rattle.psci_headline.specs.psci_fw_spec.Values.{Values}
+use Rattle.psci_headline.specs.psci_fw_laws.Messages.{is_system}
+use Rattle.psci_headline.specs.psci_fw_laws.Outstanding.{AreOutstanding}
+use Rattle.psci_headline.specs.psci_world_spec.declared.said.Record.{Record}
+use Rattle.psci_headline.specs.psci_world_spec.Histories.{controller_values, firmware_values}
+use Rattle.psci_headline.specs.psci_world_spec.Histories.{sent}
+use Rattle.psci_headline.specs.psci_world_spec.Legal.{IsLegalPast}
+use Rattle.psci_headline.proofs.Agreed.{RunLaws}
 use Rattle.psci_settle.specs.Settling.{served, serving, index_of}
 use Rattle.psci_settle.proofs.Serving.{AreAnswered, ack_to, answered_so}
 use Rattle.psci_settle.proofs.Finding.{HasNumber, HaveName, finds}

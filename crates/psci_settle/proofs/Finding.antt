@@ -8,7 +8,7 @@ use Rattle.std.proofs.lemmas.List.{get_or-reverse, length-reverse, reverse-appen
 use Rattle.std.proofs.lemmas.Option.{get_or_from_slice_get, slice_get-get_or, slice_get_within}
 use Rattle.psci_ctl_spec.specs.psci_messages.Message.{MessageValue}
 use Rattle.psci_ctl_spec.specs.psci_messages.Slots.{is_kind}
-use Rattle.psci_world_laws.specs.psci_world_spec.Lists.{indexed}
+use Rattle.psci_headline.specs.psci_world_spec.Lists.{indexed}
 use Rattle.psci_settle.specs.Settling.{has_name, index_of}
 use Rattle.psci_settle.proofs.Taking.{same_kind}
 use Rattle.psci_settle.proofs.Telling.{own_kind}

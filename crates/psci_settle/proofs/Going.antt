@@ -8,19 +8,19 @@ use Rattle.psci_ctl_spec.specs.psci_messages.declared.kind.Kind.{Kind}
 use Rattle.psci_ctl_spec.specs.psci_messages.declared.kind.Kind.TheVariants as kinds
 use Rattle.psci_ctl_spec.specs.psci_messages.Message.{ArePartsOf, AreClaims, MessageValue}
 use Rattle.psci_ctl_spec.specs.psci_messages.Slots.{OfCore, OfSystem}
-use Rattle.psci_world_laws.specs.psci_fw_spec.Lives.{in_life}
-use Rattle.psci_world_laws.specs.psci_fw_spec.Phases.{Pending}
-use Rattle.psci_world_laws.specs.psci_fw_spec.Values.{Values}
-use Rattle.psci_world_laws.specs.psci_fw_laws.Claims.{IsClaimOn, IsCurrent}
-use Rattle.psci_world_laws.specs.psci_fw_laws.Granted.{HasDeeper, NonePending}
-use Rattle.psci_world_laws.specs.psci_fw_laws.Messages.{is_system}
-use Rattle.psci_world_laws.specs.psci_fw_laws.Outstanding.{AreOutstanding}
-use Rattle.psci_world_laws.specs.psci_world_spec.declared.said.Record.{Record}
-use Rattle.psci_world_laws.specs.psci_world_spec.Histories.{acks, controller_values}
-use Rattle.psci_world_laws.specs.psci_world_spec.Histories.{firmware_values, sent}
-use Rattle.psci_world_laws.specs.psci_world_spec.Legal.{IsLegalPast}
-use Rattle.psci_world_laws.specs.psci_world_spec.Places.{place}
-use Rattle.psci_world_laws.proofs.Agreeing.{found_own}
+use Rattle.psci_headline.specs.psci_fw_spec.Lives.{in_life}
+use Rattle.psci_headline.specs.psci_fw_spec.Phases.{Pending}
+use Rattle.psci_headline.specs.psci_fw_spec.Values.{Values}
+use Rattle.psci_headline.specs.psci_fw_laws.Claims.{IsClaimOn, IsCurrent}
+use Rattle.psci_headline.specs.psci_fw_laws.Granted.{HasDeeper, NonePending}
+use Rattle.psci_headline.specs.psci_fw_laws.Messages.{is_system}
+use Rattle.psci_headline.specs.psci_fw_laws.Outstanding.{AreOutstanding}
+use Rattle.psci_headline.specs.psci_world_spec.declared.said.Record.{Record}
+use Rattle.psci_headline.specs.psci_world_spec.Histories.{acks, controller_values}
+use Rattle.psci_headline.specs.psci_world_spec.Histories.{firmware_values, sent}
+use Rattle.psci_headline.specs.psci_world_spec.Legal.{IsLegalPast}
+use Rattle.psci_headline.specs.psci_world_spec.Places.{place}
+use Rattle.psci_headline.proofs.Agreeing.{found_own}
 use Rattle.psci_settle.specs.Waiting.{AreWaiting, AwaitsStart}
 use Rattle.psci_settle.proofs.Applying.{IsDown, IsReady}
 use Rattle.psci_settle.proofs.Beginning.{HasEntered}

@@ -3,7 +3,7 @@ use Rattle.std.proofs.Common.{◌≡◌, ℕ, [], ◌∷◌, None, Some, false, 
 use Rattle.psci_ctl_spec.specs.psci_messages.declared.kind.Kind.{Kind}
 use Rattle.psci_ctl_spec.specs.psci_messages.declared.kind.Kind.TheVariants.{Down, Start}
 use Rattle.psci_ctl_spec.specs.psci_messages.Message.{MessageValue}
-use Rattle.psci_world_laws.proofs.world_spec.Scripts.{part}
+use Rattle.psci_headline.proofs.world_spec.Scripts.{part}
 use Rattle.psci_settle.specs.Settling.{has_name, index_of}
 
 -- a message: kind, core, life, number

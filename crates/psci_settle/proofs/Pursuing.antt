@@ -8,9 +8,9 @@ use Rattle.psci_ctl_spec.specs.psci_messages.declared.kind.Kind.TheVariants.{Dow
 use Rattle.psci_ctl_spec.specs.psci_messages.Message.{AckValue, MessageValue}
 use Rattle.psci_ctl_spec.specs.psci_messages.Slots.{Clear, OfCore, OfSystem, Put, Slot, changed}
 use Rattle.psci_ctl_spec.specs.psci_messages.Slots.{slot_of}
-use Rattle.psci_world_laws.specs.psci_fw_spec.Phases.{Phase, Pending}
-use Rattle.psci_world_laws.specs.psci_fw_spec.Values.{updated}
-use Rattle.psci_world_laws.proofs.fw_laws.Parts.{updated_at, updated_here, updated_there}
+use Rattle.psci_headline.specs.psci_fw_spec.Phases.{Phase, Pending}
+use Rattle.psci_headline.specs.psci_fw_spec.Values.{updated}
+use Rattle.psci_headline.proofs.fw_laws.Parts.{updated_at, updated_here, updated_there}
 use Rattle.psci_settle.specs.Waiting.{AreWaiting, IsNamed, IsPursued, WasTold}
 use Rattle.psci_settle.proofs.Slots.{clear_there, put_here, put_system, put_there}
 use Rattle.psci_settle.proofs.Unclaimed.{NoneLive}

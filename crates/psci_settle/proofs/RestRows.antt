@@ -2,14 +2,14 @@
 use Rattle.std.proofs.Common.{◌≡◌, ℕ, true, false, List, [], ◌∷◌, refl, arith}
 use Rattle.psci_board.specs.declared.node.Node.{Node}
 use Rattle.psci_ctl_spec.specs.psci_messages.declared.kind.Kind.TheVariants.{Down}
-use Rattle.psci_world_laws.specs.psci_world_spec.declared.event.Event.{Event}
-use Rattle.psci_world_laws.specs.psci_world_spec.declared.event.Event.TheVariants.{Enter, Reset}
-use Rattle.psci_world_laws.specs.psci_world_spec.declared.event.Event.TheVariants.{Deliver, Take}
-use Rattle.psci_world_laws.specs.psci_world_spec.declared.event.Event.TheVariants.{Wake}
-use Rattle.psci_world_laws.specs.psci_world_spec.declared.said.Record.{Record}
-use Rattle.psci_world_laws.proofs.world_spec.Scripts as scripts
-use Rattle.psci_world_laws.proofs.world_spec.Scripts.{acked, board, call, off, on_3, part}
-use Rattle.psci_world_laws.proofs.world_spec.Scripts.{retention, sends, stops, system_reset, tall}
+use Rattle.psci_headline.specs.psci_world_spec.declared.event.Event.{Event}
+use Rattle.psci_headline.specs.psci_world_spec.declared.event.Event.TheVariants.{Enter, Reset}
+use Rattle.psci_headline.specs.psci_world_spec.declared.event.Event.TheVariants.{Deliver, Take}
+use Rattle.psci_headline.specs.psci_world_spec.declared.event.Event.TheVariants.{Wake}
+use Rattle.psci_headline.specs.psci_world_spec.declared.said.Record.{Record}
+use Rattle.psci_headline.proofs.world_spec.Scripts as scripts
+use Rattle.psci_headline.proofs.world_spec.Scripts.{acked, board, call, off, on_3, part}
+use Rattle.psci_headline.proofs.world_spec.Scripts.{retention, sends, stops, system_reset, tall}
 use Rattle.psci_settle.proofs.Failing.{◌⇒◌, Agree, Entered, IsUnrest, Legal, Own, Steps, System}
 use Rattle.psci_settle.proofs.Failing.{apart, failing, past_from, some_none}
 

@@ -15,27 +15,27 @@ use Rattle.psci_ctl_spec.specs.Replies.{ack_by, delivery_of, is_this_life, reply
 use Rattle.psci_ctl_spec.specs.Values as controlled
 use Rattle.psci_ctl_spec.specs.psci_messages.Message.{AckValue, MessageValue}
 use Rattle.psci_ctl_spec.specs.psci_messages.declared.taken.Taken.TheVariants.{Used}
-use Rattle.psci_world_laws.specs.psci_fw_spec.Answer.{answer}
-use Rattle.psci_world_laws.specs.psci_fw_spec.Changes.{with_acknowledgement}
-use Rattle.psci_world_laws.specs.psci_fw_spec.Exchange as firmware
-use Rattle.psci_world_laws.specs.psci_fw_spec.History as remembers
-use Rattle.psci_world_laws.specs.psci_fw_spec.Taking.{taken_by}
-use Rattle.psci_world_laws.specs.psci_fw_spec.Values.{Values}
-use Rattle.psci_world_laws.specs.psci_world_spec.declared.event.Event.TheVariants.{Deliver, Take}
-use Rattle.psci_world_laws.specs.psci_world_spec.declared.said.Record.{Record}
-use Rattle.psci_world_laws.specs.psci_world_spec.declared.said.Said.TheVariants.{Acked}
-use Rattle.psci_world_laws.specs.psci_world_spec.declared.said.Said.TheVariants.{Taken as Took}
-use Rattle.psci_world_laws.specs.psci_world_spec.Histories.{acks, ack_in, call, control}
-use Rattle.psci_world_laws.specs.psci_world_spec.Histories.{controller_history}
-use Rattle.psci_world_laws.specs.psci_world_spec.Histories.{controller_values, delivered}
-use Rattle.psci_world_laws.specs.psci_world_spec.Histories.{firmware_history}
-use Rattle.psci_world_laws.specs.psci_world_spec.Histories.{firmware_values, sent, sent_in, took}
-use Rattle.psci_world_laws.specs.psci_world_spec.Legal.{IsLegalPast, deliver, legal, legal_record}
-use Rattle.psci_world_laws.specs.psci_world_spec.Legal.{said_by, take}
-use Rattle.psci_world_laws.specs.psci_world_spec.Lists.{indexed}
-use Rattle.psci_world_laws.specs.psci_world_spec.Places.{place, place_of_effect, place_controlled}
-use Rattle.psci_world_laws.specs.psci_fw_spec.Said.{listed}
-use Rattle.psci_world_laws.proofs.Agreed.{RunLaws}
+use Rattle.psci_headline.specs.psci_fw_spec.Answer.{answer}
+use Rattle.psci_headline.specs.psci_fw_spec.Changes.{with_acknowledgement}
+use Rattle.psci_headline.specs.psci_fw_spec.Exchange as firmware
+use Rattle.psci_headline.specs.psci_fw_spec.History as remembers
+use Rattle.psci_headline.specs.psci_fw_spec.Taking.{taken_by}
+use Rattle.psci_headline.specs.psci_fw_spec.Values.{Values}
+use Rattle.psci_headline.specs.psci_world_spec.declared.event.Event.TheVariants.{Deliver, Take}
+use Rattle.psci_headline.specs.psci_world_spec.declared.said.Record.{Record}
+use Rattle.psci_headline.specs.psci_world_spec.declared.said.Said.TheVariants.{Acked}
+use Rattle.psci_headline.specs.psci_world_spec.declared.said.Said.TheVariants.{Taken as Took}
+use Rattle.psci_headline.specs.psci_world_spec.Histories.{acks, ack_in, call, control}
+use Rattle.psci_headline.specs.psci_world_spec.Histories.{controller_history}
+use Rattle.psci_headline.specs.psci_world_spec.Histories.{controller_values, delivered}
+use Rattle.psci_headline.specs.psci_world_spec.Histories.{firmware_history}
+use Rattle.psci_headline.specs.psci_world_spec.Histories.{firmware_values, sent, sent_in, took}
+use Rattle.psci_headline.specs.psci_world_spec.Legal.{IsLegalPast, deliver, legal, legal_record}
+use Rattle.psci_headline.specs.psci_world_spec.Legal.{said_by, take}
+use Rattle.psci_headline.specs.psci_world_spec.Lists.{indexed}
+use Rattle.psci_headline.specs.psci_world_spec.Places.{place, place_of_effect, place_controlled}
+use Rattle.psci_headline.specs.psci_fw_spec.Said.{listed}
+use Rattle.psci_headline.proofs.Agreed.{RunLaws}
 use Rattle.psci_settle.specs.Drained as drained
 use Rattle.psci_settle.specs.Settling.{serving, step}
 use Rattle.psci_settle.proofs.Counting.{AreAdded, delivered_more, one_added}

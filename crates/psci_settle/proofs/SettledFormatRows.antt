@@ -2,13 +2,13 @@
 -- not so, of the boot core and in the extended format.
 use Rattle.std.proofs.Common.{◌≡◌, ◌++◌, ◌≤◌, ◌==◌, ℕ, List, [], ◌∷◌, refl, arith}
 use Rattle.psci_board.specs.Board.{BoardValue}
-use Rattle.psci_world_laws.specs.psci_abi.psci_format.declared.format.Format.TheVariants.{Extended}
-use Rattle.psci_world_laws.specs.psci_world_spec.declared.event.Event.{Event}
-use Rattle.psci_world_laws.specs.psci_world_spec.declared.event.Event.TheVariants.{Enter}
-use Rattle.psci_world_laws.specs.psci_world_spec.declared.event.Event.TheVariants.{Deliver, Take}
-use Rattle.psci_world_laws.proofs.world_spec.Scripts as scripts
-use Rattle.psci_world_laws.proofs.world_spec.Scripts.{board, call, off, on_3}
-use Rattle.psci_world_laws.proofs.world_spec.Scripts.{version}
+use Rattle.psci_headline.specs.psci_abi.psci_format.declared.format.Format.TheVariants.{Extended}
+use Rattle.psci_headline.specs.psci_world_spec.declared.event.Event.{Event}
+use Rattle.psci_headline.specs.psci_world_spec.declared.event.Event.TheVariants.{Enter}
+use Rattle.psci_headline.specs.psci_world_spec.declared.event.Event.TheVariants.{Deliver, Take}
+use Rattle.psci_headline.proofs.world_spec.Scripts as scripts
+use Rattle.psci_headline.proofs.world_spec.Scripts.{board, call, off, on_3}
+use Rattle.psci_headline.proofs.world_spec.Scripts.{version}
 use Rattle.psci_settle.specs.Drained.{deliveries}
 use Rattle.psci_settle.proofs.Failing.{Events, Few, Most, Own, Reached, Rest, other_events}
 use Rattle.psci_settle.proofs.Failing.{some_none}

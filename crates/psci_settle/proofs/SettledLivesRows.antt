@@ -1,12 +1,12 @@
 -- Worked examples: worlds that have settled, and worlds of which one thing that is said of them is
 -- not so, in later lives and in OS-initiated mode.
 use Rattle.std.proofs.Common.{◌≡◌, ◌++◌, ◌≤◌, ◌==◌, ℕ, List, [], ◌∷◌, refl, arith}
-use Rattle.psci_world_laws.specs.psci_world_spec.declared.event.Event.{Event}
-use Rattle.psci_world_laws.specs.psci_world_spec.declared.event.Event.TheVariants.{Enter}
-use Rattle.psci_world_laws.specs.psci_world_spec.declared.event.Event.TheVariants.{Deliver, Take}
-use Rattle.psci_world_laws.proofs.world_spec.Scripts as scripts
-use Rattle.psci_world_laws.proofs.world_spec.Scripts.{board, call, off, on_3}
-use Rattle.psci_world_laws.proofs.world_spec.Scripts.{system_reset, version}
+use Rattle.psci_headline.specs.psci_world_spec.declared.event.Event.{Event}
+use Rattle.psci_headline.specs.psci_world_spec.declared.event.Event.TheVariants.{Enter}
+use Rattle.psci_headline.specs.psci_world_spec.declared.event.Event.TheVariants.{Deliver, Take}
+use Rattle.psci_headline.proofs.world_spec.Scripts as scripts
+use Rattle.psci_headline.proofs.world_spec.Scripts.{board, call, off, on_3}
+use Rattle.psci_headline.proofs.world_spec.Scripts.{system_reset, version}
 use Rattle.psci_settle.specs.Drained.{deliveries}
 use Rattle.psci_settle.proofs.Failing.{Events, Few, Most, Own, Reached, Rest, other_events}
 use Rattle.psci_settle.proofs.Failing.{some_none}

@@ -6,18 +6,18 @@ use Rattle.std.proofs.lemmas.Option.{none-some, same_Some}
 use Rattle.psci_board.specs.Board.{BoardValue}
 use Rattle.psci_ctl_spec.specs.psci_messages.declared.kind.Kind.TheVariants.{Down, Start}
 use Rattle.psci_ctl_spec.specs.psci_messages.Message.{MessageValue}
-use Rattle.psci_world_laws.specs.psci_world_spec.declared.event.Event.{Event}
-use Rattle.psci_world_laws.specs.psci_world_spec.declared.event.Event.TheVariants.{Enter, Reset}
-use Rattle.psci_world_laws.specs.psci_world_spec.declared.event.Event.TheVariants.{Deliver, Take}
-use Rattle.psci_world_laws.specs.psci_world_spec.declared.event.Event.TheVariants.{Wake}
-use Rattle.psci_world_laws.specs.psci_world_spec.declared.said.Record.{Record}
-use Rattle.psci_world_laws.specs.psci_world_spec.Histories.{sent}
-use Rattle.psci_world_laws.specs.psci_world_spec.Legal.{IsLegalPast, run_from}
-use Rattle.psci_world_laws.specs.psci_world_spec.Lists.{indexed}
-use Rattle.psci_world_laws.proofs.world_spec.Runs.{stays_legal}
-use Rattle.psci_world_laws.proofs.world_spec.Scripts as scripts
-use Rattle.psci_world_laws.proofs.world_spec.Scripts.{board, call, enters, off, on_3, one_core}
-use Rattle.psci_world_laws.proofs.world_spec.Scripts.{tall, version}
+use Rattle.psci_headline.specs.psci_world_spec.declared.event.Event.{Event}
+use Rattle.psci_headline.specs.psci_world_spec.declared.event.Event.TheVariants.{Enter, Reset}
+use Rattle.psci_headline.specs.psci_world_spec.declared.event.Event.TheVariants.{Deliver, Take}
+use Rattle.psci_headline.specs.psci_world_spec.declared.event.Event.TheVariants.{Wake}
+use Rattle.psci_headline.specs.psci_world_spec.declared.said.Record.{Record}
+use Rattle.psci_headline.specs.psci_world_spec.Histories.{sent}
+use Rattle.psci_headline.specs.psci_world_spec.Legal.{IsLegalPast, run_from}
+use Rattle.psci_headline.specs.psci_world_spec.Lists.{indexed}
+use Rattle.psci_headline.proofs.world_spec.Runs.{stays_legal}
+use Rattle.psci_headline.proofs.world_spec.Scripts as scripts
+use Rattle.psci_headline.proofs.world_spec.Scripts.{board, call, enters, off, on_3, one_core}
+use Rattle.psci_headline.proofs.world_spec.Scripts.{tall, version}
 use Rattle.psci_settle.specs.Drained.{IsSettled, deliveries}
 use Rattle.psci_settle.proofs.Failing.{Entered, Events, Few, IsUnsettled, Most, Own, Reached, Rest}
 use Rattle.psci_settle.proofs.Failing.{Saying, added_by, apart, other_events, some_none}

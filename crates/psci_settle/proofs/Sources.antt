@@ -9,11 +9,11 @@ use Rattle.psci_board.specs.declared.node.Node.{Node}
 use Rattle.psci_ctl_spec.specs.History as controls
 use Rattle.psci_ctl_spec.specs.Lasting.{IsApplied, IsFirst}
 use Rattle.psci_board.specs.Paths.{is_on_path, is_path_place}
-use Rattle.psci_world_laws.specs.psci_fw_laws.Claims.{IsFromStart}
-use Rattle.psci_world_laws.specs.psci_world_spec.declared.said.Record.{Record}
-use Rattle.psci_world_laws.specs.psci_world_spec.Histories.{controller_history, controller_values}
-use Rattle.psci_world_laws.specs.psci_world_spec.Legal.{IsReplied}
-use Rattle.psci_world_laws.proofs.Applied.{was_sent}
+use Rattle.psci_headline.specs.psci_fw_laws.Claims.{IsFromStart}
+use Rattle.psci_headline.specs.psci_world_spec.declared.said.Record.{Record}
+use Rattle.psci_headline.specs.psci_world_spec.Histories.{controller_history, controller_values}
+use Rattle.psci_headline.specs.psci_world_spec.Legal.{IsReplied}
+use Rattle.psci_headline.proofs.AppliedParts.{was_sent}
 use Rattle.psci_settle.proofs.Standing.{HasLive}
 use Rattle.psci_settle.proofs.Starting.{same_sum}
 

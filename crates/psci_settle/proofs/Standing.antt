@@ -7,20 +7,20 @@ use Rattle.psci_board.specs.Laws.{ChildLaws}
 use Rattle.psci_ctl_spec.specs.psci_parts.declared.part.Part.{Part}
 use Rattle.psci_ctl_spec.specs.Follows as controlling
 use Rattle.psci_ctl_spec.specs.psci_messages.Message.{MessageValue}
-use Rattle.psci_world_laws.specs.psci_fw_spec.Lives.{in_life}
-use Rattle.psci_world_laws.specs.psci_fw_spec.Values.{Values}
-use Rattle.psci_world_laws.specs.psci_fw_laws.Claims.{IsClaimOn, IsCurrent}
-use Rattle.psci_world_laws.specs.psci_fw_laws.Granted.{HasDeeper, NonePending}
-use Rattle.psci_world_laws.specs.psci_fw_laws.KnownBelow.{known_below}
-use Rattle.psci_world_laws.specs.psci_world_spec.declared.place.Place.TheVariants.{Started}
-use Rattle.psci_world_laws.specs.psci_world_spec.declared.said.Record.{Record}
-use Rattle.psci_world_laws.specs.psci_world_spec.Histories.{controller_values, firmware_values}
-use Rattle.psci_world_laws.specs.psci_world_spec.Histories.{sent}
-use Rattle.psci_world_laws.specs.psci_world_spec.Legal.{IsLegalPast}
-use Rattle.psci_world_laws.specs.psci_world_spec.Places.{place}
-use Rattle.psci_world_laws.specs.Refusals.{NoneRefused}
-use Rattle.psci_world_laws.proofs.Agreed.{RunLaws}
-use Rattle.psci_world_laws.proofs.Agreeing.{found_other, found_own}
+use Rattle.psci_headline.specs.psci_fw_spec.Lives.{in_life}
+use Rattle.psci_headline.specs.psci_fw_spec.Values.{Values}
+use Rattle.psci_headline.specs.psci_fw_laws.Claims.{IsClaimOn, IsCurrent}
+use Rattle.psci_headline.specs.psci_fw_laws.Granted.{HasDeeper, NonePending}
+use Rattle.psci_headline.specs.psci_fw_laws.KnownBelow.{known_below}
+use Rattle.psci_headline.specs.psci_world_spec.declared.place.Place.TheVariants.{Started}
+use Rattle.psci_headline.specs.psci_world_spec.declared.said.Record.{Record}
+use Rattle.psci_headline.specs.psci_world_spec.Histories.{controller_values, firmware_values}
+use Rattle.psci_headline.specs.psci_world_spec.Histories.{sent}
+use Rattle.psci_headline.specs.psci_world_spec.Legal.{IsLegalPast}
+use Rattle.psci_headline.specs.psci_world_spec.Places.{place}
+use Rattle.psci_headline.specs.Refusals.{NoneRefused}
+use Rattle.psci_headline.proofs.Agreed.{RunLaws}
+use Rattle.psci_headline.proofs.Agreeing.{found_other, found_own}
 use Rattle.psci_settle.specs.Waiting.{Waiting}
 use Rattle.psci_settle.proofs.Carried.{IsGiven}
 

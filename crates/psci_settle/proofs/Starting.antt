@@ -11,9 +11,9 @@ use Rattle.psci_ctl_spec.specs.Values.{starts_below}
 use Rattle.psci_board.specs.Paths.{is_on_path}
 use Rattle.psci_ctl_spec.specs.psci_messages.Message.{AckValue, MessageValue}
 use Rattle.psci_ctl_spec.specs.psci_messages.Slots.{Slot}
-use Rattle.psci_world_laws.specs.psci_fw_spec.Phases.{Phase}
-use Rattle.psci_world_laws.specs.psci_fw_laws.KnownBelow.{known_below}
-use Rattle.psci_world_laws.specs.psci_fw_laws.Messages.{known_on}
+use Rattle.psci_headline.specs.psci_fw_spec.Phases.{Phase}
+use Rattle.psci_headline.specs.psci_fw_laws.KnownBelow.{known_below}
+use Rattle.psci_headline.specs.psci_fw_laws.Messages.{known_on}
 use Rattle.psci_settle.specs.Waiting.{AreWaiting, IsLivePart, IsTold}
 use Rattle.psci_settle.proofs.Taking.{named}
 

@@ -12,14 +12,14 @@ use Rattle.psci_ctl_spec.specs.psci_messages.declared.kind.Kind.{Kind}
 use Rattle.psci_ctl_spec.specs.psci_messages.declared.kind.Kind.TheVariants as kinds
 use Rattle.psci_ctl_spec.specs.psci_messages.Message.{AckValue, MessageValue}
 use Rattle.psci_ctl_spec.specs.psci_messages.Slots.{OfCore, is_done, is_kind}
-use Rattle.psci_world_laws.specs.psci_fw_spec.Values.{Values}
-use Rattle.psci_world_laws.specs.psci_fw_laws.Outstanding.{AreOutstanding}
-use Rattle.psci_world_laws.specs.psci_world_spec.declared.event.Event.TheVariants.{Enter}
-use Rattle.psci_world_laws.specs.psci_world_spec.declared.said.Record.{Record}
-use Rattle.psci_world_laws.specs.psci_world_spec.Histories.{controller_values, firmware_values}
-use Rattle.psci_world_laws.specs.psci_world_spec.Histories.{sent}
-use Rattle.psci_world_laws.specs.psci_world_spec.Lists.{indexed}
-use Rattle.psci_world_laws.proofs.Agreeing.{found_own}
+use Rattle.psci_headline.specs.psci_fw_spec.Values.{Values}
+use Rattle.psci_headline.specs.psci_fw_laws.Outstanding.{AreOutstanding}
+use Rattle.psci_headline.specs.psci_world_spec.declared.event.Event.TheVariants.{Enter}
+use Rattle.psci_headline.specs.psci_world_spec.declared.said.Record.{Record}
+use Rattle.psci_headline.specs.psci_world_spec.Histories.{controller_values, firmware_values}
+use Rattle.psci_headline.specs.psci_world_spec.Histories.{sent}
+use Rattle.psci_headline.specs.psci_world_spec.Lists.{indexed}
+use Rattle.psci_headline.proofs.Agreeing.{found_own}
 use Rattle.psci_settle.specs.Drained.{deliveries}
 use Rattle.psci_settle.specs.Settling.{all_cores, served, serving, begun, each_core, entering}
 use Rattle.psci_settle.specs.Settling.{is_start, step}

@@ -13,8 +13,8 @@ use Rattle.psci_ctl_spec.specs.psci_messages.Message.{AckValue, MessageValue}
 use Rattle.psci_ctl_spec.specs.psci_messages.Slots.{Acknowledge, OfCore, Slot, answers, changed}
 use Rattle.psci_ctl_spec.specs.psci_messages.Slots.{is_done, is_kind}
 use Rattle.psci_ctl_spec.specs.psci_messages.Slots.{is_slot, slot_of}
-use Rattle.psci_world_laws.specs.psci_fw_spec.Phases.{Phase}
-use Rattle.psci_world_laws.specs.psci_fw_laws.Outstanding.{AreOutstanding}
+use Rattle.psci_headline.specs.psci_fw_spec.Phases.{Phase}
+use Rattle.psci_headline.specs.psci_fw_laws.Outstanding.{AreOutstanding}
 use Rattle.psci_settle.specs.Waiting.{AreWaiting, AwaitsStart, IsLivePart, IsTold, WasTold}
 
 -- Names ----------------------------------------------------------------------------------------

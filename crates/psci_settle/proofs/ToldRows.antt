@@ -3,18 +3,18 @@
 use Rattle.std.proofs.Common.{◌≡◌, ◌&&◌, ◌==◌, ◌+◌, ℕ, Bool, true, false, List, [], ◌∷◌, refl}
 use Rattle.std.specs.List.{list_all, range_with_len}
 use Rattle.psci_board.specs.Board.{BoardValue, cores, height, nodes}
-use Rattle.psci_world_laws.specs.psci_abi.psci_format.declared.format.Format.TheVariants.{Extended}
-use Rattle.psci_world_laws.specs.psci_fw_spec.NodeHwState.{hw_at, hw_code, node_hw}
-use Rattle.psci_world_laws.specs.psci_fw_spec.Phases.{is_away}
-use Rattle.psci_world_laws.specs.psci_fw_spec.SystemCalls.{is_off_status}
-use Rattle.psci_world_laws.specs.psci_world_spec.declared.event.Event.{Event}
-use Rattle.psci_world_laws.specs.psci_world_spec.declared.event.Event.TheVariants.{Enter, Wake}
-use Rattle.psci_world_laws.specs.psci_world_spec.declared.event.Event.TheVariants.{Deliver, Reset}
-use Rattle.psci_world_laws.specs.psci_world_spec.declared.said.Record.{Record}
-use Rattle.psci_world_laws.specs.psci_world_spec.Histories.{controller_values, firmware_values}
-use Rattle.psci_world_laws.specs.psci_world_spec.Legal.{run_from}
-use Rattle.psci_world_laws.proofs.world_spec.Scripts.{board, call, off, on_3, retention}
-use Rattle.psci_world_laws.proofs.world_spec.Scripts.{system_reset, tall}
+use Rattle.psci_headline.specs.psci_abi.psci_format.declared.format.Format.TheVariants.{Extended}
+use Rattle.psci_headline.specs.psci_fw_spec.NodeHwState.{hw_at, hw_code, node_hw}
+use Rattle.psci_headline.specs.psci_fw_spec.Phases.{is_away}
+use Rattle.psci_headline.specs.psci_fw_spec.SystemCalls.{is_off_status}
+use Rattle.psci_headline.specs.psci_world_spec.declared.event.Event.{Event}
+use Rattle.psci_headline.specs.psci_world_spec.declared.event.Event.TheVariants.{Enter, Wake}
+use Rattle.psci_headline.specs.psci_world_spec.declared.event.Event.TheVariants.{Deliver, Reset}
+use Rattle.psci_headline.specs.psci_world_spec.declared.said.Record.{Record}
+use Rattle.psci_headline.specs.psci_world_spec.Histories.{controller_values, firmware_values}
+use Rattle.psci_headline.specs.psci_world_spec.Legal.{run_from}
+use Rattle.psci_headline.proofs.world_spec.Scripts.{board, call, off, on_3, retention}
+use Rattle.psci_headline.proofs.world_spec.Scripts.{system_reset, tall}
 use Rattle.psci_settle.specs.Settling.{settled}
 use Rattle.psci_settle.proofs.SettleRows.{computing}
 

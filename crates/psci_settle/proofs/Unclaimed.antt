@@ -5,10 +5,10 @@ use Rattle.psci_board.specs.Board.{BoardValue, cores, up}
 use Rattle.psci_ctl_spec.specs.psci_parts.declared.part.Part.{Part}
 use Rattle.psci_ctl_spec.specs.psci_messages.declared.kind.Kind.TheVariants.{Down}
 use Rattle.psci_ctl_spec.specs.psci_messages.Message.{MessageValue}
-use Rattle.psci_world_laws.specs.psci_fw_spec.Phases.{Phase, Running}
-use Rattle.psci_world_laws.specs.psci_fw_laws.Claims.{IsClaimOn}
-use Rattle.psci_world_laws.specs.psci_fw_laws.Live.{AreLive}
-use Rattle.psci_world_laws.proofs.fw_laws.Parts.{part_from}
+use Rattle.psci_headline.specs.psci_fw_spec.Phases.{Phase, Running}
+use Rattle.psci_headline.specs.psci_fw_laws.Claims.{IsClaimOn}
+use Rattle.psci_headline.specs.psci_fw_laws.Live.{AreLive}
+use Rattle.psci_headline.proofs.fw_laws.Parts.{part_from}
 use Rattle.psci_settle.specs.Waiting.{IsLivePart}
 
 -- no part of a Down of this core is live

@@ -7,15 +7,15 @@ use Rattle.psci_board.specs.declared.node.Node.{Node}
 use Rattle.psci_ctl_spec.specs.psci_messages.declared.kind.Kind.TheVariants.{Down, Start}
 use Rattle.psci_ctl_spec.specs.psci_messages.Message.{AckValue, MessageValue}
 use Rattle.psci_ctl_spec.specs.psci_messages.Slots.{answers}
-use Rattle.psci_world_laws.specs.psci_fw_laws.KnownBelow.{known_below}
-use Rattle.psci_world_laws.specs.psci_fw_spec.Phases.{Pending, Suspended, Away}
-use Rattle.psci_world_laws.specs.psci_world_spec.declared.event.Event.{Event}
-use Rattle.psci_world_laws.specs.psci_world_spec.declared.event.Event.TheVariants.{Deliver, Enter}
-use Rattle.psci_world_laws.specs.psci_world_spec.declared.event.Event.TheVariants.{Take}
-use Rattle.psci_world_laws.specs.psci_world_spec.declared.said.Record.{Record}
-use Rattle.psci_world_laws.proofs.world_spec.Scripts as scripts
-use Rattle.psci_world_laws.proofs.world_spec.Scripts.{acked, board, off, on_3, part, retention}
-use Rattle.psci_world_laws.proofs.world_spec.Scripts.{sends, stops, system_reset}
+use Rattle.psci_headline.specs.psci_fw_laws.KnownBelow.{known_below}
+use Rattle.psci_headline.specs.psci_fw_spec.Phases.{Pending, Suspended, Away}
+use Rattle.psci_headline.specs.psci_world_spec.declared.event.Event.{Event}
+use Rattle.psci_headline.specs.psci_world_spec.declared.event.Event.TheVariants.{Deliver, Enter}
+use Rattle.psci_headline.specs.psci_world_spec.declared.event.Event.TheVariants.{Take}
+use Rattle.psci_headline.specs.psci_world_spec.declared.said.Record.{Record}
+use Rattle.psci_headline.proofs.world_spec.Scripts as scripts
+use Rattle.psci_headline.proofs.world_spec.Scripts.{acked, board, off, on_3, part, retention}
+use Rattle.psci_headline.proofs.world_spec.Scripts.{sends, stops, system_reset}
 use Rattle.psci_settle.proofs.Failing.{◌⇒◌, Legal, Steps, past_from}
 use Rattle.psci_settle.specs.Waiting.{IsTold, Waiting, WasTold}
 

@@ -1,3 +1,5 @@
+pub mod Complete
+pub mod Confirming
 pub mod Drained
 pub mod Settling
 pub mod Waiting

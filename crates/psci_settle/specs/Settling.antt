@@ -8,18 +8,18 @@ use Rattle.psci_ctl_spec.specs.psci_messages.declared.kind.Kind.{Kind}
 use Rattle.psci_ctl_spec.specs.psci_messages.declared.kind.Kind.TheVariants.{Start}
 use Rattle.psci_ctl_spec.specs.psci_messages.Message.{MessageValue}
 use Rattle.psci_ctl_spec.specs.psci_messages.Slots.{OfCore, is_kind}
-use Rattle.psci_world_laws.specs.psci_fw_spec.Lives.{in_life}
-use Rattle.psci_world_laws.specs.psci_world_spec.declared.event.Event.{Event}
-use Rattle.psci_world_laws.specs.psci_world_spec.declared.event.Event.TheVariants.{Enter, Deliver}
-use Rattle.psci_world_laws.specs.psci_world_spec.declared.event.Event.TheVariants.{Take}
-use Rattle.psci_world_laws.specs.psci_world_spec.declared.place.Place.{Place}
-use Rattle.psci_world_laws.specs.psci_world_spec.declared.place.Place.TheVariants.{Started, Running}
-use Rattle.psci_world_laws.specs.psci_world_spec.declared.place.Place.TheVariants.{Stopped}
-use Rattle.psci_world_laws.specs.psci_world_spec.declared.said.Record.{Record}
-use Rattle.psci_world_laws.specs.psci_world_spec.Histories.{acks, controller_values}
-use Rattle.psci_world_laws.specs.psci_world_spec.Histories.{firmware_values, sent}
-use Rattle.psci_world_laws.specs.psci_world_spec.Legal.{legal_record}
-use Rattle.psci_world_laws.specs.psci_world_spec.Places.{place}
+use Rattle.psci_headline.specs.psci_fw_spec.Lives.{in_life}
+use Rattle.psci_headline.specs.psci_world_spec.declared.event.Event.{Event}
+use Rattle.psci_headline.specs.psci_world_spec.declared.event.Event.TheVariants.{Enter, Deliver}
+use Rattle.psci_headline.specs.psci_world_spec.declared.event.Event.TheVariants.{Take}
+use Rattle.psci_headline.specs.psci_world_spec.declared.place.Place.{Place}
+use Rattle.psci_headline.specs.psci_world_spec.declared.place.Place.TheVariants.{Started, Running}
+use Rattle.psci_headline.specs.psci_world_spec.declared.place.Place.TheVariants.{Stopped}
+use Rattle.psci_headline.specs.psci_world_spec.declared.said.Record.{Record}
+use Rattle.psci_headline.specs.psci_world_spec.Histories.{acks, controller_values}
+use Rattle.psci_headline.specs.psci_world_spec.Histories.{firmware_values, sent}
+use Rattle.psci_headline.specs.psci_world_spec.Legal.{legal_record}
+use Rattle.psci_headline.specs.psci_world_spec.Places.{place}
 
 -- Halting -------------------------------------------------------------------------------------
 

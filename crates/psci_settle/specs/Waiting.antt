@@ -9,13 +9,13 @@ use Rattle.psci_ctl_spec.specs.psci_messages.Message.{AckValue, MessageValue}
 use Rattle.psci_ctl_spec.specs.psci_messages.Slots.{Slot, OfCore, answers}
 use Rattle.psci_ctl_spec.specs.Values.{first_depth, starts_below}
 use Rattle.psci_ctl_spec.specs.Values as controlled
-use Rattle.psci_world_laws.specs.psci_fw_spec.Lives.{in_life}
-use Rattle.psci_world_laws.specs.psci_fw_spec.Phases.{Phase, Pending}
-use Rattle.psci_world_laws.specs.psci_fw_spec.Values.{Values}
-use Rattle.psci_world_laws.specs.psci_fw_laws.Messages.{known_on}
-use Rattle.psci_world_laws.specs.psci_world_spec.declared.said.Record.{Record}
-use Rattle.psci_world_laws.specs.psci_world_spec.Histories.{acks, controller_values}
-use Rattle.psci_world_laws.specs.psci_world_spec.Histories.{firmware_values, sent}
+use Rattle.psci_headline.specs.psci_fw_spec.Lives.{in_life}
+use Rattle.psci_headline.specs.psci_fw_spec.Phases.{Phase, Pending}
+use Rattle.psci_headline.specs.psci_fw_spec.Values.{Values}
+use Rattle.psci_headline.specs.psci_fw_laws.Messages.{known_on}
+use Rattle.psci_headline.specs.psci_world_spec.declared.said.Record.{Record}
+use Rattle.psci_headline.specs.psci_world_spec.Histories.{acks, controller_values}
+use Rattle.psci_headline.specs.psci_world_spec.Histories.{firmware_values, sent}
 
 -- a part of a message is live, in the life of the message: its generation counts every start below
 -- its domain

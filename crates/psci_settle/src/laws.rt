@@ -2,8 +2,8 @@
 
 ghost use Rattle.std.specs.Prelude.{◌≡◌, ◌++◌, false, List};
 ghost use Rattle.psci_board.specs.Board.{BoardValue, IsBoard};
-ghost use Rattle.psci_world_laws.specs.psci_world_spec.declared.said.Record.{Record};
-ghost use Rattle.psci_world_laws.specs.psci_world_spec.Legal.{IsLegalPast};
+ghost use Rattle.psci_headline.specs.psci_world_spec.declared.said.Record.{Record};
+ghost use Rattle.psci_headline.specs.psci_world_spec.Legal.{IsLegalPast};
 ghost use Rattle.psci_settle.specs.Drained.{IsSettled};
 ghost use Rattle.psci_settle.specs.Settling.{is_halting, settled};
 ghost use Rattle.psci_settle.specs.Waiting.{Waiting};
@@ -12,7 +12,7 @@ use psci_board::{law_children, law_paths, law_sizes};
 use psci_ctl_spec::{
     law_acknowledgements, law_depths, law_limits, law_parts, law_replies, law_sums, law_values,
 };
-use psci_world_laws::{
+use psci_headline::{
     law_agreement, law_caller, law_controlled, law_granted, law_kept, law_never_refused, law_sent,
 };
 
@@ -29,7 +29,7 @@ pub fn law_waiting()
     law_acknowledgements();
     law_replies();
     law_limits();
-    psci_world_laws::law_values();
+    psci_headline::law_values();
     law_caller();
     law_kept();
     law_sent();
@@ -55,7 +55,7 @@ pub fn law_settles()
     law_replies();
     law_limits();
     law_depths();
-    psci_world_laws::law_values();
+    psci_headline::law_values();
     law_caller();
     law_kept();
     law_granted();

@@ -1,14 +1,14 @@
 -- Worked examples: how many calls and entries a book has of a core.
 use Rattle.std.proofs.Common.{◌≡◌, ℕ, List, [], ◌∷◌, refl}
-use Rattle.psci_workers.specs.psci_fw.psci_abi.declared.registers.Regs.{Regs}
-use Rattle.psci_workers.specs.psci_fw.psci_board.declared.node.Core.{Core}
-use Rattle.psci_workers.specs.psci_fw.psci_fw_spec.declared.call.FwCall.{FwCall}
-use Rattle.psci_workers.specs.psci_fw.psci_fw_spec.declared.call.FwCall.TheVariants.{Enter, Smc}
-use Rattle.psci_workers.specs.psci_fw.psci_fw_spec.declared.call.FwCall.TheVariants.{Take}
-use Rattle.psci_workers.specs.psci_fw.psci_fw_spec.declared.reply.FwReply.{FwReply}
-use Rattle.psci_workers.specs.psci_fw.psci_messages.declared.start.Start.{Start}
-use Rattle.psci_workers.specs.psci_fw.psci_messages.Message.{AckValue}
-use Rattle.psci_workers.specs.psci_shared.declared.entry.FwEntry.{FwEntry}
+use Rattle.psci_fw.specs.psci_abi.declared.registers.Regs.{Regs}
+use Rattle.psci_fw.specs.psci_board.declared.node.Core.{Core}
+use Rattle.psci_fw.specs.psci_fw_spec.declared.call.FwCall.{FwCall}
+use Rattle.psci_fw.specs.psci_fw_spec.declared.call.FwCall.TheVariants.{Enter, Smc}
+use Rattle.psci_fw.specs.psci_fw_spec.declared.call.FwCall.TheVariants.{Take}
+use Rattle.psci_fw.specs.psci_fw_spec.declared.reply.FwReply.{FwReply}
+use Rattle.psci_fw.specs.psci_messages.declared.start.Start.{Start}
+use Rattle.psci_fw.specs.psci_messages.Message.{AckValue}
+use Rattle.psci_shared.specs.declared.entry.FwEntry.{FwEntry}
 use Rattle.psci_threads.specs.Counts.{calls_of, entries_of}
 
 abbrev core : ℕ → Core

@@ -1,3 +1,8 @@
+mod CallRows
 mod CountRows
+pub mod Crossing
+pub mod Kept
 mod RunRows
 mod SeenRows
+pub mod Sendable
+pub mod WatchRows

@@ -7,10 +7,10 @@ use Rattle.psci_audit.specs.Entries.{Entry}
 use Rattle.psci_audit.specs.Merged.{IsFault, IsSound, TicketsFit, history_of, merged}
 use Rattle.psci_audit.specs.Told.{Tells}
 use Rattle.psci_audit.specs.declared.fault.AuditFault.TheVariants as audits
-use Rattle.psci_workers.specs.psci_shared.declared.entry.FwEntry.{FwEntry}
-use Rattle.psci_workers.specs.psci_shared_ctl.declared.entry.CtlEntry.{CtlEntry}
-use Rattle.psci_workers.specs.declared.gathering.Polled.{Polled}
-use Rattle.psci_workers.specs.Seen.{AllInHistory}
+use Rattle.psci_shared.specs.declared.entry.FwEntry.{FwEntry}
+use Rattle.psci_shared_ctl.specs.declared.entry.CtlEntry.{CtlEntry}
+use Rattle.psci_threads.specs.declared.gathering.Polled.{Polled}
+use Rattle.psci_threads.specs.Seen.{AllInHistory}
 use Rattle.psci_threads.specs.Runs.{IsAudited, IsFound}
 use Rattle.psci_threads.specs.declared.fault.BenchFault.TheVariants.{Gate, Memory, Threads}
 use Rattle.psci_threads.specs.declared.fault.BenchFault.TheVariants.{Audit, Gather}

@@ -1,15 +1,15 @@
 -- Worked examples: what the threads of a run saw by polls stands in its history.
 use Rattle.std.proofs.Common.{◌≡◌, ℕ, List, [], ◌∷◌, inl, inr, subst}
 use Rattle.psci_audit.specs.psci_board.Board.{BoardValue}
-use Rattle.psci_workers.specs.psci_fw.psci_fw_spec.declared.status.Status.{Status}
-use Rattle.psci_workers.specs.psci_fw.psci_fw_spec.declared.status.Status.TheVariants.{On, Off}
-use Rattle.psci_workers.specs.psci_fw.psci_fw_spec.Statuses.{statuses}
-use Rattle.psci_workers.specs.psci_shared.declared.entry.FwEntry.{FwEntry}
-use Rattle.psci_workers.specs.psci_shared.declared.sighting.Sighting.{Sighting}
-use Rattle.psci_workers.specs.psci_shared.Books.{history_of}
-use Rattle.psci_workers.specs.psci_shared.Polls.{AreInHistory}
-use Rattle.psci_workers.specs.declared.gathering.Polled.{Polled}
-use Rattle.psci_workers.specs.Seen.{AllInHistory}
+use Rattle.psci_fw.specs.psci_fw_spec.declared.status.Status.{Status}
+use Rattle.psci_fw.specs.psci_fw_spec.declared.status.Status.TheVariants.{On, Off}
+use Rattle.psci_fw.specs.psci_fw_spec.Statuses.{statuses}
+use Rattle.psci_shared.specs.declared.entry.FwEntry.{FwEntry}
+use Rattle.psci_shared.specs.declared.sighting.Sighting.{Sighting}
+use Rattle.psci_shared.specs.Books.{history_of}
+use Rattle.psci_shared.specs.Polls.{AreInHistory}
+use Rattle.psci_threads.specs.declared.gathering.Polled.{Polled}
+use Rattle.psci_threads.specs.Seen.{AllInHistory}
 use Rattle.psci_threads.specs.Runs.{IsAudited}
 use Rattle.psci_threads.specs.declared.running.Threaded.{Threaded}
 

@@ -1,9 +1,9 @@
 -- What the firmware's book of a run has of each core.
 use Rattle.std.specs.Prelude.{ℕ, Bool, true, false, ◌==◌, List, count_by}
-use Rattle.psci_workers.specs.psci_fw.psci_board.declared.node.Core.{Core}
-use Rattle.psci_workers.specs.psci_fw.psci_fw_spec.declared.call.FwCall.{FwCall}
-use Rattle.psci_workers.specs.psci_fw.psci_fw_spec.declared.call.FwCall.TheVariants as asks
-use Rattle.psci_workers.specs.psci_shared.declared.entry.FwEntry.{FwEntry}
+use Rattle.psci_fw.specs.psci_board.declared.node.Core.{Core}
+use Rattle.psci_fw.specs.psci_fw_spec.declared.call.FwCall.{FwCall}
+use Rattle.psci_fw.specs.psci_fw_spec.declared.call.FwCall.TheVariants as asks
+use Rattle.psci_shared.specs.declared.entry.FwEntry.{FwEntry}
 
 -- the core has called
 abbrev pub calls : FwCall → ℕ → ℕ → Bool

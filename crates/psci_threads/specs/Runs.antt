@@ -3,9 +3,9 @@ use Rattle.std.specs.Prelude.{◌≡◌, ℕ, List, length}
 use Rattle.psci_audit.specs.psci_board.Board.{BoardValue}
 use Rattle.psci_audit.specs.Merged.{IsFault, IsSound, history_of}
 use Rattle.psci_audit.specs.Told.{Tells}
-use Rattle.psci_workers.specs.psci_shared.declared.entry.FwEntry.{FwEntry}
-use Rattle.psci_workers.specs.psci_shared_ctl.declared.entry.CtlEntry.{CtlEntry}
-use Rattle.psci_workers.specs.Seen.{AllInHistory}
+use Rattle.psci_shared.specs.declared.entry.FwEntry.{FwEntry}
+use Rattle.psci_shared_ctl.specs.declared.entry.CtlEntry.{CtlEntry}
+use Rattle.psci_threads.specs.Seen.{AllInHistory}
 use Rattle.psci_threads.specs.declared.fault.BenchFault.{BenchFault}
 use Rattle.psci_threads.specs.declared.fault.BenchFault.TheVariants.{Gate, Memory, Threads}
 use Rattle.psci_threads.specs.declared.fault.BenchFault.TheVariants.{Audit, Gather}

@@ -4,7 +4,7 @@ ghost use Rattle.std.specs.Prelude.{◌≡◌};
 ghost use Rattle.psci_threads.specs.Counts.{calls_of, entries_of, is_by, is_call_by};
 
 use psci_audit::{FwCall, FwEntry};
-use psci_workers::Core;
+use psci_shared::Core;
 
 /// How many calls of a core there are.
 pub fn calls_of(entries: &[FwEntry], core: Core) -> u64

@@ -3,8 +3,9 @@
 ghost use Rattle.psci_audit.specs.psci_board.Board.{BoardValue};
 ghost use Rattle.psci_threads.specs.Runs.{IsFound};
 
+use crate::cut::Cut;
 use psci_audit::AuditFault;
-use psci_workers::{Cut, Memory};
+use psci_shared::Memory;
 use std::alloc::AllocFailed;
 use thiserror::Error;
 

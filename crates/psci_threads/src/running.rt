@@ -5,11 +5,14 @@ ghost use Rattle.psci_audit.specs.psci_board.Board.{cores};
 ghost use Rattle.psci_audit.specs.Merged.{history_of};
 ghost use Rattle.psci_audit.specs.Told.{IsListOfSafe};
 ghost use Rattle.psci_threads.specs.Runs.{IsAudited, IsFound};
-ghost use Rattle.psci_workers.specs.Seen.{AllInHistory};
+ghost use Rattle.psci_threads.specs.Seen.{AllInHistory};
 
+use crate::cores::run_cores;
 use crate::fault::{BenchFault, fault_of};
+use crate::gate::Gate;
+use crate::gathering::{Gathered, Polled};
 use psci_audit::{Retold, Trace, World, retell};
-use psci_workers::{Board, Gate, Gathered, Polled, run_cores};
+use psci_shared::Board;
 use std::alloc::Global;
 use std::sync::Wait;
 use std::thread::Threads;

@@ -6,4 +6,4 @@ mod Settles
 mod SettlesRows
 mod Waiting
 mod WayRows
-pub use Rattle.psci_present.proofs.world_spec
+pub use Rattle.psci_machine.proofs.world_spec

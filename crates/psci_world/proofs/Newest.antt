@@ -2,7 +2,7 @@
 use Rattle.std.proofs.Common.{◌≡◌, [], ◌∷◌, ◌++◌, List, get_or, length, reverse, ap, ◌∙◌}
 use Rattle.std.proofs.Math.Seq.{get_or-append_seam}
 use Rattle.std.proofs.lemmas.List.{reverse-append}
-use Rattle.psci_present.specs.psci_world_spec.declared.said.Record.{Record}
+use Rattle.psci_machine.specs.psci_world_spec.declared.said.Record.{Record}
 
 -- what is read behind the older records, whatever would stand for a place that is none
 pub newest : (lent older past : List Record) (r d : Record) → older ≡ reverse past

@@ -1,14 +1,14 @@
 -- A world that does not halt comes to rest.
 use Rattle.std.proofs.Common.{◌≡◌, List, ◌++◌, Ok, Err, ◌∙◌}
 use Rattle.std.specs.Prelude.{IfOk, Result}
-use Rattle.psci_present.specs.psci_board.Board.{BoardValue}
-use Rattle.psci_present.specs.psci_board.declared.memory.Memory.{Memory}
+use Rattle.psci_machine.specs.psci_board.Board.{BoardValue}
+use Rattle.psci_machine.specs.psci_board.declared.memory.Memory.{Memory}
 use Rattle.psci_settle.specs.Drained.{IsSettled}
 use Rattle.psci_settle.specs.Settling.{settled}
 use Rattle.psci_world.specs.declared.settling.Settled.{Settled}
 use Rattle.psci_world.specs.declared.settling.Settled.TheVariants.{Quiet}
 use Rattle.psci_world.specs.Settles.{ComesToRest}
-use Rattle.psci_present.specs.psci_world_spec.declared.said.Record.{Record}
+use Rattle.psci_machine.specs.psci_world_spec.declared.said.Record.{Record}
 
 -- what the law says of a past
 abbrev pub Settling : BoardValue → List Record → Type 0

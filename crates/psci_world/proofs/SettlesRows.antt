@@ -4,19 +4,19 @@ use Rattle.std.proofs.lemmas.List.Sums.{AllPass-from_list_all, list_all-from_All
 use Rattle.std.proofs.Common.{◌≡◌, ◌≤◌, ◌+◌, ◌++◌, ◌&&◌, ℕ, true, false, List, [], ◌∷◌, length}
 use Rattle.std.proofs.Common.{length-append, refl, arith, ap, ◌∙◌}
 use Rattle.std.specs.List.{list_all}
-use Rattle.psci_present.specs.psci_world_spec.psci_messages.declared.kind.Kind.TheVariants as kinds
+use Rattle.psci_machine.specs.psci_world_spec.psci_messages.declared.kind.Kind.TheVariants as kinds
 use Rattle.psci_settle.specs.Drained.{is_settling}
 use Rattle.psci_world.specs.declared.outstanding.Which.TheVariants.{All, Starts}
 use Rattle.psci_world.specs.declared.settling.Settled.{Settled}
 use Rattle.psci_world.specs.declared.settling.Settled.TheVariants.{Halting, Quiet}
 use Rattle.psci_world.specs.Settles.{ComesToRest, SettlesBy, serves_kind}
-use Rattle.psci_present.proofs.world_spec.Scripts.{board}
-use Rattle.psci_present.specs.psci_world_spec.declared.event.Event.{Event}
-use Rattle.psci_present.specs.psci_world_spec.declared.event.Event.TheVariants.{Enter, Take, Wake}
-use Rattle.psci_present.specs.psci_world_spec.declared.said.Record.{Record}
-use Rattle.psci_present.specs.psci_world_spec.declared.said.Said.{Said}
-use Rattle.psci_present.specs.psci_world_spec.Legal.{legal_record, run_from}
-use Rattle.psci_present.specs.psci_board.Board.{BoardValue}
+use Rattle.psci_machine.proofs.world_spec.Scripts.{board}
+use Rattle.psci_machine.specs.psci_world_spec.declared.event.Event.{Event}
+use Rattle.psci_machine.specs.psci_world_spec.declared.event.Event.TheVariants.{Enter, Take, Wake}
+use Rattle.psci_machine.specs.psci_world_spec.declared.said.Record.{Record}
+use Rattle.psci_machine.specs.psci_world_spec.declared.said.Said.{Said}
+use Rattle.psci_machine.specs.psci_world_spec.Legal.{legal_record, run_from}
+use Rattle.psci_machine.specs.psci_board.Board.{BoardValue}
 
 -- Which messages ---------------------------------------------------------------------------------
 

@@ -2,7 +2,7 @@
 use Rattle.std.proofs.Common.{◌≡◌, ◌+◌, [], ◌∷◌, length, length-append, refl, ap, ◌∙◌}
 use Rattle.std.proofs.Common.{arith}
 use Rattle.psci_world.specs.Settles.{IsOnTheWay}
-use Rattle.psci_present.specs.psci_world_spec.declared.said.Record.{Record}
+use Rattle.psci_machine.specs.psci_world_spec.declared.said.Record.{Record}
 
 -- before any record, after the first of three, and after the last
 pub at_first : (r s t : Record) → IsOnTheWay [] (t ∷ s ∷ r ∷ [])

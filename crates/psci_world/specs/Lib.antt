@@ -1,6 +1,6 @@
 pub mod Seen
 pub mod Settles
-pub use Rattle.psci_present.specs.Safe
-pub use Rattle.psci_present.specs.psci_board
-pub use Rattle.psci_present.specs.psci_world_spec
+pub use Rattle.psci_machine.specs.Safe
+pub use Rattle.psci_machine.specs.psci_board
+pub use Rattle.psci_machine.specs.psci_world_spec
 pub use Rattle.psci_settle.specs.Settling

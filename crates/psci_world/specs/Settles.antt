@@ -1,17 +1,17 @@
 -- What settling makes of a past, and which messages it answers.
 use Rattle.std.specs.Prelude.{◌≡◌, ℕ, Bool, List, ◌++◌}
 use Rattle.std.specs.List.{AllPass}
-use Rattle.psci_present.specs.psci_board.Board.{BoardValue}
-use Rattle.psci_present.specs.psci_world_spec.psci_messages.declared.kind.Kind.{Kind}
+use Rattle.psci_machine.specs.psci_board.Board.{BoardValue}
+use Rattle.psci_machine.specs.psci_world_spec.psci_messages.declared.kind.Kind.{Kind}
 use Rattle.psci_settle.specs.Drained.{IsSettled, is_settling}
 use Rattle.psci_settle.specs.Settling.{is_any, is_start}
 use Rattle.psci_world.specs.declared.outstanding.Which.{Which}
 use Rattle.psci_world.specs.declared.outstanding.Which.TheVariants.{Starts, All}
 use Rattle.psci_world.specs.declared.settling.Settled.{Settled}
 use Rattle.psci_world.specs.declared.settling.Settled.TheVariants.{Quiet}
-use Rattle.psci_present.specs.psci_world_spec.declared.event.Event.{Event}
-use Rattle.psci_present.specs.psci_world_spec.declared.said.Record.{Record}
-use Rattle.psci_present.specs.psci_world_spec.Legal.{run_from}
+use Rattle.psci_machine.specs.psci_world_spec.declared.event.Event.{Event}
+use Rattle.psci_machine.specs.psci_world_spec.declared.said.Record.{Record}
+use Rattle.psci_machine.specs.psci_world_spec.Legal.{run_from}
 
 -- One past is the other after some events more: entries, deliveries and taken acknowledgements
 -- alone, each with what is legal to say of it.

@@ -2,14 +2,14 @@
 
 ghost use Rattle.std.specs.Prelude.{◌≡◌, ◌<◌, None, if◌then◌else◌, option_and_then, option_map};
 ghost use Rattle.std.specs.Prelude.{reverse};
-ghost use Rattle.psci_present.specs.psci_board.Board.{cores};
-ghost use Rattle.psci_present.specs.psci_world_spec.psci_messages.Slots.{OfCore};
+ghost use Rattle.psci_machine.specs.psci_board.Board.{cores};
+ghost use Rattle.psci_machine.specs.psci_world_spec.psci_messages.Slots.{OfCore};
 ghost use Rattle.psci_settle.specs.Settling.{has_name, is_waiting, index_of};
 ghost use Rattle.psci_world.specs.Settles.{serves_kind};
-ghost use Rattle.psci_present.specs.psci_world_spec.Histories.{firmware_values, sent};
+ghost use Rattle.psci_machine.specs.psci_world_spec.Histories.{firmware_values, sent};
 
 use crate::world::World;
-use psci_present::{Kind, Message};
+use psci_machine::{Kind, Message};
 
 /// Which outstanding messages are answered.
 #[derive(Clone, Copy, Debug, PartialEq, Eq)]

@@ -1,11 +1,11 @@
 //! Whole runs.
 
 ghost use Rattle.std.specs.Prelude.{◌≡◌, [], IfOk, reverse};
-ghost use Rattle.psci_present.specs.Safe.{AlwaysSafe};
-ghost use Rattle.psci_present.specs.psci_world_spec.Legal.{IsLegalPast, run_from};
+ghost use Rattle.psci_machine.specs.Safe.{AlwaysSafe};
+ghost use Rattle.psci_machine.specs.psci_world_spec.Legal.{IsLegalPast, run_from};
 
 use crate::world::World;
-use psci_present::{Board, Event, Memory, Record};
+use psci_machine::{Board, Event, Memory, Record};
 use std::alloc::Global;
 
 /// The records of the run of these events on this board, the oldest first: the one legal run, safe

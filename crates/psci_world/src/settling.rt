@@ -1,7 +1,7 @@
 //! The world settles: what waits is answered, until firmware and power controller agree.
 
 ghost use Rattle.std.specs.Prelude.{◌≡◌, ◌<◌, ◌+◌, true, false, IfOk, Ok, OnErr, OnOk};
-ghost use Rattle.psci_present.specs.psci_board.Board.{cores, height};
+ghost use Rattle.psci_machine.specs.psci_board.Board.{cores, height};
 ghost use Rattle.psci_settle.specs.Drained.{is_settling};
 ghost use Rattle.psci_settle.specs.Settling.{all_cores, served, serving, begun, each_core};
 ghost use Rattle.psci_settle.specs.Settling.{entering, is_halting, rounds, settled, step};
@@ -10,7 +10,7 @@ ghost use Rattle.psci_world.specs.Settles.{ComesToRest, IsOnTheWay, SettlesBy, s
 
 use crate::outstanding::{Which, is_waiting, number_outstanding};
 use crate::world::World;
-use psci_present::{Core, Event, Memory, Place};
+use psci_machine::{Core, Event, Memory, Place};
 use psci_settle::law_settles;
 
 /// What became of a world that was to settle.

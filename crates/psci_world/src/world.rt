@@ -1,6 +1,6 @@
 //! The world of one board.
 
-use psci_present::{
+use psci_machine::{
     Ack, Board, Controller, Core, Event, Firmware, Memory, Message, Place, Present, Record,
     law_safe,
 };
@@ -31,15 +31,15 @@ impl Model for World {
 }
 
 ghost use Rattle.std.specs.Prelude.{◌≡◌, ◌<◌, [], ◌∷◌, IfOk, OnOk, OnErr, option_map, reverse};
-ghost use Rattle.psci_present.specs.psci_board.Board.{IsBoard, cores};
-ghost use Rattle.psci_present.specs.Controller as controller;
-ghost use Rattle.psci_present.specs.Firmware as firmware;
-ghost use Rattle.psci_present.specs.psci_world_spec.Histories.{acks, controller_values};
-ghost use Rattle.psci_present.specs.psci_world_spec.Histories.{firmware_values, sent};
-ghost use Rattle.psci_present.specs.Safe.{AlwaysSafe};
-ghost use Rattle.psci_present.specs.psci_world_spec.Legal.{IsLegalPast, legal_record};
-ghost use Rattle.psci_present.specs.psci_world_spec.Lists.{indexed};
-ghost use Rattle.psci_present.specs.psci_world_spec.Places.{place};
+ghost use Rattle.psci_machine.specs.psci_board.Board.{IsBoard, cores};
+ghost use Rattle.psci_machine.specs.Controller as controller;
+ghost use Rattle.psci_machine.specs.Firmware as firmware;
+ghost use Rattle.psci_machine.specs.psci_world_spec.Histories.{acks, controller_values};
+ghost use Rattle.psci_machine.specs.psci_world_spec.Histories.{firmware_values, sent};
+ghost use Rattle.psci_machine.specs.Safe.{AlwaysSafe};
+ghost use Rattle.psci_machine.specs.psci_world_spec.Legal.{IsLegalPast, legal_record};
+ghost use Rattle.psci_machine.specs.psci_world_spec.Lists.{indexed};
+ghost use Rattle.psci_machine.specs.psci_world_spec.Places.{place};
 
 impl World {
     /// The world of this board, before any event: the power controller is in its first life, the

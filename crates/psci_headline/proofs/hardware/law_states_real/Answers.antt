@@ -1,8 +1,8 @@
 -- Hardware states that are said of domains.
 use Rattle.std.proofs.Common.{subst, sym}
-use Rattle.psci_world_laws.specs.psci_fw_laws.Kept.{Holds}
-use Rattle.psci_world_laws.specs.psci_world_spec.Histories.{firmware_history, firmware_values}
-use Rattle.psci_world_laws.proofs.world_spec.Answered.{firmware_legal}
+use Rattle.psci_fw_laws.specs.Kept.{Holds}
+use Rattle.psci_world_spec.specs.Histories.{firmware_history, firmware_values}
+use Rattle.psci_world_spec.proofs.Answered.{firmware_legal}
 use Rattle.psci_headline.proofs.AllDown.{DownLaws}
 use Rattle.psci_headline.proofs.StatesReal.{RealLaws, states_real}
 use Rattle.psci_headline.proofs.hardware.law_states_real.Goals as goal

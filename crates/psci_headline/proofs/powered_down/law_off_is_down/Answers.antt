@@ -1,8 +1,8 @@
 -- Cores that are reported OFF.
 use Rattle.std.proofs.Common.{subst, sym}
-use Rattle.psci_world_laws.specs.psci_fw_laws.Kept.{Holds}
-use Rattle.psci_world_laws.specs.psci_world_spec.Histories.{firmware_history, firmware_values}
-use Rattle.psci_world_laws.proofs.world_spec.Answered.{firmware_legal}
+use Rattle.psci_fw_laws.specs.Kept.{Holds}
+use Rattle.psci_world_spec.specs.Histories.{firmware_history, firmware_values}
+use Rattle.psci_world_spec.proofs.Answered.{firmware_legal}
 use Rattle.psci_headline.proofs.AllDown.{DownLaws}
 use Rattle.psci_headline.proofs.OffIsDown.{off_is_down}
 use Rattle.psci_headline.proofs.powered_down.law_off_is_down.Goals as goal

@@ -1,6 +1,6 @@
 -- The firmware's numbers and the MPIDRs of cores name each other.
 use Rattle.std.proofs.Common.{◌<◌, ℕ, sym, subst}
-use Rattle.psci_world_laws.specs.psci_board.Board.{cores}
+use Rattle.psci_headline.specs.psci_board.Board.{cores}
 use Rattle.psci_platform_safe.proofs.Named.{boot_number, laws_of, some_cores}
 use Rattle.psci_platform_safe.proofs.Numbers.{is_core, mpidr_back, number_back, number_inside}
 use Rattle.psci_platform_safe.proofs.Numbers.{some_core}

@@ -1,6 +1,6 @@
 -- What waits after every legal run.
-use Rattle.psci_world_laws.specs.psci_world_spec.Histories.{controller_history, firmware_history}
-use Rattle.psci_world_laws.proofs.world_spec.Answered.{firmware_legal}
+use Rattle.psci_headline.specs.psci_world_spec.Histories.{controller_history, firmware_history}
+use Rattle.psci_headline.proofs.world_spec.Answered.{firmware_legal}
 use Rattle.psci_settle.proofs.Waited.{waited}
 use Rattle.psci_settle.proofs.laws.law_waiting.Goals as goal
 

@@ -1,6 +1,6 @@
 -- What is left of the events leads to the whole run.
 use Rattle.std.proofs.Common.{◌≡◌, [], drop}
-use Rattle.psci_present.specs.psci_world_spec.Legal.{run_from}
+use Rattle.psci_machine.specs.psci_world_spec.Legal.{run_from}
 use Rattle.psci_world.proofs.runs.run.Given as goal
 
 abbrev pub invariant-loop-event : goal.invariant-loop-event

@@ -1,7 +1,7 @@
 -- Three times all cores did something.
 use Rattle.std.proofs.Common.{◌≡◌, ◌∙◌, List, subst}
 use Rattle.std.specs.Result.{OnOk}
-use Rattle.psci_present.specs.psci_world_spec.declared.said.Record.{Record}
+use Rattle.psci_machine.specs.psci_world_spec.declared.said.Record.{Record}
 use Rattle.psci_world.proofs.Beginning.{all_begun}
 use Rattle.psci_world.proofs.Settles.{settles_both}
 use Rattle.psci_world.proofs.OnTheWay.{on_err, stops_entering, stops_starting}

@@ -1,6 +1,6 @@
 -- One event happened, or none.
 use Rattle.std.proofs.Common.{◌∷◌, ap, ◌∙◌}
-use Rattle.psci_present.specs.psci_world_spec.declared.said.Record.{Record}
+use Rattle.psci_machine.specs.psci_world_spec.declared.said.Record.{Record}
 use Rattle.psci_world.proofs.Settles.{settles_one, settles_same}
 use Rattle.psci_world.proofs.OnTheWay.{on_err, stops_step}
 use Rattle.psci_world.proofs.settling.happen.Goals as goal

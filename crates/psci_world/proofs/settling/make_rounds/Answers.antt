@@ -1,6 +1,6 @@
 -- Round by round, and as far as it went.
 use Rattle.std.proofs.Common.{◌∙◌, ◌+◌, ap, refl, sym, arith}
-use Rattle.psci_present.specs.psci_board.Board.{height}
+use Rattle.psci_machine.specs.psci_board.Board.{height}
 use Rattle.psci_settle.specs.Settling.{rounds}
 use Rattle.psci_world.proofs.Beginning.{round_more, rounds_done, rounds_first, rounds_over}
 use Rattle.psci_world.proofs.Settles.{settles_both, settles_none}

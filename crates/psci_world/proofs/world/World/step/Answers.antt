@@ -1,6 +1,6 @@
 -- The record that is copied is the newest.
 use Rattle.std.proofs.Common.{◌≡◌, ◌∷◌, ap, reverse, sym, ◌∙◌}
-use Rattle.psci_present.specs.psci_world_spec.Legal.{legal_record}
+use Rattle.psci_machine.specs.psci_world_spec.Legal.{legal_record}
 use Rattle.psci_world.proofs.Newest.{newest}
 use Rattle.psci_world.proofs.world.World.step.Goals as goal
 

@@ -1,0 +1,219 @@
+-- Worked examples: a list that is legal, and for each way to be wrong one that is not.
+use Rattle.std.proofs.Common.{◌≡◌, ℕ, List, [], ◌∷◌, Option, None, Some, pos, negsuc, false, true}
+use Rattle.std.proofs.Common.{ap, refl, arith}
+use Rattle.psci_world_spec.specs.psci_ctl_spec.declared.call.CtlCall.TheVariants as asks
+use Rattle.psci_world_spec.specs.psci_ctl_spec.declared.delivery.Delivery.TheVariants as deliveries
+use Rattle.psci_world_spec.specs.psci_ctl_spec.declared.kick.Kick.TheVariants as kicks
+use Rattle.psci_world_spec.specs.psci_ctl_spec.declared.reply.CtlReply.TheVariants as replied
+use Rattle.psci_world_spec.specs.psci_fw_spec.declared.call.FwCall.TheVariants as calls
+use Rattle.psci_world_spec.specs.psci_fw_spec.declared.fault.FwFault.TheVariants.{OldStart}
+use Rattle.psci_world_spec.specs.psci_fw_spec.declared.outcome.Act.{Act}
+use Rattle.psci_world_spec.specs.psci_fw_spec.declared.outcome.Act.TheVariants as acts
+use Rattle.psci_world_spec.specs.psci_fw_spec.declared.reply.FwReply.{FwReply}
+use Rattle.psci_world_spec.specs.psci_fw_spec.declared.reply.FwReply.TheVariants as replies
+use Rattle.psci_world_spec.specs.psci_messages.declared.kind.Kind.TheVariants as kinds
+use Rattle.psci_world_spec.specs.psci_messages.declared.start.Cause.{Cause}
+use Rattle.psci_world_spec.specs.psci_messages.declared.start.Cause.TheVariants as causes
+use Rattle.psci_world_spec.specs.psci_messages.declared.start.Start.{Start}
+use Rattle.psci_world_spec.specs.psci_messages.declared.taken.Taken.TheVariants as takens
+use Rattle.psci_world_spec.specs.psci_messages.Message.{AckValue, MessageValue}
+use Rattle.psci_world_spec.proofs.Scripts.{board, computing}
+use Rattle.psci_audit.specs.Entries.{Entry, Asked, Controlled, acks, controller_history}
+use Rattle.psci_audit.specs.Entries.{firmware_history, place, sent}
+use Rattle.psci_audit.specs.Legal.{IsLegal, MayFollow}
+use Rattle.psci_audit.specs.Told.{asked, controlled}
+
+-- what an example unfolds to judge a list that is written out
+unfoldable pub judging : Unit {0}
+unfolding computing MayFollow firmware_history controller_history sent acks place
+judging = tt
+
+-- a start of this life: number, cause
+abbrev pub start : ℕ → Cause → Start
+start number cause = record { life = 1; number = number; cause = cause }
+
+-- a core enters at an address, with a context id
+abbrev pub enters : ℕ → Start → ℕ → ℕ → Entry
+enters c s address context = Asked (asked c (calls.Enter s)
+    (replies.Out (record { act = acts.Enter address context; message = None })))
+
+-- the boot core enters
+abbrev pub boots : Entry
+boots = enters 0 (start 1 causes.Boot) 0x40000000 0
+
+-- PSCI_VERSION of a core returns this
+abbrev pub version : ℕ → ℕ → Entry
+version c value =
+    Asked (asked c (calls.Smc (record { x0 = 0x84000000; x1 = 0; x2 = 0; x3 = 0 }))
+    (replies.Out (record { act = acts.Return (record { 0 = pos value }); message = None })))
+
+-- the Start that asks core 3 on
+abbrev pub start_3 : MessageValue
+start_3 = record {
+  kind = kinds.Start;
+  core = record { number = 3 };
+  life = 1;
+  number = 0;
+  parts = [];
+}
+
+-- the boot core asks core 3 on
+abbrev pub on_3 : Entry
+on_3 = Asked (asked 0
+    (calls.Smc (record { x0 = 0xc4000003; x1 = 0x101; x2 = 0x40001000; x3 = 7 }))
+    (replies.Out (record {
+      act = acts.Return (record { 0 = pos 0 });
+      message = Some start_3;
+    })))
+
+-- its acknowledgement
+abbrev pub ack_3 : AckValue
+ack_3 = record {
+  kind = kinds.Start;
+  core = record { number = 3 };
+  life = 1;
+  number = 0;
+  applied = 1;
+  stale = false;
+}
+
+abbrev pub delivers_3 : Entry
+delivers_3 =
+    Controlled (controlled (asks.Deliver start_3) (replied.Delivery (deliveries.Applied ack_3)))
+
+abbrev pub takes_3 : Entry
+takes_3 = Asked (asked 0 (calls.Take ack_3) (replies.Taken takens.Used))
+
+-- a core that stopped in the start of this number is woken: ignored, or started
+abbrev pub not_woken : ℕ → ℕ → Entry
+not_woken c halted = Controlled (controlled (asks.Wake (record { number = c }) halted)
+    (replied.Kick kicks.Ignored))
+
+abbrev pub wakes : ℕ → ℕ → ℕ → Entry
+wakes c halted number = Controlled (controlled (asks.Wake (record { number = c }) halted)
+    (replied.Kick (kicks.Started (start number causes.Wake))))
+
+abbrev pub resets : ℕ → ℕ → Entry
+resets c number = Controlled (controlled (asks.Reset (record { number = c }))
+    (replied.Kick (kicks.Started (start number causes.Reset))))
+
+-- Legal lists ----------------------------------------------------------------------------------
+
+nothing : IsLegal board []
+nothing = tt
+
+one_entry : IsLegal board (boots ∷ [])
+unfolding judging
+one_entry = ((omega arith, refl, refl, tt, refl), tt)
+
+-- core 3 is asked on; the Start is delivered and acknowledged; core 3 enters at its entry point
+asked_on : IsLegal board (takes_3 ∷ delivers_3 ∷ on_3 ∷ boots ∷ [])
+unfolding judging
+asked_on = (
+  (refl, (0, refl), refl),
+  (((0, refl), refl), ((omega arith, refl, tt, refl), ((omega arith, refl, refl, tt, refl), tt))),
+)
+
+entered_on : IsLegal board
+    (enters 3 (start 1 causes.On) 0x40001000 7 ∷ delivers_3 ∷ on_3 ∷ boots ∷ [])
+unfolding judging
+entered_on = (
+  (omega arith, refl, refl, tt, refl),
+  (((0, refl), refl), ((omega arith, refl, tt, refl), ((omega arith, refl, refl, tt, refl), tt))),
+)
+
+-- a stopped core is woken by its last start's number, which is 0 before any; one that runs is not
+-- woken, whatever number is named; any core is reset
+woken : IsLegal board (not_woken 0 7 ∷ wakes 1 0 1 ∷ boots ∷ [])
+unfolding judging
+woken = (
+  (omega arith, refl),
+  ((omega arith, (refl, refl)), ((omega arith, refl, refl, tt, refl), tt)),
+)
+
+was_reset : IsLegal board (resets 0 2 ∷ boots ∷ [])
+unfolding judging
+was_reset = ((omega arith, refl), ((omega arith, refl, refl, tt, refl), tt))
+
+-- the address or the value of what a core does next
+abbrev pub act_number : Act → ℕ
+act_number (acts.Return code) = elim code.0 [ pos n ↦ n | negsuc n ↦ 0 ]
+act_number (acts.Enter address context) = address
+act_number act = 0
+
+-- the same of a reply
+abbrev pub number_in : FwReply → ℕ
+number_in (replies.Out o) = act_number o.act
+number_in reply = 0
+
+-- the number of a start
+abbrev pub start_number : Option Start → ℕ
+start_number None = 0
+start_number (Some s) = s.number
+
+-- Lists that are not ---------------------------------------------------------------------------
+
+-- another reply
+wrong_reply : IsLegal board (enters 0 (start 1 causes.Boot) 0x40000004 0 ∷ []) → ⊥
+unfolding judging
+wrong_reply is =
+    let e : 0x40000004 ≡ 0x40000000 = ap number_in is.0.4 in omega (arith, e)
+
+wrong_value : IsLegal board (version 0 1 ∷ boots ∷ []) → ⊥
+unfolding judging
+wrong_value is = let e : 1 ≡ 65537 = ap number_in is.0.3 in omega (arith, e)
+
+-- an entry twice
+twice : IsLegal board (boots ∷ boots ∷ []) → ⊥
+unfolding judging
+twice is = let e = is.0.1 in cc
+
+-- a call before the entry, and one of a core that does not run
+too_early : IsLegal board (version 0 65537 ∷ []) → ⊥
+unfolding judging
+too_early is = let e = is.0.1 in cc
+
+not_running : IsLegal board (version 1 65537 ∷ boots ∷ []) → ⊥
+unfolding judging
+not_running is = let e = is.0.1 in cc
+
+-- a call after the core was reset, before it enters: the firmware does not know of that yet
+reset_calls : IsLegal board (version 0 65537 ∷ resets 0 2 ∷ boots ∷ []) → ⊥
+unfolding judging
+reset_calls is = let e = is.0.1 in cc
+
+-- an entry by another start than the last one
+another_start : IsLegal board (enters 0 (start 2 causes.Reset) 0x40000000 0 ∷ []) → ⊥
+unfolding judging
+another_start is = let e : 1 ≡ 2 = ap start_number is.0.2 in omega (arith, e)
+
+-- a refusal
+refusal : IsLegal board
+    (Asked (asked 1 (calls.Enter (start 1 causes.Boot)) (replies.Fault OldStart)) ∷ []) → ⊥
+unfolding judging
+refusal is = is.0.3
+
+-- a message that is delivered before it was sent, an acknowledgement that is taken before it was
+-- made
+not_sent : IsLegal board (delivers_3 ∷ boots ∷ []) → ⊥
+unfolding judging
+not_sent is = let e = is.0.0.1 in cc
+
+not_made : IsLegal board (takes_3 ∷ on_3 ∷ boots ∷ []) → ⊥
+unfolding judging
+not_made is = let e = is.0.1.1 in cc
+
+-- a stopped core is woken by another number
+another_number : IsLegal board (not_woken 1 7 ∷ boots ∷ []) → ⊥
+unfolding judging
+another_number is = let e = is.0.1.0 in cc
+
+-- a core that runs is woken
+wakes_running : IsLegal board (wakes 0 1 2 ∷ boots ∷ []) → ⊥
+unfolding judging
+wakes_running is = let e = is.0.1 in cc
+
+-- a core that the board does not have
+no_core : IsLegal board (resets 4 1 ∷ []) → ⊥
+unfolding judging
+no_core is = let e = is.0.0 in omega (arith, e)

@@ -1,0 +1,217 @@
+-- Worked examples: lists in which another core than the boot core calls, with later starts, later
+-- messages and a second life; and for each way to be wrong there one that is not legal.
+use Rattle.std.proofs.Common.{◌≡◌, ℕ, List, [], ◌∷◌, Option, None, Some, true, false}
+use Rattle.std.proofs.Common.{ap, refl, arith}
+use Rattle.psci_world_spec.specs.psci_claims.psci_parts.declared.part.Part.{Part}
+use Rattle.psci_world_spec.specs.psci_ctl_spec.declared.call.CtlCall.TheVariants as asks
+use Rattle.psci_world_spec.specs.psci_ctl_spec.declared.delivery.Delivery.TheVariants as deliveries
+use Rattle.psci_world_spec.specs.psci_ctl_spec.declared.kick.Kick.TheVariants as kicks
+use Rattle.psci_world_spec.specs.psci_ctl_spec.declared.reply.CtlReply.{CtlReply}
+use Rattle.psci_world_spec.specs.psci_ctl_spec.declared.reply.CtlReply.TheVariants as replied
+use Rattle.psci_world_spec.specs.psci_fw_spec.declared.call.FwCall.TheVariants as calls
+use Rattle.psci_world_spec.specs.psci_fw_spec.declared.outcome.Act.TheVariants as acts
+use Rattle.psci_world_spec.specs.psci_fw_spec.declared.reply.FwReply.TheVariants as replies
+use Rattle.psci_world_spec.specs.psci_messages.declared.kind.Kind.{Kind}
+use Rattle.psci_world_spec.specs.psci_messages.declared.kind.Kind.TheVariants as kinds
+use Rattle.psci_world_spec.specs.psci_messages.declared.start.Cause.TheVariants as causes
+use Rattle.psci_world_spec.specs.psci_messages.declared.taken.Taken.TheVariants as takens
+use Rattle.psci_world_spec.specs.psci_messages.Message.{AckValue, MessageValue}
+use Rattle.psci_world_spec.proofs.Scripts.{board, part}
+use Rattle.psci_audit.specs.Entries.{Entry, Asked, Controlled}
+use Rattle.psci_audit.specs.Legal.{IsLegal}
+use Rattle.psci_audit.specs.Told.{asked, controlled}
+use Rattle.psci_audit.proofs.ListRows.{ack_3, boots, delivers_3, enters, judging, on_3, resets}
+use Rattle.psci_audit.proofs.ListRows.{start, start_3, takes_3, version, wakes}
+
+-- a core calls the function of this word, stops, and sends a message
+abbrev stops : ℕ → ℕ → MessageValue → Entry
+stops c word m = Asked (asked c (calls.Smc (record { x0 = word; x1 = 0; x2 = 0; x3 = 0 }))
+    (replies.Out (record { act = acts.Stop; message = Some m })))
+
+-- a message of the first life in a core's first start, and its acknowledgement
+abbrev message : Kind → ℕ → List Part → MessageValue
+message kind c parts = record {
+  kind = kind;
+  core = record { number = c };
+  life = 1;
+  number = 1;
+  parts = parts;
+}
+
+abbrev ack : Kind → ℕ → ℕ → AckValue
+ack kind c applied = record {
+  kind = kind;
+  core = record { number = c };
+  life = 1;
+  number = 1;
+  applied = applied;
+  stale = false;
+}
+
+abbrev delivers : MessageValue → AckValue → Entry
+delivers m a = Controlled (controlled (asks.Deliver m) (replied.Delivery (deliveries.Applied a)))
+
+abbrev takes : AckValue → Entry
+takes a = Asked (asked 0 (calls.Take a) (replies.Taken takens.Used))
+
+-- Core 3 ---------------------------------------------------------------------------------------
+
+abbrev on : List Entry
+on = enters 3 (start 1 causes.On) 0x40001000 7 ∷ delivers_3 ∷ on_3 ∷ boots ∷ []
+
+on_is_legal : IsLegal board on
+unfolding judging
+on_is_legal = (
+  (omega arith, refl, refl, tt, refl),
+  (((0, refl), refl), ((omega arith, refl, tt, refl), ((omega arith, refl, refl, tt, refl), tt))),
+)
+
+-- it calls CPU_OFF
+abbrev down_3 : MessageValue
+down_3 = message kinds.Down 3 (part 0 3 1 ∷ part 1 3 1 ∷ [])
+
+goes_off : IsLegal board (stops 3 0x84000002 down_3 ∷ on)
+unfolding judging
+goes_off = ((omega arith, refl, tt, refl), on_is_legal)
+
+-- that is carried out; and PSCI_VERSION comes too late
+gone : IsLegal board (takes (ack kinds.Down 3 2) ∷ delivers down_3 (ack kinds.Down 3 2)
+    ∷ stops 3 0x84000002 down_3 ∷ on)
+unfolding judging
+gone = ((refl, (1, refl), refl), (((1, refl), refl), ((omega arith, refl, tt, refl), on_is_legal)))
+
+calls_late : IsLegal board (version 3 65537 ∷ stops 3 0x84000002 down_3 ∷ on) → ⊥
+unfolding judging
+calls_late is = let e = is.0.1 in cc
+
+-- the boot core still runs
+others_run : IsLegal board (version 0 65537 ∷ stops 3 0x84000002 down_3 ∷ on)
+unfolding judging
+others_run = ((omega arith, refl, tt, refl), ((omega arith, refl, tt, refl), on_is_legal))
+
+-- Acknowledgements -----------------------------------------------------------------------------
+
+-- it comes once core 3 has entered, and is old; until then it is used
+abbrev takes_old : Entry
+takes_old = Asked (asked 0 (calls.Take ack_3) (replies.Taken takens.Old))
+
+taken_late : IsLegal board (takes_old ∷ on)
+unfolding judging
+taken_late = ((refl, (0, refl), refl), on_is_legal)
+
+taken_as_old : IsLegal board (takes_old ∷ delivers_3 ∷ on_3 ∷ boots ∷ []) → ⊥
+unfolding judging
+taken_as_old is = let e : replies.Taken takens.Old ≡ replies.Taken takens.Used = is.0.2 in cc
+
+-- an acknowledgement stands under no core but core 0
+taken_by_core_3 : IsLegal board (Asked (asked 3 (calls.Take ack_3) (replies.Taken takens.Used))
+    ∷ delivers_3 ∷ on_3 ∷ boots ∷ []) → ⊥
+unfolding judging
+taken_by_core_3 is = let e : 3 ≡ 0 = is.0.0 in omega (arith, e)
+
+-- the Start comes twice: the second time it is stale
+abbrev stale_3 : AckValue
+stale_3 = record ack_3 { applied = 0; stale = true }
+
+delivered_again : IsLegal board
+    (delivers start_3 stale_3 ∷ takes_3 ∷ delivers_3 ∷ on_3 ∷ boots ∷ [])
+unfolding judging
+delivered_again = (
+  ((0, refl), refl),
+  (
+    (refl, (0, refl), refl),
+    (((0, refl), refl), ((omega arith, refl, tt, refl), ((omega arith, refl, refl, tt, refl), tt))),
+  ),
+)
+
+-- how much of a message is applied
+abbrev applied_in : CtlReply → ℕ
+applied_in (replied.Delivery (deliveries.Applied a)) = a.applied
+applied_in reply = 9
+
+another_ack : IsLegal board (delivers start_3 stale_3 ∷ on_3 ∷ boots ∷ []) → ⊥
+unfolding judging
+another_ack is = let e : 0 ≡ 1 = ap applied_in is.0.1 in omega (arith, e)
+
+-- Starts ---------------------------------------------------------------------------------------
+
+-- the boot core is reset and enters by its second start: it has no opening, and parks
+abbrev down_0 : MessageValue
+down_0 = record (message kinds.Down 0 (part 0 3 2 ∷ part 1 3 2 ∷ part 2 3 2 ∷ [])) { number = 2 }
+
+abbrev parks : Entry
+parks = Asked (asked 0 (calls.Enter (start 2 causes.Reset))
+    (replies.Out (record { act = acts.Stop; message = Some down_0 })))
+
+reset_is_legal : IsLegal board (resets 0 2 ∷ boots ∷ [])
+unfolding judging
+reset_is_legal = ((omega arith, refl), ((omega arith, refl, refl, tt, refl), tt))
+
+parked : IsLegal board (parks ∷ resets 0 2 ∷ boots ∷ [])
+unfolding judging
+parked = ((omega arith, refl, refl, tt, refl), reset_is_legal)
+
+-- then it is woken by that start's number, and not by the first one's
+woken_again : IsLegal board (wakes 0 2 3 ∷ parks ∷ resets 0 2 ∷ boots ∷ [])
+unfolding judging
+woken_again = ((omega arith, (refl, refl)), ((omega arith, refl, refl, tt, refl), reset_is_legal))
+
+woken_by_the_first : IsLegal board (wakes 0 1 3 ∷ parks ∷ resets 0 2 ∷ boots ∷ []) → ⊥
+unfolding judging
+woken_by_the_first is = let e : 1 ≡ 2 = is.0.1.0 in omega (arith, e)
+
+-- the number of the start
+abbrev started_in : CtlReply → ℕ
+started_in (replied.Kick (kicks.Started s)) = s.number
+started_in reply = 9
+
+reset_by_another : IsLegal board (resets 0 3 ∷ boots ∷ []) → ⊥
+unfolding judging
+reset_by_another is = let e : 3 ≡ 2 = ap started_in is.0.1 in omega (arith, e)
+
+woken_by_another : IsLegal board (wakes 1 0 2 ∷ boots ∷ []) → ⊥
+unfolding judging
+woken_by_another is = let e : 2 ≡ 1 = ap started_in is.0.1.1 in omega (arith, e)
+
+-- a core that was started and has not entered is woken
+wakes_started : IsLegal board (wakes 0 1 2 ∷ []) → ⊥
+unfolding judging
+wakes_started is = let e = is.0.1 in cc
+
+-- No core of the board -------------------------------------------------------------------------
+
+no_core_woken : IsLegal board (wakes 4 0 1 ∷ []) → ⊥
+unfolding judging
+no_core_woken is = let e = is.0.0 in omega (arith, e)
+
+no_core_calls : IsLegal board (version 4 65537 ∷ boots ∷ []) → ⊥
+unfolding judging
+no_core_calls is = let e = is.0.0 in omega (arith, e)
+
+no_core_enters : IsLegal board (enters 4 (start 1 causes.Boot) 0x40000000 0 ∷ []) → ⊥
+unfolding judging
+no_core_enters is = let e = is.0.0 in omega (arith, e)
+
+-- The next life --------------------------------------------------------------------------------
+
+abbrev reset_0 : MessageValue
+reset_0 = message kinds.Reset 0 []
+
+-- the Start of the first life is ignored; the boot core enters by the first start of the second
+next_life : IsLegal board (enters 0 (record (start 1 causes.Boot) { life = 2 }) 0x40000000 0
+    ∷ Controlled (controlled (asks.Deliver start_3) (replied.Delivery deliveries.Ignored))
+    ∷ delivers reset_0 (ack kinds.Reset 0 1) ∷ stops 0 0x84000009 reset_0 ∷ on_3 ∷ boots ∷ [])
+unfolding judging
+next_life = (
+  (omega arith, refl, refl, tt, refl),
+  (
+    ((0, refl), refl),
+    (
+      ((1, refl), refl),
+      (
+        (omega arith, refl, tt, refl),
+        ((omega arith, refl, tt, refl), ((omega arith, refl, refl, tt, refl), tt)),
+      ),
+    ),
+  ),
+)

@@ -1,0 +1,255 @@
+-- Firmware and power controller agree after every legal run.
+use Rattle.std.proofs.Common.{◌≡◌, ℕ, List, [], ◌∷◌, ◌++◌, Option, None, Some, option_map, refl}
+use Rattle.std.proofs.Common.{unwrap_or, arith, subst, sym}
+use Rattle.psci_world_spec.specs.psci_abi.Calls.{request_of}
+use Rattle.psci_world_spec.specs.psci_abi.declared.registers.Regs.{Regs}
+use Rattle.psci_board.specs.Board.{BoardValue}
+use Rattle.psci_ctl_spec.specs.declared.call.CtlCall.{CtlCall}
+use Rattle.psci_ctl_spec.specs.Changes as controlling
+use Rattle.psci_ctl_spec.specs.Effects as controlling_effects
+use Rattle.psci_ctl_spec.specs.Exchange as controller
+use Rattle.psci_ctl_spec.specs.Follows.{MayFollow}
+use Rattle.psci_ctl_spec.specs.History as controls
+use Rattle.psci_ctl_spec.specs.Legal as legal_controls
+use Rattle.psci_ctl_spec.specs.Replies.{last_start, reply}
+use Rattle.psci_ctl_spec.specs.Values as controlled
+use Rattle.psci_ctl_spec.specs.psci_messages.declared.start.Start.{Start}
+use Rattle.psci_ctl_spec.specs.psci_messages.Message.{AckValue, MessageValue}
+use Rattle.psci_ctl_spec.specs.psci_messages.declared.taken.Taken.{Taken}
+use Rattle.psci_ctl_spec.specs.psci_messages.declared.taken.Taken.TheVariants as takens
+use Rattle.psci_fw_laws.specs.psci_fw_spec.After.{change}
+use Rattle.psci_fw_laws.specs.psci_fw_spec.Effects.{function_effect}
+use Rattle.psci_fw_laws.specs.psci_fw_spec.Exchange as firmware
+use Rattle.psci_fw_laws.specs.psci_fw_spec.Exchange.{effect}
+use Rattle.psci_fw_laws.specs.psci_fw_spec.History as remembers
+use Rattle.psci_fw_laws.specs.psci_fw_spec.Legal.{IsLegal}
+use Rattle.psci_fw_laws.specs.psci_fw_spec.Lives.{in_life, start_of_life}
+use Rattle.psci_fw_laws.specs.psci_fw_spec.Values.{Values}
+use Rattle.psci_fw_laws.specs.Allowed.{IsAllowed}
+use Rattle.psci_world_spec.specs.declared.event.Event.{Event}
+use Rattle.psci_world_spec.specs.declared.event.Event.TheVariants.{Call, Enter, Wake, Reset}
+use Rattle.psci_world_spec.specs.declared.event.Event.TheVariants.{Deliver, Take}
+use Rattle.psci_world_spec.specs.declared.place.Place.{Place}
+use Rattle.psci_world_spec.specs.declared.said.Record.{Record}
+use Rattle.psci_world_spec.specs.declared.said.Said.{Said}
+use Rattle.psci_world_spec.specs.declared.said.Said.TheVariants as said
+use Rattle.psci_world_spec.specs.Histories.{acks, control, controller_history}
+use Rattle.psci_world_spec.specs.Histories.{controller_values, delivered, entered}
+use Rattle.psci_world_spec.specs.Histories.{firmware_history, firmware_values, outcome_in, sent}
+use Rattle.psci_world_spec.specs.Histories.{took}
+use Rattle.psci_world_spec.specs.Legal.{IsLegalPast, legal}
+use Rattle.psci_world_spec.specs.Lists.{indexed}
+use Rattle.psci_world_spec.specs.Places.{first_place, place, place_controlled, place_said}
+use Rattle.psci_headline.specs.Agreement.{Agree, AgreeIn}
+use Rattle.psci_headline.proofs.Agreeing.{AreAgreed, at_start, control_agrees}
+use Rattle.psci_headline.proofs.Controlling.{after_control, more_controls}
+use Rattle.psci_headline.proofs.Happening.{called, entered_by}
+use Rattle.psci_headline.proofs.Making.{AreAfter}
+use Rattle.psci_headline.proofs.Moving.{CallerLaws, function_call}
+use Rattle.psci_headline.proofs.Placing.{acted, call_agrees, enter_agrees, take_agrees}
+use Rattle.psci_headline.proofs.Sending.{after_call, legal_call}
+
+-- What the laws of the crates below say of a board.
+pub record RunLaws (b : BoardValue) : Type 0 where
+  -- of the power controller's histories
+  pub begins : controls.values_of b [] ≡ controlled.start_of_life b
+  pub after : AreAfter b
+  pub follows : (v : controlled.Values) (call : CtlCall) → legal_controls.IsCall b call
+      → MayFollow b v (controlling_effects.effect_of b call (reply b v call))
+  pub controls : (past : List Record) → IsLegalPast b past
+      → legal_controls.IsLegal b (controller_history b past)
+  -- and of the firmware's
+  pub first : remembers.values_of b [] ≡ start_of_life b 0
+  pub change : (e : firmware.FwExchange) (h : List firmware.FwExchange)
+      → remembers.values_of b (e ∷ h) ≡ change b (effect b e) (remembers.values_of b h)
+  pub allowed : (e : firmware.FwExchange) (h : List firmware.FwExchange) → IsLegal b (e ∷ h)
+      → IsAllowed b (remembers.values_of b h) (effect b e)
+  pub callers : CallerLaws b
+
+-- The places after a record --------------------------------------------------------------------
+
+-- where each core is after a record, whose event says this
+abbrev pub place_next : BoardValue → List Record → Event → Said → ℕ → Place
+place_next b past event s x =
+    unwrap_or (place_said x event s)
+    (unwrap_or (place_controlled b x (control (controller_values b past) (sent past) event s))
+    (place b past x))
+
+-- what both know of each other after a past, and after one record more
+abbrev pub Now : BoardValue → List Record → Type 0
+Now b past = AreAgreed b (controller_values b past) (place b past) (firmware_values b past)
+
+abbrev pub Next : BoardValue → List Record → Event → Said → Type 0
+Next b past event s =
+    AreAgreed b (controls.values_of b (after_control b past event s)) (place_next b past event s)
+    (remembers.values_of b (after_call b past event s))
+
+-- The power controller -------------------------------------------------------------------------
+
+-- one exchange of its history
+control_next : (b : BoardValue) (past : List Record) (e : controller.CtlExchange) → RunLaws b
+    → Now b past → legal_controls.IsLegal b (e ∷ controller_history b past)
+    → AreAgreed b (controls.values_of b (e ∷ controller_history b past))
+    (λ x. unwrap_or (place_controlled b x (e ∷ [])) (place b past x)) (firmware_values b past)
+unfolding controlling.after
+control_next b past e laws now is =
+    let h : List controller.CtlExchange = controller_history b past in
+    let v : controlled.Values = controller_values b past in
+    let may : MayFollow b v (controlling_effects.effect_of b e.call e.reply) =
+    subst (λ r. MayFollow b v (controlling_effects.effect_of b e.call r)) (sym is.0)
+    (laws.follows v e.call is.1) in
+    subst (λ w. AreAgreed b w (λ x. unwrap_or (place_controlled b x (e ∷ [])) (place b past x))
+    (firmware_values b past))
+    (sym (laws.after e h))
+    (control_agrees b v (place b past) (firmware_values b past)
+    (controlling_effects.effect_of b e.call e.reply) may now)
+
+delivered_next : (b : BoardValue) (past : List Record) (o : Option MessageValue) (a : AckValue)
+    → RunLaws b → Now b past
+    → legal_controls.IsLegal b (delivered o a ++ controller_history b past)
+    → AreAgreed b (controls.values_of b (delivered o a ++ controller_history b past))
+    (λ x. unwrap_or (place_controlled b x (delivered o a)) (place b past x))
+    (firmware_values b past)
+delivered_next b past None a laws now is = now
+delivered_next b past (Some m) a laws now is = control_next b past _ laws now is
+
+wake_next : (b : BoardValue) (past : List Record) (c : ℕ) (s : Said) → RunLaws b → Now b past
+    → legal_controls.IsLegal b (after_control b past (Wake c) s) → Next b past (Wake c) s
+wake_next b past c (said.Fw act sends) laws now is = now
+wake_next b past c (said.Kick start) laws now is = control_next b past _ laws now is
+wake_next b past c (said.Acked index ack) laws now is = now
+wake_next b past c (said.Taken taken) laws now is = now
+wake_next b past c said.Ignored laws now is = now
+wake_next b past c said.Absent laws now is = now
+
+reset_next : (b : BoardValue) (past : List Record) (c : ℕ) (s : Said) → RunLaws b → Now b past
+    → legal_controls.IsLegal b (after_control b past (Reset c) s) → Next b past (Reset c) s
+reset_next b past c (said.Fw act sends) laws now is = now
+reset_next b past c (said.Kick start) laws now is = control_next b past _ laws now is
+reset_next b past c (said.Acked index ack) laws now is = now
+reset_next b past c (said.Taken taken) laws now is = now
+reset_next b past c said.Ignored laws now is = now
+reset_next b past c said.Absent laws now is = now
+
+deliver_next : (b : BoardValue) (past : List Record) (k : ℕ) (s : Said) → RunLaws b → Now b past
+    → legal_controls.IsLegal b (after_control b past (Deliver k) s) → Next b past (Deliver k) s
+deliver_next b past k (said.Fw act sends) laws now is = now
+deliver_next b past k (said.Kick start) laws now is = now
+deliver_next b past k (said.Acked index ack) laws now is =
+    delivered_next b past (indexed (sent past) k) ack laws now is
+deliver_next b past k (said.Taken taken) laws now is = now
+deliver_next b past k said.Ignored laws now is = now
+deliver_next b past k said.Absent laws now is = now
+
+-- The firmware ---------------------------------------------------------------------------------
+
+call_next : (b : BoardValue) (past : List Record) (c : ℕ) (regs : Regs) (s : Said) → RunLaws b
+    → Now b past → IsLegal b (after_call b past (Call c regs) s) → s ≡ legal b past (Call c regs)
+    → Next b past (Call c regs) s
+call_next b past c regs (said.Fw act sends) laws now is e =
+    let at = called b past c regs act sends e in
+    let m : Option MessageValue = option_map (λ s. s.message) sends in
+    let v : Values = firmware_values b past in
+    subst (AreAgreed b (controller_values b past) (acted (place b past) c act))
+    (sym (laws.change _ (firmware_history b past)))
+    (call_agrees b (controller_values b past) (place b past) v c act
+    (function_effect b c (request_of regs) act m) laws.callers at.core at.place
+    (function_call b c (request_of regs) act m) (laws.allowed _ (firmware_history b past) is) now)
+call_next b past c regs (said.Kick start) laws now is e = now
+call_next b past c regs (said.Acked index ack) laws now is e = now
+call_next b past c regs (said.Taken taken) laws now is e = now
+call_next b past c regs said.Ignored laws now is e = now
+call_next b past c regs said.Absent laws now is e = now
+
+enter_next : (b : BoardValue) (past : List Record) (c : ℕ) (s : Said) → RunLaws b → Now b past
+    → s ≡ legal b past (Enter c) → Next b past (Enter c) s
+enter_next b past c (said.Fw act sends) laws now e =
+    let at = entered_by b past c act sends e in
+    by_start (last_start (controller_values b past) c) at.start refl at.last
+  where
+    by_start : (o : Option Start) (s : Start) → last_start (controller_values b past) c ≡ o
+        → o ≡ Some s
+        → AreAgreed b (controller_values b past) (acted (place b past) c act)
+        (remembers.values_of b
+        (entered c o (outcome_in act sends) ++ firmware_history b past))
+    by_start None s f g = absurd (cc)
+    by_start (Some start) s f g =
+        subst (AreAgreed b (controller_values b past) (acted (place b past) c act))
+        (sym (laws.change _ (firmware_history b past)))
+        (enter_agrees b (controller_values b past) (place b past) (firmware_values b past) c start
+        act (option_map (λ s. s.message) sends) f now)
+enter_next b past c (said.Kick start) laws now e = now
+enter_next b past c (said.Acked index ack) laws now e = now
+enter_next b past c (said.Taken taken) laws now e = now
+enter_next b past c said.Ignored laws now e = now
+enter_next b past c said.Absent laws now e = now
+
+took_next : (b : BoardValue) (past : List Record) (o : Option AckValue) (t : Taken) → RunLaws b
+    → Now b past
+    → AreAgreed b (controller_values b past) (place b past)
+    (remembers.values_of b (took o t ++ firmware_history b past))
+took_next b past None t laws now = now
+took_next b past (Some a) takens.Used laws now =
+    subst (AreAgreed b (controller_values b past) (place b past))
+    (sym (laws.change _ (firmware_history b past)))
+    (take_agrees b (controller_values b past) (place b past) (firmware_values b past) a now)
+took_next b past (Some a) takens.Old laws now =
+    subst (AreAgreed b (controller_values b past) (place b past))
+    (sym (laws.change _ (firmware_history b past))) now
+
+take_next : (b : BoardValue) (past : List Record) (k : ℕ) (s : Said) → RunLaws b → Now b past
+    → Next b past (Take k) s
+take_next b past k (said.Fw act sends) laws now = now
+take_next b past k (said.Kick start) laws now = now
+take_next b past k (said.Acked index ack) laws now = now
+take_next b past k (said.Taken taken) laws now =
+    took_next b past (indexed (acks past) k) taken laws now
+take_next b past k said.Ignored laws now = now
+take_next b past k said.Absent laws now = now
+
+-- The whole run --------------------------------------------------------------------------------
+
+event_next : (b : BoardValue) (past : List Record) (event : Event) (s : Said) → RunLaws b
+    → Now b past → legal_controls.IsLegal b (after_control b past event s)
+    → IsLegal b (after_call b past event s) → s ≡ legal b past event → Next b past event s
+event_next b past (Call c regs) s laws now controls calls e =
+    call_next b past c regs s laws now calls e
+event_next b past (Enter c) s laws now controls calls e = enter_next b past c s laws now e
+event_next b past (Wake c) s laws now controls calls e = wake_next b past c s laws now controls
+event_next b past (Reset c) s laws now controls calls e = reset_next b past c s laws now controls
+event_next b past (Deliver k) s laws now controls calls e =
+    deliver_next b past k s laws now controls
+event_next b past (Take k) s laws now controls calls e = take_next b past k s laws now
+
+first_agreed : (b : BoardValue)
+    → AreAgreed b (controlled.start_of_life b) first_place (start_of_life b 0)
+first_agreed b = record {
+  begun = λ life e. omega arith;
+  stopped = λ e. absurd (cc);
+  present = λ life e. at_first life e;
+}
+  where
+    at_first : (life : ℕ) → (controlled.start_of_life b).life ≡ Some life
+        → AgreeIn b controlled.first_starts first_place
+        (in_life b life (start_of_life b 0))
+    at_first life e = let is : 1 ≡ life = cc in
+        subst (λ l. AgreeIn b controlled.first_starts
+        first_place (in_life b l (start_of_life b 0))) is
+        (at_start b 1)
+
+pub agreed : (b : BoardValue) → RunLaws b → (past : List Record) → IsLegalPast b past → Now b past
+unfolding controller_history firmware_history place
+agreed b laws [] is =
+    subst (λ v. AreAgreed b v first_place (remembers.values_of b [])) (sym laws.begins)
+    (subst (AreAgreed b (controlled.start_of_life b) first_place) (sym laws.first)
+    (first_agreed b))
+agreed b laws (r ∷ past) is =
+    event_next b past r.event r.said laws (agreed b laws past is.1)
+    (subst (legal_controls.IsLegal b) (more_controls b r past) (laws.controls (r ∷ past) is))
+    (legal_call b r past is) is.0
+
+pub agrees : (b : BoardValue) → RunLaws b → (past : List Record) → IsLegalPast b past
+    → Agree b past
+agrees b laws past is =
+    let all = agreed b laws past is in
+    record { begun = all.begun; stopped = all.stopped; present = all.present }

@@ -1,0 +1,47 @@
+-- The world is safe at a moment, and at every moment, where the tests say so.
+use Rattle.std.proofs.Common.{◌≡◌, ◌&&◌, ◌↔◌, true, List, [], ◌∷◌}
+use Rattle.std.proofs.lemmas.Bool.{and_from, and_parts}
+use Rattle.psci_fw_laws.specs.psci_board.Board.{BoardValue}
+use Rattle.psci_world_spec.specs.declared.said.Record.{Record}
+use Rattle.psci_headline.specs.Safe.{AlwaysSafe, Safe}
+use Rattle.psci_headline.specs.Test.{is_always_safe, is_asked, is_each_once, is_each_open}
+use Rattle.psci_headline.specs.Test.{is_off_down}
+use Rattle.psci_headline.specs.Test.{is_off_stopped, is_one, is_powered, is_safe}
+use Rattle.psci_headline.proofs.Once.{entries_tested}
+use Rattle.psci_headline.proofs.Tested.{asked_tested, off_tested, one_tested, powered_tested}
+use Rattle.psci_headline.proofs.Tested.{states_tested}
+
+pub safe_tested : (b : BoardValue) (past : List Record) → Safe b past → is_safe b past ≡ true
+safe_tested b past s =
+    and_from (is_powered b past) _ ((powered_tested b past).1 s.powered)
+    (and_from (is_off_stopped b past && is_off_down b past) _ ((off_tested b past).1 s.off)
+    (and_from (is_one b past) _ ((one_tested b past).1 s.one)
+    (and_from (is_asked b past) _ ((asked_tested b past).1 s.asked)
+    (and_from (is_each_open b past && is_each_once b past) _ ((entries_tested b past).1 s.entries)
+    ((states_tested b past).1 s.states)))))
+
+pub tested_safe : (b : BoardValue) (past : List Record) → is_safe b past ≡ true → Safe b past
+tested_safe b past e =
+    let first = and_parts (is_powered b past) _ e in
+    let second = and_parts (is_off_stopped b past && is_off_down b past) _ first.1 in
+    let third = and_parts (is_one b past) _ second.1 in
+    let fourth = and_parts (is_asked b past) _ third.1 in
+    let fifth = and_parts (is_each_open b past && is_each_once b past) _ fourth.1 in
+    record {
+      powered = (powered_tested b past).0 first.0;
+      off = (off_tested b past).0 second.0;
+      one = (one_tested b past).0 third.0;
+      asked = (asked_tested b past).0 fourth.0;
+      entries = (entries_tested b past).0 fifth.0;
+      states = (states_tested b past).0 fifth.1;
+    }
+
+pub always_tested : (b : BoardValue) (past : List Record)
+    → (is_always_safe b past ≡ true) ↔ AlwaysSafe b past
+always_tested b [] = (tested_safe b [], safe_tested b [])
+always_tested b (r ∷ past) = (
+  (λ e. let both = and_parts (is_safe b (r ∷ past)) (is_always_safe b past) e in
+      (tested_safe b (r ∷ past) both.0, (always_tested b past).0 both.1)),
+  λ h. and_from (is_safe b (r ∷ past)) (is_always_safe b past)
+      (safe_tested b (r ∷ past) h.0) ((always_tested b past).1 h.1),
+)

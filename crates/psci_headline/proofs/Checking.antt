@@ -1,0 +1,106 @@
+-- Worked examples are stated so: a run that is safe at every moment, and a moment at which just one
+-- thing is not as it shall be.
+use Rattle.std.proofs.Common.{◌≡◌, ◌++◌, Bool, true, false, ◌&&◌, List, [], ◌∷◌, refl}
+use Rattle.psci_fw_laws.specs.psci_board.Board.{BoardValue}
+use Rattle.psci_world_spec.specs.declared.event.Event.{Event}
+use Rattle.psci_world_spec.specs.declared.said.Record.{Record}
+use Rattle.psci_world_spec.specs.declared.said.Said.{Said}
+use Rattle.psci_world_spec.specs.Legal.{run_from}
+use Rattle.psci_world_spec.proofs.Scripts as scripts
+use Rattle.psci_headline.specs.Claims.{claims, live_claims}
+use Rattle.psci_headline.specs.Hardware.{was_in_state}
+use Rattle.psci_headline.specs.Moments.{was_powered_down}
+use Rattle.psci_headline.specs.Openings.{openings, taken_up}
+use Rattle.psci_headline.specs.Test.{is_always_safe, is_asked, is_each_once, is_each_open}
+use Rattle.psci_headline.specs.Test.{is_each_real, is_off_down, is_off_stopped, is_one, is_powered}
+use Rattle.psci_headline.specs.Test.{is_safe}
+
+-- what an example unfolds to compute the tests of a moment
+unfoldable pub computing : Unit {0}
+unfolding scripts.computing claims live_claims was_powered_down openings taken_up was_in_state
+computing = tt
+
+-- Safe runs -----------------------------------------------------------------------------------
+
+-- the world is safe before and after each of these events
+abbrev pub IsSafeRun : BoardValue → List Event → Type 0
+IsSafeRun b events = is_always_safe b (run_from b [] events) ≡ true
+
+-- Unsafe moments ------------------------------------------------------------------------------
+
+infix 80 ◌⇒◌
+-- Steps of a run: events of which that is said which is legal, or one of which this is said.
+pub data Steps : Type 0 where
+  Legal : (events : List Event) → Steps
+  ◌⇒◌ : (event : Event) (said : Said) → Steps
+
+-- the records after these steps, the first step first
+abbrev pub past_from : BoardValue → List Record → List Steps → List Record
+past_from b past [] = past
+past_from b past (Legal events ∷ steps) = past_from b (run_from b past events) steps
+past_from b past ((event ⇒ said) ∷ steps) =
+    past_from b (record { event = event; said = said } ∷ past) steps
+
+-- What is said of a moment, each by itself.
+pub data Clause : Type 0 where
+  Powered : Clause
+  Stopped : Clause
+  PoweredDown : Clause
+  One : Clause
+  Asked : Clause
+  Open : Clause
+  Once : Clause
+  Real : Clause
+
+-- this one, if its test fails
+abbrev pub if_fails : Bool → Clause → List Clause
+if_fails true k = []
+if_fails false k = k ∷ []
+
+-- all whose tests fail
+abbrev pub failing : BoardValue → List Record → List Clause
+failing b past =
+    if_fails (is_powered b past) Powered
+    ++ (if_fails (is_off_stopped b past) Stopped
+    ++ (if_fails (is_off_down b past) PoweredDown
+    ++ (if_fails (is_one b past) One
+    ++ (if_fails (is_asked b past) Asked
+    ++ (if_fails (is_each_open b past) Open
+    ++ (if_fails (is_each_once b past) Once
+    ++ if_fails (is_each_real b past) Real))))))
+
+-- after these steps just these fail
+abbrev pub BreakAll : BoardValue → List Clause → List Steps → Type 0
+BreakAll b ks steps = failing b (past_from b [] steps) ≡ ks
+
+-- where something fails the world is not safe
+unsafe_where : (a b c d e f g h : Bool) (k : Clause) (ks : List Clause)
+    → if_fails a Powered ++ (if_fails b Stopped ++ (if_fails c PoweredDown ++ (if_fails d One
+    ++ (if_fails e Asked ++ (if_fails f Open ++ (if_fails g Once ++ if_fails h Real)))))) ≡ k ∷ ks
+    → (a && ((b && c) && (d && (e && ((f && g) && h))))) ≡ false
+unsafe_where false b c d e f g h k ks some = refl
+unsafe_where true false c d e f g h k ks some = refl
+unsafe_where true true false d e f g h k ks some = refl
+unsafe_where true true true false e f g h k ks some = refl
+unsafe_where true true true true false f g h k ks some = refl
+unsafe_where true true true true true false g h k ks some = refl
+unsafe_where true true true true true true false h k ks some = refl
+unsafe_where true true true true true true true false k ks some = refl
+unsafe_where true true true true true true true true k ks some = absurd (cc)
+
+-- so after such steps the world is not safe
+pub broken : (b : BoardValue) (past : List Record) (k : Clause) (ks : List Clause)
+    → failing b past ≡ k ∷ ks → is_safe b past ≡ false
+broken b past k ks =
+    unsafe_where (is_powered b past) (is_off_stopped b past) (is_off_down b past) (is_one b past)
+    (is_asked b past) (is_each_open b past) (is_each_once b past)
+    (is_each_real b past) k ks
+
+-- after these steps just this one fails
+abbrev pub Breaks : BoardValue → Clause → List Steps → Type 0
+Breaks b k steps = BreakAll b (k ∷ []) steps
+
+-- after these steps the world is safe, but it was not at each moment before
+abbrev pub WasUnsafe : BoardValue → List Steps → Type 0
+WasUnsafe b steps =
+    let past = past_from b [] steps in (is_safe b past ≡ true) × (is_always_safe b past ≡ false)

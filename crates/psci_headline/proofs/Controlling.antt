@@ -1,0 +1,118 @@
+-- The power controller's history of a legal run is one of its legal histories.
+use Rattle.std.proofs.Common.{◌≡◌, ℕ, ◌≤◌, List, [], ◌∷◌, ◌++◌, Option, None, Some, arith}
+use Rattle.std.proofs.Common.{refl, subst}
+use Rattle.std.specs.Prelude.{slice_get}
+use Rattle.psci_board.specs.Board.{BoardValue, cores}
+use Rattle.psci_board.specs.declared.limits.TheConstants.{MOST_CORES}
+use Rattle.psci_ctl_spec.specs.Exchange as controller
+use Rattle.psci_ctl_spec.specs.Legal as controls
+use Rattle.psci_fw_laws.specs.Messages.{IsSound}
+use Rattle.psci_ctl_spec.specs.psci_messages.Message.{AckValue, MessageValue}
+use Rattle.psci_world_spec.specs.declared.event.Event.{Event}
+use Rattle.psci_world_spec.specs.declared.event.Event.TheVariants.{Call, Enter, Wake, Reset}
+use Rattle.psci_world_spec.specs.declared.event.Event.TheVariants.{Deliver, Take}
+use Rattle.psci_world_spec.specs.declared.said.Record.{Record}
+use Rattle.psci_world_spec.specs.declared.said.Said.{Said}
+use Rattle.psci_world_spec.specs.declared.said.Said.TheVariants as said
+use Rattle.psci_world_spec.specs.Histories.{control, controller_history, controller_values}
+use Rattle.psci_world_spec.specs.Histories.{delivered, sent}
+use Rattle.psci_world_spec.specs.Legal.{IsReplied, IsLegalPast, legal}
+use Rattle.psci_world_spec.specs.Lists.{indexed}
+use Rattle.psci_world_spec.proofs.Answered.{controller_answered}
+use Rattle.psci_headline.proofs.Happening.{reset_at, woken_at}
+use Rattle.psci_headline.proofs.Numbering.{at_number}
+
+-- a message that the firmware sends can be sent on its board
+pub sendable : (b : BoardValue) (m : MessageValue) → cores b ≤ MOST_CORES → IsSound b m
+    → controls.IsSendable b m
+sendable b m most sound = record {
+  message = record { core = omega (arith, most, sound.core); parts = sound.parts };
+  board = record { core = sound.core; levels = sound.few };
+}
+
+-- each of these messages can be sent on the board
+abbrev pub AreSendable : BoardValue → List MessageValue → Type 0
+AreSendable b messages =
+    (k : ℕ) (m : MessageValue) → slice_get messages k ≡ Some m → controls.IsSendable b m
+
+-- the history after a record, whose event says this
+abbrev pub after_control : BoardValue → List Record → Event → Said → List controller.CtlExchange
+after_control b past event s =
+    control (controller_values b past) (sent past) event s ++ controller_history b past
+
+-- Events ---------------------------------------------------------------------------------------
+
+deliver_legal : (b : BoardValue) (h : List controller.CtlExchange) (messages : List MessageValue)
+    (k : ℕ) (o : Option MessageValue) (ack : AckValue) → AreSendable b messages
+    → indexed messages k ≡ o → IsReplied b (delivered o ack ++ h) → controls.IsLegal b h
+    → controls.IsLegal b (delivered o ack ++ h)
+deliver_legal b h messages k None ack are e answered is = is
+deliver_legal b h messages k (Some m) ack are e answered is =
+    let at = at_number messages k m e in
+    (answered.0, are at.index m at.at, is)
+
+delivery_legal : (b : BoardValue) (past : List Record) (k : ℕ) (s : Said)
+    → AreSendable b (sent past) → IsReplied b (after_control b past (Deliver k) s)
+    → controls.IsLegal b (controller_history b past)
+    → controls.IsLegal b (after_control b past (Deliver k) s)
+delivery_legal b past k (said.Fw act sends) are answered is = is
+delivery_legal b past k (said.Kick start) are answered is = is
+delivery_legal b past k (said.Acked index ack) are answered is =
+    deliver_legal b (controller_history b past) (sent past) k (indexed (sent past) k) ack are refl
+    answered is
+delivery_legal b past k (said.Taken taken) are answered is = is
+delivery_legal b past k said.Ignored are answered is = is
+delivery_legal b past k said.Absent are answered is = is
+
+wake_legal : (b : BoardValue) (past : List Record) (c : ℕ) (s : Said)
+    → IsReplied b (after_control b past (Wake c) s)
+    → controls.IsLegal b (controller_history b past) → s ≡ legal b past (Wake c)
+    → controls.IsLegal b (after_control b past (Wake c) s)
+wake_legal b past c (said.Fw act sends) answered is e = is
+wake_legal b past c (said.Kick start) answered is e =
+    (answered.0, woken_at b past c start e, is)
+wake_legal b past c (said.Acked index ack) answered is e = is
+wake_legal b past c (said.Taken taken) answered is e = is
+wake_legal b past c said.Ignored answered is e = is
+wake_legal b past c said.Absent answered is e = is
+
+reset_legal : (b : BoardValue) (past : List Record) (c : ℕ) (s : Said)
+    → IsReplied b (after_control b past (Reset c) s)
+    → controls.IsLegal b (controller_history b past) → s ≡ legal b past (Reset c)
+    → controls.IsLegal b (after_control b past (Reset c) s)
+reset_legal b past c (said.Fw act sends) answered is e = is
+reset_legal b past c (said.Kick start) answered is e =
+    (answered.0, reset_at b past c start e, is)
+reset_legal b past c (said.Acked index ack) answered is e = is
+reset_legal b past c (said.Taken taken) answered is e = is
+reset_legal b past c said.Ignored answered is e = is
+reset_legal b past c said.Absent answered is e = is
+
+event_legal : (b : BoardValue) (past : List Record) (event : Event) (s : Said)
+    → AreSendable b (sent past) → IsReplied b (after_control b past event s)
+    → controls.IsLegal b (controller_history b past) → s ≡ legal b past event
+    → controls.IsLegal b (after_control b past event s)
+event_legal b past (Call c regs) s are answered is e = is
+event_legal b past (Enter c) s are answered is e = is
+event_legal b past (Wake c) s are answered is e = wake_legal b past c s answered is e
+event_legal b past (Reset c) s are answered is e = reset_legal b past c s answered is e
+event_legal b past (Deliver k) s are answered is e = delivery_legal b past k s are answered is
+event_legal b past (Take k) s are answered is e = is
+
+-- The whole run --------------------------------------------------------------------------------
+
+-- what a record adds to the controller's history
+pub more_controls : (b : BoardValue) (r : Record) (past : List Record)
+    → controller_history b (r ∷ past) ≡ after_control b past r.event r.said
+unfolding controller_history
+more_controls b r past = refl
+
+pub controls_legal : (b : BoardValue)
+    → ((past : List Record) → IsLegalPast b past → AreSendable b (sent past))
+    → (past : List Record) → IsLegalPast b past → controls.IsLegal b (controller_history b past)
+unfolding controller_history
+controls_legal b are [] is = tt
+controls_legal b are (r ∷ past) is =
+    event_legal b past r.event r.said (are past is.1)
+    (subst (IsReplied b) (more_controls b r past) (controller_answered b (r ∷ past) is))
+    (controls_legal b are past is.1) is.0

@@ -1,0 +1,152 @@
+-- Entries take up openings, each one of its own, where the tests say so.
+use Rattle.std.proofs.Common.{◌≡◌, ◌==◌, ◌&&◌, ◌↔◌, ℕ, zero, suc, true, not, List, []}
+use Rattle.std.proofs.Common.{◌∷◌, Option, None, Some, slice_get, refl, sym, ap, ◌∙◌, arith, inl}
+use Rattle.std.proofs.Common.{inr}
+use Rattle.std.specs.List.{list_all}
+use Rattle.std.proofs.lemmas.Bool.{and_from, and_parts, both_ways, eq-eqb, eqb-true, cases_Bool}
+use Rattle.std.proofs.lemmas.Bool.{not-true, not_from_false}
+use Rattle.psci_fw_laws.specs.psci_board.Board.{BoardValue}
+use Rattle.psci_fw_laws.specs.psci_fw_spec.declared.opening.Opening.{Opening}
+use Rattle.psci_world_spec.specs.declared.said.Record.{Record}
+use Rattle.psci_world_spec.specs.Histories.{firmware_history}
+use Rattle.psci_headline.specs.Openings.{AreTakenUp, Fits, Made, Maker, OfCall, OfLife}
+use Rattle.psci_headline.specs.Openings.{TakenUp, taken_up}
+use Rattle.psci_headline.specs.Test.{are_apart, is_each_once, is_each_open, is_fitting}
+use Rattle.psci_headline.specs.Test.{is_same_made, is_same_maker}
+use Rattle.psci_headline.proofs.Ranges.{all_items, each_item}
+
+-- One entry -----------------------------------------------------------------------------------
+
+opening_same : (o p : Opening) → (o.address == p.address && o.context == p.context) ≡ true → o ≡ p
+opening_same o p e =
+    let parts = and_parts (o.address == p.address) (o.context == p.context) e in
+    let address : o.address ≡ p.address = eqb-true o.address p.address parts.0 in
+    let context : o.context ≡ p.context = eqb-true o.context p.context parts.1 in
+    λ i. record { address = address i; context = context i }
+
+opening_itself : (o p : Opening) → o ≡ p
+    → (o.address == p.address && o.context == p.context) ≡ true
+opening_itself o p same =
+    and_from (o.address == p.address) (o.context == p.context)
+    (eq-eqb o.address p.address (ap (λ (x : Opening). x.address) same))
+    (eq-eqb o.context p.context (ap (λ (x : Opening). x.context) same))
+
+-- an opening that fits
+abbrev HasFit : TakenUp → Type 0
+HasFit t = (m : Made) × (t.made ≡ Some m) × Fits t m
+
+fits : (t : TakenUp) (o : Option Made) → t.made ≡ o → is_fitting t.entered o ≡ true → HasFit t
+fits t None is e = absurd (cc)
+fits t (Some m) is e =
+    let both = and_parts (m.core == t.entered.core && m.life == t.entered.life) _ e in
+    let own = and_parts (m.core == t.entered.core) (m.life == t.entered.life) both.0 in (
+      m,
+      is,
+      record {
+        core = eqb-true m.core t.entered.core own.0;
+        life = eqb-true m.life t.entered.life own.1;
+        opening = opening_same m.opening t.entered.opening both.1;
+      },
+    )
+
+fitting : (t : TakenUp) → HasFit t → is_fitting t.entered t.made ≡ true
+fitting t (m, is, f) =
+    ap (is_fitting t.entered) is
+    ∙ and_from (m.core == t.entered.core && m.life == t.entered.life) _
+    (and_from (m.core == t.entered.core) (m.life == t.entered.life)
+    (eq-eqb m.core t.entered.core f.core) (eq-eqb m.life t.entered.life f.life))
+    (opening_itself m.opening t.entered.opening f.opening)
+
+-- No two --------------------------------------------------------------------------------------
+
+maker_same : (m n : Maker) → is_same_maker m n ≡ true → m ≡ n
+maker_same (OfLife life) (OfLife other) e = ap OfLife (eqb-true life other e)
+maker_same (OfCall before) (OfCall other) e = ap OfCall (eqb-true before other e)
+maker_same (OfLife life) (OfCall other) e = absurd (cc)
+maker_same (OfCall before) (OfLife other) e = absurd (cc)
+
+maker_itself : (m : Maker) → is_same_maker m m ≡ true
+maker_itself (OfLife life) = eq-eqb life life refl
+maker_itself (OfCall before) = eq-eqb before before refl
+
+-- two openings that are the same one
+record AreSame (made other : Option Made) : Type 0 where
+  one : Made
+  two : Made
+  is : made ≡ Some one
+  so : other ≡ Some two
+  maker : one.maker ≡ two.maker
+
+same_made : (made other : Option Made) → is_same_made made other ≡ true → AreSame made other
+same_made (Some m) (Some n) e =
+    record { one = m; two = n; is = refl; so = refl; maker = maker_same m.maker n.maker e }
+same_made (Some m) None e = absurd (cc)
+same_made None other e = absurd (cc)
+
+made_same : (made other : Option Made) (m n : Made) → made ≡ Some m → other ≡ Some n
+    → m.maker ≡ n.maker → is_same_made made other ≡ true
+made_same made other m n is so maker = rw (is, so) (
+    ap (is_same_maker m.maker) (sym maker) ∙ maker_itself m.maker)
+
+-- no two of them took up the same opening
+abbrev AreOnce : List TakenUp → Type 0
+AreOnce ts = (j k : ℕ) (t u : TakenUp) (m n : Made) → slice_get ts j ≡ Some t
+    → slice_get ts k ≡ Some u → t.made ≡ Some m → u.made ≡ Some n → m.maker ≡ n.maker → j ≡ k
+
+-- the first one and a later one took up different openings
+later_apart : (t : TakenUp) (ts : List TakenUp) (k : ℕ) (u : TakenUp) (m n : Made)
+    → are_apart (t ∷ ts) ≡ true → slice_get ts k ≡ Some u → t.made ≡ Some m → u.made ≡ Some n
+    → m.maker ≡ n.maker → ⊥
+later_apart t ts k u m n e at is so maker =
+    let apart : not (is_same_made t.made u.made) ≡ true =
+    each_item (λ x. not (is_same_made t.made x.made)) ts k u
+    (and_parts (list_all (λ x. not (is_same_made t.made x.made)) ts) (are_apart ts) e).0 at in
+    both_ways (is_same_made t.made u.made) (not-true _ apart)
+    (made_same t.made u.made m n is so maker)
+
+once : (ts : List TakenUp) → are_apart ts ≡ true → AreOnce ts
+once [] e j k t u m n at too is so maker = absurd (cc)
+once (x ∷ xs) e zero zero t u m n at too is so maker = refl
+once (x ∷ xs) e zero (suc k) t u m n at too is so maker =
+    let same : x ≡ t = cc in
+    absurd (later_apart x xs k u m n e too (ap (λ (y : TakenUp). y.made) same ∙ is) so maker)
+once (x ∷ xs) e (suc j) zero t u m n at too is so maker =
+    let same : x ≡ u = cc in
+    absurd (later_apart x xs j t n m e at (ap (λ (y : TakenUp). y.made) same ∙ so) is (sym maker))
+once (x ∷ xs) e (suc j) (suc k) t u m n at too is so maker =
+    let rest = (and_parts (list_all (λ y. not (is_same_made x.made y.made)) xs) _ e).1 in
+    ap suc (once xs rest j k t u m n at too is so maker)
+
+apart : (ts : List TakenUp) → AreOnce ts → are_apart ts ≡ true
+apart [] h = refl
+apart (x ∷ xs) h =
+    and_from (list_all (λ y. not (is_same_made x.made y.made)) xs) (are_apart xs)
+    (all_items (λ y. not (is_same_made x.made y.made)) xs (λ k u at.
+    elim (cases_Bool (is_same_made x.made u.made)) [
+      | inl same ↦ let s = same_made x.made u.made same in
+          absurd (omega (arith, h 0 (suc k) x u s.one s.two refl at s.is s.so s.maker))
+      | inr other ↦ not_from_false (is_same_made x.made u.made) other
+    ]))
+    (apart xs (λ j k t u m n at too is so maker.
+    omega (arith, h (suc j) (suc k) t u m n at too is so maker)))
+
+-- All entries ---------------------------------------------------------------------------------
+
+-- what is taken up in the history of these records
+abbrev ups : BoardValue → List Record → List TakenUp
+ups b past = taken_up b (firmware_history b past)
+
+pub entries_tested : (b : BoardValue) (past : List Record)
+    → ((is_each_open b past && is_each_once b past) ≡ true)
+    ↔ AreTakenUp b (firmware_history b past)
+entries_tested b past = (
+  (λ e. let both = and_parts (is_each_open b past) (is_each_once b past) e in record {
+    each = λ k t at. fits t t.made refl
+        (each_item (λ t. is_fitting t.entered t.made) (ups b past) k t both.0 at);
+    once = once (ups b past) both.1;
+  }),
+  λ h. and_from (is_each_open b past) (is_each_once b past)
+      (all_items (λ t. is_fitting t.entered t.made) (ups b past)
+      (λ k t at. fitting t (h.each k t at)))
+      (apart (ups b past) h.once),
+)

@@ -1,0 +1,79 @@
+-- Worked examples: a run in which no core at its place is refused, and records after which one is.
+use Rattle.std.proofs.Common.{◌≡◌, ◌<◌, ℕ, zero, suc, List, [], ◌∷◌, None, Some, refl}
+use Rattle.std.proofs.Common.{arith, ap, ◌∙◌}
+use Rattle.std.proofs.lemmas.Option.{same_Some}
+use Rattle.psci_board.specs.Board.{cores}
+use Rattle.psci_ctl_spec.specs.psci_messages.declared.start.Cause.TheVariants as causes
+use Rattle.psci_ctl_spec.specs.psci_messages.declared.start.Start.{Start}
+use Rattle.psci_ctl_spec.specs.Replies.{last_start}
+use Rattle.psci_fw_laws.specs.psci_fw_spec.declared.fault.FwFault.TheVariants.{NoLife, NotRunning}
+use Rattle.psci_fw_laws.specs.psci_fw_spec.Calls.{call_fault}
+use Rattle.psci_fw_laws.specs.psci_fw_spec.Entering.{enter_fault}
+use Rattle.psci_world_spec.specs.declared.event.Event.TheVariants.{Enter, Wake, Deliver}
+use Rattle.psci_world_spec.specs.declared.place.Place.TheVariants.{Started, Running, Stopped}
+use Rattle.psci_world_spec.specs.declared.said.Record.{Record}
+use Rattle.psci_world_spec.specs.Histories.{controller_values, firmware_values}
+use Rattle.psci_world_spec.specs.Legal.{run_from}
+use Rattle.psci_world_spec.specs.Places.{place}
+use Rattle.psci_world_spec.proofs.Scripts.{board, computing, enters, limited, started, system_off}
+use Rattle.psci_headline.specs.Refusals.{NoneRefused}
+
+-- Not refused ----------------------------------------------------------------------------------
+
+-- core 0 runs, core 3 is started, and the others are stopped
+abbrev woken : List Record
+woken = run_from board [] (Enter 0 ∷ Wake 3 ∷ [])
+
+calls : (c : ℕ) → c < cores board → place board woken c ≡ Running
+    → call_fault board (firmware_values board woken) c ≡ None
+unfolding computing
+calls zero on runs = refl
+calls (suc zero) on runs = let no : Stopped ≡ Running = runs in absurd (cc)
+calls (suc (suc zero)) on runs = let no : Stopped ≡ Running = runs in absurd (cc)
+calls (suc (suc (suc zero))) on runs = let no : Started ≡ Running = runs in absurd (cc)
+calls (suc (suc (suc (suc c)))) on runs =
+    let no : suc (suc (suc (suc c))) < 4 = on in absurd (omega (arith, no))
+
+enters_at : (c : ℕ) → c < cores board → place board woken c ≡ Started
+    → (s : Start) × (last_start (controller_values board woken) c ≡ Some s)
+    × (enter_fault board (firmware_values board woken) c s ≡ None)
+unfolding computing
+enters_at zero on waits = let no : Running ≡ Started = waits in absurd (cc)
+enters_at (suc zero) on waits = let no : Stopped ≡ Started = waits in absurd (cc)
+enters_at (suc (suc zero)) on waits = let no : Stopped ≡ Started = waits in absurd (cc)
+enters_at (suc (suc (suc zero))) on waits =
+    (record { life = 1; number = 1; cause = causes.Wake }, refl, refl)
+enters_at (suc (suc (suc (suc c)))) on waits =
+    let no : suc (suc (suc (suc c))) < 4 = on in absurd (omega (arith, no))
+
+none_refused : NoneRefused board woken
+none_refused = record { calls = calls; enters = enters_at }
+
+-- Refused --------------------------------------------------------------------------------------
+
+-- a core that entered without a start runs, and the firmware knows of no entry
+refused_call : NoneRefused board (record { event = Enter 3; said = enters 0x40001000 7 }
+    ∷ run_from board [] (Enter 0 ∷ [])) → ⊥
+unfolding computing
+refused_call h =
+    let no : Some NotRunning ≡ None = h.calls 3 (omega arith) refl in absurd (cc)
+
+-- a core that was woken once no life was left has no start to enter by
+no_start : NoneRefused board (record { event = Wake 3; said = started 1 1 causes.Wake }
+    ∷ run_from board [] (Enter 0 ∷ system_off 0 ∷ Deliver 0 ∷ [])) → ⊥
+unfolding computing
+no_start h =
+    let enter = h.enters 3 (omega arith) refl in
+    let no : None ≡ Some enter.0 = enter.1 in absurd (cc)
+
+-- where the board has no lives the first start is refused
+refused_entry : NoneRefused (limited 1000 0) [] → ⊥
+unfolding computing
+refused_entry h =
+    let enter = h.enters 0 (omega arith) refl in
+    let same : Some (record { life = 1; number = 1; cause = causes.Boot }) ≡ Some enter.0 =
+    enter.1 in
+    let no : Some NoLife ≡ None =
+    ap (enter_fault (limited 1000 0) (firmware_values (limited 1000 0) []) 0)
+    (same_Some _ enter.0 same) ∙ enter.2 in
+    absurd (cc)

@@ -1,0 +1,134 @@
+-- No core at its place is refused.
+use Rattle.std.proofs.Common.{◌≡◌, ◌⊎◌, ℕ, ◌<◌, ◌≤◌, ◌==◌, ◌&&◌, ◌||◌, Bool, true, false, cond, not}
+use Rattle.std.proofs.Common.{Option, None, Some, refl, arith, subst, ap, sym, ◌∙◌, inl, inr}
+use Rattle.std.specs.Prelude.{nat_le, nat_lt}
+use Rattle.std.proofs.lemmas.Bool.{and_left, and_right, cases_eq, cond-false, le-ltb}
+use Rattle.std.proofs.lemmas.Bool.{lt-leb, lt-ltb, ne_eqb, or_from}
+use Rattle.psci_board.specs.Board.{BoardValue, cores}
+use Rattle.psci_ctl_spec.specs.psci_messages.declared.start.Start.{Start}
+use Rattle.psci_ctl_spec.specs.Follows as controlling
+use Rattle.psci_ctl_spec.specs.Replies.{last_start, start_shown}
+use Rattle.psci_ctl_spec.specs.Values as controlled
+use Rattle.psci_fw_laws.specs.psci_fw_spec.declared.fault.FwFault.TheVariants as faults
+use Rattle.psci_fw_laws.specs.psci_fw_spec.Calls.{call_fault}
+use Rattle.psci_fw_laws.specs.psci_fw_spec.Entering.{enter_fault, is_old}
+use Rattle.psci_fw_laws.specs.psci_fw_spec.Lives.{in_life}
+use Rattle.psci_fw_laws.specs.psci_fw_spec.Phases as phases
+use Rattle.psci_fw_laws.specs.psci_fw_spec.Phases.{is_running}
+use Rattle.psci_fw_laws.specs.psci_fw_spec.Values.{Values}
+use Rattle.psci_world_spec.specs.declared.place.Place.{Place}
+use Rattle.psci_world_spec.specs.declared.place.Place.TheVariants.{Started, Running, Stopped}
+use Rattle.psci_headline.proofs.Agreeing.{AreAgreed, found_own}
+use Rattle.psci_headline.proofs.Placing.{own_life}
+
+-- The life of a core that is not stopped.
+record IsAlive (u : controlled.Values) : Type 0 where
+  pub life : ℕ
+  pub is : u.life ≡ Some life
+
+alive : (b : BoardValue) (u : controlled.Values) (place : ℕ → Place) (v : Values) (c : ℕ)
+    → AreAgreed b u place v → (place c ≡ Stopped → ⊥) → IsAlive u
+alive b u place v c h ne = by_life u.life refl
+  where
+    by_life : (o : Option ℕ) → u.life ≡ o → IsAlive u
+    by_life None e = absurd (ne (h.stopped e c))
+    by_life (Some life) e = record { life = life; is = e }
+
+-- Calls ----------------------------------------------------------------------------------------
+
+call_passes : (absent lifeless runs : Bool) → absent ≡ false → lifeless ≡ false → runs ≡ true
+    → cond absent (Some faults.NoCore) (cond lifeless (Some faults.NoLife)
+    (cond runs None (Some faults.NotRunning)))
+    ≡ None
+call_passes true lifeless runs e f g = absurd (cc)
+call_passes false true runs e f g = absurd (cc)
+call_passes false false true e f g = refl
+call_passes false false false e f g = absurd (cc)
+
+-- a core of the board is there
+there : (b : BoardValue) (c : ℕ) → c < cores b → not (nat_lt c (cores b)) ≡ false
+there b c on = ap not (lt-ltb c (cores b) on)
+
+pub call_passed : (b : BoardValue) (u : controlled.Values) (place : ℕ → Place) (v : Values)
+    (c : ℕ) → controlling.AreValues b u → AreAgreed b u place v → c < cores b
+    → place c ≡ Running → call_fault b v c ≡ None
+call_passed b u place v c are h on at =
+    let is : IsAlive u = alive b u place v c h
+    (λ e. let no : Running ≡ Stopped = sym at ∙ e in cc) in
+    let runs : (in_life b is.life v).phase c ≡ phases.Running =
+    (h.present is.life is.is).runs c on at in
+    let own : is.life ≡ v.life = own_life b is.life v c runs in
+    let now : v.phase c ≡ phases.Running =
+    subst (λ (w : Values). w.phase c ≡ phases.Running) (found_own b is.life v own) runs in
+    call_passes (not (nat_lt c (cores b))) (v.life == 0) (is_running (v.phase c)) (there b c on)
+    (ne_eqb v.life 0 (λ e. omega (arith, e, own, are.first is.life is.is)))
+    (ap is_running now)
+
+-- Entries --------------------------------------------------------------------------------------
+
+enter_passes : (absent lifeless old : Bool) → absent ≡ false → lifeless ≡ false → old ≡ false
+    → cond absent (Some faults.NoCore) (cond lifeless (Some faults.NoLife)
+    (cond old (Some faults.OldStart) None))
+    ≡ None
+enter_passes true lifeless old e f g = absurd (cc)
+enter_passes false true old e f g = absurd (cc)
+enter_passes false false true e f g = absurd (cc)
+enter_passes false false false e f g = refl
+
+-- A start that is new to the core.
+record IsNew (b : BoardValue) (v : Values) (c : ℕ) (s : Start) : Type 0 where
+  pub begun : 0 < s.life
+  pub lives : s.life ≤ b.lives
+  pub life : v.life ≤ s.life
+  pub some : 0 < s.number
+  pub most : s.number ≤ b.starts
+  pub later : s.life ≡ v.life → v.known c < s.number
+
+not_old : (b : BoardValue) (v : Values) (c : ℕ) (s : Start) → IsNew b v c s
+    → is_old b v c s ≡ false
+not_old b v c s new =
+    or_from (nat_lt s.life v.life) _ (le-ltb s.life v.life new.life)
+    (or_from (s.number == 0) _ (ne_eqb s.number 0 (λ e. omega (arith, e, new.some)))
+    (or_from (nat_lt b.starts s.number) _ (le-ltb b.starts s.number new.most)
+    (by_cases (cases_eq s.life v.life))))
+  where
+    by_cases : (s.life ≡ v.life) ⊎ (s.life ≡ v.life → ⊥)
+        → (s.life == v.life && nat_le s.number (v.known c)) ≡ false
+    by_cases (inl e) =
+        and_right (s.life == v.life) _ (lt-leb s.number (v.known c) (new.later e))
+    by_cases (inr ne) = and_left (s.life == v.life) _ (ne_eqb s.life v.life ne)
+
+new_passed : (b : BoardValue) (v : Values) (c : ℕ) (s : Start) → c < cores b → IsNew b v c s
+    → enter_fault b v c s ≡ None
+new_passed b v c s on new =
+    enter_passes (not (nat_lt c (cores b))) (s.life == 0 || nat_lt b.lives s.life)
+    (is_old b v c s) (there b c on)
+    (or_from (s.life == 0) _ (ne_eqb s.life 0 (λ e. omega (arith, e, new.begun)))
+    (le-ltb b.lives s.life new.lives))
+    (not_old b v c s new)
+
+pub enter_passed : (b : BoardValue) (u : controlled.Values) (place : ℕ → Place) (v : Values)
+    (c : ℕ) → controlling.AreValues b u → AreAgreed b u place v → c < cores b
+    → place c ≡ Started
+    → (s : Start) × (last_start u c ≡ Some s) × (enter_fault b v c s ≡ None)
+enter_passed b u place v c are h on at =
+    let is : IsAlive u = alive b u place v c h
+    (λ e. let no : Started ≡ Stopped = sym at ∙ e in cc) in
+    let waits : (in_life b is.life v).known c < u.starts c =
+    (h.present is.life is.is).waits c on at in
+    let s : Start = record { life = is.life; number = u.starts c; cause = u.cause c } in
+    let last : last_start u c ≡ Some s =
+    ap (λ (o : Option ℕ). start_shown o (u.starts c) (u.cause c)) is.is
+    ∙ cond-false (u.starts c == 0) None (Some s)
+    (ne_eqb (u.starts c) 0 (λ e. omega (arith, e, waits))) in (
+      s,
+      last,
+      new_passed b v c s on (record {
+        begun = are.first is.life is.is;
+        lives = are.last is.life is.is;
+        life = h.begun is.life is.is;
+        some = omega (arith, waits);
+        most = are.starts c;
+        later = λ e. subst (λ (w : Values). w.known c < u.starts c) (found_own b is.life v e) waits;
+      }),
+    )

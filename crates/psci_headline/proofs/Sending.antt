@@ -1,0 +1,158 @@
+-- The messages of a legal run are those that the firmware's history says were sent.
+use Rattle.std.proofs.Common.{◌≡◌, ℕ, true, List, [], ◌∷◌, ◌++◌, Option, None, Some, refl}
+use Rattle.std.proofs.Common.{option_map, ap, sym, ◌∙◌, subst}
+use Rattle.psci_world_spec.specs.psci_abi.Calls.{request_of}
+use Rattle.psci_world_spec.specs.psci_abi.declared.registers.Regs.{Regs}
+use Rattle.psci_board.specs.Board.{BoardValue}
+use Rattle.psci_ctl_spec.specs.psci_messages.declared.start.Start.{Start}
+use Rattle.psci_ctl_spec.specs.Replies.{last_start}
+use Rattle.psci_ctl_spec.specs.psci_messages.Message.{AckValue, MessageValue}
+use Rattle.psci_ctl_spec.specs.psci_messages.declared.taken.Taken.{Taken}
+use Rattle.psci_ctl_spec.specs.psci_messages.declared.taken.Taken.TheVariants as takens
+use Rattle.psci_fw_laws.specs.psci_fw_spec.Answer.{answer}
+use Rattle.psci_fw_laws.specs.psci_fw_spec.Calls.{call_fault}
+use Rattle.psci_fw_laws.specs.psci_fw_spec.Entering.{enter_fault}
+use Rattle.psci_fw_laws.specs.psci_fw_spec.Exchange as firmware
+use Rattle.psci_fw_laws.specs.psci_fw_spec.Legal.{IsLegal}
+use Rattle.psci_fw_laws.specs.psci_fw_spec.Said.{listed}
+use Rattle.psci_fw_laws.specs.psci_fw_spec.Said as says
+use Rattle.psci_fw_laws.specs.psci_fw_spec.Sent.{sent_messages}
+use Rattle.psci_world_spec.specs.declared.event.Event.{Event}
+use Rattle.psci_world_spec.specs.declared.event.Event.TheVariants.{Call, Enter, Wake, Reset}
+use Rattle.psci_world_spec.specs.declared.event.Event.TheVariants.{Deliver, Take}
+use Rattle.psci_world_spec.specs.declared.said.Record.{Record}
+use Rattle.psci_world_spec.specs.declared.said.Said.{Said}
+use Rattle.psci_world_spec.specs.declared.said.Said.TheVariants as said
+use Rattle.psci_world_spec.specs.Histories.{acks, call, controller_values, entered}
+use Rattle.psci_world_spec.specs.Histories.{firmware_history, firmware_values, outcome_in, sent}
+use Rattle.psci_world_spec.specs.Histories.{sent_in, took}
+use Rattle.psci_world_spec.specs.Legal.{IsLegalPast, legal}
+use Rattle.psci_world_spec.specs.Lists.{indexed}
+use Rattle.psci_world_spec.proofs.Answered.{firmware_legal}
+use Rattle.psci_headline.proofs.Happening.{entered_by, is_quiet, sends_nothing}
+use Rattle.psci_headline.proofs.Outcomes.{call_sends, enter_sends}
+
+-- Records --------------------------------------------------------------------------------------
+
+-- the history after a record, whose event says this
+abbrev pub after_call : BoardValue → List Record → Event → Said → List firmware.FwExchange
+after_call b past event s =
+    call (controller_values b past) (acks past) event s ++ firmware_history b past
+
+-- what it says was sent is what its effect says was sent
+abbrev Same : BoardValue → List Record → Event → Said → Type 0
+Same b past event s =
+    listed (sent_in s) ++ sent past ≡ sent_messages b (after_call b past event s)
+
+-- an exchange adds what its effect says was sent
+one_entry : (b : BoardValue) (e : firmware.FwExchange) (h : List firmware.FwExchange)
+    (o : Option MessageValue) (l : List MessageValue) → says.sent (firmware.effect b e) ≡ o
+    → l ≡ sent_messages b h → listed o ++ l ≡ sent_messages b (e ∷ h)
+unfolding sent_messages
+one_entry b e h o l sends same =
+    ap (λ (x : List MessageValue). listed o ++ x) same
+    ∙ ap (λ (x : Option MessageValue). listed x ++ sent_messages b h) (sym sends)
+
+call_same : (b : BoardValue) (past : List Record) (c : ℕ) (regs : Regs) (s : Said)
+    → sent past ≡ sent_messages b (firmware_history b past)
+    → IsLegal b (after_call b past (Call c regs) s) → Same b past (Call c regs) s
+unfolding answer
+call_same b past c regs (said.Fw act sends) same legal =
+    one_entry b _ (firmware_history b past) (option_map (λ m. m.message) sends) (sent past)
+    (call_sends b (firmware_values b past) c (request_of regs) (outcome_in act sends)
+    (call_fault b (firmware_values b past) c) legal.0) same
+call_same b past c regs (said.Kick start) same legal = same
+call_same b past c regs (said.Acked index ack) same legal = same
+call_same b past c regs (said.Taken taken) same legal = same
+call_same b past c regs said.Ignored same legal = same
+call_same b past c regs said.Absent same legal = same
+
+enter_same : (b : BoardValue) (past : List Record) (c : ℕ) (s : Said)
+    → sent past ≡ sent_messages b (firmware_history b past)
+    → IsLegal b (after_call b past (Enter c) s) → s ≡ legal b past (Enter c)
+    → Same b past (Enter c) s
+unfolding answer
+enter_same b past c (said.Fw act sends) same is e =
+    by_start (last_start (controller_values b past) c)
+    (entered_by b past c act sends e).last is
+  where
+    start : Start
+    start = (entered_by b past c act sends e).start
+
+    by_start : (o : Option Start) → o ≡ Some start
+        → IsLegal b (entered c o (outcome_in act sends) ++ firmware_history b past)
+        → listed (option_map (λ m. m.message) sends) ++ sent past
+        ≡ sent_messages b (entered c o (outcome_in act sends) ++ firmware_history b past)
+    by_start None f is = absurd (cc)
+    by_start (Some s) f is =
+        one_entry b _ (firmware_history b past) (option_map (λ m. m.message) sends) (sent past)
+        (enter_sends b (firmware_values b past) c s (outcome_in act sends)
+        (enter_fault b (firmware_values b past) c s) is.0) same
+enter_same b past c (said.Kick start) same is e = same
+enter_same b past c (said.Acked index ack) same is e = same
+enter_same b past c (said.Taken taken) same is e = same
+enter_same b past c said.Ignored same is e = same
+enter_same b past c said.Absent same is e = same
+
+-- nothing is sent where an acknowledgement is taken
+took_none : (b : BoardValue) (h : List firmware.FwExchange) (o : Option AckValue) (t : Taken)
+    → sent_messages b (took o t ++ h) ≡ sent_messages b h
+unfolding sent_messages
+took_none b h None t = refl
+took_none b h (Some a) takens.Used = refl
+took_none b h (Some a) takens.Old = refl
+
+-- an event that sends nothing adds no exchange, or one of an acknowledgement
+quiet_call : (b : BoardValue) (past : List Record) (event : Event) (s : Said)
+    → is_quiet event ≡ true → sent_messages b (after_call b past event s)
+    ≡ sent_messages b (firmware_history b past)
+quiet_call b past (Call c regs) s q = absurd (cc)
+quiet_call b past (Enter c) s q = absurd (cc)
+quiet_call b past (Wake c) s q = refl
+quiet_call b past (Reset c) s q = refl
+quiet_call b past (Deliver k) s q = refl
+quiet_call b past (Take k) (said.Fw act sends) q = refl
+quiet_call b past (Take k) (said.Kick start) q = refl
+quiet_call b past (Take k) (said.Acked index ack) q = refl
+quiet_call b past (Take k) (said.Taken taken) q =
+    took_none b (firmware_history b past) (indexed (acks past) k) taken
+quiet_call b past (Take k) said.Ignored q = refl
+quiet_call b past (Take k) said.Absent q = refl
+
+quiet_same : (b : BoardValue) (past : List Record) (event : Event) (s : Said)
+    → sent past ≡ sent_messages b (firmware_history b past) → s ≡ legal b past event
+    → is_quiet event ≡ true → Same b past event s
+quiet_same b past event s same e q =
+    let none : sent_in s ≡ None = ap sent_in e ∙ sends_nothing b past event q in
+    ap (λ (o : Option MessageValue). listed o ++ sent past) none ∙ same
+    ∙ sym (quiet_call b past event s q)
+
+event_same : (b : BoardValue) (past : List Record) (event : Event) (s : Said)
+    → sent past ≡ sent_messages b (firmware_history b past)
+    → IsLegal b (after_call b past event s) → s ≡ legal b past event → Same b past event s
+event_same b past (Call c regs) s same is e = call_same b past c regs s same is
+event_same b past (Enter c) s same is e = enter_same b past c s same is e
+event_same b past (Wake c) s same is e = quiet_same b past (Wake c) s same e refl
+event_same b past (Reset c) s same is e = quiet_same b past (Reset c) s same e refl
+event_same b past (Deliver k) s same is e = quiet_same b past (Deliver k) s same e refl
+event_same b past (Take k) s same is e = quiet_same b past (Take k) s same e refl
+
+-- The whole run --------------------------------------------------------------------------------
+
+-- what a record adds to the firmware's history
+pub more_calls : (b : BoardValue) (r : Record) (past : List Record)
+    → firmware_history b (r ∷ past) ≡ after_call b past r.event r.said
+unfolding firmware_history
+more_calls b r past = refl
+
+-- so the history after it is legal
+pub legal_call : (b : BoardValue) (r : Record) (past : List Record) → IsLegalPast b (r ∷ past)
+    → IsLegal b (after_call b past r.event r.said)
+legal_call b r past is = subst (IsLegal b) (more_calls b r past) (firmware_legal b (r ∷ past) is)
+
+pub same_sent : (b : BoardValue) (past : List Record) → IsLegalPast b past
+    → sent past ≡ sent_messages b (firmware_history b past)
+unfolding sent sent_messages firmware_history
+same_sent b [] is = refl
+same_sent b (r ∷ past) is =
+    event_same b past r.event r.said (same_sent b past is.1) (legal_call b r past is) is.0

@@ -1,0 +1,149 @@
+-- Power and claims at a moment are as they shall be where the tests say so.
+use Rattle.std.proofs.Common.{◌≡◌, ◌+◌, ◌≤◌, ◌<◌, ◌==◌, ◌||◌, ◌&&◌, ◌↔◌, ℕ, Bool, true}
+use Rattle.std.proofs.Common.{not, List, refl, arith}
+use Rattle.std.proofs.Common.{length}
+use Rattle.std.proofs.Common.{is_some, inl, inr}
+use Rattle.std.specs.List.{list_all, range_with_len}
+use Rattle.std.proofs.lemmas.Bool.{and_from, and_parts, cases_eq, eq-eqb, eqb-true, le-leb}
+use Rattle.std.proofs.lemmas.Bool.{leb-true, or_cases, or_left, or_right}
+use Rattle.psci_fw_laws.specs.psci_board.Board.{BoardValue, HasNode, cores, height, nodes, up}
+use Rattle.psci_fw_laws.specs.psci_board.declared.node.Node.{Node}
+use Rattle.psci_world_spec.specs.declared.place.Place.{Place}
+use Rattle.psci_world_spec.specs.declared.place.Place.TheVariants.{Started, Running, Stopped}
+use Rattle.psci_world_spec.specs.declared.said.Record.{Record}
+use Rattle.psci_world_spec.specs.Histories.{controller_values}
+use Rattle.psci_world_spec.specs.Places.{place}
+use Rattle.psci_headline.specs.Claims.{live_claims}
+use Rattle.psci_headline.specs.Moments.{depth_at, executes, is_reported_off}
+use Rattle.psci_headline.specs.Hardware.{is_said_asleep}
+use Rattle.psci_headline.specs.Safe.{NoDeeperThanAsked, NoneBelowSleeping, OffIsDown, OneLiveClaim}
+use Rattle.psci_headline.specs.Safe.{StatesWereReal}
+use Rattle.psci_headline.specs.Test.{at_each_core, at_each_domain, at_each_level, has_one, is_asked}
+use Rattle.psci_headline.specs.Test.{is_off_down, is_off_stopped, is_one, is_powered}
+use Rattle.psci_headline.specs.Test.{executes_outside, is_each_real, was_asked, was_real}
+use Rattle.psci_headline.proofs.Ranges.{all_in, each_in, if_holds, where_holds}
+
+-- Everywhere on the board ---------------------------------------------------------------------
+
+core_passes : (b : BoardValue) (p : ℕ → Bool) (c : ℕ) → at_each_core b p ≡ true → c < cores b
+    → p c ≡ true
+core_passes b p c e inside = each_in p 0 (cores b) c e (omega arith) (omega arith)
+
+cores_pass : (b : BoardValue) (p : ℕ → Bool) → ((c : ℕ) → c < cores b → p c ≡ true)
+    → at_each_core b p ≡ true
+cores_pass b p h = all_in p 0 (cores b) (λ c low high. h c (omega arith))
+
+level_passes : (b : BoardValue) (p : ℕ → Bool) (level : ℕ) → at_each_level b p ≡ true
+    → level ≤ height b → p level ≡ true
+level_passes b p level e low = each_in p 0 (height b + 1) level e (omega arith) (omega arith)
+
+levels_pass : (b : BoardValue) (p : ℕ → Bool) → ((l : ℕ) → l ≤ height b → p l ≡ true)
+    → at_each_level b p ≡ true
+levels_pass b p h = all_in p 0 (height b + 1) (λ l low high. h l (omega arith))
+
+-- whether the test passes at each domain of a level
+abbrev on_level : BoardValue → (Node → Bool) → ℕ → Bool
+on_level b p level =
+    list_all (λ place. p (record { level = level; place = place }))
+    (range_with_len 0 (nodes b level))
+
+domain_passes : (b : BoardValue) (p : Node → Bool) (n : Node) → at_each_domain b p ≡ true
+    → HasNode b n → p n ≡ true
+domain_passes b p n e has =
+    each_in (λ place. p (record { level = n.level; place = place })) 0 (nodes b n.level) n.place
+    (level_passes b (on_level b p) n.level e has.level) (omega arith) (omega (arith, has.place))
+
+domains_pass : (b : BoardValue) (p : Node → Bool) → ((n : Node) → HasNode b n → p n ≡ true)
+    → at_each_domain b p ≡ true
+domains_pass b p h =
+    levels_pass b (on_level b p) (λ level low.
+    all_in (λ place. p (record { level = level; place = place })) 0 (nodes b level) (λ i o inside.
+    h (record { level = level; place = i }) (record { level = low; place = omega arith })))
+
+-- Power ---------------------------------------------------------------------------------------
+
+pub powered_tested : (b : BoardValue) (past : List Record)
+    → (is_powered b past ≡ true) ↔ NoneBelowSleeping b past
+powered_tested b past = (
+  (λ e c level inside low up_here. eqb-true (depth_at b past level (up b level c)) 0
+      (level_passes b (λ l. depth_at b past l (up b l c) == 0) level
+      (where_holds (executes (place b past c)) _ (core_passes b _ c e inside) up_here) low)),
+  λ h. cores_pass b _ (λ c inside. if_holds (executes (place b past c)) _ (λ up_here.
+      levels_pass b (λ l. depth_at b past l (up b l c) == 0) (λ level low.
+      eq-eqb (depth_at b past level (up b level c)) 0 (h c level inside low up_here)))),
+)
+
+-- Reported OFF --------------------------------------------------------------------------------
+
+not_running : (p : Place) → not (executes_outside p) ≡ true → p ≡ Running → ⊥
+not_running Started e same = cc
+not_running Running e same = cc
+not_running Stopped e same = cc
+
+still : (p : Place) → (p ≡ Running → ⊥) → not (executes_outside p) ≡ true
+still Started h = refl
+still Running h = absurd (h refl)
+still Stopped h = refl
+
+pub off_tested : (b : BoardValue) (past : List Record)
+    → ((is_off_stopped b past && is_off_down b past) ≡ true) ↔ OffIsDown b past
+off_tested b past = (
+  (λ e c inside off. let both = and_parts (is_off_stopped b past) (is_off_down b past) e in (
+    not_running (place b past c)
+        (where_holds (is_reported_off b past c) _ (core_passes b _ c both.0 inside) off),
+    where_holds (is_reported_off b past c) _ (core_passes b _ c both.1 inside) off,
+  )),
+  λ h. and_from (is_off_stopped b past) (is_off_down b past)
+      (cores_pass b _ (λ c inside. if_holds (is_reported_off b past c) _ (λ off.
+      still (place b past c) (h c inside off).0)))
+      (cores_pass b _ (λ c inside. if_holds (is_reported_off b past c) _ (λ off.
+      (h c inside off).1))),
+)
+
+-- Claims --------------------------------------------------------------------------------------
+
+pub one_tested : (b : BoardValue) (past : List Record)
+    → (is_one b past ≡ true) ↔ OneLiveClaim b past
+one_tested b past = (
+  (λ e n has. leb-true (length (live_claims b past n)) 1
+      (domain_passes b (has_one b past) n e has)),
+  λ h. domains_pass b (has_one b past) (λ n has.
+      le-leb (length (live_claims b past n)) 1 (h n has)),
+)
+
+-- deep, and then so claimed: as it is said of a domain, and as its test says it
+deep_claimed : (depth : ℕ) (claimed : Bool) → (depth == 0 || claimed) ≡ true → 0 < depth
+    → claimed ≡ true
+deep_claimed depth claimed e deep = elim (or_cases (depth == 0) claimed e) [
+  | inl none ↦ absurd (omega (arith, eqb-true depth 0 none, deep))
+  | inr is ↦ is
+]
+
+claimed_deep : (depth : ℕ) (claimed : Bool) → (0 < depth → claimed ≡ true)
+    → (depth == 0 || claimed) ≡ true
+claimed_deep depth claimed h = elim (cases_eq depth 0) [
+  | inl none ↦ or_left (depth == 0) claimed (eq-eqb depth 0 none)
+  | inr some ↦ or_right (depth == 0) claimed (h (omega (arith, some)))
+]
+
+pub asked_tested : (b : BoardValue) (past : List Record)
+    → (is_asked b past ≡ true) ↔ NoDeeperThanAsked b past
+asked_tested b past = (
+  (λ e n has lives deep. deep_claimed (depth_at b past n.level n.place) _
+      (where_holds (is_some (controller_values b past).life) _
+      (domain_passes b (was_asked b past) n e has) lives) deep),
+  λ h. domains_pass b (was_asked b past) (λ n has.
+      if_holds (is_some (controller_values b past).life) _ (λ lives.
+      claimed_deep (depth_at b past n.level n.place) _ (λ deep. h n has lives deep))),
+)
+
+-- Hardware states -----------------------------------------------------------------------------
+
+pub states_tested : (b : BoardValue) (past : List Record)
+    → (is_each_real b past ≡ true) ↔ StatesWereReal b past
+states_tested b past = (
+  (λ e n has said. where_holds (is_said_asleep b past n) _
+      (domain_passes b (was_real b past) n e has) said),
+  λ h. domains_pass b (was_real b past) (λ n has.
+      if_holds (is_said_asleep b past n) _ (λ said. h n has said)),
+)

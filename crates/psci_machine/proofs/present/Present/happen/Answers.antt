@@ -1,0 +1,37 @@
+-- After an event it is the present of one record more.
+use Rattle.std.proofs.Common.{◌∙◌, subst, sym}
+use Rattle.psci_fw.specs.psci_fw_spec.Sent.{sent_messages}
+use Rattle.psci_machine.specs.Seen.{machine_board}
+use Rattle.psci_world_spec.specs.Histories.{firmware_history, sent}
+use Rattle.psci_machine.specs.Present.{IsPresent}
+use Rattle.psci_machine.proofs.Booked.{sent_of_board}
+use Rattle.psci_machine.proofs.Presents.{happens, has_past}
+use Rattle.psci_machine.proofs.present.Present.happen.Goals as goal
+
+pub step-said-requires : goal.step-said-requires
+step-said-requires c =
+    let b = machine_board c.self.inside.machine in
+    let past = c.self.invariant.past in
+    let is = c.self.invariant.is in
+    sent_of_board b (sent past) (sent_messages b (firmware_history b past)) c.deref.result.now
+    (c.law_sent.ensures b past is.legal)
+    (λ k m e. (c.law_messages.ensures.sent b (firmware_history b past) c.law.ensures.board
+    (c.law_histories.ensures.firmware b past is.legal) k m e).sound)
+    (c.deref.ensures.value ∙ c.reserve.ensures.items ∙ is.messages)
+
+pub invariant_of-self-2 : goal.invariant_of-self-2
+invariant_of-self-2 c =
+    has_past _ _ c.args.event
+    (happens _ _ c.args.event c.step-said.result c.deref.result.now c.reserve.new.self.items
+    c.deref-2.result.now c.reserve-2.new.self.items c.step-said.ensures.said
+    c.step-said.ensures.after c.deref.ensures.value c.reserve.ensures.items
+    c.in_ok-keep_message.ensures.items c.deref-2.ensures.value c.reserve-2.ensures.items
+    c.in_ok-keep_ack.ensures.items) c.self.invariant
+
+pub returns-clause-next : goal.returns-clause-next
+returns-clause-next c = λ b past is.
+    happens _ _ c.args.event c.step-said.result c.deref.result.now c.reserve.new.self.items
+    c.deref-2.result.now c.reserve-2.new.self.items c.step-said.ensures.said
+    c.step-said.ensures.after c.deref.ensures.value c.reserve.ensures.items
+    c.in_ok-keep_message.ensures.items c.deref-2.ensures.value c.reserve-2.ensures.items
+    c.in_ok-keep_ack.ensures.items b past (subst (IsPresent b past) (sym c.self.view_is) is)

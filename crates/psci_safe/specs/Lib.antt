@@ -1,6 +1,0 @@
-pub mod Claims
-pub mod Hardware
-pub mod Moments
-pub mod Openings
-pub mod Safe
-pub mod Test

@@ -1,4 +1,0 @@
-pub mod Crossing
-pub mod Kept
-pub mod SeenRows
-pub mod Sendable

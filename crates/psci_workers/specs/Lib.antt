@@ -1,6 +1,0 @@
-pub mod Histories
-pub mod Seen
-pub mod Watches
-pub use Rattle.psci_fw.specs as psci_fw
-pub use Rattle.psci_shared.specs as psci_shared
-pub use Rattle.psci_shared_ctl.specs as psci_shared_ctl

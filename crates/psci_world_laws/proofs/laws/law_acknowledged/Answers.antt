@@ -1,6 +1,0 @@
--- How acknowledgements were made.
-use Rattle.psci_world_laws.proofs.Making.{was_made}
-use Rattle.psci_world_laws.proofs.laws.law_acknowledged.Goals as goal
-
-pub returns : goal.returns
-returns c = λ b past board. was_made b past (c.law_values.ensures.more b)
