@@ -12,7 +12,8 @@ use std::marker::Model;
 #[derive(Drop)]
 pub struct Slots {
     cores: Vec<Option<Message>>,
-    system: Option<Message>,
+    /// In memory of its own: empty, too, it is large to move.
+    system: Box<Option<Message>>,
 }
 
 impl Model for Slots {
@@ -20,7 +21,7 @@ impl Model for Slots {
 
     ghost Value = { SlotsValue };
 
-    ghost view = { λ s. record { cores = s.cores.items; system = s.system } };
+    ghost view = { λ s. record { cores = s.cores.items; system = s.system.value } };
 }
 
 ghost use Rattle.std.specs.Prelude.{◌≡◌, None, option_map, replicate, length, IfOk};
@@ -38,7 +39,7 @@ impl Slots {
     {
         Ok(Slots {
             cores: no_messages(alloc, cores)?,
-            system: None,
+            system: no_message(alloc)?,
         })
     }
 
@@ -65,7 +66,7 @@ impl Slots {
         ensures cores { length self.new.cores ≡ length self.old.cores }
     {
         forget(&mut self.cores);
-        self.system = None;
+        *self.system = None;
     }
 
     /// Takes an acknowledgement. The message is forgotten where nothing of it is left to do. Of an
@@ -94,7 +95,7 @@ impl Slots {
     {
         let number = number as usize;
         if number == self.cores.len() {
-            self.system.as_ref()
+            (*self.system).as_ref()
         } else {
             message_of(&self.cores, number)
         }
@@ -107,7 +108,7 @@ impl Slots {
     {
         match kind {
             Kind::Down | Kind::Start => message_of(&self.cores, core.number as usize),
-            Kind::Off | Kind::Reset => self.system.as_ref(),
+            Kind::Off | Kind::Reset => (*self.system).as_ref(),
         }
     }
 
@@ -118,12 +119,13 @@ impl Slots {
     {
         match kind {
             Kind::Down | Kind::Start => set_at(&mut self.cores, core, message),
-            Kind::Off | Kind::Reset => self.system = message,
+            Kind::Off | Kind::Reset => *self.system = message,
         }
     }
 }
 
 /// So many empty slots.
+#[inline(never)]
 fn no_messages(alloc: Global, cores: u16) -> Result<Vec<Option<Message>>, Memory>
     ensures { IfOk result (λ slots. slots.items ≡ replicate cores None) }
 {
@@ -132,6 +134,14 @@ fn no_messages(alloc: Global, cores: u16) -> Result<Vec<Option<Message>>, Memory
         slots.push(None)?;
     }
     Ok(slots)
+}
+
+/// An empty slot in memory of its own.
+#[inline(never)]
+fn no_message(alloc: Global) -> Result<Box<Option<Message>>, Memory>
+    ensures { IfOk result (λ slot. slot.value ≡ None) }
+{
+    Ok(Box::new(alloc, None)?)
 }
 
 /// The message in the slot of this number.
