@@ -61,6 +61,7 @@ ghost use Rattle.psci_tree.specs.declared.domain.Domain.{Domain, out-Domain};
 ghost use Rattle.psci_tree.specs.Recount.{IsDomainTree, state_at, known_at, low, known, active};
 ghost use Rattle.psci_tree.specs.Recount.{off, granted_at, confirmed_at, is_confirmed_at};
 ghost use Rattle.psci_tree.specs.Recount.{never_started};
+ghost use Rattle.psci_tree.specs.Parts.{AreFull};
 ghost use Rattle.psci_tree.specs.Changes.{all_off};
 ghost use Rattle.psci_tree.specs.Domains.{IsWhole, leaves};
 ghost use Rattle.psci_tree.specs.Kept.{IsKept, Keeps};
@@ -68,25 +69,28 @@ ghost use Rattle.psci_tree.specs.declared.standing.Standing.{Standing};
 ghost use Rattle.psci_tree.specs.Standing.{on_path, standing};
 
 impl TreeParts {
-    /// The parts of a board's tree with these domains: every core is off, and every domain is
+    /// The parts of a board's tree of these domains and rows: every core is off, and every domain is
     /// granted depth 3, which is confirmed. It has a frame of its own.
     #[inline(never)]
     pub fn all_off(
         alloc: Global,
         board: &Board,
         root: Box<Domain>,
+        rows: Box<Rows>,
     ) -> Result<Box<TreeParts>, Memory>
         requires whole { IsWhole root.value board.now.levels }
         requires off { leaves root.value ≡ replicate (size_below board.now.levels) never_started }
         requires kept { IsKept root.value }
+        requires rows { AreFull board.now rows.value }
         ensures value { IfOk result (λ parts. parts.value ≡ all_off board.now.levels) }
         ensures board { IfOk result (λ _. IsBoard board.now) }
     {
+        let rows = Box::into_inner(rows);
         let parts = TreeParts {
-            cores: vec![in alloc; NEVER_STARTED; board.cores() as usize]?,
-            ways: ways_of(alloc, board)?,
-            granted: deepest_rows(alloc, board)?,
-            confirmed: deepest_rows(alloc, board)?,
+            cores: rows.cores,
+            ways: rows.ways,
+            granted: rows.granted,
+            confirmed: rows.confirmed,
             board: board.copy(alloc)?,
             root: Box::into_inner(root),
         };
@@ -218,5 +222,31 @@ impl TreeParts {
     {
         law_spans();
         domain_at(&self.root, &self.board, node)
+    }
+}
+
+/// What a tree keeps beside its domains.
+#[derive(Drop)]
+pub struct Rows {
+    pub cores: Vec<CoreState>,
+    pub ways: Vec<Way>,
+    pub granted: Vec<Vec<u8>>,
+    pub confirmed: Vec<Vec<u8>>,
+}
+
+/// The same where every core is off, in memory of its own. It has a frame of its own.
+#[inline(never)]
+pub fn rows_of(alloc: Global, board: &Board) -> Result<Box<Rows>, Memory>
+    ensures { IfOk result (λ rows. AreFull board.now rows.value) }
+{
+    let rows = Rows {
+        cores: vec![in alloc; NEVER_STARTED; board.cores() as usize]?,
+        ways: ways_of(alloc, board)?,
+        granted: deepest_rows(alloc, board)?,
+        confirmed: deepest_rows(alloc, board)?,
+    };
+    match Box::new(alloc, rows) {
+        Ok(rows) => Ok(rows),
+        Err(_) => Err(Memory),
     }
 }

@@ -1,7 +1,7 @@
 //! The tree of power domains.
 
 use crate::build::root_of;
-use crate::parts::{BOOT_CORE, TreeParts};
+use crate::parts::{BOOT_CORE, TreeParts, rows_of};
 use crate::standing::Standing;
 use psci_board::{Board, Core, MOST_ON_PATH, Memory, Node, law_sizes};
 use psci_state::{Activity, Ask};
@@ -42,7 +42,8 @@ impl Tree {
         ensures tree { IfOk result (λ tree. IsDomainTree tree) }
     {
         let root = root_of(alloc, board)?;
-        let mut parts = TreeParts::all_off(alloc, board, root)?;
+        let rows = rows_of(alloc, board)?;
+        let mut parts = TreeParts::all_off(alloc, board, root, rows)?;
         law_sizes();
         parts.set_pending(BOOT_CORE);
         Ok(Tree { parts })
