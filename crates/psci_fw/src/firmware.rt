@@ -11,7 +11,7 @@ use std::marker::Model;
 /// The power firmware of one board. Contracts see its state: the board, and what is kept.
 #[derive(Drop)]
 pub struct Firmware {
-    state: State,
+    state: Box<State>,
 }
 
 impl Model for Firmware {
@@ -19,9 +19,9 @@ impl Model for Firmware {
 
     ghost Value = { FirmwareValue };
 
-    ghost view = { λ f. f.state };
+    ghost view = { λ f. f.state.value };
 
-    ghost invariant = { λ f. IsFirmware f.state };
+    ghost invariant = { λ f. IsFirmware f.state.value };
 }
 
 ghost use Rattle.std.specs.Prelude.{◌≡◌, ℕ, IfOk, OnErr, option_map};
@@ -51,8 +51,9 @@ impl Firmware {
     {
         law_invariant();
         law_fresh();
+        let state = State::new(alloc, board)?;
         Ok(Firmware {
-            state: State::new(alloc, board)?,
+            state: Box::new(alloc, state)?,
         })
     }
 

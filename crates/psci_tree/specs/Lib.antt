@@ -5,3 +5,4 @@ pub mod Kept
 pub mod Recount
 pub mod Standing
 pub mod Way
+pub mod Parts

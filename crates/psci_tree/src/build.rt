@@ -17,7 +17,7 @@ use std::alloc::Global;
 use std::mem::replace;
 
 /// The domains of a board, every core off and never started.
-pub fn build(alloc: Global, board: &Board) -> Result<Domain, Memory>
+fn build(alloc: Global, board: &Board) -> Result<Domain, Memory>
     ensures whole { IfOk result (λ root. IsWhole root board.now.levels) }
     ensures off { IfOk result (λ root.
         leaves root ≡ replicate (size_below board.now.levels) never_started) }
@@ -30,6 +30,21 @@ pub fn build(alloc: Global, board: &Board) -> Result<Domain, Memory>
     match row.pop() {
         Some(root) => Ok(root),
         None => unreachable!(),
+    }
+}
+
+/// The same, in memory of its own, and made in a frame of its own.
+#[inline(never)]
+pub fn root_of(alloc: Global, board: &Board) -> Result<Box<Domain>, Memory>
+    ensures whole { IfOk result (λ root. IsWhole root.value board.now.levels) }
+    ensures off { IfOk result (λ root.
+        leaves root.value ≡ replicate (size_below board.now.levels) never_started) }
+    ensures kept { IfOk result (λ root. IsKept root.value) }
+{
+    let root = build(alloc, board)?;
+    match Box::new(alloc, root) {
+        Ok(root) => Ok(root),
+        Err(_) => Err(Memory),
     }
 }
 

@@ -22,6 +22,7 @@ mod domain;
 mod grants;
 mod kept;
 mod laws;
+mod parts;
 mod standing;
 mod tree;
 mod way;

@@ -1,68 +1,34 @@
 //! The tree of power domains.
 
-use crate::build::build;
-use crate::descent::{domain_at, standings_on};
-use crate::domain::Domain;
-use crate::grants::deepest_rows;
+use crate::build::root_of;
+use crate::parts::{BOOT_CORE, TreeParts, rows_of};
 use crate::standing::Standing;
-use crate::way::{Way, ways_of};
-use psci_board::{Board, Core, MOST_ON_PATH, Memory, Node, law_sizes, law_spans};
-use psci_state::{Activity, CoreState, NEVER_STARTED};
+use psci_board::{Board, Core, MOST_ON_PATH, Memory, Node, law_sizes};
+use psci_state::{Activity, Ask};
 use std::alloc::Global;
 use std::marker::Model;
 
-/// The core that a life begins with.
-pub const BOOT_CORE: Core = Core { number: 0 };
-
-/// What each core asks of its power domains, how often it was started, and what was granted.
+/// What each core asks of its power domains, how often it was started, and what was granted. All of
+/// it stands in memory of its own, so that a tree is moved as a pointer.
 #[derive(Drop)]
 pub struct Tree {
-    /// The board whose power domains they are.
-    pub(crate) board: Board,
-    /// What is kept of each core, in the order of their numbers. Its leaf holds the same: here it
-    /// is read without a way down.
-    pub(crate) cores: Vec<CoreState>,
-    /// The way to each core, in the order of their numbers.
-    pub(crate) ways: Vec<Way>,
-    /// From level 0 up, the granted depth of each domain.
-    pub(crate) granted: Vec<Vec<u8>>,
-    /// From level 0 up, the depth of each domain that is confirmed, 0 of one that has none.
-    pub(crate) confirmed: Vec<Vec<u8>>,
-    /// The domain of the whole system, with all others below it.
-    pub(crate) root: Domain,
+    parts: Box<TreeParts>,
 }
 
 impl Model for Tree {
-    ghost use Rattle.std.specs.Prelude.{map};
     ghost use Rattle.psci_tree.specs.Recount.{TreeValue};
-    ghost use Rattle.psci_tree.specs.Domains.{leaves};
-    ghost use Rattle.psci_tree.specs.Inside.{IsHeld};
 
     ghost Value = { TreeValue };
 
-    ghost view = { λ t. record {
-      levels = t.board.levels;
-      cores = leaves t.root;
-      granted = map (λ v. v.items) t.granted.items;
-      confirmed = map (λ v. v.items) t.confirmed.items;
-    } };
-
-    ghost invariant = { λ t. IsHeld t.root t.cores.items t.ways.items (record {
-      levels = t.board.levels;
-      cores = leaves t.root;
-      granted = map (λ v. v.items) t.granted.items;
-      confirmed = map (λ v. v.items) t.confirmed.items;
-    }) };
+    ghost view = { λ t. t.parts.value };
 }
 
-ghost use Rattle.std.specs.Prelude.{◌≡◌, ℕ, ◌<◌, ◌≤◌, map, length, IfOk, slice_index_or};
-ghost use Rattle.psci_board.specs.Board.{size_below, HasNodeIn, below_in};
-ghost use Rattle.psci_tree.specs.declared.domain.Domain.{Domain, out-Domain};
+ghost use Rattle.std.specs.Prelude.{◌≡◌, ℕ, ◌<◌, ◌≤◌, length, IfOk, slice_index_or};
+ghost use Rattle.psci_board.specs.Board.{size_below, HasNodeIn};
 ghost use Rattle.psci_tree.specs.Recount.{IsDomainTree, state_at, known_at, low, known, active};
-ghost use Rattle.psci_tree.specs.Recount.{off, granted_at, confirmed_at, is_confirmed_at};
-ghost use Rattle.psci_tree.specs.Changes.{start_of_life};
-ghost use Rattle.psci_tree.specs.Domains.{leaves};
-ghost use Rattle.psci_tree.specs.Kept.{Keeps};
+ghost use Rattle.psci_tree.specs.Recount.{off, granted_at, is_confirmed_at};
+ghost use Rattle.psci_tree.specs.Changes.{MayGrant, suspended, turned_off, made_pending, started};
+ghost use Rattle.psci_tree.specs.Changes.{start_of_life, with_grant, with_confirmed};
 ghost use Rattle.psci_tree.specs.declared.standing.Standing.{Standing};
 ghost use Rattle.psci_tree.specs.Standing.{on_path, standing};
 
@@ -75,17 +41,12 @@ impl Tree {
         ensures levels { IfOk result (λ tree. tree.levels ≡ board.now.levels) }
         ensures tree { IfOk result (λ tree. IsDomainTree tree) }
     {
-        let mut tree = Tree {
-            board: board.copy(alloc)?,
-            cores: vec![in alloc; NEVER_STARTED; board.cores() as usize]?,
-            ways: ways_of(alloc, board)?,
-            granted: deepest_rows(alloc, board)?,
-            confirmed: deepest_rows(alloc, board)?,
-            root: build(alloc, board)?,
-        };
+        let root = root_of(alloc, board)?;
+        let rows = rows_of(alloc, board)?;
+        let mut parts = TreeParts::all_off(alloc, board, root, rows)?;
         law_sizes();
-        tree.set_pending(BOOT_CORE);
-        Ok(tree)
+        parts.set_pending(BOOT_CORE);
+        Ok(Tree { parts })
     }
 
     /// The least ask at a level of the cores below a domain: 0 above the board's height, where no
@@ -94,11 +55,7 @@ impl Tree {
         requires { HasNodeIn self.now.levels node }
         ensures { result ≡ low self.now node level }
     {
-        law_spans();
-        if level > self.board.height() {
-            return 0;
-        }
-        self.domain(node).kept.lows[level as usize]
+        self.parts.low(node, level)
     }
 
     /// The sum of the known starts of the cores below a domain.
@@ -106,7 +63,7 @@ impl Tree {
         requires { HasNodeIn self.now.levels node }
         ensures { result ≡ known self.now node }
     {
-        self.domain(node).kept.known
+        self.parts.known(node)
     }
 
     /// How many cores below a domain are running or pending.
@@ -114,7 +71,7 @@ impl Tree {
         requires { HasNodeIn self.now.levels node }
         ensures { result ≡ active self.now node }
     {
-        self.domain(node).kept.active
+        self.parts.active(node)
     }
 
     /// How many cores below a domain are off or going off.
@@ -122,7 +79,7 @@ impl Tree {
         requires { HasNodeIn self.now.levels node }
         ensures { result ≡ off self.now node }
     {
-        self.domain(node).kept.off
+        self.parts.off(node)
     }
 
     /// How the domains on the path of a core stand, by level, after one way down.
@@ -132,9 +89,7 @@ impl Tree {
             → slice_index_or result level s
             ≡ standing self.now (on_path self.now.levels core.number level) }
     {
-        law_spans();
-        let way = &self.ways[core.number as usize];
-        standings_on(&self.root, &self.board, core, way)
+        self.parts.standings(core)
     }
 
     /// The domain of this level on the path of a core.
@@ -143,11 +98,7 @@ impl Tree {
         requires level { level ≤ length self.now.levels }
         ensures { result ≡ on_path self.now.levels core.number level }
     {
-        let way = &self.ways[core.number as usize];
-        Node {
-            level,
-            place: way.places[level as usize],
-        }
+        self.parts.on_path(core, level)
     }
 
     /// The granted depth of a domain.
@@ -156,8 +107,7 @@ impl Tree {
         ensures value { result ≡ granted_at self.now node.level node.place }
         ensures tree { IsDomainTree self.now }
     {
-        let row = &self.granted[node.level as usize];
-        row[node.place as usize]
+        self.parts.granted(node)
     }
 
     /// Whether what was granted to a domain is confirmed.
@@ -165,50 +115,92 @@ impl Tree {
         requires { HasNodeIn self.now.levels node }
         ensures { result ≡ is_confirmed_at self.now node.level node.place }
     {
-        self.confirmed_depth(node) > 0
+        self.parts.confirmed(node)
     }
 
     /// What a core does. A core that the board does not have is off.
     pub fn activity(&self, core: Core) -> Activity
         ensures { result ≡ (state_at self.now core.number).activity }
     {
-        self.core(core).activity
+        self.parts.activity(core)
     }
 
     /// The known start of a core, 0 of one that the board does not have.
     pub fn known_start(&self, core: Core) -> u32
         ensures { result ≡ known_at self.now core.number }
     {
-        self.core(core).known
+        self.parts.known_start(core)
     }
 
-    /// The depth of a domain that is confirmed, or 0.
-    pub(crate) fn confirmed_depth(&self, node: Node) -> u8
-        requires { HasNodeIn self.now.levels node }
-        ensures { result ≡ confirmed_at self.now node.level node.place }
+    /// Puts the tree to the start of a life, in place.
+    pub fn reset_life(&mut self)
+        ensures value { self.new ≡ start_of_life self.old.levels }
+        ensures levels { self.new.levels ≡ self.old.levels }
+        ensures tree { IsDomainTree self.new }
     {
-        let places = &self.confirmed[node.level as usize];
-        places[node.place as usize]
+        self.parts.reset_life();
     }
 
-    /// What is kept of a core.
-    fn core(&self, core: Core) -> CoreState
-        ensures { result ≡ state_at self.now core.number }
+    /// Grants a depth to a domain. Another one than before is not confirmed.
+    pub fn grant(&mut self, node: Node, depth: u8)
+        requires domain { HasNodeIn self.old.levels node }
+        requires depth { MayGrant self.old node depth }
+        ensures value { self.new ≡ with_grant self.old node depth }
+        ensures levels { self.new.levels ≡ self.old.levels }
+        ensures tree { IsDomainTree self.new }
     {
-        self.cores
-            .get(core.number as usize)
-            .copied()
-            .unwrap_or(NEVER_STARTED)
+        self.parts.grant(node, depth);
     }
 
-    /// The domain of a node.
-    fn domain(&self, node: Node) -> &Domain
-        requires { HasNodeIn self.now.levels node }
-        ensures cores { leaves result.now
-            ≡ map (λ c. state_at self.now c) (below_in self.now.levels node) }
-        ensures kept { Keeps (out-Domain result.now).kept (leaves result.now) }
+    /// Confirms what was granted to a domain.
+    pub fn confirm(&mut self, node: Node)
+        requires domain { HasNodeIn self.old.levels node }
+        requires granted { 1 ≤ granted_at self.old node.level node.place }
+        ensures value { self.new ≡ with_confirmed self.old node }
+        ensures levels { self.new.levels ≡ self.old.levels }
+        ensures tree { IsDomainTree self.new }
     {
-        law_spans();
-        domain_at(&self.root, &self.board, node)
+        self.parts.confirm(node);
+    }
+
+    /// A core is suspended, with this ask.
+    pub fn set_ask(&mut self, core: Core, ask: Ask)
+        requires { core.number < size_below self.old.levels }
+        ensures value { self.new ≡ suspended self.old core.number ask }
+        ensures levels { self.new.levels ≡ self.old.levels }
+        ensures tree { IsDomainTree self.new }
+    {
+        self.parts.set_ask(core, ask);
+    }
+
+    /// A core is off, or going off.
+    pub fn set_off(&mut self, core: Core)
+        requires { core.number < size_below self.old.levels }
+        ensures value { self.new ≡ turned_off self.old core.number }
+        ensures levels { self.new.levels ≡ self.old.levels }
+        ensures tree { IsDomainTree self.new }
+    {
+        self.parts.set_off(core);
+    }
+
+    /// A core is pending: nothing is granted or confirmed any more on its path.
+    pub fn set_pending(&mut self, core: Core)
+        requires { core.number < size_below self.old.levels }
+        ensures value { self.new ≡ made_pending self.old core.number }
+        ensures levels { self.new.levels ≡ self.old.levels }
+        ensures tree { IsDomainTree self.new }
+    {
+        self.parts.set_pending(core);
+    }
+
+    /// A core runs in its start of this number: nothing is granted or confirmed any more on its
+    /// path.
+    pub fn set_start(&mut self, core: Core, number: u32)
+        requires { core.number < size_below self.old.levels }
+        ensures value { self.new ≡ started self.old core.number number }
+        ensures levels { self.new.levels ≡ self.old.levels }
+        ensures tree { IsDomainTree self.new }
+    {
+        self.parts.set_start(core, number);
     }
 }

@@ -1,4 +1,4 @@
-use Rattle.std.proofs.Common.{◌≡◌, None, subst, sym}
+use Rattle.std.proofs.Common.{◌≡◌, ◌∙◌, None, subst, sym}
 use Rattle.psci_abi.specs.declared.request.Request.{Request}
 use Rattle.psci_board.specs.Board.{BoardValue, IsBoard}
 use Rattle.psci_fw_spec.specs.declared.call.FwCall.TheVariants.{Smc}
@@ -6,28 +6,31 @@ use Rattle.psci_fw_spec.specs.After.{change}
 use Rattle.psci_fw_spec.specs.Calls.{call_fault}
 use Rattle.psci_fw_spec.specs.Effects.{function_effect}
 use Rattle.psci_fw_spec.specs.Invariant.{AreValues}
-use Rattle.psci_fw_state.specs.Seen.{values_in}
+use Rattle.psci_fw_state.specs.Seen.{StateValue, values_in}
 use Rattle.psci_fw.specs.Reactions.{outcome_in}
-use Rattle.psci_fw.specs.Seen.{IsFresh}
+use Rattle.psci_fw.specs.Seen.{IsFirmware, IsFresh}
 use Rattle.psci_fw.proofs.Called.{called}
 use Rattle.psci_fw.proofs.firmware.Firmware.smc_in_slot.Goals as goal
 
 pub invariant_of-self : goal.invariant_of-self
 invariant_of-self c =
-    let b = c.self.inside.state.board in
-    let v = values_in c.self.inside.state in
+    let s : StateValue = c.deref_mut.result.now in
+    let b = s.board in
+    let v = values_in s in
     let w = values_in c.dispatch.new.state in
     let core = c.args.core.number in
     let o = outcome_in c.dispatch.new.state.board w c.dispatch.result in
     let at = sym c.dispatch.ensures.board in
     let left = c.dispatch.ensures.after in
-    let fault : call_fault b v core ≡ None = c.in_ok-check_caller.ensures in
+    let before : IsFirmware s = subst IsFirmware (sym c.deref_mut.ensures.value) c.self.invariant in
+    let fault : call_fault b v core ≡ None =
+    subst (λ (x : StateValue). call_fault x.board (values_in x) core ≡ None)
+    (c.deref.ensures ∙ sym c.deref_mut.ensures.value) c.in_ok-check_caller.ensures in
     record {
-      board = subst IsBoard at c.self.invariant.board;
+      board = subst IsBoard at before.board;
       values = subst (λ (x : BoardValue). AreValues x w) at (subst (AreValues b)
           (sym (called b v w core c.args.regs _ o fault c.read.ensures c.dispatch.ensures.answer left))
-          (c.law_invariant.ensures.answer b v core (Smc c.args.regs) c.self.invariant.board
-          c.self.invariant.values));
+          (c.law_invariant.ensures.answer b v core (Smc c.args.regs) before.board before.values));
       fresh = subst (λ (x : BoardValue). IsFresh x w) at (subst (IsFresh b) (sym left)
           (subst (λ (r : Request). IsFresh b (change b (function_effect b core r o.act o.message) v))
           (sym c.read.ensures) (c.law_fresh.ensures.call b v core c.args.regs o fault)));

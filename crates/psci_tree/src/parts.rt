@@ -1,0 +1,252 @@
+//! What a tree of power domains is made of.
+
+use crate::descent::{domain_at, standings_on};
+use crate::domain::Domain;
+use crate::grants::deepest_rows;
+use crate::standing::Standing;
+use crate::way::{Way, ways_of};
+use psci_board::{Board, Core, MOST_ON_PATH, Memory, Node, law_spans};
+use psci_state::{Activity, CoreState, NEVER_STARTED};
+use std::alloc::Global;
+use std::marker::Model;
+
+/// The core that a life begins with.
+pub const BOOT_CORE: Core = Core { number: 0 };
+
+/// What each core asks of its power domains, how often it was started, and what was granted.
+#[derive(Drop)]
+pub struct TreeParts {
+    /// The board whose power domains they are.
+    pub(crate) board: Board,
+    /// What is kept of each core, in the order of their numbers. Its leaf holds the same: here it
+    /// is read without a way down.
+    pub(crate) cores: Vec<CoreState>,
+    /// The way to each core, in the order of their numbers.
+    pub(crate) ways: Vec<Way>,
+    /// From level 0 up, the granted depth of each domain.
+    pub(crate) granted: Vec<Vec<u8>>,
+    /// From level 0 up, the depth of each domain that is confirmed, 0 of one that has none.
+    pub(crate) confirmed: Vec<Vec<u8>>,
+    /// The domain of the whole system, with all others below it.
+    pub(crate) root: Domain,
+}
+
+impl Model for TreeParts {
+    ghost use Rattle.std.specs.Prelude.{map};
+    ghost use Rattle.psci_tree.specs.Recount.{TreeValue};
+    ghost use Rattle.psci_tree.specs.Domains.{leaves};
+    ghost use Rattle.psci_tree.specs.Inside.{IsHeld};
+
+    ghost Value = { TreeValue };
+
+    ghost view = { λ t. record {
+      levels = t.board.levels;
+      cores = leaves t.root;
+      granted = map (λ v. v.items) t.granted.items;
+      confirmed = map (λ v. v.items) t.confirmed.items;
+    } };
+
+    ghost invariant = { λ t. IsHeld t.root t.cores.items t.ways.items (record {
+      levels = t.board.levels;
+      cores = leaves t.root;
+      granted = map (λ v. v.items) t.granted.items;
+      confirmed = map (λ v. v.items) t.confirmed.items;
+    }) };
+}
+
+ghost use Rattle.std.specs.Prelude.{◌≡◌, ℕ, ◌<◌, ◌≤◌, map, length, replicate, IfOk};
+ghost use Rattle.std.specs.Prelude.{slice_index_or};
+ghost use Rattle.psci_board.specs.Board.{IsBoard, size_below, HasNodeIn, below_in};
+ghost use Rattle.psci_tree.specs.declared.domain.Domain.{Domain, out-Domain};
+ghost use Rattle.psci_tree.specs.Recount.{IsDomainTree, state_at, known_at, low, known, active};
+ghost use Rattle.psci_tree.specs.Recount.{off, granted_at, confirmed_at, is_confirmed_at};
+ghost use Rattle.psci_tree.specs.Recount.{never_started};
+ghost use Rattle.psci_tree.specs.Parts.{AreFull};
+ghost use Rattle.psci_tree.specs.Changes.{all_off};
+ghost use Rattle.psci_tree.specs.Domains.{IsWhole, leaves};
+ghost use Rattle.psci_tree.specs.Kept.{IsKept, Keeps};
+ghost use Rattle.psci_tree.specs.declared.standing.Standing.{Standing};
+ghost use Rattle.psci_tree.specs.Standing.{on_path, standing};
+
+impl TreeParts {
+    /// The parts of a board's tree of these domains and rows: every core is off, and every domain is
+    /// granted depth 3, which is confirmed. It has a frame of its own.
+    #[inline(never)]
+    pub fn all_off(
+        alloc: Global,
+        board: &Board,
+        root: Box<Domain>,
+        rows: Box<Rows>,
+    ) -> Result<Box<TreeParts>, Memory>
+        requires whole { IsWhole root.value board.now.levels }
+        requires off { leaves root.value ≡ replicate (size_below board.now.levels) never_started }
+        requires kept { IsKept root.value }
+        requires rows { AreFull board.now rows.value }
+        ensures value { IfOk result (λ parts. parts.value ≡ all_off board.now.levels) }
+        ensures board { IfOk result (λ _. IsBoard board.now) }
+    {
+        let rows = Box::into_inner(rows);
+        let parts = TreeParts {
+            cores: rows.cores,
+            ways: rows.ways,
+            granted: rows.granted,
+            confirmed: rows.confirmed,
+            board: board.copy(alloc)?,
+            root: Box::into_inner(root),
+        };
+        match Box::new(alloc, parts) {
+            Ok(parts) => Ok(parts),
+            Err(_) => Err(Memory),
+        }
+    }
+
+    /// The least ask at a level of the cores below a domain: 0 above the board's height, where no
+    /// core asks anything.
+    pub fn low(&self, node: Node, level: u32) -> u8
+        requires { HasNodeIn self.now.levels node }
+        ensures { result ≡ low self.now node level }
+    {
+        law_spans();
+        if level > self.board.height() {
+            return 0;
+        }
+        self.domain(node).kept.lows[level as usize]
+    }
+
+    /// The sum of the known starts of the cores below a domain.
+    pub fn known(&self, node: Node) -> u64
+        requires { HasNodeIn self.now.levels node }
+        ensures { result ≡ known self.now node }
+    {
+        self.domain(node).kept.known
+    }
+
+    /// How many cores below a domain are running or pending.
+    pub fn active(&self, node: Node) -> u32
+        requires { HasNodeIn self.now.levels node }
+        ensures { result ≡ active self.now node }
+    {
+        self.domain(node).kept.active
+    }
+
+    /// How many cores below a domain are off or going off.
+    pub fn off(&self, node: Node) -> u32
+        requires { HasNodeIn self.now.levels node }
+        ensures { result ≡ off self.now node }
+    {
+        self.domain(node).kept.off
+    }
+
+    /// How the domains on the path of a core stand, by level, after one way down.
+    pub fn standings(&self, core: Core) -> [Standing; MOST_ON_PATH]
+        requires { core.number < size_below self.now.levels }
+        ensures { (level : ℕ) (s : Standing) → level ≤ length self.now.levels
+            → slice_index_or result level s
+            ≡ standing self.now (on_path self.now.levels core.number level) }
+    {
+        law_spans();
+        let way = &self.ways[core.number as usize];
+        standings_on(&self.root, &self.board, core, way)
+    }
+
+    /// The domain of this level on the path of a core.
+    pub fn on_path(&self, core: Core, level: u32) -> Node
+        requires core { core.number < size_below self.now.levels }
+        requires level { level ≤ length self.now.levels }
+        ensures { result ≡ on_path self.now.levels core.number level }
+    {
+        let way = &self.ways[core.number as usize];
+        Node {
+            level,
+            place: way.places[level as usize],
+        }
+    }
+
+    /// The granted depth of a domain.
+    pub fn granted(&self, node: Node) -> u8
+        requires { HasNodeIn self.now.levels node }
+        ensures value { result ≡ granted_at self.now node.level node.place }
+        ensures tree { IsDomainTree self.now }
+    {
+        let row = &self.granted[node.level as usize];
+        row[node.place as usize]
+    }
+
+    /// Whether what was granted to a domain is confirmed.
+    pub fn confirmed(&self, node: Node) -> bool
+        requires { HasNodeIn self.now.levels node }
+        ensures { result ≡ is_confirmed_at self.now node.level node.place }
+    {
+        self.confirmed_depth(node) > 0
+    }
+
+    /// What a core does. A core that the board does not have is off.
+    pub fn activity(&self, core: Core) -> Activity
+        ensures { result ≡ (state_at self.now core.number).activity }
+    {
+        self.core(core).activity
+    }
+
+    /// The known start of a core, 0 of one that the board does not have.
+    pub fn known_start(&self, core: Core) -> u32
+        ensures { result ≡ known_at self.now core.number }
+    {
+        self.core(core).known
+    }
+
+    /// The depth of a domain that is confirmed, or 0.
+    pub(crate) fn confirmed_depth(&self, node: Node) -> u8
+        requires { HasNodeIn self.now.levels node }
+        ensures { result ≡ confirmed_at self.now node.level node.place }
+    {
+        let places = &self.confirmed[node.level as usize];
+        places[node.place as usize]
+    }
+
+    /// What is kept of a core.
+    fn core(&self, core: Core) -> CoreState
+        ensures { result ≡ state_at self.now core.number }
+    {
+        self.cores
+            .get(core.number as usize)
+            .copied()
+            .unwrap_or(NEVER_STARTED)
+    }
+
+    /// The domain of a node.
+    fn domain(&self, node: Node) -> &Domain
+        requires { HasNodeIn self.now.levels node }
+        ensures cores { leaves result.now
+            ≡ map (λ c. state_at self.now c) (below_in self.now.levels node) }
+        ensures kept { Keeps (out-Domain result.now).kept (leaves result.now) }
+    {
+        law_spans();
+        domain_at(&self.root, &self.board, node)
+    }
+}
+
+/// What a tree keeps beside its domains.
+#[derive(Drop)]
+pub struct Rows {
+    pub cores: Vec<CoreState>,
+    pub ways: Vec<Way>,
+    pub granted: Vec<Vec<u8>>,
+    pub confirmed: Vec<Vec<u8>>,
+}
+
+/// The same where every core is off, in memory of its own. It has a frame of its own.
+#[inline(never)]
+pub fn rows_of(alloc: Global, board: &Board) -> Result<Box<Rows>, Memory>
+    ensures { IfOk result (λ rows. AreFull board.now rows.value) }
+{
+    let rows = Rows {
+        cores: vec![in alloc; NEVER_STARTED; board.cores() as usize]?,
+        ways: ways_of(alloc, board)?,
+        granted: deepest_rows(alloc, board)?,
+        confirmed: deepest_rows(alloc, board)?,
+    };
+    match Box::new(alloc, rows) {
+        Ok(rows) => Ok(rows),
+        Err(_) => Err(Memory),
+    }
+}
