@@ -1,12 +1,12 @@
 //! The tree of power domains.
 
 use crate::build::build;
-use crate::descent::{domain_at, standings_on};
+use crate::descent::{domain_at, standing_on};
 use crate::domain::Domain;
 use crate::grants::deepest_rows;
 use crate::standing::Standing;
 use crate::way::{Way, ways_of};
-use psci_board::{Board, Core, MOST_ON_PATH, Memory, Node, law_sizes, law_spans};
+use psci_board::{Board, Core, Memory, Node, law_sizes, law_spans};
 use psci_state::{Activity, CoreState, NEVER_STARTED};
 use std::alloc::Global;
 use std::marker::Model;
@@ -55,7 +55,7 @@ impl Model for Tree {
     }) };
 }
 
-ghost use Rattle.std.specs.Prelude.{◌≡◌, ℕ, ◌<◌, ◌≤◌, map, length, IfOk, slice_index_or};
+ghost use Rattle.std.specs.Prelude.{◌≡◌, ◌<◌, ◌≤◌, map, length, IfOk};
 ghost use Rattle.psci_board.specs.Board.{size_below, HasNodeIn, below_in};
 ghost use Rattle.psci_tree.specs.declared.domain.Domain.{Domain, out-Domain};
 ghost use Rattle.psci_tree.specs.Recount.{IsDomainTree, state_at, known_at, low, known, active};
@@ -63,7 +63,6 @@ ghost use Rattle.psci_tree.specs.Recount.{off, granted_at, confirmed_at, is_conf
 ghost use Rattle.psci_tree.specs.Changes.{start_of_life};
 ghost use Rattle.psci_tree.specs.Domains.{leaves};
 ghost use Rattle.psci_tree.specs.Kept.{Keeps};
-ghost use Rattle.psci_tree.specs.declared.standing.Standing.{Standing};
 ghost use Rattle.psci_tree.specs.Standing.{on_path, standing};
 
 impl Tree {
@@ -125,16 +124,15 @@ impl Tree {
         self.domain(node).kept.off
     }
 
-    /// How the domains on the path of a core stand, by level, after one way down.
-    pub fn standings(&self, core: Core) -> [Standing; MOST_ON_PATH]
-        requires { core.number < size_below self.now.levels }
-        ensures { (level : ℕ) (s : Standing) → level ≤ length self.now.levels
-            → slice_index_or result level s
-            ≡ standing self.now (on_path self.now.levels core.number level) }
+    /// How the domain of this level on the path of a core stands.
+    pub fn standing(&self, core: Core, level: u32) -> Standing
+        requires core { core.number < size_below self.now.levels }
+        requires level { level ≤ length self.now.levels }
+        ensures { result ≡ standing self.now (on_path self.now.levels core.number level) }
     {
         law_spans();
         let way = &self.ways[core.number as usize];
-        standings_on(&self.root, &self.board, core, way)
+        standing_on(&self.root, &self.board, core, way, level)
     }
 
     /// The domain of this level on the path of a core.
