@@ -1,6 +1,6 @@
 //! The parts that a core sends when it stops.
 
-ghost use Rattle.std.specs.Prelude.{◌≡◌, ◌<◌};
+ghost use Rattle.std.specs.Prelude.{◌≡◌, ◌<◌, []};
 ghost use Rattle.psci_board.specs.declared.node.Node.{Node};
 ghost use Rattle.psci_board.specs.Board.{cores};
 ghost use Rattle.psci_tree.specs.Recount.{TreeValue, low as low_of};
@@ -15,7 +15,7 @@ use psci_tree::{Standing, Tree};
 
 /// The depth that a core that stops wants of the domains on its path.
 #[derive(Drop)]
-enum Wish {
+pub enum Wish {
     /// The least ask of all cores below the domain.
     Least,
     /// What the core itself asks.
@@ -44,7 +44,9 @@ pub fn claims(tree: &Tree, board: &Board, core: Core) -> Parts
     requires core { core.number < cores board.now }
     ensures { result ≡ platform_claims board.now (view_of tree.now) core.number }
 {
-    climb(tree, board, core, &Wish::Least)
+    let mut parts = Parts::new();
+    climb(tree, board, core, &Wish::Least, &mut parts);
+    parts
 }
 
 /// The parts that a core sends when it goes to the state that it asks for: a part for each domain
@@ -54,20 +56,22 @@ pub fn own_parts(tree: &Tree, board: &Board, core: Core, ask: Ask) -> Parts
     requires core { core.number < cores board.now }
     ensures { result ≡ own_claims board.now (view_of tree.now) core.number ask }
 {
-    climb(tree, board, core, &Wish::Own(ask))
+    let mut parts = Parts::new();
+    climb(tree, board, core, &Wish::Own(ask), &mut parts);
+    parts
 }
 
-/// Up the path of a core, a part for each domain, as long as a depth of at least 1 is wanted.
-fn climb(tree: &Tree, board: &Board, core: Core, wish: &Wish) -> Parts
+/// Up the path of a core, a part for each domain, as long as a depth of at least 1 is wanted. They
+/// are written where they are to stand, which has none before.
+pub fn climb(tree: &Tree, board: &Board, core: Core, wish: &Wish, parts: &mut Parts)
     requires board { tree.now.levels ≡ board.now.levels }
     requires core { core.number < cores board.now }
-    ensures { result ≡ claims_of board.now (view_of tree.now) core.number
+    requires none { parts.old ≡ [] }
+    ensures { parts.new ≡ claims_of board.now (view_of tree.now) core.number
         (wanted board.now (view_of tree.now) core.number wish.now) }
 {
-    let standings = tree.standings(core);
-    let mut parts = Parts::new();
     for level in 0..board.height() + 1 {
-        let Standing { low, known } = standings[level as usize];
+        let Standing { low, known } = tree.standing(core, level);
         let depth = wish.depth(level, low);
         if depth == 0 {
             break;
@@ -78,5 +82,4 @@ fn climb(tree: &Tree, board: &Board, core: Core, wish: &Wish) -> Parts
             generation: known,
         });
     }
-    parts
 }

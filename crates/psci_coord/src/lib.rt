@@ -6,5 +6,5 @@
 
 mod claim;
 
-pub use claim::{claims, own_parts};
+pub use claim::{Wish, claims, climb, own_parts};
 pub use psci_claims::{MOST_PARTS, Part, Parts};

@@ -76,8 +76,8 @@ pub fn enter(state: &mut State, core: Core, start: Start) -> Reaction
         }
         None => {
             state.arrive_away(core, start);
-            let parts = state.leaving_parts(core);
-            send_down(state, core, parts)
+            let wish = state.leaving_wish(core);
+            send_down(state, core, &wish)
         }
     }
 }

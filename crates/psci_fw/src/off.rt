@@ -8,6 +8,7 @@ ghost use Rattle.psci_messages.specs.Message.{AreClaims};
 ghost use Rattle.psci_fw_spec.specs.Changes.{with_claims};
 ghost use Rattle.psci_fw_spec.specs.Outcomes.{message_for, stops_with};
 ghost use Rattle.psci_fw_state.specs.Claims.{MayClaim};
+ghost use Rattle.psci_fw_state.specs.Wishes.{wished_in};
 ghost use Rattle.psci_fw.specs.Calls.{FunctionAnswered, MayCall};
 ghost use Rattle.psci_fw.specs.Reactions.{IsInItsSlot, outcome_in};
 ghost use Rattle.psci_fw_state.specs.Seen.{values_in};
@@ -15,10 +16,8 @@ ghost use Rattle.psci_fw_state.specs.Seen.{values_in};
 use crate::laws::law_may_claim;
 use crate::reaction::Reaction;
 use psci_board::Core;
-use psci_claims::Parts;
 use psci_fw_spec::law_stops;
-use psci_fw_state::State;
-use psci_messages::Kind;
+use psci_fw_state::{State, Wish};
 
 /// CPU_OFF (DEN0022D): the caller stops, and goes off.
 pub fn cpu_off(state: &mut State, caller: Core) -> Reaction
@@ -31,23 +30,27 @@ pub fn cpu_off(state: &mut State, caller: Core) -> Reaction
     law_stops();
     law_may_claim();
     state.set_away(caller);
-    let parts = state.leaving_parts(caller);
-    send_down(state, caller, parts)
+    let wish = state.leaving_wish(caller);
+    send_down(state, caller, &wish)
 }
 
-/// A core stops with this claim: it sends a Down, and its domains are granted what it claims.
-pub fn send_down(state: &mut State, core: Core, parts: Parts) -> Reaction
+/// A core stops that wants this: it sends a Down, and its domains are granted what it claims.
+/// Compiled into its callers, so that a reaction is never written to memory.
+#[inline(always)]
+pub fn send_down(state: &mut State, core: Core, wish: &Wish) -> Reaction
     requires inside { core.number < cores state.old.board }
-    requires claim { AreClaims parts }
-    requires may { MayClaim state.old.board core.number parts (values_in state.old).granted }
+    requires claim { AreClaims (wished_in state.old core.number wish.now) }
+    requires may { MayClaim state.old.board core.number (wished_in state.old core.number wish.now)
+        (values_in state.old).granted }
     ensures answer { outcome_in state.new.board (values_in state.new) result
-        ≡ stops_with (message_for (values_in state.old) kinds.Down core.number parts) }
+        ≡ stops_with (message_for (values_in state.old) kinds.Down core.number
+        (wished_in state.old core.number wish.now)) }
     ensures slot { IsInItsSlot state.new.board (values_in state.new) result }
     ensures after { values_in state.new ≡ with_claims state.old.board
-        (message_for (values_in state.old) kinds.Down core.number parts) (values_in state.old) }
+        (message_for (values_in state.old) kinds.Down core.number
+        (wished_in state.old core.number wish.now)) (values_in state.old) }
     ensures board { state.new.board ≡ state.old.board }
 {
-    let message = state.message(Kind::Down, core, parts);
-    state.claim(message);
+    state.claim(core, wish);
     Reaction::stops_with(core.number)
 }

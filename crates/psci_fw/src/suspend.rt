@@ -54,7 +54,9 @@ fn has_invalid_entry(board: &Board, ask: Ask, entry_point: u64) -> bool
     ask.deep() && !board.may_enter(entry_point)
 }
 
-/// A core is suspended with this ask, or is answered why it may not be.
+/// A core is suspended with this ask, or is answered why it may not be. Compiled into its callers,
+/// so that it has no frame of its own.
+#[inline(always)]
 pub fn sleep(state: &mut State, core: Core, ask: Ask, opening: Opening) -> Reaction
     requires call { MayCall state.old core.number }
     requires may { MaySuspend state.old.board (values_in state.old) core.number ask opening }
@@ -69,7 +71,7 @@ pub fn sleep(state: &mut State, core: Core, ask: Ask, opening: Opening) -> React
 {
     law_stops();
     match state.suspend(core, ask, opening) {
-        Ok(parts) => send_down(state, core, parts),
+        Ok(wish) => send_down(state, core, &wish),
         Err(reason) => Reaction::returns(osi_code(reason)),
     }
 }

@@ -13,7 +13,6 @@ use Rattle.psci_messages.specs.Message.{AckValue}
 use Rattle.psci_messages.specs.Slots.{message_in, slot_of}
 use Rattle.psci_tree.specs.Recount.{TreeValue, IsDomainTree, state_at, granted_at, known_at, known}
 use Rattle.psci_tree.specs.Recount.{is_confirmed_at}
-use Rattle.psci_tree.specs.Standing.{on_path as on_path_of}
 use Rattle.psci_fw_spec.specs.Changes.{confirms_on}
 use Rattle.psci_fw_spec.specs.Confirmed.{applied_part, is_made_at}
 use Rattle.psci_fw_state.specs.Confirming.{is_last_claim}
@@ -51,20 +50,6 @@ known_below b t u n cores levels =
     let same : (λ k. known_at u k) ≡ (λ k. known_at t k) = λ i k. (cores k i).known in
     ap (λ (f : ℕ → ℕ). sum_by f (below_in u.levels n)) same
     ∙ ap (λ (ws : List (List ℕ)). sum_by (known_at t) (below_in ws n)) levels
-
--- the sum that was read before the parts is still that of the domain
-pub known_still : (b : BoardValue) (t u : TreeValue) (core level k : ℕ) (n : Node)
-    → ((c : ℕ) → state_at u c ≡ state_at t c) → t.levels ≡ b.levels → u.levels ≡ b.levels
-    → k ≡ known t (on_path_of t.levels core level)
-    → n ≡ record { level = level; place = up b level core } → k ≡ known u n
-unfolding up
-known_still b t u core level k n cores board now e f =
-    let own : Node = record { level = level; place = up b level core } in
-    e
-    ∙ ap (λ (ws : List (List ℕ)). known t (on_path_of ws core level)) board
-    ∙ known_below b t t own (λ c. refl) board
-    ∙ sym (known_below b t u own cores now)
-    ∙ ap (known u) (sym f)
 
 -- one level more
 module _ (b : BoardValue) (c : ℕ) (parts : List Part) (t u w : TreeValue) (n : ℕ)

@@ -10,5 +10,6 @@ mod Granting
 mod Moved
 mod NodeStatus
 mod Viewed
+mod WishRows
 mod KeptCounts
 mod KeptRows

@@ -1,25 +1,32 @@
 -- What claims are made from is what the tree holds.
-use Rattle.std.proofs.Common.{◌≡◌, ℕ, refl, ap, length, sym, ◌∙◌, List, Ok}
-use Rattle.std.specs.Prelude.{nat_le, if◌then◌else◌}
+use Rattle.std.proofs.Common.{◌≡◌, ℕ, refl, length, sym, List, Ok, Err, None, Some}
+use Rattle.std.specs.Prelude.{nat_le, if◌then◌else◌, Option}
 use Rattle.psci_board.specs.Board.{BoardValue}
-use Rattle.psci_claims.specs.Claim.{platform_claims}
-use Rattle.psci_claims.specs.LastCore.{last_core_check}
+use Rattle.psci_claims.specs.declared.osi.Osi.{Osi}
+use Rattle.psci_claims.specs.psci_parts.declared.part.Part.{Part}
+use Rattle.psci_claims.specs.Claim.{claims_of, own_claims}
+use Rattle.psci_claims.specs.LastCore.{answer_by, last_core_check, refusal, shallow}
 use Rattle.psci_claims.specs.Looked.{view_of}
+use Rattle.psci_claims.specs.View.{generation}
+use Rattle.psci_coord.specs.declared.claim.Wish.{Wish}
+use Rattle.psci_coord.specs.declared.claim.Wish.TheVariants.{Least, Own}
 use Rattle.psci_state.specs.declared.cores.Activity.{Activity}
 use Rattle.psci_state.specs.declared.cores.Activity.TheVariants as activities
 use Rattle.psci_tree.specs.Recount.{asks, state_at, is_active, is_away}
 use Rattle.psci_fw_spec.specs.declared.status.Status.{Status}
 use Rattle.psci_fw_spec.specs.declared.status.Status.TheVariants as statuses
+use Rattle.psci_fw_spec.specs.declared.mode.SuspendMode.{SuspendMode}
 use Rattle.psci_fw_spec.specs.declared.mode.SuspendMode.TheVariants.{Platform, OsInitiated}
 use Rattle.psci_fw_spec.specs.declared.opening.Opening.{Opening}
 use Rattle.psci_fw_spec.specs.Changes.{with_rest}
-use Rattle.psci_fw_spec.specs.Claims.{suspend_claims, suspend_parts}
+use Rattle.psci_fw_spec.specs.Claims.{suspend_claims}
 use Rattle.psci_fw_spec.specs.Effects.{suspends}
 use Rattle.psci_fw_spec.specs.Phases.{activity_of}
 use Rattle.psci_fw_spec.specs.Values.{Values}
 use Rattle.psci_fw_spec.specs.Views.{view}
 use Rattle.psci_fw_state.specs.Rows.{row_at}
 use Rattle.psci_fw_state.specs.Seen.{IsState, StateValue, phase_by, values_in}
+use Rattle.psci_fw_state.specs.Wishes.{asked_wish, wish_unless, wished_claims}
 
 back : (s : Status) (a : Activity) → activity_of (phase_by s a) ≡ a
 back statuses.On activities.Active = refl
@@ -49,16 +56,52 @@ viewed s is =
 
 -- Suspended -------------------------------------------------------------------------------------
 
--- where a core goes on is nothing to its domains
-pub platform_parts : (b : BoardValue) (v w : Values) (c : ℕ) (ask : List ℕ) (opening : Opening)
-    → v.mode ≡ Platform → w ≡ with_rest c (suspends opening ask) v
-    → Ok (platform_claims b (view b w) c) ≡ suspend_parts b v c ask
-unfolding suspend_parts view
-platform_parts b v w c ask opening e is =
-    ap (λ (x : Values). Ok (platform_claims b (view b x) c)) is
-    ∙ ap (suspend_claims b v c ask) (sym e)
+-- in platform-coordinated mode the least is claimed of what is asked once the core is suspended
+platform_wished : (b : BoardValue) (v w : Values) (c : ℕ) (ask : List ℕ) (opening : Opening)
+    (wish : Wish) → w ≡ with_rest c (suspends opening ask) v
+    → Ok wish ≡ asked_wish b (view b v) c ask Platform
+    → suspend_claims b v c ask Platform ≡ Ok (wished_claims b (view b w) c wish)
+unfolding view
+platform_wished b v w c ask opening Least is said = rw is refl
+platform_wished b v w c ask opening (Own own) is said = cc
 
-pub checked : (b : BoardValue) (v : Values) (c : ℕ) (ask : List ℕ) → v.mode ≡ OsInitiated
-    → last_core_check b (view b v) c ask ≡ suspend_parts b v c ask
-unfolding suspend_parts
-checked b v c ask e = ap (suspend_claims b v c ask) (sym e)
+-- in OS-initiated mode its own ask, of which where a core goes on is no part
+own_wished : (b : BoardValue) (v w : Values) (c : ℕ) (ask : List ℕ) (opening : Opening)
+    (wish : Wish) (reason : Option Osi) → w ≡ with_rest c (suspends opening ask) v
+    → Ok wish ≡ wish_unless reason ask
+    → answer_by reason (own_claims b (view b v) c ask) ≡ Ok (wished_claims b (view b w) c wish)
+unfolding view claims_of generation
+own_wished b v w c ask opening Least None is said = cc
+own_wished b v w c ask opening (Own own) None is said =
+    let it : Ok (Own own) ≡ Ok (Own ask) = said in
+    let same : own ≡ ask = cc in
+    rw (is, same) refl
+own_wished b v w c ask opening wish (Some reason) is said = cc
+
+-- where nothing refuses it, the parts are those that the core wants once it is suspended
+pub suspend_wished : (b : BoardValue) (v w : Values) (c : ℕ) (ask : List ℕ) (opening : Opening)
+    (wish : Wish) (mode : SuspendMode) → w ≡ with_rest c (suspends opening ask) v
+    → Ok wish ≡ asked_wish b (view b v) c ask mode
+    → suspend_claims b v c ask mode ≡ Ok (wished_claims b (view b w) c wish)
+unfolding last_core_check
+suspend_wished b v w c ask opening wish Platform is said =
+    platform_wished b v w c ask opening wish is said
+suspend_wished b v w c ask opening wish OsInitiated is said =
+    own_wished b v w c ask opening wish (refusal b (view b v) (shallow b (view b v) c ask)) is said
+
+-- and else it is refused for the same reason
+refused_by : (ask : List ℕ) (parts : List Part) (e : Osi) (reason : Option Osi)
+    → Err e ≡ wish_unless reason ask → answer_by reason parts ≡ Err e
+refused_by ask parts e None said = cc
+refused_by ask parts e (Some reason) said =
+    let same : reason ≡ e = cc in
+    rw same refl
+
+pub suspend_refused : (b : BoardValue) (v : Values) (c : ℕ) (ask : List ℕ) (e : Osi)
+    (mode : SuspendMode) → Err e ≡ asked_wish b (view b v) c ask mode
+    → suspend_claims b v c ask mode ≡ Err e
+unfolding last_core_check
+suspend_refused b v c ask e Platform said = cc
+suspend_refused b v c ask e OsInitiated said =
+    refused_by ask (own_claims b (view b v) c ask) e
+    (refusal b (view b v) (shallow b (view b v) c ask)) said

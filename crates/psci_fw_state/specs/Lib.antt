@@ -3,3 +3,4 @@ pub mod Confirming
 pub mod Counts
 pub mod Rows
 pub mod Seen
+pub mod Wishes

@@ -1,9 +1,10 @@
 //! What a core that stops claims of its power domains.
 
-ghost use Rattle.std.specs.Prelude.{◌≡◌, ◌<◌, ◌≤◌, ◌+◌, ℕ, length, IfOk, OnErr};
+ghost use Rattle.std.specs.Prelude.{◌≡◌, ◌<◌, ◌≤◌, ◌+◌, [], ℕ, length, IfOk, MatchResult, OnErr};
+ghost use Rattle.std.specs.Prelude.{Err, Ok};
 ghost use Rattle.psci_board.specs.Board.{IsBoard, cores, height};
-ghost use Rattle.psci_claims.specs.Claim.{off_claims, platform_claims};
-ghost use Rattle.psci_claims.specs.LastCore.{last_core_check};
+ghost use Rattle.psci_claims.specs.Claim.{off_claims, own_claims};
+ghost use Rattle.psci_claims.specs.LastCore.{refusal, shallow};
 ghost use Rattle.psci_messages.specs.declared.kind.Kind.TheVariants as kinds;
 ghost use Rattle.psci_messages.specs.Message.{ArePartsOf, AreClaims};
 ghost use Rattle.psci_tree.specs.Recount.{IsDomainTree, state_at, granted_at};
@@ -17,85 +18,88 @@ ghost use Rattle.psci_fw_spec.specs.Paths.{granted_with};
 ghost use Rattle.psci_fw_spec.specs.Phases.{Running};
 ghost use Rattle.psci_fw_spec.specs.Views.{view};
 ghost use Rattle.psci_fw_state.specs.Claims.{MayClaim};
+ghost use Rattle.psci_fw_state.specs.Wishes.{asked_wish, wished_in};
 ghost use Rattle.psci_fw_state.specs.Seen.{values_in};
 
 use crate::state::State;
 use psci_board::{Board, Core, law_paths, law_sizes};
 use psci_claims::{Osi, Part, Parts};
-use psci_coord::claims;
+use psci_coord::{Wish, climb};
 use psci_fw_spec::{Opening, SuspendMode};
 use psci_messages::{Kind, Message, law_parts, law_slots};
-use psci_osi::{check, off_parts};
+use psci_osi::{off_ask, path_refusal};
 use psci_state::Ask;
 use psci_tree::{Tree, law_confirmed, law_cores, law_granted};
 
 impl State {
-    /// The parts of a core that is off or going off.
-    pub fn leaving_parts(&self, core: Core) -> Parts
+    /// What a core that is off or going off wants of its domains.
+    pub fn leaving_wish(&self, core: Core) -> Wish
         requires inside { core.number < cores self.now.board }
-        ensures { let v = values_in self.now in
-            result ≡ leaving_claims self.now.board (view self.now.board v) core.number v.mode }
+        ensures { let v = values_in self.now in wished_in self.now core.number result
+            ≡ leaving_claims self.now.board (view self.now.board v) core.number v.mode }
     {
         match self.mode() {
-            SuspendMode::Platform => self.least_parts(core),
-            SuspendMode::OsInitiated => self.off_parts(core),
+            SuspendMode::Platform => Wish::Least,
+            SuspendMode::OsInitiated => Wish::Own(self.off_ask(core)),
         }
     }
 
-    /// A running core is suspended with this ask: its parts, or why it may not be.
-    pub fn suspend(&mut self, core: Core, ask: Ask, opening: Opening) -> Result<Parts, Osi>
+    /// A running core is suspended with this ask: what it then wants of its domains, or why it may
+    /// not be.
+    pub fn suspend(&mut self, core: Core, ask: Ask, opening: Opening) -> Result<Wish, Osi>
         requires inside { core.number < cores self.old.board }
         requires running { (values_in self.old).phase core.number ≡ Running }
-        ensures parts { result
-            ≡ suspend_parts self.old.board (values_in self.old) core.number ask }
+        ensures parts { let said = suspend_parts self.old.board (values_in self.old) core.number ask
+            in MatchResult result (λ wish. said ≡ Ok (wished_in self.new core.number wish))
+            (λ e. said ≡ Err e) }
         ensures after { IfOk result (λ _. values_in self.new
             ≡ with_rest core.number (suspends opening ask) (values_in self.old)) }
         ensures refused { OnErr result (self.new ≡ self.old) }
         ensures board { self.new.board ≡ self.old.board }
     {
-        match self.mode() {
-            SuspendMode::Platform => {
+        match self.asked_wish(core, ask) {
+            Ok(wish) => {
                 self.set_suspended(core, ask, opening);
-                Ok(self.least_parts(core))
+                Ok(wish)
             }
-            SuspendMode::OsInitiated => match self.checked_parts(core, ask) {
-                Ok(parts) => {
-                    self.set_suspended(core, ask, opening);
-                    Ok(parts)
-                }
-                Err(reason) => Err(reason),
+            Err(reason) => Err(reason),
+        }
+    }
+
+    /// What a core wants of its domains that asks for this, or why it may not.
+    fn asked_wish(&self, core: Core, ask: Ask) -> Result<Wish, Osi>
+        requires inside { core.number < cores self.now.board }
+        ensures { let v = values_in self.now in result
+            ≡ asked_wish self.now.board (view self.now.board v) core.number ask v.mode }
+    {
+        match self.mode() {
+            SuspendMode::Platform => Ok(Wish::Least),
+            SuspendMode::OsInitiated => match self.refusal(core, ask) {
+                None => Ok(Wish::Own(ask)),
+                Some(reason) => Err(reason),
             },
         }
     }
 
-    /// The parts of a core in platform-coordinated mode.
+    /// Why a core that asks for this in OS-initiated mode is refused, if it is.
     #[tactic(auto, unfolding(crate::specs::Seen::values_in))]
-    fn least_parts(&self, core: Core) -> Parts
+    fn refusal(&self, core: Core, ask: Ask) -> Option<Osi>
         requires inside { core.number < cores self.now.board }
-        ensures { result ≡ platform_claims self.now.board
-            (view self.now.board (values_in self.now)) core.number }
+        ensures { let w = view self.now.board (values_in self.now) in
+            result ≡ refusal self.now.board w (shallow self.now.board w core.number ask) }
     {
-        claims(&self.tree, &self.board, core)
+        path_refusal(&self.tree, &self.board, core, ask)
     }
 
-    /// The parts of a core that asks for this in OS-initiated mode, or why it may not.
+    /// What a core asks that goes off in OS-initiated mode.
     #[tactic(auto, unfolding(crate::specs::Seen::values_in))]
-    fn checked_parts(&self, core: Core, ask: Ask) -> Result<Parts, Osi>
+    fn off_ask(&self, core: Core) -> Ask
         requires inside { core.number < cores self.now.board }
-        ensures { result ≡ last_core_check self.now.board
-            (view self.now.board (values_in self.now)) core.number ask }
+        ensures { let w = view self.now.board (values_in self.now) in
+            own_claims self.now.board w core.number result
+            ≡ off_claims self.now.board w core.number }
     {
-        check(&self.tree, &self.board, core, ask)
-    }
-
-    /// The parts of a core that goes off in OS-initiated mode.
-    #[tactic(auto, unfolding(crate::specs::Seen::values_in))]
-    fn off_parts(&self, core: Core) -> Parts
-        requires inside { core.number < cores self.now.board }
-        ensures { result ≡ off_claims self.now.board
-            (view self.now.board (values_in self.now)) core.number }
-    {
-        off_parts(&self.tree, &self.board, core)
+        off_ask(&self.tree, &self.board, core)
     }
 
     /// A message of this kind for a core, with its known start.
@@ -115,28 +119,56 @@ impl State {
         }
     }
 
-    /// A Down was sent: the domains of its parts are granted what it claims.
-    #[tactic(auto, unfolding(crate::specs::Seen::values_in))]
-    pub fn claim(&mut self, message: Message)
-        requires inside { message.core.number < cores self.old.board }
-        requires down { message.kind ≡ kinds.Down }
-        requires parts { AreClaims message.parts }
-        requires may { MayClaim self.old.board message.core.number message.parts
-            (values_in self.old).granted }
-        ensures after { values_in self.new ≡ with_claims self.old.board message
-            (values_in self.old) }
+    /// A core that wants this sends a Down: its domains are granted what it claims. The parts are
+    /// in this frame alone, and are copied from it into their slot.
+    pub fn claim(&mut self, core: Core, wish: &Wish)
+        requires inside { core.number < cores self.old.board }
+        requires parts { AreClaims (wished_in self.old core.number wish.now) }
+        requires may { MayClaim self.old.board core.number
+            (wished_in self.old core.number wish.now) (values_in self.old).granted }
+        ensures after { let v = values_in self.old in
+            let parts = wished_in self.old core.number wish.now in values_in self.new
+            ≡ with_claims self.old.board (message_for v kinds.Down core.number parts) v }
         ensures board { self.new.board ≡ self.old.board }
     {
+        let mut parts = Parts::new();
+        self.wished_parts(core, wish, &mut parts);
+        self.claim_parts(core, &parts);
+    }
+
+    /// The parts of a core that wants this.
+    #[tactic(auto, unfolding(crate::specs::Seen::values_in))]
+    fn wished_parts(&self, core: Core, wish: &Wish, parts: &mut Parts)
+        requires inside { core.number < cores self.now.board }
+        requires none { parts.old ≡ [] }
+        ensures { parts.new ≡ wished_in self.now core.number wish.now }
+    {
+        climb(&self.tree, &self.board, core, wish, parts);
+    }
+
+    /// A Down with these parts was sent: their domains are granted what it claims.
+    #[tactic(auto, unfolding(crate::specs::Seen::values_in))]
+    fn claim_parts(&mut self, core: Core, parts: &Parts)
+        requires inside { core.number < cores self.old.board }
+        requires parts { AreClaims parts.now }
+        requires may { MayClaim self.old.board core.number parts.now (values_in self.old).granted }
+        ensures after { let v = values_in self.old in values_in self.new
+            ≡ with_claims self.old.board (message_for v kinds.Down core.number parts.now) v }
+        ensures board { self.new.board ≡ self.old.board }
+    {
+        law_sizes();
         law_slots();
         law_granted();
         law_confirmed();
-        grant_parts(
-            &mut self.tree,
-            &self.board,
-            message.core,
-            message.parts.as_slice(),
-        );
-        self.slots.put(message);
+        let number = self.tree.known_start(core);
+        grant_parts(&mut self.tree, &self.board, core, parts.as_slice());
+        self.slots.put(Message {
+            kind: Kind::Down,
+            core,
+            life: self.life,
+            number,
+            parts: parts.copy(),
+        });
     }
 }
 

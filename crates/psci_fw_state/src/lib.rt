@@ -19,4 +19,5 @@ mod row;
 mod state;
 mod whole;
 
+pub use psci_coord::Wish;
 pub use state::State;

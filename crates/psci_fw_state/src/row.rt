@@ -66,9 +66,10 @@ pub fn reset_rows(rows: &mut [CoreRow], board: &Board)
 pub fn row_of(rows: &[CoreRow], core: Core) -> CoreRow
     ensures { result ≡ row_at rows.now core.number }
 {
-    rows.get(core.number as usize)
-        .copied()
-        .unwrap_or(CoreRow::OFF)
+    match rows.get(core.number as usize) {
+        Some(row) => *row,
+        None => CoreRow::OFF,
+    }
 }
 
 /// Keeps this row of a core, if it is there.

@@ -32,11 +32,21 @@ pub fn encode_message(message: &Message) -> [u8; FRAME_LEN]
     ensures spelled { result ≡ frame_bytes (frames.Message message.now) }
     ensures frame { IsFrame (frames.Message message.now) }
 {
+    let mut bytes = [0; FRAME_LEN];
+    write_message(message, &mut bytes);
+    bytes
+}
+
+/// Writes the bytes of the frame of a message where they are to stand.
+pub fn write_message(message: &Message, bytes: &mut [u8; FRAME_LEN])
+    ensures spelled { bytes.new ≡ frame_bytes (frames.Message message.now) }
+    ensures frame { IsFrame (frames.Message message.now) }
+{
     let parts = message.parts.as_slice();
     let kind = kind_code(message.kind);
     let count = parts.len() as u8;
     let header = header(kind, message.core, message.life, message.number, count);
-    joined(header, parts)
+    join(header, parts, bytes);
 }
 
 /// The bytes of the frame of an acknowledgement.
@@ -45,10 +55,10 @@ pub fn encode_ack(ack: &Ack) -> [u8; FRAME_LEN]
     ensures frame { IsFrame (frames.Ack ack.now) }
 {
     let kind = kind_code(ack.kind) + if ack.stale { 0x20 } else { 0x10 };
-    joined(
-        header(kind, ack.core, ack.life, ack.number, ack.applied),
-        &[],
-    )
+    let header = header(kind, ack.core, ack.life, ack.number, ack.applied);
+    let mut bytes = [0; FRAME_LEN];
+    join(header, &[], &mut bytes);
+    bytes
 }
 
 /// The low half of a kind byte.
@@ -80,20 +90,19 @@ fn header(kind: u8, core: Core, life: u32, number: u32, count: u8) -> [u8; HEADE
 /// The header and the parts, and zeros in the places that are not used. Compiled into its callers,
 /// so that an acknowledgement has no loop over parts.
 #[inline(always)]
-fn joined(header: [u8; HEADER_LEN], parts: &[Part]) -> [u8; FRAME_LEN]
+fn join(header: [u8; HEADER_LEN], parts: &[Part], bytes: &mut [u8; FRAME_LEN])
     requires few { length parts.now ≤ MOST_PARTS }
     requires levels { is_climbing 0 parts.now ≡ true }
-    ensures bytes { result ≡ header ++ part_fields parts.now }
+    ensures bytes { bytes.new ≡ header ++ part_fields parts.now }
     ensures fits { AllByRecursion (λ part. part.generation < 2 ^ 64) parts.now }
 {
-    let mut bytes = [0; FRAME_LEN];
+    *bytes = [0; FRAME_LEN];
     bytes[..HEADER_LEN].copy_from_slice(&header);
     let mut end = HEADER_LEN;
     for part in parts {
         bytes[end..end + PART_LEN].copy_from_slice(&part_bytes(part));
         end += PART_LEN;
     }
-    bytes
 }
 
 /// A part in its place.

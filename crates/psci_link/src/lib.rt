@@ -13,7 +13,7 @@ mod heading;
 mod laws;
 
 pub use decoding::{ack_in, decode, heading_on, message_in};
-pub use encoding::{encode, encode_ack, encode_message};
+pub use encoding::{encode, encode_ack, encode_message, write_message};
 pub use fault::FrameFault;
 pub use frame::{FRAME_LEN, Frame};
 pub use heading::Heading;

@@ -28,7 +28,7 @@ pub fn check(tree: &Tree, board: &Board, core: Core, ask: Ask) -> Result<Parts, 
 }
 
 /// Why the request is refused, if it is.
-fn path_refusal(tree: &Tree, board: &Board, core: Core, ask: Ask) -> Option<Osi>
+pub fn path_refusal(tree: &Tree, board: &Board, core: Core, ask: Ask) -> Option<Osi>
     requires board { tree.now.levels ≡ board.now.levels }
     requires core { core.number < cores board.now }
     ensures { result ≡ refusal board.now (view_of tree.now)

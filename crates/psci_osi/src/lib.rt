@@ -12,6 +12,6 @@
 mod last_core;
 mod off;
 
-pub use last_core::check;
-pub use off::off_parts;
+pub use last_core::{check, path_refusal};
+pub use off::{off_ask, off_parts};
 pub use psci_claims::Osi;

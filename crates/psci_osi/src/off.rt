@@ -2,7 +2,7 @@
 
 ghost use Rattle.std.specs.Prelude.{◌≡◌, ℕ, ◌<◌, ◌≤◌, ◌+◌};
 ghost use Rattle.psci_board.specs.Board.{HasNode, IsBoard, cores, height};
-ghost use Rattle.psci_claims.specs.Claim.{off_claims, off_wish};
+ghost use Rattle.psci_claims.specs.Claim.{off_claims, off_wish, own_claims};
 ghost use Rattle.psci_claims.specs.View.{is_all_away};
 ghost use Rattle.psci_claims.specs.Looked.{view_of};
 
@@ -19,8 +19,17 @@ pub fn off_parts(tree: &Tree, board: &Board, core: Core) -> Parts
     requires core { core.number < cores board.now }
     ensures { result ≡ off_claims board.now (view_of tree.now) core.number }
 {
-    let highest = highest_off(tree, board, core);
-    own_parts(tree, board, core, Ask::deepest(highest))
+    own_parts(tree, board, core, off_ask(tree, board, core))
+}
+
+/// The ask whose parts these are.
+pub fn off_ask(tree: &Tree, board: &Board, core: Core) -> Ask
+    requires board { tree.now.levels ≡ board.now.levels }
+    requires core { core.number < cores board.now }
+    ensures { own_claims board.now (view_of tree.now) core.number result
+        ≡ off_claims board.now (view_of tree.now) core.number }
+{
+    Ask::deepest(highest_off(tree, board, core))
 }
 
 /// The highest level up to which the core's domains have no core below that is not off, or 0.

@@ -1,11 +1,11 @@
 //! What a tree of power domains is made of.
 
-use crate::descent::{domain_at, standings_on};
+use crate::descent::{domain_at, standing_on};
 use crate::domain::Domain;
 use crate::grants::deepest_rows;
 use crate::standing::Standing;
 use crate::way::{Way, ways_of};
-use psci_board::{Board, Core, MOST_ON_PATH, Memory, Node, law_spans};
+use psci_board::{Board, Core, Memory, Node, law_spans};
 use psci_state::{Activity, CoreState, NEVER_STARTED};
 use std::alloc::Global;
 use std::marker::Model;
@@ -54,8 +54,7 @@ impl Model for TreeParts {
     }) };
 }
 
-ghost use Rattle.std.specs.Prelude.{◌≡◌, ℕ, ◌<◌, ◌≤◌, map, length, replicate, IfOk};
-ghost use Rattle.std.specs.Prelude.{slice_index_or};
+ghost use Rattle.std.specs.Prelude.{◌≡◌, ◌<◌, ◌≤◌, map, length, replicate, IfOk};
 ghost use Rattle.psci_board.specs.Board.{IsBoard, size_below, HasNodeIn, below_in};
 ghost use Rattle.psci_tree.specs.declared.domain.Domain.{Domain, out-Domain};
 ghost use Rattle.psci_tree.specs.Recount.{IsDomainTree, state_at, known_at, low, known, active};
@@ -65,7 +64,6 @@ ghost use Rattle.psci_tree.specs.Parts.{AreFull};
 ghost use Rattle.psci_tree.specs.Changes.{all_off};
 ghost use Rattle.psci_tree.specs.Domains.{IsWhole, leaves};
 ghost use Rattle.psci_tree.specs.Kept.{IsKept, Keeps};
-ghost use Rattle.psci_tree.specs.declared.standing.Standing.{Standing};
 ghost use Rattle.psci_tree.specs.Standing.{on_path, standing};
 
 impl TreeParts {
@@ -137,16 +135,15 @@ impl TreeParts {
         self.domain(node).kept.off
     }
 
-    /// How the domains on the path of a core stand, by level, after one way down.
-    pub fn standings(&self, core: Core) -> [Standing; MOST_ON_PATH]
-        requires { core.number < size_below self.now.levels }
-        ensures { (level : ℕ) (s : Standing) → level ≤ length self.now.levels
-            → slice_index_or result level s
-            ≡ standing self.now (on_path self.now.levels core.number level) }
+    /// How the domain of this level on the path of a core stands.
+    pub fn standing(&self, core: Core, level: u32) -> Standing
+        requires core { core.number < size_below self.now.levels }
+        requires level { level ≤ length self.now.levels }
+        ensures { result ≡ standing self.now (on_path self.now.levels core.number level) }
     {
         law_spans();
         let way = &self.ways[core.number as usize];
-        standings_on(&self.root, &self.board, core, way)
+        standing_on(&self.root, &self.board, core, way, level)
     }
 
     /// The domain of this level on the path of a core.

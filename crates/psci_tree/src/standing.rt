@@ -8,8 +8,3 @@ pub struct Standing {
     /// The sum of the known starts of the cores below.
     pub known: u64,
 }
-
-impl Standing {
-    /// What is written before a domain is looked at.
-    pub const UNKNOWN: Standing = Standing { low: 0, known: 0 };
-}

@@ -3,7 +3,7 @@
 use crate::build::root_of;
 use crate::parts::{BOOT_CORE, TreeParts, rows_of};
 use crate::standing::Standing;
-use psci_board::{Board, Core, MOST_ON_PATH, Memory, Node, law_sizes};
+use psci_board::{Board, Core, Memory, Node, law_sizes};
 use psci_state::{Activity, Ask};
 use std::alloc::Global;
 use std::marker::Model;
@@ -23,13 +23,12 @@ impl Model for Tree {
     ghost view = { λ t. t.parts.value };
 }
 
-ghost use Rattle.std.specs.Prelude.{◌≡◌, ℕ, ◌<◌, ◌≤◌, length, IfOk, slice_index_or};
+ghost use Rattle.std.specs.Prelude.{◌≡◌, ◌<◌, ◌≤◌, length, IfOk};
 ghost use Rattle.psci_board.specs.Board.{size_below, HasNodeIn};
 ghost use Rattle.psci_tree.specs.Recount.{IsDomainTree, state_at, known_at, low, known, active};
 ghost use Rattle.psci_tree.specs.Recount.{off, granted_at, is_confirmed_at};
 ghost use Rattle.psci_tree.specs.Changes.{MayGrant, suspended, turned_off, made_pending, started};
 ghost use Rattle.psci_tree.specs.Changes.{start_of_life, with_grant, with_confirmed};
-ghost use Rattle.psci_tree.specs.declared.standing.Standing.{Standing};
 ghost use Rattle.psci_tree.specs.Standing.{on_path, standing};
 
 impl Tree {
@@ -82,14 +81,13 @@ impl Tree {
         self.parts.off(node)
     }
 
-    /// How the domains on the path of a core stand, by level, after one way down.
-    pub fn standings(&self, core: Core) -> [Standing; MOST_ON_PATH]
-        requires { core.number < size_below self.now.levels }
-        ensures { (level : ℕ) (s : Standing) → level ≤ length self.now.levels
-            → slice_index_or result level s
-            ≡ standing self.now (on_path self.now.levels core.number level) }
+    /// How the domain of this level on the path of a core stands.
+    pub fn standing(&self, core: Core, level: u32) -> Standing
+        requires core { core.number < size_below self.now.levels }
+        requires level { level ≤ length self.now.levels }
+        ensures { result ≡ standing self.now (on_path self.now.levels core.number level) }
     {
-        self.parts.standings(core)
+        self.parts.standing(core, level)
     }
 
     /// The domain of this level on the path of a core.

@@ -32,7 +32,7 @@ send_down-requires-clause-claim c =
     sym (ap (λ (x : Values). way_on x core s) found) ∙ sym c.way_on.ensures ∙ c.in-None.is in
     let same = leaving_off b _ (with_arrival b core s v) _ core _ at
     (arrived_away b _ v _ _ core s c.begin.ensures.board found c.arrive_away-in-None.ensures.after)
-    c.leaving_parts-parts.ensures in
+    c.leaving_wish-wish.ensures in
     subst AreClaims (sym same) (c.law_stops.ensures.parks b v core s c.requires.board
     (fault_inside b v core s c.requires.fault) c.requires.values awake
     (no_opening (in_life b s.life v) core s none))
@@ -51,7 +51,7 @@ send_down-requires-clause-may c =
     sym (ap (λ (x : Values). way_on x core s) found) ∙ sym c.way_on.ensures ∙ c.in-None.is in
     let away = arrived_away b _ v _ _ core s c.begin.ensures.board found c.arrive_away-in-None.ensures.after in
     let same = leaving_off b _ (with_arrival b core s v) _ core _ at away
-    c.leaving_parts-parts.ensures in
+    c.leaving_wish-wish.ensures in
     left_may b _ (with_arrival b core s v) _ core _ _ at away same
     (c.law_may_claim.ensures.parks b v core s c.requires.board
     (fault_inside b v core s c.requires.fault) c.requires.values c.requires.fault awake
@@ -80,7 +80,7 @@ returns-in-None-clause-answer c =
     sym (ap (λ (x : Values). way_on x core s) found) ∙ sym c.way_on.ensures ∙ c.in-None.is in
     let away = arrived_away b _ v _ _ core s c.begin.ensures.board found c.arrive_away-in-None.ensures.after in
     let same = leaving_off b _ (with_arrival b core s v) _ core _ at away
-    c.leaving_parts-parts.ensures in
+    c.leaving_wish-wish.ensures in
     parked b (with_arrival b core s v) _ core _ _ away same c.send_down.ensures.answer
     ∙ sym (park_outcome b v core s awake (no_opening (in_life b s.life v) core s none)
     (no_resume (in_life b s.life v) core s none))

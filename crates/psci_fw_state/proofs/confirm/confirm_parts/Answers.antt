@@ -8,7 +8,7 @@ use Rattle.psci_claims.specs.psci_parts.declared.part.Part.{Part}
 use Rattle.psci_tree.specs.declared.standing.Standing.{Standing}
 use Rattle.psci_tree.specs.Recount.{granted_at, is_confirmed_at, known}
 use Rattle.psci_fw_spec.specs.Confirmed.{is_made_at}
-use Rattle.psci_fw_state.proofs.Confirming.{confirmed_all, confirmed_more, known_still}
+use Rattle.psci_fw_state.proofs.Confirming.{confirmed_all, confirmed_more}
 use Rattle.psci_fw_state.proofs.Granting.{on_board, on_path}
 use Rattle.psci_fw_state.proofs.confirm.confirm_parts.Goals as goal
 
@@ -32,26 +32,8 @@ confirm_last-requires-clause-domain c =
 
 pub confirm_last-requires-clause-known : goal.confirm_last-requires-clause-known
 confirm_last-requires-clause-known c =
-    let b = c.args.board.now in
-    let laws = c.law_paths.ensures b c.requires.board in
-    let levels = c.loop-level.invariant.levels ∙ c.requires.levels in
-    let node = on_board b c.loop-level.tree.levels c.args.core.number c.loop-level.level
-    c.on_path-node.result c.on_path-node.ensures levels in
-    let low : c.loop-level.level ≤ height b = omega (
-      arith,
-      c.loop-level-test.true,
-      c.min-most.ensures,
-      min-le_right (length c.args.parts.now) (c.height.result + 1),
-      c.height.ensures.height,
-    ) in
-    let none : Standing = record { low = 0; known = 0 } in
-    let read : ℕ = (get_or c.standings-standings.result c.loop-level.level none).known in
-    let known_is : read ≡ known c.loop-level.tree c.on_path-node.result =
-    known_still b c.args.tree.now c.loop-level.tree c.args.core.number c.loop-level.level read
-    c.on_path-node.result c.loop-level.invariant.cores c.requires.levels levels
-    (ap (λ (s : Standing). s.known) (c.standings-standings.ensures c.loop-level.level none
-    (omega (arith, low, ap length c.requires.levels)))) node in
-    known_is
+    ap (λ (s : Standing). s.known) c.standing-standing.ensures
+    ∙ ap (known c.loop-level.tree) (sym c.on_path-node.ensures)
 
 pub loop-level-preserved : goal.loop-level-preserved
 loop-level-preserved c =
@@ -67,13 +49,9 @@ loop-level-preserved c =
       min-le_right (length c.args.parts.now) (c.height.result + 1),
       c.height.ensures.height,
     ) in
-    let none : Standing = record { low = 0; known = 0 } in
-    let read : ℕ = (get_or c.standings-standings.result c.loop-level.level none).known in
-    let known_is : read ≡ known c.loop-level.tree c.on_path-node.result =
-    known_still b c.args.tree.now c.loop-level.tree c.args.core.number c.loop-level.level read
-    c.on_path-node.result c.loop-level.invariant.cores c.requires.levels levels
-    (ap (λ (s : Standing). s.known) (c.standings-standings.ensures c.loop-level.level none
-    (omega (arith, low, ap length c.requires.levels)))) node in
+    let known_is : c.standing-standing.result.known ≡ known c.loop-level.tree c.on_path-node.result =
+    ap (λ (s : Standing). s.known) c.standing-standing.ensures
+    ∙ ap (known c.loop-level.tree) (sym c.on_path-node.ensures) in
     let unused : Part = record { level = 0; depth = 0; generation = 0 } in
     let part : Part = get_or c.args.parts.now c.loop-level.level unused in
     let inside : c.loop-level.level < length c.args.parts.now = omega (

@@ -1,16 +1,6 @@
--- Power-down as far up as all is off.
-use Rattle.std.proofs.Common.{◌∙◌, ap}
-use Rattle.psci_claims.specs.Claim.{own_claims}
-use Rattle.psci_claims.specs.Looked.{view_of}
-use Rattle.psci_osi.proofs.Climbs.{own-off}
+-- What it asks is what it claims.
+use Rattle.std.proofs.Common.{◌∙◌}
 use Rattle.psci_osi.proofs.off.off_parts.Goals as goal
 
 pub returns : goal.returns
-returns c =
-    c.own_parts.ensures
-    ∙ ap (own_claims c.args.board.now (view_of c.args.tree.now) c.args.core.number)
-    c.deepest.ensures.value
-    ∙ own-off c.args.board.now (view_of c.args.tree.now) c.args.core.number
-    c.highest_off-highest.result c.highest_off-highest.ensures.inside.1
-    c.highest_off-highest.ensures.inside.0 c.highest_off-highest.ensures.off
-    c.highest_off-highest.ensures.last
+returns c = c.own_parts.ensures ∙ c.off_ask.ensures

@@ -1,30 +1,26 @@
-use Rattle.std.proofs.Common.{sym, ◌∙◌, ap, Ok, rules}
+use Rattle.std.proofs.Common.{◌∙◌, ap, sym, Ok, rules}
 use Rattle.psci_board.specs.Board.{BoardValue}
-use Rattle.psci_claims.specs.Claim.{platform_claims}
+use Rattle.psci_fw_spec.specs.Claims.{suspend_parts}
 use Rattle.psci_fw_spec.specs.Views.{view}
 use Rattle.psci_fw_state.specs.Seen.{values_in}
-use Rattle.psci_fw_state.proofs.Viewed.{checked, platform_parts}
+use Rattle.psci_fw_state.specs.Wishes.{wished_claims}
+use Rattle.psci_fw_state.proofs.Viewed.{suspend_refused, suspend_wished}
 use Rattle.psci_fw_state.proofs.state.State.suspend.Goals as goal
 
-pub returns-in-Platform-clause-parts : goal.returns-in-Platform-clause-parts
-returns-in-Platform-clause-parts c =
-    ap Ok c.least_parts.ensures
-    ∙ ap (λ (b : BoardValue). Ok (platform_claims b (view b (values_in c.set_suspended.new.self))
-    c.args.core.number)) c.set_suspended.ensures.board
-    ∙ platform_parts c.args.self.now.board (values_in c.args.self.now) _ c.args.core.number c.args.ask
-    c.args.opening (sym c.mode.ensures ∙ c.in-Platform.is) c.set_suspended.ensures.after
+pub returns-in-Ok-clause-parts : goal.returns-in-Ok-clause-parts
+unfolding suspend_parts
+returns-in-Ok-clause-parts c =
+    suspend_wished c.args.self.now.board (values_in c.args.self.now) _ c.args.core.number c.args.ask
+    c.args.opening c.in-Ok.wish (values_in c.args.self.now).mode c.set_suspended.ensures.after
+    (sym c.in-Ok.is ∙ c.asked_wish.ensures)
+    ∙ ap (λ (b : BoardValue). Ok (wished_claims b (view b (values_in c.set_suspended.new.self))
+    c.args.core.number c.in-Ok.wish)) (sym c.set_suspended.ensures.board)
 
 pub returns-in-Err-clause-parts : goal.returns-in-Err-clause-parts
+unfolding suspend_parts
 returns-in-Err-clause-parts c =
-    sym c.in-Err.is ∙ c.checked_parts.ensures
-    ∙ checked c.args.self.now.board (values_in c.args.self.now) c.args.core.number c.args.ask
-    (sym c.mode.ensures ∙ c.in-OsInitiated.is)
-
-pub returns-in-Ok-clause-parts : goal.returns-in-Ok-clause-parts
-returns-in-Ok-clause-parts c =
-    sym c.in-Ok.is ∙ c.checked_parts.ensures
-    ∙ checked c.args.self.now.board (values_in c.args.self.now) c.args.core.number c.args.ask
-    (sym c.mode.ensures ∙ c.in-OsInitiated.is)
+    suspend_refused c.args.self.now.board (values_in c.args.self.now) c.args.core.number c.args.ask
+    c.in-Err.reason (values_in c.args.self.now).mode (sym c.in-Err.is ∙ c.asked_wish.ensures)
 
 pub returns-in-Err-clause-refused : goal.returns-in-Err-clause-refused
 returns-in-Err-clause-refused c = search rules

@@ -2,7 +2,7 @@
 use Rattle.std.proofs.Common.{◌≡◌, ◌++◌, ◌+◌, ◌-◌, ◌*◌, ◌^◌, ◌<◌, All, take, replicate}
 use Rattle.std.specs.List.{flat_map}
 use Rattle.psci_link.specs.Frame.{part_bytes}
-use Rattle.psci_link.proofs.encoding.joined.Given as goal
+use Rattle.psci_link.proofs.encoding.join.Given as goal
 
 abbrev pub invariant-loop-part : goal.invariant-loop-part
 invariant-loop-part l = record {

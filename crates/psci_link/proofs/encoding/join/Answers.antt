@@ -5,7 +5,7 @@ use Rattle.std.proofs.lemmas.List.Elements.{All-more, All-same, recursion_from_A
 use Rattle.std.proofs.lemmas.List.{take_all}
 use Rattle.psci_link.specs.Frame.{part_fields}
 use Rattle.psci_messages.proofs.Parts.{level-of}
-use Rattle.psci_link.proofs.encoding.joined.Goals as goal
+use Rattle.psci_link.proofs.encoding.join.Goals as goal
 
 pub part_bytes-requires : goal.part_bytes-requires
 part_bytes-requires c =

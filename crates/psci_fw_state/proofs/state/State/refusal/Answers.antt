@@ -1,0 +1,10 @@
+use Rattle.std.proofs.Common.{ap, ◌∙◌}
+use Rattle.psci_claims.specs.LastCore.{refusal, shallow}
+use Rattle.psci_fw_state.proofs.Viewed.{viewed}
+use Rattle.psci_fw_state.proofs.state.State.refusal.Goals as goal
+
+pub returns : goal.returns
+returns c =
+    rw (← c.self.view_is)
+    (c.path_refusal.ensures ∙ ap (λ w. refusal c.self.inside.board w (shallow c.self.inside.board w
+    c.args.core.number c.args.ask)) (viewed _ c.self.invariant))

@@ -1,0 +1,10 @@
+use Rattle.std.proofs.Common.{ap, ◌∙◌}
+use Rattle.psci_fw_state.specs.Wishes.{wished_claims}
+use Rattle.psci_fw_state.proofs.Viewed.{viewed}
+use Rattle.psci_fw_state.proofs.state.State.wished_parts.Goals as goal
+
+pub returns : goal.returns
+returns c =
+    rw (← c.self.view_is)
+    (c.climb.ensures ∙ ap (λ w. wished_claims c.self.inside.board w c.args.core.number
+    c.args.wish.now) (viewed _ c.self.invariant))
