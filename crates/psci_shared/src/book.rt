@@ -83,9 +83,9 @@ impl<N: Named> FwBook<N> {
         Ok(reply)
     }
 
-    /// The same for a pass where neither book nor pass is full; the call goes into its list as well,
-    /// and the message stays in its slot. `A` is for the compiler, as in all that is done under the
-    /// lock: so each kind of call has its own.
+    /// The same for a pass, where neither is full; the call goes into its list as well, and the
+    /// message stays in its slot. `A` is for the compiler, as in all that is done under the lock:
+    /// so each kind of call has its own.
     #[tactic(auto, using(crate::proofs::Histories::history_more))]
     pub(crate) fn carry_out<A>(
         &mut self,

@@ -23,8 +23,8 @@ write_all-requires-clause-behind g c =
 
 pub invariant_of-self-2-clause-written : goal.invariant_of-self-2-clause-written
 invariant_of-self-2-clause-written g c =
-    written_on _ _ _ _ _ _ _ _ c.carry_out-done.ensures.book c.life-before.ensures c.args.self.now.written
-    c.write_all.ensures.log c.meet.ensures.log
+    written_on _ _ _ _ _ _ _ _ c.carry_out-done.ensures.book c.life-before.ensures
+    c.args.self.now.written c.write_all.ensures.log c.meet.ensures.log
 
 pub returns-clause-entered : goal.returns-clause-entered
 returns-clause-entered g c = (
