@@ -44,7 +44,8 @@ downs_fail() {
     fi
 }
 
-# a Down of which a part is left waits, no start is lost, and the faults that break either show
+# a Down of which a part is left waits, no start is lost, no poll waits, and domains are locked as the mode asks;
+# and the faults that break these show
 tfa_downs() {
     local name
     command -v cc > /dev/null || { skip "downs of hosts/tfa" cc; return; }
@@ -60,6 +61,8 @@ tfa_downs() {
     fi
     downs_fail own-switch "again and again, and the lock is held"
     downs_fail lost-start "a CPU_ON is accepted, and nobody starts the core"
+    downs_fail poll-waits "waits for the lock"
+    downs_fail stale-mode "a suspend with no domain locked is asked"
 }
 
 # tfa_says TEXT WORD..: hosts/tfa/run refuses these words with this text, with no more tools than are named
@@ -75,7 +78,20 @@ tfa_says() {
     fi
 }
 
+# each function and hook of the chapter on PSCI of TF-A's porting guide has a line in the page's table
+tfa_guide() {
+    local name guide=${GUMDARTS_CACHE:-$HOME/.cache/gumdarts}/tfa/source/docs/getting_started/porting-guide.rst
+    [ -f "$guide" ] || { skip "hooks of TF-A's porting guide" "$guide"; return; }
+    sed -n '/^Power State Coordination Interface (in BL31)/,/^Interrupt Management framework (in BL31)/p' "$guide" |
+        sed -nE 's/^(Function : |plat_psci_ops\.)(\w+)\(\).*/\2/p' > "$work/hooks"
+    [ "$(wc -l < "$work/hooks")" = 27 ] || fail "TF-A's porting guide has $(wc -l < "$work/hooks") hooks, and not 27"
+    while read -r name; do
+        if grep -q "^|.*\`$name\`.*| \(kept\|replaced\|lost\)" docs/TFA.md; then pass; else fail "docs/TFA.md: $name"; fi
+    done < "$work/hooks"
+}
+
 tfa_words() {
+    tfa_guide
     tfa_says "run: there is no qemu-system-aarch64 aarch64-linux-gnu-gcc" each
     tfa_says "run: there is no option --fast; --help lists them" --fast
 }

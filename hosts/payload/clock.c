@@ -21,7 +21,12 @@ static uint64_t counts(uint64_t microseconds) {
 }
 
 uint64_t after(uint64_t microseconds) { return now() + counts(microseconds); }
-int is_past(uint64_t time) { return now() > time; }
+
+/* Who asks waits: where cores run in turn, it gives its turn away. */
+int is_past(uint64_t time) {
+    __asm__ volatile("yield");
+    return now() > time;
+}
 
 void timer_set(uint64_t microseconds) {
     __asm__ volatile(

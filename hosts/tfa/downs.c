@@ -1,8 +1,9 @@
 /* A try of gumdarts_firmware.c on this machine, over the library: the last core of a cluster stands in its
  * stop before the one that went before it. Its Down is carried out in part, and waits for the other's; it
  * is not tried again by its own switch, with the lock held until the other core stands. On a machine the
- * other core would need to be slow between two instructions. And a CPU_ON for which no hook was called is
- * not asked of a core that stands by then: it would be accepted, and nobody starts the core. */
+ * other core would need to be slow between two instructions. A CPU_ON for which no hook was called is
+ * not asked of a core that stands by then: it would be accepted, and nobody starts the core. A poll waits for no
+ * lock. And a suspend of a core, for which no power domain is locked, is not asked once the mode is another one. */
 #include <stdarg.h>
 #include <stdio.h>
 #include <stdlib.h>
@@ -10,7 +11,8 @@
 #include "gumdarts_adaptor.h"
 #include "gumdarts_record.h"
 
-enum { CPU_OFF = 0x84000002, CPU_ON = 0xc4000003, AFFINITY_INFO = 0xc4000004, NODE_HW_STATE = 0xc400000d };
+enum { CPU_SUSPEND = 0xc4000001, CPU_OFF = 0x84000002, CPU_ON = 0xc4000003, AFFINITY_INFO = 0xc4000004 };
+enum { NODE_HW_STATE = 0xc400000d, CORE_DOWN = 0x10003, CLUSTER_DOWN = 0x1010033 };
 enum { ON = 0, OFF = 1, LEVEL_OF_CLUSTERS = 1, BOOT = 0x40000000, MOST_DELIVERED = 20 };
 
 struct door doors[PLATFORM_CORE_COUNT];
@@ -22,6 +24,7 @@ struct psci_board board = {
 };
 static const uint64_t words[PLATFORM_CORE_COUNT] = {0x000, 0x001, 0x100, 0x101};
 static unsigned int here, delivered;
+static spinlock_t *taken;
 
 /* ---- what TF-A has */
 
@@ -39,12 +42,23 @@ void ERROR(const char *text, ...)
 
 void spin_lock(spinlock_t *lock)
 {
-    if (lock->held)
-        ERROR("core %u takes the lock a second time\n", here);
-    lock->held = true;
+    if (lock->lock != 0U)
+        ERROR("core %u waits for the lock\n", here);
+    lock->lock = 1U;
+    taken = lock;
 }
 
-void spin_unlock(spinlock_t *lock) { lock->held = false; }
+void spin_unlock(spinlock_t *lock) { lock->lock = 0U; }
+
+bool lock_if_free(spinlock_t *lock)
+{
+    bool is_free = lock->lock == 0U;
+
+    if (is_free)
+        spin_lock(lock);
+    return is_free;
+}
+
 unsigned int plat_my_core_pos(void) { return here; }
 u_register_t read_mpidr(void) { return words[here]; }
 
@@ -176,12 +190,53 @@ static void core_stands_before_it_is_started(void)
     wants("CPU_ON", call(0, CPU_ON, words[2], BOOT).code, 0);
 }
 
+static void poll_waits_for_nobody(void)
+{
+    enter(2);
+    (void)call(2, CPU_OFF, 0, 0);
+    stand(2);
+    spin_lock(taken);
+    status("a core that stands, while another core has the lock", 2, ON);
+    spin_unlock(taken);
+    status("the same, once nobody has it", 2, OFF);
+}
+
+/* Whether it was asked, of a core whose power domains are locked up to this level. */
+static bool is_asked_suspend(unsigned int core, unsigned int level, unsigned int locked)
+{
+    uint64_t x[4] = {CPU_SUSPEND, level == 0U ? CORE_DOWN : CLUSTER_DOWN, BOOT, 0};
+    struct psci_answer answer;
+    struct psci_stop stop;
+
+    here = core;
+    doors[core].level = (uint8_t)locked;
+    return firmware_call_locked(core, x, level, &answer, &stop);
+}
+
+static void suspends_lock_what_may_change(void)
+{
+    wants("levels of a core's suspend", (int32_t)firmware_level(0), 0);
+    wants("levels of a cluster's suspend", (int32_t)firmware_level(1), 1);
+    wants("levels of a word of no state", (int32_t)firmware_level(2), 1);
+    wants("SET_SUSPEND_MODE", call(0, SET_SUSPEND_MODE, 2, 0).code, -2);
+    wants("levels of a core's suspend, the mode as before", (int32_t)firmware_level(0), 0);
+    wants("SET_SUSPEND_MODE", call(0, SET_SUSPEND_MODE, 1, 0).code, 0);
+    wants("levels of a core's suspend, OS-initiated", (int32_t)firmware_level(0), 1);
+    wants("a suspend with no domain locked is asked", is_asked_suspend(0, 0, 0), false);
+    wants("SET_SUSPEND_MODE", call(0, SET_SUSPEND_MODE, 0, 0).code, 0);
+    wants("levels of a core's suspend, platform-coordinated", (int32_t)firmware_level(0), 0);
+    wants("a suspend of the cluster with no domain locked is asked", is_asked_suspend(0, 1, 0), false);
+    wants("a suspend of a core with no domain locked is asked", is_asked_suspend(0, 0, 0), true);
+}
+
 int main(void)
 {
     firmware_open();
     enter(0);
     last_core_stands_first();
     core_stands_before_it_is_started();
-    puts("the last core's Down waits for the other's, and no start is lost");
+    poll_waits_for_nobody();
+    suspends_lock_what_may_change();
+    puts("the last core's Down waits for the other's, no start is lost, and locks are as wide as the mode asks");
     return 0;
 }

@@ -12,6 +12,8 @@
 #include "psci_ctl.h"
 #include "psci_private.h"
 
+#define SET_SUSPEND_MODE 0x8400000fU
+
 /* What a core reads and writes with its caches off: on its way down, and before its caches are on. */
 #if USE_COHERENT_MEM
 #define SEEN_UNCACHED __section("tzfw_coherent_mem")
@@ -24,6 +26,7 @@ struct door {
     uint32_t number;           /* the start by which it entered last; 0 before its first one */
     volatile uint32_t stopped; /* last of all: it stands in its stop of this start */
     bool wakes;                /* a wake-up may end that stop */
+    uint8_t level;             /* up to which level its domains may change with it */
     plat_local_state_t state;  /* how deep its hooks were told that it goes */
     u_register_t mpidr;        /* once it has entered */
 };
@@ -38,8 +41,9 @@ void tree_setup(void);
 uint64_t board_word(u_register_t mpidr, uint32_t level);
 /* The core of an MPIDR; -1 where there is none. */
 int core_of(u_register_t mpidr);
-/* The locks of the core's power domains, as lib/psci takes them around the platform's hooks. */
-void domains_lock(unsigned int core);
+/* The locks of the core's power domains up to this level, as lib/psci takes them around the platform's hooks;
+ * and those that it has. */
+void domains_lock(unsigned int core, unsigned int level);
 void domains_unlock(unsigned int core);
 
 /* gumdarts_states.c: power states of the platform, and depths of the firmware -------------------------- */
@@ -50,7 +54,9 @@ uint64_t firmware_word(const psci_power_state_t *states, unsigned int type);
 psci_power_state_t states_of(unsigned int core, const struct psci_stop *stop,
                              const psci_power_state_t *asked);
 psci_power_state_t all_off(void);
-/* What the domains on the core's path were told last; that they are told so; that they run. */
+void states_setup(void);
+/* What the domains on the core's path were told last; that they are told so; that they run. Each as far as they
+ * are locked: those above run. */
 psci_power_state_t told_states(unsigned int core);
 void tell_states(unsigned int core, const psci_power_state_t *told);
 void tell_running(unsigned int core);
@@ -58,14 +64,19 @@ void tell_running(unsigned int core);
 /* gumdarts_firmware.c: the library, its lock, and the power controller ---------------------------------- */
 
 void firmware_open(void);
-/* A call, with its message on its way; of a stop, how deep it goes. */
+/* A call, with its message on its way; where it stops the core, how deep. */
 void firmware_call(unsigned int core, const uint64_t *x, struct psci_answer *, struct psci_stop *);
+/* The same of a call that suspends the core down to this level at most. Up to which its domains have to be
+ * locked; where they are not, since the mode has changed, nothing is asked, and it is false. */
+unsigned int firmware_level(unsigned int asked);
+bool firmware_call_locked(unsigned int core, const uint64_t *x, unsigned int asked, struct psci_answer *,
+                          struct psci_stop *);
 /* The same where the target is not OFF; else nothing is asked, and it is false. */
 bool firmware_call_unless_off(unsigned int core, const uint64_t *x, unsigned int target,
                               struct psci_answer *);
 /* A core enters, by the start that it finds. */
 void firmware_enter(unsigned int core, struct psci_answer *, struct psci_stop *);
-/* AFFINITY_INFO of this core, without the lock but where an acknowledgement waits for it. */
+/* AFFINITY_INFO of this core, without waiting for the lock. */
 int32_t firmware_poll(unsigned int core, const uint64_t *x, unsigned int target);
 /* Under the lock: 0 ON, 1 OFF, 2 ON_PENDING. */
 uint32_t firmware_status(unsigned int core);
@@ -90,6 +101,9 @@ void __dead2 park(void);
 /* gumdarts_entries.c: how a core goes on that stood by or came out of reset. */
 extern entry_point_info_t entry_points[PLATFORM_CORE_COUNT];
 extern spinlock_t start_locks[PLATFORM_CORE_COUNT];
+
+/* gumdarts_lock.S: takes the lock if nobody has it. */
+bool lock_if_free(spinlock_t *lock);
 
 /* gumdarts_stack.S: calls a function on a larger stack. */
 void on_opening_stack(void (*function)(void));

@@ -152,40 +152,59 @@ static u_register_t cpu_on(uint64_t *x)
 /* ---- calls that stop the caller */
 
 /* The domains of the caller are locked, and given back. */
-static u_register_t stopping(const uint64_t *x, const psci_power_state_t *asked)
+static u_register_t stopped(const uint64_t *x, const psci_power_state_t *asked, struct psci_answer *answer,
+                            const struct psci_stop *stop)
 {
     unsigned int core = plat_my_core_pos();
+
+    if (answer->what == PSCI_STOP && !answer->message.some) {
+        domains_unlock(core);
+        park();
+    }
+    if (answer->what == PSCI_STOP && stop->depths[0] == 3U) {
+        entry_keep(core);
+        power_down(core, stop, asked);
+    }
+    if (answer->what == PSCI_STOP) {
+        stand_by(core, stop, asked);
+        answer->code = PSCI_E_SUCCESS;
+    }
+    domains_unlock(core);
+    return code_register(answer->code, (uint32_t)x[0]);
+}
+
+/* As in lib/psci, none are locked for the suspend of a core alone. */
+static u_register_t suspend(const uint64_t *x, const psci_power_state_t *asked)
+{
+    unsigned int core = plat_my_core_pos(), level = psci_find_target_suspend_lvl(asked);
     struct psci_answer answer;
     struct psci_stop stop;
 
-    firmware_call(core, x, &answer, &stop);
-    if (answer.what == PSCI_STOP && !answer.message.some)
-        park();
-    if (answer.what == PSCI_STOP && stop.depths[0] == 3U) {
-        entry_keep(core);
-        power_down(core, &stop, asked);
+    domains_lock(core, firmware_level(level));
+    while (!firmware_call_locked(core, x, level, &answer, &stop)) {
+        domains_unlock(core);
+        domains_lock(core, firmware_level(level));
     }
-    if (answer.what == PSCI_STOP) {
-        stand_by(core, &stop, asked);
-        answer.code = PSCI_E_SUCCESS;
-    }
-    domains_unlock(core);
-    return code_register(answer.code, (uint32_t)x[0]);
+    return stopped(x, asked, &answer, &stop);
 }
 
 static u_register_t cpu_off(const uint64_t *x)
 {
     unsigned int core = plat_my_core_pos();
     psci_power_state_t asked = all_off();
+    struct psci_answer answer;
+    struct psci_stop stop;
     int refused = 0;
 
-    domains_lock(core);
+    domains_lock(core, PLAT_MAX_PWR_LVL);
     if (psci_spd_pm != NULL && psci_spd_pm->svc_off != NULL)
         refused = (int)psci_spd_pm->svc_off(0);
-    if (refused == 0)
-        return stopping(x, &asked);
-    domains_unlock(core);
-    return code_register(refused, (uint32_t)x[0]);
+    if (refused != 0) {
+        domains_unlock(core);
+        return code_register(refused, (uint32_t)x[0]);
+    }
+    firmware_call(core, x, &answer, &stop);
+    return stopped(x, &asked, &answer, &stop);
 }
 
 /* Standby of the core alone is its hook's, and the firmware never sees it. */
@@ -217,8 +236,7 @@ static u_register_t cpu_suspend(uint64_t *x)
     if (type == PSTATE_TYPE_POWERDOWN && !is_entry(x[2]))
         return code_register(PSCI_E_INVALID_ADDRESS, (uint32_t)x[0]);
     x[1] = firmware_word(&asked, type);
-    domains_lock(plat_my_core_pos());
-    return stopping(x, &asked);
+    return suspend(x, &asked);
 }
 
 static u_register_t system_suspend(const uint64_t *x)
@@ -230,8 +248,7 @@ static u_register_t system_suspend(const uint64_t *x)
     psci_plat_pm_ops->get_sys_suspend_power_state(&asked);
     if (psci_find_target_suspend_lvl(&asked) < PLAT_MAX_PWR_LVL)
         return code_register(PSCI_E_DENIED, (uint32_t)x[0]);
-    domains_lock(plat_my_core_pos());
-    return stopping(x, &asked);
+    return suspend(x, &asked);
 }
 
 /* ---- the dispatcher's door */

@@ -64,6 +64,15 @@ static void go(unsigned int core, const struct psci_answer *answer)
     cm_prepare_el3_exit_ns();
 }
 
+/* Up to which level its domains may have changed: as far as it was locked in its suspend, of which it comes back
+ * by its entry point; all, where it was off, or has lost its registers and parks. */
+static unsigned int changed_level(unsigned int core)
+{
+    bool comes_back = doors[core].wakes && is_local_state_off(doors[core].state) != 0;
+
+    return comes_back ? doors[core].level : PLAT_MAX_PWR_LVL;
+}
+
 /* The domains are locked from before the finishers until the path is told to run. */
 void psci_warmboot_entrypoint(void)
 {
@@ -73,7 +82,7 @@ void psci_warmboot_entrypoint(void)
     struct psci_stop stop;
     bool woken = doors[core].wakes;
 
-    domains_lock(core);
+    domains_lock(core, changed_level(core));
     states = told_states(core);
 #if ENABLE_PSCI_STAT
     plat_psci_stat_accounting_stop(&states);
@@ -82,10 +91,12 @@ void psci_warmboot_entrypoint(void)
     spin_lock(&start_locks[core]);
     spin_unlock(&start_locks[core]);
     firmware_enter(core, &answer, &stop);
-    if (answer.what == PSCI_STOP)
+    if (answer.what == PSCI_STOP && answer.message.some)
         power_down(core, &stop, &off);
-    if (answer.what != PSCI_ENTER)
+    if (answer.what != PSCI_ENTER) {
+        domains_unlock(core);
         park();
+    }
     tell_entered(&states, woken);
     go(core, &answer);
     tell_running(core);

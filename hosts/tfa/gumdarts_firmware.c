@@ -1,7 +1,5 @@
 /* The library: the firmware, one lock around each of its calls, and the power controller. TF-A has no
  * other processor for that one, so it is asked under the same lock, for what the platform's hooks do. */
-#include <string.h>
-
 #include <common/debug.h>
 #include <lib/spinlock.h>
 
@@ -101,9 +99,9 @@ static void serve_core(unsigned int core)
 }
 
 /* Downs whose cores stand by now, until none is left that can be carried out. */
-static void serve(void)
+static void __attribute__((noinline)) serve_all(void)
 {
-    bool again = many_waiting != 0U;
+    bool again = true;
 
     while (again) {
         again = false;
@@ -113,6 +111,12 @@ static void serve(void)
                 again = true;
             }
     }
+}
+
+static inline void serve(void)
+{
+    if (many_waiting != 0U)
+        serve_all();
 }
 
 static void wait_for_stop(unsigned int core, const struct psci_frame *down)
@@ -142,12 +146,20 @@ static void send(unsigned int core, const struct psci_frame *message)
 
 /* ---- calls */
 
+/* In OS-initiated mode a domain goes down by what the last core asks, above what others of it asked. The mode
+ * changes to it, and back, in calls alone, and in none while a core is suspended. */
+static volatile bool os_initiated;
+
+unsigned int firmware_level(unsigned int asked)
+{
+    return os_initiated || asked > PLAT_MAX_PWR_LVL ? PLAT_MAX_PWR_LVL : asked;
+}
+
 static void call_locked(unsigned int core, const uint64_t *x, struct psci_answer *answer,
                         struct psci_stop *stop)
 {
     psci_smc(&firmware, (uint16_t)core, x[0], x[1], x[2], x[3], answer);
     record_call(core, x, answer);
-    memset(stop, 0, sizeof(*stop));
     if (answer->what == PSCI_STOP)
         psci_stop(&firmware, (uint16_t)core, x[0], stop);
     if (answer->what >= PSCI_NO_FIRMWARE) {
@@ -155,6 +167,9 @@ static void call_locked(unsigned int core, const uint64_t *x, struct psci_answer
         answer->what = PSCI_RETURN;
         answer->code = PSCI_E_INTERN_FAIL;
     }
+    if ((uint32_t)x[0] == SET_SUSPEND_MODE && answer->what == PSCI_RETURN &&
+        answer->code == PSCI_E_SUCCESS)
+        os_initiated = (uint32_t)x[1] != 0U;
     send(core, &answer->message);
 }
 
@@ -165,6 +180,21 @@ void firmware_call(unsigned int core, const uint64_t *x, struct psci_answer *ans
     serve();
     call_locked(core, x, answer, stop);
     spin_unlock(&lock);
+}
+
+bool firmware_call_locked(unsigned int core, const uint64_t *x, unsigned int asked,
+                          struct psci_answer *answer, struct psci_stop *stop)
+{
+    bool are_locked;
+
+    spin_lock(&lock);
+    are_locked = firmware_level(asked) <= doors[core].level;
+    if (are_locked) {
+        serve();
+        call_locked(core, x, answer, stop);
+    }
+    spin_unlock(&lock);
+    return are_locked;
 }
 
 bool firmware_call_unless_off(unsigned int core, const uint64_t *x, unsigned int target,
@@ -182,13 +212,14 @@ bool firmware_call_unless_off(unsigned int core, const uint64_t *x, unsigned int
     return !is_off;
 }
 
-/* An acknowledgement that the poll would miss is taken first; else nobody is waited for. */
+/* An acknowledgement that the poll would miss is taken first. Where another core has the lock, this or the next one
+ * that has it does so: nobody waits for it here. */
 int32_t firmware_poll(unsigned int core, const uint64_t *x, unsigned int target)
 {
     int32_t code;
 
-    if (waiting[target].some && doors[target].stopped == waiting[target].number) {
-        spin_lock(&lock);
+    if (waiting[target].some && doors[target].stopped == waiting[target].number &&
+        lock_if_free(&lock)) {
         serve();
         spin_unlock(&lock);
     }
@@ -237,7 +268,6 @@ void firmware_enter(unsigned int core, struct psci_answer *answer, struct psci_s
         came_by_itself(core, &start);
     psci_enter(&firmware, (uint16_t)core, start.life, start.number, start.cause, answer);
     record_enter(core, &start, answer);
-    memset(stop, 0, sizeof(*stop));
     if (answer->what == PSCI_STOP)
         psci_stop(&firmware, (uint16_t)core, 0U, stop);
     if (answer->what >= PSCI_NO_FIRMWARE)

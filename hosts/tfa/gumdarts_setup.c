@@ -14,8 +14,6 @@
 #define GUMDARTS_EXEC_END  (UINT64_MAX & ~UL(3))
 #endif
 
-#define SET_SUSPEND_MODE U(0x8400000f)
-
 const plat_psci_ops_t *psci_plat_pm_ops;
 unsigned int psci_caps;
 static cpu_context_t contexts[PLATFORM_CORE_COUNT];

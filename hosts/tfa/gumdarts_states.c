@@ -52,6 +52,12 @@ psci_power_state_t all_off(void)
     return states;
 }
 
+/* A core that was never started asks for nothing. */
+void __init states_setup(void)
+{
+    memset(requests, PLAT_MAX_OFF_STATE, sizeof(requests));
+}
+
 /* Of the states of one depth the platform chooses: by what all cores of the domain asked, or this one. */
 static plat_local_state_t chosen(unsigned int core, unsigned int level, unsigned int depth,
                                  plat_local_state_t asked, unsigned int node)
@@ -66,15 +72,16 @@ static plat_local_state_t chosen(unsigned int core, unsigned int level, unsigned
     return depth_of(asked) == depth ? asked : deepest_of(depth);
 }
 
+/* The domains above those that are locked run: the core has not asked for more. */
 psci_power_state_t states_of(unsigned int core, const struct psci_stop *stop,
                              const psci_power_state_t *asked)
 {
-    psci_power_state_t states;
+    psci_power_state_t states = {{PSCI_LOCAL_STATE_RUN}};
     unsigned int node = psci_cpu_pd_nodes[core].parent_node;
 
     states.pwr_domain_state[0] = depth_of(asked->pwr_domain_state[0]) == stop->depths[0] ?
         asked->pwr_domain_state[0] : deepest_of(stop->depths[0]);
-    for (unsigned int level = 1U; level <= PLAT_MAX_PWR_LVL; level++) {
+    for (unsigned int level = 1U; level <= doors[core].level; level++) {
         states.pwr_domain_state[level] =
             chosen(core, level, stop->depths[level], asked->pwr_domain_state[level], node);
         node = psci_non_cpu_pd_nodes[node].parent_node;
@@ -84,11 +91,11 @@ psci_power_state_t states_of(unsigned int core, const struct psci_stop *stop,
 
 psci_power_state_t told_states(unsigned int core)
 {
-    psci_power_state_t states;
+    psci_power_state_t states = {{PSCI_LOCAL_STATE_RUN}};
     unsigned int node = psci_cpu_pd_nodes[core].parent_node;
 
     states.pwr_domain_state[0] = doors[core].state;
-    for (unsigned int level = 1U; level <= PLAT_MAX_PWR_LVL; level++) {
+    for (unsigned int level = 1U; level <= doors[core].level; level++) {
         states.pwr_domain_state[level] = psci_non_cpu_pd_nodes[node].local_state;
         node = psci_non_cpu_pd_nodes[node].parent_node;
     }
@@ -100,7 +107,7 @@ void tell_states(unsigned int core, const psci_power_state_t *told)
     unsigned int node = psci_cpu_pd_nodes[core].parent_node;
 
     doors[core].state = told->pwr_domain_state[0];
-    for (unsigned int level = 1U; level <= PLAT_MAX_PWR_LVL; level++) {
+    for (unsigned int level = 1U; level <= doors[core].level; level++) {
         psci_non_cpu_pd_nodes[node].local_state = told->pwr_domain_state[level];
         node = psci_non_cpu_pd_nodes[node].parent_node;
     }
@@ -110,7 +117,7 @@ void tell_running(unsigned int core)
 {
     psci_power_state_t running = {{PSCI_LOCAL_STATE_RUN}};
 
-    for (unsigned int level = 1U; level <= PLAT_MAX_PWR_LVL; level++)
+    for (unsigned int level = 1U; level <= doors[core].level; level++)
         requests[level][core] = PSCI_LOCAL_STATE_RUN;
     tell_states(core, &running);
 }

@@ -102,7 +102,7 @@ void stand_by(unsigned int core, const struct psci_stop *stop, const psci_power_
     domains_unlock(core);
     stand(core);
     wfi();
-    domains_lock(core);
+    domains_lock(core, doors[core].level);
     states = told_states(core);
     stand_by_ends(&states);
     tell_running(core);

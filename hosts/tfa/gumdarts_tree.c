@@ -42,6 +42,7 @@ static void __init add_core(unsigned int core, unsigned int parent, uint8_t at)
     }
     words[core] = word;
     doors[core].state = PLAT_MAX_OFF_STATE;
+    doors[core].level = PLAT_MAX_PWR_LVL;
 }
 
 /* Of one level: each node above it, from left to right, says how many children it has. */
@@ -95,6 +96,7 @@ void __init tree_setup(void)
     psci_plat_core_count = many;
     for (unsigned int core = 0U; core < many; core++)
         count_cores(core);
+    states_setup();
     /* a core that enters reads these before its caches are on */
     psci_flush_dcache_range((uintptr_t)psci_cpu_pd_nodes, sizeof(psci_cpu_pd_nodes));
 }
@@ -119,21 +121,29 @@ uint64_t board_word(u_register_t mpidr, uint32_t level)
 
 /* ---- locks, in the order of lib/psci: from below up, and back */
 
-static void lock_from(unsigned int node, unsigned int level)
+static void lock_from(unsigned int node, unsigned int level, unsigned int highest)
 {
-    if (level > PLAT_MAX_PWR_LVL)
+    if (level > highest)
         return;
     psci_lock_get(&psci_non_cpu_pd_nodes[node]);
-    lock_from(psci_non_cpu_pd_nodes[node].parent_node, level + 1U);
+    lock_from(psci_non_cpu_pd_nodes[node].parent_node, level + 1U, highest);
 }
 
-static void unlock_from(unsigned int node, unsigned int level)
+static void unlock_from(unsigned int node, unsigned int level, unsigned int highest)
 {
-    if (level > PLAT_MAX_PWR_LVL)
+    if (level > highest)
         return;
-    unlock_from(psci_non_cpu_pd_nodes[node].parent_node, level + 1U);
+    unlock_from(psci_non_cpu_pd_nodes[node].parent_node, level + 1U, highest);
     psci_lock_release(&psci_non_cpu_pd_nodes[node]);
 }
 
-void domains_lock(unsigned int core) { lock_from(psci_cpu_pd_nodes[core].parent_node, 1U); }
-void domains_unlock(unsigned int core) { unlock_from(psci_cpu_pd_nodes[core].parent_node, 1U); }
+void domains_lock(unsigned int core, unsigned int level)
+{
+    doors[core].level = (uint8_t)level;
+    lock_from(psci_cpu_pd_nodes[core].parent_node, 1U, level);
+}
+
+void domains_unlock(unsigned int core)
+{
+    unlock_from(psci_cpu_pd_nodes[core].parent_node, 1U, doors[core].level);
+}

@@ -11,6 +11,7 @@
 #define GUMDARTS_RECORD 1
 #define USE_COHERENT_MEM 0
 #define AFF_STATE_OFF 1U
+#define PSCI_E_SUCCESS 0
 #define PSCI_E_INTERN_FAIL (-6)
 #define MPIDR_AFFINITY_MASK UINT64_C(0xff00ffffff)
 #define __dead2 __attribute__((noreturn))
@@ -20,7 +21,7 @@ typedef uint64_t u_register_t;
 typedef uint8_t plat_local_state_t;
 typedef struct { plat_local_state_t pwr_domain_state[PLAT_MAX_PWR_LVL + 1U]; } psci_power_state_t;
 typedef struct { u_register_t pc; } entry_point_info_t;
-typedef struct { bool held; } spinlock_t;
+typedef struct { volatile uint32_t lock; } spinlock_t;
 
 extern unsigned int psci_plat_core_count;
 
