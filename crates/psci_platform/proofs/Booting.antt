@@ -54,13 +54,6 @@ pub place_is : (d : DescriptionValue) (b : BoardValue) (boot k : ℕ) → core_n
     → boot_place d b boot ≡ k
 place_is d b boot k e = ap (λ (o : Option ℕ). unwrap_or o 0) e
 
-pub place_inside : (d : DescriptionValue) (b : BoardValue) (boot : ℕ) → fault_of d b boot ≡ None
-    → boot_place d b boot < cores b
-place_inside d b boot none =
-    let k = boots d b boot none in
-    let at : boot_place d b boot ≡ k.0 = place_is d b boot k.0 k.2 in
-    omega (arith, at, k.1)
-
 -- it looks as core 0 does
 one_of : (d : DescriptionValue) (b : BoardValue) (boot : ℕ) (t : Bool) → Laws b
     → fault_of d b boot ≡ None → (slice_index d.mpidrs 0 == boot) ≡ t

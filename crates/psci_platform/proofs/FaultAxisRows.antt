@@ -5,13 +5,14 @@ use Rattle.std.specs.Prelude.{◌-◌, ◌^◌, not, filter, Option, Some, None}
 use Rattle.std.specs.List.{range_with_len}
 use Rattle.psci_abi.specs.psci_format.declared.format.Format.{Format}
 use Rattle.psci_abi.specs.psci_format.declared.format.Format.TheVariants.{Original, Extended}
+use Rattle.psci_platform.specs.declared.class.Class.TheVariants.{PowerDown, Retention}
 use Rattle.psci_platform.specs.declared.fault.PlatformFault.{PlatformFault}
 use Rattle.psci_platform.specs.declared.fault.PlatformFault.TheVariants as faults
 use Rattle.psci_platform.specs.declared.row.Row.{Row}
 use Rattle.psci_platform.specs.Described.{DescriptionValue}
 use Rattle.psci_platform.specs.Faults.{fault_of, is_mpidr, is_row_word}
-use Rattle.psci_platform.proofs.Machines.{all_functions, checking, fault, hip07}
-use Rattle.psci_platform.proofs.Machines.{hip07_board, pine64, pine64_board, rk3399, row}
+use Rattle.psci_platform.proofs.Machines.{all_functions, checking, down, fault, hip07}
+use Rattle.psci_platform.proofs.Machines.{hip07_board, level, pine64, pine64_board, rk3399, row}
 
 -- Bits ------------------------------------------------------------------------------------------
 
@@ -65,6 +66,20 @@ second_states : fault (with_second 0x10001 (1 ∷ 0 ∷ 1 ∷ 0 ∷ [])) ≡ Som
 unfolding checking
 second_states = refl
 
+-- Not side by side ----------------------------------------------------------------------------
+
+same_mpidr_far_apart : fault (record rk3399 { mpidrs = 0x101 ∷ 1 ∷ 2 ∷ 3 ∷ 0x100 ∷ 0x101 ∷ [] })
+    ≡ Some faults.SameMpidr
+unfolding checking
+same_mpidr_far_apart = refl
+
+same_word_far_apart : fault (record rk3399 {
+  rows = row 0x10000 (1 ∷ 0 ∷ 0 ∷ 0 ∷ []) ∷ row 0x10001 (1 ∷ 1 ∷ 0 ∷ 0 ∷ [])
+      ∷ row 0x10000 (1 ∷ 1 ∷ 0 ∷ 0 ∷ []) ∷ [];
+}) ≡ Some faults.SameWord
+unfolding checking
+same_word_far_apart = refl
+
 -- Levels and heights ------------------------------------------------------------------------------
 
 -- a state of level 3 on a machine that takes down two
@@ -104,3 +119,21 @@ system_of_three_levels = refl
 system_below_three_levels : of_three_levels (1 ∷ 1 ∷ 1 ∷ 0 ∷ []) ≡ Some faults.BadSystem
 unfolding checking
 system_below_three_levels = refl
+
+-- how many levels a board of each height takes down
+levels_above_one : fault_of (record pine64 { levels = 2 }) pine64_board 0
+    ≡ Some faults.TooManyLevels
+unfolding checking
+levels_above_one = refl
+
+levels_above_three : fault_of (record hip07 { levels = 4 }) hip07_board 0x10000
+    ≡ Some faults.TooManyLevels
+unfolding checking
+levels_above_three = refl
+
+-- a class that falls at a level between
+falling_at_the_cluster : fault (record rk3399 {
+  classes = down ∷ level (PowerDown ∷ Retention ∷ []) 13 ∷ down ∷ down ∷ [];
+}) ≡ Some faults.FallingClass
+unfolding checking
+falling_at_the_cluster = refl

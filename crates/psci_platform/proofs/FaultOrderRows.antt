@@ -91,3 +91,34 @@ count_before_mpidr : fault (record high { mpidrs = 0x1000000 ∷ 0x1000000 ∷ [
     ≡ Some faults.WrongCount
 unfolding checking
 count_before_mpidr = refl
+
+no_boot_core_before_levels : fault_of high rk3399_board 4 ≡ Some faults.NoBootCore
+unfolding checking
+no_boot_core_before_levels = refl
+
+-- all MPIDRs and all rows are looked at for one fault before any for the next
+abbrev last_outside : DescriptionValue
+last_outside = record high { mpidrs = 1 ∷ 1 ∷ 2 ∷ 3 ∷ 0x100 ∷ 0x1000000 ∷ [] }
+
+last_mpidr_before_same_mpidr : fault last_outside ≡ Some faults.BadMpidr
+unfolding checking
+last_mpidr_before_same_mpidr = refl
+
+abbrev last_reserved : DescriptionValue
+last_reserved = record rk3399 {
+  rows = row 0 (1 ∷ 0 ∷ 1 ∷ 0 ∷ []) ∷ row 0 (1 ∷ 0 ∷ 1 ∷ 0 ∷ [])
+      ∷ row 0x30000 (1 ∷ 0 ∷ 0 ∷ 0 ∷ []) ∷ [];
+}
+
+last_word_before_same_word : fault last_reserved ≡ Some faults.BadWord
+unfolding checking
+last_word_before_same_word = refl
+
+abbrev last_mistyped : DescriptionValue
+last_mistyped = record rk3399 {
+  rows = row 0x10000 (1 ∷ 0 ∷ 1 ∷ 0 ∷ []) ∷ row 0 (1 ∷ 0 ∷ 0 ∷ 0 ∷ []) ∷ [];
+}
+
+last_type_before_states : fault last_mistyped ≡ Some faults.WrongType
+unfolding checking
+last_type_before_states = refl

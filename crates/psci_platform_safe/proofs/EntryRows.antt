@@ -5,13 +5,13 @@ use Rattle.psci_headline.specs.psci_abi.declared.request.Request.TheVariants as 
 use Rattle.psci_headline.specs.psci_fw_spec.declared.opening.Opening.{Opening}
 use Rattle.psci_headline.specs.psci_world_spec.declared.event.Event.TheVariants.{Deliver, Enter}
 use Rattle.psci_headline.specs.psci_world_spec.declared.said.Record.{Record}
-use Rattle.psci_headline.proofs.world_spec.Scripts.{call, enters, system_off}
+use Rattle.psci_headline.proofs.world_spec.Scripts.{call, enters, system_off, system_reset}
 use Rattle.psci_platform_safe.specs.Opened.{OneEntryEach, boot_opening}
 use Rattle.psci_platform_safe.specs.Words.{run_on}
 use Rattle.psci_platform_safe.proofs.Histories.{after, computing, core_1_on, on_1, says, tall}
 use Rattle.psci_platform_safe.proofs.Histories.{tall_on, told, two}
 use Rattle.psci_platform_safe.proofs.Moments.{of_split}
-use Rattle.psci_platform_safe.proofs.Openings.{Both, at, made, never_opens}
+use Rattle.psci_platform_safe.proofs.Openings.{Both, at, made, never_opens, woken}
 
 -- core 1 enters once more where it was asked on
 enters_again : OneEntryEach two (says (after core_1_on) (Enter 1) (enters 0x40001000 7)) → ⊥
@@ -213,5 +213,53 @@ another_core_boots one =
           of_split (Both two [] 1 (at 0x40000000 0)) [] w.since w.before w.split
           (w.unused, made two [] 1 (at 0x40000000 0) w.before w.made) in
           other m.1.0
+      | inr by ↦ other by.0
+    ]
+
+-- also as the first one of life 2
+begins_life_2 : OneEntryEach two (says (after woken) (Enter 1) (enters 0x40000000 0)) → ⊥
+unfolding computing
+begins_life_2 one =
+    let other : 1 ≡ 0x200 → ⊥ = λ e. absurd (omega (arith, e)) in
+    elim (one 1 (at 0x40000000 0) None refl refl) [
+      | inl w ↦
+          elim (of_split (Both two (after woken) 1 (at 0x40000000 0)) (after woken) w.since w.before
+          w.split (w.unused, made two (after woken) 1 (at 0x40000000 0) w.before w.made)) [
+            | inl m ↦ elim m.1 [
+              | inl by ↦ elim by.0 [
+                | inl is ↦ let no = is.event in absurd (cc)
+                | inr is ↦ let no = is.event in absurd (cc)
+              ]
+              | inr by ↦ other by.0
+            ]
+            | inr rest ↦ elim rest [
+              | inl m ↦ elim m.1 [
+                | inl by ↦ elim by.0 [
+                  | inl is ↦ let no = is.event in absurd (cc)
+                  | inr is ↦ let no = is.event in absurd (cc)
+                ]
+                | inr by ↦ other by.0
+              ]
+              | inr rest ↦ elim rest [
+                | inl m ↦ elim m.1 [
+                  | inl by ↦
+                      never_opens two
+                      (told two (after (Enter 0x200 ∷ [])) (system_reset 0x200))
+                      (after (Enter 0x200 ∷ [])) 1 (at 0x40000000 0) refl by.0
+                  | inr by ↦ other by.0
+                ]
+                | inr rest ↦ elim rest [
+                  | inl m ↦ elim m.1 [
+                    | inl by ↦ elim by.0 [
+                      | inl is ↦ let no = is.event in absurd (cc)
+                      | inr is ↦ let no = is.event in absurd (cc)
+                    ]
+                    | inr by ↦ other by.0
+                  ]
+                  | inr m ↦ other m.1.0
+                ]
+              ]
+            ]
+          ]
       | inr by ↦ other by.0
     ]

@@ -6,8 +6,10 @@ use Rattle.psci_headline.specs.psci_abi.declared.request.Request.{Request}
 use Rattle.psci_headline.specs.psci_abi.declared.request.Request.TheVariants as requests
 use Rattle.psci_headline.specs.psci_fw_spec.declared.opening.Opening.{Opening}
 use Rattle.psci_headline.specs.psci_world_spec.declared.event.Event.{Event}
-use Rattle.psci_headline.specs.psci_world_spec.declared.event.Event.TheVariants.{Call}
+use Rattle.psci_headline.specs.psci_world_spec.declared.event.Event.TheVariants.{Call, Deliver}
+use Rattle.psci_headline.specs.psci_world_spec.declared.event.Event.TheVariants.{Enter, Wake}
 use Rattle.psci_headline.specs.psci_world_spec.declared.said.Record.{Record}
+use Rattle.psci_headline.proofs.world_spec.Scripts.{system_reset}
 use Rattle.psci_platform_safe.specs.Asked.{life_of}
 use Rattle.psci_platform_safe.specs.Opened.{NoneEnters, Opens, boot_opening}
 use Rattle.psci_platform_safe.proofs.Histories.{after}
@@ -15,6 +17,10 @@ use Rattle.psci_platform_safe.proofs.Histories.{after}
 -- an opening
 abbrev pub at : ℕ → ℕ → Opening
 at address context = record { address = address; context = context }
+
+-- life 2 begins, and core 1 is woken
+abbrev pub woken : List Event
+woken = Enter 0x200 ∷ system_reset 0x200 ∷ Deliver 0 ∷ Wake 1 ∷ []
 
 -- What has to hold of the records up to one, so that an opening that the last of them made waits.
 abbrev pub OfBoot : PlatformValue → List Record → ℕ → Opening → List Record → Type 0

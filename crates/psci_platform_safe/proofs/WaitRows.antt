@@ -6,15 +6,15 @@ use Rattle.std.specs.Prelude.{slice_get}
 use Rattle.psci_headline.specs.psci_abi.declared.request.Request.TheVariants as requests
 use Rattle.psci_headline.specs.psci_world_spec.declared.event.Event.{Event}
 use Rattle.psci_headline.specs.psci_world_spec.declared.event.Event.TheVariants.{Deliver, Enter}
-use Rattle.psci_headline.specs.psci_world_spec.declared.event.Event.TheVariants.{Wake}
 use Rattle.psci_headline.specs.psci_world_spec.declared.said.Record.{Record}
-use Rattle.psci_headline.proofs.world_spec.Scripts.{asks_on, call, goes_down, part, system_off}
-use Rattle.psci_headline.proofs.world_spec.Scripts.{system_reset}
+use Rattle.psci_headline.proofs.world_spec.Scripts.{asks_on, call, enters, goes_down, part}
+use Rattle.psci_headline.proofs.world_spec.Scripts.{system_off, system_reset}
 use Rattle.psci_platform_safe.specs.Opened.{Waits}
 use Rattle.psci_platform_safe.specs.Words.{run_on}
-use Rattle.psci_platform_safe.proofs.Histories.{after, computing, on_1, tall, suspend, told, two}
+use Rattle.psci_platform_safe.proofs.Histories.{after, computing, on_1, says, tall, suspend, told}
+use Rattle.psci_platform_safe.proofs.Histories.{two}
 use Rattle.psci_platform_safe.proofs.Moments.{of_split}
-use Rattle.psci_platform_safe.proofs.Openings.{Both, at, made}
+use Rattle.psci_platform_safe.proofs.Openings.{Both, at, made, never_opens, woken}
 
 -- Openings that wait -----------------------------------------------------------------------------
 
@@ -117,10 +117,37 @@ waits_while_halting = record {
   );
 }
 
--- core 1 was woken as life 2 began, and begins it as the first one: the boot core's opening waits
-abbrev woken : List Event
-woken = Enter 0x200 ∷ system_reset 0x200 ∷ Deliver 0 ∷ Wake 1 ∷ []
+-- the entry of another core does not use it up
+waits_beside_another : Waits two
+    (says (after (Enter 0x200 ∷ on_1 ∷ [])) (Enter 0) (enters 0x40001000 7)) 1 (at 0x40001000 7)
+unfolding computing
+waits_beside_another = record {
+  since = record { event = Enter 0; said = enters 0x40001000 7 } ∷ [];
+  before = after (Enter 0x200 ∷ on_1 ∷ []);
+  split = refl;
+  unused = λ k r o sent found event said.
+      let no : 0 ≡ 1 =
+      ap (λ (x : Record). core_in x.event)
+      (found_one (record { event = Enter 0; said = enters 0x40001000 7 }) r k found)
+      ∙ ap core_in event in
+      absurd (omega (arith, no));
+  made = inl (
+    record { event = on_1; said = asks_on 0 1 1 0 },
+    after (Enter 0x200 ∷ []),
+    refl,
+    inl (record {
+      caller = 0x200;
+      regs = _;
+      sent = _;
+      event = refl;
+      asks = refl;
+      said = refl;
+    }),
+    refl,
+  );
+}
 
+-- core 1 begins life 2 as the first one: the boot core's opening waits
 boot_core_waits : Waits two (after (woken ++ Enter 1 ∷ [])) 0x200 (at 0x40000000 0)
 unfolding computing
 boot_core_waits = record {
@@ -174,6 +201,49 @@ of_the_life_before w =
             | inr rest ↦ elim rest [
               | inl m ↦ elim m.1 [
                 | inl by ↦ older by.1
+                | inr by ↦ other by.0
+              ]
+              | inr m ↦ other m.1.0
+            ]
+          ]
+        ]
+      ]
+    ]
+
+-- the boot core's opening waits for no other core
+abbrev parked : List Record
+parked = after (woken ++ Enter 1 ∷ [])
+
+not_for_another_core : Waits two parked 1 (at 0x40000000 0) → ⊥
+unfolding computing
+not_for_another_core w =
+    let other : 1 ≡ 0x200 → ⊥ = λ e. absurd (omega (arith, e)) in
+    elim (of_split (Both two parked 1 (at 0x40000000 0)) parked w.since w.before w.split
+    (w.unused, made two parked 1 (at 0x40000000 0) w.before w.made)) [
+      | inl m ↦ elim m.1 [
+        | inl by ↦
+            never_opens two (told two (after woken) (Enter 1)) (after woken) 1 (at 0x40000000 0)
+            refl by.0
+        | inr by ↦ other by.0
+      ]
+      | inr rest ↦ elim rest [
+        | inl m ↦ elim m.1 [
+          | inl by ↦ let no : 1 ≡ 2 = by.1 in absurd (omega (arith, no))
+          | inr by ↦ other by.0
+        ]
+        | inr rest ↦ elim rest [
+          | inl m ↦ elim m.1 [
+            | inl by ↦ let no : 1 ≡ 2 = by.1 in absurd (omega (arith, no))
+            | inr by ↦ other by.0
+          ]
+          | inr rest ↦ elim rest [
+            | inl m ↦ elim m.1 [
+              | inl by ↦ let no : 1 ≡ 2 = by.1 in absurd (omega (arith, no))
+              | inr by ↦ other by.0
+            ]
+            | inr rest ↦ elim rest [
+              | inl m ↦ elim m.1 [
+                | inl by ↦ let no : 1 ≡ 2 = by.1 in absurd (omega (arith, no))
                 | inr by ↦ other by.0
               ]
               | inr m ↦ other m.1.0

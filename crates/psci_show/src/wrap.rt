@@ -32,16 +32,13 @@ pub fn write_wrapped(
 ) -> Result<(), AllocError> {
     let mut column: usize = 0;
     for (index, byte) in text.iter().enumerate() {
-        if *byte != at {
-            out.push(*byte)?;
-            column += 1;
-        } else if column.saturating_add(word_length(at, &text[index + 1..])) < room {
-            out.push(b' ')?;
-            column += 1;
-        } else {
+        if *byte == at && column.saturating_add(word_length(at, &text[index + 1..])) >= room {
             out.push(b'\n')?;
             write_spaces(out, indent)?;
             column = 0;
+        } else {
+            out.push(if *byte == at { b' ' } else { *byte })?;
+            column += 1;
         }
     }
     out.push(b'\n')?;

@@ -6,8 +6,6 @@ use Rattle.psci_audit.proofs.SoFar.{after_asked, after_controlled, begin, ended,
 use Rattle.psci_audit.proofs.SoFar.{told}
 use Rattle.psci_audit.proofs.SoFar.{stops_controlled}
 use Rattle.psci_audit.proofs.merging.follow_all.Goals as goal
-use Rattle.psci_audit.proofs.merging.follow_all.Goals.{then-is_asked_first+in-len1-up+in_default-fault_of}
-use Rattle.psci_audit.proofs.merging.follow_all.Goals.{else-is_asked_first+in-len1-up-controlled+in_default-fault_of-2}
 
 pub loop-place-init : goal.loop-place-init
 loop-place-init c = record {
@@ -22,7 +20,7 @@ loop-place-init c = record {
 pub loop-place-preserved : goal.loop-place-preserved
 loop-place-preserved c =
     elim c.if-is_asked_first.branch [
-      | then-is_asked_first+in-len1-up+in_default-fault_of w ↦
+      | goal.then-is_asked_first+in-len1-up+in_default-fault_of w ↦
           let after = after_asked c.args.world.now.board
           (merged c.args.firmware.now c.args.controller.now) c.loop-place.world
           w.follow_firmware.new.world c.if-is_asked_first.world c.loop-place.asked.now
@@ -35,7 +33,7 @@ loop-place-preserved c =
           (sym c.is_asked_first.ensures ∙ w.if-is_asked_first.true) w.follow_firmware.ensures.step
           (w.in_default-fault_of.ensures {u = tt}) in
           record { between = after.0; left = after.1 }
-      | else-is_asked_first+in-len1-up-controlled+in_default-fault_of-2 w ↦
+      | goal.else-is_asked_first+in-len1-up-controlled+in_default-fault_of-2 w ↦
           let after = after_controlled c.args.world.now.board
           (merged c.args.firmware.now c.args.controller.now) c.loop-place.world
           w.follow_controller.new.world c.if-is_asked_first.world c.loop-place.asked.now
