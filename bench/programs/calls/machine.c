@@ -62,6 +62,8 @@ static bool turn(const char *what, uint64_t last, uint32_t number) {
         return call(0xc4000004, last, 1) == PSCI_RETURN && answer.code >= 0;
     if (strcmp(what, "nobody") == 0)
         return call(0xc4000004, 0xff, 0) == PSCI_RETURN && answer.code == -2;
+    if (strcmp(what, "on") == 0)
+        return call(0xc4000003, last, ENTRY) == PSCI_RETURN && answer.code == (number == 2 ? 0 : -5);
     if (strcmp(what, "refused") == 0)
         return call(0xc4000001, NO_WORD, ENTRY) == PSCI_RETURN && answer.code == -2;
     if (strcmp(what, "number") == 0)

@@ -1,6 +1,7 @@
 //! The calls of the cores in the words of a machine, and its names for cores and domains.
 
-ghost use Rattle.std.specs.Prelude.{◌≡◌, Some};
+ghost use Rattle.std.specs.Prelude.{◌≡◌, Some, option_map};
+ghost use Rattle.psci_fw.specs.Seen.{seen};
 ghost use Rattle.psci_ffi.specs.MachineCalls.{asked_in, asked_shown, called_in, core_read};
 ghost use Rattle.psci_ffi.specs.MachineCalls.{mpidr_read, place_read, regs_given};
 ghost use Rattle.psci_ffi.specs.MachineCalls.{regs_in, told_in};
@@ -62,16 +63,26 @@ pub extern "C" fn psci_smc_machine(
         (regs_given x0 x1 x2 x3) }
     ensures machine { machine.new.slot.kept ≡ machine.old.slot.kept }
 {
-    let Some(held) = place.take(alloc) else {
+    let Some(mode) = mode_in(alloc, place) else {
         *answer = refused(NO_FIRMWARE);
         *asked = asked_shown(Asked::Nothing);
         return;
     };
-    let call = translate(alloc, machine, held.mode(), Regs { x0, x1, x2, x3 });
-    place.put(held);
+    let call = translate(alloc, machine, mode, Regs { x0, x1, x2, x3 });
     *asked = asked_shown(call.asked);
     let Regs { x0, x1, x2, x3 } = call.regs;
     psci_smc(alloc, place, core, x0, x1, x2, x3, answer);
+}
+
+/// The mode that the firmware in a place is in.
+fn mode_in(alloc: Global, place: &mut Place) -> Option<SuspendMode>
+    ensures mode { result ≡ option_map (λ f. (seen f.firmware).mode) place.old.slot.kept }
+    ensures same { place.new.slot.kept ≡ place.old.slot.kept }
+{
+    let held = place.take(alloc)?;
+    let mode = held.mode();
+    place.put(held);
+    Some(mode)
 }
 
 /// The call of the firmware for one in the words of the machine; the same without a machine.

@@ -2,6 +2,7 @@ pub mod Addresses
 pub mod Agreeing
 pub mod Asks
 pub mod Booting
+pub mod ByWord
 mod CallAxisRows
 mod CallRows
 pub mod Checked

@@ -10,6 +10,7 @@
 //!   and the firmware do.
 #![tactic(auto)]
 
+mod argument;
 mod asked;
 mod check;
 mod class;

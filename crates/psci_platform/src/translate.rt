@@ -5,12 +5,14 @@ ghost use Rattle.std.specs.List.{All};
 ghost use Rattle.psci_abi.specs.Calls.{function_of};
 ghost use Rattle.psci_board.specs.Board.{cores};
 ghost use Rattle.psci_platform.specs.declared.asked.Asked.TheVariants as asks;
-ghost use Rattle.psci_platform.specs.Calls.{asked_by, asked_for, asks_states, feature_word};
-ghost use Rattle.psci_platform.specs.Calls.{first_argument, is_vendors, regs_for, reset_word};
+ghost use Rattle.psci_platform.specs.Arguments.{regs_by, told_by};
+ghost use Rattle.psci_platform.specs.Calls.{asked_for, asks_states, feature_word};
+ghost use Rattle.psci_platform.specs.Calls.{is_vendors, regs_for, reset_word};
 ghost use Rattle.psci_platform.specs.Cores.{core_word};
 ghost use Rattle.psci_platform.specs.Names.{IsName};
 ghost use Rattle.psci_platform.specs.Swaps.{is_symmetric};
 
+use crate::argument::{Argument, low_half, passed};
 use crate::asked::Asked;
 use crate::class::LEVELS;
 use crate::description::Description;
@@ -45,7 +47,6 @@ impl Description {
     }
 
     /// The same, where these are names of cores.
-    #[tactic(auto, unfolding(crate::specs::Calls::regs_for, crate::specs::Calls::asked_for))]
     pub(crate) fn translate_by(
         &self,
         board: &Board,
@@ -61,60 +62,66 @@ impl Description {
         ensures regs { result.regs ≡ regs_for self.now board.now boot.number mode regs }
         ensures asked { result.asked ≡ asked_for self.now mode regs }
     {
-        let request = read(regs);
-        if !self.functions.has(request) {
-            return Call {
-                regs: Regs {
-                    x0: u64::from(NO_FUNCTION),
-                    ..regs
-                },
-                asked: Asked::Nothing,
-            };
-        }
-        let (x1, asked) = self.first_argument(board, boot, names, mode, regs.x1, request);
-        Call {
-            regs: Regs { x1, ..regs },
-            asked,
-        }
+        let argument = self.functions.first_argument(low_half(regs.x0));
+        self.call_by(board, boot, names, mode, regs, argument)
     }
 
-    /// The first argument that the firmware is asked with, and what the platform is asked.
-    fn first_argument(
+    /// The call of the firmware, where this is what the first argument names.
+    fn call_by(
         &self,
         board: &Board,
         boot: Core,
         names: &[Name],
         mode: SuspendMode,
-        x1: u64,
-        request: Request,
-    ) -> (u64, Asked)
+        regs: Regs,
+        argument: Argument,
+    ) -> Call
         requires count { length self.now.mpidrs ≡ cores board.now }
         requires boot { boot.number < cores board.now }
         requires symmetric { is_symmetric board.now boot.number ≡ true }
         requires names { All (IsName self.now board.now boot.number) names.now }
-        ensures argument { result.0
-            ≡ first_argument self.now board.now boot.number mode x1 request }
-        ensures asked { result.1 ≡ asked_by self.now mode request }
+        ensures regs { result.regs ≡ regs_by self.now board.now boot.number mode regs argument }
+        ensures asked { result.asked ≡ told_by self.now mode regs argument }
     {
-        match request {
-            Request::CpuSuspend { state, .. } => {
-                let states = self.states_of(mode, state);
+        let first = passed(&regs, regs.x1);
+        match argument {
+            Argument::Missing => Call {
+                regs: Regs {
+                    x0: u64::from(NO_FUNCTION),
+                    ..regs
+                },
+                asked: Asked::Nothing,
+            },
+            Argument::State => {
+                let states = self.states_of(mode, low_half(first));
                 let word = self.word_for(board.format(), states);
-                (u64::from(word), asks_states(states))
+                with_first(regs, u64::from(word), asks_states(states))
             }
-            Request::CpuOn { target, .. } => {
-                (self.word_by(board, boot, names, target, 0), Asked::Nothing)
+            Argument::Core => {
+                let word = self.word_by(board, boot, names, first, 0);
+                with_first(regs, word, Asked::Nothing)
             }
-            Request::AffinityInfo { target, level } | Request::NodeHwState { target, level } => {
-                (
-                    self.word_by(board, boot, names, target, level),
-                    Asked::Nothing,
-                )
+            Argument::Node => {
+                let level = low_half(passed(&regs, regs.x2));
+                let word = self.word_by(board, boot, names, first, level);
+                with_first(regs, word, Asked::Nothing)
             }
-            Request::Features { word } => (u64::from(self.feature_word(word)), Asked::Nothing),
-            Request::SystemReset2 { reset_type, .. } => self.reset(reset_type),
-            Request::SystemSuspend { .. } => (x1, Asked::States(self.system)),
-            _ => (x1, Asked::Nothing),
+            Argument::Function => {
+                let word = self.feature_word(low_half(first));
+                with_first(regs, u64::from(word), Asked::Nothing)
+            }
+            Argument::Reset => {
+                let (word, asked) = self.reset(low_half(first));
+                with_first(regs, word, asked)
+            }
+            Argument::System => Call {
+                regs,
+                asked: Asked::States(self.system),
+            },
+            Argument::Other => Call {
+                regs,
+                asked: Asked::Nothing,
+            },
         }
     }
 
@@ -157,6 +164,17 @@ impl Description {
         } else {
             (u64::from(reset_type), Asked::Nothing)
         }
+    }
+}
+
+/// The call with these registers but for this first argument.
+fn with_first(regs: Regs, x1: u64, asked: Asked) -> Call
+    ensures regs { result.regs ≡ record regs { x1 = x1 } }
+    ensures asked { result.asked ≡ asked }
+{
+    Call {
+        regs: Regs { x1, ..regs },
+        asked,
     }
 }
 
