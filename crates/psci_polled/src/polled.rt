@@ -62,7 +62,10 @@ impl PolledFirmware {
     {
         law_values();
         let firmware = Firmware::new(alloc, board)?;
-        let (words, writer) = StatusWords::new(alloc, board)?;
+        let Ok((words, writer)) = StatusWords::new(alloc, board) else {
+            let_go(firmware);
+            return Err(Memory);
+        };
         let polled = PolledFirmware {
             firmware,
             writer,
@@ -244,4 +247,10 @@ impl PolledFirmware {
     {
         let _cores = self.cores;
     }
+}
+
+/// Lets a firmware go. It has a frame of its own, so that none is held while one is made.
+#[inline(never)]
+fn let_go(firmware: Firmware) {
+    drop(firmware);
 }
