@@ -28,6 +28,7 @@ PSCI_LIB_SOURCES	:=	$(filter-out lib/psci/psci_%.c,${PSCI_LIB_SOURCES})	\
 				${GUMDARTS_FOLDER}/gumdarts_record.c	\
 				${GUMDARTS_FOLDER}/gumdarts_stack.S	\
 				${GUMDARTS_FOLDER}/gumdarts_bytes.S	\
+				${GUMDARTS_FOLDER}/gumdarts_lock.S	\
 				${GUMDARTS}/hosts/pool.c
 INCLUDES		+=	-Ilib/psci -I${GUMDARTS}/include -I${GUMDARTS}/hosts -I${GUMDARTS_FOLDER}
 BL31_LIBS		+=	${GUMDARTS_ARCHIVE}

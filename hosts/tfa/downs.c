@@ -49,6 +49,16 @@ void spin_lock(spinlock_t *lock)
 }
 
 void spin_unlock(spinlock_t *lock) { lock->lock = 0U; }
+
+bool lock_if_free(spinlock_t *lock)
+{
+    bool is_free = lock->lock == 0U;
+
+    if (is_free)
+        spin_lock(lock);
+    return is_free;
+}
+
 unsigned int plat_my_core_pos(void) { return here; }
 u_register_t read_mpidr(void) { return words[here]; }
 

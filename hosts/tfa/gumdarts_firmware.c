@@ -218,9 +218,8 @@ int32_t firmware_poll(unsigned int core, const uint64_t *x, unsigned int target)
 {
     int32_t code;
 
-    if (lock.lock == 0U && waiting[target].some &&
-        doors[target].stopped == waiting[target].number) {
-        spin_lock(&lock);
+    if (waiting[target].some && doors[target].stopped == waiting[target].number &&
+        lock_if_free(&lock)) {
         serve();
         spin_unlock(&lock);
     }

@@ -15,6 +15,6 @@ ifeq (${HOOKS_PROBE},1)
 BL31_LDFLAGS	+=	--wrap=plat_get_target_pwr_state
 endif
 ifeq (${HOOKS_MEASURE},1)
-BL31_LDFLAGS	+=	--wrap=spin_lock --wrap=spin_unlock --wrap=bakery_lock_get --wrap=bakery_lock_release	\
+BL31_LDFLAGS	+=	--wrap=spin_lock --wrap=spin_unlock --wrap=lock_if_free --wrap=bakery_lock_get --wrap=bakery_lock_release	\
 			--wrap=psci_smc_handler --wrap=psci_warmboot_entrypoint
 endif

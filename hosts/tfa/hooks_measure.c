@@ -42,6 +42,8 @@ void __real_spin_lock(spinlock_t *lock);
 void __wrap_spin_lock(spinlock_t *lock);
 void __real_spin_unlock(spinlock_t *lock);
 void __wrap_spin_unlock(spinlock_t *lock);
+bool __real_lock_if_free(spinlock_t *lock) __attribute__((weak));
+bool __wrap_lock_if_free(spinlock_t *lock);
 void __real_bakery_lock_get(bakery_lock_t *lock);
 void __wrap_bakery_lock_get(bakery_lock_t *lock);
 void __real_bakery_lock_release(bakery_lock_t *lock);
@@ -106,6 +108,16 @@ void __wrap_spin_lock(spinlock_t *lock)
 
     __real_spin_lock(lock);
     took(begun);
+}
+
+bool __wrap_lock_if_free(spinlock_t *lock)
+{
+    uint64_t begun = read_cntpct_el0();
+    bool is_taken = __real_lock_if_free(lock);
+
+    if (is_taken)
+        took(begun);
+    return is_taken;
 }
 
 void __wrap_spin_unlock(spinlock_t *lock)
