@@ -5,8 +5,8 @@ use Rattle.psci_platform.specs.States.{depth_at}
 use Rattle.psci_headline.specs.psci_world_spec.declared.event.Event.TheVariants.{Enter}
 use Rattle.psci_platform_safe.specs.Asked.{AsksByWord, IsFromStart, asks}
 use Rattle.psci_platform_safe.specs.Words.{run_on}
-use Rattle.psci_platform_safe.proofs.Histories.{computing, life_2, suspend, tall, tall_on, told}
-use Rattle.psci_platform_safe.proofs.Histories.{two}
+use Rattle.psci_platform_safe.proofs.Histories.{after, computing, core_1_on, life_2, suspend, tall}
+use Rattle.psci_platform_safe.proofs.Histories.{tall_on, told, two}
 use Rattle.psci_platform_safe.proofs.Moments.{apart, of_level}
 
 -- The start of a life ----------------------------------------------------------------------------
@@ -64,3 +64,9 @@ running_by_word by =
     by.asked 0 (omega arith)
     ∙ ap (λ (states : List ℕ). depth_at tall.description 0 (slice_index states 0)) (sym same) in
     absurd (omega (arith, no))
+
+-- nor does one whose word has states in the other mode alone
+second_state_by_word : AsksByWord two (told two (after core_1_on) (suspend 1 0x01010022))
+    (after core_1_on) 1 0x01010022 → ⊥
+unfolding computing
+second_state_by_word by = let no = by.row in absurd (cc)
