@@ -9,7 +9,7 @@ ghost use Rattle.psci_ffi.specs.Shown.{act_shown, frame_shown, no_frame, plain, 
 use crate::codes::refusal;
 use crate::held::Held;
 use psci_fw::{Act, FwFault, Reaction};
-use psci_link::{FRAME_LEN, Frame, encode, encode_message};
+use psci_link::{FRAME_LEN, Frame, encode, write_message};
 use psci_messages::Message;
 use std::mem::size_of;
 
@@ -140,7 +140,7 @@ fn write_frame(frame: &mut SomeFrame, message: Option<&Message>)
         None => *frame = no_frame(),
         Some(message) => {
             frame.some = true;
-            frame.bytes = encode_message(message);
+            write_message(message, &mut frame.bytes);
         }
     }
 }
