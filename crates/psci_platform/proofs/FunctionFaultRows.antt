@@ -33,6 +33,12 @@ system_above_the_levels : fault (record rk3399 { levels = 1 }) ≡ Some faults.B
 unfolding checking
 system_above_the_levels = refl
 
+-- all levels of the board, and not those alone that the platform takes down
+system_of_fewer_levels : fault (record rk3399 { levels = 1; system = 1 ∷ 1 ∷ 0 ∷ 0 ∷ [] })
+    ≡ Some faults.BadSystem
+unfolding checking
+system_of_fewer_levels = refl
+
 system_of_a_deeper_state : fault (record rk3399 { system = 2 ∷ 15 ∷ 3 ∷ 0 ∷ [] }) ≡ None
 unfolding checking
 system_of_a_deeper_state = refl
