@@ -97,7 +97,8 @@ started_sums b cs old new c cause laws inside h before rows = record {
 
 -- no sum of starts is too large for one more
 pub room : (b : BoardValue) (cs : List CoreRow) (ds : List (List DomainRow)) (l p : ℕ) → SumLaws b
-    → cores b ≤ MOST_CORES → ((k : ℕ) → (core_row cs k).starts < 2 ^ 32) → HasSums b cs ds → l ≤ height b
+    → cores b ≤ MOST_CORES → ((k : ℕ) → (core_row cs k).starts < 2 ^ 32) → HasSums b cs ds
+    → l ≤ height b
     → (domain_at ds l p).starts + 1 < 2 ^ 64
 room b cs ds l p laws few small has low =
     let n : Node = record { level = l; place = p } in

@@ -32,8 +32,8 @@ abbrev message : Kind → ℕ → MessageValue
 message kind core =
     record { kind = kind; core = record { number = core }; life = 2; number = 4; parts = [] }
 
--- core 3 has sent a Down, core 1 a Reset of the system, and in the slot of core 0 stands what is not
--- its own
+-- core 3 has sent a Down, core 1 a Reset of the system, and in the slot of core 0 stands what is
+-- not its own
 abbrev waiting : Slot → Option MessageValue
 waiting (OfCore c) = if c == 3 then Some (message Down 3)
     else (if c == 0 then Some (message Start 2) else None)

@@ -6,8 +6,8 @@ ghost use Rattle.psci_fw_spec.specs.declared.outcome.Act.TheVariants as acts;
 use psci_abi::Code;
 use psci_fw_spec::Act;
 
-/// What the firmware does about a call that it does not refuse. The message stays in its slot, where
-/// `Firmware::outstanding` reads it.
+/// What the firmware does about a call that it does not refuse. The message stays in its slot,
+/// where `Firmware::outstanding` reads it.
 #[derive(Clone, Copy)]
 pub struct Reaction {
     /// What the calling core does next.

@@ -136,7 +136,8 @@ off_of s u rows counts slots a off acked row left =
           ∙ ap (λ (t : Bool). updated (values_in s).status a.core.number
           (cond t statuses.Off ((values_in s).status a.core.number)) k) (sym off);
       phase = stays (values_in s).phase
-          (values_in (record s { tree = u; rows = rows; counts = counts; slots = slots })).phase a.core.number _
+          (values_in (record s { tree = u; rows = rows; counts = counts; slots = slots })).phase
+          a.core.number _
           (both_set (λ (r : CoreRow) (x : CoreState). phase_by r.status x.activity) (row_at s.rows)
           (row_at rows) (state_at s.tree) (state_at u) a.core.number _ _ row
           (state_same s u a acked))
@@ -150,7 +151,8 @@ off_of s u rows counts slots a off acked row left =
     })
 
 pub off_changed : (s now : StateValue) (u : TreeValue) (rows : List CoreRow)
-    (counts : List (List StatusCounts)) (slots : SlotsValue) (a : AckValue) → s ≡ now → turns_off (values_in now) a ≡ true → IsAcked s u a
+    (counts : List (List StatusCounts)) (slots : SlotsValue) (a : AckValue) → s ≡ now
+    → turns_off (values_in now) a ≡ true → IsAcked s u a
     → Set (row_at s.rows) (row_at rows) a.core.number (record {
       status = statuses.Off;
       opening = (row_at s.rows a.core.number).opening;

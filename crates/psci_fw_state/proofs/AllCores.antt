@@ -1,14 +1,12 @@
 -- What the counts of the whole system say of all cores together.
-use Rattle.std.proofs.Common.{◌≡◌, ℕ, zero, suc, ◌+◌, ◌<◌, ◌≤◌, ◌==◌, ◌||◌, ◌&&◌, Bool, true, false}
-use Rattle.std.proofs.Common.{cond, not, ltb, List, [], ◌∷◌, length, drop, refl, ap, sym, ◌∙◌, arith}
-use Rattle.std.proofs.Common.{inl, inr, ◌^◌}
-use Rattle.std.specs.List.{sum_by, count_by, list_all, list_any, range_with_len}
-use Rattle.std.proofs.lemmas.Bool.{cases_eq, cases_lt, eq-eqb, lt-ltb, ne_eqb}
+use Rattle.std.proofs.Common.{◌≡◌, ℕ, ◌+◌, ◌<◌, ◌≤◌, ◌==◌, Bool, true}
+use Rattle.std.proofs.Common.{cond, not, ltb, List, length, drop, refl, ap, sym, ◌∙◌}
+use Rattle.std.proofs.Common.{arith}
+use Rattle.std.proofs.Common.{◌^◌}
+use Rattle.std.specs.List.{sum_by, count_by, list_any, range_with_len}
+use Rattle.std.proofs.lemmas.Bool.{lt-ltb}
 use Rattle.std.proofs.lemmas.List.{drop_all, get_or_past}
 use Rattle.std.proofs.lemmas.List.FromFn.{length-range_with_len}
-use Rattle.std.proofs.lemmas.List.Sums.{sum_by-cons}
-use Rattle.psci_fw_spec.specs.declared.status.Status.{Status}
-use Rattle.psci_fw_spec.specs.declared.status.Status.TheVariants as statuses
 use Rattle.psci_fw_spec.specs.AffinityInfo.{is_on, is_pending_status}
 use Rattle.psci_fw_spec.specs.Invariant.{agrees}
 use Rattle.psci_fw_spec.specs.Phases.{is_away, is_suspended_or_pending}
@@ -16,7 +14,7 @@ use Rattle.psci_fw_spec.specs.SystemCalls.{all_others, is_off_status}
 use Rattle.psci_state.specs.declared.cores.Activity.{Activity}
 use Rattle.psci_state.specs.declared.cores.Activity.TheVariants as activities
 use Rattle.psci_state.specs.declared.cores.CoreState.{CoreState}
-use Rattle.psci_tree.specs.Recount.{is_active, is_away as is_gone}
+use Rattle.psci_tree.specs.Recount.{is_active}
 use Rattle.psci_board.specs.declared.node.Node.{Node}
 use Rattle.psci_board.specs.Board.{HasNodeIn, below_in, cores, height, size_below}
 use Rattle.psci_board.specs.declared.span.CoreSpan.{CoreSpan}
@@ -29,163 +27,9 @@ use Rattle.psci_fw_state.specs.Rows.{off_row, status_at}
 use Rattle.psci_fw_state.specs.Seen.{IsState, StateValue, phase_by}
 use Rattle.psci_fw_state.proofs.Counting.{few_cores}
 use Rattle.psci_fw_state.proofs.NodeStatus.{some_counted}
-
--- All cores but one ------------------------------------------------------------------------------
-
-all_step : (t : Bool) (n : ℕ) (rest : Bool) → rest ≡ (n == 0)
-    → (t && rest) ≡ ((cond (not t) 1 0 + n) == 0)
-all_step true n rest e =
-    let same : n ≡ 0 + n = omega arith in e ∙ ap (λ x. x == 0) same
-all_step false n rest e = sym (ne_eqb (1 + n) 0 (λ z. omega (arith, z)))
-
--- all pass where none are counted that do not
-all_counted : (p : ℕ → Bool) (xs : List ℕ)
-    → list_all p xs ≡ (count_by (λ k. not (p k)) xs == 0)
-all_counted p [] = refl
-all_counted p (x ∷ xs) =
-    all_step (p x) (count_by (λ k. not (p k)) xs) (list_all p xs) (all_counted p xs)
-    ∙ ap (λ n. n == 0) (sym (sum_by-cons (λ k. cond (not (p k)) 1 0) x xs))
-
-module _ (test : ℕ → Bool) (c : ℕ) where
-  beside : (k : ℕ) → (k ≡ c → ⊥)
-      → ◌≡◌ {A = ℕ} (cond (not (k == c || test k)) 1 0) (cond (not (test k)) 1 0)
-  beside k n = let no : (k == c) ≡ false = ne_eqb k c n in rw no refl
-
-  here : ◌≡◌ {A = ℕ} (cond (not (c == c || test c)) 1 0) 0
-  here = let yes : (c == c) ≡ true = eq-eqb c c refl in rw yes refl
-
-  but_none : (a n : ℕ) → ((k : ℕ) → a ≤ k → k < a + n → k ≡ c → ⊥)
-      → count_by (λ k. not (k == c || test k)) (range_with_len a n)
-      ≡ count_by (λ k. not (test k)) (range_with_len a n)
-  but_none a zero h = refl
-  but_none a (suc n) h = omega (
-    arith,
-    sum_by-cons (λ k. cond (not (k == c || test k)) 1 0) a (range_with_len (a + 1) n),
-    sum_by-cons (λ k. cond (not (test k)) 1 0) a (range_with_len (a + 1) n),
-    beside a (h a (omega arith) (omega arith)),
-    but_none (a + 1) n (λ k p q. h k (omega arith) (omega arith)),
-  )
-
-  but_one : (a n : ℕ) → a ≤ c → c < a + n
-      → count_by (λ k. not (k == c || test k)) (range_with_len a n) + cond (not (test c)) 1 0
-      ≡ count_by (λ k. not (test k)) (range_with_len a n)
-  but_one a zero p q = absurd (omega arith)
-  but_one a (suc n) p q = elim (cases_eq a c) [
-    | inl e ↦ omega (
-      arith,
-      sum_by-cons (λ k. cond (not (k == c || test k)) 1 0) a (range_with_len (a + 1) n),
-      sum_by-cons (λ k. cond (not (test k)) 1 0) a (range_with_len (a + 1) n),
-      ap {B = ℕ} (λ k. cond (not (k == c || test k)) 1 0) e ∙ here,
-      ap {B = ℕ} (λ k. cond (not (test k)) 1 0) e,
-      but_none (a + 1) n (λ k i j r. omega (arith, e, r)),
-    )
-    | inr e ↦ omega (
-      arith,
-      sum_by-cons (λ k. cond (not (k == c || test k)) 1 0) a (range_with_len (a + 1) n),
-      sum_by-cons (λ k. cond (not (test k)) 1 0) a (range_with_len (a + 1) n),
-      beside a e,
-      but_one (a + 1) n (omega (arith, e)) (omega arith),
-    )
-  ]
-
-  own_counted : (n : ℕ) → (n ≤ c → test c ≡ true)
-      → count_by (λ k. not (k == c || test k)) (range_with_len 0 n) + cond (not (test c)) 1 0
-      ≡ count_by (λ k. not (test k)) (range_with_len 0 n)
-  own_counted n h = elim (cases_lt c n) [
-    | inl p ↦ but_one 0 n (omega arith) (omega arith)
-    | inr p ↦
-        let none : ◌≡◌ {A = ℕ} (cond (not (test c)) 1 0) 0 =
-        ap {B = ℕ} (λ b. cond (not b) 1 0) (h p) in
-        omega (arith, none, but_none 0 n (λ k i j r. omega (arith, p, r)))
-  ]
-
-same_test : (x y z : ℕ) → x + y ≡ z → (x == 0) ≡ (z == y)
-same_test x y z e = grind arith
-
--- every core but one passes where as many do not as it is one of them
-pub others : (test : ℕ → Bool) (c n : ℕ) → (n ≤ c → test c ≡ true)
-    → list_all (λ k. k == c || test k) (range_with_len 0 n)
-    ≡ (count_by (λ k. not (test k)) (range_with_len 0 n) == cond (not (test c)) 1 0)
-others test c n h =
-    all_counted (λ k. k == c || test k) (range_with_len 0 n)
-    ∙ same_test _ _ _ (own_counted test c n h)
-
--- Sums over cores --------------------------------------------------------------------------------
-
--- where it is so of each core, it is so of their sums
-sums : (f g h : ℕ → ℕ) (xs : List ℕ) → ((k : ℕ) → f k + g k ≡ h k)
-    → sum_by f xs + sum_by g xs ≡ sum_by h xs
-sums f g h [] e = refl
-sums f g h (x ∷ xs) e = omega (
-  arith,
-  sum_by-cons f x xs,
-  sum_by-cons g x xs,
-  sum_by-cons h x xs,
-  e x,
-  sums f g h xs e,
-)
-
-ones : (xs : List ℕ) → sum_by (λ k. 1) xs ≡ length xs
-ones [] = refl
-ones (x ∷ xs) = omega (arith, sum_by-cons (λ k. 1) x xs, ones xs)
-
-at_most : (f g : ℕ → ℕ) (xs : List ℕ) → ((k : ℕ) → f k ≤ g k) → sum_by f xs ≤ sum_by g xs
-at_most f g [] e = omega arith
-at_most f g (x ∷ xs) e =
-    omega (arith, sum_by-cons f x xs, sum_by-cons g x xs, e x, at_most f g xs e)
-
-equal : (f g : ℕ → ℕ) (xs : List ℕ) → ((k : ℕ) → f k ≡ g k) → sum_by f xs ≡ sum_by g xs
-equal f g [] e = refl
-equal f g (x ∷ xs) e =
-    omega (arith, sum_by-cons f x xs, sum_by-cons g x xs, e x, equal f g xs e)
-
-same_sums : (n own rest total : ℕ) → n + rest ≡ total → (n + own == total) ≡ (rest == own)
-same_sums n own rest total e = grind arith
-
-same_less : (n more total : ℕ) → more + n ≡ total → ltb n total ≡ ltb 0 more
-same_less n more total e = grind arith
-
--- One core ---------------------------------------------------------------------------------------
-
-started : (s : Status) → ◌≡◌ {A = ℕ} (cond (is_on s) 1 0 + cond (is_pending_status s) 1 0)
-    (cond (not (is_off_status s)) 1 0)
-started statuses.On = refl
-started statuses.Off = refl
-started statuses.Pending = refl
-
-away_or_not : (b : Bool) → ◌≡◌ {A = ℕ} (cond b 1 0 + cond (not b) 1 0) 1
-away_or_not true = refl
-away_or_not false = refl
-
-away_is : (s : Status) (a : Activity) → is_gone a ≡ is_away (phase_by s a)
-away_is statuses.On activities.Active = refl
-away_is statuses.Off activities.Active = refl
-away_is statuses.Pending activities.Active = refl
-away_is statuses.On (activities.Suspended ask) = refl
-away_is statuses.Off (activities.Suspended ask) = refl
-away_is statuses.Pending (activities.Suspended ask) = refl
-away_is statuses.On activities.Away = refl
-away_is statuses.Off activities.Away = refl
-away_is statuses.Pending activities.Away = refl
-
-settled_one : (a : Activity) → cond (is_gone a) 1 0 + cond (is_active a) 1 0 ≤ 1
-settled_one activities.Active = omega arith
-settled_one (activities.Suspended ask) = omega arith
-settled_one activities.Away = omega arith
-
--- a core waits, or is off or going off, or keeps its domains on; it does both where it is pending
-waiting_one : (s : Status) (a : Activity) → agrees s (phase_by s a) ≡ true
-    → ◌≡◌ {A = ℕ} (cond (is_suspended_or_pending (phase_by s a)) 1 0
-    + (cond (is_gone a) 1 0 + cond (is_active a) 1 0)) (1 + cond (is_pending_status s) 1 0)
-waiting_one statuses.On activities.Active e = refl
-waiting_one statuses.Off activities.Active e = cc
-waiting_one statuses.Pending activities.Active e = refl
-waiting_one statuses.On (activities.Suspended ask) e = refl
-waiting_one statuses.Off (activities.Suspended ask) e = cc
-waiting_one statuses.Pending (activities.Suspended ask) e = cc
-waiting_one statuses.On activities.Away e = refl
-waiting_one statuses.Off activities.Away e = refl
-waiting_one statuses.Pending activities.Away e = cc
+use Rattle.psci_fw_state.proofs.CoreCounts.{others, sums, ones, at_most, equal, same_sums}
+use Rattle.psci_fw_state.proofs.CoreCounts.{same_less, started, away_or_not, away_is, settled_one}
+use Rattle.psci_fw_state.proofs.CoreCounts.{waiting_one}
 
 -- The whole system -------------------------------------------------------------------------------
 
@@ -209,17 +53,21 @@ module _ (s : StateValue) (is : IsState s) (laws : SpanLaws s.board.levels) wher
       ∙ ap (λ (x : CoreSpan). range_with_len x.first x.count) laws.system
 
   -- ON and ON_PENDING are all that is not OFF
-  pub others_off : (c : ℕ) (k : StatusCounts) → k ≡ counts_below s.board.levels (status_at s.rows) system
-      → (k.on + k.pending == (one_core (status_at s.rows c)).on + (one_core (status_at s.rows c)).pending)
+  pub others_off : (c : ℕ) (k : StatusCounts)
+      → k ≡ counts_below s.board.levels (status_at s.rows) system
+      → (k.on + k.pending
+      == (one_core (status_at s.rows c)).on + (one_core (status_at s.rows c)).pending)
       ≡ all_others s.board c (λ n. is_off_status (status_at s.rows n))
   unfolding counts_below
   others_off c k e =
       let on : k.on ≡ count_by (λ n. is_on (status_at s.rows n)) everyone =
-      ap (λ (x : StatusCounts). x.on) e ∙ ap (count_by (λ n. is_on (status_at s.rows n))) all_below in
+      ap (λ (x : StatusCounts). x.on) e
+      ∙ ap (count_by (λ n. is_on (status_at s.rows n))) all_below in
       let pending : k.pending ≡ count_by (λ n. is_pending_status (status_at s.rows n)) everyone =
       ap (λ (x : StatusCounts). x.pending) e
       ∙ ap (count_by (λ n. is_pending_status (status_at s.rows n))) all_below in
-      let sum : k.on + k.pending ≡ count_by (λ n. not (is_off_status (status_at s.rows n))) everyone =
+      let sum : k.on + k.pending
+      ≡ count_by (λ n. not (is_off_status (status_at s.rows n))) everyone =
       rw (on, pending) (sums (λ n. cond (is_on (status_at s.rows n)) 1 0)
       (λ n. cond (is_pending_status (status_at s.rows n)) 1 0)
       (λ n. cond (not (is_off_status (status_at s.rows n))) 1 0) everyone
@@ -245,7 +93,8 @@ module _ (s : StateValue) (is : IsState s) (laws : SpanLaws s.board.levels) wher
   active_count : active s.tree system ≡ count_by (λ c. is_active (activity c)) everyone
   unfolding active
   active_count =
-      ap (λ (ws : List (List ℕ)). count_by (λ c. is_active_at s.tree c) (below_in ws system)) is.levels
+      ap (λ (ws : List (List ℕ)). count_by (λ c. is_active_at s.tree c) (below_in ws system))
+      is.levels
       ∙ ap (count_by (λ c. is_active_at s.tree c)) all_below
 
   off_away : count_by (λ c. is_gone (activity c)) everyone ≡ count_by away everyone

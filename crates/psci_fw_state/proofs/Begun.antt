@@ -1,6 +1,6 @@
 -- A life begins: what the values in the state are then.
-use Rattle.std.proofs.Common.{◌≡◌, ℕ, zero, suc, ◌+◌, ◌<◌, ◌≤◌, ◌==◌, ◌&&◌, Bool, true, false, cond}
-use Rattle.std.proofs.Common.{List, [], ◌∷◌, length, sum, drop, map, get_or, leb, ltb, not}
+use Rattle.std.proofs.Common.{◌≡◌, ℕ, ◌<◌, ◌≤◌, ◌==◌, ◌&&◌, Bool, true, false, cond}
+use Rattle.std.proofs.Common.{List, [], ◌∷◌, length, sum, drop, get_or, leb, ltb, not}
 use Rattle.std.proofs.Common.{None, Option, refl, sym, subst, ◌∙◌, ap, arith, inl, inr}
 use Rattle.std.specs.List.{AllPass}
 use Rattle.std.proofs.lemmas.Bool.{and_parts, cases_lt, ltb-true, leb-true}
@@ -14,11 +14,12 @@ use Rattle.psci_messages.specs.Slots.{Slot, SlotsValue, message_in, no_messages}
 use Rattle.psci_messages.specs.Slots.Slot.{OfCore, OfSystem}
 use Rattle.psci_state.specs.declared.cores.Activity.TheVariants as activities
 use Rattle.psci_state.specs.declared.cores.CoreState.{CoreState}
-use Rattle.psci_tree.specs.Recount.{IsDomainTree, TreeValue, state_at, granted_at, level_sizes}
+use Rattle.psci_tree.specs.Recount.{IsDomainTree, TreeValue, state_at, granted_at}
 use Rattle.psci_tree.specs.Recount.{never_started, is_confirmed_at}
 use Rattle.psci_fw_spec.specs.declared.mode.SuspendMode.TheVariants.{Platform}
 use Rattle.psci_fw_spec.specs.declared.status.Status.TheVariants as statuses
-use Rattle.psci_fw_spec.specs.Lives.{first_confirmed, first_granted, first_phase, first_status, in_life}
+use Rattle.psci_fw_spec.specs.Lives.{first_confirmed, first_granted, first_phase, first_status}
+use Rattle.psci_fw_spec.specs.Lives.{in_life}
 use Rattle.psci_fw_spec.specs.Lives.{start_of_life}
 use Rattle.psci_fw_spec.specs.Phases as phases
 use Rattle.psci_fw_spec.specs.Values.{Values, updated}
@@ -27,6 +28,8 @@ use Rattle.psci_fw_state.specs.declared.counts.StatusCounts.{StatusCounts}
 use Rattle.psci_fw_state.specs.Rows.{AreFirst, first_row, off_row, row_at, status_at}
 use Rattle.psci_fw_state.specs.Seen.{IsState, StateValue, phase_by, values_in}
 use Rattle.psci_fw_state.proofs.Equal.{same_values}
+use Rattle.psci_fw_state.proofs.Beyond.{sizes_length, sizes_at, lengths_at, length_mapped}
+use Rattle.psci_fw_state.proofs.Beyond.{granted_beyond}
 
 -- Every board has a core ------------------------------------------------------------------------
 
@@ -64,52 +67,6 @@ off_but_boot b rows is first k = by (k == 0) refl
         let status : status_at rows k ≡ first_status k =
         ap (λ (r : CoreRow). r.status) (each_first b rows is first k) in
         let first_off : first_status k ≡ statuses.Off = rw e refl in rw e (status ∙ first_off)
-
--- Domains that are not there --------------------------------------------------------------------
-
-sizes_length : (ws : List (List ℕ)) → length (level_sizes ws) ≡ length ws + 1
-sizes_length [] = refl
-sizes_length (w ∷ ws) = omega (arith, sizes_length ws)
-
-sizes_at : (ws : List (List ℕ)) (l : ℕ) → l ≤ length ws
-    → get_or (level_sizes ws) l 0 ≡ size_below (drop l ws)
-sizes_at [] zero h = refl
-sizes_at [] (suc l) h = absurd (omega arith)
-sizes_at (w ∷ ws) zero h = refl
-sizes_at (w ∷ ws) (suc l) h = sizes_at ws l (omega arith)
-
-lengths_at : (g : List (List ℕ)) (l : ℕ) → get_or (map length g) l 0 ≡ length (get_or g l [])
-lengths_at [] zero = refl
-lengths_at [] (suc l) = refl
-lengths_at (x ∷ g) zero = refl
-lengths_at (x ∷ g) (suc l) = lengths_at g l
-
-length_mapped : (g : List (List ℕ)) → length (map length g) ≡ length g
-length_mapped [] = refl
-length_mapped (x ∷ g) = ap suc (length_mapped g)
-
--- nothing is granted to a domain that is not there
-pub granted_beyond : (t : TreeValue) (l p : ℕ) → IsDomainTree t
-    → (l ≤ length t.levels → p < size_below (drop l t.levels) → ⊥) → granted_at t l p ≡ 0
-granted_beyond t l p is n = elim (cases_lt (length t.levels) l) [
-  | inl h ↦
-      let none : get_or t.granted l [] ≡ [] =
-      get_or_past t.granted l [] (omega (
-        arith,
-        length_mapped t.granted,
-        ap length is.granted,
-        sizes_length t.levels,
-      )) in
-      rw none refl
-  | inr h ↦ elim (cases_lt p (size_below (drop l t.levels))) [
-    | inl k ↦ absurd (n h k)
-    | inr k ↦
-        let long : length (get_or t.granted l []) ≡ size_below (drop l t.levels) =
-        sym (lengths_at t.granted l) ∙ ap (λ xs. get_or xs l 0) is.granted
-        ∙ sizes_at t.levels l h in
-        get_or_past (get_or t.granted l []) p 0 (omega arith)
-  ]
-]
 
 -- The values ------------------------------------------------------------------------------------
 
@@ -229,7 +186,8 @@ confirmed_first b u l p is e law =
         flip false = refl
 
 pub at_start : (b kept : BoardValue) (life : ℕ) (u : TreeValue) (rows : List CoreRow)
-    (counts : List (List StatusCounts)) (slots : SlotsValue) → IsBoard b → IsDomainTree u → u.levels ≡ b.levels
+    (counts : List (List StatusCounts)) (slots : SlotsValue) → IsBoard b → IsDomainTree u
+    → u.levels ≡ b.levels
     → ((c : ℕ) → state_at u c ≡ first_core c)
     → ((l p : ℕ) → l ≤ height b → p < nodes b l
     → granted_at u l p ≡ cond (place_above b.levels l 0 == p) 0 3)

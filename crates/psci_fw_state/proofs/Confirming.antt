@@ -17,7 +17,7 @@ use Rattle.psci_fw_spec.specs.Changes.{confirms_on}
 use Rattle.psci_fw_spec.specs.Confirmed.{applied_part, is_made_at}
 use Rattle.psci_fw_state.specs.Confirming.{is_last_claim}
 use Rattle.psci_fw_state.specs.Seen.{StateValue, values_in}
-use Rattle.psci_fw_state.proofs.Begun.{granted_beyond}
+use Rattle.psci_fw_state.proofs.Beyond.{granted_beyond}
 
 -- what is confirmed once the parts below this level were looked at
 pub record IsConfirmed (b : BoardValue) (c : ℕ) (parts : List Part) (t u : TreeValue) (n : ℕ)
@@ -79,7 +79,15 @@ module _ (b : BoardValue) (c : ℕ) (parts : List Part) (t u w : TreeValue) (n :
       let same : (n == n) ≡ true = grind arith in
       let own : (up b n c == up b n c) ≡ true = grind arith in
       rw at (law n (up b n c)
-      ∙ (rw (same, own, so_far.granted n (up b n c), sums, is, so_far.high n (up b n c) (omega arith))
+      ∙ (rw (
+        same,
+        own,
+        so_far.granted n (up b n c),
+        sums,
+        is,
+        so_far.high n (up b n c)
+            (omega arith),
+      )
       refl))
   here p false e =
       let swapped : (up b n c == p) ≡ false = turned in

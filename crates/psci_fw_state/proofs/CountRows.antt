@@ -1,5 +1,5 @@
--- Worked examples of what is counted of the cores below a power domain: boards of height 1, 2 and 3,
--- even and uneven.
+-- Worked examples of what is counted of the cores below a power domain: boards of height 1, 2 and
+-- 3, even and uneven.
 use Rattle.std.proofs.Common.{◌≡◌, ℕ, zero, suc, ◌<◌, ◌≤◌, List, [], ◌∷◌, length, map, drop}
 use Rattle.std.proofs.Common.{get_or, refl, ap, arith}
 use Rattle.psci_board.specs.declared.node.Node.{Node}
@@ -115,7 +115,8 @@ places : (level : ℕ) → 0 < level → level ≤ length uneven
 places zero some top = absurd (omega arith)
 places (suc zero) some top = refl
 places (suc (suc zero)) some top = refl
-places (suc (suc (suc level))) some top = absurd (let e : suc (suc (suc level)) ≤ 2 = top in omega arith)
+places (suc (suc (suc level))) some top = absurd
+    (let e : suc (suc (suc level)) ≤ 2 = top in omega arith)
 
 each : (level place : ℕ) → 0 < level → level ≤ length uneven
     → place < size_below (drop level uneven)

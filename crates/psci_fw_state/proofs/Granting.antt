@@ -148,7 +148,8 @@ unconfirmed_all b c parts before t n long so_far l p = elim (cases_lt l n) [
     beyond : (on : Bool) → n ≤ l
         → cond on (unless_claimed (slice_get parts l) (before l p)) (before l p) ≡ before l p
     beyond true h =
-        ap (λ (o : Option Part). unless_claimed o (before l p)) (slice_get_past parts l (omega arith))
+        ap (λ (o : Option Part). unless_claimed o (before l p))
+        (slice_get_past parts l (omega arith))
     beyond false h = refl
 
 -- the next part may be granted

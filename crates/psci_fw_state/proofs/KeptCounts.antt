@@ -194,7 +194,8 @@ none_kept levels kept long rows = record {
   shape = record {
     height = long;
     domains = λ level some top.
-        ap length (rows level some top) ∙ length-replicate (size_below (drop level levels)) no_cores;
+        ap length (rows level some top)
+        ∙ length-replicate (size_below (drop level levels)) no_cores;
   };
   each = λ level place some top inside.
       ap (λ (row : List StatusCounts). get_or row place no_cores) (rows level some top)

@@ -1,8 +1,11 @@
 mod Acked
 mod AllCores
+mod Arrived
 mod Begun
+mod Beyond
 mod Changed
 mod Confirming
+mod CoreCounts
 mod CountRows
 mod Counting
 pub mod Equal

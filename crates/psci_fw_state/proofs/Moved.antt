@@ -1,5 +1,5 @@
--- A core is suspended, asked on, or arrives: what the values in the state are then.
-use Rattle.std.proofs.Common.{◌≡◌, ℕ, ◌<◌, ◌==◌, Bool, true, false, cond, List, length}
+-- A core is suspended, or asked on: what the values in the state are then.
+use Rattle.std.proofs.Common.{◌≡◌, ℕ, ◌<◌, ◌==◌, Bool, false, cond, List, length}
 use Rattle.std.proofs.Common.{None, Some, Option, Vec, refl, sym, ◌∙◌, ap, arith}
 use Rattle.std.proofs.Math.ListN.{set}
 use Rattle.std.proofs.lemmas.List.{length-set, with_items_is}
@@ -8,35 +8,31 @@ use Rattle.std.specs.Vec.{with_items}
 use Rattle.psci_board.specs.Board.{BoardValue, place_above, up}
 use Rattle.psci_messages.specs.Message.{MessageValue}
 use Rattle.psci_messages.specs.Slots.{Slot, SlotsValue, changed, message_in}
-use Rattle.psci_messages.specs.Slots.Change.{Put, Clear}
+use Rattle.psci_messages.specs.Slots.Change.{Put}
 use Rattle.psci_state.specs.Ask.{is_deep}
-use Rattle.psci_state.specs.declared.cores.Activity.{Activity}
 use Rattle.psci_state.specs.declared.cores.Activity.TheVariants as activities
 use Rattle.psci_state.specs.declared.cores.CoreState.{CoreState}
 use Rattle.psci_tree.specs.Recount.{TreeValue, state_at, granted_at, known_at}
 use Rattle.psci_tree.specs.Recount.{is_confirmed_at}
 use Rattle.psci_fw_spec.specs.declared.opening.Opening.{Opening}
-use Rattle.psci_messages.specs.declared.start.Start.{Start}
-use Rattle.psci_fw_spec.specs.declared.status.Status.{Status}
 use Rattle.psci_fw_spec.specs.declared.status.Status.TheVariants as statuses
-use Rattle.psci_fw_spec.specs.Changes.{with_arrival, with_pending, with_phase, with_rest}
-use Rattle.psci_fw_spec.specs.Changes.{with_running}
+use Rattle.psci_fw_spec.specs.Changes.{with_pending, with_rest}
 use Rattle.psci_fw_spec.specs.Effects.{suspends}
-use Rattle.psci_fw_spec.specs.Lives.{in_life}
 use Rattle.psci_fw_spec.specs.Confirmed.{unconfirmed}
 use Rattle.psci_fw_spec.specs.Paths.{cleared}
 use Rattle.psci_fw_spec.specs.Phases.{Phase, unless_pending}
 use Rattle.psci_fw_spec.specs.Phases as phases
-use Rattle.psci_fw_spec.specs.Values.{Values, updated}
+use Rattle.psci_fw_spec.specs.Values.{updated}
 use Rattle.psci_fw_state.specs.declared.row.CoreRow.{CoreRow}
 use Rattle.psci_fw_state.specs.declared.counts.StatusCounts.{StatusCounts}
 use Rattle.psci_fw_state.specs.Counts.{AreCounts}
 use Rattle.psci_fw_state.specs.Rows.{row_at, status_at}
-use Rattle.psci_fw_state.specs.Seen.{IsState, StateValue, is_pending_phase, phase_by, stopped, values_in}
+use Rattle.psci_fw_state.specs.Seen.{IsState, StateValue, phase_by}
+use Rattle.psci_fw_state.specs.Seen.{values_in}
 use Rattle.psci_fw_state.proofs.Changed.{Set, ap_set, both_set, core_set, row_set}
 use Rattle.psci_fw_state.proofs.Changed.{stays, suspended_is}
 use Rattle.psci_fw_state.proofs.Changed.{updated_is}
-use Rattle.psci_fw_state.proofs.Equal.{arrived, same_values}
+use Rattle.psci_fw_state.proofs.Equal.{same_values}
 use Rattle.psci_fw_state.proofs.KeptCounts.{same_counts}
 
 -- the rows in memory, one of them set
@@ -133,7 +129,8 @@ path_cleared s u c is law l p =
     law l p
     ∙ ap (λ (ws : List (List ℕ)). cond (place_above ws l c == p) 0 (granted_at s.tree l p))
     is.levels
-    ∙ ap (λ (t : Bool). cond t 0 (granted_at s.tree l p)) (eqb_swap (place_above s.board.levels l c) p)
+    ∙ ap (λ (t : Bool). cond t 0 (granted_at s.tree l p))
+    (eqb_swap (place_above s.board.levels l c) p)
 
 -- nor is anything confirmed there
 pub path_unconfirmed : (s : StateValue) (u : TreeValue) (c : ℕ) → IsState s
@@ -176,7 +173,8 @@ pending_of b s u rows counts slots m o at row granted confirmed sent = same_valu
   status = updated_is (λ k. (row_at s.rows k).status) (λ k. (row_at rows k).status) m.core.number _
       (ap_set (λ (r : CoreRow). r.status) _ _ _ _ row);
   phase = updated_is (values_in s).phase
-      (values_in (record s { tree = u; rows = rows; counts = counts; slots = slots })).phase m.core.number _
+      (values_in (record s { tree = u; rows = rows; counts = counts; slots = slots })).phase
+      m.core.number _
       (both_set (λ (r : CoreRow) (x : CoreState). phase_by r.status x.activity) (row_at s.rows)
       (row_at rows) (state_at s.tree) (state_at u) m.core.number _ _ row at);
   opening = updated_is (λ k. (row_at s.rows k).opening) (λ k. (row_at rows k).opening)
@@ -185,152 +183,3 @@ pending_of b s u rows counts slots m o at row granted confirmed sent = same_valu
   confirmed = confirmed;
   outstanding = sent;
 })
-
--- Arrived ---------------------------------------------------------------------------------------
-
-in_this : (b : BoardValue) (life : ℕ) (v : Values) → v.life ≡ life → in_life b life v ≡ v
-in_this b life v e = let same : (life == v.life) ≡ true = grind arith in rw same refl
-
-arrived_in : (b : BoardValue) (c : ℕ) (s : Start) (v found : Values) → found ≡ v
-    → arrived b c s found ≡ arrived b c s v
-arrived_in b c s v found e = ap (arrived b c s) e
-
-pub arrives : (b : BoardValue) (c : ℕ) (s : Start) (v : Values) → v.life ≡ s.life
-    → with_arrival b c s v ≡ arrived b c s v
-arrives b c s v e = arrived_in b c s v (in_life b s.life v) (in_this b s.life v e)
-
-running_of : (b : BoardValue) (s : StateValue) (u : TreeValue) (rows : List CoreRow)
-    (counts : List (List StatusCounts)) (slots : SlotsValue) (c : ℕ) (start : Start)
-    → Set (state_at s.tree) (state_at u) c (record {
-      activity = activities.Active;
-      known = start.number;
-    })
-    → Set (row_at s.rows) (row_at rows) c (record { status = statuses.On; opening = None })
-    → ((l p : ℕ) → granted_at u l p ≡ cleared b c (granted_at s.tree) l p)
-    → ((l p : ℕ) → is_confirmed_at u l p ≡ unconfirmed b c (is_confirmed_at s.tree) l p)
-    → ((slot : Slot) → message_in slots slot
-    ≡ changed slot (Clear (record { number = c })) (message_in s.slots slot))
-    → values_in (record s { tree = u; rows = rows; counts = counts; slots = slots })
-    ≡ with_running c (arrived b c start (values_in s))
-unfolding values_in
-running_of b s u rows counts slots c start at row granted confirmed empty = same_values _ _ (record {
-  life = refl;
-  halting = refl;
-  mode = refl;
-  known = updated_is (known_at s.tree) (known_at u) c _
-      (ap_set (λ (x : CoreState). x.known) _ _ _ _ at);
-  status = updated_is (λ k. (row_at s.rows k).status) (λ k. (row_at rows k).status) c _
-      (ap_set (λ (r : CoreRow). r.status) _ _ _ _ row);
-  phase = updated_is (values_in s).phase
-      (values_in (record s { tree = u; rows = rows; counts = counts; slots = slots })).phase c _
-      (both_set (λ (r : CoreRow) (x : CoreState). phase_by r.status x.activity) (row_at s.rows)
-      (row_at rows) (state_at s.tree) (state_at u) c _ _ row at);
-  opening = updated_is (λ k. (row_at s.rows k).opening) (λ k. (row_at rows k).opening) c _
-      (ap_set (λ (r : CoreRow). r.opening) _ _ _ _ row);
-  granted = granted;
-  confirmed = confirmed;
-  outstanding = empty;
-})
-
-pub running_changed : (s now : StateValue) (u : TreeValue) (rows : List CoreRow)
-    (counts : List (List StatusCounts)) (slots : SlotsValue) (c : ℕ) (start : Start) → s ≡ now → (values_in now).life ≡ start.life
-    → ((k : ℕ) → state_at u k
-    ≡ cond (c == k) (record { activity = activities.Active; known = start.number })
-    (state_at s.tree k))
-    → Set (row_at s.rows) (row_at rows) c (record { status = statuses.On; opening = None })
-    → ((l p : ℕ) → granted_at u l p ≡ cleared s.board c (granted_at s.tree) l p)
-    → ((l p : ℕ) → is_confirmed_at u l p ≡ unconfirmed s.board c (is_confirmed_at s.tree) l p)
-    → ((slot : Slot) → message_in slots slot
-    ≡ changed slot (Clear (record { number = c })) (message_in s.slots slot))
-    → values_in (record s { tree = u; rows = rows; counts = counts; slots = slots })
-    ≡ with_running c (with_arrival now.board c start (values_in now))
-running_changed s now u rows counts slots c start e life at row granted confirmed empty =
-    rw (← e)
-    (running_of s.board s u rows counts slots c start (core_set s.tree u c _ at) row granted
-    confirmed empty
-    ∙ ap (with_running c) (sym (arrives s.board c start (values_in s) (rw e life))))
-
--- the phase of a core that stops, by whether it was pending
-stopped_phase : (s : Status) (a : Activity) (pending : Bool)
-    → is_pending_phase (phase_by s a) ≡ pending
-    → phase_by s (stopped pending) ≡ unless_pending (phase_by s a) phases.Away
-stopped_phase statuses.On activities.Active true e = cc
-stopped_phase statuses.On activities.Active false e = refl
-stopped_phase statuses.Off activities.Active true e = cc
-stopped_phase statuses.Off activities.Active false e = refl
-stopped_phase statuses.Pending activities.Active true e = refl
-stopped_phase statuses.Pending activities.Active false e = cc
-stopped_phase statuses.On (activities.Suspended ask) true e = cc
-stopped_phase statuses.On (activities.Suspended ask) false e = refl
-stopped_phase statuses.Off (activities.Suspended ask) true e = cc
-stopped_phase statuses.Off (activities.Suspended ask) false e = refl
-stopped_phase statuses.Pending (activities.Suspended ask) true e = cc
-stopped_phase statuses.Pending (activities.Suspended ask) false e = refl
-stopped_phase statuses.On activities.Away true e = cc
-stopped_phase statuses.On activities.Away false e = refl
-stopped_phase statuses.Off activities.Away true e = cc
-stopped_phase statuses.Off activities.Away false e = refl
-stopped_phase statuses.Pending activities.Away true e = cc
-stopped_phase statuses.Pending activities.Away false e = refl
-
-stopped_of : (b : BoardValue) (s : StateValue) (u : TreeValue) (rows : List CoreRow)
-    (slots : SlotsValue) (c : ℕ) (start : Start) (pending : Bool)
-    → is_pending_phase ((values_in s).phase c) ≡ pending
-    → Set (state_at s.tree) (state_at u) c (record {
-      activity = stopped pending;
-      known = start.number;
-    })
-    → Set (row_at s.rows) (row_at rows) c (record {
-      status = (row_at s.rows c).status;
-      opening = None;
-    })
-    → ((l p : ℕ) → granted_at u l p ≡ cleared b c (granted_at s.tree) l p)
-    → ((l p : ℕ) → is_confirmed_at u l p ≡ unconfirmed b c (is_confirmed_at s.tree) l p)
-    → ((slot : Slot) → message_in slots slot
-    ≡ changed slot (Clear (record { number = c })) (message_in s.slots slot))
-    → values_in (record s { tree = u; rows = rows; slots = slots })
-    ≡ with_phase c phases.Away (arrived b c start (values_in s))
-unfolding values_in
-stopped_of b s u rows slots c start pending was at row granted confirmed empty = same_values _ _ (record {
-  life = refl;
-  halting = refl;
-  mode = refl;
-  known = updated_is (known_at s.tree) (known_at u) c _
-      (ap_set (λ (x : CoreState). x.known) _ _ _ _ at);
-  status = stays (λ k. (row_at s.rows k).status) (λ k. (row_at rows k).status) c _
-      (ap_set (λ (r : CoreRow). r.status) _ _ _ _ row) refl;
-  phase = λ k.
-      updated_is (values_in s).phase
-      (values_in (record s { tree = u; rows = rows; slots = slots })).phase c _
-      (both_set (λ (r : CoreRow) (x : CoreState). phase_by r.status x.activity) (row_at s.rows)
-      (row_at rows) (state_at s.tree) (state_at u) c _ _ row at) k
-      ∙ ap (λ (p : Phase). updated (values_in s).phase c p k)
-      (stopped_phase (row_at s.rows c).status (state_at s.tree c).activity pending was);
-  opening = updated_is (λ k. (row_at s.rows k).opening) (λ k. (row_at rows k).opening) c _
-      (ap_set (λ (r : CoreRow). r.opening) _ _ _ _ row);
-  granted = granted;
-  confirmed = confirmed;
-  outstanding = empty;
-})
-
-pub stopped_changed : (s now : StateValue) (u : TreeValue) (rows : List CoreRow)
-    (slots : SlotsValue) (c : ℕ) (start : Start) (pending : Bool) → s ≡ now
-    → (values_in now).life ≡ start.life → pending ≡ is_pending_phase ((values_in now).phase c)
-    → ((k : ℕ) → state_at u k
-    ≡ cond (c == k) (record { activity = stopped pending; known = start.number })
-    (state_at s.tree k))
-    → Set (row_at s.rows) (row_at rows) c (record {
-      status = (row_at s.rows c).status;
-      opening = None;
-    })
-    → ((l p : ℕ) → granted_at u l p ≡ cleared s.board c (granted_at s.tree) l p)
-    → ((l p : ℕ) → is_confirmed_at u l p ≡ unconfirmed s.board c (is_confirmed_at s.tree) l p)
-    → ((slot : Slot) → message_in slots slot
-    ≡ changed slot (Clear (record { number = c })) (message_in s.slots slot))
-    → values_in (record s { tree = u; rows = rows; slots = slots })
-    ≡ with_phase c phases.Away (with_arrival now.board c start (values_in now))
-stopped_changed s now u rows slots c start pending e life was at row granted confirmed empty =
-    rw (← e)
-    (stopped_of s.board s u rows slots c start pending (rw e (sym was)) (core_set s.tree u c _ at)
-    row granted confirmed empty
-    ∙ ap (with_phase c phases.Away) (sym (arrives s.board c start (values_in s) (rw e life))))

@@ -1,8 +1,10 @@
 -- The status of a node is that of what is counted of the cores below it.
-use Rattle.std.proofs.Common.{◌≡◌, ℕ, ◌+◌, ◌<◌, ◌≤◌, ◌==◌, ◌||◌, Bool, true, false, cond, List, [], ◌∷◌}
+use Rattle.std.proofs.Common.{◌≡◌, ℕ, ◌+◌, ◌<◌, ◌≤◌, ◌==◌, ◌||◌, Bool, true, false, cond, List, []}
+use Rattle.std.proofs.Common.{◌∷◌}
 use Rattle.std.proofs.Common.{length, leb, ltb, refl, ap, ◌∙◌, arith}
 use Rattle.std.specs.List.{count_by, list_any}
-use Rattle.std.proofs.lemmas.Bool.{and_from, eq-eqb, le-leb, leb-true, lt-ltb, ltb-false, ltb-true, ne_eqb}
+use Rattle.std.proofs.lemmas.Bool.{and_from, eq-eqb, le-leb, leb-true, lt-ltb, ltb-false, ltb-true}
+use Rattle.std.proofs.lemmas.Bool.{ne_eqb}
 use Rattle.std.proofs.lemmas.List.{get_or_past}
 use Rattle.std.proofs.lemmas.List.Sums.{sum_by-cons}
 use Rattle.psci_board.specs.Board.{BoardValue, below_in, cores, has_node, height, nodes}
@@ -22,7 +24,8 @@ some_more false n any e =
     let same : 0 + n ≡ n = omega arith in ap (ltb 0) same ∙ e
 
 -- one is there where more than none are counted
-pub some_counted : (passes : ℕ → Bool) (cs : List ℕ) → ltb 0 (count_by passes cs) ≡ list_any passes cs
+pub some_counted : (passes : ℕ → Bool) (cs : List ℕ) → ltb 0 (count_by passes cs)
+    ≡ list_any passes cs
 some_counted passes [] = refl
 some_counted passes (c ∷ cs) =
     ap (ltb 0) (sum_by-cons (λ x. cond (passes x) 1 0) c cs)

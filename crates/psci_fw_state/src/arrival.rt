@@ -37,8 +37,8 @@ impl State {
         self.slots.clear_all();
     }
 
-    /// The firmware is in this life, and all else stays. So the first life begins: a new firmware is
-    /// as at the start of a life.
+    /// The firmware is in this life, and all else stays. So the first life begins: a new firmware
+    /// is as at the start of a life.
     #[tactic(auto, unfolding(crate::specs::Seen::values_in))]
     pub fn set_life(&mut self, life: u32)
         ensures after { values_in self.new ≡ record (values_in self.old) { life = life } }

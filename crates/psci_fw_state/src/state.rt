@@ -9,8 +9,9 @@ use psci_tree::{Activity, Tree, law_start_of_life};
 use std::alloc::Global;
 use std::marker::Model;
 
-/// The state of the firmware of one board. The tree has what each core asks, its known start and the granted
-/// depths; the rows have the rest of what is kept of a core, and the counts sum up the statuses in them.
+/// The state of the firmware of one board. The tree has what each core asks, its known start and
+/// the granted depths; the rows have the rest of what is kept of a core, and the counts sum up the
+/// statuses in them.
 #[derive(Drop)]
 pub struct State {
     /// The board whose firmware it is of.

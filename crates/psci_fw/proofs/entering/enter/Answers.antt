@@ -14,7 +14,8 @@ use Rattle.psci_fw.proofs.entering.enter.Goals as goal
 pub returns-then-halting-clause-answer : goal.returns-then-halting-clause-answer
 returns-then-halting-clause-answer c =
     ap (outcome_in c.arrive_away.new.self.board (values_in c.arrive_away.new.self)) c.stops.ensures
-    ∙ halted_outcome c.args.state.now.board (values_in c.args.state.now) c.args.core.number c.args.start
+    ∙ halted_outcome c.args.state.now.board (values_in c.args.state.now) c.args.core.number
+    c.args.start
     (sym (ap (λ (x : Values). x.halting) c.begin.ensures.after)
     ∙ sym c.halting.ensures ∙ c.if-halting.true)
 
@@ -49,7 +50,8 @@ send_down-requires-clause-may c =
     sym (ap (λ (x : Values). x.halting) found) ∙ sym c.halting.ensures ∙ c.if-halting.false in
     let none : way_on (in_life b s.life v) core s ≡ None =
     sym (ap (λ (x : Values). way_on x core s) found) ∙ sym c.way_on.ensures ∙ c.in-None.is in
-    let away = arrived_away b _ v _ _ core s c.begin.ensures.board found c.arrive_away-in-None.ensures.after in
+    let away = arrived_away b _ v _ _ core s c.begin.ensures.board found
+    c.arrive_away-in-None.ensures.after in
     let same = leaving_off b _ (with_arrival b core s v) _ core _ at away
     c.leaving_wish-wish.ensures in
     left_may b _ (with_arrival b core s v) _ core _ _ at away same
@@ -78,7 +80,8 @@ returns-in-None-clause-answer c =
     sym (ap (λ (x : Values). x.halting) found) ∙ sym c.halting.ensures ∙ c.if-halting.false in
     let none : way_on (in_life b s.life v) core s ≡ None =
     sym (ap (λ (x : Values). way_on x core s) found) ∙ sym c.way_on.ensures ∙ c.in-None.is in
-    let away = arrived_away b _ v _ _ core s c.begin.ensures.board found c.arrive_away-in-None.ensures.after in
+    let away = arrived_away b _ v _ _ core s c.begin.ensures.board found
+    c.arrive_away-in-None.ensures.after in
     let same = leaving_off b _ (with_arrival b core s v) _ core _ at away
     c.leaving_wish-wish.ensures in
     parked b (with_arrival b core s v) _ core _ _ away same c.send_down.ensures.answer

@@ -7,15 +7,18 @@ use Rattle.psci_fw.proofs.off.cpu_off.Goals as goal
 pub send_down-requires-clause-claim : goal.send_down-requires-clause-claim
 send_down-requires-clause-claim c =
     let v = values_in c.args.state.now in
-    let same = leaving_off c.args.state.now.board _ v _ c.args.caller.number _ c.set_away.ensures.board
+    let same = leaving_off c.args.state.now.board _ v _ c.args.caller.number _
+    c.set_away.ensures.board
     c.set_away.ensures.after c.leaving_wish-wish.ensures in
-    subst AreClaims (sym same) (c.law_stops.ensures.off c.args.state.now.board v c.args.caller.number
+    subst AreClaims (sym same)
+    (c.law_stops.ensures.off c.args.state.now.board v c.args.caller.number
     c.requires.board c.requires.inside c.requires.values c.requires.running)
 
 pub send_down-requires-clause-may : goal.send_down-requires-clause-may
 send_down-requires-clause-may c =
     let v = values_in c.args.state.now in
-    let same = leaving_off c.args.state.now.board _ v _ c.args.caller.number _ c.set_away.ensures.board
+    let same = leaving_off c.args.state.now.board _ v _ c.args.caller.number _
+    c.set_away.ensures.board
     c.set_away.ensures.after c.leaving_wish-wish.ensures in
     left_may c.args.state.now.board _ v _ c.args.caller.number _ _ c.set_away.ensures.board
     c.set_away.ensures.after same
@@ -25,5 +28,6 @@ send_down-requires-clause-may c =
 pub returns-clause-answer : goal.returns-clause-answer
 returns-clause-answer c =
     off_answered c.args.state.now.board _ (values_in c.args.state.now) _ _ c.args.caller.number _ _
-    c.set_away.ensures.board c.set_away.ensures.after c.leaving_wish-wish.ensures c.send_down.ensures.answer
+    c.set_away.ensures.board c.set_away.ensures.after c.leaving_wish-wish.ensures
+    c.send_down.ensures.answer
     c.send_down.ensures.after

@@ -24,7 +24,8 @@ returns-in-Features-clause-answer c =
           ∙ ap returns (rw c.board.ensures.same at c.feature_code.ensures);
       after = subst
           (λ (o : Outcome). v ≡ change b (function_effect b core asked o.act o.message) v)
-          (sym (ap (outcome_in b v) c.returns-in-Features.ensures)) (goes_on v core c.requires.running);
+          (sym (ap (outcome_in b v) c.returns-in-Features.ensures))
+          (goes_on v core c.requires.running);
     })
 
 pub returns-in-Unknown-clause-answer : goal.returns-in-Unknown-clause-answer

@@ -14,7 +14,8 @@ sleep-requires-clause-may c =
     let limit = rw c.board-board.ensures.same at c.start_limit.ensures in
     record {
       shape = c.in-Ok.ensures.shape;
-      may = c.law_may_claim.ensures.suspended c.args.state.now.board _ c.args.caller.number c.args.word
+      may = c.law_may_claim.ensures.suspended c.args.state.now.board _ c.args.caller.number
+          c.args.word
           c.args.opening.address c.args.opening.context c.in-Ok.ask c.requires.board
           c.requires.inside c.requires.values c.requires.running c.requires.awake named
           (sym enters ∙ c.if-has_invalid_entry.false)

@@ -49,7 +49,8 @@ loop-level-preserved c =
       min-le_right (length c.args.parts.now) (c.height.result + 1),
       c.height.ensures.height,
     ) in
-    let known_is : c.standing-standing.result.known ≡ known c.loop-level.tree c.on_path-node.result =
+    let known_is : c.standing-standing.result.known
+    ≡ known c.loop-level.tree c.on_path-node.result =
     ap (λ (s : Standing). s.known) c.standing-standing.ensures
     ∙ ap (known c.loop-level.tree) (sym c.on_path-node.ensures) in
     let unused : Part = record { level = 0; depth = 0; generation = 0 } in
@@ -68,7 +69,8 @@ loop-level-preserved c =
     ((n.level == l) && (n.place == p)) && (nat_lt 0 (granted_at c.loop-level.tree n.level n.place)
     && is_made_at k (Some part)) in
     c.confirm_last.ensures.confirmed l p
-    ∙ ap (λ k. cond (made k c.on_path-node.result) true (is_confirmed_at c.loop-level.tree l p)) known_is
+    ∙ ap (λ k. cond (made k c.on_path-node.result) true (is_confirmed_at c.loop-level.tree l p))
+    known_is
     ∙ ap (λ (n : Node). cond (made (known c.loop-level.tree n) n) true
     (is_confirmed_at c.loop-level.tree l p)) node)
     c.confirm_last.ensures.granted c.confirm_last.ensures.cores c.confirm_last.ensures.levels

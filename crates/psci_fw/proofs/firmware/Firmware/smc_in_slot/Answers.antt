@@ -29,9 +29,11 @@ invariant_of-self c =
     record {
       board = subst IsBoard at before.board;
       values = subst (λ (x : BoardValue). AreValues x w) at (subst (AreValues b)
-          (sym (called b v w core c.args.regs _ o fault c.read.ensures c.dispatch.ensures.answer left))
+          (sym (called b v w core c.args.regs _ o fault c.read.ensures c.dispatch.ensures.answer
+          left))
           (c.law_invariant.ensures.answer b v core (Smc c.args.regs) before.board before.values));
       fresh = subst (λ (x : BoardValue). IsFresh x w) at (subst (IsFresh b) (sym left)
-          (subst (λ (r : Request). IsFresh b (change b (function_effect b core r o.act o.message) v))
+          (subst (λ (r : Request). IsFresh b
+          (change b (function_effect b core r o.act o.message) v))
           (sym c.read.ensures) (c.law_fresh.ensures.call b v core c.args.regs o fault)));
     }

@@ -52,9 +52,11 @@ returns-then-is_off-clause-used c = λ used.
     acked_by s c.confirm_parts.new.tree a c.as_slice.result.now
     (λ level. rw (c.as_slice.ensures.parts) (sent_parts s _ a _ _ c.self.view_is c.ack.view_is
     c.applied_parts-applied.ensures level))
-    c.confirm_parts.ensures.cores c.confirm_parts.ensures.granted c.confirm_parts.ensures.confirmed in
+    c.confirm_parts.ensures.cores c.confirm_parts.ensures.granted
+    c.confirm_parts.ensures.confirmed in
     rw (← c.ack.view_is)
-    (off_changed s _ c.confirm_parts.new.tree _ _ c.take_ack-taken.new.self a c.self.view_is off acked
+    (off_changed s _ c.confirm_parts.new.tree _ _ c.take_ack-taken.new.self a c.self.view_is off
+    acked
     (rw (rows, row) (row_set s.rows a.core.number _ row_inside))
     (λ slot. rw (c.take_ack-taken.ensures.slots, ← c.ack.view_is)
     (c.law_slots.ensures.changed s.slots (Acknowledge a) tt slot)))
@@ -86,7 +88,8 @@ returns-else-is_off-clause-used c = λ used.
     acked_by s c.confirm_parts.new.tree a c.as_slice.result.now
     (λ level. rw (c.as_slice.ensures.parts) (sent_parts s _ a _ _ c.self.view_is c.ack.view_is
     c.applied_parts-applied.ensures level))
-    c.confirm_parts.ensures.cores c.confirm_parts.ensures.granted c.confirm_parts.ensures.confirmed in
+    c.confirm_parts.ensures.cores c.confirm_parts.ensures.granted
+    c.confirm_parts.ensures.confirmed in
     rw (← c.ack.view_is)
     (used_changed s _ c.confirm_parts.new.tree c.take_ack-taken.new.self a c.self.view_is off acked
     (λ slot. rw (c.take_ack-taken.ensures.slots, ← c.ack.view_is)

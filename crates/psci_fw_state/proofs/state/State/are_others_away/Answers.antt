@@ -1,4 +1,5 @@
-use Rattle.std.proofs.Common.{◌≡◌, ℕ, Bool, true, false, not, cond, map, ap, arith, refl, sym, ◌∙◌, ◌≤◌}
+use Rattle.std.proofs.Common.{◌≡◌, ℕ, Bool, true, false, not, cond, map, ap, arith, refl, sym, ◌∙◌}
+use Rattle.std.proofs.Common.{◌≤◌}
 use Rattle.psci_board.specs.Board.{height}
 use Rattle.psci_tree.specs.Recount.{off}
 use Rattle.psci_fw_spec.specs.Phases.{is_away}

@@ -5,7 +5,7 @@ use Rattle.psci_fw_state.specs.Rows.{row_at}
 use Rattle.psci_fw_state.specs.Seen.{StateValue}
 use Rattle.psci_fw_state.proofs.Changed.{in_rows, row_set}
 use Rattle.psci_fw_state.proofs.Moved.{counts_stay, path_cleared, path_unconfirmed, rows_set}
-use Rattle.psci_fw_state.proofs.Moved.{stopped_changed}
+use Rattle.psci_fw_state.proofs.Arrived.{stopped_changed}
 use Rattle.psci_fw_state.proofs.state.State.arrive_away.Goals as goal
 
 pub returns-clause-after : goal.returns-clause-after

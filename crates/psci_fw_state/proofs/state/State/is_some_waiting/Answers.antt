@@ -45,13 +45,17 @@ returns-then-counted-gt0 c =
     ∙ ap (λ (x : StateValue). record { level = height x.board; place = 0 }) (sym c.self.view_is) in
     let agree : (k : ℕ) → agrees (status_at s.rows k)
     (phase_by (status_at s.rows k) (state_at s.tree k).activity) ≡ true =
-    subst (λ (x : StateValue). (k : ℕ) → agrees ((values_in x).status k) ((values_in x).phase k) ≡ true)
+    subst (λ (x : StateValue). (k : ℕ) → agrees ((values_in x).status k) ((values_in x).phase k)
+    ≡ true)
     (sym c.self.view_is) c.requires.agree in
-    let counted : c.counted.result ≡ counts_below s.board.levels (status_at s.rows) (system s c.self.invariant laws) =
+    let counted : c.counted.result
+    ≡ counts_below s.board.levels (status_at s.rows) (system s c.self.invariant laws) =
     c.counted.ensures
-    ∙ ap (λ (x : StateValue). counts_below x.board.levels (values_in x).status (record { level = height x.board; place = 0 })) (sym c.self.view_is) in
+    ∙ ap (λ (x : StateValue). counts_below x.board.levels (values_in x).status
+    (record { level = height x.board; place = 0 })) (sym c.self.view_is) in
     rw (← c.self.view_is)
-    (some_pending s c.self.invariant laws agree c.off.result c.active.result c.counted.result counted
+    (some_pending s c.self.invariant laws agree c.off.result c.active.result c.counted.result
+    counted
     (c.off.ensures ∙ ap (off s.tree) node) (c.active.ensures ∙ ap (active s.tree) node)
     c.if-counted-gt0.true)
 
@@ -73,12 +77,16 @@ returns-else-counted-gt0 c =
     ∙ ap (λ (x : StateValue). record { level = height x.board; place = 0 }) (sym c.self.view_is) in
     let agree : (k : ℕ) → agrees (status_at s.rows k)
     (phase_by (status_at s.rows k) (state_at s.tree k).activity) ≡ true =
-    subst (λ (x : StateValue). (k : ℕ) → agrees ((values_in x).status k) ((values_in x).phase k) ≡ true)
+    subst (λ (x : StateValue). (k : ℕ) → agrees ((values_in x).status k) ((values_in x).phase k)
+    ≡ true)
     (sym c.self.view_is) c.requires.agree in
-    let counted : c.counted.result ≡ counts_below s.board.levels (status_at s.rows) (system s c.self.invariant laws) =
+    let counted : c.counted.result
+    ≡ counts_below s.board.levels (status_at s.rows) (system s c.self.invariant laws) =
     c.counted.ensures
-    ∙ ap (λ (x : StateValue). counts_below x.board.levels (values_in x).status (record { level = height x.board; place = 0 })) (sym c.self.view_is) in
+    ∙ ap (λ (x : StateValue). counts_below x.board.levels (values_in x).status
+    (record { level = height x.board; place = 0 })) (sym c.self.view_is) in
     rw (← c.self.view_is)
-    (none_pending s c.self.invariant laws agree c.off.result c.active.result c.counted.result counted
+    (none_pending s c.self.invariant laws agree c.off.result c.active.result c.counted.result
+    counted
     (c.off.ensures ∙ ap (off s.tree) node) (c.active.ensures ∙ ap (active s.tree) node)
     c.from.result (c.from.ensures ∙ c.cores.ensures.cores) c.if-counted-gt0.false)

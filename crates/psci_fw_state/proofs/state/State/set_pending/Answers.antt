@@ -30,7 +30,8 @@ returns-clause-after c =
       parts = c.message.inside.parts;
     } in
     let there : m.core.number < cores c.args.self.now.board =
-    subst (λ (n : MessageValue). n.core.number < cores c.args.self.now.board) (sym c.message.view_is)
+    subst (λ (n : MessageValue). n.core.number < cores c.args.self.now.board)
+    (sym c.message.view_is)
     c.requires.inside in
     let inside : m.core.number < length s.tree.cores =
     within _ _ _ c.self.view_is c.self.invariant there in
