@@ -69,8 +69,8 @@ ghost use Rattle.psci_tree.specs.declared.standing.Standing.{Standing};
 ghost use Rattle.psci_tree.specs.Standing.{on_path, standing};
 
 impl TreeParts {
-    /// The parts of a board's tree of these domains and rows: every core is off, and every domain is
-    /// granted depth 3, which is confirmed. It has a frame of its own.
+    /// The parts of a board's tree of these domains and rows: every core is off, and every domain
+    /// is granted depth 3, which is confirmed. It has a frame of its own.
     #[inline(never)]
     pub fn all_off(
         alloc: Global,
