@@ -18,8 +18,8 @@ pub struct Common {
     ghost fits: { (table words).words ≡ cores board },
 }
 
-/// A board and its status words, to be shared. It has a frame of its own, so that none is held while
-/// a firmware is made.
+/// A board and its status words, to be shared. It has a frame of its own, so that none is held
+/// while a firmware is made.
 #[inline(never)]
 pub fn share(alloc: Global, board: Box<Board>, words: StatusWords) -> Result<Arc<Common>, Memory>
     requires { (table words).words ≡ cores board.value }
