@@ -1,11 +1,14 @@
 //! What a firmware shares with those who poll.
 
-ghost use Rattle.std.specs.Prelude.{◌≡◌};
+ghost use Rattle.std.specs.Prelude.{◌≡◌, IfOk};
+ghost use Rattle.std.specs.Arc.{arc_value};
 ghost use Rattle.psci_board.specs.Board.{cores};
 ghost use Rattle.psci_status.specs.Seats.{table};
 
-use psci_board::Board;
+use psci_board::{Board, Memory};
 use psci_polled::StatusWords;
+use std::alloc::Global;
+use std::sync::Arc;
 
 /// The board, and a status word for each of its cores.
 #[derive(Drop)]
@@ -13,4 +16,19 @@ pub struct Common {
     pub board: Board,
     pub words: StatusWords,
     ghost fits: { (table words).words ≡ cores board },
+}
+
+/// A board and its status words, to be shared. It has a frame of its own, so that none is held
+/// while a firmware is made.
+#[inline(never)]
+pub fn share(alloc: Global, board: Box<Board>, words: StatusWords) -> Result<Arc<Common>, Memory>
+    requires { (table words).words ≡ cores board.value }
+    ensures board { IfOk result (λ common. (arc_value common).board ≡ board.value) }
+    ensures words { IfOk result (λ common. (arc_value common).words ≡ words) }
+{
+    let board = Box::into_inner(board);
+    match Arc::new(alloc, Common { board, words }) {
+        Ok(common) => Ok(common),
+        Err(_) => Err(Memory),
+    }
 }

@@ -9,7 +9,7 @@ ghost use Rattle.psci_ffi.specs.Given.{board_of_given};
 use crate::codes::opened_code;
 use crate::controller_place::ControllerPlace;
 use crate::given::GivenBoard;
-use crate::given_build::read_given;
+use crate::given_build::kept_given;
 use crate::opening::read;
 use psci_board::{Board, BoardFault, Memory};
 use psci_ctl::Controller;
@@ -45,7 +45,7 @@ pub extern "C" fn psci_ctl_open_board(
 pub extern "C" fn psci_ctl_close(alloc: Global, place: &mut ControllerPlace)
     ensures { place.new.slot.kept ≡ None }
 {
-    drop(place.take(alloc));
+    empty(alloc, place);
 }
 
 /// Puts a new power controller into the place, if the text is a board's and there is memory.
@@ -64,7 +64,7 @@ fn open_board(
 ) -> Result<(), BoardFault>
     ensures { Opens result (board_of_given given.now) place.old.slot.kept place.new.slot.kept }
 {
-    let board = read_given(alloc, given)?;
+    let board = kept_given(alloc, given)?;
     Ok(renew(alloc, place, &board)?)
 }
 
@@ -73,8 +73,28 @@ fn renew(alloc: Global, place: &mut ControllerPlace, board: &Board) -> Result<()
     ensures done { IfOk result (λ _. IsSomeAnd place.new.slot.kept (IsFirst board.now)) }
     ensures same { IfErr result (λ _. place.new.slot.kept ≡ place.old.slot.kept) }
 {
-    let controller = Box::new(alloc, Controller::new(alloc, board)?)?;
-    drop(place.take(alloc));
+    let controller = made(alloc, board)?;
+    empty(alloc, place);
     place.put(controller);
     Ok(())
+}
+
+/// A new power controller of this board.
+#[inline(never)]
+fn made(alloc: Global, board: &Board) -> Result<Box<Controller>, Memory>
+    ensures { IfOk result (λ controller. IsFirst board.now controller.value) }
+{
+    let controller = Controller::new(alloc, board)?;
+    match Box::new(alloc, controller) {
+        Ok(controller) => Ok(controller),
+        Err(_) => Err(Memory),
+    }
+}
+
+/// Frees the power controller in the place. It has a frame of its own.
+#[inline(never)]
+fn empty(alloc: Global, place: &mut ControllerPlace)
+    ensures { place.new.slot.kept ≡ None }
+{
+    drop(place.take(alloc));
 }

@@ -1,12 +1,13 @@
 //! Making the board that C gives.
 
-ghost use Rattle.std.specs.Prelude.{◌≡◌, IfOk, map};
+ghost use Rattle.std.specs.Prelude.{◌≡◌, Err, IfErr, IfOk, Ok, map};
 ghost use Rattle.psci_board.specs.Board.{IsBoard, IsTree};
 ghost use Rattle.psci_board.specs.Verdict.{Answers};
 ghost use Rattle.psci_ffi.specs.Given.{board_given, board_of_given, level_given, range_given};
 
 use crate::given::{GivenBoard, GivenLevel, GivenRange};
 use crate::given_fault::{fault, has_levels};
+use crate::opening::keep;
 use psci_board::{AddressRange, Board, BoardFault, Format, Level, Memory};
 use std::alloc::Global;
 
@@ -25,6 +26,16 @@ pub fn read_given(alloc: Global, given: &GivenBoard) -> Result<Board, BoardFault
         Some(fault) => Err(fault),
         None => Ok(build(alloc, given, format)?),
     }
+}
+
+/// The same, in memory of its own.
+#[inline(never)]
+pub fn kept_given(alloc: Global, given: &GivenBoard) -> Result<Box<Board>, BoardFault>
+    ensures board { IfOk result (λ board. board_of_given given.now ≡ Ok board.value) }
+    ensures fault { IfErr result (λ fault. Answers (Err fault) (board_of_given given.now)) }
+{
+    let board = read_given(alloc, given)?;
+    Ok(keep(alloc, board)?)
 }
 
 /// The board of a struct that has no fault.

@@ -1,6 +1,6 @@
 //! What is in a place: a firmware with its status words, and the board that frames are read on.
 
-use crate::common::Common;
+use crate::common::{Common, share};
 use psci_board::{Board, Core, Memory, Node};
 use psci_fw::{Cause, FwFault, Hw, Reaction, Regs, Start, Status, SuspendMode, Taken};
 use psci_link::{Heading, ack_in, heading_on};
@@ -55,11 +55,11 @@ use crate::watch::Watch;
 impl Held {
     /// A new firmware of this board.
     #[inline(never)]
-    pub fn new(alloc: Global, board: Board) -> Result<Held, Memory>
-        ensures { IfOk result (λ f. IsNew board f) }
+    pub fn new(alloc: Global, board: Box<Board>) -> Result<Held, Memory>
+        ensures { IfOk result (λ f. IsNew board.value f) }
     {
         let (polled, words) = PolledFirmware::new(alloc, &board)?;
-        let common = Arc::new(alloc, Common { board, words })?;
+        let common = share(alloc, board, words)?;
         Ok(Held { common, polled })
     }
 

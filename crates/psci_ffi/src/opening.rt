@@ -1,6 +1,6 @@
 //! Making a firmware, and letting it go.
 
-ghost use Rattle.std.specs.Prelude.{◌≡◌, None, IfErr, IfOk, IsSomeAnd};
+ghost use Rattle.std.specs.Prelude.{◌≡◌, Err, None, Ok, IfErr, IfOk, IsSomeAnd};
 ghost use Rattle.psci_board.specs.Verdict.{Answers, board_of};
 ghost use Rattle.psci_ffi.specs.Codes.{opened_said};
 ghost use Rattle.psci_ffi.specs.Given.{board_of_given};
@@ -8,7 +8,7 @@ ghost use Rattle.psci_ffi.specs.Shown.{IsNew, Opens};
 
 use crate::codes::opened_code;
 use crate::given::GivenBoard;
-use crate::given_build::read_given;
+use crate::given_build::kept_given;
 use crate::held::Held;
 use crate::place::Place;
 use psci_board::{Board, BoardFault, Memory};
@@ -43,7 +43,7 @@ pub extern "C" fn psci_open_board(alloc: Global, place: &mut Place, board: &Give
 pub extern "C" fn psci_close(alloc: Global, place: &mut Place)
     ensures { place.new.slot.kept ≡ None }
 {
-    drop(place.take(alloc));
+    empty(alloc, place);
 }
 
 /// Puts a new firmware into the place, if the text is a board's and there is memory.
@@ -58,26 +58,59 @@ fn open(alloc: Global, place: &mut Place, text: &[u8]) -> Result<(), BoardFault>
 fn open_board(alloc: Global, place: &mut Place, given: &GivenBoard) -> Result<(), BoardFault>
     ensures { Opens result (board_of_given given.now) place.old.slot.kept place.new.slot.kept }
 {
-    let board = read_given(alloc, given)?;
+    let board = kept_given(alloc, given)?;
     Ok(renew(alloc, place, board)?)
 }
 
 /// The board of a text. It has a frame of its own, which is gone from the stack when the firmware
 /// is made.
 #[inline(never)]
-pub fn read(alloc: Global, text: &[u8]) -> Result<Board, BoardFault>
-    ensures { Answers result (board_of text.now) }
+pub fn read(alloc: Global, text: &[u8]) -> Result<Box<Board>, BoardFault>
+    ensures board { IfOk result (λ board. board_of text.now ≡ Ok board.value) }
+    ensures fault { IfErr result (λ fault. Answers (Err fault) (board_of text.now)) }
 {
-    Board::read_bytes(alloc, text)
+    let board = Board::read_bytes(alloc, text)?;
+    Ok(keep(alloc, board)?)
 }
 
 /// Puts a new firmware of this board into the place, if there is memory.
-fn renew(alloc: Global, place: &mut Place, board: Board) -> Result<(), Memory>
-    ensures done { IfOk result (λ _. IsSomeAnd place.new.slot.kept (IsNew board)) }
+fn renew(alloc: Global, place: &mut Place, board: Box<Board>) -> Result<(), Memory>
+    ensures done { IfOk result (λ _. IsSomeAnd place.new.slot.kept (IsNew board.value)) }
     ensures same { IfErr result (λ _. place.new.slot.kept ≡ place.old.slot.kept) }
 {
-    let held = Box::new(alloc, Held::new(alloc, board)?)?;
-    drop(place.take(alloc));
-    place.put(held);
+    let held = Held::new(alloc, board)?;
+    let boxed = boxed(alloc, held)?;
+    empty(alloc, place);
+    place.put(boxed);
     Ok(())
+}
+
+/// A firmware in memory of its own.
+#[inline(never)]
+fn boxed(alloc: Global, held: Held) -> Result<Box<Held>, Memory>
+    ensures { IfOk result (λ boxed. boxed.value ≡ held) }
+{
+    match Box::new(alloc, held) {
+        Ok(boxed) => Ok(boxed),
+        Err(_) => Err(Memory),
+    }
+}
+
+/// Frees the firmware in the place. It has a frame of its own.
+#[inline(never)]
+fn empty(alloc: Global, place: &mut Place)
+    ensures { place.new.slot.kept ≡ None }
+{
+    drop(place.take(alloc));
+}
+
+/// A board in memory of its own, so that it is moved as a pointer.
+#[inline(never)]
+pub fn keep(alloc: Global, board: Board) -> Result<Box<Board>, Memory>
+    ensures { IfOk result (λ kept. kept.value ≡ board) }
+{
+    match Box::new(alloc, board) {
+        Ok(kept) => Ok(kept),
+        Err(_) => Err(Memory),
+    }
 }
