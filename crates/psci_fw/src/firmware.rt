@@ -51,9 +51,8 @@ impl Firmware {
     {
         law_invariant();
         law_fresh();
-        let state = State::new(alloc, board)?;
         Ok(Firmware {
-            state: Box::new(alloc, state)?,
+            state: State::new(alloc, board)?,
         })
     }
 

@@ -63,21 +63,36 @@ ghost use Rattle.psci_fw_spec.specs.Lives.{start_of_life};
 ghost use Rattle.psci_fw_spec.specs.NodeHwState.{node_hw};
 ghost use Rattle.psci_fw_spec.specs.Phases.{is_away, is_resumable, is_running};
 ghost use Rattle.psci_board.specs.Board.{IsBoard};
+ghost use Rattle.psci_tree.specs.Changes.{start_of_life as tree_at_start};
+ghost use Rattle.psci_tree.specs.Recount.{IsDomainTree};
 ghost use Rattle.psci_fw_state.specs.Seen.{is_pending_phase, message_shown, values_in};
 
 impl State {
-    /// The state of this board's firmware before any core has entered.
-    pub fn new(alloc: Global, board: &Board) -> Result<State, Memory>
-        ensures board { IfOk result (λ state. state.board ≡ board.now) }
-        ensures values { IfOk result (λ state. values_in state ≡ start_of_life board.now 0) }
+    /// The state of this board's firmware before any core has entered, in memory of its own.
+    pub fn new(alloc: Global, board: &Board) -> Result<Box<State>, Memory>
+        ensures board { IfOk result (λ state. state.value.board ≡ board.now) }
+        ensures values { IfOk result (λ state. values_in state.value ≡ start_of_life board.now 0) }
+    {
+        let tree = Tree::new(alloc, board)?;
+        State::with_tree(alloc, board, tree)
+    }
+
+    /// The same, of a tree at the start of a life. It has a frame of its own, so that none is held
+    /// while the tree is made.
+    #[inline(never)]
+    fn with_tree(alloc: Global, board: &Board, tree: Tree) -> Result<Box<State>, Memory>
+        requires value { tree ≡ tree_at_start board.now.levels }
+        requires levels { tree.levels ≡ board.now.levels }
+        requires tree { IsDomainTree tree }
+        ensures board { IfOk result (λ state. state.value.board ≡ board.now) }
+        ensures values { IfOk result (λ state. values_in state.value ≡ start_of_life board.now 0) }
     {
         law_start_of_life();
         let slots = Slots::new(alloc, board.cores())?;
-        let tree = Tree::new(alloc, board)?;
         let rows = first_rows(alloc, board)?;
         let mut counts = no_counts(alloc, board)?;
         reset_counts(&mut counts, &rows, &tree, board);
-        Ok(State {
+        let state = State {
             board: board.copy(alloc)?,
             life: 0,
             halting: false,
@@ -86,7 +101,11 @@ impl State {
             rows,
             counts,
             slots,
-        })
+        };
+        match Box::new(alloc, state) {
+            Ok(state) => Ok(state),
+            Err(_) => Err(Memory),
+        }
     }
 
     /// The board whose firmware it is of.
