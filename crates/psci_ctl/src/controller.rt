@@ -84,6 +84,21 @@ impl Controller {
         &self.board
     }
 
+    /// The board, as all else is let go: so a board may be let go with no more on the stack.
+    pub fn into_board(self) -> Board
+        ensures { result ≡ self.board }
+    {
+        let Controller {
+            board,
+            life: _,
+            cores,
+            domains,
+        } = self;
+        drop(cores);
+        drop(domains);
+        board
+    }
+
     /// The present life, counted from 1; None once the system is off.
     pub fn life(&self) -> Option<u32>
         ensures { result ≡ (seen self.now).life }
