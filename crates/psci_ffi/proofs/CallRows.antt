@@ -211,7 +211,8 @@ empty-place-uses h = let e : ◌≡◌ {A = ℕ} 0 16 = h.0 in omega arith
 empty-place-is-filled : (p : PolledView) → IsTakenIn None (spelled 18 1) 16 (Some p) → ⊥
 empty-place-is-filled p h = apart p h.1
 
-place-is-emptied : (p : PolledView) (bytes : List ℕ) (code : ℕ) → IsTakenIn (Some p) bytes code None → ⊥
+place-is-emptied : (p : PolledView) (bytes : List ℕ) (code : ℕ) → IsTakenIn (Some p) bytes code None
+    → ⊥
 place-is-emptied p bytes code h = h
 
 takes-by : (p q : PolledView) (bytes : List ℕ) (code : ℕ) → IsTakenIn (Some p) bytes code (Some q)

@@ -79,7 +79,8 @@ returned : shown (Out (record { act = Return (record { 0 = negsuc 1 }); message 
     ≡ record { what = 0; code = negsuc 1; address = 0; context = 0; message = nothing }
 returned = refl
 
-returned-and-sent : shown (Out (record { act = Return (record { 0 = pos 0 }); message = Some message }))
+returned-and-sent : shown
+    (Out (record { act = Return (record { 0 = pos 0 }); message = Some message }))
     ≡ record { what = 0; code = pos 0; address = 0; context = 0; message = sent }
 unfolding part_fields
 returned-and-sent = refl

@@ -7,4 +7,5 @@ use Rattle.psci_ctl.proofs.row.CoreRow.TheSendSync as row
 use Rattle.psci_ctl.specs.contracts.controller.Controller as Controller
 
 pub controller : IsSend Controller.the_row
-controller = search (sendable, heap.crosses, board.the_send, level.the_send, row.the_send) depth 40 fits 20000
+controller = search (sendable, heap.crosses, board.the_send, level.the_send, row.the_send)
+    depth 40 fits 20000

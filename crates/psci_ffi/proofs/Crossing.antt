@@ -15,19 +15,29 @@ use Rattle.psci_ffi.specs.contracts.held.Held as Held
 use Rattle.psci_ffi.specs.contracts.watch.Watch as Watch
 
 firmware : IsSend Firmware.the_row
-firmware = search (sendable, heap.crosses, knot.crosses, board.the_send, slots.the_send, row.the_send) depth 40 fits 20000
+firmware = search (
+  sendable,
+  heap.crosses,
+  knot.crosses,
+  board.the_send,
+  slots.the_send,
+  row.the_send,
+) depth 40 fits 20000
 
 polled : IsSend Polled.the_row
 polled = search (sendable, heap.crosses, firmware, writer.the_field_send) depth 40 fits 20000
 
 common_send : IsSend Common.the_row
-common_send = search (sendable, heap.crosses, board.the_send, words.the_field_send) depth 40 fits 20000
+common_send = search (sendable, heap.crosses, board.the_send, words.the_field_send)
+    depth 40 fits 20000
 
 common_sync : IsSync Common.the_row
-common_sync = search (sendable, heap.crosses, board.the_sync, words.the_field_sync) depth 40 fits 20000
+common_sync = search (sendable, heap.crosses, board.the_sync, words.the_field_sync)
+    depth 40 fits 20000
 
 pub held : IsSend Held.the_row
 held = search (sendable, heap.crosses, polled, common_send, common_sync) depth 40 fits 20000
 
 pub watch : IsSend Watch.the_row
-watch = search (sendable, heap.crosses, common_send, common_sync, reader.the_field_send) depth 40 fits 20000
+watch = search (sendable, heap.crosses, common_send, common_sync, reader.the_field_send)
+    depth 40 fits 20000

@@ -34,7 +34,8 @@ down = record {
 abbrev four : MessageValue
 four = record down {
   parts = record { level = 0; depth = 3; generation = 7 }
-      ∷ record { level = 1; depth = 2; generation = 19 } ∷ record { level = 2; depth = 1; generation = 20 }
+      ∷ record { level = 1; depth = 2; generation = 19 }
+      ∷ record { level = 2; depth = 1; generation = 20 }
       ∷ record { level = 3; depth = 1; generation = 21 } ∷ [];
 }
 
@@ -118,11 +119,11 @@ no-firmware-writes h = let e : ◌≡◌ {A = ℕ} 3 2 = ap (λ (f : Fields). f.
 
 -- each kind of frame is written from its own fields
 again : map (λ frame. frame_given (fields_of frame))
-    (Message down ∷ Message four ∷ Message (other Start) ∷ Message (other Off) ∷ Message (other Reset)
-    ∷ Ack (applied Down 4 false) ∷ Ack (applied Reset 1 true) ∷ [])
+    (Message down ∷ Message four ∷ Message (other Start) ∷ Message (other Off)
+    ∷ Message (other Reset) ∷ Ack (applied Down 4 false) ∷ Ack (applied Reset 1 true) ∷ [])
     ≡ map Some
-    (Message down ∷ Message four ∷ Message (other Start) ∷ Message (other Off) ∷ Message (other Reset)
-    ∷ Ack (applied Down 4 false) ∷ Ack (applied Reset 1 true) ∷ [])
+    (Message down ∷ Message four ∷ Message (other Start) ∷ Message (other Off)
+    ∷ Message (other Reset) ∷ Ack (applied Down 4 false) ∷ Ack (applied Reset 1 true) ∷ [])
 again = refl
 
 -- what is not counted is not looked at

@@ -57,13 +57,15 @@ few_nodes (l ∷ ls) h =
     let n = no_more l.nodes MOST_CORES p.0 in
     let s = length-take l.nodes l.children in
     let m : length (take l.nodes l.children) ≤ MOST_CORES = omega (arith, n, s) in
-    let t : nat_le (length (take l.nodes l.children)) MOST_CORES ≡ true = grind (arith, nat_tests) in
+    let t : nat_le (length (take l.nodes l.children)) MOST_CORES ≡ true =
+    grind (arith, nat_tests) in
     rw (t, few_nodes ls p.1) refl
 
 -- levels that fit each other, and are neither too wide nor too many, are a tree
 tree : (ws : List (List ℕ)) → is_even ws ≡ true
     → list_any (λ w. list_any is_out_of_width w) ws ≡ false
-    → list_all (λ w. nat_le (length w) MOST_CORES) ws ≡ true → size_below ws ≤ MOST_CORES → IsTree ws
+    → list_all (λ w. nat_le (length w) MOST_CORES) ws ≡ true → size_below ws ≤ MOST_CORES
+    → IsTree ws
 tree [] e w n s = tt
 tree (v ∷ ws) e w n s =
     let p = both _ _ e in
@@ -113,7 +115,8 @@ is_board g format formed h =
     let starts = limited (2 ^ 32 - 1) g.starts limits.0 in
     let lives = limited 65535 g.lives limits.1 in
     record {
-      tree = tree (levels_given g) (not_false _ a.0) b.0 (few_nodes (take g.height g.levels) outer.1)
+      tree = tree (levels_given g) (not_false _ a.0) b.0
+          (few_nodes (take g.height g.levels) outer.1)
           (within MOST_CORES _ c.0);
       low = low _ inner.0;
       high = short g (no_more g.height 3 inner.1);
@@ -147,8 +150,9 @@ with_fault g format fault h f e = rw (h, f, e) refl
 
 -- what is said is not that memory lacks
 not_memory : (a b c d e f : Bool)
-    → cond a (Some Uneven) (cond b (Some TooWide) (cond c (Some TooManyCores) (cond d (Some BadRange)
-    (cond e (Some BadBoot) (cond f (Some BadLimit) None))))) ≡ Some Memory → ⊥
+    → cond a (Some Uneven) (cond b (Some TooWide) (cond c (Some TooManyCores)
+    (cond d (Some BadRange) (cond e (Some BadBoot) (cond f (Some BadLimit) None))))) ≡ Some Memory
+    → ⊥
 not_memory true b c d e f h = cc
 not_memory false true c d e f h = cc
 not_memory false false true d e f h = cc
@@ -189,3 +193,6 @@ pub without_fault : (g : GivenBoard) (format : Format) → has_levels g ≡ true
     → ◌≡◌ {A = Said} (board_of_given g) (Ok (board_given g format))
 unfolding board_of_given
 without_fault g format h f e = rw (h, f, e) refl
+
+-- what is answered of a struct, by its first fault
+pub ruleset answering = (without_levels, without_format, bad_answer, without_fault, is_board)

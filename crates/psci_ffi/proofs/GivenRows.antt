@@ -54,7 +54,10 @@ with_levels height a b c = record given { height = height; levels = a ∷ b ∷ 
 
 abbrev with_ranges : ℕ → GivenRange → GivenRange → GivenBoard
 with_ranges many a b =
-    record given { many_ranges = many; ranges = a ∷ b ∷ range 0x50000000 0x50000004 ∷ range 8 16 ∷ [] }
+    record given {
+      many_ranges = many;
+      ranges = a ∷ b ∷ range 0x50000000 0x50000004 ∷ range 8 16 ∷ [];
+    }
 
 -- Boards ----------------------------------------------------------------------------------------
 

@@ -5,6 +5,7 @@ pub mod AsPollerBox
 mod CallRows
 mod CodeRows
 pub mod ControllerCrossing
+mod ControllerPlaceRows
 mod ControllerRows
 pub mod Crossing
 pub mod FieldParts
@@ -20,3 +21,4 @@ mod ReaderRows
 mod StopRows
 pub mod Switching
 pub mod Taking
+mod WrittenRows

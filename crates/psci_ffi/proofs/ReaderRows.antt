@@ -47,8 +47,9 @@ halted = values (boots 2 ∷ system_off 0 ∷ [])
 abbrev none : Kept
 none = None
 
-empty-place : (life_read none ≡ 0) × (halting_read none ≡ false) × (status_read none (node 0 0) ≡ 16)
-    × (granted_read none (node 0 0) ≡ 0) × (hw_read none (node 0 0) ≡ 16) × (known_read none 0 ≡ 0)
+empty-place : (life_read none ≡ 0) × (halting_read none ≡ false)
+    × (status_read none (node 0 0) ≡ 16) × (granted_read none (node 0 0) ≡ 0)
+    × (hw_read none (node 0 0) ≡ 16) × (known_read none 0 ≡ 0)
     × (running_read none 0 ≡ false) × (outstanding_read none 0 ≡ no_frame)
 empty-place = (refl, refl, refl, refl, refl, refl, refl, refl)
 
@@ -117,8 +118,8 @@ statuses : (p : PolledView) → p.firmware.board ≡ board → seen p.firmware �
     ∷ status_read (Some p) (node 0 3) ∷ status_read (Some p) (node 1 1) ∷ [] ≡ 0 ∷ 1 ∷ 2 ∷ 2 ∷ []
 unfolding computing node_status
 statuses p is was =
-    both (λ b v. status_said b v (node 0 0) ∷ status_said b v (node 0 1) ∷ status_said b v (node 0 3)
-    ∷ status_said b v (node 1 1) ∷ []) p.firmware asked is was
+    both (λ b v. status_said b v (node 0 0) ∷ status_said b v (node 0 1)
+    ∷ status_said b v (node 0 3) ∷ status_said b v (node 1 1) ∷ []) p.firmware asked is was
 
 -- the hardware of core 0 is on; that of core 3 is off, that of its cluster not yet
 hardware : (p : PolledView) → seen p.firmware ≡ now

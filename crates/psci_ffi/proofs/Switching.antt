@@ -7,6 +7,7 @@ use Rattle.std.proofs.lemmas.Bool.{and_from, and_parts, eqb-true, leb-true}
 use Rattle.std.proofs.lemmas.Option.{none-some, same_Some}
 use Rattle.psci_board.specs.Board.{BoardValue, height}
 use Rattle.psci_parts.specs.declared.part.Part.{Part}
+use Rattle.psci_ctl_spec.specs.Effects.{effect_of}
 use Rattle.psci_ctl_spec.specs.Legal.{IsOfBoard}
 use Rattle.psci_link.specs.declared.frame.Frame.{Frame}
 use Rattle.psci_link.specs.declared.frame.Frame.TheVariants as frames
@@ -55,6 +56,11 @@ few kinds.Down most ps h w =
 few kinds.Start most ps h w = rw h (omega arith)
 few kinds.Off most ps h w = rw h (omega arith)
 few kinds.Reset most ps h w = rw h (omega arith)
+
+-- what a call comes down to is computed
+unfoldable pub act : Unit {0}
+unfolding effect_of
+act = tt
 
 -- a message of the board's frames can be delivered there
 pub of_board : (b : BoardValue) (m : MessageValue) → IsMessage m → IsOf b (frames.Message m)

@@ -13,7 +13,9 @@ use std::sync::Arc;
 /// The board, and a status word for each of its cores.
 #[derive(Drop)]
 pub struct Common {
+    /// The board.
     pub board: Board,
+    /// The status words of its cores.
     pub words: StatusWords,
     ghost fits: { (table words).words ≡ cores board },
 }

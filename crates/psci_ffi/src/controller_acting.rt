@@ -44,7 +44,7 @@ pub fn give(controller: &mut Controller, bytes: &[u8], answer: &mut ControllerAn
 
 /// `Controller::deliver`. It has a frame of its own, so that none is held while a frame is read.
 #[inline(never)]
-#[tactic(auto, using(crate::proofs::Switching::of_board), unfolding(psci_ctl_spec::specs::Effects::effect_of))]
+#[tactic(auto, using(crate::proofs::Switching::of_board), unfolding(crate::proofs::Switching::act))]
 fn deliver(controller: &mut Controller, message: &Message, answer: &mut ControllerAnswer)
     requires { IsOf controller.old.board (frames.Message message.now) }
     ensures { IsMade controller.old (calls.Deliver message.now) answer.new controller.new }

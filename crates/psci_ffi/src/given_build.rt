@@ -12,7 +12,7 @@ use psci_board::{AddressRange, Board, BoardFault, Format, Level, Memory};
 use std::alloc::Global;
 
 /// The board of a struct, or its first fault. Memory is asked for only where there is none.
-#[tactic(auto, using(crate::proofs::GivenBoards::without_levels, crate::proofs::GivenBoards::without_format, crate::proofs::GivenBoards::bad_answer, crate::proofs::GivenBoards::without_fault, crate::proofs::GivenBoards::is_board))]
+#[tactic(auto, using(crate::proofs::GivenBoards::answering))]
 pub fn read_given(alloc: Global, given: &GivenBoard) -> Result<Board, BoardFault>
     ensures { Answers result (board_of_given given.now) }
 {

@@ -46,7 +46,7 @@ ghost use Rattle.psci_polled.specs.Polled.{IsWrittenFrom};
 ghost use Rattle.psci_status.specs.Seats.{table, table_of_reader, seen as seen_by};
 ghost use Rattle.psci_status.specs.Lists.{newest};
 ghost use Rattle.psci_ffi.specs.Frames.{IsAcknowledged, IsFaulty, IsMisplaced};
-ghost use Rattle.psci_ffi.specs.Shown.{IsNew};
+ghost use Rattle.psci_ffi.specs.Shown.{IsNew, IsNext};
 ghost use Rattle.psci_ffi.specs.Watching.{IsWatchOf};
 
 use crate::codes::{NOT_AN_ACK, frame_code, taken_code};
@@ -67,12 +67,7 @@ impl Held {
     pub fn smc(&mut self, core: Core, regs: Regs) -> Result<Reaction, FwFault>
         ensures answer { reply_in self.new.firmware.board (seen self.new.firmware) result
             ≡ answer self.old.firmware.board (seen self.old.firmware) core.number (calls.Smc regs) }
-        ensures after { seen self.new.firmware ≡ after self.old.firmware.board core.number
-            (calls.Smc regs) (reply_in self.new.firmware.board (seen self.new.firmware) result)
-            (seen self.old.firmware) }
-        ensures board { self.new.firmware.board ≡ self.old.firmware.board }
-        ensures table { self.new.table ≡ self.old.table }
-        ensures written { IsWrittenFrom self.old self.new }
+        ensures next { IsNext self.old core.number (calls.Smc regs) self.new }
         ensures refused { OnErr result (self.new ≡ self.old) }
     {
         let Held { common, polled } = self;
@@ -84,12 +79,7 @@ impl Held {
         ensures answer { reply_in self.new.firmware.board (seen self.new.firmware) result
             ≡ answer self.old.firmware.board (seen self.old.firmware) core.number
             (calls.Enter start) }
-        ensures after { seen self.new.firmware ≡ after self.old.firmware.board core.number
-            (calls.Enter start) (reply_in self.new.firmware.board (seen self.new.firmware) result)
-            (seen self.old.firmware) }
-        ensures board { self.new.firmware.board ≡ self.old.firmware.board }
-        ensures table { self.new.table ≡ self.old.table }
-        ensures written { IsWrittenFrom self.old self.new }
+        ensures next { IsNext self.old core.number (calls.Enter start) self.new }
         ensures refused { OnErr result (self.new ≡ self.old) }
     {
         let Held { common, polled } = self;

@@ -61,4 +61,5 @@ pub fn law_crosses(place: &Place) {
     crosses(place);
 }
 
+/// Only a value that may go from one core to another can be handed to it.
 pub fn crosses<T: Send>(_value: &T) {}

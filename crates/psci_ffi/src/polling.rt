@@ -15,7 +15,8 @@ use std::alloc::Global;
 /// lock of the place.
 #[unsafe(no_mangle)]
 pub extern "C" fn psci_open_poller(alloc: Global, place: &mut Place, poller: &mut Poller) -> u32
-    ensures opens { OpensPoller place.old.slot.kept result poller.old.slot.kept poller.new.slot.kept }
+    ensures opens { OpensPoller place.old.slot.kept result poller.old.slot.kept
+        poller.new.slot.kept }
     ensures same { place.new.slot.kept ≡ place.old.slot.kept }
 {
     let Some(mut held) = place.take(alloc) else {

@@ -4,4 +4,5 @@ use Rattle.psci_ffi.proofs.given_build.levels.Goals as goal
 pub new-requires-clause-children : goal.new-requires-clause-children
 new-requires-clause-children c =
     rw c.children.ensures.children
-    (small _ (few_below c.args.levels.now c.loop-level.level-index _ c.loop-level-test.true c.requires))
+    (small _
+    (few_below c.args.levels.now c.loop-level.level-index _ c.loop-level-test.true c.requires))
