@@ -24,7 +24,17 @@ use Rattle.psci_ffi.specs.contracts.parts.Parts as Parts
 use Rattle.psci_ffi.specs.contracts.machine_slot.MachineSlot as Slot
 
 abbrev pub E : Bx
-E = record { row = Inner.the_row; laws = inner.the_row_laws; al = record { row = Heap.the_row; laws = heap.the_row_laws; g = ghosts; d = dict; drops = impl [] tnil dnil } }
+E = record {
+  row = Inner.the_row;
+  laws = inner.the_row_laws;
+  al = record {
+    row = Heap.the_row;
+    laws = heap.the_row_laws;
+    g = ghosts;
+    d = dict;
+    drops = impl [] tnil dnil;
+  };
+}
 
 abbrev pub FromParts : Param 0
 FromParts = plain (λ _. Parts.the_row Inner.the_row Heap.the_row ghosts)
@@ -41,8 +51,10 @@ is_some None full = absurd full
 is_some (Some x) full = refl
 
 -- a full slot owns what the box owns
-pub opened : {M : Type 1} {𝓤 : Ura M} (𝓛 : Logic 𝓤) (p : Ptr) (a : Heap.the_row.Denot) (k : KeptMachine) (full : IsFull k) (vs : List Val)
-    → ent 𝓤 (sem 𝓛 (Slot.the_row.own_val (record { ptr = p; alloc = a; kept = k }) vs)) (sem 𝓛 ((B E).own_val (record { ptr = p; alloc = a; value = value_of k full }) vs))
+pub opened : {M : Type 1} {𝓤 : Ura M} (𝓛 : Logic 𝓤) (p : Ptr) (a : Heap.the_row.Denot)
+    (k : KeptMachine) (full : IsFull k) (vs : List Val)
+    → ent 𝓤 (sem 𝓛 (Slot.the_row.own_val (record { ptr = p; alloc = a; kept = k }) vs))
+    (sem 𝓛 ((B E).own_val (record { ptr = p; alloc = a; value = value_of k full }) vs))
 opened 𝓛 p a None full vs = absurd full
 opened {𝓤 = 𝓤} 𝓛 p a (Some x) full vs = id⊢ 𝓤 _
 

@@ -58,6 +58,9 @@ made said b g d boot m is room same none whole =
     let here : fault_of (machine_given g) b boot ≡ None = rw same at none in
     rw (is, room, here, whole, same) refl
 
+-- what is made where it fails
+pub ruleset making = (bad_board, no_room, no_memory)
+
 -- Opening --------------------------------------------------------------------------------------
 
 pub failed : (said : Said) (fault : MachineFault) (g : GivenMachine) (boot : ℕ)
@@ -84,3 +87,6 @@ pub lacking : (said : Said) (m : PlatformValue) (g : GivenMachine) (boot : ℕ)
     → OpensMachine (Err (faults.Board boards.Memory)) said g boot old left
 lacking (Ok b) m g boot old left is same = (refl, same)
 lacking (Err fault) m g boot old left is same = absurd (cc)
+
+-- what an opening leaves
+pub ruleset opening = (failed, opened, lacking)

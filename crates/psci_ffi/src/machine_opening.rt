@@ -43,7 +43,7 @@ pub extern "C" fn psci_close_machine(alloc: Global, place: &mut MachinePlace)
 }
 
 /// Puts a machine into the place, if the structs are one's and there is memory.
-#[tactic(auto, using(crate::proofs::MachineMaking::failed, crate::proofs::MachineMaking::opened, crate::proofs::MachineMaking::lacking))]
+#[tactic(auto, using(crate::proofs::MachineMaking::opening))]
 fn open(
     alloc: Global,
     place: &mut MachinePlace,
@@ -73,7 +73,7 @@ fn renew(alloc: Global, place: &mut MachinePlace, machine: Platform) -> Result<(
 }
 
 /// The machine, or the first fault.
-#[tactic(auto, using(crate::proofs::MachineMaking::bad_board, crate::proofs::MachineMaking::no_room, crate::proofs::MachineMaking::no_memory))]
+#[tactic(auto, using(crate::proofs::MachineMaking::making))]
 fn make(
     alloc: Global,
     board: &GivenBoard,

@@ -21,10 +21,12 @@ home = machine
 
 keyless : (a : Global) (p : Ptr) (k : KeptMachine) → Keyless (slot_owns a p k)
 keyless a p None = tt
-keyless a p (Some x) = (lies Home.the_row home p x, heap.frees.frees a (raw (lone Home.the_row.mir)) p)
+keyless a p (Some x) =
+    (lies Home.the_row home p x, heap.frees.frees a (raw (lone Home.the_row.mir)) p)
 
 pub send : IsSend the_row
 send =
     let all : AllSend (fields the_type) = (search sendable, (handle.the_field_send, tt)) in
     owning_send the_type all (λ d. keyless d.alloc d.ptr d.kept)
-    (λ k. quiet (to the_type) (exits_of k (fields the_type)) ((struct_send (shape the_type) all).leaving k))
+    (λ k. quiet (to the_type) (exits_of k (fields the_type))
+    ((struct_send (shape the_type) all).leaving k))
