@@ -51,9 +51,8 @@ impl Firmware {
     {
         law_invariant();
         law_fresh();
-        Ok(Firmware {
-            state: State::new(alloc, board)?,
-        })
+        let state = State::new(alloc, board)?;
+        Ok(Firmware { state })
     }
 
     /// A secure monitor call of a core with these registers. All 64 bits of each count as the

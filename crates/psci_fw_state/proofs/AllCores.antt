@@ -14,7 +14,7 @@ use Rattle.psci_fw_spec.specs.SystemCalls.{all_others, is_off_status}
 use Rattle.psci_state.specs.declared.cores.Activity.{Activity}
 use Rattle.psci_state.specs.declared.cores.Activity.TheVariants as activities
 use Rattle.psci_state.specs.declared.cores.CoreState.{CoreState}
-use Rattle.psci_tree.specs.Recount.{is_active}
+use Rattle.psci_tree.specs.Recount.{is_active, is_away as is_gone}
 use Rattle.psci_board.specs.declared.node.Node.{Node}
 use Rattle.psci_board.specs.Board.{HasNodeIn, below_in, cores, height, size_below}
 use Rattle.psci_board.specs.declared.span.CoreSpan.{CoreSpan}

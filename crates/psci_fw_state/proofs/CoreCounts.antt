@@ -14,7 +14,7 @@ use Rattle.psci_fw_spec.specs.Phases.{is_away, is_suspended_or_pending}
 use Rattle.psci_fw_spec.specs.SystemCalls.{is_off_status}
 use Rattle.psci_state.specs.declared.cores.Activity.{Activity}
 use Rattle.psci_state.specs.declared.cores.Activity.TheVariants as activities
-use Rattle.psci_tree.specs.Recount.{is_active}
+use Rattle.psci_tree.specs.Recount.{is_active, is_away as is_gone}
 use Rattle.psci_fw_state.specs.Seen.{phase_by}
 
 -- All cores but one ------------------------------------------------------------------------------

@@ -72,6 +72,7 @@ impl State {
     pub fn new(alloc: Global, board: &Board) -> Result<Box<State>, Memory>
         ensures board { IfOk result (λ state. state.value.board ≡ board.now) }
         ensures values { IfOk result (λ state. values_in state.value ≡ start_of_life board.now 0) }
+        ensures valid { IfOk result (λ _. IsBoard board.now) }
     {
         let tree = Tree::new(alloc, board)?;
         State::with_tree(alloc, board, tree)
@@ -86,6 +87,7 @@ impl State {
         requires tree { IsDomainTree tree }
         ensures board { IfOk result (λ state. state.value.board ≡ board.now) }
         ensures values { IfOk result (λ state. values_in state.value ≡ start_of_life board.now 0) }
+        ensures valid { IfOk result (λ _. IsBoard board.now) }
     {
         law_start_of_life();
         let slots = Slots::new(alloc, board.cores())?;
