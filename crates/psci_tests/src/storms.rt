@@ -2,7 +2,7 @@
 
 use crate::worlds::agrees;
 use psci_board::Board;
-use psci_storm::{TALLIES, Answer, Settled, Storm, Tally, blow, count, storm};
+use psci_storm::{Answer, Settled, Storm, TALLIES, Tally, blow, count, storm};
 use psci_world::World;
 use std::process::Abort;
 use std::test::Fail;
