@@ -20,14 +20,24 @@ pub struct Common {
     ghost fits: { (table words).words ≡ cores board },
 }
 
-/// A board and its status words, to be shared. It has a frame of its own, so that none is held
-/// while a firmware is made.
-#[inline(never)]
+/// A board and its status words, to be shared.
 pub fn share(alloc: Global, board: Box<Board>, words: StatusWords) -> Result<Arc<Common>, Memory>
     requires { (table words).words ≡ cores board.value }
     ensures board { IfOk result (λ common. (arc_value common).board ≡ board.value) }
     ensures words { IfOk result (λ common. (arc_value common).words ≡ words) }
 {
+    shared(alloc, (board, words))
+}
+
+/// The same. It has a frame of its own, so that none is held while a firmware is made, and both
+/// come as one, so that no room is held for the status words until they are handed on.
+#[inline(never)]
+fn shared(alloc: Global, both: (Box<Board>, StatusWords)) -> Result<Arc<Common>, Memory>
+    requires { (table both.1).words ≡ cores both.0.value }
+    ensures board { IfOk result (λ common. (arc_value common).board ≡ both.0.value) }
+    ensures words { IfOk result (λ common. (arc_value common).words ≡ both.1) }
+{
+    let (board, words) = both;
     let board = Box::into_inner(board);
     match Arc::new(alloc, Common { board, words }) {
         Ok(common) => Ok(common),

@@ -1,6 +1,6 @@
 //! Making a power controller, and letting it go.
 
-ghost use Rattle.std.specs.Prelude.{◌≡◌, None, IfErr, IfOk, IsSomeAnd};
+ghost use Rattle.std.specs.Prelude.{◌≡◌, None, IfErr, IfOk, IsSomeAnd, option_map};
 ghost use Rattle.psci_board.specs.Verdict.{board_of};
 ghost use Rattle.psci_ffi.specs.Codes.{opened_said};
 ghost use Rattle.psci_ffi.specs.ControllerCalls.{IsFirst, Opens};
@@ -10,7 +10,7 @@ use crate::codes::opened_code;
 use crate::controller_place::ControllerPlace;
 use crate::given::GivenBoard;
 use crate::given_build::kept_given;
-use crate::opening::read;
+use crate::opening::{let_go, read};
 use psci_board::{Board, BoardFault, Memory};
 use psci_ctl::Controller;
 use std::alloc::Global;
@@ -53,7 +53,9 @@ fn open(alloc: Global, place: &mut ControllerPlace, text: &[u8]) -> Result<(), B
     ensures { Opens result (board_of text.now) place.old.slot.kept place.new.slot.kept }
 {
     let board = read(alloc, text)?;
-    Ok(renew(alloc, place, &board)?)
+    let renewed = renew(alloc, place, &board);
+    let_go(board);
+    Ok(renewed?)
 }
 
 /// The same, if the struct is a board's.
@@ -65,7 +67,9 @@ fn open_board(
     ensures { Opens result (board_of_given given.now) place.old.slot.kept place.new.slot.kept }
 {
     let board = kept_given(alloc, given)?;
-    Ok(renew(alloc, place, &board)?)
+    let renewed = renew(alloc, place, &board);
+    let_go(board);
+    Ok(renewed?)
 }
 
 /// Puts a new power controller of this board into the place, if there is memory.
@@ -96,5 +100,25 @@ fn made(alloc: Global, board: &Board) -> Result<Box<Controller>, Memory>
 fn empty(alloc: Global, place: &mut ControllerPlace)
     ensures { place.new.slot.kept ≡ None }
 {
-    drop(place.take(alloc));
+    if let Some(controller) = taken(alloc, place) {
+        drop(left_board(controller));
+    }
+}
+
+/// The power controller of the place, which is empty then. It has a frame of its own.
+#[inline(never)]
+fn taken(alloc: Global, place: &mut ControllerPlace) -> Option<Box<Controller>>
+    ensures controller { place.old.slot.kept ≡ option_map (λ b. b.value) result }
+    ensures left { place.new.slot.kept ≡ None }
+{
+    place.take(alloc)
+}
+
+/// The board of a power controller, as all else is let go. It has a frame of its own, which is gone
+/// when the board is let go.
+#[inline(never)]
+fn left_board(controller: Box<Controller>) -> Board
+    ensures { result ≡ controller.value.board }
+{
+    Box::into_inner(controller).into_board()
 }

@@ -63,6 +63,25 @@ impl Held {
         Ok(Held { common, polled })
     }
 
+    /// The firmware, as what it shares is let go. It has a frame of its own, which is gone when the
+    /// firmware is let go.
+    #[inline(never)]
+    pub fn alone(self) -> PolledFirmware
+        ensures { result ≡ self }
+    {
+        let Held { common, polled } = self;
+        drop(common);
+        polled
+    }
+
+    /// The same of one in memory of its own.
+    #[inline(never)]
+    pub fn unboxed(held: Box<Held>) -> PolledFirmware
+        ensures { result ≡ held.value }
+    {
+        Box::into_inner(held).alone()
+    }
+
     /// `Firmware::smc_in_slot`.
     pub fn smc(&mut self, core: Core, regs: Regs) -> Result<Reaction, FwFault>
         ensures answer { reply_in self.new.firmware.board (seen self.new.firmware) result

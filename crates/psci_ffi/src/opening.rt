@@ -1,6 +1,6 @@
 //! Making a firmware, and letting it go.
 
-ghost use Rattle.std.specs.Prelude.{◌≡◌, Err, None, Ok, IfErr, IfOk, IsSomeAnd};
+ghost use Rattle.std.specs.Prelude.{◌≡◌, Err, None, Ok, IfErr, IfOk, IsSomeAnd, option_map};
 ghost use Rattle.psci_board.specs.Verdict.{Answers, board_of};
 ghost use Rattle.psci_ffi.specs.Codes.{opened_said};
 ghost use Rattle.psci_ffi.specs.Given.{board_of_given};
@@ -92,7 +92,10 @@ fn boxed(alloc: Global, held: Held) -> Result<Box<Held>, Memory>
 {
     match Box::new(alloc, held) {
         Ok(boxed) => Ok(boxed),
-        Err(_) => Err(Memory),
+        Err(refused) => {
+            drop(refused.value.alone());
+            Err(Memory)
+        }
     }
 }
 
@@ -101,7 +104,18 @@ fn boxed(alloc: Global, held: Held) -> Result<Box<Held>, Memory>
 fn empty(alloc: Global, place: &mut Place)
     ensures { place.new.slot.kept ≡ None }
 {
-    drop(place.take(alloc));
+    if let Some(held) = taken(alloc, place) {
+        drop(Held::unboxed(held));
+    }
+}
+
+/// The firmware of the place, which is empty then. It has a frame of its own.
+#[inline(never)]
+fn taken(alloc: Global, place: &mut Place) -> Option<Box<Held>>
+    ensures held { place.old.slot.kept ≡ option_map (λ b. b.value) result }
+    ensures left { place.new.slot.kept ≡ None }
+{
+    place.take(alloc)
 }
 
 /// A board in memory of its own, so that it is moved as a pointer.
@@ -113,4 +127,10 @@ pub fn keep(alloc: Global, board: Board) -> Result<Box<Board>, Memory>
         Ok(kept) => Ok(kept),
         Err(_) => Err(Memory),
     }
+}
+
+/// Lets a board go. It has a frame of its own.
+#[inline(never)]
+pub fn let_go(board: Box<Board>) {
+    drop(board);
 }
