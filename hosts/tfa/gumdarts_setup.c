@@ -2,6 +2,7 @@
  * allow. */
 #include <common/debug.h>
 #include <context.h>
+#include <lib/cassert.h>
 #include <lib/el3_runtime/context_mgmt.h>
 
 #include "gumdarts_adaptor.h"
@@ -13,6 +14,9 @@
 #define GUMDARTS_EXEC_BASE U(0)
 #define GUMDARTS_EXEC_END  (UINT64_MAX & ~UL(3))
 #endif
+
+/* The opening takes most of the boot core's stack, with the frames of TF-A that it stands on. */
+CASSERT(PLATFORM_STACK_SIZE >= U(0xA00), assert_the_opening_fits_the_boot_core_stack);
 
 const plat_psci_ops_t *psci_plat_pm_ops;
 unsigned int psci_caps;
@@ -66,7 +70,7 @@ static unsigned int __init capabilities(const plat_psci_ops_t *hooks)
            present(ENABLE_PSCI_STAT != 0, PSCI_STAT_COUNT_AARCH64);
 }
 
-/* The board's boot core is the first one, and the stacks above its own are the others'. */
+/* The board's boot core is the first one. */
 static void __init check_boot_core(unsigned int core)
 {
     if (core == 0U)
@@ -91,7 +95,7 @@ int __init psci_setup(const psci_lib_args_t *arguments)
     describe();
     for (unsigned int core = 0U; core < psci_plat_core_count; core++)
         cm_set_context_by_index(core, &contexts[core], NON_SECURE);
-    on_opening_stack(firmware_open);
+    firmware_open();
     NOTICE("PSCI: the proved firmware, %u cores, %u bytes of heap\n", psci_plat_core_count,
            (unsigned int)pool_taken());
     record_board(&board);
