@@ -26,6 +26,7 @@ PSCI_LIB_SOURCES	:=	$(filter-out lib/psci/psci_%.c,${PSCI_LIB_SOURCES})	\
 				${GUMDARTS_FOLDER}/gumdarts_entries.c	\
 				${GUMDARTS_FOLDER}/gumdarts_setup.c	\
 				${GUMDARTS_FOLDER}/gumdarts_record.c	\
+				${GUMDARTS_FOLDER}/gumdarts_stack.S	\
 				${GUMDARTS_FOLDER}/gumdarts_bytes.S	\
 				${GUMDARTS_FOLDER}/gumdarts_lock.S	\
 				${GUMDARTS}/hosts/pool.c

@@ -2,7 +2,6 @@
  * allow. */
 #include <common/debug.h>
 #include <context.h>
-#include <lib/cassert.h>
 #include <lib/el3_runtime/context_mgmt.h>
 
 #include "gumdarts_adaptor.h"
@@ -14,9 +13,6 @@
 #define GUMDARTS_EXEC_BASE U(0)
 #define GUMDARTS_EXEC_END  (UINT64_MAX & ~UL(3))
 #endif
-
-/* The opening takes most of the boot core's stack, with the frames of TF-A that it stands on. */
-CASSERT(PLATFORM_STACK_SIZE >= U(0xA00), assert_the_opening_fits_the_boot_core_stack);
 
 const plat_psci_ops_t *psci_plat_pm_ops;
 unsigned int psci_caps;
@@ -88,6 +84,16 @@ static void __init enter_boot_core(unsigned int core)
     tell_running(core);
 }
 
+/* The opening takes 2,288 bytes with the frames of TF-A that it stands on. */
+static void __init open_on_a_stack(void)
+{
+#if PLATFORM_STACK_SIZE < 0xA00
+    on_opening_stack(firmware_open);
+#else
+    firmware_open();
+#endif
+}
+
 int __init psci_setup(const psci_lib_args_t *arguments)
 {
     psci_arch_setup();
@@ -95,7 +101,7 @@ int __init psci_setup(const psci_lib_args_t *arguments)
     describe();
     for (unsigned int core = 0U; core < psci_plat_core_count; core++)
         cm_set_context_by_index(core, &contexts[core], NON_SECURE);
-    firmware_open();
+    open_on_a_stack();
     NOTICE("PSCI: the proved firmware, %u cores, %u bytes of heap\n", psci_plat_core_count,
            (unsigned int)pool_taken());
     record_board(&board);
