@@ -105,7 +105,7 @@ extern spinlock_t start_locks[PLATFORM_CORE_COUNT];
 /* gumdarts_lock.S: takes the lock if nobody has it. */
 bool lock_if_free(spinlock_t *lock);
 
-/* gumdarts_stack.S: calls a function on a larger stack. */
+/* gumdarts_stack.S: calls a function on a larger stack, where a core's own is small. */
 void on_opening_stack(void (*function)(void));
 
 #endif

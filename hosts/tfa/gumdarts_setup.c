@@ -66,7 +66,7 @@ static unsigned int __init capabilities(const plat_psci_ops_t *hooks)
            present(ENABLE_PSCI_STAT != 0, PSCI_STAT_COUNT_AARCH64);
 }
 
-/* The board's boot core is the first one, and the stacks above its own are the others'. */
+/* The board's boot core is the first one. */
 static void __init check_boot_core(unsigned int core)
 {
     if (core == 0U)
@@ -84,6 +84,16 @@ static void __init enter_boot_core(unsigned int core)
     tell_running(core);
 }
 
+/* The opening takes 2,288 bytes with the frames of TF-A that it stands on. */
+static void __init open_on_a_stack(void)
+{
+#if PLATFORM_STACK_SIZE < 0xA00
+    on_opening_stack(firmware_open);
+#else
+    firmware_open();
+#endif
+}
+
 int __init psci_setup(const psci_lib_args_t *arguments)
 {
     psci_arch_setup();
@@ -91,7 +101,7 @@ int __init psci_setup(const psci_lib_args_t *arguments)
     describe();
     for (unsigned int core = 0U; core < psci_plat_core_count; core++)
         cm_set_context_by_index(core, &contexts[core], NON_SECURE);
-    on_opening_stack(firmware_open);
+    open_on_a_stack();
     NOTICE("PSCI: the proved firmware, %u cores, %u bytes of heap\n", psci_plat_core_count,
            (unsigned int)pool_taken());
     record_board(&board);

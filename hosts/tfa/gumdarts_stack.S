@@ -1,13 +1,15 @@
-/* Opening the firmware takes more of the stack than a core has here, and is done once, before any other
- * core runs. So it is done on the other cores' stacks, which lie side by side, and none of whose bytes
- * stays in this core's caches: the others enter with theirs off. Where these are too small together, or
- * hold code until BL31 has come up, it gets memory of its own, which nobody uses later. */
+/* Where a core has a small stack, opening the firmware takes more than that. It is done once, before any
+ * other core runs: so it is done on the other cores' stacks, which lie side by side, and none of whose
+ * bytes stays in this core's caches: the others enter with theirs off. Where these are too small
+ * together, or hold code until BL31 has come up, it gets memory of its own, which nobody uses later. */
 #include <asm_macros.S>
 #include <platform_def.h>
 
+#if PLATFORM_STACK_SIZE < 0xA00
+
 	.globl	on_opening_stack
 
-#define OPENING_SIZE 0x1800
+#define OPENING_SIZE 0xA00
 
 	.if RECLAIM_INIT_CODE || (PLATFORM_CORE_COUNT - 1) * PLATFORM_STACK_SIZE < OPENING_SIZE
 	.section .bss.opening_stack, "aw", %nobits
@@ -34,3 +36,5 @@ func on_opening_stack
 	ldp	x29, x30, [sp], #16
 	ret
 endfunc on_opening_stack
+
+#endif

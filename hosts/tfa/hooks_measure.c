@@ -222,8 +222,7 @@ static void tell_opening(void)
 {
     char line[80];
 
-    (void)snprintf(line, sizeof(line), "stack: the opening used %lu bytes of the other cores'\n",
-                   (unsigned long)opened);
+    (void)snprintf(line, sizeof(line), "stack: core 0 used %lu bytes as BL31 came up\n", (unsigned long)opened);
     tell(line);
 }
 
@@ -286,13 +285,13 @@ u_register_t __wrap_psci_smc_handler(uint32_t function, u_register_t x1, u_regis
     return answer;
 }
 
-/* As BL31 comes up, on core 0: what is above this frame is in use. */
+/* As BL31 comes up, on core 0, once the firmware is open: what is above this frame is in use. */
 void hooks_measure(void)
 {
     uintptr_t here = (uintptr_t)__builtin_frame_address(0) - 512U;
     size_t size = (size_t)(__STACKS_END__ - __STACKS_START__) / PLATFORM_CORE_COUNT;
 
-    opened = used(__STACKS_START__ + size, __STACKS_END__);
+    opened = used(__STACKS_START__, __STACKS_START__ + size);
     for (unsigned int core = 0U; core < PLATFORM_CORE_COUNT; core++) {
         uintptr_t at = (uintptr_t)__STACKS_START__ + core * size;
 
