@@ -84,7 +84,7 @@ static void __init enter_boot_core(unsigned int core)
     tell_running(core);
 }
 
-/* The opening takes 2,288 bytes with the frames of TF-A that it stands on. */
+/* The opening takes 2,224 bytes with the frames of TF-A that it stands on. */
 static void __init open_on_a_stack(void)
 {
 #if PLATFORM_STACK_SIZE < 0xA00
