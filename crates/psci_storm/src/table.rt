@@ -24,8 +24,8 @@ pub const TALLIES: [Tally; 97] = tallies! {
     Call(Version) => Return(65537), Stop, Ignored, Absent;
     Call(CpuSuspend) => Return(0), Return(-2), Return(-3), Return(-9), Stop, Ignored, Absent;
     Call(CpuOff) => Stop, Ignored, Absent;
-    Call(CpuOn) => Return(0), Return(-2), Return(-4), Return(-5), Return(-6), Return(-9), Stop, Ignored,
-        Absent;
+    Call(CpuOn) => Return(0), Return(-2), Return(-4), Return(-5), Return(-6), Return(-9), Stop,
+        Ignored, Absent;
     Call(AffinityInfo) => Return(0), Return(1), Return(2), Return(-2), Stop, Ignored, Absent;
     Call(MigrateInfoType) => Return(2), Stop, Ignored, Absent;
     Call(SystemOff) => Stop, Ignored, Absent;
