@@ -40,7 +40,9 @@ pub fn decode(bytes: &[u8], board: &Board) -> Result<Frame, FrameFault>
 }
 
 /// What kind of frame of this board the bytes are, or their first fault. It takes no room for a
-/// frame: `message_in` and `ack_in` read what the caller wants of it.
+/// frame: `message_in` and `ack_in` read what the caller wants of it. Compiled into its callers, so
+/// that a kind is never written to memory.
+#[inline(always)]
 pub fn heading_on(bytes: &[u8], board: &Board) -> Result<Heading, FrameFault>
     ensures heading { IfOk result (HasHeading bytes.now) }
     ensures held { IfOk result (λ heading. IsHeldIn heading bytes.now) }
