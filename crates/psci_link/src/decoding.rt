@@ -87,10 +87,21 @@ fn check(board: &Board, heading: Heading, bytes: &[u8]) -> Result<(), FrameFault
     if used == 0 {
         return Ok(());
     }
+    check_used(board, used, bytes)
+}
+
+/// The first fault of these parts of a frame on this board, if they have one. They have a frame of
+/// their own, so that none is held for a frame without parts.
+#[inline(never)]
+fn check_used(board: &Board, used: u8, bytes: &[u8]) -> Result<(), FrameFault>
+    requires whole { length bytes.now ≡ 53 }
+    requires few { used ≤ 4 }
+    ensures { let found = fault_of_parts board.now (parts_in used (part_fields_in bytes.now)) in
+        MatchResult result (λ _. found ≡ None) (λ fault. found ≡ Some fault) }
+{
     let (_, places) = bytes.split_at(HEADER_LEN);
     let parts = parts_in(used, places);
-    check_parts(board, parts.as_slice())?;
-    Ok(())
+    check_parts(board, parts.as_slice())
 }
 
 /// How many places of parts a frame of this kind uses, if its count, the bytes that are not used
