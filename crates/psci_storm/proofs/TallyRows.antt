@@ -126,7 +126,8 @@ pub absent : answer_of sayings.Absent ≡ answers.Absent
 absent = refl
 
 -- tallies differ in what was asked, and in what was answered
-pub same : is_tally (record { asked = asked.Call functions.CpuOn; answer = answers.Return (negsuc 1) })
+pub same : is_tally
+    (record { asked = asked.Call functions.CpuOn; answer = answers.Return (negsuc 1) })
     (record { asked = asked.Call functions.CpuOn; answer = answers.Return (negsuc 1) }) ≡ true
 same = refl
 
