@@ -52,7 +52,8 @@ features = refl
 pub node_hw_state : asked_of (events.Call 0 (call 0x8400000d)) ≡ asked.Call functions.NodeHwState
 node_hw_state = refl
 
-pub wide_node_hw_state : asked_of (events.Call 0 (call 0xc400000d)) ≡ asked.Call functions.NodeHwState
+pub wide_node_hw_state : asked_of (events.Call 0 (call 0xc400000d))
+    ≡ asked.Call functions.NodeHwState
 wide_node_hw_state = refl
 
 pub system_suspend : asked_of (events.Call 0 (call 0xc400000e)) ≡ asked.Call functions.SystemSuspend
@@ -64,7 +65,8 @@ set_suspend_mode = refl
 pub system_reset2 : asked_of (events.Call 0 (call 0x84000012)) ≡ asked.Call functions.SystemReset2
 system_reset2 = refl
 
-pub wide_system_reset2 : asked_of (events.Call 0 (call 0xc4000012)) ≡ asked.Call functions.SystemReset2
+pub wide_system_reset2 : asked_of (events.Call 0 (call 0xc4000012))
+    ≡ asked.Call functions.SystemReset2
 wide_system_reset2 = refl
 
 -- CPU_OFF has no word in the SMC64 convention
@@ -131,7 +133,8 @@ pub same : is_tally
     (record { asked = asked.Call functions.CpuOn; answer = answers.Return (negsuc 1) }) ≡ true
 same = refl
 
-pub asked_otherwise : is_tally (record { asked = asked.Call functions.CpuOn; answer = answers.Stop })
+pub asked_otherwise : is_tally
+    (record { asked = asked.Call functions.CpuOn; answer = answers.Stop })
     (record { asked = asked.Call functions.CpuOff; answer = answers.Stop }) ≡ false
 asked_otherwise = refl
 
