@@ -37,7 +37,8 @@ cpu_on_64 = refl
 pub affinity_info : asked_of (events.Call 0 (call 0xc4000004)) ≡ asked.Call functions.AffinityInfo
 affinity_info = refl
 
-pub migrate_info_type : asked_of (events.Call 0 (call 0x84000006)) ≡ asked.Call functions.MigrateInfoType
+pub migrate_info_type : asked_of (events.Call 0 (call 0x84000006))
+    ≡ asked.Call functions.MigrateInfoType
 migrate_info_type = refl
 
 pub system_off : asked_of (events.Call 0 (call 0x84000008)) ≡ asked.Call functions.SystemOff
@@ -59,7 +60,8 @@ wide_node_hw_state = refl
 pub system_suspend : asked_of (events.Call 0 (call 0xc400000e)) ≡ asked.Call functions.SystemSuspend
 system_suspend = refl
 
-pub set_suspend_mode : asked_of (events.Call 0 (call 0x8400000f)) ≡ asked.Call functions.SetSuspendMode
+pub set_suspend_mode : asked_of (events.Call 0 (call 0x8400000f))
+    ≡ asked.Call functions.SetSuspendMode
 set_suspend_mode = refl
 
 pub system_reset2 : asked_of (events.Call 0 (call 0x84000012)) ≡ asked.Call functions.SystemReset2
