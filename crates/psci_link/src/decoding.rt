@@ -8,7 +8,6 @@ ghost use Rattle.psci_link.specs.declared.heading.Heading.TheVariants as heading
 ghost use Rattle.psci_messages.specs.Message.{is_climbing, is_falling};
 ghost use Rattle.psci_link.specs.Heading.{parts_of, HasHeading};
 ghost use Rattle.psci_board.specs.Board.{BoardValue};
-ghost use Rattle.std.specs.List.{list_all};
 ghost use Rattle.std.specs.Prelude.{◌==◌, ◌&&◌};
 ghost use Rattle.psci_link.specs.Frame.{frame_bytes, IsFrame, IsOf, is_within, part_in, parts_in};
 ghost use Rattle.psci_link.specs.Frame.{word_at};
@@ -21,6 +20,7 @@ use crate::frame::{
     CORE_AT, COUNT_AT, FRAME_LEN, Frame, HEADER_LEN, KIND_AT, LIFE_AT, NUMBER_AT, PART_LEN,
 };
 use crate::heading::Heading;
+use crate::zero::is_zero;
 use psci_board::{Board, Core};
 use psci_messages::{Ack, Kind, Message};
 use psci_parts::{Part, Parts};
@@ -212,25 +212,6 @@ fn core_in(bytes: &[u8]) -> Core
     Core {
         number: u16::from(bytes[CORE_AT]),
     }
-}
-
-/// Whether each byte is zero. They are looked at as words of eight bytes, as far as they go.
-fn is_zero(bytes: &[u8]) -> bool
-    ensures { result ≡ list_all (λ byte. byte == 0) bytes.now }
-{
-    match bytes {
-        [a, b, c, d, e, f, g, h, rest @ ..] => {
-            u64::from_be_bytes([*a, *b, *c, *d, *e, *f, *g, *h]) == 0 && is_zero(rest)
-        }
-        _ => is_each_zero(bytes),
-    }
-}
-
-/// The same, byte by byte.
-fn is_each_zero(bytes: &[u8]) -> bool
-    ensures { result ≡ list_all (λ byte. byte == 0) bytes.now }
-{
-    bytes.iter().all(|&byte| byte == 0)
 }
 
 /// The part whose place these bytes begin with.
