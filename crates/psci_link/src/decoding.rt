@@ -7,7 +7,6 @@ ghost use Rattle.psci_link.specs.declared.frame.Frame.TheVariants as frames;
 ghost use Rattle.psci_link.specs.declared.heading.Heading.TheVariants as headings;
 ghost use Rattle.psci_link.specs.Heading.{parts_of, HasHeading};
 ghost use Rattle.psci_board.specs.Board.{BoardValue};
-ghost use Rattle.std.specs.List.{list_all};
 ghost use Rattle.std.specs.Prelude.{◌==◌, ◌&&◌};
 ghost use Rattle.psci_link.specs.Frame.{frame_bytes, IsFrame, IsOf, parts_in};
 ghost use Rattle.psci_link.specs.Frame.{word_at};
@@ -21,6 +20,7 @@ use crate::frame::{
 };
 use crate::heading::Heading;
 use crate::parts::{check_parts, parts_in};
+use crate::zero::is_zero;
 use psci_board::{Board, Core};
 use psci_messages::{Ack, Kind, Message};
 use psci_parts::Parts;
@@ -197,25 +197,6 @@ fn core_in(bytes: &[u8]) -> Core
     Core {
         number: u16::from(bytes[CORE_AT]),
     }
-}
-
-/// Whether each byte is zero. They are looked at as words of eight bytes, as far as they go.
-fn is_zero(bytes: &[u8]) -> bool
-    ensures { result ≡ list_all (λ byte. byte == 0) bytes.now }
-{
-    match bytes {
-        [a, b, c, d, e, f, g, h, rest @ ..] => {
-            u64::from_be_bytes([*a, *b, *c, *d, *e, *f, *g, *h]) == 0 && is_zero(rest)
-        }
-        _ => is_each_zero(bytes),
-    }
-}
-
-/// The same, byte by byte.
-fn is_each_zero(bytes: &[u8]) -> bool
-    ensures { result ≡ list_all (λ byte. byte == 0) bytes.now }
-{
-    bytes.iter().all(|&byte| byte == 0)
 }
 
 /// The number of four bytes that begins at this one.
