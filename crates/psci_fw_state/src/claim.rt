@@ -93,8 +93,8 @@ impl State {
         path_refusal(&self.tree, &self.board, core, ask)
     }
 
-    /// What a core asks that goes off in OS-initiated mode. It has a frame of its own, which no call
-    /// in the other mode holds.
+    /// What a core asks that goes off in OS-initiated mode. It has a frame of its own, which no
+    /// call in the other mode holds.
     #[inline(never)]
     #[tactic(auto, unfolding(crate::specs::Seen::values_in))]
     fn off_ask(&self, core: Core) -> Ask
