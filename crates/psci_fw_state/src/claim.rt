@@ -32,8 +32,8 @@ use psci_state::Ask;
 use psci_tree::{Tree, law_confirmed, law_cores, law_granted};
 
 impl State {
-    /// What a core that is off or going off wants of its domains. Compiled into its callers, so that
-    /// a wish has no room of its own where the firmware coordinates.
+    /// What a core that is off or going off wants of its domains. Compiled into its callers, so
+    /// that a wish has no room of its own where the firmware coordinates.
     #[inline(always)]
     pub fn leaving_wish(&self, core: Core) -> Wish
         requires inside { core.number < cores self.now.board }
