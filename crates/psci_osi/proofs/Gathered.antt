@@ -1,8 +1,7 @@
 -- Shallow domains are gathered child by child, and level by level.
-use Rattle.std.proofs.Common.{◌≡◌, ℕ, ◌+◌, ◌-◌, ◌<◌, ◌≤◌, List, [], ◌∷◌, ◌++◌, refl, ap, sym, ◌∙◌}
+use Rattle.std.proofs.Common.{◌≡◌, ℕ, ◌+◌, ◌-◌, ◌<◌, List, [], ◌∷◌, ◌++◌, refl, ap, sym, ◌∙◌}
 use Rattle.std.proofs.Common.{arith, map, Some, zero, suc, append-nil}
-use Rattle.std.specs.Prelude.{Option, flat_map, slice_index, slice_index_or}
-use Rattle.std.proofs.lemmas.Option.{get_or_from_slice_get}
+use Rattle.std.specs.Prelude.{Option, flat_map, slice_index}
 use Rattle.std.specs.List.{range_with_len}
 use Rattle.std.proofs.lemmas.Bool.{lt-ltb}
 use Rattle.std.proofs.lemmas.List.FromFn.{map-range_with_len_more}
@@ -10,8 +9,8 @@ use Rattle.std.proofs.lemmas.List.Elements.{filter-append}
 use Rattle.std.proofs.lemmas.Grind.{flat_map-append}
 use Rattle.std.proofs.lemmas.List.Concat.{flat_map-cons}
 use Rattle.psci_board.specs.declared.node.Node.{Node}
-use Rattle.psci_board.specs.Board.{BoardValue, up, child, children, first_child, height, path}
-use Rattle.psci_board.specs.Laws.{PathLaws}
+use Rattle.psci_board.specs.Board.{BoardValue, up, child, children, first_child}
+use Rattle.psci_tree.specs.Standing.{on_path}
 use Rattle.psci_claims.specs.declared.osi.Osi.{Osi}
 use Rattle.psci_claims.specs.View.{PowerView, domain_of}
 use Rattle.psci_claims.specs.Claim.{own_wish}
@@ -97,12 +96,11 @@ level-refusal-more b v core ask level fault so =
     ∙ sym (refusal-append b v (shallow_to b v core ask level) here)
     ∙ ap (refusal b v) (sym all)
 
--- the node of a level on a core's path
-pub path-at : (b : BoardValue) (core level : ℕ) (nodes : List Node) (n : Node) → PathLaws b
-    → nodes ≡ path b core → level ≤ height b → slice_index_or nodes level n ≡ domain_of b core level
-path-at b core level nodes n laws e h =
-    ap (λ ns. slice_index_or ns level n) e
-    ∙ get_or_from_slice_get (path b core) level (domain_of b core level) n (laws.node core level h)
+-- the node of a level on a core's path, as the tree says it
+pub tree-at : (b : BoardValue) (ws : List (List ℕ)) (core level : ℕ) (n : Node)
+    → n ≡ on_path ws core level → ws ≡ b.levels → n ≡ domain_of b core level
+unfolding up
+tree-at b ws core level n e same = e ∙ ap (λ vs. on_path vs core level) same
 
 -- one level more, by the nodes of a path
 pub path-refusal-more : (b : BoardValue) (v : PowerView) (core : ℕ) (ask : List ℕ) (level : ℕ)

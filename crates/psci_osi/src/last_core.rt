@@ -8,7 +8,7 @@ ghost use Rattle.psci_claims.specs.LastCore.{refusal, shallow};
 ghost use Rattle.psci_claims.specs.Looked.{view_of};
 ghost use Rattle.psci_osi.specs.Worse.{worse};
 
-use psci_board::{Board, Core, Node, law_children, law_paths};
+use psci_board::{Board, Core, Node, law_children};
 use psci_claims::{Osi, Parts};
 use psci_coord::own_parts;
 use psci_state::Ask;
@@ -34,12 +34,10 @@ pub fn path_refusal(tree: &Tree, board: &Board, core: Core, ask: Ask) -> Option<
     ensures { result ≡ refusal board.now (view_of tree.now)
         (shallow board.now (view_of tree.now) core.number ask) }
 {
-    law_paths();
-    let path = board.path(core);
     let mut fault = None;
     for level in 0..board.height() {
-        let own = path[level as usize];
-        let above = path[level as usize + 1];
+        let own = tree.on_path(core, level);
+        let above = tree.on_path(core, level + 1);
         let here = level_refusal(tree, board, above, own.place, ask.depth(level + 1));
         fault = worse(fault, here);
     }

@@ -3,7 +3,7 @@ use Rattle.std.proofs.Common.{◌≡◌, ◌∙◌, ◌+◌, ℕ, ap, refl, arit
 use Rattle.psci_board.specs.Board.{height}
 use Rattle.psci_claims.specs.Looked.{view_of}
 use Rattle.psci_claims.specs.LastCore.{refusal, shallow}
-use Rattle.psci_osi.proofs.Gathered.{shallow_to, path-at, path-refusal-more}
+use Rattle.psci_osi.proofs.Gathered.{shallow_to, path-refusal-more, tree-at}
 use Rattle.psci_osi.proofs.last_core.path_refusal.Goals as goal
 
 pub loop-level-init : goal.loop-level-init
@@ -12,18 +12,16 @@ loop-level-init c = refl
 
 pub loop-level-preserved : goal.loop-level-preserved
 loop-level-preserved c =
+    let b = c.args.board.now in
+    let ws = c.args.tree.now.levels in
     let core : ℕ = c.args.core.number in
     let level : ℕ = c.loop-level.level in
-    let laws = c.law_paths.ensures c.args.board.now c.height-level-end.ensures.board in
     c.worse-fault.ensures
-    ∙ path-refusal-more c.args.board.now (view_of c.args.tree.now) core c.args.ask level
-    c.loop-level.fault c.level_refusal-here.result _ _ c.depth.result
-    (path-at c.args.board.now core level c.deref.result.now (record { level = 0; place = 0 }) laws
-    (c.deref.ensures.0 ∙ c.path-path.ensures)
-    (omega (arith, c.loop-level-test.true, c.height-level-end.ensures.height)))
-    (path-at c.args.board.now core (level + 1) c.deref-in-loop-level.result.now
-    (record { level = 0; place = 0 }) laws (c.deref-in-loop-level.ensures.0 ∙ c.path-path.ensures)
-    (omega (arith, c.loop-level-test.true, c.height-level-end.ensures.height)))
+    ∙ path-refusal-more b (view_of c.args.tree.now) core c.args.ask level c.loop-level.fault
+    c.level_refusal-here.result _ _ c.depth.result
+    (tree-at b ws core level c.on_path-own.result c.on_path-own.ensures c.requires.board)
+    (tree-at b ws core (level + 1) c.on_path-above.result c.on_path-above.ensures
+    c.requires.board)
     c.depth.ensures.value c.level_refusal-here.ensures c.loop-level.invariant
 
 pub returns : goal.returns
