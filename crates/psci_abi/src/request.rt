@@ -140,8 +140,8 @@ impl Request {
     }
 }
 
-/// The function that the registers call. Every value of every register has one answer. Compiled into
-/// its callers, so that a request is never written to memory.
+/// The function that the registers call. Every value of every register has one answer. Compiled
+/// into its callers, so that a request is never written to memory.
 #[inline(always)]
 pub fn read(regs: Regs) -> Request
     ensures { result ≡ request_of regs }

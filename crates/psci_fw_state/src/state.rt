@@ -104,7 +104,10 @@ impl State {
             counts,
             slots,
         };
-        Box::new(alloc, state).map_err(|_| Memory)
+        match Box::new(alloc, state) {
+            Ok(state) => Ok(state),
+            Err(_) => Err(Memory),
+        }
     }
 
     /// The board whose firmware it is of.

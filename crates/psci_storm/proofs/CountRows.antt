@@ -27,7 +27,8 @@ cpu_on_text = refl
 pub affinity_info_text : asked_text (asked.Call functions.AffinityInfo) ≡ codes "affinity_info"
 affinity_info_text = refl
 
-pub migrate_info_type_text : asked_text (asked.Call functions.MigrateInfoType) ≡ codes "migrate_info_type"
+pub migrate_info_type_text : asked_text (asked.Call functions.MigrateInfoType)
+    ≡ codes "migrate_info_type"
 migrate_info_type_text = refl
 
 pub system_off_text : asked_text (asked.Call functions.SystemOff) ≡ codes "system_off"
@@ -45,7 +46,8 @@ node_hw_state_text = refl
 pub system_suspend_text : asked_text (asked.Call functions.SystemSuspend) ≡ codes "system_suspend"
 system_suspend_text = refl
 
-pub set_suspend_mode_text : asked_text (asked.Call functions.SetSuspendMode) ≡ codes "set_suspend_mode"
+pub set_suspend_mode_text : asked_text (asked.Call functions.SetSuspendMode)
+    ≡ codes "set_suspend_mode"
 set_suspend_mode_text = refl
 
 pub system_reset2_text : asked_text (asked.Call functions.SystemReset2) ≡ codes "system_reset2"

@@ -37,7 +37,8 @@ cpu_on_64 = refl
 pub affinity_info : asked_of (events.Call 0 (call 0xc4000004)) ≡ asked.Call functions.AffinityInfo
 affinity_info = refl
 
-pub migrate_info_type : asked_of (events.Call 0 (call 0x84000006)) ≡ asked.Call functions.MigrateInfoType
+pub migrate_info_type : asked_of (events.Call 0 (call 0x84000006))
+    ≡ asked.Call functions.MigrateInfoType
 migrate_info_type = refl
 
 pub system_off : asked_of (events.Call 0 (call 0x84000008)) ≡ asked.Call functions.SystemOff
@@ -52,19 +53,22 @@ features = refl
 pub node_hw_state : asked_of (events.Call 0 (call 0x8400000d)) ≡ asked.Call functions.NodeHwState
 node_hw_state = refl
 
-pub wide_node_hw_state : asked_of (events.Call 0 (call 0xc400000d)) ≡ asked.Call functions.NodeHwState
+pub wide_node_hw_state : asked_of (events.Call 0 (call 0xc400000d))
+    ≡ asked.Call functions.NodeHwState
 wide_node_hw_state = refl
 
 pub system_suspend : asked_of (events.Call 0 (call 0xc400000e)) ≡ asked.Call functions.SystemSuspend
 system_suspend = refl
 
-pub set_suspend_mode : asked_of (events.Call 0 (call 0x8400000f)) ≡ asked.Call functions.SetSuspendMode
+pub set_suspend_mode : asked_of (events.Call 0 (call 0x8400000f))
+    ≡ asked.Call functions.SetSuspendMode
 set_suspend_mode = refl
 
 pub system_reset2 : asked_of (events.Call 0 (call 0x84000012)) ≡ asked.Call functions.SystemReset2
 system_reset2 = refl
 
-pub wide_system_reset2 : asked_of (events.Call 0 (call 0xc4000012)) ≡ asked.Call functions.SystemReset2
+pub wide_system_reset2 : asked_of (events.Call 0 (call 0xc4000012))
+    ≡ asked.Call functions.SystemReset2
 wide_system_reset2 = refl
 
 -- CPU_OFF has no word in the SMC64 convention
@@ -131,7 +135,8 @@ pub same : is_tally
     (record { asked = asked.Call functions.CpuOn; answer = answers.Return (negsuc 1) }) ≡ true
 same = refl
 
-pub asked_otherwise : is_tally (record { asked = asked.Call functions.CpuOn; answer = answers.Stop })
+pub asked_otherwise : is_tally
+    (record { asked = asked.Call functions.CpuOn; answer = answers.Stop })
     (record { asked = asked.Call functions.CpuOff; answer = answers.Stop }) ≡ false
 asked_otherwise = refl
 

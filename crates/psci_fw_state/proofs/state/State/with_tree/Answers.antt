@@ -1,30 +1,20 @@
-use Rattle.std.proofs.Common.{◌≡◌, ap, length, rules, subst, sym, ◌∙◌, Box, IfOk, Result}
+use Rattle.std.proofs.Common.{◌≡◌, ap, length, sym, ◌∙◌}
 use Rattle.std.proofs.lemmas.List.{with_items_is}
-use Rattle.std.proofs.lemmas.Result.{IfOk-weaker}
-use Rattle.psci_fw_spec.specs.Lives.{start_of_life}
-use Rattle.psci_fw_state.specs.Seen.{values_in}
 use Rattle.psci_fw_state.proofs.Begun.{at_start, none_in, some_below}
 use Rattle.psci_fw_state.proofs.state.State.with_tree.Goals as goal
 
-in_box : {T A E : Type 0} (r : Result (Box T A) E) (x : T) (P : T → Type 0)
-    → IfOk r (λ b. b.value ≡ x) → P x → IfOk r (λ b. P b.value)
-in_box r x P h p = IfOk-weaker r _ _ (λ b e. subst P (sym e) p) h
-
-pub returns-clause-values : goal.returns-clause-values
-returns-clause-values c =
+pub returns-in-Ok-clause-values : goal.returns-in-Ok-clause-values
+returns-in-Ok-clause-values c =
     let board = c.cores.ensures.board in
     let value = c.requires.value in
-    let made : IfOk c.new-2.result (λ b. values_in b.value ≡ start_of_life c.args.board.now 0) =
-    in_box _ _ (λ v. values_in v ≡ start_of_life c.args.board.now 0) c.new-2.ensures.ok
-    (at_start c.args.board.now _ 0 c.args.tree.value _ _
+    rw c.in-Ok.ensures.ok (at_start c.args.board.now _ 0 c.args.tree.value _ _
     c.in_ok-slots.slots board c.requires.tree c.requires.levels
     (λ k. rw value (c.law_start_of_life.ensures.cores c.args.board.now.levels k
     (some_below c.args.board.now.levels board.tree)))
     (λ l p h i. rw value (c.law_start_of_life.ensures.granted c.args.board.now.levels l p h i))
     (λ l p h i. rw value (c.law_start_of_life.ensures.confirmed c.args.board.now.levels l p h i))
     (c.in_ok-rows.ensures {u = tt})
-    (λ slot. rw (c.in_ok-slots.ensures.slots) (none_in _ slot))) in
-    search (made, rules)
+    (λ slot. rw (c.in_ok-slots.ensures.slots) (none_in _ slot)))
 
 pub invariant_of-state : goal.invariant_of-state
 invariant_of-state c =

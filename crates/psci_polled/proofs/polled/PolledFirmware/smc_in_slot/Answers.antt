@@ -21,7 +21,8 @@ write_one-requires-clause-others c core small other some =
     others_stay c.self.inside.firmware f _ _ c.self.inside.cores c.args.core.number (seen f).life
     (calls.Smc c.args.regs) (replies.Out o) c.asked_in-asked.result c.law_values.ensures.more
     c.self.invariant c.in_ok-reaction.ensures.after
-    (life_left (seen c.self.inside.firmware) (seen f) _ c.in_ok-reaction.ensures.after (c.law_caller.ensures.life _ _ _ _ _))
+    (life_left (seen c.self.inside.firmware) (seen f) _ c.in_ok-reaction.ensures.after
+    (c.law_caller.ensures.life _ _ _ _ _))
     (λ k not. names_smc c.self.inside.firmware.board c.args.core.number k c.args.regs o
     (subst (λ (found : Option Core). is_named found k ≡ false) c.asked_in-asked.ensures not))
     core small other refl some
@@ -34,5 +35,6 @@ invariant_of-self-2 c =
     (replies.Out (outcome_in f.board (seen f) c.in_ok-reaction.reaction))
     c.law_values.ensures.more c.self.invariant c.in_ok-reaction.ensures.answer
     c.in_ok-reaction.ensures.after c.in_ok-reaction.ensures.board c.write_one.ensures.table
-    (life_left (seen c.self.inside.firmware) (seen f) _ c.in_ok-reaction.ensures.after (c.law_caller.ensures.life _ _ _ _ _))
+    (life_left (seen c.self.inside.firmware) (seen f) _ c.in_ok-reaction.ensures.after
+    (c.law_caller.ensures.life _ _ _ _ _))
     c.write_one.ensures.log

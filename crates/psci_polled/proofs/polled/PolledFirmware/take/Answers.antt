@@ -15,7 +15,8 @@ write_one-requires-clause-others c core small other some =
     others_stay c.self.inside.firmware f _ _ c.self.inside.cores 0 (seen f).life
     (calls.Take c.args.ack) (replies.Taken c.take-taken.result) (Some c.ack.inside.core)
     c.law_values.ensures.more c.self.invariant (c.take-taken.ensures.after 0)
-    (life_left (seen c.self.inside.firmware) (seen f) _ (c.take-taken.ensures.after 0) (life_taken _ 0 c.args.ack c.take-taken.result _))
+    (life_left (seen c.self.inside.firmware) (seen f) _ (c.take-taken.ensures.after 0)
+    (life_taken _ 0 c.args.ack c.take-taken.result _))
     (λ k not. names_take c.self.inside.firmware.board 0 k c.args.ack c.take-taken.result
     (subst (λ (a : AckValue). (k == a.core.number) ≡ false) c.ack.view_is not))
     core small other refl some
@@ -36,5 +37,6 @@ invariant_of-self c =
     (calls.Take c.args.ack) (replies.Taken c.take-taken.result)
     c.law_values.ensures.more c.self.invariant (c.take-taken.ensures.answer 0)
     (c.take-taken.ensures.after 0) c.take-taken.ensures.board c.write_one.ensures.table
-    (life_left (seen c.self.inside.firmware) (seen f) _ (c.take-taken.ensures.after 0) (life_taken _ 0 c.args.ack c.take-taken.result _))
+    (life_left (seen c.self.inside.firmware) (seen f) _ (c.take-taken.ensures.after 0)
+    (life_taken _ 0 c.args.ack c.take-taken.result _))
     c.write_one.ensures.log

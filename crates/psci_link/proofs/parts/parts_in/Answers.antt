@@ -2,7 +2,7 @@
 use Rattle.std.proofs.Common.{arith, add-one, sym, ◌∙◌, ◌*◌, length, ap}
 use Rattle.std.proofs.lemmas.Slice.{between_to_end}
 use Rattle.psci_link.proofs.Places.{length-parts_in, parts_in-more}
-use Rattle.psci_link.proofs.decoding.parts_in.Goals as goal
+use Rattle.psci_link.proofs.parts.parts_in.Goals as goal
 
 pub push-requires : goal.push-requires
 push-requires c =
