@@ -43,10 +43,9 @@ fn highest_off(tree: &Tree, board: &Board, core: Core) -> u32
     ensures inside { (result ≤ height board.now) × (height board.now ≤ 3) }
 {
     law_paths();
-    let path = board.path(core);
     let mut highest = 0;
     for level in 1..board.height() + 1 {
-        if !is_off(tree, board, path[level as usize]) {
+        if !is_off(tree, board, tree.on_path(core, level)) {
             break;
         }
         highest = level;
