@@ -1,10 +1,12 @@
 //! The calls of the cores in the words of a machine, and its names for cores and domains.
 
-ghost use Rattle.std.specs.Prelude.{◌≡◌, Some, option_map};
+ghost use Rattle.std.specs.Prelude.{◌≡◌, IfSome, Some, option_map};
+ghost use Rattle.psci_fw_spec.specs.declared.mode.SuspendMode.{SuspendMode};
 ghost use Rattle.psci_fw.specs.Seen.{seen};
 ghost use Rattle.psci_ffi.specs.MachineCalls.{asked_in, asked_shown, called_in, core_read};
 ghost use Rattle.psci_ffi.specs.MachineCalls.{mpidr_read, place_read, regs_given};
 ghost use Rattle.psci_ffi.specs.MachineCalls.{regs_in, told_in};
+ghost use Rattle.psci_platform.specs.declared.asked.Asked.TheVariants.{Nothing};
 ghost use Rattle.psci_ffi.specs.Shown.{IsAfter, IsSameRefused, answered};
 
 use crate::answer::{Answer, refused};
@@ -14,7 +16,7 @@ use crate::machine_place::MachinePlace;
 use crate::place::Place;
 use psci_board::{Core, Node};
 use psci_fw::Regs;
-use psci_platform::{Asked, Call, SuspendMode};
+use psci_platform::{Asked, Call, SuspendMode, is_same_everywhere};
 use std::alloc::Global;
 use std::mem::size_of;
 
@@ -63,6 +65,42 @@ pub extern "C" fn psci_smc_machine(
         (regs_given x0 x1 x2 x3) }
     ensures machine { machine.new.slot.kept ≡ machine.old.slot.kept }
 {
+    *asked = asked_shown(Asked::Nothing);
+    match at_once(alloc, machine, Regs { x0, x1, x2, x3 }) {
+        Some(Regs { x0, x1, x2, x3 }) => psci_smc(alloc, place, core, x0, x1, x2, x3, answer),
+        None => smc_in_mode(
+            alloc, place, machine, core, x0, x1, x2, x3, answer, asked,
+        ),
+    }
+}
+
+/// The same of any call, by the mode that the firmware is in. It has a frame of its own.
+#[inline(never)]
+fn smc_in_mode(
+    alloc: Global,
+    place: &mut Place,
+    machine: &mut MachinePlace,
+    core: u16,
+    x0: u64,
+    x1: u64,
+    x2: u64,
+    x3: u64,
+    answer: &mut Answer,
+    asked: &mut MachineAsked,
+)
+    ensures answer { let call = called_in machine.old.slot.kept place.old.slot.kept
+        (regs_given x0 x1 x2 x3) in
+        answer.new ≡ answered place.old.slot.kept core (Some call) }
+    ensures after { let call = called_in machine.old.slot.kept place.old.slot.kept
+        (regs_given x0 x1 x2 x3) in
+        IsAfter place.old.slot.kept core (Some call) place.new.slot.kept }
+    ensures refused { let call = called_in machine.old.slot.kept place.old.slot.kept
+        (regs_given x0 x1 x2 x3) in
+        IsSameRefused place.old.slot.kept core (Some call) place.new.slot.kept }
+    ensures asked { asked.new ≡ told_in machine.old.slot.kept place.old.slot.kept
+        (regs_given x0 x1 x2 x3) }
+    ensures machine { machine.new.slot.kept ≡ machine.old.slot.kept }
+{
     let Some(mode) = mode_in(alloc, place) else {
         *answer = refused(NO_FIRMWARE);
         *asked = asked_shown(Asked::Nothing);
@@ -72,6 +110,27 @@ pub extern "C" fn psci_smc_machine(
     *asked = asked_shown(call.asked);
     let Regs { x0, x1, x2, x3 } = call.regs;
     psci_smc(alloc, place, core, x0, x1, x2, x3, answer);
+}
+
+/// The registers of the firmware's call, if they can be said at once, are the same in each mode, and
+/// nothing is asked beside.
+#[inline(always)]
+fn at_once(alloc: Global, place: &mut MachinePlace, regs: Regs) -> Option<Regs>
+    ensures regs { IfSome result (λ r. (mode : SuspendMode)
+        → r ≡ regs_in place.old.slot.kept mode regs) }
+    ensures asked { IfSome result (λ _. (mode : SuspendMode)
+        → asked_in place.old.slot.kept mode regs ≡ Nothing) }
+    ensures same { place.new.slot.kept ≡ place.old.slot.kept }
+{
+    if is_same_everywhere(&regs) {
+        return Some(regs);
+    }
+    let Some(machine) = place.take(alloc) else {
+        return Some(regs);
+    };
+    let found = machine.at_once(regs);
+    place.put(machine);
+    found
 }
 
 /// The mode that the firmware in a place is in.

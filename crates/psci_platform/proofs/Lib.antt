@@ -22,6 +22,7 @@ pub mod OwnCalls
 pub mod OwnCores
 pub mod OwnFaults
 pub mod OwnStates
+pub mod Reading
 pub mod Requests
 mod StateRows
 mod SwapRows
