@@ -3,7 +3,8 @@
 ghost use Rattle.std.specs.Prelude.{◌≡◌, IfSome, Some, option_map};
 ghost use Rattle.psci_fw_spec.specs.declared.mode.SuspendMode.{SuspendMode};
 ghost use Rattle.psci_fw.specs.Seen.{seen};
-ghost use Rattle.psci_ffi.specs.MachineCalls.{asked_in, asked_shown, called_in, core_read};
+ghost use Rattle.psci_ffi.specs.MachineCalls.{IsCalledIn, asked_in, asked_shown, called_in};
+ghost use Rattle.psci_ffi.specs.MachineCalls.{core_read};
 ghost use Rattle.psci_ffi.specs.MachineCalls.{mpidr_read, place_read, regs_given};
 ghost use Rattle.psci_ffi.specs.MachineCalls.{regs_in, told_in};
 ghost use Rattle.psci_platform.specs.declared.asked.Asked.TheVariants.{Nothing};
@@ -14,6 +15,7 @@ use crate::calls::psci_smc;
 use crate::codes::NO_FIRMWARE;
 use crate::machine_place::MachinePlace;
 use crate::place::Place;
+use psci_abi::words::CPU_SUSPEND_32;
 use psci_board::{Core, Node};
 use psci_fw::Regs;
 use psci_platform::{Asked, Call, SuspendMode, is_same_everywhere};
@@ -65,16 +67,50 @@ pub extern "C" fn psci_smc_machine(
         (regs_given x0 x1 x2 x3) }
     ensures machine { machine.new.slot.kept ≡ machine.old.slot.kept }
 {
-    *asked = asked_shown(Asked::Nothing);
-    match at_once(alloc, machine, Regs { x0, x1, x2, x3 }) {
-        Some(Regs { x0, x1, x2, x3 }) => psci_smc(alloc, place, core, x0, x1, x2, x3, answer),
-        None => smc_in_mode(
-            alloc, place, machine, core, x0, x1, x2, x3, answer, asked,
-        ),
+    if is_same_everywhere(&Regs { x0, x1, x2, x3 }) {
+        *asked = asked_shown(Asked::Nothing);
+        psci_smc(alloc, place, core, x0, x1, x2, x3, answer);
+    } else if names_state(x0) {
+        smc_in_mode(alloc, place, machine, core, x0, x1, x2, x3, answer, asked);
+    } else {
+        smc_at_once(alloc, place, machine, core, x0, x1, x2, x3, answer, asked);
     }
 }
 
-/// The same of any call, by the mode that the firmware is in. It has a frame of its own.
+/// Whether a function word is that of CPU_SUSPEND, which is read by the firmware's mode.
+fn names_state(x0: u64) -> bool {
+    x0 & 0xbfff_ffff == u64::from(CPU_SUSPEND_32)
+}
+
+/// A call whose registers are the same in each mode, most likely. It has a frame of its own, as one
+/// has in which registers stay where they are.
+#[inline(never)]
+fn smc_at_once(
+    alloc: Global,
+    place: &mut Place,
+    machine: &mut MachinePlace,
+    core: u16,
+    x0: u64,
+    x1: u64,
+    x2: u64,
+    x3: u64,
+    answer: &mut Answer,
+    asked: &mut MachineAsked,
+)
+    ensures called { IsCalledIn machine.old.slot.kept place.old.slot.kept core
+        (regs_given x0 x1 x2 x3) answer.new asked.new place.new.slot.kept }
+    ensures machine { machine.new.slot.kept ≡ machine.old.slot.kept }
+{
+    match at_once(alloc, machine, Regs { x0, x1, x2, x3 }) {
+        Some(Regs { x0, x1, x2, x3 }) => {
+            *asked = asked_shown(Asked::Nothing);
+            psci_smc(alloc, place, core, x0, x1, x2, x3, answer);
+        }
+        None => smc_in_mode(alloc, place, machine, core, x0, x1, x2, x3, answer, asked),
+    }
+}
+
+/// Any call, by the mode that the firmware is in.
 #[inline(never)]
 fn smc_in_mode(
     alloc: Global,
@@ -88,17 +124,8 @@ fn smc_in_mode(
     answer: &mut Answer,
     asked: &mut MachineAsked,
 )
-    ensures answer { let call = called_in machine.old.slot.kept place.old.slot.kept
-        (regs_given x0 x1 x2 x3) in
-        answer.new ≡ answered place.old.slot.kept core (Some call) }
-    ensures after { let call = called_in machine.old.slot.kept place.old.slot.kept
-        (regs_given x0 x1 x2 x3) in
-        IsAfter place.old.slot.kept core (Some call) place.new.slot.kept }
-    ensures refused { let call = called_in machine.old.slot.kept place.old.slot.kept
-        (regs_given x0 x1 x2 x3) in
-        IsSameRefused place.old.slot.kept core (Some call) place.new.slot.kept }
-    ensures asked { asked.new ≡ told_in machine.old.slot.kept place.old.slot.kept
-        (regs_given x0 x1 x2 x3) }
+    ensures called { IsCalledIn machine.old.slot.kept place.old.slot.kept core
+        (regs_given x0 x1 x2 x3) answer.new asked.new place.new.slot.kept }
     ensures machine { machine.new.slot.kept ≡ machine.old.slot.kept }
 {
     let Some(mode) = mode_in(alloc, place) else {

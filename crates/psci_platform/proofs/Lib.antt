@@ -15,6 +15,7 @@ mod FunctionFaultRows
 mod IdentityRows
 pub mod Machines
 pub mod Missing
+mod NameRows
 pub mod Named
 pub mod Naming
 pub mod OwnAsked

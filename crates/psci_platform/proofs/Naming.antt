@@ -1,5 +1,5 @@
 -- What the names of a level say holds of the cores that are searched by them.
-use Rattle.std.proofs.Common.{◌≡◌, ◌∙◌, ◌+◌, ◌*◌, ◌/◌, ◌^◌, ◌==◌, ◌&&◌, ◌<◌, ℕ, Bool, true, false}
+use Rattle.std.proofs.Common.{◌≡◌, ◌∙◌, ◌+◌, ◌*◌, ◌/◌, ◌^◌, ◌==◌, ◌<◌, ℕ, Bool, true, false}
 use Rattle.std.proofs.Common.{All, Contains, List, [], ◌∷◌, ◌++◌, Option, None, Some, ap, length, refl, subst, sym}
 use Rattle.std.proofs.Common.{arith, if◌then◌else◌, replicate, set, slice_index_or, zero, suc}
 use Rattle.std.proofs.lemmas.Bool.{eqb-true}
@@ -10,7 +10,7 @@ use Rattle.std.proofs.lemmas.Option.{get_or_from_slice_get, none-some, same_Some
 use Rattle.std.specs.List.{list_all, position, position_or_len}
 use Rattle.std.specs.Prelude.{IfSome, is_some, nat_le, nat_lt, option_map, slice_get}
 use Rattle.psci_board.specs.Board.{BoardValue, address, cores, height}
-use Rattle.psci_platform.specs.Cores.{core_named, core_word, no_core, number_named, word_if}
+use Rattle.psci_platform.specs.Cores.{core_word, no_core, number_named, word_if}
 use Rattle.psci_platform.specs.Described.{DescriptionValue}
 use Rattle.psci_platform.specs.Names.{AreAmong, AreNames, are_found, HasNames, IsName, name_in, own_name, slot_of}
 use Rattle.psci_platform.specs.Swaps.{swap_for}

@@ -12,6 +12,7 @@
 
 mod argument;
 mod asked;
+mod at_once;
 mod check;
 mod class;
 mod cores;
@@ -19,6 +20,7 @@ mod description;
 mod fault;
 mod firmware;
 mod functions;
+mod kept;
 mod law;
 mod mpidrs;
 mod names;
@@ -34,6 +36,7 @@ mod tables;
 mod translate;
 
 pub use asked::Asked;
+pub use at_once::is_same_everywhere;
 pub use class::Class;
 pub use description::{Classes, Description};
 pub use fault::PlatformFault;
@@ -45,4 +48,4 @@ pub use psci_abi::Regs;
 pub use psci_board::Board;
 pub use psci_fw_spec::SuspendMode;
 pub use row::Row;
-pub use translate::{Call, is_same_everywhere};
+pub use translate::Call;

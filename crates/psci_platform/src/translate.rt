@@ -1,29 +1,21 @@
 //! The call of the firmware for a call of a platform.
 
-ghost use Rattle.std.specs.Prelude.{◌≡◌, ◌<◌, ℕ, true, length, if◌then◌else◌, IfSome};
+ghost use Rattle.std.specs.Prelude.{◌≡◌, ◌<◌, true, length, if◌then◌else◌, IfSome};
 ghost use Rattle.psci_abi.specs.Calls.{function_of};
-ghost use Rattle.psci_board.specs.Board.{BoardValue, cores};
-ghost use Rattle.psci_fw_spec.specs.declared.mode.SuspendMode.{SuspendMode};
+ghost use Rattle.psci_board.specs.Board.{cores};
 ghost use Rattle.psci_platform.specs.declared.asked.Asked.TheVariants as asks;
 ghost use Rattle.psci_platform.specs.Arguments.{regs_by, told_by};
 ghost use Rattle.psci_platform.specs.Calls.{asked_for, asks_states, feature_word};
-ghost use Rattle.psci_platform.specs.Calls.{is_vendors, regs_for, reset_word};
+ghost use Rattle.psci_platform.specs.Calls.{is_vendors, no_function, regs_for, reset_word};
 ghost use Rattle.psci_platform.specs.Cores.{core_word};
-ghost use Rattle.psci_platform.specs.Described.{DescriptionValue};
-ghost use Rattle.psci_platform.specs.Names.{HasNames, IsReady};
-ghost use Rattle.psci_platform.specs.States.{states_of, word_for};
+ghost use Rattle.psci_platform.specs.Names.{IsReady};
 ghost use Rattle.psci_platform.specs.Swaps.{is_symmetric};
 
 use crate::argument::{Argument, low_half, passed};
 use crate::asked::Asked;
 use crate::class::LEVELS;
-use crate::cores::NO_CORE;
 use crate::description::Description;
-use crate::names::Table;
-use crate::readings::reader_in;
 use crate::ready::Ready;
-use crate::states::NO_STATE;
-use psci_abi::words::{MIGRATE_INFO_TYPE, PSCI_VERSION};
 use psci_abi::{Regs, Request, read};
 use psci_board::{Board, Core};
 use psci_fw_spec::SuspendMode;
@@ -92,10 +84,7 @@ impl Description {
         let first = passed(&regs, regs.x1);
         match argument {
             Argument::Missing => Call {
-                regs: Regs {
-                    x0: u64::from(NO_FUNCTION),
-                    ..regs
-                },
+                regs: missing(regs),
                 asked: Asked::Nothing,
             },
             Argument::State => {
@@ -151,127 +140,6 @@ impl Description {
         }
     }
 
-    /// The same, if the names of this level are kept. Then an MPIDR without a name names no core.
-    #[inline(always)]
-    #[tactic(auto, using(crate::proofs::Naming::word_found, crate::proofs::Naming::word_missed))]
-    fn word_kept(
-        &self,
-        board: &Board,
-        boot: Core,
-        ready: Option<&Ready>,
-        mpidr: u64,
-        level: u32,
-    ) -> Option<u64>
-        requires ready { IfSome ready (λ r. IsReady self.now board.now boot.number r.now) }
-        ensures { IfSome result (λ word. word
-            ≡ core_word self.now board.now boot.number mpidr level) }
-    {
-        let table = self.table_kept(board, boot, ready, level)?;
-        match table.name(mpidr >> (8 * level)) {
-            Some(name) => Some(name.word),
-            None => Some(NO_CORE),
-        }
-    }
-
-    /// The names of this level, if they are kept.
-    #[inline(always)]
-    #[tactic(auto, using(crate::proofs::Naming::table_at))]
-    pub(crate) fn table_kept<'r>(
-        &self,
-        board: &Board,
-        boot: Core,
-        ready: Option<&'r Ready>,
-        level: u32,
-    ) -> Option<&'r Table>
-        requires { IfSome ready (λ r. IsReady self.now board.now boot.number r.now) }
-        ensures low { IfSome result (λ _. level < 4) }
-        ensures names { IfSome result
-            (λ table. HasNames self.now board.now boot.number level table.now) }
-    {
-        ready?.tables.get(level as usize)
-    }
-
-    /// The power state word of the board for one of the platform, and its states, if it can be
-    /// asked for in this mode.
-    fn state_by(
-        &self,
-        board: &Board,
-        boot: Core,
-        ready: Option<&Ready>,
-        mode: SuspendMode,
-        word: u32,
-    ) -> (u32, Option<[u8; LEVELS]>)
-        requires ready { IfSome ready (λ r. IsReady self.now board.now boot.number r.now) }
-        ensures word { result.0 ≡ word_for self.now board.now.format (states_of self.now mode word) }
-        ensures states { result.1 ≡ states_of self.now mode word }
-    {
-        let Some(ready) = ready else {
-            let states = self.states_of(mode, word);
-            return (self.word_for(board.format(), states), states);
-        };
-        match reader_in(&ready.readings, word) {
-            Some(reading) if reading.can_ask(mode) => (reading.word, Some(reading.row.states)),
-            Some(_) => (NO_STATE, None),
-            None => (NO_STATE, None),
-        }
-    }
-
-    /// The registers of the firmware's call, if that can be said at once, and the same in each
-    /// mode, and nothing is asked beside.
-    #[inline(always)]
-    pub(crate) fn at_once(
-        &self,
-        board: &Board,
-        boot: Core,
-        ready: Option<&Ready>,
-        regs: Regs,
-    ) -> Option<Regs>
-        requires ready { IfSome ready (λ r. IsReady self.now board.now boot.number r.now) }
-        ensures regs { IfSome result (λ r. (mode : SuspendMode)
-            → r ≡ regs_for self.now board.now boot.number mode regs) }
-        ensures asked { IfSome result (λ _. (mode : SuspendMode)
-            → asked_for self.now mode regs ≡ asks.Nothing) }
-    {
-        let argument = self.functions.first_argument(low_half(regs.x0));
-        self.at_once_by(board, boot, ready, regs, argument)
-    }
-
-    /// The same, where this is what the first argument names.
-    #[inline(always)]
-    fn at_once_by(
-        &self,
-        board: &Board,
-        boot: Core,
-        ready: Option<&Ready>,
-        regs: Regs,
-        argument: Argument,
-    ) -> Option<Regs>
-        requires ready { IfSome ready (λ r. IsReady self.now board.now boot.number r.now) }
-        ensures regs { IfSome result (λ r. (mode : SuspendMode)
-            → r ≡ regs_by self.now board.now boot.number mode regs argument) }
-        ensures asked { IfSome result (λ _. (mode : SuspendMode)
-            → told_by self.now mode regs argument ≡ asks.Nothing) }
-    {
-        let first = passed(&regs, regs.x1);
-        match argument {
-            Argument::Other => Some(regs),
-            Argument::Missing => Some(Regs {
-                x0: u64::from(NO_FUNCTION),
-                ..regs
-            }),
-            Argument::Core => {
-                let x1 = self.word_kept(board, boot, ready, first, 0)?;
-                Some(Regs { x1, ..regs })
-            }
-            Argument::Node => {
-                let level = low_half(passed(&regs, regs.x2));
-                let x1 = self.word_kept(board, boot, ready, first, level)?;
-                Some(Regs { x1, ..regs })
-            }
-            Argument::State | Argument::Function | Argument::Reset | Argument::System => None,
-        }
-    }
-
     /// The function word that the firmware is asked about.
     fn feature_word(&self, word: u32) -> u32
         ensures { result ≡ feature_word self.now word }
@@ -297,15 +165,15 @@ impl Description {
     }
 }
 
-/// Whether the function is there, and its call the firmware's own, on each platform.
+/// The registers of a call of no function.
 #[inline(always)]
-pub fn is_same_everywhere(regs: &Regs) -> bool
-    ensures regs { result ≡ true → (d : DescriptionValue) (b : BoardValue) (boot : ℕ)
-        (mode : SuspendMode) → regs_for d b boot mode regs.now ≡ regs.now }
-    ensures asked { result ≡ true → (d : DescriptionValue) (b : BoardValue) (mode : SuspendMode)
-        → asked_for d mode regs.now ≡ asks.Nothing }
+pub fn missing(regs: Regs) -> Regs
+    ensures { result ≡ record regs { x0 = no_function } }
 {
-    matches!(low_half(regs.x0), PSCI_VERSION | MIGRATE_INFO_TYPE)
+    Regs {
+        x0: u64::from(NO_FUNCTION),
+        ..regs
+    }
 }
 
 /// The call with these registers but for this first argument.

@@ -17,9 +17,9 @@ returns-clause-regs c =
     let d = c.args.self.now in
     let regs : SuspendMode → Argument → Regs = λ mode a.
     regs_by d c.args.board.now c.args.boot.number mode c.args.regs a in
-    let same : (mode : SuspendMode) → regs mode c.first_argument-argument.result
+    let same : (mode : SuspendMode) → regs mode c.argument_at_once-argument.result
     ≡ regs_for d c.args.board.now c.args.boot.number mode c.args.regs = λ mode.
-    ap (regs mode) c.first_argument-argument.ensures
+    ap (regs mode) c.argument_at_once-argument.ensures
     ∙ ap (λ (f : Functions). regs mode (argument_by f c.low_half.result))
     (ap (λ (x : DescriptionValue). x.functions) c.self.view_is)
     ∙ ap (λ (w : ℕ). regs mode (argument_by d.functions w)) c.low_half.ensures
@@ -30,9 +30,9 @@ pub returns-clause-asked : goal.returns-clause-asked
 returns-clause-asked c =
     let d = c.args.self.now in
     let told : SuspendMode → Argument → Asked = λ mode a. told_by d mode c.args.regs a in
-    let same : (mode : SuspendMode) → told mode c.first_argument-argument.result
+    let same : (mode : SuspendMode) → told mode c.argument_at_once-argument.result
     ≡ asked_for d mode c.args.regs = λ mode.
-    ap (told mode) c.first_argument-argument.ensures
+    ap (told mode) c.argument_at_once-argument.ensures
     ∙ ap (λ (f : Functions). told mode (argument_by f c.low_half.result))
     (ap (λ (x : DescriptionValue). x.functions) c.self.view_is)
     ∙ ap (λ (w : ℕ). told mode (argument_by d.functions w)) c.low_half.ensures

@@ -1,7 +1,5 @@
 -- What was found out of the row that reads a word says what the word is.
-use Rattle.std.proofs.Common.{◌≡◌, ◌∙◌, List, Option, map, subst, sym}
-use Rattle.std.specs.Prelude.{IfSome}
-use Rattle.psci_platform.specs.Names.{IsReady}
+use Rattle.std.proofs.Common.{sym}
 use Rattle.psci_platform.proofs.Reading.{no_word, rows_of, states_found, states_missed}
 use Rattle.psci_platform.proofs.Reading.{states_never, word_found}
 use Rattle.psci_platform.proofs.description.Description.state_by.Goals as goal

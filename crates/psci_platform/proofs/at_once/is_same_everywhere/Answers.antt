@@ -1,6 +1,6 @@
 -- These functions are there everywhere, and name nothing.
 use Rattle.psci_platform.proofs.ByWord.{asked_everywhere, regs_everywhere}
-use Rattle.psci_platform.proofs.translate.is_same_everywhere.Goals as goal
+use Rattle.psci_platform.proofs.at_once.is_same_everywhere.Goals as goal
 
 pub returns-in-2214592512-clause-regs : goal.returns-in-2214592512-clause-regs
 returns-in-2214592512-clause-regs c = λ here d b boot mode.
