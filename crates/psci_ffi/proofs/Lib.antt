@@ -21,5 +21,4 @@ mod ReaderRows
 mod StopRows
 pub mod Switching
 pub mod Taking
-pub mod Translated
 mod WrittenRows

@@ -82,8 +82,8 @@ fn names_state(x0: u64) -> bool {
     x0 & 0xbfff_ffff == u64::from(CPU_SUSPEND_32)
 }
 
-/// A call whose registers are the same in each mode, most likely. It has a frame of its own, as one
-/// has in which registers stay where they are.
+/// A call whose registers can be said at once, most likely. It has a frame of its own, so that a
+/// call that is the same everywhere has none.
 #[inline(never)]
 fn smc_at_once(
     alloc: Global,
@@ -149,9 +149,6 @@ fn at_once(alloc: Global, place: &mut MachinePlace, regs: Regs) -> Option<Regs>
         → asked_in place.old.slot.kept mode regs ≡ Nothing) }
     ensures same { place.new.slot.kept ≡ place.old.slot.kept }
 {
-    if is_same_everywhere(&regs) {
-        return Some(regs);
-    }
     let Some(machine) = place.take(alloc) else {
         return Some(regs);
     };
