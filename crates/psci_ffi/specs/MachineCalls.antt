@@ -22,7 +22,9 @@ use Rattle.psci_ffi.specs.declared.machine_fault.MachineFault.TheVariants.{Board
 use Rattle.psci_ffi.specs.declared.machine_given.GivenMachine.{GivenMachine}
 use Rattle.psci_ffi.specs.MachineSlot.{KeptMachine}
 use Rattle.psci_ffi.specs.Machines.{machine_by}
+use Rattle.psci_ffi.specs.Shown.{IsAfter, IsSameRefused, answered}
 use Rattle.psci_ffi.specs.Slot.{Kept}
+use Rattle.psci_ffi.specs.declared.answer.Answer.{Answer}
 
 -- Opening --------------------------------------------------------------------------------------
 
@@ -82,6 +84,15 @@ asked_shown (Reset reset) = record { what = 2; states = 0 ∷ 0 ∷ 0 ∷ 0 ∷ 
 abbrev pub told_in : KeptMachine → Kept → Regs → MachineAsked
 told_in machine None regs = nothing_asked
 told_in machine (Some f) regs = asked_shown (asked_in machine (seen f.firmware).mode regs)
+
+-- What a call in the words of a machine comes to: what is answered and told, and what is left of the
+-- firmware.
+pub record IsCalledIn (machine : KeptMachine) (place : Kept) (core : ℕ) (regs : Regs)
+    (said : Answer) (told : MachineAsked) (left : Kept) : Type 0 where
+  pub answer : said ≡ answered place core (Some (called_in machine place regs))
+  pub after : IsAfter place core (Some (called_in machine place regs)) left
+  pub refused : IsSameRefused place core (Some (called_in machine place regs)) left
+  pub asked : told ≡ told_in machine place regs
 
 -- Names ----------------------------------------------------------------------------------------
 

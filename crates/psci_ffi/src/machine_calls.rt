@@ -1,10 +1,13 @@
 //! The calls of the cores in the words of a machine, and its names for cores and domains.
 
-ghost use Rattle.std.specs.Prelude.{◌≡◌, Some, option_map};
+ghost use Rattle.std.specs.Prelude.{◌≡◌, IfSome, Some, option_map};
+ghost use Rattle.psci_fw_spec.specs.declared.mode.SuspendMode.{SuspendMode};
 ghost use Rattle.psci_fw.specs.Seen.{seen};
-ghost use Rattle.psci_ffi.specs.MachineCalls.{asked_in, asked_shown, called_in, core_read};
+ghost use Rattle.psci_ffi.specs.MachineCalls.{IsCalledIn, asked_in, asked_shown, called_in};
+ghost use Rattle.psci_ffi.specs.MachineCalls.{core_read};
 ghost use Rattle.psci_ffi.specs.MachineCalls.{mpidr_read, place_read, regs_given};
 ghost use Rattle.psci_ffi.specs.MachineCalls.{regs_in, told_in};
+ghost use Rattle.psci_platform.specs.declared.asked.Asked.TheVariants.{Nothing};
 ghost use Rattle.psci_ffi.specs.Shown.{IsAfter, IsSameRefused, answered};
 
 use crate::answer::{Answer, refused};
@@ -12,9 +15,10 @@ use crate::calls::psci_smc;
 use crate::codes::NO_FIRMWARE;
 use crate::machine_place::MachinePlace;
 use crate::place::Place;
+use psci_abi::words::CPU_SUSPEND_32;
 use psci_board::{Core, Node};
 use psci_fw::Regs;
-use psci_platform::{Asked, Call, SuspendMode};
+use psci_platform::{Asked, Call, SuspendMode, is_same_everywhere};
 use std::alloc::Global;
 use std::mem::size_of;
 
@@ -63,6 +67,67 @@ pub extern "C" fn psci_smc_machine(
         (regs_given x0 x1 x2 x3) }
     ensures machine { machine.new.slot.kept ≡ machine.old.slot.kept }
 {
+    if is_same_everywhere(&Regs { x0, x1, x2, x3 }) {
+        *asked = asked_shown(Asked::Nothing);
+        psci_smc(alloc, place, core, x0, x1, x2, x3, answer);
+    } else if names_state(x0) {
+        smc_in_mode(alloc, place, machine, core, x0, x1, x2, x3, answer, asked);
+    } else {
+        smc_at_once(alloc, place, machine, core, x0, x1, x2, x3, answer, asked);
+    }
+}
+
+/// Whether a function word is that of CPU_SUSPEND, which is read by the firmware's mode.
+fn names_state(x0: u64) -> bool {
+    x0 & 0xbfff_ffff == u64::from(CPU_SUSPEND_32)
+}
+
+/// A call whose registers can be said at once, most likely. It has a frame of its own, so that a
+/// call that is the same everywhere has none.
+#[inline(never)]
+fn smc_at_once(
+    alloc: Global,
+    place: &mut Place,
+    machine: &mut MachinePlace,
+    core: u16,
+    x0: u64,
+    x1: u64,
+    x2: u64,
+    x3: u64,
+    answer: &mut Answer,
+    asked: &mut MachineAsked,
+)
+    ensures called { IsCalledIn machine.old.slot.kept place.old.slot.kept core
+        (regs_given x0 x1 x2 x3) answer.new asked.new place.new.slot.kept }
+    ensures machine { machine.new.slot.kept ≡ machine.old.slot.kept }
+{
+    match at_once(alloc, machine, Regs { x0, x1, x2, x3 }) {
+        Some(Regs { x0, x1, x2, x3 }) => {
+            *asked = asked_shown(Asked::Nothing);
+            psci_smc(alloc, place, core, x0, x1, x2, x3, answer);
+        }
+        None => smc_in_mode(alloc, place, machine, core, x0, x1, x2, x3, answer, asked),
+    }
+}
+
+/// Any call, by the mode that the firmware is in.
+#[inline(never)]
+fn smc_in_mode(
+    alloc: Global,
+    place: &mut Place,
+    machine: &mut MachinePlace,
+    core: u16,
+    x0: u64,
+    x1: u64,
+    x2: u64,
+    x3: u64,
+    answer: &mut Answer,
+    asked: &mut MachineAsked,
+)
+    ensures called { IsCalledIn machine.old.slot.kept place.old.slot.kept core
+        (regs_given x0 x1 x2 x3) answer.new asked.new place.new.slot.kept }
+    ensures machine { machine.new.slot.kept ≡ machine.old.slot.kept }
+{
     let Some(mode) = mode_in(alloc, place) else {
         *answer = refused(NO_FIRMWARE);
         *asked = asked_shown(Asked::Nothing);
@@ -72,6 +137,24 @@ pub extern "C" fn psci_smc_machine(
     *asked = asked_shown(call.asked);
     let Regs { x0, x1, x2, x3 } = call.regs;
     psci_smc(alloc, place, core, x0, x1, x2, x3, answer);
+}
+
+/// The registers of the firmware's call, if they can be said at once, are the same in each mode, and
+/// nothing is asked beside.
+#[inline(always)]
+fn at_once(alloc: Global, place: &mut MachinePlace, regs: Regs) -> Option<Regs>
+    ensures regs { IfSome result (λ r. (mode : SuspendMode)
+        → r ≡ regs_in place.old.slot.kept mode regs) }
+    ensures asked { IfSome result (λ _. (mode : SuspendMode)
+        → asked_in place.old.slot.kept mode regs ≡ Nothing) }
+    ensures same { place.new.slot.kept ≡ place.old.slot.kept }
+{
+    let Some(machine) = place.take(alloc) else {
+        return Some(regs);
+    };
+    let found = machine.at_once(regs);
+    place.put(machine);
+    found
 }
 
 /// The mode that the firmware in a place is in.

@@ -5,13 +5,12 @@ use Rattle.std.proofs.lemmas.Bool.{eqb-true}
 use Rattle.std.proofs.lemmas.Bool.Decides.{nat_tests}
 use Rattle.std.proofs.lemmas.Option.{none-some, same_Some}
 use Rattle.std.specs.List.{list_all}
-use Rattle.std.specs.Prelude.{◌↔◌, IsTrue, Ok, Err, find, length, nat_le, nat_lt, slice_index}
-use Rattle.psci_abi.specs.psci_format.declared.format.Format.{Format}
+use Rattle.std.specs.Prelude.{Ok, Err, find, length, nat_le, nat_lt, slice_index}
 use Rattle.psci_abi.specs.declared.request.Request.TheVariants as requests
 use Rattle.psci_board.specs.Board.{BoardValue, cores, height}
 use Rattle.psci_fw_spec.specs.declared.mode.SuspendMode.{SuspendMode}
-use Rattle.psci_state.specs.Ask.{IsAsk, deepest_of, highest_of, is_ask}
-use Rattle.psci_state.specs.PowerState.{ask_of, word_of}
+use Rattle.psci_state.specs.Ask.{deepest_of, highest_of, is_ask}
+use Rattle.psci_state.specs.PowerState.{ask_of}
 use Rattle.psci_platform.specs.declared.asked.Asked.{Asked}
 use Rattle.psci_platform.specs.declared.asked.Asked.TheVariants as asks
 use Rattle.psci_platform.specs.declared.class.TheConstants.{STATES}
@@ -19,7 +18,7 @@ use Rattle.psci_platform.specs.declared.row.Row.{Row}
 use Rattle.psci_platform.specs.Calls.{asked_by, asks_states, first_argument}
 use Rattle.psci_platform.specs.Described.{DescriptionValue}
 use Rattle.psci_platform.specs.Faults.{are_states, boot_fault_of, fault_of, has_boot, has_same}
-use Rattle.psci_platform.specs.Faults.{has_same_word, has_type, have_needs, is_first, is_mpidr}
+use Rattle.psci_platform.specs.Faults.{has_same_word, has_type, is_first, is_mpidr}
 use Rattle.psci_platform.specs.Faults.{is_power_state, is_row_word, is_running_above, is_system}
 use Rattle.psci_platform.specs.Faults.{most_rows, never_falls, rises, row_fault_of, state_fault_of}
 use Rattle.psci_platform.specs.States.{can_ask, depth_at, depths_of, reads, states_if, states_of}

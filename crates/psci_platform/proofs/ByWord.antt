@@ -1,5 +1,5 @@
 -- What the firmware is asked for a call, by its function word and its arguments.
-use Rattle.std.proofs.Common.{◌≡◌, ℕ, ◌==◌, ◌||◌, Bool, true, false, if◌then◌else◌, refl, sym}
+use Rattle.std.proofs.Common.{◌≡◌, ℕ, ◌==◌, ◌||◌, Bool, true, false, if◌then◌else◌, refl, sym, ap, inl, inr, ◌∙◌, ◌⊎◌}
 use Rattle.psci_abi.specs.Calls.{argument, function_of, low_half}
 use Rattle.psci_abi.specs.declared.registers.Regs.{Regs}
 use Rattle.psci_abi.specs.declared.request.Request.{Request}
@@ -83,3 +83,26 @@ unfolding asked_for
 asked_same d b mode regs =
     let c : Call = record { d = d; b = b; boot = 0; mode = mode; regs = regs } in
     sym (all c (low_half regs.x0)).asked
+
+-- Everywhere -----------------------------------------------------------------------------------
+
+-- PSCI_VERSION and MIGRATE_INFO_TYPE
+pub regs_everywhere : (d : DescriptionValue) (b : BoardValue) (boot : ℕ) (mode : SuspendMode)
+    (regs : Regs) (w : ℕ) → w ≡ low_half regs.x0 → (w ≡ 0x84000000) ⊎ (w ≡ 0x84000006)
+    → regs_for d b boot mode regs ≡ regs
+regs_everywhere d b boot mode regs w is which =
+    let by : ℕ → Regs = λ k. regs_by d b boot mode regs (argument_by d.functions k) in
+    sym (regs_same d b boot mode regs) ∙ ap by (sym is) ∙ elim which [
+      | inl e ↦ ap by e
+      | inr e ↦ ap by e
+    ]
+
+pub asked_everywhere : (d : DescriptionValue) (b : BoardValue) (mode : SuspendMode)
+    (regs : Regs) (w : ℕ) → w ≡ low_half regs.x0 → (w ≡ 0x84000000) ⊎ (w ≡ 0x84000006)
+    → asked_for d mode regs ≡ asks.Nothing
+asked_everywhere d b mode regs w is which =
+    let by : ℕ → Asked = λ k. told_by d mode regs (argument_by d.functions k) in
+    sym (asked_same d b mode regs) ∙ ap by (sym is) ∙ elim which [
+      | inl e ↦ ap by e
+      | inr e ↦ ap by e
+    ]

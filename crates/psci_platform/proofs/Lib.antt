@@ -15,6 +15,7 @@ mod FunctionFaultRows
 mod IdentityRows
 pub mod Machines
 pub mod Missing
+mod NameRows
 pub mod Named
 pub mod Naming
 pub mod OwnAsked
@@ -22,6 +23,7 @@ pub mod OwnCalls
 pub mod OwnCores
 pub mod OwnFaults
 pub mod OwnStates
+pub mod Reading
 pub mod Requests
 mod StateRows
 mod SwapRows

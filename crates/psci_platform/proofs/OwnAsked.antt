@@ -1,9 +1,9 @@
 -- With the identity of a board the depths that the firmware is asked for are told.
-use Rattle.std.proofs.Common.{◌≡◌, ℕ, ◌<◌, ◌≤◌, ◌^◌, ◌-◌, Bool, true, false, List, map, Option}
+use Rattle.std.proofs.Common.{◌≡◌, ℕ, ◌<◌, ◌≤◌, ◌^◌, Bool, true, false, map, Option}
 use Rattle.std.proofs.Common.{None, Some, refl, sym, ap, ◌∙◌, arith, ◌&&◌}
 use Rattle.std.proofs.lemmas.Bool.Decides.{nat_tests}
 use Rattle.std.specs.List.{range_with_len}
-use Rattle.std.specs.Prelude.{Result, Ok, Err, find, nat_le}
+use Rattle.std.specs.Prelude.{Ok, find, nat_le}
 use Rattle.psci_abi.specs.Calls.{argument, low_half, request_of}
 use Rattle.psci_abi.specs.declared.registers.Regs.{Regs}
 use Rattle.psci_abi.specs.declared.request.Request.{Request}

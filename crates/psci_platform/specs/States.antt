@@ -13,6 +13,7 @@ use Rattle.psci_platform.specs.declared.class.Class.{Class}
 use Rattle.psci_platform.specs.declared.class.Class.TheVariants.{Running, Standby, Retention}
 use Rattle.psci_platform.specs.declared.class.Class.TheVariants.{PowerDown}
 use Rattle.psci_platform.specs.Described.{DescriptionValue}
+use Rattle.psci_platform.specs.declared.readings.Reading.{Reading}
 use Rattle.psci_platform.specs.declared.row.Row.{Row}
 
 -- the depth that stands for a class in an ask
@@ -73,3 +74,16 @@ word_asking format depths = if is_ask depths then word_of format depths else no_
 abbrev pub word_for : DescriptionValue → Format → Option (List ℕ) → ℕ
 word_for d format None = no_state
 word_for d format (Some states) = word_asking format (depths_of d states)
+
+-- what the words of a row are to the firmware
+abbrev pub reading_of : DescriptionValue → Format → Row → Reading
+reading_of d format row = record {
+  row = row;
+  word = word_for d format (Some row.states);
+  is_first = can_ask d Platform row.states;
+}
+
+-- the same, for what is found out of a row
+abbrev pub can_ask_by : Reading → SuspendMode → Bool
+can_ask_by r OsInitiated = true
+can_ask_by r Platform = r.is_first

@@ -36,6 +36,7 @@ pub enum Argument {
 
 impl Functions {
     /// What the first argument of the function of a word names.
+    #[inline(always)]
     pub(crate) fn first_argument(&self, word: u32) -> Argument
         ensures { result ≡ argument_by self.now word }
     {

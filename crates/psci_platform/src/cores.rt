@@ -12,7 +12,7 @@ use crate::swap::other_core;
 use psci_board::{Board, Core, law_parents, law_paths, law_sizes, law_words};
 
 /// An affinity word that names no core and no power domain of any board.
-const NO_CORE: u64 = 0xFFFF_FFFF;
+pub const NO_CORE: u64 = 0xFFFF_FFFF;
 
 impl Description {
     /// The affinity word of the board for an MPIDR at this level.

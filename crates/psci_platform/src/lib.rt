@@ -12,6 +12,7 @@
 
 mod argument;
 mod asked;
+mod at_once;
 mod check;
 mod class;
 mod cores;
@@ -19,18 +20,23 @@ mod description;
 mod fault;
 mod firmware;
 mod functions;
+mod kept;
 mod law;
 mod mpidrs;
 mod names;
 mod platform;
+mod readings;
+mod ready;
 mod row;
 mod rows;
 mod state_checks;
 mod states;
 mod swap;
+mod tables;
 mod translate;
 
 pub use asked::Asked;
+pub use at_once::is_same_everywhere;
 pub use class::Class;
 pub use description::{Classes, Description};
 pub use fault::PlatformFault;

@@ -1,74 +1,78 @@
-//! The cores of a platform in the order of their MPIDRs, in which one is found by halves.
+//! The names of the cores and power domains of a level, each in a slot that its fields say.
 
-ghost use Rattle.std.specs.Prelude.{◌≡◌, ◌<◌, ◌≤◌, true, length, IfOk, IfSome};
-ghost use Rattle.std.specs.List.{All, Contains};
-ghost use Rattle.psci_board.specs.Board.{cores};
-ghost use Rattle.psci_platform.specs.Names.{IsName};
-ghost use Rattle.psci_platform.specs.Swaps.{is_symmetric};
+ghost use Rattle.std.specs.Prelude.{◌≡◌, option_map, slice_set};
+ghost use Rattle.psci_platform.specs.Names.{AreAmong, name_in, slot_of};
 
-use crate::cores::affinity_word;
-use crate::description::Description;
-use psci_board::{Board, Core, Memory};
-use std::alloc::Global;
+use psci_board::Core;
 
-/// A core by its MPIDR.
+/// A core by the affinity fields of its MPIDR from some level up, of which it is the first one in
+/// the order of the tree.
 #[derive(Clone, Copy, Debug, PartialEq, Eq)]
 pub struct Name {
-    /// The MPIDR.
-    pub mpidr: u64,
-    /// The affinity word of the board for it.
+    /// The fields of the MPIDR.
+    pub fields: u64,
+    /// The affinity word of the board for the core.
     pub word: u64,
     /// The core, by the firmware's number.
     pub core: Core,
 }
 
-impl Description {
-    /// The names of the cores, in the order of their MPIDRs.
-    #[tactic(auto, using(crate::proofs::Naming::one_more, crate::proofs::Naming::no_name))]
-    pub(crate) fn names(
-        &self,
-        alloc: Global,
-        board: &Board,
-        boot: Core,
-    ) -> Result<Vec<Name>, Memory>
-        requires count { length self.now.mpidrs ≡ cores board.now }
-        requires boot { boot.number < cores board.now }
-        requires symmetric { is_symmetric board.now boot.number ≡ true }
-        ensures { IfOk result (λ names. All (IsName self.now board.now boot.number) names.items) }
+/// The names of a level, in slots. The product of the fields and a factor says the slot.
+#[derive(Drop)]
+pub struct Table {
+    /// The slots. Each has some name, and a name may be in many.
+    pub slots: Vec<Name>,
+    /// The factor.
+    pub factor: u64,
+    /// Which bits of the upper half of the product are the slot's number.
+    pub mask: u64,
+}
+
+impl Table {
+    /// The name that the slot of these fields has, if it is theirs.
+    #[inline(always)]
+    pub fn name(&self, fields: u64) -> Option<&Name>
+        ensures { option_map (λ name. name.now) result
+            ≡ name_in self.now.slots.items self.now.factor self.now.mask fields }
     {
-        let mut names = Vec::with_capacity(alloc, self.mpidrs.len())?;
-        for mpidr in &self.mpidrs {
-            let Some(core) = self.number_named(board, boot, *mpidr, 0) else {
-                continue;
-            };
-            let name = Name {
-                mpidr: *mpidr,
-                word: affinity_word(board, core),
-                core,
-            };
-            names.insert(place_above(&names, *mpidr), name)?;
-        }
-        Ok(names)
+        name_in(&self.slots, self.factor, self.mask, fields)
     }
 }
 
-/// Behind how many names, in their order, an MPIDR stands.
-fn place_above(names: &[Name], mpidr: u64) -> usize
-    ensures { result ≤ length names.now }
+/// The name that the slot of these fields has, if it is theirs.
+#[inline(always)]
+pub fn name_in(slots: &[Name], factor: u64, mask: u64, fields: u64) -> Option<&Name>
+    ensures { option_map (λ name. name.now) result ≡ name_in slots.now factor mask fields }
 {
-    names.partition_point(|name| name.mpidr <= mpidr)
+    match slots.get(slot_of(factor, mask, fields)) {
+        Some(name) if name.fields == fields => Some(name),
+        _ => None,
+    }
 }
 
-/// The name with this MPIDR, of names in their order.
-#[tactic(auto, using(crate::proofs::Naming::among))]
-pub fn name_in(names: &[Name], mpidr: u64) -> Option<Name>
-    ensures mpidr { IfSome result (λ name. name.mpidr ≡ mpidr) }
-    ensures among { IfSome result (Contains names.now) }
+/// The number of the slot of these fields.
+#[inline(always)]
+fn slot_of(factor: u64, mask: u64, fields: u64) -> usize
+    ensures { result ≡ slot_of factor mask fields }
 {
-    let above = place_above(names, mpidr);
-    if above == 0 {
-        return None;
+    (fields.wrapping_mul(factor) >> 32 & mask) as usize
+}
+
+/// Puts each name into its slot, over what is there.
+pub fn put_names(slots: &mut [Name], names: &[Name], factor: u64, mask: u64)
+    requires { AreAmong names.now slots.old }
+    ensures { AreAmong names.now slots.new }
+{
+    for name in names {
+        put(slots, slot_of(factor, mask, name.fields), *name);
     }
-    let name = names[above - 1];
-    (name.mpidr == mpidr).then_some(name)
+}
+
+/// Puts a name into the slot of this number, if there is one.
+fn put(slots: &mut [Name], place: usize, name: Name)
+    ensures { slots.new ≡ slice_set slots.old place name }
+{
+    if place < slots.len() {
+        slots[place] = name;
+    }
 }

@@ -3,7 +3,7 @@
 use crate::description::Description;
 use crate::fault::PlatformFault;
 use crate::law::law_boot_core;
-use crate::names::{Name, name_in};
+use crate::ready::Ready;
 use crate::swap::{moved, other_core};
 use crate::translate::Call;
 use psci_abi::Regs;
@@ -20,14 +20,13 @@ pub struct Platform {
     boot: u64,
     /// The boot core, by its place in the order of the tree.
     boot_core: Core,
-    /// The names of the cores, once they are in order.
-    names: Option<Vec<Name>>,
+    /// What is found out once, where there was memory for it.
+    ready: Option<Ready>,
 }
 
 impl Model for Platform {
     ghost use Rattle.std.specs.Prelude.{IfSome};
-    ghost use Rattle.std.specs.List.{All};
-    ghost use Rattle.psci_platform.specs.Names.{IsName};
+    ghost use Rattle.psci_platform.specs.Names.{IsReady};
     ghost use Rattle.psci_platform.specs.Platforms.{IsPlatform, PlatformValue};
 
     ghost Value = { PlatformValue };
@@ -44,16 +43,15 @@ impl Model for Platform {
       board = p.board;
       boot = p.boot;
       place = p.boot_core.number;
-    }) × IfSome p.names (λ names. All (IsName p.description p.board p.boot_core.number)
-        names.items) };
+    }) × IfSome p.ready (IsReady p.description p.board p.boot_core.number) };
 }
 
 ghost use Rattle.std.specs.Prelude.{◌≡◌, ◌<◌, None, Some, IfOk, IfSome, MatchResult, option_map};
 ghost use Rattle.std.specs.Prelude.{slice_get};
-ghost use Rattle.std.specs.List.{All};
 ghost use Rattle.psci_board.specs.Board.{cores};
 ghost use Rattle.psci_platform.specs.Cores.{boot_place, number_named};
-ghost use Rattle.psci_platform.specs.Names.{IsName};
+ghost use Rattle.psci_platform.specs.Names.{IsReady};
+ghost use Rattle.psci_platform.specs.declared.asked.Asked.TheVariants.{Nothing};
 ghost use Rattle.psci_platform.specs.Calls.{asked_for, regs_for};
 ghost use Rattle.psci_platform.specs.Faults.{fault_of};
 ghost use Rattle.psci_platform.specs.Swaps.{moved, swap_for};
@@ -83,32 +81,31 @@ impl Platform {
             board,
             boot,
             boot_core,
-            names: None,
+            ready: None,
         };
         Ok(platform)
     }
 
-    /// The same platform, which finds a core among all by halves.
+    /// The same platform, which finds a core, a power domain or a row at once.
     #[tactic(auto, using(crate::proofs::Checked::some_count))]
     pub fn in_order(self, alloc: Global) -> Result<Platform, Memory>
         ensures { IfOk result (λ p. p ≡ self) }
     {
-        let names = self.description.names(alloc, &self.board, self.boot_core)?;
+        let tables = self.description.tables(alloc, &self.board, self.boot_core)?;
+        let readings = self.description.readings(alloc, self.board.format())?;
         Ok(Platform {
-            names: Some(names),
+            ready: Some(Ready { tables, readings }),
             ..self
         })
     }
 
-    /// The names of the cores, as far as there are any.
-    #[tactic(auto, using(crate::proofs::Naming::no_name))]
-    fn names(&self) -> &[Name]
-        ensures { All (IsName self.now.description self.now.board self.now.place) result.now }
+    /// What was found out once.
+    #[inline(always)]
+    fn ready(&self) -> Option<&Ready>
+        ensures { IfSome result
+            (λ r. IsReady self.now.description self.now.board self.now.place r.now) }
     {
-        match &self.names {
-            Some(names) => names,
-            None => &[],
-        }
+        self.ready.as_ref()
     }
 
     /// The board.
@@ -118,29 +115,24 @@ impl Platform {
         &self.board
     }
 
-    /// The core whose name has an MPIDR, if there is one.
-    #[tactic(auto, using(crate::proofs::Naming::number_of, crate::proofs::Naming::inside))]
-    fn core_by_name(&self, mpidr: u64) -> Option<Core>
-        ensures core { IfSome result (λ core. Some core.number
-            ≡ number_named self.now.description self.now.board self.now.place mpidr 0) }
-        ensures inside { IfSome result (λ core. core.number < cores self.now.board) }
-    {
-        let name = name_in(self.names(), mpidr)?;
-        Some(name.core)
-    }
-
     /// The core that an MPIDR names, as the firmware numbers it, if there is one.
-    #[tactic(auto, using(crate::proofs::Checked::some_count))]
+    #[tactic(auto, using(crate::proofs::Checked::some_count, crate::proofs::Naming::inside, crate::proofs::Naming::number_found, crate::proofs::Naming::number_missed,))]
     pub fn core(&self, mpidr: u64) -> Option<Core>
         ensures core { option_map (λ core. core.number) result
             ≡ number_named self.now.description self.now.board self.now.place mpidr 0 }
         ensures inside { IfSome result (λ core. core.number < cores self.now.board) }
     {
-        if let Some(core) = self.core_by_name(mpidr) {
-            return Some(core);
-        }
-        self.description
-            .number_named(&self.board, self.boot_core, mpidr, 0)
+        let level = 0;
+        let table = self
+            .description
+            .table_kept(&self.board, self.boot_core, self.ready(), level);
+        let Some(table) = table else {
+            return self
+                .description
+                .number_named(&self.board, self.boot_core, mpidr, level);
+        };
+        let name = table.name(mpidr >> (8 * level))?;
+        Some(name.core)
     }
 
     /// The MPIDR of a core, if the platform has it: of one that a message names.
@@ -172,6 +164,19 @@ impl Platform {
         ensures asked { result.asked ≡ asked_for self.now.description mode regs }
     {
         self.description
-            .translate_by(&self.board, self.boot_core, self.names(), mode, regs)
+            .translate_by(&self.board, self.boot_core, self.ready(), mode, regs)
+    }
+
+    /// The registers of `translate`, if they can be said at once, are the same in each mode, and
+    /// nothing is asked beside.
+    #[inline(always)]
+    pub fn at_once(&self, regs: Regs) -> Option<Regs>
+        ensures regs { IfSome result (λ r. (mode : SuspendMode) → r
+            ≡ regs_for self.now.description self.now.board self.now.place mode regs) }
+        ensures asked { IfSome result (λ _. (mode : SuspendMode)
+            → asked_for self.now.description mode regs ≡ Nothing) }
+    {
+        self.description
+            .at_once(&self.board, self.boot_core, self.ready(), regs)
     }
 }

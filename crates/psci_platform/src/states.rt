@@ -17,7 +17,7 @@ use psci_fw_spec::SuspendMode;
 use psci_state::{Ask, law_power_states};
 
 /// A word that is no power state in either format.
-const NO_STATE: u32 = 0xFFFF_FFFF;
+pub const NO_STATE: u32 = 0xFFFF_FFFF;
 
 /// The deepest depth, power-down.
 const POWER_DOWN: u8 = 3;
@@ -45,7 +45,7 @@ impl Description {
     }
 
     /// Whether states can be asked for in this mode.
-    fn can_ask(&self, mode: SuspendMode, states: &[u8; LEVELS]) -> bool
+    pub fn can_ask(&self, mode: SuspendMode, states: &[u8; LEVELS]) -> bool
         ensures { result ≡ can_ask self.now mode states.now }
     {
         match mode {

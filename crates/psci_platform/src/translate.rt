@@ -1,22 +1,21 @@
 //! The call of the firmware for a call of a platform.
 
-ghost use Rattle.std.specs.Prelude.{◌≡◌, ◌<◌, true, length, if◌then◌else◌};
-ghost use Rattle.std.specs.List.{All};
+ghost use Rattle.std.specs.Prelude.{◌≡◌, ◌<◌, true, length, if◌then◌else◌, IfSome};
 ghost use Rattle.psci_abi.specs.Calls.{function_of};
 ghost use Rattle.psci_board.specs.Board.{cores};
 ghost use Rattle.psci_platform.specs.declared.asked.Asked.TheVariants as asks;
 ghost use Rattle.psci_platform.specs.Arguments.{regs_by, told_by};
 ghost use Rattle.psci_platform.specs.Calls.{asked_for, asks_states, feature_word};
-ghost use Rattle.psci_platform.specs.Calls.{is_vendors, regs_for, reset_word};
+ghost use Rattle.psci_platform.specs.Calls.{is_vendors, no_function, regs_for, reset_word};
 ghost use Rattle.psci_platform.specs.Cores.{core_word};
-ghost use Rattle.psci_platform.specs.Names.{IsName};
+ghost use Rattle.psci_platform.specs.Names.{IsReady};
 ghost use Rattle.psci_platform.specs.Swaps.{is_symmetric};
 
 use crate::argument::{Argument, low_half, passed};
 use crate::asked::Asked;
 use crate::class::LEVELS;
 use crate::description::Description;
-use crate::names::{Name, name_in};
+use crate::ready::Ready;
 use psci_abi::{Regs, Request, read};
 use psci_board::{Board, Core};
 use psci_fw_spec::SuspendMode;
@@ -35,7 +34,6 @@ pub struct Call {
 
 impl Description {
     /// The call of the firmware for a call of the platform.
-    #[tactic(auto, using(crate::proofs::Naming::no_name))]
     pub fn translate(&self, board: &Board, boot: Core, mode: SuspendMode, regs: Regs) -> Call
         requires count { length self.now.mpidrs ≡ cores board.now }
         requires boot { boot.number < cores board.now }
@@ -43,7 +41,7 @@ impl Description {
         ensures regs { result.regs ≡ regs_for self.now board.now boot.number mode regs }
         ensures asked { result.asked ≡ asked_for self.now mode regs }
     {
-        self.translate_by(board, boot, &[], mode, regs)
+        self.translate_by(board, boot, None, mode, regs)
     }
 
     /// The same, where these are names of cores.
@@ -51,19 +49,19 @@ impl Description {
         &self,
         board: &Board,
         boot: Core,
-        names: &[Name],
+        ready: Option<&Ready>,
         mode: SuspendMode,
         regs: Regs,
     ) -> Call
         requires count { length self.now.mpidrs ≡ cores board.now }
         requires boot { boot.number < cores board.now }
         requires symmetric { is_symmetric board.now boot.number ≡ true }
-        requires names { All (IsName self.now board.now boot.number) names.now }
+        requires ready { IfSome ready (λ r. IsReady self.now board.now boot.number r.now) }
         ensures regs { result.regs ≡ regs_for self.now board.now boot.number mode regs }
         ensures asked { result.asked ≡ asked_for self.now mode regs }
     {
         let argument = self.functions.first_argument(low_half(regs.x0));
-        self.call_by(board, boot, names, mode, regs, argument)
+        self.call_by(board, boot, ready, mode, regs, argument)
     }
 
     /// The call of the firmware, where this is what the first argument names.
@@ -71,7 +69,7 @@ impl Description {
         &self,
         board: &Board,
         boot: Core,
-        names: &[Name],
+        ready: Option<&Ready>,
         mode: SuspendMode,
         regs: Regs,
         argument: Argument,
@@ -79,31 +77,27 @@ impl Description {
         requires count { length self.now.mpidrs ≡ cores board.now }
         requires boot { boot.number < cores board.now }
         requires symmetric { is_symmetric board.now boot.number ≡ true }
-        requires names { All (IsName self.now board.now boot.number) names.now }
+        requires ready { IfSome ready (λ r. IsReady self.now board.now boot.number r.now) }
         ensures regs { result.regs ≡ regs_by self.now board.now boot.number mode regs argument }
         ensures asked { result.asked ≡ told_by self.now mode regs argument }
     {
         let first = passed(&regs, regs.x1);
         match argument {
             Argument::Missing => Call {
-                regs: Regs {
-                    x0: u64::from(NO_FUNCTION),
-                    ..regs
-                },
+                regs: missing(regs),
                 asked: Asked::Nothing,
             },
             Argument::State => {
-                let states = self.states_of(mode, low_half(first));
-                let word = self.word_for(board.format(), states);
+                let (word, states) = self.state_by(board, boot, ready, mode, low_half(first));
                 with_first(regs, u64::from(word), asks_states(states))
             }
             Argument::Core => {
-                let word = self.word_by(board, boot, names, first, 0);
+                let word = self.word_by(board, boot, ready, first, 0);
                 with_first(regs, word, Asked::Nothing)
             }
             Argument::Node => {
                 let level = low_half(passed(&regs, regs.x2));
-                let word = self.word_by(board, boot, names, first, level);
+                let word = self.word_by(board, boot, ready, first, level);
                 with_first(regs, word, Asked::Nothing)
             }
             Argument::Function => {
@@ -125,21 +119,25 @@ impl Description {
         }
     }
 
-    /// The affinity word of the board for an MPIDR at this level: that of a name, if one has it.
-    #[tactic(auto, using(crate::proofs::Naming::word_of))]
-    fn word_by(&self, board: &Board, boot: Core, names: &[Name], mpidr: u64, level: u32) -> u64
+    /// The affinity word of the board for an MPIDR at this level.
+    fn word_by(
+        &self,
+        board: &Board,
+        boot: Core,
+        ready: Option<&Ready>,
+        mpidr: u64,
+        level: u32,
+    ) -> u64
         requires count { length self.now.mpidrs ≡ cores board.now }
         requires boot { boot.number < cores board.now }
         requires symmetric { is_symmetric board.now boot.number ≡ true }
-        requires names { All (IsName self.now board.now boot.number) names.now }
+        requires ready { IfSome ready (λ r. IsReady self.now board.now boot.number r.now) }
         ensures { result ≡ core_word self.now board.now boot.number mpidr level }
     {
-        if level == 0 {
-            if let Some(name) = name_in(names, mpidr) {
-                return name.word;
-            }
+        match self.word_kept(board, boot, ready, mpidr, level) {
+            Some(word) => word,
+            None => self.core_word(board, boot, mpidr, level),
         }
-        self.core_word(board, boot, mpidr, level)
     }
 
     /// The function word that the firmware is asked about.
@@ -164,6 +162,17 @@ impl Description {
         } else {
             (u64::from(reset_type), Asked::Nothing)
         }
+    }
+}
+
+/// The registers of a call of no function.
+#[inline(always)]
+pub fn missing(regs: Regs) -> Regs
+    ensures { result ≡ record regs { x0 = no_function } }
+{
+    Regs {
+        x0: u64::from(NO_FUNCTION),
+        ..regs
     }
 }
 

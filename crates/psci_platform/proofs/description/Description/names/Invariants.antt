@@ -4,4 +4,4 @@ use Rattle.psci_platform.specs.Names.{IsName}
 use Rattle.psci_platform.proofs.description.Description.names.Given as goal
 
 abbrev pub invariant-loop-mpidr : goal.invariant-loop-mpidr
-invariant-loop-mpidr l = All (IsName l.self l.board l.boot.number) l.names.items
+invariant-loop-mpidr l = All (IsName l.self l.board l.boot.number l.level) l.names.items

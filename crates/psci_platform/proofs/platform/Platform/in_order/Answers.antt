@@ -1,0 +1,16 @@
+-- What is found out of a platform is of its description and its board.
+use Rattle.std.proofs.Common.{◌∙◌, ap, map}
+use Rattle.psci_abi.specs.psci_format.declared.format.Format.{Format}
+use Rattle.psci_platform.specs.States.{reading_of}
+use Rattle.psci_platform.proofs.platform.Platform.in_order.Goals as goal
+
+pub invariant_of-result : goal.invariant_of-result
+invariant_of-result c = (
+  c.self.invariant.0,
+  record {
+    few = c.in_ok-tables.ensures.few;
+    names = c.in_ok-tables.ensures.names;
+    rows = c.in_ok-readings.ensures
+        ∙ ap (λ (f : Format). map (reading_of c.self.inside.description f) c.self.inside.description.rows) c.format.ensures;
+  },
+)
