@@ -120,7 +120,7 @@ impl PolledFirmware {
             cores,
         } = self;
         let reaction = firmware.smc_in_slot(core, regs)?;
-        let asked = asked_in(firmware, &reaction);
+        let asked = asked_in(&reaction);
         write_one(words, writer, firmware, asked, *cores);
         Ok(reaction)
     }

@@ -2,13 +2,12 @@
 
 ghost use Rattle.std.specs.Prelude.{◌≡◌, ◌≢◌, ℕ, ◌+◌, ◌<◌, ◌^◌, false, length};
 ghost use Rattle.psci_board.specs.Board.{cores};
-ghost use Rattle.psci_fw.specs.Reactions.{outcome_in};
 ghost use Rattle.psci_fw.specs.Seen.{seen};
 ghost use Rattle.psci_fw_spec.specs.Lives.{first_status};
 ghost use Rattle.psci_fw_spec.specs.Statuses.{added};
 ghost use Rattle.psci_status.specs.Lists.{row};
 ghost use Rattle.psci_status.specs.Seats.{table, table_of_writer, written};
-ghost use Rattle.psci_polled.specs.Naming.{asked_by, is_named};
+ghost use Rattle.psci_polled.specs.Naming.{asked_by, is_named, slot_beside};
 ghost use Rattle.psci_polled.specs.Writing.{one_more, written_then};
 
 use psci_board::Core;
@@ -25,15 +24,12 @@ pub fn asked_on(outcome: &Outcome) -> Option<Core>
     }
 }
 
-/// The same by a reaction, whose message stands in its slot.
-pub(crate) fn asked_in(firmware: &Firmware, reaction: &Reaction) -> Option<Core>
-    ensures { result
-        ≡ asked_by (outcome_in firmware.now.board (seen firmware.now) reaction.now) }
+/// The same by a reaction: a message beside a return code stands in the slot of its core.
+pub(crate) fn asked_in(reaction: &Reaction) -> Option<Core>
+    ensures { result ≡ slot_beside reaction.now.act reaction.now.slot }
 {
     match (reaction.act, reaction.slot) {
-        (Act::Return(_), Some(number)) => {
-            firmware.outstanding(number).map(|message| message.core)
-        }
+        (Act::Return(_), Some(number)) => Some(Core { number }),
         _ => None,
     }
 }

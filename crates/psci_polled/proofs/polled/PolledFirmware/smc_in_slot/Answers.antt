@@ -1,5 +1,5 @@
 use Rattle.std.proofs.Common.{◌≡◌, Option, false, refl, subst}
-use Rattle.psci_polled.proofs.Past.{names_smc}
+use Rattle.psci_polled.proofs.Slots.{names_by_slot}
 use Rattle.psci_polled.proofs.Steps.{life_left, others_stay, polled_next, written_still}
 use Rattle.psci_board.specs.declared.node.Core.{Core}
 use Rattle.psci_polled.specs.Naming.{is_named}
@@ -23,7 +23,9 @@ write_one-requires-clause-others c core small other some =
     c.self.invariant c.in_ok-reaction.ensures.after
     (life_left (seen c.self.inside.firmware) (seen f) _ c.in_ok-reaction.ensures.after
     (c.law_caller.ensures.life _ _ _ _ _))
-    (λ k not. names_smc c.self.inside.firmware.board c.args.core.number k c.args.regs o
+    (λ k not. names_by_slot c.self.inside.firmware.board f.board (seen c.self.inside.firmware)
+    c.args.core.number k c.args.regs o c.in_ok-reaction.reaction.slot
+    c.in_ok-reaction.ensures.answer c.in_ok-reaction.ensures.slot
     (subst (λ (found : Option Core). is_named found k ≡ false) c.asked_in-asked.ensures not))
     core small other refl some
 

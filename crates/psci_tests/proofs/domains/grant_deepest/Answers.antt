@@ -1,6 +1,6 @@
 use Rattle.std.proofs.Common.{◌+◌, arith, ap}
 use Rattle.psci_board.specs.declared.node.Node.{Node}
-use Rattle.psci_layer_tests.proofs.domains.grant_deepest.Goals as goal
+use Rattle.psci_tests.proofs.domains.grant_deepest.Goals as goal
 
 pub grant-requires-clause-depth : goal.grant-requires-clause-depth
 grant-requires-clause-depth c = record {
