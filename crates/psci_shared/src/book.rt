@@ -4,6 +4,7 @@ use crate::asking::{ask, ask_for};
 use crate::done::{Done, Said, reply_of};
 use crate::entry::{BookFull, FwEntry, FwItem};
 use crate::named::Named;
+use crate::touching::touch;
 use psci_fw::{Firmware, FwCall, FwReply, law_values};
 use psci_status::{Board, Core, Memory};
 use std::alloc::Global;
@@ -123,6 +124,13 @@ impl<N: Named> FwBook<N> {
             ≡ reply_said N.board (values_of N.board (history_of self.now.entries)) said }
     {
         reply_of(&self.firmware, said)
+    }
+
+    /// Writes to the memory of all entries that there is room for.
+    pub(crate) fn touch(&mut self)
+        ensures { self.new ≡ self.old }
+    {
+        touch(&mut self.entries, self.room, || FwEntry::blank());
     }
 
     /// How many entries there are.

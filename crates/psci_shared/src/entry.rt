@@ -6,9 +6,17 @@ ghost use Rattle.psci_fw.specs.Seen.{seen};
 ghost use Rattle.psci_shared.specs.Books.{entry};
 ghost use Rattle.psci_shared.specs.Passes.{item};
 
-use psci_fw::{Act, Firmware, FwCall, FwReply, Outcome};
+use psci_fw::{Act, Firmware, FwCall, FwReply, Outcome, Regs, Taken};
 use psci_messages::Message;
 use psci_status::Core;
+
+/// The registers of no call.
+const NOTHING: Regs = Regs {
+    x0: 0,
+    x1: 0,
+    x2: 0,
+    x3: 0,
+};
 
 /// A call of the firmware, as its book keeps it.
 #[derive(Debug, PartialEq, Drop)]
@@ -35,6 +43,12 @@ pub struct FwItem {
 }
 
 impl FwEntry {
+    /// An entry of no call.
+    pub(crate) fn blank() -> FwEntry {
+        let core = Core { number: 0 };
+        FwEntry::of(0, core, FwCall::Smc(NOTHING), FwReply::Taken(Taken::Used))
+    }
+
     /// An entry.
     pub(crate) fn of(ticket: u64, core: Core, call: FwCall, reply: FwReply) -> FwEntry
         ensures { result ≡ entry ticket core call reply }
@@ -49,6 +63,11 @@ impl FwEntry {
 }
 
 impl FwItem {
+    /// An item of no call.
+    pub(crate) fn blank() -> FwItem {
+        FwItem::of(0, FwCall::Smc(NOTHING), FwReply::Taken(Taken::Used))
+    }
+
     /// An item.
     pub(crate) fn of(place: u32, call: FwCall, reply: FwReply) -> FwItem
         ensures { result ≡ item place call reply }

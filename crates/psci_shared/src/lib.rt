@@ -24,6 +24,7 @@ mod same;
 mod shared;
 mod sighting;
 mod tickets;
+mod touching;
 mod writing;
 
 pub use agreement::agree;

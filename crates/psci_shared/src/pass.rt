@@ -2,6 +2,7 @@
 
 use crate::entry::FwItem;
 use crate::named::Named;
+use crate::touching::touch;
 use psci_status::{Core, Reader, Reading, StatusWords};
 use std::marker::Model;
 use std::sync::ledger::Share;
@@ -72,6 +73,13 @@ impl<N: Named> Pass<N> {
             share,
             reader,
         }
+    }
+
+    /// Writes to the memory of all calls to come, so that none of them is the first to touch it.
+    pub fn touch(&mut self)
+        ensures { self.new ≡ self.old }
+    {
+        touch(&mut self.items, self.room, || FwItem::blank());
     }
 
     /// The core that it is for.

@@ -107,6 +107,14 @@ impl<'t, N: Named> SharedFirmware<'t, N> {
         self.made
     }
 
+    /// Writes to the memory of all entries to come, before the firmware is shared, so that no call
+    /// is the first to touch it under the lock. [`Pass::touch`] does the same for a pass.
+    pub fn touch(&mut self)
+        ensures { self.new.made ≡ self.old.made }
+    {
+        self.locked.get_mut().book.touch();
+    }
+
     /// A pass for a core, before the firmware is shared. It takes the memory of all its calls here.
     pub fn pass(&mut self, core: Core) -> Result<Pass<N>, PassFault>
         ensures ok { IfOk result (λ p. IsFirst core N.room p) }

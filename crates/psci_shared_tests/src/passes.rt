@@ -44,6 +44,8 @@ pub(crate) fn three_calls<N: Named, R: Wait>(
 ) -> Option<bool> {
     let mut first = shared.pass(Core { number: 0 }).ok()?;
     let mut second = shared.pass(Core { number: 1 }).ok()?;
+    shared.touch();
+    first.touch();
     let right = are_answered(rt, &shared, &mut first, &mut second)?;
     let mut passes = Vec::with_capacity(alloc, 2).ok()?;
     passes.push(first).ok()?;
