@@ -1,11 +1,9 @@
 //! What the first argument of a call is to a platform.
 
 ghost use Rattle.std.specs.Prelude.{◌≡◌, ◌<◌, ◌^◌, if◌then◌else◌};
-ghost use Rattle.psci_abi.specs.Calls.{low_half};
 ghost use Rattle.psci_platform.specs.Arguments.{argument_by, there};
 
 use crate::functions::Functions;
-use psci_abi::Regs;
 use psci_abi::words::{
     AFFINITY_INFO_32, AFFINITY_INFO_64, CPU_OFF, CPU_ON_32, CPU_ON_64, CPU_SUSPEND_32,
     CPU_SUSPEND_64, MIGRATE_INFO_TYPE, NODE_HW_STATE_32, NODE_HW_STATE_64, PSCI_FEATURES,
@@ -67,23 +65,5 @@ fn there(is_there: bool, argument: Argument) -> Argument
         argument
     } else {
         Argument::Missing
-    }
-}
-
-/// The low half of a register.
-pub fn low_half(register: u64) -> u32
-    ensures { result ≡ low_half register }
-{
-    (register & 0xffff_ffff) as u32
-}
-
-/// An argument as the convention of these registers passes it: all of it, or its low half.
-pub fn passed(regs: &Regs, register: u64) -> u64
-    ensures { result ≡ Rattle.psci_abi.specs.Calls.argument regs.now register }
-{
-    if regs.is_wide() {
-        register
-    } else {
-        u64::from(low_half(register))
     }
 }

@@ -9,13 +9,13 @@ ghost use Rattle.psci_platform.specs.Calls.{asked_for, regs_for};
 ghost use Rattle.psci_platform.specs.Described.{DescriptionValue};
 ghost use Rattle.psci_platform.specs.Names.{IsReady};
 
-use crate::argument::{Argument, low_half, passed};
+use crate::argument::Argument;
 use crate::description::Description;
 use crate::functions::Functions;
 use crate::ready::Ready;
 use crate::translate::missing;
-use psci_abi::Regs;
 use psci_abi::words::{AFFINITY_INFO_32, AFFINITY_INFO_64, MIGRATE_INFO_TYPE, PSCI_VERSION};
+use psci_abi::{Regs, low};
 use psci_board::{Board, Core};
 
 impl Description {
@@ -35,7 +35,7 @@ impl Description {
         ensures asked { IfSome result (λ _. (mode : SuspendMode)
             → asked_for self.now mode regs ≡ asks.Nothing) }
     {
-        let argument = self.functions.argument_at_once(low_half(regs.x0));
+        let argument = self.functions.argument_at_once(low(regs.x0));
         self.at_once_by(board, boot, ready, regs, argument)
     }
 
@@ -55,7 +55,7 @@ impl Description {
         ensures asked { IfSome result (λ _. (mode : SuspendMode)
             → told_by self.now mode regs argument ≡ asks.Nothing) }
     {
-        let first = passed(&regs, regs.x1);
+        let first = regs.argument(regs.x1);
         match argument {
             Argument::Other => Some(regs),
             Argument::Missing => Some(missing(regs)),
@@ -64,7 +64,7 @@ impl Description {
                 Some(Regs { x1, ..regs })
             }
             Argument::Node => {
-                let level = low_half(passed(&regs, regs.x2));
+                let level = low(regs.argument(regs.x2));
                 let x1 = self.word_kept(board, boot, ready, first, level)?;
                 Some(Regs { x1, ..regs })
             }
@@ -74,8 +74,8 @@ impl Description {
 }
 
 impl Functions {
-    /// `first_argument`, which looks first whether the function is AFFINITY_INFO: that is called most
-    /// often.
+    /// `first_argument`, which looks first whether the function is AFFINITY_INFO: that is called
+    /// most often.
     #[inline(always)]
     fn argument_at_once(&self, word: u32) -> Argument
         ensures { result ≡ argument_by self.now word }
@@ -96,5 +96,5 @@ pub fn is_same_everywhere(regs: &Regs) -> bool
     ensures asked { result ≡ true → (d : DescriptionValue) (b : BoardValue) (mode : SuspendMode)
         → asked_for d mode regs.now ≡ asks.Nothing }
 {
-    matches!(low_half(regs.x0), PSCI_VERSION | MIGRATE_INFO_TYPE)
+    matches!(low(regs.x0), PSCI_VERSION | MIGRATE_INFO_TYPE)
 }

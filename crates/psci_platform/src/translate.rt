@@ -11,12 +11,12 @@ ghost use Rattle.psci_platform.specs.Cores.{core_word};
 ghost use Rattle.psci_platform.specs.Names.{IsReady};
 ghost use Rattle.psci_platform.specs.Swaps.{is_symmetric};
 
-use crate::argument::{Argument, low_half, passed};
+use crate::argument::Argument;
 use crate::asked::Asked;
 use crate::class::LEVELS;
 use crate::description::Description;
 use crate::ready::Ready;
-use psci_abi::{Regs, Request, read};
+use psci_abi::{Regs, Request, low, read};
 use psci_board::{Board, Core};
 use psci_fw_spec::SuspendMode;
 
@@ -60,7 +60,7 @@ impl Description {
         ensures regs { result.regs ≡ regs_for self.now board.now boot.number mode regs }
         ensures asked { result.asked ≡ asked_for self.now mode regs }
     {
-        let argument = self.functions.first_argument(low_half(regs.x0));
+        let argument = self.functions.first_argument(low(regs.x0));
         self.call_by(board, boot, ready, mode, regs, argument)
     }
 
@@ -81,14 +81,14 @@ impl Description {
         ensures regs { result.regs ≡ regs_by self.now board.now boot.number mode regs argument }
         ensures asked { result.asked ≡ told_by self.now mode regs argument }
     {
-        let first = passed(&regs, regs.x1);
+        let first = regs.argument(regs.x1);
         match argument {
             Argument::Missing => Call {
                 regs: missing(regs),
                 asked: Asked::Nothing,
             },
             Argument::State => {
-                let (word, states) = self.state_by(board, boot, ready, mode, low_half(first));
+                let (word, states) = self.state_by(board, boot, ready, mode, low(first));
                 with_first(regs, u64::from(word), asks_states(states))
             }
             Argument::Core => {
@@ -96,16 +96,16 @@ impl Description {
                 with_first(regs, word, Asked::Nothing)
             }
             Argument::Node => {
-                let level = low_half(passed(&regs, regs.x2));
+                let level = low(regs.argument(regs.x2));
                 let word = self.word_by(board, boot, ready, first, level);
                 with_first(regs, word, Asked::Nothing)
             }
             Argument::Function => {
-                let word = self.feature_word(low_half(first));
+                let word = self.feature_word(low(first));
                 with_first(regs, u64::from(word), Asked::Nothing)
             }
             Argument::Reset => {
-                let (word, asked) = self.reset(low_half(first));
+                let (word, asked) = self.reset(low(first));
                 with_first(regs, word, asked)
             }
             Argument::System => Call {

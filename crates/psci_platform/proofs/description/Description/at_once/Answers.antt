@@ -20,9 +20,9 @@ returns-clause-regs c =
     let same : (mode : SuspendMode) → regs mode c.argument_at_once-argument.result
     ≡ regs_for d c.args.board.now c.args.boot.number mode c.args.regs = λ mode.
     ap (regs mode) c.argument_at_once-argument.ensures
-    ∙ ap (λ (f : Functions). regs mode (argument_by f c.low_half.result))
+    ∙ ap (λ (f : Functions). regs mode (argument_by f c.low.result))
     (ap (λ (x : DescriptionValue). x.functions) c.self.view_is)
-    ∙ ap (λ (w : ℕ). regs mode (argument_by d.functions w)) c.low_half.ensures
+    ∙ ap (λ (w : ℕ). regs mode (argument_by d.functions w)) c.low.ensures
     ∙ regs_same d c.args.board.now c.args.boot.number mode c.args.regs in
     IfSome_then c.at_once_by.result c.at_once_by.ensures.regs (λ r is mode. is mode ∙ same mode)
 
@@ -33,9 +33,9 @@ returns-clause-asked c =
     let same : (mode : SuspendMode) → told mode c.argument_at_once-argument.result
     ≡ asked_for d mode c.args.regs = λ mode.
     ap (told mode) c.argument_at_once-argument.ensures
-    ∙ ap (λ (f : Functions). told mode (argument_by f c.low_half.result))
+    ∙ ap (λ (f : Functions). told mode (argument_by f c.low.result))
     (ap (λ (x : DescriptionValue). x.functions) c.self.view_is)
-    ∙ ap (λ (w : ℕ). told mode (argument_by d.functions w)) c.low_half.ensures
+    ∙ ap (λ (w : ℕ). told mode (argument_by d.functions w)) c.low.ensures
     ∙ asked_same d c.args.board.now mode c.args.regs in
     IfSome_then c.at_once_by.result c.at_once_by.ensures.asked
     (λ r is mode. sym (same mode) ∙ is mode)

@@ -11,9 +11,9 @@ returns-clause-regs c =
     let d = c.args.self.now in
     let regs = regs_by d c.args.board.now c.args.boot.number c.args.mode c.args.regs in
     c.call_by.ensures.regs ∙ ap regs c.first_argument-argument.ensures
-    ∙ ap (λ (f : Functions). regs (argument_by f c.low_half.result))
+    ∙ ap (λ (f : Functions). regs (argument_by f c.low.result))
     (ap (λ (x : DescriptionValue). x.functions) c.self.view_is)
-    ∙ ap (λ (w : ℕ). regs (argument_by d.functions w)) c.low_half.ensures
+    ∙ ap (λ (w : ℕ). regs (argument_by d.functions w)) c.low.ensures
     ∙ regs_same d c.args.board.now c.args.boot.number c.args.mode c.args.regs
 
 pub returns-clause-asked : goal.returns-clause-asked
@@ -21,7 +21,7 @@ returns-clause-asked c =
     let d = c.args.self.now in
     let told = told_by d c.args.mode c.args.regs in
     c.call_by.ensures.asked ∙ ap told c.first_argument-argument.ensures
-    ∙ ap (λ (f : Functions). told (argument_by f c.low_half.result))
+    ∙ ap (λ (f : Functions). told (argument_by f c.low.result))
     (ap (λ (x : DescriptionValue). x.functions) c.self.view_is)
-    ∙ ap (λ (w : ℕ). told (argument_by d.functions w)) c.low_half.ensures
+    ∙ ap (λ (w : ℕ). told (argument_by d.functions w)) c.low.ensures
     ∙ asked_same d c.args.board.now c.args.mode c.args.regs
