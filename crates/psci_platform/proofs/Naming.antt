@@ -164,6 +164,9 @@ pub word_missed : (d : DescriptionValue) (b : BoardValue) (boot level mpidr : �
 word_missed d b boot level mpidr t has none =
     sym (ap (word_if b) (number_missed d b boot level mpidr t has none))
 
+-- which core is named, by a table
+pub ruleset by_name = (inside, number_found, number_missed)
+
 -- Levels ---------------------------------------------------------------------------------------
 
 pub no_tables : (d : DescriptionValue) (b : BoardValue) (boot : ℕ) → AreNames d b boot []

@@ -74,8 +74,8 @@ impl Description {
 }
 
 impl Functions {
-    /// `first_argument`, which looks first whether the function is AFFINITY_INFO: that is called most
-    /// often.
+    /// `first_argument`, which looks first whether the function is AFFINITY_INFO: that is called
+    /// most often.
     #[inline(always)]
     fn argument_at_once(&self, word: u32) -> Argument
         ensures { result ≡ argument_by self.now word }

@@ -16,8 +16,8 @@ use psci_board::{Board, Core};
 use psci_fw_spec::SuspendMode;
 
 impl Description {
-    /// The affinity word of the board for an MPIDR at this level, if the names of the level are kept.
-    /// Then an MPIDR without a name names no core.
+    /// The affinity word of the board for an MPIDR at this level, if the names of the level are
+    /// kept. Then an MPIDR without a name names no core.
     #[inline(always)]
     #[tactic(auto, using(crate::proofs::Naming::word_found, crate::proofs::Naming::word_missed))]
     pub(crate) fn word_kept(
@@ -68,7 +68,8 @@ impl Description {
         word: u32,
     ) -> (u32, Option<[u8; LEVELS]>)
         requires ready { IfSome ready (λ r. IsReady self.now board.now boot.number r.now) }
-        ensures word { result.0 ≡ word_for self.now board.now.format (states_of self.now mode word) }
+        ensures word { result.0
+            ≡ word_for self.now board.now.format (states_of self.now mode word) }
         ensures states { result.1 ≡ states_of self.now mode word }
     {
         let Some(ready) = ready else {
