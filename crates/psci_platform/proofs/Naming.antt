@@ -12,7 +12,8 @@ use Rattle.std.specs.Prelude.{IfSome, is_some, nat_le, nat_lt, option_map, slice
 use Rattle.psci_board.specs.Board.{BoardValue, address, cores, height}
 use Rattle.psci_platform.specs.Cores.{core_word, no_core, number_named, word_if}
 use Rattle.psci_platform.specs.Described.{DescriptionValue}
-use Rattle.psci_platform.specs.Names.{AreAmong, AreNames, are_found, HasNames, IsName, name_in, own_name, slot_of}
+use Rattle.psci_platform.specs.Names.{AreAmong, AreNames, are_found, HasNames}
+use Rattle.psci_platform.specs.Names.{IsName, name_in, own_name, slot_of}
 use Rattle.psci_platform.specs.Swaps.{swap_for}
 use Rattle.psci_platform.specs.declared.names.Name.{Name}
 use Rattle.psci_platform.specs.declared.names.Table.{Table}
