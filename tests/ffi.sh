@@ -161,7 +161,7 @@ lib_of() {
 }
 
 # ./psci prove lib builds each archive by the kit's clang, with the words that it is called with and
-# the flags of the archive before them, and with none for x86-64
+# the flags of the archive before them
 proving_lib() {
     local kit=$1 fresh=$2 machine file words
     for machine in "" x86_64 aarch64; do
@@ -179,7 +179,7 @@ proving_lib() {
         sh "$file" -c "a b" '$c' && echo " $file"
     done) > "$work/out"
     cat > "$work/lines" << 'END'
--c;a b;$c; x86_64/libpsci_ffi.a
+-mllvm;-unroll-runtime=0;-c;a b;$c; x86_64/libpsci_ffi.a
 -mgeneral-regs-only;-mstrict-align;-c;a b;$c; aarch64/libpsci_ffi-strict-align.a
 -mgeneral-regs-only;-c;a b;$c; aarch64/libpsci_ffi.a
 END

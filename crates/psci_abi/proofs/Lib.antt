@@ -1,4 +1,5 @@
 mod CodeRows
 mod FeatureRows
+mod FunctionRows
 mod RequestRows
 mod ResultRows

@@ -8,14 +8,17 @@
 //! - A *power state format* says where a CPU_SUSPEND word has its fields (DEN0022D, CPU_SUSPEND).
 #![tactic(auto)]
 
+mod calling;
 mod code;
 mod flags;
+mod functions;
 mod registers;
 mod request;
 pub mod words;
 
 pub use code::Code;
 pub use flags::features;
+pub use functions::Function;
 pub use psci_format::Format;
-pub use registers::Regs;
+pub use registers::{Regs, low};
 pub use request::{Request, read};

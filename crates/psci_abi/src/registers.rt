@@ -1,7 +1,7 @@
 //! The registers of a call.
 
 ghost use Rattle.std.specs.Prelude.{◌≡◌, map, [], ◌∷◌};
-ghost use Rattle.psci_abi.specs.Calls.{argument, is_wide, result_of};
+ghost use Rattle.psci_abi.specs.Calls.{argument, is_wide, low_half, result_of};
 
 use crate::code::Code;
 
@@ -20,7 +20,7 @@ pub struct Regs {
 
 /// The low half of a register: what an SMC32 function, and every argument of 32 bits, reads.
 pub fn low(register: u64) -> u32
-    ensures { result ≡ Rattle.psci_abi.specs.Calls.low_half register }
+    ensures { result ≡ low_half register }
 {
     (register & 0xffff_ffff) as u32
 }
@@ -40,16 +40,22 @@ impl Regs {
         (self.x0 >> 30) % 2 == 1
     }
 
-    /// The arguments as the convention passes them: all of x1 to x3, or the low half of each.
+    /// An argument as the convention passes it: all of its register, or the low half.
+    pub fn argument(&self, register: u64) -> u64
+        ensures { result ≡ argument self.now register }
+    {
+        if self.is_wide() {
+            register
+        } else {
+            u64::from(low(register))
+        }
+    }
+
+    /// The arguments as the convention passes them.
     pub(crate) fn arguments(&self) -> [u64; 3]
         ensures { result ≡ map (argument self.now) (self.now.x1 ∷ self.now.x2 ∷ self.now.x3 ∷ []) }
     {
-        let registers = [self.x1, self.x2, self.x3];
-        if self.is_wide() {
-            registers
-        } else {
-            registers.map(|register| u64::from(low(register)))
-        }
+        [self.x1, self.x2, self.x3].map(|register| self.argument(register))
     }
 
     /// The register x0 in which the caller of these registers finds a return code.

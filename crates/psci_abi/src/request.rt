@@ -140,7 +140,9 @@ impl Request {
     }
 }
 
-/// The function that the registers call. Every value of every register has one answer.
+/// The function that the registers call. Every value of every register has one answer. Compiled
+/// into its callers, so that a request is never written to memory.
+#[inline(always)]
 pub fn read(regs: Regs) -> Request
     ensures { result ≡ request_of regs }
 {
@@ -149,6 +151,7 @@ pub fn read(regs: Regs) -> Request
 }
 
 /// The function of a word, with its arguments as the word's convention passes them.
+#[inline(always)]
 pub fn function(word: u32, x1: u64, x2: u64, x3: u64) -> Request
     ensures { result ≡ function_of word x1 x2 x3 }
 {

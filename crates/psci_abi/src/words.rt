@@ -24,6 +24,9 @@ pub const AFFINITY_INFO_32: u32 = 0x8400_0004;
 /// AFFINITY_INFO in the SMC64 convention.
 pub const AFFINITY_INFO_64: u32 = 0xC400_0004;
 
+/// MIGRATE in the SMC32 convention, which is not supported.
+pub const MIGRATE: u32 = 0x8400_0005;
+
 /// MIGRATE_INFO_TYPE.
 pub const MIGRATE_INFO_TYPE: u32 = 0x8400_0006;
 

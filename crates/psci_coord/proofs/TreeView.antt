@@ -1,10 +1,7 @@
 -- What a tree answers is what is counted below a domain of the board.
-use Rattle.std.proofs.Common.{◌≡◌, ℕ, refl, ap, ◌∙◌, ◌≤◌, List}
-use Rattle.std.specs.Prelude.{slice_index_or}
-use Rattle.std.proofs.lemmas.Option.{get_or_from_slice_get}
+use Rattle.std.proofs.Common.{◌≡◌, ℕ, refl, ap}
 use Rattle.psci_board.specs.declared.node.Node.{Node}
-use Rattle.psci_board.specs.Board.{BoardValue, up, path, height}
-use Rattle.psci_board.specs.Laws.{PathLaws}
+use Rattle.psci_board.specs.Board.{BoardValue, up}
 use Rattle.psci_tree.specs.Recount.{TreeValue, low, known}
 use Rattle.psci_tree.specs.Standing.{on_path}
 use Rattle.psci_coord.specs.declared.claim.Wish.{Wish}
@@ -31,10 +28,3 @@ pub node-is : (b : BoardValue) (t : TreeValue) (core level : ℕ) → t.levels �
     → on_path t.levels core level ≡ domain_of b core level
 unfolding up
 node-is b t core level e = ap (λ ls. on_path ls core level) e
-
--- the node of a level on a core's path
-pub path-at : (b : BoardValue) (core level : ℕ) (nodes : List Node) (n : Node) → PathLaws b
-    → nodes ≡ path b core → level ≤ height b → slice_index_or nodes level n ≡ domain_of b core level
-path-at b core level nodes n laws e h =
-    ap (λ ns. slice_index_or ns level n) e
-    ∙ get_or_from_slice_get (path b core) level (domain_of b core level) n (laws.node core level h)

@@ -1,6 +1,6 @@
 //! The firmware of one board.
 
-use psci_abi::{Regs, read};
+use psci_abi::Regs;
 use psci_board::{Board, Core, Memory, Node};
 use psci_fw_spec::{FwFault, Hw, Outcome, Start, Status, SuspendMode};
 use psci_fw_state::State;
@@ -86,7 +86,7 @@ impl Firmware {
         law_invariant();
         law_fresh();
         check_caller(&self.state, core)?;
-        Ok(dispatch(&mut self.state, core, read(regs)))
+        Ok(dispatch(&mut self.state, core, regs))
     }
 
     /// A core enters by this start: it goes on at its opening, resumes after a suspend in standby

@@ -1,7 +1,7 @@
 //! The functions that a running core calls.
 
 ghost use Rattle.std.specs.Prelude.{◌≡◌, ◌<◌, MatchResult, None, Some};
-ghost use Rattle.psci_abi.specs.Calls.{features_of};
+ghost use Rattle.psci_abi.specs.Calls.{features_of, request_of};
 ghost use Rattle.psci_board.specs.Board.{IsBoard, cores};
 ghost use Rattle.psci_fw_spec.specs.After.{change};
 ghost use Rattle.psci_fw_spec.specs.Calls.{call_fault, outcome_of};
@@ -20,7 +20,7 @@ use crate::on::cpu_on;
 use crate::reaction::Reaction;
 use crate::suspend::cpu_suspend;
 use crate::system::{system_off, system_reset, system_reset2, system_suspend};
-use psci_abi::{Code, Request, features};
+use psci_abi::{Code, Regs, Request, features, read};
 use psci_board::{Board, Core};
 use psci_fw_spec::{FwFault, Opening};
 use psci_fw_state::State;
@@ -48,26 +48,26 @@ pub fn check_caller(state: &State, core: Core) -> Result<(), FwFault>
     Ok(())
 }
 
-/// What a running core is answered to its request: in a halting life it stops, whatever it asks.
+/// What a running core is answered to its call: in a halting life it stops, whatever it asks.
 #[tactic(auto, unfolding(psci_fw_spec::specs::Calls::outcome_of))]
-pub fn dispatch(state: &mut State, caller: Core, request: Request) -> Reaction
+pub fn dispatch(state: &mut State, caller: Core, regs: Regs) -> Reaction
     requires board { IsBoard state.old.board }
     requires values { AreValues state.old.board (values_in state.old) }
     requires inside { caller.number < cores state.old.board }
     requires running { (values_in state.old).phase caller.number ≡ Running }
     ensures answer { outcome_in state.new.board (values_in state.new) result
-        ≡ outcome_of state.old.board (values_in state.old) caller.number request }
+        ≡ outcome_of state.old.board (values_in state.old) caller.number (request_of regs) }
     ensures slot { IsInItsSlot state.new.board (values_in state.new) result }
     ensures after { let outcome = outcome_in state.new.board (values_in state.new) result in
         values_in state.new ≡ change state.old.board (function_effect state.old.board caller.number
-        request outcome.act outcome.message) (values_in state.old) }
+        (request_of regs) outcome.act outcome.message) (values_in state.old) }
     ensures board { state.new.board ≡ state.old.board }
 {
     if state.halting() {
         state.set_away(caller);
         return Reaction::stops();
     }
-    function(state, caller, request)
+    function(state, caller, read(regs))
 }
 
 /// What a function answers.

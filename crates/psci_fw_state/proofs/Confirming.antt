@@ -30,17 +30,6 @@ pub record IsConfirmed (b : BoardValue) (c : ℕ) (parts : List Part) (t u : Tre
   pub levels : u.levels ≡ t.levels
   pub tree : IsDomainTree u
 
-pub none_yet : (b : BoardValue) (c : ℕ) (parts : List Part) (t : TreeValue) → IsDomainTree t
-    → IsConfirmed b c parts t t 0
-none_yet b c parts t is = record {
-  low = λ l p h. absurd (omega arith);
-  high = λ l p h. refl;
-  granted = λ l p. refl;
-  cores = λ k. refl;
-  levels = refl;
-  tree = is;
-}
-
 -- the sum of the known starts below a domain, as the values have it
 pub known_below : (b : BoardValue) (t u : TreeValue) (n : Node)
     → ((k : ℕ) → state_at u k ≡ state_at t k) → u.levels ≡ b.levels

@@ -68,23 +68,6 @@ pub record IsCounted (levels : List (List ℕ)) (old new : ℕ → Status)
   pub left : (l p : ℕ) → 0 < l → level ≤ l → l ≤ length levels → p < size_below (drop l levels)
       → counts_at kept l p ≡ counts_below levels old (record { level = l; place = p })
 
-pub counted_first : (levels : List (List ℕ)) (old new : ℕ → Status)
-    (kept : List (List StatusCounts)) → AreCounts levels old kept
-    → IsCounted levels old new kept 1
-counted_first levels old new kept are = record {
-  shape = are.shape;
-  done = λ l p some h top inside. absurd (omega arith);
-  left = λ l p some h top inside. are.each l p some top inside;
-}
-
-pub counted_all : (levels : List (List ℕ)) (old new : ℕ → Status)
-    (kept : List (List StatusCounts)) (level : ℕ) → length levels < level
-    → IsCounted levels old new kept level → AreCounts levels new kept
-counted_all levels old new kept level past so_far = record {
-  shape = so_far.shape;
-  each = λ l p some top inside. so_far.done l p some (omega arith) top inside;
-}
-
 -- one level more
 module _ (levels : List (List ℕ)) (old new : ℕ → Status) (core : ℕ)
     (there : core < size_below levels) (same : (c : ℕ) → (c ≡ core → ⊥) → new c ≡ old c)

@@ -24,7 +24,9 @@ use psci_state::Ask;
 use psci_tree::{law_confirmed, law_cores, law_granted};
 
 impl State {
-    /// A core is off or going off, unless it is pending: it stays so.
+    /// A core is off or going off, unless it is pending: it stays so. It has a frame of its own, so
+    /// that none is held for it by a call that only asks.
+    #[inline(never)]
     #[tactic(auto, unfolding(crate::specs::Seen::values_in))]
     pub fn set_away(&mut self, core: Core)
         requires inside { core.number < cores self.old.board }

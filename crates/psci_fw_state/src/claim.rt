@@ -32,7 +32,9 @@ use psci_state::Ask;
 use psci_tree::{Tree, law_confirmed, law_cores, law_granted};
 
 impl State {
-    /// What a core that is off or going off wants of its domains.
+    /// What a core that is off or going off wants of its domains. Compiled into its callers, so
+    /// that a wish has no room of its own where the firmware coordinates.
+    #[inline(always)]
     pub fn leaving_wish(&self, core: Core) -> Wish
         requires inside { core.number < cores self.now.board }
         ensures { let v = values_in self.now in wished_in self.now core.number result
@@ -91,7 +93,9 @@ impl State {
         path_refusal(&self.tree, &self.board, core, ask)
     }
 
-    /// What a core asks that goes off in OS-initiated mode.
+    /// What a core asks that goes off in OS-initiated mode. It has a frame of its own, which no
+    /// call in the other mode holds.
+    #[inline(never)]
     #[tactic(auto, unfolding(crate::specs::Seen::values_in))]
     fn off_ask(&self, core: Core) -> Ask
         requires inside { core.number < cores self.now.board }

@@ -21,7 +21,7 @@ pub struct State {
     /// SYSTEM_OFF, SYSTEM_RESET or SYSTEM_RESET2 was accepted in this life.
     pub(crate) halting: bool,
     pub(crate) mode: SuspendMode,
-    pub(crate) tree: Tree,
+    pub(crate) tree: Box<Tree>,
     /// In the order of the numbers of the cores.
     pub(crate) rows: Vec<CoreRow>,
     /// From level 1 up, of each power domain.
@@ -40,7 +40,7 @@ impl Model for State {
       life = s.life;
       halting = s.halting;
       mode = s.mode;
-      tree = s.tree;
+      tree = s.tree.value;
       rows = s.rows.items;
       counts = map (λ v. v.items) s.counts.items;
       slots = s.slots;
@@ -51,7 +51,7 @@ impl Model for State {
       life = s.life;
       halting = s.halting;
       mode = s.mode;
-      tree = s.tree;
+      tree = s.tree.value;
       rows = s.rows.items;
       counts = map (λ v. v.items) s.counts.items;
       slots = s.slots;
@@ -81,10 +81,10 @@ impl State {
     /// The same, of a tree at the start of a life. It has a frame of its own, so that none is held
     /// while the tree is made.
     #[inline(never)]
-    fn with_tree(alloc: Global, board: &Board, tree: Tree) -> Result<Box<State>, Memory>
-        requires value { tree ≡ tree_at_start board.now.levels }
-        requires levels { tree.levels ≡ board.now.levels }
-        requires tree { IsDomainTree tree }
+    fn with_tree(alloc: Global, board: &Board, tree: Box<Tree>) -> Result<Box<State>, Memory>
+        requires value { tree.value ≡ tree_at_start board.now.levels }
+        requires levels { tree.value.levels ≡ board.now.levels }
+        requires tree { IsDomainTree tree.value }
         ensures board { IfOk result (λ state. state.value.board ≡ board.now) }
         ensures values { IfOk result (λ state. values_in state.value ≡ start_of_life board.now 0) }
         ensures valid { IfOk result (λ _. IsBoard board.now) }

@@ -1,16 +1,14 @@
 //! Reading frames.
 
-ghost use Rattle.std.specs.Prelude.{◌≡◌, ◌≤◌, ◌<◌, ◌^◌, ◌+◌, ◌*◌, Ok, Some, None};
+ghost use Rattle.std.specs.Prelude.{◌≡◌, ◌≤◌, ◌<◌, ◌+◌, ◌*◌, Ok, Some, None};
 ghost use Rattle.std.specs.Prelude.{MatchResult, IfOk, IfErr};
-ghost use Rattle.std.specs.Prelude.{length, drop, slice_index};
+ghost use Rattle.std.specs.Prelude.{length, slice_index};
 ghost use Rattle.psci_link.specs.declared.frame.Frame.TheVariants as frames;
 ghost use Rattle.psci_link.specs.declared.heading.Heading.TheVariants as headings;
-ghost use Rattle.psci_messages.specs.Message.{is_climbing, is_falling};
 ghost use Rattle.psci_link.specs.Heading.{parts_of, HasHeading};
 ghost use Rattle.psci_board.specs.Board.{BoardValue};
-ghost use Rattle.std.specs.List.{list_all};
 ghost use Rattle.std.specs.Prelude.{◌==◌, ◌&&◌};
-ghost use Rattle.psci_link.specs.Frame.{frame_bytes, IsFrame, IsOf, is_within, part_in, parts_in};
+ghost use Rattle.psci_link.specs.Frame.{frame_bytes, IsFrame, IsOf, parts_in};
 ghost use Rattle.psci_link.specs.Frame.{word_at};
 ghost use Rattle.psci_link.specs.Frame.{part_fields_in, count_in, fault_of_kind, fault_of_parts};
 ghost use Rattle.psci_link.specs.Frame.{IsHeldIn, first_fault, frame_in, heading_for};
@@ -21,9 +19,11 @@ use crate::frame::{
     CORE_AT, COUNT_AT, FRAME_LEN, Frame, HEADER_LEN, KIND_AT, LIFE_AT, NUMBER_AT, PART_LEN,
 };
 use crate::heading::Heading;
+use crate::parts::{check_parts, parts_in};
+use crate::zero::is_zero;
 use psci_board::{Board, Core};
 use psci_messages::{Ack, Kind, Message};
-use psci_parts::{Part, Parts};
+use psci_parts::Parts;
 
 /// The frame that the bytes are on this board, or their first fault.
 pub fn decode(bytes: &[u8], board: &Board) -> Result<Frame, FrameFault>
@@ -40,7 +40,9 @@ pub fn decode(bytes: &[u8], board: &Board) -> Result<Frame, FrameFault>
 }
 
 /// What kind of frame of this board the bytes are, or their first fault. It takes no room for a
-/// frame: `message_in` and `ack_in` read what the caller wants of it.
+/// frame: `message_in` and `ack_in` read what the caller wants of it. Compiled into its callers, so
+/// that a kind is never written to memory.
+#[inline(always)]
 pub fn heading_on(bytes: &[u8], board: &Board) -> Result<Heading, FrameFault>
     ensures heading { IfOk result (HasHeading bytes.now) }
     ensures held { IfOk result (λ heading. IsHeldIn heading bytes.now) }
@@ -87,10 +89,21 @@ fn check(board: &Board, heading: Heading, bytes: &[u8]) -> Result<(), FrameFault
     if used == 0 {
         return Ok(());
     }
+    check_used(board, used, bytes)
+}
+
+/// The first fault of these parts of a frame on this board, if they have one. They have a frame of
+/// their own, so that none is held for a frame without parts.
+#[inline(never)]
+fn check_used(board: &Board, used: u8, bytes: &[u8]) -> Result<(), FrameFault>
+    requires whole { length bytes.now ≡ 53 }
+    requires few { used ≤ 4 }
+    ensures { let found = fault_of_parts board.now (parts_in used (part_fields_in bytes.now)) in
+        MatchResult result (λ _. found ≡ None) (λ fault. found ≡ Some fault) }
+{
     let (_, places) = bytes.split_at(HEADER_LEN);
     let parts = parts_in(used, places);
-    check_parts(board, parts.as_slice())?;
-    Ok(())
+    check_parts(board, parts.as_slice())
 }
 
 /// How many places of parts a frame of this kind uses, if its count, the bytes that are not used
@@ -118,21 +131,6 @@ fn used_on(board: &Board, heading: Heading, bytes: &[u8]) -> Result<u8, FrameFau
         return Err(FrameFault::Core);
     }
     Ok(used)
-}
-
-/// The first fault of the parts of a message on this board, if they have one.
-fn check_parts(board: &Board, parts: &[Part]) -> Result<(), FrameFault>
-    requires { length parts.now ≤ 4 }
-    ensures { MatchResult result (λ _. fault_of_parts board.now parts.now ≡ None)
-        (λ fault. fault_of_parts board.now parts.now ≡ Some fault) }
-{
-    if !is_falling(3, parts) {
-        return Err(FrameFault::Depth);
-    }
-    if !has_levels(board.height(), parts) {
-        return Err(FrameFault::Level);
-    }
-    Ok(())
 }
 
 /// The frame of this kind that the bytes hold.
@@ -201,52 +199,6 @@ fn core_in(bytes: &[u8]) -> Core
     }
 }
 
-/// Whether each byte is zero. They are looked at as words of eight bytes, as far as they go.
-fn is_zero(bytes: &[u8]) -> bool
-    ensures { result ≡ list_all (λ byte. byte == 0) bytes.now }
-{
-    match bytes {
-        [a, b, c, d, e, f, g, h, rest @ ..] => {
-            u64::from_be_bytes([*a, *b, *c, *d, *e, *f, *g, *h]) == 0 && is_zero(rest)
-        }
-        _ => is_each_zero(bytes),
-    }
-}
-
-/// The same, byte by byte.
-fn is_each_zero(bytes: &[u8]) -> bool
-    ensures { result ≡ list_all (λ byte. byte == 0) bytes.now }
-{
-    bytes.iter().all(|&byte| byte == 0)
-}
-
-/// The part whose place these bytes begin with.
-fn part_in(bytes: &[u8]) -> Part
-    requires { 10 ≤ length bytes.now }
-    ensures { result ≡ part_in bytes.now }
-{
-    Part {
-        level: u32::from(bytes[0]),
-        depth: bytes[1],
-        generation: u64::from_be_bytes([
-            bytes[2], bytes[3], bytes[4], bytes[5], bytes[6], bytes[7], bytes[8], bytes[9],
-        ]),
-    }
-}
-
-/// The parts of so many places.
-fn parts_in(count: u8, places: &[u8]) -> Parts
-    requires few { count ≤ 4 }
-    requires room { 10 * count ≤ length places.now }
-    ensures { result ≡ parts_in count places.now }
-{
-    let mut parts = Parts::new();
-    for place in 0..count as usize {
-        parts.push(part_in(&places[PART_LEN * place..]));
-    }
-    parts
-}
-
 /// The number of four bytes that begins at this one.
 fn number_at(bytes: &[u8], start: usize) -> u32
     requires { start + 4 ≤ length bytes.now }
@@ -258,43 +210,4 @@ fn number_at(bytes: &[u8], start: usize) -> u32
         bytes[start + 2],
         bytes[start + 3],
     ])
-}
-
-/// Whether each depth is at least 1, and none is above the one before it, the first not above the
-/// given one.
-fn is_falling(most: u8, parts: &[Part]) -> bool
-    ensures { result ≡ is_falling most parts.now }
-{
-    match parts {
-        [] => true,
-        [part, above @ ..] => {
-            0 < part.depth && part.depth <= most && is_falling(part.depth, above)
-        }
-    }
-}
-
-/// Whether the levels count up from this one.
-fn is_climbing(level: u32, parts: &[Part]) -> bool
-    requires { level + length parts.now < 2 ^ 32 }
-    ensures { result ≡ is_climbing level parts.now }
-{
-    match parts {
-        [] => true,
-        [part, above @ ..] => part.level == level && is_climbing(level + 1, above),
-    }
-}
-
-/// Whether the levels count up from 0, none above the height.
-fn has_levels(height: u32, parts: &[Part]) -> bool
-    requires { length parts.now ≤ 4 }
-    ensures { result ≡ (is_climbing 0 parts.now && is_within height parts.now) }
-{
-    is_climbing(0, parts) && is_within(height, parts)
-}
-
-/// Whether no part is for a level above the height.
-fn is_within(height: u32, parts: &[Part]) -> bool
-    ensures { result ≡ is_within height parts.now }
-{
-    parts.iter().all(|part| part.level <= height)
 }

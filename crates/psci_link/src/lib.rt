@@ -11,6 +11,8 @@ mod fault;
 mod frame;
 mod heading;
 mod laws;
+mod parts;
+mod zero;
 
 pub use decoding::{ack_in, decode, heading_on, message_in};
 pub use encoding::{encode, encode_ack, encode_message, write_message};

@@ -9,7 +9,7 @@ use Rattle.psci_board.specs.Board.{parent, place_above, size_below, up}
 use Rattle.psci_board.specs.declared.node.Node.{Node}
 use Rattle.psci_board.specs.Laws.{PathLaws}
 use Rattle.psci_board.proofs.Groups.{sum-cons}
-use Rattle.psci_fw_same.specs.Renumbered.{IsRenumbering}
+use Rattle.psci_fw_laws.specs.Renumbered.{IsRenumbering}
 use Rattle.psci_platform.specs.Swaps.{goes_along, is_swapped, is_symmetric, moved, swap_for}
 
 -- Tests -----------------------------------------------------------------------------------------

@@ -16,7 +16,7 @@ use Rattle.psci_board.specs.Board.{BoardValue, IsBoard, address, core_of, cores,
 use Rattle.psci_board.specs.Board.{up}
 use Rattle.psci_board.specs.declared.node.Node.{Node}
 use Rattle.psci_board.specs.Laws.{ParentLaws, PathLaws, SizeLaws, WordLaws}
-use Rattle.psci_fw_same.specs.Renumbered.{AsksBy, IsRenumbering, core_by, node_by}
+use Rattle.psci_fw_laws.specs.Renumbered.{AsksBy, IsRenumbering, core_by, node_by}
 use Rattle.psci_fw_spec.specs.declared.mode.SuspendMode.{SuspendMode}
 use Rattle.psci_platform.specs.Calls.{first_argument, is_there, regs_for}
 use Rattle.psci_platform.specs.Cores.{boot_place, core_named, core_word, number_named, word_if}

@@ -8,7 +8,7 @@ use Rattle.psci_board.specs.Board.{BoardValue, child, children, cores, domain_of
 use Rattle.psci_board.specs.Board.{height, parent, up}
 use Rattle.psci_board.specs.declared.node.Node.{Node}
 use Rattle.psci_board.specs.Laws.{ParentLaws, PathLaws, SizeLaws}
-use Rattle.psci_fw_same.specs.Renumbered.{swap}
+use Rattle.psci_fw_laws.specs.Renumbered.{swap}
 use Rattle.psci_platform.proofs.Swapped.{all_of}
 use Rattle.psci_platform.specs.Swaps.{goes_along, is_on_path, is_swapped, is_symmetric, moved}
 use Rattle.psci_platform.specs.Swaps.{moved_in, number_of, other_number, swap_for}

@@ -8,7 +8,7 @@ ghost use Rattle.psci_abi.specs.declared.request.Request.TheVariants as requests
 ghost use Rattle.psci_abi.specs.psci_format.declared.format.Format.{Format};
 ghost use Rattle.psci_board.specs.Board.{BoardValue, IsBoard, address, core_of, cores, height};
 ghost use Rattle.psci_board.specs.Board.{node_of, up};
-ghost use Rattle.psci_fw_same.specs.Renumbered.{CallsBy, IsRenumbering, reply_by, values_by};
+ghost use Rattle.psci_fw_laws.specs.Renumbered.{CallsBy, IsRenumbering, reply_by, values_by};
 ghost use Rattle.psci_fw_spec.specs.declared.call.FwCall.TheVariants as calls;
 ghost use Rattle.psci_fw_spec.specs.declared.mode.SuspendMode.{SuspendMode};
 ghost use Rattle.psci_fw_spec.specs.declared.reply.FwReply.{FwReply};
@@ -29,7 +29,7 @@ ghost use Rattle.psci_platform.specs.States.{depths_of, no_state};
 ghost use Rattle.psci_platform.specs.Swaps.{is_symmetric, swap_for};
 
 use psci_board::{law_parents, law_paths, law_sizes, law_words};
-use psci_fw_same::law_no_core_is_special;
+use psci_fw_laws::law_no_core_is_special;
 use psci_state::law_power_states;
 
 /// What a platform does not have is nothing to the firmware, whatever the board: a function that is

@@ -3,7 +3,7 @@
 ghost use Rattle.std.specs.Prelude.{◌≡◌, ◌≤◌, ◌<◌, true, Some};
 ghost use Rattle.std.specs.List.{list_all, range_with_len};
 ghost use Rattle.psci_board.specs.Board.{HasNode, cores, domain_of, height, parent};
-ghost use Rattle.psci_fw_same.specs.Renumbered.{swap};
+ghost use Rattle.psci_fw_laws.specs.Renumbered.{swap};
 ghost use Rattle.psci_platform.specs.Swaps.{goes_along, is_on_path, is_swapped, is_symmetric};
 ghost use Rattle.psci_platform.specs.Swaps.{moved, moved_in, number_of, other_number, swap_for};
 

@@ -4,7 +4,7 @@ use Rattle.std.specs.Prelude.{option_map, slice_index, unwrap_or}
 use Rattle.psci_platform.specs.Cores.{boot_place, core_named, core_word, number_named}
 use Rattle.psci_platform.specs.Platforms.{IsPlatform, PlatformValue}
 use Rattle.psci_platform.specs.Swaps.{swap_for}
-use Rattle.psci_platform.specs.psci_fw_same.Renumbered.{IsRenumbering}
+use Rattle.psci_platform.specs.psci_fw_laws.Renumbered.{IsRenumbering}
 use Rattle.psci_headline.specs.psci_board.Board.{IsBoard, core_of, cores, height, node_of, up}
 use Rattle.psci_headline.specs.psci_board.Laws.{PathLaws, WordLaws}
 use Rattle.psci_platform_safe.specs.Names.{number}

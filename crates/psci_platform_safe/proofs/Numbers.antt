@@ -8,7 +8,7 @@ use Rattle.std.proofs.lemmas.List.Quantifiers.{position-Some}
 use Rattle.psci_platform.specs.Cores.{core_named, core_word, number_named}
 use Rattle.psci_platform.specs.Platforms.{IsPlatform, PlatformValue}
 use Rattle.psci_platform.specs.Swaps.{swap_for}
-use Rattle.psci_platform.specs.psci_fw_same.Renumbered.{IsRenumbering}
+use Rattle.psci_platform.specs.psci_fw_laws.Renumbered.{IsRenumbering}
 use Rattle.psci_platform.proofs.Swapped.{core_inside}
 use Rattle.psci_headline.specs.psci_board.Board.{HasNode, IsBoard, core_of, cores, height}
 use Rattle.psci_headline.specs.psci_board.Board.{node_of, up}

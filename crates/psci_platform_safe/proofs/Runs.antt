@@ -4,7 +4,7 @@ use Rattle.std.proofs.Common.{refl, ap, sym, ◌∙◌, subst, Bool, true, false
 use Rattle.std.proofs.lemmas.List.{append-nil, append_assoc, reverse-append}
 use Rattle.std.specs.Prelude.{slice_get}
 use Rattle.psci_platform.specs.Platforms.{PlatformValue}
-use Rattle.psci_platform.specs.psci_fw_same.Renumbered.{core_by}
+use Rattle.psci_platform.specs.psci_fw_laws.Renumbered.{core_by}
 use Rattle.psci_headline.specs.psci_board.Board.{BoardValue, cores}
 use Rattle.psci_headline.specs.psci_board.declared.node.Core.{Core}
 use Rattle.psci_headline.specs.psci_ctl_spec.Replies.{ack_by, ack_of, may_follow}

@@ -6,6 +6,7 @@ pub mod Past
 mod PastRows
 mod PollRows
 mod PolledRows
+pub mod Slots
 pub mod Staying
 pub mod Steps
 pub mod Weighing

@@ -14,7 +14,7 @@ use Rattle.psci_fw_spec.specs.Changes.{PowerOn}
 use Rattle.psci_fw_spec.specs.Effects.{Effect, Nothing, GoesOn, SetsMode, AsksOn, Rests, Halts}
 use Rattle.psci_fw_spec.specs.Effects.{Stops, Enters, Parks, StopsAtOnce, Acknowledges, going_off}
 use Rattle.psci_fw_spec.specs.Exchange.{FwExchange, effect}
-use Rattle.psci_polled.specs.Naming.{asked_by, is_named, names, sent_beside}
+use Rattle.psci_polled.specs.Naming.{asked_by, is_named, names, sent_beside, slot_beside}
 use Rattle.psci_polled.proofs.Calls.{Step, board, boots, computing, enters, history, off, on}
 use Rattle.psci_polled.proofs.Calls.{system_off, takes}
 
@@ -177,6 +177,18 @@ by_a_stop = refl
 by_an_answer_alone : asked_by (record { act = acts.Return (record { 0 = pos 0 }); message = None })
     ≡ None
 by_an_answer_alone = refl
+
+-- by the number of its slot
+slot_of_3 : slot_beside (acts.Return (record { 0 = pos 0 })) (Some 3) ≡ Some (record { number = 3 })
+slot_of_3 = refl
+
+no_slot : slot_beside (acts.Return (record { 0 = pos 0 })) None ≡ None
+no_slot = refl
+
+slot_of_a_down : map (λ act. slot_beside act (Some 3))
+    (acts.Stop ∷ acts.Enter 8 0 ∷ acts.Resume ∷ [])
+    ≡ None ∷ None ∷ None ∷ []
+slot_of_a_down = refl
 
 -- this core, and no other
 of_core_2 : map (is_named (Some (record { number = 2 }))) (0 ∷ 1 ∷ 2 ∷ 3 ∷ [])

@@ -55,7 +55,7 @@ names_set c core number true = names_mode c core (mode_of number)
 names_set c core number false = refl
 
 -- a function that returns, and sends nothing
-names_return : (c core : ℕ) (r : Request) (code : Code)
+pub names_return : (c core : ℕ) (r : Request) (code : Code)
     → names (return_effect c r code) core ≡ false
 names_return c core requests.Version code = refl
 names_return c core (requests.CpuSuspend state entry_point context) code = refl
@@ -74,7 +74,7 @@ names_return c core (requests.SystemReset2 reset_type cookie) code = refl
 names_return c core requests.Unknown code = refl
 
 -- a function that stops its caller
-names_stop : (b : BoardValue) (c core : ℕ) (r : Request) (m : MessageValue)
+pub names_stop : (b : BoardValue) (c core : ℕ) (r : Request) (m : MessageValue)
     → names (stop_effect b c r m) core ≡ false
 names_stop b c core requests.Version m = refl
 names_stop b c core (requests.CpuSuspend state entry_point context) m = refl

@@ -6,8 +6,13 @@ use Rattle.atomic_table.specs.Seated.{TableId}
 use Rattle.psci_board.specs.Board.{BoardValue, IsBoard, cores}
 use Rattle.psci_board.specs.declared.node.Core.{Core}
 use Rattle.psci_fw.specs.Seen.{FirmwareValue, seen}
+use Rattle.psci_messages.specs.Message.{AckValue}
+use Rattle.psci_messages.specs.declared.taken.Taken.{Taken}
+use Rattle.psci_messages.specs.declared.taken.Taken.TheVariants.{Used, Old}
 use Rattle.psci_fw_spec.specs.declared.call.FwCall.{FwCall}
+use Rattle.psci_fw_spec.specs.declared.call.FwCall.TheVariants.{Take}
 use Rattle.psci_fw_spec.specs.declared.reply.FwReply.{FwReply}
+use Rattle.psci_fw_spec.specs.declared.reply.FwReply.TheVariants as replies
 use Rattle.psci_fw_spec.specs.declared.status.Status.{Status}
 use Rattle.psci_fw_spec.specs.declared.status.Status.TheVariants.{Off}
 use Rattle.psci_fw_spec.specs.After.{after}
@@ -16,6 +21,7 @@ use Rattle.psci_fw_spec.specs.Effects.{effect_of}
 use Rattle.psci_fw_spec.specs.History.{values_of}
 use Rattle.psci_fw_spec.specs.Lives.{start_of_life}
 use Rattle.psci_fw_spec.specs.Statuses.{added, statuses}
+use Rattle.psci_fw_spec.specs.Values.{Values}
 use Rattle.psci_status.specs.Lists.{row}
 use Rattle.psci_polled.specs.Naming.{is_named, names}
 use Rattle.psci_polled.specs.Polled.{IsPast, IsPolled, PolledView}
@@ -52,6 +58,16 @@ polled_first b f table rows n first board is fresh wrote words count =
       written = λ core small. ap (λ (l : List (List Status)). row l core) wrote
           ∙ row_same (cores b) core small ∙ sym (first_statuses b core);
     }
+
+-- a call that leaves the life
+pub life_left : (v w x : Values) → w ≡ x → x.life ≡ v.life → w.life ≡ v.life
+life_left v w x is same = ap (λ (y : Values). y.life) is ∙ same
+
+pub life_taken : (b : BoardValue) (c : ℕ) (a : AckValue) (taken : Taken) (v : Values)
+    → (after b c (Take a) (replies.Taken taken) v).life ≡ v.life
+unfolding after
+life_taken b c a Used v = refl
+life_taken b c a Old v = refl
 
 -- after a call
 pub polled_next : (f f' : FirmwareValue) (table table' : TableId) (rows rows' : List (List Status))
@@ -99,3 +115,18 @@ written_still p f f' table rows n is was same =
     (subst (λ (g : FirmwareValue). (core : ℕ) → core < cores f.board
     → row rows core ≡ written_then (seen f).life (seen g) core (row rows core)) (sym same)
     (nothing_more f.board (seen f) rows is.past))
+
+-- a call that leaves the life
+pub written_on : (p : PolledView) (f f' : FirmwareValue) (table : TableId)
+    (rows rows' : List (List Status)) (n : ℕ) → IsPolled f table rows n
+    → record { firmware = f; table = table; written = rows } ≡ p → (seen f').life ≡ (seen f).life
+    → ((core : ℕ) → core < n
+    → row rows' core ≡ written_then (seen f').life (seen f') core (row rows core))
+    → (core : ℕ) → core < cores p.firmware.board
+    → row rows' core ≡ written_then (seen p.firmware).life (seen f') core (row p.written core)
+written_on p f f' table rows rows' n is was same wrote =
+    subst (λ (x : PolledView). (core : ℕ) → core < cores x.firmware.board
+    → row rows' core ≡ written_then (seen x.firmware).life (seen f') core (row x.written core)) was
+    (λ core small. subst
+    (λ (l : ℕ). row rows' core ≡ written_then l (seen f') core (row rows core)) same
+    (wrote core (subst (λ (m : ℕ). core < m) (sym is.count) small)))

@@ -25,6 +25,12 @@ sent_beside act message = None
 abbrev pub asked_by : Outcome → Option Core
 asked_by o = sent_beside o.act o.message
 
+-- the same by the number of the slot of what was sent: a message beside a return code stands in the
+-- slot of its core
+abbrev pub slot_beside : Act → Option ℕ → Option Core
+slot_beside (acts.Return code) (Some number) = Some (record { number = number })
+slot_beside act slot = None
+
 -- whether it is this core
 abbrev pub is_named : Option Core → ℕ → Bool
 is_named None core = false

@@ -2,6 +2,7 @@
 
 use psci_board::{Board, Core, Memory};
 use psci_fw::{Firmware, FwFault, Outcome, Reaction, Regs, Start, Taken, law_values};
+use psci_fw_spec::law_caller;
 use psci_messages::Ack;
 use psci_status::{Reader, StatusWords, Writer};
 use std::alloc::Global;
@@ -47,7 +48,7 @@ ghost use Rattle.psci_status.specs.Seats.{seen as seen_by, table, table_of_reade
 ghost use Rattle.psci_polled.specs.Polled.{IsPast, IsWrittenFrom};
 
 use crate::laws::law_few_statuses;
-use crate::writing::{asked_in, life_of, write_changed};
+use crate::writing::{asked_in, life_of, write_changed, write_one};
 
 impl PolledFirmware {
     /// The firmware of this board, before any core has entered, and its status words. They take the
@@ -112,15 +113,15 @@ impl PolledFirmware {
     {
         law_values();
         law_few_statuses();
+        law_caller();
         let PolledFirmware {
             firmware,
             writer,
             cores,
         } = self;
-        let before = life_of(firmware);
         let reaction = firmware.smc_in_slot(core, regs)?;
-        let asked = asked_in(firmware, &reaction);
-        write_changed(words, writer, firmware, before, asked, *cores);
+        let asked = asked_in(&reaction);
+        write_one(words, writer, firmware, asked, *cores);
         Ok(reaction)
     }
 
@@ -197,10 +198,9 @@ impl PolledFirmware {
             writer,
             cores,
         } = self;
-        let before = life_of(firmware);
         let core = ack.core;
         let taken = firmware.take(ack);
-        write_changed(words, writer, firmware, before, Some(core), *cores);
+        write_one(words, writer, firmware, Some(core), *cores);
         taken
     }
 

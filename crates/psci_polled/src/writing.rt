@@ -2,13 +2,12 @@
 
 ghost use Rattle.std.specs.Prelude.{◌≡◌, ◌≢◌, ℕ, ◌+◌, ◌<◌, ◌^◌, false, length};
 ghost use Rattle.psci_board.specs.Board.{cores};
-ghost use Rattle.psci_fw.specs.Reactions.{outcome_in};
 ghost use Rattle.psci_fw.specs.Seen.{seen};
 ghost use Rattle.psci_fw_spec.specs.Lives.{first_status};
 ghost use Rattle.psci_fw_spec.specs.Statuses.{added};
 ghost use Rattle.psci_status.specs.Lists.{row};
 ghost use Rattle.psci_status.specs.Seats.{table, table_of_writer, written};
-ghost use Rattle.psci_polled.specs.Naming.{asked_by, is_named};
+ghost use Rattle.psci_polled.specs.Naming.{asked_by, is_named, slot_beside};
 ghost use Rattle.psci_polled.specs.Writing.{one_more, written_then};
 
 use psci_board::Core;
@@ -25,15 +24,12 @@ pub fn asked_on(outcome: &Outcome) -> Option<Core>
     }
 }
 
-/// The same by a reaction, whose message stands in its slot.
-pub(crate) fn asked_in(firmware: &Firmware, reaction: &Reaction) -> Option<Core>
-    ensures { result
-        ≡ asked_by (outcome_in firmware.now.board (seen firmware.now) reaction.now) }
+/// The same by a reaction: a message beside a return code stands in the slot of its core.
+pub(crate) fn asked_in(reaction: &Reaction) -> Option<Core>
+    ensures { result ≡ slot_beside reaction.now.act reaction.now.slot }
 {
     match (reaction.act, reaction.slot) {
-        (Act::Return(_), Some(number)) => {
-            firmware.outstanding(number).map(|message| message.core)
-        }
+        (Act::Return(_), Some(number)) => Some(Core { number }),
         _ => None,
     }
 }
@@ -47,6 +43,7 @@ pub(crate) fn life_of(firmware: &Firmware) -> u32
 
 /// Writes the statuses after a call: of all cores where it began a life, else of the one core whose
 /// status it may have changed.
+#[inline(always)]
 pub fn write_changed(
     words: &StatusWords,
     writer: &mut Writer,
@@ -67,22 +64,46 @@ pub fn write_changed(
         ≡ written_then before (seen firmware.now) core (row (written writer.old) core) }
 {
     let life = life_of(firmware);
-    if life == 0 {
-        return;
-    }
-    if life != before {
+    if life != 0 && life != before {
         write_all(words, writer, firmware, count);
         return;
     }
+    write_one(words, writer, firmware, changed, count);
+}
+
+/// Writes the status after a call that left the life: of the one core whose status it may have
+/// changed. Compiled into its callers, so that a call that names no core does nothing here.
+#[inline(always)]
+pub fn write_one(
+    words: &StatusWords,
+    writer: &mut Writer,
+    firmware: &Firmware,
+    changed: Option<Core>,
+    count: u16,
+)
+    requires words { table_of_writer writer.old ≡ table words.now }
+    requires cores { (count ≡ cores firmware.now.board) × ((table words.now).words ≡ count) }
+    requires few { (core : ℕ) → core < count → length (row (written writer.old) core) < 2 ^ 60 }
+    requires others { (core : ℕ) → core < count → is_named changed core ≡ false
+        → (seen firmware.now).life ≢ 0
+        → added ((seen firmware.now).status core) (row (written writer.old) core)
+        ≡ row (written writer.old) core }
+    ensures table { table_of_writer writer.new ≡ table_of_writer writer.old }
+    ensures log { (core : ℕ) → core < count → row (written writer.new) core
+        ≡ written_then (seen firmware.now).life (seen firmware.now) core
+        (row (written writer.old) core) }
+{
     let Some(core) = changed else {
         return;
     };
-    if core.number < count {
+    if life_of(firmware) != 0 && core.number < count {
         words.update(writer, core, status_of(firmware, core));
     }
 }
 
-/// Writes the status of each core, and before it that of the start of the life that has begun.
+/// Writes the status of each core, and before it that of the start of the life that has begun. It
+/// has a frame of its own, since few calls begin a life.
+#[inline(never)]
 fn write_all(words: &StatusWords, writer: &mut Writer, firmware: &Firmware, count: u16)
     requires words { table_of_writer writer.old ≡ table words.now }
     requires cores { (count ≡ cores firmware.now.board) × ((table words.now).words ≡ count) }

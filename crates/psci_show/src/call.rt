@@ -1,7 +1,7 @@
 //! Calls, in words.
 
 use crate::domain::{SharesText, TargetText};
-use crate::names::{function_name, mode_name};
+use crate::names::mode_name;
 use psci_state::Ask;
 use psci_world::Board;
 use psci_world_spec::{Regs, Request, read};
@@ -63,8 +63,8 @@ impl fmt::Display for FunctionText {
             x2: 0,
             x3: 0,
         };
-        match function_name(read(alone)) {
-            Some(name) => write!(f, "{name}"),
+        match read(alone).function() {
+            Some(function) => write!(f, "{}", function.name()),
             None => {
                 let word = self.0 % (1 << 32);
                 write!(f, "unknown function 0x{word:x}")

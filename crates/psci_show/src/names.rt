@@ -2,26 +2,6 @@
 
 use psci_world_spec::{Kind, Request};
 
-/// The name of a function, as the standard has it, or none of an unknown one.
-pub fn function_name(request: Request) -> Option<&'static str> {
-    match request {
-        Request::Version => Some("PSCI_VERSION"),
-        Request::CpuSuspend { .. } => Some("CPU_SUSPEND"),
-        Request::CpuOff => Some("CPU_OFF"),
-        Request::CpuOn { .. } => Some("CPU_ON"),
-        Request::AffinityInfo { .. } => Some("AFFINITY_INFO"),
-        Request::MigrateInfoType => Some("MIGRATE_INFO_TYPE"),
-        Request::SystemOff => Some("SYSTEM_OFF"),
-        Request::SystemReset => Some("SYSTEM_RESET"),
-        Request::Features { .. } => Some("PSCI_FEATURES"),
-        Request::NodeHwState { .. } => Some("NODE_HW_STATE"),
-        Request::SystemSuspend { .. } => Some("SYSTEM_SUSPEND"),
-        Request::SetSuspendMode { .. } => Some("PSCI_SET_SUSPEND_MODE"),
-        Request::SystemReset2 { .. } => Some("SYSTEM_RESET2"),
-        Request::Unknown => None,
-    }
-}
-
 /// The name of a return code that is no value of a function.
 pub fn code_name(code: i32) -> Option<&'static str> {
     match code {

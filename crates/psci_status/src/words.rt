@@ -8,7 +8,7 @@ ghost use Rattle.psci_fw_spec.specs.declared.status.Status.TheVariants.{Off};
 ghost use Rattle.psci_fw_spec.specs.AffinityInfo.{status_code};
 ghost use Rattle.psci_fw_spec.specs.Statuses.{added};
 ghost use Rattle.psci_status.specs.Lists.{row, Rises, gain, gains, newest, Within, Begins, IsLast};
-ghost use Rattle.psci_status.specs.Lists.{item_of, status_of};
+ghost use Rattle.psci_status.specs.Lists.{IsWord, item_of, status_of};
 ghost use Rattle.psci_status.specs.Seats.{seen, table, table_of_reader, table_of_writer, written};
 
 use crate::coding::{number_of, status_of};
@@ -53,8 +53,33 @@ impl StatusWords {
         ensures log { written writer.new ≡ slice_set (written writer.old) core.number
             (status ∷ row (written writer.old) core.number) }
     {
+        let found = self.word(writer, core);
+        self.write(writer, core, found, status);
+    }
+
+    /// The word of a core.
+    fn word(&self, writer: &mut Writer, core: Core) -> u64
+        requires table { table_of_writer writer.old ≡ table self.now }
+        requires core { core.number < (table self.now).words }
+        ensures table { table_of_writer writer.new ≡ table_of_writer writer.old }
+        ensures log { written writer.new ≡ written writer.old }
+        ensures word { IsWord (row (written writer.old) core.number) result }
+    {
         let place = core.number as usize;
-        let found = self.table.shared.load::<Looks>(&mut writer.seat, place);
+        self.table.shared.load::<Looks>(&mut writer.seat, place)
+    }
+
+    /// Writes the status of a core, one item more than its word holds.
+    fn write(&self, writer: &mut Writer, core: Core, found: u64, status: Status)
+        requires table { table_of_writer writer.old ≡ table self.now }
+        requires core { core.number < (table self.now).words }
+        requires few { length (row (written writer.old) core.number) < 2 ^ 61 }
+        requires word { IsWord (row (written writer.old) core.number) found }
+        ensures table { table_of_writer writer.new ≡ table_of_writer writer.old }
+        ensures log { written writer.new ≡ slice_set (written writer.old) core.number
+            (status ∷ row (written writer.old) core.number) }
+    {
+        let place = core.number as usize;
         let next = (found / 4 + 1) * 4 + number_of(status);
         self.table
             .shared
@@ -70,8 +95,7 @@ impl StatusWords {
         ensures last { (rest : List Status)
             × (row (written writer.old) core.number ≡ result ∷ rest) }
     {
-        let place = core.number as usize;
-        let found = self.table.shared.load::<Looks>(&mut writer.seat, place);
+        let found = self.word(writer, core);
         status_of(found % 4)
     }
 
@@ -86,9 +110,9 @@ impl StatusWords {
         ensures others { (other : ℕ) → other ≢ core.number
             → row (written writer.new) other ≡ row (written writer.old) other }
     {
-        let last = self.last(writer, core);
-        if last != status {
-            self.set(writer, core, status);
+        let found = self.word(writer, core);
+        if found % 4 != number_of(status) {
+            self.write(writer, core, found, status);
         }
     }
 

@@ -1,13 +1,14 @@
 -- Of which tally records are that send a message or enter with context 0; which answers are the
 -- same; and that every sort of question has its own place in the table.
 use Rattle.std.proofs.Common.{◌≡◌, true, false, List, [], ◌∷◌, Bool, map, refl}
-use Rattle.std.specs.Prelude.{negsuc, pos}
+use Rattle.std.specs.Prelude.{negsuc, pos, ◌++◌}
 use Rattle.std.specs.List.{range_with_len}
 use Rattle.psci_world_spec.specs.psci_fw_spec.declared.outcome.Act.TheVariants as acts
 use Rattle.psci_world_spec.specs.psci_messages.declared.kind.Kind.TheVariants as kinds
 use Rattle.psci_world_spec.proofs.Scripts as scripts
 use Rattle.psci_world_spec.specs.declared.event.Event.TheVariants as events
 use Rattle.psci_world_spec.specs.declared.said.Said.TheVariants as sayings
+use Rattle.psci_world_spec.specs.psci_abi.declared.functions.Function.TheVariants as functions
 use Rattle.psci_storm.specs.declared.asked.Asked.TheVariants as asked
 use Rattle.psci_storm.specs.declared.answer.Answer.{Answer}
 use Rattle.psci_storm.specs.declared.answer.Answer.TheVariants as answers
@@ -43,7 +44,7 @@ off_carried_out = refl
 -- a record that is tallied: a call of core 3, and a wake-up of the last core
 pub last_core_calls : asked_of
     (events.Call 255 (record { x0 = 0x84000002; x1 = 0; x2 = 0; x3 = 0 }))
-    ≡ asked.CpuOff
+    ≡ asked.Call functions.CpuOff
 last_core_calls = refl
 
 pub last_core_woken : tally_of (record { event = events.Wake 255; said = sayings.Ignored })
@@ -92,11 +93,12 @@ like_old = refl
 -- The sorts of questions --------------------------------------------------------------------------
 
 -- in the order of the table, from 0 on
-pub indexes : map asked_index (asked.Version ∷ asked.CpuSuspend ∷ asked.CpuOff ∷ asked.CpuOn
-    ∷ asked.AffinityInfo ∷ asked.MigrateInfoType ∷ asked.SystemOff ∷ asked.SystemReset
-    ∷ asked.Features ∷ asked.NodeHwState ∷ asked.SystemSuspend ∷ asked.SetSuspendMode
-    ∷ asked.SystemReset2 ∷ asked.Unknown ∷ asked.Enter ∷ asked.Wake ∷ asked.Reset
-    ∷ asked.Deliver ∷ asked.Take ∷ []) ≡ range_with_len 0 19
+pub indexes : map asked_index (map asked.Call (functions.Version ∷ functions.CpuSuspend
+    ∷ functions.CpuOff ∷ functions.CpuOn ∷ functions.AffinityInfo ∷ functions.MigrateInfoType
+    ∷ functions.SystemOff ∷ functions.SystemReset ∷ functions.Features ∷ functions.NodeHwState
+    ∷ functions.SystemSuspend ∷ functions.SetSuspendMode ∷ functions.SystemReset2 ∷ [])
+    ++ (asked.Unknown ∷ asked.Enter ∷ asked.Wake ∷ asked.Reset ∷ asked.Deliver ∷ asked.Take
+    ∷ [])) ≡ range_with_len 0 19
 indexes = refl
 
 -- one record of several, the first and the last, and none

@@ -4,6 +4,7 @@ use Rattle.std.specs.Fmt.{digits}
 use Rattle.std.specs.Prelude.{codes, flat_map, negsuc, pos}
 use Rattle.psci_world_spec.specs.declared.event.Event.TheVariants as events
 use Rattle.psci_world_spec.specs.declared.said.Said.TheVariants as sayings
+use Rattle.psci_world_spec.specs.psci_abi.declared.functions.Function.TheVariants as functions
 use Rattle.psci_storm.specs.declared.asked.Asked.TheVariants as asked
 use Rattle.psci_storm.specs.declared.answer.Answer.TheVariants as answers
 use Rattle.psci_storm.specs.declared.table.TheConstants.{TALLIES}
@@ -11,43 +12,45 @@ use Rattle.psci_storm.specs.Counts.{answer_text, asked_text, count_line, count_l
 use Rattle.psci_storm.specs.Counts.{tally_text}
 
 -- what was asked
-pub version_text : asked_text asked.Version ≡ codes "version"
+pub version_text : asked_text (asked.Call functions.Version) ≡ codes "version"
 version_text = refl
 
-pub cpu_suspend_text : asked_text asked.CpuSuspend ≡ codes "cpu_suspend"
+pub cpu_suspend_text : asked_text (asked.Call functions.CpuSuspend) ≡ codes "cpu_suspend"
 cpu_suspend_text = refl
 
-pub cpu_off_text : asked_text asked.CpuOff ≡ codes "cpu_off"
+pub cpu_off_text : asked_text (asked.Call functions.CpuOff) ≡ codes "cpu_off"
 cpu_off_text = refl
 
-pub cpu_on_text : asked_text asked.CpuOn ≡ codes "cpu_on"
+pub cpu_on_text : asked_text (asked.Call functions.CpuOn) ≡ codes "cpu_on"
 cpu_on_text = refl
 
-pub affinity_info_text : asked_text asked.AffinityInfo ≡ codes "affinity_info"
+pub affinity_info_text : asked_text (asked.Call functions.AffinityInfo) ≡ codes "affinity_info"
 affinity_info_text = refl
 
-pub migrate_info_type_text : asked_text asked.MigrateInfoType ≡ codes "migrate_info_type"
+pub migrate_info_type_text : asked_text (asked.Call functions.MigrateInfoType)
+    ≡ codes "migrate_info_type"
 migrate_info_type_text = refl
 
-pub system_off_text : asked_text asked.SystemOff ≡ codes "system_off"
+pub system_off_text : asked_text (asked.Call functions.SystemOff) ≡ codes "system_off"
 system_off_text = refl
 
-pub system_reset_text : asked_text asked.SystemReset ≡ codes "system_reset"
+pub system_reset_text : asked_text (asked.Call functions.SystemReset) ≡ codes "system_reset"
 system_reset_text = refl
 
-pub features_text : asked_text asked.Features ≡ codes "features"
+pub features_text : asked_text (asked.Call functions.Features) ≡ codes "features"
 features_text = refl
 
-pub node_hw_state_text : asked_text asked.NodeHwState ≡ codes "node_hw_state"
+pub node_hw_state_text : asked_text (asked.Call functions.NodeHwState) ≡ codes "node_hw_state"
 node_hw_state_text = refl
 
-pub system_suspend_text : asked_text asked.SystemSuspend ≡ codes "system_suspend"
+pub system_suspend_text : asked_text (asked.Call functions.SystemSuspend) ≡ codes "system_suspend"
 system_suspend_text = refl
 
-pub set_suspend_mode_text : asked_text asked.SetSuspendMode ≡ codes "set_suspend_mode"
+pub set_suspend_mode_text : asked_text (asked.Call functions.SetSuspendMode)
+    ≡ codes "set_suspend_mode"
 set_suspend_mode_text = refl
 
-pub system_reset2_text : asked_text asked.SystemReset2 ≡ codes "system_reset2"
+pub system_reset2_text : asked_text (asked.Call functions.SystemReset2) ≡ codes "system_reset2"
 system_reset2_text = refl
 
 pub unknown_text : asked_text asked.Unknown ≡ codes "unknown"
@@ -132,7 +135,7 @@ none_applied_stale = refl
 
 -- what was asked comes first
 pub start_used_up : tally_text
-    (record { asked = asked.CpuOn; answer = answers.Return (negsuc 5) })
+    (record { asked = asked.Call functions.CpuOn; answer = answers.Return (negsuc 5) })
     ≡ codes "cpu_on return -6"
 unfolding digits
 start_used_up = refl

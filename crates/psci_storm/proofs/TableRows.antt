@@ -4,6 +4,7 @@ use Rattle.std.specs.Fmt.{digits}
 use Rattle.std.specs.Prelude.{codes}
 use Rattle.std.specs.List.{list_any}
 use Rattle.psci_storm.specs.declared.asked.Asked.{Asked}
+use Rattle.psci_world_spec.specs.psci_abi.declared.functions.Function.TheVariants as functions
 use Rattle.psci_storm.specs.declared.asked.Asked.TheVariants as asked
 use Rattle.psci_storm.specs.declared.table.TheConstants.{TALLIES}
 use Rattle.psci_storm.specs.Counts.{tally_text}
@@ -111,19 +112,19 @@ tallies_spelled = refl
 
 -- The table has a row for each thing that is asked.
 pub has_row : (a : Asked) → list_any (λ t. asked_index t.asked == asked_index a) TALLIES ≡ true
-has_row asked.Version = refl
-has_row asked.CpuSuspend = refl
-has_row asked.CpuOff = refl
-has_row asked.CpuOn = refl
-has_row asked.AffinityInfo = refl
-has_row asked.MigrateInfoType = refl
-has_row asked.SystemOff = refl
-has_row asked.SystemReset = refl
-has_row asked.Features = refl
-has_row asked.NodeHwState = refl
-has_row asked.SystemSuspend = refl
-has_row asked.SetSuspendMode = refl
-has_row asked.SystemReset2 = refl
+has_row (asked.Call functions.Version) = refl
+has_row (asked.Call functions.CpuSuspend) = refl
+has_row (asked.Call functions.CpuOff) = refl
+has_row (asked.Call functions.CpuOn) = refl
+has_row (asked.Call functions.AffinityInfo) = refl
+has_row (asked.Call functions.MigrateInfoType) = refl
+has_row (asked.Call functions.SystemOff) = refl
+has_row (asked.Call functions.SystemReset) = refl
+has_row (asked.Call functions.Features) = refl
+has_row (asked.Call functions.NodeHwState) = refl
+has_row (asked.Call functions.SystemSuspend) = refl
+has_row (asked.Call functions.SetSuspendMode) = refl
+has_row (asked.Call functions.SystemReset2) = refl
 has_row asked.Unknown = refl
 has_row asked.Enter = refl
 has_row asked.Wake = refl

@@ -9,6 +9,7 @@ use Rattle.psci_world_spec.specs.psci_messages.declared.taken.Taken.TheVariants 
 use Rattle.psci_world_spec.proofs.Scripts as scripts
 use Rattle.psci_world_spec.specs.declared.event.Event.TheVariants as events
 use Rattle.psci_world_spec.specs.declared.said.Said.TheVariants as sayings
+use Rattle.psci_world_spec.specs.psci_abi.declared.functions.Function.TheVariants as functions
 use Rattle.psci_storm.specs.declared.asked.Asked.TheVariants as asked
 use Rattle.psci_storm.specs.declared.answer.Answer.TheVariants as answers
 use Rattle.psci_storm.specs.Tallies.{answer_of, asked_of, is_tally, tally_of}
@@ -18,52 +19,56 @@ abbrev call : ℕ → Regs
 call word = record { x0 = word; x1 = 1; x2 = 2; x3 = 3 }
 
 -- calls go by their function, in either convention; the upper half of x0 is not looked at
-pub version : asked_of (events.Call 0 (call 0x84000000)) ≡ asked.Version
+pub version : asked_of (events.Call 0 (call 0x84000000)) ≡ asked.Call functions.Version
 version = refl
 
-pub cpu_suspend : asked_of (events.Call 0 (call 0xc4000001)) ≡ asked.CpuSuspend
+pub cpu_suspend : asked_of (events.Call 0 (call 0xc4000001)) ≡ asked.Call functions.CpuSuspend
 cpu_suspend = refl
 
-pub cpu_off : asked_of (events.Call 0 (call 0x84000002)) ≡ asked.CpuOff
+pub cpu_off : asked_of (events.Call 0 (call 0x84000002)) ≡ asked.Call functions.CpuOff
 cpu_off = refl
 
-pub cpu_on : asked_of (events.Call 3 (call 0x84000003)) ≡ asked.CpuOn
+pub cpu_on : asked_of (events.Call 3 (call 0x84000003)) ≡ asked.Call functions.CpuOn
 cpu_on = refl
 
-pub cpu_on_64 : asked_of (events.Call 3 (call 0xdead0000c4000003)) ≡ asked.CpuOn
+pub cpu_on_64 : asked_of (events.Call 3 (call 0xdead0000c4000003)) ≡ asked.Call functions.CpuOn
 cpu_on_64 = refl
 
-pub affinity_info : asked_of (events.Call 0 (call 0xc4000004)) ≡ asked.AffinityInfo
+pub affinity_info : asked_of (events.Call 0 (call 0xc4000004)) ≡ asked.Call functions.AffinityInfo
 affinity_info = refl
 
-pub migrate_info_type : asked_of (events.Call 0 (call 0x84000006)) ≡ asked.MigrateInfoType
+pub migrate_info_type : asked_of (events.Call 0 (call 0x84000006))
+    ≡ asked.Call functions.MigrateInfoType
 migrate_info_type = refl
 
-pub system_off : asked_of (events.Call 0 (call 0x84000008)) ≡ asked.SystemOff
+pub system_off : asked_of (events.Call 0 (call 0x84000008)) ≡ asked.Call functions.SystemOff
 system_off = refl
 
-pub system_reset : asked_of (events.Call 0 (call 0x84000009)) ≡ asked.SystemReset
+pub system_reset : asked_of (events.Call 0 (call 0x84000009)) ≡ asked.Call functions.SystemReset
 system_reset = refl
 
-pub features : asked_of (events.Call 0 (call 0x8400000a)) ≡ asked.Features
+pub features : asked_of (events.Call 0 (call 0x8400000a)) ≡ asked.Call functions.Features
 features = refl
 
-pub node_hw_state : asked_of (events.Call 0 (call 0x8400000d)) ≡ asked.NodeHwState
+pub node_hw_state : asked_of (events.Call 0 (call 0x8400000d)) ≡ asked.Call functions.NodeHwState
 node_hw_state = refl
 
-pub wide_node_hw_state : asked_of (events.Call 0 (call 0xc400000d)) ≡ asked.NodeHwState
+pub wide_node_hw_state : asked_of (events.Call 0 (call 0xc400000d))
+    ≡ asked.Call functions.NodeHwState
 wide_node_hw_state = refl
 
-pub system_suspend : asked_of (events.Call 0 (call 0xc400000e)) ≡ asked.SystemSuspend
+pub system_suspend : asked_of (events.Call 0 (call 0xc400000e)) ≡ asked.Call functions.SystemSuspend
 system_suspend = refl
 
-pub set_suspend_mode : asked_of (events.Call 0 (call 0x8400000f)) ≡ asked.SetSuspendMode
+pub set_suspend_mode : asked_of (events.Call 0 (call 0x8400000f))
+    ≡ asked.Call functions.SetSuspendMode
 set_suspend_mode = refl
 
-pub system_reset2 : asked_of (events.Call 0 (call 0x84000012)) ≡ asked.SystemReset2
+pub system_reset2 : asked_of (events.Call 0 (call 0x84000012)) ≡ asked.Call functions.SystemReset2
 system_reset2 = refl
 
-pub wide_system_reset2 : asked_of (events.Call 0 (call 0xc4000012)) ≡ asked.SystemReset2
+pub wide_system_reset2 : asked_of (events.Call 0 (call 0xc4000012))
+    ≡ asked.Call functions.SystemReset2
 wide_system_reset2 = refl
 
 -- CPU_OFF has no word in the SMC64 convention
@@ -125,17 +130,19 @@ pub absent : answer_of sayings.Absent ≡ answers.Absent
 absent = refl
 
 -- tallies differ in what was asked, and in what was answered
-pub same : is_tally (record { asked = asked.CpuOn; answer = answers.Return (negsuc 1) })
-    (record { asked = asked.CpuOn; answer = answers.Return (negsuc 1) }) ≡ true
+pub same : is_tally
+    (record { asked = asked.Call functions.CpuOn; answer = answers.Return (negsuc 1) })
+    (record { asked = asked.Call functions.CpuOn; answer = answers.Return (negsuc 1) }) ≡ true
 same = refl
 
-pub asked_otherwise : is_tally (record { asked = asked.CpuOn; answer = answers.Stop })
-    (record { asked = asked.CpuOff; answer = answers.Stop }) ≡ false
+pub asked_otherwise : is_tally
+    (record { asked = asked.Call functions.CpuOn; answer = answers.Stop })
+    (record { asked = asked.Call functions.CpuOff; answer = answers.Stop }) ≡ false
 asked_otherwise = refl
 
 pub another_code : is_tally
-    (record { asked = asked.CpuOn; answer = answers.Return (negsuc 1) })
-    (record { asked = asked.CpuOn; answer = answers.Return (negsuc 2) }) ≡ false
+    (record { asked = asked.Call functions.CpuOn; answer = answers.Return (negsuc 1) })
+    (record { asked = asked.Call functions.CpuOn; answer = answers.Return (negsuc 2) }) ≡ false
 another_code = refl
 
 pub stale_otherwise : is_tally

@@ -1,15 +1,11 @@
 -- How tallies are spelled, and the lines of counts.
 use Rattle.std.specs.Prelude.{ℕ, List, [], ◌∷◌, ◌++◌, codes, count_by, flat_map}
 use Rattle.std.specs.Fmt.{decimal, signed_decimal}
+use Rattle.psci_world_spec.specs.psci_abi.Functions.{short_name}
 use Rattle.psci_world_spec.specs.psci_messages.StaleText.{stale_text}
 use Rattle.psci_world_spec.specs.declared.said.Record.{Record}
 use Rattle.psci_storm.specs.declared.asked.Asked.{Asked}
-use Rattle.psci_storm.specs.declared.asked.Asked.TheVariants.{Version, CpuSuspend, CpuOff, CpuOn}
-use Rattle.psci_storm.specs.declared.asked.Asked.TheVariants.{AffinityInfo, MigrateInfoType}
-use Rattle.psci_storm.specs.declared.asked.Asked.TheVariants.{SystemOff, SystemReset, Features}
-use Rattle.psci_storm.specs.declared.asked.Asked.TheVariants.{NodeHwState, SystemSuspend}
-use Rattle.psci_storm.specs.declared.asked.Asked.TheVariants.{SetSuspendMode, SystemReset2}
-use Rattle.psci_storm.specs.declared.asked.Asked.TheVariants.{Unknown}
+use Rattle.psci_storm.specs.declared.asked.Asked.TheVariants.{Call, Unknown}
 use Rattle.psci_storm.specs.declared.asked.Asked.TheVariants.{Wake, Reset, Deliver, Take}
 use Rattle.psci_storm.specs.declared.asked.Asked.TheVariants.{Enter as Entry}
 use Rattle.psci_storm.specs.declared.answer.Answer.{Answer}
@@ -20,21 +16,9 @@ use Rattle.psci_storm.specs.declared.tally.Tally.{Tally}
 use Rattle.psci_storm.specs.declared.table.TheConstants.{TALLIES}
 use Rattle.psci_storm.specs.Tallies.{is_tally, tally_of}
 
--- what was asked: the name of the function without PSCI, or the word of the event
+-- what was asked: the short name of the function, or the word of the event
 abbrev pub asked_text : Asked → List ℕ
-asked_text Version = codes "version"
-asked_text CpuSuspend = codes "cpu_suspend"
-asked_text CpuOff = codes "cpu_off"
-asked_text CpuOn = codes "cpu_on"
-asked_text AffinityInfo = codes "affinity_info"
-asked_text MigrateInfoType = codes "migrate_info_type"
-asked_text SystemOff = codes "system_off"
-asked_text SystemReset = codes "system_reset"
-asked_text Features = codes "features"
-asked_text NodeHwState = codes "node_hw_state"
-asked_text SystemSuspend = codes "system_suspend"
-asked_text SetSuspendMode = codes "set_suspend_mode"
-asked_text SystemReset2 = codes "system_reset2"
+asked_text (Call function) = short_name function
 asked_text Unknown = codes "unknown"
 asked_text Entry = codes "enter"
 asked_text Wake = codes "wake"

@@ -1,9 +1,10 @@
 -- Of which tally a record is: what was asked, with what was answered.
-use Rattle.std.specs.Prelude.{ℕ, Bool, true, false, ◌&&◌, ◌==◌, if◌then◌else◌, not}
+use Rattle.std.specs.Prelude.{ℕ, Option, None, Some, Bool, true, false, ◌&&◌, ◌==◌, if◌then◌else◌}
+use Rattle.std.specs.Prelude.{not}
 use Rattle.std.specs.Ordering.{int_eq}
 use Rattle.psci_world_spec.specs.psci_abi.Calls.{request_of}
-use Rattle.psci_world_spec.specs.psci_abi.declared.request.Request.{Request}
-use Rattle.psci_world_spec.specs.psci_abi.declared.request.Request.TheVariants as requests
+use Rattle.psci_world_spec.specs.psci_abi.Functions.{function_in, function_index}
+use Rattle.psci_world_spec.specs.psci_abi.declared.functions.Function.{Function}
 use Rattle.psci_world_spec.specs.psci_fw_spec.declared.outcome.Act.{Act}
 use Rattle.psci_world_spec.specs.psci_fw_spec.declared.outcome.Act.TheVariants as acts
 use Rattle.psci_world_spec.specs.psci_messages.declared.taken.Taken.{Taken}
@@ -14,12 +15,7 @@ use Rattle.psci_world_spec.specs.declared.said.Record.{Record}
 use Rattle.psci_world_spec.specs.declared.said.Said.{Said}
 use Rattle.psci_world_spec.specs.declared.said.Said.TheVariants as sayings
 use Rattle.psci_storm.specs.declared.asked.Asked.{Asked}
-use Rattle.psci_storm.specs.declared.asked.Asked.TheVariants.{Version, CpuSuspend, CpuOff, CpuOn}
-use Rattle.psci_storm.specs.declared.asked.Asked.TheVariants.{AffinityInfo, MigrateInfoType}
-use Rattle.psci_storm.specs.declared.asked.Asked.TheVariants.{SystemOff, SystemReset, Features}
-use Rattle.psci_storm.specs.declared.asked.Asked.TheVariants.{NodeHwState, SystemSuspend}
-use Rattle.psci_storm.specs.declared.asked.Asked.TheVariants.{SetSuspendMode, SystemReset2}
-use Rattle.psci_storm.specs.declared.asked.Asked.TheVariants.{Unknown}
+use Rattle.psci_storm.specs.declared.asked.Asked.TheVariants.{Call, Unknown}
 use Rattle.psci_storm.specs.declared.asked.Asked.TheVariants.{Wake, Reset, Deliver, Take}
 use Rattle.psci_storm.specs.declared.asked.Asked.TheVariants.{Enter as Entry}
 use Rattle.psci_storm.specs.declared.answer.Answer.{Answer}
@@ -28,26 +24,14 @@ use Rattle.psci_storm.specs.declared.answer.Answer.TheVariants.{Started, Acked, 
 use Rattle.psci_storm.specs.declared.answer.Answer.TheVariants.{Ignored, Absent}
 use Rattle.psci_storm.specs.declared.tally.Tally.{Tally}
 
--- the function of a request
-abbrev pub asked_in : Request → Asked
-asked_in requests.Version = Version
-asked_in (requests.CpuSuspend state entry context) = CpuSuspend
-asked_in requests.CpuOff = CpuOff
-asked_in (requests.CpuOn target entry context) = CpuOn
-asked_in (requests.AffinityInfo target level) = AffinityInfo
-asked_in requests.MigrateInfoType = MigrateInfoType
-asked_in requests.SystemOff = SystemOff
-asked_in requests.SystemReset = SystemReset
-asked_in (requests.Features word) = Features
-asked_in (requests.NodeHwState target level) = NodeHwState
-asked_in (requests.SystemSuspend entry context) = SystemSuspend
-asked_in (requests.SetSuspendMode mode) = SetSuspendMode
-asked_in (requests.SystemReset2 reset_type cookie) = SystemReset2
-asked_in requests.Unknown = Unknown
+-- what a call of this function asks
+abbrev pub asked_by : Option Function → Asked
+asked_by (Some function) = Call function
+asked_by None = Unknown
 
 -- what an event asks: a call by the function of its registers
 abbrev pub asked_of : Event → Asked
-asked_of (events.Call c regs) = asked_in (request_of regs)
+asked_of (events.Call c regs) = asked_by (function_in (request_of regs))
 asked_of (events.Enter c) = Entry
 asked_of (events.Wake c) = Wake
 asked_of (events.Reset c) = Reset
@@ -81,19 +65,7 @@ tally_of r = record { asked = asked_of r.event; answer = answer_of r.said }
 
 -- which of the sorts it is, in their order
 abbrev pub asked_index : Asked → ℕ
-asked_index Version = 0
-asked_index CpuSuspend = 1
-asked_index CpuOff = 2
-asked_index CpuOn = 3
-asked_index AffinityInfo = 4
-asked_index MigrateInfoType = 5
-asked_index SystemOff = 6
-asked_index SystemReset = 7
-asked_index Features = 8
-asked_index NodeHwState = 9
-asked_index SystemSuspend = 10
-asked_index SetSuspendMode = 11
-asked_index SystemReset2 = 12
+asked_index (Call function) = function_index function
 asked_index Unknown = 13
 asked_index Entry = 14
 asked_index Wake = 15

@@ -3,7 +3,6 @@
 use crate::draws::{Draws, Mood};
 use crate::exits::{count_at, is_last_exit};
 use crate::plain::affinity;
-use crate::requests::registers;
 use crate::sight::Sight;
 use crate::states::deepest;
 use psci_abi::Request;
@@ -90,7 +89,7 @@ impl Draws {
         } else {
             Request::NodeHwState { target, level }
         };
-        Event::Call(u64::from(number), registers(request, true))
+        Event::Call(u64::from(number), request.registers(true))
     }
 
     /// The affinity word of a core that sleeps, mostly, if there is one; else of any core.
@@ -112,7 +111,7 @@ impl Draws {
         let regs = if sight.is_halting() {
             self.call_of(sight, number)
         } else {
-            registers(self.errand_of(sight), true)
+            self.errand_of(sight).registers(true)
         };
         Event::Call(u64::from(number), regs)
     }

@@ -1,9 +1,10 @@
 //! Plain draws: any call, with arguments that are good or bad, and any other event.
 
 use crate::draws::Draws;
-use crate::requests::{NO_FUNCTION, registers};
 use crate::sight::Sight;
-use psci_abi::words::{CPU_ON_64, CPU_SUSPEND_32, CPU_SUSPEND_64, PSCI_FEATURES, SYSTEM_RESET2_32};
+use psci_abi::words::{
+    CPU_ON_64, CPU_SUSPEND_32, CPU_SUSPEND_64, MIGRATE, PSCI_FEATURES, SYSTEM_RESET2_32,
+};
 use psci_abi::{Regs, Request};
 use psci_world_spec::{Board, Event, Place};
 
@@ -11,7 +12,7 @@ use psci_world_spec::{Board, Event, Place};
 ///
 /// CPU_OFF has no SMC64 form, and no function number has bit 25.
 const WORDS: [u32; 8] = [
-    NO_FUNCTION,
+    MIGRATE,
     CPU_SUSPEND_32,
     CPU_SUSPEND_64,
     PSCI_FEATURES,
@@ -176,7 +177,7 @@ impl Draws {
     fn call(&mut self, board: &Board) -> Regs {
         let request = self.request(board);
         let wide = !self.one_in(4);
-        let mut regs = registers(request, wide);
+        let mut regs = request.registers(wide);
         if self.one_in(8) {
             regs.x0 |= self.word() << 32;
         }
@@ -194,7 +195,7 @@ impl Draws {
             } else {
                 self.reset()
             };
-            return registers(request, true);
+            return request.registers(true);
         }
         self.call(sight.board())
     }

@@ -3,13 +3,17 @@
 use crate::answer::Answer::{
     Absent, Acked, Enter, Ignored, Old, Resume, Return, Started, Stop, Used,
 };
-use crate::asked::Asked;
+use crate::asked::Asked::{self, Call};
 use crate::tally::Tally;
+use psci_abi::Function::{
+    AffinityInfo, CpuOff, CpuOn, CpuSuspend, Features, MigrateInfoType, NodeHwState,
+    SetSuspendMode, SystemOff, SystemReset, SystemReset2, SystemSuspend, Version,
+};
 
 /// The tallies of a table, which has a row for each thing that is asked, with what may be answered.
 macro_rules! tallies {
-    ($($asked:ident: $($answer:expr),+;)+) => {
-        [$($(Tally { asked: Asked::$asked, answer: $answer }),+),+]
+    ($($asked:expr => $($answer:expr),+;)+) => {
+        [$($(Tally { asked: $asked, answer: $answer }),+),+]
     };
 }
 
@@ -17,28 +21,28 @@ macro_rules! tallies {
 /// whatever it calls. On a board of height 1 or 2 no message has the fourth part that the last
 /// acknowledgements speak of. PSCI_FEATURES of CPU_SUSPEND returns 1 or 3, by the board's format.
 pub const TALLIES: [Tally; 97] = tallies! {
-    Version: Return(65537), Stop, Ignored, Absent;
-    CpuSuspend: Return(0), Return(-2), Return(-3), Return(-9), Stop, Ignored, Absent;
-    CpuOff: Stop, Ignored, Absent;
-    CpuOn: Return(0), Return(-2), Return(-4), Return(-5), Return(-6), Return(-9), Stop, Ignored,
-        Absent;
-    AffinityInfo: Return(0), Return(1), Return(2), Return(-2), Stop, Ignored, Absent;
-    MigrateInfoType: Return(2), Stop, Ignored, Absent;
-    SystemOff: Stop, Ignored, Absent;
-    SystemReset: Stop, Ignored, Absent;
-    Features: Return(0), Return(1), Return(3), Return(-1), Stop, Ignored, Absent;
-    NodeHwState: Return(0), Return(1), Return(2), Return(-2), Stop, Ignored, Absent;
-    SystemSuspend: Return(-3), Return(-9), Stop, Ignored, Absent;
-    SetSuspendMode: Return(0), Return(-2), Return(-3), Stop, Ignored, Absent;
-    SystemReset2: Return(-2), Stop, Ignored, Absent;
-    Unknown: Return(-1), Stop, Ignored, Absent;
-    Enter: Enter, Resume, Stop, Ignored, Absent;
-    Wake: Started, Ignored, Absent;
-    Reset: Started, Ignored, Absent;
-    Deliver: Acked { applied: 0, stale: true },
+    Call(Version) => Return(65537), Stop, Ignored, Absent;
+    Call(CpuSuspend) => Return(0), Return(-2), Return(-3), Return(-9), Stop, Ignored, Absent;
+    Call(CpuOff) => Stop, Ignored, Absent;
+    Call(CpuOn) => Return(0), Return(-2), Return(-4), Return(-5), Return(-6), Return(-9), Stop,
+        Ignored, Absent;
+    Call(AffinityInfo) => Return(0), Return(1), Return(2), Return(-2), Stop, Ignored, Absent;
+    Call(MigrateInfoType) => Return(2), Stop, Ignored, Absent;
+    Call(SystemOff) => Stop, Ignored, Absent;
+    Call(SystemReset) => Stop, Ignored, Absent;
+    Call(Features) => Return(0), Return(1), Return(3), Return(-1), Stop, Ignored, Absent;
+    Call(NodeHwState) => Return(0), Return(1), Return(2), Return(-2), Stop, Ignored, Absent;
+    Call(SystemSuspend) => Return(-3), Return(-9), Stop, Ignored, Absent;
+    Call(SetSuspendMode) => Return(0), Return(-2), Return(-3), Stop, Ignored, Absent;
+    Call(SystemReset2) => Return(-2), Stop, Ignored, Absent;
+    Asked::Unknown => Return(-1), Stop, Ignored, Absent;
+    Asked::Enter => Enter, Resume, Stop, Ignored, Absent;
+    Asked::Wake => Started, Ignored, Absent;
+    Asked::Reset => Started, Ignored, Absent;
+    Asked::Deliver => Acked { applied: 0, stale: true },
         Acked { applied: 1, stale: false }, Acked { applied: 1, stale: true },
         Acked { applied: 2, stale: false }, Acked { applied: 2, stale: true },
         Acked { applied: 3, stale: false }, Acked { applied: 3, stale: true },
         Acked { applied: 4, stale: false }, Ignored, Absent;
-    Take: Used, Old, Absent;
+    Asked::Take => Used, Old, Absent;
 };

@@ -13,19 +13,7 @@ impl fmt::Display for Asked {
 
     fn fmt<W: fmt::Write>(&self, f: &mut fmt::Formatter<W>) -> fmt::Result {
         match self {
-            Asked::Version => write!(f, "version"),
-            Asked::CpuSuspend => write!(f, "cpu_suspend"),
-            Asked::CpuOff => write!(f, "cpu_off"),
-            Asked::CpuOn => write!(f, "cpu_on"),
-            Asked::AffinityInfo => write!(f, "affinity_info"),
-            Asked::MigrateInfoType => write!(f, "migrate_info_type"),
-            Asked::SystemOff => write!(f, "system_off"),
-            Asked::SystemReset => write!(f, "system_reset"),
-            Asked::Features => write!(f, "features"),
-            Asked::NodeHwState => write!(f, "node_hw_state"),
-            Asked::SystemSuspend => write!(f, "system_suspend"),
-            Asked::SetSuspendMode => write!(f, "set_suspend_mode"),
-            Asked::SystemReset2 => write!(f, "system_reset2"),
+            Asked::Call(function) => write!(f, "{}", function.short_name()),
             Asked::Unknown => write!(f, "unknown"),
             Asked::Enter => write!(f, "enter"),
             Asked::Wake => write!(f, "wake"),

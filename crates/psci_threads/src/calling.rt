@@ -9,7 +9,7 @@ use crate::worker::{State, TURNS, Worker};
 use psci_abi::Request;
 use psci_fw::{Act, Code, Outcome};
 use psci_shared::{CallFault, Core, Named, Status};
-use psci_storm::{affinity, registers};
+use psci_storm::affinity;
 use std::sync::Wait;
 use std::thread;
 
@@ -52,7 +52,7 @@ impl<N: Named, M: Named> Worker<N, M> {
         }
         let answered = self
             .watch
-            .smc(rt, platform.firmware, registers(request, true));
+            .smc(rt, platform.firmware, request.registers(true));
         if asks_on && !is_accepted(&answered) {
             platform.wire.step_out();
         }

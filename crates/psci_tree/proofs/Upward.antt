@@ -72,10 +72,6 @@ pub some_of : {X : Type 0} (t : Bool) (x y : X) → cond t (Some x) None ≡ Som
 some_of true x y e = (refl, ap (λ o. unwrap_or o x) e)
 some_of false x y e = absurd (cc)
 
-pub none_of : {X : Type 0} (t : Bool) (x : X) → cond t (Some x) None ≡ None → t ≡ false
-none_of true x e = absurd (cc)
-none_of false x e = refl
-
 below_node : (b : BoardValue) (n : Node)
     → (ltb n.level (height b) && ltb n.place (nodes b n.level)) ≡ true
     → (n.level < length b.levels) × (n.place < size_below (drop n.level b.levels))

@@ -1,3 +1,4 @@
+pub mod Beside
 pub mod Changes
 pub mod Domains
 pub mod Inside
@@ -5,4 +6,3 @@ pub mod Kept
 pub mod Recount
 pub mod Standing
 pub mod Way
-pub mod Parts

@@ -42,10 +42,7 @@ pub fn root_of(alloc: Global, board: &Board) -> Result<Box<Domain>, Memory>
     ensures kept { IfOk result (λ root. IsKept root.value) }
 {
     let root = build(alloc, board)?;
-    match Box::new(alloc, root) {
-        Ok(root) => Ok(root),
-        Err(_) => Err(Memory),
-    }
+    Box::new(alloc, root).map_err(|_| Memory)
 }
 
 /// So many cores, off and never started.

@@ -11,11 +11,11 @@ ghost use Rattle.psci_tree.specs.Changes.{with_path_cleared, all_off, start_of_l
 
 use crate::descent::{activate_core, change_core, turn_off};
 use crate::grants::{clear_up, fill_rows, write};
-use crate::parts::{BOOT_CORE, TreeParts};
+use crate::tree::{BOOT_CORE, Tree};
 use psci_board::{Core, Node};
 use psci_state::{Activity, Ask, Change, NEVER_STARTED};
 
-impl TreeParts {
+impl Tree {
     /// Puts the tree to the start of a life, in place.
     pub fn reset_life(&mut self)
         ensures value { self.new ≡ start_of_life self.old.levels }

@@ -15,6 +15,7 @@
 //! - A value of a domain *below* is recounted over all cores whose path the domain is on.
 #![tactic(auto)]
 
+mod beside;
 mod build;
 mod changes;
 mod descent;
@@ -22,7 +23,6 @@ mod domain;
 mod grants;
 mod kept;
 mod laws;
-mod parts;
 mod standing;
 mod tree;
 mod way;

@@ -1,51 +1,116 @@
 //! The tree of power domains.
 
+use crate::beside::{Rows, rows_of};
 use crate::build::root_of;
-use crate::parts::{BOOT_CORE, TreeParts, rows_of};
+use crate::descent::{domain_at, standing_on};
+use crate::domain::Domain;
 use crate::standing::Standing;
-use psci_board::{Board, Core, Memory, Node, law_sizes};
-use psci_state::{Activity, Ask};
+use crate::way::Way;
+use psci_board::{Board, Core, Memory, Node, law_sizes, law_spans};
+use psci_state::{Activity, CoreState, NEVER_STARTED};
 use std::alloc::Global;
 use std::marker::Model;
 
-/// What each core asks of its power domains, how often it was started, and what was granted. All of
-/// it stands in memory of its own, so that a tree is moved as a pointer.
+/// The core that a life begins with.
+pub const BOOT_CORE: Core = Core { number: 0 };
+
+/// What each core asks of its power domains, how often it was started, and what was granted. It is
+/// made in memory of its own, so that a tree is moved as a pointer.
 #[derive(Drop)]
 pub struct Tree {
-    parts: Box<TreeParts>,
+    /// The board whose power domains they are.
+    pub(crate) board: Board,
+    /// What is kept of each core, in the order of their numbers. Its leaf holds the same: here it
+    /// is read without a way down.
+    pub(crate) cores: Vec<CoreState>,
+    /// The way to each core, in the order of their numbers.
+    pub(crate) ways: Vec<Way>,
+    /// From level 0 up, the granted depth of each domain.
+    pub(crate) granted: Vec<Vec<u8>>,
+    /// From level 0 up, the depth of each domain that is confirmed, 0 of one that has none.
+    pub(crate) confirmed: Vec<Vec<u8>>,
+    /// The domain of the whole system, with all others below it.
+    pub(crate) root: Domain,
 }
 
 impl Model for Tree {
+    ghost use Rattle.std.specs.Prelude.{map};
     ghost use Rattle.psci_tree.specs.Recount.{TreeValue};
+    ghost use Rattle.psci_tree.specs.Domains.{leaves};
+    ghost use Rattle.psci_tree.specs.Inside.{IsHeld};
 
     ghost Value = { TreeValue };
 
-    ghost view = { λ t. t.parts.value };
+    ghost view = { λ t. record {
+      levels = t.board.levels;
+      cores = leaves t.root;
+      granted = map (λ v. v.items) t.granted.items;
+      confirmed = map (λ v. v.items) t.confirmed.items;
+    } };
+
+    ghost invariant = { λ t. IsHeld t.root t.cores.items t.ways.items (record {
+      levels = t.board.levels;
+      cores = leaves t.root;
+      granted = map (λ v. v.items) t.granted.items;
+      confirmed = map (λ v. v.items) t.confirmed.items;
+    }) };
 }
 
-ghost use Rattle.std.specs.Prelude.{◌≡◌, ◌<◌, ◌≤◌, length, IfOk};
-ghost use Rattle.psci_board.specs.Board.{size_below, HasNodeIn};
+ghost use Rattle.std.specs.Prelude.{◌≡◌, ◌<◌, ◌≤◌, map, length, replicate, IfOk};
+ghost use Rattle.psci_board.specs.Board.{IsBoard, size_below, HasNodeIn, below_in};
+ghost use Rattle.psci_tree.specs.declared.domain.Domain.{Domain, out-Domain};
 ghost use Rattle.psci_tree.specs.Recount.{IsDomainTree, state_at, known_at, low, known, active};
-ghost use Rattle.psci_tree.specs.Recount.{off, granted_at, is_confirmed_at};
-ghost use Rattle.psci_tree.specs.Changes.{MayGrant, suspended, turned_off, made_pending, started};
-ghost use Rattle.psci_tree.specs.Changes.{start_of_life, with_grant, with_confirmed};
+ghost use Rattle.psci_tree.specs.Recount.{off, granted_at, confirmed_at, is_confirmed_at};
+ghost use Rattle.psci_tree.specs.Recount.{never_started};
+ghost use Rattle.psci_tree.specs.Beside.{AreFull};
+ghost use Rattle.psci_tree.specs.Changes.{all_off, start_of_life};
+ghost use Rattle.psci_tree.specs.Domains.{IsWhole, leaves};
+ghost use Rattle.psci_tree.specs.Kept.{IsKept, Keeps};
 ghost use Rattle.psci_tree.specs.Standing.{on_path, standing};
 
 impl Tree {
     /// The tree of a board at the start of a life: the boot core, core 0, is pending, every other
     /// core is off, and every domain off the boot core's path is granted depth 3, which is
     /// confirmed.
-    pub fn new(alloc: Global, board: &Board) -> Result<Tree, Memory>
-        ensures value { IfOk result (λ tree. tree ≡ start_of_life board.now.levels) }
-        ensures levels { IfOk result (λ tree. tree.levels ≡ board.now.levels) }
-        ensures tree { IfOk result (λ tree. IsDomainTree tree) }
+    pub fn new(alloc: Global, board: &Board) -> Result<Box<Tree>, Memory>
+        ensures value { IfOk result (λ tree. tree.value ≡ start_of_life board.now.levels) }
+        ensures levels { IfOk result (λ tree. tree.value.levels ≡ board.now.levels) }
+        ensures tree { IfOk result (λ tree. IsDomainTree tree.value) }
     {
         let root = root_of(alloc, board)?;
         let rows = rows_of(alloc, board)?;
-        let mut parts = TreeParts::all_off(alloc, board, root, rows)?;
+        let mut tree = Tree::all_off(alloc, board, root, rows)?;
         law_sizes();
-        parts.set_pending(BOOT_CORE);
-        Ok(Tree { parts })
+        tree.set_pending(BOOT_CORE);
+        Ok(tree)
+    }
+
+    /// The tree of a board, made of these domains and rows: every core is off, and every domain is
+    /// granted depth 3, which is confirmed. It has a frame of its own.
+    #[inline(never)]
+    fn all_off(
+        alloc: Global,
+        board: &Board,
+        root: Box<Domain>,
+        rows: Box<Rows>,
+    ) -> Result<Box<Tree>, Memory>
+        requires whole { IsWhole root.value board.now.levels }
+        requires off { leaves root.value ≡ replicate (size_below board.now.levels) never_started }
+        requires kept { IsKept root.value }
+        requires rows { AreFull board.now rows.value }
+        ensures value { IfOk result (λ tree. tree.value ≡ all_off board.now.levels) }
+        ensures board { IfOk result (λ _. IsBoard board.now) }
+    {
+        let rows = Box::into_inner(rows);
+        let tree = Tree {
+            cores: rows.cores,
+            ways: rows.ways,
+            granted: rows.granted,
+            confirmed: rows.confirmed,
+            board: board.copy(alloc)?,
+            root: Box::into_inner(root),
+        };
+        Box::new(alloc, tree).map_err(|_| Memory)
     }
 
     /// The least ask at a level of the cores below a domain: 0 above the board's height, where no
@@ -54,7 +119,11 @@ impl Tree {
         requires { HasNodeIn self.now.levels node }
         ensures { result ≡ low self.now node level }
     {
-        self.parts.low(node, level)
+        law_spans();
+        if level > self.board.height() {
+            return 0;
+        }
+        self.domain(node).kept.lows[level as usize]
     }
 
     /// The sum of the known starts of the cores below a domain.
@@ -62,7 +131,7 @@ impl Tree {
         requires { HasNodeIn self.now.levels node }
         ensures { result ≡ known self.now node }
     {
-        self.parts.known(node)
+        self.domain(node).kept.known
     }
 
     /// How many cores below a domain are running or pending.
@@ -70,7 +139,7 @@ impl Tree {
         requires { HasNodeIn self.now.levels node }
         ensures { result ≡ active self.now node }
     {
-        self.parts.active(node)
+        self.domain(node).kept.active
     }
 
     /// How many cores below a domain are off or going off.
@@ -78,7 +147,7 @@ impl Tree {
         requires { HasNodeIn self.now.levels node }
         ensures { result ≡ off self.now node }
     {
-        self.parts.off(node)
+        self.domain(node).kept.off
     }
 
     /// How the domain of this level on the path of a core stands.
@@ -87,7 +156,9 @@ impl Tree {
         requires level { level ≤ length self.now.levels }
         ensures { result ≡ standing self.now (on_path self.now.levels core.number level) }
     {
-        self.parts.standing(core, level)
+        law_spans();
+        let way = &self.ways[core.number as usize];
+        standing_on(&self.root, &self.board, core, way, level)
     }
 
     /// The domain of this level on the path of a core.
@@ -96,7 +167,11 @@ impl Tree {
         requires level { level ≤ length self.now.levels }
         ensures { result ≡ on_path self.now.levels core.number level }
     {
-        self.parts.on_path(core, level)
+        let way = &self.ways[core.number as usize];
+        Node {
+            level,
+            place: way.places[level as usize],
+        }
     }
 
     /// The granted depth of a domain.
@@ -105,7 +180,8 @@ impl Tree {
         ensures value { result ≡ granted_at self.now node.level node.place }
         ensures tree { IsDomainTree self.now }
     {
-        self.parts.granted(node)
+        let row = &self.granted[node.level as usize];
+        row[node.place as usize]
     }
 
     /// Whether what was granted to a domain is confirmed.
@@ -113,92 +189,50 @@ impl Tree {
         requires { HasNodeIn self.now.levels node }
         ensures { result ≡ is_confirmed_at self.now node.level node.place }
     {
-        self.parts.confirmed(node)
+        self.confirmed_depth(node) > 0
     }
 
     /// What a core does. A core that the board does not have is off.
     pub fn activity(&self, core: Core) -> Activity
         ensures { result ≡ (state_at self.now core.number).activity }
     {
-        self.parts.activity(core)
+        self.core(core).activity
     }
 
     /// The known start of a core, 0 of one that the board does not have.
     pub fn known_start(&self, core: Core) -> u32
         ensures { result ≡ known_at self.now core.number }
     {
-        self.parts.known_start(core)
+        self.core(core).known
     }
 
-    /// Puts the tree to the start of a life, in place.
-    pub fn reset_life(&mut self)
-        ensures value { self.new ≡ start_of_life self.old.levels }
-        ensures levels { self.new.levels ≡ self.old.levels }
-        ensures tree { IsDomainTree self.new }
+    /// The depth of a domain that is confirmed, or 0.
+    pub(crate) fn confirmed_depth(&self, node: Node) -> u8
+        requires { HasNodeIn self.now.levels node }
+        ensures { result ≡ confirmed_at self.now node.level node.place }
     {
-        self.parts.reset_life();
+        let places = &self.confirmed[node.level as usize];
+        places[node.place as usize]
     }
 
-    /// Grants a depth to a domain. Another one than before is not confirmed.
-    pub fn grant(&mut self, node: Node, depth: u8)
-        requires domain { HasNodeIn self.old.levels node }
-        requires depth { MayGrant self.old node depth }
-        ensures value { self.new ≡ with_grant self.old node depth }
-        ensures levels { self.new.levels ≡ self.old.levels }
-        ensures tree { IsDomainTree self.new }
+    /// What is kept of a core.
+    fn core(&self, core: Core) -> CoreState
+        ensures { result ≡ state_at self.now core.number }
     {
-        self.parts.grant(node, depth);
+        self.cores
+            .get(core.number as usize)
+            .copied()
+            .unwrap_or(NEVER_STARTED)
     }
 
-    /// Confirms what was granted to a domain.
-    pub fn confirm(&mut self, node: Node)
-        requires domain { HasNodeIn self.old.levels node }
-        requires granted { 1 ≤ granted_at self.old node.level node.place }
-        ensures value { self.new ≡ with_confirmed self.old node }
-        ensures levels { self.new.levels ≡ self.old.levels }
-        ensures tree { IsDomainTree self.new }
+    /// The domain of a node.
+    fn domain(&self, node: Node) -> &Domain
+        requires { HasNodeIn self.now.levels node }
+        ensures cores { leaves result.now
+            ≡ map (λ c. state_at self.now c) (below_in self.now.levels node) }
+        ensures kept { Keeps (out-Domain result.now).kept (leaves result.now) }
     {
-        self.parts.confirm(node);
-    }
-
-    /// A core is suspended, with this ask.
-    pub fn set_ask(&mut self, core: Core, ask: Ask)
-        requires { core.number < size_below self.old.levels }
-        ensures value { self.new ≡ suspended self.old core.number ask }
-        ensures levels { self.new.levels ≡ self.old.levels }
-        ensures tree { IsDomainTree self.new }
-    {
-        self.parts.set_ask(core, ask);
-    }
-
-    /// A core is off, or going off.
-    pub fn set_off(&mut self, core: Core)
-        requires { core.number < size_below self.old.levels }
-        ensures value { self.new ≡ turned_off self.old core.number }
-        ensures levels { self.new.levels ≡ self.old.levels }
-        ensures tree { IsDomainTree self.new }
-    {
-        self.parts.set_off(core);
-    }
-
-    /// A core is pending: nothing is granted or confirmed any more on its path.
-    pub fn set_pending(&mut self, core: Core)
-        requires { core.number < size_below self.old.levels }
-        ensures value { self.new ≡ made_pending self.old core.number }
-        ensures levels { self.new.levels ≡ self.old.levels }
-        ensures tree { IsDomainTree self.new }
-    {
-        self.parts.set_pending(core);
-    }
-
-    /// A core runs in its start of this number: nothing is granted or confirmed any more on its
-    /// path.
-    pub fn set_start(&mut self, core: Core, number: u32)
-        requires { core.number < size_below self.old.levels }
-        ensures value { self.new ≡ started self.old core.number number }
-        ensures levels { self.new.levels ≡ self.old.levels }
-        ensures tree { IsDomainTree self.new }
-    {
-        self.parts.set_start(core, number);
+        law_spans();
+        domain_at(&self.root, &self.board, node)
     }
 }

@@ -1,10 +1,8 @@
-use Rattle.std.proofs.Common.{◌≡◌, ◌∙◌, None, subst, sym}
-use Rattle.psci_abi.specs.declared.request.Request.{Request}
+use Rattle.std.proofs.Common.{◌≡◌, ◌∙◌, None, refl, subst, sym}
+use Rattle.psci_abi.specs.Calls.{request_of}
 use Rattle.psci_board.specs.Board.{BoardValue, IsBoard}
 use Rattle.psci_fw_spec.specs.declared.call.FwCall.TheVariants.{Smc}
-use Rattle.psci_fw_spec.specs.After.{change}
 use Rattle.psci_fw_spec.specs.Calls.{call_fault}
-use Rattle.psci_fw_spec.specs.Effects.{function_effect}
 use Rattle.psci_fw_spec.specs.Invariant.{AreValues}
 use Rattle.psci_fw_state.specs.Seen.{StateValue, values_in}
 use Rattle.psci_fw.specs.Reactions.{outcome_in}
@@ -29,11 +27,9 @@ invariant_of-self c =
     record {
       board = subst IsBoard at before.board;
       values = subst (λ (x : BoardValue). AreValues x w) at (subst (AreValues b)
-          (sym (called b v w core c.args.regs _ o fault c.read.ensures c.dispatch.ensures.answer
-          left))
+          (sym (called b v w core c.args.regs (request_of c.args.regs) o fault refl
+          c.dispatch.ensures.answer left))
           (c.law_invariant.ensures.answer b v core (Smc c.args.regs) before.board before.values));
       fresh = subst (λ (x : BoardValue). IsFresh x w) at (subst (IsFresh b) (sym left)
-          (subst (λ (r : Request). IsFresh b
-          (change b (function_effect b core r o.act o.message) v))
-          (sym c.read.ensures) (c.law_fresh.ensures.call b v core c.args.regs o fault)));
+          (c.law_fresh.ensures.call b v core c.args.regs o fault));
     }

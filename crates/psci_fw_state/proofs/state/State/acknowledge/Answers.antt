@@ -20,7 +20,7 @@ returns-then-is_off-clause-used c = λ used.
       life = c.self.inside.life;
       halting = c.self.inside.halting;
       mode = c.self.inside.mode;
-      tree = c.self.inside.tree;
+      tree = c.self.inside.tree.value;
       rows = c.self.inside.rows.items;
       counts = map (λ v. v.items) c.self.inside.counts.items;
       slots = c.self.inside.slots;
@@ -45,15 +45,16 @@ returns-then-is_off-clause-used c = λ used.
     omega (arith, c.self.invariant.rows, c.self.invariant.slots) in
     let row : c.row_of.result ≡ row_at s.rows a.core.number =
     c.row_of.ensures ∙ ap (λ xs. row_at xs a.core.number) c.deref.ensures.value in
-    let rows = rows_set c.self.inside.rows c.deref_mut.result.now c.put_row.new.rows
+    let rows = rows_set c.self.inside.rows c.deref_mut-then-is_off.result.now c.put_row.new.rows
     a.core.number (record { status = statuses.Off; opening = c.row_of.result.opening })
-    c.deref_mut.ensures.value c.put_row.ensures.rows in
+    c.deref_mut-then-is_off.ensures.value c.put_row.ensures.rows in
     let acked : IsAcked s c.confirm_parts.new.tree a =
     acked_by s c.confirm_parts.new.tree a c.as_slice.result.now
     (λ level. rw (c.as_slice.ensures.parts) (sent_parts s _ a _ _ c.self.view_is c.ack.view_is
     c.applied_parts-applied.ensures level))
-    c.confirm_parts.ensures.cores c.confirm_parts.ensures.granted
-    c.confirm_parts.ensures.confirmed in
+    (λ k. rw (← c.deref_mut.ensures.value) (c.confirm_parts.ensures.cores k))
+    (λ l p. rw (← c.deref_mut.ensures.value) (c.confirm_parts.ensures.granted l p))
+    (λ l p. rw (← c.deref_mut.ensures.value) (c.confirm_parts.ensures.confirmed l p)) in
     rw (← c.ack.view_is)
     (off_changed s _ c.confirm_parts.new.tree _ _ c.take_ack-taken.new.self a c.self.view_is off
     acked
@@ -68,7 +69,7 @@ returns-else-is_off-clause-used c = λ used.
       life = c.self.inside.life;
       halting = c.self.inside.halting;
       mode = c.self.inside.mode;
-      tree = c.self.inside.tree;
+      tree = c.self.inside.tree.value;
       rows = c.self.inside.rows.items;
       counts = map (λ v. v.items) c.self.inside.counts.items;
       slots = c.self.inside.slots;
@@ -88,8 +89,9 @@ returns-else-is_off-clause-used c = λ used.
     acked_by s c.confirm_parts.new.tree a c.as_slice.result.now
     (λ level. rw (c.as_slice.ensures.parts) (sent_parts s _ a _ _ c.self.view_is c.ack.view_is
     c.applied_parts-applied.ensures level))
-    c.confirm_parts.ensures.cores c.confirm_parts.ensures.granted
-    c.confirm_parts.ensures.confirmed in
+    (λ k. rw (← c.deref_mut.ensures.value) (c.confirm_parts.ensures.cores k))
+    (λ l p. rw (← c.deref_mut.ensures.value) (c.confirm_parts.ensures.granted l p))
+    (λ l p. rw (← c.deref_mut.ensures.value) (c.confirm_parts.ensures.confirmed l p)) in
     rw (← c.ack.view_is)
     (used_changed s _ c.confirm_parts.new.tree c.take_ack-taken.new.self a c.self.view_is off acked
     (λ slot. rw (c.take_ack-taken.ensures.slots, ← c.ack.view_is)

@@ -23,14 +23,15 @@ overflow_add-result c =
       life = c.self.inside.life;
       halting = c.self.inside.halting;
       mode = c.self.inside.mode;
-      tree = c.self.inside.tree;
+      tree = c.self.inside.tree.value;
       rows = c.self.inside.rows.items;
       counts = map (λ v. v.items) c.self.inside.counts.items;
       slots = c.self.inside.slots;
     } in
     let laws = c.law_spans.ensures s.board.levels c.self.invariant.board.tree in
     let few = few_off s c.self.invariant laws c.off-off.result c.from-own.result
-    (c.off-off.ensures ∙ ap (off s.tree) (c.system.ensures
+    (c.off-off.ensures ∙ ap (λ t. off t c.system.result) c.deref.ensures
+    ∙ ap (off s.tree) (c.system.ensures
     ∙ ap (λ (x : StateValue). record { level = height x.board; place = 0 }) (sym c.self.view_is)))
     (rw c.from-own.ensures (small _)) in
     omega (arith, few)
@@ -43,7 +44,7 @@ returns c =
       life = c.self.inside.life;
       halting = c.self.inside.halting;
       mode = c.self.inside.mode;
-      tree = c.self.inside.tree;
+      tree = c.self.inside.tree.value;
       rows = c.self.inside.rows.items;
       counts = map (λ v. v.items) c.self.inside.counts.items;
       slots = c.self.inside.slots;
@@ -55,7 +56,8 @@ returns c =
     ∙ ap (λ (x : StateValue). is_away ((values_in x).phase number)) (sym c.self.view_is) in
     rw (← c.self.view_is)
     (others_away s c.self.invariant laws number c.off-off.result c.from-own.result c.from.result
-    (c.off-off.ensures ∙ ap (off s.tree) (c.system.ensures
+    (c.off-off.ensures ∙ ap (λ t. off t c.system.result) c.deref.ensures
+    ∙ ap (off s.tree) (c.system.ensures
     ∙ ap (λ (x : StateValue). record { level = height x.board; place = 0 }) (sym c.self.view_is)))
     (c.from-own.ensures ∙ byte _ ∙ ap (λ b. cond (not b) 1 0) is)
     (c.from.ensures ∙ c.cores.ensures.cores))

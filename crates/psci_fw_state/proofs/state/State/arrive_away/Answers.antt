@@ -1,6 +1,7 @@
 use Rattle.std.proofs.Common.{◌≡◌, None, ap, ◌∙◌, length, map}
 use Rattle.psci_messages.specs.Slots.Change.{Clear}
 use Rattle.std.proofs.lemmas.List.{length-set}
+use Rattle.psci_tree.specs.Recount.{TreeValue}
 use Rattle.psci_fw_state.specs.Rows.{row_at}
 use Rattle.psci_fw_state.specs.Seen.{StateValue}
 use Rattle.psci_fw_state.proofs.Changed.{in_rows, row_set}
@@ -15,28 +16,28 @@ returns-clause-after c =
       life = c.self.inside.life;
       halting = c.self.inside.halting;
       mode = c.self.inside.mode;
-      tree = c.self.inside.tree;
+      tree = c.self.inside.tree.value;
       rows = c.self.inside.rows.items;
       counts = map (λ v. v.items) c.self.inside.counts.items;
       slots = c.self.inside.slots;
     } in
-    let rows = rows_set c.self.inside.rows c.deref_mut.result.now c.set_row.new.rows
+    let rows = rows_set c.self.inside.rows c.deref_mut-2.result.now c.set_row.new.rows
     c.args.core.number (record {
       status = c.row_of.result.status;
       opening = None;
-    }) c.deref_mut.ensures.value c.set_row.ensures in
+    }) c.deref_mut-2.ensures.value c.set_row.ensures in
     let row : c.row_of.result ≡ row_at s.rows c.args.core.number =
     c.row_of.ensures ∙ ap (λ xs. row_at xs c.args.core.number) c.deref.ensures.value in
     stopped_changed s _ c.stop.new.tree _ c.clear.new.self
     c.args.core.number c.args.start c.is_pending-pending.result c.self.view_is c.requires.life
     c.is_pending-pending.ensures
-    c.stop.ensures.cores
+    (λ k. rw (← c.deref_mut.ensures.value) (c.stop.ensures.cores k))
     (rw (rows, row) (row_set s.rows c.args.core.number _
     (in_rows _ _ _ c.self.view_is c.self.invariant c.requires.inside)))
     (path_cleared s c.stop.new.tree c.args.core.number c.self.invariant
-    c.stop.ensures.granted)
+    (λ l p. rw (← c.deref_mut.ensures.value) (c.stop.ensures.granted l p)))
     (path_unconfirmed s c.stop.new.tree c.args.core.number c.self.invariant
-    c.stop.ensures.confirmed)
+    (λ l p. rw (← c.deref_mut.ensures.value) (c.stop.ensures.confirmed l p)))
     (λ slot. rw c.clear.ensures.slots
     (c.law_slots.ensures.changed s.slots (Clear c.args.core) tt slot))
 
@@ -47,22 +48,24 @@ invariant_of-self c =
       life = c.self.inside.life;
       halting = c.self.inside.halting;
       mode = c.self.inside.mode;
-      tree = c.self.inside.tree;
+      tree = c.self.inside.tree.value;
       rows = c.self.inside.rows.items;
       counts = map (λ v. v.items) c.self.inside.counts.items;
       slots = c.self.inside.slots;
     } in
-    let rows = rows_set c.self.inside.rows c.deref_mut.result.now c.set_row.new.rows
+    let rows = rows_set c.self.inside.rows c.deref_mut-2.result.now c.set_row.new.rows
     c.args.core.number (record {
       status = c.row_of.result.status;
       opening = None;
-    }) c.deref_mut.ensures.value c.set_row.ensures in
+    }) c.deref_mut-2.ensures.value c.set_row.ensures in
     let row : c.row_of.result ≡ row_at s.rows c.args.core.number =
     c.row_of.ensures ∙ ap (λ xs. row_at xs c.args.core.number) c.deref.ensures.value in
     record {
       board = c.self.invariant.board;
       tree = c.stop.ensures.tree;
-      levels = c.stop.ensures.levels ∙ c.self.invariant.levels;
+      levels = c.stop.ensures.levels
+          ∙ ap (λ (t : TreeValue). t.levels) c.deref_mut.ensures.value
+          ∙ c.self.invariant.levels;
       rows = ap length rows ∙ length-set s.rows c.args.core.number _ ∙ c.self.invariant.rows;
       counts = counts_stay s.board.levels s.rows _ c.args.core.number c.row_of.result None
           s.counts (in_rows _ _ _ c.self.view_is c.self.invariant c.requires.inside) row rows

@@ -2,6 +2,7 @@ use Rattle.std.proofs.Common.{◌≡◌, ◌<◌, length, sym, ap, ◌∙◌, ma
 use Rattle.std.proofs.lemmas.List.{with_items_is}
 use Rattle.psci_board.specs.Board.{size_below}
 use Rattle.psci_messages.specs.Slots.Change.{ClearAll}
+use Rattle.psci_tree.specs.Recount.{TreeValue}
 use Rattle.psci_fw_state.specs.Seen.{StateValue}
 use Rattle.psci_fw_state.proofs.Begun.{at_start, begun, some_below}
 use Rattle.psci_fw_state.proofs.state.State.begin_life.Goals as goal
@@ -13,7 +14,7 @@ returns-clause-after c =
       life = c.self.inside.life;
       halting = c.self.inside.halting;
       mode = c.self.inside.mode;
-      tree = c.self.inside.tree;
+      tree = c.self.inside.tree.value;
       rows = c.self.inside.rows.items;
       counts = map (λ v. v.items) c.self.inside.counts.items;
       slots = c.self.inside.slots;
@@ -21,16 +22,18 @@ returns-clause-after c =
     let levels : s.tree.levels ≡ s.board.levels = c.self.invariant.levels in
     let some : 0 < size_below s.tree.levels = some_below s.tree.levels c.self.invariant.tree.tree in
     let long : length c.reset_rows.new.rows ≡ c.self.inside.rows.len =
-    c.reset_rows.auto.rows ∙ ap length c.deref_mut.ensures.value ∙ sym c.self.inside.rows.ok.0 in
+    c.reset_rows.auto.rows ∙ ap length c.deref_mut-2.ensures.value ∙ sym c.self.inside.rows.ok.0 in
     let rows = with_items_is c.self.inside.rows c.reset_rows.new.rows long in
     begun s _ c.args.life _ c.self.view_is c.if-life-self.false
     (rw rows (at_start s.board _ c.args.life c.reset_life.new.self c.reset_rows.new.rows
     _ c.clear_all.new.self c.self.invariant.board c.reset_life.ensures.tree
-    (c.reset_life.ensures.levels ∙ levels)
-    (λ k. rw c.reset_life.ensures.value (c.law_start_of_life.ensures.cores s.tree.levels k some))
-    (λ l p h i. rw (c.reset_life.ensures.value, levels)
+    (c.reset_life.ensures.levels ∙ ap (λ (t : TreeValue). t.levels) c.deref_mut.ensures.value
+    ∙ levels)
+    (λ k. rw (c.reset_life.ensures.value, c.deref_mut.ensures.value)
+    (c.law_start_of_life.ensures.cores s.tree.levels k some))
+    (λ l p h i. rw (c.reset_life.ensures.value, c.deref_mut.ensures.value, levels)
     (c.law_start_of_life.ensures.granted s.board.levels l p h i))
-    (λ l p h i. rw (c.reset_life.ensures.value, levels)
+    (λ l p h i. rw (c.reset_life.ensures.value, c.deref_mut.ensures.value, levels)
     (c.law_start_of_life.ensures.confirmed s.board.levels l p h i))
     c.reset_rows.ensures
     (λ slot. rw c.clear_all.ensures.slots (c.law_slots.ensures.changed s.slots ClearAll tt slot))))

@@ -15,7 +15,7 @@ overflow_add-settled c =
       life = c.self.inside.life;
       halting = c.self.inside.halting;
       mode = c.self.inside.mode;
-      tree = c.self.inside.tree;
+      tree = c.self.inside.tree.value;
       rows = c.self.inside.rows.items;
       counts = map (λ v. v.items) c.self.inside.counts.items;
       slots = c.self.inside.slots;
@@ -24,7 +24,9 @@ overflow_add-settled c =
     let node = c.system-system.ensures
     ∙ ap (λ (x : StateValue). record { level = height x.board; place = 0 }) (sym c.self.view_is) in
     let fits = fits_settled s c.self.invariant laws c.off.result c.active.result
-    (c.off.ensures ∙ ap (off s.tree) node) (c.active.ensures ∙ ap (active s.tree) node) in
+    (c.off.ensures ∙ ap (λ t. off t c.system-system.result) c.deref.ensures ∙ ap (off s.tree) node)
+    (c.active.ensures ∙ ap (λ t. active t c.system-system.result) c.deref-2.ensures
+    ∙ ap (active s.tree) node) in
     omega (arith, fits)
 
 pub returns-then-counted-gt0 : goal.returns-then-counted-gt0
@@ -35,7 +37,7 @@ returns-then-counted-gt0 c =
       life = c.self.inside.life;
       halting = c.self.inside.halting;
       mode = c.self.inside.mode;
-      tree = c.self.inside.tree;
+      tree = c.self.inside.tree.value;
       rows = c.self.inside.rows.items;
       counts = map (λ v. v.items) c.self.inside.counts.items;
       slots = c.self.inside.slots;
@@ -56,7 +58,9 @@ returns-then-counted-gt0 c =
     rw (← c.self.view_is)
     (some_pending s c.self.invariant laws agree c.off.result c.active.result c.counted.result
     counted
-    (c.off.ensures ∙ ap (off s.tree) node) (c.active.ensures ∙ ap (active s.tree) node)
+    (c.off.ensures ∙ ap (λ t. off t c.system-system.result) c.deref.ensures ∙ ap (off s.tree) node)
+    (c.active.ensures ∙ ap (λ t. active t c.system-system.result) c.deref-2.ensures
+    ∙ ap (active s.tree) node)
     c.if-counted-gt0.true)
 
 pub returns-else-counted-gt0 : goal.returns-else-counted-gt0
@@ -67,7 +71,7 @@ returns-else-counted-gt0 c =
       life = c.self.inside.life;
       halting = c.self.inside.halting;
       mode = c.self.inside.mode;
-      tree = c.self.inside.tree;
+      tree = c.self.inside.tree.value;
       rows = c.self.inside.rows.items;
       counts = map (λ v. v.items) c.self.inside.counts.items;
       slots = c.self.inside.slots;
@@ -88,5 +92,7 @@ returns-else-counted-gt0 c =
     rw (← c.self.view_is)
     (none_pending s c.self.invariant laws agree c.off.result c.active.result c.counted.result
     counted
-    (c.off.ensures ∙ ap (off s.tree) node) (c.active.ensures ∙ ap (active s.tree) node)
+    (c.off.ensures ∙ ap (λ t. off t c.system-system.result) c.deref.ensures ∙ ap (off s.tree) node)
+    (c.active.ensures ∙ ap (λ t. active t c.system-system.result) c.deref-2.ensures
+    ∙ ap (active s.tree) node)
     c.from.result (c.from.ensures ∙ c.cores.ensures.cores) c.if-counted-gt0.false)

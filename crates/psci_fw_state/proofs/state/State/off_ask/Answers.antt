@@ -1,5 +1,6 @@
-use Rattle.std.proofs.Common.{◌≡◌, subst}
+use Rattle.std.proofs.Common.{◌≡◌, ◌∙◌, ap, subst}
 use Rattle.psci_claims.specs.Claim.{off_claims, own_claims}
+use Rattle.psci_claims.specs.Looked.{view_of}
 use Rattle.psci_claims.specs.View.{PowerView}
 use Rattle.psci_fw_state.proofs.Viewed.{viewed}
 use Rattle.psci_fw_state.proofs.state.State.off_ask.Goals as goal
@@ -8,5 +9,6 @@ pub returns : goal.returns
 returns c =
     rw (← c.self.view_is)
     (subst (λ (w : PowerView). own_claims c.self.inside.board w c.args.core.number c.off_ask.result
-    ≡ off_claims c.self.inside.board w c.args.core.number) (viewed _ c.self.invariant)
+    ≡ off_claims c.self.inside.board w c.args.core.number)
+    (ap view_of c.deref.ensures ∙ viewed _ c.self.invariant)
     c.off_ask.ensures)

@@ -1,5 +1,6 @@
 use Rattle.std.proofs.Common.{ap, ◌∙◌}
 use Rattle.psci_claims.specs.LastCore.{refusal, shallow}
+use Rattle.psci_claims.specs.Looked.{view_of}
 use Rattle.psci_fw_state.proofs.Viewed.{viewed}
 use Rattle.psci_fw_state.proofs.state.State.refusal.Goals as goal
 
@@ -7,4 +8,4 @@ pub returns : goal.returns
 returns c =
     rw (← c.self.view_is)
     (c.path_refusal.ensures ∙ ap (λ w. refusal c.self.inside.board w (shallow c.self.inside.board w
-    c.args.core.number c.args.ask)) (viewed _ c.self.invariant))
+    c.args.core.number c.args.ask)) (ap view_of c.deref.ensures ∙ viewed _ c.self.invariant))

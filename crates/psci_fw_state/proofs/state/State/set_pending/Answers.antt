@@ -17,7 +17,7 @@ returns-clause-after c =
       life = c.self.inside.life;
       halting = c.self.inside.halting;
       mode = c.self.inside.mode;
-      tree = c.self.inside.tree;
+      tree = c.self.inside.tree.value;
       rows = c.self.inside.rows.items;
       counts = map (λ v. v.items) c.self.inside.counts.items;
       slots = c.self.inside.slots;
@@ -43,19 +43,20 @@ returns-clause-after c =
     omega (arith, c.self.invariant.rows, c.self.invariant.slots) in
     let has_slot : IsOfCores (length s.slots.cores) (slot_of m.kind m.core) =
     rw start slot_inside in
-    let rows = rows_set c.self.inside.rows c.deref_mut.result.now c.put_row.new.rows
+    let rows = rows_set c.self.inside.rows c.deref_mut-2.result.now c.put_row.new.rows
     m.core.number (record { status = statuses.Pending; opening = Some c.args.opening })
-    c.deref_mut.ensures.value c.put_row.ensures.rows in
+    c.deref_mut-2.ensures.value c.put_row.ensures.rows in
     rw (← c.self.view_is, ← c.message.view_is)
     (pending_of s.board s c.set_pending.new.self _ _ c.put.new.self m c.args.opening
-    (core_set s.tree c.set_pending.new.self m.core.number _ (λ k. rw c.set_pending.ensures.value
+    (core_set s.tree c.set_pending.new.self m.core.number _
+    (λ k. rw (c.set_pending.ensures.value, c.deref_mut.ensures.value)
     (c.law_cores.ensures.pending s.tree m.core.number k inside)))
     (rw rows (row_set s.rows m.core.number _ row_inside))
     (path_cleared s c.set_pending.new.self m.core.number c.self.invariant
-    (λ l p. rw c.set_pending.ensures.value
+    (λ l p. rw (c.set_pending.ensures.value, c.deref_mut.ensures.value)
     (c.law_granted.ensures.pending s.tree m.core.number l p)))
     (path_unconfirmed s c.set_pending.new.self m.core.number c.self.invariant
-    (λ l p. rw c.set_pending.ensures.value
+    (λ l p. rw (c.set_pending.ensures.value, c.deref_mut.ensures.value)
     (c.law_confirmed.ensures.pending s.tree m.core.number l p)))
     (λ slot. rw (c.put.ensures.slots, ← c.message.view_is)
     (c.law_slots.ensures.changed s.slots (Put m) has_slot slot)))

@@ -1,5 +1,6 @@
 use Rattle.std.proofs.Common.{◌≡◌, ◌<◌, None, Some, length, sym, ap, refl, ◌∙◌, map}
 use Rattle.std.proofs.lemmas.List.{length-set}
+use Rattle.psci_tree.specs.Recount.{TreeValue}
 use Rattle.psci_fw_state.specs.Rows.{row_at}
 use Rattle.psci_fw_state.specs.Seen.{StateValue}
 use Rattle.psci_fw_state.proofs.Changed.{in_rows, row_set, same_set, within}
@@ -14,29 +15,29 @@ returns-then-deep-clause-after c =
       life = c.self.inside.life;
       halting = c.self.inside.halting;
       mode = c.self.inside.mode;
-      tree = c.self.inside.tree;
+      tree = c.self.inside.tree.value;
       rows = c.self.inside.rows.items;
       counts = map (λ v. v.items) c.self.inside.counts.items;
       slots = c.self.inside.slots;
     } in
     let inside : c.args.core.number < length s.tree.cores =
     within _ _ _ c.self.view_is c.self.invariant c.requires.inside in
-    let rows = rows_set c.self.inside.rows c.deref_mut.result.now c.set_row.new.rows
+    let rows = rows_set c.self.inside.rows c.deref_mut-then-deep.result.now c.set_row.new.rows
     c.args.core.number (record {
       status = c.row_of.result.status;
       opening = Some c.args.opening;
-    }) c.deref_mut.ensures.value c.set_row.ensures in
+    }) c.deref_mut-then-deep.ensures.value c.set_row.ensures in
     let row : c.row_of.result ≡ row_at s.rows c.args.core.number =
     c.row_of.ensures ∙ ap (λ xs. row_at xs c.args.core.number) c.deref.ensures.value in
     suspended_changed s _ c.set_ask.new.self _ c.args.core.number c.args.ask c.args.opening
     (Some c.args.opening) c.self.view_is c.requires.running
-    (λ k. rw c.set_ask.ensures.value
+    (λ k. rw (c.set_ask.ensures.value, c.deref_mut.ensures.value)
     (c.law_cores.ensures.suspended s.tree c.args.core.number k c.args.ask inside))
     (rw (rows, row) (row_set s.rows c.args.core.number _
     (in_rows _ _ _ c.self.view_is c.self.invariant c.requires.inside)))
-    (λ l p. rw c.set_ask.ensures.value
+    (λ l p. rw (c.set_ask.ensures.value, c.deref_mut.ensures.value)
     (c.law_granted.ensures.suspended s.tree c.args.core.number l p c.args.ask))
-    (λ l p. rw c.set_ask.ensures.value
+    (λ l p. rw (c.set_ask.ensures.value, c.deref_mut.ensures.value)
     (c.law_confirmed.ensures.suspended s.tree c.args.core.number l p c.args.ask))
     (rw (sym c.deep.ensures ∙ c.if-deep.true) refl)
 
@@ -47,7 +48,7 @@ returns-else-deep-clause-after c =
       life = c.self.inside.life;
       halting = c.self.inside.halting;
       mode = c.self.inside.mode;
-      tree = c.self.inside.tree;
+      tree = c.self.inside.tree.value;
       rows = c.self.inside.rows.items;
       counts = map (λ v. v.items) c.self.inside.counts.items;
       slots = c.self.inside.slots;
@@ -56,12 +57,12 @@ returns-else-deep-clause-after c =
     within _ _ _ c.self.view_is c.self.invariant c.requires.inside in
     suspended_changed s _ c.set_ask.new.self s.rows c.args.core.number c.args.ask c.args.opening
     None c.self.view_is c.requires.running
-    (λ k. rw c.set_ask.ensures.value
+    (λ k. rw (c.set_ask.ensures.value, c.deref_mut.ensures.value)
     (c.law_cores.ensures.suspended s.tree c.args.core.number k c.args.ask inside))
     (same_set (row_at s.rows) c.args.core.number)
-    (λ l p. rw c.set_ask.ensures.value
+    (λ l p. rw (c.set_ask.ensures.value, c.deref_mut.ensures.value)
     (c.law_granted.ensures.suspended s.tree c.args.core.number l p c.args.ask))
-    (λ l p. rw c.set_ask.ensures.value
+    (λ l p. rw (c.set_ask.ensures.value, c.deref_mut.ensures.value)
     (c.law_confirmed.ensures.suspended s.tree c.args.core.number l p c.args.ask))
     (rw (sym c.deep.ensures ∙ c.if-deep.false) refl)
 
@@ -72,22 +73,24 @@ invariant_of-self c =
       life = c.self.inside.life;
       halting = c.self.inside.halting;
       mode = c.self.inside.mode;
-      tree = c.self.inside.tree;
+      tree = c.self.inside.tree.value;
       rows = c.self.inside.rows.items;
       counts = map (λ v. v.items) c.self.inside.counts.items;
       slots = c.self.inside.slots;
     } in
-    let rows = rows_set c.self.inside.rows c.deref_mut.result.now c.set_row.new.rows
+    let rows = rows_set c.self.inside.rows c.deref_mut-then-deep.result.now c.set_row.new.rows
     c.args.core.number (record {
       status = c.row_of.result.status;
       opening = Some c.args.opening;
-    }) c.deref_mut.ensures.value c.set_row.ensures in
+    }) c.deref_mut-then-deep.ensures.value c.set_row.ensures in
     let row : c.row_of.result ≡ row_at s.rows c.args.core.number =
     c.row_of.ensures ∙ ap (λ xs. row_at xs c.args.core.number) c.deref.ensures.value in
     record {
       board = c.self.invariant.board;
       tree = c.set_ask.ensures.tree;
-      levels = c.set_ask.ensures.levels ∙ c.self.invariant.levels;
+      levels = c.set_ask.ensures.levels
+          ∙ ap (λ (t : TreeValue). t.levels) c.deref_mut.ensures.value
+          ∙ c.self.invariant.levels;
       rows = ap length rows ∙ length-set s.rows c.args.core.number _ ∙ c.self.invariant.rows;
       counts = counts_stay s.board.levels s.rows _ c.args.core.number c.row_of.result
           (Some c.args.opening) s.counts

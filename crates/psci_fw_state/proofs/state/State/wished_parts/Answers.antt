@@ -1,4 +1,5 @@
 use Rattle.std.proofs.Common.{ap, ◌∙◌}
+use Rattle.psci_claims.specs.Looked.{view_of}
 use Rattle.psci_fw_state.specs.Wishes.{wished_claims}
 use Rattle.psci_fw_state.proofs.Viewed.{viewed}
 use Rattle.psci_fw_state.proofs.state.State.wished_parts.Goals as goal
@@ -7,4 +8,4 @@ pub returns : goal.returns
 returns c =
     rw (← c.self.view_is)
     (c.climb.ensures ∙ ap (λ w. wished_claims c.self.inside.board w c.args.core.number
-    c.args.wish.now) (viewed _ c.self.invariant))
+    c.args.wish.now) (ap view_of c.deref.ensures ∙ viewed _ c.self.invariant))

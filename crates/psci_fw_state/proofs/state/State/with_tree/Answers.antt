@@ -7,8 +7,8 @@ pub returns-in-Ok-clause-values : goal.returns-in-Ok-clause-values
 returns-in-Ok-clause-values c =
     let board = c.cores.ensures.board in
     let value = c.requires.value in
-    rw c.in-Ok.ensures.ok (at_start c.args.board.now _ 0 c.args.tree _ _ c.in_ok-slots.slots board
-    c.requires.tree c.requires.levels
+    rw c.in-Ok.ensures.ok (at_start c.args.board.now _ 0 c.args.tree.value _ _
+    c.in_ok-slots.slots board c.requires.tree c.requires.levels
     (λ k. rw value (c.law_start_of_life.ensures.cores c.args.board.now.levels k
     (some_below c.args.board.now.levels board.tree)))
     (λ l p h i. rw value (c.law_start_of_life.ensures.granted c.args.board.now.levels l p h i))

@@ -1,6 +1,6 @@
-use Rattle.std.proofs.Common.{◌≡◌, Option, false, subst}
-use Rattle.psci_polled.proofs.Past.{names_smc}
-use Rattle.psci_polled.proofs.Steps.{others_stay, polled_next, written_still}
+use Rattle.std.proofs.Common.{◌≡◌, Option, false, refl, subst}
+use Rattle.psci_polled.proofs.Slots.{names_by_slot}
+use Rattle.psci_polled.proofs.Steps.{life_left, others_stay, polled_next, written_still}
 use Rattle.psci_board.specs.declared.node.Core.{Core}
 use Rattle.psci_polled.specs.Naming.{is_named}
 use Rattle.psci_fw.specs.Reactions.{outcome_in}
@@ -14,23 +14,29 @@ returns-in_err-reaction-clause-written c =
     written_still c.args.self.now c.self.inside.firmware c.smc_in_slot.new.self _ _
     c.self.inside.cores c.self.invariant c.self.view_is c.in_err-reaction.ensures.refused
 
-pub write_changed-requires-clause-others : goal.write_changed-requires-clause-others
-write_changed-requires-clause-others c =
-    others_stay c.self.inside.firmware c.smc_in_slot.new.self _ _ c.self.inside.cores
-    c.args.core.number c.life_of-before.result (calls.Smc c.args.regs)
-    (replies.Out (outcome_in c.smc_in_slot.new.self.board (seen c.smc_in_slot.new.self)
-    c.in_ok-reaction.reaction)) c.asked_in-asked.result c.law_values.ensures.more c.self.invariant
-    c.in_ok-reaction.ensures.after c.life_of-before.ensures
-    (λ core other. names_smc c.self.inside.firmware.board c.args.core.number core c.args.regs
-    (outcome_in c.smc_in_slot.new.self.board (seen c.smc_in_slot.new.self)
-    c.in_ok-reaction.reaction)
-    (subst (λ (o : Option Core). is_named o core ≡ false) c.asked_in-asked.ensures other))
+pub write_one-requires-clause-others : goal.write_one-requires-clause-others
+write_one-requires-clause-others c core small other some =
+    let f = c.smc_in_slot.new.self in
+    let o = outcome_in f.board (seen f) c.in_ok-reaction.reaction in
+    others_stay c.self.inside.firmware f _ _ c.self.inside.cores c.args.core.number (seen f).life
+    (calls.Smc c.args.regs) (replies.Out o) c.asked_in-asked.result c.law_values.ensures.more
+    c.self.invariant c.in_ok-reaction.ensures.after
+    (life_left (seen c.self.inside.firmware) (seen f) _ c.in_ok-reaction.ensures.after
+    (c.law_caller.ensures.life _ _ _ _ _))
+    (λ k not. names_by_slot c.self.inside.firmware.board f.board (seen c.self.inside.firmware)
+    c.args.core.number k c.args.regs o c.in_ok-reaction.reaction.slot
+    c.in_ok-reaction.ensures.answer c.in_ok-reaction.ensures.slot
+    (subst (λ (found : Option Core). is_named found k ≡ false) c.asked_in-asked.ensures not))
+    core small other refl some
 
 pub invariant_of-self-2 : goal.invariant_of-self-2
 invariant_of-self-2 c =
-    polled_next c.self.inside.firmware c.smc_in_slot.new.self _ _ _ _ c.self.inside.cores
-    c.args.core.number c.life_of-before.result (calls.Smc c.args.regs)
-    (replies.Out (outcome_in c.smc_in_slot.new.self.board (seen c.smc_in_slot.new.self)
-    c.in_ok-reaction.reaction)) c.law_values.ensures.more c.self.invariant
-    c.in_ok-reaction.ensures.answer c.in_ok-reaction.ensures.after c.in_ok-reaction.ensures.board
-    c.write_changed.ensures.table c.life_of-before.ensures c.write_changed.ensures.log
+    let f = c.smc_in_slot.new.self in
+    polled_next c.self.inside.firmware f _ _ _ _ c.self.inside.cores c.args.core.number
+    (seen f).life (calls.Smc c.args.regs)
+    (replies.Out (outcome_in f.board (seen f) c.in_ok-reaction.reaction))
+    c.law_values.ensures.more c.self.invariant c.in_ok-reaction.ensures.answer
+    c.in_ok-reaction.ensures.after c.in_ok-reaction.ensures.board c.write_one.ensures.table
+    (life_left (seen c.self.inside.firmware) (seen f) _ c.in_ok-reaction.ensures.after
+    (c.law_caller.ensures.life _ _ _ _ _))
+    c.write_one.ensures.log

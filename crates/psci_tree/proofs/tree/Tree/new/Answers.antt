@@ -7,11 +7,11 @@ use Rattle.psci_tree.proofs.tree.Tree.new.Goals as goal
 pub set_pending-requires : goal.set_pending-requires
 set_pending-requires c =
     subst (λ (t : TreeValue). 0 < size_below t.levels)
-    (sym (c.deref_mut.ensures.value ∙ c.in_ok-parts.ensures.value))
-    ((c.law_sizes.ensures c.args.board.now c.in_ok-parts.ensures.board).some 0)
+    (sym (c.deref_mut.ensures.value ∙ c.in_ok-tree.ensures.value))
+    ((c.law_sizes.ensures c.args.board.now c.in_ok-tree.ensures.board).some 0)
 
 pub returns-clause-value : goal.returns-clause-value
 unfolding start_of_life
 returns-clause-value c =
     c.set_pending.ensures.value
-    ∙ ap (λ t. made_pending t 0) (c.deref_mut.ensures.value ∙ c.in_ok-parts.ensures.value)
+    ∙ ap (λ t. made_pending t 0) (c.deref_mut.ensures.value ∙ c.in_ok-tree.ensures.value)

@@ -1,0 +1,89 @@
+-- What is counted over some cores is a fold whose steps commute.
+use Rattle.std.proofs.Common.{◌≡◌, ℕ, ◌+◌, Bool, true, false, ◌&&◌, ◌||◌, List, [], ◌∷◌}
+use Rattle.std.proofs.Common.{if◌then◌else◌, min, map, filter, refl, ap, ◌∙◌, arith, inl, inr}
+use Rattle.std.specs.List.{sum_by, list_all, list_any}
+use Rattle.std.proofs.lemmas.Bool.{cases_Bool}
+use Rattle.std.proofs.lemmas.List.Sums.{sum_by-cons}
+use Rattle.psci_claims.specs.psci_state.Ask.{least}
+use Rattle.psci_fw_laws.proofs.Folds.{fold, Commutes}
+
+-- Steps -----------------------------------------------------------------------------------------
+
+-- a step at the numbers that pass a test
+abbrev pub passing : {R : Type 0} → (ℕ → Bool) → (ℕ → R → R) → ℕ → R → R
+passing p g k r = if p k then g k r else r
+
+passing-two : {R : Type 0} (g : ℕ → R → R) (i j : ℕ) (r : R) (p q : Bool) → Commutes g
+    → (if p then g i (if q then g j r else r) else (if q then g j r else r))
+    ≡ (if q then g j (if p then g i r else r) else (if p then g i r else r))
+passing-two g i j r true true c = c i j r
+passing-two g i j r true false c = refl
+passing-two g i j r false true c = refl
+passing-two g i j r false false c = refl
+
+pub passing-commutes : {R : Type 0} (p : ℕ → Bool) (g : ℕ → R → R) → Commutes g
+    → Commutes (passing p g)
+passing-commutes p g c = λ i j r. passing-two g i j r (p i) (p j) c
+
+-- a fold over the numbers that pass
+pub fold-filter : {R : Type 0} (p : ℕ → Bool) (g : ℕ → R → R) (z : R) (ks : List ℕ)
+    → fold g z (filter p ks) ≡ fold (passing p g) z ks
+fold-filter p g z [] = refl
+fold-filter p g z (k ∷ ks) = elim (cases_Bool (p k)) [
+  | inl t ↦ rw t (ap (g k) (fold-filter p g z ks))
+  | inr t ↦ rw t (fold-filter p g z ks)
+]
+
+-- Counts ----------------------------------------------------------------------------------------
+
+abbrev pub adds : (ℕ → ℕ) → ℕ → ℕ → ℕ
+adds f k r = f k + r
+
+abbrev pub lessens : (ℕ → ℕ) → ℕ → ℕ → ℕ
+lessens f k r = min (f k) r
+
+abbrev pub ands : (ℕ → Bool) → ℕ → Bool → Bool
+ands f k r = f k && r
+
+abbrev pub ors : (ℕ → Bool) → ℕ → Bool → Bool
+ors f k r = f k || r
+
+pub adds-commutes : (f : ℕ → ℕ) → Commutes (adds f)
+adds-commutes f = λ i j r. omega arith
+
+pub lessens-commutes : (f : ℕ → ℕ) → Commutes (lessens f)
+lessens-commutes f = λ i j r. omega arith
+
+and-swap : (x y r : Bool) → (x && (y && r)) ≡ (y && (x && r))
+and-swap true true r = refl
+and-swap true false r = refl
+and-swap false true r = refl
+and-swap false false r = refl
+
+or-swap : (x y r : Bool) → (x || (y || r)) ≡ (y || (x || r))
+or-swap true true r = refl
+or-swap true false r = refl
+or-swap false true r = refl
+or-swap false false r = refl
+
+pub ands-commutes : (f : ℕ → Bool) → Commutes (ands f)
+ands-commutes f = λ i j r. and-swap (f i) (f j) r
+
+pub ors-commutes : (f : ℕ → Bool) → Commutes (ors f)
+ors-commutes f = λ i j r. or-swap (f i) (f j) r
+
+pub sum_by-fold : (f : ℕ → ℕ) (ks : List ℕ) → sum_by f ks ≡ fold (adds f) 0 ks
+sum_by-fold f [] = refl
+sum_by-fold f (k ∷ ks) = sum_by-cons f k ks ∙ ap (λ (r : ℕ). f k + r) (sum_by-fold f ks)
+
+pub least-fold : (f : ℕ → ℕ) (ks : List ℕ) → least (map f ks) ≡ fold (lessens f) 3 ks
+least-fold f [] = refl
+least-fold f (k ∷ ks) = ap (min (f k)) (least-fold f ks)
+
+pub list_all-fold : (f : ℕ → Bool) (ks : List ℕ) → list_all f ks ≡ fold (ands f) true ks
+list_all-fold f [] = refl
+list_all-fold f (k ∷ ks) = ap (λ (r : Bool). f k && r) (list_all-fold f ks)
+
+pub list_any-fold : (f : ℕ → Bool) (ks : List ℕ) → list_any f ks ≡ fold (ors f) false ks
+list_any-fold f [] = refl
+list_any-fold f (k ∷ ks) = ap (λ (r : Bool). f k || r) (list_any-fold f ks)

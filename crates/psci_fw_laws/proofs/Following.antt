@@ -1,0 +1,252 @@
+-- What is kept after the calls of renumbered cores.
+use Rattle.std.proofs.Common.{◌≡◌, ℕ, Bool, true, false, refl, ap, ◌∙◌}
+use Rattle.std.proofs.Common.{if◌then◌else◌, Option, None, Some}
+use Rattle.std.specs.Prelude.{option_map}
+use Rattle.std.specs.Ordering.{int_eq}
+use Rattle.psci_abi.specs.Calls.{request_of}
+use Rattle.psci_abi.specs.Codes.{success}
+use Rattle.psci_abi.specs.declared.code.Code.{Code}
+use Rattle.psci_abi.specs.declared.request.Request.{Request}
+use Rattle.psci_abi.specs.declared.request.Request.TheVariants as requests
+use Rattle.psci_board.specs.Board.{BoardValue}
+use Rattle.psci_messages.specs.Message.{MessageValue}
+use Rattle.psci_messages.specs.declared.start.Start.{Start}
+use Rattle.psci_messages.specs.declared.taken.Taken.TheVariants.{Used, Old}
+use Rattle.psci_fw_spec.specs.declared.call.FwCall.{FwCall}
+use Rattle.psci_fw_spec.specs.declared.call.FwCall.TheVariants.{Smc, Enter, Take}
+use Rattle.psci_fw_spec.specs.declared.mode.SuspendMode.{SuspendMode}
+use Rattle.psci_fw_spec.specs.declared.outcome.Act.{Act}
+use Rattle.psci_fw_spec.specs.declared.outcome.Act.TheVariants as acts
+use Rattle.psci_fw_spec.specs.declared.reply.FwReply.{FwReply}
+use Rattle.psci_fw_spec.specs.declared.reply.FwReply.TheVariants.{Out, Fault}
+use Rattle.psci_fw_spec.specs.declared.reply.FwReply.TheVariants as replies
+use Rattle.psci_fw_spec.specs.After.{after, change}
+use Rattle.psci_fw_spec.specs.Changes.{with_arrival, with_claims, with_halt, with_mode}
+use Rattle.psci_fw_spec.specs.Changes.{with_pending}
+use Rattle.psci_fw_spec.specs.Changes.{with_phase, with_rest, with_running}
+use Rattle.psci_fw_spec.specs.Effects.{Acknowledges, AsksOn, Effect, Enters, GoesOn, Halts, Nothing}
+use Rattle.psci_fw_spec.specs.Effects.{Parks, Rests, SetsMode, Stops, StopsAtOnce, effect_of}
+use Rattle.psci_fw_spec.specs.Effects.{enter_effect, function_effect, mode_effect, return_effect}
+use Rattle.psci_fw_spec.specs.Effects.{sent_effect, stop_effect}
+use Rattle.psci_fw_spec.specs.Phases.{Away, Running}
+use Rattle.psci_fw_spec.specs.SuspendMode.{mode_of}
+use Rattle.psci_fw_spec.specs.Values.{Values}
+use Rattle.psci_fw_laws.specs.Renumbered.{AsksBy, CallsBy, SparesBoot, acknowledgement_by}
+use Rattle.psci_fw_laws.specs.Renumbered.{message_by, reply_by, values_by}
+use Rattle.psci_fw_laws.proofs.Changing.{FindsBy, power_on_by, with_acknowledgement-by}
+use Rattle.psci_fw_laws.proofs.Changing.{with_arrival-by, with_claims-by, with_halt-by}
+use Rattle.psci_fw_laws.proofs.Changing.{with_pending-by, with_rest-by, with_running-by}
+use Rattle.psci_fw_laws.proofs.EntriesBy.{finds-by}
+use Rattle.psci_fw_laws.proofs.Renumbering.{Renumbers}
+use Rattle.psci_fw_laws.proofs.StoppingBy.{with_phase-by}
+
+-- Effects ---------------------------------------------------------------------------------------
+
+-- the same effect, of the other number
+abbrev effect_by : (ℕ → ℕ → ℕ) → Effect → Effect
+effect_by s Nothing = Nothing
+effect_by s (GoesOn c) = GoesOn (s 0 c)
+effect_by s (SetsMode c mode) = SetsMode (s 0 c) mode
+effect_by s (AsksOn c asked) = AsksOn (s 0 c) (power_on_by s asked)
+effect_by s (Rests c rest m) = Rests (s 0 c) rest (message_by s m)
+effect_by s (Halts c m) = Halts (s 0 c) (message_by s m)
+effect_by s (Stops c) = Stops (s 0 c)
+effect_by s (Enters c start) = Enters (s 0 c) start
+effect_by s (Parks c start m) = Parks (s 0 c) start (message_by s m)
+effect_by s (StopsAtOnce c start) = StopsAtOnce (s 0 c) start
+effect_by s (Acknowledges a) = Acknowledges (acknowledgement_by s a)
+
+-- a life that an effect begins begins with the same values
+abbrev FindsAfter : BoardValue → (ℕ → ℕ → ℕ) → Values → Effect → Type 0
+FindsAfter b s v (Enters c start) = FindsBy b s start v
+FindsAfter b s v (Parks c start m) = FindsBy b s start v
+FindsAfter b s v (StopsAtOnce c start) = FindsBy b s start v
+FindsAfter b s v effect = Unit {0}
+
+change-by : (b : BoardValue) (s : ℕ → ℕ → ℕ) (v : Values) (e : Effect) → Renumbers b s
+    → FindsAfter b s v e
+    → change b (effect_by s e) (values_by s v) ≡ values_by s (change b e v)
+change-by b s v Nothing is finds = refl
+change-by b s v (GoesOn c) is finds = with_phase-by b s c Running v is
+change-by b s v (SetsMode c mode) is finds = with_phase-by b s c Running (with_mode mode v) is
+change-by b s v (AsksOn c asked) is finds =
+    ap (with_phase (s 0 c) Running) (with_pending-by b s asked v is)
+    ∙ with_phase-by b s c Running (with_pending b asked v) is
+change-by b s v (Rests c rest m) is finds =
+    ap (with_claims b (message_by s m)) (with_rest-by b s c rest v is)
+    ∙ with_claims-by b s m (with_rest c rest v) is
+change-by b s v (Halts c m) is finds =
+    ap (with_halt (message_by s m)) (with_phase-by b s c Away v is)
+    ∙ with_halt-by s m (with_phase c Away v) (is.back 0)
+change-by b s v (Stops c) is finds = with_phase-by b s c Away v is
+change-by b s v (Enters c start) is finds =
+    ap (with_running (s 0 c)) (with_arrival-by b s c start v is finds)
+    ∙ with_running-by s c (with_arrival b c start v) (is.back 0)
+change-by b s v (Parks c start m) is finds =
+    ap (λ (u : Values). with_claims b (message_by s m) (with_phase (s 0 c) Away u))
+    (with_arrival-by b s c start v is finds)
+    ∙ (ap (with_claims b (message_by s m)) (with_phase-by b s c Away (with_arrival b c start v) is)
+    ∙ with_claims-by b s m (with_phase c Away (with_arrival b c start v)) is)
+change-by b s v (StopsAtOnce c start) is finds =
+    ap (with_phase (s 0 c) Away) (with_arrival-by b s c start v is finds)
+    ∙ with_phase-by b s c Away (with_arrival b c start v) is
+change-by b s v (Acknowledges a) is finds = with_acknowledgement-by b s a v is
+
+-- of a function that stopped its caller
+stop-by : (b : BoardValue) (s : ℕ → ℕ → ℕ) (c : ℕ) (r q : Request) (m : MessageValue)
+    → AsksBy b s r q
+    → stop_effect b (s 0 c) q (message_by s m) ≡ effect_by s (stop_effect b c r m)
+stop-by b s c (requests.CpuOn target entry_point context) q m asks =
+    ap (λ (p : Request). stop_effect b (s 0 c) p (message_by s m)) asks.2
+stop-by b s c (requests.AffinityInfo target level) q m asks =
+    ap (λ (p : Request). stop_effect b (s 0 c) p (message_by s m)) asks.2
+stop-by b s c (requests.NodeHwState target level) q m asks =
+    ap (λ (p : Request). stop_effect b (s 0 c) p (message_by s m)) asks.2
+stop-by b s c r q m asks =
+    ap (λ (p : Request). stop_effect b (s 0 c) p (message_by s m)) asks
+
+-- of one that returned and sent something
+sent-by : (b : BoardValue) (s : ℕ → ℕ → ℕ) (c : ℕ) (r q : Request) (m : MessageValue)
+    → AsksBy b s r q
+    → sent_effect (s 0 c) q (message_by s m) ≡ effect_by s (sent_effect c r m)
+sent-by b s c (requests.CpuOn target entry_point context) q m asks =
+    ap (λ (p : Request). sent_effect (s 0 c) p (message_by s m)) asks.2
+sent-by b s c (requests.AffinityInfo target level) q m asks =
+    ap (λ (p : Request). sent_effect (s 0 c) p (message_by s m)) asks.2
+sent-by b s c (requests.NodeHwState target level) q m asks =
+    ap (λ (p : Request). sent_effect (s 0 c) p (message_by s m)) asks.2
+sent-by b s c r q m asks =
+    ap (λ (p : Request). sent_effect (s 0 c) p (message_by s m)) asks
+
+mode-by : (s : ℕ → ℕ → ℕ) (c : ℕ) (t : Bool) (mode : Option SuspendMode)
+    → (if t then mode_effect (s 0 c) mode else GoesOn (s 0 c))
+    ≡ effect_by s (if t then mode_effect c mode else GoesOn c)
+mode-by s c true None = refl
+mode-by s c true (Some mode) = refl
+mode-by s c false mode = refl
+
+-- of one that returned and sent nothing
+return-by : (b : BoardValue) (s : ℕ → ℕ → ℕ) (c : ℕ) (r q : Request) (code : Code) → AsksBy b s r q
+    → return_effect (s 0 c) q code ≡ effect_by s (return_effect c r code)
+return-by b s c (requests.CpuOn target entry_point context) q code asks =
+    ap (λ (p : Request). return_effect (s 0 c) p code) asks.2
+return-by b s c (requests.AffinityInfo target level) q code asks =
+    ap (λ (p : Request). return_effect (s 0 c) p code) asks.2
+return-by b s c (requests.NodeHwState target level) q code asks =
+    ap (λ (p : Request). return_effect (s 0 c) p code) asks.2
+return-by b s c (requests.SetSuspendMode number) q code asks =
+    ap (λ (p : Request). return_effect (s 0 c) p code) asks
+    ∙ mode-by s c (int_eq code.0 success.0) (mode_of number)
+return-by b s c r q code asks =
+    ap (λ (p : Request). return_effect (s 0 c) p code) asks
+
+function_effect-by : (b : BoardValue) (s : ℕ → ℕ → ℕ) (c : ℕ) (r q : Request) (act : Act)
+    (sent : Option MessageValue) → AsksBy b s r q
+    → function_effect b (s 0 c) q act (option_map (message_by s) sent)
+    ≡ effect_by s (function_effect b c r act sent)
+function_effect-by b s c r q acts.Stop (Some m) asks = stop-by b s c r q m asks
+function_effect-by b s c r q acts.Stop None asks = refl
+function_effect-by b s c r q (acts.Return code) (Some m) asks = sent-by b s c r q m asks
+function_effect-by b s c r q (acts.Return code) None asks = return-by b s c r q code asks
+function_effect-by b s c r q (acts.Enter address context) (Some m) asks = refl
+function_effect-by b s c r q (acts.Enter address context) None asks = refl
+function_effect-by b s c r q acts.Resume (Some m) asks = refl
+function_effect-by b s c r q acts.Resume None asks = refl
+
+enter_effect-by : (s : ℕ → ℕ → ℕ) (c : ℕ) (start : Start) (act : Act) (sent : Option MessageValue)
+    → enter_effect (s 0 c) start act (option_map (message_by s) sent)
+    ≡ effect_by s (enter_effect c start act sent)
+enter_effect-by s c start acts.Stop (Some m) = refl
+enter_effect-by s c start acts.Stop None = refl
+enter_effect-by s c start (acts.Return code) (Some m) = refl
+enter_effect-by s c start (acts.Return code) None = refl
+enter_effect-by s c start (acts.Enter address context) (Some m) = refl
+enter_effect-by s c start (acts.Enter address context) None = refl
+enter_effect-by s c start acts.Resume (Some m) = refl
+enter_effect-by s c start acts.Resume None = refl
+
+effect_of-by : (b : BoardValue) (s : ℕ → ℕ → ℕ) (c : ℕ) (call other : FwCall) (reply : FwReply)
+    → CallsBy b s call other
+    → effect_of b (s 0 c) other (reply_by s reply) ≡ effect_by s (effect_of b c call reply)
+effect_of-by b s c (Smc regs) (Smc r) (Out o) calls =
+    function_effect-by b s c (request_of regs) (request_of r) o.act o.message calls
+effect_of-by b s c (Smc regs) (Smc r) (replies.Taken t) calls = refl
+effect_of-by b s c (Smc regs) (Smc r) (Fault fault) calls = refl
+effect_of-by b s c (Smc regs) (Enter start) reply calls = absurd calls
+effect_of-by b s c (Smc regs) (Take a) reply calls = absurd calls
+effect_of-by b s c (Enter start) other (Out o) calls =
+    ap (λ (call : FwCall). effect_of b (s 0 c) call (reply_by s (Out o))) calls
+    ∙ enter_effect-by s c start o.act o.message
+effect_of-by b s c (Enter start) other (replies.Taken t) calls =
+    ap (λ (call : FwCall). effect_of b (s 0 c) call (replies.Taken t)) calls
+effect_of-by b s c (Enter start) other (Fault fault) calls =
+    ap (λ (call : FwCall). effect_of b (s 0 c) call (Fault fault)) calls
+effect_of-by b s c (Take a) other (Out o) calls =
+    ap (λ (call : FwCall). effect_of b (s 0 c) call (reply_by s (Out o))) calls
+effect_of-by b s c (Take a) other (replies.Taken Used) calls =
+    ap (λ (call : FwCall). effect_of b (s 0 c) call (replies.Taken Used)) calls
+effect_of-by b s c (Take a) other (replies.Taken Old) calls =
+    ap (λ (call : FwCall). effect_of b (s 0 c) call (replies.Taken Old)) calls
+effect_of-by b s c (Take a) other (Fault fault) calls =
+    ap (λ (call : FwCall). effect_of b (s 0 c) call (Fault fault)) calls
+
+-- A function begins no life ---------------------------------------------------------------------
+
+stop-finds : (b : BoardValue) (s : ℕ → ℕ → ℕ) (v : Values) (c : ℕ) (r : Request) (m : MessageValue)
+    → FindsAfter b s v (stop_effect b c r m)
+stop-finds b s v c requests.SystemOff m = tt
+stop-finds b s v c requests.SystemReset m = tt
+stop-finds b s v c (requests.SystemReset2 reset_type cookie) m = tt
+stop-finds b s v c r m = tt
+
+sent-finds : (b : BoardValue) (s : ℕ → ℕ → ℕ) (v : Values) (c : ℕ) (r : Request) (m : MessageValue)
+    → FindsAfter b s v (sent_effect c r m)
+sent-finds b s v c (requests.CpuOn target entry_point context) m = tt
+sent-finds b s v c r m = tt
+
+mode-finds : (b : BoardValue) (s : ℕ → ℕ → ℕ) (v : Values) (c : ℕ) (t : Bool)
+    (mode : Option SuspendMode)
+    → FindsAfter b s v (if t then mode_effect c mode else GoesOn c)
+mode-finds b s v c true None = tt
+mode-finds b s v c true (Some mode) = tt
+mode-finds b s v c false mode = tt
+
+return-finds : (b : BoardValue) (s : ℕ → ℕ → ℕ) (v : Values) (c : ℕ) (r : Request) (code : Code)
+    → FindsAfter b s v (return_effect c r code)
+return-finds b s v c (requests.SetSuspendMode number) code =
+    mode-finds b s v c (int_eq code.0 success.0) (mode_of number)
+return-finds b s v c r code = tt
+
+function-finds : (b : BoardValue) (s : ℕ → ℕ → ℕ) (v : Values) (c : ℕ) (r : Request) (act : Act)
+    (sent : Option MessageValue) → FindsAfter b s v (function_effect b c r act sent)
+function-finds b s v c r acts.Stop (Some m) = stop-finds b s v c r m
+function-finds b s v c r acts.Stop None = tt
+function-finds b s v c r (acts.Return code) (Some m) = sent-finds b s v c r m
+function-finds b s v c r (acts.Return code) None = return-finds b s v c r code
+function-finds b s v c r act sent = tt
+
+enter-finds : (b : BoardValue) (s : ℕ → ℕ → ℕ) (v : Values) (c : ℕ) (start : Start) (act : Act)
+    (sent : Option MessageValue) → FindsBy b s start v
+    → FindsAfter b s v (enter_effect c start act sent)
+enter-finds b s v c start acts.Stop (Some m) finds = finds
+enter-finds b s v c start acts.Stop None finds = finds
+enter-finds b s v c start act sent finds = finds
+
+finds-after : (b : BoardValue) (s : ℕ → ℕ → ℕ) (v : Values) (c : ℕ) (call : FwCall)
+    (reply : FwReply)
+    → Renumbers b s → SparesBoot s v.life call → FindsAfter b s v (effect_of b c call reply)
+finds-after b s v c (Smc regs) (Out o) is spares =
+    function-finds b s v c (request_of regs) o.act o.message
+finds-after b s v c (Enter start) (Out o) is spares =
+    enter-finds b s v c start o.act o.message (finds-by b s start v is spares)
+finds-after b s v c (Take a) (replies.Taken Used) is spares = tt
+finds-after b s v c call reply is spares = tt
+
+pub after-by : (b : BoardValue) (s : ℕ → ℕ → ℕ) (v : Values) (c : ℕ) (call other : FwCall)
+    (reply : FwReply) → Renumbers b s → CallsBy b s call other → SparesBoot s v.life call
+    → after b (s 0 c) other (reply_by s reply) (values_by s v)
+    ≡ values_by s (after b c call reply v)
+unfolding after
+after-by b s v c call other reply is calls spares =
+    ap (λ (e : Effect). change b e (values_by s v)) (effect_of-by b s c call other reply calls)
+    ∙ change-by b s v (effect_of b c call reply) is (finds-after b s v c call reply is spares)

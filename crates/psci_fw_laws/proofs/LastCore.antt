@@ -1,0 +1,154 @@
+-- The last-core check of renumbered cores.
+use Rattle.std.proofs.Common.{◌≡◌, ℕ, zero, suc, ◌-◌, ◌==◌, Bool, true, false, not, nat_lt}
+use Rattle.std.proofs.Common.{◌&&◌, ◌||◌, List, [], ◌∷◌, length, map, filter, flat_map, refl, sym}
+use Rattle.std.proofs.Common.{ap, ◌∙◌, arith, inl, inr}
+use Rattle.std.specs.List.{list_any, range_with_len}
+use Rattle.std.proofs.lemmas.Bool.{cases_Bool, lt-ltb}
+use Rattle.std.proofs.lemmas.List.Concat.{flat_map-cons}
+use Rattle.std.proofs.lemmas.List.Folds.{list_any-append}
+use Rattle.psci_board.specs.Board.{BoardValue, height, up, first_child, children_at}
+use Rattle.psci_board.specs.declared.node.Node.{Node}
+use Rattle.psci_claims.specs.Claim.{own_wish}
+use Rattle.psci_claims.specs.LastCore.{last_core_check, refusal, shallow, shallow_at}
+use Rattle.psci_claims.specs.View.{PowerView, is_idle}
+use Rattle.psci_fw_laws.specs.Renumbered.{node_by}
+use Rattle.psci_fw_laws.proofs.Counts.{list_any-fold, ors, ors-commutes}
+use Rattle.psci_fw_laws.proofs.Claims.{is_idle-by, own_claims-by, view_by}
+use Rattle.psci_fw_laws.proofs.Renumbering.{Renumbers, node_back, same_test}
+
+-- Tests over lists ------------------------------------------------------------------------------
+
+any-filter : {X : Type 0} (f p : X → Bool) (xs : List X)
+    → list_any f (filter p xs) ≡ list_any (λ x. p x && f x) xs
+any-filter f p [] = refl
+any-filter f p (x ∷ xs) = elim (cases_Bool (p x)) [
+  | inl t ↦ rw t (ap (λ (r : Bool). f x || r) (any-filter f p xs))
+  | inr t ↦ rw t (any-filter f p xs)
+]
+
+any-map : {X : Type 0} (f : X → Bool) (h : ℕ → X) (ks : List ℕ)
+    → list_any f (map h ks) ≡ list_any (λ k. f (h k)) ks
+any-map f h [] = refl
+any-map f h (k ∷ ks) = ap (λ (r : Bool). f (h k) || r) (any-map f h ks)
+
+pub any-flat_map : {X : Type 0} (f : X → Bool) (h : ℕ → List X) (ks : List ℕ)
+    → list_any f (flat_map h ks) ≡ list_any (λ k. list_any f (h k)) ks
+any-flat_map f h [] = refl
+any-flat_map f h (k ∷ ks) =
+    ap (list_any f) (flat_map-cons h k ks)
+    ∙ (list_any-append f (h k) (flat_map h ks)
+    ∙ ap (λ (r : Bool). list_any f (h k) || r) (any-flat_map f h ks))
+
+pub some-any : {X : Type 0} (xs : List X) → nat_lt 0 (length xs) ≡ list_any (λ x. true) xs
+some-any [] = refl
+some-any (x ∷ xs) = lt-ltb 0 (suc (length xs)) (omega arith)
+
+-- Shallow domains -------------------------------------------------------------------------------
+
+-- whether the domain of this place is shallow, and passes a test
+abbrev pub is_beside : PowerView → (Node → Bool) → ℕ → ℕ → ℕ → ℕ → Bool
+is_beside w f level own depth k =
+    not (k == own) && (nat_lt (w.granted level k) depth && f (record { level = level; place = k }))
+
+-- a test over the shallow domains of a level goes over all children
+pub shallow_at-any : (b : BoardValue) (w : PowerView) (f : Node → Bool) (c : ℕ) (ask : List ℕ)
+    (level under : ℕ) → level - 1 ≡ under
+    → list_any f (shallow_at b w c ask level)
+    ≡ list_any (is_beside w f under (up b under c) (own_wish ask level))
+    (range_with_len (first_child b level (up b level c)) (children_at b level (up b level c)))
+unfolding shallow_at
+shallow_at-any b w f c ask level under e =
+    let ks : List ℕ =
+    range_with_len (first_child b level (up b level c)) (children_at b level (up b level c)) in
+    rw (← e)
+    (any-filter f (λ n. nat_lt (w.granted n.level n.place) (own_wish ask level)) _
+    ∙ (any-filter _ (λ n. not (n.place == up b (level - 1) c)) _
+    ∙ any-map _ (λ place. record { level = level - 1; place = place }) ks))
+
+-- two tests that say the same of a node and of its other place
+abbrev pub AgreeBy : (ℕ → ℕ → ℕ) → (Node → Bool) → (Node → Bool) → Type 0
+AgreeBy s f g = (n : Node) → f n ≡ g (node_by s n)
+
+-- each test says of a domain what the other one says of its other place
+beside-by : (b : BoardValue) (s : ℕ → ℕ → ℕ) (w : PowerView) (f g : Node → Bool)
+    (c level depth k : ℕ) → Renumbers b s → AgreeBy s f g
+    → is_beside (view_by s w) f level (up b level (s 0 c)) depth k
+    ≡ is_beside w g level (up b level c) depth (s level k)
+beside-by b s w f g c level depth k is agree =
+    let n : Node = record { level = level; place = k } in
+    let rest : Bool = nat_lt (w.granted level (s level k)) depth in
+    let own : (k == up b level (s 0 c)) ≡ (s level k == up b level c) =
+    same_test k (up b level (s 0 c)) (s level k) (up b level c)
+    (λ e. ap (s level) (e ∙ is.above level c) ∙ is.back level (up b level c))
+    (λ e. sym (is.back level k) ∙ (ap (s level) e ∙ sym (is.above level c))) in
+    ap (λ (t : Bool). not t && (rest && f n)) own
+    ∙ ap (λ (t : Bool). not (s level k == up b level c) && (rest && t)) (agree n)
+
+any-at : (b : BoardValue) (s : ℕ → ℕ → ℕ) (w : PowerView) (f g : Node → Bool) (c : ℕ)
+    (ask : List ℕ) (level : ℕ) → Renumbers b s → AgreeBy s f g
+    → list_any f (shallow_at b (view_by s w) (s 0 c) ask level)
+    ≡ list_any g (shallow_at b w c ask level)
+any-at b s w f g c ask zero is agree =
+    shallow_at-any b (view_by s w) f (s 0 c) ask 0 0 refl
+    ∙ sym (shallow_at-any b w g c ask 0 0 refl)
+any-at b s w f g c ask (suc level) is agree =
+    let d : ℕ = own_wish ask (suc level) in
+    let p : ℕ = up b (suc level) c in
+    let under : suc level - 1 ≡ level = omega arith in
+    let test : ℕ → Bool = is_beside w g level (up b level c) d in
+    let others : List ℕ = range_with_len (first_child b (suc level) (s (suc level) p))
+    (children_at b (suc level) (s (suc level) p)) in
+    let own : List ℕ =
+    range_with_len (first_child b (suc level) p) (children_at b (suc level) p) in
+    let same : is_beside (view_by s w) f level (up b level (s 0 c)) d
+    ≡ (λ k. test (s level k)) = λ i. λ k.
+    beside-by b s w f g c level d k is agree i in
+    shallow_at-any b (view_by s w) f (s 0 c) ask (suc level) level under
+    ∙ (ap (λ (q : ℕ). list_any (is_beside (view_by s w) f level (up b level (s 0 c)) d)
+    (range_with_len (first_child b (suc level) q) (children_at b (suc level) q)))
+    (is.above (suc level) c)
+    ∙ (ap (λ (t : ℕ → Bool). list_any t others) same
+    ∙ (list_any-fold (λ k. test (s level k)) others
+    ∙ (is.children (ors test) false level p (ors-commutes test)
+    ∙ (sym (list_any-fold test own)
+    ∙ sym (shallow_at-any b w g c ask (suc level) level under))))))
+
+-- a test over all shallow domains
+any-shallow : (b : BoardValue) (s : ℕ → ℕ → ℕ) (w : PowerView) (f g : Node → Bool) (c : ℕ)
+    (ask : List ℕ) → Renumbers b s → AgreeBy s f g
+    → list_any f (shallow b (view_by s w) (s 0 c) ask) ≡ list_any g (shallow b w c ask)
+unfolding shallow
+any-shallow b s w f g c ask is agree =
+    let same : (λ level. list_any f (shallow_at b (view_by s w) (s 0 c) ask level))
+    ≡ (λ level. list_any g (shallow_at b w c ask level)) = λ i. λ level.
+    any-at b s w f g c ask level is agree i in
+    any-flat_map f (shallow_at b (view_by s w) (s 0 c) ask) (range_with_len 1 (height b))
+    ∙ (ap (λ (t : ℕ → Bool). list_any t (range_with_len 1 (height b))) same
+    ∙ sym (any-flat_map g (shallow_at b w c ask) (range_with_len 1 (height b))))
+
+-- The check -------------------------------------------------------------------------------------
+
+idle-agrees : (b : BoardValue) (s : ℕ → ℕ → ℕ) (w : PowerView) → Renumbers b s
+    → AgreeBy s (is_idle b (view_by s w)) (is_idle b w)
+idle-agrees b s w is = λ n.
+    ap (is_idle b (view_by s w)) (sym (node_back b s n is)) ∙ is_idle-by b s w (node_by s n) is
+
+refusal-by : (b : BoardValue) (s : ℕ → ℕ → ℕ) (w : PowerView) (c : ℕ) (ask : List ℕ) → Renumbers b s
+    → refusal b (view_by s w) (shallow b (view_by s w) (s 0 c) ask)
+    ≡ refusal b w (shallow b w c ask)
+unfolding refusal
+refusal-by b s w c ask is =
+    let some = some-any (shallow b (view_by s w) (s 0 c) ask)
+    ∙ (any-shallow b s w (λ n. true) (λ n. true) c ask is (λ n. refl)
+    ∙ sym (some-any (shallow b w c ask))) in
+    rw (
+      any-shallow b s w (is_idle b (view_by s w)) (is_idle b w) c ask is (idle-agrees b s w is),
+      some,
+    ) refl
+
+pub last_core_check-by : (b : BoardValue) (s : ℕ → ℕ → ℕ) (w : PowerView) (c : ℕ) (ask : List ℕ)
+    → Renumbers b s
+    → last_core_check b (view_by s w) (s 0 c) ask ≡ last_core_check b w c ask
+unfolding last_core_check
+last_core_check-by b s w c ask is =
+    rw (refusal-by b s w c ask is, own_claims-by b s w c ask is) refl

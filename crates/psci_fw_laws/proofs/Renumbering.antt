@@ -1,0 +1,115 @@
+-- What a renumbering keeps, and what is counted below a domain and over all cores.
+use Rattle.std.proofs.Common.{◌≡◌, ℕ, suc, ◌==◌, nat_lt, Bool, true, false}
+use Rattle.std.proofs.Common.{map, sym, ap, ◌∙◌}
+use Rattle.std.proofs.Common.{inl, inr}
+use Rattle.std.specs.List.{range_with_len, sum_by, list_all, list_any}
+use Rattle.std.proofs.lemmas.Bool.{cases_eq, eq-eqb, ne_eqb}
+use Rattle.psci_board.specs.Board.{BoardValue, below, cores, nodes, up, first_child}
+use Rattle.psci_board.specs.Board.{children_at}
+use Rattle.psci_board.specs.declared.node.Node.{Node}
+use Rattle.psci_claims.specs.psci_state.Ask.{least}
+use Rattle.psci_fw_laws.specs.Renumbered.{node_by}
+use Rattle.psci_fw_laws.proofs.Folds.{Commutes, fold}
+use Rattle.psci_fw_laws.proofs.Counts.{adds, adds-commutes, ands, ands-commutes, fold-filter}
+use Rattle.psci_fw_laws.proofs.Counts.{least-fold, lessens, lessens-commutes, list_all-fold}
+use Rattle.psci_fw_laws.proofs.Counts.{list_any-fold, ors, ors-commutes, passing}
+use Rattle.psci_fw_laws.proofs.Counts.{passing-commutes, sum_by-fold}
+
+-- What a renumbering keeps of a board.
+pub record Renumbers (b : BoardValue) (s : ℕ → ℕ → ℕ) : Type 1 where
+  -- it is its own inverse
+  pub back : (level place : ℕ) → s level (s level place) ≡ place
+  -- a node of the board stays one
+  pub inside : (level place : ℕ)
+      → nat_lt (s level place) (nodes b level) ≡ nat_lt place (nodes b level)
+  -- the domains above a core are those above the other one, at their other places
+  pub above : (level c : ℕ) → up b level (s 0 c) ≡ s level (up b level c)
+  -- what is folded over all cores, and over the children of a node, is the same of the others
+  pub all : {R : Type 0} (g : ℕ → R → R) (z : R) → Commutes g
+      → fold (λ k r. g (s 0 k) r) z (range_with_len 0 (cores b))
+      ≡ fold g z (range_with_len 0 (cores b))
+  pub children : {R : Type 0} (g : ℕ → R → R) (z : R) (level place : ℕ) → Commutes g
+      → fold (λ k r. g (s level k) r) z
+      (range_with_len (first_child b (suc level) (s (suc level) place))
+      (children_at b (suc level) (s (suc level) place)))
+      ≡ fold g z
+      (range_with_len (first_child b (suc level) place) (children_at b (suc level) place))
+
+-- Tests -----------------------------------------------------------------------------------------
+
+pub same_test : (a b c d : ℕ) → (a ≡ b → c ≡ d) → (c ≡ d → a ≡ b) → (a == b) ≡ (c == d)
+same_test a b c d f g = elim (cases_eq a b) [
+  | inl e ↦ eq-eqb a b e ∙ sym (eq-eqb c d (f e))
+  | inr n ↦ ne_eqb a b n ∙ sym (ne_eqb c d (λ e. n (g e)))
+]
+
+-- a number is the other number of a core where its own other number is the core's
+pub other_test : (s : ℕ → ℕ → ℕ) (k c : ℕ) → ((j : ℕ) → s 0 (s 0 j) ≡ j)
+    → (k == s 0 c) ≡ (s 0 k == c)
+other_test s k c back = same_test k (s 0 c) (s 0 k) c
+    (λ e. ap (s 0) e ∙ back c) (λ e. sym (back k) ∙ ap (s 0) e)
+
+pub place_test : (b : BoardValue) (s : ℕ → ℕ → ℕ) (level place c : ℕ) → Renumbers b s
+    → (up b level c == s level place) ≡ (up b level (s 0 c) == place)
+place_test b s level place c is =
+    same_test (up b level c) (s level place) (up b level (s 0 c)) place
+    (λ e. is.above level c ∙ (ap (s level) e ∙ is.back level place))
+    (λ e. sym (is.back level (up b level c)) ∙ ap (s level) (sym (is.above level c) ∙ e))
+
+pub node_back : (b : BoardValue) (s : ℕ → ℕ → ℕ) (n : Node) → Renumbers b s
+    → node_by s (node_by s n) ≡ n
+node_back b s n is = λ i. record { level = n.level; place = is.back n.level n.place i }
+
+-- Counts ----------------------------------------------------------------------------------------
+
+below-fold : {R : Type 0} (b : BoardValue) (s : ℕ → ℕ → ℕ) (n : Node) (g : ℕ → R → R) (z : R)
+    → Renumbers b s → Commutes g
+    → fold (λ k r. g (s 0 k) r) z (below b (node_by s n)) ≡ fold g z (below b n)
+unfolding up
+below-fold b s n g z is c =
+    let p : ℕ → Bool = λ k. up b n.level k == n.place in
+    let q : ℕ → Bool = λ k. up b n.level k == s n.level n.place in
+    let same : q ≡ (λ k. p (s 0 k)) = λ i. λ k. place_test b s n.level n.place k is i in
+    fold-filter q (λ k r. g (s 0 k) r) z (range_with_len 0 (cores b))
+    ∙ (ap (λ (t : ℕ → Bool). fold (passing t (λ k r. g (s 0 k) r)) z (range_with_len 0 (cores b)))
+    same
+    ∙ (is.all (passing p g) z (passing-commutes p g c)
+    ∙ sym (fold-filter p g z (range_with_len 0 (cores b)))))
+
+pub sum-below : (b : BoardValue) (s : ℕ → ℕ → ℕ) (n : Node) (f : ℕ → ℕ) → Renumbers b s
+    → sum_by (λ k. f (s 0 k)) (below b (node_by s n)) ≡ sum_by f (below b n)
+sum-below b s n f is =
+    sum_by-fold (λ k. f (s 0 k)) (below b (node_by s n))
+    ∙ (below-fold b s n (adds f) 0 is (adds-commutes f) ∙ sym (sum_by-fold f (below b n)))
+
+pub least-below : (b : BoardValue) (s : ℕ → ℕ → ℕ) (n : Node) (f : ℕ → ℕ) → Renumbers b s
+    → least (map (λ k. f (s 0 k)) (below b (node_by s n))) ≡ least (map f (below b n))
+least-below b s n f is =
+    least-fold (λ k. f (s 0 k)) (below b (node_by s n))
+    ∙ (below-fold b s n (lessens f) 3 is (lessens-commutes f) ∙ sym (least-fold f (below b n)))
+
+pub all-below : (b : BoardValue) (s : ℕ → ℕ → ℕ) (n : Node) (f : ℕ → Bool) → Renumbers b s
+    → list_all (λ k. f (s 0 k)) (below b (node_by s n)) ≡ list_all f (below b n)
+all-below b s n f is =
+    list_all-fold (λ k. f (s 0 k)) (below b (node_by s n))
+    ∙ (below-fold b s n (ands f) true is (ands-commutes f) ∙ sym (list_all-fold f (below b n)))
+
+pub any-below : (b : BoardValue) (s : ℕ → ℕ → ℕ) (n : Node) (f : ℕ → Bool) → Renumbers b s
+    → list_any (λ k. f (s 0 k)) (below b (node_by s n)) ≡ list_any f (below b n)
+any-below b s n f is =
+    list_any-fold (λ k. f (s 0 k)) (below b (node_by s n))
+    ∙ (below-fold b s n (ors f) false is (ors-commutes f) ∙ sym (list_any-fold f (below b n)))
+
+pub all-cores : (b : BoardValue) (s : ℕ → ℕ → ℕ) (f : ℕ → Bool) → Renumbers b s
+    → list_all (λ k. f (s 0 k)) (range_with_len 0 (cores b))
+    ≡ list_all f (range_with_len 0 (cores b))
+all-cores b s f is =
+    list_all-fold (λ k. f (s 0 k)) (range_with_len 0 (cores b))
+    ∙ (is.all (ands f) true (ands-commutes f) ∙ sym (list_all-fold f (range_with_len 0 (cores b))))
+
+pub any-cores : (b : BoardValue) (s : ℕ → ℕ → ℕ) (f : ℕ → Bool) → Renumbers b s
+    → list_any (λ k. f (s 0 k)) (range_with_len 0 (cores b))
+    ≡ list_any f (range_with_len 0 (cores b))
+any-cores b s f is =
+    list_any-fold (λ k. f (s 0 k)) (range_with_len 0 (cores b))
+    ∙ (is.all (ors f) false (ors-commutes f) ∙ sym (list_any-fold f (range_with_len 0 (cores b))))

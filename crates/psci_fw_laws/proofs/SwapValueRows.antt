@@ -1,0 +1,216 @@
+-- Worked examples: each value that is kept with cores 1 and 3 swapped, or two clusters, in a
+-- halting life 2 and in OS-initiated mode; calls and replies; and histories told of swapped cores.
+use Rattle.std.proofs.Common.{◌≡◌, ◌+◌, ◌*◌, ◌==◌, ℕ, true, false, if◌then◌else◌}
+use Rattle.std.proofs.Common.{List, [], ◌∷◌, Option, None, Some, map, ap, refl, arith}
+use Rattle.psci_board.specs.Board.{core_of}
+use Rattle.psci_messages.specs.declared.kind.Kind.TheVariants.{Down, Reset}
+use Rattle.psci_messages.specs.declared.start.Cause.TheVariants.{Wake}
+use Rattle.psci_messages.specs.declared.start.Start.{Start}
+use Rattle.psci_messages.specs.declared.taken.Taken.TheVariants.{Used}
+use Rattle.psci_messages.specs.Message.{AckValue, MessageValue}
+use Rattle.psci_messages.specs.Slots.{OfCore, OfSystem, Slot}
+use Rattle.psci_fw_spec.specs.declared.call.FwCall.{FwCall}
+use Rattle.psci_fw_spec.specs.declared.call.FwCall.TheVariants.{Enter, Smc, Take}
+use Rattle.psci_fw_spec.specs.declared.fault.FwFault.TheVariants.{NotRunning, OldStart}
+use Rattle.psci_fw_spec.specs.declared.mode.SuspendMode.TheVariants.{OsInitiated}
+use Rattle.psci_fw_spec.specs.declared.outcome.Act.TheVariants as acts
+use Rattle.psci_fw_spec.specs.declared.reply.FwReply.{FwReply}
+use Rattle.psci_fw_spec.specs.declared.reply.FwReply.TheVariants.{Fault, Out, Taken}
+use Rattle.psci_fw_spec.specs.declared.status.Status.TheVariants.{On, Pending}
+use Rattle.psci_fw_spec.specs.Exchange.{FwExchange}
+use Rattle.psci_fw_spec.specs.Phases.{Running, Suspended}
+use Rattle.psci_fw_spec.specs.Values.{Values}
+use Rattle.psci_fw_laws.specs.Renumbered.{CallsBy, HappenedBy, acknowledgement_by, reply_by}
+use Rattle.psci_fw_laws.specs.Renumbered.{swap_clusters, swap_cores, values_by}
+use Rattle.psci_fw_laws.proofs.SwapRows.{clusters, two_levels}
+
+-- Values ----------------------------------------------------------------------------------------
+
+-- a Down of a core
+abbrev down : ℕ → MessageValue
+down c = record { kind = Down; core = record { number = c }; life = 2; number = 5; parts = [] }
+
+-- the message of core 1, and that of the system, which core 1 has sent
+abbrev waits : Slot → Option MessageValue
+waits (OfCore c) = if c == 1 then Some (down 1) else None
+waits OfSystem = Some (record (down 1) { kind = Reset })
+
+-- core 1 alone is pending, suspended, with an opening; each core has its own known start, and each
+-- domain its own depth
+abbrev kept : Values
+kept = record {
+  life = 2;
+  halting = true;
+  mode = OsInitiated;
+  known = λ c. c + 10;
+  status = λ c. if c == 1 then Pending else On;
+  phase = λ c. if c == 1 then Suspended (2 ∷ []) else Running;
+  opening = λ c. if c == 1 then Some (record { address = 4; context = 7 }) else None;
+  granted = λ level place. level * 10 + place;
+  confirmed = λ level place. place == 1;
+  outstanding = waits;
+}
+
+abbrev by_cores : Values
+by_cores = values_by (swap_cores 1 3) kept
+
+abbrev by_clusters : Values
+by_clusters = values_by (swap_clusters clusters 0 1) kept
+
+-- what is of no core stays
+life_stays : by_cores.life ≡ 2
+life_stays = refl
+
+halting_stays : by_cores.halting ≡ true
+halting_stays = refl
+
+mode_stays : by_cores.mode ≡ OsInitiated
+mode_stays = refl
+
+-- what is of a core is the other core's
+known_moved : map by_cores.known (0 ∷ 1 ∷ 2 ∷ 3 ∷ []) ≡ 10 ∷ 13 ∷ 12 ∷ 11 ∷ []
+known_moved = refl
+
+status_moved : map by_cores.status (0 ∷ 1 ∷ 2 ∷ 3 ∷ []) ≡ On ∷ On ∷ On ∷ Pending ∷ []
+status_moved = refl
+
+phase_moved : map by_cores.phase (1 ∷ 2 ∷ 3 ∷ []) ≡ Running ∷ Running ∷ Suspended (2 ∷ []) ∷ []
+phase_moved = refl
+
+opening_moved : map by_cores.opening (1 ∷ 2 ∷ 3 ∷ [])
+    ≡ None ∷ None ∷ Some (record { address = 4; context = 7 }) ∷ []
+opening_moved = refl
+
+-- of a domain, the domain's at the other place
+granted_to_clusters : map (by_clusters.granted 1) (0 ∷ 1 ∷ 2 ∷ []) ≡ 11 ∷ 10 ∷ 12 ∷ []
+granted_to_clusters = refl
+
+granted_to_cores : map (by_clusters.granted 0) (0 ∷ 1 ∷ 2 ∷ 3 ∷ 4 ∷ []) ≡ 2 ∷ 3 ∷ 0 ∷ 1 ∷ 4 ∷ []
+granted_to_cores = refl
+
+confirmed_of_clusters : map (by_clusters.confirmed 1) (0 ∷ 1 ∷ 2 ∷ []) ≡ true ∷ false ∷ false ∷ []
+confirmed_of_clusters = refl
+
+confirmed_of_cores : map (by_clusters.confirmed 0) (0 ∷ 1 ∷ 2 ∷ 3 ∷ [])
+    ≡ false ∷ false ∷ false ∷ true ∷ []
+confirmed_of_cores = refl
+
+-- a message stands in the other core's slot and names that core; the system's stays where it is
+waiting_moved : map by_cores.outstanding (OfCore 1 ∷ OfCore 3 ∷ OfSystem ∷ [])
+    ≡ None ∷ Some (down 3) ∷ Some (record (down 3) { kind = Reset }) ∷ []
+waiting_moved = refl
+
+-- Calls and replies -----------------------------------------------------------------------------
+
+abbrev ack : ℕ → AckValue
+ack c = record {
+  kind = Down;
+  core = record { number = c };
+  life = 2;
+  number = 5;
+  applied = 1;
+  stale = true;
+}
+
+ack_moved : acknowledgement_by (swap_cores 1 3) (ack 3) ≡ ack 1
+ack_moved = refl
+
+-- an outcome stays, with a message of the other core; what is taken and what is refused stay
+stop_moved : reply_by (swap_cores 1 3) (Out (record { act = acts.Stop; message = Some (down 1) }))
+    ≡ Out (record { act = acts.Stop; message = Some (down 3) })
+stop_moved = refl
+
+entry_moved : reply_by (swap_cores 1 3) (Out (record { act = acts.Enter 4 7; message = None }))
+    ≡ Out (record { act = acts.Enter 4 7; message = None })
+entry_moved = refl
+
+taken_stays : reply_by (swap_cores 1 3) (Taken Used) ≡ Taken Used
+taken_stays = refl
+
+fault_stays : reply_by (swap_cores 1 3) (Fault OldStart) ≡ Fault OldStart
+fault_stays = refl
+
+-- a core enters by the same start, and an acknowledgement is the other core's
+abbrev start : ℕ → Start
+start number = record { life = 2; number = number; cause = Wake }
+
+enters_by_same : CallsBy two_levels (swap_cores 1 3) (Enter (start 5)) (Enter (start 5))
+enters_by_same = refl
+
+abbrev start_in : FwCall → ℕ
+start_in (Enter s) = s.number
+start_in (Smc regs) = 0
+start_in (Take a) = a.core.number
+
+enters_by_another : CallsBy two_levels (swap_cores 1 3) (Enter (start 5)) (Enter (start 6)) → ⊥
+enters_by_another told = let e : 6 ≡ 5 = ap start_in told in omega (arith, e)
+
+takes_of_other : CallsBy two_levels (swap_cores 1 3) (Take (ack 1)) (Take (ack 3))
+takes_of_other = refl
+
+takes_of_same : CallsBy two_levels (swap_cores 1 3) (Take (ack 1)) (Take (ack 1)) → ⊥
+takes_of_same told = let e : 1 ≡ 3 = ap start_in told in omega (arith, e)
+
+no_other_call : CallsBy two_levels (swap_cores 1 3)
+    (Smc (record { x0 = 0; x1 = 0; x2 = 0; x3 = 0 })) (Take (ack 1)) → ⊥
+no_other_call told = told
+
+-- Histories -------------------------------------------------------------------------------------
+
+-- CPU_ON of a core, by a core that does not run
+abbrev asks_on : ℕ → ℕ → FwExchange
+asks_on c target = record {
+  core = c;
+  call = Smc (record { x0 = 0xc4000003; x1 = target; x2 = 4; x3 = 7 });
+  reply = Fault NotRunning;
+}
+
+-- a core calls CPU_OFF, and its message goes out
+abbrev goes_off : ℕ → ℕ → FwExchange
+goes_off c sender = record {
+  core = c;
+  call = Smc (record { x0 = 0x84000002; x1 = 0; x2 = 0; x3 = 0 });
+  reply = Out (record { act = acts.Stop; message = Some (down sender) });
+}
+
+abbrev happened : List FwExchange
+happened = goes_off 1 1 ∷ asks_on 3 0x100 ∷ []
+
+nothing_happened : HappenedBy two_levels (swap_cores 1 3) [] []
+nothing_happened = tt
+
+both_swapped : HappenedBy two_levels (swap_cores 1 3) happened (goes_off 3 3 ∷ asks_on 1 0x102 ∷ [])
+unfolding core_of
+both_swapped = (
+  record { core = refl; call = refl; reply = refl },
+  (record { core = refl; call = (0x102, refl, refl); reply = refl }, tt),
+)
+
+-- by the core itself, with its own message, in another order, and without one of them
+core_stays : HappenedBy two_levels (swap_cores 1 3) happened (goes_off 1 3 ∷ asks_on 1 0x102 ∷ [])
+    → ⊥
+unfolding core_of
+core_stays told = let e : 1 ≡ 3 = told.0.core in omega (arith, e)
+
+abbrev sender_in : FwReply → ℕ
+sender_in (Out o) = elim o.message [ None ↦ 9 | Some m ↦ m.core.number ]
+sender_in (Taken taken) = 9
+sender_in (Fault fault) = 9
+
+message_stays : HappenedBy two_levels (swap_cores 1 3) happened
+    (goes_off 3 1 ∷ asks_on 1 0x102 ∷ []) → ⊥
+unfolding core_of
+message_stays told = let e : 1 ≡ 3 = ap sender_in told.0.reply in omega (arith, e)
+
+other_order : HappenedBy two_levels (swap_cores 1 3) happened
+    (asks_on 1 0x102 ∷ goes_off 3 3 ∷ []) → ⊥
+unfolding core_of
+other_order told = let e : 1 ≡ 3 = told.0.core in omega (arith, e)
+
+one_is_missing : HappenedBy two_levels (swap_cores 1 3) happened (goes_off 3 3 ∷ []) → ⊥
+one_is_missing told = told.1
+
+second_stays : HappenedBy two_levels (swap_cores 1 3) happened
+    (goes_off 3 3 ∷ asks_on 3 0x102 ∷ []) → ⊥
+unfolding core_of
+second_stays told = let e : 3 ≡ 1 = told.1.0.core in omega (arith, e)

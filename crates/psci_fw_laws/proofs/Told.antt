@@ -1,0 +1,98 @@
+-- Each request asks of the renumbered cores what some other request asks.
+use Rattle.std.proofs.Common.{◌≡◌, ℕ, ◌<◌, refl, sym, ap, ◌∙◌}
+use Rattle.std.proofs.Common.{arith, Option, None, Some}
+use Rattle.std.specs.Prelude.{option_map}
+use Rattle.std.proofs.lemmas.Bool.{lt-ltb, ltb-true}
+use Rattle.std.proofs.lemmas.Option.{none-some, same_Some}
+use Rattle.psci_abi.specs.declared.request.Request.{Request}
+use Rattle.psci_abi.specs.declared.request.Request.TheVariants as requests
+use Rattle.psci_board.specs.Board.{BoardValue, HasNode, core_of, node_of, nodes}
+use Rattle.psci_board.specs.declared.node.Core.{Core}
+use Rattle.psci_board.specs.declared.node.Node.{Node}
+use Rattle.psci_board.specs.Laws.{WordLaws}
+use Rattle.psci_fw_laws.specs.Renumbered.{AsksBy, core_by, node_by}
+use Rattle.psci_fw_laws.proofs.Renumbering.{Renumbers}
+
+-- the other place of a node is one too
+place_inside : (b : BoardValue) (s : ℕ → ℕ → ℕ) (level place : ℕ) → Renumbers b s
+    → place < nodes b level → s level place < nodes b level
+place_inside b s level place is h =
+    ltb-true (s level place) (nodes b level)
+    (is.inside level place ∙ lt-ltb place (nodes b level) h)
+
+node_inside : (b : BoardValue) (s : ℕ → ℕ → ℕ) (n : Node) → Renumbers b s → HasNode b n
+    → HasNode b (node_by s n)
+node_inside b s n is h = record {
+  level = h.level;
+  place = place_inside b s n.level n.place is h.place;
+}
+
+-- some word names the other place of a node
+abbrev Names : BoardValue → (ℕ → ℕ → ℕ) → ℕ → ℕ → Type 0
+Names b s target level =
+    (word : ℕ) × (node_of b word level ≡ option_map (node_by s) (node_of b target level))
+
+node_named : (b : BoardValue) (s : ℕ → ℕ → ℕ) (target level : ℕ) (o : Option Node) → Renumbers b s
+    → WordLaws b → node_of b target level ≡ o → Names b s target level
+node_named b s target level None is laws e =
+    (target, e ∙ sym (ap (option_map (node_by s)) e))
+node_named b s target level (Some n) is laws e =
+    let found = laws.some_word (node_by s n) (node_inside b s n is (laws.node target level n e)) in
+    let at : n.level ≡ level = laws.level target level n e in (
+      found.0,
+      ap (node_of b found.0) (sym at)
+          ∙ (found.2 ∙ sym (ap (option_map (node_by s)) e)),
+    )
+
+-- some word names the core of the other number
+core_from_node : (o : Option Core) (place : ℕ)
+    → option_map (λ (c : Core). let n : Node = record { level = 0; place = c.number } in n) o
+    ≡ Some (record { level = 0; place = place })
+    → o ≡ Some (record { number = place })
+core_from_node None place e = absurd (none-some _ e)
+core_from_node (Some c) place e =
+    ap (λ (n : Node). let core : Option Core = Some (record { number = n.place }) in core)
+    (same_Some _ _ e)
+
+core_named : (b : BoardValue) (s : ℕ → ℕ → ℕ) (target : ℕ) (o : Option Core) → Renumbers b s
+    → WordLaws b → core_of b target ≡ o
+    → (word : ℕ) × (core_of b word ≡ option_map (core_by s) (core_of b target))
+core_named b s target None is laws e = (target, e ∙ sym (ap (option_map (core_by s)) e))
+core_named b s target (Some c) is laws e =
+    let n : Node = record { level = 0; place = s 0 c.number } in
+    let inside : HasNode b n = record {
+      level = omega arith;
+      place = place_inside b s 0 c.number is (laws.core target c e);
+    } in
+    let found = laws.some_word n inside in (
+      found.0,
+      core_from_node (core_of b found.0) (s 0 c.number)
+          (sym (laws.core_node found.0) ∙ found.2)
+          ∙ sym (ap (option_map (core_by s)) e),
+    )
+
+pub told : (b : BoardValue) (s : ℕ → ℕ → ℕ) (r : Request) → Renumbers b s → WordLaws b
+    → (q : Request) × AsksBy b s r q
+told b s (requests.CpuOn target entry_point context) is laws =
+    let w = core_named b s target (core_of b target) is laws refl in
+    (requests.CpuOn w.0 entry_point context, (w.0, w.1, refl))
+told b s (requests.AffinityInfo target level) is laws =
+    let w = node_named b s target level (node_of b target level) is laws refl in
+    (requests.AffinityInfo w.0 level, (w.0, w.1, refl))
+told b s (requests.NodeHwState target level) is laws =
+    let w = node_named b s target level (node_of b target level) is laws refl in
+    (requests.NodeHwState w.0 level, (w.0, w.1, refl))
+told b s (requests.CpuSuspend state entry_point context) is laws =
+    (requests.CpuSuspend state entry_point context, refl)
+told b s requests.CpuOff is laws = (requests.CpuOff, refl)
+told b s requests.SystemOff is laws = (requests.SystemOff, refl)
+told b s requests.SystemReset is laws = (requests.SystemReset, refl)
+told b s (requests.SystemReset2 reset_type cookie) is laws =
+    (requests.SystemReset2 reset_type cookie, refl)
+told b s (requests.SystemSuspend entry_point context) is laws =
+    (requests.SystemSuspend entry_point context, refl)
+told b s (requests.SetSuspendMode mode) is laws = (requests.SetSuspendMode mode, refl)
+told b s requests.Version is laws = (requests.Version, refl)
+told b s requests.MigrateInfoType is laws = (requests.MigrateInfoType, refl)
+told b s (requests.Features word) is laws = (requests.Features word, refl)
+told b s requests.Unknown is laws = (requests.Unknown, refl)

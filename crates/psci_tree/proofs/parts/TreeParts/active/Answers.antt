@@ -1,9 +1,0 @@
-use Rattle.std.proofs.Common.{◌∙◌, ap}
-use Rattle.psci_tree.specs.declared.kept.Kept.{Kept}
-use Rattle.psci_tree.proofs.Recounted.{active_is}
-use Rattle.psci_tree.proofs.parts.TreeParts.active.Goals as goal
-
-pub returns : goal.returns
-returns c =
-    ap (λ (k : Kept). k.active) c.domain.ensures.kept.counted
-    ∙ active_is c.args.self.now c.args.node _ c.domain.ensures.cores

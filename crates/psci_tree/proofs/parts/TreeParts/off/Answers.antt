@@ -1,9 +1,0 @@
-use Rattle.std.proofs.Common.{◌∙◌, ap}
-use Rattle.psci_tree.specs.declared.kept.Kept.{Kept}
-use Rattle.psci_tree.proofs.Recounted.{off_is}
-use Rattle.psci_tree.proofs.parts.TreeParts.off.Goals as goal
-
-pub returns : goal.returns
-returns c =
-    ap (λ (k : Kept). k.off) c.domain.ensures.kept.counted
-    ∙ off_is c.args.self.now c.args.node _ c.domain.ensures.cores

@@ -1,0 +1,59 @@
+use Rattle.std.proofs.Common.{◌<◌, sym, subst, ap, ◌∙◌}
+use Rattle.std.specs.Prelude.{unwrap_or}
+use Rattle.psci_board.specs.Board.{size_below}
+use Rattle.psci_state.specs.declared.cores.Activity.TheVariants.{Active}
+use Rattle.psci_tree.specs.Changes.{with_core_state}
+use Rattle.psci_tree.specs.Recount.{TreeValue, IsActivity, known_at}
+use Rattle.psci_tree.specs.Way.{IsWayOf}
+use Rattle.psci_tree.specs.contracts.tree.Tree.{the_view}
+use Rattle.psci_tree.proofs.Held.{held_core, core_value, state_held}
+use Rattle.psci_tree.proofs.tree.Tree.activate.Goals as goal
+
+pub activate_core-requires-clause-lead : goal.activate_core-requires-clause-lead
+activate_core-requires-clause-lead c =
+    let core : c.args.core.number < size_below c.self.inside.board.levels =
+    subst (λ (t : TreeValue). c.args.core.number < size_below t.levels) (sym c.self.view_is)
+    c.requires in record {
+      tree = c.self.invariant.tied.valid.tree;
+      whole = c.self.invariant.tied.whole;
+      core = core;
+      way = subst (IsWayOf c.self.inside.board.levels c.args.core.number) (sym c.index-2.ensures)
+          (c.self.invariant.lead.each c.args.core.number c.index-2.result.now core);
+      kept = c.self.invariant.tied.kept;
+    }
+
+pub activate_core-requires-clause-before : goal.activate_core-requires-clause-before
+activate_core-requires-clause-before c =
+    λ y. state_held c.self.inside.root _ _ (the_view c.self.inside) c.args.core.number _ y
+    c.self.invariant
+    (subst (λ (t : TreeValue). c.args.core.number < size_below t.levels) (sym c.self.view_is)
+    c.requires)
+    c.index.ensures
+
+pub activate_core-requires-clause-active : goal.activate_core-requires-clause-active
+activate_core-requires-clause-active c = ap (λ s. s.activity) c.changed-state.ensures
+
+pub invariant_of-self : goal.invariant_of-self
+invariant_of-self c =
+    held_core c.self.inside.root _ _ _ (the_view c.self.inside) c.args.core.number _
+    c.self.invariant
+    (subst (λ (t : TreeValue). c.args.core.number < size_below t.levels) (sym c.self.view_is)
+    c.requires)
+    (subst IsActivity (sym (ap (λ s. s.activity) c.changed-state.ensures)) tt)
+    c.activate_core.ensures.cores c.activate_core.ensures.shape c.activate_core.ensures.kept
+
+pub returns-clause-value : goal.returns-clause-value
+returns-clause-value c =
+    core_value c.self.inside.root _ _ (the_view c.self.inside) c.args.core.number _ _
+    (record { activity = Active; started = c.args.started }) _ c.self.invariant
+    (subst (λ (t : TreeValue). c.args.core.number < size_below t.levels) (sym c.self.view_is)
+    c.requires)
+    c.index.ensures c.changed-state.ensures c.activate_core.ensures.cores
+    ∙ ap (λ (t : TreeValue). with_core_state t c.args.core.number Active
+    (unwrap_or c.args.started (known_at t c.args.core.number))) c.self.view_is
+
+pub returns-clause-levels : goal.returns-clause-levels
+returns-clause-levels c = ap (λ (t : TreeValue). t.levels) c.self.view_is
+
+pub returns-clause-tree : goal.returns-clause-tree
+returns-clause-tree c = (invariant_of-self c).tied.valid

@@ -1,0 +1,9 @@
+use Rattle.std.proofs.Common.{◌∙◌, ap}
+use Rattle.psci_tree.specs.declared.kept.Kept.{Kept}
+use Rattle.psci_tree.proofs.Recounted.{active_is}
+use Rattle.psci_tree.proofs.tree.Tree.active.Goals as goal
+
+pub returns : goal.returns
+returns c =
+    ap (λ (k : Kept). k.active) c.domain.ensures.kept.counted
+    ∙ active_is c.args.self.now c.args.node _ c.domain.ensures.cores

@@ -1,0 +1,43 @@
+use Rattle.std.proofs.Common.{◌<◌, ◌∙◌, arith, ap, subst, length}
+use Rattle.std.proofs.lemmas.List.FromFn.{length-range_with_len}
+use Rattle.psci_board.specs.Board.{below_in, span}
+use Rattle.psci_board.specs.Laws.{SpanLaws}
+use Rattle.psci_tree.specs.Recount.{TreeValue}
+use Rattle.psci_tree.specs.Inside.{IsTied}
+use Rattle.psci_tree.proofs.Keeping.{keeps_low}
+use Rattle.psci_tree.proofs.Recounted.{low_is, low_above}
+use Rattle.psci_tree.proofs.tree.Tree.low.Goals as goal
+
+pub returns-then-level-height : goal.returns-then-level-height
+returns-then-level-height c =
+    let t : TreeValue = c.args.self.now in
+    let tied : IsTied c.self.inside.root t =
+    subst (IsTied c.self.inside.root) c.self.view_is c.self.invariant.tied in
+    let laws : SpanLaws t.levels = c.law_spans.ensures t.levels tied.valid.tree in
+    let some : 0 < length (below_in t.levels c.args.node) = omega (
+      arith,
+      ap length (laws.cores c.args.node c.requires),
+      length-range_with_len (span t.levels c.args.node).first (span t.levels c.args.node).count,
+      laws.some c.args.node c.requires,
+    ) in
+    low_above t c.args.node c.args.level some (omega (
+      arith,
+      c.if-level-height.true,
+      c.height.ensures.height,
+      ap (λ (v : TreeValue). length v.levels) c.self.view_is,
+    ))
+
+pub returns : goal.returns
+returns c =
+    keeps_low _ _ c.args.level c.domain.ensures.kept (omega (
+      arith,
+      c.if-level-height.false,
+      c.height.ensures.height,
+      c.height.ensures.board.high,
+    ))
+    ∙ low_is c.args.self.now c.args.node c.args.level _ c.domain.ensures.cores (omega (
+      arith,
+      c.if-level-height.false,
+      c.height.ensures.height,
+      ap (λ (v : TreeValue). length v.levels) c.self.view_is,
+    ))

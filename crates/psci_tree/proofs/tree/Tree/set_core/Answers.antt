@@ -1,0 +1,47 @@
+use Rattle.std.proofs.Common.{◌<◌, sym, subst, ap, ◌∙◌, None}
+use Rattle.std.specs.Prelude.{unwrap_or}
+use Rattle.psci_board.specs.Board.{size_below}
+use Rattle.psci_tree.specs.Changes.{with_core_state}
+use Rattle.psci_tree.specs.Recount.{TreeValue, IsActivity, known_at}
+use Rattle.psci_tree.specs.Way.{IsWayOf}
+use Rattle.psci_tree.specs.contracts.tree.Tree.{the_view}
+use Rattle.psci_tree.proofs.Held.{held_core, core_value}
+use Rattle.psci_tree.proofs.tree.Tree.set_core.Goals as goal
+
+pub change_core-requires : goal.change_core-requires
+change_core-requires c =
+    let core : c.args.core.number < size_below c.self.inside.board.levels =
+    subst (λ (t : TreeValue). c.args.core.number < size_below t.levels) (sym c.self.view_is)
+    c.requires.core in record {
+      tree = c.self.invariant.tied.valid.tree;
+      whole = c.self.invariant.tied.whole;
+      core = core;
+      way = subst (IsWayOf c.self.inside.board.levels c.args.core.number) (sym c.index-2.ensures)
+          (c.self.invariant.lead.each c.args.core.number c.index-2.result.now core);
+      kept = c.self.invariant.tied.kept;
+    }
+
+pub invariant_of-self : goal.invariant_of-self
+invariant_of-self c =
+    held_core c.self.inside.root _ _ _ (the_view c.self.inside) c.args.core.number _
+    c.self.invariant
+    (subst (λ (t : TreeValue). c.args.core.number < size_below t.levels) (sym c.self.view_is)
+    c.requires.core)
+    (subst IsActivity (sym (ap (λ s. s.activity) c.changed-state.ensures)) c.requires.activity)
+    c.change_core.ensures.cores c.change_core.ensures.shape c.change_core.ensures.kept
+
+pub returns-clause-value : goal.returns-clause-value
+returns-clause-value c =
+    core_value c.self.inside.root _ _ (the_view c.self.inside) c.args.core.number _ _
+    (record { activity = c.args.activity; started = None }) _ c.self.invariant
+    (subst (λ (t : TreeValue). c.args.core.number < size_below t.levels) (sym c.self.view_is)
+    c.requires.core)
+    c.index.ensures c.changed-state.ensures c.change_core.ensures.cores
+    ∙ ap (λ (t : TreeValue). with_core_state t c.args.core.number c.args.activity
+    (unwrap_or None (known_at t c.args.core.number))) c.self.view_is
+
+pub returns-clause-levels : goal.returns-clause-levels
+returns-clause-levels c = ap (λ (t : TreeValue). t.levels) c.self.view_is
+
+pub returns-clause-tree : goal.returns-clause-tree
+returns-clause-tree c = (invariant_of-self c).tied.valid

@@ -1,0 +1,69 @@
+use Rattle.std.proofs.Common.{◌≡◌, ◌∙◌, arith, ap, sym, subst, map, length, replicate, ℕ, List}
+use Rattle.std.specs.Vec.{with_items}
+use Rattle.std.proofs.lemmas.List.{with_items_is}
+use Rattle.psci_board.specs.Board.{size_below}
+use Rattle.psci_state.specs.declared.cores.CoreState.{CoreState}
+use Rattle.psci_tree.specs.declared.domain.Domain.{Domain}
+use Rattle.psci_tree.specs.Recount.{TreeValue, IsDomainTree, never_started, level_sizes}
+use Rattle.psci_tree.specs.Changes.{all_off, rows_with_depth}
+use Rattle.psci_tree.specs.Domains.{leaves}
+use Rattle.psci_tree.specs.Inside.{IsTied, IsHeld}
+use Rattle.psci_tree.specs.declared.way.Way.{Way}
+use Rattle.psci_tree.proofs.Valid.{all_off_valid}
+use Rattle.psci_tree.proofs.Slices.{whole_kept}
+use Rattle.psci_tree.proofs.tree.Tree.turn_off.Goals as goal
+
+pub returns-clause-value : goal.returns-clause-value
+returns-clause-value c =
+    let levels : List (List ℕ) = c.self.inside.board.levels in
+    let kept = with_items_is c.self.inside.granted c.fill_rows.new.rows
+    (omega (arith, c.fill_rows.auto.rows, c.deref_mut.ensures.len)) in
+    let kept-2 = with_items_is c.self.inside.confirmed c.fill_rows-2.new.rows
+    (omega (arith, c.fill_rows-2.auto.rows, c.deref_mut-2.ensures.len)) in
+    let change : List CoreState → List (List ℕ) → List (List ℕ) → TreeValue =
+    λ cs gs fs. record { levels = levels; cores = cs; granted = gs; confirmed = fs } in
+    let full : List (List ℕ) = rows_with_depth (level_sizes levels) 3 in
+    let states : leaves c.turn_off.new.root ≡ replicate (size_below levels) never_started =
+    c.turn_off.ensures.cores
+    ∙ ap (λ n. replicate n never_started) c.self.invariant.tied.valid.cores in
+    let rows : map (λ v. v.items) c.fill_rows.new.rows ≡ full =
+    c.fill_rows.ensures
+    ∙ ap (λ xs. rows_with_depth (map length (map (λ v. v.items) xs)) 3) c.deref_mut.ensures.value
+    ∙ ap (λ ns. rows_with_depth ns 3) c.self.invariant.tied.valid.granted in
+    let rows-2 : map (λ v. v.items) c.fill_rows-2.new.rows ≡ full =
+    c.fill_rows-2.ensures
+    ∙ ap (λ xs. rows_with_depth (map length (map (λ v. v.items) xs)) 3) c.deref_mut-2.ensures.value
+    ∙ ap (λ ns. rows_with_depth ns 3) c.self.invariant.tied.valid.confirmed in
+    let now-2 : List (List ℕ) = map (λ v. v.items)
+    (with_items c.self.inside.confirmed c.fill_rows-2.new.rows).items in
+    ap (λ gs. change (leaves c.turn_off.new.root) gs now-2) (ap (map (λ v. v.items)) kept ∙ rows)
+    ∙ ap (change (leaves c.turn_off.new.root) full) (ap (map (λ v. v.items)) kept-2 ∙ rows-2)
+    ∙ ap (λ cs. change cs full full) states
+    ∙ ap (λ (t : TreeValue). all_off t.levels) c.self.view_is
+
+pub returns-clause-tree : goal.returns-clause-tree
+returns-clause-tree c =
+    let tied : IsTied c.self.inside.root c.args.self.now =
+    subst (IsTied c.self.inside.root) c.self.view_is c.self.invariant.tied in
+    subst IsDomainTree (sym (returns-clause-value c))
+    (all_off_valid c.args.self.now.levels tied.valid.tree tied.valid.high)
+
+pub invariant_of-self : goal.invariant_of-self
+invariant_of-self c =
+    let cores : List CoreState = c.self.inside.cores.items in
+    let ways : List Way = c.self.inside.ways.items in
+    let held : IsHeld c.self.inside.root cores ways c.args.self.now =
+    subst (IsHeld c.self.inside.root cores ways) c.self.view_is c.self.invariant in
+    let root : Domain = c.turn_off.new.root in
+    let levels : List (List ℕ) = c.args.self.now.levels in
+    subst (IsHeld root c.fill.new.self.items ways) (sym (returns-clause-value c)) (record {
+      tied = record {
+        whole = whole_kept c.self.inside.root root levels c.turn_off.ensures.shape held.tied.whole;
+        kept = c.turn_off.ensures.kept;
+        valid = all_off_valid levels held.tied.valid.tree held.tied.valid.high;
+      };
+      row = c.fill.ensures.items (λ y h. h)
+          ∙ ap (λ n. replicate n never_started) (c.self.inside.cores.ok.0
+          ∙ ap length held.row ∙ held.tied.valid.cores);
+      lead = held.lead;
+    })
