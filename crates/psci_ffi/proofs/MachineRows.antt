@@ -20,12 +20,15 @@ use Rattle.psci_ffi.specs.declared.machine_fault.MachineFault.{MachineFault}
 use Rattle.psci_ffi.specs.declared.machine_fault.MachineFault.TheVariants.{Board, Room, Description}
 use Rattle.psci_ffi.specs.declared.machine_given.GivenMachine.{GivenMachine}
 use Rattle.psci_ffi.specs.declared.machine_given.GivenRow.{GivenRow}
-use Rattle.psci_ffi.specs.MachineCalls.{asked_in, asked_shown, core_read, mpidr_read, nothing_asked}
-use Rattle.psci_ffi.specs.MachineCalls.{place_read, regs_given, regs_in, told_in}
+use Rattle.psci_ffi.specs.Codes.{no_firmware}
+use Rattle.psci_ffi.specs.MachineCalls.{IsCalledIn, asked_in, asked_shown, core_read}
+use Rattle.psci_ffi.specs.MachineCalls.{mpidr_read, nothing_asked, place_read, regs_given}
+use Rattle.psci_ffi.specs.MachineCalls.{regs_in, told_in}
 use Rattle.psci_ffi.specs.MachineCodes.{machine_said}
 use Rattle.psci_ffi.specs.MachineSlot.{KeptMachine}
 use Rattle.psci_ffi.specs.Machines.{classes_given, functions_given, has_room, machine_by}
 use Rattle.psci_ffi.specs.Machines.{machine_given, machine_on}
+use Rattle.psci_ffi.specs.Shown.{refused}
 
 -- Structs ---------------------------------------------------------------------------------------
 
@@ -236,3 +239,8 @@ no_mpidr = refl
 
 own_place : place_read None (record { level = 1; place = 3 }) ≡ 3
 own_place = refl
+
+-- a call where there is no firmware is refused, and asks nothing
+no_call : IsCalledIn None None 0 (regs_given 0x84000000 0 0 0) (refused no_firmware) nothing_asked
+    None
+no_call = record { answer = refl; after = refl; refused = refl; asked = refl }

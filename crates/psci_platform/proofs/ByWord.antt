@@ -1,5 +1,6 @@
 -- What the firmware is asked for a call, by its function word and its arguments.
-use Rattle.std.proofs.Common.{◌≡◌, ℕ, ◌==◌, ◌||◌, Bool, true, false, if◌then◌else◌, refl, sym, ap, inl, inr, ◌∙◌, ◌⊎◌}
+use Rattle.std.proofs.Common.{◌≡◌, ℕ, ◌==◌, ◌||◌, Bool, true, false}
+use Rattle.std.proofs.Common.{if◌then◌else◌, refl, sym, ap, inl, inr, ◌∙◌, ◌⊎◌}
 use Rattle.psci_abi.specs.Calls.{argument, function_of, low_half}
 use Rattle.psci_abi.specs.declared.registers.Regs.{Regs}
 use Rattle.psci_abi.specs.declared.request.Request.{Request}

@@ -1,7 +1,9 @@
 -- Names in their slots, and what rows are.
 use Rattle.std.proofs.Common.{List, None, Some, [], ◌∷◌, ◌≡◌, refl, true, false}
 use Rattle.psci_fw_spec.specs.declared.mode.SuspendMode.TheVariants.{Platform, OsInitiated}
-use Rattle.psci_platform.specs.Names.{are_found, name_in, own_name, slot_of}
+use Rattle.std.specs.List.{Contains}
+use Rattle.std.proofs.lemmas.List.Elements.{All-nil}
+use Rattle.psci_platform.specs.Names.{AreAmong, are_found, name_in, own_name, slot_of}
 use Rattle.psci_platform.specs.States.{can_ask_by}
 use Rattle.psci_platform.specs.declared.names.Name.{Name}
 use Rattle.psci_platform.specs.declared.readings.Reading.{Reading}
@@ -79,3 +81,7 @@ deeper_in_os_mode = refl
 
 first_in_platform_mode : can_ask_by (record deeper { is_first = true }) Platform ≡ true
 first_in_platform_mode = refl
+
+-- each of no slots has a name
+no_slots : AreAmong slots []
+no_slots = record { each = All-nil (Contains slots) }

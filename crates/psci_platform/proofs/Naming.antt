@@ -1,18 +1,21 @@
 -- What the names of a level say holds of the cores that are searched by them.
 use Rattle.std.proofs.Common.{◌≡◌, ◌∙◌, ◌+◌, ◌*◌, ◌/◌, ◌^◌, ◌==◌, ◌<◌, ℕ, Bool, true, false}
-use Rattle.std.proofs.Common.{All, Contains, List, [], ◌∷◌, ◌++◌, Option, None, Some, ap, length, refl, subst, sym}
+use Rattle.std.proofs.Common.{All, Contains, List, [], ◌∷◌, ◌++◌, Option}
+use Rattle.std.proofs.Common.{None, Some, ap, length, refl, subst, sym}
 use Rattle.std.proofs.Common.{arith, if◌then◌else◌, replicate, set, slice_index_or, zero, suc}
 use Rattle.std.proofs.lemmas.Bool.{eqb-true}
 use Rattle.std.proofs.lemmas.Bool.Decides.{nat_tests}
 use Rattle.std.proofs.lemmas.List.Elements.{All-contains, All-push, All-replicate, All-set}
 use Rattle.std.proofs.lemmas.List.Elements.{All-weaker}
-use Rattle.std.proofs.lemmas.Option.{get_or_from_slice_get, none-some, same_Some, slice_get-get_or, slice_get_within}
+use Rattle.std.proofs.lemmas.Option.{get_or_from_slice_get, none-some}
+use Rattle.std.proofs.lemmas.Option.{same_Some, slice_get-get_or, slice_get_within}
 use Rattle.std.specs.List.{list_all, position, position_or_len}
 use Rattle.std.specs.Prelude.{IfSome, is_some, nat_le, nat_lt, option_map, slice_get}
 use Rattle.psci_board.specs.Board.{BoardValue, address, cores, height}
 use Rattle.psci_platform.specs.Cores.{core_word, no_core, number_named, word_if}
 use Rattle.psci_platform.specs.Described.{DescriptionValue}
-use Rattle.psci_platform.specs.Names.{AreAmong, AreNames, are_found, HasNames, IsName, name_in, own_name, slot_of}
+use Rattle.psci_platform.specs.Names.{AreAmong, AreNames, are_found, HasNames}
+use Rattle.psci_platform.specs.Names.{IsName, name_in, own_name, slot_of}
 use Rattle.psci_platform.specs.Swaps.{swap_for}
 use Rattle.psci_platform.specs.declared.names.Name.{Name}
 use Rattle.psci_platform.specs.declared.names.Table.{Table}
@@ -163,6 +166,9 @@ pub word_missed : (d : DescriptionValue) (b : BoardValue) (boot level mpidr : �
     → no_core ≡ core_word d b boot mpidr level
 word_missed d b boot level mpidr t has none =
     sym (ap (word_if b) (number_missed d b boot level mpidr t has none))
+
+-- which core is named, by a table
+pub ruleset by_name = (inside, number_found, number_missed)
 
 -- Levels ---------------------------------------------------------------------------------------
 

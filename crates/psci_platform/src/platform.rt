@@ -116,7 +116,7 @@ impl Platform {
     }
 
     /// The core that an MPIDR names, as the firmware numbers it, if there is one.
-    #[tactic(auto, using(crate::proofs::Checked::some_count, crate::proofs::Naming::inside, crate::proofs::Naming::number_found, crate::proofs::Naming::number_missed))]
+    #[tactic(auto, using(crate::proofs::Checked::some_count, crate::proofs::Naming::by_name))]
     pub fn core(&self, mpidr: u64) -> Option<Core>
         ensures core { option_map (λ core. core.number) result
             ≡ number_named self.now.description self.now.board self.now.place mpidr 0 }

@@ -33,8 +33,8 @@ impl Description {
         requires boot { boot.number < cores board.now }
         requires symmetric { is_symmetric board.now boot.number ≡ true }
         ensures few { IfOk result (λ tables. length tables.items ≤ 4) }
-        ensures names { IfOk result
-            (λ tables. AreNames self.now board.now boot.number tables.items) }
+        ensures names { IfOk result (λ tables.
+            AreNames self.now board.now boot.number tables.items) }
     {
         let mut tables = Vec::with_capacity(alloc, LEVELS)?;
         for level in 0..LEVELS as u32 {

@@ -4,4 +4,5 @@ use Rattle.psci_platform.specs.States.{reading_of}
 use Rattle.psci_platform.proofs.description.Description.readings.Given as goal
 
 abbrev pub invariant-loop-row : goal.invariant-loop-row
-invariant-loop-row l = l.readings.items ≡ map (reading_of l.self l.format) (take l.row-index l.self.rows)
+invariant-loop-row l =
+    l.readings.items ≡ map (reading_of l.self l.format) (take l.row-index l.self.rows)

@@ -11,7 +11,8 @@ returns-in-Some-reader_in-clause-word c =
     let are = rows_of d b c.args.boot.number c.args.ready c.in-Some.ready c.deref.result.now
     c.requires.ready c.in-Some.is c.deref.ensures.value in
     word_found d b.format c.args.mode c.args.word c.deref.result.now
-    c.in-Some-reader_in.reading.now are (sym c.in-Some-reader_in.ensures) (sym c.if-can_ask.ensures)
+    c.in-Some-reader_in.reading.now are (sym c.in-Some-reader_in.ensures)
+    (sym c.if-can_ask.ensures)
 
 pub returns-in-Some-reader_in-clause-states : goal.returns-in-Some-reader_in-clause-states
 returns-in-Some-reader_in-clause-states c =
@@ -20,7 +21,8 @@ returns-in-Some-reader_in-clause-states c =
     let are = rows_of d b c.args.boot.number c.args.ready c.in-Some.ready c.deref.result.now
     c.requires.ready c.in-Some.is c.deref.ensures.value in
     states_found d b.format c.args.mode c.args.word c.deref.result.now
-    c.in-Some-reader_in.reading.now are (sym c.in-Some-reader_in.ensures) (sym c.if-can_ask.ensures)
+    c.in-Some-reader_in.reading.now are (sym c.in-Some-reader_in.ensures)
+    (sym c.if-can_ask.ensures)
 
 pub returns-in-Some-2-clause-word : goal.returns-in-Some-2-clause-word
 returns-in-Some-2-clause-word c =
@@ -30,7 +32,8 @@ returns-in-Some-2-clause-word c =
     c.requires.ready c.in-Some.is c.deref.ensures.value in
     no_word d b.format c.args.mode c.args.word
     (states_never d b.format c.args.mode c.args.word c.deref.result.now
-    c.in-Some-reader_in.reading.now are (sym c.in-Some-reader_in.ensures) (sym c.if-can_ask.ensures))
+    c.in-Some-reader_in.reading.now are (sym c.in-Some-reader_in.ensures)
+    (sym c.if-can_ask.ensures))
 
 pub returns-in-Some-2-clause-states : goal.returns-in-Some-2-clause-states
 returns-in-Some-2-clause-states c =
@@ -39,7 +42,8 @@ returns-in-Some-2-clause-states c =
     let are = rows_of d b c.args.boot.number c.args.ready c.in-Some.ready c.deref.result.now
     c.requires.ready c.in-Some.is c.deref.ensures.value in
     states_never d b.format c.args.mode c.args.word c.deref.result.now
-    c.in-Some-reader_in.reading.now are (sym c.in-Some-reader_in.ensures) (sym c.if-can_ask.ensures)
+    c.in-Some-reader_in.reading.now are (sym c.in-Some-reader_in.ensures)
+    (sym c.if-can_ask.ensures)
 
 pub returns-in-None-clause-word : goal.returns-in-None-clause-word
 returns-in-None-clause-word c =

@@ -11,6 +11,7 @@ invariant_of-result c = (
     few = c.in_ok-tables.ensures.few;
     names = c.in_ok-tables.ensures.names;
     rows = c.in_ok-readings.ensures
-        ∙ ap (λ (f : Format). map (reading_of c.self.inside.description f) c.self.inside.description.rows) c.format.ensures;
+        ∙ ap (λ (f : Format). map (reading_of c.self.inside.description f)
+        c.self.inside.description.rows) c.format.ensures;
   },
 )
