@@ -48,7 +48,8 @@ running_read (Some f) core = is_running ((seen f.firmware).phase core)
 -- the outstanding message of a core, or of the system at the number of cores
 abbrev pub outstanding_read : Kept → ℕ → SomeFrame
 outstanding_read None number = no_frame
-outstanding_read (Some f) number = frame_shown (message_shown f.firmware.board (seen f.firmware) number)
+outstanding_read (Some f) number =
+    frame_shown (message_shown f.firmware.board (seen f.firmware) number)
 
 -- how many cores the board has
 abbrev pub cores_read : Kept → ℕ

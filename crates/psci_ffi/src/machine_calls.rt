@@ -139,8 +139,8 @@ fn smc_in_mode(
     psci_smc(alloc, place, core, x0, x1, x2, x3, answer);
 }
 
-/// The registers of the firmware's call, if they can be said at once, are the same in each mode, and
-/// nothing is asked beside.
+/// The registers of the firmware's call, if they can be said at once, are the same in each mode,
+/// and nothing is asked beside.
 #[inline(always)]
 fn at_once(alloc: Global, place: &mut MachinePlace, regs: Regs) -> Option<Regs>
     ensures regs { IfSome result (λ r. (mode : SuspendMode)
