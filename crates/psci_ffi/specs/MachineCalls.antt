@@ -85,8 +85,8 @@ abbrev pub told_in : KeptMachine → Kept → Regs → MachineAsked
 told_in machine None regs = nothing_asked
 told_in machine (Some f) regs = asked_shown (asked_in machine (seen f.firmware).mode regs)
 
--- What a call in the words of a machine comes to: what is answered and told, and what is left of the
--- firmware.
+-- What a call in the words of a machine comes to: what is answered and told, and what is left of
+-- the firmware.
 pub record IsCalledIn (machine : KeptMachine) (place : Kept) (core : ℕ) (regs : Regs)
     (said : Answer) (told : MachineAsked) (left : Kept) : Type 0 where
   pub answer : said ≡ answered place core (Some (called_in machine place regs))
