@@ -1,7 +1,8 @@
 //! What was asked.
 
-ghost use Rattle.std.specs.Prelude.{◌≡◌};
-ghost use Rattle.psci_storm.specs.Tallies.{asked_by, asked_of};
+ghost use Rattle.std.specs.Prelude.{◌≡◌, ◌==◌};
+ghost use Rattle.psci_abi.specs.Functions.{function_index};
+ghost use Rattle.psci_storm.specs.Tallies.{asked_by, asked_index, asked_of};
 
 use psci_abi::{Function, read};
 use psci_world_spec::Event;
@@ -40,6 +41,22 @@ impl Asked {
         }
     }
 
+    /// Whether both are the same.
+    pub(crate) fn is(self, other: Asked) -> bool
+        ensures { result ≡ (asked_index self == asked_index other) }
+    {
+        match (self, other) {
+            (Asked::Call(one), Asked::Call(other)) => is_function(one, other),
+            (Asked::Unknown, Asked::Unknown)
+            | (Asked::Enter, Asked::Enter)
+            | (Asked::Wake, Asked::Wake)
+            | (Asked::Reset, Asked::Reset)
+            | (Asked::Deliver, Asked::Deliver)
+            | (Asked::Take, Asked::Take) => true,
+            _ => false,
+        }
+    }
+
     /// What a call of this function asks.
     fn of_function(function: Option<Function>) -> Asked
         ensures { result ≡ asked_by function }
@@ -49,4 +66,11 @@ impl Asked {
             None => Asked::Unknown,
         }
     }
+}
+
+/// Whether both are the same function.
+fn is_function(one: Function, other: Function) -> bool
+    ensures { result ≡ (function_index one == function_index other) }
+{
+    one == other
 }
