@@ -7,7 +7,7 @@ use Rattle.psci_messages.specs.declared.kind.Kind.{Kind}
 use Rattle.psci_messages.specs.declared.kind.Kind.TheVariants.{Down, Start, Off, Reset}
 use Rattle.psci_messages.specs.declared.taken.Taken.TheVariants.{Used, Old}
 use Rattle.psci_messages.specs.Message.{MessageValue, AckValue}
-use Rattle.psci_messages.specs.Slots.{taken, message_at, Change}
+use Rattle.psci_messages.specs.Slots.{taken, answered, message_at, Change}
 use Rattle.psci_messages.specs.Slots.Slot.{OfCore, OfSystem}
 use Rattle.psci_messages.specs.Slots.Change.{Put, Clear, ClearAll, Acknowledge}
 use Rattle.psci_messages.specs.Outstanding.{last_message, changes_since, outstanding}
@@ -254,6 +254,16 @@ taken_of_another_life = refl
 
 taken_of_another_number : taken (ack Down 1 2 6 2 false) (Some down) ≡ Old
 taken_of_another_number = refl
+
+-- the message that it is of
+answered_of_nothing : answered (ack Down 1 2 5 2 false) None ≡ None
+answered_of_nothing = refl
+
+answered_by_its_own : answered (ack Down 1 2 5 1 false) (Some down) ≡ Some down
+answered_by_its_own = refl
+
+answered_by_an_older_one : answered (ack Down 1 2 4 2 false) (Some down) ≡ None
+answered_by_an_older_one = refl
 
 -- the slots by number, of two cores
 at_core_0 : message_at (record { cores = None ∷ Some down ∷ []; system = Some off }) 0 ≡ None

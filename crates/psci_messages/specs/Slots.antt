@@ -74,6 +74,11 @@ message_at s i =
     if nat_lt i (length s.cores) then message_in s (OfCore i)
     else (if i == length s.cores then message_in s OfSystem else None)
 
+-- the message that an acknowledgement is of, where this is in its slot
+abbrev pub answered : AckValue → Option MessageValue → Option MessageValue
+answered a None = None
+answered a (Some m) = if answers a m then Some m else None
+
 -- what an acknowledgement leaves in the slot of its message
 abbrev pub left_by : AckValue → Option MessageValue → Option MessageValue
 left_by a None = None

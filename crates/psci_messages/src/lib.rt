@@ -13,6 +13,7 @@ mod ack;
 mod kind;
 mod laws;
 mod message;
+mod slot;
 mod slots;
 mod start;
 mod taken;

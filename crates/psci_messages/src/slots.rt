@@ -3,6 +3,7 @@
 use crate::ack::Ack;
 use crate::kind::Kind;
 use crate::message::Message;
+use crate::slot::Slot;
 use crate::taken::Taken;
 use psci_board::{Core, Memory};
 use std::alloc::Global;
@@ -11,9 +12,9 @@ use std::marker::Model;
 /// The outstanding messages: at most one of each core, and one of the system.
 #[derive(Drop)]
 pub struct Slots {
-    cores: Vec<Option<Message>>,
+    cores: Vec<Slot>,
     /// In memory of its own: empty, too, it is large to move.
-    system: Box<Option<Message>>,
+    system: Box<Slot>,
 }
 
 impl Model for Slots {
@@ -24,10 +25,12 @@ impl Model for Slots {
     ghost view = { λ s. record { cores = s.cores.items; system = s.system.value } };
 }
 
-ghost use Rattle.std.specs.Prelude.{◌≡◌, None, option_map, replicate, length, IfOk};
+ghost use Rattle.std.specs.Prelude.{◌≡◌, None, Some, option_map, replicate, length, IfOk};
+ghost use Rattle.std.specs.Prelude.{IsSomeAnd};
 ghost use Rattle.std.specs.Prelude.{slice_index_or, slice_set};
 ghost use Rattle.psci_messages.specs.Slots.{slot_of, message_in, message_at, with_message};
 ghost use Rattle.psci_messages.specs.Slots.{no_messages, after_change, taken, IsOfCores};
+ghost use Rattle.psci_messages.specs.Slots.{answered, is_done};
 ghost use Rattle.psci_messages.specs.declared.taken.Taken.TheVariants.{Old};
 ghost use Rattle.psci_messages.specs.Slots.Change.{Put, Clear, ClearAll, Acknowledge};
 
@@ -49,7 +52,10 @@ impl Slots {
         ensures slots { self.new ≡ after_change self.old (Put message) }
         ensures cores { length self.new.cores ≡ length self.old.cores }
     {
-        self.set(message.kind, message.core, Some(message));
+        match message.kind {
+            Kind::Down | Kind::Start => fill_at(&mut self.cores, message),
+            Kind::Off | Kind::Reset => self.system.fill(message),
+        }
     }
 
     /// Forgets the message of a core that enters.
@@ -57,7 +63,7 @@ impl Slots {
         ensures slots { self.new ≡ after_change self.old (Clear core) }
         ensures cores { length self.new.cores ≡ length self.old.cores }
     {
-        set_at(&mut self.cores, core, None);
+        clear_at(&mut self.cores, core);
     }
 
     /// Forgets all messages, as a life begins.
@@ -65,8 +71,8 @@ impl Slots {
         ensures slots { self.new ≡ after_change self.old ClearAll }
         ensures cores { length self.new.cores ≡ length self.old.cores }
     {
-        forget(&mut self.cores);
-        *self.system = None;
+        clear_each(&mut self.cores);
+        self.system.clear();
     }
 
     /// Takes an acknowledgement. The message is forgotten where nothing of it is left to do. Of an
@@ -77,16 +83,47 @@ impl Slots {
         ensures old { result ≡ Old → self.new ≡ self.old }
         ensures cores { length self.new.cores ≡ length self.old.cores }
     {
-        let Some(message) = self.message(ack.kind, ack.core) else {
+        let Some(message) = self.answered(&ack) else {
             return Taken::Old;
         };
-        if !ack.answers(message) {
-            return Taken::Old;
-        }
-        if ack.is_done(message) {
-            self.set(ack.kind, ack.core, None);
-        }
+        let done = ack.is_done(message);
+        self.finish(&ack, done);
         Taken::Used
+    }
+
+    /// The outstanding message that an acknowledgement is of.
+    pub fn answered(&self, ack: &Ack) -> Option<&Message>
+        ensures { option_map (λ message. message.now) result
+            ≡ answered ack.now (message_in self.now (slot_of ack.now.kind ack.now.core)) }
+    {
+        match self.message(ack.kind, ack.core) {
+            Some(message) if ack.answers(message) => Some(message),
+            _ => None,
+        }
+    }
+
+    /// Takes the acknowledgement of an outstanding message, by whether nothing of it is left to do:
+    /// then it is forgotten.
+    pub fn finish(&mut self, ack: &Ack, done: bool)
+        requires { IsSomeAnd (answered ack.now (message_in self.old
+            (slot_of ack.now.kind ack.now.core))) (λ message. done ≡ is_done ack.now message) }
+        ensures slots { self.new ≡ after_change self.old (Acknowledge ack.now) }
+        ensures cores { length self.new.cores ≡ length self.old.cores }
+    {
+        if done {
+            self.forget(ack.kind, ack.core);
+        }
+    }
+
+    /// Empties the slot of this kind and core, if the board has it.
+    fn forget(&mut self, kind: Kind, core: Core)
+        ensures slots { self.new ≡ with_message self.old (slot_of kind core) None }
+        ensures cores { length self.new.cores ≡ length self.old.cores }
+    {
+        match kind {
+            Kind::Down | Kind::Start => clear_at(&mut self.cores, core),
+            Kind::Off | Kind::Reset => self.system.clear(),
+        }
     }
 
     /// The outstanding message of the core of this number, or of the system at the number of cores.
@@ -95,7 +132,7 @@ impl Slots {
     {
         let number = number as usize;
         if number == self.cores.len() {
-            (*self.system).as_ref()
+            self.system.message()
         } else {
             message_of(&self.cores, number)
         }
@@ -108,67 +145,63 @@ impl Slots {
     {
         match kind {
             Kind::Down | Kind::Start => message_of(&self.cores, core.number as usize),
-            Kind::Off | Kind::Reset => (*self.system).as_ref(),
-        }
-    }
-
-    /// Fills or empties the slot of this kind and core, if the board has it.
-    fn set(&mut self, kind: Kind, core: Core, message: Option<Message>)
-        ensures slots { self.new ≡ with_message self.old (slot_of kind core) message }
-        ensures cores { length self.new.cores ≡ length self.old.cores }
-    {
-        match kind {
-            Kind::Down | Kind::Start => set_at(&mut self.cores, core, message),
-            Kind::Off | Kind::Reset => *self.system = message,
+            Kind::Off | Kind::Reset => self.system.message(),
         }
     }
 }
 
 /// So many empty slots.
 #[inline(never)]
-fn no_messages(alloc: Global, cores: u16) -> Result<Vec<Option<Message>>, Memory>
+fn no_messages(alloc: Global, cores: u16) -> Result<Vec<Slot>, Memory>
     ensures { IfOk result (λ slots. slots.items ≡ replicate cores None) }
 {
     let mut slots = Vec::new(alloc);
     for _ in 0..cores {
-        slots.push(None)?;
+        slots.push(Slot::empty())?;
     }
     Ok(slots)
 }
 
 /// An empty slot in memory of its own.
 #[inline(never)]
-fn no_message(alloc: Global) -> Result<Box<Option<Message>>, Memory>
+fn no_message(alloc: Global) -> Result<Box<Slot>, Memory>
     ensures { IfOk result (λ slot. slot.value ≡ None) }
 {
-    Ok(Box::new(alloc, None)?)
+    Ok(Box::new(alloc, Slot::empty())?)
 }
 
 /// The message in the slot of this number.
-fn message_of(slots: &[Option<Message>], number: usize) -> Option<&Message>
+fn message_of(slots: &[Slot], number: usize) -> Option<&Message>
     ensures { option_map (λ message. message.now) result ≡ slice_index_or slots.now number None }
 {
-    slots.get(number)?.as_ref()
+    slots.get(number)?.message()
 }
 
-/// Fills or empties the slot of a core.
-fn set_at(slots: &mut [Option<Message>], core: Core, message: Option<Message>)
-    ensures { slots.new ≡ slice_set slots.old core.number message }
+/// Fills the slot of the message's core.
+fn fill_at(slots: &mut [Slot], message: Message)
+    ensures { slots.new ≡ slice_set slots.old message.core.number (Some message) }
+{
+    let number = message.core.number as usize;
+    if number < slots.len() {
+        slots[number].fill(message);
+    }
+}
+
+/// Empties the slot of a core.
+fn clear_at(slots: &mut [Slot], core: Core)
+    ensures { slots.new ≡ slice_set slots.old core.number None }
 {
     let number = core.number as usize;
     if number < slots.len() {
-        slots[number] = message;
+        slots[number].clear();
     }
 }
 
 /// Empties all slots.
-fn forget(slots: &mut [Option<Message>])
+fn clear_each(slots: &mut [Slot])
     ensures { slots.new ≡ replicate (length slots.old) None }
 {
     for slot in slots.iter_mut() {
-        // An empty slot is large: to write it costs more than to look at it.
-        if slot.is_some() {
-            *slot = None;
-        }
+        slot.clear();
     }
 }

@@ -1,7 +1,7 @@
 -- After the loop each slot is empty.
 use Rattle.std.proofs.Common.{◌∙◌, arith, sym, length, None, replicate}
 use Rattle.std.proofs.lemmas.List.{same_lists, get_or_default, get_or-replicate, length-replicate}
-use Rattle.psci_messages.proofs.slots.forget.Goals as goal
+use Rattle.psci_messages.proofs.slots.clear_each.Goals as goal
 
 pub returns : goal.returns
 returns c =
