@@ -39,7 +39,7 @@ ghost use Rattle.psci_fw_state.specs.Seen.{message_shown};
 use crate::entering::{check_start, enter};
 use crate::laws::law_fresh;
 use crate::reaction::Reaction;
-use crate::smc::{check_caller, dispatch};
+use crate::smc::dispatch;
 use psci_fw_spec::law_invariant;
 
 impl Firmware {
@@ -87,7 +87,7 @@ impl Firmware {
     {
         law_invariant();
         law_fresh();
-        check_caller(&self.state, core)?;
+        self.state.check_caller(core)?;
         Ok(dispatch::<A>(&mut self.state, core, regs))
     }
 

@@ -29,7 +29,7 @@ pub fn cpu_off(state: &mut State, caller: Core) -> Reaction
 {
     law_stops();
     law_may_claim();
-    state.set_away(caller);
+    state.leave(caller);
     let wish = state.leaving_wish(caller);
     send_down(state, caller, &wish)
 }

@@ -1,10 +1,10 @@
 //! The functions that a running core calls.
 
-ghost use Rattle.std.specs.Prelude.{◌≡◌, ◌<◌, MatchResult, None, Some};
+ghost use Rattle.std.specs.Prelude.{◌≡◌, ◌<◌};
 ghost use Rattle.psci_abi.specs.Calls.{features_of, request_of};
 ghost use Rattle.psci_board.specs.Board.{IsBoard, cores};
 ghost use Rattle.psci_fw_spec.specs.After.{change};
-ghost use Rattle.psci_fw_spec.specs.Calls.{call_fault, outcome_of};
+ghost use Rattle.psci_fw_spec.specs.Calls.{outcome_of};
 ghost use Rattle.psci_fw_spec.specs.Effects.{function_effect};
 ghost use Rattle.psci_fw_spec.specs.Invariant.{AreValues};
 ghost use Rattle.psci_fw_spec.specs.Phases.{Running};
@@ -22,7 +22,7 @@ use crate::suspend::cpu_suspend;
 use crate::system::{system_off, system_reset, system_reset2, system_suspend};
 use psci_abi::{Code, Regs, Request, features, read};
 use psci_board::{Board, Core};
-use psci_fw_spec::{FwFault, Opening};
+use psci_fw_spec::Opening;
 use psci_fw_state::State;
 
 /// PSCI 1.1: the major version in bits 31:16, the minor one in bits 15:0.
@@ -30,23 +30,6 @@ const VERSION: Code = Code(0x0001_0001);
 
 /// MIGRATE_INFO_TYPE: the Trusted OS needs no migration, or there is none.
 const NO_MIGRATION: Code = Code(2);
-
-/// Whether a core may call, or the first reason why it may not.
-pub fn check_caller(state: &State, core: Core) -> Result<(), FwFault>
-    ensures { let fault = call_fault state.now.board (values_in state.now) core.number in
-        MatchResult result (λ _. fault ≡ None) (λ e. fault ≡ Some e) }
-{
-    if core.number >= state.board().cores() {
-        return Err(FwFault::NoCore);
-    }
-    if state.life() == 0 {
-        return Err(FwFault::NoLife);
-    }
-    if !state.is_running(core) {
-        return Err(FwFault::NotRunning);
-    }
-    Ok(())
-}
 
 /// What a running core is answered to its call: in a halting life it stops, whatever it asks. `A`
 /// is for the compiler, as it is below: this is compiled once for each.

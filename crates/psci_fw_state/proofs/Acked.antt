@@ -1,14 +1,14 @@
 -- An acknowledgement is taken: what the values in the state are then.
 use Rattle.std.proofs.Common.{◌≡◌, ℕ, ◌<◌, slice_get, Bool, true, false, cond, List, length}
-use Rattle.std.proofs.Common.{None, refl, sym, ◌∙◌, ap, inl, inr}
+use Rattle.std.proofs.Common.{None, Some, Option, refl, sym, ◌∙◌, ap, inl, inr}
 use Rattle.std.proofs.Common.{slice_index_or}
 use Rattle.std.proofs.lemmas.Bool.{and_parts, cases_lt}
 use Rattle.std.proofs.lemmas.List.{get_or_past}
 use Rattle.psci_messages.specs.declared.kind.Kind.{Kind}
 use Rattle.psci_messages.specs.declared.kind.Kind.TheVariants.{Down, Start, Off, Reset}
-use Rattle.psci_messages.specs.declared.taken.Taken.TheVariants.{Used}
-use Rattle.psci_messages.specs.Message.{AckValue}
-use Rattle.psci_messages.specs.Slots.{Slot, SlotsValue, changed, is_kind}
+use Rattle.psci_messages.specs.declared.taken.Taken.TheVariants.{Old, Used}
+use Rattle.psci_messages.specs.Message.{AckValue, MessageValue}
+use Rattle.psci_messages.specs.Slots.{Slot, SlotsValue, answers, answered, changed, is_kind}
 use Rattle.psci_messages.specs.Slots.{message_in, slot_of, taken}
 use Rattle.psci_messages.specs.Slots.Change.{Acknowledge}
 use Rattle.psci_fw_spec.specs.declared.status.Status.TheVariants as statuses
@@ -51,6 +51,27 @@ pub down_has_slot : (a : AckValue) (s : SlotsValue) (v : Values) → turns_off v
     → taken a (message_in s (slot_of a.kind a.core)) ≡ Used → a.core.number < length s.cores
 down_has_slot a s v off used =
     down_at a s a.kind (and_parts _ _ (and_parts _ _ off).0).0 used
+
+by_answer : (t : Bool) (n m : MessageValue) → Some m ≡ cond t (Some n) None → Some n ≡ Some m
+by_answer true n m e = sym e
+by_answer false n m e = cc
+
+-- what was sent where an acknowledgement is of an outstanding message
+pub answered_is : (a : AckValue) (o : Option MessageValue) (m : MessageValue)
+    → Some m ≡ answered a o → o ≡ Some m
+answered_is a None m e = cc
+answered_is a (Some n) m e = by_answer (answers a n) n m e
+
+used_by_answer : (t : Bool) (n m : MessageValue) → Some m ≡ cond t (Some n) None
+    → cond t Used Old ≡ Used
+used_by_answer true n m e = refl
+used_by_answer false n m e = cc
+
+-- such an acknowledgement is used
+pub answered_used : (a : AckValue) (o : Option MessageValue) (m : MessageValue)
+    → Some m ≡ answered a o → taken a o ≡ Used
+answered_used a None m e = cc
+answered_used a (Some n) m e = used_by_answer (answers a n) n m e
 
 -- Values ----------------------------------------------------------------------------------------
 
@@ -97,14 +118,14 @@ acked_by s u a parts each cores granted law = record {
       (claims_confirmed s a parts each l p);
 }
 
--- the parts that were applied, as the state and the acknowledgement stand in memory
-pub sent_parts : (s now : StateValue) (a ack : AckValue) (parts : List Part) → s ≡ now → a ≡ ack
-    → ((level : ℕ) → slice_get parts level
-    ≡ applied_part ack level ((values_in now).outstanding (slot_of ack.kind ack.core)))
+-- the parts that were applied, as the acknowledgement stands in memory
+pub sent_parts : (s : SlotsValue) (a ack : AckValue) (parts : List Part) (m : MessageValue)
+    → a ≡ ack → Some m ≡ answered ack (message_in s (slot_of ack.kind ack.core))
+    → ((level : ℕ) → slice_get parts level ≡ applied_part ack level (Some m))
     → (level : ℕ) → slice_get parts level
-    ≡ applied_part a level (message_in s.slots (slot_of a.kind a.core))
-unfolding values_in
-sent_parts s now a ack parts e f law level = rw (e, f) (law level)
+    ≡ applied_part a level (message_in s (slot_of a.kind a.core))
+sent_parts s a ack parts m f sent law level =
+    rw f (law level ∙ ap (applied_part ack level) (sym (answered_is ack _ m sent)))
 
 state_same : (s : StateValue) (u : TreeValue) (a : AckValue) → IsAcked s u a
     → Set (state_at s.tree) (state_at u) a.core.number (state_at s.tree a.core.number)

@@ -13,7 +13,7 @@ ghost use Rattle.psci_fw_spec.specs.Phases.{Away, Running};
 ghost use Rattle.psci_fw_spec.specs.Taking.{taken_by};
 ghost use Rattle.psci_fw_state.specs.Seen.{values_in};
 
-use crate::confirm::confirm_parts;
+use crate::confirm::{applied_of, confirm_parts};
 use crate::counts::put_row;
 use crate::row::{CoreRow, row_of, set_row};
 use crate::state::State;
@@ -39,6 +39,22 @@ impl State {
         if !self.is_pending(core) {
             self.tree.set_off(core);
         }
+    }
+
+    /// A running core goes off. It has a frame of its own, so that none is held for it by a call
+    /// that only asks.
+    #[inline(never)]
+    #[tactic(auto, unfolding(crate::specs::Seen::values_in))]
+    pub fn leave(&mut self, core: Core)
+        requires inside { core.number < cores self.old.board }
+        requires running { (values_in self.old).phase core.number ≡ Running }
+        ensures after { values_in self.new ≡ with_phase core.number Away (values_in self.old) }
+        ensures board { self.new.board ≡ self.old.board }
+    {
+        law_cores();
+        law_granted();
+        law_confirmed();
+        self.tree.set_off(core);
     }
 
     /// A running core is suspended with this ask; where it powers down it goes on at the opening.
@@ -130,12 +146,12 @@ impl State {
         law_slots();
         let core = ack.core;
         let is_off = self.turns_off(&ack);
-        let applied = self.applied_parts(&ack);
-        let taken = self.slots.take_ack(ack);
-        if taken == Taken::Old {
-            return taken;
-        }
-        confirm_parts(&mut self.tree, &self.board, core, applied.as_slice());
+        let Some(message) = self.slots.answered(&ack) else {
+            return Taken::Old;
+        };
+        let done = ack.is_done(message);
+        confirm_parts(&mut self.tree, &self.board, core, applied_of(&ack, message));
+        self.slots.finish(&ack, done);
         if is_off {
             let row = CoreRow {
                 status: Status::Off,
@@ -150,7 +166,7 @@ impl State {
                 row,
             );
         }
-        taken
+        Taken::Used
     }
 
     /// Whether an acknowledgement says that its core is off.

@@ -3,31 +3,26 @@
 ghost use Rattle.std.specs.Prelude.{◌≡◌, ◌≤◌, ◌<◌, ◌==◌, ◌&&◌, ℕ, true, nat_lt, None, Some};
 ghost use Rattle.std.specs.Prelude.{slice_get, if◌then◌else◌};
 ghost use Rattle.psci_board.specs.Board.{HasNodeIn, IsBoard, cores};
-ghost use Rattle.psci_messages.specs.Slots.{slot_of};
 ghost use Rattle.psci_tree.specs.Recount.{IsDomainTree, state_at, granted_at, is_confirmed_at};
 ghost use Rattle.psci_tree.specs.Recount.{known as known_of};
 ghost use Rattle.psci_fw_spec.specs.Confirmed.{applied_part, is_made_at};
 ghost use Rattle.psci_fw_state.specs.Confirming.{is_last_claim};
-ghost use Rattle.psci_fw_state.specs.Seen.{values_in};
 
-use crate::state::State;
 use psci_board::{Board, Core, Node, law_paths};
-use psci_claims::{Part, Parts};
-use psci_messages::{Ack, Kind};
+use psci_claims::Part;
+use psci_messages::{Ack, Kind, Message};
 use psci_tree::{Tree, law_confirmed};
 
-impl State {
-    /// The parts that an acknowledgement says were applied of the outstanding message.
-    #[tactic(auto, unfolding(crate::specs::Seen::values_in))]
-    pub(crate) fn applied_parts(&self, ack: &Ack) -> Parts
-        ensures { (level : ℕ) → slice_get result level ≡ applied_part ack.now level
-            ((values_in self.now).outstanding (slot_of ack.now.kind ack.now.core)) }
-    {
-        match self.slots.message(ack.kind, ack.core) {
-            Some(message) if ack.kind == Kind::Down => message.parts.first(ack.applied as usize),
-            _ => Parts::new(),
-        }
+/// The parts of a message that an acknowledgement of it says were applied.
+pub fn applied_of<'a>(ack: &Ack, message: &'a Message) -> &'a [Part]
+    ensures { (level : ℕ) → slice_get result.now level
+        ≡ applied_part ack.now level (Some message.now) }
+{
+    let parts = message.parts.as_slice();
+    if ack.kind != Kind::Down {
+        return &parts[..0];
     }
+    &parts[..(ack.applied as usize).min(parts.len())]
 }
 
 /// Confirms what these parts claim on the path of a core, each at the level of its place, where no

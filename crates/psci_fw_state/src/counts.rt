@@ -62,15 +62,14 @@ impl StatusCounts {
         u32::from(self.on) + u32::from(self.pending)
     }
 
-    /// What is counted once `after` is counted of one of the cores, and no longer `before`.
-    fn recounted(self, before: StatusCounts, after: StatusCounts) -> StatusCounts
-        requires { MayRecount self before after }
-        ensures { result ≡ recounted self before after }
+    /// From now on `after` is counted of one of the cores, and no longer `before`. Each number is
+    /// changed where it stands.
+    fn recount(&mut self, before: StatusCounts, after: StatusCounts)
+        requires { MayRecount self.old before after }
+        ensures { self.new ≡ recounted self.old before after }
     {
-        StatusCounts {
-            on: self.on + after.on - before.on,
-            pending: self.pending + after.pending - before.pending,
-        }
+        self.on = self.on + after.on - before.on;
+        self.pending = self.pending + after.pending - before.pending;
     }
 }
 
@@ -179,7 +178,7 @@ fn recount_domain(
         (recounted (counts_at (map (λ v. v.items) counts.old) node.level node.place) before after) }
 {
     let row = &mut counts[node.level as usize - 1];
-    row[node.place as usize] = row[node.place as usize].recounted(before, after);
+    row[node.place as usize].recount(before, after);
 }
 
 /// The status of the cores below a domain together.

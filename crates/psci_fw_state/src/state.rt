@@ -3,7 +3,7 @@
 use crate::counts::{StatusCounts, no_counts, reset_counts};
 use crate::row::{CoreRow, first_rows, row_of};
 use psci_board::{Board, Core, Memory, Node};
-use psci_fw_spec::{Hw, Opening, Status, SuspendMode};
+use psci_fw_spec::{FwFault, Hw, Opening, Status, SuspendMode};
 use psci_messages::{Message, Slots};
 use psci_tree::{Activity, Tree, law_start_of_life};
 use std::alloc::Global;
@@ -58,7 +58,8 @@ impl Model for State {
     }) };
 }
 
-ghost use Rattle.std.specs.Prelude.{◌≡◌, IfOk, option_map};
+ghost use Rattle.std.specs.Prelude.{◌≡◌, None, Some, IfOk, MatchResult, option_map};
+ghost use Rattle.psci_fw_spec.specs.Calls.{call_fault};
 ghost use Rattle.psci_fw_spec.specs.Lives.{start_of_life};
 ghost use Rattle.psci_fw_spec.specs.NodeHwState.{node_hw};
 ghost use Rattle.psci_fw_spec.specs.Phases.{is_away, is_resumable, is_running};
@@ -222,6 +223,24 @@ impl State {
         match self.tree.activity(core) {
             Activity::Active => self.status(core) != Status::Pending,
             _ => false,
+        }
+    }
+
+    /// Whether a core may call, or the first reason why it may not.
+    #[tactic(auto, unfolding(crate::specs::Seen::values_in))]
+    pub fn check_caller(&self, core: Core) -> Result<(), FwFault>
+        ensures { let fault = call_fault self.now.board (values_in self.now) core.number in
+            MatchResult result (λ _. fault ≡ None) (λ e. fault ≡ Some e) }
+    {
+        let Some(row) = self.rows.get(core.number as usize) else {
+            return Err(FwFault::NoCore);
+        };
+        if self.life == 0 {
+            return Err(FwFault::NoLife);
+        }
+        match self.tree.activity(core) {
+            Activity::Active if row.status != Status::Pending => Ok(()),
+            _ => Err(FwFault::NotRunning),
         }
     }
 

@@ -8,8 +8,8 @@ pub send_down-requires-clause-claim : goal.send_down-requires-clause-claim
 send_down-requires-clause-claim c =
     let v = values_in c.args.state.now in
     let same = leaving_off c.args.state.now.board _ v _ c.args.caller.number _
-    c.set_away.ensures.board
-    c.set_away.ensures.after c.leaving_wish-wish.ensures in
+    c.leave.ensures.board
+    c.leave.ensures.after c.leaving_wish-wish.ensures in
     subst AreClaims (sym same)
     (c.law_stops.ensures.off c.args.state.now.board v c.args.caller.number
     c.requires.board c.requires.inside c.requires.values c.requires.running)
@@ -18,16 +18,16 @@ pub send_down-requires-clause-may : goal.send_down-requires-clause-may
 send_down-requires-clause-may c =
     let v = values_in c.args.state.now in
     let same = leaving_off c.args.state.now.board _ v _ c.args.caller.number _
-    c.set_away.ensures.board
-    c.set_away.ensures.after c.leaving_wish-wish.ensures in
-    left_may c.args.state.now.board _ v _ c.args.caller.number _ _ c.set_away.ensures.board
-    c.set_away.ensures.after same
+    c.leave.ensures.board
+    c.leave.ensures.after c.leaving_wish-wish.ensures in
+    left_may c.args.state.now.board _ v _ c.args.caller.number _ _ c.leave.ensures.board
+    c.leave.ensures.after same
     (c.law_may_claim.ensures.off c.args.state.now.board v c.args.caller.number c.requires.board
     c.requires.inside c.requires.values c.requires.running c.requires.awake)
 
 pub returns-clause-answer : goal.returns-clause-answer
 returns-clause-answer c =
     off_answered c.args.state.now.board _ (values_in c.args.state.now) _ _ c.args.caller.number _ _
-    c.set_away.ensures.board c.set_away.ensures.after c.leaving_wish-wish.ensures
+    c.leave.ensures.board c.leave.ensures.after c.leaving_wish-wish.ensures
     c.send_down.ensures.answer
     c.send_down.ensures.after

@@ -17,13 +17,13 @@ returns c =
     let same = get_or-map (λ v. v.items) c.args.counts.now level row [] there in
     let inside : place < length (get_or c.args.counts.now level row).items =
     omega (arith, c.requires.place, ap length same) in
-    let read : c.index.result.now ≡ counts_at kept c.args.node.level place =
-    c.index.ensures
-    ∙ get_or_default (get_or c.args.counts.now level row).items place c.index.result.now no_cores
+    let read : c.index_mut.result.now ≡ counts_at kept c.args.node.level place =
+    c.index_mut.ensures.value
+    ∙ get_or_default (get_or c.args.counts.now level row).items place c.index_mut.result.now no_cores
     inside
     ∙ ap (λ (r : List StatusCounts). get_or r place no_cores) (sym same) in
     map-set (λ v. v.items) c.args.counts.now level
-    (with_item (get_or c.args.counts.now level row) place c.recounted.result)
-    ∙ ap (λ (r : List StatusCounts). set kept level (set r place c.recounted.result)) (sym same)
+    (with_item (get_or c.args.counts.now level row) place c.recount.new.self)
+    ∙ ap (λ (r : List StatusCounts). set kept level (set r place c.recount.new.self)) (sym same)
     ∙ ap (λ (k : StatusCounts). set kept level (set (get_or kept level []) place k))
-    (c.recounted.ensures ∙ ap (λ k. recounted k c.args.before c.args.after) read)
+    (c.recount.ensures ∙ ap (λ k. recounted k c.args.before c.args.after) read)

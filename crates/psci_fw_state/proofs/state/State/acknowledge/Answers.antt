@@ -1,13 +1,15 @@
 use Rattle.std.proofs.Common.{◌≡◌, ◌<◌, true, false, length, sym, subst, ap, arith, ◌∙◌, map}
 use Rattle.psci_messages.specs.declared.taken.Taken.TheVariants.{Used}
-use Rattle.psci_messages.specs.Message.{AckValue}
-use Rattle.psci_messages.specs.Slots.{message_in, slot_of, taken}
+use Rattle.std.specs.Borrow.{Bor}
+use Rattle.std.specs.Prelude.{Option, Some, option_map}
+use Rattle.psci_messages.specs.Message.{AckValue, MessageValue}
+use Rattle.psci_messages.specs.Slots.{answered, message_in, slot_of, taken}
 use Rattle.psci_messages.specs.Slots.Change.{Acknowledge}
 use Rattle.psci_fw_spec.specs.declared.status.Status.TheVariants as statuses
 use Rattle.psci_fw_spec.specs.Changes.{turns_off}
 use Rattle.psci_fw_state.specs.Rows.{row_at}
 use Rattle.psci_fw_state.specs.Seen.{StateValue, values_in}
-use Rattle.psci_fw_state.proofs.Acked.{down_has_slot, off_changed}
+use Rattle.psci_fw_state.proofs.Acked.{answered_used, down_has_slot, off_changed}
 use Rattle.psci_fw_state.proofs.Acked.{IsAcked, acked_by, sent_parts, used_changed}
 use Rattle.psci_fw_state.proofs.Changed.{row_set}
 use Rattle.psci_fw_state.proofs.Moved.{rows_set}
@@ -33,12 +35,17 @@ returns-then-is_off-clause-used c = λ used.
       applied = c.ack.inside.applied;
       stale = c.ack.inside.stale;
     } in
+    let sent : Some c.in-Some.message.now
+    ≡ answered c.args.ack (message_in s.slots (slot_of c.args.ack.kind c.args.ack.core)) =
+    subst (λ (o : Option (Bor MessageValue)). option_map (λ message. message.now) o
+    ≡ answered c.args.ack (message_in s.slots (slot_of c.args.ack.kind c.args.ack.core)))
+    c.in-Some.is c.answered.ensures in
     let off : turns_off (values_in c.args.self.now) a ≡ true =
     subst (λ (x : AckValue). turns_off (values_in c.args.self.now) x ≡ true) (sym c.ack.view_is)
     (sym c.turns_off-is_off.ensures ∙ c.if-is_off.true) in
     let used_up : taken a (message_in s.slots (slot_of a.kind a.core)) ≡ Used =
     subst (λ (x : AckValue). taken x (message_in s.slots (slot_of x.kind x.core)) ≡ Used)
-    (sym c.ack.view_is) (sym c.take_ack-taken.ensures.taken ∙ used) in
+    (sym c.ack.view_is) (answered_used c.args.ack _ _ sent) in
     let inside : a.core.number < length s.slots.cores =
     down_has_slot a s.slots (values_in c.args.self.now) off used_up in
     let row_inside : a.core.number < length s.rows =
@@ -49,17 +56,16 @@ returns-then-is_off-clause-used c = λ used.
     a.core.number (record { status = statuses.Off; opening = c.row_of.result.opening })
     c.deref_mut-then-is_off.ensures.value c.put_row.ensures.rows in
     let acked : IsAcked s c.confirm_parts.new.tree a =
-    acked_by s c.confirm_parts.new.tree a c.as_slice.result.now
-    (λ level. rw (c.as_slice.ensures.parts) (sent_parts s _ a _ _ c.self.view_is c.ack.view_is
-    c.applied_parts-applied.ensures level))
+    acked_by s c.confirm_parts.new.tree a c.applied_of.result.now
+    (sent_parts s.slots a _ _ _ c.ack.view_is sent c.applied_of.ensures)
     (λ k. rw (← c.deref_mut.ensures.value) (c.confirm_parts.ensures.cores k))
     (λ l p. rw (← c.deref_mut.ensures.value) (c.confirm_parts.ensures.granted l p))
     (λ l p. rw (← c.deref_mut.ensures.value) (c.confirm_parts.ensures.confirmed l p)) in
     rw (← c.ack.view_is)
-    (off_changed s _ c.confirm_parts.new.tree _ _ c.take_ack-taken.new.self a c.self.view_is off
+    (off_changed s _ c.confirm_parts.new.tree _ _ c.finish.new.self a c.self.view_is off
     acked
     (rw (rows, row) (row_set s.rows a.core.number _ row_inside))
-    (λ slot. rw (c.take_ack-taken.ensures.slots, ← c.ack.view_is)
+    (λ slot. rw (c.finish.ensures.slots, ← c.ack.view_is)
     (c.law_slots.ensures.changed s.slots (Acknowledge a) tt slot)))
 
 pub returns-else-is_off-clause-used : goal.returns-else-is_off-clause-used
@@ -82,17 +88,21 @@ returns-else-is_off-clause-used c = λ used.
       applied = c.ack.inside.applied;
       stale = c.ack.inside.stale;
     } in
+    let sent : Some c.in-Some.message.now
+    ≡ answered c.args.ack (message_in s.slots (slot_of c.args.ack.kind c.args.ack.core)) =
+    subst (λ (o : Option (Bor MessageValue)). option_map (λ message. message.now) o
+    ≡ answered c.args.ack (message_in s.slots (slot_of c.args.ack.kind c.args.ack.core)))
+    c.in-Some.is c.answered.ensures in
     let off : turns_off (values_in c.args.self.now) a ≡ false =
     subst (λ (x : AckValue). turns_off (values_in c.args.self.now) x ≡ false) (sym c.ack.view_is)
     (sym c.turns_off-is_off.ensures ∙ c.if-is_off.false) in
     let acked : IsAcked s c.confirm_parts.new.tree a =
-    acked_by s c.confirm_parts.new.tree a c.as_slice.result.now
-    (λ level. rw (c.as_slice.ensures.parts) (sent_parts s _ a _ _ c.self.view_is c.ack.view_is
-    c.applied_parts-applied.ensures level))
+    acked_by s c.confirm_parts.new.tree a c.applied_of.result.now
+    (sent_parts s.slots a _ _ _ c.ack.view_is sent c.applied_of.ensures)
     (λ k. rw (← c.deref_mut.ensures.value) (c.confirm_parts.ensures.cores k))
     (λ l p. rw (← c.deref_mut.ensures.value) (c.confirm_parts.ensures.granted l p))
     (λ l p. rw (← c.deref_mut.ensures.value) (c.confirm_parts.ensures.confirmed l p)) in
     rw (← c.ack.view_is)
-    (used_changed s _ c.confirm_parts.new.tree c.take_ack-taken.new.self a c.self.view_is off acked
-    (λ slot. rw (c.take_ack-taken.ensures.slots, ← c.ack.view_is)
+    (used_changed s _ c.confirm_parts.new.tree c.finish.new.self a c.self.view_is off acked
+    (λ slot. rw (c.finish.ensures.slots, ← c.ack.view_is)
     (c.law_slots.ensures.changed s.slots (Acknowledge a) tt slot)))
