@@ -12,6 +12,7 @@ ghost use Rattle.psci_link.specs.Frame.{frame_bytes, IsFrame, IsOf, parts_in};
 ghost use Rattle.psci_link.specs.Frame.{word_at};
 ghost use Rattle.psci_link.specs.Frame.{part_fields_in, count_in, fault_of_kind, fault_of_parts};
 ghost use Rattle.psci_link.specs.Frame.{IsHeldIn, first_fault, frame_in, heading_for};
+ghost use Rattle.psci_link.specs.Frame.{is_unused_after};
 
 use crate::encoding::MAGIC;
 use crate::fault::FrameFault;
@@ -123,14 +124,29 @@ fn used_on(board: &Board, heading: Heading, bytes: &[u8]) -> Result<u8, FrameFau
         return Err(FrameFault::Count);
     }
     let used = heading.parts(count);
-    let (_, unused) = bytes.split_at(HEADER_LEN + PART_LEN * used as usize);
-    if !is_zero(unused) {
+    if !is_unused_after(used, bytes) {
         return Err(FrameFault::Unused);
     }
     if u16::from(bytes[CORE_AT]) >= board.cores() {
         return Err(FrameFault::Core);
     }
     Ok(used)
+}
+
+/// Whether the places behind so many parts are not used. Where there are no parts it is known when
+/// this is compiled how many bytes these are, and no loop goes over them.
+#[inline(always)]
+fn is_unused_after(used: u8, bytes: &[u8]) -> bool
+    requires whole { length bytes.now ≡ 53 }
+    requires few { used ≤ 4 }
+    ensures { result ≡ is_unused_after used bytes.now }
+{
+    if used == 0 {
+        let (_, unused) = bytes.split_at(HEADER_LEN);
+        return is_zero(unused);
+    }
+    let (_, unused) = bytes.split_at(HEADER_LEN + PART_LEN * used as usize);
+    is_zero(unused)
 }
 
 /// The frame of this kind that the bytes hold.
