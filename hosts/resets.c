@@ -30,7 +30,7 @@ static void hold(bool held) {
     sigprocmask(held ? SIG_BLOCK : SIG_UNBLOCK, &alarm, NULL);
 }
 
-/* A core calls and calls, until the reset cuts it. */
+/* A core calls and reads until the reset cuts it: a reader that is cut leaves the place empty. */
 static void call_until_cut(unsigned core, long microseconds, bool is_waited_for) {
     struct itimerval after = {{0, 0}, {0, microseconds}};
     if (sigsetjmp(reset, 1))
@@ -40,6 +40,8 @@ static void call_until_cut(unsigned core, long microseconds, bool is_waited_for)
         if (is_waited_for)
             hold(true);
         smc(core, INFO, word_of(0), 0, 0);
+        for (unsigned level = 0; level < 4; level++)
+            psci_status(&firmware, level, 0);
         if (is_waited_for)
             hold(false);
     }

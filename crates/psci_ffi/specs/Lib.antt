@@ -6,6 +6,7 @@ pub mod ControllerSlot
 pub mod Fields
 pub mod Frames
 pub mod Given
+pub mod Lending
 pub mod MachineCalls
 pub mod MachineCodes
 pub mod MachineSlot

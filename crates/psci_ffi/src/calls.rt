@@ -16,7 +16,7 @@ use std::alloc::Global;
 /// A secure monitor call of a core with these registers.
 #[unsafe(no_mangle)]
 pub extern "C" fn psci_smc(
-    alloc: Global,
+    _alloc: Global,
     place: &mut Place,
     core: u16,
     x0: u64,
@@ -32,20 +32,19 @@ pub extern "C" fn psci_smc(
     ensures refused { let call = Some (Smc (record { x0 = x0; x1 = x1; x2 = x2; x3 = x3 })) in
         IsSameRefused place.old.slot.kept core call place.new.slot.kept }
 {
-    let Some(mut held) = place.take(alloc) else {
+    if !place.full {
         *answer = refused(NO_FIRMWARE);
         return;
-    };
+    }
+    let held = place.slot.held();
     let made = held.smc(Core { number: core }, Regs { x0, x1, x2, x3 });
-    write_answer(answer, &held, made);
-    place.put(held);
+    write_answer(answer, held, made);
 }
 
 /// A core enters by the start of this number in this life, whose cause is 0 a boot, 1 CPU_ON, 2 a
 /// wake-up, or 3 a reset of the core.
 #[unsafe(no_mangle)]
 pub extern "C" fn psci_enter(
-    alloc: Global,
     place: &mut Place,
     core: u16,
     life: u32,
@@ -64,30 +63,29 @@ pub extern "C" fn psci_enter(
         *answer = refused(NO_CAUSE);
         return;
     };
-    let Some(mut held) = place.take(alloc) else {
+    if !place.full {
         *answer = refused(NO_FIRMWARE);
         return;
-    };
+    }
+    let held = place.slot.held();
     let start = Start {
         life,
         number,
         cause,
     };
     let made = held.enter(Core { number: core }, start);
-    write_answer(answer, &held, made);
-    place.put(held);
+    write_answer(answer, held, made);
 }
 
 /// Takes the acknowledgement whose frame these bytes are: 0 where it was used, 1 where it was old.
 /// From 16 on nothing changed: 33 to 40 are the faults of frames, 41 says the frame of a message.
 #[unsafe(no_mangle)]
-pub extern "C" fn psci_take(alloc: Global, place: &mut Place, frame: &[u8]) -> u32
+pub extern "C" fn psci_take(place: &mut Place, frame: &[u8]) -> u32
     ensures { IsTakenIn place.old.slot.kept frame.now result place.new.slot.kept }
 {
-    let Some(mut held) = place.take(alloc) else {
+    if !place.full {
         return NO_FIRMWARE;
-    };
-    let code = held.take(frame);
-    place.put(held);
-    code
+    }
+    let held = place.slot.held();
+    held.take(frame)
 }

@@ -133,8 +133,7 @@ impl Held {
         }
     }
 
-    /// `Firmware::take`. It has a frame of its own, so that none is held while a frame is read.
-    #[inline(never)]
+    /// `Firmware::take`.
     fn take_ack(&mut self, ack: Ack) -> Taken
         ensures answer { (c : ℕ) → replies.Taken result ≡ answer self.old.firmware.board
             (seen self.old.firmware) c (calls.Take ack) }

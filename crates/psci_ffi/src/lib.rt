@@ -28,6 +28,7 @@ mod given;
 mod given_build;
 mod given_fault;
 mod held;
+mod lending;
 mod machine_calls;
 mod machine_fault;
 mod machine_given;

@@ -1,0 +1,15 @@
+-- What becomes of a slot while what is in it is lent.
+use base.Fml.{Fml}
+use denote.Ref.{MutBor}
+use Rattle.std.specs.Prelude.{Some}
+use Rattle.std.specs.Borrow.{Lends}
+use Rattle.psci_ffi.specs.contracts.held.Held as Held
+use Rattle.psci_ffi.specs.contracts.slot.Slot as Slot
+
+-- the slot with this in it
+abbrev pub with_held : Slot.the_row.Denot → Held.the_row.Denot → Slot.the_row.Denot
+with_held s h = record s { kept = Some h }
+
+-- the slot ends with what was last written through the borrow
+abbrev pub LendsHeld : MutBor Slot.the_row.Denot → MutBor Held.the_row.Denot → Fml
+LendsHeld s r = Lends Slot.the_row Held.the_row s r (with_held s.now)
