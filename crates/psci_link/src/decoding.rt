@@ -81,6 +81,7 @@ fn heading_in(bytes: &[u8]) -> Result<Heading, FrameFault>
 }
 
 /// The first fault of bytes of this kind on this board, if they have one.
+#[inline(always)]
 fn check(board: &Board, heading: Heading, bytes: &[u8]) -> Result<(), FrameFault>
     requires { length bytes.now ≡ 53 }
     ensures { MatchResult result (λ _. fault_of_kind board.now bytes.now heading ≡ None)
