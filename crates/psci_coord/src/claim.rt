@@ -70,8 +70,9 @@ pub fn climb(tree: &Tree, board: &Board, core: Core, wish: &Wish, parts: &mut Pa
     ensures { parts.new ≡ claims_of board.now (view_of tree.now) core.number
         (wanted board.now (view_of tree.now) core.number wish.now) }
 {
+    let standings = tree.standings(core);
     for level in 0..board.height() + 1 {
-        let Standing { low, known } = tree.standing(core, level);
+        let Standing { low, known } = standings[level as usize];
         let depth = wish.depth(level, low);
         if depth == 0 {
             break;

@@ -2,11 +2,11 @@
 
 use crate::beside::{Rows, rows_of};
 use crate::build::root_of;
-use crate::descent::{domain_at, standing_on};
+use crate::descent::{domain_at, standings_on};
 use crate::domain::Domain;
 use crate::standing::Standing;
 use crate::way::Way;
-use psci_board::{Board, Core, Memory, Node, law_sizes, law_spans};
+use psci_board::{Board, Core, MOST_ON_PATH, Memory, Node, law_sizes, law_spans};
 use psci_state::{Activity, CoreState, NEVER_STARTED};
 use std::alloc::Global;
 use std::marker::Model;
@@ -56,7 +56,8 @@ impl Model for Tree {
     }) };
 }
 
-ghost use Rattle.std.specs.Prelude.{◌≡◌, ◌<◌, ◌≤◌, map, length, replicate, IfOk};
+ghost use Rattle.std.specs.Prelude.{◌≡◌, ℕ, ◌<◌, ◌≤◌, map, length, replicate, IfOk};
+ghost use Rattle.std.specs.Prelude.{slice_index_or};
 ghost use Rattle.psci_board.specs.Board.{IsBoard, size_below, HasNodeIn, below_in};
 ghost use Rattle.psci_tree.specs.declared.domain.Domain.{Domain, out-Domain};
 ghost use Rattle.psci_tree.specs.Recount.{IsDomainTree, state_at, known_at, low, known, active};
@@ -67,6 +68,7 @@ ghost use Rattle.psci_tree.specs.Changes.{all_off, start_of_life};
 ghost use Rattle.psci_tree.specs.Domains.{IsWhole, leaves};
 ghost use Rattle.psci_tree.specs.Kept.{IsKept, Keeps};
 ghost use Rattle.psci_tree.specs.Standing.{on_path, standing};
+ghost use Rattle.psci_tree.specs.declared.standing.Standing.{Standing};
 
 impl Tree {
     /// The tree of a board at the start of a life: the boot core, core 0, is pending, every other
@@ -150,15 +152,16 @@ impl Tree {
         self.domain(node).kept.off
     }
 
-    /// How the domain of this level on the path of a core stands.
-    pub fn standing(&self, core: Core, level: u32) -> Standing
-        requires core { core.number < size_below self.now.levels }
-        requires level { level ≤ length self.now.levels }
-        ensures { result ≡ standing self.now (on_path self.now.levels core.number level) }
+    /// How the domains on the path of a core stand, each at the place of its level.
+    pub fn standings(&self, core: Core) -> [Standing; MOST_ON_PATH]
+        requires { core.number < size_below self.now.levels }
+        ensures { (level : ℕ) (s : Standing) → level ≤ length self.now.levels
+            → slice_index_or result level s
+            ≡ standing self.now (on_path self.now.levels core.number level) }
     {
         law_spans();
         let way = &self.ways[core.number as usize];
-        standing_on(&self.root, &self.board, core, way, level)
+        standings_on(&self.root, &self.board, core, way)
     }
 
     /// The domain of this level on the path of a core.
