@@ -11,12 +11,12 @@ pub mod Keeping
 pub mod KeptRows
 pub mod Looked
 pub mod OffOnes
+pub mod PathStands
 pub mod Places
 pub mod Recounted
 pub mod Rows
 pub mod Shapes
 pub mod Slices
-pub mod Standings
 pub mod Sums
 pub mod UnevenRows
 pub mod Upward

@@ -10,10 +10,8 @@ ghost use Rattle.psci_tree.specs.Recount.{is_away, never_started};
 ghost use Rattle.psci_tree.specs.Domains.{branches, leaves, cores_in, child_counts, IsWay};
 ghost use Rattle.psci_tree.specs.Domains.{index_by};
 ghost use Rattle.psci_tree.specs.Kept.{AreKept, IsKept, Keeps};
-ghost use Rattle.psci_tree.specs.Standing.{kept_standing};
 
 use crate::kept::Kept;
-use crate::standing::Standing;
 use psci_state::{CoreState, NEVER_STARTED};
 
 /// A power domain. One without children is a core.
@@ -100,17 +98,6 @@ impl Domain {
             self.children[number].turn_off();
         }
         self.kept = Kept::never_started(off_below(&self.children));
-    }
-
-    /// How the domain stands, which is one of this level.
-    pub fn standing(&self, level: u32) -> Standing
-        requires { level ≤ 3 }
-        ensures { result ≡ kept_standing self.now level }
-    {
-        Standing {
-            low: self.kept.lows[level as usize],
-            known: self.kept.known,
-        }
     }
 
     /// What is kept of the cores below, computed anew from what the children keep.

@@ -32,5 +32,5 @@ pub use laws::{
     law_start_of_life, law_states,
 };
 pub use psci_state::Activity;
-pub use standing::Standing;
+pub use standing::Standings;
 pub use tree::Tree;

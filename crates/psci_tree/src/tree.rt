@@ -4,7 +4,7 @@ use crate::beside::{Rows, rows_of};
 use crate::build::root_of;
 use crate::descent::{domain_at, standings_on};
 use crate::domain::Domain;
-use crate::standing::Standing;
+use crate::standing::Standings;
 use crate::way::Way;
 use psci_board::{Board, Core, MOST_ON_PATH, Memory, Node, law_sizes, law_spans};
 use psci_state::{Activity, CoreState, NEVER_STARTED};
@@ -57,7 +57,7 @@ impl Model for Tree {
 }
 
 ghost use Rattle.std.specs.Prelude.{◌≡◌, ℕ, ◌<◌, ◌≤◌, map, length, replicate, IfOk};
-ghost use Rattle.std.specs.Prelude.{slice_index_or};
+ghost use Rattle.std.specs.Prelude.{slice_index};
 ghost use Rattle.psci_board.specs.Board.{IsBoard, size_below, HasNodeIn, below_in};
 ghost use Rattle.psci_tree.specs.declared.domain.Domain.{Domain, out-Domain};
 ghost use Rattle.psci_tree.specs.Recount.{IsDomainTree, state_at, known_at, low, known, active};
@@ -67,8 +67,7 @@ ghost use Rattle.psci_tree.specs.Beside.{AreFull};
 ghost use Rattle.psci_tree.specs.Changes.{all_off, start_of_life};
 ghost use Rattle.psci_tree.specs.Domains.{IsWhole, leaves};
 ghost use Rattle.psci_tree.specs.Kept.{IsKept, Keeps};
-ghost use Rattle.psci_tree.specs.Standing.{on_path, standing};
-ghost use Rattle.psci_tree.specs.declared.standing.Standing.{Standing};
+ghost use Rattle.psci_tree.specs.Standing.{on_path};
 
 impl Tree {
     /// The tree of a board at the start of a life: the boot core, core 0, is pending, every other
@@ -153,11 +152,13 @@ impl Tree {
     }
 
     /// How the domains on the path of a core stand, each at the place of its level.
-    pub fn standings(&self, core: Core) -> [Standing; MOST_ON_PATH]
+    pub fn standings(&self, core: Core) -> Standings
         requires { core.number < size_below self.now.levels }
-        ensures { (level : ℕ) (s : Standing) → level ≤ length self.now.levels
-            → slice_index_or result level s
-            ≡ standing self.now (on_path self.now.levels core.number level) }
+        ensures lows { (level : ℕ) → level ≤ length self.now.levels → slice_index result.lows level
+            ≡ low self.now (on_path self.now.levels core.number level) level }
+        ensures known { (level : ℕ) → level ≤ length self.now.levels
+            → slice_index result.known level
+            ≡ known self.now (on_path self.now.levels core.number level) }
     {
         law_spans();
         let way = &self.ways[core.number as usize];

@@ -5,10 +5,8 @@ use Rattle.std.proofs.lemmas.Bool.{cases_eq}
 use Rattle.std.proofs.lemmas.List.{get_or_default, get_or-replicate}
 use Rattle.psci_board.specs.Board.{place_above}
 use Rattle.psci_tree.specs.declared.domain.Domain.{Domain, out-Domain}
-use Rattle.psci_tree.specs.declared.standing.Standing.{Standing}
 use Rattle.psci_tree.specs.Domains.{branches, domains_down}
-use Rattle.psci_tree.specs.Standing.{kept_standing}
-use Rattle.psci_tree.proofs.Standings.{PathStep, path_step, at_top}
+use Rattle.psci_tree.proofs.PathStands.{PathStep, path_step, at_top}
 use Rattle.psci_tree.proofs.descent.standings_on.Goals as goal
 
 pub loop-step-init : goal.loop-step-init
@@ -19,19 +17,22 @@ loop-step-init c =
     → root ≡ get_or (domains_down (length levels - k) root)
     (place_above levels k c.args.core.number) d =
     λ k d e. sym (at_top root levels c.args.core.number k d c.requires.tree c.requires.core e) in
+    let lows : List ℕ = (out-Domain root).kept.lows in
+    let fits : (k : ℕ) → k ≤ length levels → k < 4 =
+    λ k h. omega (arith, h, c.requires.high) in
     record {
-      long = omega arith;
+      lows-long = omega arith;
+      known-long = omega arith;
       own = λ k d e. top k d (omega (arith, e));
-      done = λ k d s h i.
+      lows = λ k d h i.
           let e : k ≡ length levels = omega (arith, h, i) in
-          get_or-replicate 4 k c.standing-standings.result s (omega (
-            arith,
-            e,
-            c.height-height.ensures.board.high,
-          ))
-          ∙ c.standing-standings.ensures
-          ∙ ap (kept_standing root) (c.height-height.ensures.height ∙ sym e)
-          ∙ ap (λ x. kept_standing x k) (top k d e);
+          get_or-replicate 4 k (get_or lows c.height-height.result 0) 0 (fits k h)
+          ∙ ap (λ x. get_or lows x 0) (c.height-height.ensures.height ∙ sym e)
+          ∙ ap (λ x. get_or (out-Domain x).kept.lows k 0) (top k d e);
+      known = λ k d h i.
+          let e : k ≡ length levels = omega (arith, h, i) in
+          get_or-replicate 4 k (out-Domain root).kept.known 0 (fits k h)
+          ∙ ap (λ x. (out-Domain x).kept.known) (top k d e);
     }
 
 pub index-own-requires : goal.index-own-requires
@@ -82,28 +83,49 @@ loop-step-preserved c =
     ∙ down.is d parent
     ∙ ap (λ x. get_or (domains_down (length levels - x) root) (place_above levels x core) d)
     (sym same) in
-    let was : List Standing = c.loop-step.standings in
-    let there : m < length was =
-    omega (arith, fits, c.loop-step.invariant.long, c.height-height.ensures.board.high) in
+    let lows : List ℕ = c.loop-step.standings.lows in
+    let sums : List ℕ = c.loop-step.standings.known in
+    let low : ℕ = get_or (out-Domain own).kept.lows m 0 in
+    let sum : ℕ = (out-Domain own).kept.known in
     record {
-      long = length-set was m c.standing.result ∙ c.loop-step.invariant.long;
+      lows-long = length-set lows m low ∙ c.loop-step.invariant.lows-long;
+      known-long = length-set sums m sum ∙ c.loop-step.invariant.known-long;
       own = λ k d e. here k d (omega (arith, e, meets));
-      done = λ k d s h i. elim (cases_eq k m) [
+      lows = λ k d h i. elim (cases_eq k m) [
         | inl e ↦
-            ap (λ x. get_or (set was m c.standing.result) x s) e
-            ∙ get_or-set_same was m c.standing.result s there
-            ∙ c.standing.ensures
-            ∙ ap (kept_standing own) (sym e)
-            ∙ ap (λ x. kept_standing x k) (here k d e)
+            ap (λ x. get_or (set lows m low) x 0) e
+            ∙ get_or-set_same lows m low 0
+            (omega (arith, fits, c.loop-step.invariant.lows-long, c.requires.high))
+            ∙ ap (λ x. get_or (out-Domain own).kept.lows x 0) (sym e)
+            ∙ ap (λ x. get_or (out-Domain x).kept.lows k 0) (here k d e)
         | inr ne ↦
-            get_or-set_other was m k c.standing.result s ne
-            ∙ c.loop-step.invariant.done k d s h (omega (arith, i, meets, ne))
+            get_or-set_other lows m k low 0 ne
+            ∙ c.loop-step.invariant.lows k d h (omega (arith, i, meets, ne))
+      ];
+      known = λ k d h i. elim (cases_eq k m) [
+        | inl e ↦
+            ap (λ x. get_or (set sums m sum) x 0) e
+            ∙ get_or-set_same sums m sum 0
+            (omega (arith, fits, c.loop-step.invariant.known-long, c.requires.high))
+            ∙ ap (λ x. (out-Domain x).kept.known) (here k d e)
+        | inr ne ↦
+            get_or-set_other sums m k sum 0 ne
+            ∙ c.loop-step.invariant.known k d h (omega (arith, i, meets, ne))
       ];
     }
 
-pub returns : goal.returns
-returns c = λ k d s h.
-    c.loop-step.invariant.done k d s (omega (arith, h)) (omega (
+pub returns-clause-lows : goal.returns-clause-lows
+returns-clause-lows c = λ k d h.
+    c.loop-step.invariant.lows k d (omega (arith, h)) (omega (
+      arith,
+      c.loop-step-test.false,
+      c.loop-step.auto.step-end,
+      c.height-height.ensures.height,
+    ))
+
+pub returns-clause-known : goal.returns-clause-known
+returns-clause-known c = λ k d h.
+    c.loop-step.invariant.known k d (omega (arith, h)) (omega (
       arith,
       c.loop-step-test.false,
       c.loop-step.auto.step-end,

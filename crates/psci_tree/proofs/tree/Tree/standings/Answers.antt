@@ -4,11 +4,11 @@ use Rattle.psci_board.specs.declared.node.Node.{Node}
 use Rattle.psci_tree.specs.Recount.{TreeValue}
 use Rattle.psci_tree.specs.Inside.{IsTied}
 use Rattle.psci_tree.specs.Way.{IsWayOf}
-use Rattle.psci_tree.specs.Standing.{on_path, kept_standing}
+use Rattle.psci_tree.specs.Standing.{kept_on_path}
 use Rattle.psci_tree.specs.Domains.{domains_down}
 use Rattle.psci_tree.specs.declared.domain.Domain.{Domain}
 use Rattle.psci_tree.proofs.Granted.{place_lt}
-use Rattle.psci_tree.proofs.Standings.{standing_is}
+use Rattle.psci_tree.proofs.PathStands.{path_stands}
 use Rattle.psci_tree.proofs.tree.Tree.standings.Goals as goal
 
 pub standings_on-requires-clause-way : goal.standings_on-requires-clause-way
@@ -18,8 +18,8 @@ standings_on-requires-clause-way c =
     (subst (λ (t : TreeValue). c.args.core.number < size_below t.levels) (sym c.self.view_is)
     c.requires))
 
-pub returns : goal.returns
-returns c = λ level s h.
+pub returns-clause-lows : goal.returns-clause-lows
+returns-clause-lows c = λ level h.
     let t : TreeValue = c.args.self.now in
     let levels : List (List ℕ) = c.self.inside.board.levels in
     let root : Domain = c.self.inside.root in
@@ -27,15 +27,21 @@ returns c = λ level s h.
     let is = c.self.view_is in
     let tied : IsTied root t = subst (IsTied root) is c.self.invariant.tied in
     let same : levels ≡ t.levels = ap (λ (v : TreeValue). v.levels) is in
-    let node : Node = on_path t.levels core level in
-    let there : HasNodeIn t.levels node = record {
-      level = h;
-      place = place_lt t.levels level core tied.valid.tree h c.requires;
-    } in
-    c.standings_on.ensures level root s (subst (λ ls. level ≤ length ls) (sym same) h)
-    ∙ ap (λ ls. kept_standing (get_or (domains_down (length ls - level) root)
-    (place_above ls level core) root) level) same
-    ∙ standing_is root t node (length t.levels - level) root
-    (c.law_spans.ensures t.levels tied.valid.tree) tied (ap (λ (v : TreeValue). v.cores) (sym is))
-    there
-    (omega (arith, h))
+    c.standings_on.ensures.lows level root (subst (λ ls. level ≤ length ls) (sym same) h)
+    ∙ ap (λ ls. get_or (kept_on_path root ls core level root).lows level 0) same
+    ∙ (path_stands root t core level root (c.law_spans.ensures t.levels tied.valid.tree) tied
+    (ap (λ (v : TreeValue). v.cores) (sym is)) c.requires h).low
+
+pub returns-clause-known : goal.returns-clause-known
+returns-clause-known c = λ level h.
+    let t : TreeValue = c.args.self.now in
+    let levels : List (List ℕ) = c.self.inside.board.levels in
+    let root : Domain = c.self.inside.root in
+    let core : ℕ = c.args.core.number in
+    let is = c.self.view_is in
+    let tied : IsTied root t = subst (IsTied root) is c.self.invariant.tied in
+    let same : levels ≡ t.levels = ap (λ (v : TreeValue). v.levels) is in
+    c.standings_on.ensures.known level root (subst (λ ls. level ≤ length ls) (sym same) h)
+    ∙ ap (λ ls. (kept_on_path root ls core level root).known) same
+    ∙ (path_stands root t core level root (c.law_spans.ensures t.levels tied.valid.tree) tied
+    (ap (λ (v : TreeValue). v.cores) (sym is)) c.requires h).known
