@@ -55,7 +55,7 @@ pub fn confirm_parts(tree: &mut Tree, board: &Board, core: Core, parts: &[Part])
     let most = parts.len().min(board.height() as usize + 1);
     for level in 0..most {
         let node = tree.on_path(core, level as u32);
-        confirm_last(tree, node, standings[level].known, parts[level]);
+        confirm_last(tree, node, standings.known[level], parts[level]);
     }
 }
 
