@@ -4,6 +4,7 @@ pub mod Below
 pub mod Bounds
 pub mod Built
 pub mod Cleared
+pub mod DepthRows
 pub mod GrantRows
 pub mod Granted
 pub mod Held

@@ -18,6 +18,7 @@
 mod beside;
 mod build;
 mod changes;
+mod depths;
 mod descent;
 mod domain;
 mod grants;

@@ -2,8 +2,10 @@
 
 use crate::beside::{Rows, rows_of};
 use crate::build::root_of;
+use crate::depths::Depths;
 use crate::descent::{domain_at, standings_on};
 use crate::domain::Domain;
+use crate::grants::depths_at;
 use crate::standing::Standings;
 use crate::way::Way;
 use psci_board::{Board, Core, MOST_ON_PATH, Memory, Node, law_sizes, law_spans};
@@ -25,10 +27,8 @@ pub struct Tree {
     pub(crate) cores: Vec<CoreState>,
     /// The way to each core, in the order of their numbers.
     pub(crate) ways: Vec<Way>,
-    /// From level 0 up, the granted depth of each domain.
-    pub(crate) granted: Vec<Vec<u8>>,
-    /// From level 0 up, the depth of each domain that is confirmed, 0 of one that has none.
-    pub(crate) confirmed: Vec<Vec<u8>>,
+    /// From level 0 up, the depths of each domain.
+    pub(crate) depths: Vec<Vec<Depths>>,
     /// The domain of the whole system, with all others below it.
     pub(crate) root: Domain,
 }
@@ -36,6 +36,7 @@ pub struct Tree {
 impl Model for Tree {
     ghost use Rattle.std.specs.Prelude.{map};
     ghost use Rattle.psci_tree.specs.Recount.{TreeValue};
+    ghost use Rattle.psci_tree.specs.DepthRows.{confirmed_of, granted_of};
     ghost use Rattle.psci_tree.specs.Domains.{leaves};
     ghost use Rattle.psci_tree.specs.Inside.{IsHeld};
 
@@ -44,15 +45,15 @@ impl Model for Tree {
     ghost view = { λ t. record {
       levels = t.board.levels;
       cores = leaves t.root;
-      granted = map (λ v. v.items) t.granted.items;
-      confirmed = map (λ v. v.items) t.confirmed.items;
+      granted = granted_of (map (λ v. v.items) t.depths.items);
+      confirmed = confirmed_of (map (λ v. v.items) t.depths.items);
     } };
 
     ghost invariant = { λ t. IsHeld t.root t.cores.items t.ways.items (record {
       levels = t.board.levels;
       cores = leaves t.root;
-      granted = map (λ v. v.items) t.granted.items;
-      confirmed = map (λ v. v.items) t.confirmed.items;
+      granted = granted_of (map (λ v. v.items) t.depths.items);
+      confirmed = confirmed_of (map (λ v. v.items) t.depths.items);
     }) };
 }
 
@@ -106,8 +107,7 @@ impl Tree {
         let tree = Tree {
             cores: rows.cores,
             ways: rows.ways,
-            granted: rows.granted,
-            confirmed: rows.confirmed,
+            depths: rows.depths,
             board: board.copy(alloc)?,
             root: Box::into_inner(root),
         };
@@ -184,8 +184,7 @@ impl Tree {
         ensures value { result ≡ granted_at self.now node.level node.place }
         ensures tree { IsDomainTree self.now }
     {
-        let row = &self.granted[node.level as usize];
-        row[node.place as usize]
+        depths_at(&self.depths, node).granted
     }
 
     /// Whether what was granted to a domain is confirmed.
@@ -215,8 +214,7 @@ impl Tree {
         requires { HasNodeIn self.now.levels node }
         ensures { result ≡ confirmed_at self.now node.level node.place }
     {
-        let places = &self.confirmed[node.level as usize];
-        places[node.place as usize]
+        depths_at(&self.depths, node).confirmed
     }
 
     /// What is kept of a core.
