@@ -20,7 +20,8 @@ loop-level-preserved c =
     let row = c.in_ok-vec.field-0 in
     let filled : row.items ≡ replicate (get_or sizes at 0) deepest =
     c.in_ok-vec.ensures.items_if_clones_equal (λ y h. h)
-    ∙ ap (λ n. replicate n deepest) (c.nodes.ensures.there fits ∙ sym (size_of_level levels at fits)) in
+    ∙ ap (λ n. replicate n deepest) (c.nodes.ensures.there fits
+    ∙ sym (size_of_level levels at fits)) in
     ap (map (λ v. v.items)) c.in_ok-push.ensures.items
     ∙ map_push (λ v. v.items) c.loop-level.rows.items row
     ∙ ap (λ xs. map (λ v. v.items) c.loop-level.rows.items ++ xs ∷ []) filled

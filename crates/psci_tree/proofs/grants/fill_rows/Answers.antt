@@ -23,7 +23,8 @@ loop-level-preserved c =
     c.fill.ensures.items (λ y h. h)
     ∙ ap (λ n. replicate n depth) ((get_or c.loop-level.rows level row).ok.0
     ∙ ap (λ v. length v.items) (sym c.index-rows-level.is) ∙ ap length read) in
-    let at = λ (gs : List (List Depths)). set gs level (replicate (length (get_or gs level [])) depth) in
+    let at = λ (gs : List (List Depths)).
+    set gs level (replicate (length (get_or gs level [])) depth) in
     let written : map (λ v. v.items) (set c.loop-level.rows level c.fill.new.self) ≡ at now =
     map-set (λ v. v.items) c.loop-level.rows level c.fill.new.self
     ∙ ap (set now level) same in

@@ -27,7 +27,8 @@ depths_at-requires c =
     let rows : List (List Depths) = map (λ v. v.items) c.self.inside.depths.items in
     let at : DepthRow rows c.args.node = depth_row c.self.inside.board.levels rows c.args.node
     c.self.invariant.tied.valid.granted
-    (subst (λ (t : TreeValue). HasNodeIn t.levels c.args.node) (sym c.self.view_is) c.requires.domain) in
+    (subst (λ (t : TreeValue). HasNodeIn t.levels c.args.node) (sym c.self.view_is)
+    c.requires.domain) in
     let same : map (λ v. v.items) c.deref.result.now ≡ rows =
     ap (map (λ v. v.items)) c.deref.ensures.value in
     record {
@@ -45,7 +46,8 @@ write-requires c =
     let rows : List (List Depths) = map (λ v. v.items) c.self.inside.depths.items in
     let at : DepthRow rows c.args.node = depth_row c.self.inside.board.levels rows c.args.node
     c.self.invariant.tied.valid.granted
-    (subst (λ (t : TreeValue). HasNodeIn t.levels c.args.node) (sym c.self.view_is) c.requires.domain) in
+    (subst (λ (t : TreeValue). HasNodeIn t.levels c.args.node) (sym c.self.view_is)
+    c.requires.domain) in
     let same : map (λ v. v.items) c.deref_mut.result.now ≡ rows =
     ap (map (λ v. v.items)) c.deref_mut.ensures.value in
     record {
@@ -67,7 +69,8 @@ returns-clause-value c =
     let rows : List (List Depths) = map (λ v. v.items) c.self.inside.depths.items in
     let at : DepthRow rows c.args.node = depth_row c.self.inside.board.levels rows c.args.node
     c.self.invariant.tied.valid.granted
-    (subst (λ (t : TreeValue). HasNodeIn t.levels c.args.node) (sym c.self.view_is) c.requires.domain) in
+    (subst (λ (t : TreeValue). HasNodeIn t.levels c.args.node) (sym c.self.view_is)
+    c.requires.domain) in
     let same : map (λ v. v.items) c.deref.result.now ≡ rows =
     ap (map (λ v. v.items)) c.deref.ensures.value in
     let read : ReadAt rows c.args.node c.depths_at.result =

@@ -1,4 +1,5 @@
-use Rattle.std.proofs.Common.{◌≡◌, ◌∙◌, arith, ap, sym, subst, map, length, get_or, ℕ, List, [], cond, ◌==◌}
+use Rattle.std.proofs.Common.{◌≡◌, ◌∙◌, arith, ap, sym, subst, map, length, get_or, ℕ, List, []}
+use Rattle.std.proofs.Common.{cond, ◌==◌}
 use Rattle.std.proofs.Math.ListN.{set}
 use Rattle.std.specs.Vec.{with_items}
 use Rattle.std.proofs.lemmas.List.{length-map, with_items_is}
@@ -20,7 +21,8 @@ depths_at-requires c =
     let rows : List (List Depths) = map (λ v. v.items) c.self.inside.depths.items in
     let at : DepthRow rows c.args.node = depth_row c.self.inside.board.levels rows c.args.node
     c.self.invariant.tied.valid.granted
-    (subst (λ (t : TreeValue). HasNodeIn t.levels c.args.node) (sym c.self.view_is) c.requires.domain) in
+    (subst (λ (t : TreeValue). HasNodeIn t.levels c.args.node) (sym c.self.view_is)
+    c.requires.domain) in
     let same : map (λ v. v.items) c.deref.result.now ≡ rows =
     ap (map (λ v. v.items)) c.deref.ensures.value in
     record {
@@ -38,7 +40,8 @@ write-requires c =
     let rows : List (List Depths) = map (λ v. v.items) c.self.inside.depths.items in
     let at : DepthRow rows c.args.node = depth_row c.self.inside.board.levels rows c.args.node
     c.self.invariant.tied.valid.granted
-    (subst (λ (t : TreeValue). HasNodeIn t.levels c.args.node) (sym c.self.view_is) c.requires.domain) in
+    (subst (λ (t : TreeValue). HasNodeIn t.levels c.args.node) (sym c.self.view_is)
+    c.requires.domain) in
     let same : map (λ v. v.items) c.deref_mut.result.now ≡ rows =
     ap (map (λ v. v.items)) c.deref_mut.ensures.value in
     record {
@@ -60,7 +63,8 @@ returns-clause-value c =
     let rows : List (List Depths) = map (λ v. v.items) c.self.inside.depths.items in
     let at : DepthRow rows c.args.node = depth_row c.self.inside.board.levels rows c.args.node
     c.self.invariant.tied.valid.granted
-    (subst (λ (t : TreeValue). HasNodeIn t.levels c.args.node) (sym c.self.view_is) c.requires.domain) in
+    (subst (λ (t : TreeValue). HasNodeIn t.levels c.args.node) (sym c.self.view_is)
+    c.requires.domain) in
     let same : map (λ v. v.items) c.deref.result.now ≡ rows =
     ap (map (λ v. v.items)) c.deref.ensures.value in
     let read : ReadAt rows c.args.node c.depths_at.result =

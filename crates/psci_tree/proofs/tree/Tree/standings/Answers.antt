@@ -1,13 +1,10 @@
-use Rattle.std.proofs.Common.{◌≡◌, ◌<◌, ◌≤◌, ◌-◌, ◌∙◌, arith, ap, sym, subst, length, get_or, ℕ, List}
-use Rattle.psci_board.specs.Board.{HasNodeIn, place_above, size_below}
-use Rattle.psci_board.specs.declared.node.Node.{Node}
+use Rattle.std.proofs.Common.{◌≡◌, ◌<◌, ◌≤◌, ◌-◌, ◌∙◌, ap, sym, subst, length, get_or, ℕ, List}
+use Rattle.psci_board.specs.Board.{size_below}
 use Rattle.psci_tree.specs.Recount.{TreeValue}
 use Rattle.psci_tree.specs.Inside.{IsTied}
 use Rattle.psci_tree.specs.Way.{IsWayOf}
 use Rattle.psci_tree.specs.Standing.{kept_on_path}
-use Rattle.psci_tree.specs.Domains.{domains_down}
 use Rattle.psci_tree.specs.declared.domain.Domain.{Domain}
-use Rattle.psci_tree.proofs.Granted.{place_lt}
 use Rattle.psci_tree.proofs.PathStands.{path_stands}
 use Rattle.psci_tree.proofs.tree.Tree.standings.Goals as goal
 
