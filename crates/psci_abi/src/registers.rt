@@ -1,6 +1,6 @@
 //! The registers of a call.
 
-ghost use Rattle.std.specs.Prelude.{◌≡◌, map, [], ◌∷◌};
+ghost use Rattle.std.specs.Prelude.{◌≡◌};
 ghost use Rattle.psci_abi.specs.Calls.{argument, is_wide, low_half, result_of};
 
 use crate::code::Code;
@@ -25,6 +25,13 @@ pub fn low(register: u64) -> u32
     (register & 0xffff_ffff) as u32
 }
 
+/// The low half of a register, as an argument of the SMC32 convention.
+pub(crate) fn narrow(register: u64) -> u64
+    ensures { result ≡ low_half register }
+{
+    u64::from(low(register))
+}
+
 impl Regs {
     /// An equal value, without memory.
     pub fn copy(&self) -> Regs
@@ -47,15 +54,8 @@ impl Regs {
         if self.is_wide() {
             register
         } else {
-            u64::from(low(register))
+            narrow(register)
         }
-    }
-
-    /// The arguments as the convention passes them.
-    pub(crate) fn arguments(&self) -> [u64; 3]
-        ensures { result ≡ map (argument self.now) (self.now.x1 ∷ self.now.x2 ∷ self.now.x3 ∷ []) }
-    {
-        [self.x1, self.x2, self.x3].map(|register| self.argument(register))
     }
 
     /// The register x0 in which the caller of these registers finds a return code.

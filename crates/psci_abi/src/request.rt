@@ -3,7 +3,7 @@
 ghost use Rattle.std.specs.Prelude.{◌≡◌};
 ghost use Rattle.psci_abi.specs.Calls.{function_of, request_of};
 
-use crate::registers::{Regs, low};
+use crate::registers::{Regs, low, narrow};
 use crate::words::{
     AFFINITY_INFO_32, AFFINITY_INFO_64, CPU_OFF, CPU_ON_32, CPU_ON_64, CPU_SUSPEND_32,
     CPU_SUSPEND_64, MIGRATE_INFO_TYPE, NODE_HW_STATE_32, NODE_HW_STATE_64, PSCI_FEATURES,
@@ -141,13 +141,18 @@ impl Request {
 }
 
 /// The function that the registers call. Every value of every register has one answer. Compiled
-/// into its callers, so that a request is never written to memory.
+/// into its callers, so that a request is never written to memory. Which convention it is is asked
+/// once, so that no register is cut that has all its bits read.
 #[inline(always)]
 pub fn read(regs: Regs) -> Request
     ensures { result ≡ request_of regs }
 {
-    let [x1, x2, x3] = regs.arguments();
-    function(low(regs.x0), x1, x2, x3)
+    let Regs { x0, x1, x2, x3 } = regs;
+    if regs.is_wide() {
+        function(low(x0), x1, x2, x3)
+    } else {
+        function(low(x0), narrow(x1), narrow(x2), narrow(x3))
+    }
 }
 
 /// The function of a word, with its arguments as the word's convention passes them.

@@ -49,7 +49,8 @@ fn is_old(state: &State, core: Core, start: Start) -> bool
 
 /// What a core does that enters by this start: in a halting life it stops; else it goes on at its
 /// opening, resumes after its suspend, or parks. A start of another life begins that life first.
-pub fn enter(state: &mut State, core: Core, start: Start) -> Reaction
+/// Compiled once for each `A`.
+pub fn enter<A>(state: &mut State, core: Core, start: Start) -> Reaction
     requires board { IsBoard state.old.board }
     requires values { AreValues state.old.board (values_in state.old) }
     requires fresh { IsFresh state.old.board (values_in state.old) }

@@ -68,13 +68,15 @@ impl Firmware {
         ensures board { self.new.board ≡ self.old.board }
         ensures refused { OnErr result (self.new ≡ self.old) }
     {
-        let reaction = self.smc_in_slot(core, regs)?;
+        let reaction = self.smc_in_slot::<()>(core, regs)?;
         Ok(self.outcome(reaction))
     }
 
-    /// The same call, whose message stays in its slot.
+    /// The same call, whose message stays in its slot. It is compiled once for each `A`: so a
+    /// caller with an `A` of its own has it compiled in place, and reads what came of it where it
+    /// is found.
     #[tactic(auto, unfolding(psci_fw_spec::specs::Answer::answer, psci_fw_spec::specs::After::after))]
-    pub fn smc_in_slot(&mut self, core: Core, regs: Regs) -> Result<Reaction, FwFault>
+    pub fn smc_in_slot<A>(&mut self, core: Core, regs: Regs) -> Result<Reaction, FwFault>
         ensures answer { reply_in self.new.board (seen self.new) result
             ≡ answer self.old.board (seen self.old) core.number (calls.Smc regs) }
         ensures slot { IfOk result (IsInItsSlot self.new.board (seen self.new)) }
@@ -86,7 +88,7 @@ impl Firmware {
         law_invariant();
         law_fresh();
         check_caller(&self.state, core)?;
-        Ok(dispatch(&mut self.state, core, regs))
+        Ok(dispatch::<A>(&mut self.state, core, regs))
     }
 
     /// A core enters by this start: it goes on at its opening, resumes after a suspend in standby
@@ -106,13 +108,14 @@ impl Firmware {
         ensures board { self.new.board ≡ self.old.board }
         ensures refused { OnErr result (self.new ≡ self.old) }
     {
-        let reaction = self.enter_in_slot(core, start)?;
+        let reaction = self.enter_in_slot::<()>(core, start)?;
         Ok(self.outcome(reaction))
     }
 
-    /// The same entry, whose message stays in its slot.
+    /// The same entry, whose message stays in its slot. It is compiled once for each `A`, as a call
+    /// is.
     #[tactic(auto, unfolding(psci_fw_spec::specs::Answer::answer, psci_fw_spec::specs::After::after))]
-    pub fn enter_in_slot(&mut self, core: Core, start: Start) -> Result<Reaction, FwFault>
+    pub fn enter_in_slot<A>(&mut self, core: Core, start: Start) -> Result<Reaction, FwFault>
         ensures answer { reply_in self.new.board (seen self.new) result
             ≡ answer self.old.board (seen self.old) core.number (calls.Enter start) }
         ensures slot { IfOk result (IsInItsSlot self.new.board (seen self.new)) }
@@ -124,7 +127,7 @@ impl Firmware {
         law_invariant();
         law_fresh();
         check_start(&self.state, core, start)?;
-        Ok(enter(&mut self.state, core, start))
+        Ok(enter::<A>(&mut self.state, core, start))
     }
 
     /// What was answered, with a copy of the message that stands in the slot.

@@ -48,9 +48,10 @@ pub fn check_caller(state: &State, core: Core) -> Result<(), FwFault>
     Ok(())
 }
 
-/// What a running core is answered to its call: in a halting life it stops, whatever it asks.
+/// What a running core is answered to its call: in a halting life it stops, whatever it asks. `A`
+/// is for the compiler, as it is below: this is compiled once for each.
 #[tactic(auto, unfolding(psci_fw_spec::specs::Calls::outcome_of))]
-pub fn dispatch(state: &mut State, caller: Core, regs: Regs) -> Reaction
+pub fn dispatch<A>(state: &mut State, caller: Core, regs: Regs) -> Reaction
     requires board { IsBoard state.old.board }
     requires values { AreValues state.old.board (values_in state.old) }
     requires inside { caller.number < cores state.old.board }
@@ -67,11 +68,11 @@ pub fn dispatch(state: &mut State, caller: Core, regs: Regs) -> Reaction
         state.set_away(caller);
         return Reaction::stops();
     }
-    function(state, caller, read(regs))
+    function::<A>(state, caller, read(regs))
 }
 
 /// What a function answers.
-fn function(state: &mut State, caller: Core, request: Request) -> Reaction
+fn function<A>(state: &mut State, caller: Core, request: Request) -> Reaction
     requires { MayCall state.old caller.number }
     ensures answer { FunctionAnswered state.old.board (values_in state.old) caller.number request
         (outcome_in state.new.board (values_in state.new) result) (values_in state.new) }

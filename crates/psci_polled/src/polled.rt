@@ -119,7 +119,7 @@ impl PolledFirmware {
             writer,
             cores,
         } = self;
-        let reaction = firmware.smc_in_slot(core, regs)?;
+        let reaction = firmware.smc_in_slot::<()>(core, regs)?;
         let asked = asked_in(&reaction);
         write_one(words, writer, firmware, asked, *cores);
         Ok(reaction)
@@ -175,7 +175,7 @@ impl PolledFirmware {
             cores,
         } = self;
         let before = life_of(firmware);
-        let reaction = firmware.enter_in_slot(core, start)?;
+        let reaction = firmware.enter_in_slot::<()>(core, start)?;
         write_changed(words, writer, firmware, before, Some(core), *cores);
         Ok(reaction)
     }

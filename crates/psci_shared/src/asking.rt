@@ -66,7 +66,7 @@ pub(crate) fn ask_for<A>(
 {
     match call {
         FwCall::Smc(regs) => {
-            let reacted = firmware.smc_in_slot(core, regs);
+            let reacted = firmware.smc_in_slot::<A>(core, regs);
             let named = record::<A>(firmware, entries, items, place, ticket, core, call, reacted);
             Done {
                 named,
@@ -74,7 +74,7 @@ pub(crate) fn ask_for<A>(
             }
         }
         FwCall::Enter(start) => {
-            let reacted = firmware.enter_in_slot(core, start);
+            let reacted = firmware.enter_in_slot::<A>(core, start);
             let _asked = record::<A>(firmware, entries, items, place, ticket, core, call, reacted);
             Done {
                 named: reacted.is_ok().then_some(core),
@@ -96,7 +96,9 @@ pub(crate) fn ask_for<A>(
 }
 
 /// Writes down what came of a call, and returns the core that it asks on. A message is copied from
-/// its slot, and where there is none, none is.
+/// its slot, and where there is none, none is. Compiled in place, so that what is written down is
+/// not written before.
+#[inline(always)]
 fn record<A>(
     firmware: &Firmware,
     entries: &mut Vec<FwEntry>,

@@ -12,7 +12,7 @@ use Rattle.psci_fw.proofs.Stopping.{park_outcome}
 use Rattle.psci_fw.proofs.entering.enter.Goals as goal
 
 pub returns-then-halting-clause-answer : goal.returns-then-halting-clause-answer
-returns-then-halting-clause-answer c =
+returns-then-halting-clause-answer g c =
     ap (outcome_in c.arrive_away.new.self.board (values_in c.arrive_away.new.self)) c.stops.ensures
     ∙ halted_outcome c.args.state.now.board (values_in c.args.state.now) c.args.core.number
     c.args.start
@@ -20,7 +20,7 @@ returns-then-halting-clause-answer c =
     ∙ sym c.halting.ensures ∙ c.if-halting.true)
 
 pub send_down-requires-clause-claim : goal.send_down-requires-clause-claim
-send_down-requires-clause-claim c =
+send_down-requires-clause-claim g c =
     let b = c.args.state.now.board in
     let at = c.arrive_away-in-None.ensures.board ∙ c.begin.ensures.board in
     let v = values_in c.args.state.now in
@@ -39,7 +39,7 @@ send_down-requires-clause-claim c =
     (no_opening (in_life b s.life v) core s none))
 
 pub send_down-requires-clause-may : goal.send_down-requires-clause-may
-send_down-requires-clause-may c =
+send_down-requires-clause-may g c =
     let b = c.args.state.now.board in
     let at = c.arrive_away-in-None.ensures.board ∙ c.begin.ensures.board in
     let v = values_in c.args.state.now in
@@ -60,7 +60,7 @@ send_down-requires-clause-may c =
     (no_opening (in_life b s.life v) core s none) (no_resume (in_life b s.life v) core s none))
 
 pub returns-in-Some-clause-answer : goal.returns-in-Some-clause-answer
-returns-in-Some-clause-answer c =
+returns-in-Some-clause-answer g c =
     let v = values_in c.args.state.now in
     let found = c.begin.ensures.after in
     way_outcome c.args.state.now.board v c.args.core.number c.args.start c.in-Some.act
@@ -69,7 +69,7 @@ returns-in-Some-clause-answer c =
     ∙ sym c.way_on.ensures ∙ c.in-Some.is)
 
 pub returns-in-None-clause-answer : goal.returns-in-None-clause-answer
-returns-in-None-clause-answer c =
+returns-in-None-clause-answer g c =
     let b = c.args.state.now.board in
     let at = c.arrive_away-in-None.ensures.board ∙ c.begin.ensures.board in
     let v = values_in c.args.state.now in

@@ -4,8 +4,8 @@ use Rattle.psci_fw.proofs.smc.dispatch.Goals as goal
 
 pub function-requires : goal.function-requires
 unfolding outcome_of
-function-requires c = search rules
+function-requires g c = search rules
 
 pub returns-clause-answer : goal.returns-clause-answer
 unfolding outcome_of
-returns-clause-answer c = search rules
+returns-clause-answer g c = search rules

@@ -10,11 +10,11 @@ use Rattle.psci_fw.proofs.Answered.{goes_on}
 use Rattle.psci_fw.proofs.smc.function.Goals as goal
 
 pub returns-in-SystemReset2-clause-answer : goal.returns-in-SystemReset2-clause-answer
-returns-in-SystemReset2-clause-answer c =
+returns-in-SystemReset2-clause-answer g c =
     rw c.in-SystemReset2.is (c.system_reset2.ensures.answer c.in-SystemReset2.cookie)
 
 pub returns-in-Features-clause-answer : goal.returns-in-Features-clause-answer
-returns-in-Features-clause-answer c =
+returns-in-Features-clause-answer g c =
     let b = c.args.state.now.board in
     let v = values_in c.args.state.now in
     let core = c.args.caller.number in
@@ -29,4 +29,4 @@ returns-in-Features-clause-answer c =
     })
 
 pub returns-in-Unknown-clause-answer : goal.returns-in-Unknown-clause-answer
-returns-in-Unknown-clause-answer c = search rules
+returns-in-Unknown-clause-answer g c = search rules

@@ -5,16 +5,16 @@ use Rattle.psci_fw.proofs.firmware.Firmware.enter_in_slot.Goals as goal
 
 pub returns-in_err-check_start-clause-answer : goal.returns-in_err-check_start-clause-answer
 unfolding answer after
-returns-in_err-check_start-clause-answer c = search rules
+returns-in_err-check_start-clause-answer g c = search rules
 
 pub returns-in_err-check_start-clause-after : goal.returns-in_err-check_start-clause-after
 unfolding answer after
-returns-in_err-check_start-clause-after c = search rules
+returns-in_err-check_start-clause-after g c = search rules
 
 pub returns-in_err-check_start-clause-refused : goal.returns-in_err-check_start-clause-refused
 unfolding answer after
-returns-in_err-check_start-clause-refused c = search rules
+returns-in_err-check_start-clause-refused g c = search rules
 
 pub returns-clause-answer : goal.returns-clause-answer
 unfolding answer after
-returns-clause-answer c = search rules
+returns-clause-answer g c = search rules

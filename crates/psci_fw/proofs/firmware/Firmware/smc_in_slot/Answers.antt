@@ -11,7 +11,7 @@ use Rattle.psci_fw.proofs.Called.{called}
 use Rattle.psci_fw.proofs.firmware.Firmware.smc_in_slot.Goals as goal
 
 pub invariant_of-self : goal.invariant_of-self
-invariant_of-self c =
+invariant_of-self g c =
     let s : StateValue = c.deref_mut.result.now in
     let b = s.board in
     let v = values_in s in
