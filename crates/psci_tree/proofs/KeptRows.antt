@@ -120,5 +120,6 @@ kept_by_system : (root none : Domain) → kept_on_path root levels 3 3 none ≡ 
 kept_by_system root none = refl
 
 kept_below_system : (root none : Domain)
-    → kept_on_path root levels 3 2 none ≡ (out-Domain (slice_index_or (domains_down 1 root) 1 none)).kept
+    → kept_on_path root levels 3 2 none
+    ≡ (out-Domain (slice_index_or (domains_down 1 root) 1 none)).kept
 kept_below_system root none = refl
