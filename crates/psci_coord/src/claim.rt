@@ -11,7 +11,7 @@ ghost use Rattle.psci_claims.specs.Looked.{view_of};
 use psci_board::{Board, Core};
 use psci_claims::{Part, Parts};
 use psci_state::Ask;
-use psci_tree::{Standing, Tree};
+use psci_tree::Tree;
 
 /// The depth that a core that stops wants of the domains on its path.
 #[derive(Drop)]
@@ -70,16 +70,16 @@ pub fn climb(tree: &Tree, board: &Board, core: Core, wish: &Wish, parts: &mut Pa
     ensures { parts.new ≡ claims_of board.now (view_of tree.now) core.number
         (wanted board.now (view_of tree.now) core.number wish.now) }
 {
+    let standings = tree.standings(core);
     for level in 0..board.height() + 1 {
-        let Standing { low, known } = tree.standing(core, level);
-        let depth = wish.depth(level, low);
+        let depth = wish.depth(level, standings.lows[level as usize]);
         if depth == 0 {
             break;
         }
         parts.push(Part {
             level,
             depth,
-            generation: known,
+            generation: standings.known[level as usize],
         });
     }
 }

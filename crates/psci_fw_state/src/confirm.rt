@@ -46,11 +46,11 @@ pub fn confirm_parts(tree: &mut Tree, board: &Board, core: Core, parts: &[Part])
     if core.number >= board.cores() {
         return;
     }
+    let standings = tree.standings(core);
     let most = parts.len().min(board.height() as usize + 1);
     for level in 0..most {
         let node = tree.on_path(core, level as u32);
-        let standing = tree.standing(core, level as u32);
-        confirm_last(tree, node, standing.known, parts[level]);
+        confirm_last(tree, node, standings.known[level], parts[level]);
     }
 }
 

@@ -1,5 +1,5 @@
 -- A call goes on from a past: what it leaves, and what it then has to write.
-use Rattle.std.proofs.Common.{◌≡◌, ◌≢◌, ℕ, ◌+◌, ◌*◌, ◌^◌, ◌<◌, ◌≤◌, List, ◌∷◌, length, Bool, true}
+use Rattle.std.proofs.Common.{◌≡◌, ◌≢◌, ℕ, ◌<◌, List, ◌∷◌, Bool, true}
 use Rattle.std.proofs.Common.{false}
 use Rattle.std.proofs.Common.{refl, sym, ap, ◌∙◌, subst, arith, Option, None, Some}
 use Rattle.std.specs.Prelude.{◌==◌, not, if◌then◌else◌}
@@ -11,7 +11,7 @@ use Rattle.psci_abi.specs.declared.code.Code.{Code}
 use Rattle.psci_abi.specs.declared.registers.Regs.{Regs}
 use Rattle.psci_abi.specs.declared.request.Request.{Request}
 use Rattle.psci_abi.specs.declared.request.Request.TheVariants as requests
-use Rattle.psci_board.specs.Board.{BoardValue, IsBoard, cores}
+use Rattle.psci_board.specs.Board.{BoardValue, cores}
 use Rattle.psci_messages.specs.declared.start.Start.{Start}
 use Rattle.psci_messages.specs.declared.taken.Taken.{Taken}
 use Rattle.psci_messages.specs.declared.taken.Taken.TheVariants as takens
@@ -32,14 +32,13 @@ use Rattle.psci_fw_spec.specs.Effects.{mode_effect}
 use Rattle.psci_fw_spec.specs.Effects.{return_effect, sent_effect, stop_effect}
 use Rattle.psci_fw_spec.specs.Exchange.{FwExchange}
 use Rattle.psci_fw_spec.specs.History.{life, status, values_of}
-use Rattle.psci_fw_spec.specs.Legal.{IsLegal}
 use Rattle.psci_fw_spec.specs.Statuses.{added, statuses}
 use Rattle.psci_fw_spec.specs.SuspendMode.{mode_of}
 use Rattle.psci_fw_spec.specs.Values.{Values}
 use Rattle.psci_status.specs.Lists.{row}
 use Rattle.psci_polled.specs.Naming.{asked_by, is_named, names, sent_beside}
 use Rattle.psci_polled.specs.Polled.{IsPast}
-use Rattle.psci_polled.specs.Writing.{most_statuses, one_more, written_then}
+use Rattle.psci_polled.specs.Writing.{one_more, written_then}
 use Rattle.psci_polled.proofs.Last.{added_last, statuses_more}
 use Rattle.psci_polled.proofs.Staying.{status_stays}
 
@@ -154,10 +153,6 @@ abbrev pub More : Type 0
 More = (b : BoardValue) (e : FwExchange) (h : List FwExchange)
     → values_of b (e ∷ h) ≡ after b e.core e.call e.reply (values_of b h)
 
-abbrev pub Few : Type 0
-Few = (b : BoardValue) (h : List FwExchange) (core : ℕ) → IsBoard b → IsLegal b h
-    → length (statuses b h core) ≤ most_statuses b
-
 -- the values after a call are those of the history with it
 valued : (b : BoardValue) (v v' : Values) (c : ℕ) (call : FwCall) (reply : FwReply)
     (h : List FwExchange) → More → v ≡ values_of b h → v' ≡ after b c call reply v
@@ -165,41 +160,6 @@ valued : (b : BoardValue) (v v' : Values) (c : ℕ) (call : FwCall) (reply : FwR
 valued b v v' c call reply h adds was is =
     is ∙ ap (λ (u : Values). after b c call reply u) was
     ∙ sym (adds b (record { core = c; call = call; reply = reply }) h)
-
--- there is room for one status more and the next
-mul_le : (x y n : ℕ) → x ≤ y → x * n ≤ y * n
-mul_le x y n h = grind arith
-
-mul_le_right : (n x y : ℕ) → x ≤ y → n * x ≤ n * y
-mul_le_right n x y h = grind arith
-
-most_small : (b : BoardValue) → IsBoard b → most_statuses b < 2 ^ 59
-most_small b board =
-    let l : b.lives + 1 ≤ 65536 = few_lives in
-    let s : 3 * b.starts + 8 ≤ 12884901893 = few_starts in
-    let x : (b.lives + 1) * (3 * b.starts + 8) ≤ 65536 * (3 * b.starts + 8) =
-    mul_le (b.lives + 1) 65536 (3 * b.starts + 8) l in
-    let y : 65536 * (3 * b.starts + 8) ≤ 65536 * 12884901893 =
-    mul_le_right 65536 (3 * b.starts + 8) 12884901893 s in
-    omega (arith, x, y)
-  where
-    few_lives : b.lives + 1 ≤ 65536
-    few_lives = let h : b.lives ≤ 65535 = board.lives in omega arith
-
-    few_starts : 3 * b.starts + 8 ≤ 12884901893
-    few_starts = let h : b.starts < 2 ^ 32 = board.starts in omega arith
-
-pub few_written : (b : BoardValue) (v : Values) (written : List (List Status)) (count : ℕ)
-    → Few → IsBoard b → IsPast b v written → count ≡ cores b
-    → (core : ℕ) → core < count → length (row written core) < 2 ^ 60
-few_written b v written count few board past wide core small =
-    let s : core < cores b = subst (λ (n : ℕ). core < n) wide small in
-    let a : length (row written core) ≡ length (statuses b past.history core) =
-    ap length (past.written core s) in
-    let c : length (statuses b past.history core) ≤ most_statuses b =
-    few b past.history core board past.legal in
-    let d : most_statuses b < 2 ^ 59 = most_small b board in
-    omega (arith, a, c, d)
 
 -- where the life stays, the status of a core that is not named adds nothing
 pub added_nothing : (b : BoardValue) (v v' : Values) (written : List (List Status)) (count c : ℕ)

@@ -11,14 +11,14 @@ use Rattle.psci_fw.specs.psci_fw_spec.Exchange.{FwExchange}
 use Rattle.psci_fw.specs.psci_fw_spec.History.{life, status}
 use Rattle.psci_fw.specs.psci_fw_spec.Lives.{first_status}
 use Rattle.psci_fw.specs.psci_fw_spec.Statuses.{added, statuses}
-use Rattle.psci_status.specs.Lists.{Item, IsLast, Within, row}
+use Rattle.psci_status.specs.Lists.{Item, Within, row}
 use Rattle.psci_shared.specs.declared.entry.FwEntry.{FwEntry}
 use Rattle.psci_shared.specs.Books.{BookView, entered, exchange_of, history_of}
 use Rattle.psci_shared.specs.Gathers.{AllSeen, AllStand}
 use Rattle.psci_shared.specs.Passes.{PassView}
 use Rattle.psci_polled.specs.Writing.{one_more}
 use Rattle.psci_polled.proofs.Last.{length_added, more, statuses_more}
-use Rattle.psci_shared.specs.Writing.{AllLast, IsWritten, Stand, written_after}
+use Rattle.psci_shared.specs.Writing.{IsWritten, Stand, written_after}
 use Rattle.psci_shared.proofs.Histories.{history_more, history_none}
 
 -- How long the lists are ----------------------------------------------------------------------
@@ -136,14 +136,6 @@ pub stands : (b : BoardValue) (log : List (List Status)) (entries : List FwEntry
     → Stand b entries seen
 stands b log entries seen is within core small =
     subst (λ (l : List Status). Within l (row seen core)) (is core small) (within core)
-
-pub lasts : (b : BoardValue) (n : ℕ) (log : List (List Status)) (entries : List FwEntry)
-    (seen : List (List Item))
-    → n ≡ cores b → IsWritten b log entries
-    → ((core : ℕ) → core < n → IsLast (row log core) (row seen core)) → AllLast b entries seen
-lasts b n log entries seen same is last core small =
-    subst (λ (l : List Status). IsLast l (row seen core)) (is core small)
-    (last core (subst (λ (k : ℕ). core < k) (sym same) small))
 
 pub all_stands : (b : BoardValue) (log : List (List Status)) (entries : List FwEntry)
     (ps : List PassView)

@@ -273,9 +273,3 @@ stores_as n slots id c new m empty writes small next = subst
     (λ (x : List (ℕ × Unit {0})). Allows (Kept n) slots id (m.0, x) c (λ _. new)
     (λ _. Stored (step slots c new 0 none) (m.0, x) new)) (sym empty)
     (stores n slots id c new m.0 writes small next)
-
-pub note_of_writer : (v : View) → v.writer ≡ true → (note_of v).seen ≡ map newest v.log
-note_of_writer v e = ap (λ (b : Bool). if b then map newest v.log else v.seen) e
-
-pub note_of_reader : (v : View) → v.writer ≡ false → (note_of v).seen ≡ v.seen
-note_of_reader v e = ap (λ (b : Bool). if b then map newest v.log else v.seen) e

@@ -6,6 +6,9 @@ use Rattle.std.specs.Prelude.{Some, None, slice_index_or}
 use Rattle.psci_state.specs.declared.cores.CoreState.{CoreState}
 use Rattle.psci_state.specs.declared.cores.Activity.TheVariants.{Active, Suspended, Away}
 use Rattle.psci_tree.specs.Recount.{never_started}
+use Rattle.psci_tree.specs.declared.domain.Domain.{Domain, out-Domain}
+use Rattle.psci_tree.specs.Domains.{domains_down}
+use Rattle.psci_tree.specs.Standing.{kept_on_path}
 use Rattle.psci_tree.specs.Kept.{recount, kept_activated, kept_together}
 use Rattle.psci_tree.specs.Changes.{core_changed}
 use Rattle.psci_tree.specs.Way.{cleared_from}
@@ -110,3 +113,13 @@ rows = (3 ∷ 3 ∷ 3 ∷ 3 ∷ []) ∷ (3 ∷ 3 ∷ 3 ∷ []) ∷ (3 ∷ 3 ∷ 
 cleared_above : cleared_from levels 3 1 rows
     ≡ (3 ∷ 3 ∷ 3 ∷ 3 ∷ []) ∷ (3 ∷ 3 ∷ 0 ∷ []) ∷ (3 ∷ 0 ∷ []) ∷ (0 ∷ []) ∷ []
 cleared_above = refl
+
+-- what is kept on the path of the last core: by the system itself, and by the second domain of the
+-- level below it
+kept_by_system : (root none : Domain) → kept_on_path root levels 3 3 none ≡ (out-Domain root).kept
+kept_by_system root none = refl
+
+kept_below_system : (root none : Domain)
+    → kept_on_path root levels 3 2 none
+    ≡ (out-Domain (slice_index_or (domains_down 1 root) 1 none)).kept
+kept_below_system root none = refl

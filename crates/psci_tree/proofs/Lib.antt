@@ -4,6 +4,7 @@ pub mod Below
 pub mod Bounds
 pub mod Built
 pub mod Cleared
+pub mod DepthRows
 pub mod GrantRows
 pub mod Granted
 pub mod Held
@@ -11,12 +12,12 @@ pub mod Keeping
 pub mod KeptRows
 pub mod Looked
 pub mod OffOnes
+pub mod PathStands
 pub mod Places
 pub mod Recounted
 pub mod Rows
 pub mod Shapes
 pub mod Slices
-pub mod Standings
 pub mod Sums
 pub mod UnevenRows
 pub mod Upward

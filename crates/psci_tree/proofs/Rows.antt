@@ -2,6 +2,8 @@
 use Rattle.std.proofs.Common.{◌≡◌, ℕ, List, [], ◌∷◌, map, refl}
 use Rattle.psci_board.specs.declared.node.Node.{Node}
 use Rattle.psci_state.specs.declared.cores.Activity.TheVariants.{Suspended, Away}
+use Rattle.psci_tree.specs.declared.depths.Depths.{Depths}
+use Rattle.psci_tree.specs.DepthRows.{granted_of, confirmed_of, filled}
 use Rattle.psci_tree.specs.Recount.{TreeValue, state_at, ask_at, known_at, low, known, active, off}
 use Rattle.psci_tree.specs.Changes.{suspended, turned_off, made_pending, started, start_of_life}
 
@@ -120,3 +122,19 @@ known_started_again = refl
 no_such_core : state_at at_start 4 ≡ record { activity = Away; known = 0 }
 unfolding start_of_life made_pending
 no_such_core = refl
+
+-- the two depths of each domain, row by row
+abbrev depths : List (List Depths)
+depths = (record { granted = 3; confirmed = 3 } ∷ record { granted = 2; confirmed = 0 } ∷ [])
+    ∷ (record { granted = 1; confirmed = 0 } ∷ []) ∷ []
+
+granted_rows : granted_of depths ≡ (3 ∷ 2 ∷ []) ∷ (1 ∷ []) ∷ []
+granted_rows = refl
+
+confirmed_rows : confirmed_of depths ≡ (3 ∷ 0 ∷ []) ∷ (0 ∷ []) ∷ []
+confirmed_rows = refl
+
+filled_rows : filled (2 ∷ 1 ∷ []) (record { granted = 2; confirmed = 0 })
+    ≡ (record { granted = 2; confirmed = 0 } ∷ record { granted = 2; confirmed = 0 } ∷ [])
+    ∷ (record { granted = 2; confirmed = 0 } ∷ []) ∷ []
+filled_rows = refl

@@ -1,21 +1,22 @@
--- Rows of granted depths, one for each level.
+-- Rows of depths, one for each level.
 use Rattle.std.proofs.Common.{◌≡◌, ℕ, zero, suc, ◌+◌, ◌<◌, List, [], ◌∷◌, ◌++◌, length, take, drop}
 use Rattle.std.proofs.Common.{get_or, map, replicate, refl, ap, arith}
 use Rattle.std.proofs.Math.ListN.{set}
 use Rattle.std.proofs.lemmas.List.{map_more}
-use Rattle.psci_tree.specs.Changes.{rows_with_depth}
+use Rattle.psci_tree.specs.declared.depths.Depths.{Depths}
+use Rattle.psci_tree.specs.DepthRows.{filled}
 
 -- one more row
-pub rows_more : (ns : List ℕ) (i depth : ℕ) → i < length ns
-    → rows_with_depth (take (i + 1) ns) depth
-    ≡ rows_with_depth (take i ns) depth ++ replicate (get_or ns i 0) depth ∷ []
+pub rows_more : (ns : List ℕ) (i : ℕ) (depth : Depths) → i < length ns
+    → filled (take (i + 1) ns) depth
+    ≡ filled (take i ns) depth ++ replicate (get_or ns i 0) depth ∷ []
 rows_more ns i depth h = map_more (λ count. replicate count depth) ns i 0 h
 
 -- one more row filled
-pub filled_more : (old : List (List ℕ)) (i depth : ℕ) → i < length old
-    → set (rows_with_depth (map length (take i old)) depth ++ drop i old) i (replicate
-    (length (get_or (rows_with_depth (map length (take i old)) depth ++ drop i old) i [])) depth)
-    ≡ rows_with_depth (map length (take (suc i) old)) depth ++ drop (suc i) old
+pub filled_more : (old : List (List Depths)) (i : ℕ) (depth : Depths) → i < length old
+    → set (filled (map length (take i old)) depth ++ drop i old) i (replicate
+    (length (get_or (filled (map length (take i old)) depth ++ drop i old) i [])) depth)
+    ≡ filled (map length (take (suc i) old)) depth ++ drop (suc i) old
 filled_more [] i depth h = absurd (omega arith)
 filled_more (x ∷ xs) zero depth h = refl
 filled_more (x ∷ xs) (suc i) depth h =

@@ -1,5 +1,6 @@
 pub mod Beside
 pub mod Changes
+pub mod DepthRows
 pub mod Domains
 pub mod Inside
 pub mod Kept

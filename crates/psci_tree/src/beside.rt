@@ -3,6 +3,7 @@
 ghost use Rattle.std.specs.Prelude.{IfOk};
 ghost use Rattle.psci_tree.specs.Beside.{AreFull};
 
+use crate::depths::Depths;
 use crate::grants::deepest_rows;
 use crate::way::{Way, ways_of};
 use psci_board::{Board, Memory};
@@ -16,10 +17,8 @@ pub struct Rows {
     pub cores: Vec<CoreState>,
     /// The way to each core, in the order of their numbers.
     pub ways: Vec<Way>,
-    /// From level 0 up, the granted depth of each domain.
-    pub granted: Vec<Vec<u8>>,
-    /// From level 0 up, the depth of each domain that is confirmed, 0 of one that has none.
-    pub confirmed: Vec<Vec<u8>>,
+    /// From level 0 up, the depths of each domain.
+    pub depths: Vec<Vec<Depths>>,
 }
 
 /// The rows of a board where every core is off, in memory of their own. It has a frame of its own.
@@ -30,8 +29,7 @@ pub fn rows_of(alloc: Global, board: &Board) -> Result<Box<Rows>, Memory>
     let rows = Rows {
         cores: vec![in alloc; NEVER_STARTED; board.cores() as usize]?,
         ways: ways_of(alloc, board)?,
-        granted: deepest_rows(alloc, board)?,
-        confirmed: deepest_rows(alloc, board)?,
+        depths: deepest_rows(alloc, board)?,
     };
     Box::new(alloc, rows).map_err(|_| Memory)
 }

@@ -6,11 +6,11 @@ ghost use Rattle.psci_state.specs.declared.cores.Activity.TheVariants.{Active};
 ghost use Rattle.psci_tree.specs.Recount.{IsActivity, IsDomainTree, granted_at, known_at};
 ghost use Rattle.psci_tree.specs.Changes.{MayGrant, suspended, turned_off, made_pending, started};
 ghost use Rattle.psci_tree.specs.Changes.{with_grant, with_confirmed, with_core_state};
-ghost use Rattle.psci_tree.specs.Changes.{still_confirmed};
 ghost use Rattle.psci_tree.specs.Changes.{with_path_cleared, all_off, start_of_life};
 
+use crate::depths::Depths;
 use crate::descent::{activate_core, change_core, turn_off};
-use crate::grants::{clear_up, fill_rows, write};
+use crate::grants::{clear_up, depths_at, fill_rows, write};
 use crate::tree::{BOOT_CORE, Tree};
 use psci_board::{Core, Node};
 use psci_state::{Activity, Ask, Change, NEVER_STARTED};
@@ -34,9 +34,8 @@ impl Tree {
         ensures levels { self.new.levels ≡ self.old.levels }
         ensures tree { IsDomainTree self.new }
     {
-        let confirmed = self.still_confirmed(node, depth);
-        write(&mut self.confirmed, node, confirmed);
-        write(&mut self.granted, node, depth);
+        let depths = depths_at(&self.depths, node).grant(depth);
+        write(&mut self.depths, node, depths);
     }
 
     /// Confirms what was granted to a domain.
@@ -47,8 +46,8 @@ impl Tree {
         ensures levels { self.new.levels ≡ self.old.levels }
         ensures tree { IsDomainTree self.new }
     {
-        let depth = self.granted(node);
-        write(&mut self.confirmed, node, depth);
+        let depths = depths_at(&self.depths, node).confirm();
+        write(&mut self.depths, node, depths);
     }
 
     /// A core is suspended, with this ask.
@@ -92,18 +91,6 @@ impl Tree {
     {
         self.activate(core, Some(number));
         self.clear_path(core);
-    }
-
-    /// What stays confirmed of a domain that is granted this depth.
-    fn still_confirmed(&self, node: Node, depth: u8) -> u8
-        requires { HasNodeIn self.now.levels node }
-        ensures { result ≡ still_confirmed self.now node depth }
-    {
-        if self.granted(node) == depth {
-            self.confirmed_depth(node)
-        } else {
-            0
-        }
     }
 
     /// Changes what a core does. Its known start stays.
@@ -163,14 +150,7 @@ impl Tree {
         ensures tree { IsDomainTree self.new }
     {
         let way = &self.ways[core.number as usize];
-        clear_up(
-            &mut self.granted,
-            &mut self.confirmed,
-            &self.board,
-            core,
-            way,
-            0,
-        );
+        clear_up(&mut self.depths, &self.board, core, way, 0);
     }
 
     /// Turns off every core, and grants depth 3 to every domain, which is confirmed.
@@ -180,8 +160,7 @@ impl Tree {
         ensures tree { IsDomainTree self.new }
     {
         turn_off(&mut self.root, &self.board);
-        fill_rows(&mut self.granted, 3);
-        fill_rows(&mut self.confirmed, 3);
+        fill_rows(&mut self.depths, Depths::DEEPEST);
         self.cores.fill(NEVER_STARTED);
     }
 }

@@ -1,9 +1,9 @@
 //! The way down from the system to a domain, and back up from a core that changes.
 
 ghost use Rattle.std.specs.Prelude.{◌≡◌, ℕ, ◌-◌, ◌<◌, ◌≤◌, length, get_or, replicate};
-ghost use Rattle.std.specs.Prelude.{slice_index_or, slice_set};
+ghost use Rattle.std.specs.Prelude.{slice_index, slice_index_or, slice_set};
 ghost use Rattle.psci_board.specs.Board.{HasNode, IsTree, height, place_above, size_below};
-ghost use Rattle.psci_tree.specs.Standing.{kept_standing};
+ghost use Rattle.psci_tree.specs.Standing.{kept_on_path};
 ghost use Rattle.psci_tree.specs.declared.domain.Domain.{Domain};
 ghost use Rattle.psci_state.specs.declared.cores.CoreState.{CoreState};
 ghost use Rattle.psci_state.specs.declared.cores.Activity.TheVariants.{Active};
@@ -15,9 +15,9 @@ ghost use Rattle.psci_tree.specs.Way.{IsWayOf, LeadsDown};
 
 use crate::domain::Domain;
 use crate::kept::Kept;
-use crate::standing::Standing;
+use crate::standing::Standings;
 use crate::way::Way;
-use psci_board::{Board, Core, Node};
+use psci_board::{Board, Core, MOST_ON_PATH, Node};
 use psci_state::CoreState;
 
 /// The domain of a node of the board, one step down for each level.
@@ -35,25 +35,34 @@ pub fn domain_at<'a>(root: &'a Domain, board: &Board, node: Node) -> &'a Domain
     &parent.children[number as usize]
 }
 
-/// How the domain of this level on the path of a core to which this way leads stands.
-pub fn standing_on(root: &Domain, board: &Board, core: Core, way: &Way, level: u32) -> Standing
+/// How the domains on the path of a core to which this way leads stand, each at the place of its
+/// level.
+pub fn standings_on(root: &Domain, board: &Board, core: Core, way: &Way) -> Standings
     requires tree { IsTree board.now.levels }
     requires shape { HasShape root.now board.now.levels }
     requires core { core.number < size_below board.now.levels }
     requires way { IsWayOf board.now.levels core.number way.now }
     requires high { height board.now ≤ 3 }
-    requires level { level ≤ height board.now }
-    ensures { (d : Domain) → result
-        ≡ kept_standing (get_or (domains_down (height board.now - level) root.now)
-        (place_above board.now.levels level core.number) d) level }
+    ensures lows { (level : ℕ) (d : Domain) → level ≤ height board.now
+        → slice_index result.lows level
+        ≡ slice_index (kept_on_path root.now board.now.levels core.number level d).lows level }
+    ensures known { (level : ℕ) (d : Domain) → level ≤ height board.now
+        → slice_index result.known level
+        ≡ (kept_on_path root.now board.now.levels core.number level d).known }
 {
     let height = board.height();
+    let mut standings = Standings {
+        lows: [root.kept.lows[height as usize]; MOST_ON_PATH],
+        known: [root.kept.known; MOST_ON_PATH],
+    };
     let mut own = root;
-    for step in 0..height - level {
-        let below = height - 1 - step;
-        own = &own.children[way.numbers[below as usize] as usize];
+    for step in 0..height {
+        let below = (height - 1 - step) as usize;
+        own = &own.children[way.numbers[below] as usize];
+        standings.lows[below] = own.kept.lows[below];
+        standings.known[below] = own.kept.known;
     }
-    own.standing(level)
+    standings
 }
 
 /// Puts a core to which this way leads into another state, and what each domain on its path keeps.

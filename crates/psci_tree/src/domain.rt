@@ -10,10 +10,8 @@ ghost use Rattle.psci_tree.specs.Recount.{is_away, never_started};
 ghost use Rattle.psci_tree.specs.Domains.{branches, leaves, cores_in, child_counts, IsWay};
 ghost use Rattle.psci_tree.specs.Domains.{index_by};
 ghost use Rattle.psci_tree.specs.Kept.{AreKept, IsKept, Keeps};
-ghost use Rattle.psci_tree.specs.Standing.{kept_standing};
 
 use crate::kept::Kept;
-use crate::standing::Standing;
 use psci_state::{CoreState, NEVER_STARTED};
 
 /// A power domain. One without children is a core.
@@ -48,7 +46,9 @@ impl Domain {
         }
         let number = way[level as usize - 1] as usize;
         self.children[number].change(level - 1, way, state, kept);
-        self.kept = self.anew();
+        let mut kept = Kept::none();
+        self.join_children(&mut kept);
+        self.kept.replace(&kept);
     }
 
     /// The same of a core that is running or pending from now on, of which this was kept before,
@@ -102,24 +102,14 @@ impl Domain {
         self.kept = Kept::never_started(off_below(&self.children));
     }
 
-    /// How the domain stands, which is one of this level.
-    pub fn standing(&self, level: u32) -> Standing
-        requires { level ≤ 3 }
-        ensures { result ≡ kept_standing self.now level }
-    {
-        Standing {
-            low: self.kept.lows[level as usize],
-            known: self.kept.known,
-        }
-    }
-
-    /// What is kept of the cores below, computed anew from what the children keep.
-    fn anew(&self) -> Kept
+    /// Joins what the children keep to what is kept of no core.
+    fn join_children(&self, kept: &mut Kept)
+        requires none { Keeps kept.old [] }
         requires kept { AreKept (branches self.now) }
         requires few { length (cores_in (branches self.now)) < 2 ^ 16 }
-        ensures { Keeps result (cores_in (branches self.now)) }
+        ensures { Keeps kept.new (cores_in (branches self.now)) }
     {
-        kept_of(&self.children)
+        join_all(kept, &self.children);
     }
 }
 
@@ -130,10 +120,20 @@ pub fn kept_of(domains: &[Domain]) -> Kept
     ensures { Keeps result (cores_in domains.now) }
 {
     let mut kept = Kept::none();
-    for domain in domains {
-        kept = kept.beside(&domain.kept);
-    }
+    join_all(&mut kept, domains);
     kept
+}
+
+/// Joins what is kept of the cores below several domains to what is kept of no core.
+fn join_all(kept: &mut Kept, domains: &[Domain])
+    requires none { Keeps kept.old [] }
+    requires kept { AreKept domains.now }
+    requires few { length (cores_in domains.now) < 2 ^ 16 }
+    ensures { Keeps kept.new (cores_in domains.now) }
+{
+    for domain in domains {
+        kept.join(&domain.kept);
+    }
 }
 
 /// How many cores below several domains are off or going off.

@@ -1,75 +1,85 @@
-//! Granted depths: a row of them for each level of a board.
+//! What is granted and confirmed: a row of depths for each level of a board.
 
 ghost use Rattle.std.specs.Prelude.{◌≡◌, ◌<◌, ◌≤◌, [], map, length};
 ghost use Rattle.std.specs.Prelude.{slice_index_or, slice_set, IfOk};
 ghost use Rattle.psci_board.specs.Board.{height};
-ghost use Rattle.psci_tree.specs.Recount.{level_sizes};
+ghost use Rattle.psci_tree.specs.declared.depths.Depths.{Depths};
 ghost use Rattle.psci_tree.specs.Changes.{rows_with_depth};
+ghost use Rattle.psci_tree.specs.DepthRows.{confirmed_of, filled, granted_of};
+ghost use Rattle.psci_tree.specs.Recount.{level_sizes};
 ghost use Rattle.psci_tree.specs.Way.{AreRows, LeadsTo, cleared_from};
 
+use crate::depths::Depths;
 use crate::way::Way;
 use psci_board::{Board, Core, Memory, Node};
 use std::alloc::Global;
 
-/// Depth 3 for each domain of a board, level by level.
-pub fn deepest_rows(alloc: Global, board: &Board) -> Result<Vec<Vec<u8>>, Memory>
-    ensures { IfOk result (λ rows. map (λ v. v.items) rows.items
+/// Depth 3 for each domain of a board, level by level, which is confirmed.
+pub fn deepest_rows(alloc: Global, board: &Board) -> Result<Vec<Vec<Depths>>, Memory>
+    ensures granted { IfOk result (λ rows. granted_of (map (λ v. v.items) rows.items)
+        ≡ rows_with_depth (level_sizes board.now.levels) 3) }
+    ensures confirmed { IfOk result (λ rows. confirmed_of (map (λ v. v.items) rows.items)
         ≡ rows_with_depth (level_sizes board.now.levels) 3) }
 {
     let mut rows = Vec::new(alloc);
     for level in 0..board.height() + 1 {
-        rows.push(vec![in alloc; 3; board.nodes(level) as usize]?)?;
+        rows.push(vec![in alloc; Depths::DEEPEST; board.nodes(level) as usize]?)?;
     }
     Ok(rows)
 }
 
-/// Writes this depth to each domain.
-pub fn fill_rows(rows: &mut [Vec<u8>], depth: u8)
+/// Writes these depths to each domain.
+pub fn fill_rows(rows: &mut [Vec<Depths>], depths: Depths)
     ensures { map (λ v. v.items) rows.new
-        ≡ rows_with_depth (map length (map (λ v. v.items) rows.old)) depth }
+        ≡ filled (map length (map (λ v. v.items) rows.old)) depths }
 {
     for level in 0..rows.len() {
         let row = &mut rows[level];
-        row.fill(depth);
+        row.fill(depths);
     }
 }
 
-/// Writes the depth of the domain of a node.
-pub fn write(rows: &mut [Vec<u8>], node: Node, depth: u8)
+/// The depths of the domain of a node.
+pub fn depths_at(rows: &[Vec<Depths>], node: Node) -> Depths
+    requires level { node.level < length rows.now }
+    requires place { node.place
+        < length (slice_index_or (map (λ v. v.items) rows.now) node.level []) }
+    ensures { (d : Depths) → result ≡ slice_index_or
+        (slice_index_or (map (λ v. v.items) rows.now) node.level []) node.place d }
+{
+    let row = &rows[node.level as usize];
+    row[node.place as usize]
+}
+
+/// Writes the depths of the domain of a node.
+pub fn write(rows: &mut [Vec<Depths>], node: Node, depths: Depths)
     requires level { node.level < length rows.old }
     requires place { node.place
         < length (slice_index_or (map (λ v. v.items) rows.old) node.level []) }
     ensures { map (λ v. v.items) rows.new ≡ slice_set (map (λ v. v.items) rows.old) node.level
-        (slice_set (slice_index_or (map (λ v. v.items) rows.old) node.level []) node.place depth) }
+        (slice_set (slice_index_or (map (λ v. v.items) rows.old) node.level []) node.place
+        depths) }
 {
     let row = &mut rows[node.level as usize];
-    row[node.place as usize] = depth;
+    row[node.place as usize] = depths;
 }
 
-/// Writes 0 to the domain of this level on the path of a core to which this way leads, and to each
-/// one above it, in both lists of rows.
-pub fn clear_up(
-    granted: &mut [Vec<u8>],
-    confirmed: &mut [Vec<u8>],
-    board: &Board,
-    core: Core,
-    way: &Way,
-    level: u32,
-)
+/// Nothing is granted or confirmed any more to the domain of this level on the path of a core to
+/// which this way leads, and to each one above it.
+pub fn clear_up(rows: &mut [Vec<Depths>], board: &Board, core: Core, way: &Way, level: u32)
     requires lead { LeadsTo board.now.levels core.number way.now }
-    requires rows { AreRows board.now.levels (map (λ v. v.items) granted.old)
-        (map (λ v. v.items) confirmed.old) }
+    requires rows { AreRows board.now.levels (granted_of (map (λ v. v.items) rows.old))
+        (confirmed_of (map (λ v. v.items) rows.old)) }
     requires level { level ≤ height board.now }
-    ensures granted { map (λ v. v.items) granted.new
-        ≡ cleared_from board.now.levels core.number level (map (λ v. v.items) granted.old) }
-    ensures confirmed { map (λ v. v.items) confirmed.new
-        ≡ cleared_from board.now.levels core.number level (map (λ v. v.items) confirmed.old) }
+    ensures granted { granted_of (map (λ v. v.items) rows.new) ≡ cleared_from board.now.levels
+        core.number level (granted_of (map (λ v. v.items) rows.old)) }
+    ensures confirmed { confirmed_of (map (λ v. v.items) rows.new) ≡ cleared_from board.now.levels
+        core.number level (confirmed_of (map (λ v. v.items) rows.old)) }
 {
     let place = way.places[level as usize];
     let node = Node { level, place };
-    write(granted, node, 0);
-    write(confirmed, node, 0);
+    write(rows, node, Depths::NONE);
     if level < board.height() {
-        clear_up(granted, confirmed, board, core, way, level + 1);
+        clear_up(rows, board, core, way, level + 1);
     }
 }

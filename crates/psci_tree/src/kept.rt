@@ -57,26 +57,35 @@ impl Kept {
         }
     }
 
-    /// What is kept of these cores and of others beside them.
-    pub fn beside(&self, other: &Kept) -> Kept
-        requires known { self.now.known + other.now.known < 2 ^ 64 }
-        requires active { self.now.active + other.now.active < 2 ^ 32 }
-        requires off { self.now.off + other.now.off < 2 ^ 32 }
-        ensures { result ≡ kept_together self.now other.now }
+    /// Joins what is kept of other cores beside these. Each low is written by itself, as no more
+    /// than its byte has to be.
+    pub fn join(&mut self, other: &Kept)
+        requires known { self.old.known + other.now.known < 2 ^ 64 }
+        requires active { self.old.active + other.now.active < 2 ^ 32 }
+        requires off { self.old.off + other.now.off < 2 ^ 32 }
+        ensures { self.new ≡ kept_together self.old other.now }
     {
         let [core, first, second, third] = self.lows;
-        let lows = other.lows;
-        Kept {
-            lows: [
-                core.min(lows[0]),
-                first.min(lows[1]),
-                second.min(lows[2]),
-                third.min(lows[3]),
-            ],
-            known: self.known + other.known,
-            active: self.active + other.active,
-            off: self.off + other.off,
-        }
+        self.lows[0] = core.min(other.lows[0]);
+        self.lows[1] = first.min(other.lows[1]);
+        self.lows[2] = second.min(other.lows[2]);
+        self.lows[3] = third.min(other.lows[3]);
+        self.known += other.known;
+        self.active += other.active;
+        self.off += other.off;
+    }
+
+    /// Keeps this from now on. Each low is written by itself, as in `join`.
+    pub fn replace(&mut self, kept: &Kept)
+        ensures { self.new ≡ kept.now }
+    {
+        self.lows[0] = kept.lows[0];
+        self.lows[1] = kept.lows[1];
+        self.lows[2] = kept.lows[2];
+        self.lows[3] = kept.lows[3];
+        self.known = kept.known;
+        self.active = kept.active;
+        self.off = kept.off;
     }
 
     /// A core of which this was kept before is running or pending now, and this is kept of it

@@ -18,6 +18,7 @@
 mod beside;
 mod build;
 mod changes;
+mod depths;
 mod descent;
 mod domain;
 mod grants;
@@ -32,5 +33,5 @@ pub use laws::{
     law_start_of_life, law_states,
 };
 pub use psci_state::Activity;
-pub use standing::Standing;
+pub use standing::Standings;
 pub use tree::Tree;

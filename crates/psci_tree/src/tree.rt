@@ -2,11 +2,13 @@
 
 use crate::beside::{Rows, rows_of};
 use crate::build::root_of;
-use crate::descent::{domain_at, standing_on};
+use crate::depths::Depths;
+use crate::descent::{domain_at, standings_on};
 use crate::domain::Domain;
-use crate::standing::Standing;
+use crate::grants::depths_at;
+use crate::standing::Standings;
 use crate::way::Way;
-use psci_board::{Board, Core, Memory, Node, law_sizes, law_spans};
+use psci_board::{Board, Core, MOST_ON_PATH, Memory, Node, law_sizes, law_spans};
 use psci_state::{Activity, CoreState, NEVER_STARTED};
 use std::alloc::Global;
 use std::marker::Model;
@@ -25,10 +27,8 @@ pub struct Tree {
     pub(crate) cores: Vec<CoreState>,
     /// The way to each core, in the order of their numbers.
     pub(crate) ways: Vec<Way>,
-    /// From level 0 up, the granted depth of each domain.
-    pub(crate) granted: Vec<Vec<u8>>,
-    /// From level 0 up, the depth of each domain that is confirmed, 0 of one that has none.
-    pub(crate) confirmed: Vec<Vec<u8>>,
+    /// From level 0 up, the depths of each domain.
+    pub(crate) depths: Vec<Vec<Depths>>,
     /// The domain of the whole system, with all others below it.
     pub(crate) root: Domain,
 }
@@ -36,6 +36,7 @@ pub struct Tree {
 impl Model for Tree {
     ghost use Rattle.std.specs.Prelude.{map};
     ghost use Rattle.psci_tree.specs.Recount.{TreeValue};
+    ghost use Rattle.psci_tree.specs.DepthRows.{confirmed_of, granted_of};
     ghost use Rattle.psci_tree.specs.Domains.{leaves};
     ghost use Rattle.psci_tree.specs.Inside.{IsHeld};
 
@@ -44,19 +45,20 @@ impl Model for Tree {
     ghost view = { λ t. record {
       levels = t.board.levels;
       cores = leaves t.root;
-      granted = map (λ v. v.items) t.granted.items;
-      confirmed = map (λ v. v.items) t.confirmed.items;
+      granted = granted_of (map (λ v. v.items) t.depths.items);
+      confirmed = confirmed_of (map (λ v. v.items) t.depths.items);
     } };
 
     ghost invariant = { λ t. IsHeld t.root t.cores.items t.ways.items (record {
       levels = t.board.levels;
       cores = leaves t.root;
-      granted = map (λ v. v.items) t.granted.items;
-      confirmed = map (λ v. v.items) t.confirmed.items;
+      granted = granted_of (map (λ v. v.items) t.depths.items);
+      confirmed = confirmed_of (map (λ v. v.items) t.depths.items);
     }) };
 }
 
-ghost use Rattle.std.specs.Prelude.{◌≡◌, ◌<◌, ◌≤◌, map, length, replicate, IfOk};
+ghost use Rattle.std.specs.Prelude.{◌≡◌, ℕ, ◌<◌, ◌≤◌, map, length, replicate, IfOk};
+ghost use Rattle.std.specs.Prelude.{slice_index};
 ghost use Rattle.psci_board.specs.Board.{IsBoard, size_below, HasNodeIn, below_in};
 ghost use Rattle.psci_tree.specs.declared.domain.Domain.{Domain, out-Domain};
 ghost use Rattle.psci_tree.specs.Recount.{IsDomainTree, state_at, known_at, low, known, active};
@@ -66,7 +68,7 @@ ghost use Rattle.psci_tree.specs.Beside.{AreFull};
 ghost use Rattle.psci_tree.specs.Changes.{all_off, start_of_life};
 ghost use Rattle.psci_tree.specs.Domains.{IsWhole, leaves};
 ghost use Rattle.psci_tree.specs.Kept.{IsKept, Keeps};
-ghost use Rattle.psci_tree.specs.Standing.{on_path, standing};
+ghost use Rattle.psci_tree.specs.Standing.{on_path};
 
 impl Tree {
     /// The tree of a board at the start of a life: the boot core, core 0, is pending, every other
@@ -105,8 +107,7 @@ impl Tree {
         let tree = Tree {
             cores: rows.cores,
             ways: rows.ways,
-            granted: rows.granted,
-            confirmed: rows.confirmed,
+            depths: rows.depths,
             board: board.copy(alloc)?,
             root: Box::into_inner(root),
         };
@@ -150,15 +151,18 @@ impl Tree {
         self.domain(node).kept.off
     }
 
-    /// How the domain of this level on the path of a core stands.
-    pub fn standing(&self, core: Core, level: u32) -> Standing
-        requires core { core.number < size_below self.now.levels }
-        requires level { level ≤ length self.now.levels }
-        ensures { result ≡ standing self.now (on_path self.now.levels core.number level) }
+    /// How the domains on the path of a core stand, each at the place of its level.
+    pub fn standings(&self, core: Core) -> Standings
+        requires { core.number < size_below self.now.levels }
+        ensures lows { (level : ℕ) → level ≤ length self.now.levels → slice_index result.lows level
+            ≡ low self.now (on_path self.now.levels core.number level) level }
+        ensures known { (level : ℕ) → level ≤ length self.now.levels
+            → slice_index result.known level
+            ≡ known self.now (on_path self.now.levels core.number level) }
     {
         law_spans();
         let way = &self.ways[core.number as usize];
-        standing_on(&self.root, &self.board, core, way, level)
+        standings_on(&self.root, &self.board, core, way)
     }
 
     /// The domain of this level on the path of a core.
@@ -180,8 +184,7 @@ impl Tree {
         ensures value { result ≡ granted_at self.now node.level node.place }
         ensures tree { IsDomainTree self.now }
     {
-        let row = &self.granted[node.level as usize];
-        row[node.place as usize]
+        depths_at(&self.depths, node).granted
     }
 
     /// Whether what was granted to a domain is confirmed.
@@ -211,8 +214,7 @@ impl Tree {
         requires { HasNodeIn self.now.levels node }
         ensures { result ≡ confirmed_at self.now node.level node.place }
     {
-        let places = &self.confirmed[node.level as usize];
-        places[node.place as usize]
+        depths_at(&self.depths, node).confirmed
     }
 
     /// What is kept of a core.

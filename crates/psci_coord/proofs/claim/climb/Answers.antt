@@ -1,7 +1,6 @@
 -- Each round adds the part of its level, and the climb ends where no depth is wanted.
-use Rattle.std.proofs.Common.{◌∙◌, ◌<◌, ℕ, List, length, arith, ap, sym, refl, subst}
+use Rattle.std.proofs.Common.{◌∙◌, ◌<◌, ◌≤◌, ℕ, List, length, arith, ap, sym, refl, subst}
 use Rattle.psci_board.specs.Board.{BoardValue, size_below}
-use Rattle.psci_tree.specs.declared.standing.Standing.{Standing}
 use Rattle.psci_tree.specs.Recount.{TreeValue}
 use Rattle.psci_tree.specs.Standing.{on_path}
 use Rattle.psci_coord.specs.Wish.{wanted}
@@ -16,17 +15,10 @@ loop-level-init c =
     c.args.core.number
     (wanted c.args.board.now (view_of c.args.tree.now) c.args.core.number c.args.wish.now))
 
-pub standing-low-requires : goal.standing-low-requires
-standing-low-requires c = record {
-  core = subst (λ (ws : List (List ℕ)). c.args.core.number < size_below ws)
-      (sym c.requires.board) c.requires.core;
-  level = omega (
-    arith,
-    c.loop-level-test.true,
-    c.height-level-end.ensures.height,
-    ap length c.requires.board,
-  );
-}
+pub standings-standings-requires : goal.standings-standings-requires
+standings-standings-requires c =
+    subst (λ (ws : List (List ℕ)). c.args.core.number < size_below ws) (sym c.requires.board)
+    c.requires.core
 
 pub loop-level-preserved : goal.loop-level-preserved
 loop-level-preserved c =
@@ -35,12 +27,18 @@ loop-level-preserved c =
     let core : ℕ = c.args.core.number in
     let level : ℕ = c.loop-level.level in
     let wished = wanted b (view_of t) core c.args.wish.now in
+    let high : level ≤ length t.levels = omega (
+      arith,
+      c.loop-level-test.true,
+      c.height-level-end.ensures.height,
+      ap length c.requires.board,
+    ) in
     let node = node-is b t core level c.requires.board in
     let depth = c.depth-depth.ensures t (on_path t.levels core level) refl
-    (ap (λ (x : Standing). x.low) c.standing-low.ensures)
+    (c.standings-standings.ensures.lows level high)
     ∙ wanted-is b t core level (on_path t.levels core level) c.args.wish.now c.requires.board
     node in
-    let known = ap (λ (x : Standing). x.known) c.standing-low.ensures
+    let known = c.standings-standings.ensures.known level high
     ∙ known-is b t core level (on_path t.levels core level) c.requires.board node in
     rw c.push.ensures (climbed-more b (view_of t) core wished level c.loop-level.parts _
     c.loop-level.invariant
@@ -54,8 +52,14 @@ returns-then-depth-eq0 c =
     let core : ℕ = c.args.core.number in
     let level : ℕ = c.loop-level.level in
     let wished = wanted b (view_of t) core c.args.wish.now in
+    let high : level ≤ length t.levels = omega (
+      arith,
+      c.loop-level-test.true,
+      c.height-level-end.ensures.height,
+      ap length c.requires.board,
+    ) in
     let depth = c.depth-depth.ensures t (on_path t.levels core level) refl
-    (ap (λ (x : Standing). x.low) c.standing-low.ensures)
+    (c.standings-standings.ensures.lows level high)
     ∙ wanted-is b t core level (on_path t.levels core level) c.args.wish.now c.requires.board
     (node-is b t core level c.requires.board) in
     climbed-ends b (view_of t) core wished level c.loop-level.parts c.loop-level.invariant

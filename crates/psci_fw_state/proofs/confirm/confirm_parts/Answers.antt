@@ -5,10 +5,10 @@ use Rattle.std.proofs.lemmas.Option.{slice_get-get_or}
 use Rattle.psci_board.specs.Board.{HasNodeIn, height}
 use Rattle.psci_board.specs.declared.node.Node.{Node}
 use Rattle.psci_claims.specs.psci_parts.declared.part.Part.{Part}
-use Rattle.psci_tree.specs.declared.standing.Standing.{Standing}
+use Rattle.psci_tree.specs.Standing.{on_path as path_node}
 use Rattle.psci_tree.specs.Recount.{granted_at, is_confirmed_at, known}
 use Rattle.psci_fw_spec.specs.Confirmed.{is_made_at}
-use Rattle.psci_fw_state.proofs.Confirming.{confirmed_all, confirmed_more}
+use Rattle.psci_fw_state.proofs.Confirming.{confirmed_all, confirmed_more, known_stays}
 use Rattle.psci_fw_state.proofs.Granting.{on_board, on_path}
 use Rattle.psci_fw_state.proofs.confirm.confirm_parts.Goals as goal
 
@@ -32,7 +32,20 @@ confirm_last-requires-clause-domain c =
 
 pub confirm_last-requires-clause-known : goal.confirm_last-requires-clause-known
 confirm_last-requires-clause-known c =
-    ap (λ (s : Standing). s.known) c.standing-standing.ensures
+    let b = c.args.board.now in
+    let low : c.loop-level.level ≤ height b = omega (
+      arith,
+      c.loop-level-test.true,
+      c.min-most.ensures,
+      min-le_right (length c.args.parts.now) (c.height.result + 1),
+      c.height.ensures.height,
+    ) in
+    c.standings-standings.ensures.known c.loop-level.level
+    (omega (arith, low, ap length c.requires.levels))
+    ∙ ap (λ ls. known c.args.tree.now (path_node ls c.args.core.number c.loop-level.level))
+    (sym c.loop-level.invariant.levels)
+    ∙ known_stays b c.args.core.number c.args.parts.now c.args.tree.now c.loop-level.tree
+    c.loop-level.level _ c.loop-level.invariant c.requires.levels
     ∙ ap (known c.loop-level.tree) (sym c.on_path-node.ensures)
 
 pub loop-level-preserved : goal.loop-level-preserved
@@ -49,9 +62,14 @@ loop-level-preserved c =
       min-le_right (length c.args.parts.now) (c.height.result + 1),
       c.height.ensures.height,
     ) in
-    let known_is : c.standing-standing.result.known
+    let known_is : get_or c.standings-standings.result.known c.loop-level.level 0
     ≡ known c.loop-level.tree c.on_path-node.result =
-    ap (λ (s : Standing). s.known) c.standing-standing.ensures
+    c.standings-standings.ensures.known c.loop-level.level
+    (omega (arith, low, ap length c.requires.levels))
+    ∙ ap (λ ls. known c.args.tree.now (path_node ls c.args.core.number c.loop-level.level))
+    (sym c.loop-level.invariant.levels)
+    ∙ known_stays b c.args.core.number c.args.parts.now c.args.tree.now c.loop-level.tree
+    c.loop-level.level _ c.loop-level.invariant c.requires.levels
     ∙ ap (known c.loop-level.tree) (sym c.on_path-node.ensures) in
     let unused : Part = record { level = 0; depth = 0; generation = 0 } in
     let part : Part = get_or c.args.parts.now c.loop-level.level unused in

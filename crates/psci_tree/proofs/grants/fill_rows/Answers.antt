@@ -2,29 +2,31 @@ use Rattle.std.proofs.Common.{◌≡◌, ◌<◌, ◌+◌, ◌++◌, ◌∙◌, 
 use Rattle.std.proofs.Common.{List, [], length, map, take, drop, get_or, replicate}
 use Rattle.std.proofs.Math.ListN.{set}
 use Rattle.std.proofs.lemmas.List.{get_or-map, length-map, map-set}
-use Rattle.psci_tree.specs.Changes.{rows_with_depth}
+use Rattle.psci_tree.specs.declared.depths.Depths.{Depths}
+use Rattle.psci_tree.specs.DepthRows.{filled}
 use Rattle.psci_tree.proofs.Shapes.{filled_more}
 use Rattle.psci_tree.proofs.grants.fill_rows.Goals as goal
 
 pub loop-level-preserved : goal.loop-level-preserved
 loop-level-preserved c =
-    let old : List (List ℕ) = map (λ v. v.items) c.args.rows.now in
-    let now : List (List ℕ) = map (λ v. v.items) c.loop-level.rows in
+    let old : List (List Depths) = map (λ v. v.items) c.args.rows.now in
+    let now : List (List Depths) = map (λ v. v.items) c.loop-level.rows in
     let level : ℕ = c.loop-level.level in
-    let depth : ℕ = c.args.depth in
+    let depth : Depths = c.args.depths in
     let row = c.index-rows-level.result in
     let up : level + 1 ≡ suc level = omega arith in
     let fits : level < length old = omega (arith, length-map c.args.rows.now (λ v. v.items)) in
     let read : row.items ≡ get_or now level [] =
     ap (λ v. v.items) c.index-rows-level.is ∙ sym (get_or-map (λ v. v.items) c.loop-level.rows
     level row [] (omega (arith, c.loop-level.auto.rows))) in
-    let filled : c.fill.new.self.items ≡ replicate (length (get_or now level [])) depth =
+    let same : c.fill.new.self.items ≡ replicate (length (get_or now level [])) depth =
     c.fill.ensures.items (λ y h. h)
     ∙ ap (λ n. replicate n depth) ((get_or c.loop-level.rows level row).ok.0
     ∙ ap (λ v. length v.items) (sym c.index-rows-level.is) ∙ ap length read) in
-    let at = λ (gs : List (List ℕ)). set gs level (replicate (length (get_or gs level [])) depth) in
+    let at = λ (gs : List (List Depths)).
+    set gs level (replicate (length (get_or gs level [])) depth) in
     let written : map (λ v. v.items) (set c.loop-level.rows level c.fill.new.self) ≡ at now =
     map-set (λ v. v.items) c.loop-level.rows level c.fill.new.self
-    ∙ ap (set now level) filled in
+    ∙ ap (set now level) same in
     written ∙ ap at c.loop-level.invariant ∙ filled_more old level depth fits
-    ∙ ap (λ l. rows_with_depth (map length (take l old)) depth ++ drop l old) (sym up)
+    ∙ ap (λ l. filled (map length (take l old)) depth ++ drop l old) (sym up)

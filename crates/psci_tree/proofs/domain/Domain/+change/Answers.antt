@@ -97,7 +97,7 @@ returns-clause-cores t c =
     let is : n ≡ get_or items i own =
     c.index_mut.ensures.value ∙ get_or_default items i n own down.inside in
     let here = cores_with_child own i (index_by (l - 1) c.args.way.now (get_or items i own))
-    (index_by l c.args.way.now own) c.change.new.self s c.anew-self.result
+    (index_by l c.args.way.now own) c.change.new.self s c.replace.new.self
     down.inside (sym down.place)
     (place_inside (l - 1) c.args.way.now (get_or items i own) down.rest)
     (c.change.ensures.cores
@@ -114,12 +114,12 @@ returns-clause-shape t c = λ k.
     let items : List Domain = branches own in
     let is : c.index_mut.result.now ≡ get_or items i own =
     c.index_mut.ensures.value ∙ get_or_default items i c.index_mut.result.now own down.inside in
-    let here = widths_with_child own i c.change.new.self c.anew-self.result
+    let here = widths_with_child own i c.change.new.self c.replace.new.self
     (λ j. c.change.ensures.shape j ∙ ap (child_counts j) is) k in
     simp the_lemmas (simp the_lemmas at here)
 
-pub anew-self-requires-clause-kept : goal.anew-self-requires-clause-kept
-anew-self-requires-clause-kept t c =
+pub join_children-requires-clause-kept : goal.join_children-requires-clause-kept
+join_children-requires-clause-kept t c =
     let own : Domain = c.args.self.now in
     let items : List Domain = branches own in
     let i : ℕ = get_or c.args.way.now (c.args.level - 1) 0 in
@@ -131,8 +131,8 @@ anew-self-requires-clause-kept t c =
     subst AreKept (sym (children_roll half))
     (kept_set items i c.change.new.self (kept_children own c.requires.kept) c.change.ensures.kept)
 
-pub anew-self-requires-clause-few : goal.anew-self-requires-clause-few
-anew-self-requires-clause-few t c =
+pub join_children-requires-clause-few : goal.join_children-requires-clause-few
+join_children-requires-clause-few t c =
     let s : CoreState = c.args.state.now in
     let own : Domain = c.args.self.now in
     let l : ℕ = c.args.level in
@@ -175,15 +175,16 @@ returns-clause-kept t c =
       core = (out-Domain own).core;
       kept = (out-Domain own).kept;
     } in
-    let keeps : Keeps c.anew-self.result (cores_in (set items i c.change.new.self)) =
-    subst (λ ns. Keeps c.anew-self.result (cores_in ns)) (children_roll half)
-    c.anew-self.ensures in
+    let keeps : Keeps c.replace.new.self (cores_in (set items i c.change.new.self)) =
+    subst (λ k. Keeps k (cores_in (set items i c.change.new.self))) (sym c.replace.ensures)
+    (subst (λ ns. Keeps c.join_children.new.kept (cores_in ns)) (children_roll half)
+    c.join_children.ensures) in
     let more : 0 < length (set items i c.change.new.self) =
     omega (arith, length-set items i c.change.new.self, down.inside) in
     let here = kept_roll (record {
       children = with_item (out-Domain own).children i c.change.new.self;
       core = (out-Domain own).core;
-      kept = c.anew-self.result;
+      kept = c.replace.new.self;
     }) more keeps (kept_set items i c.change.new.self (kept_children own c.requires.kept)
     c.change.ensures.kept) in
     simp the_lemmas (simp the_lemmas at here)

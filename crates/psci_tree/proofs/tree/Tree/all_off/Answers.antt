@@ -4,6 +4,8 @@ use Rattle.psci_state.specs.declared.cores.CoreState.{CoreState}
 use Rattle.psci_tree.specs.declared.domain.Domain.{Domain}
 use Rattle.psci_tree.specs.Recount.{TreeValue, IsActivity, IsDomainTree, level_sizes, never_started}
 use Rattle.psci_tree.specs.Changes.{rows_with_depth}
+use Rattle.psci_tree.specs.declared.depths.Depths.{Depths}
+use Rattle.psci_tree.specs.DepthRows.{granted_of, confirmed_of}
 use Rattle.psci_tree.specs.Domains.{leaves, IsWhole}
 use Rattle.psci_tree.specs.Kept.{IsKept}
 use Rattle.psci_tree.specs.Beside.{AreFull}
@@ -30,9 +32,10 @@ invariant_of-tree c =
     let off : leaves root ≡ replicate (size_below levels) never_started =
     ap leaves c.into_inner.ensures ∙ c.requires.off in
     let full : List (List ℕ) = rows_with_depth (level_sizes own.levels) 3 in
-    let granted : map (λ v. v.items) own-rows.granted.items ≡ full =
+    let own-depths : List (List Depths) = map (λ v. v.items) own-rows.depths.items in
+    let granted : granted_of own-depths ≡ full =
     made.granted ∙ ap (λ ls. rows_with_depth (level_sizes ls) 3) same in
-    let confirmed : map (λ v. v.items) own-rows.confirmed.items ≡ full =
+    let confirmed : confirmed_of own-depths ≡ full =
     made.confirmed ∙ ap (λ ls. rows_with_depth (level_sizes ls) 3) same in
     let idle : (d : ℕ) → IsActivity (get_or (leaves root) d never_started).activity =
     subst (λ (cs : List CoreState). (d : ℕ) → IsActivity (get_or cs d never_started).activity)
@@ -44,7 +47,7 @@ invariant_of-tree c =
         whole = whole;
         kept = subst IsKept is c.requires.kept;
         valid = subst (λ gs. IsDomainTree (at gs
-            (map (λ v. v.items) own-rows.confirmed.items))) (sym granted)
+            (confirmed_of own-depths))) (sym granted)
             (subst (λ fs. IsDomainTree (at full fs)) (sym confirmed) (full_valid own.levels
             (leaves root) board.tree board.high (length_cores root own.levels board.tree whole)
             idle));

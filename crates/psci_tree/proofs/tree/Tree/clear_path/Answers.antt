@@ -5,6 +5,8 @@ use Rattle.std.proofs.lemmas.List.{with_items_is}
 use Rattle.psci_board.specs.Board.{size_below}
 use Rattle.psci_tree.specs.Recount.{TreeValue, IsDomainTree}
 use Rattle.psci_tree.specs.Changes.{with_path_cleared, path_cleared}
+use Rattle.psci_tree.specs.declared.depths.Depths.{Depths}
+use Rattle.psci_tree.specs.DepthRows.{granted_of, confirmed_of}
 use Rattle.psci_tree.specs.Domains.{leaves}
 use Rattle.psci_tree.specs.Inside.{IsTied, IsHeld}
 use Rattle.psci_tree.specs.Way.{IsWayOf}
@@ -14,9 +16,10 @@ use Rattle.psci_tree.proofs.tree.Tree.clear_path.Goals as goal
 
 pub clear_up-requires-clause-rows : goal.clear_up-requires-clause-rows
 clear_up-requires-clause-rows c = record {
-  granted = ap (λ xs. map length (map (λ v. v.items) xs)) c.deref_mut.ensures.value
+  granted = ap (λ xs. map length (granted_of (map (λ v. v.items) xs))) c.deref_mut.ensures.value
       ∙ c.self.invariant.tied.valid.granted;
-  confirmed = ap (λ xs. map length (map (λ v. v.items) xs)) c.deref_mut-2.ensures.value
+  confirmed = ap (λ xs. map length (confirmed_of (map (λ v. v.items) xs)))
+      c.deref_mut.ensures.value
       ∙ c.self.invariant.tied.valid.confirmed;
 }
 
@@ -37,10 +40,8 @@ pub returns-clause-value : goal.returns-clause-value
 returns-clause-value c =
     let core : ℕ = c.args.core.number in
     let levels : List (List ℕ) = c.self.inside.board.levels in
-    let kept = with_items_is c.self.inside.granted c.clear_up.new.granted
-    (omega (arith, c.clear_up.auto.granted, c.deref_mut.ensures.len)) in
-    let kept-2 = with_items_is c.self.inside.confirmed c.clear_up.new.confirmed
-    (omega (arith, c.clear_up.auto.confirmed, c.deref_mut-2.ensures.len)) in
+    let kept = with_items_is c.self.inside.depths c.clear_up.new.rows
+    (omega (arith, c.clear_up.auto.rows, c.deref_mut.ensures.len)) in
     let change : List (List ℕ) → List (List ℕ) → TreeValue =
     λ gs fs. record {
       levels = levels;
@@ -48,18 +49,19 @@ returns-clause-value c =
       granted = gs;
       confirmed = fs;
     } in
-    let was : List (List ℕ) = map (λ v. v.items) c.self.inside.granted.items in
-    let was-2 : List (List ℕ) = map (λ v. v.items) c.self.inside.confirmed.items in
-    let now-2 : List (List ℕ) = map (λ v. v.items)
-    (with_items c.self.inside.confirmed c.clear_up.new.confirmed).items in
-    let granted : map (λ v. v.items) c.clear_up.new.granted ≡ path_cleared levels core was =
-    c.clear_up.ensures.granted ∙ ap (λ xs. path_cleared levels core (map (λ v. v.items) xs))
+    let was : List (List Depths) = map (λ v. v.items) c.self.inside.depths.items in
+    let now : List (List Depths) =
+    map (λ v. v.items) (with_items c.self.inside.depths c.clear_up.new.rows).items in
+    let granted : granted_of now ≡ path_cleared levels core (granted_of was) =
+    ap (λ xs. granted_of (map (λ v. v.items) xs)) kept ∙ c.clear_up.ensures.granted
+    ∙ ap (λ xs. path_cleared levels core (granted_of (map (λ v. v.items) xs)))
     c.deref_mut.ensures.value in
-    let confirmed : map (λ v. v.items) c.clear_up.new.confirmed ≡ path_cleared levels core was-2 =
-    c.clear_up.ensures.confirmed ∙ ap (λ xs. path_cleared levels core (map (λ v. v.items) xs))
-    c.deref_mut-2.ensures.value in
-    ap (λ gs. change gs now-2) (ap (map (λ v. v.items)) kept ∙ granted)
-    ∙ ap (change (path_cleared levels core was)) (ap (map (λ v. v.items)) kept-2 ∙ confirmed)
+    let confirmed : confirmed_of now ≡ path_cleared levels core (confirmed_of was) =
+    ap (λ xs. confirmed_of (map (λ v. v.items) xs)) kept ∙ c.clear_up.ensures.confirmed
+    ∙ ap (λ xs. path_cleared levels core (confirmed_of (map (λ v. v.items) xs)))
+    c.deref_mut.ensures.value in
+    ap (λ gs. change gs (confirmed_of now)) granted
+    ∙ ap (change (path_cleared levels core (granted_of was))) confirmed
     ∙ ap (λ (t : TreeValue). with_path_cleared t core) c.self.view_is
 
 pub returns-clause-tree : goal.returns-clause-tree

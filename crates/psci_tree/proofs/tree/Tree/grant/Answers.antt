@@ -1,53 +1,82 @@
-use Rattle.std.proofs.Common.{◌≡◌, ◌∙◌, arith, ap, sym, subst, map, length, ℕ, List}
+use Rattle.std.proofs.Common.{◌≡◌, ◌∙◌, arith, ap, sym, subst, map, length, get_or, ℕ, List, []}
+use Rattle.std.proofs.Common.{cond, ◌==◌}
+use Rattle.std.proofs.Math.ListN.{set}
 use Rattle.std.specs.Vec.{with_items}
 use Rattle.std.proofs.lemmas.List.{length-map, with_items_is}
 use Rattle.psci_board.specs.Board.{HasNodeIn}
 use Rattle.psci_board.specs.declared.node.Node.{Node}
-use Rattle.psci_tree.specs.Recount.{TreeValue, IsDomainTree, level_sizes}
+use Rattle.psci_tree.specs.declared.depths.Depths.{Depths}
+use Rattle.psci_tree.specs.DepthRows.{granted_of, confirmed_of}
+use Rattle.psci_tree.specs.Recount.{TreeValue, IsDomainTree, granted_at, confirmed_at}
 use Rattle.psci_tree.specs.Changes.{with_grant, depth_set, still_confirmed}
 use Rattle.psci_tree.specs.Domains.{leaves}
 use Rattle.psci_tree.specs.Inside.{IsTied, IsHeld}
 use Rattle.psci_state.specs.declared.cores.CoreState.{CoreState}
-use Rattle.psci_tree.proofs.Granted.{RowOf, row_of}
+use Rattle.psci_tree.proofs.DepthRows.{DepthRow, depth_row, ReadAt, read_at, depths_written}
 use Rattle.psci_tree.proofs.Valid.{grant_valid}
 use Rattle.psci_tree.proofs.tree.Tree.grant.Goals as goal
 
--- the row of the domain in either list of rows
-at_row : (levels rows now : List (List ℕ)) (n : Node)
-    → map length rows ≡ level_sizes levels → HasNodeIn levels n → now ≡ rows → RowOf now n
-at_row levels rows now n e h same =
-    subst (λ gs. RowOf gs n) (sym same) (row_of levels rows n e h)
+pub depths_at-requires : goal.depths_at-requires
+depths_at-requires c =
+    let rows : List (List Depths) = map (λ v. v.items) c.self.inside.depths.items in
+    let at : DepthRow rows c.args.node = depth_row c.self.inside.board.levels rows c.args.node
+    c.self.invariant.tied.valid.granted
+    (subst (λ (t : TreeValue). HasNodeIn t.levels c.args.node) (sym c.self.view_is)
+    c.requires.domain) in
+    let same : map (λ v. v.items) c.deref.result.now ≡ rows =
+    ap (map (λ v. v.items)) c.deref.ensures.value in
+    record {
+      level = omega (
+        arith,
+        at.level,
+        ap length same,
+        length-map c.deref.result.now (λ v. v.items),
+      );
+      place = omega (arith, at.place, ap (λ rs. length (get_or rs c.args.node.level [])) same);
+    }
 
 pub write-requires : goal.write-requires
 write-requires c =
-    let at = at_row c.self.inside.board.levels _ _ c.args.node c.self.invariant.tied.valid.confirmed
-    (subst (λ (t : TreeValue).
-    HasNodeIn t.levels c.args.node) (sym c.self.view_is) c.requires.domain)
-    (ap (map (λ v. v.items)) c.deref_mut.ensures.value) in
+    let rows : List (List Depths) = map (λ v. v.items) c.self.inside.depths.items in
+    let at : DepthRow rows c.args.node = depth_row c.self.inside.board.levels rows c.args.node
+    c.self.invariant.tied.valid.granted
+    (subst (λ (t : TreeValue). HasNodeIn t.levels c.args.node) (sym c.self.view_is)
+    c.requires.domain) in
+    let same : map (λ v. v.items) c.deref_mut.result.now ≡ rows =
+    ap (map (λ v. v.items)) c.deref_mut.ensures.value in
     record {
-      level = omega (arith, at.level, length-map c.deref_mut.result.now (λ v. v.items));
-      place = at.place;
-    }
-
-pub write-requires-2 : goal.write-requires-2
-write-requires-2 c =
-    let at = at_row c.self.inside.board.levels _ _ c.args.node c.self.invariant.tied.valid.granted
-    (subst (λ (t : TreeValue).
-    HasNodeIn t.levels c.args.node) (sym c.self.view_is) c.requires.domain)
-    (ap (map (λ v. v.items)) c.deref_mut-2.ensures.value) in
-    record {
-      level = omega (arith, at.level, length-map c.deref_mut-2.result.now (λ v. v.items));
-      place = at.place;
+      level = omega (
+        arith,
+        at.level,
+        ap length same,
+        length-map c.deref_mut.result.now (λ v. v.items),
+      );
+      place = omega (arith, at.place, ap (λ rs. length (get_or rs c.args.node.level [])) same);
     }
 
 pub returns-clause-value : goal.returns-clause-value
 unfolding with_grant
 returns-clause-value c =
     let n : Node = c.args.node in
-    let kept = with_items_is c.self.inside.confirmed c.write.new.rows
+    let t : TreeValue = c.args.self.now in
+    let d : Depths = c.grant-depths.result in
+    let rows : List (List Depths) = map (λ v. v.items) c.self.inside.depths.items in
+    let at : DepthRow rows c.args.node = depth_row c.self.inside.board.levels rows c.args.node
+    c.self.invariant.tied.valid.granted
+    (subst (λ (t : TreeValue). HasNodeIn t.levels c.args.node) (sym c.self.view_is)
+    c.requires.domain) in
+    let same : map (λ v. v.items) c.deref.result.now ≡ rows =
+    ap (map (λ v. v.items)) c.deref.ensures.value in
+    let read : ReadAt rows c.args.node c.depths_at.result =
+    read_at rows _ c.args.node c.depths_at.result at same c.depths_at.ensures in
+    let kept = with_items_is c.self.inside.depths c.write.new.rows
     (omega (arith, c.write.auto.rows, c.deref_mut.ensures.len)) in
-    let kept-2 = with_items_is c.self.inside.granted c.write-2.new.rows
-    (omega (arith, c.write-2.auto.rows, c.deref_mut-2.ensures.len)) in
+    let now : List (List Depths) =
+    map (λ v. v.items) (with_items c.self.inside.depths c.write.new.rows).items in
+    let written : now ≡ set rows n.level (set (get_or rows n.level []) n.place d) =
+    ap (map (λ v. v.items)) kept ∙ c.write.ensures
+    ∙ ap (λ vs. set (map (λ v. v.items) vs) n.level (set (get_or (map (λ v. v.items) vs) n.level [])
+    n.place d)) c.deref_mut.ensures.value in
     let change : List (List ℕ) → List (List ℕ) → TreeValue =
     λ gs fs. record {
       levels = c.self.inside.board.levels;
@@ -55,26 +84,26 @@ returns-clause-value c =
       granted = gs;
       confirmed = fs;
     } in
-    let granted : map (λ v. v.items) c.write-2.new.rows
-    ≡ depth_set (map (λ v. v.items) c.self.inside.granted.items) n c.args.depth =
-    c.write-2.ensures
-    ∙ ap (λ xs. depth_set (map (λ v. v.items) xs) n c.args.depth) c.deref_mut-2.ensures.value in
-    let confirmed : map (λ v. v.items) c.write.new.rows
-    ≡ depth_set (map (λ v. v.items) c.self.inside.confirmed.items) n
-    (still_confirmed c.args.self.now n c.args.depth) =
-    c.write.ensures
-    ∙ ap (λ xs. depth_set (map (λ v. v.items) xs) n c.still_confirmed-confirmed.result)
-    c.deref_mut.ensures.value
-    ∙ ap (depth_set (map (λ v. v.items) c.self.inside.confirmed.items) n)
-    c.still_confirmed-confirmed.ensures in
-    let now-2 : List (List ℕ) = map (λ v. v.items)
-    (with_items c.self.inside.confirmed c.write.new.rows).items in
-    let was : List (List ℕ) = map (λ v. v.items) c.self.inside.granted.items in
-    ap (λ gs. change gs now-2) (ap (map (λ v. v.items)) kept-2 ∙ granted)
-    ∙ ap (change (depth_set was n c.args.depth)) (ap (map (λ v. v.items)) kept ∙ confirmed)
-    ∙ ap (λ (t : TreeValue). record t {
-      granted = depth_set t.granted n c.args.depth;
-      confirmed = depth_set t.confirmed n (still_confirmed c.args.self.now n c.args.depth);
+    let depth : ℕ = c.args.depth in
+    let held : ReadAt rows n c.depths_at.result = read in
+    let still : d.confirmed ≡ still_confirmed t n depth =
+    ap (λ (x : Depths). x.confirmed) c.grant-depths.ensures
+    ∙ ap (λ x. cond (x == depth) c.depths_at.result.confirmed 0)
+    (held.granted ∙ ap (λ (u : TreeValue). granted_at u n.level n.place) c.self.view_is)
+    ∙ ap (λ y. cond (granted_at t n.level n.place == depth) y 0)
+    (held.confirmed ∙ ap (λ (u : TreeValue). confirmed_at u n.level n.place) c.self.view_is) in
+    let granted : granted_of now ≡ depth_set (granted_of rows) n depth =
+    ap granted_of written ∙ depths_written (λ x. x.granted) rows n.level n.place d
+    ∙ ap (depth_set (granted_of rows) n) (ap (λ (x : Depths). x.granted) c.grant-depths.ensures) in
+    let confirmed : confirmed_of now
+    ≡ depth_set (confirmed_of rows) n (still_confirmed t n depth) =
+    ap confirmed_of written ∙ depths_written (λ x. x.confirmed) rows n.level n.place d
+    ∙ ap (depth_set (confirmed_of rows) n) still in
+    ap (λ gs. change gs (confirmed_of now)) granted
+    ∙ ap (change (depth_set (granted_of rows) n depth)) confirmed
+    ∙ ap (λ (u : TreeValue). record u {
+      granted = depth_set u.granted n depth;
+      confirmed = depth_set u.confirmed n (still_confirmed t n depth);
     }) c.self.view_is
 
 pub returns-clause-tree : goal.returns-clause-tree

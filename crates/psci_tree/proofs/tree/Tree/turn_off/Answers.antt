@@ -6,9 +6,12 @@ use Rattle.psci_state.specs.declared.cores.CoreState.{CoreState}
 use Rattle.psci_tree.specs.declared.domain.Domain.{Domain}
 use Rattle.psci_tree.specs.Recount.{TreeValue, IsDomainTree, never_started, level_sizes}
 use Rattle.psci_tree.specs.Changes.{all_off, rows_with_depth}
+use Rattle.psci_tree.specs.declared.depths.Depths.{Depths}
+use Rattle.psci_tree.specs.DepthRows.{granted_of, confirmed_of, filled}
 use Rattle.psci_tree.specs.Domains.{leaves}
 use Rattle.psci_tree.specs.Inside.{IsTied, IsHeld}
 use Rattle.psci_tree.specs.declared.way.Way.{Way}
+use Rattle.psci_tree.proofs.DepthRows.{depth_lengths, filled_depths}
 use Rattle.psci_tree.proofs.Valid.{all_off_valid}
 use Rattle.psci_tree.proofs.Slices.{whole_kept}
 use Rattle.psci_tree.proofs.tree.Tree.turn_off.Goals as goal
@@ -16,28 +19,31 @@ use Rattle.psci_tree.proofs.tree.Tree.turn_off.Goals as goal
 pub returns-clause-value : goal.returns-clause-value
 returns-clause-value c =
     let levels : List (List ℕ) = c.self.inside.board.levels in
-    let kept = with_items_is c.self.inside.granted c.fill_rows.new.rows
+    let kept = with_items_is c.self.inside.depths c.fill_rows.new.rows
     (omega (arith, c.fill_rows.auto.rows, c.deref_mut.ensures.len)) in
-    let kept-2 = with_items_is c.self.inside.confirmed c.fill_rows-2.new.rows
-    (omega (arith, c.fill_rows-2.auto.rows, c.deref_mut-2.ensures.len)) in
     let change : List CoreState → List (List ℕ) → List (List ℕ) → TreeValue =
     λ cs gs fs. record { levels = levels; cores = cs; granted = gs; confirmed = fs } in
-    let full : List (List ℕ) = rows_with_depth (level_sizes levels) 3 in
+    let sizes : List ℕ = level_sizes levels in
+    let full : List (List ℕ) = rows_with_depth sizes 3 in
+    let deepest : Depths = record { granted = 3; confirmed = 3 } in
     let states : leaves c.turn_off.new.root ≡ replicate (size_below levels) never_started =
     c.turn_off.ensures.cores
     ∙ ap (λ n. replicate n never_started) c.self.invariant.tied.valid.cores in
-    let rows : map (λ v. v.items) c.fill_rows.new.rows ≡ full =
-    c.fill_rows.ensures
-    ∙ ap (λ xs. rows_with_depth (map length (map (λ v. v.items) xs)) 3) c.deref_mut.ensures.value
-    ∙ ap (λ ns. rows_with_depth ns 3) c.self.invariant.tied.valid.granted in
-    let rows-2 : map (λ v. v.items) c.fill_rows-2.new.rows ≡ full =
-    c.fill_rows-2.ensures
-    ∙ ap (λ xs. rows_with_depth (map length (map (λ v. v.items) xs)) 3) c.deref_mut-2.ensures.value
-    ∙ ap (λ ns. rows_with_depth ns 3) c.self.invariant.tied.valid.confirmed in
-    let now-2 : List (List ℕ) = map (λ v. v.items)
-    (with_items c.self.inside.confirmed c.fill_rows-2.new.rows).items in
-    ap (λ gs. change (leaves c.turn_off.new.root) gs now-2) (ap (map (λ v. v.items)) kept ∙ rows)
-    ∙ ap (change (leaves c.turn_off.new.root) full) (ap (map (λ v. v.items)) kept-2 ∙ rows-2)
+    let was : List (List Depths) = map (λ v. v.items) c.self.inside.depths.items in
+    let now : List (List Depths) =
+    map (λ v. v.items) (with_items c.self.inside.depths c.fill_rows.new.rows).items in
+    let lengths : map length was ≡ sizes =
+    sym (depth_lengths (λ d. d.granted) was) ∙ c.self.invariant.tied.valid.granted in
+    let rows : now ≡ filled sizes deepest =
+    ap (map (λ v. v.items)) kept ∙ c.fill_rows.ensures
+    ∙ ap (λ xs. filled (map length (map (λ v. v.items) xs)) deepest) c.deref_mut.ensures.value
+    ∙ ap (λ ns. filled ns deepest) lengths in
+    let granted : granted_of now ≡ full =
+    ap granted_of rows ∙ filled_depths (λ d. d.granted) sizes deepest in
+    let confirmed : confirmed_of now ≡ full =
+    ap confirmed_of rows ∙ filled_depths (λ d. d.confirmed) sizes deepest in
+    ap (λ gs. change (leaves c.turn_off.new.root) gs (confirmed_of now)) granted
+    ∙ ap (change (leaves c.turn_off.new.root) full) confirmed
     ∙ ap (λ cs. change cs full full) states
     ∙ ap (λ (t : TreeValue). all_off t.levels) c.self.view_is
 

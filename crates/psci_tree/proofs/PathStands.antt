@@ -1,5 +1,5 @@
 -- How the domains on a core's path stand.
-use Rattle.std.proofs.Common.{◌≡◌, ℕ, suc, ◌+◌, ◌<◌, List, [], length, get_or, ap, sym, ◌∙◌}
+use Rattle.std.proofs.Common.{◌≡◌, ℕ, suc, ◌+◌, ◌<◌, ◌≤◌, List, [], length, get_or, ap, sym, ◌∙◌}
 use Rattle.std.proofs.Common.{arith, ◌-◌, drop, subst}
 use Rattle.std.proofs.lemmas.List.{get_or_default, drop_all}
 use Rattle.psci_board.specs.declared.node.Node.{Node}
@@ -11,7 +11,7 @@ use Rattle.psci_tree.specs.Domains.{HasShape, branches, domains_down, leaves}
 use Rattle.psci_tree.specs.Inside.{IsTied}
 use Rattle.psci_tree.specs.Kept.{Keeps}
 use Rattle.psci_tree.specs.Recount.{TreeValue, low, known}
-use Rattle.psci_tree.specs.Standing.{standing, kept_standing}
+use Rattle.psci_tree.specs.Standing.{on_path}
 use Rattle.psci_tree.proofs.Keeping.{keeps_low}
 use Rattle.psci_tree.proofs.Recounted.{states, low_is, known_is}
 use Rattle.psci_tree.proofs.Slices.{states_at, size_at}
@@ -67,11 +67,16 @@ at_top root levels core l d t i e =
     ∙ ap (λ p. get_or (domains_down 0 root) p d) first
 
 -- what a domain keeps is how it stands
-pub standing_is : (root : Domain) (t : TreeValue) (n : Node) (k : ℕ) (d : Domain)
+pub record Stands (root : Domain) (t : TreeValue) (n : Node) (k : ℕ) (d : Domain) : Type 0 where
+  pub low : get_or (out-Domain (get_or (domains_down k root) n.place d)).kept.lows n.level 0
+      ≡ low t n n.level
+  pub known : (out-Domain (get_or (domains_down k root) n.place d)).kept.known ≡ known t n
+
+pub stands : (root : Domain) (t : TreeValue) (n : Node) (k : ℕ) (d : Domain)
     → SpanLaws t.levels → IsTied root t → t.cores ≡ leaves root → HasNodeIn t.levels n
     → k + n.level ≡ length t.levels
-    → kept_standing (get_or (domains_down k root) n.place d) n.level ≡ standing t n
-standing_is root t n k d laws tied same in' e =
+    → Stands root t n k d
+stands root t n k d laws tied same in' e =
     let own : Domain = get_or (domains_down k root) n.place d in
     let fits : n.place < length (domains_down k root) =
     omega (arith, in'.place, size_at root t.levels n.level k tied.whole e) in
@@ -80,10 +85,23 @@ standing_is root t n k d laws tied same in' e =
     let cores : leaves own ≡ states t n =
     states_at root t n k own laws tied.valid.tree tied.whole same in' e is in
     let keeps : Keeps (out-Domain own).kept (leaves own) = tied.kept.each k n.place d fits in
-    let least : get_or (out-Domain own).kept.lows n.level 0 ≡ low t n n.level =
-    keeps_low (out-Domain own).kept (leaves own) n.level keeps
-    (omega (arith, in'.level, tied.valid.high))
-    ∙ low_is t n n.level (leaves own) cores in'.level in
-    let sum : (out-Domain own).kept.known ≡ known t n =
-    ap (λ j. j.known) keeps.counted ∙ known_is t n (leaves own) cores in
-    λ i. record { low = least i; known = sum i }
+    record {
+      low =
+          keeps_low (out-Domain own).kept (leaves own) n.level keeps
+          (omega (arith, in'.level, tied.valid.high))
+          ∙ low_is t n n.level (leaves own) cores in'.level;
+      known = ap (λ j. j.known) keeps.counted ∙ known_is t n (leaves own) cores;
+    }
+
+-- the same of each domain on a core's path
+pub path_stands : (root : Domain) (t : TreeValue) (core level : ℕ) (d : Domain)
+    → SpanLaws t.levels → IsTied root t → t.cores ≡ leaves root → core < size_below t.levels
+    → level ≤ length t.levels
+    → Stands root t (on_path t.levels core level) (length t.levels - level) d
+path_stands root t core level d laws tied same in' le =
+    stands root t (on_path t.levels core level) (length t.levels - level) d laws tied same
+    (record {
+      level = le;
+      place = place_lt t.levels level core tied.valid.tree le in';
+    })
+    (omega (arith, le))

@@ -5,10 +5,10 @@ use Rattle.psci_tree.specs.declared.kept.Kept.{Kept}
 use Rattle.psci_tree.specs.declared.domain.Domain.{Domain, out-Domain}
 use Rattle.psci_tree.proofs.Below.{length_parts}
 use Rattle.psci_tree.proofs.Keeping.{kept_next, Small, keeps_small}
-use Rattle.psci_tree.proofs.domain.kept_of.Goals as goal
+use Rattle.psci_tree.proofs.domain.join_all.Goals as goal
 
-pub beside-kept-requires : goal.beside-kept-requires
-beside-kept-requires c =
+pub join-requires : goal.join-requires
+join-requires c =
     let d : Domain = c.domain-item.result in
     let fits : Small (kept_together c.loop-domain.kept (out-Domain d).kept) =
     keeps_small _ _ (kept_next c.args.domains.now c.loop-domain.domain-index d c.loop-domain.kept
@@ -23,6 +23,6 @@ beside-kept-requires c =
 pub loop-domain-preserved : goal.loop-domain-preserved
 loop-domain-preserved c =
     subst (λ (k : Kept). Keeps k (cores_in (take (c.loop-domain.domain-index + 1)
-    c.args.domains.now))) (sym c.beside-kept.ensures) (kept_next c.args.domains.now
+    c.args.domains.now))) (sym c.join.ensures) (kept_next c.args.domains.now
     c.loop-domain.domain-index c.domain-item.result c.loop-domain.kept c.loop-domain-test.true
     c.domain-item.is c.requires.kept c.loop-domain.invariant)

@@ -1,0 +1,133 @@
+use Rattle.std.proofs.Common.{◌≡◌, ◌<◌, ◌≤◌, ◌-◌, ◌+◌, ◌∙◌, ℕ, List, ap, sym, length, get_or}
+use Rattle.std.proofs.Common.{arith, get_or-set_other, get_or-set_same, inl, inr, length-set}
+use Rattle.std.proofs.Math.ListN.{set}
+use Rattle.std.proofs.lemmas.Bool.{cases_eq}
+use Rattle.std.proofs.lemmas.List.{get_or_default, get_or-replicate}
+use Rattle.psci_board.specs.Board.{place_above}
+use Rattle.psci_tree.specs.declared.domain.Domain.{Domain, out-Domain}
+use Rattle.psci_tree.specs.Domains.{branches, domains_down}
+use Rattle.psci_tree.proofs.PathStands.{PathStep, path_step, at_top}
+use Rattle.psci_tree.proofs.descent.standings_on.Goals as goal
+
+pub loop-step-init : goal.loop-step-init
+loop-step-init c =
+    let levels : List (List ℕ) = c.args.board.now.levels in
+    let root : Domain = c.args.root.now in
+    let top : (k : ℕ) (d : Domain) → k ≡ length levels
+    → root ≡ get_or (domains_down (length levels - k) root)
+    (place_above levels k c.args.core.number) d =
+    λ k d e. sym (at_top root levels c.args.core.number k d c.requires.tree c.requires.core e) in
+    let lows : List ℕ = (out-Domain root).kept.lows in
+    let fits : (k : ℕ) → k ≤ length levels → k < 4 =
+    λ k h. omega (arith, h, c.requires.high) in
+    record {
+      lows-long = omega arith;
+      known-long = omega arith;
+      own = λ k d e. top k d (omega (arith, e));
+      lows = λ k d h i.
+          let e : k ≡ length levels = omega (arith, h, i) in
+          get_or-replicate 4 k (get_or lows c.height-height.result 0) 0 (fits k h)
+          ∙ ap (λ x. get_or lows x 0) (c.height-height.ensures.height ∙ sym e)
+          ∙ ap (λ x. get_or (out-Domain x).kept.lows k 0) (top k d e);
+      known = λ k d h i.
+          let e : k ≡ length levels = omega (arith, h, i) in
+          get_or-replicate 4 k (out-Domain root).kept.known 0 (fits k h)
+          ∙ ap (λ x. (out-Domain x).kept.known) (top k d e);
+    }
+
+pub index-own-requires : goal.index-own-requires
+index-own-requires c =
+    let levels : List (List ℕ) = c.args.board.now.levels in
+    let root : Domain = c.args.root.now in
+    let core : ℕ = c.args.core.number in
+    let m : ℕ = c.height-height.result - 1 - c.loop-step.step in
+    let j : ℕ = get_or c.args.way.now.numbers m 0 in
+    let meets : m + (c.loop-step.step + 1) ≡ length levels =
+    omega (arith, c.loop-step-test.true, c.height-height.ensures.height) in
+    let fits : m < length levels = omega (arith, meets) in
+    let down : PathStep root levels core m j = path_step root c.args.board.now core m j
+    c.requires.tree c.requires.shape c.requires.core fits (c.requires.way.numbers m fits) in
+    let parent : Domain = c.loop-step.own.now in
+    let at : parent ≡ get_or (domains_down (length levels - (m + 1)) root)
+    (place_above levels (m + 1) core) parent =
+    c.loop-step.invariant.own (m + 1) parent (omega (arith, meets)) in
+    let inside : j < length (branches parent) =
+    omega (arith, down.inside parent, ap (λ x. length (branches x)) at) in
+    omega (arith, inside, (out-Domain parent).children.ok.0)
+
+pub loop-step-preserved : goal.loop-step-preserved
+loop-step-preserved c =
+    let levels : List (List ℕ) = c.args.board.now.levels in
+    let root : Domain = c.args.root.now in
+    let core : ℕ = c.args.core.number in
+    let m : ℕ = c.height-height.result - 1 - c.loop-step.step in
+    let j : ℕ = get_or c.args.way.now.numbers m 0 in
+    let meets : m + (c.loop-step.step + 1) ≡ length levels =
+    omega (arith, c.loop-step-test.true, c.height-height.ensures.height) in
+    let fits : m < length levels = omega (arith, meets) in
+    let down : PathStep root levels core m j = path_step root c.args.board.now core m j
+    c.requires.tree c.requires.shape c.requires.core fits (c.requires.way.numbers m fits) in
+    let parent : Domain = c.loop-step.own.now in
+    let at : parent ≡ get_or (domains_down (length levels - (m + 1)) root)
+    (place_above levels (m + 1) core) parent =
+    c.loop-step.invariant.own (m + 1) parent (omega (arith, meets)) in
+    let inside : j < length (branches parent) =
+    omega (arith, down.inside parent, ap (λ x. length (branches x)) at) in
+    let own : Domain = c.index-own.result.now in
+    let here : (k : ℕ) (d : Domain) → k ≡ m
+    → own ≡ get_or (domains_down (length levels - k) root) (place_above levels k core) d =
+    λ k d same.
+    c.index-own.ensures
+    ∙ get_or_default (branches parent) j own d inside
+    ∙ ap (λ x. get_or (branches x) j d) at
+    ∙ down.is d parent
+    ∙ ap (λ x. get_or (domains_down (length levels - x) root) (place_above levels x core) d)
+    (sym same) in
+    let lows : List ℕ = c.loop-step.standings.lows in
+    let sums : List ℕ = c.loop-step.standings.known in
+    let low : ℕ = get_or (out-Domain own).kept.lows m 0 in
+    let sum : ℕ = (out-Domain own).kept.known in
+    record {
+      lows-long = length-set lows m low ∙ c.loop-step.invariant.lows-long;
+      known-long = length-set sums m sum ∙ c.loop-step.invariant.known-long;
+      own = λ k d e. here k d (omega (arith, e, meets));
+      lows = λ k d h i. elim (cases_eq k m) [
+        | inl e ↦
+            ap (λ x. get_or (set lows m low) x 0) e
+            ∙ get_or-set_same lows m low 0
+            (omega (arith, fits, c.loop-step.invariant.lows-long, c.requires.high))
+            ∙ ap (λ x. get_or (out-Domain own).kept.lows x 0) (sym e)
+            ∙ ap (λ x. get_or (out-Domain x).kept.lows k 0) (here k d e)
+        | inr ne ↦
+            get_or-set_other lows m k low 0 ne
+            ∙ c.loop-step.invariant.lows k d h (omega (arith, i, meets, ne))
+      ];
+      known = λ k d h i. elim (cases_eq k m) [
+        | inl e ↦
+            ap (λ x. get_or (set sums m sum) x 0) e
+            ∙ get_or-set_same sums m sum 0
+            (omega (arith, fits, c.loop-step.invariant.known-long, c.requires.high))
+            ∙ ap (λ x. (out-Domain x).kept.known) (here k d e)
+        | inr ne ↦
+            get_or-set_other sums m k sum 0 ne
+            ∙ c.loop-step.invariant.known k d h (omega (arith, i, meets, ne))
+      ];
+    }
+
+pub returns-clause-lows : goal.returns-clause-lows
+returns-clause-lows c = λ k d h.
+    c.loop-step.invariant.lows k d (omega (arith, h)) (omega (
+      arith,
+      c.loop-step-test.false,
+      c.loop-step.auto.step-end,
+      c.height-height.ensures.height,
+    ))
+
+pub returns-clause-known : goal.returns-clause-known
+returns-clause-known c = λ k d h.
+    c.loop-step.invariant.known k d (omega (arith, h)) (omega (
+      arith,
+      c.loop-step-test.false,
+      c.loop-step.auto.step-end,
+      c.height-height.ensures.height,
+    ))

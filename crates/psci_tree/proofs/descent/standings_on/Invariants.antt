@@ -1,0 +1,23 @@
+-- The domain so far is the one on the core's path, so many levels down, and how those from it up
+-- stand is written.
+use Rattle.std.proofs.Common.{◌≡◌, ◌≤◌, ◌+◌, ◌-◌, ℕ, length, get_or}
+use Rattle.psci_board.specs.Board.{place_above}
+use Rattle.psci_tree.specs.declared.domain.Domain.{Domain}
+use Rattle.psci_tree.specs.Domains.{domains_down}
+use Rattle.psci_tree.specs.Standing.{kept_on_path}
+use Rattle.psci_tree.proofs.descent.standings_on.Given as goal
+
+abbrev pub invariant-loop-step : goal.invariant-loop-step
+invariant-loop-step l =
+    let levels = l.board.levels in
+    let core = l.fn.core.number in
+    record {
+      lows-long : length l.standings.lows ≡ 4;
+      known-long : length l.standings.known ≡ 4;
+      own : (k : ℕ) (d : Domain) → k + l.step ≡ length levels
+          → l.own ≡ get_or (domains_down (length levels - k) l.root) (place_above levels k core) d;
+      lows : (k : ℕ) (d : Domain) → k ≤ length levels → length levels ≤ k + l.step
+          → get_or l.standings.lows k 0 ≡ get_or (kept_on_path l.root levels core k d).lows k 0;
+      known : (k : ℕ) (d : Domain) → k ≤ length levels → length levels ≤ k + l.step
+          → get_or l.standings.known k 0 ≡ (kept_on_path l.root levels core k d).known;
+    }
