@@ -19,8 +19,8 @@ returns c =
     omega (arith, c.requires.place, ap length same) in
     let read : c.index_mut.result.now ≡ counts_at kept c.args.node.level place =
     c.index_mut.ensures.value
-    ∙ get_or_default (get_or c.args.counts.now level row).items place c.index_mut.result.now no_cores
-    inside
+    ∙ get_or_default (get_or c.args.counts.now level row).items place c.index_mut.result.now
+    no_cores inside
     ∙ ap (λ (r : List StatusCounts). get_or r place no_cores) (sym same) in
     map-set (λ v. v.items) c.args.counts.now level
     (with_item (get_or c.args.counts.now level row) place c.recount.new.self)

@@ -17,7 +17,8 @@ use contract.Monad.{Fun, fact}
 use contract.Running.{tables, tables_of}
 use sound.WpLaws.{WpFn-mono}
 use types.Kit.{‵, raw, ◌⊛◌, some, at_ret, ◌$◌, ◌∵◌, !, qed, by, move, keep, use1, drop, split, join}
-use types.Kit.{pick, rewrite, fsplit, fsplit3, fjoin, suffices, frame, done, later, await, group, fpack}
+use types.Kit.{pick, rewrite, fsplit, fsplit3, fjoin, suffices}
+use types.Kit.{frame, done, later, await, group, fpack}
 use types.Part.{whole, sub, look_in}
 use types.Run.{stop, fld, load, of_opd, first, blocks, exec, returns, enter, addr}
 use types.ByLocal.{alloc_all, pass_all, free_all, look_at, get, through, sets, env, sets_last}
