@@ -21,4 +21,5 @@ mod ReaderRows
 mod StopRows
 pub mod Switching
 pub mod Taking
+pub mod Telling
 mod WrittenRows

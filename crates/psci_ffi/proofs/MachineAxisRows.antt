@@ -4,6 +4,7 @@
 use Rattle.std.proofs.Common.{◌≡◌, ◌∙◌, ℕ, Bool, List, [], ◌∷◌, ◌++◌, map, true, false, refl, ap}
 use Rattle.std.proofs.Common.{replicate, arith}
 use Rattle.std.specs.Prelude.{Result, Ok, Err, None, Some}
+use Rattle.psci_abi.specs.declared.code.Code.{Code}
 use Rattle.psci_abi.specs.declared.registers.Regs.{Regs}
 use Rattle.psci_abi.specs.psci_format.declared.format.Format.TheVariants.{Original}
 use Rattle.psci_board.specs.Board.{BoardValue}
@@ -12,6 +13,7 @@ use Rattle.psci_board.specs.declared.fault.BoardFault.TheVariants as boards
 use Rattle.psci_fw.specs.Seen.{seen}
 use Rattle.psci_fw_spec.specs.declared.call.FwCall.TheVariants.{Smc}
 use Rattle.psci_fw_spec.specs.declared.mode.SuspendMode.TheVariants as modes
+use Rattle.psci_fw_spec.specs.declared.outcome.Act.TheVariants.{Return}
 use Rattle.psci_platform.specs.declared.asked.Asked.TheVariants as asks
 use Rattle.psci_platform.specs.declared.class.Class.{Class}
 use Rattle.psci_platform.specs.declared.class.Class.TheVariants.{Running, Standby, Retention}
@@ -25,11 +27,12 @@ use Rattle.psci_ffi.specs.declared.machine_fault.MachineFault.{MachineFault}
 use Rattle.psci_ffi.specs.declared.machine_fault.MachineFault.TheVariants.{Board, Room}
 use Rattle.psci_ffi.specs.declared.machine_given.GivenMachine.{GivenMachine}
 use Rattle.psci_ffi.specs.declared.machine_given.GivenRow.{GivenRow}
-use Rattle.psci_ffi.specs.MachineCalls.{IsMade, OpensMachine, asked_in, asked_shown, called_in}
-use Rattle.psci_ffi.specs.MachineCalls.{core_read, mpidr_read, place_read, regs_given, regs_in}
-use Rattle.psci_ffi.specs.MachineCalls.{told_in}
+use Rattle.psci_ffi.specs.MachineCalls.{IsMade, IsToldBy, OpensMachine, asked_in, asked_shown}
+use Rattle.psci_ffi.specs.MachineCalls.{called_in, core_read, mpidr_read, place_read, regs_given}
+use Rattle.psci_ffi.specs.MachineCalls.{regs_in, told_in}
 use Rattle.psci_ffi.specs.MachineSlot.{IsFull, KeptMachine}
 use Rattle.psci_ffi.specs.Machines.{machine_on}
+use Rattle.psci_ffi.specs.Shown.{act_shown, answered, no_frame, shown}
 
 -- A machine -------------------------------------------------------------------------------------
 
@@ -149,6 +152,14 @@ told_in_its_mode p mode =
 -- without a firmware the call is as it came
 called_of_nothing : called_in kept None (regs 0xC4000003 0x100) ≡ Smc (regs 0xC4000003 0x100)
 called_of_nothing = refl
+
+-- a code that is told is the answer, and without a firmware none is
+told_is_answered : (p : PolledView) (code : Code) → IsToldBy (Some p) 0 (regs 0x84000000 0) code
+    → answered (Some p) 0 (Some (Smc (regs 0x84000000 0))) ≡ act_shown (Return code) no_frame
+told_is_answered p code told = ap shown told.answer
+
+nothing_tells : (code : Code) → IsToldBy None 0 (regs 0x84000000 0) code → ⊥
+nothing_tells code told = told
 
 -- Opening ---------------------------------------------------------------------------------------
 

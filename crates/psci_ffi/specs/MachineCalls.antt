@@ -1,6 +1,7 @@
 -- What C is told of a machine, and what a call in its words is to the firmware.
 use Rattle.std.specs.Prelude.{◌≡◌, ℕ, ◌^◌, ◌-◌, [], ◌∷◌, None, Some, Result, Ok, Err, IsOk}
 use Rattle.std.specs.Prelude.{slice_get, unwrap_or}
+use Rattle.psci_abi.specs.declared.code.Code.{Code}
 use Rattle.psci_abi.specs.declared.registers.Regs.{Regs}
 use Rattle.psci_board.specs.Board.{BoardValue}
 use Rattle.psci_board.specs.declared.fault.BoardFault.{BoardFault}
@@ -22,7 +23,7 @@ use Rattle.psci_ffi.specs.declared.machine_fault.MachineFault.TheVariants.{Board
 use Rattle.psci_ffi.specs.declared.machine_given.GivenMachine.{GivenMachine}
 use Rattle.psci_ffi.specs.MachineSlot.{KeptMachine}
 use Rattle.psci_ffi.specs.Machines.{machine_by}
-use Rattle.psci_ffi.specs.Shown.{IsAfter, IsSameRefused, answered}
+use Rattle.psci_ffi.specs.Shown.{IsAfter, IsSameRefused, IsTold, answered}
 use Rattle.psci_ffi.specs.Slot.{Kept}
 use Rattle.psci_ffi.specs.declared.answer.Answer.{Answer}
 
@@ -93,6 +94,11 @@ pub record IsCalledIn (machine : KeptMachine) (place : Kept) (core : ℕ) (regs 
   pub after : IsAfter place core (Some (called_in machine place regs)) left
   pub refused : IsSameRefused place core (Some (called_in machine place regs)) left
   pub asked : told ≡ told_in machine place regs
+
+-- the firmware in a place answers these registers this code, and nothing changes
+abbrev pub IsToldBy : Kept → ℕ → Regs → Code → Type 0
+IsToldBy None core regs code = ⊥
+IsToldBy (Some f) core regs code = IsTold f core regs code
 
 -- Names ----------------------------------------------------------------------------------------
 

@@ -1,6 +1,8 @@
 -- What C is told, and what a call leaves in a place.
 use Rattle.std.specs.Prelude.{◌≡◌, ℕ, true, false, pos, Option, None, Some}
 use Rattle.std.specs.Prelude.{[], ◌∷◌, Result, Ok, Err, IsOk, IsSomeAnd, option_map, replicate}
+use Rattle.psci_abi.specs.declared.code.Code.{Code}
+use Rattle.psci_abi.specs.declared.registers.Regs.{Regs}
 use Rattle.psci_board.specs.Board.{BoardValue, cores}
 use Rattle.psci_board.specs.declared.fault.BoardFault.{BoardFault}
 use Rattle.psci_board.specs.declared.fault.BoardFault.TheVariants.{Memory}
@@ -15,6 +17,7 @@ use Rattle.psci_fw_spec.specs.declared.status.Status.TheVariants.{Off}
 use Rattle.psci_fw_spec.specs.After.{after}
 use Rattle.psci_fw_spec.specs.Answer.{answer}
 use Rattle.psci_fw_spec.specs.Lives.{start_of_life}
+use Rattle.psci_fw_spec.specs.Outcomes.{returns}
 use Rattle.psci_link.specs.declared.frame.Frame.TheVariants.{Message}
 use Rattle.psci_link.specs.Frame.{frame_bytes}
 use Rattle.psci_messages.specs.Message.{MessageValue}
@@ -80,6 +83,11 @@ pub record IsNext (f : PolledView) (c : ℕ) (call : FwCall) (g : PolledView) : 
       (answer f.firmware.board (seen f.firmware) c call) (seen f.firmware)
   pub table : g.table ≡ f.table
   pub written : IsWrittenFrom f g
+
+-- a call of these registers is answered this code, and changes nothing
+pub record IsTold (f : PolledView) (c : ℕ) (regs : Regs) (code : Code) : Type 0 where
+  pub answer : answer f.firmware.board (seen f.firmware) c (calls.Smc regs) ≡ Out (returns code)
+  pub next : IsNext f c (calls.Smc regs) f
 
 -- what a call leaves in a place
 abbrev pub IsAfter : Kept → ℕ → Option FwCall → Kept → Type 0

@@ -3,12 +3,13 @@
 ghost use Rattle.std.specs.Prelude.{◌≡◌, option_map};
 ghost use Rattle.psci_fw.specs.Reactions.{reply_in};
 ghost use Rattle.psci_fw.specs.Seen.{seen};
+ghost use Rattle.psci_fw_spec.specs.declared.outcome.Act.TheVariants.{Return};
 ghost use Rattle.psci_messages.specs.Message.{MessageValue};
 ghost use Rattle.psci_ffi.specs.Shown.{act_shown, frame_shown, no_frame, plain, refused, shown};
 
 use crate::codes::refusal;
 use crate::held::Held;
-use psci_fw::{Act, FwFault, Reaction};
+use psci_fw::{Act, Code, FwFault, Reaction};
 use psci_link::{FRAME_LEN, Frame, encode, write_message};
 use psci_messages::Message;
 use std::mem::size_of;
@@ -73,6 +74,20 @@ pub fn refused(what: u32) -> Answer
     ensures { result ≡ refused what }
 {
     plain(what, no_frame())
+}
+
+/// The caller goes on with this code, and nothing is sent.
+#[inline(always)]
+pub fn returned(code: Code) -> Answer
+    ensures { result ≡ act_shown (Return code) no_frame }
+{
+    Answer {
+        what: 0,
+        code: code.0,
+        address: 0,
+        context: 0,
+        message: no_frame(),
+    }
 }
 
 /// An answer without numbers.

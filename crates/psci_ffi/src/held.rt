@@ -2,7 +2,7 @@
 
 use crate::common::{Common, share};
 use psci_board::{Board, Core, Memory, Node};
-use psci_fw::{Cause, FwFault, Hw, Reaction, Regs, Start, Status, SuspendMode, Taken};
+use psci_fw::{Cause, Code, FwFault, Hw, Reaction, Regs, Start, Status, SuspendMode, Taken};
 use psci_link::{Heading, ack_in, heading_on};
 use psci_messages::{Ack, Message};
 use psci_polled::{PolledFirmware, Reader};
@@ -32,7 +32,7 @@ impl Model for Held {
         × (table (arc_value h.common).words ≡ h.polled.table) };
 }
 
-ghost use Rattle.std.specs.Prelude.{◌≡◌, ℕ, IfOk, OnErr, option_map};
+ghost use Rattle.std.specs.Prelude.{◌≡◌, ℕ, IfOk, IfSome, OnErr, option_map};
 ghost use Rattle.psci_fw.specs.Reactions.{reply_in, sent_from};
 ghost use Rattle.psci_fw.specs.Seen.{hw_shown, life_shown, seen, status_shown};
 ghost use Rattle.psci_fw_spec.specs.After.{after};
@@ -46,7 +46,7 @@ ghost use Rattle.psci_polled.specs.Polled.{IsWrittenFrom};
 ghost use Rattle.psci_status.specs.Seats.{table, table_of_reader, seen as seen_by};
 ghost use Rattle.psci_status.specs.Lists.{newest};
 ghost use Rattle.psci_ffi.specs.Frames.{IsAcknowledged, IsFaulty, IsMisplaced};
-ghost use Rattle.psci_ffi.specs.Shown.{IsNew, IsNext};
+ghost use Rattle.psci_ffi.specs.Shown.{IsNew, IsNext, IsTold};
 ghost use Rattle.psci_ffi.specs.Watching.{IsWatchOf};
 
 use crate::codes::{NOT_AN_ACK, frame_code, taken_code};
@@ -91,6 +91,14 @@ impl Held {
     {
         let Held { common, polled } = self;
         polled.smc_in_slot(&common.words, core, regs)
+    }
+
+    /// `Firmware::code_at_once`.
+    #[inline(always)]
+    pub fn code_at_once(&self, core: Core, regs: Regs) -> Option<Code>
+        ensures { IfSome result (IsTold self.now core.number regs) }
+    {
+        self.polled.code_at_once(core, regs)
     }
 
     /// `Firmware::enter_in_slot`.

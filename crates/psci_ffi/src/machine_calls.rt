@@ -1,23 +1,23 @@
-//! The calls of the cores in the words of a machine, and its names for cores and domains.
+//! The calls of the cores in the words of a machine.
 
 ghost use Rattle.std.specs.Prelude.{◌≡◌, IfSome, Some, option_map};
 ghost use Rattle.psci_fw_spec.specs.declared.mode.SuspendMode.{SuspendMode};
+ghost use Rattle.psci_fw_spec.specs.declared.outcome.Act.TheVariants.{Return};
 ghost use Rattle.psci_fw.specs.Seen.{seen};
-ghost use Rattle.psci_ffi.specs.MachineCalls.{IsCalledIn, asked_in, asked_shown, called_in};
-ghost use Rattle.psci_ffi.specs.MachineCalls.{core_read};
-ghost use Rattle.psci_ffi.specs.MachineCalls.{mpidr_read, place_read, regs_given};
-ghost use Rattle.psci_ffi.specs.MachineCalls.{regs_in, told_in};
+ghost use Rattle.psci_ffi.specs.MachineCalls.{IsCalledIn, IsToldBy, asked_in, asked_shown};
+ghost use Rattle.psci_ffi.specs.MachineCalls.{called_in, nothing_asked, regs_given, regs_in};
+ghost use Rattle.psci_ffi.specs.MachineCalls.{told_in};
 ghost use Rattle.psci_platform.specs.declared.asked.Asked.TheVariants.{Nothing};
-ghost use Rattle.psci_ffi.specs.Shown.{IsAfter, IsSameRefused, answered};
+ghost use Rattle.psci_ffi.specs.Shown.{IsAfter, IsSameRefused, act_shown, answered, no_frame};
 
-use crate::answer::{Answer, refused};
+use crate::answer::{Answer, refused, returned};
 use crate::calls::psci_smc;
 use crate::codes::NO_FIRMWARE;
 use crate::machine_place::MachinePlace;
 use crate::place::Place;
-use psci_abi::words::CPU_SUSPEND_32;
-use psci_board::{Core, Node};
-use psci_fw::Regs;
+use psci_abi::words::{AFFINITY_INFO_32, CPU_SUSPEND_32};
+use psci_board::Core;
+use psci_fw::{Code, Regs};
 use psci_platform::{Asked, Call, SuspendMode, is_same_everywhere};
 use std::alloc::Global;
 use std::mem::size_of;
@@ -67,13 +67,16 @@ pub extern "C" fn psci_smc_machine(
         (regs_given x0 x1 x2 x3) }
     ensures machine { machine.new.slot.kept ≡ machine.old.slot.kept }
 {
-    if is_same_everywhere(&Regs { x0, x1, x2, x3 }) {
-        *asked = asked_shown(Asked::Nothing);
-        psci_smc(alloc, place, core, x0, x1, x2, x3, answer);
-    } else if names_state(x0) {
+    if names_state(x0) {
         smc_in_mode(alloc, place, machine, core, x0, x1, x2, x3, answer, asked);
-    } else {
-        smc_at_once(alloc, place, machine, core, x0, x1, x2, x3, answer, asked);
+        return;
+    }
+    match told_at_once(alloc, place, machine, core, Regs { x0, x1, x2, x3 }) {
+        Some(code) => {
+            *asked = asked_shown(Asked::Nothing);
+            *answer = returned(code);
+        }
+        None => smc_at_once(alloc, place, machine, core, x0, x1, x2, x3, answer, asked),
     }
 }
 
@@ -82,8 +85,62 @@ fn names_state(x0: u64) -> bool {
     x0 & 0xbfff_ffff == u64::from(CPU_SUSPEND_32)
 }
 
-/// A call whose registers can be said at once, most likely. It has a frame of its own, so that a
-/// call that is the same everywhere has none.
+/// The code that a call is answered which changes nothing and is told at once.
+#[inline(always)]
+fn told_at_once(
+    alloc: Global,
+    place: &mut Place,
+    machine: &mut MachinePlace,
+    core: u16,
+    regs: Regs,
+) -> Option<Code>
+    ensures told { IfSome result (λ code. IsCalledIn machine.old.slot.kept place.old.slot.kept core
+        regs (act_shown (Return code) no_frame) nothing_asked place.old.slot.kept) }
+    ensures place { place.new.slot.kept ≡ place.old.slot.kept }
+    ensures machine { machine.new.slot.kept ≡ machine.old.slot.kept }
+{
+    let regs = asks_at_once(alloc, machine, regs)?;
+    code_of(alloc, place, core, regs)
+}
+
+/// The registers of the firmware's call, where it may be one that is told at once.
+#[inline(always)]
+fn asks_at_once(alloc: Global, place: &mut MachinePlace, regs: Regs) -> Option<Regs>
+    ensures regs { IfSome result (λ r. (mode : SuspendMode)
+        → r ≡ regs_in place.old.slot.kept mode regs) }
+    ensures asked { IfSome result (λ _. (mode : SuspendMode)
+        → asked_in place.old.slot.kept mode regs ≡ Nothing) }
+    ensures same { place.new.slot.kept ≡ place.old.slot.kept }
+{
+    if is_same_everywhere(&regs) {
+        return Some(regs);
+    }
+    if !names_node(regs.x0) {
+        return None;
+    }
+    at_once(alloc, place, regs)
+}
+
+/// Whether a function word is that of AFFINITY_INFO.
+fn names_node(x0: u64) -> bool {
+    x0 & 0xbfff_ffff == u64::from(AFFINITY_INFO_32)
+}
+
+/// The code that the firmware in a place answers a call which changes nothing, if it can be told
+/// at once.
+#[inline(always)]
+fn code_of(alloc: Global, place: &mut Place, core: u16, regs: Regs) -> Option<Code>
+    ensures code { IfSome result (IsToldBy place.old.slot.kept core regs) }
+    ensures same { place.new.slot.kept ≡ place.old.slot.kept }
+{
+    let held = place.take(alloc)?;
+    let code = held.code_at_once(Core { number: core }, regs);
+    place.put(held);
+    code
+}
+
+/// A call that is not told at once, whose registers can be said at once, most likely. It has a frame
+/// of its own, so that a call which is told has none.
 #[inline(never)]
 fn smc_at_once(
     alloc: Global,
@@ -206,68 +263,4 @@ fn asked_shown(asked: Asked) -> MachineAsked
             reset,
         },
     }
-}
-
-/// The number of the core with this MPIDR, as the firmware's calls have it; 0xffff where the
-/// machine has none, and where the place is empty.
-#[unsafe(no_mangle)]
-pub extern "C" fn psci_core_of(alloc: Global, machine: &mut MachinePlace, mpidr: u64) -> u16
-    ensures core { result ≡ core_read machine.old.slot.kept mpidr }
-    ensures same { machine.new.slot.kept ≡ machine.old.slot.kept }
-{
-    let Some(kept) = machine.take(alloc) else {
-        return NO_CORE_OF;
-    };
-    let core = kept.core(mpidr);
-    machine.put(kept);
-    match core {
-        Some(core) => core.number,
-        None => NO_CORE_OF,
-    }
-}
-
-/// The number of no core.
-const NO_CORE_OF: u16 = 0xffff;
-
-/// The MPIDR of a core that a message names; all ones where the machine has no such core, and where
-/// the place is empty.
-#[unsafe(no_mangle)]
-pub extern "C" fn psci_mpidr_of(alloc: Global, machine: &mut MachinePlace, core: u16) -> u64
-    ensures mpidr { result ≡ mpidr_read machine.old.slot.kept core }
-    ensures same { machine.new.slot.kept ≡ machine.old.slot.kept }
-{
-    let Some(kept) = machine.take(alloc) else {
-        return NO_MPIDR;
-    };
-    let mpidr = kept.mpidr(Core { number: core });
-    machine.put(kept);
-    mpidr.unwrap_or(NO_MPIDR)
-}
-
-/// The MPIDR of no core.
-const NO_MPIDR: u64 = u64::MAX;
-
-/// Which core (level 0) or power domain of the tree, in its order from left to right, one of the
-/// firmware is, and which of the firmware's one of the tree is. Where the first core boots, and in
-/// an empty place, each is the same.
-#[unsafe(no_mangle)]
-pub extern "C" fn psci_place_of(
-    alloc: Global,
-    machine: &mut MachinePlace,
-    level: u32,
-    index: u16,
-) -> u16
-    ensures place { result
-        ≡ place_read machine.old.slot.kept (record { level = level; place = index }) }
-    ensures same { machine.new.slot.kept ≡ machine.old.slot.kept }
-{
-    let Some(kept) = machine.take(alloc) else {
-        return index;
-    };
-    let node = kept.place(Node {
-        level,
-        place: index,
-    });
-    machine.put(kept);
-    node.place
 }

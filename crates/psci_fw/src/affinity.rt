@@ -9,6 +9,7 @@ use psci_fw_state::State;
 
 /// AFFINITY_INFO (DEN0022D): the status of the core or power domain that `target` names at the
 /// level.
+#[inline(always)]
 pub fn affinity_info(state: &State, target: u64, level: u32) -> Code
     ensures { result ≡ affinity_info state.now.board (values_in state.now) target level }
 {

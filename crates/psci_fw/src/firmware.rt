@@ -11,7 +11,7 @@ use std::marker::Model;
 /// The power firmware of one board. Contracts see its state: the board, and what is kept.
 #[derive(Drop)]
 pub struct Firmware {
-    state: Box<State>,
+    pub(crate) state: Box<State>,
 }
 
 impl Model for Firmware {

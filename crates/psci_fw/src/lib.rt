@@ -8,6 +8,7 @@
 #![tactic(auto)]
 
 mod affinity;
+mod asking;
 mod entering;
 mod firmware;
 mod hw;

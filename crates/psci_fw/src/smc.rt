@@ -1,12 +1,14 @@
 //! The functions that a running core calls.
 
-ghost use Rattle.std.specs.Prelude.{◌≡◌, ◌<◌};
+ghost use Rattle.std.specs.Prelude.{◌≡◌, ◌<◌, IfSome};
 ghost use Rattle.psci_abi.specs.Calls.{features_of, request_of};
 ghost use Rattle.psci_board.specs.Board.{IsBoard, cores};
+ghost use Rattle.psci_fw_spec.specs.AffinityInfo.{affinity_info};
 ghost use Rattle.psci_fw_spec.specs.After.{change};
 ghost use Rattle.psci_fw_spec.specs.Calls.{outcome_of};
 ghost use Rattle.psci_fw_spec.specs.Effects.{function_effect};
 ghost use Rattle.psci_fw_spec.specs.Invariant.{AreValues};
+ghost use Rattle.psci_fw_spec.specs.Outcomes.{returns};
 ghost use Rattle.psci_fw_spec.specs.Phases.{Running};
 ghost use Rattle.psci_fw.specs.Calls.{FunctionAnswered, MayCall};
 ghost use Rattle.psci_fw.specs.Reactions.{IsInItsSlot, outcome_in};
@@ -52,6 +54,29 @@ pub fn dispatch<A>(state: &mut State, caller: Core, regs: Regs) -> Reaction
         return Reaction::stops();
     }
     function::<A>(state, caller, read(regs))
+}
+
+/// AFFINITY_INFO, with a frame of its own, so that what else is told at once has none.
+#[inline(never)]
+fn affinity_apart(state: &State, target: u64, level: u32) -> Code
+    ensures { result ≡ affinity_info state.now.board (values_in state.now) target level }
+{
+    affinity_info(state, target, level)
+}
+
+/// The code of a function that only asks something; None of another.
+#[inline(always)]
+pub fn code_at_once(state: &State, caller: Core, request: Request) -> Option<Code>
+    requires { MayCall state.now caller.number }
+    ensures { IfSome result (λ code. FunctionAnswered state.now.board (values_in state.now)
+        caller.number request (returns code) (values_in state.now)) }
+{
+    match request {
+        Request::Version => Some(VERSION),
+        Request::MigrateInfoType => Some(NO_MIGRATION),
+        Request::AffinityInfo { target, level } => Some(affinity_apart(state, target, level)),
+        _ => None,
+    }
 }
 
 /// What a function answers.

@@ -1,7 +1,7 @@
 //! The firmware with the writer of its status words.
 
 use psci_board::{Board, Core, Memory};
-use psci_fw::{Firmware, FwFault, Outcome, Reaction, Regs, Start, Taken, law_values};
+use psci_fw::{Code, Firmware, FwFault, Outcome, Reaction, Regs, Start, Taken, law_values};
 use psci_fw_spec::law_caller;
 use psci_messages::Ack;
 use psci_status::{Reader, StatusWords, Writer};
@@ -33,8 +33,9 @@ impl Model for PolledFirmware {
         IsPolled p.firmware (table_of_writer p.writer) (written p.writer) p.cores };
 }
 
-ghost use Rattle.std.specs.Prelude.{◌≡◌, ◌<◌, ℕ, List, [], ◌∷◌, replicate, map, IfOk, OnErr};
+ghost use Rattle.std.specs.Prelude.{◌≡◌, ◌<◌, ℕ, List, [], ◌∷◌, replicate, map, IfOk, IfSome, OnErr};
 ghost use Rattle.psci_board.specs.Board.{cores};
+ghost use Rattle.psci_fw.specs.Calls.{IsReturned};
 ghost use Rattle.psci_fw.specs.Reactions.{IsInItsSlot, reply_in};
 ghost use Rattle.psci_fw.specs.Seen.{seen};
 ghost use Rattle.psci_fw_spec.specs.declared.call.FwCall.TheVariants as calls;
@@ -123,6 +124,15 @@ impl PolledFirmware {
         let asked = asked_in(&reaction);
         write_one(words, writer, firmware, asked, *cores);
         Ok(reaction)
+    }
+
+    /// `Firmware::code_at_once`: nothing changes, so nothing is written.
+    #[inline(always)]
+    pub fn code_at_once(&self, core: Core, regs: Regs) -> Option<Code>
+        ensures code { IfSome result (IsReturned self.now.firmware core.number regs) }
+        ensures written { IsWrittenFrom self.now self.now }
+    {
+        self.firmware.code_at_once(core, regs)
     }
 
     /// `Firmware::enter`, and what it changed is written.

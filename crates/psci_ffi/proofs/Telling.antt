@@ -1,0 +1,50 @@
+-- Calls that are told at once.
+use Rattle.std.proofs.Common.{◌≡◌, ◌∙◌, ℕ, Some, None, ap, refl, subst, sym}
+use Rattle.psci_abi.specs.declared.code.Code.{Code}
+use Rattle.psci_abi.specs.declared.registers.Regs.{Regs}
+use Rattle.psci_fw.specs.Calls.{IsReturned}
+use Rattle.psci_fw.specs.Seen.{seen}
+use Rattle.psci_fw_spec.specs.declared.call.FwCall.TheVariants.{Smc}
+use Rattle.psci_fw_spec.specs.declared.mode.SuspendMode.{SuspendMode}
+use Rattle.psci_fw_spec.specs.declared.outcome.Act.TheVariants.{Return}
+use Rattle.psci_fw_spec.specs.declared.reply.FwReply.{FwReply}
+use Rattle.psci_fw_spec.specs.After.{after}
+use Rattle.psci_fw_spec.specs.Answer.{answer}
+use Rattle.psci_platform.specs.declared.asked.Asked.TheVariants.{Nothing}
+use Rattle.psci_polled.specs.Polled.{IsWrittenFrom, PolledView}
+use Rattle.psci_ffi.specs.MachineCalls.{IsCalledIn, IsToldBy, asked_in, asked_shown, nothing_asked}
+use Rattle.psci_ffi.specs.MachineCalls.{regs_in}
+use Rattle.psci_ffi.specs.MachineSlot.{KeptMachine}
+use Rattle.psci_ffi.specs.Shown.{IsNext, IsSameIf, IsTold, act_shown, no_frame, shown}
+use Rattle.psci_ffi.specs.Slot.{Kept}
+
+-- a firmware that returns a code tells it
+pub tells : (f : PolledView) (c : ℕ) (regs : Regs) (code : Code) → IsReturned f.firmware c regs code
+    → IsWrittenFrom f f → IsTold f c regs code
+tells f c regs code returned same = record {
+  answer = returned.answer;
+  next = record {
+    board = refl;
+    values = sym (ap (λ (x : FwReply). after f.firmware.board c (Smc regs) x (seen f.firmware))
+        returned.answer ∙ returned.after);
+    table = refl;
+    written = same;
+  };
+}
+
+-- what is told is what a call in the words of a machine comes to
+pub told_so : (machine : KeptMachine) (place : Kept) (core : ℕ) (regs r : Regs) (code : Code)
+    → ((mode : SuspendMode) → r ≡ regs_in machine mode regs)
+    → ((mode : SuspendMode) → asked_in machine mode regs ≡ Nothing) → IsToldBy place core r code
+    → IsCalledIn machine place core regs (act_shown (Return code) no_frame) nothing_asked place
+told_so machine None core regs r code is asks told = absurd told
+told_so machine (Some f) core regs r code is asks told =
+    let mode = (seen f.firmware).mode in
+    let answers : Regs → FwReply = λ x. answer f.firmware.board (seen f.firmware) core (Smc x) in
+    let said = sym (ap answers (is mode)) ∙ told.answer in
+    record {
+      answer = sym (ap shown said);
+      after = subst (λ (x : Regs). IsNext f core (Smc x) f) (is mode) told.next;
+      refused = subst (λ (x : FwReply). IsSameIf x (Some f) (Some f)) (sym said) tt;
+      asked = sym (ap asked_shown (asks mode));
+    }
