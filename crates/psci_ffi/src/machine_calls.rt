@@ -139,8 +139,8 @@ fn code_of(alloc: Global, place: &mut Place, core: u16, regs: Regs) -> Option<Co
     code
 }
 
-/// A call that is not told at once, whose registers can be said at once, most likely. It has a frame
-/// of its own, so that a call which is told has none.
+/// A call that is not told at once, whose registers can be said at once, most likely. It has a
+/// frame of its own, so that a call which is told has none.
 #[inline(never)]
 fn smc_at_once(
     alloc: Global,

@@ -244,8 +244,8 @@ halting_life_returned h = let e : false ≡ true = ap goes_on_then h.answer in a
 off_core_returned : IsReturned (firmware 2) 3 (regs 0x84000000 0) (code 0x10001) → ⊥
 unfolding answer values_in
 off_core_returned h =
-    let e : ◌≡◌ {A = FwReply} (replies.Fault faults.NotRunning) (replies.Out (returns (code 0x10001)))
-    = h.answer in
+    let e : ◌≡◌ {A = FwReply} (replies.Fault faults.NotRunning)
+    (replies.Out (returns (code 0x10001))) = h.answer in
     absurd (cc)
 
 -- Messages for the system -------------------------------------------------------------------------

@@ -33,7 +33,8 @@ impl Model for PolledFirmware {
         IsPolled p.firmware (table_of_writer p.writer) (written p.writer) p.cores };
 }
 
-ghost use Rattle.std.specs.Prelude.{◌≡◌, ◌<◌, ℕ, List, [], ◌∷◌, replicate, map, IfOk, IfSome, OnErr};
+ghost use Rattle.std.specs.Prelude.{◌≡◌, ◌<◌, ℕ, List, [], ◌∷◌, replicate, map};
+ghost use Rattle.std.specs.Prelude.{IfOk, IfSome, OnErr};
 ghost use Rattle.psci_board.specs.Board.{cores};
 ghost use Rattle.psci_fw.specs.Calls.{IsReturned};
 ghost use Rattle.psci_fw.specs.Reactions.{IsInItsSlot, reply_in};
