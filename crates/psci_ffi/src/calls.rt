@@ -11,12 +11,10 @@ use crate::codes::{NO_CAUSE, NO_FIRMWARE, cause_of};
 use crate::place::Place;
 use psci_board::Core;
 use psci_fw::{Regs, Start};
-use std::alloc::Global;
 
 /// A secure monitor call of a core with these registers.
 #[unsafe(no_mangle)]
 pub extern "C" fn psci_smc(
-    _alloc: Global,
     place: &mut Place,
     core: u16,
     x0: u64,

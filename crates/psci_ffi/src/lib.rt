@@ -32,6 +32,7 @@ mod lending;
 mod machine_calls;
 mod machine_fault;
 mod machine_given;
+mod machine_lending;
 mod machine_names;
 mod machine_opening;
 mod machine_place;

@@ -19,7 +19,6 @@ use psci_abi::words::{AFFINITY_INFO_32, CPU_SUSPEND_32};
 use psci_board::Core;
 use psci_fw::{Code, Regs};
 use psci_platform::{Asked, Call, SuspendMode, is_same_everywhere};
-use std::alloc::Global;
 use std::mem::size_of;
 
 /// What a call asks beside what the firmware is told.
@@ -43,7 +42,6 @@ const _: () = prove!(size_of::<MachineAsked>() == 12);
 /// asked for. An empty place of a machine has the words of the board.
 #[unsafe(no_mangle)]
 pub extern "C" fn psci_smc_machine(
-    alloc: Global,
     place: &mut Place,
     machine: &mut MachinePlace,
     core: u16,
@@ -68,15 +66,15 @@ pub extern "C" fn psci_smc_machine(
     ensures machine { machine.new.slot.kept ≡ machine.old.slot.kept }
 {
     if names_state(x0) {
-        smc_in_mode(alloc, place, machine, core, x0, x1, x2, x3, answer, asked);
+        smc_in_mode(place, machine, core, x0, x1, x2, x3, answer, asked);
         return;
     }
-    match told_at_once(alloc, place, machine, core, Regs { x0, x1, x2, x3 }) {
+    match told_at_once(place, machine, core, Regs { x0, x1, x2, x3 }) {
         Some(code) => {
             *asked = asked_shown(Asked::Nothing);
             *answer = returned(code);
         }
-        None => smc_at_once(alloc, place, machine, core, x0, x1, x2, x3, answer, asked),
+        None => smc_at_once(place, machine, core, x0, x1, x2, x3, answer, asked),
     }
 }
 
@@ -88,7 +86,6 @@ fn names_state(x0: u64) -> bool {
 /// The code that a call is answered which changes nothing and is told at once.
 #[inline(always)]
 fn told_at_once(
-    alloc: Global,
     place: &mut Place,
     machine: &mut MachinePlace,
     core: u16,
@@ -99,13 +96,13 @@ fn told_at_once(
     ensures place { place.new.slot.kept ≡ place.old.slot.kept }
     ensures machine { machine.new.slot.kept ≡ machine.old.slot.kept }
 {
-    let regs = asks_at_once(alloc, machine, regs)?;
-    code_of(alloc, place, core, regs)
+    let regs = asks_at_once(machine, regs)?;
+    code_of(place, core, regs)
 }
 
 /// The registers of the firmware's call, where it may be one that is told at once.
 #[inline(always)]
-fn asks_at_once(alloc: Global, place: &mut MachinePlace, regs: Regs) -> Option<Regs>
+fn asks_at_once(place: &mut MachinePlace, regs: Regs) -> Option<Regs>
     ensures regs { IfSome result (λ r. (mode : SuspendMode)
         → r ≡ regs_in place.old.slot.kept mode regs) }
     ensures asked { IfSome result (λ _. (mode : SuspendMode)
@@ -118,7 +115,7 @@ fn asks_at_once(alloc: Global, place: &mut MachinePlace, regs: Regs) -> Option<R
     if !names_node(regs.x0) {
         return None;
     }
-    at_once(alloc, place, regs)
+    at_once(place, regs)
 }
 
 /// Whether a function word is that of AFFINITY_INFO.
@@ -129,21 +126,20 @@ fn names_node(x0: u64) -> bool {
 /// The code that the firmware in a place answers a call which changes nothing, if it can be told
 /// at once.
 #[inline(always)]
-fn code_of(alloc: Global, place: &mut Place, core: u16, regs: Regs) -> Option<Code>
+fn code_of(place: &mut Place, core: u16, regs: Regs) -> Option<Code>
     ensures code { IfSome result (IsToldBy place.old.slot.kept core regs) }
     ensures same { place.new.slot.kept ≡ place.old.slot.kept }
 {
-    let held = place.take(alloc)?;
-    let code = held.code_at_once(Core { number: core }, regs);
-    place.put(held);
-    code
+    if !place.full {
+        return None;
+    }
+    place.slot.held().code_at_once(Core { number: core }, regs)
 }
 
 /// A call that is not told at once, whose registers can be said at once, most likely. It has a
 /// frame of its own, so that a call which is told has none.
 #[inline(never)]
 fn smc_at_once(
-    alloc: Global,
     place: &mut Place,
     machine: &mut MachinePlace,
     core: u16,
@@ -158,19 +154,18 @@ fn smc_at_once(
         (regs_given x0 x1 x2 x3) answer.new asked.new place.new.slot.kept }
     ensures machine { machine.new.slot.kept ≡ machine.old.slot.kept }
 {
-    match at_once(alloc, machine, Regs { x0, x1, x2, x3 }) {
+    match at_once(machine, Regs { x0, x1, x2, x3 }) {
         Some(Regs { x0, x1, x2, x3 }) => {
             *asked = asked_shown(Asked::Nothing);
-            psci_smc(alloc, place, core, x0, x1, x2, x3, answer);
+            psci_smc(place, core, x0, x1, x2, x3, answer);
         }
-        None => smc_in_mode(alloc, place, machine, core, x0, x1, x2, x3, answer, asked),
+        None => smc_in_mode(place, machine, core, x0, x1, x2, x3, answer, asked),
     }
 }
 
 /// Any call, by the mode that the firmware is in.
 #[inline(never)]
 fn smc_in_mode(
-    alloc: Global,
     place: &mut Place,
     machine: &mut MachinePlace,
     core: u16,
@@ -185,61 +180,57 @@ fn smc_in_mode(
         (regs_given x0 x1 x2 x3) answer.new asked.new place.new.slot.kept }
     ensures machine { machine.new.slot.kept ≡ machine.old.slot.kept }
 {
-    let Some(mode) = mode_in(alloc, place) else {
+    let Some(mode) = mode_in(place) else {
         *answer = refused(NO_FIRMWARE);
         *asked = asked_shown(Asked::Nothing);
         return;
     };
-    let call = translate(alloc, machine, mode, Regs { x0, x1, x2, x3 });
+    let call = translate(machine, mode, Regs { x0, x1, x2, x3 });
     *asked = asked_shown(call.asked);
     let Regs { x0, x1, x2, x3 } = call.regs;
-    psci_smc(alloc, place, core, x0, x1, x2, x3, answer);
+    psci_smc(place, core, x0, x1, x2, x3, answer);
 }
 
 /// The registers of the firmware's call, if they can be said at once, are the same in each mode,
 /// and nothing is asked beside.
 #[inline(always)]
-fn at_once(alloc: Global, place: &mut MachinePlace, regs: Regs) -> Option<Regs>
+fn at_once(place: &mut MachinePlace, regs: Regs) -> Option<Regs>
     ensures regs { IfSome result (λ r. (mode : SuspendMode)
         → r ≡ regs_in place.old.slot.kept mode regs) }
     ensures asked { IfSome result (λ _. (mode : SuspendMode)
         → asked_in place.old.slot.kept mode regs ≡ Nothing) }
     ensures same { place.new.slot.kept ≡ place.old.slot.kept }
 {
-    let Some(machine) = place.take(alloc) else {
+    if !place.full {
         return Some(regs);
-    };
-    let found = machine.at_once(regs);
-    place.put(machine);
-    found
+    }
+    place.slot.machine().at_once(regs)
 }
 
 /// The mode that the firmware in a place is in.
-fn mode_in(alloc: Global, place: &mut Place) -> Option<SuspendMode>
+fn mode_in(place: &mut Place) -> Option<SuspendMode>
     ensures mode { result ≡ option_map (λ f. (seen f.firmware).mode) place.old.slot.kept }
     ensures same { place.new.slot.kept ≡ place.old.slot.kept }
 {
-    let held = place.take(alloc)?;
-    let mode = held.mode();
-    place.put(held);
-    Some(mode)
+    if !place.full {
+        return None;
+    }
+    Some(place.slot.held().mode())
 }
 
 /// The call of the firmware for one in the words of the machine; the same without a machine.
-fn translate(alloc: Global, place: &mut MachinePlace, mode: SuspendMode, regs: Regs) -> Call
+fn translate(place: &mut MachinePlace, mode: SuspendMode, regs: Regs) -> Call
     ensures regs { result.regs ≡ regs_in place.old.slot.kept mode regs }
     ensures asked { result.asked ≡ asked_in place.old.slot.kept mode regs }
     ensures same { place.new.slot.kept ≡ place.old.slot.kept }
 {
-    let Some(machine) = place.take(alloc) else {
+    if !place.full {
         return Call {
             regs,
             asked: Asked::Nothing,
         };
-    };
-    let call = machine.translate(mode, regs);
-    place.put(machine);
-    call
+    }
+    place.slot.machine().translate(mode, regs)
 }
 
 /// What is asked, as C sees it.

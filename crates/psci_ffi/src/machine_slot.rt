@@ -12,8 +12,8 @@ use std::marker::Model;
 #[repr(C)]
 #[derive(Drop)]
 pub struct MachineSlot {
-    ptr: *mut u8,
-    alloc: Global,
+    pub(crate) ptr: *mut u8,
+    pub(crate) alloc: Global,
     pub ghost kept: { KeptMachine } by { kept_coded },
 }
 
