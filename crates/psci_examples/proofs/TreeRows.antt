@@ -1,4 +1,4 @@
--- Worked examples of how a domain stands, of what is kept of some cores, and of ways and rows of a
+-- Worked examples of how domains stand, of what is kept of some cores, and of ways and rows of a
 -- tree: two clusters of two cores.
 use Rattle.std.proofs.Common.{◌≡◌, ℕ, ◌<◌, ◌≤◌, List, [], ◌∷◌, refl, ap, arith}
 use Rattle.std.specs.Prelude.{length}
@@ -8,7 +8,7 @@ use Rattle.psci_tree.specs.declared.way.Way.{Way}
 use Rattle.psci_tree.specs.Changes.{made_pending, start_of_life, started, suspended}
 use Rattle.psci_tree.specs.Kept.{IsPart, IsRow}
 use Rattle.psci_tree.specs.Recount.{TreeValue, known, low}
-use Rattle.psci_tree.specs.Standing.{standing}
+use Rattle.psci_tree.specs.Standing.{on_path}
 use Rattle.psci_tree.specs.Way.{AreRows, LeadsDown, LeadsTo}
 
 abbrev levels : List (List ℕ)
@@ -20,17 +20,30 @@ abbrev tree : TreeValue
 tree = suspended (suspended (started (started (start_of_life levels) 2 1) 3 4) 2
     (3 ∷ 3 ∷ 0 ∷ 0 ∷ [])) 3 (3 ∷ 2 ∷ 0 ∷ 0 ∷ [])
 
-cluster_of_both : standing tree (record { level = 1; place = 1 }) ≡ record { low = 2; known = 5 }
-unfolding low known suspended started start_of_life made_pending
-cluster_of_both = refl
+-- a claim of core 3 is made of the least ask on each domain of its path, and of the starts below it
+asked_of_cluster : low tree (on_path levels 3 1) 1 ≡ 2
+unfolding low suspended started start_of_life made_pending
+asked_of_cluster = refl
 
-a_core : standing tree (record { level = 0; place = 3 }) ≡ record { low = 3; known = 4 }
-unfolding low known suspended started start_of_life made_pending
-a_core = refl
+started_in_cluster : known tree (on_path levels 3 1) ≡ 5
+unfolding known suspended started start_of_life made_pending
+started_in_cluster = refl
 
-the_system : standing tree (record { level = 2; place = 0 }) ≡ record { low = 0; known = 5 }
-unfolding low known suspended started start_of_life made_pending
-the_system = refl
+asked_of_core : low tree (on_path levels 3 0) 0 ≡ 3
+unfolding low suspended started start_of_life made_pending
+asked_of_core = refl
+
+started_of_core : known tree (on_path levels 3 0) ≡ 4
+unfolding known suspended started start_of_life made_pending
+started_of_core = refl
+
+asked_of_system : low tree (on_path levels 3 2) 2 ≡ 0
+unfolding low suspended started start_of_life made_pending
+asked_of_system = refl
+
+started_in_system : known tree (on_path levels 3 2) ≡ 5
+unfolding known suspended started start_of_life made_pending
+started_in_system = refl
 
 -- What is kept ----------------------------------------------------------------------------------
 
