@@ -9,7 +9,7 @@ aligned=out/lib/aarch64/libpsci_ffi-strict-align.a
 # that is not aligned is made of bytes, too; and a call of stack
 wants='memcpy|memmove|memset|rattle_alloc|rattle_realloc|rattle_dealloc'
 most_text=98304
-most_aligned_text=135168
+most_aligned_text=155648
 most_stack=8192
 
 has_cc() { command -v cc > /dev/null || { skip "$1" cc; false; }; }

@@ -61,7 +61,7 @@ END
 # a crate below it, and ./psci prove does not prove it again
 kept_of_gate() {
     local kit=$1 fresh=$2 name
-    for name in psci_parts psci_text psci_abi; do
+    for name in psci_messages psci_board psci_abi; do
         mkdir -p "$fresh/crates/$name/out/rlib/$name.rlib"
         : > "$fresh/crates/$name/out/rlib/$name.rlib/of-the-gate"
     done
@@ -71,7 +71,7 @@ kept_of_gate() {
     expect "tools/prove --keep" 0 "psci: kept 2 libraries that the gate has proved"
     XDG_CACHE_HOME=$work/gate-cache PATH=$kit/bin:$PATH "$fresh/psci" prove < /dev/null > "$work/out" 2> "$work/err"
     find "$work/gate-cache" -name of-the-gate | sed 's|.*/proved/||; s|-[^/]*/| |; s|/.*||' | sort > "$work/out"
-    printf '%s\n' "psci_parts psci_parts.rlib" "psci_text psci_text.rlib" > "$work/lines"
+    printf '%s\n' "psci_board psci_board.rlib" "psci_messages psci_messages.rlib" > "$work/lines"
     answers "what ./psci prove takes of the gate"
     rm -rf "$fresh"/crates/*/out/rlib
 }

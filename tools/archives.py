@@ -34,10 +34,12 @@ GENERAL = "-mgeneral-regs-only"
 # Loops go over levels, of which there are four at most, and over the children of one domain. For aarch64 clang makes one
 # turn of such a loop at a time by itself.
 TURNS = ("-mllvm", "-unroll-runtime=0")
+# What changes the firmware on behalf of two calls is compiled in place in both.
+IN_PLACE = ("-mllvm", "-inline-threshold=500")
 ARCHIVES = {
-    "x86_64": (Archive("libpsci_ffi.a", TURNS),),
-    "aarch64": (Archive("libpsci_ffi.a", (GENERAL,)),
-                Archive("libpsci_ffi-strict-align.a", (GENERAL, "-mstrict-align"))),
+    "x86_64": (Archive("libpsci_ffi.a", (*TURNS, *IN_PLACE)),),
+    "aarch64": (Archive("libpsci_ffi.a", (GENERAL, *IN_PLACE)),
+                Archive("libpsci_ffi-strict-align.a", (GENERAL, "-mstrict-align", *IN_PLACE))),
 }
 
 

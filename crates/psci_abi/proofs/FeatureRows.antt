@@ -2,7 +2,7 @@
 -- every other word.
 use Rattle.std.proofs.Common.{◌≡◌, ℕ, pos, negsuc, refl}
 use Rattle.std.proofs.Common.{◌==◌, ◌||◌, arith, ℤ, if◌then◌else◌}
-use Rattle.psci_format.specs.declared.format.Format.TheVariants.{Original, Extended}
+use Rattle.psci_abi.specs.declared.format.Format.TheVariants.{Original, Extended}
 use Rattle.psci_abi.specs.Calls.{features_of, is_supported}
 
 -- what is answered on a board whose power state words have the original format

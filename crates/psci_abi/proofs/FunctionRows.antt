@@ -33,7 +33,7 @@ cpu_on : again true (CpuOn 0xdead000000000101 0xbeef000040001000 0xcafe000000000
     ≡ CpuOn 0xdead000000000101 0xbeef000040001000 0xcafe000000000007
 cpu_on = refl
 
-affinity_info : again true (AffinityInfo 0xdead000000000101 2) ≡ AffinityInfo 0xdead000000000101 2
+affinity_info : again true (AffinityInfo 2 0xdead000000000101) ≡ AffinityInfo 2 0xdead000000000101
 affinity_info = refl
 
 migrate_info_type : again true MigrateInfoType ≡ MigrateInfoType
@@ -48,7 +48,7 @@ system_reset = refl
 features : again true (Features 0xc4000003) ≡ Features 0xc4000003
 features = refl
 
-node_hw_state : again true (NodeHwState 0xdead000000000101 1) ≡ NodeHwState 0xdead000000000101 1
+node_hw_state : again true (NodeHwState 1 0xdead000000000101) ≡ NodeHwState 1 0xdead000000000101
 node_hw_state = refl
 
 system_suspend : again true (SystemSuspend 0xbeef000040001000 0xcafe000000000007)
@@ -74,10 +74,10 @@ narrow_cpu_suspend = refl
 narrow_cpu_on : again false (CpuOn 0x80000101 0xc0001000 7) ≡ CpuOn 0x80000101 0xc0001000 7
 narrow_cpu_on = refl
 
-narrow_affinity_info : again false (AffinityInfo 0x80000101 2) ≡ AffinityInfo 0x80000101 2
+narrow_affinity_info : again false (AffinityInfo 2 0x80000101) ≡ AffinityInfo 2 0x80000101
 narrow_affinity_info = refl
 
-narrow_node_hw_state : again false (NodeHwState 0x80000101 1) ≡ NodeHwState 0x80000101 1
+narrow_node_hw_state : again false (NodeHwState 1 0x80000101) ≡ NodeHwState 1 0x80000101
 narrow_node_hw_state = refl
 
 narrow_system_suspend : again false (SystemSuspend 0xc0001000 7) ≡ SystemSuspend 0xc0001000 7

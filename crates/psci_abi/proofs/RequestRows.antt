@@ -36,10 +36,10 @@ narrow_cpu_on = refl
 wide_cpu_on : call 0xc4000003 ≡ CpuOn 0xdead000000000101 0xbeef000040001000 0xcafe000000000007
 wide_cpu_on = refl
 
-narrow_affinity_info : call 0x84000004 ≡ AffinityInfo 0x101 0x40001000
+narrow_affinity_info : call 0x84000004 ≡ AffinityInfo 0x40001000 0x101
 narrow_affinity_info = refl
 
-wide_affinity_info : call 0xc4000004 ≡ AffinityInfo 0xdead000000000101 0x40001000
+wide_affinity_info : call 0xc4000004 ≡ AffinityInfo 0x40001000 0xdead000000000101
 wide_affinity_info = refl
 
 migrate_info_type : call 0x84000006 ≡ MigrateInfoType
@@ -54,10 +54,10 @@ system_reset = refl
 features : call 0x8400000a ≡ Features 0x101
 features = refl
 
-narrow_node_hw_state : call 0x8400000d ≡ NodeHwState 0x101 0x40001000
+narrow_node_hw_state : call 0x8400000d ≡ NodeHwState 0x40001000 0x101
 narrow_node_hw_state = refl
 
-wide_node_hw_state : call 0xc400000d ≡ NodeHwState 0xdead000000000101 0x40001000
+wide_node_hw_state : call 0xc400000d ≡ NodeHwState 0x40001000 0xdead000000000101
 wide_node_hw_state = refl
 
 narrow_system_suspend : call 0x8400000e ≡ SystemSuspend 0x101 0x40001000
@@ -80,7 +80,7 @@ wide_system_reset2 = refl
 narrow_upper_half : call 0xdeadbeef84000003 ≡ CpuOn 0x101 0x40001000 7
 narrow_upper_half = refl
 
-wide_upper_half : call 0xdeadbeefc4000004 ≡ AffinityInfo 0xdead000000000101 0x40001000
+wide_upper_half : call 0xdeadbeefc4000004 ≡ AffinityInfo 0x40001000 0xdead000000000101
 wide_upper_half = refl
 
 wide_suspend_upper_half : call 0xdeadbeefc4000001

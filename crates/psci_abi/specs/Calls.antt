@@ -4,8 +4,8 @@ use Rattle.std.specs.Prelude.{◌==◌, if◌then◌else◌, ℤ, pos}
 use Rattle.std.specs.Int.{cast_unsigned, w32, w64}
 use Rattle.psci_abi.specs.Codes.{not_supported}
 use Rattle.psci_abi.specs.declared.code.Code.{Code}
-use Rattle.psci_format.specs.declared.format.Format.{Format}
-use Rattle.psci_format.specs.declared.format.Format.TheVariants.{Original, Extended}
+use Rattle.psci_abi.specs.declared.format.Format.{Format}
+use Rattle.psci_abi.specs.declared.format.Format.TheVariants.{Original, Extended}
 use Rattle.psci_abi.specs.declared.registers.Regs.{Regs}
 use Rattle.psci_abi.specs.declared.request.Request.{Request}
 use Rattle.psci_abi.specs.declared.request.Request.TheVariants.{Version, CpuSuspend, CpuOff, CpuOn}
@@ -36,12 +36,12 @@ function_of word x1 x2 x3 =
     else (if word == 0x84000001 || word == 0xC4000001 then CpuSuspend (low_half x1) x2 x3
     else (if word == 0x84000002 then CpuOff
     else (if word == 0x84000003 || word == 0xC4000003 then CpuOn x1 x2 x3
-    else (if word == 0x84000004 || word == 0xC4000004 then AffinityInfo x1 (low_half x2)
+    else (if word == 0x84000004 || word == 0xC4000004 then AffinityInfo (low_half x2) x1
     else (if word == 0x84000006 then MigrateInfoType
     else (if word == 0x84000008 then SystemOff
     else (if word == 0x84000009 then SystemReset
     else (if word == 0x8400000A then Features (low_half x1)
-    else (if word == 0x8400000D || word == 0xC400000D then NodeHwState x1 (low_half x2)
+    else (if word == 0x8400000D || word == 0xC400000D then NodeHwState (low_half x2) x1
     else (if word == 0x8400000E || word == 0xC400000E then SystemSuspend x1 x2
     else (if word == 0x8400000F then SetSuspendMode (low_half x1)
     else (if word == 0x84000012 || word == 0xC4000012 then SystemReset2 (low_half x1) x2
@@ -57,12 +57,12 @@ is_known Version = true
 is_known (CpuSuspend state entry context) = true
 is_known CpuOff = true
 is_known (CpuOn target entry context) = true
-is_known (AffinityInfo target level) = true
+is_known (AffinityInfo level target) = true
 is_known MigrateInfoType = true
 is_known SystemOff = true
 is_known SystemReset = true
 is_known (Features word) = true
-is_known (NodeHwState target level) = true
+is_known (NodeHwState level target) = true
 is_known (SystemSuspend entry context) = true
 is_known (SetSuspendMode mode) = true
 is_known (SystemReset2 reset_type cookie) = true

@@ -4,8 +4,8 @@ ghost use Rattle.std.specs.Prelude.{◌≡◌, pos};
 ghost use Rattle.psci_abi.specs.Calls.{features_of};
 
 use crate::code::Code;
+use crate::format::Format;
 use crate::request::{Request, function};
-use psci_format::Format;
 
 /// The flag of CPU_SUSPEND for OS-initiated mode, bit 0 (DEN0022D, PSCI_FEATURES).
 const OS_INITIATED: i32 = 0b01;

@@ -5,12 +5,14 @@
 //! - A *request* is a function with its arguments, each already cut to its width.
 //! - A *return code* is the signed number that the standard's table of error codes gives.
 //! - A *result register* is what the caller finds in x0 afterwards.
-//! - A *power state format* says where a CPU_SUSPEND word has its fields (DEN0022D, CPU_SUSPEND).
+//! - A *power state word* is the parameter power_state of CPU_SUSPEND (DEN0022D). Its *format* says
+//!   where it has its fields: the original format, or the one with an extended StateID.
 #![tactic(auto)]
 
 mod calling;
 mod code;
 mod flags;
+mod format;
 mod functions;
 mod registers;
 mod request;
@@ -18,7 +20,7 @@ pub mod words;
 
 pub use code::Code;
 pub use flags::features;
+pub use format::Format;
 pub use functions::Function;
-pub use psci_format::Format;
 pub use registers::{Regs, low};
 pub use request::{Request, read};

@@ -15,7 +15,9 @@ use crate::words::{
 ///
 /// Targets, entry points, context ids and cookies have 64 bits in an SMC64 call and 32 in an SMC32
 /// call; power states, levels, modes and reset types have 32 bits in both, and so has the function
-/// word that PSCI_FEATURES asks about. The variants stand in the order of the function numbers.
+/// word that PSCI_FEATURES asks about. The variants stand in the order of the function numbers, and
+/// in each what has 32 bits stands first: so no two overlap but as a whole, and a request that is
+/// read and then matched is so in one jump.
 #[derive(Clone, Copy, Debug, PartialEq, Eq)]
 pub enum Request {
     /// PSCI_VERSION.
@@ -42,10 +44,10 @@ pub enum Request {
     },
     /// AFFINITY_INFO: the status of a power domain.
     AffinityInfo {
-        /// An affinity word; fields below the level are ignored.
-        target: u64,
         /// The level of the power domain, 0 for a core.
         level: u32,
+        /// An affinity word; fields below the level are ignored.
+        target: u64,
     },
     /// MIGRATE_INFO_TYPE.
     MigrateInfoType,
@@ -60,10 +62,10 @@ pub enum Request {
     },
     /// NODE_HW_STATE: the state of the hardware of a power domain.
     NodeHwState {
-        /// An affinity word; fields below the level are ignored.
-        target: u64,
         /// The level of the power domain, 0 for a core.
         level: u32,
+        /// An affinity word; fields below the level are ignored.
+        target: u64,
     },
     /// SYSTEM_SUSPEND: the caller, the last core that is not off, takes the system down with it.
     SystemSuspend {
@@ -113,14 +115,14 @@ impl Request {
 
     /// AFFINITY_INFO with these arguments.
     fn affinity_info(target: u64, level: u32) -> Request
-        ensures { result ≡ Request.AffinityInfo target level }
+        ensures { result ≡ Request.AffinityInfo level target }
     {
         Request::AffinityInfo { target, level }
     }
 
     /// NODE_HW_STATE with these arguments.
     fn node_hw_state(target: u64, level: u32) -> Request
-        ensures { result ≡ Request.NodeHwState target level }
+        ensures { result ≡ Request.NodeHwState level target }
     {
         Request::NodeHwState { target, level }
     }

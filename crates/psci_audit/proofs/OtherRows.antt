@@ -2,7 +2,7 @@
 -- messages and a second life; and for each way to be wrong there one that is not legal.
 use Rattle.std.proofs.Common.{◌≡◌, ℕ, List, [], ◌∷◌, Option, None, Some, true, false}
 use Rattle.std.proofs.Common.{ap, refl, arith}
-use Rattle.psci_world_spec.specs.psci_claims.psci_parts.declared.part.Part.{Part}
+use Rattle.psci_world_spec.specs.psci_messages.declared.part.Part.{Part}
 use Rattle.psci_world_spec.specs.psci_ctl_spec.declared.call.CtlCall.TheVariants as asks
 use Rattle.psci_world_spec.specs.psci_ctl_spec.declared.delivery.Delivery.TheVariants as deliveries
 use Rattle.psci_world_spec.specs.psci_ctl_spec.declared.kick.Kick.TheVariants as kicks

@@ -61,8 +61,7 @@ fn are_apart(firmware: &[FwEntry], controller: &[CtlEntry]) -> bool
     requires controller { RiseAfter None (tickets_by controller.now) }
     ensures { IsTrue result ↔ AreApart (tickets_of firmware.now) (tickets_by controller.now) }
 {
-    let mut ones = firmware;
-    let mut others = controller;
+    let (mut ones, mut others) = (firmware, controller);
     while let [one, after @ ..] = ones {
         let [other, rest @ ..] = others else {
             return true;

@@ -1,7 +1,7 @@
 -- Words, paths and nodes of known boards.
 use Rattle.std.proofs.Common.{◌≡◌, List, ◌∷◌, [], true, false, refl}
 use Rattle.std.specs.Prelude.{ℕ, Option, Some, None, map, option_map, replicate}
-use Rattle.psci_format.specs.declared.format.Format.TheVariants.{Original}
+use Rattle.psci_abi.specs.declared.format.Format.TheVariants.{Original}
 use Rattle.psci_board.specs.declared.node.Node.{Node}
 use Rattle.psci_board.specs.Board.{BoardValue, core_of, node_of, path, up, below, children, child}
 use Rattle.psci_board.specs.Board.{may_enter}

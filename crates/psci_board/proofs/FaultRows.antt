@@ -5,7 +5,7 @@ use Rattle.psci_board.specs.declared.fault.BoardFault.{BoardFault}
 use Rattle.psci_board.specs.declared.fault.BoardFault.TheVariants.{Grammar, Uneven, TooWide}
 use Rattle.psci_board.specs.declared.fault.BoardFault.TheVariants.{TooManyCores, BadRange, BadBoot}
 use Rattle.psci_board.specs.declared.fault.BoardFault.TheVariants.{BadLimit}
-use Rattle.psci_text.specs.Reading.{literal_at, number_at, hex_at, spaced_at}
+use Rattle.psci_board.specs.ReadWords.{literal_at, number_at, hex_at, spaced_at}
 use Rattle.psci_board.specs.Reading.{range_at, at_most}
 use Rattle.psci_board.specs.Reading.{more_at, list_at, member_at, tree_at, board_text}
 use Rattle.psci_board.specs.Verdict.{board_of, verdict}

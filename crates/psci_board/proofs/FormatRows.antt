@@ -2,14 +2,14 @@
 use Rattle.std.proofs.Common.{◌≡◌, List, ◌∷◌, [], refl}
 use Rattle.std.specs.Prelude.{ℕ, codes, Option, Some, None, Result, Ok, Err, map, replicate}
 use Rattle.std.specs.Fmt.{digits}
-use Rattle.psci_board.specs.psci_format.declared.format.Format.{Format}
-use Rattle.psci_board.specs.psci_format.declared.format.Format.TheVariants.{Original, Extended}
+use Rattle.psci_board.specs.psci_abi.declared.format.Format.{Format}
+use Rattle.psci_board.specs.psci_abi.declared.format.Format.TheVariants.{Original, Extended}
 use Rattle.psci_board.specs.declared.fault.BoardFault.{BoardFault}
 use Rattle.psci_board.specs.declared.fault.BoardFault.TheVariants.{Grammar, BadLimit}
 use Rattle.psci_board.specs.Board.{BoardValue}
 use Rattle.psci_board.specs.Grammar.{spelling}
 use Rattle.psci_board.specs.Grammar.TreeText.{One}
-use Rattle.psci_text.specs.Reading.{literal_at, number_at, hex_at, spaced_at}
+use Rattle.psci_board.specs.ReadWords.{literal_at, number_at, hex_at, spaced_at}
 use Rattle.psci_board.specs.Reading.{range_at, at_most}
 use Rattle.psci_board.specs.Reading.{more_at, list_at, member_at, tree_at, board_text}
 use Rattle.psci_board.specs.Verdict.{board_of, verdict}

@@ -6,11 +6,11 @@ use Rattle.std.specs.List.{prefix_len}
 use Rattle.std.specs.Char.{is_ascii_hexdigit}
 use Rattle.std.proofs.lemmas.Option.{cond_some, option_and_then_some, same_Some}
 use Rattle.std.specs.Prelude.{option_and_then, option_map, codes}
-use Rattle.psci_board.specs.psci_format.declared.format.Format.{Format}
+use Rattle.psci_board.specs.psci_abi.declared.format.Format.{Format}
 use Rattle.psci_board.specs.Summary.{ranges_at, value_and_rest, TreeSummaryValue}
 use Rattle.psci_board.specs.Summary.{RangesSummaryValue}
 use Rattle.psci_board.specs.declared.text.TextSummary.{TextSummary}
-use Rattle.psci_text.specs.Reading.{literal_at, spaced_at, hex_at}
+use Rattle.psci_board.specs.ReadWords.{literal_at, spaced_at, hex_at}
 use Rattle.psci_board.specs.Reading.{more_at}
 use Rattle.psci_board.specs.Reading.{range_at}
 use Rattle.psci_board.specs.Verdict.{format_or_original}

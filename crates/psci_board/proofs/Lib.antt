@@ -20,6 +20,7 @@ pub mod NamedDown
 pub mod Parents
 pub mod Parts
 pub mod Paths
+pub mod Prefixes
 pub mod Ranges
 pub mod Readers
 pub mod Rows
@@ -29,8 +30,13 @@ pub mod SpanRows
 pub mod Spans
 pub mod Spelled
 pub mod SpelledFormat
+pub mod SpelledLiterals
+pub mod SpelledNumbers
 pub mod SpelledRanges
 pub mod SpelledRows
 pub mod SpelledText
 pub mod SpelledTree
+mod SpellingRows
+pub mod Values
 pub mod VerdictRows
+pub mod WordRows

@@ -7,7 +7,7 @@ use Rattle.std.specs.Char.{is_ascii_digit}
 use Rattle.std.proofs.lemmas.Bool.Decides.{nat_tests}
 use Rattle.std.proofs.lemmas.Option.{cond_some, option_and_then_some}
 use Rattle.std.specs.Prelude.{option_and_then, option_map, IfSome}
-use Rattle.psci_text.specs.Reading.{literal_at, spaced_at, number_at}
+use Rattle.psci_board.specs.ReadWords.{literal_at, spaced_at, number_at}
 use Rattle.psci_board.specs.Reading.{at_most, more_at, then_more}
 use Rattle.psci_board.specs.Reading.{list_at, member_at, starts_list, bytes_after}
 use Rattle.psci_board.specs.Grammar.Member.{Cluster, Group}

@@ -1,8 +1,8 @@
 -- The boards of known texts.
 use Rattle.std.proofs.Common.{◌≡◌, ◌∷◌, [], refl}
 use Rattle.std.specs.Prelude.{codes, Ok}
-use Rattle.psci_board.specs.psci_format.declared.format.Format.TheVariants.{Original}
-use Rattle.psci_text.specs.Reading.{literal_at, number_at, hex_at, spaced_at}
+use Rattle.psci_board.specs.psci_abi.declared.format.Format.TheVariants.{Original}
+use Rattle.psci_board.specs.ReadWords.{literal_at, number_at, hex_at, spaced_at}
 use Rattle.psci_board.specs.Reading.{range_at, at_most}
 use Rattle.psci_board.specs.Reading.{more_at, list_at, member_at, tree_at, board_text}
 use Rattle.psci_board.specs.Verdict.{board_of, verdict}

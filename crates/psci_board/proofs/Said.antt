@@ -12,7 +12,7 @@ use Rattle.psci_board.specs.declared.fault.BoardFault.TheVariants.{BadLimit, Mem
 use Rattle.psci_board.specs.declared.text.TextSummary.{TextSummary}
 use Rattle.psci_board.specs.Grammar.{TreeText, BoardText}
 use Rattle.psci_board.specs.Grammar.TreeText.{One, Members}
-use Rattle.psci_text.specs.Reading.{literal_at, number_at, hex_at, spaced_at}
+use Rattle.psci_board.specs.ReadWords.{literal_at, number_at, hex_at, spaced_at}
 use Rattle.psci_board.specs.Reading.{format_at, range_at, more_at}
 use Rattle.psci_board.specs.Reading.{list_at, member_at, starts_list, tree_at, board_text}
 use Rattle.psci_board.specs.Board.{BoardValue, is_in_some, IsBoard}

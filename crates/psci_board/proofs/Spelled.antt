@@ -6,8 +6,8 @@ use Rattle.std.specs.List.{AllByRecursion}
 use Rattle.std.proofs.lemmas.List.Elements.{All-from_recursion, recursion_from_All}
 use Rattle.std.proofs.lemmas.Option.{option_and_then_some, same_Some}
 use Rattle.psci_board.specs.Grammar.{spaced, bracketed, IsListOf}
-use Rattle.psci_text.specs.Reading.{literal_at, spaced_at}
-use Rattle.psci_text.specs.Spelling.{TextLaws, Ends, Reads}
+use Rattle.psci_board.specs.ReadWords.{literal_at, spaced_at}
+use Rattle.psci_board.specs.Spelling.{TextLaws, Ends, Reads}
 use Rattle.psci_board.specs.Reading.{then_more, at_most, more_at, list_at}
 use Rattle.psci_board.proofs.More.{Shortens, more_some, more_none}
 

@@ -6,9 +6,9 @@ use Rattle.std.specs.Char.{is_ascii_digit}
 use Rattle.std.proofs.lemmas.List.{nil_from_length}
 use Rattle.std.proofs.lemmas.Option.{same_Some}
 use Rattle.std.proofs.lemmas.Slice.Eq.{bytes_eq-Decides}
-use Rattle.psci_board.specs.psci_format.declared.format.Format.{Format}
-use Rattle.psci_board.specs.psci_format.declared.format.Format.TheVariants.{Original, Extended}
-use Rattle.psci_text.specs.Spelling.{Ends}
+use Rattle.psci_board.specs.psci_abi.declared.format.Format.{Format}
+use Rattle.psci_board.specs.psci_abi.declared.format.Format.TheVariants.{Original, Extended}
+use Rattle.psci_board.specs.Spelling.{Ends}
 use Rattle.psci_board.specs.Grammar.{format_part}
 use Rattle.psci_board.specs.Reading.{format_at}
 

@@ -2,8 +2,8 @@
 use Rattle.std.proofs.Common.{◌≡◌, ℕ, List, ◌∷◌, ◌++◌, [], Some, refl, append_assoc, subst}
 use Rattle.std.specs.Char.{is_ascii_hexdigit}
 use Rattle.std.proofs.lemmas.Option.{option_and_then_some, same_Some}
-use Rattle.psci_text.specs.Reading.{literal_at, hex_at}
-use Rattle.psci_text.specs.Spelling.{TextLaws, Ends, Reads, hex}
+use Rattle.psci_board.specs.ReadWords.{literal_at, hex_at}
+use Rattle.psci_board.specs.Spelling.{TextLaws, Ends, Reads, hex}
 use Rattle.psci_board.specs.Grammar.{IsRange, range}
 use Rattle.psci_board.specs.Reading.{range_at}
 

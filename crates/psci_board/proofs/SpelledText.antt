@@ -6,11 +6,11 @@ use Rattle.std.specs.Fmt.{decimal}
 use Rattle.std.specs.List.{AllByRecursion}
 use Rattle.std.proofs.lemmas.List.Elements.{recursion_from_All}
 use Rattle.std.proofs.lemmas.Option.{option_and_then_some, same_Some}
-use Rattle.psci_board.specs.psci_format.declared.format.Format.{Format}
-use Rattle.psci_text.specs.Spelling.{TextLaws, IsHex, IsNumber, hex}
+use Rattle.psci_board.specs.psci_abi.declared.format.Format.{Format}
+use Rattle.psci_board.specs.Spelling.{TextLaws, IsHex, IsNumber, hex}
 use Rattle.psci_board.specs.Grammar.{TreeText, BoardText, IsTreeText, IsRange}
 use Rattle.psci_board.specs.Grammar.{IsBoardText, format_part, spaced, tree, range, spelling}
-use Rattle.psci_text.specs.Reading.{literal_at, spaced_at, number_at, hex_at}
+use Rattle.psci_board.specs.ReadWords.{literal_at, spaced_at, number_at, hex_at}
 use Rattle.psci_board.specs.Reading.{format_at, more_at, range_at}
 use Rattle.psci_board.specs.Reading.{tree_at, board_text}
 use Rattle.psci_board.proofs.Spelled.{first_again, spaced_takes, more_again}

@@ -8,13 +8,13 @@ use Rattle.std.specs.Str.Parse.{AllDigits}
 use Rattle.std.proofs.lemmas.Bool.Decides.{nat_tests}
 use Rattle.std.proofs.lemmas.Fmt.{decimal_is_IsNumeral, decimal_nonempty}
 use Rattle.std.proofs.lemmas.Option.{option_and_then_some, same_Some}
-use Rattle.psci_text.specs.Spelling.{TextLaws, IsNumber, Ends, Reads}
+use Rattle.psci_board.specs.Spelling.{TextLaws, IsNumber, Ends, Reads}
 use Rattle.psci_board.specs.Grammar.{Member, TreeText, IsListOf, IsMember, IsTreeText}
 use Rattle.psci_board.specs.Grammar.{bracketed}
 use Rattle.psci_board.specs.Grammar.{member, tree}
 use Rattle.psci_board.specs.Grammar.Member.{Cluster, Group}
 use Rattle.psci_board.specs.Grammar.TreeText.{One, Members}
-use Rattle.psci_text.specs.Reading.{number_at}
+use Rattle.psci_board.specs.ReadWords.{number_at}
 use Rattle.psci_board.specs.Reading.{list_at, starts_list, member_at, tree_at}
 use Rattle.psci_board.proofs.Spelled.{list_again, list_takes}
 

@@ -4,7 +4,7 @@ use Rattle.std.specs.Prelude.{List, [], ◌∷◌, length, sum, drop, take, nat_
 use Rattle.std.specs.Prelude.{if◌then◌else◌, Option, None, Some, option_map, find, filter}
 use Rattle.std.specs.Prelude.{slice_index, slice_index_or, slice_get}
 use Rattle.std.specs.List.{list_any, AllPass, range_with_len}
-use Rattle.psci_format.specs.declared.format.Format.{Format}
+use Rattle.psci_abi.specs.declared.format.Format.{Format}
 use Rattle.psci_board.specs.declared.range.AddressRange.{AddressRange}
 use Rattle.psci_board.specs.declared.limits.TheConstants.{MOST_LEVELS, MOST_CHILDREN, MOST_CORES}
 use Rattle.psci_board.specs.declared.limits.TheConstants.{MOST_LIVES}

@@ -3,9 +3,9 @@ use Rattle.std.specs.Prelude.{ℕ, ◌<◌, List, [], ◌∷◌, ◌++◌, lengt
 use Rattle.std.specs.Prelude.{Some}
 use Rattle.std.specs.List.{All}
 use Rattle.std.specs.Fmt.{decimal}
-use Rattle.psci_board.specs.psci_format.declared.format.Format.{Format}
-use Rattle.psci_board.specs.psci_format.declared.format.Format.TheVariants.{Original, Extended}
-use Rattle.psci_text.specs.Spelling.{hex, IsNumber, IsHex}
+use Rattle.psci_board.specs.psci_abi.declared.format.Format.{Format}
+use Rattle.psci_board.specs.psci_abi.declared.format.Format.TheVariants.{Original, Extended}
+use Rattle.psci_board.specs.Spelling.{hex, IsNumber, IsHex}
 
 -- a member of the outer list: a number, or a list of numbers
 pub data Member : Type 0 where

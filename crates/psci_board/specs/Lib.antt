@@ -1,10 +1,13 @@
 pub mod Board
+pub mod Digits
 pub mod Grammar
 pub mod Laws
 pub mod Level
 pub mod Paths
+pub mod ReadWords
 pub mod Reading
+pub mod Spelling
 pub mod Summary
 pub mod SummaryVerdict
 pub mod Verdict
-pub use Rattle.psci_format.specs as psci_format
+pub use Rattle.psci_abi.specs as psci_abi

@@ -2,9 +2,9 @@
 use Rattle.std.specs.Prelude.{ℕ, zero, suc, Bool, List, [], ◌∷◌, length, Option, Some, None}
 use Rattle.std.specs.Prelude.{◌==◌, if◌then◌else◌, codes, slice_index}
 use Rattle.std.specs.Str.{bytes_eq}
-use Rattle.psci_board.specs.psci_format.declared.format.Format.{Format}
-use Rattle.psci_board.specs.psci_format.declared.format.Format.TheVariants.{Original, Extended}
-use Rattle.psci_text.specs.Reading.{◌>>=◌, literal_at, number_at, hex_at, spaced_at}
+use Rattle.psci_board.specs.psci_abi.declared.format.Format.{Format}
+use Rattle.psci_board.specs.psci_abi.declared.format.Format.TheVariants.{Original, Extended}
+use Rattle.psci_board.specs.ReadWords.{◌>>=◌, literal_at, number_at, hex_at, spaced_at}
 use Rattle.psci_board.specs.Grammar.{Member, TreeText, BoardText}
 use Rattle.psci_board.specs.Grammar.Member.{Cluster, Group}
 use Rattle.psci_board.specs.Grammar.TreeText.{One, Members}

@@ -6,7 +6,7 @@ use Rattle.psci_board.specs.declared.range.AddressRange.{AddressRange}
 use Rattle.psci_board.specs.Grammar.{Member, TreeText}
 use Rattle.psci_board.specs.Grammar.Member.{Cluster, Group}
 use Rattle.psci_board.specs.Grammar.TreeText.{One, Members}
-use Rattle.psci_text.specs.Reading.{◌>>=◌, spaced_at}
+use Rattle.psci_board.specs.ReadWords.{◌>>=◌, spaced_at}
 use Rattle.psci_board.specs.Reading.{more_at, range_at}
 use Rattle.psci_board.specs.Verdict.{is_out_of_width, range_of}
 

@@ -4,8 +4,8 @@ use Rattle.std.specs.Prelude.{length, map, flat_map, sum, Option, Some, None, Re
 use Rattle.std.specs.Prelude.{nat_lt, nat_le, ◌==◌, if◌then◌else◌, IsOk}
 use Rattle.std.specs.List.{list_any}
 use Rattle.std.specs.Str.Parse.{digits_value}
-use Rattle.psci_board.specs.psci_format.declared.format.Format.{Format}
-use Rattle.psci_board.specs.psci_format.declared.format.Format.TheVariants.{Original}
+use Rattle.psci_board.specs.psci_abi.declared.format.Format.{Format}
+use Rattle.psci_board.specs.psci_abi.declared.format.Format.TheVariants.{Original}
 use Rattle.psci_board.specs.declared.limits.TheConstants.{MOST_CHILDREN, MOST_CORES, MOST_RANGES}
 use Rattle.psci_board.specs.declared.limits.TheConstants.{MOST_LIVES}
 use Rattle.psci_board.specs.declared.range.AddressRange.{AddressRange}

@@ -9,7 +9,7 @@ use crate::path::path_of;
 use crate::range::AddressRange;
 use crate::span::{CoreSpan, first_core};
 use arrayvec::ArrayVec;
-use psci_format::Format;
+use psci_abi::Format;
 use std::alloc::Global;
 use std::marker::Model;
 

@@ -4,7 +4,7 @@ ghost use Rattle.std.specs.Prelude.{◌≡◌, option_map};
 ghost use Rattle.psci_board.specs.Reading.{format_at};
 ghost use Rattle.psci_board.specs.Verdict.{format_or_original};
 
-use psci_format::Format;
+use psci_abi::Format;
 
 /// The format that the last part of a text names, where nothing stands after it. A text without
 /// this part has the original one.

@@ -1,20 +1,19 @@
-//! The board: its power domain tree, the addresses that a core may enter, and its limits.
+//! The board: its power domain tree, the addresses that a core may enter, its limits, and its text.
 //!
-//! - A *core* is a processing element; cores are numbered from 0 as the board text has them.
-//! - A *node* is a power domain: a core (level 0), a cluster (level 1), up to the system, the one
-//!   node of the highest level. The *height* of the board is that level, 1 to 3.
-//! - The `place` of a node is its index among the nodes of its level, from left to right and from
-//!   0.
+//! - A *core* is a processing element, numbered from 0 as the text has them. A *node* is a power
+//!   domain: a core (level 0), a cluster, up to the system. The *height* is the system's level.
+//! - The `place` of a node is its index in its level, from left to right and from 0.
 //! - The *path* of a core is the core and the nodes above it, up to the system.
 //! - An *affinity word* names a core or a node by one field of 8 bits per level (MPIDR_EL1).
 //! - An *entry point* may be entered where it is word aligned and lies in an executable range.
-//! - The *format* says how the board's power state words are written.
-//! - The *text* of a board describes it: its grammar, its faults, and which board it says.
+//! - What is read of a text stands at its *front*, the *rest* after it. A *literal* stands there
+//!   byte for byte; a *number* is decimal, a *hexadecimal number* begins with `0x`.
 #![tactic(auto)]
 
 mod affinity;
 mod board;
 mod build;
+mod digits;
 mod fault;
 mod format_text;
 mod level;
@@ -31,6 +30,8 @@ mod text;
 mod text_laws;
 mod tree_laws;
 mod tree_text;
+mod word_laws;
+mod words;
 
 pub use board::{Board, is_in_some};
 pub use fault::BoardFault;
@@ -38,8 +39,10 @@ pub use level::Level;
 pub use limits::{MOST_CHILDREN, MOST_CORES, MOST_LEVELS, MOST_LIVES, MOST_ON_PATH, MOST_RANGES};
 pub use memory::Memory;
 pub use node::{Core, Node};
-pub use psci_format::Format;
+pub use psci_abi::Format;
 pub use range::AddressRange;
 pub use span::CoreSpan;
 pub use text_laws::{law_board_text, law_boards};
 pub use tree_laws::{law_children, law_parents, law_paths, law_sizes, law_spans, law_words};
+pub use word_laws::law_text;
+pub use words::{hex, literal, number};

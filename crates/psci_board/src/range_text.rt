@@ -3,12 +3,12 @@
 ghost use Rattle.std.specs.Prelude.{◌≡◌, option_map};
 ghost use Rattle.psci_board.specs.Summary.{value_and_rest, no_ranges, ranges_at, with_ranges};
 ghost use Rattle.psci_board.specs.Verdict.{range_of};
-ghost use Rattle.psci_text.specs.Reading.{spaced_at};
+ghost use Rattle.psci_board.specs.ReadWords.{spaced_at};
 ghost use Rattle.psci_board.specs.Reading.{range_at};
 
 use crate::range::AddressRange;
 use crate::summary::RangesSummary;
-use psci_text::{hex, literal};
+use crate::words::{hex, literal};
 
 /// What is kept of the ranges, each after a space, and the text after them.
 pub fn ranges(text: &[u8]) -> Option<(RangesSummary, &[u8])>
@@ -26,7 +26,7 @@ pub fn ranges(text: &[u8]) -> Option<(RangesSummary, &[u8])>
 }
 
 /// The range after a space, and the text after it.
-#[tactic(auto, unfolding(psci_text::specs::Reading::spaced_at))]
+#[tactic(auto, unfolding(crate::specs::ReadWords::spaced_at))]
 fn spaced_range(text: &[u8]) -> Option<(AddressRange, &[u8])>
     ensures { option_map (λ x. (x.0, x.1.now)) result
         ≡ option_map (value_and_rest range_of) (spaced_at range_at text.now) }

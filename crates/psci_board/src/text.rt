@@ -13,8 +13,8 @@ use crate::limits::MOST_LIVES;
 use crate::range_text::ranges;
 use crate::summary::{RangesSummary, TreeSummary};
 use crate::tree_text::tree;
-use psci_format::Format;
-use psci_text::{hex, literal, number};
+use crate::words::{hex, literal, number};
+use psci_abi::Format;
 
 /// What is kept of a board text.
 #[derive(Drop)]

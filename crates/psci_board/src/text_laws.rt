@@ -6,7 +6,7 @@ ghost use Rattle.psci_board.specs.Grammar.{BoardText, IsBoardText, spelling};
 ghost use Rattle.psci_board.specs.Reading.{board_text};
 ghost use Rattle.psci_board.specs.Verdict.{board_of};
 
-use psci_text::law_text;
+use crate::word_laws::law_text;
 
 /// What holds of every board holds of each board that a text describes: whoever has the board of a
 /// text may use all that is known of boards.

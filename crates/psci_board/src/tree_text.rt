@@ -3,12 +3,12 @@
 ghost use Rattle.std.specs.Prelude.{◌≡◌, option_map, IfSome};
 ghost use Rattle.psci_board.specs.Summary.{with_numbers, with_member, with_members};
 ghost use Rattle.psci_board.specs.Summary.{value_and_rest, tree_summary};
-ghost use Rattle.psci_text.specs.Reading.{number_at, spaced_at};
+ghost use Rattle.psci_board.specs.ReadWords.{number_at, spaced_at};
 ghost use Rattle.psci_board.specs.Reading.{list_at, member_at, tree_at};
 ghost use Rattle.psci_board.specs.Reading.{count_and_rest, bytes_after};
 
 use crate::summary::{NumbersSummary, TreeSummary};
-use psci_text::{literal, number};
+use crate::words::{literal, number};
 
 /// What is kept of the tree, and the text after it.
 #[tactic(auto, unfolding(crate::specs::Reading::tree_at))]
@@ -80,7 +80,7 @@ fn group<'a>(text: &'a [u8], summary: &mut NumbersSummary) -> Option<(usize, &'a
 }
 
 /// The number after a space, and the text after it.
-#[tactic(auto, unfolding(psci_text::specs::Reading::spaced_at))]
+#[tactic(auto, unfolding(crate::specs::ReadWords::spaced_at))]
 fn spaced_number(text: &[u8]) -> Option<(u64, &[u8])>
     ensures { option_map (λ x. (x.0, x.1.now)) result ≡ spaced_at number_at text.now }
 {

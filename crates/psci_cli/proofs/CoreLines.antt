@@ -2,8 +2,8 @@
 use Rattle.std.proofs.Common.{◌≡◌, ◌+◌, ◌++◌, ◌∷◌, [], ℕ, List, take, append-nil}
 use Rattle.std.proofs.Common.{ap, ◌∙◌}
 use Rattle.std.proofs.lemmas.Grind.{flat_map-append}
-use Rattle.psci_bench.specs.psci_threads.psci_shared.declared.entry.FwEntry.{FwEntry}
-use Rattle.psci_bench.specs.psci_threads.declared.gathering.Polled.{Polled}
+use Rattle.psci_bench.specs.psci_shared.declared.entry.FwEntry.{FwEntry}
+use Rattle.psci_bench.specs.declared.gathering.Polled.{Polled}
 use Rattle.psci_cli.specs.ThreadsText.{core_line, cores_text}
 
 pub one_more : (entries : List FwEntry) (polls : List Polled) (i : ℕ) (p : Polled)

@@ -2,9 +2,9 @@
 use Rattle.std.proofs.Common.{refl, Result, Err}
 use Rattle.psci_command.specs.psci_board.Board.{BoardValue}
 use Rattle.psci_command.specs.psci_board.declared.fault.BoardFault.{BoardFault}
-use Rattle.psci_bench.specs.psci_threads.Runs.{IsFound}
-use Rattle.psci_bench.specs.psci_threads.declared.fault.BenchFault.{BenchFault}
-use Rattle.psci_bench.specs.psci_threads.declared.fault.BenchFault.TheVariants as faults
+use Rattle.psci_bench.specs.Runs.{IsFound}
+use Rattle.psci_bench.specs.declared.fault.BenchFault.{BenchFault}
+use Rattle.psci_bench.specs.declared.fault.BenchFault.TheVariants as faults
 use Rattle.psci_bench.specs.psci_audit.declared.fault.AuditFault.TheVariants as found
 use Rattle.psci_cli.specs.Threading.{IsStarted, IsThreaded, failure_at}
 

@@ -12,8 +12,8 @@ use Rattle.psci_command.specs.psci_script.declared.exit.Failure.TheVariants.{Thr
 use Rattle.psci_command.specs.psci_script.declared.exit.Failure.TheVariants.{Board as GivenBoard}
 use Rattle.psci_command.specs.psci_script.declared.fault.ReplayFault.TheVariants.{Memory, Read}
 use Rattle.psci_command.specs.psci_script.declared.fault.ReplayFault.TheVariants.{Write}
-use Rattle.psci_bench.specs.psci_threads.declared.fault.BenchFault.{BenchFault}
-use Rattle.psci_bench.specs.psci_threads.declared.fault.BenchFault.TheVariants as faults
+use Rattle.psci_bench.specs.declared.fault.BenchFault.{BenchFault}
+use Rattle.psci_bench.specs.declared.fault.BenchFault.TheVariants as faults
 use Rattle.psci_bench.specs.psci_audit.declared.fault.AuditFault.TheVariants as found
 use Rattle.psci_cli.specs.Threading.{IsTooLarge, ThreadsEnds, failure_at}
 use Rattle.psci_cli.specs.Ends.{IsUnkept}

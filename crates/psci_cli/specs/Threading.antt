@@ -11,10 +11,10 @@ use Rattle.psci_command.specs.psci_script.declared.exit.Failure.TheVariants.{Thr
 use Rattle.psci_command.specs.psci_script.declared.exit.Failure.TheVariants.{Board as GivenBoard}
 use Rattle.psci_command.specs.psci_script.declared.fault.ReplayFault.TheVariants.{Memory}
 use Rattle.psci_cli.specs.Ends.{IsUnkept}
-use Rattle.psci_bench.specs.psci_threads.Runs.{IsAudited, IsFound}
-use Rattle.psci_bench.specs.psci_threads.declared.fault.BenchFault.{BenchFault}
-use Rattle.psci_bench.specs.psci_threads.declared.fault.BenchFault.TheVariants as faults
-use Rattle.psci_bench.specs.psci_threads.declared.running.Threaded.{Threaded}
+use Rattle.psci_bench.specs.Runs.{IsAudited, IsFound}
+use Rattle.psci_bench.specs.declared.fault.BenchFault.{BenchFault}
+use Rattle.psci_bench.specs.declared.fault.BenchFault.TheVariants as faults
+use Rattle.psci_bench.specs.declared.running.Threaded.{Threaded}
 use Rattle.psci_bench.specs.psci_audit.declared.fault.AuditFault.{AuditFault}
 use Rattle.psci_bench.specs.psci_audit.declared.fault.AuditFault.TheVariants as found
 

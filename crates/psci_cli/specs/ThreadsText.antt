@@ -1,10 +1,10 @@
 -- The line of threads, and what each core did.
 use Rattle.std.specs.Prelude.{ℕ, Bool, List, [], ◌∷◌, ◌++◌, codes, flat_map, if◌then◌else◌}
 use Rattle.std.specs.Fmt.{decimal}
-use Rattle.psci_bench.specs.psci_threads.Counts.{calls_of, entries_of}
-use Rattle.psci_bench.specs.psci_threads.psci_shared.declared.entry.FwEntry.{FwEntry}
-use Rattle.psci_bench.specs.psci_threads.declared.gathering.Polled.{Polled}
-use Rattle.psci_bench.specs.psci_threads.declared.running.Threaded.{Threaded}
+use Rattle.psci_bench.specs.Counts.{calls_of, entries_of}
+use Rattle.psci_bench.specs.psci_shared.declared.entry.FwEntry.{FwEntry}
+use Rattle.psci_bench.specs.declared.gathering.Polled.{Polled}
+use Rattle.psci_bench.specs.declared.running.Threaded.{Threaded}
 
 -- how many entries each book has, and how many were audited, before the line feed
 abbrev pub threads_text : ℕ → ℕ → ℕ → List ℕ

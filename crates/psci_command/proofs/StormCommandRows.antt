@@ -15,7 +15,7 @@ use Rattle.clap.specs.declared.parser.matches.ValueSource.{ValueSource}
 use Rattle.clap.specs.declared.parser.matches.ValueSource.TheVariants.{CommandLine, DefaultValue}
 use Rattle.psci_script.specs.psci_board.Grammar.{BoardText, Cluster, Members, spelling}
 use Rattle.psci_script.specs.psci_board.Verdict.{verdict}
-use Rattle.psci_script.specs.psci_board.psci_format.declared.format.Format.TheVariants.{Original}
+use Rattle.psci_script.specs.psci_board.psci_abi.declared.format.Format.TheVariants.{Original}
 use Rattle.psci_command.specs.Program.{Words, program, standard_board}
 
 -- How the examples are stated --------------------------------------------------------------------

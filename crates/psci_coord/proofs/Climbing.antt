@@ -4,9 +4,9 @@ use Rattle.std.proofs.Common.{◌≢◌, refl, sym, ap, arith, ◌∙◌, append
 use Rattle.std.proofs.Common.{length-append}
 use Rattle.std.proofs.lemmas.Bool.{lt-ltb}
 use Rattle.psci_board.specs.Board.{BoardValue, height}
-use Rattle.psci_claims.specs.psci_parts.declared.part.Part.{Part}
-use Rattle.psci_claims.specs.View.{PowerView, domain_of, generation}
-use Rattle.psci_claims.specs.Claim.{climb, claims_of}
+use Rattle.psci_messages.specs.declared.part.Part.{Part}
+use Rattle.psci_messages.specs.View.{PowerView, domain_of, generation}
+use Rattle.psci_messages.specs.Claim.{climb, claims_of}
 
 -- a part that is wanted comes first
 pub climb-more : (wanted generation_at : ℕ → ℕ) (level count : ℕ) → 0 < wanted level

@@ -6,9 +6,9 @@ use Rattle.psci_tree.specs.Recount.{TreeValue, low, known}
 use Rattle.psci_tree.specs.Standing.{on_path}
 use Rattle.psci_coord.specs.declared.claim.Wish.{Wish}
 use Rattle.psci_coord.specs.declared.claim.Wish.TheVariants.{Least, Own}
-use Rattle.psci_claims.specs.View.{domain_of, least_ask, generation}
+use Rattle.psci_messages.specs.View.{domain_of, least_ask, generation}
 use Rattle.psci_coord.specs.Wish.{wanted, depth_of}
-use Rattle.psci_claims.specs.Looked.{view_of}
+use Rattle.psci_messages.specs.Looked.{view_of}
 
 -- on a core's path
 pub wanted-is : (b : BoardValue) (t : TreeValue) (core level : ℕ) (n : Node) (wish : Wish)

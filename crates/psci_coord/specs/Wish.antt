@@ -5,8 +5,8 @@ use Rattle.psci_board.specs.Board.{BoardValue}
 use Rattle.psci_tree.specs.Recount.{TreeValue, low}
 use Rattle.psci_coord.specs.declared.claim.Wish.{Wish}
 use Rattle.psci_coord.specs.declared.claim.Wish.TheVariants.{Least, Own}
-use Rattle.psci_claims.specs.View.{PowerView}
-use Rattle.psci_claims.specs.Claim.{least_wish, own_wish}
+use Rattle.psci_messages.specs.View.{PowerView}
+use Rattle.psci_messages.specs.Claim.{least_wish, own_wish}
 
 -- what is wanted, by level
 abbrev pub wanted : BoardValue → PowerView → ℕ → Wish → ℕ → ℕ

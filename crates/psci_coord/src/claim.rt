@@ -4,12 +4,12 @@ ghost use Rattle.std.specs.Prelude.{◌≡◌, ◌<◌, []};
 ghost use Rattle.psci_board.specs.declared.node.Node.{Node};
 ghost use Rattle.psci_board.specs.Board.{cores};
 ghost use Rattle.psci_tree.specs.Recount.{TreeValue, low as low_of};
-ghost use Rattle.psci_claims.specs.Claim.{claims_of, platform_claims, own_claims};
+ghost use Rattle.psci_messages.specs.Claim.{claims_of, platform_claims, own_claims};
 ghost use Rattle.psci_coord.specs.Wish.{depth_of, wanted};
-ghost use Rattle.psci_claims.specs.Looked.{view_of};
+ghost use Rattle.psci_messages.specs.Looked.{view_of};
 
 use psci_board::{Board, Core};
-use psci_claims::{Part, Parts};
+use psci_messages::{Part, Parts};
 use psci_state::Ask;
 use psci_tree::Tree;
 

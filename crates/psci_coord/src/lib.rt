@@ -7,4 +7,4 @@
 mod claim;
 
 pub use claim::{Wish, claims, climb, own_parts};
-pub use psci_claims::{MOST_PARTS, Part, Parts};
+pub use psci_messages::{MOST_PARTS, Part, Parts};

@@ -12,7 +12,7 @@ use Rattle.psci_ctl_spec.specs.Follows.{AreValues, MayFollow}
 use Rattle.psci_ctl_spec.specs.Values.{Values, start_of_life}
 use Rattle.psci_ctl.specs.declared.row.CoreRow.{CoreRow}
 use Rattle.psci_ctl.specs.declared.level.DomainRow.{DomainRow}
-use Rattle.psci_ctl.specs.Rows.{HasRows, HasSums, core_row, depth_in, domain_at, values_in}
+use Rattle.psci_ctl.specs.Rows.{AreRows, HasRows, core_row, depth_in, domain_at, values_in}
 use Rattle.psci_ctl.specs.Seen.{ControllerValue, IsController}
 use Rattle.psci_ctl.proofs.Looked.{domain_set, set_row}
 
@@ -28,32 +28,31 @@ Keeps = (b : BoardValue) (v : Values) (e : Effect) → IsBoard b → AreValues b
 pub started_kept : (b : BoardValue) (o : Option ℕ) (life c : ℕ) (cause : Cause)
     (cs new_cs : List CoreRow) (ds new_ds : List (List DomainRow)) → Keeps
     → IsController (whole b o cs ds) → o ≡ Some life → c < cores b
-    → (core_row cs c).starts < b.starts → length new_cs ≡ length cs → HasRows b new_ds
-    → HasSums b new_cs new_ds
+    → (core_row cs c).starts < b.starts → AreRows b new_cs new_ds
     → ((l : Option ℕ) → values_in l new_cs new_ds ≡ with_start b c cause (values_in l cs ds))
     → IsController (whole b o new_cs new_ds)
-started_kept b o life c cause cs new_cs ds new_ds keeps is here inside more count shape has values =
+started_kept b o life c cause cs new_cs ds new_ds keeps is here inside more rows values =
     record {
       board = is.board;
-      cores = count ∙ is.cores;
-      shape = shape;
+      cores = rows.cores;
+      shape = rows.shape;
       values = subst (AreValues b) (sym (values o))
           (keeps b (values_in o cs ds) (Starts c cause) is.board is.values
           (inside, more, (life, here)));
-      sums = λ l e. has;
+      sums = λ l e. rows.sums;
     }
 
 pub begun_kept : (b : BoardValue) (life : ℕ) (cs : List CoreRow) (ds : List (List DomainRow))
     → IsBoard b → AreValues b (record (start_of_life b) { life = Some life })
-    → length cs ≡ cores b → HasRows b ds → HasSums b cs ds
+    → AreRows b cs ds
     → ((l : Option ℕ) → values_in l cs ds ≡ record (start_of_life b) { life = l })
     → IsController (whole b (Some life) cs ds)
-begun_kept b life cs ds board are count shape sums values = record {
+begun_kept b life cs ds board are rows values = record {
   board = board;
-  cores = count;
-  shape = shape;
+  cores = rows.cores;
+  shape = rows.shape;
   values = subst (AreValues b) (sym (values (Some life))) are;
-  sums = λ l e. sums;
+  sums = λ l e. rows.sums;
 }
 
 -- a started core has one start more

@@ -1,19 +1,20 @@
 -- Worked examples of what the power controller keeps, row by row. Two clusters of two cores; core 3
 -- was started twice, by a wake-up, and its cluster is in retention.
-use Rattle.std.proofs.Common.{◌≡◌, ℕ, ◌+◌, ◌*◌, ◌≤◌, List, [], ◌∷◌, map, length, true, false}
-use Rattle.std.proofs.Common.{None, Some, refl, ap, arith}
+use Rattle.std.proofs.Common.{◌≡◌, ℕ, ◌+◌, ◌*◌, ◌<◌, ◌≤◌, ◌^◌, List, [], ◌∷◌, map, length}
+use Rattle.std.proofs.Common.{None, Some, true, false, refl, ap, arith}
 use Rattle.psci_board.specs.Board.{BoardValue, up}
-use Rattle.psci_parts.specs.declared.part.Part.{Part}
-use Rattle.psci_ctl_spec.specs.psci_format.declared.format.Format.TheVariants.{Original}
+use Rattle.psci_messages.specs.declared.part.Part.{Part}
+use Rattle.psci_ctl_spec.specs.psci_abi.declared.format.Format.TheVariants.{Original}
 use Rattle.psci_ctl_spec.specs.Values.{Values, starts_below}
 use Rattle.psci_messages.specs.declared.start.Cause.TheVariants.{Boot, On, Wake}
 use Rattle.psci_ctl.specs.declared.done.Done.{Done}
 use Rattle.psci_ctl.specs.declared.level.DomainRow.{DomainRow}
 use Rattle.psci_ctl.specs.declared.row.CoreRow.{CoreRow}
-use Rattle.psci_ctl.specs.Rows.{HasRows, HasSums, core_row, deepened, depth_in, domain_at}
+use Rattle.psci_ctl.specs.Rows.{HasRows, HasSums, HaveRoom, core_row, deepened, depth_in}
+use Rattle.psci_ctl.specs.Rows.{domain_at}
 use Rattle.psci_ctl.specs.Rows.{off_core, off_domain, path_on_below, path_on_once, values_in}
 use Rattle.psci_ctl.specs.Rows.{with_core, with_depth}
-use Rattle.psci_ctl.specs.Seen.{ControllerValue, IsController, done, seen, start_done}
+use Rattle.psci_ctl.specs.Seen.{ControllerValue, IsController, Leaves, done, seen, start_done}
 
 abbrev board : BoardValue
 board = record {
@@ -185,3 +186,28 @@ unfolding starts_below
 sums_in_life_2 h =
     let sums = h.sums 2 refl in
     let e : ◌≡◌ {A = ℕ} 2 4 = sums.sums 1 1 (omega arith) in omega arith
+
+-- a core that was started as often as its row can say has no room for one more; nor has another
+-- core beside one that was started more often than that
+no_room_for_one_more : HaveRoom (record { starts = 0xffffffff; cause = Boot } ∷ []) 0 → ⊥
+no_room_for_one_more h =
+    let e : 0xffffffff + 1 < 2 ^ 32 = h.more in omega (arith, e)
+
+another_has_too_many : HaveRoom (off ∷ record { starts = 0x100000000; cause = Boot } ∷ []) 0 → ⊥
+another_has_too_many h =
+    let e : 0x100000000 < 2 ^ 32 = h.few 1 in omega (arith, e)
+
+-- What a call leaves ------------------------------------------------------------------------------
+
+as_it_was : Leaves (controller cores) (controller cores) values
+as_it_was = record { board = refl; values = refl }
+
+-- another board, and other values
+another_board : Leaves (controller cores)
+    (record (controller cores) { board = record board { starts = 8 } }) values → ⊥
+another_board h =
+    let e : ◌≡◌ {A = ℕ} 8 9 = ap (λ (b : BoardValue). b.starts) h.board in omega arith
+
+another_count : Leaves (controller cores) (controller (off ∷ [])) values → ⊥
+another_count h =
+    let e : ◌≡◌ {A = ℕ} 0 1 = ap (λ (v : Values). v.starts 0) h.values in omega arith

@@ -1,18 +1,18 @@
 -- A power controller after some parts of a Down were applied, and the next one.
 use Rattle.std.proofs.Common.{◌≡◌, ℕ, ◌+◌, ◌<◌, ◌≤◌, ◌==◌, Bool, true, false, List, length, take}
-use Rattle.std.proofs.Common.{get_or, refl, ap, sym, ◌∙◌, arith, inl, inr}
+use Rattle.std.proofs.Common.{get_or, refl, ap, sym, subst, ◌∙◌, arith, inl, inr}
 use Rattle.std.proofs.lemmas.Bool.{cases_eq}
 use Rattle.std.proofs.lemmas.Option.{slice_get-get_or}
 use Rattle.std.proofs.lemmas.List.{get_or_default}
 use Rattle.psci_board.specs.declared.node.Node.{Node}
 use Rattle.psci_board.specs.Board.{height}
-use Rattle.psci_parts.specs.declared.part.Part.{Part}
+use Rattle.psci_messages.specs.declared.part.Part.{Part}
 use Rattle.psci_board.specs.Board.{domain_of}
 use Rattle.psci_messages.specs.Message.{PartByPart}
 use Rattle.psci_ctl_spec.specs.Parts.{is_applied, is_covered, is_live, laid}
 use Rattle.psci_ctl_spec.specs.Values.{Values, starts_below}
 use Rattle.psci_ctl.specs.Rows.{deepened, with_depth}
-use Rattle.psci_ctl.specs.Seen.{ControllerValue, seen}
+use Rattle.psci_ctl.specs.Seen.{ControllerValue, Leaves, seen}
 use Rattle.psci_ctl.proofs.Applying.{is_one, laid_more}
 use Rattle.psci_ctl.proofs.Started.{same_values}
 
@@ -21,9 +21,8 @@ laid_on old c k ps =
     record (seen old) { depth = laid old.board c (take k ps) (seen old).depth }
 
 -- the first k parts were applied
-pub record IsWalked (old now : ControllerValue) (c k : ℕ) (ps : List Part) : Type 0 where
-  pub board : now.board ≡ old.board
-  pub values : seen now ≡ laid_on old c k ps
+abbrev pub IsWalked : ControllerValue → ControllerValue → ℕ → ℕ → List Part → Type 0
+IsWalked old now c k ps = Leaves old now (laid_on old c k ps)
 
 pub live_then : (old now : ControllerValue) (c k : ℕ) (ps : List Part) (p : Part) (t : Bool)
     → IsWalked old now c k ps → is_live now.board (seen now) c p ≡ t
@@ -50,10 +49,12 @@ covered_at now c p n t at is =
 
 pub deepened_at : (now new : ControllerValue) (c : ℕ) (p : Part) (n : Node)
     → n ≡ domain_of now.board c p.level
-    → seen new ≡ record (seen now) { depth = deepened n p.depth (seen now).depth }
-    → seen new ≡ record (seen now) { depth = with_depth now.board c p (seen now).depth }
-deepened_at now new c p n at values =
-    values ∙ ap (λ (m : Node). record (seen now) { depth = deepened m p.depth (seen now).depth }) at
+    → Leaves now new (record (seen now) { depth = deepened n p.depth (seen now).depth })
+    → Leaves now new (record (seen now) { depth = with_depth now.board c p (seen now).depth })
+deepened_at now new c p n at =
+    subst (λ (m : Node). Leaves now new (record (seen now) {
+      depth = deepened m p.depth (seen now).depth;
+    })) at
 
 pub covered_then : (old now : ControllerValue) (c k : ℕ) (ps : List Part) (p : Part) (t : Bool)
     → IsWalked old now c k ps
@@ -120,15 +121,14 @@ passed_more old c k ps d h before here j e q = elim (cases_eq j k) [
 -- one part more was applied
 pub walked_more : (old now new : ControllerValue) (c k : ℕ) (ps : List Part) (d : Part)
     → IsWalked old now c k ps → PartByPart ps → length ps ≤ height old.board + 1 → k < length ps
-    → new.board ≡ now.board
-    → seen new ≡ record (seen now) {
+    → Leaves now new (record (seen now) {
       depth = with_depth now.board c (get_or ps k d) (seen now).depth;
-    }
+    })
     → IsWalked old new c (k + 1) ps
-walked_more old now new c k ps d is parts few h board values = record {
-  board = board ∙ is.board;
+walked_more old now new c k ps d is parts few h left = record {
+  board = left.board ∙ is.board;
   values =
-      values
+      left.values
       ∙ ap (λ b. record (seen now) { depth = with_depth b c (get_or ps k d) (seen now).depth })
       is.board
       ∙ ap (λ (v : Values). record v { depth = with_depth old.board c (get_or ps k d) v.depth })

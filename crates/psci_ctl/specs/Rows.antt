@@ -1,9 +1,9 @@
 -- What the power controller keeps of cores and domains, row by row.
-use Rattle.std.specs.Prelude.{◌≡◌, ℕ, ◌+◌, ◌≤◌, ◌&&◌, ◌==◌, nat_lt, if◌then◌else◌, List}
+use Rattle.std.specs.Prelude.{◌≡◌, ℕ, ◌+◌, ◌<◌, ◌≤◌, ◌^◌, ◌&&◌, ◌==◌, nat_lt, if◌then◌else◌, List}
 use Rattle.std.specs.Prelude.{[], length, slice_index_or, Option}
-use Rattle.psci_board.specs.Board.{BoardValue, height, nodes}
+use Rattle.psci_board.specs.Board.{BoardValue, cores, height, nodes}
 use Rattle.psci_board.specs.declared.node.Node.{Node}
-use Rattle.psci_parts.specs.declared.part.Part.{Part}
+use Rattle.psci_messages.specs.declared.part.Part.{Part}
 use Rattle.psci_board.specs.Board.{domain_of}
 use Rattle.psci_messages.specs.declared.start.Cause.TheVariants as causes
 use Rattle.psci_ctl_spec.specs.Values.{Values, starts_below}
@@ -66,6 +66,18 @@ pub record HasSums (b : BoardValue) (cores : List CoreRow) (domains : List (List
     : Type 0 where
   pub sums : (level place : ℕ) → level ≤ height b → (domain_at domains level place).starts
       ≡ starts_below b (λ c. (core_row cores c).starts) (record { level = level; place = place })
+
+-- a row for each core and each domain of the board, with the sums of the starts
+pub record AreRows (b : BoardValue) (rows : List CoreRow) (domains : List (List DomainRow))
+    : Type 0 where
+  pub cores : length rows ≡ cores b
+  pub shape : HasRows b domains
+  pub sums : HasSums b rows domains
+
+-- the starts of each core fit its row, with one more of this core
+pub record HaveRoom (rows : List CoreRow) (c : ℕ) : Type 0 where
+  pub few : (k : ℕ) → (core_row rows k).starts < 2 ^ 32
+  pub more : (core_row rows c).starts + 1 < 2 ^ 32
 
 -- a domain is this deep
 abbrev pub deepened : Node → ℕ → (ℕ → ℕ → ℕ) → ℕ → ℕ → ℕ

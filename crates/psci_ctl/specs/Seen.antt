@@ -32,6 +32,11 @@ pub record IsController (c : ControllerValue) : Type 0 where
   pub values : AreValues c.board (seen c)
   pub sums : (life : ℕ) → c.life ≡ Some life → HasSums c.board c.cores c.domains
 
+-- what a call leaves: these values, of the same board
+pub record Leaves (old new : ControllerValue) (left : Values) : Type 0 where
+  pub board : new.board ≡ old.board
+  pub values : seen new ≡ left
+
 -- what was done with a message: how much of it, and whether it is out of date
 abbrev pub done : ℕ → Bool → Done
 done applied stale = record { applied = applied; stale = stale }

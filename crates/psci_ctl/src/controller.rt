@@ -54,7 +54,7 @@ ghost use Rattle.psci_ctl_spec.specs.declared.delivery.Delivery.TheVariants as d
 ghost use Rattle.psci_ctl_spec.specs.declared.kick.Kick.TheVariants as kicks;
 ghost use Rattle.psci_ctl_spec.specs.declared.reply.CtlReply.TheVariants as replies;
 ghost use Rattle.psci_ctl.specs.Rows.{core_row};
-ghost use Rattle.psci_ctl.specs.Seen.{seen};
+ghost use Rattle.psci_ctl.specs.Seen.{seen, Leaves};
 
 impl Controller {
     /// The power controller of this board, as its first life begins: the boot core is started, and
@@ -210,9 +210,8 @@ impl Controller {
         requires life { self.old.life ≡ Some life }
         requires more { (seen self.old).starts core.number < self.old.board.starts }
         ensures start { result ≡ next_start life (seen self.old) core.number cause }
-        ensures values { seen self.new
-            ≡ with_start self.old.board core.number cause (seen self.old) }
-        ensures board { self.new.board ≡ self.old.board }
+        ensures left { Leaves self.old self.new
+            (with_start self.old.board core.number cause (seen self.old)) }
     {
         law_limits();
         start_core(&self.board, &mut self.cores, &mut self.domains, core, cause);

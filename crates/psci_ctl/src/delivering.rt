@@ -2,8 +2,7 @@
 
 ghost use Rattle.std.specs.Prelude.{◌≡◌, ◌≤◌, ◌+◌, ◌<◌, ◌==◌, ℕ, true, Some, take, length};
 ghost use Rattle.std.specs.Prelude.{if◌then◌else◌, nat_lt};
-ghost use Rattle.psci_board.specs.Board.{cores, height, nodes};
-ghost use Rattle.psci_board.specs.Board.{domain_of};
+ghost use Rattle.psci_board.specs.Board.{cores, domain_of, height, nodes, HasNode};
 ghost use Rattle.psci_messages.specs.Message.{PartByPart, AreClaims, most_applied};
 ghost use Rattle.psci_ctl_spec.specs.Changes.{change, with_start};
 ghost use Rattle.psci_ctl_spec.specs.Effects.{Begins, Ends, message_effect};
@@ -13,7 +12,7 @@ ghost use Rattle.psci_ctl_spec.specs.Replies.{ack_by, ack_of, may_follow, may_st
 ghost use Rattle.psci_messages.specs.declared.start.Cause.TheVariants.{On};
 ghost use Rattle.psci_ctl_spec.specs.Values.{starts_below};
 ghost use Rattle.psci_ctl.specs.Rows.{deepened};
-ghost use Rattle.psci_ctl.specs.Seen.{seen, start_done};
+ghost use Rattle.psci_ctl.specs.Seen.{done, seen, start_done, Leaves};
 
 use crate::controller::Controller;
 use crate::covering::is_covered;
@@ -24,8 +23,7 @@ use crate::row::forget_starts;
 use crate::starting::begin_life;
 use psci_board::{Core, Node, law_paths};
 use psci_ctl_spec::{Cause, law_limits};
-use psci_messages::{Kind, Message, law_parts};
-use psci_parts::Part;
+use psci_messages::{Kind, Message, Part, law_parts};
 
 impl Controller {
     /// Whether a core may be started once more.
@@ -42,11 +40,10 @@ impl Controller {
         requires life { self.old.life ≡ Some life }
         ensures done { result
             ≡ start_done (may_follow self.old.board (seen self.old) core.number number) }
-        ensures values { seen self.new
-            ≡ (if may_follow self.old.board (seen self.old) core.number number
+        ensures left { Leaves self.old self.new
+            (if may_follow self.old.board (seen self.old) core.number number
             then with_start self.old.board core.number On (seen self.old)
             else seen self.old) }
-        ensures board { self.new.board ≡ self.old.board }
     {
         if self.starts(core) != number || !self.may_start(core) {
             return Done::LATE;
@@ -58,8 +55,7 @@ impl Controller {
     /// The life ends, and none follows.
     pub(crate) fn end_life(&mut self) -> Done
         ensures done { result ≡ start_done true }
-        ensures values { seen self.new ≡ change self.old.board Ends (seen self.old) }
-        ensures board { self.new.board ≡ self.old.board }
+        ensures left { Leaves self.old self.new (change self.old.board Ends (seen self.old)) }
     {
         self.life = None;
         forget_starts(&mut self.cores);
@@ -70,9 +66,8 @@ impl Controller {
     pub(crate) fn reset_system(&mut self, life: u32) -> Done
         requires { self.old.life ≡ Some life }
         ensures done { result ≡ start_done true }
-        ensures values { seen self.new ≡ change self.old.board
-            (if nat_lt life self.old.board.lives then Begins else Ends) (seen self.old) }
-        ensures board { self.new.board ≡ self.old.board }
+        ensures left { Leaves self.old self.new (change self.old.board
+            (if nat_lt life self.old.board.lives then Begins else Ends) (seen self.old)) }
     {
         law_limits();
         if life >= self.board.life_limit() {
@@ -116,14 +111,11 @@ impl Controller {
 
     /// This domain goes to this depth.
     fn deepen(&mut self, node: Node, depth: u8)
-        requires level { node.level ≤ height self.old.board }
-        requires place { node.place < nodes self.old.board node.level }
+        requires node { HasNode self.old.board node }
         requires depth { depth ≤ 3 }
-        ensures values { seen self.new ≡ record (seen self.old) {
+        ensures { Leaves self.old self.new (record (seen self.old) {
           depth = deepened node depth (seen self.old).depth;
-        } }
-        ensures life { self.new.life ≡ self.old.life }
-        ensures board { self.new.board ≡ self.old.board }
+        }) }
     {
         law_limits();
         let row = DomainRow {
@@ -138,38 +130,28 @@ impl Controller {
     /// for each child of the domains on the core's path.
     pub(crate) fn take_down(&mut self, core: Core, parts: &[Part]) -> Done
         requires core { core.number < cores self.old.board }
-        requires few { length parts.now ≤ height self.old.board + 1 }
-        requires parts { PartByPart parts.now }
+        requires parts { PartByPart parts.now × (length parts.now ≤ height self.old.board + 1) }
         requires life { (l : ℕ) × (self.old.life ≡ Some l) }
-        ensures applied { result.applied
-            ≡ applied self.old.board (seen self.old) core.number parts.now }
-        ensures stale { result.stale
-            ≡ is_stale self.old.board (seen self.old) core.number parts.now }
-        ensures values { seen self.new ≡ record (seen self.old) {
+        ensures done { result ≡ done (applied self.old.board (seen self.old) core.number parts.now)
+            (is_stale self.old.board (seen self.old) core.number parts.now) }
+        ensures left { Leaves self.old self.new (record (seen self.old) {
           depth = laid self.old.board core.number (take result.applied parts.now)
               (seen self.old).depth;
-        } }
-        ensures board { self.new.board ≡ self.old.board }
+        }) }
     {
         let mut applied: u8 = 0;
         for part in parts {
             let node = self.domain_on_path(core, part.level);
             if !self.is_live(node, part) {
-                return Done {
-                    applied,
-                    stale: true,
-                };
+                return Done::of(applied, true);
             }
             if !self.is_covered(node, part) {
-                break;
+                return Done::of(applied, false);
             }
             self.deepen(node, part.depth);
             applied += 1;
         }
-        Done {
-            applied,
-            stale: false,
-        }
+        Done::of(applied, false)
     }
 
     /// Carries out a message of this life.
@@ -178,10 +160,9 @@ impl Controller {
         requires life { self.old.life ≡ Some message.now.life }
         ensures ack { ack_of message.now result.applied result.stale
             ≡ ack_by self.old.board (seen self.old) message.now message.now.kind }
-        ensures values { seen self.new ≡ change self.old.board (message_effect self.old.board
-            message.now (ack_of message.now result.applied result.stale) message.now.kind)
-            (seen self.old) }
-        ensures board { self.new.board ≡ self.old.board }
+        ensures left { Leaves self.old self.new (change self.old.board
+            (message_effect self.old.board message.now
+            (ack_of message.now result.applied result.stale) message.now.kind) (seen self.old)) }
         ensures most { result.applied ≤ most_applied message.now.kind }
     {
         law_parts();

@@ -3,6 +3,7 @@
 ghost use Rattle.std.specs.Prelude.{◌≡◌, ◌≤◌};
 ghost use Rattle.psci_messages.specs.Message.{most_applied};
 ghost use Rattle.psci_ctl_spec.specs.Replies.{ack_of};
+ghost use Rattle.psci_ctl.specs.Seen.{done};
 
 use psci_messages::{Ack, Message};
 
@@ -27,6 +28,13 @@ impl Done {
         applied: 0,
         stale: true,
     };
+
+    /// So much of it was carried out.
+    pub fn of(applied: u8, stale: bool) -> Done
+        ensures { result ≡ done applied stale }
+    {
+        Done { applied, stale }
+    }
 
     /// The acknowledgement of the message.
     pub fn ack(self, message: &Message) -> Ack

@@ -19,5 +19,4 @@ pub use psci_ctl_spec::{
     Cause, CtlCall, CtlReply, Delivery, Kick, Start, law_acknowledgements, law_depths, law_limits,
     law_nesting, law_one_reply, law_past, law_replies, law_start, law_sums, law_values,
 };
-pub use psci_messages::{Ack, Kind, Message};
-pub use psci_parts::{Part, Parts};
+pub use psci_messages::{Ack, Kind, Message, Part, Parts};

@@ -1,10 +1,10 @@
 //! Starts of cores, row by row.
 
-ghost use Rattle.std.specs.Prelude.{◌≡◌, ◌+◌, ◌<◌, ◌^◌, ℕ, length, Option};
+ghost use Rattle.std.specs.Prelude.{◌≡◌, ◌<◌, ℕ, length, Option};
 ghost use Rattle.psci_board.specs.Board.{cores};
 ghost use Rattle.psci_ctl_spec.specs.Changes.{with_start};
 ghost use Rattle.psci_ctl_spec.specs.Values.{start_of_life};
-ghost use Rattle.psci_ctl.specs.Rows.{core_row, values_in, HasRows, HasSums};
+ghost use Rattle.psci_ctl.specs.Rows.{values_in, AreRows, HasRows, HaveRoom};
 
 use crate::domains::{run_path, turn_off};
 use crate::level::Level;
@@ -24,13 +24,9 @@ pub fn start_core(
     cause: Cause,
 )
     requires core { core.number < cores board.now }
-    requires count { length rows.old ≡ cores board.now }
-    requires shape { HasRows board.now levels.old }
-    requires sums { HasSums board.now rows.old levels.old }
-    requires few { (k : ℕ) → (core_row rows.old k).starts < 2 ^ 32 }
-    requires more { (core_row rows.old core.number).starts + 1 < 2 ^ 32 }
-    ensures shape { HasRows board.now levels.new }
-    ensures sums { HasSums board.now rows.new levels.new }
+    requires rows { AreRows board.now rows.old levels.old }
+    requires room { HaveRoom rows.old core.number }
+    ensures rows { AreRows board.now rows.new levels.new }
     ensures values { (life : Option ℕ) → values_in life rows.new levels.new
         ≡ with_start board.now core.number cause (values_in life rows.old levels.old) }
 {
@@ -50,8 +46,7 @@ pub fn start_core(
 pub fn begin_life(board: &Board, rows: &mut [CoreRow], levels: &mut [Level])
     requires count { length rows.old ≡ cores board.now }
     requires shape { HasRows board.now levels.old }
-    ensures shape { HasRows board.now levels.new }
-    ensures sums { HasSums board.now rows.new levels.new }
+    ensures rows { AreRows board.now rows.new levels.new }
     ensures values { (life : Option ℕ) → values_in life rows.new levels.new
         ≡ record (start_of_life board.now) { life = life } }
 {

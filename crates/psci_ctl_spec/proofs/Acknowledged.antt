@@ -6,7 +6,7 @@ use Rattle.std.proofs.lemmas.Bool.{eq-eqb, eqb-true, true≢false}
 use Rattle.std.proofs.lemmas.List.Sums.{prefix_len-le-length}
 use Rattle.std.proofs.lemmas.Option.{none-some, same_Some}
 use Rattle.psci_board.specs.Board.{BoardValue}
-use Rattle.psci_messages.specs.psci_parts.declared.part.Part.{Part}
+use Rattle.psci_messages.specs.declared.part.Part.{Part}
 use Rattle.psci_board.specs.Board.{domain_of}
 use Rattle.psci_ctl_spec.specs.Laws.{AckLaws}
 use Rattle.psci_ctl_spec.specs.Parts.{applied, begins_stale, is_applied, is_live, is_stale}

@@ -7,7 +7,7 @@ use Rattle.std.specs.Prelude.{slice_get}
 use Rattle.psci_board.specs.Board.{BoardValue, cores, height}
 use Rattle.psci_board.specs.declared.node.Node.{Node}
 use Rattle.psci_board.specs.Laws.{ChildLaws}
-use Rattle.psci_messages.specs.psci_parts.declared.part.Part.{Part}
+use Rattle.psci_messages.specs.declared.part.Part.{Part}
 use Rattle.psci_messages.specs.Message.{AreClaims, PartByPart}
 use Rattle.psci_messages.specs.declared.start.Cause.{Cause}
 use Rattle.psci_ctl_spec.specs.Effects.{Effect, Nothing, Starts, Deepens, Ends, Begins, effect_of}

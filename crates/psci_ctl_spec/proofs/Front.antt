@@ -11,7 +11,7 @@ use Rattle.std.proofs.lemmas.List.Sums.{prefix_len_passes}
 use Rattle.std.proofs.lemmas.Option.{get_or_from_slice_get, none-some, slice_get_within}
 use Rattle.psci_board.specs.Board.{BoardValue, children_at, cores, first_child, height, up}
 use Rattle.psci_board.specs.Laws.{ChildLaws}
-use Rattle.psci_messages.specs.psci_parts.declared.part.Part.{Part}
+use Rattle.psci_messages.specs.declared.part.Part.{Part}
 use Rattle.psci_board.specs.Board.{domain_of}
 use Rattle.psci_messages.specs.Message.{PartByPart}
 use Rattle.psci_ctl_spec.specs.Follows.{IsFront}

@@ -6,7 +6,7 @@ use Rattle.std.proofs.lemmas.Bool.{eqb-true}
 use Rattle.std.proofs.lemmas.Option.{none-some, same_Some}
 use Rattle.psci_board.specs.Board.{BoardValue, IsBoard}
 use Rattle.psci_board.specs.Laws.{ChildLaws}
-use Rattle.psci_messages.specs.psci_parts.declared.part.Part.{Part}
+use Rattle.psci_messages.specs.declared.part.Part.{Part}
 use Rattle.psci_messages.specs.Message.{AreClaims, PartByPart}
 use Rattle.psci_ctl_spec.specs.declared.call.CtlCall.{CtlCall}
 use Rattle.psci_ctl_spec.specs.Changes.{after, change, next_life}

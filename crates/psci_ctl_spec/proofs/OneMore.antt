@@ -3,7 +3,7 @@ use Rattle.std.proofs.Common.{◌≡◌, ℕ, Bool, true, false, cond, ◌==◌,
 use Rattle.std.proofs.Common.{None, option_map, unwrap_or, refl}
 use Rattle.std.specs.Prelude.{slice_get}
 use Rattle.psci_board.specs.Board.{BoardValue}
-use Rattle.psci_messages.specs.psci_parts.declared.part.Part.{Part}
+use Rattle.psci_messages.specs.declared.part.Part.{Part}
 use Rattle.psci_ctl_spec.specs.Changes.{after, change}
 use Rattle.psci_ctl_spec.specs.Effects.{Effect, Nothing, Starts, Deepens, Ends, Begins}
 use Rattle.psci_ctl_spec.specs.Exchange.{CtlExchange}

@@ -3,7 +3,7 @@ use Rattle.std.specs.Prelude.{◌≡◌, ℕ, ◌+◌, ◌*◌, ◌<◌, ◌≤�
 use Rattle.std.specs.Prelude.{slice_get, Some}
 use Rattle.psci_board.specs.declared.node.Node.{Node}
 use Rattle.psci_board.specs.Board.{BoardValue, cores, height, up}
-use Rattle.psci_messages.specs.psci_parts.declared.part.Part.{Part}
+use Rattle.psci_messages.specs.declared.part.Part.{Part}
 use Rattle.psci_board.specs.Board.{domain_of}
 use Rattle.psci_messages.specs.declared.start.Cause.{Cause}
 use Rattle.psci_ctl_spec.specs.Changes.{one_more, with_start}

@@ -9,6 +9,5 @@ pub mod Legal
 pub mod Parts
 pub mod Replies
 pub mod Values
-pub use Rattle.psci_messages.specs.psci_format
-pub use Rattle.psci_messages.specs.psci_parts
+pub use Rattle.psci_messages.specs.psci_abi
 pub use Rattle.psci_messages.specs as psci_messages

@@ -3,7 +3,7 @@
 ghost use Rattle.std.specs.Prelude.{◌≡◌, ◌⊎◌, ◌<◌, ◌≤◌, ℕ, List, [], ◌∷◌, ◌++◌, map, Some};
 ghost use Rattle.psci_board.specs.Board.{BoardValue, IsBoard, cores, height};
 ghost use Rattle.psci_board.specs.declared.node.Node.{Node};
-ghost use Rattle.psci_messages.specs.psci_parts.declared.part.Part.{Part};
+ghost use Rattle.psci_messages.specs.declared.part.Part.{Part};
 ghost use Rattle.psci_ctl_spec.specs.declared.call.CtlCall.{CtlCall};
 ghost use Rattle.psci_messages.specs.declared.start.Cause.{Cause};
 ghost use Rattle.psci_ctl_spec.specs.Changes.{after, change};

@@ -4,8 +4,8 @@
 use Rattle.std.proofs.Common.{◌≡◌, ℕ, List, [], ◌∷◌, Option, None, Some, pos, negsuc, false}
 use Rattle.std.proofs.Common.{ap, refl, arith}
 use Rattle.psci_world_spec.specs.psci_board.Board.{BoardValue}
-use Rattle.psci_board.specs.psci_format.declared.format.Format.TheVariants.{Extended}
-use Rattle.psci_world_spec.specs.psci_claims.psci_parts.declared.part.Part.{Part}
+use Rattle.psci_board.specs.psci_abi.declared.format.Format.TheVariants.{Extended}
+use Rattle.psci_world_spec.specs.psci_messages.declared.part.Part.{Part}
 use Rattle.psci_world_spec.specs.psci_ctl_spec.declared.call.CtlCall.TheVariants as asks
 use Rattle.psci_world_spec.specs.psci_ctl_spec.declared.delivery.Delivery.TheVariants as deliveries
 use Rattle.psci_world_spec.specs.psci_ctl_spec.declared.reply.CtlReply.TheVariants as replied

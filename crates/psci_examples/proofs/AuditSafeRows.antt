@@ -2,7 +2,7 @@
 -- axis one that no legal run tells. And what is said of events in a core's fourth start.
 use Rattle.std.proofs.Common.{◌≡◌, List, [], ◌∷◌, None, Some, true, ap, refl, arith}
 use Rattle.psci_world_spec.specs.psci_board.Board.{BoardValue}
-use Rattle.psci_board.specs.psci_format.declared.format.Format.TheVariants.{Extended}
+use Rattle.psci_board.specs.psci_abi.declared.format.Format.TheVariants.{Extended}
 use Rattle.psci_world_spec.specs.psci_messages.declared.kind.Kind.TheVariants as kinds
 use Rattle.psci_world_spec.specs.psci_messages.declared.start.Cause.TheVariants as causes
 use Rattle.psci_world_spec.specs.declared.event.Event.{Event}

@@ -3,7 +3,7 @@
 use Rattle.std.proofs.Common.{◌≡◌, ℕ, zero, suc, ◌<◌, ◌≤◌, [], ◌∷◌, Option, None, Some}
 use Rattle.std.proofs.Common.{false, refl, ap, arith}
 use Rattle.psci_board.specs.Board.{up}
-use Rattle.psci_messages.specs.psci_parts.declared.part.Part.{Part}
+use Rattle.psci_messages.specs.declared.part.Part.{Part}
 use Rattle.psci_messages.specs.declared.start.Cause.TheVariants as causes
 use Rattle.psci_ctl_spec.specs.Effects.{Deepens, Nothing, Starts}
 use Rattle.psci_messages.specs.declared.kind.Kind.TheVariants as kinds

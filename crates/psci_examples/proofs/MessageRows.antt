@@ -1,7 +1,7 @@
 -- Worked examples of slots after changes, and of which changes are sent for cores that are there.
 use Rattle.std.proofs.Common.{◌≡◌, ℕ, ◌<◌, List, [], ◌∷◌, Option, None, Some}
 use Rattle.std.proofs.Common.{false, refl, arith}
-use Rattle.psci_messages.specs.psci_parts.declared.part.Part.{Part}
+use Rattle.psci_messages.specs.declared.part.Part.{Part}
 use Rattle.psci_messages.specs.declared.kind.Kind.{Kind}
 use Rattle.psci_messages.specs.declared.kind.Kind.TheVariants as kinds
 use Rattle.psci_messages.specs.Message.{AckValue, MessageValue}

@@ -2,9 +2,9 @@
 -- so that a pass that made them has seen them; and for each axis some that are not the last.
 use Rattle.std.proofs.Common.{◌≡◌, ℕ, zero, suc, ◌<◌, List, [], ◌∷◌, Option, None, Some, pos, refl}
 use Rattle.std.proofs.Common.{ap, arith}
-use Rattle.psci_board.specs.psci_format.declared.format.Format.TheVariants.{Extended, Original}
+use Rattle.psci_board.specs.psci_abi.declared.format.Format.TheVariants.{Extended, Original}
 use Rattle.psci_fw.specs.psci_board.Board.{BoardValue, core_of}
-use Rattle.psci_messages.specs.psci_parts.declared.part.Part.{Part}
+use Rattle.psci_messages.specs.declared.part.Part.{Part}
 use Rattle.psci_fw.specs.psci_fw_spec.After.{after}
 use Rattle.psci_fw.specs.psci_fw_spec.Answer.{answer}
 use Rattle.psci_fw.specs.psci_fw_spec.Calls.{outcome_of}

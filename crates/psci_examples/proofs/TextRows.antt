@@ -5,10 +5,10 @@ use Rattle.std.proofs.lemmas.List.Sums.{AllPass-from_list_all}
 use Rattle.std.specs.Prelude.{codes, length}
 use Rattle.std.specs.List.{All}
 use Rattle.std.specs.Char.{is_ascii_digit, is_ascii_hexdigit}
-use Rattle.psci_text.specs.Digits.{value_and_count}
-use Rattle.psci_text.specs.Reading.{◌>>=◌, hex_at, literal_at, spaced_at}
-use Rattle.psci_text.specs.Spelling.{IsHex, IsNumber}
-use Rattle.psci_board.specs.psci_format.declared.format.Format.TheVariants.{Original}
+use Rattle.psci_board.specs.Digits.{value_and_count}
+use Rattle.psci_board.specs.ReadWords.{◌>>=◌, hex_at, literal_at, spaced_at}
+use Rattle.psci_board.specs.Spelling.{IsHex, IsNumber}
+use Rattle.psci_board.specs.psci_abi.declared.format.Format.TheVariants.{Original}
 use Rattle.psci_board.specs.Board.{BoardValue, level_at}
 use Rattle.psci_board.specs.Grammar.{BoardText, IsBoardText, IsListOf, IsMember, IsRange}
 use Rattle.psci_board.specs.Grammar.{IsTreeText}

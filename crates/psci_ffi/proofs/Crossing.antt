@@ -5,7 +5,7 @@ use Rattle.psci_board.proofs.board.Board.TheSendSync as board
 use Rattle.psci_fw.specs.contracts.firmware.Firmware as Firmware
 use Rattle.psci_fw_state.proofs.row.CoreRow.TheSendSync as row
 use Rattle.psci_messages.proofs.slots.Slots.TheSendSync as slots
-use Rattle.psci_polled.specs.contracts.polled.PolledFirmware as Polled
+use Rattle.psci_status.specs.contracts.polled.PolledFirmware as Polled
 use Rattle.psci_status.proofs.seats.Reader.TheSendSync as reader
 use Rattle.psci_status.proofs.seats.StatusWords.TheSendSync as words
 use Rattle.psci_status.proofs.seats.Writer.TheSendSync as writer

@@ -7,7 +7,7 @@ use Rattle.std.specs.Prelude.{◌&&◌, ◌||◌, not, nat_lt, nat_le, ◌==◌,
 use Rattle.std.specs.List.{list_any, list_all}
 use Rattle.std.proofs.lemmas.Bool.Decides.{nat_tests}
 use Rattle.std.proofs.lemmas.List.{length-map, length-take}
-use Rattle.psci_board.specs.psci_format.declared.format.Format.{Format}
+use Rattle.psci_board.specs.psci_abi.declared.format.Format.{Format}
 use Rattle.psci_board.specs.declared.limits.TheConstants.{MOST_CORES, MOST_LIVES}
 use Rattle.psci_board.specs.Board.{BoardValue, IsBoard, IsTree, is_in_some, size_below}
 use Rattle.psci_board.specs.declared.fault.BoardFault.{BoardFault}

@@ -16,6 +16,7 @@ mod MachineAxisRows
 pub mod MachineCrossing
 pub mod MachineMaking
 mod MachineRows
+pub mod NamedCalls
 mod PollerRows
 mod ReaderRows
 mod StopRows

@@ -6,7 +6,7 @@ use Rattle.std.proofs.Common.{replicate, arith}
 use Rattle.std.specs.Prelude.{Result, Ok, Err, None, Some}
 use Rattle.psci_abi.specs.declared.code.Code.{Code}
 use Rattle.psci_abi.specs.declared.registers.Regs.{Regs}
-use Rattle.psci_abi.specs.psci_format.declared.format.Format.TheVariants.{Original}
+use Rattle.psci_abi.specs.declared.format.Format.TheVariants.{Original}
 use Rattle.psci_board.specs.Board.{BoardValue}
 use Rattle.psci_board.specs.declared.fault.BoardFault.{BoardFault}
 use Rattle.psci_board.specs.declared.fault.BoardFault.TheVariants as boards
@@ -22,7 +22,7 @@ use Rattle.psci_platform.specs.Calls.{asked_for}
 use Rattle.psci_platform.specs.Described.{DescriptionValue}
 use Rattle.psci_platform.specs.Platforms.{PlatformValue}
 use Rattle.psci_platform.proofs.Machines.{all_functions, board, calling, checking, row}
-use Rattle.psci_polled.specs.Polled.{PolledView}
+use Rattle.psci_status.specs.Polled.{PolledView}
 use Rattle.psci_ffi.specs.declared.machine_fault.MachineFault.{MachineFault}
 use Rattle.psci_ffi.specs.declared.machine_fault.MachineFault.TheVariants.{Board, Room}
 use Rattle.psci_ffi.specs.declared.machine_given.GivenMachine.{GivenMachine}

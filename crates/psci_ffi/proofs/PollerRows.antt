@@ -9,8 +9,8 @@ use Rattle.psci_fw_spec.specs.declared.status.Status.{Status}
 use Rattle.psci_fw_spec.specs.declared.status.Status.TheVariants.{Off, On, Pending}
 use Rattle.psci_fw_spec.specs.AffinityInfo.{status_code}
 use Rattle.psci_status.specs.Lists.{Item, row}
-use Rattle.psci_polled.specs.Polled.{PolledView}
-use Rattle.psci_polled.proofs.Calls.{board, computing}
+use Rattle.psci_status.specs.Polled.{PolledView}
+use Rattle.psci_status.proofs.Calls.{board, computing}
 use Rattle.psci_ffi.specs.PollerSlot.{KeptWatch}
 use Rattle.psci_ffi.specs.Pollers.{HasPolledIn, IsFilled, IsOpenedFor, OpensPoller}
 use Rattle.psci_ffi.specs.Watching.{HasPolled, IsWatchOf, WatchView}

@@ -12,10 +12,10 @@ use Rattle.psci_fw_spec.specs.Values.{Values}
 use Rattle.psci_fw_state.specs.Seen.{message_shown}
 use Rattle.psci_messages.specs.declared.kind.Kind.TheVariants as kinds
 use Rattle.psci_messages.specs.declared.start.Cause.TheVariants as causes
-use Rattle.psci_polled.specs.Polled.{PolledView}
-use Rattle.psci_polled.proofs.Calls.{Step, board, boots, computing, enters, history, off, on}
-use Rattle.psci_polled.proofs.Calls.{system_off}
-use Rattle.psci_polled.proofs.Calls.{takes}
+use Rattle.psci_status.specs.Polled.{PolledView}
+use Rattle.psci_status.proofs.Calls.{Step, board, boots, computing, enters, history, off, on}
+use Rattle.psci_status.proofs.Calls.{system_off}
+use Rattle.psci_status.proofs.Calls.{takes}
 use Rattle.psci_ffi.specs.declared.answer.SomeFrame.{SomeFrame}
 use Rattle.psci_ffi.specs.Readers.{children_read, cores_read, granted_read, halting_read}
 use Rattle.psci_ffi.specs.Readers.{height_read}

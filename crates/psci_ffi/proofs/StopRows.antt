@@ -3,17 +3,17 @@ use Rattle.std.proofs.Common.{◌≡◌, ℕ, Bool, true, false, List, [], ◌�
 use Rattle.std.specs.Prelude.{None, Some}
 use Rattle.psci_board.specs.Board.{BoardValue}
 use Rattle.psci_fw.specs.Seen.{FirmwareValue, seen}
-use Rattle.psci_fw_spec.specs.psci_claims.LastCore.{last_core_check, refusal, shallow, shallow_at}
+use Rattle.psci_fw_spec.specs.psci_messages.LastCore.{last_core_check, refusal, shallow, shallow_at}
 use Rattle.psci_fw_spec.specs.History.{values_of}
 use Rattle.psci_fw_spec.specs.Values.{Values}
 use Rattle.psci_fw_state.specs.Seen.{message_shown}
 use Rattle.psci_messages.specs.declared.kind.Kind.TheVariants as kinds
 use Rattle.psci_messages.specs.declared.start.Cause.TheVariants as causes
 use Rattle.psci_messages.specs.Message.{MessageValue}
-use Rattle.psci_parts.specs.declared.part.Part.{Part}
-use Rattle.psci_polled.specs.Polled.{PolledView}
-use Rattle.psci_polled.proofs.Calls.{Step, asks, board, boots, computing, enters, history, off, on}
-use Rattle.psci_polled.proofs.Calls.{system_off}
+use Rattle.psci_messages.specs.declared.part.Part.{Part}
+use Rattle.psci_status.specs.Polled.{PolledView}
+use Rattle.psci_status.proofs.Calls.{Step, asks, board, boots, computing, enters, history, off, on}
+use Rattle.psci_status.proofs.Calls.{system_off}
 use Rattle.psci_ffi.specs.declared.stop.Stopping.{Stopping}
 use Rattle.psci_ffi.specs.Slot.{Kept}
 use Rattle.psci_ffi.specs.Stops.{is_suspend, stop_read, stop_sent}

@@ -4,7 +4,7 @@ use mathlib.Core.Path.{subst}
 use Rattle.std.specs.Prelude.{Result, Ok, Err}
 use Rattle.psci_board.specs.Board.{BoardValue}
 use Rattle.psci_fw.specs.Seen.{seen}
-use Rattle.psci_polled.specs.Polled.{IsWrittenFrom, PolledView}
+use Rattle.psci_status.specs.Polled.{IsWrittenFrom, PolledView}
 use Rattle.psci_fw_spec.specs.declared.call.FwCall.TheVariants as calls
 use Rattle.psci_fw_spec.specs.declared.reply.FwReply.{FwReply}
 use Rattle.psci_fw_spec.specs.declared.reply.FwReply.TheVariants as replies

@@ -2,7 +2,7 @@
 use Rattle.std.specs.Prelude.{ℕ, true, List, [], ◌∷◌, map, length, slice_get, replicate}
 use Rattle.std.specs.Prelude.{Option, None, Some}
 use Rattle.psci_board.specs.Board.{BoardValue, domain_of}
-use Rattle.psci_parts.specs.declared.part.Part.{Part}
+use Rattle.psci_messages.specs.declared.part.Part.{Part}
 use Rattle.psci_link.specs.declared.frame.Frame.TheVariants.{Ack}
 use Rattle.psci_link.specs.Frame.{frame_bytes}
 use Rattle.psci_messages.specs.Message.{AckValue}

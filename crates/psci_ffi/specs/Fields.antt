@@ -2,8 +2,8 @@
 use Rattle.std.specs.Prelude.{◌≡◌, true, ℕ, ◌+◌, ◌&&◌, ◌==◌, Bool, List, [], ◌∷◌, length, map, take}
 use Rattle.std.specs.Prelude.{Option, None, Some, option_and_then, nat_lt, nat_le, slice_get}
 use Rattle.std.specs.Prelude.{if◌then◌else◌}
-use Rattle.psci_parts.specs.declared.part.Part.{Part}
-use Rattle.psci_parts.specs.declared.parts.TheConstants.{MOST_PARTS}
+use Rattle.psci_messages.specs.declared.part.Part.{Part}
+use Rattle.psci_messages.specs.declared.parts.TheConstants.{MOST_PARTS}
 use Rattle.psci_messages.specs.declared.kind.Kind.{Kind}
 use Rattle.psci_messages.specs.declared.kind.Kind.TheVariants.{Down, Start, Off, Reset}
 use Rattle.psci_messages.specs.Message.{is_climbing, is_falling, most_applied}
@@ -14,7 +14,7 @@ use Rattle.psci_link.specs.declared.heading.Heading.{Heading}
 use Rattle.psci_link.specs.declared.heading.Heading.TheVariants as headings
 use Rattle.psci_link.specs.Frame.{first_fault, frame_bytes, kind_byte}
 use Rattle.psci_link.specs.Heading.{heading_of}
-use Rattle.psci_polled.specs.Polled.{PolledView}
+use Rattle.psci_status.specs.Polled.{PolledView}
 use Rattle.psci_ffi.specs.declared.answer.SomeFrame.{SomeFrame}
 use Rattle.psci_ffi.specs.declared.fields.Fields.{Fields}
 use Rattle.psci_ffi.specs.declared.fields.PartFields.{PartFields}

@@ -1,7 +1,7 @@
 -- What becomes of bytes that C gives as an acknowledgement.
 use Rattle.std.specs.Prelude.{◌≡◌, ℕ, List, Option, None, Some, IsSomeAnd}
 use Rattle.psci_fw.specs.Seen.{seen}
-use Rattle.psci_polled.specs.Polled.{IsWrittenFrom, PolledView}
+use Rattle.psci_status.specs.Polled.{IsWrittenFrom, PolledView}
 use Rattle.psci_fw_spec.specs.declared.call.FwCall.TheVariants as calls
 use Rattle.psci_fw_spec.specs.declared.reply.FwReply.TheVariants as replies
 use Rattle.psci_fw_spec.specs.After.{after}

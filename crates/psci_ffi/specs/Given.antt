@@ -3,8 +3,8 @@ use Rattle.std.specs.Prelude.{ℕ, ◌^◌, ◌-◌, ◌%◌, ◌||◌, ◌&&◌
 use Rattle.std.specs.Prelude.{map, take, Option, Some, None, Result, Ok, Err, nat_lt, nat_le, ◌==◌}
 use Rattle.std.specs.Prelude.{if◌then◌else◌}
 use Rattle.std.specs.List.{list_any, list_all}
-use Rattle.psci_board.specs.psci_format.declared.format.Format.{Format}
-use Rattle.psci_board.specs.psci_format.declared.format.Format.TheVariants.{Original, Extended}
+use Rattle.psci_board.specs.psci_abi.declared.format.Format.{Format}
+use Rattle.psci_board.specs.psci_abi.declared.format.Format.TheVariants.{Original, Extended}
 use Rattle.psci_board.specs.declared.limits.TheConstants.{MOST_CORES, MOST_LEVELS, MOST_LIVES}
 use Rattle.psci_board.specs.declared.limits.TheConstants.{MOST_RANGES}
 use Rattle.psci_board.specs.declared.range.AddressRange.{AddressRange}

@@ -9,8 +9,10 @@ pub mod Given
 pub mod Lending
 pub mod MachineCalls
 pub mod MachineCodes
+pub mod MachineNamed
 pub mod MachineSlot
 pub mod Machines
+pub mod Named
 pub mod PollerSlot
 pub mod Pollers
 pub mod Readers

@@ -1,6 +1,6 @@
 -- What C gets of a place for one who polls.
 use Rattle.std.specs.Prelude.{◌≡◌, ◌⊎◌, ℕ, ℤ, pos, None, Some, IsSomeAnd}
-use Rattle.psci_polled.specs.Polled.{PolledView}
+use Rattle.psci_status.specs.Polled.{PolledView}
 use Rattle.psci_ffi.specs.Codes.{no_firmware, no_memory}
 use Rattle.psci_ffi.specs.PollerSlot.{KeptWatch}
 use Rattle.psci_ffi.specs.Slot.{Kept}

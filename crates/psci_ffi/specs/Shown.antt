@@ -24,7 +24,7 @@ use Rattle.psci_messages.specs.Message.{MessageValue}
 use Rattle.psci_ffi.specs.declared.answer.Answer.{Answer}
 use Rattle.psci_ffi.specs.declared.answer.SomeFrame.{SomeFrame}
 use Rattle.psci_ffi.specs.Codes.{cause_said, no_cause, no_firmware, refusal}
-use Rattle.psci_polled.specs.Polled.{IsWrittenFrom, PolledView}
+use Rattle.psci_status.specs.Polled.{IsWrittenFrom, PolledView}
 use Rattle.psci_ffi.specs.Slot.{Kept}
 
 -- Answers --------------------------------------------------------------------------------------

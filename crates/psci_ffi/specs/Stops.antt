@@ -7,7 +7,7 @@ use Rattle.psci_fw_state.specs.Seen.{message_shown}
 use Rattle.psci_messages.specs.declared.kind.Kind.{Kind}
 use Rattle.psci_messages.specs.declared.kind.Kind.TheVariants.{Down, Start, Off, Reset}
 use Rattle.psci_messages.specs.Message.{MessageValue}
-use Rattle.psci_parts.specs.declared.part.Part.{Part}
+use Rattle.psci_messages.specs.declared.part.Part.{Part}
 use Rattle.psci_ffi.specs.declared.stop.Stopping.{Stopping}
 use Rattle.psci_ffi.specs.Slot.{Kept}
 

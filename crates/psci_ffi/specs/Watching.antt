@@ -3,8 +3,8 @@ use Rattle.std.specs.Prelude.{◌≡◌, ℕ, List, map}
 use Rattle.atomic_table.specs.Seated.{TableId}
 use Rattle.psci_abi.specs.declared.code.Code.{Code}
 use Rattle.psci_board.specs.Board.{BoardValue, core_of}
-use Rattle.psci_polled.specs.Polled.{PolledView}
-use Rattle.psci_polled.specs.Polls.{IsPolledAs}
+use Rattle.psci_status.specs.Polled.{PolledView}
+use Rattle.psci_status.specs.Polls.{IsPolledAs}
 use Rattle.psci_status.specs.Lists.{Item, newest}
 
 -- one who polls: the board, the table of the status words, and what it has seen of each core

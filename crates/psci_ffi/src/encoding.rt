@@ -12,8 +12,7 @@ use crate::answer::{SomeFrame, no_frame};
 use crate::fields::{Fields, PartFields};
 use psci_board::Core;
 use psci_link::{Frame, encode};
-use psci_messages::{Ack, Kind, Message};
-use psci_parts::{MOST_PARTS, Part, Parts};
+use psci_messages::{Ack, Kind, MOST_PARTS, Message, Part, Parts};
 
 /// How many cores a frame can name.
 const MOST_NAMED: u16 = 256;

@@ -6,8 +6,7 @@ ghost use Rattle.psci_link.specs.Frame.{kind_code};
 ghost use Rattle.psci_ffi.specs.Fields.{fields_of, part_at, part_given, parts_of};
 
 use psci_link::Frame;
-use psci_messages::{Ack, Kind, Message};
-use psci_parts::{MOST_PARTS, Part};
+use psci_messages::{Ack, Kind, MOST_PARTS, Message, Part};
 use std::mem::size_of;
 
 /// A part of a message: what it asks of the power domain of one level.

@@ -5,7 +5,7 @@ use psci_board::{Board, Core, Memory, Node};
 use psci_fw::{Cause, Code, FwFault, Hw, Reaction, Regs, Start, Status, SuspendMode, Taken};
 use psci_link::{Heading, ack_in, heading_on};
 use psci_messages::{Ack, Message};
-use psci_polled::{PolledFirmware, Reader};
+use psci_status::{PolledFirmware, Reader};
 use std::alloc::Global;
 use std::marker::Model;
 use std::sync::Arc;
@@ -14,14 +14,14 @@ use std::sync::Arc;
 /// status words and what was written of each core.
 #[derive(Drop)]
 pub struct Held {
-    common: Arc<Common>,
-    polled: PolledFirmware,
+    pub(crate) common: Arc<Common>,
+    pub(crate) polled: PolledFirmware,
 }
 
 impl Model for Held {
     ghost use Rattle.std.specs.Prelude.{◌≡◌};
     ghost use Rattle.std.specs.Arc.{arc_value};
-    ghost use Rattle.psci_polled.specs.Polled.{PolledView};
+    ghost use Rattle.psci_status.specs.Polled.{PolledView};
     ghost use Rattle.psci_status.specs.Seats.{table};
 
     ghost Value = { PolledView };
@@ -42,7 +42,7 @@ ghost use Rattle.psci_fw_spec.specs.declared.call.FwCall.TheVariants as calls;
 ghost use Rattle.psci_fw_spec.specs.declared.reply.FwReply.TheVariants as replies;
 ghost use Rattle.psci_fw_state.specs.Seen.{message_shown};
 ghost use Rattle.psci_messages.specs.Message.{AckValue, MessageValue};
-ghost use Rattle.psci_polled.specs.Polled.{IsWrittenFrom};
+ghost use Rattle.psci_status.specs.Polled.{IsWrittenFrom};
 ghost use Rattle.psci_status.specs.Seats.{table, table_of_reader, seen as seen_by};
 ghost use Rattle.psci_status.specs.Lists.{newest};
 ghost use Rattle.psci_ffi.specs.Frames.{IsAcknowledged, IsFaulty, IsMisplaced};

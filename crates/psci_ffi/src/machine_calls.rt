@@ -2,23 +2,21 @@
 
 ghost use Rattle.std.specs.Prelude.{◌≡◌, IfSome, Some, option_map};
 ghost use Rattle.psci_fw_spec.specs.declared.mode.SuspendMode.{SuspendMode};
-ghost use Rattle.psci_fw_spec.specs.declared.outcome.Act.TheVariants.{Return};
 ghost use Rattle.psci_fw.specs.Seen.{seen};
-ghost use Rattle.psci_ffi.specs.MachineCalls.{IsCalledIn, IsToldBy, asked_in, asked_shown};
-ghost use Rattle.psci_ffi.specs.MachineCalls.{called_in, nothing_asked, regs_given, regs_in};
-ghost use Rattle.psci_ffi.specs.MachineCalls.{told_in};
+ghost use Rattle.psci_ffi.specs.MachineCalls.{IsCalledIn, asked_in, asked_shown, called_in};
+ghost use Rattle.psci_ffi.specs.MachineCalls.{regs_given, regs_in, told_in};
 ghost use Rattle.psci_platform.specs.declared.asked.Asked.TheVariants.{Nothing};
-ghost use Rattle.psci_ffi.specs.Shown.{IsAfter, IsSameRefused, act_shown, answered, no_frame};
+ghost use Rattle.psci_ffi.specs.Shown.{IsAfter, IsSameRefused, answered};
 
 use crate::answer::{Answer, refused, returned};
 use crate::calls::psci_smc;
 use crate::codes::NO_FIRMWARE;
+use crate::machine_named::{names_core, names_state, on_named, suspend_named};
 use crate::machine_place::MachinePlace;
+use crate::machine_told::{names_node, told_at_once};
 use crate::place::Place;
-use psci_abi::words::{AFFINITY_INFO_32, CPU_SUSPEND_32};
-use psci_board::Core;
-use psci_fw::{Code, Regs};
-use psci_platform::{Asked, Call, SuspendMode, is_same_everywhere};
+use psci_fw::Regs;
+use psci_platform::{Asked, Call, SuspendMode};
 use std::mem::size_of;
 
 /// What a call asks beside what the firmware is told.
@@ -66,74 +64,88 @@ pub extern "C" fn psci_smc_machine(
     ensures machine { machine.new.slot.kept ≡ machine.old.slot.kept }
 {
     if names_state(x0) {
-        smc_in_mode(place, machine, core, x0, x1, x2, x3, answer, asked);
-        return;
+        suspend_named(place, machine, core, x0, x1, x2, x3, answer, asked)
+    } else {
+        smc_node(place, machine, core, x0, x1, x2, x3, answer, asked)
     }
-    match told_at_once(place, machine, core, Regs { x0, x1, x2, x3 }) {
+}
+
+/// Any call, most likely AFFINITY_INFO, which is called most often. Each way has a frame of its
+/// own.
+#[inline(never)]
+fn smc_node(
+    place: &mut Place,
+    machine: &mut MachinePlace,
+    core: u16,
+    x0: u64,
+    x1: u64,
+    x2: u64,
+    x3: u64,
+    answer: &mut Answer,
+    asked: &mut MachineAsked,
+)
+    ensures called { IsCalledIn machine.old.slot.kept place.old.slot.kept core
+        (regs_given x0 x1 x2 x3) answer.new asked.new place.new.slot.kept }
+    ensures machine { machine.new.slot.kept ≡ machine.old.slot.kept }
+{
+    if names_node(x0) {
+        if let Some(code) = told_at_once(place, machine, core, Regs { x0, x1, x2, x3 }, true) {
+            *asked = asked_shown(Asked::Nothing);
+            *answer = returned(code);
+            return;
+        }
+    }
+    smc_else(place, machine, core, x0, x1, x2, x3, answer, asked)
+}
+
+/// Any call, most likely neither CPU_SUSPEND nor AFFINITY_INFO.
+#[inline(never)]
+fn smc_else(
+    place: &mut Place,
+    machine: &mut MachinePlace,
+    core: u16,
+    x0: u64,
+    x1: u64,
+    x2: u64,
+    x3: u64,
+    answer: &mut Answer,
+    asked: &mut MachineAsked,
+)
+    ensures called { IsCalledIn machine.old.slot.kept place.old.slot.kept core
+        (regs_given x0 x1 x2 x3) answer.new asked.new place.new.slot.kept }
+    ensures machine { machine.new.slot.kept ≡ machine.old.slot.kept }
+{
+    if names_core(x0) {
+        on_named(place, machine, core, x0, x1, x2, x3, answer, asked)
+    } else {
+        smc_told(place, machine, core, x0, x1, x2, x3, answer, asked)
+    }
+}
+
+/// Any call, most likely one that is told at once.
+#[inline(never)]
+fn smc_told(
+    place: &mut Place,
+    machine: &mut MachinePlace,
+    core: u16,
+    x0: u64,
+    x1: u64,
+    x2: u64,
+    x3: u64,
+    answer: &mut Answer,
+    asked: &mut MachineAsked,
+)
+    ensures called { IsCalledIn machine.old.slot.kept place.old.slot.kept core
+        (regs_given x0 x1 x2 x3) answer.new asked.new place.new.slot.kept }
+    ensures machine { machine.new.slot.kept ≡ machine.old.slot.kept }
+{
+    match told_at_once(place, machine, core, Regs { x0, x1, x2, x3 }, false) {
         Some(code) => {
             *asked = asked_shown(Asked::Nothing);
             *answer = returned(code);
         }
         None => smc_at_once(place, machine, core, x0, x1, x2, x3, answer, asked),
     }
-}
-
-/// Whether a function word is that of CPU_SUSPEND, which is read by the firmware's mode.
-fn names_state(x0: u64) -> bool {
-    x0 & 0xbfff_ffff == u64::from(CPU_SUSPEND_32)
-}
-
-/// The code that a call is answered which changes nothing and is told at once.
-#[inline(always)]
-fn told_at_once(
-    place: &mut Place,
-    machine: &mut MachinePlace,
-    core: u16,
-    regs: Regs,
-) -> Option<Code>
-    ensures told { IfSome result (λ code. IsCalledIn machine.old.slot.kept place.old.slot.kept core
-        regs (act_shown (Return code) no_frame) nothing_asked place.old.slot.kept) }
-    ensures place { place.new.slot.kept ≡ place.old.slot.kept }
-    ensures machine { machine.new.slot.kept ≡ machine.old.slot.kept }
-{
-    let regs = asks_at_once(machine, regs)?;
-    code_of(place, core, regs)
-}
-
-/// The registers of the firmware's call, where it may be one that is told at once.
-#[inline(always)]
-fn asks_at_once(place: &mut MachinePlace, regs: Regs) -> Option<Regs>
-    ensures regs { IfSome result (λ r. (mode : SuspendMode)
-        → r ≡ regs_in place.old.slot.kept mode regs) }
-    ensures asked { IfSome result (λ _. (mode : SuspendMode)
-        → asked_in place.old.slot.kept mode regs ≡ Nothing) }
-    ensures same { place.new.slot.kept ≡ place.old.slot.kept }
-{
-    if is_same_everywhere(&regs) {
-        return Some(regs);
-    }
-    if !names_node(regs.x0) {
-        return None;
-    }
-    at_once(place, regs)
-}
-
-/// Whether a function word is that of AFFINITY_INFO.
-fn names_node(x0: u64) -> bool {
-    x0 & 0xbfff_ffff == u64::from(AFFINITY_INFO_32)
-}
-
-/// The code that the firmware in a place answers a call which changes nothing, if it can be told
-/// at once.
-#[inline(always)]
-fn code_of(place: &mut Place, core: u16, regs: Regs) -> Option<Code>
-    ensures code { IfSome result (IsToldBy place.old.slot.kept core regs) }
-    ensures same { place.new.slot.kept ≡ place.old.slot.kept }
-{
-    if !place.full {
-        return None;
-    }
-    place.slot.held().code_at_once(Core { number: core }, regs)
 }
 
 /// A call that is not told at once, whose registers can be said at once, most likely. It has a
@@ -165,7 +177,7 @@ fn smc_at_once(
 
 /// Any call, by the mode that the firmware is in.
 #[inline(never)]
-fn smc_in_mode(
+pub fn smc_in_mode(
     place: &mut Place,
     machine: &mut MachinePlace,
     core: u16,
@@ -194,7 +206,7 @@ fn smc_in_mode(
 /// The registers of the firmware's call, if they can be said at once, are the same in each mode,
 /// and nothing is asked beside.
 #[inline(always)]
-fn at_once(place: &mut MachinePlace, regs: Regs) -> Option<Regs>
+pub fn at_once(place: &mut MachinePlace, regs: Regs) -> Option<Regs>
     ensures regs { IfSome result (λ r. (mode : SuspendMode)
         → r ≡ regs_in place.old.slot.kept mode regs) }
     ensures asked { IfSome result (λ _. (mode : SuspendMode)
@@ -208,7 +220,7 @@ fn at_once(place: &mut MachinePlace, regs: Regs) -> Option<Regs>
 }
 
 /// The mode that the firmware in a place is in.
-fn mode_in(place: &mut Place) -> Option<SuspendMode>
+pub fn mode_in(place: &mut Place) -> Option<SuspendMode>
     ensures mode { result ≡ option_map (λ f. (seen f.firmware).mode) place.old.slot.kept }
     ensures same { place.new.slot.kept ≡ place.old.slot.kept }
 {
@@ -234,7 +246,7 @@ fn translate(place: &mut MachinePlace, mode: SuspendMode, regs: Regs) -> Call
 }
 
 /// What is asked, as C sees it.
-fn asked_shown(asked: Asked) -> MachineAsked
+pub fn asked_shown(asked: Asked) -> MachineAsked
     ensures { result ≡ asked_shown asked }
 {
     match asked {

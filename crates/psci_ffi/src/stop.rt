@@ -6,8 +6,7 @@ ghost use Rattle.psci_ffi.specs.Stops.{stop_sent};
 
 use crate::place::Place;
 use psci_abi::words::{CPU_SUSPEND_32, CPU_SUSPEND_64, SYSTEM_SUSPEND_32, SYSTEM_SUSPEND_64};
-use psci_messages::{Kind, Message};
-use psci_parts::Part;
+use psci_messages::{Kind, Message, Part};
 use std::alloc::Global;
 use std::mem::size_of;
 

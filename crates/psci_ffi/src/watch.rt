@@ -2,7 +2,7 @@
 
 use crate::common::Common;
 use psci_fw::Code;
-use psci_polled::{Reader, affinity_core};
+use psci_status::{Reader, affinity_core};
 use std::marker::Model;
 use std::sync::Arc;
 

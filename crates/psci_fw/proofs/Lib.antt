@@ -1,5 +1,7 @@
 mod Answered
+mod AskingRows
 mod Called
+mod Carried
 mod Fresh
 mod ReactionRows
 mod SeenRows

@@ -3,7 +3,7 @@ use Rattle.std.proofs.Common.{◌≡◌, ℕ, ◌==◌, [], ◌∷◌, Option, N
 use Rattle.std.proofs.Common.{map, arith}
 use Rattle.std.specs.Prelude.{if◌then◌else◌}
 use Rattle.psci_board.specs.Board.{BoardValue}
-use Rattle.psci_fw_spec.specs.psci_abi.psci_format.declared.format.Format.TheVariants.{Original}
+use Rattle.psci_fw_spec.specs.psci_abi.declared.format.Format.TheVariants.{Original}
 use Rattle.psci_fw_spec.specs.declared.fault.FwFault.TheVariants.{NoLife}
 use Rattle.psci_fw_spec.specs.declared.outcome.Act.TheVariants.{Stop}
 use Rattle.psci_fw_spec.specs.declared.reply.FwReply.TheVariants.{Out, Fault}

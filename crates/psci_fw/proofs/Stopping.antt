@@ -7,11 +7,11 @@ use Rattle.psci_abi.specs.declared.request.Request.{Request}
 use Rattle.psci_abi.specs.declared.request.Request.TheVariants as requests
 use Rattle.psci_board.specs.Board.{BoardValue, cores, height, may_enter, up}
 use Rattle.psci_board.specs.Laws.{PathLaws}
-use Rattle.psci_claims.specs.psci_parts.declared.part.Part.{Part}
-use Rattle.psci_claims.specs.Claim.{off_wish, own_wish}
-use Rattle.psci_claims.specs.Claim.{least_wish, platform_claims}
-use Rattle.psci_claims.specs.Laws.{ClaimLaws, LastCoreLaws}
-use Rattle.psci_claims.specs.View.{PowerView}
+use Rattle.psci_messages.specs.declared.part.Part.{Part}
+use Rattle.psci_messages.specs.Claim.{off_wish, own_wish}
+use Rattle.psci_messages.specs.Claim.{least_wish, platform_claims}
+use Rattle.psci_messages.specs.Laws.{ClaimLaws, LastCoreLaws}
+use Rattle.psci_messages.specs.View.{PowerView}
 use Rattle.psci_messages.specs.declared.kind.Kind.TheVariants.{Down}
 use Rattle.psci_state.specs.Ask.{deepest_of, is_deep}
 use Rattle.psci_fw_spec.specs.declared.mode.SuspendMode.{SuspendMode}

@@ -1,7 +1,7 @@
 -- Whether a core may be suspended, and what it leaves.
 use Rattle.std.specs.Prelude.{◌≡◌, ℕ, List, Option, None, Some, Ok}
 use Rattle.psci_board.specs.Board.{BoardValue}
-use Rattle.psci_claims.specs.psci_parts.declared.part.Part.{Part}
+use Rattle.psci_messages.specs.declared.part.Part.{Part}
 use Rattle.psci_messages.specs.Message.{MessageValue}
 use Rattle.psci_state.specs.Ask.{IsAsk}
 use Rattle.psci_fw_spec.specs.declared.opening.Opening.{Opening}

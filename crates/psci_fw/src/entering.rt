@@ -1,7 +1,7 @@
 //! The entry of a started core: it goes on, or stops.
 
 ghost use Rattle.std.specs.Prelude.{◌≡◌, ◌<◌, MatchResult, None, Some};
-ghost use Rattle.psci_board.specs.Board.{IsBoard};
+ghost use Rattle.psci_board.specs.Board.{IsBoard, cores};
 ghost use Rattle.psci_fw_spec.specs.After.{change};
 ghost use Rattle.psci_fw_spec.specs.Effects.{enter_effect};
 ghost use Rattle.psci_fw_spec.specs.Entering.{enter_fault, enter_outcome, is_old, resumes};
@@ -100,6 +100,7 @@ fn begin(state: &mut State, life: u32)
 
 /// Where a core goes on that enters by this start: at its opening, or after its suspend.
 fn way_on(state: &State, core: Core, start: Start) -> Option<Act>
+    requires { core.number < cores state.now.board }
     ensures { result ≡ way_on (values_in state.now) core.number start }
 {
     match state.opening(core) {

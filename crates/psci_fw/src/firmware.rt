@@ -24,7 +24,8 @@ impl Model for Firmware {
     ghost invariant = { λ f. IsFirmware f.state.value };
 }
 
-ghost use Rattle.std.specs.Prelude.{◌≡◌, ℕ, IfOk, OnErr, option_map};
+ghost use Rattle.std.specs.Prelude.{◌≡◌, ◌<◌, ℕ, IfOk, OnErr, option_map};
+ghost use Rattle.psci_board.specs.Board.{cores};
 ghost use Rattle.psci_messages.specs.declared.taken.Taken.TheVariants.{Old};
 ghost use Rattle.psci_fw_spec.specs.declared.call.FwCall.TheVariants as calls;
 ghost use Rattle.psci_fw_spec.specs.declared.reply.FwReply.TheVariants as replies;
@@ -166,6 +167,14 @@ impl Firmware {
         ensures { result ≡ status_shown self.now node }
     {
         (self.state.life() != 0).then(|| self.state.node_status(node))
+    }
+
+    /// The status of a core of the board.
+    pub fn core_status(&self, core: Core) -> Status
+        requires { core.number < cores self.now.board }
+        ensures { result ≡ (seen self.now).status core.number }
+    {
+        self.state.status(core)
     }
 
     /// The outstanding message of the core of this number, or of the system at the number of cores.

@@ -3,7 +3,7 @@
 
 ghost use Rattle.std.specs.Prelude.{◌≡◌, ◌<◌, ◌&&◌, ℕ, List, None, Ok, false, not, true};
 ghost use Rattle.psci_board.specs.Board.{BoardValue, IsBoard, cores, height, may_enter};
-ghost use Rattle.psci_claims.specs.psci_parts.declared.part.Part.{Part};
+ghost use Rattle.psci_messages.specs.declared.part.Part.{Part};
 ghost use Rattle.psci_state.specs.Ask.{deepest_of, is_deep};
 ghost use Rattle.psci_messages.specs.declared.start.Start.{Start};
 ghost use Rattle.psci_abi.specs.Calls.{request_of};
@@ -28,8 +28,8 @@ ghost use Rattle.psci_fw.specs.Seen.{IsFresh};
 ghost use Rattle.psci_fw_state.specs.Claims.{MayClaim};
 
 use psci_board::law_paths;
-use psci_claims::{law_claims, law_last_core};
 use psci_fw_spec::{law_caller, law_enters, law_invariant};
+use psci_messages::{law_claims, law_last_core};
 
 /// The claims of cores that stop may be granted.
 pub fn law_may_claim()

@@ -1,6 +1,6 @@
 //! The functions that a running core calls.
 
-ghost use Rattle.std.specs.Prelude.{◌≡◌, ◌<◌, IfSome};
+ghost use Rattle.std.specs.Prelude.{◌≡◌, ◌<◌};
 ghost use Rattle.psci_abi.specs.Calls.{features_of, request_of};
 ghost use Rattle.psci_board.specs.Board.{IsBoard, cores};
 ghost use Rattle.psci_fw_spec.specs.AffinityInfo.{affinity_info};
@@ -8,24 +8,27 @@ ghost use Rattle.psci_fw_spec.specs.After.{change};
 ghost use Rattle.psci_fw_spec.specs.Calls.{outcome_of};
 ghost use Rattle.psci_fw_spec.specs.Effects.{function_effect};
 ghost use Rattle.psci_fw_spec.specs.Invariant.{AreValues};
-ghost use Rattle.psci_fw_spec.specs.Outcomes.{returns};
 ghost use Rattle.psci_fw_spec.specs.Phases.{Running};
+ghost use Rattle.psci_fw.specs.Asking.{code_asked};
 ghost use Rattle.psci_fw.specs.Calls.{FunctionAnswered, MayCall};
 ghost use Rattle.psci_fw.specs.Reactions.{IsInItsSlot, outcome_in};
+ghost use Rattle.psci_fw.specs.Read.{IsOnOf, IsSuspendOf};
 ghost use Rattle.psci_fw_state.specs.Seen.{values_in};
+ghost use Rattle.psci_state.specs.Ask.{IsAsk};
 
 use crate::affinity::affinity_info;
 use crate::hw::node_hw_state;
 use crate::mode::set_suspend_mode;
 use crate::off::cpu_off;
-use crate::on::cpu_on;
+use crate::on::{cpu_on, start};
 use crate::reaction::Reaction;
-use crate::suspend::cpu_suspend;
+use crate::suspend::{cpu_suspend, suspend};
 use crate::system::{system_off, system_reset, system_reset2, system_suspend};
-use psci_abi::{Code, Regs, Request, features, read};
+use psci_abi::{Code, Regs, Request, features, low, read};
 use psci_board::{Board, Core};
 use psci_fw_spec::Opening;
 use psci_fw_state::State;
+use psci_state::Ask;
 
 /// PSCI 1.1: the major version in bits 31:16, the minor one in bits 15:0.
 const VERSION: Code = Code(0x0001_0001);
@@ -56,6 +59,43 @@ pub fn dispatch<A>(state: &mut State, caller: Core, regs: Regs) -> Reaction
     function::<A>(state, caller, read(regs))
 }
 
+/// What a core is answered that calls CPU_ON of this core.
+#[inline(always)]
+#[tactic(auto, unfolding(psci_fw_spec::specs::Calls::outcome_of))]
+pub fn turn_on(state: &mut State, caller: Core, regs: Regs, target: Core) -> Reaction
+    requires call { MayCall state.old caller.number }
+    requires on { IsOnOf state.old.board regs target }
+    ensures answer { outcome_in state.new.board (values_in state.new) result
+        ≡ outcome_of state.old.board (values_in state.old) caller.number (request_of regs) }
+    ensures slot { IsInItsSlot state.new.board (values_in state.new) result }
+    ensures after { let outcome = outcome_in state.new.board (values_in state.new) result in
+        values_in state.new ≡ change state.old.board (function_effect state.old.board caller.number
+        (request_of regs) outcome.act outcome.message) (values_in state.old) }
+    ensures board { state.new.board ≡ state.old.board }
+{
+    let opening = opening(regs.argument(regs.x2), regs.argument(regs.x3));
+    start(state, caller, regs.argument(regs.x1), target, opening)
+}
+
+/// What a core is answered that calls CPU_SUSPEND with this ask.
+#[inline(always)]
+#[tactic(auto, unfolding(psci_fw_spec::specs::Calls::outcome_of))]
+pub fn suspend_with(state: &mut State, caller: Core, regs: Regs, ask: Ask) -> Reaction
+    requires call { MayCall state.old caller.number }
+    requires suspend { IsSuspendOf state.old.board regs ask }
+    requires shape { IsAsk ask }
+    ensures answer { outcome_in state.new.board (values_in state.new) result
+        ≡ outcome_of state.old.board (values_in state.old) caller.number (request_of regs) }
+    ensures slot { IsInItsSlot state.new.board (values_in state.new) result }
+    ensures after { let outcome = outcome_in state.new.board (values_in state.new) result in
+        values_in state.new ≡ change state.old.board (function_effect state.old.board caller.number
+        (request_of regs) outcome.act outcome.message) (values_in state.old) }
+    ensures board { state.new.board ≡ state.old.board }
+{
+    let opening = opening(regs.argument(regs.x2), regs.argument(regs.x3));
+    suspend(state, caller, low(regs.argument(regs.x1)), ask, opening)
+}
+
 /// AFFINITY_INFO, with a frame of its own, so that what else is told at once has none.
 #[inline(never)]
 fn affinity_apart(state: &State, target: u64, level: u32) -> Code
@@ -66,10 +106,8 @@ fn affinity_apart(state: &State, target: u64, level: u32) -> Code
 
 /// The code of a function that only asks something; None of another.
 #[inline(always)]
-pub fn code_at_once(state: &State, caller: Core, request: Request) -> Option<Code>
-    requires { MayCall state.now caller.number }
-    ensures { IfSome result (λ code. FunctionAnswered state.now.board (values_in state.now)
-        caller.number request (returns code) (values_in state.now)) }
+pub fn code_at_once(state: &State, request: Request) -> Option<Code>
+    ensures { result ≡ code_asked state.now.board (values_in state.now) request }
 {
     match request {
         Request::Version => Some(VERSION),

@@ -1,11 +1,11 @@
 //! CPU_SUSPEND.
 
-ghost use Rattle.std.specs.Prelude.{◌≡◌, ◌&&◌, not};
+ghost use Rattle.std.specs.Prelude.{◌≡◌, ◌&&◌, not, Ok};
 ghost use Rattle.psci_abi.specs.declared.request.Request.TheVariants.{CpuSuspend};
 ghost use Rattle.psci_board.specs.Board.{may_enter};
-ghost use Rattle.psci_state.specs.Ask.{is_deep};
+ghost use Rattle.psci_state.specs.Ask.{IsAsk, is_deep};
 ghost use Rattle.psci_fw_spec.specs.Claims.{suspend_parts};
-ghost use Rattle.psci_fw_spec.specs.CpuSuspend.{osi_code, suspend_answer};
+ghost use Rattle.psci_fw_spec.specs.CpuSuspend.{ask_named, osi_code, suspend_answer};
 ghost use Rattle.psci_fw_spec.specs.Effects.{suspends};
 ghost use Rattle.psci_fw.specs.Calls.{FunctionAnswered, MayCall};
 ghost use Rattle.psci_fw.specs.Suspending.{MaySuspend, Suspends};
@@ -17,9 +17,9 @@ use crate::off::send_down;
 use crate::reaction::Reaction;
 use psci_abi::Code;
 use psci_board::{Board, Core};
-use psci_claims::Osi;
 use psci_fw_spec::{Opening, law_stops};
 use psci_fw_state::State;
+use psci_messages::Osi;
 use psci_state::Ask;
 
 /// CPU_SUSPEND (DEN0022D): the caller stops in this power state, until it is woken. Where it powers
@@ -33,11 +33,29 @@ pub fn cpu_suspend(state: &mut State, caller: Core, word: u32, opening: Opening)
     ensures slot { IsInItsSlot state.new.board (values_in state.new) result }
     ensures board { state.new.board ≡ state.old.board }
 {
-    law_may_claim();
     let board = state.board();
     let Ok(ask) = Ask::read(word, board.format(), board.height()) else {
         return Reaction::returns(Code::INVALID_PARAMETERS);
     };
+    suspend(state, caller, word, ask, opening)
+}
+
+/// The same, where the ask of the word is known. Compiled into its callers, so that it has no frame
+/// of its own.
+#[inline(always)]
+pub fn suspend(state: &mut State, caller: Core, word: u32, ask: Ask, opening: Opening) -> Reaction
+    requires call { MayCall state.old caller.number }
+    requires ask { ask_named state.old.board word ≡ Ok ask }
+    requires shape { IsAsk ask }
+    ensures answer { FunctionAnswered state.old.board (values_in state.old) caller.number
+        (CpuSuspend word opening.address opening.context)
+        (outcome_in state.new.board (values_in state.new) result) (values_in state.new) }
+    ensures slot { IsInItsSlot state.new.board (values_in state.new) result }
+    ensures board { state.new.board ≡ state.old.board }
+{
+    law_may_claim();
+    let _word = word;
+    let board = state.board();
     if has_invalid_entry(board, ask, opening.address) {
         return Reaction::returns(Code::INVALID_ADDRESS);
     }
@@ -48,6 +66,7 @@ pub fn cpu_suspend(state: &mut State, caller: Core, word: u32, opening: Opening)
 }
 
 /// Whether a core that asks for this would go on at an address that it may not enter.
+#[inline(always)]
 fn has_invalid_entry(board: &Board, ask: Ask, entry_point: u64) -> bool
     ensures { result ≡ (is_deep ask && not (may_enter board.now entry_point)) }
 {

@@ -17,10 +17,9 @@ use crate::reaction::Reaction;
 use crate::suspend::sleep;
 use psci_abi::Code;
 use psci_board::Core;
-use psci_claims::Parts;
 use psci_fw_spec::Opening;
 use psci_fw_state::State;
-use psci_messages::Kind;
+use psci_messages::{Kind, Parts};
 use psci_state::Ask;
 
 /// The reset type of SYSTEM_RESET2 (DEN0022D) that is there. Bit 31 marks a type of a vendor.

@@ -4,7 +4,7 @@ use Rattle.std.proofs.Common.{◌≡◌, ◌<◌, ◌==◌, ℕ, zero, suc, true
 use Rattle.std.proofs.Common.{refl, arith}
 use Rattle.std.proofs.lemmas.Bool.{ne_eqb}
 use Rattle.psci_board.specs.Board.{BoardValue, up}
-use Rattle.psci_claims.specs.View.{PowerView}
+use Rattle.psci_messages.specs.View.{PowerView}
 use Rattle.psci_fw_laws.specs.Beside.{AreAwake, HasSleeper, IsInTheWay, NobodyAwake}
 use Rattle.psci_fw_laws.proofs.SwapRows.{one_level}
 

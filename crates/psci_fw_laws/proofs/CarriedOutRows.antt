@@ -5,7 +5,7 @@ use Rattle.std.proofs.Common.{arith, ap, ◌∙◌, ◌==◌, if◌then◌else�
 use Rattle.std.specs.Prelude.{slice_get}
 use Rattle.std.proofs.lemmas.Option.{same_Some}
 use Rattle.psci_board.specs.Board.{BoardValue, up}
-use Rattle.psci_claims.specs.psci_parts.declared.part.Part.{Part}
+use Rattle.psci_messages.specs.declared.part.Part.{Part}
 use Rattle.psci_messages.specs.declared.kind.Kind.{Kind}
 use Rattle.psci_messages.specs.declared.kind.Kind.TheVariants.{Down, Start}
 use Rattle.psci_messages.specs.Message.{AckValue, MessageValue}

@@ -7,7 +7,7 @@ use Rattle.std.specs.List.{sum_by}
 use Rattle.psci_board.specs.Board.{BoardValue, below, up}
 use Rattle.psci_board.specs.Paths.{is_path_place}
 use Rattle.psci_board.specs.declared.node.Node.{Node}
-use Rattle.psci_claims.specs.psci_parts.declared.part.Part.{Part}
+use Rattle.psci_messages.specs.declared.part.Part.{Part}
 use Rattle.psci_messages.specs.declared.kind.Kind.TheVariants.{Down}
 use Rattle.psci_messages.specs.Message.{AckValue, MessageValue}
 use Rattle.psci_messages.specs.Slots.{Acknowledge, Clear, Put, is_kind, slot_of}

@@ -2,9 +2,9 @@
 use Rattle.std.proofs.Common.{◌≡◌, ◌<◌, ℕ, ◌+◌, inl, inr, List, [], ◌∷◌, true, false, None, Some}
 use Rattle.std.proofs.Common.{refl, ap, arith}
 use Rattle.psci_board.specs.Board.{core_of, up}
-use Rattle.psci_claims.specs.Claim.{claims_of}
-use Rattle.psci_claims.specs.View.{generation, least_ask}
-use Rattle.psci_claims.specs.psci_parts.declared.part.Part.{Part}
+use Rattle.psci_messages.specs.Claim.{claims_of}
+use Rattle.psci_messages.specs.View.{generation, least_ask}
+use Rattle.psci_messages.specs.declared.part.Part.{Part}
 use Rattle.psci_messages.specs.declared.kind.Kind.TheVariants.{Down, Start, Reset}
 use Rattle.psci_messages.specs.Message.{MessageValue}
 use Rattle.psci_messages.specs.Outstanding.{changes_since, last_message, outstanding}

@@ -3,10 +3,10 @@ use Rattle.std.proofs.Common.{◌≡◌, ℕ, zero, suc, ◌+◌, Bool, not, Lis
 use Rattle.std.proofs.Common.{refl, ap, ◌∙◌, if◌then◌else◌}
 use Rattle.psci_board.specs.Board.{BoardValue, height}
 use Rattle.psci_board.specs.declared.node.Node.{Node}
-use Rattle.psci_claims.specs.Claim.{climb, claims_of, least_wish, off_claims, off_wish}
-use Rattle.psci_claims.specs.Claim.{own_claims, own_wish, platform_claims}
-use Rattle.psci_claims.specs.View.{PowerView, domain_of, generation, is_all_away, is_idle}
-use Rattle.psci_claims.specs.View.{least_ask}
+use Rattle.psci_messages.specs.Claim.{climb, claims_of, least_wish, off_claims, off_wish}
+use Rattle.psci_messages.specs.Claim.{own_claims, own_wish, platform_claims}
+use Rattle.psci_messages.specs.View.{PowerView, domain_of, generation, is_all_away, is_idle}
+use Rattle.psci_messages.specs.View.{least_ask}
 use Rattle.psci_fw_laws.specs.Renumbered.{node_by}
 use Rattle.psci_fw_laws.proofs.Renumbering.{Renumbers, all-below, least-below, sum-below}
 

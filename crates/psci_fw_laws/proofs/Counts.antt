@@ -4,7 +4,7 @@ use Rattle.std.proofs.Common.{if◌then◌else◌, min, map, filter, refl, ap, �
 use Rattle.std.specs.List.{sum_by, list_all, list_any}
 use Rattle.std.proofs.lemmas.Bool.{cases_Bool}
 use Rattle.std.proofs.lemmas.List.Sums.{sum_by-cons}
-use Rattle.psci_claims.specs.psci_state.Ask.{least}
+use Rattle.psci_messages.specs.psci_state.Ask.{least}
 use Rattle.psci_fw_laws.proofs.Folds.{fold, Commutes}
 
 -- Steps -----------------------------------------------------------------------------------------

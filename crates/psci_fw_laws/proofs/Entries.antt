@@ -11,7 +11,7 @@ use Rattle.psci_board.specs.Board.{BoardValue, cores}
 use Rattle.psci_messages.specs.declared.taken.Taken.TheVariants as takens
 use Rattle.psci_messages.specs.Message.{AckValue, MessageValue}
 use Rattle.psci_messages.specs.Slots.{answers, slot_of, taken}
-use Rattle.psci_claims.specs.psci_state.Cores.{asks}
+use Rattle.psci_messages.specs.psci_state.Cores.{asks}
 use Rattle.psci_fw_spec.specs.declared.call.FwCall.{FwCall}
 use Rattle.psci_fw_spec.specs.declared.call.FwCall.TheVariants.{Smc, Enter, Take}
 use Rattle.psci_fw_spec.specs.declared.fault.FwFault.{FwFault}

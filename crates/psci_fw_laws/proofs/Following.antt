@@ -98,9 +98,9 @@ stop-by : (b : BoardValue) (s : ℕ → ℕ → ℕ) (c : ℕ) (r q : Request) (
     → stop_effect b (s 0 c) q (message_by s m) ≡ effect_by s (stop_effect b c r m)
 stop-by b s c (requests.CpuOn target entry_point context) q m asks =
     ap (λ (p : Request). stop_effect b (s 0 c) p (message_by s m)) asks.2
-stop-by b s c (requests.AffinityInfo target level) q m asks =
+stop-by b s c (requests.AffinityInfo level target) q m asks =
     ap (λ (p : Request). stop_effect b (s 0 c) p (message_by s m)) asks.2
-stop-by b s c (requests.NodeHwState target level) q m asks =
+stop-by b s c (requests.NodeHwState level target) q m asks =
     ap (λ (p : Request). stop_effect b (s 0 c) p (message_by s m)) asks.2
 stop-by b s c r q m asks =
     ap (λ (p : Request). stop_effect b (s 0 c) p (message_by s m)) asks
@@ -111,9 +111,9 @@ sent-by : (b : BoardValue) (s : ℕ → ℕ → ℕ) (c : ℕ) (r q : Request) (
     → sent_effect (s 0 c) q (message_by s m) ≡ effect_by s (sent_effect c r m)
 sent-by b s c (requests.CpuOn target entry_point context) q m asks =
     ap (λ (p : Request). sent_effect (s 0 c) p (message_by s m)) asks.2
-sent-by b s c (requests.AffinityInfo target level) q m asks =
+sent-by b s c (requests.AffinityInfo level target) q m asks =
     ap (λ (p : Request). sent_effect (s 0 c) p (message_by s m)) asks.2
-sent-by b s c (requests.NodeHwState target level) q m asks =
+sent-by b s c (requests.NodeHwState level target) q m asks =
     ap (λ (p : Request). sent_effect (s 0 c) p (message_by s m)) asks.2
 sent-by b s c r q m asks =
     ap (λ (p : Request). sent_effect (s 0 c) p (message_by s m)) asks
@@ -130,9 +130,9 @@ return-by : (b : BoardValue) (s : ℕ → ℕ → ℕ) (c : ℕ) (r q : Request)
     → return_effect (s 0 c) q code ≡ effect_by s (return_effect c r code)
 return-by b s c (requests.CpuOn target entry_point context) q code asks =
     ap (λ (p : Request). return_effect (s 0 c) p code) asks.2
-return-by b s c (requests.AffinityInfo target level) q code asks =
+return-by b s c (requests.AffinityInfo level target) q code asks =
     ap (λ (p : Request). return_effect (s 0 c) p code) asks.2
-return-by b s c (requests.NodeHwState target level) q code asks =
+return-by b s c (requests.NodeHwState level target) q code asks =
     ap (λ (p : Request). return_effect (s 0 c) p code) asks.2
 return-by b s c (requests.SetSuspendMode number) q code asks =
     ap (λ (p : Request). return_effect (s 0 c) p code) asks

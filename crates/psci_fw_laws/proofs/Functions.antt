@@ -66,8 +66,8 @@ function_allowed b v c requests.CpuOff laws ready calls awake are =
 function_allowed b v c (requests.CpuOn target entry_point context) laws ready calls awake are =
     on_allowed b v c target entry_point context (target_of b v target entry_point) laws ready calls
     awake refl are
-function_allowed b v c (requests.AffinityInfo target level) laws ready calls awake are = calls
-function_allowed b v c (requests.NodeHwState target level) laws ready calls awake are = calls
+function_allowed b v c (requests.AffinityInfo level target) laws ready calls awake are = calls
+function_allowed b v c (requests.NodeHwState level target) laws ready calls awake are = calls
 function_allowed b v c requests.MigrateInfoType laws ready calls awake are = calls
 function_allowed b v c requests.SystemOff laws ready calls awake are =
     halt_allowed b v c ready calls awake kinds.Off refl

@@ -20,10 +20,10 @@ function-by : (b : BoardValue) (s : ℕ → ℕ → ℕ) (v : Values) (c : ℕ) 
 function-by b s v c (requests.CpuOn target entry_point context) q is asks =
     ap (function_outcome b (values_by s v) (s 0 c)) asks.2
     ∙ cpu_on-by b s v target asks.0 entry_point is asks.1
-function-by b s v c (requests.AffinityInfo target level) q is asks =
+function-by b s v c (requests.AffinityInfo level target) q is asks =
     ap (function_outcome b (values_by s v) (s 0 c)) asks.2
     ∙ affinity-by b s v (node_of b target level) (node_of b asks.0 level) is asks.1
-function-by b s v c (requests.NodeHwState target level) q is asks =
+function-by b s v c (requests.NodeHwState level target) q is asks =
     ap (function_outcome b (values_by s v) (s 0 c)) asks.2
     ∙ hw_state-by b s v (node_of b target level) (node_of b asks.0 level) is asks.1
 function-by b s v c (requests.CpuSuspend state entry_point context) q is asks =

@@ -8,9 +8,9 @@ use Rattle.std.proofs.lemmas.List.Concat.{flat_map-cons}
 use Rattle.std.proofs.lemmas.List.Folds.{list_any-append}
 use Rattle.psci_board.specs.Board.{BoardValue, height, up, first_child, children_at}
 use Rattle.psci_board.specs.declared.node.Node.{Node}
-use Rattle.psci_claims.specs.Claim.{own_wish}
-use Rattle.psci_claims.specs.LastCore.{last_core_check, refusal, shallow, shallow_at}
-use Rattle.psci_claims.specs.View.{PowerView, is_idle}
+use Rattle.psci_messages.specs.Claim.{own_wish}
+use Rattle.psci_messages.specs.LastCore.{last_core_check, refusal, shallow, shallow_at}
+use Rattle.psci_messages.specs.View.{PowerView, is_idle}
 use Rattle.psci_fw_laws.specs.Renumbered.{node_by}
 use Rattle.psci_fw_laws.proofs.Counts.{list_any-fold, ors, ors-commutes}
 use Rattle.psci_fw_laws.proofs.Claims.{is_idle-by, own_claims-by, view_by}

@@ -2,11 +2,11 @@
 use Rattle.std.proofs.Common.{◌≡◌, ℕ, ◌<◌, false, List, None, Ok}
 use Rattle.psci_board.specs.Board.{BoardValue, cores}
 use Rattle.psci_board.specs.Laws.{PathLaws, SpanLaws, WordLaws}
-use Rattle.psci_claims.specs.psci_parts.declared.part.Part.{Part}
-use Rattle.psci_claims.specs.Laws.{BelowLaws, ClaimLaws, LastCoreLaws, PlatformLaws}
-use Rattle.psci_claims.specs.View.{PowerView}
+use Rattle.psci_messages.specs.declared.part.Part.{Part}
+use Rattle.psci_messages.specs.Laws.{BelowLaws, ClaimLaws, LastCoreLaws, PlatformLaws}
+use Rattle.psci_messages.specs.View.{PowerView}
 use Rattle.psci_messages.specs.Message.{AreClaims, PartByPart}
-use Rattle.psci_claims.specs.psci_state.Ask.{IsAsk}
+use Rattle.psci_messages.specs.psci_state.Ask.{IsAsk}
 use Rattle.psci_messages.specs.declared.start.Start.{Start}
 use Rattle.psci_fw_spec.specs.After.{change}
 use Rattle.psci_fw_spec.specs.Changes.{PowerOn, with_arrival, with_pending}

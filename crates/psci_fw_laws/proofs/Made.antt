@@ -6,13 +6,13 @@ use Rattle.std.proofs.lemmas.Bool.{cond-true, cond_both, eq-eqb, le-leb}
 use Rattle.std.proofs.lemmas.Option.{slice_get_within}
 use Rattle.psci_board.specs.Board.{BoardValue, cores, height, up}
 use Rattle.psci_board.specs.Laws.{PathLaws}
-use Rattle.psci_claims.specs.Claim.{claims_of, least_wish, off_wish, own_wish, platform_claims}
-use Rattle.psci_claims.specs.psci_parts.declared.part.Part.{Part}
-use Rattle.psci_claims.specs.Laws.{ClaimLaws}
-use Rattle.psci_claims.specs.View.{domain_of, generation}
+use Rattle.psci_messages.specs.Claim.{claims_of, least_wish, off_wish, own_wish, platform_claims}
+use Rattle.psci_messages.specs.declared.part.Part.{Part}
+use Rattle.psci_messages.specs.Laws.{ClaimLaws}
+use Rattle.psci_messages.specs.View.{domain_of, generation}
 use Rattle.psci_messages.specs.declared.kind.Kind.TheVariants.{Down}
 use Rattle.psci_messages.specs.Message.{AreClaims, MessageValue}
-use Rattle.psci_claims.specs.psci_state.Cores.{asks}
+use Rattle.psci_messages.specs.psci_state.Cores.{asks}
 use Rattle.psci_fw_spec.specs.declared.mode.SuspendMode.{SuspendMode}
 use Rattle.psci_fw_spec.specs.declared.mode.SuspendMode.TheVariants.{Platform, OsInitiated}
 use Rattle.psci_fw_spec.specs.Changes.{with_claims, with_phase}

@@ -1,7 +1,7 @@
 -- No claim is above the known starts below its domain.
 use Rattle.std.proofs.Common.{◌≡◌, ℕ, ◌<◌, ◌≤◌, inl, inr, Bool, List, arith, subst, ap, sym, ◌∙◌}
 use Rattle.psci_board.specs.Board.{BoardValue, cores, up}
-use Rattle.psci_claims.specs.psci_parts.declared.part.Part.{Part}
+use Rattle.psci_messages.specs.declared.part.Part.{Part}
 use Rattle.psci_messages.specs.Message.{MessageValue}
 use Rattle.psci_fw_spec.specs.Phases.{Phase, Running}
 use Rattle.psci_fw_spec.specs.Values.{updated}

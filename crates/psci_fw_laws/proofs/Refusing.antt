@@ -9,11 +9,11 @@ use Rattle.std.proofs.lemmas.Bool.{lt-ltb, ltb-true, ne_eqb}
 use Rattle.psci_board.specs.Board.{BoardValue, children_at, cores, first_child, height, nodes, up}
 use Rattle.psci_board.specs.Laws.{ChildLaws, PathLaws}
 use Rattle.psci_board.specs.declared.node.Node.{Node}
-use Rattle.psci_claims.specs.psci_parts.declared.part.Part.{Part}
-use Rattle.psci_claims.specs.Claim.{own_claims, own_wish}
-use Rattle.psci_claims.specs.LastCore.{answer_by, last_core_check, refusal, shallow, shallow_at}
-use Rattle.psci_claims.specs.View.{PowerView, is_idle}
-use Rattle.psci_claims.specs.declared.osi.Osi.TheVariants.{Denied, Invalid}
+use Rattle.psci_messages.specs.declared.part.Part.{Part}
+use Rattle.psci_messages.specs.Claim.{own_claims, own_wish}
+use Rattle.psci_messages.specs.LastCore.{answer_by, last_core_check, refusal, shallow, shallow_at}
+use Rattle.psci_messages.specs.View.{PowerView, is_idle}
+use Rattle.psci_messages.specs.declared.osi.Osi.TheVariants.{Denied, Invalid}
 use Rattle.psci_fw_laws.specs.Beside.{AreAwake, HasSleeper, IsInTheWay, NobodyAwake}
 use Rattle.psci_fw_laws.proofs.Passing.{all_one, any_one, one_all, one_any}
 use Rattle.psci_fw_laws.proofs.LastCore.{any-flat_map, is_beside, shallow_at-any, some-any}

@@ -199,7 +199,7 @@ call_is_no_entry h = h
 -- what tells requests apart
 abbrev asked_in : Request → ℕ
 asked_in (CpuOn target entry_point context) = entry_point + context
-asked_in (AffinityInfo target level) = 1000 + level
+asked_in (AffinityInfo level target) = 1000 + level
 asked_in (SetSuspendMode mode) = 2000 + mode
 asked_in CpuOff = 3000
 asked_in request = 4000
@@ -216,7 +216,7 @@ other_entry_point h = let e : ◌≡◌ {A = ℕ} 75 71 = ap asked_in h.2 in ome
 other_context : AsksBy two_levels s (CpuOn 0x100 64 7) (CpuOn 0x102 64 9) → ⊥
 other_context h = let e : ◌≡◌ {A = ℕ} 73 71 = ap asked_in h.2 in omega arith
 
-other_level : AsksBy two_levels s (AffinityInfo 0x100 0) (AffinityInfo 0x102 1) → ⊥
+other_level : AsksBy two_levels s (AffinityInfo 0 0x100) (AffinityInfo 1 0x102) → ⊥
 other_level h = let e : ◌≡◌ {A = ℕ} 1001 1000 = ap asked_in h.2 in omega arith
 
 -- an entry in the present life, also with the boot core renumbered; one that begins a life, where

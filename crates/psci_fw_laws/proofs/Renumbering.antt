@@ -7,7 +7,7 @@ use Rattle.std.proofs.lemmas.Bool.{cases_eq, eq-eqb, ne_eqb}
 use Rattle.psci_board.specs.Board.{BoardValue, below, cores, nodes, up, first_child}
 use Rattle.psci_board.specs.Board.{children_at}
 use Rattle.psci_board.specs.declared.node.Node.{Node}
-use Rattle.psci_claims.specs.psci_state.Ask.{least}
+use Rattle.psci_messages.specs.psci_state.Ask.{least}
 use Rattle.psci_fw_laws.specs.Renumbered.{node_by}
 use Rattle.psci_fw_laws.proofs.Folds.{Commutes, fold}
 use Rattle.psci_fw_laws.proofs.Counts.{adds, adds-commutes, ands, ands-commutes, fold-filter}

@@ -4,10 +4,10 @@ use Rattle.std.proofs.Common.{Some, refl, arith, subst, ap, ◌∙◌}
 use Rattle.std.specs.Prelude.{slice_get}
 use Rattle.psci_board.specs.Board.{BoardValue, up}
 use Rattle.psci_board.specs.Laws.{PathLaws}
-use Rattle.psci_claims.specs.psci_parts.declared.part.Part.{Part}
+use Rattle.psci_messages.specs.declared.part.Part.{Part}
 use Rattle.psci_messages.specs.declared.kind.Kind.TheVariants.{Down, Start}
 use Rattle.psci_messages.specs.Message.{MessageValue}
-use Rattle.psci_claims.specs.psci_state.Cores.{asks}
+use Rattle.psci_messages.specs.psci_state.Cores.{asks}
 use Rattle.psci_fw_spec.specs.Phases.{Phase, Pending, activity_of}
 use Rattle.psci_fw_spec.specs.Values.{updated}
 use Rattle.psci_fw_laws.specs.Messages.{AreSent, IsSent}

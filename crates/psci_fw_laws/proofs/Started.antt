@@ -4,7 +4,7 @@ use Rattle.std.proofs.Common.{Some, refl, arith, subst, ap, sym, ◌∙◌}
 use Rattle.std.specs.Prelude.{slice_get}
 use Rattle.std.proofs.lemmas.Bool.{cond_both}
 use Rattle.psci_board.specs.Board.{BoardValue}
-use Rattle.psci_claims.specs.psci_parts.declared.part.Part.{Part}
+use Rattle.psci_messages.specs.declared.part.Part.{Part}
 use Rattle.psci_messages.specs.declared.kind.Kind.{Kind}
 use Rattle.psci_messages.specs.declared.kind.Kind.TheVariants.{Down, Start, Off, Reset}
 use Rattle.psci_messages.specs.Message.{AckValue, ArePartsOf, MessageValue}

@@ -5,10 +5,10 @@ use Rattle.std.specs.Prelude.{slice_get}
 use Rattle.psci_fw_spec.specs.psci_abi.declared.request.Request.{Request}
 use Rattle.psci_fw_spec.specs.psci_abi.declared.request.Request.TheVariants as requests
 use Rattle.psci_board.specs.Board.{BoardValue, height}
-use Rattle.psci_claims.specs.psci_parts.declared.part.Part.{Part}
+use Rattle.psci_messages.specs.declared.part.Part.{Part}
 use Rattle.psci_messages.specs.declared.kind.Kind.TheVariants as kinds
-use Rattle.psci_claims.specs.psci_state.Ask.{IsAsk, deepest_of}
-use Rattle.psci_claims.specs.psci_state.Cores.{asks}
+use Rattle.psci_messages.specs.psci_state.Ask.{IsAsk, deepest_of}
+use Rattle.psci_messages.specs.psci_state.Cores.{asks}
 use Rattle.psci_fw_spec.specs.declared.opening.Opening.{Opening}
 use Rattle.psci_fw_spec.specs.After.{change}
 use Rattle.psci_fw_spec.specs.Changes.{Rest, with_rest}

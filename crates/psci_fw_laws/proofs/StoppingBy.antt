@@ -5,14 +5,14 @@ use Rattle.std.specs.List.{list_all, range_with_len}
 use Rattle.psci_abi.specs.declared.code.Code.{Code}
 use Rattle.psci_abi.specs.Codes.{denied, invalid_address, invalid_parameters, success}
 use Rattle.psci_board.specs.Board.{BoardValue, cores, height, may_enter}
-use Rattle.psci_claims.specs.declared.osi.Osi.{Osi}
-use Rattle.psci_claims.specs.psci_parts.declared.part.Part.{Part}
-use Rattle.psci_claims.specs.LastCore.{last_core_check}
-use Rattle.psci_claims.specs.View.{PowerView}
+use Rattle.psci_messages.specs.declared.osi.Osi.{Osi}
+use Rattle.psci_messages.specs.declared.part.Part.{Part}
+use Rattle.psci_messages.specs.LastCore.{last_core_check}
+use Rattle.psci_messages.specs.View.{PowerView}
 use Rattle.psci_messages.specs.declared.kind.Kind.{Kind}
 use Rattle.psci_messages.specs.declared.kind.Kind.TheVariants as kinds
-use Rattle.psci_fw_spec.specs.psci_claims.psci_state.Ask.{deepest_of, is_deep}
-use Rattle.psci_fw_spec.specs.psci_claims.psci_state.declared.fault.BadState.{BadState}
+use Rattle.psci_fw_spec.specs.psci_messages.psci_state.Ask.{deepest_of, is_deep}
+use Rattle.psci_fw_spec.specs.psci_messages.psci_state.declared.fault.BadState.{BadState}
 use Rattle.psci_fw_spec.specs.declared.mode.SuspendMode.{SuspendMode}
 use Rattle.psci_fw_spec.specs.declared.mode.SuspendMode.TheVariants.{Platform, OsInitiated}
 use Rattle.psci_fw_spec.specs.declared.outcome.Outcome.{Outcome}

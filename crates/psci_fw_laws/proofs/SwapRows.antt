@@ -1,7 +1,7 @@
 -- Worked examples: two cores of a cluster of three are swapped, below the system and below a
 -- cluster of a board with two.
 use Rattle.std.proofs.Common.{◌≡◌, [], ◌∷◌, refl, arith, map}
-use Rattle.psci_abi.specs.psci_format.declared.format.Format.TheVariants.{Original}
+use Rattle.psci_abi.specs.declared.format.Format.TheVariants.{Original}
 use Rattle.psci_abi.specs.declared.request.Request.TheVariants.{AffinityInfo, CpuOff, CpuOn}
 use Rattle.psci_abi.specs.declared.request.Request.TheVariants.{NodeHwState}
 use Rattle.psci_board.specs.Board.{BoardValue, core_of, node_of, up}
@@ -69,7 +69,7 @@ places_of_clusters : map (swap_clusters clusters 0 1 1) (0 ∷ 1 ∷ 2 ∷ []) �
 places_of_clusters = refl
 
 status_of_other_cluster :
-    AsksBy clusters (swap_clusters clusters 0 1) (AffinityInfo 0x101 1) (AffinityInfo 0x001 1)
+    AsksBy clusters (swap_clusters clusters 0 1) (AffinityInfo 1 0x101) (AffinityInfo 1 0x001)
 unfolding node_of
 status_of_other_cluster = (0x001, refl, refl)
 
@@ -89,15 +89,15 @@ unfolding core_of
 on_nothing = (0x103, refl, refl)
 
 -- the status of a core is asked of the other one, that of a cluster of the same one
-status_of_core : AsksBy two_levels (swap_cores 1 3) (AffinityInfo 0x102 0) (AffinityInfo 0x100 0)
+status_of_core : AsksBy two_levels (swap_cores 1 3) (AffinityInfo 0 0x102) (AffinityInfo 0 0x100)
 unfolding node_of
 status_of_core = (0x100, refl, refl)
 
-status_of_cluster : AsksBy two_levels (swap_cores 1 3) (AffinityInfo 0x102 1) (AffinityInfo 0x102 1)
+status_of_cluster : AsksBy two_levels (swap_cores 1 3) (AffinityInfo 1 0x102) (AffinityInfo 1 0x102)
 unfolding node_of
 status_of_cluster = (0x102, refl, refl)
 
-state_of_core : AsksBy two_levels (swap_cores 1 3) (NodeHwState 0x101 0) (NodeHwState 0x101 0)
+state_of_core : AsksBy two_levels (swap_cores 1 3) (NodeHwState 0 0x101) (NodeHwState 0 0x101)
 unfolding node_of
 state_of_core = (0x101, refl, refl)
 

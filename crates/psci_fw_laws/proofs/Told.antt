@@ -76,12 +76,12 @@ pub told : (b : BoardValue) (s : ℕ → ℕ → ℕ) (r : Request) → Renumber
 told b s (requests.CpuOn target entry_point context) is laws =
     let w = core_named b s target (core_of b target) is laws refl in
     (requests.CpuOn w.0 entry_point context, (w.0, w.1, refl))
-told b s (requests.AffinityInfo target level) is laws =
+told b s (requests.AffinityInfo level target) is laws =
     let w = node_named b s target level (node_of b target level) is laws refl in
-    (requests.AffinityInfo w.0 level, (w.0, w.1, refl))
-told b s (requests.NodeHwState target level) is laws =
+    (requests.AffinityInfo level w.0, (w.0, w.1, refl))
+told b s (requests.NodeHwState level target) is laws =
     let w = node_named b s target level (node_of b target level) is laws refl in
-    (requests.NodeHwState w.0 level, (w.0, w.1, refl))
+    (requests.NodeHwState level w.0, (w.0, w.1, refl))
 told b s (requests.CpuSuspend state entry_point context) is laws =
     (requests.CpuSuspend state entry_point context, refl)
 told b s requests.CpuOff is laws = (requests.CpuOff, refl)

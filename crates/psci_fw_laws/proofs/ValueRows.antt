@@ -1,9 +1,9 @@
 -- Worked examples: granted depths, pending cores, what is outstanding, and limits.
 use Rattle.std.proofs.Common.{◌≡◌, List, [], ◌∷◌, true, None, Some, refl}
 use Rattle.psci_board.specs.Board.{core_of, up}
-use Rattle.psci_claims.specs.Claim.{claims_of}
-use Rattle.psci_claims.specs.LastCore.{last_core_check, refusal, shallow, shallow_at}
-use Rattle.psci_claims.specs.View.{generation, is_idle, least_ask}
+use Rattle.psci_messages.specs.Claim.{claims_of}
+use Rattle.psci_messages.specs.LastCore.{last_core_check, refusal, shallow, shallow_at}
+use Rattle.psci_messages.specs.View.{generation, is_idle, least_ask}
 use Rattle.psci_fw_spec.specs.Claims.{off_parts, suspend_parts}
 use Rattle.psci_fw_spec.specs.Views.{ask, view}
 use Rattle.psci_messages.specs.declared.kind.Kind.TheVariants.{Down, Start, Off}

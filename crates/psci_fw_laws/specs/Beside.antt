@@ -1,7 +1,7 @@
 -- What an OS-initiated request finds beside the caller's path that is not down as far as it asks.
 use Rattle.std.specs.Prelude.{◌≡◌, ℕ, suc, ◌<◌, false, List, slice_index}
 use Rattle.psci_board.specs.Board.{BoardValue, cores, height, up}
-use Rattle.psci_claims.specs.View.{PowerView}
+use Rattle.psci_messages.specs.View.{PowerView}
 
 -- The domain of this level above a core stands in the way of a request: it is a child of a domain
 -- on the caller's path, it is not on the path itself, and it was granted less than is asked of that

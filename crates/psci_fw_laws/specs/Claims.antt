@@ -2,7 +2,7 @@
 use Rattle.std.specs.Prelude.{◌≡◌, ◌<◌, ℕ, true, false, ◌⊎◌, ◌&&◌, ◌==◌, if◌then◌else◌, List}
 use Rattle.std.specs.Prelude.{slice_get, Option, None, Some}
 use Rattle.psci_board.specs.Board.{BoardValue, cores, has_node, up}
-use Rattle.psci_claims.specs.psci_parts.declared.part.Part.{Part}
+use Rattle.psci_messages.specs.declared.part.Part.{Part}
 use Rattle.psci_messages.specs.declared.kind.Kind.TheVariants.{Down}
 use Rattle.psci_messages.specs.Message.{MessageValue}
 use Rattle.psci_messages.specs.Slots.{is_kind}

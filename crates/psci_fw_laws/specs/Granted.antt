@@ -1,7 +1,7 @@
 -- Granted depths and claims.
 use Rattle.std.specs.Prelude.{◌≡◌, ◌<◌, ◌≤◌, ℕ, List}
 use Rattle.psci_board.specs.Board.{BoardValue, cores, up}
-use Rattle.psci_claims.specs.psci_parts.declared.part.Part.{Part}
+use Rattle.psci_messages.specs.declared.part.Part.{Part}
 use Rattle.psci_messages.specs.Message.{MessageValue}
 use Rattle.psci_fw_spec.specs.Phases.{Phase, Pending}
 use Rattle.psci_fw_laws.specs.Claims.{IsClaimOn, IsCurrent}

@@ -14,6 +14,5 @@ pub mod Renumbered
 pub mod Within
 pub use Rattle.psci_fw_spec.specs.psci_abi
 pub use Rattle.psci_board.specs as psci_board
-pub use Rattle.psci_claims.specs as psci_claims
 pub use Rattle.psci_messages.specs as psci_messages
 pub use Rattle.psci_fw_spec.specs as psci_fw_spec

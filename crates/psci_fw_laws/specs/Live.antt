@@ -1,7 +1,7 @@
 -- Claims whose generation is that of all starts so far, known or not.
 use Rattle.std.specs.Prelude.{◌≡◌, ◌<◌, ℕ, ◌+◌, List, slice_get, Some}
 use Rattle.psci_board.specs.Board.{BoardValue, cores, up}
-use Rattle.psci_claims.specs.psci_parts.declared.part.Part.{Part}
+use Rattle.psci_messages.specs.declared.part.Part.{Part}
 use Rattle.psci_messages.specs.Message.{MessageValue}
 use Rattle.psci_fw_spec.specs.Phases.{Phase, Running}
 use Rattle.psci_fw_laws.specs.Claims.{IsClaimOn, IsCurrent}

@@ -115,12 +115,12 @@ abbrev pub AsksBy : BoardValue → (ℕ → ℕ → ℕ) → Request → Request
 AsksBy b s (requests.CpuOn target entry_point context) r =
     (word : ℕ) × (core_of b word ≡ option_map (core_by s) (core_of b target))
     × (r ≡ requests.CpuOn word entry_point context)
-AsksBy b s (requests.AffinityInfo target level) r =
+AsksBy b s (requests.AffinityInfo level target) r =
     (word : ℕ) × (node_of b word level ≡ option_map (node_by s) (node_of b target level))
-    × (r ≡ requests.AffinityInfo word level)
-AsksBy b s (requests.NodeHwState target level) r =
+    × (r ≡ requests.AffinityInfo level word)
+AsksBy b s (requests.NodeHwState level target) r =
     (word : ℕ) × (node_of b word level ≡ option_map (node_by s) (node_of b target level))
-    × (r ≡ requests.NodeHwState word level)
+    × (r ≡ requests.NodeHwState level word)
 AsksBy b s request r = r ≡ request
 
 -- a call that tells of the renumbered cores what another one tells

@@ -1,7 +1,7 @@
 -- Lives, starts and sums of starts within their limits.
 use Rattle.std.specs.Prelude.{◌≡◌, ◌≤◌, ◌*◌, ℕ, List, slice_get, Some}
 use Rattle.psci_board.specs.Board.{BoardValue, cores}
-use Rattle.psci_claims.specs.psci_parts.declared.part.Part.{Part}
+use Rattle.psci_messages.specs.declared.part.Part.{Part}
 use Rattle.psci_messages.specs.Message.{MessageValue}
 use Rattle.psci_fw_laws.specs.KnownBelow.{known_below}
 

@@ -4,10 +4,10 @@
 ghost use Rattle.std.specs.Prelude.{◌≡◌, ◌↔◌, ◌⊎◌, ◌<◌, ℕ, true, false, List, Ok, Err};
 ghost use Rattle.psci_board.specs.Board.{BoardValue, IsBoard, cores};
 ghost use Rattle.psci_board.specs.declared.node.Node.{Node};
-ghost use Rattle.psci_claims.specs.Claim.{own_claims};
-ghost use Rattle.psci_claims.specs.LastCore.{last_core_check};
-ghost use Rattle.psci_claims.specs.View.{PowerView};
-ghost use Rattle.psci_claims.specs.declared.osi.Osi.TheVariants.{Denied, Invalid};
+ghost use Rattle.psci_messages.specs.Claim.{own_claims};
+ghost use Rattle.psci_messages.specs.LastCore.{last_core_check};
+ghost use Rattle.psci_messages.specs.View.{PowerView};
+ghost use Rattle.psci_messages.specs.declared.osi.Osi.TheVariants.{Denied, Invalid};
 ghost use Rattle.psci_messages.specs.Message.{AckValue};
 ghost use Rattle.psci_fw_spec.specs.Changes.{with_acknowledgement};
 ghost use Rattle.psci_fw_spec.specs.NodeHwState.{node_hw};

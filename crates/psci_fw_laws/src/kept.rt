@@ -12,9 +12,8 @@ ghost use Rattle.psci_fw_laws.specs.Allowed.{IsAllowed};
 ghost use Rattle.psci_fw_laws.specs.Kept.{Holds};
 
 use psci_board::{law_paths, law_spans, law_words};
-use psci_claims::{law_below, law_claims, law_last_core, law_platform};
 use psci_fw_spec::{law_caller, law_invariant, law_stops, law_values};
-use psci_messages::law_parts;
+use psci_messages::{law_below, law_claims, law_last_core, law_parts, law_platform};
 
 /// What the firmware keeps true of its values and of all messages that it sent, after every legal
 /// history, and what the effect of each legal reply says beside the values before it.

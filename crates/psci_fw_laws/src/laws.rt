@@ -4,8 +4,8 @@ ghost use Rattle.std.specs.Prelude.{◌≡◌, ◌<◌, ◌≤◌, ◌+◌, ◌*
 ghost use Rattle.std.specs.Prelude.{slice_get};
 ghost use Rattle.psci_board.specs.Board.{BoardValue, IsBoard, cores, height, up};
 ghost use Rattle.psci_board.specs.declared.node.Node.{Node};
-ghost use Rattle.psci_claims.specs.psci_parts.declared.part.Part.{Part};
-ghost use Rattle.psci_claims.specs.View.{generation};
+ghost use Rattle.psci_messages.specs.declared.part.Part.{Part};
+ghost use Rattle.psci_messages.specs.View.{generation};
 ghost use Rattle.psci_messages.specs.declared.kind.Kind.TheVariants.{Down};
 ghost use Rattle.psci_messages.specs.Message.{MessageValue};
 ghost use Rattle.psci_messages.specs.declared.start.Start.{Start};

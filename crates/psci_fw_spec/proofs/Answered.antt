@@ -9,7 +9,7 @@ use Rattle.psci_abi.specs.declared.request.Request.{Request}
 use Rattle.psci_abi.specs.declared.request.Request.TheVariants as requests
 use Rattle.psci_board.specs.Board.{BoardValue, core_of, cores, height, may_enter}
 use Rattle.psci_board.specs.declared.node.Core.{Core}
-use Rattle.psci_claims.specs.psci_parts.declared.part.Part.{Part}
+use Rattle.psci_messages.specs.declared.part.Part.{Part}
 use Rattle.psci_messages.specs.declared.kind.Kind.TheVariants as kinds
 use Rattle.psci_state.specs.Ask.{IsAsk, deepest_of, highest_of, is_ask, is_deep}
 use Rattle.psci_fw_spec.specs.declared.opening.Opening.{Opening}
@@ -199,8 +199,8 @@ function_kept b v c (requests.CpuSuspend state entry_point context) is asks all 
 function_kept b v c requests.CpuOff is asks all = off_kept b v c is
 function_kept b v c (requests.CpuOn word entry_point context) is asks all =
     on_kept b v c word entry_point context (target_of b v word entry_point) is refl
-function_kept b v c (requests.AffinityInfo word level) is asks all = goes_on b v c is
-function_kept b v c (requests.NodeHwState word level) is asks all = goes_on b v c is
+function_kept b v c (requests.AffinityInfo level word) is asks all = goes_on b v c is
+function_kept b v c (requests.NodeHwState level word) is asks all = goes_on b v c is
 function_kept b v c requests.MigrateInfoType is asks all = goes_on b v c is
 function_kept b v c requests.SystemOff is asks all =
     kept_halting b v c (message_for v kinds.Off c []) is.known is.runs is.are

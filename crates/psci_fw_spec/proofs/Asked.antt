@@ -5,10 +5,10 @@ use Rattle.std.specs.Prelude.{if◌then◌else◌, slice_index}
 use Rattle.std.proofs.lemmas.Bool.{le-leb}
 use Rattle.psci_board.specs.Board.{BoardValue, IsBoard, cores, height, up}
 use Rattle.psci_board.specs.Laws.{PathLaws, WordLaws}
-use Rattle.psci_claims.specs.psci_parts.declared.part.Part.{Part}
-use Rattle.psci_claims.specs.Laws.{BelowLaws, ClaimLaws, PlatformLaws, OwnLaws, OffLaws}
-use Rattle.psci_claims.specs.Laws.{LastCoreLaws}
-use Rattle.psci_claims.specs.View.{PowerView, domain_of, is_all_away, least_ask}
+use Rattle.psci_messages.specs.declared.part.Part.{Part}
+use Rattle.psci_messages.specs.Laws.{BelowLaws, ClaimLaws, PlatformLaws, OwnLaws, OffLaws}
+use Rattle.psci_messages.specs.Laws.{LastCoreLaws}
+use Rattle.psci_messages.specs.View.{PowerView, domain_of, is_all_away, least_ask}
 use Rattle.psci_messages.specs.Message.{AreClaims, PartByPart}
 use Rattle.psci_state.specs.Ask.{IsAsk}
 use Rattle.psci_state.specs.Cores.{IsActivity, asks, is_away}

@@ -4,9 +4,9 @@ use Rattle.std.proofs.Common.{arith, Some, Ok}
 use Rattle.std.specs.Prelude.{slice_get}
 use Rattle.std.proofs.Math.Nat.{eq-zero-or-pos}
 use Rattle.psci_board.specs.Board.{BoardValue, IsBoard, cores}
-use Rattle.psci_claims.specs.Claim.{claims_of, least_wish, off_wish, own_wish}
-use Rattle.psci_claims.specs.psci_parts.declared.part.Part.{Part}
-use Rattle.psci_claims.specs.View.{PowerView}
+use Rattle.psci_messages.specs.Claim.{claims_of, least_wish, off_wish, own_wish}
+use Rattle.psci_messages.specs.declared.part.Part.{Part}
+use Rattle.psci_messages.specs.View.{PowerView}
 use Rattle.psci_messages.specs.Message.{AreClaims}
 use Rattle.psci_state.specs.Ask.{IsAsk}
 use Rattle.psci_fw_spec.specs.declared.mode.SuspendMode.{SuspendMode}

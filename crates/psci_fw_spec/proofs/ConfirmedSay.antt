@@ -3,7 +3,7 @@ use Rattle.std.proofs.Common.{◌≡◌, ◌∙◌, ℕ, Bool, true, false, not,
 use Rattle.std.proofs.Common.{Option, None, Some, option_map, unwrap_or, refl, ap}
 use Rattle.std.specs.Option.{option_or}
 use Rattle.psci_board.specs.Board.{BoardValue}
-use Rattle.psci_claims.specs.psci_parts.declared.part.Part.{Part}
+use Rattle.psci_messages.specs.declared.part.Part.{Part}
 use Rattle.std.proofs.Common.{slice_get}
 use Rattle.psci_messages.specs.Outstanding as slots
 use Rattle.psci_messages.specs.Slots.{slot_of}

@@ -8,10 +8,10 @@ use Rattle.psci_abi.specs.declared.request.Request.TheVariants as requests
 use Rattle.psci_board.specs.Board.{BoardValue, core_of, height, may_enter, node_of}
 use Rattle.psci_board.specs.declared.node.Core.{Core}
 use Rattle.psci_board.specs.declared.node.Node.{Node}
-use Rattle.psci_claims.specs.declared.osi.Osi.{Osi}
-use Rattle.psci_claims.specs.psci_parts.declared.part.Part.{Part}
-use Rattle.psci_claims.specs.Claim.{claims_of}
-use Rattle.psci_claims.specs.View.{generation, is_all_away, least_ask}
+use Rattle.psci_messages.specs.declared.osi.Osi.{Osi}
+use Rattle.psci_messages.specs.declared.part.Part.{Part}
+use Rattle.psci_messages.specs.Claim.{claims_of}
+use Rattle.psci_messages.specs.View.{generation, is_all_away, least_ask}
 use Rattle.psci_messages.specs.declared.kind.Kind.TheVariants as kinds
 use Rattle.psci_state.specs.Ask.{deepest_of, is_deep}
 use Rattle.psci_state.specs.declared.fault.BadState.{BadState}
@@ -162,8 +162,8 @@ suspend_same b v w c state entry context other life mode known phase granted =
 -- Statuses and modes --------------------------------------------------------------------------
 
 pub affinity_same : (b : BoardValue) (v w : Values) (c d word level : ℕ) → v.status ≡ w.status
-    → function_outcome b v c (requests.AffinityInfo word level)
-    ≡ function_outcome b w d (requests.AffinityInfo word level)
+    → function_outcome b v c (requests.AffinityInfo level word)
+    ≡ function_outcome b w d (requests.AffinityInfo level word)
 affinity_same b v w c d word level status = by_node (node_of b word level)
   where
     by_node : (n : Option Node) → returns (affinity_of b v n) ≡ returns (affinity_of b w n)
@@ -172,8 +172,8 @@ affinity_same b v w c d word level status = by_node (node_of b word level)
 
 pub node_hw_same : (b : BoardValue) (v w : Values) (c d word level : ℕ)
     → v.granted ≡ w.granted → v.confirmed ≡ w.confirmed
-    → function_outcome b v c (requests.NodeHwState word level)
-    ≡ function_outcome b w d (requests.NodeHwState word level)
+    → function_outcome b v c (requests.NodeHwState level word)
+    ≡ function_outcome b w d (requests.NodeHwState level word)
 node_hw_same b v w c d word level granted confirmed = by_node (node_of b word level)
   where
     by_node : (n : Option Node) → returns (hw_state_of v n) ≡ returns (hw_state_of w n)

@@ -9,8 +9,8 @@ use Rattle.psci_abi.specs.declared.request.Request.{Request}
 use Rattle.psci_abi.specs.declared.request.Request.TheVariants as requests
 use Rattle.psci_board.specs.Board.{BoardValue, height, may_enter}
 use Rattle.psci_board.specs.declared.node.Core.{Core}
-use Rattle.psci_claims.specs.declared.osi.Osi.{Osi}
-use Rattle.psci_claims.specs.psci_parts.declared.part.Part.{Part}
+use Rattle.psci_messages.specs.declared.osi.Osi.{Osi}
+use Rattle.psci_messages.specs.declared.part.Part.{Part}
 use Rattle.psci_messages.specs.declared.kind.Kind.TheVariants as kinds
 use Rattle.psci_messages.specs.Message.{MessageValue}
 use Rattle.psci_state.specs.Ask.{deepest_of, is_deep}
@@ -110,8 +110,8 @@ function_ends P b v c requests.CpuOff returned stopped asked = stopped _
 function_ends P b v c (requests.CpuOn word entry_point context) returned stopped asked =
     on_ends P v (target_of b v word entry_point) returned
     (λ core e. asked word entry_point context _ refl)
-function_ends P b v c (requests.AffinityInfo word level) returned stopped asked = returned _
-function_ends P b v c (requests.NodeHwState word level) returned stopped asked = returned _
+function_ends P b v c (requests.AffinityInfo level word) returned stopped asked = returned _
+function_ends P b v c (requests.NodeHwState level word) returned stopped asked = returned _
 function_ends P b v c requests.MigrateInfoType returned stopped asked = returned _
 function_ends P b v c requests.SystemOff returned stopped asked = stopped _
 function_ends P b v c requests.SystemReset returned stopped asked = stopped _

@@ -1,7 +1,7 @@
 -- Worked examples: which power state words a board has, by its height and format.
 use Rattle.std.proofs.Common.{◌≡◌, ℕ, List, [], ◌∷◌, ◌++◌, Option, None, Some, map, refl}
 use Rattle.psci_abi.specs.Codes.{invalid_parameters}
-use Rattle.psci_abi.specs.psci_format.declared.format.Format.TheVariants.{Extended}
+use Rattle.psci_abi.specs.declared.format.Format.TheVariants.{Extended}
 use Rattle.psci_board.specs.Board.{BoardValue}
 use Rattle.psci_messages.specs.Message.{MessageValue}
 use Rattle.psci_fw_spec.specs.declared.outcome.Outcome.{Outcome}

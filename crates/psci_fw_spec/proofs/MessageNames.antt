@@ -62,8 +62,8 @@ module _ (b : BoardValue) (v : Values) (c : ℕ) where
       reset2_ends (AreNamed (requests.SystemReset2 reset_type cookie)) v c reset_type (λ code. tt)
       (record { kind = refl; core = refl; life = refl; number = refl })
   function_named requests.Version = tt
-  function_named (requests.AffinityInfo word level) = tt
-  function_named (requests.NodeHwState word level) = tt
+  function_named (requests.AffinityInfo level word) = tt
+  function_named (requests.NodeHwState level word) = tt
   function_named requests.MigrateInfoType = tt
   function_named (requests.Features word) = tt
   function_named (requests.SetSuspendMode mode) = tt

@@ -1,12 +1,12 @@
 -- Worked examples are stated so: the calls of some cores in turn, and beside each its reply.
 use Rattle.std.proofs.Common.{◌≡◌, ℕ, zero, suc, ℤ, pos, negsuc, Bool, true, false}
 use Rattle.std.proofs.Common.{List, [], ◌∷◌, map, reverse, None, Some}
-use Rattle.psci_abi.specs.psci_format.declared.format.Format.TheVariants.{Original}
+use Rattle.psci_abi.specs.declared.format.Format.TheVariants.{Original}
 use Rattle.psci_board.specs.Board.{BoardValue, core_of, node_of, up}
-use Rattle.psci_claims.specs.psci_parts.declared.part.Part.{Part}
-use Rattle.psci_claims.specs.Claim.{claims_of}
-use Rattle.psci_claims.specs.LastCore.{last_core_check, refusal, shallow, shallow_at}
-use Rattle.psci_claims.specs.View.{generation, is_all_away, is_idle, least_ask}
+use Rattle.psci_messages.specs.declared.part.Part.{Part}
+use Rattle.psci_messages.specs.Claim.{claims_of}
+use Rattle.psci_messages.specs.LastCore.{last_core_check, refusal, shallow, shallow_at}
+use Rattle.psci_messages.specs.View.{generation, is_all_away, is_idle, least_ask}
 use Rattle.psci_messages.specs.declared.kind.Kind.{Kind}
 use Rattle.psci_messages.specs.declared.kind.Kind.TheVariants as kinds
 use Rattle.psci_messages.specs.declared.taken.Taken.TheVariants as takens

@@ -4,9 +4,9 @@ use Rattle.std.proofs.Common.{arith, Option, None, Some}
 use Rattle.std.specs.Prelude.{is_some}
 use Rattle.std.specs.Option.{option_or}
 use Rattle.psci_board.specs.Board.{BoardValue, cores}
-use Rattle.psci_claims.specs.Claim.{claims_of, least_wish, off_wish, own_wish}
-use Rattle.psci_claims.specs.psci_parts.declared.part.Part.{Part}
-use Rattle.psci_claims.specs.View.{PowerView}
+use Rattle.psci_messages.specs.Claim.{claims_of, least_wish, off_wish, own_wish}
+use Rattle.psci_messages.specs.declared.part.Part.{Part}
+use Rattle.psci_messages.specs.View.{PowerView}
 use Rattle.psci_messages.specs.Message.{MessageValue}
 use Rattle.psci_state.specs.Ask.{IsAsk}
 use Rattle.psci_state.specs.Cores.{is_away}

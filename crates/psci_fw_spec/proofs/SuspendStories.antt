@@ -1,7 +1,7 @@
 -- Worked examples: stored scripts, each with its stored answers, which tools/stories writes
 -- here. A theorem is named after the folder and the name of its script.
 use Rattle.std.proofs.Common.{[], ◌∷◌, refl}
-use Rattle.psci_abi.specs.psci_format.declared.format.Format.TheVariants.{Extended}
+use Rattle.psci_abi.specs.declared.format.Format.TheVariants.{Extended}
 use Rattle.psci_fw_spec.proofs.Steps.{◌⇒◌, AreAnswered, affinity, board, boot, boots, computing}
 use Rattle.psci_fw_spec.proofs.Steps.{enter_on, enter_reset, enter_wake, error, goes_on_3}
 use Rattle.psci_fw_spec.proofs.Steps.{goes_to, limited, off, on, on_3, one_core, part, resumes}

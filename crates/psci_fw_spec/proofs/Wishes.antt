@@ -5,10 +5,10 @@ use Rattle.std.specs.Prelude.{slice_get, length, Some}
 use Rattle.std.proofs.lemmas.Bool.{cases_Bool, cases_lt}
 use Rattle.std.proofs.lemmas.Option.{slice_get-get_or, slice_get_past}
 use Rattle.psci_board.specs.Board.{BoardValue, cores, height, up}
-use Rattle.psci_claims.specs.Claim.{claims_of, least_wish, off_wish, own_wish}
-use Rattle.psci_claims.specs.LastCore.{last_core_check}
-use Rattle.psci_claims.specs.psci_parts.declared.part.Part.{Part}
-use Rattle.psci_claims.specs.View.{PowerView, domain_of, is_all_away}
+use Rattle.psci_messages.specs.Claim.{claims_of, least_wish, off_wish, own_wish}
+use Rattle.psci_messages.specs.LastCore.{last_core_check}
+use Rattle.psci_messages.specs.declared.part.Part.{Part}
+use Rattle.psci_messages.specs.View.{PowerView, domain_of, is_all_away}
 use Rattle.psci_state.specs.Ask.{IsAsk}
 use Rattle.psci_state.specs.Cores.{is_away}
 use Rattle.psci_fw_spec.specs.declared.mode.SuspendMode.{SuspendMode}

@@ -44,14 +44,14 @@ function_outcome b v caller (requests.CpuSuspend state entry_point context) =
 function_outcome b v caller requests.CpuOff = cpu_off b v caller
 function_outcome b v caller (requests.CpuOn target entry_point context) =
     cpu_on b v target entry_point
-function_outcome b v caller (requests.AffinityInfo target level) =
+function_outcome b v caller (requests.AffinityInfo level target) =
     returns (affinity_info b v target level)
 function_outcome b v caller requests.MigrateInfoType = returns no_migration
 function_outcome b v caller requests.SystemOff = system_message v kinds.Off caller
 function_outcome b v caller requests.SystemReset = system_message v kinds.Reset caller
 function_outcome b v caller (requests.Features word) =
     returns (record { 0 = features_of b.format word })
-function_outcome b v caller (requests.NodeHwState target level) =
+function_outcome b v caller (requests.NodeHwState level target) =
     returns (node_hw_state b v target level)
 function_outcome b v caller (requests.SystemSuspend entry_point context) =
     system_suspend b v caller entry_point

@@ -1,11 +1,11 @@
 -- What a core claims of its domains when it stops, by the suspend mode.
 use Rattle.std.specs.Prelude.{ℕ, List, Result, Ok}
 use Rattle.psci_board.specs.Board.{BoardValue}
-use Rattle.psci_claims.specs.declared.osi.Osi.{Osi}
-use Rattle.psci_claims.specs.psci_parts.declared.part.Part.{Part}
-use Rattle.psci_claims.specs.Claim.{off_claims, platform_claims}
-use Rattle.psci_claims.specs.LastCore.{last_core_check}
-use Rattle.psci_claims.specs.View.{PowerView}
+use Rattle.psci_messages.specs.declared.osi.Osi.{Osi}
+use Rattle.psci_messages.specs.declared.part.Part.{Part}
+use Rattle.psci_messages.specs.Claim.{off_claims, platform_claims}
+use Rattle.psci_messages.specs.LastCore.{last_core_check}
+use Rattle.psci_messages.specs.View.{PowerView}
 use Rattle.psci_fw_spec.specs.declared.mode.SuspendMode.{SuspendMode}
 use Rattle.psci_fw_spec.specs.declared.mode.SuspendMode.TheVariants.{Platform, OsInitiated}
 use Rattle.psci_fw_spec.specs.Changes.{with_phase}

@@ -5,7 +5,7 @@ use Rattle.std.specs.List.{sum_by}
 use Rattle.psci_board.specs.Board.{BoardValue, below}
 use Rattle.psci_board.specs.declared.node.Node.{Node}
 use Rattle.psci_board.specs.Paths.{is_path_place}
-use Rattle.psci_claims.specs.psci_parts.declared.part.Part.{Part}
+use Rattle.psci_messages.specs.declared.part.Part.{Part}
 use Rattle.psci_messages.specs.declared.kind.Kind.TheVariants.{Down}
 use Rattle.psci_messages.specs.Message.{AckValue, MessageValue}
 use Rattle.psci_messages.specs.OnlyIf.{only_if}

@@ -3,9 +3,9 @@ use Rattle.std.specs.Prelude.{ℕ, List, ◌&&◌, not, ◌==◌, if◌then◌el
 use Rattle.psci_abi.specs.Codes.{denied, invalid_address, invalid_parameters, success}
 use Rattle.psci_abi.specs.declared.code.Code.{Code}
 use Rattle.psci_board.specs.Board.{BoardValue, height, may_enter}
-use Rattle.psci_claims.specs.declared.osi.Osi.{Osi}
-use Rattle.psci_claims.specs.declared.osi.Osi.TheVariants.{Invalid, Denied}
-use Rattle.psci_claims.specs.psci_parts.declared.part.Part.{Part}
+use Rattle.psci_messages.specs.declared.osi.Osi.{Osi}
+use Rattle.psci_messages.specs.declared.osi.Osi.TheVariants.{Invalid, Denied}
+use Rattle.psci_messages.specs.declared.part.Part.{Part}
 use Rattle.psci_messages.specs.declared.kind.Kind.TheVariants.{Down}
 use Rattle.psci_state.specs.Ask.{is_deep}
 use Rattle.psci_state.specs.declared.fault.BadState.{BadState}

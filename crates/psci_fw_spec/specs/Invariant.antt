@@ -1,7 +1,7 @@
 -- What holds of the values after every history of legal replies.
 use Rattle.std.specs.Prelude.{◌≡◌, ◌≤◌, ◌<◌, ◌+◌, ℕ, Bool, true, false, is_some}
 use Rattle.psci_board.specs.Board.{BoardValue, cores, height, up}
-use Rattle.psci_claims.specs.View.{domain_of, is_all_away, least_ask}
+use Rattle.psci_messages.specs.View.{domain_of, is_all_away, least_ask}
 use Rattle.psci_state.specs.Ask.{IsAsk, highest_of, is_deep}
 use Rattle.psci_fw_spec.specs.declared.mode.SuspendMode.TheVariants.{Platform}
 use Rattle.psci_fw_spec.specs.declared.status.Status.{Status}

@@ -31,5 +31,4 @@ pub mod Values
 pub mod Views
 pub use Rattle.psci_abi.specs as psci_abi
 pub use Rattle.psci_board.specs as psci_board
-pub use Rattle.psci_claims.specs as psci_claims
 pub use Rattle.psci_messages.specs as psci_messages

@@ -2,7 +2,7 @@
 use Rattle.std.specs.Prelude.{ℕ, if◌then◌else◌, List, Option, None, Some, slice_get}
 use Rattle.psci_board.specs.Board.{BoardValue}
 use Rattle.psci_board.specs.Paths.{is_path_place}
-use Rattle.psci_claims.specs.psci_parts.declared.part.Part.{Part}
+use Rattle.psci_messages.specs.declared.part.Part.{Part}
 
 -- 0 on the path of a core
 abbrev pub cleared : BoardValue → ℕ → (ℕ → ℕ → ℕ) → ℕ → ℕ → ℕ

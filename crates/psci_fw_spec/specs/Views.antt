@@ -1,7 +1,7 @@
 -- What claims are made from, as the firmware's values say it.
 use Rattle.std.specs.Prelude.{ℕ, nat_le, if◌then◌else◌}
 use Rattle.psci_board.specs.Board.{BoardValue, height}
-use Rattle.psci_claims.specs.View.{PowerView}
+use Rattle.psci_messages.specs.View.{PowerView}
 use Rattle.psci_state.specs.Cores.{asks, is_active, is_away}
 use Rattle.psci_fw_spec.specs.Phases.{activity_of}
 use Rattle.psci_fw_spec.specs.Values.{Values}

@@ -66,13 +66,13 @@ pub fn law_answers_depend()
         ≡ (function_outcome b w d (requests.CpuOn word entry_point other)).act }
     // AFFINITY_INFO: on the statuses.
     ensures affinity { (b : BoardValue) (v w : Values) (c d word level : ℕ)
-        → v.status ≡ w.status → function_outcome b v c (requests.AffinityInfo word level)
-        ≡ function_outcome b w d (requests.AffinityInfo word level) }
+        → v.status ≡ w.status → function_outcome b v c (requests.AffinityInfo level word)
+        ≡ function_outcome b w d (requests.AffinityInfo level word) }
     // NODE_HW_STATE: on the granted depths, and which claims are confirmed.
     ensures hardware { (b : BoardValue) (v w : Values) (c d word level : ℕ)
         → v.granted ≡ w.granted → v.confirmed ≡ w.confirmed
-        → function_outcome b v c (requests.NodeHwState word level)
-        ≡ function_outcome b w d (requests.NodeHwState word level) }
+        → function_outcome b v c (requests.NodeHwState level word)
+        ≡ function_outcome b w d (requests.NodeHwState level word) }
     // PSCI_SET_SUSPEND_MODE: on the mode that is set, and the phases.
     ensures mode { (b : BoardValue) (v w : Values) (c number : ℕ) → v.mode ≡ w.mode
         → v.phase ≡ w.phase → function_outcome b v c (requests.SetSuspendMode number)

@@ -6,7 +6,7 @@ ghost use Rattle.psci_abi.specs.declared.registers.Regs.{Regs};
 ghost use Rattle.psci_abi.specs.declared.request.Request.{Request};
 ghost use Rattle.psci_abi.specs.declared.request.Request.TheVariants.{CpuOn};
 ghost use Rattle.psci_board.specs.Board.{BoardValue, IsBoard, cores, core_of};
-ghost use Rattle.psci_claims.specs.psci_parts.declared.part.Part.{Part};
+ghost use Rattle.psci_messages.specs.declared.part.Part.{Part};
 ghost use Rattle.psci_messages.specs.Message.{AckValue, AreClaims};
 ghost use Rattle.psci_state.specs.Ask.{IsAsk};
 ghost use Rattle.psci_fw_spec.specs.declared.call.FwCall.{FwCall};
@@ -36,8 +36,9 @@ ghost use Rattle.psci_fw_spec.specs.Phases.{Pending, Running, Away};
 ghost use Rattle.psci_fw_spec.specs.Values.{Values};
 
 use psci_board::{law_paths, law_words};
-use psci_claims::{law_below, law_claims, law_last_core, law_off, law_own, law_platform};
-use psci_messages::{law_parts, law_slots};
+use psci_messages::{
+    law_below, law_claims, law_last_core, law_off, law_own, law_parts, law_platform, law_slots,
+};
 use psci_state::law_power_states;
 
 /// The values that a history says are those of a life's start before any core has entered, and

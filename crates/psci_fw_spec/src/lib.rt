@@ -34,7 +34,6 @@ pub use opening::Opening;
 pub use outcome::{Act, Outcome};
 pub use psci_abi::{Code, Regs, Request, read};
 pub use psci_board::{Board, Memory};
-pub use psci_claims::Part;
-pub use psci_messages::{Ack, Cause, Kind, Message, Start, Taken};
+pub use psci_messages::{Ack, Cause, Kind, Message, Part, Start, Taken};
 pub use reply::FwReply;
 pub use status::Status;

@@ -16,7 +16,7 @@ use Rattle.psci_fw_spec.specs.Changes.{confirms_on, turns_off, with_acknowledgem
 use Rattle.psci_fw_spec.specs.Confirmed.{applied_part}
 use Rattle.psci_fw_spec.specs.Phases.{is_away}
 use Rattle.psci_fw_spec.specs.Values.{Values, updated}
-use Rattle.psci_claims.specs.psci_parts.declared.part.Part.{Part}
+use Rattle.psci_messages.specs.declared.part.Part.{Part}
 use Rattle.psci_tree.specs.Recount.{TreeValue, state_at, granted_at, is_confirmed_at}
 use Rattle.psci_state.specs.declared.cores.Activity.{Activity}
 use Rattle.psci_state.specs.declared.cores.Activity.TheVariants as activities

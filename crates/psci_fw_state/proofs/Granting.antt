@@ -10,7 +10,7 @@ use Rattle.psci_board.specs.Board.{size_below}
 use Rattle.psci_board.specs.Board.{up}
 use Rattle.psci_board.specs.Laws.{PathLaws}
 use Rattle.psci_board.specs.declared.node.Node.{Node}
-use Rattle.psci_claims.specs.psci_parts.declared.part.Part.{Part}
+use Rattle.psci_messages.specs.declared.part.Part.{Part}
 use Rattle.psci_messages.specs.Message.{PartByPart}
 use Rattle.psci_tree.specs.Changes.{MayGrant}
 use Rattle.psci_tree.specs.Standing.{on_path as on_path_of}
@@ -29,6 +29,10 @@ eqb_swap : (x y : ℕ) → (x == y) ≡ (y == x)
 eqb_swap x y = grind arith
 
 -- the node of a level on a core's path, as the tree says it
+-- the node of this level and place
+abbrev pub node_at : ℕ → ℕ → Node
+node_at level place = record { level = level; place = place }
+
 pub on_board : (b : BoardValue) (ws : List (List ℕ)) (core level : ℕ) (node : Node)
     → node ≡ on_path_of ws core level → ws ≡ b.levels
     → node ≡ record { level = level; place = up b level core }

@@ -3,8 +3,8 @@
 use Rattle.std.proofs.Common.{◌≡◌, ℕ, ◌≤◌, List, [], ◌∷◌, map, length, true, false, None, Some}
 use Rattle.std.proofs.Common.{refl, ap, arith}
 use Rattle.psci_board.specs.Board.{BoardValue, up}
-use Rattle.psci_claims.specs.psci_parts.declared.part.Part.{Part}
-use Rattle.psci_fw_spec.specs.psci_abi.psci_format.declared.format.Format.TheVariants.{Original}
+use Rattle.psci_messages.specs.declared.part.Part.{Part}
+use Rattle.psci_fw_spec.specs.psci_abi.declared.format.Format.TheVariants.{Original}
 use Rattle.psci_fw_spec.specs.declared.mode.SuspendMode.TheVariants.{OsInitiated}
 use Rattle.psci_fw_spec.specs.declared.status.Status.TheVariants.{On, Off, Pending}
 use Rattle.psci_fw_spec.specs.Phases as phases

@@ -2,12 +2,12 @@
 use Rattle.std.proofs.Common.{◌≡◌, ℕ, refl, length, sym, List, Ok, Err, None, Some}
 use Rattle.std.specs.Prelude.{nat_le, if◌then◌else◌, Option}
 use Rattle.psci_board.specs.Board.{BoardValue}
-use Rattle.psci_claims.specs.declared.osi.Osi.{Osi}
-use Rattle.psci_claims.specs.psci_parts.declared.part.Part.{Part}
-use Rattle.psci_claims.specs.Claim.{claims_of, own_claims}
-use Rattle.psci_claims.specs.LastCore.{answer_by, last_core_check, refusal, shallow}
-use Rattle.psci_claims.specs.Looked.{view_of}
-use Rattle.psci_claims.specs.View.{generation}
+use Rattle.psci_messages.specs.declared.osi.Osi.{Osi}
+use Rattle.psci_messages.specs.declared.part.Part.{Part}
+use Rattle.psci_messages.specs.Claim.{claims_of, own_claims}
+use Rattle.psci_messages.specs.LastCore.{answer_by, last_core_check, refusal, shallow}
+use Rattle.psci_messages.specs.Looked.{view_of}
+use Rattle.psci_messages.specs.View.{generation}
 use Rattle.psci_coord.specs.declared.claim.Wish.{Wish}
 use Rattle.psci_coord.specs.declared.claim.Wish.TheVariants.{Least, Own}
 use Rattle.psci_state.specs.declared.cores.Activity.{Activity}

@@ -1,16 +1,16 @@
 -- Worked examples: what a core that stops wants of its domains, and what it claims by that.
 use Rattle.std.proofs.Common.{◌≡◌, ℕ, List, [], ◌∷◌, Ok, Err, None, false, refl}
 use Rattle.psci_board.specs.Board.{BoardValue, up}
-use Rattle.psci_state.specs.psci_format.declared.format.Format.TheVariants.{Original}
+use Rattle.psci_state.specs.psci_abi.declared.format.Format.TheVariants.{Original}
 use Rattle.psci_state.specs.declared.cores.Activity.TheVariants.{Active, Suspended, Away}
 use Rattle.psci_state.specs.declared.cores.CoreState.{CoreState}
 use Rattle.psci_tree.specs.Recount.{TreeValue}
-use Rattle.psci_claims.specs.declared.osi.Osi.TheVariants.{Denied}
-use Rattle.psci_claims.specs.psci_parts.declared.part.Part.{Part}
-use Rattle.psci_claims.specs.Claim.{claims_of}
-use Rattle.psci_claims.specs.LastCore.{refusal, shallow, shallow_at}
-use Rattle.psci_claims.specs.Looked.{view_of}
-use Rattle.psci_claims.specs.View.{generation, is_idle, least_ask}
+use Rattle.psci_messages.specs.declared.osi.Osi.TheVariants.{Denied}
+use Rattle.psci_messages.specs.declared.part.Part.{Part}
+use Rattle.psci_messages.specs.Claim.{claims_of}
+use Rattle.psci_messages.specs.LastCore.{refusal, shallow, shallow_at}
+use Rattle.psci_messages.specs.Looked.{view_of}
+use Rattle.psci_messages.specs.View.{generation, is_idle, least_ask}
 use Rattle.psci_coord.specs.declared.claim.Wish.TheVariants.{Least, Own}
 use Rattle.psci_fw_spec.specs.declared.mode.SuspendMode.TheVariants.{Platform, OsInitiated}
 use Rattle.psci_fw_spec.specs.declared.status.Status.TheVariants as statuses

@@ -1,7 +1,7 @@
 -- Whether a claim may be granted.
 use Rattle.std.specs.Prelude.{◌≡◌, ◌≤◌, ◌<◌, ◌+◌, ℕ, List, length}
 use Rattle.psci_board.specs.Board.{BoardValue, cores, height, up}
-use Rattle.psci_claims.specs.psci_parts.declared.part.Part.{Part}
+use Rattle.psci_messages.specs.declared.part.Part.{Part}
 use Rattle.psci_fw_spec.specs.Paths.{granted_with}
 
 -- The parts of a core may be granted: they are of levels of the board, nothing is granted on the

@@ -3,7 +3,7 @@ use Rattle.std.specs.Prelude.{ℕ, Bool, ◌&&◌, nat_lt, List, slice_get}
 use Rattle.std.specs.List.{sum_by}
 use Rattle.psci_board.specs.Board.{BoardValue, below}
 use Rattle.psci_board.specs.Paths.{is_path_place}
-use Rattle.psci_claims.specs.psci_parts.declared.part.Part.{Part}
+use Rattle.psci_messages.specs.declared.part.Part.{Part}
 use Rattle.psci_tree.specs.Recount.{TreeValue, granted_at, known_at}
 use Rattle.psci_fw_spec.specs.Confirmed.{is_made_at}
 

@@ -1,11 +1,11 @@
 -- What a core that stops wants of its domains, and what it claims by that.
 use Rattle.std.specs.Prelude.{ℕ, List, Option, None, Some, Result, Ok, Err}
 use Rattle.psci_board.specs.Board.{BoardValue}
-use Rattle.psci_claims.specs.declared.osi.Osi.{Osi}
-use Rattle.psci_claims.specs.psci_parts.declared.part.Part.{Part}
-use Rattle.psci_claims.specs.Claim.{claims_of}
-use Rattle.psci_claims.specs.LastCore.{refusal, shallow}
-use Rattle.psci_claims.specs.View.{PowerView}
+use Rattle.psci_messages.specs.declared.osi.Osi.{Osi}
+use Rattle.psci_messages.specs.declared.part.Part.{Part}
+use Rattle.psci_messages.specs.Claim.{claims_of}
+use Rattle.psci_messages.specs.LastCore.{refusal, shallow}
+use Rattle.psci_messages.specs.View.{PowerView}
 use Rattle.psci_coord.specs.Wish.{wanted}
 use Rattle.psci_coord.specs.declared.claim.Wish.{Wish}
 use Rattle.psci_coord.specs.declared.claim.Wish.TheVariants.{Least, Own}

@@ -14,7 +14,7 @@ ghost use Rattle.psci_fw_spec.specs.Taking.{taken_by};
 ghost use Rattle.psci_fw_state.specs.Seen.{values_in};
 
 use crate::confirm::{applied_of, confirm_parts};
-use crate::counts::put_row;
+use crate::counts::{put_row, put_status};
 use crate::row::{CoreRow, row_of, set_row};
 use crate::state::State;
 use psci_board::Core;
@@ -153,17 +153,13 @@ impl State {
         confirm_parts(&mut self.tree, &self.board, core, applied_of(&ack, message));
         self.slots.finish(&ack, done);
         if is_off {
-            let row = CoreRow {
-                status: Status::Off,
-                ..row_of(&self.rows, core)
-            };
-            put_row(
+            put_status(
                 &mut self.rows,
                 &mut self.counts,
                 &self.tree,
                 &self.board,
                 core,
-                row,
+                Status::Off,
             );
         }
         Taken::Used

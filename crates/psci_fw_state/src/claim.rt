@@ -3,8 +3,8 @@
 ghost use Rattle.std.specs.Prelude.{◌≡◌, ◌<◌, ◌≤◌, ◌+◌, [], ℕ, length, IfOk, MatchResult, OnErr};
 ghost use Rattle.std.specs.Prelude.{Err, Ok};
 ghost use Rattle.psci_board.specs.Board.{IsBoard, cores, height};
-ghost use Rattle.psci_claims.specs.Claim.{off_claims, own_claims};
-ghost use Rattle.psci_claims.specs.LastCore.{refusal, shallow};
+ghost use Rattle.psci_messages.specs.Claim.{off_claims, own_claims};
+ghost use Rattle.psci_messages.specs.LastCore.{refusal, shallow};
 ghost use Rattle.psci_messages.specs.declared.kind.Kind.TheVariants as kinds;
 ghost use Rattle.psci_messages.specs.Message.{ArePartsOf, AreClaims};
 ghost use Rattle.psci_tree.specs.Recount.{IsDomainTree, state_at, granted_at};
@@ -22,11 +22,10 @@ ghost use Rattle.psci_fw_state.specs.Wishes.{asked_wish, wished_in};
 ghost use Rattle.psci_fw_state.specs.Seen.{values_in};
 
 use crate::state::State;
-use psci_board::{Board, Core, law_paths, law_sizes};
-use psci_claims::{Osi, Part, Parts};
+use psci_board::{Board, Core, Node, law_paths, law_sizes};
 use psci_coord::{Wish, climb};
 use psci_fw_spec::{Opening, SuspendMode};
-use psci_messages::{Kind, Message, law_parts, law_slots};
+use psci_messages::{Kind, Message, Osi, Part, Parts, law_parts, law_slots};
 use psci_osi::{off_ask, path_refusal};
 use psci_state::Ask;
 use psci_tree::{Tree, law_confirmed, law_cores, law_granted};
@@ -198,8 +197,12 @@ fn grant_parts(tree: &mut Tree, board: &Board, core: Core, parts: &[Part])
     law_cores();
     law_granted();
     law_confirmed();
+    let places = tree.places(core);
     for (level, part) in parts.iter().enumerate() {
-        let node = tree.on_path(core, level as u32);
+        let node = Node {
+            level: level as u32,
+            place: places[level],
+        };
         tree.grant(node, part.depth);
     }
 }

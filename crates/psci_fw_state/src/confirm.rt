@@ -9,8 +9,7 @@ ghost use Rattle.psci_fw_spec.specs.Confirmed.{applied_part, is_made_at};
 ghost use Rattle.psci_fw_state.specs.Confirming.{is_last_claim};
 
 use psci_board::{Board, Core, Node, law_paths};
-use psci_claims::Part;
-use psci_messages::{Ack, Kind, Message};
+use psci_messages::{Ack, Kind, Message, Part};
 use psci_tree::{Tree, law_confirmed};
 
 /// The parts of a message that an acknowledgement of it says were applied.
@@ -46,11 +45,15 @@ pub fn confirm_parts(tree: &mut Tree, board: &Board, core: Core, parts: &[Part])
     if core.number >= board.cores() {
         return;
     }
-    let standings = tree.standings(core);
+    let places = tree.places(core);
+    let known = tree.known_on(core);
     let most = parts.len().min(board.height() as usize + 1);
     for level in 0..most {
-        let node = tree.on_path(core, level as u32);
-        confirm_last(tree, node, standings.known[level], parts[level]);
+        let node = Node {
+            level: level as u32,
+            place: places[level],
+        };
+        confirm_last(tree, node, known[level], parts[level]);
     }
 }
 

@@ -7,9 +7,9 @@ ghost use Rattle.psci_fw_spec.specs.Values.{updated};
 ghost use Rattle.psci_fw_state.specs.Counts.{AreCounts, HasDomains, MayRecount, counts_at};
 ghost use Rattle.psci_fw_state.specs.Counts.{level_counts, no_cores, one_core, recounted};
 ghost use Rattle.psci_fw_state.specs.Counts.{status_counted, with_counts};
-ghost use Rattle.psci_fw_state.specs.Rows.{AreFirst, status_at};
+ghost use Rattle.psci_fw_state.specs.Rows.{AreFirst, row_at, status_at};
 
-use crate::row::{CoreRow, row_of, set_row};
+use crate::row::CoreRow;
 use psci_board::{Board, Core, Memory, Node, law_paths};
 use psci_fw_spec::Status;
 use psci_tree::Tree;
@@ -127,8 +127,35 @@ pub fn put_row(
     ensures counts { AreCounts board.now.levels (status_at rows.new)
         (map (λ v. v.items) counts.new) }
 {
-    let before = row_of(rows, core).status;
-    set_row(rows, core, row);
+    let number = core.number as usize;
+    let before = rows[number].status;
+    rows[number] = row;
+    recount(counts, rows, tree, board, core, before);
+}
+
+/// A core has this status from now on, and its domains count it. Its opening stays.
+pub fn put_status(
+    rows: &mut [CoreRow],
+    counts: &mut [Vec<StatusCounts>],
+    tree: &Tree,
+    board: &Board,
+    core: Core,
+    status: Status,
+)
+    requires board { IsBoard board.now }
+    requires levels { tree.now.levels ≡ board.now.levels }
+    requires inside { core.number < cores board.now }
+    requires rows { length rows.old ≡ cores board.now }
+    requires counts { AreCounts board.now.levels (status_at rows.old)
+        (map (λ v. v.items) counts.old) }
+    ensures rows { rows.new ≡ slice_set rows.old core.number
+        (record (row_at rows.old core.number) { status = status }) }
+    ensures counts { AreCounts board.now.levels (status_at rows.new)
+        (map (λ v. v.items) counts.new) }
+{
+    let number = core.number as usize;
+    let before = rows[number].status;
+    rows[number].status = status;
     recount(counts, rows, tree, board, core, before);
 }
 
@@ -144,19 +171,24 @@ fn recount(
     requires board { IsBoard board.now }
     requires levels { tree.now.levels ≡ board.now.levels }
     requires inside { core.number < cores board.now }
+    requires rows { length rows.now ≡ cores board.now }
     requires counts { AreCounts board.now.levels (updated (status_at rows.now) core.number before)
         (map (λ v. v.items) counts.old) }
     ensures { AreCounts board.now.levels (status_at rows.now) (map (λ v. v.items) counts.new) }
 {
     law_paths();
-    let after = row_of(rows, core).status;
+    let after = rows[core.number as usize].status;
     if before == after {
         return;
     }
     let had = StatusCounts::of_core(before);
     let has = StatusCounts::of_core(after);
+    let places = tree.places(core);
     for level in 1..board.height() + 1 {
-        let node = tree.on_path(core, level);
+        let node = Node {
+            level,
+            place: places[level as usize],
+        };
         recount_domain(counts, node, had, has);
     }
 }

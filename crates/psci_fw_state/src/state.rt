@@ -58,12 +58,12 @@ impl Model for State {
     }) };
 }
 
-ghost use Rattle.std.specs.Prelude.{◌≡◌, None, Some, IfOk, MatchResult, option_map};
+ghost use Rattle.std.specs.Prelude.{◌≡◌, ◌<◌, None, Some, IfOk, MatchResult, option_map};
 ghost use Rattle.psci_fw_spec.specs.Calls.{call_fault};
 ghost use Rattle.psci_fw_spec.specs.Lives.{start_of_life};
 ghost use Rattle.psci_fw_spec.specs.NodeHwState.{node_hw};
 ghost use Rattle.psci_fw_spec.specs.Phases.{is_away, is_resumable, is_running};
-ghost use Rattle.psci_board.specs.Board.{IsBoard};
+ghost use Rattle.psci_board.specs.Board.{IsBoard, cores};
 ghost use Rattle.psci_tree.specs.Changes.{start_of_life as tree_at_start};
 ghost use Rattle.psci_tree.specs.Recount.{IsDomainTree};
 ghost use Rattle.psci_fw_state.specs.Seen.{is_pending_phase, message_shown, values_in};
@@ -151,20 +151,22 @@ impl State {
         self.tree.known_start(core)
     }
 
-    /// What AFFINITY_INFO says of a core.
+    /// What AFFINITY_INFO says of a core of the board.
     #[tactic(auto, unfolding(crate::specs::Seen::values_in))]
     pub fn status(&self, core: Core) -> Status
+        requires { core.number < cores self.now.board }
         ensures { result ≡ (values_in self.now).status core.number }
     {
-        row_of(&self.rows, core).status
+        self.rows[core.number as usize].status
     }
 
     /// Where a core goes on when it next enters.
     #[tactic(auto, unfolding(crate::specs::Seen::values_in))]
     pub fn opening(&self, core: Core) -> Option<Opening>
+        requires { core.number < cores self.now.board }
         ensures { result ≡ (values_in self.now).opening core.number }
     {
-        row_of(&self.rows, core).opening
+        self.rows[core.number as usize].opening
     }
 
     /// The granted depth of a power domain.
@@ -221,7 +223,7 @@ impl State {
         ensures { result ≡ is_running ((values_in self.now).phase core.number) }
     {
         match self.tree.activity(core) {
-            Activity::Active => self.status(core) != Status::Pending,
+            Activity::Active => row_of(&self.rows, core).status != Status::Pending,
             _ => false,
         }
     }
@@ -250,7 +252,7 @@ impl State {
         ensures { result ≡ is_pending_phase ((values_in self.now).phase core.number) }
     {
         match self.tree.activity(core) {
-            Activity::Active => self.status(core) == Status::Pending,
+            Activity::Active => row_of(&self.rows, core).status == Status::Pending,
             _ => false,
         }
     }

@@ -5,7 +5,7 @@ use Rattle.std.proofs.Common.{sym, ◌∙◌, arith}
 use Rattle.std.specs.Prelude.{nat_le, slice_get}
 use Rattle.std.proofs.lemmas.Bool.{and_from, eq-eqb, le-leb}
 use Rattle.psci_board.specs.Board.{BoardValue, cores, height, up}
-use Rattle.psci_fw_laws.specs.psci_claims.psci_parts.declared.part.Part.{Part}
+use Rattle.psci_fw_laws.specs.psci_messages.declared.part.Part.{Part}
 use Rattle.psci_ctl_spec.specs.Changes.{change}
 use Rattle.psci_ctl_spec.specs.Effects.{Deepens, message_effect}
 use Rattle.psci_ctl_spec.specs.Parts.{depth_or, laid}
@@ -18,7 +18,7 @@ use Rattle.psci_ctl_spec.specs.psci_messages.declared.kind.Kind.{Kind}
 use Rattle.psci_ctl_spec.specs.psci_messages.declared.kind.Kind.TheVariants as kinds
 use Rattle.psci_ctl_spec.specs.psci_messages.Message.{AckValue, ArePartsOf, AreClaims}
 use Rattle.psci_ctl_spec.specs.psci_messages.Message.{MessageValue}
-use Rattle.psci_fw_laws.specs.psci_claims.psci_state.Cores.{asks}
+use Rattle.psci_fw_laws.specs.psci_messages.psci_state.Cores.{asks}
 use Rattle.psci_fw_laws.specs.Kept.{Holds}
 use Rattle.psci_fw_laws.specs.KnownBelow.{known_below}
 use Rattle.psci_fw_laws.proofs.Parts.{part_from}

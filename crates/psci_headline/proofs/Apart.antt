@@ -5,7 +5,7 @@ use Rattle.std.proofs.Common.{arith}
 use Rattle.std.specs.Prelude.{slice_get}
 use Rattle.psci_board.specs.Board.{BoardValue, HasNode}
 use Rattle.psci_board.specs.declared.node.Node.{Node}
-use Rattle.psci_fw_laws.specs.psci_claims.psci_parts.declared.part.Part.{Part}
+use Rattle.psci_fw_laws.specs.psci_messages.declared.part.Part.{Part}
 use Rattle.psci_ctl_spec.specs.psci_messages.Message.{MessageValue}
 use Rattle.psci_board.specs.Paths.{is_on_path}
 use Rattle.psci_fw_laws.specs.psci_fw_spec.Said.{listed}

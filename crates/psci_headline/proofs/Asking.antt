@@ -8,9 +8,9 @@ use Rattle.std.proofs.lemmas.Bool.{and_from, cond_both, cond-true, eq-eqb, eqb-t
 use Rattle.psci_board.specs.Board.{BoardValue, HasNode, below, cores, height}
 use Rattle.psci_board.specs.Board.{size_below, up}
 use Rattle.psci_board.specs.declared.node.Node.{Node}
-use Rattle.psci_fw_laws.specs.psci_claims.psci_parts.declared.part.Part.{Part}
+use Rattle.psci_fw_laws.specs.psci_messages.declared.part.Part.{Part}
 use Rattle.psci_ctl_spec.specs.psci_messages.Message.{MessageValue}
-use Rattle.psci_fw_laws.specs.psci_claims.psci_state.Cores.{asks}
+use Rattle.psci_fw_laws.specs.psci_messages.psci_state.Cores.{asks}
 use Rattle.psci_board.specs.Paths.{is_on_path}
 use Rattle.psci_fw_laws.specs.psci_fw_spec.declared.mode.SuspendMode.{SuspendMode}
 use Rattle.psci_fw_laws.specs.psci_fw_spec.declared.mode.SuspendMode.TheVariants.{Platform}

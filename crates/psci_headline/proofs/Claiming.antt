@@ -7,7 +7,7 @@ use Rattle.std.proofs.lemmas.Bool.{and_from, eq-eqb, eqb-true, false_from_ne_tru
 use Rattle.std.proofs.lemmas.Bool.{le-leb, lt-ltb}
 use Rattle.psci_board.specs.Board.{BoardValue, HasNode, has_node, height, up}
 use Rattle.psci_board.specs.declared.node.Node.{Node}
-use Rattle.psci_fw_laws.specs.psci_claims.psci_parts.declared.part.Part.{Part}
+use Rattle.psci_fw_laws.specs.psci_messages.declared.part.Part.{Part}
 use Rattle.psci_ctl_spec.specs.psci_messages.Message.{MessageValue}
 use Rattle.psci_board.specs.Paths.{is_on_path, is_path_place}
 use Rattle.psci_fw_laws.specs.psci_fw_spec.Said.{listed}

@@ -6,7 +6,7 @@ use Rattle.std.specs.Prelude.{slice_get}
 use Rattle.std.proofs.lemmas.Bool.{and_parts, eqb-false}
 use Rattle.psci_board.specs.Board.{BoardValue, has_node, up}
 use Rattle.psci_board.specs.Paths.{is_path_place}
-use Rattle.psci_fw_laws.specs.psci_claims.psci_parts.declared.part.Part.{Part}
+use Rattle.psci_fw_laws.specs.psci_messages.declared.part.Part.{Part}
 use Rattle.psci_ctl_spec.specs.psci_messages.declared.start.Start as starts
 use Rattle.psci_ctl_spec.specs.psci_messages.Message.{AckValue}
 use Rattle.psci_fw_laws.specs.psci_fw_spec.After.{change}

@@ -1,6 +1,6 @@
 -- Worked examples: boards of the extended format, moments that are not safe, and runs that are.
 use Rattle.std.proofs.Common.{[], ◌∷◌, pos, false, refl}
-use Rattle.psci_fw_laws.specs.psci_abi.psci_format.declared.format.Format.TheVariants.{Extended}
+use Rattle.psci_fw_laws.specs.psci_abi.declared.format.Format.TheVariants.{Extended}
 use Rattle.psci_fw_laws.specs.psci_messages.declared.kind.Kind.TheVariants.{Down}
 use Rattle.psci_world_spec.specs.declared.event.Event.TheVariants.{Enter, Wake, Reset, Deliver}
 use Rattle.psci_world_spec.specs.declared.event.Event.TheVariants.{Take}

@@ -93,8 +93,8 @@ return_call b c requests.Version code = goes c
 return_call b c (requests.CpuSuspend state entry_point context) code = goes c
 return_call b c requests.CpuOff code = goes c
 return_call b c (requests.CpuOn target entry_point context) code = goes c
-return_call b c (requests.AffinityInfo target level) code = goes c
-return_call b c (requests.NodeHwState target level) code = goes c
+return_call b c (requests.AffinityInfo level target) code = goes c
+return_call b c (requests.NodeHwState level target) code = goes c
 return_call b c requests.MigrateInfoType code = goes c
 return_call b c requests.SystemOff code = goes c
 return_call b c requests.SystemReset code = goes c
@@ -112,8 +112,8 @@ sent_call b c (requests.CpuSuspend state entry_point context) code m = goes c
 sent_call b c requests.CpuOff code m = goes c
 sent_call b c (requests.CpuOn target entry_point context) code m =
     record { is = refl; core = refl; runs = refl }
-sent_call b c (requests.AffinityInfo target level) code m = goes c
-sent_call b c (requests.NodeHwState target level) code m = goes c
+sent_call b c (requests.AffinityInfo level target) code m = goes c
+sent_call b c (requests.NodeHwState level target) code m = goes c
 sent_call b c requests.MigrateInfoType code m = goes c
 sent_call b c requests.SystemOff code m = goes c
 sent_call b c requests.SystemReset code m = goes c
@@ -131,9 +131,9 @@ stop_call b c (requests.CpuSuspend state entry_point context) m =
 stop_call b c requests.CpuOff m = record { is = refl; core = refl; runs = refl }
 stop_call b c (requests.CpuOn target entry_point context) m =
     record { is = refl; core = refl; runs = refl }
-stop_call b c (requests.AffinityInfo target level) m =
+stop_call b c (requests.AffinityInfo level target) m =
     record { is = refl; core = refl; runs = refl }
-stop_call b c (requests.NodeHwState target level) m =
+stop_call b c (requests.NodeHwState level target) m =
     record { is = refl; core = refl; runs = refl }
 stop_call b c requests.MigrateInfoType m = record { is = refl; core = refl; runs = refl }
 stop_call b c requests.SystemOff m = record { is = refl; core = refl; runs = refl }

@@ -156,7 +156,7 @@ pub record IsToldHw (b : BoardValue) (v : Values) (state : ℕ) (n : Node) : Typ
 by_request : (b : BoardValue) (v : Values) (d : ℕ) (r : Request) (code : Code) (state : ℕ)
     (n : Node) → IsReturned b v d r code
     → cond (int_eq code.0 (pos state)) (hw_asked_of b r) None ≡ Some n → IsToldHw b v state n
-by_request b v d (requests.NodeHwState word level) code state n is told =
+by_request b v d (requests.NodeHwState level word) code state n is told =
     let both = if_so (int_eq code.0 (pos state)) (node_of b word level) n told in
     let said : acts.Return code ≡ acts.Return (hw_state_of v (node_of b word level)) = is.by in
     let same : code ≡ hw_state_of v (node_of b word level) = cc in

@@ -146,7 +146,7 @@ no_node false n e = absurd (cc)
 by_request : (b : BoardValue) (v : Values) (d : ℕ) (r : Request) (code : Code) (n : Node)
     → IsReturned b v d r code → cond (int_eq code.0 (pos 1)) (asked_of b r) None ≡ Some n
     → IsToldOff b v n
-by_request b v d (requests.AffinityInfo word level) code n is told =
+by_request b v d (requests.AffinityInfo level word) code n is told =
     let both = if_so (int_eq code.0 (pos 1)) (node_of b word level) n told in
     let said : acts.Return code ≡ acts.Return (affinity_of b v (node_of b word level)) = is.by in
     let same : code ≡ affinity_of b v (node_of b word level) = cc in

@@ -1,6 +1,6 @@
 -- Worked examples: domains of which all cores are off, and domains of which one is not.
 use Rattle.std.proofs.Common.{◌≡◌, ℕ, true, false, List, [], ◌∷◌, refl}
-use Rattle.psci_world_spec.specs.psci_abi.psci_format.declared.format.Format.TheVariants.{Extended}
+use Rattle.psci_world_spec.specs.psci_abi.declared.format.Format.TheVariants.{Extended}
 use Rattle.psci_board.specs.Board.{BoardValue}
 use Rattle.psci_board.specs.declared.node.Node.{Node}
 use Rattle.psci_world_spec.specs.declared.event.Event.{Event}

@@ -5,7 +5,7 @@ use Rattle.std.specs.List.{list_all}
 use Rattle.std.specs.Prelude.{if◌then◌else◌}
 use Rattle.psci_fw_laws.specs.psci_board.Board.{BoardValue, below}
 use Rattle.psci_fw_laws.specs.psci_board.declared.node.Node.{Node}
-use Rattle.psci_fw_laws.specs.psci_claims.psci_parts.declared.part.Part.{Part}
+use Rattle.psci_fw_laws.specs.psci_messages.declared.part.Part.{Part}
 use Rattle.psci_fw_laws.specs.psci_messages.Message.{MessageValue}
 use Rattle.psci_world_spec.specs.psci_ctl_spec.Values.{starts_below}
 use Rattle.psci_fw_laws.specs.psci_board.Paths.{is_on_path}

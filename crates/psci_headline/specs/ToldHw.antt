@@ -23,7 +23,7 @@ use Rattle.psci_headline.specs.Hardware.{known_starts}
 
 -- the core or domain that a request asks the hardware state of
 abbrev pub hw_asked_of : BoardValue → Request → Option Node
-hw_asked_of b (NodeHwState word level) = node_of b word level
+hw_asked_of b (NodeHwState level word) = node_of b word level
 hw_asked_of b request = None
 
 -- the core or domain that a record says is in this state: NODE_HW_STATE was asked of it, and

@@ -19,7 +19,7 @@ use Rattle.psci_headline.specs.Moments.{was_powered_down}
 
 -- the core or domain that a request asks the status of
 abbrev pub asked_of : BoardValue → Request → Option Node
-asked_of b (AffinityInfo word level) = node_of b word level
+asked_of b (AffinityInfo level word) = node_of b word level
 asked_of b request = None
 
 -- the core or domain that a record says is OFF: AFFINITY_INFO was asked of it, and answered 1

@@ -1,12 +1,13 @@
-//! What it is for a run to be safe, and that every legal run is; and what firmware and power
-//! controller know of each other on the way.
+//! What it is for a run to be safe, and that every legal run is; how the world settles once
+//! messages get through, and that firmware and power controller agree on every domain then.
 //!
-//! - A *moment* is what is so after all records so far; a run has one after each record.
-//! - A *claim* on a power domain is what a Down asks of it, or the start of a life: a depth and a
-//!   *generation*, the sum of the known starts below. It is *live* while that is the sum of all.
+//! - A *moment* is what is so after all records so far; a *test* computes whether a saying holds.
+//! - A *claim* is what a Down or the start of a life asks of a domain: a depth and a *generation*,
+//!   the sum of the known starts below. It is *live* while that is the sum of all.
 //! - An *opening* is an entry point and a context id for the next entry of a core.
-//! - Each thing that is said of a moment has a *test*: it computes, and says the same.
 //! - A core is *at its place* where a call or an entry may happen to it: running, or started.
+//! - A message is *served* when it is delivered and its acknowledgement is taken; a *round* does so
+//!   for each core once. The world is *at rest* when nothing is left to serve or to enter.
 #![tactic(auto)]
 
 mod affinity;
@@ -16,7 +17,9 @@ mod laws;
 mod live;
 mod openings;
 mod powered_down;
+mod settle_laws;
 mod testing;
+mod told;
 
 pub use affinity::law_told_off;
 pub use agreement::{law_acknowledged, law_agreement, law_controlled, law_never_refused, law_sent};
@@ -32,4 +35,6 @@ pub use psci_fw_laws::{
     law_messages, law_power_on, law_values,
 };
 pub use psci_world_spec::law_histories;
+pub use settle_laws::{law_settles, law_waiting};
 pub use testing::law_tested;
+pub use told::{law_complete, law_confirming, law_told_whole};

@@ -3,7 +3,7 @@
 -- acknowledgement, altered.
 use Rattle.std.proofs.Common.{◌≡◌, ℕ, List, [], ◌∷◌, ◌++◌, refl}
 use Rattle.std.specs.Prelude.{Some, None, slice_set, take, replicate}
-use Rattle.psci_board.specs.psci_format.declared.format.Format.TheVariants.{Original}
+use Rattle.psci_board.specs.psci_abi.declared.format.Format.TheVariants.{Original}
 use Rattle.psci_board.specs.Board.{BoardValue}
 use Rattle.psci_link.specs.declared.fault.FrameFault.TheVariants as faults
 use Rattle.psci_link.specs.Frame.{fault_of_kind, first_fault}

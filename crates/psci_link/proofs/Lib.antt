@@ -7,5 +7,6 @@ pub mod Frames
 pub mod Headings
 mod KindRows
 pub mod Places
+mod PutBytes
 mod Reading
 pub mod Written

@@ -9,7 +9,7 @@ use Rattle.std.proofs.lemmas.Nat.{be_bytes_8, from_be_bytes-to_be_bytes_8}
 use Rattle.std.proofs.lemmas.List.{get_or-drop, length-take-le, take-append-drop, length-replicate}
 use Rattle.std.proofs.lemmas.List.{drop_at}
 use Rattle.std.proofs.lemmas.Bool.{and_parts, eqb-true}
-use Rattle.psci_parts.specs.declared.part.Part.{Part}
+use Rattle.psci_messages.specs.declared.part.Part.{Part}
 use Rattle.psci_link.specs.Frame.{AreBytes, part_in, parts_in, part_bytes, part_fields}
 
 pub length-parts_in : (n : ℕ) (bytes : List ℕ) → length (parts_in n bytes) ≡ n

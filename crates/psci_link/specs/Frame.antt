@@ -7,9 +7,9 @@ use Rattle.std.specs.List.{list_all, AllByRecursion}
 use Rattle.std.specs.Int.{w32, w64, to_be_bytes, from_be_bytes}
 use Rattle.psci_board.specs.declared.node.Core.{Core}
 use Rattle.psci_board.specs.Board.{BoardValue, cores, height}
-use Rattle.psci_parts.specs.declared.part.Part.{Part}
+use Rattle.psci_messages.specs.declared.part.Part.{Part}
 use Rattle.psci_link.specs.declared.frame.TheConstants.{FRAME_LEN, HEADER_LEN, PART_LEN}
-use Rattle.psci_parts.specs.declared.parts.TheConstants.{MOST_PARTS}
+use Rattle.psci_messages.specs.declared.parts.TheConstants.{MOST_PARTS}
 use Rattle.psci_messages.specs.declared.kind.Kind.{Kind}
 use Rattle.psci_messages.specs.declared.kind.Kind.TheVariants.{Down, Start, Off, Reset}
 use Rattle.psci_link.specs.declared.fault.FrameFault.{FrameFault}

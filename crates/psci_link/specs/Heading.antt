@@ -2,8 +2,8 @@
 use Rattle.std.specs.Prelude.{◌≡◌, length, slice_index, ℕ, ◌/◌, ◌%◌, ◌≤◌, List, Bool, true, false}
 use Rattle.std.specs.Prelude.{◌&&◌, ◌==◌, nat_le, if◌then◌else◌, Option, Some, None}
 use Rattle.std.specs.Prelude.{option_and_then}
-use Rattle.psci_parts.specs.declared.part.Part.{Part}
-use Rattle.psci_parts.specs.declared.parts.TheConstants.{MOST_PARTS}
+use Rattle.psci_messages.specs.declared.part.Part.{Part}
+use Rattle.psci_messages.specs.declared.parts.TheConstants.{MOST_PARTS}
 use Rattle.psci_link.specs.declared.frame.TheConstants.{FRAME_LEN}
 use Rattle.psci_messages.specs.declared.kind.Kind.{Kind}
 use Rattle.psci_messages.specs.declared.kind.Kind.TheVariants.{Down, Start, Off, Reset}

@@ -23,8 +23,7 @@ use crate::heading::Heading;
 use crate::parts::{check_parts, parts_in};
 use crate::zero::is_zero;
 use psci_board::{Board, Core};
-use psci_messages::{Ack, Kind, Message};
-use psci_parts::Parts;
+use psci_messages::{Ack, Kind, Message, Parts};
 
 /// The frame that the bytes are on this board, or their first fault.
 pub fn decode(bytes: &[u8], board: &Board) -> Result<Frame, FrameFault>

@@ -1,17 +1,19 @@
 //! Writing frames.
 
-ghost use Rattle.std.specs.Prelude.{◌≡◌, ◌++◌, ◌≤◌, ◌<◌, ◌^◌, length};
+ghost use Rattle.std.specs.Prelude.{◌≡◌, ◌++◌, ◌≤◌, ◌<◌, ◌^◌, ◌∷◌, [], length, replicate};
 ghost use Rattle.std.specs.Prelude.{true};
+ghost use Rattle.std.specs.Int.{w64, to_be_bytes};
 ghost use Rattle.std.specs.List.{AllByRecursion};
 ghost use Rattle.psci_link.specs.Frame.{kind_code, header, part_bytes, part_fields, frame_bytes};
 ghost use Rattle.psci_link.specs.Frame.{IsFrame};
 ghost use Rattle.psci_link.specs.declared.frame.Frame.TheVariants as frames;
 ghost use Rattle.psci_messages.specs.Message.{is_climbing};
 
-use crate::frame::{FRAME_LEN, Frame, HEADER_LEN, PART_LEN};
+use crate::frame::{
+    COUNT_AT, FRAME_LEN, Frame, GENERATION_AT, HEADER_LEN, LIFE_AT, NUMBER_AT, PART_LEN,
+};
 use psci_board::Core;
-use psci_messages::{Ack, Kind, Message};
-use psci_parts::{MOST_PARTS, Part};
+use psci_messages::{Ack, Kind, MOST_PARTS, Message, Part};
 
 /// The first two bytes of a frame.
 pub const MAGIC: [u8; 2] = [0x50, 0x44];
@@ -45,7 +47,7 @@ pub fn write_message(message: &Message, bytes: &mut [u8; FRAME_LEN])
     let parts = message.parts.as_slice();
     let kind = kind_code(message.kind);
     let count = parts.len() as u8;
-    let header = header(kind, message.core, message.life, message.number, count);
+    let header = Header::of(kind, message.core, message.life, message.number, count);
     join(header, parts, bytes);
 }
 
@@ -55,7 +57,7 @@ pub fn encode_ack(ack: &Ack) -> [u8; FRAME_LEN]
     ensures frame { IsFrame (frames.Ack ack.now) }
 {
     let kind = kind_code(ack.kind) + if ack.stale { 0x20 } else { 0x10 };
-    let header = header(kind, ack.core, ack.life, ack.number, ack.applied);
+    let header = Header::of(kind, ack.core, ack.life, ack.number, ack.applied);
     let mut bytes = [0; FRAME_LEN];
     join(header, &[], &mut bytes);
     bytes
@@ -74,43 +76,85 @@ fn kind_code(kind: Kind) -> u8
 }
 
 /// The bytes before the parts.
-fn header(kind: u8, core: Core, life: u32, number: u32, count: u8) -> [u8; HEADER_LEN]
-    requires { core.number < 256 }
-    ensures bytes { result ≡ header kind core life number count }
-    ensures fits { (life < 2 ^ 32) × (number < 2 ^ 32) }
-{
-    let core = core.number as u8;
-    let [a, b, c, d] = life.to_be_bytes();
-    let [e, f, g, h] = number.to_be_bytes();
-    [
-        MAGIC[0], MAGIC[1], kind, core, a, b, c, d, e, f, g, h, count,
-    ]
+#[derive(Clone, Copy)]
+struct Header {
+    /// The two bytes that each frame begins with, the kind byte and the core.
+    names: [u8; 4],
+    /// The life.
+    life: [u8; 4],
+    /// The number.
+    number: [u8; 4],
+    /// The count.
+    count: u8,
+}
+
+impl Header {
+    /// Those of a frame with these fields.
+    fn of(kind: u8, core: Core, life: u32, number: u32, count: u8) -> Header
+        requires { core.number < 256 }
+        ensures bytes { result.names ++ (result.life ++ (result.number ++ result.count ∷ []))
+            ≡ header kind core life number count }
+        ensures fits { (life < 2 ^ 32) × (number < 2 ^ 32) }
+    {
+        Header {
+            names: [MAGIC[0], MAGIC[1], kind, core.number as u8],
+            life: life.to_be_bytes(),
+            number: number.to_be_bytes(),
+            count,
+        }
+    }
 }
 
 /// The header and the parts, and zeros in the places that are not used. Compiled into its callers,
 /// so that an acknowledgement has no loop over parts.
 #[inline(always)]
-fn join(header: [u8; HEADER_LEN], parts: &[Part], bytes: &mut [u8; FRAME_LEN])
+fn join(header: Header, parts: &[Part], bytes: &mut [u8; FRAME_LEN])
     requires few { length parts.now ≤ MOST_PARTS }
     requires levels { is_climbing 0 parts.now ≡ true }
-    ensures bytes { bytes.new ≡ header ++ part_fields parts.now }
+    ensures bytes { bytes.new ≡ (header.names ++ (header.life ++ (header.number
+        ++ header.count ∷ []))) ++ part_fields parts.now }
     ensures fits { AllByRecursion (λ part. part.generation < 2 ^ 64) parts.now }
 {
     *bytes = [0; FRAME_LEN];
-    bytes[..HEADER_LEN].copy_from_slice(&header);
+    put_header(bytes, header);
     let mut end = HEADER_LEN;
     for part in parts {
-        bytes[end..end + PART_LEN].copy_from_slice(&part_bytes(part));
+        put_part(&mut bytes[end..end + PART_LEN], part);
         end += PART_LEN;
     }
 }
 
-/// A part in its place.
-fn part_bytes(part: &Part) -> [u8; PART_LEN]
-    requires { part.now.level < 256 }
-    ensures bytes { result ≡ part_bytes part.now }
+/// Writes a header into a frame of zeros, four bytes at once. So a compiler finds a number in them,
+/// and writes it as one.
+#[inline(always)]
+fn put_header(bytes: &mut [u8; FRAME_LEN], header: Header)
+    requires { bytes.old ≡ replicate FRAME_LEN 0 }
+    ensures { bytes.new ≡ (header.names ++ (header.life ++ (header.number ++ header.count ∷ [])))
+        ++ replicate 40 0 }
+{
+    bytes[..LIFE_AT].copy_from_slice(&header.names);
+    bytes[LIFE_AT..NUMBER_AT].copy_from_slice(&header.life);
+    bytes[NUMBER_AT..COUNT_AT].copy_from_slice(&header.number);
+    bytes[COUNT_AT] = header.count;
+}
+
+/// Writes a part into its place, its generation at once.
+#[inline(always)]
+fn put_part(bytes: &mut [u8], part: &Part)
+    requires long { length bytes.old ≡ PART_LEN }
+    requires level { part.now.level < 256 }
+    ensures bytes { bytes.new ≡ part_bytes part.now }
     ensures fits { part.now.generation < 2 ^ 64 }
 {
-    let [a, b, c, d, e, f, g, h] = part.generation.to_be_bytes();
-    [part.level as u8, part.depth, a, b, c, d, e, f, g, h]
+    bytes[0] = part.level as u8;
+    bytes[1] = part.depth;
+    bytes[GENERATION_AT..].copy_from_slice(&generation_bytes(part));
+}
+
+/// The bytes of a part's generation.
+fn generation_bytes(part: &Part) -> [u8; 8]
+    ensures bytes { result ≡ to_be_bytes w64 part.now.generation }
+    ensures fits { part.now.generation < 2 ^ 64 }
+{
+    part.generation.to_be_bytes()
 }

@@ -13,6 +13,9 @@ pub const HEADER_LEN: usize = 13;
 /// How many bytes a part has.
 pub const PART_LEN: usize = 10;
 
+/// Where the generation begins in a part, after its level and depth.
+pub const GENERATION_AT: usize = 2;
+
 /// Where the kind byte stands, after the first two bytes.
 pub const KIND_AT: usize = 2;
 

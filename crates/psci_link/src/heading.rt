@@ -1,7 +1,6 @@
 //! What the kind byte of a frame says.
 
-use psci_messages::Kind;
-use psci_parts::MOST_PARTS;
+use psci_messages::{Kind, MOST_PARTS};
 
 /// How many parts a Down has at least: that of its core.
 const LEAST_PARTS: u8 = 1;

@@ -20,5 +20,6 @@ pub use fault::FrameFault;
 pub use frame::{FRAME_LEN, Frame};
 pub use heading::Heading;
 pub use laws::law_frames;
-pub use psci_messages::{Ack, Cause, Kind, Message, Slots, Start, Taken, law_parts, law_slots};
-pub use psci_parts::{Part, Parts};
+pub use psci_messages::{
+    Ack, Cause, Kind, Message, Part, Parts, Slots, Start, Taken, law_parts, law_slots,
+};

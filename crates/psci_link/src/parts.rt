@@ -8,7 +8,7 @@ ghost use Rattle.psci_link.specs.Frame.{fault_of_parts, is_within, part_in, part
 use crate::fault::FrameFault;
 use crate::frame::PART_LEN;
 use psci_board::Board;
-use psci_parts::{Part, Parts};
+use psci_messages::{Part, Parts};
 
 /// The first fault of the parts of a message on this board, if they have one.
 pub fn check_parts(board: &Board, parts: &[Part]) -> Result<(), FrameFault>

@@ -2,7 +2,7 @@
 -- used: each way to end a message and the way beside it that does not, and each field of its name.
 use Rattle.std.proofs.Common.{◌≡◌, ℕ, Bool, true, false, List, [], ◌∷◌, refl}
 use Rattle.std.specs.Prelude.{Some, None}
-use Rattle.psci_parts.specs.declared.part.Part.{Part}
+use Rattle.psci_messages.specs.declared.part.Part.{Part}
 use Rattle.psci_messages.specs.declared.kind.Kind.{Kind}
 use Rattle.psci_messages.specs.declared.kind.Kind.TheVariants.{Down, Start, Off, Reset}
 use Rattle.psci_messages.specs.declared.taken.Taken.TheVariants.{Used, Old}

@@ -1,7 +1,13 @@
+pub mod Claim
+pub mod LastCore
+pub mod Laws
+pub mod Looked
 pub mod Message
 pub mod OnlyIf
 pub mod Outstanding
+pub mod Places
 pub mod Slots
 pub mod StaleText
-pub use Rattle.psci_board.specs.psci_format
-pub use Rattle.psci_parts.specs as psci_parts
+pub mod View
+pub use Rattle.psci_board.specs.psci_abi
+pub use Rattle.psci_state.specs as psci_state

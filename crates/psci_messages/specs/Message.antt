@@ -2,8 +2,8 @@
 use Rattle.std.specs.Prelude.{◌≡◌, ℕ, ◌+◌, ◌<◌, ◌≤◌, Bool, true, List, [], ◌∷◌, length, ◌&&◌, ◌==◌}
 use Rattle.std.specs.Prelude.{nat_lt, nat_le, slice_get, Some}
 use Rattle.psci_board.specs.declared.node.Core.{Core}
-use Rattle.psci_parts.specs.declared.part.Part.{Part}
-use Rattle.psci_parts.specs.declared.parts.TheConstants.{MOST_PARTS}
+use Rattle.psci_messages.specs.declared.part.Part.{Part}
+use Rattle.psci_messages.specs.declared.parts.TheConstants.{MOST_PARTS}
 use Rattle.psci_messages.specs.declared.kind.Kind.{Kind}
 use Rattle.psci_messages.specs.declared.kind.Kind.TheVariants.{Down, Start, Off, Reset}
 

@@ -1,7 +1,7 @@
 //! What holds of outstanding messages over every history, and of claims.
 
 ghost use Rattle.std.specs.Prelude.{◌≡◌, ℕ, List, ◌∷◌, Some, true, length};
-ghost use Rattle.psci_parts.specs.declared.part.Part.{Part};
+ghost use Rattle.psci_messages.specs.declared.part.Part.{Part};
 ghost use Rattle.psci_messages.specs.Message.{MessageValue, AreClaims, PartByPart};
 ghost use Rattle.psci_messages.specs.Slots.{SlotsValue, Slot, slot_of, is_slot, message_in, Change};
 ghost use Rattle.psci_messages.specs.Slots.{after_change, after_all, changed};

@@ -1,27 +1,36 @@
-//! Messages between the firmware and the power controller, their acknowledgements, and the messages
-//! that wait for one.
+//! What a core that stops asks of its power domains, the messages that say so to the power
+//! controller, their acknowledgements, and the messages that wait for one.
 //!
-//! - A *message* asks the power controller to power down, start, switch off or reset. It is named
-//!   by its kind, core, life and number.
-//! - An *acknowledgement* names the message that it answers, and says what was carried out.
-//! - A *start* is one power-up of a core; the starts of a core are numbered from 1 in each life.
-//! - A message is *outstanding* from when it is sent until it is acknowledged or given up. One of
-//!   each core and one of the system may be outstanding.
+//! - A *part* asks one domain on the path of a core to go to a depth. Its *generation* is the sum
+//!   of the known starts below when it was made: it is out of date once one of them starts again.
+//! - A *claim* is the parts of one stop, from the core up: four at most, one for each level.
+//! - A *message* asks to power down, start, switch off or reset. An *acknowledgement* names it by
+//!   kind, core, life and number, and says what was carried out.
+//! - A *start* is one power-up of a core, numbered from 1 in each life.
+//! - A message is *outstanding* from when it is sent until it is acknowledged or given up.
 #![tactic(auto)]
 
 mod ack;
+mod claim_laws;
 mod kind;
 mod laws;
 mod message;
+mod osi;
+mod part;
+mod parts;
 mod slot;
 mod slots;
 mod start;
 mod taken;
 
 pub use ack::Ack;
+pub use claim_laws::{law_below, law_claims, law_last_core, law_off, law_own, law_platform};
 pub use kind::Kind;
 pub use laws::{law_parts, law_slots};
 pub use message::Message;
+pub use osi::Osi;
+pub use part::Part;
+pub use parts::{MOST_PARTS, Parts};
 pub use slots::Slots;
 pub use start::{Cause, Start};
 pub use taken::Taken;

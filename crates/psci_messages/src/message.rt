@@ -1,8 +1,8 @@
 //! Messages to the power controller.
 
 use crate::kind::Kind;
+use crate::parts::Parts;
 use psci_board::Core;
-use psci_parts::Parts;
 use std::marker::Model;
 
 /// A message to the power controller. Two messages of the same kind, core, life and number are the

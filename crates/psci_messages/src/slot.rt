@@ -2,8 +2,8 @@
 
 use crate::kind::Kind;
 use crate::message::Message;
+use crate::parts::Parts;
 use psci_board::Core;
-use psci_parts::Parts;
 use std::marker::Model;
 
 /// A slot, which has a message or none. What it had stays where it stands when it is emptied, so

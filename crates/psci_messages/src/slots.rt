@@ -26,7 +26,7 @@ impl Model for Slots {
 }
 
 ghost use Rattle.std.specs.Prelude.{◌≡◌, None, Some, option_map, replicate, length, IfOk};
-ghost use Rattle.std.specs.Prelude.{IsSomeAnd};
+ghost use Rattle.std.specs.Prelude.{◌<◌, IsSomeAnd};
 ghost use Rattle.std.specs.Prelude.{slice_index_or, slice_set};
 ghost use Rattle.psci_messages.specs.Slots.{slot_of, message_in, message_at, with_message};
 ghost use Rattle.psci_messages.specs.Slots.{no_messages, after_change, taken, IsOfCores};
@@ -179,12 +179,10 @@ fn message_of(slots: &[Slot], number: usize) -> Option<&Message>
 
 /// Fills the slot of the message's core.
 fn fill_at(slots: &mut [Slot], message: Message)
+    requires { message.core.number < length slots.old }
     ensures { slots.new ≡ slice_set slots.old message.core.number (Some message) }
 {
-    let number = message.core.number as usize;
-    if number < slots.len() {
-        slots[number].fill(message);
-    }
+    slots[message.core.number as usize].fill(message);
 }
 
 /// Empties the slot of a core.

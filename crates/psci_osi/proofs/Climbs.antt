@@ -6,8 +6,8 @@ use Rattle.std.proofs.lemmas.Bool.{cases_lt, lt-ltb, le-leb, lt-leb}
 use Rattle.std.proofs.Math.Nat.{eq-zero-or-pos}
 use Rattle.psci_board.specs.Board.{BoardValue, height}
 use Rattle.psci_state.specs.Ask.{deepest_of}
-use Rattle.psci_claims.specs.View.{PowerView, domain_of, generation}
-use Rattle.psci_claims.specs.Claim.{climb, claims_of, own_claims, own_wish, off_claims, off_wish}
+use Rattle.psci_messages.specs.View.{PowerView, domain_of, generation}
+use Rattle.psci_messages.specs.Claim.{climb, claims_of, own_claims, own_wish, off_claims, off_wish}
 
 climb-none : (wanted gs : ℕ → ℕ) (level count : ℕ) → wanted level ≡ 0
     → climb wanted gs level count ≡ []

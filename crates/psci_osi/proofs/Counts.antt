@@ -10,8 +10,8 @@ use Rattle.psci_board.specs.declared.span.CoreSpan.{CoreSpan}
 use Rattle.psci_board.specs.Board.{BoardValue, HasNode, up, below, span, cores_below, height}
 use Rattle.psci_board.specs.Board.{nodes}
 use Rattle.psci_tree.specs.Recount.{TreeValue, active, off}
-use Rattle.psci_claims.specs.View.{is_idle, is_all_away}
-use Rattle.psci_claims.specs.Looked.{view_of}
+use Rattle.psci_messages.specs.View.{is_idle, is_all_away}
+use Rattle.psci_messages.specs.Looked.{view_of}
 
 abbrev one_if : Bool → ℕ
 one_if b = cond b 1 0

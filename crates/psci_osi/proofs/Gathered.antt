@@ -11,10 +11,10 @@ use Rattle.std.proofs.lemmas.List.Concat.{flat_map-cons}
 use Rattle.psci_board.specs.declared.node.Node.{Node}
 use Rattle.psci_board.specs.Board.{BoardValue, up, child, children, first_child}
 use Rattle.psci_tree.specs.Standing.{on_path}
-use Rattle.psci_claims.specs.declared.osi.Osi.{Osi}
-use Rattle.psci_claims.specs.View.{PowerView, domain_of}
-use Rattle.psci_claims.specs.Claim.{own_wish}
-use Rattle.psci_claims.specs.LastCore.{refusal, granted_less, elsewhere, children_of, shallow_at}
+use Rattle.psci_messages.specs.declared.osi.Osi.{Osi}
+use Rattle.psci_messages.specs.View.{PowerView, domain_of}
+use Rattle.psci_messages.specs.Claim.{own_wish}
+use Rattle.psci_messages.specs.LastCore.{refusal, granted_less, elsewhere, children_of, shallow_at}
 use Rattle.psci_osi.specs.Worse.{worse}
 use Rattle.psci_osi.proofs.Refusals.{refusal-append}
 

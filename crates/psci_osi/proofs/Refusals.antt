@@ -11,12 +11,12 @@ use Rattle.std.proofs.lemmas.List.{length-append}
 use Rattle.std.proofs.Math.Nat.{eq-zero-or-pos}
 use Rattle.psci_board.specs.declared.node.Node.{Node}
 use Rattle.psci_board.specs.Board.{BoardValue}
-use Rattle.psci_claims.specs.declared.osi.Osi.{Osi}
-use Rattle.psci_claims.specs.declared.osi.Osi.TheVariants.{Invalid, Denied}
-use Rattle.psci_claims.specs.View.{PowerView, is_idle}
-use Rattle.psci_claims.specs.LastCore.{refusal, granted_less, elsewhere}
+use Rattle.psci_messages.specs.declared.osi.Osi.{Osi}
+use Rattle.psci_messages.specs.declared.osi.Osi.TheVariants.{Invalid, Denied}
+use Rattle.psci_messages.specs.View.{PowerView, is_idle}
+use Rattle.psci_messages.specs.LastCore.{refusal, granted_less, elsewhere}
 use Rattle.psci_tree.specs.Recount.{TreeValue, active, granted_at}
-use Rattle.psci_claims.specs.Looked.{view_of}
+use Rattle.psci_messages.specs.Looked.{view_of}
 use Rattle.psci_osi.proofs.Counts.{is_idle-none, is_idle-some}
 use Rattle.psci_osi.specs.Worse.{worse}
 

@@ -1,6 +1,6 @@
 -- Worked examples: which of two reasons to refuse a request wins, in each pair.
 use Rattle.std.proofs.Common.{◌≡◌, Some, None, refl}
-use Rattle.psci_claims.specs.declared.osi.Osi.TheVariants.{Invalid, Denied}
+use Rattle.psci_messages.specs.declared.osi.Osi.TheVariants.{Invalid, Denied}
 use Rattle.psci_osi.specs.Worse.{worse}
 
 none_and_none : worse None None ≡ None

@@ -3,14 +3,15 @@
 ghost use Rattle.std.specs.Prelude.{◌≡◌, ◌≢◌, ◌<◌, ◌≤◌};
 ghost use Rattle.psci_board.specs.Board.{HasNodeIn, IsBoard, cores};
 ghost use Rattle.psci_tree.specs.Recount.{active, granted_at};
-ghost use Rattle.psci_claims.specs.LastCore.{elsewhere, children_of, granted_less, last_core_check};
-ghost use Rattle.psci_claims.specs.LastCore.{refusal, shallow};
-ghost use Rattle.psci_claims.specs.Looked.{view_of};
+ghost use Rattle.psci_messages.specs.LastCore.{elsewhere, children_of, granted_less};
+ghost use Rattle.psci_messages.specs.LastCore.{last_core_check};
+ghost use Rattle.psci_messages.specs.LastCore.{refusal, shallow};
+ghost use Rattle.psci_messages.specs.Looked.{view_of};
 ghost use Rattle.psci_osi.specs.Worse.{worse};
 
 use psci_board::{Board, Core, Node, law_children};
-use psci_claims::{Osi, Parts};
 use psci_coord::own_parts;
+use psci_messages::{Osi, Parts};
 use psci_state::Ask;
 use psci_tree::Tree;
 

@@ -14,4 +14,4 @@ mod off;
 
 pub use last_core::{check, path_refusal};
 pub use off::{off_ask, off_parts};
-pub use psci_claims::Osi;
+pub use psci_messages::Osi;

@@ -2,13 +2,13 @@
 
 ghost use Rattle.std.specs.Prelude.{◌≡◌, ℕ, ◌<◌, ◌≤◌, ◌+◌};
 ghost use Rattle.psci_board.specs.Board.{HasNode, IsBoard, cores, height};
-ghost use Rattle.psci_claims.specs.Claim.{off_claims, off_wish, own_claims};
-ghost use Rattle.psci_claims.specs.View.{is_all_away};
-ghost use Rattle.psci_claims.specs.Looked.{view_of};
+ghost use Rattle.psci_messages.specs.Claim.{off_claims, off_wish, own_claims};
+ghost use Rattle.psci_messages.specs.View.{is_all_away};
+ghost use Rattle.psci_messages.specs.Looked.{view_of};
 
 use psci_board::{Board, Core, Node, law_paths, law_spans};
-use psci_claims::Parts;
 use psci_coord::own_parts;
+use psci_messages::Parts;
 use psci_state::Ask;
 use psci_tree::Tree;
 

@@ -4,8 +4,8 @@ use Rattle.std.proofs.Common.{ap, arith}
 use Rattle.std.proofs.lemmas.Bool.Decides.{nat_tests}
 use Rattle.std.specs.Result.{result_ok}
 use Rattle.std.specs.Prelude.{◌↔◌, IsTrue, IfOk, Some, None, Result, Ok, Err, nat_le, slice_index}
-use Rattle.psci_abi.specs.psci_format.declared.format.Format.{Format}
-use Rattle.psci_abi.specs.psci_format.declared.format.Format.TheVariants.{Extended}
+use Rattle.psci_abi.specs.declared.format.Format.{Format}
+use Rattle.psci_abi.specs.declared.format.Format.TheVariants.{Extended}
 use Rattle.psci_state.specs.declared.fault.BadState.{BadState}
 use Rattle.psci_state.specs.Ask.{IsAsk, highest_of, is_ask, is_deep}
 use Rattle.psci_state.specs.PowerState.{ask_of, word_of}

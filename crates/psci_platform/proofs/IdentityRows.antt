@@ -5,8 +5,8 @@ use Rattle.psci_abi.specs.declared.registers.Regs.{Regs}
 use Rattle.psci_abi.specs.declared.request.Request.{Request}
 use Rattle.psci_abi.specs.declared.request.Request.TheVariants.{CpuOn, CpuSuspend}
 use Rattle.psci_abi.specs.declared.request.Request.TheVariants.{SystemSuspend}
-use Rattle.psci_abi.specs.psci_format.declared.format.Format.{Format}
-use Rattle.psci_abi.specs.psci_format.declared.format.Format.TheVariants.{Original, Extended}
+use Rattle.psci_abi.specs.declared.format.Format.{Format}
+use Rattle.psci_abi.specs.declared.format.Format.TheVariants.{Original, Extended}
 use Rattle.psci_board.specs.Board.{BoardValue}
 use Rattle.psci_fw_spec.specs.declared.mode.SuspendMode.TheVariants.{Platform}
 use Rattle.psci_platform.specs.declared.asked.Asked.TheVariants.{Nothing, States}

@@ -13,6 +13,7 @@ mod FaultOrderRows
 mod FaultRows
 mod FunctionFaultRows
 mod IdentityRows
+pub mod KeptCalls
 pub mod Machines
 pub mod Missing
 mod NameRows

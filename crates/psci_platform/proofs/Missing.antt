@@ -5,8 +5,8 @@ use Rattle.std.specs.Prelude.{Err}
 use Rattle.psci_abi.specs.Calls.{request_of}
 use Rattle.psci_abi.specs.declared.registers.Regs.{Regs}
 use Rattle.psci_abi.specs.declared.request.Request.TheVariants.{Unknown}
-use Rattle.psci_abi.specs.psci_format.declared.format.Format.{Format}
-use Rattle.psci_abi.specs.psci_format.declared.format.Format.TheVariants.{Original, Extended}
+use Rattle.psci_abi.specs.declared.format.Format.{Format}
+use Rattle.psci_abi.specs.declared.format.Format.TheVariants.{Original, Extended}
 use Rattle.psci_board.specs.Board.{BoardValue, IsBoard, address, core_of, height, node_of}
 use Rattle.psci_board.specs.Laws.{WordLaws}
 use Rattle.psci_fw_spec.specs.declared.mode.SuspendMode.{SuspendMode}

@@ -74,12 +74,12 @@ asked_at b mode regs (requests.CpuSuspend state e c) laws own =
     told b mode state laws.states small
 asked_at b mode regs requests.CpuOff laws own = refl
 asked_at b mode regs (requests.CpuOn target e c) laws own = refl
-asked_at b mode regs (requests.AffinityInfo target level) laws own = refl
+asked_at b mode regs (requests.AffinityInfo level target) laws own = refl
 asked_at b mode regs requests.MigrateInfoType laws own = refl
 asked_at b mode regs requests.SystemOff laws own = refl
 asked_at b mode regs requests.SystemReset laws own = refl
 asked_at b mode regs (requests.Features word) laws own = refl
-asked_at b mode regs (requests.NodeHwState target level) laws own = refl
+asked_at b mode regs (requests.NodeHwState level target) laws own = refl
 asked_at b mode regs (requests.SystemSuspend e c) laws own = refl
 asked_at b mode regs (requests.SetSuspendMode m) laws own = refl
 asked_at b mode regs (requests.SystemReset2 t c) laws own = refl

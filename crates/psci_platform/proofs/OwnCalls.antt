@@ -48,10 +48,10 @@ Alike b (requests.CpuSuspend state entry_point context) q =
     (w : ℕ) × (ask_named b w ≡ ask_named b state) × (q ≡ requests.CpuSuspend w entry_point context)
 Alike b (requests.CpuOn target entry_point context) q =
     (w : ℕ) × (core_of b w ≡ core_of b target) × (q ≡ requests.CpuOn w entry_point context)
-Alike b (requests.AffinityInfo target level) q =
-    (w : ℕ) × (node_of b w level ≡ node_of b target level) × (q ≡ requests.AffinityInfo w level)
-Alike b (requests.NodeHwState target level) q =
-    (w : ℕ) × (node_of b w level ≡ node_of b target level) × (q ≡ requests.NodeHwState w level)
+Alike b (requests.AffinityInfo level target) q =
+    (w : ℕ) × (node_of b w level ≡ node_of b target level) × (q ≡ requests.AffinityInfo level w)
+Alike b (requests.NodeHwState level target) q =
+    (w : ℕ) × (node_of b w level ≡ node_of b target level) × (q ≡ requests.NodeHwState level w)
 Alike b r q = q ≡ r
 
 -- the request that the firmware is asked with for a request
@@ -78,12 +78,12 @@ all_there requests.Version = refl
 all_there (requests.CpuSuspend state e c) = refl
 all_there requests.CpuOff = refl
 all_there (requests.CpuOn target e c) = refl
-all_there (requests.AffinityInfo target level) = refl
+all_there (requests.AffinityInfo level target) = refl
 all_there requests.MigrateInfoType = refl
 all_there requests.SystemOff = refl
 all_there requests.SystemReset = refl
 all_there (requests.Features word) = refl
-all_there (requests.NodeHwState target level) = refl
+all_there (requests.NodeHwState level target) = refl
 all_there (requests.SystemSuspend e c) = refl
 all_there (requests.SetSuspendMode m) = refl
 all_there (requests.SystemReset2 t c) = refl
@@ -106,7 +106,7 @@ alike_at b mode regs (requests.CpuOn target e c) laws own =
     let w = core_word (identity b) b 0 target 0 in
     let same = node_same b target 0 laws.tree in
     (argument regs w, ap (core_of b) (short regs w same.0) ∙ core_same b target laws.tree, refl)
-alike_at b mode regs (requests.AffinityInfo target level) laws own =
+alike_at b mode regs (requests.AffinityInfo level target) laws own =
     let w = core_word (identity b) b 0 target level in
     let same = node_same b target level laws.tree in
     (argument regs w, ap (λ (x : ℕ). node_of b x level) (short regs w same.0) ∙ same.1, refl)
@@ -120,7 +120,7 @@ alike_at b mode regs (requests.Features word) laws own =
     let same : w ≡ word = feature_same b word in
     ap (λ (x : ℕ). requests.Features (low_half (argument regs x))) same
     ∙ ap requests.Features (half_of regs word small)
-alike_at b mode regs (requests.NodeHwState target level) laws own =
+alike_at b mode regs (requests.NodeHwState level target) laws own =
     let w = core_word (identity b) b 0 target level in
     let same = node_same b target level laws.tree in
     (argument regs w, ap (λ (x : ℕ). node_of b x level) (short regs w same.0) ∙ same.1, refl)
@@ -156,10 +156,10 @@ outcome_alike b v c (requests.CpuOn target e x) q same =
     ap (outcome_of b v c) same.2
     ∙ ap (λ (o : Option Core). if v.halting then stops
     else start_outcome v (target_among b v e o)) same.1
-outcome_alike b v c (requests.AffinityInfo target level) q same =
+outcome_alike b v c (requests.AffinityInfo level target) q same =
     ap (outcome_of b v c) same.2
     ∙ ap (λ (o : Option Node). if v.halting then stops else returns (affinity_of b v o)) same.1
-outcome_alike b v c (requests.NodeHwState target level) q same =
+outcome_alike b v c (requests.NodeHwState level target) q same =
     ap (outcome_of b v c) same.2
     ∙ ap (λ (o : Option Node). if v.halting then stops else returns (hw_state_of v o)) same.1
 outcome_alike b v c r q same = ap (outcome_of b v c) same
@@ -197,8 +197,8 @@ on_effect b c w target e x (acts.Return code) None = refl
 on_effect b c w target e x act sent = refl
 
 info_effect : (b : BoardValue) (c w target level : ℕ) (act : Act) (sent : Option MessageValue)
-    → function_effect b c (requests.AffinityInfo w level) act sent
-    ≡ function_effect b c (requests.AffinityInfo target level) act sent
+    → function_effect b c (requests.AffinityInfo level w) act sent
+    ≡ function_effect b c (requests.AffinityInfo level target) act sent
 info_effect b c w target level acts.Stop (Some m) = refl
 info_effect b c w target level acts.Stop None = refl
 info_effect b c w target level (acts.Return code) (Some m) = refl
@@ -206,8 +206,8 @@ info_effect b c w target level (acts.Return code) None = refl
 info_effect b c w target level act sent = refl
 
 hw_effect : (b : BoardValue) (c w target level : ℕ) (act : Act) (sent : Option MessageValue)
-    → function_effect b c (requests.NodeHwState w level) act sent
-    ≡ function_effect b c (requests.NodeHwState target level) act sent
+    → function_effect b c (requests.NodeHwState level w) act sent
+    ≡ function_effect b c (requests.NodeHwState level target) act sent
 hw_effect b c w target level acts.Stop (Some m) = refl
 hw_effect b c w target level acts.Stop None = refl
 hw_effect b c w target level (acts.Return code) (Some m) = refl
@@ -222,10 +222,10 @@ effect_alike b c (requests.CpuSuspend state e x) q act sent same =
 effect_alike b c (requests.CpuOn target e x) q act sent same =
     ap (λ (p : Request). function_effect b c p act sent) same.2
     ∙ on_effect b c same.0 target e x act sent
-effect_alike b c (requests.AffinityInfo target level) q act sent same =
+effect_alike b c (requests.AffinityInfo level target) q act sent same =
     ap (λ (p : Request). function_effect b c p act sent) same.2
     ∙ info_effect b c same.0 target level act sent
-effect_alike b c (requests.NodeHwState target level) q act sent same =
+effect_alike b c (requests.NodeHwState level target) q act sent same =
     ap (λ (p : Request). function_effect b c p act sent) same.2
     ∙ hw_effect b c same.0 target level act sent
 effect_alike b c r q act sent same = ap (λ (p : Request). function_effect b c p act sent) same

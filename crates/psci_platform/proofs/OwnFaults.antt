@@ -8,8 +8,8 @@ use Rattle.std.proofs.lemmas.List.Folds.{list_all-map, list_any_at}
 use Rattle.std.proofs.lemmas.Option.{same_Some}
 use Rattle.std.specs.List.{count_by, list_all, list_any, range_with_len}
 use Rattle.std.specs.Prelude.{slice_index}
-use Rattle.psci_abi.specs.psci_format.declared.format.Format.{Format}
-use Rattle.psci_abi.specs.psci_format.declared.format.Format.TheVariants.{Original, Extended}
+use Rattle.psci_abi.specs.declared.format.Format.{Format}
+use Rattle.psci_abi.specs.declared.format.Format.TheVariants.{Original, Extended}
 use Rattle.psci_board.specs.Board.{BoardValue, address, core_of, cores, height}
 use Rattle.psci_board.specs.declared.node.Core.{Core}
 use Rattle.psci_state.specs.Ask.{deepest_of}

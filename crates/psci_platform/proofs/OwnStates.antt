@@ -9,7 +9,7 @@ use Rattle.std.proofs.lemmas.Option.{none-some, same_Some}
 use Rattle.std.specs.Int.Bits.{bit_and}
 use Rattle.std.specs.List.{range_with_len}
 use Rattle.std.specs.Prelude.{◌↔◌, IsTrue, Result, Ok, Err, filter, find, nat_le, slice_index}
-use Rattle.psci_abi.specs.psci_format.declared.format.Format.{Format}
+use Rattle.psci_abi.specs.declared.format.Format.{Format}
 use Rattle.psci_board.specs.Board.{BoardValue, height}
 use Rattle.psci_fw_spec.specs.declared.mode.SuspendMode.{SuspendMode}
 use Rattle.psci_fw_spec.specs.declared.mode.SuspendMode.TheVariants.{Platform, OsInitiated}

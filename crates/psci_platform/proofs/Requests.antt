@@ -13,12 +13,12 @@ with_first w (requests.CpuSuspend state entry_point context) =
     requests.CpuSuspend (low_half w) entry_point context
 with_first w requests.CpuOff = requests.CpuOff
 with_first w (requests.CpuOn target entry_point context) = requests.CpuOn w entry_point context
-with_first w (requests.AffinityInfo target level) = requests.AffinityInfo w level
+with_first w (requests.AffinityInfo level target) = requests.AffinityInfo level w
 with_first w requests.MigrateInfoType = requests.MigrateInfoType
 with_first w requests.SystemOff = requests.SystemOff
 with_first w requests.SystemReset = requests.SystemReset
 with_first w (requests.Features word) = requests.Features (low_half w)
-with_first w (requests.NodeHwState target level) = requests.NodeHwState w level
+with_first w (requests.NodeHwState level target) = requests.NodeHwState level w
 with_first w (requests.SystemSuspend entry_point context) = requests.SystemSuspend w context
 with_first w (requests.SetSuspendMode mode) = requests.SetSuspendMode (low_half w)
 with_first w (requests.SystemReset2 reset_type cookie) =

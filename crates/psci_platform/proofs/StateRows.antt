@@ -1,8 +1,8 @@
 -- Words of real machines, and what they ask.
 use Rattle.std.proofs.Common.{◌≡◌, ℕ, List, [], ◌∷◌, refl}
 use Rattle.std.specs.Prelude.{Some, None}
-use Rattle.psci_abi.specs.psci_format.declared.format.Format.{Format}
-use Rattle.psci_abi.specs.psci_format.declared.format.Format.TheVariants.{Original, Extended}
+use Rattle.psci_abi.specs.declared.format.Format.{Format}
+use Rattle.psci_abi.specs.declared.format.Format.TheVariants.{Original, Extended}
 use Rattle.psci_fw_spec.specs.declared.mode.SuspendMode.{SuspendMode}
 use Rattle.psci_fw_spec.specs.declared.mode.SuspendMode.TheVariants.{Platform, OsInitiated}
 use Rattle.psci_platform.specs.States.{depth_of, depth_at, depths_of, states_of, word_for}

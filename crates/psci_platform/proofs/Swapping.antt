@@ -218,7 +218,7 @@ request_by d b boot mode regs (requests.CpuSuspend state e c) call = refl
 request_by d b boot mode regs requests.CpuOff call = refl
 request_by d b boot mode regs (requests.CpuOn target e c) call =
     (argument regs (core_word d b boot target 0), core_asked d b boot target regs call, refl)
-request_by d b boot mode regs (requests.AffinityInfo target level) call = (
+request_by d b boot mode regs (requests.AffinityInfo level target) call = (
   argument regs (core_word d b boot target level),
   node_asked d b boot target level regs call,
   refl,
@@ -227,7 +227,7 @@ request_by d b boot mode regs requests.MigrateInfoType call = refl
 request_by d b boot mode regs requests.SystemOff call = refl
 request_by d b boot mode regs requests.SystemReset call = refl
 request_by d b boot mode regs (requests.Features word) call = refl
-request_by d b boot mode regs (requests.NodeHwState target level) call = (
+request_by d b boot mode regs (requests.NodeHwState level target) call = (
   argument regs (core_word d b boot target level),
   node_asked d b boot target level regs call,
   refl,

@@ -22,7 +22,7 @@ is_there f requests.CpuOff = f.cpu_off
 is_there f (requests.CpuOn target entry_point context) = f.cpu_on
 is_there f requests.SystemOff = f.system_off
 is_there f requests.SystemReset = f.system_reset
-is_there f (requests.NodeHwState target level) = f.node_hw_state
+is_there f (requests.NodeHwState level target) = f.node_hw_state
 is_there f (requests.SystemSuspend entry_point context) = f.system_suspend
 is_there f (requests.SystemReset2 reset_type cookie) = f.system_reset2
 is_there f request = true
@@ -49,9 +49,9 @@ first_argument d b boot mode x1 (requests.CpuSuspend state entry_point context) 
     word_for d b.format (states_of d mode state)
 first_argument d b boot mode x1 (requests.CpuOn target entry_point context) =
     core_word d b boot target 0
-first_argument d b boot mode x1 (requests.AffinityInfo target level) =
+first_argument d b boot mode x1 (requests.AffinityInfo level target) =
     core_word d b boot target level
-first_argument d b boot mode x1 (requests.NodeHwState target level) =
+first_argument d b boot mode x1 (requests.NodeHwState level target) =
     core_word d b boot target level
 first_argument d b boot mode x1 (requests.Features word) = feature_word d word
 first_argument d b boot mode x1 (requests.SystemReset2 reset_type cookie) = reset_word d reset_type

@@ -4,8 +4,8 @@ use Rattle.std.specs.Prelude.{nat_le, nat_lt, if◌then◌else◌, List, [], ◌
 use Rattle.std.specs.Prelude.{None, slice_index}
 use Rattle.std.specs.Int.Bits.{bit_and}
 use Rattle.std.specs.List.{list_any, list_all, count_by, range_with_len}
-use Rattle.psci_abi.specs.psci_format.declared.format.Format.{Format}
-use Rattle.psci_abi.specs.psci_format.declared.format.Format.TheVariants.{Original, Extended}
+use Rattle.psci_abi.specs.declared.format.Format.{Format}
+use Rattle.psci_abi.specs.declared.format.Format.TheVariants.{Original, Extended}
 use Rattle.psci_board.specs.Board.{BoardValue, cores, height}
 use Rattle.psci_state.specs.Ask.{is_ask, deepest_of, power_down}
 use Rattle.psci_platform.specs.declared.class.TheConstants.{STATES}

@@ -4,7 +4,7 @@ use Rattle.std.specs.Prelude.{replicate, Result, Ok, Err}
 use Rattle.std.specs.List.{range_with_len}
 use Rattle.psci_abi.specs.declared.request.Request.{Request}
 use Rattle.psci_abi.specs.declared.request.Request.TheVariants as requests
-use Rattle.psci_abi.specs.psci_format.declared.format.Format.{Format}
+use Rattle.psci_abi.specs.declared.format.Format.{Format}
 use Rattle.psci_board.specs.Board.{BoardValue, address, cores, height}
 use Rattle.psci_state.specs.Ask.{deepest_of, highest_of, is_ask}
 use Rattle.psci_state.specs.PowerState.{ask_of, word_of}

@@ -4,6 +4,7 @@ pub mod Cores
 pub mod Described
 pub mod Faults
 pub mod Identity
+pub mod Kept
 pub mod Names
 pub mod Platforms
 pub mod States

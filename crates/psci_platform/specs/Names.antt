@@ -4,7 +4,7 @@ use Rattle.std.specs.Prelude.{if◌then◌else◌, List}
 use Rattle.std.specs.Prelude.{◌≤◌, Option, None, Some, IfSome, is_some, length, map, slice_get}
 use Rattle.std.specs.Int.Bits.{bit_and}
 use Rattle.std.specs.List.{All, Contains, list_all}
-use Rattle.psci_board.specs.Board.{BoardValue, address, cores}
+use Rattle.psci_board.specs.Board.{BoardValue, address, cores, height}
 use Rattle.psci_platform.specs.Cores.{number_named}
 use Rattle.psci_platform.specs.Described.{DescriptionValue}
 use Rattle.psci_platform.specs.declared.names.Name.{Name}
@@ -57,4 +57,4 @@ AreNames d b boot tables =
 pub record IsReady (d : DescriptionValue) (b : BoardValue) (boot : ℕ) (r : Ready) : Type 0 where
   pub few : length r.tables.items ≤ 4
   pub names : AreNames d b boot r.tables.items
-  pub rows : r.readings.items ≡ map (reading_of d b.format) d.rows
+  pub rows : r.readings.items ≡ map (reading_of d b.format (height b)) d.rows

@@ -5,7 +5,7 @@ ghost use Rattle.std.specs.Prelude.{length, option_map, slice_index};
 ghost use Rattle.psci_abi.specs.Calls.{request_of};
 ghost use Rattle.psci_abi.specs.declared.registers.Regs.{Regs};
 ghost use Rattle.psci_abi.specs.declared.request.Request.TheVariants as requests;
-ghost use Rattle.psci_abi.specs.psci_format.declared.format.Format.{Format};
+ghost use Rattle.psci_abi.specs.declared.format.Format.{Format};
 ghost use Rattle.psci_board.specs.Board.{BoardValue, IsBoard, address, core_of, cores, height};
 ghost use Rattle.psci_board.specs.Board.{node_of, up};
 ghost use Rattle.psci_fw_laws.specs.Renumbered.{CallsBy, IsRenumbering, reply_by, values_by};

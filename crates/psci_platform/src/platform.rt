@@ -15,11 +15,11 @@ use std::marker::Model;
 /// A board, and a description of the platform that has no fault.
 #[derive(Drop)]
 pub struct Platform {
-    description: Description,
-    board: Board,
+    pub(crate) description: Description,
+    pub(crate) board: Board,
     boot: u64,
     /// The boot core, by its place in the order of the tree.
-    boot_core: Core,
+    pub(crate) boot_core: Core,
     /// What is found out once, where there was memory for it.
     ready: Option<Ready>,
 }
@@ -47,11 +47,13 @@ impl Model for Platform {
 }
 
 ghost use Rattle.std.specs.Prelude.{◌≡◌, ◌<◌, None, Some, IfOk, IfSome, MatchResult, option_map};
-ghost use Rattle.std.specs.Prelude.{slice_get};
+ghost use Rattle.std.specs.Prelude.{is_some, slice_get, true};
+ghost use Rattle.psci_abi.specs.Calls.{low_half};
 ghost use Rattle.psci_board.specs.Board.{cores};
 ghost use Rattle.psci_platform.specs.Cores.{boot_place, number_named};
 ghost use Rattle.psci_platform.specs.Names.{IsReady};
 ghost use Rattle.psci_platform.specs.declared.asked.Asked.TheVariants.{Nothing};
+ghost use Rattle.psci_platform.specs.Arguments.{argument_by, names_nothing};
 ghost use Rattle.psci_platform.specs.Calls.{asked_for, regs_for};
 ghost use Rattle.psci_platform.specs.Faults.{fault_of};
 ghost use Rattle.psci_platform.specs.Swaps.{moved, swap_for};
@@ -92,7 +94,9 @@ impl Platform {
         ensures { IfOk result (λ p. p ≡ self) }
     {
         let tables = self.description.tables(alloc, &self.board, self.boot_core)?;
-        let readings = self.description.readings(alloc, self.board.format())?;
+        let readings = self
+            .description
+            .readings(alloc, self.board.format(), self.board.height())?;
         Ok(Platform {
             ready: Some(Ready { tables, readings }),
             ..self
@@ -101,7 +105,7 @@ impl Platform {
 
     /// What was found out once.
     #[inline(always)]
-    fn ready(&self) -> Option<&Ready>
+    pub(crate) fn ready(&self) -> Option<&Ready>
         ensures { IfSome result
             (λ r. IsReady self.now.description self.now.board self.now.place r.now) }
     {
@@ -175,6 +179,9 @@ impl Platform {
             ≡ regs_for self.now.description self.now.board self.now.place mode regs) }
         ensures asked { IfSome result (λ _. (mode : SuspendMode)
             → asked_for self.now.description mode regs ≡ Nothing) }
+        ensures said { names_nothing
+            (argument_by self.now.description.functions (low_half regs.x0)) ≡ true
+            → is_some result ≡ true }
     {
         self.description
             .at_once(&self.board, self.boot_core, self.ready(), regs)

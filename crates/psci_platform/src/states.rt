@@ -4,7 +4,7 @@ ghost use Rattle.std.specs.Prelude.{◌≡◌, ◌≤◌, ◌<◌, ◌^◌, None
 ghost use Rattle.std.specs.Prelude.{find, option_map};
 ghost use Rattle.psci_state.specs.Ask.{is_ask};
 ghost use Rattle.psci_state.specs.PowerState.{id_of, word_of};
-ghost use Rattle.psci_abi.specs.psci_format.declared.format.Format.TheVariants.{Extended};
+ghost use Rattle.psci_abi.specs.declared.format.Format.TheVariants.{Extended};
 ghost use Rattle.psci_platform.specs.States.{can_ask, depth_at, depths_of, is_deeper, reads};
 ghost use Rattle.psci_platform.specs.States.{row_of};
 ghost use Rattle.psci_platform.specs.States.{states_of, word_asking, word_for};

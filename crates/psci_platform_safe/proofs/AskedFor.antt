@@ -13,7 +13,7 @@ use Rattle.psci_headline.specs.Claims.{Claim, asks_by, claim_by, claims}
 use Rattle.psci_headline.specs.psci_board.Board.{BoardValue, below, cores, height, size_below, up}
 use Rattle.psci_headline.specs.psci_board.declared.node.Node.{Node}
 use Rattle.psci_headline.specs.psci_board.Paths.{is_on_path}
-use Rattle.psci_headline.specs.psci_claims.psci_parts.declared.part.Part.{Part}
+use Rattle.psci_headline.specs.psci_messages.declared.part.Part.{Part}
 use Rattle.psci_headline.specs.psci_ctl_spec.Values.{starts_below}
 use Rattle.psci_headline.specs.psci_fw_laws.Claims.{part_for}
 use Rattle.psci_headline.specs.psci_fw_spec.declared.mode.SuspendMode.{SuspendMode}

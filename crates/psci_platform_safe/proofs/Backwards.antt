@@ -17,9 +17,9 @@ use Rattle.psci_headline.specs.psci_abi.Calls.{argument, low_half, request_of}
 use Rattle.psci_headline.specs.psci_abi.declared.registers.Regs.{Regs}
 use Rattle.psci_headline.specs.psci_abi.declared.request.Request.{Request}
 use Rattle.psci_headline.specs.psci_abi.declared.request.Request.TheVariants as requests
-use Rattle.psci_headline.specs.psci_abi.psci_format.declared.format.Format.{Format}
-use Rattle.psci_headline.specs.psci_abi.psci_format.declared.format.Format.TheVariants.{Extended}
-use Rattle.psci_headline.specs.psci_abi.psci_format.declared.format.Format.TheVariants.{Original}
+use Rattle.psci_headline.specs.psci_abi.declared.format.Format.{Format}
+use Rattle.psci_headline.specs.psci_abi.declared.format.Format.TheVariants.{Extended}
+use Rattle.psci_headline.specs.psci_abi.declared.format.Format.TheVariants.{Original}
 use Rattle.psci_headline.specs.psci_board.Board.{core_of, height}
 use Rattle.psci_headline.specs.psci_board.declared.node.Core.{Core}
 use Rattle.psci_headline.specs.psci_fw_spec.declared.mode.SuspendMode.{SuspendMode}

@@ -8,7 +8,7 @@ use Rattle.std.proofs.lemmas.Bool.{cases_eq, eq-eqb}
 use Rattle.std.proofs.lemmas.List.{append-nil, append_assoc}
 use Rattle.psci_platform.specs.Platforms.{PlatformValue}
 use Rattle.psci_headline.specs.psci_board.declared.node.Node.{Node}
-use Rattle.psci_headline.specs.psci_claims.psci_parts.declared.part.Part.{Part}
+use Rattle.psci_headline.specs.psci_messages.declared.part.Part.{Part}
 use Rattle.psci_headline.specs.psci_ctl_spec.Values.{starts_below}
 use Rattle.psci_headline.specs.psci_fw_laws.Claims.{part_for}
 use Rattle.psci_headline.specs.psci_messages.Message.{MessageValue}

@@ -55,22 +55,22 @@ told p mode regs r e there =
 
 -- a request that names a core or a domain asks of the board's word for it
 pub affinity_told : (p : PlatformValue) (mode : SuspendMode) (regs : Regs) (word level : ℕ)
-    → Laws p → request_of regs ≡ requests.AffinityInfo word level
+    → Laws p → request_of regs ≡ requests.AffinityInfo level word
     → request_of (regs_for p.description p.board p.place mode regs)
-    ≡ requests.AffinityInfo (core_word p.description p.board p.place word level) level
+    ≡ requests.AffinityInfo level (core_word p.description p.board p.place word level)
 affinity_told p mode regs word level laws e =
-    told p mode regs (requests.AffinityInfo word level) e refl
-    ∙ ap (λ (w : ℕ). requests.AffinityInfo w level)
+    told p mode regs (requests.AffinityInfo level word) e refl
+    ∙ ap (λ (w : ℕ). requests.AffinityInfo level w)
     (short regs (core_word p.description p.board p.place word level)
     (core_short p word level laws))
 
 pub hw_told : (p : PlatformValue) (mode : SuspendMode) (regs : Regs) (word level : ℕ)
-    → Laws p → request_of regs ≡ requests.NodeHwState word level
+    → Laws p → request_of regs ≡ requests.NodeHwState level word
     → p.description.functions.node_hw_state ≡ true
     → request_of (regs_for p.description p.board p.place mode regs)
-    ≡ requests.NodeHwState (core_word p.description p.board p.place word level) level
+    ≡ requests.NodeHwState level (core_word p.description p.board p.place word level)
 hw_told p mode regs word level laws e there =
-    told p mode regs (requests.NodeHwState word level) e there
-    ∙ ap (λ (w : ℕ). requests.NodeHwState w level)
+    told p mode regs (requests.NodeHwState level word) e there
+    ∙ ap (λ (w : ℕ). requests.NodeHwState level w)
     (short regs (core_word p.description p.board p.place word level)
     (core_short p word level laws))

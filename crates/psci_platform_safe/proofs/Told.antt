@@ -64,12 +64,12 @@ answered p r past request code a = record {
 -- AFFINITY_INFO ---------------------------------------------------------------------------------
 
 pub off_told : (p : PlatformValue) (r : Record) (past : List Record) (word level mpidr : ℕ) → Laws p
-    → Answers r (requests.AffinityInfo word level) 1
+    → Answers r (requests.AffinityInfo level word) 1
     → IsAskedOf p word level mpidr
     → told_off p.board (record_for p past r).event (record_for p past r).said
     ≡ Some (domain_above p mpidr level)
 off_told p r past word level mpidr laws a asked =
-    let is = answered p r past (requests.AffinityInfo word level) 1 a in
+    let is = answered p r past (requests.AffinityInfo level word) 1 a in
     let regs = regs_for p.description p.board p.place (mode_of p past) is.regs in
     ap (λ (x : Event). told_off p.board x (record_for p past r).said) is.event
     ∙ ap (told_off p.board (Call (number p is.caller) regs)) is.said
@@ -80,7 +80,7 @@ off_told p r past word level mpidr laws a asked =
 pub off : (p : PlatformValue) (r : Record) (past : List Record) (word level mpidr : ℕ) → Laws p
     → ((n : Node) → told_off p.board (record_for p past r).event
     (record_for p past r).said ≡ Some n → AllOff p.board (numbered p past) n)
-    → Answers r (requests.AffinityInfo word level) 1
+    → Answers r (requests.AffinityInfo level word) 1
     → IsAskedOf p word level mpidr → IsOff p past mpidr
 off p r past word level mpidr laws law a asked =
     let all = law (domain_above p mpidr level)
@@ -123,7 +123,7 @@ never p r past request code legal is unknown =
 
 hw_named : (p : PlatformValue) (r : Record) (past : List Record) (word level mpidr code : ℕ)
     → Laws p → IsAskedOf p word level mpidr
-    → (is : IsAnswered p r past (requests.NodeHwState word level) code)
+    → (is : IsAnswered p r past (requests.NodeHwState level word) code)
     → p.description.functions.node_hw_state ≡ true
     → hw_asked_of p.board (request_of
     (regs_for p.description p.board p.place (mode_of p past) is.regs))
@@ -136,17 +136,17 @@ hw_named p r past word level mpidr code laws asked is there =
 -- the law of functions that are not there
 abbrev pub AreUnknown : PlatformValue → Type 0
 AreUnknown p = (mode : _) (regs : Regs) (word level : ℕ)
-    → request_of regs ≡ requests.NodeHwState word level
+    → request_of regs ≡ requests.NodeHwState level word
     → p.description.functions.node_hw_state ≡ false
     → request_of (regs_for p.description p.board p.place mode regs) ≡ requests.Unknown
 
 pub hw_off_told : (p : PlatformValue) (r : Record) (past : List Record) (word level mpidr : ℕ)
     → Laws p → AreUnknown p → IsLegalOn p (r ∷ past) → IsAskedOf p word level mpidr
-    → Answers r (requests.NodeHwState word level) 1
+    → Answers r (requests.NodeHwState level word) 1
     → told_hw p.board 1 (record_for p past r).event (record_for p past r).said
     ≡ Some (domain_above p mpidr level)
 hw_off_told p r past word level mpidr laws none legal asked a =
-    let is = answered p r past (requests.NodeHwState word level) 1 a in
+    let is = answered p r past (requests.NodeHwState level word) 1 a in
     let regs = regs_for p.description p.board p.place (mode_of p past) is.regs in
     elim (cases_Bool p.description.functions.node_hw_state) [
       | inl there ↦
@@ -154,17 +154,17 @@ hw_off_told p r past word level mpidr laws none legal asked a =
           ∙ ap (told_hw p.board 1 (Call (number p is.caller) regs)) is.said
           ∙ hw_named p r past word level mpidr 1 laws asked is there
       | inr missing ↦
-          absurd (never p r past (requests.NodeHwState word level) 1 legal is
+          absurd (never p r past (requests.NodeHwState level word) 1 legal is
           (none (mode_of p past) is.regs word level is.asks missing))
     ]
 
 pub hw_standby_told : (p : PlatformValue) (r : Record) (past : List Record)
     (word level mpidr : ℕ) → Laws p → AreUnknown p → IsLegalOn p (r ∷ past)
-    → IsAskedOf p word level mpidr → Answers r (requests.NodeHwState word level) 2
+    → IsAskedOf p word level mpidr → Answers r (requests.NodeHwState level word) 2
     → told_hw p.board 2 (record_for p past r).event (record_for p past r).said
     ≡ Some (domain_above p mpidr level)
 hw_standby_told p r past word level mpidr laws none legal asked a =
-    let is = answered p r past (requests.NodeHwState word level) 2 a in
+    let is = answered p r past (requests.NodeHwState level word) 2 a in
     let regs = regs_for p.description p.board p.place (mode_of p past) is.regs in
     elim (cases_Bool p.description.functions.node_hw_state) [
       | inl there ↦
@@ -172,6 +172,6 @@ hw_standby_told p r past word level mpidr laws none legal asked a =
           ∙ ap (told_hw p.board 2 (Call (number p is.caller) regs)) is.said
           ∙ hw_named p r past word level mpidr 2 laws asked is there
       | inr missing ↦
-          absurd (never p r past (requests.NodeHwState word level) 2 legal is
+          absurd (never p r past (requests.NodeHwState level word) 2 legal is
           (none (mode_of p past) is.regs word level is.asks missing))
     ]

@@ -4,7 +4,7 @@ use Rattle.psci_platform.specs.Platforms.{PlatformValue}
 use Rattle.psci_platform.specs.States.{depth_at as class_depth, states_of}
 use Rattle.psci_headline.specs.Moments.{depth_at}
 use Rattle.psci_headline.specs.psci_board.Board.{height}
-use Rattle.psci_headline.specs.psci_claims.psci_parts.declared.part.Part.{Part}
+use Rattle.psci_headline.specs.psci_messages.declared.part.Part.{Part}
 use Rattle.psci_headline.specs.psci_ctl_spec.Values.{starts_below}
 use Rattle.psci_headline.specs.psci_fw_laws.Claims.{part_for}
 use Rattle.psci_headline.specs.psci_fw_spec.declared.mode.SuspendMode.{SuspendMode}

@@ -51,7 +51,7 @@ pub record IsOff (p : PlatformValue) (past : List Record) (mpidr : ℕ) : Type 0
 -- 1. A core that AFFINITY_INFO says is OFF (1), by itself or by a domain above it, is off.
 abbrev pub OffIsDown : PlatformValue → List Record → Type 0
 OffIsDown p [] = Unit {0}
-OffIsDown p (r ∷ past) = (word level mpidr : ℕ) → Answers r (requests.AffinityInfo word level) 1
+OffIsDown p (r ∷ past) = (word level mpidr : ℕ) → Answers r (requests.AffinityInfo level word) 1
     → IsAskedOf p word level mpidr → IsOff p past mpidr
 
 -- 2. One live claim: each domain above a core has at most one.
@@ -73,9 +73,9 @@ NoDeeperThanAsked p past = (mpidr level life : ℕ) → IsCore p mpidr → level
 abbrev pub StatesWereReal : PlatformValue → List Record → Type 0
 StatesWereReal p [] = Unit {0}
 StatesWereReal p (r ∷ past) = (word level mpidr : ℕ) → IsAskedOf p word level mpidr
-    → (Answers r (requests.NodeHwState word level) 1
+    → (Answers r (requests.NodeHwState level word) 1
     → WasSoDeep p.board is_off_depth (numbered p past) (domain_above p mpidr level))
-    × (Answers r (requests.NodeHwState word level) 2
+    × (Answers r (requests.NodeHwState level word) 2
     → WasSoDeep p.board is_standby_depth (numbered p past) (domain_above p mpidr level))
 
 -- The platform is safe at this moment.

@@ -18,7 +18,7 @@ use Rattle.psci_script.specs.declared.grammar.Line.TheVariants.{Blank, Event as 
 use Rattle.psci_script.specs.Line.{line_of, event_at, call_at, alone_at, register_at}
 use Rattle.psci_script.specs.Line.{optional_register_at}
 use Rattle.psci_script.specs.Lines.{lines}
-use Rattle.psci_text.specs.Reading.{literal_at, number_at, hex_at, spaced_at}
+use Rattle.psci_board.specs.ReadWords.{literal_at, number_at, hex_at, spaced_at}
 use Rattle.psci_world_spec.specs.psci_board.Reading.{range_at, at_most, board_text}
 use Rattle.psci_world_spec.specs.psci_board.Reading.{more_at, list_at, member_at, tree_at}
 use Rattle.psci_world_spec.specs.psci_board.Verdict.{board_of, verdict}

@@ -14,7 +14,7 @@ use Rattle.psci_script.specs.declared.fault.ReplayFault.TheVariants.{Script}
 use Rattle.psci_script.specs.declared.lines.Extent.{Extent}
 use Rattle.psci_script.specs.Lines.{lines, has_line_feed, AreWhole}
 use Rattle.psci_script.specs.Script.{board_line, line_said, ok_or, transcript_of_first}
-use Rattle.psci_text.specs.Reading.{literal_at}
+use Rattle.psci_board.specs.ReadWords.{literal_at}
 use Rattle.psci_script.specs.Block.{ReadAhead}
 use Rattle.psci_script.specs.Progress.{Progress, WriteFailed, IsLine, FaultyLine}
 use Rattle.psci_script.specs.Run.{AreSound, Follows}

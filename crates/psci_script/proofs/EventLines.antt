@@ -6,8 +6,8 @@ use Rattle.std.specs.Prelude.{codes, option_map, unwrap_or}
 use Rattle.std.specs.Fmt.{decimal}
 use Rattle.std.proofs.lemmas.List.{append-nil, nil_from_length}
 use Rattle.std.proofs.lemmas.Option.{cond_some, none-some, option_and_then_some, same_Some}
-use Rattle.psci_text.specs.Spelling.{TextLaws, IsNumber}
-use Rattle.psci_text.specs.Reading.{literal_at, number_at, spaced_at}
+use Rattle.psci_board.specs.Spelling.{TextLaws, IsNumber}
+use Rattle.psci_board.specs.ReadWords.{literal_at, number_at, spaced_at}
 use Rattle.psci_world_spec.specs.declared.event.Event.{Event}
 use Rattle.psci_world_spec.specs.declared.event.Event.TheVariants.{Call}
 use Rattle.psci_script.specs.declared.grammar.Line.TheVariants.{Blank, Event as Says}

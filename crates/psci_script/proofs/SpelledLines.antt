@@ -5,8 +5,8 @@ use Rattle.std.proofs.Common.{arith, subst}
 use Rattle.std.specs.Prelude.{option_map, unwrap_or}
 use Rattle.std.specs.Fmt.{decimal}
 use Rattle.std.proofs.lemmas.List.{append-nil}
-use Rattle.psci_text.specs.Spelling.{TextLaws, IsNumber}
-use Rattle.psci_text.specs.Reading.{literal_at, number_at, spaced_at}
+use Rattle.psci_board.specs.Spelling.{TextLaws, IsNumber}
+use Rattle.psci_board.specs.ReadWords.{literal_at, number_at, spaced_at}
 use Rattle.psci_world_spec.specs.declared.event.Event.TheVariants.{Enter, Wake, Reset}
 use Rattle.psci_world_spec.specs.declared.event.Event.TheVariants.{Deliver, Take}
 use Rattle.psci_script.specs.declared.grammar.Line.TheVariants.{Event as Says}

@@ -20,7 +20,7 @@ use Rattle.psci_script.specs.Answered.{Answered}
 use Rattle.psci_script.specs.Block.{ReadAhead}
 use Rattle.psci_script.specs.Progress.{Ahead, Progress, progress, IsLine, IsLineFront, FailsLine}
 use Rattle.psci_script.specs.Progress.{FindsLine, first_progress}
-use Rattle.psci_script.specs.Run.{BoardRead, IsWithinBlock, LineRefused}
+use Rattle.psci_script.specs.Run.{BoardRead, IsNoDevice, IsWithinBlock, LineRefused}
 use Rattle.psci_script.specs.ScriptRun.{ScriptRun, run_by, run_on, with_record}
 use Rattle.psci_script.specs.Told.{Account, Ended, EndsBy, Goes, IsUnderWay, LineTold, Runs}
 use Rattle.psci_script.specs.Told.{remaining}
@@ -170,6 +170,15 @@ pub same_answers : (told : Option ScriptRun → List ℕ → Type 0) (run : Opti
     → Goes told run n first before (progress block left new taken)
 same_answers told run n first before block left taken old new e k =
     subst (λ (a : Answered). Goes told run n first before (progress block left a taken)) (sym e) k
+
+-- a line that is refused is no fault of a device
+pub line_fault : (f : ReplayFault) (n : ℕ) (line : Option LineSays) → LineRefused f n line
+    → IsNoDevice f
+line_fault Memory n line r = tt
+line_fault (Script m fault) n line r = tt
+line_fault (Board fault) n line r = tt
+line_fault Read n line r = r
+line_fault Write n line r = r
 
 pub line_not : (told : Option ScriptRun → List ℕ → Type 0) (f : ReplayFault) (run : ScriptRun)
     (n : ℕ) (first before : Option (List ℕ)) (block : ReadAhead) (left taken : Option (List ℕ))

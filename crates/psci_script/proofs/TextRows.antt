@@ -2,7 +2,7 @@
 use Rattle.std.proofs.Common.{◌≡◌, ℕ, Bool, true, false, pos, negsuc, List, [], ◌∷◌, ◌++◌, refl}
 use Rattle.std.specs.Prelude.{None, Some, codes}
 use Rattle.std.specs.Fmt.{digits}
-use Rattle.psci_world_spec.specs.psci_claims.psci_parts.declared.part.Part.{Part}
+use Rattle.psci_world_spec.specs.psci_messages.declared.part.Part.{Part}
 use Rattle.psci_world_spec.specs.psci_messages.declared.kind.Kind.{Kind}
 use Rattle.psci_world_spec.specs.psci_messages.declared.kind.Kind.TheVariants.{Down, Start, Off}
 use Rattle.psci_world_spec.specs.psci_messages.declared.kind.Kind.TheVariants.{Reset}

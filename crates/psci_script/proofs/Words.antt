@@ -8,8 +8,8 @@ use Rattle.std.specs.Fmt.{decimal}
 use Rattle.std.proofs.lemmas.Bool.Decides.{nat_tests}
 use Rattle.std.proofs.lemmas.Fmt.{first_decimal, decimal_digit}
 use Rattle.std.proofs.lemmas.Option.{same_Some}
-use Rattle.psci_text.specs.Spelling.{TextLaws, IsNumber, hex, Ends}
-use Rattle.psci_text.specs.Reading.{literal_at, number_at, hex_at, hex_value}
+use Rattle.psci_board.specs.Spelling.{TextLaws, IsNumber, hex, Ends}
+use Rattle.psci_board.specs.ReadWords.{literal_at, number_at, hex_at, hex_value}
 use Rattle.psci_script.specs.Line.{or_else, register_at}
 use Rattle.psci_script.specs.EventText.{RegisterText, register_text, register_value, IsRegisterText}
 use Rattle.psci_script.specs.EventText.RegisterText.{Decimal, Hexadecimal}

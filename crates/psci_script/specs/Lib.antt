@@ -13,6 +13,5 @@ pub mod Script
 pub mod ScriptRun
 pub mod Text
 pub mod Told
-pub use Rattle.psci_text.specs as psci_text
-pub use Rattle.psci_world_spec.specs.psci_board
+pub use Rattle.psci_board.specs as psci_board
 pub use Rattle.psci_world_spec.specs as psci_world_spec

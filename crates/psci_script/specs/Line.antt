@@ -1,7 +1,7 @@
 -- The grammar of a line after the first, read from left to right.
 use Rattle.std.specs.Prelude.{ℕ, List, [], ◌∷◌, length, Option, Some, None, option_map, unwrap_or}
 use Rattle.std.specs.Prelude.{◌==◌, if◌then◌else◌, codes}
-use Rattle.psci_text.specs.Reading.{◌>>=◌, literal_at, number_at, hex_at, hex_value, spaced_at}
+use Rattle.psci_board.specs.ReadWords.{◌>>=◌, literal_at, number_at, hex_at, hex_value, spaced_at}
 use Rattle.psci_world_spec.specs.declared.event.Event.{Event}
 use Rattle.psci_world_spec.specs.declared.event.Event.TheVariants.{Call, Enter, Wake, Reset}
 use Rattle.psci_world_spec.specs.declared.event.Event.TheVariants.{Deliver, Take}

@@ -64,6 +64,12 @@ pub record StaySound {S K : Type 0} (source_failed : S → Bool) (sink_failed : 
   pub source : source_failed new.source.now ≡ source_failed old.source.now
   pub sink : sink_failed new.sink.now ≡ sink_failed old.sink.now
 
+-- a replay keeps its devices, of which none has failed since
+pub record KeepsDevices {S K : Type 0} (source_failed : S → Bool) (sink_failed : K → Bool)
+    (old new : Fields S K) : Type 0 where
+  pub devices : SameDevices old new
+  pub sound : StaySound source_failed sink_failed old new
+
 -- a read fault is answered only where the source gave up, a write fault only where the sink did
 abbrev pub OnlyGivenUp : {S K : Type 0} → (S → Bool) → (S → ℕ) → (K → Bool) → (K → ℕ) → S → K
     → ReplayFault → Type 0

@@ -2,7 +2,7 @@
 use Rattle.std.specs.Prelude.{ℕ, ◌+◌, List, [], ◌∷◌, ◌++◌, length, nat_lt, if◌then◌else◌, Option}
 use Rattle.std.specs.Prelude.{None, Some, Result, Ok, Err, codes}
 use Rattle.psci_world_spec.specs.psci_board.Board.{BoardValue}
-use Rattle.psci_text.specs.Reading.{literal_at}
+use Rattle.psci_board.specs.ReadWords.{literal_at}
 use Rattle.psci_board.specs.Verdict.{board_of}
 use Rattle.psci_board.specs.declared.fault.BoardFault.{BoardFault}
 use Rattle.psci_world_spec.specs.declared.said.Record.{Record}

@@ -118,7 +118,7 @@ fn write_message(sent: &Sent, room: &mut [u8], end: usize) -> usize
     ensures written { drop result room.new ≡ codes " " ++ sent_text sent.now ++ drop end room.old }
 {
     let message = &sent.message;
-    let start = write_parts(message.parts.as_slice(), room, end);
+    let start = write_parts(sent, room, end);
     let start = write_number(u64::from(message.number), room, start);
     let start = write_word(b" number ", room, start);
     let start = write_number(u64::from(message.life), room, start);
@@ -148,14 +148,15 @@ fn write_kind(kind: Kind, room: &mut [u8], end: usize) -> usize
 }
 
 /// Writes the parts of a message, where it has some.
-fn write_parts(parts: &[Part], room: &mut [u8], end: usize) -> usize
-    requires few { length parts.now ≤ 4 }
+fn write_parts(sent: &Sent, room: &mut [u8], end: usize) -> usize
     requires least { 260 ≤ end }
     requires within { end ≤ length room.old }
     ensures most { end ≤ result + 260 }
     ensures within { result ≤ end }
-    ensures written { drop result room.new ≡ parts_text parts.now ++ drop end room.old }
+    ensures written { drop result room.new
+        ≡ parts_text sent.now.message.parts ++ drop end room.old }
 {
+    let parts = sent.message.parts.as_slice();
     if parts.is_empty() {
         return end;
     }

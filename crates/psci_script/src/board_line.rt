@@ -5,8 +5,7 @@ ghost use Rattle.psci_script.specs.Limits.{longest_line};
 ghost use Rattle.psci_script.specs.Run.{BoardRead};
 
 use crate::fault::{ReplayFault, ScriptFault};
-use psci_board::BoardFault;
-use psci_text::literal;
+use psci_board::{BoardFault, literal};
 use psci_world_spec::Board;
 use std::alloc::Global;
 

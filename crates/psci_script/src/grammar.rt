@@ -1,11 +1,11 @@
 //! The grammar of a line after the first.
 
-ghost use Rattle.std.specs.Prelude.{◌≡◌, option_map};
-ghost use Rattle.psci_text.specs.Reading.{spaced_at};
+ghost use Rattle.std.specs.Prelude.{◌≡◌, None, codes, option_map};
+ghost use Rattle.psci_board.specs.ReadWords.{literal_at, spaced_at};
 ghost use Rattle.psci_script.specs.Line.{register_at, optional_register_at, call_at, alone_at};
 ghost use Rattle.psci_script.specs.Line.{event_at, line_of};
 
-use psci_text::{hex, literal, number};
+use psci_board::{hex, literal, number};
 use psci_world_spec::{Event, Regs};
 
 /// What a line says.
@@ -30,7 +30,7 @@ fn register(text: &[u8]) -> Option<(u64, &[u8])>
 /// The register after a space, and the text after it.
 // In place, since a call would write its four words to memory, also where no register is left.
 #[inline(always)]
-#[tactic(auto, unfolding(psci_text::specs::Reading::spaced_at))]
+#[tactic(auto, unfolding(psci_board::specs::ReadWords::spaced_at))]
 fn spaced_register(text: &[u8]) -> Option<(u64, &[u8])>
     ensures { option_map (λ x. (x.0, x.1.now)) result ≡ spaced_at register_at text.now }
 {
@@ -78,9 +78,18 @@ fn alone(text: &[u8]) -> Option<u64>
 fn event(text: &[u8]) -> Option<Event>
     ensures { result ≡ event_at text.now }
 {
-    if let Some(rest) = literal(text, b"call ") {
-        return call(rest);
+    match literal(text, b"call ") {
+        Some(rest) => call(rest),
+        None => numbered_event(text),
     }
+}
+
+/// The event that is no call, by its first word.
+#[tactic(auto, unfolding(crate::specs::Line::event_at))]
+fn numbered_event(text: &[u8]) -> Option<Event>
+    requires { literal_at (codes "call ") text.now ≡ None }
+    ensures { result ≡ event_at text.now }
+{
     if let Some(rest) = literal(text, b"enter ") {
         return alone(rest).map(Event::Enter);
     }

@@ -3,7 +3,7 @@
 ghost use Rattle.psci_script.specs.EventText.{ReadsAsSpelled, SpellsWhatItSays};
 ghost use Rattle.psci_script.specs.Kept.{ReadsAsKept};
 
-use psci_text::law_text;
+use psci_board::law_text;
 
 /// An event line is read as it is spelled, and in no other way.
 ///

@@ -5,7 +5,7 @@ ghost use Rattle.std.specs.Prelude.{Option};
 ghost use Rattle.std.specs.Prelude.{None, Some, IfOk, IfErr, OnOk};
 ghost use Rattle.psci_script.specs.Limits.{most_lines};
 ghost use Rattle.psci_script.specs.Line.{line_of};
-ghost use Rattle.psci_script.specs.Progress.{IsLine, OnlyGivenUp};
+ghost use Rattle.psci_script.specs.Progress.{IsLine, KeepsDevices, OnlyGivenUp};
 ghost use Rattle.psci_script.specs.Progress.{SameDevices, StaySound, progress_of};
 ghost use Rattle.psci_script.specs.Run.{IsNoDevice, LineRefused};
 ghost use Rattle.psci_script.specs.Run.{is_write_fault};
@@ -58,8 +58,7 @@ fn open<F: Copy, T: Teller<F>, S: Source, K: Sink>(
     form: F,
 ) -> Result<(), ReplayFault>
     requires { IsUntold (T.told form) S.left K.taken progress.old }
-    ensures devices { SameDevices progress.old progress.new }
-    ensures sound { StaySound S.failed K.failed progress.old progress.new }
+    ensures kept { KeepsDevices S.failed K.failed progress.old progress.new }
     ensures ok { OnOk result (Goes (T.told form) None 0 (S.left progress.old.source.now)
         (K.taken progress.old.sink.now) (progress_of S.left K.taken progress.new)) }
     ensures err { IfErr result (λ fault. IsNoDevice fault × EndsBy (T.told form) fault
@@ -85,8 +84,6 @@ fn begin<F: Copy, T: Teller<F>, S: Source, K: Sink>(
     ensures err { IfErr result (λ fault. (first before : Option (List ℕ))
         → Goes (T.told form) None 0 first before (progress_of S.left K.taken progress.old)
         → EndsBy (T.told form) fault first before (progress_of S.left K.taken progress.new)) }
-    ensures count { OnOk result (progress.new.answers.now.events
-        ≡ progress.old.answers.now.events) }
     ensures given_up { IfErr result (OnlyGivenUp S.failed S.interruptions K.failed
         K.interruptions progress.new.source.now progress.new.sink.now) }
 {
@@ -107,23 +104,21 @@ fn take_line<F: Copy, T: Teller<F>, S: Source, K: Sink>(
     extent: Extent,
     count: u64,
 ) -> Result<(), ReplayFault>
-    requires line { IsLine extent progress.old.block.now }
-    requires count { count < most_lines }
+    requires line { IsLine extent progress.old.block.now × (count < most_lines) }
     requires events { progress.old.answers.now.events < 2 ^ 64 - 1 }
-    ensures devices { SameDevices progress.old progress.new }
-    ensures sound { StaySound S.failed K.failed progress.old progress.new }
-    ensures ok { OnOk result ((form : F) (first before : Option (List ℕ))
+    ensures kept { KeepsDevices S.failed K.failed progress.old progress.new }
+    ensures ok { OnOk result ((progress.new.answers.now.events
+        ≤ progress.old.answers.now.events + 1)
+        × ((form : F) (first before : Option (List ℕ))
         → IsUnderWay (T.is_at teller.old form) (T.told form) count first before
         (progress_of S.left K.taken progress.old)
         → IsUnderWay (T.is_at teller.new form) (T.told form) (count + 1) first before
-        (progress_of S.left K.taken progress.new)) }
-    ensures err { IfErr result (λ fault. (form : F) (first before : Option (List ℕ))
+        (progress_of S.left K.taken progress.new))) }
+    ensures err { IfErr result (λ fault. IsNoDevice fault
+        × ((form : F) (first before : Option (List ℕ))
         → IsUnderWay (T.is_at teller.old form) (T.told form) count first before
         (progress_of S.left K.taken progress.old)
-        → EndsBy (T.told form) fault first before (progress_of S.left K.taken progress.new)) }
-    ensures fault { IfErr result (λ fault. IsNoDevice fault) }
-    ensures count { OnOk result (progress.new.answers.now.events
-        ≤ progress.old.answers.now.events + 1) }
+        → EndsBy (T.told form) fault first before (progress_of S.left K.taken progress.new))) }
 {
     let line = &progress.block.unread()[..extent.line];
     tell_line(teller, line, progress.answers, count + 1)?;
@@ -136,7 +131,7 @@ fn tell_lines<F: Copy, T: Teller<F>, S: Source, K: Sink>(
     progress: &mut Progress<'_, '_, S, K>,
     teller: &mut T,
 ) -> Result<Replayed, ReplayFault>
-    requires { progress.old.answers.now.events ≡ 0 }
+    requires { progress.old.answers.now.events ≤ 1 }
     ensures devices { SameDevices progress.old progress.new }
     ensures sound { OnOk result (StaySound S.failed K.failed progress.old progress.new) }
     ensures runs { (form : F) (first before : Option (List ℕ))
@@ -222,8 +217,7 @@ pub fn tell<F: Copy, T: Teller<F>, S: Source, K: Sink>(
     source: &mut S,
     sink: &mut K,
 ) -> Result<Replayed, ReplayFault>
-    requires source { S.failed source.old ≡ false }
-    requires sink { K.failed sink.old ≡ false }
+    requires sound { (S.failed source.old ≡ false) × (K.failed sink.old ≡ false) }
     requires nothing { T.told form None [] }
     ensures sound { OnOk result ((S.failed source.new ≡ false) × (K.failed sink.new ≡ false)) }
     ensures tells { Tells (T.told form) result (S.left source.old) (S.left source.new)

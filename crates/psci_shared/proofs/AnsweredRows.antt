@@ -1,7 +1,7 @@
--- Worked examples of how a call through a pass was answered, and of a book that is full.
+-- Worked examples of how a call through a pass was answered.
 use Rattle.std.proofs.Common.{◌≡◌, inl, inr, ℕ, zero, suc, ◌<◌, List, [], ◌∷◌, length, pos}
-use Rattle.std.proofs.Common.{false, refl, ap, arith, None, Some, subst}
-use Rattle.psci_fw.specs.psci_abi.psci_format.declared.format.Format.TheVariants.{Original}
+use Rattle.std.proofs.Common.{false, refl, ap, arith, None, Some}
+use Rattle.psci_fw.specs.psci_abi.declared.format.Format.TheVariants.{Original}
 use Rattle.psci_fw.specs.psci_board.Board.{BoardValue, core_of}
 use Rattle.psci_fw.specs.psci_fw_spec.After.{after}
 use Rattle.psci_fw.specs.psci_fw_spec.Answer.{answer}
@@ -9,7 +9,6 @@ use Rattle.psci_fw.specs.psci_fw_spec.Calls.{outcome_of}
 use Rattle.psci_fw.specs.psci_fw_spec.CpuOn.{target_of}
 use Rattle.psci_fw.specs.psci_fw_spec.Entering.{enter_outcome}
 use Rattle.psci_fw.specs.psci_fw_spec.History.{values_of}
-use Rattle.psci_fw.specs.psci_fw_spec.Legal.{IsLegal}
 use Rattle.psci_fw.specs.psci_fw_spec.Statuses.{statuses}
 use Rattle.psci_fw.specs.psci_fw_spec.declared.call.FwCall.{FwCall}
 use Rattle.psci_fw.specs.psci_fw_spec.declared.call.FwCall.TheVariants.{Smc, Enter, Take}
@@ -25,20 +24,19 @@ use Rattle.psci_messages.specs.Outstanding.{changes_since, last_message, outstan
 use Rattle.psci_status.specs.Lists.{Item, Within}
 use Rattle.psci_shared.specs.declared.entry.FwEntry.{FwEntry}
 use Rattle.psci_shared.specs.declared.entry.FwItem.{FwItem}
-use Rattle.psci_shared.specs.declared.fault.CallFault.TheVariants.{BookFull, Fw}
-use Rattle.psci_shared.specs.Answered.{IsAnswered, IsAnsweredAfter, IsAnsweredFault, IsFull}
+use Rattle.psci_shared.specs.Answered.{IsAnswered, IsAnsweredAfter}
 use Rattle.psci_shared.specs.Books.{entry, history_of}
 use Rattle.psci_shared.specs.Passes.{PassView, item}
 use Rattle.psci_shared.specs.Writing.{AllLast, Stand}
 
 -- what an example unfolds to compute an answer, and the statuses after it
-unfoldable computing : Unit {0}
+unfoldable pub computing : Unit {0}
 unfolding answer values_of after outcome_of enter_outcome target_of core_of outstanding last_message
     changes_since statuses history_of
 computing = tt
 
 -- two cores
-abbrev board : BoardValue
+abbrev pub board : BoardValue
 board = record {
   levels = (2 ∷ []) ∷ [];
   ranges = record { start = 0; end = 64 } ∷ [];
@@ -49,20 +47,20 @@ board = record {
 }
 
 -- the boot core enters in a life
-abbrev starts : ℕ → FwCall
+abbrev pub starts : ℕ → FwCall
 starts life = Enter (record { life = life; number = 1; cause = Boot })
 
-abbrev boots : FwReply
+abbrev pub boots : FwReply
 boots = Out (record { act = acts.Enter 0 0; message = None })
 
-abbrev enters : ℕ → FwEntry
+abbrev pub enters : ℕ → FwEntry
 enters life = entry life (record { number = 0 }) (starts life) boots
 
 -- CPU_ON of core 1; it was never started in life 1
-abbrev on : FwCall
+abbrev pub on : FwCall
 on = Smc (record { x0 = 0x84000003; x1 = 1; x2 = 0; x3 = 0 })
 
-abbrev accepted : FwReply
+abbrev pub accepted : FwReply
 accepted = Out (record {
   act = acts.Return (record { 0 = pos 0 });
   message = Some (record {
@@ -74,14 +72,14 @@ accepted = Out (record {
   });
 })
 
-abbrev version : FwCall
+abbrev pub version : FwCall
 version = Smc (record { x0 = 0x84000000; x1 = 0; x2 = 0; x3 = 0 })
 
-abbrev version_told : FwReply
+abbrev pub version_told : FwReply
 version_told = Out (record { act = acts.Return (record { 0 = pos 0x10001 }); message = None })
 
 -- an acknowledgement of a Down that was never sent
-abbrev take : FwCall
+abbrev pub take : FwCall
 take = Take (record {
   kind = kinds.Down;
   core = record { number = 1 };
@@ -91,11 +89,11 @@ take = Take (record {
   stale = false;
 })
 
-abbrev was_old : FwReply
+abbrev pub was_old : FwReply
 was_old = Taken takens.Old
 
 -- a pass of a core
-abbrev pass : ℕ → List FwItem → List (List Item) → PassView
+abbrev pub pass : ℕ → List FwItem → List (List Item) → PassView
 pass n items seen = record {
   core = record { number = n };
   room = 4;
@@ -104,19 +102,19 @@ pass n items seen = record {
   seen = seen;
 }
 
-abbrev fresh : ℕ → PassView
+abbrev pub fresh : ℕ → PassView
 fresh n = pass n [] (((0, Off) ∷ []) ∷ ((0, Off) ∷ []) ∷ [])
 
 -- Core 0 asks core 1 on, in life 1 ---------------------------------------------------------------
 
-abbrev booted : List FwEntry
+abbrev pub booted : List FwEntry
 booted = enters 1 ∷ []
 
 abbrev after_on : List FwEntry
 after_on = enters 1 ∷ entry 5 (record { number = 0 }) on accepted ∷ []
 
 -- what a pass has then seen that had missed that core 0 was pending
-abbrev seen_on : List (List Item)
+abbrev pub seen_on : List (List Item)
 seen_on = ((2, On) ∷ (0, Off) ∷ []) ∷ ((1, Pending) ∷ (0, Off) ∷ []) ∷ []
 
 on_stands : Stand board after_on seen_on
@@ -142,7 +140,7 @@ unfolding computing
 so_it_is_answered = (booted, 5, ((refl, tt), refl, refl, on_stands, on_is_last))
 
 -- what tells replies apart: an outcome that sends, one that does not, what was taken, a fault
-abbrev kind : FwReply → ℕ
+abbrev pub kind : FwReply → ℕ
 kind (Out outcome) = elim outcome.message [ None ↦ 1 | Some m ↦ 2 ]
 kind (Taken taken) = 3
 kind (Fault NoLife) = 4
@@ -242,167 +240,3 @@ caller_is_not_seen : IsAnsweredAfter board booted 5 (fresh 0)
 unfolding computing
 caller_is_not_seen h =
     let e : ◌≡◌ {A = ℕ} 1 2 = ap last (h.4 0 (omega arith)).1 in omega arith
-
--- Core 1 is refused, in life 2 -------------------------------------------------------------------
-
-abbrev twice : List FwEntry
-twice = enters 1 ∷ enters 2 ∷ []
-
-abbrev refused : List FwEntry
-refused = enters 1 ∷ enters 2 ∷ entry 7 (record { number = 1 }) version (Fault NotRunning) ∷ []
-
-abbrev seen_twice : List (List Item)
-seen_twice = ((4, On) ∷ (2, On) ∷ []) ∷ ((0, Off) ∷ []) ∷ []
-
-refused_stands : Stand board refused seen_twice
-unfolding computing
-refused_stands zero h =
-    (inl (refl, refl), omega arith, (inr (inr (inl (refl, refl))), tt, tt))
-refused_stands (suc zero) h = (inl (refl, refl), tt, tt)
-refused_stands (suc (suc core)) h = tt
-
-refused_is_last : AllLast board refused seen_twice
-unfolding computing
-refused_is_last zero h = ((2, On) ∷ [], refl)
-refused_is_last (suc zero) h = ([], refl)
-refused_is_last (suc (suc core)) h = let k : suc (suc core) < 2 = h in absurd (omega arith)
-
--- behind an item that the pass has
-abbrev item_0 : FwItem
-item_0 = item 0 take was_old
-
-core_1_is_refused : IsAnsweredFault board 9 (pass 1 (item_0 ∷ []) [])
-    (pass 1 (item_0 ∷ item 2 version (Fault NotRunning) ∷ []) seen_twice) version (Fw NotRunning)
-unfolding computing
-core_1_is_refused = (twice, 7, ((refl, (refl, tt)), refl, refl, refused_stands, refused_is_last))
-
--- the caller counts, and not core 0
-as_core_0 : IsAnsweredAfter board twice 7 (pass 1 (item_0 ∷ []) [])
-    (pass 1 (item_0 ∷ item 2 version version_told ∷ []) seen_twice) version version_told → ⊥
-unfolding computing
-as_core_0 h = let e : ◌≡◌ {A = ℕ} 1 5 = ap kind h.1 in omega arith
-
--- of another fault
-another_fault : IsAnsweredAfter board twice 7 (pass 1 (item_0 ∷ []) [])
-    (pass 1 (item_0 ∷ item 2 version (Fault NoLife) ∷ []) seen_twice) version (Fault NoLife) → ⊥
-unfolding computing
-another_fault h = let e : ◌≡◌ {A = ℕ} 4 5 = ap kind h.1 in omega arith
-
--- what the firmware refuses is entered as well
-refused_without_an_item : IsAnsweredFault board 9 (pass 1 (item_0 ∷ []) [])
-    (pass 1 (item_0 ∷ []) []) version (Fw NotRunning) → ⊥
-refused_without_an_item h = let e : ◌≡◌ {A = ℕ} 1 2 = ap length h.2.2 in omega arith
-
--- The first calls --------------------------------------------------------------------------------
-
--- an acknowledgement before any life, and the first entry: the book was empty
-abbrev after_take : List FwEntry
-after_take = entry 0 (record { number = 1 }) take was_old ∷ []
-
-abbrev seen_first : List (List Item)
-seen_first = ((0, Off) ∷ []) ∷ ((0, Off) ∷ []) ∷ []
-
-take_stands : Stand board after_take seen_first
-unfolding computing
-take_stands zero h = (inl (refl, refl), tt, tt)
-take_stands (suc zero) h = (inl (refl, refl), tt, tt)
-take_stands (suc (suc core)) h = tt
-
-take_is_last : AllLast board after_take seen_first
-unfolding computing
-take_is_last zero h = ([], refl)
-take_is_last (suc zero) h = ([], refl)
-take_is_last (suc (suc core)) h = let k : suc (suc core) < 2 = h in absurd (omega arith)
-
-nothing_was_sent : IsAnswered board (fresh 1) (pass 1 (item 0 take was_old ∷ []) seen_first) take
-    was_old
-unfolding computing
-nothing_was_sent = ([], 0, (tt, refl, refl, take_stands, take_is_last))
-
--- whether an acknowledgement was used
-abbrev is_used : FwReply → ℕ
-is_used (Taken takens.Used) = 1
-is_used (Taken takens.Old) = 0
-is_used (Out outcome) = 2
-is_used (Fault fault) = 3
-
-used_without_a_message : IsAnsweredAfter board [] 0 (fresh 1)
-    (pass 1 (item 0 take (Taken takens.Used) ∷ []) seen_first) take (Taken takens.Used) → ⊥
-unfolding computing
-used_without_a_message h = let e : ◌≡◌ {A = ℕ} 1 0 = ap is_used h.1 in omega arith
-
-abbrev seen_entry : List (List Item)
-seen_entry = ((2, On) ∷ (1, Pending) ∷ (0, Off) ∷ []) ∷ ((0, Off) ∷ []) ∷ []
-
-entry_stands : Stand board booted seen_entry
-unfolding computing
-entry_stands zero h = (
-  inl (refl, refl),
-  omega arith,
-  (inr (inl (refl, refl)), omega arith, (inr (inr (inl (refl, refl))), tt, tt)),
-)
-entry_stands (suc zero) h = (inl (refl, refl), tt, tt)
-entry_stands (suc (suc core)) h = tt
-
-entry_is_last : AllLast board booted seen_entry
-unfolding computing
-entry_is_last zero h = ((1, Pending) ∷ (0, Off) ∷ [], refl)
-entry_is_last (suc zero) h = ([], refl)
-entry_is_last (suc (suc core)) h = let k : suc (suc core) < 2 = h in absurd (omega arith)
-
-first_entry : IsAnsweredAfter board [] 1 (fresh 0)
-    (pass 0 (item 0 (starts 1) boots ∷ []) seen_entry) (starts 1) boots
-unfolding computing
-first_entry = (tt, refl, refl, entry_stands, entry_is_last)
-
--- the entries before tell no legal history: a version was told before any life; so it is with the
--- first of two
-abbrev early : FwEntry
-early = entry 0 (record { number = 0 }) version version_told
-
-illegal : IsAnsweredAfter board (early ∷ []) 1 (fresh 0)
-    (pass 0 (item 1 (starts 1) boots ∷ []) seen_entry) (starts 1) boots → ⊥
-unfolding computing
-illegal h = let e : ◌≡◌ {A = ℕ} 1 4 = ap kind h.0.0 in omega arith
-
-first_is_illegal : IsAnsweredAfter board (early ∷ enters 1 ∷ []) 1 (fresh 0)
-    (pass 0 (item 2 on accepted ∷ []) seen_on) on accepted → ⊥
-unfolding computing
-first_is_illegal h = let e : ◌≡◌ {A = ℕ} 1 4 = ap kind h.0.1.0 in omega arith
-
--- A book that is full ----------------------------------------------------------------------------
-
-full_with_two : IsFull board 2
-unfolding computing
-full_with_two = (twice, (refl, (refl, tt)), refl)
-
-full_without_room : IsFull board 0
-unfolding computing
-full_without_room = ([], tt, refl)
-
-so_the_book_was_full : IsAnsweredFault board 2 (fresh 1) (fresh 1) version BookFull
-unfolding computing
-so_the_book_was_full = (twice, (refl, (refl, tt)), refl)
-
--- there is room for one more, or there was for one less; the entries are not legal
-room_for_one_more : (h : IsFull board 3) → h.0 ≡ twice → ⊥
-room_for_one_more h is =
-    let e : length h.0 ≡ 3 = h.2 in
-    let two : length h.0 ≡ 2 = ap length is in omega (arith, e, two)
-
-one_too_many : (h : IsFull board 1) → h.0 ≡ twice → ⊥
-one_too_many h is =
-    let e : length h.0 ≡ 1 = h.2 in
-    let two : length h.0 ≡ 2 = ap length is in omega (arith, e, two)
-
-full_of_illegal_entries : (h : IsFull board 1) → h.0 ≡ early ∷ [] → ⊥
-unfolding computing
-full_of_illegal_entries h is =
-    let l : IsLegal board (history_of (early ∷ [])) =
-    subst (λ (entries : List FwEntry). IsLegal board (history_of entries)) is h.1 in
-    let e : ◌≡◌ {A = ℕ} 1 4 = ap kind l.0 in omega arith
-
-not_full_yet : (h : IsAnsweredFault board 3 (fresh 1) (fresh 1) version BookFull) → h.0 ≡ twice → ⊥
-not_full_yet h is =
-    let e : length h.0 ≡ 3 = h.2 in
-    let two : length h.0 ≡ 2 = ap length is in omega (arith, e, two)

@@ -2,7 +2,7 @@
 -- type of a book keeps. In life 2 the boot core has entered, and core 1 is OFF.
 use Rattle.std.proofs.Common.{◌≡◌, inl, inr, ℕ, zero, suc, ◌<◌, ◌≤◌, List, [], ◌∷◌, pos}
 use Rattle.std.proofs.Common.{false, refl, ap, arith, None}
-use Rattle.psci_fw.specs.psci_abi.psci_format.declared.format.Format.TheVariants.{Original}
+use Rattle.psci_fw.specs.psci_abi.declared.format.Format.TheVariants.{Original}
 use Rattle.psci_fw.specs.psci_board.Board.{BoardValue}
 use Rattle.psci_fw.specs.psci_fw_spec.Answer.{answer}
 use Rattle.psci_fw.specs.psci_fw_spec.After.{after}

@@ -2,7 +2,7 @@
 -- what is written when the last call was not yet.
 use Rattle.std.proofs.Common.{◌≡◌, ℕ, zero, suc, ◌<◌, List, [], ◌∷◌, pos, negsuc}
 use Rattle.std.proofs.Common.{Bool, true, false, refl, arith, Option, Some, None}
-use Rattle.psci_fw.specs.psci_abi.psci_format.declared.format.Format.TheVariants.{Original}
+use Rattle.psci_fw.specs.psci_abi.declared.format.Format.TheVariants.{Original}
 use Rattle.psci_fw.specs.psci_board.Board.{BoardValue}
 use Rattle.psci_fw.specs.psci_fw_spec.declared.call.FwCall.{FwCall}
 use Rattle.psci_fw.specs.psci_fw_spec.declared.call.FwCall.TheVariants.{Enter, Smc, Take}
@@ -23,7 +23,7 @@ use Rattle.psci_messages.specs.Message.{MessageValue}
 use Rattle.psci_status.specs.Lists.{row}
 use Rattle.psci_shared.specs.declared.entry.FwEntry.{FwEntry}
 use Rattle.psci_shared.specs.Books.{entry, history_of}
-use Rattle.psci_polled.specs.Naming.{names}
+use Rattle.psci_status.specs.Naming.{names}
 use Rattle.psci_shared.specs.Writing.{IsOneBehind}
 
 -- two cores

@@ -10,6 +10,7 @@ pub mod Placed
 pub mod Places
 pub mod PollRows
 pub mod Polling
+mod RefusedRows
 pub mod Stays
 pub mod Unnamed
 pub mod Walking

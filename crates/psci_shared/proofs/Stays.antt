@@ -14,11 +14,11 @@ use Rattle.psci_fw.specs.psci_fw_spec.Exchange.{FwExchange}
 use Rattle.psci_fw.specs.psci_fw_spec.History.{life, status, values_of}
 use Rattle.psci_fw.specs.psci_fw_spec.Statuses.{added}
 use Rattle.psci_fw.specs.psci_fw_spec.Values.{Values}
-use Rattle.psci_polled.specs.Naming.{is_named, names}
-use Rattle.psci_polled.specs.Writing.{written_then}
-use Rattle.psci_polled.proofs.Last.{added_last}
-use Rattle.psci_polled.proofs.Past.{names_enter, names_smc, names_take}
-use Rattle.psci_polled.proofs.Staying.{status_stays}
+use Rattle.psci_status.specs.Naming.{is_named, names}
+use Rattle.psci_status.specs.Writing.{written_then}
+use Rattle.psci_status.proofs.Last.{added_last}
+use Rattle.psci_status.proofs.Past.{names_enter, names_smc, names_take}
+use Rattle.psci_status.proofs.Staying.{status_stays}
 use Rattle.psci_status.specs.Lists.{row}
 use Rattle.psci_shared.specs.declared.entry.FwEntry.{FwEntry}
 use Rattle.psci_shared.specs.Books.{exchange_of, history_of}

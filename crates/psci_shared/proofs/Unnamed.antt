@@ -28,8 +28,8 @@ use Rattle.psci_fw.specs.psci_fw_spec.Said.{arrived}
 use Rattle.psci_fw.specs.psci_fw_spec.Statuses.{added}
 use Rattle.psci_fw.specs.psci_fw_spec.SuspendMode.{mode_of}
 use Rattle.psci_messages.specs.Message.{MessageValue}
-use Rattle.psci_polled.specs.Naming.{is_named}
-use Rattle.psci_polled.specs.Writing.{one_more}
+use Rattle.psci_status.specs.Naming.{is_named}
+use Rattle.psci_status.specs.Writing.{one_more}
 use Rattle.psci_status.specs.Lists.{row}
 use Rattle.psci_shared.specs.declared.entry.FwEntry.{FwEntry}
 use Rattle.psci_shared.specs.Books.{exchange_of, history_of}

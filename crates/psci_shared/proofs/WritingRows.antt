@@ -5,7 +5,7 @@ use Rattle.std.proofs.Common.{◌≡◌, inl, inr, ℕ, zero, suc, ◌<◌, ◌�
 use Rattle.std.proofs.Common.{negsuc, Bool, true, false, refl, ap, arith, Some, None}
 use Rattle.std.specs.Prelude.{nat_lt, if◌then◌else◌}
 use Rattle.psci_fw.specs.psci_abi.declared.code.Code.{Code}
-use Rattle.psci_fw.specs.psci_abi.psci_format.declared.format.Format.TheVariants.{Original}
+use Rattle.psci_fw.specs.psci_abi.declared.format.Format.TheVariants.{Original}
 use Rattle.psci_fw.specs.psci_board.Board.{BoardValue, core_of}
 use Rattle.psci_fw.specs.psci_fw_spec.declared.call.FwCall.TheVariants.{Enter, Smc}
 use Rattle.psci_fw.specs.psci_fw_spec.declared.outcome.Act.TheVariants as acts
@@ -20,7 +20,7 @@ use Rattle.psci_status.specs.Lists.{Item, gain, row}
 use Rattle.psci_shared.specs.declared.entry.FwEntry.{FwEntry}
 use Rattle.psci_shared.specs.Books.{entry, history_of}
 use Rattle.psci_shared.specs.Passes.{IsAffinity, IsRead, PassView}
-use Rattle.psci_polled.specs.Writing.{one_more}
+use Rattle.psci_status.specs.Writing.{one_more}
 use Rattle.psci_shared.specs.Writing.{AllLast, IsWritten, Stand, written_after}
 
 -- two cores

@@ -16,8 +16,8 @@ use Rattle.psci_shared.specs.declared.entry.FwEntry.{FwEntry}
 use Rattle.psci_shared.specs.Books.{BookView, entered, exchange_of, history_of}
 use Rattle.psci_shared.specs.Gathers.{AllSeen, AllStand}
 use Rattle.psci_shared.specs.Passes.{PassView}
-use Rattle.psci_polled.specs.Writing.{one_more}
-use Rattle.psci_polled.proofs.Last.{length_added, more, statuses_more}
+use Rattle.psci_status.specs.Writing.{one_more}
+use Rattle.psci_status.proofs.Last.{length_added, more, statuses_more}
 use Rattle.psci_shared.specs.Writing.{IsWritten, Stand, written_after}
 use Rattle.psci_shared.proofs.Histories.{history_more, history_none}
 

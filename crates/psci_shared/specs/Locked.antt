@@ -1,10 +1,12 @@
 -- What a call does under the lock.
-use Rattle.std.specs.Prelude.{◌≡◌, ℕ, List, length}
+use Rattle.std.specs.Prelude.{◌≡◌, ◌+◌, ℕ, List, [], ◌∷◌, ◌++◌, length}
+use Rattle.std.specs.Prelude.{Vec, vec_capacity, vec_items, vec_len}
 use Rattle.psci_fw.specs.psci_board.Board.{BoardValue}
 use Rattle.psci_fw.specs.psci_board.declared.node.Core.{Core}
 use Rattle.psci_fw.specs.psci_fw_spec.declared.call.FwCall.{FwCall}
 use Rattle.psci_fw.specs.psci_fw_spec.declared.reply.FwReply.{FwReply}
 use Rattle.psci_fw.specs.psci_fw_spec.declared.reply.FwReply.TheVariants as replies
+use Rattle.psci_fw.specs.psci_fw_spec.Legal.{IsLegal}
 use Rattle.psci_fw.specs.psci_fw_spec.Values.{Values}
 use Rattle.psci_fw.specs.Reactions.{reply_in}
 use Rattle.psci_status.specs.Lists.{Item, gains}
@@ -12,9 +14,15 @@ use Rattle.psci_shared.specs.declared.done.Done.{Done}
 use Rattle.psci_shared.specs.declared.done.Said.{Said}
 use Rattle.psci_shared.specs.declared.done.Said.TheVariants.{Reacted, Taken}
 use Rattle.psci_shared.specs.declared.entry.FwEntry.{FwEntry}
-use Rattle.psci_shared.specs.Books.{BookView, answer_after, entered, entry}
-use Rattle.psci_shared.specs.Passes.{Fits, PassView, called, item}
+use Rattle.psci_shared.specs.Books.{BookView, answer_after, entered, entry, history_of}
+use Rattle.psci_shared.specs.Passes.{Fits, PassView, called, item, told}
 use Rattle.psci_shared.specs.Writing.{AllLast, Stand, named_by}
+
+-- a list has one more at its end, in the room that there was
+pub record Pushed {T Z : Type 0} (old new : Vec T Z) (x : T) : Type 0 where
+  pub items : vec_items new ≡ vec_items old ++ x ∷ []
+  pub count : vec_len new ≡ vec_len old + 1
+  pub room : vec_capacity new ≡ vec_capacity old
 
 -- what was said as a reply, with the message that stands in its slot
 abbrev pub reply_said : BoardValue → Values → Said → FwReply
@@ -32,7 +40,8 @@ abbrev pub IsReply : BoardValue → List FwEntry → ℕ → FwCall → FwReply 
 IsReply b entries core call reply =
     (reply ≡ answer_after b entries core call) × Fits call reply
 
--- the call stands in the book, in the list of the pass, and in what the pass has seen
+-- the call stands in the book, whose history was legal, in the list of the pass, and in what the
+-- pass has seen
 abbrev pub IsEntered : BoardValue → ℕ → BookView → BookView → PassView → PassView → FwCall → FwReply
     → Type 0
 IsEntered b ticket book book' p p' call reply =
@@ -41,3 +50,10 @@ IsEntered b ticket book book' p p' call reply =
     (gains p.seen notes)))
     × Stand b book'.entries p'.seen
     × AllLast b book'.entries p'.seen
+    × IsLegal b (history_of book.entries)
+
+-- the book of a legal history is full: it stays as it is, and the pass is told
+abbrev pub IsTurnedAway : BoardValue → ℕ → BookView → BookView → PassView → PassView → Type 0
+IsTurnedAway b room book book' p p' =
+    (book' ≡ book) × (p' ≡ told p) × (length book.entries ≡ room)
+    × IsLegal b (history_of book.entries)

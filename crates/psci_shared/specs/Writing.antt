@@ -10,8 +10,8 @@ use Rattle.psci_fw.specs.psci_fw_spec.declared.reply.FwReply.TheVariants.{Out, T
 use Rattle.psci_fw.specs.psci_fw_spec.declared.status.Status.{Status}
 use Rattle.psci_fw.specs.psci_fw_spec.History.{life, status}
 use Rattle.psci_fw.specs.psci_fw_spec.Statuses.{statuses}
-use Rattle.psci_polled.specs.Naming.{asked_by}
-use Rattle.psci_polled.specs.Writing.{one_more}
+use Rattle.psci_status.specs.Naming.{asked_by}
+use Rattle.psci_status.specs.Writing.{one_more}
 use Rattle.psci_status.specs.Lists.{Begins, Item, IsLast, Within, row}
 use Rattle.psci_shared.specs.declared.entry.FwEntry.{FwEntry}
 use Rattle.psci_shared.specs.Books.{history_of}

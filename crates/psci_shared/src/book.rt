@@ -38,7 +38,7 @@ ghost use Rattle.psci_fw.specs.Seen.{seen};
 ghost use Rattle.psci_fw.specs.psci_fw_spec.History.{life, values_of};
 ghost use Rattle.psci_fw.specs.psci_fw_spec.Legal.{IsLegal};
 ghost use Rattle.psci_shared.specs.Passes.{Fits, item};
-ghost use Rattle.psci_shared.specs.Locked.{IsDone, reply_said};
+ghost use Rattle.psci_shared.specs.Locked.{IsDone, Pushed, reply_said};
 ghost use Rattle.psci_shared.specs.declared.entry.FwEntry.{FwEntry};
 ghost use Rattle.psci_shared.specs.Books.{answer_after, entered, entry, history_of};
 
@@ -103,10 +103,8 @@ impl<N: Named> FwBook<N> {
             (values_of N.board (history_of self.new.entries)) result }
         ensures book { self.new ≡ entered self.old
             (entry ticket core call (answer_after N.board self.old.entries core.number call)) }
-        ensures items { items.new.items ≡ items.old.items
-            ++ item place call (answer_after N.board self.old.entries core.number call) ∷ [] }
-        ensures more { (vec_len items.new ≡ vec_len items.old + 1)
-            × (vec_capacity items.new ≡ vec_capacity items.old) }
+        ensures items { Pushed items.old items.new (item place call
+            (answer_after N.board self.old.entries core.number call)) }
     {
         law_values();
         let FwBook {

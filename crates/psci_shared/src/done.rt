@@ -2,6 +2,7 @@
 
 ghost use Rattle.std.specs.Prelude.{◌≡◌};
 ghost use Rattle.psci_fw.specs.Seen.{seen};
+ghost use Rattle.psci_shared.specs.declared.done.Said.TheVariants as says;
 ghost use Rattle.psci_shared.specs.Locked.{reply_said};
 
 use crate::entry::{quiet, sending, sent_from};
@@ -24,6 +25,17 @@ pub(crate) struct Done {
     pub(crate) named: Option<Core>,
     /// What was replied.
     pub(crate) said: Said,
+}
+
+impl Done {
+    /// A secure monitor call or an entry, of which this came.
+    #[inline(always)]
+    pub(crate) fn reacted(named: Option<Core>, reacted: Result<Reaction, FwFault>) -> Done
+        ensures { result ≡ record { named = named; said = says.Reacted reacted } }
+    {
+        let said = Said::Reacted(reacted);
+        Done { named, said }
+    }
 }
 
 /// The reply, with the message that stands in its slot. Where there is none, none is copied.

@@ -1,15 +1,20 @@
 //! Passes are gathered with the book.
 
-ghost use Rattle.std.specs.Prelude.{◌≡◌, ◌≤◌, ◌<◌, ◌+◌, length, map};
+ghost use Rattle.std.specs.Prelude.{◌≡◌, ◌≤◌, ◌<◌, ◌+◌, length, map, IfErr, IfOk};
+ghost use Rattle.std.specs.Prelude.{MatchResult};
 ghost use Rattle.psci_status.specs.Seats.{table, table_of_writer, written};
 ghost use Rattle.psci_status.specs.Lists.{newest};
-ghost use Rattle.psci_shared.specs.Gathers.{AllSeen, AllStand, AreMet, items_of, met};
+ghost use Rattle.psci_shared.specs.Agree.{Agree};
+ghost use Rattle.psci_shared.specs.Gathers.{AllSeen, AllStand, AreMet, IsCause, items_of, met};
+ghost use Rattle.psci_shared.specs.Places.{AllPlaced};
 
+use crate::agreement::agree;
 use crate::book::FwBook;
 use crate::fault::GatherCause;
 use crate::locked::FwLocked;
 use crate::named::Named;
 use crate::pass::Pass;
+use crate::shared::SharedFirmware;
 use psci_status::{StatusWords, Writer};
 use std::sync::ledger::{Book, Share};
 
@@ -33,6 +38,59 @@ pub struct GatherFault<N: Named> {
     pub words: StatusWords,
     /// The passes.
     pub passes: Vec<Pass<N>>,
+}
+
+impl<N: Named> GatherFault<N> {
+    /// The passes were not gathered for this cause.
+    fn of(
+        cause: GatherCause,
+        locked: FwLocked<N>,
+        words: StatusWords,
+        passes: Vec<Pass<N>>,
+    ) -> GatherFault<N>
+        ensures cause { result.cause ≡ cause }
+        ensures locked { result.locked ≡ locked }
+        ensures passes { result.passes ≡ passes }
+    {
+        GatherFault {
+            cause,
+            locked,
+            words,
+            passes,
+        }
+    }
+}
+
+impl<'t, N: Named> SharedFirmware<'t, N> {
+    /// Gathers the passes with the book, in which each place then stands in one of them.
+    #[tactic(auto, using(crate::proofs::Placed::all_placed))]
+    pub fn gather(self, passes: Vec<Pass<N>>) -> Result<Books<N>, GatherFault<N>>
+        ensures fault { IfErr result (λ f. IsCause f.cause (Agree f.locked.book f.passes.items)
+            (length f.passes.items) f.locked.made) }
+        ensures books { IfOk result (λ b. Agree b.book b.passes.items
+            × (length b.book.entries ≡ items_of b.passes.items)) }
+        ensures placed { IfOk result (λ b. AllPlaced b.book b.passes.items) }
+        ensures stand { IfOk result (λ b. AllStand N.board b.book.entries b.passes.items) }
+        ensures stood { MatchResult result
+            (λ b. AllStand N.board b.book.entries passes.items)
+            (λ f. AllStand N.board f.locked.book.entries passes.items) }
+        ensures passes { MatchResult result
+            (λ b. AreMet passes.items b.passes.items)
+            (λ f. AreMet passes.items f.passes.items) }
+    {
+        let (mut locked, words) = self.into_parts();
+        let mut passes = passes;
+        locked.meet(&words, &mut passes);
+        if !agree(&locked.book, &passes) {
+            return Err(GatherFault::of(GatherCause::Astray, locked, words, passes));
+        }
+        let made = locked.count(&mut passes);
+        if (passes.len() as u64) < u64::from(made) {
+            return Err(GatherFault::of(GatherCause::Missing, locked, words, passes));
+        }
+        let book = locked.into_book();
+        Ok(Books { book, passes })
+    }
 }
 
 impl<N: Named> FwLocked<N> {
@@ -87,13 +145,12 @@ impl<N: Named> FwLocked<N> {
 }
 
 fn meet_all<N: Named>(words: &StatusWords, writer: &mut Writer, passes: &mut [Pass<N>])
-    requires words { table words.now ≡ N.table }
-    requires writer { table_of_writer writer.old ≡ N.table }
+    requires tables { (table words.now ≡ N.table) × (table_of_writer writer.old ≡ N.table) }
     ensures table { table_of_writer writer.new ≡ N.table }
     ensures log { written writer.new ≡ written writer.old }
     ensures passes { passes.new ≡ map (met (map newest (written writer.old))) passes.old }
-    ensures seen { AllSeen (written writer.new) passes.new }
-    ensures saw { AllSeen (written writer.old) passes.old }
+    ensures seen { AllSeen (written writer.old) passes.old
+        × AllSeen (written writer.new) passes.new }
 {
     let Some((first, rest)) = passes.split_first_mut() else {
         return;
@@ -105,8 +162,8 @@ fn meet_all<N: Named>(words: &StatusWords, writer: &mut Writer, passes: &mut [Pa
 /// Lends the shares of all passes to one that has a part, and compares the sum with the total.
 fn count_all<N: Named>(total: &mut Book<N>, passes: &mut [Pass<N>], seen: &mut Share<N>)
     requires { 0 < seen.old.parts }
-    ensures total { total.new.total ≡ total.old.total }
-    ensures seen { (seen.new.parts ≡ seen.old.parts) × (seen.new.amount ≡ seen.old.amount) }
+    ensures ledger { (total.new.total ≡ total.old.total) × (seen.new.parts ≡ seen.old.parts)
+        × (seen.new.amount ≡ seen.old.amount) }
     ensures passes { passes.new ≡ passes.old }
     ensures few { seen.old.parts + length passes.old ≤ N.parts }
     ensures all { seen.old.parts + length passes.old ≡ N.parts

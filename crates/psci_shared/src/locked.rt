@@ -1,24 +1,28 @@
 //! What the lock guards.
 
-ghost use Rattle.std.specs.Prelude.{◌≡◌, ◌≤◌, ◌<◌, ◌+◌, ◌^◌, ℕ, List, length, IfOk, OnOk, OnErr};
+ghost use Rattle.std.specs.Prelude.{◌≡◌, ◌≤◌, ◌<◌, ◌+◌, ◌^◌, [], ◌∷◌, length, replicate};
+ghost use Rattle.std.specs.Prelude.{IfOk, IfSome, OnErr, OnSome};
 ghost use Rattle.psci_fw.specs.psci_board.Board.{cores};
-ghost use Rattle.psci_fw.specs.psci_fw_spec.Legal.{IsLegal};
-ghost use Rattle.psci_status.specs.Lists.{Item, gains};
+ghost use Rattle.psci_fw.specs.psci_fw_spec.declared.status.Status.TheVariants.{Off};
 ghost use Rattle.psci_status.specs.Seats.{table, table_of_writer, written};
-ghost use Rattle.psci_shared.specs.Books.{answer_after, entered, entry, history_of};
-ghost use Rattle.psci_shared.specs.Locked.{IsEntered, IsReply};
-ghost use Rattle.psci_shared.specs.Passes.{Fits, called, item, told};
-ghost use Rattle.psci_shared.specs.Writing.{AllLast, IsWritten, Stand};
+ghost use Rattle.psci_fw.specs.psci_fw_spec.Legal.{IsLegal};
+ghost use Rattle.psci_shared.specs.Books.{history_of};
+ghost use Rattle.psci_shared.specs.Locked.{IsEntered, IsReply, IsTurnedAway};
+ghost use Rattle.psci_shared.specs.Passes.{IsFirst, told};
+ghost use Rattle.psci_shared.specs.Writing.{IsWritten};
 
 use crate::book::FwBook;
-use crate::done::Done;
 use crate::entry::BookFull;
 use crate::named::Named;
 use crate::pass::Pass;
 use crate::writing::write_all;
 use psci_fw::{FwCall, FwReply};
-use psci_status::{StatusWords, Writer};
-use std::sync::ledger::{Book, Share};
+use psci_status::{Core, StatusWords, Writer};
+use std::alloc::Global;
+use std::sync::ledger::{Blank, Book, Share};
+
+/// How many passes are made of one firmware.
+pub(crate) const MOST_PASSES: u32 = 1000;
 
 /// The firmware with its book, the writer of its status words, and the ledger's total, which is the
 /// number of its entries.
@@ -55,20 +59,12 @@ impl<N: Named> FwLocked<N> {
         call: FwCall,
     ) -> Result<FwReply, BookFull>
         requires { table words.now ≡ N.table }
-        ensures reply { IfOk result (λ reply. reply
-            ≡ answer_after N.board self.old.book.entries pass.old.core.number call) }
-        ensures fits { IfOk result (λ reply. Fits call reply) }
-        ensures book { IfOk result (λ reply. self.new.book
-            ≡ entered self.old.book (entry ticket pass.old.core call reply)) }
-        ensures legal { IsLegal N.board (history_of self.old.book.entries) }
-        ensures pass { IfOk result (λ reply. (notes : List (List Item)) × (pass.new
-            ≡ called pass.old (item (length self.old.book.entries) call reply)
-            (gains pass.old.seen notes))) }
-        ensures stand { OnOk result (Stand N.board self.new.book.entries pass.new.seen) }
-        ensures last { OnOk result (AllLast N.board self.new.book.entries pass.new.seen) }
-        ensures told { OnErr result
-            ((self.new.book ≡ self.old.book) × (pass.new ≡ told pass.old)) }
-        ensures full { OnErr result (length self.old.book.entries ≡ N.room) }
+        ensures reply { IfOk result (λ reply. IsReply N.board self.old.book.entries
+            pass.old.core.number call reply) }
+        ensures entered { IfOk result (λ reply. IsEntered N.board ticket self.old.book
+            self.new.book pass.old pass.new call reply) }
+        ensures full { OnErr result (IsTurnedAway N.board N.room self.old.book self.new.book
+            pass.old pass.new) }
         ensures made { self.new.made ≡ self.old.made }
     {
         self.call_of::<FwCall>(words, ticket, pass, call)
@@ -83,13 +79,12 @@ impl<N: Named> FwLocked<N> {
         call: FwCall,
     ) -> Result<FwReply, BookFull>
         requires { table words.now ≡ N.table }
-        ensures legal { IsLegal N.board (history_of self.old.book.entries) }
         ensures reply { IfOk result (λ reply. IsReply N.board self.old.book.entries
             pass.old.core.number call reply) }
         ensures entered { IfOk result (λ reply. IsEntered N.board ticket self.old.book
             self.new.book pass.old pass.new call reply) }
-        ensures err { OnErr result ((self.new.book ≡ self.old.book) × (pass.new ≡ told pass.old)
-            × (length self.old.book.entries ≡ N.room)) }
+        ensures full { OnErr result (IsTurnedAway N.board N.room self.old.book self.new.book
+            pass.old pass.new) }
         ensures made { self.new.made ≡ self.old.made }
     {
         let FwLocked {
@@ -100,19 +95,87 @@ impl<N: Named> FwLocked<N> {
             total,
             rest: _,
         } = self;
-        // no pass's list has more items than the book has entries, so it is not full before it
-        total.audit(&mut pass.share);
-        let place = book.len();
-        if place == book.room() {
-            pass.told_full = true;
-            return Err(BookFull);
-        }
+        let place = next_place(total, book, pass)?;
         let before = book.life();
         let done = book.carry_out::<A>(&mut pass.items, place, ticket, pass.core, call);
-        let Done { named, said } = done;
         total.add(&mut pass.share, 1);
-        write_all::<N, A>(words, writer, book, before, named, *count);
+        write_all::<N, A>(words, writer, book, before, done.named, *count);
         words.meet(writer, &mut pass.reader);
-        Ok(book.reply_of(said))
+        Ok(book.reply_of(done.said))
     }
+}
+
+/// Where the next entry goes, unless the book is full: then the pass is told. No pass's list has
+/// more items than the book has entries, so it is not full before the book.
+#[inline(always)]
+fn next_place<N: Named>(
+    total: &mut Book<N>,
+    book: &FwBook<N>,
+    pass: &mut Pass<N>,
+) -> Result<u32, BookFull>
+    requires { length book.now.entries ≡ total.old.total }
+    ensures total { total.new.total ≡ total.old.total }
+    ensures legal { IsLegal N.board (history_of book.now.entries) }
+    ensures ok { IfOk result (λ place. (place ≡ length book.now.entries) × (place < 2 ^ 32)
+        × (place < book.now.room) × (length pass.old.items ≤ place) × (pass.new ≡ pass.old)) }
+    ensures full { OnErr result ((length book.now.entries ≡ book.now.room)
+        × (pass.new ≡ told pass.old)) }
+{
+    total.audit(&mut pass.share);
+    let place = book.len();
+    if place == book.room() {
+        pass.told_full = true;
+        return Err(BookFull);
+    }
+    Ok(place)
+}
+
+/// What the lock of a new firmware guards.
+#[tactic(auto, using(crate::proofs::Written::written_first))]
+pub(crate) fn locked_of<N: Named>(
+    book: FwBook<N>,
+    writer: Writer,
+    count: u16,
+    blank: Blank,
+) -> FwLocked<N>
+    requires book { (book.entries ≡ []) × (book.room ≡ N.room) }
+    requires name { blank.name ≡ N.name }
+    requires parts { (blank.parts ≡ N.parts) × (N.parts ≡ 1001) }
+    requires cores { (count ≡ cores N.board) × (N.table.words ≡ cores N.board) }
+    requires writer { (table_of_writer writer ≡ N.table)
+        × (written writer ≡ replicate (cores N.board) (Off ∷ [])) }
+{
+    let (total, rest) = blank.open::<N>();
+    FwLocked {
+        book,
+        made: 0,
+        writer,
+        count,
+        total,
+        rest,
+    }
+}
+
+/// One pass more, where there is memory for it and a part of the ledger. There always is such a
+/// part while fewer than 1,000 passes were made, which the count beside the lock says as well.
+pub(crate) fn new_pass<N: Named>(
+    alloc: Global,
+    words: &StatusWords,
+    locked: &mut FwLocked<N>,
+    core: Core,
+    room: u32,
+) -> Option<Pass<N>>
+    requires words { table words.now ≡ N.table }
+    requires room { room ≡ N.room }
+    ensures pass { IfSome result (λ p. IsFirst core N.room p) }
+    ensures made { OnSome result (locked.new.made ≡ locked.old.made + 1) }
+{
+    if locked.made == MOST_PASSES {
+        return None;
+    }
+    let items = Vec::with_capacity(alloc, room as usize).ok()?;
+    locked.made += 1;
+    let share = locked.rest.split_off(1, 0);
+    let reader = words.reader(&mut locked.writer);
+    Some(Pass::of(core, room, items, share, reader))
 }

@@ -1,7 +1,7 @@
 //! The firmware that threads share.
 
-ghost use Rattle.std.specs.Prelude.{◌≡◌, ◌≤◌, ◌+◌, ◌<◌, List, [], ◌∷◌, length, replicate};
-ghost use Rattle.std.specs.Prelude.{IfOk, IfErr, OnOk, OnErr, MatchResult, IfSome, OnSome};
+ghost use Rattle.std.specs.Prelude.{◌≡◌, ◌≤◌, ◌+◌, ◌<◌, List, [], ◌∷◌, replicate};
+ghost use Rattle.std.specs.Prelude.{IfOk, IfErr, OnOk, OnErr, MatchResult, IfSome};
 ghost use Rattle.std.specs.Fn.{FnOnceReturnsAt};
 ghost use Rattle.psci_fw.specs.psci_board.Board.{core_of, cores};
 ghost use Rattle.psci_fw.specs.psci_fw_spec.declared.call.FwCall.TheVariants as calls;
@@ -9,22 +9,17 @@ ghost use Rattle.psci_fw.specs.psci_fw_spec.declared.reply.FwReply.TheVariants a
 ghost use Rattle.psci_fw.specs.psci_fw_spec.declared.status.Status.TheVariants.{Off};
 ghost use Rattle.psci_status.specs.Seats.{table, table_of_writer, written};
 ghost use Rattle.psci_shared.specs.declared.entry.FwEntry.{FwEntry};
-ghost use Rattle.psci_shared.specs.Agree.{Agree};
 ghost use Rattle.psci_shared.specs.Answered.{IsAnswered, IsAnsweredFault, IsFull};
-ghost use Rattle.psci_shared.specs.Gathers.{AllStand, AreMet, IsCause, items_of};
 ghost use Rattle.psci_fw.specs.psci_fw_spec.Legal.{IsLegal};
 ghost use Rattle.psci_shared.specs.Books.{history_of};
 ghost use Rattle.psci_shared.specs.Passes.{Fits, IsAffinity, IsCalled, IsFirst, IsNoPass};
 ghost use Rattle.psci_shared.specs.Passes.{IsRefused, told};
-ghost use Rattle.psci_shared.specs.Places.{AllPlaced};
 ghost use Rattle.psci_shared.specs.Polls.{IsPolled};
 
-use crate::agreement::agree;
 use crate::book::FwBook;
 use crate::entry::{BookFull, FwEntry};
-use crate::fault::{CallFault, GatherCause, PassFault};
-use crate::gather::{Books, GatherFault};
-use crate::locked::FwLocked;
+use crate::fault::{CallFault, PassFault};
+use crate::locked::{FwLocked, MOST_PASSES, locked_of, new_pass};
 use crate::named::Named;
 use crate::pass::Pass;
 use crate::sighting::Sighting;
@@ -35,9 +30,6 @@ use psci_status::{Board, Core, Memory, Reading, StatusWords, Writer};
 use std::alloc::Global;
 use std::sync::ledger::Blank;
 use std::sync::{Mutex, Wait};
-
-/// How many passes are made of one firmware.
-const MOST_PASSES: u32 = 1000;
 
 /// A firmware that threads share: it is called by passes, under a lock, and the status of a core is
 /// read without the lock.
@@ -126,22 +118,14 @@ impl<'t, N: Named> SharedFirmware<'t, N> {
         if core.number >= self.board.cores() {
             return Err(PassFault::NoCore);
         }
-        let SharedFirmware {
-            locked,
-            words,
-            tickets: _,
-            board: _,
-            alloc,
-            room,
-            made,
-        } = self;
-        if *made == MOST_PASSES {
+        if self.made == MOST_PASSES {
             return Err(PassFault::TooMany);
         }
-        let Some(pass) = new_pass(*alloc, words, locked.get_mut(), core, *room) else {
+        let locked = self.locked.get_mut();
+        let Some(pass) = new_pass(self.alloc, &self.words, locked, core, self.room) else {
             return Err(PassFault::Memory);
         };
-        *made += 1;
+        self.made += 1;
         Ok(pass)
     }
 
@@ -239,21 +223,9 @@ impl<'t, N: Named> SharedFirmware<'t, N> {
         f(locked.book.entries())
     }
 
-    /// Gathers the passes with the book, in which each place then stands in one of them.
-    #[tactic(auto, using(crate::proofs::Placed::all_placed))]
-    pub fn gather(self, passes: Vec<Pass<N>>) -> Result<Books<N>, GatherFault<N>>
-        ensures fault { IfErr result (λ f. IsCause f.cause (Agree f.locked.book f.passes.items)
-            (length f.passes.items) f.locked.made) }
-        ensures books { IfOk result (λ b. Agree b.book b.passes.items
-            × (length b.book.entries ≡ items_of b.passes.items)) }
-        ensures placed { IfOk result (λ b. AllPlaced b.book b.passes.items) }
-        ensures stand { IfOk result (λ b. AllStand N.board b.book.entries b.passes.items) }
-        ensures stood { MatchResult result
-            (λ b. AllStand N.board b.book.entries passes.items)
-            (λ f. AllStand N.board f.locked.book.entries passes.items) }
-        ensures passes { MatchResult result
-            (λ b. AreMet passes.items b.passes.items)
-            (λ f. AreMet passes.items f.passes.items) }
+    /// What the lock guarded, and the status words, once no thread has the firmware any more.
+    pub(crate) fn into_parts(self) -> (FwLocked<N>, StatusWords)
+        ensures { table result.1 ≡ N.table }
     {
         let SharedFirmware {
             locked,
@@ -264,30 +236,7 @@ impl<'t, N: Named> SharedFirmware<'t, N> {
             room: _,
             made: _,
         } = self;
-        let mut passes = passes;
-        let mut locked = locked.into_inner();
-        locked.meet(&words, &mut passes);
-        if !agree(&locked.book, &passes) {
-            return Err(GatherFault {
-                cause: GatherCause::Astray,
-                locked,
-                words,
-                passes,
-            });
-        }
-        let made = locked.count(&mut passes);
-        if (passes.len() as u64) < u64::from(made) {
-            return Err(GatherFault {
-                cause: GatherCause::Missing,
-                locked,
-                words,
-                passes,
-            });
-        }
-        Ok(Books {
-            book: locked.into_book(),
-            passes,
-        })
+        (locked.into_inner(), words)
     }
 
     /// A call for the pass's core, under the lock. Where nobody holds it, it is taken at once. `A`
@@ -313,58 +262,4 @@ impl<'t, N: Named> SharedFirmware<'t, N> {
         let ticket = self.tickets.draw();
         locked.call_of::<A>(&self.words, ticket, pass, call)
     }
-}
-
-/// What the lock of a new firmware guards.
-#[tactic(auto, using(crate::proofs::Written::written_first))]
-fn locked_of<N: Named>(book: FwBook<N>, writer: Writer, count: u16, blank: Blank) -> FwLocked<N>
-    requires book { book.entries ≡ [] }
-    requires room { book.room ≡ N.room }
-    requires name { blank.name ≡ N.name }
-    requires parts { (blank.parts ≡ N.parts) × (N.parts ≡ 1001) }
-    requires cores { (count ≡ cores N.board) × (N.table.words ≡ cores N.board) }
-    requires writer { (table_of_writer writer ≡ N.table)
-        × (written writer ≡ replicate (cores N.board) (Off ∷ [])) }
-{
-    let (total, rest) = blank.open::<N>();
-    FwLocked {
-        book,
-        made: 0,
-        writer,
-        count,
-        total,
-        rest,
-    }
-}
-
-/// One pass more, where there is memory for it and a part of the ledger. There always is such a
-/// part while fewer than 1,000 passes were made, which the count beside the lock says as well.
-fn new_pass<N: Named>(
-    alloc: Global,
-    words: &StatusWords,
-    locked: &mut FwLocked<N>,
-    core: Core,
-    room: u32,
-) -> Option<Pass<N>>
-    requires words { table words.now ≡ N.table }
-    requires room { room ≡ N.room }
-    ensures pass { IfSome result (λ p. IsFirst core N.room p) }
-    ensures made { OnSome result (locked.new.made ≡ locked.old.made + 1) }
-{
-    if locked.made == MOST_PASSES {
-        return None;
-    }
-    let items = Vec::with_capacity(alloc, room as usize).ok()?;
-    let FwLocked {
-        book: _,
-        made,
-        writer,
-        count: _,
-        total: _,
-        rest,
-    } = locked;
-    let share = rest.split_off(1, 0);
-    *made += 1;
-    let reader = words.reader(writer);
-    Some(Pass::of(core, room, items, share, reader))
 }

@@ -8,8 +8,7 @@ ghost use Rattle.psci_shared.specs.Writing.{IsOneBehind, written_after};
 
 use crate::book::FwBook;
 use crate::named::Named;
-use psci_polled::write_changed;
-use psci_status::{Core, StatusWords, Writer};
+use psci_status::{Core, StatusWords, Writer, write_changed};
 
 /// Writes what the last call has changed of the statuses, by the life before it and the core that
 /// it may name. One that names no core has changed none, and has begun no life.
@@ -21,9 +20,8 @@ pub(crate) fn write_all<N: Named, A>(
     named: Option<Core>,
     count: u16,
 )
-    requires words { table words.now ≡ N.table }
-    requires writer { table_of_writer writer.old ≡ N.table }
-    requires cores { (count ≡ cores N.board) × (N.table.words ≡ cores N.board) }
+    requires cores { (count ≡ cores N.board) × (N.table.words ≡ cores N.board)
+        × (table words.now ≡ N.table) × (table_of_writer writer.old ≡ N.table) }
     requires few { (core : ℕ) → core < cores N.board
         → length (row (written writer.old) core) < 2 ^ 60 }
     requires behind { IsOneBehind N.board (written writer.old) book.now.entries before named }

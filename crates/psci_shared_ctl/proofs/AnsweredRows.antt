@@ -1,8 +1,9 @@
 -- Worked examples of how a call through a pass was answered, of a book that is full, of a new pass
 -- and of why none is made.
-use Rattle.std.proofs.Common.{◌≡◌, ℕ, ◌<◌, List, [], ◌∷◌, length, false, refl, ap, arith, subst}
+use Rattle.std.proofs.Common.{◌≡◌, ℕ, ◌<◌, List, [], ◌∷◌, length, false, true, refl, ap, arith}
+use Rattle.std.proofs.Common.{subst}
 use Rattle.psci_board.specs.Board.{BoardValue}
-use Rattle.psci_ctl.specs.psci_ctl_spec.psci_format.declared.format.Format.TheVariants.{Original}
+use Rattle.psci_ctl.specs.psci_ctl_spec.psci_abi.declared.format.Format.TheVariants.{Original}
 use Rattle.psci_ctl.specs.psci_ctl_spec.Effects.{effect_of}
 use Rattle.psci_ctl.specs.psci_ctl_spec.History.{values_of}
 use Rattle.psci_ctl.specs.psci_ctl_spec.Legal.{IsLegal}
@@ -19,7 +20,8 @@ use Rattle.psci_shared.specs.declared.fault.PassFault.TheVariants.{NoCore, TooMa
 use Rattle.psci_shared_ctl.specs.declared.entry.CtlEntry.{CtlEntry}
 use Rattle.psci_shared_ctl.specs.declared.entry.CtlItem.{CtlItem}
 use Rattle.psci_shared_ctl.specs.Answered.{IsAnswered, IsAnsweredAfter, IsFull}
-use Rattle.psci_shared_ctl.specs.Books.{entry, history_of}
+use Rattle.psci_shared_ctl.specs.Books.{BookView, entry, history_of}
+use Rattle.psci_shared_ctl.specs.Locked.{IsTurnedAway}
 use Rattle.psci_shared_ctl.specs.Passes.{IsNoPass, PassView, first, item}
 
 -- what an example unfolds to compute a reply
@@ -191,6 +193,19 @@ full_with_two = (entries, (refl, omega arith, (refl, omega arith, tt)), refl)
 full_without_room : IsFull board 0
 unfolding computing
 full_without_room = ([], tt, refl)
+
+-- what a call leaves then
+abbrev full_book : BookView
+full_book = record { entries = entries; room = 2 }
+
+turned_away : IsTurnedAway board 2 full_book full_book (first 2)
+    (record (first 2) { told_full = true })
+unfolding computing
+turned_away = (refl, refl, refl, (refl, omega arith, (refl, omega arith, tt)))
+
+turned_away_early : IsTurnedAway board 3 full_book full_book (first 2)
+    (record (first 2) { told_full = true }) → ⊥
+turned_away_early h = let e : ◌≡◌ {A = ℕ} 2 3 = h.2 in omega arith
 
 room_for_one_more : (h : IsFull board 3) → h.0 ≡ entries → ⊥
 room_for_one_more h is =

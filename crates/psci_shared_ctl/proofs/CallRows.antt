@@ -2,7 +2,7 @@
 use Rattle.std.proofs.Common.{◌≡◌, ℕ, ◌<◌, ◌≤◌, List, [], ◌∷◌, length, Bool, true, false}
 use Rattle.std.proofs.Common.{refl, ap, arith}
 use Rattle.psci_board.specs.Board.{BoardValue}
-use Rattle.psci_ctl.specs.psci_ctl_spec.psci_format.declared.format.Format.TheVariants.{Original}
+use Rattle.psci_ctl.specs.psci_ctl_spec.psci_abi.declared.format.Format.TheVariants.{Original}
 use Rattle.psci_ctl.specs.Seen.{ControllerValue, seen}
 use Rattle.psci_ctl.specs.psci_ctl_spec.History.{values_of}
 use Rattle.psci_ctl.specs.psci_ctl_spec.Replies.{reply, wake_of}

@@ -5,3 +5,4 @@ pub mod Gathers
 pub mod Inside
 pub mod Passes
 pub mod Places
+pub mod Locked

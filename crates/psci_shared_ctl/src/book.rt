@@ -33,9 +33,10 @@ ghost use Rattle.psci_ctl.specs.Seen.{seen};
 ghost use Rattle.psci_board.specs.Board.{cores};
 ghost use Rattle.psci_ctl.specs.psci_ctl_spec.Changes.{after};
 ghost use Rattle.psci_ctl.specs.psci_ctl_spec.History.{values_of};
-ghost use Rattle.psci_ctl.specs.psci_ctl_spec.Legal.{IsCall, IsLegal, legal_reply};
+ghost use Rattle.psci_ctl.specs.psci_ctl_spec.Legal.{IsCall, IsLegal};
 ghost use Rattle.psci_ctl.specs.psci_ctl_spec.Replies.{last_start, reply};
 ghost use Rattle.psci_shared_ctl.specs.Books.{entered, entry, history_of};
+ghost use Rattle.psci_shared_ctl.specs.Locked.{IsReply};
 ghost use Rattle.psci_shared_ctl.specs.Passes.{Fits};
 
 impl<N: Named> CtlBook<N> {
@@ -62,9 +63,7 @@ impl<N: Named> CtlBook<N> {
     #[tactic(auto, using(crate::proofs::Histories::history_more))]
     pub fn step(&mut self, ticket: u64, call: CtlCall) -> Result<CtlReply, BookFull>
         requires { IsCall N.board call }
-        ensures reply { IfOk result (λ reply. reply
-            ≡ legal_reply N.board (history_of self.old.entries) call) }
-        ensures fits { IfOk result (λ reply. Fits call reply) }
+        ensures reply { IfOk result (λ reply. IsReply N.board self.old.entries call reply) }
         ensures ok { IfOk result (λ reply. self.new
             ≡ entered self.old (entry ticket call reply)) }
         ensures room { OnOk result (length self.old.entries < self.old.room) }

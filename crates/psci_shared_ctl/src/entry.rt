@@ -1,6 +1,7 @@
 //! What a book and a pass keep of a call.
 
 ghost use Rattle.std.specs.Prelude.{◌≡◌, ◌↔◌, IsTrue};
+ghost use Rattle.psci_shared_ctl.specs.Passes.{item};
 
 use psci_ctl::{CtlCall, CtlReply};
 use psci_shared::is_same_message;
@@ -25,6 +26,15 @@ pub struct CtlItem {
     pub call: CtlCall,
     /// What was answered.
     pub reply: CtlReply,
+}
+
+impl CtlItem {
+    /// An item.
+    pub(crate) fn of(place: u32, call: CtlCall, reply: CtlReply) -> CtlItem
+        ensures { result ≡ item place call reply }
+    {
+        CtlItem { place, call, reply }
+    }
 }
 
 /// Whether two calls are one.

@@ -29,6 +29,25 @@ pub struct CtlGatherFault<N: Named> {
     pub passes: Vec<CtlPass<N>>,
 }
 
+impl<N: Named> CtlGatherFault<N> {
+    /// The passes were not gathered for this cause.
+    pub(crate) fn of(
+        cause: GatherCause,
+        locked: CtlLocked<N>,
+        passes: Vec<CtlPass<N>>,
+    ) -> CtlGatherFault<N>
+        ensures cause { result.cause ≡ cause }
+        ensures locked { result.locked ≡ locked }
+        ensures passes { result.passes ≡ passes }
+    {
+        CtlGatherFault {
+            cause,
+            locked,
+            passes,
+        }
+    }
+}
+
 impl<N: Named> CtlLocked<N> {
     /// How many passes were made. With as many as that, the book has as many entries as the passes
     /// have items.
@@ -68,8 +87,8 @@ impl<N: Named> CtlLocked<N> {
 /// Lends the shares of all passes to one that has a part, and compares the sum with the total.
 fn count_all<N: Named>(total: &mut Book<N>, passes: &mut [CtlPass<N>], seen: &mut Share<N>)
     requires { 0 < seen.old.parts }
-    ensures total { total.new.total ≡ total.old.total }
-    ensures seen { (seen.new.parts ≡ seen.old.parts) × (seen.new.amount ≡ seen.old.amount) }
+    ensures ledger { (total.new.total ≡ total.old.total) × (seen.new.parts ≡ seen.old.parts)
+        × (seen.new.amount ≡ seen.old.amount) }
     ensures passes { passes.new ≡ passes.old }
     ensures few { seen.old.parts + length passes.old ≤ N.parts }
     ensures all { seen.old.parts + length passes.old ≡ N.parts

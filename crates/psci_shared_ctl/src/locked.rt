@@ -1,9 +1,8 @@
 //! What the lock guards.
 
 ghost use Rattle.std.specs.Prelude.{◌≡◌, ◌≤◌, ◌+◌, length, IfOk, OnErr};
-ghost use Rattle.psci_ctl.specs.psci_ctl_spec.Legal.{IsCall, IsLegal, legal_reply};
-ghost use Rattle.psci_shared_ctl.specs.Books.{entered, entry, history_of};
-ghost use Rattle.psci_shared_ctl.specs.Passes.{Fits, called, item, told};
+ghost use Rattle.psci_ctl.specs.psci_ctl_spec.Legal.{IsCall};
+ghost use Rattle.psci_shared_ctl.specs.Locked.{IsEntered, IsReply, IsTurnedAway};
 
 use crate::book::CtlBook;
 use crate::entry::CtlItem;
@@ -38,45 +37,26 @@ impl<N: Named> CtlLocked<N> {
         call: CtlCall,
     ) -> Result<CtlReply, BookFull>
         requires { IsCall N.board call }
-        ensures reply { IfOk result (λ reply. reply
-            ≡ legal_reply N.board (history_of self.old.book.entries) call) }
-        ensures fits { IfOk result (λ reply. Fits call reply) }
-        ensures book { IfOk result (λ reply. self.new.book
-            ≡ entered self.old.book (entry ticket call reply)) }
-        ensures legal { IsLegal N.board (history_of self.old.book.entries) }
-        ensures pass { IfOk result (λ reply. pass.new
-            ≡ called pass.old (item (length self.old.book.entries) call reply)) }
-        ensures told { OnErr result
-            ((self.new.book ≡ self.old.book) × (pass.new ≡ told pass.old)) }
-        ensures full { OnErr result (length self.old.book.entries ≡ N.room) }
+        ensures reply { IfOk result (λ reply. IsReply N.board self.old.book.entries call reply) }
+        ensures entered { IfOk result (λ reply. IsEntered N.board ticket self.old.book
+            self.new.book pass.old pass.new call reply) }
+        ensures full { OnErr result (IsTurnedAway N.board N.room self.old.book self.new.book
+            pass.old pass.new) }
         ensures made { self.new.made ≡ self.old.made }
     {
-        let CtlLocked {
-            book,
-            made: _,
-            total,
-            rest: _,
-        } = self;
-        total.audit(&mut pass.share);
-        let place = book.len();
+        self.total.audit(&mut pass.share);
+        let place = self.book.len();
         if pass.items.len() == pass.room as usize {
             pass.told_full = true;
             return Err(BookFull);
         }
-        match book.step(ticket, call.copy()) {
-            Ok(reply) => {
-                total.add(&mut pass.share, 1);
-                pass.items.push_reserved(CtlItem {
-                    place,
-                    call,
-                    reply: reply.copy(),
-                });
-                Ok(reply)
-            }
-            Err(BookFull) => {
-                pass.told_full = true;
-                Err(BookFull)
-            }
-        }
+        let Ok(reply) = self.book.step(ticket, call.copy()) else {
+            pass.told_full = true;
+            return Err(BookFull);
+        };
+        self.total.add(&mut pass.share, 1);
+        let item = CtlItem::of(place, call, reply.copy());
+        pass.items.push_reserved(item);
+        Ok(reply)
     }
 }

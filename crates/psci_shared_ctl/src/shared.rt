@@ -199,19 +199,11 @@ impl<'t, N: Named> SharedController<'t, N> {
         let mut passes = passes;
         let mut locked = self.into_locked();
         if !agree(&locked.book, &passes) {
-            return Err(CtlGatherFault {
-                cause: GatherCause::Astray,
-                locked,
-                passes,
-            });
+            return Err(CtlGatherFault::of(GatherCause::Astray, locked, passes));
         }
         let made = locked.count(&mut passes);
         if (passes.len() as u64) < u64::from(made) {
-            return Err(CtlGatherFault {
-                cause: GatherCause::Missing,
-                locked,
-                passes,
-            });
+            return Err(CtlGatherFault::of(GatherCause::Missing, locked, passes));
         }
         Ok(CtlBooks {
             book: locked.into_book(),
@@ -229,9 +221,8 @@ impl<'t, N: Named> SharedController<'t, N> {
         requires { IsCall N.board call }
         ensures ok { IfOk result (λ reply. IsCalled pass.old pass.new call reply) }
         ensures answered { IfOk result (λ reply. IsAnswered N.board pass.old pass.new call reply) }
-        ensures full { OnErr result (IsFull N.board N.room) }
         ensures fits { IfOk result (λ reply. Fits call reply) }
-        ensures err { OnErr result (pass.new ≡ told pass.old) }
+        ensures full { OnErr result (IsFull N.board N.room × (pass.new ≡ told pass.old)) }
     {
         let mut locked = self.locked.lock(rt);
         let ticket = self.tickets.draw();

@@ -4,6 +4,7 @@ use crate::domain::{SharesText, TargetText};
 use crate::names::mode_name;
 use psci_state::Ask;
 use psci_world::Board;
+use psci_world_spec::Request::{CpuOff, MigrateInfoType, SystemOff, SystemReset, Unknown, Version};
 use psci_world_spec::{Regs, Request, read};
 use std::fmt;
 
@@ -140,12 +141,7 @@ impl fmt::Display for ArgumentsText<'_> {
             Request::SystemReset2 { reset_type, .. } => write!(f, " of type 0x{reset_type:x}"),
             Request::CpuSuspend { .. } | Request::CpuOn { .. } | Request::SystemSuspend { .. } =>
                 OpeningText { board, request }.fmt(f),
-            Request::Version
-            | Request::CpuOff
-            | Request::MigrateInfoType
-            | Request::SystemOff
-            | Request::SystemReset
-            | Request::Unknown => Ok(()),
+            Version | CpuOff | MigrateInfoType | SystemOff | SystemReset | Unknown => Ok(()),
         }
     }
 }

@@ -4,8 +4,8 @@ use Rattle.std.proofs.Common.{false, ◌&&◌, ◌==◌, cond, List, length, ref
 use Rattle.std.proofs.lemmas.Bool.{leb-true, ltb-true, eqb-true}
 use Rattle.std.proofs.lemmas.List.{get_or_past}
 use Rattle.std.specs.Prelude.{Result, Ok, Err, nat_lt, nat_le, slice_index}
-use Rattle.psci_format.specs.declared.format.Format.{Format}
-use Rattle.psci_format.specs.declared.format.Format.TheVariants.{Original, Extended}
+use Rattle.psci_abi.specs.declared.format.Format.{Format}
+use Rattle.psci_abi.specs.declared.format.Format.TheVariants.{Original, Extended}
 use Rattle.psci_state.specs.declared.fault.BadState.{BadState}
 use Rattle.psci_state.specs.Ask.{IsAsk, is_ask, highest_of}
 use Rattle.psci_state.specs.PowerState.{bits, state_id, state_type, has_level}

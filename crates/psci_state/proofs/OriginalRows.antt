@@ -2,7 +2,7 @@
 use Rattle.std.proofs.Common.{◌≡◌, ℕ, ◌+◌, ◌^◌, Bool, not, true, List, [], ◌∷◌, map, refl}
 use Rattle.std.specs.Prelude.{Ok, Err, is_ok}
 use Rattle.std.specs.List.{list_all}
-use Rattle.psci_format.specs.declared.format.Format.TheVariants.{Original}
+use Rattle.psci_abi.specs.declared.format.Format.TheVariants.{Original}
 use Rattle.psci_state.specs.PowerState.{ask_of, word_of}
 
 -- no word of these is a power state on a board of this height

@@ -4,8 +4,8 @@ use Rattle.std.proofs.Common.{◌&&◌, ◌==◌, cond, List, [], ◌∷◌, ref
 use Rattle.std.proofs.lemmas.Bool.{le-leb, lt-ltb, eq-eqb}
 use Rattle.std.specs.Cmp.Derive.{both_true}
 use Rattle.std.specs.Prelude.{Result, Ok, Err, nat_lt, nat_le, if◌then◌else◌}
-use Rattle.psci_format.specs.declared.format.Format.{Format}
-use Rattle.psci_format.specs.declared.format.Format.TheVariants.{Original, Extended}
+use Rattle.psci_abi.specs.declared.format.Format.{Format}
+use Rattle.psci_abi.specs.declared.format.Format.TheVariants.{Original, Extended}
 use Rattle.psci_state.specs.declared.fault.BadState.{BadState}
 use Rattle.psci_state.specs.Ask.{IsAsk, is_ask, highest_of}
 use Rattle.psci_state.specs.PowerState.{bits, state_id, state_type, has_level, reserved_is_zero}

@@ -1,4 +1,4 @@
 pub mod Ask
 pub mod Cores
 pub mod PowerState
-pub use Rattle.psci_format.specs as psci_format
+pub use Rattle.psci_abi.specs as psci_abi

@@ -2,8 +2,8 @@
 use Rattle.std.specs.Prelude.{ℕ, ◌+◌, ◌-◌, ◌*◌, ◌/◌, ◌%◌, ◌^◌, Bool, ◌&&◌, ◌==◌, nat_le}
 use Rattle.std.specs.Prelude.{nat_lt, if◌then◌else◌, List, [], ◌∷◌, slice_index, Option}
 use Rattle.std.specs.Prelude.{Some, None, unwrap_or, Result, Ok, Err}
-use Rattle.psci_format.specs.declared.format.Format.{Format}
-use Rattle.psci_format.specs.declared.format.Format.TheVariants.{Original, Extended}
+use Rattle.psci_abi.specs.declared.format.Format.{Format}
+use Rattle.psci_abi.specs.declared.format.Format.TheVariants.{Original, Extended}
 use Rattle.psci_state.specs.declared.fault.BadState.{BadState}
 use Rattle.psci_state.specs.Ask.{is_ask, highest_of, is_deep}
 

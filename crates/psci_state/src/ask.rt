@@ -6,7 +6,7 @@ ghost use Rattle.psci_state.specs.PowerState.{ask_of, asked, id_of, is_state_id,
 
 use crate::fault::BadState;
 use crate::fields::{Fields, bits};
-use psci_format::Format;
+use psci_abi::Format;
 use std::marker::Model;
 
 /// The levels of an ask: the core's, 0, and three above it.

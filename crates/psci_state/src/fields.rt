@@ -4,7 +4,7 @@ ghost use Rattle.std.specs.Prelude.{◌≡◌, ◌+◌, ◌≤◌, ◌<◌};
 ghost use Rattle.psci_state.specs.PowerState.{bits, power_level, reserved_is_zero};
 ghost use Rattle.psci_state.specs.PowerState.{state_id, state_type};
 
-use psci_format::Format;
+use psci_abi::Format;
 
 /// The fields of the parameter power_state of CPU_SUSPEND.
 #[derive(Clone, Copy)]

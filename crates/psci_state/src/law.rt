@@ -1,7 +1,7 @@
 //! What holds of power state words.
 
 ghost use Rattle.std.specs.Prelude.{◌≡◌, ℕ, ◌^◌, ◌<◌, ◌≤◌, ◌↔◌, List, IsTrue};
-ghost use Rattle.psci_format.specs.declared.format.Format.{Format};
+ghost use Rattle.psci_abi.specs.declared.format.Format.{Format};
 ghost use Rattle.psci_state.specs.Ask.{IsAsk, highest_of, is_ask};
 ghost use Rattle.psci_state.specs.PowerState.{ask_of, word_of};
 

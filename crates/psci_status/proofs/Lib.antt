@@ -1,5 +1,18 @@
+pub mod CallSteps
+pub mod Calls
+pub mod Counting
+pub mod Last
 pub mod ListRows
 pub mod Lists
+mod NamingRows
+pub mod Past
+mod PastRows
+mod PollRows
+mod PolledRows
 pub mod RuleRows
+pub mod Slots
+pub mod Staying
 pub mod StepRows
 pub mod Steps
+pub mod Weighing
+mod WritingRows

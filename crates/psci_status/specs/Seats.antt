@@ -1,5 +1,5 @@
 -- What contracts see of the words, of their writer and of a reader.
-use Rattle.std.specs.Prelude.{List}
+use Rattle.std.specs.Prelude.{◌≡◌, ◌<◌, ℕ, List}
 use Rattle.atomic_table.specs.Seated.{TableId}
 use Rattle.psci_fw_spec.specs.declared.status.Status.{Status}
 use Rattle.psci_status.specs.declared.seats.Reader.{Reader}
@@ -26,3 +26,18 @@ written writer = writer.seat.me.0.log
 -- what a reader has seen of each core
 abbrev pub seen : Reader → List (List Item)
 seen reader = reader.seat.me.0.seen
+
+-- the writer writes this table, which has a word for the core
+pub record MayWrite (words : StatusWords) (writer : Writer) (number : ℕ) : Type 0 where
+  pub core : number < (table words).words
+  pub table : table_of_writer writer ≡ table words
+
+-- the reader reads this table, which has a word for the core
+pub record MayRead (words : StatusWords) (reader : Reader) (number : ℕ) : Type 0 where
+  pub core : number < (table words).words
+  pub table : table_of_reader reader ≡ table words
+
+-- the writer and the reader are of this table
+pub record AreOf (words : StatusWords) (one : Writer) (other : Reader) : Type 0 where
+  pub writer : table_of_writer one ≡ table words
+  pub reader : table_of_reader other ≡ table words

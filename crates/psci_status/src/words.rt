@@ -9,7 +9,8 @@ ghost use Rattle.psci_fw_spec.specs.AffinityInfo.{status_code};
 ghost use Rattle.psci_fw_spec.specs.Statuses.{added};
 ghost use Rattle.psci_status.specs.Lists.{row, Rises, gain, gains, newest, Within, Begins, IsLast};
 ghost use Rattle.psci_status.specs.Lists.{IsWord, item_of, status_of};
-ghost use Rattle.psci_status.specs.Seats.{seen, table, table_of_reader, table_of_writer, written};
+ghost use Rattle.psci_status.specs.Seats.{AreOf, MayRead, MayWrite, seen, written};
+ghost use Rattle.psci_status.specs.Seats.{table, table_of_reader, table_of_writer};
 
 use crate::coding::{number_of, status_of};
 use crate::rule::{Loads, Looks, Notes, Stores};
@@ -59,8 +60,7 @@ impl StatusWords {
 
     /// The word of a core.
     fn word(&self, writer: &mut Writer, core: Core) -> u64
-        requires table { table_of_writer writer.old ≡ table self.now }
-        requires core { core.number < (table self.now).words }
+        requires here { MayWrite self.now writer.old core.number }
         ensures table { table_of_writer writer.new ≡ table_of_writer writer.old }
         ensures log { written writer.new ≡ written writer.old }
         ensures word { IsWord (row (written writer.old) core.number) result }
@@ -71,8 +71,7 @@ impl StatusWords {
 
     /// Writes the status of a core, one item more than its word holds.
     fn write(&self, writer: &mut Writer, core: Core, found: u64, status: Status)
-        requires table { table_of_writer writer.old ≡ table self.now }
-        requires core { core.number < (table self.now).words }
+        requires here { MayWrite self.now writer.old core.number }
         requires few { length (row (written writer.old) core.number) < 2 ^ 61 }
         requires word { IsWord (row (written writer.old) core.number) found }
         ensures table { table_of_writer writer.new ≡ table_of_writer writer.old }
@@ -86,23 +85,9 @@ impl StatusWords {
             .store::<Stores>(&mut writer.seat, place, next);
     }
 
-    /// The last status that was written of a core.
-    pub fn last(&self, writer: &mut Writer, core: Core) -> Status
-        requires table { table_of_writer writer.old ≡ table self.now }
-        requires core { core.number < (table self.now).words }
-        ensures table { table_of_writer writer.new ≡ table_of_writer writer.old }
-        ensures log { written writer.new ≡ written writer.old }
-        ensures last { (rest : List Status)
-            × (row (written writer.old) core.number ≡ result ∷ rest) }
-    {
-        let found = self.word(writer, core);
-        status_of(found % 4)
-    }
-
     /// Writes the status of a core, unless it is the last that was written.
     pub fn update(&self, writer: &mut Writer, core: Core, status: Status)
-        requires table { table_of_writer writer.old ≡ table self.now }
-        requires core { core.number < (table self.now).words }
+        requires here { MayWrite self.now writer.old core.number }
         requires few { length (row (written writer.old) core.number) < 2 ^ 61 }
         ensures table { table_of_writer writer.new ≡ table_of_writer writer.old }
         ensures here { row (written writer.new) core.number
@@ -140,8 +125,7 @@ impl StatusWords {
 
     /// The same, with the serial: the last item that the reader has now seen of the core.
     pub fn read(&self, reader: &mut Reader, core: Core) -> Reading
-        requires table { table_of_reader reader.old ≡ table self.now }
-        requires core { core.number < (table self.now).words }
+        requires here { MayRead self.now reader.old core.number }
         ensures table { table_of_reader reader.new ≡ table_of_reader reader.old }
         ensures seen { seen reader.new ≡ slice_set (seen reader.old) core.number
             (gain (result.serial, result.status) (row (seen reader.old) core.number)) }
@@ -178,16 +162,13 @@ impl StatusWords {
 
     // The writer is told what the reader has seen, and the reader what was written last.
     fn trade(&self, writer: &mut Writer, reader: &mut Reader)
-        requires writer { table_of_writer writer.old ≡ table self.now }
-        requires reader { table_of_reader reader.old ≡ table self.now }
-        ensures writer { table_of_writer writer.new ≡ table_of_writer writer.old }
-        ensures reader { table_of_reader reader.new ≡ table_of_reader reader.old }
+        requires tables { AreOf self.now writer.old reader.old }
+        ensures tables { AreOf self.now writer.new reader.new }
         ensures log { written writer.new ≡ written writer.old }
         ensures stands { (core : ℕ)
             → Within (row (written writer.old) core) (row (seen reader.old) core) }
         ensures seen { seen reader.new
             ≡ gains (seen reader.old) (map newest (written writer.old)) }
-        ensures long { length (seen reader.old) ≡ (table self.now).words }
     {
         let note = self.table.shared.split_seat::<Notes>(&mut reader.seat);
         self.table.shared.join_seat::<Notes>(&mut writer.seat, note);

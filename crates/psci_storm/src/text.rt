@@ -37,14 +37,10 @@ impl fmt::Display for Answer {
             Answer::Enter => write!(f, "enter"),
             Answer::Resume => write!(f, "resume"),
             Answer::Started => write!(f, "started"),
-            Answer::Acked {
-                applied,
-                stale: false,
-            } => write!(f, "ack applied {applied}"),
-            Answer::Acked {
-                applied,
-                stale: true,
-            } => write!(f, "ack applied {applied} stale"),
+            Answer::Acked { applied, stale } if *stale => {
+                write!(f, "ack applied {applied} stale")
+            }
+            Answer::Acked { applied, .. } => write!(f, "ack applied {applied}"),
             Answer::Used => write!(f, "used"),
             Answer::Old => write!(f, "old"),
             Answer::Ignored => write!(f, "ignored"),

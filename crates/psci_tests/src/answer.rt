@@ -1,9 +1,8 @@
 //! What a core does next and what is sent, in a form that a table can hold.
 
 use psci_abi::Code;
-use psci_claims::Part;
 use psci_fw_spec::Act;
-use psci_messages::{Kind, Message};
+use psci_messages::{Kind, Message, Part};
 
 /// What a core does next, and what is sent.
 #[derive(Clone, Copy)]

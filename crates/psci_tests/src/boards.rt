@@ -4,10 +4,9 @@
 ghost use Rattle.std.specs.Prelude.{IsTrue};
 ghost use Rattle.psci_board.specs.Board.{HasNodeIn};
 
-use psci_board::{Board, Core, CoreSpan, Node};
+use psci_board::{Board, Core, CoreSpan, Node, hex, literal, number};
 use psci_ctl::Controller;
 use psci_messages::Slots;
-use psci_text::{hex, literal, number};
 use psci_tree::Tree;
 use std::alloc::Global;
 use std::process::Abort;

@@ -1,6 +1,8 @@
 //! Stories of the power controller of one board, from its first life on: cores that are started, go
 //! down and wake, and what comes too late.
 
+ghost use Rattle.std.specs.Prelude.{◌≡◌};
+
 use crate::boards::has;
 use psci_ctl::{Board, Cause, Controller, Core, Delivery, Kick, Kind, Message, Part, Parts, Start};
 use std::alloc::Global;
@@ -25,19 +27,22 @@ fn start(life: u32, number: u32) -> Message {
     }
 }
 
+/// The domain of this level goes to power-down.
+pub(crate) fn deepest(level: u32, generation: u64) -> Part
+    ensures { result ≡ record { level = level; depth = 3; generation = generation } }
+{
+    Part {
+        level,
+        depth: 3,
+        generation,
+    }
+}
+
 /// Core 3 goes down, and its cluster with it.
 fn down(number: u32, generation: u64) -> Message {
     let mut parts = Parts::new();
-    parts.push(Part {
-        level: 0,
-        depth: 3,
-        generation,
-    });
-    parts.push(Part {
-        level: 1,
-        depth: 3,
-        generation,
-    });
+    parts.push(deepest(0, generation));
+    parts.push(deepest(1, generation));
     Message {
         kind: Kind::Down,
         core: CORE_3,

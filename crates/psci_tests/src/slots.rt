@@ -4,9 +4,9 @@ ghost use Rattle.std.specs.Prelude.{◌≡◌, ◌≤◌};
 ghost use Rattle.psci_messages.specs.Slots.{slot_of};
 ghost use Rattle.psci_messages.specs.Slots.Slot.{OfCore};
 
+use crate::controller::deepest;
 use psci_board::Core;
-use psci_claims::{Part, Parts};
-use psci_messages::{Ack, Kind, Message, Slots, Taken};
+use psci_messages::{Ack, Kind, Message, Parts, Slots, Taken};
 use std::test::Fail;
 
 /// Core 3 goes down with its cluster.
@@ -14,16 +14,8 @@ pub(crate) fn down() -> Message
     ensures { slot_of result.kind result.core ≡ OfCore 3 }
 {
     let mut parts = Parts::new();
-    parts.push(Part {
-        level: 0,
-        depth: 3,
-        generation: 1,
-    });
-    parts.push(Part {
-        level: 1,
-        depth: 3,
-        generation: 1,
-    });
+    parts.push(deepest(0, 1));
+    parts.push(deepest(1, 1));
     Message {
         kind: Kind::Down,
         core: Core { number: 3 },

@@ -3,8 +3,8 @@
 use crate::lossy::{Travel, travelled};
 use crate::meeting::Meeting;
 use crate::serving::serve;
+use psci_bench::{BenchFault, Gate, OpenGate, Threaded, calls_of, threads};
 use psci_board::Board;
-use psci_threads::{BenchFault, Gate, OpenGate, Threaded, calls_of, threads};
 use psci_world::World;
 use std::alloc::Global;
 use std::sync::Wait;

@@ -1,8 +1,8 @@
 //! What is asked of the gate, and the calls of a run.
 
 use crate::boards::ran;
+use psci_bench::{BenchFault, Core, FwEntry, Gate};
 use psci_fw::{FwCall, Regs};
-use psci_threads::{BenchFault, Core, FwEntry, Gate};
 use std::alloc::Global;
 use std::sync::Wait;
 use std::sync::atomic::{AtomicU64, Ordering};

@@ -2,8 +2,8 @@
 
 use crate::boards::{board_of, ran};
 use psci_audit::audit;
+use psci_bench::{AuditFault, BenchFault, Core, CtlEntry, FwEntry, OpenGate, Trace};
 use psci_fw::{Act, Cause, Code, FwCall, FwReply, Outcome, Start};
-use psci_threads::{AuditFault, BenchFault, Core, CtlEntry, FwEntry, OpenGate, Trace};
 use std::alloc::Global;
 use std::sync::Wait;
 use std::thread::Threads;

@@ -1,6 +1,8 @@
-//! Tests of core threads over a lossy link, and of what their audit refuses. They start threads,
-//! and end the same whatever the schedule.
+//! Tests of the firmware and the power controller that threads share, of core threads over a lossy
+//! link, and of what their audit refuses. They start threads, and end the same whatever the
+//! schedule.
 //!
+//! - A *story* is what is done with one shared firmware, and what is seen of it at the end.
 //! - A *travel* is what became of the frames of runs: how many were lost, came again or overtook.
 //! - A *meeting* is a gate that lets the second calls of cores 0 and 1 go on together alone.
 //! - A *server* is one core of a body that has no threads: it serves its cores one after another.
@@ -9,27 +11,64 @@
 #[cfg(test)]
 mod boards;
 #[cfg(test)]
+mod controller;
+#[cfg(test)]
 mod counted;
 #[cfg(test)]
 mod forged;
+#[cfg(test)]
+mod held;
 #[cfg(test)]
 mod lossy;
 #[cfg(test)]
 mod meeting;
 #[cfg(test)]
+mod named;
+#[cfg(test)]
+mod passes;
+#[cfg(test)]
 mod serving;
 #[cfg(test)]
 mod starting;
+#[cfg(test)]
+mod threads;
 
 #[cfg(test)]
 mod tests {
     use crate::boards::{BOARD, LARGE, ONE, TALL, is_audited, met, served, travels};
+    use crate::controller::{told_of_starts, told_of_threads};
     use crate::counted::is_counted;
     use crate::forged::{is_illegal_at, is_ticket_twice, judged};
     use crate::lossy::Travel;
+    use crate::named::{Story, told};
     use crate::starting::starts_after_the_end;
-    use psci_threads::{AuditFault, BenchFault};
+    use psci_bench::{AuditFault, BenchFault};
     use std::test::*;
+
+    #[test]
+    fn passes_call_and_are_gathered(rt: HostRuntime) -> Result<(), Fail> {
+        assert_eq!(rt; told(&rt, rt.alloc(), Story::ThreeCalls), Some(true));
+        assert_eq!(rt; told(&rt, rt.alloc(), Story::OneIsMissing), Some(true));
+        assert_eq!(rt; told(&rt, rt.alloc(), Story::FullBooks), Some(true));
+        assert_eq!(rt; told(&rt, rt.alloc(), Story::TooMany), Some(true));
+        assert_eq!(rt; told(&rt, rt.alloc(), Story::Statuses), Some(true));
+        Ok(())
+    }
+
+    #[test]
+    fn threads_call_and_poll(rt: HostRuntime) -> Result<(), Fail> {
+        assert_eq!(rt; told(&rt, rt.alloc(), Story::TwoThreads(49)), Some(true));
+        assert_eq!(rt; told(&rt, rt.alloc(), Story::Polled), Some(true));
+        assert_eq!(rt; told(&rt, rt.alloc(), Story::PolledWhileHeld), Some(true));
+        Ok(())
+    }
+
+    #[test]
+    fn power_controllers_are_shared(rt: HostRuntime) -> Result<(), Fail> {
+        assert_eq!(rt; told_of_starts(&rt, rt.alloc()), Some(true));
+        assert_eq!(rt; told_of_threads(&rt, rt.alloc()), Some(true));
+        Ok(())
+    }
 
     /// A third of what twenty runs have together, or less.
     const FLOOR: Travel = Travel {

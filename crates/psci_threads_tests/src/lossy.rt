@@ -1,9 +1,9 @@
 //! How the frames of a run travelled, as its books tell.
 
+use psci_bench::{CtlEntry, FwEntry, Trace};
 use psci_ctl::{CtlCall, CtlReply, Delivery};
 use psci_fw::{FwCall, FwReply};
 use psci_messages::{Ack, Message, Taken};
-use psci_threads::{CtlEntry, FwEntry, Trace};
 use std::alloc::{AllocError, Global};
 
 /// What was sent and what has arrived, each in its order.
@@ -41,10 +41,8 @@ pub(crate) struct Travel {
 /// How the frames of a run travelled.
 pub(crate) fn travelled(alloc: Global, trace: &Trace) -> Result<Travel, AllocError> {
     let journeys = journeys_in(alloc, trace)?;
-    let sent = journeys.sent.as_slice();
-    let delivered = journeys.delivered.as_slice();
-    let made = journeys.made.as_slice();
-    let taken = journeys.taken.as_slice();
+    let (sent, delivered) = (journeys.sent.as_slice(), journeys.delivered.as_slice());
+    let (made, taken) = (journeys.made.as_slice(), journeys.taken.as_slice());
     Ok(Travel {
         never_delivered: never(sent, delivered),
         delivered_again: again(delivered),
@@ -112,25 +110,39 @@ fn journeys_in(alloc: Global, trace: &Trace) -> Result<Journeys, AllocError> {
         made: Vec::new(alloc),
         taken: Vec::new(alloc),
     };
-    for entry in trace.firmware.as_slice() {
-        if let FwReply::Out(outcome) = &entry.reply
-            && let Some(message) = &outcome.message
-        {
-            journeys.sent.push(*message)?;
-        }
-        if let FwCall::Take(ack) = &entry.call {
-            journeys.taken.push(ack.copy())?;
-        }
-    }
-    for entry in trace.controller.as_slice() {
-        if let CtlCall::Deliver(message) = &entry.call {
-            journeys.delivered.push(*message)?;
-        }
-        if let CtlReply::Delivery(Delivery::Applied(ack)) = &entry.reply {
-            journeys.made.push(ack.copy())?;
-        }
-    }
+    journeys.follow_firmware(trace.firmware.as_slice())?;
+    journeys.follow_controller(trace.controller.as_slice())?;
     Ok(journeys)
+}
+
+impl Journeys {
+    /// What the firmware sent and took.
+    fn follow_firmware(&mut self, entries: &[FwEntry]) -> Result<(), AllocError> {
+        for entry in entries {
+            if let FwReply::Out(outcome) = &entry.reply
+                && let Some(message) = &outcome.message
+            {
+                self.sent.push(*message)?;
+            }
+            if let FwCall::Take(ack) = &entry.call {
+                self.taken.push(ack.copy())?;
+            }
+        }
+        Ok(())
+    }
+
+    /// What was delivered to the power controller, and what it acknowledged.
+    fn follow_controller(&mut self, entries: &[CtlEntry]) -> Result<(), AllocError> {
+        for entry in entries {
+            if let CtlCall::Deliver(message) = &entry.call {
+                self.delivered.push(*message)?;
+            }
+            if let CtlReply::Delivery(Delivery::Applied(ack)) = &entry.reply {
+                self.made.push(ack.copy())?;
+            }
+        }
+        Ok(())
+    }
 }
 
 /// How many of the first are none of the others.

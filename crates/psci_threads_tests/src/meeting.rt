@@ -1,6 +1,6 @@
 //! A gate at which two cores meet.
 
-use psci_threads::{Core, Gate};
+use psci_bench::{Core, Gate};
 use std::sync::atomic::{AtomicBool, Ordering};
 use std::thread;
 

@@ -1,7 +1,7 @@
 //! A body without threads, which makes the first two calls of cores 0 and 1.
 
+use psci_bench::{BenchFault, Core, Gate};
 use psci_fw::Regs;
-use psci_threads::{BenchFault, Core, Gate};
 use psci_world::{Event, Place, World};
 
 /// One core of the body, and how many calls it has made.

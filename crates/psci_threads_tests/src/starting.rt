@@ -1,6 +1,6 @@
 //! The start of a run that is over before all threads have looked.
 
-use psci_threads::{BenchFault, Wire};
+use psci_bench::{BenchFault, Wire};
 use std::alloc::Global;
 
 /// Whether a thread starts that comes when the run is to end already, where so many workers are to

@@ -51,18 +51,17 @@ pub fn standings_on(root: &Domain, board: &Board, core: Core, way: &Way) -> Stan
         ≡ (kept_on_path root.now board.now.levels core.number level d).known }
 {
     let height = board.height();
-    let mut standings = Standings {
-        lows: [root.kept.lows[height as usize]; MOST_ON_PATH],
-        known: [root.kept.known; MOST_ON_PATH],
-    };
+    // In rooms of their own: whoever looks at one of them alone has the other one not written.
+    let mut lows = [root.kept.lows[height as usize]; MOST_ON_PATH];
+    let mut known = [root.kept.known; MOST_ON_PATH];
     let mut own = root;
     for step in 0..height {
         let below = (height - 1 - step) as usize;
         own = &own.children[way.numbers[below] as usize];
-        standings.lows[below] = own.kept.lows[below];
-        standings.known[below] = own.kept.known;
+        lows[below] = own.kept.lows[below];
+        known[below] = own.kept.known;
     }
-    standings
+    Standings { lows, known }
 }
 
 /// Puts a core to which this way leads into another state, and what each domain on its path keeps.

@@ -178,6 +178,25 @@ impl Tree {
         }
     }
 
+    /// The sum of the known starts of the cores below each domain on the path of a core, each at
+    /// the place of its level.
+    pub fn known_on(&self, core: Core) -> [u64; MOST_ON_PATH]
+        requires { core.number < size_below self.now.levels }
+        ensures { (level : ℕ) → level ≤ length self.now.levels → slice_index result level
+            ≡ known self.now (on_path self.now.levels core.number level) }
+    {
+        self.standings(core).known
+    }
+
+    /// The place of each domain on the path of a core in its level, by the level.
+    pub fn places(&self, core: Core) -> [u16; MOST_ON_PATH]
+        requires { core.number < size_below self.now.levels }
+        ensures { (level : ℕ) → level ≤ length self.now.levels → slice_index result level
+            ≡ (on_path self.now.levels core.number level).place }
+    {
+        self.ways[core.number as usize].places
+    }
+
     /// The granted depth of a domain.
     pub fn granted(&self, node: Node) -> u8
         requires { HasNodeIn self.now.levels node }

@@ -2,8 +2,8 @@
 use Rattle.std.proofs.Common.{◌≡◌, ◌<◌, ◌+◌, ◌-◌, ℕ, suc, zero, true, false, List, refl, ap}
 use Rattle.std.proofs.Common.{sym, ◌∙◌, arith}
 use Rattle.psci_machine.specs.psci_board.Board.{BoardValue, height}
-use Rattle.psci_settle.specs.Settling.{Reached, all_cores, served, begun, each_core, entering}
-use Rattle.psci_settle.specs.Settling.{is_any, is_start, is_waiting, round, rounds, settled}
+use Rattle.psci_headline.specs.Settling.{Reached, all_cores, served, begun, each_core, entering}
+use Rattle.psci_headline.specs.Settling.{is_any, is_start, is_waiting, round, rounds, settled}
 use Rattle.psci_machine.specs.psci_world_spec.declared.said.Record.{Record}
 
 entered : BoardValue → List Record → List Record

@@ -7,9 +7,9 @@ use Rattle.std.specs.List.{range_with_len}
 use Rattle.std.specs.Prelude.{if◌then◌else◌}
 use Rattle.psci_machine.specs.psci_board.Board.{BoardValue, height}
 use Rattle.psci_machine.specs.psci_world_spec.psci_messages.declared.kind.Kind.{Kind}
-use Rattle.psci_settle.specs.Settling.{Reached, all_cores, served, serving, begun, each_core}
-use Rattle.psci_settle.specs.Settling.{entering, is_any, is_start, is_started, is_waiting, round}
-use Rattle.psci_settle.specs.Settling.{rounds, settled, step}
+use Rattle.psci_headline.specs.Settling.{Reached, all_cores, served, serving, begun, each_core}
+use Rattle.psci_headline.specs.Settling.{entering, is_any, is_start, is_started, is_waiting, round}
+use Rattle.psci_headline.specs.Settling.{rounds, settled, step}
 use Rattle.psci_world.proofs.Settles.{each_more}
 use Rattle.psci_world.specs.Settles.{IsOnTheWay}
 use Rattle.psci_machine.specs.psci_world_spec.declared.event.Event.{Event}

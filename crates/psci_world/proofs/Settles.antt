@@ -5,8 +5,8 @@ use Rattle.std.proofs.Common.{refl, ap, sym, ◌∙◌, subst, arith}
 use Rattle.std.proofs.lemmas.List.Elements.{All-append, All-nil}
 use Rattle.std.specs.List.{AllPass, range_with_len}
 use Rattle.psci_machine.specs.psci_board.Board.{BoardValue}
-use Rattle.psci_settle.specs.Drained.{is_settling}
-use Rattle.psci_settle.specs.Settling.{each_core, step}
+use Rattle.psci_headline.specs.Drained.{is_settling}
+use Rattle.psci_headline.specs.Settling.{each_core, step}
 use Rattle.psci_world.specs.Settles.{SettlesBy}
 use Rattle.psci_machine.specs.psci_world_spec.declared.event.Event.{Event}
 use Rattle.psci_machine.specs.psci_world_spec.declared.said.Record.{Record}

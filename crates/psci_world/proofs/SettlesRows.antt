@@ -5,7 +5,7 @@ use Rattle.std.proofs.Common.{◌≡◌, ◌≤◌, ◌+◌, ◌++◌, ◌&&◌,
 use Rattle.std.proofs.Common.{length-append, refl, arith, ap, ◌∙◌}
 use Rattle.std.specs.List.{list_all}
 use Rattle.psci_machine.specs.psci_world_spec.psci_messages.declared.kind.Kind.TheVariants as kinds
-use Rattle.psci_settle.specs.Drained.{is_settling}
+use Rattle.psci_headline.specs.Drained.{is_settling}
 use Rattle.psci_world.specs.declared.outstanding.Which.TheVariants.{All, Starts}
 use Rattle.psci_world.specs.declared.settling.Settled.{Settled}
 use Rattle.psci_world.specs.declared.settling.Settled.TheVariants.{Halting, Quiet}

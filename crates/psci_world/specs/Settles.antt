@@ -3,8 +3,8 @@ use Rattle.std.specs.Prelude.{◌≡◌, ℕ, Bool, List, ◌++◌}
 use Rattle.std.specs.List.{AllPass}
 use Rattle.psci_machine.specs.psci_board.Board.{BoardValue}
 use Rattle.psci_machine.specs.psci_world_spec.psci_messages.declared.kind.Kind.{Kind}
-use Rattle.psci_settle.specs.Drained.{IsSettled, is_settling}
-use Rattle.psci_settle.specs.Settling.{is_any, is_start}
+use Rattle.psci_headline.specs.Drained.{IsSettled, is_settling}
+use Rattle.psci_headline.specs.Settling.{is_any, is_start}
 use Rattle.psci_world.specs.declared.outstanding.Which.{Which}
 use Rattle.psci_world.specs.declared.outstanding.Which.TheVariants.{Starts, All}
 use Rattle.psci_world.specs.declared.settling.Settled.{Settled}

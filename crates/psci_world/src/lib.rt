@@ -5,7 +5,7 @@
 //! - The *world* is the present with its past, all records so far.
 //! - A message is *outstanding* while the firmware waits for its acknowledgement.
 //! - To *answer* a message is to deliver it, and to take its acknowledgement. What settling is, and
-//!   why it ends, are `psci_settle`'s.
+//!   why it ends, are `psci_headline`'s.
 #![tactic(auto)]
 
 mod outstanding;

@@ -4,7 +4,7 @@ ghost use Rattle.std.specs.Prelude.{◌≡◌, ◌<◌, None, if◌then◌else�
 ghost use Rattle.std.specs.Prelude.{reverse};
 ghost use Rattle.psci_machine.specs.psci_board.Board.{cores};
 ghost use Rattle.psci_machine.specs.psci_world_spec.psci_messages.Slots.{OfCore};
-ghost use Rattle.psci_settle.specs.Settling.{has_name, is_waiting, index_of};
+ghost use Rattle.psci_headline.specs.Settling.{has_name, is_waiting, index_of};
 ghost use Rattle.psci_world.specs.Settles.{serves_kind};
 ghost use Rattle.psci_machine.specs.psci_world_spec.Histories.{firmware_values, sent};
 

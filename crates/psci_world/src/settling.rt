@@ -2,16 +2,16 @@
 
 ghost use Rattle.std.specs.Prelude.{◌≡◌, ◌<◌, ◌+◌, true, false, IfOk, Ok, OnErr, OnOk};
 ghost use Rattle.psci_machine.specs.psci_board.Board.{cores, height};
-ghost use Rattle.psci_settle.specs.Drained.{is_settling};
-ghost use Rattle.psci_settle.specs.Settling.{all_cores, served, serving, begun, each_core};
-ghost use Rattle.psci_settle.specs.Settling.{entering, is_halting, rounds, settled, step};
+ghost use Rattle.psci_headline.specs.Drained.{is_settling};
+ghost use Rattle.psci_headline.specs.Settling.{all_cores, served, serving, begun, each_core};
+ghost use Rattle.psci_headline.specs.Settling.{entering, is_halting, rounds, settled, step};
 ghost use Rattle.psci_world.specs.declared.settling.Settled.TheVariants.{Halting, Quiet};
 ghost use Rattle.psci_world.specs.Settles.{ComesToRest, IsOnTheWay, SettlesBy, serves_kind};
 
 use crate::outstanding::{Which, is_waiting, number_outstanding};
 use crate::world::World;
+use psci_headline::law_settles;
 use psci_machine::{Core, Event, Memory, Place};
-use psci_settle::law_settles;
 
 /// What became of a world that was to settle.
 #[derive(Clone, Copy, Debug, PartialEq, Eq)]

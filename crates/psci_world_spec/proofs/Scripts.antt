@@ -2,12 +2,12 @@
 use Rattle.std.proofs.Common.{◌≡◌, ℕ, zero, suc, ℤ, pos, negsuc, Bool, List, [], ◌∷◌, length}
 use Rattle.std.proofs.Common.{map, reverse, Option, None, Some}
 use Rattle.std.specs.List.{range_with_len}
-use Rattle.psci_fw_spec.specs.psci_abi.psci_format.declared.format.Format.TheVariants.{Original}
+use Rattle.psci_fw_spec.specs.psci_abi.declared.format.Format.TheVariants.{Original}
 use Rattle.psci_fw_spec.specs.psci_board.Board.{BoardValue, core_of, node_of, up}
-use Rattle.psci_fw_spec.specs.psci_claims.psci_parts.declared.part.Part.{Part}
-use Rattle.psci_fw_spec.specs.psci_claims.Claim.{claims_of}
-use Rattle.psci_fw_spec.specs.psci_claims.LastCore.{last_core_check, refusal, shallow, shallow_at}
-use Rattle.psci_fw_spec.specs.psci_claims.View.{generation, is_all_away, is_idle, least_ask}
+use Rattle.psci_fw_spec.specs.psci_messages.declared.part.Part.{Part}
+use Rattle.psci_fw_spec.specs.psci_messages.Claim.{claims_of}
+use Rattle.psci_fw_spec.specs.psci_messages.LastCore.{last_core_check, refusal, shallow, shallow_at}
+use Rattle.psci_fw_spec.specs.psci_messages.View.{generation, is_all_away, is_idle, least_ask}
 use Rattle.psci_fw_spec.specs.psci_messages.declared.start.Cause.{Cause}
 use Rattle.psci_ctl_spec.specs.Effects.{effect_of}
 use Rattle.psci_ctl_spec.specs.History as controls

@@ -2,7 +2,7 @@
 -- here. A theorem is named after the folder and the name of its script.
 use Rattle.psci_fw_spec.specs.psci_messages.declared.start.Cause.TheVariants as causes
 use Rattle.std.proofs.Common.{[], ◌∷◌, true, false, refl}
-use Rattle.psci_fw_spec.specs.psci_abi.psci_format.declared.format.Format.TheVariants.{Extended}
+use Rattle.psci_fw_spec.specs.psci_abi.declared.format.Format.TheVariants.{Extended}
 use Rattle.psci_fw_spec.specs.psci_messages.declared.kind.Kind.TheVariants.{Down, Start}
 use Rattle.psci_fw_spec.specs.psci_messages.declared.kind.Kind.TheVariants.{Reset as Restart}
 use Rattle.psci_world_spec.specs.declared.event.Event.TheVariants.{Enter, Wake, Deliver, Take}

@@ -4,7 +4,6 @@ pub mod Lists
 pub mod Places
 pub use Rattle.psci_fw_spec.specs.psci_abi
 pub use Rattle.psci_fw_spec.specs.psci_board
-pub use Rattle.psci_fw_spec.specs.psci_claims
 pub use Rattle.psci_fw_spec.specs.psci_messages
 pub use Rattle.psci_ctl_spec.specs as psci_ctl_spec
 pub use Rattle.psci_fw_spec.specs as psci_fw_spec

@@ -1,6 +1,6 @@
 use Rattle.std.proofs.Common.{◌≡◌, ◌∷◌, length, Some, sym, ap, ◌∙◌, arith, refl}
 use Rattle.psci_board.specs.Summary.{with_numbers}
-use Rattle.psci_text.specs.Reading.{number_at}
+use Rattle.psci_board.specs.ReadWords.{number_at}
 use Rattle.psci_board.specs.Reading.{more_at}
 use Rattle.psci_board.proofs.More.{number_shortens, literal_shortens, spaced_shortens, more_some}
 use Rattle.psci_board.proofs.More.{more_none, list_closed, list_unclosed}

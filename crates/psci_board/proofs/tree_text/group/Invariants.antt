@@ -1,6 +1,6 @@
 use Rattle.std.proofs.Common.{◌≡◌, ◌+◌, ◌≤◌, length}
 use Rattle.psci_board.specs.Summary.{with_numbers}
-use Rattle.psci_text.specs.Reading.{number_at}
+use Rattle.psci_board.specs.ReadWords.{number_at}
 use Rattle.psci_board.specs.Reading.{more_at}
 use Rattle.psci_board.proofs.tree_text.group.Given as goal
 

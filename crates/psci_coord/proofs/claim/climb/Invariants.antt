@@ -1,6 +1,6 @@
 -- The parts so far are those of the levels below.
 use Rattle.psci_coord.specs.Wish.{wanted}
-use Rattle.psci_claims.specs.Looked.{view_of}
+use Rattle.psci_messages.specs.Looked.{view_of}
 use Rattle.psci_coord.proofs.Climbing.{IsClimbedTo}
 use Rattle.psci_coord.proofs.claim.climb.Given as goal
 

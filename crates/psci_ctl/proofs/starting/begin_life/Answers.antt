@@ -1,4 +1,4 @@
-use Rattle.std.proofs.Common.{List, length, ap, sym, ◌∙◌, subst}
+use Rattle.std.proofs.Common.{List, length, ap, sym, ◌∙◌, subst, arith}
 use Rattle.psci_messages.specs.declared.start.Cause.TheVariants as causes
 use Rattle.psci_ctl_spec.specs.Changes.{with_start}
 use Rattle.psci_ctl.specs.declared.row.CoreRow.{CoreRow}
@@ -6,13 +6,17 @@ use Rattle.psci_ctl.specs.Rows.{HasSums, values_in}
 use Rattle.psci_ctl.proofs.Started.{begun_values, off_sums}
 use Rattle.psci_ctl.proofs.starting.begin_life.Goals as goal
 
-pub start_core-requires-clause-sums : goal.start_core-requires-clause-sums
-start_core-requires-clause-sums c =
+pub start_core-requires-clause-rows : goal.start_core-requires-clause-rows
+start_core-requires-clause-rows c =
     let b = c.args.board.now in
-    subst (λ (rows : List CoreRow). HasSums b rows c.turn_off.new.levels)
-    (sym c.forget_starts.ensures)
-    (off_sums b (length c.args.rows.now) c.turn_off.new.levels (c.law_sums.ensures b)
-    c.turn_off.ensures.rows)
+    record {
+      cores = omega (arith, c.requires.count, c.forget_starts.auto.cores);
+      shape = c.turn_off.ensures.shape;
+      sums = subst (λ (rows : List CoreRow). HasSums b rows c.turn_off.new.levels)
+          (sym c.forget_starts.ensures)
+          (off_sums b (length c.args.rows.now) c.turn_off.new.levels (c.law_sums.ensures b)
+          c.turn_off.ensures.rows);
+    }
 
 pub returns-clause-values : goal.returns-clause-values
 returns-clause-values c = λ life.

@@ -1,20 +1,12 @@
-use Rattle.std.proofs.Common.{◌≤◌, ◌<◌, ℕ, List, arith, ◌∙◌, ap, sym, subst, length}
+use Rattle.std.proofs.Common.{◌≤◌, ◌<◌, arith, ◌∙◌, ap, length, get_or}
 use Rattle.std.proofs.lemmas.Option.{slice_get-get_or}
-use Rattle.psci_board.specs.Board.{height, size_below}
-use Rattle.psci_claims.specs.psci_parts.declared.part.Part.{Part}
+use Rattle.psci_board.specs.Board.{height}
+use Rattle.psci_messages.specs.declared.part.Part.{Part}
 use Rattle.psci_tree.specs.Recount.{granted_at, is_confirmed_at}
-use Rattle.psci_fw_state.proofs.Granting.{laid_all, laid_more, may_grant, on_path, on_board}
+use Rattle.psci_fw_state.proofs.Granting.{laid_all, laid_more, may_grant, node_at, on_path}
+use Rattle.psci_fw_state.proofs.Granting.{on_board}
 use Rattle.psci_fw_state.proofs.Granting.{unconfirmed_all, unconfirmed_more}
 use Rattle.psci_fw_state.proofs.claim.grant_parts.Goals as goal
-
-pub on_path-node-requires : goal.on_path-node-requires
-on_path-node-requires c =
-    let b = c.args.board.now in
-    let levels = c.loop-level.invariant.levels ∙ c.requires.levels in record {
-      core = subst (λ (ws : List (List ℕ)). c.args.core.number < size_below ws) (sym levels)
-          c.requires.inside;
-      level = omega (arith, c.loop-level-test.true, c.requires.few, ap length levels);
-    }
 
 pub grant-requires-clause-domain : goal.grant-requires-clause-domain
 grant-requires-clause-domain c =
@@ -23,8 +15,10 @@ grant-requires-clause-domain c =
     let low : c.loop-level.level ≤ height b =
     omega (arith, c.loop-level-test.true, c.requires.few) in
     let levels = c.loop-level.invariant.levels ∙ c.requires.levels in
-    let node = on_board b c.loop-level.tree.levels c.args.core.number c.loop-level.level
-    c.on_path-node.result c.on_path-node.ensures levels in
+    let node = on_board b c.args.tree.now.levels c.args.core.number c.loop-level.level
+    (node_at c.loop-level.level (get_or c.places-places.result c.loop-level.level 0))
+    (ap (node_at c.loop-level.level) (c.places-places.ensures c.loop-level.level
+    (omega (arith, low, ap length c.requires.levels)))) c.requires.levels in
     rw node (on_path b c.loop-level.tree.levels c.args.core.number c.loop-level.level laws levels
     c.requires.inside low)
 
@@ -35,8 +29,10 @@ grant-requires-clause-depth c =
     let low : c.loop-level.level ≤ height b =
     omega (arith, c.loop-level-test.true, c.requires.few) in
     let levels = c.loop-level.invariant.levels ∙ c.requires.levels in
-    let node = on_board b c.loop-level.tree.levels c.args.core.number c.loop-level.level
-    c.on_path-node.result c.on_path-node.ensures levels in
+    let node = on_board b c.args.tree.now.levels c.args.core.number c.loop-level.level
+    (node_at c.loop-level.level (get_or c.places-places.result c.loop-level.level 0))
+    (ap (node_at c.loop-level.level) (c.places-places.ensures c.loop-level.level
+    (omega (arith, low, ap length c.requires.levels)))) c.requires.levels in
     let none : Part = record { level = 0; depth = 0; generation = 0 } in
     let part = slice_get-get_or c.args.parts.now c.loop-level.level none c.loop-level-test.true in
     rw node (may_grant b c.args.core.number c.args.parts.now (granted_at c.args.tree.now)
@@ -51,8 +47,10 @@ loop-level-preserved c =
     let low : c.loop-level.level ≤ height b =
     omega (arith, c.loop-level-test.true, c.requires.few) in
     let levels = c.loop-level.invariant.levels ∙ c.requires.levels in
-    let node = on_board b c.loop-level.tree.levels c.args.core.number c.loop-level.level
-    c.on_path-node.result c.on_path-node.ensures levels in
+    let node = on_board b c.args.tree.now.levels c.args.core.number c.loop-level.level
+    (node_at c.loop-level.level (get_or c.places-places.result c.loop-level.level 0))
+    (ap (node_at c.loop-level.level) (c.places-places.ensures c.loop-level.level
+    (omega (arith, low, ap length c.requires.levels)))) c.requires.levels in
     let none : Part = record { level = 0; depth = 0; generation = 0 } in
     let part = slice_get-get_or c.args.parts.now c.loop-level.level none c.loop-level-test.true in
     let has = on_path b c.loop-level.tree.levels c.args.core.number c.loop-level.level laws levels

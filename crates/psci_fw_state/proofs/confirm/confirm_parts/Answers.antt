@@ -4,12 +4,12 @@ use Rattle.std.proofs.Math.Nat.{min-le_left, min-le_right}
 use Rattle.std.proofs.lemmas.Option.{slice_get-get_or}
 use Rattle.psci_board.specs.Board.{HasNodeIn, height}
 use Rattle.psci_board.specs.declared.node.Node.{Node}
-use Rattle.psci_claims.specs.psci_parts.declared.part.Part.{Part}
+use Rattle.psci_messages.specs.declared.part.Part.{Part}
 use Rattle.psci_tree.specs.Standing.{on_path as path_node}
 use Rattle.psci_tree.specs.Recount.{granted_at, is_confirmed_at, known}
 use Rattle.psci_fw_spec.specs.Confirmed.{is_made_at}
 use Rattle.psci_fw_state.proofs.Confirming.{confirmed_all, confirmed_more, known_stays}
-use Rattle.psci_fw_state.proofs.Granting.{on_board, on_path}
+use Rattle.psci_fw_state.proofs.Granting.{node_at, on_board, on_path}
 use Rattle.psci_fw_state.proofs.confirm.confirm_parts.Goals as goal
 
 pub confirm_last-requires-clause-domain : goal.confirm_last-requires-clause-domain
@@ -17,8 +17,6 @@ confirm_last-requires-clause-domain c =
     let b = c.args.board.now in
     let laws = c.law_paths.ensures b c.requires.board in
     let levels = c.loop-level.invariant.levels ∙ c.requires.levels in
-    let node = on_board b c.loop-level.tree.levels c.args.core.number c.loop-level.level
-    c.on_path-node.result c.on_path-node.ensures levels in
     let low : c.loop-level.level ≤ height b = omega (
       arith,
       c.loop-level-test.true,
@@ -26,6 +24,15 @@ confirm_last-requires-clause-domain c =
       min-le_right (length c.args.parts.now) (c.height.result + 1),
       c.height.ensures.height,
     ) in
+    let here : Node =
+    node_at c.loop-level.level (get_or c.places-places.result c.loop-level.level 0) in
+    let placed : here ≡ path_node c.loop-level.tree.levels c.args.core.number c.loop-level.level =
+    ap (node_at c.loop-level.level) (c.places-places.ensures c.loop-level.level
+    (omega (arith, low, ap length c.requires.levels)))
+    ∙ ap (λ ls. path_node ls c.args.core.number c.loop-level.level)
+    (sym c.loop-level.invariant.levels) in
+    let node = on_board b c.loop-level.tree.levels c.args.core.number c.loop-level.level
+    _ placed levels in
     subst (HasNodeIn c.loop-level.tree.levels) (sym node) (on_path b c.loop-level.tree.levels
     c.args.core.number c.loop-level.level laws levels
     (omega (arith, c.if-core-cores.false, c.cores.ensures.cores)) low)
@@ -40,21 +47,26 @@ confirm_last-requires-clause-known c =
       min-le_right (length c.args.parts.now) (c.height.result + 1),
       c.height.ensures.height,
     ) in
-    c.standings-standings.ensures.known c.loop-level.level
+    let here : Node =
+    node_at c.loop-level.level (get_or c.places-places.result c.loop-level.level 0) in
+    let placed : here ≡ path_node c.loop-level.tree.levels c.args.core.number c.loop-level.level =
+    ap (node_at c.loop-level.level) (c.places-places.ensures c.loop-level.level
+    (omega (arith, low, ap length c.requires.levels)))
+    ∙ ap (λ ls. path_node ls c.args.core.number c.loop-level.level)
+    (sym c.loop-level.invariant.levels) in
+    c.known_on-known.ensures c.loop-level.level
     (omega (arith, low, ap length c.requires.levels))
     ∙ ap (λ ls. known c.args.tree.now (path_node ls c.args.core.number c.loop-level.level))
     (sym c.loop-level.invariant.levels)
     ∙ known_stays b c.args.core.number c.args.parts.now c.args.tree.now c.loop-level.tree
     c.loop-level.level _ c.loop-level.invariant c.requires.levels
-    ∙ ap (known c.loop-level.tree) (sym c.on_path-node.ensures)
+    ∙ ap (known c.loop-level.tree) (sym placed)
 
 pub loop-level-preserved : goal.loop-level-preserved
 loop-level-preserved c =
     let b = c.args.board.now in
     let laws = c.law_paths.ensures b c.requires.board in
     let levels = c.loop-level.invariant.levels ∙ c.requires.levels in
-    let node = on_board b c.loop-level.tree.levels c.args.core.number c.loop-level.level
-    c.on_path-node.result c.on_path-node.ensures levels in
     let low : c.loop-level.level ≤ height b = omega (
       arith,
       c.loop-level-test.true,
@@ -62,15 +74,24 @@ loop-level-preserved c =
       min-le_right (length c.args.parts.now) (c.height.result + 1),
       c.height.ensures.height,
     ) in
-    let known_is : get_or c.standings-standings.result.known c.loop-level.level 0
-    ≡ known c.loop-level.tree c.on_path-node.result =
-    c.standings-standings.ensures.known c.loop-level.level
+    let here : Node =
+    node_at c.loop-level.level (get_or c.places-places.result c.loop-level.level 0) in
+    let placed : here ≡ path_node c.loop-level.tree.levels c.args.core.number c.loop-level.level =
+    ap (node_at c.loop-level.level) (c.places-places.ensures c.loop-level.level
+    (omega (arith, low, ap length c.requires.levels)))
+    ∙ ap (λ ls. path_node ls c.args.core.number c.loop-level.level)
+    (sym c.loop-level.invariant.levels) in
+    let node = on_board b c.loop-level.tree.levels c.args.core.number c.loop-level.level
+    _ placed levels in
+    let known_is : get_or c.known_on-known.result c.loop-level.level 0
+    ≡ known c.loop-level.tree here =
+    c.known_on-known.ensures c.loop-level.level
     (omega (arith, low, ap length c.requires.levels))
     ∙ ap (λ ls. known c.args.tree.now (path_node ls c.args.core.number c.loop-level.level))
     (sym c.loop-level.invariant.levels)
     ∙ known_stays b c.args.core.number c.args.parts.now c.args.tree.now c.loop-level.tree
     c.loop-level.level _ c.loop-level.invariant c.requires.levels
-    ∙ ap (known c.loop-level.tree) (sym c.on_path-node.ensures) in
+    ∙ ap (known c.loop-level.tree) (sym placed) in
     let unused : Part = record { level = 0; depth = 0; generation = 0 } in
     let part : Part = get_or c.args.parts.now c.loop-level.level unused in
     let inside : c.loop-level.level < length c.args.parts.now = omega (
@@ -87,7 +108,7 @@ loop-level-preserved c =
     ((n.level == l) && (n.place == p)) && (nat_lt 0 (granted_at c.loop-level.tree n.level n.place)
     && is_made_at k (Some part)) in
     c.confirm_last.ensures.confirmed l p
-    ∙ ap (λ k. cond (made k c.on_path-node.result) true (is_confirmed_at c.loop-level.tree l p))
+    ∙ ap (λ k. cond (made k here) true (is_confirmed_at c.loop-level.tree l p))
     known_is
     ∙ ap (λ (n : Node). cond (made (known c.loop-level.tree n) n) true
     (is_confirmed_at c.loop-level.tree l p)) node)

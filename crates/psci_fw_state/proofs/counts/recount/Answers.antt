@@ -1,14 +1,25 @@
-use Rattle.std.proofs.Common.{◌≡◌, ℕ, List, arith, ap, map, refl, ◌∙◌}
+use Rattle.std.proofs.Common.{◌≡◌, ℕ, List, arith, ap, map, refl, length, get_or, ◌∙◌}
+use Rattle.std.proofs.Common.{◌<◌}
+use Rattle.psci_board.specs.declared.node.Node.{Node}
 use Rattle.std.proofs.lemmas.Bool.{eq-eqb, ne_eqb}
+use Rattle.std.proofs.lemmas.List.{get_or_default}
 use Rattle.psci_board.specs.Board.{BoardValue}
 use Rattle.psci_tree.specs.Standing.{on_path as on_path_of}
 use Rattle.psci_fw_spec.specs.declared.status.Status.{Status}
 use Rattle.psci_fw_spec.specs.Values.{updated}
 use Rattle.psci_fw_state.specs.declared.row.CoreRow.{CoreRow}
 use Rattle.psci_fw_state.specs.Counts.{one_core}
-use Rattle.psci_fw_state.specs.Rows.{status_at}
+use Rattle.psci_fw_state.specs.Rows.{off_row, status_at}
 use Rattle.psci_fw_state.proofs.KeptCounts.{turn_may, turn_more, turn_place}
 use Rattle.psci_fw_state.proofs.counts.recount.Goals as goal
+
+abbrev node_at : ℕ → ℕ → Node
+node_at level place = record { level = level; place = place }
+
+status_in : (rows : List CoreRow) (core : ℕ) (r : CoreRow) → core < length rows
+    → (get_or rows core r).status ≡ status_at rows core
+status_in rows core r inside =
+    ap (λ (x : CoreRow). x.status) (get_or_default rows core r off_row inside)
 
 here : (f : ℕ → Status) (core : ℕ) (s : Status) → s ≡ updated f core s core
 here f core s = let at = eq-eqb core core refl in rw at refl
@@ -26,13 +37,23 @@ recount_domain-requires-clause-place c =
     (c.law_paths.ensures b c.requires.board) c.requires.board.tree c.requires.inside
     (beside now core c.args.before) (map (λ v. v.items) c.loop-level.counts) c.loop-level.level
     (omega arith) (omega (arith, c.loop-level-test.true, c.height-level-end.ensures.height))
-    c.loop-level.invariant c.on_path-node.result
-    (c.on_path-node.ensures
+    c.loop-level.invariant
+    (node_at c.loop-level.level (get_or c.places-places.result c.loop-level.level 0))
+    (ap (node_at c.loop-level.level) (c.places-places.ensures c.loop-level.level (omega (
+      arith,
+      c.loop-level-test.true,
+      c.height-level-end.ensures.height,
+      ap length c.requires.levels,
+    )))
     ∙ ap (λ (ws : List (List ℕ)). on_path_of ws core c.loop-level.level) c.requires.levels)
     c.of_core-had.result c.of_core-has.result
     (c.of_core-had.ensures ∙ ap one_core (here now core c.args.before))
     (c.of_core-has.ensures
-    ∙ ap (λ (r : CoreRow). one_core r.status) c.row_of-after.ensures)
+    ∙ ap one_core (status_in c.args.rows.now core _ (omega (
+      arith,
+      c.requires.inside,
+      c.requires.rows,
+    ))))
 
 pub recount_domain-requires-clause-may : goal.recount_domain-requires-clause-may
 recount_domain-requires-clause-may c =
@@ -43,13 +64,23 @@ recount_domain-requires-clause-may c =
     (c.law_paths.ensures b c.requires.board) c.requires.board.tree c.requires.inside
     (beside now core c.args.before) (map (λ v. v.items) c.loop-level.counts) c.loop-level.level
     (omega arith) (omega (arith, c.loop-level-test.true, c.height-level-end.ensures.height))
-    c.loop-level.invariant c.on_path-node.result
-    (c.on_path-node.ensures
+    c.loop-level.invariant
+    (node_at c.loop-level.level (get_or c.places-places.result c.loop-level.level 0))
+    (ap (node_at c.loop-level.level) (c.places-places.ensures c.loop-level.level (omega (
+      arith,
+      c.loop-level-test.true,
+      c.height-level-end.ensures.height,
+      ap length c.requires.levels,
+    )))
     ∙ ap (λ (ws : List (List ℕ)). on_path_of ws core c.loop-level.level) c.requires.levels)
     c.of_core-had.result c.of_core-has.result
     (c.of_core-had.ensures ∙ ap one_core (here now core c.args.before))
     (c.of_core-has.ensures
-    ∙ ap (λ (r : CoreRow). one_core r.status) c.row_of-after.ensures)
+    ∙ ap one_core (status_in c.args.rows.now core _ (omega (
+      arith,
+      c.requires.inside,
+      c.requires.rows,
+    ))))
 
 pub loop-level-preserved : goal.loop-level-preserved
 loop-level-preserved c =
@@ -60,11 +91,21 @@ loop-level-preserved c =
     (c.law_paths.ensures b c.requires.board) c.requires.board.tree c.requires.inside
     (beside now core c.args.before) (map (λ v. v.items) c.loop-level.counts) c.loop-level.level
     (omega arith) (omega (arith, c.loop-level-test.true, c.height-level-end.ensures.height))
-    c.loop-level.invariant c.on_path-node.result
-    (c.on_path-node.ensures
+    c.loop-level.invariant
+    (node_at c.loop-level.level (get_or c.places-places.result c.loop-level.level 0))
+    (ap (node_at c.loop-level.level) (c.places-places.ensures c.loop-level.level (omega (
+      arith,
+      c.loop-level-test.true,
+      c.height-level-end.ensures.height,
+      ap length c.requires.levels,
+    )))
     ∙ ap (λ (ws : List (List ℕ)). on_path_of ws core c.loop-level.level) c.requires.levels)
     c.of_core-had.result c.of_core-has.result
     (c.of_core-had.ensures ∙ ap one_core (here now core c.args.before))
     (c.of_core-has.ensures
-    ∙ ap (λ (r : CoreRow). one_core r.status) c.row_of-after.ensures)
+    ∙ ap one_core (status_in c.args.rows.now core _ (omega (
+      arith,
+      c.requires.inside,
+      c.requires.rows,
+    ))))
     (map (λ v. v.items) c.recount_domain.new.counts) c.recount_domain.ensures

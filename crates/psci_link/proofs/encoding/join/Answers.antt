@@ -4,11 +4,11 @@ use Rattle.std.proofs.lemmas.Grind.{common_steps}
 use Rattle.std.proofs.lemmas.List.Elements.{All-more, All-same, recursion_from_All}
 use Rattle.std.proofs.lemmas.List.{take_all}
 use Rattle.psci_link.specs.Frame.{part_fields}
-use Rattle.psci_messages.proofs.Parts.{level-of}
+use Rattle.psci_messages.proofs.PartLevels.{level-of}
 use Rattle.psci_link.proofs.encoding.join.Goals as goal
 
-pub part_bytes-requires : goal.part_bytes-requires
-part_bytes-requires c =
+pub put_part-requires-clause-level : goal.put_part-requires-clause-level
+put_part-requires-clause-level c =
     let level = level-of 0 c.args.parts.now c.loop-part.part-index
     (record { level = 0; depth = 0; generation = 0 }) c.requires.levels (omega arith) in
     omega (arith, level, c.requires.few)
@@ -19,7 +19,7 @@ loop-part-preserved c = record {
   bytes = grind (arith, common_steps);
   fits = All-more (λ part. part.generation < 2 ^ 64) c.args.parts.now c.loop-part.part-index
       (record { level = 0; depth = 0; generation = 0 })
-      (omega arith) c.loop-part.invariant.fits c.part_bytes.ensures.fits;
+      (omega arith) c.loop-part.invariant.fits c.put_part.ensures.fits;
 }
 
 pub returns-clause-fits : goal.returns-clause-fits

@@ -1,7 +1,7 @@
 -- Each child adds its reason.
 use Rattle.std.proofs.Common.{◌∙◌, sym, ap, refl, arith}
-use Rattle.psci_claims.specs.Looked.{view_of}
-use Rattle.psci_claims.specs.LastCore.{refusal}
+use Rattle.psci_messages.specs.Looked.{view_of}
+use Rattle.psci_messages.specs.LastCore.{refusal}
 use Rattle.psci_osi.specs.Worse.{worse}
 use Rattle.psci_osi.proofs.Gathered.{child-refusal-more}
 use Rattle.psci_osi.proofs.Refusals.{child_refuses}

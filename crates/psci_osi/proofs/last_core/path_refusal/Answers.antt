@@ -1,8 +1,8 @@
 -- Each level adds the reason of its shallow domains.
 use Rattle.std.proofs.Common.{◌≡◌, ◌∙◌, ◌+◌, ℕ, ap, refl, arith}
 use Rattle.psci_board.specs.Board.{height}
-use Rattle.psci_claims.specs.Looked.{view_of}
-use Rattle.psci_claims.specs.LastCore.{refusal, shallow}
+use Rattle.psci_messages.specs.Looked.{view_of}
+use Rattle.psci_messages.specs.LastCore.{refusal, shallow}
 use Rattle.psci_osi.proofs.Gathered.{shallow_to, path-refusal-more, tree-at}
 use Rattle.psci_osi.proofs.last_core.path_refusal.Goals as goal
 

@@ -1,7 +1,7 @@
 -- Below each domain so far every core is off.
 use Rattle.std.proofs.Common.{◌≡◌, ℕ, ◌≤◌, ◌+◌}
-use Rattle.psci_claims.specs.Claim.{off_wish}
-use Rattle.psci_claims.specs.Looked.{view_of}
+use Rattle.psci_messages.specs.Claim.{off_wish}
+use Rattle.psci_messages.specs.Looked.{view_of}
 use Rattle.psci_osi.proofs.off.highest_off.Given as goal
 
 abbrev pub invariant-loop-level : goal.invariant-loop-level

@@ -1,7 +1,7 @@
 -- Power-down as far up as all is off.
 use Rattle.std.proofs.Common.{◌∙◌, ap}
-use Rattle.psci_claims.specs.Claim.{own_claims}
-use Rattle.psci_claims.specs.Looked.{view_of}
+use Rattle.psci_messages.specs.Claim.{own_claims}
+use Rattle.psci_messages.specs.Looked.{view_of}
 use Rattle.psci_osi.proofs.Climbs.{own-off}
 use Rattle.psci_osi.proofs.off.off_ask.Goals as goal
 

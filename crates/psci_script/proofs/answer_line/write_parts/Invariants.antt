@@ -5,11 +5,11 @@ use Rattle.psci_script.proofs.answer_line.write_parts.Given as goal
 
 -- the last parts are written
 abbrev pub invariant-loop-left : goal.invariant-loop-left
-invariant-loop-left l = (l.left ≤ length l.fn.parts)
+invariant-loop-left l = (l.left ≤ length l.parts)
     × (l.start ≤ l.fn.end)
-    × (l.fn.end ≤ l.start + (length l.fn.parts - l.left) * 63)
+    × (l.fn.end ≤ l.start + (length l.parts - l.left) * 63)
     × (drop l.start l.room
-    ≡ flat_map part_text (drop l.left l.fn.parts) ++ drop l.fn.end l.fn.room)
+    ≡ flat_map part_text (drop l.left l.parts) ++ drop l.fn.end l.fn.room)
 
 abbrev pub decreases-loop-left : goal.decreases-loop-left
 decreases-loop-left l = l.left

@@ -79,11 +79,3 @@ returns-clause-ok g c = λ first before k.
     (subst (λ (u : List ℕ). BoardRead (Ok b) (take x.line u)) c.unread.ensures.bytes
     (c.in_ok-board.ensures {u = tt}))
     is.told is.events)
-
-pub returns-clause-count : goal.returns-clause-count
-returns-clause-count g c =
-    let s = progress_of g.S.Source.left g.K.Sink.taken c.args.progress.now in
-    let t = progress_of g.S.Source.left g.K.Sink.taken c.next_line.new.self in
-    let f = finds_as c.in_ok-extent.field-0 (Some c.in-Some.extent) 1 s t c.in-Some.is
-    (c.in_ok-extent.ensures {u = tt}).found in
-    (c.in_ok-teller.ensures {u = tt}).events ∙ f.0.events

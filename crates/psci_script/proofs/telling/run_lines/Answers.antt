@@ -1,5 +1,5 @@
 -- What stands before the script, its board and its lines are told one after another.
-use Rattle.std.proofs.Common.{◌∙◌}
+use Rattle.std.proofs.Common.{arith}
 use Rattle.psci_script.proofs.telling.run_lines.Goals as goal
 
 pub returns-clause-runs : goal.returns-clause-runs
@@ -9,4 +9,5 @@ returns-clause-runs g c =
 
 pub tell_lines-requires : goal.tell_lines-requires
 tell_lines-requires g c =
-    (c.in_ok-teller.ensures {u = tt}).count ∙ (c.in_ok-open.ensures {u = tt}).ok.events
+    let u = (c.in_ok-teller.ensures {u = tt}).ok _ _ (c.in_ok-open.ensures {u = tt}).ok in
+    omega (arith, u.few, u.goes.events)

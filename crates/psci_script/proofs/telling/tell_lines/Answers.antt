@@ -26,7 +26,7 @@ returns-in_err-take_line-clause-runs g c = λ form first before k.
     (l.lines + 1) _ _ c.in-Some.is (c.in_ok-extent.ensures {u = tt}).found in
     runs_so told c.from_residual-in_err-take_line.result c.in_err-take_line.field-0.0 _ _ _
     c.from_residual-in_err-take_line.ensures
-    ((c.in_err-take_line.ensures {u = tt}).err form first before
+    ((c.in_err-take_line.ensures {u = tt}).err.1 form first before
     (way_ahead _ told l.lines first before _ _ f.0 (l.invariant.goes form first before k)))
 
 pub take_line-requires-clause-events : goal.take_line-requires-clause-events
@@ -47,14 +47,14 @@ lines-preserved g c =
         arith,
         l.invariant.count,
         f.0.events,
-        (c.in_ok-take_line.ensures {u = tt}).count,
+        (c.in_ok-take_line.ensures {u = tt}).ok.0,
       );
       devices = same_more l.invariant.devices (same_more c.next_line.ensures.devices
-          c.take_line.ensures.devices);
+          c.take_line.ensures.kept.devices);
       sound = sound_more _ _ l.invariant.sound (sound_more _ _
-          (c.in_ok-extent.ensures {u = tt}).sound c.take_line.ensures.sound);
+          (c.in_ok-extent.ensures {u = tt}).sound c.take_line.ensures.kept.sound);
       goes = λ form first before k.
-          (c.in_ok-take_line.ensures {u = tt}).ok form first before
+          (c.in_ok-take_line.ensures {u = tt}).ok.1 form first before
           (way_ahead _ (g.T.Teller.told form) l.lines first before _ _ f.0
           (l.invariant.goes form first before k));
     }

@@ -83,8 +83,8 @@ loop-step-preserved c =
     ∙ down.is d parent
     ∙ ap (λ x. get_or (domains_down (length levels - x) root) (place_above levels x core) d)
     (sym same) in
-    let lows : List ℕ = c.loop-step.standings.lows in
-    let sums : List ℕ = c.loop-step.standings.known in
+    let lows : List ℕ = c.loop-step.lows in
+    let sums : List ℕ = c.loop-step.known in
     let low : ℕ = get_or (out-Domain own).kept.lows m 0 in
     let sum : ℕ = (out-Domain own).kept.known in
     record {

@@ -12,12 +12,12 @@ invariant-loop-step l =
     let levels = l.board.levels in
     let core = l.fn.core.number in
     record {
-      lows-long : length l.standings.lows ≡ 4;
-      known-long : length l.standings.known ≡ 4;
+      lows-long : length l.lows ≡ 4;
+      known-long : length l.known ≡ 4;
       own : (k : ℕ) (d : Domain) → k + l.step ≡ length levels
           → l.own ≡ get_or (domains_down (length levels - k) l.root) (place_above levels k core) d;
       lows : (k : ℕ) (d : Domain) → k ≤ length levels → length levels ≤ k + l.step
-          → get_or l.standings.lows k 0 ≡ get_or (kept_on_path l.root levels core k d).lows k 0;
+          → get_or l.lows k 0 ≡ get_or (kept_on_path l.root levels core k d).lows k 0;
       known : (k : ℕ) (d : Domain) → k ≤ length levels → length levels ≤ k + l.step
-          → get_or l.standings.known k 0 ≡ (kept_on_path l.root levels core k d).known;
+          → get_or l.known k 0 ≡ (kept_on_path l.root levels core k d).known;
     }

@@ -3,7 +3,7 @@ use Rattle.std.proofs.Common.{◌∙◌, ◌<◌, ap, sym, arith}
 use Rattle.std.specs.Prelude.{is_some}
 use Rattle.psci_machine.specs.psci_board.Board.{cores}
 use Rattle.psci_machine.specs.psci_world_spec.psci_messages.Slots.{OfCore}
-use Rattle.psci_settle.specs.Settling.{is_waiting}
+use Rattle.psci_headline.specs.Settling.{is_waiting}
 use Rattle.psci_machine.specs.psci_world_spec.Histories.{firmware_values}
 use Rattle.psci_world.proofs.Waiting.{any_first, any_more, some_mapped}
 use Rattle.psci_world.proofs.outstanding.is_waiting.Goals as goal

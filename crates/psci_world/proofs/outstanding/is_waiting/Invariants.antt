@@ -4,7 +4,7 @@ use Rattle.std.specs.List.{list_any, range_with_len}
 use Rattle.std.specs.Prelude.{is_some}
 use Rattle.psci_machine.specs.psci_board.Board.{cores}
 use Rattle.psci_machine.specs.psci_world_spec.psci_messages.Slots.{OfCore}
-use Rattle.psci_settle.specs.Settling.{is_waiting}
+use Rattle.psci_headline.specs.Settling.{is_waiting}
 use Rattle.psci_machine.specs.psci_world_spec.Histories.{firmware_values}
 use Rattle.psci_world.proofs.outstanding.is_waiting.Given as goal
 

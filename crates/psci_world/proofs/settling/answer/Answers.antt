@@ -1,7 +1,7 @@
 -- Two events happened, or none.
 use Rattle.psci_world.proofs.Settles.{settles_both, settles_none}
 use Rattle.std.proofs.Common.{ℕ, Option, subst, sym}
-use Rattle.psci_settle.specs.Settling.{serving}
+use Rattle.psci_headline.specs.Settling.{serving}
 use Rattle.psci_world.specs.Settles.{IsOnTheWay}
 use Rattle.psci_world.proofs.OnTheWay.{on_err, stops_answering}
 use Rattle.psci_world.proofs.settling.answer.Goals as goal

@@ -1,7 +1,7 @@
 -- Core by core, and as far as it went.
 use Rattle.std.proofs.Common.{◌∙◌, ◌<◌, ap, refl, arith}
 use Rattle.psci_machine.specs.psci_board.Board.{cores}
-use Rattle.psci_settle.specs.Settling.{entering}
+use Rattle.psci_headline.specs.Settling.{entering}
 use Rattle.psci_world.proofs.Settles.{each_first, each_next, settles_both, settles_none}
 use Rattle.psci_world.proofs.OnTheWay.{on_err, stops_each, way_entering}
 use Rattle.psci_world.proofs.settling.enter_started.Goals as goal

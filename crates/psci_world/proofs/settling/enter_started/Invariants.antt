@@ -2,7 +2,7 @@
 use Rattle.std.proofs.Common.{◌≡◌, ◌-◌}
 use Rattle.std.specs.List.{range_with_len}
 use Rattle.psci_machine.specs.psci_board.Board.{cores}
-use Rattle.psci_settle.specs.Settling.{all_cores, each_core, entering}
+use Rattle.psci_headline.specs.Settling.{all_cores, each_core, entering}
 use Rattle.psci_world.specs.Settles.{SettlesBy}
 use Rattle.psci_world.proofs.settling.enter_started.Given as goal
 

@@ -1,7 +1,7 @@
 -- Round by round, and as far as it went.
 use Rattle.std.proofs.Common.{◌∙◌, ◌+◌, ap, refl, sym, arith}
 use Rattle.psci_machine.specs.psci_board.Board.{height}
-use Rattle.psci_settle.specs.Settling.{rounds}
+use Rattle.psci_headline.specs.Settling.{rounds}
 use Rattle.psci_world.proofs.Beginning.{round_more, rounds_done, rounds_first, rounds_over}
 use Rattle.psci_world.proofs.Settles.{settles_both, settles_none}
 use Rattle.psci_world.proofs.OnTheWay.{on_err, stops_round, way_to}

@@ -1,6 +1,6 @@
 -- The rounds that are left lead to what all of them do.
 use Rattle.std.proofs.Common.{◌≡◌, ◌-◌}
-use Rattle.psci_settle.specs.Settling.{rounds}
+use Rattle.psci_headline.specs.Settling.{rounds}
 use Rattle.psci_world.specs.Settles.{SettlesBy}
 use Rattle.psci_world.proofs.settling.make_rounds.Given as goal
 

@@ -1,5 +1,6 @@
 use Rattle.std.proofs.Common.{◌≤◌, length, ap, sym, subst, arith}
 use Rattle.psci_messages.specs.Message.{MessageValue, most_applied}
+use Rattle.psci_ctl.specs.declared.done.Done.{Done}
 use Rattle.psci_ctl.specs.Seen.{seen}
 use Rattle.psci_ctl.proofs.Applying.{applied_few}
 use Rattle.psci_ctl.proofs.controller.Controller.carry_out.Goals as goal
@@ -11,7 +12,7 @@ returns-in-Down-clause-most c =
     let four : c.take_down.result.applied ≤ 4 =
     omega (
       arith,
-      c.take_down.ensures.applied,
+      ap (λ (d : Done). d.applied) c.take_down.ensures.done,
       applied_few old.board (seen old) c.message.inside.core.number ps,
       ap length c.as_slice.ensures.parts,
       c.as_slice.ensures.few,

@@ -29,9 +29,9 @@ written c =
     let same : whole b c.self.inside.life c.self.inside.cores.items ds.items ≡ c.args.self.now =
     c.self.view_is in
     let low : k ≤ height b =
-    subst (λ (v : ControllerValue). k ≤ height v.board) (sym same) c.requires.level in
+    subst (λ (v : ControllerValue). k ≤ height v.board) (sym same) c.requires.node.level in
     let inside : place < nodes b k =
-    subst (λ (v : ControllerValue). place < nodes v.board k) (sym same) c.requires.place in
+    subst (λ (v : ControllerValue). place < nodes v.board k) (sym same) c.requires.node.place in
     let row : DomainRow = record {
       depth = c.args.depth;
       starts = c.domain.result.starts;
@@ -64,8 +64,8 @@ invariant_of-self c =
     c.args.node.place c.args.depth
     c.self.invariant is.shape is.deep c.requires.depth)
 
-pub returns-clause-values : goal.returns-clause-values
-returns-clause-values c =
+pub returns : goal.returns
+returns c =
     let is = written c in
     let b = c.self.inside.board in
     let o = c.self.inside.life in
@@ -73,6 +73,9 @@ returns-clause-values c =
     let ds = c.self.inside.domains.items in
     let new_ds = c.set_domain.new.levels in
     rw (← c.self.view_is, is.items)
-    (same_values (values_in o cs new_ds)
-    (record (values_in o cs ds) { depth = deepened c.args.node c.args.depth (depth_in ds) })
-    refl (λ k. refl) (λ k. refl) is.deep.depths)
+    (record {
+      board = refl;
+      values = same_values (values_in o cs new_ds)
+          (record (values_in o cs ds) { depth = deepened c.args.node c.args.depth (depth_in ds) })
+          refl (λ k. refl) (λ k. refl) is.deep.depths;
+    })

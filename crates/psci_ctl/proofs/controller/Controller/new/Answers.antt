@@ -19,8 +19,7 @@ invariant_of-result c =
     let are_ds : (with_items ds new_ds).items ≡ new_ds = with_items_is ds new_ds full_ds in
     rw (are_cs, are_ds)
     (begun_kept b 1 new_cs new_ds is (c.law_limits.ensures.first b is)
-    (full_cs ∙ cs.ok.0 ∙ c.in_ok-cores.ensures {u = tt})
-    c.begin_life.ensures.shape c.begin_life.ensures.sums c.begin_life.ensures.values)
+    c.begin_life.ensures.rows c.begin_life.ensures.values)
 
 pub returns-clause-values : goal.returns-clause-values
 returns-clause-values c =

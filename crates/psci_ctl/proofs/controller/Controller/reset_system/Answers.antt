@@ -1,4 +1,4 @@
-use Rattle.std.proofs.Common.{◌≡◌, ◌+◌, ◌<◌, length, Some, ap, ◌∙◌, arith}
+use Rattle.std.proofs.Common.{◌≡◌, ◌+◌, ◌<◌, length, Some, ap, ◌∙◌, arith, refl}
 use Rattle.std.specs.Vec.{with_items}
 use Rattle.std.proofs.lemmas.List.{with_items_is}
 use Rattle.psci_ctl.specs.Rows.{values_in}
@@ -26,11 +26,10 @@ invariant_of-self c =
     (begun_kept b (c.args.life + 1) new_cs new_ds is.board
     (next_kept b (values_in c.self.inside.life cs.items ds.items) c.args.life
     c.law_limits.ensures.change is.board is.values here low)
-    (full_cs ∙ cs.ok.0 ∙ is.cores)
-    c.begin_life.ensures.shape c.begin_life.ensures.sums c.begin_life.ensures.values)
+    c.begin_life.ensures.rows c.begin_life.ensures.values)
 
-pub returns-clause-values : goal.returns-clause-values
-returns-clause-values c =
+pub returns-clause-left : goal.returns-clause-left
+returns-clause-left c =
     let b = c.self.inside.board in
     let cs = c.self.inside.cores in
     let ds = c.self.inside.domains in
@@ -45,5 +44,8 @@ returns-clause-values c =
     let low : c.args.life < b.lives =
     omega (arith, c.if-life-life_limit.false, c.life_limit.ensures) in
     rw (← c.self.view_is, are_cs, are_ds)
-    (c.begin_life.ensures.values (Some (c.args.life + 1))
-    ∙ next_values b (values_in c.self.inside.life cs.items ds.items) c.args.life here low)
+    (record {
+      board = refl;
+      values = c.begin_life.ensures.values (Some (c.args.life + 1))
+          ∙ next_values b (values_in c.self.inside.life cs.items ds.items) c.args.life here low;
+    })

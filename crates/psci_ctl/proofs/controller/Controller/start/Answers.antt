@@ -1,5 +1,5 @@
 use Rattle.std.proofs.Common.{◌≡◌, ℕ, ◌+◌, ◌<◌, List, length, Option, ap, sym, ◌∙◌}
-use Rattle.std.proofs.Common.{subst}
+use Rattle.std.proofs.Common.{subst, refl}
 use Rattle.std.specs.Vec.{with_items}
 use Rattle.std.proofs.lemmas.List.{with_items_is}
 use Rattle.psci_board.specs.Board.{cores}
@@ -40,10 +40,21 @@ invariant_of-self c =
     (subst (λ (v : ControllerValue). core < cores v.board) (sym same) c.requires.core)
     (subst (λ (v : ControllerValue). (seen v).starts core < v.board.starts) (sym same)
     c.requires.more)
-    (full_cs ∙ cs.ok.0) c.start_core.ensures.shape c.start_core.ensures.sums values)
+    c.start_core.ensures.rows values)
 
-pub returns-clause-values : goal.returns-clause-values
-returns-clause-values c =
+pub start_core-requires-clause-rows : goal.start_core-requires-clause-rows
+start_core-requires-clause-rows c =
+    let is = c.self.invariant in
+    rw (c.deref_mut.ensures.value, c.deref_mut-2.ensures.value)
+    (record {
+      cores = is.cores;
+      shape = is.shape;
+      sums = is.sums c.args.life
+          (ap (λ (v : ControllerValue). v.life) c.self.view_is ∙ c.requires.life);
+    })
+
+pub returns-clause-left : goal.returns-clause-left
+returns-clause-left c =
     let b = c.self.inside.board in
     let cs = c.self.inside.cores in
     let ds = c.self.inside.domains in
@@ -62,7 +73,7 @@ returns-clause-values c =
     (values_in life xs c.deref_mut-2.result.now)) c.deref_mut.ensures.value
     ∙ ap (λ (xs : List (List DomainRow)). with_start b core c.args.cause
     (values_in life cs.items xs)) c.deref_mut-2.ensures.value in
-    rw (← c.self.view_is, are_cs, are_ds) values
+    rw (← c.self.view_is, are_cs, are_ds) (record { board = refl; values = values })
 
 pub returns-clause-start : goal.returns-clause-start
 returns-clause-start c =

@@ -1,7 +1,7 @@
 -- A frame is read as it is spelled: what is refused is none, and what is read is no other.
 use Rattle.std.proofs.Common.{◌∙◌, ap}
 use Rattle.psci_link.specs.declared.frame.Frame.TheVariants as frames
-use Rattle.psci_polled.specs.Polled.{PolledView}
+use Rattle.psci_status.specs.Polled.{PolledView}
 use Rattle.psci_ffi.specs.declared.common.Common.{Common}
 use Rattle.psci_ffi.proofs.Taking.{is-taken, not-both, of-same, one-ack}
 use Rattle.psci_ffi.proofs.held.Held.take.Goals as goal

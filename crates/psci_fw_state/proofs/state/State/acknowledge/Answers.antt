@@ -50,11 +50,10 @@ returns-then-is_off-clause-used c = λ used.
     down_has_slot a s.slots (values_in c.args.self.now) off used_up in
     let row_inside : a.core.number < length s.rows =
     omega (arith, c.self.invariant.rows, c.self.invariant.slots) in
-    let row : c.row_of.result ≡ row_at s.rows a.core.number =
-    c.row_of.ensures ∙ ap (λ xs. row_at xs a.core.number) c.deref.ensures.value in
-    let rows = rows_set c.self.inside.rows c.deref_mut-then-is_off.result.now c.put_row.new.rows
-    a.core.number (record { status = statuses.Off; opening = c.row_of.result.opening })
-    c.deref_mut-then-is_off.ensures.value c.put_row.ensures.rows in
+    let rows = rows_set c.self.inside.rows c.deref_mut-then-is_off.result.now c.put_status.new.rows
+    a.core.number
+    (record (row_at c.deref_mut-then-is_off.result.now a.core.number) { status = statuses.Off })
+    c.deref_mut-then-is_off.ensures.value c.put_status.ensures.rows in
     let acked : IsAcked s c.confirm_parts.new.tree a =
     acked_by s c.confirm_parts.new.tree a c.applied_of.result.now
     (sent_parts s.slots a _ _ _ c.ack.view_is sent c.applied_of.ensures)
@@ -64,7 +63,7 @@ returns-then-is_off-clause-used c = λ used.
     rw (← c.ack.view_is)
     (off_changed s _ c.confirm_parts.new.tree _ _ c.finish.new.self a c.self.view_is off
     acked
-    (rw (rows, row) (row_set s.rows a.core.number _ row_inside))
+    (rw (rows, c.deref_mut-then-is_off.ensures.value) (row_set s.rows a.core.number _ row_inside))
     (λ slot. rw (c.finish.ensures.slots, ← c.ack.view_is)
     (c.law_slots.ensures.changed s.slots (Acknowledge a) tt slot)))
 

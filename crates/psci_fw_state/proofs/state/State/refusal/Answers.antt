@@ -1,6 +1,6 @@
 use Rattle.std.proofs.Common.{ap, ◌∙◌}
-use Rattle.psci_claims.specs.LastCore.{refusal, shallow}
-use Rattle.psci_claims.specs.Looked.{view_of}
+use Rattle.psci_messages.specs.LastCore.{refusal, shallow}
+use Rattle.psci_messages.specs.Looked.{view_of}
 use Rattle.psci_fw_state.proofs.Viewed.{viewed}
 use Rattle.psci_fw_state.proofs.state.State.refusal.Goals as goal
 

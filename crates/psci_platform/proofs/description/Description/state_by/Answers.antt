@@ -1,5 +1,6 @@
 -- What was found out of the row that reads a word says what the word is.
 use Rattle.std.proofs.Common.{sym}
+use Rattle.psci_board.specs.Board.{height}
 use Rattle.psci_platform.proofs.Reading.{no_word, rows_of, states_found, states_missed}
 use Rattle.psci_platform.proofs.Reading.{states_never, word_found}
 use Rattle.psci_platform.proofs.description.Description.state_by.Goals as goal
@@ -10,7 +11,7 @@ returns-in-Some-reader_in-clause-word c =
     let b = c.args.board.now in
     let are = rows_of d b c.args.boot.number c.args.ready c.in-Some.ready c.deref.result.now
     c.requires.ready c.in-Some.is c.deref.ensures.value in
-    word_found d b.format c.args.mode c.args.word c.deref.result.now
+    word_found d b.format (height b) c.args.mode c.args.word c.deref.result.now
     c.in-Some-reader_in.reading.now are (sym c.in-Some-reader_in.ensures)
     (sym c.if-can_ask.ensures)
 
@@ -20,7 +21,7 @@ returns-in-Some-reader_in-clause-states c =
     let b = c.args.board.now in
     let are = rows_of d b c.args.boot.number c.args.ready c.in-Some.ready c.deref.result.now
     c.requires.ready c.in-Some.is c.deref.ensures.value in
-    states_found d b.format c.args.mode c.args.word c.deref.result.now
+    states_found d b.format (height b) c.args.mode c.args.word c.deref.result.now
     c.in-Some-reader_in.reading.now are (sym c.in-Some-reader_in.ensures)
     (sym c.if-can_ask.ensures)
 
@@ -31,7 +32,7 @@ returns-in-Some-2-clause-word c =
     let are = rows_of d b c.args.boot.number c.args.ready c.in-Some.ready c.deref.result.now
     c.requires.ready c.in-Some.is c.deref.ensures.value in
     no_word d b.format c.args.mode c.args.word
-    (states_never d b.format c.args.mode c.args.word c.deref.result.now
+    (states_never d b.format (height b) c.args.mode c.args.word c.deref.result.now
     c.in-Some-reader_in.reading.now are (sym c.in-Some-reader_in.ensures)
     (sym c.if-can_ask.ensures))
 
@@ -41,7 +42,7 @@ returns-in-Some-2-clause-states c =
     let b = c.args.board.now in
     let are = rows_of d b c.args.boot.number c.args.ready c.in-Some.ready c.deref.result.now
     c.requires.ready c.in-Some.is c.deref.ensures.value in
-    states_never d b.format c.args.mode c.args.word c.deref.result.now
+    states_never d b.format (height b) c.args.mode c.args.word c.deref.result.now
     c.in-Some-reader_in.reading.now are (sym c.in-Some-reader_in.ensures)
     (sym c.if-can_ask.ensures)
 
@@ -52,7 +53,7 @@ returns-in-None-clause-word c =
     let are = rows_of d b c.args.boot.number c.args.ready c.in-Some.ready c.deref.result.now
     c.requires.ready c.in-Some.is c.deref.ensures.value in
     no_word d b.format c.args.mode c.args.word
-    (states_missed d b.format c.args.mode c.args.word c.deref.result.now are
+    (states_missed d b.format (height b) c.args.mode c.args.word c.deref.result.now are
     (sym c.in-None.ensures))
 
 pub returns-in-None-clause-states : goal.returns-in-None-clause-states
@@ -61,5 +62,5 @@ returns-in-None-clause-states c =
     let b = c.args.board.now in
     let are = rows_of d b c.args.boot.number c.args.ready c.in-Some.ready c.deref.result.now
     c.requires.ready c.in-Some.is c.deref.ensures.value in
-    states_missed d b.format c.args.mode c.args.word c.deref.result.now are
+    states_missed d b.format (height b) c.args.mode c.args.word c.deref.result.now are
     (sym c.in-None.ensures)

@@ -1,6 +1,6 @@
 -- What is found out of a platform is of its description and its board.
-use Rattle.std.proofs.Common.{◌∙◌, ap, map}
-use Rattle.psci_abi.specs.psci_format.declared.format.Format.{Format}
+use Rattle.std.proofs.Common.{◌∙◌, ℕ, ap, map}
+use Rattle.psci_abi.specs.declared.format.Format.{Format}
 use Rattle.psci_platform.specs.States.{reading_of}
 use Rattle.psci_platform.proofs.platform.Platform.in_order.Goals as goal
 
@@ -11,7 +11,9 @@ invariant_of-result c = (
     few = c.in_ok-tables.ensures.few;
     names = c.in_ok-tables.ensures.names;
     rows = c.in_ok-readings.ensures
-        ∙ ap (λ (f : Format). map (reading_of c.self.inside.description f)
-        c.self.inside.description.rows) c.format.ensures;
+        ∙ ap (λ (f : Format). map (reading_of c.self.inside.description f c.height.result)
+        c.self.inside.description.rows) c.format.ensures
+        ∙ ap (λ (h : ℕ). map (reading_of c.self.inside.description c.self.inside.board.format h)
+        c.self.inside.description.rows) c.height.ensures.height;
   },
 )

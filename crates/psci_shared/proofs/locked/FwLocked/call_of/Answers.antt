@@ -1,4 +1,4 @@
-use Rattle.std.proofs.Common.{rules, map, ap}
+use Rattle.std.proofs.Common.{rules, map, ap, arith}
 use Rattle.psci_status.specs.Lists.{newest}
 use Rattle.psci_status.specs.Seats.{written}
 use Rattle.psci_shared.specs.Books.{BookView}
@@ -8,7 +8,8 @@ use Rattle.psci_shared.proofs.locked.FwLocked.call_of.Goals as goal
 pub write_all-requires-clause-few : goal.write_all-requires-clause-few
 write_all-requires-clause-few g c =
     let old = c.args.self.now in
-    few_written _ _ old.book.entries old.written c.len-place.ensures.small
+    let ok = (c.in_ok-place.ensures {u = tt}).ok in
+    few_written _ _ old.book.entries old.written (omega (arith, ok.0, ok.1))
 
 pub write_all-requires-clause-behind : goal.write_all-requires-clause-behind
 write_all-requires-clause-behind g c =
@@ -32,4 +33,5 @@ returns-clause-entered g c = (
   (map newest (written c.write_all.new.writer), search rules),
   search rules,
   search rules,
+  c.next_place.ensures.legal,
 )

@@ -11,7 +11,7 @@ returns-clause-stand g c =
     let old = c.args.self.now in
     let met = c.meet_all.ensures in
     let passes = c.meet_all.new.passes in
-    let seen = subst (λ (log : List (List Status)). AllSeen log passes) met.log met.seen in
+    let seen = subst (λ (log : List (List Status)). AllSeen log passes) met.log met.seen.1 in
     let len : c.args.passes.now.len ≡ length passes =
     omega (arith, c.meet_all.auto.passes, c.as_mut_slice.ensures.len) in
     subst (λ (ps : List PassView). AllStand g.N.Named.board old.book.entries ps)
@@ -22,4 +22,4 @@ returns-clause-stood g c =
     let old = c.args.self.now in
     all_stands _ _ old.book.entries _ old.written
     (subst (λ (ps : List PassView). AllSeen (written old.writer) ps) c.as_mut_slice.ensures.value
-    c.meet_all.ensures.saw)
+    c.meet_all.ensures.seen.0)

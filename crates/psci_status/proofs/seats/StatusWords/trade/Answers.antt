@@ -7,13 +7,13 @@ use Rattle.psci_status.proofs.Steps.{notes}
 use Rattle.psci_status.proofs.seats.StatusWords.trade.Goals as goal
 
 pub split_seat-note-requires : goal.split_seat-note-requires
-split_seat-note-requires c = (c.requires.reader, c.args.self.now.some, notes _ _ _)
+split_seat-note-requires c = (c.requires.tables.reader, c.args.self.now.some, notes _ _ _)
 
 pub join_seat-requires : goal.join_seat-requires
 join_seat-requires c =
     let s = c.split_seat-note.ensures in (
-      c.requires.writer,
-      s.3 ∙ c.requires.reader,
+      c.requires.tables.writer,
+      s.3 ∙ c.requires.tables.reader,
       ap
           (λ (m : Me (Unit {0}) View). m.1) s.4,
       c.args.self.now.some,
@@ -24,7 +24,7 @@ pub load-found-requires : goal.load-found-requires
 load-found-requires c =
     let w = c.args.writer.now in
     let j = c.join_seat.ensures in (
-      j.0 ∙ c.requires.writer,
+      j.0 ∙ c.requires.tables.writer,
       c.args.self.now.some,
       looks_as _ _ _ _ _
           (ap (λ (m : Me (Unit {0}) View). m.1) j.2 ∙ w.empty)
@@ -35,7 +35,7 @@ load-found-requires c =
 pub split_seat-note-requires-2 : goal.split_seat-note-requires-2
 split_seat-note-requires-2 c = (
   c.load-found.ensures.0 ∙ c.join_seat.ensures.0
-      ∙ c.requires.writer,
+      ∙ c.requires.tables.writer,
   c.args.self.now.some,
   notes _ _ _,
 )
@@ -43,9 +43,9 @@ split_seat-note-requires-2 c = (
 pub join_seat-requires-2 : goal.join_seat-requires-2
 join_seat-requires-2 c =
     let s = c.split_seat-note-2.ensures in (
-      c.split_seat-note.ensures.0 ∙ c.requires.reader,
+      c.split_seat-note.ensures.0 ∙ c.requires.tables.reader,
       s.3 ∙ c.load-found.ensures.0
-          ∙ c.join_seat.ensures.0 ∙ c.requires.writer,
+          ∙ c.join_seat.ensures.0 ∙ c.requires.tables.writer,
       ap
           (λ (m : Me (Unit {0}) View). m.1) s.4,
       c.args.self.now.some,

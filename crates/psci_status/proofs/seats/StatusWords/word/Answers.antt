@@ -6,5 +6,5 @@ pub load-requires : goal.load-requires
 load-requires c =
     let w = c.args.writer.now in
     let core : c.args.core.number < c.args.self.now.table.shared.key = omega
-    (arith, c.args.self.now.cores, c.requires.core) in
-    (c.requires.table, c.requires.core, looks_as _ _ _ _ _ w.empty w.writes core)
+    (arith, c.args.self.now.cores, c.requires.here.core) in
+    (c.requires.here.table, c.requires.here.core, looks_as _ _ _ _ _ w.empty w.writes core)

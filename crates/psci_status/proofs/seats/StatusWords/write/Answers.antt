@@ -12,5 +12,6 @@ store-requires c =
     let next = next_word log c.args.found c.number_of.result c.args.status _ len
     c.number_of.ensures.number refl in
     let core : c.args.core.number < c.args.self.now.table.shared.key = omega
-    (arith, c.args.self.now.cores, c.requires.core) in
-    (c.requires.table, c.requires.core, stores_as _ _ _ _ _ _ w.empty w.writes core next.0)
+    (arith, c.args.self.now.cores, c.requires.here.core) in
+    let here = c.requires.here in
+    (here.table, here.core, stores_as _ _ _ _ _ _ w.empty w.writes core next.0)

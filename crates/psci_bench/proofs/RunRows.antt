@@ -1,0 +1,143 @@
+-- Worked examples: runs of threads with the numbers of their books, runs with other ones, and the
+-- faults that a run ends by.
+use Rattle.std.proofs.Common.{◌≡◌, ◌<◌, List, [], ◌∷◌, length, ap, ap₂, arith, subst, sym}
+use Rattle.std.proofs.Common.{◌∙◌}
+use Rattle.psci_audit.specs.psci_board.Board.{BoardValue}
+use Rattle.psci_audit.specs.Entries.{Entry}
+use Rattle.psci_audit.specs.Merged.{IsFault, IsSound, TicketsFit, history_of, merged}
+use Rattle.psci_audit.specs.Told.{Tells}
+use Rattle.psci_audit.specs.declared.fault.AuditFault.TheVariants as audits
+use Rattle.psci_shared.specs.declared.entry.FwEntry.{FwEntry}
+use Rattle.psci_shared_ctl.specs.declared.entry.CtlEntry.{CtlEntry}
+use Rattle.psci_bench.specs.declared.gathering.Polled.{Polled}
+use Rattle.psci_bench.specs.Seen.{AllInHistory}
+use Rattle.psci_bench.specs.Runs.{IsAudited, IsFound}
+use Rattle.psci_bench.specs.declared.fault.BenchFault.TheVariants.{Gate, Memory, Threads}
+use Rattle.psci_bench.specs.declared.fault.BenchFault.TheVariants.{Audit, Gather}
+use Rattle.psci_bench.specs.declared.running.Threaded.{Threaded}
+
+-- Numbers ---------------------------------------------------------------------------------------
+
+-- the records of a run's world tell the entries of its books
+abbrev HasTold : BoardValue → Threaded → Type 0
+HasTold b t =
+    Tells b t.world.past (history_of t.trace.firmware.items t.trace.controller.items)
+
+-- a run in which nothing was asked
+nothing_asked : (b : BoardValue) (t : Threaded) → t.trace.firmware.items ≡ []
+    → t.trace.controller.items ≡ [] → t.firmware ≡ 0 → t.controller ≡ 0
+    → IsSound b t.trace.firmware.items t.trace.controller.items 0 → t.audited ≡ 0
+    → t.world.board ≡ b → HasTold b t → t.polls.items ≡ [] → IsAudited b t
+nothing_asked b t fs cs firmware controller is audited board told unseen = record {
+  firmware = firmware ∙ sym (ap length fs);
+  controller = controller ∙ sym (ap length cs);
+  sound = subst (λ n. IsSound b t.trace.firmware.items t.trace.controller.items n) (sym audited) is;
+  board = board;
+  told = told;
+  seen = subst (λ (qs : List Polled). AllInHistory b t.trace.firmware.items qs) (sym unseen) tt;
+}
+
+-- the world is on this board, and its records tell the merged list
+on_another_board : (b : BoardValue) (t : Threaded) → ¬ (t.world.board ≡ b) → IsAudited b t → ⊥
+on_another_board b t differs is = differs is.board
+
+told_otherwise : (b : BoardValue) (t : Threaded) → ¬ (HasTold b t) → IsAudited b t → ⊥
+told_otherwise b t differs is = differs is.told
+
+no_record : (b : BoardValue) (t : Threaded) (f : FwEntry) → t.trace.firmware.items ≡ f ∷ []
+    → t.trace.controller.items ≡ [] → t.world.past ≡ [] → IsAudited b t → ⊥
+unfolding merged
+no_record b t f fs cs past is =
+    subst (λ (h : List Entry). Tells b [] h) (ap₂ history_of fs cs)
+    (subst (λ p. Tells b p
+    (history_of t.trace.firmware.items t.trace.controller.items)) past is.told)
+
+-- two entries of the firmware and one of the power controller: each number is of its own book
+two_of_the_firmware : (b : BoardValue) (t : Threaded) (f g : FwEntry) (c : CtlEntry)
+    → t.trace.firmware.items ≡ f ∷ g ∷ [] → t.trace.controller.items ≡ c ∷ [] → IsAudited b t
+    → t.firmware ≡ 2
+two_of_the_firmware b t f g c fs cs is = is.firmware ∙ ap length fs
+
+one_of_the_controller : (b : BoardValue) (t : Threaded) (f g : FwEntry) (c : CtlEntry)
+    → t.trace.firmware.items ≡ f ∷ g ∷ [] → t.trace.controller.items ≡ c ∷ [] → IsAudited b t
+    → t.controller ≡ 1
+one_of_the_controller b t f g c fs cs is = is.controller ∙ ap length cs
+
+firmware_counted_otherwise : (b : BoardValue) (t : Threaded)
+    → length t.trace.firmware.items ≡ 5 → t.firmware ≡ 6 → IsAudited b t → ⊥
+firmware_counted_otherwise b t five six is = let e = is.firmware in omega (arith, five, six, e)
+
+controller_counted_otherwise : (b : BoardValue) (t : Threaded)
+    → length t.trace.controller.items ≡ 5 → t.controller ≡ 4 → IsAudited b t → ⊥
+controller_counted_otherwise b t five four is =
+    let e = is.controller in omega (arith, five, four, e)
+
+-- all of the merged list is audited
+audited_a_part : (b : BoardValue) (t : Threaded)
+    → length (merged t.trace.firmware.items t.trace.controller.items) ≡ 9 → t.audited ≡ 5
+    → IsAudited b t → ⊥
+audited_a_part b t nine five is = let e = is.sound.2 in omega (arith, nine, five, e)
+
+-- which is legal on this board, and has tickets that fit
+illegal_list : (b : BoardValue) (t : Threaded)
+    → ¬ (IsSound b t.trace.firmware.items t.trace.controller.items t.audited) → IsAudited b t → ⊥
+illegal_list b t differs is = differs is.sound
+
+tickets_fit : (b : BoardValue) (t : Threaded)
+    → ¬ (TicketsFit t.trace.firmware.items t.trace.controller.items) → IsAudited b t → ⊥
+tickets_fit b t differs is = differs is.sound.0
+
+-- Faults ----------------------------------------------------------------------------------------
+
+-- a fault that the audit has of some two books, on this board
+illegal_at_3 : (b : BoardValue) (fs : List FwEntry) (cs : List CtlEntry)
+    → IsFault b fs cs (audits.Illegal 3) → IsFound b (Audit (audits.Illegal 3))
+unfolding IsFound
+illegal_at_3 b fs cs is = (fs, cs, is)
+
+-- and no other fault, as one at another place
+illegal_nowhere : (b : BoardValue)
+    → ((fs : List FwEntry) (cs : List CtlEntry) → IsFault b fs cs (audits.Illegal 3) → ⊥)
+    → IsFound b (Audit (audits.Illegal 3)) → ⊥
+unfolding IsFound
+illegal_nowhere b none found = none found.0 found.1 found.2
+
+-- tickets that fall, in the firmware's book or in the power controller's
+falling_in_the_firmware : (b : BoardValue) (f g : FwEntry) → g.ticket < f.ticket
+    → IsFound b (Audit audits.Ticket)
+unfolding IsFound
+falling_in_the_firmware b f g falls =
+    (f ∷ g ∷ [], [], λ fit. let less = fit.firmware.1.0 in omega (arith, less, falls))
+
+falling_in_the_controller : (b : BoardValue) (c d : CtlEntry) → d.ticket < c.ticket
+    → IsFound b (Audit audits.Ticket)
+unfolding IsFound
+falling_in_the_controller b c d falls =
+    ([], c ∷ d ∷ [], λ fit. let less = fit.controller.1.0 in omega (arith, less, falls))
+
+tickets_that_always_fit : (b : BoardValue)
+    → ((fs : List FwEntry) (cs : List CtlEntry) → TicketsFit fs cs)
+    → IsFound b (Audit audits.Ticket) → ⊥
+unfolding IsFound
+tickets_that_always_fit b fit found = found.2 (fit found.0 found.1)
+
+-- the audit itself may run out of memory, as the run may before it
+audit_without_memory : (b : BoardValue) → IsFound b (Audit audits.Memory)
+unfolding IsFound
+audit_without_memory b = ([], [], tt)
+
+run_without_memory : (b : BoardValue) → IsFound b Memory
+unfolding IsFound
+run_without_memory b = tt
+
+no_threads : (b : BoardValue) → IsFound b Threads
+unfolding IsFound
+no_threads b = tt
+
+gate_said_no : (b : BoardValue) → IsFound b Gate
+unfolding IsFound
+gate_said_no b = tt
+
+not_gathered : (b : BoardValue) → IsFound b Gather
+unfolding IsFound
+not_gathered b = tt

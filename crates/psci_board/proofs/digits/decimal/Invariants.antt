@@ -1,0 +1,10 @@
+use Rattle.std.proofs.Common.{◌≡◌, ◌^◌, ◌<◌, ◌≤◌, take}
+use Rattle.std.specs.Char.{is_ascii_digit}
+use Rattle.std.specs.List.{prefix_len}
+use Rattle.std.specs.Str.Parse.{digits_value}
+use Rattle.psci_board.proofs.digits.decimal.Given as goal
+
+abbrev pub invariant-loop-byte : goal.invariant-loop-byte
+invariant-loop-byte l = (l.count ≡ l.byte-index) × (l.count ≤ prefix_len is_ascii_digit l.text)
+    × (l.value < 2 ^ 64)
+    × (l.value ≡ digits_value 10 (take l.count l.text))

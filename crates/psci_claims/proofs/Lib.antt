@@ -1,9 +1,0 @@
-mod Accepted
-mod BelowLaws
-mod Boards
-mod ClaimLaws
-mod ClaimRows
-mod Climbing
-mod LastCoreRows
-mod LeastBelow
-mod OsiLaws

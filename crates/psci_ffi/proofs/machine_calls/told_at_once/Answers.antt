@@ -1,9 +1,0 @@
-use Rattle.std.proofs.lemmas.Option.{IfSome_then}
-use Rattle.psci_ffi.proofs.Telling.{told_so}
-use Rattle.psci_ffi.proofs.machine_calls.told_at_once.Goals as goal
-
-pub returns-clause-told : goal.returns-clause-told
-returns-clause-told c =
-    IfSome_then c.code_of.result c.code_of.ensures.code (λ code told.
-    told_so c.args.machine.now.slot.kept c.args.place.now.slot.kept c.args.core c.args.regs
-    c.in_ok-regs.regs code c.in_ok-regs.ensures.regs c.in_ok-regs.ensures.asked told)

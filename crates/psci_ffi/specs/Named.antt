@@ -1,0 +1,14 @@
+-- What is kept of the cores of a firmware in a place.
+use Rattle.std.specs.Prelude.{◌≡◌, ◌<◌, ℕ, List, Some, length, slice_index}
+use Rattle.psci_board.specs.Board.{BoardValue, address, core_of, cores}
+use Rattle.psci_board.specs.declared.node.Core.{Core}
+
+-- these are the affinity words of the cores of a board
+pub record AreWords (b : BoardValue) (words : List ℕ) : Type 0 where
+  pub count : length words ≡ cores b
+  pub each : (core : ℕ) → core < cores b → slice_index words core ≡ address b 0 core
+
+-- a word names this core of the board
+pub record NamesCore (b : BoardValue) (word : ℕ) (core : Core) : Type 0 where
+  pub named : core_of b word ≡ Some core
+  pub inside : core.number < cores b

@@ -1,0 +1,72 @@
+-- A call that is carried out leaves a firmware.
+use Rattle.std.proofs.Common.{◌≡◌, ◌∙◌, ◌<◌, ℕ, Bool, true, false, nat_lt, Option, None, Some}
+use Rattle.std.proofs.Common.{ap, refl, subst, sym}
+use Rattle.std.proofs.lemmas.Bool.{ltb-true}
+use Rattle.psci_abi.specs.Calls.{request_of}
+use Rattle.psci_abi.specs.declared.registers.Regs.{Regs}
+use Rattle.psci_board.specs.Board.{BoardValue, IsBoard, cores}
+use Rattle.psci_fw_spec.specs.declared.call.FwCall.TheVariants.{Smc}
+use Rattle.psci_fw_spec.specs.declared.fault.FwFault.{FwFault}
+use Rattle.psci_fw_spec.specs.declared.fault.FwFault.TheVariants.{NoCore}
+use Rattle.psci_fw_spec.specs.declared.outcome.Outcome.{Outcome}
+use Rattle.psci_fw_spec.specs.declared.reply.FwReply.{FwReply}
+use Rattle.psci_fw_spec.specs.declared.reply.FwReply.TheVariants.{Out}
+use Rattle.psci_fw_spec.specs.After.{after, change}
+use Rattle.psci_fw_spec.specs.Answer.{answer, reply_or}
+use Rattle.psci_fw_spec.specs.Calls.{call_fault, outcome_of}
+use Rattle.psci_fw_spec.specs.Effects.{function_effect}
+use Rattle.psci_fw_spec.specs.Invariant.{AreValues}
+use Rattle.psci_fw_spec.specs.Values.{Values}
+use Rattle.psci_fw.specs.Asking.{may_call}
+use Rattle.psci_fw.specs.Calls.{MayCall}
+use Rattle.psci_fw.specs.Seen.{FirmwareValue, IsFirmware, IsFresh, seen}
+use Rattle.psci_fw.proofs.Called.{caller_runs, carried_out}
+
+caller_inside : (b : BoardValue) (v : Values) (c : ℕ) → call_fault b v c ≡ None → c < cores b
+caller_inside b v c e = by (nat_lt c (cores b)) refl
+  where
+    by : (t : Bool) → nat_lt c (cores b) ≡ t → c < cores b
+    by true f = ltb-true c (cores b) f
+    by false f = let x : ◌≡◌ {A = Option FwFault} (Some NoCore) None = rw f at e in cc
+
+pub may_calls : (f : FirmwareValue) (c : ℕ) → IsFirmware f → may_call f c ≡ true → MayCall f c
+may_calls f c is may =
+    let (fault, awake) = carried_out f c may in
+    record {
+      board = is.board;
+      values = is.values;
+      inside = caller_inside f.board (seen f) c fault;
+      running = caller_runs f.board (seen f) c fault;
+      awake = awake;
+    }
+
+module _ (f g : FirmwareValue) (c : ℕ) (regs : Regs) (o : Outcome) (may : may_call f c ≡ true)
+    (is : o ≡ outcome_of f.board (seen f) c (request_of regs)) where
+  pub answered : Out o ≡ answer f.board (seen f) c (Smc regs)
+  unfolding answer
+  answered =
+      let (fault, _) = carried_out f c may in
+      ap Out is
+      ∙ sym (ap (λ (x : Option FwFault).
+      reply_or x (outcome_of f.board (seen f) c (request_of regs))) fault)
+
+  module _ (left : seen g ≡ change f.board (function_effect f.board c (request_of regs) o.act
+      o.message) (seen f)) where
+    pub carried : seen g ≡ after f.board c (Smc regs) (Out o) (seen f)
+    unfolding after
+    carried = left
+
+    pub firmware_left : g.board ≡ f.board → IsFirmware f
+        → AreValues f.board (after f.board c (Smc regs) (answer f.board (seen f) c (Smc regs))
+        (seen f))
+        → IsFresh f.board (change f.board (function_effect f.board c (request_of regs) o.act
+        o.message) (seen f)) → IsFirmware g
+    firmware_left at before values fresh = record {
+      board = subst IsBoard (sym at) before.board;
+      values = subst (λ (x : BoardValue). AreValues x (seen g)) (sym at)
+          (subst (AreValues f.board)
+          (sym (carried ∙ ap (λ (x : FwReply). after f.board c (Smc regs) x (seen f)) answered))
+          values);
+      fresh = subst (λ (x : BoardValue). IsFresh x (seen g)) (sym at)
+          (subst (IsFresh f.board) (sym left) fresh);
+    }

@@ -1,0 +1,195 @@
+-- What is so after a started core has entered.
+use Rattle.std.proofs.Common.{◌≡◌, ℕ, ◌<◌, Bool, true, false, ◌==◌, cond, List, ◌∷◌, ◌++◌, length}
+use Rattle.std.proofs.Common.{Option, None, Some, option_map, unwrap_or, refl, subst, ap, sym, ◌∙◌}
+use Rattle.std.specs.Prelude.{nat_lt}
+use Rattle.std.proofs.lemmas.Bool.{cond-true, cond-false, eq-eqb, lt-ltb, ne_eqb}
+use Rattle.psci_board.specs.Board.{BoardValue, cores}
+use Rattle.psci_ctl_spec.specs.psci_messages.declared.start.Start.{Start}
+use Rattle.psci_ctl_spec.specs.Replies.{last_start}
+use Rattle.psci_ctl_spec.specs.psci_messages.declared.kind.Kind.TheVariants as kinds
+use Rattle.psci_ctl_spec.specs.psci_messages.Message.{MessageValue}
+use Rattle.psci_ctl_spec.specs.psci_messages.Slots.{Clear, OfCore, Slot, changed, is_slot, slot_of}
+use Rattle.psci_headline.specs.psci_fw_spec.declared.call.FwCall.TheVariants as calls
+use Rattle.psci_headline.specs.psci_fw_spec.declared.outcome.Act.{Act}
+use Rattle.psci_headline.specs.psci_fw_spec.declared.outcome.Act.TheVariants as acts
+use Rattle.psci_headline.specs.psci_fw_spec.declared.outcome.Outcome.{Outcome}
+use Rattle.psci_headline.specs.psci_fw_spec.declared.reply.FwReply.TheVariants as replies
+use Rattle.psci_headline.specs.psci_fw_spec.After.{change}
+use Rattle.psci_headline.specs.psci_fw_spec.Answer.{answer, reply_or}
+use Rattle.psci_headline.specs.psci_fw_spec.Effects.{enter_effect}
+use Rattle.psci_headline.specs.psci_fw_spec.Entering.{enter_outcome}
+use Rattle.psci_headline.specs.psci_fw_spec.Exchange as firmware
+use Rattle.psci_headline.specs.psci_fw_spec.History as remembers
+use Rattle.psci_headline.specs.psci_fw_spec.Legal.{IsLegal}
+use Rattle.psci_headline.specs.psci_fw_spec.Lives.{in_life}
+use Rattle.psci_headline.specs.psci_fw_spec.Said.{listed}
+use Rattle.psci_headline.specs.psci_fw_spec.Values.{Values}
+use Rattle.psci_headline.specs.psci_fw_laws.Allowed.{IsAllowed}
+use Rattle.psci_headline.specs.psci_world_spec.declared.event.Event.TheVariants.{Enter}
+use Rattle.psci_headline.specs.psci_world_spec.declared.place.Place.TheVariants.{Started}
+use Rattle.psci_headline.specs.psci_world_spec.declared.said.Record.{Record}
+use Rattle.psci_headline.specs.psci_world_spec.declared.said.Said.TheVariants.{Absent, Fw}
+use Rattle.psci_headline.specs.psci_world_spec.declared.said.Sent.{Sent}
+use Rattle.psci_headline.specs.psci_world_spec.Histories.{acks, call, controller_history}
+use Rattle.psci_headline.specs.psci_world_spec.Histories.{controller_values}
+use Rattle.psci_headline.specs.psci_world_spec.Histories.{entered, firmware_history}
+use Rattle.psci_headline.specs.psci_world_spec.Histories.{firmware_values}
+use Rattle.psci_headline.specs.psci_world_spec.Histories.{outcome_in, sent, sent_in}
+use Rattle.psci_headline.specs.psci_world_spec.Legal.{IsLegalPast, if_started, legal}
+use Rattle.psci_headline.specs.psci_world_spec.Legal.{said_of, sent_as}
+use Rattle.psci_headline.specs.psci_world_spec.Lists.{indexed}
+use Rattle.psci_headline.specs.psci_world_spec.Places.{place, place_after, place_said}
+use Rattle.psci_headline.proofs.world_spec.Answered.{firmware_legal}
+use Rattle.psci_headline.specs.Refusals.{NoneRefused}
+use Rattle.psci_headline.proofs.Agreed.{RunLaws}
+use Rattle.psci_headline.specs.Settling.{step}
+use Rattle.psci_headline.proofs.Finding.{numbered_old}
+
+-- Effects --------------------------------------------------------------------------------------
+
+-- an entry leaves the life halting, or not, as the core found it
+pub entry_halting : (b : BoardValue) (v : Values) (c : ℕ) (s : Start) (act : Act)
+    (o : Option MessageValue)
+    → (change b (enter_effect c s act o) v).halting ≡ (in_life b s.life v).halting
+entry_halting b v c s acts.Stop (Some m) = refl
+entry_halting b v c s acts.Stop None = refl
+entry_halting b v c s (acts.Return code) o = refl
+entry_halting b v c s (acts.Enter address context) o = refl
+entry_halting b v c s acts.Resume o = refl
+
+cleared_from : (t : Bool) (o : Option MessageValue) (m : MessageValue) → cond t None o ≡ Some m
+    → o ≡ Some m
+cleared_from true o m e = absurd (cc)
+cleared_from false o m e = e
+
+put_from : (t : Bool) (o : Option MessageValue) (n m : MessageValue) → n.kind ≡ kinds.Down
+    → cond t (Some n) o ≡ Some m → m.kind ≡ kinds.Start → o ≡ Some m
+put_from true o n m down e start =
+    let same : n ≡ m = cc in
+    let no : kinds.Down ≡ kinds.Start =
+    sym down ∙ ap (λ (x : MessageValue). x.kind) same ∙ start in
+    absurd (cc)
+put_from false o n m down e start = e
+
+-- and leaves no Start outstanding that was not
+pub entry_slots : (b : BoardValue) (v : Values) (c : ℕ) (s : Start) (act : Act)
+    (o : Option MessageValue) (x : ℕ) (m : MessageValue) → IsAllowed b v (enter_effect c s act o)
+    → (change b (enter_effect c s act o) v).outstanding (OfCore x) ≡ Some m
+    → m.kind ≡ kinds.Start → (in_life b s.life v).outstanding (OfCore x) ≡ Some m
+entry_slots b v c s acts.Stop (Some n) x m allowed e start =
+    let found : Slot → Option MessageValue = (in_life b s.life v).outstanding in
+    cleared_from (c == x) (found (OfCore x)) m
+    (put_from (is_slot (slot_of n.kind n.core) (OfCore x))
+    (changed (OfCore x) (Clear (record { number = c })) (found (OfCore x))) n m
+    allowed.claim.kind e start)
+entry_slots b v c s acts.Stop None x m allowed e start =
+    cleared_from (c == x) ((in_life b s.life v).outstanding (OfCore x)) m e
+entry_slots b v c s (acts.Return code) o x m allowed e start =
+    cleared_from (c == x) ((in_life b s.life v).outstanding (OfCore x)) m e
+entry_slots b v c s (acts.Enter address context) o x m allowed e start =
+    cleared_from (c == x) ((in_life b s.life v).outstanding (OfCore x)) m e
+entry_slots b v c s acts.Resume o x m allowed e start =
+    cleared_from (c == x) ((in_life b s.life v).outstanding (OfCore x)) m e
+
+-- The record -----------------------------------------------------------------------------------
+
+-- What is said of an entry of a started core.
+record HasOutcome (b : BoardValue) (past : List Record) (c : ℕ) : Type 0 where
+  pub start : Start
+  pub last : last_start (controller_values b past) c ≡ Some start
+  pub act : Act
+  pub sends : Option Sent
+  pub said : legal b past (Enter c) ≡ Fw act sends
+
+has_outcome : (b : BoardValue) (past : List Record) (c : ℕ) → NoneRefused b past → c < cores b
+    → place b past c ≡ Started → HasOutcome b past c
+unfolding legal answer
+has_outcome b past c free on at =
+    let may = free.enters c on at in
+    let start : Start = may.0 in
+    let v : Values = firmware_values b past in
+    let o : Outcome = enter_outcome b v c start in
+    record {
+      start = start;
+      last = may.1;
+      act = o.act;
+      sends = sent_as (length (sent past)) o.message;
+      said = cond-true (nat_lt c (cores b)) _ Absent (lt-ltb c (cores b) on)
+          ∙ ap (λ p. if_started b past c p (last_start (controller_values b past) c)) at
+          ∙ ap (if_started b past c Started) may.1
+          ∙ ap (λ f. said_of (length (sent past)) (reply_or f o)) may.2;
+    }
+
+-- What is so after an entry of a started core.
+pub record HaveArrived (b : BoardValue) (past : List Record) (c : ℕ) : Type 0 where
+  pub start : Start
+  pub last : last_start (controller_values b past) c ≡ Some start
+  pub act : Act
+  pub message : Option MessageValue
+  pub firmware : firmware_values b (step b past (Enter c))
+      ≡ change b (enter_effect c start act message) (firmware_values b past)
+  pub allowed : IsAllowed b (firmware_values b past) (enter_effect c start act message)
+  pub sent : sent (step b past (Enter c)) ≡ listed message ++ sent past
+  pub here : place b (step b past (Enter c)) c ≡ Started → ⊥
+  pub there : (x : ℕ) → (x ≡ c → ⊥) → place b (step b past (Enter c)) x ≡ place b past x
+
+not_started : (act : Act) → place_after act ≡ Started → ⊥
+not_started (acts.Return code) e = cc
+not_started acts.Stop e = cc
+not_started (acts.Enter address context) e = cc
+not_started acts.Resume e = cc
+
+pub arrives : (b : BoardValue) (past : List Record) (c : ℕ) → RunLaws b → IsLegalPast b past
+    → NoneRefused b past → c < cores b → place b past c ≡ Started → HaveArrived b past c
+unfolding firmware_history sent place
+arrives b past c laws is free on at = record {
+  start = out.start;
+  last = out.last;
+  act = out.act;
+  message = message;
+  firmware = ap (remembers.values_of b) more ∙ laws.change entry h;
+  allowed = laws.allowed entry h (subst (IsLegal b) more
+      (firmware_legal b (step b past (Enter c)) (refl, is)));
+  sent = ap (λ s. listed (sent_in s) ++ sent past) out.said;
+  here = λ e. not_started out.act
+      (sym (ap (λ o. unwrap_or o (place b past c)) (cond-true (c == c) _ None (eq-eqb c c refl)))
+      ∙ sym (said_place c) ∙ e);
+  there = λ x ne. said_place x
+      ∙ ap (λ o. unwrap_or o (place b past x)) (cond-false (x == c) _ None (ne_eqb x c ne));
+}
+  where
+    out : HasOutcome b past c
+    out = has_outcome b past c free on at
+
+    h : List firmware.FwExchange
+    h = firmware_history b past
+
+    message : Option MessageValue
+    message = option_map (λ s. s.message) out.sends
+
+    entry : firmware.FwExchange
+    entry = record {
+      core = c;
+      call = calls.Enter out.start;
+      reply = replies.Out (outcome_in out.act out.sends);
+    }
+
+    more : firmware_history b (step b past (Enter c)) ≡ entry ∷ h
+    more = ap (λ s. call (controller_values b past) (acks past) (Enter c) s ++ h) out.said
+        ∙ ap (λ o. entered c o (outcome_in out.act out.sends) ++ h) out.last
+
+    said_place : (x : ℕ) → place b (step b past (Enter c)) x
+        ≡ unwrap_or (cond (x == c) (Some (place_after out.act)) None) (place b past x)
+    said_place x = ap (λ s. unwrap_or (place_said x (Enter c) s) (place b past x)) out.said
+
+-- an entry leaves the controller as it is
+pub same_control : (b : BoardValue) (past : List Record) (c : ℕ)
+    → controller_values b (step b past (Enter c)) ≡ controller_values b past
+unfolding controller_history
+same_control b past c = refl
+
+-- and each message its number
+pub same_numbers : (past : List MessageValue) (o : Option MessageValue) (k : ℕ) (m : MessageValue)
+    → indexed past k ≡ Some m → indexed (listed o ++ past) k ≡ Some m
+same_numbers past None k m e = e
+same_numbers past (Some n) k m e = numbered_old n past k m e

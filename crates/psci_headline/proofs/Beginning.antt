@@ -1,0 +1,161 @@
+-- What is so once the started cores have entered and each Start was served.
+use Rattle.std.proofs.Common.{◌≡◌, ℕ, ◌⊎◌, inl, inr, ◌<◌, false, cond}
+use Rattle.std.proofs.Common.{List, Some, refl, subst, ap, sym, ◌∙◌}
+use Rattle.psci_board.specs.Board.{BoardValue, cores}
+use Rattle.psci_ctl_spec.specs.Values as controlled
+use Rattle.psci_ctl_spec.specs.psci_messages.declared.kind.Kind.TheVariants as kinds
+use Rattle.psci_ctl_spec.specs.psci_messages.Message.{MessageValue}
+use Rattle.psci_ctl_spec.specs.psci_messages.Slots.{OfCore}
+use Rattle.psci_headline.specs.psci_fw_spec.Lives.{in_life}
+use Rattle.psci_headline.specs.psci_fw_spec.Values.{Values}
+use Rattle.psci_headline.proofs.fw_laws.Arriving.{found_life}
+use Rattle.psci_headline.specs.psci_world_spec.declared.event.Event.TheVariants.{Enter}
+use Rattle.psci_headline.specs.psci_world_spec.declared.place.Place.{Place}
+use Rattle.psci_headline.specs.psci_world_spec.declared.place.Place.TheVariants.{Started, Running}
+use Rattle.psci_headline.specs.psci_world_spec.declared.place.Place.TheVariants.{Stopped}
+use Rattle.psci_headline.specs.psci_world_spec.declared.said.Record.{Record}
+use Rattle.psci_headline.specs.psci_world_spec.Histories.{controller_values, firmware_values}
+use Rattle.psci_headline.specs.psci_world_spec.Histories.{sent}
+use Rattle.psci_headline.specs.psci_world_spec.Legal.{IsLegalPast, legal_record}
+use Rattle.psci_headline.specs.psci_world_spec.Lists.{indexed}
+use Rattle.psci_headline.specs.psci_world_spec.Places.{place}
+use Rattle.psci_headline.proofs.Agreeing.{found_own}
+use Rattle.psci_headline.proofs.Moving.{entry_moves}
+use Rattle.psci_headline.proofs.Placing.{last_is}
+use Rattle.psci_headline.specs.Drained.{deliveries}
+use Rattle.psci_headline.specs.Settling.{entering}
+use Rattle.psci_headline.specs.Settling.{is_started, step}
+use Rattle.psci_headline.proofs.Arrivals.{HaveArrived, arrives, entry_halting, entry_slots}
+use Rattle.psci_headline.proofs.Arrivals.{same_control, same_numbers}
+use Rattle.psci_headline.proofs.Counting.{AreAdded, one_added}
+use Rattle.psci_headline.proofs.Folding.{IsStep}
+use Rattle.psci_headline.proofs.Standing.{SettleLaws}
+
+-- The Start of this number was sent.
+pub record IsStartAt (messages : List MessageValue) (k : ℕ) : Type 0 where
+  pub message : MessageValue
+  pub at : indexed messages k ≡ Some message
+  pub kind : message.kind ≡ kinds.Start
+
+-- What stays so from the beginning on: the life goes on, and only Starts were delivered.
+pub record IsUnderWay (b : BoardValue) (before : List Record) (life : ℕ) (past : List Record)
+    : Type 0 where
+  pub legal : IsLegalPast b past
+  pub added : AreAdded before past
+  pub present : (controller_values b past).life ≡ Some life
+  pub awake : (in_life b life (firmware_values b past)).halting ≡ false
+  pub count : (j : ℕ) → (deliveries j past ≡ deliveries j before) ⊎ IsStartAt (sent past) j
+
+-- a core has entered, or was not started
+abbrev pub HasEntered : BoardValue → ℕ → List Record → Type 0
+HasEntered b c past = place b past c ≡ Started → ⊥
+
+-- no Start is outstanding for a core
+abbrev pub HasNoStart : BoardValue → ℕ → List Record → Type 0
+HasNoStart b c past = (m : MessageValue)
+    → (firmware_values b past).outstanding (OfCore c) ≡ Some m → m.kind ≡ kinds.Start → ⊥
+
+-- Entries --------------------------------------------------------------------------------------
+
+-- What is so after the entry of a started core in this life.
+pub record IsIn (b : BoardValue) (before : List Record) (life : ℕ) (past : List Record) (c : ℕ)
+    : Type 0 where
+  pub way : IsUnderWay b before life (step b past (Enter c))
+  pub own : (firmware_values b (step b past (Enter c))).life ≡ life
+  pub slots : (x : ℕ) (m : MessageValue)
+      → (firmware_values b (step b past (Enter c))).outstanding (OfCore x) ≡ Some m
+      → m.kind ≡ kinds.Start
+      → (in_life b life (firmware_values b past)).outstanding (OfCore x) ≡ Some m
+  pub here : HasEntered b c (step b past (Enter c))
+  pub there : (x : ℕ) → (x ≡ c → ⊥) → HasEntered b x past → HasEntered b x (step b past (Enter c))
+
+pub more_starts : (messages : List MessageValue) (k : ℕ)
+    → IsStartAt messages k → (now : List MessageValue)
+    → ((m : MessageValue) → indexed messages k ≡ Some m → indexed now k ≡ Some m)
+    → IsStartAt now k
+more_starts messages k is now keeps =
+    record { message = is.message; at = keeps is.message is.at; kind = is.kind }
+
+enters_in : (b : BoardValue) (before : List Record) (life : ℕ) (past : List Record) (c : ℕ)
+    → SettleLaws b → IsUnderWay b before life past → c < cores b → place b past c ≡ Started
+    → IsIn b before life past c
+enters_in b before life past c laws way on at = record {
+  way = record {
+    legal = (refl, way.legal);
+    added = one_added before past (legal_record b past (Enter c)) refl way.added;
+    present = ap (λ (w : controlled.Values). w.life) (same_control b past c) ∙ way.present;
+    awake = ap (λ (u : Values). u.halting) (found_own b life w (sym own)) ∙ halting ∙ way.awake;
+    count = λ j. elim (way.count j) [
+      | inl same ↦ inl same
+      | inr start ↦
+          inr (more_starts (sent past) j start (sent (step b past (Enter c)))
+          (λ m e. ap (λ l. indexed l j) is.sent ∙ same_numbers (sent past) is.message j m e))
+    ];
+  };
+  own = own;
+  slots = λ x m e start.
+      subst (λ l. (in_life b l v).outstanding (OfCore x) ≡ Some m) same
+      (entry_slots b v c is.start is.act is.message x m is.allowed
+      (sym (ap (λ (u : Values). u.outstanding (OfCore x)) is.firmware) ∙ e) start);
+  here = is.here;
+  there = λ x ne old e. old (sym (is.there x ne) ∙ e);
+}
+  where
+    v : Values
+    v = firmware_values b past
+
+    w : Values
+    w = firmware_values b (step b past (Enter c))
+
+    is : HaveArrived b past c
+    is = arrives b past c laws.runs way.legal (laws.past past way.legal).free on at
+
+    same : is.start.life ≡ life
+    same =
+        let f : Some is.start.life ≡ Some life =
+        sym (last_is (controller_values b past) c is.start is.last).life ∙ way.present in cc
+
+    own : w.life ≡ life
+    own = ap (λ (u : Values). u.life) is.firmware
+        ∙ (entry_moves b v c is.start is.act is.message).life
+        ∙ found_life b v is.start.life ∙ same
+
+    halting : w.halting ≡ (in_life b life v).halting
+    halting = ap (λ (u : Values). u.halting) is.firmware
+        ∙ entry_halting b v c is.start is.act is.message
+        ∙ ap (λ l. (in_life b l v).halting) same
+
+-- what becomes of the records where a core enters, if it is started
+entering_case : (b : BoardValue) (past : List Record) (c : ℕ) (P : List Record → Type 0)
+    → (place b past c ≡ Started → P (step b past (Enter c))) → (HasEntered b c past → P past)
+    → P (entering b past c)
+entering_case b past c P in_now not_now = by_place (place b past c) refl
+  where
+    by_place : (p : Place) → place b past c ≡ p
+        → P (cond (is_started p) (step b past (Enter c)) past)
+    by_place Started e = in_now e
+    by_place Running e = not_now (λ f. let no : Running ≡ Started = sym e ∙ f in cc)
+    by_place Stopped e = not_now (λ f. let no : Stopped ≡ Started = sym e ∙ f in cc)
+
+-- so an entry of each core, if it is started, with whatever else it leaves
+pub enter_step : (b : BoardValue) (before : List Record) (life : ℕ) (Kept : List Record → Type 0)
+    → SettleLaws b
+    → ((past : List Record) (c : ℕ) → IsUnderWay b before life past → Kept past
+    → IsIn b before life past c → Kept (step b past (Enter c)))
+    → IsStep (entering b) (cores b) (λ past. IsUnderWay b before life past × Kept past)
+    (λ c past. Unit {0}) (λ c past. HasEntered b c past)
+enter_step b before life Kept laws keeps = record {
+  keeps = λ past c on holds.
+      entering_case b past c (λ next. IsUnderWay b before life next × Kept next)
+      (λ at.
+      let is = enters_in b before life past c laws holds.0 on at in
+      (is.way, keeps past c holds.0 holds.1 is)) (λ not. holds);
+  todo = λ past c x on ne holds now other. tt;
+  done = λ past c x on ne holds now other.
+      entering_case b past c (λ next. HasEntered b x next)
+      (λ at. (enters_in b before life past c laws holds.0 on at).there x ne other)
+      (λ not. other);
+  here = λ past c on holds now.
+      entering_case b past c (λ next. HasEntered b c next)
+      (λ at. (enters_in b before life past c laws holds.0 on at).here) (λ not. not);
+}

@@ -1,0 +1,248 @@
+-- What is told of the domains beside a core's path, as the core stops, enters or is asked on; and
+-- what is then told of all.
+use Rattle.std.proofs.Common.{◌≡◌, ℕ, ◌⊎◌, ◌<◌, inl, inr, Bool, true, false, cond}
+use Rattle.std.proofs.Common.{Option, None, Some, refl, arith, subst, ap, sym, ◌∙◌}
+use Rattle.std.specs.Prelude.{slice_get}
+use Rattle.std.proofs.lemmas.Bool.{cases_eq}
+use Rattle.psci_headline.specs.psci_board.Board.{BoardValue, cores, up}
+use Rattle.psci_headline.specs.psci_board.Laws.{PathLaws}
+use Rattle.psci_headline.specs.psci_board.Paths.{is_path_place}
+use Rattle.psci_headline.specs.psci_messages.declared.part.Part.{Part}
+use Rattle.psci_headline.specs.psci_messages.declared.kind.Kind.TheVariants as kinds
+use Rattle.psci_headline.specs.psci_messages.declared.start.Start.{Start}
+use Rattle.psci_headline.specs.psci_messages.Message.{MessageValue}
+use Rattle.psci_headline.specs.psci_messages.Slots.{OfCore, Put, Slot, changed, slot_of}
+use Rattle.psci_headline.specs.psci_fw_spec.declared.status.Status.TheVariants.{Off}
+use Rattle.psci_headline.specs.psci_fw_spec.declared.status.Status.TheVariants as statuses
+use Rattle.psci_headline.specs.psci_fw_spec.Changes.{PowerOn, Rest, target, with_arrival}
+use Rattle.psci_headline.specs.psci_fw_spec.Changes.{with_claims, with_pending, with_phase}
+use Rattle.psci_headline.specs.psci_fw_spec.Changes.{with_rest, with_running}
+use Rattle.psci_headline.specs.psci_fw_spec.Confirmed.{unless_claimed}
+use Rattle.psci_headline.specs.psci_fw_spec.Lives.{in_life}
+use Rattle.psci_headline.specs.psci_fw_spec.Paths.{claimed_or}
+use Rattle.psci_headline.specs.psci_fw_spec.Phases.{Phase, Away, Pending, Running, unless_pending}
+use Rattle.psci_headline.specs.psci_fw_spec.Values.{Values, updated}
+use Rattle.psci_headline.specs.psci_fw_laws.KnownBelow.{KnownLaws, known_below}
+use Rattle.psci_headline.specs.psci_fw_laws.Messages.{known_on}
+use Rattle.psci_headline.proofs.fw_laws.Parts.{updated_here, updated_there}
+use Rattle.psci_headline.proofs.Slots.{clear_there, put_here, put_there}
+use Rattle.psci_headline.specs.Confirming.{AreConfirming, IsConfirmedOr, IsOffOr, IsOutstanding}
+use Rattle.psci_headline.specs.Confirming.{IsYetToCome}
+use Rattle.psci_headline.proofs.Coming.{not_at, on_path, other_core, sum_beside, yet_still}
+
+-- What is told of the domains beside a core's path, and of the other cores.
+pub record AreBeside (b : BoardValue) (starts : ℕ → ℕ) (v : Values) (c : ℕ) : Type 0 where
+  pub domains : (level place : ℕ) → is_path_place b c level place ≡ false
+      → 0 < v.granted level place → IsConfirmedOr b starts v level place
+  pub cores : v.halting ≡ false → (x : ℕ) → x < cores b → (x ≡ c → ⊥) → v.phase x ≡ Away
+      → IsOffOr b starts v x
+
+-- nothing is granted on the path of a core
+abbrev pub IsFlat : BoardValue → Values → ℕ → Type 0
+IsFlat b v c = (level place : ℕ) → is_path_place b c level place ≡ true
+    → 0 < v.granted level place → ⊥
+
+-- A core stops or enters -----------------------------------------------------------------------
+
+pub phased : (b : BoardValue) (starts : ℕ → ℕ) (v : Values) (c : ℕ) (left : Phase)
+    → AreBeside b starts v c → AreBeside b starts (with_phase c left v) c
+phased b starts v c left are = record {
+  domains = are.domains;
+  cores = λ awake x on other away.
+      are.cores awake x on other
+      (sym (updated_there v.phase c (unless_pending (v.phase c) left) x other) ∙ away);
+}
+
+pub rested : (b : BoardValue) (starts : ℕ → ℕ) (v : Values) (c : ℕ) (rest : Rest)
+    → AreConfirming b starts v → AreBeside b starts (with_rest c rest v) c
+rested b starts v c rest are = record {
+  domains = λ level place off. are.domains level place;
+  cores = λ awake x on other away.
+      are.cores awake x on
+      (sym (updated_there v.phase c (unless_pending (v.phase c) rest.phase) x other) ∙ away);
+}
+
+pub arrived : (b : BoardValue) (starts : ℕ → ℕ) (v : Values) (c : ℕ) (s : Start)
+    → KnownLaws b → PathLaws b → AreConfirming b starts (in_life b s.life v)
+    → AreBeside b starts (with_arrival b c s v) c
+arrived b starts v c s laws paths are = record {
+  domains = λ level place off some.
+      elim (are.domains level place
+      (subst (λ d. 0 < d) (ap (λ t. cond t 0 (found.granted level place)) off) some)) [
+        | inl was ↦
+            inl (ap (λ t. cond t false (found.confirmed level place)) off ∙ was)
+        | inr yet ↦ inr (still level place off yet)
+      ];
+  cores = λ awake x on other away. elim (are.cores awake x on away) [
+    | inl was ↦ inl was
+    | inr yet ↦ inr (still 0 x (other_core b c x paths other) yet)
+  ];
+}
+  where
+    found : Values
+    found = in_life b s.life v
+
+    still : (level place : ℕ) → is_path_place b c level place ≡ false
+        → IsYetToCome b starts found.known found.outstanding level place
+        → IsYetToCome b starts (with_arrival b c s v).known (with_arrival b c s v).outstanding
+        level place
+    still level place off =
+        yet_still b starts found.known (with_arrival b c s v).known found.outstanding
+        (with_arrival b c s v).outstanding level place
+        (sum_beside b found.known c s.number level place laws off)
+        (λ m at is. clear_there found.outstanding c m.core.number
+        (not_at b c m.core.number level place off at) ∙ is)
+
+pub arrived_flat : (b : BoardValue) (v : Values) (c : ℕ) (s : Start)
+    → IsFlat b (with_arrival b c s v) c
+arrived_flat b v c s level place on some =
+    let none = ap (λ t. cond t 0 ((in_life b s.life v).granted level place)) on in
+    absurd (omega (arith, none, subst (λ d. 0 < d) none some))
+
+-- All ------------------------------------------------------------------------------------------
+
+-- every domain, where nothing is granted on the path
+pub all_domains : (b : BoardValue) (starts : ℕ → ℕ) (v : Values) (c : ℕ)
+    → AreBeside b starts v c → IsFlat b v c → (level place : ℕ) → 0 < v.granted level place
+    → IsConfirmedOr b starts v level place
+all_domains b starts v c are flat level place some =
+    by_test (is_path_place b c level place) refl
+  where
+    by_test : (t : Bool) → is_path_place b c level place ≡ t → IsConfirmedOr b starts v level place
+    by_test true on = absurd (flat level place on some)
+    by_test false off = are.domains level place off some
+
+-- a core that entered runs
+pub runs : (b : BoardValue) (starts : ℕ → ℕ) (v : Values) (c : ℕ) → AreBeside b starts v c
+    → IsFlat b v c → AreConfirming b starts (with_running c v)
+runs b starts v c are flat = record {
+  domains = all_domains b starts v c are flat;
+  cores = λ awake x on away. elim (cases_eq x c) [
+    | inl same ↦
+        let no : Running ≡ Away =
+        sym (ap (updated v.phase c Running) same ∙ updated_here v.phase c Running) ∙ away in
+        absurd (cc)
+    | inr other ↦
+        elim (are.cores awake x on other
+        (sym (updated_there v.phase c Running x other) ∙ away)) [
+          | inl was ↦ inl (updated_there v.status c statuses.On x other ∙ was)
+          | inr yet ↦ inr yet
+        ]
+  ];
+}
+
+-- a Down was sent, whose parts are of the known starts
+module _ (b : BoardValue) (starts : ℕ → ℕ) (v : Values) (m : MessageValue) (first : Part)
+    (paths : PathLaws b) (kind : m.kind ≡ kinds.Down)
+    (current : (level : ℕ) (p : Part) → slice_get m.parts level ≡ Some p
+    → p.generation ≡ known_on b v.known m.core.number level)
+    (at : slice_get m.parts 0 ≡ Some first) where
+  abbrev slot : slot_of m.kind m.core ≡ OfCore m.core.number
+  slot = ap (λ k. slot_of k m.core) kind
+
+  abbrev sends : Slot → Option MessageValue
+  sends s = changed s (Put m) (v.outstanding s)
+
+  -- it is outstanding for the domains on its path
+  here : (level place : ℕ) (p : Part) → slice_get m.parts level ≡ Some p
+      → up b level m.core.number ≡ place → IsOutstanding b v.known sends level place
+  here level place p listed on = record {
+    message = m;
+    kind = kind;
+    at = put_here v.outstanding m m.core.number slot;
+    on = on;
+    part = p;
+    listed = listed;
+    current = current level p listed ∙ ap (known_below b v.known level) on;
+  }
+
+  -- and for the others all is as before
+  there : (level place : ℕ) → is_path_place b m.core.number level place ≡ false
+      → IsYetToCome b starts v.known v.outstanding level place
+      → IsYetToCome b starts v.known sends level place
+  there level place off =
+      yet_still b starts v.known v.known v.outstanding sends level place refl (λ x below is.
+      put_there v.outstanding m m.core.number x.core.number slot
+      (not_at b m.core.number x.core.number level place off below) ∙ is)
+
+  by_part : (level place : ℕ) (o : Option Part) (depth : ℕ) (before : Bool)
+      → slice_get m.parts level ≡ o
+      → up b level m.core.number ≡ place → (0 < depth → ⊥) → 0 < claimed_or o depth
+      → (unless_claimed o before ≡ true) ⊎ IsYetToCome b starts v.known sends level place
+  by_part level place None depth before e on flat some = absurd (flat some)
+  by_part level place (Some p) depth before e on flat some = inr (inl (here level place p e on))
+
+  by_path : (level place : ℕ) (t : Bool) → is_path_place b m.core.number level place ≡ t
+      → AreBeside b starts v m.core.number → IsFlat b v m.core.number
+      → 0 < cond t (claimed_or (slice_get m.parts level) (v.granted level place))
+      (v.granted level place)
+      → (cond t (unless_claimed (slice_get m.parts level) (v.confirmed level place))
+      (v.confirmed level place) ≡ true)
+      ⊎ IsYetToCome b starts v.known sends level place
+  by_path level place true on are flat some =
+      by_part level place (slice_get m.parts level) (v.granted level place)
+      (v.confirmed level place) refl (on_path b m.core.number level place on)
+      (flat level place on) some
+  by_path level place false off are flat some = elim (are.domains level place off some) [
+    | inl was ↦ inl was
+    | inr yet ↦ inr (there level place off yet)
+  ]
+
+  pub claims : AreBeside b starts v m.core.number → IsFlat b v m.core.number
+      → AreConfirming b starts (with_claims b m v)
+  claims are flat = record {
+    domains = λ level place.
+        by_path level place (is_path_place b m.core.number level place) refl are flat;
+    cores = λ awake x on away. elim (cases_eq x m.core.number) [
+      | inl same ↦ inr (inl (here 0 x first at (paths.core m.core.number ∙ sym same)))
+      | inr other ↦ elim (are.cores awake x on other away) [
+        | inl was ↦ inl was
+        | inr yet ↦ inr (there 0 x (other_core b m.core.number x paths other) yet)
+      ]
+    ];
+  }
+
+-- a core was asked on
+module _ (b : BoardValue) (starts : ℕ → ℕ) (v : Values) (asked : PowerOn) (paths : PathLaws b)
+    (kind : asked.message.kind ≡ kinds.Start) where
+  abbrev t : ℕ
+  t = target asked
+
+  abbrev after : Values
+  after = with_pending b asked v
+
+  stays : (level place : ℕ) → is_path_place b t level place ≡ false
+      → IsYetToCome b starts v.known v.outstanding level place
+      → IsYetToCome b starts v.known after.outstanding level place
+  stays level place off =
+      yet_still b starts v.known v.known v.outstanding after.outstanding level place refl
+      (λ x below is.
+      put_there v.outstanding asked.message t x.core.number
+      (ap (λ k. slot_of k asked.message.core) kind)
+      (not_at b t x.core.number level place off below) ∙ is)
+
+  by_target : (level place : ℕ) (on : Bool) → is_path_place b t level place ≡ on
+      → AreConfirming b starts v → 0 < cond on 0 (v.granted level place)
+      → (cond on false (v.confirmed level place) ≡ true)
+      ⊎ IsYetToCome b starts v.known after.outstanding level place
+  by_target level place true on are some = absurd (omega (arith, some))
+  by_target level place false off are some = elim (are.domains level place some) [
+    | inl was ↦ inl was
+    | inr yet ↦ inr (stays level place off yet)
+  ]
+
+  pub pends : AreConfirming b starts v → AreConfirming b starts (with_pending b asked v)
+  pends are = record {
+    domains = λ level place. by_target level place (is_path_place b t level place) refl are;
+    cores = λ awake x on away. elim (cases_eq x t) [
+      | inl same ↦
+          let no : Pending ≡ Away =
+          sym (ap (updated v.phase t Pending) same ∙ updated_here v.phase t Pending) ∙ away in
+          absurd (cc)
+      | inr other ↦
+          elim (are.cores awake x on (sym (updated_there v.phase t Pending x other) ∙ away)) [
+            | inl was ↦ inl (updated_there v.status t statuses.Pending x other ∙ was)
+            | inr yet ↦ inr (stays 0 x (other_core b t x paths other) yet)
+          ]
+    ];
+  }

@@ -1,0 +1,56 @@
+-- What the laws of the crates below say of a board, and so of every legal run on it.
+use Rattle.std.proofs.Common.{◌≡◌, ℕ, List, subst, sym}
+use Rattle.psci_board.specs.Board.{BoardValue}
+use Rattle.psci_board.specs.Laws.{PathLaws}
+use Rattle.psci_ctl_spec.specs.psci_messages.declared.part.Part.{Part}
+use Rattle.psci_ctl_spec.specs.Follows.{AreValues}
+use Rattle.psci_ctl_spec.specs.Laws.{AckLaws, SumLaws}
+use Rattle.psci_ctl_spec.specs.Values as controlled
+use Rattle.psci_ctl_spec.specs.psci_messages.Message.{AreClaims, PartByPart}
+use Rattle.psci_headline.specs.psci_fw_spec.Sent.{sent_messages}
+use Rattle.psci_headline.specs.psci_fw_laws.Kept.{Holds}
+use Rattle.psci_headline.specs.psci_world_spec.declared.said.Record.{Record}
+use Rattle.psci_headline.specs.psci_world_spec.Histories.{controller_values, firmware_history}
+use Rattle.psci_headline.specs.psci_world_spec.Histories.{firmware_values}
+use Rattle.psci_headline.specs.psci_world_spec.Histories.{sent}
+use Rattle.psci_headline.specs.psci_world_spec.Legal.{IsLegalPast}
+use Rattle.psci_headline.specs.psci_world_spec.Places.{place}
+use Rattle.psci_headline.specs.Agreement.{Agree}
+use Rattle.psci_headline.proofs.Agreed.{RunLaws}
+use Rattle.psci_headline.proofs.Carried.{IsGiven}
+
+-- What the laws say of a board.
+pub record BoardLaws (b : BoardValue) : Type 0 where
+  pub runs : RunLaws b
+  pub sums : SumLaws b
+  pub parts : (ps : List Part) → AreClaims ps → PartByPart ps
+  pub paths : PathLaws b
+  pub acks : (u : controlled.Values) (c : ℕ) (ps : List Part) → AckLaws b u c ps
+  -- and of every legal run
+  pub agree : (past : List Record) → IsLegalPast b past → Agree b past
+  pub values : (past : List Record) → IsLegalPast b past → AreValues b (controller_values b past)
+  pub sent : (past : List Record) → IsLegalPast b past
+      → sent past ≡ sent_messages b (firmware_history b past)
+  pub kept : (past : List Record) → IsLegalPast b past
+      → Holds b (firmware_values b past) (sent_messages b (firmware_history b past))
+
+-- what is known after a run, whatever happens next
+abbrev pub Given : BoardValue → List Record → Type 0
+Given b past =
+    IsGiven b (controller_values b past) (place b past) (firmware_values b past) (sent past)
+
+pub is_given : (b : BoardValue) (past : List Record) → BoardLaws b → IsLegalPast b past
+    → Given b past
+is_given b past laws is =
+    let agree = laws.agree past is in
+    record {
+      sums = laws.sums;
+      parts = laws.parts;
+      paths = laws.paths;
+      acks = laws.acks;
+      callers = laws.runs.callers;
+      agreed = record { begun = agree.begun; stopped = agree.stopped; present = agree.present };
+      holds = subst (Holds b (firmware_values b past)) (sym (laws.sent past is))
+          (laws.kept past is);
+      lives = (laws.values past is).last;
+    }

@@ -1,0 +1,254 @@
+-- What waits, after one call of the power controller or of the firmware.
+use Rattle.std.proofs.Common.{◌≡◌, ℕ, zero, suc, ◌+◌, inl, inr, ◌<◌, ◌≤◌, Bool, true, false, ◌==◌}
+use Rattle.std.proofs.Common.{cond, List, ◌∷◌, ◌++◌, Option, Some, refl, arith, subst, ap, sym, ◌∙◌}
+use Rattle.std.specs.Prelude.{nat_lt, slice_get}
+use Rattle.std.proofs.lemmas.Bool.{cases_eq, cond_both, eqb-false}
+use Rattle.psci_board.specs.Board.{BoardValue, cores}
+use Rattle.psci_board.specs.Laws.{PathLaws}
+use Rattle.psci_ctl_spec.specs.psci_messages.declared.part.Part.{Part}
+use Rattle.psci_ctl_spec.specs.psci_messages.declared.start.Cause.{Cause}
+use Rattle.psci_ctl_spec.specs.psci_messages.declared.start.Cause.TheVariants as causes
+use Rattle.psci_ctl_spec.specs.psci_messages.declared.start.Start.{Start}
+use Rattle.psci_ctl_spec.specs.Changes.{next_life}
+use Rattle.psci_ctl_spec.specs.Changes as controlling
+use Rattle.psci_ctl_spec.specs.Effects as controlling_effects
+use Rattle.psci_ctl_spec.specs.Effects.{Nothing, Starts, Deepens, Ends, Begins, message_effect}
+use Rattle.psci_ctl_spec.specs.Follows.{MayFollow}
+use Rattle.psci_ctl_spec.specs.Laws.{AckLaws, SumLaws}
+use Rattle.psci_ctl_spec.specs.Replies.{ack_by, last_start, may_follow}
+use Rattle.psci_ctl_spec.specs.Values as controlled
+use Rattle.psci_ctl_spec.specs.psci_messages.declared.kind.Kind.{Kind}
+use Rattle.psci_ctl_spec.specs.psci_messages.declared.kind.Kind.TheVariants as kinds
+use Rattle.psci_ctl_spec.specs.psci_messages.Message.{AckValue, AreClaims, MessageValue, PartByPart}
+use Rattle.psci_headline.specs.psci_fw_spec.declared.outcome.Act.{Act}
+use Rattle.psci_headline.specs.psci_fw_spec.After.{change}
+use Rattle.psci_headline.specs.psci_fw_spec.Changes.{with_acknowledgement}
+use Rattle.psci_headline.specs.psci_fw_spec.Effects.{Effect, enter_effect}
+use Rattle.psci_headline.specs.psci_fw_spec.Lives.{in_life, start_of_life}
+use Rattle.psci_headline.specs.psci_fw_spec.Said as says
+use Rattle.psci_headline.specs.psci_fw_spec.Values.{Values}
+use Rattle.psci_headline.specs.psci_fw_laws.Allowed.{IsAllowed}
+use Rattle.psci_headline.specs.psci_fw_laws.Kept.{Holds}
+use Rattle.psci_headline.specs.psci_fw_laws.Live.{AreLive}
+use Rattle.psci_headline.specs.psci_fw_laws.Messages.{AreSent}
+use Rattle.psci_headline.specs.psci_fw_laws.Outstanding.{AreOutstanding}
+use Rattle.psci_headline.proofs.fw_laws.Arriving.{first_holds, found_life}
+use Rattle.psci_headline.proofs.fw_laws.Consequences.{once_down}
+use Rattle.psci_headline.proofs.fw_laws.Living.{live_laws}
+use Rattle.psci_headline.proofs.fw_laws.Sums.{known_le}
+use Rattle.psci_headline.specs.psci_world_spec.declared.place.Place.{Place}
+use Rattle.psci_headline.specs.psci_world_spec.declared.place.Place.TheVariants as places
+use Rattle.psci_headline.proofs.Agreeing.{AreAgreed, found_other, found_own}
+use Rattle.psci_headline.proofs.Moving.{CallerLaws, IsCallOf, call_moves, entry_moves}
+use Rattle.psci_headline.proofs.Placing.{last_is, own_life}
+use Rattle.psci_headline.specs.Waiting.{IsNamed, WaitingIn}
+use Rattle.psci_headline.proofs.Calls.{call_waits, entry_waits}
+use Rattle.psci_headline.proofs.Controls.{IsKnown, begun_waits, down_waits, start_told, start_waits}
+use Rattle.psci_headline.proofs.Taking.{waiting_taken}
+use Rattle.psci_headline.proofs.Telling.{own_name}
+
+-- What waits in this life, where there is one.
+abbrev pub WaitsNow : BoardValue → controlled.Values → Values → List MessageValue → List AckValue
+    → Type 0
+WaitsNow b w v sent made =
+    (life : ℕ) → w.life ≡ Some life → WaitingIn b life w (in_life b life v) sent made
+
+-- What is known of a board, of values and of messages, whatever happens next.
+pub record IsGiven (b : BoardValue) (w : controlled.Values) (place : ℕ → Place) (v : Values)
+    (sent : List MessageValue) : Type 0 where
+  pub sums : SumLaws b
+  pub parts : (ps : List Part) → AreClaims ps → PartByPart ps
+  pub paths : PathLaws b
+  pub acks : (u : controlled.Values) (c : ℕ) (ps : List Part) → AckLaws b u c ps
+  pub callers : CallerLaws b
+  pub agreed : AreAgreed b w place v
+  pub holds : Holds b v sent
+  pub lives : (life : ℕ) → w.life ≡ Some life → life ≤ b.lives
+
+-- what a core finds that enters in this life is such as the firmware keeps
+pub present_holds : (b : BoardValue) (w : controlled.Values) (place : ℕ → Place) (v : Values)
+    (sent : List MessageValue) (life : ℕ) → IsGiven b w place v sent → w.life ≡ Some life
+    → Holds b (in_life b life v) sent
+present_holds b w place v sent life given e =
+    cond_both (life == v.life) v (start_of_life b life) (λ u. Holds b u sent) (λ f. given.holds)
+    (λ f.
+    let other = eqb-false life v.life f in
+    first_holds b v.life v.halting v.known v.phase sent life (given.lives life e)
+    (omega (arith, given.agreed.begun life e, other)) given.holds.apart given.holds.messages)
+
+pub present_known : (b : BoardValue) (w : controlled.Values) (place : ℕ → Place) (v : Values)
+    (sent : List MessageValue) (life : ℕ) → IsGiven b w place v sent → w.life ≡ Some life
+    → IsKnown b life w.starts (in_life b life v) sent
+present_known b w place v sent life given e =
+    let found : Values = in_life b life v in
+    let holds : Holds b found sent = present_holds b w place v sent life given e in
+    let le = (given.agreed.present life e).known in
+    let own : found.life ≡ life = found_life b v life in
+    record {
+      sums = given.sums;
+      parts = given.parts;
+      own = own;
+      messages = subst (λ l. AreSent b l found.halting found.known found.phase sent) own
+          holds.messages;
+      apart = holds.apart;
+      live = subst (λ l. AreLive b l found.known found.phase sent w.starts) own
+          (live_laws b found sent w.starts given.paths holds le);
+      le = le;
+      below = λ level place_now.
+          known_le b found.known w.starts level place_now (λ c i t. le c);
+    }
+
+-- The power controller -------------------------------------------------------------------------
+
+-- a core is started
+pub started_waits : (b : BoardValue) (w : controlled.Values) (place : ℕ → Place) (v : Values)
+    (sent : List MessageValue) (made : List AckValue) (c : ℕ) (cause : Cause)
+    → IsGiven b w place v sent → c < cores b → WaitsNow b w v sent made
+    → WaitsNow b (controlling.change b (Starts c cause) w) v sent made
+started_waits b w place v sent made c cause given on h life e =
+    start_waits b life w (in_life b life v) sent made c cause on
+    (present_known b w place v sent life given e) (h life e)
+
+-- a message is acknowledged, by its kind
+acked_kind : (b : BoardValue) (w : controlled.Values) (place : ℕ → Place) (v : Values)
+    (sent : List MessageValue) (made : List AckValue) (k : ℕ) (m : MessageValue) (kind : Kind)
+    → IsGiven b w place v sent → slice_get sent k ≡ Some m → w.life ≡ Some m.life
+    → m.kind ≡ kind → let a = ack_by b w m kind in
+    MayFollow b w (message_effect b m a kind) → WaitsNow b w v sent made
+    → WaitsNow b (controlling.change b (message_effect b m a kind) w) v sent (a ∷ made)
+acked_kind b w place v sent made k m kinds.Down given at own is may h = λ life e.
+    let present : m.life ≡ life = cc in
+    down_waits b life w (in_life b life v) sent made k m
+    (present_known b w place v sent life given e) at present is (given.acks w m.core.number m.parts)
+    may.0 (h life e)
+acked_kind b w place v sent made k m kinds.Start given at own is may h = by_test
+  where
+    t : Bool
+    t = may_follow b w m.core.number m.number
+
+    effect : controlling_effects.Effect
+    effect = message_effect b m (ack_by b w m kinds.Start) kinds.Start
+
+    same_life : (s : Bool) → (controlling.change b (cond s Nothing
+        (Starts m.core.number causes.On)) w).life ≡ w.life
+    same_life true = refl
+    same_life false = refl
+
+    by_test : WaitsNow b (controlling.change b effect w) v sent (ack_by b w m kinds.Start ∷ made)
+    by_test life e =
+        let now : w.life ≡ Some life = sym (same_life _) ∙ e in
+        let present : m.life ≡ life = cc in
+        start_told b life w (in_life b life v) sent made k m t
+        (present_known b w place v sent life given now) at present is refl (h life now)
+acked_kind b w place v sent made k m kinds.Off given at own is may h = λ life e. absurd (cc)
+acked_kind b w place v sent made k m kinds.Reset given at own is may h =
+    by_test (nat_lt m.life b.lives)
+  where
+    by_test : (t : Bool)
+        → WaitsNow b (controlling.change b (cond t Begins Ends) w) v sent
+        (ack_by b w m kinds.Reset ∷ made)
+    by_test false = λ life e. absurd (cc)
+    by_test true = λ life e.
+        let next : m.life + 1 ≡ life =
+        let f : Some (m.life + 1) ≡ Some life = ap next_life (sym own) ∙ e in cc in
+        let low = given.agreed.begun m.life own in
+        let other : life ≡ v.life → ⊥ = λ s. omega (arith, next, low, s) in
+        subst (λ u. WaitingIn b life (controlling.change b Begins w) u sent
+        (ack_by b w m kinds.Reset ∷ made))
+        (sym (found_other b life v other))
+        (begun_waits b life v.life v.halting v.known v.phase sent
+        (ack_by b w m kinds.Reset ∷ made) given.holds.messages (omega (arith, next, low)) names)
+      where
+        names : (i : ℕ) (x : AckValue)
+            → slice_get (ack_by b w m kinds.Reset ∷ made) i ≡ Some x → IsNamed x sent
+        names zero x e =
+            let same : ack_by b w m kinds.Reset ≡ x = cc in
+            subst (λ y. IsNamed y sent) same
+            (record { index = k; message = m; at = at; answers = own_name m 1 false })
+        names (suc i) x e = (h m.life own).named i x e
+
+-- a message is acknowledged
+pub acked_waits : (b : BoardValue) (w : controlled.Values) (place : ℕ → Place) (v : Values)
+    (sent : List MessageValue) (made : List AckValue) (k : ℕ) (m : MessageValue) (a : AckValue)
+    → IsGiven b w place v sent → slice_get sent k ≡ Some m → w.life ≡ Some m.life
+    → a ≡ ack_by b w m m.kind → MayFollow b w (message_effect b m a m.kind)
+    → WaitsNow b w v sent made
+    → WaitsNow b (controlling.change b (message_effect b m a m.kind) w) v sent (a ∷ made)
+acked_waits b w place v sent made k m a given at own is may h =
+    subst (λ x. WaitsNow b (controlling.change b (message_effect b m x m.kind) w) v sent
+    (x ∷ made))
+    (sym is)
+    (acked_kind b w place v sent made k m m.kind given at own refl
+    (subst (λ x. MayFollow b w (message_effect b m x m.kind)) is may) h)
+
+-- The firmware ---------------------------------------------------------------------------------
+
+-- the life of a running core is the firmware's
+running_life : (b : BoardValue) (w : controlled.Values) (place : ℕ → Place) (v : Values)
+    (c life : ℕ) → AreAgreed b w place v → c < cores b → place c ≡ places.Running
+    → w.life ≡ Some life → life ≡ v.life
+running_life b w place v c life agreed on at e =
+    own_life b life v c ((agreed.present life e).runs c on at)
+
+-- a core calls
+pub called_waits : (b : BoardValue) (w : controlled.Values) (place : ℕ → Place) (v : Values)
+    (sent : List MessageValue) (made : List AckValue) (c : ℕ) (e : Effect) (runs : Bool)
+    → IsGiven b w place v sent → c < cores b → place c ≡ places.Running → IsCallOf e c runs
+    → IsAllowed b v e → WaitsNow b w v sent made
+    → WaitsNow b w (change b e v) (says.listed (says.sent e) ++ sent) made
+called_waits b w place v sent made c e runs given on at is allowed h life f =
+    let own : life ≡ v.life = running_life b w place v c life given.agreed on at f in
+    let moved = call_moves b v e given.callers is.is allowed in
+    let known : IsKnown b life w.starts v sent =
+    subst (λ u. IsKnown b life w.starts u sent) (found_own b life v own)
+    (present_known b w place v sent life given f) in
+    let now : WaitingIn b life w v sent made =
+    subst (λ u. WaitingIn b life w u sent made) (found_own b life v own) (h life f) in
+    subst (λ u. WaitingIn b life w u (says.listed (says.sent e) ++ sent) made)
+    (sym (found_own b life (change b e v) (own ∙ sym moved.life)))
+    (call_waits b life w v sent made e given.callers is.is allowed known.live now)
+
+-- a core enters
+pub entering_waits : (b : BoardValue) (w : controlled.Values) (place : ℕ → Place) (v : Values)
+    (sent : List MessageValue) (made : List AckValue) (c : ℕ) (s : Start) (act : Act)
+    (o : Option MessageValue) → IsGiven b w place v sent → c < cores b
+    → place c ≡ places.Started → last_start w c ≡ Some s
+    → IsAllowed b v (enter_effect c s act o) → WaitsNow b w v sent made
+    → WaitsNow b w (change b (enter_effect c s act o) v)
+    (says.listed (says.sent (enter_effect c s act o)) ++ sent) made
+entering_waits b w place v sent made c s act o given on at last allowed h life f =
+    let is = last_is w c s last in
+    let same : s.life ≡ life = let g : Some s.life ≡ Some life = sym is.life ∙ f in cc in
+    let moved = entry_moves b v c s act o in
+    let entered : s.life ≡ (change b (enter_effect c s act o) v).life =
+    sym (moved.life ∙ found_life b v s.life) in
+    let known = present_known b w place v sent s.life given is.life in
+    let later = (given.agreed.present s.life is.life).waits c on at in
+    subst (λ l. WaitingIn b l w (in_life b l (change b (enter_effect c s act o) v))
+    (says.listed (says.sent (enter_effect c s act o)) ++ sent) made)
+    same
+    (subst (λ u. WaitingIn b s.life w u
+    (says.listed (says.sent (enter_effect c s act o)) ++ sent) made)
+    (sym (found_own b s.life (change b (enter_effect c s act o) v) entered))
+    (entry_waits b w v sent made c s act o allowed on later known.live (h s.life is.life)))
+
+-- an acknowledgement is taken
+pub taking_waits : (b : BoardValue) (w : controlled.Values) (place : ℕ → Place) (v : Values)
+    (sent : List MessageValue) (made : List AckValue) (a : AckValue) (i : ℕ)
+    → IsGiven b w place v sent → slice_get made i ≡ Some a → WaitsNow b w v sent made
+    → WaitsNow b w (with_acknowledgement b a v) sent made
+taking_waits b w place v sent made a i given at h life f = elim (cases_eq life v.life) [
+  | inl own ↦
+      let now : WaitingIn b life w v sent made =
+      subst (λ u. WaitingIn b life w u sent made) (found_own b life v own) (h life f) in
+      let slots = subst (λ l. AreOutstanding l v.known v.phase sent v.outstanding) (sym own)
+      given.holds.slots in
+      subst (λ u. WaitingIn b life w u sent made)
+      (sym (found_own b life (with_acknowledgement b a v) own))
+      (waiting_taken b life w.starts w.depth v.halting v.known v.phase v.outstanding sent made a i
+      at (once_down b v sent given.holds) slots now)
+  | inr other ↦
+      subst (λ u. WaitingIn b life w u sent made)
+      (sym (found_other b life (with_acknowledgement b a v) other))
+      (subst (λ u. WaitingIn b life w u sent made) (found_other b life v other) (h life f))
+]

@@ -1,0 +1,59 @@
+-- Live claims that have their depth, level by level.
+use Rattle.std.proofs.Common.{◌≡◌, ℕ, inl, inr, ◌<◌, false, List, Some}
+use Rattle.std.proofs.Common.{refl, ap, sym, ◌∙◌}
+use Rattle.std.specs.Prelude.{nat_le, slice_get}
+use Rattle.std.proofs.lemmas.Bool.{and_parts, and_right, cond-false, eqb-false, ltb-true, leb-true}
+use Rattle.std.proofs.lemmas.Bool.{ne_eqb}
+use Rattle.psci_board.specs.Board.{BoardValue, HasNode, height, up}
+use Rattle.psci_board.specs.declared.node.Node.{Node}
+use Rattle.psci_ctl_spec.specs.psci_messages.declared.part.Part.{Part}
+use Rattle.psci_ctl_spec.specs.Values.{first_depth, starts_below}
+use Rattle.psci_board.specs.Paths.{is_on_path}
+use Rattle.psci_ctl_spec.specs.psci_messages.declared.kind.Kind.TheVariants.{Down}
+use Rattle.psci_ctl_spec.specs.psci_messages.Message.{MessageValue}
+use Rattle.psci_headline.specs.psci_fw_laws.Claims.{IsClaimOn, IsFromStart}
+use Rattle.psci_headline.specs.psci_fw_laws.KnownBelow.{known_below}
+use Rattle.psci_headline.proofs.fw_laws.Parts.{part_has}
+use Rattle.psci_headline.specs.Waiting.{IsLivePart}
+use Rattle.psci_headline.proofs.Starting.{same_sum}
+
+-- below this level each live part of a core's Downs has its depth
+abbrev pub AreDeep : BoardValue → ℕ → (ℕ → ℕ) → (ℕ → ℕ → ℕ) → List MessageValue → ℕ → ℕ → Type 0
+AreDeep b life starts depth sent r c = (k level : ℕ) (m : MessageValue) (p : Part)
+    → slice_get sent k ≡ Some m → m.life ≡ life → m.kind ≡ Down → m.core.number ≡ c
+    → slice_get m.parts level ≡ Some p → IsLivePart b starts m level p → level < r
+    → depth level (up b level m.core.number) ≡ p.depth
+
+-- a domain below which no core was started in this life is as deep as at its start
+abbrev pub AreFirst : BoardValue → (ℕ → ℕ) → (ℕ → ℕ → ℕ) → Type 0
+AreFirst b starts depth = (n : Node) → HasNode b n → starts_below b starts n ≡ 0
+    → depth n.level n.place ≡ first_depth b n.level n.place
+
+from_start : (b : BoardValue) (starts : ℕ → ℕ) (depth : ℕ → ℕ → ℕ) (level place : ℕ) (p : Part)
+    → AreFirst b starts depth → IsFromStart b level place p
+    → p.generation ≡ known_below b starts level place → depth level place ≡ p.depth
+from_start b starts depth level place p first from live =
+    let n : Node = record { level = level; place = place } in
+    let zero : p.generation ≡ 0 = ap (λ (q : Part). q.generation) from.is in
+    let deep : p.depth ≡ 3 = ap (λ (q : Part). q.depth) from.is in
+    let on = and_parts (nat_le level (height b)) _ from.node in
+    let has : HasNode b n = record { level = leb-true _ _ on.0; place = ltb-true _ _ on.1 } in
+    let off : is_on_path b 0 level place ≡ false =
+    and_right (nat_le level (height b)) _
+    (ne_eqb (up b level 0) place (λ e. eqb-false place (up b level 0) from.off_path (sym e))) in
+    first n has (same_sum b starts n ∙ sym live ∙ zero)
+    ∙ cond-false (is_on_path b 0 level place) 0 3 off ∙ sym deep
+
+-- a live claim on a domain below this level is its depth
+pub claim_deep : (b : BoardValue) (life : ℕ) (starts : ℕ → ℕ) (depth : ℕ → ℕ → ℕ)
+    (sent : List MessageValue) (r level place : ℕ) (p : Part) → AreFirst b starts depth
+    → ((c : ℕ) → AreDeep b life starts depth sent r c) → IsClaimOn b life level place p sent
+    → p.generation ≡ known_below b starts level place → level < r → depth level place ≡ p.depth
+claim_deep b life starts depth sent r level place p first deep claim live low = elim claim [
+  | inl from ↦ from_start b starts depth level place p first from live
+  | inr from ↦
+      let has = part_has b life level place from.message p from.part in
+      ap (depth level) has.on
+      ∙ deep from.message.core.number from.index level from.message p from.at has.present has.kind
+      refl has.part (live ∙ ap (known_below b starts level) has.on) low
+]

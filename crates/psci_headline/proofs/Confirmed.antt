@@ -1,0 +1,145 @@
+-- What is told after every legal run.
+use Rattle.std.proofs.Common.{◌≡◌, List, [], ◌∷◌, ◌++◌, Option, None, Some}
+use Rattle.std.proofs.Common.{subst, sym}
+use Rattle.psci_headline.specs.psci_board.Board.{BoardValue}
+use Rattle.psci_headline.specs.psci_board.Laws.{PathLaws}
+use Rattle.psci_headline.specs.psci_ctl_spec.Changes.{after}
+use Rattle.psci_headline.specs.psci_ctl_spec.Changes as controlling
+use Rattle.psci_headline.specs.psci_ctl_spec.Effects.{effect_of}
+use Rattle.psci_headline.specs.psci_ctl_spec.Exchange.{CtlExchange}
+use Rattle.psci_headline.specs.psci_ctl_spec.History as controls
+use Rattle.psci_headline.specs.psci_ctl_spec.Values as controlled
+use Rattle.psci_headline.proofs.ctl_spec.OneMore.{values_more}
+use Rattle.psci_headline.specs.psci_messages.Message.{AckValue, MessageValue}
+use Rattle.psci_headline.specs.psci_fw_spec.History as remembers
+use Rattle.psci_headline.specs.psci_fw_spec.Lives.{start_of_life}
+use Rattle.psci_headline.specs.psci_fw_spec.Values.{Values}
+use Rattle.psci_headline.specs.psci_fw_laws.Kept.{Holds}
+use Rattle.psci_headline.specs.psci_fw_laws.KnownBelow.{KnownLaws}
+use Rattle.psci_headline.specs.psci_world_spec.declared.event.Event.{Event}
+use Rattle.psci_headline.specs.psci_world_spec.declared.event.Event.TheVariants.{Call, Enter}
+use Rattle.psci_headline.specs.psci_world_spec.declared.event.Event.TheVariants.{Wake, Reset}
+use Rattle.psci_headline.specs.psci_world_spec.declared.event.Event.TheVariants.{Deliver, Take}
+use Rattle.psci_headline.specs.psci_world_spec.declared.said.Record.{Record}
+use Rattle.psci_headline.specs.psci_world_spec.declared.said.Said.{Said}
+use Rattle.psci_headline.specs.psci_world_spec.declared.said.Said.TheVariants.{Acked}
+use Rattle.psci_headline.specs.psci_world_spec.declared.said.Said.TheVariants.{Kick as Kicked}
+use Rattle.psci_headline.specs.psci_world_spec.Histories.{acks, call, control}
+use Rattle.psci_headline.specs.psci_world_spec.Histories.{controller_history, controller_values}
+use Rattle.psci_headline.specs.psci_world_spec.Histories.{delivered, firmware_history}
+use Rattle.psci_headline.specs.psci_world_spec.Histories.{firmware_values, sent}
+use Rattle.psci_headline.specs.psci_world_spec.Legal.{IsLegalPast}
+use Rattle.psci_headline.specs.psci_world_spec.Lists.{indexed}
+use Rattle.psci_headline.proofs.world_spec.Answered.{firmware_legal}
+use Rattle.psci_headline.specs.Agreement.{Agree}
+use Rattle.psci_headline.specs.Waiting.{Waiting}
+use Rattle.psci_headline.proofs.Moves.{FirmwareLaws, moves}
+use Rattle.psci_headline.specs.Confirming.{Confirming}
+use Rattle.psci_headline.proofs.Steps.{ConfirmingNow, controlled_by, effect, first_now}
+
+-- What the laws below say of a board and of its legal pasts.
+pub record RunLaws (b : BoardValue) : Type 0 where
+  pub sums : KnownLaws b
+  pub paths : PathLaws b
+  pub firmware : FirmwareLaws b
+  pub first : remembers.values_of b [] ≡ start_of_life b 0
+  pub holds : (past : List Record) → IsLegalPast b past
+      → let v = firmware_values b past in Holds b v (sent past)
+  pub agree : (past : List Record) → IsLegalPast b past → Agree b past
+  pub waits : (past : List Record) → IsLegalPast b past → Waiting b past
+
+-- The firmware ---------------------------------------------------------------------------------
+
+-- a record leaves the firmware so, beside the power controller before it
+firmware_next : (b : BoardValue) (r : Record) (past : List Record) → RunLaws b
+    → IsLegalPast b (r ∷ past) → Confirming b past
+    → ConfirmingNow b (controller_values b past) (firmware_values b (r ∷ past))
+firmware_next b r past laws is h =
+    let m = moves b r past laws.firmware is.0 (firmware_legal b (r ∷ past) is) in
+    let w : controlled.Values = controller_values b past in
+    let v : Values = firmware_values b past in
+    subst (ConfirmingNow b w) (sym m.values)
+    (effect b w v (sent past) (acks past) laws.sums laws.paths (laws.holds past is.1)
+    (λ life e. ((laws.agree past is.1).present life e).known)
+    (λ life e. (laws.waits past is.1 life e).told) h m.effect m.allowed m.says)
+
+-- The power controller -------------------------------------------------------------------------
+
+-- at most one exchange
+abbrev IsFew : List CtlExchange → Type 0
+IsFew [] = Unit {0}
+IsFew (e ∷ []) = Unit {0}
+IsFew (e ∷ f ∷ es) = ⊥
+
+few_delivered : (m : Option MessageValue) (a : AckValue) → IsFew (delivered m a)
+few_delivered None a = tt
+few_delivered (Some m) a = tt
+
+few : (w : controlled.Values) (messages : List MessageValue) (event : Event) (said : Said)
+    → IsFew (control w messages event said)
+few w messages (Deliver k) (Acked index ack) = few_delivered (indexed messages k) ack
+few w messages (Wake c) (Kicked start) = tt
+few w messages (Reset c) (Kicked start) = tt
+few w messages event said = tt
+
+values_by : (b : BoardValue) (e : CtlExchange) (h : List CtlExchange)
+    → controls.values_of b (e ∷ h)
+    ≡ controlling.change b (effect_of b e.call e.reply) (controls.values_of b h)
+unfolding after
+values_by b e h = values_more b e h
+
+-- so many exchanges more
+control_next : (b : BoardValue) (past : List Record) (es : List CtlExchange) → KnownLaws b
+    → IsFew es → Agree b past → Confirming b past
+    → ConfirmingNow b (controls.values_of b (es ++ controller_history b past))
+    (firmware_values b past)
+control_next b past [] sums is agree h = h
+control_next b past (e ∷ []) sums is agree h =
+    subst (λ w. ConfirmingNow b w (firmware_values b past))
+    (sym (values_by b e (controller_history b past)))
+    (controlled_by b (controller_values b past) (firmware_values b past)
+    (effect_of b e.call e.reply) sums agree.begun h)
+control_next b past (e ∷ f ∷ es) sums is agree h = absurd is
+
+-- Both -----------------------------------------------------------------------------------------
+
+-- both values after a record, by its event and by what it says
+abbrev values_next : (b : BoardValue) (past : List Record) (event : Event) (said : Said) → Type 0
+values_next b past event said =
+    ConfirmingNow b
+    (controls.values_of b (control (controller_values b past) (sent past) event said
+    ++ controller_history b past))
+    (remembers.values_of b (call (controller_values b past) (acks past) event said
+    ++ firmware_history b past))
+
+-- an event asks one of both, and leaves the other as it was
+by_event : (b : BoardValue) (past : List Record) (event : Event) (said : Said)
+    → ConfirmingNow b (controller_values b past)
+    (remembers.values_of b (call (controller_values b past) (acks past) event said
+    ++ firmware_history b past))
+    → ConfirmingNow b (controls.values_of b (control (controller_values b past) (sent past) event
+    said ++ controller_history b past)) (firmware_values b past)
+    → values_next b past event said
+by_event b past (Call c regs) said asked kept = asked
+by_event b past (Enter c) said asked kept = asked
+by_event b past (Take k) said asked kept = asked
+by_event b past (Wake c) said kept does = does
+by_event b past (Reset c) said kept does = does
+by_event b past (Deliver k) said kept does = does
+
+next : (b : BoardValue) (r : Record) (past : List Record) → RunLaws b
+    → IsLegalPast b (r ∷ past) → Confirming b past → Confirming b (r ∷ past)
+unfolding controller_history firmware_history
+next b r past laws is h =
+    by_event b past r.event r.said (firmware_next b r past laws is h)
+    (control_next b past (control (controller_values b past) (sent past) r.event r.said)
+    laws.sums (few (controller_values b past) (sent past) r.event r.said)
+    (laws.agree past is.1) h)
+
+pub confirming : (b : BoardValue) (past : List Record) → RunLaws b → IsLegalPast b past
+    → Confirming b past
+unfolding firmware_history
+confirming b [] laws is =
+    subst (ConfirmingNow b (controller_values b [])) (sym laws.first)
+    (λ life e. first_now b (controller_values b []).starts life)
+confirming b (r ∷ past) laws is = next b r past laws is (confirming b past laws is.1)

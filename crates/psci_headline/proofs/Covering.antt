@@ -1,0 +1,167 @@
+-- How many parts of a Down are applied: at least those that are live and covered.
+use Rattle.std.proofs.Common.{◌≡◌, ℕ, zero, suc, inl, inr, ◌+◌, ◌-◌, ◌<◌, ◌≤◌, Bool, true}
+use Rattle.std.proofs.Common.{◌==◌, cond, List, [], ◌∷◌, length, take, Some, refl, arith}
+use Rattle.std.proofs.Common.{subst, ap, sym, ◌∙◌}
+use Rattle.std.specs.Prelude.{nat_le, slice_get}
+use Rattle.std.specs.List.{list_all, prefix_len, range_with_len}
+use Rattle.std.proofs.lemmas.Bool.{and_from, cases_Bool, cases_eq, cond-true, cond-false, eq-eqb}
+use Rattle.std.proofs.lemmas.Bool.{le-leb}
+use Rattle.psci_board.specs.Board.{BoardValue, children, cores, first_child, height, nodes, up}
+use Rattle.psci_board.specs.Laws.{ChildLaws, PathLaws}
+use Rattle.psci_board.specs.declared.node.Node.{Node}
+use Rattle.psci_ctl_spec.specs.psci_messages.declared.part.Part.{Part}
+use Rattle.psci_board.specs.Board.{domain_of}
+use Rattle.psci_ctl_spec.specs.Parts.{applied, depth_or, is_applied, is_covered, laid}
+use Rattle.psci_ctl_spec.specs.Values.{Values, starts_below}
+use Rattle.psci_board.specs.Paths.{is_on_path}
+use Rattle.psci_ctl_spec.proofs.Front.{get_take}
+use Rattle.psci_headline.proofs.Deepening.{path_place}
+use Rattle.psci_headline.proofs.Telling.{item_at}
+
+-- Lists ----------------------------------------------------------------------------------------
+
+-- so many items at the front pass
+pub prefix_at_least : (test : Part → Bool) (ps : List Part) (n : ℕ) → n ≤ length ps
+    → ((k : ℕ) (p : Part) → k < n → slice_get ps k ≡ Some p → test p ≡ true)
+    → n ≤ prefix_len test ps
+prefix_at_least test ps zero few h = omega arith
+prefix_at_least test [] (suc n) few h = absurd (omega (arith, few))
+prefix_at_least test (p ∷ ps) (suc n) few h =
+    let here = h 0 p (omega arith) refl in
+    let rest = prefix_at_least test ps n (omega arith)
+    (λ k q low at. h (suc k) q (omega arith) at) in
+    let now : cond (test p) (1 + prefix_len test ps) 0 ≡ 1 + prefix_len test ps =
+    cond-true (test p) (1 + prefix_len test ps) 0 here in
+    omega (arith, now, rest)
+
+all_in_range : (test : ℕ → Bool) (a n : ℕ)
+    → ((i : ℕ) → a ≤ i → i < a + n → test i ≡ true)
+    → list_all test (range_with_len a n) ≡ true
+all_in_range test a zero h = refl
+all_in_range test a (suc n) h =
+    and_from _ _ (h a (omega arith) (omega arith))
+    (all_in_range test (a + 1) n (λ i low high. h i (omega arith) (omega arith)))
+
+-- Covered --------------------------------------------------------------------------------------
+
+-- every child of a domain on a core's path that is not on the path is at least as deep
+abbrev pub OthersDeep : BoardValue → (ℕ → ℕ → ℕ) → ℕ → ℕ → ℕ → Type 0
+OthersDeep b depth c level least = (x : ℕ) → x < cores b
+    → up b (suc level) x ≡ up b (suc level) c → (up b level x ≡ up b level c → ⊥)
+    → least ≤ depth level (up b level x)
+
+-- a core below this child
+pub record HasCore (b : BoardValue) (c level place : ℕ) : Type 0 where
+  pub core : ℕ
+  pub on : core < cores b
+  pub at : up b level core ≡ place
+  pub joined : up b (suc level) core ≡ up b (suc level) c
+
+child_core : (b : BoardValue) (c level i : ℕ) → PathLaws b → ChildLaws b → c < cores b
+    → level < height b → first_child b (suc level) (up b (suc level) c) ≤ i
+    → i < first_child b (suc level) (up b (suc level) c)
+    + children b (domain_of b c (suc level))
+    → HasCore b c level i
+child_core b c level i paths kids on high low top =
+    let k : ℕ = i - first_child b (suc level) (up b (suc level) c) in
+    let flat : first_child b (suc level) (up b (suc level) c) + k ≡ i = omega (arith, low) in
+    let inside = kids.inside level (up b (suc level) c) k high (omega (arith, low, top)) in
+    let node : Node = record { level = level; place = i } in
+    let has = paths.some_core node
+    (record { level = omega arith; place = subst (λ j. j < nodes b level) flat inside }) in
+    record {
+      core = has.0;
+      on = has.1;
+      at = has.2;
+      joined = kids.parent has.0 level (up b (suc level) c) has.1 high
+          (omega (arith, low, has.2)) (omega (arith, top, has.2));
+    }
+
+-- the depth below, once the lower parts were applied
+below_deep : (b : BoardValue) (v : Values) (c level : ℕ) (ps : List Part) (p q : Part)
+    → level < height b → slice_get ps level ≡ Some q → p.depth ≤ q.depth
+    → OthersDeep b v.depth c level p.depth → (x : ℕ) → x < cores b
+    → up b (suc level) x ≡ up b (suc level) c
+    → p.depth ≤ laid b c (take (suc level) ps) v.depth level (up b level x)
+below_deep b v c level ps p q high at falls others x on joined =
+    elim (cases_eq (up b level x) (up b level c)) [
+      | inl here ↦
+          let on_path : is_on_path b c level (up b level x) ≡ true =
+          and_from _ _ (le-leb level (height b) (omega arith))
+          (eq-eqb (up b level c) (up b level x) (sym here)) in
+          let get : slice_get (take (suc level) ps) level ≡ Some q =
+          get_take ps (suc level) level (omega arith) ∙ at in
+          let now : laid b c (take (suc level) ps) v.depth level (up b level x) ≡ q.depth =
+          cond-true (is_on_path b c level (up b level x)) _ (v.depth level (up b level x)) on_path
+          ∙ ap (λ o. depth_or o (v.depth level (up b level x))) get in
+          omega (arith, now, falls)
+      | inr there ↦
+          let off = cases_Bool (is_on_path b c level (up b level x)) in
+          elim off [
+            | inl on_it ↦ absurd (there (path_place b c level (up b level x) on_it))
+            | inr off_it ↦
+                let now = cond-false (is_on_path b c level (up b level x))
+                (depth_or (slice_get (take (suc level) ps) level) (v.depth level (up b level x)))
+                (v.depth level (up b level x)) off_it in
+                omega (arith, now, others x on joined there)
+          ]
+    ]
+
+-- a part is covered, whose domain's other children are deep
+covered : (b : BoardValue) (v : Values) (c k : ℕ) (ps : List Part) (p : Part) → PathLaws b
+    → ChildLaws b → c < cores b → k ≤ height b
+    → ((level : ℕ) → k ≡ suc level → OthersDeep b v.depth c level p.depth)
+    → ((level : ℕ) → k ≡ suc level
+    → (q : Part) × (slice_get ps level ≡ Some q) × (p.depth ≤ q.depth))
+    → is_covered b (laid b c (take k ps) v.depth) (domain_of b c k) p.depth ≡ true
+covered b v c zero ps p paths kids on low others falls = refl
+covered b v c (suc level) ps p paths kids on low others falls =
+    let lower = falls level refl in
+    all_in_range
+    (λ place. nat_le p.depth (laid b c (take (suc level) ps) v.depth (suc level - 1) place))
+    (first_child b (suc level) (up b (suc level) c)) (children b (domain_of b c (suc level)))
+    (λ i first last.
+    let has = child_core b c level i paths kids on (omega arith) first last in
+    let down : suc level - 1 ≡ level = omega arith in
+    let deep : p.depth ≤ laid b c (take (suc level) ps) v.depth level i =
+    subst (λ j. p.depth ≤ laid b c (take (suc level) ps) v.depth level j) has.at
+    (below_deep b v c level ps p lower.0 (omega arith) lower.1 lower.2 (others level refl) has.core
+    has.on has.joined) in
+    subst (λ l. nat_le p.depth (laid b c (take (suc level) ps) v.depth l i) ≡ true) (sym down)
+    (le-leb _ _ deep))
+
+-- What is so of the first parts of a Down.
+pub record AreCovered (b : BoardValue) (v : Values) (c : ℕ) (ps : List Part) (n : ℕ) : Type 0 where
+  pub core : c < cores b
+  pub few : n ≤ length ps
+  pub level : (k : ℕ) (p : Part) → slice_get ps k ≡ Some p → (p.level ≡ k) × (k ≤ height b)
+  pub falls : (k : ℕ) (p q : Part) → slice_get ps k ≡ Some p → slice_get ps (suc k) ≡ Some q
+      → q.depth ≤ p.depth
+  pub live : (k : ℕ) (p : Part) → k < n → slice_get ps k ≡ Some p
+      → p.generation ≡ starts_below b v.starts (domain_of b c k)
+  pub others : (k : ℕ) (p : Part) → suc k < n → slice_get ps (suc k) ≡ Some p
+      → OthersDeep b v.depth c k p.depth
+
+-- so they are applied
+pub applied_at_least : (b : BoardValue) (v : Values) (c : ℕ) (ps : List Part) (n : ℕ) → PathLaws b
+    → ChildLaws b → AreCovered b v c ps n → n ≤ applied b v c ps
+unfolding applied
+applied_at_least b v c ps n paths kids are =
+    prefix_at_least (is_applied b v c ps) ps n are.few (λ k p low at.
+    let level = are.level k p at in
+    let live : (p.generation == starts_below b v.starts (domain_of b c p.level)) ≡ true =
+    eq-eqb _ _ (are.live k p low at
+    ∙ ap (λ l. starts_below b v.starts (domain_of b c l)) (sym level.0)) in
+    let cover : is_covered b (laid b c (take k ps) v.depth) (domain_of b c k) p.depth ≡ true =
+    covered b v c k ps p paths kids are.core level.1
+    (λ l e. are.others l p (omega (arith, low, e)) (ap (slice_get ps) (sym e) ∙ at))
+    (λ l e. lower k p low at l e) in
+    and_from _ _ live
+    (subst (λ l. is_covered b (laid b c (take l ps) v.depth) (domain_of b c l) p.depth ≡ true)
+    (sym level.0) cover))
+  where
+    lower : (k : ℕ) (p : Part) → k < n → slice_get ps k ≡ Some p → (l : ℕ) → k ≡ suc l
+        → (q : Part) × (slice_get ps l ≡ Some q) × (p.depth ≤ q.depth)
+    lower k p low at l e =
+        let item = item_at ps l (omega (arith, low, e, are.few)) in
+        (item.item, item.at, are.falls l item.item p item.at (ap (slice_get ps) (sym e) ∙ at))

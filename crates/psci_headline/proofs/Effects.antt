@@ -1,0 +1,152 @@
+-- What is told after each effect of the firmware's calls, entries and acknowledgements.
+use Rattle.std.proofs.Common.{◌≡◌, ℕ, inl, inr, ◌<◌, true, false, List}
+use Rattle.std.proofs.Common.{[], ◌∷◌, length, Some, refl, arith, subst, sym, ◌∙◌}
+use Rattle.std.specs.Prelude.{slice_get}
+use Rattle.psci_headline.specs.psci_board.Board.{BoardValue}
+use Rattle.psci_headline.specs.psci_board.Laws.{PathLaws}
+use Rattle.psci_headline.specs.psci_board.declared.node.Core.{Core}
+use Rattle.psci_headline.specs.psci_messages.declared.part.Part.{Part}
+use Rattle.psci_headline.specs.psci_messages.declared.kind.Kind.{Kind}
+use Rattle.psci_headline.specs.psci_messages.declared.kind.Kind.TheVariants as kinds
+use Rattle.psci_headline.specs.psci_messages.declared.start.Start.{Start}
+use Rattle.psci_headline.specs.psci_messages.Message.{ArePartsOf, AreClaims, MessageValue}
+use Rattle.psci_headline.specs.psci_messages.Slots.{OfSystem, slot_of}
+use Rattle.psci_headline.specs.psci_fw_spec.After.{change}
+use Rattle.psci_headline.specs.psci_fw_spec.Changes.{Rest, with_arrival, with_halt}
+use Rattle.psci_headline.specs.psci_fw_spec.Changes.{with_phase, with_rest}
+use Rattle.psci_headline.specs.psci_fw_spec.Effects.{Rests}
+use Rattle.psci_headline.specs.psci_fw_spec.Effects.{Stops, Enters, Parks, StopsAtOnce}
+use Rattle.psci_headline.specs.psci_fw_spec.Lives.{in_life}
+use Rattle.psci_headline.specs.psci_fw_spec.Phases.{Phase, Away, Pending, Running, Suspended}
+use Rattle.psci_headline.specs.psci_fw_spec.Phases.{unless_pending}
+use Rattle.psci_headline.specs.psci_fw_spec.Values.{Values}
+use Rattle.psci_headline.specs.psci_fw_laws.Allowed.{IsAllowed}
+use Rattle.psci_headline.specs.psci_fw_laws.Kept.{Holds}
+use Rattle.psci_headline.specs.psci_fw_laws.KnownBelow.{KnownLaws}
+use Rattle.psci_headline.specs.psci_fw_laws.Messages.{is_system}
+use Rattle.psci_headline.proofs.fw_laws.Parts.{updated_at}
+use Rattle.psci_headline.proofs.Slots.{put_system}
+use Rattle.psci_headline.specs.Confirming.{AreConfirming}
+use Rattle.psci_headline.proofs.Beside.{AreBeside, IsFlat, all_domains, arrived, arrived_flat}
+use Rattle.psci_headline.proofs.Beside.{claims, phased, rested, runs}
+use Rattle.psci_headline.proofs.Coming.{on_path, yet_still}
+
+-- A core goes on or halts ----------------------------------------------------------------------
+
+never_away : (p : Phase) → unless_pending p Running ≡ Away → ⊥
+never_away Pending e = absurd (cc)
+never_away Running e = absurd (cc)
+never_away (Suspended ask) e = absurd (cc)
+never_away Away e = absurd (cc)
+
+pub goes_on : (b : BoardValue) (starts : ℕ → ℕ) (v : Values) (c : ℕ) → AreConfirming b starts v
+    → AreConfirming b starts (with_phase c Running v)
+goes_on b starts v c are = record {
+  domains = are.domains;
+  cores = λ awake x on away.
+      are.cores awake x on
+      (updated_at (λ (y : Phase). y ≡ Away → v.phase x ≡ Away) v.phase c
+      (unless_pending (v.phase c) Running) x (λ here e. absurd (never_away (v.phase c) e))
+      (λ there e. e) away);
+}
+
+system_slot : (k : Kind) (core : Core) → is_system k ≡ true → slot_of k core ≡ OfSystem
+system_slot kinds.Down core e = absurd (cc)
+system_slot kinds.Start core e = absurd (cc)
+system_slot kinds.Off core e = refl
+system_slot kinds.Reset core e = refl
+
+pub halts : (b : BoardValue) (starts : ℕ → ℕ) (v : Values) (c : ℕ) (m : MessageValue)
+    → is_system m.kind ≡ true → AreConfirming b starts v
+    → AreConfirming b starts (with_halt m (with_phase c Away v))
+halts b starts v c m system are = record {
+  domains = λ level place some. elim (are.domains level place some) [
+    | inl was ↦ inl was
+    | inr yet ↦
+        inr (yet_still b starts v.known v.known v.outstanding
+        (with_halt m (with_phase c Away v)).outstanding level place refl
+        (λ x below is.
+        put_system v.outstanding m x.core.number (system_slot m.kind m.core system) ∙ is) yet)
+  ];
+  cores = λ awake. absurd (cc);
+}
+
+-- a halting life says nothing of cores
+halting : (b : BoardValue) (starts : ℕ → ℕ) (v : Values) (c : ℕ) → v.halting ≡ true
+    → AreBeside b starts v c → IsFlat b v c → AreConfirming b starts v
+halting b starts v c is are flat = record {
+  domains = all_domains b starts v c are flat;
+  cores = λ awake. let no : true ≡ false = sym is ∙ awake in absurd (cc);
+}
+
+-- A Down is sent -------------------------------------------------------------------------------
+
+-- The first part of a Down.
+record HasFirst (parts : List Part) : Type 0 where
+  pub part : Part
+  pub at : slice_get parts 0 ≡ Some part
+
+first_of : (parts : List Part) → 0 < length parts → HasFirst parts
+first_of [] some = absurd (omega (arith, some))
+first_of (p ∷ ps) some = record { part = p; at = refl }
+
+first_part : (m : MessageValue) → m.kind ≡ kinds.Down → ArePartsOf m.kind m.parts
+    → HasFirst m.parts
+first_part m kind are =
+    let claim : AreClaims m.parts = subst (λ x. ArePartsOf x m.parts) kind are in
+    first_of m.parts claim.some
+
+-- nothing is granted on the path of a core that runs
+flat_running : (b : BoardValue) (v : Values) (sent : List MessageValue) (c : ℕ) → Holds b v sent
+    → c < Rattle.psci_headline.specs.psci_board.Board.cores b → v.phase c ≡ Running
+    → IsFlat b v c
+flat_running b v sent c holds on runs level place path some =
+    let has = holds.grants.claimed level place some in
+    holds.quiet level place has.part has.claim has.current c on (on_path b c level place path) runs
+
+-- Each effect ----------------------------------------------------------------------------------
+
+module _ (b : BoardValue) (starts : ℕ → ℕ) (laws : KnownLaws b) (paths : PathLaws b) where
+  pub rests : (v : Values) (sent : List MessageValue) (c : ℕ) (rest : Rest) (m : MessageValue)
+      → Holds b v sent → IsAllowed b v (Rests c rest m) → AreConfirming b starts v
+      → AreConfirming b starts (change b (Rests c rest m) v)
+  rests v sent c rest m holds allowed are =
+      let first = first_part m allowed.claim.kind allowed.claim.sound.parts in
+      claims b starts (with_rest c rest v) m first.part paths allowed.claim.kind
+      allowed.claim.current first.at
+      (subst (AreBeside b starts (with_rest c rest v)) (sym allowed.core)
+      (rested b starts v c rest are))
+      (subst (IsFlat b (with_rest c rest v)) (sym allowed.core)
+      (flat_running b v sent c holds allowed.calls.core allowed.calls.runs))
+
+  pub parks : (v : Values) (c : ℕ) (s : Start) (m : MessageValue) → IsAllowed b v (Parks c s m)
+      → AreConfirming b starts (in_life b s.life v)
+      → AreConfirming b starts (change b (Parks c s m) v)
+  parks v c s m allowed are =
+      let u : Values = with_phase c Away (with_arrival b c s v) in
+      let first = first_part m allowed.claim.kind allowed.claim.sound.parts in
+      claims b starts u m first.part paths allowed.claim.kind allowed.claim.current first.at
+      (subst (AreBeside b starts u) (sym allowed.core)
+      (phased b starts (with_arrival b c s v) c Away (arrived b starts v c s laws paths are)))
+      (subst (IsFlat b u) (sym allowed.core) (arrived_flat b v c s))
+
+  pub enters : (v : Values) (c : ℕ) (s : Start) → AreConfirming b starts (in_life b s.life v)
+      → AreConfirming b starts (change b (Enters c s) v)
+  enters v c s are =
+      runs b starts (with_arrival b c s v) c (arrived b starts v c s laws paths are)
+      (arrived_flat b v c s)
+
+  pub stops_at_once : (v : Values) (c : ℕ) (s : Start) → IsAllowed b v (StopsAtOnce c s)
+      → AreConfirming b starts (in_life b s.life v)
+      → AreConfirming b starts (change b (StopsAtOnce c s) v)
+  stops_at_once v c s allowed are =
+      halting b starts (with_phase c Away (with_arrival b c s v)) c allowed.halting
+      (phased b starts (with_arrival b c s v) c Away (arrived b starts v c s laws paths are))
+      (arrived_flat b v c s)
+
+  pub stops : (v : Values) (sent : List MessageValue) (c : ℕ) → IsAllowed b v (Stops c)
+      → AreConfirming b starts v → AreConfirming b starts (change b (Stops c) v)
+  stops v sent c allowed are = record {
+    domains = are.domains;
+    cores = λ awake. let no : true ≡ false = sym allowed.halting ∙ awake in absurd (cc);
+  }

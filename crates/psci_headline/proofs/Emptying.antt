@@ -1,0 +1,176 @@
+-- What is so after what is outstanding for a core was served.
+use Rattle.std.proofs.Common.{◌≡◌, ℕ, Bool, true, false, ◌&&◌, cond, List, Option, None, Some}
+use Rattle.std.proofs.Common.{refl, subst, ap, sym, ◌∙◌, option_and_then}
+use Rattle.std.proofs.lemmas.Bool.{and_from, cond-true, cond-false, eq-eqb, ne_eqb}
+use Rattle.psci_board.specs.Board.{BoardValue}
+use Rattle.psci_board.specs.declared.node.Core.{Core}
+use Rattle.psci_ctl_spec.specs.Replies.{ack_by, may_follow}
+use Rattle.psci_ctl_spec.specs.Values as controlled
+use Rattle.psci_ctl_spec.specs.psci_messages.declared.kind.Kind.{Kind}
+use Rattle.psci_ctl_spec.specs.psci_messages.declared.kind.Kind.TheVariants.{Down, Start, Off}
+use Rattle.psci_ctl_spec.specs.psci_messages.declared.kind.Kind.TheVariants.{Reset}
+use Rattle.psci_ctl_spec.specs.psci_messages.declared.taken.Taken.TheVariants.{Used, Old}
+use Rattle.psci_ctl_spec.specs.psci_messages.Message.{AckValue, MessageValue}
+use Rattle.psci_ctl_spec.specs.psci_messages.Slots.{Acknowledge, OfCore, answers, changed, is_done}
+use Rattle.psci_ctl_spec.specs.psci_messages.Slots.{is_kind, is_slot}
+use Rattle.psci_ctl_spec.specs.psci_messages.Slots.{left_by, slot_of, taken}
+use Rattle.psci_headline.specs.psci_fw_spec.Taking.{taken_by}
+use Rattle.psci_headline.specs.psci_fw_spec.Values.{Values}
+use Rattle.psci_headline.specs.psci_fw_laws.Messages.{is_system}
+use Rattle.psci_headline.specs.psci_fw_laws.Outstanding.{AreOutstanding}
+use Rattle.psci_headline.specs.psci_world_spec.declared.said.Record.{Record}
+use Rattle.psci_headline.specs.psci_world_spec.Histories.{controller_values, firmware_values}
+use Rattle.psci_headline.specs.psci_world_spec.Histories.{sent}
+use Rattle.psci_headline.specs.psci_world_spec.Legal.{IsLegalPast}
+use Rattle.psci_headline.proofs.Agreed.{RunLaws}
+use Rattle.psci_headline.specs.Settling.{served, serving, index_of}
+use Rattle.psci_headline.proofs.Serving.{AreAnswered, ack_to, answered_so}
+use Rattle.psci_headline.proofs.Finding.{HasNumber, HaveName, finds}
+use Rattle.psci_headline.proofs.Taking.{HasName}
+use Rattle.psci_headline.proofs.Telling.{own_kind}
+
+-- Names ----------------------------------------------------------------------------------------
+
+-- an acknowledgement has the name of its message
+ack_has : (b : BoardValue) (w : controlled.Values) (m : MessageValue) (kind : Kind)
+    → HasName (ack_by b w m kind) m
+ack_has b w m Down = record { kind = refl; core = refl; life = refl; number = refl }
+ack_has b w m Start = by_test (may_follow b w m.core.number m.number)
+  where
+    by_test : (t : Bool) → HasName (cond t (record {
+      kind = m.kind;
+      core = m.core;
+      life = m.life;
+      number = m.number;
+      applied = 1;
+      stale = false;
+    }) (record {
+      kind = m.kind;
+      core = m.core;
+      life = m.life;
+      number = m.number;
+      applied = 0;
+      stale = true;
+    })) m
+    by_test true = record { kind = refl; core = refl; life = refl; number = refl }
+    by_test false = record { kind = refl; core = refl; life = refl; number = refl }
+ack_has b w m Off = record { kind = refl; core = refl; life = refl; number = refl }
+ack_has b w m Reset = record { kind = refl; core = refl; life = refl; number = refl }
+
+-- so it answers each message of that name
+named_answers : (a : AckValue) (m n : MessageValue) → HasName a n → HaveName m n
+    → answers a m ≡ true
+named_answers a m n mine same =
+    and_from _ _ (ap (is_kind a.kind) (same.kind ∙ sym mine.kind) ∙ own_kind a.kind)
+    (and_from _ _ (eq-eqb _ _ (mine.core ∙ sym same.core))
+    (and_from _ _ (eq-eqb _ _ (mine.life ∙ sym same.life))
+    (eq-eqb _ _ (mine.number ∙ sym same.number))))
+
+core_slot : (k : Kind) (core : Core) → is_system k ≡ false → slot_of k core ≡ OfCore core.number
+core_slot Down core e = refl
+core_slot Start core e = refl
+core_slot Off core e = absurd (cc)
+core_slot Reset core e = absurd (cc)
+
+-- Slots ----------------------------------------------------------------------------------------
+
+left_there : (a : AckValue) (c x : ℕ) (o : Option MessageValue)
+    → slot_of a.kind a.core ≡ OfCore c → (x ≡ c → ⊥) → changed (OfCore x) (Acknowledge a) o ≡ o
+left_there a c x o slot ne =
+    cond-false (is_slot (slot_of a.kind a.core) (OfCore x)) (left_by a o) o
+    (ap (λ s. is_slot s (OfCore x)) slot ∙ ne_eqb c x (λ e. ne (sym e)))
+
+left_here : (a : AckValue) (c : ℕ) (m : MessageValue) → slot_of a.kind a.core ≡ OfCore c
+    → answers a m ≡ true
+    → changed (OfCore c) (Acknowledge a) (Some m) ≡ cond (is_done a m) None (Some m)
+left_here a c m slot e =
+    cond-true (is_slot (slot_of a.kind a.core) (OfCore c)) (left_by a (Some m)) (Some m)
+    (ap (λ s. is_slot s (OfCore c)) slot ∙ eq-eqb c c refl)
+    ∙ ap (λ t. cond (t && is_done a m) None (Some m)) e
+
+-- What is so after the message of some number was served, which has the name of what is
+-- outstanding for a core.
+pub record IsEmptying (b : BoardValue) (past : List Record) (c k : ℕ) (m n : MessageValue)
+    : Type 0 where
+  pub answered : AreAnswered b past k n
+  pub kind : (ack_to b past n).kind ≡ m.kind
+  pub there : (x : ℕ) → (x ≡ c → ⊥)
+      → (firmware_values b (serving b past (Some k))).outstanding (OfCore x)
+      ≡ (firmware_values b past).outstanding (OfCore x)
+  pub here : (firmware_values b (serving b past (Some k))).outstanding (OfCore c)
+      ≡ cond (is_done (ack_to b past n) m) None (Some m)
+
+pub empties : (b : BoardValue) (past : List Record) (c : ℕ) (m : MessageValue) → RunLaws b
+    → IsLegalPast b past → (n : HasNumber m (sent past))
+    → (controller_values b past).life ≡ Some m.life
+    → (firmware_values b past).outstanding (OfCore c) ≡ Some m → m.core.number ≡ c
+    → is_system m.kind ≡ false → IsEmptying b past c n.number m n.message
+empties b past c m laws is n present at core kind = record {
+  answered = both;
+  kind = name.kind ∙ sym n.name.kind;
+  there = λ x ne.
+      ap (λ (u : Values). u.outstanding (OfCore x)) both.firmware
+      ∙ left_there a c x (v.outstanding (OfCore x)) slot ne;
+  here = ap (λ (u : Values). u.outstanding (OfCore c)) both.firmware
+      ∙ ap (changed (OfCore c) (Acknowledge a)) at ∙ left_here a c m slot mine;
+}
+  where
+    v : Values
+    v = firmware_values b past
+
+    a : AckValue
+    a = ack_to b past n.message
+
+    name : HasName a n.message
+    name = ack_has b (controller_values b past) n.message n.message.kind
+
+    mine : answers a m ≡ true
+    mine = named_answers a m n.message name n.name
+
+    slot : slot_of a.kind a.core ≡ OfCore c
+    slot = core_slot a.kind a.core (ap is_system (name.kind ∙ sym n.name.kind) ∙ kind)
+        ∙ ap OfCore (name.core ∙ sym n.name.core ∙ core)
+
+    used : taken_by v a ≡ Used
+    used = ap (λ s. taken a (v.outstanding s)) slot ∙ ap (taken a) at
+        ∙ cond-true (answers a m) Used Old mine
+
+    both : AreAnswered b past n.number n.message
+    both = answered_so b past n.number n.message laws is n.at (present ∙ ap Some n.name.life) used
+
+-- A step ---------------------------------------------------------------------------------------
+
+-- what is outstanding is found among what was sent
+pub found : (life : ℕ) (known : ℕ → ℕ) (v : Values) (messages : List MessageValue) (c : ℕ)
+    (m : MessageValue) → AreOutstanding life known v.phase messages v.outstanding
+    → v.outstanding (OfCore c) ≡ Some m → HasNumber m messages
+found life known v messages c m slots at =
+    let is = (slots.core c m at).listed in finds m messages is.index is.at
+
+-- what becomes of the records where what is outstanding for a core is served, or not
+pub answer_case : (b : BoardValue) (which : Kind → Bool) (past : List Record) (c : ℕ)
+    (P : List Record → Type 0)
+    → ((m : MessageValue) → (firmware_values b past).outstanding (OfCore c) ≡ Some m
+    → HasNumber m (sent past))
+    → ((firmware_values b past).outstanding (OfCore c) ≡ None → P past)
+    → ((m : MessageValue) → (firmware_values b past).outstanding (OfCore c) ≡ Some m
+    → which m.kind ≡ false → P past)
+    → ((m : MessageValue) → (firmware_values b past).outstanding (OfCore c) ≡ Some m
+    → which m.kind ≡ true → (n : HasNumber m (sent past)) → P (serving b past (Some n.number)))
+    → P (served b which past c)
+answer_case b which past c P finds none other some =
+    by_slot ((firmware_values b past).outstanding (OfCore c)) refl
+  where
+    by_test : (m : MessageValue) → (firmware_values b past).outstanding (OfCore c) ≡ Some m
+        → (t : Bool) → which m.kind ≡ t
+        → P (serving b past (cond t (index_of m (sent past)) None))
+    by_test m e false f = other m e f
+    by_test m e true f =
+        let n = finds m e in
+        subst (λ o. P (serving b past o)) (sym n.found) (some m e f n)
+
+    by_slot : (o : Option MessageValue) → (firmware_values b past).outstanding (OfCore c) ≡ o
+        → P (serving b past (option_and_then
+        (λ m. cond (which m.kind) (index_of m (sent past)) None) o))
+    by_slot None e = none e
+    by_slot (Some m) e = by_test m e (which m.kind) refl

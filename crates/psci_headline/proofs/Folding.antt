@@ -1,0 +1,56 @@
+-- What holds after a step of each core in turn.
+use Rattle.std.proofs.Common.{◌≡◌, ℕ, zero, suc, inl, inr, ◌+◌, ◌<◌, ◌≤◌, List}
+use Rattle.std.proofs.Common.{arith, subst, sym}
+use Rattle.std.specs.List.{range_with_len}
+use Rattle.std.proofs.lemmas.Bool.{cases_lt}
+use Rattle.psci_headline.specs.psci_world_spec.declared.said.Record.{Record}
+use Rattle.psci_headline.specs.Settling.{each_core}
+
+-- What a step of a core does: something that holds stays, what was to be done for the core is done,
+-- and what was to be done or is done for another core stays.
+pub record IsStep (does : List Record → ℕ → List Record) (n : ℕ) (Holds : List Record → Type 0)
+    (Todo Done : ℕ → List Record → Type 0) : Type 0 where
+  pub keeps : (past : List Record) (c : ℕ) → c < n → Holds past → Holds (does past c)
+  pub todo : (past : List Record) (c x : ℕ) → c < n → (x ≡ c → ⊥) → Holds past → Todo c past
+      → Todo x past → Todo x (does past c)
+  pub done : (past : List Record) (c x : ℕ) → c < n → (x ≡ c → ⊥) → Holds past → Todo c past
+      → Done x past → Done x (does past c)
+  pub here : (past : List Record) (c : ℕ) → c < n → Holds past → Todo c past
+      → Done c (does past c)
+
+-- What holds after such a step of each core.
+pub record AreDone (n : ℕ) (Holds : List Record → Type 0) (Done : ℕ → List Record → Type 0)
+    (past : List Record) : Type 0 where
+  pub holds : Holds past
+  pub done : (c : ℕ) → c < n → Done c past
+
+from_core : (does : List Record → ℕ → List Record) (n : ℕ) (Holds : List Record → Type 0)
+    (Todo Done : ℕ → List Record → Type 0) → IsStep does n Holds Todo Done
+    → (a rest : ℕ) (past : List Record) → a + rest ≡ n → Holds past
+    → ((c : ℕ) → a ≤ c → c < n → Todo c past) → ((c : ℕ) → c < a → Done c past)
+    → AreDone n Holds Done (each_core does (range_with_len a rest) past)
+from_core does n Holds Todo Done laws a zero past all holds todo done =
+    record { holds = holds; done = λ c low. done c (omega (arith, low, all)) }
+from_core does n Holds Todo Done laws a (suc rest) past all holds todo done =
+    let on : a < n = omega (arith, all) in
+    let now = todo a (omega arith) on in
+    from_core does n Holds Todo Done laws (a + 1) rest (does past a) (omega (arith, all))
+    (laws.keeps past a on holds)
+    (λ c low high.
+    laws.todo past a c on (λ e. omega (arith, e, low)) holds now
+    (todo c (omega (arith, low)) high))
+    (λ c low. elim (cases_lt c a) [
+      | inl before ↦
+          laws.done past a c on (λ e. omega (arith, e, before)) holds now (done c before)
+      | inr here ↦
+          let same : c ≡ a = omega (arith, here, low) in
+          subst (λ x. Done x (does past a)) (sym same) (laws.here past a on holds now)
+    ])
+
+pub each_done : (does : List Record → ℕ → List Record) (n : ℕ) (Holds : List Record → Type 0)
+    (Todo Done : ℕ → List Record → Type 0) → IsStep does n Holds Todo Done
+    → (past : List Record) → Holds past → ((c : ℕ) → c < n → Todo c past)
+    → AreDone n Holds Done (each_core does (range_with_len 0 n) past)
+each_done does n Holds Todo Done laws past holds todo =
+    from_core does n Holds Todo Done laws 0 n past (omega arith) holds (λ c low on. todo c on)
+    (λ c none. absurd (omega (arith, none)))

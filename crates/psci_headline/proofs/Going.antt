@@ -1,0 +1,186 @@
+-- What stays so in every round: each started core has entered, and none is pending.
+use Rattle.std.proofs.Common.{◌≡◌, ℕ, ◌+◌, ◌<◌, true, false, List}
+use Rattle.std.proofs.Common.{Some, refl, subst, ap, sym, ◌∙◌}
+use Rattle.psci_board.specs.Board.{BoardValue, cores, height, up}
+use Rattle.psci_ctl_spec.specs.psci_messages.declared.part.Part.{Part}
+use Rattle.psci_ctl_spec.specs.Values as controlled
+use Rattle.psci_ctl_spec.specs.psci_messages.declared.kind.Kind.{Kind}
+use Rattle.psci_ctl_spec.specs.psci_messages.declared.kind.Kind.TheVariants as kinds
+use Rattle.psci_ctl_spec.specs.psci_messages.Message.{ArePartsOf, AreClaims, MessageValue}
+use Rattle.psci_ctl_spec.specs.psci_messages.Slots.{OfCore, OfSystem}
+use Rattle.psci_headline.specs.psci_fw_spec.Lives.{in_life}
+use Rattle.psci_headline.specs.psci_fw_spec.Phases.{Pending}
+use Rattle.psci_headline.specs.psci_fw_spec.Values.{Values}
+use Rattle.psci_headline.specs.psci_fw_laws.Claims.{IsClaimOn, IsCurrent}
+use Rattle.psci_headline.specs.psci_fw_laws.Granted.{HasDeeper, NonePending}
+use Rattle.psci_headline.specs.psci_fw_laws.Messages.{is_system}
+use Rattle.psci_headline.specs.psci_fw_laws.Outstanding.{AreOutstanding}
+use Rattle.psci_headline.specs.psci_world_spec.declared.said.Record.{Record}
+use Rattle.psci_headline.specs.psci_world_spec.Histories.{acks, controller_values}
+use Rattle.psci_headline.specs.psci_world_spec.Histories.{firmware_values, sent}
+use Rattle.psci_headline.specs.psci_world_spec.Legal.{IsLegalPast}
+use Rattle.psci_headline.specs.psci_world_spec.Places.{place}
+use Rattle.psci_headline.proofs.Agreeing.{found_own}
+use Rattle.psci_headline.specs.Waiting.{AreWaiting, AwaitsStart}
+use Rattle.psci_headline.proofs.Applying.{IsDown, IsReady}
+use Rattle.psci_headline.proofs.Beginning.{HasEntered}
+use Rattle.psci_headline.proofs.Carried.{present_known}
+use Rattle.psci_headline.proofs.Claimed.{AreDeep}
+use Rattle.psci_headline.proofs.Controls.{IsKnown}
+use Rattle.psci_headline.proofs.Counting.{AreAdded}
+use Rattle.psci_headline.proofs.Standing.{AreSettled, IsPast, SettleLaws, settled_life}
+use Rattle.psci_headline.proofs.Starts.{HasBegun}
+
+-- What is so while Downs are served.
+pub record IsGoing (b : BoardValue) (before : List Record) (life : ℕ) (past : List Record)
+    : Type 0 where
+  pub legal : IsLegalPast b past
+  pub added : AreAdded before past
+  pub present : (controller_values b past).life ≡ Some life
+  pub own : (firmware_values b past).life ≡ life
+  pub awake : (firmware_values b past).halting ≡ false
+  pub known : (c : ℕ) → c < cores b
+      → (firmware_values b past).known c ≡ (controller_values b past).starts c
+  pub rests : (c : ℕ) → c < cores b → (firmware_values b past).phase c ≡ Pending → ⊥
+  pub entered : (c : ℕ) → c < cores b → HasEntered b c past
+
+-- it is so after the beginning
+pub goes_on : (b : BoardValue) (before : List Record) (life : ℕ) (past : List Record)
+    → SettleLaws b → HasBegun b before life past → IsGoing b before life past
+goes_on b before life past laws begun = record {
+  legal = begun.way.legal;
+  added = begun.way.added;
+  present = begun.way.present;
+  own = settled.own;
+  awake = ap (λ (u : Values). u.halting) (sym same) ∙ begun.way.awake;
+  known = settled.known;
+  rests = λ c on e.
+      let waits : AwaitsStart found.outstanding c =
+      (is.waits life begun.way.present).asked begun.way.awake c on
+      (ap (λ (u : Values). u.phase c) same ∙ e)
+      (sym (ap (λ (u : Values). u.known c) same ∙ settled.known c on)) in
+      begun.started c on waits.message
+      (sym (ap (λ (u : Values). u.outstanding (OfCore c)) same) ∙ waits.at) waits.kind;
+  entered = begun.entered;
+}
+  where
+    is : IsPast b past
+    is = laws.past past begun.way.legal
+
+    settled : AreSettled b past life
+    settled = settled_life b past life laws.some is begun.way.present begun.entered
+
+    found : Values
+    found = in_life b life (firmware_values b past)
+
+    same : found ≡ firmware_values b past
+    same = found_own b life (firmware_values b past) (sym settled.own)
+
+-- what is known of the firmware's values and messages
+pub known_now : (b : BoardValue) (before : List Record) (life : ℕ) (past : List Record)
+    → SettleLaws b → IsGoing b before life past
+    → IsKnown b life (controller_values b past).starts (firmware_values b past) (sent past)
+known_now b before life past laws going =
+    subst (λ u. IsKnown b life (controller_values b past).starts u (sent past))
+    (found_own b life (firmware_values b past) (sym going.own))
+    (present_known b (controller_values b past) (place b past) (firmware_values b past) (sent past)
+    life (laws.past past going.legal).given going.present)
+
+-- and of what waits
+pub waits_now : (b : BoardValue) (before : List Record) (life : ℕ) (past : List Record)
+    → SettleLaws b → IsGoing b before life past
+    → let w = controller_values b past in let v = firmware_values b past in
+    AreWaiting b life w.starts w.depth v.halting v.known v.phase v.outstanding (sent past)
+    (acks past)
+waits_now b before life past laws going =
+    let w : controlled.Values = controller_values b past in
+    subst (λ (u : Values). AreWaiting b life w.starts w.depth u.halting u.known u.phase
+    u.outstanding (sent past) (acks past))
+    (found_own b life (firmware_values b past) (sym going.own))
+    ((laws.past past going.legal).waits life going.present)
+
+pub ready_now : (b : BoardValue) (before : List Record) (life : ℕ) (past : List Record) (r : ℕ)
+    → SettleLaws b → IsGoing b before life past
+    → let w = controller_values b past in let v = firmware_values b past in
+    ((c : ℕ) → AreDeep b life w.starts w.depth (sent past) r c)
+    → IsReady b life v.known v.phase (sent past) w r
+ready_now b before life past r laws going deep = record {
+  paths = is.given.paths;
+  kids = laws.kids;
+  live = (known_now b before life past laws going).live;
+  all = going.known;
+  rests = going.rests;
+  first = (waits_now b before life past laws going).first;
+  deep = deep;
+  deeper = subst (λ l. (c level : ℕ) (p : Part) → c < cores b → level < height b
+      → IsClaimOn b l (level + 1) (up b (level + 1) c) p (sent past)
+      → IsCurrent b v.known (level + 1) (up b (level + 1) c) p
+      → NonePending b v.phase (level + 1) (up b (level + 1) c)
+      → HasDeeper b l v.known level (up b level c) p.depth (sent past)) going.own is.deeper;
+}
+  where
+    is : IsPast b past
+    is = laws.past past going.legal
+
+    v : Values
+    v = firmware_values b past
+
+-- Outstanding ----------------------------------------------------------------------------------
+
+-- What is outstanding for a core: a Down of it.
+pub record IsOut (b : BoardValue) (life : ℕ) (past : List Record) (c : ℕ) (m : MessageValue)
+    : Type 0 where
+  pub down : IsDown b life (sent past) m
+  pub core : m.core.number ≡ c
+  pub system : is_system m.kind ≡ false
+
+slots_now : (b : BoardValue) (before : List Record) (life : ℕ) (past : List Record)
+    → SettleLaws b → IsGoing b before life past → let v = firmware_values b past in
+    AreOutstanding life v.known v.phase (sent past) v.outstanding
+slots_now b before life past laws going =
+    let v : Values = firmware_values b past in
+    subst (λ l. AreOutstanding l v.known v.phase (sent past) v.outstanding) going.own
+    (laws.past past going.legal).given.holds.slots
+
+core_kind : (k : Kind) → is_system k ≡ false → (k ≡ kinds.Start → ⊥) → k ≡ kinds.Down
+core_kind kinds.Down e ne = refl
+core_kind kinds.Start e ne = absurd (ne refl)
+core_kind kinds.Off e ne = absurd (cc)
+core_kind kinds.Reset e ne = absurd (cc)
+
+pub out_now : (b : BoardValue) (before : List Record) (life : ℕ) (past : List Record) (c : ℕ)
+    (m : MessageValue) → SettleLaws b → IsGoing b before life past
+    → (firmware_values b past).outstanding (OfCore c) ≡ Some m → IsOut b life past c m
+out_now b before life past c m laws going at =
+    let slots = slots_now b before life past laws going in
+    let slot = slots.core c m at in
+    let known = known_now b before life past laws going in
+    let sound = (known.messages slot.listed.index m slot.listed.at).sound in
+    let on : c < cores b = subst (λ x. x < cores b) slot.core sound.core in
+    let kind : m.kind ≡ kinds.Down =
+    core_kind m.kind slot.kind (λ e. going.rests c on (slot.start e)) in
+    let claim : AreClaims m.parts = subst (λ k. ArePartsOf k m.parts) kind sound.parts in
+    record {
+      down = record {
+        index = slot.listed.index;
+        at = slot.listed.at;
+        present = slot.listed.present;
+        kind = kind;
+        core = sound.core;
+        few = sound.few;
+        parts = known.parts m.parts claim;
+      };
+      core = slot.core;
+      system = slot.kind;
+    }
+
+-- nothing is outstanding for the system
+pub none_system : (b : BoardValue) (before : List Record) (life : ℕ) (past : List Record)
+    (m : MessageValue) → SettleLaws b → IsGoing b before life past
+    → (firmware_values b past).outstanding OfSystem ≡ Some m → ⊥
+none_system b before life past m laws going at =
+    let slots = slots_now b before life past laws going in
+    let listed = slots.system m at in
+    let known = known_now b before life past laws going in
+    let is = (known.messages listed.index m listed.at).present listed.present in
+    let no : true ≡ false = sym (is.halts (slots.halts m at)) ∙ going.awake in absurd (cc)

@@ -1,0 +1,91 @@
+-- Where the world settles: the power controller's life goes on there, and is not halting.
+use Rattle.std.proofs.Common.{◌≡◌, ℕ, ◌+◌, inl, inr, false, List, Some, refl, arith, ap, sym, ◌∙◌}
+use Rattle.std.proofs.lemmas.Option.{same_Some}
+use Rattle.psci_headline.specs.psci_board.Board.{BoardValue, height}
+use Rattle.psci_headline.specs.psci_messages.declared.kind.Kind.TheVariants as kinds
+use Rattle.psci_headline.specs.psci_messages.Message.{MessageValue}
+use Rattle.psci_headline.specs.psci_fw_spec.Values.{Values}
+use Rattle.psci_headline.specs.psci_world_spec.declared.said.Record.{Record}
+use Rattle.psci_headline.specs.psci_world_spec.Histories.{firmware_values}
+use Rattle.psci_headline.specs.psci_world_spec.Histories.{sent}
+use Rattle.psci_headline.specs.psci_world_spec.Legal.{IsLegalPast}
+use Rattle.psci_headline.specs.psci_world_spec.Lists.{indexed}
+use Rattle.psci_headline.proofs.Agreeing.{found_own}
+use Rattle.psci_headline.specs.Drained.{AreAtRest, deliveries}
+use Rattle.psci_headline.specs.Settling.{begun, halts_in, is_halting, settled}
+use Rattle.psci_headline.proofs.Beginning.{IsUnderWay}
+use Rattle.psci_headline.proofs.Bound.{HasRest, IsRound, comes_to_rest}
+use Rattle.psci_headline.proofs.Counting.{none_added}
+use Rattle.psci_headline.proofs.Going.{IsGoing, goes_on, out_now}
+use Rattle.psci_headline.proofs.Resting.{at_rest}
+use Rattle.psci_headline.proofs.Standing.{SettleLaws}
+use Rattle.psci_headline.proofs.Starts.{HasBegun, has_begun}
+use Rattle.psci_headline.proofs.Whole.{LifeGoesOn, going_life}
+
+-- no Down was delivered before the first round
+first_count : (b : BoardValue) (before : List Record) (life : ℕ) (past : List Record) (k : ℕ)
+    (m : MessageValue) → IsUnderWay b before life past → indexed (sent past) k ≡ Some m
+    → m.kind ≡ kinds.Down → deliveries k past ≡ deliveries k before
+first_count b before life past k m way at kind = elim (way.count k) [
+  | inl same ↦ same
+  | inr start ↦
+      let same : m ≡ start.message = same_Some m start.message (sym at ∙ start.at) in
+      let no : kinds.Down ≡ kinds.Start =
+      sym kind ∙ ap (λ (x : MessageValue). x.kind) same ∙ start.kind in absurd (cc)
+]
+
+first_round : (b : BoardValue) (before : List Record) (life : ℕ) (past : List Record)
+    → SettleLaws b → HasBegun b before life past → IsRound b before life 0 past
+first_round b before life past laws begins =
+    let going = goes_on b before life past laws begins in
+    record {
+      going = going;
+      deep = λ c k level m p at present kind core part live low. absurd (omega (arith, low));
+      most = λ k m at kind.
+          omega (arith, first_count b before life past k m begins.way at kind);
+      once = λ c k m at on e.
+          omega (
+            arith,
+            first_count b before life past k m begins.way at
+                (out_now b before life past c m laws going e).down.kind,
+          );
+      left = λ r c m same on e. absurd (omega (arith, same));
+      last = λ some. absurd (omega (arith, some));
+    }
+
+comes : (b : BoardValue) (past : List Record) → SettleLaws b → IsLegalPast b past
+    → (goes : LifeGoesOn b past) → HasRest b past goes.life (settled b past)
+unfolding settled
+comes b past laws is goes =
+    let way : IsUnderWay b past goes.life past = record {
+      legal = is;
+      added = none_added past;
+      present = goes.present;
+      awake = goes.awake;
+      count = λ j. inl refl;
+    } in
+    let begins = has_begun b past goes.life laws way in
+    comes_to_rest b past goes.life (height b + 1) 0 (begun b past) laws (omega arith)
+    (first_round b past goes.life (begun b past) laws begins)
+
+-- What is so where the world has settled.
+pub record IsReached (b : BoardValue) (past : List Record) : Type 0 where
+  pub legal : IsLegalPast b past
+  pub awake : is_halting b past ≡ false
+  pub rest : AreAtRest b past
+
+pub reached : (b : BoardValue) (past : List Record) → SettleLaws b → IsLegalPast b past
+    → is_halting b past ≡ false → IsReached b (settled b past).past
+reached b past laws is awake =
+    let goes = going_life b past awake in
+    let rest = comes b past laws is goes in
+    let end : List Record = (settled b past).past in
+    let going : IsGoing b past goes.life end = rest.is.going in
+    record {
+      legal = going.legal;
+      awake = ap (halts_in b end) going.present
+          ∙ ap (λ (v : Values). v.halting)
+          (found_own b goes.life (firmware_values b end) (sym going.own))
+          ∙ going.awake;
+      rest = at_rest b past goes.life end laws going rest.none;
+    }

@@ -1,0 +1,191 @@
+-- What is so after a message of this life was delivered and its acknowledgement taken.
+use Rattle.std.proofs.Common.{◌≡◌, ℕ, ◌+◌, true, ◌==◌, cond, List, ◌∷◌, ◌++◌}
+use Rattle.std.proofs.Common.{length, Some, unwrap_or, refl, ap}
+use Rattle.std.proofs.Common.{◌∙◌}
+use Rattle.std.proofs.lemmas.Bool.{eq-eqb}
+use Rattle.psci_board.specs.Board.{BoardValue}
+use Rattle.psci_ctl_spec.specs.declared.delivery.Delivery.TheVariants as deliveries
+use Rattle.psci_ctl_spec.specs.declared.reply.CtlReply.TheVariants as replied
+use Rattle.psci_ctl_spec.specs.Changes.{after}
+use Rattle.psci_ctl_spec.specs.Changes as controlling
+use Rattle.psci_ctl_spec.specs.Effects.{effect_of, message_effect}
+use Rattle.psci_ctl_spec.specs.Exchange as controller
+use Rattle.psci_ctl_spec.specs.History as controls
+use Rattle.psci_ctl_spec.specs.Replies.{ack_by, delivery_of, is_this_life, reply}
+use Rattle.psci_ctl_spec.specs.Values as controlled
+use Rattle.psci_ctl_spec.specs.psci_messages.Message.{AckValue, MessageValue}
+use Rattle.psci_ctl_spec.specs.psci_messages.declared.taken.Taken.TheVariants.{Used}
+use Rattle.psci_headline.specs.psci_fw_spec.Answer.{answer}
+use Rattle.psci_headline.specs.psci_fw_spec.Changes.{with_acknowledgement}
+use Rattle.psci_headline.specs.psci_fw_spec.Exchange as firmware
+use Rattle.psci_headline.specs.psci_fw_spec.History as remembers
+use Rattle.psci_headline.specs.psci_fw_spec.Taking.{taken_by}
+use Rattle.psci_headline.specs.psci_fw_spec.Values.{Values}
+use Rattle.psci_headline.specs.psci_world_spec.declared.event.Event.TheVariants.{Deliver, Take}
+use Rattle.psci_headline.specs.psci_world_spec.declared.said.Record.{Record}
+use Rattle.psci_headline.specs.psci_world_spec.declared.said.Said.TheVariants.{Acked}
+use Rattle.psci_headline.specs.psci_world_spec.declared.said.Said.TheVariants.{Taken as Took}
+use Rattle.psci_headline.specs.psci_world_spec.Histories.{acks, ack_in, call, control}
+use Rattle.psci_headline.specs.psci_world_spec.Histories.{controller_history}
+use Rattle.psci_headline.specs.psci_world_spec.Histories.{controller_values, delivered}
+use Rattle.psci_headline.specs.psci_world_spec.Histories.{firmware_history}
+use Rattle.psci_headline.specs.psci_world_spec.Histories.{firmware_values, sent, sent_in, took}
+use Rattle.psci_headline.specs.psci_world_spec.Legal.{IsLegalPast, deliver, legal, legal_record}
+use Rattle.psci_headline.specs.psci_world_spec.Legal.{said_by, take}
+use Rattle.psci_headline.specs.psci_world_spec.Lists.{indexed}
+use Rattle.psci_headline.specs.psci_world_spec.Places.{place, place_of_effect, place_controlled}
+use Rattle.psci_headline.specs.psci_fw_spec.Said.{listed}
+use Rattle.psci_headline.proofs.Agreed.{RunLaws}
+use Rattle.psci_headline.specs.Drained as drained
+use Rattle.psci_headline.specs.Settling.{serving, step}
+use Rattle.psci_headline.proofs.Counting.{AreAdded, delivered_more, one_added}
+use Rattle.psci_headline.proofs.Finding.{numbered_new}
+
+-- A delivery -----------------------------------------------------------------------------------
+
+-- the acknowledgement of a message that is delivered
+abbrev pub ack_to : BoardValue → List Record → MessageValue → AckValue
+ack_to b past m = ack_by b (controller_values b past) m m.kind
+
+delivery_said : (b : BoardValue) (past : List Record) (k : ℕ) (m : MessageValue)
+    → indexed (sent past) k ≡ Some m → (controller_values b past).life ≡ Some m.life
+    → legal b past (Deliver k) ≡ Acked (length (acks past)) (ack_to b past m)
+unfolding legal reply delivery_of
+delivery_said b past k m at present =
+    let test : is_this_life (controller_values b past).life m.life ≡ true =
+    ap (λ o. is_this_life o m.life) present ∙ eq-eqb m.life m.life refl in
+    ap (deliver b past) at
+    ∙ ap (λ t. said_by (length (acks past)) (replied.Delivery
+    (cond t (deliveries.Applied (ack_to b past m)) deliveries.Ignored))) test
+
+-- What is so after a delivery.
+record AreDelivered (b : BoardValue) (past : List Record) (k : ℕ) (m : MessageValue) : Type 0 where
+  pub control : controller_values b (step b past (Deliver k))
+      ≡ controlling.change b (message_effect b m (ack_to b past m) m.kind)
+      (controller_values b past)
+  pub firmware : firmware_values b (step b past (Deliver k)) ≡ firmware_values b past
+  pub sent : sent (step b past (Deliver k)) ≡ sent past
+  pub acks : acks (step b past (Deliver k)) ≡ ack_to b past m ∷ acks past
+  pub place : (x : ℕ) → place b (step b past (Deliver k)) x
+      ≡ unwrap_or (place_of_effect x (message_effect b m (ack_to b past m) m.kind)) (place b past x)
+
+delivered_so : (b : BoardValue) (past : List Record) (k : ℕ) (m : MessageValue) → RunLaws b
+    → indexed (sent past) k ≡ Some m → (controller_values b past).life ≡ Some m.life
+    → AreDelivered b past k m
+unfolding controller_history firmware_history sent acks place after effect_of
+delivered_so b past k m laws at present = record {
+  control = ap (λ s. controls.values_of b (control w (sent past) (Deliver k) s ++ h)) said
+      ∙ ap (λ o. controls.values_of b (delivered o a ++ h)) at
+      ∙ laws.after _ h;
+  firmware = refl;
+  sent = ap (λ s. listed (sent_in s) ++ sent past) said;
+  acks = ap (λ s. listed (ack_in s) ++ acks past) said;
+  place = λ x.
+      ap (λ s. unwrap_or (place_controlled b x (control w (sent past) (Deliver k) s))
+      (place b past x)) said
+      ∙ ap (λ o. unwrap_or (place_controlled b x (delivered o a)) (place b past x)) at;
+}
+  where
+    w : controlled.Values
+    w = controller_values b past
+
+    h : List controller.CtlExchange
+    h = controller_history b past
+
+    a : AckValue
+    a = ack_to b past m
+
+    said : legal b past (Deliver k) ≡ Acked (length (acks past)) a
+    said = delivery_said b past k m at present
+
+-- An acknowledgement ---------------------------------------------------------------------------
+
+taken_said : (b : BoardValue) (past : List Record) (k : ℕ) (a : AckValue)
+    → indexed (acks past) k ≡ Some a → taken_by (firmware_values b past) a ≡ Used
+    → legal b past (Take k) ≡ Took Used
+unfolding legal answer
+taken_said b past k a at used = ap (take b past) at ∙ ap Took used
+
+-- What is so after an acknowledgement of an outstanding message was taken.
+record AreTaken (b : BoardValue) (past : List Record) (k : ℕ) (a : AckValue) : Type 0 where
+  pub control : controller_values b (step b past (Take k)) ≡ controller_values b past
+  pub firmware : firmware_values b (step b past (Take k))
+      ≡ with_acknowledgement b a (firmware_values b past)
+  pub sent : sent (step b past (Take k)) ≡ sent past
+  pub place : (x : ℕ) → place b (step b past (Take k)) x ≡ place b past x
+
+taken_so : (b : BoardValue) (past : List Record) (k : ℕ) (a : AckValue) → RunLaws b
+    → indexed (acks past) k ≡ Some a → taken_by (firmware_values b past) a ≡ Used
+    → AreTaken b past k a
+unfolding controller_history firmware_history sent place
+taken_so b past k a laws at used = record {
+  control = refl;
+  firmware = ap (λ s. remembers.values_of b (call w (acks past) (Take k) s ++ h)) said
+      ∙ ap (λ o. remembers.values_of b (took o Used ++ h)) at
+      ∙ laws.change _ h;
+  sent = ap (λ s. listed (sent_in s) ++ sent past) said;
+  place = λ x. refl;
+}
+  where
+    w : controlled.Values
+    w = controller_values b past
+
+    h : List firmware.FwExchange
+    h = firmware_history b past
+
+    said : legal b past (Take k) ≡ Took Used
+    said = taken_said b past k a at used
+
+-- Both -----------------------------------------------------------------------------------------
+
+-- What is so after a message was served.
+pub record AreAnswered (b : BoardValue) (past : List Record) (k : ℕ) (m : MessageValue)
+    : Type 0 where
+  pub legal : IsLegalPast b (serving b past (Some k))
+  pub added : (before : List Record) → AreAdded before past
+      → AreAdded before (serving b past (Some k))
+  pub control : controller_values b (serving b past (Some k))
+      ≡ controlling.change b (message_effect b m (ack_to b past m) m.kind)
+      (controller_values b past)
+  pub firmware : firmware_values b (serving b past (Some k))
+      ≡ with_acknowledgement b (ack_to b past m) (firmware_values b past)
+  pub sent : sent (serving b past (Some k)) ≡ sent past
+  pub place : (x : ℕ) → place b (serving b past (Some k)) x
+      ≡ unwrap_or (place_of_effect x (message_effect b m (ack_to b past m) m.kind)) (place b past x)
+  pub count : (j : ℕ) → drained.deliveries j (serving b past (Some k))
+      ≡ cond (j == k) 1 0 + drained.deliveries j past
+
+pub answered_so : (b : BoardValue) (past : List Record) (k : ℕ) (m : MessageValue) → RunLaws b
+    → IsLegalPast b past → indexed (sent past) k ≡ Some m
+    → (controller_values b past).life ≡ Some m.life
+    → taken_by (firmware_values b past) (ack_to b past m) ≡ Used → AreAnswered b past k m
+answered_so b past k m laws is at present used = record {
+  legal = (refl, (refl, is));
+  added = λ before are.
+      one_added before next (legal_record b next (Take n)) refl
+      (one_added before past (legal_record b past (Deliver k)) refl are);
+  control = two.control ∙ one.control;
+  firmware = two.firmware ∙ ap (with_acknowledgement b a) one.firmware;
+  sent = two.sent ∙ one.sent;
+  place = λ x. two.place x ∙ one.place x;
+  count = λ j. delivered_more j k (legal_record b past (Deliver k)) past refl;
+}
+  where
+    next : List Record
+    next = step b past (Deliver k)
+
+    n : ℕ
+    n = length (acks past)
+
+    a : AckValue
+    a = ack_to b past m
+
+    one : AreDelivered b past k m
+    one = delivered_so b past k m laws at present
+
+    made : indexed (acks next) n ≡ Some a
+    made = ap (λ (l : List AckValue). indexed l n) one.acks ∙ numbered_new a (acks past)
+
+    two : AreTaken b next n a
+    two = taken_so b next n a laws made
+        (ap (λ (v : Values). taken_by v a) one.firmware ∙ used)

@@ -1,0 +1,246 @@
+-- What is so once each Start that was outstanding was served.
+use Rattle.std.proofs.Common.{◌≡◌, ℕ, ◌⊎◌, inl, inr, ◌+◌, ◌<◌, Bool, true, false, ◌==◌, cond, not}
+use Rattle.std.proofs.Common.{List, None, Some, refl, arith, ap, sym, ◌∙◌}
+use Rattle.std.proofs.lemmas.Bool.{cases_Bool, cond-true, cond-false, eqb-true, or_left, or_right}
+use Rattle.std.proofs.lemmas.Option.{none-some, same_Some}
+use Rattle.psci_board.specs.Board.{BoardValue, cores}
+use Rattle.psci_ctl_spec.specs.Changes as controlling
+use Rattle.psci_ctl_spec.specs.Effects.{Nothing, Starts, message_effect}
+use Rattle.psci_ctl_spec.specs.Values as controlled
+use Rattle.psci_ctl_spec.specs.psci_messages.declared.start.Cause.TheVariants as causes
+use Rattle.psci_ctl_spec.specs.psci_messages.declared.kind.Kind.{Kind}
+use Rattle.psci_ctl_spec.specs.psci_messages.declared.kind.Kind.TheVariants as kinds
+use Rattle.psci_ctl_spec.specs.psci_messages.Message.{AckValue, MessageValue}
+use Rattle.psci_ctl_spec.specs.psci_messages.Slots.{OfCore, is_done, is_kind}
+use Rattle.psci_headline.specs.psci_fw_spec.Values.{Values}
+use Rattle.psci_headline.specs.psci_fw_laws.Outstanding.{AreOutstanding}
+use Rattle.psci_headline.specs.psci_world_spec.declared.event.Event.TheVariants.{Enter}
+use Rattle.psci_headline.specs.psci_world_spec.declared.said.Record.{Record}
+use Rattle.psci_headline.specs.psci_world_spec.Histories.{controller_values, firmware_values}
+use Rattle.psci_headline.specs.psci_world_spec.Histories.{sent}
+use Rattle.psci_headline.specs.psci_world_spec.Lists.{indexed}
+use Rattle.psci_headline.proofs.Agreeing.{found_own}
+use Rattle.psci_headline.specs.Drained.{deliveries}
+use Rattle.psci_headline.specs.Settling.{all_cores, served, serving, begun, each_core, entering}
+use Rattle.psci_headline.specs.Settling.{is_start, step}
+use Rattle.psci_headline.proofs.Serving.{ack_to}
+use Rattle.psci_headline.proofs.Beginning.{HasEntered, HasNoStart, IsIn, IsStartAt, IsUnderWay}
+use Rattle.psci_headline.proofs.Beginning.{enter_step, more_starts}
+use Rattle.psci_headline.proofs.Emptying.{IsEmptying, answer_case, empties, found}
+use Rattle.psci_headline.proofs.Finding.{HasNumber}
+use Rattle.psci_headline.proofs.Folding.{IsStep, each_done}
+use Rattle.psci_headline.proofs.Standing.{IsPast, SettleLaws, settled_life}
+use Rattle.psci_headline.proofs.Taking.{same_kind}
+
+-- A Start is served --------------------------------------------------------------------------
+
+-- the life stays
+start_life : (b : BoardValue) (w : controlled.Values) (m : MessageValue) (a : AckValue)
+    (kind : Kind) → kind ≡ kinds.Start
+    → (controlling.change b (message_effect b m a kind) w).life ≡ w.life
+start_life b w m a kinds.Down e = absurd (cc)
+start_life b w m a kinds.Start e = by_test (a.applied == 0)
+  where
+    by_test : (t : Bool) → (controlling.change b
+        (cond t Nothing (Starts m.core.number causes.On)) w).life ≡ w.life
+    by_test true = refl
+    by_test false = refl
+start_life b w m a kinds.Off e = absurd (cc)
+start_life b w m a kinds.Reset e = absurd (cc)
+
+-- nothing of it is left to be done
+start_done : (a : AckValue) (m : MessageValue) → a.kind ≡ kinds.Start → is_done a m ≡ true
+start_done a m e =
+    or_right a.stale _ (or_left (not (is_kind a.kind kinds.Down)) _
+    (ap (λ k. not (is_kind k kinds.Down)) e))
+
+-- the life goes on, and it is the firmware's
+abbrev pub IsOwnWay : BoardValue → List Record → ℕ → List Record → Type 0
+IsOwnWay b before life past =
+    IsUnderWay b before life past × ((firmware_values b past).life ≡ life)
+
+-- A Start that is outstanding for a core is served.
+record IsStartAnswered (b : BoardValue) (before : List Record) (life : ℕ) (past : List Record)
+    (c : ℕ) (m : MessageValue) (n : HasNumber m (sent past)) : Type 0 where
+  pub way : IsOwnWay b before life (serving b past (Some n.number))
+  pub there : (x : ℕ) → (x ≡ c → ⊥)
+      → (firmware_values b (serving b past (Some n.number))).outstanding (OfCore x)
+      ≡ (firmware_values b past).outstanding (OfCore x)
+  pub here : (firmware_values b (serving b past (Some n.number))).outstanding (OfCore c) ≡ None
+
+slots_of : (b : BoardValue) (past : List Record) → IsPast b past
+    → let v = firmware_values b past in
+    AreOutstanding v.life v.known v.phase (sent past) v.outstanding
+slots_of b past is = is.given.holds.slots
+
+start_answered : (b : BoardValue) (before : List Record) (life : ℕ) (past : List Record) (c : ℕ)
+    (m : MessageValue) → SettleLaws b → IsOwnWay b before life past
+    → (firmware_values b past).outstanding (OfCore c) ≡ Some m → is_start m.kind ≡ true
+    → (n : HasNumber m (sent past)) → IsStartAnswered b before life past c m n
+start_answered b before life past c m laws both at start n = record {
+  way = (
+    record {
+      legal = em.answered.legal;
+      added = em.answered.added before way.added;
+      present = ap (λ (w : controlled.Values). w.life) em.answered.control
+          ∙ start_life b (controller_values b past) n.message a n.message.kind
+          (sym n.name.kind ∙ kind) ∙ way.present;
+      awake = ap (λ (u : Values). u.halting) (found_own b life next (sym own))
+          ∙ ap (λ (u : Values). u.halting) em.answered.firmware
+          ∙ ap (λ (u : Values). u.halting) (sym (found_own b life v (sym both.1))) ∙ way.awake;
+      count = λ j. by_test j (cases_Bool (j == n.number)) (em.answered.count j);
+    },
+    own,
+  );
+  there = em.there;
+  here = em.here ∙ cond-true (is_done a m) None (Some m)
+      (start_done a m (em.kind ∙ kind));
+}
+  where
+    way : IsUnderWay b before life past
+    way = both.0
+
+    v : Values
+    v = firmware_values b past
+
+    next : Values
+    next = firmware_values b (serving b past (Some n.number))
+
+    a : AckValue
+    a = ack_to b past n.message
+
+    slots : AreOutstanding v.life v.known v.phase (sent past) v.outstanding
+    slots = slots_of b past (laws.past past way.legal)
+
+    kind : m.kind ≡ kinds.Start
+    kind = same_kind m.kind kinds.Start start
+
+    present : (controller_values b past).life ≡ Some m.life
+    present = way.present ∙ ap Some (sym both.1)
+        ∙ ap Some (sym (slots.core c m at).listed.present)
+
+    em : IsEmptying b past c n.number m n.message
+    em = empties b past c m laws.runs way.legal n present at (slots.core c m at).core
+        (slots.core c m at).kind
+
+    own : next.life ≡ life
+    own = ap (λ (u : Values). u.life) em.answered.firmware ∙ both.1
+
+    now : List MessageValue
+    now = sent (serving b past (Some n.number))
+
+    at_start : (j : ℕ) → j ≡ n.number → IsStartAt now j
+    at_start j e = record {
+      message = n.message;
+      at = ap (λ l. indexed l j) em.answered.sent ∙ ap (indexed (sent past)) e ∙ n.at;
+      kind = sym n.name.kind ∙ kind;
+    }
+
+    by_test : (j : ℕ) → ((j == n.number) ≡ true) ⊎ ((j == n.number) ≡ false)
+        → deliveries j (serving b past (Some n.number))
+        ≡ cond (j == n.number) 1 0 + deliveries j past
+        → (deliveries j (serving b past (Some n.number)) ≡ deliveries j before)
+        ⊎ IsStartAt now j
+    by_test j (inl e) more = inr (at_start j (eqb-true j n.number e))
+    by_test j (inr e) more = elim (way.count j) [
+      | inl same ↦
+          let none : cond {A = ℕ} (j == n.number) 1 0 ≡ 0 = cond-false (j == n.number) 1 0 e in
+          inl (omega (arith, more, none, same))
+      | inr old ↦
+          inr (more_starts (sent past) j old now
+          (λ x f. ap (λ l. indexed l j) em.answered.sent ∙ f))
+    ]
+
+-- All Starts -----------------------------------------------------------------------------------
+
+no_start_other : (b : BoardValue) (past : List Record) (c : ℕ) (m : MessageValue)
+    → (firmware_values b past).outstanding (OfCore c) ≡ Some m → is_start m.kind ≡ false
+    → HasNoStart b c past
+no_start_other b past c m at other x e start =
+    let same : m ≡ x = same_Some m x (sym at ∙ e) in
+    let no : false ≡ true =
+    sym other ∙ ap is_start (ap (λ (y : MessageValue). y.kind) same ∙ start) in
+    absurd (cc)
+
+no_start_none : (b : BoardValue) (past : List Record) (c : ℕ)
+    → (firmware_values b past).outstanding (OfCore c) ≡ None → HasNoStart b c past
+no_start_none b past c none x e start = none-some x (sym none ∙ e)
+
+start_step : (b : BoardValue) (before : List Record) (life : ℕ) → SettleLaws b
+    → IsStep (served b is_start) (cores b) (IsOwnWay b before life) (λ c past. Unit {0})
+    (λ c past. HasNoStart b c past)
+start_step b before life laws = record {
+  keeps = λ past c on holds.
+      answer_case b is_start past c (IsOwnWay b before life) (finds past c holds)
+      (λ none. holds) (λ m at other. holds)
+      (λ m at start n. (start_answered b before life past c m laws holds at start n).way);
+  todo = λ past c x on ne holds now other. tt;
+  done = λ past c x on ne holds now old.
+      answer_case b is_start past c (HasNoStart b x) (finds past c holds) (λ none. old)
+      (λ m at other. old)
+      (λ m at start n y e f.
+      old y (sym ((start_answered b before life past c m laws holds at start n).there x ne) ∙ e)
+      f);
+  here = λ past c on holds now.
+      answer_case b is_start past c (HasNoStart b c) (finds past c holds)
+      (no_start_none b past c) (no_start_other b past c)
+      (λ m at start n.
+      no_start_none b (serving b past (Some n.number)) c
+      (start_answered b before life past c m laws holds at start n).here);
+}
+  where
+    finds : (past : List Record) (c : ℕ) → IsOwnWay b before life past → (m : MessageValue)
+        → (firmware_values b past).outstanding (OfCore c) ≡ Some m → HasNumber m (sent past)
+    finds past c holds m at =
+        let v : Values = firmware_values b past in
+        found v.life v.known v (sent past) c m
+        (slots_of b past (laws.past past holds.0.legal)) at
+
+-- The beginning --------------------------------------------------------------------------------
+
+-- What is so after the beginning.
+pub record HasBegun (b : BoardValue) (before : List Record) (life : ℕ) (past : List Record)
+    : Type 0 where
+  pub way : IsUnderWay b before life past
+  pub entered : (c : ℕ) → c < cores b → HasEntered b c past
+  pub started : (c : ℕ) → c < cores b → HasNoStart b c past
+
+-- no core has a Start outstanding
+abbrev pub NoStarts : BoardValue → ℕ → List Record → Type 0
+NoStarts b life past = ((firmware_values b past).life ≡ life)
+    × ((c : ℕ) → c < cores b → HasNoStart b c past)
+
+-- an entry leaves no Start where there was none
+kept_entering : (b : BoardValue) (before : List Record) (life : ℕ) (past : List Record) (c : ℕ)
+    → NoStarts b life past → IsIn b before life past c → NoStarts b life (step b past (Enter c))
+kept_entering b before life past c kept is = (
+  is.own,
+  λ x on m e start.
+      kept.1 x on m
+      (ap (λ (u : Values). u.outstanding (OfCore x))
+      (sym (found_own b life (firmware_values b past) (sym kept.0))) ∙ is.slots x m e start) start,
+)
+
+pub has_begun : (b : BoardValue) (before : List Record) (life : ℕ) → SettleLaws b
+    → IsUnderWay b before life before → HasBegun b before life (begun b before)
+unfolding begun
+has_begun b before life laws way =
+    let one = each_done (entering b) (cores b)
+    (λ past. IsUnderWay b before life past × Unit {0}) (λ c past. Unit {0})
+    (λ c past. HasEntered b c past)
+    (enter_step b before life (λ past. Unit {0}) laws (λ past c w k is. tt)) before (way, tt)
+    (λ c on. tt) in
+    let entered : List Record = each_core (entering b) (all_cores b) before in
+    let own = settled_life b entered life laws.some (laws.past entered one.holds.0.legal)
+    one.holds.0.present one.done in
+    let two = each_done (served b is_start) (cores b) (IsOwnWay b before life)
+    (λ c past. Unit {0}) (λ c past. HasNoStart b c past) (start_step b before life laws) entered
+    (one.holds.0, own.own) (λ c on. tt) in
+    let started : List Record = each_core (served b is_start) (all_cores b) entered in
+    let three = each_done (entering b) (cores b)
+    (λ past. IsUnderWay b before life past × NoStarts b life past) (λ c past. Unit {0})
+    (λ c past. HasEntered b c past)
+    (enter_step b before life (NoStarts b life) laws
+    (λ past c w k is. kept_entering b before life past c k is)) started
+    (two.holds.0, (two.holds.1, two.done)) (λ c on. tt) in
+    record { way = three.holds.0; entered = three.done; started = three.holds.1.1 }

@@ -1,0 +1,191 @@
+-- What is told, after one call of the firmware or of the power controller.
+use Rattle.std.proofs.Common.{◌≡◌, ℕ, inl, inr, ◌+◌, ◌<◌, ◌≤◌, Bool, true, false, ◌==◌, cond, List}
+use Rattle.std.proofs.Common.{Option, None, Some, refl, arith, subst, sym, ◌∙◌}
+use Rattle.std.specs.Prelude.{slice_get}
+use Rattle.std.proofs.lemmas.Bool.{cases_eq, cond_both}
+use Rattle.psci_headline.specs.psci_board.Board.{BoardValue}
+use Rattle.psci_headline.specs.psci_board.Laws.{PathLaws}
+use Rattle.psci_headline.specs.psci_ctl_spec.Changes.{next_life, one_more}
+use Rattle.psci_headline.specs.psci_ctl_spec.Changes as controlling
+use Rattle.psci_headline.specs.psci_ctl_spec.Effects as controlling_effects
+use Rattle.psci_headline.specs.psci_ctl_spec.Values as controlled
+use Rattle.psci_headline.specs.psci_messages.declared.start.Start.{Start}
+use Rattle.psci_headline.specs.psci_messages.Message.{AckValue, MessageValue}
+use Rattle.psci_headline.specs.psci_fw_spec.declared.status.Status.TheVariants as statuses
+use Rattle.psci_headline.specs.psci_fw_spec.After.{change}
+use Rattle.psci_headline.specs.psci_fw_spec.Changes.{with_mode, with_pending}
+use Rattle.psci_headline.specs.psci_fw_spec.Effects.{Effect, Nothing, GoesOn, SetsMode, AsksOn}
+use Rattle.psci_headline.specs.psci_fw_spec.Effects.{Rests, Halts}
+use Rattle.psci_headline.specs.psci_fw_spec.Effects.{Stops, Enters, Parks, StopsAtOnce}
+use Rattle.psci_headline.specs.psci_fw_spec.Effects.{Acknowledges}
+use Rattle.psci_headline.specs.psci_fw_spec.Lives.{first_confirmed, in_life, start_of_life}
+use Rattle.psci_headline.specs.psci_fw_spec.Phases.{Away, Pending}
+use Rattle.psci_headline.specs.psci_fw_spec.Values.{Values}
+use Rattle.psci_headline.specs.psci_fw_laws.Allowed.{IsAllowed}
+use Rattle.psci_headline.specs.psci_fw_laws.Kept.{Holds}
+use Rattle.psci_headline.specs.psci_fw_laws.KnownBelow.{KnownLaws}
+use Rattle.psci_headline.proofs.fw_laws.Arriving.{found_life}
+use Rattle.psci_headline.proofs.Agreeing.{found_other, found_own}
+use Rattle.psci_headline.specs.Waiting.{WasTold}
+use Rattle.psci_headline.proofs.Records.{IsOfRecord}
+use Rattle.psci_headline.specs.Confirming.{AreConfirming}
+use Rattle.psci_headline.proofs.Answered.{answered}
+use Rattle.psci_headline.proofs.Beside.{pends}
+use Rattle.psci_headline.proofs.Coming.{yet_later}
+use Rattle.psci_headline.proofs.Effects.{enters, goes_on, halts, parks, rests, stops, stops_at_once}
+
+-- What is told in this life, where there is one.
+abbrev pub ConfirmingNow : BoardValue → controlled.Values → Values → Type 0
+ConfirmingNow b w v =
+    (life : ℕ) → w.life ≡ Some life → AreConfirming b w.starts (in_life b life v)
+
+-- The firmware ---------------------------------------------------------------------------------
+
+module _ (b : BoardValue) (w : controlled.Values) (v : Values) (sent : List MessageValue)
+    (made : List AckValue) (sums : KnownLaws b) (paths : PathLaws b) (holds : Holds b v sent)
+    (known : (life : ℕ) → w.life ≡ Some life → (c : ℕ) → (in_life b life v).known c ≤ w.starts c)
+    (told : (life : ℕ) → w.life ≡ Some life → (i : ℕ) (a : AckValue) → slice_get made i ≡ Some a
+    → a.life ≡ life → WasTold b w.starts w.depth a sent)
+    (h : ConfirmingNow b w v) where
+  -- the life stays: what is told in another one is not changed
+  own_life : (u : Values) → u.life ≡ v.life
+      → ((life : ℕ) → w.life ≡ Some life → life ≡ v.life → AreConfirming b w.starts v
+      → AreConfirming b w.starts u)
+      → ConfirmingNow b w u
+  own_life u same step life e = elim (cases_eq life v.life) [
+    | inl own ↦
+        subst (AreConfirming b w.starts) (sym (found_own b life u (own ∙ sym same)))
+        (step life e own (subst (AreConfirming b w.starts) (found_own b life v own) (h life e)))
+    | inr other ↦
+        subst (AreConfirming b w.starts)
+        (found_other b life v other ∙ sym (found_other b life u (λ f. other (f ∙ same))))
+        (h life e)
+  ]
+
+  -- a core entered in the power controller's life
+  entered : (u : Values) (s : Start) → w.life ≡ Some s.life → u.life ≡ s.life
+      → (AreConfirming b w.starts (in_life b s.life v) → AreConfirming b w.starts u)
+      → ConfirmingNow b w u
+  entered u s present life step now e =
+      let same : s.life ≡ now = let f : Some s.life ≡ Some now = sym present ∙ e in cc in
+      subst (AreConfirming b w.starts) (sym (found_own b now u (sym same ∙ sym life)))
+      (step (h s.life present))
+
+  taken : (a : AckValue) (i : ℕ) → slice_get made i ≡ Some a
+      → ConfirmingNow b w (change b (Acknowledges a) v)
+  taken a i at = own_life (change b (Acknowledges a) v) refl (λ life e own are.
+      answered b w.starts w.depth v sent a (record {
+        paths = paths;
+        holds = holds;
+        told = λ is. told life e i a at (is ∙ sym own);
+        below = λ level place.
+            sums.le v.known w.starts level place (λ c on below.
+            subst (λ (u : Values). u.known c ≤ w.starts c) (found_own b life v own)
+            (known life e c));
+      }) are)
+
+  pub effect : (e : Effect) → IsAllowed b v e → IsOfRecord w made e
+      → ConfirmingNow b w (change b e v)
+  effect Nothing allowed says = h
+  effect (GoesOn c) allowed says =
+      own_life (change b (GoesOn c) v) refl (λ life e own are. goes_on b w.starts v c are)
+  effect (SetsMode c mode) allowed says =
+      own_life (change b (SetsMode c mode) v) refl (λ life e own are.
+      goes_on b w.starts (with_mode mode v) c
+      (record { domains = are.domains; cores = are.cores }))
+  effect (AsksOn c asked) allowed says =
+      own_life (change b (AsksOn c asked) v) refl (λ life e own are.
+      goes_on b w.starts (with_pending b asked v) c
+      (pends b w.starts v asked paths allowed.kind are))
+  effect (Rests c rest m) allowed says =
+      own_life (change b (Rests c rest m) v) refl (λ life e own are.
+      rests b w.starts sums paths v sent c rest m holds allowed are)
+  effect (Halts c m) allowed says =
+      own_life (change b (Halts c m) v) refl (λ life e own are.
+      halts b w.starts v c m allowed.system are)
+  effect (Stops c) allowed says =
+      own_life (change b (Stops c) v) refl (λ life e own are.
+      stops b w.starts sums paths v sent c allowed are)
+  effect (Enters c s) allowed says =
+      entered (change b (Enters c s) v) s (says.starts (record { core = c; start = s }) refl)
+      (found_life b v s.life) (enters b w.starts sums paths v c s)
+  effect (Parks c s m) allowed says =
+      entered (change b (Parks c s m) v) s (says.starts (record { core = c; start = s }) refl)
+      (found_life b v s.life) (parks b w.starts sums paths v c s m allowed)
+  effect (StopsAtOnce c s) allowed says =
+      entered (change b (StopsAtOnce c s) v) s
+      (says.starts (record { core = c; start = s }) refl) (found_life b v s.life)
+      (stops_at_once b w.starts sums paths v c s allowed)
+  effect (Acknowledges a) allowed says =
+      let of = says.takes a refl in taken a of.index of.at
+
+-- The power controller -------------------------------------------------------------------------
+
+-- the start of a life
+first_confirmed_by : (t : Bool) → 0 < cond t 3 0 → t ≡ true
+first_confirmed_by true some = refl
+first_confirmed_by false some = absurd (omega (arith, some))
+
+first_off : (t : Bool) → cond t Pending Away ≡ Away
+    → cond t statuses.Pending statuses.Off ≡ statuses.Off
+first_off true e = absurd (cc)
+first_off false e = refl
+
+pub first : (b : BoardValue) (starts : ℕ → ℕ) (life : ℕ)
+    → AreConfirming b starts (start_of_life b life)
+first b starts life = record {
+  domains = λ level place some. inl (first_confirmed_by (first_confirmed b level place) some);
+  cores = λ awake c on away. inl (first_off (c == 0) away);
+}
+
+pub first_now : (b : BoardValue) (starts : ℕ → ℕ) (life : ℕ)
+    → AreConfirming b starts (in_life b life (start_of_life b 0))
+first_now b starts life =
+    cond_both (life == 0) (start_of_life b 0) (start_of_life b life)
+    (λ u. AreConfirming b starts u) (λ e. first b starts 0) (λ e. first b starts life)
+
+-- more starts
+later : (b : BoardValue) (starts more : ℕ → ℕ) (v : Values) → KnownLaws b
+    → ((c : ℕ) → starts c ≤ more c) → AreConfirming b starts v → AreConfirming b more v
+later b starts more v sums le are = record {
+  domains = λ level place some. elim (are.domains level place some) [
+    | inl was ↦ inl was
+    | inr yet ↦
+        inr (yet_later b starts more v.known v.outstanding level place
+        (sums.le starts more level place (λ c on at. le c)) yet)
+  ];
+  cores = λ awake c on away. elim (are.cores awake c on away) [
+    | inl was ↦ inl was
+    | inr yet ↦
+        inr (yet_later b starts more v.known v.outstanding 0 c
+        (sums.le starts more 0 c (λ x at below. le x)) yet)
+  ];
+}
+
+one_later : (t : Bool) (n : ℕ) → n ≤ cond t (n + 1) n
+one_later true n = omega arith
+one_later false n = omega arith
+
+-- a life begins that the firmware does not know of
+begins : (b : BoardValue) (w : controlled.Values) (v : Values) (o : Option ℕ) (life : ℕ)
+    → ((l : ℕ) → w.life ≡ Some l → v.life ≤ l) → w.life ≡ o → next_life o ≡ Some life
+    → (starts : ℕ → ℕ) → AreConfirming b starts (in_life b life v)
+begins b w v None life begun is e starts = absurd (cc)
+begins b w v (Some l) life begun is e starts =
+    let next : l + 1 ≡ life = cc in
+    subst (AreConfirming b starts)
+    (sym (found_other b life v (λ same. omega (arith, next, begun l is, same))))
+    (first b starts life)
+
+pub controlled_by : (b : BoardValue) (w : controlled.Values) (v : Values)
+    (e : controlling_effects.Effect) → KnownLaws b
+    → ((l : ℕ) → w.life ≡ Some l → v.life ≤ l) → ConfirmingNow b w v
+    → ConfirmingNow b (controlling.change b e w) v
+controlled_by b w v controlling_effects.Nothing sums begun h = h
+controlled_by b w v (controlling_effects.Starts c cause) sums begun h = λ life e.
+    later b w.starts (one_more w.starts c) (in_life b life v) sums
+    (λ x. one_later (x == c) (w.starts x)) (h life e)
+controlled_by b w v (controlling_effects.Deepens c ps) sums begun h = h
+controlled_by b w v controlling_effects.Ends sums begun h = λ life e. absurd (cc)
+controlled_by b w v controlling_effects.Begins sums begun h = λ life e.
+    begins b w v w.life life begun refl e controlled.first_starts

@@ -1,0 +1,182 @@
+-- What waits, after an acknowledgement was taken.
+use Rattle.std.proofs.Common.{◌≡◌, ℕ, ◌⊎◌, inl, inr, Bool, true, false, ◌==◌, ◌&&◌, not, cond, List}
+use Rattle.std.proofs.Common.{length, Option, None, Some, refl, arith, subst, ap, sym, ◌∙◌}
+use Rattle.std.specs.Prelude.{slice_get}
+use Rattle.std.proofs.lemmas.Bool.{and_parts, cases_lt, eqb-true, leb-true, or_cases}
+use Rattle.std.proofs.lemmas.Option.{same_Some, slice_get_within}
+use Rattle.psci_board.specs.Board.{BoardValue, up}
+use Rattle.psci_ctl_spec.specs.psci_messages.declared.part.Part.{Part}
+use Rattle.psci_ctl_spec.specs.psci_messages.declared.kind.Kind.{Kind}
+use Rattle.psci_ctl_spec.specs.psci_messages.declared.kind.Kind.TheVariants.{Down, Start, Off}
+use Rattle.psci_ctl_spec.specs.psci_messages.declared.kind.Kind.TheVariants.{Reset}
+use Rattle.psci_ctl_spec.specs.psci_messages.Message.{AckValue, MessageValue}
+use Rattle.psci_ctl_spec.specs.psci_messages.Slots.{Acknowledge, OfCore, Slot, answers, changed}
+use Rattle.psci_ctl_spec.specs.psci_messages.Slots.{is_done, is_kind}
+use Rattle.psci_ctl_spec.specs.psci_messages.Slots.{is_slot, slot_of}
+use Rattle.psci_headline.specs.psci_fw_spec.Phases.{Phase}
+use Rattle.psci_headline.specs.psci_fw_laws.Outstanding.{AreOutstanding}
+use Rattle.psci_headline.specs.Waiting.{AreWaiting, AwaitsStart, IsLivePart, IsTold, WasTold}
+
+-- Names ----------------------------------------------------------------------------------------
+
+pub same_kind : (k l : Kind) → is_kind k l ≡ true → k ≡ l
+same_kind Down Down e = refl
+same_kind Down Start e = absurd (cc)
+same_kind Down Off e = absurd (cc)
+same_kind Down Reset e = absurd (cc)
+same_kind Start Down e = absurd (cc)
+same_kind Start Start e = refl
+same_kind Start Off e = absurd (cc)
+same_kind Start Reset e = absurd (cc)
+same_kind Off Down e = absurd (cc)
+same_kind Off Start e = absurd (cc)
+same_kind Off Off e = refl
+same_kind Off Reset e = absurd (cc)
+same_kind Reset Down e = absurd (cc)
+same_kind Reset Start e = absurd (cc)
+same_kind Reset Off e = absurd (cc)
+same_kind Reset Reset e = refl
+
+-- An acknowledgement has the name of a message.
+pub record HasName (a : AckValue) (m : MessageValue) : Type 0 where
+  pub kind : a.kind ≡ m.kind
+  pub core : a.core.number ≡ m.core.number
+  pub life : a.life ≡ m.life
+  pub number : a.number ≡ m.number
+
+pub named : (a : AckValue) (m : MessageValue) → answers a m ≡ true → HasName a m
+named a m e =
+    let kind = and_parts (is_kind a.kind m.kind) _ e in
+    let core = and_parts (a.core.number == m.core.number) _ kind.1 in
+    let rest = and_parts (a.life == m.life) _ core.1 in
+    record {
+      kind = same_kind a.kind m.kind kind.0;
+      core = eqb-true _ _ core.0;
+      life = eqb-true _ _ rest.0;
+      number = eqb-true _ _ rest.1;
+    }
+
+-- The slot -------------------------------------------------------------------------------------
+
+-- The message that was emptied out of a slot.
+pub record IsEmptied (a : AckValue) (m : MessageValue) : Type 0 where
+  pub answers : answers a m ≡ true
+  pub done : is_done a m ≡ true
+
+emptied_or : (a : AckValue) (m : MessageValue) (s t : Bool) → answers a m && is_done a m ≡ t
+    → (cond s (cond t None (Some m)) (Some m) ≡ Some m) ⊎ IsEmptied a m
+emptied_or a m false t e = inl refl
+emptied_or a m true false e = inl refl
+emptied_or a m true true e =
+    let both = and_parts (answers a m) (is_done a m) e in
+    inr (record { answers = both.0; done = both.1 })
+
+-- what was outstanding for a core stays, or was emptied
+pub still_or : (outstanding : Slot → Option MessageValue) (a : AckValue) (x : ℕ)
+    (m : MessageValue) → outstanding (OfCore x) ≡ Some m
+    → (changed (OfCore x) (Acknowledge a) (outstanding (OfCore x)) ≡ Some m) ⊎ IsEmptied a m
+still_or outstanding a x m e =
+    subst (λ o. (changed (OfCore x) (Acknowledge a) o ≡ Some m) ⊎ IsEmptied a m) (sym e)
+    (emptied_or a m (is_slot (slot_of a.kind a.core) (OfCore x)) (answers a m && is_done a m) refl)
+
+-- The acknowledgement --------------------------------------------------------------------------
+
+-- Core, life and number name one Down among those that were sent.
+abbrev pub IsNamedOnce : List MessageValue → Type 0
+IsNamedOnce sent = (j k : ℕ) (m n : MessageValue) → slice_get sent j ≡ Some m
+    → slice_get sent k ≡ Some n → m.kind ≡ Down → n.kind ≡ Down → m.core.number ≡ n.core.number
+    → m.life ≡ n.life → m.number ≡ n.number → j ≡ k
+
+-- where the acknowledgement of a Down leaves nothing to be done, each live part has its depth
+done_down : (b : BoardValue) (starts : ℕ → ℕ) (depth : ℕ → ℕ → ℕ) (a : AckValue)
+    (sent : List MessageValue) (k level : ℕ) (m : MessageValue) (p : Part) → IsNamedOnce sent
+    → WasTold b starts depth a sent → slice_get sent k ≡ Some m → m.kind ≡ Down → IsEmptied a m
+    → slice_get m.parts level ≡ Some p → IsLivePart b starts m level p
+    → depth level (up b level m.core.number) ≡ p.depth
+done_down b starts depth a sent k level m p once t at kind emptied part live =
+    elim (cases_lt level a.applied) [
+      | inl low ↦ told.applied kind level p low part live
+      | inr high ↦ elim (or_cases a.stale _ emptied.done) [
+        | inl stale ↦ absurd (told.stale kind stale level p high part live)
+        | inr rest ↦ elim (or_cases (not (is_kind a.kind Down)) _ rest) [
+          | inl other ↦
+              let down : is_kind a.kind Down ≡ true =
+              ap (λ x. is_kind x Down) (mine.kind ∙ kind) in
+              let no : false ≡ true = sym (ap not down) ∙ other in absurd (cc)
+          | inr all ↦
+              let within = slice_get_within m.parts level p part in
+              let few = leb-true (length m.parts) a.applied all in
+              absurd (omega (arith, within, few, high))
+        ]
+      ]
+    ]
+  where
+    mine : HasName a m
+    mine = named a m emptied.answers
+
+    n : MessageValue
+    n = t.message
+
+    theirs : HasName a n
+    theirs = named a n t.told.answers
+
+    one : t.index ≡ k
+    one = once t.index k n m t.at at (sym theirs.kind ∙ mine.kind ∙ kind) kind
+        (sym theirs.core ∙ mine.core) (sym theirs.life ∙ mine.life)
+        (sym theirs.number ∙ mine.number)
+
+    same : n ≡ m
+    same = same_Some n m (sym t.at ∙ ap (slice_get sent) one ∙ at)
+
+    told : IsTold b starts depth a m
+    told = subst (IsTold b starts depth a) same t.told
+
+-- an acknowledgement was taken
+pub waiting_taken : (b : BoardValue) (life : ℕ) (starts : ℕ → ℕ) (depth : ℕ → ℕ → ℕ)
+    (halting : Bool) (known : ℕ → ℕ) (phase : ℕ → Phase)
+    (outstanding : Slot → Option MessageValue) (sent : List MessageValue) (made : List AckValue)
+    (a : AckValue) (i : ℕ) → slice_get made i ≡ Some a → IsNamedOnce sent
+    → AreOutstanding life known phase sent outstanding
+    → AreWaiting b life starts depth halting known phase outstanding sent made
+    → AreWaiting b life starts depth halting known phase
+    (λ slot. changed slot (Acknowledge a) (outstanding slot)) sent made
+waiting_taken b life starts depth halting known phase outstanding sent made a i is_made once slots
+    are =
+    record {
+      pursued = λ k m at present kind level p part live.
+          elim (are.pursued k m at present kind level p part live) [
+            | inl deep ↦ inl deep
+            | inr other ↦ elim other [
+              | inl waits ↦ elim (still_or outstanding a m.core.number m waits) [
+                | inl still ↦ inr (inl still)
+                | inr emptied ↦
+                    let name = named a m emptied.answers in
+                    let t = are.told i a is_made (name.life ∙ present) in
+                    inl (done_down b starts depth a sent k level m p once t at kind emptied part
+                    live)
+              ]
+              | inr pending ↦ inr (inr pending)
+            ]
+          ];
+      first = are.first;
+      asked = λ awake x on waits same. await x (are.asked awake x on waits same) same;
+      named = are.named;
+      told = are.told;
+    }
+  where
+    await : (x : ℕ) → AwaitsStart outstanding x → starts x ≡ known x
+        → AwaitsStart (λ slot. changed slot (Acknowledge a) (outstanding slot)) x
+    await x old same = elim (still_or outstanding a x old.message old.at) [
+      | inl still ↦ record { message = old.message; at = still; kind = old.kind }
+      | inr emptied ↦
+          let mine = named a old.message emptied.answers in
+          let is = slots.core x old.message old.at in
+          let t = are.told i a is_made (mine.life ∙ is.listed.present) in
+          let theirs = named a t.message t.told.answers in
+          let later = t.told.started (sym theirs.kind ∙ mine.kind ∙ old.kind) in
+          let at_x : t.message.core.number ≡ x = sym theirs.core ∙ mine.core ∙ is.core in
+          let number : t.message.number ≡ known x =
+          sym theirs.number ∙ mine.number ∙ is.number in
+          let more : starts t.message.core.number ≡ starts x = ap starts at_x in
+          absurd (omega (arith, later, number, more, same))
+    ]

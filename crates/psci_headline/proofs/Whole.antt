@@ -1,0 +1,156 @@
+-- Where firmware and power controller agree, all is told.
+use Rattle.std.proofs.Common.{◌≡◌, ℕ, inl, inr, ◌<◌, Bool, true, false, cond, List, Option, None}
+use Rattle.std.proofs.Common.{Some, refl, arith, subst, ap, sym, ◌∙◌}
+use Rattle.std.proofs.lemmas.Bool.{cases_eq, cases_lt}
+use Rattle.std.proofs.lemmas.Option.{none-some}
+use Rattle.psci_headline.specs.psci_board.Board.{BoardValue, HasNode, cores}
+use Rattle.psci_headline.specs.psci_board.declared.node.Node.{Node}
+use Rattle.psci_headline.specs.psci_ctl_spec.Values as controlled
+use Rattle.psci_headline.specs.psci_messages.Slots.{OfCore}
+use Rattle.psci_headline.specs.psci_fw_spec.declared.hw.Hw.TheVariants.{On}
+use Rattle.psci_headline.specs.psci_fw_spec.declared.status.Status.{Status}
+use Rattle.psci_headline.specs.psci_fw_spec.declared.status.Status.TheVariants.{Off}
+use Rattle.psci_headline.specs.psci_fw_spec.Invariant.{AreValues, agrees}
+use Rattle.psci_headline.specs.psci_fw_spec.Lives.{in_life}
+use Rattle.psci_headline.specs.psci_fw_spec.NodeHwState.{hw_at, node_hw}
+use Rattle.psci_headline.specs.psci_fw_spec.Phases.{Phase, Away, Pending, Running, Suspended}
+use Rattle.psci_headline.specs.psci_fw_spec.Values.{Values}
+use Rattle.psci_headline.specs.psci_fw_laws.Kept.{Holds}
+use Rattle.psci_headline.specs.psci_world_spec.declared.said.Record.{Record}
+use Rattle.psci_headline.specs.psci_world_spec.Histories.{controller_values, firmware_values}
+use Rattle.psci_headline.specs.psci_world_spec.Histories.{sent}
+use Rattle.psci_headline.specs.psci_world_spec.Legal.{IsLegalPast}
+use Rattle.psci_headline.proofs.Agreeing.{found_other, found_own}
+use Rattle.psci_headline.specs.Drained.{AreAtRest}
+use Rattle.psci_headline.specs.Settling.{halts_in, is_halting}
+use Rattle.psci_headline.specs.Complete.{IsToldWhole}
+use Rattle.psci_headline.specs.Confirming.{AreConfirming, Confirming, IsYetToCome}
+use Rattle.psci_headline.proofs.Confirmed.{RunLaws}
+
+-- The life -------------------------------------------------------------------------------------
+
+-- A life that goes on.
+pub record LifeGoesOn (b : BoardValue) (past : List Record) : Type 0 where
+  pub life : ℕ
+  pub present : (controller_values b past).life ≡ Some life
+  pub awake : (in_life b life (firmware_values b past)).halting ≡ false
+
+pub going_life : (b : BoardValue) (past : List Record) → is_halting b past ≡ false
+    → LifeGoesOn b past
+going_life b past awake = by_life (controller_values b past).life refl awake
+  where
+    by_life : (o : Option ℕ) → (controller_values b past).life ≡ o → halts_in b past o ≡ false
+        → LifeGoesOn b past
+    by_life None e f = absurd (cc)
+    by_life (Some life) e f = record { life = life; present = e; awake = f }
+
+-- Words ----------------------------------------------------------------------------------------
+
+-- a domain that is fully on is ON, confirmed or not
+flat_on : (t : Bool) (depth : ℕ) → depth ≡ 0 → cond t (hw_at depth) On ≡ hw_at depth
+flat_on true depth e = refl
+flat_on false depth e = sym (ap hw_at e)
+
+off_away : (p : Phase) → agrees Off p ≡ true → p ≡ Away
+off_away Pending e = absurd (cc)
+off_away Running e = absurd (cc)
+off_away (Suspended ask) e = absurd (cc)
+off_away Away e = refl
+
+-- At rest --------------------------------------------------------------------------------------
+
+module _ (b : BoardValue) (past : List Record) (laws : RunLaws b) (legal : IsLegalPast b past)
+    (rest : AreAtRest b past) (on : LifeGoesOn b past) where
+  abbrev pub w : controlled.Values
+  w = controller_values b past
+
+  abbrev pub v : Values
+  v = firmware_values b past
+
+  abbrev pub found : Values
+  found = in_life b on.life v
+
+  -- the firmware knows every start
+  all_known : (c : ℕ) → c < cores b → found.known c ≡ w.starts c
+  all_known c at =
+      let agree = (laws.agree past legal).present on.life on.present in
+      elim (cases_eq (found.known c) (w.starts c)) [
+        | inl same ↦ same
+        | inr other ↦
+            absurd (rest.entered c at
+            (agree.started c at (omega (arith, other, agree.known c))))
+      ]
+
+  -- and so the life: the boot core would wait for its Start in another one
+  own : 0 < cores b → on.life ≡ v.life
+  own some = elim (cases_eq on.life v.life) [
+    | inl same ↦ same
+    | inr other ↦
+        let first = found_other b on.life v other in
+        let waits = ((laws.waits past legal) on.life on.present).asked on.awake 0 some
+        (ap (λ (u : Values). u.phase 0) first) (sym (all_known 0 some)) in
+        absurd (none-some waits.message
+        (sym (ap (λ (u : Values). u.outstanding (OfCore 0)) first) ∙ waits.at))
+  ]
+
+  -- so nothing is yet to come
+  none_yet : 0 < cores b → (level place : ℕ)
+      → IsYetToCome b w.starts v.known v.outstanding level place → ⊥
+  none_yet some level place yet = elim yet [
+    | inl is ↦
+        let holds : Holds b v (sent past) = laws.holds past legal in
+        let listed = (holds.slots.core is.message.core.number is.message is.at).listed in
+        let core = (holds.messages listed.index is.message listed.at).sound.core in
+        none-some is.message (sym (rest.own is.message.core.number core) ∙ is.at)
+    | inr more ↦
+        let same = found_own b on.life v (own some) in
+        let sum = laws.sums.same v.known w.starts level place (λ c at below.
+        ap (λ (u : Values). u.known c) (sym same) ∙ all_known c at) in
+        omega (arith, more, sum)
+  ]
+
+  are : Confirming b past → 0 < cores b → AreConfirming b w.starts v
+  are confirming some = subst (AreConfirming b w.starts) (found_own b on.life v (own some))
+      (confirming on.life on.present)
+
+  hw_now : Confirming b past → (n : Node) → HasNode b n
+      → node_hw v n ≡ hw_at (w.depth n.level n.place)
+  hw_now confirming n has =
+      let below = laws.paths.some_core n has in
+      let some : 0 < cores b = omega (arith, below.1) in
+      elim (cases_lt 0 (v.granted n.level n.place)) [
+        | inl granted ↦ elim ((are confirming some).domains n.level n.place granted) [
+          | inl confirmed ↦
+              ap (λ t. cond t (hw_at (v.granted n.level n.place)) On) confirmed
+              ∙ ap hw_at (rest.agree n has)
+          | inr yet ↦ absurd (none_yet some n.level n.place yet)
+        ]
+        | inr low ↦
+            flat_on (v.confirmed n.level n.place) (v.granted n.level n.place)
+            (omega (arith, low))
+            ∙ ap hw_at (rest.agree n has)
+      ]
+
+  off_now : Confirming b past → (c : ℕ) → c < cores b → v.phase c ≡ Away → v.status c ≡ Off
+  off_now confirming c at away =
+      let some : 0 < cores b = omega (arith, at) in
+      let awake : v.halting ≡ false =
+      ap (λ (u : Values). u.halting) (sym (found_own b on.life v (own some))) ∙ on.awake in
+      elim ((are confirming some).cores awake c at away) [
+        | inl off ↦ off
+        | inr yet ↦ absurd (none_yet some 0 c yet)
+      ]
+
+  pub whole_at : Confirming b past → AreValues b v → IsToldWhole b past
+  whole_at confirming values = record {
+    hw = hw_now confirming;
+    off = off_now confirming;
+    away = λ c at off.
+        off_away (v.phase c)
+        (subst (λ (s : Status). agrees s (v.phase c) ≡ true) off (values.agree c));
+  }
+
+pub whole : (b : BoardValue) (past : List Record) → RunLaws b → IsLegalPast b past
+    → is_halting b past ≡ false → AreAtRest b past → Confirming b past
+    → AreValues b (firmware_values b past) → IsToldWhole b past
+whole b past laws legal awake rest = whole_at b past laws legal rest (going_life b past awake)

@@ -1,0 +1,165 @@
+-- What holds of the claims of OS-initiated mode.
+use Rattle.std.proofs.Common.{◌≡◌, ℕ, zero, suc, ◌+◌, ◌<◌, ◌≤◌, Bool, true, false, List}
+use Rattle.std.proofs.Common.{length, filter, refl, ap, sym, ◌∙◌, arith, inl, inr, true≢false}
+use Rattle.std.proofs.Common.{get_or, Some}
+use Rattle.std.specs.Prelude.{slice_index, slice_get}
+use Rattle.std.specs.List.{list_all, range_with_len}
+use Rattle.std.proofs.lemmas.Bool.{cases_Bool, cases_eq, cases_lt, eq-eqb, eqb-true}
+use Rattle.std.proofs.lemmas.Option.{slice_get-get_or}
+use Rattle.std.proofs.Math.Nat.{eq-zero-or-pos}
+use Rattle.psci_board.specs.Board.{BoardValue, cores, up}
+use Rattle.psci_state.specs.Ask.{IsAsk}
+use Rattle.psci_messages.specs.declared.part.Part.{Part}
+use Rattle.psci_messages.specs.View.{PowerView, domain_of, is_all_away}
+use Rattle.psci_messages.specs.Claim.{own_claims, own_wish, off_claims, off_wish}
+use Rattle.psci_messages.specs.Laws.{OwnLaws, OffLaws}
+use Rattle.psci_messages.proofs.ClaimLaws.{claim_laws}
+
+-- All and some of the cores below ----------------------------------------------------------------
+
+all-pass : (p test : ℕ → Bool) (a n c : ℕ) → list_all p (filter test (range_with_len a n)) ≡ true
+    → a ≤ c → c < a + n → test c ≡ true → p c ≡ true
+all-pass p test a zero c e h i t = absurd (omega arith)
+all-pass p test a (suc n) c e h i t = elim (cases_Bool (test a)) [
+  | inl kept ↦ elim (cases_Bool (p a)) [
+    | inl passes ↦
+        let rest = rw (kept, passes) at e in
+        elim (cases_eq a c) [
+          | inl same ↦ ap p (sym same) ∙ passes
+          | inr other ↦ all-pass p test (a + 1) n c rest (omega (arith, other)) (omega arith) t
+        ]
+    | inr fails ↦ let never = rw (kept, fails) at e in absurd (true≢false (sym never))
+  ]
+  | inr dropped ↦
+      let rest = rw dropped at e in
+      elim (cases_eq a c) [
+        | inl same ↦ absurd (true≢false (sym (ap test same ∙ t) ∙ dropped))
+        | inr other ↦ all-pass p test (a + 1) n c rest (omega (arith, other)) (omega arith) t
+      ]
+]
+
+some-fails : (p test : ℕ → Bool) (a n : ℕ)
+    → list_all p (filter test (range_with_len a n)) ≡ false
+    → (c : ℕ) × (a ≤ c) × (c < a + n) × (test c ≡ true) × (p c ≡ false)
+some-fails p test a zero e = absurd (true≢false e)
+some-fails p test a (suc n) e = elim (cases_Bool (test a)) [
+  | inl kept ↦ elim (cases_Bool (p a)) [
+    | inl passes ↦
+        let less = rw (kept, passes) at e in
+        let rest = some-fails p test (a + 1) n less in
+        (rest.0, omega (arith, rest.1), omega (arith, rest.2), rest.3, rest.4)
+    | inr fails ↦ (a, omega arith, omega arith, kept, fails)
+  ]
+  | inr dropped ↦
+      let less = rw dropped at e in
+      let rest = some-fails p test (a + 1) n less in
+      (rest.0, omega (arith, rest.1), omega (arith, rest.2), rest.3, rest.4)
+]
+
+pub all_off-below : (b : BoardValue) (v : PowerView) (core level c : ℕ)
+    → is_all_away b v (domain_of b core level) ≡ true → c < cores b
+    → up b level c ≡ up b level core → v.is_away c ≡ true
+unfolding is_all_away up
+all_off-below b v core level c e h at =
+    all-pass v.is_away _ 0 (cores b) c e (omega arith) (omega arith) (eq-eqb _ _ at)
+
+pub some_on-below : (b : BoardValue) (v : PowerView) (core level : ℕ)
+    → is_all_away b v (domain_of b core level) ≡ false
+    → (c : ℕ) × (c < cores b) × (up b level c ≡ up b level core) × (v.is_away c ≡ false)
+unfolding is_all_away up
+some_on-below b v core level e =
+    let one = some-fails v.is_away _ 0 (cores b) e in
+    (one.0, omega (arith, one.2), eqb-true _ _ one.3, one.4)
+
+-- CPU_OFF -------------------------------------------------------------------------------------
+
+-- above the core, power-down is wanted where all is off, and nothing elsewhere
+off-yes : (b : BoardValue) (v : PowerView) (core level : ℕ) → 0 < level
+    → 0 < off_wish b v core level
+    → is_all_away b v (domain_of b core level) ≡ true
+off-yes b v core zero h i = absurd (omega arith)
+off-yes b v core (suc level) h i =
+    elim (cases_Bool (is_all_away b v (domain_of b core (suc level)))) [
+      | inl all ↦ all
+      | inr part ↦ let never = rw part at i in absurd (omega arith)
+    ]
+
+off-no : (b : BoardValue) (v : PowerView) (core level : ℕ) → off_wish b v core level ≡ 0
+    → is_all_away b v (domain_of b core level) ≡ false
+off-no b v core zero e = absurd (omega arith)
+off-no b v core (suc level) e = elim (cases_Bool (is_all_away b v (domain_of b core (suc level)))) [
+  | inl all ↦ let never = rw all at e in absurd (omega arith)
+  | inr part ↦ part
+]
+
+off-three : (b : BoardValue) (v : PowerView) (core level : ℕ) → 0 < off_wish b v core level
+    → off_wish b v core level ≡ 3
+off-three b v core zero h = refl
+off-three b v core (suc level) h =
+    elim (cases_Bool (is_all_away b v (domain_of b core (suc level)))) [
+      | inl all ↦ rw all refl
+      | inr part ↦ let never = rw part at h in absurd (omega arith)
+    ]
+
+off-some : (b : BoardValue) (v : PowerView) (core : ℕ) → 0 < length (off_claims b v core)
+off-some b v core =
+    let laws = claim_laws b v core (off_wish b v core) in
+    elim (eq-zero-or-pos (length (off_claims b v core))) [
+      | inl none ↦
+          let ends : off_wish b v core (length (off_claims b v core)) ≡ 0 =
+          laws.ends (omega (arith, none)) in
+          let never = rw none at ends in
+          absurd (omega arith)
+      | inr some ↦ some
+    ]
+
+pub off_laws : (b : BoardValue) (v : PowerView) (core : ℕ) → OffLaws b v core
+off_laws b v core =
+    let laws = claim_laws b v core (off_wish b v core) in
+    record {
+      deep = λ l p e.
+          laws.depth l p e
+          ∙ off-three b v core l (omega (arith, laws.some l p e, laws.depth l p e));
+      some = off-some b v core;
+      off = λ l c p e h i at.
+          all_off-below b v core l c
+          (off-yes b v core l h (omega (arith, laws.some l p e, laws.depth l p e))) i at;
+      ends = λ few. some_on-below b v core _ (off-no b v core _ (laws.ends few));
+    }
+
+-- What a core asks itself ---------------------------------------------------------------------
+
+asks-fall : (ask : List ℕ) (low high : ℕ) → IsAsk ask → low ≤ high
+    → slice_index ask high ≤ slice_index ask low
+asks-fall ask low zero is h = let same : low ≡ 0 = omega arith in rw same (omega arith)
+asks-fall ask low (suc high) is h = elim (cases_eq low (suc high)) [
+  | inl same ↦ rw same (omega arith)
+  | inr less ↦
+      let next : high + 1 ≡ suc high = omega arith in
+      let step = is.falls high in
+      let falls = rw next at step in
+      omega (arith, falls, asks-fall ask low high is (omega (arith, less)))
+]
+
+pub own_laws : (b : BoardValue) (v : PowerView) (core : ℕ) (ask : List ℕ) → IsAsk ask
+    → OwnLaws b v core ask
+own_laws b v core ask is =
+    let claim : List Part = own_claims b v core ask in
+    let laws = claim_laws b v core (own_wish ask) in
+    record {
+      asked = λ l h.
+          let p : Part = get_or claim l (record { level = 0; depth = 0; generation = 0 }) in
+          let at : slice_get claim l ≡ Some p = slice_get-get_or claim l _ h in
+          omega (arith, laws.some l p at, laws.depth l p at);
+      all = λ l h some. elim (cases_lt l (length claim)) [
+        | inl inside ↦ inside
+        | inr past ↦ absurd (omega (
+          arith,
+          some,
+          laws.ends (omega arith),
+          asks-fall ask (length claim) l is past,
+        ))
+      ];
+      most = λ l p e. omega (arith, laws.depth l p e, asks-fall ask 0 l is (omega arith), is.most);
+      falls = λ l p q e f. omega (arith, laws.depth l p e, laws.depth (l + 1) q f, is.falls l);
+    }

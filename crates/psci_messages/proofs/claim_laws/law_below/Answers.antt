@@ -1,0 +1,6 @@
+-- What is counted over the cores below a domain.
+use Rattle.psci_messages.proofs.BelowLaws.{below_laws}
+use Rattle.psci_messages.proofs.claim_laws.law_below.Goals as goal
+
+pub returns : goal.returns
+returns c = below_laws

@@ -1,7 +1,0 @@
-use Rattle.psci_polled.proofs.Counting.{few_statuses}
-use Rattle.psci_polled.proofs.laws.law_few_statuses.Goals as goal
-
-pub returns : goal.returns
-returns c b h core board legal =
-    few_statuses b h core c.law_kept.ensures.allowed c.law_kept.ensures.values
-    c.law_invariant.ensures.legal board legal (c.law_numbers.ensures b h board legal)

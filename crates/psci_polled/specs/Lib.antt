@@ -1,8 +1,0 @@
-pub mod Naming
-pub mod Polled
-pub mod Polls
-pub mod Writing
-pub use Rattle.psci_board.specs as psci_board
-pub use Rattle.psci_fw.specs as psci_fw
-pub use Rattle.psci_fw_spec.specs as psci_fw_spec
-pub use Rattle.psci_status.specs as psci_status

@@ -1,5 +1,0 @@
-pub mod Complete
-pub mod Confirming
-pub mod Drained
-pub mod Settling
-pub mod Waiting

@@ -1,0 +1,250 @@
+-- A call goes on from a past: what it leaves, and what it then has to write.
+use Rattle.std.proofs.Common.{◌≡◌, ◌≢◌, ℕ, ◌<◌, List, ◌∷◌, Bool, true}
+use Rattle.std.proofs.Common.{false}
+use Rattle.std.proofs.Common.{refl, sym, ap, ◌∙◌, subst, arith, Option, None, Some}
+use Rattle.std.specs.Prelude.{◌==◌, not, if◌then◌else◌}
+use Rattle.std.proofs.lemmas.Bool.Decides.{nat_tests}
+use Rattle.std.specs.Ordering.{int_eq}
+use Rattle.psci_abi.specs.Calls.{request_of}
+use Rattle.psci_abi.specs.Codes.{success}
+use Rattle.psci_abi.specs.declared.code.Code.{Code}
+use Rattle.psci_abi.specs.declared.registers.Regs.{Regs}
+use Rattle.psci_abi.specs.declared.request.Request.{Request}
+use Rattle.psci_abi.specs.declared.request.Request.TheVariants as requests
+use Rattle.psci_board.specs.Board.{BoardValue, cores}
+use Rattle.psci_messages.specs.declared.start.Start.{Start}
+use Rattle.psci_messages.specs.declared.taken.Taken.{Taken}
+use Rattle.psci_messages.specs.declared.taken.Taken.TheVariants as takens
+use Rattle.psci_messages.specs.Message.{AckValue, MessageValue}
+use Rattle.psci_fw_spec.specs.declared.call.FwCall.{FwCall}
+use Rattle.psci_fw_spec.specs.declared.call.FwCall.TheVariants.{Smc, Enter, Take}
+use Rattle.psci_fw_spec.specs.declared.mode.SuspendMode.{SuspendMode}
+use Rattle.psci_fw_spec.specs.declared.outcome.Act.{Act}
+use Rattle.psci_fw_spec.specs.declared.outcome.Act.TheVariants as acts
+use Rattle.psci_fw_spec.specs.declared.outcome.Outcome.{Outcome}
+use Rattle.psci_fw_spec.specs.declared.reply.FwReply.{FwReply}
+use Rattle.psci_fw_spec.specs.declared.reply.FwReply.TheVariants as replies
+use Rattle.psci_fw_spec.specs.declared.status.Status.{Status}
+use Rattle.psci_fw_spec.specs.After.{after}
+use Rattle.psci_fw_spec.specs.Answer.{answer}
+use Rattle.psci_fw_spec.specs.Effects.{GoesOn, effect_of, enter_effect, function_effect}
+use Rattle.psci_fw_spec.specs.Effects.{mode_effect}
+use Rattle.psci_fw_spec.specs.Effects.{return_effect, sent_effect, stop_effect}
+use Rattle.psci_fw_spec.specs.Exchange.{FwExchange}
+use Rattle.psci_fw_spec.specs.History.{life, status, values_of}
+use Rattle.psci_fw_spec.specs.Statuses.{added, statuses}
+use Rattle.psci_fw_spec.specs.SuspendMode.{mode_of}
+use Rattle.psci_fw_spec.specs.Values.{Values}
+use Rattle.psci_status.specs.Lists.{row}
+use Rattle.psci_status.specs.Naming.{asked_by, is_named, names, sent_beside}
+use Rattle.psci_status.specs.Polled.{IsPast}
+use Rattle.psci_status.specs.Writing.{one_more, written_then}
+use Rattle.psci_status.proofs.Last.{added_last, statuses_more}
+use Rattle.psci_status.proofs.Staying.{status_stays}
+
+-- Whom a call names ---------------------------------------------------------------------------
+
+names_mode : (c core : ℕ) (mode : Option SuspendMode) → names (mode_effect c mode) core ≡ false
+names_mode c core None = refl
+names_mode c core (Some mode) = refl
+
+names_set : (c core number : ℕ) (t : Bool)
+    → names (if t then mode_effect c (mode_of number) else GoesOn c) core ≡ false
+names_set c core number true = names_mode c core (mode_of number)
+names_set c core number false = refl
+
+-- a function that returns, and sends nothing
+pub names_return : (c core : ℕ) (r : Request) (code : Code)
+    → names (return_effect c r code) core ≡ false
+names_return c core requests.Version code = refl
+names_return c core (requests.CpuSuspend state entry_point context) code = refl
+names_return c core requests.CpuOff code = refl
+names_return c core (requests.CpuOn word entry_point context) code = refl
+names_return c core (requests.AffinityInfo level word) code = refl
+names_return c core (requests.NodeHwState level word) code = refl
+names_return c core requests.MigrateInfoType code = refl
+names_return c core requests.SystemOff code = refl
+names_return c core requests.SystemReset code = refl
+names_return c core (requests.Features word) code = refl
+names_return c core (requests.SystemSuspend entry_point context) code = refl
+names_return c core (requests.SetSuspendMode mode) code =
+    names_set c core mode (int_eq code.0 success.0)
+names_return c core (requests.SystemReset2 reset_type cookie) code = refl
+names_return c core requests.Unknown code = refl
+
+-- a function that stops its caller
+pub names_stop : (b : BoardValue) (c core : ℕ) (r : Request) (m : MessageValue)
+    → names (stop_effect b c r m) core ≡ false
+names_stop b c core requests.Version m = refl
+names_stop b c core (requests.CpuSuspend state entry_point context) m = refl
+names_stop b c core requests.CpuOff m = refl
+names_stop b c core (requests.CpuOn word entry_point context) m = refl
+names_stop b c core (requests.AffinityInfo level word) m = refl
+names_stop b c core (requests.NodeHwState level word) m = refl
+names_stop b c core requests.MigrateInfoType m = refl
+names_stop b c core requests.SystemOff m = refl
+names_stop b c core requests.SystemReset m = refl
+names_stop b c core (requests.Features word) m = refl
+names_stop b c core (requests.SystemSuspend entry_point context) m = refl
+names_stop b c core (requests.SetSuspendMode mode) m = refl
+names_stop b c core (requests.SystemReset2 reset_type cookie) m = refl
+names_stop b c core requests.Unknown m = refl
+
+-- a function that returns and sends something names whom it sent it for, if it names a core
+names_sent : (c core : ℕ) (r : Request) (m : MessageValue) → (core == m.core.number) ≡ false
+    → names (sent_effect c r m) core ≡ false
+names_sent c core requests.Version m other = refl
+names_sent c core (requests.CpuSuspend state entry_point context) m other = refl
+names_sent c core requests.CpuOff m other = refl
+names_sent c core (requests.CpuOn word entry_point context) m other = other
+names_sent c core (requests.AffinityInfo level word) m other = refl
+names_sent c core (requests.NodeHwState level word) m other = refl
+names_sent c core requests.MigrateInfoType m other = refl
+names_sent c core requests.SystemOff m other = refl
+names_sent c core requests.SystemReset m other = refl
+names_sent c core (requests.Features word) m other = refl
+names_sent c core (requests.SystemSuspend entry_point context) m other = refl
+names_sent c core (requests.SetSuspendMode mode) m other = refl
+names_sent c core (requests.SystemReset2 reset_type cookie) m other = refl
+names_sent c core requests.Unknown m other = refl
+
+names_function : (b : BoardValue) (c core : ℕ) (r : Request) (act : Act)
+    (m : Option MessageValue) → is_named (sent_beside act m) core ≡ false
+    → names (function_effect b c r act m) core ≡ false
+names_function b c core r acts.Stop (Some m) other = names_stop b c core r m
+names_function b c core r acts.Stop None other = refl
+names_function b c core r (acts.Return code) (Some m) other = names_sent c core r m other
+names_function b c core r (acts.Return code) None other = names_return c core r code
+names_function b c core r (acts.Enter address context) (Some m) other = refl
+names_function b c core r (acts.Enter address context) None other = refl
+names_function b c core r acts.Resume (Some m) other = refl
+names_function b c core r acts.Resume None other = refl
+
+pub names_smc : (b : BoardValue) (c core : ℕ) (regs : Regs) (o : Outcome)
+    → is_named (asked_by o) core ≡ false
+    → names (effect_of b c (Smc regs) (replies.Out o)) core ≡ false
+names_smc b c core regs o other = names_function b c core (request_of regs) o.act o.message other
+
+names_arrival : (c core : ℕ) (s : Start) (act : Act) (m : Option MessageValue)
+    → (core == c) ≡ false → names (enter_effect c s act m) core ≡ false
+names_arrival c core s acts.Stop (Some m) other = refl
+names_arrival c core s acts.Stop None other = refl
+names_arrival c core s (acts.Return code) (Some m) other = other
+names_arrival c core s (acts.Return code) None other = other
+names_arrival c core s (acts.Enter address context) (Some m) other = other
+names_arrival c core s (acts.Enter address context) None other = other
+names_arrival c core s acts.Resume (Some m) other = other
+names_arrival c core s acts.Resume None other = other
+
+pub names_enter : (b : BoardValue) (c core : ℕ) (s : Start) (o : Outcome)
+    → (core == c) ≡ false → names (effect_of b c (Enter s) (replies.Out o)) core ≡ false
+names_enter b c core s o other = names_arrival c core s o.act o.message other
+
+pub names_take : (b : BoardValue) (c core : ℕ) (a : AckValue) (taken : Taken)
+    → (core == a.core.number) ≡ false
+    → names (effect_of b c (Take a) (replies.Taken taken)) core ≡ false
+names_take b c core a takens.Used other = other
+names_take b c core a takens.Old other = refl
+
+-- What is kept --------------------------------------------------------------------------------
+
+-- what the firmware's laws say of one exchange more
+abbrev pub More : Type 0
+More = (b : BoardValue) (e : FwExchange) (h : List FwExchange)
+    → values_of b (e ∷ h) ≡ after b e.core e.call e.reply (values_of b h)
+
+-- the values after a call are those of the history with it
+valued : (b : BoardValue) (v v' : Values) (c : ℕ) (call : FwCall) (reply : FwReply)
+    (h : List FwExchange) → More → v ≡ values_of b h → v' ≡ after b c call reply v
+    → v' ≡ values_of b (record { core = c; call = call; reply = reply } ∷ h)
+valued b v v' c call reply h adds was is =
+    is ∙ ap (λ (u : Values). after b c call reply u) was
+    ∙ sym (adds b (record { core = c; call = call; reply = reply }) h)
+
+-- where the life stays, the status of a core that is not named adds nothing
+pub added_nothing : (b : BoardValue) (v v' : Values) (written : List (List Status)) (count c : ℕ)
+    (call : FwCall) (reply : FwReply) → More → IsPast b v written → count ≡ cores b
+    → v' ≡ after b c call reply v
+    → (core : ℕ) → core < count → names (effect_of b c call reply) core ≡ false
+    → v'.life ≡ v.life → v'.life ≢ 0
+    → added (v'.status core) (row written core) ≡ row written core
+unfolding values_of
+added_nothing b v v' written count c call reply adds past wide is core small other same some =
+    let h = past.history in
+    let e : FwExchange = record { core = c; call = call; reply = reply } in
+    let next : v' ≡ values_of b (e ∷ h) = valued b v v' c call reply h adds past.values is in
+    let life_is : life b (e ∷ h) ≡ life b h = sym (ap (λ (u : Values). u.life) next) ∙ same
+    ∙ ap (λ (u : Values). u.life) past.values in
+    let begun : life b h ≢ 0 = λ (z : life b h ≡ 0).
+    some (ap (λ (u : Values). u.life) next ∙ life_is ∙ z) in
+    let stays : v'.status core ≡ status b h core =
+    ap (λ (u : Values). u.status core) next ∙ status_stays b e h core life_is other in
+    let was : row written core ≡ statuses b h core =
+    past.written core (subst (λ (n : ℕ). core < n) wide small) in
+    ap (λ (s : Status). added s (row written core)) stays
+    ∙ ap (λ (ss : List Status). added (status b h core) ss) was
+    ∙ added_last b h core begun ∙ sym was
+
+-- the history with the call is a past of what it left
+pub past_more : (b : BoardValue) (v v' : Values) (written written' : List (List Status))
+    (count c : ℕ) (call : FwCall) (reply : FwReply) → More → IsPast b v written → count ≡ cores b
+    → reply ≡ answer b v c call → v' ≡ after b c call reply v
+    → ((core : ℕ) → core < count
+    → row written' core ≡ written_then v.life v' core (row written core))
+    → IsPast b v' written'
+unfolding values_of
+past_more b v v' written written' count c call reply adds past wide answered is wrote = record {
+  history = e ∷ h;
+  legal = (answered ∙ ap (λ (u : Values). answer b u c call) past.values, past.legal);
+  values = next;
+  written = told;
+}
+  where
+    h : List FwExchange
+    h = past.history
+
+    e : FwExchange
+    e = record { core = c; call = call; reply = reply }
+
+    next : v' ≡ values_of b (e ∷ h)
+    next = valued b v v' c call reply h adds past.values is
+
+    told : (core : ℕ) → core < cores b → row written' core ≡ statuses b (e ∷ h) core
+    told core small =
+        wrote core (subst (λ (n : ℕ). core < n) (sym wide) small)
+        ∙ ap (λ (ss : List Status). written_then v.life v' core ss) (past.written core small)
+        ∙ ap (λ (u : Values). written_then u.life v' core (statuses b h core)) past.values
+        ∙ ap (λ (u : Values). written_then (life b h) u core (statuses b h core)) next
+        ∙ statuses_more b e h core
+
+-- a call that changes no value has nothing to write
+pub nothing_more : (b : BoardValue) (v : Values) (written : List (List Status)) → IsPast b v written
+    → (core : ℕ) → core < cores b
+    → row written core ≡ written_then v.life v core (row written core)
+unfolding values_of
+nothing_more b v written past core small = by_life (v.life == 0) refl
+  where
+    h : List FwExchange
+    h = past.history
+
+    same : (l : ℕ) → not (l == l) ≡ false
+    same l = grind (arith, nat_tests)
+
+    some : (v.life == 0) ≡ false → life b h ≢ 0
+    some is z =
+        let e : (v.life == 0) ≡ true =
+        ap (λ (l : ℕ). l == 0) (ap (λ (u : Values). u.life) past.values ∙ z) in cc
+
+    told : (v.life == 0) ≡ false → added (v.status core) (row written core) ≡ row written core
+    told is =
+        ap (λ (u : Values). added (u.status core) (row written core)) past.values
+        ∙ ap (λ (ss : List Status). added (status b h core) ss) (past.written core small)
+        ∙ added_last b h core (some is) ∙ sym (past.written core small)
+
+    by_life : (t : Bool) → (v.life == 0) ≡ t → row written core
+        ≡ (if t then row written core
+        else one_more (not (v.life == v.life)) core (v.status core) (row written core))
+    by_life true is = refl
+    by_life false is =
+        sym (ap (λ (x : Bool). one_more x core (v.status core) (row written core)) (same v.life)
+        ∙ told is)

@@ -1,0 +1,42 @@
+use Rattle.std.proofs.Common.{◌≡◌, Option, false, refl, subst}
+use Rattle.psci_status.proofs.Slots.{names_by_slot}
+use Rattle.psci_status.proofs.CallSteps.{life_left, others_stay, polled_next, written_still}
+use Rattle.psci_board.specs.declared.node.Core.{Core}
+use Rattle.psci_status.specs.Naming.{is_named}
+use Rattle.psci_fw.specs.Reactions.{outcome_in}
+use Rattle.psci_fw.specs.Seen.{seen}
+use Rattle.psci_fw_spec.specs.declared.call.FwCall.TheVariants as calls
+use Rattle.psci_fw_spec.specs.declared.reply.FwReply.TheVariants as replies
+use Rattle.psci_status.proofs.polled.PolledFirmware.smc_in_slot.Goals as goal
+
+pub returns-in_err-reaction-clause-written : goal.returns-in_err-reaction-clause-written
+returns-in_err-reaction-clause-written c =
+    written_still c.args.self.now c.self.inside.firmware c.smc_in_slot.new.self _ _
+    c.self.inside.cores c.self.invariant c.self.view_is c.in_err-reaction.ensures.refused
+
+pub write_one-requires-clause-others : goal.write_one-requires-clause-others
+write_one-requires-clause-others c core small other some =
+    let f = c.smc_in_slot.new.self in
+    let o = outcome_in f.board (seen f) c.in_ok-reaction.reaction in
+    others_stay c.self.inside.firmware f _ _ c.self.inside.cores c.args.core.number (seen f).life
+    (calls.Smc c.args.regs) (replies.Out o) c.asked_in-asked.result c.law_values.ensures.more
+    c.self.invariant c.in_ok-reaction.ensures.after
+    (life_left (seen c.self.inside.firmware) (seen f) _ c.in_ok-reaction.ensures.after
+    (c.law_caller.ensures.life _ _ _ _ _))
+    (λ k not. names_by_slot c.self.inside.firmware.board f.board (seen c.self.inside.firmware)
+    c.args.core.number k c.args.regs o c.in_ok-reaction.reaction.slot
+    c.in_ok-reaction.ensures.answer c.in_ok-reaction.ensures.slot
+    (subst (λ (found : Option Core). is_named found k ≡ false) c.asked_in-asked.ensures not))
+    core small other refl some
+
+pub invariant_of-self-2 : goal.invariant_of-self-2
+invariant_of-self-2 c =
+    let f = c.smc_in_slot.new.self in
+    polled_next c.self.inside.firmware f _ _ _ _ c.self.inside.cores c.args.core.number
+    (seen f).life (calls.Smc c.args.regs)
+    (replies.Out (outcome_in f.board (seen f) c.in_ok-reaction.reaction))
+    c.law_values.ensures.more c.self.invariant c.in_ok-reaction.ensures.answer
+    c.in_ok-reaction.ensures.after c.in_ok-reaction.ensures.board c.write_one.ensures.table
+    (life_left (seen c.self.inside.firmware) (seen f) _ c.in_ok-reaction.ensures.after
+    (c.law_caller.ensures.life _ _ _ _ _))
+    c.write_one.ensures.log

@@ -1,0 +1,285 @@
+//! The firmware with the writer of its status words.
+
+use crate::seats::{Reader, StatusWords, Writer};
+use psci_board::{Board, Core, Memory};
+use psci_fw::{Code, Firmware, FwFault, Outcome, Reaction, Regs, Start, Taken, law_values};
+use psci_fw_spec::law_caller;
+use psci_messages::Ack;
+use std::alloc::Global;
+use std::marker::Model;
+
+/// A firmware, and the writer of its status words. Contracts see the firmware, the table of the
+/// words and what was written of each core.
+#[derive(Drop)]
+pub struct PolledFirmware {
+    pub(crate) firmware: Firmware,
+    pub(crate) writer: Writer,
+    pub(crate) cores: u16,
+}
+
+impl Model for PolledFirmware {
+    ghost use Rattle.psci_status.specs.Polled.{IsPolled, PolledView};
+    ghost use Rattle.psci_status.specs.Seats.{table_of_writer, written};
+
+    ghost Value = { PolledView };
+
+    ghost view = { λ p. record {
+      firmware = p.firmware;
+      table = table_of_writer p.writer;
+      written = written p.writer;
+    } };
+
+    ghost invariant = { λ p.
+        IsPolled p.firmware (table_of_writer p.writer) (written p.writer) p.cores };
+}
+
+ghost use Rattle.std.specs.Prelude.{◌≡◌, ◌<◌, ℕ, List, [], ◌∷◌, replicate, map};
+ghost use Rattle.std.specs.Prelude.{IfOk, IfSome, OnErr};
+ghost use Rattle.psci_board.specs.Board.{cores};
+ghost use Rattle.psci_fw.specs.Asking.{code_told, may_call};
+ghost use Rattle.psci_fw.specs.Calls.{IsReturned};
+ghost use Rattle.psci_fw.specs.Reactions.{IsInItsSlot, reply_in};
+ghost use Rattle.psci_fw.specs.Seen.{seen};
+ghost use Rattle.psci_fw_spec.specs.declared.call.FwCall.TheVariants as calls;
+ghost use Rattle.psci_fw_spec.specs.declared.reply.FwReply.TheVariants as replies;
+ghost use Rattle.psci_fw_spec.specs.declared.status.Status.TheVariants.{Off};
+ghost use Rattle.psci_fw_spec.specs.After.{after};
+ghost use Rattle.psci_fw_spec.specs.Answer.{answer, reply_of};
+ghost use Rattle.psci_fw_spec.specs.Lives.{start_of_life};
+ghost use Rattle.psci_status.specs.Lists.{IsLast, Within, gains, newest, row};
+ghost use Rattle.psci_status.specs.Seats.{seen as seen_by, table, table_of_reader};
+ghost use Rattle.psci_status.specs.Polled.{IsPast, IsWrittenFrom};
+
+use crate::laws::law_few_statuses;
+use crate::writing::{asked_in, life_of, write_changed, write_one};
+
+impl PolledFirmware {
+    /// The firmware of this board, before any core has entered, and its status words. They take the
+    /// memory of all their calls here.
+    pub fn new(alloc: Global, board: &Board) -> Result<(PolledFirmware, StatusWords), Memory>
+        ensures board { IfOk result (λ r. r.0.firmware.board ≡ board.now) }
+        ensures values { IfOk result (λ r. seen r.0.firmware ≡ start_of_life board.now 0) }
+        ensures table { IfOk result (λ r. r.0.table ≡ table r.1) }
+        ensures words { IfOk result (λ r. (table r.1).words ≡ cores board.now) }
+        ensures written { IfOk result (λ r.
+            r.0.written ≡ replicate (cores board.now) (Off ∷ [])) }
+    {
+        law_values();
+        let firmware = Firmware::new(alloc, board)?;
+        let Ok((words, writer)) = StatusWords::new(alloc, board) else {
+            let_go(firmware);
+            return Err(Memory);
+        };
+        let polled = PolledFirmware {
+            firmware,
+            writer,
+            cores: board.cores(),
+        };
+        Ok((polled, words))
+    }
+
+    /// `Firmware::smc`, and what it changed is written.
+    pub fn smc(&mut self, words: &StatusWords, core: Core, regs: Regs) -> Result<Outcome, FwFault>
+        requires { table words.now ≡ self.old.table }
+        ensures answer { reply_of result ≡ answer self.old.firmware.board
+            (seen self.old.firmware) core.number (calls.Smc regs) }
+        ensures after { seen self.new.firmware ≡ after self.old.firmware.board core.number
+            (calls.Smc regs) (reply_of result) (seen self.old.firmware) }
+        ensures board { self.new.firmware.board ≡ self.old.firmware.board }
+        ensures written { IsWrittenFrom self.old self.new }
+        ensures table { self.new.table ≡ self.old.table }
+        ensures refused { OnErr result (self.new ≡ self.old) }
+    {
+        let reaction = self.smc_in_slot(words, core, regs)?;
+        Ok(self.firmware.outcome(reaction))
+    }
+
+    /// `Firmware::smc_in_slot`, and what it changed is written.
+    pub fn smc_in_slot(
+        &mut self,
+        words: &StatusWords,
+        core: Core,
+        regs: Regs,
+    ) -> Result<Reaction, FwFault>
+        requires { table words.now ≡ self.old.table }
+        ensures answer { reply_in self.new.firmware.board (seen self.new.firmware) result
+            ≡ answer self.old.firmware.board (seen self.old.firmware) core.number (calls.Smc regs) }
+        ensures slot { IfOk result
+            (IsInItsSlot self.new.firmware.board (seen self.new.firmware)) }
+        ensures after { seen self.new.firmware ≡ after self.old.firmware.board core.number
+            (calls.Smc regs) (reply_in self.new.firmware.board (seen self.new.firmware) result)
+            (seen self.old.firmware) }
+        ensures board { self.new.firmware.board ≡ self.old.firmware.board }
+        ensures written { IsWrittenFrom self.old self.new }
+        ensures table { self.new.table ≡ self.old.table }
+        ensures refused { OnErr result (self.new ≡ self.old) }
+    {
+        law_values();
+        law_few_statuses();
+        law_caller();
+        let PolledFirmware {
+            firmware,
+            writer,
+            cores,
+        } = self;
+        let reaction = firmware.smc_in_slot::<()>(core, regs)?;
+        let asked = asked_in(&reaction);
+        write_one(words, writer, firmware, asked, *cores);
+        Ok(reaction)
+    }
+
+    /// `Firmware::may_call`.
+    #[inline(always)]
+    pub fn may_call(&self, core: Core) -> bool
+        ensures { result ≡ may_call self.now.firmware core.number }
+    {
+        self.firmware.may_call(core)
+    }
+
+    /// `Firmware::code_at_once`: nothing changes, so nothing is written.
+    #[inline(always)]
+    pub fn code_at_once(&self, core: Core, regs: Regs) -> Option<Code>
+        ensures code { result ≡ code_told self.now.firmware core.number regs }
+        ensures returned { IfSome result (IsReturned self.now.firmware core.number regs) }
+        ensures written { IsWrittenFrom self.now self.now }
+    {
+        self.firmware.code_at_once(core, regs)
+    }
+
+    /// `Firmware::enter`, and what it changed is written.
+    pub fn enter(
+        &mut self,
+        words: &StatusWords,
+        core: Core,
+        start: Start,
+    ) -> Result<Outcome, FwFault>
+        requires { table words.now ≡ self.old.table }
+        ensures answer { reply_of result ≡ answer self.old.firmware.board
+            (seen self.old.firmware) core.number (calls.Enter start) }
+        ensures after { seen self.new.firmware ≡ after self.old.firmware.board core.number
+            (calls.Enter start) (reply_of result) (seen self.old.firmware) }
+        ensures board { self.new.firmware.board ≡ self.old.firmware.board }
+        ensures written { IsWrittenFrom self.old self.new }
+        ensures table { self.new.table ≡ self.old.table }
+        ensures refused { OnErr result (self.new ≡ self.old) }
+    {
+        let reaction = self.enter_in_slot(words, core, start)?;
+        Ok(self.firmware.outcome(reaction))
+    }
+
+    /// `Firmware::enter_in_slot`, and what it changed is written.
+    pub fn enter_in_slot(
+        &mut self,
+        words: &StatusWords,
+        core: Core,
+        start: Start,
+    ) -> Result<Reaction, FwFault>
+        requires { table words.now ≡ self.old.table }
+        ensures answer { reply_in self.new.firmware.board (seen self.new.firmware) result
+            ≡ answer self.old.firmware.board (seen self.old.firmware) core.number
+            (calls.Enter start) }
+        ensures slot { IfOk result
+            (IsInItsSlot self.new.firmware.board (seen self.new.firmware)) }
+        ensures after { seen self.new.firmware ≡ after self.old.firmware.board core.number
+            (calls.Enter start) (reply_in self.new.firmware.board (seen self.new.firmware) result)
+            (seen self.old.firmware) }
+        ensures board { self.new.firmware.board ≡ self.old.firmware.board }
+        ensures written { IsWrittenFrom self.old self.new }
+        ensures table { self.new.table ≡ self.old.table }
+        ensures refused { OnErr result (self.new ≡ self.old) }
+    {
+        law_values();
+        law_few_statuses();
+        let PolledFirmware {
+            firmware,
+            writer,
+            cores,
+        } = self;
+        let before = life_of(firmware);
+        let reaction = firmware.enter_in_slot::<()>(core, start)?;
+        write_changed(words, writer, firmware, before, Some(core), *cores);
+        Ok(reaction)
+    }
+
+    /// `Firmware::take`, and what it changed is written.
+    pub fn take(&mut self, words: &StatusWords, ack: Ack) -> Taken
+        requires { table words.now ≡ self.old.table }
+        ensures answer { (c : ℕ) → replies.Taken result ≡ answer self.old.firmware.board
+            (seen self.old.firmware) c (calls.Take ack) }
+        ensures after { (c : ℕ) → seen self.new.firmware ≡ after self.old.firmware.board c
+            (calls.Take ack) (replies.Taken result) (seen self.old.firmware) }
+        ensures board { self.new.firmware.board ≡ self.old.firmware.board }
+        ensures written { IsWrittenFrom self.old self.new }
+        ensures table { self.new.table ≡ self.old.table }
+    {
+        law_values();
+        law_few_statuses();
+        let PolledFirmware {
+            firmware,
+            writer,
+            cores,
+        } = self;
+        let core = ack.core;
+        let taken = firmware.take(ack);
+        write_one(words, writer, firmware, Some(core), *cores);
+        taken
+    }
+
+    /// A reader for one who polls. It has seen the last status of each core.
+    pub fn reader(&mut self, words: &StatusWords) -> Reader
+        requires { table words.now ≡ self.old.table }
+        ensures table { table_of_reader result ≡ table words.now }
+        ensures seen { seen_by result ≡ map newest self.old.written }
+        ensures same { self.new ≡ self.old }
+    {
+        words.reader(&mut self.writer)
+    }
+
+    /// A reader comes under the lock: what it had seen was written, and it has now seen the last
+    /// status of each core.
+    pub fn meet(&mut self, words: &StatusWords, reader: &mut Reader)
+        requires words { table words.now ≡ self.old.table }
+        requires reader { table_of_reader reader.old ≡ table words.now }
+        ensures table { table_of_reader reader.new ≡ table_of_reader reader.old }
+        ensures saw { (core : ℕ)
+            → Within (row self.old.written core) (row (seen_by reader.old) core) }
+        ensures seen { seen_by reader.new
+            ≡ gains (seen_by reader.old) (map newest self.old.written) }
+        ensures stand { (core : ℕ)
+            → Within (row self.old.written core) (row (seen_by reader.new) core) }
+        ensures last { (core : ℕ) → core < cores self.old.firmware.board
+            → IsLast (row self.old.written core) (row (seen_by reader.new) core) }
+        ensures same { self.new ≡ self.old }
+    {
+        words.meet(&mut self.writer, reader);
+    }
+
+    /// The firmware, to look at.
+    pub fn firmware(&self) -> &Firmware
+        ensures { result.now ≡ self.now.firmware }
+    {
+        &self.firmware
+    }
+
+    /// A call that changes nothing has nothing to write: of each core the last that was written is
+    /// its status.
+    pub fn law_still(&self)
+        ensures { IsWrittenFrom self.now self.now }
+    {
+        let _cores = self.cores;
+    }
+
+    /// There is a legal history that left the firmware's values, and what was written of each core
+    /// are its statuses in that history.
+    pub fn law_past(&self)
+        ensures { IsPast self.now.firmware.board (seen self.now.firmware) self.now.written }
+    {
+        let _cores = self.cores;
+    }
+}
+
+/// Lets a firmware go. It has a frame of its own, so that none is held while one is made.
+#[inline(never)]
+fn let_go(firmware: Firmware) {
+    drop(firmware);
+}

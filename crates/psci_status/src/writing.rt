@@ -1,0 +1,133 @@
+//! What a call has changed of the statuses is written, once the call is done.
+
+ghost use Rattle.std.specs.Prelude.{◌≡◌, ◌≢◌, ℕ, ◌+◌, ◌<◌, ◌^◌, false, length};
+ghost use Rattle.psci_board.specs.Board.{cores};
+ghost use Rattle.psci_fw.specs.Seen.{seen};
+ghost use Rattle.psci_fw_spec.specs.Lives.{first_status};
+ghost use Rattle.psci_fw_spec.specs.Statuses.{added};
+ghost use Rattle.psci_status.specs.Lists.{row};
+ghost use Rattle.psci_status.specs.Seats.{table, table_of_writer, written};
+ghost use Rattle.psci_status.specs.Naming.{asked_by, is_named, slot_beside};
+ghost use Rattle.psci_status.specs.Writing.{one_more, written_then};
+
+use crate::seats::{StatusWords, Writer};
+use psci_board::Core;
+use psci_fw::{Act, Firmware, Outcome, Reaction, Status};
+
+/// The target of a CPU_ON that was accepted.
+pub fn asked_on(outcome: &Outcome) -> Option<Core>
+    ensures { result ≡ asked_by outcome.now }
+{
+    match (outcome.act, &outcome.message) {
+        (Act::Return(_), Some(message)) => Some(message.core),
+        _ => None,
+    }
+}
+
+/// The same by a reaction: a message beside a return code stands in the slot of its core.
+pub(crate) fn asked_in(reaction: &Reaction) -> Option<Core>
+    ensures { result ≡ slot_beside reaction.now.act reaction.now.slot }
+{
+    match (reaction.act, reaction.slot) {
+        (Act::Return(_), Some(number)) => Some(Core { number }),
+        _ => None,
+    }
+}
+
+/// The firmware's life, 0 before any core has entered.
+pub(crate) fn life_of(firmware: &Firmware) -> u32
+    ensures { result ≡ (seen firmware.now).life }
+{
+    firmware.life().unwrap_or(0)
+}
+
+/// Writes the statuses after a call: of all cores where it began a life, else of the one core whose
+/// status it may have changed.
+#[inline(always)]
+pub fn write_changed(
+    words: &StatusWords,
+    writer: &mut Writer,
+    firmware: &Firmware,
+    before: u32,
+    changed: Option<Core>,
+    count: u16,
+)
+    requires words { table_of_writer writer.old ≡ table words.now }
+    requires cores { (count ≡ cores firmware.now.board) × ((table words.now).words ≡ count) }
+    requires few { (core : ℕ) → core < count → length (row (written writer.old) core) < 2 ^ 60 }
+    requires others { (core : ℕ) → core < count → is_named changed core ≡ false
+        → (seen firmware.now).life ≡ before → (seen firmware.now).life ≢ 0
+        → added ((seen firmware.now).status core) (row (written writer.old) core)
+        ≡ row (written writer.old) core }
+    ensures table { table_of_writer writer.new ≡ table_of_writer writer.old }
+    ensures log { (core : ℕ) → core < count → row (written writer.new) core
+        ≡ written_then before (seen firmware.now) core (row (written writer.old) core) }
+{
+    let life = life_of(firmware);
+    if life != 0 && life != before {
+        write_all(words, writer, firmware, count);
+        return;
+    }
+    write_one(words, writer, firmware, changed, count);
+}
+
+/// Writes the status after a call that left the life: of the one core whose status it may have
+/// changed. Compiled into its callers, so that a call that names no core does nothing here.
+#[inline(always)]
+pub fn write_one(
+    words: &StatusWords,
+    writer: &mut Writer,
+    firmware: &Firmware,
+    changed: Option<Core>,
+    count: u16,
+)
+    requires words { table_of_writer writer.old ≡ table words.now }
+    requires cores { (count ≡ cores firmware.now.board) × ((table words.now).words ≡ count) }
+    requires few { (core : ℕ) → core < count → length (row (written writer.old) core) < 2 ^ 60 }
+    requires others { (core : ℕ) → core < count → is_named changed core ≡ false
+        → (seen firmware.now).life ≢ 0
+        → added ((seen firmware.now).status core) (row (written writer.old) core)
+        ≡ row (written writer.old) core }
+    ensures table { table_of_writer writer.new ≡ table_of_writer writer.old }
+    ensures log { (core : ℕ) → core < count → row (written writer.new) core
+        ≡ written_then (seen firmware.now).life (seen firmware.now) core
+        (row (written writer.old) core) }
+{
+    let Some(core) = changed else {
+        return;
+    };
+    if life_of(firmware) != 0 && core.number < count {
+        words.update(writer, core, firmware.core_status(core));
+    }
+}
+
+/// Writes the status of each core, and before it that of the start of the life that has begun. It
+/// has a frame of its own, since few calls begin a life.
+#[inline(never)]
+fn write_all(words: &StatusWords, writer: &mut Writer, firmware: &Firmware, count: u16)
+    requires words { table_of_writer writer.old ≡ table words.now }
+    requires cores { (count ≡ cores firmware.now.board) × ((table words.now).words ≡ count) }
+    requires begun { (seen firmware.now).life ≢ 0 }
+    requires few { (core : ℕ) → core < count → length (row (written writer.old) core) < 2 ^ 60 }
+    ensures table { table_of_writer writer.new ≡ table_of_writer writer.old }
+    ensures log { (core : ℕ) → core < count → row (written writer.new) core
+        ≡ added ((seen firmware.now).status core)
+        (added (first_status core) (row (written writer.old) core)) }
+{
+    for number in 0..count {
+        let core = Core { number };
+        words.update(writer, core, first_status(core));
+        words.update(writer, core, firmware.core_status(core));
+    }
+}
+
+/// The status of a core at the start of a life.
+fn first_status(core: Core) -> Status
+    ensures { result ≡ first_status core.number }
+{
+    if core.number == 0 {
+        Status::Pending
+    } else {
+        Status::Off
+    }
+}
