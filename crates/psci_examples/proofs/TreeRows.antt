@@ -51,6 +51,7 @@ abbrev kept : ℕ → ℕ → ℕ → Kept
 kept known active off = record {
   lows = 0 ∷ 0 ∷ 0 ∷ 0 ∷ [];
   known = known;
+  cores = 3;
   active = active;
   off = off;
 }

@@ -27,6 +27,7 @@ recount-append xs ys =
     let known = sum_by-append (λ (c : CoreState). c.known) xs ys in
     let active = sum_by-append (λ (c : CoreState). cond (is_active c.activity) 1 0) xs ys in
     let off = sum_by-append (λ (c : CoreState). cond (is_away c.activity) 1 0) xs ys in
+    let cores = length-append xs ys in
     let low0 = low-append 0 xs ys in
     let low1 = low-append 1 xs ys in
     let low2 = low-append 2 xs ys in
@@ -176,12 +177,14 @@ off_in_next ns i d h is l =
 -- what is kept of so few cores is so small
 pub record Small (k : Kept) : Type 0 where
   pub known : k.known < 2 ^ 64
+  pub cores : k.cores < 2 ^ 16
   pub active : k.active < 2 ^ 16
   pub off : k.off < 2 ^ 16
 
 pub keeps_small : (k : Kept) (cs : List CoreState) → Keeps k cs → length cs < 2 ^ 16 → Small k
 keeps_small k cs h few = record {
   known = omega (arith, h.small);
+  cores = omega (arith, ap (λ (j : Kept). j.cores) h.counted);
   active = omega (
     arith,
     ap (λ (j : Kept). j.active) h.counted,

@@ -9,7 +9,7 @@ use Rattle.psci_tree.specs.Recount.{never_started}
 use Rattle.psci_tree.specs.declared.domain.Domain.{Domain, out-Domain}
 use Rattle.psci_tree.specs.Domains.{domains_down}
 use Rattle.psci_tree.specs.Standing.{kept_on_path}
-use Rattle.psci_tree.specs.Kept.{recount, kept_activated, kept_together}
+use Rattle.psci_tree.specs.Kept.{recount, kept_exchanged, kept_together, lows_told}
 use Rattle.psci_tree.specs.Changes.{core_changed}
 use Rattle.psci_tree.specs.Way.{cleared_from}
 
@@ -28,52 +28,84 @@ gone = record { activity = Away; known = 1 }
 
 -- no core asks for less than power-down, where there is none
 keeps_none : recount []
-    ≡ record { lows = 3 ∷ 3 ∷ 3 ∷ 3 ∷ []; known = 0; active = 0; off = 0 }
+    ≡ record { lows = 3 ∷ 3 ∷ 3 ∷ 3 ∷ []; known = 0; cores = 0; active = 0; off = 0 }
 keeps_none = refl
 
 -- the least ask of each level by itself
 keeps_least : recount (down ∷ retained ∷ [])
-    ≡ record { lows = 3 ∷ 2 ∷ 0 ∷ 0 ∷ []; known = 5; active = 0; off = 0 }
+    ≡ record { lows = 3 ∷ 2 ∷ 0 ∷ 0 ∷ []; known = 5; cores = 2; active = 0; off = 0 }
 keeps_least = refl
 
 -- whichever of the two comes first
 keeps_either : recount (retained ∷ down ∷ [])
-    ≡ record { lows = 3 ∷ 2 ∷ 0 ∷ 0 ∷ []; known = 5; active = 0; off = 0 }
+    ≡ record { lows = 3 ∷ 2 ∷ 0 ∷ 0 ∷ []; known = 5; cores = 2; active = 0; off = 0 }
 keeps_either = refl
 
 -- a minimum rises again, once the core that asked for less asks for more
 keeps_risen : recount (down ∷ record { activity = Suspended (3 ∷ 3 ∷ 0 ∷ 0 ∷ []); known = 4 } ∷ [])
-    ≡ record { lows = 3 ∷ 3 ∷ 0 ∷ 0 ∷ []; known = 5; active = 0; off = 0 }
+    ≡ record { lows = 3 ∷ 3 ∷ 0 ∷ 0 ∷ []; known = 5; cores = 2; active = 0; off = 0 }
 keeps_risen = refl
 
 -- a pending core asks for nothing, and is counted
 keeps_pending : recount (pending ∷ retained ∷ [])
-    ≡ record { lows = 0 ∷ 0 ∷ 0 ∷ 0 ∷ []; known = 5; active = 1; off = 0 }
+    ≡ record { lows = 0 ∷ 0 ∷ 0 ∷ 0 ∷ []; known = 5; cores = 2; active = 1; off = 0 }
 keeps_pending = refl
 
 -- an off core asks for power-down, and is counted among those off
 keeps_off : recount (gone ∷ down ∷ [])
-    ≡ record { lows = 3 ∷ 3 ∷ 0 ∷ 0 ∷ []; known = 2; active = 0; off = 1 }
+    ≡ record { lows = 3 ∷ 3 ∷ 0 ∷ 0 ∷ []; known = 2; cores = 2; active = 0; off = 1 }
 keeps_off = refl
 
 -- two clusters: the least of both, and the sums
 keeps_beside : kept_together (recount (pending ∷ retained ∷ []))
     (recount (gone ∷ never_started ∷ []))
-    ≡ record { lows = 0 ∷ 0 ∷ 0 ∷ 0 ∷ []; known = 6; active = 1; off = 2 }
+    ≡ record { lows = 0 ∷ 0 ∷ 0 ∷ 0 ∷ []; known = 6; cores = 4; active = 1; off = 2 }
 keeps_beside = refl
 
--- an off core is asked on: it asks for nothing, and is one more that is active and one less that is
--- off
-activated_off : kept_activated (recount (gone ∷ retained ∷ [])) (recount (gone ∷ []))
+-- an off core is asked on: one more is active and one less is off, and what they ask is left
+exchanged_off : kept_exchanged (recount (gone ∷ retained ∷ [])) (recount (gone ∷ []))
     (recount (pending ∷ []))
-    ≡ record { lows = 0 ∷ 0 ∷ 0 ∷ 0 ∷ []; known = 5; active = 1; off = 0 }
-activated_off = refl
+    ≡ record { lows = 3 ∷ 2 ∷ 0 ∷ 0 ∷ []; known = 5; cores = 2; active = 1; off = 0 }
+exchanged_off = refl
 
 -- a suspended core wakes by its next start: the one before it is no longer in the sum
-activated_woken : kept_activated (recount (gone ∷ retained ∷ [])) (recount (retained ∷ []))
+exchanged_woken : kept_exchanged (recount (gone ∷ retained ∷ [])) (recount (retained ∷ []))
     (recount (record { activity = Active; known = 5 } ∷ []))
-    ≡ record { lows = 0 ∷ 0 ∷ 0 ∷ 0 ∷ []; known = 6; active = 1; off = 1 }
-activated_woken = refl
+    ≡ record { lows = 3 ∷ 2 ∷ 0 ∷ 0 ∷ []; known = 6; cores = 2; active = 1; off = 1 }
+exchanged_woken = refl
+
+-- a core goes off: one less is active, one more is off
+exchanged_gone : kept_exchanged (recount (pending ∷ retained ∷ [])) (recount (pending ∷ []))
+    (recount (gone ∷ []))
+    ≡ record { lows = 0 ∷ 0 ∷ 0 ∷ 0 ∷ []; known = 5; cores = 2; active = 0; off = 1 }
+exchanged_gone = refl
+
+-- while one is pending they ask for nothing, whatever the one asks that has changed
+told_nothing : lows_told (recount (pending ∷ retained ∷ gone ∷ [])) (recount (retained ∷ []))
+    ≡ Some (0 ∷ 0 ∷ 0 ∷ 0 ∷ [])
+told_nothing = refl
+
+-- the others are off, and so is the one
+told_all_off : lows_told (recount (gone ∷ gone ∷ gone ∷ [])) (recount (gone ∷ []))
+    ≡ Some (3 ∷ 3 ∷ 3 ∷ 3 ∷ [])
+told_all_off = refl
+
+-- the others are off, and the one is suspended: they ask what it asks
+told_own : lows_told (recount (gone ∷ retained ∷ gone ∷ [])) (recount (retained ∷ []))
+    ≡ Some (3 ∷ 2 ∷ 0 ∷ 0 ∷ [])
+told_own = refl
+
+-- another one is suspended: the numbers do not tell, whether the one is off or suspended
+told_no_off : lows_told (recount (gone ∷ retained ∷ gone ∷ [])) (recount (gone ∷ [])) ≡ None
+told_no_off = refl
+
+told_no_suspended : lows_told (recount (down ∷ retained ∷ gone ∷ [])) (recount (down ∷ []))
+    ≡ None
+told_no_suspended = refl
+
+-- a core alone is told by itself
+told_alone : lows_told (recount (down ∷ [])) (recount (down ∷ [])) ≡ Some (3 ∷ 3 ∷ 0 ∷ 0 ∷ [])
+told_alone = refl
 
 -- a start takes its own number, however many there were before, and not one more
 change_starts : core_changed (record { activity = Active; started = Some 9 }) retained

@@ -1,10 +1,11 @@
-pub mod Activated
 pub mod Asks
 pub mod Below
 pub mod Bounds
 pub mod Built
+pub mod Changed
 pub mod Cleared
 pub mod DepthRows
+pub mod Exchanged
 pub mod GrantRows
 pub mod Granted
 pub mod Held

@@ -3,6 +3,7 @@ use Rattle.std.proofs.Common.{◌≡◌, ℕ, zero, suc, ◌+◌, ◌<◌, ◌�
 use Rattle.std.proofs.Common.{replicate, cond, min, arith, refl, ap, sym, ◌∙◌, length-append, subst}
 use Rattle.std.proofs.Math.ListN.{set}
 use Rattle.std.specs.List.{flat_map, sum_by, count_by}
+use Rattle.std.proofs.lemmas.List.{length-replicate}
 use Rattle.std.proofs.lemmas.List.Folds.{sum_by-replicate}
 use Rattle.psci_tree.specs.Recount.{never_started, is_active, is_away}
 use Rattle.psci_tree.specs.Domains.{leaves, cores_in, branches, child_counts}
@@ -125,6 +126,7 @@ count_never n =
 pub kept_never : (n : ℕ) → record {
   lows = 3 ∷ 3 ∷ 3 ∷ 3 ∷ [];
   known = 0;
+  cores = n;
   active = 0;
   off = n;
 } ≡ recount (replicate n never_started)
@@ -139,6 +141,7 @@ kept_never n =
     sum_by-replicate (λ (c : CoreState). cond (is_active c.activity) 1 0) n never_started
     ∙ omega arith in
     let off : count_by (λ c. is_away c.activity) (replicate n never_started) ≡ n = count_never n in
+    let cores = length-replicate n never_started in
     cc
 
 -- what is kept of as many cores as are off below domains that were turned off

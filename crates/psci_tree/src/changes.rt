@@ -2,14 +2,13 @@
 
 ghost use Rattle.std.specs.Prelude.{◌≡◌, ◌<◌, ◌≤◌, unwrap_or};
 ghost use Rattle.psci_board.specs.Board.{size_below, HasNodeIn};
-ghost use Rattle.psci_state.specs.declared.cores.Activity.TheVariants.{Active};
 ghost use Rattle.psci_tree.specs.Recount.{IsActivity, IsDomainTree, granted_at, known_at};
 ghost use Rattle.psci_tree.specs.Changes.{MayGrant, suspended, turned_off, made_pending, started};
 ghost use Rattle.psci_tree.specs.Changes.{with_grant, with_confirmed, with_core_state};
 ghost use Rattle.psci_tree.specs.Changes.{with_path_cleared, all_off, start_of_life};
 
 use crate::depths::Depths;
-use crate::descent::{activate_core, change_core, turn_off};
+use crate::descent::{change_core, turn_off};
 use crate::grants::{clear_up, depths_at, fill_rows, write};
 use crate::tree::{BOOT_CORE, Tree};
 use psci_board::{Core, Node};
@@ -57,7 +56,7 @@ impl Tree {
         ensures levels { self.new.levels ≡ self.old.levels }
         ensures tree { IsDomainTree self.new }
     {
-        self.set_core(core, Activity::Suspended(ask));
+        self.set_core(core, Activity::Suspended(ask), None);
     }
 
     /// A core is off, or going off.
@@ -67,7 +66,7 @@ impl Tree {
         ensures levels { self.new.levels ≡ self.old.levels }
         ensures tree { IsDomainTree self.new }
     {
-        self.set_core(core, Activity::Away);
+        self.set_core(core, Activity::Away, None);
     }
 
     /// A core is pending: nothing is granted or confirmed any more on its path.
@@ -77,7 +76,7 @@ impl Tree {
         ensures levels { self.new.levels ≡ self.old.levels }
         ensures tree { IsDomainTree self.new }
     {
-        self.activate(core, None);
+        self.set_core(core, Activity::Active, None);
         self.clear_path(core);
     }
 
@@ -89,49 +88,23 @@ impl Tree {
         ensures levels { self.new.levels ≡ self.old.levels }
         ensures tree { IsDomainTree self.new }
     {
-        self.activate(core, Some(number));
+        self.set_core(core, Activity::Active, Some(number));
         self.clear_path(core);
     }
 
-    /// Changes what a core does. Its known start stays.
-    fn set_core(&mut self, core: Core, activity: Activity)
+    /// Changes what a core does, after the start of this number, if there was one.
+    fn set_core(&mut self, core: Core, activity: Activity, started: Option<u32>)
         requires core { core.number < size_below self.old.levels }
         requires activity { IsActivity activity }
         ensures value { self.new ≡ with_core_state self.old core.number activity
-            (known_at self.old core.number) }
-        ensures levels { self.new.levels ≡ self.old.levels }
-        ensures tree { IsDomainTree self.new }
-    {
-        let number = core.number as usize;
-        let state = self.cores[number].changed(&Change {
-            activity,
-            started: None,
-        });
-        change_core(
-            &mut self.root,
-            &self.board,
-            core,
-            &self.ways[number],
-            &state,
-        );
-        self.cores[number] = state;
-    }
-
-    /// A core is running or pending, after the start of this number, if there was one.
-    fn activate(&mut self, core: Core, started: Option<u32>)
-        requires { core.number < size_below self.old.levels }
-        ensures value { self.new ≡ with_core_state self.old core.number Active
             (unwrap_or started (known_at self.old core.number)) }
         ensures levels { self.new.levels ≡ self.old.levels }
         ensures tree { IsDomainTree self.new }
     {
         let number = core.number as usize;
         let before = self.cores[number];
-        let state = before.changed(&Change {
-            activity: Activity::Active,
-            started,
-        });
-        activate_core(
+        let state = before.changed(&Change { activity, started });
+        change_core(
             &mut self.root,
             &self.board,
             core,

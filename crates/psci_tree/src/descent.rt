@@ -6,7 +6,6 @@ ghost use Rattle.psci_board.specs.Board.{HasNode, IsTree, height, place_above, s
 ghost use Rattle.psci_tree.specs.Standing.{kept_on_path};
 ghost use Rattle.psci_tree.specs.declared.domain.Domain.{Domain};
 ghost use Rattle.psci_state.specs.declared.cores.CoreState.{CoreState};
-ghost use Rattle.psci_state.specs.declared.cores.Activity.TheVariants.{Active};
 ghost use Rattle.psci_tree.specs.Recount.{never_started};
 ghost use Rattle.psci_tree.specs.Domains.{HasShape, IsWhole, child_counts, leaves};
 ghost use Rattle.psci_tree.specs.Domains.{domains_down};
@@ -64,18 +63,9 @@ pub fn standings_on(root: &Domain, board: &Board, core: Core, way: &Way) -> Stan
     Standings { lows, known }
 }
 
-/// Puts a core to which this way leads into another state, and what each domain on its path keeps.
-pub fn change_core(root: &mut Domain, board: &Board, core: Core, way: &Way, state: &CoreState)
-    requires { LeadsDown board.now.levels root.old core.number way.now }
-    ensures cores { leaves root.new ≡ slice_set (leaves root.old) core.number state.now }
-    ensures shape { (k : ℕ) → child_counts k root.new ≡ child_counts k root.old }
-    ensures kept { IsKept root.new }
-{
-    root.change(board.height(), &way.numbers, state, &Kept::of_core(state));
-}
-
-/// The same of a core that was in this state before, and is running or pending from now on.
-pub fn activate_core(
+/// Puts a core to which this way leads, and which was in this state before, into another one, and
+/// what each domain on its path keeps.
+pub fn change_core(
     root: &mut Domain,
     board: &Board,
     core: Core,
@@ -86,19 +76,13 @@ pub fn activate_core(
     requires lead { LeadsDown board.now.levels root.old core.number way.now }
     requires before { (c : CoreState) → before.now
         ≡ slice_index_or (leaves root.old) core.number c }
-    requires active { state.now.activity ≡ Active }
     ensures cores { leaves root.new ≡ slice_set (leaves root.old) core.number state.now }
     ensures shape { (k : ℕ) → child_counts k root.new ≡ child_counts k root.old }
     ensures kept { IsKept root.new }
 {
     let was = Kept::of_core(before);
-    root.activate(
-        board.height(),
-        &way.numbers,
-        state,
-        &was,
-        &Kept::of_core(state),
-    );
+    let kept = Kept::of_core(state);
+    root.change(board.height(), &way.numbers, state, &was, &kept);
 }
 
 /// Turns off every core, and forgets its starts.

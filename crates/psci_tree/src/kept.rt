@@ -1,8 +1,8 @@
 //! What a domain keeps of the cores below it.
 
-ghost use Rattle.std.specs.Prelude.{◌≡◌, ℕ, ◌+◌, ◌<◌, ◌^◌, ◌∷◌, [], length, slice_index, replicate};
+ghost use Rattle.std.specs.Prelude.{◌≡◌, ℕ, ◌+◌, ◌<◌, ◌^◌, ◌∷◌, [], replicate};
 ghost use Rattle.psci_tree.specs.Recount.{never_started};
-ghost use Rattle.psci_tree.specs.Kept.{IsPart, Keeps, kept_activated, kept_together};
+ghost use Rattle.psci_tree.specs.Kept.{IsPart, Keeps, kept_exchanged, kept_together, lows_told};
 
 use psci_board::MOST_ON_PATH;
 use psci_state::CoreState;
@@ -14,6 +14,8 @@ pub struct Kept {
     pub lows: [u8; MOST_ON_PATH],
     /// The sum of the known starts.
     pub known: u64,
+    /// How many cores there are.
+    pub cores: u32,
     /// How many are running or pending.
     pub active: u32,
     /// How many are off or going off.
@@ -28,6 +30,7 @@ impl Kept {
         Kept {
             lows: [3; MOST_ON_PATH],
             known: 0,
+            cores: 0,
             active: 0,
             off: 0,
         }
@@ -40,6 +43,7 @@ impl Kept {
         Kept {
             lows: [core.ask(0), core.ask(1), core.ask(2), core.ask(3)],
             known: u64::from(core.known),
+            cores: 1,
             active: u32::from(core.is_active()),
             off: u32::from(core.is_away()),
         }
@@ -52,6 +56,7 @@ impl Kept {
         Kept {
             lows: [3; MOST_ON_PATH],
             known: 0,
+            cores: count,
             active: 0,
             off: count,
         }
@@ -61,6 +66,7 @@ impl Kept {
     /// than its byte has to be.
     pub fn join(&mut self, other: &Kept)
         requires known { self.old.known + other.now.known < 2 ^ 64 }
+        requires cores { self.old.cores + other.now.cores < 2 ^ 32 }
         requires active { self.old.active + other.now.active < 2 ^ 32 }
         requires off { self.old.off + other.now.off < 2 ^ 32 }
         ensures { self.new ≡ kept_together self.old other.now }
@@ -71,35 +77,53 @@ impl Kept {
         self.lows[2] = second.min(other.lows[2]);
         self.lows[3] = third.min(other.lows[3]);
         self.known += other.known;
+        self.cores += other.cores;
         self.active += other.active;
         self.off += other.off;
     }
 
-    /// Keeps this from now on. Each low is written by itself, as in `join`.
-    pub fn replace(&mut self, kept: &Kept)
-        ensures { self.new ≡ kept.now }
+    /// What is kept once one of the cores came into another state: this was kept of it before, and
+    /// that is kept after. What they ask at least is left as it was.
+    pub fn exchanged(self, before: &Kept, after: &Kept) -> Kept
+        requires was { IsPart before.now self }
+        requires known { self.known + after.now.known < 2 ^ 64 }
+        requires active { self.active + after.now.active < 2 ^ 32 }
+        requires off { self.off + after.now.off < 2 ^ 32 }
+        ensures { result ≡ kept_exchanged self before.now after.now }
     {
-        self.lows[0] = kept.lows[0];
-        self.lows[1] = kept.lows[1];
-        self.lows[2] = kept.lows[2];
-        self.lows[3] = kept.lows[3];
-        self.known = kept.known;
-        self.active = kept.active;
-        self.off = kept.off;
+        let lows = self.lows;
+        Kept {
+            lows,
+            known: self.known - before.known + after.known,
+            cores: self.cores,
+            active: self.active - before.active + after.active,
+            off: self.off - before.off + after.off,
+        }
     }
 
-    /// A core of which this was kept before is running or pending now, and this is kept of it
-    /// after: so it asks for nothing.
-    pub fn activate(&mut self, before: &Kept, after: &Kept)
-        requires was { IsPart before.now self.old }
-        requires known { self.old.known + after.now.known < 2 ^ 64 }
-        requires active { self.old.active + after.now.active < 2 ^ 32 }
-        requires off { self.old.off + after.now.off < 2 ^ 32 }
-        ensures { self.new ≡ kept_activated self.old before.now after.now }
+    /// The same numbers, where the cores ask this at least.
+    pub fn asking(self, lows: [u8; MOST_ON_PATH]) -> Kept
+        ensures { result ≡ record self { lows = lows } }
     {
-        self.lows = [0; MOST_ON_PATH];
-        self.known = self.known - before.known + after.known;
-        self.active = self.active - before.active + after.active;
-        self.off = self.off - before.off + after.off;
+        Kept {
+            lows,
+            known: self.known,
+            cores: self.cores,
+            active: self.active,
+            off: self.off,
+        }
+    }
+
+    /// What the cores ask at least, where their numbers tell it: nothing, while one is running or
+    /// pending; where all but one are off, what that one asks, of which this is kept.
+    pub fn lows_told(self, one: &Kept) -> Option<[u8; MOST_ON_PATH]>
+        requires off { self.off + 1 < 2 ^ 32 }
+        requires cores { self.cores + one.now.off < 2 ^ 32 }
+        ensures { result ≡ lows_told self one.now }
+    {
+        if self.active > 0 {
+            return Some([0; MOST_ON_PATH]);
+        }
+        (self.off + 1 == self.cores + one.off).then_some(one.lows)
     }
 }

@@ -1,26 +1,36 @@
-use Rattle.std.proofs.Common.{◌∙◌, ℕ, List, arith, ap, subst, sym}
+use Rattle.std.proofs.Common.{◌∙◌, ◌≡◌, ◌∷◌, [], ℕ, List, arith, ap, get_or, subst, sym}
 use Rattle.std.proofs.Math.ListN.{set}
 use Rattle.psci_tree.specs.Domains.{leaves, IsWay, index_by}
+use Rattle.psci_tree.specs.Kept.{Keeps}
+use Rattle.psci_state.specs.declared.cores.CoreState.{CoreState}
 use Rattle.psci_tree.specs.declared.domain.Domain.{Domain}
 use Rattle.psci_tree.proofs.Slices.{length_cores, size_few}
 use Rattle.psci_tree.proofs.Ways.{system_way}
 use Rattle.psci_tree.proofs.descent.change_core.Goals as goal
 
-pub change-requires-clause-way : goal.change-requires-clause-way
-change-requires-clause-way c =
+pub change-requires-clause-exchange : goal.change-requires-clause-exchange
+change-requires-clause-exchange c =
+    let root : Domain = c.args.root.now in
     let levels : List (List ℕ) = c.args.board.now.levels in
-    subst (λ l. IsWay l c.args.way.now.numbers c.args.root.now) (sym c.height.ensures.height)
-    (system_way c.args.root.now levels c.args.core.number c.args.way.now.numbers c.requires.tree
-    c.requires.whole c.requires.core c.requires.way.numbers).0
-
-pub change-requires-clause-few : goal.change-requires-clause-few
-change-requires-clause-few c =
-    let levels : List (List ℕ) = c.args.board.now.levels in
-    omega (
-      arith,
-      length_cores c.args.root.now levels c.requires.tree c.requires.whole,
-      size_few levels c.requires.tree,
-    )
+    let way : List ℕ = c.args.way.now.numbers in
+    let down = system_way root levels c.args.core.number way c.requires.lead.tree
+    c.requires.lead.whole c.requires.lead.core c.requires.lead.way.numbers in
+    let place : index_by c.height.result way root ≡ c.args.core.number =
+    ap (λ l. index_by l way root) c.height.ensures.height ∙ down.1 in
+    record {
+      long = omega (arith, c.height.ensures.height);
+      leads = subst (λ l. IsWay l way root) (sym c.height.ensures.height) down.0;
+      few = omega (
+        arith,
+        length_cores root levels c.requires.lead.tree c.requires.lead.whole,
+        size_few levels c.requires.lead.tree,
+      );
+      was = λ d.
+          subst (λ (x : CoreState). Keeps c.of_core-was.result (x ∷ []))
+          (c.requires.before d ∙ ap (λ p. get_or (leaves root) p d) (sym place))
+          c.of_core-was.ensures;
+      comes = c.of_core-kept.ensures;
+    }
 
 pub returns-clause-cores : goal.returns-clause-cores
 returns-clause-cores c =
@@ -30,5 +40,5 @@ returns-clause-cores c =
     ∙ ap (λ l. set (leaves root) (index_by l c.args.way.now.numbers root) c.args.state.now)
     c.height.ensures.height
     ∙ ap (λ p. set (leaves root) p c.args.state.now) (system_way root levels
-    c.args.core.number c.args.way.now.numbers c.requires.tree c.requires.whole c.requires.core
-    c.requires.way.numbers).1
+    c.args.core.number c.args.way.now.numbers c.requires.lead.tree c.requires.lead.whole
+    c.requires.lead.core c.requires.lead.way.numbers).1

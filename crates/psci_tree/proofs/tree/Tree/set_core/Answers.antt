@@ -1,15 +1,15 @@
-use Rattle.std.proofs.Common.{◌<◌, sym, subst, ap, ◌∙◌, None}
+use Rattle.std.proofs.Common.{◌<◌, sym, subst, ap, ◌∙◌}
 use Rattle.std.specs.Prelude.{unwrap_or}
 use Rattle.psci_board.specs.Board.{size_below}
 use Rattle.psci_tree.specs.Changes.{with_core_state}
 use Rattle.psci_tree.specs.Recount.{TreeValue, IsActivity, known_at}
 use Rattle.psci_tree.specs.Way.{IsWayOf}
 use Rattle.psci_tree.specs.contracts.tree.Tree.{the_view}
-use Rattle.psci_tree.proofs.Held.{held_core, core_value}
+use Rattle.psci_tree.proofs.Held.{held_core, core_value, state_held}
 use Rattle.psci_tree.proofs.tree.Tree.set_core.Goals as goal
 
-pub change_core-requires : goal.change_core-requires
-change_core-requires c =
+pub change_core-requires-clause-lead : goal.change_core-requires-clause-lead
+change_core-requires-clause-lead c =
     let core : c.args.core.number < size_below c.self.inside.board.levels =
     subst (λ (t : TreeValue). c.args.core.number < size_below t.levels) (sym c.self.view_is)
     c.requires.core in record {
@@ -20,6 +20,14 @@ change_core-requires c =
           (c.self.invariant.lead.each c.args.core.number c.index-2.result.now core);
       kept = c.self.invariant.tied.kept;
     }
+
+pub change_core-requires-clause-before : goal.change_core-requires-clause-before
+change_core-requires-clause-before c =
+    λ y. state_held c.self.inside.root _ _ (the_view c.self.inside) c.args.core.number _ y
+    c.self.invariant
+    (subst (λ (t : TreeValue). c.args.core.number < size_below t.levels) (sym c.self.view_is)
+    c.requires.core)
+    c.index.ensures
 
 pub invariant_of-self : goal.invariant_of-self
 invariant_of-self c =
@@ -33,12 +41,12 @@ invariant_of-self c =
 pub returns-clause-value : goal.returns-clause-value
 returns-clause-value c =
     core_value c.self.inside.root _ _ (the_view c.self.inside) c.args.core.number _ _
-    (record { activity = c.args.activity; started = None }) _ c.self.invariant
+    (record { activity = c.args.activity; started = c.args.started }) _ c.self.invariant
     (subst (λ (t : TreeValue). c.args.core.number < size_below t.levels) (sym c.self.view_is)
     c.requires.core)
     c.index.ensures c.changed-state.ensures c.change_core.ensures.cores
     ∙ ap (λ (t : TreeValue). with_core_state t c.args.core.number c.args.activity
-    (unwrap_or None (known_at t c.args.core.number))) c.self.view_is
+    (unwrap_or c.args.started (known_at t c.args.core.number))) c.self.view_is
 
 pub returns-clause-levels : goal.returns-clause-levels
 returns-clause-levels c = ap (λ (t : TreeValue). t.levels) c.self.view_is

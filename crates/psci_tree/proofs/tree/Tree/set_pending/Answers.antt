@@ -6,4 +6,4 @@ pub returns-clause-value : goal.returns-clause-value
 unfolding made_pending
 returns-clause-value c =
     c.clear_path.ensures.value
-    ∙ ap (λ t. with_path_cleared t c.args.core.number) c.activate.ensures.value
+    ∙ ap (λ t. with_path_cleared t c.args.core.number) c.set_core.ensures.value

@@ -1,4 +1,4 @@
-use Rattle.std.proofs.Common.{◌≡◌, ◌<◌, ◌≤◌, ◌-◌, ◌∙◌, ap, sym, subst, length, get_or, ℕ, List}
+use Rattle.std.proofs.Common.{◌≡◌, ◌<◌, ◌≤◌, ◌∙◌, ap, sym, subst, length, get_or, ℕ, List}
 use Rattle.psci_board.specs.Board.{size_below}
 use Rattle.psci_tree.specs.Recount.{TreeValue}
 use Rattle.psci_tree.specs.Inside.{IsTied}

@@ -5,7 +5,7 @@ use Rattle.psci_tree.specs.declared.kept.Kept.{Kept}
 use Rattle.psci_tree.specs.declared.domain.Domain.{Domain, out-Domain}
 use Rattle.psci_tree.proofs.Below.{length_parts}
 use Rattle.psci_tree.proofs.Keeping.{kept_next, Small, keeps_small}
-use Rattle.psci_tree.proofs.domain.join_all.Goals as goal
+use Rattle.psci_tree.proofs.domain.kept_of.Goals as goal
 
 pub join-requires : goal.join-requires
 join-requires c =
@@ -16,6 +16,7 @@ join-requires c =
     (omega (arith, length_parts c.args.domains.now (c.loop-domain.domain-index + 1))) in
     record {
       known = fits.known;
+      cores = omega (arith, fits.cores);
       active = omega (arith, fits.active);
       off = omega (arith, fits.off);
     }

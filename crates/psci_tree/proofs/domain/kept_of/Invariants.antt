@@ -1,7 +1,7 @@
 use Rattle.std.proofs.Common.{take}
 use Rattle.psci_tree.specs.Domains.{cores_in}
 use Rattle.psci_tree.specs.Kept.{Keeps}
-use Rattle.psci_tree.proofs.domain.join_all.Given as goal
+use Rattle.psci_tree.proofs.domain.kept_of.Given as goal
 
 abbrev pub invariant-loop-domain : goal.invariant-loop-domain
 invariant-loop-domain l = Keeps l.kept (cores_in (take l.domain-index l.domains))

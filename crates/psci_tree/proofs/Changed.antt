@@ -1,0 +1,317 @@
+-- What is kept of some cores, once one of them came into another state.
+use Rattle.std.proofs.Common.{◌≡◌, ℕ, zero, suc, ◌+◌, ◌-◌, ◌*◌, ◌^◌, ◌<◌, ◌≤◌, List, [], ◌∷◌}
+use Rattle.std.proofs.Common.{Bool, true, false, Some, None, ◌==◌, ◌⊎◌, inl, inr, refl, sym, length}
+use Rattle.std.proofs.Common.{get_or, take, cond, nat_lt, arith, ap, ◌∙◌, length-append}
+use Rattle.std.proofs.Math.ListN.{set, length-set}
+use Rattle.std.specs.Prelude.{unwrap_or}
+use Rattle.std.specs.List.{sum_by, count_by}
+use Rattle.std.proofs.lemmas.Bool.{cases_Bool, eqb-true, ltb-true}
+use Rattle.std.proofs.lemmas.List.Sums.{sum_by-set, sum_by-append, sum_by-cons, get_or-le-sum_by}
+use Rattle.std.proofs.lemmas.List.Sums.{count_by-le-length}
+use Rattle.std.proofs.lemmas.List.{get_or_default}
+use Rattle.std.proofs.lemmas.List.Concat.{get_or-flat_map}
+use Rattle.psci_tree.specs.Recount.{is_active, is_away, asks, never_started}
+use Rattle.psci_state.specs.declared.cores.Activity.{Activity}
+use Rattle.psci_state.specs.declared.cores.Activity.TheVariants.{Active, Suspended, Away}
+use Rattle.psci_state.specs.declared.cores.CoreState.{CoreState}
+use Rattle.psci_tree.specs.declared.kept.Kept.{Kept}
+use Rattle.psci_tree.specs.declared.domain.Domain.{Domain}
+use Rattle.psci_tree.specs.Domains.{leaves, cores_in, branches, index_by}
+use Rattle.psci_tree.specs.Kept.{Keeps, AreKept, IsPart, recount, kept_exchanged, low_in, lows_told}
+use Rattle.psci_tree.proofs.Below.{cores_of_domain}
+use Rattle.psci_tree.proofs.Ways.{Step, place_inside}
+use Rattle.psci_tree.proofs.Keeping.{kept_head, kept_tail, kept_own}
+
+-- What some cores ask ------------------------------------------------------------------------
+
+asks_none : (s : Activity) (level : ℕ) → is_active s ≡ true → asks s level ≡ 0
+asks_none Active level e = refl
+asks_none (Suspended depths) level e = absurd (let no : false ≡ true = e in cc)
+asks_none Away level e = absurd (let no : false ≡ true = e in cc)
+
+asks_all : (s : Activity) (level : ℕ) → is_away s ≡ true → asks s level ≡ 3
+asks_all Active level e = absurd (let no : false ≡ true = e in cc)
+asks_all (Suspended depths) level e = absurd (let no : false ≡ true = e in cc)
+asks_all Away level e = refl
+
+-- how many of the cores are running or pending, and how many off or going off
+abbrev active_in : List CoreState → ℕ
+active_in cs = count_by (λ c. is_active c.activity) cs
+
+abbrev away_in : List CoreState → ℕ
+away_in cs = count_by (λ c. is_away c.activity) cs
+
+active_cons : (c : CoreState) (cs : List CoreState)
+    → active_in (c ∷ cs) ≡ cond (is_active c.activity) 1 0 + active_in cs
+active_cons c cs = sum_by-cons (λ (d : CoreState). cond (is_active d.activity) 1 0) c cs
+
+away_cons : (c : CoreState) (cs : List CoreState)
+    → away_in (c ∷ cs) ≡ cond (is_away c.activity) 1 0 + away_in cs
+away_cons c cs = sum_by-cons (λ (d : CoreState). cond (is_away d.activity) 1 0) c cs
+
+-- where one is active, no core asks for less
+low_zero : (level : ℕ) (cs : List CoreState) → 0 < active_in cs → low_in level cs ≡ 0
+low_zero level [] h = absurd (omega arith)
+low_zero level (c ∷ cs) h = elim (cases_Bool (is_active c.activity)) [
+  | inl e ↦ omega (arith, asks_none c.activity level e)
+  | inr e ↦
+      let less : cond (is_active c.activity) 1 0 ≡ 0 = ap {B = ℕ} (λ b. cond b 1 0) e in
+      omega (arith, low_zero level cs (omega (arith, h, active_cons c cs, less)))
+]
+
+-- where all are off, they ask for power-down
+low_off : (level : ℕ) (cs : List CoreState) → away_in cs ≡ length cs → low_in level cs ≡ 3
+low_off level [] h = refl
+low_off level (c ∷ cs) h = elim (cases_Bool (is_away c.activity)) [
+  | inl e ↦
+      let one : cond (is_away c.activity) 1 0 ≡ 1 = ap {B = ℕ} (λ b. cond b 1 0) e in
+      omega (
+        arith,
+        asks_all c.activity level e,
+        low_off level cs (omega (
+          arith,
+          h,
+          away_cons c cs,
+          one,
+        )),
+      )
+  | inr e ↦
+      let none : cond (is_away c.activity) 1 0 ≡ 0 = ap {B = ℕ} (λ b. cond b 1 0) e in
+      absurd (omega (
+        arith,
+        h,
+        away_cons c cs,
+        none,
+        count_by-le-length (λ (d : CoreState). is_away d.activity) cs,
+      ))
+]
+
+-- the others are as many as those of them that are off, at least
+others : (cs : List CoreState) (j : ℕ) (s : CoreState) → j < length cs
+    → away_in (set cs j s) + 1 ≤ length (set cs j s) + away_in (s ∷ [])
+others [] j s h = absurd (omega arith)
+others (c ∷ cs) zero s h = omega (
+  arith,
+  away_cons s cs,
+  away_cons s [],
+  count_by-le-length (λ (d : CoreState). is_away d.activity) cs,
+)
+others (c ∷ cs) (suc j) s h = omega (
+  arith,
+  away_cons c (set cs j s),
+  others cs j s (omega arith),
+  count_by-le-length (λ (d : CoreState). is_away d.activity) (c ∷ []),
+  away_cons c [],
+)
+
+-- where they all are, the least ask is that of the one
+low_one : (level : ℕ) (cs : List CoreState) (j : ℕ) (s : CoreState) → j < length cs
+    → away_in (set cs j s) + 1 ≡ length (set cs j s) + away_in (s ∷ [])
+    → low_in level (set cs j s) ≡ low_in level (s ∷ [])
+low_one level [] j s h e = absurd (omega arith)
+low_one level (c ∷ cs) zero s h e =
+    omega (arith, low_off level cs (omega (arith, e, away_cons s cs, away_cons s [])))
+low_one level (c ∷ cs) (suc j) s h e = elim (cases_Bool (is_away c.activity)) [
+  | inl a ↦
+      let one : cond {A = ℕ} (is_away c.activity) 1 0 ≡ 1 = ap {B = ℕ} (λ b. cond b 1 0) a in
+      let rest : low_in level (set cs j s) ≡ low_in level (s ∷ []) =
+      low_one level cs j s (omega arith) (omega (arith, e, away_cons c (set cs j s), one)) in
+      omega (arith, asks_all c.activity level a, rest)
+  | inr a ↦
+      let none : cond (is_away c.activity) 1 0 ≡ 0 = ap {B = ℕ} (λ b. cond b 1 0) a in
+      absurd (omega (
+        arith,
+        e,
+        away_cons c (set cs j s),
+        none,
+        others cs j s (omega arith),
+      ))
+]
+
+-- a sum over the cores, by what it was
+moved : (f : CoreState → ℕ) (cs : List CoreState) (j : ℕ) (b s : CoreState) (k x y : ℕ)
+    → j < length cs → b ≡ get_or cs j b → k ≡ sum_by f cs → x ≡ sum_by f (b ∷ [])
+    → y ≡ sum_by f (s ∷ []) → k - x + y ≡ sum_by f (set cs j s)
+moved f cs j b s k x y h is e l m = omega (
+  arith,
+  sum_by-set f cs j s b h,
+  get_or-le-sum_by f cs j b h,
+  ap f is,
+)
+
+-- Their recount ------------------------------------------------------------------------------
+
+-- the numbers are those of the recount with the new state
+pub record AreMoved (k : Kept) (cs : List CoreState) : Type 0 where
+  pub known : k.known ≡ sum_by (λ c. c.known) cs
+  pub cores : k.cores ≡ length cs
+  pub active : k.active ≡ active_in cs
+  pub off : k.off ≡ away_in cs
+
+pub sums_moved : (cs : List CoreState) (j : ℕ) (b s : CoreState) (k before after : Kept)
+    → j < length cs → b ≡ get_or cs j b → Keeps k cs → Keeps before (b ∷ [])
+    → Keeps after (s ∷ []) → AreMoved (kept_exchanged k before after) (set cs j s)
+sums_moved cs j b s k before after h is own was new = record {
+  known = moved (λ (c : CoreState). c.known) cs j b s k.known before.known after.known h is
+      (ap (λ (i : Kept). i.known) own.counted) (ap (λ (i : Kept). i.known) was.counted)
+      (ap (λ (i : Kept). i.known) new.counted);
+  cores = ap (λ (i : Kept). i.cores) own.counted ∙ sym (length-set cs j s);
+  active = moved (λ (c : CoreState). cond (is_active c.activity) 1 0) cs j b s k.active
+      before.active after.active h is (ap (λ (i : Kept). i.active) own.counted)
+      (ap (λ (i : Kept). i.active) was.counted) (ap (λ (i : Kept). i.active) new.counted);
+  off = moved (λ (c : CoreState). cond (is_away c.activity) 1 0) cs j b s k.off before.off
+      after.off h is (ap (λ (i : Kept). i.off) own.counted)
+      (ap (λ (i : Kept). i.off) was.counted) (ap (λ (i : Kept). i.off) new.counted);
+}
+
+-- with what the cores ask, they are the recount
+pub recount_with : (cs : List CoreState) (k : Kept) (ls : List ℕ) → AreMoved k cs
+    → ls ≡ (recount cs).lows → record k { lows = ls } ≡ recount cs
+recount_with cs k ls m e =
+    let r : Kept = recount cs in
+    ap (λ x. record {
+      lows = x;
+      known = k.known;
+      cores = k.cores;
+      active = k.active;
+      off = k.off;
+    }) e
+    ∙ ap (λ x. record {
+      lows = r.lows;
+      known = x;
+      cores = k.cores;
+      active = k.active;
+      off = k.off;
+    }) m.known
+    ∙ ap (λ x. record {
+      lows = r.lows;
+      known = r.known;
+      cores = x;
+      active = k.active;
+      off = k.off;
+    }) m.cores
+    ∙ ap (λ x. record {
+      lows = r.lows;
+      known = r.known;
+      cores = r.cores;
+      active = x;
+      off = k.off;
+    }) m.active
+    ∙ ap (λ x. record {
+      lows = r.lows;
+      known = r.known;
+      cores = r.cores;
+      active = r.active;
+      off = x;
+    }) m.off
+
+told_cases : (a b : Bool) (xs ys ls : List ℕ)
+    → Some ls ≡ cond a (Some xs) (cond b (Some ys) None)
+    → ((a ≡ true) × (ls ≡ xs)) ⊎ ((b ≡ true) × (ls ≡ ys))
+told_cases true b xs ys ls e = inl (refl, ap (λ o. unwrap_or o []) e)
+told_cases false true xs ys ls e = inr (refl, ap (λ o. unwrap_or o []) e)
+told_cases false false xs ys ls e = absurd (let no : Some ls ≡ None = e in cc)
+
+-- what the numbers tell of what they ask is so
+pub told_right : (cs : List CoreState) (j : ℕ) (s : CoreState) (k after : Kept) (ls : List ℕ)
+    → j < length cs → AreMoved k (set cs j s) → Keeps after (s ∷ [])
+    → Some ls ≡ lows_told k after → ls ≡ (recount (set cs j s)).lows
+told_right cs j s k after ls h m new told = elim (told_cases (nat_lt 0 k.active)
+    (k.off + 1 == k.cores + after.off) _ _ ls told) [
+      | inl p ↦
+          let here : 0 < active_in (set cs j s) =
+          omega (arith, m.active, ltb-true 0 k.active p.0) in
+          let low0 = low_zero 0 (set cs j s) here in
+          let low1 = low_zero 1 (set cs j s) here in
+          let low2 = low_zero 2 (set cs j s) here in
+          let low3 = low_zero 3 (set cs j s) here in
+          let own = p.1 in
+          cc
+      | inr p ↦
+          let here : away_in (set cs j s) + 1 ≡ length (set cs j s) + away_in (s ∷ []) = omega (
+            arith,
+            eqb-true _ _ p.0,
+            m.off,
+            m.cores,
+            ap (λ (i : Kept). i.off) new.counted,
+          ) in
+          let low0 = low_one 0 cs j s h here in
+          let low1 = low_one 1 cs j s h here in
+          let low2 = low_one 2 cs j s h here in
+          let low3 = low_one 3 cs j s h here in
+          let own = p.1 in
+          let lows = ap (λ (i : Kept). i.lows) new.counted in
+          cc
+    ]
+
+-- what is kept of one of the cores is a part of what is kept of all
+pub part_of : (cs : List CoreState) (j : ℕ) (b : CoreState) (k before : Kept) → j < length cs
+    → b ≡ get_or cs j b → Keeps k cs → Keeps before (b ∷ []) → IsPart before k
+part_of cs j b k before h is own was = record {
+  known = omega (
+    arith,
+    ap (λ (i : Kept). i.known) own.counted,
+    ap (λ (i : Kept). i.known) was.counted,
+    get_or-le-sum_by (λ (c : CoreState). c.known) cs j b h,
+    ap (λ (c : CoreState). c.known) is,
+  );
+  active = omega (
+    arith,
+    ap (λ (i : Kept). i.active) own.counted,
+    ap (λ (i : Kept). i.active) was.counted,
+    get_or-le-sum_by (λ (c : CoreState). cond (is_active c.activity) 1 0) cs j b h,
+    ap {B = ℕ} (λ (c : CoreState). cond (is_active c.activity) 1 0) is,
+  );
+  off = omega (
+    arith,
+    ap (λ (i : Kept). i.off) own.counted,
+    ap (λ (i : Kept). i.off) was.counted,
+    get_or-le-sum_by (λ (c : CoreState). cond (is_away c.activity) 1 0) cs j b h,
+    ap {B = ℕ} (λ (c : CoreState). cond (is_away c.activity) 1 0) is,
+  );
+}
+
+-- the known starts below domains that keep them have 32 bits each
+pub small_in : (ns : List Domain) → AreKept ns
+    → sum_by (λ (c : CoreState). c.known) (cores_in ns) ≤ 2 ^ 32 * length (cores_in ns)
+small_in [] h = omega arith
+small_in (n ∷ ns) h =
+    let own = kept_own n (kept_head n ns h) in
+    omega (
+      arith,
+      own.small,
+      ap (λ (i : Kept). i.known) own.counted,
+      small_in ns (kept_tail n ns h),
+      length-append (leaves n) (cores_in ns),
+      sum_by-append (λ (c : CoreState). c.known) (leaves n) (cores_in ns),
+    )
+
+-- one of the cores, of which this was kept
+pub record Was (cs : List CoreState) (j : ℕ) (before : Kept) : Type 0 where
+  pub core : CoreState
+  pub inside : j < length cs
+  pub is : core ≡ get_or cs j core
+  pub kept : Keeps before (core ∷ [])
+
+pub was_of : (cs : List CoreState) (j : ℕ) (before : Kept) → j < length cs
+    → ((c : CoreState) → Keeps before (get_or cs j c ∷ [])) → Was cs j before
+was_of cs j before h each = record {
+  core = get_or cs j never_started;
+  inside = h;
+  is = get_or_default cs j never_started (get_or cs j never_started) h;
+  kept = each never_started;
+}
+
+-- the core to which a way leads, one step down
+pub core_down : (n : Domain) (l k : ℕ) (way : List ℕ) (d : CoreState) → Step n l k way →
+    get_or (leaves n) (index_by l way n) d
+    ≡ get_or (leaves (get_or (branches n) (get_or way k 0) n))
+    (index_by k way (get_or (branches n) (get_or way k 0) n)) d
+core_down n l k way d down =
+    let i : ℕ = get_or way k 0 in
+    let m : Domain = get_or (branches n) i n in
+    let r : ℕ = index_by k way m in
+    ap (λ p. get_or (leaves n) p d) down.place
+    ∙ ap (λ cs. get_or cs (length (cores_in (take i (branches n))) + r) d)
+    (cores_of_domain n (omega (arith, down.inside)))
+    ∙ get_or-flat_map leaves (branches n) i r n d down.inside (place_inside k way m down.rest)

@@ -1,0 +1,135 @@
+-- A core below a domain comes into another state: the step down to it, and what the domain keeps.
+use Rattle.std.proofs.Common.{◌≡◌, ℕ, ◌-◌, ◌<◌, List, [], ◌∷◌, length, get_or, ap, sym, ◌∙◌}
+use Rattle.std.proofs.Common.{arith, subst}
+use Rattle.std.proofs.Math.ListN.{set, length-set}
+use Rattle.psci_state.specs.declared.cores.CoreState.{CoreState}
+use Rattle.psci_tree.specs.declared.kept.Kept.{Kept}
+use Rattle.psci_tree.specs.declared.domain.Domain.{Domain, out-Domain}
+use Rattle.psci_tree.specs.Domains.{leaves, cores_in, branches, index_by, IsWay}
+use Rattle.psci_tree.specs.Kept.{AreKept, IsExchange, IsKept, IsPart, Keeps, kept_exchanged}
+use Rattle.psci_tree.specs.Kept.{recount}
+use Rattle.std.specs.List.{sum_by}
+use Rattle.psci_tree.proofs.Below.{cores_set, cores_le, cores_of_domain, length_of_domain}
+use Rattle.psci_tree.proofs.Changed.{AreMoved, Was, core_down, part_of, recount_with, small_in}
+use Rattle.psci_tree.proofs.Changed.{sums_moved, was_of}
+use Rattle.psci_tree.proofs.Keeping.{kept_at, kept_children, kept_own, kept_set}
+use Rattle.psci_tree.proofs.Ways.{Step, step, place_inside}
+
+-- a domain above the core, and what comes of it
+pub record Above (own : Domain) (l : ℕ) (way : List ℕ) (s : CoreState) (b a : Kept) : Type 0 where
+  pub some : 0 < l
+  pub exchange : IsExchange own l way s b a
+  pub kept : IsKept own
+
+pub down : (own : Domain) (l : ℕ) (way : List ℕ) (s : CoreState) (b a : Kept)
+    → Above own l way s b a → Step own l (l - 1) way
+down own l way s b a h = step own l (l - 1) way (omega (arith, h.some)) h.exchange.leads
+
+-- the child that the way leads through
+pub child_exchange : (own n : Domain) (l : ℕ) (way : List ℕ) (s : CoreState) (b a : Kept)
+    → Above own l way s b a → get_or (branches own) (get_or way (l - 1) 0) own ≡ n
+    → IsExchange n (l - 1) way s b a
+child_exchange own n l way s b a h is =
+    let d : Step own l (l - 1) way = down own l way s b a h in
+    let i : ℕ = get_or way (l - 1) 0 in
+    record {
+      long = omega (arith, h.exchange.long);
+      leads = subst (IsWay (l - 1) way) is d.rest;
+      few = omega (
+        arith,
+        ap (λ x. length (leaves x)) is,
+        cores_le (branches own) i own d.inside,
+        length_of_domain own (omega (arith, d.inside)),
+        h.exchange.few,
+      );
+      was = λ c.
+          subst (λ (x : CoreState). Keeps b (x ∷ []))
+          (core_down own l (l - 1) way c d
+          ∙ ap (λ (x : Domain). get_or (leaves x) (index_by (l - 1) way x) c) is)
+          (h.exchange.was c);
+      comes = h.exchange.comes;
+    }
+
+pub child_kept : (own n : Domain) (l : ℕ) (way : List ℕ) (s : CoreState) (b a : Kept)
+    → Above own l way s b a → get_or (branches own) (get_or way (l - 1) 0) own ≡ n → IsKept n
+child_kept own n l way s b a h is =
+    let d : Step own l (l - 1) way = down own l way s b a h in
+    subst IsKept is (kept_at (branches own) (get_or way (l - 1) 0) own d.inside
+    (kept_children own h.kept))
+
+-- the child was changed to this one
+pub record Through (own n m : Domain) (l : ℕ) (way : List ℕ) (s : CoreState) : Type 0 where
+  pub is : get_or (branches own) (get_or way (l - 1) 0) own ≡ n
+  pub cores : leaves m ≡ set (leaves n) (index_by (l - 1) way n) s
+  pub kept : IsKept m
+
+-- the cores below all children
+pub cores_new : (own n m : Domain) (l : ℕ) (way : List ℕ) (s : CoreState) (b a : Kept)
+    → Above own l way s b a → Through own n m l way s
+    → cores_in (set (branches own) (get_or way (l - 1) 0) m)
+    ≡ set (leaves own) (index_by l way own) s
+cores_new own n m l way s b a h t =
+    let d : Step own l (l - 1) way = down own l way s b a h in
+    let i : ℕ = get_or way (l - 1) 0 in
+    let items : List Domain = branches own in
+    cores_set items i (index_by (l - 1) way (get_or items i own)) (index_by l way own) own m s
+    d.inside (sym d.place) (place_inside (l - 1) way (get_or items i own) d.rest)
+    (t.cores ∙ ap (λ (x : Domain). set (leaves x) (index_by (l - 1) way x) s) (sym t.is))
+    ∙ ap (λ cs. set cs (index_by l way own) s)
+    (sym (cores_of_domain own (omega (arith, d.inside))))
+
+pub children_new : (own n m : Domain) (l : ℕ) (way : List ℕ) (s : CoreState) (b a : Kept)
+    → Above own l way s b a → Through own n m l way s
+    → AreKept (set (branches own) (get_or way (l - 1) 0) m)
+children_new own n m l way s b a h t =
+    kept_set (branches own) (get_or way (l - 1) 0) m (kept_children own h.kept) t.kept
+
+pub few_new : (own n m : Domain) (l : ℕ) (way : List ℕ) (s : CoreState) (b a : Kept)
+    → Above own l way s b a → Through own n m l way s
+    → length (cores_in (set (branches own) (get_or way (l - 1) 0) m)) ≡ length (leaves own)
+few_new own n m l way s b a h t =
+    ap length (cores_new own n m l way s b a h t)
+    ∙ length-set (leaves own) (index_by l way own) s
+
+-- What the domain keeps ----------------------------------------------------------------------
+
+pub was_below : (own : Domain) (l : ℕ) (way : List ℕ) (s : CoreState) (b a : Kept)
+    → IsExchange own l way s b a → Was (leaves own) (index_by l way own) b
+was_below own l way s b a h =
+    was_of (leaves own) (index_by l way own) b (place_inside l way own h.leads) h.was
+
+pub part_below : (own : Domain) (l : ℕ) (way : List ℕ) (s : CoreState) (b a : Kept)
+    → Above own l way s b a → IsPart b (out-Domain own).kept
+part_below own l way s b a h =
+    let was : Was (leaves own) (index_by l way own) b = was_below own l way s b a h.exchange in
+    part_of (leaves own) (index_by l way own) was.core (out-Domain own).kept b was.inside was.is
+    (kept_own own h.kept) was.kept
+
+pub moved_below : (own : Domain) (l : ℕ) (way : List ℕ) (s : CoreState) (b a : Kept)
+    → Above own l way s b a
+    → AreMoved (kept_exchanged (out-Domain own).kept b a) (set (leaves own) (index_by l way own) s)
+moved_below own l way s b a h =
+    let was : Was (leaves own) (index_by l way own) b = was_below own l way s b a h.exchange in
+    sums_moved (leaves own) (index_by l way own) was.core s (out-Domain own).kept b a was.inside
+    was.is (kept_own own h.kept) was.kept h.exchange.comes
+
+-- with what the cores below now ask
+pub keeps_new : (own n m : Domain) (l : ℕ) (way : List ℕ) (s : CoreState) (b a k : Kept)
+    (ls : List ℕ) → Above own l way s b a → Through own n m l way s
+    → k ≡ kept_exchanged (out-Domain own).kept b a
+    → ls ≡ (recount (set (leaves own) (index_by l way own) s)).lows
+    → Keeps (record k { lows = ls }) (cores_in (set (branches own) (get_or way (l - 1) 0) m))
+keeps_new own n m l way s b a k ls h t e asked =
+    let there : List CoreState = set (leaves own) (index_by l way own) s in
+    let moved : AreMoved k there =
+    subst (λ x. AreMoved x there) (sym e) (moved_below own l way s b a h) in
+    let below = cores_new own n m l way s b a h t in
+    record {
+      counted = recount_with there k ls moved asked ∙ ap recount (sym below);
+      small = omega (
+        arith,
+        small_in _ (children_new own n m l way s b a h t),
+        moved.known,
+        ap (sum_by (λ (c : CoreState). c.known)) below,
+      );
+    }
