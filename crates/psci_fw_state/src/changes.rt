@@ -79,7 +79,9 @@ impl State {
         }
     }
 
-    /// The target of a Start message is on its way to this opening.
+    /// The target of a Start message is on its way to this opening. Compiled in place, so that a
+    /// call that is told what it sends moves no message.
+    #[inline(always)]
     #[tactic(auto, unfolding(crate::specs::Seen::values_in))]
     pub fn set_pending(&mut self, message: Message, opening: Opening)
         requires inside { message.core.number < cores self.old.board }

@@ -7,7 +7,7 @@ ghost use Rattle.psci_state.specs.declared.cores.CoreState.{CoreState};
 ghost use Rattle.psci_tree.specs.Recount.{is_away, never_started};
 ghost use Rattle.psci_tree.specs.Domains.{leaves, cores_in, child_counts};
 ghost use Rattle.psci_tree.specs.Domains.{index_by};
-ghost use Rattle.psci_tree.specs.Kept.{AreKept, IsExchange, IsKept, Keeps};
+ghost use Rattle.psci_tree.specs.Kept.{AreKept, IsArrival, IsExchange, IsKept, Keeps};
 
 use crate::kept::Kept;
 use psci_state::{CoreState, NEVER_STARTED};
@@ -25,8 +25,8 @@ pub struct Domain {
 
 impl Domain {
     /// Puts the core that a way leads to, so many levels down, into another state. This was kept of
-    /// it before, and that is kept after. The children are looked at where their numbers do not tell
-    /// what they ask.
+    /// it before, and that is kept after. Children are looked at where the numbers of the cores
+    /// below do not tell what they ask.
     pub fn change(
         &mut self,
         level: u32,
@@ -48,14 +48,32 @@ impl Domain {
             return;
         }
         let kept = self.kept.exchanged(before, after);
-        let number = way[level as usize - 1] as usize;
-        if let Some(lows) = kept.lows_told(after) {
-            self.kept = kept.asking(lows);
-            return self.children[number].change(level - 1, way, state, before, after);
-        }
-        self.children[number].change(level - 1, way, state, before, after);
-        let lows = kept_of(&self.children).lows;
+        let Some(lows) = kept.lows_told(after) else {
+            return self.change_looking(level, way, state, after);
+        };
         self.kept = kept.asking(lows);
+        let number = way[level as usize - 1] as usize;
+        self.children[number].change(level - 1, way, state, before, after);
+    }
+
+    /// The same by a look at the children of each domain on the way.
+    #[inline(never)]
+    fn change_looking(&mut self, level: u32, way: &[u32], state: &CoreState, after: &Kept)
+        requires arrival { IsArrival self.old level way.now state.now after.now }
+        requires kept { IsKept self.old }
+        ensures cores { leaves self.new ≡ slice_set (leaves self.old)
+            (index_by level way.now self.old) state.now }
+        ensures shape { (k : ℕ) → child_counts k self.new ≡ child_counts k self.old }
+        ensures kept { IsKept self.new }
+    {
+        if level == 0 {
+            self.core = *state;
+            self.kept = *after;
+            return;
+        }
+        let number = way[level as usize - 1] as usize;
+        self.children[number].change_looking(level - 1, way, state, after);
+        self.kept = kept_of(&self.children);
     }
 
     /// Turns off every core below, and forgets its starts.
