@@ -1,13 +1,16 @@
 -- Rows with 0 on the path of a core, from a level up.
-use Rattle.std.proofs.Common.{◌≡◌, ◌≤◌, ◌<◌, ◌+◌, ◌++◌, ◌∙◌, ℕ, suc, List, [], length, take, drop}
-use Rattle.std.proofs.Common.{get_or, ap, sym, arith, append-nil}
+use Rattle.std.proofs.Common.{◌≡◌, ◌≤◌, ◌<◌, ◌+◌, ◌++◌, ◌∙◌, ℕ, zero, suc, List, [], ◌∷◌, length}
+use Rattle.std.proofs.Common.{take, drop, map, get_or, refl, ap, sym, arith, append-nil, inl, inr}
 use Rattle.std.proofs.Math.ListN.{set, length-set}
-use Rattle.std.proofs.lemmas.List.{take_all, drop_all}
-use Rattle.psci_board.specs.Board.{HasNodeIn, IsTree, size_below, place_above}
+use Rattle.std.proofs.lemmas.Bool.{cases_lt}
+use Rattle.std.proofs.lemmas.List.{length-map, take_all, drop_all}
+use Rattle.psci_board.specs.Board.{HasNodeIn, IsTree, group_of, size_below, place_above}
 use Rattle.psci_tree.specs.declared.way.Way.{Way}
-use Rattle.psci_tree.specs.Changes.{path_cleared}
+use Rattle.psci_tree.specs.Changes.{path_cleared, with_path_cleared}
+use Rattle.psci_tree.specs.Recount.{TreeValue, IsDomainTree, confirmed_at, granted_at}
+use Rattle.psci_tree.specs.Recount.{level_sizes}
 use Rattle.psci_tree.specs.Way.{IsWayOf, cleared_from}
-use Rattle.psci_tree.proofs.Granted.{zero_more, parent_is, place_lt}
+use Rattle.psci_tree.proofs.Granted.{zero_more, parent_is, place_lt, length_level_sizes}
 use Rattle.psci_tree.proofs.Ways.{above_next}
 
 -- the node of a level on the way to a core
@@ -50,3 +53,64 @@ cleared_top levels rows core l p top long at =
     ∙ ap (λ ys. take (suc l) xs ++ path_cleared (drop (suc l) levels)
     (place_above (drop l levels) 1 q) ys) (sym (drop_all (suc l) xs past))
     ∙ zero_more levels rows l q (omega (arith, top, long))
+
+-- Nothing to clear ---------------------------------------------------------------------------
+
+none_set : (g : List ℕ) (p : ℕ) → get_or g p 0 ≡ 0 → set g p 0 ≡ g
+none_set [] p e = refl
+none_set (x ∷ g) zero e = ap (λ y. y ∷ g) (sym e)
+none_set (x ∷ g) (suc p) e = ap (λ ys. x ∷ ys) (none_set g p e)
+
+above_none : (l p : ℕ) → place_above [] l p ≡ p
+above_none zero p = refl
+above_none (suc l) p = refl
+
+none_past : (rows : List (List ℕ)) (l p : ℕ) → length rows ≤ l
+    → get_or (get_or rows l []) p 0 ≡ 0
+none_past [] l p h = refl
+none_past (g ∷ gs) zero p h = absurd (omega arith)
+none_past (g ∷ gs) (suc l) p h = none_past gs l p (omega arith)
+
+rows_long : (levels rows : List (List ℕ)) → map length rows ≡ level_sizes levels
+    → length rows ≡ suc (length levels)
+rows_long levels rows v =
+    sym (length-map rows length) ∙ ap length v ∙ length_level_sizes levels
+
+none_cleared : (levels rows : List (List ℕ)) (p : ℕ)
+    → ((l : ℕ) → get_or (get_or rows l []) (place_above levels l p) 0 ≡ 0)
+    → path_cleared levels p rows ≡ rows
+none_cleared levels [] p h = refl
+none_cleared [] (g ∷ gs) p h =
+    ap (λ x. x ∷ path_cleared [] p gs) (none_set g p (h 0))
+    ∙ ap (λ xs. g ∷ xs) (none_cleared [] gs p (λ l. ap (λ q. get_or (get_or gs l []) q 0) (above_none l p) ∙ h (suc l)))
+none_cleared (w ∷ ws) (g ∷ gs) p h =
+    ap (λ x. x ∷ path_cleared ws (group_of w p) gs) (none_set g p (h 0))
+    ∙ ap (λ xs. g ∷ xs) (none_cleared ws gs (group_of w p) (λ l. h (suc l)))
+
+-- what is granted to a core bounds what is granted on its path
+none_granted : (t : TreeValue) (core l : ℕ) → IsDomainTree t → core < size_below t.levels
+    → granted_at t 0 core ≡ 0 → granted_at t l (place_above t.levels l core) ≡ 0
+none_granted t core zero v h e = e
+none_granted t core (suc l) v h e = elim (cases_lt l (length t.levels)) [
+  | inl in_tree ↦
+      let up : l + 1 ≡ suc l = omega arith in
+      let below : granted_at t l (place_above t.levels l core) ≡ 0 =
+      none_granted t core l v h e in
+      let above = v.nested core l h in_tree in
+      let here = rw up at above in
+      omega (arith, here, below)
+  | inr past ↦ none_past t.granted (suc l) (place_above t.levels (suc l) core)
+      (omega (arith, past, rows_long t.levels t.granted v.granted))
+]
+
+-- a core to which nothing is granted has a path on which nothing is to be taken away
+pub none_to_clear : (t : TreeValue) (core : ℕ) → IsDomainTree t → core < size_below t.levels
+    → granted_at t 0 core ≡ 0 → with_path_cleared t core ≡ t
+none_to_clear t core v h e =
+    let granted : (l : ℕ) → granted_at t l (place_above t.levels l core) ≡ 0 =
+    λ l. none_granted t core l v h e in
+    let confirmed : (l : ℕ) → confirmed_at t l (place_above t.levels l core) ≡ 0 =
+    λ l. omega (arith, granted l, v.sure l (place_above t.levels l core)) in
+    ap (λ gs. record t { granted = gs; confirmed = path_cleared t.levels core t.confirmed })
+    (none_cleared t.levels t.granted core granted)
+    ∙ ap (λ cs. record t { confirmed = cs }) (none_cleared t.levels t.confirmed core confirmed)

@@ -34,6 +34,7 @@ core_valid t core s v h a = record {
   ];
   deepest = v.deepest;
   nested = v.nested;
+  sure = v.sure;
 }
 
 -- what was held is held, with the new state of the core

@@ -12,7 +12,7 @@ use Rattle.psci_tree.specs.Changes.{with_path_cleared, with_grant, rows_with_dep
 use Rattle.psci_tree.specs.Changes.{MayGrant, still_confirmed, with_confirmed}
 use Rattle.psci_state.specs.declared.cores.CoreState.{CoreState}
 use Rattle.psci_tree.proofs.Granted.{zero_at, zero_lengths, same_up, place_lt, size_of_level}
-use Rattle.psci_tree.proofs.Granted.{row_lengths, grant_at, rows_at}
+use Rattle.psci_tree.proofs.Granted.{row_lengths, grant_at, depth_at, rows_at}
 
 -- The path of a core -------------------------------------------------------------------------
 
@@ -44,6 +44,9 @@ path_valid t core v = record {
       (λ e. let up : l + 1 ≡ suc l = omega arith in
       eq-eqb _ _ (rw up (same_up t.levels l core c (eqb-true _ _ e))))
       (v.nested c l i h));
+  sure = λ l p.
+      rw (zero_at t.levels t.confirmed core l p, zero_at t.levels t.granted core l p)
+      (zero_both _ _ _ _ (λ e. e) (v.sure l p));
 }
 
 -- A granted depth ----------------------------------------------------------------------------
@@ -68,10 +71,14 @@ pub is_domain : (n : Node) (l p : ℕ) → (n.level == l && n.place == p) ≡ tr
 is_domain n l p h = let e = both_tests (n.level == l) (n.place == p) h in
     (eqb-true _ _ e.0, eqb-true _ _ e.1)
 
-pub confirmed_valid : (t : TreeValue) (n : Node) → IsDomainTree t
+confirm_le : (b : Bool) (d x y : ℕ) → (b ≡ true → d ≤ y) → x ≤ y → cond b d x ≤ y
+confirm_le true d x y f h = f refl
+confirm_le false d x y f h = h
+
+pub confirmed_valid : (t : TreeValue) (n : Node) → IsDomainTree t → HasNodeIn t.levels n
     → IsDomainTree (with_confirmed t n)
 unfolding with_confirmed
-confirmed_valid t n v = record {
+confirmed_valid t n v h = record {
   tree = v.tree;
   high = v.high;
   cores = v.cores;
@@ -81,7 +88,20 @@ confirmed_valid t n v = record {
       ∙ v.confirmed;
   deepest = v.deepest;
   nested = v.nested;
+  sure = λ l p.
+      rw (depth_at t.levels t.confirmed n (granted_at t n.level n.place) l p v.confirmed h)
+      (confirm_le _ _ _ _ (λ e. let d = is_domain n l p e in rw (d.0, d.1) (omega arith))
+      (v.sure l p));
 }
+
+still_le : (granted depth confirmed : ℕ) (b : Bool) → b ≡ (granted == depth)
+    → confirmed ≤ granted → cond b confirmed 0 ≤ depth
+still_le granted depth confirmed true e h = omega (arith, h, eqb-true granted depth (sym e))
+still_le granted depth confirmed false e h = omega arith
+
+both_le : (b : Bool) (c d x y : ℕ) → c ≤ d → x ≤ y → cond b c x ≤ cond b d y
+both_le true c d x y h e = h
+both_le false c d x y h e = e
 
 pub grant_valid : (t : TreeValue) (n : Node) (depth : ℕ) → IsDomainTree t → HasNodeIn t.levels n
     → MayGrant t n depth → IsDomainTree (with_grant t n depth)
@@ -105,6 +125,13 @@ grant_valid t n depth v h may = record {
       (λ e. let d = is_domain n _ _ e in child c l i d.0 d.1)
       (λ e. let d = is_domain n _ _ e in parent c l i b d.0 d.1)
       (v.nested c l i b));
+  sure = λ l p.
+      rw (
+        depth_at t.levels t.confirmed n (still_confirmed t n depth) l p v.confirmed h,
+        grant_at t n depth l p v h,
+      )
+      (both_le _ _ _ _ _ (still_le (granted_at t n.level n.place) depth _
+      (granted_at t n.level n.place == depth) refl (v.sure n.level n.place)) (v.sure l p));
 }
   where
     child : (c l : ℕ) → c < size_below t.levels → n.level ≡ l + 1 → n.place
@@ -157,6 +184,7 @@ full_valid levels cores t h e a = record {
       rw (rows_at (level_sizes levels) l (place_above levels l c)
       (omega (arith, inside, size_of_level levels l (omega arith))))
       (rows_le (level_sizes levels) (l + 1) (place_above levels (l + 1) c));
+  sure = λ l p. omega arith;
 }
 
 pub all_idle : (n c : ℕ)

@@ -46,3 +46,5 @@ pub record IsDomainTree (t : TreeValue) : Type 0 where
   pub nested : (core level : ℕ) → core < size_below t.levels → level < length t.levels
       → granted_at t (level + 1) (place_above t.levels (level + 1) core)
       ≤ granted_at t level (place_above t.levels level core)
+  -- no domain is confirmed at a depth above the granted one
+  pub sure : (level place : ℕ) → confirmed_at t level place ≤ granted_at t level place

@@ -122,6 +122,14 @@ impl Tree {
         ensures levels { self.new.levels ≡ self.old.levels }
         ensures tree { IsDomainTree self.new }
     {
+        let own = Node {
+            level: 0,
+            place: core.number,
+        };
+        // no domain above is granted more than the core
+        if self.granted(own) == 0 {
+            return;
+        }
         let way = &self.ways[core.number as usize];
         clear_up(&mut self.depths, &self.board, core, way, 0);
     }

@@ -11,8 +11,14 @@ use Rattle.psci_tree.specs.Domains.{leaves}
 use Rattle.psci_tree.specs.Inside.{IsTied, IsHeld}
 use Rattle.psci_tree.specs.Way.{IsWayOf}
 use Rattle.psci_state.specs.declared.cores.CoreState.{CoreState}
+use Rattle.psci_tree.proofs.Cleared.{none_to_clear}
 use Rattle.psci_tree.proofs.Valid.{path_valid}
 use Rattle.psci_tree.proofs.tree.Tree.clear_path.Goals as goal
+
+pub returns-then-granted-eq0-clause-value : goal.returns-then-granted-eq0-clause-value
+returns-then-granted-eq0-clause-value c =
+    sym (none_to_clear c.args.self.now c.args.core.number c.granted.ensures.tree c.requires
+    (sym c.granted.ensures.value ∙ c.if-granted-eq0.true))
 
 pub clear_up-requires-clause-rows : goal.clear_up-requires-clause-rows
 clear_up-requires-clause-rows c = record {

@@ -112,7 +112,7 @@ returns-clause-tree c =
     let tied : IsTied c.self.inside.root c.args.self.now =
     subst (IsTied c.self.inside.root) c.self.view_is c.self.invariant.tied in
     subst IsDomainTree (sym (returns-clause-value c))
-    (confirmed_valid c.args.self.now c.args.node tied.valid)
+    (confirmed_valid c.args.self.now c.args.node tied.valid c.requires.domain)
 
 pub invariant_of-self : goal.invariant_of-self
 unfolding with_confirmed
@@ -127,7 +127,7 @@ invariant_of-self c =
       tied = record {
         whole = tied.whole;
         kept = tied.kept;
-        valid = confirmed_valid c.args.self.now c.args.node tied.valid;
+        valid = confirmed_valid c.args.self.now c.args.node tied.valid c.requires.domain;
       };
       row = held.row;
       lead = held.lead;
