@@ -10,10 +10,10 @@ use psci_state::CoreState;
 /// What is kept of several cores, so that they need not be counted again.
 #[derive(Clone, Copy)]
 pub struct Kept {
+    /// The sum of the known starts. It stands first, so that no byte is left unused.
+    pub known: u64,
     /// The least ask at each level, from 0 to 3.
     pub lows: [u8; MOST_ON_PATH],
-    /// The sum of the known starts.
-    pub known: u64,
     /// How many cores there are.
     pub cores: u32,
     /// How many are running or pending.
