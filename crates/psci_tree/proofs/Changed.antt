@@ -1,132 +1,24 @@
 -- What is kept of some cores, once one of them came into another state.
-use Rattle.std.proofs.Common.{◌≡◌, ℕ, zero, suc, ◌+◌, ◌-◌, ◌*◌, ◌^◌, ◌<◌, ◌≤◌, List, [], ◌∷◌}
+use Rattle.std.proofs.Common.{◌≡◌, ℕ, ◌+◌, ◌-◌, ◌*◌, ◌^◌, ◌<◌, ◌≤◌, List, [], ◌∷◌}
 use Rattle.std.proofs.Common.{Bool, true, false, Some, None, ◌==◌, ◌⊎◌, inl, inr, refl, sym, length}
 use Rattle.std.proofs.Common.{get_or, take, cond, nat_lt, arith, ap, ◌∙◌, length-append}
 use Rattle.std.proofs.Math.ListN.{set, length-set}
 use Rattle.std.specs.Prelude.{unwrap_or}
-use Rattle.std.specs.List.{sum_by, count_by}
-use Rattle.std.proofs.lemmas.Bool.{cases_Bool, eqb-true, ltb-true}
-use Rattle.std.proofs.lemmas.List.Sums.{sum_by-set, sum_by-append, sum_by-cons, get_or-le-sum_by}
-use Rattle.std.proofs.lemmas.List.Sums.{count_by-le-length}
+use Rattle.std.specs.List.{sum_by}
+use Rattle.std.proofs.lemmas.Bool.{eqb-true, ltb-true}
+use Rattle.std.proofs.lemmas.List.Sums.{sum_by-set, sum_by-append, get_or-le-sum_by}
 use Rattle.std.proofs.lemmas.List.{get_or_default}
 use Rattle.std.proofs.lemmas.List.Concat.{get_or-flat_map}
-use Rattle.psci_tree.specs.Recount.{is_active, is_away, asks, never_started}
-use Rattle.psci_state.specs.declared.cores.Activity.{Activity}
-use Rattle.psci_state.specs.declared.cores.Activity.TheVariants.{Active, Suspended, Away}
+use Rattle.psci_tree.specs.Recount.{is_active, is_away, never_started}
 use Rattle.psci_state.specs.declared.cores.CoreState.{CoreState}
 use Rattle.psci_tree.specs.declared.kept.Kept.{Kept}
 use Rattle.psci_tree.specs.declared.domain.Domain.{Domain}
 use Rattle.psci_tree.specs.Domains.{leaves, cores_in, branches, index_by}
-use Rattle.psci_tree.specs.Kept.{Keeps, AreKept, IsPart, recount, kept_exchanged, low_in, lows_told}
+use Rattle.psci_tree.specs.Kept.{Keeps, AreKept, IsPart, recount, kept_exchanged, lows_told}
+use Rattle.psci_tree.proofs.Asked.{active_in, away_in, low_one, low_zero}
 use Rattle.psci_tree.proofs.Below.{cores_of_domain}
 use Rattle.psci_tree.proofs.Ways.{Step, place_inside}
 use Rattle.psci_tree.proofs.Keeping.{kept_head, kept_tail, kept_own}
-
--- What some cores ask ------------------------------------------------------------------------
-
-asks_none : (s : Activity) (level : ℕ) → is_active s ≡ true → asks s level ≡ 0
-asks_none Active level e = refl
-asks_none (Suspended depths) level e = absurd (let no : false ≡ true = e in cc)
-asks_none Away level e = absurd (let no : false ≡ true = e in cc)
-
-asks_all : (s : Activity) (level : ℕ) → is_away s ≡ true → asks s level ≡ 3
-asks_all Active level e = absurd (let no : false ≡ true = e in cc)
-asks_all (Suspended depths) level e = absurd (let no : false ≡ true = e in cc)
-asks_all Away level e = refl
-
--- how many of the cores are running or pending, and how many off or going off
-abbrev active_in : List CoreState → ℕ
-active_in cs = count_by (λ c. is_active c.activity) cs
-
-abbrev away_in : List CoreState → ℕ
-away_in cs = count_by (λ c. is_away c.activity) cs
-
-active_cons : (c : CoreState) (cs : List CoreState)
-    → active_in (c ∷ cs) ≡ cond (is_active c.activity) 1 0 + active_in cs
-active_cons c cs = sum_by-cons (λ (d : CoreState). cond (is_active d.activity) 1 0) c cs
-
-away_cons : (c : CoreState) (cs : List CoreState)
-    → away_in (c ∷ cs) ≡ cond (is_away c.activity) 1 0 + away_in cs
-away_cons c cs = sum_by-cons (λ (d : CoreState). cond (is_away d.activity) 1 0) c cs
-
--- where one is active, no core asks for less
-low_zero : (level : ℕ) (cs : List CoreState) → 0 < active_in cs → low_in level cs ≡ 0
-low_zero level [] h = absurd (omega arith)
-low_zero level (c ∷ cs) h = elim (cases_Bool (is_active c.activity)) [
-  | inl e ↦ omega (arith, asks_none c.activity level e)
-  | inr e ↦
-      let less : cond (is_active c.activity) 1 0 ≡ 0 = ap {B = ℕ} (λ b. cond b 1 0) e in
-      omega (arith, low_zero level cs (omega (arith, h, active_cons c cs, less)))
-]
-
--- where all are off, they ask for power-down
-low_off : (level : ℕ) (cs : List CoreState) → away_in cs ≡ length cs → low_in level cs ≡ 3
-low_off level [] h = refl
-low_off level (c ∷ cs) h = elim (cases_Bool (is_away c.activity)) [
-  | inl e ↦
-      let one : cond (is_away c.activity) 1 0 ≡ 1 = ap {B = ℕ} (λ b. cond b 1 0) e in
-      omega (
-        arith,
-        asks_all c.activity level e,
-        low_off level cs (omega (
-          arith,
-          h,
-          away_cons c cs,
-          one,
-        )),
-      )
-  | inr e ↦
-      let none : cond (is_away c.activity) 1 0 ≡ 0 = ap {B = ℕ} (λ b. cond b 1 0) e in
-      absurd (omega (
-        arith,
-        h,
-        away_cons c cs,
-        none,
-        count_by-le-length (λ (d : CoreState). is_away d.activity) cs,
-      ))
-]
-
--- the others are as many as those of them that are off, at least
-others : (cs : List CoreState) (j : ℕ) (s : CoreState) → j < length cs
-    → away_in (set cs j s) + 1 ≤ length (set cs j s) + away_in (s ∷ [])
-others [] j s h = absurd (omega arith)
-others (c ∷ cs) zero s h = omega (
-  arith,
-  away_cons s cs,
-  away_cons s [],
-  count_by-le-length (λ (d : CoreState). is_away d.activity) cs,
-)
-others (c ∷ cs) (suc j) s h = omega (
-  arith,
-  away_cons c (set cs j s),
-  others cs j s (omega arith),
-  count_by-le-length (λ (d : CoreState). is_away d.activity) (c ∷ []),
-  away_cons c [],
-)
-
--- where they all are, the least ask is that of the one
-low_one : (level : ℕ) (cs : List CoreState) (j : ℕ) (s : CoreState) → j < length cs
-    → away_in (set cs j s) + 1 ≡ length (set cs j s) + away_in (s ∷ [])
-    → low_in level (set cs j s) ≡ low_in level (s ∷ [])
-low_one level [] j s h e = absurd (omega arith)
-low_one level (c ∷ cs) zero s h e =
-    omega (arith, low_off level cs (omega (arith, e, away_cons s cs, away_cons s [])))
-low_one level (c ∷ cs) (suc j) s h e = elim (cases_Bool (is_away c.activity)) [
-  | inl a ↦
-      let one : cond {A = ℕ} (is_away c.activity) 1 0 ≡ 1 = ap {B = ℕ} (λ b. cond b 1 0) a in
-      let rest : low_in level (set cs j s) ≡ low_in level (s ∷ []) =
-      low_one level cs j s (omega arith) (omega (arith, e, away_cons c (set cs j s), one)) in
-      omega (arith, asks_all c.activity level a, rest)
-  | inr a ↦
-      let none : cond (is_away c.activity) 1 0 ≡ 0 = ap {B = ℕ} (λ b. cond b 1 0) a in
-      absurd (omega (
-        arith,
-        e,
-        away_cons c (set cs j s),
-        none,
-        others cs j s (omega arith),
-      ))
-]
 
 -- a sum over the cores, by what it was
 moved : (f : CoreState → ℕ) (cs : List CoreState) (j : ℕ) (b s : CoreState) (k x y : ℕ)

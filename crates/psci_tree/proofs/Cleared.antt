@@ -82,7 +82,8 @@ none_cleared : (levels rows : List (List ℕ)) (p : ℕ)
 none_cleared levels [] p h = refl
 none_cleared [] (g ∷ gs) p h =
     ap (λ x. x ∷ path_cleared [] p gs) (none_set g p (h 0))
-    ∙ ap (λ xs. g ∷ xs) (none_cleared [] gs p (λ l. ap (λ q. get_or (get_or gs l []) q 0) (above_none l p) ∙ h (suc l)))
+    ∙ ap (λ xs. g ∷ xs) (none_cleared [] gs p (λ l.
+    ap (λ q. get_or (get_or gs l []) q 0) (above_none l p) ∙ h (suc l)))
 none_cleared (w ∷ ws) (g ∷ gs) p h =
     ap (λ x. x ∷ path_cleared ws (group_of w p) gs) (none_set g p (h 0))
     ∙ ap (λ xs. g ∷ xs) (none_cleared ws gs (group_of w p) (λ l. h (suc l)))

@@ -166,6 +166,7 @@ granted_more : IsDomainTree (granting (3 ∷ 2 ∷ 3 ∷ 0 ∷ []) (3 ∷ 2 ∷ 
 granted_more v = absurd (omega (arith, v.nested 3 0 (omega arith) (omega arith)))
 
 -- what is confirmed, deeper than what was granted
-confirmed_more : IsDomainTree (record (granting (3 ∷ 2 ∷ 3 ∷ 0 ∷ []) (2 ∷ 2 ∷ 0 ∷ []) (1 ∷ 0 ∷ []) 0)
-    { confirmed = (3 ∷ 3 ∷ 0 ∷ 0 ∷ []) ∷ (0 ∷ 0 ∷ 0 ∷ []) ∷ (0 ∷ 0 ∷ []) ∷ (0 ∷ []) ∷ [] }) → ⊥
+confirmed_more : IsDomainTree (record tree {
+  confirmed = (3 ∷ 3 ∷ 0 ∷ 0 ∷ []) ∷ (0 ∷ 0 ∷ 0 ∷ []) ∷ (0 ∷ 0 ∷ []) ∷ (0 ∷ []) ∷ [];
+}) → ⊥
 confirmed_more v = absurd (omega (arith, v.sure 0 1))

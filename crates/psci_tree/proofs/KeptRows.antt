@@ -1,15 +1,18 @@
 -- What domains keep, and the ways down to cores, on boards whose values are known: a cluster of two
 -- cores, and clusters of one, two and one core below two domains of level 2.
-use Rattle.std.proofs.Common.{◌≡◌, ℕ, List, [], ◌∷◌, map, refl}
+use Rattle.std.proofs.Common.{◌≡◌, ℕ, List, [], ◌∷◌, ◌^◌, map, refl, length, get_or, ap, subst, sym}
+use Rattle.std.proofs.Common.{arith}
 use Rattle.psci_board.specs.Board.{index_in, place_above}
 use Rattle.std.specs.Prelude.{Some, None, slice_index_or}
 use Rattle.psci_state.specs.declared.cores.CoreState.{CoreState}
 use Rattle.psci_state.specs.declared.cores.Activity.TheVariants.{Active, Suspended, Away}
 use Rattle.psci_tree.specs.Recount.{never_started}
 use Rattle.psci_tree.specs.declared.domain.Domain.{Domain, out-Domain}
-use Rattle.psci_tree.specs.Domains.{domains_down}
+use Rattle.psci_tree.specs.declared.kept.Kept.{Kept}
+use Rattle.psci_tree.specs.Domains.{branches, domains_down, leaves}
 use Rattle.psci_tree.specs.Standing.{kept_on_path}
-use Rattle.psci_tree.specs.Kept.{recount, kept_exchanged, kept_together, lows_told}
+use Rattle.psci_tree.specs.Kept.{IsArrival, IsExchange, Keeps, recount, kept_exchanged}
+use Rattle.psci_tree.specs.Kept.{kept_together, lows_told}
 use Rattle.psci_tree.specs.Changes.{core_changed}
 use Rattle.psci_tree.specs.Way.{cleared_from}
 
@@ -106,6 +109,50 @@ told_no_suspended = refl
 -- a core alone is told by itself
 told_alone : lows_told (recount (down ∷ [])) (recount (down ∷ [])) ≡ Some (3 ∷ 3 ∷ 0 ∷ 0 ∷ [])
 told_alone = refl
+
+-- a domain that is one core, which was off and is suspended now
+exchange_of_core : (n : Domain) → length (branches n) ≡ 0 → leaves n ≡ gone ∷ []
+    → IsExchange n 0 [] down (recount (gone ∷ [])) (recount (down ∷ []))
+exchange_of_core n none is = record {
+  arrival = record {
+    long = omega arith;
+    leads = none;
+    few = omega (arith, ap length is);
+    comes = record { counted = refl; small = omega arith };
+  };
+  was = λ c.
+      subst (λ cs. Keeps (recount (gone ∷ [])) (get_or cs 0 c ∷ [])) (sym is)
+      (record { counted = refl; small = omega arith });
+}
+
+-- it was not as was kept of it
+exchange_of_another : (n : Domain) → leaves n ≡ gone ∷ []
+    → IsExchange n 0 [] down (recount (retained ∷ [])) (recount (down ∷ [])) → ⊥
+exchange_of_another n is e =
+    let kept : Keeps (recount (retained ∷ [])) (gone ∷ []) =
+    subst (λ cs. Keeps (recount (retained ∷ [])) (get_or cs 0 gone ∷ [])) is (e.was gone) in
+    absurd (omega (arith, ap (λ (k : Kept). k.off) kept.counted))
+
+-- it is not as is kept of it
+arrival_of_another : (n : Domain) → IsArrival n 0 [] down (recount (gone ∷ [])) → ⊥
+arrival_of_another n a = absurd (omega (arith, ap (λ (k : Kept). k.off) a.comes.counted))
+
+-- a way that is too short, one that leads to no child, and one that ends above the core
+arrival_too_far : (n : Domain) → IsArrival n 1 [] down (recount (down ∷ [])) → ⊥
+arrival_too_far n a = absurd (omega (arith, a.long))
+
+arrival_nowhere : (n : Domain) → length (branches n) ≡ 2
+    → IsArrival n 1 (2 ∷ []) down (recount (down ∷ [])) → ⊥
+arrival_nowhere n two a = absurd (omega (arith, two, a.leads.0))
+
+arrival_above : (n : Domain) → length (branches n) ≡ 2
+    → IsArrival n 0 [] down (recount (down ∷ [])) → ⊥
+arrival_above n two a = absurd (omega (arith, two, a.leads))
+
+-- more cores than a board has
+arrival_among_many : (n : Domain) → length (leaves n) ≡ 2 ^ 16
+    → IsArrival n 0 [] down (recount (down ∷ [])) → ⊥
+arrival_among_many n many a = absurd (omega (arith, many, a.few))
 
 -- a start takes its own number, however many there were before, and not one more
 change_starts : core_changed (record { activity = Active; started = Some 9 }) retained

@@ -45,21 +45,21 @@ exchanged-kept-requires-clause-known t c = omega (
 pub exchanged-kept-requires-clause-active : goal.exchanged-kept-requires-clause-active
 exchanged-kept-requires-clause-active t c = omega (
   arith,
-  (keeps_small _ _ (kept_own c.args.self.now c.requires.kept) c.requires.exchange.arrival.few).active,
+  (keeps_small _ _ (kept_own _ c.requires.kept) c.requires.exchange.arrival.few).active,
   (keeps_small _ _ c.requires.exchange.arrival.comes (omega arith)).active,
 )
 
 pub exchanged-kept-requires-clause-off : goal.exchanged-kept-requires-clause-off
 exchanged-kept-requires-clause-off t c = omega (
   arith,
-  (keeps_small _ _ (kept_own c.args.self.now c.requires.kept) c.requires.exchange.arrival.few).off,
+  (keeps_small _ _ (kept_own _ c.requires.kept) c.requires.exchange.arrival.few).off,
   (keeps_small _ _ c.requires.exchange.arrival.comes (omega arith)).off,
 )
 
 pub lows_told-requires-clause-off : goal.lows_told-requires-clause-off
 lows_told-requires-clause-off t c = omega (
   arith,
-  (keeps_small _ _ (kept_own c.args.self.now c.requires.kept) c.requires.exchange.arrival.few).off,
+  (keeps_small _ _ (kept_own _ c.requires.kept) c.requires.exchange.arrival.few).off,
   (keeps_small _ _ c.requires.exchange.arrival.comes (omega arith)).off,
   ap (λ (k : Kept). k.off) c.exchanged-kept.ensures,
 )
@@ -67,7 +67,7 @@ lows_told-requires-clause-off t c = omega (
 pub lows_told-requires-clause-cores : goal.lows_told-requires-clause-cores
 lows_told-requires-clause-cores t c = omega (
   arith,
-  (keeps_small _ _ (kept_own c.args.self.now c.requires.kept) c.requires.exchange.arrival.few).cores,
+  (keeps_small _ _ (kept_own _ c.requires.kept) c.requires.exchange.arrival.few).cores,
   (keeps_small _ _ c.requires.exchange.arrival.comes (omega arith)).off,
   ap (λ (k : Kept). k.cores) c.exchanged-kept.ensures,
 )

@@ -1,0 +1,116 @@
+-- What some cores ask at least, by how many of them are active and how many are off.
+use Rattle.std.proofs.Common.{◌≡◌, ℕ, zero, suc, ◌+◌, ◌<◌, ◌≤◌, List, [], ◌∷◌, true, false, inl, inr}
+use Rattle.std.proofs.Common.{refl, length, cond, arith, ap}
+use Rattle.std.proofs.Math.ListN.{set}
+use Rattle.std.specs.List.{count_by}
+use Rattle.std.proofs.lemmas.Bool.{cases_Bool}
+use Rattle.std.proofs.lemmas.List.Sums.{sum_by-cons, count_by-le-length}
+use Rattle.psci_tree.specs.Recount.{is_active, is_away, asks}
+use Rattle.psci_state.specs.declared.cores.Activity.{Activity}
+use Rattle.psci_state.specs.declared.cores.Activity.TheVariants.{Active, Suspended, Away}
+use Rattle.psci_state.specs.declared.cores.CoreState.{CoreState}
+use Rattle.psci_tree.specs.Kept.{low_in}
+
+asks_none : (s : Activity) (level : ℕ) → is_active s ≡ true → asks s level ≡ 0
+asks_none Active level e = refl
+asks_none (Suspended depths) level e = absurd (let no : false ≡ true = e in cc)
+asks_none Away level e = absurd (let no : false ≡ true = e in cc)
+
+asks_all : (s : Activity) (level : ℕ) → is_away s ≡ true → asks s level ≡ 3
+asks_all Active level e = absurd (let no : false ≡ true = e in cc)
+asks_all (Suspended depths) level e = absurd (let no : false ≡ true = e in cc)
+asks_all Away level e = refl
+
+-- how many of the cores are running or pending, and how many off or going off
+abbrev pub active_in : List CoreState → ℕ
+active_in cs = count_by (λ c. is_active c.activity) cs
+
+abbrev pub away_in : List CoreState → ℕ
+away_in cs = count_by (λ c. is_away c.activity) cs
+
+active_cons : (c : CoreState) (cs : List CoreState)
+    → active_in (c ∷ cs) ≡ cond (is_active c.activity) 1 0 + active_in cs
+active_cons c cs = sum_by-cons (λ (d : CoreState). cond (is_active d.activity) 1 0) c cs
+
+away_cons : (c : CoreState) (cs : List CoreState)
+    → away_in (c ∷ cs) ≡ cond (is_away c.activity) 1 0 + away_in cs
+away_cons c cs = sum_by-cons (λ (d : CoreState). cond (is_away d.activity) 1 0) c cs
+
+-- where one is active, no core asks for less
+pub low_zero : (level : ℕ) (cs : List CoreState) → 0 < active_in cs → low_in level cs ≡ 0
+low_zero level [] h = absurd (omega arith)
+low_zero level (c ∷ cs) h = elim (cases_Bool (is_active c.activity)) [
+  | inl e ↦ omega (arith, asks_none c.activity level e)
+  | inr e ↦
+      let less : cond (is_active c.activity) 1 0 ≡ 0 = ap {B = ℕ} (λ b. cond b 1 0) e in
+      omega (arith, low_zero level cs (omega (arith, h, active_cons c cs, less)))
+]
+
+-- where all are off, they ask for power-down
+low_off : (level : ℕ) (cs : List CoreState) → away_in cs ≡ length cs → low_in level cs ≡ 3
+low_off level [] h = refl
+low_off level (c ∷ cs) h = elim (cases_Bool (is_away c.activity)) [
+  | inl e ↦
+      let one : cond (is_away c.activity) 1 0 ≡ 1 = ap {B = ℕ} (λ b. cond b 1 0) e in
+      omega (
+        arith,
+        asks_all c.activity level e,
+        low_off level cs (omega (
+          arith,
+          h,
+          away_cons c cs,
+          one,
+        )),
+      )
+  | inr e ↦
+      let none : cond (is_away c.activity) 1 0 ≡ 0 = ap {B = ℕ} (λ b. cond b 1 0) e in
+      absurd (omega (
+        arith,
+        h,
+        away_cons c cs,
+        none,
+        count_by-le-length (λ (d : CoreState). is_away d.activity) cs,
+      ))
+]
+
+-- the others are as many as those of them that are off, at least
+others : (cs : List CoreState) (j : ℕ) (s : CoreState) → j < length cs
+    → away_in (set cs j s) + 1 ≤ length (set cs j s) + away_in (s ∷ [])
+others [] j s h = absurd (omega arith)
+others (c ∷ cs) zero s h = omega (
+  arith,
+  away_cons s cs,
+  away_cons s [],
+  count_by-le-length (λ (d : CoreState). is_away d.activity) cs,
+)
+others (c ∷ cs) (suc j) s h = omega (
+  arith,
+  away_cons c (set cs j s),
+  others cs j s (omega arith),
+  count_by-le-length (λ (d : CoreState). is_away d.activity) (c ∷ []),
+  away_cons c [],
+)
+
+-- where they all are, the least ask is that of the one
+pub low_one : (level : ℕ) (cs : List CoreState) (j : ℕ) (s : CoreState) → j < length cs
+    → away_in (set cs j s) + 1 ≡ length (set cs j s) + away_in (s ∷ [])
+    → low_in level (set cs j s) ≡ low_in level (s ∷ [])
+low_one level [] j s h e = absurd (omega arith)
+low_one level (c ∷ cs) zero s h e =
+    omega (arith, low_off level cs (omega (arith, e, away_cons s cs, away_cons s [])))
+low_one level (c ∷ cs) (suc j) s h e = elim (cases_Bool (is_away c.activity)) [
+  | inl a ↦
+      let one : cond {A = ℕ} (is_away c.activity) 1 0 ≡ 1 = ap {B = ℕ} (λ b. cond b 1 0) a in
+      let rest : low_in level (set cs j s) ≡ low_in level (s ∷ []) =
+      low_one level cs j s (omega arith) (omega (arith, e, away_cons c (set cs j s), one)) in
+      omega (arith, asks_all c.activity level a, rest)
+  | inr a ↦
+      let none : cond (is_away c.activity) 1 0 ≡ 0 = ap {B = ℕ} (λ b. cond b 1 0) a in
+      absurd (omega (
+        arith,
+        e,
+        away_cons c (set cs j s),
+        none,
+        others cs j s (omega arith),
+      ))
+]
