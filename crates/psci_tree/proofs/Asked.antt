@@ -1,6 +1,6 @@
 -- What some cores ask at least, by how many of them are active and how many are off.
-use Rattle.std.proofs.Common.{◌≡◌, ℕ, zero, suc, ◌+◌, ◌<◌, ◌≤◌, List, [], ◌∷◌, true, false, inl, inr}
-use Rattle.std.proofs.Common.{refl, length, cond, arith, ap}
+use Rattle.std.proofs.Common.{◌≡◌, ℕ, zero, suc, ◌+◌, ◌<◌, ◌≤◌, List, [], ◌∷◌, true, false, inl}
+use Rattle.std.proofs.Common.{inr, refl, length, cond, arith, ap}
 use Rattle.std.proofs.Math.ListN.{set}
 use Rattle.std.specs.List.{count_by}
 use Rattle.std.proofs.lemmas.Bool.{cases_Bool}
