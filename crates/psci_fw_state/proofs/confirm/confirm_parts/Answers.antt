@@ -102,8 +102,8 @@ loop-level-preserved c =
     ) in
     confirmed_more b c.args.core.number c.args.parts.now c.args.tree.now c.loop-level.tree
     c.confirm_last.new.tree c.loop-level.level (Some part)
-    (sym (slice_get-get_or c.args.parts.now c.loop-level.level unused inside)) c.requires.tree.levels
-    c.loop-level.invariant
+    (sym (slice_get-get_or c.args.parts.now c.loop-level.level unused inside))
+    c.requires.tree.levels c.loop-level.invariant
     (λ l p. let made : ℕ → Node → Bool = λ k n.
     ((n.level == l) && (n.place == p)) && (nat_lt 0 (granted_at c.loop-level.tree n.level n.place)
     && is_made_at k (Some part)) in
@@ -112,8 +112,8 @@ loop-level-preserved c =
     known_is
     ∙ ap (λ (n : Node). cond (made (known c.loop-level.tree n) n) true
     (is_confirmed_at c.loop-level.tree l p)) node)
-    c.confirm_last.ensures.kept.granted c.confirm_last.ensures.kept.cores c.confirm_last.ensures.kept.levels
-    c.confirm_last.ensures.kept.tree
+    c.confirm_last.ensures.kept.granted c.confirm_last.ensures.kept.cores
+    c.confirm_last.ensures.kept.levels c.confirm_last.ensures.kept.tree
 
 pub returns-clause-confirmed : goal.returns-clause-confirmed
 returns-clause-confirmed c = λ l p.
