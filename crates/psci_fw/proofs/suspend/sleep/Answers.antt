@@ -16,11 +16,12 @@ send_down-requires c =
     let parts : List Part = wished_in c.suspend.new.self core c.in-Ok.wish in
     let before : IsGrantable board core parts granted = record {
       inside = c.requires.call.inside;
-      claims = c.law_stops.ensures.suspended board (values_in c.args.state.now) core c.args.ask parts
-          c.requires.call.board c.requires.call.inside c.requires.call.values
+      claims = c.law_stops.ensures.suspended board (values_in c.args.state.now) core c.args.ask
+          parts c.requires.call.board c.requires.call.inside c.requires.call.values
           c.requires.call.running c.requires.may.shape c.in-Ok.ensures.parts;
       may = c.requires.may.may parts c.in-Ok.ensures.parts;
     } in
     subst (λ (v : Values). IsGrantable c.suspend.new.self.board core parts v.granted)
     (sym c.in-Ok.ensures.after)
-    (subst (λ (b : BoardValue). IsGrantable b core parts granted) (sym c.in-Ok.ensures.board) before)
+    (subst (λ (b : BoardValue). IsGrantable b core parts granted) (sym c.in-Ok.ensures.board)
+    before)
