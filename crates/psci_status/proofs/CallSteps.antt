@@ -177,8 +177,8 @@ next_left p f f' table table' rows rows' n c before call reply is view answered 
 
 -- a refused call
 pub next_still : (p : PolledView) (f f' : FirmwareValue) (table : TableId)
-    (rows : List (List Status)) (n c : ℕ) (call : FwCall) (reply : FwReply) → IsPolled f table rows n
-    → record { firmware = f; table = table; written = rows } ≡ p
+    (rows : List (List Status)) (n c : ℕ) (call : FwCall) (reply : FwReply)
+    → IsPolled f table rows n → record { firmware = f; table = table; written = rows } ≡ p
     → reply ≡ answer f.board (seen f) c call → seen f' ≡ after f.board c call reply (seen f)
     → f' ≡ f → IsNext p c call (record { firmware = f'; table = table; written = rows })
 next_still p f f' table rows n c call reply is view answered left same =

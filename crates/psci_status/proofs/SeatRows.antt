@@ -1,5 +1,5 @@
--- Worked examples: who may write and read a table of status words, and what a meeting leaves. Words,
--- writers and readers are made while a program runs: they are any here, of which something is known.
+-- Worked examples: who may write and read a table of status words, what a meeting leaves. Words,
+-- writers and readers are made while a program runs: here they are any, of which some is known.
 use Rattle.std.proofs.Common.{◌≡◌, ◌<◌, ◌∙◌, ℕ, zero, suc, List, [], ◌∷◌, length, map, inl, inr}
 use Rattle.std.proofs.Common.{refl, sym, ap, arith}
 use Rattle.atomic_table.specs.Seated.{TableId}

@@ -44,8 +44,8 @@ IsWrittenFrom p p' =
     → row p'.written core
     ≡ written_then (seen p.firmware).life (seen p'.firmware) core (row p.written core)
 
--- what a call leaves: the firmware after it, by the definitions, and what it changed of the statuses
--- is written
+-- what a call leaves: the firmware after it, by the definitions; and what it changed of the
+-- statuses is written
 pub record IsNext (p : PolledView) (c : ℕ) (call : FwCall) (p' : PolledView) : Type 0 where
   pub board : p'.firmware.board ≡ p.firmware.board
   pub values : seen p'.firmware ≡ after p.firmware.board c call

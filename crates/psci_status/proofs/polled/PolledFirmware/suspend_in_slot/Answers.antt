@@ -44,7 +44,8 @@ returns-clause-next c =
     next_left c.args.self.now c.self.inside.firmware f _ _ _ _ c.self.inside.cores
     c.args.core.number (seen f).life (calls.Smc c.args.regs)
     (replies.Out (outcome_in f.board (seen f) c.suspend_in_slot-reaction.result)) c.self.invariant
-    c.self.view_is c.suspend_in_slot-reaction.ensures.answer c.suspend_in_slot-reaction.ensures.after
+    c.self.view_is c.suspend_in_slot-reaction.ensures.answer
+    c.suspend_in_slot-reaction.ensures.after
     c.suspend_in_slot-reaction.ensures.board c.write_one.ensures.table
     (life_left (seen c.self.inside.firmware) (seen f) _ c.suspend_in_slot-reaction.ensures.after
     (c.law_caller.ensures.life _ _ _ _ _))
