@@ -37,20 +37,25 @@ at_most() {
     if [ "$2" -le "$3" ]; then pass; else fail "$1: $2 bytes, more than $3"; fi
 }
 
+# deepest FILE: the most stack that a call takes by the code of a file, if that can be bounded
+deepest() {
+    tests/stack-need "$1" > "$work/out" 2> "$work/err" &&
+        awk '$2 > most { most = $2 } END { print most }' "$work/out"
+}
+
 # measured ARCHIVE: what it wants, how large it is, and how much stack a call takes by its code
 measured() {
-    local beyond most=$most_text
+    local beyond stack most=$most_text
     [ "$1" != "$aligned" ] || most=$most_aligned_text
     beyond=$(nm --undefined-only "$1" | awk 'NF == 2 { print $2 }' | grep -Evx "$wants")
     if [ -z "$beyond" ]; then pass; else fail "$1 wants $beyond"; fi
     at_most "text and data of $1" \
         "$(size "$1" | awk 'NR > 1 { sum += $1 + $2 + $3 } END { print sum }')" "$most"
-    if tests/stack-need "$1" > "$work/out"; then pass; else
+    if stack=$(deepest "$1"); then pass; else
         fail "tests/stack-need $1"
         return
     fi
-    at_most "the stack of a call by $1" \
-        "$(awk '$2 > most { most = $2 } END { print most }' "$work/out")" "$most_stack"
+    at_most "the stack of a call by $1" "$stack" "$most_stack"
 }
 
 # the archives for two machines, the same again when they are built again
@@ -85,6 +90,52 @@ refused() {
     shift
     tests/plain-code "$@" > "$work/out" 2> "$work/err"
     if [ $? = 1 ] && [ -s "$work/out" ]; then pass; else fail "tests/plain-code lets $name pass"; fi
+}
+
+# stack_of NAME LINE..: sets the most stack that a call takes by these lines for aarch64; nothing where it is not bounded
+stack_of() {
+    local clang
+    clang=$(dirname "$(dirname "$(realpath "$(command -v rt)")")")/toolchain/bin/clang
+    printf '%s\n' "${@:2}" > "$work/$1.s"
+    "$clang" --target=aarch64-unknown-linux-gnu -c -o "$work/$1.o" "$work/$1.s"
+    stack=$(deepest "$work/$1.o")
+}
+
+# too_deep NAME LINE..: these lines take more stack than a call may, and tests/stack-need says so
+too_deep() {
+    local stack
+    stack_of "$@"
+    if [ -n "$stack" ] && [ "$stack" -gt "$most_stack" ]; then pass; else
+        fail "tests/stack-need says of $1: '$stack'"
+    fi
+}
+
+# unbounded NAME LINE..: what these lines take cannot be bounded, and tests/stack-need says why
+unbounded() {
+    local stack
+    stack_of "$@"
+    if [ -z "$stack" ] && [ -s "$work/err" ]; then pass; else
+        fail "tests/stack-need bounds $1: '$stack'"
+    fi
+}
+
+# a call that takes more stack than it may is found, by itself or by what it calls
+c_stack() {
+    local stack page=' sub sp, sp, #1, lsl #12' back=' add sp, sp, #1, lsl #12'
+    has_python "planted calls that take much stack" || return
+    stack_of as_much psci_call: "$page" ' bl inner' "$back" ' ret' inner: "$page" "$back" ' ret'
+    if [ "$stack" = "$most_stack" ]; then pass; else fail "tests/stack-need: '$stack' of 8192"; fi
+    too_deep inner psci_call: "$page" ' bl inner' "$back" ' ret' \
+        inner: "$page" ' sub sp, sp, #16' ' add sp, sp, #16' "$back" ' ret'
+    too_deep pushed psci_call: ' stp x29, x30, [sp, #-16]!' ' sub sp, sp, #2, lsl #12' \
+        ' add sp, sp, #2, lsl #12' ' ldp x29, x30, [sp], #16' ' ret'
+    too_deep jump psci_call: ' b inner' inner: ' sub sp, sp, #3, lsl #12' ' add sp, sp, #3, lsl #12' \
+        ' ret'
+    # as deep as a tree has levels
+    too_deep itself psci_call: "$page" ' bl psci_call' "$back" ' ret'
+    unbounded pointer psci_call: ' blr x1' ' ret'
+    unbounded register psci_call: ' sub sp, sp, x1' ' ret'
+    unbounded in_turn psci_call: ' bl inner' ' ret' inner: ' bl psci_call' ' ret'
 }
 
 # the archives for aarch64 are of general registers alone, the second one of aligned accesses

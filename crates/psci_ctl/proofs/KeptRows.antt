@@ -1,20 +1,18 @@
 -- Worked examples of what the power controller keeps, row by row. Two clusters of two cores; core 3
 -- was started twice, by a wake-up, and its cluster is in retention.
-use Rattle.std.proofs.Common.{◌≡◌, ℕ, ◌+◌, ◌*◌, ◌<◌, ◌≤◌, ◌^◌, List, [], ◌∷◌, map, length}
-use Rattle.std.proofs.Common.{None, Some, true, false, refl, ap, arith}
+use Rattle.std.proofs.Common.{◌≡◌, ℕ, ◌+◌, ◌*◌, ◌<◌, ◌^◌, List, [], ◌∷◌, map}
+use Rattle.std.proofs.Common.{Some, true, false, refl, ap, arith}
 use Rattle.psci_board.specs.Board.{BoardValue, up}
-use Rattle.psci_messages.specs.declared.part.Part.{Part}
 use Rattle.psci_ctl_spec.specs.psci_abi.declared.format.Format.TheVariants.{Original}
 use Rattle.psci_ctl_spec.specs.Values.{Values, starts_below}
 use Rattle.psci_messages.specs.declared.start.Cause.TheVariants.{Boot, On, Wake}
-use Rattle.psci_ctl.specs.declared.done.Done.{Done}
 use Rattle.psci_ctl.specs.declared.level.DomainRow.{DomainRow}
 use Rattle.psci_ctl.specs.declared.row.CoreRow.{CoreRow}
 use Rattle.psci_ctl.specs.Rows.{HasRows, HasSums, HaveRoom, core_row, deepened, depth_in}
 use Rattle.psci_ctl.specs.Rows.{domain_at}
 use Rattle.psci_ctl.specs.Rows.{off_core, off_domain, path_on_below, path_on_once, values_in}
 use Rattle.psci_ctl.specs.Rows.{with_core, with_depth}
-use Rattle.psci_ctl.specs.Seen.{ControllerValue, IsController, Leaves, done, seen, start_done}
+use Rattle.psci_ctl.specs.Seen.{ControllerValue, IsController, Leaves, done, start_done}
 
 abbrev board : BoardValue
 board = record {

@@ -141,7 +141,6 @@ impl Controller {
     /// without a life; else it is carried out as far as it can be, and acknowledged. A Start takes
     /// one step for each level; a Down one for each child of the domains on the sender's path,
     /// however many cores there are below; a Reset writes each row anew.
-    #[tactic(auto, unfolding(psci_ctl_spec::specs::Changes::after, psci_ctl_spec::specs::Effects::effect_of, psci_ctl_spec::specs::Replies::reply, psci_ctl_spec::specs::Replies::delivery_of))]
     pub fn deliver(&mut self, message: &Message) -> Delivery
         requires { IsOfBoard self.old.board message.now }
         ensures reply { replies.Delivery result
@@ -164,7 +163,6 @@ impl Controller {
     /// A core has a wake-up event, after it stopped in its start of number `halted` (0 where it was
     /// not started in this life). It is started, unless it was started since or can't be once more;
     /// without a life the event is ignored.
-    #[tactic(auto, unfolding(psci_ctl_spec::specs::Changes::after, psci_ctl_spec::specs::Effects::effect_of, psci_ctl_spec::specs::Replies::reply, psci_ctl_spec::specs::Replies::wake_of))]
     pub fn wake(&mut self, core: Core, halted: u32) -> Kick
         requires { core.number < cores self.old.board }
         ensures reply { replies.Kick result
@@ -185,7 +183,6 @@ impl Controller {
 
     /// A core is reset by itself: it is started, unless it can't be once more; without a life the
     /// reset is ignored.
-    #[tactic(auto, unfolding(psci_ctl_spec::specs::Changes::after, psci_ctl_spec::specs::Effects::effect_of, psci_ctl_spec::specs::Replies::reply, psci_ctl_spec::specs::Replies::reset_of))]
     pub fn reset(&mut self, core: Core) -> Kick
         requires { core.number < cores self.old.board }
         ensures reply { replies.Kick result

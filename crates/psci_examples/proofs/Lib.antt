@@ -1,5 +1,6 @@
 mod AuditRows
 mod AuditSafeRows
+mod CallerRows
 mod DomainRows
 mod FirmwareRows
 mod FramePairRows
@@ -7,5 +8,6 @@ mod LinesRows
 mod MessageRows
 mod OwnCallRows
 mod ReplayRows
+mod StateTreeRows
 mod TextRows
 mod TreeRows

@@ -16,12 +16,12 @@ use Rattle.psci_link.specs.declared.frame.Frame.TheVariants.{Message, Ack}
 use Rattle.psci_link.specs.Frame.{first_fault, frame_bytes}
 use Rattle.psci_messages.specs.declared.kind.Kind.TheVariants.{Start}
 use Rattle.psci_messages.specs.Message.{AckValue, MessageValue}
-use Rattle.psci_status.specs.Polled.{PolledView}
+use Rattle.psci_status.specs.Polled.{IsNext, PolledView}
 use Rattle.psci_status.proofs.Calls.{Step, asks, board, boots, computing, history, on}
 use Rattle.psci_ffi.specs.declared.answer.Answer.{Answer}
 use Rattle.psci_ffi.specs.Frames.{IsAcknowledged, IsFaulty, IsMisplaced, IsRead, IsTaken, IsTakenBy}
 use Rattle.psci_ffi.specs.Frames.{IsTakenIn}
-use Rattle.psci_ffi.specs.Shown.{IsAfter, IsNew, IsNext, IsSameIf, IsSameRefused, Opens, answered}
+use Rattle.psci_ffi.specs.Shown.{IsAfter, IsNew, IsSameIf, IsSameRefused, Opens, answered}
 use Rattle.psci_ffi.specs.Shown.{no_frame, refused, shown}
 use Rattle.psci_ffi.specs.Slot.{Kept}
 

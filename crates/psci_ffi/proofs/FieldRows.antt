@@ -1,12 +1,10 @@
 -- Worked examples: the fields of each kind of frame, and what is read of bytes.
-use Rattle.std.proofs.Common.{◌≡◌, ℕ, Bool, true, false, List, [], ◌∷◌, map, refl, ap, arith}
+use Rattle.std.proofs.Common.{◌≡◌, ℕ, Bool, true, false, [], ◌∷◌, map, refl, ap, arith}
 use Rattle.std.specs.Prelude.{None, Some, replicate}
-use Rattle.psci_messages.specs.declared.part.Part.{Part}
 use Rattle.psci_messages.specs.declared.kind.Kind.{Kind}
 use Rattle.psci_messages.specs.declared.kind.Kind.TheVariants.{Down, Start, Off, Reset}
 use Rattle.psci_messages.specs.Message.{AckValue, MessageValue}
 use Rattle.psci_link.specs.declared.fault.FrameFault.TheVariants.{Magic}
-use Rattle.psci_link.specs.declared.frame.Frame.{Frame}
 use Rattle.psci_link.specs.declared.frame.Frame.TheVariants.{Message, Ack}
 use Rattle.psci_link.specs.Frame.{part_fields}
 use Rattle.psci_ffi.specs.declared.fields.Fields.{Fields}

@@ -17,6 +17,7 @@ pub mod MachineCrossing
 pub mod MachineMaking
 mod MachineRows
 pub mod NamedCalls
+mod NamedRows
 mod PollerRows
 mod ReaderRows
 mod StopRows

@@ -1,7 +1,7 @@
 -- Worked examples: a machine of two clusters whose MPIDRs are no places, with words of which not
 -- all bits count and two states of one class, in either mode; and what an opening leaves in its
 -- place.
-use Rattle.std.proofs.Common.{◌≡◌, ◌∙◌, ℕ, Bool, List, [], ◌∷◌, ◌++◌, map, true, false, refl, ap}
+use Rattle.std.proofs.Common.{◌≡◌, ℕ, Bool, List, [], ◌∷◌, ◌++◌, map, true, false, refl, ap}
 use Rattle.std.proofs.Common.{replicate, arith}
 use Rattle.std.specs.Prelude.{Result, Ok, Err, None, Some}
 use Rattle.psci_abi.specs.declared.code.Code.{Code}

@@ -24,16 +24,16 @@ use Rattle.psci_fw_spec.specs.declared.reply.FwReply.TheVariants.{Out}
 use Rattle.psci_fw_spec.specs.Answer.{answer}
 use Rattle.psci_platform.specs.declared.asked.Asked.{Asked}
 use Rattle.psci_platform.specs.declared.asked.Asked.TheVariants.{Nothing}
-use Rattle.psci_status.specs.Polled.{IsWrittenFrom, PolledView}
+use Rattle.psci_status.specs.Polled.{IsNext, IsWrittenFrom, PolledView}
 use Rattle.psci_ffi.specs.declared.answer.Answer.{Answer}
 use Rattle.psci_ffi.specs.declared.machine_calls.MachineAsked.{MachineAsked}
 use Rattle.psci_ffi.specs.MachineCalls.{IsCalledIn, asked_in, asked_shown, called_in, regs_in}
 use Rattle.psci_ffi.specs.MachineCalls.{told_in}
-use Rattle.psci_ffi.specs.MachineNamed.{AsksOn, IsCalled, MaySuspend, MayTurnOn}
+use Rattle.psci_ffi.specs.MachineNamed.{AsksOn, IsCalled, MayAskSuspend, MayTurnOn}
 use Rattle.psci_ffi.specs.Named.{AreWords, NamesCore}
 use Rattle.psci_platform.specs.Kept.{Asks}
 use Rattle.psci_ffi.specs.MachineSlot.{KeptMachine}
-use Rattle.psci_ffi.specs.Shown.{IsNext, IsSameIf, act_shown, no_frame, shown}
+use Rattle.psci_ffi.specs.Shown.{IsSameIf, act_shown, no_frame, shown}
 use Rattle.psci_ffi.specs.Slot.{Kept}
 use Rattle.psci_ffi.proofs.Telling.{tells}
 
@@ -51,7 +51,7 @@ done f g core call said o is next shows = record {
 pub refused_so : (f : PolledView) (core : ℕ) (regs : Regs)
     → ((f : FirmwareValue) (c : ℕ) (regs : Regs) → may_call f c ≡ true
     → IsNoSuspend f.board regs → IsReturned f c regs invalid_parameters)
-    → MaySuspend (Some f) core regs None → IsWrittenFrom f f
+    → MayAskSuspend (Some f) core regs None → IsWrittenFrom f f
     → IsCalled (Some f) core (Smc regs) (act_shown (Return invalid_parameters) no_frame) (Some f)
 refused_so f core regs law may still =
     let told = tells f core regs invalid_parameters

@@ -1,5 +1,5 @@
 -- Worked examples: what each reader says of a firmware, and of an empty place.
-use Rattle.std.proofs.Common.{◌≡◌, ℕ, Bool, true, false, List, [], ◌∷◌, map, refl, ap, ◌∙◌}
+use Rattle.std.proofs.Common.{◌≡◌, ℕ, true, false, List, [], ◌∷◌, map, refl, ap, ◌∙◌}
 use Rattle.std.specs.Prelude.{None, Some, ◌==◌, nat_le, if◌then◌else◌}
 use Rattle.psci_board.specs.Board.{BoardValue, children, cores, height, nodes}
 use Rattle.psci_board.specs.declared.node.Node.{Node}
@@ -16,7 +16,6 @@ use Rattle.psci_status.specs.Polled.{PolledView}
 use Rattle.psci_status.proofs.Calls.{Step, board, boots, computing, enters, history, off, on}
 use Rattle.psci_status.proofs.Calls.{system_off}
 use Rattle.psci_status.proofs.Calls.{takes}
-use Rattle.psci_ffi.specs.declared.answer.SomeFrame.{SomeFrame}
 use Rattle.psci_ffi.specs.Readers.{children_read, cores_read, granted_read, halting_read}
 use Rattle.psci_ffi.specs.Readers.{height_read}
 use Rattle.psci_ffi.specs.Readers.{hw_read, known_read, life_read, nodes_read, outstanding_read}

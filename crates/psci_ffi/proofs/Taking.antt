@@ -1,10 +1,10 @@
 -- What follows from a frame that was read, and from an acknowledgement that was taken.
-use Rattle.std.proofs.Common.{◌≡◌, ◌∙◌, ap, ℕ}
+use Rattle.std.proofs.Common.{◌≡◌, ◌∙◌, ap, sym, ℕ}
 use mathlib.Core.Path.{subst}
 use Rattle.std.specs.Prelude.{Result, Ok, Err}
 use Rattle.psci_board.specs.Board.{BoardValue}
 use Rattle.psci_fw.specs.Seen.{seen}
-use Rattle.psci_status.specs.Polled.{IsWrittenFrom, PolledView}
+use Rattle.psci_status.specs.Polled.{IsNext, PolledView}
 use Rattle.psci_fw_spec.specs.declared.call.FwCall.TheVariants as calls
 use Rattle.psci_fw_spec.specs.declared.reply.FwReply.{FwReply}
 use Rattle.psci_fw_spec.specs.declared.reply.FwReply.TheVariants as replies
@@ -58,20 +58,19 @@ taken-by b v a t said = ap reply_taken said
 pub is-taken : (f g : PolledView) (ack a : AckValue) (t : Taken) (code : ℕ)
     → ack ≡ a → code ≡ taken_code t
     → replies.Taken t ≡ answer f.firmware.board (seen f.firmware) 0 (calls.Take ack)
-    → seen g.firmware
-    ≡ after f.firmware.board 0 (calls.Take ack) (replies.Taken t) (seen f.firmware)
-    → g.firmware.board ≡ f.firmware.board → g.table ≡ f.table → IsWrittenFrom f g
+    → IsNext f 0 (calls.Take ack) g
     → IsTaken a code f g
-is-taken f g ack a t code same number said left board kept wrote =
+is-taken f g ack a t code same number said next =
     let b = f.firmware.board in
     let v = seen f.firmware in
     let taken = taken-by b v ack t said ∙ ap (taken_by v) same in
     record {
       answer = number ∙ ap taken_code taken;
-      after = left
+      after = next.values
+          ∙ (ap (λ r. after b 0 (calls.Take ack) r v) (sym said)
           ∙ (ap (λ x. after b 0 (calls.Take x) (replies.Taken t) v) same
-          ∙ ap (λ r. after b 0 (calls.Take a) (replies.Taken r) v) taken);
-      board = board;
-      table = kept;
-      written = wrote;
+          ∙ ap (λ r. after b 0 (calls.Take a) (replies.Taken r) v) taken));
+      board = next.board;
+      table = next.table;
+      written = next.written;
     }

@@ -11,11 +11,11 @@ use Rattle.psci_fw_spec.specs.declared.reply.FwReply.{FwReply}
 use Rattle.psci_fw_spec.specs.After.{after}
 use Rattle.psci_fw_spec.specs.Answer.{answer}
 use Rattle.psci_platform.specs.declared.asked.Asked.TheVariants.{Nothing}
-use Rattle.psci_status.specs.Polled.{IsWrittenFrom, PolledView}
+use Rattle.psci_status.specs.Polled.{IsNext, IsWrittenFrom, PolledView}
 use Rattle.psci_ffi.specs.MachineCalls.{IsCalledIn, IsToldBy, asked_in, asked_shown, nothing_asked}
 use Rattle.psci_ffi.specs.MachineCalls.{regs_in}
 use Rattle.psci_ffi.specs.MachineSlot.{KeptMachine}
-use Rattle.psci_ffi.specs.Shown.{IsNext, IsSameIf, IsTold, act_shown, no_frame, shown}
+use Rattle.psci_ffi.specs.Shown.{IsSameIf, IsTold, act_shown, no_frame, shown}
 use Rattle.psci_ffi.specs.Slot.{Kept}
 
 -- a firmware that returns a code tells it

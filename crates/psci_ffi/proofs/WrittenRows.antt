@@ -20,12 +20,12 @@ use Rattle.psci_messages.specs.declared.kind.Kind.TheVariants as kinds
 use Rattle.psci_messages.specs.declared.start.Cause.TheVariants as causes
 use Rattle.psci_messages.specs.Message.{AckValue}
 use Rattle.psci_status.specs.Lists.{row}
-use Rattle.psci_status.specs.Polled.{IsWrittenFrom}
+use Rattle.psci_status.specs.Polled.{IsNext, IsWrittenFrom}
 use Rattle.psci_status.specs.Writing.{written_then}
 use Rattle.psci_status.proofs.Calls.{Step, board, boots, computing, enters, history, off, on}
 use Rattle.psci_ffi.specs.Codes.{taken_code}
 use Rattle.psci_ffi.specs.Frames.{IsTaken}
-use Rattle.psci_ffi.specs.Shown.{IsNew, IsNext}
+use Rattle.psci_ffi.specs.Shown.{IsNew}
 use Rattle.psci_ffi.proofs.PollerRows.{Rows, asked-rows, table, view}
 
 -- A new firmware ------------------------------------------------------------------------------

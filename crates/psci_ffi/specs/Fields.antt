@@ -1,5 +1,5 @@
 -- A frame as C reads and writes it: a struct of its fields.
-use Rattle.std.specs.Prelude.{◌≡◌, true, ℕ, ◌+◌, ◌&&◌, ◌==◌, Bool, List, [], ◌∷◌, length, map, take}
+use Rattle.std.specs.Prelude.{◌≡◌, true, ℕ, ◌&&◌, ◌==◌, Bool, List, [], ◌∷◌, length, map, take}
 use Rattle.std.specs.Prelude.{Option, None, Some, option_and_then, nat_lt, nat_le, slice_get}
 use Rattle.std.specs.Prelude.{if◌then◌else◌}
 use Rattle.psci_messages.specs.declared.part.Part.{Part}

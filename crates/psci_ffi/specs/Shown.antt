@@ -14,7 +14,6 @@ use Rattle.psci_fw_spec.specs.declared.outcome.Act.TheVariants.{Return, Stop, En
 use Rattle.psci_fw_spec.specs.declared.reply.FwReply.{FwReply}
 use Rattle.psci_fw_spec.specs.declared.reply.FwReply.TheVariants.{Out, Taken, Fault}
 use Rattle.psci_fw_spec.specs.declared.status.Status.TheVariants.{Off}
-use Rattle.psci_fw_spec.specs.After.{after}
 use Rattle.psci_fw_spec.specs.Answer.{answer}
 use Rattle.psci_fw_spec.specs.Lives.{start_of_life}
 use Rattle.psci_fw_spec.specs.Outcomes.{returns}
@@ -24,7 +23,7 @@ use Rattle.psci_messages.specs.Message.{MessageValue}
 use Rattle.psci_ffi.specs.declared.answer.Answer.{Answer}
 use Rattle.psci_ffi.specs.declared.answer.SomeFrame.{SomeFrame}
 use Rattle.psci_ffi.specs.Codes.{cause_said, no_cause, no_firmware, refusal}
-use Rattle.psci_status.specs.Polled.{IsWrittenFrom, PolledView}
+use Rattle.psci_status.specs.Polled.{IsNext, PolledView}
 use Rattle.psci_ffi.specs.Slot.{Kept}
 
 -- Answers --------------------------------------------------------------------------------------
@@ -75,14 +74,6 @@ abbrev pub answered : Kept → ℕ → Option FwCall → Answer
 answered k c None = refused no_cause
 answered None c (Some call) = refused no_firmware
 answered (Some f) c (Some call) = shown (answer f.firmware.board (seen f.firmware) c call)
-
--- the firmware after a call is this, and what the call changed of the statuses is written
-pub record IsNext (f : PolledView) (c : ℕ) (call : FwCall) (g : PolledView) : Type 0 where
-  pub board : g.firmware.board ≡ f.firmware.board
-  pub values : seen g.firmware ≡ after f.firmware.board c call
-      (answer f.firmware.board (seen f.firmware) c call) (seen f.firmware)
-  pub table : g.table ≡ f.table
-  pub written : IsWrittenFrom f g
 
 -- a call of these registers is answered this code, and changes nothing
 pub record IsTold (f : PolledView) (c : ℕ) (regs : Regs) (code : Code) : Type 0 where

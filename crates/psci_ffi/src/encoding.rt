@@ -74,11 +74,10 @@ fn message_given(kind: Kind, fields: &Fields) -> Option<Message>
     if !has_parts(kind, parts.as_slice()) {
         return None;
     }
+    let number = fields.core;
     Some(Message {
         kind,
-        core: Core {
-            number: fields.core,
-        },
+        core: Core { number },
         life: fields.life,
         number: fields.number,
         parts,

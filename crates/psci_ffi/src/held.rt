@@ -35,18 +35,17 @@ impl Model for Held {
 ghost use Rattle.std.specs.Prelude.{◌≡◌, ℕ, IfOk, IfSome, OnErr, option_map};
 ghost use Rattle.psci_fw.specs.Reactions.{reply_in, sent_from};
 ghost use Rattle.psci_fw.specs.Seen.{hw_shown, life_shown, seen, status_shown};
-ghost use Rattle.psci_fw_spec.specs.After.{after};
 ghost use Rattle.psci_fw_spec.specs.Answer.{answer};
 ghost use Rattle.psci_fw_spec.specs.Phases.{is_running};
 ghost use Rattle.psci_fw_spec.specs.declared.call.FwCall.TheVariants as calls;
 ghost use Rattle.psci_fw_spec.specs.declared.reply.FwReply.TheVariants as replies;
 ghost use Rattle.psci_fw_state.specs.Seen.{message_shown};
 ghost use Rattle.psci_messages.specs.Message.{AckValue, MessageValue};
-ghost use Rattle.psci_status.specs.Polled.{IsWrittenFrom};
+ghost use Rattle.psci_status.specs.Polled.{IsNext};
 ghost use Rattle.psci_status.specs.Seats.{table, table_of_reader, seen as seen_by};
 ghost use Rattle.psci_status.specs.Lists.{newest};
 ghost use Rattle.psci_ffi.specs.Frames.{IsAcknowledged, IsFaulty, IsMisplaced};
-ghost use Rattle.psci_ffi.specs.Shown.{IsNew, IsNext, IsTold};
+ghost use Rattle.psci_ffi.specs.Shown.{IsNew, IsTold};
 ghost use Rattle.psci_ffi.specs.Watching.{IsWatchOf};
 
 use crate::codes::{NOT_AN_ACK, frame_code, taken_code};
@@ -145,11 +144,7 @@ impl Held {
     fn take_ack(&mut self, ack: Ack) -> Taken
         ensures answer { (c : ℕ) → replies.Taken result ≡ answer self.old.firmware.board
             (seen self.old.firmware) c (calls.Take ack) }
-        ensures after { (c : ℕ) → seen self.new.firmware ≡ after self.old.firmware.board c
-            (calls.Take ack) (replies.Taken result) (seen self.old.firmware) }
-        ensures board { self.new.firmware.board ≡ self.old.firmware.board }
-        ensures table { self.new.table ≡ self.old.table }
-        ensures written { IsWrittenFrom self.old self.new }
+        ensures next { (c : ℕ) → IsNext self.old c (calls.Take ack) self.new }
     {
         let Held { common, polled } = self;
         polled.take(&common.words, ack)

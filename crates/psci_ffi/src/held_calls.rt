@@ -3,14 +3,13 @@
 ghost use Rattle.std.specs.Prelude.{◌≡◌, true};
 ghost use Rattle.psci_fw.specs.Asking.{may_call};
 ghost use Rattle.psci_fw.specs.Reactions.{outcome_in};
-ghost use Rattle.psci_fw.specs.Read.{IsOnOf, IsSuspendOf};
+ghost use Rattle.psci_fw.specs.Read.{CallsOn, CallsSuspend};
 ghost use Rattle.psci_fw.specs.Seen.{seen};
 ghost use Rattle.psci_fw_spec.specs.declared.call.FwCall.TheVariants.{Smc};
 ghost use Rattle.psci_fw_spec.specs.declared.reply.FwReply.TheVariants.{Out};
 ghost use Rattle.psci_fw_spec.specs.Answer.{answer};
-ghost use Rattle.psci_status.specs.Polled.{IsWrittenFrom};
+ghost use Rattle.psci_status.specs.Polled.{IsNext, IsWrittenFrom};
 ghost use Rattle.psci_ffi.specs.Named.{NamesCore};
-ghost use Rattle.psci_ffi.specs.Shown.{IsNext};
 
 use crate::held::Held;
 use psci_board::Core;
@@ -44,8 +43,7 @@ impl Held {
     /// `Firmware::on_in_slot`.
     #[inline(always)]
     pub fn on(&mut self, core: Core, regs: Regs, target: Core) -> Reaction
-        requires call { may_call self.old.firmware core.number ≡ true }
-        requires on { IsOnOf self.old.firmware.board regs target }
+        requires { CallsOn self.old.firmware core.number regs target }
         ensures answer { Out
             (outcome_in self.new.firmware.board (seen self.new.firmware) result)
             ≡ answer self.old.firmware.board (seen self.old.firmware) core.number (Smc regs) }
@@ -58,8 +56,7 @@ impl Held {
     /// `Firmware::suspend_in_slot`.
     #[inline(always)]
     pub fn suspend(&mut self, core: Core, regs: Regs, ask: Ask) -> Reaction
-        requires call { may_call self.old.firmware core.number ≡ true }
-        requires suspend { IsSuspendOf self.old.firmware.board regs ask }
+        requires { CallsSuspend self.old.firmware core.number regs ask }
         ensures answer { Out
             (outcome_in self.new.firmware.board (seen self.new.firmware) result)
             ≡ answer self.old.firmware.board (seen self.old.firmware) core.number (Smc regs) }

@@ -34,6 +34,20 @@ pub struct MachineAsked {
 // The size that psci.h gives it.
 const _: () = prove!(size_of::<MachineAsked>() == 12);
 
+impl MachineAsked {
+    /// What is asked, by its number and the states or the reset type.
+    #[inline(always)]
+    fn of(what: u32, states: [u8; 4], reset: u32) -> MachineAsked
+        ensures { result ≡ record { what = what; states = states; reset = reset } }
+    {
+        MachineAsked {
+            what,
+            states,
+            reset,
+        }
+    }
+}
+
 /// A secure monitor call of a core with these registers, in the words of the machine: the call of
 /// `psci_smc` with the registers that stand for them in the mode that the firmware is in. Beside
 /// the answer it is told which of the machine's states, or which reset of the vendor, the caller
@@ -250,20 +264,8 @@ pub fn asked_shown(asked: Asked) -> MachineAsked
     ensures { result ≡ asked_shown asked }
 {
     match asked {
-        Asked::Nothing => MachineAsked {
-            what: 0,
-            states: [0; 4],
-            reset: 0,
-        },
-        Asked::States(states) => MachineAsked {
-            what: 1,
-            states,
-            reset: 0,
-        },
-        Asked::Reset(reset) => MachineAsked {
-            what: 2,
-            states: [0; 4],
-            reset,
-        },
+        Asked::Nothing => MachineAsked::of(0, [0; 4], 0),
+        Asked::States(states) => MachineAsked::of(1, states, 0),
+        Asked::Reset(reset) => MachineAsked::of(2, [0; 4], reset),
     }
 }

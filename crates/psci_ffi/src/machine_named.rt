@@ -2,16 +2,18 @@
 //! firmware reads it, so that the firmware does not read it again.
 
 ghost use Rattle.std.specs.Prelude.{◌≡◌, None, Some, IfSome, true};
+ghost use Rattle.psci_abi.specs.Calls.{low_half};
 ghost use Rattle.psci_fw.specs.Reactions.{outcome_in};
 ghost use Rattle.psci_fw.specs.Seen.{seen};
 ghost use Rattle.psci_fw_spec.specs.declared.call.FwCall.TheVariants.{Smc};
 ghost use Rattle.psci_fw_spec.specs.declared.mode.SuspendMode.{SuspendMode};
 ghost use Rattle.psci_fw_spec.specs.declared.reply.FwReply.TheVariants.{Out};
 ghost use Rattle.psci_platform.specs.declared.asked.Asked.TheVariants.{Nothing};
-ghost use Rattle.psci_platform.specs.Kept.{Asks, IsOnCall};
+ghost use Rattle.psci_platform.specs.Kept.{Asks, IsOnCall, is_on, is_suspend};
 ghost use Rattle.psci_ffi.specs.MachineCalls.{IsCalledIn, asked_in, asked_shown};
 ghost use Rattle.psci_ffi.specs.MachineCalls.{regs_given, regs_in};
-ghost use Rattle.psci_ffi.specs.MachineNamed.{AsksOn, IsCalled, MaySuspend, MayTurnOn};
+ghost use Rattle.psci_ffi.specs.MachineNamed.{AsksOn, IsCalled, MayAskSuspend};
+ghost use Rattle.psci_ffi.specs.MachineNamed.{MayTurnOn};
 ghost use Rattle.psci_ffi.specs.Shown.{shown};
 
 use crate::answer::{Answer, returned, write_answer};
@@ -27,12 +29,16 @@ use psci_platform::{Asked, Call, Platform, SuspendMode};
 use psci_state::Ask;
 
 /// Whether a function word is that of CPU_SUSPEND.
-pub fn names_state(x0: u64) -> bool {
+pub fn names_state(x0: u64) -> bool
+    ensures { result ≡ is_suspend (low_half x0) }
+{
     matches!(low(x0), CPU_SUSPEND_32 | CPU_SUSPEND_64)
 }
 
 /// Whether a function word is that of CPU_ON.
-pub fn names_core(x0: u64) -> bool {
+pub fn names_core(x0: u64) -> bool
+    ensures { result ≡ is_on (low_half x0) }
+{
     matches!(low(x0), CPU_ON_32 | CPU_ON_64)
 }
 
@@ -202,7 +208,7 @@ fn suspend_of(machine: &Platform, mode: SuspendMode, regs: Regs) -> Option<KeptS
 fn may_suspend(place: &mut Place, core: u16, kept: &KeptSuspend) -> bool
     ensures may { result ≡ true
         → AsksOn kept.now.format kept.now.height kept.now.call.regs kept.now.ask
-        → MaySuspend place.old.slot.kept core kept.now.call.regs kept.now.ask }
+        → MayAskSuspend place.old.slot.kept core kept.now.call.regs kept.now.ask }
     ensures same { place.new.slot.kept ≡ place.old.slot.kept }
 {
     if !place.full {
@@ -226,7 +232,7 @@ fn is_read_alike(board: &Board, kept: &KeptSuspend) -> bool
 /// A CPU_SUSPEND that asks this.
 #[inline(always)]
 fn suspend(place: &mut Place, core: u16, kept: KeptSuspend, answer: &mut Answer)
-    requires { MaySuspend place.old.slot.kept core kept.call.regs kept.ask }
+    requires { MayAskSuspend place.old.slot.kept core kept.call.regs kept.ask }
     ensures { IsCalled place.old.slot.kept core (Smc kept.call.regs) answer.new
         place.new.slot.kept }
 {
@@ -239,7 +245,7 @@ fn suspend(place: &mut Place, core: u16, kept: KeptSuspend, answer: &mut Answer)
 /// A CPU_SUSPEND by a word that is no power state.
 #[inline(always)]
 fn refuse_suspend(place: &mut Place, core: u16, regs: Regs, answer: &mut Answer)
-    requires { MaySuspend place.old.slot.kept core regs None }
+    requires { MayAskSuspend place.old.slot.kept core regs None }
     ensures { IsCalled place.old.slot.kept core (Smc regs) answer.new place.new.slot.kept }
 {
     law_no_power_state();
@@ -252,7 +258,7 @@ fn refuse_suspend(place: &mut Place, core: u16, regs: Regs, answer: &mut Answer)
 /// A CPU_SUSPEND with this ask.
 #[inline(always)]
 fn sleep(place: &mut Place, core: u16, regs: Regs, ask: Ask, answer: &mut Answer)
-    requires { MaySuspend place.old.slot.kept core regs (Some ask) }
+    requires { MayAskSuspend place.old.slot.kept core regs (Some ask) }
     ensures { IsCalled place.old.slot.kept core (Smc regs) answer.new place.new.slot.kept }
 {
     let held = place.slot.held();

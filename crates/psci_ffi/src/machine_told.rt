@@ -5,6 +5,7 @@ ghost use Rattle.psci_fw_spec.specs.declared.mode.SuspendMode.{SuspendMode};
 ghost use Rattle.psci_fw_spec.specs.declared.outcome.Act.TheVariants.{Return};
 ghost use Rattle.psci_ffi.specs.MachineCalls.{IsCalledIn, IsToldBy, asked_in, nothing_asked};
 ghost use Rattle.psci_ffi.specs.MachineCalls.{regs_in};
+ghost use Rattle.psci_ffi.specs.MachineNamed.{is_node_word};
 ghost use Rattle.psci_platform.specs.declared.asked.Asked.TheVariants.{Nothing};
 ghost use Rattle.psci_ffi.specs.Shown.{act_shown, no_frame};
 
@@ -55,7 +56,9 @@ fn asks_at_once(place: &mut MachinePlace, regs: Regs, is_node: bool) -> Option<R
 }
 
 /// Whether a function word is that of AFFINITY_INFO.
-pub fn names_node(x0: u64) -> bool {
+pub fn names_node(x0: u64) -> bool
+    ensures { result ≡ is_node_word x0 }
+{
     x0 & 0xbfff_ffff == u64::from(AFFINITY_INFO_32)
 }
 

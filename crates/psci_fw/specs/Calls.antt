@@ -18,6 +18,13 @@ use Rattle.psci_fw_spec.specs.Values.{Values}
 use Rattle.psci_fw_state.specs.Seen.{StateValue, values_in}
 use Rattle.psci_fw.specs.Seen.{FirmwareValue, seen}
 
+-- a core calls: it is running, in a state such as a firmware keeps
+pub record IsCaller (s : StateValue) (core : ℕ) : Type 0 where
+  pub board : IsBoard s.board
+  pub values : AreValues s.board (values_in s)
+  pub inside : core < cores s.board
+  pub running : (values_in s).phase core ≡ Running
+
 -- a core may call a function: it is running, in a life that is not halting
 pub record MayCall (s : StateValue) (c : ℕ) : Type 0 where
   pub board : IsBoard s.board

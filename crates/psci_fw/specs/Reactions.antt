@@ -9,7 +9,7 @@ use Rattle.psci_fw_spec.specs.declared.outcome.Outcome.{Outcome}
 use Rattle.psci_fw_spec.specs.declared.reply.FwReply.{FwReply}
 use Rattle.psci_fw_spec.specs.declared.reply.FwReply.TheVariants.{Out, Fault}
 use Rattle.psci_fw_spec.specs.Values.{Values}
-use Rattle.psci_fw_state.specs.Seen.{message_shown}
+use Rattle.psci_fw_state.specs.Seen.{StateValue, message_shown, values_in}
 use Rattle.psci_fw.specs.declared.reaction.Reaction.{Reaction}
 
 -- the number of a slot: that of its core, or for the system the number of cores
@@ -38,3 +38,9 @@ reply_in b v (Err fault) = Fault fault
 -- a slot is named exactly where it has what is sent, and it is the slot of that message
 abbrev pub IsInItsSlot : BoardValue → Values → Reaction → Type 0
 IsInItsSlot b v r = r.slot ≡ option_map (slot_number b) (sent_from b v r.slot)
+
+-- a reaction came of a call that left this state: its message stands in its slot, and the board is
+-- the one that it was
+pub record IsReaction (old new : StateValue) (r : Reaction) : Type 0 where
+  pub slot : IsInItsSlot new.board (values_in new) r
+  pub board : new.board ≡ old.board

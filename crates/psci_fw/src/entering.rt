@@ -1,15 +1,14 @@
 //! The entry of a started core: it goes on, or stops.
 
 ghost use Rattle.std.specs.Prelude.{◌≡◌, ◌<◌, MatchResult, None, Some};
-ghost use Rattle.psci_board.specs.Board.{IsBoard, cores};
+ghost use Rattle.psci_board.specs.Board.{cores};
 ghost use Rattle.psci_fw_spec.specs.After.{change};
 ghost use Rattle.psci_fw_spec.specs.Effects.{enter_effect};
 ghost use Rattle.psci_fw_spec.specs.Entering.{enter_fault, enter_outcome, is_old, resumes};
-ghost use Rattle.psci_fw_spec.specs.Invariant.{AreValues};
 ghost use Rattle.psci_fw_spec.specs.Lives.{in_life};
 ghost use Rattle.psci_fw_state.specs.Seen.{values_in};
-ghost use Rattle.psci_fw.specs.Reactions.{IsInItsSlot, outcome_in};
-ghost use Rattle.psci_fw.specs.Seen.{IsFresh};
+ghost use Rattle.psci_fw.specs.Reactions.{IsReaction, outcome_in};
+ghost use Rattle.psci_fw.specs.Seen.{IsFirmware, IsFresh};
 ghost use Rattle.psci_fw.specs.Ways.{way_on};
 
 use crate::laws::{law_fresh, law_may_claim};
@@ -51,17 +50,14 @@ fn is_old(state: &State, core: Core, start: Start) -> bool
 /// opening, resumes after its suspend, or parks. A start of another life begins that life first.
 /// Compiled once for each `A`.
 pub fn enter<A>(state: &mut State, core: Core, start: Start) -> Reaction
-    requires board { IsBoard state.old.board }
-    requires values { AreValues state.old.board (values_in state.old) }
-    requires fresh { IsFresh state.old.board (values_in state.old) }
+    requires firmware { IsFirmware state.old }
     requires fault { enter_fault state.old.board (values_in state.old) core.number start ≡ None }
     ensures answer { outcome_in state.new.board (values_in state.new) result
         ≡ enter_outcome state.old.board (values_in state.old) core.number start }
-    ensures slot { IsInItsSlot state.new.board (values_in state.new) result }
+    ensures reaction { IsReaction state.old state.new result }
     ensures after { let outcome = outcome_in state.new.board (values_in state.new) result in
         values_in state.new ≡ change state.old.board (enter_effect core.number start
         outcome.act outcome.message) (values_in state.old) }
-    ensures board { state.new.board ≡ state.old.board }
 {
     law_may_claim();
     law_stops();

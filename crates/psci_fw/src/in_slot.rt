@@ -6,7 +6,7 @@ ghost use Rattle.psci_abi.specs.declared.registers.Regs.{Regs};
 ghost use Rattle.psci_fw.specs.Asking.{may_call};
 ghost use Rattle.psci_fw.specs.Calls.{IsReturned};
 ghost use Rattle.psci_fw.specs.Reactions.{IsInItsSlot, outcome_in};
-ghost use Rattle.psci_fw.specs.Read.{IsNoSuspend, IsOnOf, IsSuspendOf};
+ghost use Rattle.psci_fw.specs.Read.{CallsOn, CallsSuspend, IsNoSuspend};
 ghost use Rattle.psci_fw.specs.Seen.{FirmwareValue, seen};
 ghost use Rattle.psci_fw_spec.specs.declared.call.FwCall.TheVariants.{Smc};
 ghost use Rattle.psci_fw_spec.specs.declared.reply.FwReply.TheVariants.{Out};
@@ -34,8 +34,7 @@ impl Firmware {
     /// so.
     #[inline(always)]
     pub fn on_in_slot(&mut self, core: Core, regs: Regs, target: Core) -> Reaction
-        requires call { may_call self.old core.number ≡ true }
-        requires on { IsOnOf self.old.board regs target }
+        requires { CallsOn self.old core.number regs target }
         ensures answer { Out (outcome_in self.new.board (seen self.new) result)
             ≡ answer self.old.board (seen self.old) core.number (Smc regs) }
         ensures slot { IsInItsSlot self.new.board (seen self.new) result }
@@ -52,8 +51,7 @@ impl Firmware {
     /// so.
     #[inline(always)]
     pub fn suspend_in_slot(&mut self, core: Core, regs: Regs, ask: Ask) -> Reaction
-        requires call { may_call self.old core.number ≡ true }
-        requires suspend { IsSuspendOf self.old.board regs ask }
+        requires { CallsSuspend self.old core.number regs ask }
         ensures answer { Out (outcome_in self.new.board (seen self.new) result)
             ≡ answer self.old.board (seen self.old) core.number (Smc regs) }
         ensures slot { IsInItsSlot self.new.board (seen self.new) result }

@@ -4,7 +4,7 @@ ghost use Rattle.std.specs.Prelude.{◌≡◌};
 ghost use Rattle.psci_abi.specs.declared.request.Request.TheVariants.{SetSuspendMode};
 ghost use Rattle.psci_fw_spec.specs.SuspendMode.{may_set, mode_of};
 ghost use Rattle.psci_fw.specs.Calls.{FunctionAnswered, MayCall};
-ghost use Rattle.psci_fw.specs.Reactions.{IsInItsSlot, outcome_in};
+ghost use Rattle.psci_fw.specs.Reactions.{IsReaction, outcome_in};
 ghost use Rattle.psci_fw_state.specs.Seen.{values_in};
 
 use crate::reaction::Reaction;
@@ -19,8 +19,7 @@ pub fn set_suspend_mode(state: &mut State, caller: Core, number: u32) -> Reactio
     ensures answer { FunctionAnswered state.old.board (values_in state.old) caller.number
         (SetSuspendMode number) (outcome_in state.new.board (values_in state.new) result)
         (values_in state.new) }
-    ensures slot { IsInItsSlot state.new.board (values_in state.new) result }
-    ensures board { state.new.board ≡ state.old.board }
+    ensures reaction { IsReaction state.old state.new result }
 {
     let Some(mode) = mode_of(number) else {
         return Reaction::returns(Code::INVALID_PARAMETERS);

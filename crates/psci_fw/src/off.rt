@@ -1,16 +1,14 @@
 //! CPU_OFF, and what a core sends that stops.
 
-ghost use Rattle.std.specs.Prelude.{◌≡◌, ◌<◌};
+ghost use Rattle.std.specs.Prelude.{◌≡◌};
 ghost use Rattle.psci_abi.specs.declared.request.Request.TheVariants.{CpuOff};
-ghost use Rattle.psci_board.specs.Board.{cores};
 ghost use Rattle.psci_messages.specs.declared.kind.Kind.TheVariants as kinds;
-ghost use Rattle.psci_messages.specs.Message.{AreClaims};
 ghost use Rattle.psci_fw_spec.specs.Changes.{with_claims};
 ghost use Rattle.psci_fw_spec.specs.Outcomes.{message_for, stops_with};
-ghost use Rattle.psci_fw_state.specs.Claims.{MayClaim};
+ghost use Rattle.psci_fw_state.specs.Claims.{IsGrantable};
 ghost use Rattle.psci_fw_state.specs.Wishes.{wished_in};
 ghost use Rattle.psci_fw.specs.Calls.{FunctionAnswered, MayCall};
-ghost use Rattle.psci_fw.specs.Reactions.{IsInItsSlot, outcome_in};
+ghost use Rattle.psci_fw.specs.Reactions.{IsReaction, outcome_in};
 ghost use Rattle.psci_fw_state.specs.Seen.{values_in};
 
 use crate::laws::law_may_claim;
@@ -24,8 +22,7 @@ pub fn cpu_off(state: &mut State, caller: Core) -> Reaction
     requires { MayCall state.old caller.number }
     ensures answer { FunctionAnswered state.old.board (values_in state.old) caller.number CpuOff
         (outcome_in state.new.board (values_in state.new) result) (values_in state.new) }
-    ensures slot { IsInItsSlot state.new.board (values_in state.new) result }
-    ensures board { state.new.board ≡ state.old.board }
+    ensures reaction { IsReaction state.old state.new result }
 {
     law_stops();
     law_may_claim();
@@ -38,18 +35,15 @@ pub fn cpu_off(state: &mut State, caller: Core) -> Reaction
 /// Compiled into its callers, so that a reaction is never written to memory.
 #[inline(always)]
 pub fn send_down(state: &mut State, core: Core, wish: &Wish) -> Reaction
-    requires inside { core.number < cores state.old.board }
-    requires claim { AreClaims (wished_in state.old core.number wish.now) }
-    requires may { MayClaim state.old.board core.number (wished_in state.old core.number wish.now)
+    requires { IsGrantable state.old.board core.number (wished_in state.old core.number wish.now)
         (values_in state.old).granted }
     ensures answer { outcome_in state.new.board (values_in state.new) result
         ≡ stops_with (message_for (values_in state.old) kinds.Down core.number
         (wished_in state.old core.number wish.now)) }
-    ensures slot { IsInItsSlot state.new.board (values_in state.new) result }
+    ensures reaction { IsReaction state.old state.new result }
     ensures after { values_in state.new ≡ with_claims state.old.board
         (message_for (values_in state.old) kinds.Down core.number
         (wished_in state.old core.number wish.now)) (values_in state.old) }
-    ensures board { state.new.board ≡ state.old.board }
 {
     state.claim(core, wish);
     Reaction::stops_with(core.number)

@@ -5,7 +5,7 @@ ghost use Rattle.psci_abi.specs.declared.request.Request.TheVariants.{CpuOn};
 ghost use Rattle.psci_board.specs.Board.{core_of, cores};
 ghost use Rattle.psci_fw_spec.specs.CpuOn.{target_of};
 ghost use Rattle.psci_fw.specs.Calls.{FunctionAnswered, MayCall};
-ghost use Rattle.psci_fw.specs.Reactions.{IsInItsSlot, outcome_in};
+ghost use Rattle.psci_fw.specs.Reactions.{IsReaction, outcome_in};
 ghost use Rattle.psci_fw_state.specs.Seen.{values_in};
 
 use crate::reaction::Reaction;
@@ -22,8 +22,7 @@ pub fn cpu_on(state: &mut State, caller: Core, target: u64, opening: Opening) ->
     ensures answer { FunctionAnswered state.old.board (values_in state.old) caller.number
         (CpuOn target opening.address opening.context)
         (outcome_in state.new.board (values_in state.new) result) (values_in state.new) }
-    ensures slot { IsInItsSlot state.new.board (values_in state.new) result }
-    ensures board { state.new.board ≡ state.old.board }
+    ensures reaction { IsReaction state.old state.new result }
 {
     let Some(core) = state.board().core_of(target) else {
         return Reaction::returns(Code::INVALID_PARAMETERS);
@@ -41,8 +40,7 @@ pub fn start(state: &mut State, caller: Core, target: u64, core: Core, opening: 
     ensures answer { FunctionAnswered state.old.board (values_in state.old) caller.number
         (CpuOn target opening.address opening.context)
         (outcome_in state.new.board (values_in state.new) result) (values_in state.new) }
-    ensures slot { IsInItsSlot state.new.board (values_in state.new) result }
-    ensures board { state.new.board ≡ state.old.board }
+    ensures reaction { IsReaction state.old state.new result }
 {
     let _caller = caller;
     let core = match check_target(state, target, core, opening.address) {

@@ -1,20 +1,16 @@
 //! The functions that a running core calls.
 
-ghost use Rattle.std.specs.Prelude.{◌≡◌, ◌<◌};
+ghost use Rattle.std.specs.Prelude.{◌≡◌};
 ghost use Rattle.psci_abi.specs.Calls.{features_of, request_of};
-ghost use Rattle.psci_board.specs.Board.{IsBoard, cores};
 ghost use Rattle.psci_fw_spec.specs.AffinityInfo.{affinity_info};
 ghost use Rattle.psci_fw_spec.specs.After.{change};
 ghost use Rattle.psci_fw_spec.specs.Calls.{outcome_of};
 ghost use Rattle.psci_fw_spec.specs.Effects.{function_effect};
-ghost use Rattle.psci_fw_spec.specs.Invariant.{AreValues};
-ghost use Rattle.psci_fw_spec.specs.Phases.{Running};
 ghost use Rattle.psci_fw.specs.Asking.{code_asked};
-ghost use Rattle.psci_fw.specs.Calls.{FunctionAnswered, MayCall};
-ghost use Rattle.psci_fw.specs.Reactions.{IsInItsSlot, outcome_in};
+ghost use Rattle.psci_fw.specs.Calls.{FunctionAnswered, IsCaller, MayCall};
+ghost use Rattle.psci_fw.specs.Reactions.{IsReaction, outcome_in};
 ghost use Rattle.psci_fw.specs.Read.{IsOnOf, IsSuspendOf};
 ghost use Rattle.psci_fw_state.specs.Seen.{values_in};
-ghost use Rattle.psci_state.specs.Ask.{IsAsk};
 
 use crate::affinity::affinity_info;
 use crate::hw::node_hw_state;
@@ -40,17 +36,13 @@ const NO_MIGRATION: Code = Code(2);
 /// is for the compiler, as it is below: this is compiled once for each.
 #[tactic(auto, unfolding(psci_fw_spec::specs::Calls::outcome_of))]
 pub fn dispatch<A>(state: &mut State, caller: Core, regs: Regs) -> Reaction
-    requires board { IsBoard state.old.board }
-    requires values { AreValues state.old.board (values_in state.old) }
-    requires inside { caller.number < cores state.old.board }
-    requires running { (values_in state.old).phase caller.number ≡ Running }
+    requires { IsCaller state.old caller.number }
     ensures answer { outcome_in state.new.board (values_in state.new) result
         ≡ outcome_of state.old.board (values_in state.old) caller.number (request_of regs) }
-    ensures slot { IsInItsSlot state.new.board (values_in state.new) result }
+    ensures reaction { IsReaction state.old state.new result }
     ensures after { let outcome = outcome_in state.new.board (values_in state.new) result in
         values_in state.new ≡ change state.old.board (function_effect state.old.board caller.number
         (request_of regs) outcome.act outcome.message) (values_in state.old) }
-    ensures board { state.new.board ≡ state.old.board }
 {
     if state.halting() {
         state.set_away(caller);
@@ -67,11 +59,10 @@ pub fn turn_on(state: &mut State, caller: Core, regs: Regs, target: Core) -> Rea
     requires on { IsOnOf state.old.board regs target }
     ensures answer { outcome_in state.new.board (values_in state.new) result
         ≡ outcome_of state.old.board (values_in state.old) caller.number (request_of regs) }
-    ensures slot { IsInItsSlot state.new.board (values_in state.new) result }
+    ensures reaction { IsReaction state.old state.new result }
     ensures after { let outcome = outcome_in state.new.board (values_in state.new) result in
         values_in state.new ≡ change state.old.board (function_effect state.old.board caller.number
         (request_of regs) outcome.act outcome.message) (values_in state.old) }
-    ensures board { state.new.board ≡ state.old.board }
 {
     let opening = opening(regs.argument(regs.x2), regs.argument(regs.x3));
     start(state, caller, regs.argument(regs.x1), target, opening)
@@ -83,14 +74,12 @@ pub fn turn_on(state: &mut State, caller: Core, regs: Regs, target: Core) -> Rea
 pub fn suspend_with(state: &mut State, caller: Core, regs: Regs, ask: Ask) -> Reaction
     requires call { MayCall state.old caller.number }
     requires suspend { IsSuspendOf state.old.board regs ask }
-    requires shape { IsAsk ask }
     ensures answer { outcome_in state.new.board (values_in state.new) result
         ≡ outcome_of state.old.board (values_in state.old) caller.number (request_of regs) }
-    ensures slot { IsInItsSlot state.new.board (values_in state.new) result }
+    ensures reaction { IsReaction state.old state.new result }
     ensures after { let outcome = outcome_in state.new.board (values_in state.new) result in
         values_in state.new ≡ change state.old.board (function_effect state.old.board caller.number
         (request_of regs) outcome.act outcome.message) (values_in state.old) }
-    ensures board { state.new.board ≡ state.old.board }
 {
     let opening = opening(regs.argument(regs.x2), regs.argument(regs.x3));
     suspend(state, caller, low(regs.argument(regs.x1)), ask, opening)
@@ -122,8 +111,7 @@ fn function<A>(state: &mut State, caller: Core, request: Request) -> Reaction
     requires { MayCall state.old caller.number }
     ensures answer { FunctionAnswered state.old.board (values_in state.old) caller.number request
         (outcome_in state.new.board (values_in state.new) result) (values_in state.new) }
-    ensures slot { IsInItsSlot state.new.board (values_in state.new) result }
-    ensures board { state.new.board ≡ state.old.board }
+    ensures reaction { IsReaction state.old state.new result }
 {
     match request {
         Request::CpuSuspend {

@@ -3,13 +3,13 @@
 ghost use Rattle.std.specs.Prelude.{◌≡◌, ◌&&◌, not, Ok};
 ghost use Rattle.psci_abi.specs.declared.request.Request.TheVariants.{CpuSuspend};
 ghost use Rattle.psci_board.specs.Board.{may_enter};
-ghost use Rattle.psci_state.specs.Ask.{IsAsk, is_deep};
+ghost use Rattle.psci_state.specs.Ask.{is_deep};
 ghost use Rattle.psci_fw_spec.specs.Claims.{suspend_parts};
 ghost use Rattle.psci_fw_spec.specs.CpuSuspend.{ask_named, osi_code, suspend_answer};
 ghost use Rattle.psci_fw_spec.specs.Effects.{suspends};
 ghost use Rattle.psci_fw.specs.Calls.{FunctionAnswered, MayCall};
 ghost use Rattle.psci_fw.specs.Suspending.{MaySuspend, Suspends};
-ghost use Rattle.psci_fw.specs.Reactions.{IsInItsSlot, outcome_in};
+ghost use Rattle.psci_fw.specs.Reactions.{IsReaction, outcome_in};
 ghost use Rattle.psci_fw_state.specs.Seen.{values_in};
 
 use crate::laws::law_may_claim;
@@ -30,8 +30,7 @@ pub fn cpu_suspend(state: &mut State, caller: Core, word: u32, opening: Opening)
     ensures answer { FunctionAnswered state.old.board (values_in state.old) caller.number
         (CpuSuspend word opening.address opening.context)
         (outcome_in state.new.board (values_in state.new) result) (values_in state.new) }
-    ensures slot { IsInItsSlot state.new.board (values_in state.new) result }
-    ensures board { state.new.board ≡ state.old.board }
+    ensures reaction { IsReaction state.old state.new result }
 {
     let board = state.board();
     let Ok(ask) = Ask::read(word, board.format(), board.height()) else {
@@ -46,12 +45,10 @@ pub fn cpu_suspend(state: &mut State, caller: Core, word: u32, opening: Opening)
 pub fn suspend(state: &mut State, caller: Core, word: u32, ask: Ask, opening: Opening) -> Reaction
     requires call { MayCall state.old caller.number }
     requires ask { ask_named state.old.board word ≡ Ok ask }
-    requires shape { IsAsk ask }
     ensures answer { FunctionAnswered state.old.board (values_in state.old) caller.number
         (CpuSuspend word opening.address opening.context)
         (outcome_in state.new.board (values_in state.new) result) (values_in state.new) }
-    ensures slot { IsInItsSlot state.new.board (values_in state.new) result }
-    ensures board { state.new.board ≡ state.old.board }
+    ensures reaction { IsReaction state.old state.new result }
 {
     law_may_claim();
     let _word = word;
@@ -85,8 +82,7 @@ pub fn sleep(state: &mut State, core: Core, ask: Ask, opening: Opening) -> React
     ensures after { Suspends state.old.board (values_in state.old) core.number
         (suspends opening ask) (outcome_in state.new.board (values_in state.new) result)
         (values_in state.new) }
-    ensures slot { IsInItsSlot state.new.board (values_in state.new) result }
-    ensures board { state.new.board ≡ state.old.board }
+    ensures reaction { IsReaction state.old state.new result }
 {
     law_stops();
     match state.suspend(core, ask, opening) {

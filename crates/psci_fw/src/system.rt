@@ -9,7 +9,7 @@ ghost use Rattle.psci_fw_spec.specs.Phases.{Away};
 ghost use Rattle.psci_fw_spec.specs.SystemCalls.{system_message};
 ghost use Rattle.psci_fw.specs.Calls.{FunctionAnswered, MayCall};
 ghost use Rattle.psci_fw.specs.Halts.{IsOfSystem};
-ghost use Rattle.psci_fw.specs.Reactions.{IsInItsSlot, outcome_in};
+ghost use Rattle.psci_fw.specs.Reactions.{IsReaction, outcome_in};
 ghost use Rattle.psci_fw_state.specs.Seen.{values_in};
 
 use crate::laws::law_may_claim;
@@ -32,8 +32,7 @@ pub fn system_suspend(state: &mut State, caller: Core, opening: Opening) -> Reac
     ensures answer { FunctionAnswered state.old.board (values_in state.old) caller.number
         (requests.SystemSuspend opening.address opening.context)
         (outcome_in state.new.board (values_in state.new) result) (values_in state.new) }
-    ensures slot { IsInItsSlot state.new.board (values_in state.new) result }
-    ensures board { state.new.board ≡ state.old.board }
+    ensures reaction { IsReaction state.old state.new result }
 {
     law_may_claim();
     let board = state.board();
@@ -56,8 +55,7 @@ pub fn system_off(state: &mut State, caller: Core) -> Reaction
     ensures answer { FunctionAnswered state.old.board
         (values_in state.old) caller.number requests.SystemOff
         (outcome_in state.new.board (values_in state.new) result) (values_in state.new) }
-    ensures slot { IsInItsSlot state.new.board (values_in state.new) result }
-    ensures board { state.new.board ≡ state.old.board }
+    ensures reaction { IsReaction state.old state.new result }
 {
     halt(state, caller, Kind::Off)
 }
@@ -68,8 +66,7 @@ pub fn system_reset(state: &mut State, caller: Core) -> Reaction
     ensures answer { FunctionAnswered state.old.board
         (values_in state.old) caller.number requests.SystemReset
         (outcome_in state.new.board (values_in state.new) result) (values_in state.new) }
-    ensures slot { IsInItsSlot state.new.board (values_in state.new) result }
-    ensures board { state.new.board ≡ state.old.board }
+    ensures reaction { IsReaction state.old state.new result }
 {
     halt(state, caller, Kind::Reset)
 }
@@ -81,8 +78,7 @@ pub fn system_reset2(state: &mut State, caller: Core, reset_type: u32) -> Reacti
     ensures answer { (cookie : ℕ) → FunctionAnswered state.old.board (values_in state.old)
         caller.number (requests.SystemReset2 reset_type cookie)
         (outcome_in state.new.board (values_in state.new) result) (values_in state.new) }
-    ensures slot { IsInItsSlot state.new.board (values_in state.new) result }
-    ensures board { state.new.board ≡ state.old.board }
+    ensures reaction { IsReaction state.old state.new result }
 {
     if reset_type != SYSTEM_WARM_RESET {
         return Reaction::returns(Code::INVALID_PARAMETERS);
@@ -96,11 +92,10 @@ fn halt(state: &mut State, caller: Core, kind: Kind) -> Reaction
     requires kind { IsOfSystem kind }
     ensures answer { outcome_in state.new.board (values_in state.new) result
         ≡ system_message (values_in state.old) kind caller.number }
-    ensures slot { IsInItsSlot state.new.board (values_in state.new) result }
+    ensures reaction { IsReaction state.old state.new result }
     ensures after { values_in state.new
         ≡ with_halt (message_for (values_in state.old) kind caller.number [])
         (with_phase caller.number Away (values_in state.old)) }
-    ensures board { state.new.board ≡ state.old.board }
 {
     let message = state.message(kind, caller, Parts::new());
     state.set_away(caller);

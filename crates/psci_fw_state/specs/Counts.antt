@@ -3,11 +3,12 @@ use Rattle.std.specs.Prelude.{◌≡◌, ℕ, ◌+◌, ◌-◌, ◌^◌, ◌<◌
 use Rattle.std.specs.Prelude.{if◌then◌else◌, slice_index_or, slice_set}
 use Rattle.std.specs.List.{count_by}
 use Rattle.psci_board.specs.declared.node.Node.{Node}
-use Rattle.psci_board.specs.Board.{below_in, size_below}
+use Rattle.psci_board.specs.Board.{BoardValue, IsBoard, below_in, cores, size_below}
 use Rattle.psci_fw_spec.specs.declared.status.Status.{Status}
 use Rattle.psci_fw_spec.specs.declared.status.Status.TheVariants.{On, Off, Pending}
 use Rattle.psci_fw_spec.specs.AffinityInfo.{is_on, is_pending_status}
 use Rattle.psci_fw_state.specs.declared.counts.StatusCounts.{StatusCounts}
+use Rattle.psci_fw_state.specs.declared.row.CoreRow.{CoreRow}
 
 -- what is counted of no core
 abbrev pub no_cores : StatusCounts
@@ -73,3 +74,11 @@ pub record AreCounts (levels : List (List ℕ)) (status : ℕ → Status)
   pub each : (level place : ℕ) → 0 < level → level ≤ length levels
       → place < size_below (drop level levels) → counts_at kept level place
       ≡ counts_below levels status (record { level = level; place = place })
+
+-- a row is kept of each core of a board, and of each of its domains what is counted of cores of
+-- these statuses
+pub record AreCounted (b : BoardValue) (status : ℕ → Status) (rows : List CoreRow)
+    (kept : List (List StatusCounts)) : Type 0 where
+  pub board : IsBoard b
+  pub count : length rows ≡ cores b
+  pub counts : AreCounts b.levels status kept

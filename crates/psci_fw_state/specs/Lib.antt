@@ -3,4 +3,5 @@ pub mod Confirming
 pub mod Counts
 pub mod Rows
 pub mod Seen
+pub mod Trees
 pub mod Wishes

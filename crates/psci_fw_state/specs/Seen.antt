@@ -1,5 +1,5 @@
 -- What the state of the firmware is seen as: the values that it keeps.
-use Rattle.std.specs.Prelude.{◌≡◌, ℕ, ◌==◌, Bool, true, false, nat_lt, List, length, Option}
+use Rattle.std.specs.Prelude.{◌≡◌, ◌<◌, ℕ, ◌==◌, Bool, true, false, nat_lt, List, length, Option}
 use Rattle.std.specs.Prelude.{None}
 use Rattle.std.specs.Prelude.{if◌then◌else◌}
 use Rattle.psci_board.specs.Board.{BoardValue, IsBoard, cores}
@@ -86,6 +86,11 @@ pub record IsState (s : StateValue) : Type 0 where
   pub rows : length s.rows ≡ cores s.board
   pub counts : AreCounts s.board.levels (status_at s.rows) s.counts
   pub slots : length s.slots.cores ≡ cores s.board
+
+-- a core of the board is running
+pub record IsRunningCore (s : StateValue) (c : ℕ) : Type 0 where
+  pub inside : c < cores s.board
+  pub running : (values_in s).phase c ≡ phases.Running
 
 -- the outstanding message of the core of this number, or of the system at the number of cores
 abbrev pub message_shown : BoardValue → Values → ℕ → Option MessageValue

@@ -1,12 +1,13 @@
 //! What the entry of a core changes in the state.
 
-ghost use Rattle.std.specs.Prelude.{◌≡◌, ◌<◌, ◌==◌, ℕ, false, length, if◌then◌else◌};
-ghost use Rattle.psci_board.specs.Board.{cores, place_above};
-ghost use Rattle.psci_tree.specs.Recount.{IsDomainTree, state_at, granted_at, is_confirmed_at};
+ghost use Rattle.std.specs.Prelude.{◌≡◌, ◌<◌, ◌==◌, ℕ, length, if◌then◌else◌};
+ghost use Rattle.psci_board.specs.Board.{cores};
+ghost use Rattle.psci_tree.specs.Recount.{IsDomainTree, state_at};
 ghost use Rattle.psci_fw_spec.specs.Changes.{with_arrival, with_phase, with_running};
 ghost use Rattle.psci_fw_spec.specs.Lives.{in_life};
 ghost use Rattle.psci_fw_spec.specs.Phases.{Away};
 ghost use Rattle.psci_fw_state.specs.Seen.{stopped, values_in};
+ghost use Rattle.psci_fw_state.specs.Trees.{ClearsPath};
 
 use crate::counts::{put_row, reset_counts};
 use crate::row::{CoreRow, reset_rows, row_of, set_row};
@@ -104,13 +105,7 @@ fn stop(tree: &mut Tree, core: Core, number: u32, pending: bool)
     requires inside { core.number < length tree.old.cores }
     ensures cores { (c : ℕ) → state_at tree.new c ≡ (if core.number == c
         then record { activity = stopped pending; known = number } else state_at tree.old c) }
-    ensures granted { (l p : ℕ) → granted_at tree.new l p
-        ≡ (if place_above tree.old.levels l core.number == p then 0 else granted_at tree.old l p) }
-    ensures confirmed { (l p : ℕ) → is_confirmed_at tree.new l p
-        ≡ (if place_above tree.old.levels l core.number == p
-        then false else is_confirmed_at tree.old l p) }
-    ensures levels { tree.new.levels ≡ tree.old.levels }
-    ensures tree { IsDomainTree tree.new }
+    ensures path { ClearsPath tree.old tree.new core.number }
 {
     law_cores();
     law_granted();

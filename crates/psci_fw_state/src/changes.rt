@@ -9,9 +9,9 @@ ghost use Rattle.psci_fw_spec.specs.Changes.{turns_off, with_acknowledgement, wi
 ghost use Rattle.psci_fw_spec.specs.Changes.{with_mode};
 ghost use Rattle.psci_fw_spec.specs.Changes.{with_pending, with_phase, with_rest};
 ghost use Rattle.psci_fw_spec.specs.Effects.{suspends};
-ghost use Rattle.psci_fw_spec.specs.Phases.{Away, Running};
+ghost use Rattle.psci_fw_spec.specs.Phases.{Away};
 ghost use Rattle.psci_fw_spec.specs.Taking.{taken_by};
-ghost use Rattle.psci_fw_state.specs.Seen.{values_in};
+ghost use Rattle.psci_fw_state.specs.Seen.{IsRunningCore, values_in};
 
 use crate::confirm::{applied_of, confirm_parts};
 use crate::counts::{put_row, put_status};
@@ -46,8 +46,7 @@ impl State {
     #[inline(never)]
     #[tactic(auto, unfolding(crate::specs::Seen::values_in))]
     pub fn leave(&mut self, core: Core)
-        requires inside { core.number < cores self.old.board }
-        requires running { (values_in self.old).phase core.number ≡ Running }
+        requires { IsRunningCore self.old core.number }
         ensures after { values_in self.new ≡ with_phase core.number Away (values_in self.old) }
         ensures board { self.new.board ≡ self.old.board }
     {
@@ -60,8 +59,7 @@ impl State {
     /// A running core is suspended with this ask; where it powers down it goes on at the opening.
     #[tactic(auto, unfolding(crate::specs::Seen::values_in))]
     pub(crate) fn set_suspended(&mut self, core: Core, ask: Ask, opening: Opening)
-        requires inside { core.number < cores self.old.board }
-        requires running { (values_in self.old).phase core.number ≡ Running }
+        requires { IsRunningCore self.old core.number }
         ensures after { values_in self.new
             ≡ with_rest core.number (suspends opening ask) (values_in self.old) }
         ensures board { self.new.board ≡ self.old.board }

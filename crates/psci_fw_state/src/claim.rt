@@ -1,25 +1,24 @@
 //! What a core that stops claims of its power domains.
 
-ghost use Rattle.std.specs.Prelude.{◌≡◌, ◌<◌, ◌≤◌, ◌+◌, [], ℕ, length, IfOk, MatchResult, OnErr};
+ghost use Rattle.std.specs.Prelude.{◌≡◌, ◌<◌, [], ℕ, IfOk, MatchResult, OnErr};
 ghost use Rattle.std.specs.Prelude.{Err, Ok};
-ghost use Rattle.psci_board.specs.Board.{IsBoard, cores, height};
+ghost use Rattle.psci_board.specs.Board.{cores};
 ghost use Rattle.psci_messages.specs.Claim.{off_claims, own_claims};
 ghost use Rattle.psci_messages.specs.LastCore.{refusal, shallow};
 ghost use Rattle.psci_messages.specs.declared.kind.Kind.TheVariants as kinds;
-ghost use Rattle.psci_messages.specs.Message.{ArePartsOf, AreClaims};
-ghost use Rattle.psci_tree.specs.Recount.{IsDomainTree, state_at, granted_at};
-ghost use Rattle.psci_tree.specs.Recount.{is_confirmed_at};
+ghost use Rattle.psci_messages.specs.Message.{ArePartsOf};
+ghost use Rattle.psci_tree.specs.Recount.{granted_at, is_confirmed_at};
 ghost use Rattle.psci_fw_spec.specs.Changes.{with_claims, with_rest};
 ghost use Rattle.psci_fw_spec.specs.Claims.{leaving_claims, suspend_parts};
 ghost use Rattle.psci_fw_spec.specs.Confirmed.{claimed_anew};
 ghost use Rattle.psci_fw_spec.specs.Effects.{suspends};
 ghost use Rattle.psci_fw_spec.specs.Outcomes.{message_for};
 ghost use Rattle.psci_fw_spec.specs.Paths.{granted_with};
-ghost use Rattle.psci_fw_spec.specs.Phases.{Running};
 ghost use Rattle.psci_fw_spec.specs.Views.{view};
-ghost use Rattle.psci_fw_state.specs.Claims.{MayClaim};
+ghost use Rattle.psci_fw_state.specs.Claims.{IsGrantable};
 ghost use Rattle.psci_fw_state.specs.Wishes.{asked_wish, wished_in};
-ghost use Rattle.psci_fw_state.specs.Seen.{values_in};
+ghost use Rattle.psci_fw_state.specs.Seen.{IsRunningCore, values_in};
+ghost use Rattle.psci_fw_state.specs.Trees.{IsTreeOf, KeepsCores};
 
 use crate::state::State;
 use psci_board::{Board, Core, Node, law_paths, law_sizes};
@@ -48,8 +47,7 @@ impl State {
     /// A running core is suspended with this ask: what it then wants of its domains, or why it may
     /// not be.
     pub fn suspend(&mut self, core: Core, ask: Ask, opening: Opening) -> Result<Wish, Osi>
-        requires inside { core.number < cores self.old.board }
-        requires running { (values_in self.old).phase core.number ≡ Running }
+        requires { IsRunningCore self.old core.number }
         ensures parts { let said = suspend_parts self.old.board (values_in self.old) core.number ask
             in MatchResult result (λ wish. said ≡ Ok (wished_in self.new core.number wish))
             (λ e. said ≡ Err e) }
@@ -125,9 +123,7 @@ impl State {
     /// A core that wants this sends a Down: its domains are granted what it claims. The parts are
     /// in this frame alone, and are copied from it into their slot.
     pub fn claim(&mut self, core: Core, wish: &Wish)
-        requires inside { core.number < cores self.old.board }
-        requires parts { AreClaims (wished_in self.old core.number wish.now) }
-        requires may { MayClaim self.old.board core.number
+        requires { IsGrantable self.old.board core.number
             (wished_in self.old core.number wish.now) (values_in self.old).granted }
         ensures after { let v = values_in self.old in
             let parts = wished_in self.old core.number wish.now in values_in self.new
@@ -152,9 +148,8 @@ impl State {
     /// A Down with these parts was sent: their domains are granted what it claims.
     #[tactic(auto, unfolding(crate::specs::Seen::values_in))]
     fn claim_parts(&mut self, core: Core, parts: &Parts)
-        requires inside { core.number < cores self.old.board }
-        requires parts { AreClaims parts.now }
-        requires may { MayClaim self.old.board core.number parts.now (values_in self.old).granted }
+        requires { IsGrantable self.old.board core.number parts.now
+            (values_in self.old).granted }
         ensures after { let v = values_in self.old in values_in self.new
             ≡ with_claims self.old.board (message_for v kinds.Down core.number parts.now) v }
         ensures board { self.new.board ≡ self.old.board }
@@ -177,20 +172,13 @@ impl State {
 
 /// Grants these parts on the path of a core, from the core up: each at the level of its place.
 fn grant_parts(tree: &mut Tree, board: &Board, core: Core, parts: &[Part])
-    requires board { IsBoard board.now }
-    requires tree { IsDomainTree tree.old }
-    requires levels { tree.old.levels ≡ board.now.levels }
-    requires inside { core.number < cores board.now }
-    requires few { length parts.now ≤ height board.now + 1 }
-    requires claim { AreClaims parts.now }
-    requires may { MayClaim board.now core.number parts.now (granted_at tree.old) }
+    requires tree { IsTreeOf board.now tree.old }
+    requires parts { IsGrantable board.now core.number parts.now (granted_at tree.old) }
     ensures granted { (level place : ℕ) → granted_at tree.new level place
         ≡ granted_with board.now core.number parts.now (granted_at tree.old) level place }
     ensures confirmed { (level place : ℕ) → is_confirmed_at tree.new level place
         ≡ claimed_anew board.now core.number parts.now (is_confirmed_at tree.old) level place }
-    ensures cores { (c : ℕ) → state_at tree.new c ≡ state_at tree.old c }
-    ensures levels { tree.new.levels ≡ tree.old.levels }
-    ensures tree { IsDomainTree tree.new }
+    ensures kept { KeepsCores tree.old tree.new }
 {
     law_paths();
     law_parts();

@@ -2,11 +2,12 @@
 
 ghost use Rattle.std.specs.Prelude.{◌≡◌, ◌≤◌, ◌<◌, ◌==◌, ◌&&◌, ℕ, true, nat_lt, None, Some};
 ghost use Rattle.std.specs.Prelude.{slice_get, if◌then◌else◌};
-ghost use Rattle.psci_board.specs.Board.{HasNodeIn, IsBoard, cores};
-ghost use Rattle.psci_tree.specs.Recount.{IsDomainTree, state_at, granted_at, is_confirmed_at};
+ghost use Rattle.psci_board.specs.Board.{HasNodeIn, cores};
+ghost use Rattle.psci_tree.specs.Recount.{IsDomainTree, granted_at, is_confirmed_at};
 ghost use Rattle.psci_tree.specs.Recount.{known as known_of};
 ghost use Rattle.psci_fw_spec.specs.Confirmed.{applied_part, is_made_at};
 ghost use Rattle.psci_fw_state.specs.Confirming.{is_last_claim};
+ghost use Rattle.psci_fw_state.specs.Trees.{IsTreeOf, KeepsGranted};
 
 use psci_board::{Board, Core, Node, law_paths};
 use psci_messages::{Ack, Kind, Message, Part};
@@ -27,19 +28,13 @@ pub fn applied_of<'a>(ack: &Ack, message: &'a Message) -> &'a [Part]
 /// Confirms what these parts claim on the path of a core, each at the level of its place, where no
 /// other claim came after it.
 pub fn confirm_parts(tree: &mut Tree, board: &Board, core: Core, parts: &[Part])
-    requires board { IsBoard board.now }
-    requires tree { IsDomainTree tree.old }
-    requires levels { tree.old.levels ≡ board.now.levels }
+    requires tree { IsTreeOf board.now tree.old }
     requires outside { cores board.now ≤ core.number
         → (level : ℕ) → slice_get parts.now level ≡ None }
     ensures confirmed { (level place : ℕ) → is_confirmed_at tree.new level place
         ≡ (if is_last_claim board.now tree.old core.number parts.now level place
         then true else is_confirmed_at tree.old level place) }
-    ensures granted { (level place : ℕ)
-        → granted_at tree.new level place ≡ granted_at tree.old level place }
-    ensures cores { (c : ℕ) → state_at tree.new c ≡ state_at tree.old c }
-    ensures levels { tree.new.levels ≡ tree.old.levels }
-    ensures tree { IsDomainTree tree.new }
+    ensures kept { KeepsGranted tree.old tree.new }
 {
     law_paths();
     if core.number >= board.cores() {
@@ -68,11 +63,7 @@ fn confirm_last(tree: &mut Tree, node: Node, known: u64, part: Part)
         && (nat_lt 0 (granted_at tree.old node.level node.place)
         && is_made_at known (Some part))
         then true else is_confirmed_at tree.old level place) }
-    ensures granted { (level place : ℕ)
-        → granted_at tree.new level place ≡ granted_at tree.old level place }
-    ensures cores { (c : ℕ) → state_at tree.new c ≡ state_at tree.old c }
-    ensures levels { tree.new.levels ≡ tree.old.levels }
-    ensures tree { IsDomainTree tree.new }
+    ensures kept { KeepsGranted tree.old tree.new }
 {
     law_confirmed();
     if tree.granted(node) > 0 && part.generation == known {

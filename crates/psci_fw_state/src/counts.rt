@@ -4,7 +4,8 @@ ghost use Rattle.std.specs.Prelude.{◌≡◌, ◌+◌, ◌<◌, ◌≤◌, leng
 ghost use Rattle.psci_board.specs.Board.{IsBoard, cores};
 ghost use Rattle.psci_fw_spec.specs.declared.status.Status.TheVariants.{Off};
 ghost use Rattle.psci_fw_spec.specs.Values.{updated};
-ghost use Rattle.psci_fw_state.specs.Counts.{AreCounts, HasDomains, MayRecount, counts_at};
+ghost use Rattle.psci_fw_state.specs.Counts.{AreCounted, AreCounts, HasDomains, MayRecount};
+ghost use Rattle.psci_fw_state.specs.Counts.{counts_at};
 ghost use Rattle.psci_fw_state.specs.Counts.{level_counts, no_cores, one_core, recounted};
 ghost use Rattle.psci_fw_state.specs.Counts.{status_counted, with_counts};
 ghost use Rattle.psci_fw_state.specs.Rows.{AreFirst, row_at, status_at};
@@ -117,11 +118,9 @@ pub fn put_row(
     core: Core,
     row: CoreRow,
 )
-    requires board { IsBoard board.now }
     requires levels { tree.now.levels ≡ board.now.levels }
     requires inside { core.number < cores board.now }
-    requires rows { length rows.old ≡ cores board.now }
-    requires counts { AreCounts board.now.levels (status_at rows.old)
+    requires counts { AreCounted board.now (status_at rows.old) rows.old
         (map (λ v. v.items) counts.old) }
     ensures rows { rows.new ≡ slice_set rows.old core.number row }
     ensures counts { AreCounts board.now.levels (status_at rows.new)
@@ -142,11 +141,9 @@ pub fn put_status(
     core: Core,
     status: Status,
 )
-    requires board { IsBoard board.now }
     requires levels { tree.now.levels ≡ board.now.levels }
     requires inside { core.number < cores board.now }
-    requires rows { length rows.old ≡ cores board.now }
-    requires counts { AreCounts board.now.levels (status_at rows.old)
+    requires counts { AreCounted board.now (status_at rows.old) rows.old
         (map (λ v. v.items) counts.old) }
     ensures rows { rows.new ≡ slice_set rows.old core.number
         (record (row_at rows.old core.number) { status = status }) }
@@ -168,12 +165,10 @@ fn recount(
     core: Core,
     before: Status,
 )
-    requires board { IsBoard board.now }
     requires levels { tree.now.levels ≡ board.now.levels }
     requires inside { core.number < cores board.now }
-    requires rows { length rows.now ≡ cores board.now }
-    requires counts { AreCounts board.now.levels (updated (status_at rows.now) core.number before)
-        (map (λ v. v.items) counts.old) }
+    requires counts { AreCounted board.now (updated (status_at rows.now) core.number before)
+        rows.now (map (λ v. v.items) counts.old) }
     ensures { AreCounts board.now.levels (status_at rows.now) (map (λ v. v.items) counts.new) }
 {
     law_paths();

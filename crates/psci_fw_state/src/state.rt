@@ -64,9 +64,8 @@ ghost use Rattle.psci_fw_spec.specs.Lives.{start_of_life};
 ghost use Rattle.psci_fw_spec.specs.NodeHwState.{node_hw};
 ghost use Rattle.psci_fw_spec.specs.Phases.{is_away, is_resumable, is_running};
 ghost use Rattle.psci_board.specs.Board.{IsBoard, cores};
-ghost use Rattle.psci_tree.specs.Changes.{start_of_life as tree_at_start};
-ghost use Rattle.psci_tree.specs.Recount.{IsDomainTree};
 ghost use Rattle.psci_fw_state.specs.Seen.{is_pending_phase, message_shown, values_in};
+ghost use Rattle.psci_fw_state.specs.Trees.{IsFirstTree};
 
 impl State {
     /// The state of this board's firmware before any core has entered, in memory of its own.
@@ -83,9 +82,7 @@ impl State {
     /// while the tree is made.
     #[inline(never)]
     fn with_tree(alloc: Global, board: &Board, tree: Box<Tree>) -> Result<Box<State>, Memory>
-        requires value { tree.value ≡ tree_at_start board.now.levels }
-        requires levels { tree.value.levels ≡ board.now.levels }
-        requires tree { IsDomainTree tree.value }
+        requires { IsFirstTree board.now tree.value }
         ensures board { IfOk result (λ state. state.value.board ≡ board.now) }
         ensures values { IfOk result (λ state. values_in state.value ≡ start_of_life board.now 0) }
         ensures valid { IfOk result (λ _. IsBoard board.now) }

@@ -27,7 +27,7 @@ use Rattle.psci_fw_spec.specs.Statuses.{added, statuses}
 use Rattle.psci_fw_spec.specs.Values.{Values}
 use Rattle.psci_status.specs.Lists.{row}
 use Rattle.psci_status.specs.Naming.{is_named, names}
-use Rattle.psci_status.specs.Polled.{IsPast, IsPolled, PolledView}
+use Rattle.psci_status.specs.Polled.{IsNext, IsPast, IsPolled, PolledView}
 use Rattle.psci_status.specs.Writing.{most_statuses, written_then}
 use Rattle.psci_status.proofs.Past.{More, added_nothing, nothing_more, past_more}
 
@@ -151,3 +151,43 @@ few_rows f table rows n few p core small =
     let bound : (b.lives + 1) * (3 * b.starts + 8) ≤ 65536 * (3 * 2 ^ 32 + 8) =
     mul-le (b.lives + 1) (3 * b.starts + 8) 65536 (3 * 2 ^ 32 + 8) lives starts in
     omega (arith, same, most, bound)
+
+-- What a call leaves -----------------------------------------------------------------------------
+
+pub next_left : (p : PolledView) (f f' : FirmwareValue) (table table' : TableId)
+    (rows rows' : List (List Status)) (n c before : ℕ) (call : FwCall) (reply : FwReply)
+    → IsPolled f table rows n → record { firmware = f; table = table; written = rows } ≡ p
+    → reply ≡ answer f.board (seen f) c call → seen f' ≡ after f.board c call reply (seen f)
+    → f'.board ≡ f.board → table' ≡ table → before ≡ (seen f).life
+    → ((core : ℕ) → core < n
+    → row rows' core ≡ written_then before (seen f') core (row rows core))
+    → IsNext p c call (record { firmware = f'; table = table'; written = rows' })
+next_left p f f' table table' rows rows' n c before call reply is view answered left same kept was
+    wrote =
+    subst (λ (x : PolledView). IsNext x c call
+    (record { firmware = f'; table = table'; written = rows' })) view
+    (record {
+      board = same;
+      values = left ∙ ap (λ (r : FwReply). after f.board c call r (seen f)) answered;
+      table = kept;
+      written = λ core small.
+          subst (λ (l : ℕ). row rows' core ≡ written_then l (seen f') core (row rows core)) was
+          (wrote core (subst (λ (m : ℕ). core < m) (sym is.count) small));
+    })
+
+-- a refused call
+pub next_still : (p : PolledView) (f f' : FirmwareValue) (table : TableId)
+    (rows : List (List Status)) (n c : ℕ) (call : FwCall) (reply : FwReply)
+    → IsPolled f table rows n → record { firmware = f; table = table; written = rows } ≡ p
+    → reply ≡ answer f.board (seen f) c call → seen f' ≡ after f.board c call reply (seen f)
+    → f' ≡ f → IsNext p c call (record { firmware = f'; table = table; written = rows })
+next_still p f f' table rows n c call reply is view answered left same =
+    subst (λ (x : PolledView). IsNext x c call
+    (record { firmware = f'; table = table; written = rows })) view
+    (record {
+      board = ap (λ (g : FirmwareValue). g.board) same;
+      values = left ∙ ap (λ (r : FwReply). after f.board c call r (seen f)) answered;
+      table = refl;
+      written = written_still (record { firmware = f; table = table; written = rows }) f f' table
+          rows n is refl same;
+    })

@@ -10,6 +10,7 @@ mod PastRows
 mod PollRows
 mod PolledRows
 pub mod RuleRows
+mod SeatRows
 pub mod Slots
 pub mod Staying
 pub mod StepRows

@@ -5,12 +5,14 @@ use Rattle.std.proofs.Common.{subst, arith}
 use Rattle.atomic_table.specs.Seated.{TableId}
 use Rattle.psci_board.specs.Board.{BoardValue, IsBoard, cores}
 use Rattle.psci_fw.specs.Seen.{FirmwareValue, seen}
+use Rattle.psci_fw_spec.specs.declared.call.FwCall.{FwCall}
 use Rattle.psci_fw_spec.specs.declared.status.Status.TheVariants.{Off, On, Pending}
 use Rattle.psci_fw_spec.specs.Exchange.{FwExchange}
 use Rattle.psci_fw_spec.specs.History.{values_of}
 use Rattle.psci_fw_spec.specs.Values.{Values}
 use Rattle.psci_status.specs.Lists.{row}
-use Rattle.psci_status.specs.Polled.{IsPast, IsPolled, IsWrittenFrom, PolledView}
+use Rattle.psci_status.specs.Polled.{IsNext, IsPast, IsPolled, IsWrittenFrom}
+use Rattle.psci_status.specs.Polled.{PolledView}
 use Rattle.psci_status.specs.Writing.{written_then}
 use Rattle.psci_status.proofs.Calls.{Step, board, computing}
 use Rattle.psci_status.proofs.PastRows.{Rows, anew, anew_rows, asked, asked_rows, booted}
@@ -187,3 +189,23 @@ other_core_is_written f f' is was now h =
     ((On ∷ Pending ∷ Off ∷ []) ∷ (Pending ∷ Off ∷ []) ∷ (Off ∷ []) ∷ (Pending ∷ Off ∷ []) ∷ []) 1
     (omega arith) f f' is was now h in
     omega arith
+
+-- What a call leaves ------------------------------------------------------------------------------
+
+-- what the call has changed is not written; another board; another table
+next_is_not_written : (f f' : FirmwareValue) (c : ℕ) (call : FwCall) → f.board ≡ board
+    → seen f ≡ values booted → seen f' ≡ values asked
+    → IsNext (view f booted_rows) c call (view f' booted_rows) → ⊥
+next_is_not_written f f' c call is was now h = target_is_forgotten f f' is was now h.written
+
+next_on_another_board : (f f' : FirmwareValue) (c : ℕ) (call : FwCall) → f.board.starts ≡ 9
+    → f'.board.starts ≡ 8 → IsNext (view f booted_rows) c call (view f' booted_rows) → ⊥
+next_on_another_board f f' c call nine eight h =
+    let e : f'.board.starts ≡ f.board.starts = ap (λ (b : BoardValue). b.starts) h.board in
+    omega (arith, nine, eight, e)
+
+next_over_other_words : (f f' : FirmwareValue) (c : ℕ) (call : FwCall)
+    → IsNext (view f booted_rows) c call
+    (record { firmware = f'; table = table 5; written = booted_rows }) → ⊥
+next_over_other_words f f' c call h =
+    let e : ◌≡◌ {A = ℕ} 5 4 = ap (λ (t : TableId). t.words) h.table in omega arith

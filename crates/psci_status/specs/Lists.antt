@@ -1,7 +1,7 @@
 -- What was written of each core, and what was seen of it: a list for each core, the last item
 -- first.
 use Rattle.std.specs.Prelude.{◌≡◌, ◌⊎◌, ℕ, ◌*◌, ◌+◌, ◌/◌, ◌%◌, ◌<◌, List, [], ◌∷◌, length}
-use Rattle.std.specs.Prelude.{slice_index_or, nat_lt, ◌==◌, if◌then◌else◌}
+use Rattle.std.specs.Prelude.{map, slice_index_or, nat_lt, ◌==◌, if◌then◌else◌}
 use Rattle.psci_fw_spec.specs.declared.status.Status.{Status}
 use Rattle.psci_fw_spec.specs.declared.status.Status.TheVariants.{On, Off, Pending}
 use Rattle.psci_fw_spec.specs.AffinityInfo.{status_code}
@@ -83,3 +83,14 @@ abbrev pub gains : List (List Item) → List (List Item) → List (List Item)
 gains [] notes = []
 gains (row ∷ rows) [] = row ∷ rows
 gains (row ∷ rows) (note ∷ notes) = gain_from note row ∷ gains rows notes
+
+-- Meeting -------------------------------------------------------------------------------------
+
+-- A reader of so many cores comes to the writer: what it had seen was written, it now has seen the
+-- last that was written of each core, and no more.
+pub record HasMet (written : List (List Status)) (n : ℕ) (old new : List (List Item))
+    : Type 0 where
+  pub saw : (core : ℕ) → Within (row written core) (row old core)
+  pub seen : new ≡ gains old (map newest written)
+  pub stand : (core : ℕ) → Within (row written core) (row new core)
+  pub last : (core : ℕ) → core < n → IsLast (row written core) (row new core)

@@ -3,7 +3,10 @@ use Rattle.std.specs.Prelude.{◌≡◌, ◌<◌, ℕ, List}
 use Rattle.atomic_table.specs.Seated.{TableId}
 use Rattle.psci_board.specs.Board.{BoardValue, IsBoard, cores}
 use Rattle.psci_fw.specs.Seen.{FirmwareValue, seen}
+use Rattle.psci_fw_spec.specs.declared.call.FwCall.{FwCall}
 use Rattle.psci_fw_spec.specs.declared.status.Status.{Status}
+use Rattle.psci_fw_spec.specs.After.{after}
+use Rattle.psci_fw_spec.specs.Answer.{answer}
 use Rattle.psci_fw_spec.specs.Exchange.{FwExchange}
 use Rattle.psci_fw_spec.specs.History.{values_of}
 use Rattle.psci_fw_spec.specs.Legal.{IsLegal}
@@ -40,3 +43,12 @@ IsWrittenFrom p p' =
     (core : ℕ) → core < cores p.firmware.board
     → row p'.written core
     ≡ written_then (seen p.firmware).life (seen p'.firmware) core (row p.written core)
+
+-- what a call leaves: the firmware after it, by the definitions; and what it changed of the
+-- statuses is written
+pub record IsNext (p : PolledView) (c : ℕ) (call : FwCall) (p' : PolledView) : Type 0 where
+  pub board : p'.firmware.board ≡ p.firmware.board
+  pub values : seen p'.firmware ≡ after p.firmware.board c call
+      (answer p.firmware.board (seen p.firmware) c call) (seen p.firmware)
+  pub table : p'.table ≡ p.table
+  pub written : IsWrittenFrom p p'

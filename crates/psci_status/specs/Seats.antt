@@ -1,6 +1,7 @@
 -- What contracts see of the words, of their writer and of a reader.
 use Rattle.std.specs.Prelude.{◌≡◌, ◌<◌, ℕ, List}
 use Rattle.atomic_table.specs.Seated.{TableId}
+use Rattle.psci_board.specs.Board.{BoardValue, cores}
 use Rattle.psci_fw_spec.specs.declared.status.Status.{Status}
 use Rattle.psci_status.specs.declared.seats.Reader.{Reader}
 use Rattle.psci_status.specs.declared.seats.Writer.{Writer}
@@ -30,6 +31,13 @@ seen reader = reader.seat.me.0.seen
 -- the writer writes this table, which has a word for the core
 pub record MayWrite (words : StatusWords) (writer : Writer) (number : ℕ) : Type 0 where
   pub core : number < (table words).words
+  pub table : table_of_writer writer ≡ table words
+
+-- the writer writes this table, which has a word for each of so many cores: those of a board
+pub record WritesBoard (words : StatusWords) (writer : Writer) (b : BoardValue) (count : ℕ)
+    : Type 0 where
+  pub cores : count ≡ cores b
+  pub each : (table words).words ≡ count
   pub table : table_of_writer writer ≡ table words
 
 -- the reader reads this table, which has a word for the core

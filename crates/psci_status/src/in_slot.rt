@@ -1,16 +1,14 @@
 //! Calls whose first argument is already read, and what they changed is written.
 
-ghost use Rattle.std.specs.Prelude.{◌≡◌, true};
-ghost use Rattle.psci_fw.specs.Asking.{may_call};
+ghost use Rattle.std.specs.Prelude.{◌≡◌};
 ghost use Rattle.psci_fw.specs.Reactions.{IsInItsSlot, outcome_in};
-ghost use Rattle.psci_fw.specs.Read.{IsOnOf, IsSuspendOf};
+ghost use Rattle.psci_fw.specs.Read.{CallsOn, CallsSuspend};
 ghost use Rattle.psci_fw.specs.Seen.{seen};
 ghost use Rattle.psci_fw_spec.specs.declared.call.FwCall.TheVariants.{Smc};
 ghost use Rattle.psci_fw_spec.specs.declared.reply.FwReply.TheVariants.{Out};
-ghost use Rattle.psci_fw_spec.specs.After.{after};
 ghost use Rattle.psci_fw_spec.specs.Answer.{answer};
 ghost use Rattle.psci_status.specs.Seats.{table};
-ghost use Rattle.psci_status.specs.Polled.{IsWrittenFrom};
+ghost use Rattle.psci_status.specs.Polled.{IsNext};
 
 use crate::laws::law_few_statuses;
 use crate::polled::PolledFirmware;
@@ -32,19 +30,12 @@ impl PolledFirmware {
         target: Core,
     ) -> Reaction
         requires words { table words.now ≡ self.old.table }
-        requires call { may_call self.old.firmware core.number ≡ true }
-        requires on { IsOnOf self.old.firmware.board regs target }
+        requires call { CallsOn self.old.firmware core.number regs target }
         ensures answer { Out
             (outcome_in self.new.firmware.board (seen self.new.firmware) result)
             ≡ answer self.old.firmware.board (seen self.old.firmware) core.number (Smc regs) }
         ensures slot { IsInItsSlot self.new.firmware.board (seen self.new.firmware) result }
-        ensures after { seen self.new.firmware
-            ≡ after self.old.firmware.board core.number (Smc regs)
-            (Out (outcome_in self.new.firmware.board (seen self.new.firmware) result))
-            (seen self.old.firmware) }
-        ensures board { self.new.firmware.board ≡ self.old.firmware.board }
-        ensures written { IsWrittenFrom self.old self.new }
-        ensures table { self.new.table ≡ self.old.table }
+        ensures next { IsNext self.old core.number (Smc regs) self.new }
     {
         law_values();
         law_few_statuses();
@@ -70,19 +61,12 @@ impl PolledFirmware {
         ask: Ask,
     ) -> Reaction
         requires words { table words.now ≡ self.old.table }
-        requires call { may_call self.old.firmware core.number ≡ true }
-        requires suspend { IsSuspendOf self.old.firmware.board regs ask }
+        requires call { CallsSuspend self.old.firmware core.number regs ask }
         ensures answer { Out
             (outcome_in self.new.firmware.board (seen self.new.firmware) result)
             ≡ answer self.old.firmware.board (seen self.old.firmware) core.number (Smc regs) }
         ensures slot { IsInItsSlot self.new.firmware.board (seen self.new.firmware) result }
-        ensures after { seen self.new.firmware
-            ≡ after self.old.firmware.board core.number (Smc regs)
-            (Out (outcome_in self.new.firmware.board (seen self.new.firmware) result))
-            (seen self.old.firmware) }
-        ensures board { self.new.firmware.board ≡ self.old.firmware.board }
-        ensures written { IsWrittenFrom self.old self.new }
-        ensures table { self.new.table ≡ self.old.table }
+        ensures next { IsNext self.old core.number (Smc regs) self.new }
     {
         law_values();
         law_few_statuses();

@@ -33,7 +33,7 @@ impl Model for PolledFirmware {
         IsPolled p.firmware (table_of_writer p.writer) (written p.writer) p.cores };
 }
 
-ghost use Rattle.std.specs.Prelude.{◌≡◌, ◌<◌, ℕ, List, [], ◌∷◌, replicate, map};
+ghost use Rattle.std.specs.Prelude.{◌≡◌, ℕ, List, [], ◌∷◌, replicate, map};
 ghost use Rattle.std.specs.Prelude.{IfOk, IfSome, OnErr};
 ghost use Rattle.psci_board.specs.Board.{cores};
 ghost use Rattle.psci_fw.specs.Asking.{code_told, may_call};
@@ -43,12 +43,11 @@ ghost use Rattle.psci_fw.specs.Seen.{seen};
 ghost use Rattle.psci_fw_spec.specs.declared.call.FwCall.TheVariants as calls;
 ghost use Rattle.psci_fw_spec.specs.declared.reply.FwReply.TheVariants as replies;
 ghost use Rattle.psci_fw_spec.specs.declared.status.Status.TheVariants.{Off};
-ghost use Rattle.psci_fw_spec.specs.After.{after};
 ghost use Rattle.psci_fw_spec.specs.Answer.{answer, reply_of};
 ghost use Rattle.psci_fw_spec.specs.Lives.{start_of_life};
-ghost use Rattle.psci_status.specs.Lists.{IsLast, Within, gains, newest, row};
+ghost use Rattle.psci_status.specs.Lists.{HasMet, newest};
 ghost use Rattle.psci_status.specs.Seats.{seen as seen_by, table, table_of_reader};
-ghost use Rattle.psci_status.specs.Polled.{IsPast, IsWrittenFrom};
+ghost use Rattle.psci_status.specs.Polled.{IsNext, IsPast, IsWrittenFrom};
 
 use crate::laws::law_few_statuses;
 use crate::writing::{asked_in, life_of, write_changed, write_one};
@@ -83,11 +82,7 @@ impl PolledFirmware {
         requires { table words.now ≡ self.old.table }
         ensures answer { reply_of result ≡ answer self.old.firmware.board
             (seen self.old.firmware) core.number (calls.Smc regs) }
-        ensures after { seen self.new.firmware ≡ after self.old.firmware.board core.number
-            (calls.Smc regs) (reply_of result) (seen self.old.firmware) }
-        ensures board { self.new.firmware.board ≡ self.old.firmware.board }
-        ensures written { IsWrittenFrom self.old self.new }
-        ensures table { self.new.table ≡ self.old.table }
+        ensures next { IsNext self.old core.number (calls.Smc regs) self.new }
         ensures refused { OnErr result (self.new ≡ self.old) }
     {
         let reaction = self.smc_in_slot(words, core, regs)?;
@@ -106,12 +101,7 @@ impl PolledFirmware {
             ≡ answer self.old.firmware.board (seen self.old.firmware) core.number (calls.Smc regs) }
         ensures slot { IfOk result
             (IsInItsSlot self.new.firmware.board (seen self.new.firmware)) }
-        ensures after { seen self.new.firmware ≡ after self.old.firmware.board core.number
-            (calls.Smc regs) (reply_in self.new.firmware.board (seen self.new.firmware) result)
-            (seen self.old.firmware) }
-        ensures board { self.new.firmware.board ≡ self.old.firmware.board }
-        ensures written { IsWrittenFrom self.old self.new }
-        ensures table { self.new.table ≡ self.old.table }
+        ensures next { IsNext self.old core.number (calls.Smc regs) self.new }
         ensures refused { OnErr result (self.new ≡ self.old) }
     {
         law_values();
@@ -156,11 +146,7 @@ impl PolledFirmware {
         requires { table words.now ≡ self.old.table }
         ensures answer { reply_of result ≡ answer self.old.firmware.board
             (seen self.old.firmware) core.number (calls.Enter start) }
-        ensures after { seen self.new.firmware ≡ after self.old.firmware.board core.number
-            (calls.Enter start) (reply_of result) (seen self.old.firmware) }
-        ensures board { self.new.firmware.board ≡ self.old.firmware.board }
-        ensures written { IsWrittenFrom self.old self.new }
-        ensures table { self.new.table ≡ self.old.table }
+        ensures next { IsNext self.old core.number (calls.Enter start) self.new }
         ensures refused { OnErr result (self.new ≡ self.old) }
     {
         let reaction = self.enter_in_slot(words, core, start)?;
@@ -180,12 +166,7 @@ impl PolledFirmware {
             (calls.Enter start) }
         ensures slot { IfOk result
             (IsInItsSlot self.new.firmware.board (seen self.new.firmware)) }
-        ensures after { seen self.new.firmware ≡ after self.old.firmware.board core.number
-            (calls.Enter start) (reply_in self.new.firmware.board (seen self.new.firmware) result)
-            (seen self.old.firmware) }
-        ensures board { self.new.firmware.board ≡ self.old.firmware.board }
-        ensures written { IsWrittenFrom self.old self.new }
-        ensures table { self.new.table ≡ self.old.table }
+        ensures next { IsNext self.old core.number (calls.Enter start) self.new }
         ensures refused { OnErr result (self.new ≡ self.old) }
     {
         law_values();
@@ -206,11 +187,7 @@ impl PolledFirmware {
         requires { table words.now ≡ self.old.table }
         ensures answer { (c : ℕ) → replies.Taken result ≡ answer self.old.firmware.board
             (seen self.old.firmware) c (calls.Take ack) }
-        ensures after { (c : ℕ) → seen self.new.firmware ≡ after self.old.firmware.board c
-            (calls.Take ack) (replies.Taken result) (seen self.old.firmware) }
-        ensures board { self.new.firmware.board ≡ self.old.firmware.board }
-        ensures written { IsWrittenFrom self.old self.new }
-        ensures table { self.new.table ≡ self.old.table }
+        ensures next { (c : ℕ) → IsNext self.old c (calls.Take ack) self.new }
     {
         law_values();
         law_few_statuses();
@@ -241,14 +218,8 @@ impl PolledFirmware {
         requires words { table words.now ≡ self.old.table }
         requires reader { table_of_reader reader.old ≡ table words.now }
         ensures table { table_of_reader reader.new ≡ table_of_reader reader.old }
-        ensures saw { (core : ℕ)
-            → Within (row self.old.written core) (row (seen_by reader.old) core) }
-        ensures seen { seen_by reader.new
-            ≡ gains (seen_by reader.old) (map newest self.old.written) }
-        ensures stand { (core : ℕ)
-            → Within (row self.old.written core) (row (seen_by reader.new) core) }
-        ensures last { (core : ℕ) → core < cores self.old.firmware.board
-            → IsLast (row self.old.written core) (row (seen_by reader.new) core) }
+        ensures met { HasMet self.old.written (cores self.old.firmware.board)
+            (seen_by reader.old) (seen_by reader.new) }
         ensures same { self.new ≡ self.old }
     {
         words.meet(&mut self.writer, reader);

@@ -6,7 +6,7 @@ ghost use Rattle.psci_fw.specs.Seen.{seen};
 ghost use Rattle.psci_fw_spec.specs.Lives.{first_status};
 ghost use Rattle.psci_fw_spec.specs.Statuses.{added};
 ghost use Rattle.psci_status.specs.Lists.{row};
-ghost use Rattle.psci_status.specs.Seats.{table, table_of_writer, written};
+ghost use Rattle.psci_status.specs.Seats.{WritesBoard, table, table_of_writer, written};
 ghost use Rattle.psci_status.specs.Naming.{asked_by, is_named, slot_beside};
 ghost use Rattle.psci_status.specs.Writing.{one_more, written_then};
 
@@ -81,8 +81,7 @@ pub fn write_one(
     changed: Option<Core>,
     count: u16,
 )
-    requires words { table_of_writer writer.old ≡ table words.now }
-    requires cores { (count ≡ cores firmware.now.board) × ((table words.now).words ≡ count) }
+    requires board { WritesBoard words.now writer.old firmware.now.board count }
     requires few { (core : ℕ) → core < count → length (row (written writer.old) core) < 2 ^ 60 }
     requires others { (core : ℕ) → core < count → is_named changed core ≡ false
         → (seen firmware.now).life ≢ 0
@@ -105,8 +104,7 @@ pub fn write_one(
 /// has a frame of its own, since few calls begin a life.
 #[inline(never)]
 fn write_all(words: &StatusWords, writer: &mut Writer, firmware: &Firmware, count: u16)
-    requires words { table_of_writer writer.old ≡ table words.now }
-    requires cores { (count ≡ cores firmware.now.board) × ((table words.now).words ≡ count) }
+    requires board { WritesBoard words.now writer.old firmware.now.board count }
     requires begun { (seen firmware.now).life ≢ 0 }
     requires few { (core : ℕ) → core < count → length (row (written writer.old) core) < 2 ^ 60 }
     ensures table { table_of_writer writer.new ≡ table_of_writer writer.old }

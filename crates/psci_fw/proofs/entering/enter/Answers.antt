@@ -1,4 +1,5 @@
-use Rattle.std.proofs.Common.{◌≡◌, None, false, sym, subst, ap, ◌∙◌}
+use Rattle.std.proofs.Common.{◌≡◌, ◌<◌, None, false, sym, subst, ap, ◌∙◌}
+use Rattle.psci_board.specs.Board.{BoardValue, cores}
 use Rattle.psci_messages.specs.Message.{AreClaims}
 use Rattle.psci_fw_spec.specs.Changes.{with_arrival}
 use Rattle.psci_fw_spec.specs.Lives.{in_life}
@@ -19,27 +20,8 @@ returns-then-halting-clause-answer g c =
     (sym (ap (λ (x : Values). x.halting) c.begin.ensures.after)
     ∙ sym c.halting.ensures ∙ c.if-halting.true)
 
-pub send_down-requires-clause-claim : goal.send_down-requires-clause-claim
-send_down-requires-clause-claim g c =
-    let b = c.args.state.now.board in
-    let at = c.arrive_away-in-None.ensures.board ∙ c.begin.ensures.board in
-    let v = values_in c.args.state.now in
-    let core = c.args.core.number in
-    let s = c.args.start in
-    let found = c.begin.ensures.after in
-    let awake : (in_life b s.life v).halting ≡ false =
-    sym (ap (λ (x : Values). x.halting) found) ∙ sym c.halting.ensures ∙ c.if-halting.false in
-    let none : way_on (in_life b s.life v) core s ≡ None =
-    sym (ap (λ (x : Values). way_on x core s) found) ∙ sym c.way_on.ensures ∙ c.in-None.is in
-    let same = leaving_off b _ (with_arrival b core s v) _ core _ at
-    (arrived_away b _ v _ _ core s c.begin.ensures.board found c.arrive_away-in-None.ensures.after)
-    c.leaving_wish-wish.ensures in
-    subst AreClaims (sym same) (c.law_stops.ensures.parks b v core s c.requires.board
-    (fault_inside b v core s c.requires.fault) c.requires.values awake
-    (no_opening (in_life b s.life v) core s none))
-
-pub send_down-requires-clause-may : goal.send_down-requires-clause-may
-send_down-requires-clause-may g c =
+pub send_down-requires : goal.send_down-requires
+send_down-requires g c =
     let b = c.args.state.now.board in
     let at = c.arrive_away-in-None.ensures.board ∙ c.begin.ensures.board in
     let v = values_in c.args.state.now in
@@ -54,10 +36,17 @@ send_down-requires-clause-may g c =
     c.arrive_away-in-None.ensures.after in
     let same = leaving_off b _ (with_arrival b core s v) _ core _ at away
     c.leaving_wish-wish.ensures in
-    left_may b _ (with_arrival b core s v) _ core _ _ at away same
-    (c.law_may_claim.ensures.parks b v core s c.requires.board
-    (fault_inside b v core s c.requires.fault) c.requires.values c.requires.fault awake
-    (no_opening (in_life b s.life v) core s none) (no_resume (in_life b s.life v) core s none))
+    let inside = fault_inside b v core s c.requires.fault in
+    let opens = no_opening (in_life b s.life v) core s none in
+    record {
+      inside = subst (λ (x : BoardValue). core < cores x) (sym at) inside;
+      claims = subst AreClaims (sym same) (c.law_stops.ensures.parks b v core s
+          c.requires.firmware.board inside c.requires.firmware.values awake opens);
+      may = left_may b _ (with_arrival b core s v) _ core _ _ at away same
+          (c.law_may_claim.ensures.parks b v core s c.requires.firmware.board inside
+          c.requires.firmware.values c.requires.fault awake opens
+          (no_resume (in_life b s.life v) core s none));
+    }
 
 pub returns-in-Some-clause-answer : goal.returns-in-Some-clause-answer
 returns-in-Some-clause-answer g c =

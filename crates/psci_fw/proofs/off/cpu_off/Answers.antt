@@ -1,29 +1,26 @@
-use Rattle.std.proofs.Common.{sym, subst}
+use Rattle.std.proofs.Common.{◌<◌, sym, subst}
+use Rattle.psci_board.specs.Board.{BoardValue, cores}
 use Rattle.psci_messages.specs.Message.{AreClaims}
 use Rattle.psci_fw_state.specs.Seen.{values_in}
 use Rattle.psci_fw.proofs.Answered.{leaving_off, left_may, off_answered}
 use Rattle.psci_fw.proofs.off.cpu_off.Goals as goal
 
-pub send_down-requires-clause-claim : goal.send_down-requires-clause-claim
-send_down-requires-clause-claim c =
+pub send_down-requires : goal.send_down-requires
+send_down-requires c =
     let v = values_in c.args.state.now in
-    let same = leaving_off c.args.state.now.board _ v _ c.args.caller.number _
-    c.leave.ensures.board
-    c.leave.ensures.after c.leaving_wish-wish.ensures in
-    subst AreClaims (sym same)
-    (c.law_stops.ensures.off c.args.state.now.board v c.args.caller.number
-    c.requires.board c.requires.inside c.requires.values c.requires.running)
-
-pub send_down-requires-clause-may : goal.send_down-requires-clause-may
-send_down-requires-clause-may c =
-    let v = values_in c.args.state.now in
-    let same = leaving_off c.args.state.now.board _ v _ c.args.caller.number _
-    c.leave.ensures.board
-    c.leave.ensures.after c.leaving_wish-wish.ensures in
-    left_may c.args.state.now.board _ v _ c.args.caller.number _ _ c.leave.ensures.board
-    c.leave.ensures.after same
-    (c.law_may_claim.ensures.off c.args.state.now.board v c.args.caller.number c.requires.board
-    c.requires.inside c.requires.values c.requires.running c.requires.awake)
+    let board = c.args.state.now.board in
+    let core = c.args.caller.number in
+    let same = leaving_off board _ v _ core _ c.leave.ensures.board c.leave.ensures.after
+    c.leaving_wish-wish.ensures in
+    record {
+      inside = subst (λ (b : BoardValue). core < cores b) (sym c.leave.ensures.board)
+          c.requires.inside;
+      claims = subst AreClaims (sym same) (c.law_stops.ensures.off board v core c.requires.board
+          c.requires.inside c.requires.values c.requires.running);
+      may = left_may board _ v _ core _ _ c.leave.ensures.board c.leave.ensures.after same
+          (c.law_may_claim.ensures.off board v core c.requires.board c.requires.inside
+          c.requires.values c.requires.running c.requires.awake);
+    }
 
 pub returns-clause-answer : goal.returns-clause-answer
 returns-clause-answer c =

@@ -1,4 +1,4 @@
-use Rattle.std.proofs.Common.{sym, ◌∙◌}
+use Rattle.std.proofs.Common.{sym, ◌∙◌, rules}
 use Rattle.psci_fw_state.specs.Seen.{values_in}
 use Rattle.psci_fw.specs.Reactions.{outcome_in}
 use Rattle.psci_fw.proofs.Answered.{suspended_answered}
@@ -10,7 +10,7 @@ sleep-requires-clause-may c =
     let enters = rw c.board-board.ensures.same at c.has_invalid_entry.ensures in
     let limit = rw c.board-board.ensures.same at c.start_limit.ensures in
     record {
-      shape = c.requires.shape;
+      shape = search rules;
       may = c.law_may_claim.ensures.suspended c.args.state.now.board _ c.args.caller.number
           c.args.word c.args.opening.address c.args.opening.context c.args.ask call.board
           call.inside call.values call.running call.awake c.requires.ask

@@ -15,8 +15,8 @@ use Rattle.psci_fw_state.proofs.confirm.confirm_parts.Goals as goal
 pub confirm_last-requires-clause-domain : goal.confirm_last-requires-clause-domain
 confirm_last-requires-clause-domain c =
     let b = c.args.board.now in
-    let laws = c.law_paths.ensures b c.requires.board in
-    let levels = c.loop-level.invariant.levels ∙ c.requires.levels in
+    let laws = c.law_paths.ensures b c.requires.tree.board in
+    let levels = c.loop-level.invariant.levels ∙ c.requires.tree.levels in
     let low : c.loop-level.level ≤ height b = omega (
       arith,
       c.loop-level-test.true,
@@ -28,7 +28,7 @@ confirm_last-requires-clause-domain c =
     node_at c.loop-level.level (get_or c.places-places.result c.loop-level.level 0) in
     let placed : here ≡ path_node c.loop-level.tree.levels c.args.core.number c.loop-level.level =
     ap (node_at c.loop-level.level) (c.places-places.ensures c.loop-level.level
-    (omega (arith, low, ap length c.requires.levels)))
+    (omega (arith, low, ap length c.requires.tree.levels)))
     ∙ ap (λ ls. path_node ls c.args.core.number c.loop-level.level)
     (sym c.loop-level.invariant.levels) in
     let node = on_board b c.loop-level.tree.levels c.args.core.number c.loop-level.level
@@ -51,22 +51,22 @@ confirm_last-requires-clause-known c =
     node_at c.loop-level.level (get_or c.places-places.result c.loop-level.level 0) in
     let placed : here ≡ path_node c.loop-level.tree.levels c.args.core.number c.loop-level.level =
     ap (node_at c.loop-level.level) (c.places-places.ensures c.loop-level.level
-    (omega (arith, low, ap length c.requires.levels)))
+    (omega (arith, low, ap length c.requires.tree.levels)))
     ∙ ap (λ ls. path_node ls c.args.core.number c.loop-level.level)
     (sym c.loop-level.invariant.levels) in
     c.known_on-known.ensures c.loop-level.level
-    (omega (arith, low, ap length c.requires.levels))
+    (omega (arith, low, ap length c.requires.tree.levels))
     ∙ ap (λ ls. known c.args.tree.now (path_node ls c.args.core.number c.loop-level.level))
     (sym c.loop-level.invariant.levels)
     ∙ known_stays b c.args.core.number c.args.parts.now c.args.tree.now c.loop-level.tree
-    c.loop-level.level _ c.loop-level.invariant c.requires.levels
+    c.loop-level.level _ c.loop-level.invariant c.requires.tree.levels
     ∙ ap (known c.loop-level.tree) (sym placed)
 
 pub loop-level-preserved : goal.loop-level-preserved
 loop-level-preserved c =
     let b = c.args.board.now in
-    let laws = c.law_paths.ensures b c.requires.board in
-    let levels = c.loop-level.invariant.levels ∙ c.requires.levels in
+    let laws = c.law_paths.ensures b c.requires.tree.board in
+    let levels = c.loop-level.invariant.levels ∙ c.requires.tree.levels in
     let low : c.loop-level.level ≤ height b = omega (
       arith,
       c.loop-level-test.true,
@@ -78,7 +78,7 @@ loop-level-preserved c =
     node_at c.loop-level.level (get_or c.places-places.result c.loop-level.level 0) in
     let placed : here ≡ path_node c.loop-level.tree.levels c.args.core.number c.loop-level.level =
     ap (node_at c.loop-level.level) (c.places-places.ensures c.loop-level.level
-    (omega (arith, low, ap length c.requires.levels)))
+    (omega (arith, low, ap length c.requires.tree.levels)))
     ∙ ap (λ ls. path_node ls c.args.core.number c.loop-level.level)
     (sym c.loop-level.invariant.levels) in
     let node = on_board b c.loop-level.tree.levels c.args.core.number c.loop-level.level
@@ -86,11 +86,11 @@ loop-level-preserved c =
     let known_is : get_or c.known_on-known.result c.loop-level.level 0
     ≡ known c.loop-level.tree here =
     c.known_on-known.ensures c.loop-level.level
-    (omega (arith, low, ap length c.requires.levels))
+    (omega (arith, low, ap length c.requires.tree.levels))
     ∙ ap (λ ls. known c.args.tree.now (path_node ls c.args.core.number c.loop-level.level))
     (sym c.loop-level.invariant.levels)
     ∙ known_stays b c.args.core.number c.args.parts.now c.args.tree.now c.loop-level.tree
-    c.loop-level.level _ c.loop-level.invariant c.requires.levels
+    c.loop-level.level _ c.loop-level.invariant c.requires.tree.levels
     ∙ ap (known c.loop-level.tree) (sym placed) in
     let unused : Part = record { level = 0; depth = 0; generation = 0 } in
     let part : Part = get_or c.args.parts.now c.loop-level.level unused in
@@ -102,8 +102,8 @@ loop-level-preserved c =
     ) in
     confirmed_more b c.args.core.number c.args.parts.now c.args.tree.now c.loop-level.tree
     c.confirm_last.new.tree c.loop-level.level (Some part)
-    (sym (slice_get-get_or c.args.parts.now c.loop-level.level unused inside)) c.requires.levels
-    c.loop-level.invariant
+    (sym (slice_get-get_or c.args.parts.now c.loop-level.level unused inside))
+    c.requires.tree.levels c.loop-level.invariant
     (λ l p. let made : ℕ → Node → Bool = λ k n.
     ((n.level == l) && (n.place == p)) && (nat_lt 0 (granted_at c.loop-level.tree n.level n.place)
     && is_made_at k (Some part)) in
@@ -112,13 +112,13 @@ loop-level-preserved c =
     known_is
     ∙ ap (λ (n : Node). cond (made (known c.loop-level.tree n) n) true
     (is_confirmed_at c.loop-level.tree l p)) node)
-    c.confirm_last.ensures.granted c.confirm_last.ensures.cores c.confirm_last.ensures.levels
-    c.confirm_last.ensures.tree
+    c.confirm_last.ensures.kept.granted c.confirm_last.ensures.kept.cores
+    c.confirm_last.ensures.kept.levels c.confirm_last.ensures.kept.tree
 
 pub returns-clause-confirmed : goal.returns-clause-confirmed
 returns-clause-confirmed c = λ l p.
     confirmed_all c.args.board.now c.args.core.number c.args.parts.now c.args.tree.now
-    c.loop-level.tree c.loop-level.level c.requires.tree c.requires.levels
+    c.loop-level.tree c.loop-level.level c.requires.tree.tree c.requires.tree.levels
     (omega (
       arith,
       c.loop-level-test.false,

@@ -34,7 +34,7 @@ recount_domain-requires-clause-place c =
     let core : ℕ = c.args.core.number in
     let now : ℕ → Status = status_at c.args.rows.now in
     turn_place b (updated now core c.args.before) now core
-    (c.law_paths.ensures b c.requires.board) c.requires.board.tree c.requires.inside
+    (c.law_paths.ensures b c.requires.counts.board) c.requires.counts.board.tree c.requires.inside
     (beside now core c.args.before) (map (λ v. v.items) c.loop-level.counts) c.loop-level.level
     (omega arith) (omega (arith, c.loop-level-test.true, c.height-level-end.ensures.height))
     c.loop-level.invariant
@@ -52,7 +52,7 @@ recount_domain-requires-clause-place c =
     ∙ ap one_core (status_in c.args.rows.now core _ (omega (
       arith,
       c.requires.inside,
-      c.requires.rows,
+      c.requires.counts.count,
     ))))
 
 pub recount_domain-requires-clause-may : goal.recount_domain-requires-clause-may
@@ -61,7 +61,7 @@ recount_domain-requires-clause-may c =
     let core : ℕ = c.args.core.number in
     let now : ℕ → Status = status_at c.args.rows.now in
     turn_may b (updated now core c.args.before) now core
-    (c.law_paths.ensures b c.requires.board) c.requires.board.tree c.requires.inside
+    (c.law_paths.ensures b c.requires.counts.board) c.requires.counts.board.tree c.requires.inside
     (beside now core c.args.before) (map (λ v. v.items) c.loop-level.counts) c.loop-level.level
     (omega arith) (omega (arith, c.loop-level-test.true, c.height-level-end.ensures.height))
     c.loop-level.invariant
@@ -79,7 +79,7 @@ recount_domain-requires-clause-may c =
     ∙ ap one_core (status_in c.args.rows.now core _ (omega (
       arith,
       c.requires.inside,
-      c.requires.rows,
+      c.requires.counts.count,
     ))))
 
 pub loop-level-preserved : goal.loop-level-preserved
@@ -88,7 +88,7 @@ loop-level-preserved c =
     let core : ℕ = c.args.core.number in
     let now : ℕ → Status = status_at c.args.rows.now in
     turn_more b (updated now core c.args.before) now core
-    (c.law_paths.ensures b c.requires.board) c.requires.board.tree c.requires.inside
+    (c.law_paths.ensures b c.requires.counts.board) c.requires.counts.board.tree c.requires.inside
     (beside now core c.args.before) (map (λ v. v.items) c.loop-level.counts) c.loop-level.level
     (omega arith) (omega (arith, c.loop-level-test.true, c.height-level-end.ensures.height))
     c.loop-level.invariant
@@ -106,6 +106,6 @@ loop-level-preserved c =
     ∙ ap one_core (status_in c.args.rows.now core _ (omega (
       arith,
       c.requires.inside,
-      c.requires.rows,
+      c.requires.counts.count,
     ))))
     (map (λ v. v.items) c.recount_domain.new.counts) c.recount_domain.ensures

@@ -29,5 +29,4 @@ returns-in-Ok-Ack-clause-ack c = λ a read.
     (c.ack_in.ensures ∙ held (frames.Ack a) read.0 read.2) in
     is-taken c.args.self.now c.take_ack.new.self c.ack_in.result a c.take_ack.result
     c.taken_code.result one c.taken_code.ensures (c.take_ack.ensures.answer 0)
-    (c.take_ack.ensures.after 0) c.take_ack.ensures.board c.take_ack.ensures.table
-    c.take_ack.ensures.written
+    (c.take_ack.ensures.next 0)

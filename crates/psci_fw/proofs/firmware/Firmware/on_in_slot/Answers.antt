@@ -29,7 +29,7 @@ invariant_of-self c =
     (sym (c.deref_mut.ensures.value ∙ c.self.view_is)) c.requires.call in
     let (fault, _) = carried_out f core may in
     firmware_left f g core c.args.regs o may c.turn_on.ensures.answer c.turn_on.ensures.after
-    c.turn_on.ensures.board before
+    c.turn_on.ensures.reaction.board before
     (c.law_invariant.ensures.answer f.board (seen f) core (Smc c.args.regs) before.board
     before.values)
     (c.law_fresh.ensures.call f.board (seen f) core c.args.regs o fault)

@@ -30,7 +30,7 @@ invariant_of-self c =
     let (fault, _) = carried_out f core may in
     firmware_left f g core c.args.regs o may c.suspend_with.ensures.answer
     c.suspend_with.ensures.after
-    c.suspend_with.ensures.board before
+    c.suspend_with.ensures.reaction.board before
     (c.law_invariant.ensures.answer f.board (seen f) core (Smc c.args.regs) before.board
     before.values)
     (c.law_fresh.ensures.call f.board (seen f) core c.args.regs o fault)

@@ -1,4 +1,4 @@
-use Rattle.std.proofs.Common.{◌≡◌, ◌<◌, true, false, length, sym, subst, ap, arith, ◌∙◌, map}
+use Rattle.std.proofs.Common.{◌≡◌, ◌<◌, true, false, length, sym, subst, arith, ◌∙◌, map}
 use Rattle.psci_messages.specs.declared.taken.Taken.TheVariants.{Used}
 use Rattle.std.specs.Borrow.{Bor}
 use Rattle.std.specs.Prelude.{Option, Some, option_map}
@@ -57,8 +57,8 @@ returns-then-is_off-clause-used c = λ used.
     let acked : IsAcked s c.confirm_parts.new.tree a =
     acked_by s c.confirm_parts.new.tree a c.applied_of.result.now
     (sent_parts s.slots a _ _ _ c.ack.view_is sent c.applied_of.ensures)
-    (λ k. rw (← c.deref_mut.ensures.value) (c.confirm_parts.ensures.cores k))
-    (λ l p. rw (← c.deref_mut.ensures.value) (c.confirm_parts.ensures.granted l p))
+    (λ k. rw (← c.deref_mut.ensures.value) (c.confirm_parts.ensures.kept.cores k))
+    (λ l p. rw (← c.deref_mut.ensures.value) (c.confirm_parts.ensures.kept.granted l p))
     (λ l p. rw (← c.deref_mut.ensures.value) (c.confirm_parts.ensures.confirmed l p)) in
     rw (← c.ack.view_is)
     (off_changed s _ c.confirm_parts.new.tree _ _ c.finish.new.self a c.self.view_is off
@@ -98,8 +98,8 @@ returns-else-is_off-clause-used c = λ used.
     let acked : IsAcked s c.confirm_parts.new.tree a =
     acked_by s c.confirm_parts.new.tree a c.applied_of.result.now
     (sent_parts s.slots a _ _ _ c.ack.view_is sent c.applied_of.ensures)
-    (λ k. rw (← c.deref_mut.ensures.value) (c.confirm_parts.ensures.cores k))
-    (λ l p. rw (← c.deref_mut.ensures.value) (c.confirm_parts.ensures.granted l p))
+    (λ k. rw (← c.deref_mut.ensures.value) (c.confirm_parts.ensures.kept.cores k))
+    (λ l p. rw (← c.deref_mut.ensures.value) (c.confirm_parts.ensures.kept.granted l p))
     (λ l p. rw (← c.deref_mut.ensures.value) (c.confirm_parts.ensures.confirmed l p)) in
     rw (← c.ack.view_is)
     (used_changed s _ c.confirm_parts.new.tree c.finish.new.self a c.self.view_is off acked

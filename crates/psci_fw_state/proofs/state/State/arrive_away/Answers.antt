@@ -35,9 +35,9 @@ returns-clause-after c =
     (rw (rows, row) (row_set s.rows c.args.core.number _
     (in_rows _ _ _ c.self.view_is c.self.invariant c.requires.inside)))
     (path_cleared s c.stop.new.tree c.args.core.number c.self.invariant
-    (λ l p. rw (← c.deref_mut.ensures.value) (c.stop.ensures.granted l p)))
+    (λ l p. rw (← c.deref_mut.ensures.value) (c.stop.ensures.path.granted l p)))
     (path_unconfirmed s c.stop.new.tree c.args.core.number c.self.invariant
-    (λ l p. rw (← c.deref_mut.ensures.value) (c.stop.ensures.confirmed l p)))
+    (λ l p. rw (← c.deref_mut.ensures.value) (c.stop.ensures.path.confirmed l p)))
     (λ slot. rw c.clear.ensures.slots
     (c.law_slots.ensures.changed s.slots (Clear c.args.core) tt slot))
 
@@ -62,8 +62,8 @@ invariant_of-self c =
     c.row_of.ensures ∙ ap (λ xs. row_at xs c.args.core.number) c.deref.ensures.value in
     record {
       board = c.self.invariant.board;
-      tree = c.stop.ensures.tree;
-      levels = c.stop.ensures.levels
+      tree = c.stop.ensures.path.tree;
+      levels = c.stop.ensures.path.levels
           ∙ ap (λ (t : TreeValue). t.levels) c.deref_mut.ensures.value
           ∙ c.self.invariant.levels;
       rows = ap length rows ∙ length-set s.rows c.args.core.number _ ∙ c.self.invariant.rows;

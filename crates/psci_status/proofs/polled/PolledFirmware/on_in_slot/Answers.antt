@@ -1,7 +1,7 @@
 use Rattle.std.proofs.Common.{◌≡◌, Option, false, refl, subst}
 use Rattle.psci_status.proofs.Slots.{names_by_slot}
 use Rattle.psci_status.proofs.CallSteps.{few_rows, life_left, others_stay, polled_next}
-use Rattle.psci_status.proofs.CallSteps.{written_on}
+use Rattle.psci_status.proofs.CallSteps.{next_left}
 use Rattle.psci_board.specs.declared.node.Core.{Core}
 use Rattle.psci_status.specs.Naming.{is_named}
 use Rattle.psci_fw.specs.Reactions.{outcome_in}
@@ -38,11 +38,14 @@ invariant_of-self c =
     (c.law_caller.ensures.life _ _ _ _ _))
     c.write_one.ensures.log
 
-pub returns-clause-written : goal.returns-clause-written
-returns-clause-written c =
+pub returns-clause-next : goal.returns-clause-next
+returns-clause-next c =
     let f = c.on_in_slot-reaction.new.self in
-    written_on c.args.self.now c.self.inside.firmware f _ _ _ c.self.inside.cores
-    c.self.invariant c.self.view_is
+    next_left c.args.self.now c.self.inside.firmware f _ _ _ _ c.self.inside.cores
+    c.args.core.number (seen f).life (calls.Smc c.args.regs)
+    (replies.Out (outcome_in f.board (seen f) c.on_in_slot-reaction.result)) c.self.invariant
+    c.self.view_is c.on_in_slot-reaction.ensures.answer c.on_in_slot-reaction.ensures.after
+    c.on_in_slot-reaction.ensures.board c.write_one.ensures.table
     (life_left (seen c.self.inside.firmware) (seen f) _ c.on_in_slot-reaction.ensures.after
     (c.law_caller.ensures.life _ _ _ _ _))
     c.write_one.ensures.log

@@ -1,6 +1,7 @@
 use Rattle.std.proofs.Common.{◌≡◌, Option, false, refl, subst}
 use Rattle.psci_status.proofs.Slots.{names_by_slot}
-use Rattle.psci_status.proofs.CallSteps.{life_left, others_stay, polled_next, written_still}
+use Rattle.psci_status.proofs.CallSteps.{life_left, next_left, next_still, others_stay}
+use Rattle.psci_status.proofs.CallSteps.{polled_next}
 use Rattle.psci_board.specs.declared.node.Core.{Core}
 use Rattle.psci_status.specs.Naming.{is_named}
 use Rattle.psci_fw.specs.Reactions.{outcome_in}
@@ -9,10 +10,13 @@ use Rattle.psci_fw_spec.specs.declared.call.FwCall.TheVariants as calls
 use Rattle.psci_fw_spec.specs.declared.reply.FwReply.TheVariants as replies
 use Rattle.psci_status.proofs.polled.PolledFirmware.smc_in_slot.Goals as goal
 
-pub returns-in_err-reaction-clause-written : goal.returns-in_err-reaction-clause-written
-returns-in_err-reaction-clause-written c =
-    written_still c.args.self.now c.self.inside.firmware c.smc_in_slot.new.self _ _
-    c.self.inside.cores c.self.invariant c.self.view_is c.in_err-reaction.ensures.refused
+pub returns-in_err-reaction-clause-next : goal.returns-in_err-reaction-clause-next
+returns-in_err-reaction-clause-next c =
+    next_still c.args.self.now c.self.inside.firmware c.smc_in_slot.new.self _ _
+    c.self.inside.cores c.args.core.number (calls.Smc c.args.regs)
+    _ c.self.invariant c.self.view_is
+    c.in_err-reaction.ensures.answer c.in_err-reaction.ensures.after
+    c.in_err-reaction.ensures.refused
 
 pub write_one-requires-clause-others : goal.write_one-requires-clause-others
 write_one-requires-clause-others c core small other some =
@@ -37,6 +41,18 @@ invariant_of-self-2 c =
     (replies.Out (outcome_in f.board (seen f) c.in_ok-reaction.reaction))
     c.law_values.ensures.more c.self.invariant c.in_ok-reaction.ensures.answer
     c.in_ok-reaction.ensures.after c.in_ok-reaction.ensures.board c.write_one.ensures.table
+    (life_left (seen c.self.inside.firmware) (seen f) _ c.in_ok-reaction.ensures.after
+    (c.law_caller.ensures.life _ _ _ _ _))
+    c.write_one.ensures.log
+
+pub returns-clause-next : goal.returns-clause-next
+returns-clause-next c =
+    let f = c.smc_in_slot.new.self in
+    next_left c.args.self.now c.self.inside.firmware f _ _ _ _ c.self.inside.cores
+    c.args.core.number (seen f).life (calls.Smc c.args.regs)
+    (replies.Out (outcome_in f.board (seen f) c.in_ok-reaction.reaction)) c.self.invariant
+    c.self.view_is c.in_ok-reaction.ensures.answer c.in_ok-reaction.ensures.after
+    c.in_ok-reaction.ensures.board c.write_one.ensures.table
     (life_left (seen c.self.inside.firmware) (seen f) _ c.in_ok-reaction.ensures.after
     (c.law_caller.ensures.life _ _ _ _ _))
     c.write_one.ensures.log

@@ -3,7 +3,7 @@ use Rattle.std.specs.Prelude.{◌==◌}
 use Rattle.psci_messages.specs.Message.{AckValue}
 use Rattle.psci_status.proofs.Past.{names_take}
 use Rattle.psci_status.proofs.CallSteps.{life_left, life_taken, others_stay, polled_next}
-use Rattle.psci_status.proofs.CallSteps.{written_on}
+use Rattle.psci_status.proofs.CallSteps.{next_left}
 use Rattle.psci_fw.specs.Seen.{seen}
 use Rattle.psci_fw_spec.specs.declared.call.FwCall.TheVariants as calls
 use Rattle.psci_fw_spec.specs.declared.reply.FwReply.TheVariants as replies
@@ -21,13 +21,15 @@ write_one-requires-clause-others c core small other some =
     (subst (λ (a : AckValue). (k == a.core.number) ≡ false) c.ack.view_is not))
     core small other refl some
 
-pub returns-clause-written : goal.returns-clause-written
-returns-clause-written c =
+pub returns-clause-next : goal.returns-clause-next
+returns-clause-next c = λ k.
     let f = c.take-taken.new.self in
-    written_on c.args.self.now c.self.inside.firmware f _ _ _ c.self.inside.cores
-    c.self.invariant c.self.view_is
-    (life_left (seen c.self.inside.firmware) (seen f) _ (c.take-taken.ensures.after 0)
-    (life_taken _ 0 c.args.ack c.take-taken.result _))
+    next_left c.args.self.now c.self.inside.firmware f _ _ _ _ c.self.inside.cores k (seen f).life
+    (calls.Take c.args.ack) (replies.Taken c.take-taken.result) c.self.invariant c.self.view_is
+    (c.take-taken.ensures.answer k) (c.take-taken.ensures.after k) c.take-taken.ensures.board
+    c.write_one.ensures.table
+    (life_left (seen c.self.inside.firmware) (seen f) _ (c.take-taken.ensures.after k)
+    (life_taken _ k c.args.ack c.take-taken.result _))
     c.write_one.ensures.log
 
 pub invariant_of-self : goal.invariant_of-self

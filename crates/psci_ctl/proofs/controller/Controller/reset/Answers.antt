@@ -1,0 +1,29 @@
+use Rattle.std.proofs.Common.{rules}
+use Rattle.psci_ctl_spec.specs.Replies.{reply, reset_of}
+use Rattle.psci_ctl_spec.specs.Effects.{effect_of}
+use Rattle.psci_ctl_spec.specs.Changes.{after}
+use Rattle.psci_ctl.proofs.controller.Controller.reset.Goals as goal
+
+pub returns-in_default-clause-reply : goal.returns-in_default-clause-reply
+unfolding reply reset_of
+returns-in_default-clause-reply c = search rules
+
+pub returns-in_default-clause-after : goal.returns-in_default-clause-after
+unfolding after effect_of
+returns-in_default-clause-after c = search rules
+
+pub returns-then-not-may_start-clause-reply : goal.returns-then-not-may_start-clause-reply
+unfolding reply reset_of
+returns-then-not-may_start-clause-reply c = search rules
+
+pub returns-then-not-may_start-clause-after : goal.returns-then-not-may_start-clause-after
+unfolding after effect_of
+returns-then-not-may_start-clause-after c = search rules
+
+pub returns-clause-reply : goal.returns-clause-reply
+unfolding reply reset_of
+returns-clause-reply c = search rules
+
+pub returns-clause-after : goal.returns-clause-after
+unfolding after effect_of
+returns-clause-after c = search rules
