@@ -11,8 +11,8 @@ use psci_abi::Function::{
     SetSuspendMode, SystemOff, SystemReset, SystemReset2, SystemSuspend, Version,
 };
 
-/// What a core calls where it calls anything, each as often: the functions that do not end the life,
-/// and one that is not there.
+/// What a core calls where it calls anything, each as often: the functions that do not end the
+/// life, and one that is not there.
 pub const DRAWN: [Option<Function>; 12] = [
     Some(Version),
     Some(MigrateInfoType),
