@@ -6,21 +6,22 @@ from board import Board, Fault
 from scenes import Scenes
 from script import World, answer
 
-# each function by its words, and how often it is drawn
-FUNCTIONS = {
-    fw.VERSION: 1, fw.CPU_SUSPEND: 6, fw.CPU_ON: 9, fw.AFFINITY_INFO: 5, fw.MIGRATE_INFO_TYPE: 1,
-    fw.FEATURES: 2, fw.NODE_HW_STATE: 5, fw.SYSTEM_SUSPEND: 2, fw.SET_SUSPEND_MODE: 3,
-    fw.SYSTEM_RESET2: 1,
-}
 # what ends a life, or nearly
 LAST = (fw.CPU_OFF, fw.CPU_OFF, fw.SYSTEM_OFF, fw.SYSTEM_RESET, fw.SYSTEM_RESET, fw.SYSTEM_RESET,
         fw.SYSTEM_RESET2, fw.SYSTEM_RESET2)
+# how often a function is drawn otherwise, if not once; not at all where each of its calls ends something
+OFTEN = {
+    fw.CPU_SUSPEND: 6, fw.CPU_OFF: 0, fw.CPU_ON: 9, fw.AFFINITY_INFO: 5, fw.SYSTEM_OFF: 0,
+    fw.SYSTEM_RESET: 0, fw.FEATURES: 2, fw.NODE_HW_STATE: 5, fw.SYSTEM_SUSPEND: 2, fw.SET_SUSPEND_MODE: 3,
+}
+FUNCTIONS = {words: OFTEN.get(words, 1) for words in fw.FUNCTIONS if OFTEN.get(words, 1)}
 EVERY = tuple(dict.fromkeys((*FUNCTIONS, *LAST)))
-assert set(fw.SUPPORTED) <= {word for words in EVERY for word in words}, "not drawn"
+assert set(fw.FUNCTIONS) <= set(EVERY), "not drawn"
 # functions that are left out, words of a width that a function lacks, and other services
 OTHERS = (0x84000005, 0x84000007, 0x8400000B, 0x8400000C, 0x84000010, 0x84000011,
           0x84000013, 0x84000014, 0x80000000, 0x04000003, 0xC4000000, 0xC4000002, 0xC4000006,
           0xC4000008, 0xC4000009, 0xC400000A, 0xC400000F, 0xC4000013)
+OTHERS = tuple(word for word in OTHERS if word not in fw.SUPPORTED)
 # what is changed in a power state: depths, the state type, the power level, bits that are zero
 CHANGES = (1, 2, 3, 4, 16, 32, 48, 0x100, 0x200, 0x1000, 1 << 16, 1 << 24, 2 << 24,
            1 << 17, 1 << 23, 1 << 26, 1 << 27, 1 << 28, 1 << 30, 1 << 31)

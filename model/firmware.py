@@ -32,9 +32,18 @@ CPU_ON, AFFINITY_INFO = (0x84000003, 0xC4000003), (0x84000004, 0xC4000004)
 SYSTEM_OFF, SYSTEM_RESET = (0x84000008,), (0x84000009,)
 SYSTEM_SUSPEND, SET_SUSPEND_MODE = (0x8400000E, 0xC400000E), (0x8400000F,)
 NODE_HW_STATE, SYSTEM_RESET2 = (0x8400000D, 0xC400000D), (0x84000012, 0xC4000012)
-SUPPORTED = (VERSION + CPU_SUSPEND + CPU_OFF + CPU_ON + AFFINITY_INFO + MIGRATE_INFO_TYPE
-             + SYSTEM_OFF + SYSTEM_RESET + FEATURES + NODE_HW_STATE + SYSTEM_SUSPEND
-             + SET_SUSPEND_MODE + SYSTEM_RESET2)
+# each function: its name in the standard, and how its calls end in a life that goes on: by a code, or by a
+# message that is sent. seen.py wants to see each of these
+FUNCTIONS = {
+    VERSION: ("PSCI_VERSION", "65537"), CPU_SUSPEND: ("CPU_SUSPEND", "-2 -9 0 down"),
+    CPU_OFF: ("CPU_OFF", "down"), CPU_ON: ("CPU_ON", "-2 -9 -4 -5 -6 start"),
+    AFFINITY_INFO: ("AFFINITY_INFO", "-2 0 1 2"), MIGRATE_INFO_TYPE: ("MIGRATE_INFO_TYPE", "2"),
+    SYSTEM_OFF: ("SYSTEM_OFF", "off"), SYSTEM_RESET: ("SYSTEM_RESET", "reset"),
+    FEATURES: ("PSCI_FEATURES", "-1 0 1 3"), NODE_HW_STATE: ("NODE_HW_STATE", "-2 0 1 2"),
+    SYSTEM_SUSPEND: ("SYSTEM_SUSPEND", "-9 -3 down"), SET_SUSPEND_MODE: ("PSCI_SET_SUSPEND_MODE", "-2 -3 0"),
+    SYSTEM_RESET2: ("SYSTEM_RESET2", "-2 reset"),
+}
+SUPPORTED = tuple(word for words in FUNCTIONS for word in words)
 
 
 def depths_of(word, board):

@@ -16,28 +16,28 @@ LIVES = ("first life", "later life")
 LEAST = 20
 STOPS = "stops without a message"
 
-NAMES = {
-    fw.VERSION: "PSCI_VERSION", fw.CPU_SUSPEND: "CPU_SUSPEND", fw.CPU_OFF: "CPU_OFF",
-    fw.CPU_ON: "CPU_ON", fw.AFFINITY_INFO: "AFFINITY_INFO", fw.FEATURES: "PSCI_FEATURES",
-    fw.NODE_HW_STATE: "NODE_HW_STATE",
-    fw.MIGRATE_INFO_TYPE: "MIGRATE_INFO_TYPE", fw.SYSTEM_OFF: "SYSTEM_OFF",
-    fw.SYSTEM_RESET: "SYSTEM_RESET", fw.SYSTEM_RESET2: "SYSTEM_RESET2",
-    fw.SYSTEM_SUSPEND: "SYSTEM_SUSPEND", fw.SET_SUSPEND_MODE: "PSCI_SET_SUSPEND_MODE",
-}
+NAMES = {words: name for words, (name, _) in fw.FUNCTIONS.items()}
 OTHER = "another word"
+# what is told apart of the answers of some functions
+APART = {
+    "CPU_SUSPEND": {"-2": ("-2 faulty",), "down": ("down 1", "down 2", "down 3")},
+    "PSCI_SET_SUSPEND_MODE": {"0": ("0 as before", "0 changed")},
+}
+LEVELED = tuple(fw.FUNCTIONS[words][0] for words in (fw.AFFINITY_INFO, fw.NODE_HW_STATE))
+
+
+def told_apart(name, answer):
+    """What an answer of a function counts as: it has to come in each of these cases."""
+    if name in LEVELED:
+        return tuple(f"{answer} of a {what}" for what in ("core", "domain"))
+    return APART.get(name, {}).get(answer, (answer,))
+
+
 # every answer that each function has in a life that goes on
 ANSWERS = {
-    "PSCI_VERSION": ("65537",), "MIGRATE_INFO_TYPE": ("2",), "PSCI_FEATURES": ("-1", "0", "1", "3"),
+    **{name: tuple(it for answer in answers.split() for it in told_apart(name, answer))
+       for name, answers in fw.FUNCTIONS.values()},
     OTHER: ("-1",),
-    "CPU_ON": ("-2", "-9", "-4", "-5", "-6", "start"),
-    "AFFINITY_INFO": tuple(f"{code} of a {what}" for what in ("core", "domain")
-                           for code in (-2, 0, 1, 2)),
-    "NODE_HW_STATE": tuple(f"{code} of a {what}" for what in ("core", "domain")
-                           for code in (-2, 0, 1, 2)),
-    "CPU_SUSPEND": ("-2 faulty", "-9", "0", "down 1", "down 2", "down 3"),
-    "CPU_OFF": ("down",), "SYSTEM_OFF": ("off",), "SYSTEM_RESET": ("reset",),
-    "SYSTEM_RESET2": ("-2", "reset"), "SYSTEM_SUSPEND": ("-9", "-3", "down"),
-    "PSCI_SET_SUSPEND_MODE": ("-2", "-3", "0 as before", "0 changed"),
     "enter": ("enter", "resume", "parks", STOPS),
     "take": ("used", "old"),
 }
@@ -88,7 +88,7 @@ class Counted(World):
         said = words[1] if words[0] == "return" else words[2]
         if name == "CPU_ON":
             return "start" if "start" in words else said
-        if name in ("AFFINITY_INFO", "NODE_HW_STATE"):
+        if name in LEVELED:
             return f"{said} of a {'domain' if regs[2] % 2**32 else 'core'}"
         if name == "PSCI_SET_SUSPEND_MODE" and said == "0":
             return "0 as before" if self.firmware.mode == mode else "0 changed"

@@ -428,8 +428,9 @@ no_threads() {
 # the counts of a storm: its line comes first as ever, then one line for each tally, and each event is in
 # one of them; over some storms each tally comes
 storm_counts() {
-    local words seed tallies=97 tall="((1 2) (2 1)) exec 0x0-0x1000 boot 0x0 starts 1000 lives 3 format extended"
+    local words seed tallies tall="((1 2) (2 1)) exec 0x0-0x1000 boot 0x0 starts 1000 lives 3 format extended"
     local low="(2 2) exec 0x40000000-0x40100000 boot 0x40000000 starts 1000 lives 12"
+    tallies=$(grep -c '^[a-z].*:' tests/tally-floors.txt)
     run storm --seed 1 --count 10000
     cp "$work/out" "$work/lines"
     run storm --counts --seed 1 --count 10000

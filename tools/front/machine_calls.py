@@ -10,8 +10,6 @@ from .machines import FUNCTIONS
 
 NO_FUNCTION, NO_STATE, NO_CORE = 0, 0xFFFFFFFF, 0xFFFFFFFF
 PLATFORM, OS_INITIATED = 0, 1
-# functions whose first argument is a core, or a domain of a level
-TARGETS = ("cpu_on", "affinity_info", "node_hw_state")
 # PSCI_SET_SUSPEND_MODE is there where CPU_SUSPEND is
 NEEDS = {"set_suspend_mode": "cpu_suspend"}
 
@@ -19,6 +17,12 @@ NEEDS = {"set_suspend_mode": "cpu_suspend"}
 def function_of(word):
     """The name of the function that this word calls, or nothing."""
     return plain.NAMES.get(word % 2 ** 32, "").partition(".")[0]
+
+
+def first_of(name):
+    """The kind of a function's first argument, or nothing."""
+    takes = plain.FUNCTIONS[name].takes if name in plain.FUNCTIONS else ()
+    return takes[0] if takes else None
 
 
 def is_there(machine, name):
@@ -73,13 +77,13 @@ def translated(machine, mode, regs):
     if not is_there(machine, name):
         return (NO_FUNCTION, x1, x2, x3), None
     wide = x1 if x0 >> 30 & 1 else x1 % 2 ** 32
-    asked = None
-    if name == "cpu_suspend":
+    kind, asked = first_of(name), None
+    if kind == "state":
         asked = states_of(machine, mode, x1 % 2 ** 32)
         x1 = word_for(machine, asked)
-    elif name in TARGETS:
-        x1 = core_word(machine, wide, 0 if name == "cpu_on" else x2 % 2 ** 32)
-    elif name == "features":
+    elif kind in ("core", "domain"):
+        x1 = core_word(machine, wide, 0 if kind == "core" else x2 % 2 ** 32)
+    elif kind == "function":
         x1 = x1 % 2 ** 32 if is_there(machine, function_of(x1)) else NO_FUNCTION
     elif name == "system_suspend":
         asked = machine.system

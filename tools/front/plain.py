@@ -7,27 +7,25 @@ the plain script.
 import re
 from collections import namedtuple
 
+import functions
+
 from . import boards, told
 from .reader import Wrong, number_fault
 from .wording import near
 
 # A function: its words by SMC32 and SMC64 (None where there is none), and the kinds of its arguments.
 Function = namedtuple("Function", "smc32 smc64 takes")
-FUNCTIONS = {
-    "version": Function(0x84000000, None, ()),
-    "cpu_suspend": Function(0x84000001, 0xC4000001, ("state", "number", "number")),
-    "cpu_off": Function(0x84000002, None, ()),
-    "cpu_on": Function(0x84000003, 0xC4000003, ("core", "number", "number")),
-    "affinity_info": Function(0x84000004, 0xC4000004, ("domain", "number")),
-    "migrate_info_type": Function(0x84000006, None, ()),
-    "system_off": Function(0x84000008, None, ()),
-    "system_reset": Function(0x84000009, None, ()),
-    "features": Function(0x8400000A, None, ("function",)),
-    "node_hw_state": Function(0x8400000D, 0xC400000D, ("domain", "number")),
-    "system_suspend": Function(0x8400000E, 0xC400000E, ("number", "number")),
-    "set_suspend_mode": Function(0x8400000F, None, ("mode",)),
-    "system_reset2": Function(0x84000012, 0xC4000012, ("number", "number")),
-}
+# the kinds of arguments that have names, by what the table of functions calls them
+KINDS = {"PowerState": "state", "Word": "function", "Mode": "mode"}
+
+
+def kinds(takes):
+    """The kinds of these arguments: a target is a domain where its level comes with it."""
+    named = {**KINDS, "Target": "domain" if "Level" in takes else "core"}
+    return tuple(named.get(it, "number") for it in takes)
+
+
+FUNCTIONS = {it.short: Function(it.smc32, it.smc64, kinds(it.takes)) for it in functions.TABLE}
 MODES = {"platform": 0, "os": 1}
 # what is said to be expected of an argument
 EXPECTED = {

@@ -7,7 +7,7 @@ from collections import namedtuple
 
 import firmware as fw
 
-from .words import LOW, SLEEPS, function_of, name_of
+from .words import LEVELED, LOW, SLEEPS, function_of, name_of
 
 Group = namedtuple("Group", "kind what theirs ours why")
 Seen = namedtuple("Seen", "count later first")
@@ -44,7 +44,7 @@ class Case:
     def is_dirty(self):
         """Whether bits are set above an argument or a word of 32 bits."""
         first = self.regs[1] > LOW and not self.regs[0] & fw.SMC64
-        level = self.of(fw.AFFINITY_INFO + fw.NODE_HW_STATE) and self.regs[2] > LOW
+        level = self.of(LEVELED) and self.regs[2] > LOW
         return first or level
 
     @property

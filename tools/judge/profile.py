@@ -33,6 +33,11 @@ def yes(value):
     return value == "yes"
 
 
+def functions_of(value):
+    """The function words of these names, where `ours` names all that the definitions have."""
+    return frozenset(word for it in value.split() for word in (fw.SUPPORTED if it == "ours" else (word_of(it),)))
+
+
 def state(value, states):
     word, depths = value.split(" ")
     if not 1 <= len(depths) <= 4 or set(depths) - set("0123"):
@@ -48,7 +53,7 @@ def read(path):
         "board": lambda value: setattr(profile, "board", Board(value)),
         "aligned": lambda value: setattr(profile, "aligned", int(value)),
         "version": lambda value: setattr(profile, "version", int(value, 16)),
-        "functions": lambda value: setattr(profile, "functions", frozenset(map(word_of, value.split()))),
+        "functions": lambda value: setattr(profile, "functions", functions_of(value)),
         "levels": lambda value: setattr(profile, "levels", int(value)),
         "states-read": lambda value: setattr(profile, "reads_states", yes(value)),
         "zero": lambda value: setattr(profile, "zero", int(value, 16)),

@@ -12,7 +12,7 @@ import firmware as fw
 from .peer import Flat
 from .state import State
 from .steps import Steps, is_due, said
-from .words import LOW, arguments_of
+from .words import LEVELED, LOW, arguments_of
 
 # how many operations of a core the reduction looks ahead, and how far states are covered
 AHEAD, COVER = 6, 3000
@@ -54,7 +54,7 @@ class Search:
         x1, x2, _ = arguments_of(operation.regs)
         if operation.word in fw.CPU_ON:
             found.update(self.board.named(x1, 0))
-        elif operation.word in fw.AFFINITY_INFO + fw.NODE_HW_STATE:
+        elif operation.word in LEVELED:
             found.update(self.board.named(x1, x2 & LOW))
         elif operation.word in fw.SYSTEM_SUSPEND + fw.SET_SUSPEND_MODE:
             found.update(self.board.cores)

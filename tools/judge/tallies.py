@@ -2,16 +2,22 @@
 import re
 
 import firmware as fw
+import functions
 
-from .words import function_of
+from .words import STOPS, function_of
 
-# the answers that a function may have by the definitions, where cores and entry points are all that is seen
-ANSWERS = {
-    "VERSION": "65537", "CPU_SUSPEND": "0 -2 -3 -9 stop", "CPU_OFF": "stop", "CPU_ON": "0 -2 -4 -5 -9",
-    "AFFINITY_INFO": "0 1 2 -2", "MIGRATE_INFO_TYPE": "2", "SYSTEM_OFF": "stop", "SYSTEM_RESET": "stop",
-    "FEATURES": "0 1 -1", "NODE_HW_STATE": "0 1 2 -2", "SYSTEM_SUSPEND": "-3 -9 stop",
-    "SET_SUSPEND_MODE": "0 -2 -3", "SYSTEM_RESET2": "-2 stop", "unknown": "-1",
-}
+# what is answered of how often a core may be started, and of the extended format, which no list tries
+UNTRIED = {"CPU_ON": (-6,), "FEATURES": (3,)}
+
+
+def answers_of(it):
+    """The answers that a function may have by the definitions, where cores and entry points are all that is seen."""
+    what = function_of(it.smc32)
+    codes = [str(code) for code in it.codes if code not in UNTRIED.get(what, ())]
+    return what, codes + ["stop"] * (it.smc32 in STOPS)
+
+
+ANSWERS = {**dict(map(answers_of, functions.TABLE)), "unknown": ["-1"]}
 
 
 def kind_of(name):
@@ -28,7 +34,7 @@ def answer_of(operation, is_last):
 
 def counted(names, lives_of):
     """Of each function and answer, how often it came in each kind of list."""
-    found = {(what, answer): {} for what, answers in ANSWERS.items() for answer in answers.split()}
+    found = {(what, answer): {} for what, answers in ANSWERS.items() for answer in answers}
     for name, lives in zip(names, lives_of):
         for mine in (mine for life in lives for mine in life.operations.values()):
             for operation in mine:

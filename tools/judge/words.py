@@ -1,6 +1,8 @@
 """Function words by name, and codes."""
 import firmware as fw
+import functions
 
+# all that the standard names, whether ours or not
 NAMES = ("VERSION", "CPU_SUSPEND", "CPU_OFF", "CPU_ON", "AFFINITY_INFO", "MIGRATE",
          "MIGRATE_INFO_TYPE", "MIGRATE_INFO_UP_CPU", "SYSTEM_OFF", "SYSTEM_RESET", "FEATURES",
          "CPU_FREEZE", "CPU_DEFAULT_SUSPEND", "NODE_HW_STATE", "SYSTEM_SUSPEND",
@@ -11,6 +13,8 @@ LOW = 2**32 - 1
 SLEEPS = fw.CPU_SUSPEND + fw.SYSTEM_SUSPEND
 ENDS = fw.SYSTEM_OFF + fw.SYSTEM_RESET + fw.SYSTEM_RESET2
 STOPS = SLEEPS + ENDS + fw.CPU_OFF
+# calls about a domain of a level
+LEVELED = tuple(word for it in functions.TABLE if "Level" in it.takes for word in (it.smc32, it.smc64) if word)
 
 
 def name_of(word):

@@ -1,8 +1,9 @@
 -- How functions are named and called, on requests that are known.
-use Rattle.std.proofs.Common.{◌≡◌, ℕ, Bool, true, false, None, Some, refl}
+use Rattle.std.proofs.Common.{◌≡◌, ℕ, Bool, true, false, None, Some, [], ◌∷◌, refl}
 use Rattle.std.specs.Prelude.{codes}
 use Rattle.psci_abi.specs.declared.functions.Function.{Function}
 use Rattle.psci_abi.specs.declared.functions.Function.TheVariants as functions
+use Rattle.psci_abi.specs.declared.parameter.Parameter.TheVariants as parameters
 use Rattle.psci_abi.specs.declared.request.Request.{Request}
 use Rattle.psci_abi.specs.declared.request.Request.TheVariants.{Version, CpuSuspend, CpuOff, CpuOn}
 use Rattle.psci_abi.specs.declared.request.Request.TheVariants.{AffinityInfo, MigrateInfoType}
@@ -11,7 +12,7 @@ use Rattle.psci_abi.specs.declared.request.Request.TheVariants.{SystemSuspend, S
 use Rattle.psci_abi.specs.declared.request.Request.TheVariants.{NodeHwState, SystemReset2, Unknown}
 use Rattle.psci_abi.specs.Calls.{request_of}
 use Rattle.psci_abi.specs.Functions.{function_in, function_index, function_name, narrow_word}
-use Rattle.psci_abi.specs.Functions.{registers_of, short_name, wide_word}
+use Rattle.psci_abi.specs.Functions.{registers_of, short_name, takes, wide_word}
 
 -- what is read of the registers by which a request is called
 abbrev again : Bool → Request → Request
@@ -129,6 +130,44 @@ wide_suspend = refl
 
 wide_off : wide_word functions.CpuOff ≡ None
 wide_off = refl
+
+-- What a function takes, in the order of the registers ----------------------------------------
+
+starts : takes functions.CpuOn
+    ≡ parameters.Target ∷ parameters.Entry ∷ parameters.Context ∷ []
+starts = refl
+
+suspends : takes functions.CpuSuspend
+    ≡ parameters.PowerState ∷ parameters.Entry ∷ parameters.Context ∷ []
+suspends = refl
+
+suspends_system : takes functions.SystemSuspend
+    ≡ parameters.Entry ∷ parameters.Context ∷ parameters.Nothing ∷ []
+suspends_system = refl
+
+asks_status : takes functions.AffinityInfo
+    ≡ parameters.Target ∷ parameters.Level ∷ parameters.Nothing ∷ []
+asks_status = refl
+
+asks_hardware : takes functions.NodeHwState
+    ≡ parameters.Target ∷ parameters.Level ∷ parameters.Nothing ∷ []
+asks_hardware = refl
+
+asks_features : takes functions.Features
+    ≡ parameters.Word ∷ parameters.Nothing ∷ parameters.Nothing ∷ []
+asks_features = refl
+
+sets_mode : takes functions.SetSuspendMode
+    ≡ parameters.Mode ∷ parameters.Nothing ∷ parameters.Nothing ∷ []
+sets_mode = refl
+
+resets : takes functions.SystemReset2
+    ≡ parameters.ResetType ∷ parameters.Cookie ∷ parameters.Nothing ∷ []
+resets = refl
+
+takes_nothing : takes functions.CpuOff
+    ≡ parameters.Nothing ∷ parameters.Nothing ∷ parameters.Nothing ∷ []
+takes_nothing = refl
 
 -- Names ---------------------------------------------------------------------------------------
 

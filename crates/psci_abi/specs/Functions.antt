@@ -8,6 +8,10 @@ use Rattle.psci_abi.specs.declared.functions.Function.TheVariants.{MigrateInfoTy
 use Rattle.psci_abi.specs.declared.functions.Function.TheVariants.{SystemReset, Features}
 use Rattle.psci_abi.specs.declared.functions.Function.TheVariants.{NodeHwState, SystemSuspend}
 use Rattle.psci_abi.specs.declared.functions.Function.TheVariants.{SetSuspendMode, SystemReset2}
+use Rattle.psci_abi.specs.declared.parameter.Parameter.{Parameter}
+use Rattle.psci_abi.specs.declared.parameter.Parameter.TheVariants.{PowerState, Target, Level}
+use Rattle.psci_abi.specs.declared.parameter.Parameter.TheVariants.{Entry, Context, Word, Mode}
+use Rattle.psci_abi.specs.declared.parameter.Parameter.TheVariants.{ResetType, Cookie, Nothing}
 use Rattle.psci_abi.specs.declared.request.Request.{Request}
 use Rattle.psci_abi.specs.declared.request.Request.TheVariants as requests
 use Rattle.psci_abi.specs.declared.registers.Regs.{Regs}
@@ -86,6 +90,18 @@ wide_word NodeHwState = Some 0xC400000D
 wide_word SystemSuspend = Some 0xC400000E
 wide_word SystemReset2 = Some 0xC4000012
 wide_word function = None
+
+-- what its arguments are, as x1 to x3 carry them
+abbrev pub takes : Function → List Parameter
+takes CpuSuspend = PowerState ∷ Entry ∷ Context ∷ []
+takes CpuOn = Target ∷ Entry ∷ Context ∷ []
+takes AffinityInfo = Target ∷ Level ∷ Nothing ∷ []
+takes Features = Word ∷ Nothing ∷ Nothing ∷ []
+takes NodeHwState = Target ∷ Level ∷ Nothing ∷ []
+takes SystemSuspend = Entry ∷ Context ∷ Nothing ∷ []
+takes SetSuspendMode = Mode ∷ Nothing ∷ Nothing ∷ []
+takes SystemReset2 = ResetType ∷ Cookie ∷ Nothing ∷ []
+takes function = Nothing ∷ Nothing ∷ Nothing ∷ []
 
 -- the order of the functions, which is that of their numbers
 abbrev pub function_index : Function → ℕ

@@ -2,7 +2,9 @@
 
 ghost use Rattle.std.specs.Prelude.{◌≡◌};
 ghost use Rattle.psci_abi.specs.Calls.{function_of, request_of};
+ghost use Rattle.psci_abi.specs.Functions.{arguments_of, function_in};
 
+use crate::functions::Function;
 use crate::registers::{Regs, low, narrow};
 use crate::words::{
     AFFINITY_INFO_32, AFFINITY_INFO_64, CPU_OFF, CPU_ON_32, CPU_ON_64, CPU_SUSPEND_32,
@@ -91,6 +93,58 @@ pub enum Request {
 }
 
 impl Request {
+    /// The function that is called; None of an unknown function word.
+    pub fn function(self) -> Option<Function>
+        ensures { result ≡ function_in self }
+    {
+        match self {
+            Request::Version => Some(Function::Version),
+            Request::CpuSuspend { .. } => Some(Function::CpuSuspend),
+            Request::CpuOff => Some(Function::CpuOff),
+            Request::CpuOn { .. } => Some(Function::CpuOn),
+            Request::AffinityInfo { .. } => Some(Function::AffinityInfo),
+            Request::MigrateInfoType => Some(Function::MigrateInfoType),
+            Request::SystemOff => Some(Function::SystemOff),
+            Request::SystemReset => Some(Function::SystemReset),
+            Request::Features { .. } => Some(Function::Features),
+            Request::NodeHwState { .. } => Some(Function::NodeHwState),
+            Request::SystemSuspend { .. } => Some(Function::SystemSuspend),
+            Request::SetSuspendMode { .. } => Some(Function::SetSuspendMode),
+            Request::SystemReset2 { .. } => Some(Function::SystemReset2),
+            Request::Unknown => None,
+        }
+    }
+
+    /// The arguments, as x1 to x3 carry them; 0 where there is none.
+    pub fn arguments(self) -> [u64; 3]
+        ensures { result ≡ arguments_of self }
+    {
+        match self {
+            Request::CpuSuspend {
+                state,
+                entry,
+                context,
+            } => [u64::from(state), entry, context],
+            Request::CpuOn {
+                target,
+                entry,
+                context,
+            } => [target, entry, context],
+            Request::AffinityInfo { target, level } => [target, u64::from(level), 0],
+            Request::NodeHwState { target, level } => [target, u64::from(level), 0],
+            Request::SystemSuspend { entry, context } => [entry, context, 0],
+            Request::Features { word } => [u64::from(word), 0, 0],
+            Request::SetSuspendMode { mode } => [u64::from(mode), 0, 0],
+            Request::SystemReset2 { reset_type, cookie } => [u64::from(reset_type), cookie, 0],
+            Request::Version
+            | Request::CpuOff
+            | Request::MigrateInfoType
+            | Request::SystemOff
+            | Request::SystemReset
+            | Request::Unknown => [0; 3],
+        }
+    }
+
     /// CPU_SUSPEND with these arguments.
     fn cpu_suspend(state: u32, entry: u64, context: u64) -> Request
         ensures { result ≡ Request.CpuSuspend state entry context }

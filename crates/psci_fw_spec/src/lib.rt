@@ -32,7 +32,7 @@ pub use laws::{
 pub use mode::SuspendMode;
 pub use opening::Opening;
 pub use outcome::{Act, Outcome};
-pub use psci_abi::{Code, Regs, Request, read};
+pub use psci_abi::{Code, Parameter, Regs, Request, read};
 pub use psci_board::{Board, Memory};
 pub use psci_messages::{Ack, Cause, Kind, Message, Part, Start, Taken};
 pub use reply::FwReply;

@@ -1,6 +1,7 @@
 -- What the firmware is asked for a call, by its function word and its arguments.
 use Rattle.std.proofs.Common.{◌≡◌, ℕ, ◌==◌, ◌||◌, Bool, true, false}
 use Rattle.std.proofs.Common.{if◌then◌else◌, refl, sym, ap, inl, inr, ◌∙◌, ◌⊎◌}
+use Rattle.std.proofs.lemmas.Bool.{eqb-true}
 use Rattle.psci_abi.specs.Calls.{argument, function_of, low_half}
 use Rattle.psci_abi.specs.declared.registers.Regs.{Regs}
 use Rattle.psci_abi.specs.declared.request.Request.{Request}
@@ -39,6 +40,12 @@ step : (c : Call) (t : Bool) (r s : Request) (a e : Argument) → Same c r a →
 step c true r s a e here below = here
 step c false r s a e here below = below
 
+-- a request whose first argument names nothing, by the last line
+skip : (c : Call) (t : Bool) (r s : Request) (a : Argument) → (t ≡ true → a ≡ Other)
+    → Same c r Other → Same c s a → Same c (if t then r else s) a
+skip c true r s a other here below = rw (other refl) here
+skip c false r s a other here below = below
+
 -- a request of a function that may not be there
 leaf : (c : Call) (r : Request) (a : Argument) (t : Bool) → is_there c.d.functions r ≡ t
     → record c.regs { x1 = first_argument c.d c.b c.boot c.mode c.regs.x1 r }
@@ -51,13 +58,15 @@ all : (c : Call) (k : ℕ) → Same c (function_of k (argument c.regs c.regs.x1)
     (argument c.regs c.regs.x2) (argument c.regs c.regs.x3)) (argument_by c.d.functions k)
 all c k =
     let f = c.d.functions in
-    step c (k == 0x84000000) _ _ _ _ (leaf c _ Other true refl refl refl)
+    skip c (k == 0x84000000) _ _ _ (λ e. rw (eqb-true k 0x84000000 e) refl)
+    (leaf c _ Other true refl refl refl)
     (step c (k == 0x84000001 || k == 0xC4000001) _ _ _ _
     (leaf c _ State f.cpu_suspend refl refl refl)
     (step c (k == 0x84000002) _ _ _ _ (leaf c _ Other f.cpu_off refl refl refl)
     (step c (k == 0x84000003 || k == 0xC4000003) _ _ _ _ (leaf c _ Core f.cpu_on refl refl refl)
     (step c (k == 0x84000004 || k == 0xC4000004) _ _ _ _ (leaf c _ Node true refl refl refl)
-    (step c (k == 0x84000006) _ _ _ _ (leaf c _ Other true refl refl refl)
+    (skip c (k == 0x84000006) _ _ _ (λ e. rw (eqb-true k 0x84000006 e) refl)
+    (leaf c _ Other true refl refl refl)
     (step c (k == 0x84000008) _ _ _ _ (leaf c _ Other f.system_off refl refl refl)
     (step c (k == 0x84000009) _ _ _ _ (leaf c _ Other f.system_reset refl refl refl)
     (step c (k == 0x8400000A) _ _ _ _ (leaf c _ Function true refl refl refl)

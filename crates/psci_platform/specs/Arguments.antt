@@ -32,15 +32,14 @@ names_nothing a = false
 abbrev pub there : Bool → Argument → Argument
 there is_there a = if is_there then a else Missing
 
--- what the first argument of the function of a word names
+-- What the first argument of the function of a word names. Of a function that is there on each
+-- platform, and that says the same everywhere, it names nothing.
 abbrev pub argument_by : Functions → ℕ → Argument
 argument_by f word =
-    (if word == 0x84000000 then Other
-    else (if word == 0x84000001 || word == 0xC4000001 then there f.cpu_suspend State
+    (if word == 0x84000001 || word == 0xC4000001 then there f.cpu_suspend State
     else (if word == 0x84000002 then there f.cpu_off Other
     else (if word == 0x84000003 || word == 0xC4000003 then there f.cpu_on Core
     else (if word == 0x84000004 || word == 0xC4000004 then Node
-    else (if word == 0x84000006 then Other
     else (if word == 0x84000008 then there f.system_off Other
     else (if word == 0x84000009 then there f.system_reset Other
     else (if word == 0x8400000A then Function
@@ -48,7 +47,7 @@ argument_by f word =
     else (if word == 0x8400000E || word == 0xC400000E then there f.system_suspend System
     else (if word == 0x8400000F then there f.cpu_suspend Other
     else (if word == 0x84000012 || word == 0xC4000012 then there f.system_reset2 Reset
-    else Other)))))))))))))
+    else Other)))))))))))
 
 -- the first argument that the firmware is asked with, where it is one of these
 abbrev pub first_by : DescriptionValue → BoardValue → ℕ → SuspendMode → Regs → Argument → ℕ

@@ -6,9 +6,9 @@ ghost use Rattle.psci_platform.specs.Arguments.{argument_by, there};
 use crate::functions::Functions;
 use psci_abi::words::{
     AFFINITY_INFO_32, AFFINITY_INFO_64, CPU_OFF, CPU_ON_32, CPU_ON_64, CPU_SUSPEND_32,
-    CPU_SUSPEND_64, MIGRATE_INFO_TYPE, NODE_HW_STATE_32, NODE_HW_STATE_64, PSCI_FEATURES,
-    PSCI_SET_SUSPEND_MODE, PSCI_VERSION, SYSTEM_OFF, SYSTEM_RESET, SYSTEM_RESET2_32,
-    SYSTEM_RESET2_64, SYSTEM_SUSPEND_32, SYSTEM_SUSPEND_64,
+    CPU_SUSPEND_64, NODE_HW_STATE_32, NODE_HW_STATE_64, PSCI_FEATURES, PSCI_SET_SUSPEND_MODE,
+    SYSTEM_OFF, SYSTEM_RESET, SYSTEM_RESET2_32, SYSTEM_RESET2_64, SYSTEM_SUSPEND_32,
+    SYSTEM_SUSPEND_64,
 };
 
 /// What the first argument of a function names, as far as a platform has words of its own for it.
@@ -39,12 +39,10 @@ impl Functions {
         ensures { result ≡ argument_by self.now word }
     {
         match word {
-            PSCI_VERSION => Argument::Other,
             CPU_SUSPEND_32 | CPU_SUSPEND_64 => there(self.cpu_suspend, Argument::State),
             CPU_OFF => there(self.cpu_off, Argument::Other),
             CPU_ON_32 | CPU_ON_64 => there(self.cpu_on, Argument::Core),
             AFFINITY_INFO_32 | AFFINITY_INFO_64 => Argument::Node,
-            MIGRATE_INFO_TYPE => Argument::Other,
             SYSTEM_OFF => there(self.system_off, Argument::Other),
             SYSTEM_RESET => there(self.system_reset, Argument::Other),
             PSCI_FEATURES => Argument::Function,

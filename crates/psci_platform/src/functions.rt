@@ -41,11 +41,7 @@ impl Functions {
             Request::NodeHwState { .. } => self.node_hw_state,
             Request::SystemSuspend { .. } => self.system_suspend,
             Request::SystemReset2 { .. } => self.system_reset2,
-            Request::Version
-            | Request::AffinityInfo { .. }
-            | Request::MigrateInfoType
-            | Request::Features { .. }
-            | Request::Unknown => true,
+            _ => true,
         }
     }
 }

@@ -4,8 +4,7 @@ use crate::domain::{SharesText, TargetText};
 use crate::names::mode_name;
 use psci_state::Ask;
 use psci_world::Board;
-use psci_world_spec::Request::{CpuOff, MigrateInfoType, SystemOff, SystemReset, Unknown, Version};
-use psci_world_spec::{Regs, Request, read};
+use psci_world_spec::{Parameter, Regs, Request, read};
 use std::fmt;
 
 /// The function of a word.
@@ -27,18 +26,12 @@ struct StateText<'a> {
     back: EntryText,
 }
 
-/// The arguments of a call.
+/// The arguments of a call, by what its function takes.
 #[derive(Clone, Copy)]
 struct ArgumentsText<'a> {
     board: &'a Board,
-    request: Request,
-}
-
-/// The arguments of a function that says where a core enters; those of any other are none.
-#[derive(Clone, Copy)]
-struct OpeningText<'a> {
-    board: &'a Board,
-    request: Request,
+    takes: [Parameter; 3],
+    carried: [u64; 3],
 }
 
 /// A mode of PSCI_SET_SUSPEND_MODE.
@@ -111,39 +104,39 @@ impl fmt::Display for ModeText {
     }
 }
 
-impl fmt::Display for OpeningText<'_> {
+impl fmt::Display for ArgumentsText<'_> {
     fn fmt<W: fmt::Write>(&self, f: &mut fmt::Formatter<W>) -> fmt::Result {
-        let OpeningText { board, request } = *self;
-        let Some(back) = entry_of(request) else {
-            return Ok(());
-        };
-        match request {
-            Request::CpuSuspend { state, .. } => {
+        let ArgumentsText {
+            board,
+            takes: [first, second, _],
+            carried: [x1, x2, x3],
+        } = *self;
+        match (first, second) {
+            (Parameter::Target, Parameter::Entry) => {
+                let (target, back) = (target_text(board, x1, 0), entry_text(x2, x3));
+                write!(f, " of {target}, {back}")
+            }
+            (Parameter::Target, Parameter::Level) => {
+                write!(f, " of {}", target_text(board, x1, low(x2)))
+            }
+            (Parameter::Target, _) => write!(f, " of {}", target_text(board, x1, 0)),
+            (Parameter::PowerState, _) => {
+                let (state, back) = (low(x1), entry_text(x2, x3));
                 write!(f, " {}", StateText { board, state, back })
             }
-            Request::CpuOn { target, .. } => {
-                write!(f, " of {}, {back}", target_text(board, target, 0))
-            }
-            _ => write!(f, " {back}"),
+            (Parameter::Entry, _) => write!(f, " {}", entry_text(x1, x2)),
+            (Parameter::Word, _) => write!(f, " of {}", FunctionText(x1)),
+            (Parameter::Mode, _) => write!(f, " {}", ModeText(low(x1))),
+            (Parameter::ResetType, _) => write!(f, " of type 0x{x1:x}"),
+            (Parameter::Level | Parameter::Context | Parameter::Cookie | Parameter::Nothing, _) =>
+                Ok(()),
         }
     }
 }
 
-impl fmt::Display for ArgumentsText<'_> {
-    fn fmt<W: fmt::Write>(&self, f: &mut fmt::Formatter<W>) -> fmt::Result {
-        let ArgumentsText { board, request } = *self;
-        match request {
-            Request::AffinityInfo { target, level } | Request::NodeHwState { target, level } => {
-                write!(f, " of {}", target_text(board, target, level))
-            }
-            Request::Features { word } => write!(f, " of {}", FunctionText(u64::from(word))),
-            Request::SetSuspendMode { mode } => write!(f, " {}", ModeText(mode)),
-            Request::SystemReset2 { reset_type, .. } => write!(f, " of type 0x{reset_type:x}"),
-            Request::CpuSuspend { .. } | Request::CpuOn { .. } | Request::SystemSuspend { .. } =>
-                OpeningText { board, request }.fmt(f),
-            Version | CpuOff | MigrateInfoType | SystemOff | SystemReset | Unknown => Ok(()),
-        }
-    }
+/// An argument of 32 bits.
+fn low(argument: u64) -> u32 {
+    (argument % (1 << 32)) as u32
 }
 
 /// What an affinity word names at a level.
@@ -151,23 +144,28 @@ fn target_text(board: &Board, word: u64, level: u32) -> TargetText<'_> {
     TargetText { board, word, level }
 }
 
-/// Where a function says that a core enters, if it says so.
-fn entry_of(request: Request) -> Option<EntryText> {
-    match request {
-        Request::CpuSuspend { entry, context, .. }
-        | Request::CpuOn { entry, context, .. }
-        | Request::SystemSuspend { entry, context } => Some(EntryText { entry, context }),
-        _ => None,
-    }
+/// Where a core enters, and what it finds in x0 there.
+fn entry_text(entry: u64, context: u64) -> EntryText {
+    EntryText { entry, context }
 }
 
 impl fmt::Display for CallText<'_> {
     fn fmt<W: fmt::Write>(&self, f: &mut fmt::Formatter<W>) -> fmt::Result {
-        let function = FunctionText(self.regs.x0);
+        let request = read(self.regs);
         let arguments = ArgumentsText {
             board: self.board,
-            request: read(self.regs),
+            takes: takes(request),
+            carried: request.arguments(),
         };
+        let function = FunctionText(self.regs.x0);
         write!(f, "core {} {function}{arguments}", self.core)
+    }
+}
+
+/// What a call takes: nothing, where its function is unknown.
+fn takes(request: Request) -> [Parameter; 3] {
+    match request.function() {
+        Some(function) => function.takes(),
+        None => [Parameter::Nothing; 3],
     }
 }

@@ -92,13 +92,14 @@ like_old = refl
 
 -- The sorts of questions --------------------------------------------------------------------------
 
--- in the order of the table, from 0 on
-pub indexes : map asked_index (map asked.Call (functions.Version ∷ functions.CpuSuspend
+-- each has a number of its own, from 0 on
+pub indexes : map asked_index ((asked.Unknown ∷ asked.Enter ∷ asked.Wake ∷ asked.Reset
+    ∷ asked.Deliver ∷ asked.Take ∷ [])
+    ++ map asked.Call (functions.Version ∷ functions.CpuSuspend
     ∷ functions.CpuOff ∷ functions.CpuOn ∷ functions.AffinityInfo ∷ functions.MigrateInfoType
     ∷ functions.SystemOff ∷ functions.SystemReset ∷ functions.Features ∷ functions.NodeHwState
-    ∷ functions.SystemSuspend ∷ functions.SetSuspendMode ∷ functions.SystemReset2 ∷ [])
-    ++ (asked.Unknown ∷ asked.Enter ∷ asked.Wake ∷ asked.Reset ∷ asked.Deliver ∷ asked.Take
-    ∷ [])) ≡ range_with_len 0 19
+    ∷ functions.SystemSuspend ∷ functions.SetSuspendMode ∷ functions.SystemReset2 ∷ []))
+    ≡ range_with_len 0 19
 indexes = refl
 
 -- one record of several, the first and the last, and none

@@ -1,6 +1,6 @@
 -- Of which tally a record is: what was asked, with what was answered.
-use Rattle.std.specs.Prelude.{ℕ, Option, None, Some, Bool, true, false, ◌&&◌, ◌==◌, if◌then◌else◌}
-use Rattle.std.specs.Prelude.{not}
+use Rattle.std.specs.Prelude.{ℕ, ◌+◌, Option, None, Some, Bool, true, false, ◌&&◌, ◌==◌}
+use Rattle.std.specs.Prelude.{if◌then◌else◌, not}
 use Rattle.std.specs.Ordering.{int_eq}
 use Rattle.psci_world_spec.specs.psci_abi.Calls.{request_of}
 use Rattle.psci_world_spec.specs.psci_abi.Functions.{function_in, function_index}
@@ -63,15 +63,15 @@ answer_of sayings.Absent = Absent
 abbrev pub tally_of : Record → Tally
 tally_of r = record { asked = asked_of r.event; answer = answer_of r.said }
 
--- which of the sorts it is, in their order
+-- which of the sorts it is: those of no function come first, then the functions in their order
 abbrev pub asked_index : Asked → ℕ
-asked_index (Call function) = function_index function
-asked_index Unknown = 13
-asked_index Entry = 14
-asked_index Wake = 15
-asked_index Reset = 16
-asked_index Deliver = 17
-asked_index Take = 18
+asked_index Unknown = 0
+asked_index Entry = 1
+asked_index Wake = 2
+asked_index Reset = 3
+asked_index Deliver = 4
+asked_index Take = 5
+asked_index (Call function) = function_index function + 6
 
 -- both are the same answer
 abbrev pub is_answer : Answer → Answer → Bool

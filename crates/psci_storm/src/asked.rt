@@ -1,6 +1,6 @@
 //! What was asked.
 
-ghost use Rattle.std.specs.Prelude.{◌≡◌, ◌==◌};
+ghost use Rattle.std.specs.Prelude.{◌≡◌, ◌==◌, ◌+◌};
 ghost use Rattle.psci_abi.specs.Functions.{function_index};
 ghost use Rattle.psci_storm.specs.Tallies.{asked_by, asked_index, asked_of};
 
@@ -70,7 +70,7 @@ impl Asked {
 
 /// Whether both are the same function.
 fn is_function(one: Function, other: Function) -> bool
-    ensures { result ≡ (function_index one == function_index other) }
+    ensures { result ≡ (function_index one + 6 == function_index other + 6) }
 {
     one == other
 }

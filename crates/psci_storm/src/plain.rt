@@ -2,10 +2,11 @@
 
 use crate::draws::Draws;
 use crate::sight::Sight;
+use crate::table::DRAWN;
 use psci_abi::words::{
     CPU_ON_64, CPU_SUSPEND_32, CPU_SUSPEND_64, MIGRATE, PSCI_FEATURES, SYSTEM_RESET2_32,
 };
-use psci_abi::{Regs, Request};
+use psci_abi::{Function, Parameter, Regs, Request, read};
 use psci_world_spec::{Board, Event, Place};
 
 /// A function word that is asked about, or called, now and then.
@@ -75,65 +76,41 @@ impl Draws {
 
     /// Any request that does not end the life.
     pub fn request(&mut self, board: &Board) -> Request {
-        match self.below(12) {
-            0 => Request::Version,
-            1 => Request::MigrateInfoType,
-            2 => Request::Unknown,
-            3 => self.mode_change(),
-            4 => self.features(),
-            5 => self.affinity_info(board),
-            6 => Request::CpuOff,
-            7 => self.system_suspend(board),
-            8 => self.suspend(board),
-            9 => self.other_reset(),
-            10 => self.node_hw_state(board),
-            _ => self.power_on(board),
+        let place = self.below(DRAWN.len() as u32) as usize;
+        match DRAWN.get(place) {
+            Some(Some(function)) => self.request_of(*function, board),
+            _ => Request::Unknown,
         }
     }
 
-    /// A PSCI_SET_SUSPEND_MODE, good or bad.
-    fn mode_change(&mut self) -> Request {
-        Request::SetSuspendMode {
-            mode: self.below(3),
-        }
+    /// A request of this function, good or bad.
+    fn request_of(&mut self, function: Function, board: &Board) -> Request {
+        let [first, second, third] = function.takes();
+        let word = function.wide_word().unwrap_or(function.narrow_word());
+        let x1 = self.argument(first, board);
+        let x2 = self.argument(second, board);
+        let x3 = self.argument(third, board);
+        read(Regs {
+            x0: u64::from(word),
+            x1,
+            x2,
+            x3,
+        })
     }
 
-    /// A PSCI_FEATURES.
-    fn features(&mut self) -> Request {
-        Request::Features {
-            word: self.feature(),
-        }
-    }
-
-    /// An AFFINITY_INFO, good or bad.
-    fn affinity_info(&mut self, board: &Board) -> Request {
-        Request::AffinityInfo {
-            target: self.target(board),
-            level: self.below(5),
-        }
-    }
-
-    /// A NODE_HW_STATE, good or bad.
-    fn node_hw_state(&mut self, board: &Board) -> Request {
-        Request::NodeHwState {
-            target: self.target(board),
-            level: self.below(5),
-        }
-    }
-
-    /// A SYSTEM_SUSPEND, good or bad.
-    fn system_suspend(&mut self, board: &Board) -> Request {
-        Request::SystemSuspend {
-            entry: self.entry(board),
-            context: self.word(),
-        }
-    }
-
-    /// A SYSTEM_RESET2 of a type that there is not: one of a vendor, or reserved.
-    fn other_reset(&mut self) -> Request {
-        Request::SystemReset2 {
-            reset_type: 1 << self.below(32),
-            cookie: self.word(),
+    /// An argument, good or bad; a reset is of a type that there is not, one of a vendor or
+    /// reserved.
+    fn argument(&mut self, parameter: Parameter, board: &Board) -> u64 {
+        match parameter {
+            Parameter::PowerState => u64::from(self.state(board)),
+            Parameter::Target => self.target(board),
+            Parameter::Level => u64::from(self.below(5)),
+            Parameter::Entry => self.entry(board),
+            Parameter::Context | Parameter::Cookie => self.word(),
+            Parameter::Word => u64::from(self.feature()),
+            Parameter::Mode => u64::from(self.below(3)),
+            Parameter::ResetType => 1 << self.below(32),
+            Parameter::Nothing => 0,
         }
     }
 
@@ -146,24 +123,6 @@ impl Draws {
                 reset_type: 0,
                 cookie: self.word(),
             }
-        }
-    }
-
-    /// A CPU_ON, good or bad.
-    fn power_on(&mut self, board: &Board) -> Request {
-        Request::CpuOn {
-            target: self.target(board),
-            entry: self.entry(board),
-            context: self.word(),
-        }
-    }
-
-    /// A CPU_SUSPEND, good or bad.
-    fn suspend(&mut self, board: &Board) -> Request {
-        Request::CpuSuspend {
-            state: self.state(board),
-            entry: self.entry(board),
-            context: self.word(),
         }
     }
 

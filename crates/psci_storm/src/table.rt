@@ -1,4 +1,5 @@
-//! All tallies that a legal run may have.
+//! What is asked and answered: the functions that storms draw, and all tallies that a legal run may
+//! have.
 
 use crate::answer::Answer::{
     Absent, Acked, Enter, Ignored, Old, Resume, Return, Started, Stop, Used,
@@ -6,9 +7,26 @@ use crate::answer::Answer::{
 use crate::asked::Asked::{self, Call};
 use crate::tally::Tally;
 use psci_abi::Function::{
-    AffinityInfo, CpuOff, CpuOn, CpuSuspend, Features, MigrateInfoType, NodeHwState,
+    self, AffinityInfo, CpuOff, CpuOn, CpuSuspend, Features, MigrateInfoType, NodeHwState,
     SetSuspendMode, SystemOff, SystemReset, SystemReset2, SystemSuspend, Version,
 };
+
+/// What a core calls where it calls anything, each as often: the functions that do not end the
+/// life, and one that is not there.
+pub const DRAWN: [Option<Function>; 12] = [
+    Some(Version),
+    Some(MigrateInfoType),
+    None,
+    Some(SetSuspendMode),
+    Some(Features),
+    Some(AffinityInfo),
+    Some(CpuOff),
+    Some(SystemSuspend),
+    Some(CpuSuspend),
+    Some(SystemReset2),
+    Some(NodeHwState),
+    Some(CpuOn),
+];
 
 /// The tallies of a table, which has a row for each thing that is asked, with what may be answered.
 macro_rules! tallies {

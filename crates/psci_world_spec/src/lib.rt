@@ -19,5 +19,7 @@ mod said;
 pub use event::Event;
 pub use laws::{law_histories, law_runs};
 pub use place::Place;
-pub use psci_fw_spec::{Ack, Act, Board, Code, Kind, Memory, Part, Regs, Request, Taken, read};
+pub use psci_fw_spec::{
+    Ack, Act, Board, Code, Kind, Memory, Parameter, Part, Regs, Request, Taken, read,
+};
 pub use said::{Record, Said, Sent};

@@ -1,6 +1,8 @@
 /* Part of beside.c: functions and their arguments, and the cores of the board. */
+#include "table.h"
 
 #define SMC64 0x40000000u
+#define OUR_FUNCTIONS (sizeof our_functions / sizeof *our_functions)
 enum {
     VERSION = 0x84000000u,
     CPU_SUSPEND = 0x84000001u,
@@ -8,55 +10,68 @@ enum {
     CPU_ON = 0x84000003u,
     AFFINITY_INFO = 0x84000004u,
     FEATURES = 0x8400000au,
-    NODE_HW_STATE = 0x8400000du,
-    SYSTEM_SUSPEND = 0x8400000eu,
     SET_SUSPEND_MODE = 0x8400000fu,
     SYSTEM_RESET2 = 0x84000012u,
 };
 
-/* the names of all functions from 0x84000000 on; the definition of each of ours, and with 64 if it has
- * an SMC64 word */
+/* the names of all functions from 0x84000000 on, whether ours or not, and which definition says what ours
+ * answer, where that is not Calls.function_outcome */
 static const struct {
     const char *name, *clause;
-    bool has_64;
-} functions[] = {
-    {"VERSION", "Calls.version", false},
-    {"CPU_SUSPEND", "CpuSuspend.cpu_suspend", true},
-    {"CPU_OFF", "CpuOff.cpu_off", false},
-    {"CPU_ON", "CpuOn.cpu_on", true},
-    {"AFFINITY_INFO", "AffinityInfo.affinity_info", true},
-    {"MIGRATE", NULL, false},
-    {"MIGRATE_INFO_TYPE", "Calls.no_migration", false},
-    {"MIGRATE_INFO_UP_CPU", NULL, false},
-    {"SYSTEM_OFF", "SystemCalls.system_message", false},
-    {"SYSTEM_RESET", "SystemCalls.system_message", false},
-    {"FEATURES", "Calls.function_outcome", false},
-    {"CPU_FREEZE", NULL, false},
-    {"CPU_DEFAULT_SUSPEND", NULL, false},
-    {"NODE_HW_STATE", "NodeHwState.node_hw_state", true},
-    {"SYSTEM_SUSPEND", "SystemCalls.system_suspend", true},
-    {"SET_SUSPEND_MODE", "SuspendMode.set_suspend_mode", false},
-    {"STAT_RESIDENCY", NULL, false},
-    {"STAT_COUNT", NULL, false},
-    {"SYSTEM_RESET2", "SystemCalls.system_reset2", true},
+} names[] = {
+    {"VERSION", "Calls.version"},
+    {"CPU_SUSPEND", "CpuSuspend.cpu_suspend"},
+    {"CPU_OFF", "CpuOff.cpu_off"},
+    {"CPU_ON", "CpuOn.cpu_on"},
+    {"AFFINITY_INFO", "AffinityInfo.affinity_info"},
+    {"MIGRATE", NULL},
+    {"MIGRATE_INFO_TYPE", "Calls.no_migration"},
+    {"MIGRATE_INFO_UP_CPU", NULL},
+    {"SYSTEM_OFF", "SystemCalls.system_message"},
+    {"SYSTEM_RESET", "SystemCalls.system_message"},
+    {"FEATURES", NULL},
+    {"CPU_FREEZE", NULL},
+    {"CPU_DEFAULT_SUSPEND", NULL},
+    {"NODE_HW_STATE", "NodeHwState.node_hw_state"},
+    {"SYSTEM_SUSPEND", "SystemCalls.system_suspend"},
+    {"SET_SUSPEND_MODE", "SuspendMode.set_suspend_mode"},
+    {"STAT_RESIDENCY", NULL},
+    {"STAT_COUNT", NULL},
+    {"SYSTEM_RESET2", "SystemCalls.system_reset2"},
 };
 
 static uint32_t plain_word(uint64_t x0) { return (uint32_t)x0 & ~SMC64; }
 
 static bool is_named(uint64_t x0) {
-    return plain_word(x0) - VERSION < sizeof functions / sizeof *functions;
+    return plain_word(x0) - VERSION < sizeof names / sizeof *names;
 }
 
 const char *psci_beside_name(uint64_t x0) {
-    return is_named(x0) ? functions[plain_word(x0) - VERSION].name : NULL;
+    return is_named(x0) ? names[plain_word(x0) - VERSION].name : NULL;
+}
+
+/* which of our functions has this number; how many there are, where none has */
+static size_t our_place(uint64_t x0) {
+    size_t at = 0;
+    while (at < OUR_FUNCTIONS && our_functions[at].smc32 != plain_word(x0))
+        at++;
+    return at;
 }
 
 static const char *clause_of(uint64_t x0) {
-    return is_named(x0) ? functions[plain_word(x0) - VERSION].clause : NULL;
+    const char *named = is_named(x0) ? names[plain_word(x0) - VERSION].clause : NULL;
+    return our_place(x0) == OUR_FUNCTIONS ? NULL : named ? named : "Calls.function_outcome";
 }
 
 static bool is_ours(uint32_t word) {
-    return clause_of(word) && (!(word & SMC64) || functions[plain_word(word) - VERSION].has_64);
+    size_t at = our_place(word);
+    return at < OUR_FUNCTIONS && (word == our_functions[at].smc32 || word == our_functions[at].smc64);
+}
+
+/* what a register carries of a call of ours, 1 to 3 */
+static int carried(uint64_t x0, int at) {
+    size_t place = our_place(x0);
+    return place < OUR_FUNCTIONS ? our_functions[place].takes[at - 1] : TAKES_NOTHING;
 }
 
 static bool has(const struct psci_beside_profile *profile, uint32_t word) {
@@ -68,9 +83,10 @@ static bool has(const struct psci_beside_profile *profile, uint32_t word) {
 
 /* whether a register of a call counts by its low half alone */
 static bool is_narrow(uint64_t x0, int at) {
-    uint32_t word = plain_word(x0);
-    return at == 0 || !(x0 & SMC64) || (at == 1 && (word == CPU_SUSPEND || word == SYSTEM_RESET2)) ||
-           (at == 2 && (word == AFFINITY_INFO || word == NODE_HW_STATE));
+    if (at == 0 || !(x0 & SMC64))
+        return true;
+    int what = carried(x0, at);
+    return what == TAKES_POWER_STATE || what == TAKES_RESET_TYPE || what == TAKES_LEVEL;
 }
 
 static void narrow(uint64_t x[4]) {
@@ -79,15 +95,11 @@ static void narrow(uint64_t x[4]) {
             x[at] = (uint32_t)x[at];
 }
 
-static bool has_target(uint64_t x0) {
-    uint32_t word = plain_word(x0);
-    return word == CPU_ON || word == AFFINITY_INFO || word == NODE_HW_STATE;
-}
+static bool has_target(uint64_t x0) { return carried(x0, 1) == TAKES_TARGET; }
 
 /* which register has an entry point; 0 where none has */
 static int entry_at(uint64_t x0) {
-    uint32_t word = plain_word(x0);
-    return word == CPU_ON || word == CPU_SUSPEND ? 2 : word == SYSTEM_SUSPEND ? 1 : 0;
+    return carried(x0, 1) == TAKES_ENTRY ? 1 : carried(x0, 2) == TAKES_ENTRY ? 2 : 0;
 }
 
 /* ---- The board */

@@ -1,0 +1,48 @@
+/* The functions that the firmware has, in the order of their numbers. `tools/tables` writes this file. */
+
+/* what a register carries */
+enum {
+    TAKES_POWER_STATE,
+    TAKES_TARGET,
+    TAKES_LEVEL,
+    TAKES_ENTRY,
+    TAKES_CONTEXT,
+    TAKES_WORD,
+    TAKES_MODE,
+    TAKES_RESET_TYPE,
+    TAKES_COOKIE,
+    TAKES_NOTHING,
+};
+
+/* of each its words, 0 where it has none by SMC64, and what x1 to x3 carry */
+static const struct {
+    uint32_t smc32, smc64;
+    uint8_t takes[3];
+} our_functions[] = {
+    /* PSCI_VERSION */
+    {0x84000000u, 0x0u, {TAKES_NOTHING, TAKES_NOTHING, TAKES_NOTHING}},
+    /* CPU_SUSPEND */
+    {0x84000001u, 0xC4000001u, {TAKES_POWER_STATE, TAKES_ENTRY, TAKES_CONTEXT}},
+    /* CPU_OFF */
+    {0x84000002u, 0x0u, {TAKES_NOTHING, TAKES_NOTHING, TAKES_NOTHING}},
+    /* CPU_ON */
+    {0x84000003u, 0xC4000003u, {TAKES_TARGET, TAKES_ENTRY, TAKES_CONTEXT}},
+    /* AFFINITY_INFO */
+    {0x84000004u, 0xC4000004u, {TAKES_TARGET, TAKES_LEVEL, TAKES_NOTHING}},
+    /* MIGRATE_INFO_TYPE */
+    {0x84000006u, 0x0u, {TAKES_NOTHING, TAKES_NOTHING, TAKES_NOTHING}},
+    /* SYSTEM_OFF */
+    {0x84000008u, 0x0u, {TAKES_NOTHING, TAKES_NOTHING, TAKES_NOTHING}},
+    /* SYSTEM_RESET */
+    {0x84000009u, 0x0u, {TAKES_NOTHING, TAKES_NOTHING, TAKES_NOTHING}},
+    /* PSCI_FEATURES */
+    {0x8400000Au, 0x0u, {TAKES_WORD, TAKES_NOTHING, TAKES_NOTHING}},
+    /* NODE_HW_STATE */
+    {0x8400000Du, 0xC400000Du, {TAKES_TARGET, TAKES_LEVEL, TAKES_NOTHING}},
+    /* SYSTEM_SUSPEND */
+    {0x8400000Eu, 0xC400000Eu, {TAKES_ENTRY, TAKES_CONTEXT, TAKES_NOTHING}},
+    /* PSCI_SET_SUSPEND_MODE */
+    {0x8400000Fu, 0x0u, {TAKES_MODE, TAKES_NOTHING, TAKES_NOTHING}},
+    /* SYSTEM_RESET2 */
+    {0x84000012u, 0xC4000012u, {TAKES_RESET_TYPE, TAKES_COOKIE, TAKES_NOTHING}},
+};
