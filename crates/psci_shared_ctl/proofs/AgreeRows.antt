@@ -10,16 +10,18 @@ use Rattle.psci_ctl.specs.psci_ctl_spec.declared.kick.Kick.TheVariants as kicks
 use Rattle.psci_ctl.specs.psci_ctl_spec.declared.reply.CtlReply.{CtlReply}
 use Rattle.psci_ctl.specs.psci_ctl_spec.declared.reply.CtlReply.TheVariants.{Delivery, Kick}
 use Rattle.psci_ctl.specs.psci_ctl_spec.psci_messages.declared.start.Cause.TheVariants as causes
-use Rattle.psci_shared_ctl.specs.declared.entry.CtlEntry.{CtlEntry}
-use Rattle.psci_shared_ctl.specs.declared.entry.CtlItem.{CtlItem}
+use Rattle.psci_shared_ctl.specs.Entries.{CtlEntry}
+use Rattle.psci_shared_ctl.specs.Entries.{CtlItem}
 use Rattle.psci_shared.specs.declared.fault.GatherCause.TheVariants.{Astray, Missing}
 use Rattle.psci_shared.specs.Places.{times}
-use Rattle.psci_shared_ctl.specs.Agree.{Agree, Agrees, AllStandFrom}
-use Rattle.psci_shared_ctl.specs.Books.{BookView, entered, entry, history_of}
+use Rattle.psci_shared.specs.Agree.{Agree, Agrees, AllStandFrom}
+use Rattle.psci_shared.specs.Views.{entered}
+use Rattle.psci_shared_ctl.specs.Books.{BookView, entry, history_of}
 use Rattle.psci_shared.specs.Gathers.{IsCause}
-use Rattle.psci_shared_ctl.specs.Gathers.{items_of}
-use Rattle.psci_shared_ctl.specs.Passes.{PassView, item}
-use Rattle.psci_shared_ctl.specs.Places.{places_of}
+use Rattle.psci_shared.specs.Gathers.{items_of}
+use Rattle.psci_shared.specs.Views.{item}
+use Rattle.psci_shared_ctl.specs.Passes.{PassView}
+use Rattle.psci_shared.specs.Places.{places_of}
 
 abbrev pub wake : ℕ → CtlCall
 wake halted = Wake (record { number = 3 }) halted
@@ -41,7 +43,7 @@ abbrev pub wide : BookView
 wide = record { entries = entries; room = 4 }
 
 abbrev pub pass : Bool → List CtlItem → PassView
-pass told items = record { room = 4; told_full = told; items = items }
+pass told items = record { core = tt; room = 4; told_full = told; items = items; seen = tt }
 
 -- the items of both passes
 abbrev pub ours : List CtlItem
@@ -52,11 +54,11 @@ theirs = item 1 reset ignored ∷ []
 
 -- Passes that agree -------------------------------------------------------------------------------
 
-ours_stand : AllStandFrom entries 0 ours
-ours_stand = ((omega arith, (refl, refl)), ((omega arith, (refl, refl)), tt))
+ours_stand : AllStandFrom entries tt 0 ours
+ours_stand = ((omega arith, (refl, refl, refl)), ((omega arith, (refl, refl, refl)), tt))
 
-theirs_stand : AllStandFrom entries 0 theirs
-theirs_stand = ((omega arith, (refl, refl)), tt)
+theirs_stand : AllStandFrom entries tt 0 theirs
+theirs_stand = ((omega arith, (refl, refl, refl)), tt)
 
 told_when_full : Agrees full (pass true ours)
 told_when_full = ((λ is. refl), ours_stand)
@@ -85,15 +87,15 @@ abbrev is_kick : CtlReply → ℕ
 is_kick (Kick kick) = 1
 is_kick (Delivery delivery) = 0
 
-another_call : AllStandFrom entries 0 (item 0 (wake 7) ignored ∷ []) → ⊥
-another_call h = let e : ◌≡◌ {A = ℕ} 1 7 = ap number h.0.1.0 in omega arith
+another_call : AllStandFrom entries tt 0 (item 0 (wake 7) ignored ∷ []) → ⊥
+another_call h = let e : ◌≡◌ {A = ℕ} 1 7 = ap number h.0.1.1 in omega arith
 
 -- the core was reset, and the item says that it was woken
-woken_where_reset : AllStandFrom entries 0 (item 1 (wake 3) ignored ∷ []) → ⊥
-woken_where_reset h = let e : ◌≡◌ {A = ℕ} 8 3 = ap number h.0.1.0 in omega arith
+woken_where_reset : AllStandFrom entries tt 0 (item 1 (wake 3) ignored ∷ []) → ⊥
+woken_where_reset h = let e : ◌≡◌ {A = ℕ} 8 3 = ap number h.0.1.1 in omega arith
 
-another_reply : AllStandFrom entries 0 (item 0 (wake 1) (Delivery deliveries.Ignored) ∷ []) → ⊥
-another_reply h = let e : ◌≡◌ {A = ℕ} 1 0 = ap is_kick h.0.1.1 in omega arith
+another_reply : AllStandFrom entries tt 0 (item 0 (wake 1) (Delivery deliveries.Ignored) ∷ []) → ⊥
+another_reply h = let e : ◌≡◌ {A = ℕ} 1 0 = ap is_kick h.0.1.2 in omega arith
 
 -- the life of the start, or 0
 abbrev life_in : CtlReply → ℕ
@@ -102,19 +104,19 @@ life_in (Kick kicks.Ignored) = 0
 life_in (Delivery delivery) = 0
 
 -- the wake-up was ignored, and the item says that it started the core in life 2
-started_where_ignored : AllStandFrom entries 0
+started_where_ignored : AllStandFrom entries tt 0
     (item 2 (wake 2) (Kick (kicks.Started (record { life = 2; number = 3; cause = causes.Wake })))
     ∷ []) → ⊥
-started_where_ignored h = let e : ◌≡◌ {A = ℕ} 0 2 = ap life_in h.0.1.1 in omega arith
+started_where_ignored h = let e : ◌≡◌ {A = ℕ} 0 2 = ap life_in h.0.1.2 in omega arith
 
 -- the same entry twice; entries in the wrong order; no such entry
-place_twice : AllStandFrom entries 0 (item 1 reset ignored ∷ item 1 reset ignored ∷ []) → ⊥
+place_twice : AllStandFrom entries tt 0 (item 1 reset ignored ∷ item 1 reset ignored ∷ []) → ⊥
 place_twice h = let e : 2 ≤ 1 = h.1.0.0 in omega arith
 
-places_fall : AllStandFrom entries 0 (item 2 (wake 2) ignored ∷ item 0 (wake 1) ignored ∷ []) → ⊥
+places_fall : AllStandFrom entries tt 0 (item 2 (wake 2) ignored ∷ item 0 (wake 1) ignored ∷ []) → ⊥
 places_fall h = let e : 3 ≤ 0 = h.1.0.0 in omega arith
 
-place_is_past : AllStandFrom entries 0 (item 3 (wake 1) ignored ∷ []) → ⊥
+place_is_past : AllStandFrom entries tt 0 (item 3 (wake 1) ignored ∷ []) → ⊥
 place_is_past h = h.0.1
 
 -- two passes that agree, with one place

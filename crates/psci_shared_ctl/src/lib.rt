@@ -2,20 +2,16 @@
 //! asked. The words are those of `psci_shared`.
 #![tactic(auto)]
 
-mod agreement;
 mod book;
 mod entry;
 mod gather;
 mod locked;
-mod pass;
 mod shared;
 
-pub use agreement::agree;
 pub use book::CtlBook;
-pub use entry::{CtlEntry, CtlItem};
+pub use entry::{CtlEntry, CtlItem, CtlPass};
 pub use gather::{CtlBooks, CtlGatherFault};
 pub use locked::CtlLocked;
-pub use pass::CtlPass;
 pub use psci_ctl::{CtlCall, CtlReply, Delivery, Kick, Message, Start};
-pub use psci_shared::{Board, BookFull, Core, GatherCause, Memory, Named, PassFault, Tickets};
+pub use psci_shared::{Board, BookFull, Core, GatherCause, Memory, Named, PassFault, Tickets, agree};
 pub use shared::SharedController;
