@@ -29,6 +29,7 @@ f ticket = record {
 abbrev c : ℕ → CtlEntry
 c ticket = record {
   ticket = ticket;
+  core = tt;
   call = asks.Reset (record { number = 3 });
   reply = replied.Kick kicks.Ignored;
 }

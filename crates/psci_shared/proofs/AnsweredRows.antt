@@ -22,8 +22,7 @@ use Rattle.psci_messages.specs.declared.start.Cause.TheVariants.{Boot}
 use Rattle.psci_messages.specs.declared.taken.Taken.TheVariants as takens
 use Rattle.psci_messages.specs.Outstanding.{changes_since, last_message, outstanding}
 use Rattle.psci_status.specs.Lists.{Item, Within}
-use Rattle.psci_shared.specs.Entries.{FwEntry}
-use Rattle.psci_shared.specs.Entries.{FwItem}
+use Rattle.psci_shared.specs.Entries.{FwEntry, FwItem}
 use Rattle.psci_shared.specs.Answered.{IsAnswered, IsAnsweredAfter}
 use Rattle.psci_shared.specs.Books.{entry, history_of}
 use Rattle.psci_shared.specs.Passes.{PassView}

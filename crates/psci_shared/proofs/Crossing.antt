@@ -32,12 +32,16 @@ use Rattle.psci_status.proofs.seats.StatusWords.TheSendSync as words
 use Rattle.psci_shared.specs.declared.named.Named as Named
 use Rattle.psci_shared.specs.contracts.book.FwBook as Book
 use Rattle.psci_shared.specs.contracts.locked.FwLocked as Locked
+use Rattle.psci_shared.specs.contracts.pass.PassOf as PassOf
+use Rattle.psci_shared.specs.contracts.seen.Seen as Seen
 use Rattle.psci_shared.specs.contracts.tally.Tally as Tally
 use Rattle.psci_shared.specs.contracts.tally.Tally.TheInside as Counted
 use Rattle.psci_board.proofs.node.Core.TheSendSync as core_at
 use Rattle.psci_fw_spec.proofs.call.FwCall.TheSendSync as call
 use Rattle.psci_fw_spec.proofs.reply.FwReply.TheSendSync as reply
 use Rattle.psci_shared.proofs.entry.Entry.TheSendSync as entry
+use Rattle.psci_shared.proofs.pass.PassOf.TheSendSync as passes
+use Rattle.psci_shared.proofs.seen.Seen.TheSendSync as seen
 use Rattle.psci_shared.proofs.tickets.Tickets.TheSendSync as tickets
 
 tree : IsSend Tree.the_row
@@ -67,8 +71,8 @@ firmware : IsSend Firmware.the_row
 firmware = search (heap.crosses, state, sendable) depth 60 fits 20000
 
 module _ (N : RattleType) (named : Named.Ghosts N.Denot) (ledger : Ledger.Ghosts N.Denot) where
-  rows : IsSend (Vec.the_row (Entry.the_row Core.the_row FwCall.the_row FwReply.the_row) Heap.the_row
-      ghosts)
+  rows : IsSend
+      (Vec.the_row (Entry.the_row Core.the_row FwCall.the_row FwReply.the_row) Heap.the_row ghosts)
   rows =
       heap.Vec-send _
       (search (entry.the_send, core_at.the_send, call.the_send, reply.the_send, sendable)
@@ -132,3 +136,20 @@ module _ (N : RattleType) (named : Named.Ghosts N.Denot) (ledger : Ledger.Ghosts
           ),
         ),
       ))
+
+  -- a pass of the firmware
+  abbrev pub the_pass : RattleType
+  the_pass =
+      PassOf.the_row N Core.the_row (Seen.the_row N named ledger) FwCall.the_row FwReply.the_row
+      named ledger
+
+  pub pass : IsSend the_pass
+  pass =
+      search (
+        passes.the_send,
+        seen.the_send,
+        core_at.the_send,
+        call.the_send,
+        reply.the_send,
+        sendable,
+      ) depth 60 fits 20000

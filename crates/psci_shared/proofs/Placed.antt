@@ -33,17 +33,19 @@ all_rise b [] h = tt
 all_rise b (p ∷ ps) h = (rises b.entries p.core 0 p.items h.0.1, all_rise b ps h.1)
 
 -- the places of a pass that agrees rise
-stand_rise : {W C R : Type 0} (entries : List (Entry W C R)) (core : W) (from : ℕ) (is : List (Item C R))
-    → AllStandFrom entries core from is → RisesFrom from (places is)
+stand_rise : {W C R : Type 0} (entries : List (Entry W C R)) (core : W) (from : ℕ)
+    (is : List (Item C R)) → AllStandFrom entries core from is → RisesFrom from (places is)
 stand_rise entries core from [] h = tt
 stand_rise entries core from (i ∷ is) h =
     (h.0.0, stand_rise entries core (i.place + 1) is h.1)
 
-pub agree_rise : {W S C R : Type 0} (b : AnyBook W C R) (ps : List (AnyPass W S C R)) → AllAgree b ps → AllRise (map places_of ps)
+pub agree_rise : {W S C R : Type 0} (b : AnyBook W C R) (ps : List (AnyPass W S C R))
+    → AllAgree b ps → AllRise (map places_of ps)
 agree_rise b [] h = tt
 agree_rise b (p ∷ ps) h = (stand_rise b.entries p.core 0 p.items h.0.1, agree_rise b ps h.1)
 
-total_same : {W S C R : Type 0} (ps : List (AnyPass W S C R)) → lists.total (map places_of ps) ≡ items_of ps
+total_same : {W S C R : Type 0} (ps : List (AnyPass W S C R))
+    → lists.total (map places_of ps) ≡ items_of ps
 total_same {W} {S} {C} {R} [] = refl
 total_same {W} {S} {C} {R} (p ∷ ps) =
     let a : items_of (p ∷ ps) ≡ length p.items + items_of ps = sum_by-cons

@@ -1,5 +1,5 @@
--- Books and passes as contracts see them, whatever is called through them: by whom, what is asked and
--- what is replied, and what a pass has seen.
+-- Books and passes as contracts see them, whatever is called through them: who calls, what is asked
+-- and what is replied, and what a pass has seen.
 use Rattle.std.specs.Prelude.{ℕ, List, [], ◌∷◌, ◌++◌, Bool, true, false}
 use Rattle.psci_shared.specs.declared.entry.Entry.{Entry}
 use Rattle.psci_shared.specs.declared.entry.Item.{Item}

@@ -4,8 +4,7 @@ ghost use Rattle.std.specs.Prelude.{◌≡◌, ◌↔◌, IsTrue, slice_get, opt
 ghost use Rattle.psci_shared.specs.Agree.{Agree, Agrees, AllAgree, AllStandFrom};
 ghost use Rattle.psci_shared.specs.Agree.{StandsAt, StandsFrom};
 ghost use Rattle.psci_shared.specs.Places.{AllRise, RisesFrom, all_apart, apart};
-ghost use Rattle.psci_shared.specs.Places.{apart_from, begins_at, not_below, places};
-ghost use Rattle.psci_shared.specs.Places.{places_of};
+ghost use Rattle.psci_shared.specs.Places.{apart_from, begins_at, not_below, places, places_of};
 
 use crate::booked::Booked;
 use crate::entry::{Entry, Item};
@@ -90,9 +89,7 @@ fn stands_at<B: Booked>(
     }
 }
 
-fn all_apart<N: Named, W: Drop, S: Drop, C: Drop, R: Drop>(
-    passes: &[PassOf<N, W, S, C, R>],
-) -> bool
+fn all_apart<N: Named, W: Drop, S: Drop, C: Drop, R: Drop>(passes: &[PassOf<N, W, S, C, R>]) -> bool
     requires { AllRise (map places_of passes.now) }
     ensures { result ≡ all_apart (map places_of passes.now) }
 {

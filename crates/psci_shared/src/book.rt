@@ -64,11 +64,10 @@ ghost use Rattle.psci_fw.specs.Seen.{seen};
 ghost use Rattle.psci_fw.specs.psci_fw_spec.History.{life, values_of};
 ghost use Rattle.psci_fw.specs.psci_fw_spec.Legal.{IsLegal};
 ghost use Rattle.psci_shared.specs.Passes.{Fits};
-ghost use Rattle.psci_shared.specs.Views.{item};
+ghost use Rattle.psci_shared.specs.Views.{entered, item};
 ghost use Rattle.psci_shared.specs.Locked.{IsDone, Pushed, reply_said};
 ghost use Rattle.psci_shared.specs.Entries.{FwEntry};
 ghost use Rattle.psci_shared.specs.Books.{answer_after, entry, history_of};
-ghost use Rattle.psci_shared.specs.Views.{entered};
 
 impl<N: Named> FwBook<N> {
     /// A firmware of this board that was asked nothing, and a book with room for so many entries.

@@ -10,6 +10,7 @@ ghost use Rattle.psci_shared.specs.Places.{AllPlaced};
 
 use crate::book::FwBook;
 use crate::fault::GatherCause;
+use crate::gathered::{BooksOf, GatherFaultOf};
 use crate::locked::FwLocked;
 use crate::named::Named;
 use crate::seen::Pass;
@@ -17,47 +18,10 @@ use crate::shared::SharedFirmware;
 use psci_status::{StatusWords, Writer};
 
 /// All that a firmware was asked, and by whom: each place of the book stands in one pass.
-#[derive(Drop)]
-pub struct Books<N: Named> {
-    /// The firmware with its book.
-    pub book: FwBook<N>,
-    /// The passes.
-    pub passes: Vec<Pass<N>>,
-}
+pub type Books<N> = BooksOf<FwBook<N>, Pass<N>>;
 
 /// Why passes were not gathered, with all that was handed in.
-#[derive(Drop)]
-pub struct GatherFault<N: Named> {
-    /// Why.
-    pub cause: GatherCause,
-    /// What the lock guarded; it says how many passes were made.
-    pub locked: FwLocked<N>,
-    /// The status words.
-    pub words: StatusWords,
-    /// The passes.
-    pub passes: Vec<Pass<N>>,
-}
-
-impl<N: Named> GatherFault<N> {
-    /// The passes were not gathered for this cause.
-    fn of(
-        cause: GatherCause,
-        locked: FwLocked<N>,
-        words: StatusWords,
-        passes: Vec<Pass<N>>,
-    ) -> GatherFault<N>
-        ensures cause { result.cause ≡ cause }
-        ensures locked { result.locked ≡ locked }
-        ensures passes { result.passes ≡ passes }
-    {
-        GatherFault {
-            cause,
-            locked,
-            words,
-            passes,
-        }
-    }
-}
+pub type GatherFault<N> = GatherFaultOf<FwLocked<N>, StatusWords, Pass<N>>;
 
 impl<'t, N: Named> SharedFirmware<'t, N> {
     /// Gathers the passes with the book, in which each place then stands in one of them.

@@ -9,8 +9,8 @@ use crate::pass::PassOf;
 use std::marker::Model;
 use std::sync::ledger::{Blank, Book, Share};
 
-/// The ledger of a lock: its total, and the parts that no pass has. It has 1,001 parts: one for each
-/// pass, and one that is no pass's.
+/// The ledger of a lock: its total, and the parts that no pass has. It has 1,001 parts: one for
+/// each pass, and one that is no pass's.
 #[derive(Drop)]
 pub struct Tally<N: Named> {
     total: Book<N>,

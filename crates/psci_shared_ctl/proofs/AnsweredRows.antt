@@ -17,8 +17,7 @@ use Rattle.psci_ctl.specs.psci_ctl_spec.declared.reply.CtlReply.TheVariants.{Del
 use Rattle.psci_ctl.specs.psci_ctl_spec.psci_messages.declared.kind.Kind.TheVariants as kinds
 use Rattle.psci_ctl.specs.psci_ctl_spec.psci_messages.declared.start.Cause.TheVariants as causes
 use Rattle.psci_shared.specs.declared.fault.PassFault.TheVariants.{NoCore, TooMany, Memory}
-use Rattle.psci_shared_ctl.specs.Entries.{CtlEntry}
-use Rattle.psci_shared_ctl.specs.Entries.{CtlItem}
+use Rattle.psci_shared_ctl.specs.Entries.{CtlEntry, CtlItem}
 use Rattle.psci_shared_ctl.specs.Answered.{IsAnswered, IsAnsweredAfter, IsFull}
 use Rattle.psci_shared_ctl.specs.Books.{BookView, entry, history_of}
 use Rattle.psci_shared_ctl.specs.Locked.{IsTurnedAway}

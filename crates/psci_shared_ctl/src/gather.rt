@@ -8,46 +8,13 @@ ghost use Rattle.psci_shared.specs.Places.{AllPlaced};
 use crate::book::CtlBook;
 use crate::entry::CtlPass;
 use crate::locked::CtlLocked;
-use psci_shared::{GatherCause, Named};
+use psci_shared::{BooksOf, GatherCause, GatherFaultOf, Named};
 
 /// All that a power controller was asked: each place of the book stands in one pass.
-#[derive(Drop)]
-pub struct CtlBooks<N: Named> {
-    /// The power controller with its book.
-    pub book: CtlBook<N>,
-    /// The passes.
-    pub passes: Vec<CtlPass<N>>,
-}
+pub type CtlBooks<N> = BooksOf<CtlBook<N>, CtlPass<N>>;
 
 /// Why passes were not gathered, with all that was handed in.
-#[derive(Drop)]
-pub struct CtlGatherFault<N: Named> {
-    /// Why.
-    pub cause: GatherCause,
-    /// What the lock guarded; it says how many passes were made.
-    pub locked: CtlLocked<N>,
-    /// The passes.
-    pub passes: Vec<CtlPass<N>>,
-}
-
-impl<N: Named> CtlGatherFault<N> {
-    /// The passes were not gathered for this cause.
-    pub(crate) fn of(
-        cause: GatherCause,
-        locked: CtlLocked<N>,
-        passes: Vec<CtlPass<N>>,
-    ) -> CtlGatherFault<N>
-        ensures cause { result.cause ≡ cause }
-        ensures locked { result.locked ≡ locked }
-        ensures passes { result.passes ≡ passes }
-    {
-        CtlGatherFault {
-            cause,
-            locked,
-            passes,
-        }
-    }
-}
+pub type CtlGatherFault<N> = GatherFaultOf<CtlLocked<N>, (), CtlPass<N>>;
 
 impl<N: Named> CtlLocked<N> {
     /// Why the passes are not gathered, if they are not.

@@ -13,5 +13,7 @@ pub use entry::{CtlEntry, CtlItem, CtlPass};
 pub use gather::{CtlBooks, CtlGatherFault};
 pub use locked::CtlLocked;
 pub use psci_ctl::{CtlCall, CtlReply, Delivery, Kick, Message, Start};
-pub use psci_shared::{Board, BookFull, Core, GatherCause, Memory, Named, PassFault, Tickets, agree};
+pub use psci_shared::{
+    Board, BookFull, Core, GatherCause, Memory, Named, PassFault, Tickets, agree,
+};
 pub use shared::SharedController;

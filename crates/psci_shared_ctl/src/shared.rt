@@ -194,7 +194,7 @@ impl<'t, N: Named> SharedController<'t, N> {
         let mut passes = passes;
         let mut locked = self.into_locked();
         if let Some(cause) = locked.cause(&mut passes) {
-            return Err(CtlGatherFault::of(cause, locked, passes));
+            return Err(CtlGatherFault::of(cause, locked, (), passes));
         }
         Ok(CtlBooks {
             book: locked.into_book(),

@@ -12,7 +12,8 @@ returns-then-begins_at g c =
     let left = places c.loop-item.left.now in
     let rest = places (drop (from + 1) c.args.one.now) in
     let at : places (drop from c.args.one.now) ≡ it.place ∷ rest =
-    places_at _ _ _ _ from (drop_more c.args.one.now from it c.loop-item-test.true) c.item-item.is in
+    places_at _ _ _ _ from (drop_more c.args.one.now from it c.loop-item-test.true)
+    c.item-item.is in
     sym (meets it.place rest left
     (ap (λ (l : List ℕ). begins_at it.place l) (sym c.not_below-left.ensures)
     ∙ sym c.begins_at.ensures ∙ c.if-begins_at.true))
@@ -25,7 +26,8 @@ loop-item-preserved g c =
     let left = places c.loop-item.left.now in
     let rest = places (drop (from + 1) c.args.one.now) in
     let at : places (drop from c.args.one.now) ≡ it.place ∷ rest =
-    places_at _ _ _ _ from (drop_more c.args.one.now from it c.loop-item-test.true) c.item-item.is in
+    places_at _ _ _ _ from (drop_more c.args.one.now from it c.loop-item-test.true)
+    c.item-item.is in
     let rises : RisesFrom 0 (it.place ∷ rest) =
     subst (λ (l : List ℕ). RisesFrom 0 l) at c.loop-item.invariant.rest in
     record {
