@@ -6,26 +6,20 @@ ghost use Rattle.psci_shared.specs.Agree.{StandsAt, StandsFrom};
 ghost use Rattle.psci_shared.specs.Places.{AllRise, RisesFrom, all_apart, apart};
 ghost use Rattle.psci_shared.specs.Places.{apart_from, begins_at, not_below, places, places_of};
 
-use crate::booked::Booked;
-use crate::entry::{Entry, Item};
+use crate::booked::{Booked, EntryOf, ItemOf, PassBy};
+use crate::entry::Item;
 use crate::named::Named;
 use crate::pass::PassOf;
 
 /// Whether the passes agree with the book, and no two have one place.
 #[tactic(auto, using(crate::proofs::Placed::agree_rise))]
-pub fn agree<N: Named, B: Booked, S: Drop>(
-    book: &B,
-    passes: &[PassOf<N, B::Core, S, B::Call, B::Reply>],
-) -> bool
+pub fn agree<N: Named, B: Booked, S: Drop>(book: &B, passes: &[PassBy<N, B, S>]) -> bool
     ensures { IsTrue result ↔ Agree (B.book book.now) passes.now }
 {
     all_agree(book, passes) && all_apart(passes)
 }
 
-fn all_agree<N: Named, B: Booked, S: Drop>(
-    book: &B,
-    passes: &[PassOf<N, B::Core, S, B::Call, B::Reply>],
-) -> bool
+fn all_agree<N: Named, B: Booked, S: Drop>(book: &B, passes: &[PassBy<N, B, S>]) -> bool
     ensures { IsTrue result ↔ AllAgree (B.book book.now) passes.now }
 {
     for pass in passes {
@@ -36,10 +30,7 @@ fn all_agree<N: Named, B: Booked, S: Drop>(
     true
 }
 
-fn agrees<N: Named, B: Booked, S: Drop>(
-    book: &B,
-    pass: &PassOf<N, B::Core, S, B::Call, B::Reply>,
-) -> bool
+fn agrees<N: Named, B: Booked, S: Drop>(book: &B, pass: &PassBy<N, B, S>) -> bool
     ensures { IsTrue result ↔ Agrees (B.book book.now) pass.now }
 {
     if pass.told_full && book.listed().len() != book.most() as usize {
@@ -48,11 +39,7 @@ fn agrees<N: Named, B: Booked, S: Drop>(
     all_stand::<B>(book.listed(), &pass.core, pass.items())
 }
 
-fn all_stand<B: Booked>(
-    entries: &[Entry<B::Core, B::Call, B::Reply>],
-    core: &B::Core,
-    items: &[Item<B::Call, B::Reply>],
-) -> bool
+fn all_stand<B: Booked>(entries: &[EntryOf<B>], core: &B::Core, items: &[ItemOf<B>]) -> bool
     ensures { IsTrue result ↔ AllStandFrom entries.now core.now 0 items.now }
 {
     let mut from: u64 = 0;
@@ -66,21 +53,17 @@ fn all_stand<B: Booked>(
 }
 
 fn stands_from<B: Booked>(
-    entries: &[Entry<B::Core, B::Call, B::Reply>],
+    entries: &[EntryOf<B>],
     core: &B::Core,
     from: u64,
-    item: &Item<B::Call, B::Reply>,
+    item: &ItemOf<B>,
 ) -> bool
     ensures { IsTrue result ↔ StandsFrom entries.now core.now from item.now }
 {
     from <= u64::from(item.place) && stands_at::<B>(entries.get(item.place as usize), core, item)
 }
 
-fn stands_at<B: Booked>(
-    found: Option<&Entry<B::Core, B::Call, B::Reply>>,
-    core: &B::Core,
-    item: &Item<B::Call, B::Reply>,
-) -> bool
+fn stands_at<B: Booked>(found: Option<&EntryOf<B>>, core: &B::Core, item: &ItemOf<B>) -> bool
     ensures { IsTrue result ↔ StandsAt (option_map (λ e. e.now) found.entry) core.now item.now }
 {
     match found {

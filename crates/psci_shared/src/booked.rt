@@ -1,6 +1,7 @@
 //! Books of any kind.
 
 use crate::entry::{Entry, Item};
+use crate::pass::PassOf;
 
 /// A book, with which passes are compared: of what its machine was asked by whom, and replied.
 pub trait Booked {
@@ -35,3 +36,18 @@ pub trait Booked {
     ) -> bool
         ensures { IsTrue result ↔ IsOf entry.now core.now item.now };
 }
+
+/// An entry of such a book.
+pub(crate) type EntryOf<B> = Entry<<B as Booked>::Core, <B as Booked>::Call, <B as Booked>::Reply>;
+
+/// An item of a pass by which such a book gets its entries.
+pub(crate) type ItemOf<B> = Item<<B as Booked>::Call, <B as Booked>::Reply>;
+
+/// Such a pass, which sees this.
+pub(crate) type PassBy<N, B, S> = PassOf<
+    N,
+    <B as Booked>::Core,
+    S,
+    <B as Booked>::Call,
+    <B as Booked>::Reply,
+>;

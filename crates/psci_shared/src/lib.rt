@@ -7,6 +7,9 @@
 //!   from one row.
 //! - Passes are *gathered* with the book once all calls are done, and each place then stands in one
 //!   pass.
+//!
+//! Entries, items, passes, their ledger and how they are gathered are of any machine, whose book is
+//! [`Booked`]; the firmware has them by names of its own.
 #![tactic(auto)]
 
 mod agreement;

@@ -1,15 +1,12 @@
 //! What the lock guards.
 
-ghost use Rattle.std.specs.Prelude.{◌≡◌, ◌≤◌, ◌<◌, ◌+◌, ◌^◌, [], ◌∷◌, length, replicate};
+ghost use Rattle.std.specs.Prelude.{◌≡◌, ◌≤◌, ◌+◌, [], ◌∷◌, length, replicate};
 ghost use Rattle.std.specs.Prelude.{IfOk, IfSome, OnErr, OnSome};
 ghost use Rattle.psci_fw.specs.psci_board.Board.{cores};
 ghost use Rattle.psci_fw.specs.psci_fw_spec.declared.status.Status.TheVariants.{Off};
 ghost use Rattle.psci_status.specs.Seats.{table, table_of_writer, written};
-ghost use Rattle.psci_fw.specs.psci_fw_spec.Legal.{IsLegal};
-ghost use Rattle.psci_shared.specs.Books.{history_of};
 ghost use Rattle.psci_shared.specs.Locked.{IsEntered, IsReply, IsTurnedAway};
 ghost use Rattle.psci_shared.specs.Passes.{IsFirst};
-ghost use Rattle.psci_shared.specs.Views.{told};
 ghost use Rattle.psci_shared.specs.Writing.{IsWritten};
 
 use crate::book::FwBook;

@@ -31,8 +31,7 @@ impl<N: Named> Model for Seen<N> {
 /// the status of each core.
 pub type Pass<N> = PassOf<N, Core, Seen<N>, FwCall, FwReply>;
 
-ghost use Rattle.std.specs.Prelude.{◌≡◌, ◌≤◌, ◌<◌, ℕ, map};
-ghost use Rattle.psci_status.specs.Lists.{IsLast, Within, gains, newest, row};
+ghost use Rattle.std.specs.Prelude.{◌≡◌, ◌<◌};
 ghost use Rattle.psci_status.specs.Seats.{table, table_of_writer, written};
 ghost use Rattle.psci_shared.specs.Passes.{IsReadAt};
 

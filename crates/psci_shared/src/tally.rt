@@ -1,7 +1,7 @@
 //! How many items passes have in all, by a ledger.
 
 use crate::agreement::agree;
-use crate::booked::Booked;
+use crate::booked::{Booked, PassBy};
 use crate::entry::{BookFull, Item};
 use crate::fault::GatherCause;
 use crate::named::Named;
@@ -121,7 +121,7 @@ impl<N: Named> Tally<N> {
         &mut self,
         book: &B,
         made: u32,
-        passes: &mut Vec<PassOf<N, B::Core, S, B::Call, B::Reply>>,
+        passes: &mut Vec<PassBy<N, B, S>>,
     ) -> Option<GatherCause>
         requires counted { length (B.book book.now).entries ≡ self.old.total }
         requires parts { (self.old.parts + made ≡ 1001) × (0 < self.old.parts) }

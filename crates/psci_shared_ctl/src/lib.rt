@@ -1,5 +1,5 @@
 //! One power controller that core threads share, behind a lock, with a book of all that it was
-//! asked. The words are those of `psci_shared`.
+//! asked. The words are those of `psci_shared`, and so are passes and how they are gathered.
 #![tactic(auto)]
 
 mod book;

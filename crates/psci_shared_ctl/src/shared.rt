@@ -1,7 +1,7 @@
 //! The power controller that threads share.
 
-ghost use Rattle.std.specs.Prelude.{◌≡◌, ◌≤◌, ◌+◌, ◌<◌, [], length, IfOk, IfErr, OnOk, OnErr};
-ghost use Rattle.std.specs.Prelude.{List, MatchResult, IfSome, OnSome};
+ghost use Rattle.std.specs.Prelude.{◌≡◌, ◌≤◌, ◌+◌, ◌<◌, length, IfOk, IfErr, OnOk, OnErr};
+ghost use Rattle.std.specs.Prelude.{List, MatchResult};
 ghost use Rattle.psci_board.specs.Board.{cores};
 ghost use Rattle.psci_ctl.specs.psci_ctl_spec.declared.call.CtlCall.TheVariants as calls;
 ghost use Rattle.psci_ctl.specs.psci_ctl_spec.declared.reply.CtlReply.TheVariants as replies;
