@@ -52,5 +52,5 @@ pub use same::is_same_message;
 pub use seen::{Pass, Seen};
 pub use shared::SharedFirmware;
 pub use sighting::Sighting;
-pub use tally::Tally;
+pub use tally::{MOST_PASSES, Tally};
 pub use tickets::Tickets;

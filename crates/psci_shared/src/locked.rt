@@ -13,15 +13,12 @@ use crate::book::FwBook;
 use crate::entry::BookFull;
 use crate::named::Named;
 use crate::seen::{Pass, Seen};
-use crate::tally::Tally;
+use crate::tally::{MOST_PASSES, Tally};
 use crate::writing::write_all;
 use psci_fw::{FwCall, FwReply};
 use psci_status::{Core, StatusWords, Writer};
 use std::alloc::Global;
 use std::sync::ledger::Blank;
-
-/// How many passes are made of one firmware.
-pub(crate) const MOST_PASSES: u32 = 1000;
 
 /// The firmware with its book, the writer of its status words, and the ledger, whose total is the
 /// number of its entries.

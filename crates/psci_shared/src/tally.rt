@@ -9,6 +9,9 @@ use crate::pass::PassOf;
 use std::marker::Model;
 use std::sync::ledger::{Blank, Book, Share};
 
+/// How many passes are made of what one lock guards.
+pub const MOST_PASSES: u32 = 1000;
+
 /// The ledger of a lock: its total, and the parts that no pass has. It has 1,001 parts: one for
 /// each pass, and one that is no pass's.
 #[derive(Drop)]

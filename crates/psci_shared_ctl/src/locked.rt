@@ -8,12 +8,9 @@ ghost use Rattle.psci_shared_ctl.specs.Locked.{IsEntered, IsReply, IsTurnedAway}
 use crate::book::CtlBook;
 use crate::entry::{CtlItem, CtlPass};
 use psci_ctl::{CtlCall, CtlReply};
-use psci_shared::{BookFull, Named, Tally};
+use psci_shared::{BookFull, MOST_PASSES, Named, Tally};
 use std::alloc::Global;
 use std::sync::ledger::Blank;
-
-/// How many passes are made of one power controller.
-pub(crate) const MOST_PASSES: u32 = 1000;
 
 /// The power controller with its book, and the ledger, whose total is the number of its entries.
 #[derive(Drop)]
