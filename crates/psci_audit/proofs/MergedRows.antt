@@ -8,8 +8,8 @@ use Rattle.psci_world_spec.specs.psci_fw_spec.declared.fault.FwFault.TheVariants
 use Rattle.psci_world_spec.specs.psci_fw_spec.declared.reply.FwReply.TheVariants as replies
 use Rattle.psci_world_spec.specs.psci_messages.declared.kind.Kind.TheVariants as kinds
 use Rattle.psci_world_spec.specs.psci_messages.declared.start.Cause.TheVariants as causes
-use Rattle.psci_shared.specs.declared.entry.FwEntry.{FwEntry}
-use Rattle.psci_shared_ctl.specs.declared.entry.CtlEntry.{CtlEntry}
+use Rattle.psci_shared.specs.Entries.{FwEntry}
+use Rattle.psci_shared_ctl.specs.Entries.{CtlEntry}
 use Rattle.psci_audit.specs.Entries.{Asked}
 use Rattle.psci_audit.specs.Told.{asked}
 use Rattle.psci_audit.proofs.ListRows.{start}
@@ -29,6 +29,7 @@ f ticket = record {
 abbrev c : ℕ → CtlEntry
 c ticket = record {
   ticket = ticket;
+  core = tt;
   call = asks.Reset (record { number = 3 });
   reply = replied.Kick kicks.Ignored;
 }

@@ -5,8 +5,8 @@ use Rattle.std.specs.Prelude.{Result, Ok, Err}
 use Rattle.psci_world.specs.psci_board.Board.{BoardValue}
 use Rattle.psci_world_spec.specs.psci_fw_spec.declared.call.FwCall.{FwCall}
 use Rattle.psci_world_spec.specs.psci_fw_spec.declared.call.FwCall.TheVariants as calls
-use Rattle.psci_shared.specs.declared.entry.FwEntry.{FwEntry}
-use Rattle.psci_shared_ctl.specs.declared.entry.CtlEntry.{CtlEntry}
+use Rattle.psci_shared.specs.Entries.{FwEntry}
+use Rattle.psci_shared_ctl.specs.Entries.{CtlEntry}
 use Rattle.psci_audit.specs.Entries.{Entry, Asked, Controlled}
 use Rattle.psci_audit.specs.Legal.{IsLegal, MayFollow}
 use Rattle.psci_audit.specs.Told.{asked, controlled}

@@ -8,7 +8,7 @@ use Rattle.psci_fw.specs.psci_fw_spec.declared.call.FwCall.TheVariants.{Take}
 use Rattle.psci_fw.specs.psci_fw_spec.declared.reply.FwReply.{FwReply}
 use Rattle.psci_fw.specs.psci_messages.declared.start.Start.{Start}
 use Rattle.psci_fw.specs.psci_messages.Message.{AckValue}
-use Rattle.psci_shared.specs.declared.entry.FwEntry.{FwEntry}
+use Rattle.psci_shared.specs.Entries.{FwEntry}
 use Rattle.psci_bench.specs.Counts.{calls_of, entries_of}
 
 abbrev core : ℕ → Core

@@ -9,12 +9,13 @@ use Rattle.psci_fw.specs.psci_fw_spec.declared.reply.FwReply.{FwReply}
 use Rattle.psci_fw.specs.psci_fw_spec.declared.reply.FwReply.TheVariants.{Fault}
 use Rattle.psci_fw.specs.psci_fw_spec.declared.status.Status.{Status}
 use Rattle.psci_status.specs.Lists.{Item, row}
-use Rattle.psci_shared.specs.declared.entry.FwEntry.{FwEntry}
+use Rattle.psci_shared.specs.Entries.{FwEntry}
 use Rattle.psci_shared.specs.declared.fault.CallFault.{CallFault}
 use Rattle.psci_shared.specs.declared.fault.CallFault.TheVariants.{BookFull, Fw}
 use Rattle.psci_shared.specs.declared.sighting.Sighting.{Sighting}
 use Rattle.psci_shared.specs.Gathers.{AllStand}
-use Rattle.psci_shared.specs.Passes.{PassView, IsCalled, IsReadAt, IsRefused, told}
+use Rattle.psci_shared.specs.Passes.{PassView, IsCalled, IsReadAt, IsRefused}
+use Rattle.psci_shared.specs.Views.{told}
 use Rattle.psci_shared.specs.Polls.{AreInHistory, IsAmong, IsPolled}
 use Rattle.psci_shared.specs.Writing.{Stand}
 use Rattle.psci_shared.proofs.Polling as polling

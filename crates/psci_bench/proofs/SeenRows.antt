@@ -4,7 +4,7 @@ use Rattle.psci_audit.specs.psci_board.Board.{BoardValue}
 use Rattle.psci_fw.specs.psci_fw_spec.declared.status.Status.{Status}
 use Rattle.psci_fw.specs.psci_fw_spec.declared.status.Status.TheVariants.{On, Off}
 use Rattle.psci_fw.specs.psci_fw_spec.Statuses.{statuses}
-use Rattle.psci_shared.specs.declared.entry.FwEntry.{FwEntry}
+use Rattle.psci_shared.specs.Entries.{FwEntry}
 use Rattle.psci_shared.specs.declared.sighting.Sighting.{Sighting}
 use Rattle.psci_shared.specs.Books.{history_of}
 use Rattle.psci_shared.specs.Polls.{AreInHistory}

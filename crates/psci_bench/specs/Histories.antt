@@ -3,9 +3,9 @@ use Rattle.std.specs.Prelude.{List}
 use Rattle.psci_fw.specs.psci_board.Board.{BoardValue}
 use Rattle.psci_fw.specs.psci_fw_spec.Legal.{IsLegal}
 use Rattle.psci_ctl.specs.psci_ctl_spec.Legal as controls
-use Rattle.psci_shared.specs.declared.entry.FwEntry.{FwEntry}
+use Rattle.psci_shared.specs.Entries.{FwEntry}
 use Rattle.psci_shared.specs.Books.{history_of}
-use Rattle.psci_shared_ctl.specs.declared.entry.CtlEntry.{CtlEntry}
+use Rattle.psci_shared_ctl.specs.Entries.{CtlEntry}
 use Rattle.psci_shared_ctl.specs.Books as control_books
 
 -- the firmware's: each reply is the answer after the entries before it

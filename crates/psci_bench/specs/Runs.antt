@@ -3,8 +3,8 @@ use Rattle.std.specs.Prelude.{◌≡◌, ℕ, List, length}
 use Rattle.psci_audit.specs.psci_board.Board.{BoardValue}
 use Rattle.psci_audit.specs.Merged.{IsFault, IsSound, history_of}
 use Rattle.psci_audit.specs.Told.{Tells}
-use Rattle.psci_shared.specs.declared.entry.FwEntry.{FwEntry}
-use Rattle.psci_shared_ctl.specs.declared.entry.CtlEntry.{CtlEntry}
+use Rattle.psci_shared.specs.Entries.{FwEntry}
+use Rattle.psci_shared_ctl.specs.Entries.{CtlEntry}
 use Rattle.psci_bench.specs.Seen.{AllInHistory}
 use Rattle.psci_bench.specs.declared.fault.BenchFault.{BenchFault}
 use Rattle.psci_bench.specs.declared.fault.BenchFault.TheVariants.{Gate, Memory, Threads}

@@ -1,7 +1,7 @@
 -- What the threads of a run saw by polls.
 use Rattle.std.specs.Prelude.{◌⊎◌, List, [], ◌∷◌}
 use Rattle.psci_fw.specs.psci_board.Board.{BoardValue}
-use Rattle.psci_shared.specs.declared.entry.FwEntry.{FwEntry}
+use Rattle.psci_shared.specs.Entries.{FwEntry}
 use Rattle.psci_shared.specs.declared.sighting.Sighting.{Sighting}
 use Rattle.psci_shared.specs.Passes.{PassView}
 use Rattle.psci_shared.specs.Polls.{AreInHistory}

@@ -177,6 +177,7 @@ fn copied_controls(alloc: Global, entries: &[CtlEntry]) -> Result<Vec<CtlEntry>,
     for entry in entries {
         copies.push(CtlEntry {
             ticket: entry.ticket,
+            core: (),
             call: entry.call.copy(),
             reply: entry.reply.copy(),
         })?;

@@ -15,7 +15,7 @@ use Rattle.psci_fw.specs.psci_fw_spec.declared.outcome.Outcome.{Outcome}
 use Rattle.psci_fw.specs.psci_fw_spec.declared.reply.FwReply.TheVariants as replies
 use Rattle.psci_fw.specs.Calls.{FunctionAnswered}
 use Rattle.psci_messages.specs.declared.taken.Taken.TheVariants.{Used}
-use Rattle.psci_shared.specs.declared.entry.FwEntry.{FwEntry}
+use Rattle.psci_shared.specs.Entries.{FwEntry}
 use Rattle.psci_shared.specs.Books.{answer_after}
 use Rattle.psci_shared.specs.Gathers.{AreMet}
 use Rattle.psci_shared.specs.Locked.{IsReply}

@@ -11,14 +11,14 @@ use Rattle.psci_fw.specs.psci_fw_spec.declared.fault.FwFault.TheVariants.{NotRun
 use Rattle.psci_fw.specs.psci_fw_spec.declared.reply.FwReply.{FwReply}
 use Rattle.psci_fw.specs.psci_fw_spec.declared.reply.FwReply.TheVariants.{Out, Taken, Fault}
 use Rattle.psci_messages.specs.declared.start.Cause.TheVariants.{On}
-use Rattle.psci_shared.specs.declared.entry.FwEntry.{FwEntry}
-use Rattle.psci_shared.specs.declared.entry.FwItem.{FwItem}
+use Rattle.psci_shared.specs.Entries.{FwEntry, FwItem}
 use Rattle.psci_shared.specs.declared.fault.GatherCause.TheVariants.{Astray, Missing}
 use Rattle.psci_shared.specs.Agree.{Agree, Agrees, AllStandFrom}
 use Rattle.psci_shared.specs.Places.{all_apart, apart, apart_from, has_place, places}
-use Rattle.psci_shared.specs.Books.{BookView, entered, entry, history_of}
+use Rattle.psci_shared.specs.Books.{BookView, entry, history_of}
+use Rattle.psci_shared.specs.Views.{entered, item}
 use Rattle.psci_shared.specs.Gathers.{IsCause, items_of}
-use Rattle.psci_shared.specs.Passes.{PassView, item}
+use Rattle.psci_shared.specs.Passes.{PassView}
 use Rattle.psci_shared.specs.Places.{AllPlaced, places_of, times}
 
 abbrev core : ℕ → Core

@@ -22,11 +22,11 @@ use Rattle.psci_messages.specs.declared.start.Cause.TheVariants.{Boot}
 use Rattle.psci_messages.specs.declared.taken.Taken.TheVariants as takens
 use Rattle.psci_messages.specs.Outstanding.{changes_since, last_message, outstanding}
 use Rattle.psci_status.specs.Lists.{Item, Within}
-use Rattle.psci_shared.specs.declared.entry.FwEntry.{FwEntry}
-use Rattle.psci_shared.specs.declared.entry.FwItem.{FwItem}
+use Rattle.psci_shared.specs.Entries.{FwEntry, FwItem}
 use Rattle.psci_shared.specs.Answered.{IsAnswered, IsAnsweredAfter}
 use Rattle.psci_shared.specs.Books.{entry, history_of}
-use Rattle.psci_shared.specs.Passes.{PassView, item}
+use Rattle.psci_shared.specs.Passes.{PassView}
+use Rattle.psci_shared.specs.Views.{item}
 use Rattle.psci_shared.specs.Writing.{AllLast, Stand}
 
 -- what an example unfolds to compute an answer, and the statuses after it

@@ -23,7 +23,7 @@ use Rattle.psci_fw.specs.psci_fw_spec.declared.status.Status.{Status}
 use Rattle.psci_fw.specs.Seen.{FirmwareValue, seen}
 use Rattle.psci_messages.specs.declared.start.Cause.TheVariants.{Boot}
 use Rattle.psci_status.specs.Lists.{Item, Within, row}
-use Rattle.psci_shared.specs.declared.entry.FwEntry.{FwEntry}
+use Rattle.psci_shared.specs.Entries.{FwEntry}
 use Rattle.psci_shared.specs.Books.{answer_after, entry, history_of}
 use Rattle.psci_shared.specs.Gathers.{AllSeen, AllStand}
 use Rattle.psci_shared.specs.Inside.{IsTied}
@@ -149,7 +149,7 @@ second_does_not_stand h = never_on (h.1.0 1 (omega arith))
 
 -- a book without entries, of a firmware before any life
 tied : (f : FirmwareValue) → f.board ≡ board → seen f ≡ values_of board (history_of [])
-    → IsTied board 1001 f [] 4 3
+    → IsTied board f [] 4 3
 unfolding history_of
 tied f of_board values = record {
   board = of_board;
@@ -157,20 +157,16 @@ tied f of_board values = record {
   legal = tt;
   within = omega arith;
   reserved = omega arith;
-  whole = refl;
   small = omega arith;
 }
 
-parts_are_missing : (f : FirmwareValue) → IsTied board 1000 f [] 4 3 → ⊥
-parts_are_missing f h = let e : ◌≡◌ {A = ℕ} 1000 1001 = h.whole in omega arith
-
-more_room_than_reserved : (f : FirmwareValue) → IsTied board 1001 f [] 3 4 → ⊥
+more_room_than_reserved : (f : FirmwareValue) → IsTied board f [] 3 4 → ⊥
 more_room_than_reserved f h = let e : 4 ≤ 3 = h.reserved in omega arith
 
-more_entries_than_room : (f : FirmwareValue) → IsTied board 1001 f entries 4 1 → ⊥
+more_entries_than_room : (f : FirmwareValue) → IsTied board f entries 4 1 → ⊥
 more_entries_than_room f h = let e : 2 ≤ 1 = h.within in omega arith
 
-room_is_too_large : (f : FirmwareValue) → IsTied board 1001 f [] 0x100000000 0x100000000 → ⊥
+room_is_too_large : (f : FirmwareValue) → IsTied board f [] 0x100000000 0x100000000 → ⊥
 room_is_too_large f h = let e : 0x100000000 < 0x100000000 = h.small in omega arith
 
 -- core 1 was answered while it was off
@@ -180,17 +176,17 @@ is_out (Taken taken) = 2
 is_out (Fault fault) = 3
 
 illegal : (f : FirmwareValue)
-    → IsTied board 1001 f (entry 0 (record { number = 1 }) version told ∷ []) 4 3 → ⊥
+    → IsTied board f (entry 0 (record { number = 1 }) version told ∷ []) 4 3 → ⊥
 unfolding computing history_of
 illegal f h = let e : ◌≡◌ {A = ℕ} 1 3 = ap is_out h.legal.0 in omega arith
 
 -- the firmware is of another board; it has another life than the entries say
-other_board : (f : FirmwareValue) → f.board.starts ≡ 8 → IsTied board 1001 f [] 4 3 → ⊥
+other_board : (f : FirmwareValue) → f.board.starts ≡ 8 → IsTied board f [] 4 3 → ⊥
 other_board f eight h =
     let e : f.board.starts ≡ 9 = ap (λ (b : BoardValue). b.starts) h.board in
     omega (arith, eight, e)
 
-other_life : (f : FirmwareValue) → (seen f).life ≡ 1 → IsTied board 1001 f entries 4 3 → ⊥
+other_life : (f : FirmwareValue) → (seen f).life ≡ 1 → IsTied board f entries 4 3 → ⊥
 unfolding computing history_of
 other_life f one h =
     let e : (seen f).life ≡ 2 = ap (λ (v : Values). v.life) h.values in

@@ -14,10 +14,11 @@ use Rattle.psci_messages.specs.declared.start.Cause.TheVariants.{Wake}
 use Rattle.psci_messages.specs.declared.taken.Taken.TheVariants as takens
 use Rattle.std.specs.Prelude.{None, nat_lt, if◌then◌else◌}
 use Rattle.psci_status.specs.Lists.{Item, gains, row}
-use Rattle.psci_shared.specs.declared.entry.FwItem.{FwItem}
+use Rattle.psci_shared.specs.Entries.{FwItem}
 use Rattle.psci_shared.specs.declared.fault.CallFault.TheVariants.{BookFull, Fw}
 use Rattle.psci_shared.specs.Gathers.{met}
-use Rattle.psci_shared.specs.Passes.{Fits, IsCalled, IsRefused, PassView, item}
+use Rattle.psci_shared.specs.Passes.{Fits, IsCalled, IsRefused, PassView}
+use Rattle.psci_shared.specs.Views.{item}
 use Rattle.psci_shared.specs.Writing.{HasSeen}
 
 -- a function that core 2 asks for, its entry in life 2, and an acknowledgement in life 3

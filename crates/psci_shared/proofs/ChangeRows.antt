@@ -21,7 +21,7 @@ use Rattle.psci_messages.specs.declared.start.Cause.TheVariants as causes
 use Rattle.psci_messages.specs.declared.taken.Taken.TheVariants.{Used, Old}
 use Rattle.psci_messages.specs.Message.{MessageValue}
 use Rattle.psci_status.specs.Lists.{row}
-use Rattle.psci_shared.specs.declared.entry.FwEntry.{FwEntry}
+use Rattle.psci_shared.specs.Entries.{FwEntry}
 use Rattle.psci_shared.specs.Books.{entry, history_of}
 use Rattle.psci_status.specs.Naming.{names}
 use Rattle.psci_shared.specs.Writing.{IsOneBehind}

@@ -7,7 +7,10 @@ use denote.Struct.Declared.{shape}
 use Rattle.std.specs.contracts.vec.Vec as Vec
 use Rattle.std.specs.contracts.alloc.Global as Heap
 use Rattle.std.specs.contracts.impls.GlobalAllocator.TheImpl.{ghosts}
-use Rattle.psci_shared.specs.contracts.entry.FwEntry as Entry
+use Rattle.psci_board.specs.contracts.node.Core as Core
+use Rattle.psci_fw_spec.specs.contracts.call.FwCall as FwCall
+use Rattle.psci_fw_spec.specs.contracts.reply.FwReply as FwReply
+use Rattle.psci_shared.specs.contracts.entry.Entry as Entry
 use Rattle.psci_shared.specs.contracts.book.FwBook.TheInside as Inside
 use Rattle.std.proofs.Crossing as heap
 use Rattle.psci_board.proofs.board.Board.TheSendSync as board
@@ -29,7 +32,16 @@ use Rattle.psci_status.proofs.seats.StatusWords.TheSendSync as words
 use Rattle.psci_shared.specs.declared.named.Named as Named
 use Rattle.psci_shared.specs.contracts.book.FwBook as Book
 use Rattle.psci_shared.specs.contracts.locked.FwLocked as Locked
-use Rattle.psci_shared.proofs.entry.FwEntry.TheSendSync as entry
+use Rattle.psci_shared.specs.contracts.pass.PassOf as PassOf
+use Rattle.psci_shared.specs.contracts.seen.Seen as Seen
+use Rattle.psci_shared.specs.contracts.tally.Tally as Tally
+use Rattle.psci_shared.specs.contracts.tally.Tally.TheInside as Counted
+use Rattle.psci_board.proofs.node.Core.TheSendSync as core_at
+use Rattle.psci_fw_spec.proofs.call.FwCall.TheSendSync as call
+use Rattle.psci_fw_spec.proofs.reply.FwReply.TheSendSync as reply
+use Rattle.psci_shared.proofs.entry.Entry.TheSendSync as entry
+use Rattle.psci_shared.proofs.pass.PassOf.TheSendSync as passes
+use Rattle.psci_shared.proofs.seen.Seen.TheSendSync as seen
 use Rattle.psci_shared.proofs.tickets.Tickets.TheSendSync as tickets
 
 tree : IsSend Tree.the_row
@@ -59,8 +71,12 @@ firmware : IsSend Firmware.the_row
 firmware = search (heap.crosses, state, sendable) depth 60 fits 20000
 
 module _ (N : RattleType) (named : Named.Ghosts N.Denot) (ledger : Ledger.Ghosts N.Denot) where
-  rows : IsSend (Vec.the_row Entry.the_row Heap.the_row ghosts)
-  rows = heap.Vec-send Entry.the_row entry.the_send
+  rows : IsSend
+      (Vec.the_row (Entry.the_row Core.the_row FwCall.the_row FwReply.the_row) Heap.the_row ghosts)
+  rows =
+      heap.Vec-send _
+      (search (entry.the_send, core_at.the_send, call.the_send, reply.the_send, sendable)
+      depth 60 fits 20000)
 
   inside : IsSend (Inside.the_row N named ledger)
   inside =
@@ -71,6 +87,16 @@ module _ (N : RattleType) (named : Named.Ghosts N.Denot) (ledger : Ledger.Ghosts
 
   book : IsSend (Book.the_row N named ledger)
   book = view_send _ _ _ _ _ inside
+
+  counted : IsSend (Counted.the_row N named ledger)
+  counted =
+      recorded_send (Counted.the_field N named ledger).row _ _
+      (Counted.the_type N named ledger).to_one
+      (struct_send (shape (Counted.the_type N named ledger))
+      (total.the_send N ledger, (share.the_send N ledger, tt)))
+
+  tally : IsSend (Tally.the_row N named ledger)
+  tally = view_send _ _ _ _ _ counted
 
   locked : IsSend (Locked.the_row N named ledger)
   locked =
@@ -84,7 +110,7 @@ module _ (N : RattleType) (named : Named.Ghosts N.Denot) (ledger : Ledger.Ghosts
             writer.the_field_send,
             (
               plain_send _ _ _ _ _,
-              (total.the_send N ledger, (share.the_send N ledger, tt)),
+              (tally, tt),
             ),
           ),
         ),
@@ -110,3 +136,20 @@ module _ (N : RattleType) (named : Named.Ghosts N.Denot) (ledger : Ledger.Ghosts
           ),
         ),
       ))
+
+  -- a pass of the firmware
+  abbrev pub the_pass : RattleType
+  the_pass =
+      PassOf.the_row N Core.the_row (Seen.the_row N named ledger) FwCall.the_row FwReply.the_row
+      named ledger
+
+  pub pass : IsSend the_pass
+  pass =
+      search (
+        passes.the_send,
+        seen.the_send,
+        core_at.the_send,
+        call.the_send,
+        reply.the_send,
+        sendable,
+      ) depth 60 fits 20000

@@ -13,6 +13,7 @@ pub mod Polling
 mod RefusedRows
 pub mod Stays
 pub mod Unnamed
+mod ViewRows
 pub mod Walking
 pub mod WritingRows
 pub mod Written

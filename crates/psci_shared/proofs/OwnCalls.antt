@@ -20,7 +20,7 @@ use Rattle.psci_fw.specs.psci_fw_spec.Statuses.{added, statuses}
 use Rattle.psci_messages.specs.declared.start.Start.{Start}
 use Rattle.psci_messages.specs.OnlyIf.{only_if}
 use Rattle.psci_status.specs.Lists.{Begins, IsLast, Item, row, status_of}
-use Rattle.psci_shared.specs.declared.entry.FwEntry.{FwEntry}
+use Rattle.psci_shared.specs.Entries.{FwEntry}
 use Rattle.psci_shared.specs.Books.{exchange_of, history_of}
 use Rattle.psci_shared.specs.Writing.{AllLast, HasSeen}
 use Rattle.psci_shared.proofs.Histories.{history_more}

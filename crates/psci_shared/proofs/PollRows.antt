@@ -14,10 +14,11 @@ use Rattle.psci_fw.specs.psci_fw_spec.Statuses.{statuses}
 use Rattle.psci_messages.specs.declared.start.Cause.TheVariants.{Wake}
 use Rattle.psci_status.specs.Lists.{Item}
 use Rattle.psci_shared.specs.Books.{history_of}
-use Rattle.psci_shared.specs.declared.entry.FwItem.{FwItem}
+use Rattle.psci_shared.specs.Entries.{FwItem}
 use Rattle.psci_shared.specs.declared.fault.PassFault.TheVariants.{NoCore, TooMany, Memory}
 use Rattle.psci_shared.specs.declared.sighting.Sighting.{Sighting}
-use Rattle.psci_shared.specs.Passes.{IsFirst, IsNoPass, PassView, item, told}
+use Rattle.psci_shared.specs.Passes.{IsFirst, IsNoPass, PassView}
+use Rattle.psci_shared.specs.Views.{item, told}
 use Rattle.psci_shared.specs.Polls.{AreInHistory, Goes, IsAmong, IsInHistory, IsPolled}
 
 -- two cores

@@ -12,7 +12,7 @@ use Rattle.psci_fw.specs.psci_fw_spec.declared.status.Status.{Status}
 use Rattle.psci_fw.specs.psci_fw_spec.AffinityInfo.{status_code}
 use Rattle.psci_fw.specs.psci_fw_spec.Statuses.{statuses}
 use Rattle.psci_status.specs.Lists.{Begins, Item, Stands, Within, gain, gain_from, gains, row}
-use Rattle.psci_shared.specs.declared.entry.FwEntry.{FwEntry}
+use Rattle.psci_shared.specs.Entries.{FwEntry}
 use Rattle.psci_shared.specs.Books.{history_of}
 use Rattle.psci_shared.specs.Passes.{PassView, IsAffinity, IsCalled, IsReadAt}
 use Rattle.psci_shared.specs.Polls.{Goes, IsAmong, IsOneOf, IsStep}

@@ -9,13 +9,12 @@ use Rattle.psci_fw.specs.psci_fw_spec.declared.reply.FwReply.TheVariants.{Out, T
 use Rattle.psci_fw.specs.psci_fw_spec.declared.status.Status.TheVariants.{On, Off, Pending}
 use Rattle.psci_messages.specs.declared.taken.Taken.TheVariants as takens
 use Rattle.psci_status.specs.Lists.{Item}
-use Rattle.psci_shared.specs.declared.entry.FwEntry.{FwEntry}
-use Rattle.psci_shared.specs.declared.entry.FwItem.{FwItem}
+use Rattle.psci_shared.specs.Entries.{FwEntry, FwItem}
 use Rattle.psci_shared.specs.declared.fault.CallFault.TheVariants.{BookFull, Fw}
 use Rattle.psci_shared.specs.Answered.{IsAnswered, IsAnsweredAfter, IsAnsweredFault, IsFull}
 use Rattle.psci_shared.specs.Books.{BookView, entry, history_of}
 use Rattle.psci_shared.specs.Locked.{IsTurnedAway}
-use Rattle.psci_shared.specs.Passes.{item}
+use Rattle.psci_shared.specs.Views.{item}
 use Rattle.psci_shared.specs.Writing.{AllLast, Stand}
 use Rattle.psci_shared.proofs.AnsweredRows.{accepted, board, booted, boots, computing, enters}
 use Rattle.psci_shared.proofs.AnsweredRows.{fresh, kind, on, pass, seen_on, starts, take, version}

@@ -20,7 +20,7 @@ use Rattle.psci_status.proofs.Last.{added_last}
 use Rattle.psci_status.proofs.Past.{names_enter, names_smc, names_take}
 use Rattle.psci_status.proofs.Staying.{status_stays}
 use Rattle.psci_status.specs.Lists.{row}
-use Rattle.psci_shared.specs.declared.entry.FwEntry.{FwEntry}
+use Rattle.psci_shared.specs.Entries.{FwEntry}
 use Rattle.psci_shared.specs.Books.{exchange_of, history_of}
 use Rattle.psci_shared.specs.Writing.{IsOneBehind, named_by, written_after}
 use Rattle.psci_shared.proofs.Histories.{history_more}

@@ -31,7 +31,7 @@ use Rattle.psci_messages.specs.Message.{MessageValue}
 use Rattle.psci_status.specs.Naming.{is_named}
 use Rattle.psci_status.specs.Writing.{one_more}
 use Rattle.psci_status.specs.Lists.{row}
-use Rattle.psci_shared.specs.declared.entry.FwEntry.{FwEntry}
+use Rattle.psci_shared.specs.Entries.{FwEntry}
 use Rattle.psci_shared.specs.Books.{exchange_of, history_of}
 use Rattle.psci_shared.specs.Writing.{IsOneBehind, named_by, written_after}
 use Rattle.psci_shared.proofs.Histories.{history_more}

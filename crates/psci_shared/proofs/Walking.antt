@@ -1,10 +1,18 @@
 -- Two lists of places that rise are walked through together.
 use Rattle.std.proofs.Common.{◌≡◌, ℕ, ◌+◌, ◌<◌, ◌≤◌, List, [], ◌∷◌, Bool, true, false, nat_lt}
-use Rattle.std.proofs.Common.{refl, ap, ◌∙◌, arith}
+use Rattle.std.proofs.Common.{refl, ap, sym, ◌∙◌, arith, drop}
 use Rattle.std.specs.Prelude.{◌==◌, ◌&&◌, ◌||◌, not, if◌then◌else◌}
 use Rattle.std.proofs.lemmas.Bool.{ne_eqb}
 use Rattle.std.proofs.lemmas.Bool.Decides.{nat_tests}
-use Rattle.psci_shared.specs.Places.{RisesFrom, apart, begins_at, has_place, not_below}
+use Rattle.psci_shared.specs.declared.entry.Item.{Item}
+use Rattle.psci_shared.specs.Places.{RisesFrom, apart, begins_at, has_place, not_below, places}
+
+-- the places from here on, where this item is the first of the rest
+pub places_at : {C R : Type 0} (items rest : List (Item C R)) (x it : Item C R) (from : ℕ)
+    → drop from items ≡ x ∷ rest → it ≡ x → places (drop from items) ≡ it.place ∷ places rest
+places_at {C} {R} items rest x it from at is =
+    ap (λ (l : List (Item C R)). places l) at
+    ∙ ap (λ (y : Item C R). y.place ∷ places rest) (sym is)
 
 pub rises_low : (from : ℕ) (ps : List ℕ) → RisesFrom from ps → RisesFrom 0 ps
 rises_low from [] rises = tt

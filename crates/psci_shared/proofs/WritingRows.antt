@@ -17,7 +17,7 @@ use Rattle.psci_messages.specs.declared.kind.Kind.TheVariants.{Start}
 use Rattle.psci_messages.specs.declared.start.Cause.TheVariants.{Boot}
 use Rattle.psci_messages.specs.Message.{MessageValue}
 use Rattle.psci_status.specs.Lists.{Item, gain, row}
-use Rattle.psci_shared.specs.declared.entry.FwEntry.{FwEntry}
+use Rattle.psci_shared.specs.Entries.{FwEntry}
 use Rattle.psci_shared.specs.Books.{entry, history_of}
 use Rattle.psci_shared.specs.Passes.{IsAffinity, IsRead, PassView}
 use Rattle.psci_status.specs.Writing.{one_more}

@@ -12,8 +12,9 @@ use Rattle.psci_fw.specs.psci_fw_spec.History.{life, status}
 use Rattle.psci_fw.specs.psci_fw_spec.Lives.{first_status}
 use Rattle.psci_fw.specs.psci_fw_spec.Statuses.{added, statuses}
 use Rattle.psci_status.specs.Lists.{Item, Within, row}
-use Rattle.psci_shared.specs.declared.entry.FwEntry.{FwEntry}
-use Rattle.psci_shared.specs.Books.{BookView, entered, exchange_of, history_of}
+use Rattle.psci_shared.specs.Entries.{FwEntry}
+use Rattle.psci_shared.specs.Books.{BookView, exchange_of, history_of}
+use Rattle.psci_shared.specs.Views.{entered}
 use Rattle.psci_shared.specs.Gathers.{AllSeen, AllStand}
 use Rattle.psci_shared.specs.Passes.{PassView}
 use Rattle.psci_status.specs.Writing.{one_more}

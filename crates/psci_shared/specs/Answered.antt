@@ -5,11 +5,12 @@ use Rattle.psci_fw.specs.psci_fw_spec.declared.call.FwCall.{FwCall}
 use Rattle.psci_fw.specs.psci_fw_spec.declared.reply.FwReply.{FwReply}
 use Rattle.psci_fw.specs.psci_fw_spec.declared.reply.FwReply.TheVariants.{Fault}
 use Rattle.psci_fw.specs.psci_fw_spec.Legal.{IsLegal}
-use Rattle.psci_shared.specs.declared.entry.FwEntry.{FwEntry}
+use Rattle.psci_shared.specs.Entries.{FwEntry}
 use Rattle.psci_shared.specs.declared.fault.CallFault.{CallFault}
 use Rattle.psci_shared.specs.declared.fault.CallFault.TheVariants.{BookFull, Fw}
 use Rattle.psci_shared.specs.Books.{answer_after, entry, history_of}
-use Rattle.psci_shared.specs.Passes.{PassView, item}
+use Rattle.psci_shared.specs.Passes.{PassView}
+use Rattle.psci_shared.specs.Views.{item}
 use Rattle.psci_shared.specs.Writing.{AllLast, Stand}
 
 -- the reply is the one answer after these entries, which tell a legal history; the item has their

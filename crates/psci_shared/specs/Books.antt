@@ -1,5 +1,5 @@
 -- A book as contracts see it, and the history that it tells.
-use Rattle.std.specs.Prelude.{ℕ, List, [], ◌∷◌, ◌++◌, map, reverse}
+use Rattle.std.specs.Prelude.{ℕ, List, map, reverse}
 use Rattle.psci_fw.specs.psci_board.declared.node.Core.{Core}
 use Rattle.psci_fw.specs.psci_board.Board.{BoardValue}
 use Rattle.psci_fw.specs.psci_fw_spec.declared.call.FwCall.{FwCall}
@@ -7,12 +7,12 @@ use Rattle.psci_fw.specs.psci_fw_spec.declared.reply.FwReply.{FwReply}
 use Rattle.psci_fw.specs.psci_fw_spec.Answer.{answer}
 use Rattle.psci_fw.specs.psci_fw_spec.Exchange.{FwExchange}
 use Rattle.psci_fw.specs.psci_fw_spec.History.{values_of}
-use Rattle.psci_shared.specs.declared.entry.FwEntry.{FwEntry}
+use Rattle.psci_shared.specs.Entries.{FwEntry}
+use Rattle.psci_shared.specs.Views.{AnyBook}
 
--- a book: its entries, the first call first, and how many it has room for
-pub record BookView : Type 0 where
-  pub entries : List FwEntry
-  pub room : ℕ
+-- the firmware's book
+abbrev pub BookView : Type 0
+BookView = AnyBook Core FwCall FwReply
 
 -- an entry
 abbrev pub entry : ℕ → Core → FwCall → FwReply → FwEntry
@@ -30,7 +30,3 @@ history_of entries = map exchange_of (reverse entries)
 -- the one reply to a call after these entries
 abbrev pub answer_after : BoardValue → List FwEntry → ℕ → FwCall → FwReply
 answer_after b entries core call = answer b (values_of b (history_of entries)) core call
-
--- a book with one entry more
-abbrev pub entered : BookView → FwEntry → BookView
-entered b e = record b { entries = b.entries ++ e ∷ [] }

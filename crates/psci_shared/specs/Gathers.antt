@@ -3,14 +3,15 @@ use Rattle.std.specs.Prelude.{◌≡◌, ◌<◌, ℕ, List, [], ◌∷◌, leng
 use Rattle.psci_fw.specs.psci_board.Board.{BoardValue}
 use Rattle.psci_fw.specs.psci_fw_spec.declared.status.Status.{Status}
 use Rattle.psci_status.specs.Lists.{Item, gains, row, Within}
-use Rattle.psci_shared.specs.declared.entry.FwEntry.{FwEntry}
+use Rattle.psci_shared.specs.Entries.{FwEntry}
 use Rattle.psci_shared.specs.declared.fault.GatherCause.{GatherCause}
 use Rattle.psci_shared.specs.declared.fault.GatherCause.TheVariants.{Astray, Missing}
 use Rattle.psci_shared.specs.Passes.{PassView}
+use Rattle.psci_shared.specs.Views.{AnyPass}
 use Rattle.psci_shared.specs.Writing.{Stand}
 
 -- how many items the passes have in all
-abbrev pub items_of : List PassView → ℕ
+abbrev pub items_of : {W S C R : Type 0} → List (AnyPass W S C R) → ℕ
 items_of ps = sum_by (λ p. length p.items) ps
 
 -- why nothing was gathered: a pass does not agree with the book; or all do, and fewer came than

@@ -1,6 +1,7 @@
 pub mod Agree
 pub mod Answered
 pub mod Books
+pub mod Entries
 pub mod Gathers
 pub mod Inside
 pub mod Locked
@@ -8,4 +9,5 @@ pub mod Names
 pub mod Passes
 pub mod Places
 pub mod Polls
+pub mod Views
 pub mod Writing

@@ -13,9 +13,10 @@ use Rattle.psci_status.specs.Lists.{Item, gains}
 use Rattle.psci_shared.specs.declared.done.Done.{Done}
 use Rattle.psci_shared.specs.declared.done.Said.{Said}
 use Rattle.psci_shared.specs.declared.done.Said.TheVariants.{Reacted, Taken}
-use Rattle.psci_shared.specs.declared.entry.FwEntry.{FwEntry}
-use Rattle.psci_shared.specs.Books.{BookView, answer_after, entered, entry, history_of}
-use Rattle.psci_shared.specs.Passes.{Fits, PassView, called, item, told}
+use Rattle.psci_shared.specs.Entries.{FwEntry}
+use Rattle.psci_shared.specs.Books.{BookView, answer_after, entry, history_of}
+use Rattle.psci_shared.specs.Passes.{Fits, PassView}
+use Rattle.psci_shared.specs.Views.{called, entered, item, told}
 use Rattle.psci_shared.specs.Writing.{AllLast, Stand, named_by}
 
 -- a list has one more at its end, in the room that there was

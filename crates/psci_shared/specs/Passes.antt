@@ -1,5 +1,5 @@
 -- Passes as contracts see them.
-use Rattle.std.specs.Prelude.{◌≡◌, ◌≤◌, ◌<◌, ℕ, List, [], ◌∷◌, ◌++◌, Bool, true, false}
+use Rattle.std.specs.Prelude.{◌≡◌, ◌≤◌, ◌<◌, ℕ, List}
 use Rattle.std.specs.Prelude.{slice_set, Option, None, Some, pos}
 use Rattle.psci_fw.specs.psci_abi.Codes.{invalid_parameters}
 use Rattle.psci_fw.specs.psci_abi.declared.code.Code.{Code}
@@ -12,32 +12,15 @@ use Rattle.psci_fw.specs.psci_fw_spec.declared.reply.FwReply.TheVariants.{Out, T
 use Rattle.psci_fw.specs.psci_fw_spec.declared.status.Status.{Status}
 use Rattle.psci_fw.specs.psci_fw_spec.AffinityInfo.{status_code}
 use Rattle.psci_status.specs.Lists.{Item, row, gain, gains, Begins, Rises}
-use Rattle.psci_shared.specs.declared.entry.FwItem.{FwItem}
 use Rattle.psci_shared.specs.declared.fault.CallFault.{CallFault}
 use Rattle.psci_shared.specs.declared.fault.CallFault.TheVariants.{BookFull, Fw}
 use Rattle.psci_shared.specs.declared.fault.PassFault.{PassFault}
 use Rattle.psci_shared.specs.declared.fault.PassFault.TheVariants.{NoCore, TooMany, Memory}
+use Rattle.psci_shared.specs.Views.{AnyPass, called, first, item, told}
 
--- a pass: its core, for how many items it has room, whether it was told that the book is full, its
--- items, the first call first, and what it has seen of each core
-pub record PassView : Type 0 where
-  pub core : Core
-  pub room : ℕ
-  pub told_full : Bool
-  pub items : List FwItem
-  pub seen : List (List Item)
-
--- an item
-abbrev pub item : ℕ → FwCall → FwReply → FwItem
-item place call reply = record { place = place; call = call; reply = reply }
-
--- a pass with one item more, which has now seen this
-abbrev pub called : PassView → FwItem → List (List Item) → PassView
-called p i seen = record p { items = p.items ++ i ∷ []; seen = seen }
-
--- a pass that was told that the book is full
-abbrev pub told : PassView → PassView
-told p = record p { told_full = true }
+-- a pass of the firmware, with what it has seen of each core
+abbrev pub PassView : Type 0
+PassView = AnyPass Core (List (List Item)) FwCall FwReply
 
 -- a pass that read the status of a core with its serial: it has now seen one item more of it at
 -- most, the last is that item, and serials rise
@@ -84,13 +67,7 @@ IsAffinity (Some core) p p' code =
 
 -- a new pass for a core: it was not called by yet, nor told anything
 abbrev pub IsFirst : Core → ℕ → PassView → Type 0
-IsFirst core room p = p ≡ record {
-  core = core;
-  room = room;
-  told_full = false;
-  items = [];
-  seen = p.seen;
-}
+IsFirst core room p = p ≡ first core room p.seen
 
 -- why no pass is made for a core once so many were made: the board has no such core; or they are
 -- 1,000; or else memory lacks

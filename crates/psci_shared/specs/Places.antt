@@ -3,9 +3,8 @@ use Rattle.std.specs.Prelude.{◌≡◌, ◌<◌, ◌≤◌, ◌+◌, ℕ, ◌==
 use Rattle.std.specs.Prelude.{not, Bool, true, false}
 use Rattle.std.specs.Prelude.{if◌then◌else◌}
 use Rattle.std.specs.Prelude.{List, [], ◌∷◌, map, length, sum_by, count_by}
-use Rattle.psci_shared.specs.declared.entry.FwItem.{FwItem}
-use Rattle.psci_shared.specs.Books.{BookView}
-use Rattle.psci_shared.specs.Passes.{PassView}
+use Rattle.psci_shared.specs.declared.entry.Item.{Item}
+use Rattle.psci_shared.specs.Views.{AnyBook, AnyPass}
 
 -- whether this place is in a list
 abbrev pub has_place : ℕ → List ℕ → Bool
@@ -56,13 +55,13 @@ abbrev pub EachOnce : ℕ → List (List ℕ) → Type 0
 EachOnce number lists = (place : ℕ) → place < number → times place lists ≡ 1
 
 -- the places of items
-abbrev pub places : List FwItem → List ℕ
+abbrev pub places : {C R : Type 0} → List (Item C R) → List ℕ
 places is = map (λ i. i.place) is
 
 -- the places of the items of a pass
-abbrev pub places_of : PassView → List ℕ
+abbrev pub places_of : {W S C R : Type 0} → AnyPass W S C R → List ℕ
 places_of p = places p.items
 
 -- each place of the book stands in exactly one pass, once
-abbrev pub AllPlaced : BookView → List PassView → Type 0
+abbrev pub AllPlaced : {W S C R : Type 0} → AnyBook W C R → List (AnyPass W S C R) → Type 0
 AllPlaced b ps = EachOnce (length b.entries) (map places_of ps)

@@ -8,10 +8,11 @@ use Rattle.psci_fw.specs.psci_fw_spec.declared.reply.FwReply.{FwReply}
 use Rattle.psci_fw.specs.psci_fw_spec.declared.status.Status.{Status}
 use Rattle.psci_fw.specs.psci_fw_spec.Statuses.{statuses}
 use Rattle.psci_status.specs.Lists.{Item, Stands}
-use Rattle.psci_shared.specs.declared.entry.FwEntry.{FwEntry}
+use Rattle.psci_shared.specs.Entries.{FwEntry}
 use Rattle.psci_shared.specs.Books.{history_of}
 use Rattle.psci_shared.specs.declared.sighting.Sighting.{Sighting}
-use Rattle.psci_shared.specs.Passes.{PassView, IsAffinity, IsCalled, IsReadAt, told}
+use Rattle.psci_shared.specs.Passes.{PassView, IsAffinity, IsCalled, IsReadAt}
+use Rattle.psci_shared.specs.Views.{told}
 
 -- the item is one of these
 abbrev pub IsAmong : Item → List Item → Type 0

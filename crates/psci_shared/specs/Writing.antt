@@ -13,7 +13,7 @@ use Rattle.psci_fw.specs.psci_fw_spec.Statuses.{statuses}
 use Rattle.psci_status.specs.Naming.{asked_by}
 use Rattle.psci_status.specs.Writing.{one_more}
 use Rattle.psci_status.specs.Lists.{Begins, Item, IsLast, Within, row}
-use Rattle.psci_shared.specs.declared.entry.FwEntry.{FwEntry}
+use Rattle.psci_shared.specs.Entries.{FwEntry}
 use Rattle.psci_shared.specs.Books.{history_of}
 
 -- what is written of each core are its statuses after these entries

@@ -11,7 +11,8 @@ ghost use Rattle.psci_fw.specs.Reactions.{outcome_in, reply_in};
 ghost use Rattle.psci_status.specs.Naming.{asked_by};
 ghost use Rattle.psci_shared.specs.Books.{entry};
 ghost use Rattle.psci_shared.specs.Locked.{IsDone, Pushed};
-ghost use Rattle.psci_shared.specs.Passes.{Fits, item};
+ghost use Rattle.psci_shared.specs.Passes.{Fits};
+ghost use Rattle.psci_shared.specs.Views.{item};
 
 use crate::done::{Done, Said};
 use crate::entry::{FwEntry, FwItem, quiet, sending, sent_from};

@@ -1,9 +1,11 @@
 //! The firmware with all that it was asked and answered.
 
 use crate::asking::{ask, ask_for};
+use crate::booked::Booked;
 use crate::done::{Done, Said, reply_of};
 use crate::entry::{BookFull, FwEntry, FwItem};
 use crate::named::Named;
+use crate::same::{is_same_call, is_same_reply};
 use crate::touching::touch;
 use psci_fw::{Firmware, FwCall, FwReply, law_values};
 use psci_status::{Board, Core, Memory};
@@ -29,7 +31,31 @@ impl<N: Named> Model for FwBook<N> {
     ghost view = { λ b. record { entries = b.entries.items; room = b.room } };
 
     ghost invariant = { λ b.
-        IsTied N.board N.parts b.firmware b.entries.items (vec_capacity b.entries) b.room };
+        IsTied N.board b.firmware b.entries.items (vec_capacity b.entries) b.room };
+}
+
+impl<N: Named> Booked for FwBook<N> {
+    type Core = Core;
+
+    type Call = FwCall;
+
+    type Reply = FwReply;
+
+    ghost book = { λ b. b };
+
+    fn listed(&self) -> &[FwEntry] {
+        self.entries()
+    }
+
+    fn most(&self) -> u32 {
+        self.room
+    }
+
+    fn is_of(entry: &FwEntry, core: &Core, item: &FwItem) -> bool {
+        let same_call = is_same_call(&entry.call, &item.call);
+        let same_reply = is_same_reply(&entry.reply, &item.reply);
+        entry.core == *core && same_call && same_reply
+    }
 }
 
 ghost use Rattle.std.specs.Prelude.{◌≡◌, ◌<◌, ◌≤◌, ◌+◌, ◌^◌, List, [], ◌∷◌, ◌++◌, length};
@@ -37,10 +63,11 @@ ghost use Rattle.std.specs.Prelude.{IfOk, OnOk, OnErr, vec_len, vec_capacity};
 ghost use Rattle.psci_fw.specs.Seen.{seen};
 ghost use Rattle.psci_fw.specs.psci_fw_spec.History.{life, values_of};
 ghost use Rattle.psci_fw.specs.psci_fw_spec.Legal.{IsLegal};
-ghost use Rattle.psci_shared.specs.Passes.{Fits, item};
+ghost use Rattle.psci_shared.specs.Passes.{Fits};
+ghost use Rattle.psci_shared.specs.Views.{entered, item};
 ghost use Rattle.psci_shared.specs.Locked.{IsDone, Pushed, reply_said};
-ghost use Rattle.psci_shared.specs.declared.entry.FwEntry.{FwEntry};
-ghost use Rattle.psci_shared.specs.Books.{answer_after, entered, entry, history_of};
+ghost use Rattle.psci_shared.specs.Entries.{FwEntry};
+ghost use Rattle.psci_shared.specs.Books.{answer_after, entry, history_of};
 
 impl<N: Named> FwBook<N> {
     /// A firmware of this board that was asked nothing, and a book with room for so many entries.
@@ -48,7 +75,6 @@ impl<N: Named> FwBook<N> {
     #[tactic(auto, using(crate::proofs::Histories::history_none))]
     pub fn new(alloc: Global, board: &Board, room: u32) -> Result<FwBook<N>, Memory>
         requires board { board.now ≡ N.board }
-        requires parts { N.parts ≡ 1001 }
         ensures { IfOk result (λ b. b ≡ record { entries = []; room = room }) }
     {
         law_values();
@@ -154,13 +180,6 @@ impl<N: Named> FwBook<N> {
         ensures legal { IsLegal N.board (history_of self.now.entries) }
     {
         self.entries.as_slice()
-    }
-
-    /// The ledger has 1,001 parts: one for each pass, and one that is no pass's.
-    pub(crate) fn whole(&self)
-        ensures { N.parts ≡ 1001 }
-    {
-        let _room = self.room;
     }
 
     /// The firmware, to look at.

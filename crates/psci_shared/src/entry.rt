@@ -4,7 +4,7 @@ ghost use Rattle.std.specs.Prelude.{◌≡◌, None, Some, option_map};
 ghost use Rattle.psci_fw.specs.Reactions.{sent_from};
 ghost use Rattle.psci_fw.specs.Seen.{seen};
 ghost use Rattle.psci_shared.specs.Books.{entry};
-ghost use Rattle.psci_shared.specs.Passes.{item};
+ghost use Rattle.psci_shared.specs.Views.{item};
 
 use psci_fw::{Act, Firmware, FwCall, FwReply, Outcome, Regs, Taken};
 use psci_messages::Message;
@@ -18,29 +18,35 @@ const NOTHING: Regs = Regs {
     x3: 0,
 };
 
-/// A call of the firmware, as its book keeps it.
+/// A call, as the book keeps it.
 #[derive(Debug, PartialEq, Drop)]
-pub struct FwEntry {
+pub struct Entry<W, C, R> {
     /// Drawn while the lock was held.
     pub ticket: u64,
-    /// The pass's core. Of an acknowledgement it is never read.
-    pub core: Core,
+    /// The pass's core, or `()` where passes have none. Of an acknowledgement it is never read.
+    pub core: W,
     /// What was asked.
-    pub call: FwCall,
+    pub call: C,
     /// What was answered.
-    pub reply: FwReply,
+    pub reply: R,
 }
 
-/// A call of the firmware, as the pass keeps it that made it.
+/// A call, as the pass keeps it that made it.
 #[derive(Debug, PartialEq, Drop)]
-pub struct FwItem {
+pub struct Item<C, R> {
     /// The place of its entry in the book, from 0.
     pub place: u32,
     /// What was asked.
-    pub call: FwCall,
+    pub call: C,
     /// What was answered.
-    pub reply: FwReply,
+    pub reply: R,
 }
+
+/// A call of the firmware, as its book keeps it.
+pub type FwEntry = Entry<Core, FwCall, FwReply>;
+
+/// A call of the firmware, as the pass keeps it that made it.
+pub type FwItem = Item<FwCall, FwReply>;
 
 impl FwEntry {
     /// An entry of no call.
@@ -67,12 +73,14 @@ impl FwItem {
     pub(crate) fn blank() -> FwItem {
         FwItem::of(0, FwCall::Smc(NOTHING), FwReply::Taken(Taken::Used))
     }
+}
 
+impl<C: Drop, R: Drop> Item<C, R> {
     /// An item.
-    pub(crate) fn of(place: u32, call: FwCall, reply: FwReply) -> FwItem
+    pub fn of(place: u32, call: C, reply: R) -> Item<C, R>
         ensures { result ≡ item place call reply }
     {
-        FwItem { place, call, reply }
+        Item { place, call, reply }
     }
 }
 

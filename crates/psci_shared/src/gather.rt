@@ -1,69 +1,30 @@
 //! Passes are gathered with the book.
 
-ghost use Rattle.std.specs.Prelude.{◌≡◌, ◌≤◌, ◌<◌, ◌+◌, length, map, IfErr, IfOk};
-ghost use Rattle.std.specs.Prelude.{MatchResult};
+ghost use Rattle.std.specs.Prelude.{◌≡◌, length, map, IfErr, IfOk, MatchResult};
+ghost use Rattle.std.specs.Prelude.{IfSome, IfNone};
 ghost use Rattle.psci_status.specs.Seats.{table, table_of_writer, written};
 ghost use Rattle.psci_status.specs.Lists.{newest};
 ghost use Rattle.psci_shared.specs.Agree.{Agree};
 ghost use Rattle.psci_shared.specs.Gathers.{AllSeen, AllStand, AreMet, IsCause, items_of, met};
 ghost use Rattle.psci_shared.specs.Places.{AllPlaced};
 
-use crate::agreement::agree;
 use crate::book::FwBook;
 use crate::fault::GatherCause;
+use crate::gathered::{BooksOf, GatherFaultOf};
 use crate::locked::FwLocked;
 use crate::named::Named;
-use crate::pass::Pass;
+use crate::seen::Pass;
 use crate::shared::SharedFirmware;
 use psci_status::{StatusWords, Writer};
-use std::sync::ledger::{Book, Share};
 
 /// All that a firmware was asked, and by whom: each place of the book stands in one pass.
-#[derive(Drop)]
-pub struct Books<N: Named> {
-    /// The firmware with its book.
-    pub book: FwBook<N>,
-    /// The passes.
-    pub passes: Vec<Pass<N>>,
-}
+pub type Books<N> = BooksOf<FwBook<N>, Pass<N>>;
 
 /// Why passes were not gathered, with all that was handed in.
-#[derive(Drop)]
-pub struct GatherFault<N: Named> {
-    /// Why.
-    pub cause: GatherCause,
-    /// What the lock guarded; it says how many passes were made.
-    pub locked: FwLocked<N>,
-    /// The status words.
-    pub words: StatusWords,
-    /// The passes.
-    pub passes: Vec<Pass<N>>,
-}
-
-impl<N: Named> GatherFault<N> {
-    /// The passes were not gathered for this cause.
-    fn of(
-        cause: GatherCause,
-        locked: FwLocked<N>,
-        words: StatusWords,
-        passes: Vec<Pass<N>>,
-    ) -> GatherFault<N>
-        ensures cause { result.cause ≡ cause }
-        ensures locked { result.locked ≡ locked }
-        ensures passes { result.passes ≡ passes }
-    {
-        GatherFault {
-            cause,
-            locked,
-            words,
-            passes,
-        }
-    }
-}
+pub type GatherFault<N> = GatherFaultOf<FwLocked<N>, StatusWords, Pass<N>>;
 
 impl<'t, N: Named> SharedFirmware<'t, N> {
     /// Gathers the passes with the book, in which each place then stands in one of them.
-    #[tactic(auto, using(crate::proofs::Placed::all_placed))]
     pub fn gather(self, passes: Vec<Pass<N>>) -> Result<Books<N>, GatherFault<N>>
         ensures fault { IfErr result (λ f. IsCause f.cause (Agree f.locked.book f.passes.items)
             (length f.passes.items) f.locked.made) }
@@ -81,12 +42,8 @@ impl<'t, N: Named> SharedFirmware<'t, N> {
         let (mut locked, words) = self.into_parts();
         let mut passes = passes;
         locked.meet(&words, &mut passes);
-        if !agree(&locked.book, &passes) {
-            return Err(GatherFault::of(GatherCause::Astray, locked, words, passes));
-        }
-        let made = locked.count(&mut passes);
-        if (passes.len() as u64) < u64::from(made) {
-            return Err(GatherFault::of(GatherCause::Missing, locked, words, passes));
+        if let Some(cause) = locked.cause(&mut passes) {
+            return Err(GatherFault::of(cause, locked, words, passes));
         }
         let book = locked.into_book();
         Ok(Books { book, passes })
@@ -94,27 +51,24 @@ impl<'t, N: Named> SharedFirmware<'t, N> {
 }
 
 impl<N: Named> FwLocked<N> {
-    /// How many passes were made. With as many as that, the book has as many entries as the passes
-    /// have items.
-    pub(crate) fn count(&mut self, passes: &mut Vec<Pass<N>>) -> u32
-        ensures made { result ≡ self.old.made }
+    /// Why the passes are not gathered, if they are not.
+    fn cause(&mut self, passes: &mut Vec<Pass<N>>) -> Option<GatherCause>
         ensures same { (self.new.book ≡ self.old.book) × (self.new.made ≡ self.old.made) }
         ensures passes { passes.new.items ≡ passes.old.items }
-        ensures few { length passes.old.items ≤ self.old.made }
-        ensures all { length passes.old.items ≡ self.old.made
-            → length self.old.book.entries ≡ items_of passes.old.items }
+        ensures cause { IfSome result (λ c. IsCause c (Agree self.old.book passes.old.items)
+            (length passes.old.items) self.old.made) }
+        ensures agree { IfNone result (Agree self.old.book passes.old.items
+            × (length self.old.book.entries ≡ items_of passes.old.items)) }
+        ensures placed { IfNone result (AllPlaced self.old.book passes.old.items) }
     {
         let FwLocked {
             book,
             made,
             writer: _,
             count: _,
-            total,
-            rest,
+            tally,
         } = self;
-        book.whole();
-        count_all(total, passes.as_mut_slice(), rest);
-        *made
+        tally.cause(book, *made, passes)
     }
 
     /// The book alone.
@@ -126,8 +80,7 @@ impl<N: Named> FwLocked<N> {
             made: _,
             writer: _,
             count: _,
-            total: _,
-            rest: _,
+            tally: _,
         } = self;
         book
     }
@@ -155,28 +108,6 @@ fn meet_all<N: Named>(words: &StatusWords, writer: &mut Writer, passes: &mut [Pa
     let Some((first, rest)) = passes.split_first_mut() else {
         return;
     };
-    words.meet(writer, &mut first.reader);
+    words.meet(writer, &mut first.seen.reader);
     meet_all(words, writer, rest);
-}
-
-/// Lends the shares of all passes to one that has a part, and compares the sum with the total.
-fn count_all<N: Named>(total: &mut Book<N>, passes: &mut [Pass<N>], seen: &mut Share<N>)
-    requires { 0 < seen.old.parts }
-    ensures ledger { (total.new.total ≡ total.old.total) × (seen.new.parts ≡ seen.old.parts)
-        × (seen.new.amount ≡ seen.old.amount) }
-    ensures passes { passes.new ≡ passes.old }
-    ensures few { seen.old.parts + length passes.old ≤ N.parts }
-    ensures all { seen.old.parts + length passes.old ≡ N.parts
-        → seen.old.amount + items_of passes.old ≡ total.old.total }
-{
-    let Some((first, rest)) = passes.split_first_mut() else {
-        let none = seen.empty();
-        seen.merge(none);
-        total.audit(seen);
-        return;
-    };
-    let count = first.items.len() as u64;
-    first.share.give(seen, 1, count);
-    count_all(total, rest, seen);
-    seen.give(&mut first.share, 1, count);
 }

@@ -14,7 +14,7 @@ ghost use Rattle.psci_fw.specs.psci_fw_spec.Exchange.{effect};
 ghost use Rattle.psci_fw.specs.psci_fw_spec.History.{life, status};
 ghost use Rattle.psci_messages.specs.declared.start.Start.{Start};
 ghost use Rattle.psci_status.specs.Lists.{Item, Stands, row};
-ghost use Rattle.psci_shared.specs.declared.entry.FwEntry.{FwEntry};
+ghost use Rattle.psci_shared.specs.Entries.{FwEntry};
 ghost use Rattle.psci_shared.specs.Books.{exchange_of, history_of};
 ghost use Rattle.psci_shared.specs.Passes.{IsAffinity, PassView};
 ghost use Rattle.psci_shared.specs.Polls.{Goes, IsAmong, IsOneOf};

@@ -7,39 +7,50 @@
 //!   from one row.
 //! - Passes are *gathered* with the book once all calls are done, and each place then stands in one
 //!   pass.
+//!
+//! Entries, items, passes, their ledger and how they are gathered are of any machine, whose book is
+//! [`Booked`]; the firmware has them by names of its own.
 #![tactic(auto)]
 
 mod agreement;
 mod asking;
 mod book;
+mod booked;
 mod done;
 mod entry;
 mod fault;
 mod gather;
+mod gathered;
 mod laws;
 mod locked;
 mod named;
 mod pass;
 mod same;
+mod seen;
 mod shared;
 mod sighting;
+mod tally;
 mod tickets;
 mod touching;
 mod writing;
 
 pub use agreement::agree;
 pub use book::FwBook;
-pub use entry::{BookFull, FwEntry, FwItem};
+pub use booked::Booked;
+pub use entry::{BookFull, Entry, FwEntry, FwItem, Item};
 pub use fault::{CallFault, GatherCause, PassFault};
 pub use gather::{Books, GatherFault};
+pub use gathered::{BooksOf, GatherFaultOf};
 pub use laws::{law_own_calls, law_polls};
 pub use locked::FwLocked;
 pub use named::Named;
-pub use pass::Pass;
+pub use pass::PassOf;
 pub use psci_fw::{Code, FwCall, FwFault, FwReply, Outcome, Regs, Start, Status, Taken};
 pub use psci_messages::Ack;
 pub use psci_status::{Board, Core, Memory, Reader, StatusWords, Writer};
 pub use same::is_same_message;
+pub use seen::{Pass, Seen};
 pub use shared::SharedFirmware;
 pub use sighting::Sighting;
+pub use tally::{MOST_PASSES, Tally};
 pub use tickets::Tickets;

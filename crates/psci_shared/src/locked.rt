@@ -1,30 +1,26 @@
 //! What the lock guards.
 
-ghost use Rattle.std.specs.Prelude.{◌≡◌, ◌≤◌, ◌<◌, ◌+◌, ◌^◌, [], ◌∷◌, length, replicate};
+ghost use Rattle.std.specs.Prelude.{◌≡◌, ◌≤◌, ◌+◌, [], ◌∷◌, length, replicate};
 ghost use Rattle.std.specs.Prelude.{IfOk, IfSome, OnErr, OnSome};
 ghost use Rattle.psci_fw.specs.psci_board.Board.{cores};
 ghost use Rattle.psci_fw.specs.psci_fw_spec.declared.status.Status.TheVariants.{Off};
 ghost use Rattle.psci_status.specs.Seats.{table, table_of_writer, written};
-ghost use Rattle.psci_fw.specs.psci_fw_spec.Legal.{IsLegal};
-ghost use Rattle.psci_shared.specs.Books.{history_of};
 ghost use Rattle.psci_shared.specs.Locked.{IsEntered, IsReply, IsTurnedAway};
-ghost use Rattle.psci_shared.specs.Passes.{IsFirst, told};
+ghost use Rattle.psci_shared.specs.Passes.{IsFirst};
 ghost use Rattle.psci_shared.specs.Writing.{IsWritten};
 
 use crate::book::FwBook;
 use crate::entry::BookFull;
 use crate::named::Named;
-use crate::pass::Pass;
+use crate::seen::{Pass, Seen};
+use crate::tally::{MOST_PASSES, Tally};
 use crate::writing::write_all;
 use psci_fw::{FwCall, FwReply};
 use psci_status::{Core, StatusWords, Writer};
 use std::alloc::Global;
-use std::sync::ledger::{Blank, Book, Share};
+use std::sync::ledger::Blank;
 
-/// How many passes are made of one firmware.
-pub(crate) const MOST_PASSES: u32 = 1000;
-
-/// The firmware with its book, the writer of its status words, and the ledger's total, which is the
+/// The firmware with its book, the writer of its status words, and the ledger, whose total is the
 /// number of its entries.
 #[derive(Drop)]
 pub struct FwLocked<N: Named> {
@@ -34,13 +30,10 @@ pub struct FwLocked<N: Named> {
     pub made: u32,
     pub(crate) writer: Writer,
     pub(crate) count: u16,
-    pub(crate) total: Book<N>,
-    /// The parts of the ledger that no pass has.
-    pub(crate) rest: Share<N>,
-    ghost counted: { length book.entries ≡ total.total },
-    ghost nothing_left: { rest.amount ≡ 0 },
+    pub(crate) tally: Tally<N>,
+    ghost counted: { length book.entries ≡ tally.total },
     ghost few: { made ≤ 1000 },
-    ghost parts: { rest.parts + made ≡ 1001 },
+    ghost parts: { tally.parts + made ≡ 1001 },
     ghost table: { table_of_writer writer ≡ N.table },
     ghost words: { N.table.words ≡ cores N.board },
     ghost room: { book.room ≡ N.room },
@@ -92,42 +85,16 @@ impl<N: Named> FwLocked<N> {
             made: _,
             writer,
             count,
-            total,
-            rest: _,
+            tally,
         } = self;
-        let place = next_place(total, book, pass)?;
+        let place = tally.next_place(book.len(), book.room(), pass)?;
         let before = book.life();
         let done = book.carry_out::<A>(&mut pass.items, place, ticket, pass.core, call);
-        total.add(&mut pass.share, 1);
+        tally.add(&mut pass.share);
         write_all::<N, A>(words, writer, book, before, done.named, *count);
-        words.meet(writer, &mut pass.reader);
+        words.meet(writer, &mut pass.seen.reader);
         Ok(book.reply_of(done.said))
     }
-}
-
-/// Where the next entry goes, unless the book is full: then the pass is told. No pass's list has
-/// more items than the book has entries, so it is not full before the book.
-#[inline(always)]
-fn next_place<N: Named>(
-    total: &mut Book<N>,
-    book: &FwBook<N>,
-    pass: &mut Pass<N>,
-) -> Result<u32, BookFull>
-    requires { length book.now.entries ≡ total.old.total }
-    ensures total { total.new.total ≡ total.old.total }
-    ensures legal { IsLegal N.board (history_of book.now.entries) }
-    ensures ok { IfOk result (λ place. (place ≡ length book.now.entries) × (place < 2 ^ 32)
-        × (place < book.now.room) × (length pass.old.items ≤ place) × (pass.new ≡ pass.old)) }
-    ensures full { OnErr result ((length book.now.entries ≡ book.now.room)
-        × (pass.new ≡ told pass.old)) }
-{
-    total.audit(&mut pass.share);
-    let place = book.len();
-    if place == book.room() {
-        pass.told_full = true;
-        return Err(BookFull);
-    }
-    Ok(place)
 }
 
 /// What the lock of a new firmware guards.
@@ -145,14 +112,12 @@ pub(crate) fn locked_of<N: Named>(
     requires writer { (table_of_writer writer ≡ N.table)
         × (written writer ≡ replicate (cores N.board) (Off ∷ [])) }
 {
-    let (total, rest) = blank.open::<N>();
     FwLocked {
         book,
         made: 0,
         writer,
         count,
-        total,
-        rest,
+        tally: Tally::open(blank),
     }
 }
 
@@ -174,8 +139,14 @@ pub(crate) fn new_pass<N: Named>(
         return None;
     }
     let items = Vec::with_capacity(alloc, room as usize).ok()?;
-    locked.made += 1;
-    let share = locked.rest.split_off(1, 0);
-    let reader = words.reader(&mut locked.writer);
-    Some(Pass::of(core, room, items, share, reader))
+    let FwLocked {
+        book: _,
+        made,
+        writer,
+        count: _,
+        tally,
+    } = locked;
+    let seen = Seen::of(words, writer);
+    *made += 1;
+    Some(tally.pass(core, room, items, seen))
 }

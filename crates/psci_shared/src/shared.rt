@@ -8,21 +8,23 @@ ghost use Rattle.psci_fw.specs.psci_fw_spec.declared.call.FwCall.TheVariants as 
 ghost use Rattle.psci_fw.specs.psci_fw_spec.declared.reply.FwReply.TheVariants as replies;
 ghost use Rattle.psci_fw.specs.psci_fw_spec.declared.status.Status.TheVariants.{Off};
 ghost use Rattle.psci_status.specs.Seats.{table, table_of_writer, written};
-ghost use Rattle.psci_shared.specs.declared.entry.FwEntry.{FwEntry};
+ghost use Rattle.psci_shared.specs.Entries.{FwEntry};
 ghost use Rattle.psci_shared.specs.Answered.{IsAnswered, IsAnsweredFault, IsFull};
 ghost use Rattle.psci_fw.specs.psci_fw_spec.Legal.{IsLegal};
 ghost use Rattle.psci_shared.specs.Books.{history_of};
 ghost use Rattle.psci_shared.specs.Passes.{Fits, IsAffinity, IsCalled, IsFirst, IsNoPass};
-ghost use Rattle.psci_shared.specs.Passes.{IsRefused, told};
+ghost use Rattle.psci_shared.specs.Passes.{IsRefused};
+ghost use Rattle.psci_shared.specs.Views.{told};
 ghost use Rattle.psci_shared.specs.Polls.{IsPolled};
 
 use crate::book::FwBook;
 use crate::entry::{BookFull, FwEntry};
 use crate::fault::{CallFault, PassFault};
-use crate::locked::{FwLocked, MOST_PASSES, locked_of, new_pass};
+use crate::locked::{FwLocked, locked_of, new_pass};
 use crate::named::Named;
-use crate::pass::Pass;
+use crate::seen::Pass;
 use crate::sighting::Sighting;
+use crate::tally::MOST_PASSES;
 use crate::tickets::Tickets;
 use psci_fw::{Code, FwCall, FwReply, Outcome, Regs, Start, Taken};
 use psci_messages::Ack;

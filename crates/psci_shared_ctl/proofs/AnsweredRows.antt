@@ -17,12 +17,12 @@ use Rattle.psci_ctl.specs.psci_ctl_spec.declared.reply.CtlReply.TheVariants.{Del
 use Rattle.psci_ctl.specs.psci_ctl_spec.psci_messages.declared.kind.Kind.TheVariants as kinds
 use Rattle.psci_ctl.specs.psci_ctl_spec.psci_messages.declared.start.Cause.TheVariants as causes
 use Rattle.psci_shared.specs.declared.fault.PassFault.TheVariants.{NoCore, TooMany, Memory}
-use Rattle.psci_shared_ctl.specs.declared.entry.CtlEntry.{CtlEntry}
-use Rattle.psci_shared_ctl.specs.declared.entry.CtlItem.{CtlItem}
+use Rattle.psci_shared_ctl.specs.Entries.{CtlEntry, CtlItem}
 use Rattle.psci_shared_ctl.specs.Answered.{IsAnswered, IsAnsweredAfter, IsFull}
 use Rattle.psci_shared_ctl.specs.Books.{BookView, entry, history_of}
 use Rattle.psci_shared_ctl.specs.Locked.{IsTurnedAway}
-use Rattle.psci_shared_ctl.specs.Passes.{IsNoPass, PassView, first, item}
+use Rattle.psci_shared.specs.Views.{first, item}
+use Rattle.psci_shared_ctl.specs.Passes.{IsNoPass, PassView}
 
 -- what an example unfolds to compute a reply
 unfoldable computing : Unit {0}
@@ -78,7 +78,7 @@ abbrev entries : List CtlEntry
 entries = resets 1 ∷ resets 2 ∷ []
 
 abbrev pass : List CtlItem → PassView
-pass items = record { room = 4; told_full = false; items = items }
+pass items = record { core = tt; room = 4; told_full = false; items = items; seen = tt }
 
 -- A call -----------------------------------------------------------------------------------------
 
@@ -198,13 +198,16 @@ full_without_room = ([], tt, refl)
 abbrev full_book : BookView
 full_book = record { entries = entries; room = 2 }
 
-turned_away : IsTurnedAway board 2 full_book full_book (first 2)
-    (record (first 2) { told_full = true })
+abbrev new_pass : ℕ → PassView
+new_pass room = first tt room tt
+
+turned_away : IsTurnedAway board 2 full_book full_book (new_pass 2)
+    (record (new_pass 2) { told_full = true })
 unfolding computing
 turned_away = (refl, refl, refl, (refl, omega arith, (refl, omega arith, tt)))
 
-turned_away_early : IsTurnedAway board 3 full_book full_book (first 2)
-    (record (first 2) { told_full = true }) → ⊥
+turned_away_early : IsTurnedAway board 3 full_book full_book (new_pass 2)
+    (record (new_pass 2) { told_full = true }) → ⊥
 turned_away_early h = let e : ◌≡◌ {A = ℕ} 2 3 = h.2 in omega arith
 
 room_for_one_more : (h : IsFull board 3) → h.0 ≡ entries → ⊥
@@ -226,7 +229,8 @@ full_of_illegal_entries h is =
 
 -- Passes -----------------------------------------------------------------------------------------
 
-a_new_pass : first 4 ≡ record { room = 4; told_full = false; items = [] }
+a_new_pass : new_pass 4
+    ≡ record { core = tt; room = 4; told_full = false; items = []; seen = tt }
 a_new_pass = refl
 
 too_many : IsNoPass 1000 TooMany

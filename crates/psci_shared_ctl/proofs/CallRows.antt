@@ -13,10 +13,11 @@ use Rattle.psci_ctl.specs.psci_ctl_spec.declared.kick.Kick.TheVariants as kicks
 use Rattle.psci_ctl.specs.psci_ctl_spec.declared.reply.CtlReply.{CtlReply}
 use Rattle.psci_ctl.specs.psci_ctl_spec.declared.reply.CtlReply.TheVariants.{Delivery, Kick}
 use Rattle.psci_ctl.specs.psci_ctl_spec.psci_messages.declared.kind.Kind.TheVariants as kinds
-use Rattle.psci_shared_ctl.specs.declared.entry.CtlItem.{CtlItem}
+use Rattle.psci_shared_ctl.specs.Entries.{CtlItem}
 use Rattle.psci_shared_ctl.specs.Books.{entry, history_of}
 use Rattle.psci_shared_ctl.specs.Inside.{IsTied}
-use Rattle.psci_shared_ctl.specs.Passes.{Fits, IsCalled, PassView, item, told}
+use Rattle.psci_shared.specs.Views.{item, told}
+use Rattle.psci_shared_ctl.specs.Passes.{Fits, IsCalled, PassView}
 
 abbrev wake : ℕ → CtlCall
 wake halted = Wake (record { number = 3 }) halted
@@ -57,7 +58,7 @@ reset_is_no_delivery h = h
 -- A call that was entered -------------------------------------------------------------------------
 
 abbrev pass : Bool → List CtlItem → PassView
-pass told items = record { room = 4; told_full = told; items = items }
+pass told items = record { core = tt; room = 4; told_full = told; items = items; seen = tt }
 
 abbrev old : CtlItem
 old = item 3 (wake 1) kicked
@@ -132,7 +133,7 @@ board = record {
 }
 
 tied : (c : ControllerValue) → c.board ≡ board → seen c ≡ values_of board (history_of [])
-    → IsTied board 1001 c [] 4 3
+    → IsTied board c [] 4 3
 unfolding history_of
 tied c of_board values = record {
   board = of_board;
@@ -140,30 +141,26 @@ tied c of_board values = record {
   legal = tt;
   within = omega arith;
   reserved = omega arith;
-  whole = refl;
   small = omega arith;
 }
 
-parts_are_missing : (c : ControllerValue) → IsTied board 1000 c [] 4 3 → ⊥
-parts_are_missing c h = let e : ◌≡◌ {A = ℕ} 1000 1001 = h.whole in omega arith
-
-more_room_than_reserved : (c : ControllerValue) → IsTied board 1001 c [] 3 4 → ⊥
+more_room_than_reserved : (c : ControllerValue) → IsTied board c [] 3 4 → ⊥
 more_room_than_reserved c h = let e : 4 ≤ 3 = h.reserved in omega arith
 
 more_entries_than_room : (c : ControllerValue)
-    → IsTied board 1001 c (entry 0 reset kicked ∷ entry 1 reset kicked ∷ []) 4 1 → ⊥
+    → IsTied board c (entry 0 reset kicked ∷ entry 1 reset kicked ∷ []) 4 1 → ⊥
 more_entries_than_room c h = let e : 2 ≤ 1 = h.within in omega arith
 
 room_is_too_large : (c : ControllerValue)
-    → IsTied board 1001 c [] 0x100000000 0x100000000 → ⊥
+    → IsTied board c [] 0x100000000 0x100000000 → ⊥
 room_is_too_large c h = let e : 0x100000000 < 0x100000000 = h.small in omega arith
 
 -- a wake-up was answered with a delivery
-illegal : (c : ControllerValue) → IsTied board 1001 c (entry 0 (wake 1) delivered ∷ []) 4 3 → ⊥
+illegal : (c : ControllerValue) → IsTied board c (entry 0 (wake 1) delivered ∷ []) 4 3 → ⊥
 unfolding history_of values_of reply wake_of
 illegal c h = let e : ◌≡◌ {A = ℕ} 0 1 = ap is_kick h.legal.0 in omega arith
 
-other_board : (c : ControllerValue) → c.board.starts ≡ 8 → IsTied board 1001 c [] 4 3 → ⊥
+other_board : (c : ControllerValue) → c.board.starts ≡ 8 → IsTied board c [] 4 3 → ⊥
 other_board c eight h =
     let e : c.board.starts ≡ 9 = ap (λ (b : BoardValue). b.starts) h.board in
     omega (arith, eight, e)

@@ -1,7 +1,7 @@
 -- Histories of books.
 use Rattle.std.proofs.Common.{◌≡◌, List, [], ◌∷◌, ◌++◌, map, refl, ap}
 use Rattle.std.proofs.lemmas.List.{reverse-append}
-use Rattle.psci_shared_ctl.specs.declared.entry.CtlEntry.{CtlEntry}
+use Rattle.psci_shared_ctl.specs.Entries.{CtlEntry}
 use Rattle.psci_shared_ctl.specs.Books.{exchange_of, history_of}
 
 -- one entry more is the last call of the history

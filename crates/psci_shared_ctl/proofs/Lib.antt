@@ -3,5 +3,4 @@ mod AnsweredRows
 mod BookRows
 pub mod CallRows
 pub mod Histories
-pub mod Placed
 mod TiedRows

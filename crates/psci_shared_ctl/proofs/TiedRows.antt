@@ -12,7 +12,7 @@ use Rattle.psci_ctl.specs.psci_ctl_spec.declared.kick.Kick.TheVariants as kicks
 use Rattle.psci_ctl.specs.psci_ctl_spec.declared.reply.CtlReply.{CtlReply}
 use Rattle.psci_ctl.specs.psci_ctl_spec.declared.reply.CtlReply.TheVariants.{Delivery, Kick}
 use Rattle.psci_ctl.specs.psci_ctl_spec.psci_messages.declared.start.Cause.TheVariants as causes
-use Rattle.psci_shared_ctl.specs.declared.entry.CtlEntry.{CtlEntry}
+use Rattle.psci_shared_ctl.specs.Entries.{CtlEntry}
 use Rattle.psci_shared_ctl.specs.Books.{entry, history_of}
 use Rattle.psci_shared_ctl.specs.Inside.{IsTied}
 
@@ -43,7 +43,7 @@ entries = resets 1 1 ∷ resets 1 2 ∷ []
 
 -- a book of both
 both_tied : (c : ControllerValue) → c.board ≡ board
-    → seen c ≡ values_of board (history_of entries) → IsTied board 1001 c entries 2 2
+    → seen c ≡ values_of board (history_of entries) → IsTied board c entries 2 2
 unfolding computing
 both_tied c of_board values = record {
   board = of_board;
@@ -51,7 +51,6 @@ both_tied c of_board values = record {
   legal = (refl, omega arith, (refl, omega arith, tt));
   within = omega arith;
   reserved = omega arith;
-  whole = refl;
   small = omega arith;
 }
 
@@ -63,16 +62,16 @@ number_in (Delivery delivery) = 0
 
 -- the second reset is answered as the first; a core that the board does not have is reset
 answered_as_the_first : (c : ControllerValue)
-    → IsTied board 1001 c (resets 1 1 ∷ resets 1 1 ∷ []) 4 3 → ⊥
+    → IsTied board c (resets 1 1 ∷ resets 1 1 ∷ []) 4 3 → ⊥
 unfolding computing
 answered_as_the_first c h = let e : ◌≡◌ {A = ℕ} 1 2 = ap number_in h.legal.0 in omega arith
 
-no_core : (c : ControllerValue) → IsTied board 1001 c (resets 2 1 ∷ []) 4 3 → ⊥
+no_core : (c : ControllerValue) → IsTied board c (resets 2 1 ∷ []) 4 3 → ⊥
 unfolding computing
 no_core c h = let e : 2 < 2 = h.legal.1 in omega arith
 
 -- the power controller has another start than the entries say
-other_start : (c : ControllerValue) → (seen c).starts 1 ≡ 1 → IsTied board 1001 c entries 4 3 → ⊥
+other_start : (c : ControllerValue) → (seen c).starts 1 ≡ 1 → IsTied board c entries 4 3 → ⊥
 unfolding computing
 other_start c one h =
     let e : (seen c).starts 1 ≡ 2 = ap (λ (v : Values). v.starts 1) h.values in

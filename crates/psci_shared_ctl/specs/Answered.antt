@@ -4,9 +4,10 @@ use Rattle.psci_board.specs.Board.{BoardValue}
 use Rattle.psci_ctl.specs.psci_ctl_spec.declared.call.CtlCall.{CtlCall}
 use Rattle.psci_ctl.specs.psci_ctl_spec.declared.reply.CtlReply.{CtlReply}
 use Rattle.psci_ctl.specs.psci_ctl_spec.Legal.{IsLegal, legal_reply}
-use Rattle.psci_shared_ctl.specs.declared.entry.CtlEntry.{CtlEntry}
+use Rattle.psci_shared_ctl.specs.Entries.{CtlEntry}
 use Rattle.psci_shared_ctl.specs.Books.{history_of}
-use Rattle.psci_shared_ctl.specs.Passes.{PassView, item}
+use Rattle.psci_shared.specs.Views.{item}
+use Rattle.psci_shared_ctl.specs.Passes.{PassView}
 
 -- the reply is the one reply after these entries, which tell a legal history; and the item has
 -- their number as its place

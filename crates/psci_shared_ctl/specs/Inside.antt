@@ -4,17 +4,16 @@ use Rattle.psci_board.specs.Board.{BoardValue}
 use Rattle.psci_ctl.specs.psci_ctl_spec.History.{values_of}
 use Rattle.psci_ctl.specs.psci_ctl_spec.Legal.{IsLegal}
 use Rattle.psci_ctl.specs.Seen.{ControllerValue, seen}
-use Rattle.psci_shared_ctl.specs.declared.entry.CtlEntry.{CtlEntry}
+use Rattle.psci_shared_ctl.specs.Entries.{CtlEntry}
 use Rattle.psci_shared_ctl.specs.Books.{history_of}
 
 -- the power controller is the board's and has the values of the entries, every reply is the one
 -- reply after the entries before it, and there is room
-pub record IsTied (b : BoardValue) (parts : ℕ) (c : ControllerValue) (entries : List CtlEntry)
+pub record IsTied (b : BoardValue) (c : ControllerValue) (entries : List CtlEntry)
     (capacity room : ℕ) : Type 0 where
   pub board : c.board ≡ b
   pub values : seen c ≡ values_of b (history_of entries)
   pub legal : IsLegal b (history_of entries)
   pub within : length entries ≤ room
   pub reserved : room ≤ capacity
-  pub whole : parts ≡ 1001
   pub small : room < 2 ^ 32

@@ -1,8 +1,6 @@
-pub mod Agree
 pub mod Answered
 pub mod Books
-pub mod Gathers
+pub mod Entries
 pub mod Inside
-pub mod Passes
-pub mod Places
 pub mod Locked
+pub mod Passes

@@ -4,9 +4,10 @@ use Rattle.psci_board.specs.Board.{BoardValue}
 use Rattle.psci_ctl.specs.psci_ctl_spec.Legal.{IsLegal, legal_reply}
 use Rattle.psci_ctl.specs.psci_ctl_spec.declared.call.CtlCall.{CtlCall}
 use Rattle.psci_ctl.specs.psci_ctl_spec.declared.reply.CtlReply.{CtlReply}
-use Rattle.psci_shared_ctl.specs.declared.entry.CtlEntry.{CtlEntry}
-use Rattle.psci_shared_ctl.specs.Books.{BookView, entered, entry, history_of}
-use Rattle.psci_shared_ctl.specs.Passes.{Fits, PassView, called, item, told}
+use Rattle.psci_shared_ctl.specs.Entries.{CtlEntry}
+use Rattle.psci_shared.specs.Views.{called, entered, item, told}
+use Rattle.psci_shared_ctl.specs.Books.{BookView, entry, history_of}
+use Rattle.psci_shared_ctl.specs.Passes.{Fits, PassView}
 
 -- the reply is the one reply after these entries, and one to such a call
 abbrev pub IsReply : BoardValue → List CtlEntry → CtlCall → CtlReply → Type 0
@@ -17,7 +18,7 @@ abbrev pub IsEntered : BoardValue → ℕ → BookView → BookView → PassView
     → CtlReply → Type 0
 IsEntered b ticket book book' p p' call reply =
     (book' ≡ entered book (entry ticket call reply))
-    × (p' ≡ called p (item (length book.entries) call reply))
+    × (p' ≡ called p (item (length book.entries) call reply) tt)
     × IsLegal b (history_of book.entries)
 
 -- the book of a legal history is full: it stays as it is, and the pass is told

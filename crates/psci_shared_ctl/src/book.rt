@@ -1,8 +1,8 @@
 //! The power controller with all that it was asked and answered.
 
-use crate::entry::CtlEntry;
+use crate::entry::{CtlEntry, CtlItem, is_same_call, is_same_reply};
 use psci_ctl::{Controller, CtlCall, CtlReply, Start, law_values};
-use psci_shared::{Board, BookFull, Core, Memory, Named};
+use psci_shared::{Board, BookFull, Booked, Core, Memory, Named};
 use std::alloc::Global;
 use std::marker::{Model, PhantomData};
 
@@ -25,7 +25,31 @@ impl<N: Named> Model for CtlBook<N> {
     ghost view = { λ b. record { entries = b.entries.items; room = b.room } };
 
     ghost invariant = { λ b.
-        IsTied N.board N.parts b.controller b.entries.items (vec_capacity b.entries) b.room };
+        IsTied N.board b.controller b.entries.items (vec_capacity b.entries) b.room };
+}
+
+impl<N: Named> Booked for CtlBook<N> {
+    type Core = ();
+
+    type Call = CtlCall;
+
+    type Reply = CtlReply;
+
+    ghost book = { λ b. b };
+
+    fn listed(&self) -> &[CtlEntry] {
+        self.entries()
+    }
+
+    fn most(&self) -> u32 {
+        self.room
+    }
+
+    fn is_of(entry: &CtlEntry, _core: &(), item: &CtlItem) -> bool {
+        let same_call = is_same_call(&entry.call, &item.call);
+        let same_reply = is_same_reply(&entry.reply, &item.reply);
+        same_call && same_reply
+    }
 }
 
 ghost use Rattle.std.specs.Prelude.{◌≡◌, ◌<◌, ◌≤◌, ◌^◌, [], ◌∷◌, ◌++◌, length, IfOk, OnOk, OnErr};
@@ -35,7 +59,8 @@ ghost use Rattle.psci_ctl.specs.psci_ctl_spec.Changes.{after};
 ghost use Rattle.psci_ctl.specs.psci_ctl_spec.History.{values_of};
 ghost use Rattle.psci_ctl.specs.psci_ctl_spec.Legal.{IsCall, IsLegal};
 ghost use Rattle.psci_ctl.specs.psci_ctl_spec.Replies.{last_start, reply};
-ghost use Rattle.psci_shared_ctl.specs.Books.{entered, entry, history_of};
+ghost use Rattle.psci_shared.specs.Views.{entered};
+ghost use Rattle.psci_shared_ctl.specs.Books.{entry, history_of};
 ghost use Rattle.psci_shared_ctl.specs.Locked.{IsReply};
 ghost use Rattle.psci_shared_ctl.specs.Passes.{Fits};
 
@@ -45,7 +70,6 @@ impl<N: Named> CtlBook<N> {
     #[tactic(auto, using(crate::proofs::Histories::history_none))]
     pub fn new(alloc: Global, board: &Board, room: u32) -> Result<CtlBook<N>, Memory>
         requires board { board.now ≡ N.board }
-        requires parts { N.parts ≡ 1001 }
         ensures { IfOk result (λ b. b ≡ record { entries = []; room = room }) }
     {
         law_values();
@@ -77,6 +101,7 @@ impl<N: Named> CtlBook<N> {
         let reply = ask(&mut self.controller, &call);
         self.entries.push_reserved(CtlEntry {
             ticket,
+            core: (),
             call,
             reply: reply.copy(),
         });
@@ -116,13 +141,6 @@ impl<N: Named> CtlBook<N> {
         ensures legal { IsLegal N.board (history_of self.now.entries) }
     {
         self.controller.started(core)
-    }
-
-    /// The ledger has 1,001 parts: one for each pass, and one that is no pass's.
-    pub(crate) fn whole(&self)
-        ensures { N.parts ≡ 1001 }
-    {
-        let _room = self.room;
     }
 }
 

@@ -1,41 +1,18 @@
 //! What a book and a pass keep of a call.
 
 ghost use Rattle.std.specs.Prelude.{◌≡◌, ◌↔◌, IsTrue};
-ghost use Rattle.psci_shared_ctl.specs.Passes.{item};
 
 use psci_ctl::{CtlCall, CtlReply};
-use psci_shared::is_same_message;
+use psci_shared::{Entry, Item, PassOf, is_same_message};
 
-/// A call of the power controller, as its book keeps it.
-#[derive(Drop)]
-pub struct CtlEntry {
-    /// Drawn while the lock was held.
-    pub ticket: u64,
-    /// What was asked.
-    pub call: CtlCall,
-    /// What was answered.
-    pub reply: CtlReply,
-}
+/// A call of the power controller, as its book keeps it. No core calls through a pass.
+pub type CtlEntry = Entry<(), CtlCall, CtlReply>;
 
 /// A call of the power controller, as the pass keeps it that made it.
-#[derive(Drop)]
-pub struct CtlItem {
-    /// The place of its entry in the book, from 0.
-    pub place: u32,
-    /// What was asked.
-    pub call: CtlCall,
-    /// What was answered.
-    pub reply: CtlReply,
-}
+pub type CtlItem = Item<CtlCall, CtlReply>;
 
-impl CtlItem {
-    /// An item.
-    pub(crate) fn of(place: u32, call: CtlCall, reply: CtlReply) -> CtlItem
-        ensures { result ≡ item place call reply }
-    {
-        CtlItem { place, call, reply }
-    }
-}
+/// A pass. It keeps what the thread asked and was answered.
+pub type CtlPass<N> = PassOf<N, (), (), CtlCall, CtlReply>;
 
 /// Whether two calls are one.
 pub(crate) fn is_same_call(one: &CtlCall, other: &CtlCall) -> bool

@@ -1,73 +1,34 @@
 //! Passes are gathered with the book.
 
-ghost use Rattle.std.specs.Prelude.{◌≡◌, ◌≤◌, ◌<◌, ◌+◌, length};
-ghost use Rattle.psci_shared_ctl.specs.Gathers.{items_of};
+ghost use Rattle.std.specs.Prelude.{◌≡◌, length, IfSome, IfNone};
+ghost use Rattle.psci_shared.specs.Agree.{Agree};
+ghost use Rattle.psci_shared.specs.Gathers.{IsCause, items_of};
+ghost use Rattle.psci_shared.specs.Places.{AllPlaced};
 
 use crate::book::CtlBook;
+use crate::entry::CtlPass;
 use crate::locked::CtlLocked;
-use crate::pass::CtlPass;
-use psci_shared::{GatherCause, Named};
-use std::sync::ledger::{Book, Share};
+use psci_shared::{BooksOf, GatherCause, GatherFaultOf, Named};
 
 /// All that a power controller was asked: each place of the book stands in one pass.
-#[derive(Drop)]
-pub struct CtlBooks<N: Named> {
-    /// The power controller with its book.
-    pub book: CtlBook<N>,
-    /// The passes.
-    pub passes: Vec<CtlPass<N>>,
-}
+pub type CtlBooks<N> = BooksOf<CtlBook<N>, CtlPass<N>>;
 
 /// Why passes were not gathered, with all that was handed in.
-#[derive(Drop)]
-pub struct CtlGatherFault<N: Named> {
-    /// Why.
-    pub cause: GatherCause,
-    /// What the lock guarded; it says how many passes were made.
-    pub locked: CtlLocked<N>,
-    /// The passes.
-    pub passes: Vec<CtlPass<N>>,
-}
-
-impl<N: Named> CtlGatherFault<N> {
-    /// The passes were not gathered for this cause.
-    pub(crate) fn of(
-        cause: GatherCause,
-        locked: CtlLocked<N>,
-        passes: Vec<CtlPass<N>>,
-    ) -> CtlGatherFault<N>
-        ensures cause { result.cause ≡ cause }
-        ensures locked { result.locked ≡ locked }
-        ensures passes { result.passes ≡ passes }
-    {
-        CtlGatherFault {
-            cause,
-            locked,
-            passes,
-        }
-    }
-}
+pub type CtlGatherFault<N> = GatherFaultOf<CtlLocked<N>, (), CtlPass<N>>;
 
 impl<N: Named> CtlLocked<N> {
-    /// How many passes were made. With as many as that, the book has as many entries as the passes
-    /// have items.
-    pub(crate) fn count(&mut self, passes: &mut Vec<CtlPass<N>>) -> u32
-        ensures made { result ≡ self.old.made }
+    /// Why the passes are not gathered, if they are not.
+    pub(crate) fn cause(&mut self, passes: &mut Vec<CtlPass<N>>) -> Option<GatherCause>
         ensures same { (self.new.book ≡ self.old.book) × (self.new.made ≡ self.old.made) }
         ensures passes { passes.new.items ≡ passes.old.items }
-        ensures few { length passes.old.items ≤ self.old.made }
-        ensures all { length passes.old.items ≡ self.old.made
-            → length self.old.book.entries ≡ items_of passes.old.items }
+        ensures cause { IfSome result (λ c. IsCause c (Agree self.old.book passes.old.items)
+            (length passes.old.items) self.old.made) }
+        ensures agree { IfNone result (Agree self.old.book passes.old.items
+            × (length self.old.book.entries ≡ items_of passes.old.items)) }
+        ensures placed { IfNone result (AllPlaced self.old.book passes.old.items) }
     {
-        let CtlLocked {
-            book,
-            made,
-            total,
-            rest,
-        } = self;
-        book.whole();
-        count_all(total, passes.as_mut_slice(), rest);
-        *made
+        let CtlLocked { book, made, tally } = self;
+        tally.cause(book, *made, passes)
     }
 
     /// The book alone.
@@ -77,31 +38,8 @@ impl<N: Named> CtlLocked<N> {
         let CtlLocked {
             book,
             made: _,
-            total: _,
-            rest: _,
+            tally: _,
         } = self;
         book
     }
-}
-
-/// Lends the shares of all passes to one that has a part, and compares the sum with the total.
-fn count_all<N: Named>(total: &mut Book<N>, passes: &mut [CtlPass<N>], seen: &mut Share<N>)
-    requires { 0 < seen.old.parts }
-    ensures ledger { (total.new.total ≡ total.old.total) × (seen.new.parts ≡ seen.old.parts)
-        × (seen.new.amount ≡ seen.old.amount) }
-    ensures passes { passes.new ≡ passes.old }
-    ensures few { seen.old.parts + length passes.old ≤ N.parts }
-    ensures all { seen.old.parts + length passes.old ≡ N.parts
-        → seen.old.amount + items_of passes.old ≡ total.old.total }
-{
-    let Some((first, rest)) = passes.split_first_mut() else {
-        let none = seen.empty();
-        seen.merge(none);
-        total.audit(seen);
-        return;
-    };
-    let count = first.items.len() as u64;
-    first.share.give(seen, 1, count);
-    count_all(total, rest, seen);
-    seen.give(&mut first.share, 1, count);
 }

@@ -1,30 +1,28 @@
 //! What the lock guards.
 
-ghost use Rattle.std.specs.Prelude.{◌≡◌, ◌≤◌, ◌+◌, length, IfOk, OnErr};
+ghost use Rattle.std.specs.Prelude.{◌≡◌, ◌≤◌, ◌+◌, [], length, IfOk, OnErr, IfSome, OnSome};
 ghost use Rattle.psci_ctl.specs.psci_ctl_spec.Legal.{IsCall};
+ghost use Rattle.psci_shared.specs.Views.{first};
 ghost use Rattle.psci_shared_ctl.specs.Locked.{IsEntered, IsReply, IsTurnedAway};
 
 use crate::book::CtlBook;
-use crate::entry::CtlItem;
-use crate::pass::CtlPass;
+use crate::entry::{CtlItem, CtlPass};
 use psci_ctl::{CtlCall, CtlReply};
-use psci_shared::{BookFull, Named};
-use std::sync::ledger::{Book, Share};
+use psci_shared::{BookFull, MOST_PASSES, Named, Tally};
+use std::alloc::Global;
+use std::sync::ledger::Blank;
 
-/// The power controller with its book, and the ledger's total, which is the number of its entries.
+/// The power controller with its book, and the ledger, whose total is the number of its entries.
 #[derive(Drop)]
 pub struct CtlLocked<N: Named> {
     /// The power controller with its book.
     pub book: CtlBook<N>,
     /// How many passes were made.
     pub made: u32,
-    pub(crate) total: Book<N>,
-    /// The parts of the ledger that no pass has.
-    pub(crate) rest: Share<N>,
-    ghost counted: { length book.entries ≡ total.total },
-    ghost nothing_left: { rest.amount ≡ 0 },
+    pub(crate) tally: Tally<N>,
+    ghost counted: { length book.entries ≡ tally.total },
     ghost few: { made ≤ 1000 },
-    ghost parts: { rest.parts + made ≡ 1001 },
+    ghost parts: { tally.parts + made ≡ 1001 },
     ghost room: { book.room ≡ N.room },
 }
 
@@ -44,19 +42,53 @@ impl<N: Named> CtlLocked<N> {
             pass.old pass.new) }
         ensures made { self.new.made ≡ self.old.made }
     {
-        self.total.audit(&mut pass.share);
-        let place = self.book.len();
-        if pass.items.len() == pass.room as usize {
-            pass.told_full = true;
-            return Err(BookFull);
-        }
-        let Ok(reply) = self.book.step(ticket, call.copy()) else {
-            pass.told_full = true;
-            return Err(BookFull);
+        let CtlLocked {
+            book,
+            made: _,
+            tally,
+        } = self;
+        let place = tally.next_place(book.len(), book.room(), pass)?;
+        let Ok(reply) = book.step(ticket, call.copy()) else {
+            unreachable!();
         };
-        self.total.add(&mut pass.share, 1);
-        let item = CtlItem::of(place, call, reply.copy());
-        pass.items.push_reserved(item);
+        tally.enter(pass, CtlItem::of(place, call, reply.copy()));
         Ok(reply)
     }
+}
+
+/// What the lock of a new power controller guards.
+pub(crate) fn locked_of<N: Named>(book: CtlBook<N>, blank: Blank) -> CtlLocked<N>
+    requires book { (book.entries ≡ []) × (book.room ≡ N.room) }
+    requires name { blank.name ≡ N.name }
+    requires parts { (blank.parts ≡ N.parts) × (N.parts ≡ 1001) }
+{
+    CtlLocked {
+        book,
+        made: 0,
+        tally: Tally::open(blank),
+    }
+}
+
+/// One pass more, where there is memory for it and a part of the ledger. There always is such a
+/// part while fewer than 1,000 passes were made, which the count beside the lock says as well.
+pub(crate) fn new_pass<N: Named>(
+    alloc: Global,
+    locked: &mut CtlLocked<N>,
+    room: u32,
+) -> Option<CtlPass<N>>
+    requires { room ≡ N.room }
+    ensures pass { IfSome result (λ p. p ≡ first tt room tt) }
+    ensures made { OnSome result (locked.new.made ≡ locked.old.made + 1) }
+{
+    if locked.made == MOST_PASSES {
+        return None;
+    }
+    let items = Vec::with_capacity(alloc, room as usize).ok()?;
+    let CtlLocked {
+        book: _,
+        made,
+        tally,
+    } = locked;
+    *made += 1;
+    Some(tally.pass((), room, items, ()))
 }

@@ -1,35 +1,31 @@
 //! The power controller that threads share.
 
-ghost use Rattle.std.specs.Prelude.{◌≡◌, ◌≤◌, ◌+◌, ◌<◌, [], length, IfOk, IfErr, OnOk, OnErr};
-ghost use Rattle.std.specs.Prelude.{List, MatchResult, IfSome, OnSome};
+ghost use Rattle.std.specs.Prelude.{◌≡◌, ◌≤◌, ◌+◌, ◌<◌, length, IfOk, IfErr, OnOk, OnErr};
+ghost use Rattle.std.specs.Prelude.{List, MatchResult};
 ghost use Rattle.psci_board.specs.Board.{cores};
 ghost use Rattle.psci_ctl.specs.psci_ctl_spec.declared.call.CtlCall.TheVariants as calls;
 ghost use Rattle.psci_ctl.specs.psci_ctl_spec.declared.reply.CtlReply.TheVariants as replies;
 ghost use Rattle.psci_ctl.specs.psci_ctl_spec.History.{values_of};
 ghost use Rattle.psci_ctl.specs.psci_ctl_spec.Legal.{IsCall, IsLegal, IsSendable};
 ghost use Rattle.psci_ctl.specs.psci_ctl_spec.Replies.{last_start};
-ghost use Rattle.psci_shared_ctl.specs.declared.entry.CtlEntry.{CtlEntry};
-ghost use Rattle.psci_shared_ctl.specs.Agree.{Agree};
-ghost use Rattle.psci_shared.specs.Gathers.{IsCause};
-ghost use Rattle.psci_shared_ctl.specs.Gathers.{items_of};
+ghost use Rattle.psci_shared_ctl.specs.Entries.{CtlEntry};
+ghost use Rattle.psci_shared.specs.Agree.{Agree};
+ghost use Rattle.psci_shared.specs.Gathers.{IsCause, items_of};
+ghost use Rattle.psci_shared.specs.Places.{AllPlaced};
+ghost use Rattle.psci_shared.specs.Views.{first, told};
 ghost use Rattle.psci_shared_ctl.specs.Answered.{IsAnswered, IsFull};
 ghost use Rattle.psci_shared_ctl.specs.Books.{history_of};
-ghost use Rattle.psci_shared_ctl.specs.Passes.{Fits, IsCalled, IsNoPass, first, told};
-ghost use Rattle.psci_shared_ctl.specs.Places.{AllPlaced};
+ghost use Rattle.psci_shared_ctl.specs.Passes.{Fits, IsCalled, IsNoPass};
 
-use crate::agreement::agree;
 use crate::book::CtlBook;
+use crate::entry::CtlPass;
 use crate::gather::{CtlBooks, CtlGatherFault};
-use crate::locked::CtlLocked;
-use crate::pass::CtlPass;
+use crate::locked::{CtlLocked, locked_of, new_pass};
 use psci_ctl::{CtlCall, CtlReply, Delivery, Kick, Message, Start};
-use psci_shared::{Board, BookFull, Core, GatherCause, Memory, Named, PassFault, Tickets};
+use psci_shared::{Board, BookFull, Core, MOST_PASSES, Memory, Named, PassFault, Tickets};
 use std::alloc::Global;
 use std::sync::ledger::Blank;
 use std::sync::{Mutex, Wait};
-
-/// How many passes are made of one power controller.
-const MOST_PASSES: u32 = 1000;
 
 /// A power controller that threads share: it is called by passes, under a lock.
 #[derive(Drop)]
@@ -86,7 +82,7 @@ impl<'t, N: Named> SharedController<'t, N> {
 
     /// A pass, before the power controller is shared. It takes the memory of all its calls here.
     pub fn pass(&mut self) -> Result<CtlPass<N>, PassFault>
-        ensures ok { IfOk result (λ p. p ≡ first N.room) }
+        ensures ok { IfOk result (λ p. p ≡ first tt N.room tt) }
         ensures made { OnOk result (self.new.made ≡ self.old.made + 1) }
         ensures err { IfErr result (λ fault. IsNoPass self.old.made fault) }
         ensures same { OnErr result (self.new.made ≡ self.old.made) }
@@ -186,7 +182,6 @@ impl<'t, N: Named> SharedController<'t, N> {
     }
 
     /// Gathers the passes with the book, in which each place then stands in one of them.
-    #[tactic(auto, using(crate::proofs::Placed::all_placed))]
     pub fn gather(self, passes: Vec<CtlPass<N>>) -> Result<CtlBooks<N>, CtlGatherFault<N>>
         ensures fault { IfErr result (λ f. IsCause f.cause (Agree f.locked.book f.passes.items)
             (length f.passes.items) f.locked.made) }
@@ -198,12 +193,8 @@ impl<'t, N: Named> SharedController<'t, N> {
     {
         let mut passes = passes;
         let mut locked = self.into_locked();
-        if !agree(&locked.book, &passes) {
-            return Err(CtlGatherFault::of(GatherCause::Astray, locked, passes));
-        }
-        let made = locked.count(&mut passes);
-        if (passes.len() as u64) < u64::from(made) {
-            return Err(CtlGatherFault::of(GatherCause::Missing, locked, passes));
+        if let Some(cause) = locked.cause(&mut passes) {
+            return Err(CtlGatherFault::of(cause, locked, (), passes));
         }
         Ok(CtlBooks {
             book: locked.into_book(),
@@ -240,42 +231,4 @@ impl<'t, N: Named> SharedController<'t, N> {
         } = self;
         locked.into_inner()
     }
-}
-
-/// What the lock of a new power controller guards.
-fn locked_of<N: Named>(book: CtlBook<N>, blank: Blank) -> CtlLocked<N>
-    requires book { book.entries ≡ [] }
-    requires room { book.room ≡ N.room }
-    requires name { blank.name ≡ N.name }
-    requires parts { (blank.parts ≡ N.parts) × (N.parts ≡ 1001) }
-{
-    let (total, rest) = blank.open::<N>();
-    CtlLocked {
-        book,
-        made: 0,
-        total,
-        rest,
-    }
-}
-
-/// One pass more, where there is memory for it and a part of the ledger. There always is such a
-/// part while fewer than 1,000 passes were made, which the count beside the lock says as well.
-fn new_pass<N: Named>(alloc: Global, locked: &mut CtlLocked<N>, room: u32) -> Option<CtlPass<N>>
-    requires { room ≡ N.room }
-    ensures pass { IfSome result (λ p. p ≡ first room) }
-    ensures made { OnSome result (locked.new.made ≡ locked.old.made + 1) }
-{
-    if locked.made == MOST_PASSES {
-        return None;
-    }
-    let items = Vec::with_capacity(alloc, room as usize).ok()?;
-    let CtlLocked {
-        book: _,
-        made,
-        total: _,
-        rest,
-    } = locked;
-    let share = rest.split_off(1, 0);
-    *made += 1;
-    Some(CtlPass::of(room, items, share))
 }

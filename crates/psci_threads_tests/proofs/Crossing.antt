@@ -10,10 +10,8 @@ use Prim.Native.Nat.{ℕ}
 use mir.Syntax.{w32}
 use Rattle.std.specs.declared.sync.ledger.Ledger as Ledger
 use Rattle.psci_shared.specs.declared.named.Named as Named
-use Rattle.psci_shared.specs.contracts.pass.Pass as Pass
 use Rattle.psci_shared.specs.contracts.shared.SharedFirmware as Shared
-use Rattle.psci_shared.proofs.Crossing.{shared}
-use Rattle.psci_shared.proofs.pass.Pass.TheSendSync as pass
+use Rattle.psci_shared.proofs.Crossing.{pass, shared, the_pass}
 
 module _ (N : RattleType) (named : Named.Ghosts N.Denot) (ledger : Ledger.Ghosts N.Denot) where
   -- a closure's: the runtime, the firmware and a pass
@@ -21,15 +19,15 @@ module _ (N : RattleType) (named : Named.Ghosts N.Denot) (ledger : Ledger.Ghosts
       (name : List ℕ) (a b c : NamedLft) (R : RattleType) → IsSync R →
       IsSend (TupleAt name
       (ShrRef a.mir a.lft R ∷ ShrRef b.mir b.lft (Shared.the_row c N named ledger) ∷
-      Pass.the_row N named ledger ∷ []))
+      the_pass N named ledger ∷ []))
   captured name a b c R y =
       let rows : List RattleType =
       ShrRef a.mir a.lft R ∷ ShrRef b.mir b.lft (Shared.the_row c N named ledger) ∷
-      Pass.the_row N named ledger ∷ [] in
+      the_pass N named ledger ∷ [] in
       recorded_send (field_at name rows).row _ _ (type_at name rows).to_one
       (struct_send (shape (type_at name rows)) (
         shr_send _ _ _ y,
-        (shr_send _ _ _ (shared N named ledger c), (pass.the_send N named ledger, tt)),
+        (shr_send _ _ _ (shared N named ledger c), (pass N named ledger, tt)),
       ))
 
   -- a closure's: the runtime, the firmware, a pass and a number
@@ -37,16 +35,16 @@ module _ (N : RattleType) (named : Named.Ghosts N.Denot) (ledger : Ledger.Ghosts
       (name : List ℕ) (a b c : NamedLft) (R : RattleType) → IsSync R →
       IsSend (TupleAt name
       (ShrRef a.mir a.lft R ∷ ShrRef b.mir b.lft (Shared.the_row c N named ledger) ∷
-      Pass.the_row N named ledger ∷ UInt w32 ∷ []))
+      the_pass N named ledger ∷ UInt w32 ∷ []))
   captured_calls name a b c R y =
       let rows : List RattleType =
       ShrRef a.mir a.lft R ∷ ShrRef b.mir b.lft (Shared.the_row c N named ledger) ∷
-      Pass.the_row N named ledger ∷ UInt w32 ∷ [] in
+      the_pass N named ledger ∷ UInt w32 ∷ [] in
       recorded_send (field_at name rows).row _ _ (type_at name rows).to_one
       (struct_send (shape (type_at name rows)) (
         shr_send _ _ _ y,
         (
           shr_send _ _ _ (shared N named ledger c),
-          (pass.the_send N named ledger, (plain_send _ _ _ _ _, tt)),
+          (pass N named ledger, (plain_send _ _ _ _ _, tt)),
         ),
       ))

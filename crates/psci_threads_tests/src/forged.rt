@@ -22,6 +22,7 @@ pub(crate) fn is_ticket_twice<R: Threads + Wait + Sync>(
     };
     let again = CtlEntry {
         ticket: last.ticket,
+        core: (),
         call: last.call.copy(),
         reply: last.reply.copy(),
     };

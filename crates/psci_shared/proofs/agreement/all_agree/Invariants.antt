@@ -4,4 +4,6 @@ use Rattle.psci_shared.specs.Agree.{AllAgree}
 use Rattle.psci_shared.proofs.agreement.all_agree.Given as goal
 
 abbrev pub invariant-loop-pass : goal.invariant-loop-pass
-invariant-loop-pass g l = AllAgree l.book (drop l.pass-index l.passes) ↔ AllAgree l.book l.passes
+invariant-loop-pass g l =
+    AllAgree (g.B.Booked.book l.book) (drop l.pass-index l.passes)
+    ↔ AllAgree (g.B.Booked.book l.book) l.passes

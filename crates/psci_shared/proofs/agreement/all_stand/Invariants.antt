@@ -4,6 +4,6 @@ use Rattle.psci_shared.specs.Agree.{AllStandFrom}
 use Rattle.psci_shared.proofs.agreement.all_stand.Given as goal
 
 abbrev pub invariant-loop-item : goal.invariant-loop-item
-invariant-loop-item l =
+invariant-loop-item g l =
     AllStandFrom l.entries l.core l.from (drop l.item-index l.items)
     ↔ AllStandFrom l.entries l.core 0 l.items

@@ -33,5 +33,5 @@ returns-clause-entered g c = (
   (map newest (written c.write_all.new.writer), search rules),
   search rules,
   search rules,
-  c.next_place.ensures.legal,
+  c.len.ensures.legal,
 )

@@ -1,6 +1,6 @@
 use Rattle.std.proofs.Common.{refl, sym, subst, List}
 use Rattle.psci_fw.specs.psci_fw_spec.Legal.{IsLegal}
-use Rattle.psci_shared.specs.declared.entry.FwEntry.{FwEntry}
+use Rattle.psci_shared.specs.Entries.{FwEntry}
 use Rattle.psci_shared.specs.Books.{history_of}
 use Rattle.psci_shared.proofs.shared.SharedFirmware.look.Goals as goal
 

@@ -1,7 +1,0 @@
-use Rattle.std.proofs.Common.{drop}
-use Rattle.std.specs.Prelude.{◌↔◌}
-use Rattle.psci_shared_ctl.specs.Agree.{AllAgree}
-use Rattle.psci_shared_ctl.proofs.agreement.all_agree.Given as goal
-
-abbrev pub invariant-loop-pass : goal.invariant-loop-pass
-invariant-loop-pass g l = AllAgree l.book (drop l.pass-index l.passes) ↔ AllAgree l.book l.passes

@@ -1,9 +1,0 @@
-use Rattle.std.proofs.Common.{drop}
-use Rattle.std.specs.Prelude.{◌↔◌}
-use Rattle.psci_shared_ctl.specs.Agree.{AllStandFrom}
-use Rattle.psci_shared_ctl.proofs.agreement.all_stand.Given as goal
-
-abbrev pub invariant-loop-item : goal.invariant-loop-item
-invariant-loop-item l =
-    AllStandFrom l.entries l.from (drop l.item-index l.items)
-    ↔ AllStandFrom l.entries 0 l.items
