@@ -14,8 +14,8 @@ enum {
     SYSTEM_RESET2 = 0x84000012u,
 };
 
-/* the names of all functions from 0x84000000 on, whether ours or not, and which definition says what ours
- * answer, where that is not Calls.function_outcome */
+/* the names of functions from 0x84000000 on, whether ours or not, and which definition says what ours answer,
+ * where that is not Calls.function_outcome */
 static const struct {
     const char *name, *clause;
 } names[] = {
@@ -46,16 +46,19 @@ static bool is_named(uint64_t x0) {
     return plain_word(x0) - VERSION < sizeof names / sizeof *names;
 }
 
-const char *psci_beside_name(uint64_t x0) {
-    return is_named(x0) ? names[plain_word(x0) - VERSION].name : NULL;
-}
-
 /* which of our functions has this number; how many there are, where none has */
 static size_t our_place(uint64_t x0) {
     size_t at = 0;
     while (at < OUR_FUNCTIONS && our_functions[at].smc32 != plain_word(x0))
         at++;
     return at;
+}
+
+const char *psci_beside_name(uint64_t x0) {
+    size_t place = our_place(x0);
+    return place < OUR_FUNCTIONS ? our_functions[place].name
+           : is_named(x0)        ? names[plain_word(x0) - VERSION].name
+                                 : NULL;
 }
 
 static const char *clause_of(uint64_t x0) {
