@@ -4,6 +4,7 @@ mod Arrived
 mod Begun
 mod Beyond
 mod Changed
+mod Claimed
 mod Confirming
 mod CoreCounts
 mod CountRows
