@@ -1,4 +1,5 @@
-//! What holds of the definitions alone: each law is the contract of a function that does nothing.
+//! The laws of board texts: that each describes a board, and that a text is read as it is spelled.
+//! A law is the contract of a function that does nothing.
 
 ghost use Rattle.std.specs.Prelude.{◌≡◌, ℕ, List, Some, Ok};
 ghost use Rattle.psci_board.specs.Board.{BoardValue, IsBoard};

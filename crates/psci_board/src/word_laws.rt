@@ -1,4 +1,4 @@
-//! What holds of the definitions alone: a law is the contract of a function that does nothing.
+//! The law that words and numbers are read as they are spelled, and in no other way.
 
 ghost use Rattle.psci_board.specs.Spelling.{TextLaws};
 

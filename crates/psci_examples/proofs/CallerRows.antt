@@ -6,7 +6,6 @@ use Rattle.psci_board.specs.Board.{BoardValue, IsBoard, core_of, up}
 use Rattle.psci_board.specs.declared.node.Core.{Core}
 use Rattle.psci_fw.specs.declared.reaction.Reaction.{Reaction}
 use Rattle.psci_fw.specs.psci_abi.declared.registers.Regs.{Regs}
-use Rattle.psci_fw.specs.psci_abi.declared.request.Request.{Request}
 use Rattle.psci_fw.specs.psci_abi.declared.request.Request.TheVariants as requests
 use Rattle.psci_fw.specs.psci_fw_spec.Changes.{Rest}
 use Rattle.psci_fw.specs.psci_fw_spec.Claims.{suspend_parts}
@@ -16,10 +15,8 @@ use Rattle.psci_fw.specs.psci_fw_spec.Values.{Values}
 use Rattle.psci_fw.specs.psci_fw_spec.declared.mode.SuspendMode.TheVariants.{Platform}
 use Rattle.psci_fw.specs.psci_fw_spec.declared.opening.Opening.{Opening}
 use Rattle.psci_fw.specs.psci_fw_spec.declared.outcome.Act.TheVariants as acts
-use Rattle.psci_fw.specs.psci_fw_spec.declared.outcome.Outcome.{Outcome}
 use Rattle.psci_fw.specs.psci_fw_spec.declared.status.Status.TheVariants.{On, Off, Pending}
 use Rattle.psci_fw.specs.psci_fw_spec.psci_abi.declared.format.Format.TheVariants.{Original}
-use Rattle.psci_fw.specs.Asking.{may_call}
 use Rattle.psci_fw.specs.Calls.{IsCaller}
 use Rattle.psci_fw.specs.Reactions.{IsReaction}
 use Rattle.psci_fw.specs.Read.{CallsOn, CallsSuspend, IsOnOf, IsSuspendOf}
@@ -27,7 +24,6 @@ use Rattle.psci_fw.specs.Seen.{FirmwareValue}
 use Rattle.psci_fw.specs.Suspending.{MaySuspend, Suspends}
 use Rattle.psci_fw_state.specs.Seen.{values_in}
 use Rattle.psci_messages.specs.declared.part.Part.{Part}
-use Rattle.psci_messages.specs.Message.{MessageValue}
 use Rattle.psci_state.specs.declared.cores.Activity.TheVariants as activities
 
 -- two clusters of two cores: core 0 runs, core 1 is asked on, and the others are off

@@ -1,6 +1,7 @@
 mod AuditRows
 mod AuditSafeRows
 mod CallerRows
+mod DeviceRows
 mod DomainRows
 mod FirmwareRows
 mod FramePairRows

@@ -3,16 +3,15 @@
 use Rattle.std.proofs.Common.{◌≡◌, inl, ℕ, suc, ◌<◌, ◌+◌, List, [], ◌∷◌, ◌++◌}
 use Rattle.std.proofs.Common.{Bool, true, false, Option, None, Some, Ok, Err, refl, ap, arith}
 use Rattle.std.proofs.Common.{sym, ◌∙◌}
-use Rattle.std.specs.Prelude.{length, nat_lt, replicate, take}
+use Rattle.std.specs.Prelude.{length, replicate, take}
 use Rattle.psci_script.specs.declared.fault.ReplayFault.TheVariants as stops
 use Rattle.psci_script.specs.declared.fault.ScriptFault.TheVariants as faults
 use Rattle.psci_script.specs.declared.lines.Extent.{Extent}
 use Rattle.psci_script.specs.declared.lines.Front.TheVariants as fronts
 use Rattle.psci_script.specs.Lines.{IsFrontOf, has_line_feed}
-use Rattle.psci_script.specs.declared.progress.Progress.{Progress as Fields}
 use Rattle.psci_script.specs.Block.{ReadAhead, Refills}
 use Rattle.psci_script.specs.Progress.{Ahead, FailsAhead, FailsLine, FaultyLine, FindsLine}
-use Rattle.psci_script.specs.Progress.{ReadFailed, ReadsAhead, SameDevices, StaySound, WriteFailed}
+use Rattle.psci_script.specs.Progress.{ReadFailed, ReadsAhead, WriteFailed}
 use Rattle.psci_script.specs.Progress.{Progress, progress}
 
 -- What is read ahead ----------------------------------------------------------------------------
@@ -277,22 +276,3 @@ fails_behind_a_line fails = let e = fails.1.0 in cc
 line_write_fault : FindsLine 3 (Err stops.Write) (at [] false (65 ∷ []) (49 ∷ 10 ∷ []) [])
     (at [] false (65 ∷ []) (49 ∷ 10 ∷ []) (49 ∷ []))
 line_write_fault = a_write_failed
-
--- Devices ---------------------------------------------------------------------------------------
-
-kept_devices : {S K : Type 0} (p : Fields S K) → SameDevices p p
-kept_devices p = record { source = refl; sink = refl }
-
-another_source : {S K : Type 0} (old new : Fields S K)
-    → ¬ (new.source.ghost_name ≡ old.source.ghost_name) → SameDevices old new → ⊥
-another_source old new differs same = differs same.source
-
-no_failure : {S K : Type 0} (p : Fields S K)
-    → StaySound (λ (s : S). false) (λ (k : K). true) p p
-no_failure p = record { source = refl; sink = refl }
-
--- the source is the number of its failures
-source_failed : {K : Type 0} (old new : Fields ℕ K) → old.source.now ≡ 0 → new.source.now ≡ 1
-    → StaySound (λ (s : ℕ). nat_lt 0 s) (λ (k : K). false) old new → ⊥
-source_failed old new before after sound =
-    let e : true ≡ false = ap (nat_lt 0) (sym after) ∙ sound.source ∙ ap (nat_lt 0) before in cc

@@ -2,7 +2,7 @@
 -- what is counted beside it, and of a core that is running.
 use Rattle.std.proofs.Common.{◌≡◌, ◌<◌, ℕ, List, [], ◌∷◌, length, true, false, None, refl, ap}
 use Rattle.std.proofs.Common.{arith}
-use Rattle.psci_board.specs.Board.{BoardValue, IsBoard, cores, place_above}
+use Rattle.psci_board.specs.Board.{BoardValue, IsBoard}
 use Rattle.psci_fw_state.specs.declared.counts.StatusCounts.{StatusCounts}
 use Rattle.psci_fw_state.specs.declared.row.CoreRow.{CoreRow}
 use Rattle.psci_fw_state.specs.Claims.{IsGrantable, MayClaim}
@@ -15,10 +15,9 @@ use Rattle.psci_fw.specs.psci_fw_spec.declared.mode.SuspendMode.TheVariants.{Pla
 use Rattle.psci_fw.specs.psci_fw_spec.declared.status.Status.TheVariants.{On, Off, Pending}
 use Rattle.psci_fw.specs.psci_fw_spec.psci_abi.declared.format.Format.TheVariants.{Original}
 use Rattle.psci_messages.specs.declared.part.Part.{Part}
-use Rattle.psci_messages.specs.Message.{AreClaims}
 use Rattle.psci_state.specs.declared.cores.Activity.TheVariants as activities
 use Rattle.psci_tree.specs.Changes.{made_pending, start_of_life}
-use Rattle.psci_tree.specs.Recount.{IsDomainTree, TreeValue, granted_at, is_confirmed_at, state_at}
+use Rattle.psci_tree.specs.Recount.{IsDomainTree, TreeValue, state_at}
 
 -- two clusters of two cores: core 1 is asked on, core 3 off, and its cluster was granted retention
 abbrev board : BoardValue

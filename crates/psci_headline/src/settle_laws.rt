@@ -1,4 +1,5 @@
-//! What holds of every legal run: each law is the contract of a function that does nothing.
+//! The laws of settling: in a legal run a claim is carried out or waits for its Down, and a world
+//! that does not halt settles. A law is the contract of a function that does nothing.
 
 ghost use Rattle.std.specs.Prelude.{◌≡◌, ◌++◌, false, List};
 ghost use Rattle.psci_board.specs.Board.{BoardValue, IsBoard};

@@ -1,4 +1,6 @@
-//! What holds of every legal run: each law is the contract of a function that does nothing.
+//! The laws of what is told: in a legal run what was granted is confirmed or waits to be, and once
+//! the world has settled, what is told of each core and domain is so. A law is the contract of a
+//! function that does nothing.
 
 ghost use Rattle.std.specs.Prelude.{◌≡◌, false, List};
 ghost use Rattle.psci_headline.specs.psci_board.Board.{BoardValue, IsBoard};

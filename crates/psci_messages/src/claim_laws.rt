@@ -1,4 +1,6 @@
-//! What holds of the definitions alone: each law is the contract of a function that does nothing.
+//! The laws of claims: what the cores below a domain ask together, what a core claims in each mode,
+//! and what the check of the last core lets through. A law is the contract of a function that does
+//! nothing.
 
 ghost use Rattle.std.specs.Prelude.{ℕ, ◌<◌, List};
 ghost use Rattle.psci_board.specs.Board.{BoardValue, IsBoard, cores};

@@ -1,4 +1,5 @@
-//! What holds of outstanding messages over every history, and of claims.
+//! The laws of parts and of slots: a list is a claim where each part is as it should be, and the
+//! slots hold what their changes say. A law is the contract of a function that does nothing.
 
 ghost use Rattle.std.specs.Prelude.{◌≡◌, ℕ, List, ◌∷◌, Some, true, length};
 ghost use Rattle.psci_messages.specs.declared.part.Part.{Part};
