@@ -2,7 +2,7 @@
 use Rattle.std.proofs.Common.{◌≡◌, ◌+◌, ◌++◌, ◌∷◌, [], ℕ, List, take, append-nil}
 use Rattle.std.proofs.Common.{ap, ◌∙◌}
 use Rattle.std.proofs.lemmas.Grind.{flat_map-append}
-use Rattle.psci_bench.specs.psci_shared.declared.entry.FwEntry.{FwEntry}
+use Rattle.psci_bench.specs.psci_shared.Entries.{FwEntry}
 use Rattle.psci_bench.specs.declared.gathering.Polled.{Polled}
 use Rattle.psci_cli.specs.ThreadsText.{core_line, cores_text}
 

@@ -2,7 +2,7 @@
 use Rattle.std.specs.Prelude.{ℕ, Bool, List, [], ◌∷◌, ◌++◌, codes, flat_map, if◌then◌else◌}
 use Rattle.std.specs.Fmt.{decimal}
 use Rattle.psci_bench.specs.Counts.{calls_of, entries_of}
-use Rattle.psci_bench.specs.psci_shared.declared.entry.FwEntry.{FwEntry}
+use Rattle.psci_bench.specs.psci_shared.Entries.{FwEntry}
 use Rattle.psci_bench.specs.declared.gathering.Polled.{Polled}
 use Rattle.psci_bench.specs.declared.running.Threaded.{Threaded}
 
