@@ -11,7 +11,7 @@ use Rattle.psci_tree.specs.declared.domain.Domain.{Domain, out-Domain}
 use Rattle.psci_tree.specs.declared.kept.Kept.{Kept}
 use Rattle.psci_tree.specs.Domains.{branches, domains_down, leaves}
 use Rattle.psci_tree.specs.Standing.{kept_on_path}
-use Rattle.psci_tree.specs.Kept.{IsArrival, IsExchange, Keeps, recount, kept_exchanged}
+use Rattle.psci_tree.specs.Kept.{IsDescent, IsExchange, Keeps, recount, kept_exchanged}
 use Rattle.psci_tree.specs.Kept.{kept_together, lows_told}
 use Rattle.psci_tree.specs.Changes.{core_changed}
 use Rattle.psci_tree.specs.Way.{cleared_from}
@@ -114,12 +114,8 @@ told_alone = refl
 exchange_of_core : (n : Domain) → length (branches n) ≡ 0 → leaves n ≡ gone ∷ []
     → IsExchange n 0 [] down (recount (gone ∷ [])) (recount (down ∷ []))
 exchange_of_core n none is = record {
-  arrival = record {
-    long = omega arith;
-    leads = none;
-    few = omega (arith, ap length is);
-    comes = record { counted = refl; small = omega arith };
-  };
+  descent = record { long = omega arith; leads = none; few = omega (arith, ap length is) };
+  comes = record { counted = refl; small = omega arith };
   was = λ c.
       subst (λ cs. Keeps (recount (gone ∷ [])) (get_or cs 0 c ∷ [])) (sym is)
       (record { counted = refl; small = omega arith });
@@ -134,25 +130,23 @@ exchange_of_another n is e =
     absurd (omega (arith, ap (λ (k : Kept). k.off) kept.counted))
 
 -- it is not as is kept of it
-arrival_of_another : (n : Domain) → IsArrival n 0 [] down (recount (gone ∷ [])) → ⊥
-arrival_of_another n a = absurd (omega (arith, ap (λ (k : Kept). k.off) a.comes.counted))
+exchange_for_another : (n : Domain)
+    → IsExchange n 0 [] down (recount (gone ∷ [])) (recount (gone ∷ [])) → ⊥
+exchange_for_another n e = absurd (omega (arith, ap (λ (k : Kept). k.off) e.comes.counted))
 
 -- a way that is too short, one that leads to no child, and one that ends above the core
-arrival_too_far : (n : Domain) → IsArrival n 1 [] down (recount (down ∷ [])) → ⊥
-arrival_too_far n a = absurd (omega (arith, a.long))
+descent_too_far : (n : Domain) → IsDescent n 1 [] → ⊥
+descent_too_far n a = absurd (omega (arith, a.long))
 
-arrival_nowhere : (n : Domain) → length (branches n) ≡ 2
-    → IsArrival n 1 (2 ∷ []) down (recount (down ∷ [])) → ⊥
-arrival_nowhere n two a = absurd (omega (arith, two, a.leads.0))
+descent_nowhere : (n : Domain) → length (branches n) ≡ 2 → IsDescent n 1 (2 ∷ []) → ⊥
+descent_nowhere n two a = absurd (omega (arith, two, a.leads.0))
 
-arrival_above : (n : Domain) → length (branches n) ≡ 2
-    → IsArrival n 0 [] down (recount (down ∷ [])) → ⊥
-arrival_above n two a = absurd (omega (arith, two, a.leads))
+descent_to_a_domain : (n : Domain) → length (branches n) ≡ 2 → IsDescent n 0 [] → ⊥
+descent_to_a_domain n two a = absurd (omega (arith, two, a.leads))
 
 -- more cores than a board has
-arrival_among_many : (n : Domain) → length (leaves n) ≡ 2 ^ 16
-    → IsArrival n 0 [] down (recount (down ∷ [])) → ⊥
-arrival_among_many n many a = absurd (omega (arith, many, a.few))
+descent_among_many : (n : Domain) → length (leaves n) ≡ 2 ^ 16 → IsDescent n 0 [] → ⊥
+descent_among_many n many a = absurd (omega (arith, many, a.few))
 
 -- a start takes its own number, however many there were before, and not one more
 change_starts : core_changed (record { activity = Active; started = Some 9 }) retained

@@ -60,21 +60,20 @@ pub record Keeps (k : Kept) (cs : List CoreState) : Type 0 where
   pub counted : k ≡ recount cs
   pub small : k.known ≤ 2 ^ 32 * length cs
 
--- a core that a way leads to, so many levels down from a domain, comes into this state, and this is
--- kept of it then
-pub record IsArrival (n : Domain) (level : ℕ) (way : List ℕ) (state : CoreState) (after : Kept)
-    : Type 0 where
+-- a way leads to a core, so many levels down from a domain that has no more cores than a board
+pub record IsDescent (n : Domain) (level : ℕ) (way : List ℕ) : Type 0 where
   pub long : level ≤ length way
   pub leads : IsWay level way n
   pub few : length (leaves n) < 2 ^ 16
-  pub comes : Keeps after (state ∷ [])
 
--- so it does, and that was kept of it before
+-- the core that a way leads to comes into this state: this was kept of it before, and that is kept
+-- of it then
 pub record IsExchange (n : Domain) (level : ℕ) (way : List ℕ) (state : CoreState)
     (before after : Kept) : Type 0 where
-  pub arrival : IsArrival n level way state after
+  pub descent : IsDescent n level way
   pub was : (c : CoreState)
       → Keeps before (slice_index_or (leaves n) (index_by level way n) c ∷ [])
+  pub comes : Keeps after (state ∷ [])
 
 -- what a domain keeps is kept of the cores below it
 abbrev pub IsRecount : Domain → Type 0

@@ -7,7 +7,7 @@ ghost use Rattle.psci_state.specs.declared.cores.CoreState.{CoreState};
 ghost use Rattle.psci_tree.specs.Recount.{is_away, never_started};
 ghost use Rattle.psci_tree.specs.Domains.{leaves, cores_in, child_counts};
 ghost use Rattle.psci_tree.specs.Domains.{index_by};
-ghost use Rattle.psci_tree.specs.Kept.{AreKept, IsArrival, IsExchange, IsKept, Keeps};
+ghost use Rattle.psci_tree.specs.Kept.{AreKept, IsDescent, IsExchange, IsKept, Keeps};
 
 use crate::kept::Kept;
 use psci_state::{CoreState, NEVER_STARTED};
@@ -49,7 +49,7 @@ impl Domain {
         }
         let kept = self.kept.exchanged(before, after);
         let Some(lows) = kept.lows_told(after) else {
-            return self.change_looking(level, way, state, after);
+            return self.change_looking(level, way, state);
         };
         self.kept = kept.asking(lows);
         let number = way[level as usize - 1] as usize;
@@ -58,8 +58,8 @@ impl Domain {
 
     /// The same by a look at the children of each domain on the way.
     #[inline(never)]
-    fn change_looking(&mut self, level: u32, way: &[u32], state: &CoreState, after: &Kept)
-        requires arrival { IsArrival self.old level way.now state.now after.now }
+    fn change_looking(&mut self, level: u32, way: &[u32], state: &CoreState)
+        requires descent { IsDescent self.old level way.now }
         requires kept { IsKept self.old }
         ensures cores { leaves self.new ≡ slice_set (leaves self.old)
             (index_by level way.now self.old) state.now }
@@ -68,11 +68,11 @@ impl Domain {
     {
         if level == 0 {
             self.core = *state;
-            self.kept = *after;
+            self.kept = Kept::of_core(state);
             return;
         }
         let number = way[level as usize - 1] as usize;
-        self.children[number].change_looking(level - 1, way, state, after);
+        self.children[number].change_looking(level - 1, way, state);
         self.kept = kept_of(&self.children);
     }
 

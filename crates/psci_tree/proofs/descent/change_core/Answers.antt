@@ -18,7 +18,7 @@ change-requires-clause-exchange c =
     let place : index_by c.height.result way root ≡ c.args.core.number =
     ap (λ l. index_by l way root) c.height.ensures.height ∙ down.1 in
     record {
-      arrival = record {
+      descent = record {
         long = omega (arith, c.height.ensures.height);
         leads = subst (λ l. IsWay l way root) (sym c.height.ensures.height) down.0;
         few = omega (
@@ -26,8 +26,8 @@ change-requires-clause-exchange c =
           length_cores root levels c.requires.lead.tree c.requires.lead.whole,
           size_few levels c.requires.lead.tree,
         );
-        comes = c.of_core-kept.ensures;
       };
+      comes = c.of_core-kept.ensures;
       was = λ d.
           subst (λ (x : CoreState). Keeps c.of_core-was.result (x ∷ []))
           (c.requires.before d ∙ ap (λ p. get_or (leaves root) p d) (sym place))

@@ -21,12 +21,12 @@ pub returns-then-level-eq0-clause-kept : goal.returns-then-level-eq0-clause-kept
 returns-then-level-eq0-clause-kept t c =
     let own : Domain = c.args.self.now in
     let none : length (branches own) ≡ 0 =
-    subst (λ j. IsWay j c.args.way.now own) c.if-level-eq0.true c.requires.exchange.arrival.leads in
+    subst (λ j. IsWay j c.args.way.now own) c.if-level-eq0.true c.requires.exchange.descent.leads in
     let here = kept_roll_core (record {
       children = (out-Domain own).children;
       core = c.args.state.now;
       kept = c.args.after.now;
-    }) none c.requires.exchange.arrival.comes in
+    }) none c.requires.exchange.comes in
     simp the_lemmas (simp the_lemmas at here)
 
 pub exchanged-kept-requires-clause-was : goal.exchanged-kept-requires-clause-was
@@ -38,37 +38,37 @@ pub exchanged-kept-requires-clause-known : goal.exchanged-kept-requires-clause-k
 exchanged-kept-requires-clause-known t c = omega (
   arith,
   (kept_own c.args.self.now c.requires.kept).small,
-  c.requires.exchange.arrival.few,
-  c.requires.exchange.arrival.comes.small,
+  c.requires.exchange.descent.few,
+  c.requires.exchange.comes.small,
 )
 
 pub exchanged-kept-requires-clause-active : goal.exchanged-kept-requires-clause-active
 exchanged-kept-requires-clause-active t c = omega (
   arith,
-  (keeps_small _ _ (kept_own _ c.requires.kept) c.requires.exchange.arrival.few).active,
-  (keeps_small _ _ c.requires.exchange.arrival.comes (omega arith)).active,
+  (keeps_small _ _ (kept_own _ c.requires.kept) c.requires.exchange.descent.few).active,
+  (keeps_small _ _ c.requires.exchange.comes (omega arith)).active,
 )
 
 pub exchanged-kept-requires-clause-off : goal.exchanged-kept-requires-clause-off
 exchanged-kept-requires-clause-off t c = omega (
   arith,
-  (keeps_small _ _ (kept_own _ c.requires.kept) c.requires.exchange.arrival.few).off,
-  (keeps_small _ _ c.requires.exchange.arrival.comes (omega arith)).off,
+  (keeps_small _ _ (kept_own _ c.requires.kept) c.requires.exchange.descent.few).off,
+  (keeps_small _ _ c.requires.exchange.comes (omega arith)).off,
 )
 
 pub lows_told-requires-clause-off : goal.lows_told-requires-clause-off
 lows_told-requires-clause-off t c = omega (
   arith,
-  (keeps_small _ _ (kept_own _ c.requires.kept) c.requires.exchange.arrival.few).off,
-  (keeps_small _ _ c.requires.exchange.arrival.comes (omega arith)).off,
+  (keeps_small _ _ (kept_own _ c.requires.kept) c.requires.exchange.descent.few).off,
+  (keeps_small _ _ c.requires.exchange.comes (omega arith)).off,
   ap (λ (k : Kept). k.off) c.exchanged-kept.ensures,
 )
 
 pub lows_told-requires-clause-cores : goal.lows_told-requires-clause-cores
 lows_told-requires-clause-cores t c = omega (
   arith,
-  (keeps_small _ _ (kept_own _ c.requires.kept) c.requires.exchange.arrival.few).cores,
-  (keeps_small _ _ c.requires.exchange.arrival.comes (omega arith)).off,
+  (keeps_small _ _ (kept_own _ c.requires.kept) c.requires.exchange.descent.few).cores,
+  (keeps_small _ _ c.requires.exchange.comes (omega arith)).off,
   ap (λ (k : Kept). k.cores) c.exchanged-kept.ensures,
 )
 
@@ -80,19 +80,19 @@ change-requires t c =
     let s : CoreState = c.args.state.now in
     let a : Kept = c.args.after.now in
     let n : Domain = c.index_mut.result.now in
-    let above : Above own l way s a = record {
+    let above : Above own l way = record {
       some = omega (arith, c.if-level-eq0.false);
-      arrival = c.requires.exchange.arrival;
+      descent = c.requires.exchange.descent;
       kept = c.requires.kept;
     } in
     let i : ℕ = get_or way (l - 1) 0 in
     let at : n ≡ get_or (branches own) i n = simp the_lemmas at c.index_mut.ensures.value in
     let is : get_or (branches own) i own ≡ n =
-    sym (at ∙ get_or_default (branches own) i n own (down own l way s a above).inside) in (
+    sym (at ∙ get_or_default (branches own) i n own (down own l way above).inside) in (
       search (rules, the_lemmas),
       (
         child_exchange own n l way s c.args.before.now a above c.requires.exchange is,
-        child_kept own n l way s a above is,
+        child_kept own n l way above is,
       ),
     )
 
@@ -104,22 +104,22 @@ returns-clause-cores t c =
     let s : CoreState = c.args.state.now in
     let a : Kept = c.args.after.now in
     let n : Domain = c.index_mut.result.now in
-    let above : Above own l way s a = record {
+    let above : Above own l way = record {
       some = omega (arith, c.if-level-eq0.false);
-      arrival = c.requires.exchange.arrival;
+      descent = c.requires.exchange.descent;
       kept = c.requires.kept;
     } in
     let i : ℕ = get_or way (l - 1) 0 in
     let at : n ≡ get_or (branches own) i n = simp the_lemmas at c.index_mut.ensures.value in
     let is : get_or (branches own) i own ≡ n =
-    sym (at ∙ get_or_default (branches own) i n own (down own l way s a above).inside) in
+    sym (at ∙ get_or_default (branches own) i n own (down own l way above).inside) in
     let m : Domain = c.change.new.self in
     let through : Through own n m l way s = record {
       is = is;
       cores = c.change.ensures.cores;
       kept = c.change.ensures.kept;
     } in
-    let here = cores_put own n m l way s a c.asking-self.result above through in
+    let here = cores_put own n m l way s c.asking-self.result above through in
     simp the_lemmas (simp the_lemmas at here)
 
 pub returns-clause-shape : goal.returns-clause-shape
@@ -130,15 +130,15 @@ returns-clause-shape t c = λ k.
     let s : CoreState = c.args.state.now in
     let a : Kept = c.args.after.now in
     let n : Domain = c.index_mut.result.now in
-    let above : Above own l way s a = record {
+    let above : Above own l way = record {
       some = omega (arith, c.if-level-eq0.false);
-      arrival = c.requires.exchange.arrival;
+      descent = c.requires.exchange.descent;
       kept = c.requires.kept;
     } in
     let i : ℕ = get_or way (l - 1) 0 in
     let at : n ≡ get_or (branches own) i n = simp the_lemmas at c.index_mut.ensures.value in
     let is : get_or (branches own) i own ≡ n =
-    sym (at ∙ get_or_default (branches own) i n own (down own l way s a above).inside) in
+    sym (at ∙ get_or_default (branches own) i n own (down own l way above).inside) in
     let here = widths_with_child own i c.change.new.self c.asking-self.result
     (λ j. c.change.ensures.shape j ∙ ap (child_counts j) (sym is)) k in
     simp the_lemmas (simp the_lemmas at here)
@@ -151,15 +151,15 @@ returns-clause-kept t c =
     let s : CoreState = c.args.state.now in
     let a : Kept = c.args.after.now in
     let n : Domain = c.index_mut.result.now in
-    let above : Above own l way s a = record {
+    let above : Above own l way = record {
       some = omega (arith, c.if-level-eq0.false);
-      arrival = c.requires.exchange.arrival;
+      descent = c.requires.exchange.descent;
       kept = c.requires.kept;
     } in
     let i : ℕ = get_or way (l - 1) 0 in
     let at : n ≡ get_or (branches own) i n = simp the_lemmas at c.index_mut.ensures.value in
     let is : get_or (branches own) i own ≡ n =
-    sym (at ∙ get_or_default (branches own) i n own (down own l way s a above).inside) in
+    sym (at ∙ get_or_default (branches own) i n own (down own l way above).inside) in
     let m : Domain = c.change.new.self in
     let through : Through own n m l way s = record {
       is = is;
@@ -175,9 +175,9 @@ returns-clause-kept t c =
     (moved_below own l way s b a c.requires.kept c.requires.exchange) in
     let asked : c.in-Some.lows ≡ (recount there).lows =
     told_right (leaves own) (index_by l way own) s k a c.in-Some.lows
-    (place_inside l way own c.requires.exchange.arrival.leads) moved
-    c.requires.exchange.arrival.comes told in
-    let here = kept_put own n m l way s a c.asking-self.result above through
+    (place_inside l way own c.requires.exchange.descent.leads) moved
+    c.requires.exchange.comes told in
+    let here = kept_put own n m l way s c.asking-self.result above through
     (subst (λ x. Keeps x (cores_in (set (branches own) i m))) (sym c.asking-self.ensures)
     (keeps_new own n m l way s b a k c.in-Some.lows above c.requires.exchange through
     c.exchanged-kept.ensures asked)) in
