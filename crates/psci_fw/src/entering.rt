@@ -38,12 +38,13 @@ pub fn check_start(state: &State, core: Core, start: Start) -> Result<(), FwFaul
 
 /// Whether a start is over, or is none that the board has.
 fn is_old(state: &State, core: Core, start: Start) -> bool
+    requires { core.number < cores state.now.board }
     ensures { result ≡ is_old state.now.board (values_in state.now) core.number start }
 {
     start.life < state.life()
         || start.number == 0
         || start.number > state.board().start_limit()
-        || (start.life == state.life() && start.number <= state.known(core))
+        || (start.life == state.life() && start.number <= state.known_inside(core))
 }
 
 /// What a core does that enters by this start: in a halting life it stops; else it goes on at its

@@ -56,7 +56,7 @@ pub fn suspend(state: &mut State, caller: Core, word: u32, ask: Ask, opening: Op
     if has_invalid_entry(board, ask, opening.address) {
         return Reaction::returns(Code::INVALID_ADDRESS);
     }
-    if state.known(caller) == board.start_limit() {
+    if state.known_inside(caller) == board.start_limit() {
         return Reaction::returns(Code::SUCCESS);
     }
     sleep(state, caller, ask, opening)

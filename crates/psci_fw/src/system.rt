@@ -42,7 +42,7 @@ pub fn system_suspend(state: &mut State, caller: Core, opening: Opening) -> Reac
     if !state.are_others_off(caller) {
         return Reaction::returns(Code::DENIED);
     }
-    if state.known(caller) == board.start_limit() {
+    if state.known_inside(caller) == board.start_limit() {
         return Reaction::returns(Code::DENIED);
     }
     let ask = Ask::deepest(board.height());

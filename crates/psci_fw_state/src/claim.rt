@@ -80,7 +80,9 @@ impl State {
         }
     }
 
-    /// Why a core that asks for this in OS-initiated mode is refused, if it is.
+    /// Why a core that asks for this in OS-initiated mode is refused, if it is. It has a frame of its
+    /// own, which no call in the other mode holds.
+    #[inline(never)]
     #[tactic(auto, unfolding(crate::specs::Seen::values_in))]
     fn refusal(&self, core: Core, ask: Ask) -> Option<Osi>
         requires inside { core.number < cores self.now.board }
@@ -90,8 +92,8 @@ impl State {
         path_refusal(&self.tree, &self.board, core, ask)
     }
 
-    /// What a core asks that goes off in OS-initiated mode. It has a frame of its own, which no
-    /// call in the other mode holds.
+    /// What a core asks that goes off in OS-initiated mode, in a frame of its own for the same
+    /// reason.
     #[inline(never)]
     #[tactic(auto, unfolding(crate::specs::Seen::values_in))]
     fn off_ask(&self, core: Core) -> Ask
@@ -115,7 +117,7 @@ impl State {
             kind,
             core,
             life: self.life,
-            number: self.tree.known_start(core),
+            number: self.tree.known_start_inside(core),
             parts,
         }
     }
@@ -158,7 +160,7 @@ impl State {
         law_slots();
         law_granted();
         law_confirmed();
-        let number = self.tree.known_start(core);
+        let number = self.tree.known_start_inside(core);
         grant_parts(&mut self.tree, &self.board, core, parts.as_slice());
         self.slots.put(Message {
             kind: Kind::Down,

@@ -148,6 +148,15 @@ impl State {
         self.tree.known_start(core)
     }
 
+    /// The known start of a core of the board.
+    #[tactic(auto, unfolding(crate::specs::Seen::values_in))]
+    pub fn known_inside(&self, core: Core) -> u32
+        requires { core.number < cores self.now.board }
+        ensures { result ≡ (values_in self.now).known core.number }
+    {
+        self.tree.known_start_inside(core)
+    }
+
     /// What AFFINITY_INFO says of a core of the board.
     #[tactic(auto, unfolding(crate::specs::Seen::values_in))]
     pub fn status(&self, core: Core) -> Status
@@ -237,7 +246,7 @@ impl State {
         if self.life == 0 {
             return Err(FwFault::NoLife);
         }
-        match self.tree.activity(core) {
+        match self.tree.activity_inside(core) {
             Activity::Active if row.status != Status::Pending => Ok(()),
             _ => Err(FwFault::NotRunning),
         }

@@ -228,6 +228,22 @@ impl Tree {
         self.core(core).known
     }
 
+    /// What a core of the board does: no number of cores is looked at first.
+    pub fn activity_inside(&self, core: Core) -> Activity
+        requires { core.number < size_below self.now.levels }
+        ensures { result ≡ (state_at self.now core.number).activity }
+    {
+        self.cores[core.number as usize].activity
+    }
+
+    /// The known start of a core of the board, by the same look.
+    pub fn known_start_inside(&self, core: Core) -> u32
+        requires { core.number < size_below self.now.levels }
+        ensures { result ≡ known_at self.now core.number }
+    {
+        self.cores[core.number as usize].known
+    }
+
     /// The depth of a domain that is confirmed, or 0.
     pub(crate) fn confirmed_depth(&self, node: Node) -> u8
         requires { HasNodeIn self.now.levels node }

@@ -29,8 +29,8 @@ returns-clause-after c =
     in_rows _ _ _ c.self.view_is c.self.invariant c.requires.inside in
     let has_slot : IsOfCores (length s.slots.cores) (slot_of m.kind m.core) =
     omega (arith, row_inside, c.self.invariant.rows, c.self.invariant.slots) in
-    let number : c.known_start-number.result ≡ known_at s.tree c.args.core.number =
-    c.known_start-number.ensures
+    let number : c.known_start_inside-number.result ≡ known_at s.tree c.args.core.number =
+    c.known_start_inside-number.ensures
     ∙ ap (λ t. known_at t c.args.core.number) c.deref.ensures in
     rw (← c.self.view_is)
     (claimed_of s c.grant_parts.new.tree c.put.new.self m
