@@ -16,6 +16,6 @@ sleep-requires-clause-may c =
           c.requires.values c.requires.running c.requires.awake
           (sym enters ∙ c.if-not-may_enter.false)
           (sym c.are_others_off.ensures ∙ c.if-not-are_others_off.false)
-          (λ e. c.if-known-start_limit.false
+          (λ e. c.if-known_inside-start_limit.false
           (c.known.ensures ∙ e ∙ sym limit)));
     }
