@@ -64,11 +64,9 @@ impl PolledFirmware {
             r.0.written ≡ replicate (cores board.now) (Off ∷ [])) }
     {
         law_values();
+        // first, so that none who lacks memory for them has a firmware to let go
+        let (words, writer) = StatusWords::new(alloc, board)?;
         let firmware = Firmware::new(alloc, board)?;
-        let Ok((words, writer)) = StatusWords::new(alloc, board) else {
-            let_go(firmware);
-            return Err(Memory);
-        };
         let polled = PolledFirmware {
             firmware,
             writer,
@@ -247,10 +245,4 @@ impl PolledFirmware {
     {
         let _cores = self.cores;
     }
-}
-
-/// Lets a firmware go. It has a frame of its own, so that none is held while one is made.
-#[inline(never)]
-fn let_go(firmware: Firmware) {
-    drop(firmware);
 }

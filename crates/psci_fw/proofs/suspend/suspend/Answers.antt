@@ -15,7 +15,7 @@ sleep-requires-clause-may c =
           c.args.word c.args.opening.address c.args.opening.context c.args.ask call.board
           call.inside call.values call.running call.awake c.requires.ask
           (sym enters ∙ c.if-has_invalid_entry.false)
-          (λ e. c.if-known_inside-start_limit.false (c.known.ensures ∙ e ∙ sym limit));
+          (λ e. c.if-known_inside-start_limit.false (c.known_inside.ensures ∙ e ∙ sym limit));
     }
 
 pub returns-clause-answer : goal.returns-clause-answer
@@ -26,5 +26,5 @@ returns-clause-answer c =
     c.args.ask c.requires.call.running c.requires.ask
     (outcome_in c.sleep.new.state.board (values_in c.sleep.new.state) c.sleep.result) _
     (sym enters ∙ c.if-has_invalid_entry.false)
-    (λ e. c.if-known_inside-start_limit.false (c.known.ensures ∙ e ∙ sym limit))
+    (λ e. c.if-known_inside-start_limit.false (c.known_inside.ensures ∙ e ∙ sym limit))
     c.sleep.ensures.answer c.sleep.ensures.after

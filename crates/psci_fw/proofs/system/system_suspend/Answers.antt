@@ -17,5 +17,5 @@ sleep-requires-clause-may c =
           (sym enters ∙ c.if-not-may_enter.false)
           (sym c.are_others_off.ensures ∙ c.if-not-are_others_off.false)
           (λ e. c.if-known_inside-start_limit.false
-          (c.known.ensures ∙ e ∙ sym limit)));
+          (c.known_inside.ensures ∙ e ∙ sym limit)));
     }
