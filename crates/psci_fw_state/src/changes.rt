@@ -41,9 +41,9 @@ impl State {
         }
     }
 
-    /// A running core goes off. It has a frame of its own, so that none is held for it by a call
-    /// that only asks.
-    #[inline(never)]
+    /// A running core goes off. Compiled in place, where it takes no more of the stack than what
+    /// the call has for a core that is asked on.
+    #[inline(always)]
     #[tactic(auto, unfolding(crate::specs::Seen::values_in))]
     pub fn leave(&mut self, core: Core)
         requires { IsRunningCore self.old core.number }

@@ -7,6 +7,6 @@ pub invariant_of-polled : goal.invariant_of-polled
 invariant_of-polled c =
     polled_first c.args.board.now c.in_ok-firmware.firmware _ _ c.cores.result
     (c.law_values.ensures.first c.args.board.now) c.cores.ensures.board
-    c.in_ok-firmware.ensures.board c.in_ok-firmware.ensures.values c.in-Ok.ensures.log
-    (ap (λ (t : TableId). t.words) c.in-Ok.ensures.writer ∙ c.in-Ok.ensures.words)
+    c.in_ok-firmware.ensures.board c.in_ok-firmware.ensures.values c.in_ok-words.ensures.log
+    (ap (λ (t : TableId). t.words) c.in_ok-words.ensures.writer ∙ c.in_ok-words.ensures.words)
     c.cores.ensures.cores
