@@ -73,7 +73,9 @@ fn check_target(state: &State, target: u64, core: Core, entry_point: u64) -> Res
     match state.status(core) {
         Status::On => Err(Code::ALREADY_ON),
         Status::Pending => Err(Code::ON_PENDING),
-        Status::Off if state.known_inside(core) == board.start_limit() => Err(Code::INTERNAL_FAILURE),
+        Status::Off if state.known_inside(core) == board.start_limit() => Err(
+            Code::INTERNAL_FAILURE,
+        ),
         Status::Off => Ok(core),
     }
 }
