@@ -80,8 +80,8 @@ impl State {
         }
     }
 
-    /// Why a core that asks for this in OS-initiated mode is refused, if it is. It has a frame of its
-    /// own, which no call in the other mode holds.
+    /// Why a core that asks for this in OS-initiated mode is refused, if it is. It has a frame of
+    /// its own, which no call in the other mode holds.
     #[inline(never)]
     #[tactic(auto, unfolding(crate::specs::Seen::values_in))]
     fn refusal(&self, core: Core, ask: Ask) -> Option<Osi>
