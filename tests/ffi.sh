@@ -231,7 +231,7 @@ proving_lib() {
     done) > "$work/out"
     cat > "$work/lines" << 'END'
 -mllvm;-unroll-runtime=0;-mllvm;-inline-threshold=500;-c;a b;$c; x86_64/libpsci_ffi.a
--mgeneral-regs-only;-mstrict-align;-mllvm;-inline-threshold=500;-c;a b;$c; aarch64/libpsci_ffi-strict-align.a
+-mgeneral-regs-only;-mstrict-align;-mllvm;-inline-threshold=500;-mllvm;-disable-machine-sink;-c;a b;$c; aarch64/libpsci_ffi-strict-align.a
 -mgeneral-regs-only;-mllvm;-inline-threshold=500;-c;a b;$c; aarch64/libpsci_ffi.a
 END
     answers "the clang of each archive"

@@ -36,10 +36,13 @@ GENERAL = "-mgeneral-regs-only"
 TURNS = ("-mllvm", "-unroll-runtime=0")
 # What changes the firmware on behalf of two calls is compiled in place in both.
 IN_PLACE = ("-mllvm", "-inline-threshold=500")
+# Where each access is aligned as it is wide, a number is put together of its bytes. That is done where they are read,
+# and not moved to where the number is used: until then each byte would have a place of its own on the stack.
+TOGETHER = ("-mllvm", "-disable-machine-sink")
 ARCHIVES = {
     "x86_64": (Archive("libpsci_ffi.a", (*TURNS, *IN_PLACE)),),
     "aarch64": (Archive("libpsci_ffi.a", (GENERAL, *IN_PLACE)),
-                Archive("libpsci_ffi-strict-align.a", (GENERAL, "-mstrict-align", *IN_PLACE))),
+                Archive("libpsci_ffi-strict-align.a", (GENERAL, "-mstrict-align", *IN_PLACE, *TOGETHER))),
 }
 
 
