@@ -1,8 +1,10 @@
 -- Worked examples of what the functions over the firmware's tree of power domains ask and leave, of
 -- what is counted beside it, and of a core that is running.
-use Rattle.std.proofs.Common.{◌≡◌, ◌<◌, ℕ, List, [], ◌∷◌, length, true, false, None, refl, ap}
+use Rattle.std.proofs.Common.{◌≡◌, ◌<◌, ◌==◌, ℕ, zero, suc, List, [], ◌∷◌, length, true, false}
+use Rattle.std.proofs.Common.{None, refl, ap}
+use Rattle.std.specs.Prelude.{if◌then◌else◌}
 use Rattle.std.proofs.Common.{arith}
-use Rattle.psci_board.specs.Board.{BoardValue, IsBoard}
+use Rattle.psci_board.specs.Board.{BoardValue, IsBoard, place_above}
 use Rattle.psci_fw_state.specs.declared.counts.StatusCounts.{StatusCounts}
 use Rattle.psci_fw_state.specs.declared.row.CoreRow.{CoreRow}
 use Rattle.psci_fw_state.specs.Claims.{IsGrantable, MayClaim}
@@ -17,7 +19,7 @@ use Rattle.psci_fw.specs.psci_fw_spec.psci_abi.declared.format.Format.TheVariant
 use Rattle.psci_messages.specs.declared.part.Part.{Part}
 use Rattle.psci_state.specs.declared.cores.Activity.TheVariants as activities
 use Rattle.psci_tree.specs.Changes.{made_pending, start_of_life}
-use Rattle.psci_tree.specs.Recount.{IsDomainTree, TreeValue, state_at}
+use Rattle.psci_tree.specs.Recount.{IsDomainTree, TreeValue, granted_at, is_confirmed_at, state_at}
 
 -- two clusters of two cores: core 1 is asked on, core 3 off, and its cluster was granted retention
 abbrev board : BoardValue
@@ -127,6 +129,45 @@ levels_changed_too h = let e : ◌≡◌ {A = ℕ} 1 2 = ap length h.levels in o
 
 rows_are_gone_too : KeepsGranted without_rows without_rows → ⊥
 rows_are_gone_too h = let e : ◌≡◌ {A = ℕ} 0 4 = h.tree.cores in omega arith
+
+-- nothing is granted to core 3 any more, nor to its cluster: core 2 keeps what it was granted
+abbrev cleared : TreeValue
+cleared = record tree {
+  granted = (0 ∷ 0 ∷ 3 ∷ 0 ∷ []) ∷ (0 ∷ 0 ∷ []) ∷ (0 ∷ []) ∷ [];
+  confirmed = (0 ∷ 0 ∷ 3 ∷ 0 ∷ []) ∷ (0 ∷ 0 ∷ []) ∷ (0 ∷ []) ∷ [];
+}
+
+grants_cleared : (level place : ℕ) → granted_at cleared level place
+    ≡ (if place_above tree.levels level 3 == place then 0 else granted_at tree level place)
+grants_cleared zero zero = refl
+grants_cleared zero (suc zero) = refl
+grants_cleared zero (suc (suc zero)) = refl
+grants_cleared zero (suc (suc (suc zero))) = refl
+grants_cleared zero (suc (suc (suc (suc p)))) = cc
+grants_cleared (suc zero) zero = refl
+grants_cleared (suc zero) (suc zero) = refl
+grants_cleared (suc zero) (suc (suc p)) = refl
+grants_cleared (suc (suc zero)) zero = refl
+grants_cleared (suc (suc zero)) (suc p) = refl
+grants_cleared (suc (suc (suc l))) p = cc
+
+confirmed_cleared : (level place : ℕ) → is_confirmed_at cleared level place
+    ≡ (if place_above tree.levels level 3 == place then false else is_confirmed_at tree level place)
+confirmed_cleared zero zero = refl
+confirmed_cleared zero (suc zero) = refl
+confirmed_cleared zero (suc (suc zero)) = refl
+confirmed_cleared zero (suc (suc (suc zero))) = refl
+confirmed_cleared zero (suc (suc (suc (suc p)))) = cc
+confirmed_cleared (suc zero) zero = refl
+confirmed_cleared (suc zero) (suc zero) = refl
+confirmed_cleared (suc zero) (suc (suc p)) = refl
+confirmed_cleared (suc (suc zero)) zero = refl
+confirmed_cleared (suc (suc zero)) (suc p) = refl
+confirmed_cleared (suc (suc (suc l))) p = cc
+
+path_cleared : IsDomainTree cleared → ClearsPath tree cleared 3
+path_cleared is =
+    record { granted = grants_cleared; confirmed = confirmed_cleared; levels = refl; tree = is }
 
 -- the path of core 3 is not cleared: its cluster is still granted retention
 path_still_granted : ClearsPath tree tree 3 → ⊥
