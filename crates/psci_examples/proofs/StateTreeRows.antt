@@ -1,6 +1,6 @@
 -- Worked examples of what the functions over the firmware's tree of power domains ask and leave, of
 -- what is counted beside it, and of a core that is running.
-use Rattle.std.proofs.Common.{◌≡◌, ◌<◌, ◌==◌, ℕ, zero, suc, List, [], ◌∷◌, length, true, false}
+use Rattle.std.proofs.Common.{◌≡◌, ◌<◌, ◌==◌, ℕ, Bool, zero, suc, List, [], ◌∷◌, length, true, false}
 use Rattle.std.proofs.Common.{None, refl, ap}
 use Rattle.std.specs.Prelude.{if◌then◌else◌}
 use Rattle.std.proofs.Common.{arith}
@@ -137,19 +137,25 @@ cleared = record tree {
   confirmed = (0 ∷ 0 ∷ 3 ∷ 0 ∷ []) ∷ (0 ∷ 0 ∷ []) ∷ (0 ∷ []) ∷ [];
 }
 
+-- whichever way it goes
+alike : {A : Type 0} (x : Bool) (a : A) → a ≡ (if x then a else a)
+alike true a = refl
+alike false a = refl
+
 grants_cleared : (level place : ℕ) → granted_at cleared level place
     ≡ (if place_above tree.levels level 3 == place then 0 else granted_at tree level place)
 grants_cleared zero zero = refl
 grants_cleared zero (suc zero) = refl
 grants_cleared zero (suc (suc zero)) = refl
 grants_cleared zero (suc (suc (suc zero))) = refl
-grants_cleared zero (suc (suc (suc (suc p)))) = cc
+grants_cleared zero (suc (suc (suc (suc p)))) = alike (3 == suc (suc (suc (suc p)))) 0
 grants_cleared (suc zero) zero = refl
 grants_cleared (suc zero) (suc zero) = refl
-grants_cleared (suc zero) (suc (suc p)) = refl
+grants_cleared (suc zero) (suc (suc p)) = alike (1 == suc (suc p)) 0
 grants_cleared (suc (suc zero)) zero = refl
-grants_cleared (suc (suc zero)) (suc p) = refl
-grants_cleared (suc (suc (suc l))) p = cc
+grants_cleared (suc (suc zero)) (suc p) = alike (0 == suc p) 0
+grants_cleared (suc (suc (suc l))) p =
+    alike (place_above tree.levels (suc (suc (suc l))) 3 == p) 0
 
 confirmed_cleared : (level place : ℕ) → is_confirmed_at cleared level place
     ≡ (if place_above tree.levels level 3 == place then false else is_confirmed_at tree level place)
@@ -157,13 +163,15 @@ confirmed_cleared zero zero = refl
 confirmed_cleared zero (suc zero) = refl
 confirmed_cleared zero (suc (suc zero)) = refl
 confirmed_cleared zero (suc (suc (suc zero))) = refl
-confirmed_cleared zero (suc (suc (suc (suc p)))) = cc
+confirmed_cleared zero (suc (suc (suc (suc p)))) =
+    alike (3 == suc (suc (suc (suc p)))) false
 confirmed_cleared (suc zero) zero = refl
 confirmed_cleared (suc zero) (suc zero) = refl
-confirmed_cleared (suc zero) (suc (suc p)) = refl
+confirmed_cleared (suc zero) (suc (suc p)) = alike (1 == suc (suc p)) false
 confirmed_cleared (suc (suc zero)) zero = refl
-confirmed_cleared (suc (suc zero)) (suc p) = refl
-confirmed_cleared (suc (suc (suc l))) p = cc
+confirmed_cleared (suc (suc zero)) (suc p) = alike (0 == suc p) false
+confirmed_cleared (suc (suc (suc l))) p =
+    alike (place_above tree.levels (suc (suc (suc l))) 3 == p) false
 
 path_cleared : IsDomainTree cleared → ClearsPath tree cleared 3
 path_cleared is =
