@@ -1,7 +1,6 @@
 -- Worked examples: moments that are not safe, along the axes: standby and retention, three levels,
 -- each level, a core that runs or is pending beside a claim, a depth between two others.
-use Rattle.std.proofs.Common.{◌≡◌, ◌++◌, ℕ, List, [], ◌∷◌, pos, false, true, refl}
-use Rattle.psci_fw_laws.specs.psci_board.declared.node.Node.{Node}
+use Rattle.std.proofs.Common.{◌≡◌, ◌++◌, ℕ, List, [], ◌∷◌, pos, false, refl}
 use Rattle.psci_fw_laws.specs.psci_messages.declared.kind.Kind.TheVariants.{Down}
 use Rattle.psci_world_spec.specs.declared.event.Event.{Event}
 use Rattle.psci_world_spec.specs.declared.event.Event.TheVariants.{Enter, Wake, Deliver, Take}

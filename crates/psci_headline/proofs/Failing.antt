@@ -18,7 +18,7 @@ use Rattle.psci_headline.specs.psci_world_spec.Histories.{sent}
 use Rattle.psci_headline.specs.psci_world_spec.Legal.{IsLegalPast, run_from}
 use Rattle.psci_headline.specs.psci_world_spec.Lists.{indexed}
 use Rattle.psci_headline.specs.psci_world_spec.Places.{place}
-use Rattle.psci_headline.specs.Drained.{AreAtRest, IsSettled, deliveries, is_settling}
+use Rattle.psci_headline.specs.Drained.{IsSettled, deliveries, is_settling}
 use Rattle.psci_headline.specs.Settling.{is_started}
 
 -- Steps ---------------------------------------------------------------------------------------
@@ -74,10 +74,9 @@ failing b past =
     ++ each (λ level. each (λ at. if_fails (is_agreed b past level at) (Agree level at))
     (range_with_len 0 (nodes b level))) (range_with_len 0 (height b + 1))))
 
--- After these records just this fails, and so the world is not at rest.
+-- After these records just this fails, and so the world is not at rest (`not_at_rest`).
 pub record IsUnrest (b : BoardValue) (past : List Record) (k : Clause) : Type 0 where
   pub only : failing b past ≡ k ∷ []
-  pub broken : AreAtRest b past → ⊥
 
 -- an option that is there is not None, and different numbers are not equal
 pub some_none : {A : Type 0} (o : Option A) → is_some o ≡ true → o ≡ None → ⊥

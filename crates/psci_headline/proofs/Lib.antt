@@ -118,6 +118,7 @@ pub mod Sources
 pub mod Resting
 -- All steps together; worked examples, and records that break each clause alone.
 pub mod Settled
+mod Excluded
 mod Failing
 mod RestLivesRows
 mod NameRows

@@ -1,6 +1,6 @@
 -- Worked examples: worlds at rest, and worlds of which just one thing is not so, in later
 -- lives and in OS-initiated mode.
-use Rattle.std.proofs.Common.{◌≡◌, ℕ, true, [], ◌∷◌, refl, arith}
+use Rattle.std.proofs.Common.{◌≡◌, ℕ, true, [], ◌∷◌, refl}
 use Rattle.psci_board.specs.declared.node.Node.{Node}
 use Rattle.psci_ctl_spec.specs.psci_messages.declared.kind.Kind.TheVariants.{Down}
 use Rattle.psci_headline.specs.psci_world_spec.declared.event.Event.TheVariants.{Enter, Reset}
@@ -9,7 +9,7 @@ use Rattle.psci_headline.proofs.world_spec.Scripts as scripts
 use Rattle.psci_headline.proofs.world_spec.Scripts.{acked, board, call, off, on_3, retention}
 use Rattle.psci_headline.proofs.world_spec.Scripts.{system_off, system_reset}
 use Rattle.psci_headline.proofs.Failing.{◌⇒◌, Agree, Entered, IsUnrest, Legal, Own, System}
-use Rattle.psci_headline.proofs.Failing.{apart, failing, past_from, some_none}
+use Rattle.psci_headline.proofs.Failing.{failing, past_from}
 
 -- a domain: its level and place
 abbrev at : ℕ → ℕ → Node
@@ -29,21 +29,21 @@ own_down_in_life_2 : IsUnrest board
     (past_from board [] (Legal (Enter 0 ∷ system_reset 0 ∷ Deliver 0 ∷ Enter 0 ∷ on_3 ∷ Deliver 1
     ∷ Enter 3 ∷ off 3 ∷ Deliver 2 ∷ []) ∷ [])) (Own 3)
 unfolding scripts.computing
-own_down_in_life_2 = record { only = refl; broken = λ r. some_none _ refl (r.own 3 (omega arith)) }
+own_down_in_life_2 = record { only = refl }
 
 -- an Off waits
 system_waits_in_life_2 : IsUnrest board
     (past_from board [] (Legal (Enter 0 ∷ system_reset 0 ∷ Deliver 0 ∷ Enter 0 ∷ on_3 ∷ Deliver 1
     ∷ Enter 3 ∷ system_off 0 ∷ []) ∷ [])) System
 unfolding scripts.computing
-system_waits_in_life_2 = record { only = refl; broken = λ r. some_none _ refl r.system }
+system_waits_in_life_2 = record { only = refl }
 
 -- core 3 was reset while it ran
 reset_core_waits_in_life_2 : IsUnrest board
     (past_from board [] (Legal (Enter 0 ∷ system_reset 0 ∷ Deliver 0 ∷ Enter 0 ∷ on_3 ∷ Deliver 1
     ∷ Enter 3 ∷ Reset 3 ∷ []) ∷ [])) (Entered 3)
 unfolding scripts.computing
-reset_core_waits_in_life_2 = record { only = refl; broken = λ r. r.entered 3 (omega arith) refl }
+reset_core_waits_in_life_2 = record { only = refl }
 
 -- core 3 was granted retention, and nothing was applied
 core_stays_on_in_life_2 : IsUnrest board
@@ -51,11 +51,7 @@ core_stays_on_in_life_2 : IsUnrest board
     ∷ Enter 3 ∷ retention 3 ∷ []) ∷ Deliver 2 ⇒ acked 2 Down 3 2 1 0 true ∷ Legal (Take 2 ∷ [])
     ∷ [])) (Agree 0 3)
 unfolding scripts.computing
-core_stays_on_in_life_2 = record {
-  only = refl;
-  broken = λ r. apart 2 0 refl
-      (r.agree (at 0 3) (record { level = omega arith; place = omega arith }));
-}
+core_stays_on_in_life_2 = record { only = refl }
 
 -- Life 3 ------------------------------------------------------------------------------------------
 
@@ -72,21 +68,21 @@ own_down_in_life_3 : IsUnrest board
     (past_from board [] (Legal (Enter 0 ∷ system_reset 0 ∷ Deliver 0 ∷ Enter 0 ∷ system_reset 0
     ∷ Deliver 1 ∷ Enter 0 ∷ on_3 ∷ Deliver 2 ∷ Enter 3 ∷ off 3 ∷ Deliver 3 ∷ []) ∷ [])) (Own 3)
 unfolding scripts.computing
-own_down_in_life_3 = record { only = refl; broken = λ r. some_none _ refl (r.own 3 (omega arith)) }
+own_down_in_life_3 = record { only = refl }
 
 -- an Off waits
 system_waits_in_life_3 : IsUnrest board
     (past_from board [] (Legal (Enter 0 ∷ system_reset 0 ∷ Deliver 0 ∷ Enter 0 ∷ system_reset 0
     ∷ Deliver 1 ∷ Enter 0 ∷ on_3 ∷ Deliver 2 ∷ Enter 3 ∷ system_off 0 ∷ []) ∷ [])) System
 unfolding scripts.computing
-system_waits_in_life_3 = record { only = refl; broken = λ r. some_none _ refl r.system }
+system_waits_in_life_3 = record { only = refl }
 
 -- core 3 was reset while it ran
 reset_core_waits_in_life_3 : IsUnrest board
     (past_from board [] (Legal (Enter 0 ∷ system_reset 0 ∷ Deliver 0 ∷ Enter 0 ∷ system_reset 0
     ∷ Deliver 1 ∷ Enter 0 ∷ on_3 ∷ Deliver 2 ∷ Enter 3 ∷ Reset 3 ∷ []) ∷ [])) (Entered 3)
 unfolding scripts.computing
-reset_core_waits_in_life_3 = record { only = refl; broken = λ r. r.entered 3 (omega arith) refl }
+reset_core_waits_in_life_3 = record { only = refl }
 
 -- core 3 was granted retention, and nothing was applied
 core_stays_on_in_life_3 : IsUnrest board
@@ -94,11 +90,7 @@ core_stays_on_in_life_3 : IsUnrest board
     ∷ Deliver 1 ∷ Enter 0 ∷ on_3 ∷ Deliver 2 ∷ Enter 3 ∷ retention 3 ∷ []) ∷ Deliver 3
     ⇒ acked 3 Down 3 3 1 0 true ∷ Legal (Take 3 ∷ []) ∷ [])) (Agree 0 3)
 unfolding scripts.computing
-core_stays_on_in_life_3 = record {
-  only = refl;
-  broken = λ r. apart 2 0 refl
-      (r.agree (at 0 3) (record { level = omega arith; place = omega arith }));
-}
+core_stays_on_in_life_3 = record { only = refl }
 
 -- OS-initiated mode -------------------------------------------------------------------------------
 
@@ -114,24 +106,21 @@ own_down_os_initiated : IsUnrest board
     (past_from board [] (Legal (Enter 0 ∷ call 0 0x8400000f 1 0 0 ∷ on_3 ∷ Deliver 0 ∷ Enter 3
     ∷ off 3 ∷ Deliver 1 ∷ []) ∷ [])) (Own 3)
 unfolding scripts.computing
-own_down_os_initiated = record {
-  only = refl;
-  broken = λ r. some_none _ refl (r.own 3 (omega arith));
-}
+own_down_os_initiated = record { only = refl }
 
 -- an Off waits
 system_waits_os_initiated : IsUnrest board
     (past_from board [] (Legal (Enter 0 ∷ call 0 0x8400000f 1 0 0 ∷ on_3 ∷ Deliver 0 ∷ Enter 3
     ∷ system_off 0 ∷ []) ∷ [])) System
 unfolding scripts.computing
-system_waits_os_initiated = record { only = refl; broken = λ r. some_none _ refl r.system }
+system_waits_os_initiated = record { only = refl }
 
 -- core 3 was reset while it ran
 reset_core_waits_os_initiated : IsUnrest board
     (past_from board [] (Legal (Enter 0 ∷ call 0 0x8400000f 1 0 0 ∷ on_3 ∷ Deliver 0 ∷ Enter 3
     ∷ Reset 3 ∷ []) ∷ [])) (Entered 3)
 unfolding scripts.computing
-reset_core_waits_os_initiated = record { only = refl; broken = λ r. r.entered 3 (omega arith) refl }
+reset_core_waits_os_initiated = record { only = refl }
 
 -- core 3 was granted retention, and nothing was applied
 core_stays_on_os_initiated : IsUnrest board
@@ -139,8 +128,4 @@ core_stays_on_os_initiated : IsUnrest board
     ∷ retention 3 ∷ []) ∷ Deliver 1 ⇒ acked 1 Down 3 1 1 0 true ∷ Legal (Take 1 ∷ []) ∷ []))
     (Agree 0 3)
 unfolding scripts.computing
-core_stays_on_os_initiated = record {
-  only = refl;
-  broken = λ r. apart 2 0 refl
-      (r.agree (at 0 3) (record { level = omega arith; place = omega arith }));
-}
+core_stays_on_os_initiated = record { only = refl }
