@@ -179,7 +179,7 @@ kind_down Start e = absurd (cc)
 kind_down Off e = absurd (cc)
 kind_down Reset e = absurd (cc)
 
-phase_away : (p : Phase) → is_away p ≡ true → p ≡ Away
+pub phase_away : (p : Phase) → is_away p ≡ true → p ≡ Away
 phase_away Pending e = absurd (cc)
 phase_away Running e = absurd (cc)
 phase_away (Suspended ask) e = absurd (cc)

@@ -1,21 +1,37 @@
 -- What fails by computing is excluded: no such world is at rest, has settled, or is told as it is.
-use Rattle.std.proofs.Common.{◌≡◌, ◌++◌, ◌≤◌, ◌<◌, ◌+◌, ℕ, zero, suc, Bool, true}
-use Rattle.std.proofs.Common.{not, List, [], ◌∷◌, None, is_some}
-use Rattle.std.proofs.Common.{refl, sym, ap, ◌∙◌, arith}
-use Rattle.std.specs.List.{range_with_len}
-use Rattle.std.proofs.lemmas.Bool.{eq-eqb}
+use Rattle.std.proofs.Common.{◌≡◌, ◌++◌, ◌≤◌, ◌<◌, ◌+◌, ℕ, zero, suc, Bool, true, false, ◌==◌}
+use Rattle.std.proofs.Common.{◌||◌, not, List, [], ◌∷◌, length, filter, Option, None, Some, is_some}
+use Rattle.std.proofs.Common.{nat_le, refl, sym, ap, ◌∙◌, arith, inl, inr}
+use Rattle.std.specs.List.{list_all, list_any, range_with_len}
+use Rattle.std.proofs.lemmas.Bool.{cases_Bool, cases_eq, eq-eqb, le-leb, or_left, or_right}
+use Rattle.std.proofs.lemmas.List.Sums.{list_all-from_AllPass}
 use Rattle.psci_board.specs.Board.{BoardValue, HasNode, cores, height, nodes}
 use Rattle.psci_board.specs.declared.node.Node.{Node}
-use Rattle.psci_ctl_spec.specs.psci_messages.Slots.{OfCore, OfSystem}
+use Rattle.psci_ctl_spec.specs.psci_messages.declared.kind.Kind.TheVariants.{Down}
+use Rattle.psci_ctl_spec.specs.psci_messages.Message.{MessageValue}
+use Rattle.psci_ctl_spec.specs.psci_messages.Slots.{OfCore, OfSystem, is_kind}
+use Rattle.psci_fw_laws.proofs.Passing.{one_all}
+use Rattle.psci_headline.specs.psci_fw_spec.NodeHwState.{hw_code}
+use Rattle.psci_headline.specs.psci_fw_spec.Phases.{is_away}
+use Rattle.psci_headline.specs.psci_fw_spec.SystemCalls.{is_off_status}
 use Rattle.psci_headline.specs.psci_world_spec.declared.place.Place.{Place}
 use Rattle.psci_headline.specs.psci_world_spec.declared.place.Place.TheVariants as places
 use Rattle.psci_headline.specs.psci_world_spec.declared.said.Record.{Record}
 use Rattle.psci_headline.specs.psci_world_spec.Histories.{controller_values, firmware_values}
+use Rattle.psci_headline.specs.psci_world_spec.Histories.{sent}
+use Rattle.psci_headline.specs.psci_world_spec.Lists.{indexed}
 use Rattle.psci_headline.specs.psci_world_spec.Places.{place}
-use Rattle.psci_headline.specs.Drained.{AreAtRest}
+use Rattle.psci_headline.specs.Complete.{IsToldWhole}
+use Rattle.psci_headline.specs.Drained.{AreAtRest, IsSettled, deliveries}
 use Rattle.psci_headline.specs.Settling.{is_started}
-use Rattle.psci_headline.proofs.Failing.{Clause, IsUnrest, each, failing}
-use Rattle.psci_headline.proofs.Failing.{if_fails, is_agreed}
+use Rattle.psci_headline.proofs.CoreSteps.{phase_away}
+use Rattle.psci_headline.proofs.Failing.{Clause, IsUnrest, IsUnsettled, Saying, downs, each}
+use Rattle.psci_headline.proofs.Failing.{failing, if_fails, if_some, is_agreed, is_down}
+use Rattle.psci_headline.proofs.Finding.{indexed_at}
+use Rattle.psci_headline.proofs.Slept.{status_off}
+use Rattle.psci_headline.proofs.Taking.{same_kind}
+use Rattle.psci_headline.proofs.Untold as untold
+use Rattle.psci_headline.proofs.Untold.{IsUntold, follows, is_gone, is_off, is_told_hw}
 
 -- Lists -----------------------------------------------------------------------------------------
 
@@ -78,3 +94,75 @@ pub not_at_rest : (b : BoardValue) (past : List Record) (k : Clause) → IsUnres
     → AreAtRest b past → ⊥
 not_at_rest b past k u r =
     one_none _ k u.only (none_fails b past r.own r.system r.entered r.agree)
+
+-- Settled ---------------------------------------------------------------------------------------
+
+-- A Down that was sent.
+record IsDown (o : Option MessageValue) : Type 0 where
+  pub message : MessageValue
+  pub at : o ≡ Some message
+  pub kind : message.kind ≡ Down
+
+a_down : (o : Option MessageValue) → is_down o ≡ true → IsDown o
+a_down None e = absurd (cc)
+a_down (Some m) e = record { message = m; at = refl; kind = same_kind m.kind Down e }
+
+-- what passes both tests is found
+kept_one : (p test : ℕ → Bool) (a count k : ℕ) → a ≤ k → k < a + count → test k ≡ true
+    → p k ≡ true → list_any p (filter test (range_with_len a count)) ≡ true
+kept_one p test a zero k low high kept pass = absurd (omega (arith, low, high))
+kept_one p test a (suc count) k low high kept pass = elim (cases_eq a k) [
+  | inl same ↦ rw (ap test same ∙ kept) (or_left _ _ (ap p same ∙ pass))
+  | inr other ↦
+      let rest = kept_one p test (a + 1) count k (omega (arith, low, other)) (omega (arith, high))
+      kept pass in
+      elim (cases_Bool (test a)) [
+        | inl stays ↦ rw stays (or_right _ _ rest)
+        | inr dropped ↦ rw dropped rest
+      ]
+]
+
+-- where just one thing fails the world has not settled
+pub not_settled : (b : BoardValue) (before added : List Record) (rounds : ℕ) (s : Saying)
+    → IsUnsettled b before added rounds s → IsSettled b before added rounds → ⊥
+not_settled b before added rounds s u r =
+    let past : List Record = added ++ before in
+    let tests : ℕ → Bool = λ k. is_down (indexed (sent past) k) in
+    let most : list_all (λ k. nat_le (deliveries k added) rounds) (downs past) ≡ true =
+    one_all (λ k. nat_le (deliveries k added) rounds) tests 0 (length (sent past))
+    (λ k low high down. let m = a_down (indexed (sent past) k) down in
+    le-leb _ _ (r.most k m.message m.at m.kind)) in
+    let some : (rounds == 0 || list_any (λ k. deliveries k added == rounds) (downs past)) ≡ true =
+    elim (cases_eq rounds 0) [
+      | inl none ↦ or_left _ _ (eq-eqb _ _ none)
+      | inr other ↦
+          let d = r.some (omega (arith, other)) in
+          or_right _ _ (kept_one (λ k. deliveries k added == rounds) tests 0 (length (sent past))
+          d.number (omega arith)
+          (omega (arith, (indexed_at (sent past) d.number d.message d.at).0))
+          (ap is_down d.at ∙ ap (λ k. is_kind k Down) d.kind) (eq-eqb _ _ d.times))
+    ] in
+    one_none _ s u.only
+    (both_none _ _ (passed _ _ (list_all-from_AllPass _ added r.events))
+    (both_none _ _ (ap if_some (none_fails b past r.rest.own r.rest.system r.rest.entered
+    r.rest.agree)) (both_none _ _ (passed _ _ (le-leb _ _ r.few))
+    (both_none _ _ (passed _ _ most) (passed _ _ some)))))
+
+-- Told ------------------------------------------------------------------------------------------
+
+follows_from : (s t : Bool) → (s ≡ true → t ≡ true) → follows s t ≡ true
+follows_from true t then = then refl
+follows_from false t then = refl
+
+-- where just one thing fails not all is told
+pub not_told : (b : BoardValue) (past : List Record) (k : untold.Clause) → IsUntold b past k
+    → IsToldWhole b past → ⊥
+not_told b past k u w =
+    let v = firmware_values b past in
+    one_none _ k u.only
+    (both_none _ _ (no_domain b (is_told_hw b past) _
+    (λ n has. eq-eqb _ _ (ap hw_code (w.hw n has))))
+    (both_none _ _ (none_in _ _ (cores b) (λ c on. follows_from (is_gone b past c) _
+    (λ gone. ap is_off_status (w.off c on (phase_away (v.phase c) gone)))))
+    (none_in _ _ (cores b) (λ c on. follows_from (is_off b past c) _
+    (λ off. ap is_away (w.away c on (status_off (v.status c) off)))))))

@@ -2,10 +2,7 @@
 -- it is once the world has settled.
 use Rattle.std.specs.Prelude.{◌≡◌, ◌++◌, ℕ, ◌+◌, Bool, true, false, ◌==◌, ◌||◌, not, nat_le, List}
 use Rattle.std.specs.Prelude.{[], ◌∷◌, length, filter, take, Option, None, Some, is_some}
-use Rattle.std.proofs.Common.{sym, ◌∙◌}
-use Rattle.std.proofs.lemmas.Bool.{eq-eqb}
-use Rattle.std.proofs.lemmas.List.Sums.{list_all-from_AllPass}
-use Rattle.std.specs.List.{AllPass, list_all, list_any, range_with_len}
+use Rattle.std.specs.List.{list_all, list_any, range_with_len}
 use Rattle.psci_board.specs.Board.{BoardValue, cores, height, nodes}
 use Rattle.psci_ctl_spec.specs.psci_messages.declared.kind.Kind.TheVariants.{Down}
 use Rattle.psci_ctl_spec.specs.psci_messages.Message.{MessageValue}
@@ -15,10 +12,10 @@ use Rattle.psci_headline.specs.psci_world_spec.declared.said.Record.{Record}
 use Rattle.psci_headline.specs.psci_world_spec.declared.said.Said.{Said}
 use Rattle.psci_headline.specs.psci_world_spec.Histories.{controller_values, firmware_values}
 use Rattle.psci_headline.specs.psci_world_spec.Histories.{sent}
-use Rattle.psci_headline.specs.psci_world_spec.Legal.{IsLegalPast, run_from}
+use Rattle.psci_headline.specs.psci_world_spec.Legal.{run_from}
 use Rattle.psci_headline.specs.psci_world_spec.Lists.{indexed}
 use Rattle.psci_headline.specs.psci_world_spec.Places.{place}
-use Rattle.psci_headline.specs.Drained.{IsSettled, deliveries, is_settling}
+use Rattle.psci_headline.specs.Drained.{deliveries, is_settling}
 use Rattle.psci_headline.specs.Settling.{is_started}
 
 -- Steps ---------------------------------------------------------------------------------------
@@ -78,20 +75,6 @@ failing b past =
 pub record IsUnrest (b : BoardValue) (past : List Record) (k : Clause) : Type 0 where
   pub only : failing b past ≡ k ∷ []
 
--- an option that is there is not None, and different numbers are not equal
-pub some_none : {A : Type 0} (o : Option A) → is_some o ≡ true → o ≡ None → ⊥
-some_none None is e = absurd (cc)
-some_none (Some x) is e = absurd (cc)
-
-pub apart : (m n : ℕ) → (m == n) ≡ false → m ≡ n → ⊥
-apart m n other same = let no : true ≡ false = sym (eq-eqb m n same) ∙ other in absurd (cc)
-
--- what is no entry, delivery or take
-pub other_events : (added : List Record) → list_all (λ r. is_settling r.event) added ≡ false
-    → AllPass (λ r. is_settling r.event) added → ⊥
-other_events added other are =
-    let no : true ≡ false = sym (list_all-from_AllPass _ added are) ∙ other in absurd (cc)
-
 -- Settled -------------------------------------------------------------------------------------
 
 -- What is said of a world that has settled after some records more, each by itself.
@@ -132,12 +115,10 @@ unsettled b before added rounds =
     ++ if_fails (rounds == 0 || list_any (λ k. deliveries k added == rounds)
     (downs (added ++ before))) Reached)))
 
--- After these records more, which are legal, just this fails, and so the world has not settled.
+-- After these records more just this fails, and so the world has not settled (`not_settled`).
 pub record IsUnsettled (b : BoardValue) (before added : List Record) (rounds : ℕ) (s : Saying)
     : Type 0 where
-  pub legal : IsLegalPast b (added ++ before)
   pub only : unsettled b before added rounds ≡ s ∷ []
-  pub broken : IsSettled b before added rounds → ⊥
 
 -- the records that these events add to those before
 abbrev pub added_by : BoardValue → List Record → List Event → List Record

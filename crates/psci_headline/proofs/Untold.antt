@@ -17,7 +17,7 @@ use Rattle.psci_headline.specs.psci_world_spec.Places.{place}
 use Rattle.psci_headline.proofs.world_spec.Scripts as scripts
 use Rattle.psci_headline.specs.Settling.{begun, is_halting, is_started, is_waiting, round, rounds}
 use Rattle.psci_headline.specs.Settling.{settled}
-use Rattle.psci_headline.specs.Complete.{IsToldWhole}
+use Rattle.psci_headline.proofs.Failing.{each, if_fails, is_agreed}
 
 unfoldable pub computing : Unit {0}
 unfolding scripts.computing settled begun round is_waiting rounds
@@ -48,11 +48,6 @@ abbrev pub is_still : BoardValue → List Record → ℕ → Bool
 is_still b past c = not (is_some ((firmware_values b past).outstanding (OfCore c)))
     && not (is_started (place b past c))
 
--- a domain is as deep as it was granted
-abbrev pub is_agreed : BoardValue → List Record → ℕ → ℕ → Bool
-is_agreed b past level place =
-    (firmware_values b past).granted level place == (controller_values b past).depth level place
-
 -- the world is at rest, and the life does not halt
 abbrev pub rests : BoardValue → List Record → Bool
 rests b past =
@@ -72,16 +67,6 @@ pub data Clause : Type 0 where
   IsOff : (core : ℕ) → Clause
   -- a core that is OFF is off or going off
   IsAway : (core : ℕ) → Clause
-
--- this one, if its test fails
-abbrev pub if_fails : Bool → Clause → List Clause
-if_fails true k = []
-if_fails false k = k ∷ []
-
--- what fails at some of these, which are numbered
-abbrev pub each : (ℕ → List Clause) → List ℕ → List Clause
-each fails [] = []
-each fails (k ∷ ks) = fails k ++ each fails ks
 
 -- the second test passes, where the first one does
 abbrev pub follows : Bool → Bool → Bool
@@ -109,7 +94,6 @@ failing b past =
     ++ each (λ c. if_fails (follows (is_off b past c) (is_gone b past c)) (IsAway c))
     (range_with_len 0 (cores b)))
 
--- After these records just this fails, and so not all is told.
+-- After these records just this fails, and so not all is told (`not_told`).
 pub record IsUntold (b : BoardValue) (past : List Record) (k : Clause) : Type 0 where
   pub only : failing b past ≡ k ∷ []
-  pub broken : IsToldWhole b past → ⊥
