@@ -27,6 +27,7 @@ pub mod Functions
 mod HaltingRows
 pub mod Happening
 mod HardwareRows
+mod Histories
 mod LevelsRows
 pub mod LiveClaims
 pub mod LiveOnes

@@ -1,6 +1,5 @@
 -- Worked examples: a world that is at rest, and worlds of which just one thing is not so.
-use Rattle.std.proofs.Common.{◌≡◌, ℕ, true, false, List, [], ◌∷◌, refl}
-use Rattle.psci_board.specs.declared.node.Node.{Node}
+use Rattle.std.proofs.Common.{◌++◌, ◌≡◌, ℕ, true, false, List, [], ◌∷◌, refl}
 use Rattle.psci_ctl_spec.specs.psci_messages.declared.kind.Kind.TheVariants.{Down}
 use Rattle.psci_headline.specs.psci_world_spec.declared.event.Event.{Event}
 use Rattle.psci_headline.specs.psci_world_spec.declared.event.Event.TheVariants.{Enter, Reset}
@@ -10,20 +9,13 @@ use Rattle.psci_headline.specs.psci_world_spec.declared.said.Record.{Record}
 use Rattle.psci_headline.proofs.world_spec.Scripts as scripts
 use Rattle.psci_headline.proofs.world_spec.Scripts.{acked, board, call, off, on_3, part}
 use Rattle.psci_headline.proofs.world_spec.Scripts.{retention, sends, stops, system_reset, tall}
+use Rattle.psci_headline.proofs.Histories.{on_in_group, third_on}
 use Rattle.psci_headline.proofs.Failing.{◌⇒◌, Agree, Entered, IsUnrest, Legal, Own, Steps, System}
 use Rattle.psci_headline.proofs.Failing.{failing, past_from}
 
 -- the records after these steps, on two clusters of two cores
 abbrev after : List Steps → List Record
 after steps = past_from board [] steps
-
--- a domain: its level and place
-abbrev at : ℕ → ℕ → Node
-at level place = record { level = level; place = place }
-
--- core 3 is on, and nothing is outstanding
-abbrev third_on : List Event
-third_on = Enter 0 ∷ on_3 ∷ Deliver 0 ∷ Enter 3 ∷ []
 
 -- a core asks for standby of itself alone
 abbrev standby : ℕ → Event
@@ -94,9 +86,9 @@ unfolding scripts.computing
 system_stays_on = record { only = refl }
 
 -- three levels above the cores: the group of the last core, and the system
-group_stays_on : IsUnrest tall (past_from tall [] (Legal (Enter 0
-    ∷ call 0 0xc4000003 0x10100 0x40001000 7 ∷ Deliver 0 ∷ Enter 3 ∷ off 3 ∷ [])
-    ∷ Deliver 1 ⇒ acked 1 Down 3 1 1 2 true ∷ Legal (Take 1 ∷ []) ∷ [])) (Agree 2 1)
+group_stays_on : IsUnrest tall
+    (past_from tall [] (Legal (on_in_group ++ off 3 ∷ []) ∷ Deliver 1 ⇒ acked 1 Down 3 1 1 2 true
+    ∷ Legal (Take 1 ∷ []) ∷ [])) (Agree 2 1)
 unfolding scripts.computing
 group_stays_on = record { only = refl }
 

@@ -1,27 +1,20 @@
 -- Worked examples: worlds that have settled, and worlds of which one thing that is said of them is
 -- not so, of the boot core and in the extended format.
 use Rattle.std.proofs.Common.{◌≡◌, ◌++◌, List, [], ◌∷◌, refl}
-use Rattle.psci_board.specs.Board.{BoardValue}
-use Rattle.psci_headline.specs.psci_abi.declared.format.Format.TheVariants.{Extended}
 use Rattle.psci_headline.specs.psci_world_spec.declared.event.Event.{Event}
-use Rattle.psci_headline.specs.psci_world_spec.declared.event.Event.TheVariants.{Enter}
 use Rattle.psci_headline.specs.psci_world_spec.declared.event.Event.TheVariants.{Deliver, Take}
 use Rattle.psci_headline.proofs.world_spec.Scripts as scripts
 use Rattle.psci_headline.proofs.world_spec.Scripts.{board, call, off, on_3}
 use Rattle.psci_headline.proofs.world_spec.Scripts.{version}
+use Rattle.psci_headline.proofs.Histories.{extended, third_on}
 use Rattle.psci_headline.proofs.Failing.{Events, Few, Most, Own, Reached, Rest}
 use Rattle.psci_headline.proofs.SettledRows.{Fails, fails_after}
-
--- two clusters of two cores, in the extended format
-abbrev extended : BoardValue
-extended = record board { format = Extended }
 
 -- Boot core ---------------------------------------------------------------------------------------
 
 -- core 0 has gone off
 abbrev off_boot_core : List Event
-off_boot_core =
-    Enter 0 ∷ on_3 ∷ Deliver 0 ∷ Enter 3 ∷ off 0 ∷ []
+off_boot_core = third_on ++ off 0 ∷ []
 
 -- and core 3 is in standby
 abbrev two_boot_core : List Event
@@ -66,8 +59,7 @@ two_rounds_boot_core = record { only = refl }
 
 -- core 3 has gone off
 abbrev off_extended : List Event
-off_extended =
-    Enter 0 ∷ on_3 ∷ Deliver 0 ∷ Enter 3 ∷ off 3 ∷ []
+off_extended = third_on ++ off 3 ∷ []
 
 -- and core 0 is in standby
 abbrev two_extended : List Event

@@ -2,11 +2,11 @@
 -- not so, in later lives and in OS-initiated mode.
 use Rattle.std.proofs.Common.{◌≡◌, ◌++◌, List, [], ◌∷◌, refl}
 use Rattle.psci_headline.specs.psci_world_spec.declared.event.Event.{Event}
-use Rattle.psci_headline.specs.psci_world_spec.declared.event.Event.TheVariants.{Enter}
 use Rattle.psci_headline.specs.psci_world_spec.declared.event.Event.TheVariants.{Deliver, Take}
 use Rattle.psci_headline.proofs.world_spec.Scripts as scripts
 use Rattle.psci_headline.proofs.world_spec.Scripts.{board, call, off, on_3}
 use Rattle.psci_headline.proofs.world_spec.Scripts.{system_reset, version}
+use Rattle.psci_headline.proofs.Histories.{on_in_life_2, on_in_life_3, on_os_initiated}
 use Rattle.psci_headline.proofs.Failing.{Events, Few, Most, Own, Reached, Rest}
 use Rattle.psci_headline.proofs.SettledRows.{Fails, fails_after}
 
@@ -14,8 +14,7 @@ use Rattle.psci_headline.proofs.SettledRows.{Fails, fails_after}
 
 -- core 3 has gone off
 abbrev off_in_life_2 : List Event
-off_in_life_2 =
-    Enter 0 ∷ system_reset 0 ∷ Deliver 0 ∷ Enter 0 ∷ on_3 ∷ Deliver 1 ∷ Enter 3 ∷ off 3 ∷ []
+off_in_life_2 = on_in_life_2 ++ off 3 ∷ []
 
 -- and core 0 is in standby
 abbrev two_in_life_2 : List Event
@@ -60,9 +59,7 @@ two_rounds_in_life_2 = record { only = refl }
 
 -- core 3 has gone off
 abbrev off_in_life_3 : List Event
-off_in_life_3 =
-    Enter 0 ∷ system_reset 0 ∷ Deliver 0 ∷ Enter 0 ∷ system_reset 0 ∷ Deliver 1 ∷ Enter 0 ∷ on_3
-    ∷ Deliver 2 ∷ Enter 3 ∷ off 3 ∷ []
+off_in_life_3 = on_in_life_3 ++ off 3 ∷ []
 
 -- and core 0 is in standby
 abbrev two_in_life_3 : List Event
@@ -107,8 +104,7 @@ two_rounds_in_life_3 = record { only = refl }
 
 -- core 3 has gone off
 abbrev off_os_initiated : List Event
-off_os_initiated =
-    Enter 0 ∷ call 0 0x8400000f 1 0 0 ∷ on_3 ∷ Deliver 0 ∷ Enter 3 ∷ off 3 ∷ []
+off_os_initiated = on_os_initiated ++ off 3 ∷ []
 
 -- and core 0 is in standby
 abbrev two_os_initiated : List Event

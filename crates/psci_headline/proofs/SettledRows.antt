@@ -16,6 +16,7 @@ use Rattle.psci_headline.proofs.world_spec.Scripts as scripts
 use Rattle.psci_headline.proofs.world_spec.Scripts.{board, call, enters, off, on_3, one_core}
 use Rattle.psci_headline.proofs.world_spec.Scripts.{tall, version}
 use Rattle.psci_headline.specs.Drained.{IsSettled}
+use Rattle.psci_headline.proofs.Histories.{third_on}
 use Rattle.psci_headline.proofs.Failing.{Entered, Events, Few, IsUnsettled, Most, Own, Reached}
 use Rattle.psci_headline.proofs.Failing.{Rest}
 use Rattle.psci_headline.proofs.Failing.{Saying, added_by}
@@ -65,10 +66,6 @@ adds_legal b first more =
     ∙ take-append_seam a.added before in
     subst (IsLegalPast b) (sym (ap (λ l. l ++ before) first_ones ∙ a.parts))
     (stays_legal b before more (stays_legal b [] first tt))
-
--- core 3 is on; and then it goes off
-abbrev third_on : List Event
-third_on = Enter 0 ∷ on_3 ∷ Deliver 0 ∷ Enter 3 ∷ []
 
 abbrev third_off : List Event
 third_off = third_on ++ off 3 ∷ []

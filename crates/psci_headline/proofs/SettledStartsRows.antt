@@ -2,11 +2,11 @@
 -- not so, by later starts.
 use Rattle.std.proofs.Common.{◌≡◌, ◌++◌, List, [], ◌∷◌, refl}
 use Rattle.psci_headline.specs.psci_world_spec.declared.event.Event.{Event}
-use Rattle.psci_headline.specs.psci_world_spec.declared.event.Event.TheVariants.{Enter, Wake}
 use Rattle.psci_headline.specs.psci_world_spec.declared.event.Event.TheVariants.{Deliver, Take}
 use Rattle.psci_headline.proofs.world_spec.Scripts as scripts
 use Rattle.psci_headline.proofs.world_spec.Scripts.{board, call, off, on_3, retention}
 use Rattle.psci_headline.proofs.world_spec.Scripts.{version}
+use Rattle.psci_headline.proofs.Histories.{on_in_start_2, on_in_start_3, on_in_start_4}
 use Rattle.psci_headline.proofs.Failing.{Events, Few, Most, Own, Reached, Rest}
 use Rattle.psci_headline.proofs.SettledRows.{Fails, fails_after}
 
@@ -14,8 +14,7 @@ use Rattle.psci_headline.proofs.SettledRows.{Fails, fails_after}
 
 -- core 3 has gone off
 abbrev off_in_start_2 : List Event
-off_in_start_2 =
-    Enter 0 ∷ on_3 ∷ Deliver 0 ∷ Enter 3 ∷ retention 3 ∷ Deliver 1 ∷ Wake 3 ∷ Enter 3 ∷ off 3 ∷ []
+off_in_start_2 = on_in_start_2 ++ off 3 ∷ []
 
 -- and core 0 is in standby
 abbrev two_in_start_2 : List Event
@@ -60,9 +59,7 @@ two_rounds_in_start_2 = record { only = refl }
 
 -- core 3 has gone off
 abbrev off_in_start_3 : List Event
-off_in_start_3 =
-    Enter 0 ∷ on_3 ∷ Deliver 0 ∷ Enter 3 ∷ retention 3 ∷ Deliver 1 ∷ Wake 3 ∷ Enter 3 ∷ retention 3
-    ∷ Deliver 2 ∷ Wake 3 ∷ Enter 3 ∷ off 3 ∷ []
+off_in_start_3 = on_in_start_3 ++ off 3 ∷ []
 
 -- and core 0 is in standby
 abbrev two_in_start_3 : List Event
@@ -107,9 +104,7 @@ two_rounds_in_start_3 = record { only = refl }
 
 -- core 3 has gone off
 abbrev off_in_start_4 : List Event
-off_in_start_4 =
-    Enter 0 ∷ on_3 ∷ Deliver 0 ∷ Enter 3 ∷ retention 3 ∷ Deliver 1 ∷ Wake 3 ∷ Enter 3 ∷ retention 3
-    ∷ Deliver 2 ∷ Wake 3 ∷ Enter 3 ∷ retention 3 ∷ Deliver 3 ∷ Wake 3 ∷ Enter 3 ∷ off 3 ∷ []
+off_in_start_4 = on_in_start_4 ++ off 3 ∷ []
 
 -- and core 0 is in standby
 abbrev two_in_start_4 : List Event

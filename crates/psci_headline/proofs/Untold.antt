@@ -3,7 +3,6 @@ use Rattle.std.specs.Prelude.{◌≡◌, ◌++◌, ℕ, ◌+◌, Bool, true, fal
 use Rattle.std.specs.Prelude.{is_some}
 use Rattle.std.specs.List.{list_all, range_with_len}
 use Rattle.psci_headline.specs.psci_board.Board.{BoardValue, cores, height, nodes}
-use Rattle.psci_headline.specs.psci_board.declared.node.Node.{Node}
 use Rattle.psci_headline.specs.psci_messages.Slots.{OfCore, OfSystem}
 use Rattle.psci_headline.specs.psci_fw_spec.NodeHwState.{hw_at, hw_code, node_hw}
 use Rattle.psci_headline.specs.psci_fw_spec.Phases.{is_away}
@@ -12,11 +11,11 @@ use Rattle.psci_headline.specs.psci_world_spec.declared.event.Event.{Event}
 use Rattle.psci_headline.specs.psci_world_spec.declared.said.Record.{Record}
 use Rattle.psci_headline.specs.psci_world_spec.declared.said.Said.{Said}
 use Rattle.psci_headline.specs.psci_world_spec.Histories.{controller_values, firmware_values}
-use Rattle.psci_headline.specs.psci_world_spec.Legal.{run_from}
 use Rattle.psci_headline.specs.psci_world_spec.Places.{place}
 use Rattle.psci_headline.proofs.world_spec.Scripts as scripts
 use Rattle.psci_headline.specs.Settling.{begun, is_halting, is_started, is_waiting, round, rounds}
 use Rattle.psci_headline.specs.Settling.{settled}
+use Rattle.psci_headline.proofs.Histories.{after, at}
 use Rattle.psci_headline.proofs.Failing.{each, if_fails, is_agreed}
 
 unfoldable pub computing : Unit {0}
@@ -25,10 +24,6 @@ computing = tt
 
 -- Records ---------------------------------------------------------------------------------------
 
--- the records after these events, with what is legal to say of each
-abbrev pub after : BoardValue → List Event → List Record
-after b events = run_from b [] events
-
 -- where the world has settled after these events
 abbrev pub settles : BoardValue → List Event → List Record
 settles b events = (settled b (after b events)).past
@@ -36,10 +31,6 @@ settles b events = (settled b (after b events)).past
 -- after those records this is said of an event
 abbrev pub says : List Record → Event → Said → List Record
 says past event said = record { event = event; said = said } ∷ past
-
--- a domain: its level and place
-abbrev pub at : ℕ → ℕ → Node
-at level place = record { level = level; place = place }
 
 -- At rest ---------------------------------------------------------------------------------------
 
