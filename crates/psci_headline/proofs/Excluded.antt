@@ -25,8 +25,9 @@ use Rattle.psci_headline.specs.Complete.{IsToldWhole}
 use Rattle.psci_headline.specs.Drained.{AreAtRest, IsSettled, deliveries}
 use Rattle.psci_headline.specs.Settling.{is_started}
 use Rattle.psci_headline.proofs.CoreSteps.{phase_away}
+use Rattle.psci_headline.proofs.Checking.{if_fails}
 use Rattle.psci_headline.proofs.Failing.{Clause, IsUnrest, IsUnsettled, Saying, downs, each}
-use Rattle.psci_headline.proofs.Failing.{failing, if_fails, if_some, is_agreed, is_down}
+use Rattle.psci_headline.proofs.Failing.{failing, if_some, is_agreed, is_down}
 use Rattle.psci_headline.proofs.Finding.{indexed_at}
 use Rattle.psci_headline.proofs.Slept.{status_off}
 use Rattle.psci_headline.proofs.Taking.{same_kind}

@@ -1,6 +1,6 @@
 -- Worked examples are stated so: records after which just one thing is not as it is at rest, or as
 -- it is once the world has settled.
-use Rattle.std.specs.Prelude.{◌≡◌, ◌++◌, ℕ, ◌+◌, Bool, true, false, ◌==◌, ◌||◌, not, nat_le, List}
+use Rattle.std.specs.Prelude.{◌≡◌, ◌++◌, ℕ, ◌+◌, Bool, false, ◌==◌, ◌||◌, not, nat_le, List}
 use Rattle.std.specs.Prelude.{[], ◌∷◌, length, filter, take, Option, None, Some, is_some}
 use Rattle.std.specs.List.{list_all, list_any, range_with_len}
 use Rattle.psci_board.specs.Board.{BoardValue, cores, height, nodes}
@@ -9,7 +9,6 @@ use Rattle.psci_ctl_spec.specs.psci_messages.Message.{MessageValue}
 use Rattle.psci_ctl_spec.specs.psci_messages.Slots.{OfCore, OfSystem, is_kind}
 use Rattle.psci_headline.specs.psci_world_spec.declared.event.Event.{Event}
 use Rattle.psci_headline.specs.psci_world_spec.declared.said.Record.{Record}
-use Rattle.psci_headline.specs.psci_world_spec.declared.said.Said.{Said}
 use Rattle.psci_headline.specs.psci_world_spec.Histories.{controller_values, firmware_values}
 use Rattle.psci_headline.specs.psci_world_spec.Histories.{sent}
 use Rattle.psci_headline.specs.psci_world_spec.Legal.{run_from}
@@ -17,21 +16,7 @@ use Rattle.psci_headline.specs.psci_world_spec.Lists.{indexed}
 use Rattle.psci_headline.specs.psci_world_spec.Places.{place}
 use Rattle.psci_headline.specs.Drained.{deliveries, is_settling}
 use Rattle.psci_headline.specs.Settling.{is_started}
-
--- Steps ---------------------------------------------------------------------------------------
-
-infix 80 ◌⇒◌
--- Steps of a run: events of which that is said which is legal, or one of which this is said.
-pub data Steps : Type 0 where
-  Legal : (events : List Event) → Steps
-  ◌⇒◌ : (event : Event) (said : Said) → Steps
-
--- the records after these steps, the first step first
-abbrev pub past_from : BoardValue → List Record → List Steps → List Record
-past_from b past [] = past
-past_from b past (Legal events ∷ steps) = past_from b (run_from b past events) steps
-past_from b past ((event ⇒ said) ∷ steps) =
-    past_from b (record { event = event; said = said } ∷ past) steps
+use Rattle.psci_headline.proofs.Checking.{if_fails}
 
 -- At rest -------------------------------------------------------------------------------------
 
@@ -44,11 +29,6 @@ pub data Clause : Type 0 where
   Entered : (core : ℕ) → Clause
   -- a domain is as deep as it was granted
   Agree : (level place : ℕ) → Clause
-
--- this one, if its test fails
-abbrev pub if_fails : {A : Type 0} → Bool → A → List A
-if_fails true k = []
-if_fails false k = k ∷ []
 
 -- what fails at some of these, which are numbered
 abbrev pub each : {A : Type 0} → (ℕ → List A) → List ℕ → List A

@@ -8,8 +8,8 @@ use Rattle.psci_headline.proofs.world_spec.Scripts as scripts
 use Rattle.psci_headline.proofs.world_spec.Scripts.{acked, board, call, off, on_3, retention}
 use Rattle.psci_headline.proofs.world_spec.Scripts.{system_off, system_reset}
 use Rattle.psci_headline.proofs.Histories.{on_in_life_2, on_in_life_3, on_os_initiated}
-use Rattle.psci_headline.proofs.Failing.{◌⇒◌, Agree, Entered, IsUnrest, Legal, Own, System}
-use Rattle.psci_headline.proofs.Failing.{failing, past_from}
+use Rattle.psci_headline.proofs.Checking.{◌⇒◌, Legal, past_from}
+use Rattle.psci_headline.proofs.Failing.{Agree, Entered, IsUnrest, Own, System, failing}
 
 -- Life 2 ------------------------------------------------------------------------------------------
 

@@ -10,8 +10,8 @@ use Rattle.psci_headline.proofs.world_spec.Scripts as scripts
 use Rattle.psci_headline.proofs.world_spec.Scripts.{acked, board, call, off, on_3, part}
 use Rattle.psci_headline.proofs.world_spec.Scripts.{retention, sends, stops, system_reset, tall}
 use Rattle.psci_headline.proofs.Histories.{on_in_group, third_on}
-use Rattle.psci_headline.proofs.Failing.{◌⇒◌, Agree, Entered, IsUnrest, Legal, Own, Steps, System}
-use Rattle.psci_headline.proofs.Failing.{failing, past_from}
+use Rattle.psci_headline.proofs.Checking.{◌⇒◌, Legal, Steps, past_from}
+use Rattle.psci_headline.proofs.Failing.{Agree, Entered, IsUnrest, Own, System, failing}
 
 -- the records after these steps, on two clusters of two cores
 abbrev after : List Steps → List Record

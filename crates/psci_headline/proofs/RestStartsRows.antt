@@ -9,8 +9,8 @@ use Rattle.psci_headline.proofs.world_spec.Scripts.{acked, board, call, off, on_
 use Rattle.psci_headline.proofs.world_spec.Scripts.{system_off, tall}
 use Rattle.psci_headline.proofs.Histories.{extended, on_in_group, on_in_start_2, on_in_start_3}
 use Rattle.psci_headline.proofs.Histories.{on_in_start_4, third_on}
-use Rattle.psci_headline.proofs.Failing.{◌⇒◌, Agree, Entered, IsUnrest, Legal, Own, System}
-use Rattle.psci_headline.proofs.Failing.{failing, past_from}
+use Rattle.psci_headline.proofs.Checking.{◌⇒◌, Legal, past_from}
+use Rattle.psci_headline.proofs.Failing.{Agree, Entered, IsUnrest, Own, System, failing}
 
 -- Later starts ------------------------------------------------------------------------------------
 

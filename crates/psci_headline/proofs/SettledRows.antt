@@ -18,9 +18,7 @@ use Rattle.psci_headline.proofs.world_spec.Scripts.{tall, version}
 use Rattle.psci_headline.specs.Drained.{IsSettled}
 use Rattle.psci_headline.proofs.Histories.{third_on}
 use Rattle.psci_headline.proofs.Failing.{Entered, Events, Few, IsUnsettled, Most, Own, Reached}
-use Rattle.psci_headline.proofs.Failing.{Rest}
-use Rattle.psci_headline.proofs.Failing.{Saying, added_by}
-use Rattle.psci_headline.proofs.Failing.{unsettled}
+use Rattle.psci_headline.proofs.Failing.{Rest, Saying, added_by, unsettled}
 
 -- the records that these events add to those
 abbrev pub adds : BoardValue → List Event → List Event → List Record

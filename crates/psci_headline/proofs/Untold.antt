@@ -16,7 +16,8 @@ use Rattle.psci_headline.proofs.world_spec.Scripts as scripts
 use Rattle.psci_headline.specs.Settling.{begun, is_halting, is_started, is_waiting, round, rounds}
 use Rattle.psci_headline.specs.Settling.{settled}
 use Rattle.psci_headline.proofs.Histories.{after, at}
-use Rattle.psci_headline.proofs.Failing.{each, if_fails, is_agreed}
+use Rattle.psci_headline.proofs.Checking.{if_fails}
+use Rattle.psci_headline.proofs.Failing.{each, is_agreed}
 
 unfoldable pub computing : Unit {0}
 unfolding scripts.computing settled begun round is_waiting rounds

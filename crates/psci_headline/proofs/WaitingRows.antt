@@ -15,7 +15,7 @@ use Rattle.psci_headline.proofs.world_spec.Scripts as scripts
 use Rattle.psci_headline.proofs.world_spec.Scripts.{acked, board, off, on_3, part, retention}
 use Rattle.psci_headline.proofs.world_spec.Scripts.{sends, stops, system_reset}
 use Rattle.psci_headline.proofs.Histories.{at, third_on}
-use Rattle.psci_headline.proofs.Failing.{◌⇒◌, Legal, Steps, past_from}
+use Rattle.psci_headline.proofs.Checking.{◌⇒◌, Legal, Steps, past_from}
 use Rattle.psci_headline.specs.Waiting.{IsTold, Waiting, WasTold}
 
 -- the records after these steps, on two clusters of two cores
