@@ -135,9 +135,7 @@ pub record HaveArrived (b : BoardValue) (past : List Record) (c : ℕ) : Type 0 
 
 not_started : (act : Act) → place_after act ≡ Started → ⊥
 not_started (acts.Return code) e = cc
-not_started acts.Stop e = cc
-not_started (acts.Enter address context) e = cc
-not_started acts.Resume e = cc
+not_started act e = cc
 
 pub arrives : (b : BoardValue) (past : List Record) (c : ℕ) → RunLaws b → IsLegalPast b past
     → NoneRefused b past → c < cores b → place b past c ≡ Started → HaveArrived b past c

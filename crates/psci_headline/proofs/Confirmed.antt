@@ -17,9 +17,8 @@ use Rattle.psci_headline.specs.psci_fw_spec.Values.{Values}
 use Rattle.psci_headline.specs.psci_fw_laws.Kept.{Holds}
 use Rattle.psci_headline.specs.psci_fw_laws.KnownBelow.{KnownLaws}
 use Rattle.psci_headline.specs.psci_world_spec.declared.event.Event.{Event}
-use Rattle.psci_headline.specs.psci_world_spec.declared.event.Event.TheVariants.{Call, Enter}
 use Rattle.psci_headline.specs.psci_world_spec.declared.event.Event.TheVariants.{Wake, Reset}
-use Rattle.psci_headline.specs.psci_world_spec.declared.event.Event.TheVariants.{Deliver, Take}
+use Rattle.psci_headline.specs.psci_world_spec.declared.event.Event.TheVariants.{Deliver}
 use Rattle.psci_headline.specs.psci_world_spec.declared.said.Record.{Record}
 use Rattle.psci_headline.specs.psci_world_spec.declared.said.Said.{Said}
 use Rattle.psci_headline.specs.psci_world_spec.declared.said.Said.TheVariants.{Acked}
@@ -120,12 +119,10 @@ by_event : (b : BoardValue) (past : List Record) (event : Event) (said : Said)
     → ConfirmingNow b (controls.values_of b (control (controller_values b past) (sent past) event
     said ++ controller_history b past)) (firmware_values b past)
     → values_next b past event said
-by_event b past (Call c regs) said asked kept = asked
-by_event b past (Enter c) said asked kept = asked
-by_event b past (Take k) said asked kept = asked
 by_event b past (Wake c) said kept does = does
 by_event b past (Reset c) said kept does = does
 by_event b past (Deliver k) said kept does = does
+by_event b past event said asked kept = asked
 
 next : (b : BoardValue) (r : Record) (past : List Record) → RunLaws b
     → IsLegalPast b (r ∷ past) → Confirming b past → Confirming b (r ∷ past)

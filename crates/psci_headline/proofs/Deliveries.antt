@@ -139,8 +139,7 @@ present_life (Some life) l e = ap (λ x. Some x) (eqb-true life l e)
 -- the firmware says no acknowledgement
 not_said : (n : ℕ) (r : FwReply) (i : ℕ) (a : AckValue) → said_of n r ≡ Acked i a → ⊥
 not_said n (replies.Out o) i a e = absurd (cc)
-not_said n (replies.Taken t) i a e = absurd (cc)
-not_said n (replies.Fault f) i a e = absurd (cc)
+not_said n r i a e = absurd (cc)
 
 not_kicked : (n : ℕ) (k : Kick) (i : ℕ) (a : AckValue) → said_by n (replied.Kick k) ≡ Acked i a → ⊥
 not_kicked n (kicks.Started s) i a e = absurd (cc)

@@ -17,10 +17,9 @@ use Rattle.psci_fw_laws.specs.psci_fw_spec.declared.reply.FwReply.{FwReply}
 use Rattle.psci_fw_laws.specs.psci_fw_spec.declared.reply.FwReply.TheVariants as replies
 use Rattle.psci_fw_laws.specs.psci_fw_spec.Answer.{answer}
 use Rattle.psci_fw_laws.specs.psci_fw_spec.Changes.{PowerOn, target}
-use Rattle.psci_fw_laws.specs.psci_fw_spec.Effects.{Effect, Nothing, GoesOn, SetsMode, AsksOn}
-use Rattle.psci_fw_laws.specs.psci_fw_spec.Effects.{Rests, Halts}
-use Rattle.psci_fw_laws.specs.psci_fw_spec.Effects.{Stops, Enters, Parks, StopsAtOnce}
-use Rattle.psci_fw_laws.specs.psci_fw_spec.Effects.{Acknowledges, effect_of}
+use Rattle.psci_fw_laws.specs.psci_fw_spec.Effects.{Effect, AsksOn}
+use Rattle.psci_fw_laws.specs.psci_fw_spec.Effects.{Rests}
+use Rattle.psci_fw_laws.specs.psci_fw_spec.Effects.{effect_of}
 use Rattle.psci_fw_laws.specs.psci_fw_spec.Effects.{enter_effect}
 use Rattle.psci_fw_laws.specs.psci_fw_spec.Values.{Values}
 use Rattle.psci_headline.specs.Openings.{Made, OfCall, made_at, made_by, core_asked, named_in}
@@ -76,13 +75,4 @@ pub same_made : (b : BoardValue) (n life : ℕ) (call : FwCall) (f : Effect) →
 same_made b n life call (AsksOn c asked) names =
     ap (option_and_then (λ t. made_at (OfCall n) t life (Some asked.opening)))
     (names c asked refl)
-same_made b n life call (Rests c rest m) names = refl
-same_made b n life call Nothing names = refl
-same_made b n life call (GoesOn c) names = refl
-same_made b n life call (SetsMode c mode) names = refl
-same_made b n life call (Halts c m) names = refl
-same_made b n life call (Stops c) names = refl
-same_made b n life call (Enters c s) names = refl
-same_made b n life call (Parks c s m) names = refl
-same_made b n life call (StopsAtOnce c s) names = refl
-same_made b n life call (Acknowledges a) names = refl
+same_made b n life call f names = refl
