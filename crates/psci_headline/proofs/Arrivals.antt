@@ -53,9 +53,7 @@ pub entry_halting : (b : BoardValue) (v : Values) (c : ℕ) (s : Start) (act : A
     → (change b (enter_effect c s act o) v).halting ≡ (in_life b s.life v).halting
 entry_halting b v c s acts.Stop (Some m) = refl
 entry_halting b v c s acts.Stop None = refl
-entry_halting b v c s (acts.Return code) o = refl
-entry_halting b v c s (acts.Enter address context) o = refl
-entry_halting b v c s acts.Resume o = refl
+entry_halting b v c s act o = refl
 
 cleared_from : (t : Bool) (o : Option MessageValue) (m : MessageValue) → cond t None o ≡ Some m
     → o ≡ Some m
@@ -84,11 +82,7 @@ entry_slots b v c s acts.Stop (Some n) x m allowed e start =
     allowed.claim.kind e start)
 entry_slots b v c s acts.Stop None x m allowed e start =
     cleared_from (c == x) ((in_life b s.life v).outstanding (OfCore x)) m e
-entry_slots b v c s (acts.Return code) o x m allowed e start =
-    cleared_from (c == x) ((in_life b s.life v).outstanding (OfCore x)) m e
-entry_slots b v c s (acts.Enter address context) o x m allowed e start =
-    cleared_from (c == x) ((in_life b s.life v).outstanding (OfCore x)) m e
-entry_slots b v c s acts.Resume o x m allowed e start =
+entry_slots b v c s act o x m allowed e start =
     cleared_from (c == x) ((in_life b s.life v).outstanding (OfCore x)) m e
 
 -- The record -----------------------------------------------------------------------------------

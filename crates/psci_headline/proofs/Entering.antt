@@ -118,13 +118,9 @@ has_entered : (b : BoardValue) (v : Values) (before c : ℕ) (call : FwCall) (re
     → HasEntered b v (effect_of b c call reply) x
 has_entered b v before c (calls.Smc regs) (replies.Out o) x e is =
     absurd (no_entry c before o.act x (call_ends b v c regs o e) is)
-has_entered b v before c (calls.Smc regs) (replies.Taken t) x e is = absurd (cc)
-has_entered b v before c (calls.Smc regs) (replies.Fault f) x e is = absurd (cc)
-has_entered b v before c (calls.Take a) reply x e is = absurd (cc)
 has_entered b v before c (calls.Enter s) (replies.Out o) x e is =
     entered_at b v c s o.act o.message x e is
-has_entered b v before c (calls.Enter s) (replies.Taken t) x e is = absurd (cc)
-has_entered b v before c (calls.Enter s) (replies.Fault f) x e is = absurd (cc)
+has_entered b v before c call reply x e is = absurd (cc)
 
 -- What an effect leaves ------------------------------------------------------------------------
 

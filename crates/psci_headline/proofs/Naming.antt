@@ -7,7 +7,7 @@ use Rattle.psci_world_spec.specs.psci_abi.declared.request.Request.TheVariants.{
 use Rattle.psci_board.specs.Board.{BoardValue, core_of}
 use Rattle.psci_board.specs.declared.node.Core.{Core}
 use Rattle.psci_ctl_spec.specs.psci_messages.declared.start.Start.{Start}
-use Rattle.psci_ctl_spec.specs.psci_messages.declared.taken.Taken.TheVariants.{Used, Old}
+use Rattle.psci_ctl_spec.specs.psci_messages.declared.taken.Taken.TheVariants.{Used}
 use Rattle.psci_ctl_spec.specs.psci_messages.Message.{MessageValue}
 use Rattle.psci_fw_laws.specs.psci_fw_spec.declared.call.FwCall.{FwCall}
 use Rattle.psci_fw_laws.specs.psci_fw_spec.declared.call.FwCall.TheVariants as calls
@@ -42,9 +42,7 @@ enters_none : (c : ℕ) (s : Start) (act : Act) (m : Option MessageValue) (calle
     (asked : PowerOn) → enter_effect c s act m ≡ AsksOn caller asked → ⊥
 enters_none c s acts.Stop (Some m) caller asked e = absurd (cc)
 enters_none c s acts.Stop None caller asked e = absurd (cc)
-enters_none c s (acts.Return code) m caller asked e = absurd (cc)
-enters_none c s (acts.Enter address context) m caller asked e = absurd (cc)
-enters_none c s acts.Resume m caller asked e = absurd (cc)
+enters_none c s act m caller asked e = absurd (cc)
 
 pub names_target : (b : BoardValue) (v : Values) (c : ℕ) (call : FwCall) (reply : FwReply)
     → AreNamed b → reply ≡ answer b v c call → NamesTarget b call (effect_of b c call reply)
@@ -53,12 +51,8 @@ names_target b v c (calls.Smc regs) reply law e caller asked is =
     ap (named_in b) by.2 ∙ ap (option_map (λ (x : Core). x.number)) by.1
 names_target b v c (calls.Enter s) (replies.Out o) law e caller asked is =
     absurd (enters_none c s o.act o.message caller asked is)
-names_target b v c (calls.Enter s) (replies.Taken t) law e caller asked is = absurd (cc)
-names_target b v c (calls.Enter s) (replies.Fault f) law e caller asked is = absurd (cc)
 names_target b v c (calls.Take a) (replies.Taken Used) law e caller asked is = absurd (cc)
-names_target b v c (calls.Take a) (replies.Taken Old) law e caller asked is = absurd (cc)
-names_target b v c (calls.Take a) (replies.Out o) law e caller asked is = absurd (cc)
-names_target b v c (calls.Take a) (replies.Fault f) law e caller asked is = absurd (cc)
+names_target b v c call reply law e caller asked is = absurd (cc)
 
 -- What a call made -----------------------------------------------------------------------------
 

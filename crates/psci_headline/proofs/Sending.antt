@@ -101,16 +101,9 @@ quiet_call : (b : BoardValue) (past : List Record) (event : Event) (s : Said)
     ≡ sent_messages b (firmware_history b past)
 quiet_call b past (Call c regs) s q = absurd (cc)
 quiet_call b past (Enter c) s q = absurd (cc)
-quiet_call b past (Wake c) s q = refl
-quiet_call b past (Reset c) s q = refl
-quiet_call b past (Deliver k) s q = refl
-quiet_call b past (Take k) (said.Fw act sends) q = refl
-quiet_call b past (Take k) (said.Kick start) q = refl
-quiet_call b past (Take k) (said.Acked index ack) q = refl
 quiet_call b past (Take k) (said.Taken taken) q =
     took_none b (firmware_history b past) (indexed (acks past) k) taken
-quiet_call b past (Take k) said.Ignored q = refl
-quiet_call b past (Take k) said.Absent q = refl
+quiet_call b past event s q = refl
 
 quiet_same : (b : BoardValue) (past : List Record) (event : Event) (s : Said)
     → sent past ≡ sent_messages b (firmware_history b past) → s ≡ legal b past event
