@@ -115,31 +115,19 @@ delivered_next b past (Some m) a laws now is = control_next b past _ laws now is
 
 wake_next : (b : BoardValue) (past : List Record) (c : ℕ) (s : Said) → RunLaws b → Now b past
     → legal_controls.IsLegal b (after_control b past (Wake c) s) → Next b past (Wake c) s
-wake_next b past c (said.Fw act sends) laws now is = now
 wake_next b past c (said.Kick start) laws now is = control_next b past _ laws now is
-wake_next b past c (said.Acked index ack) laws now is = now
-wake_next b past c (said.Taken taken) laws now is = now
-wake_next b past c said.Ignored laws now is = now
-wake_next b past c said.Absent laws now is = now
+wake_next b past c s laws now is = now
 
 reset_next : (b : BoardValue) (past : List Record) (c : ℕ) (s : Said) → RunLaws b → Now b past
     → legal_controls.IsLegal b (after_control b past (Reset c) s) → Next b past (Reset c) s
-reset_next b past c (said.Fw act sends) laws now is = now
 reset_next b past c (said.Kick start) laws now is = control_next b past _ laws now is
-reset_next b past c (said.Acked index ack) laws now is = now
-reset_next b past c (said.Taken taken) laws now is = now
-reset_next b past c said.Ignored laws now is = now
-reset_next b past c said.Absent laws now is = now
+reset_next b past c s laws now is = now
 
 deliver_next : (b : BoardValue) (past : List Record) (k : ℕ) (s : Said) → RunLaws b → Now b past
     → legal_controls.IsLegal b (after_control b past (Deliver k) s) → Next b past (Deliver k) s
-deliver_next b past k (said.Fw act sends) laws now is = now
-deliver_next b past k (said.Kick start) laws now is = now
 deliver_next b past k (said.Acked index ack) laws now is =
     delivered_next b past (indexed (sent past) k) ack laws now is
-deliver_next b past k (said.Taken taken) laws now is = now
-deliver_next b past k said.Ignored laws now is = now
-deliver_next b past k said.Absent laws now is = now
+deliver_next b past k s laws now is = now
 
 -- The firmware ---------------------------------------------------------------------------------
 
@@ -155,11 +143,7 @@ call_next b past c regs (said.Fw act sends) laws now is e =
     (call_agrees b (controller_values b past) (place b past) v c act
     (function_effect b c (request_of regs) act m) laws.callers at.core at.place
     (function_call b c (request_of regs) act m) (laws.allowed _ (firmware_history b past) is) now)
-call_next b past c regs (said.Kick start) laws now is e = now
-call_next b past c regs (said.Acked index ack) laws now is e = now
-call_next b past c regs (said.Taken taken) laws now is e = now
-call_next b past c regs said.Ignored laws now is e = now
-call_next b past c regs said.Absent laws now is e = now
+call_next b past c regs s laws now is e = now
 
 enter_next : (b : BoardValue) (past : List Record) (c : ℕ) (s : Said) → RunLaws b → Now b past
     → s ≡ legal b past (Enter c) → Next b past (Enter c) s
@@ -179,10 +163,7 @@ enter_next b past c (said.Fw act sends) laws now e =
         (enter_agrees b (controller_values b past) (place b past) (firmware_values b past) c start
         act (option_map (λ s. s.message) sends) f now)
 enter_next b past c (said.Kick start) laws now e = now
-enter_next b past c (said.Acked index ack) laws now e = now
-enter_next b past c (said.Taken taken) laws now e = now
-enter_next b past c said.Ignored laws now e = now
-enter_next b past c said.Absent laws now e = now
+enter_next b past c s laws now e = now
 
 took_next : (b : BoardValue) (past : List Record) (o : Option AckValue) (t : Taken) → RunLaws b
     → Now b past
@@ -199,13 +180,9 @@ took_next b past (Some a) takens.Old laws now =
 
 take_next : (b : BoardValue) (past : List Record) (k : ℕ) (s : Said) → RunLaws b → Now b past
     → Next b past (Take k) s
-take_next b past k (said.Fw act sends) laws now = now
-take_next b past k (said.Kick start) laws now = now
-take_next b past k (said.Acked index ack) laws now = now
 take_next b past k (said.Taken taken) laws now =
     took_next b past (indexed (acks past) k) taken laws now
-take_next b past k said.Ignored laws now = now
-take_next b past k said.Absent laws now = now
+take_next b past k s laws now = now
 
 -- The whole run --------------------------------------------------------------------------------
 

@@ -29,15 +29,11 @@ use Rattle.psci_world_spec.specs.Histories.{sent}
 -- a Down
 kind_is : (k : Kind) → is_kind k kinds.Down ≡ true → k ≡ kinds.Down
 kind_is kinds.Down e = refl
-kind_is kinds.Start e = absurd (cc)
-kind_is kinds.Off e = absurd (cc)
-kind_is kinds.Reset e = absurd (cc)
+kind_is k e = absurd (cc)
 
 pub is_down : (k : Kind) → is_kind kinds.Down k ≡ true → k ≡ kinds.Down
 is_down kinds.Down e = refl
-is_down kinds.Start e = absurd (cc)
-is_down kinds.Off e = absurd (cc)
-is_down kinds.Reset e = absurd (cc)
+is_down k e = absurd (cc)
 
 -- What confirms -------------------------------------------------------------------------------
 

@@ -41,18 +41,13 @@ use Rattle.psci_headline.proofs.Numbering.{IsAt, at_number}
 -- an effect that applies a part leaves the life as it is
 applies_within : (b : BoardValue) (f : Effect) (level place : ℕ) (p : Part)
     → Applies b f level place p → keeps_life f ≡ true
-applies_within b Nothing level place p a = absurd a
-applies_within b (Starts c cause) level place p a = absurd a
 applies_within b (Deepens c ps) level place p a = refl
-applies_within b Ends level place p a = absurd a
-applies_within b Begins level place p a = absurd a
+applies_within b f level place p a = absurd a
 
 life_within : (f : Effect) (o : Option ℕ) → keeps_life f ≡ true → controls.life_by f o ≡ o
-life_within Nothing o e = refl
-life_within (Starts c cause) o e = refl
-life_within (Deepens c ps) o e = refl
 life_within Ends o e = absurd (false≢true e)
 life_within Begins o e = absurd (false≢true e)
+life_within f o e = refl
 
 -- What it says of a message that a part of it was applied.
 record IsCarried (b : BoardValue) (level place : ℕ) (m : MessageValue) (p : Part) : Type 0 where

@@ -53,9 +53,7 @@ pub entry_halting : (b : BoardValue) (v : Values) (c : ℕ) (s : Start) (act : A
     → (change b (enter_effect c s act o) v).halting ≡ (in_life b s.life v).halting
 entry_halting b v c s acts.Stop (Some m) = refl
 entry_halting b v c s acts.Stop None = refl
-entry_halting b v c s (acts.Return code) o = refl
-entry_halting b v c s (acts.Enter address context) o = refl
-entry_halting b v c s acts.Resume o = refl
+entry_halting b v c s act o = refl
 
 cleared_from : (t : Bool) (o : Option MessageValue) (m : MessageValue) → cond t None o ≡ Some m
     → o ≡ Some m
@@ -84,11 +82,7 @@ entry_slots b v c s acts.Stop (Some n) x m allowed e start =
     allowed.claim.kind e start)
 entry_slots b v c s acts.Stop None x m allowed e start =
     cleared_from (c == x) ((in_life b s.life v).outstanding (OfCore x)) m e
-entry_slots b v c s (acts.Return code) o x m allowed e start =
-    cleared_from (c == x) ((in_life b s.life v).outstanding (OfCore x)) m e
-entry_slots b v c s (acts.Enter address context) o x m allowed e start =
-    cleared_from (c == x) ((in_life b s.life v).outstanding (OfCore x)) m e
-entry_slots b v c s acts.Resume o x m allowed e start =
+entry_slots b v c s act o x m allowed e start =
     cleared_from (c == x) ((in_life b s.life v).outstanding (OfCore x)) m e
 
 -- The record -----------------------------------------------------------------------------------
@@ -135,9 +129,7 @@ pub record HaveArrived (b : BoardValue) (past : List Record) (c : ℕ) : Type 0 
 
 not_started : (act : Act) → place_after act ≡ Started → ⊥
 not_started (acts.Return code) e = cc
-not_started acts.Stop e = cc
-not_started (acts.Enter address context) e = cc
-not_started acts.Resume e = cc
+not_started act e = cc
 
 pub arrives : (b : BoardValue) (past : List Record) (c : ℕ) → RunLaws b → IsLegalPast b past
     → NoneRefused b past → c < cores b → place b past c ≡ Started → HaveArrived b past c

@@ -1,7 +1,6 @@
 -- Worked examples: moments that are not safe, along the axes: standby and retention, three levels,
 -- each level, a core that runs or is pending beside a claim, a depth between two others.
-use Rattle.std.proofs.Common.{◌≡◌, ◌++◌, ℕ, List, [], ◌∷◌, pos, false, true, refl}
-use Rattle.psci_fw_laws.specs.psci_board.declared.node.Node.{Node}
+use Rattle.std.proofs.Common.{◌≡◌, ◌++◌, ℕ, List, [], ◌∷◌, pos, false, refl}
 use Rattle.psci_fw_laws.specs.psci_messages.declared.kind.Kind.TheVariants.{Down}
 use Rattle.psci_world_spec.specs.declared.event.Event.{Event}
 use Rattle.psci_world_spec.specs.declared.event.Event.TheVariants.{Enter, Wake, Deliver, Take}
@@ -10,6 +9,7 @@ use Rattle.psci_world_spec.proofs.Scripts.{acked, board, call, nothing, off, on_
 use Rattle.psci_world_spec.proofs.Scripts.{retention, returns, sends, stops, system_reset, tall}
 use Rattle.psci_world_spec.proofs.Scripts.{version}
 use Rattle.psci_headline.specs.Claims.{live_claims}
+use Rattle.psci_headline.proofs.Histories.{third_on}
 use Rattle.psci_headline.proofs.Checking.{◌⇒◌, Asked, BreakAll, Breaks, IsSafeRun, Legal}
 use Rattle.psci_headline.proofs.Checking.{One, Powered, PoweredDown, Stopped, computing}
 
@@ -20,10 +20,6 @@ on_2 = call 0 0xc4000003 0x100 0x40002000 0
 -- a core asks for standby of itself alone
 abbrev standby : ℕ → Event
 standby c = call c 0xc4000001 0x1 0 0
-
--- core 3 is on; core 2 is, too
-abbrev third_on : List Event
-third_on = Enter 0 ∷ on_3 ∷ Deliver 0 ∷ Enter 3 ∷ []
 
 abbrev both_on : List Event
 both_on = Enter 0 ∷ on_2 ∷ on_3 ∷ Deliver 0 ∷ Deliver 1 ∷ Enter 2 ∷ Enter 3 ∷ []

@@ -14,10 +14,9 @@ use Rattle.psci_headline.specs.psci_fw_spec.declared.outcome.Act.{Act}
 use Rattle.psci_headline.specs.psci_fw_spec.declared.outcome.Act.TheVariants as acts
 use Rattle.psci_headline.specs.psci_fw_spec.After.{change}
 use Rattle.psci_headline.specs.psci_fw_spec.Changes.{with_mode, target}
-use Rattle.psci_headline.specs.psci_fw_spec.Effects.{Effect, Nothing, GoesOn, SetsMode, AsksOn}
+use Rattle.psci_headline.specs.psci_fw_spec.Effects.{Effect, GoesOn, SetsMode, AsksOn}
 use Rattle.psci_headline.specs.psci_fw_spec.Effects.{Rests, Halts}
-use Rattle.psci_headline.specs.psci_fw_spec.Effects.{Stops, Enters, Parks, StopsAtOnce}
-use Rattle.psci_headline.specs.psci_fw_spec.Effects.{Acknowledges}
+use Rattle.psci_headline.specs.psci_fw_spec.Effects.{Stops}
 use Rattle.psci_headline.specs.psci_fw_spec.Effects.{enter_effect}
 use Rattle.psci_headline.specs.psci_fw_spec.Lives.{in_life}
 use Rattle.psci_headline.specs.psci_fw_spec.Phases.{Phase, Away, Pending, Running, unless_pending}
@@ -71,7 +70,6 @@ pub call_waits : (b : BoardValue) (life : ℕ) (w : controlled.Values) (v : Valu
     → is_call e ≡ true → IsAllowed b v e → AreLive b life v.known v.phase sent w.starts
     → WaitingIn b life w v sent made
     → WaitingIn b life w (change b e v) (says.listed (says.sent e) ++ sent) made
-call_waits b life w v sent made Nothing laws is allowed live h = absurd (cc)
 call_waits b life w v sent made (GoesOn c) laws is allowed live h =
     subst (λ u. WaitingIn b life w u sent made) (sym (laws.goes_on v c allowed.runs)) h
 call_waits b life w v sent made (SetsMode c mode) laws is allowed live h =
@@ -100,10 +98,7 @@ call_waits b life w v sent made (Halts c m) laws is allowed live h =
     (rested b life w v sent made c Away allowed.calls.runs (λ e. cc) h))
 call_waits b life w v sent made (Stops c) laws is allowed live h =
     rested b life w v sent made c Away allowed.calls.runs (λ e. cc) h
-call_waits b life w v sent made (Enters c s) laws is allowed live h = absurd (cc)
-call_waits b life w v sent made (Parks c s m) laws is allowed live h = absurd (cc)
-call_waits b life w v sent made (StopsAtOnce c s) laws is allowed live h = absurd (cc)
-call_waits b life w v sent made (Acknowledges a) laws is allowed live h = absurd (cc)
+call_waits b life w v sent made e laws is allowed live h = absurd (cc)
 
 -- Entries --------------------------------------------------------------------------------------
 
@@ -146,12 +141,6 @@ entry_waits b w v sent made c s acts.Stop None allowed on later live h =
     entered_waits b s.life w found sent made c s.number (unless_pending (found.phase c) Away) on
     later live
     (λ awake. let no : true ≡ false = sym allowed.halting ∙ awake in absurd (cc)) h
-entry_waits b w v sent made c s (acts.Return code) o allowed on later live h =
-    entered_waits b s.life w (in_life b s.life v) sent made c s.number Running on later live
-    (λ awake e. absurd (cc)) h
-entry_waits b w v sent made c s (acts.Enter address context) o allowed on later live h =
-    entered_waits b s.life w (in_life b s.life v) sent made c s.number Running on later live
-    (λ awake e. absurd (cc)) h
-entry_waits b w v sent made c s acts.Resume o allowed on later live h =
+entry_waits b w v sent made c s act o allowed on later live h =
     entered_waits b s.life w (in_life b s.life v) sent made c s.number Running on later live
     (λ awake e. absurd (cc)) h

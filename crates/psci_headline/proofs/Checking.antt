@@ -53,7 +53,7 @@ pub data Clause : Type 0 where
   Real : Clause
 
 -- this one, if its test fails
-abbrev pub if_fails : Bool → Clause → List Clause
+abbrev pub if_fails : {A : Type 0} → Bool → A → List A
 if_fails true k = []
 if_fails false k = k ∷ []
 

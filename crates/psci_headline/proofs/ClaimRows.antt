@@ -10,6 +10,7 @@ use Rattle.psci_world_spec.specs.Legal.{run_from}
 use Rattle.psci_world_spec.proofs.Scripts.{acked, board, call, off, on_3, part, retention, sends}
 use Rattle.psci_world_spec.proofs.Scripts.{stops, system_off, system_reset}
 use Rattle.psci_headline.specs.Claims.{Claim, claims, live_claims}
+use Rattle.psci_headline.proofs.Histories.{at, on_os_initiated, third_on}
 use Rattle.psci_headline.proofs.Checking.{◌⇒◌, Asked, Breaks, Legal, One, computing}
 
 -- the boot core asks core 2 on
@@ -21,15 +22,7 @@ abbrev both_on : List Event
 both_on =
     Enter 0 ∷ on_2 ∷ on_3 ∷ Deliver 0 ∷ Deliver 1 ∷ Enter 2 ∷ Enter 3 ∷ []
 
--- core 3 is on
-abbrev third_on : List Event
-third_on = Enter 0 ∷ on_3 ∷ Deliver 0 ∷ Enter 3 ∷ []
-
 -- Claims --------------------------------------------------------------------------------------
-
--- a domain: its level and place
-abbrev at : ℕ → ℕ → Node
-at level place = record { level = level; place = place }
 
 -- a claim: depth, generation, whether it was asked for
 abbrev claim : ℕ → ℕ → Bool → Claim
@@ -164,8 +157,7 @@ system_deeper_than_asked = refl
 
 -- OS-initiated mode: the last core claims more of its cluster than it asks
 deeper_than_the_last_core_asks : Breaks board Asked
-    (Legal (Enter 0 ∷ call 0 0x8400000f 1 0 0 ∷ on_3 ∷ Deliver 0 ∷ Enter 3 ∷ [])
-    ∷ call 3 0xc4000001 0x01010023 0x40004000 2
+    (Legal on_os_initiated ∷ call 3 0xc4000001 0x01010023 0x40004000 2
     ⇒ stops (sends 1 Down 3 1 1 (part 0 3 1 ∷ part 1 3 1 ∷ [])) ∷ Legal (Deliver 1 ∷ []) ∷ [])
 unfolding computing
 deeper_than_the_last_core_asks = refl

@@ -1,35 +1,28 @@
 -- What is told after every legal run.
-use Rattle.std.proofs.Common.{◌≡◌, List, [], ◌∷◌, ◌++◌, Option, None, Some}
+use Rattle.std.proofs.Common.{◌≡◌, List, [], ◌∷◌, ◌++◌}
 use Rattle.std.proofs.Common.{subst, sym}
 use Rattle.psci_headline.specs.psci_board.Board.{BoardValue}
 use Rattle.psci_headline.specs.psci_board.Laws.{PathLaws}
-use Rattle.psci_headline.specs.psci_ctl_spec.Changes.{after}
-use Rattle.psci_headline.specs.psci_ctl_spec.Changes as controlling
 use Rattle.psci_headline.specs.psci_ctl_spec.Effects.{effect_of}
 use Rattle.psci_headline.specs.psci_ctl_spec.Exchange.{CtlExchange}
 use Rattle.psci_headline.specs.psci_ctl_spec.History as controls
 use Rattle.psci_headline.specs.psci_ctl_spec.Values as controlled
-use Rattle.psci_headline.proofs.ctl_spec.OneMore.{values_more}
-use Rattle.psci_headline.specs.psci_messages.Message.{AckValue, MessageValue}
+use Rattle.psci_headline.proofs.Deliveries.{IsFew, few, values_by}
 use Rattle.psci_headline.specs.psci_fw_spec.History as remembers
 use Rattle.psci_headline.specs.psci_fw_spec.Lives.{start_of_life}
 use Rattle.psci_headline.specs.psci_fw_spec.Values.{Values}
 use Rattle.psci_headline.specs.psci_fw_laws.Kept.{Holds}
 use Rattle.psci_headline.specs.psci_fw_laws.KnownBelow.{KnownLaws}
 use Rattle.psci_headline.specs.psci_world_spec.declared.event.Event.{Event}
-use Rattle.psci_headline.specs.psci_world_spec.declared.event.Event.TheVariants.{Call, Enter}
 use Rattle.psci_headline.specs.psci_world_spec.declared.event.Event.TheVariants.{Wake, Reset}
-use Rattle.psci_headline.specs.psci_world_spec.declared.event.Event.TheVariants.{Deliver, Take}
+use Rattle.psci_headline.specs.psci_world_spec.declared.event.Event.TheVariants.{Deliver}
 use Rattle.psci_headline.specs.psci_world_spec.declared.said.Record.{Record}
 use Rattle.psci_headline.specs.psci_world_spec.declared.said.Said.{Said}
-use Rattle.psci_headline.specs.psci_world_spec.declared.said.Said.TheVariants.{Acked}
-use Rattle.psci_headline.specs.psci_world_spec.declared.said.Said.TheVariants.{Kick as Kicked}
 use Rattle.psci_headline.specs.psci_world_spec.Histories.{acks, call, control}
 use Rattle.psci_headline.specs.psci_world_spec.Histories.{controller_history, controller_values}
-use Rattle.psci_headline.specs.psci_world_spec.Histories.{delivered, firmware_history}
+use Rattle.psci_headline.specs.psci_world_spec.Histories.{firmware_history}
 use Rattle.psci_headline.specs.psci_world_spec.Histories.{firmware_values, sent}
 use Rattle.psci_headline.specs.psci_world_spec.Legal.{IsLegalPast}
-use Rattle.psci_headline.specs.psci_world_spec.Lists.{indexed}
 use Rattle.psci_headline.proofs.world_spec.Answered.{firmware_legal}
 use Rattle.psci_headline.specs.Agreement.{Agree}
 use Rattle.psci_headline.specs.Waiting.{Waiting}
@@ -65,29 +58,6 @@ firmware_next b r past laws is h =
 
 -- The power controller -------------------------------------------------------------------------
 
--- at most one exchange
-abbrev IsFew : List CtlExchange → Type 0
-IsFew [] = Unit {0}
-IsFew (e ∷ []) = Unit {0}
-IsFew (e ∷ f ∷ es) = ⊥
-
-few_delivered : (m : Option MessageValue) (a : AckValue) → IsFew (delivered m a)
-few_delivered None a = tt
-few_delivered (Some m) a = tt
-
-few : (w : controlled.Values) (messages : List MessageValue) (event : Event) (said : Said)
-    → IsFew (control w messages event said)
-few w messages (Deliver k) (Acked index ack) = few_delivered (indexed messages k) ack
-few w messages (Wake c) (Kicked start) = tt
-few w messages (Reset c) (Kicked start) = tt
-few w messages event said = tt
-
-values_by : (b : BoardValue) (e : CtlExchange) (h : List CtlExchange)
-    → controls.values_of b (e ∷ h)
-    ≡ controlling.change b (effect_of b e.call e.reply) (controls.values_of b h)
-unfolding after
-values_by b e h = values_more b e h
-
 -- so many exchanges more
 control_next : (b : BoardValue) (past : List Record) (es : List CtlExchange) → KnownLaws b
     → IsFew es → Agree b past → Confirming b past
@@ -120,12 +90,10 @@ by_event : (b : BoardValue) (past : List Record) (event : Event) (said : Said)
     → ConfirmingNow b (controls.values_of b (control (controller_values b past) (sent past) event
     said ++ controller_history b past)) (firmware_values b past)
     → values_next b past event said
-by_event b past (Call c regs) said asked kept = asked
-by_event b past (Enter c) said asked kept = asked
-by_event b past (Take k) said asked kept = asked
 by_event b past (Wake c) said kept does = does
 by_event b past (Reset c) said kept does = does
 by_event b past (Deliver k) said kept does = does
+by_event b past event said asked kept = asked
 
 next : (b : BoardValue) (r : Record) (past : List Record) → RunLaws b
     → IsLegalPast b (r ∷ past) → Confirming b past → Confirming b (r ∷ past)

@@ -13,7 +13,8 @@ use Rattle.psci_headline.specs.psci_world_spec.Histories.{firmware_values}
 use Rattle.psci_headline.specs.psci_world_spec.Legal.{run_from}
 use Rattle.psci_headline.proofs.world_spec.Scripts.{acked, call, one_core}
 use Rattle.psci_headline.specs.Confirming.{Confirming}
-use Rattle.psci_headline.proofs.Untold.{after, computing, says}
+use Rattle.psci_headline.proofs.Histories.{after}
+use Rattle.psci_headline.proofs.Untold.{computing, says}
 
 -- the Down of a core that asks for standby is acknowledged as stale, though no core was started
 abbrev never_confirmed : List Record

@@ -67,9 +67,7 @@ wake_next b past c (said.Fw act sends) laws given now is e f =
 wake_next b past c (said.Kick start) laws given now is e f =
     kicked_next b past _ c _ laws given now is refl
 wake_next b past c (said.Acked index ack) laws given now is e f = absurd (cc)
-wake_next b past c (said.Taken taken) laws given now is e f = now
-wake_next b past c said.Ignored laws given now is e f = now
-wake_next b past c said.Absent laws given now is e f = now
+wake_next b past c s laws given now is e f = now
 
 pub reset_next : (b : BoardValue) (past : List Record) (c : ℕ) (s : Said) → RunLaws b
     → Given b past → Now b past → legal_controls.IsLegal b (after_control b past (Reset c) s)
@@ -81,9 +79,7 @@ reset_next b past c (said.Fw act sends) laws given now is e f =
 reset_next b past c (said.Kick start) laws given now is e f =
     kicked_next b past _ c _ laws given now is refl
 reset_next b past c (said.Acked index ack) laws given now is e f = absurd (cc)
-reset_next b past c (said.Taken taken) laws given now is e f = now
-reset_next b past c said.Ignored laws given now is e f = now
-reset_next b past c said.Absent laws given now is e f = now
+reset_next b past c s laws given now is e f = now
 
 -- a message was acknowledged
 message_next : (b : BoardValue) (past : List Record) (m : MessageValue) (a : AckValue) (i : ℕ)
@@ -141,5 +137,4 @@ deliver_next b past k (said.Acked index ack) laws given now is e none =
         (subst (λ (x : MessageValue). w.life ≡ Some x.life) (sym same) d.life)
         (subst (λ (x : MessageValue). ack ≡ ack_by b w x x.kind) (sym same) d.ack)
 deliver_next b past k (said.Taken taken) laws given now is e none = now
-deliver_next b past k said.Ignored laws given now is e none = now
-deliver_next b past k said.Absent laws given now is e none = now
+deliver_next b past k s laws given now is e none = now

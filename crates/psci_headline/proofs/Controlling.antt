@@ -9,8 +9,8 @@ use Rattle.psci_ctl_spec.specs.Legal as controls
 use Rattle.psci_fw_laws.specs.Messages.{IsSound}
 use Rattle.psci_ctl_spec.specs.psci_messages.Message.{AckValue, MessageValue}
 use Rattle.psci_world_spec.specs.declared.event.Event.{Event}
-use Rattle.psci_world_spec.specs.declared.event.Event.TheVariants.{Call, Enter, Wake, Reset}
-use Rattle.psci_world_spec.specs.declared.event.Event.TheVariants.{Deliver, Take}
+use Rattle.psci_world_spec.specs.declared.event.Event.TheVariants.{Wake, Reset}
+use Rattle.psci_world_spec.specs.declared.event.Event.TheVariants.{Deliver}
 use Rattle.psci_world_spec.specs.declared.said.Record.{Record}
 use Rattle.psci_world_spec.specs.declared.said.Said.{Said}
 use Rattle.psci_world_spec.specs.declared.said.Said.TheVariants as said
@@ -55,49 +55,35 @@ delivery_legal : (b : BoardValue) (past : List Record) (k : ℕ) (s : Said)
     → AreSendable b (sent past) → IsReplied b (after_control b past (Deliver k) s)
     → controls.IsLegal b (controller_history b past)
     → controls.IsLegal b (after_control b past (Deliver k) s)
-delivery_legal b past k (said.Fw act sends) are answered is = is
-delivery_legal b past k (said.Kick start) are answered is = is
 delivery_legal b past k (said.Acked index ack) are answered is =
     deliver_legal b (controller_history b past) (sent past) k (indexed (sent past) k) ack are refl
     answered is
-delivery_legal b past k (said.Taken taken) are answered is = is
-delivery_legal b past k said.Ignored are answered is = is
-delivery_legal b past k said.Absent are answered is = is
+delivery_legal b past k s are answered is = is
 
 wake_legal : (b : BoardValue) (past : List Record) (c : ℕ) (s : Said)
     → IsReplied b (after_control b past (Wake c) s)
     → controls.IsLegal b (controller_history b past) → s ≡ legal b past (Wake c)
     → controls.IsLegal b (after_control b past (Wake c) s)
-wake_legal b past c (said.Fw act sends) answered is e = is
 wake_legal b past c (said.Kick start) answered is e =
     (answered.0, woken_at b past c start e, is)
-wake_legal b past c (said.Acked index ack) answered is e = is
-wake_legal b past c (said.Taken taken) answered is e = is
-wake_legal b past c said.Ignored answered is e = is
-wake_legal b past c said.Absent answered is e = is
+wake_legal b past c s answered is e = is
 
 reset_legal : (b : BoardValue) (past : List Record) (c : ℕ) (s : Said)
     → IsReplied b (after_control b past (Reset c) s)
     → controls.IsLegal b (controller_history b past) → s ≡ legal b past (Reset c)
     → controls.IsLegal b (after_control b past (Reset c) s)
-reset_legal b past c (said.Fw act sends) answered is e = is
 reset_legal b past c (said.Kick start) answered is e =
     (answered.0, reset_at b past c start e, is)
-reset_legal b past c (said.Acked index ack) answered is e = is
-reset_legal b past c (said.Taken taken) answered is e = is
-reset_legal b past c said.Ignored answered is e = is
-reset_legal b past c said.Absent answered is e = is
+reset_legal b past c s answered is e = is
 
 event_legal : (b : BoardValue) (past : List Record) (event : Event) (s : Said)
     → AreSendable b (sent past) → IsReplied b (after_control b past event s)
     → controls.IsLegal b (controller_history b past) → s ≡ legal b past event
     → controls.IsLegal b (after_control b past event s)
-event_legal b past (Call c regs) s are answered is e = is
-event_legal b past (Enter c) s are answered is e = is
 event_legal b past (Wake c) s are answered is e = wake_legal b past c s answered is e
 event_legal b past (Reset c) s are answered is e = reset_legal b past c s answered is e
 event_legal b past (Deliver k) s are answered is e = delivery_legal b past k s are answered is
-event_legal b past (Take k) s are answered is e = is
+event_legal b past event s are answered is e = is
 
 -- The whole run --------------------------------------------------------------------------------
 

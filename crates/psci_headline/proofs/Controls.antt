@@ -56,9 +56,7 @@ kind_level : (ps : List Part) (level : ℕ) (p : Part) (kind : Kind)
     → ((qs : List Part) → AreClaims qs → PartByPart qs) → ArePartsOf kind ps
     → slice_get ps level ≡ Some p → p.level ≡ level
 kind_level ps level p kinds.Down parts are at = (parts ps are).level level p at
-kind_level ps level p kinds.Start parts are at = absurd (no_item ps level p are at)
-kind_level ps level p kinds.Off parts are at = absurd (no_item ps level p are at)
-kind_level ps level p kinds.Reset parts are at = absurd (no_item ps level p are at)
+kind_level ps level p kind parts are at = absurd (no_item ps level p are at)
 
 -- the parts of a message that was sent
 pub part_level : (b : BoardValue) (life : ℕ) (starts : ℕ → ℕ) (v : Values)

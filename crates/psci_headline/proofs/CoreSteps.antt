@@ -4,9 +4,7 @@ use Rattle.std.proofs.Common.{refl, arith, subst, ap, sym, ◌∙◌, ◌&&◌}
 use Rattle.std.specs.Prelude.{nat_lt}
 use Rattle.std.proofs.lemmas.Bool.{and_parts, cond_both, eqb-false, eqb-true, ltb-true}
 use Rattle.psci_board.specs.Board.{BoardValue}
-use Rattle.psci_ctl_spec.specs.psci_messages.declared.kind.Kind.{Kind}
-use Rattle.psci_ctl_spec.specs.psci_messages.declared.kind.Kind.TheVariants.{Down, Start, Off}
-use Rattle.psci_ctl_spec.specs.psci_messages.declared.kind.Kind.TheVariants.{Reset}
+use Rattle.psci_ctl_spec.specs.psci_messages.declared.kind.Kind.TheVariants.{Down}
 use Rattle.psci_ctl_spec.specs.psci_messages.Message.{AckValue}
 use Rattle.psci_ctl_spec.specs.psci_messages.Slots.{is_kind}
 use Rattle.psci_ctl_spec.specs.psci_messages.declared.start.Start as starts
@@ -18,12 +16,13 @@ use Rattle.psci_fw_laws.specs.psci_fw_spec.Effects.{Rests, Halts}
 use Rattle.psci_fw_laws.specs.psci_fw_spec.Effects.{Stops, Enters, Parks, StopsAtOnce}
 use Rattle.psci_fw_laws.specs.psci_fw_spec.Effects.{Acknowledges}
 use Rattle.psci_fw_laws.specs.psci_fw_spec.Lives.{first_status, in_life, start_of_life}
-use Rattle.psci_fw_laws.specs.psci_fw_spec.Phases.{Phase, Away, Pending, Running, Suspended}
+use Rattle.psci_fw_laws.specs.psci_fw_spec.Phases.{Phase, Away, Pending, Running}
 use Rattle.psci_fw_laws.specs.psci_fw_spec.Phases.{is_away}
 use Rattle.psci_fw_laws.specs.psci_fw_spec.Said.{Arrival, arrived}
 use Rattle.psci_fw_laws.specs.psci_fw_spec.Values.{Values, updated}
 use Rattle.psci_fw_laws.specs.Allowed.{IsAllowed, IsEntering}
 use Rattle.psci_fw_laws.proofs.Parts.{updated_at}
+use Rattle.psci_headline.proofs.Taking.{same_kind}
 
 -- An effect says that a core is off: an acknowledgement of its Down was taken.
 pub record TurnsOff (v : Values) (c : ℕ) (e : Effect) : Type 0 where
@@ -173,17 +172,9 @@ enters b v w c d s e entering begins is =
 
 -- Acknowledgements ----------------------------------------------------------------------------
 
-kind_down : (k : Kind) → is_kind k Down ≡ true → k ≡ Down
-kind_down Down e = refl
-kind_down Start e = absurd (cc)
-kind_down Off e = absurd (cc)
-kind_down Reset e = absurd (cc)
-
-phase_away : (p : Phase) → is_away p ≡ true → p ≡ Away
-phase_away Pending e = absurd (cc)
-phase_away Running e = absurd (cc)
-phase_away (Suspended ask) e = absurd (cc)
+pub phase_away : (p : Phase) → is_away p ≡ true → p ≡ Away
 phase_away Away e = refl
+phase_away p e = absurd (cc)
 
 turned : (v : Values) (c : ℕ) (a : AckValue) → c ≡ a.core.number → turns_off v a ≡ true
     → TurnsOff v c (Acknowledges a)
@@ -195,7 +186,7 @@ turned v c a here e =
       ack = a;
       is = refl;
       core = sym here;
-      kind = kind_down a.kind first.0;
+      kind = same_kind a.kind Down first.0;
       some = ltb-true 0 a.applied first.1;
       away = ap v.phase here ∙ phase_away (v.phase a.core.number) both.1;
     }

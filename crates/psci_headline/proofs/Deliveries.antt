@@ -47,7 +47,7 @@ use Rattle.psci_headline.proofs.Numbered.{IsListed, listed_from}
 -- What a record adds ---------------------------------------------------------------------------
 
 -- at most one exchange
-abbrev IsFew : List CtlExchange → Type 0
+abbrev pub IsFew : List CtlExchange → Type 0
 IsFew [] = Unit {0}
 IsFew (e ∷ []) = Unit {0}
 IsFew (e ∷ f ∷ es) = ⊥
@@ -56,7 +56,7 @@ few_delivered : (m : Option MessageValue) (a : AckValue) → IsFew (delivered m 
 few_delivered None a = tt
 few_delivered (Some m) a = tt
 
-few : (v : Values) (messages : List MessageValue) (event : Event) (said : Said)
+pub few : (v : Values) (messages : List MessageValue) (event : Event) (said : Said)
     → IsFew (control v messages event said)
 few v messages (Deliver k) (Acked index ack) = few_delivered (indexed messages k) ack
 few v messages (Wake c) (Kicked start) = tt
@@ -69,7 +69,7 @@ history_more : (b : BoardValue) (r : Record) (past : List Record)
 unfolding controller_history
 history_more b r past = refl
 
-values_by : (b : BoardValue) (e : CtlExchange) (h : List CtlExchange)
+pub values_by : (b : BoardValue) (e : CtlExchange) (h : List CtlExchange)
     → values_of b (e ∷ h) ≡ change b (effect_of b e.call e.reply) (values_of b h)
 unfolding after
 values_by b e h = values_more b e h
@@ -139,8 +139,7 @@ present_life (Some life) l e = ap (λ x. Some x) (eqb-true life l e)
 -- the firmware says no acknowledgement
 not_said : (n : ℕ) (r : FwReply) (i : ℕ) (a : AckValue) → said_of n r ≡ Acked i a → ⊥
 not_said n (replies.Out o) i a e = absurd (cc)
-not_said n (replies.Taken t) i a e = absurd (cc)
-not_said n (replies.Fault f) i a e = absurd (cc)
+not_said n r i a e = absurd (cc)
 
 not_kicked : (n : ℕ) (k : Kick) (i : ℕ) (a : AckValue) → said_by n (replied.Kick k) ≡ Acked i a → ⊥
 not_kicked n (kicks.Started s) i a e = absurd (cc)

@@ -17,7 +17,7 @@ use Rattle.psci_headline.specs.psci_fw_spec.Changes.{with_phase, with_rest}
 use Rattle.psci_headline.specs.psci_fw_spec.Effects.{Rests}
 use Rattle.psci_headline.specs.psci_fw_spec.Effects.{Stops, Enters, Parks, StopsAtOnce}
 use Rattle.psci_headline.specs.psci_fw_spec.Lives.{in_life}
-use Rattle.psci_headline.specs.psci_fw_spec.Phases.{Phase, Away, Pending, Running, Suspended}
+use Rattle.psci_headline.specs.psci_fw_spec.Phases.{Phase, Away, Pending, Running}
 use Rattle.psci_headline.specs.psci_fw_spec.Phases.{unless_pending}
 use Rattle.psci_headline.specs.psci_fw_spec.Values.{Values}
 use Rattle.psci_headline.specs.psci_fw_laws.Allowed.{IsAllowed}
@@ -35,9 +35,7 @@ use Rattle.psci_headline.proofs.Coming.{on_path, yet_still}
 
 never_away : (p : Phase) → unless_pending p Running ≡ Away → ⊥
 never_away Pending e = absurd (cc)
-never_away Running e = absurd (cc)
-never_away (Suspended ask) e = absurd (cc)
-never_away Away e = absurd (cc)
+never_away p e = absurd (cc)
 
 pub goes_on : (b : BoardValue) (starts : ℕ → ℕ) (v : Values) (c : ℕ) → AreConfirming b starts v
     → AreConfirming b starts (with_phase c Running v)

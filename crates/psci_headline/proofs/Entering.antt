@@ -20,10 +20,10 @@ use Rattle.psci_fw_laws.specs.psci_fw_spec.After.{change}
 use Rattle.psci_fw_laws.specs.psci_fw_spec.Answer.{answer, reply_or}
 use Rattle.psci_fw_laws.specs.psci_fw_spec.Changes.{with_arrival}
 use Rattle.psci_fw_laws.specs.psci_fw_spec.CpuOff.{off_message}
-use Rattle.psci_fw_laws.specs.psci_fw_spec.Effects.{Effect, Nothing, GoesOn, SetsMode, AsksOn}
-use Rattle.psci_fw_laws.specs.psci_fw_spec.Effects.{Rests, Halts}
-use Rattle.psci_fw_laws.specs.psci_fw_spec.Effects.{Stops, Enters, Parks, StopsAtOnce}
-use Rattle.psci_fw_laws.specs.psci_fw_spec.Effects.{Acknowledges, effect_of}
+use Rattle.psci_fw_laws.specs.psci_fw_spec.Effects.{Effect, AsksOn}
+use Rattle.psci_fw_laws.specs.psci_fw_spec.Effects.{Rests}
+use Rattle.psci_fw_laws.specs.psci_fw_spec.Effects.{Enters, Parks, StopsAtOnce}
+use Rattle.psci_fw_laws.specs.psci_fw_spec.Effects.{effect_of}
 use Rattle.psci_fw_laws.specs.psci_fw_spec.Effects.{enter_effect}
 use Rattle.psci_fw_laws.specs.psci_fw_spec.Entering.{enter_fault, enter_outcome, outcome_at}
 use Rattle.psci_fw_laws.specs.psci_fw_spec.Entering.{resumes}
@@ -105,30 +105,22 @@ entered_at b v c s (acts.Enter a k) m x e is =
       opening = opened_unless b found (with_arrival b c s v) c s a k found.halting (found.opening c)
           act;
     })
-entered_at b v c s (acts.Return code) m x e is = absurd (cc)
-entered_at b v c s acts.Stop m x e is = absurd (cc)
-entered_at b v c s acts.Resume m x e is = absurd (cc)
+entered_at b v c s act m x e is = absurd (cc)
 
 -- a core that is not told to enter does not
 no_entry : (c before : ℕ) (act : Act) (x : EnteredAt) → enters_or_resumes_by act ≡ false
     → entered_to c before act ≡ Some x → ⊥
 no_entry c before (acts.Enter address context) x ends is = absurd (cc)
-no_entry c before (acts.Return code) x ends is = absurd (cc)
-no_entry c before acts.Stop x ends is = absurd (cc)
-no_entry c before acts.Resume x ends is = absurd (cc)
+no_entry c before act x ends is = absurd (cc)
 
 has_entered : (b : BoardValue) (v : Values) (before c : ℕ) (call : FwCall) (reply : FwReply)
     (x : EnteredAt) → reply ≡ answer b v c call → entered_by before c call reply ≡ Some x
     → HasEntered b v (effect_of b c call reply) x
 has_entered b v before c (calls.Smc regs) (replies.Out o) x e is =
     absurd (no_entry c before o.act x (call_ends b v c regs o e) is)
-has_entered b v before c (calls.Smc regs) (replies.Taken t) x e is = absurd (cc)
-has_entered b v before c (calls.Smc regs) (replies.Fault f) x e is = absurd (cc)
-has_entered b v before c (calls.Take a) reply x e is = absurd (cc)
 has_entered b v before c (calls.Enter s) (replies.Out o) x e is =
     entered_at b v c s o.act o.message x e is
-has_entered b v before c (calls.Enter s) (replies.Taken t) x e is = absurd (cc)
-has_entered b v before c (calls.Enter s) (replies.Fault f) x e is = absurd (cc)
+has_entered b v before c call reply x e is = absurd (cc)
 
 -- What an effect leaves ------------------------------------------------------------------------
 
@@ -180,12 +172,7 @@ module _ (b : BoardValue) (n : ℕ) (v : Values) (made : List Made) (taken : Lis
   leaves (Enters c s) allowed = arrives c s allowed.enters.life
   leaves (Parks c s m) allowed = arrives c s allowed.enters.life
   leaves (StopsAtOnce c s) allowed = arrives c s allowed.enters.life
-  leaves Nothing allowed = one_more n v.life v.opening made taken are
-  leaves (GoesOn c) allowed = one_more n v.life v.opening made taken are
-  leaves (SetsMode c mode) allowed = one_more n v.life v.opening made taken are
-  leaves (Halts c m) allowed = one_more n v.life v.opening made taken are
-  leaves (Stops c) allowed = one_more n v.life v.opening made taken are
-  leaves (Acknowledges a) allowed = one_more n v.life v.opening made taken are
+  leaves f allowed = one_more n v.life v.opening made taken are
 
   found_life : (s : Start) (t : Bool) → (s.life == v.life) ≡ t
       → (cond t v (start_of_life b s.life)).life ≡ s.life

@@ -1,40 +1,22 @@
 -- Worked examples are stated so: records after which just one thing is not as it is at rest, or as
 -- it is once the world has settled.
-use Rattle.std.specs.Prelude.{◌≡◌, ◌++◌, ℕ, ◌+◌, Bool, true, false, ◌==◌, ◌||◌, not, nat_le, List}
+use Rattle.std.specs.Prelude.{◌≡◌, ◌++◌, ℕ, ◌+◌, Bool, false, ◌==◌, ◌||◌, not, nat_le, List}
 use Rattle.std.specs.Prelude.{[], ◌∷◌, length, filter, take, Option, None, Some, is_some}
-use Rattle.std.proofs.Common.{sym, ◌∙◌}
-use Rattle.std.proofs.lemmas.Bool.{eq-eqb}
-use Rattle.std.proofs.lemmas.List.Sums.{list_all-from_AllPass}
-use Rattle.std.specs.List.{AllPass, list_all, list_any, range_with_len}
+use Rattle.std.specs.List.{list_all, list_any, range_with_len}
 use Rattle.psci_board.specs.Board.{BoardValue, cores, height, nodes}
 use Rattle.psci_ctl_spec.specs.psci_messages.declared.kind.Kind.TheVariants.{Down}
 use Rattle.psci_ctl_spec.specs.psci_messages.Message.{MessageValue}
 use Rattle.psci_ctl_spec.specs.psci_messages.Slots.{OfCore, OfSystem, is_kind}
 use Rattle.psci_headline.specs.psci_world_spec.declared.event.Event.{Event}
 use Rattle.psci_headline.specs.psci_world_spec.declared.said.Record.{Record}
-use Rattle.psci_headline.specs.psci_world_spec.declared.said.Said.{Said}
 use Rattle.psci_headline.specs.psci_world_spec.Histories.{controller_values, firmware_values}
 use Rattle.psci_headline.specs.psci_world_spec.Histories.{sent}
-use Rattle.psci_headline.specs.psci_world_spec.Legal.{IsLegalPast, run_from}
+use Rattle.psci_headline.specs.psci_world_spec.Legal.{run_from}
 use Rattle.psci_headline.specs.psci_world_spec.Lists.{indexed}
 use Rattle.psci_headline.specs.psci_world_spec.Places.{place}
-use Rattle.psci_headline.specs.Drained.{AreAtRest, IsSettled, deliveries, is_settling}
+use Rattle.psci_headline.specs.Drained.{deliveries, is_settling}
 use Rattle.psci_headline.specs.Settling.{is_started}
-
--- Steps ---------------------------------------------------------------------------------------
-
-infix 80 ◌⇒◌
--- Steps of a run: events of which that is said which is legal, or one of which this is said.
-pub data Steps : Type 0 where
-  Legal : (events : List Event) → Steps
-  ◌⇒◌ : (event : Event) (said : Said) → Steps
-
--- the records after these steps, the first step first
-abbrev pub past_from : BoardValue → List Record → List Steps → List Record
-past_from b past [] = past
-past_from b past (Legal events ∷ steps) = past_from b (run_from b past events) steps
-past_from b past ((event ⇒ said) ∷ steps) =
-    past_from b (record { event = event; said = said } ∷ past) steps
+use Rattle.psci_headline.proofs.Checking.{if_fails}
 
 -- At rest -------------------------------------------------------------------------------------
 
@@ -47,11 +29,6 @@ pub data Clause : Type 0 where
   Entered : (core : ℕ) → Clause
   -- a domain is as deep as it was granted
   Agree : (level place : ℕ) → Clause
-
--- this one, if its test fails
-abbrev pub if_fails : {A : Type 0} → Bool → A → List A
-if_fails true k = []
-if_fails false k = k ∷ []
 
 -- what fails at some of these, which are numbered
 abbrev pub each : {A : Type 0} → (ℕ → List A) → List ℕ → List A
@@ -74,24 +51,9 @@ failing b past =
     ++ each (λ level. each (λ at. if_fails (is_agreed b past level at) (Agree level at))
     (range_with_len 0 (nodes b level))) (range_with_len 0 (height b + 1))))
 
--- After these records just this fails, and so the world is not at rest.
+-- After these records just this fails, and so the world is not at rest (`not_at_rest`).
 pub record IsUnrest (b : BoardValue) (past : List Record) (k : Clause) : Type 0 where
   pub only : failing b past ≡ k ∷ []
-  pub broken : AreAtRest b past → ⊥
-
--- an option that is there is not None, and different numbers are not equal
-pub some_none : {A : Type 0} (o : Option A) → is_some o ≡ true → o ≡ None → ⊥
-some_none None is e = absurd (cc)
-some_none (Some x) is e = absurd (cc)
-
-pub apart : (m n : ℕ) → (m == n) ≡ false → m ≡ n → ⊥
-apart m n other same = let no : true ≡ false = sym (eq-eqb m n same) ∙ other in absurd (cc)
-
--- what is no entry, delivery or take
-pub other_events : (added : List Record) → list_all (λ r. is_settling r.event) added ≡ false
-    → AllPass (λ r. is_settling r.event) added → ⊥
-other_events added other are =
-    let no : true ≡ false = sym (list_all-from_AllPass _ added are) ∙ other in absurd (cc)
 
 -- Settled -------------------------------------------------------------------------------------
 
@@ -133,12 +95,10 @@ unsettled b before added rounds =
     ++ if_fails (rounds == 0 || list_any (λ k. deliveries k added == rounds)
     (downs (added ++ before))) Reached)))
 
--- After these records more, which are legal, just this fails, and so the world has not settled.
+-- After these records more just this fails, and so the world has not settled (`not_settled`).
 pub record IsUnsettled (b : BoardValue) (before added : List Record) (rounds : ℕ) (s : Saying)
     : Type 0 where
-  pub legal : IsLegalPast b (added ++ before)
   pub only : unsettled b before added rounds ≡ s ∷ []
-  pub broken : IsSettled b before added rounds → ⊥
 
 -- the records that these events add to those before
 abbrev pub added_by : BoardValue → List Record → List Event → List Record

@@ -74,11 +74,8 @@ call_next b past c regs (said.Fw act sends) laws given now is e none =
     (function_effect b c (request_of regs) act m) _ given at.core at.place
     (function_call b c (request_of regs) act m)
     (laws.allowed (call_entry c regs (outcome_in act sends)) (firmware_history b past) is) now))
-call_next b past c regs (said.Kick start) laws given now is e none = now
 call_next b past c regs (said.Acked index ack) laws given now is e none = absurd (cc)
-call_next b past c regs (said.Taken taken) laws given now is e none = now
-call_next b past c regs said.Ignored laws given now is e none = now
-call_next b past c regs said.Absent laws given now is e none = now
+call_next b past c regs s laws given now is e none = now
 
 pub enter_next : (b : BoardValue) (past : List Record) (c : ℕ) (s : Said) → RunLaws b
     → Given b past → Now b past → IsLegal b (after_call b past (Enter c) s)
@@ -112,11 +109,8 @@ enter_next b past c (said.Fw act sends) laws given now is e none =
         start act m given on at f
         (laws.allowed (enter_entry c start (outcome_in act sends)) (firmware_history b past) is)
         now))
-enter_next b past c (said.Kick start) laws given now is e none = now
 enter_next b past c (said.Acked index ack) laws given now is e none = absurd (cc)
-enter_next b past c (said.Taken taken) laws given now is e none = now
-enter_next b past c said.Ignored laws given now is e none = now
-enter_next b past c said.Absent laws given now is e none = now
+enter_next b past c s laws given now is e none = now
 
 took_next : (b : BoardValue) (past : List Record) (k : ℕ) (o : Option AckValue) (t : Taken)
     → RunLaws b → Given b past → Now b past → indexed (acks past) k ≡ o
@@ -138,9 +132,7 @@ pub take_next : (b : BoardValue) (past : List Record) (k : ℕ) (s : Said) → R
 take_next b past k (said.Fw act sends) laws given now e f =
     subst (λ o. WaitsNow b (controller_values b past) (firmware_values b past)
     (listed o ++ sent past) (acks past)) (sym e) now
-take_next b past k (said.Kick start) laws given now e f = now
 take_next b past k (said.Acked index ack) laws given now e f = absurd (cc)
 take_next b past k (said.Taken taken) laws given now e f =
     took_next b past k (indexed (acks past) k) taken laws given now refl
-take_next b past k said.Ignored laws given now e f = now
-take_next b past k said.Absent laws given now e f = now
+take_next b past k s laws given now e f = now

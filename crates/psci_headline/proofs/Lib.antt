@@ -27,6 +27,7 @@ pub mod Functions
 mod HaltingRows
 pub mod Happening
 mod HardwareRows
+mod Histories
 mod LevelsRows
 pub mod LiveClaims
 pub mod LiveOnes
@@ -118,6 +119,7 @@ pub mod Sources
 pub mod Resting
 -- All steps together; worked examples, and records that break each clause alone.
 pub mod Settled
+mod Excluded
 mod Failing
 mod RestLivesRows
 mod NameRows

@@ -4,7 +4,6 @@ use Rattle.std.proofs.Common.{true, false, List, [], ◌∷◌, None, Some}
 use Rattle.std.proofs.Common.{refl, arith, slice_get, ap, sym, ◌∙◌}
 use Rattle.std.specs.Prelude.{drop}
 use Rattle.psci_board.specs.Board.{size_below}
-use Rattle.psci_board.specs.declared.node.Node.{Node}
 use Rattle.psci_ctl_spec.specs.psci_messages.declared.kind.Kind.TheVariants.{Down}
 use Rattle.psci_world_spec.specs.declared.event.Event.{Event}
 use Rattle.psci_world_spec.specs.declared.event.Event.TheVariants.{Deliver, Enter}
@@ -12,23 +11,20 @@ use Rattle.psci_world_spec.specs.declared.event.Event.TheVariants.{Wake}
 use Rattle.psci_world_spec.specs.declared.said.Record.{Record}
 use Rattle.psci_world_spec.specs.declared.said.Said.{Said}
 use Rattle.psci_world_spec.specs.Legal.{run_from}
-use Rattle.psci_world_spec.proofs.Scripts.{acked, board, computing, off, on_3, part}
+use Rattle.psci_world_spec.proofs.Scripts.{acked, board, computing, off, part}
 use Rattle.psci_world_spec.proofs.Scripts.{retention, returns, sends, stops}
 use Rattle.psci_world_spec.proofs.Scripts.{one_core, system_reset, tall}
 use Rattle.psci_headline.specs.Claims.{Claim, claims, live_claims}
 use Rattle.psci_headline.specs.Live.{AreApart, AreAsked, AreClaimed, NoneExecutes}
+use Rattle.psci_headline.proofs.Histories.{at, third_on}
 
 -- core 3 runs beside the boot core
 abbrev two_run : List Record
-two_run = run_from board [] (Enter 0 ∷ on_3 ∷ Deliver 0 ∷ Enter 3 ∷ [])
+two_run = run_from board [] third_on
 
 -- one more record: of this event this is said
 abbrev more : Event → Said → List Record → List Record
 more event said past = record { event = event; said = said } ∷ past
-
--- a domain: its level and place
-abbrev at : ℕ → ℕ → Node
-at level place = record { level = level; place = place }
 
 -- Apart ---------------------------------------------------------------------------------------
 

@@ -91,8 +91,7 @@ delivers b past k index (Some m) a at e = delivered_so b past k index m a at e
 
 by_firmware : (n : ℕ) (r : FwReply) → ack_in (said_of n r) ≡ None
 by_firmware n (replies.Out o) = refl
-by_firmware n (replies.Taken taken) = refl
-by_firmware n (replies.Fault fault) = refl
+by_firmware n r = refl
 
 by_kick : (n : ℕ) (k : Kick) → ack_in (said_by n (replied.Kick k)) ≡ None
 by_kick n (kicks.Started start) = refl
@@ -229,8 +228,7 @@ new_made b past event (said.Acked index ack) a more is e f = by_event event e
         (delivery_made b past k index ack more is g)
     by_event (Take k) g = absurd (none (Take k) g refl)
 new_made b past event (said.Taken taken) a more is e f = absurd (cc)
-new_made b past event said.Ignored a more is e f = absurd (cc)
-new_made b past event said.Absent a more is e f = absurd (cc)
+new_made b past event s a more is e f = absurd (cc)
 
 -- one record more
 made_before : (b : BoardValue) (r : Record) (past : List Record) (a : AckValue)

@@ -20,7 +20,7 @@ use Rattle.psci_fw_laws.specs.psci_fw_spec.Effects.{Stops, Enters, Parks, StopsA
 use Rattle.psci_fw_laws.specs.psci_fw_spec.Effects.{enter_effect, function_effect, mode_effect}
 use Rattle.psci_fw_laws.specs.psci_fw_spec.Lives.{in_life}
 use Rattle.psci_fw_laws.specs.psci_fw_spec.Outcomes.{executes_on}
-use Rattle.psci_fw_laws.specs.psci_fw_spec.Phases.{Phase, Away, Pending, Running, Suspended}
+use Rattle.psci_fw_laws.specs.psci_fw_spec.Phases.{Phase, Away, Pending, Running}
 use Rattle.psci_fw_laws.specs.psci_fw_spec.Phases.{is_running}
 use Rattle.psci_fw_laws.specs.psci_fw_spec.Phases.{unless_pending}
 use Rattle.psci_fw_laws.specs.psci_fw_spec.SuspendMode.{mode_of}
@@ -89,63 +89,20 @@ mode_call c number true = by_mode (mode_of number)
 
 return_call : (b : BoardValue) (c : ℕ) (r : Request) (code : Code)
     → IsCallOf (function_effect b c r (acts.Return code) None) c true
-return_call b c requests.Version code = goes c
-return_call b c (requests.CpuSuspend state entry_point context) code = goes c
-return_call b c requests.CpuOff code = goes c
-return_call b c (requests.CpuOn target entry_point context) code = goes c
-return_call b c (requests.AffinityInfo level target) code = goes c
-return_call b c (requests.NodeHwState level target) code = goes c
-return_call b c requests.MigrateInfoType code = goes c
-return_call b c requests.SystemOff code = goes c
-return_call b c requests.SystemReset code = goes c
-return_call b c (requests.Features word) code = goes c
-return_call b c (requests.SystemSuspend entry_point context) code = goes c
 return_call b c (requests.SetSuspendMode number) code =
     mode_call c number (int_eq code.0 success.0)
-return_call b c (requests.SystemReset2 reset_type cookie) code = goes c
-return_call b c requests.Unknown code = goes c
+return_call b c r code = goes c
 
 sent_call : (b : BoardValue) (c : ℕ) (r : Request) (code : Code) (m : MessageValue)
     → IsCallOf (function_effect b c r (acts.Return code) (Some m)) c true
-sent_call b c requests.Version code m = goes c
-sent_call b c (requests.CpuSuspend state entry_point context) code m = goes c
-sent_call b c requests.CpuOff code m = goes c
 sent_call b c (requests.CpuOn target entry_point context) code m =
     record { is = refl; core = refl; runs = refl }
-sent_call b c (requests.AffinityInfo level target) code m = goes c
-sent_call b c (requests.NodeHwState level target) code m = goes c
-sent_call b c requests.MigrateInfoType code m = goes c
-sent_call b c requests.SystemOff code m = goes c
-sent_call b c requests.SystemReset code m = goes c
-sent_call b c (requests.Features word) code m = goes c
-sent_call b c (requests.SystemSuspend entry_point context) code m = goes c
-sent_call b c (requests.SetSuspendMode number) code m = goes c
-sent_call b c (requests.SystemReset2 reset_type cookie) code m = goes c
-sent_call b c requests.Unknown code m = goes c
+sent_call b c r code m = goes c
 
 stop_call : (b : BoardValue) (c : ℕ) (r : Request) (m : MessageValue)
     → IsCallOf (function_effect b c r acts.Stop (Some m)) c false
 stop_call b c requests.Version m = record { is = refl; core = refl; runs = refl }
-stop_call b c (requests.CpuSuspend state entry_point context) m =
-    record { is = refl; core = refl; runs = refl }
-stop_call b c requests.CpuOff m = record { is = refl; core = refl; runs = refl }
-stop_call b c (requests.CpuOn target entry_point context) m =
-    record { is = refl; core = refl; runs = refl }
-stop_call b c (requests.AffinityInfo level target) m =
-    record { is = refl; core = refl; runs = refl }
-stop_call b c (requests.NodeHwState level target) m =
-    record { is = refl; core = refl; runs = refl }
-stop_call b c requests.MigrateInfoType m = record { is = refl; core = refl; runs = refl }
-stop_call b c requests.SystemOff m = record { is = refl; core = refl; runs = refl }
-stop_call b c requests.SystemReset m = record { is = refl; core = refl; runs = refl }
-stop_call b c (requests.Features word) m = record { is = refl; core = refl; runs = refl }
-stop_call b c (requests.SystemSuspend entry_point context) m =
-    record { is = refl; core = refl; runs = refl }
-stop_call b c (requests.SetSuspendMode number) m =
-    record { is = refl; core = refl; runs = refl }
-stop_call b c (requests.SystemReset2 reset_type cookie) m =
-    record { is = refl; core = refl; runs = refl }
-stop_call b c requests.Unknown m = record { is = refl; core = refl; runs = refl }
+stop_call b c r m = record { is = refl; core = refl; runs = refl }
 
 -- what a function comes down to is of its caller, which goes on where the outcome says so
 pub function_call : (b : BoardValue) (c : ℕ) (r : Request) (act : Act) (o : Option MessageValue)
@@ -189,16 +146,12 @@ rests : (p left : Phase) → (left ≡ Running → ⊥) → is_running (unless_p
 rests p left ne = by_phase p
   where
     left_rests : (q : Phase) → (q ≡ Running → ⊥) → is_running q ≡ false
-    left_rests Pending f = refl
     left_rests Running f = absurd (f refl)
-    left_rests (Suspended ask) f = refl
-    left_rests Away f = refl
+    left_rests q f = refl
 
     by_phase : (q : Phase) → is_running (unless_pending q left) ≡ false
     by_phase Pending = refl
-    by_phase Running = left_rests left ne
-    by_phase (Suspended ask) = left_rests left ne
-    by_phase Away = left_rests left ne
+    by_phase q = left_rests left ne
 
 -- the target of an accepted CPU_ON did not run, and does not yet
 pending : (v : Values) (asked : PowerOn) → v.phase (target asked) ≡ Away → (x : ℕ)
@@ -216,7 +169,6 @@ pub record CallerLaws (b : BoardValue) : Type 0 where
 -- the effect of a call
 pub call_moves : (b : BoardValue) (v : Values) (e : Effect) → CallerLaws b → is_call e ≡ true
     → IsAllowed b v e → IsMoved v (change b e v) (caller e) (v.known (caller e)) (runs_on e)
-call_moves b v Nothing laws is allowed = absurd (cc)
 call_moves b v (GoesOn c) laws is allowed =
     subst (λ w. IsMoved v w c (v.known c) true) (sym (laws.goes_on v c allowed.runs))
     (still v v c refl refl (λ x. refl) allowed.runs)
@@ -237,10 +189,7 @@ call_moves b v (Halts c m) laws is allowed =
 call_moves b v (Stops c) laws is allowed =
     put v (change b (Stops c) v) c (unless_pending (v.phase c) Away) false refl refl refl
     (rests (v.phase c) Away (λ e. cc))
-call_moves b v (Enters c s) laws is allowed = absurd (cc)
-call_moves b v (Parks c s m) laws is allowed = absurd (cc)
-call_moves b v (StopsAtOnce c s) laws is allowed = absurd (cc)
-call_moves b v (Acknowledges a) laws is allowed = absurd (cc)
+call_moves b v e laws is allowed = absurd (cc)
 
 -- Entries --------------------------------------------------------------------------------------
 
@@ -281,7 +230,5 @@ pub entry_moves : (b : BoardValue) (v : Values) (c : ℕ) (s : Start) (act : Act
     (o : Option MessageValue)
     → IsMoved (in_life b s.life v) (change b (enter_effect c s act o) v) c s.number
     (executes_on act)
-entry_moves b v c s (acts.Return code) o = goes_in b v c s
 entry_moves b v c s acts.Stop o = stops_in b v c s o
-entry_moves b v c s (acts.Enter address context) o = goes_in b v c s
-entry_moves b v c s acts.Resume o = goes_in b v c s
+entry_moves b v c s act o = goes_in b v c s

@@ -7,7 +7,7 @@ use Rattle.psci_world_spec.specs.psci_abi.declared.request.Request.TheVariants.{
 use Rattle.psci_board.specs.Board.{BoardValue, core_of}
 use Rattle.psci_board.specs.declared.node.Core.{Core}
 use Rattle.psci_ctl_spec.specs.psci_messages.declared.start.Start.{Start}
-use Rattle.psci_ctl_spec.specs.psci_messages.declared.taken.Taken.TheVariants.{Used, Old}
+use Rattle.psci_ctl_spec.specs.psci_messages.declared.taken.Taken.TheVariants.{Used}
 use Rattle.psci_ctl_spec.specs.psci_messages.Message.{MessageValue}
 use Rattle.psci_fw_laws.specs.psci_fw_spec.declared.call.FwCall.{FwCall}
 use Rattle.psci_fw_laws.specs.psci_fw_spec.declared.call.FwCall.TheVariants as calls
@@ -17,10 +17,9 @@ use Rattle.psci_fw_laws.specs.psci_fw_spec.declared.reply.FwReply.{FwReply}
 use Rattle.psci_fw_laws.specs.psci_fw_spec.declared.reply.FwReply.TheVariants as replies
 use Rattle.psci_fw_laws.specs.psci_fw_spec.Answer.{answer}
 use Rattle.psci_fw_laws.specs.psci_fw_spec.Changes.{PowerOn, target}
-use Rattle.psci_fw_laws.specs.psci_fw_spec.Effects.{Effect, Nothing, GoesOn, SetsMode, AsksOn}
-use Rattle.psci_fw_laws.specs.psci_fw_spec.Effects.{Rests, Halts}
-use Rattle.psci_fw_laws.specs.psci_fw_spec.Effects.{Stops, Enters, Parks, StopsAtOnce}
-use Rattle.psci_fw_laws.specs.psci_fw_spec.Effects.{Acknowledges, effect_of}
+use Rattle.psci_fw_laws.specs.psci_fw_spec.Effects.{Effect, AsksOn}
+use Rattle.psci_fw_laws.specs.psci_fw_spec.Effects.{Rests}
+use Rattle.psci_fw_laws.specs.psci_fw_spec.Effects.{effect_of}
 use Rattle.psci_fw_laws.specs.psci_fw_spec.Effects.{enter_effect}
 use Rattle.psci_fw_laws.specs.psci_fw_spec.Values.{Values}
 use Rattle.psci_headline.specs.Openings.{Made, OfCall, made_at, made_by, core_asked, named_in}
@@ -43,9 +42,7 @@ enters_none : (c : ℕ) (s : Start) (act : Act) (m : Option MessageValue) (calle
     (asked : PowerOn) → enter_effect c s act m ≡ AsksOn caller asked → ⊥
 enters_none c s acts.Stop (Some m) caller asked e = absurd (cc)
 enters_none c s acts.Stop None caller asked e = absurd (cc)
-enters_none c s (acts.Return code) m caller asked e = absurd (cc)
-enters_none c s (acts.Enter address context) m caller asked e = absurd (cc)
-enters_none c s acts.Resume m caller asked e = absurd (cc)
+enters_none c s act m caller asked e = absurd (cc)
 
 pub names_target : (b : BoardValue) (v : Values) (c : ℕ) (call : FwCall) (reply : FwReply)
     → AreNamed b → reply ≡ answer b v c call → NamesTarget b call (effect_of b c call reply)
@@ -54,12 +51,8 @@ names_target b v c (calls.Smc regs) reply law e caller asked is =
     ap (named_in b) by.2 ∙ ap (option_map (λ (x : Core). x.number)) by.1
 names_target b v c (calls.Enter s) (replies.Out o) law e caller asked is =
     absurd (enters_none c s o.act o.message caller asked is)
-names_target b v c (calls.Enter s) (replies.Taken t) law e caller asked is = absurd (cc)
-names_target b v c (calls.Enter s) (replies.Fault f) law e caller asked is = absurd (cc)
 names_target b v c (calls.Take a) (replies.Taken Used) law e caller asked is = absurd (cc)
-names_target b v c (calls.Take a) (replies.Taken Old) law e caller asked is = absurd (cc)
-names_target b v c (calls.Take a) (replies.Out o) law e caller asked is = absurd (cc)
-names_target b v c (calls.Take a) (replies.Fault f) law e caller asked is = absurd (cc)
+names_target b v c call reply law e caller asked is = absurd (cc)
 
 -- What a call made -----------------------------------------------------------------------------
 
@@ -76,13 +69,4 @@ pub same_made : (b : BoardValue) (n life : ℕ) (call : FwCall) (f : Effect) →
 same_made b n life call (AsksOn c asked) names =
     ap (option_and_then (λ t. made_at (OfCall n) t life (Some asked.opening)))
     (names c asked refl)
-same_made b n life call (Rests c rest m) names = refl
-same_made b n life call Nothing names = refl
-same_made b n life call (GoesOn c) names = refl
-same_made b n life call (SetsMode c mode) names = refl
-same_made b n life call (Halts c m) names = refl
-same_made b n life call (Stops c) names = refl
-same_made b n life call (Enters c s) names = refl
-same_made b n life call (Parks c s m) names = refl
-same_made b n life call (StopsAtOnce c s) names = refl
-same_made b n life call (Acknowledges a) names = refl
+same_made b n life call f names = refl

@@ -1,25 +1,25 @@
 -- Worked examples: OS-initiated mode, moments that are not safe, and a run that is.
-use Rattle.std.proofs.Common.{[], ◌∷◌, pos, false, refl}
+use Rattle.std.proofs.Common.{◌++◌, [], ◌∷◌, pos, false, refl}
 use Rattle.psci_fw_laws.specs.psci_messages.declared.kind.Kind.TheVariants.{Down}
 use Rattle.psci_world_spec.specs.declared.event.Event.TheVariants.{Enter, Wake, Reset, Deliver}
 use Rattle.psci_world_spec.specs.declared.event.Event.TheVariants.{Take}
 use Rattle.psci_world_spec.proofs.Scripts.{acked, board, call, enters, nothing, off, on_3, part}
 use Rattle.psci_world_spec.proofs.Scripts.{resumes, retention, returns, sends, stops, system_reset}
 use Rattle.psci_world_spec.proofs.Scripts.{tall, version}
+use Rattle.psci_headline.proofs.Histories.{on_os_initiated}
 use Rattle.psci_headline.proofs.Checking.{◌⇒◌, Asked, Breaks, IsSafeRun, Legal, Once, One, Open}
 use Rattle.psci_headline.proofs.Checking.{Powered, PoweredDown, Real, Stopped, computing}
 
 -- a core comes on, sleeps, wakes, goes off, is OFF and comes on again
 whole_run : IsSafeRun board
-    (Enter 0 ∷ call 0 0x8400000f 1 0 0 ∷ on_3 ∷ Deliver 0 ∷ Enter 3 ∷ retention 3 ∷ Deliver 1
-    ∷ Take 1 ∷ Wake 3 ∷ Enter 3 ∷ off 3 ∷ Deliver 2 ∷ Take 2 ∷ on_3 ∷ Deliver 3 ∷ Enter 3 ∷ [])
+    (on_os_initiated ++ retention 3 ∷ Deliver 1 ∷ Take 1 ∷ Wake 3 ∷ Enter 3 ∷ off 3 ∷ Deliver 2
+    ∷ Take 2 ∷ on_3 ∷ Deliver 3 ∷ Enter 3 ∷ [])
 unfolding computing
 whole_run = refl
 
 -- a core that is powered down goes on without a start
 goes_on : Breaks board Powered
-    (Legal (Enter 0 ∷ call 0 0x8400000f 1 0 0 ∷ on_3 ∷ Deliver 0 ∷ Enter 3 ∷ off 3 ∷ Deliver 1
-    ∷ []) ∷ Enter 3 ⇒ resumes ∷ [])
+    (Legal (on_os_initiated ++ off 3 ∷ Deliver 1 ∷ []) ∷ Enter 3 ⇒ resumes ∷ [])
 unfolding computing
 goes_on = refl
 
@@ -32,15 +32,15 @@ off_core_runs = refl
 
 -- a core that goes off is put in retention, and is OFF
 off_in_retention : Breaks board PoweredDown
-    (Legal (Enter 0 ∷ call 0 0x8400000f 1 0 0 ∷ on_3 ∷ Deliver 0 ∷ Enter 3 ∷ []) ∷ off 3
-    ⇒ stops (sends 1 Down 3 1 1 (part 0 2 1 ∷ [])) ∷ Legal (Deliver 1 ∷ Take 1 ∷ []) ∷ [])
+    (Legal on_os_initiated ∷ off 3 ⇒ stops (sends 1 Down 3 1 1 (part 0 2 1 ∷ [])) ∷ Legal (Deliver 1
+    ∷ Take 1 ∷ []) ∷ [])
 unfolding computing
 off_in_retention = refl
 
 -- a core goes off twice in one start
 off_twice : Breaks board One
-    (Legal (Enter 0 ∷ call 0 0x8400000f 1 0 0 ∷ on_3 ∷ Deliver 0 ∷ Enter 3 ∷ off 3 ∷ []) ∷ off 3
-    ⇒ stops (sends 2 Down 3 1 1 (part 0 3 1 ∷ [])) ∷ [])
+    (Legal (on_os_initiated ++ off 3 ∷ []) ∷ off 3 ⇒ stops (sends 2 Down 3 1 1 (part 0 3 1 ∷ []))
+    ∷ [])
 unfolding computing
 off_twice = refl
 
@@ -53,22 +53,21 @@ other_context = refl
 
 -- a core that was reset enters again where it was asked on
 enters_again : Breaks board Once
-    (Legal (Enter 0 ∷ call 0 0x8400000f 1 0 0 ∷ on_3 ∷ Deliver 0 ∷ Enter 3 ∷ Reset 3 ∷ [])
-    ∷ Enter 3 ⇒ enters 0x40001000 7 ∷ [])
+    (Legal (on_os_initiated ++ Reset 3 ∷ []) ∷ Enter 3 ⇒ enters 0x40001000 7 ∷ [])
 unfolding computing
 enters_again = refl
 
 -- a core is said to be in standby, and nothing was carried out
 acknowledged_only : Breaks board Real
-    (Legal (Enter 0 ∷ call 0 0x8400000f 1 0 0 ∷ on_3 ∷ Deliver 0 ∷ Enter 3 ∷ retention 3 ∷ [])
-    ∷ Deliver 99 ⇒ acked 1 Down 3 1 1 1 false ∷ Legal (Take 1 ∷ []) ∷ [])
+    (Legal (on_os_initiated ++ retention 3 ∷ []) ∷ Deliver 99 ⇒ acked 1 Down 3 1 1 1 false
+    ∷ Legal (Take 1 ∷ []) ∷ [])
 unfolding computing
 acknowledged_only = refl
 
 -- the claiming core asks for retention of itself, and is powered down
 core_deeper_than_it_asks : Breaks board Asked
-    (Legal (Enter 0 ∷ call 0 0x8400000f 1 0 0 ∷ on_3 ∷ Deliver 0 ∷ Enter 3 ∷ []) ∷ retention 3
-    ⇒ stops (sends 1 Down 3 1 1 (part 0 3 1 ∷ [])) ∷ Legal (Deliver 1 ∷ []) ∷ [])
+    (Legal on_os_initiated ∷ retention 3 ⇒ stops (sends 1 Down 3 1 1 (part 0 3 1 ∷ []))
+    ∷ Legal (Deliver 1 ∷ []) ∷ [])
 unfolding computing
 core_deeper_than_it_asks = refl
 

@@ -45,36 +45,12 @@ mode_sends c number true = by_mode (mode_of number)
     by_mode (Some mode) = refl
 
 returned : (b : BoardValue) (c : ℕ) (r : Request) (code : Code) → Sends b c r (returns code)
-returned b c requests.Version code = refl
-returned b c (requests.CpuSuspend state entry_point context) code = refl
-returned b c requests.CpuOff code = refl
-returned b c (requests.CpuOn target entry_point context) code = refl
-returned b c (requests.AffinityInfo level target) code = refl
-returned b c (requests.NodeHwState level target) code = refl
-returned b c requests.MigrateInfoType code = refl
-returned b c requests.SystemOff code = refl
-returned b c requests.SystemReset code = refl
-returned b c (requests.Features word) code = refl
-returned b c (requests.SystemSuspend entry_point context) code = refl
 returned b c (requests.SetSuspendMode number) code = mode_sends c number (int_eq code.0 success.0)
-returned b c (requests.SystemReset2 reset_type cookie) code = refl
-returned b c requests.Unknown code = refl
+returned b c r code = refl
 
 stopped : (b : BoardValue) (c : ℕ) (r : Request) (m : MessageValue) → Sends b c r (stops_with m)
 stopped b c requests.Version m = refl
-stopped b c (requests.CpuSuspend state entry_point context) m = refl
-stopped b c requests.CpuOff m = refl
-stopped b c (requests.CpuOn target entry_point context) m = refl
-stopped b c (requests.AffinityInfo level target) m = refl
-stopped b c (requests.NodeHwState level target) m = refl
-stopped b c requests.MigrateInfoType m = refl
-stopped b c requests.SystemOff m = refl
-stopped b c requests.SystemReset m = refl
-stopped b c (requests.Features word) m = refl
-stopped b c (requests.SystemSuspend entry_point context) m = refl
-stopped b c (requests.SetSuspendMode number) m = refl
-stopped b c (requests.SystemReset2 reset_type cookie) m = refl
-stopped b c requests.Unknown m = refl
+stopped b c r m = refl
 
 asked_on : (b : BoardValue) (c word entry_point context : ℕ) (r : Request) (m : MessageValue)
     → r ≡ requests.CpuOn word entry_point context → Sends b c r (starts_with m)

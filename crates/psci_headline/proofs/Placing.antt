@@ -31,10 +31,8 @@ use Rattle.psci_headline.proofs.Moving.{runs_on}
 -- Phases and places ----------------------------------------------------------------------------
 
 running : (p : Phase) → is_running p ≡ true → p ≡ phases.Running
-running phases.Pending e = absurd (cc)
 running phases.Running e = refl
-running (phases.Suspended ask) e = absurd (cc)
-running phases.Away e = absurd (cc)
+running p e = absurd (cc)
 
 -- What an act says of a place.
 record IsPlace (act : Act) : Type 0 where
@@ -43,12 +41,8 @@ record IsPlace (act : Act) : Type 0 where
   pub stops : place_after act ≡ Stopped → executes_on act ≡ false
 
 is_place : (act : Act) → IsPlace act
-is_place (acts.Return code) =
-    record { started = λ e. cc; runs = λ e. refl; stops = λ e. absurd (cc) }
 is_place acts.Stop = record { started = λ e. cc; runs = λ e. absurd (cc); stops = λ e. refl }
-is_place (acts.Enter address context) =
-    record { started = λ e. cc; runs = λ e. refl; stops = λ e. absurd (cc) }
-is_place acts.Resume =
+is_place act =
     record { started = λ e. cc; runs = λ e. refl; stops = λ e. absurd (cc) }
 
 -- the places after an act of a core

@@ -53,7 +53,7 @@ first_round b before life past laws begins =
       last = λ some. absurd (omega (arith, some));
     }
 
-comes : (b : BoardValue) (past : List Record) → SettleLaws b → IsLegalPast b past
+pub comes : (b : BoardValue) (past : List Record) → SettleLaws b → IsLegalPast b past
     → (goes : LifeGoesOn b past) → HasRest b past goes.life (settled b past)
 unfolding settled
 comes b past laws is goes =

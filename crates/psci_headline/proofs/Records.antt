@@ -2,28 +2,20 @@
 use Rattle.std.proofs.Common.{◌≡◌, ℕ, Bool, true, false, ◌==◌}
 use Rattle.std.proofs.Common.{cond, List, [], ◌∷◌, Option, None, Some, refl, subst, ap}
 use Rattle.std.proofs.Common.{◌∙◌}
-use Rattle.std.specs.Ordering.{int_eq}
 use Rattle.psci_world_spec.specs.psci_abi.Calls.{request_of}
-use Rattle.psci_world_spec.specs.psci_abi.Codes.{success}
-use Rattle.psci_world_spec.specs.psci_abi.declared.code.Code.{Code}
-use Rattle.psci_world_spec.specs.psci_abi.declared.request.Request.{Request}
-use Rattle.psci_world_spec.specs.psci_abi.declared.request.Request.TheVariants as requests
 use Rattle.psci_board.specs.Board.{BoardValue}
 use Rattle.psci_ctl_spec.specs.psci_messages.declared.start.Cause.{Cause}
 use Rattle.psci_ctl_spec.specs.psci_messages.declared.start.Start.{Start}
 use Rattle.psci_ctl_spec.specs.Replies.{last_start, start_shown}
 use Rattle.psci_ctl_spec.specs.Values as controlled
-use Rattle.psci_fw_laws.specs.psci_fw_spec.declared.mode.SuspendMode.{SuspendMode}
 use Rattle.psci_fw_laws.specs.psci_fw_spec.declared.outcome.Act.{Act}
 use Rattle.psci_fw_laws.specs.psci_fw_spec.declared.outcome.Act.TheVariants as acts
-use Rattle.psci_fw_laws.specs.psci_fw_spec.Effects.{Effect, Nothing, GoesOn, SetsMode, AsksOn}
-use Rattle.psci_fw_laws.specs.psci_fw_spec.Effects.{Rests, Halts}
-use Rattle.psci_fw_laws.specs.psci_fw_spec.Effects.{Stops, Enters, Parks, StopsAtOnce}
+use Rattle.psci_fw_laws.specs.psci_fw_spec.Effects.{Effect, Nothing}
+use Rattle.psci_fw_laws.specs.psci_fw_spec.Effects.{Enters, Parks, StopsAtOnce}
 use Rattle.psci_fw_laws.specs.psci_fw_spec.Effects.{Acknowledges}
-use Rattle.psci_fw_laws.specs.psci_fw_spec.Effects.{enter_effect, function_effect, mode_effect}
+use Rattle.psci_fw_laws.specs.psci_fw_spec.Effects.{enter_effect, function_effect}
 use Rattle.psci_fw_laws.specs.psci_fw_spec.Exchange.{FwExchange, effect}
 use Rattle.psci_fw_laws.specs.psci_fw_spec.Said.{Arrival, arrived}
-use Rattle.psci_fw_laws.specs.psci_fw_spec.SuspendMode.{mode_of}
 use Rattle.psci_ctl_spec.specs.psci_messages.declared.taken.Taken.{Taken}
 use Rattle.psci_ctl_spec.specs.psci_messages.declared.taken.Taken.TheVariants as takens
 use Rattle.psci_ctl_spec.specs.psci_messages.Message.{AckValue, MessageValue}
@@ -36,59 +28,8 @@ use Rattle.psci_world_spec.specs.declared.said.Said.TheVariants.{Taken as Took}
 use Rattle.psci_world_spec.specs.declared.said.Sent.{Sent}
 use Rattle.psci_world_spec.specs.Histories.{call, entered, outcome_in, took}
 use Rattle.psci_world_spec.specs.Lists.{indexed}
+use Rattle.psci_headline.proofs.Moving.{function_call, is_call}
 use Rattle.psci_headline.proofs.Numbered.{IsListed, listed_from}
-
--- Functions that were called -------------------------------------------------------------------
-
--- an effect is neither an arrival nor an acknowledgement
-abbrev is_of_caller : Effect → Bool
-is_of_caller Nothing = true
-is_of_caller (GoesOn c) = true
-is_of_caller (SetsMode c mode) = true
-is_of_caller (AsksOn c asked) = true
-is_of_caller (Rests c rest m) = true
-is_of_caller (Halts c m) = true
-is_of_caller (Stops c) = true
-is_of_caller (Enters c s) = false
-is_of_caller (Parks c s m) = false
-is_of_caller (StopsAtOnce c s) = false
-is_of_caller (Acknowledges a) = false
-
-mode_of_caller : (c : ℕ) (o : Option SuspendMode) → is_of_caller (mode_effect c o) ≡ true
-mode_of_caller c None = refl
-mode_of_caller c (Some mode) = refl
-
-set_of_caller : (c number : ℕ) (t : Bool)
-    → is_of_caller (cond t (mode_effect c (mode_of number)) (GoesOn c)) ≡ true
-set_of_caller c number true = mode_of_caller c (mode_of number)
-set_of_caller c number false = refl
-
-returned_by_caller : (b : BoardValue) (c : ℕ) (r : Request) (code : Code)
-    → is_of_caller (function_effect b c r (acts.Return code) None) ≡ true
-returned_by_caller b c (requests.SetSuspendMode number) code =
-    set_of_caller c number (int_eq code.0 success.0)
-returned_by_caller b c r code = refl
-
-stopped_by_caller : (b : BoardValue) (c : ℕ) (r : Request) (m : MessageValue)
-    → is_of_caller (function_effect b c r acts.Stop (Some m)) ≡ true
-stopped_by_caller b c requests.SystemOff m = refl
-stopped_by_caller b c requests.SystemReset m = refl
-stopped_by_caller b c (requests.SystemReset2 reset_type cookie) m = refl
-stopped_by_caller b c r m = refl
-
-sent_by_caller : (b : BoardValue) (c : ℕ) (r : Request) (code : Code) (m : MessageValue)
-    → is_of_caller (function_effect b c r (acts.Return code) (Some m)) ≡ true
-sent_by_caller b c (requests.CpuOn target entry_point context) code m = refl
-sent_by_caller b c r code m = refl
-
-by_caller : (b : BoardValue) (c : ℕ) (r : Request) (act : Act) (m : Option MessageValue)
-    → is_of_caller (function_effect b c r act m) ≡ true
-by_caller b c r (acts.Return code) None = returned_by_caller b c r code
-by_caller b c r (acts.Return code) (Some m) = sent_by_caller b c r code m
-by_caller b c r acts.Stop None = refl
-by_caller b c r acts.Stop (Some m) = stopped_by_caller b c r m
-by_caller b c r (acts.Enter address context) m = refl
-by_caller b c r acts.Resume m = refl
 
 -- What an effect says -------------------------------------------------------------------------
 
@@ -98,22 +39,14 @@ pub record IsOfRecord (v : controlled.Values) (made : List AckValue) (e : Effect
   pub starts : (a : Arrival) → arrived e ≡ Some a → v.life ≡ Some a.start.life
   pub takes : (a : AckValue) → e ≡ Acknowledges a → IsListed made a
 
-of_caller : (v : controlled.Values) (made : List AckValue) (e : Effect) → is_of_caller e ≡ true
+of_caller : (v : controlled.Values) (made : List AckValue) (e : Effect) → is_call e ≡ true
     → IsOfRecord v made e
-of_caller v made Nothing of = record { starts = λ a e. absurd (cc); takes = λ a e. absurd (cc) }
-of_caller v made (GoesOn c) of = record { starts = λ a e. absurd (cc); takes = λ a e. absurd (cc) }
-of_caller v made (SetsMode c mode) of =
-    record { starts = λ a e. absurd (cc); takes = λ a e. absurd (cc) }
-of_caller v made (AsksOn c asked) of =
-    record { starts = λ a e. absurd (cc); takes = λ a e. absurd (cc) }
-of_caller v made (Rests c rest m) of =
-    record { starts = λ a e. absurd (cc); takes = λ a e. absurd (cc) }
-of_caller v made (Halts c m) of = record { starts = λ a e. absurd (cc); takes = λ a e. absurd (cc) }
-of_caller v made (Stops c) of = record { starts = λ a e. absurd (cc); takes = λ a e. absurd (cc) }
+of_caller v made Nothing of = absurd (cc)
 of_caller v made (Enters c s) of = absurd (cc)
 of_caller v made (Parks c s m) of = absurd (cc)
 of_caller v made (StopsAtOnce c s) of = absurd (cc)
 of_caller v made (Acknowledges a) of = absurd (cc)
+of_caller v made e of = record { starts = λ a e. absurd (cc); takes = λ a e. absurd (cc) }
 
 -- the start that a core is shown is of the power controller's life
 shown_life : (life : Option ℕ) (n : ℕ) (cause : Cause) (s : Start)
@@ -182,7 +115,7 @@ pub added : (b : BoardValue) (v : controlled.Values) (made : List AckValue) (eve
     (said : Said) → IsAdded b v made (call v made event said)
 added b v made (Call c regs) (Fw act m) =
     of_caller v made (function_effect b c (request_of regs) act (outcome_in act m).message)
-    (by_caller b c (request_of regs) act (outcome_in act m).message)
+    (function_call b c (request_of regs) act (outcome_in act m).message).is
 added b v made (Enter c) (Fw act m) = added_entered b v made c (last_start v c) act m refl
 added b v made (Take k) (Took t) = added_took b v made k (indexed made k) t refl
 added b v made event said = tt

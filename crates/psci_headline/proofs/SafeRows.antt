@@ -1,9 +1,10 @@
 -- Worked examples: runs that are safe at every moment.
-use Rattle.std.proofs.Common.{[], ◌∷◌, refl}
+use Rattle.std.proofs.Common.{◌++◌, [], ◌∷◌, refl}
 use Rattle.psci_world_spec.specs.declared.event.Event.TheVariants.{Enter, Wake, Reset, Deliver}
 use Rattle.psci_world_spec.specs.declared.event.Event.TheVariants.{Take}
 use Rattle.psci_world_spec.proofs.Scripts.{board, call, off, on_3, one_core, retention}
 use Rattle.psci_world_spec.proofs.Scripts.{status_3, system_off, system_reset, tall, version}
+use Rattle.psci_headline.proofs.Histories.{on_in_start_2, on_os_initiated, third_on}
 use Rattle.psci_headline.proofs.Checking.{IsSafeRun, computing}
 
 -- Cores that start and go off -------------------------------------------------------------------
@@ -14,36 +15,34 @@ unfolding computing
 nothing_happened = refl
 
 -- a core is asked on, enters and goes off, and is OFF once that was acknowledged
-secondary_core : IsSafeRun board
-    (Enter 0 ∷ on_3 ∷ Deliver 0 ∷ Enter 3 ∷ off 3 ∷ status_3 ∷ Deliver 1 ∷ Take 1 ∷ status_3 ∷ [])
+secondary_core : IsSafeRun board (third_on ++ off 3 ∷ status_3 ∷ Deliver 1 ∷ Take 1 ∷ status_3 ∷ [])
 unfolding computing
 secondary_core = refl
 
 -- it is asked on once more, at the same entry point, and enters there
 asked_on_again : IsSafeRun board
-    (Enter 0 ∷ on_3 ∷ Deliver 0 ∷ Enter 3 ∷ off 3 ∷ Deliver 1 ∷ Take 1 ∷ on_3 ∷ Deliver 2 ∷ Enter 3
-    ∷ [])
+    (third_on ++ off 3 ∷ Deliver 1 ∷ Take 1 ∷ on_3 ∷ Deliver 2 ∷ Enter 3 ∷ [])
 unfolding computing
 asked_on_again = refl
 
 -- at another entry point
 asked_on_elsewhere : IsSafeRun board
-    (Enter 0 ∷ on_3 ∷ Deliver 0 ∷ Enter 3 ∷ off 3 ∷ Deliver 1 ∷ Take 1
-    ∷ call 0 0xc4000003 0x101 0x40005000 9 ∷ Deliver 2 ∷ Enter 3 ∷ [])
+    (third_on ++ off 3 ∷ Deliver 1 ∷ Take 1 ∷ call 0 0xc4000003 0x101 0x40005000 9 ∷ Deliver 2
+    ∷ Enter 3 ∷ [])
 unfolding computing
 asked_on_elsewhere = refl
 
 -- a core is asked on below a cluster that sleeps, as was asked for when its last core went off
 asked_on_below_sleep : IsSafeRun board
-    (Enter 0 ∷ on_3 ∷ Deliver 0 ∷ Enter 3 ∷ off 3 ∷ Deliver 1
-    ∷ call 0 0xc4000003 0x100 0x40002000 0 ∷ Take 1 ∷ Deliver 2 ∷ Enter 2 ∷ [])
+    (third_on ++ off 3 ∷ Deliver 1 ∷ call 0 0xc4000003 0x100 0x40002000 0 ∷ Take 1 ∷ Deliver 2
+    ∷ Enter 2 ∷ [])
 unfolding computing
 asked_on_below_sleep = refl
 
 -- a Down that is late is stale and leaves all as it is; one that is repeated changes nothing
 late_down : IsSafeRun board
-    (Enter 0 ∷ on_3 ∷ Deliver 0 ∷ Enter 3 ∷ off 3 ∷ Wake 3 ∷ Deliver 1 ∷ Take 1 ∷ Enter 3
-    ∷ Deliver 1 ∷ Deliver 2 ∷ Deliver 2 ∷ Take 4 ∷ Take 3 ∷ status_3 ∷ [])
+    (third_on ++ off 3 ∷ Wake 3 ∷ Deliver 1 ∷ Take 1 ∷ Enter 3 ∷ Deliver 1 ∷ Deliver 2 ∷ Deliver 2
+    ∷ Take 4 ∷ Take 3 ∷ status_3 ∷ [])
 unfolding computing
 late_down = refl
 
@@ -51,7 +50,7 @@ late_down = refl
 
 -- the last core's Down comes first: a domain waits until those below it are down
 system_down : IsSafeRun board
-    (Enter 0 ∷ on_3 ∷ Deliver 0 ∷ Enter 3 ∷ call 3 0xc4000001 0x02010333 0x40004000 2
+    (third_on ++ call 3 0xc4000001 0x02010333 0x40004000 2
     ∷ call 0 0xc4000001 0x02010333 0x40000100 0 ∷ Deliver 2 ∷ Take 1 ∷ Deliver 1 ∷ Deliver 2
     ∷ Wake 0 ∷ Enter 0 ∷ [])
 unfolding computing
@@ -74,8 +73,7 @@ wakes_after_another = refl
 
 -- a core in retention resumes after a wake-up event, and parks after a reset
 retention_and_reset : IsSafeRun board
-    (Enter 0 ∷ on_3 ∷ Deliver 0 ∷ Enter 3 ∷ retention 3 ∷ Deliver 1 ∷ Wake 3 ∷ Enter 3
-    ∷ retention 3 ∷ Reset 3 ∷ Enter 3 ∷ Deliver 3 ∷ Take 2 ∷ [])
+    (on_in_start_2 ++ retention 3 ∷ Reset 3 ∷ Enter 3 ∷ Deliver 3 ∷ Take 2 ∷ [])
 unfolding computing
 retention_and_reset = refl
 
@@ -95,8 +93,7 @@ only_core = refl
 -- Resets --------------------------------------------------------------------------------------
 
 -- a core that is reset while it runs parks when it enters, and is OFF once that was acknowledged
-reset_core : IsSafeRun board
-    (Enter 0 ∷ on_3 ∷ Deliver 0 ∷ Enter 3 ∷ Reset 3 ∷ Enter 3 ∷ Deliver 1 ∷ Take 1 ∷ status_3 ∷ [])
+reset_core : IsSafeRun board (third_on ++ Reset 3 ∷ Enter 3 ∷ Deliver 1 ∷ Take 1 ∷ status_3 ∷ [])
 unfolding computing
 reset_core = refl
 
@@ -130,10 +127,9 @@ os_initiated_cluster = refl
 
 -- the last core in the system, after refusals
 os_initiated_last_core : IsSafeRun board
-    (Enter 0 ∷ call 0 0x8400000f 1 0 0 ∷ on_3 ∷ Deliver 0 ∷ Enter 3
-    ∷ call 0 0xc4000001 0x02010333 0x40000100 0 ∷ call 3 0xc4000001 0x00010003 0x40004000 2
-    ∷ call 0 0xc4000001 0x02010333 0x40000100 0 ∷ Wake 3 ∷ Enter 3 ∷ off 3
-    ∷ call 0 0xc4000001 0x02010333 0x40000100 0 ∷ Deliver 2 ∷ Deliver 3 ∷ [])
+    (on_os_initiated ++ call 0 0xc4000001 0x02010333 0x40000100 0
+    ∷ call 3 0xc4000001 0x00010003 0x40004000 2 ∷ call 0 0xc4000001 0x02010333 0x40000100 0 ∷ Wake 3
+    ∷ Enter 3 ∷ off 3 ∷ call 0 0xc4000001 0x02010333 0x40000100 0 ∷ Deliver 2 ∷ Deliver 3 ∷ [])
 unfolding computing
 os_initiated_last_core = refl
 
@@ -141,15 +137,15 @@ os_initiated_last_core = refl
 
 -- a core goes off in each of two lives
 two_lives : IsSafeRun board
-    (Enter 0 ∷ on_3 ∷ Deliver 0 ∷ Enter 3 ∷ off 3 ∷ Deliver 1 ∷ system_reset 0 ∷ Deliver 2 ∷ Enter 0
-    ∷ on_3 ∷ Deliver 3 ∷ Deliver 1 ∷ Enter 3 ∷ off 3 ∷ Deliver 4 ∷ Take 4 ∷ [])
+    (third_on ++ off 3 ∷ Deliver 1 ∷ system_reset 0 ∷ Deliver 2 ∷ Enter 0 ∷ on_3 ∷ Deliver 3
+    ∷ Deliver 1 ∷ Enter 3 ∷ off 3 ∷ Deliver 4 ∷ Take 4 ∷ [])
 unfolding computing
 two_lives = refl
 
 -- a core runs until its life ends, and is started by no message of that life
 next_life : IsSafeRun board
-    (Enter 0 ∷ on_3 ∷ Deliver 0 ∷ Enter 3 ∷ retention 3 ∷ Wake 3 ∷ Enter 3 ∷ system_reset 0
-    ∷ Deliver 2 ∷ version 3 ∷ Deliver 1 ∷ Enter 0 ∷ status_3 ∷ Take 1 ∷ [])
+    (third_on ++ retention 3 ∷ Wake 3 ∷ Enter 3 ∷ system_reset 0 ∷ Deliver 2 ∷ version 3 ∷ Deliver 1
+    ∷ Enter 0 ∷ status_3 ∷ Take 1 ∷ [])
 unfolding computing
 next_life = refl
 
@@ -162,7 +158,6 @@ boots_in_each_life = refl
 
 -- the system goes off, while a core is OFF and another one runs
 goes_off : IsSafeRun board
-    (Enter 0 ∷ on_3 ∷ Deliver 0 ∷ Enter 3 ∷ system_off 0 ∷ version 3 ∷ Wake 3 ∷ Enter 3 ∷ Deliver 1
-    ∷ Take 1 ∷ Wake 3 ∷ [])
+    (third_on ++ system_off 0 ∷ version 3 ∷ Wake 3 ∷ Enter 3 ∷ Deliver 1 ∷ Take 1 ∷ Wake 3 ∷ [])
 unfolding computing
 goes_off = refl

@@ -61,11 +61,7 @@ call_same b past c regs (said.Fw act sends) same legal =
     one_entry b _ (firmware_history b past) (option_map (λ m. m.message) sends) (sent past)
     (call_sends b (firmware_values b past) c (request_of regs) (outcome_in act sends)
     (call_fault b (firmware_values b past) c) legal.0) same
-call_same b past c regs (said.Kick start) same legal = same
-call_same b past c regs (said.Acked index ack) same legal = same
-call_same b past c regs (said.Taken taken) same legal = same
-call_same b past c regs said.Ignored same legal = same
-call_same b past c regs said.Absent same legal = same
+call_same b past c regs s same legal = same
 
 enter_same : (b : BoardValue) (past : List Record) (c : ℕ) (s : Said)
     → sent past ≡ sent_messages b (firmware_history b past)
@@ -89,10 +85,7 @@ enter_same b past c (said.Fw act sends) same is e =
         (enter_sends b (firmware_values b past) c s (outcome_in act sends)
         (enter_fault b (firmware_values b past) c s) is.0) same
 enter_same b past c (said.Kick start) same is e = same
-enter_same b past c (said.Acked index ack) same is e = same
-enter_same b past c (said.Taken taken) same is e = same
-enter_same b past c said.Ignored same is e = same
-enter_same b past c said.Absent same is e = same
+enter_same b past c s same is e = same
 
 -- nothing is sent where an acknowledgement is taken
 took_none : (b : BoardValue) (h : List firmware.FwExchange) (o : Option AckValue) (t : Taken)
@@ -108,16 +101,9 @@ quiet_call : (b : BoardValue) (past : List Record) (event : Event) (s : Said)
     ≡ sent_messages b (firmware_history b past)
 quiet_call b past (Call c regs) s q = absurd (cc)
 quiet_call b past (Enter c) s q = absurd (cc)
-quiet_call b past (Wake c) s q = refl
-quiet_call b past (Reset c) s q = refl
-quiet_call b past (Deliver k) s q = refl
-quiet_call b past (Take k) (said.Fw act sends) q = refl
-quiet_call b past (Take k) (said.Kick start) q = refl
-quiet_call b past (Take k) (said.Acked index ack) q = refl
 quiet_call b past (Take k) (said.Taken taken) q =
     took_none b (firmware_history b past) (indexed (acks past) k) taken
-quiet_call b past (Take k) said.Ignored q = refl
-quiet_call b past (Take k) said.Absent q = refl
+quiet_call b past event s q = refl
 
 quiet_same : (b : BoardValue) (past : List Record) (event : Event) (s : Said)
     → sent past ≡ sent_messages b (firmware_history b past) → s ≡ legal b past event

@@ -11,6 +11,7 @@ use Rattle.psci_headline.proofs.world_spec.Scripts.{board, call, off, on_3, one_
 use Rattle.psci_headline.proofs.world_spec.Scripts.{system_off, system_reset, tall}
 use Rattle.psci_headline.specs.Drained.{deliveries}
 use Rattle.psci_headline.specs.Settling.{begun, is_halting, is_waiting, round, rounds, settled}
+use Rattle.psci_headline.proofs.Histories.{on_in_life_2, third_on}
 
 unfoldable pub computing : Unit {0}
 unfolding scripts.computing settled begun round is_waiting rounds
@@ -67,14 +68,12 @@ unfolding computing
 start_waits = record { events = refl; times = refl }
 
 -- the last core's Down is served too
-last_core : SettlesBy (Enter 0 ∷ on_3 ∷ Deliver 0 ∷ Enter 3 ∷ off 3 ∷ [])
-    (Deliver 1 ∷ Take 1 ∷ []) 1
+last_core : SettlesBy (third_on ++ off 3 ∷ []) (Deliver 1 ∷ Take 1 ∷ []) 1
 unfolding computing
 last_core = record { events = refl; times = refl }
 
 -- a core that was reset enters and parks first, and then its new Down is served
-reset_core : SettlesBy (Enter 0 ∷ on_3 ∷ Deliver 0 ∷ Enter 3 ∷ Reset 3 ∷ [])
-    (Enter 3 ∷ Deliver 1 ∷ Take 1 ∷ []) 1
+reset_core : SettlesBy (third_on ++ Reset 3 ∷ []) (Enter 3 ∷ Deliver 1 ∷ Take 1 ∷ []) 1
 unfolding computing
 reset_core = record { events = refl; times = refl }
 
@@ -110,14 +109,15 @@ unfolding computing
 os_initiated = record { events = refl; times = refl }
 
 -- the second life: a core of the first one is forgotten, and its Down is not served
-second_life : SettlesBy (Enter 0 ∷ on_3 ∷ Deliver 0 ∷ Enter 3 ∷ off 3 ∷ system_reset 0 ∷ Deliver 2
-    ∷ Enter 0 ∷ call 0 0xc4000003 0x1 0x40001000 0 ∷ []) (Deliver 3 ∷ Take 2 ∷ Enter 1 ∷ []) 0
+second_life : SettlesBy
+    (third_on ++ off 3 ∷ system_reset 0 ∷ Deliver 2 ∷ Enter 0 ∷ call 0 0xc4000003 0x1 0x40001000 0
+    ∷ []) (Deliver 3 ∷ Take 2 ∷ Enter 1 ∷ []) 0
 unfolding computing
 second_life = record { events = refl; times = refl }
 
 -- two Downs of one core and two Starts: the newest is served
-newest_served : SettlesBy (Enter 0 ∷ on_3 ∷ Deliver 0 ∷ Enter 3 ∷ off 3 ∷ Deliver 1 ∷ Take 1 ∷ on_3
-    ∷ []) (Deliver 2 ∷ Take 2 ∷ Enter 3 ∷ []) 0
+newest_served : SettlesBy
+    (third_on ++ off 3 ∷ Deliver 1 ∷ Take 1 ∷ on_3 ∷ []) (Deliver 2 ∷ Take 2 ∷ Enter 3 ∷ []) 0
 unfolding computing
 newest_served = record { events = refl; times = refl }
 
@@ -142,8 +142,7 @@ unfolding computing
 forgets = refl
 
 -- and it halts in the second life, by another core
-resets_again : is_halting board (after (Enter 0 ∷ system_reset 0 ∷ Deliver 0 ∷ Enter 0 ∷ on_3
-    ∷ Deliver 1 ∷ Enter 3 ∷ system_off 3 ∷ [])) ≡ true
+resets_again : is_halting board (after (on_in_life_2 ++ system_off 3 ∷ [])) ≡ true
 unfolding computing
 resets_again = refl
 

@@ -1,29 +1,20 @@
 -- Worked examples: worlds that have settled, and worlds of which one thing that is said of them is
 -- not so, of the boot core and in the extended format.
-use Rattle.std.proofs.Common.{◌≡◌, ◌++◌, ◌≤◌, ◌==◌, ℕ, List, [], ◌∷◌, refl, arith}
-use Rattle.psci_board.specs.Board.{BoardValue}
-use Rattle.psci_headline.specs.psci_abi.declared.format.Format.TheVariants.{Extended}
+use Rattle.std.proofs.Common.{◌≡◌, ◌++◌, List, [], ◌∷◌, refl}
 use Rattle.psci_headline.specs.psci_world_spec.declared.event.Event.{Event}
-use Rattle.psci_headline.specs.psci_world_spec.declared.event.Event.TheVariants.{Enter}
 use Rattle.psci_headline.specs.psci_world_spec.declared.event.Event.TheVariants.{Deliver, Take}
 use Rattle.psci_headline.proofs.world_spec.Scripts as scripts
 use Rattle.psci_headline.proofs.world_spec.Scripts.{board, call, off, on_3}
 use Rattle.psci_headline.proofs.world_spec.Scripts.{version}
-use Rattle.psci_headline.specs.Drained.{deliveries}
-use Rattle.psci_headline.proofs.Failing.{Events, Few, Most, Own, Reached, Rest, other_events}
-use Rattle.psci_headline.proofs.Failing.{some_none}
-use Rattle.psci_headline.proofs.SettledRows.{Fails, adds, fails_after, is_legal, one_at_most}
-
--- two clusters of two cores, in the extended format
-abbrev extended : BoardValue
-extended = record board { format = Extended }
+use Rattle.psci_headline.proofs.Histories.{extended, third_on}
+use Rattle.psci_headline.proofs.Failing.{Events, Few, Most, Own, Reached, Rest}
+use Rattle.psci_headline.proofs.SettledRows.{Fails, fails_after}
 
 -- Boot core ---------------------------------------------------------------------------------------
 
 -- core 0 has gone off
 abbrev off_boot_core : List Event
-off_boot_core =
-    Enter 0 ∷ on_3 ∷ Deliver 0 ∷ Enter 3 ∷ off 0 ∷ []
+off_boot_core = third_on ++ off 0 ∷ []
 
 -- and core 3 is in standby
 abbrev two_boot_core : List Event
@@ -38,65 +29,37 @@ settled_boot_core = refl
 calls_boot_core : Fails board off_boot_core
     (version 3 ∷ Deliver 1 ∷ Take 1 ∷ []) 1 Events
 unfolding scripts.computing
-calls_boot_core = record {
-  legal = is_legal board off_boot_core (version 3 ∷ Deliver 1 ∷ Take 1 ∷ []);
-  only = refl;
-  broken = λ s. other_events
-      (adds board off_boot_core (version 3 ∷ Deliver 1 ∷ Take 1 ∷ [])) refl s.events;
-}
+calls_boot_core = record { only = refl }
 
 -- the acknowledgement is not taken
 not_taken_boot_core : Fails board off_boot_core
     (Deliver 1 ∷ []) 1 (Rest (Own 0 ∷ []))
 unfolding scripts.computing
-not_taken_boot_core = record {
-  legal = is_legal board off_boot_core (Deliver 1 ∷ []);
-  only = refl;
-  broken = λ s. some_none _ refl (s.rest.own 0 (omega arith));
-}
+not_taken_boot_core = record { only = refl }
 
 -- there is one round too many
 four_rounds_boot_core : Fails board off_boot_core
     (Deliver 1 ∷ Deliver 1 ∷ Deliver 1 ∷ Deliver 1 ∷ Take 1 ∷ []) 4 Few
 unfolding scripts.computing
-four_rounds_boot_core = record {
-  legal = is_legal board off_boot_core
-      (Deliver 1 ∷ Deliver 1 ∷ Deliver 1 ∷ Deliver 1 ∷ Take 1 ∷ []);
-  only = refl;
-  broken = λ s. let no : 4 ≤ 3 = s.few in absurd (omega (arith, no));
-}
+four_rounds_boot_core = record { only = refl }
 
 -- a Down is delivered twice in one round
 twice_boot_core : Fails board two_boot_core
     (Deliver 1 ∷ Deliver 1 ∷ Deliver 2 ∷ Take 1 ∷ Take 3 ∷ []) 1 Most
 unfolding scripts.computing
-twice_boot_core = record {
-  legal = is_legal board two_boot_core (Deliver 1 ∷ Deliver 1 ∷ Deliver 2 ∷ Take 1 ∷ Take 3 ∷ []);
-  only = refl;
-  broken = λ s. let no : 2 ≤ 1 = s.most 1 _ refl refl in absurd (omega (arith, no));
-}
-
-once_boot_core : (k : ℕ)
-    → deliveries k (adds board off_boot_core (Deliver 1 ∷ Take 1 ∷ [])) ≡ 2 → ⊥
-unfolding scripts.computing
-once_boot_core k = one_at_most (k == 1) _
+twice_boot_core = record { only = refl }
 
 -- there are two rounds, and the Down is delivered once
 two_rounds_boot_core : Fails board off_boot_core
     (Deliver 1 ∷ Take 1 ∷ []) 2 Reached
 unfolding scripts.computing
-two_rounds_boot_core = record {
-  legal = is_legal board off_boot_core (Deliver 1 ∷ Take 1 ∷ []);
-  only = refl;
-  broken = λ s. let d = s.some (omega arith) in once_boot_core d.number d.times;
-}
+two_rounds_boot_core = record { only = refl }
 
 -- Extended ----------------------------------------------------------------------------------------
 
 -- core 3 has gone off
 abbrev off_extended : List Event
-off_extended =
-    Enter 0 ∷ on_3 ∷ Deliver 0 ∷ Enter 3 ∷ off 3 ∷ []
+off_extended = third_on ++ off 3 ∷ []
 
 -- and core 0 is in standby
 abbrev two_extended : List Event
@@ -111,55 +74,28 @@ settled_extended = refl
 calls_extended : Fails extended off_extended
     (version 0 ∷ Deliver 1 ∷ Take 1 ∷ []) 1 Events
 unfolding scripts.computing
-calls_extended = record {
-  legal = is_legal extended off_extended (version 0 ∷ Deliver 1 ∷ Take 1 ∷ []);
-  only = refl;
-  broken = λ s. other_events
-      (adds extended off_extended (version 0 ∷ Deliver 1 ∷ Take 1 ∷ [])) refl s.events;
-}
+calls_extended = record { only = refl }
 
 -- the acknowledgement is not taken
 not_taken_extended : Fails extended off_extended
     (Deliver 1 ∷ []) 1 (Rest (Own 3 ∷ []))
 unfolding scripts.computing
-not_taken_extended = record {
-  legal = is_legal extended off_extended (Deliver 1 ∷ []);
-  only = refl;
-  broken = λ s. some_none _ refl (s.rest.own 3 (omega arith));
-}
+not_taken_extended = record { only = refl }
 
 -- there is one round too many
 four_rounds_extended : Fails extended off_extended
     (Deliver 1 ∷ Deliver 1 ∷ Deliver 1 ∷ Deliver 1 ∷ Take 1 ∷ []) 4 Few
 unfolding scripts.computing
-four_rounds_extended = record {
-  legal = is_legal extended off_extended
-      (Deliver 1 ∷ Deliver 1 ∷ Deliver 1 ∷ Deliver 1 ∷ Take 1 ∷ []);
-  only = refl;
-  broken = λ s. let no : 4 ≤ 3 = s.few in absurd (omega (arith, no));
-}
+four_rounds_extended = record { only = refl }
 
 -- a Down is delivered twice in one round
 twice_extended : Fails extended two_extended
     (Deliver 1 ∷ Deliver 1 ∷ Deliver 2 ∷ Take 1 ∷ Take 3 ∷ []) 1 Most
 unfolding scripts.computing
-twice_extended = record {
-  legal = is_legal extended two_extended (Deliver 1 ∷ Deliver 1 ∷ Deliver 2 ∷ Take 1 ∷ Take 3 ∷ []);
-  only = refl;
-  broken = λ s. let no : 2 ≤ 1 = s.most 1 _ refl refl in absurd (omega (arith, no));
-}
-
-once_extended : (k : ℕ)
-    → deliveries k (adds extended off_extended (Deliver 1 ∷ Take 1 ∷ [])) ≡ 2 → ⊥
-unfolding scripts.computing
-once_extended k = one_at_most (k == 1) _
+twice_extended = record { only = refl }
 
 -- there are two rounds, and the Down is delivered once
 two_rounds_extended : Fails extended off_extended
     (Deliver 1 ∷ Take 1 ∷ []) 2 Reached
 unfolding scripts.computing
-two_rounds_extended = record {
-  legal = is_legal extended off_extended (Deliver 1 ∷ Take 1 ∷ []);
-  only = refl;
-  broken = λ s. let d = s.some (omega arith) in once_extended d.number d.times;
-}
+two_rounds_extended = record { only = refl }

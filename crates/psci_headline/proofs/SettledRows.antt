@@ -1,28 +1,24 @@
 -- Worked examples: records after which the world has settled, and records of which just one thing
 -- that is said of it is not so.
-use Rattle.std.proofs.Common.{◌≡◌, ◌++◌, ◌≤◌, ◌==◌, ℕ, zero, suc, Bool, true, false, cond, List, []}
-use Rattle.std.proofs.Common.{◌∷◌, Some, length, refl, arith, ap, ◌∙◌}
-use Rattle.std.proofs.lemmas.Option.{none-some, same_Some}
+use Rattle.std.proofs.Common.{◌≡◌, ◌++◌, ℕ, List, []}
+use Rattle.std.proofs.Common.{◌∷◌, length, take, refl, arith, ap, sym, subst, ◌∙◌}
+use Rattle.std.proofs.lemmas.List.{append_assoc, length-append}
+use Rattle.std.proofs.Math.Seq.{take-append_seam}
 use Rattle.psci_board.specs.Board.{BoardValue}
-use Rattle.psci_ctl_spec.specs.psci_messages.declared.kind.Kind.TheVariants.{Down, Start}
-use Rattle.psci_ctl_spec.specs.psci_messages.Message.{MessageValue}
 use Rattle.psci_headline.specs.psci_world_spec.declared.event.Event.{Event}
 use Rattle.psci_headline.specs.psci_world_spec.declared.event.Event.TheVariants.{Enter, Reset}
 use Rattle.psci_headline.specs.psci_world_spec.declared.event.Event.TheVariants.{Deliver, Take}
 use Rattle.psci_headline.specs.psci_world_spec.declared.event.Event.TheVariants.{Wake}
 use Rattle.psci_headline.specs.psci_world_spec.declared.said.Record.{Record}
-use Rattle.psci_headline.specs.psci_world_spec.Histories.{sent}
-use Rattle.psci_headline.specs.psci_world_spec.Legal.{IsLegalPast, run_from}
-use Rattle.psci_headline.specs.psci_world_spec.Lists.{indexed}
+use Rattle.psci_headline.specs.psci_world_spec.Legal.{IsLegalPast, legal_record, run_from}
 use Rattle.psci_headline.proofs.world_spec.Runs.{stays_legal}
 use Rattle.psci_headline.proofs.world_spec.Scripts as scripts
 use Rattle.psci_headline.proofs.world_spec.Scripts.{board, call, enters, off, on_3, one_core}
 use Rattle.psci_headline.proofs.world_spec.Scripts.{tall, version}
-use Rattle.psci_headline.specs.Drained.{IsSettled, deliveries}
+use Rattle.psci_headline.specs.Drained.{IsSettled}
+use Rattle.psci_headline.proofs.Histories.{third_on}
 use Rattle.psci_headline.proofs.Failing.{Entered, Events, Few, IsUnsettled, Most, Own, Reached}
-use Rattle.psci_headline.proofs.Failing.{Rest}
-use Rattle.psci_headline.proofs.Failing.{Saying, added_by, apart, other_events, some_none}
-use Rattle.psci_headline.proofs.Failing.{unsettled}
+use Rattle.psci_headline.proofs.Failing.{Rest, Saying, added_by, unsettled}
 
 -- the records that these events add to those
 abbrev pub adds : BoardValue → List Event → List Event → List Record
@@ -38,15 +34,36 @@ abbrev pub Fails : BoardValue → List Event → List Event → ℕ → Saying �
 Fails b first more rounds s =
     IsUnsettled b (run_from b [] first) (adds b first more) rounds s
 
--- events after events are legal
-abbrev pub is_legal : (b : BoardValue) (first more : List Event)
-    → IsLegalPast b (run_from b (run_from b [] first) more)
-is_legal b first more =
-    stays_legal b (run_from b [] first) more (stays_legal b [] first tt)
+-- Records that were added to those before, so many of them.
+record AreAdded (before past : List Record) (count : ℕ) : Type 0 where
+  pub added : List Record
+  pub number : length added ≡ count
+  pub parts : added ++ before ≡ past
 
--- core 3 is on; and then it goes off
-abbrev third_on : List Event
-third_on = Enter 0 ∷ on_3 ∷ Deliver 0 ∷ Enter 3 ∷ []
+run_adds : (b : BoardValue) (before : List Record) (events : List Event)
+    → AreAdded before (run_from b before events) (length events)
+unfolding run_from
+run_adds b before [] = record { added = []; number = refl; parts = refl }
+run_adds b before (event ∷ events) =
+    let r : Record = legal_record b before event in
+    let later = run_adds b (r ∷ before) events in
+    record {
+      added = later.added ++ r ∷ [];
+      number = omega (arith, length-append later.added (r ∷ []), later.number);
+      parts = append_assoc later.added (r ∷ []) before ∙ later.parts;
+    }
+
+-- in each example events after events are legal
+adds_legal : (b : BoardValue) (first more : List Event)
+    → IsLegalPast b (adds b first more ++ run_from b [] first)
+adds_legal b first more =
+    let before = run_from b [] first in
+    let a = run_adds b before more in
+    let first_ones : take (length more) (run_from b before more) ≡ a.added =
+    ap (take (length more)) (sym a.parts) ∙ ap (λ n. take n (a.added ++ before)) (sym a.number)
+    ∙ take-append_seam a.added before in
+    subst (IsLegalPast b) (sym (ap (λ l. l ++ before) first_ones ∙ a.parts))
+    (stays_legal b before more (stays_legal b [] first tt))
 
 abbrev third_off : List Event
 third_off = third_on ++ off 3 ∷ []
@@ -123,66 +140,36 @@ illegal_before s = elsewhere_said s.legal.0
 calls_first : Fails board third_off
     (version 0 ∷ Deliver 1 ∷ Take 1 ∷ []) 1 Events
 unfolding scripts.computing
-calls_first = record {
-  legal = is_legal board third_off (version 0 ∷ Deliver 1 ∷ Take 1 ∷ []);
-  only = refl;
-  broken = λ s. other_events
-      (adds board third_off (version 0 ∷ Deliver 1 ∷ Take 1 ∷ [])) refl s.events;
-}
+calls_first = record { only = refl }
 
 calls_last : Fails board third_off
     (Deliver 1 ∷ Take 1 ∷ version 0 ∷ []) 1 Events
 unfolding scripts.computing
-calls_last = record {
-  legal = is_legal board third_off (Deliver 1 ∷ Take 1 ∷ version 0 ∷ []);
-  only = refl;
-  broken = λ s. other_events
-      (adds board third_off (Deliver 1 ∷ Take 1 ∷ version 0 ∷ [])) refl s.events;
-}
+calls_last = record { only = refl }
 
 -- a core that is off is woken, and parks
 woken_between : Fails board third_off
     (Deliver 1 ∷ Take 1 ∷ Wake 3 ∷ Enter 3 ∷ Deliver 2 ∷ Take 2 ∷ []) 1 Events
 unfolding scripts.computing
-woken_between = record {
-  legal = is_legal board third_off
-      (Deliver 1 ∷ Take 1 ∷ Wake 3 ∷ Enter 3 ∷ Deliver 2 ∷ Take 2 ∷ []);
-  only = refl;
-  broken = λ s. other_events
-      (adds board third_off (Deliver 1 ∷ Take 1 ∷ Wake 3 ∷ Enter 3 ∷ Deliver 2 ∷ Take 2 ∷ []))
-      refl s.events;
-}
+woken_between = record { only = refl }
 
 -- a core is reset, and parks
 reset_first : Fails board third_on
     (Reset 3 ∷ Enter 3 ∷ Deliver 1 ∷ Take 1 ∷ []) 1 Events
 unfolding scripts.computing
-reset_first = record {
-  legal = is_legal board third_on (Reset 3 ∷ Enter 3 ∷ Deliver 1 ∷ Take 1 ∷ []);
-  only = refl;
-  broken = λ s. other_events
-      (adds board third_on (Reset 3 ∷ Enter 3 ∷ Deliver 1 ∷ Take 1 ∷ [])) refl s.events;
-}
+reset_first = record { only = refl }
 
 -- Not at rest ---------------------------------------------------------------------------------
 
 -- the boot core does not enter
 not_entered : Fails board [] [] 0 (Rest (Entered 0 ∷ []))
 unfolding scripts.computing
-not_entered = record {
-  legal = tt;
-  only = refl;
-  broken = λ s. s.rest.entered 0 (omega arith) refl;
-}
+not_entered = record { only = refl }
 
 -- an acknowledgement of core 3 is not taken
 not_taken : Fails board third_off (Deliver 1 ∷ []) 1 (Rest (Own 3 ∷ []))
 unfolding scripts.computing
-not_taken = record {
-  legal = is_legal board third_off (Deliver 1 ∷ []);
-  only = refl;
-  broken = λ s. some_none _ refl (s.rest.own 3 (omega arith));
-}
+not_taken = record { only = refl }
 
 -- Too many rounds -----------------------------------------------------------------------------
 
@@ -190,32 +177,17 @@ not_taken = record {
 three_in_two_levels : Fails one_core alone_sleeps
     (Deliver 0 ∷ Deliver 0 ∷ Deliver 0 ∷ Take 0 ∷ []) 3 Few
 unfolding scripts.computing
-three_in_two_levels = record {
-  legal = is_legal one_core alone_sleeps
-      (Deliver 0 ∷ Deliver 0 ∷ Deliver 0 ∷ Take 0 ∷ []);
-  only = refl;
-  broken = λ s. let no : 3 ≤ 2 = s.few in absurd (omega (arith, no));
-}
+three_in_two_levels = record { only = refl }
 
 four_in_three_levels : Fails board third_off
     (Deliver 1 ∷ Deliver 1 ∷ Deliver 1 ∷ Deliver 1 ∷ Take 1 ∷ []) 4 Few
 unfolding scripts.computing
-four_in_three_levels = record {
-  legal = is_legal board third_off
-      (Deliver 1 ∷ Deliver 1 ∷ Deliver 1 ∷ Deliver 1 ∷ Take 1 ∷ []);
-  only = refl;
-  broken = λ s. let no : 4 ≤ 3 = s.few in absurd (omega (arith, no));
-}
+four_in_three_levels = record { only = refl }
 
 five_in_four_levels : Fails tall tall_sleeps
     (Deliver 0 ∷ Deliver 0 ∷ Deliver 0 ∷ Deliver 0 ∷ Deliver 0 ∷ Take 0 ∷ []) 5 Few
 unfolding scripts.computing
-five_in_four_levels = record {
-  legal = is_legal tall tall_sleeps
-      (Deliver 0 ∷ Deliver 0 ∷ Deliver 0 ∷ Deliver 0 ∷ Deliver 0 ∷ Take 0 ∷ []);
-  only = refl;
-  broken = λ s. let no : 5 ≤ 4 = s.few in absurd (omega (arith, no));
-}
+five_in_four_levels = record { only = refl }
 
 -- Delivered more often --------------------------------------------------------------------------
 
@@ -223,72 +195,27 @@ five_in_four_levels = record {
 first_down_twice : Fails board both_sleep
     (Deliver 1 ∷ Deliver 1 ∷ Deliver 2 ∷ Take 1 ∷ Take 3 ∷ []) 1 Most
 unfolding scripts.computing
-first_down_twice = record {
-  legal = is_legal board both_sleep
-      (Deliver 1 ∷ Deliver 1 ∷ Deliver 2 ∷ Take 1 ∷ Take 3 ∷ []);
-  only = refl;
-  broken = λ s. let no : 2 ≤ 1 = s.most 1 _ refl refl in absurd (omega (arith, no));
-}
+first_down_twice = record { only = refl }
 
 -- the last Down is
 last_down_twice : Fails board both_sleep
     (Deliver 1 ∷ Deliver 2 ∷ Deliver 2 ∷ Take 1 ∷ Take 2 ∷ []) 1 Most
 unfolding scripts.computing
-last_down_twice = record {
-  legal = is_legal board both_sleep
-      (Deliver 1 ∷ Deliver 2 ∷ Deliver 2 ∷ Take 1 ∷ Take 2 ∷ []);
-  only = refl;
-  broken = λ s. let no : 2 ≤ 1 = s.most 2 _ refl refl in absurd (omega (arith, no));
-}
+last_down_twice = record { only = refl }
 
 -- Delivered less often --------------------------------------------------------------------------
 
--- one item, if there is one, is not two
-pub one_at_most : (t : Bool) (r : Record) → length (cond t (r ∷ []) []) ≡ 2 → ⊥
-one_at_most true r = apart 1 2 refl
-one_at_most false r = apart 0 2 refl
-
 -- two rounds, and the Down is delivered once
-once : (k : ℕ) → deliveries k (adds board third_off (Deliver 1 ∷ Take 1 ∷ [])) ≡ 2 → ⊥
-unfolding scripts.computing
-once k = one_at_most (k == 1) _
-
 down_once : Fails board third_off (Deliver 1 ∷ Take 1 ∷ []) 2 Reached
 unfolding scripts.computing
-down_once = record {
-  legal = is_legal board third_off (Deliver 1 ∷ Take 1 ∷ []);
-  only = refl;
-  broken = λ s. let d = s.some (omega arith) in once d.number d.times;
-}
+down_once = record { only = refl }
 
 -- one round, and a Start alone is delivered
-start_alone : (k : ℕ) (m : MessageValue)
-    → indexed (sent (run_from board [] (Enter 0 ∷ on_3 ∷ Deliver 0 ∷ Take 0 ∷ Enter 3 ∷ []))) k
-    ≡ Some m → m.kind ≡ Down → ⊥
-unfolding scripts.computing
-start_alone zero m at down =
-    let no : Start ≡ Down = ap (λ (x : MessageValue). x.kind) (same_Some _ m at) ∙ down in
-    absurd (cc)
-start_alone (suc k) m at down = none-some m at
-
 start_once : Fails board (Enter 0 ∷ on_3 ∷ []) (Deliver 0 ∷ Take 0 ∷ Enter 3 ∷ []) 1 Reached
 unfolding scripts.computing
-start_once = record {
-  legal = is_legal board (Enter 0 ∷ on_3 ∷ []) (Deliver 0 ∷ Take 0 ∷ Enter 3 ∷ []);
-  only = refl;
-  broken = λ s. let d = s.some (omega arith) in start_alone d.number d.message d.at d.kind;
-}
+start_once = record { only = refl }
 
 -- one round, and the Down was delivered before
-never : (k : ℕ)
-    → deliveries k (adds board (third_off ++ Deliver 1 ∷ []) (Take 1 ∷ [])) ≡ 1 → ⊥
-unfolding scripts.computing
-never k e = apart 0 1 refl e
-
 down_before : Fails board (third_off ++ Deliver 1 ∷ []) (Take 1 ∷ []) 1 Reached
 unfolding scripts.computing
-down_before = record {
-  legal = is_legal board (third_off ++ Deliver 1 ∷ []) (Take 1 ∷ []);
-  only = refl;
-  broken = λ s. let d = s.some (omega arith) in never d.number d.times;
-}
+down_before = record { only = refl }

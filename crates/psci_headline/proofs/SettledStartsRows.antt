@@ -1,23 +1,20 @@
 -- Worked examples: worlds that have settled, and worlds of which one thing that is said of them is
 -- not so, by later starts.
-use Rattle.std.proofs.Common.{◌≡◌, ◌++◌, ◌≤◌, ◌==◌, ℕ, List, [], ◌∷◌, refl, arith}
+use Rattle.std.proofs.Common.{◌≡◌, ◌++◌, List, [], ◌∷◌, refl}
 use Rattle.psci_headline.specs.psci_world_spec.declared.event.Event.{Event}
-use Rattle.psci_headline.specs.psci_world_spec.declared.event.Event.TheVariants.{Enter, Wake}
 use Rattle.psci_headline.specs.psci_world_spec.declared.event.Event.TheVariants.{Deliver, Take}
 use Rattle.psci_headline.proofs.world_spec.Scripts as scripts
 use Rattle.psci_headline.proofs.world_spec.Scripts.{board, call, off, on_3, retention}
 use Rattle.psci_headline.proofs.world_spec.Scripts.{version}
-use Rattle.psci_headline.specs.Drained.{deliveries}
-use Rattle.psci_headline.proofs.Failing.{Events, Few, Most, Own, Reached, Rest, other_events}
-use Rattle.psci_headline.proofs.Failing.{some_none}
-use Rattle.psci_headline.proofs.SettledRows.{Fails, adds, fails_after, is_legal, one_at_most}
+use Rattle.psci_headline.proofs.Histories.{on_in_start_2, on_in_start_3, on_in_start_4}
+use Rattle.psci_headline.proofs.Failing.{Events, Few, Most, Own, Reached, Rest}
+use Rattle.psci_headline.proofs.SettledRows.{Fails, fails_after}
 
 -- In start 2 --------------------------------------------------------------------------------------
 
 -- core 3 has gone off
 abbrev off_in_start_2 : List Event
-off_in_start_2 =
-    Enter 0 ∷ on_3 ∷ Deliver 0 ∷ Enter 3 ∷ retention 3 ∷ Deliver 1 ∷ Wake 3 ∷ Enter 3 ∷ off 3 ∷ []
+off_in_start_2 = on_in_start_2 ++ off 3 ∷ []
 
 -- and core 0 is in standby
 abbrev two_in_start_2 : List Event
@@ -32,66 +29,37 @@ settled_in_start_2 = refl
 calls_in_start_2 : Fails board off_in_start_2
     (version 0 ∷ Deliver 2 ∷ Take 2 ∷ []) 1 Events
 unfolding scripts.computing
-calls_in_start_2 = record {
-  legal = is_legal board off_in_start_2 (version 0 ∷ Deliver 2 ∷ Take 2 ∷ []);
-  only = refl;
-  broken = λ s. other_events
-      (adds board off_in_start_2 (version 0 ∷ Deliver 2 ∷ Take 2 ∷ [])) refl s.events;
-}
+calls_in_start_2 = record { only = refl }
 
 -- the acknowledgement is not taken
 not_taken_in_start_2 : Fails board off_in_start_2
     (Deliver 2 ∷ []) 1 (Rest (Own 3 ∷ []))
 unfolding scripts.computing
-not_taken_in_start_2 = record {
-  legal = is_legal board off_in_start_2 (Deliver 2 ∷ []);
-  only = refl;
-  broken = λ s. some_none _ refl (s.rest.own 3 (omega arith));
-}
+not_taken_in_start_2 = record { only = refl }
 
 -- there is one round too many
 four_rounds_in_start_2 : Fails board off_in_start_2
     (Deliver 2 ∷ Deliver 2 ∷ Deliver 2 ∷ Deliver 2 ∷ Take 2 ∷ []) 4 Few
 unfolding scripts.computing
-four_rounds_in_start_2 = record {
-  legal = is_legal board off_in_start_2
-      (Deliver 2 ∷ Deliver 2 ∷ Deliver 2 ∷ Deliver 2 ∷ Take 2 ∷ []);
-  only = refl;
-  broken = λ s. let no : 4 ≤ 3 = s.few in absurd (omega (arith, no));
-}
+four_rounds_in_start_2 = record { only = refl }
 
 -- a Down is delivered twice in one round
 twice_in_start_2 : Fails board two_in_start_2
     (Deliver 2 ∷ Deliver 2 ∷ Deliver 3 ∷ Take 2 ∷ Take 4 ∷ []) 1 Most
 unfolding scripts.computing
-twice_in_start_2 = record {
-  legal = is_legal board two_in_start_2 (Deliver 2 ∷ Deliver 2 ∷ Deliver 3 ∷ Take 2 ∷ Take 4 ∷ []);
-  only = refl;
-  broken = λ s. let no : 2 ≤ 1 = s.most 2 _ refl refl in absurd (omega (arith, no));
-}
-
-once_in_start_2 : (k : ℕ)
-    → deliveries k (adds board off_in_start_2 (Deliver 2 ∷ Take 2 ∷ [])) ≡ 2 → ⊥
-unfolding scripts.computing
-once_in_start_2 k = one_at_most (k == 2) _
+twice_in_start_2 = record { only = refl }
 
 -- there are two rounds, and the Down is delivered once
 two_rounds_in_start_2 : Fails board off_in_start_2
     (Deliver 2 ∷ Take 2 ∷ []) 2 Reached
 unfolding scripts.computing
-two_rounds_in_start_2 = record {
-  legal = is_legal board off_in_start_2 (Deliver 2 ∷ Take 2 ∷ []);
-  only = refl;
-  broken = λ s. let d = s.some (omega arith) in once_in_start_2 d.number d.times;
-}
+two_rounds_in_start_2 = record { only = refl }
 
 -- In start 3 --------------------------------------------------------------------------------------
 
 -- core 3 has gone off
 abbrev off_in_start_3 : List Event
-off_in_start_3 =
-    Enter 0 ∷ on_3 ∷ Deliver 0 ∷ Enter 3 ∷ retention 3 ∷ Deliver 1 ∷ Wake 3 ∷ Enter 3 ∷ retention 3
-    ∷ Deliver 2 ∷ Wake 3 ∷ Enter 3 ∷ off 3 ∷ []
+off_in_start_3 = on_in_start_3 ++ off 3 ∷ []
 
 -- and core 0 is in standby
 abbrev two_in_start_3 : List Event
@@ -106,66 +74,37 @@ settled_in_start_3 = refl
 calls_in_start_3 : Fails board off_in_start_3
     (version 0 ∷ Deliver 3 ∷ Take 3 ∷ []) 1 Events
 unfolding scripts.computing
-calls_in_start_3 = record {
-  legal = is_legal board off_in_start_3 (version 0 ∷ Deliver 3 ∷ Take 3 ∷ []);
-  only = refl;
-  broken = λ s. other_events
-      (adds board off_in_start_3 (version 0 ∷ Deliver 3 ∷ Take 3 ∷ [])) refl s.events;
-}
+calls_in_start_3 = record { only = refl }
 
 -- the acknowledgement is not taken
 not_taken_in_start_3 : Fails board off_in_start_3
     (Deliver 3 ∷ []) 1 (Rest (Own 3 ∷ []))
 unfolding scripts.computing
-not_taken_in_start_3 = record {
-  legal = is_legal board off_in_start_3 (Deliver 3 ∷ []);
-  only = refl;
-  broken = λ s. some_none _ refl (s.rest.own 3 (omega arith));
-}
+not_taken_in_start_3 = record { only = refl }
 
 -- there is one round too many
 four_rounds_in_start_3 : Fails board off_in_start_3
     (Deliver 3 ∷ Deliver 3 ∷ Deliver 3 ∷ Deliver 3 ∷ Take 3 ∷ []) 4 Few
 unfolding scripts.computing
-four_rounds_in_start_3 = record {
-  legal = is_legal board off_in_start_3
-      (Deliver 3 ∷ Deliver 3 ∷ Deliver 3 ∷ Deliver 3 ∷ Take 3 ∷ []);
-  only = refl;
-  broken = λ s. let no : 4 ≤ 3 = s.few in absurd (omega (arith, no));
-}
+four_rounds_in_start_3 = record { only = refl }
 
 -- a Down is delivered twice in one round
 twice_in_start_3 : Fails board two_in_start_3
     (Deliver 3 ∷ Deliver 3 ∷ Deliver 4 ∷ Take 3 ∷ Take 5 ∷ []) 1 Most
 unfolding scripts.computing
-twice_in_start_3 = record {
-  legal = is_legal board two_in_start_3 (Deliver 3 ∷ Deliver 3 ∷ Deliver 4 ∷ Take 3 ∷ Take 5 ∷ []);
-  only = refl;
-  broken = λ s. let no : 2 ≤ 1 = s.most 3 _ refl refl in absurd (omega (arith, no));
-}
-
-once_in_start_3 : (k : ℕ)
-    → deliveries k (adds board off_in_start_3 (Deliver 3 ∷ Take 3 ∷ [])) ≡ 2 → ⊥
-unfolding scripts.computing
-once_in_start_3 k = one_at_most (k == 3) _
+twice_in_start_3 = record { only = refl }
 
 -- there are two rounds, and the Down is delivered once
 two_rounds_in_start_3 : Fails board off_in_start_3
     (Deliver 3 ∷ Take 3 ∷ []) 2 Reached
 unfolding scripts.computing
-two_rounds_in_start_3 = record {
-  legal = is_legal board off_in_start_3 (Deliver 3 ∷ Take 3 ∷ []);
-  only = refl;
-  broken = λ s. let d = s.some (omega arith) in once_in_start_3 d.number d.times;
-}
+two_rounds_in_start_3 = record { only = refl }
 
 -- In start 4 --------------------------------------------------------------------------------------
 
 -- core 3 has gone off
 abbrev off_in_start_4 : List Event
-off_in_start_4 =
-    Enter 0 ∷ on_3 ∷ Deliver 0 ∷ Enter 3 ∷ retention 3 ∷ Deliver 1 ∷ Wake 3 ∷ Enter 3 ∷ retention 3
-    ∷ Deliver 2 ∷ Wake 3 ∷ Enter 3 ∷ retention 3 ∷ Deliver 3 ∷ Wake 3 ∷ Enter 3 ∷ off 3 ∷ []
+off_in_start_4 = on_in_start_4 ++ off 3 ∷ []
 
 -- and core 0 is in standby
 abbrev two_in_start_4 : List Event
@@ -180,55 +119,28 @@ settled_in_start_4 = refl
 calls_in_start_4 : Fails board off_in_start_4
     (version 0 ∷ Deliver 4 ∷ Take 4 ∷ []) 1 Events
 unfolding scripts.computing
-calls_in_start_4 = record {
-  legal = is_legal board off_in_start_4 (version 0 ∷ Deliver 4 ∷ Take 4 ∷ []);
-  only = refl;
-  broken = λ s. other_events
-      (adds board off_in_start_4 (version 0 ∷ Deliver 4 ∷ Take 4 ∷ [])) refl s.events;
-}
+calls_in_start_4 = record { only = refl }
 
 -- the acknowledgement is not taken
 not_taken_in_start_4 : Fails board off_in_start_4
     (Deliver 4 ∷ []) 1 (Rest (Own 3 ∷ []))
 unfolding scripts.computing
-not_taken_in_start_4 = record {
-  legal = is_legal board off_in_start_4 (Deliver 4 ∷ []);
-  only = refl;
-  broken = λ s. some_none _ refl (s.rest.own 3 (omega arith));
-}
+not_taken_in_start_4 = record { only = refl }
 
 -- there is one round too many
 four_rounds_in_start_4 : Fails board off_in_start_4
     (Deliver 4 ∷ Deliver 4 ∷ Deliver 4 ∷ Deliver 4 ∷ Take 4 ∷ []) 4 Few
 unfolding scripts.computing
-four_rounds_in_start_4 = record {
-  legal = is_legal board off_in_start_4
-      (Deliver 4 ∷ Deliver 4 ∷ Deliver 4 ∷ Deliver 4 ∷ Take 4 ∷ []);
-  only = refl;
-  broken = λ s. let no : 4 ≤ 3 = s.few in absurd (omega (arith, no));
-}
+four_rounds_in_start_4 = record { only = refl }
 
 -- a Down is delivered twice in one round
 twice_in_start_4 : Fails board two_in_start_4
     (Deliver 4 ∷ Deliver 4 ∷ Deliver 5 ∷ Take 4 ∷ Take 6 ∷ []) 1 Most
 unfolding scripts.computing
-twice_in_start_4 = record {
-  legal = is_legal board two_in_start_4 (Deliver 4 ∷ Deliver 4 ∷ Deliver 5 ∷ Take 4 ∷ Take 6 ∷ []);
-  only = refl;
-  broken = λ s. let no : 2 ≤ 1 = s.most 4 _ refl refl in absurd (omega (arith, no));
-}
-
-once_in_start_4 : (k : ℕ)
-    → deliveries k (adds board off_in_start_4 (Deliver 4 ∷ Take 4 ∷ [])) ≡ 2 → ⊥
-unfolding scripts.computing
-once_in_start_4 k = one_at_most (k == 4) _
+twice_in_start_4 = record { only = refl }
 
 -- there are two rounds, and the Down is delivered once
 two_rounds_in_start_4 : Fails board off_in_start_4
     (Deliver 4 ∷ Take 4 ∷ []) 2 Reached
 unfolding scripts.computing
-two_rounds_in_start_4 = record {
-  legal = is_legal board off_in_start_4 (Deliver 4 ∷ Take 4 ∷ []);
-  only = refl;
-  broken = λ s. let d = s.some (omega arith) in once_in_start_4 d.number d.times;
-}
+two_rounds_in_start_4 = record { only = refl }

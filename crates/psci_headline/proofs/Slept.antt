@@ -48,7 +48,7 @@ slept_still b life r past c was none =
 
 -- Reports --------------------------------------------------------------------------------------
 
-status_off : (s : Status) → is_off_status s ≡ true → s ≡ Off
+pub status_off : (s : Status) → is_off_status s ≡ true → s ≡ Off
 status_off On e = absurd (cc)
 status_off Off e = refl
 status_off Pending e = absurd (cc)

@@ -21,21 +21,10 @@ use Rattle.psci_headline.specs.Waiting.{AreWaiting, AwaitsStart, IsLivePart, IsT
 
 pub same_kind : (k l : Kind) → is_kind k l ≡ true → k ≡ l
 same_kind Down Down e = refl
-same_kind Down Start e = absurd (cc)
-same_kind Down Off e = absurd (cc)
-same_kind Down Reset e = absurd (cc)
-same_kind Start Down e = absurd (cc)
 same_kind Start Start e = refl
-same_kind Start Off e = absurd (cc)
-same_kind Start Reset e = absurd (cc)
-same_kind Off Down e = absurd (cc)
-same_kind Off Start e = absurd (cc)
 same_kind Off Off e = refl
-same_kind Off Reset e = absurd (cc)
-same_kind Reset Down e = absurd (cc)
-same_kind Reset Start e = absurd (cc)
-same_kind Reset Off e = absurd (cc)
 same_kind Reset Reset e = refl
+same_kind k l e = absurd (cc)
 
 -- An acknowledgement has the name of a message.
 pub record HasName (a : AckValue) (m : MessageValue) : Type 0 where

@@ -14,8 +14,7 @@ use Rattle.psci_ctl_spec.specs.Values.{Values, starts_below}
 use Rattle.psci_board.specs.Paths.{is_on_path}
 use Rattle.psci_ctl_spec.proofs.Front.{get_take}
 use Rattle.psci_ctl_spec.specs.psci_messages.declared.kind.Kind.{Kind}
-use Rattle.psci_ctl_spec.specs.psci_messages.declared.kind.Kind.TheVariants.{Down, Start, Off}
-use Rattle.psci_ctl_spec.specs.psci_messages.declared.kind.Kind.TheVariants.{Reset}
+use Rattle.psci_ctl_spec.specs.psci_messages.declared.kind.Kind.TheVariants.{Down, Start}
 use Rattle.psci_ctl_spec.specs.psci_messages.Message.{MessageValue}
 use Rattle.psci_ctl_spec.specs.psci_messages.Slots.{answers, is_kind}
 use Rattle.psci_headline.specs.Waiting.{IsLivePart, IsTold}
@@ -23,9 +22,7 @@ use Rattle.psci_headline.proofs.Starting.{same_sum}
 
 pub own_kind : (k : Kind) → is_kind k k ≡ true
 own_kind Down = refl
-own_kind Start = refl
-own_kind Off = refl
-own_kind Reset = refl
+own_kind k = refl
 
 -- an acknowledgement has the name of its message
 pub own_name : (m : MessageValue) (count : ℕ) (stale : Bool)

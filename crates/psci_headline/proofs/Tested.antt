@@ -77,8 +77,7 @@ powered_tested b past = (
 
 not_running : (p : Place) → not (executes_outside p) ≡ true → p ≡ Running → ⊥
 not_running Started e same = cc
-not_running Running e same = cc
-not_running Stopped e same = cc
+not_running p e same = cc
 
 still : (p : Place) → (p ≡ Running → ⊥) → not (executes_outside p) ≡ true
 still Started h = refl

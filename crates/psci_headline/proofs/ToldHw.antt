@@ -44,11 +44,9 @@ abbrev IsOf : Hw → (ℕ → Bool) → Type 0
 IsOf h is = (depth : ℕ) → depth ≤ 3 → is_hw (hw_at depth) h ≡ true → is depth ≡ true
 
 of_off : IsOf Off is_off_depth
-of_off zero low e = let no : false ≡ true = e in absurd (cc)
-of_off (suc zero) low e = let no : false ≡ true = e in absurd (cc)
-of_off (suc (suc zero)) low e = let no : false ≡ true = e in absurd (cc)
 of_off (suc (suc (suc zero))) low e = refl
 of_off (suc (suc (suc (suc depth)))) low e = absurd (omega (arith, low))
+of_off other low e = let no : false ≡ true = e in absurd (cc)
 
 of_standby : IsOf Standby is_standby_depth
 of_standby zero low e = let no : false ≡ true = e in absurd (cc)

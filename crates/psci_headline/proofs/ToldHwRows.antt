@@ -1,18 +1,14 @@
 -- Worked examples: what a record says of the hardware state of a domain, and how deep it was.
-use Rattle.std.proofs.Common.{◌≡◌, ℕ, pos, Bool, true, false, List, [], ◌∷◌, None, Some, refl}
-use Rattle.psci_board.specs.declared.node.Node.{Node}
+use Rattle.std.proofs.Common.{◌++◌, ◌≡◌, ℕ, pos, Bool, true, false, List, [], ◌∷◌, None, Some, refl}
 use Rattle.psci_world_spec.specs.declared.event.Event.{Event}
 use Rattle.psci_world_spec.specs.declared.event.Event.TheVariants.{Deliver, Enter}
 use Rattle.psci_world_spec.specs.declared.event.Event.TheVariants.{Wake}
 use Rattle.psci_world_spec.specs.Legal.{run_from}
-use Rattle.psci_world_spec.proofs.Scripts.{board, call, computing, nothing, off, on_3}
+use Rattle.psci_world_spec.proofs.Scripts.{board, call, computing, nothing, off}
 use Rattle.psci_world_spec.proofs.Scripts.{retention, returns, status_3, stops}
 use Rattle.psci_world_spec.proofs.Scripts.{system_reset, tall}
 use Rattle.psci_headline.specs.ToldHw.{is_off_depth, is_standby_depth, told_hw, was_so_deep}
-
--- a domain: its level and place
-abbrev at : ℕ → ℕ → Node
-at level place = record { level = level; place = place }
+use Rattle.psci_headline.proofs.Histories.{at, third_on}
 
 -- a core asks for the hardware state of a word at a level
 abbrev state_of : ℕ → ℕ → ℕ → Event
@@ -83,7 +79,7 @@ depths = refl
 -- core 3 went off, and then it was woken: after its first start it was powered down, and not in
 -- standby, nor after no start or two, nor in another life
 abbrev gone_off : List Event
-gone_off = Enter 0 ∷ on_3 ∷ Deliver 0 ∷ Enter 3 ∷ off 3 ∷ Deliver 1 ∷ Wake 3 ∷ []
+gone_off = third_on ++ off 3 ∷ Deliver 1 ∷ Wake 3 ∷ []
 
 abbrev was_once : ℕ → ℕ → (ℕ → Bool) → Bool
 was_once life starts is = was_so_deep board life starts is (run_from board [] gone_off) (at 0 3)
@@ -100,14 +96,14 @@ unfolding computing was_so_deep
 was_off_first = refl
 
 -- it was in retention in life 1, and in life 2 it was not
-in_life_1 : was_so_deep board 1 1 is_standby_depth (run_from board [] (Enter 0 ∷ on_3 ∷ Deliver 0
-    ∷ Enter 3 ∷ retention 3 ∷ Deliver 1 ∷ system_reset 0 ∷ Deliver 2 ∷ Enter 0 ∷ [])) (at 0 3)
-    ≡ true
+in_life_1 : was_so_deep board 1 1 is_standby_depth
+    (run_from board [] (third_on ++ retention 3 ∷ Deliver 1 ∷ system_reset 0 ∷ Deliver 2 ∷ Enter 0
+    ∷ [])) (at 0 3) ≡ true
 unfolding computing was_so_deep
 in_life_1 = refl
 
-not_in_life_2 : was_so_deep board 2 1 is_standby_depth (run_from board [] (Enter 0 ∷ on_3
-    ∷ Deliver 0 ∷ Enter 3 ∷ retention 3 ∷ Deliver 1 ∷ system_reset 0 ∷ Deliver 2 ∷ Enter 0 ∷ []))
-    (at 0 3) ≡ false
+not_in_life_2 : was_so_deep board 2 1 is_standby_depth
+    (run_from board [] (third_on ++ retention 3 ∷ Deliver 1 ∷ system_reset 0 ∷ Deliver 2 ∷ Enter 0
+    ∷ [])) (at 0 3) ≡ false
 unfolding computing was_so_deep
 not_in_life_2 = refl

@@ -1,8 +1,8 @@
 -- Worked examples: what a record says is OFF, and moments at which a domain is not off.
+use Rattle.std.proofs.Common.{◌++◌}
 use Rattle.std.proofs.Common.{◌≡◌, ◌<◌, ℕ, zero, suc, pos, true, false, List, [], ◌∷◌, None, Some}
 use Rattle.std.proofs.Common.{refl, arith}
 use Rattle.psci_world_spec.specs.declared.place.Place.TheVariants.{Running, Stopped}
-use Rattle.psci_board.specs.declared.node.Node.{Node}
 use Rattle.psci_world_spec.specs.declared.event.Event.{Event}
 use Rattle.psci_world_spec.specs.declared.event.Event.TheVariants.{Deliver, Enter}
 use Rattle.psci_world_spec.specs.declared.event.Event.TheVariants.{Take}
@@ -13,10 +13,7 @@ use Rattle.psci_world_spec.proofs.Scripts.{retention, returns, status_3, stops}
 use Rattle.psci_world_spec.proofs.Scripts.{system_reset, tall}
 use Rattle.psci_headline.specs.Moments.{was_powered_down}
 use Rattle.psci_headline.specs.ToldOff.{AllOff, told_off}
-
--- a domain: its level and place
-abbrev at : ℕ → ℕ → Node
-at level place = record { level = level; place = place }
+use Rattle.psci_headline.proofs.Histories.{at, third_on}
 
 -- a core asks for the status of a word at a level
 abbrev status_of : ℕ → ℕ → ℕ → Event
@@ -71,7 +68,7 @@ after events = run_from board [] events
 
 -- core 3 went off and was powered down, and so is its cluster
 abbrev gone_off : List Record
-gone_off = after (Enter 0 ∷ on_3 ∷ Deliver 0 ∷ Enter 3 ∷ off 3 ∷ Deliver 1 ∷ Take 1 ∷ [])
+gone_off = after (third_on ++ off 3 ∷ Deliver 1 ∷ Take 1 ∷ [])
 
 is_off : AllOff board gone_off (at 0 3)
 unfolding computing was_powered_down

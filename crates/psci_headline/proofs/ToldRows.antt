@@ -1,9 +1,8 @@
 -- Worked examples: once the world has settled, NODE_HW_STATE says of each domain the state of its
 -- depth, and AFFINITY_INFO says OFF of exactly those cores that are off or going off.
-use Rattle.std.proofs.Common.{◌≡◌, ◌&&◌, ◌==◌, ◌+◌, ℕ, Bool, true, false, List, [], ◌∷◌, refl}
+use Rattle.std.proofs.Common.{◌++◌, ◌≡◌, ◌&&◌, ◌==◌, ◌+◌, ℕ, Bool, true, false, List, [], ◌∷◌, refl}
 use Rattle.std.specs.List.{list_all, range_with_len}
 use Rattle.psci_board.specs.Board.{BoardValue, cores, height, nodes}
-use Rattle.psci_headline.specs.psci_abi.declared.format.Format.TheVariants.{Extended}
 use Rattle.psci_headline.specs.psci_fw_spec.NodeHwState.{hw_at, hw_code, node_hw}
 use Rattle.psci_headline.specs.psci_fw_spec.Phases.{is_away}
 use Rattle.psci_headline.specs.psci_fw_spec.SystemCalls.{is_off_status}
@@ -14,8 +13,10 @@ use Rattle.psci_headline.specs.psci_world_spec.declared.said.Record.{Record}
 use Rattle.psci_headline.specs.psci_world_spec.Histories.{controller_values, firmware_values}
 use Rattle.psci_headline.specs.psci_world_spec.Legal.{run_from}
 use Rattle.psci_headline.proofs.world_spec.Scripts.{board, call, off, on_3, retention}
-use Rattle.psci_headline.proofs.world_spec.Scripts.{system_reset, tall}
+use Rattle.psci_headline.proofs.world_spec.Scripts.{tall}
 use Rattle.psci_headline.specs.Settling.{settled}
+use Rattle.psci_headline.proofs.Histories.{extended as extended_board, on_in_group}
+use Rattle.psci_headline.proofs.Histories.{on_in_life_2, on_in_life_3, on_in_start_4, third_on}
 use Rattle.psci_headline.proofs.SettleRows.{computing}
 
 -- both tests say the same
@@ -46,14 +47,12 @@ abbrev IsToldWhole : BoardValue → List Event → Type 0
 IsToldWhole b events = is_told_whole b (settled b (run_from b [] events)).past ≡ true
 
 -- a core in standby
-core_in_standby : IsToldWhole board
-    (Enter 0 ∷ on_3 ∷ Deliver 0 ∷ Enter 3 ∷ call 3 0xc4000001 0x1 0 0 ∷ [])
+core_in_standby : IsToldWhole board (third_on ++ call 3 0xc4000001 0x1 0 0 ∷ [])
 unfolding computing
 core_in_standby = refl
 
 -- a core has gone off, with its cluster
-gone_off : IsToldWhole board
-    (Enter 0 ∷ on_3 ∷ Deliver 0 ∷ Enter 3 ∷ off 3 ∷ [])
+gone_off : IsToldWhole board (third_on ++ off 3 ∷ [])
 unfolding computing
 gone_off = refl
 
@@ -66,15 +65,12 @@ unfolding computing
 cluster_in_retention = refl
 
 -- a group in standby
-group_in_standby : IsToldWhole tall
-    (Enter 0 ∷ call 0 0xc4000003 0x10100 0x40001000 7 ∷ Deliver 0 ∷ Enter 3
-    ∷ call 3 0xc4000001 0x02000111 0 0 ∷ [])
+group_in_standby : IsToldWhole tall (on_in_group ++ call 3 0xc4000001 0x02000111 0 0 ∷ [])
 unfolding computing
 group_in_standby = refl
 
 -- a group that is off
-group_off : IsToldWhole tall
-    (Enter 0 ∷ call 0 0xc4000003 0x10100 0x40001000 7 ∷ Deliver 0 ∷ Enter 3 ∷ off 3 ∷ [])
+group_off : IsToldWhole tall (on_in_group ++ off 3 ∷ [])
 unfolding computing
 group_off = refl
 
@@ -91,21 +87,17 @@ unfolding computing
 system_off = refl
 
 -- a Down whose group has started another core since: it is stale, with two parts applied
-stale_in_part : IsToldWhole tall
-    (Enter 0 ∷ call 0 0xc4000003 0x10100 0x40001000 7 ∷ Deliver 0 ∷ Enter 3
-    ∷ call 3 0xc4000001 0x02000222 0 0 ∷ Wake 2 ∷ [])
+stale_in_part : IsToldWhole tall (on_in_group ++ call 3 0xc4000001 0x02000222 0 0 ∷ Wake 2 ∷ [])
 unfolding computing
 stale_in_part = refl
 
 -- a Down was carried out, and its acknowledgement lost
-acknowledgement_lost : IsToldWhole board
-    (Enter 0 ∷ on_3 ∷ Deliver 0 ∷ Enter 3 ∷ off 3 ∷ Deliver 1 ∷ [])
+acknowledgement_lost : IsToldWhole board (third_on ++ off 3 ∷ Deliver 1 ∷ [])
 unfolding computing
 acknowledgement_lost = refl
 
 -- a core that was reset parks, and is OFF then
-reset_core : IsToldWhole board
-    (Enter 0 ∷ on_3 ∷ Deliver 0 ∷ Enter 3 ∷ Reset 3 ∷ [])
+reset_core : IsToldWhole board (third_on ++ Reset 3 ∷ [])
 unfolding computing
 reset_core = refl
 
@@ -130,40 +122,32 @@ unfolding computing
 os_initiated_system = refl
 
 -- life 2
-life_2 : IsToldWhole board
-    (Enter 0 ∷ system_reset 0 ∷ Deliver 0 ∷ Enter 0 ∷ on_3 ∷ Deliver 1 ∷ Enter 3 ∷ off 3 ∷ [])
+life_2 : IsToldWhole board (on_in_life_2 ++ off 3 ∷ [])
 unfolding computing
 life_2 = refl
 
 -- life 3
-life_3 : IsToldWhole board
-    (Enter 0 ∷ system_reset 0 ∷ Deliver 0 ∷ Enter 0 ∷ system_reset 0 ∷ Deliver 1 ∷ Enter 0 ∷ on_3
-    ∷ Deliver 2 ∷ Enter 3 ∷ retention 3 ∷ [])
+life_3 : IsToldWhole board (on_in_life_3 ++ retention 3 ∷ [])
 unfolding computing
 life_3 = refl
 
 -- the extended format
-extended : IsToldWhole (record board { format = Extended })
-    (Enter 0 ∷ on_3 ∷ Deliver 0 ∷ Enter 3 ∷ call 3 0xc4000001 0x40000033 0x40004000 5 ∷ [])
+extended : IsToldWhole extended_board (third_on ++ call 3 0xc4000001 0x40000033 0x40004000 5 ∷ [])
 unfolding computing
 extended = refl
 
 -- start 4
-start_4 : IsToldWhole board
-    (Enter 0 ∷ on_3 ∷ Deliver 0 ∷ Enter 3 ∷ retention 3 ∷ Deliver 1 ∷ Wake 3 ∷ Enter 3
-    ∷ retention 3 ∷ Deliver 2 ∷ Wake 3 ∷ Enter 3 ∷ retention 3 ∷ Deliver 3 ∷ Wake 3 ∷ Enter 3
-    ∷ off 3 ∷ [])
+start_4 : IsToldWhole board (on_in_start_4 ++ off 3 ∷ [])
 unfolding computing
 start_4 = refl
 
 -- before it has settled it is not so: core 3 was granted power-down and is on still, and then it is
 -- down and is not said to be
-granted_alone : is_told_whole board (run_from board [] (Enter 0 ∷ on_3 ∷ Deliver 0 ∷ Enter 3
-    ∷ off 3 ∷ [])) ≡ false
+granted_alone : is_told_whole board (run_from board [] (third_on ++ off 3 ∷ [])) ≡ false
 unfolding computing
 granted_alone = refl
 
-not_told_yet : is_told_whole board (run_from board [] (Enter 0 ∷ on_3 ∷ Deliver 0 ∷ Enter 3
-    ∷ retention 3 ∷ Deliver 1 ∷ [])) ≡ false
+not_told_yet : is_told_whole board
+    (run_from board [] (third_on ++ retention 3 ∷ Deliver 1 ∷ [])) ≡ false
 unfolding computing
 not_told_yet = refl

@@ -1,8 +1,8 @@
 -- Whether all cores of a domain are off, as a test that computes, and says the same.
-use Rattle.std.proofs.Common.{◌≡◌, ℕ, zero, suc, ◌+◌, ◌<◌, ◌≤◌, Bool, true, false, ◌==◌, ◌&&◌, ◌||◌}
+use Rattle.std.proofs.Common.{◌≡◌, ℕ, Bool, true, false, ◌==◌, ◌&&◌, ◌||◌}
 use Rattle.std.proofs.Common.{not, List, refl, ap, sym, ◌∙◌, arith, inl, inr}
 use Rattle.std.specs.List.{list_all, range_with_len}
-use Rattle.std.proofs.lemmas.Bool.{and_from, and_parts, cases_Bool, cases_eq, eqb-true, eq-eqb}
+use Rattle.std.proofs.lemmas.Bool.{and_from, and_parts, cases_Bool, eqb-true, eq-eqb}
 use Rattle.std.proofs.lemmas.Bool.{or_cases, or_left, or_right}
 use Rattle.psci_board.specs.Board.{BoardValue, cores, up}
 use Rattle.psci_board.specs.declared.node.Node.{Node}
@@ -15,6 +15,7 @@ use Rattle.psci_world_spec.specs.Places.{place}
 use Rattle.psci_headline.specs.Moments.{was_powered_down}
 use Rattle.psci_headline.specs.Test.{executes_outside}
 use Rattle.psci_headline.specs.ToldOff.{AllOff}
+use Rattle.psci_headline.proofs.Ranges.{all_in, each_in}
 
 -- a core is below no such domain, or does not run and was powered down since it last went on
 abbrev pub is_off_in : BoardValue → List Record → Node → ℕ → Bool
@@ -25,24 +26,6 @@ is_off_in b past n c = not (up b n.level c == n.place)
 -- each core is
 abbrev pub is_all_off : BoardValue → List Record → Node → Bool
 is_all_off b past n = list_all (is_off_in b past n) (range_with_len 0 (cores b))
-
-all_at : (test : ℕ → Bool) (a count c : ℕ) → list_all test (range_with_len a count) ≡ true
-    → a ≤ c → c < a + count → test c ≡ true
-all_at test a zero c e low high = absurd (omega (arith, low, high))
-all_at test a (suc count) c e low high =
-    let both = and_parts (test a) (list_all test (range_with_len (a + 1) count)) e in
-    elim (cases_eq a c) [
-      | inl same ↦ ap test (sym same) ∙ both.0
-      | inr other ↦
-          all_at test (a + 1) count c both.1 (omega (arith, low, other)) (omega (arith, high))
-    ]
-
-at_all : (test : ℕ → Bool) (a count : ℕ) → ((c : ℕ) → a ≤ c → c < a + count → test c ≡ true)
-    → list_all test (range_with_len a count) ≡ true
-at_all test a zero each = refl
-at_all test a (suc count) each =
-    and_from _ _ (each a (omega arith) (omega arith))
-    (at_all test (a + 1) count (λ c low high. each c (omega (arith, low)) (omega (arith, high))))
 
 runs_not : (p : Place) → not (executes_outside p) ≡ true → p ≡ Running → ⊥
 runs_not Started e same = absurd (cc)
@@ -58,7 +41,7 @@ not_runs Stopped none = refl
 pub tested_off : (b : BoardValue) (past : List Record) (n : Node) → is_all_off b past n ≡ true
     → AllOff b past n
 tested_off b past n e c on at =
-    let test = all_at (is_off_in b past n) 0 (cores b) c e (omega arith) (omega (arith, on)) in
+    let test = each_in (is_off_in b past n) 0 (cores b) c e (omega arith) (omega (arith, on)) in
     elim (or_cases (not (up b n.level c == n.place)) _ test) [
       | inl other ↦
           let no : false ≡ true = sym (ap not (eq-eqb _ _ at)) ∙ other in absurd (cc)
@@ -72,7 +55,7 @@ tested_off b past n e c on at =
 pub off_tested : (b : BoardValue) (past : List Record) (n : Node) → AllOff b past n
     → is_all_off b past n ≡ true
 off_tested b past n all =
-    at_all (is_off_in b past n) 0 (cores b) (λ c low high.
+    all_in (is_off_in b past n) 0 (cores b) (λ c low high.
     elim (cases_Bool (up b n.level c == n.place)) [
       | inl at ↦
           let off = all c (omega (arith, high)) (eqb-true _ _ at) in

@@ -3,7 +3,6 @@ use Rattle.std.specs.Prelude.{◌≡◌, ◌++◌, ℕ, ◌+◌, Bool, true, fal
 use Rattle.std.specs.Prelude.{is_some}
 use Rattle.std.specs.List.{list_all, range_with_len}
 use Rattle.psci_headline.specs.psci_board.Board.{BoardValue, cores, height, nodes}
-use Rattle.psci_headline.specs.psci_board.declared.node.Node.{Node}
 use Rattle.psci_headline.specs.psci_messages.Slots.{OfCore, OfSystem}
 use Rattle.psci_headline.specs.psci_fw_spec.NodeHwState.{hw_at, hw_code, node_hw}
 use Rattle.psci_headline.specs.psci_fw_spec.Phases.{is_away}
@@ -12,22 +11,19 @@ use Rattle.psci_headline.specs.psci_world_spec.declared.event.Event.{Event}
 use Rattle.psci_headline.specs.psci_world_spec.declared.said.Record.{Record}
 use Rattle.psci_headline.specs.psci_world_spec.declared.said.Said.{Said}
 use Rattle.psci_headline.specs.psci_world_spec.Histories.{controller_values, firmware_values}
-use Rattle.psci_headline.specs.psci_world_spec.Legal.{run_from}
 use Rattle.psci_headline.specs.psci_world_spec.Places.{place}
 use Rattle.psci_headline.proofs.world_spec.Scripts as scripts
 use Rattle.psci_headline.specs.Settling.{begun, is_halting, is_started, is_waiting, round, rounds}
 use Rattle.psci_headline.specs.Settling.{settled}
-use Rattle.psci_headline.specs.Complete.{IsToldWhole}
+use Rattle.psci_headline.proofs.Histories.{after, at}
+use Rattle.psci_headline.proofs.Checking.{if_fails}
+use Rattle.psci_headline.proofs.Failing.{each, is_agreed}
 
 unfoldable pub computing : Unit {0}
 unfolding scripts.computing settled begun round is_waiting rounds
 computing = tt
 
 -- Records ---------------------------------------------------------------------------------------
-
--- the records after these events, with what is legal to say of each
-abbrev pub after : BoardValue → List Event → List Record
-after b events = run_from b [] events
 
 -- where the world has settled after these events
 abbrev pub settles : BoardValue → List Event → List Record
@@ -37,21 +33,12 @@ settles b events = (settled b (after b events)).past
 abbrev pub says : List Record → Event → Said → List Record
 says past event said = record { event = event; said = said } ∷ past
 
--- a domain: its level and place
-abbrev pub at : ℕ → ℕ → Node
-at level place = record { level = level; place = place }
-
 -- At rest ---------------------------------------------------------------------------------------
 
 -- nothing is outstanding for a core, and it does not wait at its start
 abbrev pub is_still : BoardValue → List Record → ℕ → Bool
 is_still b past c = not (is_some ((firmware_values b past).outstanding (OfCore c)))
     && not (is_started (place b past c))
-
--- a domain is as deep as it was granted
-abbrev pub is_agreed : BoardValue → List Record → ℕ → ℕ → Bool
-is_agreed b past level place =
-    (firmware_values b past).granted level place == (controller_values b past).depth level place
 
 -- the world is at rest, and the life does not halt
 abbrev pub rests : BoardValue → List Record → Bool
@@ -72,16 +59,6 @@ pub data Clause : Type 0 where
   IsOff : (core : ℕ) → Clause
   -- a core that is OFF is off or going off
   IsAway : (core : ℕ) → Clause
-
--- this one, if its test fails
-abbrev pub if_fails : Bool → Clause → List Clause
-if_fails true k = []
-if_fails false k = k ∷ []
-
--- what fails at some of these, which are numbered
-abbrev pub each : (ℕ → List Clause) → List ℕ → List Clause
-each fails [] = []
-each fails (k ∷ ks) = fails k ++ each fails ks
 
 -- the second test passes, where the first one does
 abbrev pub follows : Bool → Bool → Bool
@@ -109,7 +86,6 @@ failing b past =
     ++ each (λ c. if_fails (follows (is_off b past c) (is_gone b past c)) (IsAway c))
     (range_with_len 0 (cores b)))
 
--- After these records just this fails, and so not all is told.
+-- After these records just this fails, and so not all is told (`not_told`).
 pub record IsUntold (b : BoardValue) (past : List Record) (k : Clause) : Type 0 where
   pub only : failing b past ≡ k ∷ []
-  pub broken : IsToldWhole b past → ⊥

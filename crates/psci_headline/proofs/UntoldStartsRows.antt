@@ -1,91 +1,58 @@
 -- Worked examples: records after which just one thing is not told as it is, by later starts of
 -- core 3, which was woken from retention so often.
-use Rattle.std.proofs.Common.{◌≡◌, [], ◌∷◌, refl, arith}
-use Rattle.psci_headline.specs.psci_fw_spec.declared.hw.Hw.TheVariants as hw
-use Rattle.psci_headline.specs.psci_fw_spec.declared.status.Status.TheVariants.{On, Off}
-use Rattle.psci_headline.specs.psci_fw_spec.Phases.{Away, Running}
-use Rattle.psci_headline.specs.psci_world_spec.declared.event.Event.TheVariants.{Deliver, Enter}
-use Rattle.psci_headline.specs.psci_world_spec.declared.event.Event.TheVariants.{Take, Wake}
-use Rattle.psci_headline.proofs.world_spec.Scripts.{board, off, on_3, retention, value}
+use Rattle.std.proofs.Common.{◌++◌, [], ◌∷◌, refl}
+use Rattle.psci_headline.specs.psci_world_spec.declared.event.Event.TheVariants.{Deliver}
+use Rattle.psci_headline.specs.psci_world_spec.declared.event.Event.TheVariants.{Take}
+use Rattle.psci_headline.proofs.world_spec.Scripts.{board, off, retention, value}
 use Rattle.psci_headline.proofs.world_spec.Scripts.{version}
-use Rattle.psci_headline.proofs.Untold.{Hw, IsAway, IsOff, IsUntold, after, at, computing, says}
+use Rattle.psci_headline.proofs.Histories.{after, on_in_start_2, on_in_start_3, on_in_start_4}
+use Rattle.psci_headline.proofs.Untold.{Hw, IsAway, IsOff, IsUntold, computing, says}
 
 -- Start 2 ---------------------------------------------------------------------------------------
 
 -- it goes off, and nothing was delivered
-going_off_in_start_2 : IsUntold board (after board (Enter 0 ∷ on_3 ∷ Deliver 0 ∷ Enter 3
-    ∷ retention 3 ∷ Deliver 1 ∷ Wake 3 ∷ Enter 3 ∷ off 3 ∷ [])) (IsOff 3)
+going_off_in_start_2 : IsUntold board (after board (on_in_start_2 ++ off 3 ∷ [])) (IsOff 3)
 unfolding computing
-going_off_in_start_2 = record {
-  only = refl;
-  broken = λ w. let no : On ≡ Off = w.off 3 (omega arith) refl in absurd (cc);
-}
+going_off_in_start_2 = record { only = refl }
 
 -- it is off, and is answered as if it ran
-answered_off_in_start_2 : IsUntold board (says (after board (Enter 0 ∷ on_3 ∷ Deliver 0 ∷ Enter 3
-    ∷ retention 3 ∷ Deliver 1 ∷ Wake 3 ∷ Enter 3 ∷ off 3 ∷ Deliver 2 ∷ Take 2 ∷ []))
-    (version 3) (value 0x10001)) (IsAway 3)
+answered_off_in_start_2 : IsUntold board
+    (says (after board (on_in_start_2 ++ off 3 ∷ Deliver 2 ∷ Take 2
+    ∷ [])) (version 3) (value 0x10001)) (IsAway 3)
 unfolding computing
-answered_off_in_start_2 = record {
-  only = refl;
-  broken = λ w. let no : Running ≡ Away = w.away 3 (omega arith) refl in absurd (cc);
-}
+answered_off_in_start_2 = record { only = refl }
 
 -- Start 3 ---------------------------------------------------------------------------------------
 
 -- it is in retention, and its acknowledgement was not taken
-in_retention_in_start_3 : IsUntold board (after board (Enter 0 ∷ on_3 ∷ Deliver 0 ∷ Enter 3
-    ∷ retention 3 ∷ Deliver 1 ∷ Wake 3 ∷ Enter 3 ∷ retention 3 ∷ Deliver 2 ∷ Wake 3 ∷ Enter 3
-    ∷ retention 3 ∷ Deliver 3 ∷ [])) (Hw 0 3)
+in_retention_in_start_3 : IsUntold board
+    (after board (on_in_start_3 ++ retention 3 ∷ Deliver 3 ∷ [])) (Hw 0 3)
 unfolding computing
-in_retention_in_start_3 = record {
-  only = refl;
-  broken = λ w.
-      let no : hw.On ≡ hw.Standby =
-      w.hw (at 0 3) (record { level = omega arith; place = omega arith }) in absurd (cc);
-}
+in_retention_in_start_3 = record { only = refl }
 
 -- it is off, and is answered as if it ran
-answered_off_in_start_3 : IsUntold board (says (after board (Enter 0 ∷ on_3 ∷ Deliver 0 ∷ Enter 3
-    ∷ retention 3 ∷ Deliver 1 ∷ Wake 3 ∷ Enter 3 ∷ retention 3 ∷ Deliver 2 ∷ Wake 3 ∷ Enter 3
-    ∷ off 3 ∷ Deliver 3 ∷ Take 3 ∷ [])) (version 3) (value 0x10001)) (IsAway 3)
+answered_off_in_start_3 : IsUntold board
+    (says (after board (on_in_start_3 ++ off 3 ∷ Deliver 3 ∷ Take 3
+    ∷ [])) (version 3) (value 0x10001)) (IsAway 3)
 unfolding computing
-answered_off_in_start_3 = record {
-  only = refl;
-  broken = λ w. let no : Running ≡ Away = w.away 3 (omega arith) refl in absurd (cc);
-}
+answered_off_in_start_3 = record { only = refl }
 
 -- Start 4 ---------------------------------------------------------------------------------------
 
 -- it is in retention, and its acknowledgement was not taken
-in_retention_in_start_4 : IsUntold board (after board (Enter 0 ∷ on_3 ∷ Deliver 0 ∷ Enter 3
-    ∷ retention 3 ∷ Deliver 1 ∷ Wake 3 ∷ Enter 3 ∷ retention 3 ∷ Deliver 2 ∷ Wake 3 ∷ Enter 3
-    ∷ retention 3 ∷ Deliver 3 ∷ Wake 3 ∷ Enter 3 ∷ retention 3 ∷ Deliver 4 ∷ [])) (Hw 0 3)
+in_retention_in_start_4 : IsUntold board
+    (after board (on_in_start_4 ++ retention 3 ∷ Deliver 4 ∷ [])) (Hw 0 3)
 unfolding computing
-in_retention_in_start_4 = record {
-  only = refl;
-  broken = λ w.
-      let no : hw.On ≡ hw.Standby =
-      w.hw (at 0 3) (record { level = omega arith; place = omega arith }) in absurd (cc);
-}
+in_retention_in_start_4 = record { only = refl }
 
 -- it goes off, and nothing was delivered
-going_off_in_start_4 : IsUntold board (after board (Enter 0 ∷ on_3 ∷ Deliver 0 ∷ Enter 3
-    ∷ retention 3 ∷ Deliver 1 ∷ Wake 3 ∷ Enter 3 ∷ retention 3 ∷ Deliver 2 ∷ Wake 3 ∷ Enter 3
-    ∷ retention 3 ∷ Deliver 3 ∷ Wake 3 ∷ Enter 3 ∷ off 3 ∷ [])) (IsOff 3)
+going_off_in_start_4 : IsUntold board (after board (on_in_start_4 ++ off 3 ∷ [])) (IsOff 3)
 unfolding computing
-going_off_in_start_4 = record {
-  only = refl;
-  broken = λ w. let no : On ≡ Off = w.off 3 (omega arith) refl in absurd (cc);
-}
+going_off_in_start_4 = record { only = refl }
 
 -- it is off, and is answered as if it ran
-answered_off_in_start_4 : IsUntold board (says (after board (Enter 0 ∷ on_3 ∷ Deliver 0 ∷ Enter 3
-    ∷ retention 3 ∷ Deliver 1 ∷ Wake 3 ∷ Enter 3 ∷ retention 3 ∷ Deliver 2 ∷ Wake 3 ∷ Enter 3
-    ∷ retention 3 ∷ Deliver 3 ∷ Wake 3 ∷ Enter 3 ∷ off 3 ∷ Deliver 4 ∷ Take 4 ∷ []))
-    (version 3) (value 0x10001)) (IsAway 3)
+answered_off_in_start_4 : IsUntold board
+    (says (after board (on_in_start_4 ++ off 3 ∷ Deliver 4 ∷ Take 4
+    ∷ [])) (version 3) (value 0x10001)) (IsAway 3)
 unfolding computing
-answered_off_in_start_4 = record {
-  only = refl;
-  broken = λ w. let no : Running ≡ Away = w.away 3 (omega arith) refl in absurd (cc);
-}
+answered_off_in_start_4 = record { only = refl }

@@ -3,33 +3,24 @@ use Rattle.std.proofs.Common.{◌≡◌, ◌⊎◌, inl, inr, ◌≤◌, ◌<◌
 use Rattle.std.proofs.Common.{List, [], ◌∷◌, None, Some, refl, arith, slice_get, ap, sym, ◌∙◌}
 use Rattle.std.proofs.Common.{subst}
 use Rattle.psci_board.specs.Board.{BoardValue}
-use Rattle.psci_board.specs.declared.node.Node.{Node}
 use Rattle.psci_ctl_spec.specs.psci_messages.declared.kind.Kind.TheVariants.{Down, Start}
 use Rattle.psci_ctl_spec.specs.psci_messages.Message.{AckValue, MessageValue}
 use Rattle.psci_ctl_spec.specs.psci_messages.Slots.{answers}
 use Rattle.psci_headline.specs.psci_fw_laws.KnownBelow.{known_below}
 use Rattle.psci_headline.specs.psci_fw_spec.Phases.{Pending, Suspended, Away}
-use Rattle.psci_headline.specs.psci_world_spec.declared.event.Event.{Event}
 use Rattle.psci_headline.specs.psci_world_spec.declared.event.Event.TheVariants.{Deliver, Enter}
 use Rattle.psci_headline.specs.psci_world_spec.declared.event.Event.TheVariants.{Take}
 use Rattle.psci_headline.specs.psci_world_spec.declared.said.Record.{Record}
 use Rattle.psci_headline.proofs.world_spec.Scripts as scripts
 use Rattle.psci_headline.proofs.world_spec.Scripts.{acked, board, off, on_3, part, retention}
 use Rattle.psci_headline.proofs.world_spec.Scripts.{sends, stops, system_reset}
-use Rattle.psci_headline.proofs.Failing.{◌⇒◌, Legal, Steps, past_from}
+use Rattle.psci_headline.proofs.Histories.{at, third_on}
+use Rattle.psci_headline.proofs.Checking.{◌⇒◌, Legal, Steps, past_from}
 use Rattle.psci_headline.specs.Waiting.{IsTold, Waiting, WasTold}
 
 -- the records after these steps, on two clusters of two cores
 abbrev after : List Steps → List Record
 after steps = past_from board [] steps
-
--- core 3 is on, and nothing is outstanding
-abbrev third_on : List Event
-third_on = Enter 0 ∷ on_3 ∷ Deliver 0 ∷ Enter 3 ∷ []
-
--- a domain: its level and place
-abbrev at : ℕ → ℕ → Node
-at level place = record { level = level; place = place }
 
 -- Pursued -------------------------------------------------------------------------------------
 

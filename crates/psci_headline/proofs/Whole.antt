@@ -13,7 +13,7 @@ use Rattle.psci_headline.specs.psci_fw_spec.declared.status.Status.TheVariants.{
 use Rattle.psci_headline.specs.psci_fw_spec.Invariant.{AreValues, agrees}
 use Rattle.psci_headline.specs.psci_fw_spec.Lives.{in_life}
 use Rattle.psci_headline.specs.psci_fw_spec.NodeHwState.{hw_at, node_hw}
-use Rattle.psci_headline.specs.psci_fw_spec.Phases.{Phase, Away, Pending, Running, Suspended}
+use Rattle.psci_headline.specs.psci_fw_spec.Phases.{Phase, Away}
 use Rattle.psci_headline.specs.psci_fw_spec.Values.{Values}
 use Rattle.psci_headline.specs.psci_fw_laws.Kept.{Holds}
 use Rattle.psci_headline.specs.psci_world_spec.declared.said.Record.{Record}
@@ -52,10 +52,8 @@ flat_on true depth e = refl
 flat_on false depth e = sym (ap hw_at e)
 
 off_away : (p : Phase) → agrees Off p ≡ true → p ≡ Away
-off_away Pending e = absurd (cc)
-off_away Running e = absurd (cc)
-off_away (Suspended ask) e = absurd (cc)
 off_away Away e = refl
+off_away p e = absurd (cc)
 
 -- At rest --------------------------------------------------------------------------------------
 

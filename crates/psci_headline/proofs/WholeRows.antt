@@ -1,11 +1,11 @@
 -- Worked examples: worlds of which all is told once they have settled.
-use Rattle.std.proofs.Common.{◌≡◌, [], ◌∷◌, refl}
-use Rattle.psci_headline.specs.psci_abi.declared.format.Format.TheVariants.{Extended}
+use Rattle.std.proofs.Common.{◌++◌, ◌≡◌, [], ◌∷◌, refl}
 use Rattle.psci_headline.specs.psci_world_spec.declared.event.Event.TheVariants.{Enter, Wake}
 use Rattle.psci_headline.specs.psci_world_spec.declared.event.Event.TheVariants.{Deliver, Reset}
 use Rattle.psci_headline.specs.psci_world_spec.declared.event.Event.TheVariants.{Take}
-use Rattle.psci_headline.proofs.world_spec.Scripts.{board, call, off, on_3, one_core, retention}
+use Rattle.psci_headline.proofs.world_spec.Scripts.{board, call, off, one_core, retention}
 use Rattle.psci_headline.proofs.world_spec.Scripts.{system_reset, tall}
+use Rattle.psci_headline.proofs.Histories.{extended, on_in_group, on_os_initiated, third_on}
 use Rattle.psci_headline.proofs.Untold.{computing, failing, settles}
 
 -- Platform-coordinated mode ---------------------------------------------------------------------
@@ -16,14 +16,14 @@ unfolding computing
 standby = refl
 
 -- the boot core has gone off, core 3 runs, and its cluster alone is on
-boot_core_off : failing board
-    (settles board (Enter 0 ∷ on_3 ∷ Deliver 0 ∷ Enter 3 ∷ off 0 ∷ [])) ≡ []
+boot_core_off : failing board (settles board (third_on ++ off 0 ∷ [])) ≡ []
 unfolding computing
 boot_core_off = refl
 
 -- and is asked on again
-boot_core_again : failing board (settles board (Enter 0 ∷ on_3 ∷ Deliver 0 ∷ Enter 3 ∷ off 0
-    ∷ Deliver 1 ∷ Take 0 ∷ Take 1 ∷ call 3 0xc4000003 0x0 0x40001000 7 ∷ [])) ≡ []
+boot_core_again : failing board
+    (settles board (third_on ++ off 0 ∷ Deliver 1 ∷ Take 0 ∷ Take 1
+    ∷ call 3 0xc4000003 0x0 0x40001000 7 ∷ [])) ≡ []
 unfolding computing
 boot_core_again = refl
 
@@ -36,8 +36,8 @@ cluster_in_retention = refl
 
 -- a core that suspended to power-down with its group, and its acknowledgement came twice
 group_off : failing tall
-    (settles tall (Enter 0 ∷ call 0 0xc4000003 0x10100 0x40001000 7 ∷ Deliver 0 ∷ Enter 3
-    ∷ call 3 0xc4000001 0x02010333 0x40004000 5 ∷ Deliver 1 ∷ Take 1 ∷ Take 1 ∷ [])) ≡ []
+    (settles tall (on_in_group ++ call 3 0xc4000001 0x02010333 0x40004000 5 ∷ Deliver 1 ∷ Take 1
+    ∷ Take 1 ∷ [])) ≡ []
 unfolding computing
 group_off = refl
 
@@ -50,24 +50,21 @@ system_in_standby = refl
 
 -- a Down whose core was woken before it came is stale, and the core goes off after all
 woken_and_off : failing board
-    (settles board (Enter 0 ∷ on_3 ∷ Deliver 0 ∷ Enter 3 ∷ retention 3 ∷ Wake 3 ∷ Deliver 1
-    ∷ Take 1 ∷ Enter 3 ∷ off 3 ∷ Take 0 ∷ [])) ≡ []
+    (settles board (third_on ++ retention 3 ∷ Wake 3 ∷ Deliver 1 ∷ Take 1 ∷ Enter 3 ∷ off 3 ∷ Take 0
+    ∷ [])) ≡ []
 unfolding computing
 woken_and_off = refl
 
 -- what is taken before a core is started in the cluster stays confirmed of the core alone
 cluster_started : failing board
-    (settles board (Enter 0 ∷ on_3 ∷ Deliver 0 ∷ Enter 3 ∷ off 3 ∷ Wake 2 ∷ Deliver 1 ∷ Take 1
-    ∷ [])) ≡ []
+    (settles board (third_on ++ off 3 ∷ Wake 2 ∷ Deliver 1 ∷ Take 1 ∷ [])) ≡ []
 unfolding computing
 cluster_started = refl
 
 -- OS-initiated mode -----------------------------------------------------------------------------
 
 -- core 3 goes off, and takes its cluster with it
-cluster_off_os_initiated : failing board
-    (settles board (Enter 0 ∷ call 0 0x8400000f 1 0 0 ∷ on_3 ∷ Deliver 0 ∷ Enter 3 ∷ off 3 ∷ []))
-    ≡ []
+cluster_off_os_initiated : failing board (settles board (on_os_initiated ++ off 3 ∷ [])) ≡ []
 unfolding computing
 cluster_off_os_initiated = refl
 
@@ -80,9 +77,8 @@ unfolding computing
 group_in_retention_os_initiated = refl
 
 -- the extended format: the last core takes the system down, and a reset core parks
-extended_os_initiated : failing (record board { format = Extended })
-    (settles (record board { format = Extended }) (Enter 0 ∷ call 0 0x8400000f 1 0 0 ∷ on_3
-    ∷ Deliver 0 ∷ Enter 3 ∷ Reset 3 ∷ Enter 3
+extended_os_initiated : failing extended
+    (settles extended (on_os_initiated ++ Reset 3 ∷ Enter 3
     ∷ call 0 0xc4000001 0x40000333 0x40000100 0 ∷ [])) ≡ []
 unfolding computing
 extended_os_initiated = refl

@@ -1,0 +1,169 @@
+-- What fails by computing is excluded: no such world is at rest, has settled, or is told as it is.
+use Rattle.std.proofs.Common.{◌≡◌, ◌++◌, ◌≤◌, ◌<◌, ◌+◌, ℕ, zero, suc, Bool, true, false, ◌==◌}
+use Rattle.std.proofs.Common.{◌||◌, not, List, [], ◌∷◌, length, filter, Option, None, Some, is_some}
+use Rattle.std.proofs.Common.{nat_le, refl, sym, ap, ◌∙◌, arith, inl, inr}
+use Rattle.std.specs.List.{list_all, list_any, range_with_len}
+use Rattle.std.proofs.lemmas.Bool.{cases_Bool, cases_eq, eq-eqb, le-leb, or_left, or_right}
+use Rattle.std.proofs.lemmas.List.Sums.{list_all-from_AllPass}
+use Rattle.psci_board.specs.Board.{BoardValue, HasNode, cores, height, nodes}
+use Rattle.psci_board.specs.declared.node.Node.{Node}
+use Rattle.psci_ctl_spec.specs.psci_messages.declared.kind.Kind.TheVariants.{Down}
+use Rattle.psci_ctl_spec.specs.psci_messages.Message.{MessageValue}
+use Rattle.psci_ctl_spec.specs.psci_messages.Slots.{OfCore, OfSystem, is_kind}
+use Rattle.psci_fw_laws.proofs.Passing.{one_all}
+use Rattle.psci_headline.specs.psci_fw_spec.NodeHwState.{hw_code}
+use Rattle.psci_headline.specs.psci_fw_spec.Phases.{is_away}
+use Rattle.psci_headline.specs.psci_fw_spec.SystemCalls.{is_off_status}
+use Rattle.psci_headline.specs.psci_world_spec.declared.place.Place.{Place}
+use Rattle.psci_headline.specs.psci_world_spec.declared.place.Place.TheVariants as places
+use Rattle.psci_headline.specs.psci_world_spec.declared.said.Record.{Record}
+use Rattle.psci_headline.specs.psci_world_spec.Histories.{controller_values, firmware_values}
+use Rattle.psci_headline.specs.psci_world_spec.Histories.{sent}
+use Rattle.psci_headline.specs.psci_world_spec.Lists.{indexed}
+use Rattle.psci_headline.specs.psci_world_spec.Places.{place}
+use Rattle.psci_headline.specs.Complete.{IsToldWhole}
+use Rattle.psci_headline.specs.Drained.{AreAtRest, IsSettled, deliveries}
+use Rattle.psci_headline.specs.Settling.{is_started}
+use Rattle.psci_headline.proofs.CoreSteps.{phase_away}
+use Rattle.psci_headline.proofs.Checking.{if_fails}
+use Rattle.psci_headline.proofs.Failing.{Clause, IsUnrest, IsUnsettled, Saying, downs, each}
+use Rattle.psci_headline.proofs.Failing.{failing, if_some, is_agreed, is_down}
+use Rattle.psci_headline.proofs.Finding.{indexed_at}
+use Rattle.psci_headline.proofs.Slept.{status_off}
+use Rattle.psci_headline.proofs.Taking.{same_kind}
+use Rattle.psci_headline.proofs.Untold as untold
+use Rattle.psci_headline.proofs.Untold.{IsUntold, follows, is_gone, is_off, is_told_hw}
+
+-- Lists -----------------------------------------------------------------------------------------
+
+none_of : {A : Type 0} → (fails : ℕ → List A) (a count : ℕ)
+    → ((k : ℕ) → a ≤ k → k < a + count → fails k ≡ []) → each fails (range_with_len a count) ≡ []
+none_of fails a zero none = refl
+none_of fails a (suc count) none =
+    ap (λ l. l ++ each fails (range_with_len (a + 1) count)) (none a (omega arith) (omega arith))
+    ∙ none_of fails (a + 1) count
+    (λ k low high. none k (omega (arith, low)) (omega (arith, high)))
+
+pub passed : {A : Type 0} → (t : Bool) (k : A) → t ≡ true → if_fails t k ≡ []
+passed t k e = ap (λ b. if_fails b k) e
+
+pub none_in : {A : Type 0} → (test : ℕ → Bool) (clause : ℕ → A) (count : ℕ)
+    → ((k : ℕ) → k < count → test k ≡ true)
+    → each (λ k. if_fails (test k) (clause k)) (range_with_len 0 count) ≡ []
+none_in test clause count all =
+    none_of (λ k. if_fails (test k) (clause k)) 0 count
+    (λ k low high. passed (test k) (clause k) (all k (omega (arith, high))))
+
+pub no_domain : {A : Type 0} → (b : BoardValue) (test : ℕ → ℕ → Bool) (clause : ℕ → ℕ → A)
+    → ((n : Node) → HasNode b n → test n.level n.place ≡ true)
+    → each (λ level. each (λ at. if_fails (test level at) (clause level at))
+    (range_with_len 0 (nodes b level))) (range_with_len 0 (height b + 1)) ≡ []
+no_domain b test clause all =
+    none_of _ 0 (height b + 1) (λ level low high. none_in (test level) (clause level)
+    (nodes b level) (λ at on. all (record { level = level; place = at })
+    (record { level = omega (arith, high); place = on })))
+
+pub both_none : {A : Type 0} → (xs ys : List A) → xs ≡ [] → ys ≡ [] → xs ++ ys ≡ []
+both_none xs ys x y = ap (λ l. l ++ ys) x ∙ y
+
+pub one_none : {A : Type 0} → (xs : List A) (k : A) → xs ≡ k ∷ [] → xs ≡ [] → ⊥
+one_none xs k one none = let no : [] ≡ k ∷ [] = sym none ∙ one in absurd (cc)
+
+-- At rest ---------------------------------------------------------------------------------------
+
+not_started : (p : Place) → (p ≡ places.Started → ⊥) → not (is_started p) ≡ true
+not_started places.Started none = absurd (none refl)
+not_started places.Running none = refl
+not_started places.Stopped none = refl
+
+-- nothing fails where all is so that is said of a world at rest
+none_fails : (b : BoardValue) (past : List Record)
+    → ((c : ℕ) → c < cores b → (firmware_values b past).outstanding (OfCore c) ≡ None)
+    → (firmware_values b past).outstanding OfSystem ≡ None
+    → ((c : ℕ) → c < cores b → place b past c ≡ places.Started → ⊥)
+    → ((n : Node) → HasNode b n → (firmware_values b past).granted n.level n.place
+    ≡ (controller_values b past).depth n.level n.place)
+    → failing b past ≡ []
+none_fails b past own system entered agree =
+    both_none _ _ (none_in _ _ (cores b) (λ c on. ap (λ o. not (is_some o)) (own c on)))
+    (both_none _ _ (passed _ _ (ap (λ o. not (is_some o)) system))
+    (both_none _ _ (none_in _ _ (cores b) (λ c on. not_started (place b past c) (entered c on)))
+    (no_domain b (is_agreed b past) _ (λ n has. eq-eqb _ _ (agree n has)))))
+
+-- so where just one thing fails the world is not at rest
+pub not_at_rest : (b : BoardValue) (past : List Record) (k : Clause) → IsUnrest b past k
+    → AreAtRest b past → ⊥
+not_at_rest b past k u r =
+    one_none _ k u.only (none_fails b past r.own r.system r.entered r.agree)
+
+-- Settled ---------------------------------------------------------------------------------------
+
+-- A Down that was sent.
+record IsDown (o : Option MessageValue) : Type 0 where
+  pub message : MessageValue
+  pub at : o ≡ Some message
+  pub kind : message.kind ≡ Down
+
+a_down : (o : Option MessageValue) → is_down o ≡ true → IsDown o
+a_down None e = absurd (cc)
+a_down (Some m) e = record { message = m; at = refl; kind = same_kind m.kind Down e }
+
+-- what passes both tests is found
+kept_one : (p test : ℕ → Bool) (a count k : ℕ) → a ≤ k → k < a + count → test k ≡ true
+    → p k ≡ true → list_any p (filter test (range_with_len a count)) ≡ true
+kept_one p test a zero k low high kept pass = absurd (omega (arith, low, high))
+kept_one p test a (suc count) k low high kept pass = elim (cases_eq a k) [
+  | inl same ↦ rw (ap test same ∙ kept) (or_left _ _ (ap p same ∙ pass))
+  | inr other ↦
+      let rest = kept_one p test (a + 1) count k (omega (arith, low, other)) (omega (arith, high))
+      kept pass in
+      elim (cases_Bool (test a)) [
+        | inl stays ↦ rw stays (or_right _ _ rest)
+        | inr dropped ↦ rw dropped rest
+      ]
+]
+
+-- where just one thing fails the world has not settled
+pub not_settled : (b : BoardValue) (before added : List Record) (rounds : ℕ) (s : Saying)
+    → IsUnsettled b before added rounds s → IsSettled b before added rounds → ⊥
+not_settled b before added rounds s u r =
+    let past : List Record = added ++ before in
+    let tests : ℕ → Bool = λ k. is_down (indexed (sent past) k) in
+    let most : list_all (λ k. nat_le (deliveries k added) rounds) (downs past) ≡ true =
+    one_all (λ k. nat_le (deliveries k added) rounds) tests 0 (length (sent past))
+    (λ k low high down. let m = a_down (indexed (sent past) k) down in
+    le-leb _ _ (r.most k m.message m.at m.kind)) in
+    let some : (rounds == 0 || list_any (λ k. deliveries k added == rounds) (downs past)) ≡ true =
+    elim (cases_eq rounds 0) [
+      | inl none ↦ or_left _ _ (eq-eqb _ _ none)
+      | inr other ↦
+          let d = r.some (omega (arith, other)) in
+          or_right _ _ (kept_one (λ k. deliveries k added == rounds) tests 0 (length (sent past))
+          d.number (omega arith)
+          (omega (arith, (indexed_at (sent past) d.number d.message d.at).0))
+          (ap is_down d.at ∙ ap (λ k. is_kind k Down) d.kind) (eq-eqb _ _ d.times))
+    ] in
+    one_none _ s u.only
+    (both_none _ _ (passed _ _ (list_all-from_AllPass _ added r.events))
+    (both_none _ _ (ap if_some (none_fails b past r.rest.own r.rest.system r.rest.entered
+    r.rest.agree)) (both_none _ _ (passed _ _ (le-leb _ _ r.few))
+    (both_none _ _ (passed _ _ most) (passed _ _ some)))))
+
+-- Told ------------------------------------------------------------------------------------------
+
+follows_from : (s t : Bool) → (s ≡ true → t ≡ true) → follows s t ≡ true
+follows_from true t then = then refl
+follows_from false t then = refl
+
+-- where just one thing fails not all is told
+pub not_told : (b : BoardValue) (past : List Record) (k : untold.Clause) → IsUntold b past k
+    → IsToldWhole b past → ⊥
+not_told b past k u w =
+    let v = firmware_values b past in
+    one_none _ k u.only
+    (both_none _ _ (no_domain b (is_told_hw b past) _
+    (λ n has. eq-eqb _ _ (ap hw_code (w.hw n has))))
+    (both_none _ _ (none_in _ _ (cores b) (λ c on. follows_from (is_gone b past c) _
+    (λ gone. ap is_off_status (w.off c on (phase_away (v.phase c) gone)))))
+    (none_in _ _ (cores b) (λ c on. follows_from (is_off b past c) _
+    (λ off. ap is_away (w.away c on (status_off (v.status c) off)))))))

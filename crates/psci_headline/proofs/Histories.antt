@@ -1,0 +1,60 @@
+-- Runs that several files of worked examples name.
+use Rattle.std.proofs.Common.{ℕ, List, [], ◌∷◌}
+use Rattle.psci_headline.specs.psci_abi.declared.format.Format.TheVariants.{Extended}
+use Rattle.psci_headline.specs.psci_board.Board.{BoardValue}
+use Rattle.psci_headline.specs.psci_board.declared.node.Node.{Node}
+use Rattle.psci_headline.specs.psci_world_spec.declared.event.Event.{Event}
+use Rattle.psci_headline.specs.psci_world_spec.declared.event.Event.TheVariants.{Deliver, Enter}
+use Rattle.psci_headline.specs.psci_world_spec.declared.event.Event.TheVariants.{Wake}
+use Rattle.psci_headline.specs.psci_world_spec.declared.said.Record.{Record}
+use Rattle.psci_headline.specs.psci_world_spec.Legal.{run_from}
+use Rattle.psci_headline.proofs.world_spec.Scripts.{board, call, on_3, retention, system_reset}
+
+-- two clusters of two cores, in the extended format
+abbrev pub extended : BoardValue
+extended = record board { format = Extended }
+
+-- a domain: its level and place
+abbrev pub at : ℕ → ℕ → Node
+at level place = record { level = level; place = place }
+
+-- the records after these events, with what is legal to say of each
+abbrev pub after : BoardValue → List Event → List Record
+after b events = run_from b [] events
+
+-- core 3 is on, and nothing is outstanding for it
+abbrev pub third_on : List Event
+third_on = Enter 0 ∷ on_3 ∷ Deliver 0 ∷ Enter 3 ∷ []
+
+-- it is on by a later start, since it was woken from retention so often
+abbrev pub on_in_start_2 : List Event
+on_in_start_2 =
+    Enter 0 ∷ on_3 ∷ Deliver 0 ∷ Enter 3 ∷ retention 3 ∷ Deliver 1 ∷ Wake 3 ∷ Enter 3 ∷ []
+
+abbrev pub on_in_start_3 : List Event
+on_in_start_3 =
+    Enter 0 ∷ on_3 ∷ Deliver 0 ∷ Enter 3 ∷ retention 3 ∷ Deliver 1 ∷ Wake 3 ∷ Enter 3
+    ∷ retention 3 ∷ Deliver 2 ∷ Wake 3 ∷ Enter 3 ∷ []
+
+abbrev pub on_in_start_4 : List Event
+on_in_start_4 =
+    Enter 0 ∷ on_3 ∷ Deliver 0 ∷ Enter 3 ∷ retention 3 ∷ Deliver 1 ∷ Wake 3 ∷ Enter 3
+    ∷ retention 3 ∷ Deliver 2 ∷ Wake 3 ∷ Enter 3 ∷ retention 3 ∷ Deliver 3 ∷ Wake 3 ∷ Enter 3 ∷ []
+
+-- it is on in a later life
+abbrev pub on_in_life_2 : List Event
+on_in_life_2 =
+    Enter 0 ∷ system_reset 0 ∷ Deliver 0 ∷ Enter 0 ∷ on_3 ∷ Deliver 1 ∷ Enter 3 ∷ []
+
+abbrev pub on_in_life_3 : List Event
+on_in_life_3 =
+    Enter 0 ∷ system_reset 0 ∷ Deliver 0 ∷ Enter 0 ∷ system_reset 0 ∷ Deliver 1 ∷ Enter 0 ∷ on_3
+    ∷ Deliver 2 ∷ Enter 3 ∷ []
+
+-- it is on in OS-initiated mode
+abbrev pub on_os_initiated : List Event
+on_os_initiated = Enter 0 ∷ call 0 0x8400000f 1 0 0 ∷ on_3 ∷ Deliver 0 ∷ Enter 3 ∷ []
+
+-- on three levels: the last core is on
+abbrev pub on_in_group : List Event
+on_in_group = Enter 0 ∷ call 0 0xc4000003 0x10100 0x40001000 7 ∷ Deliver 0 ∷ Enter 3 ∷ []
