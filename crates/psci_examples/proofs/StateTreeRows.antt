@@ -1,7 +1,7 @@
 -- Worked examples of what the functions over the firmware's tree of power domains ask and leave, of
 -- what is counted beside it, and of a core that is running.
-use Rattle.std.proofs.Common.{◌≡◌, ◌<◌, ◌==◌, ℕ, Bool, zero, suc, List, [], ◌∷◌, length, true, false}
-use Rattle.std.proofs.Common.{None, refl, ap}
+use Rattle.std.proofs.Common.{◌≡◌, ◌<◌, ◌==◌, ℕ, Bool, zero, suc, List, [], ◌∷◌, length, true}
+use Rattle.std.proofs.Common.{false, None, refl, ap}
 use Rattle.std.specs.Prelude.{if◌then◌else◌}
 use Rattle.std.proofs.Common.{arith}
 use Rattle.psci_board.specs.Board.{BoardValue, IsBoard, place_above}
