@@ -34,7 +34,7 @@ use Rattle.psci_platform.specs.Identity.{every_function, identity}
 use Rattle.psci_platform.specs.States.{states_of, word_for}
 use Rattle.psci_platform.proofs.OwnCores.{BoardLaws, core_same, node_same}
 use Rattle.psci_platform.proofs.OwnStates.{StateLaws, state_same}
-use Rattle.psci_platform.proofs.Requests.{request_with, short, with_first}
+use Rattle.psci_platform.proofs.Requests.{half_of, request_with, short, with_first}
 
 -- What the proofs stand on.
 pub record Laws (b : BoardValue) : Type 0 where
@@ -67,10 +67,6 @@ word_in r = 0
 
 pub half_small : (x : ℕ) → low_half x < 2 ^ 32
 half_small x = omega arith
-
--- a word of 32 bits is read as it is
-half_of : (regs : Regs) (w : ℕ) → w < 2 ^ 32 → low_half (argument regs w) ≡ w
-half_of regs w small = ap low_half (short regs w small) ∙ omega (arith, small)
 
 -- every function is there
 pub all_there : (r : Request) → is_there every_function r ≡ true

@@ -21,6 +21,7 @@ use Rattle.psci_platform.specs.Identity.{asks_up_to, depths_at, identity, row_as
 use Rattle.psci_platform.specs.States.{can_ask, depth_at, depths_of, is_deeper, reads}
 use Rattle.psci_platform.specs.States.{states_if, states_of, word_asking, word_for}
 use Rattle.psci_platform.proofs.Missing.{no_power_state}
+use Rattle.psci_platform.proofs.Swapped.{left}
 
 -- What the proofs stand on: the laws of power state words.
 pub record StateLaws : Type 0 where
@@ -181,10 +182,6 @@ own_can_ask b Platform ask is =
 
 abbrev pub asks_test : List ℕ → ℕ → Bool
 asks_test ask height = is_ask ask && nat_le (highest_of ask) height
-
-pub left : (s t : Bool) → (s && t) ≡ true → s ≡ true
-left true t e = refl
-left false t e = e
 
 -- a word that has the row of an ask is the word of this ask
 pub read_word : (word : ℕ) (format : Format) (ask : List ℕ) → word < 2 ^ 32

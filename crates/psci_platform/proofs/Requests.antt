@@ -1,6 +1,6 @@
 -- Requests that differ in their first argument.
 use Rattle.std.proofs.Common.{◌≡◌, ℕ, ◌<◌, ◌^◌, ◌==◌, ◌||◌, Bool, true, false, if◌then◌else◌}
-use Rattle.std.proofs.Common.{refl, sym, arith}
+use Rattle.std.proofs.Common.{refl, sym, arith, ap, ◌∙◌}
 use Rattle.psci_abi.specs.Calls.{argument, function_of, is_wide, low_half, request_of}
 use Rattle.psci_abi.specs.declared.registers.Regs.{Regs}
 use Rattle.psci_abi.specs.declared.request.Request.{Request}
@@ -60,3 +60,7 @@ short_if false w h = omega (arith, h)
 
 pub short : (regs : Regs) (w : ℕ) → w < 2 ^ 32 → argument regs w ≡ w
 short regs w h = short_if (is_wide regs) w h
+
+-- a word of 32 bits is read as it is
+pub half_of : (regs : Regs) (w : ℕ) → w < 2 ^ 32 → low_half (argument regs w) ≡ w
+half_of regs w small = ap low_half (short regs w small) ∙ omega (arith, small)
