@@ -91,8 +91,8 @@ highest d h states levels rise above =
 abbrev asked_word : DescriptionValue → BoardValue → SuspendMode → Option Row → ℕ
 asked_word d b mode o = word_for d b.format (states_if d mode o)
 
-row_told : (d : DescriptionValue) (b : BoardValue) (boot : ℕ) (row : Row) → StateLaws → Passed d b boot
-    → is_power_state d row ≡ true
+row_told : (d : DescriptionValue) (b : BoardValue) (boot : ℕ) (row : Row) → StateLaws
+    → Passed d b boot → is_power_state d row ≡ true
     → ask_of b.format (height b) (word_for d b.format (Some row.states))
     ≡ Ok (depths_of d row.states)
 row_told d b boot row laws s is =
@@ -137,7 +137,8 @@ pub told : (d : DescriptionValue) (b : BoardValue) (boot place x1 : ℕ) (mode :
     (first_argument d b place mode x1 (requests.CpuSuspend state entry context))
     ≡ Ok (depths_of d states)
 told d b boot place x1 mode state entry context states laws none e =
-    told_by d b boot mode state (find (reads state) d.rows) states laws (passed d b boot none) refl e
+    told_by d b boot mode state (find (reads state) d.rows) states laws (passed d b boot none) refl
+    e
 
 -- where no states are told
 silent_by : (d : DescriptionValue) (b : BoardValue) (o : Option (List ℕ))

@@ -61,23 +61,11 @@ told b mode word laws small =
 
 asked_at : (b : BoardValue) (mode : SuspendMode) (regs : Regs) (r : Request) → Laws b
     → with_first (argument regs regs.x1) r ≡ r → asked_by (identity b) mode r ≡ own_asked b r
-asked_at b mode regs requests.Version laws own = refl
 asked_at b mode regs (requests.CpuSuspend state e c) laws own =
     let is : low_half (argument regs regs.x1) ≡ state = ap word_in own in
     let small : state < 2 ^ 32 = omega (arith, is, half_small (argument regs regs.x1)) in
     told b mode state laws.states small
-asked_at b mode regs requests.CpuOff laws own = refl
-asked_at b mode regs (requests.CpuOn target e c) laws own = refl
-asked_at b mode regs (requests.AffinityInfo level target) laws own = refl
-asked_at b mode regs requests.MigrateInfoType laws own = refl
-asked_at b mode regs requests.SystemOff laws own = refl
-asked_at b mode regs requests.SystemReset laws own = refl
-asked_at b mode regs (requests.Features word) laws own = refl
-asked_at b mode regs (requests.NodeHwState level target) laws own = refl
-asked_at b mode regs (requests.SystemSuspend e c) laws own = refl
-asked_at b mode regs (requests.SetSuspendMode m) laws own = refl
-asked_at b mode regs (requests.SystemReset2 t c) laws own = refl
-asked_at b mode regs requests.Unknown laws own = refl
+asked_at b mode regs r laws own = refl
 
 pub asked_same : (b : BoardValue) (mode : SuspendMode) (regs : Regs) → Laws b
     → asked_for (identity b) mode regs ≡ own_asked b (request_of regs)

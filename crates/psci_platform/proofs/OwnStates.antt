@@ -97,12 +97,8 @@ number ask =
 
 four : (xs : List ℕ) → length xs ≡ 4
     → slice_index xs 0 ∷ slice_index xs 1 ∷ slice_index xs 2 ∷ slice_index xs 3 ∷ [] ≡ xs
-four [] e = absurd (omega (arith, e))
-four (a ∷ []) e = absurd (omega (arith, e))
-four (a ∷ b ∷ []) e = absurd (omega (arith, e))
-four (a ∷ b ∷ c ∷ []) e = absurd (omega (arith, e))
 four (a ∷ b ∷ c ∷ d ∷ []) e = refl
-four (a ∷ b ∷ c ∷ d ∷ x ∷ xs) e = absurd (omega (arith, e))
+four xs e = absurd (omega (arith, e))
 
 digits : (a b c d : ℕ) → a ≤ 3 → b ≤ 3 → c ≤ 3 → d ≤ 3
     → depths_at (a + 4 * b + 16 * c + 64 * d) ≡ a ∷ b ∷ c ∷ d ∷ []
@@ -130,28 +126,9 @@ number_is ask is =
 -- at the levels from 0 to 3 a state has the depth of its number, and is the first of its class
 own_depth : (b : BoardValue) (level n : ℕ) → level ≤ 3 → n ≤ 3
     → (depth_at (identity b) level n ≡ n) × (is_deeper (identity b) level n ≡ false)
-own_depth b zero zero low most = (refl, refl)
-own_depth b zero (suc zero) low most = (refl, refl)
-own_depth b zero (suc (suc zero)) low most = (refl, refl)
-own_depth b zero (suc (suc (suc zero))) low most = (refl, refl)
-own_depth b zero (suc (suc (suc (suc n)))) low most = absurd (omega (arith, most))
-own_depth b (suc zero) zero low most = (refl, refl)
-own_depth b (suc zero) (suc zero) low most = (refl, refl)
-own_depth b (suc zero) (suc (suc zero)) low most = (refl, refl)
-own_depth b (suc zero) (suc (suc (suc zero))) low most = (refl, refl)
-own_depth b (suc zero) (suc (suc (suc (suc n)))) low most = absurd (omega (arith, most))
-own_depth b (suc (suc zero)) zero low most = (refl, refl)
-own_depth b (suc (suc zero)) (suc zero) low most = (refl, refl)
-own_depth b (suc (suc zero)) (suc (suc zero)) low most = (refl, refl)
-own_depth b (suc (suc zero)) (suc (suc (suc zero))) low most = (refl, refl)
-own_depth b (suc (suc zero)) (suc (suc (suc (suc n)))) low most = absurd (omega (arith, most))
-own_depth b (suc (suc (suc zero))) zero low most = (refl, refl)
-own_depth b (suc (suc (suc zero))) (suc zero) low most = (refl, refl)
-own_depth b (suc (suc (suc zero))) (suc (suc zero)) low most = (refl, refl)
-own_depth b (suc (suc (suc zero))) (suc (suc (suc zero))) low most = (refl, refl)
-own_depth b (suc (suc (suc zero))) (suc (suc (suc (suc n)))) low most =
-    absurd (omega (arith, most))
 own_depth b (suc (suc (suc (suc level)))) n low most = absurd (omega (arith, low))
+own_depth b level (suc (suc (suc (suc n)))) low most = absurd (omega (arith, most))
+own_depth b level n low most = (refl, refl)
 
 own_depths : (b : BoardValue) (ask : List ℕ) → IsAsk ask → depths_of (identity b) ask ≡ ask
 own_depths b ask is =

@@ -8,22 +8,17 @@ use Rattle.psci_abi.specs.declared.request.Request.TheVariants as requests
 
 -- the same request with this first argument
 abbrev pub with_first : ℕ → Request → Request
-with_first w requests.Version = requests.Version
 with_first w (requests.CpuSuspend state entry_point context) =
     requests.CpuSuspend (low_half w) entry_point context
-with_first w requests.CpuOff = requests.CpuOff
 with_first w (requests.CpuOn target entry_point context) = requests.CpuOn w entry_point context
 with_first w (requests.AffinityInfo level target) = requests.AffinityInfo level w
-with_first w requests.MigrateInfoType = requests.MigrateInfoType
-with_first w requests.SystemOff = requests.SystemOff
-with_first w requests.SystemReset = requests.SystemReset
 with_first w (requests.Features word) = requests.Features (low_half w)
 with_first w (requests.NodeHwState level target) = requests.NodeHwState level w
 with_first w (requests.SystemSuspend entry_point context) = requests.SystemSuspend w context
 with_first w (requests.SetSuspendMode mode) = requests.SetSuspendMode (low_half w)
 with_first w (requests.SystemReset2 reset_type cookie) =
     requests.SystemReset2 (low_half w) cookie
-with_first w requests.Unknown = requests.Unknown
+with_first w r = r
 
 step : (w : ℕ) (t : Bool) (a b x y : Request) → with_first w a ≡ x → with_first w b ≡ y
     → with_first w (if t then a else b) ≡ (if t then x else y)
