@@ -5,9 +5,9 @@ use Rattle.std.proofs.lemmas.Bool.{eqb-true}
 use Rattle.std.proofs.lemmas.Bool.Decides.{nat_tests}
 use Rattle.std.proofs.lemmas.Option.{none-some, same_Some}
 use Rattle.std.specs.List.{list_all}
-use Rattle.std.specs.Prelude.{Ok, Err, find, length, nat_le, nat_lt, slice_index}
+use Rattle.std.specs.Prelude.{Ok, Err, find, nat_le, nat_lt, slice_index}
 use Rattle.psci_abi.specs.declared.request.Request.TheVariants as requests
-use Rattle.psci_board.specs.Board.{BoardValue, cores, height}
+use Rattle.psci_board.specs.Board.{BoardValue, height}
 use Rattle.psci_fw_spec.specs.declared.mode.SuspendMode.{SuspendMode}
 use Rattle.psci_state.specs.Ask.{deepest_of, highest_of, is_ask}
 use Rattle.psci_state.specs.PowerState.{ask_of}
@@ -17,55 +17,15 @@ use Rattle.psci_platform.specs.declared.class.TheConstants.{STATES}
 use Rattle.psci_platform.specs.declared.row.Row.{Row}
 use Rattle.psci_platform.specs.Calls.{asked_by, asks_states, first_argument}
 use Rattle.psci_platform.specs.Described.{DescriptionValue}
-use Rattle.psci_platform.specs.Faults.{are_states, boot_fault_of, fault_of, has_boot, has_same}
-use Rattle.psci_platform.specs.Faults.{has_same_word, has_type, is_first, is_mpidr}
-use Rattle.psci_platform.specs.Faults.{is_power_state, is_row_word, is_running_above, is_system}
-use Rattle.psci_platform.specs.Faults.{most_rows, never_falls, rises, row_fault_of, state_fault_of}
+use Rattle.psci_platform.specs.Faults.{are_states, fault_of}
+use Rattle.psci_platform.specs.Faults.{is_power_state, is_running_above, is_system}
+use Rattle.psci_platform.specs.Faults.{never_falls, rises}
 use Rattle.psci_platform.specs.States.{can_ask, depth_at, depths_of, reads, states_if, states_of}
 use Rattle.psci_platform.specs.States.{word_for}
-use Rattle.psci_platform.proofs.Checked.{past}
+use Rattle.psci_platform.proofs.Checked.{Passed, passed}
 use Rattle.psci_platform.proofs.Missing.{no_power_state}
-use Rattle.psci_platform.proofs.OwnStates.{StateLaws, left}
-
-right : (s t : Bool) → (s && t) ≡ true → t ≡ true
-right true t e = e
-right false t e = absurd (cc)
-
-kept : (t : Bool) → not t ≡ false → t ≡ true
-kept true e = refl
-kept false e = absurd (cc)
-
--- Descriptions without a fault ------------------------------------------------------------------
-
--- what is used of one
-record Sound (d : DescriptionValue) (b : BoardValue) : Type 0 where
-  levels : nat_lt (height b) d.levels ≡ false
-  rise : list_all (rises d) (0 ∷ 1 ∷ 2 ∷ 3 ∷ []) ≡ true
-  states : list_all (is_power_state d) d.rows ≡ true
-  system : (d.functions.system_suspend && not (is_system d (height b))) ≡ false
-
-sound : (d : DescriptionValue) (b : BoardValue) (boot : ℕ) → fault_of d b boot ≡ None → Sound d b
-unfolding fault_of boot_fault_of row_fault_of state_fault_of
-sound d b boot none =
-    let count = past (not (length d.mpidrs == cores b)) _ _ none in
-    let fields = past (not (list_all is_mpidr d.mpidrs)) _ _ count.1 in
-    let same = past (has_same d.mpidrs) _ _ fields.1 in
-    let there = past (not (has_boot d.mpidrs boot)) _ _ same.1 in
-    let first = past (not (is_first d b boot)) _ _ there.1 in
-    let levels = past (nat_lt (height b) d.levels) _ _ first.1 in
-    let rise = past (not (list_all (rises d) (0 ∷ 1 ∷ 2 ∷ 3 ∷ []))) _ _ levels.1 in
-    let rows = past (nat_lt most_rows (length d.rows)) _ _ rise.1 in
-    let words = past (not (list_all (is_row_word b.format) d.rows)) _ _ rows.1 in
-    let apart = past (has_same_word d.rows) _ _ words.1 in
-    let types = past (not (list_all (has_type d b.format) d.rows)) _ _ apart.1 in
-    let states = past (not (list_all (is_power_state d) d.rows)) _ _ types.1 in
-    let system = past (d.functions.system_suspend && not (is_system d (height b))) _ _ states.1 in
-    record {
-      levels = levels.0;
-      rise = kept (list_all (rises d) (0 ∷ 1 ∷ 2 ∷ 3 ∷ [])) rise.0;
-      states = kept (list_all (is_power_state d) d.rows) states.0;
-      system = system.0;
-    }
+use Rattle.psci_platform.proofs.OwnStates.{StateLaws}
+use Rattle.psci_platform.proofs.Swapped.{left, right}
 
 -- Power states ----------------------------------------------------------------------------------
 
@@ -131,11 +91,11 @@ highest d h states levels rise above =
 abbrev asked_word : DescriptionValue → BoardValue → SuspendMode → Option Row → ℕ
 asked_word d b mode o = word_for d b.format (states_if d mode o)
 
-row_told : (d : DescriptionValue) (b : BoardValue) (row : Row) → StateLaws → Sound d b
-    → is_power_state d row ≡ true
+row_told : (d : DescriptionValue) (b : BoardValue) (boot : ℕ) (row : Row) → StateLaws
+    → Passed d b boot → is_power_state d row ≡ true
     → ask_of b.format (height b) (word_for d b.format (Some row.states))
     ≡ Ok (depths_of d row.states)
-row_told d b row laws s is =
+row_told d b boot row laws s is =
     let depths = depths_of d row.states in
     let test : is_ask depths ≡ true = right (are_states d row.states) (is_ask depths) is in
     let above : is_running_above d.levels row.states ≡ true =
@@ -150,23 +110,24 @@ abbrev states_in : Asked → List ℕ
 states_in (asks.States states) = states
 states_in asked = []
 
-told_if : (d : DescriptionValue) (b : BoardValue) (row : Row) (states : List ℕ) (t : Bool)
-    → StateLaws → Sound d b → is_power_state d row ≡ true
+told_if : (d : DescriptionValue) (b : BoardValue) (boot : ℕ) (row : Row) (states : List ℕ)
+    (t : Bool)
+    → StateLaws → Passed d b boot → is_power_state d row ≡ true
     → asks_states (cond t (Some row.states) None) ≡ asks.States states
     → ask_of b.format (height b) (word_for d b.format (cond t (Some row.states) None))
     ≡ Ok (depths_of d states)
-told_if d b row states true laws s is e =
+told_if d b boot row states true laws s is e =
     let same : row.states ≡ states = ap states_in e in
-    row_told d b row laws s is ∙ ap (λ (xs : List ℕ). Ok (depths_of d xs)) same
-told_if d b row states false laws s is e = absurd (cc)
+    row_told d b boot row laws s is ∙ ap (λ (xs : List ℕ). Ok (depths_of d xs)) same
+told_if d b boot row states false laws s is e = absurd (cc)
 
-told_by : (d : DescriptionValue) (b : BoardValue) (mode : SuspendMode) (word : ℕ) (o : Option Row)
-    (states : List ℕ) → StateLaws → Sound d b → find (reads word) d.rows ≡ o
+told_by : (d : DescriptionValue) (b : BoardValue) (boot : ℕ) (mode : SuspendMode) (word : ℕ)
+    (o : Option Row) (states : List ℕ) → StateLaws → Passed d b boot → find (reads word) d.rows ≡ o
     → asks_states (states_if d mode o) ≡ asks.States states
     → ask_of b.format (height b) (asked_word d b mode o) ≡ Ok (depths_of d states)
-told_by d b mode word None states laws s read e = absurd (cc)
-told_by d b mode word (Some row) states laws s read e =
-    told_if d b row states (can_ask d mode row.states) laws s
+told_by d b boot mode word None states laws s read e = absurd (cc)
+told_by d b boot mode word (Some row) states laws s read e =
+    told_if d b boot row states (can_ask d mode row.states) laws s
     (of_all (is_power_state d) (reads word) d.rows row s.states read) e
 
 pub told : (d : DescriptionValue) (b : BoardValue) (boot place x1 : ℕ) (mode : SuspendMode)
@@ -176,7 +137,8 @@ pub told : (d : DescriptionValue) (b : BoardValue) (boot place x1 : ℕ) (mode :
     (first_argument d b place mode x1 (requests.CpuSuspend state entry context))
     ≡ Ok (depths_of d states)
 told d b boot place x1 mode state entry context states laws none e =
-    told_by d b mode state (find (reads state) d.rows) states laws (sound d b boot none) refl e
+    told_by d b boot mode state (find (reads state) d.rows) states laws (passed d b boot none) refl
+    e
 
 -- where no states are told
 silent_by : (d : DescriptionValue) (b : BoardValue) (o : Option (List ℕ))
@@ -203,7 +165,7 @@ down_if false u e f = absurd (cc)
 pub down : (d : DescriptionValue) (b : BoardValue) (boot : ℕ) → fault_of d b boot ≡ None
     → d.functions.system_suspend ≡ true → depths_of d d.system ≡ deepest_of (height b)
 down d b boot none there =
-    let s = sound d b boot none in
+    let s = passed d b boot none in
     let h = height b in
     let is = down_if d.functions.system_suspend (is_system d h) there s.system in
     let all = right (are_states d d.system) _ is in

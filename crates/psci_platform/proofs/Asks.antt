@@ -10,11 +10,11 @@ use Rattle.psci_state.specs.declared.fault.BadState.{BadState}
 use Rattle.psci_state.specs.Ask.{IsAsk, highest_of, is_ask, is_deep}
 use Rattle.psci_state.specs.PowerState.{ask_of, word_of}
 
-type_fits : (t : Bool) → cond t 1 0 ≤ 1
+pub type_fits : (t : Bool) → cond t 1 0 ≤ 1
 type_fits true = omega arith
 type_fits false = omega arith
 
-level_fits : (r s t : Bool) → cond r 3 (cond s 2 (cond t 1 0)) ≤ 3
+pub level_fits : (r s t : Bool) → cond r 3 (cond s 2 (cond t 1 0)) ≤ 3
 level_fits true s t = omega arith
 level_fits false true t = omega arith
 level_fits false false true = omega arith

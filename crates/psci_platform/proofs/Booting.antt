@@ -1,5 +1,5 @@
 -- The boot core of a description that has no fault: its place, and the firmware's number for it.
-use Rattle.std.proofs.Common.{◌≡◌, ◌==◌, ℕ, zero, suc, ◌<◌, Bool, true, false, not, ◌||◌, List, []}
+use Rattle.std.proofs.Common.{◌≡◌, ◌==◌, ℕ, zero, suc, ◌<◌, Bool, true, false, ◌||◌, List, []}
 use Rattle.std.proofs.Common.{◌∷◌, length, Option, None, Some, unwrap_or, refl, sym, ap, ◌∙◌, arith}
 use Rattle.std.proofs.lemmas.Bool.{eqb-true}
 use Rattle.std.specs.List.{list_any, list_all, range_with_len}
@@ -7,9 +7,9 @@ use Rattle.std.specs.Prelude.{slice_index, option_map}
 use Rattle.psci_board.specs.Board.{BoardValue, cores}
 use Rattle.psci_platform.specs.Cores.{boot_place, core_named, number_named}
 use Rattle.psci_platform.specs.Described.{DescriptionValue}
-use Rattle.psci_platform.specs.Faults.{fault_of, has_boot, is_first}
+use Rattle.psci_platform.specs.Faults.{fault_of}
 use Rattle.psci_platform.specs.Swaps.{is_swapped, is_symmetric, swap_for}
-use Rattle.psci_platform.proofs.Checked.{boots_as_first, has_boot_core, some_count}
+use Rattle.psci_platform.proofs.Checked.{passed, some_count}
 use Rattle.psci_platform.proofs.Named.{core_is_named}
 use Rattle.psci_platform.proofs.Swapped.{left}
 use Rattle.psci_platform.proofs.Unmoved.{Laws, boots_first}
@@ -31,10 +31,6 @@ found : (xs : List ℕ) (x : ℕ) → list_any (λ y. y == x) xs ≡ true → At
 found [] x e = absurd (cc)
 found (y ∷ ys) x e = found_in y ys x (y == x) refl e (found ys x)
 
-holds : (t : Bool) → not t ≡ false → t ≡ true
-holds true e = refl
-holds false e = absurd (cc)
-
 -- the boot core is a core of the board
 abbrev pub Boots : DescriptionValue → BoardValue → ℕ → Type 0
 Boots d b boot = (k : ℕ) × (k < cores b) × (core_named d b boot 0 ≡ Some k)
@@ -43,7 +39,7 @@ pub boots : (d : DescriptionValue) (b : BoardValue) (boot : ℕ) → fault_of d 
     → Boots d b boot
 boots d b boot none =
     let count = some_count d b boot none in
-    let at = found d.mpidrs boot (holds (has_boot d.mpidrs boot) (has_boot_core d b boot none)) in
+    let at = found d.mpidrs boot (passed d b boot none).there in
     let inside : at.0 < cores b = omega (arith, at.1, count) in (
       at.0,
       inside,
@@ -69,8 +65,7 @@ one_of d b boot false laws none e test = test
 pub symmetric : (d : DescriptionValue) (b : BoardValue) (boot : ℕ) → Laws b
     → fault_of d b boot ≡ None → is_symmetric b (boot_place d b boot) ≡ true
 symmetric d b boot laws none =
-    one_of d b boot (slice_index d.mpidrs 0 == boot) laws none refl
-    (holds (is_first d b boot) (boots_as_first d b boot none))
+    one_of d b boot (slice_index d.mpidrs 0 == boot) laws none refl (passed d b boot none).first
 
 zero_of : (b : BoardValue) (k : ℕ) → is_symmetric b k ≡ true → swap_for b k 0 k ≡ 0
 unfolding is_symmetric

@@ -1,14 +1,15 @@
 -- What holds of a description that has no fault.
 use Rattle.std.proofs.Common.{◌≡◌, ◌==◌, ℕ, Bool, true, false, not, cond, Option, None, Some, refl}
-use Rattle.std.proofs.Common.{length, rules}
-use Rattle.std.proofs.lemmas.Bool.{eqb-true}
+use Rattle.std.proofs.Common.{length, rules, ◌&&◌, [], ◌∷◌, nat_lt}
+use Rattle.std.proofs.lemmas.Bool.{eqb-true, not-false}
 use Rattle.std.specs.List.{list_all}
-use Rattle.psci_board.specs.Board.{BoardValue, cores}
+use Rattle.psci_board.specs.Board.{BoardValue, cores, height}
 use Rattle.psci_platform.specs.declared.fault.PlatformFault.{PlatformFault}
 use Rattle.psci_platform.specs.declared.fault.PlatformFault.TheVariants.{WrongCount}
 use Rattle.psci_platform.specs.Described.{DescriptionValue}
-use Rattle.psci_platform.specs.Faults.{boot_fault_of, fault_of, has_boot, has_same, is_first}
-use Rattle.psci_platform.specs.Faults.{is_mpidr}
+use Rattle.psci_platform.specs.Faults.{boot_fault_of, fault_of, has_boot, has_same, has_same_word}
+use Rattle.psci_platform.specs.Faults.{has_type, is_first, is_mpidr, is_power_state, is_row_word}
+use Rattle.psci_platform.specs.Faults.{is_system, most_rows, rises, row_fault_of, state_fault_of}
 
 counted : (n m : ℕ) (rest : Option PlatformFault) (t : Bool) → (n == m) ≡ t
     → cond (not t) (Some WrongCount) rest ≡ None → n ≡ m
@@ -23,28 +24,44 @@ some_count d b boot none =
     counted (length d.mpidrs) (cores b) _ (length d.mpidrs == cores b) refl none
 
 -- where nothing is said, what stands first is right, and nothing is said of the rest
-pub past : (t : Bool) (fault : PlatformFault) (rest : Option PlatformFault)
+past : (t : Bool) (fault : PlatformFault) (rest : Option PlatformFault)
     → cond t (Some fault) rest ≡ None → (t ≡ false) × (rest ≡ None)
 past true fault rest none = cc
 past false fault rest none = (refl, none)
 
--- a boot core is there
-pub has_boot_core : (d : DescriptionValue) (b : BoardValue) (boot : ℕ) → fault_of d b boot ≡ None
-    → not (has_boot d.mpidrs boot) ≡ false
-unfolding fault_of boot_fault_of
-has_boot_core d b boot none =
-    let count = past (not (length d.mpidrs == cores b)) _ _ none in
-    let fields = past (not (list_all is_mpidr d.mpidrs)) _ _ count.1 in
-    let same = past (has_same d.mpidrs) _ _ fields.1 in
-    (past (not (has_boot d.mpidrs boot)) _ _ same.1).0
+-- what each test of a description without a fault says
+pub record Passed (d : DescriptionValue) (b : BoardValue) (boot : ℕ) : Type 0 where
+  pub same : has_same d.mpidrs ≡ false
+  pub there : has_boot d.mpidrs boot ≡ true
+  pub first : is_first d b boot ≡ true
+  pub levels : nat_lt (height b) d.levels ≡ false
+  pub rise : list_all (rises d) (0 ∷ 1 ∷ 2 ∷ 3 ∷ []) ≡ true
+  pub states : list_all (is_power_state d) d.rows ≡ true
+  pub system : (d.functions.system_suspend && not (is_system d (height b))) ≡ false
 
--- and is the first one of the tree, or is swapped with it
-pub boots_as_first : (d : DescriptionValue) (b : BoardValue) (boot : ℕ)
-    → fault_of d b boot ≡ None → not (is_first d b boot) ≡ false
-unfolding fault_of boot_fault_of
-boots_as_first d b boot none =
+pub passed : (d : DescriptionValue) (b : BoardValue) (boot : ℕ) → fault_of d b boot ≡ None
+    → Passed d b boot
+unfolding fault_of boot_fault_of row_fault_of state_fault_of
+passed d b boot none =
     let count = past (not (length d.mpidrs == cores b)) _ _ none in
     let fields = past (not (list_all is_mpidr d.mpidrs)) _ _ count.1 in
     let same = past (has_same d.mpidrs) _ _ fields.1 in
     let there = past (not (has_boot d.mpidrs boot)) _ _ same.1 in
-    (past (not (is_first d b boot)) _ _ there.1).0
+    let first = past (not (is_first d b boot)) _ _ there.1 in
+    let levels = past (nat_lt (height b) d.levels) _ _ first.1 in
+    let rise = past (not (list_all (rises d) (0 ∷ 1 ∷ 2 ∷ 3 ∷ []))) _ _ levels.1 in
+    let rows = past (nat_lt most_rows (length d.rows)) _ _ rise.1 in
+    let words = past (not (list_all (is_row_word b.format) d.rows)) _ _ rows.1 in
+    let apart = past (has_same_word d.rows) _ _ words.1 in
+    let types = past (not (list_all (has_type d b.format) d.rows)) _ _ apart.1 in
+    let states = past (not (list_all (is_power_state d) d.rows)) _ _ types.1 in
+    let system = past (d.functions.system_suspend && not (is_system d (height b))) _ _ states.1 in
+    record {
+      same = same.0;
+      there = not-false _ there.0;
+      first = not-false _ first.0;
+      levels = levels.0;
+      rise = not-false _ rise.0;
+      states = not-false _ states.0;
+      system = system.0;
+    }

@@ -37,7 +37,7 @@ twice q (x ∷ xs) (suc k) (suc c) before below e f =
       twice q xs k c (omega (arith, before)) (omega (arith, below)) e f,
     )
 
-or_right : (s t : Bool) → t ≡ true → (s || t) ≡ true
+pub or_right : (s t : Bool) → t ≡ true → (s || t) ≡ true
 or_right true t e = refl
 or_right false t e = e
 

@@ -1,9 +1,9 @@
 -- What is kept of a core and of a row is what a call of it is to the firmware.
 use Rattle.std.proofs.Common.{◌≡◌, ◌∙◌, ◌⊎◌, ◌==◌, ◌||◌, ◌<◌, ◌^◌, ℕ, Bool, true, false, List}
-use Rattle.std.proofs.Common.{Option, None, Some, ap, arith, cond, inl, inr, refl, sym, subst}
+use Rattle.std.proofs.Common.{Option, None, Some, ap, arith, inl, inr, refl, sym, subst}
 use Rattle.std.proofs.lemmas.Bool.{eqb-true}
 use Rattle.std.specs.Prelude.{IfSome, Ok}
-use Rattle.psci_abi.specs.Calls.{argument, function_of, is_wide, low_half}
+use Rattle.psci_abi.specs.Calls.{argument, function_of, low_half}
 use Rattle.psci_abi.specs.declared.registers.Regs.{Regs}
 use Rattle.psci_abi.specs.declared.request.Request.TheVariants.{CpuOn, CpuSuspend}
 use Rattle.psci_board.specs.Board.{BoardValue, height}
@@ -21,6 +21,7 @@ use Rattle.psci_platform.specs.Kept.{Asks, IsOnCall, is_on, is_suspend}
 use Rattle.psci_platform.specs.States.{no_state, states_of, word_for}
 use Rattle.psci_platform.proofs.ByWord.{asked_same, regs_same}
 use Rattle.psci_platform.proofs.Missing.{no_power_state}
+use Rattle.psci_platform.proofs.Requests.{half_of}
 
 either : (k a b : ℕ) → (k == a || k == b) ≡ true → (k ≡ a) ⊎ (k ≡ b)
 either k a b e = by (k == a) refl
@@ -97,20 +98,13 @@ suspend_asked d b mode regs states a on h is e =
     (either (low_half regs.x0) 0x84000001 0xC4000001 on) h in
     e ∙ ap asks_states is ∙ sym (ap (told_by d mode regs) by) ∙ asked_same d b mode regs
 
-low_if : (t : Bool) (word : ℕ) → word < 2 ^ 32 → low_half (cond t word (low_half word)) ≡ word
-low_if true word small = omega (arith, small)
-low_if false word small = omega (arith, small)
-
-low_word : (regs : Regs) (word : ℕ) → word < 2 ^ 32 → low_half (argument regs word) ≡ word
-low_word regs word small = low_if (is_wide regs) word small
-
 suspend_of : (b : BoardValue) (regs : Regs) (word : ℕ) (ask : List ℕ)
     → is_suspend (low_half regs.x0) ≡ true → word < 2 ^ 32
     → ask_of b.format (height b) word ≡ Ok ask → IsSuspendOf b (record regs { x1 = word }) ask
 suspend_of b regs word ask on small is = record {
   request = suspend_named (low_half regs.x0) (argument regs word) (argument regs regs.x2)
       (argument regs regs.x3) (either (low_half regs.x0) 0x84000001 0xC4000001 on);
-  asked = ap (ask_of b.format (height b)) (low_word regs word small) ∙ is;
+  asked = ap (ask_of b.format (height b)) (half_of regs word small) ∙ is;
 }
 
 no_suspend : (b : BoardValue) (regs : Regs) → is_suspend (low_half regs.x0) ≡ true
@@ -118,7 +112,7 @@ no_suspend : (b : BoardValue) (regs : Regs) → is_suspend (low_half regs.x0) �
 no_suspend b regs on = record {
   request = suspend_named (low_half regs.x0) (argument regs no_state) (argument regs regs.x2)
       (argument regs regs.x3) (either (low_half regs.x0) 0x84000001 0xC4000001 on);
-  none = ap (ask_of b.format (height b)) (low_word regs no_state (omega arith))
+  none = ap (ask_of b.format (height b)) (half_of regs no_state (omega arith))
       ∙ no_power_state b.format (height b);
 }
 

@@ -41,11 +41,8 @@ none_if (Some x) never = absurd (never x refl)
 -- no word of 24 bits has its fields
 apart : (level word : ℕ) → level ≤ 3 → word < 2 ^ 24
     → 0xFFFFFFFF / 2 ^ (8 * level) ≡ word / 2 ^ (8 * level) → ⊥
-apart zero word most small e = omega (arith, small, e)
-apart (suc zero) word most small e = omega (arith, small, e)
-apart (suc (suc zero)) word most small e = omega (arith, small, e)
-apart (suc (suc (suc zero))) word most small e = omega (arith, small, e)
 apart (suc (suc (suc (suc level)))) word most small e = omega (arith, most)
+apart level word most small e = omega (arith, small, e)
 
 pub no_core_is_named : (b : BoardValue) → WordLaws b → core_of b no_core ≡ None
 no_core_is_named b words = none_if (core_of b no_core) (λ c e.

@@ -1,24 +1,16 @@
 -- The MPIDR of a core names this core.
-use Rattle.std.proofs.Common.{◌≡◌, ◌==◌, ℕ, ◌*◌, ◌/◌, ◌^◌, ◌<◌, Bool, true, false, not, List}
+use Rattle.std.proofs.Common.{◌≡◌, ◌==◌, ℕ, ◌*◌, ◌/◌, ◌^◌, ◌<◌, Bool, true, false, List}
 use Rattle.std.proofs.Common.{length, None, Some, refl, arith}
 use Rattle.std.proofs.lemmas.Bool.Decides.{nat_tests}
 use Rattle.std.proofs.lemmas.List.Sums.{position_or_len_is}
-use Rattle.std.specs.List.{list_all, position, position_or_len}
+use Rattle.std.specs.List.{position, position_or_len}
 use Rattle.std.specs.Prelude.{nat_le, nat_lt, slice_index}
 use Rattle.psci_board.specs.Board.{BoardValue, cores, height}
 use Rattle.psci_platform.specs.Cores.{core_named}
 use Rattle.psci_platform.specs.Described.{DescriptionValue}
-use Rattle.psci_platform.specs.Faults.{fault_of, has_same, is_mpidr}
-use Rattle.psci_platform.proofs.Checked.{past, some_count}
+use Rattle.psci_platform.specs.Faults.{fault_of, has_same}
+use Rattle.psci_platform.proofs.Checked.{passed, some_count}
 use Rattle.psci_platform.proofs.Counted.{differ}
-
-none_same : (d : DescriptionValue) (b : BoardValue) (boot : ℕ) → fault_of d b boot ≡ None
-    → has_same d.mpidrs ≡ false
-unfolding fault_of
-none_same d b boot none =
-    let count = past (not (length d.mpidrs == cores b)) _ _ none in
-    let fields = past (not (list_all is_mpidr d.mpidrs)) _ _ count.1 in
-    (past (has_same d.mpidrs) _ _ fields.1).0
 
 -- an MPIDR has other fields than one that is another
 other : (m x : ℕ) (t : Bool) → (m == x) ≡ t → (m ≡ x → ⊥)
@@ -47,4 +39,4 @@ pub core_is_named : (d : DescriptionValue) (b : BoardValue) (boot c : ℕ)
 core_is_named d b boot c none inside =
     let count = some_count d b boot none in
     let low : nat_le 0 (height b) ≡ true = grind (arith, nat_tests) in
-    rw low (named d.mpidrs c (none_same d b boot none) (omega (arith, inside, count)))
+    rw low (named d.mpidrs c (passed d b boot none).same (omega (arith, inside, count)))

@@ -1,7 +1,7 @@
 -- With the identity of a board the depths that the firmware is asked for are told.
-use Rattle.std.proofs.Common.{◌≡◌, ℕ, ◌<◌, ◌≤◌, ◌^◌, Bool, true, false, map, Option}
-use Rattle.std.proofs.Common.{None, Some, refl, sym, ap, ◌∙◌, arith, ◌&&◌}
-use Rattle.std.proofs.lemmas.Bool.Decides.{nat_tests}
+use Rattle.std.proofs.Common.{◌≡◌, ℕ, ◌<◌, ◌≤◌, ◌^◌, map, Option}
+use Rattle.std.proofs.Common.{None, Some, refl, sym, ap, ◌∙◌, arith}
+use Rattle.std.proofs.lemmas.Bool.{leb-true}
 use Rattle.std.specs.List.{range_with_len}
 use Rattle.std.specs.Prelude.{Ok, find, nat_le}
 use Rattle.psci_abi.specs.Calls.{argument, low_half, request_of}
@@ -18,16 +18,10 @@ use Rattle.psci_platform.specs.Identity.{asks_depths, asks_up_to, depths_at, ide
 use Rattle.psci_platform.specs.Identity.{row_asking}
 use Rattle.psci_platform.specs.States.{reads, states_if, states_of}
 use Rattle.psci_platform.proofs.OwnCalls.{Laws, all_there, half_small, word_in}
-use Rattle.psci_platform.proofs.OwnStates.{StateLaws, asks_test, found, left, none_read}
+use Rattle.psci_platform.proofs.OwnStates.{StateLaws, asks_test, found, none_read}
 use Rattle.psci_platform.proofs.OwnStates.{own_can_ask, read_word}
 use Rattle.psci_platform.proofs.Requests.{request_with, with_first}
-
-right : (s t : Bool) → (s && t) ≡ true → t ≡ true
-right true t e = e
-right false t e = absurd (cc)
-
-low : (m n : ℕ) → nat_le m n ≡ true → m ≤ n
-low m n e = grind (arith, nat_tests)
+use Rattle.psci_platform.proofs.Swapped.{left, right}
 
 -- what is told of a word, by the row that reads it
 abbrev Told : BoardValue → SuspendMode → ℕ → Option Row → Type 0
@@ -43,7 +37,7 @@ told_some b mode word row laws small e =
     let is : IsAsk f.ask =
     (laws.test f.ask).0 (left (is_ask f.ask) (nat_le (highest_of f.ask) (height b)) f.asked) in
     let high : highest_of f.ask ≤ height b =
-    low (highest_of f.ask) (height b)
+    leb-true (highest_of f.ask) (height b)
     (right (is_ask f.ask) (nat_le (highest_of f.ask) (height b)) f.asked) in
     let word_is : word ≡ word_of b.format f.ask = read_word word b.format f.ask small f.passes in
     let can = own_can_ask b mode f.ask is in
@@ -67,23 +61,11 @@ told b mode word laws small =
 
 asked_at : (b : BoardValue) (mode : SuspendMode) (regs : Regs) (r : Request) → Laws b
     → with_first (argument regs regs.x1) r ≡ r → asked_by (identity b) mode r ≡ own_asked b r
-asked_at b mode regs requests.Version laws own = refl
 asked_at b mode regs (requests.CpuSuspend state e c) laws own =
     let is : low_half (argument regs regs.x1) ≡ state = ap word_in own in
     let small : state < 2 ^ 32 = omega (arith, is, half_small (argument regs regs.x1)) in
     told b mode state laws.states small
-asked_at b mode regs requests.CpuOff laws own = refl
-asked_at b mode regs (requests.CpuOn target e c) laws own = refl
-asked_at b mode regs (requests.AffinityInfo level target) laws own = refl
-asked_at b mode regs requests.MigrateInfoType laws own = refl
-asked_at b mode regs requests.SystemOff laws own = refl
-asked_at b mode regs requests.SystemReset laws own = refl
-asked_at b mode regs (requests.Features word) laws own = refl
-asked_at b mode regs (requests.NodeHwState level target) laws own = refl
-asked_at b mode regs (requests.SystemSuspend e c) laws own = refl
-asked_at b mode regs (requests.SetSuspendMode m) laws own = refl
-asked_at b mode regs (requests.SystemReset2 t c) laws own = refl
-asked_at b mode regs requests.Unknown laws own = refl
+asked_at b mode regs r laws own = refl
 
 pub asked_same : (b : BoardValue) (mode : SuspendMode) (regs : Regs) → Laws b
     → asked_for (identity b) mode regs ≡ own_asked b (request_of regs)

@@ -6,10 +6,9 @@ use Rattle.psci_abi.specs.Calls.{argument, function_of, low_half, request_of}
 use Rattle.psci_abi.specs.declared.registers.Regs.{Regs}
 use Rattle.psci_abi.specs.declared.request.Request.{Request}
 use Rattle.psci_abi.specs.declared.request.Request.TheVariants as requests
-use Rattle.psci_board.specs.Board.{BoardValue, IsBoard, core_of, node_of}
+use Rattle.psci_board.specs.Board.{BoardValue, core_of, node_of}
 use Rattle.psci_board.specs.declared.node.Core.{Core}
 use Rattle.psci_board.specs.declared.node.Node.{Node}
-use Rattle.psci_board.specs.Laws.{ParentLaws, PathLaws, SizeLaws, WordLaws}
 use Rattle.psci_messages.specs.Message.{MessageValue}
 use Rattle.psci_state.specs.declared.fault.BadState.{BadState}
 use Rattle.psci_fw_spec.specs.declared.call.FwCall.TheVariants.{Smc}
@@ -34,7 +33,7 @@ use Rattle.psci_platform.specs.Identity.{every_function, identity}
 use Rattle.psci_platform.specs.States.{states_of, word_for}
 use Rattle.psci_platform.proofs.OwnCores.{BoardLaws, core_same, node_same}
 use Rattle.psci_platform.proofs.OwnStates.{StateLaws, state_same}
-use Rattle.psci_platform.proofs.Requests.{request_with, short, with_first}
+use Rattle.psci_platform.proofs.Requests.{half_of, request_with, short, with_first}
 
 -- What the proofs stand on.
 pub record Laws (b : BoardValue) : Type 0 where
@@ -68,40 +67,22 @@ word_in r = 0
 pub half_small : (x : ℕ) → low_half x < 2 ^ 32
 half_small x = omega arith
 
--- a word of 32 bits is read as it is
-half_of : (regs : Regs) (w : ℕ) → w < 2 ^ 32 → low_half (argument regs w) ≡ w
-half_of regs w small = ap low_half (short regs w small) ∙ omega (arith, small)
-
 -- every function is there
 pub all_there : (r : Request) → is_there every_function r ≡ true
 all_there requests.Version = refl
-all_there (requests.CpuSuspend state e c) = refl
-all_there requests.CpuOff = refl
-all_there (requests.CpuOn target e c) = refl
-all_there (requests.AffinityInfo level target) = refl
-all_there requests.MigrateInfoType = refl
-all_there requests.SystemOff = refl
-all_there requests.SystemReset = refl
-all_there (requests.Features word) = refl
-all_there (requests.NodeHwState level target) = refl
-all_there (requests.SystemSuspend e c) = refl
-all_there (requests.SetSuspendMode m) = refl
-all_there (requests.SystemReset2 t c) = refl
-all_there requests.Unknown = refl
+all_there r = refl
 
 feature_same : (b : BoardValue) (word : ℕ) → feature_word (identity b) word ≡ word
 feature_same b word = rw (all_there (function_of word 0 0 0)) refl
 
 alike_at : (b : BoardValue) (mode : SuspendMode) (regs : Regs) (r : Request) → Laws b
     → with_first (argument regs regs.x1) r ≡ r → Alike b r (told b mode regs r)
-alike_at b mode regs requests.Version laws own = refl
 alike_at b mode regs (requests.CpuSuspend state e c) laws own =
     let is : low_half (argument regs regs.x1) ≡ state = ap word_in own in
     let small : state < 2 ^ 32 = omega (arith, is, half_small (argument regs regs.x1)) in
     let w = word_for (identity b) b.format (states_of (identity b) mode state) in
     let same = state_same b mode state laws.states small in
     (low_half (argument regs w), ap (ask_named b) (half_of regs w same.0) ∙ same.1, refl)
-alike_at b mode regs requests.CpuOff laws own = refl
 alike_at b mode regs (requests.CpuOn target e c) laws own =
     let w = core_word (identity b) b 0 target 0 in
     let same = node_same b target 0 laws.tree in
@@ -110,9 +91,6 @@ alike_at b mode regs (requests.AffinityInfo level target) laws own =
     let w = core_word (identity b) b 0 target level in
     let same = node_same b target level laws.tree in
     (argument regs w, ap (λ (x : ℕ). node_of b x level) (short regs w same.0) ∙ same.1, refl)
-alike_at b mode regs requests.MigrateInfoType laws own = refl
-alike_at b mode regs requests.SystemOff laws own = refl
-alike_at b mode regs requests.SystemReset laws own = refl
 alike_at b mode regs (requests.Features word) laws own =
     let is : low_half (argument regs regs.x1) ≡ word = ap word_in own in
     let small : word < 2 ^ 32 = omega (arith, is, half_small (argument regs regs.x1)) in
@@ -124,13 +102,11 @@ alike_at b mode regs (requests.NodeHwState level target) laws own =
     let w = core_word (identity b) b 0 target level in
     let same = node_same b target level laws.tree in
     (argument regs w, ap (λ (x : ℕ). node_of b x level) (short regs w same.0) ∙ same.1, refl)
-alike_at b mode regs (requests.SystemSuspend e c) laws own = own
-alike_at b mode regs (requests.SetSuspendMode m) laws own = own
 alike_at b mode regs (requests.SystemReset2 t c) laws own =
     let is : low_half (argument regs regs.x1) ≡ t = ap word_in own in
     let small : t < 2 ^ 32 = omega (arith, is, half_small (argument regs regs.x1)) in
     ap (λ (x : ℕ). requests.SystemReset2 x c) (half_of regs t small)
-alike_at b mode regs requests.Unknown laws own = refl
+alike_at b mode regs r laws own = own
 
 -- the call that the firmware is asked with for a call
 call_alike : (b : BoardValue) (mode : SuspendMode) (regs : Regs) → Laws b
@@ -182,36 +158,28 @@ suspend_effect : (b : BoardValue) (c w state e x : ℕ) (act : Act) (sent : Opti
 suspend_effect b c w state e x acts.Stop (Some m) same =
     ap (λ (a : Result (List ℕ) BadState).
     Rests c (rest_named (record { address = e; context = x }) a) m) same
-suspend_effect b c w state e x acts.Stop None same = refl
 suspend_effect b c w state e x (acts.Return code) (Some m) same = refl
-suspend_effect b c w state e x (acts.Return code) None same = refl
 suspend_effect b c w state e x act sent same = refl
 
 on_effect : (b : BoardValue) (c w target e x : ℕ) (act : Act) (sent : Option MessageValue)
     → function_effect b c (requests.CpuOn w e x) act sent
     ≡ function_effect b c (requests.CpuOn target e x) act sent
 on_effect b c w target e x acts.Stop (Some m) = refl
-on_effect b c w target e x acts.Stop None = refl
 on_effect b c w target e x (acts.Return code) (Some m) = refl
-on_effect b c w target e x (acts.Return code) None = refl
 on_effect b c w target e x act sent = refl
 
 info_effect : (b : BoardValue) (c w target level : ℕ) (act : Act) (sent : Option MessageValue)
     → function_effect b c (requests.AffinityInfo level w) act sent
     ≡ function_effect b c (requests.AffinityInfo level target) act sent
 info_effect b c w target level acts.Stop (Some m) = refl
-info_effect b c w target level acts.Stop None = refl
 info_effect b c w target level (acts.Return code) (Some m) = refl
-info_effect b c w target level (acts.Return code) None = refl
 info_effect b c w target level act sent = refl
 
 hw_effect : (b : BoardValue) (c w target level : ℕ) (act : Act) (sent : Option MessageValue)
     → function_effect b c (requests.NodeHwState level w) act sent
     ≡ function_effect b c (requests.NodeHwState level target) act sent
 hw_effect b c w target level acts.Stop (Some m) = refl
-hw_effect b c w target level acts.Stop None = refl
 hw_effect b c w target level (acts.Return code) (Some m) = refl
-hw_effect b c w target level (acts.Return code) None = refl
 hw_effect b c w target level act sent = refl
 
 effect_alike : (b : BoardValue) (c : ℕ) (r q : Request) (act : Act) (sent : Option MessageValue)
@@ -246,14 +214,3 @@ unfolding after
 after_same b c regs mode reply v laws =
     ap (λ (e : Effect). change b e v)
     (effect_same b c regs (regs_for (identity b) b 0 mode regs) reply (call_alike b mode regs laws))
-
-pub laws_for : (b : BoardValue) → IsBoard b → SizeLaws b → PathLaws b → ParentLaws b → WordLaws b
-    → StateLaws → Laws b
-laws_for b board sizes paths parents words states = record {
-  tree = record {
-    board = board;
-    tree = record { sizes = sizes; paths = paths; parents = parents };
-    words = words;
-  };
-  states = states;
-}

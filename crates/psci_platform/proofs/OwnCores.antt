@@ -12,7 +12,7 @@ use Rattle.psci_board.specs.Board.{BoardValue, IsBoard, address, core_of, cores,
 use Rattle.psci_board.specs.Board.{up}
 use Rattle.psci_board.specs.declared.node.Core.{Core}
 use Rattle.psci_board.specs.declared.node.Node.{Node}
-use Rattle.psci_board.specs.Laws.{WordLaws}
+use Rattle.psci_board.specs.Laws.{ParentLaws, PathLaws, SizeLaws, WordLaws}
 use Rattle.psci_platform.specs.Cores.{core_named, core_word, word_if}
 use Rattle.psci_platform.specs.Identity.{identity}
 use Rattle.psci_platform.specs.Swaps.{swap_for}
@@ -25,6 +25,14 @@ pub record BoardLaws (b : BoardValue) : Type 0 where
   pub board : IsBoard b
   pub tree : unmoved.Laws b
   pub words : WordLaws b
+
+pub laws_on : (b : BoardValue) → IsBoard b → SizeLaws b → PathLaws b → ParentLaws b → WordLaws b
+    → BoardLaws b
+laws_on b board sizes paths parents words = record {
+  board = board;
+  tree = record { sizes = sizes; paths = paths; parents = parents };
+  words = words;
+}
 
 -- the affinity words of the cores
 abbrev pub own_words : BoardValue → List ℕ

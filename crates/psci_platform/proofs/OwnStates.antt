@@ -21,6 +21,7 @@ use Rattle.psci_platform.specs.Identity.{asks_up_to, depths_at, identity, row_as
 use Rattle.psci_platform.specs.States.{can_ask, depth_at, depths_of, is_deeper, reads}
 use Rattle.psci_platform.specs.States.{states_if, states_of, word_asking, word_for}
 use Rattle.psci_platform.proofs.Missing.{no_power_state}
+use Rattle.psci_platform.proofs.Swapped.{left}
 
 -- What the proofs stand on: the laws of power state words.
 pub record StateLaws : Type 0 where
@@ -96,12 +97,8 @@ number ask =
 
 four : (xs : List ℕ) → length xs ≡ 4
     → slice_index xs 0 ∷ slice_index xs 1 ∷ slice_index xs 2 ∷ slice_index xs 3 ∷ [] ≡ xs
-four [] e = absurd (omega (arith, e))
-four (a ∷ []) e = absurd (omega (arith, e))
-four (a ∷ b ∷ []) e = absurd (omega (arith, e))
-four (a ∷ b ∷ c ∷ []) e = absurd (omega (arith, e))
 four (a ∷ b ∷ c ∷ d ∷ []) e = refl
-four (a ∷ b ∷ c ∷ d ∷ x ∷ xs) e = absurd (omega (arith, e))
+four xs e = absurd (omega (arith, e))
 
 digits : (a b c d : ℕ) → a ≤ 3 → b ≤ 3 → c ≤ 3 → d ≤ 3
     → depths_at (a + 4 * b + 16 * c + 64 * d) ≡ a ∷ b ∷ c ∷ d ∷ []
@@ -129,28 +126,9 @@ number_is ask is =
 -- at the levels from 0 to 3 a state has the depth of its number, and is the first of its class
 own_depth : (b : BoardValue) (level n : ℕ) → level ≤ 3 → n ≤ 3
     → (depth_at (identity b) level n ≡ n) × (is_deeper (identity b) level n ≡ false)
-own_depth b zero zero low most = (refl, refl)
-own_depth b zero (suc zero) low most = (refl, refl)
-own_depth b zero (suc (suc zero)) low most = (refl, refl)
-own_depth b zero (suc (suc (suc zero))) low most = (refl, refl)
-own_depth b zero (suc (suc (suc (suc n)))) low most = absurd (omega (arith, most))
-own_depth b (suc zero) zero low most = (refl, refl)
-own_depth b (suc zero) (suc zero) low most = (refl, refl)
-own_depth b (suc zero) (suc (suc zero)) low most = (refl, refl)
-own_depth b (suc zero) (suc (suc (suc zero))) low most = (refl, refl)
-own_depth b (suc zero) (suc (suc (suc (suc n)))) low most = absurd (omega (arith, most))
-own_depth b (suc (suc zero)) zero low most = (refl, refl)
-own_depth b (suc (suc zero)) (suc zero) low most = (refl, refl)
-own_depth b (suc (suc zero)) (suc (suc zero)) low most = (refl, refl)
-own_depth b (suc (suc zero)) (suc (suc (suc zero))) low most = (refl, refl)
-own_depth b (suc (suc zero)) (suc (suc (suc (suc n)))) low most = absurd (omega (arith, most))
-own_depth b (suc (suc (suc zero))) zero low most = (refl, refl)
-own_depth b (suc (suc (suc zero))) (suc zero) low most = (refl, refl)
-own_depth b (suc (suc (suc zero))) (suc (suc zero)) low most = (refl, refl)
-own_depth b (suc (suc (suc zero))) (suc (suc (suc zero))) low most = (refl, refl)
-own_depth b (suc (suc (suc zero))) (suc (suc (suc (suc n)))) low most =
-    absurd (omega (arith, most))
 own_depth b (suc (suc (suc (suc level)))) n low most = absurd (omega (arith, low))
+own_depth b level (suc (suc (suc (suc n)))) low most = absurd (omega (arith, most))
+own_depth b level n low most = (refl, refl)
 
 own_depths : (b : BoardValue) (ask : List ℕ) → IsAsk ask → depths_of (identity b) ask ≡ ask
 own_depths b ask is =
@@ -181,10 +159,6 @@ own_can_ask b Platform ask is =
 
 abbrev pub asks_test : List ℕ → ℕ → Bool
 asks_test ask height = is_ask ask && nat_le (highest_of ask) height
-
-pub left : (s t : Bool) → (s && t) ≡ true → s ≡ true
-left true t e = refl
-left false t e = e
 
 -- a word that has the row of an ask is the word of this ask
 pub read_word : (word : ℕ) (format : Format) (ask : List ℕ) → word < 2 ^ 32

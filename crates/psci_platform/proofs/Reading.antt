@@ -68,16 +68,25 @@ rows_of d b boot o r readings is e same =
     subst (λ (o : Option (Bor Ready)). IfSome o (λ r. IsReady d b boot r.now)) e is in
     same ∙ here.rows
 
-pub states_found : (d : DescriptionValue) (format : Format) (height : ℕ) (mode : SuspendMode)
-    (word : ℕ)
+-- a reading of the rows that is found is that of the word's row
+row_read : (d : DescriptionValue) (format : Format) (height : ℕ) (word : ℕ)
     (readings : List Reading) (r : Reading) → readings ≡ map (reading_of d format height) d.rows
-    → find (λ (r : Reading). reads word r.row) readings ≡ Some r → can_ask_by r mode ≡ true
-    → Some r.row.states ≡ states_of d mode word
-states_found d format height mode word readings r are e can =
-    let all = ap (find (λ (x : Reading). reads word x.row)) are in
-    let row = read d format height (row_of d word) r (sym
-    (by_row d format height word d.rows) ∙ sym all ∙ e) in
-    let may : can_ask d mode r.row.states ≡ true =
+    → find (λ (r : Reading). reads word r.row) readings ≡ Some r
+    → row_of d word ≡ Some r.row × (r ≡ reading_of d format height r.row)
+row_read d format height word readings r are e =
+    read d format height (row_of d word) r
+    (sym (by_row d format height word d.rows)
+    ∙ sym (ap (find (λ (x : Reading). reads word x.row)) are) ∙ e)
+
+-- so the word has the row's states, or none where they cannot be asked for
+pub states_read : (d : DescriptionValue) (format : Format) (height : ℕ) (mode : SuspendMode)
+    (word : ℕ) (readings : List Reading) (r : Reading) (t : Bool)
+    → readings ≡ map (reading_of d format height) d.rows
+    → find (λ (r : Reading). reads word r.row) readings ≡ Some r → can_ask_by r mode ≡ t
+    → (if t then Some r.row.states else None) ≡ states_of d mode word
+states_read d format height mode word readings r t are e can =
+    let row = row_read d format height word readings r are e in
+    let may : can_ask d mode r.row.states ≡ t =
     sym (same_mode d format height mode r.row) ∙ ap (λ (x : Reading). can_ask_by x mode)
     (sym row.1) ∙ can
     in
@@ -89,26 +98,8 @@ pub word_found : (d : DescriptionValue) (format : Format) (height : ℕ) (mode :
     → find (λ (r : Reading). reads word r.row) readings ≡ Some r → can_ask_by r mode ≡ true
     → r.word ≡ word_for d format (states_of d mode word)
 word_found d format height mode word readings r are e can =
-    let all = ap (find (λ (x : Reading). reads word x.row)) are in
-    let row = read d format height (row_of d word) r (sym
-    (by_row d format height word d.rows) ∙ sym all ∙ e) in
-    ap (λ (x : Reading). x.word) row.1
-    ∙ ap (word_for d format) (states_found d format height mode word readings r are e can)
-
-pub states_never : (d : DescriptionValue) (format : Format) (height : ℕ) (mode : SuspendMode)
-    (word : ℕ)
-    (readings : List Reading) (r : Reading) → readings ≡ map (reading_of d format height) d.rows
-    → find (λ (r : Reading). reads word r.row) readings ≡ Some r → can_ask_by r mode ≡ false
-    → None ≡ states_of d mode word
-states_never d format height mode word readings r are e can =
-    let all = ap (find (λ (x : Reading). reads word x.row)) are in
-    let row = read d format height (row_of d word) r (sym
-    (by_row d format height word d.rows) ∙ sym all ∙ e) in
-    let may : can_ask d mode r.row.states ≡ false =
-    sym (same_mode d format height mode r.row) ∙ ap (λ (x : Reading). can_ask_by x mode)
-    (sym row.1) ∙ can
-    in
-    sym (ap (states_if d mode) row.0 ∙ ap (λ (t : Bool). if t then Some r.row.states else None) may)
+    ap (λ (x : Reading). x.word) (row_read d format height word readings r are e).1
+    ∙ ap (word_for d format) (states_read d format height mode word readings r true are e can)
 
 pub states_missed : (d : DescriptionValue) (format : Format) (height : ℕ) (mode : SuspendMode)
     (word : ℕ)
@@ -137,9 +128,7 @@ pub ask_found : (d : DescriptionValue) (format : Format) (height word : ℕ)
     → find (λ (r : Reading). reads word r.row) readings ≡ Some r → r.is_ask ≡ true
     → ask_of format height r.word ≡ Ok r.ask
 ask_found d format height word readings r are e asks =
-    let all = ap (find (λ (x : Reading). reads word x.row)) are in
-    let row = read d format height (row_of d word) r
-    (sym (by_row d format height word d.rows) ∙ sym all ∙ e) in
+    let row = row_read d format height word readings r are e in
     let own = word_for d format (Some r.row.states) in
     ap (λ (x : Reading). ask_of format height x.word) row.1
     ∙ ok_is (ask_of format height own) (sym (ap (λ (x : Reading). x.is_ask) row.1) ∙ asks)

@@ -1,6 +1,6 @@
 -- Requests that differ in their first argument.
 use Rattle.std.proofs.Common.{◌≡◌, ℕ, ◌<◌, ◌^◌, ◌==◌, ◌||◌, Bool, true, false, if◌then◌else◌}
-use Rattle.std.proofs.Common.{refl, sym, arith}
+use Rattle.std.proofs.Common.{refl, sym, arith, ap, ◌∙◌}
 use Rattle.psci_abi.specs.Calls.{argument, function_of, is_wide, low_half, request_of}
 use Rattle.psci_abi.specs.declared.registers.Regs.{Regs}
 use Rattle.psci_abi.specs.declared.request.Request.{Request}
@@ -8,22 +8,17 @@ use Rattle.psci_abi.specs.declared.request.Request.TheVariants as requests
 
 -- the same request with this first argument
 abbrev pub with_first : ℕ → Request → Request
-with_first w requests.Version = requests.Version
 with_first w (requests.CpuSuspend state entry_point context) =
     requests.CpuSuspend (low_half w) entry_point context
-with_first w requests.CpuOff = requests.CpuOff
 with_first w (requests.CpuOn target entry_point context) = requests.CpuOn w entry_point context
 with_first w (requests.AffinityInfo level target) = requests.AffinityInfo level w
-with_first w requests.MigrateInfoType = requests.MigrateInfoType
-with_first w requests.SystemOff = requests.SystemOff
-with_first w requests.SystemReset = requests.SystemReset
 with_first w (requests.Features word) = requests.Features (low_half w)
 with_first w (requests.NodeHwState level target) = requests.NodeHwState level w
 with_first w (requests.SystemSuspend entry_point context) = requests.SystemSuspend w context
 with_first w (requests.SetSuspendMode mode) = requests.SetSuspendMode (low_half w)
 with_first w (requests.SystemReset2 reset_type cookie) =
     requests.SystemReset2 (low_half w) cookie
-with_first w requests.Unknown = requests.Unknown
+with_first w r = r
 
 step : (w : ℕ) (t : Bool) (a b x y : Request) → with_first w a ≡ x → with_first w b ≡ y
     → with_first w (if t then a else b) ≡ (if t then x else y)
@@ -60,3 +55,7 @@ short_if false w h = omega (arith, h)
 
 pub short : (regs : Regs) (w : ℕ) → w < 2 ^ 32 → argument regs w ≡ w
 short regs w h = short_if (is_wide regs) w h
+
+-- a word of 32 bits is read as it is
+pub half_of : (regs : Regs) (w : ℕ) → w < 2 ^ 32 → low_half (argument regs w) ≡ w
+half_of regs w small = ap low_half (short regs w small) ∙ omega (arith, small)

@@ -213,9 +213,6 @@ told d b boot mode regs r =
 request_by : (d : DescriptionValue) (b : BoardValue) (boot : ℕ) (mode : SuspendMode)
     (regs : Regs) (r : Request) → Call d b boot
     → AsksBy b (swap_for b boot) (told d b 0 mode regs r) (told d b boot mode regs r)
-request_by d b boot mode regs requests.Version call = refl
-request_by d b boot mode regs (requests.CpuSuspend state e c) call = refl
-request_by d b boot mode regs requests.CpuOff call = refl
 request_by d b boot mode regs (requests.CpuOn target e c) call =
     (argument regs (core_word d b boot target 0), core_asked d b boot target regs call, refl)
 request_by d b boot mode regs (requests.AffinityInfo level target) call = (
@@ -223,19 +220,12 @@ request_by d b boot mode regs (requests.AffinityInfo level target) call = (
   node_asked d b boot target level regs call,
   refl,
 )
-request_by d b boot mode regs requests.MigrateInfoType call = refl
-request_by d b boot mode regs requests.SystemOff call = refl
-request_by d b boot mode regs requests.SystemReset call = refl
-request_by d b boot mode regs (requests.Features word) call = refl
 request_by d b boot mode regs (requests.NodeHwState level target) call = (
   argument regs (core_word d b boot target level),
   node_asked d b boot target level regs call,
   refl,
 )
-request_by d b boot mode regs (requests.SystemSuspend e c) call = refl
-request_by d b boot mode regs (requests.SetSuspendMode m) call = refl
-request_by d b boot mode regs (requests.SystemReset2 t c) call = refl
-request_by d b boot mode regs requests.Unknown call = refl
+request_by d b boot mode regs r call = refl
 
 call_by : (d : DescriptionValue) (b : BoardValue) (boot : ℕ) (mode : SuspendMode) (regs : Regs)
     (t : Bool) → is_there d.functions (request_of regs) ≡ t → Call d b boot

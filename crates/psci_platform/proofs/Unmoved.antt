@@ -1,5 +1,5 @@
 -- Where the boot core is core 0, nothing is swapped.
-use Rattle.std.proofs.Common.{◌≡◌, ℕ, zero, suc, ◌==◌, ◌<◌, ◌≤◌, ◌||◌, nat_lt, Bool}
+use Rattle.std.proofs.Common.{◌≡◌, ℕ, zero, suc, ◌==◌, ◌<◌, ◌≤◌, nat_lt, Bool}
 use Rattle.std.proofs.Common.{true, false, if◌then◌else◌, refl, sym, ap, ◌∙◌, arith}
 use Rattle.std.proofs.Common.{inl, inr, Option, None, Some, unwrap_or}
 use Rattle.std.proofs.lemmas.Bool.{cases_eq, cases_lt, eq-eqb, le-ltb, lt-ltb, ne_eqb}
@@ -9,6 +9,7 @@ use Rattle.psci_board.specs.Board.{height, parent, up}
 use Rattle.psci_board.specs.declared.node.Node.{Node}
 use Rattle.psci_board.specs.Laws.{ParentLaws, PathLaws, SizeLaws}
 use Rattle.psci_fw_laws.specs.Renumbered.{swap}
+use Rattle.psci_platform.proofs.Counted.{or_right}
 use Rattle.psci_platform.proofs.Swapped.{all_of}
 use Rattle.psci_platform.specs.Swaps.{goes_along, is_on_path, is_swapped, is_symmetric, moved}
 use Rattle.psci_platform.specs.Swaps.{moved_in, number_of, other_number, swap_for}
@@ -100,10 +101,6 @@ own_place b level place laws =
     ap (λ (n : Node). n.place) (own b (record { level = level; place = place }) laws)
 
 -- The test --------------------------------------------------------------------------------------
-
-or_right : (s t : Bool) → t ≡ true → (s || t) ≡ true
-or_right true t e = refl
-or_right false t e = e
 
 goes : (b : BoardValue) (c level : ℕ) → Laws b → goes_along b 0 c level ≡ true
 goes b c level laws =

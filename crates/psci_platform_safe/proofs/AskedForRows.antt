@@ -1,20 +1,17 @@
 -- Worked examples: Downs for which cores had asked, at each level, in both modes, in life 2 and in
 -- a life that is halting.
-use Rattle.std.proofs.Common.{◌≡◌, ◌≤◌, ◌++◌, ℕ, List, [], ◌∷◌, refl, arith}
-use Rattle.psci_platform.specs.Platforms.{PlatformValue}
+use Rattle.std.proofs.Common.{◌≤◌, ◌++◌, ℕ, List, [], ◌∷◌, inl, inr, refl, arith}
 use Rattle.psci_headline.specs.psci_messages.declared.part.Part.{Part}
 use Rattle.psci_headline.specs.psci_messages.declared.kind.Kind.TheVariants.{Down}
 use Rattle.psci_headline.specs.psci_messages.Message.{MessageValue}
 use Rattle.psci_headline.specs.psci_world_spec.declared.event.Event.{Event}
 use Rattle.psci_headline.specs.psci_world_spec.declared.event.Event.TheVariants.{Deliver, Enter}
-use Rattle.psci_headline.specs.psci_world_spec.declared.said.Record.{Record}
 use Rattle.psci_headline.proofs.world_spec.Scripts.{call, off, part, system_off}
-use Rattle.psci_platform_safe.specs.Asked.{WasAskedFor, asks}
-use Rattle.psci_platform_safe.specs.Names.{domain_above}
+use Rattle.psci_platform_safe.specs.Asked.{WasAskedFor}
 use Rattle.psci_platform_safe.specs.Words.{run_on}
 use Rattle.psci_platform_safe.proofs.Histories.{computing, life_2, on_1, suspend, tall, tall_on}
 use Rattle.psci_platform_safe.proofs.Histories.{told, two}
-use Rattle.psci_platform_safe.proofs.Moments.{apart, of_core}
+use Rattle.psci_platform_safe.proofs.Moments.{all_ask}
 
 -- a Down as the firmware sends it: its core, its life and its parts
 abbrev down : ℕ → ℕ → List Part → MessageValue
@@ -25,11 +22,6 @@ down core life parts = record {
   number = 1;
   parts = parts;
 }
-
--- a core below the domain of a level asks at least a depth of its domain of another level
-abbrev Beside : PlatformValue → List Record → ℕ → ℕ → ℕ → ℕ → ℕ → Type 0
-Beside p now mpidr level depth at m =
-    domain_above p m level ≡ domain_above p mpidr level → depth ≤ asks p now m at
 
 -- the far core asks for its group, or for standby
 abbrev group_down : List Event
@@ -54,18 +46,10 @@ group_was_asked = record {
   has = refl;
   deep = refl;
   live = refl;
-  asked = λ other beside.
+  asked =
       let yes : 3 ≤ 3 = omega arith in
-      of_core tall (Beside tall (run_on tall [] group_down) 0x10000 2 3 2) other beside.0 (
-        (λ same. yes),
-        (
-          (λ same. yes),
-          (
-            (λ same. absurd (apart _ _ refl same)),
-            ((λ same. absurd (apart _ _ refl same)), tt),
-          ),
-        ),
-      ) beside.1;
+      all_ask tall (run_on tall [] group_down) 0x10000 2 3 2
+      (inr yes, (inr yes, (inl refl, (inl refl, tt))));
 }
 
 abbrev boot_on : List Event
@@ -88,11 +72,11 @@ system_was_asked = record {
   has = refl;
   deep = refl;
   live = refl;
-  asked = λ other beside.
+  asked =
       let yes : 2 ≤ 3 = omega arith in
       let own : 2 ≤ 2 = omega arith in
-      of_core tall (Beside tall (run_on tall [] system_retained) 0x300 3 2 3) other beside.0
-      ((λ same. yes), ((λ same. yes), ((λ same. yes), ((λ same. own), tt)))) beside.1;
+      all_ask tall (run_on tall [] system_retained) 0x300 3 2 3
+      (inr yes, (inr yes, (inr yes, (inr own, tt))));
 }
 
 -- a core, in standby
@@ -109,18 +93,10 @@ core_was_asked = record {
   has = refl;
   deep = refl;
   live = refl;
-  asked = λ other beside.
+  asked =
       let yes : 1 ≤ 1 = omega arith in
-      of_core tall (Beside tall (run_on tall [] core_in_standby) 0x10100 0 1 0) other beside.0 (
-        (λ same. yes),
-        (
-          (λ same. absurd (apart _ _ refl same)),
-          (
-            (λ same. absurd (apart _ _ refl same)),
-            ((λ same. absurd (apart _ _ refl same)), tt),
-          ),
-        ),
-      ) beside.1;
+      all_ask tall (run_on tall [] core_in_standby) 0x10100 0 1 0
+      (inr yes, (inl refl, (inl refl, (inl refl, tt))));
 }
 
 -- In OS-initiated mode ---------------------------------------------------------------------------
@@ -150,19 +126,9 @@ group_was_asked_by_its_last_core = record {
   live = refl;
   asked = (
     (let own : 2 ≤ 2 = omega arith in own),
-    λ other beside.
         let yes : 2 ≤ 3 = omega arith in
-        of_core tall (Beside tall (run_on tall [] group_down_by_the_system) 0x10000 2 2 0)
-        other beside.0 (
-          (λ same. yes),
-          (
-            (λ same. yes),
-            (
-              (λ same. absurd (apart _ _ refl same)),
-              ((λ same. absurd (apart _ _ refl same)), tt),
-            ),
-          ),
-        ) beside.1,
+        all_ask tall (run_on tall [] group_down_by_the_system) 0x10000 2 2 0
+        (inr yes, (inr yes, (inl refl, (inl refl, tt)))),
   );
 }
 
@@ -189,18 +155,10 @@ cluster_was_asked_in_life_2 = record {
   has = refl;
   deep = refl;
   live = refl;
-  asked = λ other beside.
+  asked =
       let yes : 3 ≤ 3 = omega arith in
-      of_core two (Beside two (run_on two [] off_in_life_2) 0 1 3 1) other beside.0 (
-        (λ same. yes),
-        (
-          (λ same. yes),
-          (
-            (λ same. absurd (apart _ _ refl same)),
-            ((λ same. absurd (apart _ _ refl same)), tt),
-          ),
-        ),
-      ) beside.1;
+      all_ask two (run_on two [] off_in_life_2) 0 1 3 1
+      (inr yes, (inr yes, (inl refl, (inl refl, tt))));
 }
 
 -- a group whose Down is carried out once the life is halting
@@ -219,16 +177,8 @@ group_was_asked_before_halting = record {
   has = refl;
   deep = refl;
   live = refl;
-  asked = λ other beside.
+  asked =
       let yes : 3 ≤ 3 = omega arith in
-      of_core tall (Beside tall (run_on tall [] group_down) 0x10100 2 3 2) other beside.0 (
-        (λ same. yes),
-        (
-          (λ same. yes),
-          (
-            (λ same. absurd (apart _ _ refl same)),
-            ((λ same. absurd (apart _ _ refl same)), tt),
-          ),
-        ),
-      ) beside.1;
+      all_ask tall (run_on tall [] group_down) 0x10100 2 3 2
+      (inr yes, (inr yes, (inl refl, (inl refl, tt))));
 }

@@ -2,7 +2,6 @@
 -- legal: in each one thing is said that is not so.
 use Rattle.std.proofs.Common.{◌≡◌, ◌≤◌, ◌++◌, List, [], ◌∷◌, true, false, Some, refl, arith, ap}
 use Rattle.std.proofs.Common.{◌∙◌, inl, inr}
-use Rattle.psci_headline.specs.psci_abi.declared.request.Request.TheVariants as requests
 use Rattle.psci_headline.specs.psci_fw_spec.declared.opening.Opening.{Opening}
 use Rattle.psci_headline.specs.psci_messages.declared.kind.Kind.TheVariants.{Down}
 use Rattle.psci_headline.specs.psci_world_spec.declared.event.Event.TheVariants.{Deliver, Enter}
@@ -10,7 +9,6 @@ use Rattle.psci_headline.specs.psci_world_spec.declared.said.Record.{Record}
 use Rattle.psci_headline.proofs.world_spec.Scripts.{call, enters, off, part, resumes, sends}
 use Rattle.psci_headline.proofs.world_spec.Scripts.{stops, value}
 use Rattle.psci_headline.specs.Openings.{Made, OfCall, TakenUp}
-use Rattle.psci_platform_safe.specs.Asked.{asks}
 use Rattle.psci_platform_safe.specs.Opened.{OneEntryEach}
 use Rattle.psci_platform_safe.specs.Safe.{NoneBelowSleeping, OffIsDown, OneLiveClaim, SafeOn}
 use Rattle.psci_platform_safe.specs.Safe.{StatesWereReal}

@@ -1,9 +1,7 @@
 -- Worked examples: moments of legal runs at which sentences 2 and 5 hold: on the platform of three
 -- levels, in both modes, in life 2, and in a life that is halting.
-use Rattle.std.proofs.Common.{◌≤◌, ◌++◌, ℕ, List, [], ◌∷◌, length, refl, arith}
+use Rattle.std.proofs.Common.{◌≤◌, ◌++◌, List, [], ◌∷◌, refl, arith}
 use Rattle.psci_headline.specs.ToldHw.{WasSoDeep, is_off_depth, is_standby_depth}
-use Rattle.psci_platform.specs.Platforms.{PlatformValue}
-use Rattle.psci_headline.specs.Claims.{live_claims}
 use Rattle.psci_headline.specs.psci_world_spec.declared.event.Event.TheVariants.{Deliver, Enter}
 use Rattle.psci_headline.specs.psci_world_spec.declared.event.Event.TheVariants.{Take}
 use Rattle.psci_headline.specs.psci_world_spec.declared.said.Record.{Record}
@@ -13,12 +11,7 @@ use Rattle.psci_platform_safe.specs.Safe.{OneLiveClaim}
 use Rattle.psci_platform_safe.specs.Words.{numbered, run_on}
 use Rattle.psci_platform_safe.proofs.Histories.{computing, core_1_off, core_1_on, life_2, on_1}
 use Rattle.psci_platform_safe.proofs.Histories.{suspend, tall, tall_on, two}
-use Rattle.psci_platform_safe.proofs.Moments.{of_core, of_level}
-
--- a core's domain of a level has at most one live claim
-abbrev HasOne : PlatformValue → List Record → ℕ → ℕ → Type 0
-HasOne p past level m =
-    length (live_claims p.board (numbered p past) (domain_above p m level)) ≤ 1
+use Rattle.psci_platform_safe.proofs.Moments.{claims_are}
 
 -- 2 ----------------------------------------------------------------------------------------------
 
@@ -29,23 +22,16 @@ past_of_claims_of_a_group = run_on tall []
 -- each domain that is down has a claim
 claims_of_a_group : OneLiveClaim tall past_of_claims_of_a_group
 unfolding computing
-claims_of_a_group mpidr level is low =
+claims_of_a_group =
     let one : 1 ≤ 1 = omega arith in
     let none : 0 ≤ 1 = omega arith in
-    of_core tall (HasOne tall past_of_claims_of_a_group level) mpidr is (
-      (of_level (λ l. HasOne tall past_of_claims_of_a_group l 0x10100) 3 level low
-          (one, (one, (one, (none, tt))))),
+    claims_are tall past_of_claims_of_a_group (
+      (one, (one, (one, (none, tt)))),
       (
-        (of_level (λ l. HasOne tall past_of_claims_of_a_group l 0x10000) 3 level low
-            (one, (one, (one, (none, tt))))),
+        (one, (one, (one, (none, tt)))),
         (
-          (of_level (λ l. HasOne tall past_of_claims_of_a_group l 0x300) 3 level low
-              (one, (one, (none, (none, tt))))),
-          (
-            (of_level (λ l. HasOne tall past_of_claims_of_a_group l 0x100) 3 level low
-                (none, (none, (none, (none, tt))))),
-            tt,
-          ),
+          (one, (one, (none, (none, tt)))),
+          ((none, (none, (none, (none, tt)))), tt),
         ),
       ),
     )
@@ -57,23 +43,16 @@ past_of_claims_of_the_system = run_on tall []
 -- the system, in retention
 claims_of_the_system : OneLiveClaim tall past_of_claims_of_the_system
 unfolding computing
-claims_of_the_system mpidr level is low =
+claims_of_the_system =
     let one : 1 ≤ 1 = omega arith in
     let none : 0 ≤ 1 = omega arith in
-    of_core tall (HasOne tall past_of_claims_of_the_system level) mpidr is (
-      (of_level (λ l. HasOne tall past_of_claims_of_the_system l 0x10100) 3 level low
-          (one, (one, (one, (one, tt))))),
+    claims_are tall past_of_claims_of_the_system (
+      (one, (one, (one, (one, tt)))),
       (
-        (of_level (λ l. HasOne tall past_of_claims_of_the_system l 0x10000) 3 level low
-            (one, (one, (one, (one, tt))))),
+        (one, (one, (one, (one, tt)))),
         (
-          (of_level (λ l. HasOne tall past_of_claims_of_the_system l 0x300) 3 level low
-              (one, (one, (one, (one, tt))))),
-          (
-            (of_level (λ l. HasOne tall past_of_claims_of_the_system l 0x100) 3 level low
-                (one, (one, (one, (one, tt))))),
-            tt,
-          ),
+          (one, (one, (one, (one, tt)))),
+          ((one, (one, (one, (one, tt)))), tt),
         ),
       ),
     )
@@ -84,24 +63,16 @@ past_of_claims_in_life_2 = run_on two [] (life_2 ++ on_1 ∷ Deliver 1 ∷ Enter
 -- in life 2
 claims_in_life_2 : OneLiveClaim two past_of_claims_in_life_2
 unfolding computing
-claims_in_life_2 mpidr level is low =
+claims_in_life_2 =
     let one : 1 ≤ 1 = omega arith in
     let none : 0 ≤ 1 = omega arith in
-    of_core two (HasOne two past_of_claims_in_life_2 level) mpidr is (
-      (of_level (λ l. HasOne two past_of_claims_in_life_2 l 0) 2 level low
-          (one, (one, (none, tt)))),
+    claims_are two past_of_claims_in_life_2 (
+      (one, (one, (none, tt))),
       (
-        (of_level (λ l. HasOne two past_of_claims_in_life_2 l 1) 2 level low
-            (one, (one, (none, tt)))),
+        (one, (one, (none, tt))),
         (
-          (of_level (λ l. HasOne two past_of_claims_in_life_2 l 0x200) 2 level low
-              (none, (none, (none, tt)))),
-          (
-            (of_level
-                (λ l. HasOne two past_of_claims_in_life_2 l 0x203) 2 level low
-                (one, (none, (none, tt)))),
-            tt,
-          ),
+          (none, (none, (none, tt))),
+          ((one, (none, (none, tt))), tt),
         ),
       ),
     )
@@ -114,24 +85,16 @@ past_of_claims_by_the_system = run_on two []
 -- in OS-initiated mode
 claims_by_the_system : OneLiveClaim two past_of_claims_by_the_system
 unfolding computing
-claims_by_the_system mpidr level is low =
+claims_by_the_system =
     let one : 1 ≤ 1 = omega arith in
     let none : 0 ≤ 1 = omega arith in
-    of_core two (HasOne two past_of_claims_by_the_system level) mpidr is (
-      (of_level (λ l. HasOne two past_of_claims_by_the_system l 0) 2 level low
-          (one, (one, (none, tt)))),
+    claims_are two past_of_claims_by_the_system (
+      (one, (one, (none, tt))),
       (
-        (of_level (λ l. HasOne two past_of_claims_by_the_system l 1) 2 level
-            low (one, (one, (none, tt)))),
+        (one, (one, (none, tt))),
         (
-          (of_level
-              (λ l. HasOne two past_of_claims_by_the_system l 0x200) 2 level low
-              (none, (none, (none, tt)))),
-          (
-            (of_level (λ l. HasOne two past_of_claims_by_the_system l 0x203) 2 level low
-                (one, (none, (none, tt)))),
-            tt,
-          ),
+          (none, (none, (none, tt))),
+          ((one, (none, (none, tt))), tt),
         ),
       ),
     )
@@ -142,24 +105,16 @@ past_of_claims_while_halting = run_on two [] (core_1_off ++ system_off 0x200 ∷
 -- in a life that is halting
 claims_while_halting : OneLiveClaim two past_of_claims_while_halting
 unfolding computing
-claims_while_halting mpidr level is low =
+claims_while_halting =
     let one : 1 ≤ 1 = omega arith in
     let none : 0 ≤ 1 = omega arith in
-    of_core two (HasOne two past_of_claims_while_halting level) mpidr is (
-      (of_level (λ l. HasOne two past_of_claims_while_halting l 0) 2 level low
-          (one, (one, (none, tt)))),
+    claims_are two past_of_claims_while_halting (
+      (one, (one, (none, tt))),
       (
-        (of_level (λ l. HasOne two past_of_claims_while_halting l 1) 2 level
-            low (one, (one, (none, tt)))),
+        (one, (one, (none, tt))),
         (
-          (of_level
-              (λ l. HasOne two past_of_claims_while_halting l 0x200) 2 level low
-              (none, (none, (none, tt)))),
-          (
-            (of_level (λ l. HasOne two past_of_claims_while_halting l 0x203) 2 level low
-                (one, (none, (none, tt)))),
-            tt,
-          ),
+          (none, (none, (none, tt))),
+          ((one, (none, (none, tt))), tt),
         ),
       ),
     )
@@ -168,29 +123,22 @@ claims_while_halting mpidr level is low =
 
 -- a group that is off, the core and the cluster in it, and the system in retention
 group_was_off : WasSoDeep tall.board is_off_depth
-    (numbered tall (run_on tall [] (tall_on ++ suspend 0x10100 0x02010223 ∷ Deliver 1 ∷ Take 1
-    ∷ [])))
-    (domain_above tall 0x10000 2)
+    (numbered tall past_of_claims_of_a_group) (domain_above tall 0x10000 2)
 unfolding computing
 group_was_off = refl
 
 core_was_off : WasSoDeep tall.board is_off_depth
-    (numbered tall (run_on tall [] (tall_on ++ suspend 0x10100 0x02010223 ∷ Deliver 1 ∷ Take 1
-    ∷ [])))
-    (domain_above tall 0x10100 0)
+    (numbered tall past_of_claims_of_a_group) (domain_above tall 0x10100 0)
 unfolding computing
 core_was_off = refl
 
 cluster_was_off : WasSoDeep tall.board is_off_depth
-    (numbered tall (run_on tall [] (tall_on ++ suspend 0x10100 0x02010223 ∷ Deliver 1 ∷ Take 1
-    ∷ [])))
-    (domain_above tall 0x10100 1)
+    (numbered tall past_of_claims_of_a_group) (domain_above tall 0x10100 1)
 unfolding computing
 cluster_was_off = refl
 
 system_was_retained : WasSoDeep tall.board is_standby_depth
-    (numbered tall (run_on tall [] (Enter 0x100 ∷ suspend 0x100 0x03001112 ∷ Deliver 0 ∷ [])))
-    (domain_above tall 0x300 3)
+    (numbered tall past_of_claims_of_the_system) (domain_above tall 0x300 3)
 unfolding computing
 system_was_retained = refl
 

@@ -1,6 +1,6 @@
 -- Worked examples: histories that break sentence 3 in both modes, in life 2, and in a life that is
 -- halting.
-use Rattle.std.proofs.Common.{◌≡◌, ◌≤◌, ◌<◌, ◌++◌, false, List, [], ◌∷◌, inl, inr, refl, arith}
+use Rattle.std.proofs.Common.{◌≡◌, ◌≤◌, ◌++◌, false, List, [], ◌∷◌, refl, arith}
 use Rattle.psci_headline.specs.psci_messages.declared.kind.Kind.TheVariants.{Down}
 use Rattle.psci_headline.specs.psci_world_spec.declared.event.Event.TheVariants.{Deliver, Enter}
 use Rattle.psci_headline.specs.psci_world_spec.declared.said.Record.{Record}
@@ -10,7 +10,7 @@ use Rattle.psci_platform_safe.specs.Safe.{NoDeeperThanAsked}
 use Rattle.psci_platform_safe.specs.Words.{run_on}
 use Rattle.psci_platform_safe.proofs.Histories.{after, computing, core_1_on, on_1, says, suspend}
 use Rattle.psci_platform_safe.proofs.Histories.{two}
-use Rattle.psci_platform_safe.proofs.Moments.{Counts, of_one}
+use Rattle.psci_platform_safe.proofs.Moments.{deeper}
 
 -- Modes ------------------------------------------------------------------------------------------
 
@@ -23,30 +23,14 @@ past_of_neighbour_runs =
 -- core 1 asks for its cluster, in which core 0 runs
 neighbour_runs : NoDeeperThanAsked two past_of_neighbour_runs → ⊥
 unfolding computing
-neighbour_runs none =
-    let deep : 0 < 3 = omega arith in
-    elim (none 1 1 1 (1, refl) (omega arith) refl deep) [
-      | inl was ↦
-          elim (of_one two (Counts two past_of_neighbour_runs 1 1 1 3) past_of_neighbour_runs
-          was.later was.before was.r was.message was.split was.sent
-          (record {
-            one = was.part;
-            has = was.has;
-            deep = was.deep;
-            live = was.live;
-            asked = was.asked;
-          })) [
-            | inl m ↦ let no : 3 ≤ 0 = m.asked 0 ((0, refl), refl) in absurd (omega (arith, no))
-            | inr rest ↦ elim rest [
-              | inl m ↦ let no = m.has in absurd (cc)
-              | inr rest ↦ elim rest [
-                | inl m ↦ let no = m.has in absurd (cc)
-                | inr never ↦ never
-              ]
-            ]
-          ]
-      | inr start ↦ let no : 2 ≡ 0 = start.live in absurd (omega (arith, no))
-    ]
+neighbour_runs =
+    deeper two past_of_neighbour_runs 1 1 1 (1, refl) (omega arith) refl (omega arith) (
+      λ m. let no : 3 ≤ 0 = m.asked 0 ((0, refl), refl) in absurd (omega (arith, no)),
+      (
+        λ m. let no = m.has in absurd (cc),
+        (λ m. let no = m.has in absurd (cc), tt),
+      ),
+    ) (λ start. let no : 2 ≡ 0 = start.live in absurd (omega (arith, no)))
 
 abbrev past_of_claimer_asks_itself : List Record
 past_of_claimer_asks_itself =
@@ -58,28 +42,11 @@ past_of_claimer_asks_itself =
 -- is off does not ask for it
 claimer_asks_itself : NoDeeperThanAsked two past_of_claimer_asks_itself → ⊥
 unfolding computing
-claimer_asks_itself none =
-    let deep : 0 < 3 = omega arith in
-    elim (none 0 1 1 (0, refl) (omega arith) refl deep) [
-      | inl was ↦
-          elim (of_one two (Counts two past_of_claimer_asks_itself 0 1 1 3)
-          past_of_claimer_asks_itself
-          was.later was.before was.r was.message was.split was.sent
-          (record {
-            one = was.part;
-            has = was.has;
-            deep = was.deep;
-            live = was.live;
-            asked = was.asked;
-          })) [
-            | inl m ↦ let no : 3 ≤ 0 = m.asked.0 in absurd (omega (arith, no))
-            | inr rest ↦ elim rest [
-              | inl m ↦ let no = m.has in absurd (cc)
-              | inr never ↦ never
-            ]
-          ]
-      | inr start ↦ let no : 1 ≡ 0 = start.live in absurd (omega (arith, no))
-    ]
+claimer_asks_itself =
+    deeper two past_of_claimer_asks_itself 0 1 1 (0, refl) (omega arith) refl (omega arith) (
+      λ m. let no : 3 ≤ 0 = m.asked.0 in absurd (omega (arith, no)),
+      (λ m. let no = m.has in absurd (cc), tt),
+    ) (λ start. let no : 1 ≡ 0 = start.live in absurd (omega (arith, no)))
 
 abbrev past_of_neighbour_runs_on : List Record
 past_of_neighbour_runs_on =
@@ -91,30 +58,14 @@ past_of_neighbour_runs_on =
 -- in OS-initiated mode core 1 asks for its cluster, in which core 0 runs
 neighbour_runs_on : NoDeeperThanAsked two past_of_neighbour_runs_on → ⊥
 unfolding computing
-neighbour_runs_on none =
-    let deep : 0 < 3 = omega arith in
-    elim (none 1 1 1 (1, refl) (omega arith) refl deep) [
-      | inl was ↦
-          elim (of_one two (Counts two past_of_neighbour_runs_on 1 1 1 3) past_of_neighbour_runs_on
-          was.later was.before was.r was.message was.split was.sent
-          (record {
-            one = was.part;
-            has = was.has;
-            deep = was.deep;
-            live = was.live;
-            asked = was.asked;
-          })) [
-            | inl m ↦ let no : 3 ≤ 0 = m.asked.1 0 ((0, refl), refl) in absurd (omega (arith, no))
-            | inr rest ↦ elim rest [
-              | inl m ↦ let no = m.has in absurd (cc)
-              | inr rest ↦ elim rest [
-                | inl m ↦ let no = m.has in absurd (cc)
-                | inr never ↦ never
-              ]
-            ]
-          ]
-      | inr start ↦ let no : 2 ≡ 0 = start.live in absurd (omega (arith, no))
-    ]
+neighbour_runs_on =
+    deeper two past_of_neighbour_runs_on 1 1 1 (1, refl) (omega arith) refl (omega arith) (
+      λ m. let no : 3 ≤ 0 = m.asked.1 0 ((0, refl), refl) in absurd (omega (arith, no)),
+      (
+        λ m. let no = m.has in absurd (cc),
+        (λ m. let no = m.has in absurd (cc), tt),
+      ),
+    ) (λ start. let no : 2 ≡ 0 = start.live in absurd (omega (arith, no)))
 
 -- Lives ------------------------------------------------------------------------------------------
 
@@ -128,33 +79,17 @@ past_of_deeper_in_life_2 =
 -- in life 2, where core 1 had been off in life 1
 deeper_in_life_2 : NoDeeperThanAsked two past_of_deeper_in_life_2 → ⊥
 unfolding computing
-deeper_in_life_2 none =
-    let deep : 0 < 3 = omega arith in
-    elim (none 1 0 2 (1, refl) (omega arith) refl deep) [
-      | inl was ↦
-          elim (of_one two (Counts two past_of_deeper_in_life_2 1 0 2 3) past_of_deeper_in_life_2
-          was.later was.before was.r was.message was.split was.sent
-          (record {
-            one = was.part;
-            has = was.has;
-            deep = was.deep;
-            live = was.live;
-            asked = was.asked;
-          })) [
-            | inl m ↦ let no : 3 ≤ 2 = m.asked 1 ((1, refl), refl) in absurd (omega (arith, no))
-            | inr rest ↦ elim rest [
-              | inl m ↦ let no = m.has in absurd (cc)
-              | inr rest ↦ elim rest [
-                | inl m ↦ let no = m.has in absurd (cc)
-                | inr rest ↦ elim rest [
-                  | inl m ↦ let no = m.has in absurd (cc)
-                  | inr never ↦ never
-                ]
-              ]
-            ]
-          ]
-      | inr start ↦ let no : 1 ≡ 0 = start.live in absurd (omega (arith, no))
-    ]
+deeper_in_life_2 =
+    deeper two past_of_deeper_in_life_2 1 0 2 (1, refl) (omega arith) refl (omega arith) (
+      λ m. let no : 3 ≤ 2 = m.asked 1 ((1, refl), refl) in absurd (omega (arith, no)),
+      (
+        λ m. let no = m.has in absurd (cc),
+        (
+          λ m. let no = m.has in absurd (cc),
+          (λ m. let no = m.has in absurd (cc), tt),
+        ),
+      ),
+    ) (λ start. let no : 1 ≡ 0 = start.live in absurd (omega (arith, no)))
 
 abbrev past_of_deeper_while_halting : List Record
 past_of_deeper_while_halting =
@@ -164,28 +99,11 @@ past_of_deeper_while_halting =
 -- in a life that is halting
 deeper_while_halting : NoDeeperThanAsked two past_of_deeper_while_halting → ⊥
 unfolding computing
-deeper_while_halting none =
-    let deep : 0 < 3 = omega arith in
-    elim (none 1 0 1 (1, refl) (omega arith) refl deep) [
-      | inl was ↦
-          elim (of_one two (Counts two past_of_deeper_while_halting 1 0 1 3)
-          past_of_deeper_while_halting
-          was.later was.before was.r was.message was.split was.sent
-          (record {
-            one = was.part;
-            has = was.has;
-            deep = was.deep;
-            live = was.live;
-            asked = was.asked;
-          })) [
-            | inl m ↦ let no : 3 ≤ 2 = m.asked 1 ((1, refl), refl) in absurd (omega (arith, no))
-            | inr rest ↦ elim rest [
-              | inl m ↦ let no = m.has in absurd (cc)
-              | inr rest ↦ elim rest [
-                | inl m ↦ let no = m.has in absurd (cc)
-                | inr never ↦ never
-              ]
-            ]
-          ]
-      | inr start ↦ let no : 1 ≡ 0 = start.live in absurd (omega (arith, no))
-    ]
+deeper_while_halting =
+    deeper two past_of_deeper_while_halting 1 0 1 (1, refl) (omega arith) refl (omega arith) (
+      λ m. let no : 3 ≤ 2 = m.asked 1 ((1, refl), refl) in absurd (omega (arith, no)),
+      (
+        λ m. let no = m.has in absurd (cc),
+        (λ m. let no = m.has in absurd (cc), tt),
+      ),
+    ) (λ start. let no : 1 ≡ 0 = start.live in absurd (omega (arith, no)))

@@ -1,6 +1,6 @@
 -- Worked examples: histories that break sentence 3, in which a domain is deeper than the cores
 -- below it had asked for: at each level, of each core, and where it is not powered down.
-use Rattle.std.proofs.Common.{◌≡◌, ◌≤◌, ◌<◌, false, List, [], ◌∷◌, inl, inr, refl, arith}
+use Rattle.std.proofs.Common.{◌≡◌, ◌≤◌, false, List, [], ◌∷◌, refl, arith}
 use Rattle.psci_headline.specs.psci_messages.declared.kind.Kind.TheVariants.{Down}
 use Rattle.psci_headline.specs.psci_world_spec.declared.event.Event.TheVariants.{Deliver, Enter}
 use Rattle.psci_headline.specs.psci_world_spec.declared.said.Record.{Record}
@@ -9,7 +9,7 @@ use Rattle.psci_platform_safe.specs.Safe.{NoDeeperThanAsked}
 use Rattle.psci_platform_safe.specs.Words.{run_on}
 use Rattle.psci_platform_safe.proofs.Histories.{after, computing, core_1_on, says, suspend, tall}
 use Rattle.psci_platform_safe.proofs.Histories.{tall_on, two}
-use Rattle.psci_platform_safe.proofs.Moments.{Counts, of_one}
+use Rattle.psci_platform_safe.proofs.Moments.{deeper}
 
 -- Levels, cores and depths -----------------------------------------------------------------------
 
@@ -21,27 +21,11 @@ past_of_deeper_core =
 -- core 1 asks for retention by its word, and is powered down
 deeper_core : NoDeeperThanAsked two past_of_deeper_core → ⊥
 unfolding computing
-deeper_core none =
-    let deep : 0 < 3 = omega arith in
-    elim (none 1 0 1 (1, refl) (omega arith) refl deep) [
-      | inl was ↦
-          elim (of_one two (Counts two past_of_deeper_core 1 0 1 3) past_of_deeper_core
-          was.later was.before was.r was.message was.split was.sent
-          (record {
-            one = was.part;
-            has = was.has;
-            deep = was.deep;
-            live = was.live;
-            asked = was.asked;
-          })) [
-            | inl m ↦ let no : 3 ≤ 2 = m.asked 1 ((1, refl), refl) in absurd (omega (arith, no))
-            | inr rest ↦ elim rest [
-              | inl m ↦ let no = m.has in absurd (cc)
-              | inr never ↦ never
-            ]
-          ]
-      | inr start ↦ let no : 1 ≡ 0 = start.live in absurd (omega (arith, no))
-    ]
+deeper_core =
+    deeper two past_of_deeper_core 1 0 1 (1, refl) (omega arith) refl (omega arith) (
+      λ m. let no : 3 ≤ 2 = m.asked 1 ((1, refl), refl) in absurd (omega (arith, no)),
+      (λ m. let no = m.has in absurd (cc), tt),
+    ) (λ start. let no : 1 ≡ 0 = start.live in absurd (omega (arith, no)))
 
 abbrev past_of_deeper_boot_core : List Record
 past_of_deeper_boot_core =
@@ -51,25 +35,11 @@ past_of_deeper_boot_core =
 -- so does the boot core
 deeper_boot_core : NoDeeperThanAsked two past_of_deeper_boot_core → ⊥
 unfolding computing
-deeper_boot_core none =
-    let deep : 0 < 3 = omega arith in
-    elim (none 0x200 0 1 (2, refl) (omega arith) refl deep) [
-      | inl was ↦
-          elim (of_one two (Counts two past_of_deeper_boot_core 0x200 0 1 3)
-          past_of_deeper_boot_core
-          was.later was.before was.r was.message was.split was.sent
-          (record {
-            one = was.part;
-            has = was.has;
-            deep = was.deep;
-            live = was.live;
-            asked = was.asked;
-          })) [
-            | inl m ↦ let no : 3 ≤ 2 = m.asked 0x200 ((2, refl), refl) in absurd (omega (arith, no))
-            | inr never ↦ never
-          ]
-      | inr start ↦ let no : 1 ≡ 0 = start.live in absurd (omega (arith, no))
-    ]
+deeper_boot_core =
+    deeper two past_of_deeper_boot_core 0x200 0 1 (2, refl) (omega arith) refl (omega arith) (
+      λ m. let no : 3 ≤ 2 = m.asked 0x200 ((2, refl), refl) in absurd (omega (arith, no)),
+      tt,
+    ) (λ start. let no : 1 ≡ 0 = start.live in absurd (omega (arith, no)))
 
 abbrev past_of_deeper_cluster : List Record
 past_of_deeper_cluster =
@@ -79,27 +49,11 @@ past_of_deeper_cluster =
 -- core 1 asks for power-down of itself alone, and its cluster is powered down
 deeper_cluster : NoDeeperThanAsked two past_of_deeper_cluster → ⊥
 unfolding computing
-deeper_cluster none =
-    let deep : 0 < 3 = omega arith in
-    elim (none 1 1 1 (1, refl) (omega arith) refl deep) [
-      | inl was ↦
-          elim (of_one two (Counts two past_of_deeper_cluster 1 1 1 3) past_of_deeper_cluster
-          was.later was.before was.r was.message was.split was.sent
-          (record {
-            one = was.part;
-            has = was.has;
-            deep = was.deep;
-            live = was.live;
-            asked = was.asked;
-          })) [
-            | inl m ↦ let no : 3 ≤ 0 = m.asked 1 ((1, refl), refl) in absurd (omega (arith, no))
-            | inr rest ↦ elim rest [
-              | inl m ↦ let no = m.has in absurd (cc)
-              | inr never ↦ never
-            ]
-          ]
-      | inr start ↦ let no : 1 ≡ 0 = start.live in absurd (omega (arith, no))
-    ]
+deeper_cluster =
+    deeper two past_of_deeper_cluster 1 1 1 (1, refl) (omega arith) refl (omega arith) (
+      λ m. let no : 3 ≤ 0 = m.asked 1 ((1, refl), refl) in absurd (omega (arith, no)),
+      (λ m. let no = m.has in absurd (cc), tt),
+    ) (λ start. let no : 1 ≡ 0 = start.live in absurd (omega (arith, no)))
 
 abbrev past_of_deeper_group : List Record
 past_of_deeper_group =
@@ -109,29 +63,11 @@ past_of_deeper_group =
 -- the far core asks for its cluster, and its group is powered down
 deeper_group : NoDeeperThanAsked tall past_of_deeper_group → ⊥
 unfolding computing
-deeper_group none =
-    let deep : 0 < 3 = omega arith in
-    elim (none 0x10100 2 1 (0, refl) (omega arith) refl deep) [
-      | inl was ↦
-          elim (of_one tall (Counts tall past_of_deeper_group 0x10100 2 1 3) past_of_deeper_group
-          was.later was.before was.r was.message was.split was.sent
-          (record {
-            one = was.part;
-            has = was.has;
-            deep = was.deep;
-            live = was.live;
-            asked = was.asked;
-          })) [
-            | inl m ↦
-                let no : 3 ≤ 0 = m.asked 0x10100 ((0, refl), refl) in
-                absurd (omega (arith, no))
-            | inr rest ↦ elim rest [
-              | inl m ↦ let no = m.has in absurd (cc)
-              | inr never ↦ never
-            ]
-          ]
-      | inr start ↦ let no : 1 ≡ 0 = start.live in absurd (omega (arith, no))
-    ]
+deeper_group =
+    deeper tall past_of_deeper_group 0x10100 2 1 (0, refl) (omega arith) refl (omega arith) (
+      λ m. let no : 3 ≤ 0 = m.asked 0x10100 ((0, refl), refl) in absurd (omega (arith, no)),
+      (λ m. let no = m.has in absurd (cc), tt),
+    ) (λ start. let no : 1 ≡ 0 = start.live in absurd (omega (arith, no)))
 
 abbrev past_of_deeper_system : List Record
 past_of_deeper_system =
@@ -142,29 +78,11 @@ past_of_deeper_system =
 -- the far core asks for its group, and the system is powered down
 deeper_system : NoDeeperThanAsked tall past_of_deeper_system → ⊥
 unfolding computing
-deeper_system none =
-    let deep : 0 < 3 = omega arith in
-    elim (none 0x10100 3 1 (0, refl) (omega arith) refl deep) [
-      | inl was ↦
-          elim (of_one tall (Counts tall past_of_deeper_system 0x10100 3 1 3) past_of_deeper_system
-          was.later was.before was.r was.message was.split was.sent
-          (record {
-            one = was.part;
-            has = was.has;
-            deep = was.deep;
-            live = was.live;
-            asked = was.asked;
-          })) [
-            | inl m ↦
-                let no : 3 ≤ 0 = m.asked 0x10100 ((0, refl), refl) in
-                absurd (omega (arith, no))
-            | inr rest ↦ elim rest [
-              | inl m ↦ let no = m.has in absurd (cc)
-              | inr never ↦ never
-            ]
-          ]
-      | inr start ↦ let no : 2 ≡ 0 = start.live in absurd (omega (arith, no))
-    ]
+deeper_system =
+    deeper tall past_of_deeper_system 0x10100 3 1 (0, refl) (omega arith) refl (omega arith) (
+      λ m. let no : 3 ≤ 0 = m.asked 0x10100 ((0, refl), refl) in absurd (omega (arith, no)),
+      (λ m. let no = m.has in absurd (cc), tt),
+    ) (λ start. let no : 2 ≡ 0 = start.live in absurd (omega (arith, no)))
 
 abbrev past_of_retained_for_standby : List Record
 past_of_retained_for_standby =
@@ -174,27 +92,9 @@ past_of_retained_for_standby =
 -- the far core asks for standby, and is in retention
 retained_for_standby : NoDeeperThanAsked tall past_of_retained_for_standby → ⊥
 unfolding computing
-retained_for_standby none =
-    let deep : 0 < 2 = omega arith in
-    elim (none 0x10100 0 1 (0, refl) (omega arith) refl deep) [
-      | inl was ↦
-          elim (of_one tall (Counts tall past_of_retained_for_standby 0x10100 0 1 2)
-          past_of_retained_for_standby
-          was.later was.before was.r was.message was.split was.sent
-          (record {
-            one = was.part;
-            has = was.has;
-            deep = was.deep;
-            live = was.live;
-            asked = was.asked;
-          })) [
-            | inl m ↦
-                let no : 2 ≤ 1 = m.asked 0x10100 ((0, refl), refl) in
-                absurd (omega (arith, no))
-            | inr rest ↦ elim rest [
-              | inl m ↦ let no = m.has in absurd (cc)
-              | inr never ↦ never
-            ]
-          ]
-      | inr start ↦ let no : 1 ≡ 0 = start.live in absurd (omega (arith, no))
-    ]
+retained_for_standby =
+    deeper tall past_of_retained_for_standby 0x10100 0 1 (0, refl) (omega arith) refl
+    (omega arith) (
+      λ m. let no : 2 ≤ 1 = m.asked 0x10100 ((0, refl), refl) in absurd (omega (arith, no)),
+      (λ m. let no = m.has in absurd (cc), tt),
+    ) (λ start. let no : 1 ≡ 0 = start.live in absurd (omega (arith, no)))

@@ -7,11 +7,9 @@ use Rattle.psci_platform.specs.Platforms.{PlatformValue}
 use Rattle.psci_headline.specs.psci_abi.declared.registers.Regs.{Regs}
 use Rattle.psci_headline.specs.psci_board.Board.{BoardValue, cores}
 use Rattle.psci_headline.specs.psci_ctl_spec.Replies.{last_start}
-use Rattle.psci_headline.specs.psci_fw_spec.declared.call.FwCall.TheVariants as calls
 use Rattle.psci_headline.specs.psci_fw_spec.declared.opening.Opening.{Opening}
 use Rattle.psci_headline.specs.psci_fw_spec.declared.outcome.Act.{Act}
 use Rattle.psci_headline.specs.psci_fw_spec.declared.outcome.Act.TheVariants as acts
-use Rattle.psci_headline.specs.psci_fw_spec.declared.reply.FwReply.TheVariants as replies
 use Rattle.psci_headline.specs.psci_fw_spec.After.{change}
 use Rattle.psci_headline.specs.psci_fw_spec.Changes.{PowerOn, Rest}
 use Rattle.psci_headline.specs.psci_fw_spec.Effects.{AsksOn, Nothing, Rests, enter_effect}

@@ -1,22 +1,15 @@
 -- Worked examples: moments of legal runs at which sentence 1 holds: on the platform of three
 -- levels, in both modes, in life 2, and in a life that is halting.
-use Rattle.std.proofs.Common.{◌≡◌, ◌++◌, ℕ, true, List, [], ◌∷◌, refl}
-use Rattle.psci_platform.specs.Platforms.{PlatformValue}
-use Rattle.psci_headline.specs.Moments.{executes}
+use Rattle.std.proofs.Common.{◌++◌, List, [], ◌∷◌, inl, inr, refl}
 use Rattle.psci_headline.specs.psci_world_spec.declared.event.Event.TheVariants.{Deliver, Enter}
 use Rattle.psci_headline.specs.psci_world_spec.declared.event.Event.TheVariants.{Take, Wake}
 use Rattle.psci_headline.specs.psci_world_spec.declared.said.Record.{Record}
 use Rattle.psci_headline.proofs.world_spec.Scripts.{call, off, system_off}
-use Rattle.psci_platform_safe.specs.Asked.{depth_above}
-use Rattle.psci_platform_safe.specs.Safe.{IsOff, NoneBelowSleeping, place_of}
+use Rattle.psci_platform_safe.specs.Safe.{IsOff, NoneBelowSleeping}
 use Rattle.psci_platform_safe.specs.Words.{run_on}
 use Rattle.psci_platform_safe.proofs.Histories.{computing, core_1_off, core_1_on, life_2, on_1}
 use Rattle.psci_platform_safe.proofs.Histories.{suspend, tall, tall_on, two}
-use Rattle.psci_platform_safe.proofs.Moments.{of_core, of_level}
-
--- while a core executes, its domain of a level is fully on
-abbrev IsOn : PlatformValue → List Record → ℕ → ℕ → Type 0
-IsOn p past level m = executes (place_of p past m) ≡ true → depth_above p past m level ≡ 0
+use Rattle.psci_platform_safe.proofs.Moments.{cores_are}
 
 abbrev past_of_boot_core_alone : List Record
 past_of_boot_core_alone = run_on tall []
@@ -25,22 +18,17 @@ past_of_boot_core_alone = run_on tall []
 -- the boot core alone runs, beside a group that is off
 boot_core_alone : NoneBelowSleeping tall past_of_boot_core_alone
 unfolding computing
-boot_core_alone mpidr level is low here =
-    of_core tall (IsOn tall past_of_boot_core_alone level) mpidr is (
-      (λ here. absurd (cc)),
+boot_core_alone =
+    cores_are tall past_of_boot_core_alone (
+      inl refl,
       (
-        (λ here. absurd (cc)),
+        inl refl,
         (
-          (λ here. absurd (cc)),
-          (
-            (λ here. of_level
-                (λ l. depth_above tall past_of_boot_core_alone 0x100 l ≡ 0) 3 level low
-                (refl, (refl, (refl, (refl, tt))))),
-            tt,
-          ),
+          inl refl,
+          (inr (refl, (refl, (refl, (refl, tt)))), tt),
         ),
       ),
-    ) here
+    )
 
 abbrev past_of_both_run : List Record
 past_of_both_run = run_on tall [] tall_on
@@ -48,22 +36,17 @@ past_of_both_run = run_on tall [] tall_on
 -- the far core runs, too, at each level above it
 both_run : NoneBelowSleeping tall past_of_both_run
 unfolding computing
-both_run mpidr level is low here =
-    of_core tall (IsOn tall past_of_both_run level) mpidr is (
-      (λ here. of_level (λ l. depth_above tall past_of_both_run 0x10100 l ≡ 0) 3 level low
-          (refl, (refl, (refl, (refl, tt))))),
+both_run =
+    cores_are tall past_of_both_run (
+      inr (refl, (refl, (refl, (refl, tt)))),
       (
-        (λ here. absurd (cc)),
+        inl refl,
         (
-          (λ here. absurd (cc)),
-          (
-            (λ here. of_level (λ l. depth_above tall past_of_both_run 0x100 l ≡ 0) 3 level low
-                (refl, (refl, (refl, (refl, tt))))),
-            tt,
-          ),
+          inl refl,
+          (inr (refl, (refl, (refl, (refl, tt)))), tt),
         ),
       ),
-    ) here
+    )
 
 abbrev past_of_on_again_by_the_system : List Record
 past_of_on_again_by_the_system = run_on two []
@@ -73,21 +56,17 @@ past_of_on_again_by_the_system = run_on two []
 -- core 1 has slept with its cluster in OS-initiated mode, and runs again
 on_again_by_the_system : NoneBelowSleeping two past_of_on_again_by_the_system
 unfolding computing
-on_again_by_the_system mpidr level is low here =
-    of_core two (IsOn two past_of_on_again_by_the_system level) mpidr is (
-      (λ here. absurd (cc)),
+on_again_by_the_system =
+    cores_are two past_of_on_again_by_the_system (
+      inl refl,
       (
-        (λ here. of_level
-            (λ l. depth_above two past_of_on_again_by_the_system 1 l ≡ 0) 2 level low
-            (refl, (refl, (refl, tt)))),
+        inr (refl, (refl, (refl, tt))),
         (
-          (λ here. of_level
-              (λ l. depth_above two past_of_on_again_by_the_system 0x200 l ≡ 0) 2 level low
-              (refl, (refl, (refl, tt)))),
-          ((λ here. absurd (cc)), tt),
+          inr (refl, (refl, (refl, tt))),
+          (inl refl, tt),
         ),
       ),
-    ) here
+    )
 
 abbrev past_of_on_in_life_2 : List Record
 past_of_on_in_life_2 = run_on two [] (life_2 ++ on_1 ∷ Deliver 1 ∷ Enter 1 ∷ [])
@@ -95,20 +74,17 @@ past_of_on_in_life_2 = run_on two [] (life_2 ++ on_1 ∷ Deliver 1 ∷ Enter 1 �
 -- core 1 runs in life 2
 on_in_life_2 : NoneBelowSleeping two past_of_on_in_life_2
 unfolding computing
-on_in_life_2 mpidr level is low here =
-    of_core two (IsOn two past_of_on_in_life_2 level) mpidr is (
-      (λ here. absurd (cc)),
+on_in_life_2 =
+    cores_are two past_of_on_in_life_2 (
+      inl refl,
       (
-        (λ here. of_level
-            (λ l. depth_above two past_of_on_in_life_2 1 l ≡ 0) 2 level low
-            (refl, (refl, (refl, tt)))),
+        inr (refl, (refl, (refl, tt))),
         (
-          (λ here. of_level (λ l. depth_above two past_of_on_in_life_2 0x200 l ≡ 0) 2 level low
-              (refl, (refl, (refl, tt)))),
-          ((λ here. absurd (cc)), tt),
+          inr (refl, (refl, (refl, tt))),
+          (inl refl, tt),
         ),
       ),
-    ) here
+    )
 
 abbrev past_of_woken_while_halting : List Record
 past_of_woken_while_halting = run_on two [] (core_1_off ++ system_off 0x200 ∷ Wake 1 ∷ [])
@@ -116,16 +92,17 @@ past_of_woken_while_halting = run_on two [] (core_1_off ++ system_off 0x200 ∷ 
 -- core 1 was woken, and has not entered, as the life halts
 woken_while_halting : NoneBelowSleeping two past_of_woken_while_halting
 unfolding computing
-woken_while_halting mpidr level is low here =
-    of_core two (IsOn two past_of_woken_while_halting level) mpidr is (
-      (λ here. absurd (cc)),
+woken_while_halting =
+    cores_are two past_of_woken_while_halting (
+      inl refl,
       (
-        (λ here. of_level
-            (λ l. depth_above two past_of_woken_while_halting 1 l ≡ 0) 2 level low
-            (refl, (refl, (refl, tt)))),
-        ((λ here. absurd (cc)), ((λ here. absurd (cc)), tt)),
+        inr (refl, (refl, (refl, tt))),
+        (
+          inl refl,
+          (inl refl, tt),
+        ),
       ),
-    ) here
+    )
 
 -- a core that went off does not run, and was powered down
 far_core_is_off : IsOff tall (run_on tall []

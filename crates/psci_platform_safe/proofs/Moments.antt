@@ -1,11 +1,10 @@
 -- For worked examples: the moments of a past at which a message was sent, and the cores that a
 -- platform has, each written out.
 use Rattle.std.proofs.Common.{◌≡◌, ◌==◌, ◌++◌, ◌+◌, ◌<◌, ◌≤◌, ◌⊎◌, ℕ, zero, suc, List, [], ◌∷◌}
-use Rattle.std.proofs.Common.{length, Option, None, Some, inl, inr, refl, sym, subst, arith, true}
+use Rattle.std.proofs.Common.{length, Option, None, Some, inl, inr, refl, subst, arith, true}
 use Rattle.std.proofs.Common.{false, ap}
 use Rattle.std.specs.Prelude.{slice_index}
 use Rattle.std.proofs.lemmas.Bool.{cases_eq, eq-eqb}
-use Rattle.std.proofs.lemmas.List.{append-nil, append_assoc}
 use Rattle.psci_platform.specs.Platforms.{PlatformValue}
 use Rattle.psci_headline.specs.psci_board.declared.node.Node.{Node}
 use Rattle.psci_headline.specs.psci_messages.declared.part.Part.{Part}
@@ -14,48 +13,52 @@ use Rattle.psci_headline.specs.psci_fw_laws.Claims.{part_for}
 use Rattle.psci_headline.specs.psci_messages.Message.{MessageValue}
 use Rattle.psci_headline.specs.psci_world_spec.declared.said.Record.{Record}
 use Rattle.psci_headline.specs.psci_world_spec.Histories.{controller_values, sent_in}
-use Rattle.psci_platform_safe.specs.Asked.{AskFor, mode_of}
+use Rattle.psci_platform_safe.specs.Asked.{AllAsk, AskFor, IsFromStart, asks, depth_above, mode_of}
+use Rattle.psci_platform_safe.specs.Safe.{NoDeeperThanAsked, NoneBelowSleeping, OneLiveClaim}
+use Rattle.psci_platform_safe.specs.Safe.{place_of}
+use Rattle.psci_headline.specs.Claims.{live_claims}
+use Rattle.psci_headline.specs.Moments.{executes}
+use Rattle.psci_headline.specs.psci_board.Board.{height}
 use Rattle.psci_platform_safe.specs.Names.{IsCore, domain_above, mpidr_of}
 use Rattle.psci_platform_safe.specs.Words.{numbered, said_in_numbers}
 use Rattle.psci_platform_safe.proofs.Numbers.{found}
 
 -- Messages ---------------------------------------------------------------------------------------
 
--- it holds of a message, if there is one, and of the records up to it, or the rest holds
-abbrev pub OrLater : (MessageValue → List Record → Type 0) → Option MessageValue → List Record
+-- it holds of no message, if there is one, and of the records up to it, and the rest holds
+abbrev pub AndLater : (MessageValue → List Record → Type 0) → Option MessageValue → List Record
     → Type 0 → Type 0
-OrLater P None now rest = rest
-OrLater P (Some m) now rest = P m now ⊎ rest
+AndLater P None now rest = rest
+AndLater P (Some m) now rest = (P m now → ⊥) × rest
 
--- it holds of one of the messages that were sent, and of the records up to it
-abbrev pub OfOne : PlatformValue → (MessageValue → List Record → Type 0) → List Record → Type 0
-OfOne p P [] = ⊥
-OfOne p P (r ∷ past) = OrLater P (sent_in (said_in_numbers p r.said)) (r ∷ past) (OfOne p P past)
+-- it holds of none of the messages that were sent, and of the records up to it
+abbrev pub OfNone : PlatformValue → (MessageValue → List Record → Type 0) → List Record → Type 0
+OfNone p P [] = Unit {0}
+OfNone p P (r ∷ past) = AndLater P (sent_in (said_in_numbers p r.said)) (r ∷ past) (OfNone p P past)
 
-now_of : (P : MessageValue → List Record → Type 0) (o : Option MessageValue) (m : MessageValue)
-    (now : List Record) (rest : Type 0) → o ≡ Some m → P m now → OrLater P o now rest
-now_of P None m now rest e is = absurd (cc)
-now_of P (Some n) m now rest e is =
-    let same : n ≡ m = cc in inl (subst (λ (x : MessageValue). P x now) (sym same) is)
+not_now : (P : MessageValue → List Record → Type 0) (o : Option MessageValue) (m : MessageValue)
+    (now : List Record) (rest : Type 0) → o ≡ Some m → AndLater P o now rest → P m now → ⊥
+not_now P None m now rest e none = absurd (cc)
+not_now P (Some n) m now rest e none =
+    let same : n ≡ m = cc in subst (λ (x : MessageValue). P x now → ⊥) same none.0
 
-later_of : (P : MessageValue → List Record → Type 0) (o : Option MessageValue)
-    (now : List Record) (rest : Type 0) → rest → OrLater P o now rest
-later_of P None now rest is = is
-later_of P (Some m) now rest is = inr is
+not_later : (P : MessageValue → List Record → Type 0) (o : Option MessageValue)
+    (now : List Record) (rest : Type 0) → AndLater P o now rest → rest
+not_later P None now rest none = none
+not_later P (Some m) now rest none = none.1
 
--- what holds of a message that was sent at some moment holds of one of all of them
-pub of_one : (p : PlatformValue) (P : MessageValue → List Record → Type 0)
+-- what holds of none of all messages holds of none that was sent at some moment
+of_none : (p : PlatformValue) (P : MessageValue → List Record → Type 0)
     (past later before : List Record) (r : Record) (m : MessageValue)
     → past ≡ later ++ (r ∷ before) → sent_in (said_in_numbers p r.said) ≡ Some m
-    → P m (r ∷ before) → OfOne p P past
-of_one p P past [] before r m e sent is =
-    subst (OfOne p P) (sym e)
-    (now_of P (sent_in (said_in_numbers p r.said)) m (r ∷ before) (OfOne p P before) sent is)
-of_one p P past (x ∷ later) before r m e sent is =
-    subst (OfOne p P) (sym e)
-    (later_of P (sent_in (said_in_numbers p x.said)) (x ∷ (later ++ (r ∷ before)))
-    (OfOne p P (later ++ (r ∷ before)))
-    (of_one p P (later ++ (r ∷ before)) later before r m refl sent is))
+    → OfNone p P past → P m (r ∷ before) → ⊥
+of_none p P past [] before r m e sent none =
+    not_now P (sent_in (said_in_numbers p r.said)) m (r ∷ before) (OfNone p P before) sent
+    (subst (OfNone p P) e none)
+of_none p P past (x ∷ later) before r m e sent none =
+    of_none p P (later ++ (r ∷ before)) later before r m refl sent
+    (not_later P (sent_in (said_in_numbers p x.said)) (x ∷ (later ++ (r ∷ before)))
+    (OfNone p P (later ++ (r ∷ before))) (subst (OfNone p P) e none))
 
 -- Claims -----------------------------------------------------------------------------------------
 
@@ -70,31 +73,28 @@ pub record Counts (p : PlatformValue) (past : List Record) (mpidr level life dep
       (controller_values p.board (numbered p past)).starts (domain_above p mpidr level)
   pub asked : AskFor (mode_of p now) p now (mpidr_of p m.core.number) mpidr level depth
 
--- Records ----------------------------------------------------------------------------------------
-
--- it holds of one of the ways in which these records are some later ones and those before them
-abbrev pub OfSplit : (List Record → List Record → Type 0) → List Record → List Record → Type 0
-OfSplit P done [] = P done []
-OfSplit P done (r ∷ rest) = P done (r ∷ rest) ⊎ OfSplit P (done ++ (r ∷ [])) rest
-
-split_head : (P : List Record → List Record → Type 0) (done rest : List Record) → P done rest
-    → OfSplit P done rest
-split_head P done [] is = is
-split_head P done (r ∷ rest) is = inl is
-
-split_from : (P : List Record → List Record → Type 0) (done since before : List Record)
-    → P (done ++ since) before → OfSplit P done (since ++ before)
-split_from P done [] before is =
-    split_head P done before (subst (λ (rs : List Record). P rs before) (append-nil done) is)
-split_from P done (x ∷ since) before is =
-    inr (split_from P (done ++ (x ∷ [])) since before
-    (subst (λ (rs : List Record). P rs before) (sym (append_assoc done (x ∷ []) since)) is))
-
--- what holds of some later records and those before them holds of one such way of all of them
-pub of_split : (P : List Record → List Record → Type 0) (past since before : List Record)
-    → past ≡ since ++ before → P since before → OfSplit P [] past
-of_split P past since before e is =
-    subst (OfSplit P []) (sym e) (split_from P [] since before is)
+-- A domain is not as deep as it was asked: no message counts, nor does the start of the life.
+pub deeper : (p : PlatformValue) (past : List Record) (mpidr level life : ℕ) → IsCore p mpidr
+    → level ≤ height p.board
+    → (controller_values p.board (numbered p past)).life ≡ Some life
+    → 0 < depth_above p past mpidr level
+    → OfNone p (Counts p past mpidr level life (depth_above p past mpidr level)) past
+    → (IsFromStart p past mpidr level (depth_above p past mpidr level) → ⊥)
+    → NoDeeperThanAsked p past → ⊥
+deeper p past mpidr level life is low present deep none other asked =
+    elim (asked mpidr level life is low present deep) [
+      | inl was ↦
+          of_none p (Counts p past mpidr level life (depth_above p past mpidr level)) past was.later
+          was.before was.r was.message was.split was.sent none
+          (record {
+            one = was.part;
+            has = was.has;
+            deep = was.deep;
+            live = was.live;
+            asked = was.asked;
+          })
+      | inr start ↦ other start
+    ]
 
 -- Cores ------------------------------------------------------------------------------------------
 
@@ -139,6 +139,33 @@ at_level P from (suc more) level low high all = elim (cases_eq from level) [
 pub of_level : (P : ℕ → Type 0) (height level : ℕ) → level ≤ height → UpTo P 0 height → P level
 of_level P height level low all = at_level P 0 height level (omega arith) (omega (arith, low)) all
 
+-- a core's domain of a level has at most one live claim
+abbrev pub HasOne : PlatformValue → List Record → ℕ → ℕ → Type 0
+HasOne p past m level =
+    length (live_claims p.board (numbered p past) (domain_above p m level)) ≤ 1
+
+-- sentence 2 holds where it does of each core and level
+pub claims_are : (p : PlatformValue) (past : List Record)
+    → OfEach (λ m. UpTo (HasOne p past m) 0 (height p.board)) p.description.mpidrs
+    → OneLiveClaim p past
+claims_are p past all mpidr level is low =
+    of_level (HasOne p past mpidr) (height p.board) level low
+    (of_core p (λ m. UpTo (HasOne p past m) 0 (height p.board)) mpidr is all)
+
+-- a core does not execute, or each domain above it is fully on
+abbrev pub IsOn : PlatformValue → List Record → ℕ → Type 0
+IsOn p past m =
+    (executes (place_of p past m) ≡ false)
+    ⊎ UpTo (λ level. depth_above p past m level ≡ 0) 0 (height p.board)
+
+-- sentence 1 holds where it does of each core
+pub cores_are : (p : PlatformValue) (past : List Record)
+    → OfEach (IsOn p past) p.description.mpidrs → NoneBelowSleeping p past
+cores_are p past all mpidr level is low here = elim (of_core p (IsOn p past) mpidr is all) [
+  | inl stopped ↦ absurd (cc)
+  | inr on ↦ of_level (λ l. depth_above p past mpidr l ≡ 0) (height p.board) level low on
+]
+
 -- Domains ----------------------------------------------------------------------------------------
 
 -- domains of other places are other domains
@@ -147,3 +174,19 @@ apart n m e same =
     let yes : (n.place == m.place) ≡ true =
     eq-eqb n.place m.place (ap (λ (x : Node). x.place) same) in
     absurd (cc)
+
+-- a core is not below the domain of a level, or asks at least a depth of its domain of another one
+abbrev pub Beside : PlatformValue → List Record → ℕ → ℕ → ℕ → ℕ → ℕ → Type 0
+Beside p now mpidr level depth at m =
+    (((domain_above p m level).place == (domain_above p mpidr level).place) ≡ false)
+    ⊎ (depth ≤ asks p now m at)
+
+-- what holds of each core holds of all that are below
+pub all_ask : (p : PlatformValue) (now : List Record) (mpidr level depth at : ℕ)
+    → OfEach (Beside p now mpidr level depth at) p.description.mpidrs
+    → AllAsk p now mpidr level depth at
+all_ask p now mpidr level depth at all other beside =
+    elim (of_core p (Beside p now mpidr level depth at) other beside.0 all) [
+      | inl other ↦ absurd (apart _ _ other beside.1)
+      | inr asks ↦ asks
+    ]

@@ -6,7 +6,6 @@ use Rattle.psci_headline.specs.psci_abi.declared.registers.Regs.{Regs}
 use Rattle.psci_headline.specs.psci_abi.declared.request.Request.{Request}
 use Rattle.psci_headline.specs.psci_abi.declared.request.Request.TheVariants as requests
 use Rattle.psci_headline.specs.psci_fw_spec.declared.mode.SuspendMode.TheVariants.{Platform}
-use Rattle.psci_headline.specs.psci_fw_spec.declared.opening.Opening.{Opening}
 use Rattle.psci_headline.specs.psci_world_spec.declared.event.Event.{Event}
 use Rattle.psci_headline.specs.psci_world_spec.declared.event.Event.TheVariants.{Call, Enter}
 use Rattle.psci_headline.specs.psci_world_spec.declared.said.Record.{Record}
@@ -15,10 +14,7 @@ use Rattle.psci_headline.proofs.world_spec.Scripts.{nothing, part, resumes, retu
 use Rattle.psci_platform_safe.specs.Opened.{ByCpuOn, BySuspend, IsPowerDown, NoneEnters}
 use Rattle.psci_platform_safe.specs.Opened.{boot_opening}
 use Rattle.psci_platform_safe.proofs.Histories.{computing, on_1, suspend, tall, two}
-
--- an opening
-abbrev at : ℕ → ℕ → Opening
-at address context = record { address = address; context = context }
+use Rattle.psci_platform_safe.proofs.Openings.{at, by_cpu_on, by_word}
 
 -- where a request asks a core to enter
 abbrev entry_asked : Request → ℕ
@@ -52,14 +48,7 @@ asked_on = record { event = on_1; said = asks_on 0 1 1 0 }
 
 opens_to_core_1 : ByCpuOn asked_on 1 (at 0x40001000 7)
 unfolding computing
-opens_to_core_1 = record {
-  caller = 0x200;
-  regs = _;
-  sent = _;
-  event = refl;
-  asks = refl;
-  said = refl;
-}
+opens_to_core_1 = by_cpu_on _ _ _ _ _ refl
 
 -- not to another core, at another address or with another context id
 to_another_core : ByCpuOn asked_on 3 (at 0x40001000 7) → ⊥
@@ -97,21 +86,7 @@ suspended word = record { event = suspend 1 word; said = goes_down 1 1 1 1 (part
 -- to its caller alone, with its address and context id
 opened_to_its_caller : BySuspend two Platform (suspended 0x00010002) 1 (at 0x40004000 9)
 unfolding computing
-opened_to_its_caller = record {
-  regs = _;
-  sent = _;
-  event = refl;
-  asks = inl (
-    0x00010002,
-    refl,
-    record {
-      states = 2 ∷ 0 ∷ 0 ∷ 0 ∷ [];
-      row = refl;
-      deep = refl;
-    },
-  );
-  said = refl;
-}
+opened_to_its_caller = by_word _ _ _ 0x00010002 (2 ∷ 0 ∷ 0 ∷ 0 ∷ []) _ _ _ refl refl refl
 
 opened_to_another_core : BySuspend two Platform (suspended 0x00010002) 3 (at 0x40004000 9) → ⊥
 unfolding computing

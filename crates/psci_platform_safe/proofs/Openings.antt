@@ -1,6 +1,15 @@
 -- For worked examples: the records by which an opening that waits may have been made.
-use Rattle.std.proofs.Common.{◌≡◌, ◌∙◌, ◌⊎◌, ℕ, List, [], ◌∷◌, inl, inr, sym, ap, subst, arith}
+use Rattle.std.proofs.Common.{◌≡◌, ◌∙◌, ◌⊎◌, ◌++◌, ℕ, zero, suc, List, [], ◌∷◌, Option, None, Some}
+use Rattle.std.proofs.Common.{inl, inr, sym, ap, subst, arith, refl}
+use Rattle.psci_headline.specs.psci_fw_spec.declared.outcome.Act.TheVariants as acts
+use Rattle.psci_headline.specs.psci_world_spec.declared.said.Sent.{Sent}
+use Rattle.psci_headline.specs.psci_world_spec.declared.said.Said.TheVariants.{Fw}
+use Rattle.std.specs.Prelude.{slice_index}
 use Rattle.psci_platform.specs.Platforms.{PlatformValue}
+use Rattle.psci_platform.specs.States.{depth_at, states_of}
+use Rattle.psci_headline.specs.psci_abi.Codes.{success}
+use Rattle.psci_headline.specs.psci_abi.declared.registers.Regs.{Regs}
+use Rattle.psci_headline.specs.psci_fw_spec.declared.mode.SuspendMode.{SuspendMode}
 use Rattle.psci_headline.specs.psci_abi.Calls.{request_of}
 use Rattle.psci_headline.specs.psci_abi.declared.request.Request.{Request}
 use Rattle.psci_headline.specs.psci_abi.declared.request.Request.TheVariants as requests
@@ -9,10 +18,11 @@ use Rattle.psci_headline.specs.psci_world_spec.declared.event.Event.{Event}
 use Rattle.psci_headline.specs.psci_world_spec.declared.event.Event.TheVariants.{Call, Deliver}
 use Rattle.psci_headline.specs.psci_world_spec.declared.event.Event.TheVariants.{Enter, Wake}
 use Rattle.psci_headline.specs.psci_world_spec.declared.said.Record.{Record}
-use Rattle.psci_headline.proofs.world_spec.Scripts.{system_reset}
+use Rattle.psci_headline.proofs.world_spec.Scripts.{enters, system_reset}
 use Rattle.psci_platform_safe.specs.Asked.{life_of}
-use Rattle.psci_platform_safe.specs.Opened.{NoneEnters, Opens, boot_opening}
-use Rattle.psci_platform_safe.proofs.Histories.{after}
+use Rattle.psci_platform_safe.specs.Opened.{ByCpuOn, BySuspend, NoneEnters, OneEntryEach, Opens}
+use Rattle.psci_platform_safe.specs.Opened.{Waits, boot_opening}
+use Rattle.psci_platform_safe.proofs.Histories.{says}
 
 -- an opening
 abbrev pub at : ℕ → ℕ → Opening
@@ -46,7 +56,7 @@ opened p past mpidr o x r xs older e is =
     subst (λ (y : Record). Opens p xs y mpidr o) first
     (subst (λ (ys : List Record). Opens p ys r mpidr o) rest is)
 
-pub made : (p : PlatformValue) (past : List Record) (mpidr : ℕ) (o : Opening) (before : List Record)
+made : (p : PlatformValue) (past : List Record) (mpidr : ℕ) (o : Opening) (before : List Record)
     → ByRecord p past mpidr o before ⊎ OfBoot p past mpidr o before → Made p past mpidr o before
 made p past mpidr o [] by = elim by [
   | inl is ↦ let no = is.2 in absurd (cc)
@@ -57,9 +67,65 @@ made p past mpidr o (x ∷ xs) by = elim by [
   | inr is ↦ inr is
 ]
 
--- the records up to one, and those after it
-abbrev pub Both : PlatformValue → List Record → ℕ → Opening → List Record → List Record → Type 0
-Both p past mpidr o since before = NoneEnters mpidr since × Made p past mpidr o before
+-- Openings that wait -----------------------------------------------------------------------------
+
+-- an accepted CPU_ON, and a suspend by a word that powers down
+pub by_cpu_on : (caller mpidr : ℕ) (regs : Regs) (sent : Sent) (o : Opening)
+    → request_of regs ≡ requests.CpuOn mpidr o.address o.context
+    → ByCpuOn (record { event = Call caller regs; said = Fw (acts.Return success) (Some sent) })
+    mpidr o
+by_cpu_on caller mpidr regs sent o asks = record {
+  caller = caller;
+  regs = regs;
+  sent = sent;
+  event = refl;
+  asks = asks;
+  said = refl;
+}
+
+pub by_word : (p : PlatformValue) (mode : SuspendMode) (mpidr word : ℕ) (states : List ℕ)
+    (regs : Regs) (sent : Sent) (o : Opening)
+    → request_of regs ≡ requests.CpuSuspend word o.address o.context
+    → states_of p.description mode word ≡ Some states
+    → depth_at p.description 0 (slice_index states 0) ≡ 3
+    → BySuspend p mode (record { event = Call mpidr regs; said = Fw acts.Stop (Some sent) }) mpidr o
+by_word p mode mpidr word states regs sent o asks row deep = record {
+  regs = regs;
+  sent = sent;
+  event = refl;
+  asks = inl (word, asks, record { states = states; row = row; deep = deep });
+  said = refl;
+}
+
+-- what the last record opened waits
+pub waits_now : (p : PlatformValue) (mpidr : ℕ) (o : Opening) (r : Record) (older : List Record)
+    → Opens p older r mpidr o → Waits p (r ∷ older) mpidr o
+waits_now p mpidr o r older opens = record {
+  since = [];
+  before = r ∷ older;
+  split = refl;
+  unused = λ k r o sent found event said. absurd (cc);
+  made = inl (r, older, refl, opens, refl);
+}
+
+pub none_enters : (mpidr : ℕ) (x : Record) → (x.event ≡ Enter mpidr → ⊥) → NoneEnters mpidr (x ∷ [])
+none_enters mpidr x none zero r o sent found event said =
+    let same : x ≡ r = cc in none (ap (λ (y : Record). y.event) same ∙ event)
+none_enters mpidr x none (suc k) r o sent found event said = absurd (cc)
+
+-- also after one more record, in which the core does not enter
+pub waits_since : (p : PlatformValue) (mpidr : ℕ) (o : Opening) (x r : Record) (older : List Record)
+    → (x.event ≡ Enter mpidr → ⊥) → life_of p (r ∷ older) ≡ life_of p (x ∷ r ∷ older)
+    → Opens p older r mpidr o → Waits p (x ∷ r ∷ older) mpidr o
+waits_since p mpidr o x r older none life opens = record {
+  since = x ∷ [];
+  before = r ∷ older;
+  split = refl;
+  unused = none_enters mpidr x none;
+  made = inl (r, older, refl, opens, life);
+}
+
+-- Openings that do not ---------------------------------------------------------------------------
 
 -- which of the functions that open an entry point a request is: 0 for all others
 abbrev pub opener : Request → ℕ
@@ -73,7 +139,7 @@ opener_in (Call c regs) = opener (request_of regs)
 opener_in event = 0
 
 -- a record whose event is none of these opens nothing
-pub never_opens : (p : PlatformValue) (r : Record) (older : List Record) (mpidr : ℕ) (o : Opening)
+never_opens : (p : PlatformValue) (r : Record) (older : List Record) (mpidr : ℕ) (o : Opening)
     → opener_in r.event ≡ 0 → Opens p older r mpidr o → ⊥
 never_opens p r older mpidr o none by = elim by [
   | inl is ↦
@@ -87,4 +153,69 @@ never_opens p r older mpidr o none by = elim by [
         let no : 0 ≡ 3 = sym none ∙ ap opener_in is.event ∙ ap opener system in
         absurd (omega (arith, no))
   ]
+]
+
+-- A record made no opening for a core: it opens nothing or is of another life, and it is not what
+-- the boot core entered after in this life.
+abbrev pub NotMade : PlatformValue → List Record → ℕ → Record → List Record → Type 0
+NotMade p past mpidr r older =
+    ((opener_in r.event ≡ 0) ⊎ (life_of p (r ∷ older) ≡ life_of p past → ⊥))
+    × ((mpidr ≡ p.boot → ⊥) ⊎ (life_of p (r ∷ older) ≡ life_of p past))
+
+not_made : (p : PlatformValue) (past : List Record) (mpidr : ℕ) (o : Opening) (r : Record)
+    (older : List Record) → NotMade p past mpidr r older → Made p past mpidr o (r ∷ older) → ⊥
+not_made p past mpidr o r older none m = elim m [
+  | inl by ↦ elim none.0 [
+    | inl never ↦ never_opens p r older mpidr o never by.0
+    | inr other ↦ other by.1
+  ]
+  | inr by ↦ elim none.1 [
+    | inl other ↦ other by.0
+    | inr same ↦ by.2 same
+  ]
+]
+
+-- Where no record made an opening, up to the one by which a core entered at it: which is the one
+-- that so many came after, or there is none.
+abbrev pub NoneMade : PlatformValue → List Record → ℕ → Opening → ℕ → List Record → Type 0
+NoneMade p past mpidr o k [] = Made p past mpidr o [] → ⊥
+NoneMade p past mpidr o zero (r ∷ older) =
+    NotMade p past mpidr r older × (r.event ≡ Enter mpidr) × (sent : Option Sent)
+    × (r.said ≡ Fw (acts.Enter o.address o.context) sent)
+NoneMade p past mpidr o (suc k) (r ∷ older) =
+    NotMade p past mpidr r older × NoneMade p past mpidr o k older
+
+first_made : (p : PlatformValue) (past : List Record) (mpidr : ℕ) (o : Opening) (k : ℕ)
+    (rest : List Record) → NoneMade p past mpidr o k rest → Made p past mpidr o rest → ⊥
+first_made p past mpidr o k [] none = none
+first_made p past mpidr o zero (r ∷ older) none = not_made p past mpidr o r older none.0
+first_made p past mpidr o (suc k) (r ∷ older) none = not_made p past mpidr o r older none.0
+
+none_before : (p : PlatformValue) (past : List Record) (mpidr : ℕ) (o : Opening) (k : ℕ)
+    (since before : List Record) → NoneMade p past mpidr o k (since ++ before)
+    → NoneEnters mpidr since → Made p past mpidr o before → ⊥
+none_before p past mpidr o k [] before none unused m =
+    first_made p past mpidr o k before none m
+none_before p past mpidr o zero (r ∷ since) before none unused m =
+    unused 0 r o none.2 refl none.1 none.3
+none_before p past mpidr o (suc k) (r ∷ since) before none unused m =
+    none_before p past mpidr o k since before none.1 (λ j. unused (suc j)) m
+
+-- such an opening does not wait
+pub never_waits : (p : PlatformValue) (past : List Record) (mpidr : ℕ) (o : Opening) (k : ℕ)
+    → NoneMade p past mpidr o k past → Waits p past mpidr o → ⊥
+never_waits p past mpidr o k none w =
+    none_before p past mpidr o k w.since w.before
+    (subst (NoneMade p past mpidr o k) w.split none) w.unused
+    (made p past mpidr o w.before w.made)
+
+-- so an entry at it breaks sentence 4, if it begins no life
+pub never_enters : (p : PlatformValue) (past : List Record) (mpidr : ℕ) (o : Opening) (k : ℕ)
+    → NoneMade p past mpidr o k past
+    → ((mpidr ≡ p.boot) × (o ≡ boot_opening p)
+    × (life_of p past ≡ life_of p (says past (Enter mpidr) (enters o.address o.context)) → ⊥) → ⊥)
+    → OneEntryEach p (says past (Enter mpidr) (enters o.address o.context)) → ⊥
+never_enters p past mpidr o k none other one = elim (one mpidr o None refl refl) [
+  | inl w ↦ never_waits p past mpidr o k none w
+  | inr by ↦ other by
 ]

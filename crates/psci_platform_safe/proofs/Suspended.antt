@@ -1,11 +1,10 @@
 -- What a core asks that a word has suspended: the depths of the word's states.
-use Rattle.std.proofs.Common.{◌≡◌, ℕ, zero, suc, ◌≤◌, ◌==◌, Bool, true, false, cond, List, [], ◌∷◌}
+use Rattle.std.proofs.Common.{◌≡◌, ℕ, zero, suc, ◌≤◌, ◌==◌, Bool, true, false, cond, List, ◌∷◌}
 use Rattle.std.proofs.Common.{◌++◌}
 use Rattle.std.proofs.Common.{Option, None, Some, refl, sym, ap, ◌∙◌, subst, arith, inl, inr, not}
-use Rattle.std.proofs.Common.{option_map}
-use Rattle.std.specs.Prelude.{Result, Ok, Err, nat_le, nat_lt, slice_index}
+use Rattle.std.specs.Prelude.{Result, nat_lt, slice_index}
 use Rattle.std.proofs.lemmas.Bool.{cases_Bool, eq-eqb, le-leb}
-use Rattle.psci_platform.specs.Calls.{first_argument, is_there, regs_for}
+use Rattle.psci_platform.specs.Calls.{is_there}
 use Rattle.psci_platform.specs.Described.{DescriptionValue}
 use Rattle.psci_platform.specs.Platforms.{PlatformValue}
 use Rattle.psci_platform.specs.States.{depth_at, depths_of, states_of, word_for}
@@ -25,17 +24,15 @@ use Rattle.psci_headline.specs.psci_fw_spec.declared.reply.FwReply.TheVariants a
 use Rattle.psci_headline.specs.psci_fw_spec.After.{change}
 use Rattle.psci_headline.specs.psci_fw_spec.Answer.{answer, reply_or}
 use Rattle.psci_headline.specs.psci_fw_spec.Calls.{call_fault, outcome_of}
-use Rattle.psci_headline.specs.psci_fw_spec.CpuSuspend.{ask_named, suspend_asked}
+use Rattle.psci_headline.specs.psci_fw_spec.CpuSuspend.{suspend_asked}
 use Rattle.psci_headline.specs.psci_fw_spec.Effects.{function_effect, rest_named}
 use Rattle.psci_headline.specs.psci_fw_spec.Legal.{IsLegal}
 use Rattle.psci_headline.specs.psci_fw_spec.Outcomes.{returns, stops}
 use Rattle.psci_headline.specs.psci_fw_spec.Phases.{Away, Pending, Phase, Running, Suspended}
 use Rattle.psci_headline.specs.psci_fw_spec.Phases.{activity_of, is_running, unless_pending}
 use Rattle.psci_headline.specs.psci_fw_spec.Values.{Values}
-use Rattle.psci_headline.specs.psci_fw_spec.Views.{ask}
 use Rattle.psci_headline.specs.psci_messages.Message.{MessageValue}
 use Rattle.psci_headline.specs.psci_state.Cores.{asks}
-use Rattle.psci_headline.specs.psci_state.PowerState.{ask_of}
 use Rattle.psci_headline.specs.psci_state.declared.fault.BadState.{BadState}
 use Rattle.psci_headline.specs.psci_world_spec.declared.event.Event.{Event}
 use Rattle.psci_headline.specs.psci_world_spec.declared.event.Event.TheVariants.{Call}

@@ -1,12 +1,12 @@
-use Rattle.std.proofs.Common.{◌≡◌, ◌∙◌, ◌<◌, ◌^◌, ℕ, true, None, Some, ap, sym}
+use Rattle.std.proofs.Common.{◌≡◌, ◌∙◌, ◌<◌, ◌^◌, ℕ, true, false, None, Some, ap, sym}
 use Rattle.std.proofs.lemmas.Option.{IfSome_then}
 use Rattle.psci_abi.specs.Calls.{argument, low_half}
 use Rattle.psci_board.specs.Board.{height}
 use Rattle.psci_platform.specs.Kept.{Asks, is_suspend}
 use Rattle.psci_platform.specs.States.{no_state, states_of, word_for}
 use Rattle.psci_platform.proofs.KeptCalls.{asks_something, if_all, suspend_asked, suspend_regs}
-use Rattle.psci_platform.proofs.Reading.{ask_found, no_word, states_found, states_missed}
-use Rattle.psci_platform.proofs.Reading.{states_never, word_found}
+use Rattle.psci_platform.proofs.Reading.{ask_found, no_word, states_missed, states_read}
+use Rattle.psci_platform.proofs.Reading.{word_found}
 use Rattle.psci_platform.proofs.platform.Platform.suspend_at_once.Goals as goal
 
 pub returns-in-Some-clause-regs : goal.returns-in-Some-clause-regs
@@ -48,7 +48,7 @@ returns-in-Some-clause-asked c =
     IfSome_then c.asks_row.result c.asks_row.ensures.asked (λ r e.
     suspend_asked d b mode regs (Some row.row.states) r.0.asked on
     c.in_ok-readings.ensures.there
-    (states_found d b.format (height b) mode w readings row are (sym c.in-Some.ensures)
+    (states_read d b.format (height b) mode w readings row true are (sym c.in-Some.ensures)
     (sym c.if-can_ask.ensures) ∙ ap (states_of d mode) is) e)
 
 pub returns-in-Some-clause-ask : goal.returns-in-Some-clause-ask
@@ -92,7 +92,7 @@ returns-in-Some-2-clause-regs c =
     suspend_regs d b p.place mode regs c.asks_nothing.result.regs no_state on
     c.in_ok-readings.ensures.there
     (no_word d b.format mode (low_half (argument regs regs.x1))
-    (states_never d b.format (height b) mode w readings row are (sym c.in-Some.ensures)
+    (states_read d b.format (height b) mode w readings row false are (sym c.in-Some.ensures)
     (sym c.if-can_ask.ensures) ∙ ap (states_of d mode) is))
     c.asks_nothing.ensures.regs
 
@@ -113,7 +113,7 @@ returns-in-Some-2-clause-asked c =
     let row = c.in-Some.reading.now in
     suspend_asked d b mode regs None c.asks_nothing.result.asked on
     c.in_ok-readings.ensures.there
-    (states_never d b.format (height b) mode w readings row are (sym c.in-Some.ensures)
+    (states_read d b.format (height b) mode w readings row false are (sym c.in-Some.ensures)
     (sym c.if-can_ask.ensures) ∙ ap (states_of d mode) is)
     c.asks_nothing.ensures.asked
 
