@@ -1,5 +1,5 @@
 -- Words that name nothing.
-use Rattle.std.proofs.Common.{◌≡◌, ℕ, zero, suc, ◌*◌, ◌/◌, ◌^◌, ◌<◌, ◌≤◌, Bool, true, false}
+use Rattle.std.proofs.Common.{◌≡◌, ℕ, suc, ◌*◌, ◌/◌, ◌^◌, ◌<◌, ◌≤◌, Bool, true, false}
 use Rattle.std.proofs.Common.{subst, Option, None, Some, refl, sym, ◌∙◌, cond, arith}
 use Rattle.std.specs.Prelude.{Err}
 use Rattle.psci_abi.specs.Calls.{request_of}

@@ -1,5 +1,5 @@
 -- A call of the identity of a board is answered as the firmware answers it.
-use Rattle.std.proofs.Common.{◌≡◌, ℕ, ◌^◌, ◌<◌, true, List, Option, None, Some, refl, sym, ap}
+use Rattle.std.proofs.Common.{◌≡◌, ℕ, ◌^◌, ◌<◌, true, List, Option, Some, refl, sym, ap}
 use Rattle.std.proofs.Common.{◌∙◌, subst, arith, if◌then◌else◌}
 use Rattle.std.specs.Prelude.{Result}
 use Rattle.psci_abi.specs.Calls.{argument, function_of, low_half, request_of}
