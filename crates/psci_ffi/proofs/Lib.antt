@@ -1,7 +1,3 @@
-pub mod AsBox
-pub mod AsControllerBox
-pub mod AsMachineBox
-pub mod AsPollerBox
 mod CallRows
 mod CodeRows
 pub mod ControllerCrossing
@@ -20,6 +16,12 @@ pub mod NamedCalls
 mod NamedRows
 mod PollerRows
 mod ReaderRows
+pub mod SlotCrossing
+pub mod SlotEmpty
+pub mod SlotForm
+pub mod SlotForms
+pub mod SlotLends
+pub mod SlotMoves
 mod StopRows
 pub mod Switching
 pub mod Taking

@@ -18,5 +18,6 @@ pub mod Pollers
 pub mod Readers
 pub mod Shown
 pub mod Slot
+pub mod Slots
 pub mod Stops
 pub mod Watching
