@@ -126,7 +126,7 @@ group_was_asked_by_its_last_core = record {
   live = refl;
   asked = (
     (let own : 2 ≤ 2 = omega arith in own),
-        let yes : 2 ≤ 3 = omega arith in
+    let yes : 2 ≤ 3 = omega arith in
         all_ask tall (run_on tall [] group_down_by_the_system) 0x10000 2 2 0
         (inr yes, (inr yes, (inl refl, (inl refl, tt)))),
   );
