@@ -3,3 +3,4 @@ mod FeatureRows
 mod FunctionRows
 mod RequestRows
 mod ResultRows
+pub mod Tables

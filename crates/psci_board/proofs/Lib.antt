@@ -40,3 +40,4 @@ mod SpellingRows
 pub mod Values
 pub mod VerdictRows
 pub mod WordRows
+pub use Rattle.psci_abi.proofs.Tables

@@ -17,3 +17,4 @@ pub mod StartLaws
 pub mod Steps
 pub mod Sums
 mod ValueRows
+pub use Rattle.psci_board.proofs.Tables

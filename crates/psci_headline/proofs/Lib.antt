@@ -154,3 +154,4 @@ pub use Rattle.psci_ctl_spec.proofs as ctl_spec
 pub use Rattle.psci_fw_laws.proofs.fw_spec
 pub use Rattle.psci_world_spec.proofs as world_spec
 pub use Rattle.psci_fw_laws.proofs as fw_laws
+pub use Rattle.psci_board.proofs.Tables

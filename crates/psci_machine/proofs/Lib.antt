@@ -7,3 +7,4 @@ mod PresentRows
 mod Presents
 mod SeenRows
 pub use Rattle.psci_world_spec.proofs as world_spec
+pub use Rattle.psci_world_spec.proofs.Tables

@@ -30,3 +30,4 @@ mod TellRows
 mod TextRows
 mod WordRows
 pub mod Words
+pub use Rattle.psci_board.proofs.Tables

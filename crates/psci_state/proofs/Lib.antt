@@ -4,3 +4,4 @@ mod CoreRows
 mod ExtendedRows
 mod OriginalRows
 pub mod Words
+pub use Rattle.psci_abi.proofs.Tables

@@ -12,3 +12,4 @@ mod SafeStories
 pub mod Scripts
 mod SuspendStories
 mod SystemStories
+pub use Rattle.psci_ctl_spec.proofs.Tables
