@@ -33,6 +33,8 @@ enum Step {
     NewLife,
     /// The domain of this level and place keeps something.
     Domain(u32, u16, Keeps),
+    /// The granted depths of all domains, by level and place.
+    Granted(&'static [&'static [u8]]),
     /// A core that stops claims something.
     Claims(u16, Claim),
 }
@@ -84,18 +86,21 @@ enum Claim {
 
 /// What happens on a board, from the start of a life on.
 #[derive(Clone, Copy)]
-struct Story {
-    name: &'static str,
-    board: &'static str,
-    steps: &'static [Step],
-}
+struct Story(
+    /// Its name.
+    &'static str,
+    /// The text of the board.
+    &'static str,
+    /// What is done or asked, and the answers.
+    &'static [Step],
+);
 
 /// Tells stories.
 fn tell(rt: &impl Abort, alloc: Global, stories: &[Story]) -> Result<(), Fail> {
     for story in stories {
-        let board = Board::read(alloc, story.board)?;
+        let board = Board::read(alloc, story.1)?;
         let mut tree = Tree::new(alloc, &board)?;
-        take_steps(rt, story.name, &board, &mut tree, 0, story.steps);
+        take_steps(rt, story.0, &board, &mut tree, 0, story.2);
     }
     Ok(())
 }
@@ -131,6 +136,7 @@ fn is_answered(board: &Board, tree: &mut Tree, step: Step) -> bool
             true
         }
         Step::Domain(level, place, keeps) => has_kept(board, tree, Node { level, place }, keeps),
+        Step::Granted(depths) => are_granted(board, tree, depths),
         Step::Claims(number, claim) => {
             number < board.cores() && is_claimed(board, tree, Core { number }, claim)
         }
@@ -172,6 +178,20 @@ fn has_kept(board: &Board, tree: &Tree, node: Node, keeps: Keeps) -> bool
     requires { tree.now.levels ≡ board.now.levels }
 {
     has(board, node) && is_kept(tree, node, keeps)
+}
+
+/// Whether the board has these domains, by level and place, and they were granted these depths.
+fn are_granted(board: &Board, tree: &Tree, depths: &[&[u8]]) -> bool
+    requires { tree.now.levels ≡ board.now.levels }
+{
+    for (level, places) in (0..4_u32).zip(depths) {
+        for (place, depth) in (0..256_u16).zip(*places) {
+            if !has_kept(board, tree, Node { level, place }, Keeps::Granted(*depth)) {
+                return false;
+            }
+        }
+    }
+    true
 }
 
 /// Whether a domain keeps this.

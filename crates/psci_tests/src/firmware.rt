@@ -1,4 +1,5 @@
-//! Stories of the firmware of one board, each from before the first entry on.
+//! Stories of the firmware, each from before the first entry on. What a script can say is told
+//! there; here are the calls, entries and acknowledgements that no script makes, and the readers.
 
 use crate::answer::Answer;
 use psci_abi::Regs;
@@ -9,16 +10,10 @@ use std::alloc::Global;
 use std::process::Abort;
 use std::test::Fail;
 
-mod acknowledgements;
-mod lives;
-mod power;
-mod refusals;
+mod stories;
 
 /// Two clusters of two cores.
 const BOARD: &str = "(2 2) exec 0x40000000-0x40100000 boot 0x40000000 starts 1000 lives 3";
-
-/// The same with two starts for each core.
-const TWO_STARTS: &str = "(2 2) exec 0x40000000-0x40100000 boot 0x40000000 starts 2 lives 3";
 
 /// As many cores as a board may have.
 const LARGEST: &str = "((1 1 1 1 1 1 1 1 1 1 1 1 1 1 1 1) (1 1 1 1 1 1 1 1 1 1 1 1 1 1 1 1) \
@@ -39,8 +34,6 @@ const SYSTEM_OFF: [u64; 4] = [0x8400_0008, 0, 0, 0];
 
 const SYSTEM_RESET: [u64; 4] = [0x8400_0009, 0, 0, 0];
 
-const PLATFORM_MODE: [u64; 4] = [0x8400_000f, 0, 0, 0];
-
 const OS_INITIATED_MODE: [u64; 4] = [0x8400_000f, 1, 0, 0];
 
 /// The status of the last core of the two clusters.
@@ -49,14 +42,8 @@ const LAST_STATUS: [u64; 4] = [0xc400_0004, 0x101, 0, 0];
 /// The last core of the two clusters asked on, with context id 7.
 const ON: [u64; 4] = [0xc400_0003, 0x101, 0x4000_1000, 7];
 
-/// SYSTEM_SUSPEND at a good entry point, with context id 9.
-const SYSTEM_SUSPEND: [u64; 4] = [0xc400_000e, 0x4000_0200, 9, 0];
-
 /// Core standby.
 const STANDBY: [u64; 4] = [0xc400_0001, 0x1, 0, 0];
-
-/// All levels powered down, to go on at an entry point with context id 0.
-const ALL_DOWN: [u64; 4] = [0xc400_0001, 0x0201_0333, 0x4000_0100, 0];
 
 /// The boot core goes on at its first entry.
 const BOOTS: Answer = Answer::Goes(0x4000_0000, 0);
@@ -78,8 +65,6 @@ enum Step {
     Enter(u16, u32, u32, Answer),
     /// A core may not enter by the start of this life and number.
     EntryRefused(u16, u32, u32, FwFault),
-    /// A core enters by the start of this life and number, after a reset.
-    Reset(u16, u32, u32, Answer),
     /// The power controller acknowledges a message of life 1 of this kind, core and number: how
     /// many parts were applied, and whether the message is stale.
     Take(Kind, u16, u32, u8, bool, Taken),
@@ -111,43 +96,30 @@ const BOTH_RUN: [Step; 3] = [
 
 /// Steps that are taken of a new firmware, one after the other.
 #[derive(Clone, Copy)]
-struct Story {
-    name: &'static str,
+struct Story(
+    /// Its name.
+    &'static str,
     /// The text of its board.
-    board: &'static str,
+    &'static str,
     /// The steps that it begins with.
-    before: &'static [Step],
+    &'static [Step],
     /// The steps that come then.
-    steps: &'static [Step],
-}
-
-/// A story of the two clusters, from before the first entry on.
-const FIRST_ENTRY: Story = Story {
-    name: "",
-    board: BOARD,
-    before: &[],
-    steps: &[],
-};
-
-/// A story of the two clusters, in which both cores run at first.
-const BOTH_CORES: Story = Story {
-    before: &BOTH_RUN,
-    ..FIRST_ENTRY
-};
+    &'static [Step],
+);
 
 /// Tells these stories.
 fn tell(rt: &impl Abort, alloc: Global, stories: &[Story]) -> Result<(), Fail> {
     for story in stories {
-        assert_eq!(rt; first_unanswered(alloc, story)?, None, "{}", story.name);
+        assert_eq!(rt; first_unanswered(alloc, story)?, None, "{}", story.0);
     }
     Ok(())
 }
 
 /// The number of the first step of a story that does not get its answer.
 fn first_unanswered(alloc: Global, story: &Story) -> Result<Option<usize>, Fail> {
-    let board = Board::read(alloc, story.board)?;
+    let board = Board::read(alloc, story.1)?;
     let mut firmware = Firmware::new(alloc, &board)?;
-    let mut steps = story.before.iter().chain(story.steps);
+    let mut steps = story.2.iter().chain(story.3);
     Ok(steps.position(|step| !is_answered(&mut firmware, *step)))
 }
 
@@ -160,7 +132,6 @@ fn is_answered(firmware: &mut Firmware, step: Step) -> bool {
         Step::EntryRefused(core, life, number, fault) => {
             wakes(firmware, core, life, number, Err(fault))
         }
-        Step::Reset(core, life, number, answer) => resets(firmware, core, life, number, answer),
         Step::Take(kind, core, number, applied, stale, taken) => {
             take(firmware, kind, core, number, applied, stale) == Some(taken)
         }
@@ -201,21 +172,6 @@ fn wakes(
             cause,
         },
         wanted,
-    )
-}
-
-/// A core enters after a reset, and is answered so.
-fn resets(firmware: &mut Firmware, core: u16, life: u32, number: u32, answer: Answer) -> bool {
-    let cause = Cause::Reset;
-    is_entry(
-        firmware,
-        core,
-        Start {
-            life,
-            number,
-            cause,
-        },
-        Ok(answer),
     )
 }
 

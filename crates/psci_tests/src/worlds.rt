@@ -215,36 +215,20 @@ pub(crate) fn agrees(world: &World) -> bool {
 }
 
 /// Steps that are taken from before the first event on, one after the other.
-struct Story {
-    name: &'static str,
-    steps: &'static [Step],
-}
+struct Story(
+    /// Their name.
+    &'static str,
+    /// The steps.
+    &'static [Step],
+);
 
 const STORIES: [Story; 6] = [
-    Story {
-        name: "read",
-        steps: &READ,
-    },
-    Story {
-        name: "new world",
-        steps: &NEW_WORLD,
-    },
-    Story {
-        name: "both clusters",
-        steps: &BOTH_CLUSTERS,
-    },
-    Story {
-        name: "outstanding start",
-        steps: &OUTSTANDING_START,
-    },
-    Story {
-        name: "halting",
-        steps: &HALTING,
-    },
-    Story {
-        name: "reset",
-        steps: &RESET,
-    },
+    Story("read", &READ),
+    Story("new world", &NEW_WORLD),
+    Story("both clusters", &BOTH_CLUSTERS),
+    Story("outstanding start", &OUTSTANDING_START),
+    Story("halting", &HALTING),
+    Story("reset", &RESET),
 ];
 
 /// Takes these steps, and says the number of the first one that did not get its answer.
@@ -261,8 +245,8 @@ fn first_unanswered(alloc: Global, steps: &[Step]) -> Result<Option<usize>, Fail
 #[test]
 fn worlds_are_read_and_settle(rt: HostRuntime) -> Result<(), Fail> {
     for story in &STORIES {
-        let wrong = first_unanswered(rt.alloc(), story.steps)?;
-        assert_eq!(rt; wrong, None, "{}", story.name);
+        let wrong = first_unanswered(rt.alloc(), story.1)?;
+        assert_eq!(rt; wrong, None, "{}", story.0);
     }
     Ok(())
 }

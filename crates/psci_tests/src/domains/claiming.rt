@@ -105,26 +105,14 @@ const CORE_GOES_OFF: [Step; 8] = [
 
 /// In platform-coordinated mode.
 const PLATFORM_STORIES: [Story; 4] = [
-    Story {
-        name: "last core",
-        board: TWO_CLUSTERS,
-        steps: &LAST_CORE_TAKES_THE_PATH_DOWN,
-    },
-    Story {
-        name: "pending core",
-        board: TWO_CLUSTERS,
-        steps: &PENDING_CORE_KEEPS_ITS_DOMAINS,
-    },
-    Story {
-        name: "no deeper than asked",
-        board: TWO_CLUSTERS,
-        steps: &NO_DEEPER_THAN_ASKED,
-    },
-    Story {
-        name: "uneven board",
-        board: UNEVEN,
-        steps: &CLAIMS_OF_AN_UNEVEN_BOARD,
-    },
+    Story("last core", TWO_CLUSTERS, &LAST_CORE_TAKES_THE_PATH_DOWN),
+    Story(
+        "pending core",
+        TWO_CLUSTERS,
+        &PENDING_CORE_KEEPS_ITS_DOMAINS,
+    ),
+    Story("no deeper than asked", TWO_CLUSTERS, &NO_DEEPER_THAN_ASKED),
+    Story("uneven board", UNEVEN, &CLAIMS_OF_AN_UNEVEN_BOARD),
 ];
 
 #[test]
@@ -134,26 +122,10 @@ fn platform_coordinates_claims(rt: HostRuntime) -> Result<(), Fail> {
 
 /// In OS-initiated mode.
 const OS_STORIES: [Story; 4] = [
-    Story {
-        name: "last core",
-        board: TWO_CLUSTERS,
-        steps: &LAST_CORE_OF_THE_SYSTEM,
-    },
-    Story {
-        name: "pending core",
-        board: TWO_CLUSTERS,
-        steps: &PENDING_CORE_DENIES,
-    },
-    Story {
-        name: "last core of a group",
-        board: UNEVEN,
-        steps: &LAST_CORE_OF_A_GROUP,
-    },
-    Story {
-        name: "core goes off",
-        board: TWO_CLUSTERS,
-        steps: &CORE_GOES_OFF,
-    },
+    Story("last core", TWO_CLUSTERS, &LAST_CORE_OF_THE_SYSTEM),
+    Story("pending core", TWO_CLUSTERS, &PENDING_CORE_DENIES),
+    Story("last core of a group", UNEVEN, &LAST_CORE_OF_A_GROUP),
+    Story("core goes off", TWO_CLUSTERS, &CORE_GOES_OFF),
 ];
 
 #[test]
