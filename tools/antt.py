@@ -9,6 +9,8 @@ import repo
 DECLARED = re.compile(r"((?:(?:pub|abbrev|unfoldable|record|data) )*)([^\s:(){}\[\],]+) (?:: |\(|\{)")
 NAME = re.compile(r"[^\s(){}\[\],;.:=λ→×≡]+")
 HEADING = re.compile(r"-- (.*?) ?-{4,}$")
+# the name of a row of a table of examples, in a line above it
+ROW = re.compile(r"^ *-- (\w+): ", re.M)
 USED = re.compile(r"^(?:pub |ghost )?use (\S+?)\.\{([^}]*)\}", re.M)
 CONSTANT = re.compile(r"((?:^ */// ?.*\n)+)^pub const (\w+): [^=]*= ?([^;\n]{1,40};)?", re.M)
 
@@ -53,6 +55,12 @@ class Item:
         if "record" in self.words or "data" in self.words:
             ends = 0
         return "\n".join(self.lines[:ends]), "\n".join(self.lines[ends:])
+
+    def rows(self):
+        """How many examples a theorem states: the rows of a table, each with a name above it, or with an arrow."""
+        statement = self.split()[0]
+        arrows = statement.count("⇒") if re.search(r"\bGives\b", statement) else 0
+        return max(1, arrows, len(ROW.findall(statement)))
 
     def parts(self):
         """The parts of a record that have a comment, as pairs of names and comments."""
