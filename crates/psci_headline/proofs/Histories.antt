@@ -22,6 +22,14 @@ at level place = record { level = level; place = place }
 abbrev pub after : BoardValue → List Event → List Record
 after b events = run_from b [] events
 
+-- the boot core asks core 2 on
+abbrev pub on_2 : Event
+on_2 = call 0 0xc4000003 0x100 0x40002000 0
+
+-- a core asks for standby of itself alone
+abbrev pub standby : ℕ → Event
+standby c = call c 0xc4000001 0x1 0 0
+
 -- core 3 is on, and nothing is outstanding for it
 abbrev pub third_on : List Event
 third_on = Enter 0 ∷ on_3 ∷ Deliver 0 ∷ Enter 3 ∷ []
@@ -54,6 +62,10 @@ on_in_life_3 =
 -- it is on in OS-initiated mode
 abbrev pub on_os_initiated : List Event
 on_os_initiated = Enter 0 ∷ call 0 0x8400000f 1 0 0 ∷ on_3 ∷ Deliver 0 ∷ Enter 3 ∷ []
+
+-- core 2 and core 3 are on, the cores of one cluster
+abbrev pub both_on : List Event
+both_on = Enter 0 ∷ on_2 ∷ on_3 ∷ Deliver 0 ∷ Deliver 1 ∷ Enter 2 ∷ Enter 3 ∷ []
 
 -- on three levels: the last core is on
 abbrev pub on_in_group : List Event
