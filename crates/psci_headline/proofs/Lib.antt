@@ -63,10 +63,8 @@ pub mod StatesReal
 pub mod TakingUp
 mod Tested
 pub mod ToldHw
-mod ToldHwAxisRows
 mod ToldHwRows
 pub mod ToldOff
-mod ToldOffAxisRows
 mod ToldOffRows
 pub mod ToldTest
 pub mod Waiting

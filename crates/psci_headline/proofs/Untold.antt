@@ -1,6 +1,6 @@
 -- Worked examples are stated so: what is not told as it is. Where something is not, `not_told`
 -- excludes that all is told.
-use Rattle.std.specs.Prelude.{◌++◌, ℕ, ◌+◌, Bool, true, false, ◌==◌, List, [], ◌∷◌}
+use Rattle.std.specs.Prelude.{◌++◌, ℕ, ◌+◌, Bool, true, false, ◌==◌, List, []}
 use Rattle.std.specs.List.{range_with_len}
 use Rattle.psci_headline.specs.psci_board.Board.{BoardValue, cores, height, nodes}
 use Rattle.psci_headline.specs.psci_fw_spec.NodeHwState.{hw_at, hw_code, node_hw}
@@ -8,7 +8,6 @@ use Rattle.psci_headline.specs.psci_fw_spec.Phases.{is_away}
 use Rattle.psci_headline.specs.psci_fw_spec.SystemCalls.{is_off_status}
 use Rattle.psci_headline.specs.psci_world_spec.declared.event.Event.{Event}
 use Rattle.psci_headline.specs.psci_world_spec.declared.said.Record.{Record}
-use Rattle.psci_headline.specs.psci_world_spec.declared.said.Said.{Said}
 use Rattle.psci_headline.specs.psci_world_spec.Histories.{controller_values, firmware_values}
 use Rattle.psci_headline.specs.psci_world_spec.Places.{place}
 use Rattle.psci_headline.proofs.world_spec.Scripts as scripts
@@ -21,16 +20,6 @@ use Rattle.psci_headline.proofs.Failing.{each}
 unfoldable pub computing : Unit {0}
 unfolding scripts.computing settled begun round is_waiting rounds
 computing = tt
-
--- Records ---------------------------------------------------------------------------------------
-
--- the records once the world has settled after these events
-abbrev pub settles : BoardValue → List Event → List Record
-settles b events = (settled b (after b events)).past
-
--- after those records this is said of an event
-abbrev pub says : List Record → Event → Said → List Record
-says past event said = record { event = event; said = said } ∷ past
 
 -- What fails ------------------------------------------------------------------------------------
 
@@ -74,4 +63,4 @@ untold_after b steps = failing b (past_from b [] steps)
 
 -- all that fails once the world has settled after these events
 abbrev pub untold_once_settled : BoardValue → List Event → List Clause
-untold_once_settled b events = failing b (settles b events)
+untold_once_settled b events = failing b (settled b (after b events)).past
