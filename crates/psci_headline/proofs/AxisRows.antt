@@ -10,44 +10,45 @@ use Rattle.psci_headline.proofs.Histories.{both_on, on_2, standby, third_on}
 use Rattle.psci_headline.proofs.Checking.{◌⇒◌, failing_after, Asked, BreakAll, Breaks, Legal, Real}
 use Rattle.psci_headline.proofs.Checking.{One, Powered, PoweredDown, Stopped, computing}
 
-moments : Gives (failing_after board)
+moments : Gives failing_after
     -- Below a sleeping domain ---------------------------------------------------------------
     -- runs_in_standby: a core resumes without a start: it is in standby, its cluster is on
-    (Breaks Powered (Legal third_on ∷ Legal (standby 3 ∷ Deliver 1 ∷ []) ∷ Enter 3 ⇒ resumes ∷ [])
+    (Breaks Powered board (Legal third_on ∷ Legal (standby 3 ∷ Deliver 1 ∷ []) ∷ Enter 3 ⇒ resumes
+    ∷ [])
     -- started_in_retention: its cluster alone is in retention, and the core waits at its start
-    ∷ Breaks Powered (Legal third_on ∷ off 3 ⇒ goes_down 1 3 1 1 (part 0 0 2 ∷ part 1 2 2 ∷ [])
-    ∷ Legal (Wake 3 ∷ []) ∷ Deliver 1 ⇒ acked 1 Down 3 1 1 2 false ∷ [])
+    ∷ Breaks Powered board (Legal third_on ∷ off 3 ⇒ goes_down 1 3 1 1 (part 0 0 2 ∷ part 1 2 2
+    ∷ []) ∷ Legal (Wake 3 ∷ []) ∷ Deliver 1 ⇒ acked 1 Down 3 1 1 2 false ∷ [])
     -- Reported OFF --------------------------------------------------------------------------
     -- off_core_runs_again: a core that was woken is answered before it has entered, in life 2
-    ∷ Breaks Stopped (Legal (Enter 0 ∷ system_reset 0 ∷ Deliver 0 ∷ Enter 0 ∷ Wake 1 ∷ [])
+    ∷ Breaks Stopped board (Legal (Enter 0 ∷ system_reset 0 ∷ Deliver 0 ∷ Enter 0 ∷ Wake 1 ∷ [])
     ∷ version 1 ⇒ value 65537 ∷ [])
     -- off_in_standby: a core that goes off is put in standby, and is OFF once that was acknowledged
-    ∷ Breaks PoweredDown (Legal third_on ∷ off 3 ⇒ goes_down 1 3 1 1 (part 0 1 1 ∷ [])
+    ∷ Breaks PoweredDown board (Legal third_on ∷ off 3 ⇒ goes_down 1 3 1 1 (part 0 1 1 ∷ [])
     ∷ Legal (Deliver 1 ∷ Take 1 ∷ []) ∷ [])
     -- Two live claims -----------------------------------------------------------------------
     -- standby_twice: of a core that asked for standby of itself twice in one start
-    ∷ Breaks One (Legal third_on ∷ Legal (standby 3 ∷ []) ∷ standby 3
+    ∷ Breaks One board (Legal third_on ∷ Legal (standby 3 ∷ []) ∷ standby 3
     ⇒ goes_down 2 3 1 1 (part 0 1 1 ∷ []) ∷ [])
     -- Deeper than asked ---------------------------------------------------------------------
     -- beside_a_pending_core: a core beside is pending, and the cluster is powered down
-    ∷ Breaks Asked (Legal third_on ∷ Legal (on_2 ∷ []) ∷ off 3 ⇒ goes_down 2 3 1 1 (part 0 3 1
+    ∷ Breaks Asked board (Legal third_on ∷ Legal (on_2 ∷ []) ∷ off 3 ⇒ goes_down 2 3 1 1 (part 0 3 1
     ∷ part 1 3 1 ∷ []) ∷ Legal (Deliver 2 ∷ []) ∷ [])
     -- beside_a_running_core: a core beside runs
-    ∷ BreakAll (Powered ∷ Asked ∷ []) (Legal both_on ∷ off 3 ⇒ goes_down 2 3 1 1 (part 0 3 1
+    ∷ BreakAll (Powered ∷ Asked ∷ []) board (Legal both_on ∷ off 3 ⇒ goes_down 2 3 1 1 (part 0 3 1
     ∷ part 1 3 2 ∷ []) ∷ Deliver 2 ⇒ acked 2 Down 3 1 1 2 false ∷ [])
     -- cluster_in_standby: a core beside is in standby, and asked nothing of the cluster, which goes
     -- to standby
-    ∷ Breaks Asked (Legal both_on ∷ Legal (standby 2 ∷ []) ∷ off 3 ⇒ goes_down 3 3 1 1 (part 0 3 1
-    ∷ part 1 1 2 ∷ []) ∷ Legal (Deliver 2 ∷ Deliver 3 ∷ []) ∷ [])
+    ∷ Breaks Asked board (Legal both_on ∷ Legal (standby 2 ∷ []) ∷ off 3
+    ⇒ goes_down 3 3 1 1 (part 0 3 1 ∷ part 1 1 2 ∷ []) ∷ Legal (Deliver 2 ∷ Deliver 3 ∷ []) ∷ [])
     -- depth_between: one core asks for standby of the cluster, and the other one for power-down: it
     -- goes to retention
-    ∷ Breaks Asked (Legal both_on ∷ Legal (call 2 0xc4000001 0x01000011 0 0 ∷ Deliver 2 ∷ [])
+    ∷ Breaks Asked board (Legal both_on ∷ Legal (call 2 0xc4000001 0x01000011 0 0 ∷ Deliver 2 ∷ [])
     ∷ off 3 ⇒ goes_down 3 3 1 1 (part 0 3 1 ∷ part 1 2 2 ∷ []) ∷ Deliver 3
     ⇒ acked 1 Down 3 1 1 2 false ∷ [])
     -- Hardware states that were not ---------------------------------------------------------
     -- cluster_of_two_acknowledged_only: a cluster of two cores is said to be in standby, and the
     -- two alone are
-    ∷ Breaks Real (Legal (both_on ++ call 2 0xc4000001 0x01000022 0 0 ∷ Deliver 2
+    ∷ Breaks Real board (Legal (both_on ++ call 2 0xc4000001 0x01000022 0 0 ∷ Deliver 2
     ∷ call 3 0xc4000001 0x01000022 0 0 ∷ []) ∷ Deliver 3 ⇒ acked 3 Down 3 1 1 1 false ∷ Deliver 99
     ⇒ acked 4 Down 3 1 1 2 false ∷ Legal (Take 4 ∷ []) ∷ [])
     ∷ [])

@@ -30,15 +30,20 @@ AreSafe b runs =
 
 -- Tables of what fails ------------------------------------------------------------------------
 
--- In a row of a table nothing fails, or just this, or just these.
-abbrev pub Holds : {A K : Type 0} → A → Row A (List K)
-Holds x = record { given = x; comes = [] }
+-- On a board nothing fails in a row of a table, or just this, or just these.
+abbrev pub Holds : {A K : Type 0} → BoardValue → A → Row (BoardValue × A) (List K)
+Holds b x = record { given = (b, x); comes = [] }
 
-abbrev pub Breaks : {A K : Type 0} → K → A → Row A (List K)
-Breaks k x = record { given = x; comes = k ∷ [] }
+abbrev pub Breaks : {A K : Type 0} → K → BoardValue → A → Row (BoardValue × A) (List K)
+Breaks k b x = record { given = (b, x); comes = k ∷ [] }
 
-abbrev pub BreakAll : {A K : Type 0} → List K → A → Row A (List K)
-BreakAll ks x = record { given = x; comes = ks }
+abbrev pub BreakAll : {A K : Type 0} → List K → BoardValue → A → Row (BoardValue × A) (List K)
+BreakAll ks b x = record { given = (b, x); comes = ks }
+
+-- what each of these has, as the rows of each of some cases
+abbrev pub each : {A B : Type 0} → (A → List B) → List A → List B
+each of [] = []
+each of (x ∷ xs) = of x ++ each of xs
 
 -- Unsafe moments ------------------------------------------------------------------------------
 
@@ -83,8 +88,8 @@ failing b past =
     ++ (if_fails (is_each_once b past) Once
     ++ if_fails (is_each_real b past) Real))))))
 
-abbrev pub failing_after : BoardValue → List Steps → List Clause
-failing_after b steps = failing b (past_from b [] steps)
+abbrev pub failing_after : (BoardValue × List Steps) → List Clause
+failing_after (b, steps) = failing b (past_from b [] steps)
 
 -- where something fails the world is not safe
 unsafe_where : (a b c d e f g h : Bool) (k : Clause) (ks : List Clause)

@@ -69,48 +69,50 @@ lives : Gives live_after
 unfolding computing
 lives = refl
 
-moments : Gives (failing_after board)
+moments : Gives failing_after
     -- Two live claims -----------------------------------------------------------------------
     -- two_last_cores: two cores go off, each of them as the last one of their cluster
-    (Breaks One (Legal both_on ∷ off 2 ⇒ goes_down 2 2 1 1 (part 0 3 1 ∷ part 1 3 2 ∷ [])
+    (Breaks One board (Legal both_on ∷ off 2 ⇒ goes_down 2 2 1 1 (part 0 3 1 ∷ part 1 3 2 ∷ [])
     ∷ Legal (off 3 ∷ []) ∷ [])
     -- off_twice: a core goes off twice in one start
-    ∷ Breaks One (Legal (third_on ++ off 3 ∷ []) ∷ off 3 ⇒ goes_down 2 3 1 1 (part 0 3 1 ∷ []) ∷ [])
+    ∷ Breaks One board (Legal (third_on ++ off 3 ∷ []) ∷ off 3 ⇒ goes_down 2 3 1 1 (part 0 3 1 ∷ [])
+    ∷ [])
     -- two_last_cores_of_the_system: two cores go off as the last ones of the system
-    ∷ Breaks One (Legal third_on ∷ off 3 ⇒ goes_down 1 3 1 1 (part 0 3 1 ∷ part 1 3 1 ∷ part 2 3 2
-    ∷ []) ∷ Legal (off 0 ∷ []) ∷ [])
+    ∷ Breaks One board (Legal third_on ∷ off 3 ⇒ goes_down 1 3 1 1 (part 0 3 1 ∷ part 1 3 1
+    ∷ part 2 3 2 ∷ []) ∷ Legal (off 0 ∷ []) ∷ [])
     -- No claim of this depth ----------------------------------------------------------------
     -- stale_down_applied: a Down of the start before is applied, where that of the last start says
     -- another depth
-    ∷ Breaks Asked (Legal third_on ∷ Legal (retention 3 ∷ Wake 3 ∷ Enter 3 ∷ off 3 ∷ []) ∷ Deliver 1
-    ⇒ acked 1 Down 3 1 1 1 false ∷ [])
-    -- no_live_claim: the same where no claim is live
-    ∷ Breaks Asked (Legal third_on ∷ Legal (retention 3 ∷ Wake 3 ∷ Enter 3 ∷ system_off 3 ∷ [])
+    ∷ Breaks Asked board (Legal third_on ∷ Legal (retention 3 ∷ Wake 3 ∷ Enter 3 ∷ off 3 ∷ [])
     ∷ Deliver 1 ⇒ acked 1 Down 3 1 1 1 false ∷ [])
+    -- no_live_claim: the same where no claim is live
+    ∷ Breaks Asked board (Legal third_on ∷ Legal (retention 3 ∷ Wake 3 ∷ Enter 3 ∷ system_off 3
+    ∷ []) ∷ Deliver 1 ⇒ acked 1 Down 3 1 1 1 false ∷ [])
     -- old_life_delivered: a Down of the life before is applied
-    ∷ Breaks Asked (Legal third_on ∷ Legal (retention 3 ∷ system_reset 0 ∷ Deliver 2 ∷ Enter 0
+    ∷ Breaks Asked board (Legal third_on ∷ Legal (retention 3 ∷ system_reset 0 ∷ Deliver 2 ∷ Enter 0
     ∷ on_3 ∷ Deliver 3 ∷ Enter 3 ∷ system_off 3 ∷ []) ∷ Deliver 1 ⇒ acked 3 Down 3 1 1 1 false ∷ [])
     -- Deeper than asked ---------------------------------------------------------------------
     -- deeper_than_the_core_asks: a core asks for retention of itself, and its Down says power-down
-    ∷ Breaks Asked (Legal third_on ∷ retention 3 ⇒ goes_down 1 3 1 1 (part 0 3 1 ∷ [])
+    ∷ Breaks Asked board (Legal third_on ∷ retention 3 ⇒ goes_down 1 3 1 1 (part 0 3 1 ∷ [])
     ∷ Legal (Deliver 1 ∷ []) ∷ [])
     -- deeper_than_another_asks: a core asks for retention of its cluster and power-down of itself,
     -- and the last core of the cluster claims power-down of the cluster
-    ∷ Breaks Asked (Legal both_on ∷ Legal (call 2 0xc4000001 0x01010023 0x40003000 1 ∷ []) ∷ off 3
-    ⇒ goes_down 3 3 1 1 (part 0 3 1 ∷ part 1 3 2 ∷ []) ∷ Legal (Deliver 2 ∷ Deliver 3 ∷ []) ∷ [])
+    ∷ Breaks Asked board (Legal both_on ∷ Legal (call 2 0xc4000001 0x01010023 0x40003000 1 ∷ [])
+    ∷ off 3 ⇒ goes_down 3 3 1 1 (part 0 3 1 ∷ part 1 3 2 ∷ []) ∷ Legal (Deliver 2 ∷ Deliver 3 ∷ [])
+    ∷ [])
     -- system_deeper_than_asked: the only core asks for retention of the system
-    ∷ Breaks Asked (Legal (Enter 0 ∷ []) ∷ call 0 0xc4000001 0x02010233 0x40000100 0
+    ∷ Breaks Asked board (Legal (Enter 0 ∷ []) ∷ call 0 0xc4000001 0x02010233 0x40000100 0
     ⇒ goes_down 0 0 1 1 (part 0 3 1 ∷ part 1 3 1 ∷ part 2 3 1 ∷ []) ∷ Legal (Deliver 0 ∷ []) ∷ [])
     -- deeper_than_the_last_core_asks: OS-initiated mode: the last core claims more of its cluster
     -- than it asks
-    ∷ Breaks Asked (Legal on_os_initiated ∷ call 3 0xc4000001 0x01010023 0x40004000 2
+    ∷ Breaks Asked board (Legal on_os_initiated ∷ call 3 0xc4000001 0x01010023 0x40004000 2
     ⇒ goes_down 1 3 1 1 (part 0 3 1 ∷ part 1 3 1 ∷ []) ∷ Legal (Deliver 1 ∷ []) ∷ [])
     -- deeper_than_another_core: it claims power-down of its cluster, in which another core is in
     -- retention
-    ∷ Breaks Asked (Legal (Enter 0 ∷ call 0 0x8400000f 1 0 0 ∷ on_2 ∷ on_3 ∷ Deliver 0 ∷ Deliver 1
-    ∷ Enter 2 ∷ Enter 3 ∷ retention 2 ∷ Deliver 2 ∷ []) ∷ call 3 0xc4000001 0x01010033 0x40004000 2
-    ⇒ goes_down 3 3 1 1 (part 0 3 1 ∷ part 1 3 2 ∷ []) ∷ Deliver 3 ⇒ acked 3 Down 3 1 1 2 false
-    ∷ [])
+    ∷ Breaks Asked board (Legal (Enter 0 ∷ call 0 0x8400000f 1 0 0 ∷ on_2 ∷ on_3 ∷ Deliver 0
+    ∷ Deliver 1 ∷ Enter 2 ∷ Enter 3 ∷ retention 2 ∷ Deliver 2 ∷ [])
+    ∷ call 3 0xc4000001 0x01010033 0x40004000 2 ⇒ goes_down 3 3 1 1 (part 0 3 1 ∷ part 1 3 2 ∷ [])
+    ∷ Deliver 3 ⇒ acked 3 Down 3 1 1 2 false ∷ [])
     ∷ [])
 unfolding computing
 moments = refl

@@ -1,6 +1,6 @@
 -- What fails by computing is excluded: no such world is at rest, has settled, or is told as it is.
-use Rattle.std.proofs.Common.{◌≡◌, ◌++◌, ◌≤◌, ◌<◌, ◌+◌, ℕ, zero, suc, Bool, true, false, ◌==◌}
-use Rattle.std.proofs.Common.{◌||◌, not, List, [], ◌∷◌, length, filter, Option, None, Some, is_some}
+use Rattle.std.proofs.Common.{◌≡◌, ◌++◌, ◌≤◌, ◌<◌, ◌+◌, ℕ, zero, suc, Bool, true, false, ◌==◌, ◌||◌}
+use Rattle.std.proofs.Common.{not, List, [], ◌∷◌, length, filter, Option, None, Some, is_some}
 use Rattle.std.proofs.Common.{nat_le, refl, sym, ap, ◌∙◌, arith, inl, inr}
 use Rattle.std.specs.List.{list_all, list_any, range_with_len}
 use Rattle.std.proofs.lemmas.Bool.{cases_Bool, cases_eq, eq-eqb, le-leb, or_left, or_right}
@@ -17,17 +17,16 @@ use Rattle.psci_headline.specs.psci_fw_spec.SystemCalls.{is_off_status}
 use Rattle.psci_headline.specs.psci_world_spec.declared.place.Place.{Place}
 use Rattle.psci_headline.specs.psci_world_spec.declared.place.Place.TheVariants as places
 use Rattle.psci_headline.specs.psci_world_spec.declared.said.Record.{Record}
-use Rattle.psci_headline.specs.psci_world_spec.Histories.{controller_values, firmware_values}
-use Rattle.psci_headline.specs.psci_world_spec.Histories.{sent}
+use Rattle.psci_headline.specs.psci_world_spec.Histories.{controller_values, firmware_values, sent}
 use Rattle.psci_headline.specs.psci_world_spec.Lists.{indexed}
 use Rattle.psci_headline.specs.psci_world_spec.Places.{place}
 use Rattle.psci_headline.specs.Complete.{IsToldWhole}
 use Rattle.psci_headline.specs.Drained.{AreAtRest, IsSettled, deliveries}
 use Rattle.psci_headline.specs.Settling.{is_started}
 use Rattle.psci_headline.proofs.CoreSteps.{phase_away}
-use Rattle.psci_headline.proofs.Checking.{if_fails}
-use Rattle.psci_headline.proofs.Failing.{Clause, Saying, downs, each, unsettled}
-use Rattle.psci_headline.proofs.Failing.{failing, if_some, is_agreed, is_down}
+use Rattle.psci_headline.proofs.Checking.{each, if_fails}
+use Rattle.psci_headline.proofs.Failing.{Clause, Saying, downs, unsettled, failing, if_some}
+use Rattle.psci_headline.proofs.Failing.{is_agreed, is_down}
 use Rattle.psci_headline.proofs.Finding.{indexed_at}
 use Rattle.psci_headline.proofs.Slept.{status_off}
 use Rattle.psci_headline.proofs.Taking.{same_kind}

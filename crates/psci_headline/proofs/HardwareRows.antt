@@ -19,28 +19,24 @@ runs : AreSafe board
 unfolding computing
 runs = refl
 
-moments : Gives (failing_after board)
+moments : Gives failing_after
     -- acknowledged_only: a core is said to be in standby by an acknowledgement that nothing was
     -- carried out for
-    (Breaks Real (Legal (third_on ++ retention 3 ∷ []) ∷ Deliver 9 ⇒ acked 1 Down 3 1 1 1 false
-    ∷ Legal (Take 1 ∷ []) ∷ [])
+    (Breaks Real board (Legal (third_on ++ retention 3 ∷ []) ∷ Deliver 9
+    ⇒ acked 1 Down 3 1 1 1 false ∷ Legal (Take 1 ∷ []) ∷ [])
     -- before_its_last_start: it was in retention before its last start, and not since
-    ∷ Breaks Real (Legal (on_in_start_2 ++ retention 3 ∷ []) ∷ Deliver 9
+    ∷ Breaks Real board (Legal (on_in_start_2 ++ retention 3 ∷ []) ∷ Deliver 9
     ⇒ acked 2 Down 3 1 2 1 false ∷ Legal (Take 2 ∷ []) ∷ [])
     -- in_another_state: a core was powered down by its last start, and is said to be in standby
-    ∷ BreakAll (One ∷ Real ∷ []) (Legal (third_on ++ off 3 ∷ Deliver 1 ∷ []) ∷ retention 3
+    ∷ BreakAll (One ∷ Real ∷ []) board (Legal (third_on ++ off 3 ∷ Deliver 1 ∷ []) ∷ retention 3
     ⇒ goes_down 2 3 1 1 (part 0 2 1 ∷ []) ∷ Deliver 9 ⇒ acked 2 Down 3 1 1 1 false ∷ Take 2 ⇒ used
     ∷ [])
+    -- One core ------------------------------------------------------------------------------
+    -- in_another_life: the boot core was in retention in the life before, by as many starts, and
+    -- not in this one
+    ∷ Breaks Real one_core (Legal (Enter 0 ∷ retention 0 ∷ Deliver 0 ∷ Wake 0 ∷ Enter 0
+    ∷ system_reset 0 ∷ Deliver 1 ∷ Enter 0 ∷ retention 0 ∷ []) ∷ Deliver 9
+    ⇒ acked 2 Down 0 2 1 1 false ∷ Legal (Take 2 ∷ []) ∷ [])
     ∷ [])
 unfolding computing
 moments = refl
-
-moments_on_one_core : Gives (failing_after one_core)
-    -- in_another_life: the boot core was in retention in the life before, by as many starts, and
-    -- not in this one
-    (Breaks Real (Legal (Enter 0 ∷ retention 0 ∷ Deliver 0 ∷ Wake 0 ∷ Enter 0 ∷ system_reset 0
-    ∷ Deliver 1 ∷ Enter 0 ∷ retention 0 ∷ []) ∷ Deliver 9 ⇒ acked 2 Down 0 2 1 1 false
-    ∷ Legal (Take 2 ∷ []) ∷ [])
-    ∷ [])
-unfolding computing
-moments_on_one_core = refl

@@ -63,6 +63,12 @@ on_in_life_3 =
 abbrev pub on_os_initiated : List Event
 on_os_initiated = Enter 0 ∷ call 0 0x8400000f 1 0 0 ∷ on_3 ∷ Deliver 0 ∷ Enter 3 ∷ []
 
+-- in OS-initiated mode in life 3
+abbrev pub on_os_initiated_in_life_3 : List Event
+on_os_initiated_in_life_3 =
+    Enter 0 ∷ system_reset 0 ∷ Deliver 0 ∷ Enter 0 ∷ system_reset 0 ∷ Deliver 1 ∷ Enter 0
+    ∷ call 0 0x8400000f 1 0 0 ∷ on_3 ∷ Deliver 2 ∷ Enter 3 ∷ []
+
 -- core 2 and core 3 are on, the cores of one cluster
 abbrev pub both_on : List Event
 both_on = Enter 0 ∷ on_2 ∷ on_3 ∷ Deliver 0 ∷ Deliver 1 ∷ Enter 2 ∷ Enter 3 ∷ []
@@ -70,3 +76,34 @@ both_on = Enter 0 ∷ on_2 ∷ on_3 ∷ Deliver 0 ∷ Deliver 1 ∷ Enter 2 ∷ 
 -- on three levels: the last core is on
 abbrev pub on_in_group : List Event
 on_in_group = Enter 0 ∷ call 0 0xc4000003 0x10100 0x40001000 7 ∷ Deliver 0 ∷ Enter 3 ∷ []
+
+-- A core is on after these events, and another one: board, events, core, the other one, the core's
+-- life and start, and the number of its next message.
+abbrev pub Case : Type 0
+Case = BoardValue × List Event × ℕ × ℕ × ℕ × ℕ × ℕ
+
+abbrev pub cases : List Case
+cases =
+    -- in_start_1: core 3 is on by its first start
+    (board, third_on, 3, 0, 1, 1, 1)
+    -- in_start_2: and by later ones
+    ∷ (board, on_in_start_2, 3, 0, 1, 2, 2)
+    -- in_start_3: the third
+    ∷ (board, on_in_start_3, 3, 0, 1, 3, 3)
+    -- in_start_4: the fourth
+    ∷ (board, on_in_start_4, 3, 0, 1, 4, 4)
+    -- in_life_2: it is on in life 2
+    ∷ (board, on_in_life_2, 3, 0, 2, 1, 2)
+    -- in_life_3: and in life 3
+    ∷ (board, on_in_life_3, 3, 0, 3, 1, 3)
+    -- boot_core: the boot core
+    ∷ (board, third_on, 0, 3, 1, 1, 1)
+    -- boot_core_in_life_2: the same in life 2
+    ∷ (board, on_in_life_2, 0, 3, 2, 1, 2)
+    -- os_initiated: core 3 in OS-initiated mode
+    ∷ (board, on_os_initiated, 3, 0, 1, 1, 1)
+    -- os_initiated_in_life_3: the same in life 3
+    ∷ (board, on_os_initiated_in_life_3, 3, 0, 3, 1, 3)
+    -- in_the_extended_format: on a board of the extended format
+    ∷ (extended, third_on, 3, 0, 1, 1, 1)
+    ∷ []

@@ -32,82 +32,82 @@ runs : AreSafe tall
 unfolding computing
 runs = refl
 
-moments : Gives (failing_after tall)
+moments : Gives failing_after
     -- Below a sleeping domain ---------------------------------------------------------------
     -- runs_below_its_group: the group alone is in standby
-    (Breaks Powered (Legal (Enter 0 ∷ []) ∷ off 0 ⇒ goes_down 0 0 1 1 (part 0 0 1 ∷ part 1 0 1
+    (Breaks Powered tall (Legal (Enter 0 ∷ []) ∷ off 0 ⇒ goes_down 0 0 1 1 (part 0 0 1 ∷ part 1 0 1
     ∷ part 2 1 1 ∷ []) ∷ Deliver 0 ⇒ acked 0 Down 0 1 1 3 false ∷ Enter 0 ⇒ resumes ∷ [])
     -- runs_below_three_levels: the system alone is
-    ∷ Breaks Powered (Legal (Enter 0 ∷ []) ∷ off 0 ⇒ goes_down 0 0 1 1 (part 0 0 1 ∷ part 1 0 1
+    ∷ Breaks Powered tall (Legal (Enter 0 ∷ []) ∷ off 0 ⇒ goes_down 0 0 1 1 (part 0 0 1 ∷ part 1 0 1
     ∷ part 2 0 1 ∷ part 3 1 1 ∷ []) ∷ Deliver 0 ⇒ acked 0 Down 0 1 1 4 false ∷ Enter 0 ⇒ resumes
     ∷ [])
     -- Reported OFF --------------------------------------------------------------------------
     -- off_core_runs: a core that was woken is answered before it has entered
-    ∷ Breaks Stopped (Legal (Enter 0 ∷ Wake 2 ∷ []) ∷ version 2 ⇒ value 65537 ∷ [])
+    ∷ Breaks Stopped tall (Legal (Enter 0 ∷ Wake 2 ∷ []) ∷ version 2 ⇒ value 65537 ∷ [])
     -- Two live claims -----------------------------------------------------------------------
     -- two_last_cores_of_a_group: two cores go off as the last ones of their group
-    ∷ Breaks One (Legal (Enter 0 ∷ call 0 0xc4000003 0x100 0x40001000 7 ∷ Deliver 0 ∷ Enter 1 ∷ [])
-    ∷ off 1 ⇒ goes_down 1 1 1 1 (part 0 3 1 ∷ part 1 3 1 ∷ part 2 3 2 ∷ []) ∷ Legal (off 0 ∷ [])
-    ∷ [])
+    ∷ Breaks One tall (Legal (Enter 0 ∷ call 0 0xc4000003 0x100 0x40001000 7 ∷ Deliver 0 ∷ Enter 1
+    ∷ []) ∷ off 1 ⇒ goes_down 1 1 1 1 (part 0 3 1 ∷ part 1 3 1 ∷ part 2 3 2 ∷ []) ∷ Legal (off 0
+    ∷ []) ∷ [])
     -- two_last_cores_of_three_levels: as the last ones of the system
-    ∷ Breaks One (Legal on_in_group ∷ off 3 ⇒ goes_down 1 3 1 1 (part 0 3 1 ∷ part 1 3 1
+    ∷ Breaks One tall (Legal on_in_group ∷ off 3 ⇒ goes_down 1 3 1 1 (part 0 3 1 ∷ part 1 3 1
     ∷ part 2 3 1 ∷ part 3 3 2 ∷ []) ∷ Legal (off 0 ∷ []) ∷ [])
     -- Deeper than asked ---------------------------------------------------------------------
     -- group_deeper_than_asked: the group goes to retention, where another core is so by itself
-    ∷ Breaks Asked (Legal (Enter 0 ∷ call 0 0xc4000003 0x100 0x40001000 7 ∷ Deliver 0 ∷ Enter 1
+    ∷ Breaks Asked tall (Legal (Enter 0 ∷ call 0 0xc4000003 0x100 0x40001000 7 ∷ Deliver 0 ∷ Enter 1
     ∷ retention 1 ∷ Deliver 1 ∷ []) ∷ off 0 ⇒ goes_down 2 0 1 1 (part 0 3 1 ∷ part 1 3 1
     ∷ part 2 2 2 ∷ []) ∷ Deliver 2 ⇒ acked 2 Down 0 1 1 3 false ∷ [])
     -- system_deeper_than_asked: the only core asks for standby of the system, which goes to
     -- retention
-    ∷ Breaks Asked (Legal (Enter 0 ∷ []) ∷ call 0 0xc4000001 0x03011333 0x40000100 0
+    ∷ Breaks Asked tall (Legal (Enter 0 ∷ []) ∷ call 0 0xc4000001 0x03011333 0x40000100 0
     ⇒ goes_down 0 0 1 1 (part 0 3 1 ∷ part 1 3 1 ∷ part 2 3 1 ∷ part 3 2 1 ∷ []) ∷ Legal (Deliver 0
     ∷ []) ∷ [])
     -- Deeper than asked, in OS-initiated mode -----------------------------------------------
     -- group_deeper_than_the_claiming_core: the claiming core asks for standby of its group, which
     -- goes to retention
-    ∷ Breaks Asked (Legal (Enter 0 ∷ call 0 0x8400000f 1 0 0 ∷ [])
+    ∷ Breaks Asked tall (Legal (Enter 0 ∷ call 0 0x8400000f 1 0 0 ∷ [])
     ∷ call 0 0xc4000001 0x02010133 0x40000100 0 ⇒ goes_down 0 0 1 1 (part 0 3 1 ∷ part 1 3 1
     ∷ part 2 2 1 ∷ []) ∷ Legal (Deliver 0 ∷ []) ∷ [])
     -- system_deeper_than_the_claiming_core: it asks for standby of the system, which goes to
     -- retention
-    ∷ Breaks Asked (Legal (Enter 0 ∷ call 0 0x8400000f 1 0 0 ∷ [])
+    ∷ Breaks Asked tall (Legal (Enter 0 ∷ call 0 0x8400000f 1 0 0 ∷ [])
     ∷ call 0 0xc4000001 0x03011333 0x40000100 0 ⇒ goes_down 0 0 1 1 (part 0 3 1 ∷ part 1 3 1
     ∷ part 2 3 1 ∷ part 3 2 1 ∷ []) ∷ Legal (Deliver 0 ∷ []) ∷ [])
     -- group_deeper_than_another_core: another core of the group is in retention, and the group is
     -- powered down
-    ∷ Breaks Asked (Legal (Enter 0 ∷ call 0 0x8400000f 1 0 0 ∷ call 0 0xc4000003 0x100 0x40001000 7
-    ∷ Deliver 0 ∷ Enter 1 ∷ retention 1 ∷ Deliver 1 ∷ [])
+    ∷ Breaks Asked tall (Legal (Enter 0 ∷ call 0 0x8400000f 1 0 0
+    ∷ call 0 0xc4000003 0x100 0x40001000 7 ∷ Deliver 0 ∷ Enter 1 ∷ retention 1 ∷ Deliver 1 ∷ [])
     ∷ call 0 0xc4000001 0x02010333 0x40000100 0 ⇒ goes_down 2 0 1 1 (part 0 3 1 ∷ part 1 3 1
     ∷ part 2 3 2 ∷ []) ∷ Deliver 2 ⇒ acked 2 Down 0 1 1 3 false ∷ [])
     -- system_deeper_than_another_core: another core is in retention, and the system is powered down
-    ∷ Breaks Asked (Legal (Enter 0 ∷ call 0 0x8400000f 1 0 0 ∷ call 0 0xc4000003 0x100 0x40001000 7
-    ∷ Deliver 0 ∷ Enter 1 ∷ retention 1 ∷ Deliver 1 ∷ [])
+    ∷ Breaks Asked tall (Legal (Enter 0 ∷ call 0 0x8400000f 1 0 0
+    ∷ call 0 0xc4000003 0x100 0x40001000 7 ∷ Deliver 0 ∷ Enter 1 ∷ retention 1 ∷ Deliver 1 ∷ [])
     ∷ call 0 0xc4000001 0x03013333 0x40000100 0 ⇒ goes_down 2 0 1 1 (part 0 3 1 ∷ part 1 3 1
     ∷ part 2 2 2 ∷ part 3 3 2 ∷ []) ∷ Deliver 2 ⇒ acked 2 Down 0 1 1 4 false ∷ [])
     -- Hardware states that were not ---------------------------------------------------------
     -- cluster_acknowledged_only: a cluster is said to be in standby, and its core alone is in
     -- retention
-    ∷ Breaks Real (Legal (on_in_group ++ call 3 0xc4000001 0x01000022 0 0 ∷ []) ∷ Deliver 1
+    ∷ Breaks Real tall (Legal (on_in_group ++ call 3 0xc4000001 0x01000022 0 0 ∷ []) ∷ Deliver 1
     ⇒ acked 1 Down 3 1 1 1 false ∷ Deliver 99 ⇒ acked 2 Down 3 1 1 2 false ∷ Legal (Take 2 ∷ [])
     ∷ [])
     -- group_acknowledged_only: a group is said to be in standby, and its core and cluster alone are
-    ∷ Breaks Real (Legal (on_in_group ++ call 3 0xc4000001 0x02000222 0 0 ∷ []) ∷ Deliver 1
+    ∷ Breaks Real tall (Legal (on_in_group ++ call 3 0xc4000001 0x02000222 0 0 ∷ []) ∷ Deliver 1
     ⇒ acked 1 Down 3 1 1 2 false ∷ Deliver 99 ⇒ acked 2 Down 3 1 1 3 false ∷ Legal (Take 2 ∷ [])
     ∷ [])
     -- system_acknowledged_only: the system is said to be in standby, and all below it alone is
-    ∷ Breaks Real (Legal (Enter 0 ∷ call 0 0xc4000001 0x03002222 0 0 ∷ []) ∷ Deliver 0
+    ∷ Breaks Real tall (Legal (Enter 0 ∷ call 0 0xc4000001 0x03002222 0 0 ∷ []) ∷ Deliver 0
     ⇒ acked 0 Down 0 1 1 3 false ∷ Deliver 99 ⇒ acked 1 Down 0 1 1 4 false ∷ Legal (Take 1 ∷ [])
     ∷ [])
     -- cluster_off_acknowledged_only: a cluster is said to be off, and its core alone is
-    ∷ Breaks Real (Legal (on_in_group ++ call 3 0xc4000001 0x01010033 0x40004000 5 ∷ []) ∷ Deliver 1
-    ⇒ acked 1 Down 3 1 1 1 false ∷ Deliver 99 ⇒ acked 2 Down 3 1 1 2 false ∷ Legal (Take 2 ∷ [])
-    ∷ [])
+    ∷ Breaks Real tall (Legal (on_in_group ++ call 3 0xc4000001 0x01010033 0x40004000 5 ∷ [])
+    ∷ Deliver 1 ⇒ acked 1 Down 3 1 1 1 false ∷ Deliver 99 ⇒ acked 2 Down 3 1 1 2 false
+    ∷ Legal (Take 2 ∷ []) ∷ [])
     -- group_off_acknowledged_only: a group is said to be off, and its core and cluster alone are
-    ∷ Breaks Real (Legal (on_in_group ++ call 3 0xc4000001 0x02010333 0x40004000 5 ∷ []) ∷ Deliver 1
-    ⇒ acked 1 Down 3 1 1 2 false ∷ Deliver 99 ⇒ acked 2 Down 3 1 1 3 false ∷ Legal (Take 2 ∷ [])
-    ∷ [])
+    ∷ Breaks Real tall (Legal (on_in_group ++ call 3 0xc4000001 0x02010333 0x40004000 5 ∷ [])
+    ∷ Deliver 1 ⇒ acked 1 Down 3 1 1 2 false ∷ Deliver 99 ⇒ acked 2 Down 3 1 1 3 false
+    ∷ Legal (Take 2 ∷ []) ∷ [])
     -- system_off_acknowledged_only: the system is said to be off, and all below it alone is
-    ∷ Breaks Real (Legal (Enter 0 ∷ call 0 0xc4000001 0x03013333 0x40000100 0 ∷ []) ∷ Deliver 0
+    ∷ Breaks Real tall (Legal (Enter 0 ∷ call 0 0xc4000001 0x03013333 0x40000100 0 ∷ []) ∷ Deliver 0
     ⇒ acked 0 Down 0 1 1 3 false ∷ Deliver 99 ⇒ acked 1 Down 0 1 1 4 false ∷ Legal (Take 1 ∷ [])
     ∷ [])
     ∷ [])

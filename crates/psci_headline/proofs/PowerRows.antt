@@ -11,40 +11,41 @@ use Rattle.psci_headline.proofs.Histories.{third_on}
 use Rattle.psci_headline.proofs.Checking.{◌⇒◌, failing_after, BreakAll, Breaks, Legal, Powered}
 use Rattle.psci_headline.proofs.Checking.{PoweredDown, Real, Stopped, WasUnsafe, computing}
 
-moments : Gives (failing_after board)
+moments : Gives failing_after
     -- Below a sleeping domain ---------------------------------------------------------------
     -- resumes_powered_down: a core that is powered down goes on without a start: its cluster sleeps
     -- too, the system does not
-    (Breaks Powered (Legal (third_on ++ off 3 ∷ Deliver 1 ∷ []) ∷ Enter 3 ⇒ resumes ∷ [])
+    (Breaks Powered board (Legal (third_on ++ off 3 ∷ Deliver 1 ∷ []) ∷ Enter 3 ⇒ resumes ∷ [])
     -- started_powered_down: a core is powered down while it is started: its Down had the generation
     -- of the next start
-    ∷ Breaks Powered (Legal third_on ∷ off 3 ⇒ goes_down 1 3 1 1 (part 0 3 2 ∷ part 1 3 2 ∷ [])
-    ∷ Legal (Wake 3 ∷ Deliver 1 ∷ []) ∷ [])
+    ∷ Breaks Powered board (Legal third_on ∷ off 3 ⇒ goes_down 1 3 1 1 (part 0 3 2 ∷ part 1 3 2
+    ∷ []) ∷ Legal (Wake 3 ∷ Deliver 1 ∷ []) ∷ [])
     -- runs_below_the_system: a core runs while the system alone sleeps
-    ∷ Breaks Powered (Legal (Enter 0 ∷ []) ∷ off 0 ⇒ goes_down 0 0 1 1 (part 0 0 1 ∷ part 1 0 1
-    ∷ part 2 3 1 ∷ []) ∷ Deliver 0 ⇒ acked 0 Down 0 1 1 3 false ∷ Enter 0 ⇒ resumes ∷ [])
+    ∷ Breaks Powered board (Legal (Enter 0 ∷ []) ∷ off 0 ⇒ goes_down 0 0 1 1 (part 0 0 1
+    ∷ part 1 0 1 ∷ part 2 3 1 ∷ []) ∷ Deliver 0 ⇒ acked 0 Down 0 1 1 3 false ∷ Enter 0 ⇒ resumes
+    ∷ [])
     -- Reported OFF --------------------------------------------------------------------------
     -- off_core_runs: a core that was woken is answered before it has entered
-    ∷ Breaks Stopped (Legal (Enter 0 ∷ Wake 3 ∷ []) ∷ version 3 ⇒ value 65537 ∷ [])
+    ∷ Breaks Stopped board (Legal (Enter 0 ∷ Wake 3 ∷ []) ∷ version 3 ⇒ value 65537 ∷ [])
     -- off_in_retention: a core that goes off is put in retention, and is OFF once that was
     -- acknowledged
-    ∷ Breaks PoweredDown (Legal third_on ∷ off 3 ⇒ goes_down 1 3 1 1 (part 0 2 1 ∷ [])
+    ∷ Breaks PoweredDown board (Legal third_on ∷ off 3 ⇒ goes_down 1 3 1 1 (part 0 2 1 ∷ [])
     ∷ Legal (Deliver 1 ∷ Take 1 ∷ []) ∷ [])
     -- old_acknowledgement_used: a core that goes off is OFF, and its hardware is, by the
     -- acknowledgement of a suspend from which it has gone on
-    ∷ BreakAll (PoweredDown ∷ Real ∷ []) (Legal (third_on
+    ∷ BreakAll (PoweredDown ∷ Real ∷ []) board (Legal (third_on
     ++ call 3 0xc4000001 0x00010003 0x40004000 2 ∷ Deliver 1 ∷ Wake 3 ∷ Enter 3 ∷ off 3 ∷ [])
     ∷ Take 1 ⇒ used ∷ [])
     -- powered_down_before_it_resumed: a core was powered down before it resumed, and not since
-    ∷ Breaks PoweredDown (Legal third_on ∷ retention 3 ⇒ goes_down 1 3 1 1 (part 0 3 1 ∷ [])
+    ∷ Breaks PoweredDown board (Legal third_on ∷ retention 3 ⇒ goes_down 1 3 1 1 (part 0 3 1 ∷ [])
     ∷ Legal (Deliver 1 ∷ Wake 3 ∷ Enter 3 ∷ []) ∷ off 3 ⇒ goes_down 2 3 1 2 (part 0 2 2 ∷ [])
     ∷ Legal (Deliver 2 ∷ Take 2 ∷ []) ∷ [])
     -- powered_down_in_another_life: a core was powered down in the life before, and not in this one
-    ∷ Breaks PoweredDown (Legal (Enter 0 ∷ call 0 0xc400000e 0x40000200 9 0 ∷ Deliver 0 ∷ Wake 0
-    ∷ Enter 0 ∷ system_reset 0 ∷ Deliver 1 ∷ []) ∷ Enter 0 ⇒ value 0 ∷ off 0
+    ∷ Breaks PoweredDown board (Legal (Enter 0 ∷ call 0 0xc400000e 0x40000200 9 0 ∷ Deliver 0
+    ∷ Wake 0 ∷ Enter 0 ∷ system_reset 0 ∷ Deliver 1 ∷ []) ∷ Enter 0 ⇒ value 0 ∷ off 0
     ⇒ goes_down 2 0 2 1 (part 0 2 1 ∷ []) ∷ Legal (Deliver 2 ∷ Take 2 ∷ []) ∷ [])
     -- function_resumes: a function tells a core to go on that was woken while it is OFF
-    ∷ Breaks PoweredDown (Legal (Enter 0 ∷ Wake 3 ∷ []) ∷ version 3 ⇒ resumes ∷ version 3
+    ∷ Breaks PoweredDown board (Legal (Enter 0 ∷ Wake 3 ∷ []) ∷ version 3 ⇒ resumes ∷ version 3
     ⇒ stops nothing ∷ [])
     ∷ [])
 unfolding computing

@@ -6,7 +6,7 @@ use Rattle.std.proofs.Common.{subst, ◌∙◌}
 use Rattle.std.proofs.lemmas.List.{append_assoc, length-append}
 use Rattle.std.proofs.Math.Seq.{take-append_seam}
 use Rattle.psci_board.specs.Board.{BoardValue}
-use Rattle.psci_board.proofs.Tables.{Gives}
+use Rattle.psci_board.proofs.Tables.{Gives, Row}
 use Rattle.psci_headline.specs.psci_world_spec.declared.event.Event.{Event}
 use Rattle.psci_headline.specs.psci_world_spec.declared.event.Event.TheVariants.{Enter, Reset}
 use Rattle.psci_headline.specs.psci_world_spec.declared.event.Event.TheVariants.{Deliver, Take}
@@ -18,12 +18,10 @@ use Rattle.psci_headline.proofs.world_spec.Runs.{stays_legal}
 use Rattle.psci_headline.proofs.world_spec.Scripts as scripts
 use Rattle.psci_headline.proofs.world_spec.Scripts.{board, call, enters, off, on_3, one_core, tall}
 use Rattle.psci_headline.proofs.world_spec.Scripts.{version}
-use Rattle.psci_headline.proofs.Checking.{Breaks, Holds}
-use Rattle.psci_headline.proofs.Histories.{standby, extended, on_in_life_2, on_in_life_3}
-use Rattle.psci_headline.proofs.Histories.{on_in_start_2, on_in_start_3, on_in_start_4}
-use Rattle.psci_headline.proofs.Histories.{on_os_initiated, third_on}
-use Rattle.psci_headline.proofs.Failing.{Entered, Events, Few, Most, Own, Reached, Rest, added_by}
-use Rattle.psci_headline.proofs.Failing.{unsettled, unsettled_after}
+use Rattle.psci_headline.proofs.Checking.{each}
+use Rattle.psci_headline.proofs.Histories.{Case, cases, standby, third_on}
+use Rattle.psci_headline.proofs.Failing.{Entered, Saying, Events, Few, Most, Own, Reached, Rest}
+use Rattle.psci_headline.proofs.Failing.{added_by, unsettled, unsettled_after}
 
 -- Records that were added to those before, so many of them.
 record AreAdded (before past : List Record) (count : ℕ) : Type 0 where
@@ -56,6 +54,16 @@ adds_legal b first more =
     subst (IsLegalPast b) (sym (ap (λ l. l ++ before) first_ones ∙ a.parts))
     (stays_legal b before more (stays_legal b [] first tt))
 
+-- In a row of a table the world has settled where these events come after those, in so many rounds;
+-- or just this fails.
+abbrev Settles : BoardValue → List Event → List Event → ℕ
+    → Row (BoardValue × List Event × List Event × ℕ) (List Saying)
+Settles b first more rounds = record { given = (b, first, more, rounds); comes = [] }
+
+abbrev Fails : Saying → BoardValue → List Event → List Event → ℕ
+    → Row (BoardValue × List Event × List Event × ℕ) (List Saying)
+Fails s b first more rounds = record { given = (b, first, more, rounds); comes = s ∷ [] }
+
 abbrev third_off : List Event
 third_off = third_on ++ off 3 ∷ []
 
@@ -71,126 +79,74 @@ alone_sleeps = Enter 0 ∷ call 0 0xc4000001 0x01010033 0x40000100 0 ∷ []
 abbrev tall_sleeps : List Event
 tall_sleeps = Enter 0 ∷ call 0 0xc4000001 0x03013333 0x40000100 0 ∷ []
 
-worlds : Gives (unsettled_after board)
+worlds : Gives unsettled_after
     -- Settled -------------------------------------------------------------------------------
     -- at_rest: nothing happens in a world that is at rest
-    (Holds (third_on, [], 0)
+    (Settles board third_on [] 0
     -- three_times: a Down is delivered once for each round, and there is one round for each level
-    ∷ Holds (third_off, Deliver 1 ∷ Deliver 1 ∷ Deliver 1 ∷ Take 1 ∷ [], 3)
+    ∷ Settles board third_off (Deliver 1 ∷ Deliver 1 ∷ Deliver 1 ∷ Take 1 ∷ []) 3
     -- start_twice: a Start does not count
-    ∷ Holds (Enter 0 ∷ on_3 ∷ [], Deliver 0 ∷ Deliver 0 ∷ Take 0 ∷ Enter 3 ∷ [], 0)
+    ∷ Settles board (Enter 0 ∷ on_3 ∷ []) (Deliver 0 ∷ Deliver 0 ∷ Take 0 ∷ Enter 3 ∷ []) 0
     -- delivered_before: a delivery before does not
-    ∷ Holds (third_off ++ Deliver 1 ∷ Deliver 1 ∷ [], Take 1 ∷ [], 0)
+    ∷ Settles board (third_off ++ Deliver 1 ∷ Deliver 1 ∷ []) (Take 1 ∷ []) 0
     -- Other events --------------------------------------------------------------------------
-    -- calls_first: a running core calls, before the Down is served
-    ∷ Breaks Events (third_off, version 0 ∷ Deliver 1 ∷ Take 1 ∷ [], 1)
-    -- calls_last: the same after it
-    ∷ Breaks Events (third_off, Deliver 1 ∷ Take 1 ∷ version 0 ∷ [], 1)
+    -- calls_last: a running core calls after the Down is served
+    ∷ Fails Events board third_off (Deliver 1 ∷ Take 1 ∷ version 0 ∷ []) 1
     -- woken_between: a core that is off is woken, and parks
-    ∷ Breaks Events (third_off, Deliver 1 ∷ Take 1 ∷ Wake 3 ∷ Enter 3 ∷ Deliver 2 ∷ Take 2 ∷ [], 1)
+    ∷ Fails Events board third_off (Deliver 1 ∷ Take 1 ∷ Wake 3 ∷ Enter 3 ∷ Deliver 2 ∷ Take 2
+    ∷ []) 1
     -- reset_first: a core is reset, and parks
-    ∷ Breaks Events (third_on, Reset 3 ∷ Enter 3 ∷ Deliver 1 ∷ Take 1 ∷ [], 1)
+    ∷ Fails Events board third_on (Reset 3 ∷ Enter 3 ∷ Deliver 1 ∷ Take 1 ∷ []) 1
     -- Not at rest ---------------------------------------------------------------------------
     -- not_entered: the boot core does not enter
-    ∷ Breaks (Rest (Entered 0 ∷ [])) ([], [], 0)
-    -- not_taken: an acknowledgement of core 3 is not taken
-    ∷ Breaks (Rest (Own 3 ∷ [])) (third_off, Deliver 1 ∷ [], 1)
-    -- Too many rounds -----------------------------------------------------------------------
-    -- four_in_three_levels: one round more than there are levels
-    ∷ Breaks Few (third_off, Deliver 1 ∷ Deliver 1 ∷ Deliver 1 ∷ Deliver 1 ∷ Take 1 ∷ [], 4)
+    ∷ Fails (Rest (Entered 0 ∷ [])) board [] [] 0
     -- Delivered more often ------------------------------------------------------------------
     -- first_down_twice: the first Down is delivered twice, in one round
-    ∷ Breaks Most (both_sleep, Deliver 1 ∷ Deliver 1 ∷ Deliver 2 ∷ Take 1 ∷ Take 3 ∷ [], 1)
+    ∷ Fails Most board both_sleep (Deliver 1 ∷ Deliver 1 ∷ Deliver 2 ∷ Take 1 ∷ Take 3 ∷ []) 1
     -- last_down_twice: the last Down is delivered twice
-    ∷ Breaks Most (both_sleep, Deliver 1 ∷ Deliver 2 ∷ Deliver 2 ∷ Take 1 ∷ Take 2 ∷ [], 1)
+    ∷ Fails Most board both_sleep (Deliver 1 ∷ Deliver 2 ∷ Deliver 2 ∷ Take 1 ∷ Take 2 ∷ []) 1
     -- Delivered less often ------------------------------------------------------------------
-    -- down_once: two rounds, and the Down is delivered once
-    ∷ Breaks Reached (third_off, Deliver 1 ∷ Take 1 ∷ [], 2)
     -- start_once: one round, and a Start alone is delivered
-    ∷ Breaks Reached (Enter 0 ∷ on_3 ∷ [], Deliver 0 ∷ Take 0 ∷ Enter 3 ∷ [], 1)
+    ∷ Fails Reached board (Enter 0 ∷ on_3 ∷ []) (Deliver 0 ∷ Take 0 ∷ Enter 3 ∷ []) 1
     -- down_before: one round, and the Down was delivered before
-    ∷ Breaks Reached (third_off ++ Deliver 1 ∷ [], Take 1 ∷ [], 1)
+    ∷ Fails Reached board (third_off ++ Deliver 1 ∷ []) (Take 1 ∷ []) 1
+    -- One core ------------------------------------------------------------------------------
+    -- twice: on a board of height 1
+    ∷ Settles one_core alone_sleeps (Deliver 0 ∷ Deliver 0 ∷ Take 0 ∷ []) 2
+    -- three_in_two_levels: one round more than there are levels
+    ∷ Fails Few one_core alone_sleeps (Deliver 0 ∷ Deliver 0 ∷ Deliver 0 ∷ Take 0 ∷ []) 3
+    -- Three levels above the cores ----------------------------------------------------------
+    -- four_times_in_four_levels: on a board of height 3
+    ∷ Settles tall tall_sleeps (Deliver 0 ∷ Deliver 0 ∷ Deliver 0 ∷ Deliver 0 ∷ Take 0 ∷ []) 4
+    -- five_in_four_levels: one round more than there are levels
+    ∷ Fails Few tall tall_sleeps (Deliver 0 ∷ Deliver 0 ∷ Deliver 0 ∷ Deliver 0 ∷ Deliver 0
+    ∷ Take 0 ∷ []) 5
     ∷ [])
 unfolding scripts.computing
 worlds = refl
 
-worlds_on_one_core : Gives (unsettled_after one_core)
-    -- twice: on a board of height 1
-    (Holds (alone_sleeps, Deliver 0 ∷ Deliver 0 ∷ Take 0 ∷ [], 2)
-    -- three_in_two_levels: one round more than there are levels
-    ∷ Breaks Few (alone_sleeps, Deliver 0 ∷ Deliver 0 ∷ Deliver 0 ∷ Take 0 ∷ [], 3)
-    ∷ [])
-unfolding scripts.computing
-worlds_on_one_core = refl
-
-worlds_on_three_levels : Gives (unsettled_after tall)
-    -- four_times_in_four_levels: on a board of height 3
-    (Holds (tall_sleeps, Deliver 0 ∷ Deliver 0 ∷ Deliver 0 ∷ Deliver 0 ∷ Take 0 ∷ [], 4)
-    -- five_in_four_levels: one round more than there are levels
-    ∷ Breaks Few (
-      tall_sleeps,
-      Deliver 0 ∷ Deliver 0 ∷ Deliver 0 ∷ Deliver 0 ∷ Deliver 0 ∷ Take 0
-          ∷ [],
-      5,
-    )
-    ∷ [])
-unfolding scripts.computing
-worlds_on_three_levels = refl
-
--- Core c goes off after these events -------------------------------------------------------------
-
--- its Down is message n; core o is on, too
-abbrev GoesOff : BoardValue → List Event → ℕ → ℕ → ℕ → Type 0
-GoesOff b on c o n = Gives (unsettled_after b)
+-- core c goes off, and its Down is message n; core o is on, too
+abbrev goes_off : Case → List (Row (BoardValue × List Event × List Event × ℕ) (List Saying))
+goes_off (b, on, c, o, l, s, n) =
     -- settled: its Down is served
-    (Holds (on ++ off c ∷ [], Deliver n ∷ Take n ∷ [], 1)
+    Settles b (on ++ off c ∷ []) (Deliver n ∷ Take n ∷ []) 1
     -- calls: a core calls
-    ∷ Breaks Events (on ++ off c ∷ [], version o ∷ Deliver n ∷ Take n ∷ [], 1)
+    ∷ Fails Events b (on ++ off c ∷ []) (version o ∷ Deliver n ∷ Take n ∷ []) 1
     -- not_taken: the acknowledgement is not taken
-    ∷ Breaks (Rest (Own c ∷ [])) (on ++ off c ∷ [], Deliver n ∷ [], 1)
+    ∷ Fails (Rest (Own c ∷ [])) b (on ++ off c ∷ []) (Deliver n ∷ []) 1
     -- four_rounds: there is one round too many
-    ∷ Breaks Few (on ++ off c ∷ [], Deliver n ∷ Deliver n ∷ Deliver n ∷ Deliver n ∷ Take n ∷ [], 4)
+    ∷ Fails Few b (on ++ off c ∷ []) (Deliver n ∷ Deliver n ∷ Deliver n ∷ Deliver n ∷ Take n
+    ∷ []) 4
     -- twice: core o is in standby, and one of two Downs is delivered twice in one round
-    ∷ Breaks Most (
-      on ++ off c ∷ standby o ∷ [],
-      Deliver n ∷ Deliver n ∷ Deliver (n + 1) ∷ Take n ∷ Take (n + 2) ∷ [],
-      1,
-    )
+    ∷ Fails Most b (on ++ off c ∷ standby o ∷ []) (Deliver n ∷ Deliver n ∷ Deliver (n + 1) ∷ Take n
+    ∷ Take (n + 2) ∷ []) 1
     -- two_rounds: there are two rounds, and the Down is delivered once
-    ∷ Breaks Reached (on ++ off c ∷ [], Deliver n ∷ Take n ∷ [], 2)
-    ∷ [])
+    ∷ Fails Reached b (on ++ off c ∷ []) (Deliver n ∷ Take n ∷ []) 2
+    ∷ []
 
-in_life_2 : GoesOff board on_in_life_2 3 0 2
+each_goes_off : Gives unsettled_after (each goes_off cases)
 unfolding scripts.computing
-in_life_2 = refl
-
-in_life_3 : GoesOff board on_in_life_3 3 0 3
-unfolding scripts.computing
-in_life_3 = refl
-
-in_start_2 : GoesOff board on_in_start_2 3 0 2
-unfolding scripts.computing
-in_start_2 = refl
-
-in_start_3 : GoesOff board on_in_start_3 3 0 3
-unfolding scripts.computing
-in_start_3 = refl
-
-in_start_4 : GoesOff board on_in_start_4 3 0 4
-unfolding scripts.computing
-in_start_4 = refl
-
-boot_core : GoesOff board third_on 0 3 1
-unfolding scripts.computing
-boot_core = refl
-
-os_initiated : GoesOff board on_os_initiated 3 0 1
-unfolding scripts.computing
-os_initiated = refl
-
-in_the_extended_format : GoesOff extended third_on 3 0 1
-unfolding scripts.computing
-in_the_extended_format = refl
+each_goes_off = refl
 
 -- Not legal -----------------------------------------------------------------------------------
 

@@ -4,7 +4,7 @@ use Rattle.std.proofs.Common.{◌++◌, ◌+◌, ℕ, Bool, true, false, List, [
 use Rattle.std.proofs.Common.{refl}
 use Rattle.psci_board.specs.Board.{BoardValue}
 use Rattle.psci_board.specs.declared.node.Node.{Node}
-use Rattle.psci_board.proofs.Tables.{◌⇒◌, Gives}
+use Rattle.psci_board.proofs.Tables.{◌⇒◌, Gives, Row}
 use Rattle.psci_ctl_spec.specs.psci_messages.declared.kind.Kind.TheVariants.{Down}
 use Rattle.psci_fw_laws.specs.psci_fw_spec.NodeHwState.{hw_code}
 use Rattle.psci_world_spec.specs.declared.event.Event.{Event}
@@ -17,9 +17,8 @@ use Rattle.psci_world_spec.proofs.Scripts.{acked, board, call, computing, nothin
 use Rattle.psci_world_spec.proofs.Scripts.{status_3, stops, system_off, system_reset, tall, value}
 use Rattle.psci_headline.specs.Hardware.{known_starts, said_hw}
 use Rattle.psci_headline.specs.ToldHw.{is_off_depth, is_standby_depth, told_hw, was_so_deep}
-use Rattle.psci_headline.proofs.Histories.{after, at, extended, on_in_group, on_in_life_2}
-use Rattle.psci_headline.proofs.Histories.{on_in_life_3, on_in_start_2, on_in_start_3}
-use Rattle.psci_headline.proofs.Histories.{on_in_start_4, on_os_initiated, third_on}
+use Rattle.psci_headline.proofs.Checking.{each}
+use Rattle.psci_headline.proofs.Histories.{Case, cases, after, at, extended, on_in_group, third_on}
 
 -- Told -------------------------------------------------------------------------------------------
 
@@ -108,8 +107,8 @@ record Stands : Type 0 where
   pub said : ℕ
   pub was : Bool
 
-abbrev stands : BoardValue → Node → List Record → Stands
-stands b d past = record {
+abbrev stands : (BoardValue × Node × List Record) → Stands
+stands (b, d, past) = record {
   said = hw_code (said_hw b past d);
   was = was_so_deep b (firmware_values b past).life (known_starts b past d) is_standby_depth past d;
 }
@@ -119,71 +118,56 @@ abbrev told : BoardValue → List Event → Said → ℕ → List Record
 told b events said taken =
     run_from b (record { event = Deliver 99; said = said } ∷ after b events) (Take taken ∷ [])
 
--- core c is on by start s of life l after these events; by this one it asks for standby of a domain,
--- and its Down is message n
-abbrev Asks : BoardValue → List Event → Event → ℕ → ℕ → ℕ → ℕ → Node → Type 0
-Asks b on asks c l s n d = Gives (stands b d)
+-- core c, which is on by start s of life l, asks for retention of itself by message n
+abbrev sleeps : Case → List (Row (BoardValue × Node × List Record) Stands)
+sleeps (b, on, c, o, l, s, n) =
     -- slept: it was in standby
-    (after b (on ++ asks ∷ Deliver n ∷ Take n ∷ []) ⇒ record { said = 2; was = true }
-    -- never_slept: it is said to be, and never was
-    ∷ told b (on ++ asks ∷ []) (acked n Down c l s (d.level + 1) false) n
-    ⇒ record { said = 2; was = false }
-    ∷ [])
-
-core : Asks board third_on (retention 3) 3 1 1 1 (at 0 3)
-unfolding computing was_so_deep
-core = refl
-
-cluster : Asks board third_on (call 3 0xc4000001 0x01000022 0 0) 3 1 1 1 (at 1 1)
-unfolding computing was_so_deep
-cluster = refl
-
-group : Asks tall on_in_group (call 3 0xc4000001 0x02000222 0 0) 3 1 1 1 (at 2 1)
-unfolding computing was_so_deep
-group = refl
-
-system : Asks tall (Enter 0 ∷ []) (call 0 0xc4000001 0x03002222 0 0) 0 1 1 0 (at 3 0)
-unfolding computing was_so_deep
-system = refl
-
-boot_core : Asks board third_on (retention 0) 0 1 1 1 (at 0 0)
-unfolding computing was_so_deep
-boot_core = refl
-
-in_life_2 : Asks board on_in_life_2 (retention 3) 3 2 1 2 (at 0 3)
-unfolding computing was_so_deep
-in_life_2 = refl
-
-in_life_3 : Asks board on_in_life_3 (retention 3) 3 3 1 3 (at 0 3)
-unfolding computing was_so_deep
-in_life_3 = refl
-
-in_start_2 : Asks board on_in_start_2 (retention 3) 3 1 2 2 (at 0 3)
-unfolding computing was_so_deep
-in_start_2 = refl
-
-in_start_3 : Asks board on_in_start_3 (retention 3) 3 1 3 3 (at 0 3)
-unfolding computing was_so_deep
-in_start_3 = refl
-
-in_start_4 : Asks board on_in_start_4 (retention 3) 3 1 4 4 (at 0 3)
-unfolding computing was_so_deep
-in_start_4 = refl
-
-os_initiated : Asks board on_os_initiated (retention 3) 3 1 1 1 (at 0 3)
-unfolding computing was_so_deep
-os_initiated = refl
-
-in_the_extended_format : Asks extended third_on (call 3 0xc4000001 0x22 0 0) 3 1 1 1 (at 1 1)
-unfolding computing was_so_deep
-in_the_extended_format = refl
-
-halting : Gives (stands board (at 0 3))
-    -- slept_in_a_halting_life: core 3 was in standby, and the life halts
-    (after board (third_on ++ retention 3 ∷ Deliver 1 ∷ system_off 0 ∷ Take 1 ∷ [])
+    (b, at 0 c, after b (on ++ retention c ∷ Deliver n ∷ Take n ∷ []))
     ⇒ record { said = 2; was = true }
+    -- never_slept: it is said to be, and never was
+    ∷ (b, at 0 c, told b (on ++ retention c ∷ []) (acked n Down c l s 1 false) n)
+    ⇒ record { said = 2; was = false }
+    ∷ []
+
+each_sleeps : Gives stands (each sleeps cases)
+unfolding computing was_so_deep
+each_sleeps = refl
+
+-- core c, which is on by its first start, asks by this event for standby of a domain, by message n
+abbrev sleeps_with : (BoardValue × List Event × ℕ × Event × ℕ × Node)
+    → List (Row (BoardValue × Node × List Record) Stands)
+sleeps_with (b, on, c, asks, n, d) =
+    -- slept: the domain was in standby
+    (b, d, after b (on ++ asks ∷ Deliver n ∷ Take n ∷ [])) ⇒ record { said = 2; was = true }
+    -- never_slept: it is said to be, and never was
+    ∷ (b, d, told b (on ++ asks ∷ []) (acked n Down c 1 1 (d.level + 1) false) n)
+    ⇒ record { said = 2; was = false }
+    ∷ []
+
+each_sleeps_with : Gives stands (each sleeps_with
+    -- cluster: a cluster
+    ((board, third_on, 3, call 3 0xc4000001 0x01000022 0 0, 1, at 1 1)
+    -- group: a group
+    ∷ (tall, on_in_group, 3, call 3 0xc4000001 0x02000222 0 0, 1, at 2 1)
+    -- system: the system
+    ∷ (tall, Enter 0 ∷ [], 0, call 0 0xc4000001 0x03002222 0 0, 0, at 3 0)
+    -- extended_cluster: a cluster on a board of the extended format
+    ∷ (extended, third_on, 3, call 3 0xc4000001 0x22 0 0, 1, at 1 1)
+    ∷ []))
+unfolding computing was_so_deep
+each_sleeps_with = refl
+
+abbrev slept_on : List Event
+slept_on = third_on ++ retention 3 ∷ Deliver 1 ∷ system_off 0 ∷ Take 1 ∷ []
+
+abbrev stayed_on : List Event
+stayed_on = third_on ++ retention 3 ∷ system_off 0 ∷ []
+
+halting : Gives stands
+    -- slept_in_a_halting_life: core 3 was in standby, and the life halts
+    ((board, at 0 3, after board slept_on) ⇒ record { said = 2; was = true }
     -- never_slept_in_a_halting_life: it is said to be, and never was
-    ∷ told board (third_on ++ retention 3 ∷ system_off 0 ∷ []) (acked 1 Down 3 1 1 1 false) 1
+    ∷ (board, at 0 3, told board stayed_on (acked 1 Down 3 1 1 1 false) 1)
     ⇒ record { said = 2; was = false }
     ∷ [])
 unfolding computing was_so_deep

@@ -4,7 +4,7 @@ use Rattle.std.proofs.Common.{◌++◌, ◌≡◌, ◌<◌, ℕ, zero, suc, Bool
 use Rattle.std.proofs.Common.{Option, None, Some, refl, arith}
 use Rattle.psci_board.specs.Board.{BoardValue}
 use Rattle.psci_board.specs.declared.node.Node.{Node}
-use Rattle.psci_board.proofs.Tables.{◌⇒◌, Gives}
+use Rattle.psci_board.proofs.Tables.{◌⇒◌, Gives, Row}
 use Rattle.psci_world_spec.specs.declared.place.Place.TheVariants.{Running, Stopped}
 use Rattle.psci_world_spec.specs.declared.event.Event.{Event}
 use Rattle.psci_world_spec.specs.declared.event.Event.TheVariants.{Deliver, Enter, Take}
@@ -15,9 +15,8 @@ use Rattle.psci_world_spec.proofs.Scripts.{board, call, computing, nothing, off,
 use Rattle.psci_world_spec.proofs.Scripts.{status_3, stops, system_off, system_reset, tall, value}
 use Rattle.psci_headline.specs.Moments.{was_powered_down}
 use Rattle.psci_headline.specs.ToldOff.{AllOff, told_off}
-use Rattle.psci_headline.proofs.Histories.{after, at, extended, on_in_group, on_in_life_2}
-use Rattle.psci_headline.proofs.Histories.{on_in_life_3, on_in_start_2, on_in_start_3}
-use Rattle.psci_headline.proofs.Histories.{on_in_start_4, on_os_initiated, third_on}
+use Rattle.psci_headline.proofs.Checking.{each}
+use Rattle.psci_headline.proofs.Histories.{Case, cases, after, at, on_in_group, third_on}
 use Rattle.psci_headline.proofs.ToldTest.{is_all_off}
 
 -- a core asks for the status of a word at a level
@@ -102,72 +101,40 @@ going_off_in_life_2 all = let no : false ≡ true = (all 3 (omega arith) refl).1
 
 -- By each axis -----------------------------------------------------------------------------------
 
--- all cores of a domain are off after these events
-abbrev all_off : BoardValue → Node → List Event → Bool
-all_off b d events = is_all_off b (after b events) d
+-- whether all cores of a domain are off after these events
+abbrev all_off : (BoardValue × Node × List Event) → Bool
+all_off (b, d, events) = is_all_off b (after b events) d
 
--- a core goes off with this event, after those, and its Down is message n
-abbrev GoesOff : BoardValue → List Event → Event → ℕ → Node → Type 0
-GoesOff b on goes n d = Gives (all_off b d)
-    -- off: the domain is powered down
-    ((on ++ goes ∷ Deliver n ∷ []) ⇒ true
+-- core c goes off, and its Down is message n
+abbrev goes_off : Case → List (Row (BoardValue × Node × List Event) Bool)
+goes_off (b, on, c, o, l, s, n) =
+    -- off: it is powered down
+    (b, at 0 c, on ++ off c ∷ Deliver n ∷ []) ⇒ true
     -- going_off: it is not yet
-    ∷ (on ++ goes ∷ []) ⇒ false
-    ∷ [])
+    ∷ (b, at 0 c, on ++ off c ∷ []) ⇒ false
+    ∷ []
 
-core : GoesOff board third_on (off 3) 1 (at 0 3)
+each_goes_off : Gives all_off (each goes_off cases)
 unfolding computing was_powered_down
-core = refl
+each_goes_off = refl
 
-cluster : GoesOff board third_on (off 3) 1 (at 1 1)
-unfolding computing was_powered_down
-cluster = refl
-
-group : GoesOff tall on_in_group (off 3) 1 (at 2 1)
-unfolding computing was_powered_down
-group = refl
-
-system : GoesOff tall (Enter 0 ∷ []) (call 0 0xc400000e 0x40000200 9 0) 0 (at 3 0)
-unfolding computing was_powered_down
-system = refl
-
-boot_core : GoesOff board third_on (off 0) 1 (at 0 0)
-unfolding computing was_powered_down
-boot_core = refl
-
-in_life_2 : GoesOff board on_in_life_2 (off 3) 2 (at 0 3)
-unfolding computing was_powered_down
-in_life_2 = refl
-
-in_life_3 : GoesOff board on_in_life_3 (off 3) 3 (at 0 3)
-unfolding computing was_powered_down
-in_life_3 = refl
-
-in_start_2 : GoesOff board on_in_start_2 (off 3) 2 (at 0 3)
-unfolding computing was_powered_down
-in_start_2 = refl
-
-in_start_3 : GoesOff board on_in_start_3 (off 3) 3 (at 0 3)
-unfolding computing was_powered_down
-in_start_3 = refl
-
-in_start_4 : GoesOff board on_in_start_4 (off 3) 4 (at 0 3)
-unfolding computing was_powered_down
-in_start_4 = refl
-
-os_initiated : GoesOff board on_os_initiated (off 3) 1 (at 0 3)
-unfolding computing was_powered_down
-os_initiated = refl
-
-in_the_extended_format : GoesOff extended third_on (off 3) 1 (at 0 3)
-unfolding computing was_powered_down
-in_the_extended_format = refl
-
-halting : Gives (all_off board (at 0 3))
-    -- off_in_a_halting_life: core 3 is powered down, and the life halts
-    ((third_on ++ off 3 ∷ Deliver 1 ∷ system_off 0 ∷ []) ⇒ true
+domains : Gives all_off
+    -- off_cluster: a cluster is powered down
+    ((board, at 1 1, third_on ++ off 3 ∷ Deliver 1 ∷ []) ⇒ true
+    -- going_off_cluster: it is not yet
+    ∷ (board, at 1 1, third_on ++ off 3 ∷ []) ⇒ false
+    -- off_group: a group
+    ∷ (tall, at 2 1, on_in_group ++ off 3 ∷ Deliver 1 ∷ []) ⇒ true
+    -- going_off_group: it is not yet
+    ∷ (tall, at 2 1, on_in_group ++ off 3 ∷ []) ⇒ false
+    -- off_system: the system
+    ∷ (tall, at 3 0, Enter 0 ∷ call 0 0xc400000e 0x40000200 9 0 ∷ Deliver 0 ∷ []) ⇒ true
+    -- going_off_system: it is not yet
+    ∷ (tall, at 3 0, Enter 0 ∷ call 0 0xc400000e 0x40000200 9 0 ∷ []) ⇒ false
+    -- off_in_a_halting_life: core 3, and the life halts
+    ∷ (board, at 0 3, third_on ++ off 3 ∷ Deliver 1 ∷ system_off 0 ∷ []) ⇒ true
     -- going_off_in_a_halting_life: it is not yet
-    ∷ (third_on ++ off 3 ∷ system_off 0 ∷ []) ⇒ false
+    ∷ (board, at 0 3, third_on ++ off 3 ∷ system_off 0 ∷ []) ⇒ false
     ∷ [])
 unfolding computing was_powered_down
-halting = refl
+domains = refl

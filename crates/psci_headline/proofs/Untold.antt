@@ -10,12 +10,10 @@ use Rattle.psci_headline.specs.psci_world_spec.declared.event.Event.{Event}
 use Rattle.psci_headline.specs.psci_world_spec.declared.said.Record.{Record}
 use Rattle.psci_headline.specs.psci_world_spec.Histories.{controller_values, firmware_values}
 use Rattle.psci_headline.specs.psci_world_spec.Places.{place}
+use Rattle.psci_headline.specs.Settling.{begun, is_waiting, round, rounds, settled}
 use Rattle.psci_headline.proofs.world_spec.Scripts as scripts
-use Rattle.psci_headline.specs.Settling.{begun, is_waiting, round, rounds}
-use Rattle.psci_headline.specs.Settling.{settled}
 use Rattle.psci_headline.proofs.Histories.{after, at}
-use Rattle.psci_headline.proofs.Checking.{Steps, if_fails, past_from}
-use Rattle.psci_headline.proofs.Failing.{each}
+use Rattle.psci_headline.proofs.Checking.{Steps, each, if_fails, past_from}
 
 unfoldable pub computing : Unit {0}
 unfolding scripts.computing settled begun round is_waiting rounds
@@ -58,9 +56,9 @@ failing b past =
     ++ each (λ c. if_fails (follows (is_off b past c) (is_gone b past c)) (IsAway c))
     (range_with_len 0 (cores b)))
 
-abbrev pub untold_after : BoardValue → List Steps → List Clause
-untold_after b steps = failing b (past_from b [] steps)
+abbrev pub untold_after : (BoardValue × List Steps) → List Clause
+untold_after (b, steps) = failing b (past_from b [] steps)
 
 -- all that fails once the world has settled after these events
-abbrev pub untold_once_settled : BoardValue → List Event → List Clause
-untold_once_settled b events = failing b (settled b (after b events)).past
+abbrev pub untold_once_settled : (BoardValue × List Event) → List Clause
+untold_once_settled (b, events) = failing b (settled b (after b events)).past

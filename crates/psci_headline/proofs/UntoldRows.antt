@@ -2,125 +2,86 @@
 -- message or an acknowledgement is outstanding still, or where the life is halting, or by a run
 -- that is not legal; also in each life, by each start, in OS-initiated mode and on a board of the
 -- extended format.
-use Rattle.std.proofs.Common.{◌++◌, ℕ, true, false, List, [], ◌∷◌, refl}
-use Rattle.psci_board.proofs.Tables.{Gives}
+use Rattle.std.proofs.Common.{◌++◌, true, false, List, [], ◌∷◌, refl}
+use Rattle.psci_board.proofs.Tables.{Gives, Row}
 use Rattle.psci_headline.specs.psci_board.Board.{BoardValue}
 use Rattle.psci_headline.specs.psci_messages.declared.kind.Kind.TheVariants.{Down}
-use Rattle.psci_headline.specs.psci_world_spec.declared.event.Event.{Event}
 use Rattle.psci_headline.specs.psci_world_spec.declared.event.Event.TheVariants.{Deliver, Enter}
 use Rattle.psci_headline.specs.psci_world_spec.declared.event.Event.TheVariants.{Reset, Take, Wake}
 use Rattle.psci_headline.proofs.world_spec.Scripts.{acked, board, call, off, retention, system_off}
 use Rattle.psci_headline.proofs.world_spec.Scripts.{system_reset, tall, value, version}
-use Rattle.psci_headline.proofs.Histories.{standby, extended, on_in_group, on_in_life_2}
-use Rattle.psci_headline.proofs.Histories.{on_in_life_3, on_in_start_2, on_in_start_3}
-use Rattle.psci_headline.proofs.Histories.{on_in_start_4, on_os_initiated, third_on}
-use Rattle.psci_headline.proofs.Checking.{◌⇒◌, Breaks, Legal}
-use Rattle.psci_headline.proofs.Untold.{Hw, IsAway, IsOff, computing, untold_after}
+use Rattle.psci_headline.proofs.Histories.{Case, cases, standby, extended, on_in_group}
+use Rattle.psci_headline.proofs.Histories.{on_os_initiated, third_on}
+use Rattle.psci_headline.proofs.Checking.{◌⇒◌, Breaks, Legal, Steps, each}
+use Rattle.psci_headline.proofs.Untold.{Clause, Hw, IsAway, IsOff, computing, untold_after}
 
-records : Gives (untold_after board)
+records : Gives untold_after
     -- Says ON of what is asleep -------------------------------------------------------------
     -- core_in_standby: core 3 is in standby, and its acknowledgement was not taken
-    (Breaks (Hw 0 3) (Legal (third_on ++ standby 3 ∷ Deliver 1 ∷ []) ∷ [])
+    (Breaks (Hw 0 3) board (Legal (third_on ++ standby 3 ∷ Deliver 1 ∷ []) ∷ [])
     -- boot_core_in_life_2: the same of the boot core in retention, in life 2
-    ∷ Breaks (Hw 0 0) (Legal (Enter 0 ∷ system_reset 0 ∷ Deliver 0 ∷ Enter 0 ∷ retention 0
+    ∷ Breaks (Hw 0 0) board (Legal (Enter 0 ∷ system_reset 0 ∷ Deliver 0 ∷ Enter 0 ∷ retention 0
     ∷ Deliver 1 ∷ []) ∷ [])
     -- boot_core_in_life_3: and in life 3
-    ∷ Breaks (Hw 0 0) (Legal (Enter 0 ∷ system_reset 0 ∷ Deliver 0 ∷ Enter 0 ∷ system_reset 0
+    ∷ Breaks (Hw 0 0) board (Legal (Enter 0 ∷ system_reset 0 ∷ Deliver 0 ∷ Enter 0 ∷ system_reset 0
     ∷ Deliver 1 ∷ Enter 0 ∷ retention 0 ∷ Deliver 2 ∷ []) ∷ [])
     -- second_start_os_initiated: and of core 3, powered down by a suspend in its second start, in
     -- OS-initiated mode
-    ∷ Breaks (Hw 0 3) (Legal (on_os_initiated ++ retention 3 ∷ Deliver 1 ∷ Wake 3 ∷ Enter 3
+    ∷ Breaks (Hw 0 3) board (Legal (on_os_initiated ++ retention 3 ∷ Deliver 1 ∷ Wake 3 ∷ Enter 3
     ∷ call 3 0xc4000001 0x00010003 0x40003000 1 ∷ Deliver 2 ∷ []) ∷ [])
     -- cluster_off: the Down of core 3 was carried out, and then acknowledged of the core alone
-    ∷ Breaks (Hw 1 1) (Legal (third_on ++ off 3 ∷ Deliver 1 ∷ []) ∷ Deliver 1
+    ∷ Breaks (Hw 1 1) board (Legal (third_on ++ off 3 ∷ Deliver 1 ∷ []) ∷ Deliver 1
     ⇒ acked 2 Down 3 1 1 1 true ∷ Legal (Take 2 ∷ []) ∷ [])
     -- system_in_retention: and the Down of core 0 of core and cluster alone: the system is in
     -- retention
-    ∷ Breaks (Hw 2 0) (Legal (Enter 0 ∷ call 0 0xc4000001 0x02000222 0 0 ∷ Deliver 0 ∷ [])
+    ∷ Breaks (Hw 2 0) board (Legal (Enter 0 ∷ call 0 0xc4000001 0x02000222 0 0 ∷ Deliver 0 ∷ [])
     ∷ Deliver 0 ⇒ acked 1 Down 0 1 1 2 true ∷ Legal (Take 1 ∷ []) ∷ [])
     -- Says asleep of what is on -------------------------------------------------------------
     -- never_delivered: nothing was delivered, and the Down of core 3 was acknowledged
-    ∷ Breaks (Hw 0 3) (Legal (third_on ++ retention 3 ∷ []) ∷ Deliver 9 ⇒ acked 1 Down 3 1 1 1 false
-    ∷ Legal (Take 1 ∷ []) ∷ [])
+    ∷ Breaks (Hw 0 3) board (Legal (third_on ++ retention 3 ∷ []) ∷ Deliver 9
+    ⇒ acked 1 Down 3 1 1 1 false ∷ Legal (Take 1 ∷ []) ∷ [])
     -- woken: a core that was confirmed to sleep is woken, and has not entered yet
-    ∷ Breaks (Hw 0 3) (Legal (third_on ++ retention 3 ∷ Deliver 1 ∷ Take 1 ∷ Wake 3 ∷ []) ∷ [])
+    ∷ Breaks (Hw 0 3) board (Legal (third_on ++ retention 3 ∷ Deliver 1 ∷ Take 1 ∷ Wake 3 ∷ [])
+    ∷ [])
     -- OFF -----------------------------------------------------------------------------------
     -- halting: in a halting life nothing is asked of the core that ended it
-    ∷ Breaks (IsOff 0) (Legal (Enter 0 ∷ system_off 0 ∷ []) ∷ [])
+    ∷ Breaks (IsOff 0) board (Legal (Enter 0 ∷ system_off 0 ∷ []) ∷ [])
     -- boot_core_goes_off: the boot core, in OS-initiated mode
-    ∷ Breaks (IsOff 0) (Legal (on_os_initiated ++ off 0 ∷ []) ∷ [])
+    ∷ Breaks (IsOff 0) board (Legal (on_os_initiated ++ off 0 ∷ []) ∷ [])
+    -- Three levels above the cores ----------------------------------------------------------
+    -- group_in_standby: a group in standby
+    ∷ Breaks (Hw 2 1) tall (Legal (on_in_group ++ call 3 0xc4000001 0x02000111 0 0 ∷ Deliver 1 ∷ [])
+    ∷ Deliver 1 ⇒ acked 2 Down 3 1 1 2 true ∷ Legal (Take 2 ∷ []) ∷ [])
+    -- tall_system_off: the system off
+    ∷ Breaks (Hw 3 0) tall (Legal (Enter 0 ∷ call 0 0xc4000001 0x03013333 0x40000100 0 ∷ Deliver 0
+    ∷ []) ∷ Deliver 0 ⇒ acked 1 Down 0 1 1 3 true ∷ Legal (Take 1 ∷ []) ∷ [])
+    -- parks: a core that was reset parks, by its third start
+    ∷ Breaks (IsOff 3) tall (Legal (on_in_group ++ retention 3 ∷ Deliver 1 ∷ Wake 3 ∷ Enter 3
+    ∷ Reset 3 ∷ Enter 3 ∷ []) ∷ [])
+    -- The extended format -------------------------------------------------------------------
+    -- going_off_in_life_2: core 1 goes off in life 2, and nothing was delivered
+    ∷ Breaks (IsOff 1) extended (Legal (Enter 0 ∷ system_reset 0 ∷ Deliver 0 ∷ Enter 0
+    ∷ call 0 0xc4000003 0x1 0x40001000 7 ∷ Deliver 1 ∷ Enter 1 ∷ off 1 ∷ []) ∷ [])
+    -- core_down_extended: core 3 is powered down by a suspend, and its acknowledgement was not
+    -- taken
+    ∷ Breaks (Hw 0 3) extended (Legal (third_on ++ call 3 0xc4000001 0x40000003 0x40004000 5
+    ∷ Deliver 1 ∷ []) ∷ [])
     ∷ [])
 unfolding computing
 records = refl
 
-records_on_three_levels : Gives (untold_after tall)
-    -- group_in_standby: a group in standby
-    (Breaks (Hw 2 1) (Legal (on_in_group ++ call 3 0xc4000001 0x02000111 0 0 ∷ Deliver 1 ∷ [])
-    ∷ Deliver 1 ⇒ acked 2 Down 3 1 1 2 true ∷ Legal (Take 2 ∷ []) ∷ [])
-    -- tall_system_off: the system off
-    ∷ Breaks (Hw 3 0) (Legal (Enter 0 ∷ call 0 0xc4000001 0x03013333 0x40000100 0 ∷ Deliver 0 ∷ [])
-    ∷ Deliver 0 ⇒ acked 1 Down 0 1 1 3 true ∷ Legal (Take 1 ∷ []) ∷ [])
-    -- parks: a core that was reset parks, by its third start
-    ∷ Breaks (IsOff 3) (Legal (on_in_group ++ retention 3 ∷ Deliver 1 ∷ Wake 3 ∷ Enter 3 ∷ Reset 3
-    ∷ Enter 3 ∷ []) ∷ [])
-    ∷ [])
-unfolding computing
-records_on_three_levels = refl
-
-records_of_the_extended_format : Gives (untold_after extended)
-    -- going_off_in_life_2: core 1 goes off in life 2, and nothing was delivered
-    (Breaks (IsOff 1) (Legal (Enter 0 ∷ system_reset 0 ∷ Deliver 0 ∷ Enter 0
-    ∷ call 0 0xc4000003 0x1 0x40001000 7 ∷ Deliver 1 ∷ Enter 1 ∷ off 1 ∷ []) ∷ [])
-    -- core_down_extended: core 3 is powered down by a suspend, and its acknowledgement was not
-    -- taken
-    ∷ Breaks (Hw 0 3) (Legal (third_on ++ call 3 0xc4000001 0x40000003 0x40004000 5 ∷ Deliver 1
-    ∷ []) ∷ [])
-    ∷ [])
-unfolding computing
-records_of_the_extended_format = refl
-
--- Core c is on after these events ----------------------------------------------------------------
-
--- its next message has the number n
-abbrev Sleeps : BoardValue → List Event → ℕ → ℕ → Type 0
-Sleeps b on c n = Gives (untold_after b)
+-- core c is on, and its next message has the number n
+abbrev sleeps : Case → List (Row (BoardValue × List Steps) (List Clause))
+sleeps (b, on, c, o, l, s, n) =
     -- in_retention: it is in retention, and its acknowledgement was not taken
-    (Breaks (Hw 0 c) (Legal (on ++ retention c ∷ Deliver n ∷ []) ∷ [])
+    Breaks (Hw 0 c) b (Legal (on ++ retention c ∷ Deliver n ∷ []) ∷ [])
     -- going_off: it goes off, and nothing was delivered
-    ∷ Breaks (IsOff c) (Legal (on ++ off c ∷ []) ∷ [])
+    ∷ Breaks (IsOff c) b (Legal (on ++ off c ∷ []) ∷ [])
     -- answered_off: it is off, and is answered as if it ran
-    ∷ Breaks (IsAway c) (Legal (on ++ off c ∷ Deliver n ∷ Take n ∷ []) ∷ version c ⇒ value 0x10001
+    ∷ Breaks (IsAway c) b (Legal (on ++ off c ∷ Deliver n ∷ Take n ∷ []) ∷ version c ⇒ value 0x10001
     ∷ [])
-    ∷ [])
+    ∷ []
 
-in_start_1 : Sleeps board third_on 3 1
+each_sleeps : Gives untold_after (each sleeps cases)
 unfolding computing
-in_start_1 = refl
-
-in_start_2 : Sleeps board on_in_start_2 3 2
-unfolding computing
-in_start_2 = refl
-
-in_start_3 : Sleeps board on_in_start_3 3 3
-unfolding computing
-in_start_3 = refl
-
-in_start_4 : Sleeps board on_in_start_4 3 4
-unfolding computing
-in_start_4 = refl
-
-boot_core : Sleeps board on_in_life_2 0 2
-unfolding computing
-boot_core = refl
-
-in_life_3 : Sleeps board on_in_life_3 3 3
-unfolding computing
-in_life_3 = refl
-
-os_initiated : Sleeps board on_os_initiated 3 1
-unfolding computing
-os_initiated = refl
-
-in_the_extended_format : Sleeps extended third_on 3 1
-unfolding computing
-in_the_extended_format = refl
+each_sleeps = refl
