@@ -5,8 +5,8 @@ use Rattle.psci_board.proofs.Tables.{Gives}
 use Rattle.psci_fw_laws.specs.psci_messages.declared.kind.Kind.TheVariants.{Down}
 use Rattle.psci_world_spec.specs.declared.event.Event.TheVariants.{Enter, Wake, Deliver, Take}
 use Rattle.psci_world_spec.proofs.Scripts.{acked, goes_down, value, board, call, off, part, resumes}
-use Rattle.psci_world_spec.proofs.Scripts.{system_reset, version}
-use Rattle.psci_headline.proofs.Histories.{both_on, on_2, standby, third_on}
+use Rattle.psci_world_spec.proofs.Scripts.{version}
+use Rattle.psci_headline.proofs.Histories.{life_2, both_on, on_2, standby, third_on}
 use Rattle.psci_headline.proofs.Checking.{◌⇒◌, failing_after, Asked, BreakAll, Breaks, Legal, Real}
 use Rattle.psci_headline.proofs.Checking.{One, Powered, PoweredDown, Stopped, computing}
 
@@ -20,8 +20,7 @@ moments : Gives failing_after
     ∷ []) ∷ Legal (Wake 3 ∷ []) ∷ Deliver 1 ⇒ acked 1 Down 3 1 1 2 false ∷ [])
     -- Reported OFF --------------------------------------------------------------------------
     -- off_core_runs_again: a core that was woken is answered before it has entered, in life 2
-    ∷ Breaks Stopped board (Legal (Enter 0 ∷ system_reset 0 ∷ Deliver 0 ∷ Enter 0 ∷ Wake 1 ∷ [])
-    ∷ version 1 ⇒ value 65537 ∷ [])
+    ∷ Breaks Stopped board (Legal (life_2 ++ Wake 1 ∷ []) ∷ version 1 ⇒ value 65537 ∷ [])
     -- off_in_standby: a core that goes off is put in standby, and is OFF once that was acknowledged
     ∷ Breaks PoweredDown board (Legal third_on ∷ off 3 ⇒ goes_down 1 3 1 1 (part 0 1 1 ∷ [])
     ∷ Legal (Deliver 1 ∷ Take 1 ∷ []) ∷ [])

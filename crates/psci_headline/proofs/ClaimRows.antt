@@ -10,7 +10,8 @@ use Rattle.psci_world_spec.specs.Legal.{run_from}
 use Rattle.psci_world_spec.proofs.Scripts.{acked, goes_down, board, call, off, on_3, part}
 use Rattle.psci_world_spec.proofs.Scripts.{retention, system_off, system_reset}
 use Rattle.psci_headline.specs.Claims.{Claim, claims, live_claims}
-use Rattle.psci_headline.proofs.Histories.{at, both_on, on_2, on_os_initiated, third_on}
+use Rattle.psci_headline.proofs.Histories.{both_os_initiated, at, both_on, on_os_initiated}
+use Rattle.psci_headline.proofs.Histories.{third_on}
 use Rattle.psci_headline.proofs.Checking.{◌⇒◌, failing_after, Asked, Breaks, Legal, One, computing}
 
 -- Claims --------------------------------------------------------------------------------------
@@ -109,8 +110,7 @@ moments : Gives failing_after
     ⇒ goes_down 1 3 1 1 (part 0 3 1 ∷ part 1 3 1 ∷ []) ∷ Legal (Deliver 1 ∷ []) ∷ [])
     -- deeper_than_another_core: it claims power-down of its cluster, in which another core is in
     -- retention
-    ∷ Breaks Asked board (Legal (Enter 0 ∷ call 0 0x8400000f 1 0 0 ∷ on_2 ∷ on_3 ∷ Deliver 0
-    ∷ Deliver 1 ∷ Enter 2 ∷ Enter 3 ∷ retention 2 ∷ Deliver 2 ∷ [])
+    ∷ Breaks Asked board (Legal (both_os_initiated ++ retention 2 ∷ Deliver 2 ∷ [])
     ∷ call 3 0xc4000001 0x01010033 0x40004000 2 ⇒ goes_down 3 3 1 1 (part 0 3 1 ∷ part 1 3 2 ∷ [])
     ∷ Deliver 3 ⇒ acked 3 Down 3 1 1 2 false ∷ [])
     ∷ [])

@@ -1,5 +1,5 @@
 -- Runs that several files of worked examples name.
-use Rattle.std.proofs.Common.{ℕ, List, [], ◌∷◌}
+use Rattle.std.proofs.Common.{◌++◌, ℕ, List, [], ◌∷◌}
 use Rattle.psci_headline.specs.psci_abi.declared.format.Format.TheVariants.{Extended}
 use Rattle.psci_headline.specs.psci_board.Board.{BoardValue}
 use Rattle.psci_headline.specs.psci_board.declared.node.Node.{Node}
@@ -36,42 +36,45 @@ third_on = Enter 0 ∷ on_3 ∷ Deliver 0 ∷ Enter 3 ∷ []
 
 -- it is on by a later start, since it was woken from retention so often
 abbrev pub on_in_start_2 : List Event
-on_in_start_2 =
-    Enter 0 ∷ on_3 ∷ Deliver 0 ∷ Enter 3 ∷ retention 3 ∷ Deliver 1 ∷ Wake 3 ∷ Enter 3 ∷ []
+on_in_start_2 = third_on ++ retention 3 ∷ Deliver 1 ∷ Wake 3 ∷ Enter 3 ∷ []
 
 abbrev pub on_in_start_3 : List Event
-on_in_start_3 =
-    Enter 0 ∷ on_3 ∷ Deliver 0 ∷ Enter 3 ∷ retention 3 ∷ Deliver 1 ∷ Wake 3 ∷ Enter 3
-    ∷ retention 3 ∷ Deliver 2 ∷ Wake 3 ∷ Enter 3 ∷ []
+on_in_start_3 = on_in_start_2 ++ retention 3 ∷ Deliver 2 ∷ Wake 3 ∷ Enter 3 ∷ []
 
 abbrev pub on_in_start_4 : List Event
-on_in_start_4 =
-    Enter 0 ∷ on_3 ∷ Deliver 0 ∷ Enter 3 ∷ retention 3 ∷ Deliver 1 ∷ Wake 3 ∷ Enter 3
-    ∷ retention 3 ∷ Deliver 2 ∷ Wake 3 ∷ Enter 3 ∷ retention 3 ∷ Deliver 3 ∷ Wake 3 ∷ Enter 3 ∷ []
+on_in_start_4 = on_in_start_3 ++ retention 3 ∷ Deliver 3 ∷ Wake 3 ∷ Enter 3 ∷ []
 
--- it is on in a later life
+-- the boot core has entered in a later life, or has asked for OS-initiated mode
+abbrev pub life_2 : List Event
+life_2 = Enter 0 ∷ system_reset 0 ∷ Deliver 0 ∷ Enter 0 ∷ []
+
+abbrev pub life_3 : List Event
+life_3 =
+    Enter 0 ∷ system_reset 0 ∷ Deliver 0 ∷ Enter 0 ∷ system_reset 0 ∷ Deliver 1 ∷ Enter 0 ∷ []
+
+abbrev pub os_mode : List Event
+os_mode = Enter 0 ∷ call 0 0x8400000f 1 0 0 ∷ []
+
+-- core 3 is on then
 abbrev pub on_in_life_2 : List Event
-on_in_life_2 =
-    Enter 0 ∷ system_reset 0 ∷ Deliver 0 ∷ Enter 0 ∷ on_3 ∷ Deliver 1 ∷ Enter 3 ∷ []
+on_in_life_2 = life_2 ++ on_3 ∷ Deliver 1 ∷ Enter 3 ∷ []
 
 abbrev pub on_in_life_3 : List Event
-on_in_life_3 =
-    Enter 0 ∷ system_reset 0 ∷ Deliver 0 ∷ Enter 0 ∷ system_reset 0 ∷ Deliver 1 ∷ Enter 0 ∷ on_3
-    ∷ Deliver 2 ∷ Enter 3 ∷ []
+on_in_life_3 = life_3 ++ on_3 ∷ Deliver 2 ∷ Enter 3 ∷ []
 
--- it is on in OS-initiated mode
 abbrev pub on_os_initiated : List Event
-on_os_initiated = Enter 0 ∷ call 0 0x8400000f 1 0 0 ∷ on_3 ∷ Deliver 0 ∷ Enter 3 ∷ []
+on_os_initiated = os_mode ++ on_3 ∷ Deliver 0 ∷ Enter 3 ∷ []
 
--- in OS-initiated mode in life 3
 abbrev pub on_os_initiated_in_life_3 : List Event
 on_os_initiated_in_life_3 =
-    Enter 0 ∷ system_reset 0 ∷ Deliver 0 ∷ Enter 0 ∷ system_reset 0 ∷ Deliver 1 ∷ Enter 0
-    ∷ call 0 0x8400000f 1 0 0 ∷ on_3 ∷ Deliver 2 ∷ Enter 3 ∷ []
+    life_3 ++ call 0 0x8400000f 1 0 0 ∷ on_3 ∷ Deliver 2 ∷ Enter 3 ∷ []
 
 -- core 2 and core 3 are on, the cores of one cluster
 abbrev pub both_on : List Event
 both_on = Enter 0 ∷ on_2 ∷ on_3 ∷ Deliver 0 ∷ Deliver 1 ∷ Enter 2 ∷ Enter 3 ∷ []
+
+abbrev pub both_os_initiated : List Event
+both_os_initiated = os_mode ++ on_2 ∷ on_3 ∷ Deliver 0 ∷ Deliver 1 ∷ Enter 2 ∷ Enter 3 ∷ []
 
 -- on three levels: the last core is on
 abbrev pub on_in_group : List Event

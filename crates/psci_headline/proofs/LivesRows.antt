@@ -8,10 +8,10 @@ use Rattle.psci_world_spec.specs.declared.event.Event.{Event}
 use Rattle.psci_world_spec.specs.declared.event.Event.TheVariants.{Enter, Wake, Reset, Deliver}
 use Rattle.psci_world_spec.specs.declared.event.Event.TheVariants.{Take}
 use Rattle.psci_world_spec.proofs.Scripts.{acked, board, call, enters, goes_down, off, on_3, part}
-use Rattle.psci_world_spec.proofs.Scripts.{resumes, retention, system_reset, value, version}
-use Rattle.psci_headline.proofs.Histories.{Case, cases, extended, on_in_life_2, on_in_life_3}
-use Rattle.psci_headline.proofs.Histories.{on_in_start_2, on_in_start_3, on_in_start_4}
-use Rattle.psci_headline.proofs.Histories.{on_os_initiated, third_on}
+use Rattle.psci_world_spec.proofs.Scripts.{resumes, retention, value, version}
+use Rattle.psci_headline.proofs.Histories.{life_2, life_3, os_mode, Case, cases, extended}
+use Rattle.psci_headline.proofs.Histories.{on_in_life_2, on_in_life_3, on_in_start_2, on_in_start_3}
+use Rattle.psci_headline.proofs.Histories.{on_in_start_4, on_os_initiated, third_on}
 use Rattle.psci_headline.proofs.Checking.{◌⇒◌, AreSafe, Clause, Steps, each, Asked, Breaks}
 use Rattle.psci_headline.proofs.Checking.{failing_after, Legal, Once, One, Open, Powered}
 use Rattle.psci_headline.proofs.Checking.{PoweredDown, Real, Stopped, computing}
@@ -73,20 +73,18 @@ each_wrong_entry = refl
 
 entries : Gives failing_after
     -- off_core_runs_in_life_3: a core that was woken is answered before it has entered
-    (Breaks Stopped board (Legal (Enter 0 ∷ system_reset 0 ∷ Deliver 0 ∷ Enter 0 ∷ system_reset 0
-    ∷ Deliver 1 ∷ Enter 0 ∷ Wake 3 ∷ []) ∷ version 3 ⇒ value 65537 ∷ [])
+    (Breaks Stopped board (Legal (life_3 ++ Wake 3 ∷ []) ∷ version 3 ⇒ value 65537 ∷ [])
     -- os_initiated_off_core_runs: so is a core in OS-initiated mode
-    ∷ Breaks Stopped board (Legal (Enter 0 ∷ call 0 0x8400000f 1 0 0 ∷ Wake 3 ∷ []) ∷ version 3
-    ⇒ value 65537 ∷ [])
+    ∷ Breaks Stopped board (Legal (os_mode ++ Wake 3 ∷ []) ∷ version 3 ⇒ value 65537 ∷ [])
     -- other_context_in_life_2: a core enters with another context id
-    ∷ Breaks Open board (Legal (Enter 0 ∷ system_reset 0 ∷ Deliver 0 ∷ Enter 0 ∷ on_3 ∷ Deliver 1
-    ∷ []) ∷ Enter 3 ⇒ enters 0x40001000 8 ∷ [])
+    ∷ Breaks Open board (Legal (life_2 ++ on_3 ∷ Deliver 1 ∷ []) ∷ Enter 3 ⇒ enters 0x40001000 8
+    ∷ [])
     -- other_context_in_life_3: the same in life 3
-    ∷ Breaks Open board (Legal (Enter 0 ∷ system_reset 0 ∷ Deliver 0 ∷ Enter 0 ∷ system_reset 0
-    ∷ Deliver 1 ∷ Enter 0 ∷ on_3 ∷ Deliver 2 ∷ []) ∷ Enter 3 ⇒ enters 0x40001000 8 ∷ [])
+    ∷ Breaks Open board (Legal (life_3 ++ on_3 ∷ Deliver 2 ∷ []) ∷ Enter 3 ⇒ enters 0x40001000 8
+    ∷ [])
     -- os_initiated_other_context: and in OS-initiated mode
-    ∷ Breaks Open board (Legal (Enter 0 ∷ call 0 0x8400000f 1 0 0 ∷ on_3 ∷ Deliver 0 ∷ []) ∷ Enter 3
-    ⇒ enters 0x40001000 8 ∷ [])
+    ∷ Breaks Open board (Legal (os_mode ++ on_3 ∷ Deliver 0 ∷ []) ∷ Enter 3 ⇒ enters 0x40001000 8
+    ∷ [])
     -- The extended format -------------------------------------------------------------------
     -- extended_off_core_runs: a core that was woken is answered before it has entered
     ∷ Breaks Stopped extended (Legal (Enter 0 ∷ Wake 3 ∷ []) ∷ version 3 ⇒ value 65537 ∷ [])

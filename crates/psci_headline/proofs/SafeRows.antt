@@ -4,7 +4,8 @@ use Rattle.psci_world_spec.specs.declared.event.Event.TheVariants.{Enter, Wake, 
 use Rattle.psci_world_spec.specs.declared.event.Event.TheVariants.{Take}
 use Rattle.psci_world_spec.proofs.Scripts.{board, call, off, on_3, one_core, retention, status_3}
 use Rattle.psci_world_spec.proofs.Scripts.{system_off, system_reset, version}
-use Rattle.psci_headline.proofs.Histories.{both_on, on_2, on_in_start_2, on_os_initiated, third_on}
+use Rattle.psci_headline.proofs.Histories.{life_2, both_os_initiated, both_on, on_2, on_in_start_2}
+use Rattle.psci_headline.proofs.Histories.{on_os_initiated, third_on}
 use Rattle.psci_headline.proofs.Checking.{AreSafe, computing}
 
 runs : AreSafe board
@@ -58,8 +59,7 @@ runs : AreSafe board
     ∷ (Wake 3 ∷ Enter 3 ∷ status_3 ∷ Deliver 0 ∷ Enter 0 ∷ [])
     -- OS-initiated mode ---------------------------------------------------------------------
     -- os_initiated_cluster: each core asks for itself alone, and the last one for its cluster
-    ∷ (Enter 0 ∷ call 0 0x8400000f 1 0 0 ∷ on_2 ∷ on_3 ∷ Deliver 0
-    ∷ Deliver 1 ∷ Enter 2 ∷ Enter 3 ∷ call 2 0xc4000001 0x00010003 0x40003000 1
+    ∷ (both_os_initiated ++ call 2 0xc4000001 0x00010003 0x40003000 1
     ∷ call 3 0xc4000001 0x01010033 0x40004000 2 ∷ Deliver 2 ∷ Deliver 3 ∷ [])
     -- os_initiated_last_core: the last core in the system, after refusals
     ∷ (on_os_initiated ++ call 0 0xc4000001 0x02010333 0x40000100 0
@@ -73,8 +73,7 @@ runs : AreSafe board
     ∷ (third_on ++ retention 3 ∷ Wake 3 ∷ Enter 3 ∷ system_reset 0 ∷ Deliver 2 ∷ version 3
     ∷ Deliver 1 ∷ Enter 0 ∷ status_3 ∷ Take 1 ∷ [])
     -- boots_in_each_life: the boot core enters at the boot address in each of two lives
-    ∷ (Enter 0 ∷ system_reset 0 ∷ Deliver 0 ∷ Enter 0 ∷ Deliver 0 ∷ system_reset 0 ∷ Deliver 1
-    ∷ Enter 0 ∷ [])
+    ∷ (life_2 ++ Deliver 0 ∷ system_reset 0 ∷ Deliver 1 ∷ Enter 0 ∷ [])
     -- goes_off: the system goes off, while a core is OFF and another one runs
     ∷ (third_on ++ system_off 0 ∷ version 3 ∷ Wake 3 ∷ Enter 3 ∷ Deliver 1 ∷ Take 1 ∷ Wake 3 ∷ [])
     ∷ [])

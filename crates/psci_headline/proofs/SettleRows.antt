@@ -9,7 +9,7 @@ use Rattle.psci_headline.specs.Drained.{deliveries}
 use Rattle.psci_headline.specs.Settling.{is_halting, settled}
 use Rattle.psci_headline.proofs.world_spec.Scripts.{board, call, off, on_3, one_core, system_off}
 use Rattle.psci_headline.proofs.world_spec.Scripts.{system_reset, tall}
-use Rattle.psci_headline.proofs.Histories.{after, on_2, on_in_life_2, third_on}
+use Rattle.psci_headline.proofs.Histories.{both_os_initiated, after, on_in_life_2, third_on}
 use Rattle.psci_headline.proofs.Untold.{computing}
 
 -- Which events happen ----------------------------------------------------------------------------
@@ -63,8 +63,7 @@ settles : Gives (settling board)
     ∷ Settle (third_on ++ off 3 ∷ Deliver 1 ∷ Take 1 ∷ on_3 ∷ []) (Deliver 2 ∷ Take 2 ∷ Enter 3
     ∷ []) 0
     -- os_initiated: OS-initiated mode: core 3 is suspended alone, and core 2 with their cluster
-    ∷ Settle (Enter 0 ∷ call 0 0x8400000f 1 0 0 ∷ on_2 ∷ on_3 ∷ Deliver 0 ∷ Deliver 1 ∷ Enter 2
-    ∷ Enter 3 ∷ call 3 0xc4000001 0x00010003 0x40003000 1
+    ∷ Settle (both_os_initiated ++ call 3 0xc4000001 0x00010003 0x40003000 1
     ∷ call 2 0xc4000001 0x01010033 0x40004000 2 ∷ [])
     (Deliver 3 ∷ Take 2 ∷ Deliver 2 ∷ Take 3 ∷ Deliver 3 ∷ Take 4 ∷ []) 2
     -- second_life: a core of the first life is forgotten, and its Down is not served

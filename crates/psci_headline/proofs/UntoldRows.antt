@@ -9,9 +9,9 @@ use Rattle.psci_headline.specs.psci_messages.declared.kind.Kind.TheVariants.{Dow
 use Rattle.psci_headline.specs.psci_world_spec.declared.event.Event.TheVariants.{Deliver, Enter}
 use Rattle.psci_headline.specs.psci_world_spec.declared.event.Event.TheVariants.{Reset, Take, Wake}
 use Rattle.psci_headline.proofs.world_spec.Scripts.{acked, board, call, off, retention, system_off}
-use Rattle.psci_headline.proofs.world_spec.Scripts.{system_reset, tall, value, version}
-use Rattle.psci_headline.proofs.Histories.{Case, cases, standby, extended, on_in_group}
-use Rattle.psci_headline.proofs.Histories.{on_os_initiated, third_on}
+use Rattle.psci_headline.proofs.world_spec.Scripts.{tall, value, version}
+use Rattle.psci_headline.proofs.Histories.{life_2, life_3, Case, cases, standby, extended}
+use Rattle.psci_headline.proofs.Histories.{on_in_group, on_os_initiated, third_on}
 use Rattle.psci_headline.proofs.Checking.{◌⇒◌, Breaks, Legal, Steps, each}
 use Rattle.psci_headline.proofs.Untold.{Clause, Hw, IsAway, IsOff, computing, untold_after}
 
@@ -20,11 +20,9 @@ records : Gives untold_after
     -- core_in_standby: core 3 is in standby, and its acknowledgement was not taken
     (Breaks (Hw 0 3) board (Legal (third_on ++ standby 3 ∷ Deliver 1 ∷ []) ∷ [])
     -- boot_core_in_life_2: the same of the boot core in retention, in life 2
-    ∷ Breaks (Hw 0 0) board (Legal (Enter 0 ∷ system_reset 0 ∷ Deliver 0 ∷ Enter 0 ∷ retention 0
-    ∷ Deliver 1 ∷ []) ∷ [])
+    ∷ Breaks (Hw 0 0) board (Legal (life_2 ++ retention 0 ∷ Deliver 1 ∷ []) ∷ [])
     -- boot_core_in_life_3: and in life 3
-    ∷ Breaks (Hw 0 0) board (Legal (Enter 0 ∷ system_reset 0 ∷ Deliver 0 ∷ Enter 0 ∷ system_reset 0
-    ∷ Deliver 1 ∷ Enter 0 ∷ retention 0 ∷ Deliver 2 ∷ []) ∷ [])
+    ∷ Breaks (Hw 0 0) board (Legal (life_3 ++ retention 0 ∷ Deliver 2 ∷ []) ∷ [])
     -- second_start_os_initiated: and of core 3, powered down by a suspend in its second start, in
     -- OS-initiated mode
     ∷ Breaks (Hw 0 3) board (Legal (on_os_initiated ++ retention 3 ∷ Deliver 1 ∷ Wake 3 ∷ Enter 3
@@ -60,8 +58,8 @@ records : Gives untold_after
     ∷ Reset 3 ∷ Enter 3 ∷ []) ∷ [])
     -- The extended format -------------------------------------------------------------------
     -- going_off_in_life_2: core 1 goes off in life 2, and nothing was delivered
-    ∷ Breaks (IsOff 1) extended (Legal (Enter 0 ∷ system_reset 0 ∷ Deliver 0 ∷ Enter 0
-    ∷ call 0 0xc4000003 0x1 0x40001000 7 ∷ Deliver 1 ∷ Enter 1 ∷ off 1 ∷ []) ∷ [])
+    ∷ Breaks (IsOff 1) extended (Legal (life_2 ++ call 0 0xc4000003 0x1 0x40001000 7 ∷ Deliver 1
+    ∷ Enter 1 ∷ off 1 ∷ []) ∷ [])
     -- core_down_extended: core 3 is powered down by a suspend, and its acknowledgement was not
     -- taken
     ∷ Breaks (Hw 0 3) extended (Legal (third_on ++ call 3 0xc4000001 0x40000003 0x40004000 5

@@ -9,9 +9,10 @@ use Rattle.psci_headline.specs.psci_world_spec.declared.event.Event.TheVariants.
 use Rattle.psci_headline.specs.psci_world_spec.declared.event.Event.TheVariants.{Deliver, Reset}
 use Rattle.psci_headline.specs.psci_world_spec.declared.event.Event.TheVariants.{Take}
 use Rattle.psci_headline.proofs.world_spec.Scripts.{board, call, off, on_3, one_core, retention}
-use Rattle.psci_headline.proofs.world_spec.Scripts.{system_reset, tall}
-use Rattle.psci_headline.proofs.Histories.{Case, cases, both_on, on_2, standby, extended}
-use Rattle.psci_headline.proofs.Histories.{on_in_group, on_in_life_3, on_os_initiated, third_on}
+use Rattle.psci_headline.proofs.world_spec.Scripts.{tall}
+use Rattle.psci_headline.proofs.Histories.{life_2, os_mode, both_os_initiated, Case, cases, both_on}
+use Rattle.psci_headline.proofs.Histories.{standby, extended, on_in_group, on_in_life_3}
+use Rattle.psci_headline.proofs.Histories.{on_os_initiated, third_on}
 use Rattle.psci_headline.proofs.Checking.{Holds, each}
 use Rattle.psci_headline.proofs.Untold.{Clause, computing, untold_once_settled}
 
@@ -57,8 +58,7 @@ worlds : Gives untold_once_settled
     ∷ Holds board (third_on ++ off 3 ∷ Wake 2 ∷ Deliver 1 ∷ Take 1 ∷ [])
     -- OS-initiated mode -------------------------------------------------------------------------
     -- os_initiated_cluster: the last one of two cores takes their cluster down
-    ∷ Holds board (Enter 0 ∷ call 0 0x8400000f 1 0 0 ∷ on_2 ∷ on_3 ∷ Deliver 0 ∷ Deliver 1 ∷ Enter 2
-    ∷ Enter 3 ∷ call 3 0xc4000001 0x00010003 0x40003000 1
+    ∷ Holds board (both_os_initiated ++ call 3 0xc4000001 0x00010003 0x40003000 1
     ∷ call 2 0xc4000001 0x01010033 0x40004000 2 ∷ [])
     -- A board of one core ------------------------------------------------------------------
     -- standby: it is in standby
@@ -79,14 +79,12 @@ worlds : Gives untold_once_settled
     -- system_off: the system off
     ∷ Holds tall (Enter 0 ∷ call 0 0xc4000001 0x03013333 0x40000100 0 ∷ [])
     -- system_in_standby: the system in standby, in life 2
-    ∷ Holds tall (Enter 0 ∷ system_reset 0 ∷ Deliver 0 ∷ Enter 0 ∷ call 0 0xc4000001 0x03001111 0 0
-    ∷ [])
+    ∷ Holds tall (life_2 ++ call 0 0xc4000001 0x03001111 0 0 ∷ [])
     -- os_initiated_system: OS-initiated mode: the last core takes the system to retention
-    ∷ Holds tall (Enter 0 ∷ call 0 0x8400000f 1 0 0 ∷ call 0 0xc4000001 0x03002222 0 0 ∷ [])
+    ∷ Holds tall (os_mode ++ call 0 0xc4000001 0x03002222 0 0 ∷ [])
     -- group_in_retention_os_initiated: the last core takes the group to retention, in life 2
-    ∷ Holds tall (Enter 0 ∷ system_reset 0 ∷ Deliver 0 ∷ Enter 0 ∷ call 0 0x8400000f 1 0 0
-    ∷ call 0 0xc4000003 0x10100 0x40001000 7 ∷ Deliver 1 ∷ Enter 3
-    ∷ call 3 0xc4000001 0x02000222 0 0 ∷ [])
+    ∷ Holds tall (life_2 ++ call 0 0x8400000f 1 0 0 ∷ call 0 0xc4000003 0x10100 0x40001000 7
+    ∷ Deliver 1 ∷ Enter 3 ∷ call 3 0xc4000001 0x02000222 0 0 ∷ [])
     -- The extended format -------------------------------------------------------------------
     -- extended: core 3 takes its cluster down
     ∷ Holds extended (third_on ++ call 3 0xc4000001 0x40000033 0x40004000 5 ∷ [])

@@ -3,7 +3,7 @@ use Rattle.std.proofs.Common.{true, false, [], ◌∷◌, refl}
 use Rattle.psci_board.proofs.Tables.{◌⇒◌, Gives}
 use Rattle.psci_platform.specs.Arguments.{is_same}
 
--- PSCI_VERSION and MIGRATE_INFO_TYPE; not CPU_SUSPEND, CPU_OFF and PSCI_FEATURES, nor a word of 64 bits
+-- PSCI_VERSION and MIGRATE_INFO_TYPE; not CPU_SUSPEND, CPU_OFF, PSCI_FEATURES or a word of 64 bits
 same_words : Gives is_same
     (0x84000000 ⇒ true
     ∷ 0x84000006 ⇒ true
