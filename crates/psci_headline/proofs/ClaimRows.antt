@@ -10,9 +10,10 @@ use Rattle.psci_world_spec.specs.Legal.{run_from}
 use Rattle.psci_world_spec.proofs.Scripts.{acked, goes_down, board, call, off, on_3, part}
 use Rattle.psci_world_spec.proofs.Scripts.{retention, system_off, system_reset}
 use Rattle.psci_headline.specs.Claims.{Claim, claims, live_claims}
-use Rattle.psci_headline.proofs.Histories.{both_os_initiated, at, both_on, on_os_initiated}
-use Rattle.psci_headline.proofs.Histories.{third_on}
-use Rattle.psci_headline.proofs.Checking.{◌⇒◌, failing_after, Asked, Breaks, Legal, One, computing}
+use Rattle.psci_headline.proofs.Histories.{both_os_initiated, at, both_on, on_os_initiated, on_2}
+use Rattle.psci_headline.proofs.Histories.{standby, third_on}
+use Rattle.psci_headline.proofs.Checking.{◌⇒◌, Asked, BreakAll, Breaks, Legal, One, Powered}
+use Rattle.psci_headline.proofs.Checking.{computing, failing_after}
 
 -- Claims --------------------------------------------------------------------------------------
 
@@ -81,6 +82,9 @@ moments : Gives failing_after
     -- two_last_cores_of_the_system: two cores go off as the last ones of the system
     ∷ Breaks One board (Legal third_on ∷ off 3 ⇒ goes_down 1 3 1 1 (part 0 3 1 ∷ part 1 3 1
     ∷ part 2 3 2 ∷ []) ∷ Legal (off 0 ∷ []) ∷ [])
+    -- standby_twice: of a core that asked for standby of itself twice in one start
+    ∷ Breaks One board (Legal third_on ∷ Legal (standby 3 ∷ []) ∷ standby 3
+    ⇒ goes_down 2 3 1 1 (part 0 1 1 ∷ []) ∷ [])
     -- No claim of this depth ----------------------------------------------------------------
     -- stale_down_applied: a Down of the start before is applied, where that of the last start says
     -- another depth
@@ -113,6 +117,21 @@ moments : Gives failing_after
     ∷ Breaks Asked board (Legal (both_os_initiated ++ retention 2 ∷ Deliver 2 ∷ [])
     ∷ call 3 0xc4000001 0x01010033 0x40004000 2 ⇒ goes_down 3 3 1 1 (part 0 3 1 ∷ part 1 3 2 ∷ [])
     ∷ Deliver 3 ⇒ acked 3 Down 3 1 1 2 false ∷ [])
+    -- beside_a_pending_core: a core beside is pending, and the cluster is powered down
+    ∷ Breaks Asked board (Legal third_on ∷ Legal (on_2 ∷ []) ∷ off 3 ⇒ goes_down 2 3 1 1 (part 0 3 1
+    ∷ part 1 3 1 ∷ []) ∷ Legal (Deliver 2 ∷ []) ∷ [])
+    -- beside_a_running_core: a core beside runs
+    ∷ BreakAll (Powered ∷ Asked ∷ []) board (Legal both_on ∷ off 3 ⇒ goes_down 2 3 1 1 (part 0 3 1
+    ∷ part 1 3 2 ∷ []) ∷ Deliver 2 ⇒ acked 2 Down 3 1 1 2 false ∷ [])
+    -- cluster_in_standby: a core beside is in standby, and asked nothing of the cluster, which goes
+    -- to standby
+    ∷ Breaks Asked board (Legal both_on ∷ Legal (standby 2 ∷ []) ∷ off 3
+    ⇒ goes_down 3 3 1 1 (part 0 3 1 ∷ part 1 1 2 ∷ []) ∷ Legal (Deliver 2 ∷ Deliver 3 ∷ []) ∷ [])
+    -- depth_between: one core asks for standby of the cluster, and the other one for power-down: it
+    -- goes to retention
+    ∷ Breaks Asked board (Legal both_on ∷ Legal (call 2 0xc4000001 0x01000011 0 0 ∷ Deliver 2 ∷ [])
+    ∷ off 3 ⇒ goes_down 3 3 1 1 (part 0 3 1 ∷ part 1 2 2 ∷ []) ∷ Deliver 3
+    ⇒ acked 1 Down 3 1 1 2 false ∷ [])
     ∷ [])
 unfolding computing
 moments = refl

@@ -3,9 +3,9 @@ use Rattle.std.proofs.Common.{◌++◌, [], ◌∷◌, false, refl}
 use Rattle.psci_board.proofs.Tables.{Gives}
 use Rattle.psci_fw_laws.specs.psci_messages.declared.kind.Kind.TheVariants.{Down}
 use Rattle.psci_world_spec.specs.declared.event.Event.TheVariants.{Enter, Wake, Deliver, Take}
-use Rattle.psci_world_spec.proofs.Scripts.{acked, goes_down, board, off, on_3, one_core, part}
+use Rattle.psci_world_spec.proofs.Scripts.{acked, call, goes_down, board, off, on_3, one_core, part}
 use Rattle.psci_world_spec.proofs.Scripts.{retention, system_reset, used}
-use Rattle.psci_headline.proofs.Histories.{on_in_start_2, third_on}
+use Rattle.psci_headline.proofs.Histories.{both_on, on_in_start_2, third_on}
 use Rattle.psci_headline.proofs.Checking.{◌⇒◌, failing_after, AreSafe, BreakAll, Breaks, Legal, One}
 use Rattle.psci_headline.proofs.Checking.{Real, computing}
 
@@ -31,6 +31,11 @@ moments : Gives failing_after
     ∷ BreakAll (One ∷ Real ∷ []) board (Legal (third_on ++ off 3 ∷ Deliver 1 ∷ []) ∷ retention 3
     ⇒ goes_down 2 3 1 1 (part 0 2 1 ∷ []) ∷ Deliver 9 ⇒ acked 2 Down 3 1 1 1 false ∷ Take 2 ⇒ used
     ∷ [])
+    -- cluster_of_two_acknowledged_only: a cluster of two cores is said to be in standby, and the
+    -- two alone are
+    ∷ Breaks Real board (Legal (both_on ++ call 2 0xc4000001 0x01000022 0 0 ∷ Deliver 2
+    ∷ call 3 0xc4000001 0x01000022 0 0 ∷ []) ∷ Deliver 3 ⇒ acked 3 Down 3 1 1 1 false ∷ Deliver 99
+    ⇒ acked 4 Down 3 1 1 2 false ∷ Legal (Take 4 ∷ []) ∷ [])
     -- One core ------------------------------------------------------------------------------
     -- in_another_life: the boot core was in retention in the life before, by as many starts, and
     -- not in this one

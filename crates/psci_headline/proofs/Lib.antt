@@ -9,7 +9,6 @@ pub mod Apart
 pub mod Applied
 pub mod AppliedParts
 pub mod Asking
-mod AxisRows
 mod Checking
 mod ClaimRows
 pub mod Claiming

@@ -7,7 +7,7 @@ use Rattle.psci_world_spec.specs.declared.event.Event.TheVariants.{Enter, Wake, 
 use Rattle.psci_world_spec.specs.declared.event.Event.TheVariants.{Take}
 use Rattle.psci_world_spec.proofs.Scripts.{acked, goes_down, value, board, call, nothing, off, part}
 use Rattle.psci_world_spec.proofs.Scripts.{resumes, retention, stops, system_reset, used, version}
-use Rattle.psci_headline.proofs.Histories.{third_on}
+use Rattle.psci_headline.proofs.Histories.{life_2, standby, third_on}
 use Rattle.psci_headline.proofs.Checking.{◌⇒◌, failing_after, BreakAll, Breaks, Legal, Powered}
 use Rattle.psci_headline.proofs.Checking.{PoweredDown, Real, Stopped, WasUnsafe, computing}
 
@@ -24,6 +24,12 @@ moments : Gives failing_after
     ∷ Breaks Powered board (Legal (Enter 0 ∷ []) ∷ off 0 ⇒ goes_down 0 0 1 1 (part 0 0 1
     ∷ part 1 0 1 ∷ part 2 3 1 ∷ []) ∷ Deliver 0 ⇒ acked 0 Down 0 1 1 3 false ∷ Enter 0 ⇒ resumes
     ∷ [])
+    -- runs_in_standby: a core resumes without a start: it is in standby, its cluster is on
+    ∷ Breaks Powered board (Legal third_on ∷ Legal (standby 3 ∷ Deliver 1 ∷ []) ∷ Enter 3 ⇒ resumes
+    ∷ [])
+    -- started_in_retention: its cluster alone is in retention, and the core waits at its start
+    ∷ Breaks Powered board (Legal third_on ∷ off 3 ⇒ goes_down 1 3 1 1 (part 0 0 2 ∷ part 1 2 2
+    ∷ []) ∷ Legal (Wake 3 ∷ []) ∷ Deliver 1 ⇒ acked 1 Down 3 1 1 2 false ∷ [])
     -- Reported OFF --------------------------------------------------------------------------
     -- off_core_runs: a core that was woken is answered before it has entered
     ∷ Breaks Stopped board (Legal (Enter 0 ∷ Wake 3 ∷ []) ∷ version 3 ⇒ value 65537 ∷ [])
@@ -47,6 +53,11 @@ moments : Gives failing_after
     -- function_resumes: a function tells a core to go on that was woken while it is OFF
     ∷ Breaks PoweredDown board (Legal (Enter 0 ∷ Wake 3 ∷ []) ∷ version 3 ⇒ resumes ∷ version 3
     ⇒ stops nothing ∷ [])
+    -- off_core_runs_again: a core that was woken is answered before it has entered, in life 2
+    ∷ Breaks Stopped board (Legal (life_2 ++ Wake 1 ∷ []) ∷ version 1 ⇒ value 65537 ∷ [])
+    -- off_in_standby: a core that goes off is put in standby, and is OFF once that was acknowledged
+    ∷ Breaks PoweredDown board (Legal third_on ∷ off 3 ⇒ goes_down 1 3 1 1 (part 0 1 1 ∷ [])
+    ∷ Legal (Deliver 1 ∷ Take 1 ∷ []) ∷ [])
     ∷ [])
 unfolding computing
 moments = refl
