@@ -82,7 +82,7 @@ moments : Gives failing_after
     -- two_last_cores_of_the_system: two cores go off as the last ones of the system
     ∷ Breaks One board (Legal third_on ∷ off 3 ⇒ goes_down 1 3 1 1 (part 0 3 1 ∷ part 1 3 1
     ∷ part 2 3 2 ∷ []) ∷ Legal (off 0 ∷ []) ∷ [])
-    -- standby_twice: of a core that asked for standby of itself twice in one start
+    -- standby_twice: a core asks for standby of itself twice in one start
     ∷ Breaks One board (Legal third_on ∷ Legal (standby 3 ∷ []) ∷ standby 3
     ⇒ goes_down 2 3 1 1 (part 0 1 1 ∷ []) ∷ [])
     -- No claim of this depth ----------------------------------------------------------------
@@ -120,7 +120,7 @@ moments : Gives failing_after
     -- beside_a_pending_core: a core beside is pending, and the cluster is powered down
     ∷ Breaks Asked board (Legal third_on ∷ Legal (on_2 ∷ []) ∷ off 3 ⇒ goes_down 2 3 1 1 (part 0 3 1
     ∷ part 1 3 1 ∷ []) ∷ Legal (Deliver 2 ∷ []) ∷ [])
-    -- beside_a_running_core: a core beside runs
+    -- beside_a_running_core: a core beside runs, and executes below its cluster then
     ∷ BreakAll (Powered ∷ Asked ∷ []) board (Legal both_on ∷ off 3 ⇒ goes_down 2 3 1 1 (part 0 3 1
     ∷ part 1 3 2 ∷ []) ∷ Deliver 2 ⇒ acked 2 Down 3 1 1 2 false ∷ [])
     -- cluster_in_standby: a core beside is in standby, and asked nothing of the cluster, which goes
