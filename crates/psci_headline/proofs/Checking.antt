@@ -1,6 +1,7 @@
 -- Worked examples are stated so: a run that is safe at every moment, and a moment at which just one
 -- thing is not as it shall be.
-use Rattle.std.proofs.Common.{◌≡◌, ◌++◌, Bool, true, false, ◌&&◌, List, [], ◌∷◌, refl}
+use Rattle.std.proofs.Common.{◌≡◌, ◌++◌, Bool, true, false, ◌&&◌, List, [], ◌∷◌, map, refl}
+use Rattle.psci_board.proofs.Tables.{Row}
 use Rattle.psci_fw_laws.specs.psci_board.Board.{BoardValue}
 use Rattle.psci_world_spec.specs.declared.event.Event.{Event}
 use Rattle.psci_world_spec.specs.declared.said.Record.{Record}
@@ -22,9 +23,27 @@ computing = tt
 
 -- Safe runs -----------------------------------------------------------------------------------
 
--- the world is safe before and after each of these events
-abbrev pub IsSafeRun : BoardValue → List Event → Type 0
-IsSafeRun b events = is_always_safe b (run_from b [] events) ≡ true
+-- the world is safe before and after each event of each of these runs
+abbrev pub AreSafe : BoardValue → List (List Event) → Type 0
+AreSafe b runs =
+    map (λ events. is_always_safe b (run_from b [] events)) runs ≡ map (λ events. true) runs
+
+-- Tables of what fails ------------------------------------------------------------------------
+
+-- On a board nothing fails in a row of a table, or just this, or just these.
+abbrev pub Holds : {A K : Type 0} → BoardValue → A → Row (BoardValue × A) (List K)
+Holds b x = record { given = (b, x); comes = [] }
+
+abbrev pub Breaks : {A K : Type 0} → K → BoardValue → A → Row (BoardValue × A) (List K)
+Breaks k b x = record { given = (b, x); comes = k ∷ [] }
+
+abbrev pub BreakAll : {A K : Type 0} → List K → BoardValue → A → Row (BoardValue × A) (List K)
+BreakAll ks b x = record { given = (b, x); comes = ks }
+
+-- what each of these has, as the rows of each of some cases
+abbrev pub each : {A B : Type 0} → (A → List B) → List A → List B
+each of [] = []
+each of (x ∷ xs) = of x ++ each of xs
 
 -- Unsafe moments ------------------------------------------------------------------------------
 
@@ -69,9 +88,8 @@ failing b past =
     ++ (if_fails (is_each_once b past) Once
     ++ if_fails (is_each_real b past) Real))))))
 
--- after these steps just these fail
-abbrev pub BreakAll : BoardValue → List Clause → List Steps → Type 0
-BreakAll b ks steps = failing b (past_from b [] steps) ≡ ks
+abbrev pub failing_after : (BoardValue × List Steps) → List Clause
+failing_after (b, steps) = failing b (past_from b [] steps)
 
 -- where something fails the world is not safe
 unsafe_where : (a b c d e f g h : Bool) (k : Clause) (ks : List Clause)
@@ -95,10 +113,6 @@ broken b past k ks =
     unsafe_where (is_powered b past) (is_off_stopped b past) (is_off_down b past) (is_one b past)
     (is_asked b past) (is_each_open b past) (is_each_once b past)
     (is_each_real b past) k ks
-
--- after these steps just this one fails
-abbrev pub Breaks : BoardValue → Clause → List Steps → Type 0
-Breaks b k steps = BreakAll b (k ∷ []) steps
 
 -- after these steps the world is safe, but it was not at each moment before
 abbrev pub WasUnsafe : BoardValue → List Steps → Type 0

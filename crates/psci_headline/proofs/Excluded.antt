@@ -1,6 +1,6 @@
 -- What fails by computing is excluded: no such world is at rest, has settled, or is told as it is.
-use Rattle.std.proofs.Common.{◌≡◌, ◌++◌, ◌≤◌, ◌<◌, ◌+◌, ℕ, zero, suc, Bool, true, false, ◌==◌}
-use Rattle.std.proofs.Common.{◌||◌, not, List, [], ◌∷◌, length, filter, Option, None, Some, is_some}
+use Rattle.std.proofs.Common.{◌≡◌, ◌++◌, ◌≤◌, ◌<◌, ◌+◌, ℕ, zero, suc, Bool, true, false, ◌==◌, ◌||◌}
+use Rattle.std.proofs.Common.{not, List, [], ◌∷◌, length, filter, Option, None, Some, is_some}
 use Rattle.std.proofs.Common.{nat_le, refl, sym, ap, ◌∙◌, arith, inl, inr}
 use Rattle.std.specs.List.{list_all, list_any, range_with_len}
 use Rattle.std.proofs.lemmas.Bool.{cases_Bool, cases_eq, eq-eqb, le-leb, or_left, or_right}
@@ -17,22 +17,21 @@ use Rattle.psci_headline.specs.psci_fw_spec.SystemCalls.{is_off_status}
 use Rattle.psci_headline.specs.psci_world_spec.declared.place.Place.{Place}
 use Rattle.psci_headline.specs.psci_world_spec.declared.place.Place.TheVariants as places
 use Rattle.psci_headline.specs.psci_world_spec.declared.said.Record.{Record}
-use Rattle.psci_headline.specs.psci_world_spec.Histories.{controller_values, firmware_values}
-use Rattle.psci_headline.specs.psci_world_spec.Histories.{sent}
+use Rattle.psci_headline.specs.psci_world_spec.Histories.{controller_values, firmware_values, sent}
 use Rattle.psci_headline.specs.psci_world_spec.Lists.{indexed}
 use Rattle.psci_headline.specs.psci_world_spec.Places.{place}
 use Rattle.psci_headline.specs.Complete.{IsToldWhole}
 use Rattle.psci_headline.specs.Drained.{AreAtRest, IsSettled, deliveries}
 use Rattle.psci_headline.specs.Settling.{is_started}
 use Rattle.psci_headline.proofs.CoreSteps.{phase_away}
-use Rattle.psci_headline.proofs.Checking.{if_fails}
-use Rattle.psci_headline.proofs.Failing.{Clause, IsUnrest, IsUnsettled, Saying, downs, each}
-use Rattle.psci_headline.proofs.Failing.{failing, if_some, is_agreed, is_down}
+use Rattle.psci_headline.proofs.Checking.{each, if_fails}
+use Rattle.psci_headline.proofs.Failing.{Clause, Saying, downs, unsettled, failing, if_some}
+use Rattle.psci_headline.proofs.Failing.{is_agreed, is_down}
 use Rattle.psci_headline.proofs.Finding.{indexed_at}
 use Rattle.psci_headline.proofs.Slept.{status_off}
 use Rattle.psci_headline.proofs.Taking.{same_kind}
 use Rattle.psci_headline.proofs.Untold as untold
-use Rattle.psci_headline.proofs.Untold.{IsUntold, follows, is_gone, is_off, is_told_hw}
+use Rattle.psci_headline.proofs.Untold.{follows, is_gone, is_off, is_told_hw}
 
 -- Lists -----------------------------------------------------------------------------------------
 
@@ -66,8 +65,8 @@ no_domain b test clause all =
 pub both_none : {A : Type 0} → (xs ys : List A) → xs ≡ [] → ys ≡ [] → xs ++ ys ≡ []
 both_none xs ys x y = ap (λ l. l ++ ys) x ∙ y
 
-pub one_none : {A : Type 0} → (xs : List A) (k : A) → xs ≡ k ∷ [] → xs ≡ [] → ⊥
-one_none xs k one none = let no : [] ≡ k ∷ [] = sym none ∙ one in absurd (cc)
+some_none : {A : Type 0} → (xs ks : List A) (k : A) → xs ≡ k ∷ ks → xs ≡ [] → ⊥
+some_none xs ks k some none = let no : [] ≡ k ∷ ks = sym none ∙ some in absurd (cc)
 
 -- At rest ---------------------------------------------------------------------------------------
 
@@ -90,11 +89,11 @@ none_fails b past own system entered agree =
     (both_none _ _ (none_in _ _ (cores b) (λ c on. not_started (place b past c) (entered c on)))
     (no_domain b (is_agreed b past) _ (λ n has. eq-eqb _ _ (agree n has)))))
 
--- so where just one thing fails the world is not at rest
-pub not_at_rest : (b : BoardValue) (past : List Record) (k : Clause) → IsUnrest b past k
-    → AreAtRest b past → ⊥
-not_at_rest b past k u r =
-    one_none _ k u.only (none_fails b past r.own r.system r.entered r.agree)
+-- so where something fails the world is not at rest
+pub not_at_rest : (b : BoardValue) (past : List Record) (k : Clause) (ks : List Clause)
+    → failing b past ≡ k ∷ ks → AreAtRest b past → ⊥
+not_at_rest b past k ks some r =
+    some_none _ ks k some (none_fails b past r.own r.system r.entered r.agree)
 
 -- Settled ---------------------------------------------------------------------------------------
 
@@ -123,10 +122,11 @@ kept_one p test a (suc count) k low high kept pass = elim (cases_eq a k) [
       ]
 ]
 
--- where just one thing fails the world has not settled
+-- where something fails the world has not settled
 pub not_settled : (b : BoardValue) (before added : List Record) (rounds : ℕ) (s : Saying)
-    → IsUnsettled b before added rounds s → IsSettled b before added rounds → ⊥
-not_settled b before added rounds s u r =
+    (ss : List Saying) → unsettled b before added rounds ≡ s ∷ ss
+    → IsSettled b before added rounds → ⊥
+not_settled b before added rounds s ss fail r =
     let past : List Record = added ++ before in
     let tests : ℕ → Bool = λ k. is_down (indexed (sent past) k) in
     let most : list_all (λ k. nat_le (deliveries k added) rounds) (downs past) ≡ true =
@@ -143,7 +143,7 @@ not_settled b before added rounds s u r =
           (omega (arith, (indexed_at (sent past) d.number d.message d.at).0))
           (ap is_down d.at ∙ ap (λ k. is_kind k Down) d.kind) (eq-eqb _ _ d.times))
     ] in
-    one_none _ s u.only
+    some_none _ ss s fail
     (both_none _ _ (passed _ _ (list_all-from_AllPass _ added r.events))
     (both_none _ _ (ap if_some (none_fails b past r.rest.own r.rest.system r.rest.entered
     r.rest.agree)) (both_none _ _ (passed _ _ (le-leb _ _ r.few))
@@ -155,12 +155,12 @@ follows_from : (s t : Bool) → (s ≡ true → t ≡ true) → follows s t ≡ 
 follows_from true t then = then refl
 follows_from false t then = refl
 
--- where just one thing fails not all is told
-pub not_told : (b : BoardValue) (past : List Record) (k : untold.Clause) → IsUntold b past k
-    → IsToldWhole b past → ⊥
-not_told b past k u w =
+-- where something fails not all is told
+pub not_told : (b : BoardValue) (past : List Record) (k : untold.Clause) (ks : List untold.Clause)
+    → untold.failing b past ≡ k ∷ ks → IsToldWhole b past → ⊥
+not_told b past k ks some w =
     let v = firmware_values b past in
-    one_none _ k u.only
+    some_none _ ks k some
     (both_none _ _ (no_domain b (is_told_hw b past) _
     (λ n has. eq-eqb _ _ (ap hw_code (w.hw n has))))
     (both_none _ _ (none_in _ _ (cores b) (λ c on. follows_from (is_gone b past c) _

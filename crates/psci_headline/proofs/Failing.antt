@@ -1,7 +1,7 @@
--- Worked examples are stated so: records after which just one thing is not as it is at rest, or as
--- it is once the world has settled.
-use Rattle.std.specs.Prelude.{◌≡◌, ◌++◌, ℕ, ◌+◌, Bool, false, ◌==◌, ◌||◌, not, nat_le, List}
-use Rattle.std.specs.Prelude.{[], ◌∷◌, length, filter, take, Option, None, Some, is_some}
+-- Worked examples are stated so: what is not as it is at rest, or as it is once the world has
+-- settled. Where something is not, `not_at_rest` and `not_settled` exclude it.
+use Rattle.std.specs.Prelude.{◌++◌, ℕ, ◌+◌, Bool, false, ◌==◌, ◌||◌, not, nat_le, List, [], ◌∷◌}
+use Rattle.std.specs.Prelude.{length, filter, take, Option, None, Some, is_some}
 use Rattle.std.specs.List.{list_all, list_any, range_with_len}
 use Rattle.psci_board.specs.Board.{BoardValue, cores, height, nodes}
 use Rattle.psci_ctl_spec.specs.psci_messages.declared.kind.Kind.TheVariants.{Down}
@@ -9,14 +9,13 @@ use Rattle.psci_ctl_spec.specs.psci_messages.Message.{MessageValue}
 use Rattle.psci_ctl_spec.specs.psci_messages.Slots.{OfCore, OfSystem, is_kind}
 use Rattle.psci_headline.specs.psci_world_spec.declared.event.Event.{Event}
 use Rattle.psci_headline.specs.psci_world_spec.declared.said.Record.{Record}
-use Rattle.psci_headline.specs.psci_world_spec.Histories.{controller_values, firmware_values}
-use Rattle.psci_headline.specs.psci_world_spec.Histories.{sent}
+use Rattle.psci_headline.specs.psci_world_spec.Histories.{controller_values, firmware_values, sent}
 use Rattle.psci_headline.specs.psci_world_spec.Legal.{run_from}
 use Rattle.psci_headline.specs.psci_world_spec.Lists.{indexed}
 use Rattle.psci_headline.specs.psci_world_spec.Places.{place}
 use Rattle.psci_headline.specs.Drained.{deliveries, is_settling}
 use Rattle.psci_headline.specs.Settling.{is_started}
-use Rattle.psci_headline.proofs.Checking.{if_fails}
+use Rattle.psci_headline.proofs.Checking.{Steps, each, if_fails, past_from}
 
 -- At rest -------------------------------------------------------------------------------------
 
@@ -29,11 +28,6 @@ pub data Clause : Type 0 where
   Entered : (core : ℕ) → Clause
   -- a domain is as deep as it was granted
   Agree : (level place : ℕ) → Clause
-
--- what fails at some of these, which are numbered
-abbrev pub each : {A : Type 0} → (ℕ → List A) → List ℕ → List A
-each fails [] = []
-each fails (k ∷ ks) = fails k ++ each fails ks
 
 -- whether a domain is as deep as it was granted
 abbrev pub is_agreed : BoardValue → List Record → ℕ → ℕ → Bool
@@ -51,9 +45,8 @@ failing b past =
     ++ each (λ level. each (λ at. if_fails (is_agreed b past level at) (Agree level at))
     (range_with_len 0 (nodes b level))) (range_with_len 0 (height b + 1))))
 
--- After these records just this fails, and so the world is not at rest (`not_at_rest`).
-pub record IsUnrest (b : BoardValue) (past : List Record) (k : Clause) : Type 0 where
-  pub only : failing b past ≡ k ∷ []
+abbrev pub unrest_after : (BoardValue × List Steps) → List Clause
+unrest_after (b, steps) = failing b (past_from b [] steps)
 
 -- Settled -------------------------------------------------------------------------------------
 
@@ -85,6 +78,11 @@ abbrev pub if_some : List Clause → List Saying
 if_some [] = []
 if_some (k ∷ ks) = Rest (k ∷ ks) ∷ []
 
+-- the records that these events add to those before
+abbrev pub added_by : BoardValue → List Record → List Event → List Record
+added_by b before events =
+    take (length events) (run_from b before events)
+
 -- all that fails
 abbrev pub unsettled : BoardValue → List Record → List Record → ℕ → List Saying
 unsettled b before added rounds =
@@ -95,12 +93,8 @@ unsettled b before added rounds =
     ++ if_fails (rounds == 0 || list_any (λ k. deliveries k added == rounds)
     (downs (added ++ before))) Reached)))
 
--- After these records more just this fails, and so the world has not settled (`not_settled`).
-pub record IsUnsettled (b : BoardValue) (before added : List Record) (rounds : ℕ) (s : Saying)
-    : Type 0 where
-  pub only : unsettled b before added rounds ≡ s ∷ []
-
--- the records that these events add to those before
-abbrev pub added_by : BoardValue → List Record → List Event → List Record
-added_by b before events =
-    take (length events) (run_from b before events)
+-- all that fails where these events come after those, with so many rounds
+abbrev pub unsettled_after : (BoardValue × List Event × List Event × ℕ) → List Saying
+unsettled_after (b, first, more, rounds) =
+    let before : List Record = run_from b [] first in
+    unsettled b before (added_by b before more) rounds

@@ -1,5 +1,5 @@
 -- Runs that several files of worked examples name.
-use Rattle.std.proofs.Common.{ℕ, List, [], ◌∷◌}
+use Rattle.std.proofs.Common.{◌++◌, ℕ, List, [], ◌∷◌}
 use Rattle.psci_headline.specs.psci_abi.declared.format.Format.TheVariants.{Extended}
 use Rattle.psci_headline.specs.psci_board.Board.{BoardValue}
 use Rattle.psci_headline.specs.psci_board.declared.node.Node.{Node}
@@ -22,39 +22,91 @@ at level place = record { level = level; place = place }
 abbrev pub after : BoardValue → List Event → List Record
 after b events = run_from b [] events
 
+-- the boot core asks core 2 on
+abbrev pub on_2 : Event
+on_2 = call 0 0xc4000003 0x100 0x40002000 0
+
+-- a core asks for standby of itself alone
+abbrev pub standby : ℕ → Event
+standby c = call c 0xc4000001 0x1 0 0
+
 -- core 3 is on, and nothing is outstanding for it
 abbrev pub third_on : List Event
 third_on = Enter 0 ∷ on_3 ∷ Deliver 0 ∷ Enter 3 ∷ []
 
 -- it is on by a later start, since it was woken from retention so often
 abbrev pub on_in_start_2 : List Event
-on_in_start_2 =
-    Enter 0 ∷ on_3 ∷ Deliver 0 ∷ Enter 3 ∷ retention 3 ∷ Deliver 1 ∷ Wake 3 ∷ Enter 3 ∷ []
+on_in_start_2 = third_on ++ retention 3 ∷ Deliver 1 ∷ Wake 3 ∷ Enter 3 ∷ []
 
 abbrev pub on_in_start_3 : List Event
-on_in_start_3 =
-    Enter 0 ∷ on_3 ∷ Deliver 0 ∷ Enter 3 ∷ retention 3 ∷ Deliver 1 ∷ Wake 3 ∷ Enter 3
-    ∷ retention 3 ∷ Deliver 2 ∷ Wake 3 ∷ Enter 3 ∷ []
+on_in_start_3 = on_in_start_2 ++ retention 3 ∷ Deliver 2 ∷ Wake 3 ∷ Enter 3 ∷ []
 
 abbrev pub on_in_start_4 : List Event
-on_in_start_4 =
-    Enter 0 ∷ on_3 ∷ Deliver 0 ∷ Enter 3 ∷ retention 3 ∷ Deliver 1 ∷ Wake 3 ∷ Enter 3
-    ∷ retention 3 ∷ Deliver 2 ∷ Wake 3 ∷ Enter 3 ∷ retention 3 ∷ Deliver 3 ∷ Wake 3 ∷ Enter 3 ∷ []
+on_in_start_4 = on_in_start_3 ++ retention 3 ∷ Deliver 3 ∷ Wake 3 ∷ Enter 3 ∷ []
 
--- it is on in a later life
+-- the boot core has entered in a later life, or has asked for OS-initiated mode
+abbrev pub life_2 : List Event
+life_2 = Enter 0 ∷ system_reset 0 ∷ Deliver 0 ∷ Enter 0 ∷ []
+
+abbrev pub life_3 : List Event
+life_3 =
+    Enter 0 ∷ system_reset 0 ∷ Deliver 0 ∷ Enter 0 ∷ system_reset 0 ∷ Deliver 1 ∷ Enter 0 ∷ []
+
+abbrev pub os_mode : List Event
+os_mode = Enter 0 ∷ call 0 0x8400000f 1 0 0 ∷ []
+
+-- core 3 is on then
 abbrev pub on_in_life_2 : List Event
-on_in_life_2 =
-    Enter 0 ∷ system_reset 0 ∷ Deliver 0 ∷ Enter 0 ∷ on_3 ∷ Deliver 1 ∷ Enter 3 ∷ []
+on_in_life_2 = life_2 ++ on_3 ∷ Deliver 1 ∷ Enter 3 ∷ []
 
 abbrev pub on_in_life_3 : List Event
-on_in_life_3 =
-    Enter 0 ∷ system_reset 0 ∷ Deliver 0 ∷ Enter 0 ∷ system_reset 0 ∷ Deliver 1 ∷ Enter 0 ∷ on_3
-    ∷ Deliver 2 ∷ Enter 3 ∷ []
+on_in_life_3 = life_3 ++ on_3 ∷ Deliver 2 ∷ Enter 3 ∷ []
 
--- it is on in OS-initiated mode
 abbrev pub on_os_initiated : List Event
-on_os_initiated = Enter 0 ∷ call 0 0x8400000f 1 0 0 ∷ on_3 ∷ Deliver 0 ∷ Enter 3 ∷ []
+on_os_initiated = os_mode ++ on_3 ∷ Deliver 0 ∷ Enter 3 ∷ []
+
+abbrev pub on_os_initiated_in_life_3 : List Event
+on_os_initiated_in_life_3 =
+    life_3 ++ call 0 0x8400000f 1 0 0 ∷ on_3 ∷ Deliver 2 ∷ Enter 3 ∷ []
+
+-- core 2 and core 3 are on, the cores of one cluster
+abbrev pub both_on : List Event
+both_on = Enter 0 ∷ on_2 ∷ on_3 ∷ Deliver 0 ∷ Deliver 1 ∷ Enter 2 ∷ Enter 3 ∷ []
+
+abbrev pub both_os_initiated : List Event
+both_os_initiated = os_mode ++ on_2 ∷ on_3 ∷ Deliver 0 ∷ Deliver 1 ∷ Enter 2 ∷ Enter 3 ∷ []
 
 -- on three levels: the last core is on
 abbrev pub on_in_group : List Event
 on_in_group = Enter 0 ∷ call 0 0xc4000003 0x10100 0x40001000 7 ∷ Deliver 0 ∷ Enter 3 ∷ []
+
+-- A core is on after these events, and another one: board, events, core, the other one, the core's
+-- life and start, and the number of its next message.
+abbrev pub Case : Type 0
+Case = BoardValue × List Event × ℕ × ℕ × ℕ × ℕ × ℕ
+
+abbrev pub cases : List Case
+cases =
+    -- in_start_1: core 3 is on by its first start
+    (board, third_on, 3, 0, 1, 1, 1)
+    -- in_start_2: and by later ones
+    ∷ (board, on_in_start_2, 3, 0, 1, 2, 2)
+    -- in_start_3: the third
+    ∷ (board, on_in_start_3, 3, 0, 1, 3, 3)
+    -- in_start_4: the fourth
+    ∷ (board, on_in_start_4, 3, 0, 1, 4, 4)
+    -- in_life_2: it is on in life 2
+    ∷ (board, on_in_life_2, 3, 0, 2, 1, 2)
+    -- in_life_3: and in life 3
+    ∷ (board, on_in_life_3, 3, 0, 3, 1, 3)
+    -- boot_core: the boot core
+    ∷ (board, third_on, 0, 3, 1, 1, 1)
+    -- boot_core_in_life_2: the same in life 2
+    ∷ (board, on_in_life_2, 0, 3, 2, 1, 2)
+    -- os_initiated: core 3 in OS-initiated mode
+    ∷ (board, on_os_initiated, 3, 0, 1, 1, 1)
+    -- os_initiated_in_life_3: the same in life 3
+    ∷ (board, on_os_initiated_in_life_3, 3, 0, 3, 1, 3)
+    -- in_the_extended_format: on a board of the extended format
+    ∷ (extended, third_on, 3, 0, 1, 1, 1)
+    ∷ []

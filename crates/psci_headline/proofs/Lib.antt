@@ -9,8 +9,6 @@ pub mod Apart
 pub mod Applied
 pub mod AppliedParts
 pub mod Asking
-mod AxisRows
-mod BootCoreRows
 mod Checking
 mod ClaimRows
 pub mod Claiming
@@ -22,7 +20,6 @@ pub mod Deliveries
 mod DownRows
 pub mod Entering
 pub mod Filters
-mod FormatRows
 pub mod Functions
 mod HaltingRows
 pub mod Happening
@@ -45,7 +42,6 @@ pub mod Numbering
 pub mod OffIsDown
 mod Once
 mod OpeningRows
-mod OsInitiatedRows
 pub mod Outcomes
 pub mod Picked
 pub mod Placing
@@ -61,16 +57,13 @@ pub mod Safety
 pub mod Sending
 pub mod Slept
 pub mod Sound
-mod StartsRows
 pub mod States
 pub mod StatesReal
 pub mod TakingUp
 mod Tested
 pub mod ToldHw
-mod ToldHwAxisRows
 mod ToldHwRows
 pub mod ToldOff
-mod ToldOffAxisRows
 mod ToldOffRows
 pub mod ToldTest
 pub mod Waiting
@@ -121,16 +114,10 @@ pub mod Resting
 pub mod Settled
 mod Excluded
 mod Failing
-mod RestLivesRows
 mod NameRows
 mod RestRows
-mod SettledFormatRows
-mod SettledLivesRows
 mod SettledRows
-mod SettledStartsRows
-mod RestStartsRows
 mod SettleRows
-mod ToldRows
 mod WaitingRows
 -- What is told once both sides agree.
 -- In the order of the argument of docs/SETTLING.md.
@@ -145,10 +132,7 @@ pub mod Reached
 -- Worked examples.
 pub mod Untold
 mod ConfirmingRows
-mod UntoldLivesRows
 mod UntoldRows
-mod UntoldStartsRows
-mod WholeLivesRows
 mod WholeRows
 pub use Rattle.psci_ctl_spec.proofs as ctl_spec
 pub use Rattle.psci_fw_laws.proofs.fw_spec

@@ -1,38 +1,29 @@
 -- Worked examples: records after which just one thing is not so that is said of live claims.
-use Rattle.std.proofs.Common.{◌≡◌, ◌≤◌, ◌<◌, ℕ, zero, suc, pos}
-use Rattle.std.proofs.Common.{true, false, List, [], ◌∷◌, None, Some}
-use Rattle.std.proofs.Common.{refl, arith, slice_get, ap, sym, ◌∙◌}
+use Rattle.std.proofs.Common.{◌≡◌, ◌≤◌, ◌<◌, ℕ, zero, suc, pos, true, false, List, [], ◌∷◌, None}
+use Rattle.std.proofs.Common.{Some, refl, arith, slice_get, ap, sym, ◌∙◌}
 use Rattle.std.specs.Prelude.{drop}
 use Rattle.psci_board.specs.Board.{size_below}
 use Rattle.psci_ctl_spec.specs.psci_messages.declared.kind.Kind.TheVariants.{Down}
-use Rattle.psci_world_spec.specs.declared.event.Event.{Event}
-use Rattle.psci_world_spec.specs.declared.event.Event.TheVariants.{Deliver, Enter}
-use Rattle.psci_world_spec.specs.declared.event.Event.TheVariants.{Wake}
+use Rattle.psci_world_spec.specs.declared.event.Event.TheVariants.{Deliver, Enter, Wake}
 use Rattle.psci_world_spec.specs.declared.said.Record.{Record}
-use Rattle.psci_world_spec.specs.declared.said.Said.{Said}
 use Rattle.psci_world_spec.specs.Legal.{run_from}
-use Rattle.psci_world_spec.proofs.Scripts.{acked, board, computing, off, part}
-use Rattle.psci_world_spec.proofs.Scripts.{retention, returns, sends, stops}
-use Rattle.psci_world_spec.proofs.Scripts.{one_core, system_reset, tall}
+use Rattle.psci_world_spec.proofs.Scripts.{acked, board, computing, goes_down, off, part, retention}
+use Rattle.psci_world_spec.proofs.Scripts.{returns, sends, one_core, system_reset, tall}
 use Rattle.psci_headline.specs.Claims.{Claim, claims, live_claims}
 use Rattle.psci_headline.specs.Live.{AreApart, AreAsked, AreClaimed, NoneExecutes}
-use Rattle.psci_headline.proofs.Histories.{at, third_on}
+use Rattle.psci_headline.proofs.Histories.{at, life_2, third_on}
+use Rattle.psci_headline.proofs.Checking.{◌⇒◌, Legal, Steps, past_from}
 
--- core 3 runs beside the boot core
-abbrev two_run : List Record
-two_run = run_from board [] third_on
-
--- one more record: of this event this is said
-abbrev more : Event → Said → List Record → List Record
-more event said past = record { event = event; said = said } ∷ past
+-- core 3 runs beside the boot core, and these steps come
+abbrev past : List Steps → List Record
+past steps = past_from board [] (Legal third_on ∷ steps)
 
 -- Apart ---------------------------------------------------------------------------------------
 
 -- core 3 sends two claims in one start: of two depths, and of one
 abbrev two_claims : ℕ → ℕ → List Record
-two_claims first second =
-    more (retention 3) (stops (sends 2 Down 3 1 1 (part 0 second 1 ∷ [])))
-    (more (off 3) (stops (sends 1 Down 3 1 1 (part 0 first 1 ∷ []))) two_run)
+two_claims first second = past (off 3 ⇒ goes_down 1 3 1 1 (part 0 first 1 ∷ [])
+    ∷ retention 3 ⇒ goes_down 2 3 1 1 (part 0 second 1 ∷ []) ∷ [])
 
 claims_of_two_depths : AreApart board (two_claims 3 2) → ⊥
 unfolding computing claims
@@ -50,9 +41,8 @@ claims_of_one_depth apart =
 
 -- two claims on the system, by core 0 and by core 3
 claims_on_the_system : AreApart board
-    (more (off 0) (stops (sends 2 Down 0 1 1 (part 0 3 1 ∷ part 1 3 1 ∷ part 2 3 2 ∷ [])))
-    (more (off 3) (stops (sends 1 Down 3 1 1 (part 0 3 1 ∷ part 1 3 1 ∷ part 2 3 2 ∷ []))) two_run))
-    → ⊥
+    (past (off 3 ⇒ goes_down 1 3 1 1 (part 0 3 1 ∷ part 1 3 1 ∷ part 2 3 2 ∷ [])
+    ∷ off 0 ⇒ goes_down 2 0 1 1 (part 0 3 1 ∷ part 1 3 1 ∷ part 2 3 2 ∷ []) ∷ [])) → ⊥
 unfolding computing claims
 claims_on_the_system apart =
     let no : 0 ≡ 1 = apart 1 (at 2 0) 0 1 _ _
@@ -63,9 +53,8 @@ claims_on_the_system apart =
 
 -- core 3 asks for retention of itself alone, and claims that of its cluster, which is carried out
 abbrev not_asked : List Record
-not_asked =
-    more (Deliver 1) (acked 0 Down 3 1 1 2 false)
-    (more (retention 3) (stops (sends 1 Down 3 1 1 (part 0 2 1 ∷ part 1 2 1 ∷ []))) two_run)
+not_asked = past (retention 3 ⇒ goes_down 1 3 1 1 (part 0 2 1 ∷ part 1 2 1 ∷ [])
+    ∷ Deliver 1 ⇒ acked 0 Down 3 1 1 2 false ∷ [])
 
 cluster_not_asked : AreAsked board not_asked → ⊥
 unfolding computing claims
@@ -75,7 +64,7 @@ cluster_not_asked asked =
 
 -- it claims power-down of itself, and is asked for retention
 core_not_asked : AreAsked board
-    (more (retention 3) (stops (sends 1 Down 3 1 1 (part 0 3 1 ∷ []))) two_run) → ⊥
+    (past (retention 3 ⇒ goes_down 1 3 1 1 (part 0 3 1 ∷ []) ∷ [])) → ⊥
 unfolding computing claims
 core_not_asked asked =
     let no : false ≡ true = asked 1 (at 0 3) 0 _
@@ -85,10 +74,9 @@ core_not_asked asked =
 
 -- core 3 has gone off with a live claim on itself, and an old one put it in retention
 abbrev deep_by_another : List Record
-deep_by_another =
-    more (Deliver 2) (acked 0 Down 3 1 1 1 false)
-    (more (retention 3) (stops (sends 2 Down 3 1 1 (part 0 2 7 ∷ [])))
-    (more (off 3) (stops (sends 1 Down 3 1 1 (part 0 3 1 ∷ []))) two_run))
+deep_by_another = past (off 3 ⇒ goes_down 1 3 1 1 (part 0 3 1 ∷ [])
+    ∷ retention 3 ⇒ goes_down 2 3 1 1 (part 0 2 7 ∷ []) ∷ Deliver 2 ⇒ acked 0 Down 3 1 1 1 false
+    ∷ [])
 
 -- a list of one claim of depth 3 has none of depth 2
 one_of_three : (k : ℕ) (c d : Claim) → slice_get (c ∷ []) k ≡ Some d → c.depth ≡ 3 → d.depth ≡ 2 → ⊥
@@ -111,8 +99,8 @@ none_at_all : (k : ℕ) (d : Claim) → slice_get [] k ≡ Some d → ⊥
 none_at_all k d at = let no : None ≡ Some d = at in absurd (cc)
 
 cluster_not_claimed : AreClaimed board
-    (more (Deliver 1) (acked 0 Down 3 1 1 2 false)
-    (more (retention 3) (stops (sends 1 Down 3 1 1 (part 0 2 1 ∷ part 1 1 7 ∷ []))) two_run)) → ⊥
+    (past (retention 3 ⇒ goes_down 1 3 1 1 (part 0 2 1 ∷ part 1 1 7 ∷ [])
+    ∷ Deliver 1 ⇒ acked 0 Down 3 1 1 2 false ∷ [])) → ⊥
 unfolding computing claims live_claims
 cluster_not_claimed claimed =
     let live = claimed 1 (at 1 1) (record { level = omega arith; place = omega arith }) refl
@@ -123,16 +111,15 @@ cluster_not_claimed claimed =
 
 -- core 3 claims its cluster and goes on; so does core 0 with the system
 runs_below_its_claim : NoneExecutes board
-    (more (retention 3) (returns (pos 0) (sends 1 Down 3 1 1 (part 0 0 1 ∷ part 1 2 1 ∷ [])))
-    two_run) → ⊥
+    (past (retention 3 ⇒ returns (pos 0) (sends 1 Down 3 1 1 (part 0 0 1 ∷ part 1 2 1 ∷ [])) ∷ []))
+    → ⊥
 unfolding computing claims live_claims
 runs_below_its_claim none =
     none (at 1 1) 3 0 _ (record { level = omega arith; place = omega arith }) (omega arith)
     refl refl refl
 
 runs_below_the_system : NoneExecutes board
-    (more (off 0) (stops (sends 1 Down 0 1 1 (part 0 3 1 ∷ part 1 3 1 ∷ part 2 3 2 ∷ []))) two_run)
-    → ⊥
+    (past (off 0 ⇒ goes_down 1 0 1 1 (part 0 3 1 ∷ part 1 3 1 ∷ part 2 3 2 ∷ []) ∷ [])) → ⊥
 unfolding computing claims live_claims
 runs_below_the_system none =
     none (at 2 0) 3 0 _ (record { level = omega arith; place = omega arith }) (omega arith)
@@ -161,26 +148,25 @@ runs_below_an_old_claim n c k p has on up at runs =
 
 -- In a later life -------------------------------------------------------------------------------
 
--- three levels above the cores, in life 2, which the boot core has entered
-abbrev second_life : List Record
-second_life = run_from tall [] (Enter 0 ∷ system_reset 0 ∷ Deliver 0 ∷ Enter 0 ∷ [])
+-- three levels above the cores: in life 2, which the boot core has entered, these steps come
+abbrev later : List Steps → List Record
+later steps = past_from tall [] (Legal life_2 ∷ steps)
 
 -- it asks for retention of itself, and claims a depth of each level at this generation
-abbrev claimed_whole : ℕ → ℕ → List Record
-claimed_whole depth generation =
-    more (retention 0) (stops (sends 1 Down 0 2 1 (part 0 2 generation ∷ part 1 2 generation
-    ∷ part 2 2 generation ∷ part 3 depth generation ∷ []))) second_life
+abbrev claims_whole : ℕ → ℕ → Steps
+claims_whole depth generation = retention 0 ⇒ goes_down 1 0 2 1 (part 0 2 generation
+    ∷ part 1 2 generation ∷ part 2 2 generation ∷ part 3 depth generation ∷ [])
 
 two_claims_in_life_2 : AreApart tall
-    (more (off 0) (stops (sends 2 Down 0 2 1 (part 0 3 1 ∷ [])))
-    (more (retention 0) (stops (sends 1 Down 0 2 1 (part 0 2 1 ∷ []))) second_life)) → ⊥
+    (later (retention 0 ⇒ goes_down 1 0 2 1 (part 0 2 1 ∷ [])
+    ∷ off 0 ⇒ goes_down 2 0 2 1 (part 0 3 1 ∷ []) ∷ [])) → ⊥
 unfolding computing claims
 two_claims_in_life_2 apart =
     let no : 0 ≡ 1 = apart 2 (at 0 0) 0 1 _ _
     (record { level = omega arith; place = omega arith }) refl refl refl in
     absurd (omega (arith, no))
 
-system_not_asked : AreAsked tall (claimed_whole 1 1) → ⊥
+system_not_asked : AreAsked tall (later (claims_whole 1 1 ∷ [])) → ⊥
 unfolding computing claims
 system_not_asked asked =
     let no : false ≡ true = asked 2 (at 3 0) 0 _
@@ -188,7 +174,7 @@ system_not_asked asked =
     absurd (cc)
 
 system_not_claimed : AreClaimed tall
-    (more (Deliver 1) (acked 1 Down 0 2 1 4 false) (claimed_whole 1 7)) → ⊥
+    (later (claims_whole 1 7 ∷ Deliver 1 ⇒ acked 1 Down 0 2 1 4 false ∷ [])) → ⊥
 unfolding computing claims live_claims
 system_not_claimed claimed =
     let live = claimed 2 (at 3 0) (record { level = omega arith; place = omega arith }) refl
@@ -197,8 +183,8 @@ system_not_claimed claimed =
 
 -- core 3 was started, and has not entered, below a claim of the system
 starts_below_the_system : NoneExecutes tall
-    (more (off 0) (stops (sends 1 Down 0 2 1 (part 0 3 1 ∷ part 1 3 1 ∷ part 2 3 1
-    ∷ part 3 3 2 ∷ []))) (run_from tall second_life (Wake 3 ∷ []))) → ⊥
+    (later (Legal (Wake 3 ∷ []) ∷ off 0 ⇒ goes_down 1 0 2 1 (part 0 3 1 ∷ part 1 3 1 ∷ part 2 3 1
+    ∷ part 3 3 2 ∷ []) ∷ [])) → ⊥
 unfolding computing claims live_claims
 starts_below_the_system none =
     none (at 3 0) 3 0 _ (record { level = omega arith; place = omega arith }) (omega arith)

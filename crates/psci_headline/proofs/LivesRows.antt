@@ -1,127 +1,145 @@
--- Worked examples: moments of later lives that are not safe, and runs that are.
-use Rattle.std.proofs.Common.{◌++◌, [], ◌∷◌, pos, false, refl}
+-- Worked examples: what goes wrong of one core, in each life, by each start, of the boot core, in
+-- OS-initiated mode and on a board of the extended format, and runs in which nothing does.
+use Rattle.std.proofs.Common.{◌++◌, ℕ, ◌+◌, List, [], ◌∷◌, false, refl}
+use Rattle.psci_board.proofs.Tables.{Gives, Row}
+use Rattle.psci_fw_laws.specs.psci_board.Board.{BoardValue}
 use Rattle.psci_fw_laws.specs.psci_messages.declared.kind.Kind.TheVariants.{Down}
+use Rattle.psci_world_spec.specs.declared.event.Event.{Event}
 use Rattle.psci_world_spec.specs.declared.event.Event.TheVariants.{Enter, Wake, Reset, Deliver}
 use Rattle.psci_world_spec.specs.declared.event.Event.TheVariants.{Take}
-use Rattle.psci_world_spec.proofs.Scripts.{acked, board, enters, nothing, off, on_3, part, resumes}
-use Rattle.psci_world_spec.proofs.Scripts.{retention, returns, sends, stops, system_reset, version}
-use Rattle.psci_headline.proofs.Histories.{on_in_life_2, on_in_life_3}
-use Rattle.psci_headline.proofs.Checking.{◌⇒◌, Asked, Breaks, IsSafeRun, Legal, Once, One, Open}
-use Rattle.psci_headline.proofs.Checking.{Powered, PoweredDown, Real, Stopped, computing}
+use Rattle.psci_world_spec.proofs.Scripts.{acked, board, call, enters, goes_down, off, on_3, part}
+use Rattle.psci_world_spec.proofs.Scripts.{resumes, retention, value, version}
+use Rattle.psci_headline.proofs.Histories.{life_2, life_3, os_mode, Case, cases, extended}
+use Rattle.psci_headline.proofs.Histories.{on_in_life_2, on_in_life_3, on_in_start_2, on_in_start_3}
+use Rattle.psci_headline.proofs.Histories.{on_in_start_4, on_os_initiated, third_on}
+use Rattle.psci_headline.proofs.Checking.{◌⇒◌, AreSafe, Clause, Steps, each, Asked, Breaks}
+use Rattle.psci_headline.proofs.Checking.{failing_after, Legal, Once, One, Open, Powered}
+use Rattle.psci_headline.proofs.Checking.{PoweredDown, Real, Stopped, computing}
 
--- Life 2 ------------------------------------------------------------------------------------------
+-- what goes wrong of core c, which is on by start s of life l; its next message has the number n
+abbrev wrong : Case → List (Row (BoardValue × List Steps) (List Clause))
+wrong (b, on, c, o, l, s, n) =
+    -- goes_on: it is powered down, and goes on without a start
+    Breaks Powered b (Legal (on ++ off c ∷ Deliver n ∷ []) ∷ Enter c ⇒ resumes ∷ [])
+    -- off_in_retention: it goes off, is put in retention, and is OFF
+    ∷ Breaks PoweredDown b (Legal on ∷ off c ⇒ goes_down n c l s (part 0 2 s ∷ [])
+    ∷ Legal (Deliver n ∷ Take n ∷ []) ∷ [])
+    -- off_twice: it goes off twice in one start
+    ∷ Breaks One b (Legal (on ++ off c ∷ []) ∷ off c ⇒ goes_down (n + 1) c l s (part 0 3 s ∷ [])
+    ∷ [])
+    -- deeper: it asks for retention, and is powered down
+    ∷ Breaks Asked b (Legal on ∷ retention c ⇒ goes_down n c l s (part 0 3 s ∷ [])
+    ∷ Legal (Deliver n ∷ []) ∷ [])
+    -- acknowledged: it is said to be in standby, and nothing was carried out
+    ∷ Breaks Real b (Legal (on ++ retention c ∷ []) ∷ Deliver 99 ⇒ acked n Down c l s 1 false
+    ∷ Legal (Take n ∷ []) ∷ [])
+    -- off_core_runs: it is OFF and was woken, and is answered before it has entered
+    ∷ Breaks Stopped b (Legal (on ++ off c ∷ Deliver n ∷ Take n ∷ Wake c ∷ []) ∷ version c
+    ⇒ value 65537 ∷ [])
+    ∷ []
 
--- a core comes on, sleeps, wakes, goes off, is OFF and comes on again
-whole_life_2 : IsSafeRun board
-    (on_in_life_2 ++ retention 3 ∷ Deliver 2 ∷ Take 2 ∷ Wake 3 ∷ Enter 3 ∷ off 3 ∷ Deliver 3
-    ∷ Take 3 ∷ on_3 ∷ Deliver 4 ∷ Enter 3 ∷ [])
+each_wrong : Gives failing_after (each wrong cases)
 unfolding computing
-whole_life_2 = refl
+each_wrong = refl
 
--- a core that is powered down goes on without a start
-goes_on_in_life_2 : Breaks board Powered
-    (Legal (on_in_life_2 ++ off 3 ∷ Deliver 2 ∷ []) ∷ Enter 3 ⇒ resumes ∷ [])
+-- core 3 is started once more, after these events
+abbrev wrong_entry : List Event → List (Row (BoardValue × List Steps) (List Clause))
+wrong_entry on =
+    -- other_context: it was suspended, and enters with another context id
+    Breaks Open board (Legal (on ++ call 3 0xc4000001 0x00010003 0x40004000 5 ∷ Wake 3 ∷ [])
+    ∷ Enter 3 ⇒ enters 0x40004000 6 ∷ [])
+    -- enters_again: it was reset, and enters again where it was asked on
+    ∷ Breaks Once board (Legal (on ++ Reset 3 ∷ []) ∷ Enter 3 ⇒ enters 0x40001000 7 ∷ [])
+    ∷ []
+
+each_wrong_entry : Gives failing_after (each wrong_entry
+    -- to_start_2: from its first start
+    (third_on
+    -- to_start_3: from its second start
+    ∷ on_in_start_2
+    -- to_start_4: from its third start
+    ∷ on_in_start_3
+    -- from_life_2: in life 2
+    ∷ on_in_life_2
+    -- from_life_3: in life 3
+    ∷ on_in_life_3
+    -- from_os_initiated: in OS-initiated mode
+    ∷ on_os_initiated
+    ∷ []))
 unfolding computing
-goes_on_in_life_2 = refl
+each_wrong_entry = refl
 
--- a core that goes off is put in retention, and is OFF
-off_in_retention_in_life_2 : Breaks board PoweredDown
-    (Legal on_in_life_2 ∷ off 3 ⇒ stops (sends 2 Down 3 2 1 (part 0 2 1 ∷ [])) ∷ Legal (Deliver 2
-    ∷ Take 2 ∷ []) ∷ [])
+-- Entries in later lives and other modes ---------------------------------------------------------
+
+entries : Gives failing_after
+    -- off_core_runs_in_life_3: a core that was woken is answered before it has entered
+    (Breaks Stopped board (Legal (life_3 ++ Wake 3 ∷ []) ∷ version 3 ⇒ value 65537 ∷ [])
+    -- os_initiated_off_core_runs: so is a core in OS-initiated mode
+    ∷ Breaks Stopped board (Legal (os_mode ++ Wake 3 ∷ []) ∷ version 3 ⇒ value 65537 ∷ [])
+    -- other_context_in_life_2: a core enters with another context id
+    ∷ Breaks Open board (Legal (life_2 ++ on_3 ∷ Deliver 1 ∷ []) ∷ Enter 3 ⇒ enters 0x40001000 8
+    ∷ [])
+    -- other_context_in_life_3: the same in life 3
+    ∷ Breaks Open board (Legal (life_3 ++ on_3 ∷ Deliver 2 ∷ []) ∷ Enter 3 ⇒ enters 0x40001000 8
+    ∷ [])
+    -- os_initiated_other_context: and in OS-initiated mode
+    ∷ Breaks Open board (Legal (os_mode ++ on_3 ∷ Deliver 0 ∷ []) ∷ Enter 3 ⇒ enters 0x40001000 8
+    ∷ [])
+    -- The extended format -------------------------------------------------------------------
+    -- extended_off_core_runs: a core that was woken is answered before it has entered
+    ∷ Breaks Stopped extended (Legal (Enter 0 ∷ Wake 3 ∷ []) ∷ version 3 ⇒ value 65537 ∷ [])
+    -- cluster_deeper_than_asked: a core asks for retention of its cluster, which is powered down
+    ∷ Breaks Asked extended (Legal third_on ∷ call 3 0xc4000001 0x22 0 0
+    ⇒ goes_down 1 3 1 1 (part 0 2 1 ∷ part 1 3 1 ∷ []) ∷ Deliver 1 ⇒ acked 1 Down 3 1 1 2 false
+    ∷ [])
+    -- extended_other_context: a core that was suspended enters with another context id
+    ∷ Breaks Open extended (Legal (third_on ++ call 3 0xc4000001 0x40000033 0x40004000 5 ∷ Wake 3
+    ∷ []) ∷ Enter 3 ⇒ enters 0x40004000 6 ∷ [])
+    -- extended_enters_again: a core goes on twice at the opening of one suspend
+    ∷ Breaks Once extended (Legal (third_on ++ call 3 0xc4000001 0x40000033 0x40004000 5 ∷ Wake 3
+    ∷ Enter 3 ∷ Reset 3 ∷ []) ∷ Enter 3 ⇒ enters 0x40004000 5 ∷ [])
+    -- cluster_acknowledged_only: a cluster is said to be in standby, and its core alone is in
+    -- retention
+    ∷ Breaks Real extended (Legal (third_on ++ call 3 0xc4000001 0x22 0 0 ∷ []) ∷ Deliver 1
+    ⇒ acked 1 Down 3 1 1 1 false ∷ Deliver 99 ⇒ acked 2 Down 3 1 1 2 false ∷ Legal (Take 2 ∷ [])
+    ∷ [])
+    ∷ [])
 unfolding computing
-off_in_retention_in_life_2 = refl
+entries = refl
 
--- a core goes off twice in one start
-off_twice_in_life_2 : Breaks board One
-    (Legal (on_in_life_2 ++ off 3 ∷ []) ∷ off 3 ⇒ stops (sends 3 Down 3 2 1 (part 0 3 1 ∷ [])) ∷ [])
+-- Safe runs --------------------------------------------------------------------------------------
+
+-- a core that is on sleeps, wakes, goes off, is OFF and comes on again as it is asked to
+abbrev whole : List Event → ℕ → Event → ℕ → List Event
+whole on c again n =
+    on ++ retention c ∷ Deliver n ∷ Take n ∷ Wake c ∷ Enter c ∷ off c ∷ Deliver (n + 1)
+    ∷ Take (n + 1) ∷ again ∷ Deliver (n + 2) ∷ Enter c ∷ []
+
+runs : AreSafe board
+    -- whole_life_2: in life 2
+    (whole on_in_life_2 3 on_3 2
+    -- whole_life_3: in life 3
+    ∷ whole on_in_life_3 3 on_3 3
+    -- whole_boot_core: the boot core
+    ∷ whole third_on 0 (call 3 0xc4000003 0x0 0x40006000 3) 1
+    -- whole_os_initiated: in OS-initiated mode
+    ∷ whole on_os_initiated 3 on_3 1
+    -- whole_start_2: a core goes off in its start 2, is OFF, and is asked on
+    ∷ (on_in_start_2 ++ off 3 ∷ Deliver 2 ∷ Take 2 ∷ on_3 ∷ [])
+    -- whole_start_3: the same in its start 3
+    ∷ (on_in_start_3 ++ off 3 ∷ Deliver 3 ∷ Take 3 ∷ on_3 ∷ [])
+    -- whole_start_4: and in its start 4
+    ∷ (on_in_start_4 ++ off 3 ∷ Deliver 4 ∷ Take 4 ∷ on_3 ∷ [])
+    ∷ [])
 unfolding computing
-off_twice_in_life_2 = refl
+runs = refl
 
--- a core asks for retention, and is powered down
-deeper_in_life_2 : Breaks board Asked
-    (Legal on_in_life_2 ∷ retention 3 ⇒ stops (sends 2 Down 3 2 1 (part 0 3 1 ∷ []))
-    ∷ Legal (Deliver 2 ∷ []) ∷ [])
+runs_in_the_extended_format : AreSafe extended
+    -- whole_extended: a core comes on, sleeps, wakes, goes off, is OFF and comes on again
+    (whole third_on 3 on_3 1
+    -- cluster_down: a core takes its cluster down, and comes back
+    ∷ (third_on ++ call 3 0xc4000001 0x40000033 0x40004000 5 ∷ Deliver 1 ∷ Take 1 ∷ Wake 3 ∷ Enter 3
+    ∷ [])
+    ∷ [])
 unfolding computing
-deeper_in_life_2 = refl
-
--- a core enters with another context id
-other_context_in_life_2 : Breaks board Open
-    (Legal (Enter 0 ∷ system_reset 0 ∷ Deliver 0 ∷ Enter 0 ∷ on_3 ∷ Deliver 1 ∷ []) ∷ Enter 3
-    ⇒ enters 0x40001000 8 ∷ [])
-unfolding computing
-other_context_in_life_2 = refl
-
--- a core that was reset enters again where it was asked on
-enters_again_in_life_2 : Breaks board Once
-    (Legal (on_in_life_2 ++ Reset 3 ∷ []) ∷ Enter 3 ⇒ enters 0x40001000 7 ∷ [])
-unfolding computing
-enters_again_in_life_2 = refl
-
--- a core is said to be in standby, and nothing was carried out
-acknowledged_in_life_2 : Breaks board Real
-    (Legal (on_in_life_2 ++ retention 3 ∷ []) ∷ Deliver 99 ⇒ acked 2 Down 3 2 1 1 false
-    ∷ Legal (Take 2 ∷ []) ∷ [])
-unfolding computing
-acknowledged_in_life_2 = refl
-
--- Life 3 ------------------------------------------------------------------------------------------
-
--- a core comes on, sleeps, wakes, goes off, is OFF and comes on again
-whole_life_3 : IsSafeRun board
-    (on_in_life_3 ++ retention 3 ∷ Deliver 3 ∷ Take 3 ∷ Wake 3 ∷ Enter 3 ∷ off 3 ∷ Deliver 4
-    ∷ Take 4 ∷ on_3 ∷ Deliver 5 ∷ Enter 3 ∷ [])
-unfolding computing
-whole_life_3 = refl
-
--- a core that is powered down goes on without a start
-goes_on_in_life_3 : Breaks board Powered
-    (Legal (on_in_life_3 ++ off 3 ∷ Deliver 3 ∷ []) ∷ Enter 3 ⇒ resumes ∷ [])
-unfolding computing
-goes_on_in_life_3 = refl
-
--- a core that was woken is answered before it has entered
-off_core_runs_in_life_3 : Breaks board Stopped
-    (Legal (Enter 0 ∷ system_reset 0 ∷ Deliver 0 ∷ Enter 0 ∷ system_reset 0 ∷ Deliver 1 ∷ Enter 0
-    ∷ Wake 3 ∷ []) ∷ version 3 ⇒ returns (pos 65537) nothing ∷ [])
-unfolding computing
-off_core_runs_in_life_3 = refl
-
--- a core that goes off is put in retention, and is OFF
-off_in_retention_in_life_3 : Breaks board PoweredDown
-    (Legal on_in_life_3 ∷ off 3 ⇒ stops (sends 3 Down 3 3 1 (part 0 2 1 ∷ [])) ∷ Legal (Deliver 3
-    ∷ Take 3 ∷ []) ∷ [])
-unfolding computing
-off_in_retention_in_life_3 = refl
-
--- a core goes off twice in one start
-off_twice_in_life_3 : Breaks board One
-    (Legal (on_in_life_3 ++ off 3 ∷ []) ∷ off 3 ⇒ stops (sends 4 Down 3 3 1 (part 0 3 1 ∷ [])) ∷ [])
-unfolding computing
-off_twice_in_life_3 = refl
-
--- a core asks for retention, and is powered down
-deeper_in_life_3 : Breaks board Asked
-    (Legal on_in_life_3 ∷ retention 3 ⇒ stops (sends 3 Down 3 3 1 (part 0 3 1 ∷ []))
-    ∷ Legal (Deliver 3 ∷ []) ∷ [])
-unfolding computing
-deeper_in_life_3 = refl
-
--- a core enters with another context id
-other_context_in_life_3 : Breaks board Open
-    (Legal (Enter 0 ∷ system_reset 0 ∷ Deliver 0 ∷ Enter 0 ∷ system_reset 0 ∷ Deliver 1 ∷ Enter 0
-    ∷ on_3 ∷ Deliver 2 ∷ []) ∷ Enter 3 ⇒ enters 0x40001000 8 ∷ [])
-unfolding computing
-other_context_in_life_3 = refl
-
--- a core that was reset enters again where it was asked on
-enters_again_in_life_3 : Breaks board Once
-    (Legal (on_in_life_3 ++ Reset 3 ∷ []) ∷ Enter 3 ⇒ enters 0x40001000 7 ∷ [])
-unfolding computing
-enters_again_in_life_3 = refl
-
--- a core is said to be in standby, and nothing was carried out
-acknowledged_in_life_3 : Breaks board Real
-    (Legal (on_in_life_3 ++ retention 3 ∷ []) ∷ Deliver 99 ⇒ acked 3 Down 3 3 1 1 false
-    ∷ Legal (Take 3 ∷ []) ∷ [])
-unfolding computing
-acknowledged_in_life_3 = refl
+runs_in_the_extended_format = refl

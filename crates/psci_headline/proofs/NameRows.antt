@@ -1,10 +1,11 @@
 -- Worked examples: which messages have one name, and where the newest one of a name stands.
-use Rattle.std.proofs.Common.{◌≡◌, ℕ, [], ◌∷◌, None, Some, false, true, map, refl}
+use Rattle.std.proofs.Common.{ℕ, [], ◌∷◌, None, Some, false, true, refl}
+use Rattle.psci_board.proofs.Tables.{◌⇒◌, Gives}
 use Rattle.psci_ctl_spec.specs.psci_messages.declared.kind.Kind.{Kind}
 use Rattle.psci_ctl_spec.specs.psci_messages.declared.kind.Kind.TheVariants.{Down, Start}
 use Rattle.psci_ctl_spec.specs.psci_messages.Message.{MessageValue}
-use Rattle.psci_headline.proofs.world_spec.Scripts.{part}
 use Rattle.psci_headline.specs.Settling.{has_name, index_of}
+use Rattle.psci_headline.proofs.world_spec.Scripts.{part}
 
 -- a message: kind, core, life, number
 abbrev named : Kind → ℕ → ℕ → ℕ → MessageValue
@@ -17,19 +18,18 @@ named kind core life number = record {
 }
 
 -- its kind, core, life and number are its name, and its parts are not
-names : map (has_name (named Down 3 2 5))
-    (named Down 3 2 5 ∷ record (named Down 3 2 5) { parts = [] } ∷ named Start 3 2 5
-    ∷ named Down 2 2 5 ∷ named Down 3 1 5 ∷ named Down 3 2 4 ∷ [])
-    ≡ true ∷ true ∷ false ∷ false ∷ false ∷ false ∷ []
+names : Gives (has_name (named Down 3 2 5))
+    (named Down 3 2 5 ⇒ true
+    ∷ record (named Down 3 2 5) { parts = [] } ⇒ true
+    ∷ named Start 3 2 5 ⇒ false
+    ∷ named Down 2 2 5 ⇒ false
+    ∷ named Down 3 1 5 ⇒ false
+    ∷ named Down 3 2 4 ⇒ false ∷ [])
 names = refl
 
 -- the newest message stands first in the list, and the oldest has index 0
-newest_of_two : index_of (named Down 3 2 5)
-    (named Start 0 2 5 ∷ named Down 3 2 5 ∷ named Down 3 1 5 ∷ named Down 3 2 5 ∷ []) ≡ Some 2
-newest_of_two = refl
-
-oldest : index_of (named Down 3 2 5) (named Down 3 2 6 ∷ named Down 3 2 5 ∷ []) ≡ Some 0
-oldest = refl
-
-of_no_message : index_of (named Down 3 2 5) (named Down 3 2 6 ∷ named Down 3 1 5 ∷ []) ≡ None
-of_no_message = refl
+indexes : Gives (index_of (named Down 3 2 5))
+    ((named Start 0 2 5 ∷ named Down 3 2 5 ∷ named Down 3 1 5 ∷ named Down 3 2 5 ∷ []) ⇒ Some 2
+    ∷ (named Down 3 2 6 ∷ named Down 3 2 5 ∷ []) ⇒ Some 0
+    ∷ (named Down 3 2 6 ∷ named Down 3 1 5 ∷ []) ⇒ None ∷ [])
+indexes = refl

@@ -1,53 +1,23 @@
--- Worked examples are stated so: records after which just one thing is not told as it is.
-use Rattle.std.specs.Prelude.{◌≡◌, ◌++◌, ℕ, ◌+◌, Bool, true, false, ◌==◌, ◌&&◌, not, List, [], ◌∷◌}
-use Rattle.std.specs.Prelude.{is_some}
-use Rattle.std.specs.List.{list_all, range_with_len}
+-- Worked examples are stated so: what is not told as it is. Where something is not, `not_told`
+-- excludes that all is told.
+use Rattle.std.specs.Prelude.{◌++◌, ℕ, ◌+◌, Bool, true, false, ◌==◌, List, []}
+use Rattle.std.specs.List.{range_with_len}
 use Rattle.psci_headline.specs.psci_board.Board.{BoardValue, cores, height, nodes}
-use Rattle.psci_headline.specs.psci_messages.Slots.{OfCore, OfSystem}
 use Rattle.psci_headline.specs.psci_fw_spec.NodeHwState.{hw_at, hw_code, node_hw}
 use Rattle.psci_headline.specs.psci_fw_spec.Phases.{is_away}
 use Rattle.psci_headline.specs.psci_fw_spec.SystemCalls.{is_off_status}
 use Rattle.psci_headline.specs.psci_world_spec.declared.event.Event.{Event}
 use Rattle.psci_headline.specs.psci_world_spec.declared.said.Record.{Record}
-use Rattle.psci_headline.specs.psci_world_spec.declared.said.Said.{Said}
 use Rattle.psci_headline.specs.psci_world_spec.Histories.{controller_values, firmware_values}
 use Rattle.psci_headline.specs.psci_world_spec.Places.{place}
+use Rattle.psci_headline.specs.Settling.{begun, is_waiting, round, rounds, settled}
 use Rattle.psci_headline.proofs.world_spec.Scripts as scripts
-use Rattle.psci_headline.specs.Settling.{begun, is_halting, is_started, is_waiting, round, rounds}
-use Rattle.psci_headline.specs.Settling.{settled}
 use Rattle.psci_headline.proofs.Histories.{after, at}
-use Rattle.psci_headline.proofs.Checking.{if_fails}
-use Rattle.psci_headline.proofs.Failing.{each, is_agreed}
+use Rattle.psci_headline.proofs.Checking.{Steps, each, if_fails, past_from}
 
 unfoldable pub computing : Unit {0}
 unfolding scripts.computing settled begun round is_waiting rounds
 computing = tt
-
--- Records ---------------------------------------------------------------------------------------
-
--- where the world has settled after these events
-abbrev pub settles : BoardValue → List Event → List Record
-settles b events = (settled b (after b events)).past
-
--- after those records this is said of an event
-abbrev pub says : List Record → Event → Said → List Record
-says past event said = record { event = event; said = said } ∷ past
-
--- At rest ---------------------------------------------------------------------------------------
-
--- nothing is outstanding for a core, and it does not wait at its start
-abbrev pub is_still : BoardValue → List Record → ℕ → Bool
-is_still b past c = not (is_some ((firmware_values b past).outstanding (OfCore c)))
-    && not (is_started (place b past c))
-
--- the world is at rest, and the life does not halt
-abbrev pub rests : BoardValue → List Record → Bool
-rests b past =
-    not (is_halting b past)
-    && (not (is_some ((firmware_values b past).outstanding OfSystem))
-    && (list_all (is_still b past) (range_with_len 0 (cores b))
-    && list_all (λ level. list_all (is_agreed b past level) (range_with_len 0 (nodes b level)))
-    (range_with_len 0 (height b + 1))))
 
 -- What fails ------------------------------------------------------------------------------------
 
@@ -86,6 +56,9 @@ failing b past =
     ++ each (λ c. if_fails (follows (is_off b past c) (is_gone b past c)) (IsAway c))
     (range_with_len 0 (cores b)))
 
--- After these records just this fails, and so not all is told (`not_told`).
-pub record IsUntold (b : BoardValue) (past : List Record) (k : Clause) : Type 0 where
-  pub only : failing b past ≡ k ∷ []
+abbrev pub untold_after : (BoardValue × List Steps) → List Clause
+untold_after (b, steps) = failing b (past_from b [] steps)
+
+-- all that fails once the world has settled after these events
+abbrev pub untold_once_settled : (BoardValue × List Event) → List Clause
+untold_once_settled (b, events) = failing b (settled b (after b events)).past

@@ -26,6 +26,7 @@ pub mod OwnFaults
 pub mod OwnStates
 pub mod Reading
 pub mod Requests
+mod SameRows
 mod StateRows
 mod SwapRows
 pub mod Swapped
