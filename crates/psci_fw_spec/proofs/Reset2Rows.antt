@@ -1,16 +1,14 @@
 -- Worked examples: SYSTEM_RESET2.
-use Rattle.std.proofs.Common.{◌∷◌, [], Some, None, false, true, refl}
+use Rattle.std.proofs.Common.{◌∷◌, [], false, refl}
 use Rattle.psci_messages.specs.declared.kind.Kind.TheVariants.{Off, Reset}
 use Rattle.psci_fw_spec.specs.declared.fault.FwFault.TheVariants.{NoCore, NoLife, NotRunning}
-use Rattle.psci_fw_spec.specs.Phases.{Away, Running}
 use Rattle.psci_fw_spec.proofs.Steps.{◌⇒◌, AreAnswered, affinity, board, boot, boots, computing}
 use Rattle.psci_fw_spec.proofs.Steps.{enter_boot, enter_on, enter_wake, error, goes_on_3}
-use Rattle.psci_fw_spec.proofs.Steps.{goes_to, message, off, old, on, on_3, one_cluster}
+use Rattle.psci_fw_spec.proofs.Steps.{goes_to, off, old, on, on_3, one_cluster}
 use Rattle.psci_fw_spec.proofs.Steps.{part, refused, set_mode, smc, starts, stops}
 use Rattle.psci_fw_spec.proofs.Steps.{stops_by, stops_still, suspend, system_off}
 use Rattle.psci_fw_spec.proofs.Steps.{system_reset2, take, take_down, tall, uneven, used, value}
 use Rattle.psci_fw_spec.proofs.Steps.{version}
-use Rattle.psci_fw_spec.proofs.ValueRows.{Says, two_run}
 
 -- Types ---------------------------------------------------------------------------------------
 
@@ -128,20 +126,3 @@ reset2_in_a_halting_life : AreAnswered one_cluster
     ∷ take Off 0 1 1 1 false ⇒ used ∷ [])
 unfolding computing
 reset2_in_a_halting_life = record { history = refl; values = refl }
-
--- Values --------------------------------------------------------------------------------------
-
--- the caller is away and ON, claims nothing, and the life is halting
-reset2_called : Says (boot ∷ on_3 ∷ enter_on 3 1 2 ∷ system_reset2 3 0 0x55 ∷ [])
-    (record two_run {
-      halting = true;
-      phase = Running ∷ Away ∷ Away ∷ Away ∷ Away ∷ [];
-      outstanding = None ∷ None ∷ None ∷ None ∷ None ∷ Some (message Reset 3 1 2 []) ∷ [];
-    })
-unfolding computing
-reset2_called = record { history = refl; kept = refl }
-
--- a type that is refused leaves everything as it was
-reset2_refused : Says (boot ∷ on_3 ∷ enter_on 3 1 2 ∷ system_reset2 3 0x80000000 0 ∷ []) two_run
-unfolding computing
-reset2_refused = record { history = refl; kept = refl }
