@@ -13,8 +13,7 @@ use Rattle.psci_fw_spec.specs.declared.reply.FwReply.{FwReply}
 use Rattle.psci_fw_spec.specs.declared.reply.FwReply.TheVariants.{Out}
 use Rattle.psci_messages.specs.declared.start.Cause.TheVariants as causes
 use Rattle.psci_messages.specs.declared.start.Start.{Start}
-use Rattle.psci_fw_spec.specs.Effects.{Acknowledges, AsksOn, Effect, Enters, GoesOn, Halts}
-use Rattle.psci_fw_spec.specs.Effects.{Nothing}
+use Rattle.psci_fw_spec.specs.Effects.{Acknowledges, AsksOn, Effect, Enters, GoesOn, Halts, Nothing}
 use Rattle.psci_fw_spec.specs.Effects.{Parks, Rests, SetsMode, Stops, StopsAtOnce, effect_of}
 use Rattle.psci_fw_spec.specs.Lives.{start_of_life}
 use Rattle.psci_fw_spec.specs.Outcomes.{executes_on}

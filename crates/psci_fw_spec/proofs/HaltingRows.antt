@@ -2,11 +2,11 @@
 use Rattle.std.proofs.Common.{◌∷◌, [], false, refl, true}
 use Rattle.psci_messages.specs.declared.kind.Kind.TheVariants.{Off, Reset, Start}
 use Rattle.psci_fw_spec.specs.declared.fault.FwFault.TheVariants.{OldStart}
-use Rattle.psci_fw_spec.proofs.Steps.{◌⇒◌, AreAnswered, board, boot, boots, computing}
-use Rattle.psci_fw_spec.proofs.Steps.{enter_on, enter_reset, enter_wake, goes_on_3}
-use Rattle.psci_fw_spec.proofs.Steps.{goes_to, off, old, on, on_3, one_cluster, part}
-use Rattle.psci_fw_spec.proofs.Steps.{refused, starts, stops, stops_by, stops_still, suspend}
-use Rattle.psci_fw_spec.proofs.Steps.{system_off, system_reset, take, take_down, used}
+use Rattle.psci_fw_spec.proofs.Steps.{◌⇒◌, AreAnswered, AreAnsweredAll, board, boot, boots}
+use Rattle.psci_fw_spec.proofs.Steps.{computing, enter_on, enter_reset, enter_wake, goes_on_3}
+use Rattle.psci_fw_spec.proofs.Steps.{goes_to, off, old, on, on_3, one_cluster, part, refused}
+use Rattle.psci_fw_spec.proofs.Steps.{starts, stops, stops_by, stops_still, suspend, system_off}
+use Rattle.psci_fw_spec.proofs.Steps.{system_reset, take, take_down, used}
 
 -- a core stops whatever it calls: CPU_OFF, and SYSTEM_OFF, which sends nothing then
 functions_of_a_halting_life : AreAnswered one_cluster
@@ -23,9 +23,9 @@ functions_of_a_halting_life : AreAnswered one_cluster
 unfolding computing
 functions_of_a_halting_life = record { history = refl; values = refl }
 
--- a pending core stops as well, and a core that was suspended; their starts are over then
-entries_of_a_halting_life : AreAnswered board
-    (boot ⇒ boots
+cores_of_a_halting_life : AreAnsweredAll board
+    -- a pending core stops as well, and a core that was suspended; their starts are over then
+    ((boot ⇒ boots
     ∷ on_3 ⇒ starts 3 1 0
     ∷ on 0x001 0x40005000 0 ⇒ starts 1 1 0
     ∷ enter_on 1 1 1 ⇒ goes_to 0x40005000 0
@@ -38,13 +38,9 @@ entries_of_a_halting_life : AreAnswered board
     ∷ enter_wake 0 1 2 ⇒ stops_still
     ∷ take Off 0 1 1 1 false ⇒ used
     ∷ take Off 0 1 1 1 false ⇒ old ∷ [])
-unfolding computing
-entries_of_a_halting_life = record { history = refl; values = refl }
-
--- an entry ends what is outstanding for its core; what is for the system stays until it is
--- acknowledged
-slots_of_a_halting_life : AreAnswered board
-    (boot ⇒ boots
+    -- an entry ends what is outstanding for its core; what is for the system stays until it is
+    -- acknowledged
+    ∷ (boot ⇒ boots
     ∷ on_3 ⇒ starts 3 1 0
     ∷ enter_on 3 1 1 ⇒ goes_on_3
     ∷ off 3 ⇒ stops 3 1 1 (part 0 3 1 ∷ part 1 3 1 ∷ [])
@@ -56,6 +52,6 @@ slots_of_a_halting_life : AreAnswered board
     ∷ enter_reset 0 1 2 ⇒ stops_still
     ∷ take Off 0 1 1 1 false ⇒ old
     ∷ take Reset 0 1 1 0 true ⇒ used
-    ∷ take Reset 0 1 1 1 false ⇒ old ∷ [])
+    ∷ take Reset 0 1 1 1 false ⇒ old ∷ []) ∷ [])
 unfolding computing
-slots_of_a_halting_life = record { history = refl; values = refl }
+cores_of_a_halting_life = record { history = refl; values = refl }

@@ -3,10 +3,10 @@
 use Rattle.std.proofs.Common.{◌∷◌, ℕ, [], false, refl}
 use Rattle.psci_messages.specs.declared.kind.Kind.TheVariants as kinds
 use Rattle.psci_fw_spec.proofs.Lopsided.{lopsided}
-use Rattle.psci_fw_spec.proofs.Steps.{◌⇒◌, AreAnswered, Step, board, boot, boots, computing}
-use Rattle.psci_fw_spec.proofs.Steps.{enter_boot, enter_on, enter_reset, enter_wake, error}
-use Rattle.psci_fw_spec.proofs.Steps.{goes_on_3, goes_to, off, old, on, on_3, on_by, one_core, part}
-use Rattle.psci_fw_spec.proofs.Steps.{resumes, set_mode, smc, starts, stops}
+use Rattle.psci_fw_spec.proofs.Steps.{◌⇒◌, AreAnswered, AreAnsweredAll, Step, board, boot, boots}
+use Rattle.psci_fw_spec.proofs.Steps.{computing, enter_boot, enter_on, enter_reset, enter_wake}
+use Rattle.psci_fw_spec.proofs.Steps.{error, goes_on_3, goes_to, off, old, on, on_3, on_by}
+use Rattle.psci_fw_spec.proofs.Steps.{one_core, part, resumes, set_mode, smc, starts, stops}
 use Rattle.psci_fw_spec.proofs.Steps.{suspend, take, take_down, take_stale, tall, used, value}
 
 -- NODE_HW_STATE by a core: affinity word, level
@@ -46,9 +46,9 @@ in_part_at_three_levels : AreAnswered lopsided
 unfolding computing
 in_part_at_three_levels = record { history = refl; values = refl }
 
--- more parts than the Down has
-more_parts_than_sent : AreAnswered board
-    (boot ⇒ boots
+more_or_other_parts : AreAnsweredAll board
+    -- more parts than the Down has
+    ((boot ⇒ boots
     ∷ on_3 ⇒ starts 3 1 0
     ∷ enter_on 3 1 1 ⇒ goes_on_3
     ∷ suspend 3 0x2 0 0 ⇒ stops 3 1 1 (part 0 2 1 ∷ [])
@@ -56,8 +56,22 @@ more_parts_than_sent : AreAnswered board
     ∷ hw 0 0x101 0 ⇒ value 2
     ∷ hw 0 0x100 1 ⇒ value 0
     ∷ hw 0 0 2 ⇒ value 0 ∷ [])
+    -- an acknowledgement of another life, number, core or kind
+    ∷ (enter_boot 0 2 1 ⇒ boots
+    ∷ on_3 ⇒ starts 3 2 0
+    ∷ enter_on 3 2 2 ⇒ goes_on_3
+    ∷ off 3 ⇒ stops 3 2 2 (part 0 3 2 ∷ part 1 3 2 ∷ [])
+    ∷ take_down 3 1 2 2 ⇒ old
+    ∷ take_down 3 2 1 2 ⇒ old
+    ∷ take_down 2 2 2 2 ⇒ old
+    ∷ take kinds.Start 3 2 2 2 false ⇒ old
+    ∷ hw 0 0x101 0 ⇒ value 0
+    ∷ hw 0 0x100 1 ⇒ value 0
+    ∷ take_down 3 2 2 2 ⇒ used
+    ∷ hw 0 0x101 0 ⇒ value 1
+    ∷ hw 0 0x100 1 ⇒ value 1 ∷ []) ∷ [])
 unfolding computing
-more_parts_than_sent = record { history = refl; values = refl }
+more_or_other_parts = record { history = refl; values = refl }
 
 -- retention in OS-initiated mode, in the last life: the acknowledgement of an earlier start is old,
 -- before the core has stopped again and afterwards
@@ -83,24 +97,6 @@ old_in_the_last_life : AreAnswered board
 unfolding computing
 old_in_the_last_life = record { history = refl; values = refl }
 
--- an acknowledgement of another life, number, core or kind
-of_other_messages : AreAnswered board
-    (enter_boot 0 2 1 ⇒ boots
-    ∷ on_3 ⇒ starts 3 2 0
-    ∷ enter_on 3 2 2 ⇒ goes_on_3
-    ∷ off 3 ⇒ stops 3 2 2 (part 0 3 2 ∷ part 1 3 2 ∷ [])
-    ∷ take_down 3 1 2 2 ⇒ old
-    ∷ take_down 3 2 1 2 ⇒ old
-    ∷ take_down 2 2 2 2 ⇒ old
-    ∷ take kinds.Start 3 2 2 2 false ⇒ old
-    ∷ hw 0 0x101 0 ⇒ value 0
-    ∷ hw 0 0x100 1 ⇒ value 0
-    ∷ take_down 3 2 2 2 ⇒ used
-    ∷ hw 0 0x101 0 ⇒ value 1
-    ∷ hw 0 0x100 1 ⇒ value 1 ∷ [])
-unfolding computing
-of_other_messages = record { history = refl; values = refl }
-
 -- an acknowledgement of one core's Down says nothing of another core, which asked the same
 beside_its_path : AreAnswered board
     (boot ⇒ boots
@@ -122,8 +118,9 @@ beside_its_path = record { history = refl; values = refl }
 
 -- Asked on, woken, replaced -------------------------------------------------------------------
 
-stale_without_parts : AreAnswered board
-    (boot ⇒ boots
+asked_on_woken_replaced : AreAnsweredAll board
+    -- stale without parts
+    ((boot ⇒ boots
     ∷ on_3 ⇒ starts 3 1 0
     ∷ enter_on 3 1 1 ⇒ goes_on_3
     ∷ off 3 ⇒ stops 3 1 1 (part 0 3 1 ∷ part 1 3 1 ∷ [])
@@ -131,11 +128,8 @@ stale_without_parts : AreAnswered board
     ∷ hw 0 0x101 0 ⇒ value 0
     ∷ take_down 3 1 1 2 ⇒ old
     ∷ hw 0 0x101 0 ⇒ value 0 ∷ [])
-unfolding computing
-stale_without_parts = record { history = refl; values = refl }
-
-applied_and_asked_on : AreAnswered board
-    (boot ⇒ boots
+    -- applied and asked on
+    ∷ (boot ⇒ boots
     ∷ on_3 ⇒ starts 3 1 0
     ∷ enter_on 3 1 1 ⇒ goes_on_3
     ∷ off 3 ⇒ stops 3 1 1 (part 0 3 1 ∷ part 1 3 1 ∷ [])
@@ -143,13 +137,9 @@ applied_and_asked_on : AreAnswered board
     ∷ take_down 3 1 1 2 ⇒ used
     ∷ hw 0 0x101 0 ⇒ value 1
     ∷ hw 0 0x100 1 ⇒ value 0 ∷ [])
-unfolding computing
-applied_and_asked_on = record { history = refl; values = refl }
-
--- the cluster was claimed anew, by core 2: the acknowledgement of the claim before says nothing of
--- it, though of core 3
-claimed_anew_by_another : AreAnswered board
-    (boot ⇒ boots
+    -- the cluster was claimed anew, by core 2: the acknowledgement of the claim before says nothing
+    -- of it, though of core 3
+    ∷ (boot ⇒ boots
     ∷ on_3 ⇒ starts 3 1 0
     ∷ enter_on 3 1 1 ⇒ goes_on_3
     ∷ off 3 ⇒ stops 3 1 1 (part 0 3 1 ∷ part 1 3 1 ∷ [])
@@ -164,13 +154,9 @@ claimed_anew_by_another : AreAnswered board
     ∷ hw 0 0x100 1 ⇒ value 0
     ∷ take_down 2 1 1 2 ⇒ used
     ∷ hw 0 0x100 1 ⇒ value 1 ∷ [])
-unfolding computing
-claimed_anew_by_another = record { history = refl; values = refl }
-
--- a Down that a later one of its core replaced, when it was woken and parked: the first is old, and
--- what had been confirmed is not any more
-replaced_by_a_park : AreAnswered board
-    (boot ⇒ boots
+    -- a Down that a later one of its core replaced, when it was woken and parked: the first is old,
+    -- and what had been confirmed is not any more
+    ∷ (boot ⇒ boots
     ∷ on_3 ⇒ starts 3 1 0
     ∷ enter_on 3 1 1 ⇒ goes_on_3
     ∷ off 3 ⇒ stops 3 1 1 (part 0 3 1 ∷ part 1 3 1 ∷ [])
@@ -184,12 +170,8 @@ replaced_by_a_park : AreAnswered board
     ∷ take_down 3 1 2 2 ⇒ used
     ∷ hw 0 0x101 0 ⇒ value 1
     ∷ hw 0 0x100 1 ⇒ value 1 ∷ [])
-unfolding computing
-replaced_by_a_park = record { history = refl; values = refl }
-
--- one that a Start replaced
-replaced_by_a_start : AreAnswered board
-    (boot ⇒ boots
+    -- one that a Start replaced
+    ∷ (boot ⇒ boots
     ∷ on_3 ⇒ starts 3 1 0
     ∷ enter_on 3 1 1 ⇒ goes_on_3
     ∷ off 3 ⇒ stops 3 1 1 (part 0 3 1 ∷ part 1 3 1 ∷ [])
@@ -198,9 +180,9 @@ replaced_by_a_start : AreAnswered board
     ∷ take_down 3 1 1 2 ⇒ old
     ∷ take kinds.Start 3 1 1 1 false ⇒ used
     ∷ hw 0 0x101 0 ⇒ value 0
-    ∷ hw 0 0x100 1 ⇒ value 0 ∷ [])
+    ∷ hw 0 0x100 1 ⇒ value 0 ∷ []) ∷ [])
 unfolding computing
-replaced_by_a_start = record { history = refl; values = refl }
+asked_on_woken_replaced = record { history = refl; values = refl }
 
 -- standby and retention of a core and its cluster, in platform-coordinated mode, on a tall board:
 -- core 2 asks about core 3 and is told until core 3 has entered again

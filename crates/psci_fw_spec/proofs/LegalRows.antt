@@ -30,7 +30,7 @@ legal_from b h (s ∷ ss) legal =
 
 -- whether a history of these calls and replies, the last one first, is legal
 abbrev is_legal_of : List Row → Bool
-is_legal_of rows = is_legal board (flat_map (λ r. with_entry r.step r.reply []) rows)
+is_legal_of rows = is_legal board (flat_map (λ r. with_entry r.given r.comes []) rows)
 
 -- none of these is
 abbrev AreIllegal : List (List Row) → Type 0

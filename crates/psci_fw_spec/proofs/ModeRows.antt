@@ -1,9 +1,8 @@
 -- Worked examples: PSCI_SET_SUSPEND_MODE, and what PSCI_FEATURES says of the modes.
 use Rattle.std.proofs.Common.{◌∷◌, [], refl}
 use Rattle.psci_fw_spec.proofs.Steps.{◌⇒◌, AreAnswered, board, boot, boots, computing, enter_on}
-use Rattle.psci_fw_spec.proofs.Steps.{enter_wake, error, features, goes_on_3, goes_to, off}
-use Rattle.psci_fw_spec.proofs.Steps.{on_3, part, resumes, set_mode, smc, starts, stops, suspend}
-use Rattle.psci_fw_spec.proofs.Steps.{value}
+use Rattle.psci_fw_spec.proofs.Steps.{enter_wake, error, features, goes_on_3, goes_to, off, on_3}
+use Rattle.psci_fw_spec.proofs.Steps.{part, resumes, set_mode, smc, starts, stops, suspend, value}
 
 -- OS-initiated mode is not set while a core is suspended, however light
 to_os_initiated : AreAnswered board

@@ -7,8 +7,7 @@ use Rattle.psci_board.specs.Board.{BoardValue}
 use Rattle.psci_fw_spec.specs.declared.opening.Opening.{Opening}
 use Rattle.psci_fw_spec.specs.After.{change}
 use Rattle.psci_fw_spec.specs.Changes.{target}
-use Rattle.psci_fw_spec.specs.Effects.{Effect, AsksOn, Rests}
-use Rattle.psci_fw_spec.specs.Effects.{Enters, Parks, StopsAtOnce}
+use Rattle.psci_fw_spec.specs.Effects.{Effect, AsksOn, Rests, Enters, Parks, StopsAtOnce}
 use Rattle.psci_fw_spec.specs.Exchange.{FwExchange}
 use Rattle.psci_fw_spec.specs.History.{begins, life, opening, says_opening, values_of}
 use Rattle.psci_messages.specs.OnlyIf.{only_if}

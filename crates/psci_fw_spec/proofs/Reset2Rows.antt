@@ -2,13 +2,12 @@
 use Rattle.std.proofs.Common.{◌∷◌, [], false, refl}
 use Rattle.psci_messages.specs.declared.kind.Kind.TheVariants.{Off, Reset}
 use Rattle.psci_fw_spec.specs.declared.fault.FwFault.TheVariants.{NoCore, NoLife, NotRunning}
-use Rattle.psci_fw_spec.proofs.Steps.{◌⇒◌, AreAnswered, affinity, board, boot, boots, computing}
-use Rattle.psci_fw_spec.proofs.Steps.{enter_boot, enter_on, enter_wake, error, goes_on_3}
-use Rattle.psci_fw_spec.proofs.Steps.{goes_to, off, old, on, on_3, one_cluster}
-use Rattle.psci_fw_spec.proofs.Steps.{part, refused, set_mode, smc, starts, stops}
-use Rattle.psci_fw_spec.proofs.Steps.{stops_by, stops_still, suspend, system_off}
-use Rattle.psci_fw_spec.proofs.Steps.{system_reset2, take, take_down, tall, uneven, used, value}
-use Rattle.psci_fw_spec.proofs.Steps.{version}
+use Rattle.psci_fw_spec.proofs.Steps.{◌⇒◌, AreAnswered, AreAnsweredAll, affinity, board, boot}
+use Rattle.psci_fw_spec.proofs.Steps.{boots, computing, enter_boot, enter_on, enter_wake, error}
+use Rattle.psci_fw_spec.proofs.Steps.{goes_on_3, goes_to, off, old, on, on_3, one_cluster, part}
+use Rattle.psci_fw_spec.proofs.Steps.{refused, set_mode, smc, starts, stops, stops_by, stops_still}
+use Rattle.psci_fw_spec.proofs.Steps.{suspend, system_off, system_reset2, take, take_down, tall}
+use Rattle.psci_fw_spec.proofs.Steps.{uneven, used, value, version}
 
 -- Types ---------------------------------------------------------------------------------------
 
@@ -28,9 +27,9 @@ types_of_reset : AreAnswered board
 unfolding computing
 types_of_reset = record { history = refl; values = refl }
 
--- the ends of the types, and each bit by itself
-other_types : AreAnswered board
-    (boot ⇒ boots
+other_types : AreAnsweredAll board
+    -- the ends of the types, and each bit by itself
+    ((boot ⇒ boots
     ∷ system_reset2 0 0xffffffff 0 ⇒ error 2
     ∷ system_reset2 0 0x7fffffff 0 ⇒ error 2
     ∷ system_reset2 0 0x80000001 0 ⇒ error 2
@@ -39,6 +38,14 @@ other_types : AreAnswered board
     ∷ smc 0 0x84000012 0x80000000 0 0 ⇒ error 2
     ∷ smc 0 0x84000012 0xffffffff 0 0 ⇒ error 2
     ∷ version 0 ⇒ value 65537 ∷ [])
+    -- what is wrong with the caller comes before what is wrong with the type
+    ∷ (system_reset2 4 1 0 ⇒ refused NoCore
+    ∷ system_reset2 3 1 0 ⇒ refused NoLife
+    ∷ system_reset2 0 0 0 ⇒ refused NoLife
+    ∷ boot ⇒ boots
+    ∷ system_reset2 3 1 0 ⇒ refused NotRunning
+    ∷ system_reset2 3 0 0 ⇒ refused NotRunning
+    ∷ version 0 ⇒ value 65537 ∷ []) ∷ [])
 unfolding computing
 other_types = record { history = refl; values = refl }
 
@@ -63,18 +70,6 @@ core_of_an_uneven_board_resets : AreAnswered uneven
     ∷ take Reset 2 1 4 1 false ⇒ used ∷ [])
 unfolding computing
 core_of_an_uneven_board_resets = record { history = refl; values = refl }
-
--- what is wrong with the caller comes before what is wrong with the type
-callers_refused : AreAnswered board
-    (system_reset2 4 1 0 ⇒ refused NoCore
-    ∷ system_reset2 3 1 0 ⇒ refused NoLife
-    ∷ system_reset2 0 0 0 ⇒ refused NoLife
-    ∷ boot ⇒ boots
-    ∷ system_reset2 3 1 0 ⇒ refused NotRunning
-    ∷ system_reset2 3 0 0 ⇒ refused NotRunning
-    ∷ version 0 ⇒ value 65537 ∷ [])
-unfolding computing
-callers_refused = record { history = refl; values = refl }
 
 -- Neighbours, modes and limits ----------------------------------------------------------------
 

@@ -7,8 +7,7 @@ use Rattle.psci_board.specs.Board.{BoardValue}
 use Rattle.psci_fw_spec.specs.declared.mode.SuspendMode.TheVariants.{Platform}
 use Rattle.psci_messages.specs.declared.start.Start.{Start}
 use Rattle.psci_fw_spec.specs.After.{change}
-use Rattle.psci_fw_spec.specs.Effects.{Effect}
-use Rattle.psci_fw_spec.specs.Effects.{Enters, Parks, StopsAtOnce}
+use Rattle.psci_fw_spec.specs.Effects.{Effect, Enters, Parks, StopsAtOnce}
 use Rattle.psci_fw_spec.specs.Exchange.{FwExchange}
 use Rattle.psci_fw_spec.specs.History.{begins, halting, known, life, life_after, mode}
 use Rattle.psci_messages.specs.OnlyIf.{only_if}

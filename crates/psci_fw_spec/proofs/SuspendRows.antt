@@ -1,9 +1,8 @@
 -- Worked examples: cores that are suspended in platform-coordinated mode.
 use Rattle.std.proofs.Common.{◌∷◌, [], refl}
-use Rattle.psci_fw_spec.proofs.Steps.{◌⇒◌, AreAnswered, board, boot, boots, computing}
-use Rattle.psci_fw_spec.proofs.Steps.{enter_on, enter_wake, error, goes_on_3, goes_to}
-use Rattle.psci_fw_spec.proofs.Steps.{on, on_3, one_core, part, resumes, smc}
-use Rattle.psci_fw_spec.proofs.Steps.{starts, stops, suspend, uneven}
+use Rattle.psci_fw_spec.proofs.Steps.{◌⇒◌, AreAnswered, board, boot, boots, computing, enter_on}
+use Rattle.psci_fw_spec.proofs.Steps.{enter_wake, error, goes_on_3, goes_to, on, on_3, one_core}
+use Rattle.psci_fw_spec.proofs.Steps.{part, resumes, smc, starts, stops, suspend, uneven}
 
 -- Openings ------------------------------------------------------------------------------------
 
