@@ -15,8 +15,7 @@ use Rattle.psci_ctl_spec.specs.Exchange.{CtlExchange}
 use Rattle.psci_ctl_spec.specs.Follows.{IsFront, MayFollow}
 use Rattle.psci_ctl_spec.specs.History.{depth, depth_by, effect_in, life, life_by}
 use Rattle.psci_messages.specs.OnlyIf.{only_if}
-use Rattle.psci_ctl_spec.specs.History.{starts, starts_by}
-use Rattle.psci_ctl_spec.specs.History.{values_of}
+use Rattle.psci_ctl_spec.specs.History.{starts, starts_by, values_of}
 use Rattle.psci_ctl_spec.specs.Lasting.{Applies, IsApplied, IsFirst, keeps_life}
 use Rattle.psci_ctl_spec.specs.Legal.{IsLegal}
 use Rattle.psci_ctl_spec.specs.Values.{first_starts, starts_below}
