@@ -27,16 +27,14 @@ use Rattle.psci_fw_spec.specs.Effects.{sent_effect, stop_effect}
 use Rattle.psci_fw_spec.specs.Exchange.{FwExchange, effect}
 use Rattle.psci_fw_spec.specs.History.{begins, life, phase_left}
 use Rattle.psci_messages.specs.OnlyIf.{only_if}
-use Rattle.psci_fw_spec.specs.Phases.{Phase, Pending, Running, Suspended, Away}
+use Rattle.psci_fw_spec.specs.Phases.{Phase, Pending, Away}
 use Rattle.psci_fw_spec.specs.Said.{Left, arrived, left}
 use Rattle.psci_fw_spec.specs.SuspendMode.{mode_of}
 
 -- a phase that an outcome can leave
 abbrev pub IsLeft : Phase → Type 0
 IsLeft Pending = ⊥
-IsLeft Running = Unit {0}
-IsLeft (Suspended ask) = Unit {0}
-IsLeft Away = Unit {0}
+IsLeft p = Unit {0}
 
 -- what an effect left, if it left something
 abbrev pub IsLeftBy : Option Left → Type 0

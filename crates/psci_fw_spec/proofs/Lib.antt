@@ -8,7 +8,6 @@ mod CallsStories
 mod Changing
 mod Claimed
 mod ConfirmedRows
-mod ConfirmedSay
 mod CpuOnRows
 mod Depending
 mod DomainsSay

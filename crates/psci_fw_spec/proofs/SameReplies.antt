@@ -37,9 +37,7 @@ int_itself z = (Decides-int_eq z z).1 refl
 
 kind_itself : (k : Kind) → is_kind k k ≡ true
 kind_itself kinds.Down = refl
-kind_itself kinds.Start = refl
-kind_itself kinds.Off = refl
-kind_itself kinds.Reset = refl
+kind_itself k = refl
 
 parts_itself : (ps : List Part) → are_same_parts ps ps ≡ true
 parts_itself [] = refl
