@@ -1,6 +1,7 @@
 -- Worked examples: what becomes of acknowledgements.
 use Rattle.std.proofs.Common.{◌∷◌, [], false, refl, true}
 use Rattle.psci_messages.specs.declared.kind.Kind.TheVariants.{Off, Reset, Start}
+use Rattle.psci_fw_spec.proofs.Lopsided.{once_3_runs}
 use Rattle.psci_fw_spec.proofs.Steps.{◌⇒◌, AreAnsweredAll, affinity, board, boot, boots, computing}
 use Rattle.psci_fw_spec.proofs.Steps.{enter_boot, enter_on, enter_wake, goes_on_3, goes_to, off}
 use Rattle.psci_fw_spec.proofs.Steps.{old, on, on_3, part, starts, stops, suspend, take, take_down}
@@ -11,10 +12,8 @@ use Rattle.psci_fw_spec.proofs.Steps.{take_stale, used, value}
 downs_acknowledged : AreAnsweredAll board
     -- a part that was applied turns the core OFF, and none does not; until all were, the message
     -- stays outstanding
-    ((boot ⇒ boots
-    ∷ on_3 ⇒ starts 3 1 0
-    ∷ enter_on 3 1 1 ⇒ goes_on_3
-    ∷ off 3 ⇒ stops 3 1 1 (part 0 3 1 ∷ part 1 3 1 ∷ [])
+    (once_3_runs 1
+    (off 3 ⇒ stops 3 1 1 (part 0 3 1 ∷ part 1 3 1 ∷ [])
     ∷ take_down 3 1 1 0 ⇒ used
     ∷ affinity 0x101 0 ⇒ value 0
     ∷ take_down 3 1 1 1 ⇒ used
@@ -39,19 +38,15 @@ downs_acknowledged : AreAnsweredAll board
     ∷ affinity 0x101 0 ⇒ value 1
     ∷ take_down 3 1 1 2 ⇒ old ∷ [])
     -- and nowhere else
-    ∷ (boot ⇒ boots
-    ∷ on_3 ⇒ starts 3 1 0
-    ∷ enter_on 3 1 1 ⇒ goes_on_3
-    ∷ off 3 ⇒ stops 3 1 1 (part 0 3 1 ∷ part 1 3 1 ∷ [])
+    ∷ once_3_runs 1
+    (off 3 ⇒ stops 3 1 1 (part 0 3 1 ∷ part 1 3 1 ∷ [])
     ∷ take_stale 3 1 1 0 ⇒ used
     ∷ affinity 0x101 0 ⇒ value 0
     ∷ take_down 3 1 1 2 ⇒ old
     ∷ affinity 0x101 0 ⇒ value 0 ∷ [])
     -- a core that was suspended is ON still when that is acknowledged
-    ∷ (boot ⇒ boots
-    ∷ on_3 ⇒ starts 3 1 0
-    ∷ enter_on 3 1 1 ⇒ goes_on_3
-    ∷ suspend 3 0x00010003 0x40004000 2 ⇒ stops 3 1 1 (part 0 3 1 ∷ [])
+    ∷ once_3_runs 1
+    (suspend 3 0x00010003 0x40004000 2 ⇒ stops 3 1 1 (part 0 3 1 ∷ [])
     ∷ take_down 3 1 1 1 ⇒ used
     ∷ affinity 0x101 0 ⇒ value 0
     ∷ enter_wake 3 1 2 ⇒ goes_to 0x40004000 2 ∷ []) ∷ [])
@@ -62,10 +57,8 @@ downs_acknowledged = record { history = refl; values = refl }
 
 messages_named : AreAnsweredAll board
     -- an acknowledgement is of the outstanding message where it has its kind, core, life and number
-    ((boot ⇒ boots
-    ∷ on_3 ⇒ starts 3 1 0
-    ∷ enter_on 3 1 2 ⇒ goes_on_3
-    ∷ off 3 ⇒ stops 3 1 2 (part 0 3 2 ∷ part 1 3 2 ∷ [])
+    (once_3_runs 2
+    (off 3 ⇒ stops 3 1 2 (part 0 3 2 ∷ part 1 3 2 ∷ [])
     ∷ take_down 3 1 1 2 ⇒ old
     ∷ take_down 3 1 3 2 ⇒ old
     ∷ take_down 3 2 2 2 ⇒ old
@@ -82,10 +75,8 @@ messages_named : AreAnsweredAll board
     ∷ take Start 0 0 0 1 false ⇒ old
     ∷ boot ⇒ boots ∷ [])
     -- an acknowledgement of the last life
-    ∷ (boot ⇒ boots
-    ∷ on_3 ⇒ starts 3 1 0
-    ∷ enter_on 3 1 1 ⇒ goes_on_3
-    ∷ off 3 ⇒ stops 3 1 1 (part 0 3 1 ∷ part 1 3 1 ∷ [])
+    ∷ once_3_runs 1
+    (off 3 ⇒ stops 3 1 1 (part 0 3 1 ∷ part 1 3 1 ∷ [])
     ∷ enter_boot 0 2 1 ⇒ boots
     ∷ take_down 3 1 1 2 ⇒ old
     ∷ on_3 ⇒ starts 3 2 0
@@ -107,10 +98,8 @@ starts_acknowledged : AreAnsweredAll board
     ∷ take Start 1 1 0 0 false ⇒ used
     ∷ take Start 1 1 0 1 false ⇒ old ∷ [])
     -- a new message for a core takes the place of the old one: a Start that of a Down
-    ∷ (boot ⇒ boots
-    ∷ on_3 ⇒ starts 3 1 0
-    ∷ enter_on 3 1 1 ⇒ goes_on_3
-    ∷ off 3 ⇒ stops 3 1 1 (part 0 3 1 ∷ part 1 3 1 ∷ [])
+    ∷ once_3_runs 1
+    (off 3 ⇒ stops 3 1 1 (part 0 3 1 ∷ part 1 3 1 ∷ [])
     ∷ take_down 3 1 1 1 ⇒ used
     ∷ on_3 ⇒ starts 3 1 1
     ∷ take_down 3 1 1 2 ⇒ old

@@ -2,7 +2,7 @@
 -- ones.
 use Rattle.std.proofs.Common.{◌∷◌, ℕ, [], false, refl}
 use Rattle.psci_messages.specs.declared.kind.Kind.TheVariants as kinds
-use Rattle.psci_fw_spec.proofs.Lopsided.{lopsided}
+use Rattle.psci_fw_spec.proofs.Lopsided.{lopsided, once_3_runs}
 use Rattle.psci_fw_spec.proofs.Steps.{◌⇒◌, AreAnswered, AreAnsweredAll, Step, board, boot, boots}
 use Rattle.psci_fw_spec.proofs.Steps.{computing, enter_boot, enter_on, enter_reset, enter_wake}
 use Rattle.psci_fw_spec.proofs.Steps.{error, goes_on_3, goes_to, off, old, on, on_3, on_by}
@@ -48,10 +48,8 @@ in_part_at_three_levels = record { history = refl; values = refl }
 
 more_or_other_parts : AreAnsweredAll board
     -- more parts than the Down has
-    ((boot ⇒ boots
-    ∷ on_3 ⇒ starts 3 1 0
-    ∷ enter_on 3 1 1 ⇒ goes_on_3
-    ∷ suspend 3 0x2 0 0 ⇒ stops 3 1 1 (part 0 2 1 ∷ [])
+    (once_3_runs 1
+    (suspend 3 0x2 0 0 ⇒ stops 3 1 1 (part 0 2 1 ∷ [])
     ∷ take_down 3 1 1 3 ⇒ used
     ∷ hw 0 0x101 0 ⇒ value 2
     ∷ hw 0 0x100 1 ⇒ value 0
@@ -120,29 +118,23 @@ beside_its_path = record { history = refl; values = refl }
 
 asked_on_woken_replaced : AreAnsweredAll board
     -- stale without parts
-    ((boot ⇒ boots
-    ∷ on_3 ⇒ starts 3 1 0
-    ∷ enter_on 3 1 1 ⇒ goes_on_3
-    ∷ off 3 ⇒ stops 3 1 1 (part 0 3 1 ∷ part 1 3 1 ∷ [])
+    (once_3_runs 1
+    (off 3 ⇒ stops 3 1 1 (part 0 3 1 ∷ part 1 3 1 ∷ [])
     ∷ take_stale 3 1 1 0 ⇒ used
     ∷ hw 0 0x101 0 ⇒ value 0
     ∷ take_down 3 1 1 2 ⇒ old
     ∷ hw 0 0x101 0 ⇒ value 0 ∷ [])
     -- applied and asked on
-    ∷ (boot ⇒ boots
-    ∷ on_3 ⇒ starts 3 1 0
-    ∷ enter_on 3 1 1 ⇒ goes_on_3
-    ∷ off 3 ⇒ stops 3 1 1 (part 0 3 1 ∷ part 1 3 1 ∷ [])
+    ∷ once_3_runs 1
+    (off 3 ⇒ stops 3 1 1 (part 0 3 1 ∷ part 1 3 1 ∷ [])
     ∷ on 0x100 0x40002000 0 ⇒ starts 2 1 0
     ∷ take_down 3 1 1 2 ⇒ used
     ∷ hw 0 0x101 0 ⇒ value 1
     ∷ hw 0 0x100 1 ⇒ value 0 ∷ [])
     -- the cluster was claimed anew, by core 2: the acknowledgement of the claim before says nothing
     -- of it, though of core 3
-    ∷ (boot ⇒ boots
-    ∷ on_3 ⇒ starts 3 1 0
-    ∷ enter_on 3 1 1 ⇒ goes_on_3
-    ∷ off 3 ⇒ stops 3 1 1 (part 0 3 1 ∷ part 1 3 1 ∷ [])
+    ∷ once_3_runs 1
+    (off 3 ⇒ stops 3 1 1 (part 0 3 1 ∷ part 1 3 1 ∷ [])
     ∷ on 0x100 0x40002000 0 ⇒ starts 2 1 0
     ∷ enter_on 2 1 1 ⇒ goes_to 0x40002000 0
     ∷ off 2 ⇒ stops 2 1 1 (part 0 3 1 ∷ part 1 3 2 ∷ [])
@@ -156,10 +148,8 @@ asked_on_woken_replaced : AreAnsweredAll board
     ∷ hw 0 0x100 1 ⇒ value 1 ∷ [])
     -- a Down that a later one of its core replaced, when it was woken and parked: the first is old,
     -- and what had been confirmed is not any more
-    ∷ (boot ⇒ boots
-    ∷ on_3 ⇒ starts 3 1 0
-    ∷ enter_on 3 1 1 ⇒ goes_on_3
-    ∷ off 3 ⇒ stops 3 1 1 (part 0 3 1 ∷ part 1 3 1 ∷ [])
+    ∷ once_3_runs 1
+    (off 3 ⇒ stops 3 1 1 (part 0 3 1 ∷ part 1 3 1 ∷ [])
     ∷ take_down 3 1 1 1 ⇒ used
     ∷ hw 0 0x101 0 ⇒ value 1
     ∷ enter_wake 3 1 2 ⇒ stops 3 1 2 (part 0 3 2 ∷ part 1 3 2 ∷ [])
@@ -171,10 +161,8 @@ asked_on_woken_replaced : AreAnsweredAll board
     ∷ hw 0 0x101 0 ⇒ value 1
     ∷ hw 0 0x100 1 ⇒ value 1 ∷ [])
     -- one that a Start replaced
-    ∷ (boot ⇒ boots
-    ∷ on_3 ⇒ starts 3 1 0
-    ∷ enter_on 3 1 1 ⇒ goes_on_3
-    ∷ off 3 ⇒ stops 3 1 1 (part 0 3 1 ∷ part 1 3 1 ∷ [])
+    ∷ once_3_runs 1
+    (off 3 ⇒ stops 3 1 1 (part 0 3 1 ∷ part 1 3 1 ∷ [])
     ∷ take_down 3 1 1 1 ⇒ used
     ∷ on_3 ⇒ starts 3 1 1
     ∷ take_down 3 1 1 2 ⇒ old
@@ -215,10 +203,8 @@ standby_and_retention = record { history = refl; values = refl }
 -- a life begins with its boot path on and all else off, whatever was confirmed in the one before;
 -- acknowledgements of that one are old
 next_life : AreAnswered board
-    (boot ⇒ boots
-    ∷ on_3 ⇒ starts 3 1 0
-    ∷ enter_on 3 1 1 ⇒ goes_on_3
-    ∷ on 0x1 0x40005000 0 ⇒ starts 1 1 0
+    (once_3_runs 1
+    (on 0x1 0x40005000 0 ⇒ starts 1 1 0
     ∷ enter_on 1 1 1 ⇒ goes_to 0x40005000 0
     ∷ suspend 1 0x01000022 0 0 ⇒ stops 1 1 1 (part 0 2 1 ∷ [])
     ∷ take_down 1 1 1 1 ⇒ used
@@ -236,7 +222,7 @@ next_life : AreAnswered board
     ∷ hw 0 0x101 0 ⇒ value 1
     ∷ hw 0 0x100 1 ⇒ value 1
     ∷ take_down 1 1 1 1 ⇒ old
-    ∷ hw 0 0x1 0 ⇒ value 1 ∷ [])
+    ∷ hw 0 0x1 0 ⇒ value 1 ∷ []))
 unfolding computing
 next_life = record { history = refl; values = refl }
 

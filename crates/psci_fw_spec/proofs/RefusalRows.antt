@@ -3,6 +3,7 @@ use Rattle.std.proofs.Common.{◌∷◌, [], refl}
 use Rattle.psci_messages.specs.declared.kind.Kind.TheVariants.{Off}
 use Rattle.psci_fw_spec.specs.declared.fault.FwFault.TheVariants.{NoCore, NoLife, NotRunning}
 use Rattle.psci_fw_spec.specs.declared.fault.FwFault.TheVariants.{OldStart}
+use Rattle.psci_fw_spec.proofs.Lopsided.{once_3_runs}
 use Rattle.psci_fw_spec.proofs.Steps.{◌⇒◌, AreAnswered, AreAnsweredAll, affinity, board, boot}
 use Rattle.psci_fw_spec.proofs.Steps.{boots, computing, enter_boot, enter_on, enter_reset}
 use Rattle.psci_fw_spec.proofs.Steps.{enter_wake, goes_on_3, limited, off, on_3, part, refused}
@@ -37,10 +38,8 @@ calls_refused : AreAnsweredAll board
     ∷ enter_wake 3 1 3 ⇒ stops 3 1 3 (part 0 3 3 ∷ part 1 3 3 ∷ [])
     ∷ version 3 ⇒ refused NotRunning ∷ [])
     -- the same in a halting life: what is wrong with the caller comes before that it stops
-    ∷ (boot ⇒ boots
-    ∷ on_3 ⇒ starts 3 1 0
-    ∷ enter_on 3 1 1 ⇒ goes_on_3
-    ∷ system_off 0 ⇒ stops_by Off 0 1 1 []
+    ∷ once_3_runs 1
+    (system_off 0 ⇒ stops_by Off 0 1 1 []
     ∷ version 4 ⇒ refused NoCore
     ∷ version 0 ⇒ refused NotRunning
     ∷ version 3 ⇒ stops_still
