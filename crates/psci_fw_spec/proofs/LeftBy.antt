@@ -55,17 +55,12 @@ rest_left b r = tt
 stop_left : (b : BoardValue) (c : ℕ) (r : Request) (m : MessageValue)
     → IsLeftBy (left (stop_effect b c r m))
 stop_left b c requests.SystemOff m = tt
-stop_left b c requests.SystemReset m = tt
-stop_left b c (requests.SystemReset2 reset_type cookie) m = tt
 stop_left b c r m = rest_left b r
-
-mode_left : (c : ℕ) (m : Option SuspendMode) → IsLeftBy (left (mode_effect c m))
-mode_left c None = tt
-mode_left c (Some m) = tt
 
 mode_set_left : (c : ℕ) (m : Option SuspendMode) (t : Bool)
     → IsLeftBy (left (cond t (mode_effect c m) (GoesOn c)))
-mode_set_left c m true = mode_left c m
+mode_set_left c None true = tt
+mode_set_left c (Some m) true = tt
 mode_set_left c m false = tt
 
 return_left : (c : ℕ) (r : Request) (code : Code) → IsLeftBy (left (return_effect c r code))
