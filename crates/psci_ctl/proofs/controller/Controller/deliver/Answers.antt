@@ -6,27 +6,12 @@ use Rattle.psci_ctl.proofs.controller.Controller.deliver.Goals as goal
 
 pub returns-in_default : goal.returns-in_default
 unfolding after effect_of reply delivery_of
-returns-in_default c = record {
-  reply = search rules;
-  after = search rules;
-  board = search rules;
-  ignored = search rules;
-}
+returns-in_default c = search rules
 
 pub returns-then-life-message : goal.returns-then-life-message
 unfolding after effect_of reply delivery_of
-returns-then-life-message c = record {
-  reply = search rules;
-  after = search rules;
-  board = search rules;
-  ignored = search rules;
-}
+returns-then-life-message c = search rules
 
 pub returns : goal.returns
 unfolding after effect_of reply delivery_of
-returns c = record {
-  reply = search rules;
-  after = search rules;
-  board = search rules;
-  ignored = search rules;
-}
+returns c = search rules

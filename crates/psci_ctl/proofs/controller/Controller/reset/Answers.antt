@@ -6,27 +6,12 @@ use Rattle.psci_ctl.proofs.controller.Controller.reset.Goals as goal
 
 pub returns-in_default : goal.returns-in_default
 unfolding after effect_of reply reset_of
-returns-in_default c = record {
-  reply = search rules;
-  after = search rules;
-  board = search rules;
-  ignored = search rules;
-}
+returns-in_default c = search rules
 
 pub returns-then-not-may_start : goal.returns-then-not-may_start
 unfolding after effect_of reply reset_of
-returns-then-not-may_start c = record {
-  reply = search rules;
-  after = search rules;
-  board = search rules;
-  ignored = search rules;
-}
+returns-then-not-may_start c = search rules
 
 pub returns : goal.returns
 unfolding after effect_of reply reset_of
-returns c = record {
-  reply = search rules;
-  after = search rules;
-  board = search rules;
-  ignored = search rules;
-}
+returns c = search rules

@@ -6,27 +6,12 @@ use Rattle.psci_ctl.proofs.controller.Controller.wake.Goals as goal
 
 pub returns-in_default : goal.returns-in_default
 unfolding after effect_of reply wake_of
-returns-in_default c = record {
-  reply = search rules;
-  after = search rules;
-  board = search rules;
-  ignored = search rules;
-}
+returns-in_default c = search rules
 
 pub returns-then-starts-halted : goal.returns-then-starts-halted
 unfolding after effect_of reply wake_of
-returns-then-starts-halted c = record {
-  reply = search rules;
-  after = search rules;
-  board = search rules;
-  ignored = search rules;
-}
+returns-then-starts-halted c = search rules
 
 pub returns : goal.returns
 unfolding after effect_of reply wake_of
-returns c = record {
-  reply = search rules;
-  after = search rules;
-  board = search rules;
-  ignored = search rules;
-}
+returns c = search rules
