@@ -14,15 +14,11 @@ use Rattle.psci_ctl_spec.specs.Parts.{applied, begins_stale, depth_or, is_applie
 use Rattle.psci_ctl_spec.specs.Parts.{is_live, is_stale, laid}
 use Rattle.psci_ctl_spec.specs.Values.{Values}
 use Rattle.psci_board.specs.Paths.{is_on_path}
+use Rattle.psci_ctl_spec.proofs.Front.{get_take}
 use Rattle.psci_ctl.specs.Rows.{with_depth}
+use Rattle.psci_ctl.proofs.Looked.{both_false, both_true}
 
 -- Fronts of lists ----------------------------------------------------------------------------
-
-get_take : (xs : List Part) (n k : ℕ) → k < n → slice_get (take n xs) k ≡ slice_get xs k
-get_take xs zero k h = absurd (omega arith)
-get_take [] (suc n) k h = refl
-get_take (x ∷ xs) (suc n) zero h = refl
-get_take (x ∷ xs) (suc n) (suc k) h = get_take xs n k (omega arith)
 
 get_past : (xs : List Part) (n k : ℕ) → n ≤ k → slice_get (take n xs) k ≡ None
 get_past xs zero k h = refl
@@ -81,12 +77,6 @@ laid_more b c k ps d depth h low level l q =
           ])
     ]
   where
-    both_true : (l k p q : ℕ) → l ≡ k → p ≡ q → (l == k && p == q) ≡ true
-    both_true l k p q e f = rw (eq-eqb l k e, eq-eqb p q f) refl
-
-    both_false : (l k p q : ℕ) → l ≡ k → (p ≡ q → ⊥) → (l == k && p == q) ≡ false
-    both_false l k p q e f = rw (eq-eqb l k e, ne_eqb p q f) refl
-
     here : (b : BoardValue) (c l k q : ℕ) → k ≤ height b → l ≡ k → q ≡ up b k c
         → is_on_path b c l q ≡ true
     here b c l k q low e f =

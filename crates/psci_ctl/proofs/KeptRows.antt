@@ -2,14 +2,15 @@
 -- was started twice, by a wake-up, and its cluster is in retention.
 use Rattle.std.proofs.Common.{◌≡◌, ℕ, ◌+◌, ◌*◌, ◌<◌, ◌^◌, List, [], ◌∷◌, map}
 use Rattle.std.proofs.Common.{Some, true, false, refl, ap, arith}
+use Rattle.psci_board.proofs.Tables.{◌⇒◌, Gives}
 use Rattle.psci_board.specs.Board.{BoardValue, up}
+use Rattle.psci_board.specs.declared.node.Node.{Node}
 use Rattle.psci_ctl_spec.specs.psci_abi.declared.format.Format.TheVariants.{Original}
 use Rattle.psci_ctl_spec.specs.Values.{Values, starts_below}
 use Rattle.psci_messages.specs.declared.start.Cause.TheVariants.{Boot, On, Wake}
 use Rattle.psci_ctl.specs.declared.level.DomainRow.{DomainRow}
 use Rattle.psci_ctl.specs.declared.row.CoreRow.{CoreRow}
-use Rattle.psci_ctl.specs.Rows.{HasRows, HasSums, HaveRoom, core_row, deepened, depth_in}
-use Rattle.psci_ctl.specs.Rows.{domain_at}
+use Rattle.psci_ctl.specs.Rows.{HasRows, HasSums, HaveRoom, core_row, deepened, depth_in, domain_at}
 use Rattle.psci_ctl.specs.Rows.{off_core, off_domain, path_on_below, path_on_once, values_in}
 use Rattle.psci_ctl.specs.Rows.{with_core, with_depth}
 use Rattle.psci_ctl.specs.Seen.{ControllerValue, IsController, Leaves, done, start_done}
@@ -47,26 +48,26 @@ domains =
     (at 0 1 ∷ at 3 0 ∷ at 3 0 ∷ at 2 2 ∷ [])
     ∷ (at 0 1 ∷ at 2 2 ∷ []) ∷ (at 0 3 ∷ []) ∷ []
 
+abbrev node : ℕ → ℕ → Node
+node level place = record { level = level; place = place }
+
 -- Rows --------------------------------------------------------------------------------------------
 
-core_not_started : off_core ≡ off
-core_not_started = refl
-
-domain_not_started : off_domain ≡ at 3 0
-domain_not_started = refl
+rows_not_started : (off_core ≡ off) × (off_domain ≡ at 3 0)
+rows_not_started = (refl, refl)
 
 -- of each core, and of one beside the board
 rows_of_cores : map (core_row cores) (0 ∷ 1 ∷ 3 ∷ 4 ∷ []) ≡ first ∷ off ∷ woken ∷ off ∷ []
 rows_of_cores = refl
 
--- of domains on three levels, and beside the board
-rows_of_domains : domain_at domains 0 3 ∷ domain_at domains 1 0 ∷ domain_at domains 1 1
-    ∷ domain_at domains 2 0 ∷ domain_at domains 1 2 ∷ domain_at domains 3 0 ∷ []
-    ≡ at 2 2 ∷ at 0 1 ∷ at 2 2 ∷ at 0 3 ∷ at 3 0 ∷ at 3 0 ∷ []
+-- of domains on three levels, and beside the board: level, place
+rows_of_domains : Gives (λ n. domain_at domains n.level n.place)
+    (node 0 3 ⇒ at 2 2 ∷ node 1 0 ⇒ at 0 1 ∷ node 1 1 ⇒ at 2 2 ∷ node 2 0 ⇒ at 0 3
+    ∷ node 1 2 ⇒ at 3 0 ∷ node 3 0 ⇒ at 3 0 ∷ [])
 rows_of_domains = refl
 
-depths : depth_in domains 0 3 ∷ depth_in domains 1 0 ∷ depth_in domains 2 0
-    ∷ depth_in domains 3 0 ∷ [] ≡ 2 ∷ 0 ∷ 0 ∷ 3 ∷ []
+depths : Gives (λ n. depth_in domains n.level n.place)
+    (node 0 3 ⇒ 2 ∷ node 1 0 ⇒ 0 ∷ node 2 0 ⇒ 0 ∷ node 3 0 ⇒ 3 ∷ [])
 depths = refl
 
 one_core_changed : map (with_core cores 2 asked_on) (1 ∷ 2 ∷ 3 ∷ [])
@@ -79,19 +80,11 @@ on_once_more : path_on_once (at 2 5) ≡ at 0 6
 on_once_more = refl
 
 -- core 3 is started: its domains below the system, and neither the system nor another cluster
-below_the_system : map (path_on_below board 3 domains 2 0) (2 ∷ 3 ∷ [])
-    ≡ at 3 0 ∷ at 0 3 ∷ []
+below_the_system : Gives (λ n. path_on_below board 3 domains 2 n.level n.place)
+    (node 0 2 ⇒ at 3 0 ∷ node 0 3 ⇒ at 0 3 ∷ node 1 0 ⇒ at 0 1 ∷ node 1 1 ⇒ at 0 3
+    ∷ node 2 0 ⇒ at 0 3 ∷ [])
 unfolding up
 below_the_system = refl
-
-clusters_below_the_system : map (path_on_below board 3 domains 2 1) (0 ∷ 1 ∷ [])
-    ≡ at 0 1 ∷ at 0 3 ∷ []
-unfolding up
-clusters_below_the_system = refl
-
-system_itself : path_on_below board 3 domains 2 2 0 ≡ at 0 3
-unfolding up
-system_itself = refl
 
 whole_path : path_on_below board 3 domains 3 2 0 ≡ at 0 4
 unfolding up
@@ -102,10 +95,8 @@ whole_path = refl
 abbrev before : ℕ → ℕ → ℕ
 before level place = 10 * level + place
 
-one_domain_deepened : deepened (record { level = 1; place = 1 }) 3 before 1 1
-    ∷ deepened (record { level = 1; place = 1 }) 3 before 1 0
-    ∷ deepened (record { level = 1; place = 1 }) 3 before 2 1 ∷ []
-    ≡ 3 ∷ 10 ∷ 21 ∷ []
+one_domain_deepened : Gives (λ n. deepened (node 1 1) 3 before n.level n.place)
+    (node 1 1 ⇒ 3 ∷ node 1 0 ⇒ 10 ∷ node 2 1 ⇒ 21 ∷ [])
 one_domain_deepened = refl
 
 -- a part of a core of the other cluster, for its cluster; and of the first core, for itself
@@ -125,18 +116,15 @@ core_as_asked = refl
 abbrev values : Values
 values = values_in (Some 2) cores domains
 
-life_kept : values.life ≡ Some 2
-life_kept = refl
+record AreKept : Type 0 where
+  life : values.life ≡ Some 2
+  starts : map values.starts (0 ∷ 1 ∷ 3 ∷ 4 ∷ []) ≡ 1 ∷ 0 ∷ 2 ∷ 0 ∷ []
+  causes : map values.cause (0 ∷ 3 ∷ 4 ∷ []) ≡ Boot ∷ Wake ∷ Boot ∷ []
+  depths : Gives (λ n. values.depth n.level n.place)
+      (node 0 3 ⇒ 2 ∷ node 1 0 ⇒ 0 ∷ node 1 1 ⇒ 2 ∷ node 1 2 ⇒ 3 ∷ [])
 
-starts_kept : map values.starts (0 ∷ 1 ∷ 3 ∷ 4 ∷ []) ≡ 1 ∷ 0 ∷ 2 ∷ 0 ∷ []
-starts_kept = refl
-
-causes_kept : map values.cause (0 ∷ 3 ∷ 4 ∷ []) ≡ Boot ∷ Wake ∷ Boot ∷ []
-causes_kept = refl
-
-depths_kept : values.depth 0 3 ∷ values.depth 1 0 ∷ values.depth 1 1 ∷ values.depth 1 2 ∷ []
-    ≡ 2 ∷ 0 ∷ 2 ∷ 3 ∷ []
-depths_kept = refl
+values_kept : AreKept
+values_kept = record { life = refl; starts = refl; causes = refl; depths = refl }
 
 -- Done --------------------------------------------------------------------------------------------
 
@@ -149,26 +137,28 @@ starts_done = refl
 
 -- Shapes ------------------------------------------------------------------------------------------
 
-level_is_missing : HasRows board ((at 0 1 ∷ at 3 0 ∷ at 3 0 ∷ at 2 2 ∷ []) ∷ (at 0 1 ∷ at 2 2 ∷ [])
-    ∷ []) → ⊥
+-- the rows of the cores; the rows of the two clusters and of the system
+abbrev row_of_cores : List DomainRow
+row_of_cores = at 0 1 ∷ at 3 0 ∷ at 3 0 ∷ at 2 2 ∷ []
+
+abbrev rows_of : List DomainRow → List DomainRow → List (List DomainRow)
+rows_of clusters system = row_of_cores ∷ clusters ∷ system ∷ []
+
+level_is_missing : HasRows board (row_of_cores ∷ (at 0 1 ∷ at 2 2 ∷ []) ∷ []) → ⊥
 level_is_missing h = let e : ◌≡◌ {A = ℕ} 2 3 = h.levels in omega arith
 
-cluster_is_missing : HasRows board ((at 0 1 ∷ at 3 0 ∷ at 3 0 ∷ at 2 2 ∷ []) ∷ (at 0 1 ∷ [])
-    ∷ (at 0 3 ∷ []) ∷ []) → ⊥
+cluster_is_missing : HasRows board (rows_of (at 0 1 ∷ []) (at 0 3 ∷ [])) → ⊥
 cluster_is_missing h = let e : ◌≡◌ {A = ℕ} 1 2 = h.places 1 (omega arith) in omega arith
 
-system_is_missing : HasRows board ((at 0 1 ∷ at 3 0 ∷ at 3 0 ∷ at 2 2 ∷ [])
-    ∷ (at 0 1 ∷ at 2 2 ∷ []) ∷ [] ∷ []) → ⊥
+system_is_missing : HasRows board (rows_of (at 0 1 ∷ at 2 2 ∷ []) []) → ⊥
 system_is_missing h = let e : ◌≡◌ {A = ℕ} 0 1 = h.places 2 (omega arith) in omega arith
 
 -- the system counts another sum than 3; the second cluster another than 2
-system_counts_too_few : HasSums board cores ((at 0 1 ∷ at 3 0 ∷ at 3 0 ∷ at 2 2 ∷ [])
-    ∷ (at 0 1 ∷ at 2 2 ∷ []) ∷ (at 0 2 ∷ []) ∷ []) → ⊥
+system_counts_too_few : HasSums board cores (rows_of (at 0 1 ∷ at 2 2 ∷ []) (at 0 2 ∷ [])) → ⊥
 unfolding starts_below
 system_counts_too_few h = let e : ◌≡◌ {A = ℕ} 2 3 = h.sums 2 0 (omega arith) in omega arith
 
-cluster_counts_itself : HasSums board cores ((at 0 1 ∷ at 3 0 ∷ at 3 0 ∷ at 2 2 ∷ [])
-    ∷ (at 0 1 ∷ at 2 3 ∷ []) ∷ (at 0 3 ∷ []) ∷ []) → ⊥
+cluster_counts_itself : HasSums board cores (rows_of (at 0 1 ∷ at 2 3 ∷ []) (at 0 3 ∷ [])) → ⊥
 unfolding starts_below
 cluster_counts_itself h = let e : ◌≡◌ {A = ℕ} 3 2 = h.sums 1 1 (omega arith) in omega arith
 
@@ -182,18 +172,15 @@ core_is_missing h = let e : ◌≡◌ {A = ℕ} 3 4 = h.cores in omega arith
 sums_in_life_2 : IsController (controller (first ∷ off ∷ off ∷ asked_on ∷ [])) → ⊥
 unfolding starts_below
 sums_in_life_2 h =
-    let sums = h.sums 2 refl in
-    let e : ◌≡◌ {A = ℕ} 2 4 = sums.sums 1 1 (omega arith) in omega arith
+    let e : ◌≡◌ {A = ℕ} 2 4 = (h.sums 2 refl).sums 1 1 (omega arith) in omega arith
 
 -- a core that was started as often as its row can say has no room for one more; nor has another
 -- core beside one that was started more often than that
 no_room_for_one_more : HaveRoom (record { starts = 0xffffffff; cause = Boot } ∷ []) 0 → ⊥
-no_room_for_one_more h =
-    let e : 0xffffffff + 1 < 2 ^ 32 = h.more in omega (arith, e)
+no_room_for_one_more h = omega (arith, h.more)
 
 another_has_too_many : HaveRoom (off ∷ record { starts = 0x100000000; cause = Boot } ∷ []) 0 → ⊥
-another_has_too_many h =
-    let e : 0x100000000 < 2 ^ 32 = h.few 1 in omega (arith, e)
+another_has_too_many h = omega (arith, h.few 1)
 
 -- What a call leaves ------------------------------------------------------------------------------
 
@@ -203,9 +190,7 @@ as_it_was = record { board = refl; values = refl }
 -- another board, and other values
 another_board : Leaves (controller cores)
     (record (controller cores) { board = record board { starts = 8 } }) values → ⊥
-another_board h =
-    let e : ◌≡◌ {A = ℕ} 8 9 = ap (λ (b : BoardValue). b.starts) h.board in omega arith
+another_board h = omega (arith, ap (λ (b : BoardValue). b.starts) h.board)
 
 another_count : Leaves (controller cores) (controller (off ∷ [])) values → ⊥
-another_count h =
-    let e : ◌≡◌ {A = ℕ} 0 1 = ap (λ (v : Values). v.starts 0) h.values in omega arith
+another_count h = omega (arith, ap (λ (v : Values). v.starts 0) h.values)

@@ -85,10 +85,10 @@ path_test : (b : BoardValue) (c k p : ℕ) → k ≤ height b
     → is_on_path b c k p ≡ (up b k c == p)
 path_test b c k p low = ap (λ s. s && up b k c == p) (le-leb k (height b) low)
 
-both_true : (l k p q : ℕ) → l ≡ k → p ≡ q → (l == k && p == q) ≡ true
+pub both_true : (l k p q : ℕ) → l ≡ k → p ≡ q → (l == k && p == q) ≡ true
 both_true l k p q e f = rw (eq-eqb l k e, eq-eqb p q f) refl
 
-both_false : (l k p q : ℕ) → l ≡ k → (p ≡ q → ⊥) → (l == k && p == q) ≡ false
+pub both_false : (l k p q : ℕ) → l ≡ k → (p ≡ q → ⊥) → (l == k && p == q) ≡ false
 both_false l k p q e f = rw (eq-eqb l k e, ne_eqb p q f) refl
 
 -- one more level of a path

@@ -12,18 +12,12 @@ use Rattle.psci_ctl_spec.specs.Changes.{one_more, with_cause, with_start}
 use Rattle.psci_ctl_spec.specs.Laws.{SumLaws}
 use Rattle.psci_ctl_spec.specs.Values.{Values, start_of_life, starts_below}
 use Rattle.psci_board.specs.Paths.{is_on_path}
+use Rattle.psci_ctl_spec.proofs.OneMore.{same_values}
 use Rattle.psci_ctl.specs.declared.row.CoreRow.{CoreRow}
 use Rattle.psci_ctl.specs.declared.level.DomainRow.{DomainRow}
 use Rattle.psci_ctl.specs.Rows.{HasSums, core_row, domain_at, off_core, off_domain, path_on_below}
 use Rattle.psci_ctl.specs.Rows.{path_on_once, values_in}
 use Rattle.psci_ctl.proofs.Looked.{core_set, off_core_row, run_whole}
-
--- values that say the same of each core and domain are the same
-pub same_values : (v w : Values) → v.life ≡ w.life → ((k : ℕ) → v.starts k ≡ w.starts k)
-    → ((k : ℕ) → v.cause k ≡ w.cause k) → ((l p : ℕ) → v.depth l p ≡ w.depth l p)
-    → v ≡ w
-same_values v w a b c d =
-    λ i. record { life = a i; starts = λ k. b k i; cause = λ k. c k i; depth = λ l p. d l p i }
 
 -- One start ----------------------------------------------------------------------------------
 

@@ -14,7 +14,7 @@ use Rattle.psci_ctl_spec.specs.Values.{Values, starts_below}
 use Rattle.psci_ctl.specs.Rows.{deepened, with_depth}
 use Rattle.psci_ctl.specs.Seen.{ControllerValue, Leaves, seen}
 use Rattle.psci_ctl.proofs.Applying.{is_one, laid_more}
-use Rattle.psci_ctl.proofs.Started.{same_values}
+use Rattle.psci_ctl_spec.proofs.OneMore.{same_values}
 
 abbrev pub laid_on : ControllerValue → ℕ → ℕ → List Part → Values
 laid_on old c k ps =

@@ -1,6 +1,6 @@
 -- Where the depth of a domain comes from.
 use Rattle.std.proofs.Common.{◌≡◌, ◌⊎◌, ℕ, ◌+◌, ◌<◌, ◌≤◌, Bool, true, false, cond, List, []}
-use Rattle.std.proofs.Common.{◌∷◌, Option, Some, None, option_map, unwrap_or, refl, ap, sym, ◌∙◌}
+use Rattle.std.proofs.Common.{◌∷◌, Option, Some, option_map, unwrap_or, refl, ap, sym, ◌∙◌}
 use Rattle.std.proofs.Common.{subst, arith, inl, inr, add-zero}
 use Rattle.std.proofs.lemmas.Option.{none-some}
 use Rattle.std.specs.Prelude.{slice_get}
@@ -15,8 +15,7 @@ use Rattle.psci_ctl_spec.specs.Exchange.{CtlExchange}
 use Rattle.psci_ctl_spec.specs.Follows.{IsFront, MayFollow}
 use Rattle.psci_ctl_spec.specs.History.{depth, depth_by, effect_in, life, life_by}
 use Rattle.psci_messages.specs.OnlyIf.{only_if}
-use Rattle.psci_ctl_spec.specs.History.{starts, starts_by}
-use Rattle.psci_ctl_spec.specs.History.{values_of}
+use Rattle.psci_ctl_spec.specs.History.{starts, starts_by, values_of}
 use Rattle.psci_ctl_spec.specs.Lasting.{Applies, IsApplied, IsFirst, keeps_life}
 use Rattle.psci_ctl_spec.specs.Legal.{IsLegal}
 use Rattle.psci_ctl_spec.specs.Values.{first_starts, starts_below}
@@ -117,11 +116,8 @@ module _ (b : BoardValue) (e : CtlExchange) (h : List CtlExchange) where
         ∙ ap (λ i. starts_below b (starts b h) (node l i)) (path_place b c l p on)
         ∙ sym (sum_by_effect (Deepens c ps) (node l p) is);
   }))
-  from_part c ps l p true None is on at front from =
-      stays b e h l p (within_is (Deepens c ps) is) (deep_part c ps l p true None is on at)
-      (sum_by_effect (Deepens c ps) (node l p) is) from
-  from_part c ps l p false o is on at front from =
-      stays b e h l p (within_is (Deepens c ps) is) (deep_part c ps l p false o is on at)
+  from_part c ps l p t o is on at front from =
+      stays b e h l p (within_is (Deepens c ps) is) (deep_part c ps l p t o is on at)
       (sum_by_effect (Deepens c ps) (node l p) is) from
 
   from_begin : (l p : ℕ) (t : Bool) → effect_in b e ≡ Begins → is_on_path b 0 l p ≡ t

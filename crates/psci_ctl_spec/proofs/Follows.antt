@@ -15,8 +15,7 @@ use Rattle.psci_ctl_spec.specs.declared.delivery.Delivery.TheVariants as deliver
 use Rattle.psci_ctl_spec.specs.declared.reply.CtlReply.TheVariants as replies
 use Rattle.psci_messages.specs.declared.start.Cause.{Cause}
 use Rattle.psci_messages.specs.declared.start.Cause.TheVariants as causes
-use Rattle.psci_ctl_spec.specs.Effects.{Ends, Begins}
-use Rattle.psci_ctl_spec.specs.Effects.{effect_of, kick_effect, message_effect}
+use Rattle.psci_ctl_spec.specs.Effects.{Ends, Begins, effect_of, kick_effect, message_effect}
 use Rattle.psci_ctl_spec.specs.Follows.{HasLife, MayFollow}
 use Rattle.psci_ctl_spec.specs.Legal.{IsCall, IsSendable}
 use Rattle.psci_ctl_spec.specs.Replies.{ack_by, ack_of, delivery_of, is_this_life, kick_if}

@@ -6,13 +6,11 @@ pub mod Front
 pub mod Kept
 mod LegalRows
 pub mod Nested
-mod NumberRows
 pub mod OneMore
 pub mod OneReply
 pub mod Past
 pub mod Paths
 mod ScriptRows
-mod ShallowerRows
 pub mod StartLaws
 pub mod Steps
 pub mod Sums

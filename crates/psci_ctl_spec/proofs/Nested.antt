@@ -1,6 +1,6 @@
 -- No domain is deeper than the domain below it, as long as none is made shallower but by a start.
 use Rattle.std.proofs.Common.{◌≡◌, ℕ, suc, ◌<◌, ◌≤◌, Bool, true, false, cond, List, [], ◌∷◌}
-use Rattle.std.proofs.Common.{Option, Some, None, refl, ap, sym, subst, arith, inl, inr}
+use Rattle.std.proofs.Common.{Option, Some, refl, ap, sym, subst, arith, inl, inr}
 use Rattle.std.specs.Prelude.{slice_get}
 use Rattle.std.proofs.lemmas.Bool.{cases_Bool}
 use Rattle.psci_board.specs.Board.{BoardValue, cores, height, up}
@@ -60,8 +60,7 @@ module _ (b : BoardValue) (c : ℕ) (ps : List Part) (d : ℕ → ℕ → ℕ) w
       → d l (up b l x) ≤ lay t o (d l (up b l x))
   deeper l x true (Some p) on at deep =
       omega (arith, deep p at, ap (d l) (path_place b c l (up b l x) on))
-  deeper l x true None on at deep = omega arith
-  deeper l x false o on at deep = omega arith
+  deeper l x t o on at deep = omega arith
 
   parent_laid : (k x : ℕ) (t : Bool) (o : Option Part) → PathLaws b → IsNested b d
       → x < cores b → k < height b
@@ -72,9 +71,7 @@ module _ (b : BoardValue) (c : ℕ) (ps : List Part) (d : ℕ → ℕ → ℕ) w
       → lay t o (d (suc k) (up b (suc k) x)) ≤ laid b c ps d k (up b k x)
   parent_laid k x true (Some p) laws is inside low on at covered deep =
       covered p at (sym (path_place b c (suc k) (up b (suc k) x) on))
-  parent_laid k x true None laws is inside low on at covered deep =
-      omega (arith, is.falls x k inside low, deep)
-  parent_laid k x false o laws is inside low on at covered deep =
+  parent_laid k x t o laws is inside low on at covered deep =
       omega (arith, is.falls x k inside low, deep)
 
   laid_nested : (v : Values) → PathLaws b → IsNested b d → IsFront b v c ps

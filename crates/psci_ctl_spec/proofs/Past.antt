@@ -5,7 +5,7 @@ use Rattle.std.proofs.Common.{inl, inr, ◌⊎◌}
 use Rattle.std.proofs.lemmas.Option.{none-some, same_Some}
 use Rattle.psci_board.specs.Board.{BoardValue}
 use Rattle.psci_board.specs.declared.node.Node.{Node}
-use Rattle.psci_ctl_spec.specs.Effects.{Effect, Nothing, Starts, Deepens, Ends, Begins}
+use Rattle.psci_ctl_spec.specs.Effects.{Effect, Starts, Ends, Begins}
 use Rattle.psci_ctl_spec.specs.Exchange.{CtlExchange}
 use Rattle.psci_ctl_spec.specs.History.{effect_in, life, life_by, starts, starts_by}
 use Rattle.psci_ctl_spec.specs.Lasting.{IsLive}
@@ -18,12 +18,10 @@ IsOver None was = Unit {0}
 IsOver (Some l) was = was < l
 
 over_stays : (f : Effect) (o : Option ℕ) (was : ℕ) → IsOver o was → IsOver (life_by f o) was
-over_stays Nothing o was h = h
-over_stays (Starts c cause) o was h = h
-over_stays (Deepens c ps) o was h = h
 over_stays Ends o was h = tt
 over_stays Begins None was h = tt
 over_stays Begins (Some l) was h = omega (arith, h)
+over_stays f o was h = h
 
 over_later : (b : BoardValue) (es h : List CtlExchange) (was : ℕ) → IsOver (life b h) was
     → IsOver (life b (es ++ h)) was
@@ -52,13 +50,12 @@ one_later : (b : BoardValue) (f : Effect) (o : Option ℕ) (s t : ℕ → ℕ) (
     → IsLater s t
     → IsOver (life_by f o) was
     ⊎ ((life_by f o ≡ Some was) × IsLater (λ k. starts_by k f (s k)) t)
-one_later b Nothing o s t was e later = inr (e, later)
 one_later b (Starts c cause) o s t was e later =
     inr (e, record { grown = λ k. grows_by (k == c) (t k) (s k) (later.grown k) })
-one_later b (Deepens c ps) o s t was e later = inr (e, later)
 one_later b Ends o s t was e later = inl tt
 one_later b Begins o s t was e later =
     inl (subst (λ p. IsOver (option_map (λ l. l + 1) p) was) (sym e) (omega arith))
+one_later b f o s t was e later = inr (e, later)
 
 later : (b : BoardValue) (es h : List CtlExchange) (was : ℕ) → life b h ≡ Some was
     → Later b (es ++ h) h was

@@ -1,13 +1,11 @@
 -- What a start of a core changes of depths and generations.
-use Rattle.std.proofs.Common.{ℕ, ◌+◌, ◌<◌, cond, refl, ap, ◌∙◌}
-use Rattle.std.proofs.Common.{add-zero}
+use Rattle.std.proofs.Common.{ℕ, ◌+◌, ◌<◌, cond, refl, ap, ◌∙◌, add-zero}
 use Rattle.psci_board.specs.Board.{BoardValue, cores, up}
 use Rattle.psci_messages.specs.declared.start.Cause.{Cause}
 use Rattle.psci_ctl_spec.specs.Laws.{StartLaws, SumLaws}
 use Rattle.psci_ctl_spec.specs.Values.{Values, starts_below}
 use Rattle.psci_ctl_spec.proofs.Paths.{on_path}
-use Rattle.psci_ctl_spec.proofs.Sums.{starts_few, starts_grow, starts_more, starts_none}
-use Rattle.psci_ctl_spec.proofs.Sums.{starts_own}
+use Rattle.psci_ctl_spec.proofs.Sums.{starts_few, starts_grow, starts_more, starts_none, starts_own}
 
 pub sum_laws : (b : BoardValue) → SumLaws b
 sum_laws b = record {

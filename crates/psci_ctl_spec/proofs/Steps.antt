@@ -1,7 +1,8 @@
 -- Worked examples are stated so: some calls in turn, and the replies to them.
 use Rattle.std.proofs.Common.{◌≡◌, ℕ, Bool, List, [], ◌∷◌, map, reverse, Option}
 use Rattle.psci_messages.specs.psci_abi.declared.format.Format.TheVariants.{Original}
-use Rattle.psci_board.specs.Board.{BoardValue}
+use Rattle.psci_board.proofs.Tables.{Gives, Row}
+use Rattle.psci_board.specs.Board.{BoardValue, up}
 use Rattle.psci_messages.specs.declared.part.Part.{Part}
 use Rattle.psci_messages.specs.declared.kind.Kind.{Kind}
 use Rattle.psci_messages.specs.declared.kind.Kind.TheVariants as kinds
@@ -14,11 +15,19 @@ use Rattle.psci_ctl_spec.specs.declared.reply.CtlReply.TheVariants as replies
 use Rattle.psci_messages.specs.declared.start.Cause.{Cause}
 use Rattle.psci_messages.specs.declared.start.Start.{Start}
 use Rattle.psci_ctl_spec.specs.Changes.{after}
+use Rattle.psci_ctl_spec.specs.Effects.{effect_of}
 use Rattle.psci_ctl_spec.specs.Exchange.{CtlExchange}
 use Rattle.psci_ctl_spec.specs.History.{values_of}
 use Rattle.psci_ctl_spec.specs.Legal.{legal_reply}
-use Rattle.psci_ctl_spec.specs.Replies.{last_start}
-use Rattle.psci_ctl_spec.specs.Values.{Values, start_of_life}
+use Rattle.psci_ctl_spec.specs.Parts.{applied, is_stale}
+use Rattle.psci_ctl_spec.specs.Replies.{delivery_of, last_start, reply, reset_of, wake_of}
+use Rattle.psci_ctl_spec.specs.Values.{Values, start_of_life, starts_below}
+
+-- what an example unfolds to compute replies and values on calls that are written out
+unfoldable pub computing : Unit {0}
+unfolding values_of after effect_of reply delivery_of wake_of reset_of applied is_stale starts_below
+    up
+computing = tt
 
 -- a board of this tree and these limits
 abbrev pub board_of : List (List ℕ) → ℕ → ℕ → BoardValue
@@ -107,6 +116,12 @@ history_of b calls = history_from b [] calls
 abbrev pub replies_to : BoardValue → List CtlCall → List CtlReply
 replies_to b calls = reverse (map (λ e. e.reply) (history_of b calls))
 
+-- each of these runs, on its board, is replied to so
+abbrev pub AreReplied : List (Row BoardValue (List (Row CtlCall CtlReply))) → Type 0
+AreReplied runs =
+    map (λ run. replies_to run.given (map (λ r. r.given) run.comes)) runs
+    ≡ map (λ run. map (λ r. r.comes) run.comes) runs
+
 -- the values that are kept along a history
 abbrev pub kept_along : BoardValue → List CtlExchange → Values
 kept_along b [] = start_of_life b
@@ -131,7 +146,8 @@ shown v =
       depth = map (λ l. map (v.depth l) places) (0 ∷ 1 ∷ 2 ∷ 3 ∷ []);
     }
 
--- a history says this, and so is what is kept along it
-pub record Says (b : BoardValue) (h : List CtlExchange) (values : Shown) : Type 0 where
-  pub history : shown (values_of b h) ≡ values
-  pub kept : shown (kept_along b h) ≡ values
+-- these calls leave what is said of it, by the history and by what is kept along it
+pub record Leave {Said : Type 0} (b : BoardValue) (said : Shown → Said)
+    (rows : List (Row (List CtlCall) Said)) : Type 0 where
+  pub by_history : Gives (λ calls. said (shown (values_of b (history_of b calls)))) rows
+  pub by_values : Gives (λ calls. said (shown (kept_along b (history_of b calls)))) rows

@@ -1,20 +1,19 @@
 -- Worked examples: what becomes of acknowledgements.
 use Rattle.std.proofs.Common.{◌∷◌, [], false, refl, true}
 use Rattle.psci_messages.specs.declared.kind.Kind.TheVariants.{Off, Reset, Start}
-use Rattle.psci_fw_spec.proofs.Steps.{◌⇒◌, AreAnswered, affinity, board, boot, boots, computing}
+use Rattle.psci_fw_spec.proofs.Lopsided.{once_3_runs}
+use Rattle.psci_fw_spec.proofs.Steps.{◌⇒◌, AreAnsweredAll, affinity, board, boot, boots, computing}
 use Rattle.psci_fw_spec.proofs.Steps.{enter_boot, enter_on, enter_wake, goes_on_3, goes_to, off}
 use Rattle.psci_fw_spec.proofs.Steps.{old, on, on_3, part, starts, stops, suspend, take, take_down}
 use Rattle.psci_fw_spec.proofs.Steps.{take_stale, used, value}
 
 -- Cores that go off ---------------------------------------------------------------------------
 
--- a part that was applied turns the core OFF, and none does not; until all were, the message
--- stays outstanding
-parts_applied : AreAnswered board
-    (boot ⇒ boots
-    ∷ on_3 ⇒ starts 3 1 0
-    ∷ enter_on 3 1 1 ⇒ goes_on_3
-    ∷ off 3 ⇒ stops 3 1 1 (part 0 3 1 ∷ part 1 3 1 ∷ [])
+downs_acknowledged : AreAnsweredAll board
+    -- a part that was applied turns the core OFF, and none does not; until all were, the message
+    -- stays outstanding
+    (once_3_runs 1
+    (off 3 ⇒ stops 3 1 1 (part 0 3 1 ∷ part 1 3 1 ∷ [])
     ∷ take_down 3 1 1 0 ⇒ used
     ∷ affinity 0x101 0 ⇒ value 0
     ∷ take_down 3 1 1 1 ⇒ used
@@ -22,22 +21,14 @@ parts_applied : AreAnswered board
     ∷ take_down 3 1 1 1 ⇒ used
     ∷ take_down 3 1 1 2 ⇒ used
     ∷ take_down 3 1 1 2 ⇒ old ∷ [])
-unfolding computing
-parts_applied = record { history = refl; values = refl }
-
--- more than all
-more_than_all_applied : AreAnswered board
-    (boot ⇒ boots
+    -- more than all
+    ∷ (boot ⇒ boots
     ∷ off 0 ⇒ stops 0 1 1 (part 0 3 1 ∷ part 1 3 1 ∷ part 2 3 1 ∷ [])
     ∷ take_down 0 1 1 2 ⇒ used
     ∷ take_down 0 1 1 4 ⇒ used
     ∷ take_down 0 1 1 3 ⇒ old ∷ [])
-unfolding computing
-more_than_all_applied = record { history = refl; values = refl }
-
--- a stale one ends the message, and turns the core OFF where a part was applied
-partly_applied_then_stale : AreAnswered board
-    (boot ⇒ boots
+    -- a stale one ends the message, and turns the core OFF where a part was applied
+    ∷ (boot ⇒ boots
     ∷ on_3 ⇒ starts 3 1 0
     ∷ affinity 0x101 0 ⇒ value 2
     ∷ enter_on 3 1 1 ⇒ goes_on_3
@@ -46,42 +37,28 @@ partly_applied_then_stale : AreAnswered board
     ∷ take_stale 3 1 1 1 ⇒ used
     ∷ affinity 0x101 0 ⇒ value 1
     ∷ take_down 3 1 1 2 ⇒ old ∷ [])
-unfolding computing
-partly_applied_then_stale = record { history = refl; values = refl }
-
--- and nowhere else
-stale_at_once : AreAnswered board
-    (boot ⇒ boots
-    ∷ on_3 ⇒ starts 3 1 0
-    ∷ enter_on 3 1 1 ⇒ goes_on_3
-    ∷ off 3 ⇒ stops 3 1 1 (part 0 3 1 ∷ part 1 3 1 ∷ [])
+    -- and nowhere else
+    ∷ once_3_runs 1
+    (off 3 ⇒ stops 3 1 1 (part 0 3 1 ∷ part 1 3 1 ∷ [])
     ∷ take_stale 3 1 1 0 ⇒ used
     ∷ affinity 0x101 0 ⇒ value 0
     ∷ take_down 3 1 1 2 ⇒ old
     ∷ affinity 0x101 0 ⇒ value 0 ∷ [])
-unfolding computing
-stale_at_once = record { history = refl; values = refl }
-
--- a core that was suspended is ON still when that is acknowledged
-suspended_core_acknowledged : AreAnswered board
-    (boot ⇒ boots
-    ∷ on_3 ⇒ starts 3 1 0
-    ∷ enter_on 3 1 1 ⇒ goes_on_3
-    ∷ suspend 3 0x00010003 0x40004000 2 ⇒ stops 3 1 1 (part 0 3 1 ∷ [])
+    -- a core that was suspended is ON still when that is acknowledged
+    ∷ once_3_runs 1
+    (suspend 3 0x00010003 0x40004000 2 ⇒ stops 3 1 1 (part 0 3 1 ∷ [])
     ∷ take_down 3 1 1 1 ⇒ used
     ∷ affinity 0x101 0 ⇒ value 0
-    ∷ enter_wake 3 1 2 ⇒ goes_to 0x40004000 2 ∷ [])
+    ∷ enter_wake 3 1 2 ⇒ goes_to 0x40004000 2 ∷ []) ∷ [])
 unfolding computing
-suspended_core_acknowledged = record { history = refl; values = refl }
+downs_acknowledged = record { history = refl; values = refl }
 
 -- Names ---------------------------------------------------------------------------------------
 
--- an acknowledgement is of the outstanding message where it has its kind, core, life and number
-other_messages : AreAnswered board
-    (boot ⇒ boots
-    ∷ on_3 ⇒ starts 3 1 0
-    ∷ enter_on 3 1 2 ⇒ goes_on_3
-    ∷ off 3 ⇒ stops 3 1 2 (part 0 3 2 ∷ part 1 3 2 ∷ [])
+messages_named : AreAnsweredAll board
+    -- an acknowledgement is of the outstanding message where it has its kind, core, life and number
+    (once_3_runs 2
+    (off 3 ⇒ stops 3 1 2 (part 0 3 2 ∷ part 1 3 2 ∷ [])
     ∷ take_down 3 1 1 2 ⇒ old
     ∷ take_down 3 1 3 2 ⇒ old
     ∷ take_down 3 2 2 2 ⇒ old
@@ -93,36 +70,26 @@ other_messages : AreAnswered board
     ∷ affinity 0x101 0 ⇒ value 0
     ∷ take_down 3 1 2 2 ⇒ used
     ∷ affinity 0x101 0 ⇒ value 1 ∷ [])
-unfolding computing
-other_messages = record { history = refl; values = refl }
-
--- before any life nothing is outstanding
-before_any_life : AreAnswered board
-    (take_down 0 0 0 1 ⇒ old
+    -- before any life nothing is outstanding
+    ∷ (take_down 0 0 0 1 ⇒ old
     ∷ take Start 0 0 0 1 false ⇒ old
     ∷ boot ⇒ boots ∷ [])
-unfolding computing
-before_any_life = record { history = refl; values = refl }
-
--- an acknowledgement of the last life
-last_life : AreAnswered board
-    (boot ⇒ boots
-    ∷ on_3 ⇒ starts 3 1 0
-    ∷ enter_on 3 1 1 ⇒ goes_on_3
-    ∷ off 3 ⇒ stops 3 1 1 (part 0 3 1 ∷ part 1 3 1 ∷ [])
+    -- an acknowledgement of the last life
+    ∷ once_3_runs 1
+    (off 3 ⇒ stops 3 1 1 (part 0 3 1 ∷ part 1 3 1 ∷ [])
     ∷ enter_boot 0 2 1 ⇒ boots
     ∷ take_down 3 1 1 2 ⇒ old
     ∷ on_3 ⇒ starts 3 2 0
     ∷ take Start 3 1 0 1 false ⇒ old
-    ∷ take Start 3 2 0 1 false ⇒ used ∷ [])
+    ∷ take Start 3 2 0 1 false ⇒ used ∷ []) ∷ [])
 unfolding computing
-last_life = record { history = refl; values = refl }
+messages_named = record { history = refl; values = refl }
 
 -- Starts --------------------------------------------------------------------------------------
 
--- an acknowledgement of a Start that was not applied, stale or not, ends what is outstanding
-start_not_applied : AreAnswered board
-    (boot ⇒ boots
+starts_acknowledged : AreAnsweredAll board
+    -- an acknowledgement of a Start that was not applied, stale or not, ends what is outstanding
+    ((boot ⇒ boots
     ∷ on_3 ⇒ starts 3 1 0
     ∷ take Start 3 1 0 0 true ⇒ used
     ∷ take Start 3 1 0 1 false ⇒ old
@@ -130,19 +97,13 @@ start_not_applied : AreAnswered board
     ∷ on 0x001 0x40005000 0 ⇒ starts 1 1 0
     ∷ take Start 1 1 0 0 false ⇒ used
     ∷ take Start 1 1 0 1 false ⇒ old ∷ [])
-unfolding computing
-start_not_applied = record { history = refl; values = refl }
-
--- a new message for a core takes the place of the old one: a Start that of a Down
-start_after_down : AreAnswered board
-    (boot ⇒ boots
-    ∷ on_3 ⇒ starts 3 1 0
-    ∷ enter_on 3 1 1 ⇒ goes_on_3
-    ∷ off 3 ⇒ stops 3 1 1 (part 0 3 1 ∷ part 1 3 1 ∷ [])
+    -- a new message for a core takes the place of the old one: a Start that of a Down
+    ∷ once_3_runs 1
+    (off 3 ⇒ stops 3 1 1 (part 0 3 1 ∷ part 1 3 1 ∷ [])
     ∷ take_down 3 1 1 1 ⇒ used
     ∷ on_3 ⇒ starts 3 1 1
     ∷ take_down 3 1 1 2 ⇒ old
     ∷ take Start 3 1 1 1 false ⇒ used
-    ∷ affinity 0x101 0 ⇒ value 2 ∷ [])
+    ∷ affinity 0x101 0 ⇒ value 2 ∷ []) ∷ [])
 unfolding computing
-start_after_down = record { history = refl; values = refl }
+starts_acknowledged = record { history = refl; values = refl }

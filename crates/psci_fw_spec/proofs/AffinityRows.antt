@@ -1,5 +1,5 @@
 -- Worked examples: AFFINITY_INFO.
-use Rattle.std.proofs.Common.{◌∷◌, ◌≡◌, List, [], map, refl, ℕ}
+use Rattle.std.proofs.Common.{◌∷◌, ◌≡◌, [], map, refl, ℕ}
 use Rattle.std.specs.Prelude.{slice_index_or}
 use Rattle.psci_fw_spec.specs.declared.status.Status.{Status}
 use Rattle.psci_fw_spec.specs.declared.status.Status.TheVariants as statuses
@@ -55,36 +55,26 @@ numbers : map status_code (statuses.On ∷ statuses.Off ∷ statuses.Pending ∷
 numbers = refl
 
 -- a domain by the statuses of its cores
-abbrev system_where : List Status → Status
-system_where cores = status_over (λ c. slice_index_or cores c statuses.On) (0 ∷ 1 ∷ 2 ∷ [])
+abbrev status_of_three : Status → Status → Status → Status
+status_of_three x y z =
+    status_over (λ c. slice_index_or (x ∷ y ∷ z ∷ []) c statuses.On) (0 ∷ 1 ∷ 2 ∷ [])
 
-all_off : system_where (statuses.Off ∷ statuses.Off ∷ statuses.Off ∷ []) ≡ statuses.Off
-all_off = refl
+statuses_of_three : status_of_three statuses.Off statuses.Off statuses.Off
+    ∷ status_of_three statuses.Off statuses.Off statuses.Pending
+    ∷ status_of_three statuses.Off statuses.Pending statuses.On ∷ []
+    ≡ statuses.Off ∷ statuses.Pending ∷ statuses.On ∷ []
+statuses_of_three = refl
 
-one_pending : system_where (statuses.Off ∷ statuses.Off ∷ statuses.Pending ∷ []) ≡ statuses.Pending
-one_pending = refl
-
-one_on : system_where (statuses.Off ∷ statuses.Pending ∷ statuses.On ∷ []) ≡ statuses.On
-one_on = refl
-
--- the system of the board where all cores are OFF; a node that the board does not have is OFF
+-- nodes of the board, all of whose cores have this status: its system, the last node of each level,
+-- and such as it does not have, which are OFF
 abbrev status_of : Status → ℕ → ℕ → Status
 status_of all level place = node_status board (λ c. all) (record { level = level; place = place })
 
-system_all_off : status_of statuses.Off 2 0 ≡ statuses.Off
+statuses_of_nodes : status_of statuses.Off 2 0
+    ∷ status_of statuses.On 0 3 ∷ status_of statuses.On 1 1 ∷ status_of statuses.On 2 0
+    ∷ status_of statuses.On 0 4 ∷ status_of statuses.On 1 2 ∷ status_of statuses.On 2 1
+    ∷ status_of statuses.On 3 0 ∷ []
+    ≡ statuses.Off ∷ statuses.On ∷ statuses.On ∷ statuses.On
+    ∷ statuses.Off ∷ statuses.Off ∷ statuses.Off ∷ statuses.Off ∷ []
 unfolding computing
-system_all_off = refl
-
-no_such_nodes : map (λ n. node_status board (λ c. statuses.On) n)
-    (record { level = 0; place = 4 } ∷ record { level = 1; place = 2 }
-    ∷ record { level = 2; place = 1 } ∷ record { level = 3; place = 0 } ∷ [])
-    ≡ statuses.Off ∷ statuses.Off ∷ statuses.Off ∷ statuses.Off ∷ []
-unfolding computing
-no_such_nodes = refl
-
-last_nodes : map (λ n. node_status board (λ c. statuses.On) n)
-    (record { level = 0; place = 3 } ∷ record { level = 1; place = 1 }
-    ∷ record { level = 2; place = 0 } ∷ [])
-    ≡ statuses.On ∷ statuses.On ∷ statuses.On ∷ []
-unfolding computing
-last_nodes = refl
+statuses_of_nodes = refl

@@ -113,13 +113,12 @@ suspend_all_kept b v c entry_point context is asks =
 
 off_within : (b : BoardValue) (v : Values) (core t : Core) (s : Status)
     → off_target b v core s ≡ Ok t → core ≡ t
-off_within b v core t statuses.On e = absurd (cc e)
-off_within b v core t statuses.Pending e = absurd (cc e)
 off_within b v core t statuses.Off e = by_test (v.known core.number == b.starts) e
   where
     by_test : (spent : Bool) → cond spent (Err internal_failure) (Ok core) ≡ Ok t → core ≡ t
     by_test true e = absurd (cc e)
     by_test false e = cc e
+off_within b v core t s e = absurd (cc e)
 
 among_within : (b : BoardValue) (v : Values) (entry_point : ℕ) (o : Option Core) (t : Core)
     → target_among b v entry_point o ≡ Ok t → o ≡ Some t
@@ -193,27 +192,22 @@ Worded b = (word : ℕ) (ask : List ℕ) → ask_named b word ≡ Ok ask → IsP
 function_kept : (b : BoardValue) (v : Values) (c : ℕ) (r : Request) → IsCalling b v c → Worded b
     → IsPhase b (Suspended (deepest_of (height b))) → let o = function_outcome b v c r in
     Kept b v (function_effect b c r o.act o.message)
-function_kept b v c requests.Version is asks all = goes_on b v c is
 function_kept b v c (requests.CpuSuspend state entry_point context) is asks all =
     suspend_kept b v c state entry_point context is (asks state)
 function_kept b v c requests.CpuOff is asks all = off_kept b v c is
 function_kept b v c (requests.CpuOn word entry_point context) is asks all =
     on_kept b v c word entry_point context (target_of b v word entry_point) is refl
-function_kept b v c (requests.AffinityInfo level word) is asks all = goes_on b v c is
-function_kept b v c (requests.NodeHwState level word) is asks all = goes_on b v c is
-function_kept b v c requests.MigrateInfoType is asks all = goes_on b v c is
 function_kept b v c requests.SystemOff is asks all =
     kept_halting b v c (message_for v kinds.Off c []) is.known is.runs is.are
 function_kept b v c requests.SystemReset is asks all =
     kept_halting b v c (message_for v kinds.Reset c []) is.known is.runs is.are
-function_kept b v c (requests.Features word) is asks all = goes_on b v c is
 function_kept b v c (requests.SystemSuspend entry_point context) is asks all =
     suspend_all_kept b v c entry_point context is all
 function_kept b v c (requests.SetSuspendMode number) is asks all =
     kept_by_mode b v c (mode_of number) is.known is.on is.runs is.are
 function_kept b v c (requests.SystemReset2 reset_type cookie) is asks all =
     reset2_kept b v c reset_type cookie is
-function_kept b v c requests.Unknown is asks all = goes_on b v c is
+function_kept b v c r is asks all = goes_on b v c is
 
 pub kept_function : (b : BoardValue) (v : Values) (c : ℕ) (r : Request) → Known b → c < cores b
     → AreValues b v → v.phase c ≡ Running → Worded b

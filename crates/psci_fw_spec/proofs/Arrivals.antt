@@ -39,9 +39,7 @@ module _ (b : BoardValue) (v : Values) (c : ℕ) (s : Start) where
   runs_by : (act : Act) (m : Option MessageValue) → executes_on act ≡ true
       → (change b (enter_effect c s act m) v).phase c ≡ Running
   runs_by acts.Stop m goes = absurd (cc)
-  runs_by (acts.Return code) m goes = entered_runs
-  runs_by (acts.Enter a x) m goes = entered_runs
-  runs_by acts.Resume m goes = entered_runs
+  runs_by act m goes = entered_runs
 
   pub enters_runs : (o : Outcome) → executes_on o.act ≡ true
       → (after b c (Enter s) (Out o) v).phase c ≡ Running

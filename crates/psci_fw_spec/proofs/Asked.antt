@@ -103,15 +103,10 @@ abbrev pub IsAsking : Phase → Type 0
 IsAsking phase = IsActivity (activity_of phase)
 
 pub phase_asks : (b : BoardValue) (phase : Phase) → IsPhase b phase → IsAsking phase
-phase_asks b Pending is = tt
-phase_asks b Running is = tt
 phase_asks b (Suspended ask) is = is.0
-phase_asks b Away is = tt
+phase_asks b p is = tt
 
 asks-most : (phase : Phase) (level : ℕ) → IsAsking phase → asks (activity_of phase) level ≤ 3
-asks-most Pending level is = omega arith
-asks-most Running level is = omega arith
-asks-most Away level is = omega arith
 asks-most (Suspended ask) level is = most level
   where
     most : (m : ℕ) → slice_index ask m ≤ 3
@@ -121,6 +116,7 @@ asks-most (Suspended ask) level is = most level
         let step = is.falls m in
         let falls = rw next at step in
         omega (arith, falls, most m)
+asks-most p level is = omega arith
 
 -- no core asks for more than power-down
 pub asked-most : (b : BoardValue) (phase : Phase) (level : ℕ) → IsAsking phase
@@ -129,10 +125,8 @@ asked-most b phase level is h = rw (asked_within b phase level h) (asks-most pha
 
 asks-fall : (phase : Phase) (level : ℕ) → IsAsking phase
     → asks (activity_of phase) (level + 1) ≤ asks (activity_of phase) level
-asks-fall Pending level is = omega arith
-asks-fall Running level is = omega arith
-asks-fall Away level is = omega arith
 asks-fall (Suspended ask) level is = is.falls level
+asks-fall p level is = omega arith
 
 -- what a core asks never grows upwards
 pub asked-fall : (b : BoardValue) (phase : Phase) (level : ℕ) → IsAsking phase

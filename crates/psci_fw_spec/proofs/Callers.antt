@@ -128,8 +128,7 @@ module _ (b : BoardValue) (v : Values) (c : ℕ) (runs : v.phase c ≡ Running) 
   function_runs r acts.Stop m are was goes = absurd (cc)
   function_runs r (acts.Return code) (Some m) are was goes = sent_runs r m are was
   function_runs r (acts.Return code) None are was goes = return_runs r code
-  function_runs r (acts.Enter a x) m are was goes = goes_on_runs
-  function_runs r acts.Resume m are was goes = goes_on_runs
+  function_runs r act m are was goes = goes_on_runs
 
 pub runs_on : (b : BoardValue) (v : Values) (c : ℕ) (regs : Regs) → AreValues b v
     → v.phase c ≡ Running → let o = outcome_of b v c (request_of regs) in
@@ -149,8 +148,6 @@ module _ (b : BoardValue) (v : Values) (c : ℕ) where
 
   stop_stays : (r : Request) (m : MessageValue) → Stays (stop_effect b c r m)
   stop_stays requests.SystemOff m = refl
-  stop_stays requests.SystemReset m = refl
-  stop_stays (requests.SystemReset2 reset_type cookie) m = refl
   stop_stays r m = refl
 
   mode_stays : (m : Option SuspendMode) (t : Bool) → Stays (cond t (mode_effect c m) (GoesOn c))

@@ -1,5 +1,5 @@
 -- Changes that claim nothing leave values such as the firmware keeps.
-use Rattle.std.proofs.Common.{◌≡◌, ◌≤◌, ◌<◌, ◌⊎◌, ◌&&◌, nat_lt, ℕ, Bool, true, false, cond, None}
+use Rattle.std.proofs.Common.{◌≡◌, ◌≤◌, ◌<◌, ◌⊎◌, ◌&&◌, nat_lt, ℕ, Bool, true, cond, None}
 use Rattle.std.proofs.Common.{Some, inl, inr, refl, sym, ap, ◌∙◌, true≢false}
 use Rattle.std.specs.Prelude.{is_some}
 use Rattle.psci_board.specs.Board.{BoardValue, cores}
@@ -15,7 +15,7 @@ use Rattle.psci_fw_spec.specs.Changes.{with_arrival, with_halt, with_pending, wi
 use Rattle.psci_fw_spec.specs.Changes.{with_running}
 use Rattle.psci_fw_spec.specs.Invariant.{AreAwake, AreValues, IsPhase, agrees, is_expected}
 use Rattle.psci_fw_spec.specs.Lives.{in_life}
-use Rattle.psci_fw_spec.specs.Phases.{Phase, Pending, Running, Suspended, Away, activity_of}
+use Rattle.psci_fw_spec.specs.Phases.{Phase, Pending, Running, Away, activity_of}
 use Rattle.psci_fw_spec.specs.Phases.{is_away, unless_pending}
 use Rattle.psci_fw_spec.specs.Values.{Values, updated}
 use Rattle.psci_fw_spec.specs.Views.{view}
@@ -71,26 +71,14 @@ kept_pending b v asked known on are =
 -- a core that runs is ON
 pub on_where_runs : (s : Status) (p : Phase) → agrees s p ≡ true → p ≡ Running → s ≡ statuses.On
 on_where_runs statuses.On p e f = refl
-on_where_runs statuses.Off p e f =
-    let clash : false ≡ true = sym (ap (agrees statuses.Off) f) ∙ e in absurd (cc clash)
-on_where_runs statuses.Pending p e f =
-    let clash : false ≡ true = sym (ap (agrees statuses.Pending) f) ∙ e in absurd (cc clash)
+on_where_runs s p e f = absurd (cc (sym (ap (agrees s) f) ∙ e))
 
 -- a core that stops is away, or pending still
 pub away_agrees : (s : Status) (p : Phase) → agrees s p ≡ true
     → agrees s (unless_pending p Away) ≡ true
-away_agrees statuses.On Pending e = e
-away_agrees statuses.On Running e = refl
-away_agrees statuses.On (Suspended ask) e = refl
-away_agrees statuses.On Away e = refl
-away_agrees statuses.Off Pending e = e
-away_agrees statuses.Off Running e = refl
-away_agrees statuses.Off (Suspended ask) e = refl
-away_agrees statuses.Off Away e = refl
-away_agrees statuses.Pending Pending e = refl
-away_agrees statuses.Pending Running e = absurd (cc e)
-away_agrees statuses.Pending (Suspended ask) e = absurd (cc e)
-away_agrees statuses.Pending Away e = absurd (cc e)
+away_agrees s Pending e = e
+away_agrees statuses.Pending p e = absurd (cc e)
+away_agrees s p e = refl
 
 pub agree_away : (v : Values) (c : ℕ) → ((k : ℕ) → agrees (v.status k) (v.phase k) ≡ true)
     → (k : ℕ) → agrees (v.status k) ((with_phase c Away v).phase k) ≡ true
@@ -99,9 +87,7 @@ agree_away v c agree = updated_each (λ k p. agrees (v.status k) p ≡ true) v.p
 
 away_is : (b : BoardValue) (p : Phase) → IsPhase b p → IsPhase b (unless_pending p Away)
 away_is b Pending is = tt
-away_is b Running is = tt
-away_is b (Suspended ask) is = tt
-away_is b Away is = tt
+away_is b p is = tt
 
 pub phase_away : (b : BoardValue) (v : Values) (c : ℕ) → ((k : ℕ) → IsPhase b (v.phase k))
     → (k : ℕ) → IsPhase b ((with_phase c Away v).phase k)
@@ -202,11 +188,8 @@ kept_ceasing b v c s known within halting are =
 -- an acknowledgement turns off only a core that is away
 off_agrees : (t : Bool) (s : Status) (p : Phase) → agrees s p ≡ true
     → agrees (cond (t && is_away p) statuses.Off s) p ≡ true
-off_agrees true s Pending e = e
-off_agrees true s Running e = e
-off_agrees true s (Suspended ask) e = e
 off_agrees true s Away e = refl
-off_agrees false s p e = e
+off_agrees t s p e = e
 
 pub kept_acknowledged : (b : BoardValue) (v : Values) (a : AckValue) → AreValues b v
     → AreValues b (with_acknowledgement b a v)

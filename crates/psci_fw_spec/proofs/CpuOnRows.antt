@@ -7,6 +7,7 @@ use Rattle.psci_fw_spec.specs.CpuOn.{cpu_on}
 use Rattle.psci_fw_spec.specs.Lives.{start_of_life}
 use Rattle.psci_fw_spec.specs.Outcomes.{returns}
 use Rattle.psci_fw_spec.specs.Values.{Values}
+use Rattle.psci_fw_spec.proofs.Lopsided.{once_3_runs}
 use Rattle.psci_fw_spec.proofs.Steps.{◌⇒◌, AreAnswered, board, boot, boots, computing}
 use Rattle.psci_fw_spec.proofs.Steps.{enter_boot, enter_on, error, goes_on_3}
 use Rattle.psci_fw_spec.proofs.Steps.{limited, on, on_3, refused, starts}
@@ -34,12 +35,10 @@ pending_before_the_limit = refl
 
 -- in life 2 the message has this life, and the starts of life 1 do not count
 life_2 : AreAnswered board
-    (boot ⇒ boots
-    ∷ on_3 ⇒ starts 3 1 0
-    ∷ enter_on 3 1 1000 ⇒ goes_on_3
-    ∷ enter_boot 0 2 1 ⇒ boots
+    (once_3_runs 1000
+    (enter_boot 0 2 1 ⇒ boots
     ∷ on_3 ⇒ starts 3 2 0
     ∷ enter_on 3 1 1 ⇒ refused OldStart
-    ∷ enter_on 3 2 1 ⇒ goes_on_3 ∷ [])
+    ∷ enter_on 3 2 1 ⇒ goes_on_3 ∷ []))
 unfolding computing
 life_2 = record { history = refl; values = refl }

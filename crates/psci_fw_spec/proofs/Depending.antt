@@ -243,8 +243,7 @@ act_at b f g x y c s None alike =
         (stops_with (off_message b y c))).act
     by_test true true e = refl
     by_test false false e = refl
-    by_test true false e = absurd (cc)
-    by_test false true e = absurd (cc)
+    by_test t u e = absurd (cc)
 
 same_act : (b : BoardValue) (f g x y : Values) (c : ℕ) (s : Start) (t : Bool) → AreAlike f g c
     → (cond t stops (outcome_at b f x c s (f.opening c))).act

@@ -103,25 +103,19 @@ pub function_ends : (P : Outcome → Type 0) (b : BoardValue) (v : Values) (c : 
     → ((word entry_point context : ℕ) (m : MessageValue)
     → r ≡ requests.CpuOn word entry_point context → P (starts_with m))
     → P (function_outcome b v c r)
-function_ends P b v c requests.Version returned stopped asked = returned _
 function_ends P b v c (requests.CpuSuspend state entry_point context) returned stopped asked =
     suspend_ends P b v c entry_point (ask_named b state) returned (λ ask parts e is. stopped _)
 function_ends P b v c requests.CpuOff returned stopped asked = stopped _
 function_ends P b v c (requests.CpuOn word entry_point context) returned stopped asked =
     on_ends P v (target_of b v word entry_point) returned
     (λ core e. asked word entry_point context _ refl)
-function_ends P b v c (requests.AffinityInfo level word) returned stopped asked = returned _
-function_ends P b v c (requests.NodeHwState level word) returned stopped asked = returned _
-function_ends P b v c requests.MigrateInfoType returned stopped asked = returned _
 function_ends P b v c requests.SystemOff returned stopped asked = stopped _
 function_ends P b v c requests.SystemReset returned stopped asked = stopped _
-function_ends P b v c (requests.Features word) returned stopped asked = returned _
 function_ends P b v c (requests.SystemSuspend entry_point context) returned stopped asked =
     system_ends P b v c entry_point returned (λ parts e. stopped _)
-function_ends P b v c (requests.SetSuspendMode mode) returned stopped asked = returned _
 function_ends P b v c (requests.SystemReset2 reset_type cookie) returned stopped asked =
     reset2_ends P v c reset_type returned (stopped _)
-function_ends P b v c requests.Unknown returned stopped asked = returned _
+function_ends P b v c r returned stopped asked = returned _
 
 -- in a halting life every function stops its caller, and sends nothing
 pub outcome_ends : (P : Outcome → Type 0) (b : BoardValue) (v : Values) (c : ℕ) (r : Request)

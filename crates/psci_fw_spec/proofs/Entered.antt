@@ -31,7 +31,7 @@ use Rattle.psci_fw_spec.specs.Invariant.{AreValues, IsPhase}
 use Rattle.psci_fw_spec.specs.Legal.{IsLegal}
 use Rattle.psci_fw_spec.specs.Lives.{in_life, start_of_life}
 use Rattle.psci_fw_spec.specs.Outcomes.{stops, stops_with}
-use Rattle.psci_fw_spec.specs.Phases.{Phase, Pending, Running, Suspended, Away, is_running}
+use Rattle.psci_fw_spec.specs.Phases.{Phase, Running, Suspended, is_running}
 use Rattle.psci_fw_spec.specs.Taking.{taken_by}
 use Rattle.psci_fw_spec.specs.Values.{Values, updated}
 use Rattle.psci_fw_spec.proofs.Answered.{Worded, kept_function}
@@ -49,18 +49,14 @@ there : (on : Bool) (lifeless old : Bool)
     (cond old (Some faults.OldStart) None))
     ≡ None
     → (on ≡ true) × (old ≡ false)
-there false lifeless old e = absurd (cc e)
-there true true old e = absurd (cc e)
-there true false true e = absurd (cc e)
 there true false false e = (refl, refl)
+there on lifeless old e = absurd (cc e)
 
 -- a start that is not old has a number within the limit
 within : (late none above again : Bool) → (late || (none || (above || again))) ≡ false
     → above ≡ false
-within true none above again e = absurd (cc e)
-within false true above again e = absurd (cc e)
-within false false true again e = absurd (cc e)
 within false false false again e = refl
+within late none above again e = absurd (cc e)
 
 -- a core that may enter
 record MayEnter (b : BoardValue) (c : ℕ) (s : Start) : Type 0 where
@@ -134,20 +130,16 @@ kept_enter b v c s known are e = by_test (in_life b s.life v).halting refl
 -- All calls -----------------------------------------------------------------------------------
 
 running_phase : (p : Phase) → is_running p ≡ true → p ≡ Running
-running_phase Pending e = absurd (cc e)
 running_phase Running e = refl
-running_phase (Suspended ask) e = absurd (cc e)
-running_phase Away e = absurd (cc e)
+running_phase p e = absurd (cc e)
 
 calls : (on lifeless runs : Bool)
     → cond (not on) (Some faults.NoCore) (cond lifeless (Some faults.NoLife)
     (cond runs None (Some faults.NotRunning)))
     ≡ None
     → (on ≡ true) × (runs ≡ true)
-calls false lifeless runs e = absurd (cc e)
-calls true true runs e = absurd (cc e)
-calls true false false e = absurd (cc e)
 calls true false true e = (refl, refl)
+calls on lifeless runs e = absurd (cc e)
 
 pub kept_answer : (b : BoardValue) (v : Values) (c : ℕ) (call : FwCall) → Known b → AreValues b v
     → Worded b → IsPhase b (Suspended (deepest_of (height b)))

@@ -1,32 +1,32 @@
 -- Worked examples: calls on boards whose power state words have the extended format.
 use Rattle.std.proofs.Common.{◌∷◌, [], refl}
 use Rattle.psci_fw_spec.proofs.FormatWordRows.{extended}
-use Rattle.psci_fw_spec.proofs.Steps.{◌⇒◌, AreAnswered, board, boot, boots, computing, enter_boot}
-use Rattle.psci_fw_spec.proofs.Steps.{enter_on, enter_wake, error, features, goes_on_3, goes_to}
-use Rattle.psci_fw_spec.proofs.Steps.{limited, off, on, one_cluster, part}
-use Rattle.psci_fw_spec.proofs.Steps.{starts, stops, suspend, system_suspend, tall}
-use Rattle.psci_fw_spec.proofs.Steps.{uneven, value}
+use Rattle.psci_fw_spec.proofs.Steps.{◌⇒◌, AreAnswered, AreAnsweredAll, board, boot, boots}
+use Rattle.psci_fw_spec.proofs.Steps.{computing, enter_boot, enter_on, enter_wake, error, features}
+use Rattle.psci_fw_spec.proofs.Steps.{goes_on_3, goes_to, limited, off, on, one_cluster, part}
+use Rattle.psci_fw_spec.proofs.Steps.{starts, stops, suspend, system_suspend, tall, uneven, value}
 
--- the format decides nothing else that PSCI_FEATURES answers
-extended_features : AreAnswered (extended board)
-    (boot ⇒ boots
+extended_calls : AreAnsweredAll (extended board)
+    -- the format decides nothing else that PSCI_FEATURES answers
+    ((boot ⇒ boots
     ∷ features 0xc4000001 ⇒ value 3
     ∷ features 0xc4000003 ⇒ value 0
     ∷ features 0x84000002 ⇒ value 0
     ∷ features 0xc4000002 ⇒ error 1 ∷ [])
-unfolding computing
-extended_features = record { history = refl; values = refl }
-
--- a later life
-extended_in_life_2 : AreAnswered (extended board)
-    (boot ⇒ boots
+    -- a later life
+    ∷ (boot ⇒ boots
     ∷ off 0 ⇒ stops 0 1 1 (part 0 3 1 ∷ part 1 3 1 ∷ part 2 3 1 ∷ [])
     ∷ enter_boot 0 2 1 ⇒ boots
     ∷ features 0x84000001 ⇒ value 3
     ∷ suspend 0 0x01010033 0x40000100 5 ⇒ error 2
     ∷ suspend 0 0x40000033 0x40000100 5 ⇒ stops 0 2 1 (part 0 3 1 ∷ part 1 3 1 ∷ []) ∷ [])
+    -- SYSTEM_SUSPEND takes no power state word, and does the same
+    ∷ (boot ⇒ boots
+    ∷ system_suspend 0 0x40000200 9 ⇒
+    stops 0 1 1 (part 0 3 1 ∷ part 1 3 1 ∷ part 2 3 1 ∷ [])
+    ∷ enter_wake 0 1 2 ⇒ goes_to 0x40000200 9 ∷ []) ∷ [])
 unfolding computing
-extended_in_life_2 = record { history = refl; values = refl }
+extended_calls = record { history = refl; values = refl }
 
 -- at the start limit
 extended_at_start_limit : AreAnswered (extended (limited 1 3))
@@ -36,15 +36,6 @@ extended_at_start_limit : AreAnswered (extended (limited 1 3))
     ∷ features 0x84000001 ⇒ value 3 ∷ [])
 unfolding computing
 extended_at_start_limit = record { history = refl; values = refl }
-
--- SYSTEM_SUSPEND takes no power state word, and does the same
-extended_system_suspend : AreAnswered (extended board)
-    (boot ⇒ boots
-    ∷ system_suspend 0 0x40000200 9 ⇒
-    stops 0 1 1 (part 0 3 1 ∷ part 1 3 1 ∷ part 2 3 1 ∷ [])
-    ∷ enter_wake 0 1 2 ⇒ goes_to 0x40000200 9 ∷ [])
-unfolding computing
-extended_system_suspend = record { history = refl; values = refl }
 
 -- one cluster
 extended_cluster : AreAnswered (extended one_cluster)

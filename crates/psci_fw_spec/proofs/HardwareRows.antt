@@ -2,11 +2,11 @@
 -- ones.
 use Rattle.std.proofs.Common.{◌∷◌, ℕ, [], false, refl}
 use Rattle.psci_messages.specs.declared.kind.Kind.TheVariants as kinds
-use Rattle.psci_fw_spec.proofs.Lopsided.{lopsided}
-use Rattle.psci_fw_spec.proofs.Steps.{◌⇒◌, AreAnswered, Step, board, boot, boots, computing}
-use Rattle.psci_fw_spec.proofs.Steps.{enter_boot, enter_on, enter_reset, enter_wake, error}
-use Rattle.psci_fw_spec.proofs.Steps.{goes_on_3, goes_to, off, old, on, on_3, on_by, one_core, part}
-use Rattle.psci_fw_spec.proofs.Steps.{resumes, set_mode, smc, starts, stops}
+use Rattle.psci_fw_spec.proofs.Lopsided.{lopsided, once_3_runs}
+use Rattle.psci_fw_spec.proofs.Steps.{◌⇒◌, AreAnswered, AreAnsweredAll, Step, board, boot, boots}
+use Rattle.psci_fw_spec.proofs.Steps.{computing, enter_boot, enter_on, enter_reset, enter_wake}
+use Rattle.psci_fw_spec.proofs.Steps.{error, goes_on_3, goes_to, off, old, on, on_3, on_by}
+use Rattle.psci_fw_spec.proofs.Steps.{one_core, part, resumes, set_mode, smc, starts, stops}
 use Rattle.psci_fw_spec.proofs.Steps.{suspend, take, take_down, take_stale, tall, used, value}
 
 -- NODE_HW_STATE by a core: affinity word, level
@@ -46,18 +46,30 @@ in_part_at_three_levels : AreAnswered lopsided
 unfolding computing
 in_part_at_three_levels = record { history = refl; values = refl }
 
--- more parts than the Down has
-more_parts_than_sent : AreAnswered board
-    (boot ⇒ boots
-    ∷ on_3 ⇒ starts 3 1 0
-    ∷ enter_on 3 1 1 ⇒ goes_on_3
-    ∷ suspend 3 0x2 0 0 ⇒ stops 3 1 1 (part 0 2 1 ∷ [])
+more_or_other_parts : AreAnsweredAll board
+    -- more parts than the Down has
+    (once_3_runs 1
+    (suspend 3 0x2 0 0 ⇒ stops 3 1 1 (part 0 2 1 ∷ [])
     ∷ take_down 3 1 1 3 ⇒ used
     ∷ hw 0 0x101 0 ⇒ value 2
     ∷ hw 0 0x100 1 ⇒ value 0
     ∷ hw 0 0 2 ⇒ value 0 ∷ [])
+    -- an acknowledgement of another life, number, core or kind
+    ∷ (enter_boot 0 2 1 ⇒ boots
+    ∷ on_3 ⇒ starts 3 2 0
+    ∷ enter_on 3 2 2 ⇒ goes_on_3
+    ∷ off 3 ⇒ stops 3 2 2 (part 0 3 2 ∷ part 1 3 2 ∷ [])
+    ∷ take_down 3 1 2 2 ⇒ old
+    ∷ take_down 3 2 1 2 ⇒ old
+    ∷ take_down 2 2 2 2 ⇒ old
+    ∷ take kinds.Start 3 2 2 2 false ⇒ old
+    ∷ hw 0 0x101 0 ⇒ value 0
+    ∷ hw 0 0x100 1 ⇒ value 0
+    ∷ take_down 3 2 2 2 ⇒ used
+    ∷ hw 0 0x101 0 ⇒ value 1
+    ∷ hw 0 0x100 1 ⇒ value 1 ∷ []) ∷ [])
 unfolding computing
-more_parts_than_sent = record { history = refl; values = refl }
+more_or_other_parts = record { history = refl; values = refl }
 
 -- retention in OS-initiated mode, in the last life: the acknowledgement of an earlier start is old,
 -- before the core has stopped again and afterwards
@@ -83,24 +95,6 @@ old_in_the_last_life : AreAnswered board
 unfolding computing
 old_in_the_last_life = record { history = refl; values = refl }
 
--- an acknowledgement of another life, number, core or kind
-of_other_messages : AreAnswered board
-    (enter_boot 0 2 1 ⇒ boots
-    ∷ on_3 ⇒ starts 3 2 0
-    ∷ enter_on 3 2 2 ⇒ goes_on_3
-    ∷ off 3 ⇒ stops 3 2 2 (part 0 3 2 ∷ part 1 3 2 ∷ [])
-    ∷ take_down 3 1 2 2 ⇒ old
-    ∷ take_down 3 2 1 2 ⇒ old
-    ∷ take_down 2 2 2 2 ⇒ old
-    ∷ take kinds.Start 3 2 2 2 false ⇒ old
-    ∷ hw 0 0x101 0 ⇒ value 0
-    ∷ hw 0 0x100 1 ⇒ value 0
-    ∷ take_down 3 2 2 2 ⇒ used
-    ∷ hw 0 0x101 0 ⇒ value 1
-    ∷ hw 0 0x100 1 ⇒ value 1 ∷ [])
-unfolding computing
-of_other_messages = record { history = refl; values = refl }
-
 -- an acknowledgement of one core's Down says nothing of another core, which asked the same
 beside_its_path : AreAnswered board
     (boot ⇒ boots
@@ -122,37 +116,25 @@ beside_its_path = record { history = refl; values = refl }
 
 -- Asked on, woken, replaced -------------------------------------------------------------------
 
-stale_without_parts : AreAnswered board
-    (boot ⇒ boots
-    ∷ on_3 ⇒ starts 3 1 0
-    ∷ enter_on 3 1 1 ⇒ goes_on_3
-    ∷ off 3 ⇒ stops 3 1 1 (part 0 3 1 ∷ part 1 3 1 ∷ [])
+asked_on_woken_replaced : AreAnsweredAll board
+    -- stale without parts
+    (once_3_runs 1
+    (off 3 ⇒ stops 3 1 1 (part 0 3 1 ∷ part 1 3 1 ∷ [])
     ∷ take_stale 3 1 1 0 ⇒ used
     ∷ hw 0 0x101 0 ⇒ value 0
     ∷ take_down 3 1 1 2 ⇒ old
     ∷ hw 0 0x101 0 ⇒ value 0 ∷ [])
-unfolding computing
-stale_without_parts = record { history = refl; values = refl }
-
-applied_and_asked_on : AreAnswered board
-    (boot ⇒ boots
-    ∷ on_3 ⇒ starts 3 1 0
-    ∷ enter_on 3 1 1 ⇒ goes_on_3
-    ∷ off 3 ⇒ stops 3 1 1 (part 0 3 1 ∷ part 1 3 1 ∷ [])
+    -- applied and asked on
+    ∷ once_3_runs 1
+    (off 3 ⇒ stops 3 1 1 (part 0 3 1 ∷ part 1 3 1 ∷ [])
     ∷ on 0x100 0x40002000 0 ⇒ starts 2 1 0
     ∷ take_down 3 1 1 2 ⇒ used
     ∷ hw 0 0x101 0 ⇒ value 1
     ∷ hw 0 0x100 1 ⇒ value 0 ∷ [])
-unfolding computing
-applied_and_asked_on = record { history = refl; values = refl }
-
--- the cluster was claimed anew, by core 2: the acknowledgement of the claim before says nothing of
--- it, though of core 3
-claimed_anew_by_another : AreAnswered board
-    (boot ⇒ boots
-    ∷ on_3 ⇒ starts 3 1 0
-    ∷ enter_on 3 1 1 ⇒ goes_on_3
-    ∷ off 3 ⇒ stops 3 1 1 (part 0 3 1 ∷ part 1 3 1 ∷ [])
+    -- the cluster was claimed anew, by core 2: the acknowledgement of the claim before says nothing
+    -- of it, though of core 3
+    ∷ once_3_runs 1
+    (off 3 ⇒ stops 3 1 1 (part 0 3 1 ∷ part 1 3 1 ∷ [])
     ∷ on 0x100 0x40002000 0 ⇒ starts 2 1 0
     ∷ enter_on 2 1 1 ⇒ goes_to 0x40002000 0
     ∷ off 2 ⇒ stops 2 1 1 (part 0 3 1 ∷ part 1 3 2 ∷ [])
@@ -164,16 +146,10 @@ claimed_anew_by_another : AreAnswered board
     ∷ hw 0 0x100 1 ⇒ value 0
     ∷ take_down 2 1 1 2 ⇒ used
     ∷ hw 0 0x100 1 ⇒ value 1 ∷ [])
-unfolding computing
-claimed_anew_by_another = record { history = refl; values = refl }
-
--- a Down that a later one of its core replaced, when it was woken and parked: the first is old, and
--- what had been confirmed is not any more
-replaced_by_a_park : AreAnswered board
-    (boot ⇒ boots
-    ∷ on_3 ⇒ starts 3 1 0
-    ∷ enter_on 3 1 1 ⇒ goes_on_3
-    ∷ off 3 ⇒ stops 3 1 1 (part 0 3 1 ∷ part 1 3 1 ∷ [])
+    -- a Down that a later one of its core replaced, when it was woken and parked: the first is old,
+    -- and what had been confirmed is not any more
+    ∷ once_3_runs 1
+    (off 3 ⇒ stops 3 1 1 (part 0 3 1 ∷ part 1 3 1 ∷ [])
     ∷ take_down 3 1 1 1 ⇒ used
     ∷ hw 0 0x101 0 ⇒ value 1
     ∷ enter_wake 3 1 2 ⇒ stops 3 1 2 (part 0 3 2 ∷ part 1 3 2 ∷ [])
@@ -184,23 +160,17 @@ replaced_by_a_park : AreAnswered board
     ∷ take_down 3 1 2 2 ⇒ used
     ∷ hw 0 0x101 0 ⇒ value 1
     ∷ hw 0 0x100 1 ⇒ value 1 ∷ [])
-unfolding computing
-replaced_by_a_park = record { history = refl; values = refl }
-
--- one that a Start replaced
-replaced_by_a_start : AreAnswered board
-    (boot ⇒ boots
-    ∷ on_3 ⇒ starts 3 1 0
-    ∷ enter_on 3 1 1 ⇒ goes_on_3
-    ∷ off 3 ⇒ stops 3 1 1 (part 0 3 1 ∷ part 1 3 1 ∷ [])
+    -- one that a Start replaced
+    ∷ once_3_runs 1
+    (off 3 ⇒ stops 3 1 1 (part 0 3 1 ∷ part 1 3 1 ∷ [])
     ∷ take_down 3 1 1 1 ⇒ used
     ∷ on_3 ⇒ starts 3 1 1
     ∷ take_down 3 1 1 2 ⇒ old
     ∷ take kinds.Start 3 1 1 1 false ⇒ used
     ∷ hw 0 0x101 0 ⇒ value 0
-    ∷ hw 0 0x100 1 ⇒ value 0 ∷ [])
+    ∷ hw 0 0x100 1 ⇒ value 0 ∷ []) ∷ [])
 unfolding computing
-replaced_by_a_start = record { history = refl; values = refl }
+asked_on_woken_replaced = record { history = refl; values = refl }
 
 -- standby and retention of a core and its cluster, in platform-coordinated mode, on a tall board:
 -- core 2 asks about core 3 and is told until core 3 has entered again
@@ -233,10 +203,8 @@ standby_and_retention = record { history = refl; values = refl }
 -- a life begins with its boot path on and all else off, whatever was confirmed in the one before;
 -- acknowledgements of that one are old
 next_life : AreAnswered board
-    (boot ⇒ boots
-    ∷ on_3 ⇒ starts 3 1 0
-    ∷ enter_on 3 1 1 ⇒ goes_on_3
-    ∷ on 0x1 0x40005000 0 ⇒ starts 1 1 0
+    (once_3_runs 1
+    (on 0x1 0x40005000 0 ⇒ starts 1 1 0
     ∷ enter_on 1 1 1 ⇒ goes_to 0x40005000 0
     ∷ suspend 1 0x01000022 0 0 ⇒ stops 1 1 1 (part 0 2 1 ∷ [])
     ∷ take_down 1 1 1 1 ⇒ used
@@ -254,7 +222,7 @@ next_life : AreAnswered board
     ∷ hw 0 0x101 0 ⇒ value 1
     ∷ hw 0 0x100 1 ⇒ value 1
     ∷ take_down 1 1 1 1 ⇒ old
-    ∷ hw 0 0x1 0 ⇒ value 1 ∷ [])
+    ∷ hw 0 0x1 0 ⇒ value 1 ∷ []))
 unfolding computing
 next_life = record { history = refl; values = refl }
 

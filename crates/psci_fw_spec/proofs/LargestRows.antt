@@ -4,9 +4,10 @@ use Rattle.std.proofs.Common.{◌∷◌, [], refl}
 use Rattle.std.specs.Prelude.{replicate}
 use Rattle.psci_board.specs.Board.{BoardValue}
 use Rattle.psci_fw_spec.specs.declared.fault.FwFault.TheVariants.{NoCore}
-use Rattle.psci_fw_spec.proofs.Steps.{◌⇒◌, AreAnswered, affinity, board, boot, boots, computing}
-use Rattle.psci_fw_spec.proofs.Steps.{enter_on, error, goes_to, off, on, on_by, part, refused, smc}
-use Rattle.psci_fw_spec.proofs.Steps.{starts, stops, take_down, used, value, version}
+use Rattle.psci_fw_spec.proofs.Steps.{◌⇒◌, AreAnswered, AreAnsweredAll, affinity, board, boot}
+use Rattle.psci_fw_spec.proofs.Steps.{boots, computing, enter_on, error, goes_to, off, on, on_by}
+use Rattle.psci_fw_spec.proofs.Steps.{part, refused, smc, starts, stops, take_down, used, value}
+use Rattle.psci_fw_spec.proofs.Steps.{version}
 
 -- sixteen clusters of sixteen cores
 abbrev by_sixteens : BoardValue
@@ -16,9 +17,9 @@ by_sixteens = record board { levels = replicate 16 16 ∷ (16 ∷ []) ∷ [] }
 abbrev by_fours : BoardValue
 by_fours = record board { levels = replicate 16 16 ∷ replicate 4 4 ∷ (4 ∷ []) ∷ [] }
 
--- as a target, in the message and by its word; no word names a core 256
-last_target : AreAnswered by_sixteens
-    (boot ⇒ boots
+last_of_sixteens : AreAnsweredAll by_sixteens
+    -- as a target, in the message and by its word; no word names a core 256
+    ((boot ⇒ boots
     ∷ on 0xf10 0x40001000 7 ⇒ error 2
     ∷ on 0x1000 0x40001000 7 ⇒ error 2
     ∷ on 0xf0f 0x40001000 7 ⇒ starts 255 1 0
@@ -26,20 +27,16 @@ last_target : AreAnswered by_sixteens
     ∷ version 256 ⇒ refused NoCore
     ∷ enter_on 255 1 1 ⇒ goes_to 0x40001000 7
     ∷ affinity 0xf0f 0 ⇒ value 0 ∷ [])
-unfolding computing
-last_target = record { history = refl; values = refl }
-
--- as a caller: of the core before it, of itself, and off, with its cluster
-last_caller : AreAnswered by_sixteens
-    (boot ⇒ boots
+    -- as a caller: of the core before it, of itself, and off, with its cluster
+    ∷ (boot ⇒ boots
     ∷ on 0xf0f 0x40001000 7 ⇒ starts 255 1 0
     ∷ enter_on 255 1 1 ⇒ goes_to 0x40001000 7
     ∷ on_by 255 0xf0f 0x40001000 7 ⇒ error 4
     ∷ on_by 255 0xf0e 0x40001000 7 ⇒ starts 254 1 0
     ∷ smc 255 0xc4000004 0xf00 1 0 ⇒ value 0
-    ∷ off 255 ⇒ stops 255 1 1 (part 0 3 1 ∷ []) ∷ [])
+    ∷ off 255 ⇒ stops 255 1 1 (part 0 3 1 ∷ []) ∷ []) ∷ [])
 unfolding computing
-last_caller = record { history = refl; values = refl }
+last_of_sixteens = record { history = refl; values = refl }
 
 -- off, with its cluster and its group
 last_off : AreAnswered by_fours

@@ -6,9 +6,8 @@ use Rattle.psci_fw_spec.proofs.Lopsided.{affinity_by, features_by, lopsided, mig
 use Rattle.psci_fw_spec.proofs.Steps.{◌⇒◌, AreAnswered, boots, computing, enter_boot, enter_on}
 use Rattle.psci_fw_spec.proofs.Steps.{enter_reset, enter_wake, error, goes_to, off, old, on, on_by}
 use Rattle.psci_fw_spec.proofs.Steps.{one_cluster, part, resumes, set_mode, starts, stops, stops_by}
-use Rattle.psci_fw_spec.proofs.Steps.{stops_still, suspend, system_off, system_reset}
-use Rattle.psci_fw_spec.proofs.Steps.{system_reset2, system_suspend, take, take_down, used, value}
-use Rattle.psci_fw_spec.proofs.Steps.{version}
+use Rattle.psci_fw_spec.proofs.Steps.{stops_still, suspend, system_off, system_reset, system_reset2}
+use Rattle.psci_fw_spec.proofs.Steps.{system_suspend, take, take_down, used, value, version}
 
 -- The start limit -----------------------------------------------------------------------------
 

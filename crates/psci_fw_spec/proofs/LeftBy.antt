@@ -27,16 +27,14 @@ use Rattle.psci_fw_spec.specs.Effects.{sent_effect, stop_effect}
 use Rattle.psci_fw_spec.specs.Exchange.{FwExchange, effect}
 use Rattle.psci_fw_spec.specs.History.{begins, life, phase_left}
 use Rattle.psci_messages.specs.OnlyIf.{only_if}
-use Rattle.psci_fw_spec.specs.Phases.{Phase, Pending, Running, Suspended, Away}
+use Rattle.psci_fw_spec.specs.Phases.{Phase, Pending, Away}
 use Rattle.psci_fw_spec.specs.Said.{Left, arrived, left}
 use Rattle.psci_fw_spec.specs.SuspendMode.{mode_of}
 
 -- a phase that an outcome can leave
 abbrev pub IsLeft : Phase → Type 0
 IsLeft Pending = ⊥
-IsLeft Running = Unit {0}
-IsLeft (Suspended ask) = Unit {0}
-IsLeft Away = Unit {0}
+IsLeft p = Unit {0}
 
 -- what an effect left, if it left something
 abbrev pub IsLeftBy : Option Left → Type 0
@@ -57,17 +55,12 @@ rest_left b r = tt
 stop_left : (b : BoardValue) (c : ℕ) (r : Request) (m : MessageValue)
     → IsLeftBy (left (stop_effect b c r m))
 stop_left b c requests.SystemOff m = tt
-stop_left b c requests.SystemReset m = tt
-stop_left b c (requests.SystemReset2 reset_type cookie) m = tt
 stop_left b c r m = rest_left b r
-
-mode_left : (c : ℕ) (m : Option SuspendMode) → IsLeftBy (left (mode_effect c m))
-mode_left c None = tt
-mode_left c (Some m) = tt
 
 mode_set_left : (c : ℕ) (m : Option SuspendMode) (t : Bool)
     → IsLeftBy (left (cond t (mode_effect c m) (GoesOn c)))
-mode_set_left c m true = mode_left c m
+mode_set_left c None true = tt
+mode_set_left c (Some m) true = tt
 mode_set_left c m false = tt
 
 return_left : (c : ℕ) (r : Request) (code : Code) → IsLeftBy (left (return_effect c r code))

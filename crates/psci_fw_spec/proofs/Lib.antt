@@ -8,7 +8,6 @@ mod CallsStories
 mod Changing
 mod Claimed
 mod ConfirmedRows
-mod ConfirmedSay
 mod CpuOnRows
 mod Depending
 mod DomainsSay
@@ -20,7 +19,6 @@ mod ExamplesStories
 mod FormatRows
 mod FormatWordRows
 mod Granting
-mod HaltingRows
 mod HardwareRows
 mod Holding
 mod InvariantRows
@@ -38,7 +36,6 @@ mod ModeRows
 mod Modes
 mod NamedRows
 mod NamingRows
-mod OffRows
 mod OneMore
 mod OpeningsSay
 mod OsInitiatedRows
@@ -47,7 +44,6 @@ mod PeersStories
 mod PendingCores
 mod PhasesSay
 mod RefusalRows
-mod Reset2Rows
 mod SafeStories
 mod SameReplies
 mod Says

@@ -1,10 +1,9 @@
 -- What examples need that go along the axes: an uneven board of three levels, and plain calls by
 -- any core.
-use Rattle.std.proofs.Common.{◌≡◌, ℕ, List, [], ◌∷◌}
+use Rattle.std.proofs.Common.{ℕ, List, [], ◌∷◌}
 use Rattle.psci_board.specs.Board.{BoardValue}
-use Rattle.psci_fw_spec.specs.History.{values_of}
-use Rattle.psci_fw_spec.proofs.Steps.{Step, board, history_of, smc}
-use Rattle.psci_fw_spec.proofs.ValueRows.{Shown, kept_after, shown}
+use Rattle.psci_fw_spec.proofs.Steps.{◌⇒◌, Row, boot, boots, enter_on, goes_on_3, on_3, starts}
+use Rattle.psci_fw_spec.proofs.Steps.{Step, board, smc}
 
 -- a group of a cluster of two cores and a cluster of one, and a group of one core: 0x000, 0x001;
 -- 0x100; 0x10000
@@ -22,7 +21,7 @@ features_by c word = smc c 0x8400000a word 0 0
 abbrev pub migrate_info_type : ℕ → Step
 migrate_info_type c = smc c 0x84000006 0 0 0
 
--- on this board the history and the kept values say this after these calls
-pub record SaysOn (b : BoardValue) (steps : List Step) (values : Shown) : Type 0 where
-  pub history : shown (values_of b (history_of b steps)) ≡ values
-  pub kept : shown (kept_after b (history_of b steps)) ≡ values
+-- core 3 was asked on, and has entered by this start; and then these
+abbrev pub once_3_runs : ℕ → List Row → List Row
+once_3_runs start rows =
+    boot ⇒ boots ∷ on_3 ⇒ starts 3 1 0 ∷ enter_on 3 1 start ⇒ goes_on_3 ∷ rows

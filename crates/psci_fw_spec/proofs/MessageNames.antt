@@ -1,6 +1,5 @@
 -- What the message of a function and of a park names.
-use Rattle.std.proofs.Common.{◌≡◌, ℕ, Bool, true, false, cond, Option, None, Some, refl}
-use Rattle.std.proofs.Common.{subst}
+use Rattle.std.proofs.Common.{◌≡◌, ℕ, Bool, true, false, cond, Option, None, Some, refl, subst}
 use Rattle.psci_abi.specs.declared.request.Request.{Request}
 use Rattle.psci_abi.specs.declared.request.Request.TheVariants as requests
 use Rattle.psci_board.specs.Board.{BoardValue}
@@ -61,13 +60,7 @@ module _ (b : BoardValue) (v : Values) (c : ℕ) where
   function_named (requests.SystemReset2 reset_type cookie) =
       reset2_ends (AreNamed (requests.SystemReset2 reset_type cookie)) v c reset_type (λ code. tt)
       (record { kind = refl; core = refl; life = refl; number = refl })
-  function_named requests.Version = tt
-  function_named (requests.AffinityInfo level word) = tt
-  function_named (requests.NodeHwState level word) = tt
-  function_named requests.MigrateInfoType = tt
-  function_named (requests.Features word) = tt
-  function_named (requests.SetSuspendMode mode) = tt
-  function_named requests.Unknown = tt
+  function_named r = tt
 
   pub named : (r : Request) (m : MessageValue) → (outcome_of b v c r).message ≡ Some m
       → IsNamed b v c r m

@@ -1,23 +1,21 @@
 -- Worked examples: PSCI_SET_SUSPEND_MODE, and what PSCI_FEATURES says of the modes.
 use Rattle.std.proofs.Common.{◌∷◌, [], refl}
+use Rattle.psci_fw_spec.proofs.Lopsided.{once_3_runs}
 use Rattle.psci_fw_spec.proofs.Steps.{◌⇒◌, AreAnswered, board, boot, boots, computing, enter_on}
-use Rattle.psci_fw_spec.proofs.Steps.{enter_wake, error, features, goes_on_3, goes_to, off}
-use Rattle.psci_fw_spec.proofs.Steps.{on_3, part, resumes, set_mode, smc, starts, stops, suspend}
-use Rattle.psci_fw_spec.proofs.Steps.{value}
+use Rattle.psci_fw_spec.proofs.Steps.{enter_wake, error, features, goes_on_3, goes_to, off, on_3}
+use Rattle.psci_fw_spec.proofs.Steps.{part, resumes, set_mode, smc, starts, stops, suspend, value}
 
 -- OS-initiated mode is not set while a core is suspended, however light
 to_os_initiated : AreAnswered board
-    (boot ⇒ boots
-    ∷ on_3 ⇒ starts 3 1 0
-    ∷ enter_on 3 1 1 ⇒ goes_on_3
-    ∷ suspend 3 0x1 0 0 ⇒ stops 3 1 1 (part 0 1 1 ∷ [])
+    (once_3_runs 1
+    (suspend 3 0x1 0 0 ⇒ stops 3 1 1 (part 0 1 1 ∷ [])
     ∷ set_mode 0 1 ⇒ error 3
     ∷ enter_wake 3 1 2 ⇒ resumes
     ∷ suspend 3 0x00010003 0x40004000 2 ⇒ stops 3 1 2 (part 0 3 2 ∷ [])
     ∷ set_mode 0 1 ⇒ error 3
     ∷ enter_wake 3 1 3 ⇒ goes_to 0x40004000 2
     ∷ off 3 ⇒ stops 3 1 3 (part 0 3 3 ∷ part 1 3 3 ∷ [])
-    ∷ set_mode 0 1 ⇒ value 0 ∷ [])
+    ∷ set_mode 0 1 ⇒ value 0 ∷ []))
 unfolding computing
 to_os_initiated = record { history = refl; values = refl }
 

@@ -1,7 +1,6 @@
 -- That the suspend mode is set leaves values such as the firmware keeps.
-use Rattle.std.proofs.Common.{◌≡◌, ◌≤◌, ◌<◌, ◌+◌, ◌==◌, ◌||◌, ℕ, zero, suc, Bool, true, false}
-use Rattle.std.proofs.Common.{cond, Option, None, Some, inl, inr, refl, sym, ap, subst, ◌∙◌}
-use Rattle.std.proofs.Common.{arith}
+use Rattle.std.proofs.Common.{◌≡◌, ◌≤◌, ◌<◌, ◌+◌, ◌==◌, ◌||◌, ℕ, zero, suc, Bool, true, false, cond}
+use Rattle.std.proofs.Common.{Option, None, Some, inl, inr, refl, sym, ap, subst, ◌∙◌, arith}
 use Rattle.std.specs.List.{list_all, range_with_len}
 use Rattle.std.proofs.lemmas.Bool.{and_parts, cases_eq, ne_eqb}
 use Rattle.psci_board.specs.Board.{BoardValue, cores, height, up}
@@ -15,8 +14,7 @@ use Rattle.psci_fw_spec.specs.After.{change}
 use Rattle.psci_fw_spec.specs.Changes.{with_mode}
 use Rattle.psci_fw_spec.specs.Effects.{GoesOn, SetsMode, mode_effect}
 use Rattle.psci_fw_spec.specs.Invariant.{AreValues}
-use Rattle.psci_fw_spec.specs.Phases.{Phase, Pending, Running, Suspended, Away, activity_of}
-use Rattle.psci_fw_spec.specs.Phases.{is_away}
+use Rattle.psci_fw_spec.specs.Phases.{Phase, Running, Away, activity_of, is_away}
 use Rattle.psci_fw_spec.specs.SuspendMode.{is_mode, may_set, mode_asked}
 use Rattle.psci_fw_spec.specs.SystemCalls.{all_others}
 use Rattle.psci_fw_spec.specs.Values.{Values}
@@ -47,10 +45,8 @@ other_passes b c k test e h other =
     ap (λ t. t || test k) (sym beside) ∙ this
 
 away_off : (p : Phase) → is_away p ≡ true → is_core_away (activity_of p) ≡ true
-away_off Pending e = absurd (cc e)
-away_off Running e = absurd (cc e)
-away_off (Suspended ask) e = absurd (cc e)
 away_off Away e = refl
+away_off p e = absurd (cc e)
 
 -- Least asks ----------------------------------------------------------------------------------
 
@@ -109,8 +105,7 @@ kept_mode b v mode known are least = record {
 same_mode : (m n : SuspendMode) → is_mode m n ≡ true → m ≡ n
 same_mode Platform Platform e = refl
 same_mode OsInitiated OsInitiated e = refl
-same_mode Platform OsInitiated e = absurd (cc e)
-same_mode OsInitiated Platform e = absurd (cc e)
+same_mode m n e = absurd (cc e)
 
 mode_least : (b : BoardValue) (v : Values) (c : ℕ) (mode : SuspendMode) → Known b → c < cores b
     → v.phase c ≡ Running → AreValues b v → may_set b v c mode ≡ true → v.halting ≡ false

@@ -5,7 +5,7 @@ use Rattle.std.proofs.Common.{ℕ, ◌+◌, ◌*◌, ◌/◌, ◌%◌, List, [],
 use Rattle.psci_board.specs.Board.{BoardValue}
 use Rattle.psci_messages.specs.declared.kind.Kind.TheVariants.{Reset}
 use Rattle.psci_fw_spec.proofs.Lopsided.{affinity_by}
-use Rattle.psci_fw_spec.proofs.Steps.{◌⇒◌, AreAnswered, Row, board, boots, computing, enter_boot}
+use Rattle.psci_fw_spec.proofs.Steps.{◌⇒◌, AreAnsweredAll, Row, board, boots, computing, enter_boot}
 use Rattle.psci_fw_spec.proofs.Steps.{enter_on, enter_reset, enter_wake, error, goes_to, off, on}
 use Rattle.psci_fw_spec.proofs.Steps.{on_by, part, resumes, set_mode, starts, stops, stops_by}
 use Rattle.psci_fw_spec.proofs.Steps.{stops_still, suspend, system_reset, system_reset2, take}
@@ -40,21 +40,10 @@ coordinated a b x =
     ∷ off b ⇒ stops b 2 5 (part 0 3 5 ∷ [])
     ∷ off a ⇒ stops a 2 3 (part 0 3 3 ∷ part 1 3 8 ∷ []) ∷ []
 
-coordinated_1_2 : AreAnswered twins (coordinated 1 2 3)
+coordinated_by_any : AreAnsweredAll twins
+    (coordinated 1 2 3 ∷ coordinated 3 4 1 ∷ coordinated 2 1 3 ∷ coordinated 4 3 2 ∷ [])
 unfolding computing
-coordinated_1_2 = record { history = refl; values = refl }
-
-coordinated_3_4 : AreAnswered twins (coordinated 3 4 1)
-unfolding computing
-coordinated_3_4 = record { history = refl; values = refl }
-
-coordinated_2_1 : AreAnswered twins (coordinated 2 1 3)
-unfolding computing
-coordinated_2_1 = record { history = refl; values = refl }
-
-coordinated_4_3 : AreAnswered twins (coordinated 4 3 2)
-unfolding computing
-coordinated_4_3 = record { history = refl; values = refl }
+coordinated_by_any = record { history = refl; values = refl }
 
 -- In OS-initiated mode, and to the end of the life.
 abbrev initiated : ℕ → ℕ → ℕ → List Row
@@ -81,18 +70,7 @@ initiated a b x =
     ∷ take Reset a 2 3 1 false ⇒ used
     ∷ enter_wake b 2 7 ⇒ stops_still ∷ []
 
-initiated_1_2 : AreAnswered twins (initiated 1 2 4)
+initiated_by_any : AreAnsweredAll twins
+    (initiated 1 2 4 ∷ initiated 3 4 2 ∷ initiated 2 1 4 ∷ initiated 4 3 1 ∷ [])
 unfolding computing
-initiated_1_2 = record { history = refl; values = refl }
-
-initiated_3_4 : AreAnswered twins (initiated 3 4 2)
-unfolding computing
-initiated_3_4 = record { history = refl; values = refl }
-
-initiated_2_1 : AreAnswered twins (initiated 2 1 4)
-unfolding computing
-initiated_2_1 = record { history = refl; values = refl }
-
-initiated_4_3 : AreAnswered twins (initiated 4 3 1)
-unfolding computing
-initiated_4_3 = record { history = refl; values = refl }
+initiated_by_any = record { history = refl; values = refl }

@@ -6,8 +6,7 @@ use Rattle.psci_fw_spec.specs.After.{after}
 use Rattle.psci_fw_spec.specs.Exchange.{FwExchange, effect}
 use Rattle.psci_fw_spec.specs.History.{values_of}
 use Rattle.psci_fw_spec.specs.Lives.{start_of_life}
-use Rattle.psci_fw_spec.proofs.ConfirmedSay.{confirmed_more}
-use Rattle.psci_fw_spec.proofs.DomainsSay.{granted_more}
+use Rattle.psci_fw_spec.proofs.DomainsSay.{confirmed_more, granted_more}
 use Rattle.psci_fw_spec.proofs.OpeningsSay.{opening_more}
 use Rattle.psci_fw_spec.proofs.PhasesSay.{phase_more}
 use Rattle.psci_fw_spec.proofs.Says.{halting_more, known_more, life_more, mode_more}

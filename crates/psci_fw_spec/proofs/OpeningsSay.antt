@@ -7,29 +7,23 @@ use Rattle.psci_board.specs.Board.{BoardValue}
 use Rattle.psci_fw_spec.specs.declared.opening.Opening.{Opening}
 use Rattle.psci_fw_spec.specs.After.{change}
 use Rattle.psci_fw_spec.specs.Changes.{target}
-use Rattle.psci_fw_spec.specs.Effects.{Effect, AsksOn, Rests}
-use Rattle.psci_fw_spec.specs.Effects.{Enters, Parks, StopsAtOnce}
+use Rattle.psci_fw_spec.specs.Effects.{Effect, AsksOn, Rests, Enters, Parks, StopsAtOnce}
 use Rattle.psci_fw_spec.specs.Exchange.{FwExchange}
 use Rattle.psci_fw_spec.specs.History.{begins, life, opening, says_opening, values_of}
 use Rattle.psci_messages.specs.OnlyIf.{only_if}
 use Rattle.psci_fw_spec.specs.Lives.{first_opening}
 use Rattle.psci_fw_spec.specs.Said.{arrived}
-use Rattle.psci_fw_spec.proofs.Says.{found, said, said_or}
+use Rattle.psci_fw_spec.proofs.Says.{found, found_says, said, said_or}
 
 -- of each effect
 module _ (b : BoardValue) (h : List FwExchange) where
-  found_opening : (now : ℕ) (t : Bool) (k : ℕ)
-      → cond (not t) (first_opening b k) (opening b h k) ≡ (found b h now t).opening k
-  unfolding values_of
-  found_opening now true k = refl
-  found_opening now false k = refl
-
   -- the opening of a core that enters is used up
   enters : (now c : ℕ) (t : Bool) (k : ℕ)
       → unwrap_or (only_if (k == c) (Some None)) (cond (not t) (first_opening b k) (opening b h k))
       ≡ cond (k == c) None ((found b h now t).opening k)
+  unfolding values_of
   enters now c t k =
-      said (k == c) None _ ∙ ap (cond (k == c) None) (found_opening now t k)
+      said (k == c) None _ ∙ ap (cond (k == c) None) (found_says b h (λ v. v.opening k) now t)
 
   -- a core that stops has an opening from then on, or the one that it had
   rests : (c k : ℕ) (o : Option Opening) (t : Bool) → (k == c) ≡ t

@@ -1,9 +1,8 @@
 -- Worked examples: OS-initiated mode.
 use Rattle.std.proofs.Common.{◌∷◌, [], refl}
 use Rattle.psci_fw_spec.proofs.Steps.{◌⇒◌, AreAnswered, board, boot, boots, computing, enter_on}
-use Rattle.psci_fw_spec.proofs.Steps.{enter_wake, error, goes_on_3, goes_to, limited}
-use Rattle.psci_fw_spec.proofs.Steps.{off, on, on_3, part, set_mode, starts, stops, suspend, tall}
-use Rattle.psci_fw_spec.proofs.Steps.{value}
+use Rattle.psci_fw_spec.proofs.Steps.{enter_wake, error, goes_on_3, goes_to, limited, off, on, on_3}
+use Rattle.psci_fw_spec.proofs.Steps.{part, set_mode, starts, stops, suspend, tall, value}
 
 -- The last-core check -------------------------------------------------------------------------
 

@@ -11,8 +11,7 @@ use Rattle.psci_fw_spec.specs.declared.status.Status.{Status}
 use Rattle.psci_fw_spec.specs.declared.status.Status.TheVariants as statuses
 use Rattle.psci_fw_spec.specs.AffinityInfo as affinity
 use Rattle.psci_fw_spec.specs.Changes.{target}
-use Rattle.psci_fw_spec.specs.Effects.{Effect, AsksOn}
-use Rattle.psci_fw_spec.specs.Effects.{Enters, Parks, StopsAtOnce, Acknowledges}
+use Rattle.psci_fw_spec.specs.Effects.{Effect, AsksOn, Enters, Parks, StopsAtOnce, Acknowledges}
 use Rattle.psci_fw_spec.specs.Exchange.{FwExchange, effect}
 use Rattle.psci_fw_spec.specs.History.{begins, is_gone, is_pending, life, phase}
 use Rattle.psci_messages.specs.OnlyIf.{only_if}
@@ -95,9 +94,8 @@ module _ (b : BoardValue) where
 -- Both ways -----------------------------------------------------------------------------------
 
 pending_status : (s : Status) → affinity.is_pending_status s ≡ true → s ≡ statuses.Pending
-pending_status statuses.On e = absurd (cc)
-pending_status statuses.Off e = absurd (cc)
 pending_status statuses.Pending e = refl
+pending_status s e = absurd (cc)
 
 pending_phase : (p : Bool) (last : Phase) → IsLeft last → cond p Pending last ≡ Pending → p ≡ true
 pending_phase true last is e = refl

@@ -12,7 +12,7 @@ use Rattle.psci_fw_spec.specs.Exchange.{FwExchange}
 use Rattle.psci_fw_spec.specs.History.{begins, is_pending, life, phase_left, says_left}
 use Rattle.psci_messages.specs.OnlyIf.{only_if}
 use Rattle.psci_fw_spec.specs.History.{says_pending, values_of}
-use Rattle.psci_fw_spec.specs.Phases.{Phase, Pending, Running, Suspended, Away, unless_pending}
+use Rattle.psci_fw_spec.specs.Phases.{Phase, Pending, Running, Away, unless_pending}
 use Rattle.psci_fw_spec.specs.Said.{arrived}
 use Rattle.psci_fw_spec.proofs.LeftBy.{IsLeft, is_left}
 use Rattle.psci_fw_spec.proofs.Says.{found}
@@ -24,9 +24,7 @@ left_once : (pending : Bool) (l x : Phase) → IsLeft l
     → cond pending Pending x ≡ unless_pending (cond pending Pending l) x
 left_once true l x is = refl
 left_once false Pending x is = absurd is
-left_once false Running x is = refl
-left_once false (Suspended ask) x is = refl
-left_once false Away x is = refl
+left_once false l x is = refl
 
 module _ (pending : ℕ → Bool) (last : ℕ → Phase) (is : (k : ℕ) → IsLeft (last k)) where
   abbrev phases : ℕ → Phase

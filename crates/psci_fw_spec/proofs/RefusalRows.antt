@@ -3,28 +3,26 @@ use Rattle.std.proofs.Common.{◌∷◌, [], refl}
 use Rattle.psci_messages.specs.declared.kind.Kind.TheVariants.{Off}
 use Rattle.psci_fw_spec.specs.declared.fault.FwFault.TheVariants.{NoCore, NoLife, NotRunning}
 use Rattle.psci_fw_spec.specs.declared.fault.FwFault.TheVariants.{OldStart}
-use Rattle.psci_fw_spec.proofs.Steps.{◌⇒◌, AreAnswered, affinity, board, boot, boots, computing}
-use Rattle.psci_fw_spec.proofs.Steps.{enter_boot, enter_on, enter_reset, enter_wake, goes_on_3}
-use Rattle.psci_fw_spec.proofs.Steps.{limited, off, on_3, part, refused, resumes, starts, stops}
-use Rattle.psci_fw_spec.proofs.Steps.{stops_by, stops_still, suspend, system_off, value, version}
+use Rattle.psci_fw_spec.proofs.Lopsided.{once_3_runs}
+use Rattle.psci_fw_spec.proofs.Steps.{◌⇒◌, AreAnswered, AreAnsweredAll, affinity, board, boot}
+use Rattle.psci_fw_spec.proofs.Steps.{boots, computing, enter_boot, enter_on, enter_reset}
+use Rattle.psci_fw_spec.proofs.Steps.{enter_wake, goes_on_3, limited, off, on_3, part, refused}
+use Rattle.psci_fw_spec.proofs.Steps.{resumes, starts, stops, stops_by, stops_still, suspend}
+use Rattle.psci_fw_spec.proofs.Steps.{system_off, value, version}
 
 -- Calls ---------------------------------------------------------------------------------------
 
--- before any core has entered there is no life, for the boot core neither; that a core is not
--- there comes first
-no_life : AreAnswered board
-    (version 4 ⇒ refused NoCore
+calls_refused : AreAnsweredAll board
+    -- before any core has entered there is no life, for the boot core neither; that a core is not
+    -- there comes first
+    ((version 4 ⇒ refused NoCore
     ∷ version 3 ⇒ refused NoLife
     ∷ version 0 ⇒ refused NoLife
     ∷ boot ⇒ boots
     ∷ version 0 ⇒ value 65537 ∷ [])
-unfolding computing
-no_life = record { history = refl; values = refl }
-
--- a core calls while it runs, and not where it is pending, suspended, going off or parked, or was
--- never on; that it is not there comes first
-not_running : AreAnswered board
-    (boot ⇒ boots
+    -- a core calls while it runs, and not where it is pending, suspended, going off or parked, or
+    -- was never on; that it is not there comes first
+    ∷ (boot ⇒ boots
     ∷ version 4 ⇒ refused NoCore
     ∷ version 3 ⇒ refused NotRunning
     ∷ on_3 ⇒ starts 3 1 0
@@ -39,32 +37,59 @@ not_running : AreAnswered board
     ∷ version 3 ⇒ refused NotRunning
     ∷ enter_wake 3 1 3 ⇒ stops 3 1 3 (part 0 3 3 ∷ part 1 3 3 ∷ [])
     ∷ version 3 ⇒ refused NotRunning ∷ [])
-unfolding computing
-not_running = record { history = refl; values = refl }
-
--- the same in a halting life: what is wrong with the caller comes before that it stops
-halting_callers : AreAnswered board
-    (boot ⇒ boots
-    ∷ on_3 ⇒ starts 3 1 0
-    ∷ enter_on 3 1 1 ⇒ goes_on_3
-    ∷ system_off 0 ⇒ stops_by Off 0 1 1 []
+    -- the same in a halting life: what is wrong with the caller comes before that it stops
+    ∷ once_3_runs 1
+    (system_off 0 ⇒ stops_by Off 0 1 1 []
     ∷ version 4 ⇒ refused NoCore
     ∷ version 0 ⇒ refused NotRunning
     ∷ version 3 ⇒ stops_still
-    ∷ version 3 ⇒ refused NotRunning ∷ [])
+    ∷ version 3 ⇒ refused NotRunning ∷ []) ∷ [])
 unfolding computing
-halting_callers = record { history = refl; values = refl }
+calls_refused = record { history = refl; values = refl }
 
 -- Entries -------------------------------------------------------------------------------------
 
--- a core that the board does not have does not enter, whatever its start
-no_core_enters : AreAnswered board
-    (enter_wake 4 0 1 ⇒ refused NoCore
+entries_refused : AreAnsweredAll board
+    -- a core that the board does not have does not enter, whatever its start
+    ((enter_wake 4 0 1 ⇒ refused NoCore
     ∷ enter_wake 4 1 0 ⇒ refused NoCore
     ∷ enter_wake 4 1 1 ⇒ refused NoCore
     ∷ enter_wake 3 0 1 ⇒ refused NoLife ∷ [])
+    -- starts are counted from 1 to the limit, in a later life too; a start that is refused begins
+    -- no life
+    ∷ (boot ⇒ boots
+    ∷ enter_wake 3 1 0 ⇒ refused OldStart
+    ∷ enter_wake 3 1 1001 ⇒ refused OldStart
+    ∷ enter_wake 3 2 0 ⇒ refused OldStart
+    ∷ enter_wake 3 2 1001 ⇒ refused OldStart
+    ∷ enter_wake 3 1 1000 ⇒ stops 3 1 1000 (part 0 3 1000 ∷ part 1 3 1000 ∷ [])
+    ∷ off 0 ⇒ stops 0 1 1 (part 0 3 1 ∷ part 1 3 1 ∷ part 2 3 1001 ∷ []) ∷ [])
+    -- a start is over where it is no later than the known start of its core; those of other cores
+    -- do not count
+    ∷ (boot ⇒ boots
+    ∷ enter_boot 0 1 1 ⇒ refused OldStart
+    ∷ on_3 ⇒ starts 3 1 0
+    ∷ enter_reset 3 1 3 ⇒ goes_on_3
+    ∷ enter_wake 3 1 3 ⇒ refused OldStart
+    ∷ enter_wake 3 1 2 ⇒ refused OldStart
+    ∷ enter_wake 1 1 1 ⇒ stops 1 1 1 (part 0 3 1 ∷ [])
+    ∷ enter_wake 3 1 4 ⇒ stops 3 1 4 (part 0 3 4 ∷ part 1 3 4 ∷ []) ∷ [])
+    -- a start of an earlier life is over, whatever its number; in a new life the starts are counted
+    -- anew
+    ∷ (boot ⇒ boots
+    ∷ enter_boot 0 2 1 ⇒ boots
+    ∷ enter_wake 0 1 2 ⇒ refused OldStart
+    ∷ enter_wake 3 1 1000 ⇒ refused OldStart
+    ∷ enter_wake 3 2 1 ⇒ stops 3 2 1 (part 0 3 1 ∷ part 1 3 1 ∷ []) ∷ [])
+    -- an entry that is refused leaves its core pending, and its opening unused
+    ∷ (boot ⇒ boots
+    ∷ on_3 ⇒ starts 3 1 0
+    ∷ enter_on 3 4 1 ⇒ refused NoLife
+    ∷ enter_on 3 1 1001 ⇒ refused OldStart
+    ∷ affinity 0x101 0 ⇒ value 2
+    ∷ enter_on 3 1 1 ⇒ goes_on_3 ∷ []) ∷ [])
 unfolding computing
-no_core_enters = record { history = refl; values = refl }
+entries_refused = record { history = refl; values = refl }
 
 -- lives are counted from 1 to the limit; that there is no such life comes before that the start
 -- is over or cannot be
@@ -77,44 +102,6 @@ no_life_enters : AreAnswered board
     ∷ enter_boot 0 3 1 ⇒ boots ∷ [])
 unfolding computing
 no_life_enters = record { history = refl; values = refl }
-
--- starts are counted from 1 to the limit, in a later life too; a start that is refused begins no
--- life
-start_numbers : AreAnswered board
-    (boot ⇒ boots
-    ∷ enter_wake 3 1 0 ⇒ refused OldStart
-    ∷ enter_wake 3 1 1001 ⇒ refused OldStart
-    ∷ enter_wake 3 2 0 ⇒ refused OldStart
-    ∷ enter_wake 3 2 1001 ⇒ refused OldStart
-    ∷ enter_wake 3 1 1000 ⇒ stops 3 1 1000 (part 0 3 1000 ∷ part 1 3 1000 ∷ [])
-    ∷ off 0 ⇒ stops 0 1 1 (part 0 3 1 ∷ part 1 3 1 ∷ part 2 3 1001 ∷ []) ∷ [])
-unfolding computing
-start_numbers = record { history = refl; values = refl }
-
--- a start is over where it is no later than the known start of its core; those of other cores do
--- not count
-known_starts : AreAnswered board
-    (boot ⇒ boots
-    ∷ enter_boot 0 1 1 ⇒ refused OldStart
-    ∷ on_3 ⇒ starts 3 1 0
-    ∷ enter_reset 3 1 3 ⇒ goes_on_3
-    ∷ enter_wake 3 1 3 ⇒ refused OldStart
-    ∷ enter_wake 3 1 2 ⇒ refused OldStart
-    ∷ enter_wake 1 1 1 ⇒ stops 1 1 1 (part 0 3 1 ∷ [])
-    ∷ enter_wake 3 1 4 ⇒ stops 3 1 4 (part 0 3 4 ∷ part 1 3 4 ∷ []) ∷ [])
-unfolding computing
-known_starts = record { history = refl; values = refl }
-
--- a start of an earlier life is over, whatever its number; in a new life the starts are counted
--- anew
-earlier_life : AreAnswered board
-    (boot ⇒ boots
-    ∷ enter_boot 0 2 1 ⇒ boots
-    ∷ enter_wake 0 1 2 ⇒ refused OldStart
-    ∷ enter_wake 3 1 1000 ⇒ refused OldStart
-    ∷ enter_wake 3 2 1 ⇒ stops 3 2 1 (part 0 3 1 ∷ part 1 3 1 ∷ []) ∷ [])
-unfolding computing
-earlier_life = record { history = refl; values = refl }
 
 -- the least limits of a board
 least_limits : AreAnswered (limited 1 1)
@@ -133,14 +120,3 @@ greatest_limits : AreAnswered (limited 4294967295 65535)
     ∷ enter_wake 0 65535 4294967295 ⇒ refused OldStart ∷ [])
 unfolding computing
 greatest_limits = record { history = refl; values = refl }
-
--- an entry that is refused leaves its core pending, and its opening unused
-refused_entries : AreAnswered board
-    (boot ⇒ boots
-    ∷ on_3 ⇒ starts 3 1 0
-    ∷ enter_on 3 4 1 ⇒ refused NoLife
-    ∷ enter_on 3 1 1001 ⇒ refused OldStart
-    ∷ affinity 0x101 0 ⇒ value 2
-    ∷ enter_on 3 1 1 ⇒ goes_on_3 ∷ [])
-unfolding computing
-refused_entries = record { history = refl; values = refl }

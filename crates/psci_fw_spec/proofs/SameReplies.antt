@@ -37,16 +37,12 @@ int_itself z = (Decides-int_eq z z).1 refl
 
 kind_itself : (k : Kind) → is_kind k k ≡ true
 kind_itself kinds.Down = refl
-kind_itself kinds.Start = refl
-kind_itself kinds.Off = refl
-kind_itself kinds.Reset = refl
+kind_itself k = refl
 
 parts_itself : (ps : List Part) → are_same_parts ps ps ≡ true
 parts_itself [] = refl
 parts_itself (p ∷ ps) =
-    both _ _
-    (both _ _ (nat_itself p.level) (both _ _ (nat_itself p.depth) (nat_itself p.generation)))
-    (parts_itself ps)
+    rw (nat_itself p.level, nat_itself p.depth, nat_itself p.generation) (parts_itself ps)
 
 message_itself : (m : MessageValue) → is_same_message m m ≡ true
 message_itself m =
@@ -94,23 +90,19 @@ part_same : (p q : Part)
 part_same p q e =
     let first = and_parts (p.level == q.level) _ e in
     let second = and_parts (p.depth == q.depth) (p.generation == q.generation) first.1 in
-    let level : p.level ≡ q.level = eqb-true p.level q.level first.0 in
-    let depth : p.depth ≡ q.depth = eqb-true p.depth q.depth second.0 in
-    let generation : p.generation ≡ q.generation =
-    eqb-true p.generation q.generation second.1 in
+    let level = eqb-true p.level q.level first.0 in
+    let depth = eqb-true p.depth q.depth second.0 in
+    let generation = eqb-true p.generation q.generation second.1 in
     λ i. record { level = level i; depth = depth i; generation = generation i }
 
 parts_same : (ps qs : List Part) → are_same_parts ps qs ≡ true → ps ≡ qs
 parts_same [] [] e = refl
-parts_same [] (q ∷ qs) e = absurd (cc)
-parts_same (p ∷ ps) [] e = absurd (cc)
 parts_same (p ∷ ps) (q ∷ qs) e =
-    let both_same = and_parts
-    (p.level == q.level && (p.depth == q.depth && p.generation == q.generation))
-    (are_same_parts ps qs) e in
+    let both_same = and_parts _ (are_same_parts ps qs) e in
     let head : p ≡ q = part_same p q both_same.0 in
     let tail : ps ≡ qs = parts_same ps qs both_same.1 in
     λ i. head i ∷ tail i
+parts_same ps qs e = absurd (cc)
 
 message_same : (m n : MessageValue) → is_same_message m n ≡ true → m ≡ n
 message_same m n e =
@@ -134,8 +126,7 @@ message_same m n e =
 sent_same : (m n : Option MessageValue) → is_same_sent m n ≡ true → m ≡ n
 sent_same None None e = refl
 sent_same (Some m) (Some n) e = ap (λ (x : MessageValue). Some x) (message_same m n e)
-sent_same None (Some n) e = absurd (cc)
-sent_same (Some m) None e = absurd (cc)
+sent_same m n e = absurd (cc)
 
 act_same : (a c : Act) → is_same_act a c ≡ true → a ≡ c
 act_same (acts.Return x) (acts.Return y) e =

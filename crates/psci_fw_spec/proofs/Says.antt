@@ -7,8 +7,7 @@ use Rattle.psci_board.specs.Board.{BoardValue}
 use Rattle.psci_fw_spec.specs.declared.mode.SuspendMode.TheVariants.{Platform}
 use Rattle.psci_messages.specs.declared.start.Start.{Start}
 use Rattle.psci_fw_spec.specs.After.{change}
-use Rattle.psci_fw_spec.specs.Effects.{Effect}
-use Rattle.psci_fw_spec.specs.Effects.{Enters, Parks, StopsAtOnce}
+use Rattle.psci_fw_spec.specs.Effects.{Effect, Enters, Parks, StopsAtOnce}
 use Rattle.psci_fw_spec.specs.Exchange.{FwExchange}
 use Rattle.psci_fw_spec.specs.History.{begins, halting, known, life, life_after, mode}
 use Rattle.psci_messages.specs.OnlyIf.{only_if}
@@ -37,6 +36,12 @@ module _ (b : BoardValue) (h : List FwExchange) where
   abbrev left_by : Effect → Values
   left_by f = change b f (values_of b h)
 
+  -- what is read of what a core finds: as the life begins, or as before
+  pub found_says : {A : Type 0} (read : Values → A) (now : ℕ) (t : Bool)
+      → cond (not t) (read (start_of_life b now)) (read (values_of b h)) ≡ read (found b h now t)
+  found_says read now true = refl
+  found_says read now false = refl
+
   found_life : (now : ℕ) (t : Bool) → (now == life b h) ≡ t → now ≡ (found b h now t).life
   unfolding values_of
   found_life now true e = eqb-true now (life b h) e
@@ -49,46 +54,30 @@ module _ (b : BoardValue) (h : List FwExchange) where
   life_more (StopsAtOnce c s) = found_life s.life (s.life == life b h) refl
   life_more f = refl
 
-  found_halting : (now : ℕ) (t : Bool)
-      → cond (not t) false (halting b h) ≡ (found b h now t).halting
-  unfolding values_of
-  found_halting now true = refl
-  found_halting now false = refl
-
   pub halting_more : (f : Effect)
       → unwrap_or (says_halting h f) (cond (begins (life b h) (arrived f)) false (halting b h))
       ≡ (left_by f).halting
   unfolding values_of
-  halting_more (Enters c s) = found_halting s.life (s.life == life b h)
-  halting_more (Parks c s m) = found_halting s.life (s.life == life b h)
-  halting_more (StopsAtOnce c s) = found_halting s.life (s.life == life b h)
+  halting_more (Enters c s) = found_says (λ v. v.halting) s.life (s.life == life b h)
+  halting_more (Parks c s m) = found_says (λ v. v.halting) s.life (s.life == life b h)
+  halting_more (StopsAtOnce c s) = found_says (λ v. v.halting) s.life (s.life == life b h)
   halting_more f = refl
-
-  found_mode : (now : ℕ) (t : Bool) → cond (not t) Platform (mode b h) ≡ (found b h now t).mode
-  unfolding values_of
-  found_mode now true = refl
-  found_mode now false = refl
 
   pub mode_more : (f : Effect)
       → unwrap_or (says_mode h f) (cond (begins (life b h) (arrived f)) Platform (mode b h))
       ≡ (left_by f).mode
   unfolding values_of
-  mode_more (Enters c s) = found_mode s.life (s.life == life b h)
-  mode_more (Parks c s m) = found_mode s.life (s.life == life b h)
-  mode_more (StopsAtOnce c s) = found_mode s.life (s.life == life b h)
+  mode_more (Enters c s) = found_says (λ v. v.mode) s.life (s.life == life b h)
+  mode_more (Parks c s m) = found_says (λ v. v.mode) s.life (s.life == life b h)
+  mode_more (StopsAtOnce c s) = found_says (λ v. v.mode) s.life (s.life == life b h)
   mode_more f = refl
-
-  found_known : (now : ℕ) (t : Bool) (k : ℕ)
-      → cond (not t) 0 (known b h k) ≡ (found b h now t).known k
-  unfolding values_of
-  found_known now true k = refl
-  found_known now false k = refl
 
   enters_known : (c : ℕ) (s : Start) (k : ℕ) (t : Bool)
       → unwrap_or (only_if (k == c) (Some s.number)) (cond (not t) 0 (known b h k))
       ≡ cond (k == c) s.number ((found b h s.life t).known k)
+  unfolding values_of
   enters_known c s k t =
-      said (k == c) s.number _ ∙ ap (cond (k == c) s.number) (found_known s.life t k)
+      said (k == c) s.number _ ∙ ap (cond (k == c) s.number) (found_says (λ v. v.known k) s.life t)
 
   pub known_more : (f : Effect) (k : ℕ)
       → unwrap_or (says_known k h f) (cond (begins (life b h) (arrived f)) 0 (known b h k))

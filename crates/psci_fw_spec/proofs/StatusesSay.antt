@@ -9,8 +9,7 @@ use Rattle.psci_messages.specs.Slots.{is_kind}
 use Rattle.psci_fw_spec.specs.declared.status.Status.TheVariants as statuses
 use Rattle.psci_fw_spec.specs.After.{change}
 use Rattle.psci_fw_spec.specs.Changes.{target}
-use Rattle.psci_fw_spec.specs.Effects.{Effect, AsksOn}
-use Rattle.psci_fw_spec.specs.Effects.{Enters, Parks, StopsAtOnce, Acknowledges}
+use Rattle.psci_fw_spec.specs.Effects.{Effect, AsksOn, Enters, Parks, StopsAtOnce, Acknowledges}
 use Rattle.psci_fw_spec.specs.Exchange.{FwExchange}
 use Rattle.psci_fw_spec.specs.History.{begins, life, phase, says_status, status}
 use Rattle.psci_messages.specs.OnlyIf.{only_if}
@@ -18,23 +17,19 @@ use Rattle.psci_fw_spec.specs.History.{values_of}
 use Rattle.psci_fw_spec.specs.Lives.{first_status}
 use Rattle.psci_fw_spec.specs.Phases.{is_away}
 use Rattle.psci_fw_spec.specs.Said.{arrived}
-use Rattle.psci_fw_spec.proofs.Says.{found, said, said_or}
+use Rattle.psci_fw_spec.proofs.Says.{found, found_says, said, said_or}
 
 -- of each effect
 module _ (b : BoardValue) (h : List FwExchange) where
-  found_status : (now : ℕ) (t : Bool) (k : ℕ)
-      → cond (not t) (first_status k) (status b h k) ≡ (found b h now t).status k
-  unfolding values_of
-  found_status now true k = refl
-  found_status now false k = refl
-
   -- a core that enters and goes on is ON
   enters : (now c : ℕ) (t : Bool) (k : ℕ)
       → unwrap_or (option_or (only_if (k == c) (Some statuses.On)) None)
       (cond (not t) (first_status k) (status b h k))
       ≡ cond (k == c) statuses.On ((found b h now t).status k)
+  unfolding values_of
   enters now c t k =
-      said_or (k == c) statuses.On _ ∙ ap (cond (k == c) statuses.On) (found_status now t k)
+      said_or (k == c) statuses.On _
+      ∙ ap (cond (k == c) statuses.On) (found_says b h (λ v. v.status k) now t)
 
   -- an acknowledgement turns its core off, and no other
   goes : (core k : ℕ) (left t : Bool) → (k == core) ≡ t
@@ -56,8 +51,8 @@ module _ (b : BoardValue) (h : List FwExchange) where
   status_more (AsksOn c asked) k =
       said_or (k == target asked) statuses.Pending (status b h k)
   status_more (Enters c s) k = enters s.life c (s.life == life b h) k
-  status_more (Parks c s m) k = found_status s.life (s.life == life b h) k
-  status_more (StopsAtOnce c s) k = found_status s.life (s.life == life b h) k
+  status_more (Parks c s m) k = found_says b h (λ v. v.status k) s.life (s.life == life b h)
+  status_more (StopsAtOnce c s) k = found_says b h (λ v. v.status k) s.life (s.life == life b h)
   status_more (Acknowledges a) k =
       goes a.core.number k (is_kind a.kind Down && nat_lt 0 a.applied) (k == a.core.number) refl
   status_more f k = refl

@@ -2,6 +2,8 @@
 use Rattle.std.proofs.Common.{◌≡◌, ℕ, zero, suc, ℤ, pos, negsuc, Bool, true, false}
 use Rattle.std.proofs.Common.{List, [], ◌∷◌, map, reverse, None, Some}
 use Rattle.psci_abi.specs.declared.format.Format.TheVariants.{Original}
+pub use Rattle.psci_board.proofs.Tables.{◌⇒◌}
+use Rattle.psci_board.proofs.Tables as tables
 use Rattle.psci_board.specs.Board.{BoardValue, core_of, node_of, up}
 use Rattle.psci_messages.specs.declared.part.Part.{Part}
 use Rattle.psci_messages.specs.Claim.{claims_of}
@@ -260,13 +262,8 @@ refused fault = Fault fault
 -- What is answered ----------------------------------------------------------------------------
 
 -- a call, and the reply to it
-pub record Row : Type 0 where
-  pub step : Step
-  pub reply : FwReply
-
-infix 80 ◌⇒◌
-abbrev pub ◌⇒◌ : Step → FwReply → Row
-step ⇒ reply = record { step = step; reply = reply }
+abbrev pub Row : Type 0
+Row = tables.Row Step FwReply
 
 -- one more exchange of a history: this call with this reply
 abbrev pub with_entry : Step → FwReply → List FwExchange → List FwExchange
@@ -292,7 +289,12 @@ by_values b v (s ∷ ss) =
     let reply = answer b v s.core s.call in
     reply ∷ by_values b (after b s.core s.call reply v) ss
 
--- these calls are answered so, by the history and by the values alike
-pub record AreAnswered (b : BoardValue) (rows : List Row) : Type 0 where
-  pub history : by_history b (map (λ r. r.step) rows) ≡ map (λ r. r.reply) rows
-  pub values : by_values b (start_of_life b 0) (map (λ r. r.step) rows) ≡ map (λ r. r.reply) rows
+-- each of these runs, or one, is answered so, by the history and by the values alike
+pub record AreAnsweredAll (b : BoardValue) (runs : List (List Row)) : Type 0 where
+  pub history : map (λ run. by_history b (map (λ r. r.given) run)) runs
+      ≡ map (map (λ r. r.comes)) runs
+  pub values : map (λ run. by_values b (start_of_life b 0) (map (λ r. r.given) run)) runs
+      ≡ map (map (λ r. r.comes)) runs
+
+abbrev pub AreAnswered : BoardValue → List Row → Type 0
+AreAnswered b rows = AreAnsweredAll b (rows ∷ [])

@@ -20,8 +20,7 @@ use Rattle.psci_fw_spec.specs.Claims.{leaving_claims, off_parts, suspend_claims,
 use Rattle.psci_fw_spec.specs.Invariant.{AreValues, IsPhase, agrees, is_expected}
 use Rattle.psci_fw_spec.specs.Lives.{in_life}
 use Rattle.psci_fw_spec.specs.Paths.{cleared, granted_with}
-use Rattle.psci_fw_spec.specs.Phases.{Phase, Running, Suspended, Away, activity_of}
-use Rattle.psci_fw_spec.specs.Phases.{unless_pending}
+use Rattle.psci_fw_spec.specs.Phases.{Phase, Running, Suspended, Away, activity_of, unless_pending}
 use Rattle.psci_fw_spec.specs.Values.{Values, updated}
 use Rattle.psci_fw_spec.specs.Views.{view}
 use Rattle.psci_fw_spec.proofs.Asked.{IsAsking, Known, asked_running, asks_at, phase_asks}

@@ -18,7 +18,7 @@ use Rattle.psci_fw_spec.specs.declared.outcome.Act.{Act}
 use Rattle.psci_fw_spec.specs.declared.outcome.Act.TheVariants as acts
 use Rattle.psci_fw_spec.specs.declared.outcome.Outcome.{Outcome}
 use Rattle.psci_fw_spec.specs.declared.status.Status.{Status}
-use Rattle.psci_fw_spec.specs.declared.status.Status.TheVariants.{On, Off, Pending}
+use Rattle.psci_fw_spec.specs.declared.status.Status.TheVariants.{Off}
 use Rattle.psci_fw_spec.specs.Answer.{answer, reply_or}
 use Rattle.psci_fw_spec.specs.Calls.{call_fault, function_outcome, outcome_of}
 use Rattle.psci_fw_spec.specs.Changes.{PowerOn, target}
@@ -59,10 +59,9 @@ started_unless false v code k target e f =
 
 started_by : (b : BoardValue) (v : Values) (k target : Core) (s : Status)
     → v.status k.number ≡ s → off_target b v k s ≡ Ok target → IsStarted v (Some k) target
-started_by b v k target On e f = absurd (cc)
-started_by b v k target Pending e f = absurd (cc)
 started_by b v k target Off e f =
     started_unless (v.known k.number == b.starts) v _ k target e f
+started_by b v k target s e f = absurd (cc)
 
 started_at : (t : Bool) (b : BoardValue) (v : Values) (k target : Core) (code : Code)
     → cond t (off_target b v k (v.status k.number)) (Err code) ≡ Ok target
@@ -91,8 +90,6 @@ IsOther r = Unit {0}
 module _ (b : BoardValue) (v : Values) (c : ℕ) where
   asks_stop : (r q : Request) (m : MessageValue) → Asks b v r (stop_effect b c q m)
   asks_stop r requests.SystemOff m = tt
-  asks_stop r requests.SystemReset m = tt
-  asks_stop r (requests.SystemReset2 reset_type cookie) m = tt
   asks_stop r q m = tt
 
   asks_mode : (r : Request) (m : Option SuspendMode) (t : Bool)
@@ -181,12 +178,8 @@ target_asked b v c caller regs asked e =
     let was = was_asked b v c caller regs asked e in (was.word, was.core, was.request)
 
 away_where_off : (s : Status) (p : Phase) → agrees s p ≡ true → s ≡ Off → p ≡ phases.Away
-away_where_off On p e f = absurd (cc)
-away_where_off Pending p e f = absurd (cc)
-away_where_off Off phases.Pending e f = absurd (cc)
-away_where_off Off phases.Running e f = absurd (cc)
-away_where_off Off (phases.Suspended ask) e f = absurd (cc)
 away_where_off Off phases.Away e f = refl
+away_where_off s p e f = absurd (cc)
 
 pub off_away : (b : BoardValue) (v : Values) (c : ℕ) → AreValues b v → v.status c ≡ Off
     → v.phase c ≡ phases.Away

@@ -4,7 +4,7 @@ use Rattle.std.specs.Prelude.{Option, None, is_some}
 use Rattle.std.proofs.lemmas.Bool.{eq-eqb, eqb-true, ne_eqb}
 use Rattle.psci_fw_spec.specs.declared.opening.Opening.{Opening}
 use Rattle.psci_fw_spec.specs.Invariant.{is_expected}
-use Rattle.psci_fw_spec.specs.Phases.{Phase, Pending, Running, Suspended, Away, unless_pending}
+use Rattle.psci_fw_spec.specs.Phases.{Phase, Pending, Running, Away, unless_pending}
 use Rattle.psci_fw_spec.specs.Changes.{with_phase}
 use Rattle.psci_fw_spec.specs.Values.{Values, updated}
 use Rattle.psci_fw_spec.proofs.Granting.{ChangedAt, chosen}
@@ -60,6 +60,4 @@ pub parked_left : (p : Phase) (o : Option Opening) → is_some o ≡ is_expected
 parked_left Pending o e none =
     let clash : false ≡ true = ap is_some (sym none) ∙ e in
     absurd (cc clash)
-parked_left Running o e none = refl
-parked_left (Suspended ask) o e none = refl
-parked_left Away o e none = refl
+parked_left p o e none = refl

@@ -1,6 +1,7 @@
 -- Worked examples: the values after some calls, by looking backwards and by keeping them.
 use Rattle.std.proofs.Common.{◌++◌, ◌∷◌, ◌≡◌, Bool, List, None, Option, Some, [], false, map, refl}
 use Rattle.std.proofs.Common.{ℕ}
+use Rattle.psci_board.proofs.Tables.{◌⇒◌, Gives, Row}
 use Rattle.psci_board.specs.Board.{BoardValue}
 use Rattle.psci_messages.specs.declared.part.Part.{Part}
 use Rattle.psci_messages.specs.Message.{MessageValue}
@@ -58,10 +59,15 @@ shown v =
       outstanding = map (λ c. v.outstanding (OfCore c)) cores ++ (v.outstanding OfSystem ∷ []);
     }
 
--- after these calls the history says these values, and so do the values that are kept
-pub record Says (steps : List Step) (values : Shown) : Type 0 where
-  pub history : shown (values_of board (history_of board steps)) ≡ values
-  pub kept : shown (kept_after board (history_of board steps)) ≡ values
+-- each of these pasts leaves what is said of it, by its history and by the values that are kept
+pub record Leave {Past Said : Type 0} (b : BoardValue) (history : Past → List FwExchange)
+    (said : Values → Said) (rows : List (Row Past Said)) : Type 0 where
+  pub by_history : Gives (λ past. said (values_of b (history past))) rows
+  pub by_values : Gives (λ past. said (kept_after b (history past))) rows
+
+-- after these calls of this board the values are these
+abbrev pub Says : BoardValue → List (Row (List Step) Shown) → Type 0
+Says b rows = Leave b (history_of b) shown rows
 
 abbrev pub to_opening : ℕ → ℕ → Option Opening
 to_opening address context = Some (record { address = address; context = context })
@@ -85,10 +91,6 @@ none_entered = record {
   outstanding = None ∷ None ∷ None ∷ None ∷ None ∷ None ∷ [];
 }
 
-before_any_entry : Says [] none_entered
-unfolding computing
-before_any_entry = record { history = refl; kept = refl }
-
 -- the boot core has entered
 abbrev pub booted : Shown
 booted = record none_entered {
@@ -99,48 +101,40 @@ booted = record none_entered {
   opening = None ∷ None ∷ None ∷ None ∷ None ∷ [];
 }
 
-boot_core_entered : Says (boot ∷ []) booted
-unfolding computing
-boot_core_entered = record { history = refl; kept = refl }
-
--- what is answered with an error code, refused, or of an old acknowledgement, changes nothing, and
--- neither does a function that only answers
-nothing_changed : Says
-    (boot ∷ version 0 ∷ affinity 0x101 0 ∷ version 1 ∷ version 4 ∷ on 0x200 0x40001000 7
+life_begun : Says board
+    ([] ⇒ none_entered
+    ∷ (boot ∷ []) ⇒ booted
+    -- what is answered with an error code, refused, or of an old acknowledgement, changes nothing,
+    -- and neither does a function that only answers
+    ∷ (boot ∷ version 0 ∷ affinity 0x101 0 ∷ version 1 ∷ version 4 ∷ on 0x200 0x40001000 7
     ∷ on 0x101 0x40001002 7 ∷ suspend 0 0 0 0 ∷ suspend 0 0x00010003 0x50000000 0
     ∷ system_suspend 0 0x50000000 0 ∷ set_mode 0 2 ∷ set_mode 0 0 ∷ enter_wake 3 4 1
     ∷ enter_wake 3 1 0 ∷ enter_wake 3 2 0 ∷ take_down 0 1 1 1 ∷ take kinds.Start 3 1 0 1 false
-    ∷ []) booted
-unfolding computing
-nothing_changed = record { history = refl; kept = refl }
-
--- core 2 began life 3 and parked, and the boot core is on its way in it; what was before is over
-life_begun : Says
-    (boot ∷ set_mode 0 1 ∷ on_3 ∷ enter_on 3 1 2 ∷ on 0x001 0x40005000 0 ∷ system_off 3
-    ∷ enter_wake 2 3 5 ∷ boot ∷ [])
-    (record none_entered {
+    ∷ []) ⇒ booted
+    -- core 2 began life 3 and parked, and the boot core is on its way in it; what was before is
+    -- over
+    ∷ (boot ∷ set_mode 0 1 ∷ on_3 ∷ enter_on 3 1 2 ∷ on 0x001 0x40005000 0 ∷ system_off 3
+    ∷ enter_wake 2 3 5 ∷ boot ∷ []) ⇒ record none_entered {
       life = 3;
       known = 0 ∷ 0 ∷ 5 ∷ 0 ∷ 0 ∷ [];
       outstanding = None ∷ None ∷ down 2 3 5 (part 0 3 5 ∷ part 1 3 5 ∷ []) ∷ None ∷ None
           ∷ None ∷ [];
-    })
+    } ∷ [])
 unfolding computing
-life_begun = record { history = refl; kept = refl }
+life_begun = record { by_history = refl; by_values = refl }
 
 -- the granted depths at the start of a life on a tall board and on an uneven one
 abbrev granted_on : BoardValue → List (List ℕ)
 granted_on b =
     map (λ level. map (first_granted b level) (0 ∷ 1 ∷ 2 ∷ 3 ∷ 4 ∷ [])) (0 ∷ 1 ∷ 2 ∷ 3 ∷ 4 ∷ [])
 
-tall_start : granted_on tall ≡ (0 ∷ 3 ∷ 3 ∷ 3 ∷ 0 ∷ []) ∷ (0 ∷ 3 ∷ 3 ∷ 3 ∷ 0 ∷ [])
-    ∷ (0 ∷ 3 ∷ 0 ∷ 0 ∷ 0 ∷ []) ∷ (0 ∷ 0 ∷ 0 ∷ 0 ∷ 0 ∷ []) ∷ (0 ∷ 0 ∷ 0 ∷ 0 ∷ 0 ∷ []) ∷ []
+granted_at_start : Gives granted_on
+    (tall ⇒ ((0 ∷ 3 ∷ 3 ∷ 3 ∷ 0 ∷ []) ∷ (0 ∷ 3 ∷ 3 ∷ 3 ∷ 0 ∷ []) ∷ (0 ∷ 3 ∷ 0 ∷ 0 ∷ 0 ∷ [])
+    ∷ (0 ∷ 0 ∷ 0 ∷ 0 ∷ 0 ∷ []) ∷ (0 ∷ 0 ∷ 0 ∷ 0 ∷ 0 ∷ []) ∷ [])
+    ∷ uneven ⇒ ((0 ∷ 3 ∷ 3 ∷ 3 ∷ 0 ∷ []) ∷ (0 ∷ 3 ∷ 0 ∷ 0 ∷ 0 ∷ []) ∷ (0 ∷ 0 ∷ 0 ∷ 0 ∷ 0 ∷ [])
+    ∷ (0 ∷ 0 ∷ 0 ∷ 0 ∷ 0 ∷ []) ∷ (0 ∷ 0 ∷ 0 ∷ 0 ∷ 0 ∷ []) ∷ []) ∷ [])
 unfolding computing
-tall_start = refl
-
-uneven_start : granted_on uneven ≡ (0 ∷ 3 ∷ 3 ∷ 3 ∷ 0 ∷ []) ∷ (0 ∷ 3 ∷ 0 ∷ 0 ∷ 0 ∷ [])
-    ∷ (0 ∷ 0 ∷ 0 ∷ 0 ∷ 0 ∷ []) ∷ (0 ∷ 0 ∷ 0 ∷ 0 ∷ 0 ∷ []) ∷ (0 ∷ 0 ∷ 0 ∷ 0 ∷ 0 ∷ []) ∷ []
-unfolding computing
-uneven_start = refl
+granted_at_start = refl
 
 -- the boot core goes on at the boot address of its board
 other_boot_address :
@@ -160,16 +154,6 @@ core_3_pending = record booted {
   outstanding = None ∷ None ∷ None ∷ Some (message kinds.Start 3 1 0 []) ∷ None ∷ None ∷ [];
 }
 
-core_asked_on : Says (boot ∷ on_3 ∷ on 0x101 0x40002000 9 ∷ version 3 ∷ []) core_3_pending
-unfolding computing
-core_asked_on = record { history = refl; kept = refl }
-
--- its Start was acknowledged
-pending_acknowledged : Says (boot ∷ on_3 ∷ take kinds.Start 3 1 0 1 false ∷ [])
-    (record core_3_pending { outstanding = none_entered.outstanding })
-unfolding computing
-pending_acknowledged = record { history = refl; kept = refl }
-
 -- it has entered by its second start
 abbrev pub two_run : Shown
 two_run = record core_3_pending {
@@ -180,51 +164,38 @@ two_run = record core_3_pending {
   outstanding = none_entered.outstanding;
 }
 
-core_entered : Says (boot ∷ on_3 ∷ enter_on 3 1 2 ∷ version 3 ∷ []) two_run
+core_asked_on : Says board
+    ((boot ∷ on_3 ∷ on 0x101 0x40002000 9 ∷ version 3 ∷ []) ⇒ core_3_pending
+    -- its Start was acknowledged
+    ∷ (boot ∷ on_3 ∷ take kinds.Start 3 1 0 1 false ∷ [])
+    ⇒ record core_3_pending { outstanding = none_entered.outstanding }
+    ∷ (boot ∷ on_3 ∷ enter_on 3 1 2 ∷ version 3 ∷ []) ⇒ two_run ∷ [])
 unfolding computing
-core_entered = record { history = refl; kept = refl }
+core_asked_on = record { by_history = refl; by_values = refl }
 
 -- Other histories -----------------------------------------------------------------------------
 
--- the history says these values, and so do the values that are kept, whatever was replied
-pub record Tells (h : List FwExchange) (values : Shown) : Type 0 where
-  pub history : shown (values_of board h) ≡ values
-  pub kept : shown (kept_after board h) ≡ values
-
--- a caller that is away and was answered runs
-away_and_answered : Tells
+-- whatever was replied
+other_histories : Leave board (λ h. h) shown
+    -- a caller that is away and was answered runs
     (with_entry (version 0) (value 65537)
-    (with_entry (off 0) stops_still (history_of board (boot ∷ [])))) booted
-unfolding computing
-away_and_answered = record { history = refl; kept = refl }
-
--- a pending core that was answered is pending still
-pending_and_answered : Tells
-    (with_entry (version 3) (value 65537) (history_of board (boot ∷ on_3 ∷ []))) core_3_pending
-unfolding computing
-pending_and_answered = record { history = refl; kept = refl }
-
--- a CPU_ON counts as accepted by its message, and the core of the message is the target, which may
--- be the caller
-asked_on_itself : Tells
-    (with_entry on_3 (starts 0 9 9) (history_of board (boot ∷ [])))
-    (record none_entered {
+    (with_entry (off 0) stops_still (history_of board (boot ∷ []))) ⇒ booted
+    -- a pending core that was answered is pending still
+    ∷ with_entry (version 3) (value 65537) (history_of board (boot ∷ on_3 ∷ [])) ⇒ core_3_pending
+    -- a CPU_ON counts as accepted by its message, and the core of the message is the target, which
+    -- may be the caller
+    ∷ with_entry on_3 (starts 0 9 9) (history_of board (boot ∷ [])) ⇒ record none_entered {
       life = 1;
       known = booted.known;
       opening = to_opening 0x40001000 7 ∷ None ∷ None ∷ None ∷ None ∷ [];
       outstanding = Some (message kinds.Start 0 9 9 []) ∷ None ∷ None ∷ None ∷ None ∷ None ∷ [];
-    })
-unfolding computing
-asked_on_itself = record { history = refl; kept = refl }
-
--- a start of an earlier life that was not refused begins that life anew
-earlier_life_again : Tells
-    (with_entry (enter_wake 1 1 7) stops_still
-    (history_of board (boot ∷ enter_boot 0 2 1 ∷ on_3 ∷ [])))
-    (record none_entered {
+    }
+    -- a start of an earlier life that was not refused begins that life anew
+    ∷ with_entry (enter_wake 1 1 7) stops_still
+    (history_of board (boot ∷ enter_boot 0 2 1 ∷ on_3 ∷ [])) ⇒ record none_entered {
       life = 1;
       known = 0 ∷ 7 ∷ 0 ∷ 0 ∷ 0 ∷ [];
       granted = (0 ∷ 0 ∷ 3 ∷ 3 ∷ 0 ∷ []) ∷ (0 ∷ 3 ∷ 0 ∷ []) ∷ (0 ∷ 0 ∷ []) ∷ (0 ∷ []) ∷ [];
-    })
+    } ∷ [])
 unfolding computing
-earlier_life_again = record { history = refl; kept = refl }
+other_histories = record { by_history = refl; by_values = refl }

@@ -13,7 +13,7 @@ use Rattle.psci_state.specs.Ask.{IsAsk}
 use Rattle.psci_state.specs.Cores.{is_away}
 use Rattle.psci_fw_spec.specs.declared.mode.SuspendMode.{SuspendMode}
 use Rattle.psci_fw_spec.specs.declared.mode.SuspendMode.TheVariants.{Platform, OsInitiated}
-use Rattle.psci_fw_spec.specs.Phases.{Phase, Pending, Running, Suspended, Away, activity_of}
+use Rattle.psci_fw_spec.specs.Phases.{Phase, Suspended, Away, activity_of}
 use Rattle.psci_fw_spec.specs.Values.{Values}
 use Rattle.psci_fw_spec.specs.Views.{view}
 use Rattle.psci_fw_spec.specs.Paths.{claimed_or}
@@ -78,10 +78,8 @@ least_falls b phase x c level m n known are h meet above below =
 -- a core that is off or going off asks for power-down
 pub off_asks : (b : BoardValue) (p : Phase) (level : ℕ) → level ≤ height b
     → is_away (activity_of p) ≡ true → 3 ≤ asks_at b p level
-off_asks b Pending level h e = absurd (cc e)
-off_asks b Running level h e = absurd (cc e)
-off_asks b (Suspended ask) level h e = absurd (cc e)
 off_asks b Away level h e = omega (arith, asked_away b level h)
+off_asks b p level h e = absurd (cc e)
 
 pub least_wanted : (b : BoardValue) (mode : SuspendMode) (old : ℕ → Phase) (w : Values)
     (granted : ℕ → ℕ → ℕ) (c : ℕ) → Known b → c < cores b → mode ≡ Platform

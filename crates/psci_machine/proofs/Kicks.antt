@@ -52,59 +52,46 @@ pub record IsKicked (call : CtlCall) (number : ℕ) (kick : Kick) (old new : Mac
   pub places : (c : ℕ) → place_in new.places c
       ≡ place_kicked number kick c (place_in old.places c)
 
-wake_by : (messages : List MessageValue) (made : List AckValue) (old new : MachineValue)
-    (number : ℕ) (kick : Kick)
-    → IsKicked (calls.Wake (record { number = number }) ((seen old.controller).starts number))
-    number kick old new
-    → IsNext messages made old (Wake number) (said_by 0 (replies.Kick kick)) new
-unfolding effect_of
-wake_by messages made old new number (kicks.Started start) is = record {
-  board = is.board;
-  firmware = is.firmware;
-  controller = is.after;
-  places = λ c inside. is.places c ∙ started_place (c == number) (place_in old.places c);
-}
-wake_by messages made old new number kicks.Ignored is = record {
-  board = is.board;
-  firmware = is.firmware;
-  controller = is.ignored refl;
-  places = λ c inside. is.places c;
-}
-
 pub wake_next : (messages : List MessageValue) (made : List AckValue) (old new : MachineValue)
     (number : ℕ) (kick : Kick) (said : Said) → said ≡ said_by 0 (replies.Kick kick)
     → IsKicked (calls.Wake (record { number = number }) ((seen old.controller).starts number))
     number kick old new
     → IsNext messages made old (Wake number) said new
-wake_next messages made old new number kick said e is =
-    subst (λ (s : Said). IsNext messages made old (Wake number) s new) (sym e)
-    (wake_by messages made old new number kick is)
-
-reset_by : (messages : List MessageValue) (made : List AckValue) (old new : MachineValue)
-    (number : ℕ) (kick : Kick)
-    → IsKicked (calls.Reset (record { number = number })) number kick old new
-    → IsNext messages made old (Reset number) (said_by 0 (replies.Kick kick)) new
 unfolding effect_of
-reset_by messages made old new number (kicks.Started start) is = record {
-  board = is.board;
-  firmware = is.firmware;
-  controller = is.after;
-  places = λ c inside. is.places c ∙ started_place (c == number) (place_in old.places c);
-}
-reset_by messages made old new number kicks.Ignored is = record {
-  board = is.board;
-  firmware = is.firmware;
-  controller = is.ignored refl;
-  places = λ c inside. is.places c;
-}
+wake_next messages made old new number (kicks.Started start) said e is =
+    subst (λ (s : Said). IsNext messages made old (Wake number) s new) (sym e) (record {
+      board = is.board;
+      firmware = is.firmware;
+      controller = is.after;
+      places = λ c inside. is.places c ∙ started_place (c == number) (place_in old.places c);
+    })
+wake_next messages made old new number kicks.Ignored said e is =
+    subst (λ (s : Said). IsNext messages made old (Wake number) s new) (sym e) (record {
+      board = is.board;
+      firmware = is.firmware;
+      controller = is.ignored refl;
+      places = λ c inside. is.places c;
+    })
 
 pub reset_next : (messages : List MessageValue) (made : List AckValue) (old new : MachineValue)
     (number : ℕ) (kick : Kick) (said : Said) → said ≡ said_by 0 (replies.Kick kick)
     → IsKicked (calls.Reset (record { number = number })) number kick old new
     → IsNext messages made old (Reset number) said new
-reset_next messages made old new number kick said e is =
-    subst (λ (s : Said). IsNext messages made old (Reset number) s new) (sym e)
-    (reset_by messages made old new number kick is)
+unfolding effect_of
+reset_next messages made old new number (kicks.Started start) said e is =
+    subst (λ (s : Said). IsNext messages made old (Reset number) s new) (sym e) (record {
+      board = is.board;
+      firmware = is.firmware;
+      controller = is.after;
+      places = λ c inside. is.places c ∙ started_place (c == number) (place_in old.places c);
+    })
+reset_next messages made old new number kicks.Ignored said e is =
+    subst (λ (s : Said). IsNext messages made old (Reset number) s new) (sym e) (record {
+      board = is.board;
+      firmware = is.firmware;
+      controller = is.ignored refl;
+      places = λ c inside. is.places c;
+    })
 
 -- a machine, by its parts
 abbrev pub machine_of : FirmwareValue → ControllerValue → List Place → MachineValue

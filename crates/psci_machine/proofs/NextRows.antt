@@ -1,9 +1,12 @@
 -- Worked examples: what is said of an event by the values before it, and what it leaves.
-use Rattle.std.proofs.Common.{◌≡◌, ◌<◌, ℕ, List, [], ◌∷◌, None, Some}
+use Rattle.std.proofs.Common.{◌≡◌, ◌<◌, ℕ, List, [], ◌∷◌, None, Option, Some}
 use Rattle.std.proofs.Common.{refl, arith, ap, sym, subst, ◌∙◌, ◌+◌, pos}
+use Rattle.std.proofs.lemmas.Bool.{eqb-false}
+use Rattle.psci_world_spec.proofs.Tables.{◌⇒◌, Gives}
 use Rattle.psci_fw.specs.psci_board.Board.{BoardValue, cores}
 use Rattle.psci_ctl.specs.Seen as controller
 use Rattle.psci_ctl.specs.psci_ctl_spec.declared.call.CtlCall.TheVariants as asked
+use Rattle.psci_ctl.specs.psci_ctl_spec.declared.kick.Kick.{Kick}
 use Rattle.psci_ctl.specs.psci_ctl_spec.declared.kick.Kick.TheVariants as kicks
 use Rattle.psci_ctl.specs.psci_ctl_spec.declared.reply.CtlReply.TheVariants as replied
 use Rattle.psci_ctl.specs.psci_ctl_spec.Changes.{after as changed}
@@ -20,6 +23,7 @@ use Rattle.psci_fw.specs.psci_fw_spec.Values as kept
 use Rattle.psci_fw.specs.psci_messages.declared.start.Cause.TheVariants as causes
 use Rattle.psci_fw.specs.psci_messages.declared.start.Start.{Start}
 use Rattle.psci_world_spec.specs.declared.event.Event.TheVariants.{Enter, Reset, Wake}
+use Rattle.psci_world_spec.specs.declared.place.Place.{Place}
 use Rattle.psci_world_spec.specs.declared.place.Place.TheVariants.{Running, Started, Stopped}
 use Rattle.psci_world_spec.specs.declared.said.Said.{Said}
 use Rattle.psci_world_spec.specs.declared.said.Said.TheVariants.{Absent, Ignored}
@@ -40,34 +44,31 @@ start life number = record { life = life; number = number; cause = causes.Wake }
 abbrev by_its_number : Start → Said
 by_its_number s = returns (pos s.number) nothing
 
-started_core_enters : if_entering Started (Some (start 2 5)) by_its_number ≡ returns (pos 5) nothing
-started_core_enters = refl
+abbrev entering : Place × Option Start → Said
+entering e = if_entering e.0 e.1 by_its_number
 
-started_core_without_a_start : if_entering Started None by_its_number ≡ Ignored
-started_core_without_a_start = refl
+cores_entering : Gives entering
+    ((Started, Some (start 2 5)) ⇒ returns (pos 5) nothing
+    ∷ (Started, None) ⇒ Ignored
+    ∷ (Running, Some (start 2 5)) ⇒ Ignored
+    ∷ (Stopped, Some (start 2 5)) ⇒ Ignored ∷ [])
+cores_entering = refl
 
-running_core_enters : if_entering Running (Some (start 2 5)) by_its_number ≡ Ignored
-running_core_enters = refl
-
-stopped_core_enters : if_entering Stopped (Some (start 2 5)) by_its_number ≡ Ignored
-stopped_core_enters = refl
-
-there : if_there (Some (start 2 5)) by_its_number ≡ returns (pos 5) nothing
+there : Gives (λ o. if_there o by_its_number)
+    (Some (start 2 5) ⇒ returns (pos 5) nothing ∷ None ⇒ Absent ∷ [])
 there = refl
-
-not_there : if_there None by_its_number ≡ Absent
-not_there = refl
 
 -- Places ---------------------------------------------------------------------------------------
 
-core_is_kicked : place_kicked 3 (kicks.Started (start 1 2)) 3 Stopped ≡ Started
-core_is_kicked = refl
+-- of this core, which was here, by what was said of core 3
+abbrev kicked_to : Kick × ℕ × Place → Place
+kicked_to k = place_kicked 3 k.0 k.1 k.2
 
-another_core_is_kicked : place_kicked 3 (kicks.Started (start 1 2)) 2 Running ≡ Running
-another_core_is_kicked = refl
-
-core_is_not_kicked : place_kicked 3 kicks.Ignored 3 Running ≡ Running
-core_is_not_kicked = refl
+cores_kicked : Gives kicked_to
+    ((kicks.Started (start 1 2), 3, Stopped) ⇒ Started
+    ∷ (kicks.Started (start 1 2), 2, Running) ⇒ Running
+    ∷ (kicks.Ignored, 3, Running) ⇒ Running ∷ [])
+cores_kicked = refl
 
 -- core 3 was started
 abbrev by_a_start : List CtlExchange
@@ -76,24 +77,23 @@ by_a_start = record {
   reply = replied.Kick (kicks.Started (start 1 2));
 } ∷ []
 
-reset_core_starts : place_next board 3 (Reset 3) (started 1 2 causes.Reset) by_a_start Running
-    ≡ Started
+-- the core that was reset starts, and another one stays
+reset_cores : Gives
+    (λ c. place_next board c (Reset 3) (started 1 2 causes.Reset) by_a_start Running)
+    (3 ⇒ Started ∷ 2 ⇒ Running ∷ [])
 unfolding computing
-reset_core_starts = refl
+reset_cores = refl
 
-other_core_stays : place_next board 2 (Reset 3) (started 1 2 causes.Reset) by_a_start Running
-    ≡ Running
-unfolding computing
-other_core_stays = refl
+-- core 3 goes off
+abbrev off_to : ℕ × List CtlExchange × Place → Place
+off_to e = place_next board e.0 (off 3) (stops nothing) e.1 e.2
 
-core_says_where_it_is : place_next board 3 (off 3) (stops nothing) [] Running ≡ Stopped
-core_says_where_it_is = refl
-
-what_is_said_comes_first : place_next board 3 (off 3) (stops nothing) by_a_start Running ≡ Stopped
-what_is_said_comes_first = refl
-
-core_stays_where_it_was : place_next board 2 (off 3) (stops nothing) [] Started ≡ Started
-core_stays_where_it_was = refl
+-- a core says where it is, which comes first, and another one stays where it was
+cores_off : Gives off_to
+    ((3, [], Running) ⇒ Stopped
+    ∷ (3, by_a_start, Running) ⇒ Stopped
+    ∷ (2, [], Started) ⇒ Started ∷ [])
+cores_off = refl
 
 -- Values ---------------------------------------------------------------------------------------
 
@@ -130,15 +130,13 @@ each_start_counts = refl
 board_stays : (old new : MachineValue) → machine_board old ≡ board → machine_board new ≡ one_core
     → IsNext [] [] old (Enter 9) Absent new → ⊥
 board_stays old new at other is =
-    let no : 1 ≡ 4 = ap cores (sym other) ∙ ap cores is.board ∙ ap cores at in
-    absurd (omega (arith, no))
+    eqb-false 1 4 refl (ap cores (sym other) ∙ ap cores is.board ∙ ap cores at)
 
 -- nothing happens, and the life is another one
 firmware_stays : (old new : MachineValue) → (firmware.seen old.firmware).life ≡ 1
     → (firmware.seen new.firmware).life ≡ 2 → IsNext [] [] old (Enter 9) Absent new → ⊥
 firmware_stays old new one two is =
-    let no : 2 ≡ 1 = sym two ∙ ap (λ (v : kept.Values). v.life) is.firmware ∙ one in
-    absurd (omega (arith, no))
+    eqb-false 2 1 refl (sym two ∙ ap (λ (v : kept.Values). v.life) is.firmware ∙ one)
 
 controller_stays : (old new : MachineValue) → (controller.seen old.controller).life ≡ Some 1
     → (controller.seen new.controller).life ≡ None → IsNext [] [] old (Enter 9) Absent new → ⊥
@@ -161,6 +159,5 @@ woken_core_was_started : (old new : MachineValue) → (controller.seen old.contr
     → IsNext [] [] old (Wake 3) (started 1 1 causes.Wake) new → ⊥
 unfolding computing changed
 woken_core_was_started old new before none is =
-    let no : 0 ≡ 1 =
-    sym none ∙ ap (λ (v : controlled.Values). v.starts 3) is.controller ∙ ap (λ n. n + 1) before in
-    absurd (omega (arith, no))
+    eqb-false 0 1 refl
+    (sym none ∙ ap (λ (v : controlled.Values). v.starts 3) is.controller ∙ ap (λ n. n + 1) before)

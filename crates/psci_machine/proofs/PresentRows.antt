@@ -1,6 +1,7 @@
 -- Worked examples: presents of which just one thing is not so that holds after some records.
 use Rattle.std.proofs.Common.{◌≡◌, ℕ, List, [], ◌∷◌, length}
-use Rattle.std.proofs.Common.{arith, ap, sym, ◌∙◌}
+use Rattle.std.proofs.Common.{arith, ap, refl, sym, ◌∙◌}
+use Rattle.std.proofs.lemmas.Bool.{eqb-false}
 use Rattle.psci_fw.specs.psci_board.Board.{cores}
 use Rattle.psci_fw.specs.psci_messages.Message.{AckValue, MessageValue}
 use Rattle.psci_machine.specs.Seen.{machine_board}
@@ -24,36 +25,31 @@ illegal_past : (p : PresentValue)
 unfolding computing
 illegal_past p is = absent_enters is.legal.0
 
-of_another_board : (p : PresentValue) → machine_board p.machine ≡ one_core
-    → IsPresent board two_asked p → ⊥
-of_another_board p at is =
-    let no : 1 ≡ 4 = ap cores (sym at) ∙ ap cores is.machine.board in absurd (omega (arith, no))
+-- a present of which this is so is not that after these records
+abbrev NotPresent : (PresentValue → Type 0) → Type 0
+NotPresent Is = (p : PresentValue) → Is p → IsPresent board two_asked p → ⊥
 
-a_message_is_lacking : (p : PresentValue) → length p.messages ≡ 1
-    → IsPresent board two_asked p → ⊥
-unfolding computing
-a_message_is_lacking p one is =
-    let no : 1 ≡ 2 = sym one ∙ ap length is.messages in absurd (omega (arith, no))
+of_another_board : NotPresent (λ p. machine_board p.machine ≡ one_core)
+of_another_board p at is = eqb-false 1 4 refl (ap cores (sym at) ∙ ap cores is.machine.board)
 
 -- the core of the first message, or 0
 abbrev first_core : List MessageValue → ℕ
 first_core [] = 0
 first_core (m ∷ ms) = m.core.number
 
-newest_message_first : (p : PresentValue) → first_core p.messages ≡ 1
-    → IsPresent board two_asked p → ⊥
+-- a message is lacking; the newest one comes first
+other_messages : NotPresent (λ p. length p.messages ≡ 1)
+    × NotPresent (λ p. first_core p.messages ≡ 1)
 unfolding computing
-newest_message_first p turned is =
-    let no : 1 ≡ 3 = sym turned ∙ ap first_core is.messages in absurd (omega (arith, no))
+other_messages = (
+  λ p one is. eqb-false 1 2 refl (sym one ∙ ap length is.messages),
+  λ p turned is. eqb-false 1 3 refl (sym turned ∙ ap first_core is.messages),
+)
 
-an_acknowledgement_is_lacking : (p : PresentValue) → p.acks ≡ [] → IsPresent board two_asked p → ⊥
+-- an acknowledgement is lacking, and there is one too many
+other_acknowledgements : NotPresent (λ p. length p.acks ≡ 0) × NotPresent (λ p. length p.acks ≡ 2)
 unfolding computing
-an_acknowledgement_is_lacking p none is =
-    let no : 0 ≡ 1 = ap (length {A = AckValue}) (sym none) ∙ ap length is.acks in
-    absurd (omega (arith, no))
-
-an_acknowledgement_too_many : (p : PresentValue) → length p.acks ≡ 2
-    → IsPresent board two_asked p → ⊥
-unfolding computing
-an_acknowledgement_too_many p two is =
-    let no : 2 ≡ 1 = sym two ∙ ap length is.acks in absurd (omega (arith, no))
+other_acknowledgements = (
+  λ p none is. eqb-false 0 1 refl (sym none ∙ ap length is.acks),
+  λ p two is. eqb-false 2 1 refl (sym two ∙ ap length is.acks),
+)

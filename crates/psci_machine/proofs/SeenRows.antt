@@ -1,8 +1,9 @@
 -- Worked examples: machines of which just one thing is not so that holds of every machine, or after
 -- some records.
 use Rattle.std.proofs.Common.{◌≡◌, ◌<◌, ℕ, List, [], ◌∷◌, None, Some, length}
-use Rattle.std.proofs.Common.{arith, ap, sym, ◌∙◌}
-use Rattle.psci_fw.specs.psci_board.Board.{cores}
+use Rattle.std.proofs.Common.{arith, ap, refl, sym, ◌∙◌}
+use Rattle.std.proofs.lemmas.Bool.{eqb-false}
+use Rattle.psci_fw.specs.psci_board.Board.{BoardValue, cores}
 use Rattle.psci_ctl.specs.Seen as controller
 use Rattle.psci_ctl.specs.psci_ctl_spec.Values as controlled
 use Rattle.psci_fw.specs.Seen as firmware
@@ -44,87 +45,62 @@ abbrev second_life : List Record
 second_life =
     run_from tall [] (Enter 0 ∷ system_reset 0 ∷ Deliver 0 ∷ Enter 0 ∷ Wake 3 ∷ [])
 
-of_another_board : (m : MachineValue) → machine_board m ≡ one_core → IsAfter board asked_on m → ⊥
-of_another_board m at is =
-    let no : 1 ≡ 4 = ap cores (sym at) ∙ ap cores is.board in absurd (omega (arith, no))
+-- a machine of which this is so is not as after these records
+abbrev NotAfter : BoardValue → List Record → (MachineValue → Type 0) → Type 0
+NotAfter b past Is = (m : MachineValue) → Is m → IsAfter b past m → ⊥
 
-another_core_is_stopped : (m : MachineValue) → m.places ≡ Running ∷ Stopped ∷ Stopped ∷ Stopped ∷ []
-    → IsAfter board asked_on m → ⊥
-unfolding computing
-another_core_is_stopped m at is =
-    stopped_starts (ap (λ xs. place_in xs 3) (sym at) ∙ is.places 3 (omega arith))
+of_another_board : NotAfter board asked_on (λ m. machine_board m ≡ one_core)
+of_another_board m at is = eqb-false 1 4 refl (ap cores (sym at) ∙ ap cores is.board)
 
-boot_core_is_started : (m : MachineValue) → m.places ≡ Started ∷ Stopped ∷ Stopped ∷ Started ∷ []
-    → IsAfter board asked_on m → ⊥
+-- core 3 is stopped, the boot core is started, core 3 is where it was in the life before
+other_places :
+    NotAfter board asked_on (λ m. m.places ≡ Running ∷ Stopped ∷ Stopped ∷ Stopped ∷ [])
+    × NotAfter board asked_on (λ m. m.places ≡ Started ∷ Stopped ∷ Stopped ∷ Started ∷ [])
+    × NotAfter tall second_life (λ m. m.places ≡ Running ∷ Stopped ∷ Stopped ∷ Stopped ∷ [])
 unfolding computing
-boot_core_is_started m at is =
-    started_runs (ap (λ xs. place_in xs 0) (sym at) ∙ is.places 0 (omega arith))
+other_places = (
+  λ m at is. stopped_starts (ap (λ xs. place_in xs 3) (sym at) ∙ is.places 3 (omega arith)),
+  λ m at is. started_runs (ap (λ xs. place_in xs 0) (sym at) ∙ is.places 0 (omega arith)),
+  λ m at is. stopped_starts (ap (λ xs. place_in xs 3) (sym at) ∙ is.places 3 (omega arith)),
+)
 
-place_in_the_life_before : (m : MachineValue)
-    → m.places ≡ Running ∷ Stopped ∷ Stopped ∷ Stopped ∷ [] → IsAfter tall second_life m → ⊥
+-- the firmware has no life, is in the life before, has its target off still, is in the other mode
+other_firmware : NotAfter board asked_on (λ m. (firmware.seen m.firmware).life ≡ 0)
+    × NotAfter tall second_life (λ m. (firmware.seen m.firmware).life ≡ 1)
+    × NotAfter board asked_on (λ m. (firmware.seen m.firmware).status 3 ≡ statuses.Off)
+    × NotAfter board asked_on (λ m. (firmware.seen m.firmware).mode ≡ OsInitiated)
 unfolding computing
-place_in_the_life_before m at is =
-    stopped_starts (ap (λ xs. place_in xs 3) (sym at) ∙ is.places 3 (omega arith))
+other_firmware = (
+  λ m at is. eqb-false 0 1 refl (sym at ∙ ap (λ (v : kept.Values). v.life) is.firmware),
+  λ m at is. eqb-false 1 2 refl (sym at ∙ ap (λ (v : kept.Values). v.life) is.firmware),
+  λ m at is. off_is_pending (sym at ∙ ap (λ (v : kept.Values). v.status 3) is.firmware),
+  λ m at is. other_mode (sym at ∙ ap (λ (v : kept.Values). v.mode) is.firmware),
+)
 
-firmware_without_a_life : (m : MachineValue) → (firmware.seen m.firmware).life ≡ 0
-    → IsAfter board asked_on m → ⊥
+-- the power controller has no life, did not start core 3, has the system asleep
+other_controller : NotAfter board asked_on (λ m. (controller.seen m.controller).life ≡ None)
+    × NotAfter board asked_on (λ m. (controller.seen m.controller).starts 3 ≡ 0)
+    × NotAfter tall second_life (λ m. (controller.seen m.controller).depth 3 0 ≡ 3)
 unfolding computing
-firmware_without_a_life m at is =
-    let no : 0 ≡ 1 = sym at ∙ ap (λ (v : kept.Values). v.life) is.firmware in
-    absurd (omega (arith, no))
-
-firmware_of_the_life_before : (m : MachineValue) → (firmware.seen m.firmware).life ≡ 1
-    → IsAfter tall second_life m → ⊥
-unfolding computing
-firmware_of_the_life_before m at is =
-    let no : 1 ≡ 2 = sym at ∙ ap (λ (v : kept.Values). v.life) is.firmware in
-    absurd (omega (arith, no))
-
-target_is_still_off : (m : MachineValue) → (firmware.seen m.firmware).status 3 ≡ statuses.Off
-    → IsAfter board asked_on m → ⊥
-unfolding computing
-target_is_still_off m at is =
-    off_is_pending (sym at ∙ ap (λ (v : kept.Values). v.status 3) is.firmware)
-
-in_the_other_mode : (m : MachineValue) → (firmware.seen m.firmware).mode ≡ OsInitiated
-    → IsAfter board asked_on m → ⊥
-unfolding computing
-in_the_other_mode m at is =
-    other_mode (sym at ∙ ap (λ (v : kept.Values). v.mode) is.firmware)
-
-controller_without_a_life : (m : MachineValue) → (controller.seen m.controller).life ≡ None
-    → IsAfter board asked_on m → ⊥
-unfolding computing
-controller_without_a_life m at is =
-    no_life_is_one 1 (sym at ∙ ap (λ (v : controlled.Values). v.life) is.controller)
-
-core_not_started : (m : MachineValue) → (controller.seen m.controller).starts 3 ≡ 0
-    → IsAfter board asked_on m → ⊥
-unfolding computing
-core_not_started m at is =
-    let no : 0 ≡ 1 = sym at ∙ ap (λ (v : controlled.Values). v.starts 3) is.controller in
-    absurd (omega (arith, no))
-
-system_is_asleep : (m : MachineValue) → (controller.seen m.controller).depth 3 0 ≡ 3
-    → IsAfter tall second_life m → ⊥
-unfolding computing
-system_is_asleep m at is =
-    let no : 3 ≡ 0 = sym at ∙ ap (λ (v : controlled.Values). v.depth 3 0) is.controller in
-    absurd (omega (arith, no))
+other_controller = (
+  λ m at is. no_life_is_one 1 (sym at ∙ ap (λ (v : controlled.Values). v.life) is.controller),
+  λ m at is. eqb-false 0 1 refl
+      (sym at ∙ ap (λ (v : controlled.Values). v.starts 3) is.controller),
+  λ m at is. eqb-false 3 0 refl
+      (sym at ∙ ap (λ (v : controlled.Values). v.depth 3 0) is.controller),
+)
 
 -- Every machine -------------------------------------------------------------------------------
 
 of_two_boards : (m : MachineValue) → machine_board m ≡ board → m.controller.board ≡ one_core
     → IsMachine m → ⊥
 of_two_boards m at other is =
-    let no : 1 ≡ 4 = ap cores (sym other) ∙ ap cores is.same ∙ ap cores at in
-    absurd (omega (arith, no))
+    eqb-false 1 4 refl (ap cores (sym other) ∙ ap cores is.same ∙ ap cores at)
 
 a_place_too_few : (m : MachineValue) → machine_board m ≡ board
     → m.places ≡ Started ∷ Stopped ∷ Stopped ∷ [] → IsMachine m → ⊥
 a_place_too_few m at places is =
-    let no : 3 ≡ 4 = ap length (sym places) ∙ is.places ∙ ap cores at in
-    absurd (omega (arith, no))
+    eqb-false 3 4 refl (ap length (sym places) ∙ is.places ∙ ap cores at)
 
 of_no_board : (m : MachineValue) → machine_board m ≡ record board { starts = 0 } → IsMachine m → ⊥
 of_no_board m at is = let no : 0 < 0 = rw at at is.board.some_starts in absurd (omega (arith, no))

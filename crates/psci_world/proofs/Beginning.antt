@@ -6,10 +6,10 @@ use Rattle.psci_headline.specs.Settling.{Reached, all_cores, served, begun, each
 use Rattle.psci_headline.specs.Settling.{is_any, is_start, is_waiting, round, rounds, settled}
 use Rattle.psci_machine.specs.psci_world_spec.declared.said.Record.{Record}
 
-entered : BoardValue → List Record → List Record
+unfoldable pub entered : BoardValue → List Record → List Record
 entered b past = each_core (entering b) (all_cores b) past
 
-started : BoardValue → List Record → List Record
+unfoldable pub started : BoardValue → List Record → List Record
 started b past = each_core (served b is_start) (all_cores b) past
 
 -- started cores enter, Starts are answered, and started cores enter

@@ -10,6 +10,7 @@ use Rattle.psci_machine.specs.psci_world_spec.psci_messages.declared.kind.Kind.{
 use Rattle.psci_headline.specs.Settling.{Reached, all_cores, served, serving, begun, each_core}
 use Rattle.psci_headline.specs.Settling.{entering, is_any, is_start, is_started, is_waiting, round}
 use Rattle.psci_headline.specs.Settling.{rounds, settled, step}
+use Rattle.psci_world.proofs.Beginning.{entered, started}
 use Rattle.psci_world.proofs.Settles.{each_more}
 use Rattle.psci_world.specs.Settles.{IsOnTheWay}
 use Rattle.psci_machine.specs.psci_world_spec.declared.event.Event.{Event}
@@ -115,12 +116,6 @@ stops_each does b other n k past after whole way less same at rest =
     way_to after _ _ (sym (each_more (does b) n k past less) ∙ rest)
     (way_both after (does b past n) _ here
     (way_each (does b) way (range_with_len (n + 1) (k - (n + 1))) (does b past n)))
-
-entered : BoardValue → List Record → List Record
-entered b past = each_core (entering b) (all_cores b) past
-
-started : BoardValue → List Record → List Record
-started b past = each_core (served b is_start) (all_cores b) past
 
 way_entered : (b : BoardValue) (past : List Record) → IsOnTheWay past (entered b past)
 unfolding entered

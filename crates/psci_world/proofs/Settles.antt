@@ -4,19 +4,19 @@ use Rattle.std.proofs.Common.{◌≡◌, ◌<◌, ◌+◌, ◌-◌, ℕ, true, L
 use Rattle.std.proofs.Common.{refl, ap, sym, ◌∙◌, subst, arith}
 use Rattle.std.proofs.lemmas.List.Elements.{All-append, All-nil}
 use Rattle.std.specs.List.{AllPass, range_with_len}
-use Rattle.psci_machine.specs.psci_board.Board.{BoardValue}
+use Rattle.psci_machine.specs.psci_board.Board.{BoardValue, cores}
 use Rattle.psci_headline.specs.Drained.{is_settling}
 use Rattle.psci_headline.specs.Settling.{each_core, step}
+use Rattle.psci_machine.proofs.world_spec.Runs.{goes_on}
 use Rattle.psci_world.specs.Settles.{SettlesBy}
 use Rattle.psci_machine.specs.psci_world_spec.declared.event.Event.{Event}
 use Rattle.psci_machine.specs.psci_world_spec.declared.said.Record.{Record}
-use Rattle.psci_machine.specs.psci_world_spec.Legal.{legal_record, run_from}
+use Rattle.psci_machine.specs.psci_world_spec.Legal.{run_from}
 
-goes_on : (b : BoardValue) (past : List Record) (events more : List Event)
-    → run_from b past (events ++ more) ≡ run_from b (run_from b past events) more
-unfolding run_from
-goes_on b past [] more = refl
-goes_on b past (event ∷ events) more = goes_on b (legal_record b past event ∷ past) events more
+-- the number of a core that is left is that of a core of the board
+pub is_core : (number most : ℕ) (b other : BoardValue) → number < most → most ≡ cores other
+    → other ≡ b → number < cores b
+is_core number most b other less is same = omega (arith, less, is, ap cores same)
 
 -- nothing happened
 pub settles_none : (b : BoardValue) (past : List Record) → SettlesBy b past past

@@ -2,8 +2,9 @@
 -- settle by or come to rest by.
 use Rattle.std.proofs.lemmas.List.Sums.{AllPass-from_list_all, list_all-from_AllPass}
 use Rattle.std.proofs.Common.{◌≡◌, ◌≤◌, ◌+◌, ◌++◌, ◌&&◌, ℕ, true, false, List, [], ◌∷◌, length}
-use Rattle.std.proofs.Common.{length-append, refl, arith, ap, ◌∙◌}
+use Rattle.std.proofs.Common.{length-append, map, refl, arith, ap, ◌∙◌}
 use Rattle.std.specs.List.{list_all}
+use Rattle.psci_machine.proofs.Tables.{◌⇒◌, Gives}
 use Rattle.psci_machine.specs.psci_world_spec.psci_messages.declared.kind.Kind.TheVariants as kinds
 use Rattle.psci_headline.specs.Drained.{is_settling}
 use Rattle.psci_world.specs.declared.outstanding.Which.TheVariants.{All, Starts}
@@ -20,17 +21,10 @@ use Rattle.psci_machine.specs.psci_board.Board.{BoardValue}
 
 -- Which messages ---------------------------------------------------------------------------------
 
-starts_are_served : serves_kind Starts kinds.Start ≡ true
-starts_are_served = refl
-
-downs_are_not_served_at_first : serves_kind Starts kinds.Down ≡ false
-downs_are_not_served_at_first = refl
-
-starts_are_served_in_rounds : serves_kind All kinds.Start ≡ true
-starts_are_served_in_rounds = refl
-
-downs_are_served_in_rounds : serves_kind All kinds.Down ≡ true
-downs_are_served_in_rounds = refl
+-- at first Starts, and in rounds Downs too
+served_kinds : Gives (λ which. map (serves_kind which) (kinds.Start ∷ kinds.Down ∷ []))
+    (Starts ⇒ (true ∷ false ∷ []) ∷ All ⇒ (true ∷ true ∷ []) ∷ [])
+served_kinds = refl
 
 -- By which events -------------------------------------------------------------------------------
 

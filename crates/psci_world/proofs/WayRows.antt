@@ -5,14 +5,9 @@ use Rattle.psci_world.specs.Settles.{IsOnTheWay}
 use Rattle.psci_machine.specs.psci_world_spec.declared.said.Record.{Record}
 
 -- before any record, after the first of three, and after the last
-pub at_first : (r s t : Record) → IsOnTheWay [] (t ∷ s ∷ r ∷ [])
-at_first r s t = (t ∷ s ∷ r ∷ [], refl)
-
-pub in_between : (r s t : Record) → IsOnTheWay (r ∷ []) (t ∷ s ∷ r ∷ [])
-in_between r s t = (t ∷ s ∷ [], refl)
-
-pub at_last : (r s t : Record) → IsOnTheWay (t ∷ s ∷ r ∷ []) (t ∷ s ∷ r ∷ [])
-at_last r s t = ([], refl)
+on_the_way : (r s t : Record) → let whole = t ∷ s ∷ r ∷ [] in
+    IsOnTheWay [] whole × IsOnTheWay (r ∷ []) whole × IsOnTheWay whole whole
+on_the_way r s t = ((t ∷ s ∷ r ∷ [], refl), (t ∷ s ∷ [], refl), ([], refl))
 
 -- a record more than there shall be
 pub beyond : (r s : Record) → IsOnTheWay (s ∷ r ∷ []) (r ∷ []) → ⊥

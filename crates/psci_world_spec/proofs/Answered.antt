@@ -29,13 +29,17 @@ use Rattle.psci_world_spec.specs.declared.said.Record.{Record}
 use Rattle.psci_world_spec.specs.declared.said.Said.{Said}
 use Rattle.psci_world_spec.specs.declared.said.Said.TheVariants.{Absent}
 use Rattle.psci_world_spec.specs.Histories.{acks, call, control, controller_history}
-use Rattle.psci_world_spec.specs.Histories.{controller_values, delivered, entered}
-use Rattle.psci_world_spec.specs.Histories.{firmware_history, firmware_values, outcome_in}
-use Rattle.psci_world_spec.specs.Histories.{sent, took}
+use Rattle.psci_world_spec.specs.Histories.{controller_values, delivered, entered, firmware_history}
+use Rattle.psci_world_spec.specs.Histories.{firmware_values, outcome_in, sent, took}
 use Rattle.psci_world_spec.specs.Legal.{IsReplied, IsLegalPast, deliver, if_running, if_started}
 use Rattle.psci_world_spec.specs.Legal.{if_stopped, legal, said_by, said_of, sent_as, take}
 use Rattle.psci_world_spec.specs.Lists.{indexed}
 use Rattle.psci_world_spec.specs.Places.{place}
+
+-- what holds where nothing is asked and where this is said holds on the board and off it
+on_board : (P : Said → Type 0) (t : Bool) (s : Said) → P Absent → P s → P (cond t s Absent)
+on_board P true s h w = w
+on_board P false s h w = h
 
 -- The firmware ---------------------------------------------------------------------------------
 
@@ -62,21 +66,13 @@ call_answered : (b : BoardValue) (past : List Record) (n c : ℕ) (regs : Regs) 
     → r ≡ answer_to b past c (calls.Smc regs) → IsLegal b (firmware_history b past)
     → WithCall b past (Call c regs) (said_of n r)
 call_answered b past n c regs (replies.Out o) e h = (ap replies.Out (same_outcome n o) ∙ e, h)
-call_answered b past n c regs (replies.Taken t) e h = h
-call_answered b past n c regs (replies.Fault f) e h = h
+call_answered b past n c regs r e h = h
 
 call_running : (b : BoardValue) (past : List Record) (c : ℕ) (regs : Regs) (p : Place) (s : Said)
     → IsLegal b (firmware_history b past) → WithCall b past (Call c regs) s
     → WithCall b past (Call c regs) (if_running p s)
-call_running b past c regs Started s h w = h
 call_running b past c regs Running s h w = w
-call_running b past c regs Stopped s h w = h
-
-call_on_board : (b : BoardValue) (past : List Record) (c : ℕ) (regs : Regs) (t : Bool) (s : Said)
-    → IsLegal b (firmware_history b past) → WithCall b past (Call c regs) s
-    → WithCall b past (Call c regs) (cond t s Absent)
-call_on_board b past c regs true s h w = w
-call_on_board b past c regs false s h w = h
+call_running b past c regs p s h w = h
 
 enter_answered : (b : BoardValue) (past : List Record) (n c : ℕ) (start : Start) (r : FwReply)
     → last_start (controller_values b past) c ≡ Some start
@@ -85,8 +81,7 @@ enter_answered : (b : BoardValue) (past : List Record) (n c : ℕ) (start : Star
 enter_answered b past n c start (replies.Out o) last e h =
     subst (λ (s : Option Start). IsLegal b (entered c s (outcome_in o.act (sent_as n o.message))
     ++ firmware_history b past)) (sym last) (ap replies.Out (same_outcome n o) ∙ e, h)
-enter_answered b past n c start (replies.Taken t) last e h = h
-enter_answered b past n c start (replies.Fault f) last e h = h
+enter_answered b past n c start r last e h = h
 
 enter_started : (b : BoardValue) (past : List Record) (c : ℕ) (p : Place) (s : Option Start)
     → last_start (controller_values b past) c ≡ s → IsLegal b (firmware_history b past)
@@ -94,24 +89,15 @@ enter_started : (b : BoardValue) (past : List Record) (c : ℕ) (p : Place) (s :
 enter_started b past c Started (Some start) last h =
     enter_answered b past (length (sent past)) c start (answer_to b past c (calls.Enter start)) last
     refl h
-enter_started b past c Started None last h = h
-enter_started b past c Running s last h = h
-enter_started b past c Stopped s last h = h
-
-enter_on_board : (b : BoardValue) (past : List Record) (c : ℕ) (t : Bool) (s : Said)
-    → IsLegal b (firmware_history b past) → WithCall b past (Enter c) s
-    → WithCall b past (Enter c) (cond t s Absent)
-enter_on_board b past c true s h w = w
-enter_on_board b past c false s h w = h
+enter_started b past c p s last h = h
 
 take_answered : (b : BoardValue) (past : List Record) (n k : ℕ) (a : AckValue) (r : FwReply)
     → indexed (acks past) k ≡ Some a → r ≡ answer_to b past 0 (calls.Take a)
     → IsLegal b (firmware_history b past) → WithCall b past (Take k) (said_of n r)
-take_answered b past n k a (replies.Out o) made e h = h
 take_answered b past n k a (replies.Taken t) made e h =
     subst (λ (x : Option AckValue). IsLegal b (took x t ++ firmware_history b past)) (sym made)
     (e, h)
-take_answered b past n k a (replies.Fault f) made e h = h
+take_answered b past n k a r made e h = h
 
 take_made : (b : BoardValue) (past : List Record) (k : ℕ) (a : Option AckValue)
     → indexed (acks past) k ≡ a → IsLegal b (firmware_history b past)
@@ -126,17 +112,16 @@ unfolding legal
 call_legal b past (Call c regs) h =
     let r = answer_to b past c (calls.Smc regs) in
     let s = said_of (length (sent past)) r in
-    call_on_board b past c regs (nat_lt c (cores b)) (if_running (place b past c) s) h
+    on_board (WithCall b past (Call c regs)) (nat_lt c (cores b)) (if_running (place b past c) s) h
     (call_running b past c regs (place b past c) s h
     (call_answered b past (length (sent past)) c regs r refl h))
 call_legal b past (Enter c) h =
     let s = last_start (controller_values b past) c in
-    enter_on_board b past c (nat_lt c (cores b)) (if_started b past c (place b past c) s) h
+    on_board (WithCall b past (Enter c)) (nat_lt c (cores b))
+    (if_started b past c (place b past c) s) h
     (enter_started b past c (place b past c) s refl h)
-call_legal b past (Wake c) h = h
-call_legal b past (Reset c) h = h
-call_legal b past (Deliver k) h = h
 call_legal b past (Take k) h = take_made b past k (indexed (acks past) k) refl h
+call_legal b past event h = h
 
 pub firmware_legal : (b : BoardValue) (past : List Record) → IsLegalPast b past
     → IsLegal b (firmware_history b past)
@@ -186,55 +171,40 @@ resets c = asked.Reset (record { number = c })
 wake_answered : (b : BoardValue) (past : List Record) (n c : ℕ) (r : CtlReply)
     → r ≡ reply_to b past (wakes b past c) → IsReplied b (controller_history b past)
     → WithControl b past (Wake c) (said_by n r)
-wake_answered b past n c (replied.Delivery (deliveries.Applied ack)) e h = h
-wake_answered b past n c (replied.Delivery deliveries.Ignored) e h = h
 wake_answered b past n c (replied.Kick (kicks.Started start)) e h = (e, h)
 wake_answered b past n c (replied.Kick kicks.Ignored) e h = h
+wake_answered b past n c (replied.Delivery (deliveries.Applied ack)) e h = h
+wake_answered b past n c (replied.Delivery deliveries.Ignored) e h = h
 
 wake_stopped : (b : BoardValue) (past : List Record) (c : ℕ) (p : Place) (s : Said)
     → IsReplied b (controller_history b past) → WithControl b past (Wake c) s
     → WithControl b past (Wake c) (if_stopped p s)
-wake_stopped b past c Started s h w = h
-wake_stopped b past c Running s h w = h
 wake_stopped b past c Stopped s h w = w
-
-wake_on_board : (b : BoardValue) (past : List Record) (c : ℕ) (t : Bool) (s : Said)
-    → IsReplied b (controller_history b past) → WithControl b past (Wake c) s
-    → WithControl b past (Wake c) (cond t s Absent)
-wake_on_board b past c true s h w = w
-wake_on_board b past c false s h w = h
+wake_stopped b past c p s h w = h
 
 reset_answered : (b : BoardValue) (past : List Record) (n c : ℕ) (r : CtlReply)
     → r ≡ reply_to b past (resets c) → IsReplied b (controller_history b past)
     → WithControl b past (Reset c) (said_by n r)
-reset_answered b past n c (replied.Delivery (deliveries.Applied ack)) e h = h
-reset_answered b past n c (replied.Delivery deliveries.Ignored) e h = h
 reset_answered b past n c (replied.Kick (kicks.Started start)) e h = (e, h)
 reset_answered b past n c (replied.Kick kicks.Ignored) e h = h
-
-reset_on_board : (b : BoardValue) (past : List Record) (c : ℕ) (t : Bool) (s : Said)
-    → IsReplied b (controller_history b past) → WithControl b past (Reset c) s
-    → WithControl b past (Reset c) (cond t s Absent)
-reset_on_board b past c true s h w = w
-reset_on_board b past c false s h w = h
+reset_answered b past n c (replied.Delivery (deliveries.Applied ack)) e h = h
+reset_answered b past n c (replied.Delivery deliveries.Ignored) e h = h
 
 control_legal : (b : BoardValue) (past : List Record) (event : Event)
     → IsReplied b (controller_history b past) → WithControl b past event (legal b past event)
 unfolding legal
-control_legal b past (Call c regs) h = h
-control_legal b past (Enter c) h = h
 control_legal b past (Wake c) h =
     let r = reply_to b past (wakes b past c) in
     let s = said_by (length (acks past)) r in
-    wake_on_board b past c (nat_lt c (cores b)) (if_stopped (place b past c) s) h
+    on_board (WithControl b past (Wake c)) (nat_lt c (cores b)) (if_stopped (place b past c) s) h
     (wake_stopped b past c (place b past c) s h
     (wake_answered b past (length (acks past)) c r refl h))
 control_legal b past (Reset c) h =
     let r = reply_to b past (resets c) in
-    reset_on_board b past c (nat_lt c (cores b)) (said_by (length (acks past)) r) h
+    on_board (WithControl b past (Reset c)) (nat_lt c (cores b)) (said_by (length (acks past)) r) h
     (reset_answered b past (length (acks past)) c r refl h)
 control_legal b past (Deliver k) h = delivery_sent b past k (indexed (sent past) k) refl h
-control_legal b past (Take k) h = h
+control_legal b past event h = h
 
 pub controller_answered : (b : BoardValue) (past : List Record) → IsLegalPast b past
     → IsReplied b (controller_history b past)

@@ -1,7 +1,6 @@
 -- Worked examples are stated so: events in turn, and what is said of each.
-use Rattle.std.proofs.Common.{◌≡◌, ℕ, zero, suc, ℤ, pos, negsuc, Bool, List, [], ◌∷◌, length}
+use Rattle.std.proofs.Common.{◌≡◌, ℕ, zero, suc, ℤ, pos, negsuc, Bool, List, [], ◌∷◌}
 use Rattle.std.proofs.Common.{map, reverse, Option, None, Some}
-use Rattle.std.specs.List.{range_with_len}
 use Rattle.psci_fw_spec.specs.psci_abi.declared.format.Format.TheVariants.{Original}
 use Rattle.psci_fw_spec.specs.psci_board.Board.{BoardValue, core_of, node_of, up}
 use Rattle.psci_fw_spec.specs.psci_messages.declared.part.Part.{Part}
@@ -29,7 +28,6 @@ use Rattle.psci_fw_spec.specs.psci_messages.declared.taken.Taken.TheVariants as 
 use Rattle.psci_fw_spec.specs.psci_messages.Outstanding.{changes_since, last_message, outstanding}
 use Rattle.psci_world_spec.specs.declared.event.Event.{Event}
 use Rattle.psci_world_spec.specs.declared.event.Event.TheVariants.{Call}
-use Rattle.psci_world_spec.specs.declared.place.Place.{Place}
 use Rattle.psci_world_spec.specs.declared.said.Said.{Said}
 use Rattle.psci_world_spec.specs.declared.said.Said.TheVariants.{Fw, Kick, Acked, Taken}
 use Rattle.psci_world_spec.specs.declared.said.Sent.{Sent}
@@ -177,8 +175,3 @@ old = Taken takens.Old
 -- of these events this is said, each after the events before it
 abbrev pub IsSaid : BoardValue → List Event → List Said → Type 0
 IsSaid b events said = reverse (map (λ r. r.said) (run_from b [] events)) ≡ said
-
--- after these events the cores are at these places, the boot core first
-abbrev pub ArePlaced : BoardValue → List Event → List Place → Type 0
-ArePlaced b events places =
-    map (λ c. place b (run_from b [] events) c) (range_with_len 0 (length places)) ≡ places

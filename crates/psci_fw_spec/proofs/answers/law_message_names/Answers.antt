@@ -2,8 +2,5 @@
 use Rattle.psci_fw_spec.proofs.MessageNames.{named, park_named}
 use Rattle.psci_fw_spec.proofs.answers.law_message_names.Goals as goal
 
-pub returns-clause-function : goal.returns-clause-function
-returns-clause-function c = named
-
-pub returns-clause-park : goal.returns-clause-park
-returns-clause-park c = park_named
+pub returns : goal.returns
+returns c = record { function = named; park = park_named }

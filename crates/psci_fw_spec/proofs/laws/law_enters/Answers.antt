@@ -2,8 +2,5 @@
 use Rattle.psci_fw_spec.proofs.Arrivals.{enters_life, enters_runs}
 use Rattle.psci_fw_spec.proofs.laws.law_enters.Goals as goal
 
-pub returns-clause-runs : goal.returns-clause-runs
-returns-clause-runs c = enters_runs
-
-pub returns-clause-life : goal.returns-clause-life
-returns-clause-life c = enters_life
+pub returns : goal.returns
+returns c = record { runs = enters_runs; life = enters_life }

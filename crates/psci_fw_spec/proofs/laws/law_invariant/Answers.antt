@@ -1,4 +1,4 @@
-use Rattle.psci_board.specs.Board.{height}
+use Rattle.psci_board.specs.Board.{BoardValue, IsBoard, height}
 use Rattle.psci_fw_spec.proofs.Answered.{Worded, deepest_is, kept_function}
 use Rattle.psci_fw_spec.proofs.Asked.{known_from}
 use Rattle.psci_fw_spec.proofs.Changing.{kept_acknowledged}
@@ -6,46 +6,23 @@ use Rattle.psci_fw_spec.proofs.Entered.{kept_answer, kept_enter, kept_legal}
 use Rattle.psci_fw_spec.proofs.Starting.{are_first}
 use Rattle.psci_fw_spec.proofs.laws.law_invariant.Goals as goal
 
-pub returns-clause-first : goal.returns-clause-first
-returns-clause-first g = λ b life board.
-    let known = known_from b board g.law_paths.ensures g.law_words.ensures g.law_below.ensures
-    g.law_claims.ensures g.law_platform.ensures g.law_own.ensures g.law_off.ensures
-    g.law_last_core.ensures g.law_parts.ensures.claim in
-    are_first b life known
-
-pub returns-clause-function : goal.returns-clause-function
-returns-clause-function g = λ b v c r board on are runs.
-    let known = known_from b board g.law_paths.ensures g.law_words.ensures g.law_below.ensures
-    g.law_claims.ensures g.law_platform.ensures g.law_own.ensures g.law_off.ensures
-    g.law_last_core.ensures g.law_parts.ensures.claim in
-    let asks : Worded b = g.law_power_states.ensures.shape b.format (height b) in
-    let all = deepest_is (height b) board.high g.law_power_states.ensures.test in
-    kept_function b v c r known on are runs asks all
-
-pub returns-clause-enter : goal.returns-clause-enter
-returns-clause-enter g = λ b v c s board are e.
-    let known = known_from b board g.law_paths.ensures g.law_words.ensures g.law_below.ensures
-    g.law_claims.ensures g.law_platform.ensures g.law_own.ensures g.law_off.ensures
-    g.law_last_core.ensures g.law_parts.ensures.claim in
-    kept_enter b v c s known are e
-
-pub returns-clause-take : goal.returns-clause-take
-returns-clause-take g = kept_acknowledged
-
-pub returns-clause-answer : goal.returns-clause-answer
-returns-clause-answer g = λ b v c call board are.
-    let known = known_from b board g.law_paths.ensures g.law_words.ensures g.law_below.ensures
-    g.law_claims.ensures g.law_platform.ensures g.law_own.ensures g.law_off.ensures
-    g.law_last_core.ensures g.law_parts.ensures.claim in
-    let asks : Worded b = g.law_power_states.ensures.shape b.format (height b) in
-    let all = deepest_is (height b) board.high g.law_power_states.ensures.test in
-    kept_answer b v c call known are asks all
-
-pub returns-clause-legal : goal.returns-clause-legal
-returns-clause-legal g = λ b h board legal.
-    let known = known_from b board g.law_paths.ensures g.law_words.ensures g.law_below.ensures
-    g.law_claims.ensures g.law_platform.ensures g.law_own.ensures g.law_off.ensures
-    g.law_last_core.ensures g.law_parts.ensures.claim in
-    let asks : Worded b = g.law_power_states.ensures.shape b.format (height b) in
-    let all = deepest_is (height b) board.high g.law_power_states.ensures.test in
-    kept_legal b h known asks all (g.law_values.ensures.first b) (g.law_values.ensures.more b) legal
+pub returns : goal.returns
+returns g =
+    let known = λ (b : BoardValue) (board : IsBoard b). known_from b board g.law_paths.ensures
+    g.law_words.ensures g.law_below.ensures g.law_claims.ensures g.law_platform.ensures
+    g.law_own.ensures g.law_off.ensures g.law_last_core.ensures g.law_parts.ensures.claim in
+    let asks : (b : BoardValue) → Worded b =
+    λ b. g.law_power_states.ensures.shape b.format (height b) in
+    let all = λ (b : BoardValue) (board : IsBoard b).
+    deepest_is (height b) board.high g.law_power_states.ensures.test in
+    record {
+      first = λ b life board. are_first b life (known b board);
+      function = λ b v c r board on are runs.
+          kept_function b v c r (known b board) on are runs (asks b) (all b board);
+      enter = λ b v c s board are e. kept_enter b v c s (known b board) are e;
+      take = kept_acknowledged;
+      answer = λ b v c call board are.
+          kept_answer b v c call (known b board) are (asks b) (all b board);
+      legal = λ b h board legal. kept_legal b h (known b board) (asks b) (all b board)
+          (g.law_values.ensures.first b) (g.law_values.ensures.more b) legal;
+    }

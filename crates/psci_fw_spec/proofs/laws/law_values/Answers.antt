@@ -2,8 +2,5 @@
 use Rattle.psci_fw_spec.proofs.OneMore.{values_more, values_none}
 use Rattle.psci_fw_spec.proofs.laws.law_values.Goals as goal
 
-pub returns-clause-first : goal.returns-clause-first
-returns-clause-first c = values_none
-
-pub returns-clause-more : goal.returns-clause-more
-returns-clause-more c = values_more c.law_slots.ensures.more
+pub returns : goal.returns
+returns c = record { first = values_none; more = values_more c.law_slots.ensures.more }

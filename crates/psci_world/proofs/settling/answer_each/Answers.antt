@@ -1,9 +1,9 @@
 -- Core by core, and as far as it went.
-use Rattle.std.proofs.Common.{◌∙◌, ◌<◌, ap, refl, arith}
+use Rattle.std.proofs.Common.{◌∙◌, ◌<◌, ap, refl}
 use Rattle.psci_machine.specs.psci_board.Board.{cores}
 use Rattle.psci_headline.specs.Settling.{served, serving}
 use Rattle.psci_world.specs.Settles.{serves_kind}
-use Rattle.psci_world.proofs.Settles.{each_first, each_next, settles_both, settles_none}
+use Rattle.psci_world.proofs.Settles.{each_first, each_next, is_core, settles_both, settles_none}
 use Rattle.psci_world.proofs.OnTheWay.{on_err, stops_each, way_answered, way_to}
 use Rattle.psci_world.proofs.settling.answer_each.Goals as goal
 
@@ -21,12 +21,7 @@ loop-number-preserved c =
     let old = c.args.world.now in
     let at = c.loop-number in
     let less : at.number < cores old.board =
-    omega (
-      arith,
-      c.loop-number-test.true,
-      c.cores-number-end.ensures.cores,
-      ap cores c.board.ensures,
-    ) in
+    is_core _ _ _ _ c.loop-number-test.true c.cores-number-end.ensures.cores c.board.ensures in
     record {
       board = c.answer.ensures.board ∙ at.invariant.board;
       events = settles_both old.board at.world.board old.past at.world.past
@@ -51,12 +46,7 @@ returns-in_err-answer-clause-front c =
     let old = c.args.world.now in
     let at = c.loop-number in
     let less : at.number < cores old.board =
-    omega (
-      arith,
-      c.loop-number-test.true,
-      c.cores-number-end.ensures.cores,
-      ap cores c.board.ensures,
-    ) in
+    is_core _ _ _ _ c.loop-number-test.true c.cores-number-end.ensures.cores c.board.ensures in
     on_err c.from_residual.result _
     (stops_each (λ b. served b (serves_kind c.args.which)) old.board at.world.board at.number
     (cores old.board) at.world.past c.answer.new.world.past _

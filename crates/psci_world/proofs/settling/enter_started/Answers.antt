@@ -1,8 +1,8 @@
 -- Core by core, and as far as it went.
-use Rattle.std.proofs.Common.{◌∙◌, ◌<◌, ap, refl, arith}
+use Rattle.std.proofs.Common.{◌∙◌, ◌<◌, refl}
 use Rattle.psci_machine.specs.psci_board.Board.{cores}
 use Rattle.psci_headline.specs.Settling.{entering}
-use Rattle.psci_world.proofs.Settles.{each_first, each_next, settles_both, settles_none}
+use Rattle.psci_world.proofs.Settles.{each_first, each_next, is_core, settles_both, settles_none}
 use Rattle.psci_world.proofs.OnTheWay.{on_err, stops_each, way_entering}
 use Rattle.psci_world.proofs.settling.enter_started.Goals as goal
 
@@ -19,12 +19,7 @@ loop-number-preserved c =
     let old = c.args.world.now in
     let at = c.loop-number in
     let less : at.number < cores old.board =
-    omega (
-      arith,
-      c.loop-number-test.true,
-      c.cores-number-end.ensures.cores,
-      ap cores c.board.ensures,
-    ) in
+    is_core _ _ _ _ c.loop-number-test.true c.cores-number-end.ensures.cores c.board.ensures in
     record {
       board = c.enter_if_started.ensures.board ∙ at.invariant.board;
       events = settles_both old.board at.world.board old.past at.world.past
@@ -51,12 +46,7 @@ returns-in_err-enter_if_started-clause-front c =
     let old = c.args.world.now in
     let at = c.loop-number in
     let less : at.number < cores old.board =
-    omega (
-      arith,
-      c.loop-number-test.true,
-      c.cores-number-end.ensures.cores,
-      ap cores c.board.ensures,
-    ) in
+    is_core _ _ _ _ c.loop-number-test.true c.cores-number-end.ensures.cores c.board.ensures in
     on_err c.from_residual.result _
     (stops_each entering old.board at.world.board at.number (cores old.board) at.world.past
     c.enter_if_started.new.world.past _ (way_entering old.board) less at.invariant.board

@@ -8,7 +8,7 @@ use Rattle.psci_ctl.specs.Rows.{HasRows, deepened, depth_in, domain_at, values_i
 use Rattle.psci_ctl.specs.Seen.{ControllerValue}
 use Rattle.psci_ctl.proofs.Kept.{IsDeepened, deepened_kept, is_deepened, whole}
 use Rattle.psci_ctl.proofs.Looked.{set_row, shape_set}
-use Rattle.psci_ctl.proofs.Started.{same_values}
+use Rattle.psci_ctl_spec.proofs.OneMore.{same_values}
 use Rattle.psci_ctl.proofs.controller.Controller.deepen.Goals as goal
 
 -- what was written

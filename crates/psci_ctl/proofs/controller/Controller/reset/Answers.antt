@@ -4,26 +4,14 @@ use Rattle.psci_ctl_spec.specs.Effects.{effect_of}
 use Rattle.psci_ctl_spec.specs.Changes.{after}
 use Rattle.psci_ctl.proofs.controller.Controller.reset.Goals as goal
 
-pub returns-in_default-clause-reply : goal.returns-in_default-clause-reply
-unfolding reply reset_of
-returns-in_default-clause-reply c = search rules
+pub returns-in_default : goal.returns-in_default
+unfolding after effect_of reply reset_of
+returns-in_default c = search rules
 
-pub returns-in_default-clause-after : goal.returns-in_default-clause-after
-unfolding after effect_of
-returns-in_default-clause-after c = search rules
+pub returns-then-not-may_start : goal.returns-then-not-may_start
+unfolding after effect_of reply reset_of
+returns-then-not-may_start c = search rules
 
-pub returns-then-not-may_start-clause-reply : goal.returns-then-not-may_start-clause-reply
-unfolding reply reset_of
-returns-then-not-may_start-clause-reply c = search rules
-
-pub returns-then-not-may_start-clause-after : goal.returns-then-not-may_start-clause-after
-unfolding after effect_of
-returns-then-not-may_start-clause-after c = search rules
-
-pub returns-clause-reply : goal.returns-clause-reply
-unfolding reply reset_of
-returns-clause-reply c = search rules
-
-pub returns-clause-after : goal.returns-clause-after
-unfolding after effect_of
-returns-clause-after c = search rules
+pub returns : goal.returns
+unfolding after effect_of reply reset_of
+returns c = search rules
