@@ -59,43 +59,7 @@ sums_moved cs j b s k before after h is own was new = record {
 -- with what the cores ask, they are the recount
 pub recount_with : (cs : List CoreState) (k : Kept) (ls : List ℕ) → AreMoved k cs
     → ls ≡ (recount cs).lows → record k { lows = ls } ≡ recount cs
-recount_with cs k ls m e =
-    let r : Kept = recount cs in
-    ap (λ x. record {
-      lows = x;
-      known = k.known;
-      cores = k.cores;
-      active = k.active;
-      off = k.off;
-    }) e
-    ∙ ap (λ x. record {
-      lows = r.lows;
-      known = x;
-      cores = k.cores;
-      active = k.active;
-      off = k.off;
-    }) m.known
-    ∙ ap (λ x. record {
-      lows = r.lows;
-      known = r.known;
-      cores = x;
-      active = k.active;
-      off = k.off;
-    }) m.cores
-    ∙ ap (λ x. record {
-      lows = r.lows;
-      known = r.known;
-      cores = r.cores;
-      active = x;
-      off = k.off;
-    }) m.active
-    ∙ ap (λ x. record {
-      lows = r.lows;
-      known = r.known;
-      cores = r.cores;
-      active = r.active;
-      off = x;
-    }) m.off
+recount_with cs k ls m e = rw (e, m.known, m.cores, m.active, m.off) refl
 
 told_cases : (a b : Bool) (xs ys ls : List ℕ)
     → Some ls ≡ cond a (Some xs) (cond b (Some ys) None)

@@ -18,6 +18,7 @@ pub mod PathStands
 pub mod Places
 pub mod Recounted
 pub mod Rows
+pub mod Seen
 pub mod Shapes
 pub mod Slices
 pub mod Sums
