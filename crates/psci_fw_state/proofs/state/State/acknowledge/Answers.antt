@@ -1,4 +1,4 @@
-use Rattle.std.proofs.Common.{◌≡◌, ◌<◌, true, false, length, sym, subst, arith, ◌∙◌, map}
+use Rattle.std.proofs.Common.{◌≡◌, ◌<◌, true, false, length, sym, subst, arith, ◌∙◌}
 use Rattle.psci_messages.specs.declared.taken.Taken.TheVariants.{Used}
 use Rattle.std.specs.Borrow.{Bor}
 use Rattle.std.specs.Prelude.{Option, Some, option_map}
@@ -13,20 +13,12 @@ use Rattle.psci_fw_state.proofs.Acked.{answered_used, down_has_slot, off_changed
 use Rattle.psci_fw_state.proofs.Acked.{IsAcked, acked_by, sent_parts, used_changed}
 use Rattle.psci_fw_state.proofs.Changed.{row_set}
 use Rattle.psci_fw_state.proofs.Moved.{rows_set}
+use Rattle.psci_fw_state.specs.contracts.state.State.{the_view}
 use Rattle.psci_fw_state.proofs.state.State.acknowledge.Goals as goal
 
 pub returns-then-is_off-clause-used : goal.returns-then-is_off-clause-used
 returns-then-is_off-clause-used c = λ used.
-    let s : StateValue = record {
-      board = c.self.inside.board;
-      life = c.self.inside.life;
-      halting = c.self.inside.halting;
-      mode = c.self.inside.mode;
-      tree = c.self.inside.tree.value;
-      rows = c.self.inside.rows.items;
-      counts = map (λ v. v.items) c.self.inside.counts.items;
-      slots = c.self.inside.slots;
-    } in
+    let s : StateValue = the_view c.self.inside in
     let a : AckValue = record {
       kind = c.ack.inside.kind;
       core = c.ack.inside.core;
@@ -69,16 +61,7 @@ returns-then-is_off-clause-used c = λ used.
 
 pub returns-else-is_off-clause-used : goal.returns-else-is_off-clause-used
 returns-else-is_off-clause-used c = λ used.
-    let s : StateValue = record {
-      board = c.self.inside.board;
-      life = c.self.inside.life;
-      halting = c.self.inside.halting;
-      mode = c.self.inside.mode;
-      tree = c.self.inside.tree.value;
-      rows = c.self.inside.rows.items;
-      counts = map (λ v. v.items) c.self.inside.counts.items;
-      slots = c.self.inside.slots;
-    } in
+    let s : StateValue = the_view c.self.inside in
     let a : AckValue = record {
       kind = c.ack.inside.kind;
       core = c.ack.inside.core;
