@@ -16,6 +16,7 @@ pub mod Looked
 pub mod OffOnes
 pub mod PathStands
 pub mod Places
+pub mod Ranges
 pub mod Recounted
 pub mod Rows
 pub mod Seen
