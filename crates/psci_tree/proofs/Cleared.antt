@@ -71,7 +71,7 @@ none_past [] l p h = refl
 none_past (g ∷ gs) zero p h = absurd (omega arith)
 none_past (g ∷ gs) (suc l) p h = none_past gs l p (omega arith)
 
-rows_long : (levels rows : List (List ℕ)) → map length rows ≡ level_sizes levels
+pub rows_long : (levels rows : List (List ℕ)) → map length rows ≡ level_sizes levels
     → length rows ≡ suc (length levels)
 rows_long levels rows v =
     sym (length-map rows length) ∙ ap length v ∙ length_level_sizes levels
