@@ -15,7 +15,6 @@ pub mod KeptRows
 pub mod Looked
 pub mod OffOnes
 pub mod PathStands
-pub mod Places
 pub mod Ranges
 pub mod Recounted
 pub mod Rows

@@ -1,10 +1,11 @@
 -- Domains that were turned off one after the other, beside what they were.
-use Rattle.std.proofs.Common.{◌≡◌, ℕ, zero, suc, ◌+◌, ◌<◌, ◌≤◌, List, [], ◌∷◌, ◌++◌, length, get_or}
+use Rattle.std.proofs.Common.{◌≡◌, ℕ, zero, suc, ◌<◌, ◌≤◌, List, [], ◌∷◌, ◌++◌, length, get_or}
 use Rattle.std.proofs.Common.{replicate, cond, min, arith, refl, ap, sym, ◌∙◌, length-append, subst}
 use Rattle.std.proofs.Math.ListN.{set}
 use Rattle.std.specs.List.{flat_map, sum_by, count_by}
 use Rattle.std.proofs.lemmas.List.{length-replicate}
 use Rattle.std.proofs.lemmas.List.Folds.{sum_by-replicate}
+use Rattle.std.proofs.lemmas.List.{replicate-append-replicate}
 use Rattle.psci_tree.specs.Recount.{never_started, is_active, is_away}
 use Rattle.psci_tree.specs.Domains.{leaves, cores_in, branches, child_counts}
 use Rattle.psci_tree.specs.Kept.{AreKept, IsKept, Keeps, low_in, recount}
@@ -60,12 +61,6 @@ off_more (suc i) (n ∷ ns) [] m d h a o = absurd a
 off_more (suc i) (n ∷ ns) (x ∷ ms) m d h a o =
     (a.0, off_more i ns ms m d (omega arith) a.1 o)
 
-replicated : (a b : ℕ)
-    → replicate a never_started ++ replicate b never_started ≡ replicate (a + b) never_started
-replicated zero b = let e : 0 + b ≡ b = omega arith in rw e refl
-replicated (suc a) b = let e : suc a + b ≡ suc (a + b) = omega arith in
-    rw e (ap (λ xs. never_started ∷ xs) (replicated a b))
-
 pub off_cores : (i : ℕ) (ns ms : List Domain) → length ns ≤ i → AreOffTo i ns ms
     → cores_in ms ≡ replicate (length (cores_in ns)) never_started
 off_cores zero [] ms h a = ap cores_in a
@@ -77,7 +72,7 @@ off_cores (suc i) (n ∷ ns) (m ∷ ms) h a =
     ap (λ xs. xs ++ cores_in ms) a.0.cores
     ∙ ap (λ xs. replicate (length (leaves n)) never_started ++ xs)
     (off_cores i ns ms (omega arith) a.1)
-    ∙ replicated (length (leaves n)) (length (cores_in ns))
+    ∙ replicate-append-replicate (length (leaves n)) (length (cores_in ns)) never_started
     ∙ ap (λ k. replicate k never_started) (sym (length-append (leaves n) (cores_in ns)))
 
 pub off_shape : (i : ℕ) (ns ms : List Domain) (k : ℕ) → length ns ≤ i → AreOffTo i ns ms

@@ -9,10 +9,11 @@ use Rattle.psci_tree.specs.Domains.{branches, child_count, cores_in}
 use Rattle.psci_tree.specs.Kept.{AreKept, Keeps}
 use Rattle.psci_tree.specs.declared.domain.Domain.{Domain}
 use Rattle.psci_tree.proofs.Below.{length_parts}
-use Rattle.psci_tree.proofs.Built.{tree_at, children_push, counts_push, some_children, none_left}
+use Rattle.psci_tree.proofs.Built.{children_push, counts_push, none_left}
 use Rattle.psci_tree.proofs.Keeping.{kept_take, kept_drop, kept_push, kept_roll}
-use Rattle.psci_tree.proofs.Slices.{widths_at}
 use Rattle.psci_tree.proofs.build.parents_of.Goals as goal
+use Rattle.psci_board.proofs.Groups.{width}
+use Rattle.psci_board.proofs.Levels.{level}
 use Rattle.psci_tree.proofs.build.parents_of.Goals.{In-loop-place, After-children-count}
 
 -- the place that the loop is at, and how many children it takes
@@ -25,7 +26,7 @@ fits c =
       c.loop-place-test.true,
       c.nodes-place-end.ensures.there (omega (arith, c.requires.row.level)),
       ap (λ l. size_below (drop l c.args.board.now.levels)) up,
-      tree_at c.args.board.now.levels c.args.below c.requires.board.tree c.requires.row.level,
+      (level c.args.board.now.levels c.args.below c.requires.board.tree c.requires.row.level).above,
     )
 
 count : (c : After-children-count) → c.children-count.result
@@ -87,8 +88,8 @@ loop-place-preserved c =
       ap length taken,
       length-take-le n rest enough,
       taking,
-      some_children own place
-          (widths_at levels c.args.below c.requires.board.tree c.requires.row.level) inside,
+      (width own place
+          (level levels c.args.below c.requires.board.tree c.requires.row.level).width inside).some,
     ) in
     record {
       whole =
@@ -149,7 +150,7 @@ at_end c =
       c.loop-place-test.false,
       c.nodes-place-end.ensures.there (omega (arith, c.requires.row.level)),
       ap (λ l. size_below (drop l levels)) up,
-      tree_at levels c.args.below c.requires.board.tree c.requires.row.level,
+      (level levels c.args.below c.requires.board.tree c.requires.row.level).above,
     )
 
 pub returns-clause-children : goal.returns-clause-children
