@@ -1,7 +1,6 @@
 -- An acknowledgement is taken: what the values in the state are then.
-use Rattle.std.proofs.Common.{◌≡◌, ℕ, ◌<◌, slice_get, Bool, true, false, cond, List, length}
-use Rattle.std.proofs.Common.{None, Some, Option, refl, sym, ◌∙◌, ap, inl, inr}
-use Rattle.std.proofs.Common.{slice_index_or}
+use Rattle.std.proofs.Common.{◌≡◌, ℕ, ◌<◌, slice_get, Bool, true, false, cond, List, length, None}
+use Rattle.std.proofs.Common.{Some, Option, refl, sym, ◌∙◌, ap, inl, inr, slice_index_or}
 use Rattle.std.proofs.lemmas.Bool.{and_parts, cases_lt}
 use Rattle.std.proofs.lemmas.List.{get_or_past}
 use Rattle.psci_messages.specs.declared.kind.Kind.{Kind}

@@ -1,8 +1,6 @@
 -- What the counts of the whole system say of all cores together.
-use Rattle.std.proofs.Common.{◌≡◌, ℕ, ◌+◌, ◌<◌, ◌≤◌, ◌==◌, Bool, true}
-use Rattle.std.proofs.Common.{cond, not, ltb, List, length, drop, refl, ap, sym, ◌∙◌}
-use Rattle.std.proofs.Common.{arith}
-use Rattle.std.proofs.Common.{◌^◌}
+use Rattle.std.proofs.Common.{◌≡◌, ℕ, ◌+◌, ◌<◌, ◌≤◌, ◌==◌, Bool, true, cond, not, ltb, List, length}
+use Rattle.std.proofs.Common.{drop, refl, ap, sym, ◌∙◌, arith, ◌^◌}
 use Rattle.std.specs.List.{sum_by, count_by, list_any, range_with_len}
 use Rattle.std.proofs.lemmas.Bool.{lt-ltb}
 use Rattle.std.proofs.lemmas.List.{drop_all, get_or_past}
@@ -14,12 +12,12 @@ use Rattle.psci_fw_spec.specs.SystemCalls.{all_others, is_off_status}
 use Rattle.psci_state.specs.declared.cores.Activity.{Activity}
 use Rattle.psci_state.specs.declared.cores.Activity.TheVariants as activities
 use Rattle.psci_state.specs.declared.cores.CoreState.{CoreState}
-use Rattle.psci_tree.specs.Recount.{is_active, is_away as is_gone}
+use Rattle.psci_tree.specs.Recount.{is_active, is_away as is_gone, active, is_active_at, is_away_at}
+use Rattle.psci_tree.specs.Recount.{never_started, off, state_at}
 use Rattle.psci_board.specs.declared.node.Node.{Node}
 use Rattle.psci_board.specs.Board.{HasNodeIn, below_in, cores, height, size_below}
 use Rattle.psci_board.specs.declared.span.CoreSpan.{CoreSpan}
 use Rattle.psci_board.specs.Laws.{SpanLaws}
-use Rattle.psci_tree.specs.Recount.{active, is_active_at, is_away_at, never_started, off, state_at}
 use Rattle.psci_fw_state.specs.declared.counts.StatusCounts.{StatusCounts}
 use Rattle.psci_fw_state.specs.declared.row.CoreRow.{CoreRow}
 use Rattle.psci_fw_state.specs.Counts.{counts_below, one_core}
@@ -28,9 +26,8 @@ use Rattle.psci_fw_state.specs.Seen.{IsState, StateValue, phase_by}
 use Rattle.psci_tree.proofs.Ranges.{counted_both, ones, sums}
 use Rattle.psci_tree.proofs.Slices.{size_few}
 use Rattle.psci_fw_state.proofs.NodeStatus.{some_counted}
-use Rattle.psci_fw_state.proofs.CoreCounts.{others, at_most, equal, same_sums}
-use Rattle.psci_fw_state.proofs.CoreCounts.{same_less, started, away_is, settled_one}
-use Rattle.psci_fw_state.proofs.CoreCounts.{waiting_one}
+use Rattle.psci_fw_state.proofs.CoreCounts.{others, at_most, equal, same_sums, same_less, started}
+use Rattle.psci_fw_state.proofs.CoreCounts.{away_is, settled_one, waiting_one}
 
 -- The whole system -------------------------------------------------------------------------------
 

@@ -1,6 +1,6 @@
 -- A core is suspended, or asked on: what the values in the state are then.
-use Rattle.std.proofs.Common.{◌≡◌, ℕ, ◌<◌, ◌==◌, Bool, false, cond, List, length}
-use Rattle.std.proofs.Common.{None, Some, Option, Vec, refl, sym, ◌∙◌, ap, arith}
+use Rattle.std.proofs.Common.{◌≡◌, ℕ, ◌<◌, ◌==◌, Bool, false, cond, List, length, None, Some}
+use Rattle.std.proofs.Common.{Option, Vec, refl, sym, ◌∙◌, ap, arith}
 use Rattle.std.proofs.Math.ListN.{set}
 use Rattle.std.proofs.lemmas.List.{length-set, with_items_is}
 use Rattle.std.specs.Option.{option_or}
@@ -12,8 +12,7 @@ use Rattle.psci_messages.specs.Slots.Change.{Put}
 use Rattle.psci_state.specs.Ask.{is_deep}
 use Rattle.psci_state.specs.declared.cores.Activity.TheVariants as activities
 use Rattle.psci_state.specs.declared.cores.CoreState.{CoreState}
-use Rattle.psci_tree.specs.Recount.{TreeValue, state_at, granted_at, known_at}
-use Rattle.psci_tree.specs.Recount.{is_confirmed_at}
+use Rattle.psci_tree.specs.Recount.{TreeValue, state_at, granted_at, known_at, is_confirmed_at}
 use Rattle.psci_fw_spec.specs.declared.opening.Opening.{Opening}
 use Rattle.psci_fw_spec.specs.declared.status.Status.TheVariants as statuses
 use Rattle.psci_fw_spec.specs.Changes.{with_pending, with_rest}
@@ -27,11 +26,9 @@ use Rattle.psci_fw_state.specs.declared.row.CoreRow.{CoreRow}
 use Rattle.psci_fw_state.specs.declared.counts.StatusCounts.{StatusCounts}
 use Rattle.psci_fw_state.specs.Counts.{AreCounts}
 use Rattle.psci_fw_state.specs.Rows.{row_at, status_at}
-use Rattle.psci_fw_state.specs.Seen.{IsState, StateValue, phase_by}
-use Rattle.psci_fw_state.specs.Seen.{values_in}
-use Rattle.psci_fw_state.proofs.Changed.{Set, ap_set, both_set, core_set, row_set}
-use Rattle.psci_fw_state.proofs.Changed.{stays, suspended_is}
-use Rattle.psci_fw_state.proofs.Changed.{updated_is}
+use Rattle.psci_fw_state.specs.Seen.{IsState, StateValue, phase_by, values_in}
+use Rattle.psci_fw_state.proofs.Changed.{Set, ap_set, both_set, core_set, row_set, stays}
+use Rattle.psci_fw_state.proofs.Changed.{suspended_is, updated_is}
 use Rattle.psci_fw_state.proofs.Equal.{same_values}
 use Rattle.psci_fw_state.proofs.KeptCounts.{same_counts}
 

@@ -1,14 +1,13 @@
 -- How many cores below a domain pass a test, and whether none or all do.
-use Rattle.std.proofs.Common.{◌≡◌, ℕ, ◌+◌, Bool, true, false, cond, ◌==◌, List, []}
-use Rattle.std.proofs.Common.{◌∷◌, length, refl, ap, sym, ◌∙◌, arith, inl, inr, true≢false, Some}
+use Rattle.std.proofs.Common.{◌≡◌, ℕ, ◌+◌, Bool, true, false, cond, ◌==◌, List, [], ◌∷◌, length}
+use Rattle.std.proofs.Common.{refl, ap, sym, ◌∙◌, arith, inl, inr, true≢false, Some}
 use Rattle.std.specs.Prelude.{not}
 use Rattle.std.specs.List.{count_by, list_all}
 use Rattle.std.proofs.lemmas.Bool.{cases_Bool, eq-eqb, eqb-true, false_from_ne_true, lt-ltb, le-leb}
 use Rattle.std.proofs.lemmas.List.Sums.{sum_by-cons, count_by-le-length}
 use Rattle.psci_board.specs.declared.node.Node.{Node}
 use Rattle.psci_board.specs.declared.span.CoreSpan.{CoreSpan}
-use Rattle.psci_board.specs.Board.{BoardValue, HasNode, up, below, span, cores_below, height}
-use Rattle.psci_board.specs.Board.{nodes}
+use Rattle.psci_board.specs.Board.{BoardValue, HasNode, up, below, span, cores_below, height, nodes}
 use Rattle.psci_tree.specs.Recount.{TreeValue, active, off}
 use Rattle.psci_messages.specs.View.{is_idle, is_all_away}
 use Rattle.psci_messages.specs.Looked.{view_of}

@@ -1,15 +1,14 @@
 -- Domains put together level by level, from the cores up.
-use Rattle.std.proofs.Common.{◌≡◌, ℕ, suc, ◌≤◌, List, [], ◌∷◌, ◌++◌, length, take, drop}
-use Rattle.std.proofs.Common.{map}
-use Rattle.std.proofs.Common.{sum, replicate, ◌+◌, refl, ap, sym, ◌∙◌, arith, append-nil}
+use Rattle.std.proofs.Common.{◌≡◌, ℕ, suc, ◌≤◌, List, [], ◌∷◌, ◌++◌, length, take, drop, map, sum}
+use Rattle.std.proofs.Common.{replicate, ◌+◌, refl, ap, sym, ◌∙◌, arith, append-nil}
 use Rattle.std.specs.List.{flat_map}
 use Rattle.std.proofs.lemmas.List.{length_push, map-append, replicate_more, take_all, drop_all}
 use Rattle.std.proofs.lemmas.List.Concat.{flat_map-append, flat_map_single}
 use Rattle.std.proofs.lemmas.List.Sums.{sum_by_push}
 use Rattle.psci_board.specs.Board.{size_below}
 use Rattle.psci_state.specs.declared.cores.CoreState.{CoreState}
-use Rattle.psci_tree.specs.Domains.{leaves, cores_in, branches, child_count, child_counts}
-use Rattle.psci_tree.specs.Domains.{HasShape, IsWhole}
+use Rattle.psci_tree.specs.Domains.{leaves, cores_in, branches, child_count, child_counts, HasShape}
+use Rattle.psci_tree.specs.Domains.{IsWhole}
 use Rattle.psci_tree.specs.declared.domain.Domain.{Domain}
 use Rattle.psci_tree.specs.declared.domain.Domain.TheOpen.{Domain-F}
 use Rattle.psci_tree.specs.declared.domain.Domain.TheViews.{roll-Domain}

@@ -7,8 +7,7 @@ use Rattle.std.proofs.lemmas.List.{length-map, take_all, drop_all}
 use Rattle.psci_board.specs.Board.{HasNodeIn, IsTree, group_of, size_below, place_above}
 use Rattle.psci_tree.specs.declared.way.Way.{Way}
 use Rattle.psci_tree.specs.Changes.{path_cleared, with_path_cleared}
-use Rattle.psci_tree.specs.Recount.{TreeValue, IsDomainTree, confirmed_at, granted_at}
-use Rattle.psci_tree.specs.Recount.{level_sizes}
+use Rattle.psci_tree.specs.Recount.{TreeValue, IsDomainTree, confirmed_at, granted_at, level_sizes}
 use Rattle.psci_tree.specs.Way.{IsWayOf, cleared_from}
 use Rattle.psci_tree.proofs.Granted.{zero_more, parent_is, above_top, length_level_sizes}
 use Rattle.psci_board.proofs.Paths.{inside, place_above-suc}

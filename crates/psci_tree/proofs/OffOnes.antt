@@ -3,9 +3,8 @@ use Rattle.std.proofs.Common.{◌≡◌, ℕ, zero, suc, ◌<◌, ◌≤◌, Lis
 use Rattle.std.proofs.Common.{replicate, cond, min, arith, refl, ap, sym, ◌∙◌, length-append, subst}
 use Rattle.std.proofs.Math.ListN.{set}
 use Rattle.std.specs.List.{flat_map, sum_by, count_by}
-use Rattle.std.proofs.lemmas.List.{length-replicate}
+use Rattle.std.proofs.lemmas.List.{length-replicate, replicate-append-replicate}
 use Rattle.std.proofs.lemmas.List.Folds.{sum_by-replicate}
-use Rattle.std.proofs.lemmas.List.{replicate-append-replicate}
 use Rattle.psci_tree.specs.Recount.{never_started, is_active, is_away}
 use Rattle.psci_tree.specs.Domains.{leaves, cores_in, branches, child_counts}
 use Rattle.psci_tree.specs.Kept.{AreKept, IsKept, Keeps, low_in, recount}

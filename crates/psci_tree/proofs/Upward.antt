@@ -1,8 +1,7 @@
 -- A domain as a child of the one above it.
 use Rattle.std.proofs.Common.{◌≡◌, ℕ, zero, suc, ◌+◌, ◌-◌, ◌<◌, List, [], ◌∷◌, length, take, drop}
 use Rattle.std.proofs.Common.{get_or, map, sum, ap, sym, refl, subst, ◌∙◌, arith, add-one}
-use Rattle.std.proofs.Common.{drop-cons}
-use Rattle.std.proofs.Common.{Bool, true, false, cond, ◌&&◌, ltb}
+use Rattle.std.proofs.Common.{drop-cons, Bool, true, false, cond, ◌&&◌, ltb}
 use Rattle.std.specs.Prelude.{Some, None, unwrap_or}
 use Rattle.std.specs.List.{flat_map}
 use Rattle.std.proofs.lemmas.Bool.{ltb-true, lt-ltb}

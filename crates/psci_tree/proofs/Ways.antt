@@ -12,16 +12,14 @@ use Rattle.psci_board.specs.Board.{first_core}
 use Rattle.psci_tree.specs.Domains.{leaves, cores_in, branches, child_count, child_counts, IsWay}
 use Rattle.psci_tree.specs.Domains.{index_by, domains_down, IsWayTo, IsWhole}
 use Rattle.psci_tree.specs.declared.domain.Domain.{Domain}
-use Rattle.psci_tree.proofs.Below.{cores_of_core, length_of_domain, length_drop}
-use Rattle.psci_tree.proofs.Below.{length_parts}
-use Rattle.psci_board.proofs.Paths.{place_above-suc}
-use Rattle.psci_board.proofs.Paths.{inside as place_inside_level}
+use Rattle.psci_tree.proofs.Below.{cores_of_core, length_of_domain, length_drop, length_parts}
+use Rattle.psci_board.proofs.Paths.{place_above-suc, inside as place_inside_level}
 use Rattle.psci_board.proofs.Levels.{level}
 use Rattle.psci_board.proofs.FirstCores.{first_zero}
 use Rattle.std.proofs.Math.Seq.{take-append-add}
 use Rattle.psci_board.proofs.Groups.{Counted, counted, sum-cons}
-use Rattle.psci_tree.proofs.Slices.{first_len, fans_at, wide_at, size_at, widths_are}
-use Rattle.psci_tree.proofs.Slices.{down_step, cores_down}
+use Rattle.psci_tree.proofs.Slices.{first_len, fans_at, wide_at, size_at, widths_are, down_step}
+use Rattle.psci_tree.proofs.Slices.{cores_down}
 
 -- One step -----------------------------------------------------------------------------------
 

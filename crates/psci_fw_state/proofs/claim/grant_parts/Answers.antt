@@ -1,15 +1,12 @@
-use Rattle.std.proofs.Common.{◌≤◌, arith, ◌∙◌, ap, length, get_or}
+use Rattle.std.proofs.Common.{◌≤◌, arith, ◌∙◌, ap, length, get_or, ◌≡◌, Some, slice_get}
 use Rattle.std.proofs.lemmas.Option.{slice_get-get_or}
-use Rattle.psci_board.specs.Board.{height}
+use Rattle.psci_board.specs.Board.{height, HasNodeIn, up}
 use Rattle.psci_messages.specs.declared.part.Part.{Part}
 use Rattle.psci_tree.specs.Recount.{granted_at, is_confirmed_at}
 use Rattle.psci_fw_state.proofs.Granting.{laid_all, laid_more, may_grant, node_at, on_path}
-use Rattle.psci_fw_state.proofs.Granting.{on_board}
-use Rattle.psci_fw_state.proofs.Granting.{unconfirmed_all, unconfirmed_more}
+use Rattle.psci_fw_state.proofs.Granting.{on_board, unconfirmed_all, unconfirmed_more}
 use Rattle.psci_fw_state.proofs.claim.grant_parts.Goals as goal
 use Rattle.psci_fw_state.proofs.claim.grant_parts.Goals.{In-loop-level}
-use Rattle.std.proofs.Common.{◌≡◌, Some, slice_get}
-use Rattle.psci_board.specs.Board.{HasNodeIn, up}
 use Rattle.psci_board.specs.declared.node.Node.{Node}
 
 -- the level that the loop is at, the domain of it on the core's path, and the part that claims it

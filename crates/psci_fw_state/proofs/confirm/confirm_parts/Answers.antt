@@ -2,7 +2,7 @@ use Rattle.std.proofs.Common.{◌≡◌, ◌≤◌, ◌<◌, ◌+◌, ◌==◌, 
 use Rattle.std.proofs.Common.{◌∙◌, Some, Bool, subst, length, get_or, min}
 use Rattle.std.proofs.Math.Nat.{min-le_left, min-le_right}
 use Rattle.std.proofs.lemmas.Option.{slice_get-get_or}
-use Rattle.psci_board.specs.Board.{HasNodeIn, height}
+use Rattle.psci_board.specs.Board.{HasNodeIn, height, up}
 use Rattle.psci_board.specs.declared.node.Node.{Node}
 use Rattle.psci_messages.specs.declared.part.Part.{Part}
 use Rattle.psci_tree.specs.Standing.{on_path as path_node}
@@ -12,7 +12,6 @@ use Rattle.psci_fw_state.proofs.Confirming.{confirmed_all, confirmed_more, known
 use Rattle.psci_fw_state.proofs.Granting.{node_at, on_board, on_path}
 use Rattle.psci_fw_state.proofs.confirm.confirm_parts.Goals as goal
 use Rattle.psci_fw_state.proofs.confirm.confirm_parts.Goals.{In-loop-level}
-use Rattle.psci_board.specs.Board.{up}
 
 -- the domain on the core's path of the level that the loop is at
 abbrev here : In-loop-level → Node

@@ -1,5 +1,4 @@
-use Rattle.std.proofs.Common.{◌≡◌, ℕ, List, arith, ap, map, refl, length, get_or, ◌∙◌}
-use Rattle.std.proofs.Common.{◌<◌}
+use Rattle.std.proofs.Common.{◌≡◌, ℕ, List, arith, ap, map, refl, length, get_or, ◌∙◌, ◌<◌}
 use Rattle.psci_board.specs.declared.node.Node.{Node}
 use Rattle.std.proofs.lemmas.Bool.{eq-eqb, ne_eqb}
 use Rattle.std.proofs.lemmas.List.{get_or_default}

@@ -1,5 +1,5 @@
-use Rattle.std.proofs.Common.{◌≡◌, ◌<◌, ◌≤◌, ◌+◌, ◌∙◌, suc, [], arith, subst}
-use Rattle.std.proofs.Common.{List, ℕ, map, get_or, length, take, drop, ap, sym, sum, replicate}
+use Rattle.std.proofs.Common.{◌≡◌, ◌<◌, ◌≤◌, ◌+◌, ◌∙◌, suc, [], arith, subst, List, ℕ, map, get_or}
+use Rattle.std.proofs.Common.{length, take, drop, ap, sym, sum, replicate}
 use Rattle.std.specs.List.{AllPass}
 use Rattle.std.proofs.lemmas.List.{length-map, take_more, length-replicate, drop_all}
 use Rattle.std.proofs.lemmas.List.Concat.{flat_map_single}
@@ -9,8 +9,7 @@ use Rattle.psci_tree.specs.declared.domain.Domain.{Domain}
 use Rattle.psci_board.proofs.Levels.{level}
 use Rattle.psci_tree.specs.Recount.{never_started}
 use Rattle.psci_tree.proofs.Slices.{cores_down}
-use Rattle.psci_tree.proofs.Built.{shaped_more, ends_more}
-use Rattle.psci_tree.proofs.Built.{root_whole, root_cores}
+use Rattle.psci_tree.proofs.Built.{shaped_more, ends_more, root_whole, root_cores}
 use Rattle.psci_tree.specs.Kept.{AreKept}
 use Rattle.psci_tree.proofs.Keeping.{kept_last}
 use Rattle.psci_tree.proofs.build.build.Goals as goal

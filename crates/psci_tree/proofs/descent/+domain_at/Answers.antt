@@ -1,5 +1,4 @@
-use Rattle.std.proofs.Common.{ℕ}
-use Rattle.std.proofs.Common.{◌≡◌, ◌<◌, ◌-◌, ◌∙◌, ap, sym, length, get_or, arith}
+use Rattle.std.proofs.Common.{ℕ, ◌≡◌, ◌<◌, ◌-◌, ◌∙◌, ap, sym, length, get_or, arith}
 use Rattle.std.proofs.lemmas.List.{get_or_default}
 use Rattle.psci_tree.specs.declared.domain.Domain.{Domain, out-Domain}
 use Rattle.psci_tree.specs.Domains.{branches, domains_down}

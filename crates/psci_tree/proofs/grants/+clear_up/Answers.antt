@@ -1,5 +1,5 @@
-use Rattle.std.proofs.Common.{◌≡◌, ◌<◌, ◌≤◌, ◌+◌, ◌∙◌, ℕ, List, [], map, length, get_or, ap}
-use Rattle.std.proofs.Common.{arith}
+use Rattle.std.proofs.Common.{◌≡◌, ◌<◌, ◌≤◌, ◌+◌, ◌∙◌, ℕ, List, [], map, length, get_or, ap, arith}
+use Rattle.std.proofs.Common.{refl}
 use Rattle.std.proofs.Math.ListN.{set}
 use Rattle.std.proofs.lemmas.List.{length-map}
 use Rattle.psci_tree.specs.Recount.{level_sizes}
@@ -11,7 +11,6 @@ use Rattle.psci_tree.proofs.Cleared.{path_node, cleared_step, cleared_top, rows_
 use Rattle.psci_tree.proofs.DepthRows.{DepthRow, depth_row, depths_written}
 use Rattle.psci_tree.proofs.Granted.{row_lengths}
 use Rattle.psci_tree.proofs.grants.+clear_up.Goals as goal
-use Rattle.std.proofs.Common.{refl}
 use Rattle.psci_board.specs.Board.{place_above}
 
 -- nothing is granted, and nothing confirmed

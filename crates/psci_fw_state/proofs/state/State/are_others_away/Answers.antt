@@ -1,5 +1,4 @@
-use Rattle.std.proofs.Common.{◌≡◌, ℕ, Bool, true, false, not, cond, ap, arith, refl, sym, ◌∙◌}
-use Rattle.std.proofs.Common.{◌≤◌}
+use Rattle.std.proofs.Common.{◌≡◌, ℕ, Bool, true, false, not, cond, ap, arith, refl, sym, ◌∙◌, ◌≤◌}
 use Rattle.psci_board.specs.Board.{height}
 use Rattle.psci_tree.specs.Recount.{off}
 use Rattle.psci_fw_spec.specs.Phases.{is_away}

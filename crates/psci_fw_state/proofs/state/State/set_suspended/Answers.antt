@@ -4,8 +4,7 @@ use Rattle.psci_tree.specs.Recount.{TreeValue}
 use Rattle.psci_fw_state.specs.Rows.{row_at}
 use Rattle.psci_fw_state.specs.Seen.{StateValue}
 use Rattle.psci_fw_state.proofs.Changed.{in_rows, row_set, same_set, within}
-use Rattle.psci_fw_state.proofs.Moved.{counts_stay, rows_set}
-use Rattle.psci_fw_state.proofs.Moved.{suspended_changed}
+use Rattle.psci_fw_state.proofs.Moved.{counts_stay, rows_set, suspended_changed}
 use Rattle.psci_fw_state.specs.contracts.state.State.{the_view}
 use Rattle.psci_fw_state.proofs.state.State.set_suspended.Goals as goal
 

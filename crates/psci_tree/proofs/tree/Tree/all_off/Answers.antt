@@ -2,7 +2,7 @@ use Rattle.std.proofs.Common.{◌≡◌, ◌∙◌, ap, sym, subst, map, replica
 use Rattle.psci_board.specs.Board.{BoardValue, IsBoard, size_below}
 use Rattle.psci_tree.specs.declared.domain.Domain.{Domain}
 use Rattle.psci_tree.specs.Recount.{TreeValue, IsDomainTree, level_sizes, never_started}
-use Rattle.psci_tree.specs.Changes.{rows_with_depth}
+use Rattle.psci_tree.specs.Changes.{rows_with_depth, all_off}
 use Rattle.psci_tree.specs.declared.depths.Depths.{Depths}
 use Rattle.psci_tree.specs.DepthRows.{granted_of, confirmed_of}
 use Rattle.psci_tree.specs.Domains.{leaves, IsWhole}
@@ -11,7 +11,6 @@ use Rattle.psci_tree.specs.Beside.{AreFull}
 use Rattle.psci_tree.specs.declared.beside.Rows.{Rows}
 use Rattle.psci_tree.specs.Way.{AreWays}
 use Rattle.psci_tree.proofs.Valid.{all_off_valid}
-use Rattle.psci_tree.specs.Changes.{all_off}
 use Rattle.psci_tree.proofs.tree.Tree.all_off.Goals as goal
 
 pub invariant_of-tree : goal.invariant_of-tree

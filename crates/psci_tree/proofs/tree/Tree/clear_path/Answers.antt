@@ -1,12 +1,10 @@
-use Rattle.std.proofs.Common.{◌∙◌, arith, ap, sym, map, length}
-use Rattle.std.proofs.Common.{ℕ, List}
+use Rattle.std.proofs.Common.{◌∙◌, arith, ap, sym, map, length, ℕ, List, refl}
 use Rattle.psci_tree.specs.Recount.{TreeValue}
 use Rattle.psci_tree.specs.Changes.{path_cleared}
 use Rattle.psci_tree.specs.DepthRows.{granted_of, confirmed_of}
 use Rattle.psci_tree.proofs.Cleared.{none_to_clear}
 use Rattle.psci_tree.proofs.Valid.{path_valid}
 use Rattle.psci_tree.proofs.tree.Tree.clear_path.Goals as goal
-use Rattle.std.proofs.Common.{refl}
 use Rattle.psci_tree.proofs.Seen.{core_seen, way_seen, held_with, held_seen, rows_seen}
 
 pub returns-then-granted-eq0-clause-value : goal.returns-then-granted-eq0-clause-value
