@@ -13,25 +13,11 @@ use Rattle.psci_fw_spec.specs.SystemCalls.{is_off_status}
 use Rattle.psci_state.specs.declared.cores.Activity.{Activity}
 use Rattle.psci_state.specs.declared.cores.Activity.TheVariants as activities
 use Rattle.psci_tree.specs.Recount.{is_active, is_away as is_gone}
-use Rattle.psci_tree.proofs.Ranges.{range_once, range_same}
+use Rattle.psci_tree.proofs.Ranges.{all_counted, range_once, range_same}
 use Rattle.psci_fw_state.specs.Seen.{phase_by}
 use Rattle.psci_fw_state.proofs.Changed.{off_is_away, suspended_is}
 
 -- All cores but one ------------------------------------------------------------------------------
-
-all_step : (t : Bool) (n : ℕ) (rest : Bool) → rest ≡ (n == 0)
-    → (t && rest) ≡ ((cond (not t) 1 0 + n) == 0)
-all_step true n rest e =
-    let same : n ≡ 0 + n = omega arith in e ∙ ap (λ x. x == 0) same
-all_step false n rest e = sym (ne_eqb (1 + n) 0 (λ z. omega (arith, z)))
-
--- all pass where none are counted that do not
-all_counted : (p : ℕ → Bool) (xs : List ℕ)
-    → list_all p xs ≡ (count_by (λ k. not (p k)) xs == 0)
-all_counted p [] = refl
-all_counted p (x ∷ xs) =
-    all_step (p x) (count_by (λ k. not (p k)) xs) (list_all p xs) (all_counted p xs)
-    ∙ ap (λ n. n == 0) (sym (sum_by-cons (λ k. cond (not (p k)) 1 0) x xs))
 
 module _ (test : ℕ → Bool) (c : ℕ) where
   beside : (k : ℕ) → (k ≡ c → ⊥)

@@ -2,8 +2,9 @@
 -- of ones.
 use Rattle.std.proofs.Common.{◌≡◌, ℕ, zero, suc, ◌+◌, ◌<◌, ◌≤◌, Bool, true, false, cond, not, List}
 use Rattle.std.proofs.Common.{[], ◌∷◌, length, filter, refl, ap, sym, ◌∙◌, arith, inl, inr}
-use Rattle.std.specs.List.{sum_by, count_by, range_with_len}
-use Rattle.std.proofs.lemmas.Bool.{cases_eq}
+use Rattle.std.proofs.Common.{◌==◌, ◌&&◌}
+use Rattle.std.specs.List.{sum_by, count_by, list_all, range_with_len}
+use Rattle.std.proofs.lemmas.Bool.{cases_eq, ne_eqb}
 use Rattle.std.proofs.lemmas.List.Sums.{sum_by-cons}
 
 -- where it is so of each number, it is so of the sums
@@ -38,6 +39,20 @@ counted_both test xs =
     sums (λ k. cond (test k) 1 0) (λ k. cond (not (test k)) 1 0) (λ k. 1) xs
     (λ k. either (test k))
     ∙ ones xs
+
+all_step : (t : Bool) (n : ℕ) (rest : Bool) → rest ≡ (n == 0)
+    → (t && rest) ≡ ((cond (not t) 1 0 + n) == 0)
+all_step true n rest e =
+    let same : n ≡ 0 + n = omega arith in e ∙ ap (λ x. x == 0) same
+all_step false n rest e = sym (ne_eqb (1 + n) 0 (λ z. omega (arith, z)))
+
+-- all pass where none are counted that do not
+pub all_counted : (p : ℕ → Bool) (xs : List ℕ)
+    → list_all p xs ≡ (count_by (λ k. not (p k)) xs == 0)
+all_counted p [] = refl
+all_counted p (x ∷ xs) =
+    all_step (p x) (count_by (λ k. not (p k)) xs) (list_all p xs) (all_counted p xs)
+    ∙ ap (λ n. n == 0) (sym (sum_by-cons (λ k. cond (not (p k)) 1 0) x xs))
 
 -- Ranges -------------------------------------------------------------------------------------
 
