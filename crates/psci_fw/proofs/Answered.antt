@@ -1,7 +1,6 @@
 -- What a core is answered that stops or enters, and what is left.
 use Rattle.std.proofs.Common.{◌≡◌, ℕ, ◌<◌, ◌==◌, Bool, true, false, cond, not, nat_lt, List, None}
 use Rattle.std.proofs.Common.{Some, Option, Ok, Err, Result, ◌&&◌, refl, sym, subst, ◌∙◌, ap, arith}
-use Rattle.std.proofs.lemmas.Bool.{ltb-true}
 use Rattle.std.specs.Option.{option_or}
 use Rattle.psci_abi.specs.declared.request.Request.TheVariants as requests
 use Rattle.psci_board.specs.Board.{BoardValue, cores, may_enter}
@@ -10,7 +9,6 @@ use Rattle.psci_messages.specs.declared.part.Part.{Part}
 use Rattle.psci_messages.specs.declared.kind.Kind.TheVariants.{Down}
 use Rattle.psci_state.specs.Ask.{is_deep}
 use Rattle.psci_state.specs.declared.fault.BadState.{BadState}
-use Rattle.psci_fw_spec.specs.declared.fault.FwFault.{FwFault}
 use Rattle.psci_fw_spec.specs.declared.fault.FwFault.TheVariants.{NoCore}
 use Rattle.psci_fw_spec.specs.declared.opening.Opening.{Opening}
 use Rattle.psci_fw_spec.specs.declared.outcome.Act.{Act}
@@ -32,6 +30,7 @@ use Rattle.psci_fw_spec.specs.Views.{view}
 use Rattle.psci_fw.specs.Calls.{FunctionAnswered}
 use Rattle.psci_fw.specs.Suspending.{left_by_suspend}
 use Rattle.psci_fw.specs.Ways.{way_by, way_on}
+use Rattle.psci_fw.proofs.Refused.{is_there, passed}
 use Rattle.psci_fw_state.specs.Claims.{MayClaim}
 use Rattle.psci_fw_state.proofs.Equal.{arrived, same_values, updated_same}
 
@@ -172,12 +171,7 @@ arrived_away b now v w u c s at e is =
 
 pub fault_inside : (b : BoardValue) (v : Values) (c : ℕ) (s : Start)
     → enter_fault b v c s ≡ None → c < cores b
-fault_inside b v c s e = by (nat_lt c (cores b)) refl
-  where
-    by : (t : Bool) → nat_lt c (cores b) ≡ t → c < cores b
-    by true f = ltb-true c (cores b) f
-    by false f =
-        let x : ◌≡◌ {A = Option FwFault} (Some NoCore) None = rw f at e in cc
+fault_inside b v c s e = is_there c (cores b) (passed (not (nat_lt c (cores b))) NoCore _ e).0
 
 pub halted_outcome : (b : BoardValue) (v : Values) (c : ℕ) (s : Start)
     → (in_life b s.life v).halting ≡ true → stops ≡ enter_outcome b v c s

@@ -4,6 +4,7 @@ use Rattle.psci_abi.specs.Codes.{invalid_parameters, success}
 use Rattle.psci_abi.specs.declared.code.Code.{Code}
 use Rattle.psci_abi.specs.declared.registers.Regs.{Regs}
 use Rattle.psci_board.specs.Board.{BoardValue, node_of}
+use Rattle.psci_board.proofs.Tables.{◌⇒◌, Gives}
 use Rattle.psci_fw_spec.specs.psci_abi.declared.format.Format.TheVariants.{Original}
 use Rattle.psci_state.specs.declared.cores.Activity.TheVariants.{Active, Away}
 use Rattle.psci_fw_spec.specs.declared.call.FwCall.TheVariants.{Smc}
@@ -73,18 +74,16 @@ code n = record { 0 = pos n }
 
 -- Which calls are carried out ---------------------------------------------------------------------
 
--- of a core that runs, one that is off, and one that is not there
-carried_out : map (may_call second) (0 ∷ 1 ∷ 3 ∷ []) ≡ true ∷ false ∷ false ∷ []
+-- of a core that runs, one that is off, and one that is not there; none before a life, and none in a
+-- halting one
+carried_out : Gives (λ (q : FirmwareValue × ℕ). may_call q.0 q.1)
+    ((second, 0) ⇒ true
+    ∷ (second, 1) ⇒ false
+    ∷ (second, 3) ⇒ false
+    ∷ (firmware 0 Platform, 0) ⇒ false
+    ∷ (record second { halting = true }, 0) ⇒ false ∷ [])
 unfolding values_in
 carried_out = refl
-
-before_a_life : may_call (firmware 0 Platform) 0 ≡ false
-unfolding values_in
-before_a_life = refl
-
-in_a_halting_life : may_call (record second { halting = true }) 0 ≡ false
-unfolding values_in
-in_a_halting_life = refl
 
 -- Codes -------------------------------------------------------------------------------------------
 

@@ -2,6 +2,7 @@
 use Rattle.std.proofs.Common.{◌≡◌, ◌∙◌, ◌==◌, ℕ, Bool, true, false, cond, nat_lt, Option, None}
 use Rattle.std.proofs.Common.{Some, IfSome, ap, refl, sym}
 use Rattle.std.proofs.lemmas.Option.{same_Some}
+use Rattle.std.proofs.Common.{not}
 use Rattle.psci_abi.specs.Calls.{argument, low_half, request_of}
 use Rattle.psci_abi.specs.Codes.{invalid_parameters}
 use Rattle.psci_abi.specs.declared.code.Code.{Code}
@@ -21,13 +22,15 @@ use Rattle.psci_fw_spec.specs.Calls.{call_fault, function_outcome, outcome_of}
 use Rattle.psci_fw_spec.specs.CpuSuspend.{suspend_asked}
 use Rattle.psci_fw_spec.specs.Effects.{effect_of, function_effect}
 use Rattle.psci_fw_spec.specs.Outcomes.{returns, stops}
-use Rattle.psci_fw_spec.specs.Phases.{Away, Pending, Running, Phase, Suspended}
+use Rattle.psci_fw_spec.specs.Phases.{Running, Phase}
 use Rattle.psci_fw_spec.specs.Values.{Values}
 use Rattle.psci_fw.specs.Asking.{code_asked, may_call}
 use Rattle.psci_fw.specs.Calls.{FunctionAnswered, IsReturned}
 use Rattle.psci_fw.specs.Read.{IsNoSuspend}
 use Rattle.psci_fw.specs.Seen.{FirmwareValue, seen}
 use Rattle.psci_fw.proofs.Answered.{goes_on}
+use Rattle.psci_fw.proofs.Refused.{passed}
+use Rattle.psci_fw_spec.specs.Phases.{is_running}
 
 -- a call that only asks something
 pub returned : (f : FirmwareValue) (c : ℕ) (regs : Regs) (r : Request) (code : Code)
@@ -50,20 +53,13 @@ returned f c regs r code fault awake is done =
 -- a caller that is not refused is running
 pub caller_runs : (b : BoardValue) (v : Values) (c : ℕ) → call_fault b v c ≡ None
     → v.phase c ≡ Running
-caller_runs b v c e = by (nat_lt c (cores b)) refl (v.life == 0) refl (v.phase c) refl
+caller_runs b v c e = by (v.phase c)
+    (passed (v.life == 0) NoLife _ (passed (not (nat_lt c (cores b))) NoCore _ e).1).1
   where
-    by : (t : Bool) → nat_lt c (cores b) ≡ t → (u : Bool) → (v.life == 0) ≡ u
-        → (p : Phase) → v.phase c ≡ p → v.phase c ≡ Running
-    by false f u g p h = let x : ◌≡◌ {A = Option FwFault} (Some NoCore) None = rw f at e in cc
-    by true f true g p h =
-        let x : ◌≡◌ {A = Option FwFault} (Some NoLife) None = rw (f, g) at e in cc
-    by true f false g Pending h =
-        let x : ◌≡◌ {A = Option FwFault} (Some NotRunning) None = rw (f, g, h) at e in cc
-    by true f false g Running h = h
-    by true f false g (Suspended ask) h =
-        let x : ◌≡◌ {A = Option FwFault} (Some NotRunning) None = rw (f, g, h) at e in cc
-    by true f false g Away h =
-        let x : ◌≡◌ {A = Option FwFault} (Some NotRunning) None = rw (f, g, h) at e in cc
+    by : (p : Phase) → ◌≡◌ {A = Option FwFault} (cond (is_running p) None (Some NotRunning)) None
+        → p ≡ Running
+    by Running h = refl
+    by p h = absurd (cc)
 
 -- what lets a call be carried out
 pub carried_out : (f : FirmwareValue) (c : ℕ) → may_call f c ≡ true
@@ -81,18 +77,12 @@ carried_out f c may = by (call_fault f.board (seen f) c) refl (seen f).halting r
 asked_answered : (b : BoardValue) (v : Values) (c : ℕ) (r : Request) (code : Code)
     → v.phase c ≡ Running → code_asked b v r ≡ Some code
     → FunctionAnswered b v c r (returns code) v
-asked_answered b v c requests.Version code runs e = record {
-  answer = ap returns (sym (same_Some _ code e));
-  after = goes_on v c runs;
-}
-asked_answered b v c requests.MigrateInfoType code runs e = record {
-  answer = ap returns (sym (same_Some _ code e));
-  after = goes_on v c runs;
-}
-asked_answered b v c (requests.AffinityInfo level target) code runs e = record {
-  answer = ap returns (sym (same_Some _ code e));
-  after = goes_on v c runs;
-}
+asked_answered b v c requests.Version code runs e =
+    record { answer = ap returns (sym (same_Some _ code e)); after = goes_on v c runs }
+asked_answered b v c requests.MigrateInfoType code runs e =
+    record { answer = ap returns (sym (same_Some _ code e)); after = goes_on v c runs }
+asked_answered b v c (requests.AffinityInfo level target) code runs e =
+    record { answer = ap returns (sym (same_Some _ code e)); after = goes_on v c runs }
 asked_answered b v c request code runs e = absurd (cc)
 
 -- the code that a call is told at once is what it is answered

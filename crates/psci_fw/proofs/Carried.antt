@@ -1,7 +1,6 @@
 -- A call that is carried out leaves a firmware.
-use Rattle.std.proofs.Common.{◌≡◌, ◌∙◌, ◌<◌, ℕ, Bool, true, false, nat_lt, Option, None, Some}
-use Rattle.std.proofs.Common.{ap, refl, subst, sym}
-use Rattle.std.proofs.lemmas.Bool.{ltb-true}
+use Rattle.std.proofs.Common.{◌≡◌, ◌∙◌, ◌<◌, ℕ, true, nat_lt, Option, None}
+use Rattle.std.proofs.Common.{ap, not, subst, sym}
 use Rattle.psci_abi.specs.Calls.{request_of}
 use Rattle.psci_abi.specs.declared.registers.Regs.{Regs}
 use Rattle.psci_board.specs.Board.{BoardValue, IsBoard, cores}
@@ -21,13 +20,10 @@ use Rattle.psci_fw.specs.Asking.{may_call}
 use Rattle.psci_fw.specs.Calls.{MayCall}
 use Rattle.psci_fw.specs.Seen.{FirmwareValue, IsFirmware, IsFresh, seen}
 use Rattle.psci_fw.proofs.Called.{caller_runs, carried_out}
+use Rattle.psci_fw.proofs.Refused.{is_there, passed}
 
 caller_inside : (b : BoardValue) (v : Values) (c : ℕ) → call_fault b v c ≡ None → c < cores b
-caller_inside b v c e = by (nat_lt c (cores b)) refl
-  where
-    by : (t : Bool) → nat_lt c (cores b) ≡ t → c < cores b
-    by true f = ltb-true c (cores b) f
-    by false f = let x : ◌≡◌ {A = Option FwFault} (Some NoCore) None = rw f at e in cc
+caller_inside b v c e = is_there c (cores b) (passed (not (nat_lt c (cores b))) NoCore _ e).0
 
 pub may_calls : (f : FirmwareValue) (c : ℕ) → IsFirmware f → may_call f c ≡ true → MayCall f c
 may_calls f c is may =
@@ -70,3 +66,23 @@ module _ (f g : FirmwareValue) (c : ℕ) (regs : Regs) (o : Outcome) (may : may_
       fresh = subst (λ (x : BoardValue). IsFresh x (seen g)) (sym at)
           (subst (IsFresh f.board) (sym left) fresh);
     }
+
+-- the same of the firmware that this one is
+pub may_seen : {f now : FirmwareValue} (c : ℕ) → f ≡ now → may_call now c ≡ true
+    → may_call f c ≡ true
+may_seen c is may = subst (λ (x : FirmwareValue). may_call x c ≡ true) (sym is) may
+
+pub answered_seen : (f now : FirmwareValue) (c : ℕ) (regs : Regs) (o : Outcome) → f ≡ now
+    → may_call now c ≡ true → o ≡ outcome_of f.board (seen f) c (request_of regs)
+    → Out o ≡ answer now.board (seen now) c (Smc regs)
+answered_seen f now c regs o is may e =
+    subst (λ (x : FirmwareValue). Out o ≡ answer x.board (seen x) c (Smc regs)) is
+    (answered f f c regs o (may_seen c is may) e)
+
+pub carried_seen : (f now g : FirmwareValue) (c : ℕ) (regs : Regs) (o : Outcome) → f ≡ now
+    → may_call now c ≡ true → o ≡ outcome_of f.board (seen f) c (request_of regs)
+    → seen g ≡ change f.board (function_effect f.board c (request_of regs) o.act o.message) (seen f)
+    → seen g ≡ after now.board c (Smc regs) (Out o) (seen now)
+carried_seen f now g c regs o is may e left =
+    subst (λ (x : FirmwareValue). seen g ≡ after x.board c (Smc regs) (Out o) (seen x)) is
+    (carried f g c regs o (may_seen c is may) e left)

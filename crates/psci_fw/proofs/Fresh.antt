@@ -1,8 +1,8 @@
 -- A firmware that no core has entered, which is as at the start of a life.
 use Rattle.std.proofs.Common.{◌≡◌, ◌==◌, ◌<◌, ℕ, Bool, true, false, cond, nat_lt}
-use Rattle.std.proofs.Common.{Option, None, Some, refl, sym, subst, ap, arith, ◌∙◌}
+use Rattle.std.proofs.Common.{None, refl, sym, subst, ap, arith, ◌∙◌}
+use Rattle.std.proofs.Common.{not, ◌||◌}
 use Rattle.std.proofs.lemmas.Bool.{eqb-true}
-use Rattle.std.proofs.lemmas.Bool.Decides.{nat_tests}
 use Rattle.psci_abi.specs.Calls.{request_of}
 use Rattle.psci_abi.specs.declared.registers.Regs.{Regs}
 use Rattle.psci_board.specs.Board.{BoardValue, cores}
@@ -11,7 +11,6 @@ use Rattle.psci_messages.specs.declared.start.Start.{Start}
 use Rattle.psci_messages.specs.declared.taken.Taken.{Taken}
 use Rattle.psci_messages.specs.declared.taken.Taken.TheVariants.{Old, Used}
 use Rattle.psci_fw_spec.specs.declared.call.FwCall.TheVariants.{Smc, Enter}
-use Rattle.psci_fw_spec.specs.declared.fault.FwFault.{FwFault}
 use Rattle.psci_fw_spec.specs.declared.fault.FwFault.TheVariants.{NoCore, NoLife}
 use Rattle.psci_fw_spec.specs.declared.outcome.Outcome.{Outcome}
 use Rattle.psci_fw_spec.specs.declared.reply.FwReply.TheVariants.{Out}
@@ -24,6 +23,7 @@ use Rattle.psci_fw_spec.specs.Lives.{in_life, start_of_life}
 use Rattle.psci_fw_spec.specs.Taking.{taken_by}
 use Rattle.psci_fw_spec.specs.Values.{Values}
 use Rattle.psci_fw.specs.Seen.{IsFresh}
+use Rattle.psci_fw.proofs.Refused.{first_fails, is_some, passed}
 
 pub first_fresh : (b : BoardValue) → IsFresh b (start_of_life b 0)
 first_fresh b = record { same = λ e. refl }
@@ -49,12 +49,7 @@ lives_fresh b v life e some = record { same = λ none. absurd (omega arith) }
 
 -- a caller that is not refused has a life
 caller_lives : (b : BoardValue) (v : Values) (c : ℕ) → call_fault b v c ≡ None → 0 < v.life
-caller_lives b v c e = by (nat_lt c (cores b)) refl (v.life == 0) refl
-  where
-    by : (t : Bool) → nat_lt c (cores b) ≡ t → (u : Bool) → (v.life == 0) ≡ u → 0 < v.life
-    by false f u g = let x : ◌≡◌ {A = Option FwFault} (Some NoCore) None = rw f at e in cc
-    by true f true g = let x : ◌≡◌ {A = Option FwFault} (Some NoLife) None = rw (f, g) at e in cc
-    by true f false g = grind (arith, nat_tests, g)
+caller_lives b v c e = is_some v.life (passed (v.life == 0) NoLife _ (passed (not (nat_lt c (cores b))) NoCore _ e).1).0
 
 pub call_fresh : (b : BoardValue) (v : Values) (c : ℕ) (regs : Regs) (o : Outcome)
     → (after b c (Smc regs) (Out o) v).life ≡ v.life → call_fault b v c ≡ None
@@ -65,12 +60,9 @@ call_fresh b v c regs o same e = lives_fresh b _ v.life same (caller_lives b v c
 -- a start that is not refused has a life
 start_lives : (b : BoardValue) (v : Values) (c : ℕ) (s : Start) → enter_fault b v c s ≡ None
     → 0 < s.life
-start_lives b v c s e = by (nat_lt c (cores b)) refl (s.life == 0) refl
-  where
-    by : (t : Bool) → nat_lt c (cores b) ≡ t → (u : Bool) → (s.life == 0) ≡ u → 0 < s.life
-    by false f u g = let x : ◌≡◌ {A = Option FwFault} (Some NoCore) None = rw f at e in cc
-    by true f true g = let x : ◌≡◌ {A = Option FwFault} (Some NoLife) None = rw (f, g) at e in cc
-    by true f false g = grind (arith, nat_tests, g)
+start_lives b v c s e =
+    is_some s.life (first_fails (s.life == 0) _
+    (passed (s.life == 0 || nat_lt b.lives s.life) NoLife _ (passed (not (nat_lt c (cores b))) NoCore _ e).1).0)
 
 pub enter_fresh : (b : BoardValue) (v : Values) (c : ℕ) (s : Start) (o : Outcome)
     → (after b c (Enter s) (Out o) v).life ≡ s.life → enter_fault b v c s ≡ None

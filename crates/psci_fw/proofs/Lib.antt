@@ -3,6 +3,7 @@ mod AskingRows
 mod Called
 mod Carried
 mod Fresh
+mod Refused
 mod ReactionRows
 mod SeenRows
 mod Stopping

@@ -8,6 +8,7 @@ use Rattle.psci_abi.specs.declared.code.Code.{Code}
 use Rattle.psci_abi.specs.declared.registers.Regs.{Regs}
 use Rattle.psci_board.specs.Board.{BoardValue, up}
 use Rattle.psci_board.specs.declared.node.Node.{Node}
+use Rattle.psci_board.proofs.Tables.{◌⇒◌, Gives}
 use Rattle.psci_fw_spec.specs.psci_abi.declared.format.Format.TheVariants.{Original}
 use Rattle.psci_state.specs.declared.cores.Activity.TheVariants as activities
 use Rattle.psci_fw_spec.specs.declared.fault.FwFault.TheVariants as faults
@@ -85,27 +86,28 @@ at level place = record { level = level; place = place }
 lives : map life_shown (0 ∷ 1 ∷ 2 ∷ []) ≡ None ∷ Some 1 ∷ Some 2 ∷ []
 lives = refl
 
--- of cores, of both clusters and of the system
-status_in_life_2 : map (status_shown (firmware 2)) (at 0 0 ∷ at 0 1 ∷ at 0 3 ∷ at 1 0 ∷ at 1 1
-    ∷ at 2 0 ∷ [])
-    ≡ Some statuses.On ∷ Some statuses.Pending ∷ Some statuses.Off ∷ Some statuses.On
-    ∷ Some statuses.Off ∷ Some statuses.On ∷ []
+-- of cores, of both clusters and of the system, and none before a life
+statuses_shown : Gives (λ (q : ℕ × Node). status_shown (firmware q.0) q.1)
+    ((2, at 0 0) ⇒ Some statuses.On
+    ∷ (2, at 0 1) ⇒ Some statuses.Pending
+    ∷ (2, at 0 3) ⇒ Some statuses.Off
+    ∷ (2, at 1 0) ⇒ Some statuses.On
+    ∷ (2, at 1 1) ⇒ Some statuses.Off
+    ∷ (2, at 2 0) ⇒ Some statuses.On
+    ∷ (0, at 0 0) ⇒ None ∷ [])
 unfolding values_in node_status
-status_in_life_2 = refl
+statuses_shown = refl
 
-no_status_before_a_life : status_shown (firmware 0) (at 0 0) ≡ None
+-- a core that runs, two that are powered down, one not confirmed, and a cluster in standby, of which
+-- nothing is shown before a life
+hardware_shown : Gives (λ (q : ℕ × Node). hw_shown (firmware q.0) q.1)
+    ((3, at 0 0) ⇒ Some hardware.On
+    ∷ (3, at 0 2) ⇒ Some hardware.Off
+    ∷ (3, at 0 3) ⇒ Some hardware.On
+    ∷ (3, at 1 1) ⇒ Some hardware.Standby
+    ∷ (0, at 1 1) ⇒ None ∷ [])
 unfolding values_in
-no_status_before_a_life = refl
-
--- a core that runs, two that are powered down, one not confirmed, and a cluster in standby
-hardware_in_life_3 : map (hw_shown (firmware 3)) (at 0 0 ∷ at 0 2 ∷ at 0 3 ∷ at 1 1 ∷ [])
-    ≡ Some hardware.On ∷ Some hardware.Off ∷ Some hardware.On ∷ Some hardware.Standby ∷ []
-unfolding values_in
-hardware_in_life_3 = refl
-
-no_hardware_before_a_life : hw_shown (firmware 0) (at 1 1) ≡ None
-unfolding values_in
-no_hardware_before_a_life = refl
+hardware_shown = refl
 
 -- Before any core has entered --------------------------------------------------------------------
 
@@ -143,17 +145,16 @@ values = record (start_of_life board 2) {
 abbrev start : ℕ → Start
 start number = record { life = 2; number = number; cause = Wake }
 
-opening_of_core_1 : way_on values 1 (start 5) ≡ Some (acts.Enter 48 7)
-opening_of_core_1 = refl
-
-resume_of_core_2 : way_on values 2 (start 5) ≡ Some acts.Resume
-resume_of_core_2 = refl
-
--- by a start that is not the next, by a reset, and by a core that is off
-parked : way_on values 2 (start 6) ∷ way_on values 2 (record (start 5) { cause = Reset })
-    ∷ way_on values 2 (record (start 5) { cause = On }) ∷ way_on values 3 (start 5) ∷ []
-    ≡ None ∷ None ∷ None ∷ None ∷ []
-parked = refl
+-- an opening, a resume, and no way on: by a start that is not the next, by a reset, by a start of
+-- another cause, and by a core that is off
+ways_on : Gives (λ (q : ℕ × Start). way_on values q.0 q.1)
+    ((1, start 5) ⇒ Some (acts.Enter 48 7)
+    ∷ (2, start 5) ⇒ Some acts.Resume
+    ∷ (2, start 6) ⇒ None
+    ∷ (2, record (start 5) { cause = Reset }) ⇒ None
+    ∷ (2, record (start 5) { cause = On }) ⇒ None
+    ∷ (3, start 5) ⇒ None ∷ [])
+ways_on = refl
 
 opening_before_a_resume : way_by values 2 (start 5) (Some (record { address = 1; context = 2 }))
     ≡ Some (acts.Enter 1 2)
@@ -176,18 +177,16 @@ abbrev left : Option MessageValue → Values
 left = left_by_suspend board values 3 (record { phase = phases.Suspended (1 ∷ []); opening = None })
 
 -- a refused core leaves all as it was; one that sent the Down rests, and its claim is granted
-phases_left : (left None).phase 3 ∷ (left (Some down)).phase 3 ∷ (left (Some down)).phase 0 ∷ []
-    ≡ phases.Away ∷ phases.Suspended (1 ∷ []) ∷ phases.Away ∷ []
-phases_left = refl
-
-granted_left : (left None).granted 0 3 ∷ (left (Some down)).granted 0 3
-    ∷ (left (Some down)).granted 0 2 ∷ [] ≡ 3 ∷ 1 ∷ 3 ∷ []
+left_then : Gives (λ (q : Option MessageValue × ℕ). (left q.0).phase q.1)
+    ((None, 3) ⇒ phases.Away
+    ∷ (Some down, 3) ⇒ phases.Suspended (1 ∷ [])
+    ∷ (Some down, 0) ⇒ phases.Away ∷ [])
+    × Gives (λ (q : Option MessageValue × ℕ). (left q.0).granted 0 q.1)
+    ((None, 3) ⇒ 3 ∷ (Some down, 3) ⇒ 1 ∷ (Some down, 2) ⇒ 3 ∷ [])
+    × Gives (λ (q : Option MessageValue × ℕ). (left q.0).outstanding (OfCore q.1))
+    ((None, 3) ⇒ None ∷ (Some down, 3) ⇒ Some down ∷ (Some down, 2) ⇒ None ∷ [])
 unfolding up
-granted_left = refl
-
-outstanding_left : (left None).outstanding (OfCore 3) ∷ (left (Some down)).outstanding (OfCore 3)
-    ∷ (left (Some down)).outstanding (OfCore 2) ∷ [] ≡ None ∷ Some down ∷ None ∷ []
-outstanding_left = refl
+left_then = (refl, refl, refl)
 
 -- Calls -------------------------------------------------------------------------------------------
 

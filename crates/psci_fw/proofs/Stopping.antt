@@ -1,15 +1,14 @@
 -- The claims of cores that stop may be granted: nothing is granted on their paths, and what the
 -- values then grant falls upwards.
 use Rattle.std.proofs.Common.{◌≡◌, ℕ, zero, suc, ◌+◌, ◌<◌, ◌≤◌, ◌==◌, ◌&&◌, Bool, true, false, cond}
-use Rattle.std.proofs.Common.{not, List, length, None, Some, Ok, refl}
-use Rattle.std.proofs.Common.{subst, ◌∙◌, ap, arith, add-one, nat_le}
+use Rattle.std.proofs.Common.{not, List, length, None, Some, Ok, refl, subst, ◌∙◌, ap, arith}
+use Rattle.std.proofs.Common.{add-one, nat_le}
 use Rattle.psci_abi.specs.declared.request.Request.{Request}
 use Rattle.psci_abi.specs.declared.request.Request.TheVariants as requests
 use Rattle.psci_board.specs.Board.{BoardValue, cores, height, may_enter, up}
 use Rattle.psci_board.specs.Laws.{PathLaws}
 use Rattle.psci_messages.specs.declared.part.Part.{Part}
-use Rattle.psci_messages.specs.Claim.{off_wish, own_wish}
-use Rattle.psci_messages.specs.Claim.{least_wish, platform_claims}
+use Rattle.psci_messages.specs.Claim.{off_wish, own_wish, least_wish, platform_claims}
 use Rattle.psci_messages.specs.Laws.{ClaimLaws, LastCoreLaws}
 use Rattle.psci_messages.specs.View.{PowerView}
 use Rattle.psci_messages.specs.declared.kind.Kind.TheVariants.{Down}

@@ -1,7 +1,6 @@
 -- An acknowledgement is taken: what the values in the state are then.
-use Rattle.std.proofs.Common.{◌≡◌, ℕ, ◌<◌, slice_get, Bool, true, false, cond, List, length}
-use Rattle.std.proofs.Common.{None, Some, Option, refl, sym, ◌∙◌, ap, inl, inr}
-use Rattle.std.proofs.Common.{slice_index_or}
+use Rattle.std.proofs.Common.{◌≡◌, ℕ, ◌<◌, slice_get, Bool, true, false, cond, List, length, None}
+use Rattle.std.proofs.Common.{Some, Option, refl, sym, ◌∙◌, ap, inl, inr, slice_index_or}
 use Rattle.std.proofs.lemmas.Bool.{and_parts, cases_lt}
 use Rattle.std.proofs.lemmas.List.{get_or_past}
 use Rattle.psci_messages.specs.declared.kind.Kind.{Kind}
@@ -27,7 +26,7 @@ use Rattle.psci_fw_state.specs.declared.counts.StatusCounts.{StatusCounts}
 use Rattle.psci_fw_state.specs.Confirming.{is_last_claim}
 use Rattle.psci_fw_state.specs.Rows.{row_at}
 use Rattle.psci_fw_state.specs.Seen.{StateValue, phase_by, values_in}
-use Rattle.psci_fw_state.proofs.Changed.{Set, ap_set, both_set, stays, updated_is}
+use Rattle.psci_fw_state.proofs.Changed.{Set, ap_set, both_set, off_is_away, stays, updated_is}
 use Rattle.psci_fw_state.proofs.Confirming.{claims_confirmed}
 use Rattle.psci_fw_state.proofs.Equal.{same_values, updated_same}
 
@@ -78,20 +77,10 @@ answered_used a (Some n) m e = used_by_answer (answers a n) n m e
 away_phase : (s t : Status) (a : Activity) → is_away (phase_by s a) ≡ true
     → phase_by t a ≡ phase_by s a
 away_phase statuses.On t activities.Active e = cc
-away_phase statuses.Off t activities.Active e = cc
-away_phase statuses.Pending t activities.Active e = cc
+away_phase s t activities.Active e = cc
 away_phase statuses.On t (activities.Suspended ask) e = cc
-away_phase statuses.Off t (activities.Suspended ask) e = cc
-away_phase statuses.Pending t (activities.Suspended ask) e = cc
-away_phase statuses.On statuses.On activities.Away e = refl
-away_phase statuses.On statuses.Off activities.Away e = refl
-away_phase statuses.On statuses.Pending activities.Away e = refl
-away_phase statuses.Off statuses.On activities.Away e = refl
-away_phase statuses.Off statuses.Off activities.Away e = refl
-away_phase statuses.Off statuses.Pending activities.Away e = refl
-away_phase statuses.Pending statuses.On activities.Away e = refl
-away_phase statuses.Pending statuses.Off activities.Away e = refl
-away_phase statuses.Pending statuses.Pending activities.Away e = refl
+away_phase s t (activities.Suspended ask) e = cc
+away_phase s t activities.Away e = off_is_away t ∙ sym (off_is_away s)
 
 -- the tree after an acknowledgement: the claims that it says were carried out are confirmed
 pub record IsAcked (s : StateValue) (u : TreeValue) (a : AckValue) : Type 0 where
@@ -132,9 +121,9 @@ state_same : (s : StateValue) (u : TreeValue) (a : AckValue) → IsAcked s u a
 state_same s u a is = record { here = is.cores a.core.number; else = λ k n. is.cores k }
 
 -- the core of a used acknowledgement is off
-off_of : (s : StateValue) (u : TreeValue) (rows : List CoreRow) (counts : List (List StatusCounts))
-    (slots : SlotsValue) (a : AckValue)
-    → turns_off (values_in s) a ≡ true → IsAcked s u a
+pub off_changed : (s now : StateValue) (u : TreeValue) (rows : List CoreRow)
+    (counts : List (List StatusCounts)) (slots : SlotsValue) (a : AckValue) → s ≡ now
+    → turns_off (values_in now) a ≡ true → IsAcked s u a
     → Set (row_at s.rows) (row_at rows) a.core.number (record {
       status = statuses.Off;
       opening = (row_at s.rows a.core.number).opening;
@@ -142,11 +131,13 @@ off_of : (s : StateValue) (u : TreeValue) (rows : List CoreRow) (counts : List (
     → ((slot : Slot) → message_in slots slot
     ≡ changed slot (Acknowledge a) (message_in s.slots slot))
     → values_in (record s { tree = u; rows = rows; counts = counts; slots = slots })
-    ≡ with_acknowledgement s.board a (values_in s)
+    ≡ with_acknowledgement now.board a (values_in now)
 unfolding values_in
-off_of s u rows counts slots a off acked row left =
-    let away : is_away ((values_in s).phase a.core.number) ≡ true = (and_parts _ _ off).1 in
-    same_values _ _ (record {
+off_changed s now u rows counts slots a e off acked row left =
+    let goes : turns_off (values_in s) a ≡ true = rw e off in
+    let away : is_away ((values_in s).phase a.core.number) ≡ true = (and_parts _ _ goes).1 in
+    let now : values_in (record s { tree = u; rows = rows; counts = counts; slots = slots })
+    ≡ with_acknowledgement s.board a (values_in s) = same_values _ _ (record {
       life = refl;
       halting = refl;
       mode = refl;
@@ -155,7 +146,7 @@ off_of s u rows counts slots a off acked row left =
           updated_is (λ k. (row_at s.rows k).status) (λ k. (row_at rows k).status) a.core.number _
           (ap_set (λ (r : CoreRow). r.status) _ _ _ _ row) k
           ∙ ap (λ (t : Bool). updated (values_in s).status a.core.number
-          (cond t statuses.Off ((values_in s).status a.core.number)) k) (sym off);
+          (cond t statuses.Off ((values_in s).status a.core.number)) k) (sym goes);
       phase = stays (values_in s).phase
           (values_in (record s { tree = u; rows = rows; counts = counts; slots = slots })).phase
           a.core.number _
@@ -169,52 +160,34 @@ off_of s u rows counts slots a off acked row left =
       granted = acked.granted;
       confirmed = acked.confirmed;
       outstanding = left;
-    })
-
-pub off_changed : (s now : StateValue) (u : TreeValue) (rows : List CoreRow)
-    (counts : List (List StatusCounts)) (slots : SlotsValue) (a : AckValue) → s ≡ now
-    → turns_off (values_in now) a ≡ true → IsAcked s u a
-    → Set (row_at s.rows) (row_at rows) a.core.number (record {
-      status = statuses.Off;
-      opening = (row_at s.rows a.core.number).opening;
-    })
-    → ((slot : Slot) → message_in slots slot
-    ≡ changed slot (Acknowledge a) (message_in s.slots slot))
-    → values_in (record s { tree = u; rows = rows; counts = counts; slots = slots })
-    ≡ with_acknowledgement now.board a (values_in now)
-off_changed s now u rows counts slots a e off acked row left =
-    rw (← e) (off_of s u rows counts slots a (rw e off) acked row left)
+    }) in
+    rw (← e) now
 
 -- a used acknowledgement that turns no core off
-used_of : (s : StateValue) (u : TreeValue) (slots : SlotsValue) (a : AckValue)
-    → turns_off (values_in s) a ≡ false → IsAcked s u a
-    → ((slot : Slot) → message_in slots slot
-    ≡ changed slot (Acknowledge a) (message_in s.slots slot))
-    → values_in (record s { tree = u; slots = slots })
-    ≡ with_acknowledgement s.board a (values_in s)
-unfolding values_in
-used_of s u slots a off acked left = same_values _ _ (record {
-  life = refl;
-  halting = refl;
-  mode = refl;
-  known = λ k. ap (λ (x : CoreState). x.known) (acked.cores k);
-  status = λ k.
-      sym (updated_same (values_in s).status a.core.number
-      (cond (turns_off (values_in s) a) statuses.Off ((values_in s).status a.core.number))
-      (rw off refl) k);
-  phase = λ k.
-      ap (λ (x : CoreState). phase_by (row_at s.rows k).status x.activity) (acked.cores k);
-  opening = λ k. refl;
-  granted = acked.granted;
-  confirmed = acked.confirmed;
-  outstanding = left;
-})
-
 pub used_changed : (s now : StateValue) (u : TreeValue) (slots : SlotsValue) (a : AckValue)
     → s ≡ now → turns_off (values_in now) a ≡ false → IsAcked s u a
     → ((slot : Slot) → message_in slots slot
     ≡ changed slot (Acknowledge a) (message_in s.slots slot))
     → values_in (record s { tree = u; slots = slots })
     ≡ with_acknowledgement now.board a (values_in now)
+unfolding values_in
 used_changed s now u slots a e off acked left =
-    rw (← e) (used_of s u slots a (rw e off) acked left)
+    let stays_on : turns_off (values_in s) a ≡ false = rw e off in
+    let now : values_in (record s { tree = u; slots = slots })
+    ≡ with_acknowledgement s.board a (values_in s) = same_values _ _ (record {
+      life = refl;
+      halting = refl;
+      mode = refl;
+      known = λ k. ap (λ (x : CoreState). x.known) (acked.cores k);
+      status = λ k.
+          sym (updated_same (values_in s).status a.core.number
+          (cond (turns_off (values_in s) a) statuses.Off ((values_in s).status a.core.number))
+          (rw stays_on refl) k);
+      phase = λ k.
+          ap (λ (x : CoreState). phase_by (row_at s.rows k).status x.activity) (acked.cores k);
+      opening = λ k. refl;
+      granted = acked.granted;
+      confirmed = acked.confirmed;
+      outstanding = left;
+    }) in
+    rw (← e) now

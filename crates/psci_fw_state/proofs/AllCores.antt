@@ -1,8 +1,6 @@
 -- What the counts of the whole system say of all cores together.
-use Rattle.std.proofs.Common.{◌≡◌, ℕ, ◌+◌, ◌<◌, ◌≤◌, ◌==◌, Bool, true}
-use Rattle.std.proofs.Common.{cond, not, ltb, List, length, drop, refl, ap, sym, ◌∙◌}
-use Rattle.std.proofs.Common.{arith}
-use Rattle.std.proofs.Common.{◌^◌}
+use Rattle.std.proofs.Common.{◌≡◌, ℕ, ◌+◌, ◌<◌, ◌≤◌, ◌==◌, Bool, true, cond, not, ltb, List, length}
+use Rattle.std.proofs.Common.{drop, refl, ap, sym, ◌∙◌, arith, ◌^◌}
 use Rattle.std.specs.List.{sum_by, count_by, list_any, range_with_len}
 use Rattle.std.proofs.lemmas.Bool.{lt-ltb}
 use Rattle.std.proofs.lemmas.List.{drop_all, get_or_past}
@@ -14,22 +12,22 @@ use Rattle.psci_fw_spec.specs.SystemCalls.{all_others, is_off_status}
 use Rattle.psci_state.specs.declared.cores.Activity.{Activity}
 use Rattle.psci_state.specs.declared.cores.Activity.TheVariants as activities
 use Rattle.psci_state.specs.declared.cores.CoreState.{CoreState}
-use Rattle.psci_tree.specs.Recount.{is_active, is_away as is_gone}
+use Rattle.psci_tree.specs.Recount.{is_active, is_away as is_gone, active, is_active_at, is_away_at}
+use Rattle.psci_tree.specs.Recount.{never_started, off, state_at}
 use Rattle.psci_board.specs.declared.node.Node.{Node}
 use Rattle.psci_board.specs.Board.{HasNodeIn, below_in, cores, height, size_below}
 use Rattle.psci_board.specs.declared.span.CoreSpan.{CoreSpan}
 use Rattle.psci_board.specs.Laws.{SpanLaws}
-use Rattle.psci_tree.specs.Recount.{active, is_active_at, is_away_at, never_started, off, state_at}
 use Rattle.psci_fw_state.specs.declared.counts.StatusCounts.{StatusCounts}
 use Rattle.psci_fw_state.specs.declared.row.CoreRow.{CoreRow}
 use Rattle.psci_fw_state.specs.Counts.{counts_below, one_core}
 use Rattle.psci_fw_state.specs.Rows.{off_row, status_at}
 use Rattle.psci_fw_state.specs.Seen.{IsState, StateValue, phase_by}
-use Rattle.psci_fw_state.proofs.Counting.{few_cores}
+use Rattle.psci_tree.proofs.Ranges.{counted_both, ones, sums}
+use Rattle.psci_tree.proofs.Slices.{size_few}
 use Rattle.psci_fw_state.proofs.NodeStatus.{some_counted}
-use Rattle.psci_fw_state.proofs.CoreCounts.{others, sums, ones, at_most, equal, same_sums}
-use Rattle.psci_fw_state.proofs.CoreCounts.{same_less, started, away_or_not, away_is, settled_one}
-use Rattle.psci_fw_state.proofs.CoreCounts.{waiting_one}
+use Rattle.psci_fw_state.proofs.CoreCounts.{others, at_most, equal, same_sums, same_less, started}
+use Rattle.psci_fw_state.proofs.CoreCounts.{away_is, settled_one, waiting_one}
 
 -- The whole system -------------------------------------------------------------------------------
 
@@ -103,9 +101,7 @@ module _ (s : StateValue) (is : IsState s) (laws : SpanLaws s.board.levels) wher
 
   split : count_by away everyone + count_by (λ c. not (away c)) everyone ≡ cores s.board
   split =
-      sums (λ c. cond (away c) 1 0) (λ c. cond (not (away c)) 1 0) (λ c. 1) everyone
-      (λ c. away_or_not (away c))
-      ∙ ones everyone ∙ length-range_with_len 0 (cores s.board)
+      counted_both away everyone ∙ length-range_with_len 0 (cores s.board)
 
   -- a core after the last is off
   beyond : (c : ℕ) → cores s.board ≤ c → away c ≡ true
@@ -118,7 +114,7 @@ module _ (s : StateValue) (is : IsState s) (laws : SpanLaws s.board.levels) wher
 
   pub few_off : (n own : ℕ) → n ≡ off s.tree system → own ≤ 1 → n + own < 2 ^ 32
   few_off n own e h =
-      omega (arith, e, off_count, off_away, split, few_cores s.board.levels is.board.tree, h)
+      omega (arith, e, off_count, off_away, split, size_few s.board.levels is.board.tree, h)
 
   pub others_away : (c n own total : ℕ) → n ≡ off s.tree system
       → own ≡ cond (not (away c)) 1 0 → total ≡ cores s.board
@@ -150,7 +146,7 @@ module _ (s : StateValue) (is : IsState s) (laws : SpanLaws s.board.levels) wher
   pub fits_settled : (n m : ℕ) → n ≡ off s.tree system → m ≡ active s.tree system
       → n + m < 2 ^ 32
   fits_settled n m e f =
-      omega (arith, e, f, few_settled, few_cores s.board.levels is.board.tree)
+      omega (arith, e, f, few_settled, size_few s.board.levels is.board.tree)
 
   module _ (agree : (c : ℕ) → agrees (status_at s.rows c)
       (phase_by (status_at s.rows c) (activity c)) ≡ true) (n m : ℕ) (k : StatusCounts)

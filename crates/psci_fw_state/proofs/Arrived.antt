@@ -1,19 +1,17 @@
 -- A core arrives: what the values in the state are then.
-use Rattle.std.proofs.Common.{◌≡◌, ℕ, ◌==◌, Bool, true, false, cond, List}
-use Rattle.std.proofs.Common.{None, refl, sym, ◌∙◌, ap, arith}
+use Rattle.std.proofs.Common.{◌≡◌, ℕ, ◌==◌, Bool, true, false, cond, List, None, refl, sym, ◌∙◌, ap}
+use Rattle.std.proofs.Common.{arith}
 use Rattle.psci_board.specs.Board.{BoardValue}
 use Rattle.psci_messages.specs.Slots.{Slot, SlotsValue, changed, message_in}
 use Rattle.psci_messages.specs.Slots.Change.{Clear}
 use Rattle.psci_state.specs.declared.cores.Activity.{Activity}
 use Rattle.psci_state.specs.declared.cores.Activity.TheVariants as activities
 use Rattle.psci_state.specs.declared.cores.CoreState.{CoreState}
-use Rattle.psci_tree.specs.Recount.{TreeValue, state_at, granted_at, known_at}
-use Rattle.psci_tree.specs.Recount.{is_confirmed_at}
+use Rattle.psci_tree.specs.Recount.{TreeValue, state_at, granted_at, known_at, is_confirmed_at}
 use Rattle.psci_messages.specs.declared.start.Start.{Start}
 use Rattle.psci_fw_spec.specs.declared.status.Status.{Status}
 use Rattle.psci_fw_spec.specs.declared.status.Status.TheVariants as statuses
-use Rattle.psci_fw_spec.specs.Changes.{with_arrival, with_phase}
-use Rattle.psci_fw_spec.specs.Changes.{with_running}
+use Rattle.psci_fw_spec.specs.Changes.{with_arrival, with_phase, with_running}
 use Rattle.psci_fw_spec.specs.Lives.{in_life}
 use Rattle.psci_fw_spec.specs.Confirmed.{unconfirmed}
 use Rattle.psci_fw_spec.specs.Paths.{cleared}
@@ -23,13 +21,10 @@ use Rattle.psci_fw_spec.specs.Values.{Values, updated}
 use Rattle.psci_fw_state.specs.declared.row.CoreRow.{CoreRow}
 use Rattle.psci_fw_state.specs.declared.counts.StatusCounts.{StatusCounts}
 use Rattle.psci_fw_state.specs.Rows.{row_at}
-use Rattle.psci_fw_state.specs.Seen.{StateValue, is_pending_phase, phase_by, stopped}
-use Rattle.psci_fw_state.specs.Seen.{values_in}
-use Rattle.psci_fw_state.proofs.Changed.{Set, ap_set, both_set, core_set}
-use Rattle.psci_fw_state.proofs.Changed.{stays}
-use Rattle.psci_fw_state.proofs.Changed.{updated_is}
+use Rattle.psci_fw_state.specs.Seen.{StateValue, is_pending_phase, phase_by, stopped, values_in}
+use Rattle.psci_fw_state.proofs.Changed.{Set, ap_set, both_set, core_set, left_not_pending}
+use Rattle.psci_fw_state.proofs.Changed.{off_is_away, stays, updated_is}
 use Rattle.psci_fw_state.proofs.Equal.{arrived, same_values}
-use Rattle.psci_fw_state.proofs.Moved.{}
 
 -- Arrived ---------------------------------------------------------------------------------------
 
@@ -44,40 +39,6 @@ pub arrives : (b : BoardValue) (c : ℕ) (s : Start) (v : Values) → v.life ≡
     → with_arrival b c s v ≡ arrived b c s v
 arrives b c s v e = arrived_in b c s v (in_life b s.life v) (in_this b s.life v e)
 
-running_of : (b : BoardValue) (s : StateValue) (u : TreeValue) (rows : List CoreRow)
-    (counts : List (List StatusCounts)) (slots : SlotsValue) (c : ℕ) (start : Start)
-    → Set (state_at s.tree) (state_at u) c (record {
-      activity = activities.Active;
-      known = start.number;
-    })
-    → Set (row_at s.rows) (row_at rows) c (record { status = statuses.On; opening = None })
-    → ((l p : ℕ) → granted_at u l p ≡ cleared b c (granted_at s.tree) l p)
-    → ((l p : ℕ) → is_confirmed_at u l p ≡ unconfirmed b c (is_confirmed_at s.tree) l p)
-    → ((slot : Slot) → message_in slots slot
-    ≡ changed slot (Clear (record { number = c })) (message_in s.slots slot))
-    → values_in (record s { tree = u; rows = rows; counts = counts; slots = slots })
-    ≡ with_running c (arrived b c start (values_in s))
-unfolding values_in
-running_of b s u rows counts slots c start at row granted confirmed empty = same_values _ _
-    (record {
-      life = refl;
-      halting = refl;
-      mode = refl;
-      known = updated_is (known_at s.tree) (known_at u) c _
-          (ap_set (λ (x : CoreState). x.known) _ _ _ _ at);
-      status = updated_is (λ k. (row_at s.rows k).status) (λ k. (row_at rows k).status) c _
-          (ap_set (λ (r : CoreRow). r.status) _ _ _ _ row);
-      phase = updated_is (values_in s).phase
-          (values_in (record s { tree = u; rows = rows; counts = counts; slots = slots })).phase c _
-          (both_set (λ (r : CoreRow) (x : CoreState). phase_by r.status x.activity) (row_at s.rows)
-          (row_at rows) (state_at s.tree) (state_at u) c _ _ row at);
-      opening = updated_is (λ k. (row_at s.rows k).opening) (λ k. (row_at rows k).opening) c _
-          (ap_set (λ (r : CoreRow). r.opening) _ _ _ _ row);
-      granted = granted;
-      confirmed = confirmed;
-      outstanding = empty;
-    })
-
 pub running_changed : (s now : StateValue) (u : TreeValue) (rows : List CoreRow)
     (counts : List (List StatusCounts)) (slots : SlotsValue) (c : ℕ) (start : Start) → s ≡ now
     → (values_in now).life ≡ start.life
@@ -91,75 +52,41 @@ pub running_changed : (s now : StateValue) (u : TreeValue) (rows : List CoreRow)
     ≡ changed slot (Clear (record { number = c })) (message_in s.slots slot))
     → values_in (record s { tree = u; rows = rows; counts = counts; slots = slots })
     ≡ with_running c (with_arrival now.board c start (values_in now))
-running_changed s now u rows counts slots c start e life at row granted confirmed empty =
-    rw (← e)
-    (running_of s.board s u rows counts slots c start (core_set s.tree u c _ at) row granted
-    confirmed empty
-    ∙ ap (with_running c) (sym (arrives s.board c start (values_in s) (rw e life))))
-
--- the phase of a core that stops, by whether it was pending
-stopped_phase : (s : Status) (a : Activity) (pending : Bool)
-    → is_pending_phase (phase_by s a) ≡ pending
-    → phase_by s (stopped pending) ≡ unless_pending (phase_by s a) phases.Away
-stopped_phase statuses.On activities.Active true e = cc
-stopped_phase statuses.On activities.Active false e = refl
-stopped_phase statuses.Off activities.Active true e = cc
-stopped_phase statuses.Off activities.Active false e = refl
-stopped_phase statuses.Pending activities.Active true e = refl
-stopped_phase statuses.Pending activities.Active false e = cc
-stopped_phase statuses.On (activities.Suspended ask) true e = cc
-stopped_phase statuses.On (activities.Suspended ask) false e = refl
-stopped_phase statuses.Off (activities.Suspended ask) true e = cc
-stopped_phase statuses.Off (activities.Suspended ask) false e = refl
-stopped_phase statuses.Pending (activities.Suspended ask) true e = cc
-stopped_phase statuses.Pending (activities.Suspended ask) false e = refl
-stopped_phase statuses.On activities.Away true e = cc
-stopped_phase statuses.On activities.Away false e = refl
-stopped_phase statuses.Off activities.Away true e = cc
-stopped_phase statuses.Off activities.Away false e = refl
-stopped_phase statuses.Pending activities.Away true e = cc
-stopped_phase statuses.Pending activities.Away false e = refl
-
-stopped_of : (b : BoardValue) (s : StateValue) (u : TreeValue) (rows : List CoreRow)
-    (slots : SlotsValue) (c : ℕ) (start : Start) (pending : Bool)
-    → is_pending_phase ((values_in s).phase c) ≡ pending
-    → Set (state_at s.tree) (state_at u) c (record {
-      activity = stopped pending;
-      known = start.number;
-    })
-    → Set (row_at s.rows) (row_at rows) c (record {
-      status = (row_at s.rows c).status;
-      opening = None;
-    })
-    → ((l p : ℕ) → granted_at u l p ≡ cleared b c (granted_at s.tree) l p)
-    → ((l p : ℕ) → is_confirmed_at u l p ≡ unconfirmed b c (is_confirmed_at s.tree) l p)
-    → ((slot : Slot) → message_in slots slot
-    ≡ changed slot (Clear (record { number = c })) (message_in s.slots slot))
-    → values_in (record s { tree = u; rows = rows; slots = slots })
-    ≡ with_phase c phases.Away (arrived b c start (values_in s))
 unfolding values_in
-stopped_of b s u rows slots c start pending was at row granted confirmed empty = same_values _ _
-    (record {
+running_changed s now u rows counts slots c start e life at row granted confirmed empty =
+    let own : Set (state_at s.tree) (state_at u) c _ = core_set s.tree u c _ at in
+    let left : values_in (record s { tree = u; rows = rows; counts = counts; slots = slots })
+    ≡ with_running c (arrived s.board c start (values_in s)) = same_values _ _ (record {
       life = refl;
       halting = refl;
       mode = refl;
       known = updated_is (known_at s.tree) (known_at u) c _
-          (ap_set (λ (x : CoreState). x.known) _ _ _ _ at);
-      status = stays (λ k. (row_at s.rows k).status) (λ k. (row_at rows k).status) c _
-          (ap_set (λ (r : CoreRow). r.status) _ _ _ _ row) refl;
-      phase = λ k.
-          updated_is (values_in s).phase
-          (values_in (record s { tree = u; rows = rows; slots = slots })).phase c _
+          (ap_set (λ (x : CoreState). x.known) _ _ _ _ own);
+      status = updated_is (λ k. (row_at s.rows k).status) (λ k. (row_at rows k).status) c _
+          (ap_set (λ (r : CoreRow). r.status) _ _ _ _ row);
+      phase = updated_is (values_in s).phase
+          (values_in (record s { tree = u; rows = rows; counts = counts; slots = slots })).phase c _
           (both_set (λ (r : CoreRow) (x : CoreState). phase_by r.status x.activity) (row_at s.rows)
-          (row_at rows) (state_at s.tree) (state_at u) c _ _ row at) k
-          ∙ ap (λ (p : Phase). updated (values_in s).phase c p k)
-          (stopped_phase (row_at s.rows c).status (state_at s.tree c).activity pending was);
+          (row_at rows) (state_at s.tree) (state_at u) c _ _ row own);
       opening = updated_is (λ k. (row_at s.rows k).opening) (λ k. (row_at rows k).opening) c _
           (ap_set (λ (r : CoreRow). r.opening) _ _ _ _ row);
       granted = granted;
       confirmed = confirmed;
       outstanding = empty;
-    })
+    }) in
+    rw (← e) (left ∙ ap (with_running c) (sym (arrives s.board c start (values_in s) (rw e life))))
+
+-- the phase of a core that stops, by whether it was pending
+stopped_phase : (s : Status) (a : Activity) (pending : Bool)
+    → is_pending_phase (phase_by s a) ≡ pending
+    → phase_by s (stopped pending) ≡ unless_pending (phase_by s a) phases.Away
+stopped_phase statuses.Pending activities.Active true e = refl
+stopped_phase s activities.Active true e = cc
+stopped_phase statuses.On (activities.Suspended ask) true e = cc
+stopped_phase s (activities.Suspended ask) true e = cc
+stopped_phase statuses.On activities.Away true e = cc
+stopped_phase s activities.Away true e = cc
+stopped_phase s a false e = off_is_away s ∙ sym (left_not_pending (phase_by s a) phases.Away e)
 
 pub stopped_changed : (s now : StateValue) (u : TreeValue) (rows : List CoreRow)
     (slots : SlotsValue) (c : ℕ) (start : Start) (pending : Bool) → s ≡ now
@@ -177,8 +104,31 @@ pub stopped_changed : (s now : StateValue) (u : TreeValue) (rows : List CoreRow)
     ≡ changed slot (Clear (record { number = c })) (message_in s.slots slot))
     → values_in (record s { tree = u; rows = rows; slots = slots })
     ≡ with_phase c phases.Away (with_arrival now.board c start (values_in now))
+unfolding values_in
 stopped_changed s now u rows slots c start pending e life was at row granted confirmed empty =
+    let own : Set (state_at s.tree) (state_at u) c _ = core_set s.tree u c _ at in
+    let so : is_pending_phase ((values_in s).phase c) ≡ pending = rw e (sym was) in
+    let left : values_in (record s { tree = u; rows = rows; slots = slots })
+    ≡ with_phase c phases.Away (arrived s.board c start (values_in s)) = same_values _ _ (record {
+      life = refl;
+      halting = refl;
+      mode = refl;
+      known = updated_is (known_at s.tree) (known_at u) c _
+          (ap_set (λ (x : CoreState). x.known) _ _ _ _ own);
+      status = stays (λ k. (row_at s.rows k).status) (λ k. (row_at rows k).status) c _
+          (ap_set (λ (r : CoreRow). r.status) _ _ _ _ row) refl;
+      phase = λ k.
+          updated_is (values_in s).phase
+          (values_in (record s { tree = u; rows = rows; slots = slots })).phase c _
+          (both_set (λ (r : CoreRow) (x : CoreState). phase_by r.status x.activity) (row_at s.rows)
+          (row_at rows) (state_at s.tree) (state_at u) c _ _ row own) k
+          ∙ ap (λ (p : Phase). updated (values_in s).phase c p k)
+          (stopped_phase (row_at s.rows c).status (state_at s.tree c).activity pending so);
+      opening = updated_is (λ k. (row_at s.rows k).opening) (λ k. (row_at rows k).opening) c _
+          (ap_set (λ (r : CoreRow). r.opening) _ _ _ _ row);
+      granted = granted;
+      confirmed = confirmed;
+      outstanding = empty;
+    }) in
     rw (← e)
-    (stopped_of s.board s u rows slots c start pending (rw e (sym was)) (core_set s.tree u c _ at)
-    row granted confirmed empty
-    ∙ ap (with_phase c phases.Away) (sym (arrives s.board c start (values_in s) (rw e life))))
+    (left ∙ ap (with_phase c phases.Away) (sym (arrives s.board c start (values_in s) (rw e life))))

@@ -1,7 +1,7 @@
 -- A life begins: what the values in the state are then.
-use Rattle.std.proofs.Common.{◌≡◌, ℕ, ◌<◌, ◌≤◌, ◌==◌, ◌&&◌, Bool, true, false, cond}
-use Rattle.std.proofs.Common.{List, [], ◌∷◌, length, sum, drop, get_or, leb, ltb, not}
-use Rattle.std.proofs.Common.{None, Option, refl, sym, subst, ◌∙◌, ap, arith, inl, inr}
+use Rattle.std.proofs.Common.{◌≡◌, ℕ, ◌<◌, ◌≤◌, ◌==◌, ◌&&◌, Bool, true, false, cond, List, [], ◌∷◌}
+use Rattle.std.proofs.Common.{length, sum, drop, leb, ltb, not, None, Option, refl, sym, subst, ◌∙◌}
+use Rattle.std.proofs.Common.{ap, arith, inl, inr}
 use Rattle.std.specs.List.{AllPass}
 use Rattle.std.proofs.lemmas.Bool.{and_parts, cases_lt, ltb-true, leb-true}
 use Rattle.std.proofs.lemmas.List.{get_or-replicate, get_or_past, length-replicate}
@@ -14,13 +14,12 @@ use Rattle.psci_messages.specs.Slots.{Slot, SlotsValue, message_in, no_messages}
 use Rattle.psci_messages.specs.Slots.Slot.{OfCore, OfSystem}
 use Rattle.psci_state.specs.declared.cores.Activity.TheVariants as activities
 use Rattle.psci_state.specs.declared.cores.CoreState.{CoreState}
-use Rattle.psci_tree.specs.Recount.{IsDomainTree, TreeValue, state_at, granted_at}
-use Rattle.psci_tree.specs.Recount.{never_started, is_confirmed_at}
+use Rattle.psci_tree.specs.Recount.{IsDomainTree, TreeValue, state_at, granted_at, never_started}
+use Rattle.psci_tree.specs.Recount.{is_confirmed_at}
 use Rattle.psci_fw_spec.specs.declared.mode.SuspendMode.TheVariants.{Platform}
 use Rattle.psci_fw_spec.specs.declared.status.Status.TheVariants as statuses
 use Rattle.psci_fw_spec.specs.Lives.{first_confirmed, first_granted, first_phase, first_status}
-use Rattle.psci_fw_spec.specs.Lives.{in_life}
-use Rattle.psci_fw_spec.specs.Lives.{start_of_life}
+use Rattle.psci_fw_spec.specs.Lives.{in_life, start_of_life}
 use Rattle.psci_fw_spec.specs.Phases as phases
 use Rattle.psci_fw_spec.specs.Values.{Values, updated}
 use Rattle.psci_fw_state.specs.declared.row.CoreRow.{CoreRow}
@@ -28,8 +27,7 @@ use Rattle.psci_fw_state.specs.declared.counts.StatusCounts.{StatusCounts}
 use Rattle.psci_fw_state.specs.Rows.{AreFirst, first_row, off_row, row_at, status_at}
 use Rattle.psci_fw_state.specs.Seen.{IsState, StateValue, phase_by, values_in}
 use Rattle.psci_fw_state.proofs.Equal.{same_values}
-use Rattle.psci_fw_state.proofs.Beyond.{sizes_length, sizes_at, lengths_at, length_mapped}
-use Rattle.psci_fw_state.proofs.Beyond.{granted_beyond}
+use Rattle.psci_fw_state.proofs.Beyond.{confirmed_beyond, granted_beyond}
 
 -- Every board has a core ------------------------------------------------------------------------
 
@@ -97,9 +95,37 @@ first_is c = rw (eqb_swap 0 c) (by (c == 0) refl)
     by true e = refl
     by false e = refl
 
--- what is granted at the start of a life, by whether the domain is on the boot core's path
-abbrev depth : Bool → ℕ
-depth on_path = cond on_path 0 3
+-- what is said of each domain at the start of a life: one thing on the boot core's path, another
+-- beside it, and the first of what is not there
+first_said : {X : Type 0} (b : BoardValue) (l p : ℕ) (x on off : X)
+    → ((l ≤ height b → p < nodes b l → ⊥) → x ≡ on)
+    → (l ≤ height b → p < nodes b l → x ≡ cond (place_above b.levels l 0 == p) on off)
+    → x ≡ cond ((leb l (height b) && ltb p (nodes b l)) && not (p == place_above b.levels l 0))
+    off on
+first_said b l p x on off none law = by (leb l (height b)) (ltb p (nodes b l)) refl refl
+  where
+    apart : (y z : Bool) → leb l (height b) ≡ y → ltb p (nodes b l) ≡ z → (y && z) ≡ false
+        → l ≤ height b → p < nodes b l → ⊥
+    apart y z f g h i j = grind arith
+
+    by : (y z : Bool) → leb l (height b) ≡ y → ltb p (nodes b l) ≡ z
+        → x ≡ cond ((y && z) && not (p == place_above b.levels l 0)) off on
+    by false z f g = none (apart false z f g refl)
+    by true false f g = none (apart true false f g refl)
+    by true true f g =
+        law (leb-true _ _ f) (ltb-true _ _ g)
+        ∙ ap (λ t. cond t on off) (eqb_swap (place_above b.levels l 0) p)
+        ∙ flip (p == place_above b.levels l 0)
+      where
+        flip : (t : Bool) → cond t on off ≡ cond (not t) off on
+        flip true = refl
+        flip false = refl
+
+not_there : (b : BoardValue) (u : TreeValue) (l p : ℕ) → u.levels ≡ b.levels
+    → (l ≤ height b → p < nodes b l → ⊥)
+    → l ≤ length u.levels → p < size_below (drop l u.levels) → ⊥
+not_there b u l p e n =
+    subst (λ (ws : List (List ℕ)). l ≤ length ws → p < size_below (drop l ws) → ⊥) (sym e) n
 
 granted_first : (b : BoardValue) (u : TreeValue) (l p : ℕ) → IsDomainTree u → u.levels ≡ b.levels
     → (l ≤ height b → p < nodes b l
@@ -107,52 +133,8 @@ granted_first : (b : BoardValue) (u : TreeValue) (l p : ℕ) → IsDomainTree u 
     → granted_at u l p ≡ first_granted b l p
 unfolding up
 granted_first b u l p is e law =
-    by (leb l (height b)) (ltb p (nodes b l)) refl refl
-  where
-    apart : (x y : Bool) → leb l (height b) ≡ x → ltb p (nodes b l) ≡ y → (x && y) ≡ false
-        → l ≤ height b → p < nodes b l → ⊥
-    apart x y f g h i j = grind arith
-
-    none : (l ≤ height b → p < nodes b l → ⊥) → granted_at u l p ≡ 0
-    none n =
-        granted_beyond u l p is
-        (subst (λ (ws : List (List ℕ)). l ≤ length ws → p < size_below (drop l ws) → ⊥) (sym e) n)
-
-    by : (x y : Bool) → leb l (height b) ≡ x → ltb p (nodes b l) ≡ y
-        → granted_at u l p ≡ cond ((x && y) && not (p == place_above b.levels l 0)) 3 0
-    by false y f g = none (apart false y f g refl)
-    by true false f g = none (apart true false f g refl)
-    by true true f g =
-        law (leb-true _ _ f) (ltb-true _ _ g)
-        ∙ ap depth (eqb_swap (place_above b.levels l 0) p)
-        ∙ flip (p == place_above b.levels l 0)
-      where
-        flip : (t : Bool) → ◌≡◌ {A = ℕ} (cond t 0 3) (cond (not t) 3 0)
-        flip true = refl
-        flip false = refl
-
--- nothing is confirmed of a domain that is not there
-pub confirmed_beyond : (t : TreeValue) (l p : ℕ) → IsDomainTree t
-    → (l ≤ length t.levels → p < size_below (drop l t.levels) → ⊥) → is_confirmed_at t l p ≡ false
-confirmed_beyond t l p is n = elim (cases_lt (length t.levels) l) [
-  | inl h ↦
-      let none : get_or t.confirmed l [] ≡ [] =
-      get_or_past t.confirmed l [] (omega (
-        arith,
-        length_mapped t.confirmed,
-        ap length is.confirmed,
-        sizes_length t.levels,
-      )) in
-      rw none refl
-  | inr h ↦ elim (cases_lt p (size_below (drop l t.levels))) [
-    | inl k ↦ absurd (n h k)
-    | inr k ↦
-        let long : length (get_or t.confirmed l []) ≡ size_below (drop l t.levels) =
-        sym (lengths_at t.confirmed l) ∙ ap (λ xs. get_or xs l 0) is.confirmed
-        ∙ sizes_at t.levels l h in
-        ap (ltb 0) (get_or_past (get_or t.confirmed l []) p 0 (omega arith))
-  ]
-]
+    first_said b l p (granted_at u l p) 0 3 (λ n. granted_beyond u l p is (not_there b u l p e n))
+    law
 
 confirmed_first : (b : BoardValue) (u : TreeValue) (l p : ℕ) → IsDomainTree u
     → u.levels ≡ b.levels
@@ -161,29 +143,13 @@ confirmed_first : (b : BoardValue) (u : TreeValue) (l p : ℕ) → IsDomainTree 
     → is_confirmed_at u l p ≡ first_confirmed b l p
 unfolding up
 confirmed_first b u l p is e law =
-    by (leb l (height b)) (ltb p (nodes b l)) refl refl
+    first_said b l p (is_confirmed_at u l p) false true
+    (λ n. confirmed_beyond u l p is (not_there b u l p e n)) law
+    ∙ itself (first_confirmed b l p)
   where
-    apart : (x y : Bool) → leb l (height b) ≡ x → ltb p (nodes b l) ≡ y → (x && y) ≡ false
-        → l ≤ height b → p < nodes b l → ⊥
-    apart x y f g h i j = grind arith
-
-    none : (l ≤ height b → p < nodes b l → ⊥) → is_confirmed_at u l p ≡ false
-    none n =
-        confirmed_beyond u l p is
-        (subst (λ (ws : List (List ℕ)). l ≤ length ws → p < size_below (drop l ws) → ⊥) (sym e) n)
-
-    by : (x y : Bool) → leb l (height b) ≡ x → ltb p (nodes b l) ≡ y
-        → is_confirmed_at u l p ≡ ((x && y) && not (p == place_above b.levels l 0))
-    by false y f g = none (apart false y f g refl)
-    by true false f g = none (apart true false f g refl)
-    by true true f g =
-        law (leb-true _ _ f) (ltb-true _ _ g)
-        ∙ ap (λ t. cond t false true) (eqb_swap (place_above b.levels l 0) p)
-        ∙ flip (p == place_above b.levels l 0)
-      where
-        flip : (t : Bool) → cond t false true ≡ not t
-        flip true = refl
-        flip false = refl
+    itself : (t : Bool) → cond t true false ≡ t
+    itself true = refl
+    itself false = refl
 
 pub at_start : (b kept : BoardValue) (life : ℕ) (u : TreeValue) (rows : List CoreRow)
     (counts : List (List StatusCounts)) (slots : SlotsValue) → IsBoard b → IsDomainTree u
@@ -244,16 +210,12 @@ pub granted_shown : (s now : StateValue) (l p : ℕ) → s ≡ now → IsState s
     → (l ≤ height s.board → p < nodes s.board l → ⊥) → 0 ≡ (values_in now).granted l p
 unfolding values_in
 granted_shown s now l p e is n =
-    sym (granted_beyond s.tree l p is.tree
-    (subst (λ (ws : List (List ℕ)). l ≤ length ws → p < size_below (drop l ws) → ⊥)
-    (sym is.levels) n))
+    sym (granted_beyond s.tree l p is.tree (not_there s.board s.tree l p is.levels n))
     ∙ ap (λ (x : StateValue). granted_at x.tree l p) e
 
 pub confirmed_shown : (s now : StateValue) (l p : ℕ) → s ≡ now → IsState s
     → (l ≤ height s.board → p < nodes s.board l → ⊥) → false ≡ (values_in now).confirmed l p
 unfolding values_in
 confirmed_shown s now l p e is n =
-    sym (confirmed_beyond s.tree l p is.tree
-    (subst (λ (ws : List (List ℕ)). l ≤ length ws → p < size_below (drop l ws) → ⊥)
-    (sym is.levels) n))
+    sym (confirmed_beyond s.tree l p is.tree (not_there s.board s.tree l p is.levels n))
     ∙ ap (λ (x : StateValue). is_confirmed_at x.tree l p) e

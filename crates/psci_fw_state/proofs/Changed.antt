@@ -1,14 +1,13 @@
 -- What the values in a state say once the state of one core, or its row, is another one.
-use Rattle.std.proofs.Common.{◌≡◌, ℕ, ◌<◌, ◌==◌, Bool, true, false, cond, List, length}
-use Rattle.std.proofs.Common.{refl, sym, ◌∙◌, ap, arith}
+use Rattle.std.proofs.Common.{◌≡◌, ℕ, ◌<◌, ◌==◌, Bool, true, false, cond, List, length, refl, sym}
+use Rattle.std.proofs.Common.{◌∙◌, ap, arith}
 use Rattle.std.proofs.Math.ListN.{set}
 use Rattle.std.proofs.lemmas.Bool.{eqb-true, eqb-false}
 use Rattle.std.proofs.lemmas.List.{get_or-set_same, get_or-set_other}
 use Rattle.psci_board.specs.Board.{cores, size_below}
 use Rattle.psci_state.specs.declared.cores.Activity.TheVariants as activities
 use Rattle.psci_state.specs.declared.cores.CoreState.{CoreState}
-use Rattle.psci_tree.specs.Recount.{TreeValue, state_at, granted_at, known_at}
-use Rattle.psci_tree.specs.Recount.{is_confirmed_at}
+use Rattle.psci_tree.specs.Recount.{TreeValue, state_at, granted_at, known_at, is_confirmed_at}
 use Rattle.psci_fw_spec.specs.declared.status.Status.{Status}
 use Rattle.psci_fw_spec.specs.declared.status.Status.TheVariants as statuses
 use Rattle.psci_fw_spec.specs.Changes.{with_phase}
@@ -17,8 +16,7 @@ use Rattle.psci_fw_spec.specs.Phases as phases
 use Rattle.psci_fw_spec.specs.Values.{updated}
 use Rattle.psci_fw_state.specs.declared.row.CoreRow.{CoreRow}
 use Rattle.psci_fw_state.specs.Rows.{off_row, row_at}
-use Rattle.psci_fw_state.specs.Seen.{IsState, StateValue, is_pending_phase, phase_by}
-use Rattle.psci_fw_state.specs.Seen.{values_in}
+use Rattle.psci_fw_state.specs.Seen.{IsState, StateValue, is_pending_phase, phase_by, values_in}
 use Rattle.psci_fw_state.proofs.Equal.{same_values}
 
 -- One core --------------------------------------------------------------------------------------
@@ -92,9 +90,7 @@ off_is_away statuses.Pending = refl
 
 pub left_not_pending : (p left : Phase) → is_pending_phase p ≡ false → unless_pending p left ≡ left
 left_not_pending phases.Pending left e = cc
-left_not_pending phases.Running left e = refl
-left_not_pending (phases.Suspended ask) left e = refl
-left_not_pending phases.Away left e = refl
+left_not_pending p left e = refl
 
 pub suspended_is : (s : Status) (ask : List ℕ)
     → phase_by s (activities.Suspended ask) ≡ phases.Suspended ask
@@ -121,35 +117,6 @@ in_rows s now c e is inside =
 -- Changes ---------------------------------------------------------------------------------------
 
 -- a core that is not pending is off or going off
-away_of : (s : StateValue) (u : TreeValue) (c : ℕ)
-    → is_pending_phase ((values_in s).phase c) ≡ false
-    → Set (state_at s.tree) (state_at u) c (record {
-      activity = activities.Away;
-      known = known_at s.tree c;
-    })
-    → ((l p : ℕ) → granted_at u l p ≡ granted_at s.tree l p)
-    → ((l p : ℕ) → is_confirmed_at u l p ≡ is_confirmed_at s.tree l p)
-    → values_in (record s { tree = u }) ≡ with_phase c phases.Away (values_in s)
-unfolding values_in
-away_of s u c not at granted confirmed = same_values _ _ (record {
-  life = refl;
-  halting = refl;
-  mode = refl;
-  known = stays (known_at s.tree) (known_at u) c _ (ap_set (λ (x : CoreState). x.known) _ _ _ _ at)
-      refl;
-  status = λ k. refl;
-  phase = λ k.
-      updated_is (values_in s).phase (values_in (record s { tree = u })).phase c _
-      (both_set (λ (r : CoreRow) (x : CoreState). phase_by r.status x.activity) (row_at s.rows)
-      (row_at s.rows) (state_at s.tree) (state_at u) c _ _ (same_set (row_at s.rows) c) at) k
-      ∙ ap (λ (p : Phase). updated (values_in s).phase c p k) (off_is_away (row_at s.rows c).status
-      ∙ sym (left_not_pending ((values_in s).phase c) phases.Away not));
-  opening = λ k. refl;
-  granted = granted;
-  confirmed = confirmed;
-  outstanding = λ slot. refl;
-})
-
 pub away_changed : (s now : StateValue) (u : TreeValue) (c : ℕ) → s ≡ now
     → is_pending_phase ((values_in now).phase c) ≡ false
     → ((k : ℕ) → state_at u k
@@ -158,5 +125,28 @@ pub away_changed : (s now : StateValue) (u : TreeValue) (c : ℕ) → s ≡ now
     → ((l p : ℕ) → granted_at u l p ≡ granted_at s.tree l p)
     → ((l p : ℕ) → is_confirmed_at u l p ≡ is_confirmed_at s.tree l p)
     → values_in (record s { tree = u }) ≡ with_phase c phases.Away (values_in now)
+unfolding values_in
 away_changed s now u c e not at granted confirmed =
-    rw (← e) (away_of s u c (rw e not) (core_set s.tree u c _ at) granted confirmed)
+    let own : Set (state_at s.tree) (state_at u) c _ = core_set s.tree u c _ at in
+    let runs : is_pending_phase ((values_in s).phase c) ≡ false = rw e not in
+    let left : values_in (record s { tree = u }) ≡ with_phase c phases.Away (values_in s) =
+    same_values _ _ (record {
+      life = refl;
+      halting = refl;
+      mode = refl;
+      known = stays (known_at s.tree) (known_at u) c _
+          (ap_set (λ (x : CoreState). x.known) _ _ _ _ own) refl;
+      status = λ k. refl;
+      phase = λ k.
+          updated_is (values_in s).phase (values_in (record s { tree = u })).phase c _
+          (both_set (λ (r : CoreRow) (x : CoreState). phase_by r.status x.activity) (row_at s.rows)
+          (row_at s.rows) (state_at s.tree) (state_at u) c _ _ (same_set (row_at s.rows) c) own) k
+          ∙ ap (λ (p : Phase). updated (values_in s).phase c p k)
+          (off_is_away (row_at s.rows c).status
+          ∙ sym (left_not_pending ((values_in s).phase c) phases.Away runs));
+      opening = λ k. refl;
+      granted = granted;
+      confirmed = confirmed;
+      outstanding = λ slot. refl;
+    }) in
+    rw (← e) left

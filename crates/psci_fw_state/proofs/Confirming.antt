@@ -1,5 +1,5 @@
 -- Claims are confirmed one after another, from the core up.
-use Rattle.std.proofs.Common.{◌≡◌, ℕ, ◌+◌, ◌<◌, ◌≤◌, ◌==◌, ◌&&◌, Bool, true, false, cond, nat_lt}
+use Rattle.std.proofs.Common.{◌≡◌, ℕ, ◌+◌, ◌≤◌, ◌==◌, ◌&&◌, Bool, true, false, cond, nat_lt}
 use Rattle.std.proofs.Common.{List, length, slice_get, None, Option, refl, sym, ◌∙◌}
 use Rattle.std.proofs.Common.{ap, arith, inl, inr, min}
 use Rattle.std.specs.List.{sum_by}
@@ -18,13 +18,16 @@ use Rattle.psci_fw_spec.specs.Confirmed.{applied_part, is_made_at}
 use Rattle.psci_fw_state.specs.Confirming.{is_last_claim}
 use Rattle.psci_fw_state.specs.Seen.{StateValue, values_in}
 use Rattle.psci_fw_state.proofs.Beyond.{granted_beyond}
+use Rattle.psci_fw_state.proofs.LevelByLevel.{IsDone, all_levels, level_more}
+
+-- what the parts confirm
+abbrev last_claims : BoardValue → ℕ → List Part → TreeValue → ℕ → ℕ → Bool
+last_claims b c parts t l p = cond (is_last_claim b t c parts l p) true (is_confirmed_at t l p)
 
 -- what is confirmed once the parts below this level were looked at
 pub record IsConfirmed (b : BoardValue) (c : ℕ) (parts : List Part) (t u : TreeValue) (n : ℕ)
     : Type 0 where
-  pub low : (l p : ℕ) → l < n → is_confirmed_at u l p
-      ≡ cond (is_last_claim b t c parts l p) true (is_confirmed_at t l p)
-  pub high : (l p : ℕ) → n ≤ l → is_confirmed_at u l p ≡ is_confirmed_at t l p
+  pub done : IsDone (is_confirmed_at t) (last_claims b c parts t) (is_confirmed_at u) n
   pub granted : (l p : ℕ) → granted_at u l p ≡ granted_at t l p
   pub cores : (k : ℕ) → state_at u k ≡ state_at t k
   pub levels : u.levels ≡ t.levels
@@ -81,30 +84,22 @@ module _ (b : BoardValue) (c : ℕ) (parts : List Part) (t u w : TreeValue) (n :
         so_far.granted n (up b n c),
         sums,
         is,
-        so_far.high n (up b n c)
+        so_far.done.high n (up b n c)
             (omega arith),
       )
       refl))
   here p false e =
       let swapped : (up b n c == p) ≡ false = turned in
       let same : (n == n) ≡ true = grind arith in
-      rw e (law n p ∙ (rw (same, swapped) (so_far.high n p (omega arith))))
+      rw e (law n p ∙ (rw (same, swapped) (so_far.done.high n p (omega arith))))
     where
       turned : (up b n c == p) ≡ false
       turned = grind (arith, e)
 
-  more_low : (l p : ℕ) → l < n + 1 → is_confirmed_at w l p
-      ≡ cond (is_last_claim b t c parts l p) true (is_confirmed_at t l p)
-  more_low l p h = elim (cases_lt l n) [
-    | inl k ↦ other l p (λ e. absurd (omega arith)) ∙ so_far.low l p k
-    | inr k ↦
-        let same : l ≡ n = omega arith in rw same (here p (p == up b n c) refl)
-  ]
-
   pub confirmed_more : IsConfirmed b c parts t w (n + 1)
   confirmed_more = record {
-    low = more_low;
-    high = λ l p h. other l p (λ e. absurd (omega arith)) ∙ so_far.high l p (omega arith);
+    done = level_more (is_confirmed_at t) (last_claims b c parts t) (is_confirmed_at u)
+        (is_confirmed_at w) n other (λ p. here p (p == up b n c) refl) so_far.done;
     granted = λ l p. granted l p ∙ so_far.granted l p;
     cores = λ k. cores k ∙ so_far.cores k;
     levels = levels ∙ so_far.levels;
@@ -129,23 +124,23 @@ pub confirmed_all : (b : BoardValue) (c : ℕ) (parts : List Part) (t u : TreeVa
     → IsDomainTree t → t.levels ≡ b.levels → min (length parts) (height b + 1) ≤ n
     → IsConfirmed b c parts t u n → (l p : ℕ) → is_confirmed_at u l p
     ≡ cond (is_last_claim b t c parts l p) true (is_confirmed_at t l p)
-confirmed_all b c parts t u n is board end done l p = elim (cases_lt l n) [
-  | inl h ↦ done.low l p h
-  | inr h ↦ done.high l p h ∙ (elim (cases_lt (height b) l) [
-    | inl above ↦
-        let none : granted_at t l p ≡ 0 =
-        granted_beyond t l p is (λ low in'. absurd (omega (arith, ap length board))) in
-        sym (rw none (off (p == up b l c)))
-    | inr low ↦ confirmed_none b c parts t l p (slice_get_past parts l (short h low))
-  ])
-]
+confirmed_all b c parts t u n is board end so_far =
+    all_levels (is_confirmed_at t) (last_claims b c parts t) (is_confirmed_at u) n
+    (λ l p h. elim (cases_lt (height b) l) [
+      | inl above ↦
+          let none : granted_at t l p ≡ 0 =
+          granted_beyond t l p is (λ low in'. absurd (omega (arith, ap length board))) in
+          rw none (off l p (p == up b l c))
+      | inr low ↦ sym (confirmed_none b c parts t l p (slice_get_past parts l (short l h low)))
+    ]) so_far.done
   where
-    off : (on : Bool) → cond (on && false) true (is_confirmed_at t l p) ≡ is_confirmed_at t l p
-    off true = refl
-    off false = refl
+    off : (l p : ℕ) (on : Bool)
+        → cond (on && false) true (is_confirmed_at t l p) ≡ is_confirmed_at t l p
+    off l p true = refl
+    off l p false = refl
 
-    short : n ≤ l → l ≤ height b → length parts ≤ l
-    short h low = elim (cases_lt (length parts) (height b + 1)) [
+    short : (l : ℕ) → n ≤ l → l ≤ height b → length parts ≤ l
+    short l h low = elim (cases_lt (length parts) (height b + 1)) [
       | inl few ↦
           let least : min (length parts) (height b + 1) ≡ length parts =
           min-eq_left (omega arith) in omega (arith, least, end, h)

@@ -1,10 +1,8 @@
 -- What is counted of each core, and what such counts say of all cores but one.
-use Rattle.std.proofs.Common.{◌≡◌, ℕ, zero, suc, ◌+◌, ◌<◌, ◌≤◌, ◌==◌, ◌||◌, ◌&&◌, Bool, true, false}
-use Rattle.std.proofs.Common.{cond, not, ltb, List, [], ◌∷◌, length, refl, ap, sym, ◌∙◌}
-use Rattle.std.proofs.Common.{arith}
-use Rattle.std.proofs.Common.{inl, inr}
+use Rattle.std.proofs.Common.{◌≡◌, ℕ, ◌+◌, ◌≤◌, ◌==◌, ◌||◌, Bool, true, false, cond, not, ltb}
+use Rattle.std.proofs.Common.{List, [], ◌∷◌, refl, ap, sym, ◌∙◌, arith, inl, inr}
 use Rattle.std.specs.List.{sum_by, count_by, list_all, range_with_len}
-use Rattle.std.proofs.lemmas.Bool.{cases_eq, cases_lt, eq-eqb, ne_eqb}
+use Rattle.std.proofs.lemmas.Bool.{cases_lt, eq-eqb, ne_eqb}
 use Rattle.std.proofs.lemmas.List.Sums.{sum_by-cons}
 use Rattle.psci_fw_spec.specs.declared.status.Status.{Status}
 use Rattle.psci_fw_spec.specs.declared.status.Status.TheVariants as statuses
@@ -15,23 +13,11 @@ use Rattle.psci_fw_spec.specs.SystemCalls.{is_off_status}
 use Rattle.psci_state.specs.declared.cores.Activity.{Activity}
 use Rattle.psci_state.specs.declared.cores.Activity.TheVariants as activities
 use Rattle.psci_tree.specs.Recount.{is_active, is_away as is_gone}
+use Rattle.psci_tree.proofs.Ranges.{all_counted, range_once, range_same}
 use Rattle.psci_fw_state.specs.Seen.{phase_by}
+use Rattle.psci_fw_state.proofs.Changed.{off_is_away, suspended_is}
 
 -- All cores but one ------------------------------------------------------------------------------
-
-all_step : (t : Bool) (n : ℕ) (rest : Bool) → rest ≡ (n == 0)
-    → (t && rest) ≡ ((cond (not t) 1 0 + n) == 0)
-all_step true n rest e =
-    let same : n ≡ 0 + n = omega arith in e ∙ ap (λ x. x == 0) same
-all_step false n rest e = sym (ne_eqb (1 + n) 0 (λ z. omega (arith, z)))
-
--- all pass where none are counted that do not
-all_counted : (p : ℕ → Bool) (xs : List ℕ)
-    → list_all p xs ≡ (count_by (λ k. not (p k)) xs == 0)
-all_counted p [] = refl
-all_counted p (x ∷ xs) =
-    all_step (p x) (count_by (λ k. not (p k)) xs) (list_all p xs) (all_counted p xs)
-    ∙ ap (λ n. n == 0) (sym (sum_by-cons (λ k. cond (not (p k)) 1 0) x xs))
 
 module _ (test : ℕ → Bool) (c : ℕ) where
   beside : (k : ℕ) → (k ≡ c → ⊥)
@@ -41,50 +27,20 @@ module _ (test : ℕ → Bool) (c : ℕ) where
   here : ◌≡◌ {A = ℕ} (cond (not (c == c || test c)) 1 0) 0
   here = let yes : (c == c) ≡ true = eq-eqb c c refl in rw yes refl
 
-  but_none : (a n : ℕ) → ((k : ℕ) → a ≤ k → k < a + n → k ≡ c → ⊥)
-      → count_by (λ k. not (k == c || test k)) (range_with_len a n)
-      ≡ count_by (λ k. not (test k)) (range_with_len a n)
-  but_none a zero h = refl
-  but_none a (suc n) h = omega (
-    arith,
-    sum_by-cons (λ k. cond (not (k == c || test k)) 1 0) a (range_with_len (a + 1) n),
-    sum_by-cons (λ k. cond (not (test k)) 1 0) a (range_with_len (a + 1) n),
-    beside a (h a (omega arith) (omega arith)),
-    but_none (a + 1) n (λ k p q. h k (omega arith) (omega arith)),
-  )
-
-  but_one : (a n : ℕ) → a ≤ c → c < a + n
-      → count_by (λ k. not (k == c || test k)) (range_with_len a n) + cond (not (test c)) 1 0
-      ≡ count_by (λ k. not (test k)) (range_with_len a n)
-  but_one a zero p q = absurd (omega arith)
-  but_one a (suc n) p q = elim (cases_eq a c) [
-    | inl e ↦ omega (
-      arith,
-      sum_by-cons (λ k. cond (not (k == c || test k)) 1 0) a (range_with_len (a + 1) n),
-      sum_by-cons (λ k. cond (not (test k)) 1 0) a (range_with_len (a + 1) n),
-      ap {B = ℕ} (λ k. cond (not (k == c || test k)) 1 0) e ∙ here,
-      ap {B = ℕ} (λ k. cond (not (test k)) 1 0) e,
-      but_none (a + 1) n (λ k i j r. omega (arith, e, r)),
-    )
-    | inr e ↦ omega (
-      arith,
-      sum_by-cons (λ k. cond (not (k == c || test k)) 1 0) a (range_with_len (a + 1) n),
-      sum_by-cons (λ k. cond (not (test k)) 1 0) a (range_with_len (a + 1) n),
-      beside a e,
-      but_one (a + 1) n (omega (arith, e)) (omega arith),
-    )
-  ]
-
   own_counted : (n : ℕ) → (n ≤ c → test c ≡ true)
       → count_by (λ k. not (k == c || test k)) (range_with_len 0 n) + cond (not (test c)) 1 0
       ≡ count_by (λ k. not (test k)) (range_with_len 0 n)
-  own_counted n h = elim (cases_lt c n) [
-    | inl p ↦ but_one 0 n (omega arith) (omega arith)
-    | inr p ↦
-        let none : ◌≡◌ {A = ℕ} (cond (not (test c)) 1 0) 0 =
-        ap {B = ℕ} (λ b. cond (not b) 1 0) (h p) in
-        omega (arith, none, but_none 0 n (λ k i j r. omega (arith, p, r)))
-  ]
+  own_counted n h =
+      let f : ℕ → ℕ = λ k. cond (not (k == c || test k)) 1 0 in
+      let g : ℕ → ℕ = λ k. cond (not (test k)) 1 0 in
+      elim (cases_lt c n) [
+        | inl p ↦ omega (arith, range_once f g 0 n c (omega arith) (omega arith) beside, here)
+        | inr p ↦
+            let none : ◌≡◌ {A = ℕ} (cond (not (test c)) 1 0) 0 =
+            ap {B = ℕ} (λ b. cond (not b) 1 0) (h p) in
+            let rest = range_same f g 0 n (λ k i j. beside k (λ r. omega (arith, p, r))) in
+            omega (arith, none, rest)
+      ]
 
 same_test : (x y z : ℕ) → x + y ≡ z → (x == 0) ≡ (z == y)
 same_test x y z e = grind arith
@@ -99,32 +55,13 @@ others test c n h =
 
 -- Sums over cores --------------------------------------------------------------------------------
 
--- where it is so of each core, it is so of their sums
-pub sums : (f g h : ℕ → ℕ) (xs : List ℕ) → ((k : ℕ) → f k + g k ≡ h k)
-    → sum_by f xs + sum_by g xs ≡ sum_by h xs
-sums f g h [] e = refl
-sums f g h (x ∷ xs) e = omega (
-  arith,
-  sum_by-cons f x xs,
-  sum_by-cons g x xs,
-  sum_by-cons h x xs,
-  e x,
-  sums f g h xs e,
-)
-
-pub ones : (xs : List ℕ) → sum_by (λ k. 1) xs ≡ length xs
-ones [] = refl
-ones (x ∷ xs) = omega (arith, sum_by-cons (λ k. 1) x xs, ones xs)
-
 pub at_most : (f g : ℕ → ℕ) (xs : List ℕ) → ((k : ℕ) → f k ≤ g k) → sum_by f xs ≤ sum_by g xs
 at_most f g [] e = omega arith
 at_most f g (x ∷ xs) e =
     omega (arith, sum_by-cons f x xs, sum_by-cons g x xs, e x, at_most f g xs e)
 
 pub equal : (f g : ℕ → ℕ) (xs : List ℕ) → ((k : ℕ) → f k ≡ g k) → sum_by f xs ≡ sum_by g xs
-equal f g [] e = refl
-equal f g (x ∷ xs) e =
-    omega (arith, sum_by-cons f x xs, sum_by-cons g x xs, e x, equal f g xs e)
+equal f g xs e = λ i. sum_by (λ k. e k i) xs
 
 pub same_sums : (n own rest total : ℕ) → n + rest ≡ total → (n + own == total) ≡ (rest == own)
 same_sums n own rest total e = grind arith
@@ -140,20 +77,11 @@ started statuses.On = refl
 started statuses.Off = refl
 started statuses.Pending = refl
 
-pub away_or_not : (b : Bool) → ◌≡◌ {A = ℕ} (cond b 1 0 + cond (not b) 1 0) 1
-away_or_not true = refl
-away_or_not false = refl
-
 pub away_is : (s : Status) (a : Activity) → is_gone a ≡ is_away (phase_by s a)
 away_is statuses.On activities.Active = refl
-away_is statuses.Off activities.Active = refl
-away_is statuses.Pending activities.Active = refl
-away_is statuses.On (activities.Suspended ask) = refl
-away_is statuses.Off (activities.Suspended ask) = refl
-away_is statuses.Pending (activities.Suspended ask) = refl
-away_is statuses.On activities.Away = refl
-away_is statuses.Off activities.Away = refl
-away_is statuses.Pending activities.Away = refl
+away_is s activities.Active = refl
+away_is s (activities.Suspended ask) = sym (ap is_away (suspended_is s ask))
+away_is s activities.Away = sym (ap is_away (off_is_away s))
 
 pub settled_one : (a : Activity) → cond (is_gone a) 1 0 + cond (is_active a) 1 0 ≤ 1
 settled_one activities.Active = omega arith

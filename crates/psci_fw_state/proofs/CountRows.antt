@@ -1,9 +1,10 @@
 -- Worked examples of what is counted of the cores below a power domain: boards of height 1, 2 and
 -- 3, even and uneven.
-use Rattle.std.proofs.Common.{◌≡◌, ℕ, zero, suc, ◌<◌, ◌≤◌, List, [], ◌∷◌, length, map, drop}
+use Rattle.std.proofs.Common.{◌≡◌, ℕ, zero, suc, ◌<◌, ◌≤◌, List, [], ◌∷◌, length, drop}
 use Rattle.std.proofs.Common.{get_or, refl, ap, arith}
 use Rattle.psci_board.specs.declared.node.Node.{Node}
 use Rattle.psci_board.specs.Board.{size_below}
+use Rattle.psci_board.proofs.Tables.{◌⇒◌, Gives}
 use Rattle.psci_fw_spec.specs.declared.status.Status.{Status}
 use Rattle.psci_fw_spec.specs.declared.status.Status.TheVariants.{On, Off, Pending}
 use Rattle.psci_fw_state.specs.declared.counts.StatusCounts.{StatusCounts}
@@ -24,24 +25,25 @@ cores_are statuses c = get_or statuses c Off
 
 -- One core, and several --------------------------------------------------------------------------
 
-of_one : map one_core (On ∷ Off ∷ Pending ∷ []) ≡ count 1 0 ∷ count 0 0 ∷ count 0 1 ∷ []
+of_one : Gives one_core (On ⇒ count 1 0 ∷ Off ⇒ count 0 0 ∷ Pending ⇒ count 0 1 ∷ [])
 of_one = refl
 
 of_none : no_cores ≡ count 0 0
 of_none = refl
 
 -- one that is ON comes before any number that are ON_PENDING
-together : map status_counted (count 0 0 ∷ count 0 1 ∷ count 0 7 ∷ count 1 0 ∷ count 1 7 ∷ [])
-    ≡ Off ∷ Pending ∷ Pending ∷ On ∷ On ∷ []
+together : Gives status_counted (count 0 0 ⇒ Off ∷ count 0 1 ⇒ Pending ∷ count 0 7 ⇒ Pending
+    ∷ count 1 0 ⇒ On ∷ count 1 7 ⇒ On ∷ [])
 together = refl
 
 -- asked on, entered, gone off, and the other way round
-counted_anew : recounted (count 2 1) (one_core Off) (one_core Pending)
-    ∷ recounted (count 2 1) (one_core Pending) (one_core On)
-    ∷ recounted (count 2 1) (one_core On) (one_core Off)
-    ∷ recounted (count 2 1) (one_core Pending) (one_core Off)
-    ∷ recounted (count 2 1) (one_core On) (one_core Pending) ∷ []
-    ≡ count 2 2 ∷ count 3 0 ∷ count 1 1 ∷ count 2 0 ∷ count 1 2 ∷ []
+counted_anew : Gives
+    (λ (q : Status × Status). recounted (count 2 1) (one_core q.0) (one_core q.1))
+    ((Off, Pending) ⇒ count 2 2
+    ∷ (Pending, On) ⇒ count 3 0
+    ∷ (On, Off) ⇒ count 1 1
+    ∷ (Pending, Off) ⇒ count 2 0
+    ∷ (On, Pending) ⇒ count 1 2 ∷ [])
 counted_anew = refl
 
 none_to_take_away : MayRecount (count 0 3) (one_core On) (one_core Off) → ⊥
@@ -59,9 +61,8 @@ too_many_pending h = let e : 65536 < 65536 = h.few_pending in omega arith
 -- Below a domain ---------------------------------------------------------------------------------
 
 -- height 1: three cores below the system, which has no neighbour
-one_level : counts_below ((3 ∷ []) ∷ []) (cores_are (On ∷ Pending ∷ On ∷ [])) (node 1 0)
-    ∷ counts_below ((3 ∷ []) ∷ []) (cores_are (On ∷ Pending ∷ On ∷ [])) (node 1 1) ∷ []
-    ≡ count 2 1 ∷ count 0 0 ∷ []
+one_level : Gives (counts_below ((3 ∷ []) ∷ []) (cores_are (On ∷ Pending ∷ On ∷ [])))
+    (node 1 0 ⇒ count 2 1 ∷ node 1 1 ⇒ count 0 0 ∷ [])
 unfolding counts_below
 one_level = refl
 
@@ -72,9 +73,9 @@ uneven = (1 ∷ 3 ∷ 2 ∷ []) ∷ (3 ∷ []) ∷ []
 abbrev statuses : ℕ → Status
 statuses = cores_are (Pending ∷ On ∷ Off ∷ Pending ∷ Off ∷ On ∷ [])
 
-two_levels : counts_below uneven statuses (node 1 0) ∷ counts_below uneven statuses (node 1 1)
-    ∷ counts_below uneven statuses (node 1 2) ∷ counts_below uneven statuses (node 2 0) ∷ []
-    ≡ count 0 1 ∷ count 1 1 ∷ count 1 0 ∷ count 2 2 ∷ []
+two_levels : Gives (counts_below uneven statuses)
+    (node 1 0 ⇒ count 0 1 ∷ node 1 1 ⇒ count 1 1 ∷ node 1 2 ⇒ count 1 0
+    ∷ node 2 0 ⇒ count 2 2 ∷ [])
 unfolding counts_below
 two_levels = refl
 
@@ -85,10 +86,10 @@ high = (2 ∷ 1 ∷ 1 ∷ []) ∷ (1 ∷ 2 ∷ []) ∷ (2 ∷ []) ∷ []
 abbrev of_high : ℕ → Status
 of_high = cores_are (On ∷ On ∷ Pending ∷ On ∷ [])
 
-three_levels : counts_below high of_high (node 1 0) ∷ counts_below high of_high (node 1 1)
-    ∷ counts_below high of_high (node 1 2) ∷ counts_below high of_high (node 2 0)
-    ∷ counts_below high of_high (node 2 1) ∷ counts_below high of_high (node 3 0) ∷ []
-    ≡ count 2 0 ∷ count 0 1 ∷ count 1 0 ∷ count 2 0 ∷ count 1 1 ∷ count 3 1 ∷ []
+three_levels : Gives (counts_below high of_high)
+    (node 1 0 ⇒ count 2 0 ∷ node 1 1 ⇒ count 0 1 ∷ node 1 2 ⇒ count 1 0
+    ∷ node 2 0 ⇒ count 2 0 ∷ node 2 1 ⇒ count 1 1
+    ∷ node 3 0 ⇒ count 3 1 ∷ [])
 unfolding counts_below
 three_levels = refl
 
@@ -98,25 +99,24 @@ abbrev kept : List (List StatusCounts)
 kept = (count 0 1 ∷ count 1 1 ∷ count 1 0 ∷ []) ∷ (count 2 2 ∷ []) ∷ []
 
 -- by level from 1 up, and by place; of no other domain
-found : counts_at kept 1 0 ∷ counts_at kept 1 2 ∷ counts_at kept 2 0 ∷ counts_at kept 2 1
-    ∷ counts_at kept 3 0 ∷ [] ≡ count 0 1 ∷ count 1 0 ∷ count 2 2 ∷ count 0 0 ∷ count 0 0 ∷ []
+found : Gives (λ (q : ℕ × ℕ). counts_at kept q.0 q.1)
+    ((1, 0) ⇒ count 0 1 ∷ (1, 2) ⇒ count 1 0 ∷ (2, 0) ⇒ count 2 2 ∷ (2, 1) ⇒ count 0 0
+    ∷ (3, 0) ⇒ count 0 0 ∷ [])
 found = refl
 
-written : with_counts kept (node 1 1) (count 2 0)
-    ≡ (count 0 1 ∷ count 2 0 ∷ count 1 0 ∷ []) ∷ (count 2 2 ∷ []) ∷ []
+written : Gives (λ (q : Node × StatusCounts). with_counts kept q.0 q.1)
+    ((node 1 1, count 2 0)
+    ⇒ ((count 0 1 ∷ count 2 0 ∷ count 1 0 ∷ []) ∷ (count 2 2 ∷ []) ∷ [])
+    ∷ (node 2 0, count 3 1)
+    ⇒ ((count 0 1 ∷ count 1 1 ∷ count 1 0 ∷ []) ∷ (count 3 1 ∷ []) ∷ []) ∷ [])
 written = refl
-
-written_above : with_counts kept (node 2 0) (count 3 1)
-    ≡ (count 0 1 ∷ count 1 1 ∷ count 1 0 ∷ []) ∷ (count 3 1 ∷ []) ∷ []
-written_above = refl
 
 places : (level : ℕ) → 0 < level → level ≤ length uneven
     → length (level_counts kept level) ≡ size_below (drop level uneven)
 places zero some top = absurd (omega arith)
 places (suc zero) some top = refl
 places (suc (suc zero)) some top = refl
-places (suc (suc (suc level))) some top = absurd
-    (let e : suc (suc (suc level)) ≤ 2 = top in omega arith)
+places (suc (suc (suc level))) some top = absurd (omega (arith, top))
 
 each : (level place : ℕ) → 0 < level → level ≤ length uneven
     → place < size_below (drop level uneven)
@@ -126,13 +126,10 @@ each zero place some top inside = absurd (omega arith)
 each (suc zero) zero some top inside = refl
 each (suc zero) (suc zero) some top inside = refl
 each (suc zero) (suc (suc zero)) some top inside = refl
-each (suc zero) (suc (suc (suc place))) some top inside =
-    absurd (let e : suc (suc (suc place)) < 3 = inside in omega arith)
+each (suc zero) (suc (suc (suc place))) some top inside = absurd (omega (arith, inside))
 each (suc (suc zero)) zero some top inside = refl
-each (suc (suc zero)) (suc place) some top inside =
-    absurd (let e : suc place < 1 = inside in omega arith)
-each (suc (suc (suc level))) place some top inside =
-    absurd (let e : suc (suc (suc level)) ≤ 2 = top in omega arith)
+each (suc (suc zero)) (suc place) some top inside = absurd (omega (arith, inside))
+each (suc (suc (suc level))) place some top inside = absurd (omega (arith, top))
 
 kept_so : AreCounts uneven statuses kept
 kept_so = record { shape = record { height = refl; domains = places }; each = each }

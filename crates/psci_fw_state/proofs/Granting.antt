@@ -1,12 +1,10 @@
 -- Parts are granted one after another, from the core up.
-use Rattle.std.proofs.Common.{◌≡◌, ℕ, ◌+◌, ◌-◌, ◌<◌, ◌≤◌, ◌==◌, ◌&&◌, Bool, true, false, cond}
-use Rattle.std.proofs.Common.{List, length, drop, slice_get, Some, Option, refl, sym}
-use Rattle.std.proofs.Common.{subst, ◌∙◌}
-use Rattle.std.proofs.Common.{ap, arith, inl, inr, add-one}
-use Rattle.std.proofs.lemmas.Bool.{cases_lt, eqb-true}
+use Rattle.std.proofs.Common.{◌≡◌, ℕ, ◌+◌, ◌-◌, ◌<◌, ◌≤◌, ◌==◌, ◌&&◌, Bool, true, false, cond, List}
+use Rattle.std.proofs.Common.{length, drop, slice_get, Some, Option, refl, sym, subst, ◌∙◌, ap}
+use Rattle.std.proofs.Common.{arith, add-one}
+use Rattle.std.proofs.lemmas.Bool.{eqb-true}
 use Rattle.std.proofs.lemmas.Option.{slice_get_past}
-use Rattle.psci_board.specs.Board.{BoardValue, HasNodeIn, cores, height, place_above}
-use Rattle.psci_board.specs.Board.{size_below}
+use Rattle.psci_board.specs.Board.{BoardValue, HasNodeIn, cores, height, place_above, size_below}
 use Rattle.psci_board.specs.Board.{up}
 use Rattle.psci_board.specs.Laws.{PathLaws}
 use Rattle.psci_board.specs.declared.node.Node.{Node}
@@ -18,21 +16,20 @@ use Rattle.psci_tree.specs.Recount.{TreeValue, granted_at, is_confirmed_at}
 use Rattle.psci_fw_spec.specs.Confirmed.{claimed_anew, unless_claimed}
 use Rattle.psci_fw_spec.specs.Paths.{claimed_or, granted_with}
 use Rattle.psci_fw_state.specs.Claims.{MayClaim}
+use Rattle.psci_fw_state.proofs.LevelByLevel.{IsDone, all_levels, level_more, other_level}
 
 -- below this level the tree grants what the parts say, and from it up what it granted before
-pub record IsLaid (b : BoardValue) (c : ℕ) (parts : List Part) (before : ℕ → ℕ → ℕ) (t : TreeValue)
-    (n : ℕ) : Type 0 where
-  pub low : (l p : ℕ) → l < n → granted_at t l p ≡ granted_with b c parts before l p
-  pub high : (l p : ℕ) → n ≤ l → granted_at t l p ≡ before l p
+abbrev pub IsLaid : BoardValue → ℕ → List Part → (ℕ → ℕ → ℕ) → TreeValue → ℕ → Type 0
+IsLaid b c parts before t n = IsDone before (granted_with b c parts before) (granted_at t) n
 
 eqb_swap : (x y : ℕ) → (x == y) ≡ (y == x)
 eqb_swap x y = grind arith
 
--- the node of a level on a core's path, as the tree says it
 -- the node of this level and place
 abbrev pub node_at : ℕ → ℕ → Node
 node_at level place = record { level = level; place = place }
 
+-- the node of a level on a core's path, as the tree says it
 pub on_board : (b : BoardValue) (ws : List (List ℕ)) (core level : ℕ) (node : Node)
     → node ≡ on_path_of ws core level → ws ≡ b.levels
     → node ≡ record { level = level; place = up b level core }
@@ -66,35 +63,19 @@ module _ (b : BoardValue) (c : ℕ) (parts : List Part) (before : ℕ → ℕ �
     (law : (l p : ℕ) → granted_at u l p
     ≡ cond ((n == l) && (up b n c == p)) part.depth (granted_at t l p))
     (so_far : IsLaid b c parts before t n) where
-  other : (l p : ℕ) → (n ≡ l → ⊥) → granted_at u l p ≡ granted_at t l p
-  other l p ne = let no : (n == l) ≡ false = apart in law l p ∙ (rw no refl)
-    where
-      apart : (n == l) ≡ false
-      apart = grind arith
-
   here : (p : ℕ) → granted_at u n p ≡ granted_with b c parts before n p
   here p =
       let yes : (n == n) ≡ true = grind arith in
       law n p ∙ (rw (yes, is, eqb_swap (up b n c) p, so_far.high n p (omega arith)) refl)
 
-  more_low : (l p : ℕ) → l < n + 1 → granted_at u l p ≡ granted_with b c parts before l p
-  more_low l p h = elim (cases_lt l n) [
-    | inl k ↦ other l p (λ e. absurd (omega arith)) ∙ so_far.low l p k
-    | inr k ↦
-        let same : l ≡ n = omega arith in rw same (here p)
-  ]
-
   pub laid_more : IsLaid b c parts before u (n + 1)
-  laid_more = record {
-    low = more_low;
-    high = λ l p h. other l p (λ e. absurd (omega arith)) ∙ so_far.high l p (omega arith);
-  }
+  laid_more = level_more before (granted_with b c parts before) (granted_at t) (granted_at u) n
+      (other_level (λ l p. part.depth) (granted_at u) (granted_at t) n (up b n c) law) here so_far
 
 -- below this level no claim of the parts is confirmed, and from it up all is as before
-pub record IsUnconfirmed (b : BoardValue) (c : ℕ) (parts : List Part) (before : ℕ → ℕ → Bool)
-    (t : TreeValue) (n : ℕ) : Type 0 where
-  pub low : (l p : ℕ) → l < n → is_confirmed_at t l p ≡ claimed_anew b c parts before l p
-  pub high : (l p : ℕ) → n ≤ l → is_confirmed_at t l p ≡ before l p
+abbrev pub IsUnconfirmed : BoardValue → ℕ → List Part → (ℕ → ℕ → Bool) → TreeValue → ℕ → Type 0
+IsUnconfirmed b c parts before t n =
+    IsDone before (claimed_anew b c parts before) (is_confirmed_at t) n
 
 -- one part more: something is granted now where nothing was
 module _ (b : BoardValue) (c : ℕ) (parts : List Part) (before : ℕ → ℕ → Bool) (t u : TreeValue)
@@ -104,12 +85,6 @@ module _ (b : BoardValue) (c : ℕ) (parts : List Part) (before : ℕ → ℕ �
     ≡ cond ((n == l) && (up b n c == p)) ((granted_at t l p == part.depth) && is_confirmed_at t l p)
     (is_confirmed_at t l p))
     (so_far : IsUnconfirmed b c parts before t n) where
-  other_level : (l p : ℕ) → (n ≡ l → ⊥) → is_confirmed_at u l p ≡ is_confirmed_at t l p
-  other_level l p ne = let no : (n == l) ≡ false = apart in law l p ∙ (rw no refl)
-    where
-      apart : (n == l) ≡ false
-      apart = grind arith
-
   this_level : (p : ℕ) (on : Bool) → (p == up b n c) ≡ on
       → is_confirmed_at u n p ≡ claimed_anew b c parts before n p
   this_level p true e =
@@ -126,35 +101,27 @@ module _ (b : BoardValue) (c : ℕ) (parts : List Part) (before : ℕ → ℕ �
       let no : (up b n c == p) ≡ false = eqb_swap (up b n c) p ∙ e in
       rw e (law n p ∙ (rw (same, no) (so_far.high n p (omega arith))))
 
-  unconfirmed_low : (l p : ℕ) → l < n + 1
-      → is_confirmed_at u l p ≡ claimed_anew b c parts before l p
-  unconfirmed_low l p h = elim (cases_lt l n) [
-    | inl k ↦ other_level l p (λ e. absurd (omega arith)) ∙ so_far.low l p k
-    | inr k ↦
-        let same : l ≡ n = omega arith in rw same (this_level p (p == up b n c) refl)
-  ]
-
   pub unconfirmed_more : IsUnconfirmed b c parts before u (n + 1)
-  unconfirmed_more = record {
-    low = unconfirmed_low;
-    high = λ l p h. other_level l p (λ e. absurd (omega arith)) ∙ so_far.high l p (omega arith);
-  }
+  unconfirmed_more =
+      level_more before (claimed_anew b c parts before) (is_confirmed_at t) (is_confirmed_at u) n
+      (other_level (λ l p. (granted_at t l p == part.depth) && is_confirmed_at t l p)
+      (is_confirmed_at u) (is_confirmed_at t) n (up b n c) law)
+      (λ p. this_level p (p == up b n c) refl) so_far
 
 -- the whole claim
 pub unconfirmed_all : (b : BoardValue) (c : ℕ) (parts : List Part) (before : ℕ → ℕ → Bool)
     (t : TreeValue) (n : ℕ) → length parts ≤ n → IsUnconfirmed b c parts before t n → (l p : ℕ)
     → is_confirmed_at t l p ≡ claimed_anew b c parts before l p
-unconfirmed_all b c parts before t n long so_far l p = elim (cases_lt l n) [
-  | inl h ↦ so_far.low l p h
-  | inr h ↦ so_far.high l p h ∙ sym (beyond (p == up b l c) h)
-]
+unconfirmed_all b c parts before t n long =
+    all_levels before (claimed_anew b c parts before) (is_confirmed_at t) n
+    (λ l p h. beyond l p (p == up b l c) h)
   where
-    beyond : (on : Bool) → n ≤ l
+    beyond : (l p : ℕ) (on : Bool) → n ≤ l
         → cond on (unless_claimed (slice_get parts l) (before l p)) (before l p) ≡ before l p
-    beyond true h =
+    beyond l p true h =
         ap (λ (o : Option Part). unless_claimed o (before l p))
         (slice_get_past parts l (omega arith))
-    beyond false h = refl
+    beyond l p false h = refl
 
 -- the next part may be granted
 module _ (b : BoardValue) (c : ℕ) (parts : List Part) (before : ℕ → ℕ → ℕ) (t : TreeValue) (n : ℕ)
@@ -201,13 +168,12 @@ module _ (b : BoardValue) (c : ℕ) (parts : List Part) (before : ℕ → ℕ �
 pub laid_all : (b : BoardValue) (c : ℕ) (parts : List Part) (before : ℕ → ℕ → ℕ) (t : TreeValue)
     (n : ℕ) → length parts ≤ n → IsLaid b c parts before t n → (l p : ℕ)
     → granted_at t l p ≡ granted_with b c parts before l p
-laid_all b c parts before t n long so_far l p = elim (cases_lt l n) [
-  | inl h ↦ so_far.low l p h
-  | inr h ↦ so_far.high l p h ∙ sym (beyond (p == up b l c) h)
-]
+laid_all b c parts before t n long =
+    all_levels before (granted_with b c parts before) (granted_at t) n
+    (λ l p h. beyond l p (p == up b l c) h)
   where
-    beyond : (on : Bool) → n ≤ l
+    beyond : (l p : ℕ) (on : Bool) → n ≤ l
         → cond on (claimed_or (slice_get parts l) (before l p)) (before l p) ≡ before l p
-    beyond true h =
+    beyond l p true h =
         ap (λ (o : Option Part). claimed_or o (before l p)) (slice_get_past parts l (omega arith))
-    beyond false h = refl
+    beyond l p false h = refl

@@ -122,38 +122,38 @@ module _ (levels : List (List ℕ)) (old new : ℕ → Status) (core : ℕ)
 
 -- one turn of the loop over the levels: the domain on the core's path, and what is counted of the
 -- core before and after
-module _ (b : BoardValue) (old new : ℕ → Status) (core : ℕ) (laws : PathLaws b)
-    (tree : IsTree b.levels) (there : core < cores b)
-    (same : (c : ℕ) → (c ≡ core → ⊥) → new c ≡ old c) (kept : List (List StatusCounts))
-    (level : ℕ) (low : 0 < level) (top : level ≤ height b)
-    (so_far : IsCounted b.levels old new kept level) (n : Node)
-    (is : n ≡ record { level = level; place = place_above b.levels level core })
-    (had has : StatusCounts) (before : had ≡ one_core (old core))
-    (after_is : has ≡ one_core (new core)) where
-  place_inside : place_above b.levels level core < size_below (drop level b.levels)
-  unfolding up
-  place_inside = laws.inside core level there top
+pub record Turn (levels : List (List ℕ)) (old new : ℕ → Status) (kept : List (List StatusCounts))
+    (level : ℕ) (n : Node) (had has : StatusCounts) : Type 0 where
+  pub place : n.place < length (level_counts kept n.level)
+  pub may : MayRecount (counts_at kept n.level n.place) had has
+  pub more : (next : List (List StatusCounts))
+      → next ≡ with_counts kept n (recounted (counts_at kept n.level n.place) had has)
+      → IsCounted levels old new next (level + 1)
 
-  pub turn_place : n.place < length (level_counts kept n.level)
-  turn_place = rw is (omega (arith, place_inside, so_far.shape.domains level low top))
-
-  pub turn_may : MayRecount (counts_at kept n.level n.place) had has
-  turn_may =
-      rw (
+pub turn : (b : BoardValue) (old new : ℕ → Status) (core : ℕ) → PathLaws b → IsTree b.levels
+    → core < cores b → ((c : ℕ) → (c ≡ core → ⊥) → new c ≡ old c)
+    → (kept : List (List StatusCounts)) (level : ℕ) → 0 < level → level ≤ height b
+    → IsCounted b.levels old new kept level → (n : Node)
+    → n ≡ record { level = level; place = place_above b.levels level core }
+    → (had has : StatusCounts) → had ≡ one_core (old core) → has ≡ one_core (new core)
+    → Turn b.levels old new kept level n had has
+unfolding up
+turn b old new core laws tree there same kept level low top so_far n is had has before now =
+    let inside : place_above b.levels level core < size_below (drop level b.levels) =
+    laws.inside core level there top in
+    record {
+      place = rw is (omega (arith, inside, so_far.shape.domains level low top));
+      may = rw (
         is,
         before,
-        after_is,
-        so_far.left level (place_above b.levels level core) low (omega arith) top place_inside,
+        now,
+        so_far.left level (place_above b.levels level core) low (omega arith) top inside,
       )
-      (may_recount b.levels old new core there same
-      (record { level = level; place = place_above b.levels level core }) tree refl)
-
-  pub turn_more : (more : List (List StatusCounts))
-      → more ≡ with_counts kept n (recounted (counts_at kept n.level n.place) had has)
-      → IsCounted b.levels old new more (level + 1)
-  turn_more more e =
-      rw (e, is, before, after_is)
-      (counted_more b.levels old new core there same kept level low top place_inside so_far)
+          (may_recount b.levels old new core there same
+          (record { level = level; place = place_above b.levels level core }) tree refl);
+      more = λ next e. rw (e, is, before, now)
+          (counted_more b.levels old new core there same kept level low top inside so_far);
+    }
 
 -- The same statuses ------------------------------------------------------------------------------
 

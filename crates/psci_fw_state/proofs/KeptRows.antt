@@ -3,6 +3,9 @@
 use Rattle.std.proofs.Common.{◌≡◌, ℕ, ◌≤◌, List, [], ◌∷◌, map, length, true, false, None, Some}
 use Rattle.std.proofs.Common.{refl, ap, arith}
 use Rattle.psci_board.specs.Board.{BoardValue, up}
+use Rattle.psci_board.proofs.Tables.{◌⇒◌, Gives}
+use Rattle.psci_fw_spec.specs.Values.{Values}
+use Rattle.psci_state.specs.declared.cores.Activity.{Activity}
 use Rattle.psci_messages.specs.declared.part.Part.{Part}
 use Rattle.psci_fw_spec.specs.psci_abi.declared.format.Format.TheVariants.{Original}
 use Rattle.psci_fw_spec.specs.declared.mode.SuspendMode.TheVariants.{OsInitiated}
@@ -52,6 +55,9 @@ row_of_nobody = refl
 rows_found : map (row_at rows) (0 ∷ 1 ∷ 3 ∷ 4 ∷ []) ≡ row ∷ pending ∷ off ∷ off ∷ []
 rows_found = refl
 
+statuses : map (status_at rows) (0 ∷ 1 ∷ 3 ∷ 4 ∷ []) ≡ On ∷ Pending ∷ Off ∷ Off ∷ []
+statuses = refl
+
 -- the boot core is on its way to the boot address, and each other core is off
 first_rows : map (first_row board) (0 ∷ 1 ∷ 3 ∷ [])
     ≡ record { status = Pending; opening = Some (record { address = 32; context = 0 }) }
@@ -61,33 +67,21 @@ first_rows = refl
 row_is_missing : AreFirst board (first_row board 0 ∷ off ∷ off ∷ []) → ⊥
 row_is_missing h = let e : ◌≡◌ {A = ℕ} 3 4 = h.count in omega arith
 
-statuses : map (status_at rows) (0 ∷ 1 ∷ 3 ∷ 4 ∷ []) ≡ On ∷ Pending ∷ Off ∷ Off ∷ []
-statuses = refl
-
 -- Phases ------------------------------------------------------------------------------------------
 
-active : map (λ s. phase_by s activities.Active) (On ∷ Off ∷ Pending ∷ [])
-    ≡ phases.Running ∷ phases.Running ∷ phases.Pending ∷ []
-active = refl
+phases_by : Gives (λ (a : Activity). map (λ s. phase_by s a) (On ∷ Off ∷ Pending ∷ []))
+    (activities.Active ⇒ (phases.Running ∷ phases.Running ∷ phases.Pending ∷ [])
+    ∷ activities.Away ⇒ (phases.Away ∷ phases.Away ∷ phases.Away ∷ [])
+    ∷ activities.Suspended (2 ∷ 1 ∷ []) ⇒ (phases.Suspended (2 ∷ 1 ∷ [])
+    ∷ phases.Suspended (2 ∷ 1 ∷ []) ∷ phases.Suspended (2 ∷ 1 ∷ []) ∷ []) ∷ [])
+phases_by = refl
 
-gone : map (λ s. phase_by s activities.Away) (On ∷ Off ∷ Pending ∷ [])
-    ≡ phases.Away ∷ phases.Away ∷ phases.Away ∷ []
-gone = refl
-
-suspended : map (λ s. phase_by s (activities.Suspended (2 ∷ 1 ∷ []))) (On ∷ Off ∷ Pending ∷ [])
-    ≡ phases.Suspended (2 ∷ 1 ∷ []) ∷ phases.Suspended (2 ∷ 1 ∷ [])
-    ∷ phases.Suspended (2 ∷ 1 ∷ []) ∷ []
-suspended = refl
-
-stopped_as : stopped true ≡ activities.Active
+stopped_as : Gives stopped (true ⇒ activities.Active ∷ false ⇒ activities.Away ∷ [])
 stopped_as = refl
 
-stopped_off : stopped false ≡ activities.Away
-stopped_off = refl
-
-is_pending : is_pending_phase phases.Pending ∷ is_pending_phase phases.Running
-    ∷ is_pending_phase (phases.Suspended (1 ∷ [])) ∷ is_pending_phase phases.Away ∷ []
-    ≡ true ∷ false ∷ false ∷ false ∷ []
+is_pending : Gives is_pending_phase
+    (phases.Pending ⇒ true ∷ phases.Running ⇒ false ∷ phases.Suspended (1 ∷ []) ⇒ false
+    ∷ phases.Away ⇒ false ∷ [])
 is_pending = refl
 
 -- Values ------------------------------------------------------------------------------------------
@@ -127,55 +121,26 @@ state = record {
   slots = record { cores = None ∷ Some start ∷ None ∷ None ∷ []; system = Some reset };
 }
 
-life_kept : (values_in state).life ≡ 2
-unfolding values_in
-life_kept = refl
+abbrev kept : Values
+kept = values_in state
 
-halting_kept : (values_in state).halting ≡ true
+values_kept : (kept.life ≡ 2) × (kept.halting ≡ true) × (kept.mode ≡ OsInitiated)
+    × Gives kept.known (0 ⇒ 1 ∷ 1 ⇒ 0 ∷ 2 ⇒ 2 ∷ 3 ⇒ 5 ∷ 4 ⇒ 0 ∷ [])
+    × Gives kept.status (0 ⇒ On ∷ 1 ⇒ Pending ∷ 2 ⇒ On ∷ 3 ⇒ Off ∷ 4 ⇒ Off ∷ [])
+    × Gives kept.phase
+    (0 ⇒ phases.Running ∷ 1 ⇒ phases.Pending ∷ 2 ⇒ phases.Away ∷ 3 ⇒ phases.Away ∷ [])
+    × Gives kept.opening (0 ⇒ None ∷ 1 ⇒ Some (record { address = 48; context = 7 }) ∷ [])
+    × Gives (λ (q : ℕ × ℕ). kept.granted q.0 q.1)
+    ((0, 2) ⇒ 2 ∷ (0, 3) ⇒ 3 ∷ (1, 1) ⇒ 1 ∷ (2, 0) ⇒ 0 ∷ [])
+    × Gives (λ (q : ℕ × ℕ). kept.confirmed q.0 q.1)
+    ((0, 2) ⇒ true ∷ (0, 3) ⇒ false ∷ (1, 1) ⇒ false ∷ [])
+    × Gives kept.outstanding (OfCore 1 ⇒ Some start ∷ OfCore 2 ⇒ None ∷ OfSystem ⇒ Some reset ∷ [])
 unfolding values_in
-halting_kept = refl
-
-mode_kept : (values_in state).mode ≡ OsInitiated
-unfolding values_in
-mode_kept = refl
-
-known_kept : map (λ c. (values_in state).known c) (0 ∷ 1 ∷ 2 ∷ 3 ∷ 4 ∷ []) ≡ 1 ∷ 0 ∷ 2 ∷ 5 ∷ 0 ∷ []
-unfolding values_in
-known_kept = refl
-
-statuses_kept : map (λ c. (values_in state).status c) (0 ∷ 1 ∷ 2 ∷ 3 ∷ 4 ∷ [])
-    ≡ On ∷ Pending ∷ On ∷ Off ∷ Off ∷ []
-unfolding values_in
-statuses_kept = refl
-
-phases_kept : map (λ c. (values_in state).phase c) (0 ∷ 1 ∷ 2 ∷ 3 ∷ [])
-    ≡ phases.Running ∷ phases.Pending ∷ phases.Away ∷ phases.Away ∷ []
-unfolding values_in
-phases_kept = refl
-
-opening_kept : map (λ c. (values_in state).opening c) (0 ∷ 1 ∷ [])
-    ≡ None ∷ Some (record { address = 48; context = 7 }) ∷ []
-unfolding values_in
-opening_kept = refl
-
-granted_kept : (values_in state).granted 0 2 ∷ (values_in state).granted 0 3
-    ∷ (values_in state).granted 1 1 ∷ (values_in state).granted 2 0 ∷ [] ≡ 2 ∷ 3 ∷ 1 ∷ 0 ∷ []
-unfolding values_in
-granted_kept = refl
-
-confirmed_kept : (values_in state).confirmed 0 2 ∷ (values_in state).confirmed 0 3
-    ∷ (values_in state).confirmed 1 1 ∷ [] ≡ true ∷ false ∷ false ∷ []
-unfolding values_in
-confirmed_kept = refl
-
-outstanding_kept : map (λ s. (values_in state).outstanding s) (OfCore 1 ∷ OfCore 2 ∷ OfSystem ∷ [])
-    ≡ Some start ∷ None ∷ Some reset ∷ []
-unfolding values_in
-outstanding_kept = refl
+values_kept = (refl, refl, refl, refl, refl, refl, refl, refl, refl, refl)
 
 -- of each core, of the system at the number of cores, and of nothing beyond
-messages_shown : map (message_shown board (values_in state)) (0 ∷ 1 ∷ 4 ∷ 5 ∷ [])
-    ≡ None ∷ Some start ∷ Some reset ∷ None ∷ []
+messages_shown : Gives (message_shown board kept)
+    (0 ⇒ None ∷ 1 ⇒ Some start ∷ 4 ⇒ Some reset ∷ 5 ⇒ None ∷ [])
 unfolding values_in
 messages_shown = refl
 
@@ -184,22 +149,20 @@ messages_shown = refl
 abbrev part : ℕ → ℕ → ℕ → Part
 part level depth generation = record { level = level; depth = depth; generation = generation }
 
--- core 2 claims itself with its known start, and its cluster with 7 starts below
-last_claims : is_last_claim board tree 2 (part 0 2 2 ∷ part 1 1 7 ∷ []) 0 2
-    ∷ is_last_claim board tree 2 (part 0 2 2 ∷ part 1 1 7 ∷ []) 1 1 ∷ [] ≡ true ∷ true ∷ []
+last_claims : Gives (λ (q : List Part × ℕ × ℕ). is_last_claim board tree 2 q.0 q.1 q.2)
+    -- core 2 claims itself with its known start, and its cluster with 7 starts below
+    ((part 0 2 2 ∷ part 1 1 7 ∷ [], 0, 2) ⇒ true
+    ∷ (part 0 2 2 ∷ part 1 1 7 ∷ [], 1, 1) ⇒ true
+    -- a core has entered since
+    ∷ (part 0 2 1 ∷ part 1 1 6 ∷ [], 1, 1) ⇒ false
+    ∷ (part 0 2 1 ∷ [], 0, 2) ⇒ false
+    -- another cluster; another core; nothing granted; no part of the level
+    ∷ (part 0 2 2 ∷ part 1 1 1 ∷ [], 1, 0) ⇒ false
+    ∷ (part 0 3 5 ∷ [], 0, 3) ⇒ false
+    ∷ (part 0 2 2 ∷ part 1 1 7 ∷ part 2 1 8 ∷ [], 2, 0) ⇒ false
+    ∷ (part 0 2 2 ∷ [], 1, 1) ⇒ false ∷ [])
 unfolding up
 last_claims = refl
-
--- a core has entered since; another cluster; another core; nothing granted; no part of the level
-no_last_claims : is_last_claim board tree 2 (part 0 2 1 ∷ part 1 1 6 ∷ []) 1 1
-    ∷ is_last_claim board tree 2 (part 0 2 1 ∷ []) 0 2
-    ∷ is_last_claim board tree 2 (part 0 2 2 ∷ part 1 1 1 ∷ []) 1 0
-    ∷ is_last_claim board tree 2 (part 0 3 5 ∷ []) 0 3
-    ∷ is_last_claim board tree 2 (part 0 2 2 ∷ part 1 1 7 ∷ part 2 1 8 ∷ []) 2 0
-    ∷ is_last_claim board tree 2 (part 0 2 2 ∷ []) 1 1 ∷ []
-    ≡ false ∷ false ∷ false ∷ false ∷ false ∷ false ∷ []
-unfolding up
-no_last_claims = refl
 
 too_many_parts : (granted : ℕ → ℕ → ℕ)
     → MayClaim board 2 (part 0 3 0 ∷ part 1 3 0 ∷ part 2 3 0 ∷ part 3 3 0 ∷ []) granted → ⊥

@@ -11,6 +11,7 @@ mod CountRows
 mod Counting
 pub mod Equal
 mod Granting
+mod LevelByLevel
 mod Moved
 mod NodeStatus
 mod Viewed

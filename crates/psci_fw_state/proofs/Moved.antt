@@ -1,6 +1,6 @@
 -- A core is suspended, or asked on: what the values in the state are then.
-use Rattle.std.proofs.Common.{◌≡◌, ℕ, ◌<◌, ◌==◌, Bool, false, cond, List, length}
-use Rattle.std.proofs.Common.{None, Some, Option, Vec, refl, sym, ◌∙◌, ap, arith}
+use Rattle.std.proofs.Common.{◌≡◌, ℕ, ◌<◌, ◌==◌, Bool, false, cond, List, length, None, Some}
+use Rattle.std.proofs.Common.{Option, Vec, refl, sym, ◌∙◌, ap, arith}
 use Rattle.std.proofs.Math.ListN.{set}
 use Rattle.std.proofs.lemmas.List.{length-set, with_items_is}
 use Rattle.std.specs.Option.{option_or}
@@ -12,8 +12,7 @@ use Rattle.psci_messages.specs.Slots.Change.{Put}
 use Rattle.psci_state.specs.Ask.{is_deep}
 use Rattle.psci_state.specs.declared.cores.Activity.TheVariants as activities
 use Rattle.psci_state.specs.declared.cores.CoreState.{CoreState}
-use Rattle.psci_tree.specs.Recount.{TreeValue, state_at, granted_at, known_at}
-use Rattle.psci_tree.specs.Recount.{is_confirmed_at}
+use Rattle.psci_tree.specs.Recount.{TreeValue, state_at, granted_at, known_at, is_confirmed_at}
 use Rattle.psci_fw_spec.specs.declared.opening.Opening.{Opening}
 use Rattle.psci_fw_spec.specs.declared.status.Status.TheVariants as statuses
 use Rattle.psci_fw_spec.specs.Changes.{with_pending, with_rest}
@@ -27,11 +26,9 @@ use Rattle.psci_fw_state.specs.declared.row.CoreRow.{CoreRow}
 use Rattle.psci_fw_state.specs.declared.counts.StatusCounts.{StatusCounts}
 use Rattle.psci_fw_state.specs.Counts.{AreCounts}
 use Rattle.psci_fw_state.specs.Rows.{row_at, status_at}
-use Rattle.psci_fw_state.specs.Seen.{IsState, StateValue, phase_by}
-use Rattle.psci_fw_state.specs.Seen.{values_in}
-use Rattle.psci_fw_state.proofs.Changed.{Set, ap_set, both_set, core_set, row_set}
-use Rattle.psci_fw_state.proofs.Changed.{stays, suspended_is}
-use Rattle.psci_fw_state.proofs.Changed.{updated_is}
+use Rattle.psci_fw_state.specs.Seen.{IsState, StateValue, phase_by, values_in}
+use Rattle.psci_fw_state.proofs.Changed.{Set, ap_set, both_set, core_set, row_set, stays}
+use Rattle.psci_fw_state.proofs.Changed.{suspended_is, updated_is}
 use Rattle.psci_fw_state.proofs.Equal.{same_values}
 use Rattle.psci_fw_state.proofs.KeptCounts.{same_counts}
 
@@ -57,43 +54,6 @@ counts_stay levels rows new c r o kept inside is e are =
 
 -- Suspended -------------------------------------------------------------------------------------
 
-pub suspended_of : (s : StateValue) (u : TreeValue) (rows : List CoreRow) (c : ℕ) (ask : List ℕ)
-    (o : Option Opening) → (values_in s).phase c ≡ phases.Running
-    → Set (state_at s.tree) (state_at u) c (record {
-      activity = activities.Suspended ask;
-      known = known_at s.tree c;
-    })
-    → Set (row_at s.rows) (row_at rows) c (record {
-      status = (row_at s.rows c).status;
-      opening = option_or o (row_at s.rows c).opening;
-    })
-    → ((l p : ℕ) → granted_at u l p ≡ granted_at s.tree l p)
-    → ((l p : ℕ) → is_confirmed_at u l p ≡ is_confirmed_at s.tree l p)
-    → values_in (record s { tree = u; rows = rows })
-    ≡ with_rest c (record { phase = phases.Suspended ask; opening = o }) (values_in s)
-unfolding values_in
-suspended_of s u rows c ask o running at row granted confirmed = same_values _ _ (record {
-  life = refl;
-  halting = refl;
-  mode = refl;
-  known = stays (known_at s.tree) (known_at u) c _ (ap_set (λ (x : CoreState). x.known) _ _ _ _ at)
-      refl;
-  status = stays (λ k. (row_at s.rows k).status) (λ k. (row_at rows k).status) c _
-      (ap_set (λ (r : CoreRow). r.status) _ _ _ _ row) refl;
-  phase = λ k.
-      updated_is (values_in s).phase (values_in (record s { tree = u; rows = rows })).phase c _
-      (both_set (λ (r : CoreRow) (x : CoreState). phase_by r.status x.activity) (row_at s.rows)
-      (row_at rows) (state_at s.tree) (state_at u) c _ _ row at) k
-      ∙ ap (λ (p : Phase). updated (values_in s).phase c p k)
-      (suspended_is (row_at s.rows c).status ask
-      ∙ sym (ap (λ (p : Phase). unless_pending p (phases.Suspended ask)) running));
-  opening = updated_is (λ k. (row_at s.rows k).opening) (λ k. (row_at rows k).opening) c _
-      (ap_set (λ (r : CoreRow). r.opening) _ _ _ _ row);
-  granted = granted;
-  confirmed = confirmed;
-  outstanding = λ slot. refl;
-})
-
 pub suspended_changed : (s now : StateValue) (u : TreeValue) (rows : List CoreRow) (c : ℕ)
     (ask : List ℕ) (opening : Opening) (o : Option Opening) → s ≡ now
     → (values_in now).phase c ≡ phases.Running
@@ -109,41 +69,63 @@ pub suspended_changed : (s now : StateValue) (u : TreeValue) (rows : List CoreRo
     → cond (is_deep ask) (Some opening) None ≡ o
     → values_in (record s { tree = u; rows = rows })
     ≡ with_rest c (suspends opening ask) (values_in now)
+unfolding values_in
 suspended_changed s now u rows c ask opening o e running at row granted confirmed is =
-    rw (← e, is)
-    (suspended_of s u rows c ask o (rw e running) (core_set s.tree u c _ at) row granted
-    confirmed)
+    let own : Set (state_at s.tree) (state_at u) c _ = core_set s.tree u c _ at in
+    let runs : (values_in s).phase c ≡ phases.Running = rw e running in
+    let left : values_in (record s { tree = u; rows = rows })
+    ≡ with_rest c (record { phase = phases.Suspended ask; opening = o }) (values_in s) =
+    same_values _ _ (record {
+      life = refl;
+      halting = refl;
+      mode = refl;
+      known = stays (known_at s.tree) (known_at u) c _
+          (ap_set (λ (x : CoreState). x.known) _ _ _ _ own) refl;
+      status = stays (λ k. (row_at s.rows k).status) (λ k. (row_at rows k).status) c _
+          (ap_set (λ (r : CoreRow). r.status) _ _ _ _ row) refl;
+      phase = λ k.
+          updated_is (values_in s).phase (values_in (record s { tree = u; rows = rows })).phase c _
+          (both_set (λ (r : CoreRow) (x : CoreState). phase_by r.status x.activity) (row_at s.rows)
+          (row_at rows) (state_at s.tree) (state_at u) c _ _ row own) k
+          ∙ ap (λ (p : Phase). updated (values_in s).phase c p k)
+          (suspended_is (row_at s.rows c).status ask
+          ∙ sym (ap (λ (p : Phase). unless_pending p (phases.Suspended ask)) runs));
+      opening = updated_is (λ k. (row_at s.rows k).opening) (λ k. (row_at rows k).opening) c _
+          (ap_set (λ (r : CoreRow). r.opening) _ _ _ _ row);
+      granted = granted;
+      confirmed = confirmed;
+      outstanding = λ slot. refl;
+    }) in
+    rw (← e, is) left
 
 -- Paths -----------------------------------------------------------------------------------------
 
 eqb_swap : (x y : ℕ) → (x == y) ≡ (y == x)
 eqb_swap x y = grind arith
 
--- nothing is granted on the path of a core, as the tree says it and as the values do
+-- nothing is said of the domains on the path of a core, as the tree says it and as the values do
+on_path : {X : Type 0} (s : StateValue) (v : ℕ → ℕ → X) (x none : X) (c l p : ℕ) → IsState s
+    → x ≡ cond (place_above s.tree.levels l c == p) none (v l p)
+    → x ≡ cond (p == place_above s.board.levels l c) none (v l p)
+on_path s v x none c l p is law =
+    law
+    ∙ ap (λ (ws : List (List ℕ)). cond (place_above ws l c == p) none (v l p)) is.levels
+    ∙ ap (λ (t : Bool). cond t none (v l p)) (eqb_swap (place_above s.board.levels l c) p)
+
 pub path_cleared : (s : StateValue) (u : TreeValue) (c : ℕ) → IsState s
     → ((l p : ℕ) → granted_at u l p
     ≡ cond (place_above s.tree.levels l c == p) 0 (granted_at s.tree l p))
     → (l p : ℕ) → granted_at u l p ≡ cleared s.board c (granted_at s.tree) l p
 unfolding up
-path_cleared s u c is law l p =
-    law l p
-    ∙ ap (λ (ws : List (List ℕ)). cond (place_above ws l c == p) 0 (granted_at s.tree l p))
-    is.levels
-    ∙ ap (λ (t : Bool). cond t 0 (granted_at s.tree l p))
-    (eqb_swap (place_above s.board.levels l c) p)
+path_cleared s u c is law l p = on_path s (granted_at s.tree) _ 0 c l p is (law l p)
 
--- nor is anything confirmed there
 pub path_unconfirmed : (s : StateValue) (u : TreeValue) (c : ℕ) → IsState s
     → ((l p : ℕ) → is_confirmed_at u l p
     ≡ cond (place_above s.tree.levels l c == p) false (is_confirmed_at s.tree l p))
     → (l p : ℕ) → is_confirmed_at u l p ≡ unconfirmed s.board c (is_confirmed_at s.tree) l p
 unfolding up
 path_unconfirmed s u c is law l p =
-    law l p
-    ∙ ap (λ (ws : List (List ℕ)). cond (place_above ws l c == p) false (is_confirmed_at s.tree l p))
-    is.levels
-    ∙ ap (λ (t : Bool). cond t false (is_confirmed_at s.tree l p))
-    (eqb_swap (place_above s.board.levels l c) p)
+    on_path s (is_confirmed_at s.tree) _ false c l p is (law l p)
 
 -- Asked on --------------------------------------------------------------------------------------
 

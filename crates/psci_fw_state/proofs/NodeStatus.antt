@@ -1,7 +1,6 @@
 -- The status of a node is that of what is counted of the cores below it.
 use Rattle.std.proofs.Common.{◌≡◌, ℕ, ◌+◌, ◌<◌, ◌≤◌, ◌==◌, ◌||◌, Bool, true, false, cond, List, []}
-use Rattle.std.proofs.Common.{◌∷◌}
-use Rattle.std.proofs.Common.{length, leb, ltb, refl, ap, ◌∙◌, arith}
+use Rattle.std.proofs.Common.{◌∷◌, length, leb, ltb, refl, ap, ◌∙◌, arith}
 use Rattle.std.specs.List.{count_by, list_any}
 use Rattle.std.proofs.lemmas.Bool.{and_from, eq-eqb, le-leb, leb-true, lt-ltb, ltb-false, ltb-true}
 use Rattle.std.proofs.lemmas.Bool.{ne_eqb}

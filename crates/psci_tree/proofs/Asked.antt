@@ -7,19 +7,14 @@ use Rattle.std.proofs.lemmas.Bool.{cases_Bool}
 use Rattle.std.proofs.lemmas.List.Sums.{sum_by-cons, count_by-le-length}
 use Rattle.psci_tree.specs.Recount.{is_active, is_away, asks}
 use Rattle.psci_state.specs.declared.cores.Activity.{Activity}
-use Rattle.psci_state.specs.declared.cores.Activity.TheVariants.{Active, Suspended, Away}
+use Rattle.psci_state.specs.declared.cores.Activity.TheVariants.{Away}
 use Rattle.psci_state.specs.declared.cores.CoreState.{CoreState}
 use Rattle.psci_tree.specs.Kept.{low_in}
-
-asks_none : (s : Activity) (level : ℕ) → is_active s ≡ true → asks s level ≡ 0
-asks_none Active level e = refl
-asks_none (Suspended depths) level e = absurd (let no : false ≡ true = e in cc)
-asks_none Away level e = absurd (let no : false ≡ true = e in cc)
+use Rattle.psci_tree.proofs.Asks.{asks_none}
 
 asks_all : (s : Activity) (level : ℕ) → is_away s ≡ true → asks s level ≡ 3
-asks_all Active level e = absurd (let no : false ≡ true = e in cc)
-asks_all (Suspended depths) level e = absurd (let no : false ≡ true = e in cc)
 asks_all Away level e = refl
+asks_all s level e = absurd (let no : false ≡ true = e in cc)
 
 -- how many of the cores are running or pending, and how many off or going off
 abbrev pub active_in : List CoreState → ℕ

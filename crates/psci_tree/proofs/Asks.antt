@@ -35,10 +35,9 @@ asks_some Active a e = absurd (let no : true ≡ false = e in cc)
 asks_some (Suspended depths) a e = a.least
 asks_some Away a e = omega arith
 
-asks_none : (s : Activity) (level : ℕ) → is_active s ≡ true → asks s level ≡ 0
+pub asks_none : (s : Activity) (level : ℕ) → is_active s ≡ true → asks s level ≡ 0
 asks_none Active level e = refl
-asks_none (Suspended depths) level e = absurd (let no : false ≡ true = e in cc)
-asks_none Away level e = absurd (let no : false ≡ true = e in cc)
+asks_none s level e = absurd (let no : false ≡ true = e in cc)
 
 -- At the levels of the board -----------------------------------------------------------------
 

@@ -1,7 +1,7 @@
 -- The equations of the cores below a domain, and of its shape.
 use Rattle.std.proofs.Common.{◌≡◌, ℕ, ◌+◌, ◌-◌, ◌<◌, ◌≤◌, List, [], ◌∷◌, ◌++◌, length}
 use Rattle.std.proofs.Common.{get_or, map, take, drop, replicate, min, arith, refl, ap, ◌∙◌}
-use Rattle.std.proofs.Common.{sym, append-nil, length-append, drop-cons, suc, zero, add-one}
+use Rattle.std.proofs.Common.{append-nil, length-append, drop-cons, suc, zero, add-one}
 use Rattle.std.proofs.Math.ListN.{set, length-set}
 use Rattle.std.specs.Vec.{with_item}
 use Rattle.std.specs.List.{flat_map}
@@ -124,22 +124,6 @@ cores_set (n ∷ ns) (suc i) rest place d m s h e r q =
     rw (set-append_right (leaves n) (cores_in ns) (length (leaves n)) place s refl left)
     (ap (λ (x : List CoreState). leaves n ++ x)
     (cores_set ns i rest (place - length (leaves n)) d m s (omega arith) (omega arith) r q))
-
--- another child with another core makes another domain with that core
-pub cores_with_child : (n : Domain) (i rest place : ℕ) (m : Domain) (s : CoreState) (k : Kept)
-    → i < length (branches n) → length (cores_in (take i (branches n))) + rest ≡ place
-    → rest < length (leaves (get_or (branches n) i n))
-    → leaves m ≡ set (leaves (get_or (branches n) i n)) rest s →
-    leaves (roll-Domain (record {
-      children = with_item (out-Domain n).children i m;
-      core = (out-Domain n).core;
-      kept = k;
-    })) ≡ set (leaves n) place s
-cores_with_child n i rest place m s k h e r q =
-    let some : 0 < length (branches n) = omega arith in
-    let more : 0 < length (set (branches n) i m) = omega (arith, length-set (branches n) i m) in
-    cores_roll _ more ∙ cores_set (branches n) i rest place n m s h e r q
-    ∙ ap (λ (x : List CoreState). set x place s) (sym (cores_of_domain n some))
 
 flat_map_set : (f : Domain → List ℕ) (ns : List Domain) (i : ℕ) (d m : Domain)
     → f m ≡ f (get_or ns i d) → flat_map f (set ns i m) ≡ flat_map f ns

@@ -1,14 +1,15 @@
 -- What a minimum and a count say of each core below a domain.
-use Rattle.std.proofs.Common.{◌≡◌, ℕ, zero, suc, ◌+◌, ◌<◌, ◌≤◌, Bool, true}
-use Rattle.std.proofs.Common.{false, cond, ◌==◌, List, [], ◌∷◌, length, get_or}
-use Rattle.std.proofs.Common.{map, filter, refl, ap, sym, ◌∙◌, arith, inl, inr}
+use Rattle.std.proofs.Common.{◌≡◌, ℕ, zero, suc, ◌+◌, ◌<◌, ◌≤◌, Bool, true, false, cond, ◌==◌, List}
+use Rattle.std.proofs.Common.{[], ◌∷◌, length, get_or, map, filter, refl, ap, sym, ◌∙◌, arith, inl}
+use Rattle.std.proofs.Common.{inr, not}
 use Rattle.std.specs.List.{count_by, range_with_len}
 use Rattle.std.proofs.lemmas.Bool.{cases_eq, eq-eqb, eqb-true}
-use Rattle.std.proofs.lemmas.List.Sums.{sum_by-cons, count_by-le-length}
 use Rattle.psci_board.specs.declared.node.Node.{Node}
 use Rattle.psci_board.specs.Board.{size_below, place_above, below_in}
-use Rattle.psci_tree.specs.Recount.{TreeValue, active, ask_at}
-use Rattle.psci_tree.specs.Recount.{is_active_at, is_away_at, least, low, off}
+use Rattle.std.proofs.lemmas.List.Sums.{get_or-le-sum_by}
+use Rattle.psci_tree.proofs.Ranges.{counted_both, ones, sum_same, zeros}
+use Rattle.psci_tree.specs.Recount.{TreeValue, active, ask_at, is_active_at, is_away_at, least, low}
+use Rattle.psci_tree.specs.Recount.{off}
 
 -- Each number that a filter keeps of a range -------------------------------------------------
 
@@ -64,58 +65,24 @@ least_from f (x ∷ xs) m h each =
 abbrev tally : Bool → ℕ
 tally b = cond b 1 0
 
-one : (b : Bool) → tally b ≡ 0 → b ≡ false
-one true h = absurd (omega arith)
-one false h = refl
-
-some : (b : Bool) → tally b ≡ 1 → b ≡ true
-some true h = refl
-some false h = absurd (omega arith)
-
-most : (b : Bool) → tally b ≤ 1
-most true = omega arith
-most false = omega arith
+none : (b : Bool) → tally b ≤ 0 → b ≡ false
+none true h = absurd (omega arith)
+none false h = refl
 
 none_at : (p : ℕ → Bool) (xs : List ℕ) (k : ℕ) → count_by p xs ≡ 0 → k < length xs
     → p (get_or xs k 0) ≡ false
-none_at p [] k e h = absurd (omega arith)
-none_at p (x ∷ xs) zero e h = one (p x) (omega (arith, sum_by-cons (λ y. tally (p y)) x xs))
-none_at p (x ∷ xs) (suc k) e h =
-    none_at p xs k (omega (arith, sum_by-cons (λ y. tally (p y)) x xs)) (omega arith)
+none_at p xs k e h = none _ (omega (arith, get_or-le-sum_by (λ y. tally (p y)) xs k 0 h, e))
 
-none_from : (p : ℕ → Bool) (xs : List ℕ) → ((k : ℕ) → k < length xs → p (get_or xs k 0) ≡ false)
-    → count_by p xs ≡ 0
-none_from p [] each = refl
-none_from p (x ∷ xs) each =
-    sum_by-cons (λ y. tally (p y)) x xs
-    ∙ omega (
-      arith,
-      ap tally (each 0 (omega arith)),
-      none_from p xs (λ k l. each (suc k) (omega arith)),
-    )
-
+-- all pass where none are counted that do not
 all_at : (p : ℕ → Bool) (xs : List ℕ) (k : ℕ) → count_by p xs ≡ length xs → k < length xs
     → p (get_or xs k 0) ≡ true
-all_at p [] k e h = absurd (omega arith)
-all_at p (x ∷ xs) zero e h = some (p x)
-    (omega (arith, sum_by-cons (λ y. tally (p y)) x xs, count_by-le-length p xs, most (p x)))
-all_at p (x ∷ xs) (suc k) e h = all_at p xs k (omega (
-  arith,
-  sum_by-cons (λ y. tally (p y)) x xs,
-  count_by-le-length p xs,
-  most (p x),
-)) (omega arith)
-
-all_from : (p : ℕ → Bool) (xs : List ℕ) → ((k : ℕ) → k < length xs → p (get_or xs k 0) ≡ true)
-    → count_by p xs ≡ length xs
-all_from p [] each = refl
-all_from p (x ∷ xs) each =
-    sum_by-cons (λ y. tally (p y)) x xs
-    ∙ omega (
-      arith,
-      ap tally (each 0 (omega arith)),
-      all_from p xs (λ k l. each (suc k) (omega arith)),
-    )
+all_at p xs k e h =
+    by (p (get_or xs k 0))
+    (none_at (λ y. not (p y)) xs k (omega (arith, e, counted_both p xs)) h)
+  where
+    by : (b : Bool) → not b ≡ false → b ≡ true
+    by true f = refl
+    by false f = cc
 
 -- Below a domain -----------------------------------------------------------------------------
 
@@ -163,9 +130,10 @@ pub none_active : (t : TreeValue) (n : Node) → ((c : ℕ) → c < size_below t
     → place_above t.levels n.level c ≡ n.place → is_active_at t c ≡ false) → active t n ≡ 0
 unfolding active
 none_active t n each =
-    none_from (λ x. is_active_at t x) (below_in t.levels n)
-    (λ k l. let p = below_passes t.levels n k l in
-    each (get_or (below_in t.levels n) k 0) p.1 (eqb-true _ _ p.0))
+    sum_same (λ c. tally (is_active_at t c)) (λ c. 0)
+    (λ c. place_above t.levels n.level c == n.place) (size_below t.levels)
+    (λ c p s. ap tally (each c p (eqb-true _ _ s)))
+    ∙ zeros (below_in t.levels n)
 
 pub off_all : (t : TreeValue) (n : Node) (c : ℕ) → off t n ≡ length (below_in t.levels n)
     → c < size_below t.levels → place_above t.levels n.level c ≡ n.place → is_away_at t c ≡ true
@@ -180,6 +148,7 @@ pub all_off : (t : TreeValue) (n : Node) → ((c : ℕ) → c < size_below t.lev
     → off t n ≡ length (below_in t.levels n)
 unfolding off
 all_off t n each =
-    all_from (λ x. is_away_at t x) (below_in t.levels n)
-    (λ k l. let p = below_passes t.levels n k l in
-    each (get_or (below_in t.levels n) k 0) p.1 (eqb-true _ _ p.0))
+    sum_same (λ c. tally (is_away_at t c)) (λ c. 1)
+    (λ c. place_above t.levels n.level c == n.place) (size_below t.levels)
+    (λ c p s. ap tally (each c p (eqb-true _ _ s)))
+    ∙ ones (below_in t.levels n)

@@ -1,16 +1,14 @@
 -- Domains put together level by level, from the cores up.
-use Rattle.std.proofs.Common.{◌≡◌, ℕ, zero, suc, ◌<◌, ◌≤◌, List, [], ◌∷◌, ◌++◌, length, take, drop}
-use Rattle.std.proofs.Common.{map}
-use Rattle.std.proofs.Common.{sum, replicate, ◌+◌, refl, ap, sym, ◌∙◌, arith, append-nil, get_or}
-use Rattle.std.specs.List.{flat_map, AllPass}
-use Rattle.std.proofs.lemmas.Bool.Decides.{nat_tests}
+use Rattle.std.proofs.Common.{◌≡◌, ℕ, suc, ◌≤◌, List, [], ◌∷◌, ◌++◌, length, take, drop, map, sum}
+use Rattle.std.proofs.Common.{replicate, ◌+◌, refl, ap, sym, ◌∙◌, arith, append-nil}
+use Rattle.std.specs.List.{flat_map}
 use Rattle.std.proofs.lemmas.List.{length_push, map-append, replicate_more, take_all, drop_all}
 use Rattle.std.proofs.lemmas.List.Concat.{flat_map-append, flat_map_single}
 use Rattle.std.proofs.lemmas.List.Sums.{sum_by_push}
-use Rattle.psci_board.specs.Board.{IsTree, size_below, is_width}
+use Rattle.psci_board.specs.Board.{size_below}
 use Rattle.psci_state.specs.declared.cores.CoreState.{CoreState}
-use Rattle.psci_tree.specs.Domains.{leaves, cores_in, branches, child_count, child_counts}
-use Rattle.psci_tree.specs.Domains.{HasShape, IsWhole}
+use Rattle.psci_tree.specs.Domains.{leaves, cores_in, branches, child_count, child_counts, HasShape}
+use Rattle.psci_tree.specs.Domains.{IsWhole}
 use Rattle.psci_tree.specs.declared.domain.Domain.{Domain}
 use Rattle.psci_tree.specs.declared.domain.Domain.TheOpen.{Domain-F}
 use Rattle.psci_tree.specs.declared.domain.Domain.TheViews.{roll-Domain}
@@ -52,12 +50,6 @@ pub ends_more : (parents ns : List Domain) (k j : ℕ) → j ≡ suc k → flat_
 ends_more parents ns k j s e h = ap (λ i. sum (flat_map (child_counts i) parents)) s
     ∙ ap sum (widths_down k parents ∙ ap (flat_map (child_counts k)) e) ∙ h
 
-pub tree_at : (levels : List (List ℕ)) (l : ℕ) → IsTree levels → l < length levels
-    → length (get_or levels l []) ≡ size_below (drop (suc l) levels)
-tree_at [] l t h = absurd (omega arith)
-tree_at (w ∷ ws) zero t h = t.0
-tree_at (w ∷ ws) (suc l) t h = tree_at ws l t.3 (omega arith)
-
 -- one more parent
 pub children_push : (ps : List Domain) (x : Domain-F Domain)
     → flat_map branches (ps ++ roll-Domain x ∷ []) ≡ flat_map branches ps ++ x.children.items
@@ -82,10 +74,6 @@ cores_push ns x n s none own h =
     ∙ ap (λ ys. cores_in ns ++ ys)
     (append-nil (leaves (roll-Domain x)) ∙ cores_roll_core x none ∙ ap (λ c. c ∷ []) own)
     ∙ ap (λ ys. ys ++ s ∷ []) h ∙ replicate_more n s
-
--- each domain above the cores has a child
-pub some_children : (w : List ℕ) (i : ℕ) → AllPass is_width w → i < length w → 0 < get_or w i 0
-some_children w i h l = let e = h i 0 l in grind (arith, nat_tests)
 
 -- the last level -------------------------------------------------------------------------------
 

@@ -59,43 +59,7 @@ sums_moved cs j b s k before after h is own was new = record {
 -- with what the cores ask, they are the recount
 pub recount_with : (cs : List CoreState) (k : Kept) (ls : List ℕ) → AreMoved k cs
     → ls ≡ (recount cs).lows → record k { lows = ls } ≡ recount cs
-recount_with cs k ls m e =
-    let r : Kept = recount cs in
-    ap (λ x. record {
-      lows = x;
-      known = k.known;
-      cores = k.cores;
-      active = k.active;
-      off = k.off;
-    }) e
-    ∙ ap (λ x. record {
-      lows = r.lows;
-      known = x;
-      cores = k.cores;
-      active = k.active;
-      off = k.off;
-    }) m.known
-    ∙ ap (λ x. record {
-      lows = r.lows;
-      known = r.known;
-      cores = x;
-      active = k.active;
-      off = k.off;
-    }) m.cores
-    ∙ ap (λ x. record {
-      lows = r.lows;
-      known = r.known;
-      cores = r.cores;
-      active = x;
-      off = k.off;
-    }) m.active
-    ∙ ap (λ x. record {
-      lows = r.lows;
-      known = r.known;
-      cores = r.cores;
-      active = r.active;
-      off = x;
-    }) m.off
+recount_with cs k ls m e = rw (e, m.known, m.cores, m.active, m.off) refl
 
 told_cases : (a b : Bool) (xs ys ls : List ℕ)
     → Some ls ≡ cond a (Some xs) (cond b (Some ys) None)
@@ -137,30 +101,19 @@ told_right cs j s k after ls h m new told = elim (told_cases (nat_lt 0 k.active)
     ]
 
 -- what is kept of one of the cores is a part of what is kept of all
+part : (f : CoreState → ℕ) (cs : List CoreState) (j : ℕ) (b : CoreState) (k x : ℕ) → j < length cs
+    → b ≡ get_or cs j b → k ≡ sum_by f cs → x ≡ sum_by f (b ∷ []) → x ≤ k
+part f cs j b k x h is e l = omega (arith, e, l, get_or-le-sum_by f cs j b h, ap f is)
+
 pub part_of : (cs : List CoreState) (j : ℕ) (b : CoreState) (k before : Kept) → j < length cs
     → b ≡ get_or cs j b → Keeps k cs → Keeps before (b ∷ []) → IsPart before k
 part_of cs j b k before h is own was = record {
-  known = omega (
-    arith,
-    ap (λ (i : Kept). i.known) own.counted,
-    ap (λ (i : Kept). i.known) was.counted,
-    get_or-le-sum_by (λ (c : CoreState). c.known) cs j b h,
-    ap (λ (c : CoreState). c.known) is,
-  );
-  active = omega (
-    arith,
-    ap (λ (i : Kept). i.active) own.counted,
-    ap (λ (i : Kept). i.active) was.counted,
-    get_or-le-sum_by (λ (c : CoreState). cond (is_active c.activity) 1 0) cs j b h,
-    ap {B = ℕ} (λ (c : CoreState). cond (is_active c.activity) 1 0) is,
-  );
-  off = omega (
-    arith,
-    ap (λ (i : Kept). i.off) own.counted,
-    ap (λ (i : Kept). i.off) was.counted,
-    get_or-le-sum_by (λ (c : CoreState). cond (is_away c.activity) 1 0) cs j b h,
-    ap {B = ℕ} (λ (c : CoreState). cond (is_away c.activity) 1 0) is,
-  );
+  known = part (λ (c : CoreState). c.known) cs j b _ _ h is
+      (ap (λ (i : Kept). i.known) own.counted) (ap (λ (i : Kept). i.known) was.counted);
+  active = part (λ (c : CoreState). cond (is_active c.activity) 1 0) cs j b _ _ h is
+      (ap (λ (i : Kept). i.active) own.counted) (ap (λ (i : Kept). i.active) was.counted);
+  off = part (λ (c : CoreState). cond (is_away c.activity) 1 0) cs j b _ _ h is
+      (ap (λ (i : Kept). i.off) own.counted) (ap (λ (i : Kept). i.off) was.counted);
 }
 
 -- the known starts below domains that keep them have 32 bits each

@@ -7,11 +7,10 @@ use Rattle.std.proofs.lemmas.List.{length-map, take_all, drop_all}
 use Rattle.psci_board.specs.Board.{HasNodeIn, IsTree, group_of, size_below, place_above}
 use Rattle.psci_tree.specs.declared.way.Way.{Way}
 use Rattle.psci_tree.specs.Changes.{path_cleared, with_path_cleared}
-use Rattle.psci_tree.specs.Recount.{TreeValue, IsDomainTree, confirmed_at, granted_at}
-use Rattle.psci_tree.specs.Recount.{level_sizes}
+use Rattle.psci_tree.specs.Recount.{TreeValue, IsDomainTree, confirmed_at, granted_at, level_sizes}
 use Rattle.psci_tree.specs.Way.{IsWayOf, cleared_from}
-use Rattle.psci_tree.proofs.Granted.{zero_more, parent_is, place_lt, length_level_sizes}
-use Rattle.psci_tree.proofs.Ways.{above_next}
+use Rattle.psci_tree.proofs.Granted.{zero_more, parent_is, above_top, length_level_sizes}
+use Rattle.psci_board.proofs.Paths.{inside, place_above-suc}
 
 -- the node of a level on the way to a core
 pub path_node : (levels : List (List ℕ)) (core l : ℕ) (way : Way) → IsTree levels
@@ -19,7 +18,7 @@ pub path_node : (levels : List (List ℕ)) (core l : ℕ) (way : Way) → IsTree
     → HasNodeIn levels (record { level = l; place = get_or way.places l 0 })
 path_node levels core l way t h is le = record {
   level = le;
-  place = omega (arith, is.places l le, place_lt levels l core t le h);
+  place = omega (arith, is.places l le, inside levels l core t h le);
 }
 
 -- one level written, and those above it
@@ -32,7 +31,7 @@ cleared_step levels rows core l p h i at =
     let xs : List (List ℕ) = set rows l (set (get_or rows l []) q 0) in
     let next : l + 1 ≡ suc l = omega arith in
     let up : place_above levels (suc l) core ≡ place_above (drop l levels) 1 q =
-    above_next levels l core h ∙ sym (parent_is levels l q h) in
+    place_above-suc levels l core h ∙ sym (parent_is levels l q h) in
     ap (λ x. cleared_from levels core (l + 1) (set rows l (set (get_or rows l []) x 0))) at
     ∙ ap (λ k. cleared_from levels core k xs) next
     ∙ ap (λ x. take (suc l) xs ++ path_cleared (drop (suc l) levels) x (drop (suc l) xs)) up
@@ -61,17 +60,13 @@ none_set [] p e = refl
 none_set (x ∷ g) zero e = ap (λ y. y ∷ g) (sym e)
 none_set (x ∷ g) (suc p) e = ap (λ ys. x ∷ ys) (none_set g p e)
 
-above_none : (l p : ℕ) → place_above [] l p ≡ p
-above_none zero p = refl
-above_none (suc l) p = refl
-
 none_past : (rows : List (List ℕ)) (l p : ℕ) → length rows ≤ l
     → get_or (get_or rows l []) p 0 ≡ 0
 none_past [] l p h = refl
 none_past (g ∷ gs) zero p h = absurd (omega arith)
 none_past (g ∷ gs) (suc l) p h = none_past gs l p (omega arith)
 
-rows_long : (levels rows : List (List ℕ)) → map length rows ≡ level_sizes levels
+pub rows_long : (levels rows : List (List ℕ)) → map length rows ≡ level_sizes levels
     → length rows ≡ suc (length levels)
 rows_long levels rows v =
     sym (length-map rows length) ∙ ap length v ∙ length_level_sizes levels
@@ -83,7 +78,7 @@ none_cleared levels [] p h = refl
 none_cleared [] (g ∷ gs) p h =
     ap (λ x. x ∷ path_cleared [] p gs) (none_set g p (h 0))
     ∙ ap (λ xs. g ∷ xs) (none_cleared [] gs p (λ l.
-    ap (λ q. get_or (get_or gs l []) q 0) (above_none l p) ∙ h (suc l)))
+    ap (λ q. get_or (get_or gs l []) q 0) (above_top l p) ∙ h (suc l)))
 none_cleared (w ∷ ws) (g ∷ gs) p h =
     ap (λ x. x ∷ path_cleared ws (group_of w p) gs) (none_set g p (h 0))
     ∙ ap (λ xs. g ∷ xs) (none_cleared ws gs (group_of w p) (λ l. h (suc l)))

@@ -1,21 +1,23 @@
 -- A core below a domain comes into another state: the step down to it, and what the domain keeps.
-use Rattle.std.proofs.Common.{◌≡◌, ℕ, ◌-◌, ◌<◌, List, [], ◌∷◌, length, get_or, ap, sym, ◌∙◌}
-use Rattle.std.proofs.Common.{arith, subst}
+use Rattle.std.proofs.Common.{◌≡◌, ℕ, ◌-◌, ◌<◌, List, [], ◌∷◌, length, get_or, ap, sym, ◌∙◌, arith}
+use Rattle.std.proofs.Common.{subst, Some}
+use Rattle.std.proofs.lemmas.List.{get_or_default}
+use Rattle.psci_tree.specs.Domains.{child_counts, leaves, cores_in, branches, index_by, IsWay}
+use Rattle.psci_tree.specs.Kept.{lows_told, AreKept, IsDescent, IsExchange, IsKept, IsPart, Keeps}
+use Rattle.psci_tree.specs.Kept.{kept_exchanged, recount}
+use Rattle.psci_tree.proofs.Below.{cores_roll, widths_with_child, cores_set, cores_le}
+use Rattle.psci_tree.proofs.Below.{cores_of_domain, length_of_domain}
+use Rattle.psci_tree.proofs.Keeping.{Small, keeps_small, kept_at, kept_children, kept_own}
+use Rattle.psci_tree.proofs.Keeping.{kept_roll, kept_set}
+use Rattle.psci_tree.proofs.Changed.{told_right, AreMoved, Was, core_down, part_of, recount_with}
+use Rattle.psci_tree.proofs.Changed.{small_in, sums_moved, was_of}
 use Rattle.std.proofs.Math.ListN.{set, length-set}
 use Rattle.psci_state.specs.declared.cores.CoreState.{CoreState}
 use Rattle.psci_tree.specs.declared.kept.Kept.{Kept}
 use Rattle.psci_tree.specs.declared.domain.Domain.{Domain, out-Domain}
 use Rattle.psci_tree.specs.declared.domain.Domain.TheViews.{roll-Domain}
 use Rattle.std.specs.Vec.{with_item}
-use Rattle.psci_tree.specs.Domains.{leaves, cores_in, branches, index_by, IsWay}
-use Rattle.psci_tree.specs.Kept.{AreKept, IsDescent, IsExchange, IsKept, IsPart, Keeps}
-use Rattle.psci_tree.specs.Kept.{kept_exchanged, recount}
 use Rattle.std.specs.List.{sum_by}
-use Rattle.psci_tree.proofs.Below.{cores_set, cores_le, cores_of_domain, cores_with_child}
-use Rattle.psci_tree.proofs.Below.{length_of_domain}
-use Rattle.psci_tree.proofs.Changed.{AreMoved, Was, core_down, part_of, recount_with, small_in}
-use Rattle.psci_tree.proofs.Changed.{sums_moved, was_of}
-use Rattle.psci_tree.proofs.Keeping.{kept_at, kept_children, kept_own, kept_roll, kept_set}
 use Rattle.psci_tree.proofs.Ways.{Step, step, place_inside}
 
 -- a domain above the core that comes into another state
@@ -24,13 +26,25 @@ pub record Above (own : Domain) (l : ℕ) (way : List ℕ) : Type 0 where
   pub descent : IsDescent own l way
   pub kept : IsKept own
 
-pub down : (own : Domain) (l : ℕ) (way : List ℕ) → Above own l way → Step own l (l - 1) way
+pub above_of : {own : Domain} {l : ℕ} {way : List ℕ} → (l ≡ 0 → ⊥) → IsDescent own l way
+    → IsKept own → Above own l way
+above_of some d k = record { some = omega (arith, some); descent = d; kept = k }
+
+down : (own : Domain) (l : ℕ) (way : List ℕ) → Above own l way → Step own l (l - 1) way
 down own l way h = step own l (l - 1) way (omega (arith, h.some)) h.descent.leads
 
 -- the child that the way leads through
-pub child_descent : (own n : Domain) (l : ℕ) (way : List ℕ) → Above own l way
-    → get_or (branches own) (get_or way (l - 1) 0) own ≡ n → IsDescent n (l - 1) way
-child_descent own n l way h is =
+abbrev pub IsChild : Domain → Domain → ℕ → List ℕ → Type 0
+IsChild own n l way = get_or (branches own) (get_or way (l - 1) 0) own ≡ n
+
+pub is_child : {own n : Domain} {l : ℕ} {way : List ℕ} → Above own l way
+    → n ≡ get_or (branches own) (get_or way (l - 1) 0) n → IsChild own n l way
+is_child {own = own} {n = n} {l = l} {way = way} h at =
+    sym (at ∙ get_or_default (branches own) (get_or way (l - 1) 0) n own (down own l way h).inside)
+
+pub child_descent : {own n : Domain} {l : ℕ} {way : List ℕ} → Above own l way
+    → IsChild own n l way → IsDescent n (l - 1) way
+child_descent {own = own} {l = l} {way = way} h is =
     let d : Step own l (l - 1) way = down own l way h in
     record {
       long = omega (arith, h.descent.long);
@@ -44,11 +58,11 @@ child_descent own n l way h is =
       );
     }
 
-pub child_exchange : (own n : Domain) (l : ℕ) (way : List ℕ) (s : CoreState) (b a : Kept)
-    → Above own l way → IsExchange own l way s b a
-    → get_or (branches own) (get_or way (l - 1) 0) own ≡ n → IsExchange n (l - 1) way s b a
-child_exchange own n l way s b a h e is = record {
-  descent = child_descent own n l way h is;
+pub child_exchange : {own n : Domain} {l : ℕ} {way : List ℕ} {s : CoreState} {b a : Kept}
+    → Above own l way → IsExchange own l way s b a → IsChild own n l way
+    → IsExchange n (l - 1) way s b a
+child_exchange {own = own} {l = l} {way = way} {b = b} h e is = record {
+  descent = child_descent h is;
   comes = e.comes;
   was = λ c.
       subst (λ (x : CoreState). Keeps b (x ∷ []))
@@ -57,26 +71,28 @@ child_exchange own n l way s b a h e is = record {
       (e.was c);
 }
 
-pub child_kept : (own n : Domain) (l : ℕ) (way : List ℕ) → Above own l way
-    → get_or (branches own) (get_or way (l - 1) 0) own ≡ n → IsKept n
-child_kept own n l way h is =
+pub child_kept : {own n : Domain} {l : ℕ} {way : List ℕ} → Above own l way
+    → IsChild own n l way → IsKept n
+child_kept {own = own} {l = l} {way = way} h is =
     subst IsKept is (kept_at (branches own) (get_or way (l - 1) 0) own
     (down own l way h).inside
     (kept_children own h.kept))
 
 -- the child was changed to this one
 pub record Through (own n m : Domain) (l : ℕ) (way : List ℕ) (s : CoreState) : Type 0 where
-  pub is : get_or (branches own) (get_or way (l - 1) 0) own ≡ n
+  pub above : Above own l way
+  pub is : IsChild own n l way
   pub cores : leaves m ≡ set (leaves n) (index_by (l - 1) way n) s
+  pub shape : (k : ℕ) → child_counts k m ≡ child_counts k n
   pub kept : IsKept m
 
 -- the cores below all children
-pub cores_new : (own n m : Domain) (l : ℕ) (way : List ℕ) (s : CoreState)
-    → Above own l way → Through own n m l way s
+pub cores_new : {own n m : Domain} {l : ℕ} {way : List ℕ} {s : CoreState}
+    → Through own n m l way s
     → cores_in (set (branches own) (get_or way (l - 1) 0) m)
     ≡ set (leaves own) (index_by l way own) s
-cores_new own n m l way s h t =
-    let d : Step own l (l - 1) way = down own l way h in
+cores_new {own = own} {m = m} {l = l} {way = way} {s = s} t =
+    let d : Step own l (l - 1) way = down own l way t.above in
     let i : ℕ = get_or way (l - 1) 0 in
     let items : List Domain = branches own in
     cores_set items i (index_by (l - 1) way (get_or items i own)) (index_by l way own) own m s
@@ -85,93 +101,104 @@ cores_new own n m l way s h t =
     ∙ ap (λ cs. set cs (index_by l way own) s)
     (sym (cores_of_domain own (omega (arith, d.inside))))
 
-pub children_new : (own n m : Domain) (l : ℕ) (way : List ℕ) (s : CoreState)
-    → Above own l way → Through own n m l way s
+pub children_new : {own n m : Domain} {l : ℕ} {way : List ℕ} {s : CoreState}
+    → Through own n m l way s
     → AreKept (set (branches own) (get_or way (l - 1) 0) m)
-children_new own n m l way s h t =
-    kept_set (branches own) (get_or way (l - 1) 0) m (kept_children own h.kept) t.kept
+children_new {own = own} {m = m} {l = l} {way = way} t =
+    kept_set (branches own) (get_or way (l - 1) 0) m (kept_children own t.above.kept) t.kept
 
-pub few_new : (own n m : Domain) (l : ℕ) (way : List ℕ) (s : CoreState)
-    → Above own l way → Through own n m l way s
+pub few_new : {own n m : Domain} {l : ℕ} {way : List ℕ} {s : CoreState}
+    → Through own n m l way s
     → length (cores_in (set (branches own) (get_or way (l - 1) 0) m)) ≡ length (leaves own)
-few_new own n m l way s h t =
-    ap length (cores_new own n m l way s h t)
-    ∙ length-set (leaves own) (index_by l way own) s
+few_new {own = own} {l = l} {way = way} {s = s} t =
+    ap length (cores_new t) ∙ length-set (leaves own) (index_by l way own) s
 
 -- with other children and other numbers it is put together anew
-pub cores_put : (own n m : Domain) (l : ℕ) (way : List ℕ) (s : CoreState) (k : Kept)
-    → Above own l way → Through own n m l way s
-    → leaves (roll-Domain (record {
-      children = with_item (out-Domain own).children (get_or way (l - 1) 0) m;
-      core = (out-Domain own).core;
-      kept = k;
-    })) ≡ set (leaves own) (index_by l way own) s
-cores_put own n m l way s k h t =
-    let d : Step own l (l - 1) way = down own l way h in
-    let i : ℕ = get_or way (l - 1) 0 in
-    cores_with_child own i (index_by (l - 1) way (get_or (branches own) i own))
-    (index_by l way own) m s k d.inside (sym d.place)
-    (place_inside (l - 1) way (get_or (branches own) i own) d.rest)
-    (t.cores ∙ ap (λ (x : Domain). set (leaves x) (index_by (l - 1) way x) s) (sym t.is))
+abbrev put : Domain → ℕ → Domain → Kept → Domain
+put own i m k = roll-Domain (record {
+  children = with_item (out-Domain own).children i m;
+  core = (out-Domain own).core;
+  kept = k;
+})
 
-pub kept_put : (own n m : Domain) (l : ℕ) (way : List ℕ) (s : CoreState) (k : Kept)
-    → Above own l way → Through own n m l way s
-    → Keeps k (cores_in (set (branches own) (get_or way (l - 1) 0) m))
-    → IsKept (roll-Domain (record {
-      children = with_item (out-Domain own).children (get_or way (l - 1) 0) m;
-      core = (out-Domain own).core;
-      kept = k;
-    }))
-kept_put own n m l way s k h t keeps =
-    kept_roll (record {
-      children = with_item (out-Domain own).children (get_or way (l - 1) 0) m;
-      core = (out-Domain own).core;
-      kept = k;
-    }) (omega (
+pub cores_put : {own n m : Domain} {l : ℕ} {way : List ℕ} {s : CoreState} (k : Kept)
+    → Through own n m l way s
+    → leaves (put own (get_or way (l - 1) 0) m k) ≡ set (leaves own) (index_by l way own) s
+cores_put {own = own} {m = m} {l = l} {way = way} k t =
+    cores_roll _ (omega (
       arith,
       length-set (branches own) (get_or way (l - 1) 0) m,
-      (down own l way h).inside,
-    )) keeps (children_new own n m l way s h t)
+      (down own l way t.above).inside,
+    )) ∙ cores_new t
+
+pub shape_put : {own n m : Domain} {l : ℕ} {way : List ℕ} {s : CoreState} (v : Kept)
+    → Through own n m l way s → (k : ℕ)
+    → child_counts k (put own (get_or way (l - 1) 0) m v) ≡ child_counts k own
+shape_put {own = own} {m = m} {l = l} {way = way} v t =
+    widths_with_child own (get_or way (l - 1) 0) m v
+    (λ k. t.shape k ∙ ap (child_counts k) (sym t.is))
+
+pub kept_put : {own n m : Domain} {l : ℕ} {way : List ℕ} {s : CoreState} (k : Kept)
+    → Through own n m l way s
+    → Keeps k (cores_in (set (branches own) (get_or way (l - 1) 0) m))
+    → IsKept (put own (get_or way (l - 1) 0) m k)
+kept_put {own = own} {m = m} {l = l} {way = way} k t keeps =
+    kept_roll _ (omega (
+      arith,
+      length-set (branches own) (get_or way (l - 1) 0) m,
+      (down own l way t.above).inside,
+    )) keeps (children_new t)
 
 -- What the domain keeps ----------------------------------------------------------------------
 
-was_below : (own : Domain) (l : ℕ) (way : List ℕ) (s : CoreState) (b a : Kept)
+was_below : {own : Domain} {l : ℕ} {way : List ℕ} {s : CoreState} {b a : Kept}
     → IsExchange own l way s b a → Was (leaves own) (index_by l way own) b
-was_below own l way s b a h =
+was_below {own = own} {l = l} {way = way} {b = b} h =
     was_of (leaves own) (index_by l way own) b (place_inside l way own h.descent.leads) h.was
 
-pub part_below : (own : Domain) (l : ℕ) (way : List ℕ) (s : CoreState) (b a : Kept)
+pub part_below : {own : Domain} {l : ℕ} {way : List ℕ} {s : CoreState} {b a : Kept}
     → IsKept own → IsExchange own l way s b a → IsPart b (out-Domain own).kept
-part_below own l way s b a kept h =
-    let was : Was (leaves own) (index_by l way own) b = was_below own l way s b a h in
+part_below {own = own} {l = l} {way = way} {b = b} kept h =
+    let was = was_below h in
     part_of (leaves own) (index_by l way own) was.core (out-Domain own).kept b was.inside was.is
     (kept_own own kept) was.kept
 
-pub moved_below : (own : Domain) (l : ℕ) (way : List ℕ) (s : CoreState) (b a : Kept)
+pub moved_below : {own : Domain} {l : ℕ} {way : List ℕ} {s : CoreState} {b a : Kept}
     → IsKept own → IsExchange own l way s b a
     → AreMoved (kept_exchanged (out-Domain own).kept b a) (set (leaves own) (index_by l way own) s)
-moved_below own l way s b a kept h =
-    let was : Was (leaves own) (index_by l way own) b = was_below own l way s b a h in
+moved_below {own = own} {l = l} {way = way} {s = s} {b = b} {a = a} kept h =
+    let was = was_below h in
     sums_moved (leaves own) (index_by l way own) was.core s (out-Domain own).kept b a was.inside
     was.is (kept_own own kept) was.kept h.comes
 
--- with what the cores below now ask
-pub keeps_new : (own n m : Domain) (l : ℕ) (way : List ℕ) (s : CoreState) (b a k : Kept)
-    (ls : List ℕ) → Above own l way → IsExchange own l way s b a → Through own n m l way s
-    → k ≡ kept_exchanged (out-Domain own).kept b a
-    → ls ≡ (recount (set (leaves own) (index_by l way own) s)).lows
+-- with what the numbers tell that the cores below now ask
+pub keeps_new : {own n m : Domain} {l : ℕ} {way : List ℕ} {s : CoreState} {b a k : Kept}
+    {ls : List ℕ} → IsExchange own l way s b a → Through own n m l way s
+    → k ≡ kept_exchanged (out-Domain own).kept b a → Some ls ≡ lows_told k a
     → Keeps (record k { lows = ls }) (cores_in (set (branches own) (get_or way (l - 1) 0) m))
-keeps_new own n m l way s b a k ls h x t e asked =
-    let there : List CoreState = set (leaves own) (index_by l way own) s in
+keeps_new {own = own} {l = l} {way = way} {s = s} {b = b} {a = a} {k = k} {ls = ls} x t e told =
+    let j : ℕ = index_by l way own in
+    let there : List CoreState = set (leaves own) j s in
     let moved : AreMoved k there =
-    subst (λ i. AreMoved i there) (sym e) (moved_below own l way s b a h.kept x) in
-    let below = cores_new own n m l way s h t in
+    subst (λ i. AreMoved i there) (sym e) (moved_below t.above.kept x) in
+    let asked : ls ≡ (recount there).lows = told_right (leaves own) j s k a ls
+    (place_inside l way own x.descent.leads) moved x.comes told in
+    let below = cores_new t in
     record {
       counted = recount_with there k ls moved asked ∙ ap recount (sym below);
       small = omega (
         arith,
-        small_in _ (children_new own n m l way s h t),
+        small_in _ (children_new t),
         moved.known,
         ap (sum_by (λ (c : CoreState). c.known)) below,
       );
     }
+
+-- what is kept of them is so small
+pub small_below : {own : Domain} {l : ℕ} {way : List ℕ} {s : CoreState} {b a : Kept}
+    → IsKept own → IsExchange own l way s b a → Small (out-Domain own).kept
+small_below {own = own} kept h = keeps_small _ _ (kept_own own kept) h.descent.few
+
+pub small_after : {own : Domain} {l : ℕ} {way : List ℕ} {s : CoreState} {b a : Kept}
+    → IsExchange own l way s b a → Small a
+small_after h = keeps_small _ _ h.comes (omega arith)

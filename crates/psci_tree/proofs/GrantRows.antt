@@ -21,14 +21,6 @@ granting cores clusters groups system = record {
 abbrev tree : TreeValue
 tree = granting (3 ∷ 2 ∷ 3 ∷ 0 ∷ []) (3 ∷ 2 ∷ 0 ∷ []) (1 ∷ 0 ∷ []) 0
 
--- what a fact about a core says at each of the four cores
-four : (P : ℕ → Type 0) → P 0 → P 1 → P 2 → P 3 → (c : ℕ) → c < 4 → P c
-four P a b c d zero h = a
-four P a b c d (suc zero) h = b
-four P a b c d (suc (suc zero)) h = c
-four P a b c d (suc (suc (suc zero))) h = d
-four P a b c d (suc (suc (suc (suc k)))) h = absurd (omega arith)
-
 -- A depth that may be granted ----------------------------------------------------------------
 
 -- no child of the core's domain below this core is granted less
@@ -40,55 +32,39 @@ abbrev ParentOk : TreeValue → Node → ℕ → ℕ → Type 0
 ParentOk t n depth c = place_above uneven n.level c ≡ n.place
     → granted_at t (n.level + 1) (place_above uneven (n.level + 1) c) ≤ depth
 
--- depth 3 at a core, which has no children
-core_deepest : MayGrant tree (node 0 3) 3
-core_deepest = record {
-  deepest = omega arith;
-  children = λ c h l e. absurd (omega arith);
-  parent = λ c h l e. four (ParentOk tree (node 0 3) 3) (λ x. omega arith) (λ x. omega arith)
-      (λ x. omega arith) (λ x. omega arith) c h e;
-}
+-- what a fact about a core says at each of the four cores
+abbrev Four : (ℕ → Type 0) → Type 0
+Four P = P 0 × P 1 × P 2 × P 3
 
--- a core is granted less than before, as much as its cluster
-core_lowered : MayGrant tree (node 0 2) 2
-core_lowered = record {
-  deepest = omega arith;
-  children = λ c h l e. absurd (omega arith);
-  parent = λ c h l e. four (ParentOk tree (node 0 2) 2) (λ x. omega arith) (λ x. omega arith)
-      (λ x. omega arith) (λ x. omega arith) c h e;
-}
+four : (P : ℕ → Type 0) → Four P → (c : ℕ) → c < 4 → P c
+four P f zero h = f.0
+four P f (suc zero) h = f.1
+four P f (suc (suc zero)) h = f.2
+four P f (suc (suc (suc zero))) h = f.3
+four P f (suc (suc (suc (suc k)))) h = absurd (omega arith)
 
--- a cluster is granted less than before
-cluster_lowered : MayGrant tree (node 1 1) 1
-cluster_lowered = record {
-  deepest = omega arith;
-  children = λ c h l e. four (ChildOk tree (node 1 1) 1) (λ x. omega arith) (λ x. omega arith)
-      (λ x. omega arith) (λ x. omega arith) c h e;
-  parent = λ c h l e. four (ParentOk tree (node 1 1) 1) (λ x. omega arith) (λ x. omega arith)
-      (λ x. omega arith) (λ x. omega arith) c h e;
-}
-
--- a domain of level 2 is granted as much as the least of its children
-group_raised : MayGrant tree (node 2 0) 2
-group_raised = record {
-  deepest = omega arith;
-  children = λ c h l e. four (ChildOk tree (node 2 0) 2) (λ x. omega arith) (λ x. omega arith)
-      (λ x. omega arith) (λ x. omega arith) c h e;
-  parent = λ c h l e. four (ParentOk tree (node 2 0) 2) (λ x. omega arith) (λ x. omega arith)
-      (λ x. omega arith) (λ x. omega arith) c h e;
+may : (cores clusters groups : List ℕ) (system depth : ℕ) (n : Node) → depth ≤ 3
+    → (0 < n.level → Four (ChildOk (granting cores clusters groups system) n depth))
+    → (n.level < 3 → Four (ParentOk (granting cores clusters groups system) n depth))
+    → MayGrant (granting cores clusters groups system) n depth
+may cores clusters groups system depth n h children parent = record {
+  deepest = h;
+  children = λ c i l. four (ChildOk (granting cores clusters groups system) n depth) (children l) c i;
+  parent = λ c i l. four (ParentOk (granting cores clusters groups system) n depth) (parent l) c i;
 }
 
 -- the system, power-down
 abbrev all_down : TreeValue
 all_down = granting (3 ∷ 3 ∷ 3 ∷ 3 ∷ []) (3 ∷ 3 ∷ 3 ∷ []) (3 ∷ 3 ∷ []) 0
 
-system_deepest : MayGrant all_down (node 3 0) 3
-system_deepest = record {
-  deepest = omega arith;
-  children = λ c h l e. four (ChildOk all_down (node 3 0) 3) (λ x. omega arith) (λ x. omega arith)
-      (λ x. omega arith) (λ x. omega arith) c h e;
-  parent = λ c h l e. absurd (omega arith);
-}
+granted : MayGrant tree (node 0 3) 3
+    -- a core is granted less than before, as much as its cluster, and a cluster less than before
+    × MayGrant tree (node 0 2) 2
+    × MayGrant tree (node 1 1) 1
+    -- a domain of level 2 is granted as much as the least of its children
+    × MayGrant tree (node 2 0) 2
+    × MayGrant all_down (node 3 0) 3
+granted = search (arith, may)
 
 -- no depth above 3, not even of a core
 too_deep : MayGrant tree (node 0 3) 4 → ⊥

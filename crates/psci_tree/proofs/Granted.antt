@@ -7,10 +7,9 @@ use Rattle.std.proofs.lemmas.Bool.{cases_eq, eq-eqb, ne_eqb}
 use Rattle.std.proofs.lemmas.List.{get_or-set_same, get_or-set_other, get_or-replicate}
 use Rattle.std.proofs.lemmas.List.{get_or-map, length-map}
 use Rattle.psci_board.specs.declared.node.Node.{Node}
-use Rattle.psci_board.specs.Board.{group_of, IsTree, HasNodeIn, size_below, place_above}
+use Rattle.psci_board.specs.Board.{group_of, HasNodeIn, size_below, place_above}
 use Rattle.psci_tree.specs.Recount.{TreeValue, granted_at, level_sizes, IsDomainTree}
 use Rattle.psci_tree.specs.Changes.{path_cleared, with_grant, depth_set, rows_with_depth}
-use Rattle.psci_tree.proofs.Places.{group_below}
 
 -- One written place --------------------------------------------------------------------------
 
@@ -41,7 +40,7 @@ at_set_zero (x ∷ g) (suc i) (suc p) =
 
 -- The path of a core -------------------------------------------------------------------------
 
-above_top : (l i : ℕ) → place_above [] l i ≡ i
+pub above_top : (l i : ℕ) → place_above [] l i ≡ i
 above_top zero i = refl
 above_top (suc l) i = refl
 
@@ -82,23 +81,11 @@ zero_more (w ∷ ws) (g ∷ gs) zero i h = refl
 zero_more [] (g ∷ gs) (suc l) i h = ap (λ xs. g ∷ xs) (zero_top gs l i (omega arith))
 zero_more (w ∷ ws) (g ∷ gs) (suc l) i h = ap (λ xs. g ∷ xs) (zero_more ws gs l i (omega arith))
 
-pub tree_drop : (levels : List (List ℕ)) (l : ℕ) → IsTree levels → IsTree (drop l levels)
-tree_drop levels zero t = t
-tree_drop [] (suc l) t = t
-tree_drop (w ∷ ws) (suc l) t = tree_drop ws l t.3
-
 pub parent_is : (levels : List (List ℕ)) (l i : ℕ) → l < length levels
     → place_above (drop l levels) 1 i ≡ group_of (get_or levels l []) i
 parent_is [] l i h = absurd (omega arith)
 parent_is (w ∷ ws) zero i h = refl
 parent_is (w ∷ ws) (suc l) i h = parent_is ws l i (omega arith)
-
-pub above_lt : (levels : List (List ℕ)) (l i : ℕ) → IsTree levels → i < size_below (drop l levels)
-    → place_above (drop l levels) 1 i < size_below (drop (suc l) levels)
-above_lt [] zero i t h = h
-above_lt [] (suc l) i t h = h
-above_lt (w ∷ ws) zero i t h = group_below w ws i t h
-above_lt (w ∷ ws) (suc l) i t h = above_lt ws l i t.3 h
 
 pub row_lengths : (gs : List (List ℕ)) (l i x : ℕ)
     → map length (set gs l (set (get_or gs l []) i x)) ≡ map length gs
@@ -113,13 +100,6 @@ same_up [] zero c d e = e
 same_up [] (suc l) c d e = e
 same_up (w ∷ ws) zero c d e = ap (group_of w) e
 same_up (w ∷ ws) (suc l) c d e = same_up ws l (group_of w c) (group_of w d) e
-
-pub place_lt : (levels : List (List ℕ)) (l c : ℕ) → IsTree levels → l ≤ length levels
-    → c < size_below levels → place_above levels l c < size_below (drop l levels)
-place_lt levels zero c t h i = i
-place_lt [] (suc l) c t h i = absurd (omega arith)
-place_lt (w ∷ ws) (suc l) c t h i =
-    place_lt ws l (group_of w c) t.3 (omega arith) (group_below w ws c t i)
 
 pub size_of_level : (levels : List (List ℕ)) (l : ℕ) → l ≤ length levels
     → get_or (level_sizes levels) l 0 ≡ size_below (drop l levels)

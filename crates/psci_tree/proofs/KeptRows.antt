@@ -2,6 +2,8 @@
 -- cores, and clusters of one, two and one core below two domains of level 2.
 use Rattle.std.proofs.Common.{◌≡◌, ℕ, List, [], ◌∷◌, ◌^◌, map, refl, length, get_or, ap, subst, sym}
 use Rattle.std.proofs.Common.{arith}
+use Rattle.psci_board.proofs.Tables.{◌⇒◌, Gives}
+use Rattle.psci_state.specs.declared.cores.Change.{Change}
 use Rattle.psci_board.specs.Board.{index_in, place_above}
 use Rattle.std.specs.Prelude.{Some, None, slice_index_or}
 use Rattle.psci_state.specs.declared.cores.CoreState.{CoreState}
@@ -29,86 +31,63 @@ pending = record { activity = Active; known = 1 }
 abbrev gone : CoreState
 gone = record { activity = Away; known = 1 }
 
--- no core asks for less than power-down, where there is none
-keeps_none : recount []
-    ≡ record { lows = 3 ∷ 3 ∷ 3 ∷ 3 ∷ []; known = 0; cores = 0; active = 0; off = 0 }
-keeps_none = refl
+-- what is kept: the least ask of each level, the known starts, and how many cores there are, are
+-- active and are off
+abbrev keeps : ℕ → ℕ → ℕ → ℕ → ℕ → ℕ → ℕ → ℕ → Kept
+keeps low0 low1 low2 low3 known cores active off = record {
+  lows = low0 ∷ low1 ∷ low2 ∷ low3 ∷ [];
+  known = known;
+  cores = cores;
+  active = active;
+  off = off;
+}
 
--- the least ask of each level by itself
-keeps_least : recount (down ∷ retained ∷ [])
-    ≡ record { lows = 3 ∷ 2 ∷ 0 ∷ 0 ∷ []; known = 5; cores = 2; active = 0; off = 0 }
-keeps_least = refl
-
--- whichever of the two comes first
-keeps_either : recount (retained ∷ down ∷ [])
-    ≡ record { lows = 3 ∷ 2 ∷ 0 ∷ 0 ∷ []; known = 5; cores = 2; active = 0; off = 0 }
-keeps_either = refl
-
--- a minimum rises again, once the core that asked for less asks for more
-keeps_risen : recount (down ∷ record { activity = Suspended (3 ∷ 3 ∷ 0 ∷ 0 ∷ []); known = 4 } ∷ [])
-    ≡ record { lows = 3 ∷ 3 ∷ 0 ∷ 0 ∷ []; known = 5; cores = 2; active = 0; off = 0 }
-keeps_risen = refl
-
--- a pending core asks for nothing, and is counted
-keeps_pending : recount (pending ∷ retained ∷ [])
-    ≡ record { lows = 0 ∷ 0 ∷ 0 ∷ 0 ∷ []; known = 5; cores = 2; active = 1; off = 0 }
-keeps_pending = refl
-
--- an off core asks for power-down, and is counted among those off
-keeps_off : recount (gone ∷ down ∷ [])
-    ≡ record { lows = 3 ∷ 3 ∷ 0 ∷ 0 ∷ []; known = 2; cores = 2; active = 0; off = 1 }
-keeps_off = refl
+recounts : Gives recount
+    -- no core asks for less than power-down, where there is none
+    ([] ⇒ keeps 3 3 3 3 0 0 0 0
+    -- the least ask of each level by itself, whichever of the two comes first
+    ∷ (down ∷ retained ∷ []) ⇒ keeps 3 2 0 0 5 2 0 0
+    ∷ (retained ∷ down ∷ []) ⇒ keeps 3 2 0 0 5 2 0 0
+    -- a minimum rises again, once the core that asked for less asks for more
+    ∷ (down ∷ record { activity = Suspended (3 ∷ 3 ∷ 0 ∷ 0 ∷ []); known = 4 } ∷ [])
+    ⇒ keeps 3 3 0 0 5 2 0 0
+    -- a pending core asks for nothing, and is counted
+    ∷ (pending ∷ retained ∷ []) ⇒ keeps 0 0 0 0 5 2 1 0
+    -- an off core asks for power-down, and is counted among those off
+    ∷ (gone ∷ down ∷ []) ⇒ keeps 3 3 0 0 2 2 0 1 ∷ [])
+recounts = refl
 
 -- two clusters: the least of both, and the sums
 keeps_beside : kept_together (recount (pending ∷ retained ∷ []))
     (recount (gone ∷ never_started ∷ []))
-    ≡ record { lows = 0 ∷ 0 ∷ 0 ∷ 0 ∷ []; known = 6; cores = 4; active = 1; off = 2 }
+    ≡ keeps 0 0 0 0 6 4 1 2
 keeps_beside = refl
 
--- an off core is asked on: one more is active and one less is off, and what they ask is left
-exchanged_off : kept_exchanged (recount (gone ∷ retained ∷ [])) (recount (gone ∷ []))
-    (recount (pending ∷ []))
-    ≡ record { lows = 3 ∷ 2 ∷ 0 ∷ 0 ∷ []; known = 5; cores = 2; active = 1; off = 0 }
-exchanged_off = refl
+-- of these cores one was so and is so now
+exchanged : Gives (λ (q : List CoreState × CoreState × CoreState).
+    kept_exchanged (recount q.0) (recount (q.1 ∷ [])) (recount (q.2 ∷ [])))
+    -- an off core is asked on: one more is active and one less is off, and what they ask is left
+    ((gone ∷ retained ∷ [], gone, pending) ⇒ keeps 3 2 0 0 5 2 1 0
+    -- a suspended core wakes by its next start: the one before it is no longer in the sum
+    ∷ (gone ∷ retained ∷ [], retained, record { activity = Active; known = 5 })
+    ⇒ keeps 3 2 0 0 6 2 1 1
+    -- a core goes off: one less is active, one more is off
+    ∷ (pending ∷ retained ∷ [], pending, gone) ⇒ keeps 0 0 0 0 5 2 0 1 ∷ [])
+exchanged = refl
 
--- a suspended core wakes by its next start: the one before it is no longer in the sum
-exchanged_woken : kept_exchanged (recount (gone ∷ retained ∷ [])) (recount (retained ∷ []))
-    (recount (record { activity = Active; known = 5 } ∷ []))
-    ≡ record { lows = 3 ∷ 2 ∷ 0 ∷ 0 ∷ []; known = 6; cores = 2; active = 1; off = 1 }
-exchanged_woken = refl
-
--- a core goes off: one less is active, one more is off
-exchanged_gone : kept_exchanged (recount (pending ∷ retained ∷ [])) (recount (pending ∷ []))
-    (recount (gone ∷ []))
-    ≡ record { lows = 0 ∷ 0 ∷ 0 ∷ 0 ∷ []; known = 5; cores = 2; active = 0; off = 1 }
-exchanged_gone = refl
-
--- while one is pending they ask for nothing, whatever the one asks that has changed
-told_nothing : lows_told (recount (pending ∷ retained ∷ gone ∷ [])) (recount (retained ∷ []))
-    ≡ Some (0 ∷ 0 ∷ 0 ∷ 0 ∷ [])
-told_nothing = refl
-
--- the others are off, and so is the one
-told_all_off : lows_told (recount (gone ∷ gone ∷ gone ∷ [])) (recount (gone ∷ []))
-    ≡ Some (3 ∷ 3 ∷ 3 ∷ 3 ∷ [])
-told_all_off = refl
-
--- the others are off, and the one is suspended: they ask what it asks
-told_own : lows_told (recount (gone ∷ retained ∷ gone ∷ [])) (recount (retained ∷ []))
-    ≡ Some (3 ∷ 2 ∷ 0 ∷ 0 ∷ [])
-told_own = refl
-
--- another one is suspended: the numbers do not tell, whether the one is off or suspended
-told_no_off : lows_told (recount (gone ∷ retained ∷ gone ∷ [])) (recount (gone ∷ [])) ≡ None
-told_no_off = refl
-
-told_no_suspended : lows_told (recount (down ∷ retained ∷ gone ∷ [])) (recount (down ∷ []))
-    ≡ None
-told_no_suspended = refl
-
--- a core alone is told by itself
-told_alone : lows_told (recount (down ∷ [])) (recount (down ∷ [])) ≡ Some (3 ∷ 3 ∷ 0 ∷ 0 ∷ [])
-told_alone = refl
+-- what these cores ask, of which one has changed
+told : Gives (λ (q : List CoreState × CoreState). lows_told (recount q.0) (recount (q.1 ∷ [])))
+    -- while one is pending they ask for nothing, whatever the one asks that has changed
+    ((pending ∷ retained ∷ gone ∷ [], retained) ⇒ Some (0 ∷ 0 ∷ 0 ∷ 0 ∷ [])
+    -- the others are off, and so is the one, or it is suspended: they ask what it asks
+    ∷ (gone ∷ gone ∷ gone ∷ [], gone) ⇒ Some (3 ∷ 3 ∷ 3 ∷ 3 ∷ [])
+    ∷ (gone ∷ retained ∷ gone ∷ [], retained) ⇒ Some (3 ∷ 2 ∷ 0 ∷ 0 ∷ [])
+    -- another one is suspended: the numbers do not tell, whether the one is off or suspended
+    ∷ (gone ∷ retained ∷ gone ∷ [], gone) ⇒ None
+    ∷ (down ∷ retained ∷ gone ∷ [], down) ⇒ None
+    -- a core alone is told by itself
+    ∷ (down ∷ [], down) ⇒ Some (3 ∷ 3 ∷ 0 ∷ 0 ∷ []) ∷ [])
+told = refl
 
 -- a domain that is one core, which was off and is suspended now
 exchange_of_core : (n : Domain) → length (branches n) ≡ 0 → leaves n ≡ gone ∷ []
@@ -148,15 +127,12 @@ descent_to_a_domain n two a = absurd (omega (arith, two, a.leads))
 descent_among_many : (n : Domain) → length (leaves n) ≡ 2 ^ 16 → IsDescent n 0 [] → ⊥
 descent_among_many n many a = absurd (omega (arith, many, a.few))
 
--- a start takes its own number, however many there were before, and not one more
-change_starts : core_changed (record { activity = Active; started = Some 9 }) retained
-    ≡ record { activity = Active; known = 9 }
-change_starts = refl
-
--- without a start the known one stays
-change_keeps : core_changed (record { activity = Away; started = None }) retained
-    ≡ record { activity = Away; known = 4 }
-change_keeps = refl
+-- a start takes its own number, however many there were before, and not one more; without a start
+-- the known one stays
+changes : Gives (λ (c : Change). core_changed c retained)
+    (record { activity = Active; started = Some 9 } ⇒ record { activity = Active; known = 9 }
+    ∷ record { activity = Away; started = None } ⇒ record { activity = Away; known = 4 } ∷ [])
+changes = refl
 
 -- the numbers of the children on the ways to the cores, from the core's own up
 abbrev levels : List (List ℕ)
@@ -166,14 +142,9 @@ abbrev way : ℕ → List ℕ
 way core =
     map (λ l. index_in (slice_index_or levels l []) (place_above levels l core)) (0 ∷ 1 ∷ 2 ∷ [])
 
-way_first : way 0 ≡ 0 ∷ 0 ∷ 0 ∷ []
-way_first = refl
-
-way_in_pair : way 2 ≡ 1 ∷ 1 ∷ 0 ∷ []
-way_in_pair = refl
-
-way_last : way 3 ≡ 0 ∷ 0 ∷ 1 ∷ []
-way_last = refl
+ways : Gives way
+    (0 ⇒ (0 ∷ 0 ∷ 0 ∷ []) ∷ 2 ⇒ (1 ∷ 1 ∷ 0 ∷ []) ∷ 3 ⇒ (0 ∷ 0 ∷ 1 ∷ []) ∷ [])
+ways = refl
 
 -- the places on a way, from the core's own up
 places_last : map (λ l. place_above levels l 3) (0 ∷ 1 ∷ 2 ∷ 3 ∷ []) ≡ 3 ∷ 2 ∷ 1 ∷ 0 ∷ []

@@ -15,9 +15,10 @@ pub mod KeptRows
 pub mod Looked
 pub mod OffOnes
 pub mod PathStands
-pub mod Places
+pub mod Ranges
 pub mod Recounted
 pub mod Rows
+pub mod Seen
 pub mod Shapes
 pub mod Slices
 pub mod Sums

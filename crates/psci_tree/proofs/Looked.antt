@@ -1,8 +1,7 @@
 -- The values of a tree after each change, by core, and by level and place.
 use Rattle.std.proofs.Common.{◌≡◌, ℕ, zero, suc, ◌<◌, ◌≤◌, Bool, true, false, cond, ◌==◌, ◌&&◌}
-use Rattle.std.proofs.Common.{List}
-use Rattle.std.proofs.Common.{length, ap, ◌∙◌, nat_lt, get_or, replicate, drop, refl, sym, arith}
-use Rattle.std.proofs.Common.{inl, inr}
+use Rattle.std.proofs.Common.{List, length, ap, ◌∙◌, nat_lt, get_or, replicate, drop, refl, sym}
+use Rattle.std.proofs.Common.{arith, inl, inr}
 use Rattle.std.proofs.lemmas.Bool.{cases_eq, eq-eqb, ne_eqb}
 use Rattle.std.proofs.lemmas.Bool.Decides.{nat_tests}
 use Rattle.std.proofs.lemmas.List.{get_or-set_same, get_or-set_other, length-replicate}

@@ -1,9 +1,9 @@
 -- Domains that were turned off one after the other, beside what they were.
-use Rattle.std.proofs.Common.{◌≡◌, ℕ, zero, suc, ◌+◌, ◌<◌, ◌≤◌, List, [], ◌∷◌, ◌++◌, length, get_or}
+use Rattle.std.proofs.Common.{◌≡◌, ℕ, zero, suc, ◌<◌, ◌≤◌, List, [], ◌∷◌, ◌++◌, length, get_or}
 use Rattle.std.proofs.Common.{replicate, cond, min, arith, refl, ap, sym, ◌∙◌, length-append, subst}
 use Rattle.std.proofs.Math.ListN.{set}
 use Rattle.std.specs.List.{flat_map, sum_by, count_by}
-use Rattle.std.proofs.lemmas.List.{length-replicate}
+use Rattle.std.proofs.lemmas.List.{length-replicate, replicate-append-replicate}
 use Rattle.std.proofs.lemmas.List.Folds.{sum_by-replicate}
 use Rattle.psci_tree.specs.Recount.{never_started, is_active, is_away}
 use Rattle.psci_tree.specs.Domains.{leaves, cores_in, branches, child_counts}
@@ -33,18 +33,16 @@ AreOffTo (suc i) (n ∷ ns) (m ∷ ms) = IsOffOne n m × AreOffTo i ns ms
 pub off_length : (i : ℕ) (ns ms : List Domain) → AreOffTo i ns ms → length ms ≡ length ns
 off_length zero ns ms h = ap length h
 off_length (suc i) [] [] h = refl
-off_length (suc i) [] (m ∷ ms) h = absurd h
-off_length (suc i) (n ∷ ns) [] h = absurd h
 off_length (suc i) (n ∷ ns) (m ∷ ms) h = ap suc (off_length i ns ms h.1)
+off_length (suc i) ns ms h = absurd h
 
 -- the next one is as it was
 pub off_next : (i : ℕ) (ns ms : List Domain) (d : Domain) → AreOffTo i ns ms
     → get_or ms i d ≡ get_or ns i d
 off_next zero ns ms d h = ap (λ xs. get_or xs 0 d) h
 off_next (suc i) [] [] d h = refl
-off_next (suc i) [] (m ∷ ms) d h = absurd h
-off_next (suc i) (n ∷ ns) [] d h = absurd h
 off_next (suc i) (n ∷ ns) (m ∷ ms) d h = off_next i ns ms d h.1
+off_next (suc i) ns ms d h = absurd h
 
 one_off : (ns : List Domain) (m d : Domain) → 0 < length ns → IsOffOne (get_or ns 0 d) m
     → AreOffTo 1 ns (set ns 0 m)
@@ -60,44 +58,35 @@ off_more (suc i) (n ∷ ns) [] m d h a o = absurd a
 off_more (suc i) (n ∷ ns) (x ∷ ms) m d h a o =
     (a.0, off_more i ns ms m d (omega arith) a.1 o)
 
-replicated : (a b : ℕ)
-    → replicate a never_started ++ replicate b never_started ≡ replicate (a + b) never_started
-replicated zero b = let e : 0 + b ≡ b = omega arith in rw e refl
-replicated (suc a) b = let e : suc a + b ≡ suc (a + b) = omega arith in
-    rw e (ap (λ xs. never_started ∷ xs) (replicated a b))
-
 pub off_cores : (i : ℕ) (ns ms : List Domain) → length ns ≤ i → AreOffTo i ns ms
     → cores_in ms ≡ replicate (length (cores_in ns)) never_started
 off_cores zero [] ms h a = ap cores_in a
 off_cores zero (n ∷ ns) ms h a = absurd (omega arith)
 off_cores (suc i) [] [] h a = refl
-off_cores (suc i) [] (m ∷ ms) h a = absurd a
-off_cores (suc i) (n ∷ ns) [] h a = absurd a
 off_cores (suc i) (n ∷ ns) (m ∷ ms) h a =
     ap (λ xs. xs ++ cores_in ms) a.0.cores
     ∙ ap (λ xs. replicate (length (leaves n)) never_started ++ xs)
     (off_cores i ns ms (omega arith) a.1)
-    ∙ replicated (length (leaves n)) (length (cores_in ns))
+    ∙ replicate-append-replicate (length (leaves n)) (length (cores_in ns)) never_started
     ∙ ap (λ k. replicate k never_started) (sym (length-append (leaves n) (cores_in ns)))
+off_cores (suc i) ns ms h a = absurd a
 
 pub off_shape : (i : ℕ) (ns ms : List Domain) (k : ℕ) → length ns ≤ i → AreOffTo i ns ms
     → flat_map (child_counts k) ms ≡ flat_map (child_counts k) ns
 off_shape zero ns ms k h a = ap (flat_map (child_counts k)) a
 off_shape (suc i) [] [] k h a = refl
-off_shape (suc i) [] (m ∷ ms) k h a = absurd a
-off_shape (suc i) (n ∷ ns) [] k h a = absurd a
 off_shape (suc i) (n ∷ ns) (m ∷ ms) k h a =
     ap (λ xs. xs ++ flat_map (child_counts k) ms) (a.0.shape k)
     ∙ ap (λ xs. child_counts k n ++ xs) (off_shape i ns ms k (omega arith) a.1)
+off_shape (suc i) ns ms k h a = absurd a
 
 pub off_kept : (i : ℕ) (ns ms : List Domain) → length ns ≤ i → AreOffTo i ns ms → AreKept ms
 off_kept zero [] ms h a = subst AreKept (sym a) kept_nil
 off_kept zero (n ∷ ns) ms h a = absurd (omega arith)
 off_kept (suc i) [] [] h a = kept_nil
-off_kept (suc i) [] (m ∷ ms) h a = absurd a
-off_kept (suc i) (n ∷ ns) [] h a = absurd a
 off_kept (suc i) (n ∷ ns) (m ∷ ms) h a =
     kept_cons m ms a.0.kept (off_kept i ns ms (omega arith) a.1)
+off_kept (suc i) ns ms h a = absurd a
 
 -- a domain whose children were turned off has the shape that it had
 pub off_widths : (n : Domain) (x : Domain-F Domain) (i : ℕ) → length (branches n) ≤ i

@@ -16,8 +16,7 @@ use Rattle.psci_tree.proofs.Keeping.{keeps_low}
 use Rattle.psci_tree.proofs.Recounted.{states, low_is, known_is}
 use Rattle.psci_tree.proofs.Slices.{states_at, size_at}
 use Rattle.psci_tree.proofs.Upward.{StepsDown, steps_down, parent_some, number_some}
-use Rattle.psci_tree.proofs.Granted.{place_lt}
-use Rattle.psci_tree.proofs.Ways.{above_next}
+use Rattle.psci_board.proofs.Paths.{inside as place_inside, place_above-suc}
 
 -- the domain of a level on a core's path is the child of the one above, of the number on its way
 pub record PathStep (root : Domain) (levels : List (List ℕ)) (core l k : ℕ) : Type 0 where
@@ -38,12 +37,12 @@ path_step root b core l k t h i lt e =
     let m : Node = record { level = l + 1; place = group_of w n.place } in
     let j : ℕ = index_in w n.place in
     let in' : n.place < size_below (drop l levels) =
-    place_lt levels l core t (omega (arith, lt)) i in
+    place_inside levels l core t i (omega (arith, lt)) in
     let down : StepsDown root levels n m j =
     steps_down root b n m j t h (parent_some b n lt in') (number_some b n lt in') in
     let next : l + 1 ≡ suc l = omega arith in
     let up : m.place ≡ place_above levels (l + 1) core =
-    sym (ap (λ x. place_above levels x core) next ∙ above_next levels l core lt) in
+    sym (ap (λ x. place_above levels x core) next ∙ place_above-suc levels l core lt) in
     subst (λ x. PathStep root levels core l x) (sym e) (record {
       inside = λ d. subst (λ p. j < length (branches (get_or
           (domains_down (length levels - (l + 1)) root) p d))) up (down.inside d);
@@ -62,7 +61,7 @@ at_top root levels core l d t i e =
     let one : size_below (drop l levels) ≡ 1 =
     ap size_below (drop_all l levels (omega (arith, e))) in
     let first : place_above levels l core ≡ 0 =
-    omega (arith, place_lt levels l core t (omega (arith, e)) i, one) in
+    omega (arith, place_inside levels l core t i (omega (arith, e)), one) in
     ap (λ k. get_or (domains_down k root) (place_above levels l core) d) none
     ∙ ap (λ p. get_or (domains_down 0 root) p d) first
 
@@ -102,6 +101,6 @@ path_stands root t core level d laws tied same in' le =
     stands root t (on_path t.levels core level) (length t.levels - level) d laws tied same
     (record {
       level = le;
-      place = place_lt t.levels level core tied.valid.tree le in';
+      place = place_inside t.levels level core tied.valid.tree in' le;
     })
     (omega (arith, le))

@@ -7,7 +7,9 @@ use Rattle.std.proofs.lemmas.Bool.Decides.{nat_tests}
 use Rattle.std.proofs.lemmas.List.{length-take-le, map-append, map-id, take-map, take-append-drop}
 use Rattle.std.proofs.lemmas.List.{drop_at, take_at, drop_more, drop_all}
 use Rattle.std.proofs.lemmas.List.Concat.{flat_map-append, flat_map_single, length-flat_map}
-use Rattle.std.proofs.lemmas.List.Sums.{sum-map}
+use Rattle.std.proofs.lemmas.List.Sums.{sum-map, sum_by-take-le}
+use Rattle.std.proofs.Math.Seq.{take-append-add}
+use Rattle.psci_board.proofs.Levels.{level}
 use Rattle.std.proofs.lemmas.List.Elements.{All-take}
 use Rattle.psci_board.specs.declared.limits.TheConstants.{MOST_CORES}
 use Rattle.psci_board.specs.declared.node.Node.{Node}
@@ -20,7 +22,7 @@ use Rattle.psci_tree.specs.Domains.{domains_down, child_counts, HasShape, IsWhol
 use Rattle.psci_state.specs.declared.cores.CoreState.{CoreState}
 use Rattle.psci_tree.specs.declared.domain.Domain.{Domain}
 use Rattle.psci_tree.proofs.Below.{cores_of_domain, cores_of_core, cores_drop, length_take}
-use Rattle.psci_tree.proofs.Places.{sum-cons, sum_take_le}
+use Rattle.psci_board.proofs.Groups.{sum-cons}
 
 -- One level down -----------------------------------------------------------------------------
 
@@ -47,12 +49,6 @@ pub widths_are : (k : ℕ) (n : Domain) → child_counts k n ≡ map child_count
 widths_are zero n = refl
 widths_are (suc k) n = widths_in (child_counts k) (domains_down k) (widths_are k) (branches n)
 
-pub take_past : {X : Type 0} (xs ys : List X) (k : ℕ)
-    → take (length xs + k) (xs ++ ys) ≡ xs ++ take k ys
-take_past [] ys k = let e : 0 + k ≡ k = omega arith in rw e refl
-take_past (x ∷ xs) ys k = let e : suc (length xs) + k ≡ suc (length xs + k) = omega arith in
-    rw e (ap (λ zs. x ∷ zs) (take_past xs ys k))
-
 take_down : (p : ℕ) (ns : List Domain)
     → flat_map branches (take p ns)
     ≡ take (sum (take p (map child_count ns))) (flat_map branches ns)
@@ -60,7 +56,7 @@ take_down zero ns = refl
 take_down (suc p) [] = refl
 take_down (suc p) (n ∷ ns) =
     ap (λ x. branches n ++ x) (take_down p ns)
-    ∙ sym (take_past (branches n) (flat_map branches ns) (sum (take p (map child_count ns))))
+    ∙ sym (take-append-add (branches n) (flat_map branches ns) (sum (take p (map child_count ns))))
     ∙ ap (λ k. take k (branches n ++ flat_map branches ns))
     (sym (sum-cons (child_count n) (take p (map child_count ns))))
 
@@ -97,12 +93,6 @@ shape_at n [] l k h e = absurd (omega arith)
 shape_at n (w ∷ ws) zero k h e = let same : k ≡ length ws = omega arith in rw same h.0
 shape_at n (w ∷ ws) (suc l) k h e = shape_at n ws l k h.1 (omega arith)
 
-pub widths_at : (levels : List (List ℕ)) (l : ℕ) → IsTree levels → l < length levels
-    → AllPass is_width (get_or levels l [])
-widths_at [] l t h = absurd (omega arith)
-widths_at (w ∷ ws) zero t h = t.2
-widths_at (w ∷ ws) (suc l) t h = widths_at ws l t.3 (omega arith)
-
 pub fans_at : (n : Domain) (levels : List (List ℕ)) (l k : ℕ) → IsWhole n levels
     → k + suc l ≡ length levels → map child_count (domains_down k n) ≡ get_or levels l []
 fans_at n levels l k h e = sym (widths_are k n) ∙ shape_at n levels l k h.shape e
@@ -110,7 +100,7 @@ fans_at n levels l k h e = sym (widths_are k n) ∙ shape_at n levels l k h.shap
 pub wide_at : (n : Domain) (levels : List (List ℕ)) (l k : ℕ) → IsTree levels → IsWhole n levels
     → k + suc l ≡ length levels → AllPass is_width (map child_count (domains_down k n))
 wide_at n levels l k t h e = let P : List ℕ → Type 0 = AllPass is_width in
-    subst P (sym (fans_at n levels l k h e)) (widths_at levels l t (omega arith))
+    subst P (sym (fans_at n levels l k h e)) (level levels l t (omega arith)).width
 
 pub size_drop : (levels : List (List ℕ)) (l : ℕ) → l < length levels
     → size_below (drop l levels) ≡ sum (get_or levels l [])
@@ -169,7 +159,7 @@ first_len n levels zero k p t h e b =
     ap sum (sym (widths_are k n)) ∙ ap (λ j. sum (child_counts j n)) same ∙ h.ends in
     let few : sum (map child_count (take p row)) ≡ 0 =
     ap sum (sym (take-map child_count p row))
-    ∙ omega (arith, sum_take_le (map child_count row) p) in
+    ∙ omega (arith, sum_by-take-le (λ x. x) (map child_count row) p) in
     cores_ends (take p row) few ∙ length-take-le p row b
 first_len n levels (suc l) k p t h e b =
     let row : List Domain = domains_down k n in
@@ -183,7 +173,7 @@ first_len n levels (suc l) k p t h e b =
     let more : sum (take p (map child_count row)) ≤ length (domains_down (suc k) n) =
     omega (
       arith,
-      sum_take_le (map child_count row) p,
+      sum_by-take-le (λ x. x) (map child_count row) p,
       ap length (down_step k n),
       length-flat_map branches row,
       sum-map child_count row,

@@ -1,9 +1,8 @@
 -- What a sum over the cores below a domain says of each of them.
-use Rattle.std.proofs.Common.{◌≡◌, ℕ, zero, suc, ◌+◌, ◌<◌, ◌≤◌, Bool, true, false, cond}
-use Rattle.std.proofs.Common.{◌==◌, List, [], ◌∷◌, length, filter, refl, ap, sym, ◌∙◌}
-use Rattle.std.proofs.Common.{arith, inl, inr}
+use Rattle.std.proofs.Common.{◌≡◌, ℕ, ◌+◌, ◌<◌, cond, ◌==◌, [], ◌∷◌, length, refl, ap, sym, ◌∙◌}
+use Rattle.std.proofs.Common.{arith}
 use Rattle.std.specs.List.{sum_by, range_with_len}
-use Rattle.std.proofs.lemmas.Bool.{cases_eq, eq-eqb, ne_eqb, eqb-true}
+use Rattle.std.proofs.lemmas.Bool.{eq-eqb, ne_eqb, eqb-true}
 use Rattle.std.proofs.lemmas.List.Sums.{sum_by-cons}
 use Rattle.psci_board.specs.declared.node.Node.{Node}
 use Rattle.psci_board.specs.Board.{size_below, place_above, below_in, span}
@@ -13,49 +12,7 @@ use Rattle.psci_state.specs.declared.cores.Activity.TheVariants.{Active}
 use Rattle.psci_tree.specs.Recount.{TreeValue, IsDomainTree, known, known_at, state_at}
 use Rattle.psci_tree.specs.Changes.{started, with_core_state, with_path_cleared}
 use Rattle.psci_tree.proofs.Looked.{core_with}
-
--- Sums over the numbers that a filter keeps of a range ---------------------------------------
-
-kept_same : (f g : ℕ → ℕ) (b : Bool) (a : ℕ) (xs : List ℕ) → (b ≡ true → f a ≡ g a)
-    → sum_by f xs ≡ sum_by g xs → sum_by f (cond b (a ∷ xs) xs) ≡ sum_by g (cond b (a ∷ xs) xs)
-kept_same f g true a xs h e = omega (arith, sum_by-cons f a xs, sum_by-cons g a xs, h refl, e)
-kept_same f g false a xs h e = e
-
-pub sum_same : (f g : ℕ → ℕ) (test : ℕ → Bool) (a n : ℕ)
-    → ((c : ℕ) → a ≤ c → c < a + n → test c ≡ true → f c ≡ g c)
-    → sum_by f (filter test (range_with_len a n)) ≡ sum_by g (filter test (range_with_len a n))
-sum_same f g test a zero h = refl
-sum_same f g test a (suc n) h =
-    kept_same f g (test a) a (filter test (range_with_len (a + 1) n))
-    (h a (omega arith) (omega arith))
-    (sum_same f g test (a + 1) n (λ c p q. h c (omega arith) (omega arith)))
-
-kept_once : (f g : ℕ → ℕ) (b : Bool) (a : ℕ) (xs : List ℕ) → b ≡ true
-    → sum_by f xs ≡ sum_by g xs
-    → sum_by f (cond b (a ∷ xs) xs) + g a ≡ sum_by g (cond b (a ∷ xs) xs) + f a
-kept_once f g true a xs h e = omega (arith, sum_by-cons f a xs, sum_by-cons g a xs, e)
-kept_once f g false a xs h e = absurd (let no : false ≡ true = h in cc)
-
-kept_beside : (f g : ℕ → ℕ) (b : Bool) (a x y : ℕ) (xs : List ℕ) → f a ≡ g a
-    → sum_by f xs + x ≡ sum_by g xs + y
-    → sum_by f (cond b (a ∷ xs) xs) + x ≡ sum_by g (cond b (a ∷ xs) xs) + y
-kept_beside f g true a x y xs h e = omega (arith, sum_by-cons f a xs, sum_by-cons g a xs, h, e)
-kept_beside f g false a x y xs h e = e
-
--- where two numbers differ at one place alone, so do the sums
-sum_once : (f g : ℕ → ℕ) (test : ℕ → Bool) (a n k : ℕ) → a ≤ k → k < a + n → test k ≡ true
-    → ((c : ℕ) → (c ≡ k → ⊥) → f c ≡ g c)
-    → sum_by f (filter test (range_with_len a n)) + g k
-    ≡ sum_by g (filter test (range_with_len a n)) + f k
-sum_once f g test a zero k p q e h = absurd (omega arith)
-sum_once f g test a (suc n) k p q e h = elim (cases_eq a k) [
-  | inl s ↦ rw (← s) (kept_once f g (test a) a (filter test (range_with_len (a + 1) n))
-      (ap test s ∙ e)
-      (sum_same f g test (a + 1) n (λ c i j l. h c (λ r. absurd (omega (arith, s, r))))))
-  | inr s ↦ kept_beside f g (test a) a (g k) (f k) (filter test (range_with_len (a + 1) n))
-      (h a s)
-      (sum_once f g test (a + 1) n k (omega (arith, s)) (omega arith) e h)
-]
+use Rattle.psci_tree.proofs.Ranges.{sum_same, sum_on}
 
 -- Known starts -------------------------------------------------------------------------------
 
@@ -67,8 +24,8 @@ unfolding known
 known_same t u n e h =
     ap (λ ls. sum_by (λ c. known_at u c) (below_in ls n)) e
     ∙ sum_same (λ c. known_at u c) (λ c. known_at t c)
-    (λ c. place_above t.levels n.level c == n.place) 0 (size_below t.levels)
-    (λ c p q s. h c (omega arith) (eqb-true _ _ s))
+    (λ c. place_above t.levels n.level c == n.place) (size_below t.levels)
+    (λ c p s. h c p (eqb-true _ _ s))
 
 -- at level 0 the sum is the core's own known start
 pub known_own : (t : TreeValue) (c : ℕ) → SpanLaws t.levels → c < size_below t.levels
@@ -105,9 +62,9 @@ unfolding known started
 known_started t core number n v h e =
     let u : TreeValue = with_core_state t core Active number in
     let within : core < length t.cores = omega (arith, v.cores) in
-    sum_once (λ c. known_at u c) (λ c. known_at t c)
-    (λ c. place_above t.levels n.level c == n.place) 0 (size_below t.levels) core (omega arith)
-    (omega arith) (eq-eqb _ _ e) (λ c q. known_other t core number c within q)
+    sum_on (λ c. known_at u c) (λ c. known_at t c)
+    (λ c. place_above t.levels n.level c == n.place) (size_below t.levels) core h
+    (λ c q. known_other t core number c within q) (eq-eqb _ _ e)
     ∙ ap (λ k. known t n + k) (known_new t core number within)
 
 -- and no others

@@ -1,8 +1,7 @@
 -- A domain as a child of the one above it.
 use Rattle.std.proofs.Common.{◌≡◌, ℕ, zero, suc, ◌+◌, ◌-◌, ◌<◌, List, [], ◌∷◌, length, take, drop}
 use Rattle.std.proofs.Common.{get_or, map, sum, ap, sym, refl, subst, ◌∙◌, arith, add-one}
-use Rattle.std.proofs.Common.{drop-cons}
-use Rattle.std.proofs.Common.{Bool, true, false, cond, ◌&&◌, ltb}
+use Rattle.std.proofs.Common.{drop-cons, Bool, true, false, cond, ◌&&◌, ltb}
 use Rattle.std.specs.Prelude.{Some, None, unwrap_or}
 use Rattle.std.specs.List.{flat_map}
 use Rattle.std.proofs.lemmas.Bool.{ltb-true, lt-ltb}
@@ -14,8 +13,8 @@ use Rattle.psci_board.specs.Board.{BoardValue, IsTree, HasNodeIn, size_below, gr
 use Rattle.psci_board.specs.Board.{height, nodes, parent, child_number}
 use Rattle.psci_tree.specs.Domains.{branches, child_count, domains_down, HasShape}
 use Rattle.psci_tree.specs.declared.domain.Domain.{Domain}
-use Rattle.psci_tree.proofs.Places.{Counted, counted}
-use Rattle.psci_tree.proofs.Granted.{tree_drop}
+use Rattle.psci_board.proofs.Groups.{Counted, counted}
+use Rattle.psci_board.proofs.Levels.{IsTree-drop}
 use Rattle.psci_tree.proofs.Valid.{both_tests}
 use Rattle.psci_tree.proofs.Slices.{down_step, widths_are}
 
@@ -111,7 +110,7 @@ steps_down root b n m k t h e f =
     let within : n.level < length levels = in'.0 in
     let cut : drop n.level levels ≡ w ∷ ws = drop-cons levels n.level [] within in
     let c : ChildAt root w ws n.place = child_at root w ws n.place
-    (subst IsTree cut (tree_drop levels n.level t))
+    (subst IsTree cut (IsTree-drop n.level levels t))
     (subst (HasShape root) cut (shape_drop root levels n.level h))
     (omega (arith, in'.1, ap size_below cut)) in
     let rest : length levels - (n.level + 1) ≡ length ws =

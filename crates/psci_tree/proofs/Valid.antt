@@ -11,7 +11,8 @@ use Rattle.psci_tree.specs.Recount.{granted_at, level_sizes}
 use Rattle.psci_tree.specs.Changes.{with_path_cleared, with_grant, rows_with_depth, all_off}
 use Rattle.psci_tree.specs.Changes.{MayGrant, still_confirmed, with_confirmed}
 use Rattle.psci_state.specs.declared.cores.CoreState.{CoreState}
-use Rattle.psci_tree.proofs.Granted.{zero_at, zero_lengths, same_up, place_lt, size_of_level}
+use Rattle.psci_tree.proofs.Granted.{zero_at, zero_lengths, same_up, size_of_level}
+use Rattle.psci_board.proofs.Paths.{inside}
 use Rattle.psci_tree.proofs.Granted.{row_lengths, grant_at, depth_at, rows_at}
 
 -- The path of a core -------------------------------------------------------------------------
@@ -180,9 +181,9 @@ full_valid levels cores t h e a = record {
   confirmed = rows_lengths (level_sizes levels);
   deepest = λ l p. rows_le (level_sizes levels) l p;
   nested = λ c l i b.
-      let inside = place_lt levels l c t (omega arith) i in
+      let there = inside levels l c t i (omega arith) in
       rw (rows_at (level_sizes levels) l (place_above levels l c)
-      (omega (arith, inside, size_of_level levels l (omega arith))))
+      (omega (arith, there, size_of_level levels l (omega arith))))
       (rows_le (level_sizes levels) (l + 1) (place_above levels (l + 1) c));
   sure = λ l p. omega arith;
 }

@@ -12,12 +12,14 @@ use Rattle.psci_board.specs.Board.{first_core}
 use Rattle.psci_tree.specs.Domains.{leaves, cores_in, branches, child_count, child_counts, IsWay}
 use Rattle.psci_tree.specs.Domains.{index_by, domains_down, IsWayTo, IsWhole}
 use Rattle.psci_tree.specs.declared.domain.Domain.{Domain}
-use Rattle.psci_tree.proofs.Below.{cores_of_core, length_of_domain, length_drop}
-use Rattle.psci_tree.proofs.Below.{length_parts}
-use Rattle.psci_tree.proofs.Granted.{place_lt}
-use Rattle.psci_tree.proofs.Places.{Counted, counted, sum-cons}
-use Rattle.psci_tree.proofs.Slices.{first_len, fans_at, wide_at, size_at, size_drop, widths_are}
-use Rattle.psci_tree.proofs.Slices.{down_step, cores_down, take_past}
+use Rattle.psci_tree.proofs.Below.{cores_of_core, length_of_domain, length_drop, length_parts}
+use Rattle.psci_board.proofs.Paths.{place_above-suc, inside as place_inside_level}
+use Rattle.psci_board.proofs.Levels.{level}
+use Rattle.psci_board.proofs.FirstCores.{first_zero}
+use Rattle.std.proofs.Math.Seq.{take-append-add}
+use Rattle.psci_board.proofs.Groups.{Counted, counted, sum-cons}
+use Rattle.psci_tree.proofs.Slices.{first_len, fans_at, wide_at, size_at, widths_are, down_step}
+use Rattle.psci_tree.proofs.Slices.{cores_down}
 
 -- One step -----------------------------------------------------------------------------------
 
@@ -50,13 +52,6 @@ place_inside (suc l) way n h =
 
 -- The way to a core of the board -------------------------------------------------------------
 
--- one level up
-pub above_next : (levels : List (List ℕ)) (l c : ℕ) → l < length levels
-    → place_above levels (suc l) c ≡ group_of (get_or levels l []) (place_above levels l c)
-above_next [] l c h = absurd (omega arith)
-above_next (w ∷ ws) zero c h = refl
-above_next (w ∷ ws) (suc l) c h = above_next ws l (group_of w c) (omega arith)
-
 -- the children of the domains before one, and its own first ones
 take_in : (ns : List Domain) (p k : ℕ) (d : Domain) → p < length ns
     → k ≤ length (branches (get_or ns p d))
@@ -71,7 +66,7 @@ take_in (n ∷ ns) (suc p) k d h i =
     ≡ length (branches n) + (sum (take p (map child_count ns)) + k) =
     omega (arith, sum-cons (child_count n) (take p (map child_count ns))) in
     ap (λ j. take j (branches n ++ flat_map branches ns)) more
-    ∙ take_past (branches n) (flat_map branches ns) (sum (take p (map child_count ns)) + k)
+    ∙ take-append-add (branches n) (flat_map branches ns) (sum (take p (map child_count ns)) + k)
     ∙ ap (λ xs. branches n ++ xs) (take_in ns p k d (omega arith) i)
     ∙ sym (append_assoc (branches n) (flat_map branches (take p ns))
     (take k (branches (get_or ns p d))))
@@ -117,10 +112,10 @@ leads_up root levels core ks l k d n t w h to e is lower =
     let i : ℕ = get_or ks l 0 in
     let own : List ℕ = get_or levels l [] in
     let same : map child_count row ≡ own = fans_at root levels l k w e in
-    let below : q < size_below (drop l levels) = place_lt levels l core t (omega arith) h in
+    let below : q < size_below (drop l levels) = place_inside_level levels l core t h (omega arith) in
     let c : Counted own q =
-    counted own q (omega (arith, below, size_drop levels l (omega arith))) in
-    let up : p ≡ group_of own q = above_next levels l core (omega arith) in
+    counted own q (omega (arith, below, (level levels l t (omega arith)).size)) in
+    let up : p ≡ group_of own q = place_above-suc levels l core (omega arith) in
     let number : i ≡ index_in own q = to l (omega arith) in
     let fits : p < length row =
     omega (arith, up, c.group, ap length same, length-map row child_count) in
@@ -187,10 +182,6 @@ leads root levels core ks (suc l) k d t w h to e =
     leads_up root levels core ks l k d _ t w h to e refl
     (leads root levels core ks l (suc k) _ t w h to (omega arith))
 
-first_none : (levels : List (List ℕ)) (l : ℕ) → first_core levels l 0 ≡ 0
-first_none levels zero = refl
-first_none levels (suc l) = first_none levels l
-
 -- from the system, the way leads to the core
 pub system_way : (root : Domain) (levels : List (List ℕ)) (core : ℕ) (way : List ℕ)
     → IsTree levels → IsWhole root levels → core < size_below levels → IsWayTo levels core way
@@ -199,7 +190,7 @@ system_way root levels core way t w h to =
     let top : place_above levels (length levels) core ≡ 0 =
     omega (
       arith,
-      place_lt levels (length levels) core t (omega arith) h,
+      place_inside_level levels (length levels) core t h (omega arith),
       ap size_below (drop_all (length levels) levels (omega arith)),
     ) in
     let here : Leads levels core way (length levels) root =
@@ -210,6 +201,6 @@ system_way root levels core way t w h to =
         arith,
         here.place,
         ap (first_core levels (length levels)) top,
-        first_none levels (length levels),
+        first_zero levels (length levels),
       ),
     )

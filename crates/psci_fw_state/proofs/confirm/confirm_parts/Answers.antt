@@ -2,7 +2,7 @@ use Rattle.std.proofs.Common.{◌≡◌, ◌≤◌, ◌<◌, ◌+◌, ◌==◌, 
 use Rattle.std.proofs.Common.{◌∙◌, Some, Bool, subst, length, get_or, min}
 use Rattle.std.proofs.Math.Nat.{min-le_left, min-le_right}
 use Rattle.std.proofs.lemmas.Option.{slice_get-get_or}
-use Rattle.psci_board.specs.Board.{HasNodeIn, height}
+use Rattle.psci_board.specs.Board.{HasNodeIn, height, up}
 use Rattle.psci_board.specs.declared.node.Node.{Node}
 use Rattle.psci_messages.specs.declared.part.Part.{Part}
 use Rattle.psci_tree.specs.Standing.{on_path as path_node}
@@ -11,87 +11,63 @@ use Rattle.psci_fw_spec.specs.Confirmed.{is_made_at}
 use Rattle.psci_fw_state.proofs.Confirming.{confirmed_all, confirmed_more, known_stays}
 use Rattle.psci_fw_state.proofs.Granting.{node_at, on_board, on_path}
 use Rattle.psci_fw_state.proofs.confirm.confirm_parts.Goals as goal
+use Rattle.psci_fw_state.proofs.confirm.confirm_parts.Goals.{In-loop-level}
+
+-- the domain on the core's path of the level that the loop is at
+abbrev here : In-loop-level → Node
+here c = node_at c.loop-level.level (get_or c.places-places.result c.loop-level.level 0)
+
+low : (c : In-loop-level) → c.loop-level.level ≤ height c.args.board.now
+low c = omega (
+  arith,
+  c.loop-level-test.true,
+  c.min-most.ensures,
+  min-le_right (length c.args.parts.now) (c.height.result + 1),
+  c.height.ensures.height,
+)
+
+placed : (c : In-loop-level)
+    → here c ≡ path_node c.loop-level.tree.levels c.args.core.number c.loop-level.level
+placed c =
+    ap (node_at c.loop-level.level) (c.places-places.ensures c.loop-level.level
+    (omega (arith, low c, ap length c.requires.tree.levels)))
+    ∙ ap (λ ls. path_node ls c.args.core.number c.loop-level.level)
+    (sym c.loop-level.invariant.levels)
+
+node : (c : In-loop-level) → here c ≡ record {
+  level = c.loop-level.level;
+  place = up c.args.board.now c.loop-level.level c.args.core.number;
+}
+node c = on_board c.args.board.now c.loop-level.tree.levels c.args.core.number c.loop-level.level _
+    (placed c) (c.loop-level.invariant.levels ∙ c.requires.tree.levels)
+
+known_is : (c : In-loop-level)
+    → get_or c.known_on-known.result c.loop-level.level 0 ≡ known c.loop-level.tree (here c)
+known_is c =
+    c.known_on-known.ensures c.loop-level.level
+    (omega (arith, low c, ap length c.requires.tree.levels))
+    ∙ ap (λ ls. known c.args.tree.now (path_node ls c.args.core.number c.loop-level.level))
+    (sym c.loop-level.invariant.levels)
+    ∙ known_stays c.args.board.now c.args.core.number c.args.parts.now c.args.tree.now
+    c.loop-level.tree c.loop-level.level _ c.loop-level.invariant c.requires.tree.levels
+    ∙ ap (known c.loop-level.tree) (sym (placed c))
 
 pub confirm_last-requires-clause-domain : goal.confirm_last-requires-clause-domain
 confirm_last-requires-clause-domain c =
+    let at = (goal.at.confirm_last-requires-clause-domain c).In-loop-level in
     let b = c.args.board.now in
-    let laws = c.law_paths.ensures b c.requires.tree.board in
-    let levels = c.loop-level.invariant.levels ∙ c.requires.tree.levels in
-    let low : c.loop-level.level ≤ height b = omega (
-      arith,
-      c.loop-level-test.true,
-      c.min-most.ensures,
-      min-le_right (length c.args.parts.now) (c.height.result + 1),
-      c.height.ensures.height,
-    ) in
-    let here : Node =
-    node_at c.loop-level.level (get_or c.places-places.result c.loop-level.level 0) in
-    let placed : here ≡ path_node c.loop-level.tree.levels c.args.core.number c.loop-level.level =
-    ap (node_at c.loop-level.level) (c.places-places.ensures c.loop-level.level
-    (omega (arith, low, ap length c.requires.tree.levels)))
-    ∙ ap (λ ls. path_node ls c.args.core.number c.loop-level.level)
-    (sym c.loop-level.invariant.levels) in
-    let node = on_board b c.loop-level.tree.levels c.args.core.number c.loop-level.level
-    _ placed levels in
-    subst (HasNodeIn c.loop-level.tree.levels) (sym node) (on_path b c.loop-level.tree.levels
-    c.args.core.number c.loop-level.level laws levels
-    (omega (arith, c.if-core-cores.false, c.cores.ensures.cores)) low)
+    subst (HasNodeIn c.loop-level.tree.levels) (sym (node at)) (on_path b c.loop-level.tree.levels
+    c.args.core.number c.loop-level.level (c.law_paths.ensures b c.requires.tree.board)
+    (c.loop-level.invariant.levels ∙ c.requires.tree.levels)
+    (omega (arith, c.if-core-cores.false, c.cores.ensures.cores)) (low at))
 
 pub confirm_last-requires-clause-known : goal.confirm_last-requires-clause-known
 confirm_last-requires-clause-known c =
-    let b = c.args.board.now in
-    let low : c.loop-level.level ≤ height b = omega (
-      arith,
-      c.loop-level-test.true,
-      c.min-most.ensures,
-      min-le_right (length c.args.parts.now) (c.height.result + 1),
-      c.height.ensures.height,
-    ) in
-    let here : Node =
-    node_at c.loop-level.level (get_or c.places-places.result c.loop-level.level 0) in
-    let placed : here ≡ path_node c.loop-level.tree.levels c.args.core.number c.loop-level.level =
-    ap (node_at c.loop-level.level) (c.places-places.ensures c.loop-level.level
-    (omega (arith, low, ap length c.requires.tree.levels)))
-    ∙ ap (λ ls. path_node ls c.args.core.number c.loop-level.level)
-    (sym c.loop-level.invariant.levels) in
-    c.known_on-known.ensures c.loop-level.level
-    (omega (arith, low, ap length c.requires.tree.levels))
-    ∙ ap (λ ls. known c.args.tree.now (path_node ls c.args.core.number c.loop-level.level))
-    (sym c.loop-level.invariant.levels)
-    ∙ known_stays b c.args.core.number c.args.parts.now c.args.tree.now c.loop-level.tree
-    c.loop-level.level _ c.loop-level.invariant c.requires.tree.levels
-    ∙ ap (known c.loop-level.tree) (sym placed)
+    known_is (goal.at.confirm_last-requires-clause-known c).In-loop-level
 
 pub loop-level-preserved : goal.loop-level-preserved
 loop-level-preserved c =
-    let b = c.args.board.now in
-    let laws = c.law_paths.ensures b c.requires.tree.board in
-    let levels = c.loop-level.invariant.levels ∙ c.requires.tree.levels in
-    let low : c.loop-level.level ≤ height b = omega (
-      arith,
-      c.loop-level-test.true,
-      c.min-most.ensures,
-      min-le_right (length c.args.parts.now) (c.height.result + 1),
-      c.height.ensures.height,
-    ) in
-    let here : Node =
-    node_at c.loop-level.level (get_or c.places-places.result c.loop-level.level 0) in
-    let placed : here ≡ path_node c.loop-level.tree.levels c.args.core.number c.loop-level.level =
-    ap (node_at c.loop-level.level) (c.places-places.ensures c.loop-level.level
-    (omega (arith, low, ap length c.requires.tree.levels)))
-    ∙ ap (λ ls. path_node ls c.args.core.number c.loop-level.level)
-    (sym c.loop-level.invariant.levels) in
-    let node = on_board b c.loop-level.tree.levels c.args.core.number c.loop-level.level
-    _ placed levels in
-    let known_is : get_or c.known_on-known.result c.loop-level.level 0
-    ≡ known c.loop-level.tree here =
-    c.known_on-known.ensures c.loop-level.level
-    (omega (arith, low, ap length c.requires.tree.levels))
-    ∙ ap (λ ls. known c.args.tree.now (path_node ls c.args.core.number c.loop-level.level))
-    (sym c.loop-level.invariant.levels)
-    ∙ known_stays b c.args.core.number c.args.parts.now c.args.tree.now c.loop-level.tree
-    c.loop-level.level _ c.loop-level.invariant c.requires.tree.levels
-    ∙ ap (known c.loop-level.tree) (sym placed) in
+    let at = (goal.at.loop-level-preserved c).In-loop-level in
     let unused : Part = record { level = 0; depth = 0; generation = 0 } in
     let part : Part = get_or c.args.parts.now c.loop-level.level unused in
     let inside : c.loop-level.level < length c.args.parts.now = omega (
@@ -100,18 +76,18 @@ loop-level-preserved c =
       c.min-most.ensures,
       min-le_left (length c.args.parts.now) (c.height.result + 1),
     ) in
-    confirmed_more b c.args.core.number c.args.parts.now c.args.tree.now c.loop-level.tree
-    c.confirm_last.new.tree c.loop-level.level (Some part)
+    confirmed_more c.args.board.now c.args.core.number c.args.parts.now c.args.tree.now
+    c.loop-level.tree c.confirm_last.new.tree c.loop-level.level (Some part)
     (sym (slice_get-get_or c.args.parts.now c.loop-level.level unused inside))
     c.requires.tree.levels c.loop-level.invariant
     (λ l p. let made : ℕ → Node → Bool = λ k n.
     ((n.level == l) && (n.place == p)) && (nat_lt 0 (granted_at c.loop-level.tree n.level n.place)
     && is_made_at k (Some part)) in
     c.confirm_last.ensures.confirmed l p
-    ∙ ap (λ k. cond (made k here) true (is_confirmed_at c.loop-level.tree l p))
-    known_is
+    ∙ ap (λ k. cond (made k (here at)) true (is_confirmed_at c.loop-level.tree l p))
+    (known_is at)
     ∙ ap (λ (n : Node). cond (made (known c.loop-level.tree n) n) true
-    (is_confirmed_at c.loop-level.tree l p)) node)
+    (is_confirmed_at c.loop-level.tree l p)) (node at))
     c.confirm_last.ensures.kept.granted c.confirm_last.ensures.kept.cores
     c.confirm_last.ensures.kept.levels c.confirm_last.ensures.kept.tree
 

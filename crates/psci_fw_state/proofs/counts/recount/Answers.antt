@@ -1,5 +1,4 @@
-use Rattle.std.proofs.Common.{◌≡◌, ℕ, List, arith, ap, map, refl, length, get_or, ◌∙◌}
-use Rattle.std.proofs.Common.{◌<◌}
+use Rattle.std.proofs.Common.{◌≡◌, ℕ, List, arith, ap, map, refl, length, get_or, ◌∙◌, ◌<◌}
 use Rattle.psci_board.specs.declared.node.Node.{Node}
 use Rattle.std.proofs.lemmas.Bool.{eq-eqb, ne_eqb}
 use Rattle.std.proofs.lemmas.List.{get_or_default}
@@ -10,8 +9,9 @@ use Rattle.psci_fw_spec.specs.Values.{updated}
 use Rattle.psci_fw_state.specs.declared.row.CoreRow.{CoreRow}
 use Rattle.psci_fw_state.specs.Counts.{one_core}
 use Rattle.psci_fw_state.specs.Rows.{off_row, status_at}
-use Rattle.psci_fw_state.proofs.KeptCounts.{turn_may, turn_more, turn_place}
+use Rattle.psci_fw_state.proofs.KeptCounts.{Turn, turn}
 use Rattle.psci_fw_state.proofs.counts.recount.Goals as goal
+use Rattle.psci_fw_state.proofs.counts.recount.Goals.{In-loop-level}
 
 abbrev node_at : ℕ → ℕ → Node
 node_at level place = record { level = level; place = place }
@@ -28,12 +28,17 @@ beside : (f : ℕ → Status) (core : ℕ) (s : Status) (c : ℕ) → (c ≡ cor
     → f c ≡ updated f core s c
 beside f core s c n = let at = ne_eqb c core n in rw at refl
 
-pub recount_domain-requires-clause-place : goal.recount_domain-requires-clause-place
-recount_domain-requires-clause-place c =
+-- the turn that the loop is at
+turn_at : (c : In-loop-level) → Turn c.args.board.now.levels
+    (updated (status_at c.args.rows.now) c.args.core.number c.args.before)
+    (status_at c.args.rows.now) (map (λ v. v.items) c.loop-level.counts) c.loop-level.level
+    (node_at c.loop-level.level (get_or c.places-places.result c.loop-level.level 0))
+    c.of_core-had.result c.of_core-has.result
+turn_at c =
     let b : BoardValue = c.args.board.now in
     let core : ℕ = c.args.core.number in
     let now : ℕ → Status = status_at c.args.rows.now in
-    turn_place b (updated now core c.args.before) now core
+    turn b (updated now core c.args.before) now core
     (c.law_paths.ensures b c.requires.counts.board) c.requires.counts.board.tree c.requires.inside
     (beside now core c.args.before) (map (λ v. v.items) c.loop-level.counts) c.loop-level.level
     (omega arith) (omega (arith, c.loop-level-test.true, c.height-level-end.ensures.height))
@@ -54,58 +59,15 @@ recount_domain-requires-clause-place c =
       c.requires.inside,
       c.requires.counts.count,
     ))))
+
+pub recount_domain-requires-clause-place : goal.recount_domain-requires-clause-place
+recount_domain-requires-clause-place c =
+    (turn_at (goal.at.recount_domain-requires-clause-place c).In-loop-level).place
 
 pub recount_domain-requires-clause-may : goal.recount_domain-requires-clause-may
 recount_domain-requires-clause-may c =
-    let b : BoardValue = c.args.board.now in
-    let core : ℕ = c.args.core.number in
-    let now : ℕ → Status = status_at c.args.rows.now in
-    turn_may b (updated now core c.args.before) now core
-    (c.law_paths.ensures b c.requires.counts.board) c.requires.counts.board.tree c.requires.inside
-    (beside now core c.args.before) (map (λ v. v.items) c.loop-level.counts) c.loop-level.level
-    (omega arith) (omega (arith, c.loop-level-test.true, c.height-level-end.ensures.height))
-    c.loop-level.invariant
-    (node_at c.loop-level.level (get_or c.places-places.result c.loop-level.level 0))
-    (ap (node_at c.loop-level.level) (c.places-places.ensures c.loop-level.level (omega (
-      arith,
-      c.loop-level-test.true,
-      c.height-level-end.ensures.height,
-      ap length c.requires.levels,
-    )))
-    ∙ ap (λ (ws : List (List ℕ)). on_path_of ws core c.loop-level.level) c.requires.levels)
-    c.of_core-had.result c.of_core-has.result
-    (c.of_core-had.ensures ∙ ap one_core (here now core c.args.before))
-    (c.of_core-has.ensures
-    ∙ ap one_core (status_in c.args.rows.now core _ (omega (
-      arith,
-      c.requires.inside,
-      c.requires.counts.count,
-    ))))
+    (turn_at (goal.at.recount_domain-requires-clause-may c).In-loop-level).may
 
 pub loop-level-preserved : goal.loop-level-preserved
 loop-level-preserved c =
-    let b : BoardValue = c.args.board.now in
-    let core : ℕ = c.args.core.number in
-    let now : ℕ → Status = status_at c.args.rows.now in
-    turn_more b (updated now core c.args.before) now core
-    (c.law_paths.ensures b c.requires.counts.board) c.requires.counts.board.tree c.requires.inside
-    (beside now core c.args.before) (map (λ v. v.items) c.loop-level.counts) c.loop-level.level
-    (omega arith) (omega (arith, c.loop-level-test.true, c.height-level-end.ensures.height))
-    c.loop-level.invariant
-    (node_at c.loop-level.level (get_or c.places-places.result c.loop-level.level 0))
-    (ap (node_at c.loop-level.level) (c.places-places.ensures c.loop-level.level (omega (
-      arith,
-      c.loop-level-test.true,
-      c.height-level-end.ensures.height,
-      ap length c.requires.levels,
-    )))
-    ∙ ap (λ (ws : List (List ℕ)). on_path_of ws core c.loop-level.level) c.requires.levels)
-    c.of_core-had.result c.of_core-has.result
-    (c.of_core-had.ensures ∙ ap one_core (here now core c.args.before))
-    (c.of_core-has.ensures
-    ∙ ap one_core (status_in c.args.rows.now core _ (omega (
-      arith,
-      c.requires.inside,
-      c.requires.counts.count,
-    ))))
-    (map (λ v. v.items) c.recount_domain.new.counts) c.recount_domain.ensures
+    (turn_at (goal.at.loop-level-preserved c).In-loop-level).more _ c.recount_domain.ensures

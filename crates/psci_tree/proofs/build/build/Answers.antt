@@ -1,5 +1,5 @@
-use Rattle.std.proofs.Common.{◌≡◌, ◌<◌, ◌≤◌, ◌+◌, ◌∙◌, suc, [], arith, subst}
-use Rattle.std.proofs.Common.{List, ℕ, map, get_or, length, take, drop, ap, sym, sum, replicate}
+use Rattle.std.proofs.Common.{◌≡◌, ◌<◌, ◌≤◌, ◌+◌, ◌∙◌, suc, [], arith, subst, List, ℕ, map, get_or}
+use Rattle.std.proofs.Common.{length, take, drop, ap, sym, sum, replicate}
 use Rattle.std.specs.List.{AllPass}
 use Rattle.std.proofs.lemmas.List.{length-map, take_more, length-replicate, drop_all}
 use Rattle.std.proofs.lemmas.List.Concat.{flat_map_single}
@@ -8,9 +8,8 @@ use Rattle.psci_tree.specs.Domains.{child_count, cores_in}
 use Rattle.psci_tree.specs.declared.domain.Domain.{Domain}
 use Rattle.psci_board.proofs.Levels.{level}
 use Rattle.psci_tree.specs.Recount.{never_started}
-use Rattle.psci_tree.proofs.Slices.{cores_down, widths_at}
-use Rattle.psci_tree.proofs.Built.{shaped_more, ends_more}
-use Rattle.psci_tree.proofs.Built.{tree_at, root_whole, root_cores}
+use Rattle.psci_tree.proofs.Slices.{cores_down}
+use Rattle.psci_tree.proofs.Built.{shaped_more, ends_more, root_whole, root_cores}
 use Rattle.psci_tree.specs.Kept.{AreKept}
 use Rattle.psci_tree.proofs.Keeping.{kept_last}
 use Rattle.psci_tree.proofs.build.build.Goals as goal
@@ -28,13 +27,13 @@ loop-below-preserved c =
     let counts : map child_count new ≡ get_or levels at [] = c.in_ok-row-2.ensures.counts in
     let up : at + 1 ≡ suc at = omega arith in
     let wide : AllPass is_width (map child_count new) = (let P : List ℕ → Type 0 =
-    AllPass is_width in subst P (sym counts) (widths_at levels at tree fits)) in
+    AllPass is_width in subst P (sym counts) (level levels at tree fits).width) in
     record {
       shape = rw (take_more levels at [] fits) (shaped_more new old (take at levels)
           (get_or levels at []) children counts c.loop-below.invariant.shape);
       ends = ends_more new old at (at + 1) up children c.loop-below.invariant.ends;
       size = rw up (sym (length-map new child_count) ∙ ap length counts
-          ∙ tree_at levels at tree fits);
+          ∙ sym (level levels at tree fits).above);
       kept = c.in_ok-row-2.ensures.kept;
       off = cores_down new wide ∙ ap cores_in children ∙ c.loop-below.invariant.off;
     }

@@ -9,30 +9,40 @@ use Rattle.psci_tree.specs.Domains.{branches, child_count, cores_in}
 use Rattle.psci_tree.specs.Kept.{AreKept, Keeps}
 use Rattle.psci_tree.specs.declared.domain.Domain.{Domain}
 use Rattle.psci_tree.proofs.Below.{length_parts}
-use Rattle.psci_tree.proofs.Built.{tree_at, children_push, counts_push, some_children, none_left}
+use Rattle.psci_tree.proofs.Built.{children_push, counts_push, none_left}
 use Rattle.psci_tree.proofs.Keeping.{kept_take, kept_drop, kept_push, kept_roll}
-use Rattle.psci_tree.proofs.Slices.{widths_at}
 use Rattle.psci_tree.proofs.build.parents_of.Goals as goal
+use Rattle.psci_board.proofs.Groups.{width}
+use Rattle.psci_board.proofs.Levels.{level}
+use Rattle.psci_tree.proofs.build.parents_of.Goals.{In-loop-place, After-children-count}
 
-pub split_off-requires : goal.split_off-requires
-split_off-requires c =
-    let levels : List (List ℕ) = c.args.board.now.levels in
-    let own : List ℕ = get_or levels c.args.below [] in
-    let place : ℕ = c.loop-place.place in
+-- the place that the loop is at, and how many children it takes
+fits : (c : In-loop-place)
+    → c.loop-place.place < length (get_or c.args.board.now.levels c.args.below [])
+fits c =
     let up : c.args.below + 1 ≡ suc c.args.below = omega arith in
-    let fits : place < length own = omega (
+    omega (
       arith,
       c.loop-place-test.true,
       c.nodes-place-end.ensures.there (omega (arith, c.requires.row.level)),
-      ap (λ l. size_below (drop l levels)) up,
-      tree_at levels c.args.below c.requires.board.tree c.requires.row.level,
-    ) in
-    let count : c.children-count.result ≡ get_or own place 0 =
-    c.children-count.ensures ∙ ap (λ l. children_at c.args.board.now l place) up in
+      ap (λ l. size_below (drop l c.args.board.now.levels)) up,
+      (level c.args.board.now.levels c.args.below c.requires.board.tree c.requires.row.level).above,
+    )
+
+count : (c : After-children-count) → c.children-count.result
+    ≡ get_or (get_or c.args.board.now.levels c.args.below []) c.loop-place.place 0
+count c =
+    let up : c.args.below + 1 ≡ suc c.args.below = omega arith in
+    c.children-count.ensures ∙ ap (λ l. children_at c.args.board.now l c.loop-place.place) up
+
+pub split_off-requires : goal.split_off-requires
+split_off-requires c =
+    let own : List ℕ = get_or c.args.board.now.levels c.args.below [] in
+    let at = goal.at.split_off-requires c in
     omega (
       arith,
-      count,
-      sum_by-drop_more (λ x. x) own place 0 fits,
+      count at.After-children-count,
+      sum_by-drop_more (λ x. x) own c.loop-place.place 0 (fits at.In-loop-place),
       c.loop-place.invariant.left,
       c.loop-place.rest.ok.0,
     )
@@ -59,16 +69,9 @@ loop-place-preserved c =
     let levels : List (List ℕ) = c.args.board.now.levels in
     let own : List ℕ = get_or levels c.args.below [] in
     let place : ℕ = c.loop-place.place in
-    let up : c.args.below + 1 ≡ suc c.args.below = omega arith in
-    let fits : place < length own = omega (
-      arith,
-      c.loop-place-test.true,
-      c.nodes-place-end.ensures.there (omega (arith, c.requires.row.level)),
-      ap (λ l. size_below (drop l levels)) up,
-      tree_at levels c.args.below c.requires.board.tree c.requires.row.level,
-    ) in
-    let count : c.children-count.result ≡ get_or own place 0 =
-    c.children-count.ensures ∙ ap (λ l. children_at c.args.board.now l place) up in
+    let at = goal.at.loop-place-preserved c in
+    let inside = fits at.In-loop-place in
+    let taking = count at.After-children-count in
     let parents : List Domain = c.loop-place.parents.items in
     let rest : List Domain = c.loop-place.rest.items in
     let n : ℕ = c.children-count.result in
@@ -76,17 +79,17 @@ loop-place-preserved c =
     ap (λ v. v.items) c.replace-group.ensures.value ∙ c.in_ok-others.ensures.items in
     let left : c.replace-group.new.dest.items ≡ drop n rest =
     ap (λ v. v.items) c.replace-group.ensures.after ∙ c.in_ok-others.ensures.tail in
-    let more = sum_by-drop_more (λ x. x) own place 0 fits in
-    let enough : n ≤ length rest = omega (arith, count, more, c.loop-place.invariant.left) in
+    let more = sum_by-drop_more (λ x. x) own place 0 inside in
+    let enough : n ≤ length rest = omega (arith, taking, more, c.loop-place.invariant.left) in
     let group : AreKept c.replace-group.result.items =
     subst AreKept (sym taken) (kept_take rest n c.loop-place.invariant.rest) in
     let some : 0 < length c.replace-group.result.items = omega (
       arith,
       ap length taken,
       length-take-le n rest enough,
-      count,
-      some_children own place
-          (widths_at levels c.args.below c.requires.board.tree c.requires.row.level) fits,
+      taking,
+      (width own place
+          (level levels c.args.below c.requires.board.tree c.requires.row.level).width inside).some,
     ) in
     record {
       whole =
@@ -103,8 +106,8 @@ loop-place-preserved c =
           ap (map child_count) c.in_ok-push.ensures.items ∙ counts_push parents _
           ∙ ap (λ xs. xs ++ length c.replace-group.result.items ∷ []) c.loop-place.invariant.counts
           ∙ ap (λ k. take place own ++ k ∷ [])
-          (ap length taken ∙ length-take-le n rest enough ∙ count)
-          ∙ sym (take_more own place 0 fits);
+          (ap length taken ∙ length-take-le n rest enough ∙ taking)
+          ∙ sym (take_more own place 0 inside);
       kept = subst AreKept (sym c.in_ok-push.ensures.items) (kept_push parents _
           c.loop-place.invariant.kept (kept_roll _ some (subst (λ ns. Keeps c.kept_of.result
           (cores_in ns)) c.deref.ensures.value c.kept_of.ensures) group));
@@ -120,7 +123,7 @@ loop-place-preserved c =
         ap length left,
         length-drop n rest,
         more,
-        count,
+        taking,
         c.loop-place.invariant.left,
       );
     }
@@ -147,7 +150,7 @@ at_end c =
       c.loop-place-test.false,
       c.nodes-place-end.ensures.there (omega (arith, c.requires.row.level)),
       ap (λ l. size_below (drop l levels)) up,
-      tree_at levels c.args.below c.requires.board.tree c.requires.row.level,
+      (level levels c.args.below c.requires.board.tree c.requires.row.level).above,
     )
 
 pub returns-clause-children : goal.returns-clause-children

@@ -8,6 +8,7 @@ use Rattle.psci_tree.specs.declared.domain.Domain.{Domain, out-Domain}
 use Rattle.psci_tree.specs.Domains.{branches, domains_down}
 use Rattle.psci_tree.proofs.PathStands.{PathStep, path_step, at_top}
 use Rattle.psci_tree.proofs.descent.standings_on.Goals as goal
+use Rattle.psci_tree.proofs.descent.standings_on.Goals.{In-loop-step}
 
 pub loop-step-init : goal.loop-step-init
 loop-step-init c =
@@ -35,52 +36,58 @@ loop-step-init c =
           ∙ ap (λ x. (out-Domain x).kept.known) (top k d e);
     }
 
+-- the level that the loop is at, and the child that the way leads through
+abbrev level : In-loop-step → ℕ
+level c = c.height-height.result - 1 - c.loop-step.step
+
+abbrev number : In-loop-step → ℕ
+number c = get_or c.args.way.now.numbers (level c) 0
+
+meets : (c : In-loop-step) → level c + (c.loop-step.step + 1) ≡ length c.args.board.now.levels
+meets c = omega (arith, c.loop-step-test.true, c.height-height.ensures.height)
+
+down : (c : In-loop-step) → PathStep c.args.root.now c.args.board.now.levels c.args.core.number
+    (level c) (number c)
+down c =
+    let fits : level c < length c.args.board.now.levels = omega (arith, meets c) in
+    path_step c.args.root.now c.args.board.now c.args.core.number (level c) (number c)
+    c.requires.tree c.requires.shape c.requires.core fits (c.requires.way.numbers (level c) fits)
+
+parent : (c : In-loop-step) → c.loop-step.own.now
+    ≡ get_or (domains_down (length c.args.board.now.levels - (level c + 1)) c.args.root.now)
+    (place_above c.args.board.now.levels (level c + 1) c.args.core.number) c.loop-step.own.now
+parent c = c.loop-step.invariant.own (level c + 1) c.loop-step.own.now (omega (arith, meets c))
+
+inside : (c : In-loop-step) → number c < length (branches c.loop-step.own.now)
+inside c = omega (
+  arith,
+  (down c).inside c.loop-step.own.now,
+  ap (λ x. length (branches x)) (parent c),
+)
+
 pub index-own-requires : goal.index-own-requires
-index-own-requires c =
-    let levels : List (List ℕ) = c.args.board.now.levels in
-    let root : Domain = c.args.root.now in
-    let core : ℕ = c.args.core.number in
-    let m : ℕ = c.height-height.result - 1 - c.loop-step.step in
-    let j : ℕ = get_or c.args.way.now.numbers m 0 in
-    let meets : m + (c.loop-step.step + 1) ≡ length levels =
-    omega (arith, c.loop-step-test.true, c.height-height.ensures.height) in
-    let fits : m < length levels = omega (arith, meets) in
-    let down : PathStep root levels core m j = path_step root c.args.board.now core m j
-    c.requires.tree c.requires.shape c.requires.core fits (c.requires.way.numbers m fits) in
-    let parent : Domain = c.loop-step.own.now in
-    let at : parent ≡ get_or (domains_down (length levels - (m + 1)) root)
-    (place_above levels (m + 1) core) parent =
-    c.loop-step.invariant.own (m + 1) parent (omega (arith, meets)) in
-    let inside : j < length (branches parent) =
-    omega (arith, down.inside parent, ap (λ x. length (branches x)) at) in
-    omega (arith, inside, (out-Domain parent).children.ok.0)
+index-own-requires c = omega (
+  arith,
+  inside (goal.at.index-own-requires c).In-loop-step,
+  (out-Domain c.loop-step.own.now).children.ok.0,
+)
 
 pub loop-step-preserved : goal.loop-step-preserved
 loop-step-preserved c =
+    let at = (goal.at.loop-step-preserved c).In-loop-step in
     let levels : List (List ℕ) = c.args.board.now.levels in
     let root : Domain = c.args.root.now in
     let core : ℕ = c.args.core.number in
-    let m : ℕ = c.height-height.result - 1 - c.loop-step.step in
-    let j : ℕ = get_or c.args.way.now.numbers m 0 in
-    let meets : m + (c.loop-step.step + 1) ≡ length levels =
-    omega (arith, c.loop-step-test.true, c.height-height.ensures.height) in
-    let fits : m < length levels = omega (arith, meets) in
-    let down : PathStep root levels core m j = path_step root c.args.board.now core m j
-    c.requires.tree c.requires.shape c.requires.core fits (c.requires.way.numbers m fits) in
-    let parent : Domain = c.loop-step.own.now in
-    let at : parent ≡ get_or (domains_down (length levels - (m + 1)) root)
-    (place_above levels (m + 1) core) parent =
-    c.loop-step.invariant.own (m + 1) parent (omega (arith, meets)) in
-    let inside : j < length (branches parent) =
-    omega (arith, down.inside parent, ap (λ x. length (branches x)) at) in
+    let m : ℕ = level at in
+    let reach = meets at in
     let own : Domain = c.index-own.result.now in
     let here : (k : ℕ) (d : Domain) → k ≡ m
     → own ≡ get_or (domains_down (length levels - k) root) (place_above levels k core) d =
     λ k d same.
     c.index-own.ensures
-    ∙ get_or_default (branches parent) j own d inside
-    ∙ ap (λ x. get_or (branches x) j d) at
-    ∙ down.is d parent
+    ∙ get_or_default (branches c.loop-step.own.now) (number at) own d (inside at)
+    ∙ ap (λ x. get_or (branches x) (number at) d) (parent at)
+    ∙ (down at).is d c.loop-step.own.now
     ∙ ap (λ x. get_or (domains_down (length levels - x) root) (place_above levels x core) d)
     (sym same) in
     let lows : List ℕ = c.loop-step.lows in
@@ -90,27 +97,27 @@ loop-step-preserved c =
     record {
       lows-long = length-set lows m low ∙ c.loop-step.invariant.lows-long;
       known-long = length-set sums m sum ∙ c.loop-step.invariant.known-long;
-      own = λ k d e. here k d (omega (arith, e, meets));
+      own = λ k d e. here k d (omega (arith, e, reach));
       lows = λ k d h i. elim (cases_eq k m) [
         | inl e ↦
             ap (λ x. get_or (set lows m low) x 0) e
             ∙ get_or-set_same lows m low 0
-            (omega (arith, fits, c.loop-step.invariant.lows-long, c.requires.high))
+            (omega (arith, reach, c.loop-step.invariant.lows-long, c.requires.high))
             ∙ ap (λ x. get_or (out-Domain own).kept.lows x 0) (sym e)
             ∙ ap (λ x. get_or (out-Domain x).kept.lows k 0) (here k d e)
         | inr ne ↦
             get_or-set_other lows m k low 0 ne
-            ∙ c.loop-step.invariant.lows k d h (omega (arith, i, meets, ne))
+            ∙ c.loop-step.invariant.lows k d h (omega (arith, i, reach, ne))
       ];
       known = λ k d h i. elim (cases_eq k m) [
         | inl e ↦
             ap (λ x. get_or (set sums m sum) x 0) e
             ∙ get_or-set_same sums m sum 0
-            (omega (arith, fits, c.loop-step.invariant.known-long, c.requires.high))
+            (omega (arith, reach, c.loop-step.invariant.known-long, c.requires.high))
             ∙ ap (λ x. (out-Domain x).kept.known) (here k d e)
         | inr ne ↦
             get_or-set_other sums m k sum 0 ne
-            ∙ c.loop-step.invariant.known k d h (omega (arith, i, meets, ne))
+            ∙ c.loop-step.invariant.known k d h (omega (arith, i, reach, ne))
       ];
     }
 

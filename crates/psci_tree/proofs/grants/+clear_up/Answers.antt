@@ -1,5 +1,5 @@
-use Rattle.std.proofs.Common.{◌≡◌, ◌<◌, ◌≤◌, ◌+◌, ◌∙◌, ℕ, List, [], map, length, get_or, ap, sym}
-use Rattle.std.proofs.Common.{arith, suc}
+use Rattle.std.proofs.Common.{◌≡◌, ◌<◌, ◌≤◌, ◌+◌, ◌∙◌, ℕ, List, [], map, length, get_or, ap, arith}
+use Rattle.std.proofs.Common.{refl}
 use Rattle.std.proofs.Math.ListN.{set}
 use Rattle.std.proofs.lemmas.List.{length-map}
 use Rattle.psci_tree.specs.Recount.{level_sizes}
@@ -7,16 +7,11 @@ use Rattle.psci_tree.specs.declared.depths.Depths.{Depths}
 use Rattle.psci_tree.specs.declared.way.Way.{Way}
 use Rattle.psci_tree.specs.DepthRows.{granted_of, confirmed_of}
 use Rattle.psci_tree.specs.Way.{AreRows, LeadsTo, cleared_from}
-use Rattle.psci_tree.proofs.Cleared.{path_node, cleared_step, cleared_top}
+use Rattle.psci_tree.proofs.Cleared.{path_node, cleared_step, cleared_top, rows_long}
 use Rattle.psci_tree.proofs.DepthRows.{DepthRow, depth_row, depths_written}
-use Rattle.psci_tree.proofs.Granted.{row_lengths, length_level_sizes}
+use Rattle.psci_tree.proofs.Granted.{row_lengths}
 use Rattle.psci_tree.proofs.grants.+clear_up.Goals as goal
-
--- how many rows there are
-rows_long : (levels rows : List (List ℕ)) → map length rows ≡ level_sizes levels
-    → length rows ≡ suc (length levels)
-rows_long levels rows e =
-    sym (length-map rows length) ∙ ap length e ∙ length_level_sizes levels
+use Rattle.psci_board.specs.Board.{place_above}
 
 -- nothing is granted, and nothing confirmed
 abbrev none : Depths
@@ -78,60 +73,55 @@ clear_up-requires t c =
       ),
     )
 
+-- the rows of either depth, with none at the place of a level on the path, and cleared above it
+up_from : (f : Depths → ℕ) (levels : List (List ℕ)) (rows new : List (List Depths))
+    (core l p : ℕ) → f none ≡ 0 → new ≡ set rows l (set (get_or rows l []) p none)
+    → map length (map (map f) rows) ≡ level_sizes levels → p ≡ place_above levels l core
+    → l < length levels
+    → cleared_from levels core (l + 1) (map (map f) new)
+    ≡ cleared_from levels core l (map (map f) rows)
+up_from f levels rows new core l p zero e long at fits =
+    ap (λ rs. cleared_from levels core (l + 1) (map (map f) rs)) e
+    ∙ ap (cleared_from levels core (l + 1)) (depths_written f rows l p none
+    ∙ ap (λ x. set (map (map f) rows) l (set (get_or (map (map f) rows) l []) p x)) zero)
+    ∙ cleared_step levels (map (map f) rows) core l p fits
+    (omega (arith, fits, rows_long levels (map (map f) rows) long)) at
+
+at_top : (f : Depths → ℕ) (levels : List (List ℕ)) (rows new : List (List Depths))
+    (core l p : ℕ) → f none ≡ 0 → new ≡ set rows l (set (get_or rows l []) p none)
+    → map length (map (map f) rows) ≡ level_sizes levels → p ≡ place_above levels l core
+    → l ≡ length levels → map (map f) new ≡ cleared_from levels core l (map (map f) rows)
+at_top f levels rows new core l p zero e long at top =
+    ap (map (map f)) e
+    ∙ depths_written f rows l p none
+    ∙ ap (λ x. set (map (map f) rows) l (set (get_or (map (map f) rows) l []) p x)) zero
+    ∙ cleared_top levels (map (map f) rows) core l p top
+    (rows_long levels (map (map f) rows) long) at
+
 pub returns-then-level-height-clause-granted : goal.returns-then-level-height-clause-granted
 returns-then-level-height-clause-granted t c =
-    let levels : List (List ℕ) = c.args.board.now.levels in
-    let core : ℕ = c.args.core.number in
-    let l : ℕ = c.args.level in
-    let p : ℕ = get_or c.args.way.now.places l 0 in
-    let rows : List (List Depths) = map (λ v. v.items) c.args.rows.now in
-    let fits : l < length levels =
-    omega (arith, c.if-level-height.true, c.height.ensures.height) in
     c.clear_up.ensures.granted
-    ∙ ap (λ rs. cleared_from levels core (l + 1) (granted_of rs)) c.write.ensures
-    ∙ ap (cleared_from levels core (l + 1)) (depths_written (λ d. d.granted) rows l p none)
-    ∙ cleared_step levels (granted_of rows) core l p fits
-    (omega (arith, fits, rows_long levels (granted_of rows) c.requires.rows.granted))
-    (c.requires.lead.way.places l c.requires.level)
+    ∙ up_from (λ d. d.granted) _ _ _ c.args.core.number c.args.level _ refl c.write.ensures
+    c.requires.rows.granted (c.requires.lead.way.places c.args.level c.requires.level)
+    (omega (arith, c.if-level-height.true, c.height.ensures.height))
 
 pub returns-then-level-height-clause-confirmed : goal.returns-then-level-height-clause-confirmed
 returns-then-level-height-clause-confirmed t c =
-    let levels : List (List ℕ) = c.args.board.now.levels in
-    let core : ℕ = c.args.core.number in
-    let l : ℕ = c.args.level in
-    let p : ℕ = get_or c.args.way.now.places l 0 in
-    let rows : List (List Depths) = map (λ v. v.items) c.args.rows.now in
-    let fits : l < length levels =
-    omega (arith, c.if-level-height.true, c.height.ensures.height) in
     c.clear_up.ensures.confirmed
-    ∙ ap (λ rs. cleared_from levels core (l + 1) (confirmed_of rs)) c.write.ensures
-    ∙ ap (cleared_from levels core (l + 1)) (depths_written (λ d. d.confirmed) rows l p none)
-    ∙ cleared_step levels (confirmed_of rows) core l p fits
-    (omega (arith, fits, rows_long levels (confirmed_of rows) c.requires.rows.confirmed))
-    (c.requires.lead.way.places l c.requires.level)
+    ∙ up_from (λ d. d.confirmed) _ _ _ c.args.core.number c.args.level _ refl c.write.ensures
+    c.requires.rows.confirmed (c.requires.lead.way.places c.args.level c.requires.level)
+    (omega (arith, c.if-level-height.true, c.height.ensures.height))
 
 pub returns-else-level-height-clause-granted : goal.returns-else-level-height-clause-granted
 returns-else-level-height-clause-granted t c =
-    let levels : List (List ℕ) = c.args.board.now.levels in
-    let l : ℕ = c.args.level in
-    let p : ℕ = get_or c.args.way.now.places l 0 in
-    let rows : List (List Depths) = map (λ v. v.items) c.args.rows.now in
-    ap granted_of c.write.ensures
-    ∙ depths_written (λ d. d.granted) rows l p none
-    ∙ cleared_top levels (granted_of rows) c.args.core.number l p
+    at_top (λ d. d.granted) c.args.board.now.levels _ _ c.args.core.number c.args.level _ refl
+    c.write.ensures c.requires.rows.granted
+    (c.requires.lead.way.places c.args.level c.requires.level)
     (omega (arith, c.if-level-height.false, c.height.ensures.height, c.requires.level))
-    (rows_long levels (granted_of rows) c.requires.rows.granted)
-    (c.requires.lead.way.places l c.requires.level)
 
 pub returns-else-level-height-clause-confirmed : goal.returns-else-level-height-clause-confirmed
 returns-else-level-height-clause-confirmed t c =
-    let levels : List (List ℕ) = c.args.board.now.levels in
-    let l : ℕ = c.args.level in
-    let p : ℕ = get_or c.args.way.now.places l 0 in
-    let rows : List (List Depths) = map (λ v. v.items) c.args.rows.now in
-    ap confirmed_of c.write.ensures
-    ∙ depths_written (λ d. d.confirmed) rows l p none
-    ∙ cleared_top levels (confirmed_of rows) c.args.core.number l p
+    at_top (λ d. d.confirmed) c.args.board.now.levels _ _ c.args.core.number c.args.level _ refl
+    c.write.ensures c.requires.rows.confirmed
+    (c.requires.lead.way.places c.args.level c.requires.level)
     (omega (arith, c.if-level-height.false, c.height.ensures.height, c.requires.level))
-    (rows_long levels (confirmed_of rows) c.requires.rows.confirmed)
-    (c.requires.lead.way.places l c.requires.level)

@@ -1,7 +1,6 @@
 use Rattle.std.proofs.Common.{refl}
 use Rattle.psci_tree.specs.Recount.{known_at}
-use Rattle.psci_tree.specs.Changes.{suspended, turned_off, made_pending}
-use Rattle.psci_tree.specs.Changes.{started, with_core_state}
+use Rattle.psci_tree.specs.Changes.{suspended, turned_off, made_pending, started, with_core_state}
 use Rattle.psci_state.specs.declared.cores.Activity.TheVariants.{Active}
 use Rattle.psci_tree.proofs.Granted.{grant_at}
 use Rattle.psci_tree.proofs.Looked.{granted_with}

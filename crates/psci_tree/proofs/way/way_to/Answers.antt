@@ -4,9 +4,8 @@ use Rattle.std.proofs.Common.{length-set}
 use Rattle.std.specs.Prelude.{unwrap_or}
 use Rattle.psci_board.specs.declared.node.Node.{Node}
 use Rattle.psci_board.specs.Board.{BoardValue, size_below, index_in, place_above, group_of}
-use Rattle.psci_tree.proofs.Granted.{place_lt}
+use Rattle.psci_board.proofs.Paths.{inside as place_inside, place_above-suc}
 use Rattle.psci_tree.proofs.Upward.{parent_some, number_some}
-use Rattle.psci_tree.proofs.Ways.{above_next}
 use Rattle.psci_tree.proofs.way.way_to.Goals as goal
 
 pub loop-level-preserved : goal.loop-level-preserved
@@ -23,7 +22,7 @@ loop-level-preserved c =
     omega (arith, c.loop-level-test.true, c.height-level-end.ensures.height) in
     let place : c.loop-level.place ≡ q = c.loop-level.invariant.place in
     let inside : c.loop-level.place < size_below (drop l levels) =
-    omega (arith, place, place_lt levels l core c.requires.tree (omega arith) c.requires.core) in
+    omega (arith, place, place_inside levels l core c.requires.tree c.requires.core (omega arith)) in
     let number : c.unwrap_or.result ≡ index_in (get_or levels l []) q =
     c.unwrap_or.ensures
     ∙ ap (λ o. unwrap_or o 0) (c.child_number.ensures ∙ number_some b n fits inside)
@@ -38,7 +37,7 @@ loop-level-preserved c =
     record {
       long = length-set way l c.unwrap_or.result ∙ c.loop-level.invariant.long;
       place = ap (λ (m : Node). m.place) up ∙ ap (group_of (get_or levels l [])) place
-          ∙ sym (above_next levels l core fits) ∙ ap (λ j. place_above levels j core) next;
+          ∙ sym (place_above-suc levels l core fits) ∙ ap (λ j. place_above levels j core) next;
       wide = length-set places l c.loop-level.place ∙ c.loop-level.invariant.wide;
       path = below_more _ _ (λ k h. let ne : k ≢ l = omega arith in
           rw get_or-set_other (c.loop-level.invariant.path k h))

@@ -1,4 +1,4 @@
-use Rattle.std.proofs.Common.{◌≡◌, ◌<◌, true, false, length, sym, subst, arith, ◌∙◌, map}
+use Rattle.std.proofs.Common.{◌≡◌, ◌<◌, true, false, length, sym, subst, arith, ◌∙◌}
 use Rattle.psci_messages.specs.declared.taken.Taken.TheVariants.{Used}
 use Rattle.std.specs.Borrow.{Bor}
 use Rattle.std.specs.Prelude.{Option, Some, option_map}
@@ -13,39 +13,41 @@ use Rattle.psci_fw_state.proofs.Acked.{answered_used, down_has_slot, off_changed
 use Rattle.psci_fw_state.proofs.Acked.{IsAcked, acked_by, sent_parts, used_changed}
 use Rattle.psci_fw_state.proofs.Changed.{row_set}
 use Rattle.psci_fw_state.proofs.Moved.{rows_set}
+use Rattle.psci_fw_state.specs.contracts.state.State.{the_view}
 use Rattle.psci_fw_state.proofs.state.State.acknowledge.Goals as goal
+use Rattle.psci_fw_state.proofs.state.State.acknowledge.Goals.{After-confirm_parts}
+use Rattle.psci_messages.specs.contracts.ack.Ack.{the_view as the_ack}
+
+-- the message that is acknowledged
+sent : (c : After-confirm_parts) → Some c.in-Some.message.now ≡ answered c.args.ack
+    (message_in c.self.inside.slots (slot_of c.args.ack.kind c.args.ack.core))
+sent c =
+    subst (λ (o : Option (Bor MessageValue)). option_map (λ message. message.now) o
+    ≡ answered c.args.ack
+    (message_in c.self.inside.slots (slot_of c.args.ack.kind c.args.ack.core)))
+    c.in-Some.is c.answered.ensures
+
+acked : (c : After-confirm_parts)
+    → IsAcked (the_view c.self.inside) c.confirm_parts.new.tree (the_ack c.ack.inside)
+acked c =
+    let s : StateValue = the_view c.self.inside in
+    acked_by s c.confirm_parts.new.tree _ c.applied_of.result.now
+    (sent_parts s.slots _ _ _ _ c.ack.view_is (sent c) c.applied_of.ensures)
+    (λ k. rw (← c.deref_mut.ensures.value) (c.confirm_parts.ensures.kept.cores k))
+    (λ l p. rw (← c.deref_mut.ensures.value) (c.confirm_parts.ensures.kept.granted l p))
+    (λ l p. rw (← c.deref_mut.ensures.value) (c.confirm_parts.ensures.confirmed l p))
 
 pub returns-then-is_off-clause-used : goal.returns-then-is_off-clause-used
 returns-then-is_off-clause-used c = λ used.
-    let s : StateValue = record {
-      board = c.self.inside.board;
-      life = c.self.inside.life;
-      halting = c.self.inside.halting;
-      mode = c.self.inside.mode;
-      tree = c.self.inside.tree.value;
-      rows = c.self.inside.rows.items;
-      counts = map (λ v. v.items) c.self.inside.counts.items;
-      slots = c.self.inside.slots;
-    } in
-    let a : AckValue = record {
-      kind = c.ack.inside.kind;
-      core = c.ack.inside.core;
-      life = c.ack.inside.life;
-      number = c.ack.inside.number;
-      applied = c.ack.inside.applied;
-      stale = c.ack.inside.stale;
-    } in
-    let sent : Some c.in-Some.message.now
-    ≡ answered c.args.ack (message_in s.slots (slot_of c.args.ack.kind c.args.ack.core)) =
-    subst (λ (o : Option (Bor MessageValue)). option_map (λ message. message.now) o
-    ≡ answered c.args.ack (message_in s.slots (slot_of c.args.ack.kind c.args.ack.core)))
-    c.in-Some.is c.answered.ensures in
+    let at = (goal.at.returns-then-is_off-clause-used c).After-confirm_parts in
+    let s : StateValue = the_view c.self.inside in
+    let a : AckValue = the_ack c.ack.inside in
     let off : turns_off (values_in c.args.self.now) a ≡ true =
     subst (λ (x : AckValue). turns_off (values_in c.args.self.now) x ≡ true) (sym c.ack.view_is)
     (sym c.turns_off-is_off.ensures ∙ c.if-is_off.true) in
     let used_up : taken a (message_in s.slots (slot_of a.kind a.core)) ≡ Used =
     subst (λ (x : AckValue). taken x (message_in s.slots (slot_of x.kind x.core)) ≡ Used)
-    (sym c.ack.view_is) (answered_used c.args.ack _ _ sent) in
+    (sym c.ack.view_is) (answered_used c.args.ack _ _ (sent at)) in
     let inside : a.core.number < length s.slots.cores =
     down_has_slot a s.slots (values_in c.args.self.now) off used_up in
     let row_inside : a.core.number < length s.rows =
@@ -54,54 +56,22 @@ returns-then-is_off-clause-used c = λ used.
     a.core.number
     (record (row_at c.deref_mut-then-is_off.result.now a.core.number) { status = statuses.Off })
     c.deref_mut-then-is_off.ensures.value c.put_status.ensures.rows in
-    let acked : IsAcked s c.confirm_parts.new.tree a =
-    acked_by s c.confirm_parts.new.tree a c.applied_of.result.now
-    (sent_parts s.slots a _ _ _ c.ack.view_is sent c.applied_of.ensures)
-    (λ k. rw (← c.deref_mut.ensures.value) (c.confirm_parts.ensures.kept.cores k))
-    (λ l p. rw (← c.deref_mut.ensures.value) (c.confirm_parts.ensures.kept.granted l p))
-    (λ l p. rw (← c.deref_mut.ensures.value) (c.confirm_parts.ensures.confirmed l p)) in
     rw (← c.ack.view_is)
     (off_changed s _ c.confirm_parts.new.tree _ _ c.finish.new.self a c.self.view_is off
-    acked
+    (acked at)
     (rw (rows, c.deref_mut-then-is_off.ensures.value) (row_set s.rows a.core.number _ row_inside))
     (λ slot. rw (c.finish.ensures.slots, ← c.ack.view_is)
     (c.law_slots.ensures.changed s.slots (Acknowledge a) tt slot)))
 
 pub returns-else-is_off-clause-used : goal.returns-else-is_off-clause-used
 returns-else-is_off-clause-used c = λ used.
-    let s : StateValue = record {
-      board = c.self.inside.board;
-      life = c.self.inside.life;
-      halting = c.self.inside.halting;
-      mode = c.self.inside.mode;
-      tree = c.self.inside.tree.value;
-      rows = c.self.inside.rows.items;
-      counts = map (λ v. v.items) c.self.inside.counts.items;
-      slots = c.self.inside.slots;
-    } in
-    let a : AckValue = record {
-      kind = c.ack.inside.kind;
-      core = c.ack.inside.core;
-      life = c.ack.inside.life;
-      number = c.ack.inside.number;
-      applied = c.ack.inside.applied;
-      stale = c.ack.inside.stale;
-    } in
-    let sent : Some c.in-Some.message.now
-    ≡ answered c.args.ack (message_in s.slots (slot_of c.args.ack.kind c.args.ack.core)) =
-    subst (λ (o : Option (Bor MessageValue)). option_map (λ message. message.now) o
-    ≡ answered c.args.ack (message_in s.slots (slot_of c.args.ack.kind c.args.ack.core)))
-    c.in-Some.is c.answered.ensures in
+    let s : StateValue = the_view c.self.inside in
+    let a : AckValue = the_ack c.ack.inside in
     let off : turns_off (values_in c.args.self.now) a ≡ false =
     subst (λ (x : AckValue). turns_off (values_in c.args.self.now) x ≡ false) (sym c.ack.view_is)
     (sym c.turns_off-is_off.ensures ∙ c.if-is_off.false) in
-    let acked : IsAcked s c.confirm_parts.new.tree a =
-    acked_by s c.confirm_parts.new.tree a c.applied_of.result.now
-    (sent_parts s.slots a _ _ _ c.ack.view_is sent c.applied_of.ensures)
-    (λ k. rw (← c.deref_mut.ensures.value) (c.confirm_parts.ensures.kept.cores k))
-    (λ l p. rw (← c.deref_mut.ensures.value) (c.confirm_parts.ensures.kept.granted l p))
-    (λ l p. rw (← c.deref_mut.ensures.value) (c.confirm_parts.ensures.confirmed l p)) in
     rw (← c.ack.view_is)
-    (used_changed s _ c.confirm_parts.new.tree c.finish.new.self a c.self.view_is off acked
+    (used_changed s _ c.confirm_parts.new.tree c.finish.new.self a c.self.view_is off
+    (acked (goal.at.returns-else-is_off-clause-used c).After-confirm_parts)
     (λ slot. rw (c.finish.ensures.slots, ← c.ack.view_is)
     (c.law_slots.ensures.changed s.slots (Acknowledge a) tt slot)))

@@ -1,10 +1,10 @@
-use Rattle.std.proofs.Common.{◌≡◌, ℕ, Bool, true, false, not, cond, map, ap, arith, refl, sym, ◌∙◌}
-use Rattle.std.proofs.Common.{◌≤◌}
+use Rattle.std.proofs.Common.{◌≡◌, ℕ, Bool, true, false, not, cond, ap, arith, refl, sym, ◌∙◌, ◌≤◌}
 use Rattle.psci_board.specs.Board.{height}
 use Rattle.psci_tree.specs.Recount.{off}
 use Rattle.psci_fw_spec.specs.Phases.{is_away}
 use Rattle.psci_fw_state.specs.Seen.{StateValue, values_in}
 use Rattle.psci_fw_state.proofs.AllCores.{away, few_off, others_away}
+use Rattle.psci_fw_state.specs.contracts.state.State.{the_view}
 use Rattle.psci_fw_state.proofs.state.State.are_others_away.Goals as goal
 use mir.Val.{bool_byte}
 
@@ -18,16 +18,7 @@ small false = omega arith
 
 pub overflow_add-result : goal.overflow_add-result
 overflow_add-result c =
-    let s : StateValue = record {
-      board = c.self.inside.board;
-      life = c.self.inside.life;
-      halting = c.self.inside.halting;
-      mode = c.self.inside.mode;
-      tree = c.self.inside.tree.value;
-      rows = c.self.inside.rows.items;
-      counts = map (λ v. v.items) c.self.inside.counts.items;
-      slots = c.self.inside.slots;
-    } in
+    let s : StateValue = the_view c.self.inside in
     let laws = c.law_spans.ensures s.board.levels c.self.invariant.board.tree in
     let few = few_off s c.self.invariant laws c.off-off.result c.from-own.result
     (c.off-off.ensures ∙ ap (λ t. off t c.system.result) c.deref.ensures
@@ -39,16 +30,7 @@ overflow_add-result c =
 pub returns : goal.returns
 unfolding values_in
 returns c =
-    let s : StateValue = record {
-      board = c.self.inside.board;
-      life = c.self.inside.life;
-      halting = c.self.inside.halting;
-      mode = c.self.inside.mode;
-      tree = c.self.inside.tree.value;
-      rows = c.self.inside.rows.items;
-      counts = map (λ v. v.items) c.self.inside.counts.items;
-      slots = c.self.inside.slots;
-    } in
+    let s : StateValue = the_view c.self.inside in
     let laws = c.law_spans.ensures s.board.levels c.self.invariant.board.tree in
     let number : ℕ = c.args.core.number in
     let is : c.is_away.result ≡ away s c.self.invariant laws number =

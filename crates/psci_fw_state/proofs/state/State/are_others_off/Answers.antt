@@ -1,4 +1,4 @@
-use Rattle.std.proofs.Common.{◌≡◌, ℕ, ◌+◌, map, ap, sym, ◌∙◌}
+use Rattle.std.proofs.Common.{◌≡◌, ℕ, ◌+◌, ap, sym, ◌∙◌}
 use Rattle.psci_board.specs.Board.{height}
 use Rattle.psci_fw_state.specs.declared.row.CoreRow.{CoreRow}
 use Rattle.psci_fw_state.specs.declared.counts.StatusCounts.{StatusCounts}
@@ -6,21 +6,13 @@ use Rattle.psci_fw_state.specs.Counts.{counts_below, one_core}
 use Rattle.psci_fw_state.specs.Rows.{row_at, status_at}
 use Rattle.psci_fw_state.specs.Seen.{StateValue, values_in}
 use Rattle.psci_fw_state.proofs.AllCores.{others_off, system}
+use Rattle.psci_fw_state.specs.contracts.state.State.{the_view}
 use Rattle.psci_fw_state.proofs.state.State.are_others_off.Goals as goal
 
 pub returns : goal.returns
 unfolding values_in
 returns c =
-    let s : StateValue = record {
-      board = c.self.inside.board;
-      life = c.self.inside.life;
-      halting = c.self.inside.halting;
-      mode = c.self.inside.mode;
-      tree = c.self.inside.tree.value;
-      rows = c.self.inside.rows.items;
-      counts = map (λ v. v.items) c.self.inside.counts.items;
-      slots = c.self.inside.slots;
-    } in
+    let s : StateValue = the_view c.self.inside in
     let laws = c.law_spans.ensures s.board.levels c.self.invariant.board.tree in
     let number : ℕ = c.args.core.number in
     let counted : c.counted.result

@@ -1,4 +1,4 @@
-use Rattle.std.proofs.Common.{◌≡◌, None, ap, ◌∙◌, length, map}
+use Rattle.std.proofs.Common.{◌≡◌, None, ap, ◌∙◌, length}
 use Rattle.psci_messages.specs.Slots.Change.{Clear}
 use Rattle.std.proofs.lemmas.List.{length-set}
 use Rattle.psci_tree.specs.Recount.{TreeValue}
@@ -7,20 +7,12 @@ use Rattle.psci_fw_state.specs.Seen.{StateValue}
 use Rattle.psci_fw_state.proofs.Changed.{in_rows, row_set}
 use Rattle.psci_fw_state.proofs.Moved.{counts_stay, path_cleared, path_unconfirmed, rows_set}
 use Rattle.psci_fw_state.proofs.Arrived.{stopped_changed}
+use Rattle.psci_fw_state.specs.contracts.state.State.{the_view}
 use Rattle.psci_fw_state.proofs.state.State.arrive_away.Goals as goal
 
 pub returns-clause-after : goal.returns-clause-after
 returns-clause-after c =
-    let s : StateValue = record {
-      board = c.self.inside.board;
-      life = c.self.inside.life;
-      halting = c.self.inside.halting;
-      mode = c.self.inside.mode;
-      tree = c.self.inside.tree.value;
-      rows = c.self.inside.rows.items;
-      counts = map (λ v. v.items) c.self.inside.counts.items;
-      slots = c.self.inside.slots;
-    } in
+    let s : StateValue = the_view c.self.inside in
     let rows = rows_set c.self.inside.rows c.deref_mut-2.result.now c.set_row.new.rows
     c.args.core.number (record {
       status = c.row_of.result.status;
@@ -43,16 +35,7 @@ returns-clause-after c =
 
 pub invariant_of-self : goal.invariant_of-self
 invariant_of-self c =
-    let s : StateValue = record {
-      board = c.self.inside.board;
-      life = c.self.inside.life;
-      halting = c.self.inside.halting;
-      mode = c.self.inside.mode;
-      tree = c.self.inside.tree.value;
-      rows = c.self.inside.rows.items;
-      counts = map (λ v. v.items) c.self.inside.counts.items;
-      slots = c.self.inside.slots;
-    } in
+    let s : StateValue = the_view c.self.inside in
     let rows = rows_set c.self.inside.rows c.deref_mut-2.result.now c.set_row.new.rows
     c.args.core.number (record {
       status = c.row_of.result.status;

@@ -1,24 +1,16 @@
-use Rattle.std.proofs.Common.{◌<◌, None, length, map}
+use Rattle.std.proofs.Common.{◌<◌, None, length}
 use Rattle.psci_messages.specs.Slots.Change.{Clear}
 use Rattle.psci_fw_spec.specs.declared.status.Status.TheVariants as statuses
 use Rattle.psci_fw_state.specs.Seen.{StateValue}
 use Rattle.psci_fw_state.proofs.Changed.{in_rows, row_set, within}
 use Rattle.psci_fw_state.proofs.Moved.{path_cleared, path_unconfirmed, rows_set}
 use Rattle.psci_fw_state.proofs.Arrived.{running_changed}
+use Rattle.psci_fw_state.specs.contracts.state.State.{the_view}
 use Rattle.psci_fw_state.proofs.state.State.arrive_running.Goals as goal
 
 pub returns-clause-after : goal.returns-clause-after
 returns-clause-after c =
-    let s : StateValue = record {
-      board = c.self.inside.board;
-      life = c.self.inside.life;
-      halting = c.self.inside.halting;
-      mode = c.self.inside.mode;
-      tree = c.self.inside.tree.value;
-      rows = c.self.inside.rows.items;
-      counts = map (λ v. v.items) c.self.inside.counts.items;
-      slots = c.self.inside.slots;
-    } in
+    let s : StateValue = the_view c.self.inside in
     let inside : c.args.core.number < length s.tree.cores =
     within _ _ _ c.self.view_is c.self.invariant c.requires.inside in
     let rows = rows_set c.self.inside.rows c.deref_mut-2.result.now c.put_row.new.rows

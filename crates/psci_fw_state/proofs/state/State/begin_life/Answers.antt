@@ -1,24 +1,16 @@
-use Rattle.std.proofs.Common.{◌≡◌, ◌<◌, length, sym, ap, ◌∙◌, map}
+use Rattle.std.proofs.Common.{◌≡◌, ◌<◌, length, sym, ap, ◌∙◌}
 use Rattle.std.proofs.lemmas.List.{with_items_is}
 use Rattle.psci_board.specs.Board.{size_below}
 use Rattle.psci_messages.specs.Slots.Change.{ClearAll}
 use Rattle.psci_tree.specs.Recount.{TreeValue}
 use Rattle.psci_fw_state.specs.Seen.{StateValue}
 use Rattle.psci_fw_state.proofs.Begun.{at_start, begun, some_below}
+use Rattle.psci_fw_state.specs.contracts.state.State.{the_view}
 use Rattle.psci_fw_state.proofs.state.State.begin_life.Goals as goal
 
 pub returns-clause-after : goal.returns-clause-after
 returns-clause-after c =
-    let s : StateValue = record {
-      board = c.self.inside.board;
-      life = c.self.inside.life;
-      halting = c.self.inside.halting;
-      mode = c.self.inside.mode;
-      tree = c.self.inside.tree.value;
-      rows = c.self.inside.rows.items;
-      counts = map (λ v. v.items) c.self.inside.counts.items;
-      slots = c.self.inside.slots;
-    } in
+    let s : StateValue = the_view c.self.inside in
     let levels : s.tree.levels ≡ s.board.levels = c.self.invariant.levels in
     let some : 0 < size_below s.tree.levels = some_below s.tree.levels c.self.invariant.tree.tree in
     let long : length c.reset_rows.new.rows ≡ c.self.inside.rows.len =

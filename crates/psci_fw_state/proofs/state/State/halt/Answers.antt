@@ -1,25 +1,17 @@
-use Rattle.std.proofs.Common.{◌≡◌, ◌∙◌, ℕ, ap, sym, length, subst, map}
+use Rattle.std.proofs.Common.{◌≡◌, ◌∙◌, ℕ, ap, sym, length, subst}
 use Rattle.psci_board.specs.Board.{cores}
 use Rattle.psci_messages.specs.Message.{MessageValue}
 use Rattle.psci_messages.specs.Slots.{Slot, SlotsValue, IsOfCores, message_in, slot_of, changed}
 use Rattle.psci_messages.specs.Slots.Change.{Put}
 use Rattle.psci_fw_spec.specs.Changes.{with_halt}
 use Rattle.psci_fw_state.specs.Seen.{StateValue, values_in}
+use Rattle.psci_fw_state.specs.contracts.state.State.{the_view}
 use Rattle.psci_fw_state.proofs.state.State.halt.Goals as goal
 
 pub returns-clause-after : goal.returns-clause-after
 unfolding values_in
 returns-clause-after c =
-    let s : StateValue = record {
-      board = c.self.inside.board;
-      life = c.self.inside.life;
-      halting = c.self.inside.halting;
-      mode = c.self.inside.mode;
-      tree = c.self.inside.tree.value;
-      rows = c.self.inside.rows.items;
-      counts = map (λ v. v.items) c.self.inside.counts.items;
-      slots = c.self.inside.slots;
-    } in
+    let s : StateValue = the_view c.self.inside in
     let m : MessageValue = c.args.message in
     let own : IsOfCores (cores s.board) (slot_of m.kind m.core) =
     subst (λ (t : StateValue). IsOfCores (cores t.board) (slot_of m.kind m.core))

@@ -1,4 +1,4 @@
-use Rattle.std.proofs.Common.{◌≡◌, ℕ, true, map, ap, arith, sym, subst, ◌∙◌}
+use Rattle.std.proofs.Common.{◌≡◌, ℕ, true, ap, arith, sym, subst, ◌∙◌}
 use Rattle.psci_board.specs.Board.{height}
 use Rattle.psci_tree.specs.Recount.{active, off, state_at}
 use Rattle.psci_fw_spec.specs.Invariant.{agrees}
@@ -6,20 +6,12 @@ use Rattle.psci_fw_state.specs.Counts.{counts_below}
 use Rattle.psci_fw_state.specs.Rows.{status_at}
 use Rattle.psci_fw_state.specs.Seen.{StateValue, phase_by, values_in}
 use Rattle.psci_fw_state.proofs.AllCores.{fits_settled, none_pending, some_pending, system}
+use Rattle.psci_fw_state.specs.contracts.state.State.{the_view}
 use Rattle.psci_fw_state.proofs.state.State.is_some_waiting.Goals as goal
 
 pub overflow_add-settled : goal.overflow_add-settled
 overflow_add-settled c =
-    let s : StateValue = record {
-      board = c.self.inside.board;
-      life = c.self.inside.life;
-      halting = c.self.inside.halting;
-      mode = c.self.inside.mode;
-      tree = c.self.inside.tree.value;
-      rows = c.self.inside.rows.items;
-      counts = map (λ v. v.items) c.self.inside.counts.items;
-      slots = c.self.inside.slots;
-    } in
+    let s : StateValue = the_view c.self.inside in
     let laws = c.law_spans.ensures s.board.levels c.self.invariant.board.tree in
     let node = c.system-system.ensures
     ∙ ap (λ (x : StateValue). record { level = height x.board; place = 0 }) (sym c.self.view_is) in
@@ -32,16 +24,7 @@ overflow_add-settled c =
 pub returns-then-counted-gt0 : goal.returns-then-counted-gt0
 unfolding values_in
 returns-then-counted-gt0 c =
-    let s : StateValue = record {
-      board = c.self.inside.board;
-      life = c.self.inside.life;
-      halting = c.self.inside.halting;
-      mode = c.self.inside.mode;
-      tree = c.self.inside.tree.value;
-      rows = c.self.inside.rows.items;
-      counts = map (λ v. v.items) c.self.inside.counts.items;
-      slots = c.self.inside.slots;
-    } in
+    let s : StateValue = the_view c.self.inside in
     let laws = c.law_spans.ensures s.board.levels c.self.invariant.board.tree in
     let node = c.system-system.ensures
     ∙ ap (λ (x : StateValue). record { level = height x.board; place = 0 }) (sym c.self.view_is) in
@@ -66,16 +49,7 @@ returns-then-counted-gt0 c =
 pub returns-else-counted-gt0 : goal.returns-else-counted-gt0
 unfolding values_in
 returns-else-counted-gt0 c =
-    let s : StateValue = record {
-      board = c.self.inside.board;
-      life = c.self.inside.life;
-      halting = c.self.inside.halting;
-      mode = c.self.inside.mode;
-      tree = c.self.inside.tree.value;
-      rows = c.self.inside.rows.items;
-      counts = map (λ v. v.items) c.self.inside.counts.items;
-      slots = c.self.inside.slots;
-    } in
+    let s : StateValue = the_view c.self.inside in
     let laws = c.law_spans.ensures s.board.levels c.self.invariant.board.tree in
     let node = c.system-system.ensures
     ∙ ap (λ (x : StateValue). record { level = height x.board; place = 0 }) (sym c.self.view_is) in

@@ -1,4 +1,4 @@
-use Rattle.std.proofs.Common.{◌≡◌, ◌<◌, Some, length, sym, subst, ap, arith, ◌∙◌, map}
+use Rattle.std.proofs.Common.{◌≡◌, ◌<◌, Some, length, sym, subst, ap, arith, ◌∙◌}
 use Rattle.psci_board.specs.Board.{cores}
 use Rattle.psci_messages.specs.declared.kind.Kind.TheVariants as kinds
 use Rattle.psci_messages.specs.Message.{MessageValue}
@@ -8,27 +8,14 @@ use Rattle.psci_fw_spec.specs.declared.status.Status.TheVariants as statuses
 use Rattle.psci_fw_state.specs.Seen.{StateValue}
 use Rattle.psci_fw_state.proofs.Changed.{core_set, in_rows, row_set, within}
 use Rattle.psci_fw_state.proofs.Moved.{path_cleared, path_unconfirmed, pending_of, rows_set}
+use Rattle.psci_fw_state.specs.contracts.state.State.{the_view}
+use Rattle.psci_messages.specs.contracts.message.Message.{the_view as the_message}
 use Rattle.psci_fw_state.proofs.state.State.set_pending.Goals as goal
 
 pub returns-clause-after : goal.returns-clause-after
 returns-clause-after c =
-    let s : StateValue = record {
-      board = c.self.inside.board;
-      life = c.self.inside.life;
-      halting = c.self.inside.halting;
-      mode = c.self.inside.mode;
-      tree = c.self.inside.tree.value;
-      rows = c.self.inside.rows.items;
-      counts = map (λ v. v.items) c.self.inside.counts.items;
-      slots = c.self.inside.slots;
-    } in
-    let m : MessageValue = record {
-      kind = c.message.inside.kind;
-      core = c.message.inside.core;
-      life = c.message.inside.life;
-      number = c.message.inside.number;
-      parts = c.message.inside.parts;
-    } in
+    let s : StateValue = the_view c.self.inside in
+    let m : MessageValue = the_message c.message.inside in
     let there : m.core.number < cores c.args.self.now.board =
     subst (λ (n : MessageValue). n.core.number < cores c.args.self.now.board)
     (sym c.message.view_is)

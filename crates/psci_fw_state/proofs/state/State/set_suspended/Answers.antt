@@ -1,25 +1,16 @@
-use Rattle.std.proofs.Common.{◌≡◌, ◌<◌, None, Some, length, sym, ap, refl, ◌∙◌, map}
+use Rattle.std.proofs.Common.{◌≡◌, ◌<◌, None, Some, length, sym, ap, refl, ◌∙◌}
 use Rattle.std.proofs.lemmas.List.{length-set}
 use Rattle.psci_tree.specs.Recount.{TreeValue}
 use Rattle.psci_fw_state.specs.Rows.{row_at}
 use Rattle.psci_fw_state.specs.Seen.{StateValue}
 use Rattle.psci_fw_state.proofs.Changed.{in_rows, row_set, same_set, within}
-use Rattle.psci_fw_state.proofs.Moved.{counts_stay, rows_set}
-use Rattle.psci_fw_state.proofs.Moved.{suspended_changed}
+use Rattle.psci_fw_state.proofs.Moved.{counts_stay, rows_set, suspended_changed}
+use Rattle.psci_fw_state.specs.contracts.state.State.{the_view}
 use Rattle.psci_fw_state.proofs.state.State.set_suspended.Goals as goal
 
 pub returns-then-deep-clause-after : goal.returns-then-deep-clause-after
 returns-then-deep-clause-after c =
-    let s : StateValue = record {
-      board = c.self.inside.board;
-      life = c.self.inside.life;
-      halting = c.self.inside.halting;
-      mode = c.self.inside.mode;
-      tree = c.self.inside.tree.value;
-      rows = c.self.inside.rows.items;
-      counts = map (λ v. v.items) c.self.inside.counts.items;
-      slots = c.self.inside.slots;
-    } in
+    let s : StateValue = the_view c.self.inside in
     let inside : c.args.core.number < length s.tree.cores =
     within _ _ _ c.self.view_is c.self.invariant c.requires.inside in
     let rows = rows_set c.self.inside.rows c.deref_mut-then-deep.result.now c.set_row.new.rows
@@ -43,16 +34,7 @@ returns-then-deep-clause-after c =
 
 pub returns-else-deep-clause-after : goal.returns-else-deep-clause-after
 returns-else-deep-clause-after c =
-    let s : StateValue = record {
-      board = c.self.inside.board;
-      life = c.self.inside.life;
-      halting = c.self.inside.halting;
-      mode = c.self.inside.mode;
-      tree = c.self.inside.tree.value;
-      rows = c.self.inside.rows.items;
-      counts = map (λ v. v.items) c.self.inside.counts.items;
-      slots = c.self.inside.slots;
-    } in
+    let s : StateValue = the_view c.self.inside in
     let inside : c.args.core.number < length s.tree.cores =
     within _ _ _ c.self.view_is c.self.invariant c.requires.inside in
     suspended_changed s _ c.set_ask.new.self s.rows c.args.core.number c.args.ask c.args.opening
@@ -68,16 +50,7 @@ returns-else-deep-clause-after c =
 
 pub invariant_of-self : goal.invariant_of-self
 invariant_of-self c =
-    let s : StateValue = record {
-      board = c.self.inside.board;
-      life = c.self.inside.life;
-      halting = c.self.inside.halting;
-      mode = c.self.inside.mode;
-      tree = c.self.inside.tree.value;
-      rows = c.self.inside.rows.items;
-      counts = map (λ v. v.items) c.self.inside.counts.items;
-      slots = c.self.inside.slots;
-    } in
+    let s : StateValue = the_view c.self.inside in
     let rows = rows_set c.self.inside.rows c.deref_mut-then-deep.result.now c.set_row.new.rows
     c.args.core.number (record {
       status = c.row_of.result.status;

@@ -1,19 +1,17 @@
-use Rattle.std.proofs.Common.{◌≡◌, ◌-◌, ℕ, List, arith, rules, length, ap, get_or, ◌∙◌}
+use Rattle.std.proofs.Common.{◌≡◌, ◌-◌, ℕ, arith, rules, length, ap, get_or, ◌∙◌}
 use Rattle.std.proofs.Common.{subst, sym, [], ◌∷◌}
 use Rattle.std.proofs.Math.ListN.{set}
-use Rattle.std.proofs.lemmas.List.{get_or_default}
-use Rattle.std.specs.Vec.{with_item}
 use Rattle.psci_state.specs.declared.cores.CoreState.{CoreState}
-use Rattle.psci_tree.specs.Domains.{leaves, cores_in, branches, child_counts, IsWay, index_by}
+use Rattle.psci_tree.specs.Domains.{leaves, cores_in, branches, IsWay, index_by}
 use Rattle.psci_tree.specs.Kept.{AreKept, Keeps}
 use Rattle.psci_tree.specs.declared.domain.Domain.{Domain}
-use Rattle.psci_tree.specs.declared.domain.Domain.TheOpen.{Domain-F}
 use Rattle.psci_tree.specs.declared.domain.Domain.TheViews.{out-Domain, the_lemmas}
-use Rattle.psci_tree.proofs.Below.{children_roll, cores_of_core, cores_roll_core, widths_with_child}
-use Rattle.psci_tree.proofs.Exchanged.{Above, Through, child_descent, child_kept}
-use Rattle.psci_tree.proofs.Exchanged.{children_new, cores_put, down, few_new, kept_put}
+use Rattle.psci_tree.proofs.Below.{children_roll, cores_of_core, cores_roll_core}
+use Rattle.psci_tree.proofs.Exchanged.{Through, above_of, child_descent, child_kept, is_child}
+use Rattle.psci_tree.proofs.Exchanged.{children_new, cores_put, few_new, kept_put, shape_put}
 use Rattle.psci_tree.proofs.Keeping.{kept_roll_core}
 use Rattle.psci_tree.proofs.domain.Domain.+change_looking.Goals as goal
+use Rattle.psci_tree.proofs.domain.Domain.+change_looking.Goals.{After-change_looking, After-deref}
 
 pub returns-then-level-eq0-clause-kept : goal.returns-then-level-eq0-clause-kept
 returns-then-level-eq0-clause-kept t c =
@@ -45,162 +43,56 @@ returns-then-level-eq0-clause-cores t c =
 
 pub change_looking-requires : goal.change_looking-requires
 change_looking-requires t c =
-    let own : Domain = c.args.self.now in
-    let l : ℕ = c.args.level in
-    let way : List ℕ = c.args.way.now in
-    let s : CoreState = c.args.state.now in
-    let n : Domain = c.index_mut.result.now in
-    let above : Above own l way = record {
-      some = omega (arith, c.if-level-eq0.false);
-      descent = c.requires.descent;
-      kept = c.requires.kept;
-    } in
-    let i : ℕ = get_or way (l - 1) 0 in
-    let at : n ≡ get_or (branches own) i n = c.index_mut.ensures.value in
-    let is : get_or (branches own) i own ≡ n =
-    sym (at ∙ get_or_default (branches own) i n own (down own l way above).inside) in (
-      search (rules, the_lemmas),
-      (child_descent own n l way above is, child_kept own n l way above is),
-    )
+    let above = above_of c.if-level-eq0.false c.requires.descent c.requires.kept in
+    let child = is_child above c.index_mut.ensures.value in
+    (search (rules, the_lemmas), (child_descent above child, child_kept above child))
+
+-- the child that the way leads through was changed
+through : (t : ℕ) (c : After-change_looking t)
+    → Through c.args.self.now c.index_mut.result.now c.change_looking.new.self c.args.level
+    c.args.way.now c.args.state.now
+through t c =
+    let above = above_of c.if-level-eq0.false c.requires.descent c.requires.kept in record {
+      above = above;
+      is = is_child above c.index_mut.ensures.value;
+      cores = c.change_looking.ensures.cores;
+      shape = c.change_looking.ensures.shape;
+      kept = c.change_looking.ensures.kept;
+    }
+
+-- the children then
+children : (t : ℕ) (c : After-deref t) → c.deref.result.now ≡ set (branches c.args.self.now)
+    (get_or c.args.way.now (c.args.level - 1) 0) c.change_looking.new.self
+children t c = c.deref.ensures.value ∙ children_roll _
 
 pub kept_of-self-requires-clause-kept : goal.kept_of-self-requires-clause-kept
-kept_of-self-requires-clause-kept t c =
-    let own : Domain = c.args.self.now in
-    let l : ℕ = c.args.level in
-    let way : List ℕ = c.args.way.now in
-    let s : CoreState = c.args.state.now in
-    let n : Domain = c.index_mut.result.now in
-    let above : Above own l way = record {
-      some = omega (arith, c.if-level-eq0.false);
-      descent = c.requires.descent;
-      kept = c.requires.kept;
-    } in
-    let i : ℕ = get_or way (l - 1) 0 in
-    let at : n ≡ get_or (branches own) i n = c.index_mut.ensures.value in
-    let is : get_or (branches own) i own ≡ n =
-    sym (at ∙ get_or_default (branches own) i n own (down own l way above).inside) in
-    let m : Domain = c.change_looking.new.self in
-    let through : Through own n m l way s = record {
-      is = is;
-      cores = c.change_looking.ensures.cores;
-      kept = c.change_looking.ensures.kept;
-    } in
-    let half : Domain-F Domain = record {
-      children = with_item (out-Domain own).children i m;
-      core = (out-Domain own).core;
-      kept = (out-Domain own).kept;
-    } in
-    subst AreKept (sym (c.deref.ensures.value ∙ children_roll half))
-    (children_new own n m l way s above through)
+kept_of-self-requires-clause-kept t c = subst AreKept (sym (children t c))
+    (children_new (through t (goal.at.kept_of-self-requires-clause-kept t c).After-change_looking))
 
 pub kept_of-self-requires-clause-few : goal.kept_of-self-requires-clause-few
-kept_of-self-requires-clause-few t c =
-    let own : Domain = c.args.self.now in
-    let l : ℕ = c.args.level in
-    let way : List ℕ = c.args.way.now in
-    let s : CoreState = c.args.state.now in
-    let n : Domain = c.index_mut.result.now in
-    let above : Above own l way = record {
-      some = omega (arith, c.if-level-eq0.false);
-      descent = c.requires.descent;
-      kept = c.requires.kept;
-    } in
-    let i : ℕ = get_or way (l - 1) 0 in
-    let at : n ≡ get_or (branches own) i n = c.index_mut.ensures.value in
-    let is : get_or (branches own) i own ≡ n =
-    sym (at ∙ get_or_default (branches own) i n own (down own l way above).inside) in
-    let m : Domain = c.change_looking.new.self in
-    let through : Through own n m l way s = record {
-      is = is;
-      cores = c.change_looking.ensures.cores;
-      kept = c.change_looking.ensures.kept;
-    } in
-    let half : Domain-F Domain = record {
-      children = with_item (out-Domain own).children i m;
-      core = (out-Domain own).core;
-      kept = (out-Domain own).kept;
-    } in
-    omega (
-      arith,
-      ap (λ ns. length (cores_in ns)) (c.deref.ensures.value ∙ children_roll half),
-      few_new own n m l way s above through,
-      c.requires.descent.few,
-    )
+kept_of-self-requires-clause-few t c = omega (
+  arith,
+  ap (λ ns. length (cores_in ns)) (children t c),
+  few_new (through t (goal.at.kept_of-self-requires-clause-few t c).After-change_looking),
+  c.requires.descent.few,
+)
 
 pub returns-clause-cores : goal.returns-clause-cores
 returns-clause-cores t c =
-    let own : Domain = c.args.self.now in
-    let l : ℕ = c.args.level in
-    let way : List ℕ = c.args.way.now in
-    let s : CoreState = c.args.state.now in
-    let n : Domain = c.index_mut.result.now in
-    let above : Above own l way = record {
-      some = omega (arith, c.if-level-eq0.false);
-      descent = c.requires.descent;
-      kept = c.requires.kept;
-    } in
-    let i : ℕ = get_or way (l - 1) 0 in
-    let at : n ≡ get_or (branches own) i n = c.index_mut.ensures.value in
-    let is : get_or (branches own) i own ≡ n =
-    sym (at ∙ get_or_default (branches own) i n own (down own l way above).inside) in
-    let m : Domain = c.change_looking.new.self in
-    let through : Through own n m l way s = record {
-      is = is;
-      cores = c.change_looking.ensures.cores;
-      kept = c.change_looking.ensures.kept;
-    } in
-    let here = cores_put own n m l way s c.kept_of-self.result above through in
+    let here = cores_put c.kept_of-self.result
+    (through t (goal.at.returns-clause-cores t c).After-change_looking) in
     simp the_lemmas (simp the_lemmas at here)
 
 pub returns-clause-shape : goal.returns-clause-shape
 returns-clause-shape t c = λ k.
-    let own : Domain = c.args.self.now in
-    let l : ℕ = c.args.level in
-    let way : List ℕ = c.args.way.now in
-    let s : CoreState = c.args.state.now in
-    let n : Domain = c.index_mut.result.now in
-    let above : Above own l way = record {
-      some = omega (arith, c.if-level-eq0.false);
-      descent = c.requires.descent;
-      kept = c.requires.kept;
-    } in
-    let i : ℕ = get_or way (l - 1) 0 in
-    let at : n ≡ get_or (branches own) i n = c.index_mut.ensures.value in
-    let is : get_or (branches own) i own ≡ n =
-    sym (at ∙ get_or_default (branches own) i n own (down own l way above).inside) in
-    let here = widths_with_child own i c.change_looking.new.self c.kept_of-self.result
-    (λ j. c.change_looking.ensures.shape j ∙ ap (child_counts j) (sym is)) k in
+    let here = shape_put c.kept_of-self.result
+    (through t (goal.at.returns-clause-shape t c).After-change_looking) k in
     simp the_lemmas (simp the_lemmas at here)
 
 pub returns-clause-kept : goal.returns-clause-kept
 returns-clause-kept t c =
-    let own : Domain = c.args.self.now in
-    let l : ℕ = c.args.level in
-    let way : List ℕ = c.args.way.now in
-    let s : CoreState = c.args.state.now in
-    let n : Domain = c.index_mut.result.now in
-    let above : Above own l way = record {
-      some = omega (arith, c.if-level-eq0.false);
-      descent = c.requires.descent;
-      kept = c.requires.kept;
-    } in
-    let i : ℕ = get_or way (l - 1) 0 in
-    let at : n ≡ get_or (branches own) i n = c.index_mut.ensures.value in
-    let is : get_or (branches own) i own ≡ n =
-    sym (at ∙ get_or_default (branches own) i n own (down own l way above).inside) in
-    let m : Domain = c.change_looking.new.self in
-    let through : Through own n m l way s = record {
-      is = is;
-      cores = c.change_looking.ensures.cores;
-      kept = c.change_looking.ensures.kept;
-    } in
-    let half : Domain-F Domain = record {
-      children = with_item (out-Domain own).children i m;
-      core = (out-Domain own).core;
-      kept = (out-Domain own).kept;
-    } in
-    let keeps : Keeps c.kept_of-self.result (cores_in (set (branches own) i m)) =
-    subst (λ ns. Keeps c.kept_of-self.result (cores_in ns))
-    (c.deref.ensures.value ∙ children_roll half) c.kept_of-self.ensures in
-    let here = kept_put own n m l way s c.kept_of-self.result above through keeps in
+    let at = goal.at.returns-clause-kept t c in
+    let here = kept_put c.kept_of-self.result (through t at.After-change_looking)
+    (subst (λ ns. Keeps c.kept_of-self.result (cores_in ns)) (children t at.After-deref)
+    c.kept_of-self.ensures) in
     simp the_lemmas (simp the_lemmas at here)

@@ -1,6 +1,5 @@
 use Rattle.std.proofs.Common.{◌≡◌, ◌≢◌, ◌<◌, ◌≤◌, ◌+◌, ◌∙◌, ◌==◌, ℕ, zero, suc, Bool, true, false}
-use Rattle.std.proofs.Common.{List}
-use Rattle.std.proofs.Common.{length, get_or, replicate, arith, rules, ap, sym, subst}
+use Rattle.std.proofs.Common.{List, length, get_or, replicate, arith, rules, ap, sym, subst}
 use Rattle.std.proofs.Common.{get_or-set_other}
 use Rattle.std.proofs.lemmas.Bool.{eqb-true}
 use Rattle.std.proofs.Math.ListN.{set, length-set}
@@ -18,6 +17,7 @@ use Rattle.psci_tree.proofs.Keeping.{kept_roll, kept_roll_core}
 use Rattle.psci_tree.proofs.OffOnes.{AreOffTo, IsOffOne, off_cores, off_kept, off_length, off_more}
 use Rattle.psci_tree.proofs.OffOnes.{never_keeps, off_next, off_widths}
 use Rattle.psci_tree.proofs.domain.Domain.+turn_off.Goals as goal
+use Rattle.psci_tree.proofs.domain.Domain.+turn_off.Goals.{After-index_mut, After-loop-number}
 
 -- what is not empty has children, and what is empty has none
 some_of_test : (n : ℕ) (b : Bool) → b ≡ (n == 0) → b ≡ false → 0 < n
@@ -54,26 +54,30 @@ at_child ns ms i child own h e a = record {
   is = e ∙ get_or_default ms i child own h ∙ off_next i ns ms own a;
 }
 
-pub turn_off-requires : goal.turn_off-requires
-turn_off-requires t c =
+at_number : (t : ℕ) (c : After-index_mut t) → At (branches c.args.self.now)
+    (branches c.loop-number.self) c.loop-number.number c.index_mut.result.now c.args.self.now
+at_number t c =
     let own : Domain = c.args.self.now in
-    let ns : List Domain = branches own in
     let ms : List Domain = branches c.loop-number.self in
-    let i : ℕ = c.loop-number.number in
-    let at : At ns ms i c.index_mut.result.now own = at_child ns ms i c.index_mut.result.now own
+    at_child (branches own) ms c.loop-number.number c.index_mut.result.now own
     (omega (
       arith,
       c.loop-number-test.true,
       c.len-number-end.ensures,
-      off_length i ns ms c.loop-number.invariant.done,
+      off_length c.loop-number.number (branches own) ms c.loop-number.invariant.done,
       (out-Domain own).children.ok.0,
-    )) c.index_mut.ensures.value c.loop-number.invariant.done in (
+    )) c.index_mut.ensures.value c.loop-number.invariant.done
+
+pub turn_off-requires : goal.turn_off-requires
+turn_off-requires t c =
+    let own : Domain = c.args.self.now in
+    let at = at_number t (goal.at.turn_off-requires t c).After-index_mut in (
       search (rules, the_lemmas),
       omega (
         arith,
         c.requires.few,
         ap (λ x. length (leaves x)) at.is,
-        cores_le ns i own at.inside,
+        cores_le (branches own) c.loop-number.number own at.inside,
         length_of_domain own (omega (arith, at.inside)),
       ),
     )
@@ -85,16 +89,7 @@ loop-number-preserved t c =
     let ms : List Domain = branches c.loop-number.self in
     let i : ℕ = c.loop-number.number in
     let new : Domain = c.turn_off.new.self in
-    let fits : i < length ms = omega (
-      arith,
-      c.loop-number-test.true,
-      c.len-number-end.ensures,
-      off_length i ns ms c.loop-number.invariant.done,
-      (out-Domain own).children.ok.0,
-    ) in
-    let at : At ns ms i c.index_mut.result.now own =
-    at_child ns ms i c.index_mut.result.now own fits c.index_mut.ensures.value
-    c.loop-number.invariant.done in
+    let at = at_number t (goal.at.loop-number-preserved t c).After-index_mut in
     let one : IsOffOne (get_or ns i own) new = record {
       cores = c.turn_off.ensures.cores
           ∙ ap (λ x. replicate (length (leaves x)) never_started) at.is;
@@ -121,103 +116,87 @@ loop-number-preserved t c =
       done = subst (AreOffTo (i + 1) ns) (sym (children_roll half)) more;
     }
 
+-- after the loop, all children were turned off
+abbrev now : (t : ℕ) (c : After-loop-number t) → List Domain
+now t c = branches c.loop-number.self
+
+all : (t : ℕ) (c : After-loop-number t) → length (branches c.args.self.now) ≤ c.loop-number.number
+all t c = omega (
+  arith,
+  c.loop-number-test.false,
+  c.len-number-end.ensures,
+  (out-Domain c.args.self.now).children.ok.0,
+)
+
+some : (t : ℕ) (c : After-loop-number t) → 0 < length (branches c.args.self.now)
+some t c = omega (
+  arith,
+  some_of_test _ _ c.is_empty.ensures c.if-is_empty.false,
+  (out-Domain c.args.self.now).children.ok.0,
+)
+
+cores_off : (t : ℕ) (c : After-loop-number t)
+    → cores_in (now t c) ≡ replicate (length (cores_in (branches c.args.self.now))) never_started
+cores_off t c = off_cores c.loop-number.number (branches c.args.self.now) (now t c) (all t c)
+    c.loop-number.invariant.done
+
+kept_off : (t : ℕ) (c : After-loop-number t) → AreKept (now t c)
+kept_off t c = off_kept c.loop-number.number (branches c.args.self.now) (now t c) (all t c)
+    c.loop-number.invariant.done
+
+still_some : (t : ℕ) (c : After-loop-number t) → 0 < length (now t c)
+still_some t c = omega (
+  arith,
+  some t c,
+  off_length c.loop-number.number (branches c.args.self.now) (now t c)
+      c.loop-number.invariant.done,
+)
+
 pub off_below-requires-clause-kept : goal.off_below-requires-clause-kept
 off_below-requires-clause-kept t c =
-    let own : Domain = c.args.self.now in
-    subst AreKept (sym c.deref.ensures.value) (off_kept c.loop-number.number (branches own)
-    (branches c.loop-number.self) (omega (
-      arith,
-      c.loop-number-test.false,
-      c.len-number-end.ensures,
-      (out-Domain own).children.ok.0,
-    )) c.loop-number.invariant.done)
+    let at = (goal.at.off_below-requires-clause-kept t c).After-loop-number in
+    subst AreKept (sym c.deref.ensures.value) (kept_off t at)
 
 pub off_below-requires-clause-few : goal.off_below-requires-clause-few
 off_below-requires-clause-few t c =
-    let own : Domain = c.args.self.now in
-    let ms : List Domain = branches c.loop-number.self in
-    let all : length (branches own) ≤ c.loop-number.number = omega (
-      arith,
-      c.loop-number-test.false,
-      c.len-number-end.ensures,
-      (out-Domain own).children.ok.0,
-    ) in
+    let at = (goal.at.off_below-requires-clause-few t c).After-loop-number in
     omega (
       arith,
       c.requires.few,
       ap (λ ns. length (cores_in ns)) c.deref.ensures.value,
-      ap length (off_cores c.loop-number.number (branches own) ms all c.loop-number.invariant.done),
-      length-replicate (length (cores_in (branches own))) never_started,
-      length_of_domain own (omega (
-        arith,
-        some_of_test _ _ c.is_empty.ensures c.if-is_empty.false,
-        (out-Domain own).children.ok.0,
-      )),
+      ap length (cores_off t at),
+      length-replicate (length (cores_in (branches c.args.self.now))) never_started,
+      length_of_domain c.args.self.now (some t at),
     )
 
 pub returns-clause-cores : goal.returns-clause-cores
 returns-clause-cores t c =
-    let own : Domain = c.args.self.now in
-    let now : Domain = c.loop-number.self in
-    let i : ℕ = c.loop-number.number in
-    let some : 0 < length (branches own) = omega (
-      arith,
-      some_of_test _ _ c.is_empty.ensures c.if-is_empty.false,
-      (out-Domain own).children.ok.0,
-    ) in
-    let all : length (branches own) ≤ i = omega (
-      arith,
-      c.loop-number-test.false,
-      c.len-number-end.ensures,
-      (out-Domain own).children.ok.0,
-    ) in
+    let at = (goal.at.returns-clause-cores t c).After-loop-number in
     cores_roll (record {
-      children = (out-Domain now).children;
-      core = (out-Domain now).core;
+      children = (out-Domain c.loop-number.self).children;
+      core = (out-Domain c.loop-number.self).core;
       kept = c.never_started-self-2.result;
-    })
-    (omega (arith, some, off_length i (branches own) (branches now) c.loop-number.invariant.done))
-    ∙ off_cores i (branches own) (branches now) all c.loop-number.invariant.done
-    ∙ ap (λ n. replicate n never_started) (sym (length_of_domain own some))
+    }) (still_some t at)
+    ∙ cores_off t at
+    ∙ ap (λ n. replicate n never_started) (sym (length_of_domain c.args.self.now (some t at)))
 
 pub returns-clause-shape : goal.returns-clause-shape
 returns-clause-shape t c =
-    let own : Domain = c.args.self.now in
-    let now : Domain = c.loop-number.self in
-    off_widths own (record {
-      children = (out-Domain now).children;
-      core = (out-Domain now).core;
+    off_widths c.args.self.now (record {
+      children = (out-Domain c.loop-number.self).children;
+      core = (out-Domain c.loop-number.self).core;
       kept = c.never_started-self-2.result;
-    }) c.loop-number.number (omega (
-      arith,
-      c.loop-number-test.false,
-      c.len-number-end.ensures,
-      (out-Domain own).children.ok.0,
-    )) c.loop-number.invariant.done
+    }) c.loop-number.number (all t (goal.at.returns-clause-shape t c).After-loop-number)
+    c.loop-number.invariant.done
 
 pub returns-clause-kept : goal.returns-clause-kept
 returns-clause-kept t c =
-    let own : Domain = c.args.self.now in
-    let now : Domain = c.loop-number.self in
-    let i : ℕ = c.loop-number.number in
-    let all : length (branches own) ≤ i = omega (
-      arith,
-      c.loop-number-test.false,
-      c.len-number-end.ensures,
-      (out-Domain own).children.ok.0,
-    ) in
+    let at = (goal.at.returns-clause-kept t c).After-loop-number in
     kept_roll (record {
-      children = (out-Domain now).children;
-      core = (out-Domain now).core;
+      children = (out-Domain c.loop-number.self).children;
+      core = (out-Domain c.loop-number.self).core;
       kept = c.never_started-self-2.result;
-    }) (omega (
-      arith,
-      some_of_test _ _ c.is_empty.ensures c.if-is_empty.false,
-      (out-Domain own).children.ok.0,
-      off_length i (branches own) (branches now) c.loop-number.invariant.done,
-    )) (never_keeps c.never_started-self-2.result (branches now) c.off_below.result
-    (length (cores_in (branches own)))
-    (off_cores i (branches own) (branches now) all c.loop-number.invariant.done)
+    }) (still_some t at) (never_keeps c.never_started-self-2.result (now t at) c.off_below.result
+    (length (cores_in (branches c.args.self.now))) (cores_off t at)
     (c.off_below.ensures ∙ ap (λ ns. count_by (λ s. is_away s.activity) (cores_in ns))
-    c.deref.ensures.value) c.never_started-self-2.ensures)
-    (off_kept i (branches own) (branches now) all c.loop-number.invariant.done)
+    c.deref.ensures.value) c.never_started-self-2.ensures) (kept_off t at)

@@ -1,134 +1,46 @@
-use Rattle.std.proofs.Common.{◌≡◌, ◌∙◌, arith, ap, sym, subst, map, length, get_or, ℕ, List, []}
-use Rattle.std.proofs.Common.{cond, ◌==◌}
-use Rattle.std.proofs.Math.ListN.{set}
-use Rattle.std.specs.Vec.{with_items}
-use Rattle.std.proofs.lemmas.List.{length-map, with_items_is}
-use Rattle.psci_board.specs.Board.{HasNodeIn}
+use Rattle.std.proofs.Common.{◌∙◌, arith, ap, cond, ◌==◌, refl, ℕ}
 use Rattle.psci_board.specs.declared.node.Node.{Node}
 use Rattle.psci_tree.specs.declared.depths.Depths.{Depths}
-use Rattle.psci_tree.specs.DepthRows.{granted_of, confirmed_of}
-use Rattle.psci_tree.specs.Recount.{TreeValue, IsDomainTree, granted_at, confirmed_at}
-use Rattle.psci_tree.specs.Changes.{with_grant, depth_set, still_confirmed}
-use Rattle.psci_tree.specs.Domains.{leaves}
-use Rattle.psci_tree.specs.Inside.{IsTied, IsHeld}
-use Rattle.psci_state.specs.declared.cores.CoreState.{CoreState}
-use Rattle.psci_tree.proofs.DepthRows.{DepthRow, depth_row, ReadAt, read_at, depths_written}
+use Rattle.psci_tree.specs.Recount.{TreeValue, granted_at}
+use Rattle.psci_tree.specs.Changes.{with_grant}
+use Rattle.psci_tree.proofs.Seen.{depths_seen, depths_with, held_seen, held_with, place_seen}
 use Rattle.psci_tree.proofs.Valid.{grant_valid}
 use Rattle.psci_tree.proofs.tree.Tree.grant.Goals as goal
 
 pub depths_at-requires : goal.depths_at-requires
 depths_at-requires c =
-    let rows : List (List Depths) = map (λ v. v.items) c.self.inside.depths.items in
-    let at : DepthRow rows c.args.node = depth_row c.self.inside.board.levels rows c.args.node
-    c.self.invariant.tied.valid.granted
-    (subst (λ (t : TreeValue). HasNodeIn t.levels c.args.node) (sym c.self.view_is)
-    c.requires.domain) in
-    let same : map (λ v. v.items) c.deref.result.now ≡ rows =
-    ap (map (λ v. v.items)) c.deref.ensures.value in
-    record {
-      level = omega (
-        arith,
-        at.level,
-        ap length same,
-        length-map c.deref.result.now (λ v. v.items),
-      );
-      place = omega (arith, at.place, ap (λ rs. length (get_or rs c.args.node.level [])) same);
-    }
+    place_seen c.self.inside _ _ c.self.invariant c.self.view_is c.requires.domain
+    c.deref.ensures.value
 
 pub write-requires : goal.write-requires
 write-requires c =
-    let rows : List (List Depths) = map (λ v. v.items) c.self.inside.depths.items in
-    let at : DepthRow rows c.args.node = depth_row c.self.inside.board.levels rows c.args.node
-    c.self.invariant.tied.valid.granted
-    (subst (λ (t : TreeValue). HasNodeIn t.levels c.args.node) (sym c.self.view_is)
-    c.requires.domain) in
-    let same : map (λ v. v.items) c.deref_mut.result.now ≡ rows =
-    ap (map (λ v. v.items)) c.deref_mut.ensures.value in
-    record {
-      level = omega (
-        arith,
-        at.level,
-        ap length same,
-        length-map c.deref_mut.result.now (λ v. v.items),
-      );
-      place = omega (arith, at.place, ap (λ rs. length (get_or rs c.args.node.level [])) same);
-    }
+    place_seen c.self.inside _ _ c.self.invariant c.self.view_is c.requires.domain
+    c.deref_mut.ensures.value
 
 pub returns-clause-value : goal.returns-clause-value
 unfolding with_grant
 returns-clause-value c =
     let n : Node = c.args.node in
     let t : TreeValue = c.args.self.now in
-    let d : Depths = c.grant-depths.result in
-    let rows : List (List Depths) = map (λ v. v.items) c.self.inside.depths.items in
-    let at : DepthRow rows c.args.node = depth_row c.self.inside.board.levels rows c.args.node
-    c.self.invariant.tied.valid.granted
-    (subst (λ (t : TreeValue). HasNodeIn t.levels c.args.node) (sym c.self.view_is)
-    c.requires.domain) in
-    let same : map (λ v. v.items) c.deref.result.now ≡ rows =
-    ap (map (λ v. v.items)) c.deref.ensures.value in
-    let read : ReadAt rows c.args.node c.depths_at.result =
-    read_at rows _ c.args.node c.depths_at.result at same c.depths_at.ensures in
-    let kept = with_items_is c.self.inside.depths c.write.new.rows
-    (omega (arith, c.write.auto.rows, c.deref_mut.ensures.len)) in
-    let now : List (List Depths) =
-    map (λ v. v.items) (with_items c.self.inside.depths c.write.new.rows).items in
-    let written : now ≡ set rows n.level (set (get_or rows n.level []) n.place d) =
-    ap (map (λ v. v.items)) kept ∙ c.write.ensures
-    ∙ ap (λ vs. set (map (λ v. v.items) vs) n.level (set (get_or (map (λ v. v.items) vs) n.level [])
-    n.place d)) c.deref_mut.ensures.value in
-    let change : List (List ℕ) → List (List ℕ) → TreeValue =
-    λ gs fs. record {
-      levels = c.self.inside.board.levels;
-      cores = leaves c.self.inside.root;
-      granted = gs;
-      confirmed = fs;
-    } in
     let depth : ℕ = c.args.depth in
-    let held : ReadAt rows n c.depths_at.result = read in
-    let still : d.confirmed ≡ still_confirmed t n depth =
-    ap (λ (x : Depths). x.confirmed) c.grant-depths.ensures
-    ∙ ap (λ x. cond (x == depth) c.depths_at.result.confirmed 0)
-    (held.granted ∙ ap (λ (u : TreeValue). granted_at u n.level n.place) c.self.view_is)
-    ∙ ap (λ y. cond (granted_at t n.level n.place == depth) y 0)
-    (held.confirmed ∙ ap (λ (u : TreeValue). confirmed_at u n.level n.place) c.self.view_is) in
-    let granted : granted_of now ≡ depth_set (granted_of rows) n depth =
-    ap granted_of written ∙ depths_written (λ x. x.granted) rows n.level n.place d
-    ∙ ap (depth_set (granted_of rows) n) (ap (λ (x : Depths). x.granted) c.grant-depths.ensures) in
-    let confirmed : confirmed_of now
-    ≡ depth_set (confirmed_of rows) n (still_confirmed t n depth) =
-    ap confirmed_of written ∙ depths_written (λ x. x.confirmed) rows n.level n.place d
-    ∙ ap (depth_set (confirmed_of rows) n) still in
-    ap (λ gs. change gs (confirmed_of now)) granted
-    ∙ ap (change (depth_set (granted_of rows) n depth)) confirmed
-    ∙ ap (λ (u : TreeValue). record u {
-      granted = depth_set u.granted n depth;
-      confirmed = depth_set u.confirmed n (still_confirmed t n depth);
-    }) c.self.view_is
-
-pub returns-clause-tree : goal.returns-clause-tree
-returns-clause-tree c =
-    let tied : IsTied c.self.inside.root c.args.self.now =
-    subst (IsTied c.self.inside.root) c.self.view_is c.self.invariant.tied in
-    subst IsDomainTree (sym (returns-clause-value c)) (grant_valid c.args.self.now c.args.node
-    c.args.depth tied.valid c.requires.domain c.requires.depth)
+    let now = depths_seen c.self.inside _ _ c.self.invariant c.self.view_is c.requires.domain
+    c.deref.ensures.value c.depths_at.ensures in
+    let new = c.grant-depths.ensures in
+    depths_with c.self.inside t n c.write.new.rows c.grant-depths.result c.self.view_is
+    (omega (arith, c.write.auto.rows, c.deref_mut.ensures.len)) c.deref_mut.ensures.value
+    c.write.ensures (ap (λ (d : Depths). d.granted) new)
+    (ap (λ (d : Depths). d.confirmed) new
+    ∙ ap (λ x. cond (x == depth) c.depths_at.result.confirmed 0) now.granted
+    ∙ ap (λ y. cond (granted_at t n.level n.place == depth) y 0) now.confirmed)
 
 pub invariant_of-self : goal.invariant_of-self
 unfolding with_grant
 invariant_of-self c =
-    let row : List CoreState = c.self.inside.cores.items in
-    let held : IsHeld c.self.inside.root row c.self.inside.ways.items c.args.self.now =
-    subst (IsHeld c.self.inside.root row c.self.inside.ways.items) c.self.view_is
-    c.self.invariant in
-    let tied : IsTied c.self.inside.root c.args.self.now = held.tied in
-    subst (IsHeld c.self.inside.root row c.self.inside.ways.items) (sym (returns-clause-value c))
-    (record {
-      tied = record {
-        whole = tied.whole;
-        kept = tied.kept;
-        valid = grant_valid c.args.self.now c.args.node c.args.depth tied.valid c.requires.domain
-            c.requires.depth;
-      };
-      row = held.row;
-      lead = held.lead;
-    })
+    held_with c.self.inside c.args.self.now _ _ c.self.invariant c.self.view_is
+    (returns-clause-value c) refl refl
+    (grant_valid c.args.self.now c.args.node c.args.depth
+    (held_seen c.self.inside _ c.self.invariant c.self.view_is).tied.valid c.requires.domain
+    c.requires.depth)
+
+pub returns-clause-tree : goal.returns-clause-tree
+returns-clause-tree c = (invariant_of-self c).tied.valid

@@ -1,40 +1,30 @@
-use Rattle.std.proofs.Common.{◌<◌, sym, subst, ap, ◌∙◌}
+use Rattle.std.proofs.Common.{sym, subst, ap, ◌∙◌}
 use Rattle.std.specs.Prelude.{unwrap_or}
-use Rattle.psci_board.specs.Board.{size_below}
 use Rattle.psci_tree.specs.Changes.{with_core_state}
 use Rattle.psci_tree.specs.Recount.{TreeValue, IsActivity, known_at}
-use Rattle.psci_tree.specs.Way.{IsWayOf}
 use Rattle.psci_tree.specs.contracts.tree.Tree.{the_view}
 use Rattle.psci_tree.proofs.Held.{held_core, core_value, state_held}
 use Rattle.psci_tree.proofs.tree.Tree.set_core.Goals as goal
+use Rattle.psci_tree.proofs.Seen.{core_seen, way_seen}
 
 pub change_core-requires-clause-lead : goal.change_core-requires-clause-lead
-change_core-requires-clause-lead c =
-    let core : c.args.core.number < size_below c.self.inside.board.levels =
-    subst (λ (t : TreeValue). c.args.core.number < size_below t.levels) (sym c.self.view_is)
-    c.requires.core in record {
-      tree = c.self.invariant.tied.valid.tree;
-      whole = c.self.invariant.tied.whole;
-      core = core;
-      way = subst (IsWayOf c.self.inside.board.levels c.args.core.number) (sym c.index-2.ensures)
-          (c.self.invariant.lead.each c.args.core.number c.index-2.result.now core);
-      kept = c.self.invariant.tied.kept;
-    }
+change_core-requires-clause-lead c = record {
+  tree = c.self.invariant.tied.valid.tree;
+  whole = c.self.invariant.tied.whole;
+  core = core_seen c.self.inside _ c.self.view_is c.requires.core;
+  way = way_seen c.self.inside _ c.self.invariant c.self.view_is c.requires.core c.index-2.ensures;
+  kept = c.self.invariant.tied.kept;
+}
 
 pub change_core-requires-clause-before : goal.change_core-requires-clause-before
-change_core-requires-clause-before c =
-    λ y. state_held c.self.inside.root _ _ (the_view c.self.inside) c.args.core.number _ y
-    c.self.invariant
-    (subst (λ (t : TreeValue). c.args.core.number < size_below t.levels) (sym c.self.view_is)
-    c.requires.core)
-    c.index.ensures
+change_core-requires-clause-before c = λ y.
+    state_held c.self.inside.root _ _ (the_view c.self.inside) c.args.core.number _ y
+    c.self.invariant (core_seen c.self.inside _ c.self.view_is c.requires.core) c.index.ensures
 
 pub invariant_of-self : goal.invariant_of-self
 invariant_of-self c =
     held_core c.self.inside.root _ _ _ (the_view c.self.inside) c.args.core.number _
-    c.self.invariant
-    (subst (λ (t : TreeValue). c.args.core.number < size_below t.levels) (sym c.self.view_is)
-    c.requires.core)
+    c.self.invariant (core_seen c.self.inside _ c.self.view_is c.requires.core)
     (subst IsActivity (sym (ap (λ s. s.activity) c.changed-state.ensures)) c.requires.activity)
     c.change_core.ensures.cores c.change_core.ensures.shape c.change_core.ensures.kept
 
@@ -42,9 +32,8 @@ pub returns-clause-value : goal.returns-clause-value
 returns-clause-value c =
     core_value c.self.inside.root _ _ (the_view c.self.inside) c.args.core.number _ _
     (record { activity = c.args.activity; started = c.args.started }) _ c.self.invariant
-    (subst (λ (t : TreeValue). c.args.core.number < size_below t.levels) (sym c.self.view_is)
-    c.requires.core)
-    c.index.ensures c.changed-state.ensures c.change_core.ensures.cores
+    (core_seen c.self.inside _ c.self.view_is c.requires.core) c.index.ensures
+    c.changed-state.ensures c.change_core.ensures.cores
     ∙ ap (λ (t : TreeValue). with_core_state t c.args.core.number c.args.activity
     (unwrap_or c.args.started (known_at t c.args.core.number))) c.self.view_is
 

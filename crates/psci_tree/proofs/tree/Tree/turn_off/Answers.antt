@@ -4,17 +4,18 @@ use Rattle.std.proofs.lemmas.List.{with_items_is}
 use Rattle.psci_board.specs.Board.{size_below}
 use Rattle.psci_state.specs.declared.cores.CoreState.{CoreState}
 use Rattle.psci_tree.specs.declared.domain.Domain.{Domain}
-use Rattle.psci_tree.specs.Recount.{TreeValue, IsDomainTree, never_started, level_sizes}
+use Rattle.psci_tree.specs.Recount.{TreeValue, never_started, level_sizes}
 use Rattle.psci_tree.specs.Changes.{all_off, rows_with_depth}
 use Rattle.psci_tree.specs.declared.depths.Depths.{Depths}
 use Rattle.psci_tree.specs.DepthRows.{granted_of, confirmed_of, filled}
 use Rattle.psci_tree.specs.Domains.{leaves}
-use Rattle.psci_tree.specs.Inside.{IsTied, IsHeld}
+use Rattle.psci_tree.specs.Inside.{IsHeld}
 use Rattle.psci_tree.specs.declared.way.Way.{Way}
 use Rattle.psci_tree.proofs.DepthRows.{depth_lengths, filled_depths}
 use Rattle.psci_tree.proofs.Valid.{all_off_valid}
 use Rattle.psci_tree.proofs.Slices.{whole_kept}
 use Rattle.psci_tree.proofs.tree.Tree.turn_off.Goals as goal
+use Rattle.psci_tree.proofs.Seen.{held_seen}
 
 pub returns-clause-value : goal.returns-clause-value
 returns-clause-value c =
@@ -42,24 +43,15 @@ returns-clause-value c =
     ap granted_of rows ∙ filled_depths (λ d. d.granted) sizes deepest in
     let confirmed : confirmed_of now ≡ full =
     ap confirmed_of rows ∙ filled_depths (λ d. d.confirmed) sizes deepest in
-    ap (λ gs. change (leaves c.turn_off.new.root) gs (confirmed_of now)) granted
-    ∙ ap (change (leaves c.turn_off.new.root) full) confirmed
-    ∙ ap (λ cs. change cs full full) states
-    ∙ ap (λ (t : TreeValue). all_off t.levels) c.self.view_is
-
-pub returns-clause-tree : goal.returns-clause-tree
-returns-clause-tree c =
-    let tied : IsTied c.self.inside.root c.args.self.now =
-    subst (IsTied c.self.inside.root) c.self.view_is c.self.invariant.tied in
-    subst IsDomainTree (sym (returns-clause-value c))
-    (all_off_valid c.args.self.now.levels tied.valid.tree tied.valid.high)
+    let off : change (leaves c.turn_off.new.root) (granted_of now) (confirmed_of now)
+    ≡ all_off levels = cc in
+    off ∙ ap (λ (t : TreeValue). all_off t.levels) c.self.view_is
 
 pub invariant_of-self : goal.invariant_of-self
 invariant_of-self c =
     let cores : List CoreState = c.self.inside.cores.items in
     let ways : List Way = c.self.inside.ways.items in
-    let held : IsHeld c.self.inside.root cores ways c.args.self.now =
-    subst (IsHeld c.self.inside.root cores ways) c.self.view_is c.self.invariant in
+    let held = held_seen c.self.inside _ c.self.invariant c.self.view_is in
     let root : Domain = c.turn_off.new.root in
     let levels : List (List ℕ) = c.args.self.now.levels in
     subst (IsHeld root c.fill.new.self.items ways) (sym (returns-clause-value c)) (record {
@@ -73,3 +65,6 @@ invariant_of-self c =
           ∙ ap length held.row ∙ held.tied.valid.cores);
       lead = held.lead;
     })
+
+pub returns-clause-tree : goal.returns-clause-tree
+returns-clause-tree c = (invariant_of-self c).tied.valid

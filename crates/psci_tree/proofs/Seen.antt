@@ -1,0 +1,141 @@
+-- The fields of a tree in memory, and the value that it is seen as.
+use Rattle.std.proofs.Common.{◌≡◌, ◌<◌, ◌≤◌, ◌∙◌, arith, ap, sym, subst, map, length, get_or, [], List, ℕ}
+use Rattle.std.proofs.Common.{Vec, Global}
+use Rattle.std.proofs.Math.ListN.{set}
+use Rattle.std.specs.Vec.{with_items}
+use Rattle.std.proofs.lemmas.List.{length-map, with_items_is}
+use Rattle.psci_board.specs.Board.{HasNodeIn, size_below, place_above}
+use Rattle.psci_board.specs.declared.node.Node.{Node}
+use Rattle.psci_tree.specs.declared.depths.Depths.{Depths}
+use Rattle.psci_tree.specs.declared.tree.Tree.TheInside.{Inside}
+use Rattle.psci_tree.specs.contracts.tree.Tree.{the_view, the_invariant}
+use Rattle.psci_tree.specs.DepthRows.{granted_of, confirmed_of}
+use Rattle.psci_tree.specs.Domains.{IsWhole}
+use Rattle.psci_tree.specs.Recount.{TreeValue, IsDomainTree, granted_at, confirmed_at}
+use Rattle.psci_tree.specs.Changes.{depth_set}
+use Rattle.psci_tree.specs.Inside.{IsHeld}
+use Rattle.psci_tree.specs.Way.{AreWays, IsWayOf}
+use Rattle.psci_tree.specs.declared.way.Way.{Way}
+use Rattle.psci_tree.proofs.DepthRows.{DepthRow, depth_row, ReadAt, read_at, depths_written}
+
+-- what holds of the fields, by the value
+pub held_seen : (x : Inside) (v : TreeValue) → the_invariant x → the_view x ≡ v
+    → IsHeld x.root x.cores.items x.ways.items v
+held_seen x v h is = subst (IsHeld x.root x.cores.items x.ways.items) is h
+
+-- the same after a change of the depths alone
+pub held_with : (x : Inside) (v u w : TreeValue) → the_invariant x → the_view x ≡ v → w ≡ u
+    → u.levels ≡ v.levels → u.cores ≡ v.cores → IsDomainTree u
+    → IsHeld x.root x.cores.items x.ways.items w
+held_with x v u w h is e l s valid =
+    let levels : x.board.levels ≡ u.levels = ap (λ (t : TreeValue). t.levels) is ∙ sym l in
+    subst (IsHeld x.root x.cores.items x.ways.items) (sym e) (record {
+      tied = record {
+        whole = subst (IsWhole x.root) levels h.tied.whole;
+        kept = h.tied.kept;
+        valid = valid;
+      };
+      row = h.row ∙ ap (λ (t : TreeValue). t.cores) is ∙ sym s;
+      lead = subst (λ ls. AreWays ls x.ways.items) levels h.lead;
+    })
+
+-- the core of the value is one of the board, and the way that is read leads to it
+pub core_seen : (x : Inside) (v : TreeValue) {core : ℕ} → the_view x ≡ v
+    → core < size_below v.levels → core < size_below x.board.levels
+core_seen x v {core = core} is = subst (λ (t : TreeValue). core < size_below t.levels) (sym is)
+
+pub way_seen : (x : Inside) (v : TreeValue) {core : ℕ} {way : Way} → the_invariant x
+    → the_view x ≡ v → core < size_below v.levels → way ≡ get_or x.ways.items core way
+    → IsWayOf x.board.levels core way
+way_seen x v {core = core} {way = way} h is i e =
+    subst (IsWayOf x.board.levels core) (sym e) (h.lead.each core way (core_seen x v is i))
+
+pub place_on_way : (x : Inside) (v : TreeValue) {core l : ℕ} {way : Way} → the_invariant x
+    → the_view x ≡ v → core < size_below v.levels → way ≡ get_or x.ways.items core way
+    → l ≤ length v.levels → get_or way.places l 0 ≡ place_above v.levels l core
+place_on_way x v {core = core} {l = l} h is i e le =
+    (way_seen x v h is i e).places l
+    (subst (λ (t : TreeValue). l ≤ length t.levels) (sym is) le)
+    ∙ ap (λ (t : TreeValue). place_above t.levels l core) is
+
+-- Depths -------------------------------------------------------------------------------------
+
+abbrev rows_in : List (Vec Depths Global) → List (List Depths)
+rows_in vs = map (λ v. v.items) vs
+
+-- a domain has a place in a row
+abbrev HasPlace : List (Vec Depths Global) → Node → Type 0
+HasPlace vs n = record {
+  level : n.level < length vs;
+  place : n.place < length (get_or (rows_in vs) n.level []);
+}
+
+row_seen : (x : Inside) (v : TreeValue) (n : Node) → the_invariant x → the_view x ≡ v
+    → HasNodeIn v.levels n → DepthRow (rows_in x.depths.items) n
+row_seen x v n h is i = depth_row x.board.levels (rows_in x.depths.items) n h.tied.valid.granted
+    (subst (λ (t : TreeValue). HasNodeIn t.levels n) (sym is) i)
+
+pub place_seen : (x : Inside) (v : TreeValue) (n : Node) {vs : List (Vec Depths Global)}
+    → the_invariant x → the_view x ≡ v → HasNodeIn v.levels n → vs ≡ x.depths.items
+    → HasPlace vs n
+place_seen x v n {vs = vs} h is i e =
+    let at = row_seen x v n h is i in
+    let same = ap rows_in e in
+    record {
+      level = omega (arith, at.level, ap length same, length-map vs (λ v. v.items));
+      place = omega (arith, at.place, ap (λ rs. length (get_or rs n.level [])) same);
+    }
+
+-- what is read there is what the value has
+pub record IsRead (v : TreeValue) (n : Node) (d : Depths) : Type 0 where
+  pub granted : d.granted ≡ granted_at v n.level n.place
+  pub confirmed : d.confirmed ≡ confirmed_at v n.level n.place
+
+pub depths_seen : (x : Inside) (v : TreeValue) (n : Node) {vs : List (Vec Depths Global)}
+    {d : Depths} → the_invariant x → the_view x ≡ v → HasNodeIn v.levels n → vs ≡ x.depths.items
+    → ((e : Depths) → d ≡ get_or (get_or (rows_in vs) n.level []) n.place e) → IsRead v n d
+depths_seen x v n {d = d} h is i e read =
+    let at = row_seen x v n h is i in
+    let same = ap rows_in e in
+    let own : ReadAt (rows_in x.depths.items) n d = read_at _ _ n d at same read in
+    record {
+      granted = own.granted ∙ ap (λ (t : TreeValue). granted_at t n.level n.place) is;
+      confirmed = own.confirmed ∙ ap (λ (t : TreeValue). confirmed_at t n.level n.place) is;
+    }
+
+-- other rows make another value
+abbrev value_with : Inside → List (List Depths) → TreeValue
+value_with x rows = record (the_view x) {
+  granted = granted_of rows;
+  confirmed = confirmed_of rows;
+}
+
+pub rows_seen : (x : Inside) (v : TreeValue) (ws : List (Vec Depths Global))
+    (gs fs : List (List ℕ)) → the_view x ≡ v → length ws ≡ x.depths.len
+    → granted_of (rows_in ws) ≡ gs → confirmed_of (rows_in ws) ≡ fs
+    → value_with x (rows_in (with_items x.depths ws).items)
+    ≡ record v { granted = gs; confirmed = fs }
+rows_seen x v ws gs fs is e g f =
+    ap (λ us. value_with x (rows_in us)) (with_items_is x.depths ws e)
+    ∙ ap (λ hs. record (the_view x) { granted = hs; confirmed = confirmed_of (rows_in ws) }) g
+    ∙ ap (λ hs. record (the_view x) { granted = gs; confirmed = hs }) f
+    ∙ ap (λ (t : TreeValue). record t { granted = gs; confirmed = fs }) is
+
+-- the depths of one domain are written
+pub depths_with : (x : Inside) (v : TreeValue) (n : Node) {vs : List (Vec Depths Global)}
+    (ws : List (Vec Depths Global)) (d : Depths) {g f : ℕ} → the_view x ≡ v → length ws ≡ x.depths.len → vs ≡ x.depths.items
+    → rows_in ws ≡ set (rows_in vs) n.level (set (get_or (rows_in vs) n.level []) n.place d)
+    → d.granted ≡ g → d.confirmed ≡ f
+    → value_with x (rows_in (with_items x.depths ws).items)
+    ≡ record v { granted = depth_set v.granted n g; confirmed = depth_set v.confirmed n f }
+depths_with x v n ws d {g = g} {f = f} is e same written p q =
+    let rows : List (List Depths) = rows_in x.depths.items in
+    let now = written
+    ∙ ap (λ us. set (rows_in us) n.level (set (get_or (rows_in us) n.level []) n.place d)) same in
+    rows_seen x v ws _ _ is e
+    (ap granted_of now ∙ depths_written (λ y. y.granted) rows n.level n.place d
+    ∙ ap (depth_set (granted_of rows) n) p
+    ∙ ap (λ (t : TreeValue). depth_set t.granted n g) is)
+    (ap confirmed_of now ∙ depths_written (λ y. y.confirmed) rows n.level n.place d
+    ∙ ap (depth_set (confirmed_of rows) n) q
+    ∙ ap (λ (t : TreeValue). depth_set t.confirmed n f) is)
