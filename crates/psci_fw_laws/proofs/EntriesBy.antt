@@ -1,22 +1,18 @@
 -- Renumbered cores that enter.
-use Rattle.std.proofs.Common.{◌≡◌, ℕ, ◌==◌, Bool, true, false, ◌&&◌, ◌||◌, not, nat_lt}
-use Rattle.std.proofs.Common.{nat_le, refl, sym, ap, ◌∙◌, if◌then◌else◌, Option, None, Some}
+use Rattle.std.proofs.Common.{◌≡◌, ℕ, ◌==◌, Bool, true, false, ◌&&◌, not}
+use Rattle.std.proofs.Common.{refl, sym, ap, ◌∙◌, if◌then◌else◌, Option, None, Some}
 use Rattle.std.proofs.Common.{inl, inr, ◌⊎◌}
 use Rattle.std.proofs.lemmas.Bool.{eq-eqb}
-use Rattle.psci_board.specs.Board.{BoardValue, cores, has_node, up}
+use Rattle.psci_board.specs.Board.{BoardValue, has_node, up}
 use Rattle.psci_board.specs.Paths.{is_path_place}
 use Rattle.psci_messages.specs.declared.start.Start.{Start}
-use Rattle.psci_fw_spec.specs.declared.fault.FwFault.TheVariants.{NoCore, NoLife, OldStart}
 use Rattle.psci_fw_spec.specs.declared.opening.Opening.{Opening}
-use Rattle.psci_fw_spec.specs.declared.outcome.Act.TheVariants as acts
-use Rattle.psci_fw_spec.specs.declared.outcome.Outcome.{Outcome}
 use Rattle.psci_fw_spec.specs.declared.status.Status.TheVariants as statuses
 use Rattle.psci_fw_spec.specs.Changes.{with_arrival}
-use Rattle.psci_fw_spec.specs.CpuOff.{off_message}
-use Rattle.psci_fw_spec.specs.Entering.{enter_fault, enter_outcome, is_old, outcome_at}
+use Rattle.psci_fw_spec.specs.Entering.{enter_fault, enter_outcome, outcome_at}
 use Rattle.psci_fw_spec.specs.Entering.{resumes, without_opening}
 use Rattle.psci_fw_spec.specs.Lives.{in_life, start_of_life}
-use Rattle.psci_fw_spec.specs.Outcomes.{stops, stops_with}
+use Rattle.psci_fw_spec.specs.Outcomes.{stops}
 use Rattle.psci_fw_spec.specs.Phases.{is_resumable}
 use Rattle.psci_fw_spec.specs.Phases as phases
 use Rattle.psci_fw_spec.specs.Values.{Values}
@@ -48,10 +44,7 @@ first_confirmed-by : (b : BoardValue) (s : ℕ → ℕ → ℕ) (level place : �
     ≡ (has_node b (record { level = level; place = place })
     && not (is_path_place b 0 level place))
 first_confirmed-by b s level place is boot =
-    ap (λ (t : Bool). t && not (is_path_place b 0 level (s level place)))
-    (has_node-by b s level place is)
-    ∙ ap (λ (t : Bool). has_node b (record { level = level; place = place }) && not t)
-    (boot_path-by b s level place is boot)
+    rw (has_node-by b s level place is, boot_path-by b s level place is boot)
 
 pub start_of_life-by : (b : BoardValue) (s : ℕ → ℕ → ℕ) (life : ℕ) → Renumbers b s → s 0 0 ≡ 0
     → values_by s (start_of_life b life) ≡ start_of_life b life
@@ -90,31 +83,19 @@ finds-by b s start v is spares = elim spares [
 pub enter_fault-by : (b : BoardValue) (s : ℕ → ℕ → ℕ) (v : Values) (c : ℕ) (start : Start)
     → Renumbers b s
     → enter_fault b (values_by s v) (s 0 c) start ≡ enter_fault b v c start
-enter_fault-by b s v c start is =
-    ap (λ (t : Bool). if not t then Some NoCore
-    else (if start.life == 0 || nat_lt b.lives start.life then Some NoLife
-    else (if is_old b (values_by s v) (s 0 c) start then Some OldStart else None))) (is.inside 0 c)
-    ∙ ap (λ (k : ℕ). if not (nat_lt c (cores b)) then Some NoCore
-    else (if start.life == 0 || nat_lt b.lives start.life then Some NoLife
-    else (if nat_lt start.life v.life || (start.number == 0 || (nat_lt b.starts start.number
-    || (start.life == v.life && nat_le start.number (v.known k))))
-    then Some OldStart else None))) (is.back 0 c)
+enter_fault-by b s v c start is = rw (is.inside 0 c, is.back 0 c)
 
 resumes-by : (b : BoardValue) (s : ℕ → ℕ → ℕ) (v : Values) (c : ℕ) (start : Start) → Renumbers b s
     → resumes (values_by s v) (s 0 c) start ≡ resumes v c start
-resumes-by b s v c start is = ap (λ (k : ℕ). resumes v k start) (is.back 0 c)
+resumes-by b s v c start is = rw (is.back 0 c)
 
 without_opening-by : (b : BoardValue) (s : ℕ → ℕ → ℕ) (found arrived : Values) (c : ℕ)
     (start : Start) → Renumbers b s
     → without_opening b (values_by s found) (values_by s arrived) (s 0 c) start
     ≡ outcome_by s (without_opening b found arrived c start)
 without_opening-by b s found arrived c start is =
-    let resumed : Outcome = record { act = acts.Resume; message = None } in
-    ap (λ (t : Bool). if t then resumed
-    else stops_with (off_message b (values_by s arrived) (s 0 c))) (resumes-by b s found c start is)
-    ∙ chosen s (resumes found c start) resumed
-    (stops_with (off_message b (values_by s arrived) (s 0 c))) resumed
-    (stops_with (off_message b arrived c)) refl (cpu_off-by b s arrived c is)
+    rw (resumes-by b s found c start is)
+    (chosen s (resumes found c start) _ _ _ _ refl (cpu_off-by b s arrived c is))
 
 outcome_at-by : (b : BoardValue) (s : ℕ → ℕ → ℕ) (found arrived : Values) (c : ℕ) (start : Start)
     (o : Option Opening) → Renumbers b s
@@ -133,11 +114,8 @@ answered-by : (b : BoardValue) (s : ℕ → ℕ → ℕ) (found arrived : Values
     ≡ outcome_by s (if found.halting then stops
     else outcome_at b found arrived c start (found.opening c))
 answered-by b s found arrived c start is =
-    chosen s found.halting stops _ stops (outcome_at b found arrived c start (found.opening c))
-    refl
-    (ap (λ (k : ℕ). outcome_at b (values_by s found) (values_by s arrived) (s 0 c) start
-    (found.opening k)) (is.back 0 c)
-    ∙ outcome_at-by b s found arrived c start (found.opening c) is)
+    chosen s found.halting stops _ stops _ refl
+    (rw (is.back 0 c) (outcome_at-by b s found arrived c start (found.opening c) is))
 
 pub enter_outcome-by : (b : BoardValue) (s : ℕ → ℕ → ℕ) (v : Values) (c : ℕ) (start : Start)
     → Renumbers b s → FindsBy b s start v
