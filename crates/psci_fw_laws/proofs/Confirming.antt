@@ -7,8 +7,7 @@ use Rattle.std.proofs.lemmas.Bool.{and_from, and_parts, eq-eqb, eqb-true, lt-ltb
 use Rattle.psci_board.specs.Board.{BoardValue, below, up}
 use Rattle.psci_board.specs.declared.node.Node.{Node}
 use Rattle.psci_messages.specs.declared.part.Part.{Part}
-use Rattle.psci_messages.specs.declared.kind.Kind.{Kind}
-use Rattle.psci_messages.specs.declared.kind.Kind.TheVariants.{Down, Start, Off as GoesOff, Reset}
+use Rattle.psci_messages.specs.declared.kind.Kind.TheVariants.{Down}
 use Rattle.psci_messages.specs.Message.{AckValue, MessageValue}
 use Rattle.psci_messages.specs.OnlyIf.{only_if}
 use Rattle.psci_messages.specs.Slots.{is_kind, slot_of}
@@ -19,14 +18,9 @@ use Rattle.psci_fw_spec.specs.Values.{Values}
 use Rattle.psci_fw_spec.specs.declared.hw.Hw.{Hw}
 use Rattle.psci_fw_spec.specs.declared.hw.Hw.TheVariants.{Off, On, Standby}
 use Rattle.psci_fw_laws.specs.CarriedOut.{IsCarriedOut}
+use Rattle.psci_fw_laws.proofs.Parts.{kind_is}
 
 -- What is carried out -------------------------------------------------------------------------
-
-down_by : (k : Kind) → is_kind k Down ≡ true → k ≡ Down
-down_by Down e = refl
-down_by Start e = absurd (cc)
-down_by GoesOff e = absurd (cc)
-down_by Reset e = absurd (cc)
 
 -- A part that was made at this sum of known starts, where a test holds.
 record IsMade (t : Bool) (o : Option Part) (known : ℕ) : Type 0 where
@@ -65,7 +59,7 @@ module _ (b : BoardValue) (v : Values) (a : AckValue) (level place : ℕ) where
       (option_and_then (λ m. slice_get m.parts level) (v.outstanding (slot_of a.kind a.core))) known
       granted.1 in
       let tests = and_parts (is_kind a.kind Down) _ made.holds in
-      let kind : a.kind ≡ Down = down_by a.kind tests.0 in
+      let kind : a.kind ≡ Down = kind_is a.kind tests.0 in
       let of = part_by (v.outstanding (slot_of a.kind a.core)) level made.part made.at in
       record {
         message = of.message;

@@ -134,13 +134,11 @@ deeper b v sent c level p by_part are holds on high claim current rests =
 on_where_suspended : (s : Status) (ask : List ℕ) → agrees s (Suspended ask) ≡ true
     → is_on s ≡ true
 on_where_suspended statuses.On ask e = refl
-on_where_suspended statuses.Off ask e = absurd (cc)
-on_where_suspended statuses.Pending ask e = absurd (cc)
+on_where_suspended s ask e = absurd (cc)
 
 on_where_runs : (s : Status) → agrees s Running ≡ true → is_on s ≡ true
 on_where_runs statuses.On e = refl
-on_where_runs statuses.Off e = absurd (cc)
-on_where_runs statuses.Pending e = absurd (cc)
+on_where_runs s e = absurd (cc)
 
 known_where_on : (n : ℕ) (s : Status) → (n ≡ 0 → is_on s ≡ false) → is_on s ≡ true → 0 < n
 known_where_on n s none on =

@@ -31,7 +31,7 @@ use Rattle.psci_fw_spec.specs.Entering.{enter_fault, enter_outcome, is_old, outc
 use Rattle.psci_fw_spec.specs.Invariant.{AreValues, is_expected}
 use Rattle.psci_fw_spec.specs.Lives.{in_life, start_of_life}
 use Rattle.psci_fw_spec.specs.Outcomes.{stops, stops_with}
-use Rattle.psci_fw_spec.specs.Phases.{Phase, Away, Pending, Running, Suspended, is_running}
+use Rattle.psci_fw_spec.specs.Phases.{Phase, Away, Pending, Running, is_running}
 use Rattle.psci_fw_spec.specs.Phases.{activity_of, unless_pending}
 use Rattle.psci_fw_spec.specs.Values.{Values}
 use Rattle.psci_fw_laws.specs.Allowed.{IsCalling}
@@ -56,16 +56,12 @@ passed : (absent lifeless runs : Bool)
     (cond runs None (Some faults.NotRunning)))
     ≡ None
     → IsPassed absent lifeless runs
-passed true lifeless runs e = absurd (cc)
-passed false true runs e = absurd (cc)
 passed false false true e = record { core = refl; life = refl; running = refl }
-passed false false false e = absurd (cc)
+passed absent lifeless runs e = absurd (cc)
 
 running_phase : (p : Phase) → is_running p ≡ true → p ≡ Running
-running_phase Pending e = absurd (cc)
 running_phase Running e = refl
-running_phase (Suspended ask) e = absurd (cc)
-running_phase Away e = absurd (cc)
+running_phase p e = absurd (cc)
 
 calling : (b : BoardValue) (v : Values) (c : ℕ) → call_fault b v c ≡ None → IsCalling b v c
 calling b v c e =
@@ -97,10 +93,8 @@ fresh : (absent lifeless old : Bool)
     (cond old (Some faults.OldStart) None))
     ≡ None
     → IsFresh absent lifeless old
-fresh true lifeless old e = absurd (cc)
-fresh false true old e = absurd (cc)
-fresh false false true e = absurd (cc)
 fresh false false false e = record { core = refl; life = refl; start = refl }
+fresh absent lifeless old e = absurd (cc)
 
 later : (v : Values) (c : ℕ) (s : Start)
     → (s.life == v.life && nat_le s.number (v.known c)) ≡ false → s.life ≡ v.life
@@ -179,9 +173,7 @@ parks_allowed b v c s laws ready enters awake none are =
   where
     stays_away : (p : Phase) → (p ≡ Pending → ⊥) → unless_pending p Away ≡ Away
     stays_away Pending ne = absurd (ne refl)
-    stays_away Running ne = refl
-    stays_away (Suspended ask) ne = refl
-    stays_away Away ne = refl
+    stays_away p ne = refl
 
 arrival_allowed : (b : BoardValue) (v : Values) (c : ℕ) (s : Start) (o : Option Opening)
     → LowerLaws b → IsReady b v → IsEntering b v c s → (in_life b s.life v).halting ≡ false

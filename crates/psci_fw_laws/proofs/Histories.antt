@@ -61,18 +61,7 @@ after_effect b v messages (Rests c rest m) laws allowed holds =
     (rests b v messages c rest.phase laws.paths laws.spans allowed.calls.core allowed.calls.runs
     allowed.stops allowed.waits holds)
 after_effect b v messages (Halts c m) laws allowed holds =
-    let plain = allowed.plain in
-    halts b (with_phase c Away v) messages m
-    (record {
-      life = plain.life;
-      present = plain.present;
-      core = plain.core;
-      number = plain.number;
-      limit = plain.limit;
-      parts = plain.parts;
-      other = plain.other;
-    })
-    allowed.system
+    halts b (with_phase c Away v) messages m (assumption allowed.plain) allowed.system
     (rests b v messages c Away laws.paths laws.spans allowed.calls.core allowed.calls.runs
     (λ e. cc) (λ e. cc) holds)
 after_effect b v messages (Stops c) laws allowed holds =

@@ -45,9 +45,7 @@ left : (b : BoardValue) (v : Values) (c : ℕ) (s : Start) (act : Act) (m : Opti
     → change b (enter_effect c s act m) v ≡ change b (enter_effect c s act m) (start_of_life b 0)
 left b v c s acts.Stop (Some m) e = ap (λ w. with_claims b m (with_phase c Away w)) e
 left b v c s acts.Stop None e = ap (with_phase c Away) e
-left b v c s (acts.Return code) m e = ap (with_running c) e
-left b v c s (acts.Enter address context) m e = ap (with_running c) e
-left b v c s acts.Resume m e = ap (with_running c) e
+left b v c s act m e = ap (with_running c) e
 
 pub left_after : (b : BoardValue) (v : Values) (c : ℕ) (s : Start) (o : Outcome) → v.life < s.life
     → after b c (Enter s) (Out o) v ≡ after b c (Enter s) (Out o) (start_of_life b 0)

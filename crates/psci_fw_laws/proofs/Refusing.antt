@@ -130,14 +130,13 @@ invalid_by : (idle some : Bool) (parts : List Part)
     → idle ≡ true
 invalid_by true some parts e = refl
 invalid_by false true parts e = absurd (cc)
-invalid_by false false parts e = absurd (cc)
+invalid_by false some parts e = absurd (cc)
 
 denied_by : (idle some : Bool) (parts : List Part)
     → answer_by (cond idle (Some Invalid) (cond some (Some Denied) None)) parts ≡ Err Denied
     → (idle ≡ false) × (some ≡ true)
-denied_by true some parts e = absurd (cc)
 denied_by false true parts e = (refl, refl)
-denied_by false false parts e = absurd (cc)
+denied_by idle some parts e = absurd (cc)
 
 -- whether nobody is awake below some domain in the way; whether something is in the way
 abbrev is_asleep : BoardValue → PowerView → ℕ → List ℕ → Bool
@@ -157,16 +156,19 @@ answered b v caller ask asleep way e f = rw (e, f) refl
 
 module _ (b : BoardValue) (v : PowerView) (caller : ℕ) (ask : List ℕ) (paths : PathLaws b)
     (kids : ChildLaws b) where
+  sleeper : HasWay b v caller ask (is_idle b v) → HasSleeper b v caller ask
+  sleeper has = record {
+    level = has.level;
+    core = has.core;
+    way = has.way;
+    asleep = idle_nobody b v has.level has.core has.at;
+  }
+
   none_asleep : (HasSleeper b v caller ask → ⊥) → is_asleep b v caller ask ≡ false
   none_asleep none = elim (cases_Bool (is_asleep b v caller ask)) [
     | inl found ↦
         let has = any_way b v caller ask paths kids (is_idle b v) found in
-        absurd (none (record {
-          level = has.level;
-          core = has.core;
-          way = has.way;
-          asleep = idle_nobody b v has.level has.core has.at;
-        }))
+        absurd (none (sleeper has))
     | inr none_found ↦ none_found
   ]
 
@@ -195,13 +197,7 @@ module _ (b : BoardValue) (v : PowerView) (caller : ℕ) (ask : List ℕ) (paths
       (own_claims b v caller ask)
       (sym (answered b v caller ask (is_asleep b v caller ask) (is_way b v caller ask) refl refl)
       ∙ e) in
-      let has = any_way b v caller ask paths kids (is_idle b v) found in
-      record {
-        level = has.level;
-        core = has.core;
-        way = has.way;
-        asleep = idle_nobody b v has.level has.core has.at;
-      }
+      sleeper (any_way b v caller ask paths kids (is_idle b v) found)
 
   pub has_invalid : HasSleeper b v caller ask → last_core_check b v caller ask ≡ Err Invalid
   has_invalid has =

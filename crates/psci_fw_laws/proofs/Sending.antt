@@ -1,6 +1,6 @@
 -- What is said of each message stays so.
 use Rattle.std.proofs.Common.{◌≡◌, ℕ, zero, suc, ◌<◌, ◌≤◌, Bool, true, List, ◌∷◌}
-use Rattle.std.proofs.Common.{Some, refl, arith, subst, ap, ◌∙◌}
+use Rattle.std.proofs.Common.{Some, arith, subst, ap, ◌∙◌}
 use Rattle.std.specs.Prelude.{slice_get}
 use Rattle.psci_board.specs.Board.{BoardValue, up}
 use Rattle.psci_board.specs.Laws.{PathLaws}
@@ -45,16 +45,7 @@ sent_halting b life halting known phase sent are k m at =
     record {
       sound = is.sound;
       begun = is.begun;
-      present = λ e.
-          let p = is.present e in
-          record {
-            number = p.number;
-            older = p.older;
-            lacking = p.lacking;
-            halts = λ s. refl;
-            pending = p.pending;
-            asked = p.asked;
-          };
+      present = λ e. assumption (is.present e);
     }
 
 -- What a message with the known start of its core as its number says of another phase of the core.
