@@ -1,4 +1,5 @@
 -- Renumbered cores that enter.
+use Rattle.std.proofs.Common.{arith}
 use Rattle.std.proofs.Common.{◌≡◌, ℕ, ◌==◌, Bool, true, false, ◌&&◌, not}
 use Rattle.std.proofs.Common.{refl, sym, ap, ◌∙◌, if◌then◌else◌, Option, None, Some}
 use Rattle.std.proofs.Common.{inl, inr, ◌⊎◌}
@@ -18,7 +19,7 @@ use Rattle.psci_fw_spec.specs.Phases as phases
 use Rattle.psci_fw_spec.specs.Values.{Values}
 use Rattle.psci_fw_laws.specs.Renumbered.{outcome_by, values_by}
 use Rattle.psci_fw_laws.proofs.Changing.{FindsBy, with_arrival-by}
-use Rattle.psci_fw_laws.proofs.Renumbering.{Renumbers, other_test, same_test}
+use Rattle.psci_fw_laws.proofs.Renumbering.{Renumbers}
 use Rattle.psci_fw_laws.proofs.ReturningBy.{has_node-by}
 use Rattle.psci_fw_laws.proofs.StoppingBy.{chosen, cpu_off-by}
 
@@ -27,7 +28,7 @@ use Rattle.psci_fw_laws.proofs.StoppingBy.{chosen, cpu_off-by}
 -- where the boot core has its own number, no other core has it
 is_boot-by : (s : ℕ → ℕ → ℕ) (c : ℕ) → ((k : ℕ) → s 0 (s 0 k) ≡ k) → s 0 0 ≡ 0
     → (s 0 c == 0) ≡ (c == 0)
-is_boot-by s c back boot = sym (other_test s c 0 back) ∙ ap (λ (k : ℕ). c == k) boot
+is_boot-by s c back boot = grind (arith, back c)
 
 -- and its path has the same places
 boot_path-by : (b : BoardValue) (s : ℕ → ℕ → ℕ) (level place : ℕ) → Renumbers b s → s 0 0 ≡ 0
@@ -35,8 +36,7 @@ boot_path-by : (b : BoardValue) (s : ℕ → ℕ → ℕ) (level place : ℕ) �
 boot_path-by b s level place is boot =
     let own : up b level 0 ≡ s level (up b level 0) =
     ap (up b level) (sym boot) ∙ is.above level 0 in
-    same_test (s level place) (up b level 0) place (up b level 0)
-    (λ e. sym (is.back level place) ∙ (ap (s level) e ∙ sym own)) (λ e. ap (s level) e ∙ sym own)
+    grind (arith, is.back level place)
 
 first_confirmed-by : (b : BoardValue) (s : ℕ → ℕ → ℕ) (level place : ℕ) → Renumbers b s → s 0 0 ≡ 0
     → (has_node b (record { level = level; place = s level place })

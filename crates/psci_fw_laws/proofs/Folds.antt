@@ -2,7 +2,7 @@
 use Rattle.std.proofs.Common.{◌≡◌, ℕ, zero, suc, ◌+◌, ◌==◌, ◌<◌, ◌≤◌, Bool, true, false, List, []}
 use Rattle.std.proofs.Common.{◌∷◌, if◌then◌else◌, refl, sym, ap, subst, ◌∙◌, ◌⊎◌, arith, inl, inr}
 use Rattle.std.specs.List.{range_with_len}
-use Rattle.std.proofs.lemmas.Bool.{cases_eq, cases_lt, eq-eqb, ne_eqb}
+use Rattle.std.proofs.lemmas.Bool.{cases_eq}
 use Rattle.psci_fw_laws.specs.Renumbered.{swap}
 
 -- a right fold
@@ -29,10 +29,10 @@ alike g h z a (suc n) e =
 
 without-other : {R : Type 0} (g : ℕ → R → R) (x k : ℕ) (r : R) → (k ≡ x → ⊥)
     → without x g k r ≡ g k r
-without-other g x k r d = rw (ne_eqb k x d) refl
+without-other g x k r d = grind arith
 
 without-it : {R : Type 0} (g : ℕ → R → R) (x : ℕ) (r : R) → without x g x r ≡ r
-without-it g x r = rw (eq-eqb x x refl) refl
+without-it g x r = grind arith
 
 -- the first number comes first
 pull-first : {R : Type 0} (g : ℕ → R → R) (z : R) (a n : ℕ)
@@ -59,35 +59,21 @@ pull g z a (suc n) x c h i = elim (cases_eq a x) [
 -- Swapping --------------------------------------------------------------------------------------
 
 pub swap-first : (x y : ℕ) → swap x y x ≡ y
-swap-first x y = rw (eq-eqb x x refl) refl
+swap-first x y = grind arith
 
 pub swap-second : (x y : ℕ) → swap x y y ≡ x
-swap-second x y = elim (cases_eq y x) [
-  | inl same ↦ rw (eq-eqb y x same) same
-  | inr other ↦ rw (ne_eqb y x other, eq-eqb y y refl) refl
-]
+swap-second x y = grind arith
 
 pub swap-other : (x y k : ℕ) → (k ≡ x → ⊥) → (k ≡ y → ⊥) → swap x y k ≡ k
-swap-other x y k d e = rw (ne_eqb k x d, ne_eqb k y e) refl
+swap-other x y k d e = grind arith
 
 -- swapping twice
 pub swap-back : (x y k : ℕ) → swap x y (swap x y k) ≡ k
-swap-back x y k = elim (cases_eq k x) [
-  | inl first ↦ ap (λ (j : ℕ). swap x y (swap x y j)) first
-      ∙ (ap (swap x y) (swap-first x y) ∙ (swap-second x y ∙ sym first))
-  | inr d ↦ elim (cases_eq k y) [
-    | inl second ↦ ap (λ (j : ℕ). swap x y (swap x y j)) second
-        ∙ (ap (swap x y) (swap-second x y) ∙ (swap-first x y ∙ sym second))
-    | inr e ↦ ap (swap x y) (swap-other x y k d e) ∙ swap-other x y k d e
-  ]
-]
+swap-back x y k = grind arith
 
 -- a number swapped with itself
 swap-same : (x y k : ℕ) → x ≡ y → swap x y k ≡ k
-swap-same x y k e = elim (cases_eq k x) [
-  | inl first ↦ ap (swap x y) first ∙ (swap-first x y ∙ (sym e ∙ sym first))
-  | inr d ↦ swap-other x y k d (λ f. d (f ∙ sym e))
-]
+swap-same x y k e = grind arith
 
 -- steps of the other number
 abbrev pub swapped : {R : Type 0} → ℕ → ℕ → (ℕ → R → R) → ℕ → R → R
@@ -152,13 +138,7 @@ swapped-outside g z a n x y d e =
     ap (λ (l : ℕ). g l r) (swap-other x y k (d k i j) (e k i j)))
 
 pub cases_within : (a n x : ℕ) → ((a ≤ x) × (x < a + n)) ⊎ (a ≤ x → x < a + n → ⊥)
-cases_within a n x = elim (cases_lt x a) [
-  | inl under ↦ inr (λ h i. omega arith)
-  | inr h ↦ elim (cases_lt x (a + n)) [
-    | inl i ↦ inl (h, i)
-    | inr over ↦ inr (λ k i. omega arith)
-  ]
-]
+cases_within a n x = grind arith
 
 -- a fold over numbers with both of two or with neither
 pub swapped-fold : {R : Type 0} (g : ℕ → R → R) (z : R) (a n x y : ℕ) → Commutes g

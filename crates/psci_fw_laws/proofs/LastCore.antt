@@ -14,7 +14,7 @@ use Rattle.psci_messages.specs.View.{PowerView, is_idle}
 use Rattle.psci_fw_laws.specs.Renumbered.{node_by}
 use Rattle.psci_fw_laws.proofs.Counts.{list_any-fold, ors, ors-commutes}
 use Rattle.psci_fw_laws.proofs.Claims.{is_idle-by, own_claims-by, view_by}
-use Rattle.psci_fw_laws.proofs.Renumbering.{Renumbers, node_back, same_test}
+use Rattle.psci_fw_laws.proofs.Renumbering.{Renumbers, node_back}
 
 -- Tests over lists ------------------------------------------------------------------------------
 
@@ -22,8 +22,8 @@ any-filter : {X : Type 0} (f p : X → Bool) (xs : List X)
     → list_any f (filter p xs) ≡ list_any (λ x. p x && f x) xs
 any-filter f p [] = refl
 any-filter f p (x ∷ xs) = elim (cases_Bool (p x)) [
-  | inl t ↦ rw t (ap (λ (r : Bool). f x || r) (any-filter f p xs))
-  | inr t ↦ rw t (any-filter f p xs)
+  | inl t ↦ rw (t, any-filter f p xs)
+  | inr t ↦ rw (t, any-filter f p xs)
 ]
 
 any-map : {X : Type 0} (f : X → Bool) (h : ℕ → X) (ks : List ℕ)
@@ -76,13 +76,9 @@ beside-by : (b : BoardValue) (s : ℕ → ℕ → ℕ) (w : PowerView) (f g : No
     ≡ is_beside w g level (up b level c) depth (s level k)
 beside-by b s w f g c level depth k is agree =
     let n : Node = record { level = level; place = k } in
-    let rest : Bool = nat_lt (w.granted level (s level k)) depth in
     let own : (k == up b level (s 0 c)) ≡ (s level k == up b level c) =
-    same_test k (up b level (s 0 c)) (s level k) (up b level c)
-    (λ e. ap (s level) (e ∙ is.above level c) ∙ is.back level (up b level c))
-    (λ e. sym (is.back level k) ∙ (ap (s level) e ∙ sym (is.above level c))) in
-    ap (λ (t : Bool). not t && (rest && f n)) own
-    ∙ ap (λ (t : Bool). not (s level k == up b level c) && (rest && t)) (agree n)
+    grind (arith, is.above level c, is.back level k, is.back level (up b level c)) in
+    rw (own, agree n)
 
 any-at : (b : BoardValue) (s : ℕ → ℕ → ℕ) (w : PowerView) (f g : Node → Bool) (c : ℕ)
     (ask : List ℕ) (level : ℕ) → Renumbers b s → AgreeBy s f g

@@ -1,9 +1,8 @@
 -- What a renumbering keeps, and what is counted below a domain and over all cores.
+use Rattle.std.proofs.Common.{arith}
 use Rattle.std.proofs.Common.{◌≡◌, ℕ, suc, ◌==◌, nat_lt, Bool, true, false}
 use Rattle.std.proofs.Common.{map, sym, ap, ◌∙◌}
-use Rattle.std.proofs.Common.{inl, inr}
 use Rattle.std.specs.List.{range_with_len, sum_by, list_all, list_any}
-use Rattle.std.proofs.lemmas.Bool.{cases_eq, eq-eqb, ne_eqb}
 use Rattle.psci_board.specs.Board.{BoardValue, below, cores, nodes, up, first_child}
 use Rattle.psci_board.specs.Board.{children_at}
 use Rattle.psci_board.specs.declared.node.Node.{Node}
@@ -38,23 +37,17 @@ pub record Renumbers (b : BoardValue) (s : ℕ → ℕ → ℕ) : Type 1 where
 -- Tests -----------------------------------------------------------------------------------------
 
 pub same_test : (a b c d : ℕ) → (a ≡ b → c ≡ d) → (c ≡ d → a ≡ b) → (a == b) ≡ (c == d)
-same_test a b c d f g = elim (cases_eq a b) [
-  | inl e ↦ eq-eqb a b e ∙ sym (eq-eqb c d (f e))
-  | inr n ↦ ne_eqb a b n ∙ sym (ne_eqb c d (λ e. n (g e)))
-]
+same_test a b c d f g = grind (arith, f, g)
 
 -- a number is the other number of a core where its own other number is the core's
 pub other_test : (s : ℕ → ℕ → ℕ) (k c : ℕ) → ((j : ℕ) → s 0 (s 0 j) ≡ j)
     → (k == s 0 c) ≡ (s 0 k == c)
-other_test s k c back = same_test k (s 0 c) (s 0 k) c
-    (λ e. ap (s 0) e ∙ back c) (λ e. sym (back k) ∙ ap (s 0) e)
+other_test s k c back = grind (arith, back k, back c)
 
 pub place_test : (b : BoardValue) (s : ℕ → ℕ → ℕ) (level place c : ℕ) → Renumbers b s
     → (up b level c == s level place) ≡ (up b level (s 0 c) == place)
 place_test b s level place c is =
-    same_test (up b level c) (s level place) (up b level (s 0 c)) place
-    (λ e. is.above level c ∙ (ap (s level) e ∙ is.back level place))
-    (λ e. sym (is.back level (up b level c)) ∙ ap (s level) (sym (is.above level c) ∙ e))
+    grind (arith, is.above level c, is.back level place, is.back level (up b level c))
 
 pub node_back : (b : BoardValue) (s : ℕ → ℕ → ℕ) (n : Node) → Renumbers b s
     → node_by s (node_by s n) ≡ n

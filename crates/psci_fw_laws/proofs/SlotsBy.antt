@@ -1,5 +1,6 @@
 -- Outstanding messages of renumbered cores.
-use Rattle.std.proofs.Common.{◌≡◌, ℕ, Bool, true, false, ◌&&◌, refl, sym, ap, ◌∙◌}
+use Rattle.std.proofs.Common.{arith, ◌==◌}
+use Rattle.std.proofs.Common.{◌≡◌, ℕ, Bool, true, false, ◌&&◌, refl, sym, ap}
 use Rattle.std.proofs.Common.{if◌then◌else◌, Option, None, Some}
 use Rattle.std.specs.Prelude.{option_map}
 use Rattle.psci_board.specs.declared.node.Core.{Core}
@@ -14,7 +15,7 @@ use Rattle.psci_fw_spec.specs.Changes.{with_slots}
 use Rattle.psci_fw_spec.specs.Values.{Values}
 use Rattle.psci_fw_laws.specs.Renumbered.{acknowledgement_by, core_by, message_by, slot_by}
 use Rattle.psci_fw_laws.specs.Renumbered.{values_by}
-use Rattle.psci_fw_laws.proofs.Renumbering.{other_test, same_test}
+use Rattle.psci_fw_laws.proofs.Renumbering.{other_test}
 
 -- the same change, of the other number
 abbrev pub change_by : (ℕ → ℕ → ℕ) → Change → Change
@@ -48,8 +49,9 @@ is_of-by s kind core slot back =
 pub answers-by : (s : ℕ → ℕ → ℕ) (a : AckValue) (m : MessageValue) → ((k : ℕ) → s 0 (s 0 k) ≡ k)
     → answers (acknowledgement_by s a) (message_by s m) ≡ answers a m
 answers-by s a m back =
-    rw (same_test (s 0 a.core.number) (s 0 m.core.number) a.core.number m.core.number
-    (λ e. sym (back a.core.number) ∙ (ap (s 0) e ∙ back m.core.number)) (λ e. ap (s 0) e))
+    let same : (s 0 a.core.number == s 0 m.core.number) ≡ (a.core.number == m.core.number) =
+    grind (arith, back a.core.number, back m.core.number) in
+    rw same
 
 if-map : (s : ℕ → ℕ → ℕ) (t : Bool) (o p : Option MessageValue)
     → (if t then option_map (message_by s) o else option_map (message_by s) p)
