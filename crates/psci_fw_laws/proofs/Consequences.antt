@@ -2,7 +2,6 @@
 use Rattle.std.proofs.Common.{◌≡◌, ℕ, ◌+◌, ◌<◌, ◌≤◌, ◌⊎◌, inl, inr, true, false, List, []}
 use Rattle.std.proofs.Common.{◌∷◌, length, Some, refl, arith, subst, ap, sym, ◌∙◌}
 use Rattle.std.specs.Prelude.{slice_get}
-use Rattle.std.proofs.lemmas.Bool.{cases_order}
 use Rattle.psci_board.specs.Board.{BoardValue, cores, height, up}
 use Rattle.psci_board.specs.Laws.{PathLaws, SpanLaws}
 use Rattle.psci_board.specs.declared.node.Node.{Node}
@@ -36,17 +35,12 @@ pub once : (b : BoardValue) (sent : List MessageValue) → AreRising b sent
     → (life level place j k : ℕ) (m n : MessageValue) (p q : Part) → slice_get sent j ≡ Some m
     → slice_get sent k ≡ Some n → part_for b life level place m ≡ Some p
     → part_for b life level place n ≡ Some q → p.generation ≡ q.generation → j ≡ k
-once b sent apart life level place j k m n p q at_j at_k e f same = elim (cases_order j k) [
-  | inl equal ↦ equal
-  | inr other ↦ elim other [
-    | inl less ↦
-        let below = apart.later life level place j k m n p q less at_j at_k e f in
-        absurd (omega arith)
-    | inr more ↦
-        let above = apart.later life level place k j n m q p more at_k at_j f e in
-        absurd (omega arith)
-  ]
-]
+once b sent apart life level place j k m n p q at_j at_k e f same =
+    grind (
+      arith,
+      λ (less : j < k). apart.later life level place j k m n p q less at_j at_k e f,
+      λ (more : k < j). apart.later life level place k j n m q p more at_k at_j f e,
+    )
 
 -- The first part of a Down.
 record HasFirst (parts : List Part) : Type 0 where
@@ -142,7 +136,7 @@ on_where_runs s e = absurd (cc)
 
 known_where_on : (n : ℕ) (s : Status) → (n ≡ 0 → is_on s ≡ false) → is_on s ≡ true → 0 < n
 known_where_on n s none on =
-    let other : n ≡ 0 → ⊥ = λ e. let no : false ≡ true = sym (none e) ∙ on in absurd (cc) in
+    let other : n ≡ 0 → ⊥ = λ e. grind (arith, none e) in
     omega (arith, other)
 
 away_or_pending : (s : Status) (p : Phase) → agrees s p ≡ true → is_on s ≡ false
@@ -189,15 +183,9 @@ pub equal_each : (b : BoardValue) (f g : ℕ → ℕ) (level place c : ℕ)
     → ((x : ℕ) → x < cores b → up b level x ≡ place → f x ≤ g x)
     → known_below b f level place ≡ known_below b g level place → c < cores b
     → up b level c ≡ place → f c ≡ g c
-equal_each b f g level place c le same on at = elim (cases_order (f c) (g c)) [
-  | inl equal ↦ equal
-  | inr other ↦ elim other [
-    | inl less ↦
-        let below = known_less b f g level place c le on at less in
-        absurd (omega (arith, below, same))
-    | inr more ↦ absurd (omega (arith, more, le c on at))
-  ]
-]
+equal_each b f g level place c le same on at =
+    let below = le c on at in
+    grind (arith, known_less b f g level place c le on at)
 
 pub known_laws : (b : BoardValue) → PathLaws b → SpanLaws b.levels → KnownLaws b
 known_laws b paths spans = record {

@@ -1,10 +1,9 @@
 -- What a call, an entry or an acknowledgement is answered is allowed.
 use Rattle.std.proofs.Common.{◌≡◌, ℕ, ◌<◌, ◌≤◌, Bool, true, false, cond, ◌==◌, ◌&&◌, ◌||◌, not}
 use Rattle.std.proofs.Common.{Option, None, Some, is_some, refl, arith, subst, ap, sym, ◌∙◌}
-use Rattle.std.proofs.Common.{inl, inr}
 use Rattle.std.specs.Prelude.{nat_le, nat_lt}
-use Rattle.std.proofs.lemmas.Bool.{cond_both, eqb-false, leb-false, ltb-false, ltb-true}
-use Rattle.std.proofs.lemmas.Bool.{and_cases, or_left, or_parts, or_right, not-false}
+use Rattle.std.proofs.lemmas.Bool.{cond_both, eqb-false, ltb-false, ltb-true}
+use Rattle.std.proofs.lemmas.Bool.{or_left, or_parts, or_right, not-false}
 use Rattle.psci_fw_spec.specs.psci_abi.Calls.{request_of}
 use Rattle.psci_fw_spec.specs.psci_abi.declared.registers.Regs.{Regs}
 use Rattle.psci_board.specs.Board.{BoardValue, cores}
@@ -99,10 +98,7 @@ fresh absent lifeless old e = absurd (cc)
 later : (v : Values) (c : ℕ) (s : Start)
     → (s.life == v.life && nat_le s.number (v.known c)) ≡ false → s.life ≡ v.life
     → v.known c < s.number
-later v c s e same = elim (and_cases (s.life == v.life) (nat_le s.number (v.known c)) e) [
-  | inl other ↦ absurd (eqb-false s.life v.life other same)
-  | inr more ↦ leb-false s.number (v.known c) more
-]
+later v c s e same = grind arith
 
 entering : (b : BoardValue) (v : Values) (c : ℕ) (s : Start) → enter_fault b v c s ≡ None
     → IsEntering b v c s

@@ -1,5 +1,5 @@
 -- A fold over numbers does not depend on the order of two of them, if its steps commute.
-use Rattle.std.proofs.Common.{◌≡◌, ℕ, zero, suc, ◌+◌, ◌==◌, ◌<◌, ◌≤◌, Bool, true, false, List, []}
+use Rattle.std.proofs.Common.{◌≡◌, ℕ, zero, suc, ◌+◌, ◌==◌, ◌<◌, ◌≤◌, Bool, List, []}
 use Rattle.std.proofs.Common.{◌∷◌, if◌then◌else◌, refl, sym, ap, subst, ◌∙◌, ◌⊎◌, arith, inl, inr}
 use Rattle.std.specs.List.{range_with_len}
 use Rattle.std.proofs.lemmas.Bool.{cases_eq}
@@ -82,10 +82,7 @@ swapped x y g k r = g (swap x y k) r
 without-two : {R : Type 0} (g : ℕ → R → R) (x i j : ℕ) (r : R) (p q : Bool)
     → (i == x) ≡ p → (j == x) ≡ q → Commutes g
     → without x g i (without x g j r) ≡ without x g j (without x g i r)
-without-two g x i j r true true e f c = rw (e, f) refl
-without-two g x i j r true false e f c = rw (e, f) refl
-without-two g x i j r false true e f c = rw (e, f) refl
-without-two g x i j r false false e f c = rw (e, f) (c i j r)
+without-two g x i j r p q e f c = grind (arith, c i j r)
 
 without-commutes : {R : Type 0} (g : ℕ → R → R) (x : ℕ) → Commutes g → Commutes (without x g)
 without-commutes g x c = λ i j r. without-two g x i j r (i == x) (j == x) refl refl c
@@ -102,10 +99,7 @@ pull-two g z a n x y c d h i j k =
 
 without-both : {R : Type 0} (g : ℕ → R → R) (x y k : ℕ) (r : R) (p q : Bool) → (k == x) ≡ p
     → (k == y) ≡ q → without y (without x (swapped x y g)) k r ≡ without y (without x g) k r
-without-both g x y k r true true e f = rw (f) refl
-without-both g x y k r false true e f = rw (f) refl
-without-both g x y k r true false e f = rw (f, e) refl
-without-both g x y k r false false e f = rw (f, e) refl
+without-both g x y k r p q e f = grind arith
 
 swapped-commutes : {R : Type 0} (g : ℕ → R → R) (x y : ℕ) → Commutes g → Commutes (swapped x y g)
 swapped-commutes g x y c = λ i j r. c (swap x y i) (swap x y j) r

@@ -114,26 +114,20 @@ fold-window g z i zero a zero inside = refl
 fold-window g z i zero a (suc n) inside =
     let at = inside a (omega arith) (omega arith) in absurd (omega (arith, at.0, at.1))
 fold-window g z i (suc m) a zero inside =
-    ap (λ (t : Bool). if t then g i (fold (within a 0 g) z (range_with_len (i + 1) m))
-    else fold (within a 0 g) z (range_with_len (i + 1) m)) (is_within-none a i)
-    ∙ fold-window g z (i + 1) m a 0 (λ k h j. absurd (omega arith))
+    rw (is_within-none a i) (fold-window g z (i + 1) m a 0 (λ k h j. absurd (omega arith)))
 fold-window g z i (suc m) a (suc n) inside =
     let first = inside a (omega arith) (omega arith) in
     elim (cases_eq i a) [
       | inl same ↦
-          ap (λ (t : Bool). if t then g i (fold (within a (suc n) g) z (range_with_len (i + 1) m))
-          else fold (within a (suc n) g) z (range_with_len (i + 1) m))
-          (is_within-true a (suc n) i (omega arith) (omega arith))
-          ∙ (ap (g i) (alike (within a (suc n) g) (within (a + 1) n g) z (i + 1) m (λ k r h j.
+          rw (is_within-true a (suc n) i (omega arith) (omega arith))
+          (ap (g i) (alike (within a (suc n) g) (within (a + 1) n g) z (i + 1) m (λ k r h j.
           ap (λ (t : Bool). if t then g k r else r) (is_within-next a n k (omega arith)))
           ∙ fold-window g z (i + 1) m (a + 1) n (λ k h j.
           let at = inside k (omega arith) (omega arith) in
           (omega (arith, same, h), omega (arith, at.1))))
           ∙ ap (λ (x : ℕ). g x (fold g z (range_with_len (a + 1) n))) same)
       | inr other ↦
-          ap (λ (t : Bool). if t then g i (fold (within a (suc n) g) z (range_with_len (i + 1) m))
-          else fold (within a (suc n) g) z (range_with_len (i + 1) m))
-          (is_within-under a (suc n) i (omega (arith, other, first.0)))
-          ∙ fold-window g z (i + 1) m a (suc n) (λ k h j.
-          let at = inside k h j in (omega (arith, other, first.0, h), omega (arith, at.1)))
+          rw (is_within-under a (suc n) i (omega (arith, other, first.0)))
+          (fold-window g z (i + 1) m a (suc n) (λ k h j.
+          let at = inside k h j in (omega (arith, other, first.0, h), omega (arith, at.1))))
     ]

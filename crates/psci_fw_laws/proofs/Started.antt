@@ -27,13 +27,10 @@ use Rattle.psci_fw_laws.proofs.Slots.{AreAt, outstanding_asked, outstanding_put,
 use Rattle.psci_fw_laws.proofs.Slots.{outstanding_taken}
 
 no_parts : (ps : List Part) (k : ℕ) (p : Part) → ps ≡ [] → slice_get ps k ≡ Some p → ⊥
-no_parts ps k p e i =
-    let no : slice_get {X = Part} [] k ≡ Some p = ap (λ xs. slice_get xs k) (sym e) ∙ i in
-    absurd (cc)
+no_parts ps k p e i = grind arith
 
 pub not_down : (k : Kind) → is_kind k Down ≡ false → k ≡ Down → ⊥
-not_down k e s =
-    let no : is_kind Down Down ≡ false = ap (λ x. is_kind x Down) (sym s) ∙ e in absurd (cc)
+not_down k e s = grind arith
 
 plain_parts : (k : Kind) (ps : List Part) → is_kind k Down ≡ false → ps ≡ [] → ArePartsOf k ps
 plain_parts Down ps e i = absurd (cc)
@@ -128,7 +125,7 @@ system_other Down e = absurd (cc)
 system_other k e = refl
 
 system_start : (k : Kind) → is_system k ≡ true → k ≡ Start → ⊥
-system_start k e s = let no : is_system Start ≡ true = ap is_system (sym s) ∙ e in absurd (cc)
+system_start k e s = grind arith
 
 pub halts : (b : BoardValue) (v : Values) (sent : List MessageValue) (m : MessageValue)
     → IsPlain b v m → is_system m.kind ≡ true → Holds b v sent
