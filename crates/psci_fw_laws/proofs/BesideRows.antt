@@ -30,8 +30,8 @@ light = 3 ∷ 2 ∷ 2 ∷ []
 
 -- In the way ------------------------------------------------------------------------------------
 
--- the other core of the cluster, and the other cluster, above each of its cores; of a request of core
--- 3 the other core of its own cluster, and the first cluster
+-- the other core of the cluster, and the other cluster, above each of its cores; of a request of
+-- core 3 the other core of its own cluster, and the first cluster
 in_the_way : IsInTheWay board (seen 0) 0 deep 0 1 × IsInTheWay board (seen 0) 0 deep 1 3
     × IsInTheWay board (seen 0) 3 deep 0 2 × IsInTheWay board (seen 0) 3 deep 1 0
 unfolding up

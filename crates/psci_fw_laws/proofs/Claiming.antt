@@ -9,7 +9,7 @@ use Rattle.psci_messages.specs.declared.kind.Kind.TheVariants.{Down}
 use Rattle.psci_messages.specs.Message.{MessageValue}
 use Rattle.psci_messages.specs.Slots.{is_kind}
 use Rattle.psci_fw_spec.specs.Lives.{first_phase}
-use Rattle.psci_fw_spec.specs.Phases.{Phase, Running, Pending, Away}
+use Rattle.psci_fw_spec.specs.Phases.{Phase, Running}
 use Rattle.psci_fw_spec.specs.Values.{updated}
 use Rattle.psci_fw_laws.specs.KnownBelow.{known_below}
 use Rattle.psci_fw_laws.specs.Claims.{AreRising, AreQuiet, IsFromMessage, part_for}
@@ -151,9 +151,7 @@ quiet_arrival b life halting known phase sent c n are on later quiet level place
     ]
 
 first_rests : (c : ℕ) → first_phase c ≡ Running → ⊥
-first_rests c =
-    updated_at (λ y. y ≡ Running → ⊥) (λ x. Away) 0 Pending c (λ e f. absurd (cc))
-    (λ e f. absurd (cc))
+first_rests c = grind (arith, updated_at)
 
 pub quiet_life : (b : BoardValue) (life : ℕ) (known : ℕ → ℕ) (sent : List MessageValue)
     → AreQuiet b life known first_phase sent

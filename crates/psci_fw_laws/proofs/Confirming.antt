@@ -131,9 +131,7 @@ says_off v n e f =
 
 pub says_standby : (v : Values) (n : Node) → v.confirmed n.level n.place ≡ true
     → 0 < v.granted n.level n.place → v.granted n.level n.place < 3 → node_hw v n ≡ Standby
-says_standby v n e some low =
-    ap (λ t. hw_by t (v.granted n.level n.place)) e
-    ∙ standby_at (v.granted n.level n.place) some low
+says_standby v n e some low = grind (arith, standby_at)
 
 pub says_on : (v : Values) (n : Node) → v.granted n.level n.place ≡ 0 → node_hw v n ≡ On
 says_on v n e =
@@ -146,6 +144,4 @@ unconfirmed_on v n e = ap (λ t. hw_by t (v.granted n.level n.place)) e
 pub says_alike : (v w : Values) (n m : Node)
     → v.confirmed n.level n.place ≡ w.confirmed m.level m.place
     → v.granted n.level n.place ≡ w.granted m.level m.place → node_hw v n ≡ node_hw w m
-says_alike v w n m e f =
-    ap (λ t. hw_by t (v.granted n.level n.place)) e
-    ∙ ap (hw_by (w.confirmed m.level m.place)) f
+says_alike v w n m e f = grind arith

@@ -27,7 +27,7 @@ use Rattle.psci_fw_spec.specs.Claims.{off_parts}
 use Rattle.psci_fw_spec.specs.CpuOff.{off_message}
 use Rattle.psci_fw_spec.specs.Effects.{Parks, effect_of, enter_effect}
 use Rattle.psci_fw_spec.specs.Entering.{enter_fault, enter_outcome, is_old, outcome_at, resumes}
-use Rattle.psci_fw_spec.specs.Invariant.{AreValues, is_expected}
+use Rattle.psci_fw_spec.specs.Invariant.{AreValues}
 use Rattle.psci_fw_spec.specs.Lives.{in_life, start_of_life}
 use Rattle.psci_fw_spec.specs.Outcomes.{stops, stops_with}
 use Rattle.psci_fw_spec.specs.Phases.{Phase, Away, Pending, Running, is_running}
@@ -131,11 +131,7 @@ found_values b v life laws are =
 -- a core without an opening is not pending
 not_pending : (b : BoardValue) (v : Values) (c : ℕ) → AreValues b v → v.halting ≡ false
     → v.opening c ≡ None → v.phase c ≡ Pending → ⊥
-not_pending b v c are awake none waits =
-    let agree = (are.awake awake).opening c in
-    let no : false ≡ true =
-    sym (ap is_some none) ∙ agree ∙ ap is_expected waits in
-    absurd (cc)
+not_pending b v c are awake none waits = grind (arith, waits)
 
 parks_allowed : (b : BoardValue) (v : Values) (c : ℕ) (s : Start) → LowerLaws b → IsReady b v
     → IsEntering b v c s → (in_life b s.life v).halting ≡ false

@@ -37,11 +37,7 @@ without-it g x r = grind arith
 -- the first number comes first
 pull-first : {R : Type 0} (g : ℕ → R → R) (z : R) (a n : ℕ)
     → fold g z (range_with_len a (suc n)) ≡ g a (fold (without a g) z (range_with_len a (suc n)))
-pull-first g z a n =
-    let rest = alike g (without a g) z (a + 1) n (λ k r l m.
-    sym (without-other g a k r (λ e. omega arith))) in
-    let it = without-it g a (fold (without a g) z (range_with_len (a + 1) n)) in
-    ap (g a) (rest ∙ sym it)
+pull-first g z a n = grind (arith, alike, without-other, without-it)
 
 -- a number that is gone over may come first
 pull : {R : Type 0} (g : ℕ → R → R) (z : R) (a n x : ℕ) → Commutes g → a ≤ x → x < a + n
@@ -92,10 +88,7 @@ pull-two : {R : Type 0} (g : ℕ → R → R) (z : R) (a n x y : ℕ) → Commut
     → a ≤ x → x < a + n → a ≤ y → y < a + n
     → fold g z (range_with_len a n)
     ≡ g x (g y (fold (without y (without x g)) z (range_with_len a n)))
-pull-two g z a n x y c d h i j k =
-    let rest = pull (without x g) z a n y (without-commutes g x c) j k in
-    let keep = without-other g x y (fold (without y (without x g)) z (range_with_len a n)) d in
-    pull g z a n x c h i ∙ ap (g x) (rest ∙ keep)
+pull-two g z a n x y c d h i j k = grind (arith, pull, without-commutes, without-other)
 
 without-both : {R : Type 0} (g : ℕ → R → R) (x y k : ℕ) (r : R) (p q : Bool) → (k == x) ≡ p
     → (k == y) ≡ q → without y (without x (swapped x y g)) k r ≡ without y (without x g) k r
@@ -127,9 +120,7 @@ swapped-inside g z a n x y c h i j k = elim (cases_eq y x) [
 swapped-outside : {R : Type 0} (g : ℕ → R → R) (z : R) (a n x y : ℕ)
     → ((k : ℕ) → a ≤ k → k < a + n → k ≡ x → ⊥) → ((k : ℕ) → a ≤ k → k < a + n → k ≡ y → ⊥)
     → fold (swapped x y g) z (range_with_len a n) ≡ fold g z (range_with_len a n)
-swapped-outside g z a n x y d e =
-    alike (swapped x y g) g z a n (λ k r i j.
-    ap (λ (l : ℕ). g l r) (swap-other x y k (d k i j) (e k i j)))
+swapped-outside g z a n x y d e = grind (arith, alike, swap-other)
 
 pub cases_within : (a n x : ℕ) → ((a ≤ x) × (x < a + n)) ⊎ (a ≤ x → x < a + n → ⊥)
 cases_within a n x = grind arith
@@ -138,9 +129,4 @@ cases_within a n x = grind arith
 pub swapped-fold : {R : Type 0} (g : ℕ → R → R) (z : R) (a n x y : ℕ) → Commutes g
     → (a ≤ x → x < a + n → (a ≤ y) × (y < a + n)) → (a ≤ y → y < a + n → (a ≤ x) × (x < a + n))
     → fold (swapped x y g) z (range_with_len a n) ≡ fold g z (range_with_len a n)
-swapped-fold g z a n x y c f s = elim (cases_within a n x) [
-  | inl h ↦ swapped-inside g z a n x y c h.0 h.1 (f h.0 h.1).0 (f h.0 h.1).1
-  | inr out ↦ swapped-outside g z a n x y
-      (λ k i j e. out (omega (arith, i, e)) (omega (arith, j, e)))
-      (λ k i j e. let t = s (omega (arith, i, e)) (omega (arith, j, e)) in out t.0 t.1)
-]
+swapped-fold g z a n x y c f s = grind (arith, cases_within, swapped-inside, swapped-outside)

@@ -57,13 +57,7 @@ pub shallow_at-any : (b : BoardValue) (w : PowerView) (f : Node → Bool) (c : �
     ≡ list_any (is_beside w f under (up b under c) (own_wish ask level))
     (range_with_len (first_child b level (up b level c)) (children_at b level (up b level c)))
 unfolding shallow_at
-shallow_at-any b w f c ask level under e =
-    let ks : List ℕ =
-    range_with_len (first_child b level (up b level c)) (children_at b level (up b level c)) in
-    rw (← e)
-    (any-filter f (λ n. nat_lt (w.granted n.level n.place) (own_wish ask level)) _
-    ∙ (any-filter _ (λ n. not (n.place == up b (level - 1) c)) _
-    ∙ any-map _ (λ place. record { level = level - 1; place = place }) ks))
+shallow_at-any b w f c ask level under e = grind (arith, any-filter, any-map)
 
 -- two tests that say the same of a node and of its other place
 abbrev pub AgreeBy : (ℕ → ℕ → ℕ) → (Node → Bool) → (Node → Bool) → Type 0
@@ -133,18 +127,10 @@ refusal-by : (b : BoardValue) (s : ℕ → ℕ → ℕ) (w : PowerView) (c : ℕ
     → refusal b (view_by s w) (shallow b (view_by s w) (s 0 c) ask)
     ≡ refusal b w (shallow b w c ask)
 unfolding refusal
-refusal-by b s w c ask is =
-    let some = some-any (shallow b (view_by s w) (s 0 c) ask)
-    ∙ (any-shallow b s w (λ n. true) (λ n. true) c ask is (λ n. refl)
-    ∙ sym (some-any (shallow b w c ask))) in
-    rw (
-      any-shallow b s w (is_idle b (view_by s w)) (is_idle b w) c ask is (idle-agrees b s w is),
-      some,
-    ) refl
+refusal-by b s w c ask is = grind (arith, some-any, any-shallow, idle-agrees)
 
 pub last_core_check-by : (b : BoardValue) (s : ℕ → ℕ → ℕ) (w : PowerView) (c : ℕ) (ask : List ℕ)
     → Renumbers b s
     → last_core_check b (view_by s w) (s 0 c) ask ≡ last_core_check b w c ask
 unfolding last_core_check
-last_core_check-by b s w c ask is =
-    rw (refusal-by b s w c ask is, own_claims-by b s w c ask is) refl
+last_core_check-by b s w c ask is = grind (arith, refusal-by, own_claims-by)

@@ -28,13 +28,7 @@ no_earlier life later e = grind arith
 pub answered : (b : BoardValue) (v : Values) (c : ℕ) (s : Start) → v.life < s.life
     → answer b v c (Enter s) ≡ answer b (start_of_life b 0) c (Enter s)
 unfolding answer enter_outcome
-answered b v c s e =
-    rw (
-      another v.life s.life e,
-      another 0 s.life (omega (arith, e)),
-      no_earlier v.life s.life e,
-      no_earlier 0 s.life (omega (arith, e)),
-    ) refl
+answered b v c s e = grind (arith, another, no_earlier)
 
 arrived : (b : BoardValue) (v : Values) (c : ℕ) (s : Start) → v.life < s.life
     → with_arrival b c s v ≡ with_arrival b c s (start_of_life b 0)

@@ -119,9 +119,7 @@ idle_nobody b v level c e x on at =
 nobody_idle : (b : BoardValue) (v : PowerView) (level c : ℕ) → NobodyAwake b v level c
     → is_idle b v (record { level = level; place = up b level c }) ≡ true
 unfolding is_idle up
-nobody_idle b v level c nobody =
-    one_all (λ y. not (v.is_active y)) _ 0 (cores b)
-    (λ x low high at. ap not (nobody x (omega (arith, high)) (eqb-true _ _ at)))
+nobody_idle b v level c nobody = grind (arith, one_all, nobody, eqb-true)
 
 -- The answers -----------------------------------------------------------------------------------
 

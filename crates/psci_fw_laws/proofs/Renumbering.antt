@@ -9,7 +9,7 @@ use Rattle.psci_board.specs.declared.node.Node.{Node}
 use Rattle.psci_messages.specs.psci_state.Ask.{least}
 use Rattle.psci_fw_laws.specs.Renumbered.{node_by}
 use Rattle.psci_fw_laws.proofs.Folds.{Commutes, fold}
-use Rattle.psci_fw_laws.proofs.Counts.{adds, adds-commutes, ands, ands-commutes, fold-filter}
+use Rattle.psci_fw_laws.proofs.Counts.{adds-commutes, ands, ands-commutes, fold-filter}
 use Rattle.psci_fw_laws.proofs.Counts.{least-fold, lessens, lessens-commutes, list_all-fold}
 use Rattle.psci_fw_laws.proofs.Counts.{list_any-fold, ors, ors-commutes, passing}
 use Rattle.psci_fw_laws.proofs.Counts.{passing-commutes, sum_by-fold}
@@ -71,9 +71,7 @@ below-fold b s n g z is c =
 
 pub sum-below : (b : BoardValue) (s : ℕ → ℕ → ℕ) (n : Node) (f : ℕ → ℕ) → Renumbers b s
     → sum_by (λ k. f (s 0 k)) (below b (node_by s n)) ≡ sum_by f (below b n)
-sum-below b s n f is =
-    sum_by-fold (λ k. f (s 0 k)) (below b (node_by s n))
-    ∙ (below-fold b s n (adds f) 0 is (adds-commutes f) ∙ sym (sum_by-fold f (below b n)))
+sum-below b s n f is = grind (arith, sum_by-fold, below-fold, adds-commutes)
 
 pub least-below : (b : BoardValue) (s : ℕ → ℕ → ℕ) (n : Node) (f : ℕ → ℕ) → Renumbers b s
     → least (map (λ k. f (s 0 k)) (below b (node_by s n))) ≡ least (map f (below b n))

@@ -97,6 +97,4 @@ changed-by s slot (Acknowledge a) o back =
 
 pub with_slots-by : (s : ℕ → ℕ → ℕ) (change : Change) (v : Values) → ((k : ℕ) → s 0 (s 0 k) ≡ k)
     → with_slots (change_by s change) (values_by s v) ≡ values_by s (with_slots change v)
-with_slots-by s change v back = λ i. record (values_by s v) {
-  outstanding = λ slot. changed-by s slot change (v.outstanding (slot_by s slot)) back i;
-}
+with_slots-by s change v back = grind (arith, changed-by)

@@ -16,10 +16,7 @@ kept f test a n = sum_by f (filter test (range_with_len a n))
 -- of a range that begins one sooner
 kept-more : (f : ℕ → ℕ) (test : ℕ → Bool) (a n : ℕ)
     → kept f test a (suc n) ≡ cond (test a) (f a) 0 + kept f test (a + 1) n
-kept-more f test a n = elim (cases_Bool (test a)) [
-  | inl t ↦ rw t (sum_by-cons f a (filter test (range_with_len (a + 1) n)))
-  | inr t ↦ rw t (omega arith)
-]
+kept-more f test a n = grind (arith, cases_Bool, sum_by-cons)
 
 kept_le : (f g : ℕ → ℕ) (test : ℕ → Bool) (a n : ℕ)
     → ((c : ℕ) → a ≤ c → c < a + n → test c ≡ true → f c ≤ g c)
@@ -97,10 +94,7 @@ known_less b f g level place k h i at less =
 pub known_same : (b : BoardValue) (f g : ℕ → ℕ) (level place : ℕ)
     → ((c : ℕ) → c < cores b → up b level c ≡ place → f c ≡ g c)
     → known_below b f level place ≡ known_below b g level place
-known_same b f g level place h =
-    let up = known_le b f g level place (λ c i at. omega (arith, h c i at)) in
-    let down = known_le b g f level place (λ c i at. omega (arith, h c i at)) in
-    omega arith
+known_same b f g level place h = grind (arith, known_le)
 
 pub known_none : (b : BoardValue) (level place : ℕ) → known_below b (λ c. 0) level place ≡ 0
 unfolding known_below

@@ -16,9 +16,7 @@ use Rattle.psci_fw_laws.proofs.Renumbering.{Renumbers}
 -- the other place of a node is one too
 place_inside : (b : BoardValue) (s : ℕ → ℕ → ℕ) (level place : ℕ) → Renumbers b s
     → place < nodes b level → s level place < nodes b level
-place_inside b s level place is h =
-    ltb-true (s level place) (nodes b level)
-    (is.inside level place ∙ lt-ltb place (nodes b level) h)
+place_inside b s level place is h = grind (arith, ltb-true, lt-ltb)
 
 node_inside : (b : BoardValue) (s : ℕ → ℕ → ℕ) (n : Node) → Renumbers b s → HasNode b n
     → HasNode b (node_by s n)

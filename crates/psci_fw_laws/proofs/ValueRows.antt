@@ -32,8 +32,8 @@ after_calls steps = values_of board (history_of board steps)
 
 -- what an example unfolds to compute them
 unfoldable computing : Unit {0}
-unfolding answer values_of outcome_of enter_outcome target_of core_of off_parts suspend_parts view up
-    claims_of least_ask last_core_check refusal shallow shallow_at is_idle generation outstanding
+unfolding answer values_of outcome_of enter_outcome target_of core_of off_parts suspend_parts view
+    up claims_of least_ask last_core_check refusal shallow shallow_at is_idle generation outstanding
     last_message changes_since known_below
 computing = tt
 
