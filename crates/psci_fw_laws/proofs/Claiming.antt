@@ -54,9 +54,7 @@ apart_later b sent x above are life level place (suc j) (suc k) m n p q h i g e 
 apart_start : (b : BoardValue) (sent : List MessageValue) (x : MessageValue) → IsAbove b sent x
     → AreRising b sent → (life level place k : ℕ) (m : MessageValue) (p : Part)
     → slice_get (x ∷ sent) k ≡ Some m → part_for b life level place m ≡ Some p → 0 < p.generation
-apart_start b sent x above are life level place zero m p i e =
-    let same : m ≡ x = cc in
-    above.start life level place p (subst (λ y. part_for b life level place y ≡ Some p) same e)
+apart_start b sent x above are life level place zero m p i e = grind arith
 apart_start b sent x above are life level place (suc k) m p i e =
     are.start life level place k m p i e
 

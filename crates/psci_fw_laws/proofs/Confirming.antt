@@ -12,7 +12,7 @@ use Rattle.psci_messages.specs.Message.{AckValue, MessageValue}
 use Rattle.psci_messages.specs.OnlyIf.{only_if}
 use Rattle.psci_messages.specs.Slots.{is_kind, slot_of}
 use Rattle.psci_fw_spec.specs.Changes.{confirms_on, with_acknowledgement}
-use Rattle.psci_fw_spec.specs.Confirmed.{applied_part, is_made_at}
+use Rattle.psci_fw_spec.specs.Confirmed.{is_made_at}
 use Rattle.psci_fw_spec.specs.NodeHwState.{hw_at, node_hw}
 use Rattle.psci_fw_spec.specs.Values.{Values}
 use Rattle.psci_fw_spec.specs.declared.hw.Hw.{Hw}
@@ -74,17 +74,7 @@ module _ (b : BoardValue) (v : Values) (a : AckValue) (level place : ℕ) where
       }
 
   by_carried : IsCarriedOut b v a level place → confirms_on b v a level place ≡ true
-  by_carried is =
-      let kind = ap (λ k. is_kind k Down) is.kind in
-      let sent : v.outstanding (slot_of a.kind a.core) ≡ Some is.message =
-      ap (λ k. v.outstanding (slot_of k a.core)) is.kind ∙ is.outstanding in
-      let part : applied_part a level (v.outstanding (slot_of a.kind a.core)) ≡ Some is.part =
-      ap (λ t. only_if t (option_and_then (λ m. slice_get m.parts level)
-      (v.outstanding (slot_of a.kind a.core)))) (and_from _ _ kind (lt-ltb _ _ is.applied))
-      ∙ ap (option_and_then (λ m. slice_get m.parts level)) sent ∙ is.at in
-      and_from _ _ (eq-eqb _ _ is.path)
-      (and_from _ _ (lt-ltb _ _ is.granted)
-      (ap (is_made_at known) part ∙ eq-eqb _ _ is.last))
+  by_carried is = grind (arith, level, and_from, lt-ltb, eq-eqb)
 
   by_test : (t before : Bool) → cond t true before ≡ true → (t ≡ true) ⊎ (before ≡ true)
   by_test true before e = inl refl
@@ -92,10 +82,7 @@ module _ (b : BoardValue) (v : Values) (a : AckValue) (level place : ℕ) where
 
   pub confirmed_only : (with_acknowledgement b a v).confirmed level place ≡ true
       → (v.confirmed level place ≡ true) ⊎ IsCarriedOut b v a level place
-  confirmed_only e = elim (by_test (confirms_on b v a level place) (v.confirmed level place) e) [
-    | inl now ↦ inr (carried_by now)
-    | inr before ↦ inl before
-  ]
+  confirmed_only e = grind (arith, by_test, level, carried_by)
 
   kept : (t before : Bool) → before ≡ true → cond t true before ≡ true
   kept true before e = refl

@@ -83,12 +83,7 @@ asks_nothing p e = elim e [
 pub none_active : (b : BoardValue) (v : Values) (c level : ℕ) → PathLaws b → AreValues b v
     → c < cores b → level ≤ height b → 0 < v.granted level (up b level c)
     → (v.phase c ≡ Running → ⊥) × (v.phase c ≡ Pending → ⊥)
-none_active b v c level paths are on high some =
-    let low = granted_below b v level c paths are on high in
-    let own = ask_own b v c in (
-      λ e. let none = asks_nothing (v.phase c) (inl e) in omega arith,
-      λ e. let none = asks_nothing (v.phase c) (inr e) in omega arith,
-    )
+none_active b v c level paths are on high some = grind (arith, granted_below, ask_own, asks_nothing)
 
 -- a claim asks for a depth of 1 at least
 some_depth : (b : BoardValue) (v : Values) (sent : List MessageValue) (level place : ℕ) (p : Part)

@@ -50,9 +50,7 @@ sooner s n k back under = elim (cases_eq k n) [
 fold-so_far : {R : Type 0} (s : ℕ → ℕ) (g : ℕ → R → R) (z : R) (m n : ℕ) → Commutes g
     → ((j : ℕ) → s (s j) ≡ j) → n ≤ m
     → fold (λ k r. g (so_far s n k) r) z (range_with_len 0 m) ≡ fold g z (range_with_len 0 m)
-fold-so_far s g z m zero c back h =
-    alike (λ k r. g (so_far s 0 k) r) g z 0 m (λ k r i j.
-    ap (λ (x : ℕ). g x r) (beyond s 0 k i))
+fold-so_far s g z m zero c back h = grind (arith, alike, beyond)
 fold-so_far s g z m (suc n) c back h = elim (cases_lt n (s n)) [
   | inl over ↦
       alike (λ k r. g (so_far s (suc n) k) r) (λ k r. g (so_far s n k) r) z 0 m (λ k r i j.

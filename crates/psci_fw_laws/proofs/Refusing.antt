@@ -163,17 +163,10 @@ module _ (b : BoardValue) (v : PowerView) (caller : ℕ) (ask : List ℕ) (paths
   }
 
   none_asleep : (HasSleeper b v caller ask → ⊥) → is_asleep b v caller ask ≡ false
-  none_asleep none = elim (cases_Bool (is_asleep b v caller ask)) [
-    | inl found ↦
-        let has = any_way b v caller ask paths kids (is_idle b v) found in
-        absurd (none (sleeper has))
-    | inr none_found ↦ none_found
-  ]
+  none_asleep none = grind (arith, cases_Bool, any_way, paths, sleeper)
 
   some_way : (level c : ℕ) → IsInTheWay b v caller ask level c → is_way b v caller ask ≡ true
-  some_way level c way =
-      some-any (shallow b v caller ask)
-      ∙ way_any b v caller ask paths kids (λ n. true) level c way refl
+  some_way level c way = grind (arith, some-any, way_any, paths, true)
 
   pub accepted : ((level c : ℕ) → IsInTheWay b v caller ask level c → ⊥)
       → last_core_check b v caller ask ≡ Ok (own_claims b v caller ask)

@@ -3,7 +3,7 @@ use Rattle.std.proofs.Common.{arith}
 use Rattle.std.proofs.Common.{◌≡◌, ℕ, zero, suc, nat_lt}
 use Rattle.std.proofs.Common.{refl, sym, ap, ◌∙◌}
 use Rattle.std.proofs.lemmas.Bool.{lt-ltb}
-use Rattle.psci_board.specs.Board.{BoardValue, cores, nodes, up}
+use Rattle.psci_board.specs.Board.{BoardValue, nodes, up}
 use Rattle.psci_board.specs.Laws.{PathLaws}
 use Rattle.psci_fw_laws.specs.Renumbered.{AreSiblings, IsRenumbering, swap, swap_cores}
 use Rattle.psci_fw_laws.proofs.Folds.{swap-back}
@@ -20,9 +20,7 @@ meeting b x y (suc level) laws e = laws.joined x y (suc level) (meeting b x y le
 
 nodes_swapped : (b : BoardValue) (x y level place : ℕ) → AreSiblings b x y
     → nat_lt (swap_cores x y level place) (nodes b level) ≡ nat_lt place (nodes b level)
-nodes_swapped b x y zero place two =
-    alike_both (λ k. nat_lt k (cores b)) x y place
-    (lt-ltb x (cores b) two.first ∙ sym (lt-ltb y (cores b) two.second))
+nodes_swapped b x y zero place two = grind (arith, alike_both, nat_lt, lt-ltb)
 nodes_swapped b x y (suc level) place two = refl
 
 swapped_back : (x y level place : ℕ)

@@ -84,16 +84,10 @@ changed-by : (s : ℕ → ℕ → ℕ) (slot : Slot) (change : Change) (o : Opti
     → ((k : ℕ) → s 0 (s 0 k) ≡ k)
     → changed slot (change_by s change) (option_map (message_by s) o)
     ≡ option_map (message_by s) (changed (slot_by s slot) change o)
-changed-by s slot (Put m) o back =
-    rw (is_of-by s m.kind m.core slot back)
-    (if-map s (is_slot (slot_of m.kind m.core) (slot_by s slot)) (Some m) o)
-changed-by s slot (Clear core) o back =
-    rw (is_slot-by s (OfCore core.number) slot back)
-    (if-map s (is_slot (OfCore core.number) (slot_by s slot)) None o)
+changed-by s slot (Put m) o back = grind (arith, is_of-by, if-map)
+changed-by s slot (Clear core) o back = grind (arith, is_slot-by, core, if-map)
 changed-by s slot ClearAll o back = refl
-changed-by s slot (Acknowledge a) o back =
-    rw (is_of-by s a.kind a.core slot back, left_by-by s a o back)
-    (if-map s (is_slot (slot_of a.kind a.core) (slot_by s slot)) (left_by a o) o)
+changed-by s slot (Acknowledge a) o back = grind (arith, is_of-by, left_by-by, if-map)
 
 pub with_slots-by : (s : ℕ → ℕ → ℕ) (change : Change) (v : Values) → ((k : ℕ) → s 0 (s 0 k) ≡ k)
     → with_slots (change_by s change) (values_by s v) ≡ values_by s (with_slots change v)
