@@ -5,7 +5,7 @@ use Rattle.std.proofs.Common.{option_map}
 use Rattle.std.specs.Prelude.{Result, Ok, Err, slice_index, slice_index_or, unwrap_or}
 use Rattle.std.proofs.lemmas.Bool.{cases_Bool, eqb-true}
 use Rattle.psci_platform.specs.declared.class.Class.{Class}
-use Rattle.psci_platform.specs.declared.class.Class.TheVariants.{Running, Standby, Retention}
+use Rattle.psci_platform.specs.declared.class.Class.TheVariants.{Running}
 use Rattle.psci_platform.specs.declared.class.Class.TheVariants.{PowerDown}
 use Rattle.psci_platform.specs.Calls.{first_argument, is_there, regs_for}
 use Rattle.psci_platform.specs.Cores.{core_word, number_named}
@@ -54,12 +54,9 @@ on_there : (p : PlatformValue) (mode : SuspendMode) (regs : Regs) (r : Request)
 on_there p mode regs (requests.CpuOn target a x) word address context laws is e =
     let own = core_word p.description p.board p.place target 0 in
     let one : argument regs own ≡ word = cc in
-    let two : a ≡ address = cc in
-    let three : x ≡ context = cc in
     record {
       target = target;
-      asks = is ∙ ap (λ (k : ℕ). requests.CpuOn target k x) two
-          ∙ ap (requests.CpuOn target address) three;
+      asks = cc;
       named = sym one ∙ short regs own (core_short p target 0 laws);
     }
 on_there p mode regs r word address context laws is e = absurd (cc)
@@ -83,7 +80,7 @@ some_number : (o : Option ℕ) (core : Core) (other : ℕ)
     → option_map (λ c. record { number = c }) o ≡ Some core → unwrap_or o other ≡ core.number
 some_number None core other e = absurd (cc)
 some_number (Some c) core other e =
-    let same : record { number = c } ≡ core = cc in ap (λ (x : Core). x.number) same
+    cc
 
 -- the core that its word names has this number
 pub target_number : (p : PlatformValue) (target : ℕ) (core : Core) → Laws p
@@ -97,19 +94,13 @@ target_number p target core laws e =
 
 class_small : (c : Class) → depth_of c ≤ 3
 class_small Running = omega arith
-class_small Standby = omega arith
-class_small Retention = omega arith
-class_small PowerDown = omega arith
+class_small c = omega arith
 
 type_small : (t : Bool) → cond t 1 0 ≤ 1
-type_small true = omega arith
-type_small false = omega arith
+type_small t = grind arith
 
 high_small : (r s t : Bool) → cond r 3 (cond s 2 (cond t 1 0)) ≤ 3
-high_small true s t = omega arith
-high_small false true t = omega arith
-high_small false false true = omega arith
-high_small false false false = omega arith
+high_small r s t = grind arith
 
 depth_small : (d : DescriptionValue) (level number : ℕ) → depth_at d level number ≤ 3
 depth_small d level number =
@@ -136,8 +127,7 @@ word_small d states Extended =
     (depth_small d 3 (slice_index states 3)) (type_small (is_deep (depths_of d states)))
 
 asking_small : (t : Bool) (word : ℕ) → word < 2 ^ 32 → cond t word 0xFFFFFFFF < 2 ^ 32
-asking_small true word small = small
-asking_small false word small = omega arith
+asking_small t word small = grind arith
 
 pub for_small : (d : DescriptionValue) (format : Format) (o : Option (List ℕ))
     → word_for d format o < 2 ^ 32

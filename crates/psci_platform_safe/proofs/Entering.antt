@@ -30,8 +30,7 @@ use Rattle.psci_headline.specs.psci_messages.declared.start.Start.{Start}
 use Rattle.psci_headline.specs.psci_world_spec.declared.event.Event.{Event}
 use Rattle.psci_headline.specs.psci_world_spec.declared.event.Event.TheVariants.{Enter}
 use Rattle.psci_headline.specs.psci_world_spec.declared.place.Place.{Place}
-use Rattle.psci_headline.specs.psci_world_spec.declared.place.Place.TheVariants.{Running, Started}
-use Rattle.psci_headline.specs.psci_world_spec.declared.place.Place.TheVariants.{Stopped}
+use Rattle.psci_headline.specs.psci_world_spec.declared.place.Place.TheVariants.{Started}
 use Rattle.psci_headline.specs.psci_world_spec.declared.said.Record.{Record}
 use Rattle.psci_headline.specs.psci_world_spec.declared.said.Said.{Said}
 use Rattle.psci_headline.specs.psci_world_spec.declared.said.Said.TheVariants.{Absent, Fw}
@@ -74,8 +73,7 @@ by_reply b past c n act own start (replies.Out o) last inside is e = record {
   reply = is;
   does = let same : act ≡ o.act = cc in sym same;
 }
-by_reply b past c n act own start (replies.Taken t) last inside is e = absurd (cc)
-by_reply b past c n act own start (replies.Fault f) last inside is e = absurd (cc)
+by_reply b past c n act own start reply last inside is e = absurd (cc)
 
 by_place : (b : BoardValue) (past : List Record) (c : ℕ) (act : Act) (own : Option Sent)
     (p : Place) (start : Option Start) → last_start (controller_values b past) c ≡ start
@@ -83,9 +81,7 @@ by_place : (b : BoardValue) (past : List Record) (c : ℕ) (act : Act) (own : Op
 by_place b past c act own Started (Some s) last inside e =
     by_reply b past c _ act own s (answer b (firmware_values b past) c (calls.Enter s)) last inside
     refl e
-by_place b past c act own Started None last inside e = absurd (cc)
-by_place b past c act own Running s last inside e = absurd (cc)
-by_place b past c act own Stopped s last inside e = absurd (cc)
+by_place b past c act own p start last inside e = absurd (cc)
 
 by_board : (b : BoardValue) (past : List Record) (c : ℕ) (act : Act) (own : Option Sent) (t : Bool)
     → nat_lt c (cores b) ≡ t

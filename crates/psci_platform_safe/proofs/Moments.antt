@@ -13,7 +13,8 @@ use Rattle.psci_headline.specs.psci_fw_laws.Claims.{part_for}
 use Rattle.psci_headline.specs.psci_messages.Message.{MessageValue}
 use Rattle.psci_headline.specs.psci_world_spec.declared.said.Record.{Record}
 use Rattle.psci_headline.specs.psci_world_spec.Histories.{controller_values, sent_in}
-use Rattle.psci_platform_safe.specs.Asked.{AllAsk, AskFor, IsFromStart, asks, depth_above, mode_of}
+use Rattle.psci_platform_safe.specs.Asked.{AllAsk, AskFor, IsFromStart, asks}
+use Rattle.psci_platform_safe.specs.Asked.{depth_above, mode_of}
 use Rattle.psci_platform_safe.specs.Safe.{NoDeeperThanAsked, NoneBelowSleeping, OneLiveClaim}
 use Rattle.psci_platform_safe.specs.Safe.{place_of}
 use Rattle.psci_headline.specs.Claims.{live_claims}

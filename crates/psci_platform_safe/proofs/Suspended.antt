@@ -28,7 +28,7 @@ use Rattle.psci_headline.specs.psci_fw_spec.CpuSuspend.{suspend_asked}
 use Rattle.psci_headline.specs.psci_fw_spec.Effects.{function_effect, rest_named}
 use Rattle.psci_headline.specs.psci_fw_spec.Legal.{IsLegal}
 use Rattle.psci_headline.specs.psci_fw_spec.Outcomes.{returns, stops}
-use Rattle.psci_headline.specs.psci_fw_spec.Phases.{Away, Pending, Phase, Running, Suspended}
+use Rattle.psci_headline.specs.psci_fw_spec.Phases.{Phase, Running, Suspended}
 use Rattle.psci_headline.specs.psci_fw_spec.Phases.{activity_of, is_running, unless_pending}
 use Rattle.psci_headline.specs.psci_fw_spec.Values.{Values}
 use Rattle.psci_headline.specs.psci_messages.Message.{MessageValue}
@@ -64,18 +64,14 @@ no_stop o m false code act message e =
     let no : acts.Stop ≡ acts.Return code = sym act ∙ ap (λ (x : Outcome). x.act) e in absurd (cc)
 
 running : (ph : Phase) → is_running ph ≡ true → ph ≡ Running
-running Pending e = absurd (cc)
 running Running e = refl
-running (Suspended depths) e = absurd (cc)
-running Away e = absurd (cc)
+running ph e = absurd (cc)
 
 may_call : (s t u : Bool)
     → cond (not s) (Some NoCore) (cond t (Some NoLife) (cond u None (Some NotRunning))) ≡ None
     → u ≡ true
-may_call false t u e = absurd (cc)
-may_call true true u e = absurd (cc)
 may_call true false true e = refl
-may_call true false false e = absurd (cc)
+may_call s t u e = absurd (cc)
 
 no_fault : (o out : Outcome) (fault : Option FwFault) → replies.Out o ≡ reply_or fault out
     → fault ≡ None
