@@ -1,5 +1,5 @@
--- Worked examples: for each sentence histories that break it: at each level, in both modes, in life 2
--- and in a life that is halting. None of them is legal: in each one thing is said that is not so.
+-- Worked examples: for each sentence histories that break it: at each level, in both modes, in life
+-- 2 and in a life that is halting. None of them is legal: in each one thing is said that is not so.
 use Rattle.std.proofs.Common.{◌≡◌, ◌++◌, ℕ, pos, List, [], ◌∷◌, true, false, Option, Some, refl}
 use Rattle.std.proofs.Common.{arith, ap, ◌∙◌, inl, inr}
 use Rattle.psci_headline.specs.psci_abi.Calls.{request_of}
@@ -8,19 +8,23 @@ use Rattle.psci_headline.specs.psci_abi.declared.request.Request.{Request}
 use Rattle.psci_headline.specs.psci_fw_spec.declared.opening.Opening.{Opening}
 use Rattle.psci_headline.specs.psci_fw_spec.declared.outcome.Act.TheVariants as acts
 use Rattle.psci_headline.specs.psci_messages.declared.kind.Kind.TheVariants.{Down}
-use Rattle.psci_headline.specs.psci_world_spec.declared.event.Event.TheVariants.{Call, Deliver, Enter}
+use Rattle.psci_headline.specs.psci_world_spec.declared.event.Event.TheVariants.{Call, Deliver}
+use Rattle.psci_headline.specs.psci_world_spec.declared.event.Event.TheVariants.{Enter}
 use Rattle.psci_headline.specs.psci_world_spec.declared.event.Event.TheVariants.{Wake}
 use Rattle.psci_headline.specs.psci_world_spec.declared.said.Record.{Record}
 use Rattle.psci_headline.specs.psci_world_spec.declared.said.Said.TheVariants.{Fw}
 use Rattle.psci_headline.specs.psci_world_spec.declared.said.Sent.{Sent}
-use Rattle.psci_headline.proofs.world_spec.Scripts.{acked, call, enters, goes_down, off, part, resumes}
+use Rattle.psci_headline.proofs.world_spec.Scripts.{acked, call, enters, goes_down, off, part}
+use Rattle.psci_headline.proofs.world_spec.Scripts.{resumes}
 use Rattle.psci_headline.proofs.world_spec.Scripts.{sends, stops, system_off, value}
 use Rattle.psci_headline.specs.Openings.{Made, OfCall, TakenUp}
 use Rattle.psci_platform_safe.specs.Names.{IsAskedOf}
 use Rattle.psci_platform_safe.specs.Opened.{OneEntryEach}
-use Rattle.psci_platform_safe.specs.Safe.{Answers, NoneBelowSleeping, OffIsDown, OneLiveClaim, SafeOn}
+use Rattle.psci_platform_safe.specs.Safe.{Answers, NoneBelowSleeping, OffIsDown, OneLiveClaim}
+use Rattle.psci_platform_safe.specs.Safe.{SafeOn}
 use Rattle.psci_platform_safe.specs.Safe.{StatesWereReal}
-use Rattle.psci_platform_safe.proofs.Histories.{after, computing, core_1_off, core_1_on, on_by_the_system}
+use Rattle.psci_platform_safe.proofs.Histories.{after, computing, core_1_off, core_1_on}
+use Rattle.psci_platform_safe.proofs.Histories.{on_by_the_system}
 use Rattle.psci_platform_safe.proofs.Histories.{on_in_life_2, says, state_of, status_of, suspend}
 use Rattle.psci_platform_safe.proofs.Histories.{tall, tall_after, tall_on, two}
 

@@ -124,7 +124,8 @@ unexcused :
 unfolding computing
 unexcused = (
   deeper _ _ 1 1 1 (1, refl) (omega arith) refl (omega arith)
-      (search arith, (λ m. omega (arith, m.asked 1 ((1, refl), refl)), search arith)) (search arith),
+      (search arith, (λ m. omega (arith, m.asked 1 ((1, refl), refl)), search arith))
+      (search arith),
   deeper _ _ 1 0 1 (1, refl) (omega arith) refl (omega arith)
       (λ m. omega (arith, m.asked 1 ((1, refl), refl)), search arith) (search arith),
   deeper _ _ 1 0 1 (1, refl) (omega arith) refl (omega arith)

@@ -88,11 +88,7 @@ module _ (p : PlatformValue) (r : Record) (older : List Record) (laws : OpeningL
       → firmware_values p.board (numbered p (r ∷ older))
       ≡ change p.board (effect_in p older event said) (firmware_values p.board w)
   unfolding numbered firmware_history
-  now_is event said e s =
-      effect_now p older r.event r.said laws.more
-      ∙ ap (λ (x : Event). change p.board (effect_in p older x r.said)
-      (firmware_values p.board w)) e
-      ∙ ap (λ (x : Said). change p.board (effect_in p older event x) (firmware_values p.board w)) s
+  now_is event said e s = grind (arith, effect_now)
 
   answered : (m : ℕ) (regs : Regs) (act : Act) (own : Option Sent) → r.event ≡ Call m regs
       → r.said ≡ Fw act own

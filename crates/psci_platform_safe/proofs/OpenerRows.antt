@@ -1,7 +1,8 @@
 -- Worked examples: what opens an entry point to a core, and records that open none, by each thing
 -- that is asked of them.
 use Rattle.std.proofs.Common.{◌≡◌, ℕ, [], ◌∷◌, None, inr, refl, arith, pos}
-use Rattle.psci_headline.specs.psci_fw_spec.declared.mode.SuspendMode.TheVariants.{OsInitiated, Platform}
+use Rattle.psci_headline.specs.psci_fw_spec.declared.mode.SuspendMode.TheVariants.{OsInitiated}
+use Rattle.psci_headline.specs.psci_fw_spec.declared.mode.SuspendMode.TheVariants.{Platform}
 use Rattle.psci_headline.specs.psci_world_spec.declared.event.Event.TheVariants.{Enter}
 use Rattle.psci_headline.specs.psci_world_spec.declared.said.Record.{Record}
 use Rattle.psci_headline.proofs.world_spec.Scripts.{asks_on, call, enters, error, goes_down}
@@ -69,7 +70,8 @@ powers_down = (
 )
 
 -- a word for retention powers down nothing
-no_power_down : (IsPowerDown two Platform 0x00000001 → ⊥) × (IsPowerDown two Platform 0x01010022 → ⊥)
+no_power_down : (IsPowerDown two Platform 0x00000001 → ⊥)
+    × (IsPowerDown two Platform 0x01010022 → ⊥)
 unfolding computing
 no_power_down = search arith
 

@@ -42,8 +42,8 @@ group_by_word = record {
       (refl, (refl, (refl, (refl, tt))));
 }
 
--- a core that runs on asks nothing by the word, nor does one whose word has states in the other mode
--- alone
+-- a core that runs on asks nothing by the word, nor does one whose word has states in the other
+-- mode alone
 not_by_word : (AsksByWord tall (told tall (tall_after tall_on) (suspend 0x10000 0x02010113))
     (tall_after tall_on) 0x10100 0x02010113 → ⊥)
     × (AsksByWord two (told two (after core_1_on) (suspend 1 0x01010022)) (after core_1_on) 1

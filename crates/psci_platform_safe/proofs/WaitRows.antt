@@ -62,7 +62,7 @@ never_waiting = (
   never_waits _ _ 1 (at 0x40000000 0) 5 (search (arith, inl, inr)),
 )
 
--- Entries that break sentence 4 --------------------------------------------------------------------
+-- Entries that break sentence 4 ------------------------------------------------------------------
 
 -- by core, life and entry point, and by what was used up
 one_entry_each :
