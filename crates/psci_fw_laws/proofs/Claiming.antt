@@ -116,9 +116,7 @@ quiet_new b life known phase sent m here quiet level place p claim =
 pub quiet_other : (b : BoardValue) (life : ℕ) (known : ℕ → ℕ) (phase : ℕ → Phase)
     (sent : List MessageValue) (m : MessageValue) → is_kind m.kind Down ≡ false
     → AreQuiet b life known phase sent → AreQuiet b life known phase (m ∷ sent)
-quiet_other b life known phase sent m other =
-    quiet_new b life known phase sent m
-    (λ level place p e. absurd (no_part b life level place p m other e))
+quiet_other b life known phase sent m other = search (arith, quiet_new, no_part)
 
 -- one core is of another phase: it does not run, or no claim on its path is current
 pub quiet_phase : (b : BoardValue) (life : ℕ) (known : ℕ → ℕ) (phase : ℕ → Phase)

@@ -52,9 +52,7 @@ first_of [] some = absurd (omega arith)
 first_of (p ∷ ps) some = record { part = p; at = refl }
 
 first_part : (k : Kind) (parts : List Part) → k ≡ Down → ArePartsOf k parts → HasFirst parts
-first_part k parts kind are =
-    let claim : AreClaims parts = subst (λ x. ArePartsOf x parts) kind are in
-    first_of parts claim.some
+first_part k parts kind are = search (arith, first_of)
 
 pub once_down : (b : BoardValue) (v : Values) (sent : List MessageValue) → Holds b v sent
     → (j k : ℕ) (m n : MessageValue) → slice_get sent j ≡ Some m → slice_get sent k ≡ Some n

@@ -2,7 +2,7 @@
 use Rattle.std.proofs.Common.{arith}
 use Rattle.std.proofs.Common.{◌≡◌, ℕ, ◌==◌, Bool, true, false, ◌&&◌, not}
 use Rattle.std.proofs.Common.{refl, sym, ap, ◌∙◌, if◌then◌else◌, Option, None, Some}
-use Rattle.std.proofs.Common.{inl, inr, ◌⊎◌}
+use Rattle.std.proofs.Common.{◌⊎◌}
 use Rattle.std.proofs.lemmas.Bool.{eq-eqb}
 use Rattle.psci_board.specs.Board.{BoardValue, has_node, up}
 use Rattle.psci_board.specs.Paths.{is_path_place}
@@ -71,12 +71,7 @@ found-by b s life v false is boot = sym (start_of_life-by b s life is boot)
 -- a core finds the values of the other numbers, where the boot core keeps its own or no life begins
 pub finds-by : (b : BoardValue) (s : ℕ → ℕ → ℕ) (start : Start) (v : Values) → Renumbers b s
     → (start.life ≡ v.life) ⊎ (s 0 0 ≡ 0) → FindsBy b s start v
-finds-by b s start v is spares = elim spares [
-  | inl same ↦
-      let t : (start.life == v.life) ≡ true = eq-eqb start.life v.life same in
-      rw t refl
-  | inr boot ↦ found-by b s start.life v (start.life == v.life) is boot
-]
+finds-by b s start v is spares = search (arith, true, eq-eqb, found-by)
 
 -- Answers ---------------------------------------------------------------------------------------
 
@@ -93,9 +88,7 @@ without_opening-by : (b : BoardValue) (s : ℕ → ℕ → ℕ) (found arrived :
     (start : Start) → Renumbers b s
     → without_opening b (values_by s found) (values_by s arrived) (s 0 c) start
     ≡ outcome_by s (without_opening b found arrived c start)
-without_opening-by b s found arrived c start is =
-    rw (resumes-by b s found c start is)
-    (chosen s (resumes found c start) _ _ _ _ refl (cpu_off-by b s arrived c is))
+without_opening-by b s found arrived c start is = search (arith, resumes-by, chosen, cpu_off-by)
 
 outcome_at-by : (b : BoardValue) (s : ℕ → ℕ → ℕ) (found arrived : Values) (c : ℕ) (start : Start)
     (o : Option Opening) → Renumbers b s
@@ -113,9 +106,7 @@ answered-by : (b : BoardValue) (s : ℕ → ℕ → ℕ) (found arrived : Values
     (found.opening (s 0 (s 0 c))))
     ≡ outcome_by s (if found.halting then stops
     else outcome_at b found arrived c start (found.opening c))
-answered-by b s found arrived c start is =
-    chosen s found.halting stops _ stops _ refl
-    (rw (is.back 0 c) (outcome_at-by b s found arrived c start (found.opening c) is))
+answered-by b s found arrived c start is = search (arith, chosen, outcome_at-by)
 
 pub enter_outcome-by : (b : BoardValue) (s : ℕ → ℕ → ℕ) (v : Values) (c : ℕ) (start : Start)
     → Renumbers b s → FindsBy b s start v

@@ -75,9 +75,7 @@ sum-below b s n f is = grind (arith, sum_by-fold, below-fold, adds-commutes)
 
 pub least-below : (b : BoardValue) (s : ℕ → ℕ → ℕ) (n : Node) (f : ℕ → ℕ) → Renumbers b s
     → least (map (λ k. f (s 0 k)) (below b (node_by s n))) ≡ least (map f (below b n))
-least-below b s n f is =
-    least-fold (λ k. f (s 0 k)) (below b (node_by s n))
-    ∙ (below-fold b s n (lessens f) 3 is (lessens-commutes f) ∙ sym (least-fold f (below b n)))
+least-below b s n f is = search (arith, least-fold, below, below-fold, lessens, lessens-commutes)
 
 pub all-below : (b : BoardValue) (s : ℕ → ℕ → ℕ) (n : Node) (f : ℕ → Bool) → Renumbers b s
     → list_all (λ k. f (s 0 k)) (below b (node_by s n)) ≡ list_all f (below b n)
@@ -87,20 +85,14 @@ all-below b s n f is =
 
 pub any-below : (b : BoardValue) (s : ℕ → ℕ → ℕ) (n : Node) (f : ℕ → Bool) → Renumbers b s
     → list_any (λ k. f (s 0 k)) (below b (node_by s n)) ≡ list_any f (below b n)
-any-below b s n f is =
-    list_any-fold (λ k. f (s 0 k)) (below b (node_by s n))
-    ∙ (below-fold b s n (ors f) false is (ors-commutes f) ∙ sym (list_any-fold f (below b n)))
+any-below b s n f is = search (arith, list_any-fold, below, below-fold, ors, false, ors-commutes)
 
 pub all-cores : (b : BoardValue) (s : ℕ → ℕ → ℕ) (f : ℕ → Bool) → Renumbers b s
     → list_all (λ k. f (s 0 k)) (range_with_len 0 (cores b))
     ≡ list_all f (range_with_len 0 (cores b))
-all-cores b s f is =
-    list_all-fold (λ k. f (s 0 k)) (range_with_len 0 (cores b))
-    ∙ (is.all (ands f) true (ands-commutes f) ∙ sym (list_all-fold f (range_with_len 0 (cores b))))
+all-cores b s f is = search (arith, list_all-fold, ands, true, ands-commutes)
 
 pub any-cores : (b : BoardValue) (s : ℕ → ℕ → ℕ) (f : ℕ → Bool) → Renumbers b s
     → list_any (λ k. f (s 0 k)) (range_with_len 0 (cores b))
     ≡ list_any f (range_with_len 0 (cores b))
-any-cores b s f is =
-    list_any-fold (λ k. f (s 0 k)) (range_with_len 0 (cores b))
-    ∙ (is.all (ors f) false (ors-commutes f) ∙ sym (list_any-fold f (range_with_len 0 (cores b))))
+any-cores b s f is = search (arith, list_any-fold, ors, false, ors-commutes)

@@ -1,6 +1,6 @@
 -- The target of an accepted CPU_ON is a core of the board that is off.
 use Rattle.std.proofs.Common.{◌≡◌, ℕ, Bool, true, false, cond, ◌==◌}
-use Rattle.std.proofs.Common.{Option, None, Some, Ok, Err, refl, arith, subst}
+use Rattle.std.proofs.Common.{Option, None, Some, Ok, Err, refl, arith}
 use Rattle.std.specs.Prelude.{Result}
 use Rattle.std.proofs.lemmas.Bool.{eqb-false}
 use Rattle.psci_fw_spec.specs.psci_abi.declared.code.Code.{Code}
@@ -31,9 +31,7 @@ target_if : (b : BoardValue) (v : Values) (word : ℕ) (code : Code) (k t : Core
     → (v.known k.number == b.starts) ≡ full
     → cond full (Err code) (Ok k) ≡ Ok t → IsTarget b v word t
 target_if b v word code k t true named off room e = absurd (cc)
-target_if b v word code k t false named off room e =
-    let same : k ≡ t = cc in
-    subst (IsTarget b v word) same (record { named = named; off = off; room = room })
+target_if b v word code k t false named off room e = search arith
 
 target_by : (b : BoardValue) (v : Values) (word : ℕ) (k t : Core) (s : Status)
     → core_of b word ≡ Some k → v.status k.number ≡ s → off_target b v k s ≡ Ok t
