@@ -71,7 +71,7 @@ found-by b s life v false is boot = sym (start_of_life-by b s life is boot)
 -- a core finds the values of the other numbers, where the boot core keeps its own or no life begins
 pub finds-by : (b : BoardValue) (s : ℕ → ℕ → ℕ) (start : Start) (v : Values) → Renumbers b s
     → (start.life ≡ v.life) ⊎ (s 0 0 ≡ 0) → FindsBy b s start v
-finds-by b s start v is spares = search (arith, true, eq-eqb, found-by)
+finds-by b s start v is spares = search (arith, eq-eqb, found-by)
 
 -- Answers ---------------------------------------------------------------------------------------
 

@@ -1,6 +1,6 @@
 -- What a renumbering keeps, and what is counted below a domain and over all cores.
 use Rattle.std.proofs.Common.{arith}
-use Rattle.std.proofs.Common.{◌≡◌, ℕ, suc, ◌==◌, nat_lt, Bool, true, false}
+use Rattle.std.proofs.Common.{◌≡◌, ℕ, suc, ◌==◌, nat_lt, Bool}
 use Rattle.std.proofs.Common.{map, sym, ap, ◌∙◌}
 use Rattle.std.specs.List.{range_with_len, sum_by, list_all, list_any}
 use Rattle.psci_board.specs.Board.{BoardValue, below, cores, nodes, up, first_child}
@@ -9,9 +9,9 @@ use Rattle.psci_board.specs.declared.node.Node.{Node}
 use Rattle.psci_messages.specs.psci_state.Ask.{least}
 use Rattle.psci_fw_laws.specs.Renumbered.{node_by}
 use Rattle.psci_fw_laws.proofs.Folds.{Commutes, fold}
-use Rattle.psci_fw_laws.proofs.Counts.{adds-commutes, ands, ands-commutes, fold-filter}
-use Rattle.psci_fw_laws.proofs.Counts.{least-fold, lessens, lessens-commutes, list_all-fold}
-use Rattle.psci_fw_laws.proofs.Counts.{list_any-fold, ors, ors-commutes, passing}
+use Rattle.psci_fw_laws.proofs.Counts.{adds-commutes, ands-commutes, fold-filter}
+use Rattle.psci_fw_laws.proofs.Counts.{least-fold, lessens-commutes, list_all-fold}
+use Rattle.psci_fw_laws.proofs.Counts.{list_any-fold, ors-commutes, passing}
 use Rattle.psci_fw_laws.proofs.Counts.{passing-commutes, sum_by-fold}
 
 -- What a renumbering keeps of a board.
@@ -75,24 +75,22 @@ sum-below b s n f is = grind (arith, sum_by-fold, below-fold, adds-commutes)
 
 pub least-below : (b : BoardValue) (s : ℕ → ℕ → ℕ) (n : Node) (f : ℕ → ℕ) → Renumbers b s
     → least (map (λ k. f (s 0 k)) (below b (node_by s n))) ≡ least (map f (below b n))
-least-below b s n f is = search (arith, least-fold, below, below-fold, lessens, lessens-commutes)
+least-below b s n f is = search (arith, least-fold, below-fold, lessens-commutes)
 
 pub all-below : (b : BoardValue) (s : ℕ → ℕ → ℕ) (n : Node) (f : ℕ → Bool) → Renumbers b s
     → list_all (λ k. f (s 0 k)) (below b (node_by s n)) ≡ list_all f (below b n)
-all-below b s n f is =
-    list_all-fold (λ k. f (s 0 k)) (below b (node_by s n))
-    ∙ (below-fold b s n (ands f) true is (ands-commutes f) ∙ sym (list_all-fold f (below b n)))
+all-below b s n f is = search (arith, list_all-fold, below-fold, ands-commutes)
 
 pub any-below : (b : BoardValue) (s : ℕ → ℕ → ℕ) (n : Node) (f : ℕ → Bool) → Renumbers b s
     → list_any (λ k. f (s 0 k)) (below b (node_by s n)) ≡ list_any f (below b n)
-any-below b s n f is = search (arith, list_any-fold, below, below-fold, ors, false, ors-commutes)
+any-below b s n f is = search (arith, list_any-fold, below-fold, ors-commutes)
 
 pub all-cores : (b : BoardValue) (s : ℕ → ℕ → ℕ) (f : ℕ → Bool) → Renumbers b s
     → list_all (λ k. f (s 0 k)) (range_with_len 0 (cores b))
     ≡ list_all f (range_with_len 0 (cores b))
-all-cores b s f is = search (arith, list_all-fold, ands, true, ands-commutes)
+all-cores b s f is = search (arith, list_all-fold, ands-commutes)
 
 pub any-cores : (b : BoardValue) (s : ℕ → ℕ → ℕ) (f : ℕ → Bool) → Renumbers b s
     → list_any (λ k. f (s 0 k)) (range_with_len 0 (cores b))
     ≡ list_any f (range_with_len 0 (cores b))
-any-cores b s f is = search (arith, list_any-fold, ors, false, ors-commutes)
+any-cores b s f is = search (arith, list_any-fold, ors-commutes)
