@@ -91,9 +91,6 @@ is_within-true a n k h i = grind arith
 is_within-under : (a n k : ℕ) → k < a → is_within a n k ≡ false
 is_within-under a n k h = grind arith
 
-is_within-over : (a n k : ℕ) → a + n ≤ k → is_within a n k ≡ false
-is_within-over a n k h = grind arith
-
 pub is_within-false : (a n k : ℕ) → (a ≤ k → k < a + n → ⊥) → is_within a n k ≡ false
 is_within-false a n k out = grind arith
 
