@@ -28,9 +28,7 @@ use Rattle.psci_fw_laws.proofs.Slots.{outstanding_arrival, outstanding_none, out
 -- The start of a life -------------------------------------------------------------------------
 
 pub first_not_on : (c : ℕ) → is_on (first_status c) ≡ false
-first_not_on c =
-    updated_at (λ s. is_on s ≡ false) (λ x. statuses.Off) 0 statuses.Pending c (λ e. refl)
-    (λ e. refl)
+first_not_on c = grind (arith, updated_at)
 
 pub first_holds : (b : BoardValue) (life : ℕ) (halting : Bool) (known : ℕ → ℕ) (phase : ℕ → Phase)
     (sent : List MessageValue) (later : ℕ) → later ≤ b.lives → life < later → AreRising b sent
@@ -61,14 +59,10 @@ found_holds b v sent c s enters holds =
 
 pub found_later : (b : BoardValue) (v : Values) (c : ℕ) (s : Start) → IsEntering b v c s
     → (in_life b s.life v).known c < s.number
-found_later b v c s enters =
-    cond_both (s.life == v.life) v (start_of_life b s.life) (λ w. w.known c < s.number)
-    (λ e. enters.later (eqb-true s.life v.life e)) (λ e. enters.some)
+found_later b v c s enters = grind (arith, cond_both, eqb-true)
 
 pub found_life : (b : BoardValue) (v : Values) (life : ℕ) → (in_life b life v).life ≡ life
-found_life b v life =
-    cond_both (life == v.life) v (start_of_life b life) (λ w. w.life ≡ life)
-    (λ e. sym (eqb-true life v.life e)) (λ e. refl)
+found_life b v life = grind (arith, cond_both, eqb-true)
 
 -- The arrival ---------------------------------------------------------------------------------
 

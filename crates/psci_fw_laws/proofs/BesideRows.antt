@@ -1,6 +1,6 @@
 -- Worked examples: what is in the way of a request of core 0, of two clusters of two cores, and
 -- what is not.
-use Rattle.std.proofs.Common.{◌≡◌, ◌<◌, ◌==◌, ℕ, zero, suc, true, false, List, [], ◌∷◌}
+use Rattle.std.proofs.Common.{◌≡◌, ◌==◌, ℕ, zero, suc, true, false, List, [], ◌∷◌}
 use Rattle.std.proofs.Common.{refl, arith}
 use Rattle.std.proofs.lemmas.Bool.{ne_eqb}
 use Rattle.psci_board.specs.Board.{BoardValue, up}
@@ -30,67 +30,22 @@ light = 3 ∷ 2 ∷ 2 ∷ []
 
 -- In the way ------------------------------------------------------------------------------------
 
--- the other core of the cluster, and the other cluster, above each of its cores
-core_beside : IsInTheWay board (seen 0) 0 deep 0 1
+-- the other core of the cluster, and the other cluster, above each of its cores; of a request of
+-- core 3 the other core of its own cluster, and the first cluster
+in_the_way : IsInTheWay board (seen 0) 0 deep 0 1 × IsInTheWay board (seen 0) 0 deep 1 3
+    × IsInTheWay board (seen 0) 3 deep 0 2 × IsInTheWay board (seen 0) 3 deep 1 0
 unfolding up
-core_beside = record {
-  core = omega arith;
-  low = omega arith;
-  joined = refl;
-  apart = λ e. let no : 1 ≡ 0 = e in absurd (omega (arith, no));
-  less = omega arith;
-}
+in_the_way = omega arith
 
-cluster_beside : IsInTheWay board (seen 0) 0 deep 1 3
+-- not the caller's own cluster, a core of another cluster, a core that the board does not have,
+-- anything above the system, or what was granted as much as is asked
+not_in_the_way : (IsInTheWay board (seen 0) 0 deep 1 1 → ⊥)
+    × (IsInTheWay board (seen 0) 0 deep 0 2 → ⊥)
+    × (IsInTheWay board (seen 0) 0 deep 1 4 → ⊥)
+    × (IsInTheWay board (seen 0) 0 (3 ∷ 3 ∷ 3 ∷ 3 ∷ []) 2 1 → ⊥)
+    × (IsInTheWay board (seen 0) 0 light 0 1 → ⊥)
 unfolding up
-cluster_beside = record {
-  core = omega arith;
-  low = omega arith;
-  joined = refl;
-  apart = λ e. let no : 1 ≡ 0 = e in absurd (omega (arith, no));
-  less = omega arith;
-}
-
--- not the caller's own cluster, a core of another cluster, a core that the board does not have, or
--- anything above the system
-own_cluster : IsInTheWay board (seen 0) 0 deep 1 1 → ⊥
-unfolding up
-own_cluster way = way.apart refl
-
-core_elsewhere : IsInTheWay board (seen 0) 0 deep 0 2 → ⊥
-unfolding up
-core_elsewhere way = let no : 1 ≡ 0 = way.joined in absurd (omega (arith, no))
-
-no_such_core : IsInTheWay board (seen 0) 0 deep 1 4 → ⊥
-no_such_core way = let no : 4 < 4 = way.core in absurd (omega (arith, no))
-
-above_the_system : IsInTheWay board (seen 0) 0 (3 ∷ 3 ∷ 3 ∷ 3 ∷ []) 2 1 → ⊥
-above_the_system way = let no : 2 < 2 = way.low in absurd (omega (arith, no))
-
--- of a request of core 3 the other core of its own cluster, and the first cluster
-beside_core_3 : IsInTheWay board (seen 0) 3 deep 0 2
-unfolding up
-beside_core_3 = record {
-  core = omega arith;
-  low = omega arith;
-  joined = refl;
-  apart = λ e. let no : 2 ≡ 3 = e in absurd (omega (arith, no));
-  less = omega arith;
-}
-
-first_cluster : IsInTheWay board (seen 0) 3 deep 1 0
-unfolding up
-first_cluster = record {
-  core = omega arith;
-  low = omega arith;
-  joined = refl;
-  apart = λ e. let no : 0 ≡ 1 = e in absurd (omega (arith, no));
-  less = omega arith;
-}
-
--- nor what was granted as much as is asked
-deep_enough : IsInTheWay board (seen 0) 0 light 0 1 → ⊥
-deep_enough way = let no : 2 < 2 = way.less in absurd (omega (arith, no))
+not_in_the_way = search arith
 
 -- Awake -----------------------------------------------------------------------------------------
 
@@ -107,8 +62,8 @@ somebody none = let no : true ≡ false = none 2 (omega arith) refl in absurd (c
 
 -- so the cluster sleeps too light
 sleeper : HasSleeper board (seen 0) 0 deep
-sleeper = record { level = 1; core = 3; way = cluster_beside; asleep = nobody }
+sleeper = record { level = 1; core = 3; way = in_the_way.1; asleep = nobody }
 
 -- each domain in the way has to be awake
 not_denied : AreAwake board (seen 0) 0 deep → ⊥
-not_denied are = are.each 1 3 cluster_beside nobody
+not_denied are = are.each 1 3 in_the_way.1 nobody

@@ -14,6 +14,10 @@ use Rattle.psci_fw_laws.specs.KnownBelow.{known_below}
 use Rattle.psci_fw_laws.specs.Messages.{IsOfThisLife, IsSound}
 use Rattle.psci_fw_laws.specs.Outstanding.{AreOutstanding, IsOfCore, IsOfLife}
 use Rattle.psci_fw_laws.specs.Within.{AreWithin}
+use Rattle.psci_abi.proofs.Tables.{◌⇒◌, Gives}
+use Rattle.std.proofs.Common.{List}
+use Rattle.psci_messages.specs.declared.part.Part.{Part}
+use Rattle.psci_fw_spec.specs.Phases.{Phase}
 use Rattle.psci_fw_laws.proofs.Calls.{board, message, part}
 
 -- the Down of core 3 that has entered once, and went off with its cluster
@@ -42,29 +46,22 @@ waits = record {
   down = λ e f. absurd (cc);
 }
 
--- for another core, with another number, a message for the system
-waits_for_another : IsOfCore 1 (each 1) (each Away) (down_3 ∷ []) 2 down_3 → ⊥
-waits_for_another h = let core = h.core in absurd (omega arith)
+-- a core with this known start, in this phase, to which this message was sent
+abbrev WaitsFor : ℕ → ℕ → Phase → MessageValue → Type 0
+WaitsFor core known phase m = IsOfCore 1 (each known) (each phase) (m ∷ []) core m
 
-waits_of_another_start : IsOfCore 1 (each 2) (each Away) (down_3 ∷ []) 3 down_3 → ⊥
-waits_of_another_start h = let number = h.number in absurd (omega arith)
-
-off_waits_for_a_core : IsOfCore 1 (each 1) (each Away) (off_3 ∷ []) 3 off_3 → ⊥
-off_waits_for_a_core h = let kind : true ≡ false = h.kind in absurd (cc)
-
--- a Start of a core that is not pending, a Down of one that is
-start_of_one_away : IsOfCore 1 (each 1) (each Away) (start_3 ∷ []) 3 start_3 → ⊥
-start_of_one_away h = let start = h.start refl in absurd (cc)
-
-down_of_one_pending : IsOfCore 1 (each 1) (each Pending) (down_3 ∷ []) 3 down_3 → ⊥
-down_of_one_pending h = h.down refl refl
-
--- of another life, and never sent
-waits_of_another_life : IsOfLife 2 (down_3 ∷ []) down_3 → ⊥
-waits_of_another_life h = let present = h.present in absurd (omega arith)
-
-never_sent : IsOfLife 1 [] down_3 → ⊥
-never_sent h = let at : None ≡ Some down_3 = h.at in absurd (cc)
+never_waits :
+    -- for another core, of another start, a message for the system
+    (WaitsFor 2 1 Away down_3 → ⊥)
+    × (WaitsFor 3 2 Away down_3 → ⊥)
+    × (WaitsFor 3 1 Away off_3 → ⊥)
+    -- a Start of a core that is not pending, a Down of one that is
+    × (WaitsFor 3 1 Away start_3 → ⊥)
+    × (WaitsFor 3 1 Pending down_3 → ⊥)
+    -- of another life, and never sent
+    × (IsOfLife 2 (down_3 ∷ []) down_3 → ⊥)
+    × (IsOfLife 1 [] down_3 → ⊥)
+never_waits = search arith
 
 -- a slot with this message
 abbrev for_core : MessageValue → Slot → Option MessageValue
@@ -75,101 +72,95 @@ abbrev for_system : MessageValue → Slot → Option MessageValue
 for_system m (OfCore c) = None
 for_system m OfSystem = Some m
 
-start_for_the_system :
-    AreOutstanding 1 (each 1) (each Away) (start_3 ∷ []) (for_system start_3) → ⊥
-start_for_the_system h = let halts : false ≡ true = h.halts start_3 refl in absurd (cc)
-
-system_never_sent : AreOutstanding 1 (each 1) (each Away) [] (for_system off_3) → ⊥
-system_never_sent h =
-    let at : None ≡ Some off_3 = (h.system off_3 refl).at in absurd (cc)
-
-other_core_waits : AreOutstanding 1 (each 1) (each Away) (down_3 ∷ []) (for_core down_3) → ⊥
-other_core_waits h = let core = (h.core 2 down_3 refl).core in absurd (omega arith)
+not_outstanding :
+    -- a Start for the system, an Off that was never sent, a Down in the slot of each core
+    (AreOutstanding 1 (each 1) (each Away) (start_3 ∷ []) (for_system start_3) → ⊥)
+    × (AreOutstanding 1 (each 1) (each Away) [] (for_system off_3) → ⊥)
+    × (AreOutstanding 1 (each 1) (each Away) (down_3 ∷ []) (for_core down_3) → ⊥)
+not_outstanding = (
+  λ h. let halts : false ≡ true = h.halts start_3 refl in cc,
+  λ h. let at : None ≡ Some off_3 = (h.system off_3 refl).at in cc,
+  λ h. omega (arith, (h.core 2 down_3 refl).core),
+)
 
 -- Cores that have entered ---------------------------------------------------------------------
 
 -- a core without a known start that runs, is suspended, is ON
-runs_unknown : AreEntered (each 0) (each On) (each Running) → ⊥
-runs_unknown h = let known = h.runs 3 refl in absurd (omega arith)
-
-suspended_unknown : AreEntered (each 0) (each On) (each (Suspended (1 ∷ []))) → ⊥
-suspended_unknown h = let known = h.suspended 3 (1 ∷ []) refl in absurd (omega arith)
-
-on_unknown : AreEntered (each 0) (each On) (each Away) → ⊥
-on_unknown h = let off : true ≡ false = h.not_on 3 refl in absurd (cc)
+not_entered : (AreEntered (each 0) (each On) (each Running) → ⊥)
+    × (AreEntered (each 0) (each On) (each (Suspended (1 ∷ []))) → ⊥)
+    × (AreEntered (each 0) (each On) (each Away) → ⊥)
+not_entered = (
+  λ h. omega (arith, h.runs 3 refl),
+  λ h. omega (arith, h.suspended 3 (1 ∷ []) refl),
+  λ h. let off : true ≡ false = h.not_on 3 refl in cc,
+)
 
 -- Limits --------------------------------------------------------------------------------------
 
-fourth_life : AreWithin board 4 (each 0) [] → ⊥
-fourth_life h = let lives = h.lives in absurd (omega arith)
-
-start_1001 : AreWithin board 1 (each 1001) [] → ⊥
-start_1001 h = let starts = h.starts 3 in absurd (omega arith)
-
-number_1001 : AreWithin board 1 (each 1) (message Start 3 1 1001 [] ∷ []) → ⊥
-number_1001 h = let number = h.number 0 (message Start 3 1 1001 []) refl in absurd (omega arith)
-
-generation_4001 : AreWithin board 1 (each 1) (message Down 3 1 1 (part 0 3 4001 ∷ []) ∷ []) → ⊥
-generation_4001 h =
-    let most = h.generation 0 0 (message Down 3 1 1 (part 0 3 4001 ∷ [])) (part 0 3 4001) refl refl
-    in absurd (omega arith)
+beyond_limits :
+    -- a fourth life, start 1001, and a sum of 4001 starts
+    (AreWithin board 4 (each 0) [] → ⊥)
+    × (AreWithin board 1 (each 1001) [] → ⊥)
+    × (AreWithin board 1 (each 1) (message Start 3 1 1001 [] ∷ []) → ⊥)
+    × (AreWithin board 1 (each 1) (message Down 3 1 1 (part 0 3 4001 ∷ []) ∷ []) → ⊥)
+beyond_limits = (
+  λ h. omega (arith, h.lives),
+  λ h. omega (arith, h.starts 3),
+  λ h. omega (arith, h.number 0 (message Start 3 1 1001 []) refl),
+  λ h. omega (arith, h.generation 0 0 _ (part 0 3 4001) refl refl),
+)
 
 -- Messages ------------------------------------------------------------------------------------
 
-life_0 : IsSound board (message Start 3 0 0 []) → ⊥
-life_0 h = let life = h.life in absurd (omega arith)
+-- a Down of core 3 in life 1, and whether it is sound
+abbrev IsSoundDown : ℕ → List Part → Type 0
+IsSoundDown number parts = IsSound board (message Down 3 1 number parts)
 
-core_4 : IsSound board (message Start 4 1 0 []) → ⊥
-core_4 h = let core = h.core in absurd (omega arith)
+unsound :
+    -- of life 0, of core 4, with a part too many, beyond the start limit
+    (IsSound board (message Start 3 0 0 []) → ⊥)
+    × (IsSound board (message Start 4 1 0 []) → ⊥)
+    × (IsSoundDown 1 (part 0 3 1 ∷ part 1 3 1 ∷ part 2 3 1 ∷ part 3 3 1 ∷ []) → ⊥)
+    × (IsSoundDown 1001 (part 0 3 1001 ∷ []) → ⊥)
+unsound = search arith
 
-four_parts : IsSound board
-    (message Down 3 1 1 (part 0 3 1 ∷ part 1 3 1 ∷ part 2 3 1 ∷ part 3 3 1 ∷ [])) → ⊥
-four_parts h = let few = h.few in absurd (omega arith)
+unsound_by_kind :
+    -- a Start that leaves no room, and a Down before any entry
+    (IsSound board (message Start 3 1 1000 []) → ⊥)
+    × (IsSoundDown 0 (part 0 3 0 ∷ []) → ⊥)
+    -- its first generation is of another start, or its generations fall
+    × (IsSoundDown 2 (part 0 3 1 ∷ []) → ⊥)
+    × (IsSoundDown 2 (part 0 3 2 ∷ part 1 3 1 ∷ []) → ⊥)
+unsound_by_kind = (
+  λ h. omega (arith, h.room refl),
+  λ h. omega (arith, h.entered refl),
+  λ h. omega (arith, h.first (part 0 3 1) refl),
+  λ h. omega (arith, h.rises 0 (part 0 3 2) (part 1 3 1) refl refl),
+)
 
-down_1001 : IsSound board (message Down 3 1 1001 (part 0 3 1001 ∷ [])) → ⊥
-down_1001 h = let number = h.number in absurd (omega arith)
-
-start_at_the_limit : IsSound board (message Start 3 1 1000 []) → ⊥
-start_at_the_limit h = let room = h.room refl in absurd (omega arith)
-
-down_before_any_entry : IsSound board (message Down 3 1 0 (part 0 3 0 ∷ [])) → ⊥
-down_before_any_entry h = let entered = h.entered refl in absurd (omega arith)
-
-first_of_another_start : IsSound board (message Down 3 1 2 (part 0 3 1 ∷ [])) → ⊥
-first_of_another_start h = let first = h.first (part 0 3 1) refl in absurd (omega arith)
-
-falling_generations : IsSound board (message Down 3 1 2 (part 0 3 2 ∷ part 1 3 1 ∷ [])) → ⊥
-falling_generations h =
-    let rises = h.rises 0 (part 0 3 2) (part 1 3 1) refl refl in absurd (omega arith)
-
--- beside the values: a number that is not known yet, an Off in a life that is not halting, a Start
--- of a core that is not pending, a Down that is not what its core asks of itself
-number_unknown : IsOfThisLife board false (each 0) (each Away) down_3 → ⊥
-number_unknown h = let number = h.number in absurd (omega arith)
-
-off_of_a_life_that_goes_on : IsOfThisLife board false (each 1) (each Away) off_3 → ⊥
-off_of_a_life_that_goes_on h = let halts : false ≡ true = h.halts refl in absurd (cc)
-
-started_and_away : IsOfThisLife board false (each 1) (each Away) start_3 → ⊥
-started_and_away h = let pending = h.pending refl refl in absurd (cc)
-
-down_of_one_that_runs : IsOfThisLife board false (each 1) (each Running) down_3 → ⊥
-down_of_one_that_runs h =
-    let asked = h.asked refl refl (λ e. absurd (cc)) (part 0 3 1) refl in absurd (omega arith)
+not_of_this_life :
+    -- a number that is not known yet, an Off in a life that is not halting
+    (IsOfThisLife board false (each 0) (each Away) down_3 → ⊥)
+    × (IsOfThisLife board false (each 1) (each Away) off_3 → ⊥)
+    -- a Start of a core that is not pending, a Down that is not what its core asks of itself
+    × (IsOfThisLife board false (each 1) (each Away) start_3 → ⊥)
+    × (IsOfThisLife board false (each 1) (each Running) down_3 → ⊥)
+not_of_this_life = (
+  λ h. omega (arith, h.number),
+  λ h. let halts : false ≡ true = h.halts refl in cc,
+  λ h. let pending = h.pending refl refl in cc,
+  λ h. omega (arith, h.asked refl refl (λ e. absurd (cc)) (part 0 3 1) refl),
+)
 
 -- Sums ----------------------------------------------------------------------------------------
 
 -- each core below counts by its own number: cores 2 and 3 with 3 and 4, and with core 0 the system
-abbrev by_core : ℕ → ℕ
-by_core c = c + 1
+abbrev sum_below : ℕ × ℕ → ℕ
+sum_below at = known_below board (λ c. c + 1) at.0 at.1
 
-sum_of_the_second_cluster : known_below board by_core 1 1 ≡ 7
+sums : Gives sum_below ((1, 1) ⇒ 7 ∷ (2, 0) ⇒ 10 ∷ [])
 unfolding known_below up
-sum_of_the_second_cluster = refl
-
-sum_of_the_system : known_below board by_core 2 0 ≡ 10
-unfolding known_below up
-sum_of_the_system = refl
+sums = refl
 
 -- a Down of core 3 is no claim on the domains of core 0
 part_of_its_own_path : part_for board 1 1 1 down_3 ≡ Some (part 1 3 1)

@@ -1,9 +1,7 @@
 -- Worked examples: what an acknowledgement says was carried out of a claim on a group, and what
 -- one more thing that is not so leaves undone.
-use Rattle.std.proofs.Common.{◌≡◌, ◌<◌, ℕ, true, [], ◌∷◌, Option, None, Some, refl}
-use Rattle.std.proofs.Common.{arith, ap, ◌∙◌, ◌==◌, if◌then◌else◌}
-use Rattle.std.specs.Prelude.{slice_get}
-use Rattle.std.proofs.lemmas.Option.{same_Some}
+use Rattle.std.proofs.Common.{ℕ, true, [], ◌∷◌, Option, None, Some, refl}
+use Rattle.std.proofs.Common.{arith, ◌==◌, if◌then◌else◌}
 use Rattle.psci_board.specs.Board.{BoardValue, up}
 use Rattle.psci_messages.specs.declared.part.Part.{Part}
 use Rattle.psci_messages.specs.declared.kind.Kind.{Kind}
@@ -113,36 +111,14 @@ group_of_both = record {
   last = refl;
 }
 
--- not where two parts were applied
-two_parts : IsCarriedOut tall (kept 1 1 (Some sent)) (acked Down 2) 2 1 → ⊥
-two_parts is = let no : 2 < 2 = is.applied in absurd (omega (arith, no))
-
--- the group is not on the core's path; it is of no Down
-other_group : IsCarriedOut tall (kept 1 1 (Some sent)) (acked Down 3) 2 0 → ⊥
+-- not where two parts were applied; the group is not on the core's path; it is of no Down; nothing
+-- is granted any more, nothing waits, or core 3 has entered
+-- since
+not_carried_out : (IsCarriedOut tall (kept 1 1 (Some sent)) (acked Down 2) 2 1 → ⊥)
+    × (IsCarriedOut tall (kept 1 1 (Some sent)) (acked Down 3) 2 0 → ⊥)
+    × (IsCarriedOut tall (kept 1 1 (Some sent)) (acked Start 3) 2 1 → ⊥)
+    × (IsCarriedOut tall (kept 1 0 (Some sent)) (acked Down 3) 2 1 → ⊥)
+    × (IsCarriedOut tall (kept 1 1 None) (acked Down 3) 2 1 → ⊥)
+    × (IsCarriedOut tall (kept 2 1 (Some sent)) (acked Down 3) 2 1 → ⊥)
 unfolding up
-other_group is = let no : 0 ≡ 1 = is.path in absurd (omega (arith, no))
-
-no_down : IsCarriedOut tall (kept 1 1 (Some sent)) (acked Start 3) 2 1 → ⊥
-no_down is = let no : Start ≡ Down = is.kind in absurd (cc)
-
--- nothing is granted any more, nothing waits, or core 3 has entered since
-none_granted : IsCarriedOut tall (kept 1 0 (Some sent)) (acked Down 3) 2 1 → ⊥
-none_granted is = let no : 0 < 0 = is.granted in absurd (omega (arith, no))
-
-none_waits : IsCarriedOut tall (kept 1 1 None) (acked Down 3) 2 1 → ⊥
-none_waits is =
-    let no : ◌≡◌ {A = Option MessageValue} None (Some is.message) = is.outstanding in absurd (cc)
-
-entered_since : IsCarriedOut tall (kept 2 1 (Some sent)) (acked Down 3) 2 1 → ⊥
-entered_since is =
-    let same : ◌≡◌ {A = Option MessageValue} (Some sent) (Some is.message) = is.outstanding in
-    let own = third is.message is.part is.at same in
-    let last : is.part.generation ≡ 2 = is.last in
-    let no : 1 ≡ 2 = ap (λ (p : Part). p.generation) own ∙ last in
-    absurd (omega (arith, no))
-  where
-    third : (m : MessageValue) (p : Part) → slice_get m.parts 2 ≡ Some p → Some sent ≡ Some m
-        → part 2 1 ≡ p
-    third m p at e =
-        let same = same_Some sent m e in
-        same_Some (part 2 1) p (ap (λ (x : MessageValue). slice_get x.parts 2) same ∙ at)
+not_carried_out = search arith

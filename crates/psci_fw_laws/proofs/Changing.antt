@@ -1,4 +1,5 @@
 -- What happens to the values of renumbered cores.
+use Rattle.std.proofs.Common.{arith}
 use Rattle.std.proofs.Common.{◌≡◌, ℕ, Bool, true, false, ◌&&◌, nat_lt, refl}
 use Rattle.std.proofs.Common.{sym, ap, ◌∙◌, if◌then◌else◌, Option, None, Some, slice_get}
 use Rattle.std.specs.Prelude.{option_map}
@@ -26,7 +27,7 @@ use Rattle.psci_fw_spec.specs.Phases as phases
 use Rattle.psci_fw_spec.specs.Values.{Values, updated}
 use Rattle.psci_fw_laws.specs.Renumbered.{acknowledgement_by, message_by, node_by}
 use Rattle.psci_fw_laws.specs.Renumbered.{values_by}
-use Rattle.psci_fw_laws.proofs.Renumbering.{Renumbers, node_back, same_test, sum-below}
+use Rattle.psci_fw_laws.proofs.Renumbering.{Renumbers, node_back, sum-below}
 use Rattle.psci_fw_laws.proofs.SlotsBy.{at_slot-by, with_slots-by}
 use Rattle.psci_fw_laws.proofs.StoppingBy.{updated-by, with_phase-by}
 
@@ -36,17 +37,14 @@ use Rattle.psci_fw_laws.proofs.StoppingBy.{updated-by, with_phase-by}
 path-by : (b : BoardValue) (s : ℕ → ℕ → ℕ) (c level place : ℕ) → Renumbers b s
     → is_path_place b (s 0 c) level place ≡ is_path_place b c level (s level place)
 path-by b s c level place is =
-    same_test place (up b level (s 0 c)) (s level place) (up b level c)
-    (λ e. ap (s level) (e ∙ is.above level c) ∙ is.back level (up b level c))
-    (λ e. sym (is.back level place) ∙ (ap (s level) e ∙ sym (is.above level c)))
+    grind (arith, is.above level c, is.back level place, is.back level (up b level c))
 
 -- a choice on the path of a core
 on_path-by : {A : Type 0} (b : BoardValue) (s : ℕ → ℕ → ℕ) (c level place : ℕ) (x y : A)
     → Renumbers b s
     → (if is_path_place b (s 0 c) level place then x else y)
     ≡ (if is_path_place b c level (s level place) then x else y)
-on_path-by b s c level place x y is =
-    ap (λ (t : Bool). if t then x else y) (path-by b s c level place is)
+on_path-by b s c level place x y is = rw (path-by b s c level place is)
 
 -- Functions -------------------------------------------------------------------------------------
 

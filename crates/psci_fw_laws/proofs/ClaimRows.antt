@@ -1,5 +1,5 @@
 -- Worked examples: which claims there are, and which of them are current.
-use Rattle.std.proofs.Common.{◌≡◌, ◌<◌, ℕ, ◌+◌, inl, inr, List, [], ◌∷◌, true, false, None, Some}
+use Rattle.std.proofs.Common.{◌≡◌, ℕ, ◌+◌, inl, inr, List, [], ◌∷◌, true, false, None, Some}
 use Rattle.std.proofs.Common.{refl, ap, arith}
 use Rattle.psci_board.specs.Board.{core_of, up}
 use Rattle.psci_messages.specs.Claim.{claims_of}
@@ -21,6 +21,8 @@ use Rattle.psci_fw_laws.specs.Claims.{AreRising, IsClaimOn, IsCurrent, IsFromSta
 use Rattle.psci_fw_laws.specs.KnownBelow.{known_below}
 use Rattle.psci_fw_laws.proofs.Calls.{board, enter, history_of, message, off, on_3, part}
 use Rattle.psci_fw_laws.proofs.Calls.{take}
+use Rattle.psci_abi.proofs.Tables.{◌⇒◌, Gives}
+use Rattle.std.proofs.Common.{Option}
 
 -- Parts for a domain --------------------------------------------------------------------------
 
@@ -28,89 +30,60 @@ use Rattle.psci_fw_laws.proofs.Calls.{take}
 abbrev off_3 : MessageValue
 off_3 = message Down 3 1 1 (part 0 3 1 ∷ part 1 2 4 ∷ [])
 
--- of its own domain, of its cluster, and of no other cluster, level or life
-part_of_core : part_for board 1 0 3 off_3 ≡ Some (part 0 3 1)
-unfolding up
-part_of_core = refl
+abbrev parts_of : MessageValue × ℕ × ℕ × ℕ → Option Part
+parts_of x = part_for board x.1 x.2 x.3 x.0
 
-part_of_cluster : part_for board 1 1 1 off_3 ≡ Some (part 1 2 4)
+parts_for_domains : Gives parts_of
+    -- of its own domain, of its cluster, and of no other cluster, core, level or life
+    ((off_3, 1, 0, 3) ⇒ Some (part 0 3 1)
+    ∷ (off_3, 1, 1, 1) ⇒ Some (part 1 2 4)
+    ∷ (off_3, 1, 1, 0) ⇒ None
+    ∷ (off_3, 1, 0, 2) ⇒ None
+    ∷ (off_3, 1, 2, 0) ⇒ None
+    ∷ (off_3, 2, 0, 3) ⇒ None
+    ∷ (off_3, 0, 0, 3) ⇒ None
+    -- other messages have none, even with parts
+    ∷ (record off_3 { kind = Start }, 1, 0, 3) ⇒ None
+    ∷ (record off_3 { kind = Reset }, 1, 0, 3) ⇒ None ∷ [])
 unfolding up
-part_of_cluster = refl
-
-part_of_other_cluster : part_for board 1 1 0 off_3 ≡ None
-unfolding up
-part_of_other_cluster = refl
-
-part_of_other_core : part_for board 1 0 2 off_3 ≡ None
-unfolding up
-part_of_other_core = refl
-
-part_of_system : part_for board 1 2 0 off_3 ≡ None
-unfolding up
-part_of_system = refl
-
-part_of_later_life : part_for board 2 0 3 off_3 ≡ None
-unfolding up
-part_of_later_life = refl
-
-part_of_earlier_life : part_for board 0 0 3 off_3 ≡ None
-unfolding up
-part_of_earlier_life = refl
-
--- other messages have none, even with parts
-part_of_start : part_for board 1 0 3 (record off_3 { kind = Start }) ≡ None
-unfolding up
-part_of_start = refl
-
-part_of_reset : part_for board 1 0 3 (record off_3 { kind = Reset }) ≡ None
-unfolding up
-part_of_reset = refl
+parts_for_domains = refl
 
 -- Claims of a life's start --------------------------------------------------------------------
 
--- a claim on a core and a cluster off the boot path, and on nothing beside the board
-start_of_core : IsFromStart board 0 3 (part 0 3 0)
+-- on a core and on a cluster off the boot path
+from_the_start : IsFromStart board 0 3 (part 0 3 0) × IsFromStart board 1 1 (part 1 3 0)
 unfolding up
-start_of_core = record { node = refl; off_path = refl; is = refl }
+from_the_start = (
+  record { node = refl; off_path = refl; is = refl },
+  record { node = refl; off_path = refl; is = refl },
+)
 
-start_of_cluster : IsFromStart board 1 1 (part 1 3 0)
+not_from_the_start :
+    -- not on the boot core or the system, nor on what the board does not have
+    (IsFromStart board 0 0 (part 0 3 0) → ⊥)
+    × (IsFromStart board 2 0 (part 2 3 0) → ⊥)
+    × (IsFromStart board 0 4 (part 0 3 0) → ⊥)
+    -- nor less deep, or of another generation
+    × (IsFromStart board 0 3 (part 0 2 0) → ⊥)
+    × (IsFromStart board 0 3 (part 0 3 1) → ⊥)
 unfolding up
-start_of_cluster = record { node = refl; off_path = refl; is = refl }
-
-none_of_boot_core : IsFromStart board 0 0 (part 0 3 0) → ⊥
-unfolding up
-none_of_boot_core s = let no : true ≡ false = s.off_path in absurd (cc)
-
-none_of_system : IsFromStart board 2 0 (part 2 3 0) → ⊥
-unfolding up
-none_of_system s = let no : true ≡ false = s.off_path in absurd (cc)
-
-none_beside_board : IsFromStart board 0 4 (part 0 3 0) → ⊥
-none_beside_board s = let no : false ≡ true = s.node in absurd (cc)
-
-none_less_deep : IsFromStart board 0 3 (part 0 2 0) → ⊥
-none_less_deep s = omega (arith, ap (λ (p : Part). p.depth) s.is)
-
-none_of_generation_1 : IsFromStart board 0 3 (part 0 3 1) → ⊥
-none_of_generation_1 s = omega (arith, ap (λ (p : Part). p.generation) s.is)
+not_from_the_start = (
+  λ s. let no : true ≡ false = s.off_path in cc,
+  λ s. let no : true ≡ false = s.off_path in cc,
+  λ s. let no : false ≡ true = s.node in cc,
+  λ s. omega (arith, ap (λ (p : Part). p.depth) s.is),
+  λ s. omega (arith, ap (λ (p : Part). p.generation) s.is),
+)
 
 -- Known starts below --------------------------------------------------------------------------
 
 -- a core has its own, a cluster those of its two cores, the system those of all
-abbrev starts : ℕ → ℕ
-starts c = 10 + c
+abbrev starts_below : ℕ × ℕ → ℕ
+starts_below at = known_below board (λ c. 10 + c) at.0 at.1
 
-below_core : known_below board starts 0 3 ≡ 13
+sums_below : Gives starts_below ((0, 3) ⇒ 13 ∷ (1, 1) ⇒ 25 ∷ (2, 0) ⇒ 46 ∷ [])
 unfolding known_below
-below_core = refl
-
-below_cluster : known_below board starts 1 1 ≡ 25
-unfolding known_below
-below_cluster = refl
-
-below_system : known_below board starts 2 0 ≡ 46
-unfolding known_below
-below_system = refl
+sums_below = refl
 
 -- Current claims ------------------------------------------------------------------------------
 
@@ -119,57 +92,44 @@ abbrev twice : List FwExchange
 twice = history_of board (enter 0 1 1 ∷ on_3 ∷ enter 3 1 1 ∷ off 3 ∷ take Down 3 1 1 2 ∷ on_3
     ∷ enter 3 1 2 ∷ off 3 ∷ [])
 
+-- what an example unfolds to compute what this leaves
+unfoldable computing : Unit {0}
+unfolding answer values_of outcome_of enter_outcome target_of core_of off_parts view up claims_of
+    least_ask generation outstanding last_message changes_since sent_messages known_below
+computing = tt
+
 -- what it has sent of its cluster: the last first, each with the known starts of then
 twice_sent : sent_messages board twice
     ≡ message Down 3 1 2 (part 0 3 2 ∷ part 1 3 2 ∷ [])
     ∷ message Start 3 1 1 []
     ∷ message Down 3 1 1 (part 0 3 1 ∷ part 1 3 1 ∷ [])
     ∷ message Start 3 1 0 [] ∷ []
-unfolding answer values_of outcome_of enter_outcome target_of core_of off_parts view up claims_of
-    least_ask generation outstanding last_message changes_since sent_messages
+unfolding computing
 twice_sent = refl
 
 twice_known : known_below board ((values_of board twice).known) 1 1 ≡ 2
-unfolding answer values_of outcome_of enter_outcome target_of core_of off_parts view up claims_of
-    least_ask generation outstanding last_message changes_since known_below
+unfolding computing
 twice_known = refl
 
--- both are claims on its cluster
-second_claim : IsClaimOn board 1 1 1 (part 1 3 2) (sent_messages board twice)
-unfolding answer values_of outcome_of enter_outcome target_of core_of off_parts view up claims_of
-    least_ask generation outstanding last_message changes_since sent_messages
-second_claim = inr (record {
-  index = 0;
-  message = message Down 3 1 2 (part 0 3 2 ∷ part 1 3 2 ∷ []);
-  at = refl;
-  part = refl;
-})
+-- both Downs are claims on its cluster, and so is that of the life's start
+claims_on_its_cluster : IsClaimOn board 1 1 1 (part 1 3 2) (sent_messages board twice)
+    × IsClaimOn board 1 1 1 (part 1 3 1) (sent_messages board twice)
+    × IsClaimOn board 1 1 1 (part 1 3 0) (sent_messages board twice)
+unfolding computing
+claims_on_its_cluster = (
+  inr (record { index = 0; message = _; at = refl; part = refl }),
+  inr (record { index = 2; message = _; at = refl; part = refl }),
+  inl (record { node = refl; off_path = refl; is = refl }),
+)
 
-first_claim : IsClaimOn board 1 1 1 (part 1 3 1) (sent_messages board twice)
-unfolding answer values_of outcome_of enter_outcome target_of core_of off_parts view up claims_of
-    least_ask generation outstanding last_message changes_since sent_messages
-first_claim = inr (record {
-  index = 2;
-  message = message Down 3 1 1 (part 0 3 1 ∷ part 1 3 1 ∷ []);
-  at = refl;
-  part = refl;
-})
-
--- and so is that of the life's start; the last one alone is current
-third_claim : IsClaimOn board 1 1 1 (part 1 3 0) (sent_messages board twice)
-unfolding up
-third_claim = inl (record { node = refl; off_path = refl; is = refl })
-
+-- the last one alone is current
 second_current : IsCurrent board (values_of board twice).known 1 1 (part 1 3 2)
-unfolding answer values_of outcome_of enter_outcome target_of core_of off_parts view up claims_of
-    least_ask generation outstanding last_message changes_since known_below
+unfolding computing
 second_current = refl
 
-first_over : IsCurrent board (values_of board twice).known 1 1 (part 1 3 1) → ⊥
-first_over e = let known = twice_known in omega (arith, e, known)
-
-start_over : IsCurrent board (values_of board twice).known 1 1 (part 1 3 0) → ⊥
-start_over e = let known = twice_known in omega (arith, e, known)
+others_over : (IsCurrent board (values_of board twice).known 1 1 (part 1 3 1) → ⊥)
+    × (IsCurrent board (values_of board twice).known 1 1 (part 1 3 0) → ⊥)
+others_over = (λ e. omega (arith, e, twice_known), λ e. omega (arith, e, twice_known))
 
 -- Claims rise ---------------------------------------------------------------------------------
 
@@ -177,27 +137,17 @@ start_over e = let known = twice_known in omega (arith, e, known)
 abbrev claimed_in : ℕ → ℕ → ℕ → MessageValue
 claimed_in life own cluster = message Down 3 life own (part 0 3 own ∷ part 1 3 cluster ∷ [])
 
--- in life 2, and in the life before the last one
-one_generation_twice : AreRising board (claimed_in 2 2 1 ∷ claimed_in 2 1 1 ∷ []) → ⊥
+not_rising :
+    -- one generation twice in life 2, also in the life before the last one
+    (AreRising board (claimed_in 2 2 1 ∷ claimed_in 2 1 1 ∷ []) → ⊥)
+    × (AreRising board (claimed_in 3 1 1 ∷ claimed_in 2 2 1 ∷ claimed_in 2 1 1 ∷ []) → ⊥)
+    -- a generation that falls, and that of the life's start
+    × (AreRising board (claimed_in 2 2 1 ∷ claimed_in 2 1 2 ∷ []) → ⊥)
+    × (AreRising board (claimed_in 2 1 0 ∷ []) → ⊥)
 unfolding up
-one_generation_twice are =
-    let no : 1 < 1 = are.later 2 1 1 0 1 _ _ _ _ (omega arith) refl refl refl refl in
-    absurd (omega (arith, no))
-
-twice_in_the_life_before : AreRising board
-    (claimed_in 3 1 1 ∷ claimed_in 2 2 1 ∷ claimed_in 2 1 1 ∷ []) → ⊥
-unfolding up
-twice_in_the_life_before are =
-    let no : 1 < 1 = are.later 2 1 1 1 2 _ _ _ _ (omega arith) refl refl refl refl in
-    absurd (omega (arith, no))
-
-generation_falls : AreRising board (claimed_in 2 2 1 ∷ claimed_in 2 1 2 ∷ []) → ⊥
-unfolding up
-generation_falls are =
-    let no : 2 < 1 = are.later 2 1 1 0 1 _ _ _ _ (omega arith) refl refl refl refl in
-    absurd (omega (arith, no))
-
-generation_of_the_start : AreRising board (claimed_in 2 1 0 ∷ []) → ⊥
-unfolding up
-generation_of_the_start are =
-    let no : 0 < 0 = are.start 2 1 1 0 _ _ refl refl in absurd (omega (arith, no))
+not_rising = (
+  λ are. omega (arith, are.later 2 1 1 0 1 _ _ _ _ (omega arith) refl refl refl refl),
+  λ are. omega (arith, are.later 2 1 1 1 2 _ _ _ _ (omega arith) refl refl refl refl),
+  λ are. omega (arith, are.later 2 1 1 0 1 _ _ _ _ (omega arith) refl refl refl refl),
+  λ are. omega (arith, are.start 2 1 1 0 _ _ refl refl),
+)

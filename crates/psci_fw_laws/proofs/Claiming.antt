@@ -9,7 +9,7 @@ use Rattle.psci_messages.specs.declared.kind.Kind.TheVariants.{Down}
 use Rattle.psci_messages.specs.Message.{MessageValue}
 use Rattle.psci_messages.specs.Slots.{is_kind}
 use Rattle.psci_fw_spec.specs.Lives.{first_phase}
-use Rattle.psci_fw_spec.specs.Phases.{Phase, Running, Pending, Away}
+use Rattle.psci_fw_spec.specs.Phases.{Phase, Running}
 use Rattle.psci_fw_spec.specs.Values.{updated}
 use Rattle.psci_fw_laws.specs.KnownBelow.{known_below}
 use Rattle.psci_fw_laws.specs.Claims.{AreRising, AreQuiet, IsFromMessage, part_for}
@@ -54,9 +54,7 @@ apart_later b sent x above are life level place (suc j) (suc k) m n p q h i g e 
 apart_start : (b : BoardValue) (sent : List MessageValue) (x : MessageValue) → IsAbove b sent x
     → AreRising b sent → (life level place k : ℕ) (m : MessageValue) (p : Part)
     → slice_get (x ∷ sent) k ≡ Some m → part_for b life level place m ≡ Some p → 0 < p.generation
-apart_start b sent x above are life level place zero m p i e =
-    let same : m ≡ x = cc in
-    above.start life level place p (subst (λ y. part_for b life level place y ≡ Some p) same e)
+apart_start b sent x above are life level place zero m p i e = grind arith
 apart_start b sent x above are life level place (suc k) m p i e =
     are.start life level place k m p i e
 
@@ -118,9 +116,7 @@ quiet_new b life known phase sent m here quiet level place p claim =
 pub quiet_other : (b : BoardValue) (life : ℕ) (known : ℕ → ℕ) (phase : ℕ → Phase)
     (sent : List MessageValue) (m : MessageValue) → is_kind m.kind Down ≡ false
     → AreQuiet b life known phase sent → AreQuiet b life known phase (m ∷ sent)
-quiet_other b life known phase sent m other =
-    quiet_new b life known phase sent m
-    (λ level place p e. absurd (no_part b life level place p m other e))
+quiet_other b life known phase sent m other = search (arith, quiet_new, no_part)
 
 -- one core is of another phase: it does not run, or no claim on its path is current
 pub quiet_phase : (b : BoardValue) (life : ℕ) (known : ℕ → ℕ) (phase : ℕ → Phase)
@@ -151,9 +147,7 @@ quiet_arrival b life halting known phase sent c n are on later quiet level place
     ]
 
 first_rests : (c : ℕ) → first_phase c ≡ Running → ⊥
-first_rests c =
-    updated_at (λ y. y ≡ Running → ⊥) (λ x. Away) 0 Pending c (λ e f. absurd (cc))
-    (λ e f. absurd (cc))
+first_rests c = grind (arith, updated_at)
 
 pub quiet_life : (b : BoardValue) (life : ℕ) (known : ℕ → ℕ) (sent : List MessageValue)
     → AreQuiet b life known first_phase sent

@@ -1,6 +1,6 @@
 -- Claims of renumbered cores.
-use Rattle.std.proofs.Common.{◌≡◌, ℕ, zero, suc, ◌+◌, Bool, not, List}
-use Rattle.std.proofs.Common.{refl, ap, ◌∙◌, if◌then◌else◌}
+use Rattle.std.proofs.Common.{◌≡◌, ℕ, zero, suc, ◌+◌, not, List}
+use Rattle.std.proofs.Common.{refl, ap, ◌∙◌}
 use Rattle.psci_board.specs.Board.{BoardValue, height}
 use Rattle.psci_board.specs.declared.node.Node.{Node}
 use Rattle.psci_messages.specs.Claim.{climb, claims_of, least_wish, off_claims, off_wish}
@@ -45,9 +45,7 @@ is_idle-by b s w n is = all-below b s n (λ c. not (w.is_active c)) is
 -- the domain of the other core
 domain-by : (b : BoardValue) (s : ℕ → ℕ → ℕ) (c level : ℕ) → Renumbers b s
     → domain_of b (s 0 c) level ≡ node_by s (domain_of b c level)
-domain-by b s c level is =
-    ap (λ (p : ℕ). let n : Node = record { level = level; place = p } in n)
-    (is.above level c)
+domain-by b s c level is = rw (is.above level c)
 
 -- Claims ----------------------------------------------------------------------------------------
 
@@ -69,16 +67,13 @@ claims_of-by b s w c f g is same =
 least_wish-by : (b : BoardValue) (s : ℕ → ℕ → ℕ) (w : PowerView) (c level : ℕ) → Renumbers b s
     → least_wish b (view_by s w) (s 0 c) level ≡ least_wish b w c level
 least_wish-by b s w c level is =
-    ap (least_ask b (view_by s w)) (domain-by b s c level is)
-    ∙ least_ask-by b s w (domain_of b c level) is
+    rw (domain-by b s c level is) (least_ask-by b s w (domain_of b c level) is)
 
 off_wish-by : (b : BoardValue) (s : ℕ → ℕ → ℕ) (w : PowerView) (c level : ℕ) → Renumbers b s
     → off_wish b (view_by s w) (s 0 c) level ≡ off_wish b w c level
 off_wish-by b s w c zero is = refl
 off_wish-by b s w c (suc level) is =
-    ap (λ (t : Bool). if t then 3 else 0)
-    (ap (is_all_away b (view_by s w)) (domain-by b s c (suc level) is)
-    ∙ is_all_away-by b s w (domain_of b c (suc level)) is)
+    rw (domain-by b s c (suc level) is, is_all_away-by b s w (domain_of b c (suc level)) is)
 
 pub platform_claims-by : (b : BoardValue) (s : ℕ → ℕ → ℕ) (w : PowerView) (c : ℕ) → Renumbers b s
     → platform_claims b (view_by s w) (s 0 c) ≡ platform_claims b w c

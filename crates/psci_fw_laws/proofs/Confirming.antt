@@ -7,26 +7,20 @@ use Rattle.std.proofs.lemmas.Bool.{and_from, and_parts, eq-eqb, eqb-true, lt-ltb
 use Rattle.psci_board.specs.Board.{BoardValue, below, up}
 use Rattle.psci_board.specs.declared.node.Node.{Node}
 use Rattle.psci_messages.specs.declared.part.Part.{Part}
-use Rattle.psci_messages.specs.declared.kind.Kind.{Kind}
-use Rattle.psci_messages.specs.declared.kind.Kind.TheVariants.{Down, Start, Off as GoesOff, Reset}
+use Rattle.psci_messages.specs.declared.kind.Kind.TheVariants.{Down}
 use Rattle.psci_messages.specs.Message.{AckValue, MessageValue}
 use Rattle.psci_messages.specs.OnlyIf.{only_if}
 use Rattle.psci_messages.specs.Slots.{is_kind, slot_of}
 use Rattle.psci_fw_spec.specs.Changes.{confirms_on, with_acknowledgement}
-use Rattle.psci_fw_spec.specs.Confirmed.{applied_part, is_made_at}
+use Rattle.psci_fw_spec.specs.Confirmed.{is_made_at}
 use Rattle.psci_fw_spec.specs.NodeHwState.{hw_at, node_hw}
 use Rattle.psci_fw_spec.specs.Values.{Values}
 use Rattle.psci_fw_spec.specs.declared.hw.Hw.{Hw}
 use Rattle.psci_fw_spec.specs.declared.hw.Hw.TheVariants.{Off, On, Standby}
 use Rattle.psci_fw_laws.specs.CarriedOut.{IsCarriedOut}
+use Rattle.psci_fw_laws.proofs.Parts.{kind_is}
 
 -- What is carried out -------------------------------------------------------------------------
-
-down_by : (k : Kind) → is_kind k Down ≡ true → k ≡ Down
-down_by Down e = refl
-down_by Start e = absurd (cc)
-down_by GoesOff e = absurd (cc)
-down_by Reset e = absurd (cc)
 
 -- A part that was made at this sum of known starts, where a test holds.
 record IsMade (t : Bool) (o : Option Part) (known : ℕ) : Type 0 where
@@ -65,7 +59,7 @@ module _ (b : BoardValue) (v : Values) (a : AckValue) (level place : ℕ) where
       (option_and_then (λ m. slice_get m.parts level) (v.outstanding (slot_of a.kind a.core))) known
       granted.1 in
       let tests = and_parts (is_kind a.kind Down) _ made.holds in
-      let kind : a.kind ≡ Down = down_by a.kind tests.0 in
+      let kind : a.kind ≡ Down = kind_is a.kind tests.0 in
       let of = part_by (v.outstanding (slot_of a.kind a.core)) level made.part made.at in
       record {
         message = of.message;
@@ -80,17 +74,7 @@ module _ (b : BoardValue) (v : Values) (a : AckValue) (level place : ℕ) where
       }
 
   by_carried : IsCarriedOut b v a level place → confirms_on b v a level place ≡ true
-  by_carried is =
-      let kind = ap (λ k. is_kind k Down) is.kind in
-      let sent : v.outstanding (slot_of a.kind a.core) ≡ Some is.message =
-      ap (λ k. v.outstanding (slot_of k a.core)) is.kind ∙ is.outstanding in
-      let part : applied_part a level (v.outstanding (slot_of a.kind a.core)) ≡ Some is.part =
-      ap (λ t. only_if t (option_and_then (λ m. slice_get m.parts level)
-      (v.outstanding (slot_of a.kind a.core)))) (and_from _ _ kind (lt-ltb _ _ is.applied))
-      ∙ ap (option_and_then (λ m. slice_get m.parts level)) sent ∙ is.at in
-      and_from _ _ (eq-eqb _ _ is.path)
-      (and_from _ _ (lt-ltb _ _ is.granted)
-      (ap (is_made_at known) part ∙ eq-eqb _ _ is.last))
+  by_carried is = grind (arith, level, and_from, lt-ltb, eq-eqb)
 
   by_test : (t before : Bool) → cond t true before ≡ true → (t ≡ true) ⊎ (before ≡ true)
   by_test true before e = inl refl
@@ -98,10 +82,7 @@ module _ (b : BoardValue) (v : Values) (a : AckValue) (level place : ℕ) where
 
   pub confirmed_only : (with_acknowledgement b a v).confirmed level place ≡ true
       → (v.confirmed level place ≡ true) ⊎ IsCarriedOut b v a level place
-  confirmed_only e = elim (by_test (confirms_on b v a level place) (v.confirmed level place) e) [
-    | inl now ↦ inr (carried_by now)
-    | inr before ↦ inl before
-  ]
+  confirmed_only e = grind (arith, by_test, level, carried_by)
 
   kept : (t before : Bool) → before ≡ true → cond t true before ≡ true
   kept true before e = refl
@@ -137,9 +118,7 @@ says_off v n e f =
 
 pub says_standby : (v : Values) (n : Node) → v.confirmed n.level n.place ≡ true
     → 0 < v.granted n.level n.place → v.granted n.level n.place < 3 → node_hw v n ≡ Standby
-says_standby v n e some low =
-    ap (λ t. hw_by t (v.granted n.level n.place)) e
-    ∙ standby_at (v.granted n.level n.place) some low
+says_standby v n e some low = grind (arith, standby_at)
 
 pub says_on : (v : Values) (n : Node) → v.granted n.level n.place ≡ 0 → node_hw v n ≡ On
 says_on v n e =
@@ -152,6 +131,4 @@ unconfirmed_on v n e = ap (λ t. hw_by t (v.granted n.level n.place)) e
 pub says_alike : (v w : Values) (n m : Node)
     → v.confirmed n.level n.place ≡ w.confirmed m.level m.place
     → v.granted n.level n.place ≡ w.granted m.level m.place → node_hw v n ≡ node_hw w m
-says_alike v w n m e f =
-    ap (λ t. hw_by t (v.granted n.level n.place)) e
-    ∙ ap (hw_by (w.confirmed m.level m.place)) f
+says_alike v w n m e f = grind arith

@@ -2,7 +2,6 @@
 use Rattle.std.proofs.Common.{◌≡◌, ℕ, ◌+◌, ◌<◌, ◌≤◌, ◌⊎◌, inl, inr, true, false, List, []}
 use Rattle.std.proofs.Common.{◌∷◌, length, Some, refl, arith, subst, ap, sym, ◌∙◌}
 use Rattle.std.specs.Prelude.{slice_get}
-use Rattle.std.proofs.lemmas.Bool.{cases_order}
 use Rattle.psci_board.specs.Board.{BoardValue, cores, height, up}
 use Rattle.psci_board.specs.Laws.{PathLaws, SpanLaws}
 use Rattle.psci_board.specs.declared.node.Node.{Node}
@@ -36,17 +35,12 @@ pub once : (b : BoardValue) (sent : List MessageValue) → AreRising b sent
     → (life level place j k : ℕ) (m n : MessageValue) (p q : Part) → slice_get sent j ≡ Some m
     → slice_get sent k ≡ Some n → part_for b life level place m ≡ Some p
     → part_for b life level place n ≡ Some q → p.generation ≡ q.generation → j ≡ k
-once b sent apart life level place j k m n p q at_j at_k e f same = elim (cases_order j k) [
-  | inl equal ↦ equal
-  | inr other ↦ elim other [
-    | inl less ↦
-        let below = apart.later life level place j k m n p q less at_j at_k e f in
-        absurd (omega arith)
-    | inr more ↦
-        let above = apart.later life level place k j n m q p more at_k at_j f e in
-        absurd (omega arith)
-  ]
-]
+once b sent apart life level place j k m n p q at_j at_k e f same =
+    grind (
+      arith,
+      λ (less : j < k). apart.later life level place j k m n p q less at_j at_k e f,
+      λ (more : k < j). apart.later life level place k j n m q p more at_k at_j f e,
+    )
 
 -- The first part of a Down.
 record HasFirst (parts : List Part) : Type 0 where
@@ -58,9 +52,7 @@ first_of [] some = absurd (omega arith)
 first_of (p ∷ ps) some = record { part = p; at = refl }
 
 first_part : (k : Kind) (parts : List Part) → k ≡ Down → ArePartsOf k parts → HasFirst parts
-first_part k parts kind are =
-    let claim : AreClaims parts = subst (λ x. ArePartsOf x parts) kind are in
-    first_of parts claim.some
+first_part k parts kind are = search (arith, first_of)
 
 pub once_down : (b : BoardValue) (v : Values) (sent : List MessageValue) → Holds b v sent
     → (j k : ℕ) (m n : MessageValue) → slice_get sent j ≡ Some m → slice_get sent k ≡ Some n
@@ -89,12 +81,7 @@ asks_nothing p e = elim e [
 pub none_active : (b : BoardValue) (v : Values) (c level : ℕ) → PathLaws b → AreValues b v
     → c < cores b → level ≤ height b → 0 < v.granted level (up b level c)
     → (v.phase c ≡ Running → ⊥) × (v.phase c ≡ Pending → ⊥)
-none_active b v c level paths are on high some =
-    let low = granted_below b v level c paths are on high in
-    let own = ask_own b v c in (
-      λ e. let none = asks_nothing (v.phase c) (inl e) in omega arith,
-      λ e. let none = asks_nothing (v.phase c) (inr e) in omega arith,
-    )
+none_active b v c level paths are on high some = grind (arith, granted_below, ask_own, asks_nothing)
 
 -- a claim asks for a depth of 1 at least
 some_depth : (b : BoardValue) (v : Values) (sent : List MessageValue) (level place : ℕ) (p : Part)
@@ -134,17 +121,15 @@ deeper b v sent c level p by_part are holds on high claim current rests =
 on_where_suspended : (s : Status) (ask : List ℕ) → agrees s (Suspended ask) ≡ true
     → is_on s ≡ true
 on_where_suspended statuses.On ask e = refl
-on_where_suspended statuses.Off ask e = absurd (cc)
-on_where_suspended statuses.Pending ask e = absurd (cc)
+on_where_suspended s ask e = absurd (cc)
 
 on_where_runs : (s : Status) → agrees s Running ≡ true → is_on s ≡ true
 on_where_runs statuses.On e = refl
-on_where_runs statuses.Off e = absurd (cc)
-on_where_runs statuses.Pending e = absurd (cc)
+on_where_runs s e = absurd (cc)
 
 known_where_on : (n : ℕ) (s : Status) → (n ≡ 0 → is_on s ≡ false) → is_on s ≡ true → 0 < n
 known_where_on n s none on =
-    let other : n ≡ 0 → ⊥ = λ e. let no : false ≡ true = sym (none e) ∙ on in absurd (cc) in
+    let other : n ≡ 0 → ⊥ = λ e. grind (arith, none e) in
     omega (arith, other)
 
 away_or_pending : (s : Status) (p : Phase) → agrees s p ≡ true → is_on s ≡ false
@@ -191,15 +176,9 @@ pub equal_each : (b : BoardValue) (f g : ℕ → ℕ) (level place c : ℕ)
     → ((x : ℕ) → x < cores b → up b level x ≡ place → f x ≤ g x)
     → known_below b f level place ≡ known_below b g level place → c < cores b
     → up b level c ≡ place → f c ≡ g c
-equal_each b f g level place c le same on at = elim (cases_order (f c) (g c)) [
-  | inl equal ↦ equal
-  | inr other ↦ elim other [
-    | inl less ↦
-        let below = known_less b f g level place c le on at less in
-        absurd (omega (arith, below, same))
-    | inr more ↦ absurd (omega (arith, more, le c on at))
-  ]
-]
+equal_each b f g level place c le same on at =
+    let below = le c on at in
+    grind (arith, known_less b f g level place c le on at)
 
 pub known_laws : (b : BoardValue) → PathLaws b → SpanLaws b.levels → KnownLaws b
 known_laws b paths spans = record {

@@ -16,10 +16,7 @@ passing p g k r = if p k then g k r else r
 passing-two : {R : Type 0} (g : ℕ → R → R) (i j : ℕ) (r : R) (p q : Bool) → Commutes g
     → (if p then g i (if q then g j r else r) else (if q then g j r else r))
     ≡ (if q then g j (if p then g i r else r) else (if p then g i r else r))
-passing-two g i j r true true c = c i j r
-passing-two g i j r true false c = refl
-passing-two g i j r false true c = refl
-passing-two g i j r false false c = refl
+passing-two g i j r p q c = grind (arith, c i j r)
 
 pub passing-commutes : {R : Type 0} (p : ℕ → Bool) (g : ℕ → R → R) → Commutes g
     → Commutes (passing p g)
@@ -55,16 +52,10 @@ pub lessens-commutes : (f : ℕ → ℕ) → Commutes (lessens f)
 lessens-commutes f = λ i j r. omega arith
 
 and-swap : (x y r : Bool) → (x && (y && r)) ≡ (y && (x && r))
-and-swap true true r = refl
-and-swap true false r = refl
-and-swap false true r = refl
-and-swap false false r = refl
+and-swap x y r = grind arith
 
 or-swap : (x y r : Bool) → (x || (y || r)) ≡ (y || (x || r))
-or-swap true true r = refl
-or-swap true false r = refl
-or-swap false true r = refl
-or-swap false false r = refl
+or-swap x y r = grind arith
 
 pub ands-commutes : (f : ℕ → Bool) → Commutes (ands f)
 ands-commutes f = λ i j r. and-swap (f i) (f j) r

@@ -1,10 +1,9 @@
 -- What a call, an entry or an acknowledgement is answered is allowed.
 use Rattle.std.proofs.Common.{◌≡◌, ℕ, ◌<◌, ◌≤◌, Bool, true, false, cond, ◌==◌, ◌&&◌, ◌||◌, not}
 use Rattle.std.proofs.Common.{Option, None, Some, is_some, refl, arith, subst, ap, sym, ◌∙◌}
-use Rattle.std.proofs.Common.{inl, inr}
 use Rattle.std.specs.Prelude.{nat_le, nat_lt}
-use Rattle.std.proofs.lemmas.Bool.{cond_both, eqb-false, leb-false, ltb-false, ltb-true}
-use Rattle.std.proofs.lemmas.Bool.{and_cases, or_left, or_parts, or_right, not-false}
+use Rattle.std.proofs.lemmas.Bool.{cond_both, eqb-false, ltb-false, ltb-true}
+use Rattle.std.proofs.lemmas.Bool.{or_left, or_parts, or_right, not-false}
 use Rattle.psci_fw_spec.specs.psci_abi.Calls.{request_of}
 use Rattle.psci_fw_spec.specs.psci_abi.declared.registers.Regs.{Regs}
 use Rattle.psci_board.specs.Board.{BoardValue, cores}
@@ -28,10 +27,10 @@ use Rattle.psci_fw_spec.specs.Claims.{off_parts}
 use Rattle.psci_fw_spec.specs.CpuOff.{off_message}
 use Rattle.psci_fw_spec.specs.Effects.{Parks, effect_of, enter_effect}
 use Rattle.psci_fw_spec.specs.Entering.{enter_fault, enter_outcome, is_old, outcome_at, resumes}
-use Rattle.psci_fw_spec.specs.Invariant.{AreValues, is_expected}
+use Rattle.psci_fw_spec.specs.Invariant.{AreValues}
 use Rattle.psci_fw_spec.specs.Lives.{in_life, start_of_life}
 use Rattle.psci_fw_spec.specs.Outcomes.{stops, stops_with}
-use Rattle.psci_fw_spec.specs.Phases.{Phase, Away, Pending, Running, Suspended, is_running}
+use Rattle.psci_fw_spec.specs.Phases.{Phase, Away, Pending, Running, is_running}
 use Rattle.psci_fw_spec.specs.Phases.{activity_of, unless_pending}
 use Rattle.psci_fw_spec.specs.Values.{Values}
 use Rattle.psci_fw_laws.specs.Allowed.{IsCalling}
@@ -56,16 +55,12 @@ passed : (absent lifeless runs : Bool)
     (cond runs None (Some faults.NotRunning)))
     ≡ None
     → IsPassed absent lifeless runs
-passed true lifeless runs e = absurd (cc)
-passed false true runs e = absurd (cc)
 passed false false true e = record { core = refl; life = refl; running = refl }
-passed false false false e = absurd (cc)
+passed absent lifeless runs e = absurd (cc)
 
 running_phase : (p : Phase) → is_running p ≡ true → p ≡ Running
-running_phase Pending e = absurd (cc)
 running_phase Running e = refl
-running_phase (Suspended ask) e = absurd (cc)
-running_phase Away e = absurd (cc)
+running_phase p e = absurd (cc)
 
 calling : (b : BoardValue) (v : Values) (c : ℕ) → call_fault b v c ≡ None → IsCalling b v c
 calling b v c e =
@@ -97,18 +92,13 @@ fresh : (absent lifeless old : Bool)
     (cond old (Some faults.OldStart) None))
     ≡ None
     → IsFresh absent lifeless old
-fresh true lifeless old e = absurd (cc)
-fresh false true old e = absurd (cc)
-fresh false false true e = absurd (cc)
 fresh false false false e = record { core = refl; life = refl; start = refl }
+fresh absent lifeless old e = absurd (cc)
 
 later : (v : Values) (c : ℕ) (s : Start)
     → (s.life == v.life && nat_le s.number (v.known c)) ≡ false → s.life ≡ v.life
     → v.known c < s.number
-later v c s e same = elim (and_cases (s.life == v.life) (nat_le s.number (v.known c)) e) [
-  | inl other ↦ absurd (eqb-false s.life v.life other same)
-  | inr more ↦ leb-false s.number (v.known c) more
-]
+later v c s e same = grind arith
 
 entering : (b : BoardValue) (v : Values) (c : ℕ) (s : Start) → enter_fault b v c s ≡ None
     → IsEntering b v c s
@@ -141,11 +131,7 @@ found_values b v life laws are =
 -- a core without an opening is not pending
 not_pending : (b : BoardValue) (v : Values) (c : ℕ) → AreValues b v → v.halting ≡ false
     → v.opening c ≡ None → v.phase c ≡ Pending → ⊥
-not_pending b v c are awake none waits =
-    let agree = (are.awake awake).opening c in
-    let no : false ≡ true =
-    sym (ap is_some none) ∙ agree ∙ ap is_expected waits in
-    absurd (cc)
+not_pending b v c are awake none waits = grind (arith, waits)
 
 parks_allowed : (b : BoardValue) (v : Values) (c : ℕ) (s : Start) → LowerLaws b → IsReady b v
     → IsEntering b v c s → (in_life b s.life v).halting ≡ false
@@ -179,9 +165,7 @@ parks_allowed b v c s laws ready enters awake none are =
   where
     stays_away : (p : Phase) → (p ≡ Pending → ⊥) → unless_pending p Away ≡ Away
     stays_away Pending ne = absurd (ne refl)
-    stays_away Running ne = refl
-    stays_away (Suspended ask) ne = refl
-    stays_away Away ne = refl
+    stays_away p ne = refl
 
 arrival_allowed : (b : BoardValue) (v : Values) (c : ℕ) (s : Start) (o : Option Opening)
     → LowerLaws b → IsReady b v → IsEntering b v c s → (in_life b s.life v).halting ≡ false

@@ -1,28 +1,25 @@
 -- Renumbered cores that enter.
-use Rattle.std.proofs.Common.{◌≡◌, ℕ, ◌==◌, Bool, true, false, ◌&&◌, ◌||◌, not, nat_lt}
-use Rattle.std.proofs.Common.{nat_le, refl, sym, ap, ◌∙◌, if◌then◌else◌, Option, None, Some}
-use Rattle.std.proofs.Common.{inl, inr, ◌⊎◌}
+use Rattle.std.proofs.Common.{arith}
+use Rattle.std.proofs.Common.{◌≡◌, ℕ, ◌==◌, Bool, true, false, ◌&&◌, not}
+use Rattle.std.proofs.Common.{refl, sym, ap, ◌∙◌, if◌then◌else◌, Option, None, Some}
+use Rattle.std.proofs.Common.{◌⊎◌}
 use Rattle.std.proofs.lemmas.Bool.{eq-eqb}
-use Rattle.psci_board.specs.Board.{BoardValue, cores, has_node, up}
+use Rattle.psci_board.specs.Board.{BoardValue, has_node, up}
 use Rattle.psci_board.specs.Paths.{is_path_place}
 use Rattle.psci_messages.specs.declared.start.Start.{Start}
-use Rattle.psci_fw_spec.specs.declared.fault.FwFault.TheVariants.{NoCore, NoLife, OldStart}
 use Rattle.psci_fw_spec.specs.declared.opening.Opening.{Opening}
-use Rattle.psci_fw_spec.specs.declared.outcome.Act.TheVariants as acts
-use Rattle.psci_fw_spec.specs.declared.outcome.Outcome.{Outcome}
 use Rattle.psci_fw_spec.specs.declared.status.Status.TheVariants as statuses
 use Rattle.psci_fw_spec.specs.Changes.{with_arrival}
-use Rattle.psci_fw_spec.specs.CpuOff.{off_message}
-use Rattle.psci_fw_spec.specs.Entering.{enter_fault, enter_outcome, is_old, outcome_at}
+use Rattle.psci_fw_spec.specs.Entering.{enter_fault, enter_outcome, outcome_at}
 use Rattle.psci_fw_spec.specs.Entering.{resumes, without_opening}
 use Rattle.psci_fw_spec.specs.Lives.{in_life, start_of_life}
-use Rattle.psci_fw_spec.specs.Outcomes.{stops, stops_with}
+use Rattle.psci_fw_spec.specs.Outcomes.{stops}
 use Rattle.psci_fw_spec.specs.Phases.{is_resumable}
 use Rattle.psci_fw_spec.specs.Phases as phases
 use Rattle.psci_fw_spec.specs.Values.{Values}
 use Rattle.psci_fw_laws.specs.Renumbered.{outcome_by, values_by}
 use Rattle.psci_fw_laws.proofs.Changing.{FindsBy, with_arrival-by}
-use Rattle.psci_fw_laws.proofs.Renumbering.{Renumbers, other_test, same_test}
+use Rattle.psci_fw_laws.proofs.Renumbering.{Renumbers}
 use Rattle.psci_fw_laws.proofs.ReturningBy.{has_node-by}
 use Rattle.psci_fw_laws.proofs.StoppingBy.{chosen, cpu_off-by}
 
@@ -31,7 +28,7 @@ use Rattle.psci_fw_laws.proofs.StoppingBy.{chosen, cpu_off-by}
 -- where the boot core has its own number, no other core has it
 is_boot-by : (s : ℕ → ℕ → ℕ) (c : ℕ) → ((k : ℕ) → s 0 (s 0 k) ≡ k) → s 0 0 ≡ 0
     → (s 0 c == 0) ≡ (c == 0)
-is_boot-by s c back boot = sym (other_test s c 0 back) ∙ ap (λ (k : ℕ). c == k) boot
+is_boot-by s c back boot = grind (arith, back c)
 
 -- and its path has the same places
 boot_path-by : (b : BoardValue) (s : ℕ → ℕ → ℕ) (level place : ℕ) → Renumbers b s → s 0 0 ≡ 0
@@ -39,8 +36,7 @@ boot_path-by : (b : BoardValue) (s : ℕ → ℕ → ℕ) (level place : ℕ) �
 boot_path-by b s level place is boot =
     let own : up b level 0 ≡ s level (up b level 0) =
     ap (up b level) (sym boot) ∙ is.above level 0 in
-    same_test (s level place) (up b level 0) place (up b level 0)
-    (λ e. sym (is.back level place) ∙ (ap (s level) e ∙ sym own)) (λ e. ap (s level) e ∙ sym own)
+    grind (arith, is.back level place)
 
 first_confirmed-by : (b : BoardValue) (s : ℕ → ℕ → ℕ) (level place : ℕ) → Renumbers b s → s 0 0 ≡ 0
     → (has_node b (record { level = level; place = s level place })
@@ -48,10 +44,7 @@ first_confirmed-by : (b : BoardValue) (s : ℕ → ℕ → ℕ) (level place : �
     ≡ (has_node b (record { level = level; place = place })
     && not (is_path_place b 0 level place))
 first_confirmed-by b s level place is boot =
-    ap (λ (t : Bool). t && not (is_path_place b 0 level (s level place)))
-    (has_node-by b s level place is)
-    ∙ ap (λ (t : Bool). has_node b (record { level = level; place = place }) && not t)
-    (boot_path-by b s level place is boot)
+    rw (has_node-by b s level place is, boot_path-by b s level place is boot)
 
 pub start_of_life-by : (b : BoardValue) (s : ℕ → ℕ → ℕ) (life : ℕ) → Renumbers b s → s 0 0 ≡ 0
     → values_by s (start_of_life b life) ≡ start_of_life b life
@@ -78,43 +71,24 @@ found-by b s life v false is boot = sym (start_of_life-by b s life is boot)
 -- a core finds the values of the other numbers, where the boot core keeps its own or no life begins
 pub finds-by : (b : BoardValue) (s : ℕ → ℕ → ℕ) (start : Start) (v : Values) → Renumbers b s
     → (start.life ≡ v.life) ⊎ (s 0 0 ≡ 0) → FindsBy b s start v
-finds-by b s start v is spares = elim spares [
-  | inl same ↦
-      let t : (start.life == v.life) ≡ true = eq-eqb start.life v.life same in
-      rw t refl
-  | inr boot ↦ found-by b s start.life v (start.life == v.life) is boot
-]
+finds-by b s start v is spares = search (arith, eq-eqb, found-by)
 
 -- Answers ---------------------------------------------------------------------------------------
 
 pub enter_fault-by : (b : BoardValue) (s : ℕ → ℕ → ℕ) (v : Values) (c : ℕ) (start : Start)
     → Renumbers b s
     → enter_fault b (values_by s v) (s 0 c) start ≡ enter_fault b v c start
-enter_fault-by b s v c start is =
-    ap (λ (t : Bool). if not t then Some NoCore
-    else (if start.life == 0 || nat_lt b.lives start.life then Some NoLife
-    else (if is_old b (values_by s v) (s 0 c) start then Some OldStart else None))) (is.inside 0 c)
-    ∙ ap (λ (k : ℕ). if not (nat_lt c (cores b)) then Some NoCore
-    else (if start.life == 0 || nat_lt b.lives start.life then Some NoLife
-    else (if nat_lt start.life v.life || (start.number == 0 || (nat_lt b.starts start.number
-    || (start.life == v.life && nat_le start.number (v.known k))))
-    then Some OldStart else None))) (is.back 0 c)
+enter_fault-by b s v c start is = rw (is.inside 0 c, is.back 0 c)
 
 resumes-by : (b : BoardValue) (s : ℕ → ℕ → ℕ) (v : Values) (c : ℕ) (start : Start) → Renumbers b s
     → resumes (values_by s v) (s 0 c) start ≡ resumes v c start
-resumes-by b s v c start is = ap (λ (k : ℕ). resumes v k start) (is.back 0 c)
+resumes-by b s v c start is = rw (is.back 0 c)
 
 without_opening-by : (b : BoardValue) (s : ℕ → ℕ → ℕ) (found arrived : Values) (c : ℕ)
     (start : Start) → Renumbers b s
     → without_opening b (values_by s found) (values_by s arrived) (s 0 c) start
     ≡ outcome_by s (without_opening b found arrived c start)
-without_opening-by b s found arrived c start is =
-    let resumed : Outcome = record { act = acts.Resume; message = None } in
-    ap (λ (t : Bool). if t then resumed
-    else stops_with (off_message b (values_by s arrived) (s 0 c))) (resumes-by b s found c start is)
-    ∙ chosen s (resumes found c start) resumed
-    (stops_with (off_message b (values_by s arrived) (s 0 c))) resumed
-    (stops_with (off_message b arrived c)) refl (cpu_off-by b s arrived c is)
+without_opening-by b s found arrived c start is = search (arith, resumes-by, chosen, cpu_off-by)
 
 outcome_at-by : (b : BoardValue) (s : ℕ → ℕ → ℕ) (found arrived : Values) (c : ℕ) (start : Start)
     (o : Option Opening) → Renumbers b s
@@ -132,12 +106,7 @@ answered-by : (b : BoardValue) (s : ℕ → ℕ → ℕ) (found arrived : Values
     (found.opening (s 0 (s 0 c))))
     ≡ outcome_by s (if found.halting then stops
     else outcome_at b found arrived c start (found.opening c))
-answered-by b s found arrived c start is =
-    chosen s found.halting stops _ stops (outcome_at b found arrived c start (found.opening c))
-    refl
-    (ap (λ (k : ℕ). outcome_at b (values_by s found) (values_by s arrived) (s 0 c) start
-    (found.opening k)) (is.back 0 c)
-    ∙ outcome_at-by b s found arrived c start (found.opening c) is)
+answered-by b s found arrived c start is = search (arith, chosen, outcome_at-by)
 
 pub enter_outcome-by : (b : BoardValue) (s : ℕ → ℕ → ℕ) (v : Values) (c : ℕ) (start : Start)
     → Renumbers b s → FindsBy b s start v

@@ -1,8 +1,8 @@
 -- A fold over numbers does not depend on the order of two of them, if its steps commute.
-use Rattle.std.proofs.Common.{◌≡◌, ℕ, zero, suc, ◌+◌, ◌==◌, ◌<◌, ◌≤◌, Bool, true, false, List, []}
+use Rattle.std.proofs.Common.{◌≡◌, ℕ, zero, suc, ◌+◌, ◌==◌, ◌<◌, ◌≤◌, Bool, List, []}
 use Rattle.std.proofs.Common.{◌∷◌, if◌then◌else◌, refl, sym, ap, subst, ◌∙◌, ◌⊎◌, arith, inl, inr}
 use Rattle.std.specs.List.{range_with_len}
-use Rattle.std.proofs.lemmas.Bool.{cases_eq, cases_lt, eq-eqb, ne_eqb}
+use Rattle.std.proofs.lemmas.Bool.{cases_eq}
 use Rattle.psci_fw_laws.specs.Renumbered.{swap}
 
 -- a right fold
@@ -29,19 +29,15 @@ alike g h z a (suc n) e =
 
 without-other : {R : Type 0} (g : ℕ → R → R) (x k : ℕ) (r : R) → (k ≡ x → ⊥)
     → without x g k r ≡ g k r
-without-other g x k r d = rw (ne_eqb k x d) refl
+without-other g x k r d = grind arith
 
 without-it : {R : Type 0} (g : ℕ → R → R) (x : ℕ) (r : R) → without x g x r ≡ r
-without-it g x r = rw (eq-eqb x x refl) refl
+without-it g x r = grind arith
 
 -- the first number comes first
 pull-first : {R : Type 0} (g : ℕ → R → R) (z : R) (a n : ℕ)
     → fold g z (range_with_len a (suc n)) ≡ g a (fold (without a g) z (range_with_len a (suc n)))
-pull-first g z a n =
-    let rest = alike g (without a g) z (a + 1) n (λ k r l m.
-    sym (without-other g a k r (λ e. omega arith))) in
-    let it = without-it g a (fold (without a g) z (range_with_len (a + 1) n)) in
-    ap (g a) (rest ∙ sym it)
+pull-first g z a n = grind (arith, alike, without-other, without-it)
 
 -- a number that is gone over may come first
 pull : {R : Type 0} (g : ℕ → R → R) (z : R) (a n x : ℕ) → Commutes g → a ≤ x → x < a + n
@@ -59,35 +55,21 @@ pull g z a (suc n) x c h i = elim (cases_eq a x) [
 -- Swapping --------------------------------------------------------------------------------------
 
 pub swap-first : (x y : ℕ) → swap x y x ≡ y
-swap-first x y = rw (eq-eqb x x refl) refl
+swap-first x y = grind arith
 
 pub swap-second : (x y : ℕ) → swap x y y ≡ x
-swap-second x y = elim (cases_eq y x) [
-  | inl same ↦ rw (eq-eqb y x same) same
-  | inr other ↦ rw (ne_eqb y x other, eq-eqb y y refl) refl
-]
+swap-second x y = grind arith
 
 pub swap-other : (x y k : ℕ) → (k ≡ x → ⊥) → (k ≡ y → ⊥) → swap x y k ≡ k
-swap-other x y k d e = rw (ne_eqb k x d, ne_eqb k y e) refl
+swap-other x y k d e = grind arith
 
 -- swapping twice
 pub swap-back : (x y k : ℕ) → swap x y (swap x y k) ≡ k
-swap-back x y k = elim (cases_eq k x) [
-  | inl first ↦ ap (λ (j : ℕ). swap x y (swap x y j)) first
-      ∙ (ap (swap x y) (swap-first x y) ∙ (swap-second x y ∙ sym first))
-  | inr d ↦ elim (cases_eq k y) [
-    | inl second ↦ ap (λ (j : ℕ). swap x y (swap x y j)) second
-        ∙ (ap (swap x y) (swap-second x y) ∙ (swap-first x y ∙ sym second))
-    | inr e ↦ ap (swap x y) (swap-other x y k d e) ∙ swap-other x y k d e
-  ]
-]
+swap-back x y k = grind arith
 
 -- a number swapped with itself
 swap-same : (x y k : ℕ) → x ≡ y → swap x y k ≡ k
-swap-same x y k e = elim (cases_eq k x) [
-  | inl first ↦ ap (swap x y) first ∙ (swap-first x y ∙ (sym e ∙ sym first))
-  | inr d ↦ swap-other x y k d (λ f. d (f ∙ sym e))
-]
+swap-same x y k e = grind arith
 
 -- steps of the other number
 abbrev pub swapped : {R : Type 0} → ℕ → ℕ → (ℕ → R → R) → ℕ → R → R
@@ -96,10 +78,7 @@ swapped x y g k r = g (swap x y k) r
 without-two : {R : Type 0} (g : ℕ → R → R) (x i j : ℕ) (r : R) (p q : Bool)
     → (i == x) ≡ p → (j == x) ≡ q → Commutes g
     → without x g i (without x g j r) ≡ without x g j (without x g i r)
-without-two g x i j r true true e f c = rw (e, f) refl
-without-two g x i j r true false e f c = rw (e, f) refl
-without-two g x i j r false true e f c = rw (e, f) refl
-without-two g x i j r false false e f c = rw (e, f) (c i j r)
+without-two g x i j r p q e f c = grind (arith, c i j r)
 
 without-commutes : {R : Type 0} (g : ℕ → R → R) (x : ℕ) → Commutes g → Commutes (without x g)
 without-commutes g x c = λ i j r. without-two g x i j r (i == x) (j == x) refl refl c
@@ -109,17 +88,11 @@ pull-two : {R : Type 0} (g : ℕ → R → R) (z : R) (a n x y : ℕ) → Commut
     → a ≤ x → x < a + n → a ≤ y → y < a + n
     → fold g z (range_with_len a n)
     ≡ g x (g y (fold (without y (without x g)) z (range_with_len a n)))
-pull-two g z a n x y c d h i j k =
-    let rest = pull (without x g) z a n y (without-commutes g x c) j k in
-    let keep = without-other g x y (fold (without y (without x g)) z (range_with_len a n)) d in
-    pull g z a n x c h i ∙ ap (g x) (rest ∙ keep)
+pull-two g z a n x y c d h i j k = grind (arith, pull, without-commutes, without-other)
 
 without-both : {R : Type 0} (g : ℕ → R → R) (x y k : ℕ) (r : R) (p q : Bool) → (k == x) ≡ p
     → (k == y) ≡ q → without y (without x (swapped x y g)) k r ≡ without y (without x g) k r
-without-both g x y k r true true e f = rw (f) refl
-without-both g x y k r false true e f = rw (f) refl
-without-both g x y k r true false e f = rw (f, e) refl
-without-both g x y k r false false e f = rw (f, e) refl
+without-both g x y k r p q e f = grind arith
 
 swapped-commutes : {R : Type 0} (g : ℕ → R → R) (x y : ℕ) → Commutes g → Commutes (swapped x y g)
 swapped-commutes g x y c = λ i j r. c (swap x y i) (swap x y j) r
@@ -147,26 +120,13 @@ swapped-inside g z a n x y c h i j k = elim (cases_eq y x) [
 swapped-outside : {R : Type 0} (g : ℕ → R → R) (z : R) (a n x y : ℕ)
     → ((k : ℕ) → a ≤ k → k < a + n → k ≡ x → ⊥) → ((k : ℕ) → a ≤ k → k < a + n → k ≡ y → ⊥)
     → fold (swapped x y g) z (range_with_len a n) ≡ fold g z (range_with_len a n)
-swapped-outside g z a n x y d e =
-    alike (swapped x y g) g z a n (λ k r i j.
-    ap (λ (l : ℕ). g l r) (swap-other x y k (d k i j) (e k i j)))
+swapped-outside g z a n x y d e = grind (arith, alike, swap-other)
 
 pub cases_within : (a n x : ℕ) → ((a ≤ x) × (x < a + n)) ⊎ (a ≤ x → x < a + n → ⊥)
-cases_within a n x = elim (cases_lt x a) [
-  | inl under ↦ inr (λ h i. omega arith)
-  | inr h ↦ elim (cases_lt x (a + n)) [
-    | inl i ↦ inl (h, i)
-    | inr over ↦ inr (λ k i. omega arith)
-  ]
-]
+cases_within a n x = grind arith
 
 -- a fold over numbers with both of two or with neither
 pub swapped-fold : {R : Type 0} (g : ℕ → R → R) (z : R) (a n x y : ℕ) → Commutes g
     → (a ≤ x → x < a + n → (a ≤ y) × (y < a + n)) → (a ≤ y → y < a + n → (a ≤ x) × (x < a + n))
     → fold (swapped x y g) z (range_with_len a n) ≡ fold g z (range_with_len a n)
-swapped-fold g z a n x y c f s = elim (cases_within a n x) [
-  | inl h ↦ swapped-inside g z a n x y c h.0 h.1 (f h.0 h.1).0 (f h.0 h.1).1
-  | inr out ↦ swapped-outside g z a n x y
-      (λ k i j e. out (omega (arith, i, e)) (omega (arith, j, e)))
-      (λ k i j e. let t = s (omega (arith, i, e)) (omega (arith, j, e)) in out t.0 t.1)
-]
+swapped-fold g z a n x y c f s = grind (arith, cases_within, swapped-inside, swapped-outside)

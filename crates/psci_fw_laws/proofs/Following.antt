@@ -11,7 +11,7 @@ use Rattle.psci_abi.specs.declared.request.Request.TheVariants as requests
 use Rattle.psci_board.specs.Board.{BoardValue}
 use Rattle.psci_messages.specs.Message.{MessageValue}
 use Rattle.psci_messages.specs.declared.start.Start.{Start}
-use Rattle.psci_messages.specs.declared.taken.Taken.TheVariants.{Used, Old}
+use Rattle.psci_messages.specs.declared.taken.Taken.TheVariants.{Used}
 use Rattle.psci_fw_spec.specs.declared.call.FwCall.{FwCall}
 use Rattle.psci_fw_spec.specs.declared.call.FwCall.TheVariants.{Smc, Enter, Take}
 use Rattle.psci_fw_spec.specs.declared.mode.SuspendMode.{SuspendMode}
@@ -96,27 +96,19 @@ change-by b s v (Acknowledges a) is finds = with_acknowledgement-by b s a v is
 stop-by : (b : BoardValue) (s : ℕ → ℕ → ℕ) (c : ℕ) (r q : Request) (m : MessageValue)
     → AsksBy b s r q
     → stop_effect b (s 0 c) q (message_by s m) ≡ effect_by s (stop_effect b c r m)
-stop-by b s c (requests.CpuOn target entry_point context) q m asks =
-    ap (λ (p : Request). stop_effect b (s 0 c) p (message_by s m)) asks.2
-stop-by b s c (requests.AffinityInfo level target) q m asks =
-    ap (λ (p : Request). stop_effect b (s 0 c) p (message_by s m)) asks.2
-stop-by b s c (requests.NodeHwState level target) q m asks =
-    ap (λ (p : Request). stop_effect b (s 0 c) p (message_by s m)) asks.2
-stop-by b s c r q m asks =
-    ap (λ (p : Request). stop_effect b (s 0 c) p (message_by s m)) asks
+stop-by b s c (requests.CpuOn target entry_point context) q m asks = rw asks.2
+stop-by b s c (requests.AffinityInfo level target) q m asks = rw asks.2
+stop-by b s c (requests.NodeHwState level target) q m asks = rw asks.2
+stop-by b s c r q m asks = rw asks
 
 -- of one that returned and sent something
 sent-by : (b : BoardValue) (s : ℕ → ℕ → ℕ) (c : ℕ) (r q : Request) (m : MessageValue)
     → AsksBy b s r q
     → sent_effect (s 0 c) q (message_by s m) ≡ effect_by s (sent_effect c r m)
-sent-by b s c (requests.CpuOn target entry_point context) q m asks =
-    ap (λ (p : Request). sent_effect (s 0 c) p (message_by s m)) asks.2
-sent-by b s c (requests.AffinityInfo level target) q m asks =
-    ap (λ (p : Request). sent_effect (s 0 c) p (message_by s m)) asks.2
-sent-by b s c (requests.NodeHwState level target) q m asks =
-    ap (λ (p : Request). sent_effect (s 0 c) p (message_by s m)) asks.2
-sent-by b s c r q m asks =
-    ap (λ (p : Request). sent_effect (s 0 c) p (message_by s m)) asks
+sent-by b s c (requests.CpuOn target entry_point context) q m asks = rw asks.2
+sent-by b s c (requests.AffinityInfo level target) q m asks = rw asks.2
+sent-by b s c (requests.NodeHwState level target) q m asks = rw asks.2
+sent-by b s c r q m asks = rw asks
 
 mode-by : (s : ℕ → ℕ → ℕ) (c : ℕ) (t : Bool) (mode : Option SuspendMode)
     → (if t then mode_effect (s 0 c) mode else GoesOn (s 0 c))
@@ -128,108 +120,70 @@ mode-by s c false mode = refl
 -- of one that returned and sent nothing
 return-by : (b : BoardValue) (s : ℕ → ℕ → ℕ) (c : ℕ) (r q : Request) (code : Code) → AsksBy b s r q
     → return_effect (s 0 c) q code ≡ effect_by s (return_effect c r code)
-return-by b s c (requests.CpuOn target entry_point context) q code asks =
-    ap (λ (p : Request). return_effect (s 0 c) p code) asks.2
-return-by b s c (requests.AffinityInfo level target) q code asks =
-    ap (λ (p : Request). return_effect (s 0 c) p code) asks.2
-return-by b s c (requests.NodeHwState level target) q code asks =
-    ap (λ (p : Request). return_effect (s 0 c) p code) asks.2
+return-by b s c (requests.CpuOn target entry_point context) q code asks = rw asks.2
+return-by b s c (requests.AffinityInfo level target) q code asks = rw asks.2
+return-by b s c (requests.NodeHwState level target) q code asks = rw asks.2
 return-by b s c (requests.SetSuspendMode number) q code asks =
-    ap (λ (p : Request). return_effect (s 0 c) p code) asks
-    ∙ mode-by s c (int_eq code.0 success.0) (mode_of number)
-return-by b s c r q code asks =
-    ap (λ (p : Request). return_effect (s 0 c) p code) asks
+    rw asks (mode-by s c (int_eq code.0 success.0) (mode_of number))
+return-by b s c r q code asks = rw asks
 
 function_effect-by : (b : BoardValue) (s : ℕ → ℕ → ℕ) (c : ℕ) (r q : Request) (act : Act)
     (sent : Option MessageValue) → AsksBy b s r q
     → function_effect b (s 0 c) q act (option_map (message_by s) sent)
     ≡ effect_by s (function_effect b c r act sent)
 function_effect-by b s c r q acts.Stop (Some m) asks = stop-by b s c r q m asks
-function_effect-by b s c r q acts.Stop None asks = refl
 function_effect-by b s c r q (acts.Return code) (Some m) asks = sent-by b s c r q m asks
 function_effect-by b s c r q (acts.Return code) None asks = return-by b s c r q code asks
-function_effect-by b s c r q (acts.Enter address context) (Some m) asks = refl
-function_effect-by b s c r q (acts.Enter address context) None asks = refl
-function_effect-by b s c r q acts.Resume (Some m) asks = refl
-function_effect-by b s c r q acts.Resume None asks = refl
+function_effect-by b s c r q act sent asks = refl
 
 enter_effect-by : (s : ℕ → ℕ → ℕ) (c : ℕ) (start : Start) (act : Act) (sent : Option MessageValue)
     → enter_effect (s 0 c) start act (option_map (message_by s) sent)
     ≡ effect_by s (enter_effect c start act sent)
 enter_effect-by s c start acts.Stop (Some m) = refl
-enter_effect-by s c start acts.Stop None = refl
-enter_effect-by s c start (acts.Return code) (Some m) = refl
-enter_effect-by s c start (acts.Return code) None = refl
-enter_effect-by s c start (acts.Enter address context) (Some m) = refl
-enter_effect-by s c start (acts.Enter address context) None = refl
-enter_effect-by s c start acts.Resume (Some m) = refl
-enter_effect-by s c start acts.Resume None = refl
+enter_effect-by s c start act sent = refl
 
 effect_of-by : (b : BoardValue) (s : ℕ → ℕ → ℕ) (c : ℕ) (call other : FwCall) (reply : FwReply)
     → CallsBy b s call other
     → effect_of b (s 0 c) other (reply_by s reply) ≡ effect_by s (effect_of b c call reply)
 effect_of-by b s c (Smc regs) (Smc r) (Out o) calls =
     function_effect-by b s c (request_of regs) (request_of r) o.act o.message calls
-effect_of-by b s c (Smc regs) (Smc r) (replies.Taken t) calls = refl
-effect_of-by b s c (Smc regs) (Smc r) (Fault fault) calls = refl
-effect_of-by b s c (Smc regs) (Enter start) reply calls = absurd calls
-effect_of-by b s c (Smc regs) (Take a) reply calls = absurd calls
+effect_of-by b s c (Smc regs) (Smc r) reply calls = refl
+effect_of-by b s c (Smc regs) other reply calls = absurd calls
 effect_of-by b s c (Enter start) other (Out o) calls =
-    ap (λ (call : FwCall). effect_of b (s 0 c) call (reply_by s (Out o))) calls
-    ∙ enter_effect-by s c start o.act o.message
-effect_of-by b s c (Enter start) other (replies.Taken t) calls =
-    ap (λ (call : FwCall). effect_of b (s 0 c) call (replies.Taken t)) calls
-effect_of-by b s c (Enter start) other (Fault fault) calls =
-    ap (λ (call : FwCall). effect_of b (s 0 c) call (Fault fault)) calls
-effect_of-by b s c (Take a) other (Out o) calls =
-    ap (λ (call : FwCall). effect_of b (s 0 c) call (reply_by s (Out o))) calls
-effect_of-by b s c (Take a) other (replies.Taken Used) calls =
-    ap (λ (call : FwCall). effect_of b (s 0 c) call (replies.Taken Used)) calls
-effect_of-by b s c (Take a) other (replies.Taken Old) calls =
-    ap (λ (call : FwCall). effect_of b (s 0 c) call (replies.Taken Old)) calls
-effect_of-by b s c (Take a) other (Fault fault) calls =
-    ap (λ (call : FwCall). effect_of b (s 0 c) call (Fault fault)) calls
+    rw calls (enter_effect-by s c start o.act o.message)
+effect_of-by b s c (Take a) other (replies.Taken Used) calls = rw calls
+effect_of-by b s c call other reply calls = rw calls
 
 -- A function begins no life ---------------------------------------------------------------------
 
 stop-finds : (b : BoardValue) (s : ℕ → ℕ → ℕ) (v : Values) (c : ℕ) (r : Request) (m : MessageValue)
     → FindsAfter b s v (stop_effect b c r m)
 stop-finds b s v c requests.SystemOff m = tt
-stop-finds b s v c requests.SystemReset m = tt
-stop-finds b s v c (requests.SystemReset2 reset_type cookie) m = tt
 stop-finds b s v c r m = tt
 
 sent-finds : (b : BoardValue) (s : ℕ → ℕ → ℕ) (v : Values) (c : ℕ) (r : Request) (m : MessageValue)
     → FindsAfter b s v (sent_effect c r m)
-sent-finds b s v c (requests.CpuOn target entry_point context) m = tt
+sent-finds b s v c requests.SystemOff m = tt
 sent-finds b s v c r m = tt
 
 mode-finds : (b : BoardValue) (s : ℕ → ℕ → ℕ) (v : Values) (c : ℕ) (t : Bool)
     (mode : Option SuspendMode)
     → FindsAfter b s v (if t then mode_effect c mode else GoesOn c)
 mode-finds b s v c true None = tt
-mode-finds b s v c true (Some mode) = tt
-mode-finds b s v c false mode = tt
-
-return-finds : (b : BoardValue) (s : ℕ → ℕ → ℕ) (v : Values) (c : ℕ) (r : Request) (code : Code)
-    → FindsAfter b s v (return_effect c r code)
-return-finds b s v c (requests.SetSuspendMode number) code =
-    mode-finds b s v c (int_eq code.0 success.0) (mode_of number)
-return-finds b s v c r code = tt
+mode-finds b s v c t mode = tt
 
 function-finds : (b : BoardValue) (s : ℕ → ℕ → ℕ) (v : Values) (c : ℕ) (r : Request) (act : Act)
     (sent : Option MessageValue) → FindsAfter b s v (function_effect b c r act sent)
 function-finds b s v c r acts.Stop (Some m) = stop-finds b s v c r m
-function-finds b s v c r acts.Stop None = tt
 function-finds b s v c r (acts.Return code) (Some m) = sent-finds b s v c r m
-function-finds b s v c r (acts.Return code) None = return-finds b s v c r code
+function-finds b s v c (requests.SetSuspendMode number) (acts.Return code) None =
+    mode-finds b s v c (int_eq code.0 success.0) (mode_of number)
 function-finds b s v c r act sent = tt
 
 enter-finds : (b : BoardValue) (s : ℕ → ℕ → ℕ) (v : Values) (c : ℕ) (start : Start) (act : Act)
     (sent : Option MessageValue) → FindsBy b s start v
     → FindsAfter b s v (enter_effect c start act sent)
 enter-finds b s v c start acts.Stop (Some m) finds = finds
-enter-finds b s v c start acts.Stop None finds = finds
 enter-finds b s v c start act sent finds = finds
 
 finds-after : (b : BoardValue) (s : ℕ → ℕ → ℕ) (v : Values) (c : ℕ) (call : FwCall)
@@ -248,5 +202,5 @@ pub after-by : (b : BoardValue) (s : ℕ → ℕ → ℕ) (v : Values) (c : ℕ)
     ≡ values_by s (after b c call reply v)
 unfolding after
 after-by b s v c call other reply is calls spares =
-    ap (λ (e : Effect). change b e (values_by s v)) (effect_of-by b s c call other reply calls)
-    ∙ change-by b s v (effect_of b c call reply) is (finds-after b s v c call reply is spares)
+    rw (effect_of-by b s c call other reply calls)
+    (change-by b s v (effect_of b c call reply) is (finds-after b s v c call reply is spares))

@@ -58,7 +58,6 @@ reset2_allowed b v c reset_type cookie ready calls awake =
 function_allowed : (b : BoardValue) (v : Values) (c : ℕ) (r : Request) → LowerLaws b
     → IsReady b v → IsCalling b v c → v.halting ≡ false
     → Allows b v (outcome_effect b c r (function_outcome b v c r))
-function_allowed b v c requests.Version laws ready calls awake are = calls
 function_allowed b v c (requests.CpuSuspend state entry_point context) laws ready calls awake are =
     suspend_allowed b v c state entry_point context laws ready calls awake are
 function_allowed b v c requests.CpuOff laws ready calls awake are =
@@ -66,21 +65,17 @@ function_allowed b v c requests.CpuOff laws ready calls awake are =
 function_allowed b v c (requests.CpuOn target entry_point context) laws ready calls awake are =
     on_allowed b v c target entry_point context (target_of b v target entry_point) laws ready calls
     awake refl are
-function_allowed b v c (requests.AffinityInfo level target) laws ready calls awake are = calls
-function_allowed b v c (requests.NodeHwState level target) laws ready calls awake are = calls
-function_allowed b v c requests.MigrateInfoType laws ready calls awake are = calls
 function_allowed b v c requests.SystemOff laws ready calls awake are =
     halt_allowed b v c ready calls awake kinds.Off refl
 function_allowed b v c requests.SystemReset laws ready calls awake are =
     halt_allowed b v c ready calls awake kinds.Reset refl
-function_allowed b v c (requests.Features word) laws ready calls awake are = calls
 function_allowed b v c (requests.SystemSuspend entry_point context) laws ready calls awake are =
     system_allowed b v c entry_point context laws ready calls awake are
 function_allowed b v c (requests.SetSuspendMode mode) laws ready calls awake are =
     returned b v c (requests.SetSuspendMode mode) (set_suspend_mode b v c mode) calls are
 function_allowed b v c (requests.SystemReset2 reset_type cookie) laws ready calls awake are =
     reset2_allowed b v c reset_type cookie ready calls awake are
-function_allowed b v c requests.Unknown laws ready calls awake are = calls
+function_allowed b v c r laws ready calls awake are = calls
 
 -- in a halting life every function stops its caller
 pub call_allowed : (b : BoardValue) (v : Values) (c : ℕ) (r : Request) → LowerLaws b

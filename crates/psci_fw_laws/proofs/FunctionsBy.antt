@@ -1,5 +1,5 @@
 -- What each function answers renumbered cores.
-use Rattle.std.proofs.Common.{◌≡◌, ℕ, refl, ap, ◌∙◌}
+use Rattle.std.proofs.Common.{◌≡◌, ℕ, refl}
 use Rattle.psci_abi.specs.declared.request.Request.{Request}
 use Rattle.psci_abi.specs.declared.request.Request.TheVariants as requests
 use Rattle.psci_board.specs.Board.{BoardValue, node_of}
@@ -18,42 +18,25 @@ function-by : (b : BoardValue) (s : ℕ → ℕ → ℕ) (v : Values) (c : ℕ) 
     → AsksBy b s r q
     → function_outcome b (values_by s v) (s 0 c) q ≡ outcome_by s (function_outcome b v c r)
 function-by b s v c (requests.CpuOn target entry_point context) q is asks =
-    ap (function_outcome b (values_by s v) (s 0 c)) asks.2
-    ∙ cpu_on-by b s v target asks.0 entry_point is asks.1
+    rw asks.2 (cpu_on-by b s v target asks.0 entry_point is asks.1)
 function-by b s v c (requests.AffinityInfo level target) q is asks =
-    ap (function_outcome b (values_by s v) (s 0 c)) asks.2
-    ∙ affinity-by b s v (node_of b target level) (node_of b asks.0 level) is asks.1
+    rw asks.2 (affinity-by b s v (node_of b target level) (node_of b asks.0 level) is asks.1)
 function-by b s v c (requests.NodeHwState level target) q is asks =
-    ap (function_outcome b (values_by s v) (s 0 c)) asks.2
-    ∙ hw_state-by b s v (node_of b target level) (node_of b asks.0 level) is asks.1
+    rw asks.2 (hw_state-by b s v (node_of b target level) (node_of b asks.0 level) is asks.1)
 function-by b s v c (requests.CpuSuspend state entry_point context) q is asks =
-    ap (function_outcome b (values_by s v) (s 0 c)) asks
-    ∙ cpu_suspend-by b s v c state entry_point is
-function-by b s v c requests.CpuOff q is asks =
-    ap (function_outcome b (values_by s v) (s 0 c)) asks ∙ cpu_off-by b s v c is
+    rw asks (cpu_suspend-by b s v c state entry_point is)
+function-by b s v c requests.CpuOff q is asks = rw asks (cpu_off-by b s v c is)
 function-by b s v c requests.SystemOff q is asks =
-    ap (function_outcome b (values_by s v) (s 0 c)) asks
-    ∙ system_message-by s v kinds.Off c (is.back 0)
+    rw asks (system_message-by s v kinds.Off c (is.back 0))
 function-by b s v c requests.SystemReset q is asks =
-    ap (function_outcome b (values_by s v) (s 0 c)) asks
-    ∙ system_message-by s v kinds.Reset c (is.back 0)
+    rw asks (system_message-by s v kinds.Reset c (is.back 0))
 function-by b s v c (requests.SystemReset2 reset_type cookie) q is asks =
-    ap (function_outcome b (values_by s v) (s 0 c)) asks
-    ∙ system_reset2-by s v c reset_type (is.back 0)
+    rw asks (system_reset2-by s v c reset_type (is.back 0))
 function-by b s v c (requests.SystemSuspend entry_point context) q is asks =
-    ap (function_outcome b (values_by s v) (s 0 c)) asks
-    ∙ system_suspend-by b s v c entry_point is
+    rw asks (system_suspend-by b s v c entry_point is)
 function-by b s v c (requests.SetSuspendMode mode) q is asks =
-    ap (function_outcome b (values_by s v) (s 0 c)) asks
-    ∙ mode_asked-by b s v c (mode_of mode) is
-function-by b s v c requests.Version q is asks =
-    ap (function_outcome b (values_by s v) (s 0 c)) asks
-function-by b s v c requests.MigrateInfoType q is asks =
-    ap (function_outcome b (values_by s v) (s 0 c)) asks
-function-by b s v c (requests.Features word) q is asks =
-    ap (function_outcome b (values_by s v) (s 0 c)) asks
-function-by b s v c requests.Unknown q is asks =
-    ap (function_outcome b (values_by s v) (s 0 c)) asks
+    rw asks (mode_asked-by b s v c (mode_of mode) is)
+function-by b s v c r q is asks = rw asks
 
 -- in a halting life too
 pub outcome_of-by : (b : BoardValue) (s : ℕ → ℕ → ℕ) (v : Values) (c : ℕ) (r q : Request)

@@ -31,6 +31,18 @@ on_path P place at x y here there =
     cond_both (place == at) x y P (λ e. here (eqb-true place at e))
     (λ e. there (eqb-false place at e))
 
+-- a claim stays one once more was sent
+current_more : (b : BoardValue) (life : ℕ) (known : ℕ → ℕ) (level place depth : ℕ)
+    (sent : List MessageValue) (m : MessageValue)
+    → HasCurrent b life known level place depth sent
+    → HasCurrent b life known level place depth (m ∷ sent)
+current_more b life known level place depth sent m has = record {
+  part = has.part;
+  claim = claim_old b life level place has.part m sent has.claim;
+  current = has.current;
+  deep = has.deep;
+}
+
 -- a message that is no Down
 pub granted_other : (b : BoardValue) (life : ℕ) (known : ℕ → ℕ) (phase : ℕ → Phase)
     (granted : ℕ → ℕ → ℕ) (sent : List MessageValue) (m : MessageValue)
@@ -38,13 +50,7 @@ pub granted_other : (b : BoardValue) (life : ℕ) (known : ℕ → ℕ) (phase :
     → AreGranted b life known phase granted (m ∷ sent)
 granted_other b life known phase granted sent m other are = record {
   claimed = λ level place h.
-      let has = are.claimed level place h in
-      record {
-        part = has.part;
-        claim = claim_old b life level place has.part m sent has.claim;
-        current = has.current;
-        deep = has.deep;
-      };
+      current_more b life known level place _ sent m (are.claimed level place h);
   held = λ level place p claim.
       are.held level place p (claim_before b life level place p m sent other claim);
 }
@@ -126,7 +132,7 @@ granted_claim b life known phase granted sent c m down new none are = record {
       on_path (λ d. 0 < d → HasCurrent b life known level place d (m ∷ sent)) place (up b level c)
       (claimed_or (slice_get m.parts level) (granted level place)) (granted level place)
       (λ here. claimed_here level place here (slice_get m.parts level) refl)
-      (λ there. old level place);
+      (λ there h. old level place h);
   held = λ level place p claim current rests.
       on_path (λ d. d ≡ p.depth) place (up b level c)
       (claimed_or (slice_get m.parts level) (granted level place)) (granted level place)
@@ -149,13 +155,7 @@ granted_claim b life known phase granted sent c m down new none are = record {
     old : (level place : ℕ) → 0 < granted level place
         → HasCurrent b life known level place (granted level place) (m ∷ sent)
     old level place h =
-        let has = are.claimed level place h in
-        record {
-          part = has.part;
-          claim = claim_old b life level place has.part m sent has.claim;
-          current = has.current;
-          deep = has.deep;
-        }
+        current_more b life known level place _ sent m (are.claimed level place h)
 
     claimed_here : (level place : ℕ) → place ≡ up b level c → (o : Option Part)
         → slice_get m.parts level ≡ o → 0 < claimed_or o (granted level place)

@@ -61,26 +61,14 @@ after_effect b v messages (Rests c rest m) laws allowed holds =
     (rests b v messages c rest.phase laws.paths laws.spans allowed.calls.core allowed.calls.runs
     allowed.stops allowed.waits holds)
 after_effect b v messages (Halts c m) laws allowed holds =
-    let plain = allowed.plain in
-    halts b (with_phase c Away v) messages m
-    (record {
-      life = plain.life;
-      present = plain.present;
-      core = plain.core;
-      number = plain.number;
-      limit = plain.limit;
-      parts = plain.parts;
-      other = plain.other;
-    })
-    allowed.system
+    halts b (with_phase c Away v) messages m (assumption allowed.plain) allowed.system
     (rests b v messages c Away laws.paths laws.spans allowed.calls.core allowed.calls.runs
     (λ e. cc) (λ e. cc) holds)
 after_effect b v messages (Stops c) laws allowed holds =
     rests b v messages c Away laws.paths laws.spans allowed.calls.core allowed.calls.runs (λ e. cc)
     (λ e. cc) holds
 after_effect b v messages (Enters c s) laws allowed holds =
-    runs b (with_arrival b c s v) messages c (arrived_new b v messages c s allowed.enters holds)
-    (arrives b v messages c s laws.paths allowed.enters holds)
+    search (runs, arrived_new, arrives)
 after_effect b v messages (Parks c s m) laws allowed holds =
     let new = arrived_new b v messages c s allowed.enters holds in
     let w : Values = with_arrival b c s v in
@@ -88,9 +76,7 @@ after_effect b v messages (Parks c s m) laws allowed holds =
     (subst (NoneCurrent b w.life w.known messages) (sym allowed.core) new.none)
     (stays b w messages c Away new (arrives b v messages c s laws.paths allowed.enters holds))
 after_effect b v messages (StopsAtOnce c s) laws allowed holds =
-    stays b (with_arrival b c s v) messages c Away
-    (arrived_new b v messages c s allowed.enters holds)
-    (arrives b v messages c s laws.paths allowed.enters holds)
+    search (stays, arrived_new, arrives)
 after_effect b v messages (Acknowledges a) laws allowed holds = takes b v messages a holds
 
 -- Histories -----------------------------------------------------------------------------------
@@ -139,8 +125,7 @@ by_answer : (b : BoardValue) (v : Values) (messages : List MessageValue) (c : �
     → let e = effect_of b c call (answer b v c call) in
     AreValues b (change b e v) → Holds b (change b e v) (listed (sent e) ++ messages)
 by_answer b v messages c call laws are holds then =
-    after_effect b v messages (effect_of b c call (answer b v c call)) laws
-    (answer_allowed b v c call laws (ready b v messages are holds) then) holds
+    search (after_effect, answer_allowed, ready)
 
 by_entry : (b : BoardValue) (v w : Values) (messages : List MessageValue) (c : ℕ) (call : FwCall)
     (reply : FwReply) → LowerLaws b → AreValues b v → AreValues b w → Holds b v messages

@@ -3,7 +3,6 @@ use Rattle.std.proofs.Common.{◌≡◌, ℕ, List, [], ◌∷◌, sym, ap, ◌�
 use Rattle.psci_board.specs.Board.{BoardValue}
 use Rattle.psci_fw_spec.specs.declared.call.FwCall.{FwCall}
 use Rattle.psci_fw_spec.specs.declared.call.FwCall.TheVariants.{Enter, Smc, Take}
-use Rattle.psci_fw_spec.specs.declared.reply.FwReply.{FwReply}
 use Rattle.psci_fw_spec.specs.After.{after}
 use Rattle.psci_fw_spec.specs.Answer.{answer}
 use Rattle.psci_fw_spec.specs.Exchange.{FwExchange}
@@ -11,7 +10,7 @@ use Rattle.psci_fw_spec.specs.History.{values_of}
 use Rattle.psci_fw_spec.specs.Legal.{IsLegal}
 use Rattle.psci_fw_spec.specs.Lives.{start_of_life}
 use Rattle.psci_fw_spec.specs.Values.{Values}
-use Rattle.psci_fw_laws.specs.Renumbered.{ExchangedBy, HappenedBy, SparesBoot, reply_by}
+use Rattle.psci_fw_laws.specs.Renumbered.{ExchangedBy, HappenedBy, SparesBoot}
 use Rattle.psci_fw_laws.specs.Renumbered.{values_by}
 use Rattle.psci_fw_laws.proofs.Calling.{answer-by}
 use Rattle.psci_fw_laws.proofs.EntriesBy.{start_of_life-by}
@@ -35,42 +34,35 @@ exchanged : (b : BoardValue) (s : ℕ → ℕ → ℕ) (v w : Values) (e f : FwE
     → s 0 0 ≡ 0 → ExchangedBy b s e f → w ≡ values_by s v
     → after b f.core f.call f.reply w ≡ values_by s (after b e.core e.call e.reply v)
 exchanged b s v w e f is boot told same =
-    ap (λ (c : ℕ). after b c f.call f.reply w) told.core
-    ∙ (ap (λ (r : FwReply). after b (s 0 e.core) f.call r w) told.reply
-    ∙ (ap (after b (s 0 e.core) f.call (reply_by s e.reply)) same
-    ∙ after-by b s v e.core e.call f.call e.reply is told.call (spares s v.life e.call boot)))
+    rw (told.core, told.reply, same)
+    (after-by b s v e.core e.call f.call e.reply is told.call (spares s v.life e.call boot))
 
 pub values_of-by : (b : BoardValue) (s : ℕ → ℕ → ℕ) (h g : List FwExchange) → Tied b
     → Renumbers b s → s 0 0 ≡ 0 → HappenedBy b s h g
     → values_of b g ≡ values_by s (values_of b h)
 values_of-by b s [] [] tied is boot told =
     tied.first ∙ (sym (start_of_life-by b s 0 is boot) ∙ ap (values_by s) (sym tied.first))
-values_of-by b s [] (f ∷ g) tied is boot told = absurd told
-values_of-by b s (e ∷ h) [] tied is boot told = absurd told
 values_of-by b s (e ∷ h) (f ∷ g) tied is boot told =
     tied.more f g
     ∙ (exchanged b s (values_of b h) (values_of b g) e f is boot told.0
     (values_of-by b s h g tied is boot told.1)
     ∙ ap (values_by s) (sym (tied.more e h)))
+values_of-by b s h g tied is boot told = absurd told
 
 -- the other reply is right where the first one is
 reply-by : (b : BoardValue) (s : ℕ → ℕ → ℕ) (v w : Values) (e f : FwExchange) → Renumbers b s
     → s 0 0 ≡ 0 → ExchangedBy b s e f → w ≡ values_by s v → e.reply ≡ answer b v e.core e.call
     → f.reply ≡ answer b w f.core f.call
 reply-by b s v w e f is boot told same right =
-    told.reply
-    ∙ (ap (reply_by s) right
-    ∙ (sym (answer-by b s v e.core e.call f.call is told.call (spares s v.life e.call boot))
-    ∙ (ap (λ (u : Values). answer b u (s 0 e.core) f.call) (sym same)
-    ∙ ap (λ (c : ℕ). answer b w c f.call) (sym told.core))))
+    rw (told.reply, right, told.core, same)
+    (sym (answer-by b s v e.core e.call f.call is told.call (spares s v.life e.call boot)))
 
 pub legal-by : (b : BoardValue) (s : ℕ → ℕ → ℕ) (h g : List FwExchange) → Tied b
     → Renumbers b s → s 0 0 ≡ 0 → HappenedBy b s h g → IsLegal b h → IsLegal b g
 legal-by b s [] [] tied is boot told legal = tt
-legal-by b s [] (f ∷ g) tied is boot told legal = absurd told
-legal-by b s (e ∷ h) [] tied is boot told legal = absurd told
 legal-by b s (e ∷ h) (f ∷ g) tied is boot told legal = (
   reply-by b s (values_of b h) (values_of b g) e f is boot told.0
       (values_of-by b s h g tied is boot told.1) legal.0,
   legal-by b s h g tied is boot told.1 legal.1,
 )
+legal-by b s h g tied is boot told legal = absurd told

@@ -3,9 +3,9 @@ use Rattle.std.proofs.Common.{◌≡◌, ℕ, zero, suc, ◌+◌, ◌<◌, ◌�
 use Rattle.std.proofs.Common.{false, ◌&&◌, if◌then◌else◌, refl, sym, ap, ◌∙◌, arith}
 use Rattle.std.proofs.Common.{inl, inr}
 use Rattle.std.specs.List.{range_with_len}
-use Rattle.std.proofs.lemmas.Bool.{cases_eq, cases_lt, le-leb, le-ltb, lt-leb, lt-ltb}
+use Rattle.std.proofs.lemmas.Bool.{cases_eq, cases_lt}
 use Rattle.psci_fw_laws.specs.Renumbered.{swap}
-use Rattle.psci_fw_laws.proofs.Folds.{Commutes, alike, fold, swap-first, swap-other, swap-second}
+use Rattle.psci_fw_laws.proofs.Folds.{Commutes, alike, fold}
 use Rattle.psci_fw_laws.proofs.Folds.{swapped-fold}
 
 -- the first n numbers renumbered among themselves: those whose other number is one of them
@@ -13,71 +13,36 @@ abbrev so_far : (ℕ → ℕ) → ℕ → ℕ → ℕ
 so_far s n k = if nat_lt k n && nat_lt (s k) n then s k else k
 
 among : (s : ℕ → ℕ) (n k : ℕ) → k < n → s k < n → so_far s n k ≡ s k
-among s n k h i = rw (lt-ltb k n h, lt-ltb (s k) n i) refl
+among s n k h i = grind arith
 
 beyond : (s : ℕ → ℕ) (n k : ℕ) → n ≤ k → so_far s n k ≡ k
-beyond s n k h = rw (le-ltb k n h) refl
+beyond s n k h = grind arith
 
 apart : (s : ℕ → ℕ) (n k : ℕ) → n ≤ s k → so_far s n k ≡ k
-apart s n k h = elim (cases_lt k n) [
-  | inl i ↦ rw (lt-ltb k n i, le-ltb (s k) n h) refl
-  | inr i ↦ beyond s n k i
-]
+apart s n k h = grind arith
 
 -- one number more, whose other number is larger: nothing changes yet
 later : (s : ℕ → ℕ) (n k : ℕ) → ((j : ℕ) → s (s j) ≡ j) → n < s n
     → so_far s (suc n) k ≡ so_far s n k
-later s n k back over = elim (cases_lt n k) [
-  | inl h ↦ beyond s (suc n) k (omega arith) ∙ sym (beyond s n k (omega arith))
-  | inr h ↦ elim (cases_eq k n) [
-    | inl e ↦
-        let far : suc n ≤ s k = omega (arith, ap s e) in
-        apart s (suc n) k far ∙ sym (beyond s n k (omega arith))
-    | inr d ↦ elim (cases_lt (s k) n) [
-      | inl i ↦ among s (suc n) k (omega arith) (omega arith)
-          ∙ sym (among s n k (omega arith) i)
-      | inr i ↦
-          let other : s k ≡ n → ⊥ = λ e. absurd (omega (arith, ap s e, back k)) in
-          apart s (suc n) k (omega (arith, other)) ∙ sym (apart s n k i)
-    ]
-  ]
-]
+later s n k back over = grind (arith, back k, back n)
 
 -- a number whose other number came before stays, until then
 own : (s : ℕ → ℕ) (n : ℕ) → ((j : ℕ) → s (s j) ≡ j) → s n ≤ n → so_far s n (s n) ≡ s n
-own s n back under =
-    let far : n ≤ s (s n) = omega (arith, back n) in
-    apart s n (s n) far
+own s n back under = grind (arith, back n)
 
 -- all other numbers are where they were
 unmoved : (s : ℕ → ℕ) (n k : ℕ) → (k ≡ n → ⊥) → (s k ≡ n → ⊥)
     → so_far s (suc n) k ≡ so_far s n k
-unmoved s n k d other = elim (cases_lt k n) [
-  | inl h ↦ elim (cases_lt (s k) n) [
-    | inl i ↦ among s (suc n) k (omega arith) (omega arith) ∙ sym (among s n k h i)
-    | inr i ↦ apart s (suc n) k (omega (arith, other)) ∙ sym (apart s n k i)
-  ]
-  | inr h ↦ beyond s (suc n) k (omega (arith, d)) ∙ sym (beyond s n k h)
-]
+unmoved s n k d other = grind arith
 
 -- one number more, whose other number came before: the two are swapped first
 sooner : (s : ℕ → ℕ) (n k : ℕ) → ((j : ℕ) → s (s j) ≡ j) → s n ≤ n
     → so_far s (suc n) k ≡ so_far s n (swap n (s n) k)
 sooner s n k back under = elim (cases_eq k n) [
-  | inl e ↦
-      let here : s k ≤ n = omega (arith, ap s e) in
-      among s (suc n) k (omega arith) (omega arith)
-      ∙ (ap s e ∙ (sym (own s n back under)
-      ∙ ap (so_far s n) (sym (ap (swap n (s n)) e ∙ swap-first n (s n)))))
+  | inl e ↦ grind (arith, ap s e, own s n back under)
   | inr d ↦ elim (cases_eq k (s n)) [
-    | inl e ↦
-        let there : s k ≡ n = ap s e ∙ back n in
-        among s (suc n) k (omega arith) (omega arith)
-        ∙ (there ∙ (sym (beyond s n n (omega arith))
-        ∙ ap (so_far s n) (sym (ap (swap n (s n)) e ∙ swap-second n (s n)))))
-    | inr f ↦
-        let other : s k ≡ n → ⊥ = λ e. f (sym (back k) ∙ ap s e) in
-        unmoved s n k d other ∙ ap (so_far s n) (sym (swap-other n (s n) k d f))
+    | inl e ↦ grind (arith, ap s e, back n)
+    | inr f ↦ grind (arith, unmoved s n k d (λ e. f (sym (back k) ∙ ap s e)))
   ]
 ]
 
@@ -85,9 +50,7 @@ sooner s n k back under = elim (cases_eq k n) [
 fold-so_far : {R : Type 0} (s : ℕ → ℕ) (g : ℕ → R → R) (z : R) (m n : ℕ) → Commutes g
     → ((j : ℕ) → s (s j) ≡ j) → n ≤ m
     → fold (λ k r. g (so_far s n k) r) z (range_with_len 0 m) ≡ fold g z (range_with_len 0 m)
-fold-so_far s g z m zero c back h =
-    alike (λ k r. g (so_far s 0 k) r) g z 0 m (λ k r i j.
-    ap (λ (x : ℕ). g x r) (beyond s 0 k i))
+fold-so_far s g z m zero c back h = grind (arith, alike, beyond)
 fold-so_far s g z m (suc n) c back h = elim (cases_lt n (s n)) [
   | inl over ↦
       alike (λ k r. g (so_far s (suc n) k) r) (λ k r. g (so_far s n k) r) z 0 m (λ k r i j.
@@ -123,39 +86,20 @@ abbrev pub within : {R : Type 0} → ℕ → ℕ → (ℕ → R → R) → ℕ �
 within a n g k r = if is_within a n k then g k r else r
 
 pub is_within-true : (a n k : ℕ) → a ≤ k → k < a + n → is_within a n k ≡ true
-is_within-true a n k h i = rw (le-leb a k h, lt-ltb k (a + n) i) refl
+is_within-true a n k h i = grind arith
 
 is_within-under : (a n k : ℕ) → k < a → is_within a n k ≡ false
-is_within-under a n k h = rw (lt-leb a k h) refl
-
-is_within-over : (a n k : ℕ) → a + n ≤ k → is_within a n k ≡ false
-is_within-over a n k h = elim (cases_lt k a) [
-  | inl i ↦ is_within-under a n k i
-  | inr i ↦ rw (le-leb a k i, le-ltb k (a + n) h) refl
-]
+is_within-under a n k h = grind arith
 
 pub is_within-false : (a n k : ℕ) → (a ≤ k → k < a + n → ⊥) → is_within a n k ≡ false
-is_within-false a n k out = elim (cases_lt k a) [
-  | inl h ↦ is_within-under a n k h
-  | inr h ↦ elim (cases_lt k (a + n)) [
-    | inl i ↦ absurd (out h i)
-    | inr i ↦ is_within-over a n k i
-  ]
-]
+is_within-false a n k out = grind arith
 
 -- the numbers of a window after its first one
 is_within-next : (a n k : ℕ) → a < k → is_within a (suc n) k ≡ is_within (a + 1) n k
-is_within-next a n k h = elim (cases_lt k (a + suc n)) [
-  | inl i ↦ is_within-true a (suc n) k (omega arith) i
-      ∙ sym (is_within-true (a + 1) n k (omega arith) (omega arith))
-  | inr i ↦ is_within-over a (suc n) k i ∙ sym (is_within-over (a + 1) n k (omega arith))
-]
+is_within-next a n k h = grind arith
 
 is_within-none : (a k : ℕ) → is_within a 0 k ≡ false
-is_within-none a k = elim (cases_lt k a) [
-  | inl h ↦ is_within-under a 0 k h
-  | inr h ↦ is_within-over a 0 k (omega arith)
-]
+is_within-none a k = grind arith
 
 -- a fold over a window is one over all numbers with steps at the window alone
 pub fold-window : {R : Type 0} (g : ℕ → R → R) (z : R) (i m a n : ℕ)
@@ -165,26 +109,20 @@ fold-window g z i zero a zero inside = refl
 fold-window g z i zero a (suc n) inside =
     let at = inside a (omega arith) (omega arith) in absurd (omega (arith, at.0, at.1))
 fold-window g z i (suc m) a zero inside =
-    ap (λ (t : Bool). if t then g i (fold (within a 0 g) z (range_with_len (i + 1) m))
-    else fold (within a 0 g) z (range_with_len (i + 1) m)) (is_within-none a i)
-    ∙ fold-window g z (i + 1) m a 0 (λ k h j. absurd (omega arith))
+    rw (is_within-none a i) (fold-window g z (i + 1) m a 0 (λ k h j. absurd (omega arith)))
 fold-window g z i (suc m) a (suc n) inside =
     let first = inside a (omega arith) (omega arith) in
     elim (cases_eq i a) [
       | inl same ↦
-          ap (λ (t : Bool). if t then g i (fold (within a (suc n) g) z (range_with_len (i + 1) m))
-          else fold (within a (suc n) g) z (range_with_len (i + 1) m))
-          (is_within-true a (suc n) i (omega arith) (omega arith))
-          ∙ (ap (g i) (alike (within a (suc n) g) (within (a + 1) n g) z (i + 1) m (λ k r h j.
+          rw (is_within-true a (suc n) i (omega arith) (omega arith))
+          (ap (g i) (alike (within a (suc n) g) (within (a + 1) n g) z (i + 1) m (λ k r h j.
           ap (λ (t : Bool). if t then g k r else r) (is_within-next a n k (omega arith)))
           ∙ fold-window g z (i + 1) m (a + 1) n (λ k h j.
           let at = inside k (omega arith) (omega arith) in
           (omega (arith, same, h), omega (arith, at.1))))
           ∙ ap (λ (x : ℕ). g x (fold g z (range_with_len (a + 1) n))) same)
       | inr other ↦
-          ap (λ (t : Bool). if t then g i (fold (within a (suc n) g) z (range_with_len (i + 1) m))
-          else fold (within a (suc n) g) z (range_with_len (i + 1) m))
-          (is_within-under a (suc n) i (omega (arith, other, first.0)))
-          ∙ fold-window g z (i + 1) m a (suc n) (λ k h j.
-          let at = inside k h j in (omega (arith, other, first.0, h), omega (arith, at.1)))
+          rw (is_within-under a (suc n) i (omega (arith, other, first.0)))
+          (fold-window g z (i + 1) m a (suc n) (λ k h j.
+          let at = inside k h j in (omega (arith, other, first.0, h), omega (arith, at.1))))
     ]

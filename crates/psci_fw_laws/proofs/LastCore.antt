@@ -14,7 +14,7 @@ use Rattle.psci_messages.specs.View.{PowerView, is_idle}
 use Rattle.psci_fw_laws.specs.Renumbered.{node_by}
 use Rattle.psci_fw_laws.proofs.Counts.{list_any-fold, ors, ors-commutes}
 use Rattle.psci_fw_laws.proofs.Claims.{is_idle-by, own_claims-by, view_by}
-use Rattle.psci_fw_laws.proofs.Renumbering.{Renumbers, node_back, same_test}
+use Rattle.psci_fw_laws.proofs.Renumbering.{Renumbers, node_back}
 
 -- Tests over lists ------------------------------------------------------------------------------
 
@@ -22,8 +22,8 @@ any-filter : {X : Type 0} (f p : X → Bool) (xs : List X)
     → list_any f (filter p xs) ≡ list_any (λ x. p x && f x) xs
 any-filter f p [] = refl
 any-filter f p (x ∷ xs) = elim (cases_Bool (p x)) [
-  | inl t ↦ rw t (ap (λ (r : Bool). f x || r) (any-filter f p xs))
-  | inr t ↦ rw t (any-filter f p xs)
+  | inl t ↦ rw (t, any-filter f p xs)
+  | inr t ↦ rw (t, any-filter f p xs)
 ]
 
 any-map : {X : Type 0} (f : X → Bool) (h : ℕ → X) (ks : List ℕ)
@@ -57,13 +57,7 @@ pub shallow_at-any : (b : BoardValue) (w : PowerView) (f : Node → Bool) (c : �
     ≡ list_any (is_beside w f under (up b under c) (own_wish ask level))
     (range_with_len (first_child b level (up b level c)) (children_at b level (up b level c)))
 unfolding shallow_at
-shallow_at-any b w f c ask level under e =
-    let ks : List ℕ =
-    range_with_len (first_child b level (up b level c)) (children_at b level (up b level c)) in
-    rw (← e)
-    (any-filter f (λ n. nat_lt (w.granted n.level n.place) (own_wish ask level)) _
-    ∙ (any-filter _ (λ n. not (n.place == up b (level - 1) c)) _
-    ∙ any-map _ (λ place. record { level = level - 1; place = place }) ks))
+shallow_at-any b w f c ask level under e = grind (arith, any-filter, any-map)
 
 -- two tests that say the same of a node and of its other place
 abbrev pub AgreeBy : (ℕ → ℕ → ℕ) → (Node → Bool) → (Node → Bool) → Type 0
@@ -76,13 +70,9 @@ beside-by : (b : BoardValue) (s : ℕ → ℕ → ℕ) (w : PowerView) (f g : No
     ≡ is_beside w g level (up b level c) depth (s level k)
 beside-by b s w f g c level depth k is agree =
     let n : Node = record { level = level; place = k } in
-    let rest : Bool = nat_lt (w.granted level (s level k)) depth in
     let own : (k == up b level (s 0 c)) ≡ (s level k == up b level c) =
-    same_test k (up b level (s 0 c)) (s level k) (up b level c)
-    (λ e. ap (s level) (e ∙ is.above level c) ∙ is.back level (up b level c))
-    (λ e. sym (is.back level k) ∙ (ap (s level) e ∙ sym (is.above level c))) in
-    ap (λ (t : Bool). not t && (rest && f n)) own
-    ∙ ap (λ (t : Bool). not (s level k == up b level c) && (rest && t)) (agree n)
+    grind (arith, is.above level c, is.back level k, is.back level (up b level c)) in
+    rw (own, agree n)
 
 any-at : (b : BoardValue) (s : ℕ → ℕ → ℕ) (w : PowerView) (f g : Node → Bool) (c : ℕ)
     (ask : List ℕ) (level : ℕ) → Renumbers b s → AgreeBy s f g
@@ -137,18 +127,10 @@ refusal-by : (b : BoardValue) (s : ℕ → ℕ → ℕ) (w : PowerView) (c : ℕ
     → refusal b (view_by s w) (shallow b (view_by s w) (s 0 c) ask)
     ≡ refusal b w (shallow b w c ask)
 unfolding refusal
-refusal-by b s w c ask is =
-    let some = some-any (shallow b (view_by s w) (s 0 c) ask)
-    ∙ (any-shallow b s w (λ n. true) (λ n. true) c ask is (λ n. refl)
-    ∙ sym (some-any (shallow b w c ask))) in
-    rw (
-      any-shallow b s w (is_idle b (view_by s w)) (is_idle b w) c ask is (idle-agrees b s w is),
-      some,
-    ) refl
+refusal-by b s w c ask is = grind (arith, some-any, any-shallow, idle-agrees)
 
 pub last_core_check-by : (b : BoardValue) (s : ℕ → ℕ → ℕ) (w : PowerView) (c : ℕ) (ask : List ℕ)
     → Renumbers b s
     → last_core_check b (view_by s w) (s 0 c) ask ≡ last_core_check b w c ask
 unfolding last_core_check
-last_core_check-by b s w c ask is =
-    rw (refusal-by b s w c ask is, own_claims-by b s w c ask is) refl
+last_core_check-by b s w c ask is = grind (arith, refusal-by, own_claims-by)

@@ -1,7 +1,7 @@
 -- What a core that stops sends.
-use Rattle.std.proofs.Common.{◌≡◌, ℕ, zero, suc, ◌+◌, ◌<◌, ◌≤◌, false, ◌==◌, List, length}
+use Rattle.std.proofs.Common.{◌≡◌, ℕ, zero, suc, ◌+◌, ◌<◌, ◌≤◌, false, List, length}
 use Rattle.std.proofs.Common.{Some, Ok, refl, arith, subst, ap, sym, ◌∙◌}
-use Rattle.std.specs.Prelude.{nat_le, slice_get, slice_index}
+use Rattle.std.specs.Prelude.{slice_get, slice_index}
 use Rattle.std.proofs.lemmas.Bool.{cond-true, cond_both, eq-eqb, le-leb}
 use Rattle.std.proofs.lemmas.Option.{slice_get_within}
 use Rattle.psci_board.specs.Board.{BoardValue, cores, height, up}
@@ -23,7 +23,6 @@ use Rattle.psci_fw_spec.specs.Phases.{Away, Pending, Running, Suspended, activit
 use Rattle.psci_fw_spec.specs.Phases.{unless_pending}
 use Rattle.psci_fw_spec.specs.Values.{Values}
 use Rattle.psci_fw_spec.specs.Views.{ask, view}
-use Rattle.psci_fw_spec.specs.Paths.{claimed_or}
 use Rattle.psci_fw_laws.specs.KnownBelow.{known_below}
 use Rattle.psci_fw_laws.specs.Messages.{known_on}
 use Rattle.psci_fw_laws.proofs.Lower.{LowerLaws}
@@ -62,9 +61,7 @@ leaving_made b v c OsInitiated laws =
 
 ask_most : (b : BoardValue) (v : Values) (c level : ℕ)
     → ask b v c level ≤ asks (activity_of (v.phase c)) level
-ask_most b v c level =
-    cond_both (nat_le level (height b)) (asks (activity_of (v.phase c)) level) 0
-    (λ d. d ≤ asks (activity_of (v.phase c)) level) (λ e. omega arith) (λ e. omega arith)
+ask_most b v c level = grind (arith, cond_both)
 
 -- of a core that goes off
 pub off_made : (b : BoardValue) (v : Values) (c : ℕ) → LowerLaws b
@@ -139,9 +136,7 @@ granted_below b v (suc level) c paths are on high =
 
 pub ask_within : (b : BoardValue) (v : Values) (c level : ℕ) → level ≤ height b
     → ask b v c level ≡ asks (activity_of (v.phase c)) level
-ask_within b v c level high =
-    cond-true (nat_le level (height b)) (asks (activity_of (v.phase c)) level) 0
-    (le-leb level (height b) high)
+ask_within b v c level high = grind (arith, cond-true, le-leb)
 
 pub ask_own : (b : BoardValue) (v : Values) (c : ℕ)
     → ask b v c 0 ≡ asks (activity_of (v.phase c)) 0
@@ -154,11 +149,7 @@ ask_running b v c runs = ask_own b v c ∙ ap (λ p. asks (activity_of p) 0) run
 laid_at : (b : BoardValue) (v : Values) (m : MessageValue) (level place : ℕ) (p : Part)
     → place ≡ up b level m.core.number → slice_get m.parts level ≡ Some p
     → (with_claims b m v).granted level place ≡ p.depth
-laid_at b v m level place p on part =
-    cond-true (place == up b level m.core.number)
-    (claimed_or (slice_get m.parts level) (v.granted level place)) (v.granted level place)
-    (eq-eqb _ _ on)
-    ∙ ap (λ o. claimed_or o (v.granted level place)) part
+laid_at b v m level place p on part = grind (arith, cond-true, eq-eqb)
 
 pub new_claim : (b : BoardValue) (v : Values) (c : ℕ) (parts : List Part) → LowerLaws b
     → c < cores b → 0 < v.life → 0 < v.known c → v.known c ≤ b.starts → v.halting ≡ false

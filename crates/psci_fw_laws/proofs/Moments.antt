@@ -6,8 +6,8 @@ use Rattle.psci_board.specs.Board.{BoardValue}
 use Rattle.psci_messages.specs.declared.kind.Kind.TheVariants.{Down}
 use Rattle.psci_messages.specs.Message.{MessageValue}
 use Rattle.psci_fw_spec.specs.After.{change}
-use Rattle.psci_fw_spec.specs.Effects.{Effect, Nothing, GoesOn, SetsMode, AsksOn, Rests, Halts}
-use Rattle.psci_fw_spec.specs.Effects.{Stops, Enters, Parks, StopsAtOnce, Acknowledges}
+use Rattle.psci_fw_spec.specs.Effects.{Effect, AsksOn, Rests, Halts}
+use Rattle.psci_fw_spec.specs.Effects.{Parks}
 use Rattle.psci_fw_spec.specs.Exchange.{FwExchange, effect}
 use Rattle.psci_fw_spec.specs.History.{values_of}
 use Rattle.psci_fw_spec.specs.Legal.{IsLegal}
@@ -21,35 +21,21 @@ use Rattle.psci_fw_laws.proofs.Started.{not_down}
 -- an effect that sends a Down leaves values by which it was asked for
 fair_after : (b : BoardValue) (v : Values) (e : Effect) (m : MessageValue) → IsAllowed b v e
     → sent e ≡ Some m → m.kind ≡ Down → IsAskedFor b (change b e v) m
-fair_after b v Nothing m allowed e down = absurd (cc)
-fair_after b v (GoesOn c) m allowed e down = absurd (cc)
-fair_after b v (SetsMode c mode) m allowed e down = absurd (cc)
 fair_after b v (AsksOn c asked) m allowed e down =
     let same : asked.message ≡ m = cc in
     absurd (not_down asked.message.kind allowed.plain.other
     (ap (λ (x : MessageValue). x.kind) same ∙ down))
 fair_after b v (Rests c rest n) m allowed e down =
     let same : n ≡ m = cc in
-    subst (IsAskedFor b (change b (Rests c rest n) v)) same (record {
-      own = allowed.claim.fair.own;
-      below = allowed.claim.fair.below;
-      least = allowed.claim.fair.least;
-    })
+    subst (IsAskedFor b (change b (Rests c rest n) v)) same (assumption allowed.claim.fair)
 fair_after b v (Halts c n) m allowed e down =
     let same : n ≡ m = cc in
     absurd (not_down n.kind allowed.plain.other
     (ap (λ (x : MessageValue). x.kind) same ∙ down))
-fair_after b v (Stops c) m allowed e down = absurd (cc)
-fair_after b v (Enters c s) m allowed e down = absurd (cc)
 fair_after b v (Parks c s n) m allowed e down =
     let same : n ≡ m = cc in
-    subst (IsAskedFor b (change b (Parks c s n) v)) same (record {
-      own = allowed.claim.fair.own;
-      below = allowed.claim.fair.below;
-      least = allowed.claim.fair.least;
-    })
-fair_after b v (StopsAtOnce c s) m allowed e down = absurd (cc)
-fair_after b v (Acknowledges a) m allowed e down = absurd (cc)
+    subst (IsAskedFor b (change b (Parks c s n) v)) same (assumption allowed.claim.fair)
+fair_after b v effect m allowed e down = absurd (cc)
 
 earlier : (b : BoardValue) (e : FwExchange) (h : List FwExchange) (m : MessageValue)
     → WasAsked b h m

@@ -28,13 +28,7 @@ no_earlier life later e = grind arith
 pub answered : (b : BoardValue) (v : Values) (c : ℕ) (s : Start) → v.life < s.life
     → answer b v c (Enter s) ≡ answer b (start_of_life b 0) c (Enter s)
 unfolding answer enter_outcome
-answered b v c s e =
-    rw (
-      another v.life s.life e,
-      another 0 s.life (omega (arith, e)),
-      no_earlier v.life s.life e,
-      no_earlier 0 s.life (omega (arith, e)),
-    ) refl
+answered b v c s e = grind (arith, another, no_earlier)
 
 arrived : (b : BoardValue) (v : Values) (c : ℕ) (s : Start) → v.life < s.life
     → with_arrival b c s v ≡ with_arrival b c s (start_of_life b 0)
@@ -45,9 +39,7 @@ left : (b : BoardValue) (v : Values) (c : ℕ) (s : Start) (act : Act) (m : Opti
     → change b (enter_effect c s act m) v ≡ change b (enter_effect c s act m) (start_of_life b 0)
 left b v c s acts.Stop (Some m) e = ap (λ w. with_claims b m (with_phase c Away w)) e
 left b v c s acts.Stop None e = ap (with_phase c Away) e
-left b v c s (acts.Return code) m e = ap (with_running c) e
-left b v c s (acts.Enter address context) m e = ap (with_running c) e
-left b v c s acts.Resume m e = ap (with_running c) e
+left b v c s act m e = ap (with_running c) e
 
 pub left_after : (b : BoardValue) (v : Values) (c : ℕ) (s : Start) (o : Outcome) → v.life < s.life
     → after b c (Enter s) (Out o) v ≡ after b c (Enter s) (Out o) (start_of_life b 0)

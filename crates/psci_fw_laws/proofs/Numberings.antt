@@ -28,17 +28,8 @@ is_child b level p k = is_within (first_child b (suc level) p) (children_at b (s
 -- a core's node is a child of its node of the next level, and of no other
 child_of_core : (b : BoardValue) (level p c : ℕ) → ChildLaws b → c < cores b → level < height b
     → is_child b level p (up b level c) ≡ (up b (suc level) c == p)
-child_of_core b level p c child h i = elim (cases_eq (up b (suc level) c) p) [
-  | inl e ↦
-      let low : first_child b (suc level) p ≤ up b level c = rw (← e) (child.first c level h i) in
-      let high : up b level c < first_child b (suc level) p + children_at b (suc level) p =
-      rw (← e) (child.last c level h i) in
-      is_within-true _ _ (up b level c) low high ∙ sym (eq-eqb (up b (suc level) c) p e)
-  | inr d ↦
-      is_within-false (first_child b (suc level) p) (children_at b (suc level) p) (up b level c)
-      (λ low high. d (child.parent c level p h i low high))
-      ∙ sym (ne_eqb (up b (suc level) c) p d)
-]
+child_of_core b level p c child h i =
+    grind (arith, cases_eq, is_within-true, eq-eqb, is_within-false, ne_eqb)
 
 -- a child of the other place is the other place of a child
 child_moved : (b : BoardValue) (s : ℕ → ℕ → ℕ) (level p k : ℕ) → IsRenumbering b s → PathLaws b
@@ -76,10 +67,7 @@ children-fold : {R : Type 0} (b : BoardValue) (g : ℕ → R → R) (z : R) (lev
     → fold g z (range_with_len (first_child b (suc level) p) (children_at b (suc level) p))
     ≡ fold (within (first_child b (suc level) p) (children_at b (suc level) p) g) z
     (range_with_len 0 (nodes b level))
-children-fold b g z level p child h =
-    sym (fold-window g z 0 (nodes b level) (first_child b (suc level) p)
-    (children_at b (suc level) p) (λ k low high.
-    (omega arith, omega (arith, child_inside b level p k child h low high))))
+children-fold b g z level p child h = grind (arith, fold-window, child_inside)
 
 within-commutes : {R : Type 0} (g : ℕ → R → R) (a n : ℕ) → Commutes g → Commutes (within a n g)
 within-commutes g a n c = passing-commutes (is_within a n) g c

@@ -1,5 +1,5 @@
 -- No claim is above the known starts below its domain.
-use Rattle.std.proofs.Common.{◌≡◌, ℕ, ◌<◌, ◌≤◌, inl, inr, Bool, List, arith, subst, ap, sym, ◌∙◌}
+use Rattle.std.proofs.Common.{◌≡◌, ℕ, ◌<◌, ◌≤◌, inl, inr, Bool, List, arith, subst, ap, sym}
 use Rattle.psci_board.specs.Board.{BoardValue, cores, up}
 use Rattle.psci_messages.specs.declared.part.Part.{Part}
 use Rattle.psci_messages.specs.Message.{MessageValue}
@@ -66,6 +66,4 @@ none_arrived b life halting known phase sent c n are on later level place p at c
 pub known_beside : (b : BoardValue) (known : ℕ → ℕ) (c n level place : ℕ)
     → (place ≡ up b level c → ⊥)
     → known_below b (updated known c n) level place ≡ known_below b known level place
-known_beside b known c n level place off =
-    known_same b (updated known c n) known level place
-    (λ k i at. updated_there known c n k (λ s. off (sym at ∙ ap (up b level) s)))
+known_beside b known c n level place off = grind (arith, known_same, updated_there)

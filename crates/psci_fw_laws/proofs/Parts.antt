@@ -7,7 +7,7 @@ use Rattle.std.proofs.lemmas.Bool.{and_from, and_parts, cond_both, eq-eqb, eqb-f
 use Rattle.psci_board.specs.Board.{BoardValue, up}
 use Rattle.psci_messages.specs.declared.part.Part.{Part}
 use Rattle.psci_messages.specs.declared.kind.Kind.{Kind}
-use Rattle.psci_messages.specs.declared.kind.Kind.TheVariants.{Down, Start, Off, Reset}
+use Rattle.psci_messages.specs.declared.kind.Kind.TheVariants.{Down}
 use Rattle.psci_messages.specs.Message.{MessageValue}
 use Rattle.psci_messages.specs.Slots.{is_kind}
 use Rattle.psci_fw_spec.specs.Values.{updated}
@@ -29,11 +29,9 @@ updated_there f c x k ne = updated_at (λ y. y ≡ f k) f c x k (λ e. absurd (n
 
 -- Parts ---------------------------------------------------------------------------------------
 
-kind_is : (k : Kind) → is_kind k Down ≡ true → k ≡ Down
+pub kind_is : (k : Kind) → is_kind k Down ≡ true → k ≡ Down
 kind_is Down e = refl
-kind_is Start e = absurd (cc)
-kind_is Off e = absurd (cc)
-kind_is Reset e = absurd (cc)
+kind_is k e = absurd (cc)
 
 -- What it means that a message has a part for a domain.
 pub record HasPart (b : BoardValue) (life level place : ℕ) (m : MessageValue) (p : Part)

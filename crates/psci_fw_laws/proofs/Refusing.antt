@@ -119,9 +119,7 @@ idle_nobody b v level c e x on at =
 nobody_idle : (b : BoardValue) (v : PowerView) (level c : ℕ) → NobodyAwake b v level c
     → is_idle b v (record { level = level; place = up b level c }) ≡ true
 unfolding is_idle up
-nobody_idle b v level c nobody =
-    one_all (λ y. not (v.is_active y)) _ 0 (cores b)
-    (λ x low high at. ap not (nobody x (omega (arith, high)) (eqb-true _ _ at)))
+nobody_idle b v level c nobody = grind (arith, one_all, nobody, eqb-true)
 
 -- The answers -----------------------------------------------------------------------------------
 
@@ -130,14 +128,13 @@ invalid_by : (idle some : Bool) (parts : List Part)
     → idle ≡ true
 invalid_by true some parts e = refl
 invalid_by false true parts e = absurd (cc)
-invalid_by false false parts e = absurd (cc)
+invalid_by false some parts e = absurd (cc)
 
 denied_by : (idle some : Bool) (parts : List Part)
     → answer_by (cond idle (Some Invalid) (cond some (Some Denied) None)) parts ≡ Err Denied
     → (idle ≡ false) × (some ≡ true)
-denied_by true some parts e = absurd (cc)
 denied_by false true parts e = (refl, refl)
-denied_by false false parts e = absurd (cc)
+denied_by idle some parts e = absurd (cc)
 
 -- whether nobody is awake below some domain in the way; whether something is in the way
 abbrev is_asleep : BoardValue → PowerView → ℕ → List ℕ → Bool
@@ -157,23 +154,19 @@ answered b v caller ask asleep way e f = rw (e, f) refl
 
 module _ (b : BoardValue) (v : PowerView) (caller : ℕ) (ask : List ℕ) (paths : PathLaws b)
     (kids : ChildLaws b) where
+  sleeper : HasWay b v caller ask (is_idle b v) → HasSleeper b v caller ask
+  sleeper has = record {
+    level = has.level;
+    core = has.core;
+    way = has.way;
+    asleep = idle_nobody b v has.level has.core has.at;
+  }
+
   none_asleep : (HasSleeper b v caller ask → ⊥) → is_asleep b v caller ask ≡ false
-  none_asleep none = elim (cases_Bool (is_asleep b v caller ask)) [
-    | inl found ↦
-        let has = any_way b v caller ask paths kids (is_idle b v) found in
-        absurd (none (record {
-          level = has.level;
-          core = has.core;
-          way = has.way;
-          asleep = idle_nobody b v has.level has.core has.at;
-        }))
-    | inr none_found ↦ none_found
-  ]
+  none_asleep none = grind (arith, cases_Bool, any_way, paths, sleeper)
 
   some_way : (level c : ℕ) → IsInTheWay b v caller ask level c → is_way b v caller ask ≡ true
-  some_way level c way =
-      some-any (shallow b v caller ask)
-      ∙ way_any b v caller ask paths kids (λ n. true) level c way refl
+  some_way level c way = grind (arith, some-any, way_any, paths, true)
 
   pub accepted : ((level c : ℕ) → IsInTheWay b v caller ask level c → ⊥)
       → last_core_check b v caller ask ≡ Ok (own_claims b v caller ask)
@@ -195,13 +188,7 @@ module _ (b : BoardValue) (v : PowerView) (caller : ℕ) (ask : List ℕ) (paths
       (own_claims b v caller ask)
       (sym (answered b v caller ask (is_asleep b v caller ask) (is_way b v caller ask) refl refl)
       ∙ e) in
-      let has = any_way b v caller ask paths kids (is_idle b v) found in
-      record {
-        level = has.level;
-        core = has.core;
-        way = has.way;
-        asleep = idle_nobody b v has.level has.core has.at;
-      }
+      sleeper (any_way b v caller ask paths kids (is_idle b v) found)
 
   pub has_invalid : HasSleeper b v caller ask → last_core_check b v caller ask ≡ Err Invalid
   has_invalid has =

@@ -34,50 +34,24 @@ values = record {
 abbrev moved : Values
 moved = values_by s values
 
-life_stays : moved.life ≡ 2
-life_stays = refl
-
-halting_stays : moved.halting ≡ true
-halting_stays = refl
-
-mode_stays : moved.mode ≡ OsInitiated
-mode_stays = refl
-
-known_moved : map moved.known (0 ∷ 1 ∷ 2 ∷ 3 ∷ []) ≡ 10 ∷ 13 ∷ 12 ∷ 11 ∷ []
-known_moved = refl
-
-status_moved : map moved.status (1 ∷ 2 ∷ 3 ∷ []) ≡ statuses.Off ∷ statuses.Off ∷ statuses.On ∷ []
-status_moved = refl
-
-phase_moved : map moved.phase (1 ∷ 2 ∷ 3 ∷ [])
-    ≡ phases.Away ∷ phases.Away ∷ phases.Suspended (2 ∷ []) ∷ []
-phase_moved = refl
-
-opening_moved : map moved.opening (1 ∷ 2 ∷ 3 ∷ [])
-    ≡ None ∷ None ∷ Some (record { address = 64; context = 9 }) ∷ []
-opening_moved = refl
-
 -- each message is in the slot of its core's other number, and says that number
-outstanding_moved : map moved.outstanding (OfCore 1 ∷ OfCore 3 ∷ OfSystem ∷ [])
-    ≡ None ∷ Some (down 3) ∷ Some (system_off 1) ∷ []
-outstanding_moved = refl
+values_moved : (moved.life ≡ 2) × (moved.halting ≡ true) × (moved.mode ≡ OsInitiated)
+    × (map moved.known (0 ∷ 1 ∷ 2 ∷ 3 ∷ []) ≡ 10 ∷ 13 ∷ 12 ∷ 11 ∷ [])
+    × (map moved.status (1 ∷ 2 ∷ 3 ∷ []) ≡ statuses.Off ∷ statuses.Off ∷ statuses.On ∷ [])
+    × (map moved.phase (1 ∷ 2 ∷ 3 ∷ [])
+    ≡ phases.Away ∷ phases.Away ∷ phases.Suspended (2 ∷ []) ∷ [])
+    × (map moved.opening (1 ∷ 2 ∷ 3 ∷ [])
+    ≡ None ∷ None ∷ Some (record { address = 64; context = 9 }) ∷ [])
+    × (map moved.outstanding (OfCore 1 ∷ OfCore 3 ∷ OfSystem ∷ [])
+    ≡ None ∷ Some (down 3) ∷ Some (system_off 1) ∷ [])
+values_moved = (refl, refl, refl, refl, refl, refl, refl, refl)
 
 -- with two clusters swapped
 abbrev turned : Values
 turned = values_by (swap_clusters clusters 0 1) values
 
-granted_to_cores : map (turned.granted 0) (0 ∷ 1 ∷ 2 ∷ 3 ∷ 4 ∷ []) ≡ 2 ∷ 3 ∷ 0 ∷ 1 ∷ 4 ∷ []
-granted_to_cores = refl
-
-granted_to_clusters : map (turned.granted 1) (0 ∷ 1 ∷ 2 ∷ []) ≡ 11 ∷ 10 ∷ 12 ∷ []
-granted_to_clusters = refl
-
-granted_to_the_system : turned.granted 2 0 ≡ 20
-granted_to_the_system = refl
-
-confirmed_of_cores : map (turned.confirmed 0) (0 ∷ 1 ∷ 2 ∷ 3 ∷ [])
-    ≡ false ∷ false ∷ false ∷ true ∷ []
-confirmed_of_cores = refl
-
-confirmed_of_clusters : map (turned.confirmed 1) (0 ∷ 1 ∷ 2 ∷ []) ≡ false ∷ true ∷ false ∷ []
-confirmed_of_clusters = refl
+domains_moved : (map (turned.granted 0) (0 ∷ 1 ∷ 2 ∷ 3 ∷ 4 ∷ []) ≡ 2 ∷ 3 ∷ 0 ∷ 1 ∷ 4 ∷ [])
+    × (map (turned.granted 1) (0 ∷ 1 ∷ 2 ∷ []) ≡ 11 ∷ 10 ∷ 12 ∷ []) × (turned.granted 2 0 ≡ 20)
+    × (map (turned.confirmed 0) (0 ∷ 1 ∷ 2 ∷ 3 ∷ []) ≡ false ∷ false ∷ false ∷ true ∷ [])
+    × (map (turned.confirmed 1) (0 ∷ 1 ∷ 2 ∷ []) ≡ false ∷ true ∷ false ∷ [])
+domains_moved = (refl, refl, refl, refl, refl)

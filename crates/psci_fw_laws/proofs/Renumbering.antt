@@ -1,18 +1,17 @@
 -- What a renumbering keeps, and what is counted below a domain and over all cores.
-use Rattle.std.proofs.Common.{◌≡◌, ℕ, suc, ◌==◌, nat_lt, Bool, true, false}
+use Rattle.std.proofs.Common.{arith}
+use Rattle.std.proofs.Common.{◌≡◌, ℕ, suc, ◌==◌, nat_lt, Bool}
 use Rattle.std.proofs.Common.{map, sym, ap, ◌∙◌}
-use Rattle.std.proofs.Common.{inl, inr}
 use Rattle.std.specs.List.{range_with_len, sum_by, list_all, list_any}
-use Rattle.std.proofs.lemmas.Bool.{cases_eq, eq-eqb, ne_eqb}
 use Rattle.psci_board.specs.Board.{BoardValue, below, cores, nodes, up, first_child}
 use Rattle.psci_board.specs.Board.{children_at}
 use Rattle.psci_board.specs.declared.node.Node.{Node}
 use Rattle.psci_messages.specs.psci_state.Ask.{least}
 use Rattle.psci_fw_laws.specs.Renumbered.{node_by}
 use Rattle.psci_fw_laws.proofs.Folds.{Commutes, fold}
-use Rattle.psci_fw_laws.proofs.Counts.{adds, adds-commutes, ands, ands-commutes, fold-filter}
-use Rattle.psci_fw_laws.proofs.Counts.{least-fold, lessens, lessens-commutes, list_all-fold}
-use Rattle.psci_fw_laws.proofs.Counts.{list_any-fold, ors, ors-commutes, passing}
+use Rattle.psci_fw_laws.proofs.Counts.{adds-commutes, ands-commutes, fold-filter}
+use Rattle.psci_fw_laws.proofs.Counts.{least-fold, lessens-commutes, list_all-fold}
+use Rattle.psci_fw_laws.proofs.Counts.{list_any-fold, ors-commutes, passing}
 use Rattle.psci_fw_laws.proofs.Counts.{passing-commutes, sum_by-fold}
 
 -- What a renumbering keeps of a board.
@@ -38,23 +37,17 @@ pub record Renumbers (b : BoardValue) (s : ℕ → ℕ → ℕ) : Type 1 where
 -- Tests -----------------------------------------------------------------------------------------
 
 pub same_test : (a b c d : ℕ) → (a ≡ b → c ≡ d) → (c ≡ d → a ≡ b) → (a == b) ≡ (c == d)
-same_test a b c d f g = elim (cases_eq a b) [
-  | inl e ↦ eq-eqb a b e ∙ sym (eq-eqb c d (f e))
-  | inr n ↦ ne_eqb a b n ∙ sym (ne_eqb c d (λ e. n (g e)))
-]
+same_test a b c d f g = grind (arith, f, g)
 
 -- a number is the other number of a core where its own other number is the core's
 pub other_test : (s : ℕ → ℕ → ℕ) (k c : ℕ) → ((j : ℕ) → s 0 (s 0 j) ≡ j)
     → (k == s 0 c) ≡ (s 0 k == c)
-other_test s k c back = same_test k (s 0 c) (s 0 k) c
-    (λ e. ap (s 0) e ∙ back c) (λ e. sym (back k) ∙ ap (s 0) e)
+other_test s k c back = grind (arith, back k, back c)
 
 pub place_test : (b : BoardValue) (s : ℕ → ℕ → ℕ) (level place c : ℕ) → Renumbers b s
     → (up b level c == s level place) ≡ (up b level (s 0 c) == place)
 place_test b s level place c is =
-    same_test (up b level c) (s level place) (up b level (s 0 c)) place
-    (λ e. is.above level c ∙ (ap (s level) e ∙ is.back level place))
-    (λ e. sym (is.back level (up b level c)) ∙ ap (s level) (sym (is.above level c) ∙ e))
+    grind (arith, is.above level c, is.back level place, is.back level (up b level c))
 
 pub node_back : (b : BoardValue) (s : ℕ → ℕ → ℕ) (n : Node) → Renumbers b s
     → node_by s (node_by s n) ≡ n
@@ -78,38 +71,26 @@ below-fold b s n g z is c =
 
 pub sum-below : (b : BoardValue) (s : ℕ → ℕ → ℕ) (n : Node) (f : ℕ → ℕ) → Renumbers b s
     → sum_by (λ k. f (s 0 k)) (below b (node_by s n)) ≡ sum_by f (below b n)
-sum-below b s n f is =
-    sum_by-fold (λ k. f (s 0 k)) (below b (node_by s n))
-    ∙ (below-fold b s n (adds f) 0 is (adds-commutes f) ∙ sym (sum_by-fold f (below b n)))
+sum-below b s n f is = grind (arith, sum_by-fold, below-fold, adds-commutes)
 
 pub least-below : (b : BoardValue) (s : ℕ → ℕ → ℕ) (n : Node) (f : ℕ → ℕ) → Renumbers b s
     → least (map (λ k. f (s 0 k)) (below b (node_by s n))) ≡ least (map f (below b n))
-least-below b s n f is =
-    least-fold (λ k. f (s 0 k)) (below b (node_by s n))
-    ∙ (below-fold b s n (lessens f) 3 is (lessens-commutes f) ∙ sym (least-fold f (below b n)))
+least-below b s n f is = search (arith, least-fold, below-fold, lessens-commutes)
 
 pub all-below : (b : BoardValue) (s : ℕ → ℕ → ℕ) (n : Node) (f : ℕ → Bool) → Renumbers b s
     → list_all (λ k. f (s 0 k)) (below b (node_by s n)) ≡ list_all f (below b n)
-all-below b s n f is =
-    list_all-fold (λ k. f (s 0 k)) (below b (node_by s n))
-    ∙ (below-fold b s n (ands f) true is (ands-commutes f) ∙ sym (list_all-fold f (below b n)))
+all-below b s n f is = search (arith, list_all-fold, below-fold, ands-commutes)
 
 pub any-below : (b : BoardValue) (s : ℕ → ℕ → ℕ) (n : Node) (f : ℕ → Bool) → Renumbers b s
     → list_any (λ k. f (s 0 k)) (below b (node_by s n)) ≡ list_any f (below b n)
-any-below b s n f is =
-    list_any-fold (λ k. f (s 0 k)) (below b (node_by s n))
-    ∙ (below-fold b s n (ors f) false is (ors-commutes f) ∙ sym (list_any-fold f (below b n)))
+any-below b s n f is = search (arith, list_any-fold, below-fold, ors-commutes)
 
 pub all-cores : (b : BoardValue) (s : ℕ → ℕ → ℕ) (f : ℕ → Bool) → Renumbers b s
     → list_all (λ k. f (s 0 k)) (range_with_len 0 (cores b))
     ≡ list_all f (range_with_len 0 (cores b))
-all-cores b s f is =
-    list_all-fold (λ k. f (s 0 k)) (range_with_len 0 (cores b))
-    ∙ (is.all (ands f) true (ands-commutes f) ∙ sym (list_all-fold f (range_with_len 0 (cores b))))
+all-cores b s f is = search (arith, list_all-fold, ands-commutes)
 
 pub any-cores : (b : BoardValue) (s : ℕ → ℕ → ℕ) (f : ℕ → Bool) → Renumbers b s
     → list_any (λ k. f (s 0 k)) (range_with_len 0 (cores b))
     ≡ list_any f (range_with_len 0 (cores b))
-any-cores b s f is =
-    list_any-fold (λ k. f (s 0 k)) (range_with_len 0 (cores b))
-    ∙ (is.all (ors f) false (ors-commutes f) ∙ sym (list_any-fold f (range_with_len 0 (cores b))))
+any-cores b s f is = search (arith, list_any-fold, ors-commutes)

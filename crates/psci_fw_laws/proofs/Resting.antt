@@ -84,7 +84,7 @@ rests b v sent c left paths spans on runs not_running not_pending holds =
     }
 
 no_system : (k : Kind) → k ≡ Down → is_system k ≡ true → ⊥
-no_system k e s = let no : is_system Down ≡ true = ap is_system (sym e) ∙ s in absurd (cc)
+no_system k e s = grind arith
 
 is_sent : (b : BoardValue) (v : Values) (m : MessageValue)
     → IsNewClaim b v m → IsSent b v.life v.halting v.known v.phase m

@@ -33,18 +33,6 @@ mode_allowed b v c number false calls are = calls
 
 pub returned : (b : BoardValue) (v : Values) (c : ℕ) (r : Request) (code : Code) → IsCalling b v c
     → Allows b v (function_effect b c r (acts.Return code) None)
-returned b v c requests.Version code calls are = calls
-returned b v c (requests.CpuSuspend state entry_point context) code calls are = calls
-returned b v c requests.CpuOff code calls are = calls
-returned b v c (requests.CpuOn target entry_point context) code calls are = calls
-returned b v c (requests.AffinityInfo level target) code calls are = calls
-returned b v c (requests.NodeHwState level target) code calls are = calls
-returned b v c requests.MigrateInfoType code calls are = calls
-returned b v c requests.SystemOff code calls are = calls
-returned b v c requests.SystemReset code calls are = calls
-returned b v c (requests.Features word) code calls are = calls
-returned b v c (requests.SystemSuspend entry_point context) code calls are = calls
 returned b v c (requests.SetSuspendMode number) code calls are =
     mode_allowed b v c number (int_eq code.0 success.0) calls are
-returned b v c (requests.SystemReset2 reset_type cookie) code calls are = calls
-returned b v c requests.Unknown code calls are = calls
+returned b v c r code calls are = calls

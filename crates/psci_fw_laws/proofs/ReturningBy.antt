@@ -1,24 +1,20 @@
 -- Functions that return to their caller, of renumbered cores.
-use Rattle.std.proofs.Common.{◌≡◌, ℕ, zero, suc, ◌==◌, Bool, true, false, not, ◌&&◌, nat_le}
-use Rattle.std.proofs.Common.{pos, [], refl, ap, ◌∙◌, arith, if◌then◌else◌}
+use Rattle.std.proofs.Common.{◌≡◌, ℕ, zero, suc, ◌==◌, Bool, true, false, not}
+use Rattle.std.proofs.Common.{[], refl, ap, arith, if◌then◌else◌}
 use Rattle.std.proofs.Common.{Option, None, Some, Ok, Err}
 use Rattle.std.specs.Prelude.{option_map}
 use Rattle.std.proofs.lemmas.Bool.{ne_eqb}
-use Rattle.psci_abi.specs.declared.code.Code.{Code}
-use Rattle.psci_abi.specs.Codes.{internal_failure, invalid_address, success}
-use Rattle.psci_board.specs.Board.{BoardValue, below, core_of, has_node, height, may_enter}
+use Rattle.psci_abi.specs.Codes.{internal_failure, invalid_address}
+use Rattle.psci_board.specs.Board.{BoardValue, below, core_of, has_node, may_enter}
 use Rattle.psci_board.specs.declared.node.Core.{Core}
 use Rattle.psci_board.specs.declared.node.Node.{Node}
 use Rattle.psci_messages.specs.declared.kind.Kind.TheVariants as kinds
-use Rattle.psci_messages.specs.Message.{MessageValue}
 use Rattle.psci_fw_spec.specs.declared.mode.SuspendMode.{SuspendMode}
 use Rattle.psci_fw_spec.specs.declared.mode.SuspendMode.TheVariants.{Platform, OsInitiated}
-use Rattle.psci_fw_spec.specs.declared.outcome.Act.TheVariants as acts
-use Rattle.psci_fw_spec.specs.declared.outcome.Outcome.{Outcome}
 use Rattle.psci_fw_spec.specs.declared.status.Status.{Status}
 use Rattle.psci_fw_spec.specs.declared.status.Status.TheVariants as statuses
 use Rattle.psci_fw_spec.specs.AffinityInfo.{affinity_of, is_on, is_pending_status, node_status}
-use Rattle.psci_fw_spec.specs.AffinityInfo.{status_code, status_over}
+use Rattle.psci_fw_spec.specs.AffinityInfo.{status_over}
 use Rattle.psci_fw_spec.specs.CpuOn.{cpu_on, off_target, start_outcome, target_among, target_of}
 use Rattle.psci_fw_spec.specs.NodeHwState.{hw_state_of}
 use Rattle.psci_fw_spec.specs.Outcomes.{returns}
@@ -34,8 +30,7 @@ use Rattle.psci_fw_laws.proofs.StoppingBy.{all_others-by, message_for-by}
 pub has_node-by : (b : BoardValue) (s : ℕ → ℕ → ℕ) (level place : ℕ) → Renumbers b s
     → has_node b (record { level = level; place = s level place })
     ≡ has_node b (record { level = level; place = place })
-has_node-by b s level place is =
-    ap (λ (t : Bool). nat_le level (height b) && t) (is.inside level place)
+has_node-by b s level place is = rw (is.inside level place)
 
 status_over-by : (b : BoardValue) (s : ℕ → ℕ → ℕ) (status : ℕ → Status) (n : Node) → Renumbers b s
     → status_over (λ k. status (s 0 k)) (below b (node_by s n)) ≡ status_over status (below b n)
@@ -63,39 +58,29 @@ node_status-by : (b : BoardValue) (s : ℕ → ℕ → ℕ) (status : ℕ → St
     → node_status b (λ k. status (s 0 k)) (node_by s n) ≡ node_status b status n
 unfolding node_status
 node_status-by b s status n is =
-    ap (λ (t : Bool). if t then (if n.level == 0 then status (s 0 (s n.level n.place))
-    else status_over (λ k. status (s 0 k)) (below b (node_by s n))) else statuses.Off)
-    (has_node-by b s n.level n.place is)
-    ∙ ap (λ (x : Status). if has_node b n then x else statuses.Off)
-    (status_at-by b s status n.level n.place is)
+    rw (has_node-by b s n.level n.place is, status_at-by b s status n.level n.place is)
 
 affinity_of-by : (b : BoardValue) (s : ℕ → ℕ → ℕ) (v : Values) (o : Option Node) → Renumbers b s
     → affinity_of b (values_by s v) (option_map (node_by s) o) ≡ affinity_of b v o
 affinity_of-by b s v None is = refl
-affinity_of-by b s v (Some n) is =
-    ap (λ (x : Status). let code : Code = record { 0 = pos (status_code x) } in code)
-    (node_status-by b s v.status n is)
+affinity_of-by b s v (Some n) is = rw (node_status-by b s v.status n is)
 
 pub affinity-by : (b : BoardValue) (s : ℕ → ℕ → ℕ) (v : Values) (o p : Option Node) → Renumbers b s
     → p ≡ option_map (node_by s) o
     → returns (affinity_of b (values_by s v) p) ≡ outcome_by s (returns (affinity_of b v o))
-affinity-by b s v o p is e =
-    ap returns (ap (affinity_of b (values_by s v)) e ∙ affinity_of-by b s v o is)
+affinity-by b s v o p is e = rw (e, affinity_of-by b s v o is)
 
 -- NODE_HW_STATE ---------------------------------------------------------------------------------
 
 hw_state_of-by : (b : BoardValue) (s : ℕ → ℕ → ℕ) (v : Values) (o : Option Node) → Renumbers b s
     → hw_state_of (values_by s v) (option_map (node_by s) o) ≡ hw_state_of v o
 hw_state_of-by b s v None is = refl
-hw_state_of-by b s v (Some n) is =
-    ap (λ (p : ℕ). hw_state_of v (Some (record { level = n.level; place = p })))
-    (is.back n.level n.place)
+hw_state_of-by b s v (Some n) is = rw (is.back n.level n.place)
 
 pub hw_state-by : (b : BoardValue) (s : ℕ → ℕ → ℕ) (v : Values) (o p : Option Node) → Renumbers b s
     → p ≡ option_map (node_by s) o
     → returns (hw_state_of (values_by s v) p) ≡ outcome_by s (returns (hw_state_of v o))
-hw_state-by b s v o p is e =
-    ap returns (ap (hw_state_of (values_by s v)) e ∙ hw_state_of-by b s v o is)
+hw_state-by b s v o p is e = rw (e, hw_state_of-by b s v o is)
 
 -- CPU_ON ----------------------------------------------------------------------------------------
 
@@ -105,11 +90,7 @@ at_limit-by : (b : BoardValue) (s : ℕ → ℕ → ℕ) (v : Values) (t : Core)
     (if limit then Err internal_failure else Ok (core_by s t))
     ≡ outcome_by s (start_outcome v (if limit then Err internal_failure else Ok t))
 at_limit-by b s v t true back = refl
-at_limit-by b s v t false back =
-    ap (λ (m : MessageValue). let o : Outcome = record {
-      act = acts.Return success;
-      message = Some m;
-    } in o) (message_for-by s v kinds.Start t.number [] back)
+at_limit-by b s v t false back = rw (message_for-by s v kinds.Start t.number [] back)
 
 off_target-by : (b : BoardValue) (s : ℕ → ℕ → ℕ) (v : Values) (t : Core) (status : Status)
     → ((k : ℕ) → s 0 (s 0 k) ≡ k)
@@ -118,9 +99,7 @@ off_target-by : (b : BoardValue) (s : ℕ → ℕ → ℕ) (v : Values) (t : Cor
 off_target-by b s v t statuses.On back = refl
 off_target-by b s v t statuses.Pending back = refl
 off_target-by b s v t statuses.Off back =
-    ap (λ (k : ℕ). start_outcome (values_by s v)
-    (if v.known k == b.starts then Err internal_failure else Ok (core_by s t))) (back t.number)
-    ∙ at_limit-by b s v t (v.known t.number == b.starts) back
+    rw (back t.number) (at_limit-by b s v t (v.known t.number == b.starts) back)
 
 may_start-by : (b : BoardValue) (s : ℕ → ℕ → ℕ) (v : Values) (t : Core) (may : Bool)
     → ((k : ℕ) → s 0 (s 0 k) ≡ k)
@@ -130,9 +109,7 @@ may_start-by : (b : BoardValue) (s : ℕ → ℕ → ℕ) (v : Values) (t : Core
     ≡ outcome_by s (start_outcome v (if may then off_target b v t (v.status t.number)
     else Err invalid_address))
 may_start-by b s v t true back =
-    ap (λ (k : ℕ). start_outcome (values_by s v)
-    (off_target b (values_by s v) (core_by s t) (v.status k))) (back t.number)
-    ∙ off_target-by b s v t (v.status t.number) back
+    rw (back t.number) (off_target-by b s v t (v.status t.number) back)
 may_start-by b s v t false back = refl
 
 target-by : (b : BoardValue) (s : ℕ → ℕ → ℕ) (v : Values) (entry_point : ℕ) (o : Option Core)
@@ -148,9 +125,7 @@ pub cpu_on-by : (b : BoardValue) (s : ℕ → ℕ → ℕ) (v : Values) (target 
     → cpu_on b (values_by s v) word entry_point ≡ outcome_by s (cpu_on b v target entry_point)
 unfolding target_of
 cpu_on-by b s v target word entry_point is e =
-    ap (λ (o : Option Core). start_outcome (values_by s v)
-    (target_among b (values_by s v) entry_point o)) e
-    ∙ target-by b s v entry_point (core_of b target) (is.back 0)
+    rw e (target-by b s v entry_point (core_of b target) (is.back 0))
 
 -- PSCI_SET_SUSPEND_MODE -------------------------------------------------------------------------
 

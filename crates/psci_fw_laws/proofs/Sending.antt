@@ -1,6 +1,6 @@
 -- What is said of each message stays so.
 use Rattle.std.proofs.Common.{◌≡◌, ℕ, zero, suc, ◌<◌, ◌≤◌, Bool, true, List, ◌∷◌}
-use Rattle.std.proofs.Common.{Some, refl, arith, subst, ap, ◌∙◌}
+use Rattle.std.proofs.Common.{Some, arith, ap, ◌∙◌}
 use Rattle.std.specs.Prelude.{slice_get}
 use Rattle.psci_board.specs.Board.{BoardValue, up}
 use Rattle.psci_board.specs.Laws.{PathLaws}
@@ -18,9 +18,7 @@ use Rattle.psci_fw_laws.proofs.Sums.{known_gap, known_le}
 pub sent_new : (b : BoardValue) (life : ℕ) (halting : Bool) (known : ℕ → ℕ) (phase : ℕ → Phase)
     (sent : List MessageValue) (m : MessageValue) → IsSent b life halting known phase m
     → AreSent b life halting known phase sent → AreSent b life halting known phase (m ∷ sent)
-sent_new b life halting known phase sent m is are zero n at =
-    let same : m ≡ n = cc in
-    subst (IsSent b life halting known phase) same is
+sent_new b life halting known phase sent m is are zero n at = search arith
 sent_new b life halting known phase sent m is are (suc k) n at = are k n at
 
 -- another life has begun
@@ -45,16 +43,7 @@ sent_halting b life halting known phase sent are k m at =
     record {
       sound = is.sound;
       begun = is.begun;
-      present = λ e.
-          let p = is.present e in
-          record {
-            number = p.number;
-            older = p.older;
-            lacking = p.lacking;
-            halts = λ s. refl;
-            pending = p.pending;
-            asked = p.asked;
-          };
+      present = λ e. assumption (is.present e);
     }
 
 -- What a message with the known start of its core as its number says of another phase of the core.

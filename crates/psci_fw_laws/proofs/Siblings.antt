@@ -1,23 +1,16 @@
 -- To swap two cores of one cluster is a renumbering of the board.
+use Rattle.std.proofs.Common.{arith}
 use Rattle.std.proofs.Common.{◌≡◌, ℕ, zero, suc, nat_lt}
-use Rattle.std.proofs.Common.{refl, sym, ap, ◌∙◌, inl, inr}
-use Rattle.std.proofs.lemmas.Bool.{cases_eq, lt-ltb}
-use Rattle.psci_board.specs.Board.{BoardValue, cores, nodes, up}
+use Rattle.std.proofs.Common.{refl, sym, ap, ◌∙◌}
+use Rattle.std.proofs.lemmas.Bool.{lt-ltb}
+use Rattle.psci_board.specs.Board.{BoardValue, nodes, up}
 use Rattle.psci_board.specs.Laws.{PathLaws}
 use Rattle.psci_fw_laws.specs.Renumbered.{AreSiblings, IsRenumbering, swap, swap_cores}
-use Rattle.psci_fw_laws.proofs.Folds.{swap-back, swap-first, swap-other, swap-second}
+use Rattle.psci_fw_laws.proofs.Folds.{swap-back}
 
 -- a function that says the same of both says the same of each core and its other number
 pub alike_both : {A : Type 0} (f : ℕ → A) (x y c : ℕ) → f x ≡ f y → f (swap x y c) ≡ f c
-alike_both f x y c e = elim (cases_eq c x) [
-  | inl first ↦ ap (λ (k : ℕ). f (swap x y k)) first
-      ∙ (ap f (swap-first x y) ∙ (sym e ∙ sym (ap f first)))
-  | inr d ↦ elim (cases_eq c y) [
-    | inl second ↦ ap (λ (k : ℕ). f (swap x y k)) second
-        ∙ (ap f (swap-second x y) ∙ (e ∙ sym (ap f second)))
-    | inr n ↦ ap f (swap-other x y c d n)
-  ]
-]
+alike_both f x y c e = grind arith
 
 -- cores of one cluster are below the same domains from there up
 meeting : (b : BoardValue) (x y level : ℕ) → PathLaws b → up b 1 x ≡ up b 1 y
@@ -27,9 +20,7 @@ meeting b x y (suc level) laws e = laws.joined x y (suc level) (meeting b x y le
 
 nodes_swapped : (b : BoardValue) (x y level place : ℕ) → AreSiblings b x y
     → nat_lt (swap_cores x y level place) (nodes b level) ≡ nat_lt place (nodes b level)
-nodes_swapped b x y zero place two =
-    alike_both (λ k. nat_lt k (cores b)) x y place
-    (lt-ltb x (cores b) two.first ∙ sym (lt-ltb y (cores b) two.second))
+nodes_swapped b x y zero place two = grind (arith, alike_both, nat_lt, lt-ltb)
 nodes_swapped b x y (suc level) place two = refl
 
 swapped_back : (x y level place : ℕ)

@@ -25,14 +25,7 @@ pub outstanding_sent : (life : ℕ) (known : ℕ → ℕ) (phase : ℕ → Phase
 outstanding_sent life known phase sent outstanding m are = record {
   core = λ c n e.
       let is = are.core c n e in
-      record {
-        listed = of_life_more life sent m n is.listed;
-        core = is.core;
-        number = is.number;
-        kind = is.kind;
-        start = is.start;
-        down = is.down;
-      };
+      assumption (is, of_life_more life sent m n is.listed);
   system = λ n e. of_life_more life sent m n (are.system n e);
   halts = are.halts;
 }
@@ -73,9 +66,8 @@ AreAt life known phase sent OfSystem o =
 
 slot_is : (s t : Slot) → is_slot s t ≡ true → s ≡ t
 slot_is (OfCore c) (OfCore d) e = ap OfCore (eqb-true c d e)
-slot_is (OfCore c) OfSystem e = absurd (cc)
-slot_is OfSystem (OfCore d) e = absurd (cc)
 slot_is OfSystem OfSystem e = refl
+slot_is s t e = absurd (cc)
 
 are_at : (life : ℕ) (known : ℕ → ℕ) (phase : ℕ → Phase) (sent : List MessageValue)
     (outstanding : Slot → Option MessageValue)
@@ -195,12 +187,5 @@ outstanding_arrival life known phase sent outstanding c n are =
         (λ there e.
         let is = are.core x m e in
         let other : x ≡ c → ⊥ = λ s. eqb-false c x there (sym s) in
-        record {
-          listed = is.listed;
-          core = is.core;
-          number = is.number ∙ sym (updated_there known c n x other);
-          kind = is.kind;
-          start = is.start;
-          down = is.down;
-        })
+        assumption (is, is.number ∙ sym (updated_there known c n x other)))
     at OfSystem = λ m e. (are.system m e, are.halts m e)

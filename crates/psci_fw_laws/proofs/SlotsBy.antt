@@ -1,21 +1,21 @@
 -- Outstanding messages of renumbered cores.
-use Rattle.std.proofs.Common.{◌≡◌, ℕ, ◌==◌, Bool, true, false, ◌&&◌, refl, sym, ap, ◌∙◌}
+use Rattle.std.proofs.Common.{arith, ◌==◌}
+use Rattle.std.proofs.Common.{◌≡◌, ℕ, Bool, true, false, ◌&&◌, refl, sym, ap}
 use Rattle.std.proofs.Common.{if◌then◌else◌, Option, None, Some}
 use Rattle.std.specs.Prelude.{option_map}
 use Rattle.psci_board.specs.declared.node.Core.{Core}
 use Rattle.psci_messages.specs.declared.kind.Kind.{Kind}
-use Rattle.psci_messages.specs.declared.kind.Kind.TheVariants.{Down, Start, Off, Reset}
-use Rattle.psci_messages.specs.declared.taken.Taken.TheVariants.{Used, Old}
+use Rattle.psci_messages.specs.declared.kind.Kind.TheVariants.{Down}
 use Rattle.psci_messages.specs.Message.{AckValue, MessageValue}
 use Rattle.psci_messages.specs.Slots.{Acknowledge, Change, Clear, ClearAll, OfCore, OfSystem, Put}
 use Rattle.psci_messages.specs.Slots.{Slot}
-use Rattle.psci_messages.specs.Slots.{answers, changed, is_done, is_kind, is_slot, left_by, slot_of}
+use Rattle.psci_messages.specs.Slots.{answers, changed, is_done, is_slot, left_by, slot_of}
 use Rattle.psci_messages.specs.Slots.{taken}
 use Rattle.psci_fw_spec.specs.Changes.{with_slots}
 use Rattle.psci_fw_spec.specs.Values.{Values}
 use Rattle.psci_fw_laws.specs.Renumbered.{acknowledgement_by, core_by, message_by, slot_by}
 use Rattle.psci_fw_laws.specs.Renumbered.{values_by}
-use Rattle.psci_fw_laws.proofs.Renumbering.{other_test, same_test}
+use Rattle.psci_fw_laws.proofs.Renumbering.{other_test}
 
 -- the same change, of the other number
 abbrev pub change_by : (ℕ → ℕ → ℕ) → Change → Change
@@ -27,9 +27,7 @@ change_by s (Acknowledge a) = Acknowledge (acknowledgement_by s a)
 slot_of-by : (s : ℕ → ℕ → ℕ) (kind : Kind) (core : Core)
     → slot_of kind (core_by s core) ≡ slot_by s (slot_of kind core)
 slot_of-by s Down core = refl
-slot_of-by s Start core = refl
-slot_of-by s Off core = refl
-slot_of-by s Reset core = refl
+slot_of-by s kind core = refl
 
 is_slot-by : (s : ℕ → ℕ → ℕ) (t u : Slot) → ((k : ℕ) → s 0 (s 0 k) ≡ k)
     → is_slot (slot_by s t) u ≡ is_slot t (slot_by s u)
@@ -46,16 +44,14 @@ slot_back s OfSystem back = refl
 is_of-by : (s : ℕ → ℕ → ℕ) (kind : Kind) (core : Core) (slot : Slot) → ((k : ℕ) → s 0 (s 0 k) ≡ k)
     → is_slot (slot_of kind (core_by s core)) slot ≡ is_slot (slot_of kind core) (slot_by s slot)
 is_of-by s kind core slot back =
-    ap (λ (t : Slot). is_slot t slot) (slot_of-by s kind core)
-    ∙ is_slot-by s (slot_of kind core) slot back
+    rw (slot_of-by s kind core) (is_slot-by s (slot_of kind core) slot back)
 
 pub answers-by : (s : ℕ → ℕ → ℕ) (a : AckValue) (m : MessageValue) → ((k : ℕ) → s 0 (s 0 k) ≡ k)
     → answers (acknowledgement_by s a) (message_by s m) ≡ answers a m
 answers-by s a m back =
-    ap (λ (t : Bool). is_kind a.kind m.kind
-    && (t && (a.life == m.life && a.number == m.number)))
-    (same_test (s 0 a.core.number) (s 0 m.core.number) a.core.number m.core.number
-    (λ e. sym (back a.core.number) ∙ (ap (s 0) e ∙ back m.core.number)) (λ e. ap (s 0) e))
+    let same : (s 0 a.core.number == s 0 m.core.number) ≡ (a.core.number == m.core.number) =
+    grind (arith, back a.core.number, back m.core.number) in
+    rw same
 
 if-map : (s : ℕ → ℕ → ℕ) (t : Bool) (o p : Option MessageValue)
     → (if t then option_map (message_by s) o else option_map (message_by s) p)
@@ -68,48 +64,31 @@ left_by-by : (s : ℕ → ℕ → ℕ) (a : AckValue) (o : Option MessageValue) 
     ≡ option_map (message_by s) (left_by a o)
 left_by-by s a None back = refl
 left_by-by s a (Some m) back =
-    ap (λ (t : Bool). if t && is_done a m then None else Some (message_by s m))
-    (answers-by s a m back)
-    ∙ if-map s (answers a m && is_done a m) None (Some m)
+    rw (answers-by s a m back) (if-map s (answers a m && is_done a m) None (Some m))
 
 pub taken-by : (s : ℕ → ℕ → ℕ) (a : AckValue) (o : Option MessageValue)
     → ((k : ℕ) → s 0 (s 0 k) ≡ k)
     → taken (acknowledgement_by s a) (option_map (message_by s) o) ≡ taken a o
 taken-by s a None back = refl
-taken-by s a (Some m) back = ap (λ (t : Bool). if t then Used else Old) (answers-by s a m back)
+taken-by s a (Some m) back = rw (answers-by s a m back)
 
 -- what is in the slot of an acknowledgement
 pub at_slot-by : (s : ℕ → ℕ → ℕ) (v : Values) (a : AckValue) → ((k : ℕ) → s 0 (s 0 k) ≡ k)
     → (values_by s v).outstanding (slot_of a.kind (core_by s a.core))
     ≡ option_map (message_by s) (v.outstanding (slot_of a.kind a.core))
 at_slot-by s v a back =
-    ap (λ (t : Slot). option_map (message_by s) (v.outstanding t))
-    (ap (slot_by s) (slot_of-by s a.kind a.core) ∙ slot_back s (slot_of a.kind a.core) back)
+    rw (slot_of-by s a.kind a.core, slot_back s (slot_of a.kind a.core) back)
 
 -- what a change leaves in a slot
 changed-by : (s : ℕ → ℕ → ℕ) (slot : Slot) (change : Change) (o : Option MessageValue)
     → ((k : ℕ) → s 0 (s 0 k) ≡ k)
     → changed slot (change_by s change) (option_map (message_by s) o)
     ≡ option_map (message_by s) (changed (slot_by s slot) change o)
-changed-by s slot (Put m) o back =
-    ap (λ (t : Bool). if t then Some (message_by s m) else option_map (message_by s) o)
-    (is_of-by s m.kind m.core slot back)
-    ∙ if-map s (is_slot (slot_of m.kind m.core) (slot_by s slot)) (Some m) o
-changed-by s slot (Clear core) o back =
-    ap (λ (t : Bool). if t then None else option_map (message_by s) o)
-    (is_slot-by s (OfCore core.number) slot back)
-    ∙ if-map s (is_slot (OfCore core.number) (slot_by s slot)) None o
+changed-by s slot (Put m) o back = grind (arith, is_of-by, if-map)
+changed-by s slot (Clear core) o back = grind (arith, is_slot-by, core, if-map)
 changed-by s slot ClearAll o back = refl
-changed-by s slot (Acknowledge a) o back =
-    ap (λ (t : Bool). if t then left_by (acknowledgement_by s a) (option_map (message_by s) o)
-    else option_map (message_by s) o) (is_of-by s a.kind a.core slot back)
-    ∙ (ap (λ (p : Option MessageValue).
-    if is_slot (slot_of a.kind a.core) (slot_by s slot) then p else option_map (message_by s) o)
-    (left_by-by s a o back)
-    ∙ if-map s (is_slot (slot_of a.kind a.core) (slot_by s slot)) (left_by a o) o)
+changed-by s slot (Acknowledge a) o back = grind (arith, is_of-by, left_by-by, if-map)
 
 pub with_slots-by : (s : ℕ → ℕ → ℕ) (change : Change) (v : Values) → ((k : ℕ) → s 0 (s 0 k) ≡ k)
     → with_slots (change_by s change) (values_by s v) ≡ values_by s (with_slots change v)
-with_slots-by s change v back = λ i. record (values_by s v) {
-  outstanding = λ slot. changed-by s slot change (v.outstanding (slot_by s slot)) back i;
-}
+with_slots-by s change v back = grind (arith, changed-by)

@@ -27,19 +27,14 @@ use Rattle.psci_fw_laws.proofs.Slots.{AreAt, outstanding_asked, outstanding_put,
 use Rattle.psci_fw_laws.proofs.Slots.{outstanding_taken}
 
 no_parts : (ps : List Part) (k : ℕ) (p : Part) → ps ≡ [] → slice_get ps k ≡ Some p → ⊥
-no_parts ps k p e i =
-    let no : slice_get {X = Part} [] k ≡ Some p = ap (λ xs. slice_get xs k) (sym e) ∙ i in
-    absurd (cc)
+no_parts ps k p e i = grind arith
 
 pub not_down : (k : Kind) → is_kind k Down ≡ false → k ≡ Down → ⊥
-not_down k e s =
-    let no : is_kind Down Down ≡ false = ap (λ x. is_kind x Down) (sym s) ∙ e in absurd (cc)
+not_down k e s = grind arith
 
 plain_parts : (k : Kind) (ps : List Part) → is_kind k Down ≡ false → ps ≡ [] → ArePartsOf k ps
 plain_parts Down ps e i = absurd (cc)
-plain_parts Start ps e i = i
-plain_parts Off ps e i = i
-plain_parts Reset ps e i = i
+plain_parts k ps e i = i
 
 pub plain_sound : (b : BoardValue) (v : Values) (m : MessageValue) → IsPlain b v m
     → (m.kind ≡ Start → m.number < b.starts) → IsSound b m
@@ -121,19 +116,16 @@ asks_on b v sent asked plain kind room holds =
 
 system_slot : (k : Kind) (c : Rattle.psci_board.specs.declared.node.Core.Core)
     → is_system k ≡ true → slot_of k c ≡ OfSystem
-system_slot Down c e = absurd (cc)
-system_slot Start c e = absurd (cc)
 system_slot Off c e = refl
 system_slot Reset c e = refl
+system_slot k c e = absurd (cc)
 
 pub system_other : (k : Kind) → is_system k ≡ true → is_kind k Down ≡ false
 system_other Down e = absurd (cc)
-system_other Start e = absurd (cc)
-system_other Off e = refl
-system_other Reset e = refl
+system_other k e = refl
 
 system_start : (k : Kind) → is_system k ≡ true → k ≡ Start → ⊥
-system_start k e s = let no : is_system Start ≡ true = ap is_system (sym s) ∙ e in absurd (cc)
+system_start k e s = grind arith
 
 pub halts : (b : BoardValue) (v : Values) (sent : List MessageValue) (m : MessageValue)
     → IsPlain b v m → is_system m.kind ≡ true → Holds b v sent

@@ -7,7 +7,6 @@ use Rattle.psci_abi.specs.Codes.{denied, invalid_address, invalid_parameters, su
 use Rattle.psci_board.specs.Board.{BoardValue, cores, height, may_enter}
 use Rattle.psci_messages.specs.declared.osi.Osi.{Osi}
 use Rattle.psci_messages.specs.declared.part.Part.{Part}
-use Rattle.psci_messages.specs.LastCore.{last_core_check}
 use Rattle.psci_messages.specs.View.{PowerView}
 use Rattle.psci_messages.specs.declared.kind.Kind.{Kind}
 use Rattle.psci_messages.specs.declared.kind.Kind.TheVariants as kinds
@@ -44,9 +43,7 @@ phases-by : (s : ℕ → ℕ → ℕ) (c : ℕ) (left : Phase) (v : Values) → 
     → updated (λ k. v.phase (s 0 k)) (s 0 c) (unless_pending (v.phase (s 0 (s 0 c))) left)
     ≡ (λ k. updated v.phase c (unless_pending (v.phase c) left) (s 0 k))
 phases-by s c left v back =
-    ap (λ (k : ℕ). updated (λ j. v.phase (s 0 j)) (s 0 c) (unless_pending (v.phase k) left))
-    (back c)
-    ∙ updated-by s v.phase c (unless_pending (v.phase c) left) back
+    rw (back c) (updated-by s v.phase c (unless_pending (v.phase c) left) back)
 
 pub with_phase-by : (b : BoardValue) (s : ℕ → ℕ → ℕ) (c : ℕ) (left : Phase) (v : Values)
     → Renumbers b s → with_phase (s 0 c) left (values_by s v) ≡ values_by s (with_phase c left v)
@@ -70,24 +67,21 @@ pub off_parts-by : (b : BoardValue) (s : ℕ → ℕ → ℕ) (v : Values) (c : 
     → off_parts b (values_by s v) (s 0 c) ≡ off_parts b v c
 unfolding off_parts
 off_parts-by b s v c is =
-    ap (λ (u : Values). leaving_claims b (view b u) (s 0 c) v.mode) (with_phase-by b s c Away v is)
-    ∙ (ap (λ (w : PowerView). leaving_claims b w (s 0 c) v.mode) (view-by b s (with_phase c Away v))
-    ∙ leaving_claims-by b s (view b (with_phase c Away v)) c v.mode is)
+    rw (with_phase-by b s c Away v is, view-by b s (with_phase c Away v))
+    (leaving_claims-by b s (view b (with_phase c Away v)) c v.mode is)
 
 suspend_claims-by : (b : BoardValue) (s : ℕ → ℕ → ℕ) (v : Values) (c : ℕ) (ask : List ℕ)
     (mode : SuspendMode) → Renumbers b s
     → suspend_claims b (values_by s v) (s 0 c) ask mode ≡ suspend_claims b v c ask mode
 suspend_claims-by b s v c ask Platform is =
     let left : Values = with_phase c (Suspended ask) v in
-    ap (λ (u : Values). let r : Result (List Part) Osi = Ok (leaving_claims b (view b u) (s 0 c)
-    Platform) in r) (with_phase-by b s c (Suspended ask) v is)
-    ∙ (ap (λ (w : PowerView). let r : Result (List Part) Osi = Ok (leaving_claims b w (s 0 c)
-    Platform) in r) (view-by b s left)
-    ∙ ap (λ (ps : List Part). let r : Result (List Part) Osi = Ok ps in r)
-    (platform_claims-by b s (view b left) c is))
+    rw (
+      with_phase-by b s c (Suspended ask) v is,
+      view-by b s left,
+      platform_claims-by b s (view b left) c is,
+    )
 suspend_claims-by b s v c ask OsInitiated is =
-    ap (λ (w : PowerView). last_core_check b w (s 0 c) ask) (view-by b s v)
-    ∙ last_core_check-by b s (view b v) c ask is
+    rw (view-by b s v) (last_core_check-by b s (view b v) c ask is)
 
 pub suspend_parts-by : (b : BoardValue) (s : ℕ → ℕ → ℕ) (v : Values) (c : ℕ) (ask : List ℕ)
     → Renumbers b s → suspend_parts b (values_by s v) (s 0 c) ask ≡ suspend_parts b v c ask
@@ -124,8 +118,7 @@ pub stops_with-by : (s : ℕ → ℕ → ℕ) (v : Values) (kind : Kind) (c : �
     → stops_with (message_for (values_by s v) kind (s 0 c) parts)
     ≡ outcome_by s (stops_with (message_for v kind c others))
 stops_with-by s v kind c parts others back same =
-    ap (λ (ps : List Part). stops_with (message_for (values_by s v) kind (s 0 c) ps)) same
-    ∙ ap stops_with (message_for-by s v kind c others back)
+    rw same (ap stops_with (message_for-by s v kind c others back))
 
 pub cpu_off-by : (b : BoardValue) (s : ℕ → ℕ → ℕ) (v : Values) (c : ℕ) → Renumbers b s
     → cpu_off b (values_by s v) (s 0 c) ≡ outcome_by s (cpu_off b v c)
@@ -143,13 +136,13 @@ suspended-by : (b : BoardValue) (s : ℕ → ℕ → ℕ) (v : Values) (c : ℕ)
     → suspend_answer (values_by s v) (s 0 c) (suspend_parts b (values_by s v) (s 0 c) ask)
     ≡ outcome_by s (suspend_answer v c (suspend_parts b v c ask))
 suspended-by b s v c ask is =
-    ap (suspend_answer (values_by s v) (s 0 c)) (suspend_parts-by b s v c ask is)
-    ∙ suspend_answer-by s v c (suspend_parts b v c ask) (is.back 0)
+    rw (suspend_parts-by b s v c ask is)
+    (suspend_answer-by s v c (suspend_parts b v c ask) (is.back 0))
 
 -- the core has the known start of its other number
 limit-by : (b : BoardValue) (s : ℕ → ℕ → ℕ) (v : Values) (c : ℕ) → Renumbers b s
     → (v.known (s 0 (s 0 c)) == b.starts) ≡ (v.known c == b.starts)
-limit-by b s v c is = ap (λ (k : ℕ). v.known k == b.starts) (is.back 0 c)
+limit-by b s v c is = rw (is.back 0 c)
 
 suspend_asked-by : (b : BoardValue) (s : ℕ → ℕ → ℕ) (v : Values) (c entry_point : ℕ)
     (asked : Result (List ℕ) BadState) → Renumbers b s

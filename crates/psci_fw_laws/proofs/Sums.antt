@@ -1,8 +1,8 @@
 -- Sums over the cores below a domain.
-use Rattle.std.proofs.Common.{◌≡◌, ℕ, zero, suc, ◌+◌, ◌*◌, ◌<◌, ◌≤◌, Bool, true, false, cond}
-use Rattle.std.proofs.Common.{List, [], ◌∷◌, filter, refl, ap, ◌∙◌, arith, inl, inr}
+use Rattle.std.proofs.Common.{◌≡◌, ℕ, zero, suc, ◌+◌, ◌*◌, ◌<◌, ◌≤◌, Bool, true, cond}
+use Rattle.std.proofs.Common.{[], ◌∷◌, filter, refl, ap, ◌∙◌, arith, inl, inr}
 use Rattle.std.specs.List.{sum_by, range_with_len}
-use Rattle.std.proofs.lemmas.Bool.{cases_eq, eq-eqb, eqb-true}
+use Rattle.std.proofs.lemmas.Bool.{cases_Bool, cases_eq, eq-eqb, eqb-true}
 use Rattle.std.proofs.lemmas.List.Sums.{sum_by-cons}
 use Rattle.psci_board.specs.Board.{BoardValue, below, cores, span, up}
 use Rattle.psci_board.specs.Laws.{PathLaws, SpanLaws}
@@ -13,32 +13,19 @@ use Rattle.psci_fw_laws.specs.KnownBelow.{known_below}
 abbrev kept : (ℕ → ℕ) → (ℕ → Bool) → ℕ → ℕ → ℕ
 kept f test a n = sum_by f (filter test (range_with_len a n))
 
-one_le : (f g : ℕ → ℕ) (t : Bool) (a : ℕ) (xs : List ℕ) → (t ≡ true → f a ≤ g a)
-    → sum_by f xs ≤ sum_by g xs
-    → sum_by f (cond t (a ∷ xs) xs) ≤ sum_by g (cond t (a ∷ xs) xs)
-one_le f g true a xs h e = omega (arith, sum_by-cons f a xs, sum_by-cons g a xs, h refl, e)
-one_le f g false a xs h e = e
+-- of a range that begins one sooner
+kept-more : (f : ℕ → ℕ) (test : ℕ → Bool) (a n : ℕ)
+    → kept f test a (suc n) ≡ cond (test a) (f a) 0 + kept f test (a + 1) n
+kept-more f test a n = grind (arith, cases_Bool, sum_by-cons)
 
 kept_le : (f g : ℕ → ℕ) (test : ℕ → Bool) (a n : ℕ)
     → ((c : ℕ) → a ≤ c → c < a + n → test c ≡ true → f c ≤ g c)
     → kept f test a n ≤ kept g test a n
 kept_le f g test a zero h = omega arith
 kept_le f g test a (suc n) h =
-    one_le f g (test a) a (filter test (range_with_len (a + 1) n))
-    (h a (omega arith) (omega arith))
-    (kept_le f g test (a + 1) n (λ c p q. h c (omega arith) (omega arith)))
-
-one_less : (f g : ℕ → ℕ) (t : Bool) (a : ℕ) (xs : List ℕ) → t ≡ true → f a < g a
-    → sum_by f xs ≤ sum_by g xs
-    → sum_by f (cond t (a ∷ xs) xs) < sum_by g (cond t (a ∷ xs) xs)
-one_less f g true a xs t h e = omega (arith, sum_by-cons f a xs, sum_by-cons g a xs)
-one_less f g false a xs t h e = absurd (cc)
-
-more_less : (f g : ℕ → ℕ) (t : Bool) (a : ℕ) (xs : List ℕ) → (t ≡ true → f a ≤ g a)
-    → sum_by f xs < sum_by g xs
-    → sum_by f (cond t (a ∷ xs) xs) < sum_by g (cond t (a ∷ xs) xs)
-more_less f g true a xs h e = omega (arith, sum_by-cons f a xs, sum_by-cons g a xs, h refl)
-more_less f g false a xs h e = e
+    let rest = kept_le f g test (a + 1) n (λ c p q. h c (omega arith) (omega arith)) in
+    let here = h a (omega arith) (omega arith) in
+    grind (arith, kept-more f test a n, kept-more g test a n)
 
 kept_less : (f g : ℕ → ℕ) (test : ℕ → Bool) (a n k : ℕ)
     → ((c : ℕ) → a ≤ c → c < a + n → test c ≡ true → f c ≤ g c)
@@ -47,54 +34,44 @@ kept_less : (f g : ℕ → ℕ) (test : ℕ → Bool) (a n k : ℕ)
 kept_less f g test a zero k h i j t less = absurd (omega arith)
 kept_less f g test a (suc n) k h i j t less =
     let rest = λ (c : ℕ) (p : a + 1 ≤ c) (q : c < a + 1 + n). h c (omega arith) (omega arith) in
+    let here = h a (omega arith) (omega arith) in
     elim (cases_eq a k) [
-      | inl s ↦ one_less f g (test a) a (filter test (range_with_len (a + 1) n)) (ap test s ∙ t)
-          (omega (arith, ap f s, ap g s)) (kept_le f g test (a + 1) n rest)
-      | inr s ↦ more_less f g (test a) a (filter test (range_with_len (a + 1) n))
-          (h a (omega arith) (omega arith))
-          (kept_less f g test (a + 1) n k rest (omega (arith, s)) (omega arith) t less)
+      | inl s ↦
+          let low = kept_le f g test (a + 1) n rest in
+          grind (arith, kept-more f test a n, kept-more g test a n)
+      | inr s ↦
+          let below = kept_less f g test (a + 1) n k rest (omega (arith, s)) (omega arith) t less in
+          grind (arith, kept-more f test a n, kept-more g test a n)
     ]
 
 -- over more numbers what two functions differ by is no less
-one_gap : (f g : ℕ → ℕ) (s t : Bool) (a : ℕ) (xs ys : List ℕ) → (s ≡ true → t ≡ true) → f a ≤ g a
-    → sum_by g xs + sum_by f ys ≤ sum_by f xs + sum_by g ys
-    → sum_by g (cond s (a ∷ xs) xs) + sum_by f (cond t (a ∷ ys) ys)
-    ≤ sum_by f (cond s (a ∷ xs) xs) + sum_by g (cond t (a ∷ ys) ys)
-one_gap f g true true a xs ys h i e =
-    omega (arith, sum_by-cons f a xs, sum_by-cons g a xs, sum_by-cons f a ys, sum_by-cons g a ys)
-one_gap f g true false a xs ys h i e = let no : false ≡ true = h refl in absurd (cc)
-one_gap f g false true a xs ys h i e = omega (arith, sum_by-cons f a ys, sum_by-cons g a ys)
-one_gap f g false false a xs ys h i e = e
-
 kept_gap : (f g : ℕ → ℕ) (s t : ℕ → Bool) (a n : ℕ) → ((c : ℕ) → s c ≡ true → t c ≡ true)
     → ((c : ℕ) → f c ≤ g c)
     → kept g s a n + kept f t a n ≤ kept f s a n + kept g t a n
 kept_gap f g s t a zero h i = omega arith
 kept_gap f g s t a (suc n) h i =
-    one_gap f g (s a) (t a) a (filter s (range_with_len (a + 1) n))
-    (filter t (range_with_len (a + 1) n)) (h a) (i a) (kept_gap f g s t (a + 1) n h i)
-
-one_none : (t : Bool) (a : ℕ) (xs : List ℕ) → sum_by (λ c. 0) xs ≡ 0
-    → sum_by (λ c. 0) (cond t (a ∷ xs) xs) ≡ 0
-one_none true a xs e = omega (arith, sum_by-cons (λ (c : ℕ). 0) a xs)
-one_none false a xs e = e
+    let rest = kept_gap f g s t (a + 1) n h i in
+    grind (
+      arith,
+      h a,
+      i a,
+      kept-more f s a n,
+      kept-more g s a n,
+      kept-more f t a n,
+      kept-more g t a n,
+    )
 
 kept_none : (test : ℕ → Bool) (a n : ℕ) → kept (λ c. 0) test a n ≡ 0
 kept_none test a zero = refl
 kept_none test a (suc n) =
-    one_none (test a) a (filter test (range_with_len (a + 1) n)) (kept_none test (a + 1) n)
-
-one_most : (f : ℕ → ℕ) (t : Bool) (a n most : ℕ) (xs : List ℕ) → f a ≤ most
-    → sum_by f xs ≤ n * most → sum_by f (cond t (a ∷ xs) xs) ≤ suc n * most
-one_most f true a n most xs h e = omega (arith, sum_by-cons f a xs)
-one_most f false a n most xs h e = omega arith
+    let rest = kept_none test (a + 1) n in grind (arith, kept-more (λ c. 0) test a n)
 
 kept_most : (f : ℕ → ℕ) (test : ℕ → Bool) (a n most : ℕ) → ((c : ℕ) → f c ≤ most)
     → kept f test a n ≤ n * most
 kept_most f test a zero most h = omega arith
 kept_most f test a (suc n) most h =
-    one_most f (test a) a n most (filter test (range_with_len (a + 1) n)) (h a)
-    (kept_most f test (a + 1) n most h)
+    let rest = kept_most f test (a + 1) n most h in
+    grind (arith, h a, kept-more f test a n)
 
 -- Below a domain ------------------------------------------------------------------------------
 
@@ -117,10 +94,7 @@ known_less b f g level place k h i at less =
 pub known_same : (b : BoardValue) (f g : ℕ → ℕ) (level place : ℕ)
     → ((c : ℕ) → c < cores b → up b level c ≡ place → f c ≡ g c)
     → known_below b f level place ≡ known_below b g level place
-known_same b f g level place h =
-    let up = known_le b f g level place (λ c i at. omega (arith, h c i at)) in
-    let down = known_le b g f level place (λ c i at. omega (arith, h c i at)) in
-    omega arith
+known_same b f g level place h = grind (arith, known_le)
 
 pub known_none : (b : BoardValue) (level place : ℕ) → known_below b (λ c. 0) level place ≡ 0
 unfolding known_below

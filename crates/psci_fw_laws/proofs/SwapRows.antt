@@ -9,6 +9,9 @@ use Rattle.psci_messages.specs.declared.kind.Kind.TheVariants.{Start}
 use Rattle.psci_messages.specs.Slots.{OfCore, OfSystem}
 use Rattle.psci_fw_spec.specs.declared.status.Status.TheVariants.{Off, Pending}
 use Rattle.psci_fw_spec.specs.Lives.{start_of_life}
+use Rattle.psci_abi.proofs.Tables.{◌⇒◌, Gives}
+use Rattle.psci_abi.specs.declared.request.Request.{Request}
+use Rattle.psci_fw_spec.specs.Values.{Values}
 use Rattle.psci_fw_laws.specs.Renumbered.{AreSiblings, AreTwins, AsksBy, message_by, slot_by, swap}
 use Rattle.psci_fw_laws.specs.Renumbered.{swap_clusters, swap_cores, values_by}
 
@@ -27,26 +30,21 @@ one_level = record {
 abbrev pub two_levels : BoardValue
 two_levels = record one_level { levels = (1 ∷ 3 ∷ []) ∷ (2 ∷ []) ∷ [] }
 
-siblings_at_one : AreSiblings one_level 1 2
+siblings : AreSiblings one_level 1 2 × AreSiblings two_levels 1 3
 unfolding up
-siblings_at_one = record { first = omega arith; second = omega arith; cluster = refl }
-
-siblings_at_two : AreSiblings two_levels 1 3
-unfolding up
-siblings_at_two = record { first = omega arith; second = omega arith; cluster = refl }
+siblings = omega arith
 
 -- a core of another cluster is none
 not_siblings : AreSiblings two_levels 0 1 → ⊥
 unfolding up
-not_siblings two = absurd (omega (arith, two.cluster))
+not_siblings = search arith
 
 -- each has the other's number, and the core between them its own
-numbers : swap 1 3 0 ∷ swap 1 3 1 ∷ swap 1 3 2 ∷ swap 1 3 3 ∷ [] ≡ 0 ∷ 3 ∷ 2 ∷ 1 ∷ []
+numbers : Gives (swap 1 3) (0 ⇒ 0 ∷ 1 ⇒ 3 ∷ 2 ⇒ 2 ∷ 3 ⇒ 1 ∷ [])
 numbers = refl
 
 -- cores move, and clusters stay
-places : swap_cores 1 3 0 1 ∷ swap_cores 1 3 1 1 ∷ swap_cores 1 3 2 1 ∷ []
-    ≡ 3 ∷ 1 ∷ 1 ∷ []
+places : Gives (λ level. swap_cores 1 3 level 1) (0 ⇒ 3 ∷ 1 ⇒ 1 ∷ 2 ⇒ 1 ∷ [])
 places = refl
 
 -- Three clusters: cores 0 and 1, cores 2 and 3, and core 4 by itself.
@@ -68,42 +66,37 @@ numbers_of_clusters = refl
 places_of_clusters : map (swap_clusters clusters 0 1 1) (0 ∷ 1 ∷ 2 ∷ []) ≡ 1 ∷ 0 ∷ 2 ∷ []
 places_of_clusters = refl
 
-status_of_other_cluster :
+asked_of_clusters :
     AsksBy clusters (swap_clusters clusters 0 1) (AffinityInfo 1 0x101) (AffinityInfo 1 0x001)
 unfolding node_of
-status_of_other_cluster = (0x001, refl, refl)
+asked_of_clusters = (0x001, refl, refl)
 
 -- a word of a core is told as a word of the other one
-on_at_one : AsksBy one_level (swap_cores 1 2) (CpuOn 1 0x40001000 7) (CpuOn 2 0x40001000 7)
+asked_at_one : AsksBy one_level (swap_cores 1 2) (CpuOn 1 0x40001000 7) (CpuOn 2 0x40001000 7)
 unfolding core_of
-on_at_one = (2, refl, refl)
+asked_at_one = (2, refl, refl)
 
-on_at_two : AsksBy two_levels (swap_cores 1 3) (CpuOn 0x100 0x40001000 7) (CpuOn 0x102 0x40001000 7)
-unfolding core_of
-on_at_two = (0x102, refl, refl)
+abbrev Asks : Request → Request → Type 0
+Asks r q = AsksBy two_levels (swap_cores 1 3) r q
 
--- a word that names no core is told as itself
-on_nothing : AsksBy two_levels (swap_cores 1 3) (CpuOn 0x103 0x40001000 7)
-    (CpuOn 0x103 0x40001000 7)
-unfolding core_of
-on_nothing = (0x103, refl, refl)
-
--- the status of a core is asked of the other one, that of a cluster of the same one
-status_of_core : AsksBy two_levels (swap_cores 1 3) (AffinityInfo 0 0x102) (AffinityInfo 0 0x100)
-unfolding node_of
-status_of_core = (0x100, refl, refl)
-
-status_of_cluster : AsksBy two_levels (swap_cores 1 3) (AffinityInfo 1 0x102) (AffinityInfo 1 0x102)
-unfolding node_of
-status_of_cluster = (0x102, refl, refl)
-
-state_of_core : AsksBy two_levels (swap_cores 1 3) (NodeHwState 0 0x101) (NodeHwState 0 0x101)
-unfolding node_of
-state_of_core = (0x101, refl, refl)
-
--- a request without a word is told as itself
-off_is_off : AsksBy two_levels (swap_cores 1 3) CpuOff CpuOff
-off_is_off = refl
+asked_at_two : Asks (CpuOn 0x100 0x40001000 7) (CpuOn 0x102 0x40001000 7)
+    -- a word that names no core is told as itself
+    × Asks (CpuOn 0x103 0x40001000 7) (CpuOn 0x103 0x40001000 7)
+    -- the status of a core is asked of the other one, that of a cluster of the same one
+    × Asks (AffinityInfo 0 0x102) (AffinityInfo 0 0x100)
+    × Asks (AffinityInfo 1 0x102) (AffinityInfo 1 0x102)
+    × Asks (NodeHwState 0 0x101) (NodeHwState 0 0x101)
+    -- a request without a word is told as itself
+    × Asks CpuOff CpuOff
+unfolding core_of node_of
+asked_at_two = (
+  (0x102, refl, refl),
+  (0x103, refl, refl),
+  (0x100, refl, refl),
+  (0x102, refl, refl),
+  (0x101, refl, refl),
+  refl,
+)
 
 -- a message is of the other core, and its number, life and parts stay
 message_moved : message_by (swap_cores 1 3)
@@ -111,22 +104,17 @@ message_moved : message_by (swap_cores 1 3)
     ≡ record { kind = Start; core = record { number = 1 }; life = 2; number = 5; parts = [] }
 message_moved = refl
 
-slots_moved : slot_by (swap_cores 1 3) (OfCore 1) ∷ slot_by (swap_cores 1 3) OfSystem ∷ []
-    ≡ OfCore 3 ∷ OfSystem ∷ []
+slots_moved : Gives (slot_by (swap_cores 1 3)) (OfCore 1 ⇒ OfCore 3 ∷ OfSystem ⇒ OfSystem ∷ [])
 slots_moved = refl
 
--- with the boot core swapped, a life begins with the other core pending
-boot_moved : (values_by (swap_cores 0 1) (start_of_life one_level 1)).status 1 ≡ Pending
+-- with the boot core swapped, a life begins with the other core pending, and its domain granted
+-- nothing
+abbrev begun : Values
+begun = values_by (swap_cores 0 1) (start_of_life one_level 1)
+
+boot_moved : Gives begun.status (1 ⇒ Pending ∷ 0 ⇒ Off ∷ [])
 boot_moved = refl
 
-boot_left : (values_by (swap_cores 0 1) (start_of_life one_level 1)).status 0 ≡ Off
-boot_left = refl
-
--- and that core's domain granted nothing
-granted_moved : (values_by (swap_cores 0 1) (start_of_life one_level 1)).granted 0 1 ≡ 0
+granted_moved : Gives (begun.granted 0) (1 ⇒ 0 ∷ 0 ⇒ 3 ∷ [])
 unfolding up
 granted_moved = refl
-
-granted_left : (values_by (swap_cores 0 1) (start_of_life one_level 1)).granted 0 0 ≡ 3
-unfolding up
-granted_left = refl

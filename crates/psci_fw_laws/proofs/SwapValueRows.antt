@@ -1,7 +1,7 @@
 -- Worked examples: each value that is kept with cores 1 and 3 swapped, or two clusters, in a
 -- halting life 2 and in OS-initiated mode; calls and replies; and histories told of swapped cores.
 use Rattle.std.proofs.Common.{◌≡◌, ◌+◌, ◌*◌, ◌==◌, ℕ, true, false, if◌then◌else◌}
-use Rattle.std.proofs.Common.{List, [], ◌∷◌, Option, None, Some, map, ap, refl, arith}
+use Rattle.std.proofs.Common.{List, [], ◌∷◌, Option, None, Some, map, refl, arith}
 use Rattle.psci_board.specs.Board.{core_of}
 use Rattle.psci_messages.specs.declared.kind.Kind.TheVariants.{Down, Reset}
 use Rattle.psci_messages.specs.declared.start.Cause.TheVariants.{Wake}
@@ -9,7 +9,6 @@ use Rattle.psci_messages.specs.declared.start.Start.{Start}
 use Rattle.psci_messages.specs.declared.taken.Taken.TheVariants.{Used}
 use Rattle.psci_messages.specs.Message.{AckValue, MessageValue}
 use Rattle.psci_messages.specs.Slots.{OfCore, OfSystem, Slot}
-use Rattle.psci_fw_spec.specs.declared.call.FwCall.{FwCall}
 use Rattle.psci_fw_spec.specs.declared.call.FwCall.TheVariants.{Enter, Smc, Take}
 use Rattle.psci_fw_spec.specs.declared.fault.FwFault.TheVariants.{NotRunning, OldStart}
 use Rattle.psci_fw_spec.specs.declared.mode.SuspendMode.TheVariants.{OsInitiated}
@@ -22,6 +21,8 @@ use Rattle.psci_fw_spec.specs.Phases.{Running, Suspended}
 use Rattle.psci_fw_spec.specs.Values.{Values}
 use Rattle.psci_fw_laws.specs.Renumbered.{CallsBy, HappenedBy, acknowledgement_by, reply_by}
 use Rattle.psci_fw_laws.specs.Renumbered.{swap_clusters, swap_cores, values_by}
+use Rattle.psci_abi.proofs.Tables.{◌⇒◌, Gives}
+use Rattle.psci_abi.specs.declared.registers.Regs.{Regs}
 use Rattle.psci_fw_laws.proofs.SwapRows.{clusters, two_levels}
 
 -- Values ----------------------------------------------------------------------------------------
@@ -57,48 +58,24 @@ by_cores = values_by (swap_cores 1 3) kept
 abbrev by_clusters : Values
 by_clusters = values_by (swap_clusters clusters 0 1) kept
 
--- what is of no core stays
-life_stays : by_cores.life ≡ 2
-life_stays = refl
+-- what is of no core stays, and what is of a core is the other core's
+values_of_cores : (by_cores.life ≡ 2) × (by_cores.halting ≡ true) × (by_cores.mode ≡ OsInitiated)
+    × (map by_cores.known (0 ∷ 1 ∷ 2 ∷ 3 ∷ []) ≡ 10 ∷ 13 ∷ 12 ∷ 11 ∷ [])
+    × (map by_cores.status (0 ∷ 1 ∷ 2 ∷ 3 ∷ []) ≡ On ∷ On ∷ On ∷ Pending ∷ [])
+    × (map by_cores.phase (1 ∷ 2 ∷ 3 ∷ []) ≡ Running ∷ Running ∷ Suspended (2 ∷ []) ∷ [])
+    × (map by_cores.opening (1 ∷ 2 ∷ 3 ∷ [])
+    ≡ None ∷ None ∷ Some (record { address = 4; context = 7 }) ∷ [])
+    -- a message stands in the other core's slot and names that core; the system's stays
+    × (map by_cores.outstanding (OfCore 1 ∷ OfCore 3 ∷ OfSystem ∷ [])
+    ≡ None ∷ Some (down 3) ∷ Some (record (down 3) { kind = Reset }) ∷ [])
+values_of_cores = (refl, refl, refl, refl, refl, refl, refl, refl)
 
-halting_stays : by_cores.halting ≡ true
-halting_stays = refl
-
-mode_stays : by_cores.mode ≡ OsInitiated
-mode_stays = refl
-
--- what is of a core is the other core's
-known_moved : map by_cores.known (0 ∷ 1 ∷ 2 ∷ 3 ∷ []) ≡ 10 ∷ 13 ∷ 12 ∷ 11 ∷ []
-known_moved = refl
-
-status_moved : map by_cores.status (0 ∷ 1 ∷ 2 ∷ 3 ∷ []) ≡ On ∷ On ∷ On ∷ Pending ∷ []
-status_moved = refl
-
-phase_moved : map by_cores.phase (1 ∷ 2 ∷ 3 ∷ []) ≡ Running ∷ Running ∷ Suspended (2 ∷ []) ∷ []
-phase_moved = refl
-
-opening_moved : map by_cores.opening (1 ∷ 2 ∷ 3 ∷ [])
-    ≡ None ∷ None ∷ Some (record { address = 4; context = 7 }) ∷ []
-opening_moved = refl
-
--- of a domain, the domain's at the other place
-granted_to_clusters : map (by_clusters.granted 1) (0 ∷ 1 ∷ 2 ∷ []) ≡ 11 ∷ 10 ∷ 12 ∷ []
-granted_to_clusters = refl
-
-granted_to_cores : map (by_clusters.granted 0) (0 ∷ 1 ∷ 2 ∷ 3 ∷ 4 ∷ []) ≡ 2 ∷ 3 ∷ 0 ∷ 1 ∷ 4 ∷ []
-granted_to_cores = refl
-
-confirmed_of_clusters : map (by_clusters.confirmed 1) (0 ∷ 1 ∷ 2 ∷ []) ≡ true ∷ false ∷ false ∷ []
-confirmed_of_clusters = refl
-
-confirmed_of_cores : map (by_clusters.confirmed 0) (0 ∷ 1 ∷ 2 ∷ 3 ∷ [])
-    ≡ false ∷ false ∷ false ∷ true ∷ []
-confirmed_of_cores = refl
-
--- a message stands in the other core's slot and names that core; the system's stays where it is
-waiting_moved : map by_cores.outstanding (OfCore 1 ∷ OfCore 3 ∷ OfSystem ∷ [])
-    ≡ None ∷ Some (down 3) ∷ Some (record (down 3) { kind = Reset }) ∷ []
-waiting_moved = refl
+-- what is of a domain is the domain's at the other place
+values_of_domains : (map (by_clusters.granted 1) (0 ∷ 1 ∷ 2 ∷ []) ≡ 11 ∷ 10 ∷ 12 ∷ [])
+    × (map (by_clusters.granted 0) (0 ∷ 1 ∷ 2 ∷ 3 ∷ 4 ∷ []) ≡ 2 ∷ 3 ∷ 0 ∷ 1 ∷ 4 ∷ [])
+    × (map (by_clusters.confirmed 1) (0 ∷ 1 ∷ 2 ∷ []) ≡ true ∷ false ∷ false ∷ [])
+    × (map (by_clusters.confirmed 0) (0 ∷ 1 ∷ 2 ∷ 3 ∷ []) ≡ false ∷ false ∷ false ∷ true ∷ [])
+values_of_domains = (refl, refl, refl, refl)
 
 -- Calls and replies -----------------------------------------------------------------------------
 
@@ -115,45 +92,35 @@ ack c = record {
 ack_moved : acknowledgement_by (swap_cores 1 3) (ack 3) ≡ ack 1
 ack_moved = refl
 
+abbrev stop : ℕ → FwReply
+stop c = Out (record { act = acts.Stop; message = Some (down c) })
+
+abbrev entry : FwReply
+entry = Out (record { act = acts.Enter 4 7; message = None })
+
 -- an outcome stays, with a message of the other core; what is taken and what is refused stay
-stop_moved : reply_by (swap_cores 1 3) (Out (record { act = acts.Stop; message = Some (down 1) }))
-    ≡ Out (record { act = acts.Stop; message = Some (down 3) })
-stop_moved = refl
-
-entry_moved : reply_by (swap_cores 1 3) (Out (record { act = acts.Enter 4 7; message = None }))
-    ≡ Out (record { act = acts.Enter 4 7; message = None })
-entry_moved = refl
-
-taken_stays : reply_by (swap_cores 1 3) (Taken Used) ≡ Taken Used
-taken_stays = refl
-
-fault_stays : reply_by (swap_cores 1 3) (Fault OldStart) ≡ Fault OldStart
-fault_stays = refl
+replies_moved : Gives (reply_by (swap_cores 1 3))
+    (stop 1 ⇒ stop 3
+    ∷ entry ⇒ entry
+    ∷ Taken Used ⇒ Taken Used
+    ∷ Fault OldStart ⇒ Fault OldStart ∷ [])
+replies_moved = refl
 
 -- a core enters by the same start, and an acknowledgement is the other core's
 abbrev start : ℕ → Start
 start number = record { life = 2; number = number; cause = Wake }
 
-enters_by_same : CallsBy two_levels (swap_cores 1 3) (Enter (start 5)) (Enter (start 5))
-enters_by_same = refl
+abbrev nothing_asked : Regs
+nothing_asked = record { x0 = 0; x1 = 0; x2 = 0; x3 = 0 }
 
-abbrev start_in : FwCall → ℕ
-start_in (Enter s) = s.number
-start_in (Smc regs) = 0
-start_in (Take a) = a.core.number
+calls_moved : CallsBy two_levels (swap_cores 1 3) (Enter (start 5)) (Enter (start 5))
+    × CallsBy two_levels (swap_cores 1 3) (Take (ack 1)) (Take (ack 3))
+calls_moved = (refl, refl)
 
-enters_by_another : CallsBy two_levels (swap_cores 1 3) (Enter (start 5)) (Enter (start 6)) → ⊥
-enters_by_another told = let e : 6 ≡ 5 = ap start_in told in omega (arith, e)
-
-takes_of_other : CallsBy two_levels (swap_cores 1 3) (Take (ack 1)) (Take (ack 3))
-takes_of_other = refl
-
-takes_of_same : CallsBy two_levels (swap_cores 1 3) (Take (ack 1)) (Take (ack 1)) → ⊥
-takes_of_same told = let e : 1 ≡ 3 = ap start_in told in omega (arith, e)
-
-no_other_call : CallsBy two_levels (swap_cores 1 3)
-    (Smc (record { x0 = 0; x1 = 0; x2 = 0; x3 = 0 })) (Take (ack 1)) → ⊥
-no_other_call told = told
+other_calls : (CallsBy two_levels (swap_cores 1 3) (Enter (start 5)) (Enter (start 6)) → ⊥)
+    × (CallsBy two_levels (swap_cores 1 3) (Take (ack 1)) (Take (ack 1)) → ⊥)
+    × (CallsBy two_levels (swap_cores 1 3) (Smc nothing_asked) (Take (ack 1)) → ⊥)
+other_calls = search arith
 
 -- Histories -------------------------------------------------------------------------------------
 
@@ -176,10 +143,14 @@ goes_off c sender = record {
 abbrev happened : List FwExchange
 happened = goes_off 1 1 ∷ asks_on 3 0x100 ∷ []
 
+-- the same, told of the swapped cores
+abbrev ToldBy : List FwExchange → Type 0
+ToldBy h = HappenedBy two_levels (swap_cores 1 3) happened h
+
 nothing_happened : HappenedBy two_levels (swap_cores 1 3) [] []
 nothing_happened = tt
 
-both_swapped : HappenedBy two_levels (swap_cores 1 3) happened (goes_off 3 3 ∷ asks_on 1 0x102 ∷ [])
+both_swapped : ToldBy (goes_off 3 3 ∷ asks_on 1 0x102 ∷ [])
 unfolding core_of
 both_swapped = (
   record { core = refl; call = refl; reply = refl },
@@ -187,30 +158,10 @@ both_swapped = (
 )
 
 -- by the core itself, with its own message, in another order, and without one of them
-core_stays : HappenedBy two_levels (swap_cores 1 3) happened (goes_off 1 3 ∷ asks_on 1 0x102 ∷ [])
-    → ⊥
+told_otherwise : (ToldBy (goes_off 1 3 ∷ asks_on 1 0x102 ∷ []) → ⊥)
+    × (ToldBy (goes_off 3 1 ∷ asks_on 1 0x102 ∷ []) → ⊥)
+    × (ToldBy (asks_on 1 0x102 ∷ goes_off 3 3 ∷ []) → ⊥)
+    × (ToldBy (goes_off 3 3 ∷ []) → ⊥)
+    × (ToldBy (goes_off 3 3 ∷ asks_on 3 0x102 ∷ []) → ⊥)
 unfolding core_of
-core_stays told = let e : 1 ≡ 3 = told.0.core in omega (arith, e)
-
-abbrev sender_in : FwReply → ℕ
-sender_in (Out o) = elim o.message [ None ↦ 9 | Some m ↦ m.core.number ]
-sender_in (Taken taken) = 9
-sender_in (Fault fault) = 9
-
-message_stays : HappenedBy two_levels (swap_cores 1 3) happened
-    (goes_off 3 1 ∷ asks_on 1 0x102 ∷ []) → ⊥
-unfolding core_of
-message_stays told = let e : 1 ≡ 3 = ap sender_in told.0.reply in omega (arith, e)
-
-other_order : HappenedBy two_levels (swap_cores 1 3) happened
-    (asks_on 1 0x102 ∷ goes_off 3 3 ∷ []) → ⊥
-unfolding core_of
-other_order told = let e : 1 ≡ 3 = told.0.core in omega (arith, e)
-
-one_is_missing : HappenedBy two_levels (swap_cores 1 3) happened (goes_off 3 3 ∷ []) → ⊥
-one_is_missing told = told.1
-
-second_stays : HappenedBy two_levels (swap_cores 1 3) happened
-    (goes_off 3 3 ∷ asks_on 3 0x102 ∷ []) → ⊥
-unfolding core_of
-second_stays told = let e : 3 ≡ 1 = told.1.0.core in omega (arith, e)
+told_otherwise = search arith

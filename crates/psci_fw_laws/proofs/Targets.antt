@@ -1,6 +1,6 @@
 -- The target of an accepted CPU_ON is a core of the board that is off.
 use Rattle.std.proofs.Common.{◌≡◌, ℕ, Bool, true, false, cond, ◌==◌}
-use Rattle.std.proofs.Common.{Option, None, Some, Ok, Err, refl, arith, subst}
+use Rattle.std.proofs.Common.{Option, None, Some, Ok, Err, refl, arith}
 use Rattle.std.specs.Prelude.{Result}
 use Rattle.std.proofs.lemmas.Bool.{eqb-false}
 use Rattle.psci_fw_spec.specs.psci_abi.declared.code.Code.{Code}
@@ -11,7 +11,7 @@ use Rattle.psci_fw_spec.specs.declared.status.Status.{Status}
 use Rattle.psci_fw_spec.specs.declared.status.Status.TheVariants as statuses
 use Rattle.psci_fw_spec.specs.CpuOn.{off_target, start_outcome, target_among, target_of}
 use Rattle.psci_fw_spec.specs.Invariant.{agrees}
-use Rattle.psci_fw_spec.specs.Phases.{Phase, Away, Pending, Running, Suspended}
+use Rattle.psci_fw_spec.specs.Phases.{Phase, Away}
 use Rattle.psci_fw_spec.specs.Values.{Values}
 use Rattle.psci_fw_laws.specs.Allowed.{IsCalling}
 use Rattle.psci_fw_laws.proofs.Allowing.{Allows, IsReady}
@@ -31,17 +31,14 @@ target_if : (b : BoardValue) (v : Values) (word : ℕ) (code : Code) (k t : Core
     → (v.known k.number == b.starts) ≡ full
     → cond full (Err code) (Ok k) ≡ Ok t → IsTarget b v word t
 target_if b v word code k t true named off room e = absurd (cc)
-target_if b v word code k t false named off room e =
-    let same : k ≡ t = cc in
-    subst (IsTarget b v word) same (record { named = named; off = off; room = room })
+target_if b v word code k t false named off room e = search arith
 
 target_by : (b : BoardValue) (v : Values) (word : ℕ) (k t : Core) (s : Status)
     → core_of b word ≡ Some k → v.status k.number ≡ s → off_target b v k s ≡ Ok t
     → IsTarget b v word t
-target_by b v word k t statuses.On named is e = absurd (cc)
-target_by b v word k t statuses.Pending named is e = absurd (cc)
 target_by b v word k t statuses.Off named is e =
     target_if b v word _ k t (v.known k.number == b.starts) named is refl e
+target_by b v word k t s named is e = absurd (cc)
 
 target_may : (b : BoardValue) (v : Values) (word : ℕ) (k t : Core) (code : Code) (may : Bool)
     → core_of b word ≡ Some k
@@ -62,12 +59,8 @@ target_found b v word entry_point t e =
     target_is b v word entry_point t (core_of b word) refl e
 
 off_is_away : (s : Status) (p : Phase) → agrees s p ≡ true → s ≡ statuses.Off → p ≡ Away
-off_is_away statuses.On p e f = absurd (cc)
-off_is_away statuses.Pending p e f = absurd (cc)
-off_is_away statuses.Off Pending e f = absurd (cc)
-off_is_away statuses.Off Running e f = absurd (cc)
-off_is_away statuses.Off (Suspended ask) e f = absurd (cc)
 off_is_away statuses.Off Away e f = refl
+off_is_away s p e f = absurd (cc)
 
 pub on_allowed : (b : BoardValue) (v : Values) (c word entry_point context : ℕ)
     (r : Result Core Code) → LowerLaws b → IsReady b v → IsCalling b v c → v.halting ≡ false

@@ -16,9 +16,7 @@ use Rattle.psci_fw_laws.proofs.Renumbering.{Renumbers}
 -- the other place of a node is one too
 place_inside : (b : BoardValue) (s : ℕ → ℕ → ℕ) (level place : ℕ) → Renumbers b s
     → place < nodes b level → s level place < nodes b level
-place_inside b s level place is h =
-    ltb-true (s level place) (nodes b level)
-    (is.inside level place ∙ lt-ltb place (nodes b level) h)
+place_inside b s level place is h = grind (arith, ltb-true, lt-ltb)
 
 node_inside : (b : BoardValue) (s : ℕ → ℕ → ℕ) (n : Node) → Renumbers b s → HasNode b n
     → HasNode b (node_by s n)
@@ -82,17 +80,4 @@ told b s (requests.AffinityInfo level target) is laws =
 told b s (requests.NodeHwState level target) is laws =
     let w = node_named b s target level (node_of b target level) is laws refl in
     (requests.NodeHwState level w.0, (w.0, w.1, refl))
-told b s (requests.CpuSuspend state entry_point context) is laws =
-    (requests.CpuSuspend state entry_point context, refl)
-told b s requests.CpuOff is laws = (requests.CpuOff, refl)
-told b s requests.SystemOff is laws = (requests.SystemOff, refl)
-told b s requests.SystemReset is laws = (requests.SystemReset, refl)
-told b s (requests.SystemReset2 reset_type cookie) is laws =
-    (requests.SystemReset2 reset_type cookie, refl)
-told b s (requests.SystemSuspend entry_point context) is laws =
-    (requests.SystemSuspend entry_point context, refl)
-told b s (requests.SetSuspendMode mode) is laws = (requests.SetSuspendMode mode, refl)
-told b s requests.Version is laws = (requests.Version, refl)
-told b s requests.MigrateInfoType is laws = (requests.MigrateInfoType, refl)
-told b s (requests.Features word) is laws = (requests.Features word, refl)
-told b s requests.Unknown is laws = (requests.Unknown, refl)
+told b s r is laws = (r, refl)

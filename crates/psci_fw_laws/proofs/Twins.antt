@@ -13,7 +13,7 @@ use Rattle.psci_board.proofs.Groups.{sum-cons}
 use Rattle.psci_fw_laws.specs.Renumbered.{AreTwins, IsRenumbering, core_beside, is_in_cluster, swap}
 use Rattle.psci_fw_laws.specs.Renumbered.{swap_clusters}
 use Rattle.psci_fw_laws.proofs.Folds.{cases_within, swap-back, swap-first, swap-other, swap-second}
-use Rattle.psci_fw_laws.proofs.Involutions.{is_within-false, is_within-true}
+use Rattle.psci_fw_laws.proofs.Involutions.{is_within-false}
 use Rattle.psci_fw_laws.proofs.Numberings.{child_inside}
 use Rattle.psci_fw_laws.proofs.Siblings.{alike_both}
 
@@ -34,16 +34,15 @@ record In (b : BoardValue) (p c : ℕ) : Type 0 where
 
 cases_in : (b : BoardValue) (p c : ℕ) → In b p c ⊎ (In b p c → ⊥)
 cases_in b p c = elim (cases_within (first_child b 1 p) (children_at b 1 p) c) [
-  | inl h ↦ inl (record { low = h.0; high = h.1 })
+  | inl h ↦ inl (search arith)
   | inr out ↦ inr (λ h. out h.low h.high)
 ]
 
 is_in : (b : BoardValue) (p c : ℕ) → In b p c → is_in_cluster b p c ≡ true
-is_in b p c h = is_within-true (first_child b 1 p) (children_at b 1 p) c h.low h.high
+is_in b p c h = grind arith
 
 is_out : (b : BoardValue) (p c : ℕ) → (In b p c → ⊥) → is_in_cluster b p c ≡ false
-is_out b p c out = is_within-false (first_child b 1 p) (children_at b 1 p) c
-    (λ low high. out (record { low = low; high = high }))
+is_out b p c out = grind (arith, is_within-false (first_child b 1 p) (children_at b 1 p) c)
 
 inside : (b : BoardValue) (p c : ℕ) → Laws b → In b p c → c < cores b
 inside b p c laws h = child_inside b 0 p c laws.child laws.low h.low h.high
@@ -51,8 +50,6 @@ inside b p c laws h = child_inside b 0 p c laws.child laws.low h.low h.high
 up_in : (b : BoardValue) (p c : ℕ) → Laws b → In b p c → up b 1 c ≡ p
 up_in b p c laws h =
     let here : up b 0 c ≡ c = laws.paths.core c in
-    let low : first_child b 1 p ≤ c = h.low in
-    let high : c < first_child b 1 p + children_at b 1 p = h.high in
     laws.child.parent c 0 p (inside b p c laws h) laws.low (omega arith) (omega arith)
 
 -- past the last core there is no cluster
@@ -92,10 +89,7 @@ up_out b p c laws some out e = elim (cases_lt c (cores b)) [
 
 beside_in : (b : BoardValue) (p q c : ℕ) → children_at b 1 p ≡ children_at b 1 q → In b p c
     → In b q (core_beside b p q c)
-beside_in b p q c same h =
-    let low : first_child b 1 p ≤ c = h.low in
-    let high : c < first_child b 1 p + children_at b 1 p = h.high in
-    record { low = omega arith; high = omega arith }
+beside_in b p q c same h = omega arith
 
 -- The other numbers -----------------------------------------------------------------------------
 

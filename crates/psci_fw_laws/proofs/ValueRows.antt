@@ -18,6 +18,10 @@ use Rattle.psci_fw_spec.specs.History.{values_of}
 use Rattle.psci_fw_spec.specs.Phases.{Pending, Away}
 use Rattle.psci_fw_spec.specs.Values.{Values}
 use Rattle.psci_fw_laws.specs.KnownBelow.{known_below}
+use Rattle.psci_abi.proofs.Tables.{◌⇒◌, Gives}
+use Rattle.std.proofs.Common.{ℕ, Option}
+use Rattle.psci_messages.specs.Message.{MessageValue}
+use Rattle.psci_messages.specs.Slots.{Slot}
 use Rattle.psci_fw_laws.proofs.Calls.{Step, board, enter, history_of, message, off, on_3, part, smc}
 use Rattle.psci_fw_laws.proofs.Calls.{take}
 use Rattle.psci_fw_laws.proofs.Calls.{suspend}
@@ -26,143 +30,113 @@ use Rattle.psci_fw_laws.proofs.Calls.{suspend}
 abbrev after_calls : List Step → Values
 after_calls steps = values_of board (history_of board steps)
 
--- Granted depths ------------------------------------------------------------------------------
+-- what an example unfolds to compute them
+unfoldable computing : Unit {0}
+unfolding answer values_of outcome_of enter_outcome target_of core_of off_parts suspend_parts view
+    up claims_of least_ask last_core_check refusal shallow shallow_at is_idle generation outstanding
+    last_message changes_since known_below
+computing = tt
 
--- core 3 goes off: its cluster, the other core of which was never started, is granted power-down
-cluster_granted : (after_calls (enter 0 1 1 ∷ on_3 ∷ enter 3 1 1 ∷ off 3 ∷ [])).granted 1 1 ≡ 3
-unfolding answer values_of outcome_of enter_outcome target_of core_of off_parts view up claims_of
-    least_ask generation outstanding last_message changes_since
-cluster_granted = refl
+-- core 3 is asked on, enters, and goes off with its cluster; is asked on again
+abbrev asked : List Step
+asked = enter 0 1 1 ∷ on_3 ∷ []
 
--- it is asked on again: the claim is current still, and nothing is granted
+abbrev gone_off : List Step
+gone_off = enter 0 1 1 ∷ on_3 ∷ enter 3 1 1 ∷ off 3 ∷ []
+
 abbrev asked_again : List Step
 asked_again = enter 0 1 1 ∷ on_3 ∷ enter 3 1 1 ∷ off 3 ∷ take Down 3 1 1 2 ∷ on_3 ∷ []
 
-again_current : known_below board (after_calls asked_again).known 1 1 ≡ 1
-unfolding answer values_of outcome_of enter_outcome target_of core_of off_parts view up claims_of
-    least_ask generation outstanding last_message changes_since known_below
-again_current = refl
-
-again_not_granted : (after_calls asked_again).granted 1 1 ≡ 0
-unfolding answer values_of outcome_of enter_outcome target_of core_of off_parts view up claims_of
-    least_ask generation outstanding last_message changes_since
-again_not_granted = refl
-
-again_pending : (after_calls asked_again).phase 3 ≡ Pending
-unfolding answer values_of outcome_of enter_outcome target_of core_of off_parts view up claims_of
-    least_ask generation outstanding last_message changes_since
-again_pending = refl
-
--- Cores that have not entered -----------------------------------------------------------------
-
--- a core that was asked on has no known start before it enters, and one that was not is away
-asked_unknown : (after_calls (enter 0 1 1 ∷ on_3 ∷ [])).known 3 ≡ 0
-unfolding answer values_of outcome_of enter_outcome target_of core_of outstanding last_message
-    changes_since
-asked_unknown = refl
-
-asked_not_on : (after_calls (enter 0 1 1 ∷ on_3 ∷ [])).status 3 ≡ statuses.Pending
-unfolding answer values_of outcome_of enter_outcome target_of core_of outstanding last_message
-    changes_since
-asked_not_on = refl
-
-beside_away : (after_calls (enter 0 1 1 ∷ on_3 ∷ [])).phase 2 ≡ Away
-unfolding answer values_of outcome_of enter_outcome target_of core_of outstanding last_message
-    changes_since
-beside_away = refl
-
--- Outstanding ---------------------------------------------------------------------------------
-
--- a Start while the core is pending, nothing once it has entered, a Down when it has stopped
-start_waits : (after_calls (enter 0 1 1 ∷ on_3 ∷ [])).outstanding (OfCore 3)
-    ≡ Some (message Start 3 1 0 [])
-unfolding answer values_of outcome_of enter_outcome target_of core_of outstanding last_message
-    changes_since
-start_waits = refl
-
-entered_waits : (after_calls (enter 0 1 1 ∷ on_3 ∷ enter 3 1 1 ∷ [])).outstanding (OfCore 3) ≡ None
-unfolding answer values_of outcome_of enter_outcome target_of core_of outstanding last_message
-    changes_since
-entered_waits = refl
-
-down_waits : (after_calls (enter 0 1 1 ∷ on_3 ∷ enter 3 1 1 ∷ off 3 ∷ [])).outstanding (OfCore 3)
-    ≡ Some (message Down 3 1 1 (part 0 3 1 ∷ part 1 3 1 ∷ []))
-unfolding answer values_of outcome_of enter_outcome target_of core_of off_parts view up claims_of
-    least_ask generation outstanding last_message changes_since
-down_waits = refl
-
--- an Off for the system, in a life that is halting then
-off_waits : (after_calls (enter 0 1 1 ∷ smc 0 0x84000008 0 0 0 ∷ [])).outstanding OfSystem
-    ≡ Some (message Off 0 1 1 [])
-unfolding answer values_of outcome_of enter_outcome outstanding last_message changes_since
-off_waits = refl
-
-off_halts : (after_calls (enter 0 1 1 ∷ smc 0 0x84000008 0 0 0 ∷ [])).halting ≡ true
-unfolding answer values_of outcome_of enter_outcome outstanding last_message changes_since
-off_halts = refl
-
--- Later lives ---------------------------------------------------------------------------------
-
--- core 3 has gone off in the first life; the boot core's next life knows nothing of it
+-- core 3 has gone off in the first life, and the boot core begins the next one
 abbrev next_life : List Step
 next_life = enter 0 1 1 ∷ on_3 ∷ enter 3 1 1 ∷ off 3 ∷ enter 0 2 1 ∷ []
 
-next_unknown : (after_calls next_life).known 3 ≡ 0
-unfolding answer values_of outcome_of enter_outcome target_of core_of off_parts view up claims_of
-    least_ask generation outstanding last_message changes_since
-next_unknown = refl
+-- the system goes off; before core 3 enters that was asked on
+abbrev system_off : List Step
+system_off = enter 0 1 1 ∷ smc 0 0x84000008 0 0 0 ∷ []
 
-next_nothing_waits : (after_calls next_life).outstanding (OfCore 3) ≡ None
-unfolding answer values_of outcome_of enter_outcome target_of core_of off_parts view up claims_of
-    least_ask generation outstanding last_message changes_since
-next_nothing_waits = refl
-
-next_granted : (after_calls next_life).granted 1 1 ≡ 3
-unfolding answer values_of outcome_of enter_outcome target_of core_of off_parts view up claims_of
-    least_ask generation outstanding last_message changes_since
-next_granted = refl
-
--- Where a law has an exception -----------------------------------------------------------------
-
--- in a halting life a core that enters and stops has no opening left, and is pending still
 abbrev ceased : List Step
 ceased = enter 0 1 1 ∷ on_3 ∷ smc 0 0x84000008 0 0 0 ∷ enter 3 1 1 ∷ []
-
-ceased_pending : (after_calls ceased).phase 3 ≡ Pending
-unfolding answer values_of outcome_of enter_outcome target_of core_of outstanding last_message
-    changes_since
-ceased_pending = refl
-
-ceased_without_opening : (after_calls ceased).opening 3 ≡ None
-unfolding answer values_of outcome_of enter_outcome target_of core_of outstanding last_message
-    changes_since
-ceased_without_opening = refl
-
--- a core that was asked on again asks nothing, although its last Down has its known start
-again_asks_nothing : ask board (after_calls asked_again) 3 0 ≡ 0
-unfolding answer values_of outcome_of enter_outcome target_of core_of off_parts view up claims_of
-    least_ask generation outstanding last_message changes_since
-again_asks_nothing = refl
 
 -- in OS-initiated mode core 2 asks nothing of its cluster, and core 3 takes the cluster down
 abbrev last_core : List Step
 last_core = enter 0 1 1 ∷ smc 0 0x8400000f 1 0 0 ∷ smc 0 0xc4000003 0x100 0x40002000 0 ∷ on_3
     ∷ enter 2 1 1 ∷ enter 3 1 1 ∷ smc 2 0xc4000001 0x00010003 0x40000100 0 ∷ suspend 3 ∷ []
 
-last_core_granted : (after_calls last_core).granted 1 1 ≡ 3
-unfolding answer values_of outcome_of enter_outcome target_of core_of suspend_parts view up
-    claims_of last_core_check refusal shallow shallow_at is_idle generation outstanding
-    last_message changes_since
-last_core_granted = refl
+-- Granted depths ------------------------------------------------------------------------------
 
-last_core_beside : ask board (after_calls last_core) 2 1 ≡ 0
-unfolding answer values_of outcome_of enter_outcome target_of core_of suspend_parts view up
-    claims_of last_core_check refusal shallow shallow_at is_idle generation outstanding
-    last_message changes_since
-last_core_beside = refl
+abbrev granted_to_its_cluster : List Step → ℕ
+granted_to_its_cluster steps = (after_calls steps).granted 1 1
 
-last_core_beside_itself : ask board (after_calls last_core) 2 0 ≡ 3
-unfolding answer values_of outcome_of enter_outcome target_of core_of suspend_parts view up
-    claims_of last_core_check refusal shallow shallow_at is_idle generation outstanding
-    last_message changes_since
-last_core_beside_itself = refl
+granted : Gives granted_to_its_cluster
+    -- its cluster, the other core of which was never started, is granted power-down
+    (gone_off ⇒ 3
+    ∷ asked_again ⇒ 0
+    ∷ next_life ⇒ 3
+    ∷ last_core ⇒ 3 ∷ [])
+unfolding computing
+granted = refl
+
+-- where nothing is granted the claim is current still
+again_current : known_below board (after_calls asked_again).known 1 1 ≡ 1
+unfolding computing
+again_current = refl
+
+-- Cores that have not entered -----------------------------------------------------------------
+
+-- a core that was asked on has no known start before it enters, nor in the next life
+known_starts : Gives (λ steps. (after_calls steps).known 3) (asked ⇒ 0 ∷ next_life ⇒ 0 ∷ [])
+unfolding computing
+known_starts = refl
+
+-- it is pending, also where in a halting life it entered and stopped; one that was not is away
+phases : Gives (λ (x : List Step × ℕ). (after_calls x.0).phase x.1)
+    ((asked_again, 3) ⇒ Pending ∷ (ceased, 3) ⇒ Pending ∷ (asked, 2) ⇒ Away ∷ [])
+unfolding computing
+phases = refl
+
+asked_not_on : (after_calls asked).status 3 ≡ statuses.Pending
+unfolding computing
+asked_not_on = refl
+
+-- no opening is left to it then
+ceased_without_opening : (after_calls ceased).opening 3 ≡ None
+unfolding computing
+ceased_without_opening = refl
+
+-- Outstanding ---------------------------------------------------------------------------------
+
+abbrev waits : List Step × Slot → Option MessageValue
+waits x = (after_calls x.0).outstanding x.1
+
+waiting : Gives waits
+    -- a Start while the core is pending, nothing once it has entered, a Down when it has stopped
+    ((asked, OfCore 3) ⇒ Some (message Start 3 1 0 [])
+    ∷ (enter 0 1 1 ∷ on_3 ∷ enter 3 1 1 ∷ [], OfCore 3) ⇒ None
+    ∷ (gone_off, OfCore 3) ⇒ Some (message Down 3 1 1 (part 0 3 1 ∷ part 1 3 1 ∷ []))
+    -- the next life knows nothing of it
+    ∷ (next_life, OfCore 3) ⇒ None
+    -- an Off for the system
+    ∷ (system_off, OfSystem) ⇒ Some (message Off 0 1 1 []) ∷ [])
+unfolding computing
+waiting = refl
+
+-- in a life that is halting then
+off_halts : (after_calls system_off).halting ≡ true
+unfolding computing
+off_halts = refl
+
+-- What is asked -------------------------------------------------------------------------------
+
+-- by this core, of its domain of this level
+abbrev asks : List Step × ℕ × ℕ → ℕ
+asks x = ask board (after_calls x.0) x.1 x.2
+
+asked_of_domains : Gives asks
+    -- a core that was asked on again asks nothing, although its last Down has its known start
+    ((asked_again, 3, 0) ⇒ 0
+    -- core 2 asks nothing of its cluster, and power-down of itself
+    ∷ (last_core, 2, 1) ⇒ 0
+    ∷ (last_core, 2, 0) ⇒ 3 ∷ [])
+unfolding computing
+asked_of_domains = refl

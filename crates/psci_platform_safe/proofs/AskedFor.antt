@@ -1,12 +1,13 @@
 -- Sentence 3: a domain that is not fully on is as deep as the cores below it had asked for.
-use Rattle.std.proofs.Common.{◌≡◌, ℕ, zero, suc, ◌+◌, ◌<◌, ◌≤◌, ◌==◌, Bool, true, false, cond, List}
-use Rattle.std.proofs.Common.{[], ◌∷◌, ◌++◌, Some, filter, refl, sym, ap, ◌∙◌, subst, arith, inl}
+use Rattle.std.proofs.Common.{◌≡◌, ℕ, zero, suc, ◌<◌, ◌≤◌, ◌==◌, Bool, true, false, cond, List}
+use Rattle.std.proofs.Common.{[], ◌∷◌, ◌++◌, Some, refl, sym, ap, ◌∙◌, subst, arith, inl}
 use Rattle.std.proofs.Common.{inr, ◌⊎◌}
-use Rattle.std.specs.List.{list_all, range_with_len}
+use Rattle.std.specs.List.{list_all}
 use Rattle.std.specs.Prelude.{nat_le, slice_get}
-use Rattle.std.proofs.lemmas.Bool.{and_from, and_parts, cases_eq, eq-eqb, le-leb, leb-true}
+use Rattle.std.proofs.lemmas.Bool.{and_from, and_parts, eq-eqb, le-leb, leb-true}
 use Rattle.psci_headline.specs.Live.{AreAsked, AreClaimed}
 use Rattle.psci_headline.proofs.Claiming.{by_claim}
+use Rattle.psci_headline.proofs.fw_laws.Passing.{all_one}
 use Rattle.psci_headline.proofs.LiveOnes.{is_live_one}
 use Rattle.psci_platform.specs.Platforms.{PlatformValue}
 use Rattle.psci_headline.specs.Claims.{Claim, asks_by, claim_by, claims}
@@ -32,30 +33,12 @@ use Rattle.psci_platform_safe.proofs.Told.{record_for}
 
 -- All cores below a domain ---------------------------------------------------------------------
 
-kept_head : (q : ℕ → Bool) (t : Bool) (a : ℕ) (xs : List ℕ)
-    → list_all q (cond t (a ∷ xs) xs) ≡ true → (t ≡ true → q a ≡ true) × (list_all q xs ≡ true)
-kept_head q true a xs e = let both = and_parts (q a) (list_all q xs) e in (λ is. both.0, both.1)
-kept_head q false a xs e = (λ is. absurd (cc), e)
-
-kept_at : (q test : ℕ → Bool) (a n c : ℕ)
-    → list_all q (filter test (range_with_len a n)) ≡ true → a ≤ c → c < a + n
-    → test c ≡ true → q c ≡ true
-kept_at q test a zero c e low high is = absurd (omega (arith, low, high))
-kept_at q test a (suc n) c e low high is =
-    let both = kept_head q (test a) a (filter test (range_with_len (a + 1) n)) e in
-    elim (cases_eq a c) [
-      | inl same ↦
-          subst (λ x. q x ≡ true) same (both.0 (subst (λ x. test x ≡ true) (sym same) is))
-      | inr other ↦
-          kept_at q test (a + 1) n c both.1 (omega (arith, low, other)) (omega (arith, high)) is
-    ]
-
 -- what all cores below a domain pass each of them passes
 below_at : (b : BoardValue) (n : Node) (q : ℕ → Bool) (c : ℕ) → list_all q (below b n) ≡ true
     → c < cores b → up b n.level c ≡ n.place → q c ≡ true
 unfolding up
 below_at b n q c e on at =
-    kept_at q (λ x. up b n.level x == n.place) 0 (size_below b.levels) c e (omega arith)
+    all_one q (λ x. up b n.level x == n.place) 0 (size_below b.levels) c e (omega arith)
     (omega (arith, on)) (eq-eqb _ _ at)
 
 -- What is asked ---------------------------------------------------------------------------------

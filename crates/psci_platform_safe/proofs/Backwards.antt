@@ -2,13 +2,13 @@
 use Rattle.std.proofs.Common.{◌≡◌, ◌⊎◌, ℕ, ◌+◌, ◌*◌, ◌<◌, ◌≤◌, ◌^◌, Bool, true, false, cond, List}
 use Rattle.std.proofs.Common.{[], Option, None, Some, refl, sym, ap, ◌∙◌, arith, inl, inr}
 use Rattle.std.proofs.Common.{option_map}
-use Rattle.std.specs.Prelude.{Result, Ok, Err, slice_index, slice_index_or, unwrap_or}
+use Rattle.std.specs.Prelude.{Result, Ok, Err, slice_index_or, unwrap_or}
 use Rattle.std.proofs.lemmas.Bool.{cases_Bool, eqb-true}
 use Rattle.psci_platform.specs.declared.class.Class.{Class}
-use Rattle.psci_platform.specs.declared.class.Class.TheVariants.{Running, Standby, Retention}
+use Rattle.psci_platform.specs.declared.class.Class.TheVariants.{Running}
 use Rattle.psci_platform.specs.declared.class.Class.TheVariants.{PowerDown}
 use Rattle.psci_platform.specs.Calls.{first_argument, is_there, regs_for}
-use Rattle.psci_platform.specs.Cores.{core_word, number_named}
+use Rattle.psci_platform.specs.Cores.{core_word}
 use Rattle.psci_platform.specs.Described.{DescriptionValue}
 use Rattle.psci_platform.specs.Platforms.{PlatformValue}
 use Rattle.psci_platform.specs.States.{depth_at, depth_of, depths_of, states_of, word_for}
@@ -25,7 +25,7 @@ use Rattle.psci_headline.specs.psci_board.declared.node.Core.{Core}
 use Rattle.psci_headline.specs.psci_fw_spec.declared.mode.SuspendMode.{SuspendMode}
 use Rattle.psci_headline.specs.psci_fw_spec.declared.opening.Opening.{Opening}
 use Rattle.psci_headline.specs.psci_fw_spec.Effects.{rest_named, rest_of}
-use Rattle.psci_headline.specs.psci_state.Ask.{deepest_of, is_ask, is_deep}
+use Rattle.psci_headline.specs.psci_state.Ask.{deepest_of, is_deep}
 use Rattle.psci_headline.specs.psci_state.PowerState.{ask_of, word_of}
 use Rattle.psci_headline.specs.psci_state.declared.fault.BadState.{BadState}
 use Rattle.psci_platform_safe.specs.Names.{number}
@@ -54,12 +54,9 @@ on_there : (p : PlatformValue) (mode : SuspendMode) (regs : Regs) (r : Request)
 on_there p mode regs (requests.CpuOn target a x) word address context laws is e =
     let own = core_word p.description p.board p.place target 0 in
     let one : argument regs own ≡ word = cc in
-    let two : a ≡ address = cc in
-    let three : x ≡ context = cc in
     record {
       target = target;
-      asks = is ∙ ap (λ (k : ℕ). requests.CpuOn target k x) two
-          ∙ ap (requests.CpuOn target address) three;
+      asks = cc;
       named = sym one ∙ short regs own (core_short p target 0 laws);
     }
 on_there p mode regs r word address context laws is e = absurd (cc)
@@ -83,33 +80,25 @@ some_number : (o : Option ℕ) (core : Core) (other : ℕ)
     → option_map (λ c. record { number = c }) o ≡ Some core → unwrap_or o other ≡ core.number
 some_number None core other e = absurd (cc)
 some_number (Some c) core other e =
-    let same : record { number = c } ≡ core = cc in ap (λ (x : Core). x.number) same
+    cc
 
 -- the core that its word names has this number
 pub target_number : (p : PlatformValue) (target : ℕ) (core : Core) → Laws p
     → core_of p.board (core_word p.description p.board p.place target 0) ≡ Some core
     → number p target ≡ core.number
-target_number p target core laws e =
-    some_number (number_named p.description p.board p.place target 0) core _
-    (sym (laws.core_of target) ∙ e)
+target_number p target core laws e = grind (arith, some_number)
 
 -- Suspends --------------------------------------------------------------------------------------
 
 class_small : (c : Class) → depth_of c ≤ 3
 class_small Running = omega arith
-class_small Standby = omega arith
-class_small Retention = omega arith
-class_small PowerDown = omega arith
+class_small c = omega arith
 
 type_small : (t : Bool) → cond t 1 0 ≤ 1
-type_small true = omega arith
-type_small false = omega arith
+type_small t = grind arith
 
 high_small : (r s t : Bool) → cond r 3 (cond s 2 (cond t 1 0)) ≤ 3
-high_small true s t = omega arith
-high_small false true t = omega arith
-high_small false false true = omega arith
-high_small false false false = omega arith
+high_small r s t = grind arith
 
 depth_small : (d : DescriptionValue) (level number : ℕ) → depth_at d level number ≤ 3
 depth_small d level number =
@@ -125,26 +114,16 @@ few_small a b c e t i j k l m = omega (arith, i, j, k, l, m)
 
 word_small : (d : DescriptionValue) (states : List ℕ) (format : Format)
     → word_of format (depths_of d states) < 2 ^ 32
-word_small d states Original =
-    all_small _ _ _ _ _ _ (depth_small d 0 (slice_index states 0))
-    (depth_small d 1 (slice_index states 1)) (depth_small d 2 (slice_index states 2))
-    (depth_small d 3 (slice_index states 3)) (type_small (is_deep (depths_of d states)))
-    (high_small _ _ _)
-word_small d states Extended =
-    few_small _ _ _ _ _ (depth_small d 0 (slice_index states 0))
-    (depth_small d 1 (slice_index states 1)) (depth_small d 2 (slice_index states 2))
-    (depth_small d 3 (slice_index states 3)) (type_small (is_deep (depths_of d states)))
+word_small d states Original = grind (arith, all_small, depth_small, type_small, high_small)
+word_small d states Extended = grind (arith, few_small, depth_small, type_small)
 
 asking_small : (t : Bool) (word : ℕ) → word < 2 ^ 32 → cond t word 0xFFFFFFFF < 2 ^ 32
-asking_small true word small = small
-asking_small false word small = omega arith
+asking_small t word small = grind arith
 
 pub for_small : (d : DescriptionValue) (format : Format) (o : Option (List ℕ))
     → word_for d format o < 2 ^ 32
 for_small d format None = omega arith
-for_small d format (Some states) =
-    asking_small (is_ask (depths_of d states)) (word_of format (depths_of d states))
-    (word_small d states format)
+for_small d format (Some states) = grind (arith, asking_small, word_small)
 
 -- the states of a word are what the firmware reads in the word that it is asked
 abbrev pub AreRead : PlatformValue → Type 0
@@ -208,11 +187,7 @@ half_of regs w small = ap low_half (short regs w small) ∙ omega (arith, small)
 -- the address of a SYSTEM_SUSPEND is its first argument
 system_first : (regs : Regs) (a x : ℕ) → request_of regs ≡ requests.SystemSuspend a x
     → a ≡ argument regs regs.x1
-system_first regs a x is =
-    let same : requests.SystemSuspend a x
-    ≡ with_first (argument regs regs.x1) (requests.SystemSuspend a x) =
-    sym is ∙ request_with regs regs.x1 ∙ ap (with_first (argument regs regs.x1)) is in
-    cc
+system_first regs a x is = grind (arith, request_with)
 
 suspend_there : (p : PlatformValue) (mode : SuspendMode) (regs : Regs) (r : Request) (o : Opening)
     → AreRead p → AreNone p → request_of regs ≡ r

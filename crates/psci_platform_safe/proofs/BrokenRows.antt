@@ -1,66 +1,172 @@
--- Worked examples: for each sentence a history on the platform that breaks it. None of them is
--- legal: in each one thing is said that is not so.
-use Rattle.std.proofs.Common.{◌≡◌, ◌≤◌, ◌++◌, List, [], ◌∷◌, true, false, Some, refl, arith, ap}
-use Rattle.std.proofs.Common.{◌∙◌, inl, inr}
+-- Worked examples: for each sentence histories that break it: at each level, in both modes, in life
+-- 2 and in a life that is halting. None of them is legal: in each one thing is said that is not so.
+use Rattle.std.proofs.Common.{◌≡◌, ◌++◌, ℕ, pos, List, [], ◌∷◌, true, false, Option, Some, refl}
+use Rattle.std.proofs.Common.{arith, ap, ◌∙◌, inl, inr}
+use Rattle.psci_headline.specs.psci_abi.Calls.{request_of}
+use Rattle.psci_headline.specs.psci_abi.declared.registers.Regs.{Regs}
+use Rattle.psci_headline.specs.psci_abi.declared.request.Request.{Request}
 use Rattle.psci_headline.specs.psci_fw_spec.declared.opening.Opening.{Opening}
+use Rattle.psci_headline.specs.psci_fw_spec.declared.outcome.Act.TheVariants as acts
 use Rattle.psci_headline.specs.psci_messages.declared.kind.Kind.TheVariants.{Down}
-use Rattle.psci_headline.specs.psci_world_spec.declared.event.Event.TheVariants.{Deliver, Enter}
+use Rattle.psci_headline.specs.psci_world_spec.declared.event.Event.TheVariants.{Call, Deliver}
+use Rattle.psci_headline.specs.psci_world_spec.declared.event.Event.TheVariants.{Enter}
+use Rattle.psci_headline.specs.psci_world_spec.declared.event.Event.TheVariants.{Wake}
 use Rattle.psci_headline.specs.psci_world_spec.declared.said.Record.{Record}
-use Rattle.psci_headline.proofs.world_spec.Scripts.{call, enters, off, part, resumes, sends}
-use Rattle.psci_headline.proofs.world_spec.Scripts.{stops, value}
+use Rattle.psci_headline.specs.psci_world_spec.declared.said.Said.TheVariants.{Fw}
+use Rattle.psci_headline.specs.psci_world_spec.declared.said.Sent.{Sent}
+use Rattle.psci_headline.proofs.world_spec.Scripts.{acked, call, enters, goes_down, off, part}
+use Rattle.psci_headline.proofs.world_spec.Scripts.{resumes}
+use Rattle.psci_headline.proofs.world_spec.Scripts.{sends, stops, system_off, value}
 use Rattle.psci_headline.specs.Openings.{Made, OfCall, TakenUp}
+use Rattle.psci_platform_safe.specs.Names.{IsAskedOf}
 use Rattle.psci_platform_safe.specs.Opened.{OneEntryEach}
-use Rattle.psci_platform_safe.specs.Safe.{NoneBelowSleeping, OffIsDown, OneLiveClaim, SafeOn}
+use Rattle.psci_platform_safe.specs.Safe.{Answers, NoneBelowSleeping, OffIsDown, OneLiveClaim}
+use Rattle.psci_platform_safe.specs.Safe.{SafeOn}
 use Rattle.psci_platform_safe.specs.Safe.{StatesWereReal}
-use Rattle.psci_platform_safe.proofs.Histories.{after, computing, core_1_off, core_1_on, says}
-use Rattle.psci_platform_safe.proofs.Histories.{state_of, status_of, suspend, two}
+use Rattle.psci_platform_safe.proofs.Histories.{after, computing, core_1_off, core_1_on}
+use Rattle.psci_platform_safe.proofs.Histories.{on_by_the_system}
+use Rattle.psci_platform_safe.proofs.Histories.{on_in_life_2, says, state_of, status_of, suspend}
+use Rattle.psci_platform_safe.proofs.Histories.{tall, tall_after, tall_on, two}
 
--- 1 ---------------------------------------------------------------------------------------------
+-- a call that was answered with a number
+answers : {caller code : ℕ} {regs : Regs} {sent : Option Sent} {request : Request}
+    → request_of regs ≡ request
+    → Answers (record {
+      event = Call caller regs;
+      said = Fw (acts.Return (record { 0 = pos code })) sent;
+    }) request code
+answers asks =
+    record { caller = _; regs = _; sent = _; event = refl; asks = asks; said = refl }
 
--- core 1 is powered down with its cluster, and goes on without a start
-resumes_powered_down : NoneBelowSleeping two
-    (says (after (core_1_on ++ off 1 ∷ Deliver 1 ∷ [])) (Enter 1) resumes) → ⊥
+-- of core 1, itself or by its cluster
+core_1 : IsAskedOf two 1 0 1
 unfolding computing
-resumes_powered_down none =
-    let no : 3 ≡ 0 = none 1 1 (1, refl) (omega arith) refl in absurd (omega (arith, no))
+core_1 = record { core = (1, refl); domain = refl }
 
--- core 1 is said to be OFF while it runs, by itself and by its cluster
-off_and_runs : OffIsDown two (says (after core_1_on) (status_of 0x200 1 0) (value 1)) → ⊥
+its_cluster : IsAskedOf two 1 1 1
 unfolding computing
-off_and_runs down =
-    (down 1 0 1
-    (record { caller = 0x200; regs = _; sent = _; event = refl; asks = refl; said = refl })
-    (record { core = (1, refl); domain = refl })).stopped refl
+its_cluster = record { core = (1, refl); domain = refl }
 
-cluster_off_and_runs : OffIsDown two (says (after core_1_on) (status_of 0x203 0xff 1) (value 1))
-    → ⊥
+-- 1 ----------------------------------------------------------------------------------------------
+
+-- a core goes on without a start
+none_below_sleeping :
+    -- resumes_powered_down: powered down with its cluster
+    (NoneBelowSleeping two
+    (says (after (core_1_on ++ off 1 ∷ Deliver 1 ∷ [])) (Enter 1) resumes) → ⊥)
+    -- core_resumes: in retention by itself
+    × (NoneBelowSleeping two
+    (says (after (core_1_on ++ suspend 1 0x00000001 ∷ Deliver 1 ∷ [])) (Enter 1) resumes) → ⊥)
+    -- group_sleeps: below its group
+    × (NoneBelowSleeping tall (says (tall_after (tall_on ++ suspend 0x10100 0x02010113
+    ∷ Deliver 1 ∷ [])) (Enter 0x10100) resumes) → ⊥)
+    -- system_sleeps: below the system
+    × (NoneBelowSleeping tall (says (tall_after (Enter 0x100 ∷ suspend 0x100 0x03001112 ∷ Deliver 0
+    ∷ [])) (Enter 0x100) resumes) → ⊥)
+    -- started_below: one that was started and has not entered, whose old Down is carried out
+    × (NoneBelowSleeping two (says (after (core_1_on ++ off 1 ∷ Wake 1 ∷ [])) (Deliver 1)
+    (acked 1 Down 1 1 1 1 false)) → ⊥)
+    -- resumes_by_the_system: in OS-initiated mode
+    × (NoneBelowSleeping two (says (after (on_by_the_system ++ suspend 1 0x01010022 ∷ Deliver 1
+    ∷ [])) (Enter 1) resumes) → ⊥)
+    -- resumes_in_life_2: in life 2
+    × (NoneBelowSleeping two
+    (says (after (on_in_life_2 ++ off 1 ∷ Deliver 2 ∷ [])) (Enter 1) resumes) → ⊥)
+    -- resumes_while_halting: while the life is halting
+    × (NoneBelowSleeping two (says (after (core_1_on ++ off 1 ∷ Deliver 1 ∷ system_off 0x200 ∷ []))
+    (Enter 1) resumes) → ⊥)
 unfolding computing
-cluster_off_and_runs down =
-    (down 0xff 1 1
-    (record { caller = 0x203; regs = _; sent = _; event = refl; asks = refl; said = refl })
-    (record { core = (1, refl); domain = refl })).stopped refl
+none_below_sleeping = (
+  λ none. omega (arith, none 1 1 (1, refl) (omega arith) refl),
+  λ none. omega (arith, none 1 0 (1, refl) (omega arith) refl),
+  λ none. omega (arith, none 0x10100 2 (0, refl) (omega arith) refl),
+  λ none. omega (arith, none 0x100 3 (3, refl) (omega arith) refl),
+  λ none. omega (arith, none 1 0 (1, refl) (omega arith) refl),
+  λ none. omega (arith, none 1 1 (1, refl) (omega arith) refl),
+  λ none. omega (arith, none 1 1 (1, refl) (omega arith) refl),
+  λ none. omega (arith, none 1 1 (1, refl) (omega arith) refl),
+)
+
+-- what is said to be OFF while a core below runs
+off_is_stopped :
+    -- off_and_runs: core 1 by itself
+    (OffIsDown two (says (after core_1_on) (status_of 0x200 1 0) (value 1)) → ⊥)
+    -- cluster_off_and_runs: its cluster
+    × (OffIsDown two (says (after core_1_on) (status_of 0x203 0xff 1) (value 1)) → ⊥)
+    -- group_off_and_runs: a group
+    × (OffIsDown tall (says (tall_after tall_on) (status_of 0x100 0x10000 2) (value 1)) → ⊥)
+    -- system_off_and_runs: the system
+    × (OffIsDown tall (says (tall_after tall_on) (status_of 0x10100 0 3) (value 1)) → ⊥)
+unfolding computing
+off_is_stopped = (
+  λ down. (down 1 0 1 (answers refl) core_1).stopped refl,
+  λ down. (down 0xff 1 1 (answers refl) (record { core = (1, refl); domain = refl })).stopped refl,
+  λ down. (down 0x10000 2 0x10100 (answers refl)
+      (record { core = (0, refl); domain = refl })).stopped refl,
+  λ down. (down 0 3 0x100 (answers refl)
+      (record { core = (3, refl); domain = refl })).stopped refl,
+)
 
 -- core 1 is said to be OFF before its Down was delivered
-off_not_down : OffIsDown two
-    (says (after (core_1_on ++ off 1 ∷ [])) (status_of 0x200 1 0) (value 1)) → ⊥
+off_is_down :
+    -- off_not_down: once it has gone off
+    (OffIsDown two (says (after (core_1_on ++ off 1 ∷ [])) (status_of 0x200 1 0) (value 1)) → ⊥)
+    -- off_not_down_in_life_2: where it had been so in life 1
+    × (OffIsDown two (says (after (on_in_life_2 ++ off 1 ∷ [])) (status_of 0x200 1 0) (value 1))
+    → ⊥)
+    -- off_not_down_by_the_system: in OS-initiated mode
+    × (OffIsDown two (says (after (on_by_the_system ++ off 1 ∷ [])) (status_of 0x200 1 0)
+    (value 1)) → ⊥)
+    -- off_not_down_while_halting: while the life is halting
+    × (OffIsDown two (says (after (core_1_on ++ off 1 ∷ system_off 0x200 ∷ []))
+    (status_of 0x200 1 0) (value 1)) → ⊥)
 unfolding computing
-off_not_down down =
-    let no : false ≡ true =
-    (down 1 0 1
-    (record { caller = 0x200; regs = _; sent = _; event = refl; asks = refl; said = refl })
-    (record { core = (1, refl); domain = refl })).down in
-    absurd (cc)
+off_is_down = (
+  λ down. let no : false ≡ true = (down 1 0 1 (answers refl) core_1).down in cc,
+  λ down. let no : false ≡ true = (down 1 0 1 (answers refl) core_1).down in cc,
+  λ down. let no : false ≡ true = (down 1 0 1 (answers refl) core_1).down in cc,
+  λ down. let no : false ≡ true = (down 1 0 1 (answers refl) core_1).down in cc,
+)
 
--- 2 ---------------------------------------------------------------------------------------------
+-- 2 ----------------------------------------------------------------------------------------------
 
--- core 1 is off, and goes down once more without a start
-claims_twice : OneLiveClaim two
-    (says (after core_1_off) (suspend 1 1) (stops (sends 2 Down 1 1 1 (part 0 2 1 ∷ [])))) → ⊥
+-- a domain is claimed twice in one start
+one_live_claim :
+    -- claims_twice: core 1 is off, and goes down once more
+    (OneLiveClaim two (says (after core_1_off) (suspend 1 1)
+    (stops (sends 2 Down 1 1 1 (part 0 2 1 ∷ [])))) → ⊥)
+    -- cluster_claimed_twice: with its cluster
+    × (OneLiveClaim two (says (after core_1_off) (suspend 1 0x01010032)
+    (goes_down 2 1 1 1 (part 0 3 1 ∷ part 1 3 1 ∷ []))) → ⊥)
+    -- group_claimed_twice: the group of the far core
+    × (OneLiveClaim tall (says (tall_after (tall_on ++ suspend 0x10100 0x02010223 ∷ []))
+    (suspend 0x10100 0x02010223)
+    (goes_down 2 0x10100 1 1 (part 0 3 1 ∷ part 1 3 1 ∷ part 2 3 1 ∷ []))) → ⊥)
+    -- system_claimed_twice: the system
+    × (OneLiveClaim tall (says (tall_after (Enter 0x100 ∷ suspend 0x100 0x03012223 ∷ []))
+    (suspend 0x100 0x03012223)
+    (goes_down 1 0x100 1 1 (part 0 3 1 ∷ part 1 3 1 ∷ part 2 3 1 ∷ part 3 3 1 ∷ []))) → ⊥)
+    -- claims_twice_in_life_2: in life 2
+    × (OneLiveClaim two (says (after (on_in_life_2 ++ off 1 ∷ [])) (suspend 1 1)
+    (goes_down 3 1 2 1 (part 0 2 1 ∷ []))) → ⊥)
+    -- claims_twice_while_halting: while the life is halting
+    × (OneLiveClaim two (says (after (core_1_on ++ off 1 ∷ system_off 0x200 ∷ [])) (suspend 1 1)
+    (goes_down 3 1 1 1 (part 0 2 1 ∷ []))) → ⊥)
+    -- claims_twice_by_the_system: in OS-initiated mode
+    × (OneLiveClaim two (says (after (on_by_the_system ++ off 1 ∷ [])) (suspend 1 1)
+    (goes_down 2 1 1 1 (part 0 2 1 ∷ []))) → ⊥)
 unfolding computing
-claims_twice one =
-    let no : 2 ≤ 1 = one 1 0 (1, refl) (omega arith) in absurd (omega (arith, no))
+one_live_claim = (
+  λ one. omega (arith, one 1 0 (1, refl) (omega arith)),
+  λ one. omega (arith, one 0 1 (0, refl) (omega arith)),
+  λ one. omega (arith, one 0x10000 2 (1, refl) (omega arith)),
+  λ one. omega (arith, one 0x10000 3 (1, refl) (omega arith)),
+  λ one. omega (arith, one 1 0 (1, refl) (omega arith)),
+  λ one. omega (arith, one 1 0 (1, refl) (omega arith)),
+  λ one. omega (arith, one 1 0 (1, refl) (omega arith)),
+)
 
--- 4 ---------------------------------------------------------------------------------------------
+-- 4 ----------------------------------------------------------------------------------------------
 
 -- the opening that core 1 was made by the second call of the firmware, and an entry at another one
 abbrev made_1 : Made
@@ -112,21 +218,50 @@ never_asked_on one =
       | inr by ↦ let no : 1 ≡ 0x200 = by.0 in absurd (omega (arith, no))
     ]
 
--- 5 ---------------------------------------------------------------------------------------------
+-- 5 ----------------------------------------------------------------------------------------------
 
--- core 1 is said to be off, and its cluster in standby, while they are on
-off_and_on : StatesWereReal two (says (after core_1_on) (state_of 0x200 1 0) (value 1)) → ⊥
+-- a core or domain is said to be off, or in standby
+states_were_real :
+    -- off_and_on: core 1 is on
+    (StatesWereReal two (says (after core_1_on) (state_of 0x200 1 0) (value 1)) → ⊥)
+    -- standby_and_on: its cluster is on
+    × (StatesWereReal two (says (after core_1_on) (state_of 0x200 5 1) (value 2)) → ⊥)
+    -- off_and_retained: its cluster is in retention
+    × (StatesWereReal two (says (after (core_1_on ++ suspend 1 0x01010012 ∷ Deliver 1 ∷ []))
+    (state_of 0x200 1 1) (value 1)) → ⊥)
+    -- standby_and_off: its cluster is off
+    × (StatesWereReal two (says (after core_1_off) (state_of 0x200 1 1) (value 2)) → ⊥)
+    -- group_off_and_its_cluster: of a group the cluster of the far core alone is off
+    × (StatesWereReal tall (says (tall_after (tall_on ++ suspend 0x10100 0x01010023 ∷ Deliver 1
+    ∷ [])) (state_of 0x100 0x10000 2) (value 1)) → ⊥)
+    -- system_in_standby: of the system the group of the far core alone is in standby
+    × (StatesWereReal tall (says (tall_after (tall_on ++ suspend 0x10100 0x02010113 ∷ Deliver 1
+    ∷ [])) (state_of 0x100 0 3) (value 2)) → ⊥)
+    -- off_by_the_system: before its Down is carried out, in OS-initiated mode
+    × (StatesWereReal two (says (after (on_by_the_system ++ off 1 ∷ [])) (state_of 0x200 1 0)
+    (value 1)) → ⊥)
+    -- off_in_life_2: and in life 2
+    × (StatesWereReal two (says (after (on_in_life_2 ++ off 1 ∷ [])) (state_of 0x200 1 0)
+    (value 1)) → ⊥)
+    -- standby_while_halting: and while the life is halting
+    × (StatesWereReal two (says (after (core_1_on ++ suspend 1 0x00000001 ∷ system_off 0x200 ∷ []))
+    (state_of 0x200 1 0) (value 2)) → ⊥)
+    -- boot_core_off_and_on: the boot core is on
+    × (StatesWereReal two (says (after (Enter 0x200 ∷ [])) (state_of 0x200 0x200 0) (value 1)) → ⊥)
 unfolding computing
-off_and_on real =
-    let no : false ≡ true =
-    (real 1 0 1 (record { core = (1, refl); domain = refl })).0
-    (record { caller = 0x200; regs = _; sent = _; event = refl; asks = refl; said = refl }) in
-    absurd (cc)
-
-standby_and_on : StatesWereReal two (says (after core_1_on) (state_of 0x200 5 1) (value 2)) → ⊥
-unfolding computing
-standby_and_on real =
-    let no : false ≡ true =
-    (real 5 1 1 (record { core = (1, refl); domain = refl })).1
-    (record { caller = 0x200; regs = _; sent = _; event = refl; asks = refl; said = refl }) in
-    absurd (cc)
+states_were_real = (
+  λ real. let no : false ≡ true = (real 1 0 1 core_1).0 (answers refl) in cc,
+  λ real. let no : false ≡ true = (real 5 1 1 (record { core = (1, refl); domain = refl })).1
+      (answers refl) in cc,
+  λ real. let no : false ≡ true = (real 1 1 1 its_cluster).0 (answers refl) in cc,
+  λ real. let no : false ≡ true = (real 1 1 1 its_cluster).1 (answers refl) in cc,
+  λ real. let no : false ≡ true =
+      (real 0x10000 2 0x10000 (record { core = (1, refl); domain = refl })).0 (answers refl) in cc,
+  λ real. let no : false ≡ true =
+      (real 0 3 0x10100 (record { core = (0, refl); domain = refl })).1 (answers refl) in cc,
+  λ real. let no : false ≡ true = (real 1 0 1 core_1).0 (answers refl) in cc,
+  λ real. let no : false ≡ true = (real 1 0 1 core_1).0 (answers refl) in cc,
+  λ real. let no : false ≡ true = (real 1 0 1 core_1).1 (answers refl) in cc,
+  λ real. let no : false ≡ true =
+      (real 0x200 0 0x200 (record { core = (2, refl); domain = refl })).0 (answers refl) in cc,
+)

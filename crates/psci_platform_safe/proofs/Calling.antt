@@ -1,4 +1,7 @@
 -- What a call that asked a core on, or that stopped its caller, was asked and answered.
+use Rattle.std.proofs.Common.{sym, ◌∙◌}
+use Rattle.std.proofs.Common.{false}
+use Rattle.psci_headline.specs.psci_fw_spec.Effects.{Effect}
 use Rattle.std.proofs.Common.{◌≡◌, ℕ, Bool, true, false, cond, Option, None, Some, refl, ap}
 use Rattle.std.specs.Ordering.{int_eq}
 use Rattle.psci_headline.specs.psci_abi.Codes.{success}
@@ -20,29 +23,33 @@ use Rattle.psci_headline.specs.psci_fw_spec.Values.{Values}
 use Rattle.psci_headline.specs.psci_messages.Message.{MessageValue}
 use Rattle.psci_headline.proofs.fw_spec.Endings.{function_ends, outcome_ends}
 
+-- What opens nothing ----------------------------------------------------------------------------
+
+-- an effect that can open an entry point
+abbrev pub opens : Effect → Bool
+opens (AsksOn c asked) = true
+opens (Rests c rest m) = true
+opens f = false
+
+pub opens_none : (f g : Effect) → f ≡ g → opens g ≡ true → opens f ≡ false → ⊥
+opens_none f g same one none =
+    let no : false ≡ true = sym none ∙ ap opens same ∙ one in absurd (cc)
+
+mode_opens : (c : ℕ) (t : Bool) (o : Option SuspendMode)
+    → opens (cond t (mode_effect c o) (GoesOn c)) ≡ false
+mode_opens c true (Some mode) = refl
+mode_opens c t o = refl
+
+return_opens : (c : ℕ) (r : Request) (code : Code) → opens (return_effect c r code) ≡ false
+return_opens c (requests.SetSuspendMode number) code =
+    mode_opens c (int_eq code.0 success.0) (mode_of number)
+return_opens c r code = refl
+
 -- Asked on --------------------------------------------------------------------------------------
-
-mode_asks : (c d : ℕ) (asked : PowerOn) (o : Option SuspendMode)
-    → mode_effect c o ≡ AsksOn d asked → ⊥
-mode_asks c d asked None e = absurd (cc)
-mode_asks c d asked (Some mode) e = absurd (cc)
-
-set_asks : (c d number : ℕ) (asked : PowerOn) (t : Bool)
-    → cond t (mode_effect c (mode_of number)) (GoesOn c) ≡ AsksOn d asked → ⊥
-set_asks c d number asked true e = mode_asks c d asked (mode_of number) e
-set_asks c d number asked false e = absurd (cc)
-
-return_asks : (c d : ℕ) (asked : PowerOn) (r : Request) (code : Code)
-    → return_effect c r code ≡ AsksOn d asked → ⊥
-return_asks c d asked (requests.SetSuspendMode number) code e =
-    set_asks c d number asked (int_eq code.0 success.0) e
-return_asks c d asked r code e = absurd (cc)
 
 stop_asks : (b : BoardValue) (c d : ℕ) (asked : PowerOn) (r : Request) (m : MessageValue)
     → stop_effect b c r m ≡ AsksOn d asked → ⊥
 stop_asks b c d asked requests.SystemOff m e = absurd (cc)
-stop_asks b c d asked requests.SystemReset m e = absurd (cc)
-stop_asks b c d asked (requests.SystemReset2 reset_type cookie) m e = absurd (cc)
 stop_asks b c d asked r m e = absurd (cc)
 
 -- A call that asked a core on is a CPU_ON with the opening as its arguments.
@@ -74,11 +81,10 @@ pub asks_on : (b : BoardValue) (c d : ℕ) (asked : PowerOn) (r : Request) (act 
     (message : Option MessageValue) → function_effect b c r act message ≡ AsksOn d asked
     → IsCpuOn r act message asked
 asks_on b c d asked r acts.Stop (Some m) e = absurd (stop_asks b c d asked r m e)
-asks_on b c d asked r acts.Stop None e = absurd (cc)
 asks_on b c d asked r (acts.Return code) (Some m) e = sent_asks c d asked r code m e
-asks_on b c d asked r (acts.Return code) None e = absurd (return_asks c d asked r code e)
-asks_on b c d asked r (acts.Enter address context) message e = absurd (cc)
-asks_on b c d asked r acts.Resume message e = absurd (cc)
+asks_on b c d asked r (acts.Return code) None e =
+    absurd (opens_none _ _ e refl (return_opens c r code))
+asks_on b c d asked r act message e = absurd (cc)
 
 -- a function that returned and sent something returned SUCCESS
 abbrev Succeeds : Outcome → Type 0
@@ -95,22 +101,6 @@ succeeds b v c r =
     (λ word entry_point context m is code other act message. cc))
 
 -- Stopped ---------------------------------------------------------------------------------------
-
-mode_rests : (c d : ℕ) (rest : Rest) (m : MessageValue) (o : Option SuspendMode)
-    → mode_effect c o ≡ Rests d rest m → ⊥
-mode_rests c d rest m None e = absurd (cc)
-mode_rests c d rest m (Some mode) e = absurd (cc)
-
-set_rests : (c d number : ℕ) (rest : Rest) (m : MessageValue) (t : Bool)
-    → cond t (mode_effect c (mode_of number)) (GoesOn c) ≡ Rests d rest m → ⊥
-set_rests c d number rest m true e = mode_rests c d rest m (mode_of number) e
-set_rests c d number rest m false e = absurd (cc)
-
-return_rests : (c d : ℕ) (rest : Rest) (m : MessageValue) (r : Request) (code : Code)
-    → return_effect c r code ≡ Rests d rest m → ⊥
-return_rests c d rest m (requests.SetSuspendMode number) code e =
-    set_rests c d number rest m (int_eq code.0 success.0) e
-return_rests c d rest m r code e = absurd (cc)
 
 sent_rests : (c d : ℕ) (rest : Rest) (m : MessageValue) (r : Request) (own : MessageValue)
     → sent_effect c r own ≡ Rests d rest m → ⊥
@@ -137,8 +127,7 @@ pub rests : (b : BoardValue) (c d : ℕ) (rest : Rest) (m : MessageValue) (r : R
     (message : Option MessageValue) → function_effect b c r act message ≡ Rests d rest m
     → IsStop b c d rest m r act message
 rests b c d rest m r acts.Stop (Some own) e = stop_rests b c d rest m r own e
-rests b c d rest m r acts.Stop None e = absurd (cc)
 rests b c d rest m r (acts.Return code) (Some own) e = absurd (sent_rests c d rest m r own e)
-rests b c d rest m r (acts.Return code) None e = absurd (return_rests c d rest m r code e)
-rests b c d rest m r (acts.Enter address context) message e = absurd (cc)
-rests b c d rest m r acts.Resume message e = absurd (cc)
+rests b c d rest m r (acts.Return code) None e =
+    absurd (opens_none _ _ e refl (return_opens c r code))
+rests b c d rest m r act message e = absurd (cc)

@@ -1,7 +1,11 @@
 -- Sentence 4: each entry at an opening takes up one that waited for its core, or begins a life.
+use Rattle.std.proofs.lemmas.Bool.{eq-eqb}
+use Rattle.std.proofs.Common.{sym, ◌∙◌, true, false, inr}
+use Rattle.psci_platform_safe.proofs.Numbers.{is_core, only_one}
+use Rattle.psci_platform_safe.proofs.Waiting.{first_is}
 use Rattle.std.proofs.Common.{◌≡◌, ◌⊎◌, ℕ, zero, suc, ◌<◌, ◌==◌, ◌||◌, Bool, true, false, cond}
 use Rattle.std.proofs.Common.{List, [], ◌∷◌, Option, None, Some, refl, sym, ap, ◌∙◌, arith, inl}
-use Rattle.std.proofs.Common.{inr, not, option_map}
+use Rattle.std.proofs.Common.{not, option_map}
 use Rattle.std.specs.Prelude.{nat_lt}
 use Rattle.std.proofs.lemmas.Bool.{eq-eqb, eqb-true, ltb-true}
 use Rattle.psci_platform.specs.Platforms.{PlatformValue}
@@ -30,10 +34,8 @@ use Rattle.psci_headline.specs.psci_messages.declared.start.Start.{Start}
 use Rattle.psci_headline.specs.psci_world_spec.declared.event.Event.{Event}
 use Rattle.psci_headline.specs.psci_world_spec.declared.event.Event.TheVariants.{Enter}
 use Rattle.psci_headline.specs.psci_world_spec.declared.place.Place.{Place}
-use Rattle.psci_headline.specs.psci_world_spec.declared.place.Place.TheVariants.{Running, Started}
-use Rattle.psci_headline.specs.psci_world_spec.declared.place.Place.TheVariants.{Stopped}
+use Rattle.psci_headline.specs.psci_world_spec.declared.place.Place.TheVariants.{Started}
 use Rattle.psci_headline.specs.psci_world_spec.declared.said.Record.{Record}
-use Rattle.psci_headline.specs.psci_world_spec.declared.said.Said.{Said}
 use Rattle.psci_headline.specs.psci_world_spec.declared.said.Said.TheVariants.{Absent, Fw}
 use Rattle.psci_headline.specs.psci_world_spec.declared.said.Sent.{Sent}
 use Rattle.psci_headline.specs.psci_world_spec.Histories.{controller_values, firmware_history}
@@ -47,7 +49,7 @@ use Rattle.psci_platform_safe.specs.Words.{IsLegalOn, event_after, numbered, sai
 use Rattle.psci_platform_safe.specs.Words.{sent_in_numbers}
 use Rattle.psci_platform_safe.proofs.Entries.{waiting}
 use Rattle.psci_platform_safe.proofs.Numbers.{is_core, only_one}
-use Rattle.psci_platform_safe.proofs.Records.{OpeningLaws, effect_in, effect_now, entered_effect}
+use Rattle.psci_platform_safe.proofs.Records.{OpeningLaws, effect_now, entered_effect}
 use Rattle.psci_platform_safe.proofs.Records.{message_in}
 use Rattle.psci_platform_safe.proofs.Waiting.{first_is}
 
@@ -74,8 +76,7 @@ by_reply b past c n act own start (replies.Out o) last inside is e = record {
   reply = is;
   does = let same : act ≡ o.act = cc in sym same;
 }
-by_reply b past c n act own start (replies.Taken t) last inside is e = absurd (cc)
-by_reply b past c n act own start (replies.Fault f) last inside is e = absurd (cc)
+by_reply b past c n act own start reply last inside is e = absurd (cc)
 
 by_place : (b : BoardValue) (past : List Record) (c : ℕ) (act : Act) (own : Option Sent)
     (p : Place) (start : Option Start) → last_start (controller_values b past) c ≡ start
@@ -83,9 +84,7 @@ by_place : (b : BoardValue) (past : List Record) (c : ℕ) (act : Act) (own : Op
 by_place b past c act own Started (Some s) last inside e =
     by_reply b past c _ act own s (answer b (firmware_values b past) c (calls.Enter s)) last inside
     refl e
-by_place b past c act own Started None last inside e = absurd (cc)
-by_place b past c act own Running s last inside e = absurd (cc)
-by_place b past c act own Stopped s last inside e = absurd (cc)
+by_place b past c act own p start last inside e = absurd (cc)
 
 by_board : (b : BoardValue) (past : List Record) (c : ℕ) (act : Act) (own : Option Sent) (t : Bool)
     → nat_lt c (cores b) ≡ t
@@ -125,11 +124,7 @@ found_opening : (b : BoardValue) (found arrived : Values) (c : ℕ) (s : Start) 
     (own : Option Opening) → found.opening c ≡ own
     → (outcome_at b found arrived c s own).act ≡ acts.Enter o.address o.context
     → found.opening c ≡ Some o
-found_opening b found arrived c s o (Some q) at e =
-    let one : q.address ≡ o.address = cc in
-    let two : q.context ≡ o.context = cc in
-    at ∙ ap (λ (k : ℕ). Some (record { address = k; context = q.context })) one
-    ∙ ap (λ (k : ℕ). Some (record { address = o.address; context = k })) two
+found_opening b found arrived c s o (Some q) at e = grind arith
 found_opening b found arrived c s o None at e =
     absurd (neither (resumes found c s) (record { act = acts.Resume; message = None })
     (stops_with (off_message b arrived c)) (acts.Enter o.address o.context) (λ no. absurd (cc))
@@ -184,14 +179,7 @@ module _ (p : PlatformValue) (r : Record) (older : List Record) (laws : OpeningL
       ≡ change p.board (entered_effect (number p mpidr) (Some entered.start)
       (acts.Enter o.address o.context) (message_in p own)) (firmware_values p.board w)
   unfolding numbered firmware_history
-  now =
-      effect_now p older r.event r.said laws.more
-      ∙ ap (λ (x : Event). change p.board (effect_in p older x r.said)
-      (firmware_values p.board w)) event
-      ∙ ap (λ (x : Said). change p.board (effect_in p older (Enter mpidr) x)
-      (firmware_values p.board w)) said
-      ∙ ap (λ (x : Option Start). change p.board (entered_effect (number p mpidr) x
-      (acts.Enter o.address o.context) (message_in p own)) (firmware_values p.board w)) entered.last
+  now = grind (arith, effect_now, event, said)
 
   older_legal : IsLegalOn p older
   unfolding numbered

@@ -1,5 +1,6 @@
 -- Sentence 4: after each legal history the openings that the firmware keeps wait, and each entry at
 -- an opening takes up one of them, or begins a life.
+use Rattle.std.proofs.Common.{false}
 use Rattle.std.proofs.Common.{◌≡◌, ℕ, ◌<◌, Bool, true, false, cond, List, [], ◌∷◌, ◌++◌, Option}
 use Rattle.std.proofs.Common.{None, Some, refl, sym, ap, ◌∙◌, subst, arith, option_map}
 use Rattle.std.specs.Prelude.{nat_lt}
@@ -11,8 +12,7 @@ use Rattle.psci_headline.specs.psci_fw_spec.declared.opening.Opening.{Opening}
 use Rattle.psci_headline.specs.psci_fw_spec.declared.outcome.Act.{Act}
 use Rattle.psci_headline.specs.psci_fw_spec.declared.outcome.Act.TheVariants as acts
 use Rattle.psci_headline.specs.psci_fw_spec.After.{change}
-use Rattle.psci_headline.specs.psci_fw_spec.Changes.{PowerOn, Rest}
-use Rattle.psci_headline.specs.psci_fw_spec.Effects.{AsksOn, Nothing, Rests, enter_effect}
+use Rattle.psci_headline.specs.psci_fw_spec.Effects.{Nothing, enter_effect}
 use Rattle.psci_headline.specs.psci_fw_spec.Legal.{IsLegal}
 use Rattle.psci_headline.specs.psci_fw_spec.Said.{arrived}
 use Rattle.psci_headline.specs.psci_messages.declared.start.Start.{Start}
@@ -23,8 +23,7 @@ use Rattle.psci_headline.specs.psci_world_spec.declared.event.Event.{Event}
 use Rattle.psci_headline.specs.psci_world_spec.declared.event.Event.TheVariants.{Call, Enter}
 use Rattle.psci_headline.specs.psci_world_spec.declared.event.Event.TheVariants.{Take}
 use Rattle.psci_headline.specs.psci_world_spec.declared.place.Place.{Place}
-use Rattle.psci_headline.specs.psci_world_spec.declared.place.Place.TheVariants.{Running, Started}
-use Rattle.psci_headline.specs.psci_world_spec.declared.place.Place.TheVariants.{Stopped}
+use Rattle.psci_headline.specs.psci_world_spec.declared.place.Place.TheVariants.{Started}
 use Rattle.psci_headline.specs.psci_world_spec.declared.said.Record.{Record}
 use Rattle.psci_headline.specs.psci_world_spec.declared.said.Said.{Said}
 use Rattle.psci_headline.specs.psci_world_spec.declared.said.Said.TheVariants.{Absent, Fw}
@@ -43,46 +42,31 @@ use Rattle.psci_platform_safe.specs.Words.{IsLegalOn, event_after, numbered, sai
 use Rattle.psci_platform_safe.specs.Words.{sent_in_numbers}
 use Rattle.psci_platform_safe.proofs.Records.{OpeningLaws, effect_in, effect_now, entered_effect}
 use Rattle.psci_platform_safe.proofs.Records.{message_in, opens_on, opens_rest, took_effect}
+use Rattle.psci_platform_safe.proofs.Calling.{opens, opens_none}
 use Rattle.psci_platform_safe.proofs.Waiting.{AreWaiting, leaves, none_one}
 
 -- Entries open nothing --------------------------------------------------------------------------
 
-enter_asks : (c d : ℕ) (s : Start) (asked : PowerOn) (act : Act) (m : Option MessageValue)
-    → enter_effect c s act m ≡ AsksOn d asked → ⊥
-enter_asks c d s asked acts.Stop (Some m) e = absurd (cc)
-enter_asks c d s asked acts.Stop None e = absurd (cc)
-enter_asks c d s asked act m e = absurd (cc)
-
-enter_rests : (c d : ℕ) (s : Start) (rest : Rest) (own : MessageValue) (act : Act)
-    (m : Option MessageValue) → enter_effect c s act m ≡ Rests d rest own → ⊥
-enter_rests c d s rest own acts.Stop (Some m) e = absurd (cc)
-enter_rests c d s rest own acts.Stop None e = absurd (cc)
-enter_rests c d s rest own act m e = absurd (cc)
+enter_opens : (c : ℕ) (s : Start) (act : Act) (m : Option MessageValue)
+    → opens (enter_effect c s act m) ≡ false
+enter_opens c s acts.Stop (Some m) = refl
+enter_opens c s act m = refl
 
 enter_arrives : (c : ℕ) (s : Start) (act : Act) (m : Option MessageValue)
     → arrived (enter_effect c s act m) ≡ Some (record { core = c; start = s })
 enter_arrives c s acts.Stop (Some m) = refl
-enter_arrives c s acts.Stop None = refl
 enter_arrives c s act m = refl
 
-took_asks : (b : BoardValue) (a : Option AckValue) (t : Taken) (d : ℕ) (asked : PowerOn)
-    → took_effect b a t ≡ AsksOn d asked → ⊥
-took_asks b None t d asked e = absurd (cc)
-took_asks b (Some a) takens.Used d asked e = absurd (cc)
-took_asks b (Some a) takens.Old d asked e = absurd (cc)
-
-took_rests : (b : BoardValue) (a : Option AckValue) (t : Taken) (d : ℕ) (rest : Rest)
-    (own : MessageValue) → took_effect b a t ≡ Rests d rest own → ⊥
-took_rests b None t d rest own e = absurd (cc)
-took_rests b (Some a) takens.Used d rest own e = absurd (cc)
-took_rests b (Some a) takens.Old d rest own e = absurd (cc)
+took_opens : (b : BoardValue) (a : Option AckValue) (t : Taken)
+    → opens (took_effect b a t) ≡ false
+took_opens b (Some a) takens.Used = refl
+took_opens b a t = refl
 
 -- a core without a start does not enter
 no_start : (b : BoardValue) (past : List Record) (c : ℕ) (p : Place) (act : Act)
     (own : Option Sent) → Fw act own ≡ if_started b past c p None → ⊥
 no_start b past c Started act own e = absurd (cc)
-no_start b past c Running act own e = absurd (cc)
-no_start b past c Stopped act own e = absurd (cc)
+no_start b past c p act own e = absurd (cc)
 
 no_start_if : (b : BoardValue) (past : List Record) (c : ℕ) (t : Bool) (act : Act)
     (own : Option Sent) → Fw act own ≡ cond t (if_started b past c (place b past c) None) Absent
@@ -104,11 +88,7 @@ module _ (p : PlatformValue) (r : Record) (older : List Record) (laws : OpeningL
       → firmware_values p.board (numbered p (r ∷ older))
       ≡ change p.board (effect_in p older event said) (firmware_values p.board w)
   unfolding numbered firmware_history
-  now_is event said e s =
-      effect_now p older r.event r.said laws.more
-      ∙ ap (λ (x : Event). change p.board (effect_in p older x r.said)
-      (firmware_values p.board w)) e
-      ∙ ap (λ (x : Said). change p.board (effect_in p older event x) (firmware_values p.board w)) s
+  now_is event said e s = grind (arith, effect_now)
 
   answered : (m : ℕ) (regs : Regs) (act : Act) (own : Option Sent) → r.event ≡ Call m regs
       → r.said ≡ Fw act own
@@ -159,10 +139,10 @@ module _ (p : PlatformValue) (r : Record) (older : List Record) (laws : OpeningL
       let same : m ≡ mpidr = cc in
       out (record { core = number p m; start = start })
       (enter_arrives (number p m) start act (message_in p own)) (ap (number p) same)))
-      (λ caller asked f to. absurd (enter_asks (number p m) caller start asked act
-      (message_in p own) f))
-      (λ rest m' f own'. absurd (enter_rests (number p m) (number p mpidr) start rest m' act
-      (message_in p own) f))
+      (λ caller asked f to. absurd (opens_none _ _ f refl
+      (enter_opens (number p m) start act (message_in p own))))
+      (λ rest m' f own'. absurd (opens_none _ _ f refl
+      (enter_opens (number p m) start act (message_in p own))))
 
   by_event : (event : Event) (said : Said) → r.event ≡ event → r.said ≡ said
       → Waits p (r ∷ older) mpidr o
@@ -175,8 +155,9 @@ module _ (p : PlatformValue) (r : Record) (older : List Record) (laws : OpeningL
       (took_effect p.board (indexed (acks w) k) t) (now_is (Take k) (Took t) e s) mpidr o is at some
       (λ out. none_one mpidr r (λ q sent ev sa.
       let no : Take k ≡ Enter mpidr = sym e ∙ ev in absurd (cc)))
-      (λ caller asked f to. absurd (took_asks p.board (indexed (acks w) k) t caller asked f))
-      (λ rest m f own. absurd (took_rests p.board (indexed (acks w) k) t (number p mpidr) rest m f))
+      (λ caller asked f to. absurd (opens_none _ _ f refl
+      (took_opens p.board (indexed (acks w) k) t)))
+      (λ rest m f own. absurd (opens_none _ _ f refl (took_opens p.board (indexed (acks w) k) t)))
   by_event event said e s =
       leaves p r older laws.names laws.core laws.boot before Nothing (now_is event said e s) mpidr o
       is at some

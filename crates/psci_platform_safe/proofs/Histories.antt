@@ -1,6 +1,6 @@
 -- A platform and its histories, for worked examples: four cores with MPIDRs in two fields and with
 -- gaps, of which one of the second cluster boots.
-use Rattle.std.proofs.Common.{ℕ, List, [], ◌∷◌}
+use Rattle.std.proofs.Common.{ℕ, List, [], ◌∷◌, ◌++◌}
 use Rattle.psci_platform.specs.declared.class.Class.TheVariants.{Retention, Standby}
 use Rattle.psci_platform.specs.Described.{DescriptionValue}
 use Rattle.psci_platform.specs.Platforms.{PlatformValue}
@@ -83,6 +83,10 @@ suspend caller word = call caller 0xc4000001 word 0x40004000 9
 abbrev pub after : List Event → List Record
 after events = run_on two [] events
 
+-- those on the platform of three levels
+abbrev pub tall_after : List Event → List Record
+tall_after events = run_on tall [] events
+
 -- and of which this was said of one more, legal or not
 abbrev pub says : List Record → Event → Said → List Record
 says past event said = record { event = event; said = said } ∷ past
@@ -107,3 +111,10 @@ tall_on =
 -- in life 2 the boot core has entered
 abbrev pub life_2 : List Event
 life_2 = Enter 0x200 ∷ system_reset 0x200 ∷ Deliver 0 ∷ Enter 0x200 ∷ []
+
+-- core 1 is on in OS-initiated mode, and in life 2
+abbrev pub on_by_the_system : List Event
+on_by_the_system = Enter 0x200 ∷ call 0x200 0x8400000f 1 0 0 ∷ on_1 ∷ Deliver 0 ∷ Enter 1 ∷ []
+
+abbrev pub on_in_life_2 : List Event
+on_in_life_2 = life_2 ++ on_1 ∷ Deliver 1 ∷ Enter 1 ∷ []

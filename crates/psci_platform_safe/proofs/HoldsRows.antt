@@ -1,132 +1,134 @@
--- Worked examples: moments of legal runs at which sentence 1 holds: on the platform of three
--- levels, in both modes, in life 2, and in a life that is halting.
-use Rattle.std.proofs.Common.{◌++◌, List, [], ◌∷◌, inl, inr, refl}
+-- Worked examples: moments of legal runs at which sentences 1, 2 and 5 hold: on the platform of
+-- three levels, in both modes, in life 2, and in a life that is halting.
+use Rattle.std.proofs.Common.{◌++◌, List, [], ◌∷◌, inl, inr, refl, arith}
+use Rattle.psci_headline.specs.ToldHw.{WasSoDeep, is_off_depth, is_standby_depth}
 use Rattle.psci_headline.specs.psci_world_spec.declared.event.Event.TheVariants.{Deliver, Enter}
 use Rattle.psci_headline.specs.psci_world_spec.declared.event.Event.TheVariants.{Take, Wake}
 use Rattle.psci_headline.specs.psci_world_spec.declared.said.Record.{Record}
-use Rattle.psci_headline.proofs.world_spec.Scripts.{call, off, system_off}
-use Rattle.psci_platform_safe.specs.Safe.{IsOff, NoneBelowSleeping}
-use Rattle.psci_platform_safe.specs.Words.{run_on}
-use Rattle.psci_platform_safe.proofs.Histories.{computing, core_1_off, core_1_on, life_2, on_1}
-use Rattle.psci_platform_safe.proofs.Histories.{suspend, tall, tall_on, two}
-use Rattle.psci_platform_safe.proofs.Moments.{cores_are}
+use Rattle.psci_headline.proofs.world_spec.Scripts.{off, system_off}
+use Rattle.psci_platform_safe.specs.Names.{domain_above}
+use Rattle.psci_platform_safe.specs.Safe.{IsOff, NoneBelowSleeping, OneLiveClaim}
+use Rattle.psci_platform_safe.specs.Words.{numbered}
+use Rattle.psci_platform_safe.proofs.Histories.{after, computing, core_1_off, core_1_on}
+use Rattle.psci_platform_safe.proofs.Histories.{on_by_the_system}
+use Rattle.psci_platform_safe.proofs.Histories.{on_in_life_2, suspend, tall, tall_after, tall_on}
+use Rattle.psci_platform_safe.proofs.Histories.{two}
+use Rattle.psci_platform_safe.proofs.Moments.{claims_are, cores_are}
 
-abbrev past_of_boot_core_alone : List Record
-past_of_boot_core_alone = run_on tall []
-    (tall_on ++ suspend 0x10100 0x02010223 ∷ Deliver 1 ∷ Take 1 ∷ [])
+-- the group of the far core is off, and the system is in retention
+abbrev group_off : List Record
+group_off = tall_after (tall_on ++ suspend 0x10100 0x02010223 ∷ Deliver 1 ∷ Take 1 ∷ [])
 
--- the boot core alone runs, beside a group that is off
-boot_core_alone : NoneBelowSleeping tall past_of_boot_core_alone
+abbrev system_retained : List Record
+system_retained = tall_after (Enter 0x100 ∷ suspend 0x100 0x03001112 ∷ Deliver 0 ∷ [])
+
+-- core 1 has slept with its cluster in OS-initiated mode, and runs again; it was woken, and has not
+-- entered, as the life halts
+abbrev on_again : List Record
+on_again = after (on_by_the_system ++ suspend 1 0x01010022 ∷ Deliver 1 ∷ Take 1 ∷ Wake 1 ∷ Enter 1
+    ∷ [])
+
+abbrev woken : List Record
+woken = after (core_1_off ++ system_off 0x200 ∷ Wake 1 ∷ [])
+
+-- it goes off in life 2, is suspended in OS-initiated mode, and has gone off as the life halts
+abbrev gone_in_life_2 : List Record
+gone_in_life_2 = after (on_in_life_2 ++ off 1 ∷ [])
+
+abbrev suspended : List Record
+suspended = after (on_by_the_system ++ suspend 1 0x01010022 ∷ [])
+
+abbrev gone_while_halting : List Record
+gone_while_halting = after (core_1_off ++ system_off 0x200 ∷ [])
+
+-- 1 ----------------------------------------------------------------------------------------------
+
+none_below_sleeping :
+    -- boot_core_alone: it runs beside a group that is off
+    NoneBelowSleeping tall group_off
+    -- both_run: the far core runs, too, at each level above it
+    × NoneBelowSleeping tall (tall_after tall_on)
+    -- runs_again_by_the_system: in OS-initiated mode
+    × NoneBelowSleeping two on_again
+    -- runs_in_life_2: core 1 runs in life 2
+    × NoneBelowSleeping two (after on_in_life_2)
+    -- woken_while_halting: while the life is halting
+    × NoneBelowSleeping two woken
 unfolding computing
-boot_core_alone =
-    cores_are tall past_of_boot_core_alone (
-      inl refl,
-      (
-        inl refl,
-        (
-          inl refl,
-          (inr (refl, (refl, (refl, (refl, tt)))), tt),
-        ),
-      ),
-    )
-
-abbrev past_of_both_run : List Record
-past_of_both_run = run_on tall [] tall_on
-
--- the far core runs, too, at each level above it
-both_run : NoneBelowSleeping tall past_of_both_run
-unfolding computing
-both_run =
-    cores_are tall past_of_both_run (
-      inr (refl, (refl, (refl, (refl, tt)))),
-      (
-        inl refl,
-        (
-          inl refl,
-          (inr (refl, (refl, (refl, (refl, tt)))), tt),
-        ),
-      ),
-    )
-
-abbrev past_of_on_again_by_the_system : List Record
-past_of_on_again_by_the_system = run_on two []
-    (Enter 0x200 ∷ call 0x200 0x8400000f 1 0 0 ∷ on_1 ∷ Deliver 0 ∷ Enter 1 ∷ suspend 1 0x01010022
-    ∷ Deliver 1 ∷ Take 1 ∷ Wake 1 ∷ Enter 1 ∷ [])
-
--- core 1 has slept with its cluster in OS-initiated mode, and runs again
-on_again_by_the_system : NoneBelowSleeping two past_of_on_again_by_the_system
-unfolding computing
-on_again_by_the_system =
-    cores_are two past_of_on_again_by_the_system (
-      inl refl,
-      (
-        inr (refl, (refl, (refl, tt))),
-        (
-          inr (refl, (refl, (refl, tt))),
-          (inl refl, tt),
-        ),
-      ),
-    )
-
-abbrev past_of_on_in_life_2 : List Record
-past_of_on_in_life_2 = run_on two [] (life_2 ++ on_1 ∷ Deliver 1 ∷ Enter 1 ∷ [])
-
--- core 1 runs in life 2
-on_in_life_2 : NoneBelowSleeping two past_of_on_in_life_2
-unfolding computing
-on_in_life_2 =
-    cores_are two past_of_on_in_life_2 (
-      inl refl,
-      (
-        inr (refl, (refl, (refl, tt))),
-        (
-          inr (refl, (refl, (refl, tt))),
-          (inl refl, tt),
-        ),
-      ),
-    )
-
-abbrev past_of_woken_while_halting : List Record
-past_of_woken_while_halting = run_on two [] (core_1_off ++ system_off 0x200 ∷ Wake 1 ∷ [])
-
--- core 1 was woken, and has not entered, as the life halts
-woken_while_halting : NoneBelowSleeping two past_of_woken_while_halting
-unfolding computing
-woken_while_halting =
-    cores_are two past_of_woken_while_halting (
-      inl refl,
-      (
-        inr (refl, (refl, (refl, tt))),
-        (
-          inl refl,
-          (inl refl, tt),
-        ),
-      ),
-    )
+none_below_sleeping = (
+  cores_are tall group_off (search (inl, inr) depth 12),
+  cores_are tall (tall_after tall_on) (search (inl, inr) depth 12),
+  cores_are two on_again (search (inl, inr)),
+  cores_are two (after on_in_life_2) (search (inl, inr)),
+  cores_are two woken (search (inl, inr)),
+)
 
 -- a core that went off does not run, and was powered down
-far_core_is_off : IsOff tall (run_on tall []
-    (tall_on ++ off 0x10100 ∷ Deliver 1 ∷ Take 1 ∷ [])) 0x10100
+off_is_down :
+    -- far_core_is_off: of three levels
+    IsOff tall (tall_after (tall_on ++ off 0x10100 ∷ Deliver 1 ∷ Take 1 ∷ [])) 0x10100
+    -- boot_core_is_off: so the boot core
+    × IsOff tall (tall_after (tall_on ++ off 0x100 ∷ Deliver 1 ∷ [])) 0x100
+    -- off_by_the_system: in OS-initiated mode
+    × IsOff two (after (on_by_the_system ++ off 1 ∷ Deliver 1 ∷ [])) 1
+    -- off_in_life_2: in life 2
+    × IsOff two (after (on_in_life_2 ++ off 1 ∷ Deliver 2 ∷ [])) 1
+    -- off_while_halting: while the life is halting
+    × IsOff two (after (core_1_on ++ off 1 ∷ system_off 0x200 ∷ Deliver 1 ∷ [])) 1
 unfolding computing
-far_core_is_off = record { stopped = λ runs. absurd (cc); down = refl }
+off_is_down = (
+  record { stopped = λ runs. absurd (cc); down = refl },
+  record { stopped = λ runs. absurd (cc); down = refl },
+  record { stopped = λ runs. absurd (cc); down = refl },
+  record { stopped = λ runs. absurd (cc); down = refl },
+  record { stopped = λ runs. absurd (cc); down = refl },
+)
 
--- so the boot core
-boot_core_is_off : IsOff tall (run_on tall [] (tall_on ++ off 0x100 ∷ Deliver 1 ∷ [])) 0x100
-unfolding computing
-boot_core_is_off = record { stopped = λ runs. absurd (cc); down = refl }
+-- 2 ----------------------------------------------------------------------------------------------
 
-off_by_the_system : IsOff two (run_on two []
-    (Enter 0x200 ∷ call 0x200 0x8400000f 1 0 0 ∷ on_1 ∷ Deliver 0 ∷ Enter 1 ∷ off 1 ∷ Deliver 1
-    ∷ [])) 1
+-- each domain that is down has a claim
+one_live_claim :
+    -- claims_of_a_group: core, cluster and group
+    OneLiveClaim tall group_off
+    -- claims_of_the_system: in retention
+    × OneLiveClaim tall system_retained
+    -- claims_in_life_2: in life 2
+    × OneLiveClaim two gone_in_life_2
+    -- claims_by_the_system: in OS-initiated mode
+    × OneLiveClaim two suspended
+    -- claims_while_halting: while the life is halting
+    × OneLiveClaim two gone_while_halting
 unfolding computing
-off_by_the_system = record { stopped = λ runs. absurd (cc); down = refl }
+one_live_claim = (
+  claims_are tall group_off (omega arith),
+  claims_are tall system_retained (omega arith),
+  claims_are two gone_in_life_2 (omega arith),
+  claims_are two suspended (omega arith),
+  claims_are two gone_while_halting (omega arith),
+)
 
-off_in_life_2 : IsOff two (run_on two []
-    (life_2 ++ on_1 ∷ Deliver 1 ∷ Enter 1 ∷ off 1 ∷ Deliver 2 ∷ [])) 1
-unfolding computing
-off_in_life_2 = record { stopped = λ runs. absurd (cc); down = refl }
+-- 5 ----------------------------------------------------------------------------------------------
 
-off_while_halting : IsOff two (run_on two []
-    (core_1_on ++ off 1 ∷ system_off 0x200 ∷ Deliver 1 ∷ [])) 1
+states_were_real :
+    -- group_was_off: a group
+    WasSoDeep tall.board is_off_depth (numbered tall group_off) (domain_above tall 0x10000 2)
+    -- core_was_off: the core in it
+    × WasSoDeep tall.board is_off_depth (numbered tall group_off) (domain_above tall 0x10100 0)
+    -- cluster_was_off: and its cluster
+    × WasSoDeep tall.board is_off_depth (numbered tall group_off) (domain_above tall 0x10100 1)
+    -- system_was_retained: the system
+    × WasSoDeep tall.board is_standby_depth (numbered tall system_retained)
+    (domain_above tall 0x300 3)
+    -- cluster_was_retained_by_the_system: in OS-initiated mode
+    × WasSoDeep two.board is_standby_depth
+    (numbered two (after (on_by_the_system ++ suspend 1 0x01010022 ∷ Deliver 1 ∷ [])))
+    (domain_above two 0 1)
+    -- core_was_off_in_life_2: in life 2
+    × WasSoDeep two.board is_off_depth
+    (numbered two (after (on_in_life_2 ++ off 1 ∷ Deliver 2 ∷ []))) (domain_above two 1 0)
+    -- core_was_off_while_halting: while the life is halting
+    × WasSoDeep two.board is_off_depth
+    (numbered two (after (core_1_on ++ off 1 ∷ system_off 0x200 ∷ Deliver 1 ∷ [])))
+    (domain_above two 1 0)
 unfolding computing
-off_while_halting = record { stopped = λ runs. absurd (cc); down = refl }
+states_were_real = (refl, refl, refl, refl, refl, refl, refl)

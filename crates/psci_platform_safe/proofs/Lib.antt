@@ -21,16 +21,10 @@ mod Openings
 mod LegalRows
 mod TallRows
 mod HoldsRows
-mod ClaimedRows
-mod OpenedRows
 mod OpenerRows
 mod WaitRows
-mod EntryRows
 mod AskedRows
 mod AskedForRows
 mod StartRows
 mod BrokenRows
-mod BrokenAxisRows
 mod DeeperRows
-mod DeeperAxisRows
-mod ExcuseRows

@@ -1,8 +1,8 @@
 -- For worked examples: the moments of a past at which a message was sent, and the cores that a
 -- platform has, each written out.
 use Rattle.std.proofs.Common.{◌≡◌, ◌==◌, ◌++◌, ◌+◌, ◌<◌, ◌≤◌, ◌⊎◌, ℕ, zero, suc, List, [], ◌∷◌}
-use Rattle.std.proofs.Common.{length, Option, None, Some, inl, inr, refl, subst, arith, true}
-use Rattle.std.proofs.Common.{false, ap}
+use Rattle.std.proofs.Common.{length, Option, None, Some, inl, inr, refl, subst, arith}
+use Rattle.std.proofs.Common.{false}
 use Rattle.std.specs.Prelude.{slice_index}
 use Rattle.std.proofs.lemmas.Bool.{cases_eq, eq-eqb}
 use Rattle.psci_platform.specs.Platforms.{PlatformValue}
@@ -13,7 +13,8 @@ use Rattle.psci_headline.specs.psci_fw_laws.Claims.{part_for}
 use Rattle.psci_headline.specs.psci_messages.Message.{MessageValue}
 use Rattle.psci_headline.specs.psci_world_spec.declared.said.Record.{Record}
 use Rattle.psci_headline.specs.psci_world_spec.Histories.{controller_values, sent_in}
-use Rattle.psci_platform_safe.specs.Asked.{AllAsk, AskFor, IsFromStart, asks, depth_above, mode_of}
+use Rattle.psci_platform_safe.specs.Asked.{AllAsk, AskFor, IsFromStart, asks}
+use Rattle.psci_platform_safe.specs.Asked.{depth_above, mode_of}
 use Rattle.psci_platform_safe.specs.Safe.{NoDeeperThanAsked, NoneBelowSleeping, OneLiveClaim}
 use Rattle.psci_platform_safe.specs.Safe.{place_of}
 use Rattle.psci_headline.specs.Claims.{live_claims}
@@ -52,9 +53,7 @@ of_none : (p : PlatformValue) (P : MessageValue → List Record → Type 0)
     (past later before : List Record) (r : Record) (m : MessageValue)
     → past ≡ later ++ (r ∷ before) → sent_in (said_in_numbers p r.said) ≡ Some m
     → OfNone p P past → P m (r ∷ before) → ⊥
-of_none p P past [] before r m e sent none =
-    not_now P (sent_in (said_in_numbers p r.said)) m (r ∷ before) (OfNone p P before) sent
-    (subst (OfNone p P) e none)
+of_none p P past [] before r m e sent none = grind (arith, not_now)
 of_none p P past (x ∷ later) before r m e sent none =
     of_none p P (later ++ (r ∷ before)) later before r m refl sent
     (not_later P (sent_in (said_in_numbers p x.said)) (x ∷ (later ++ (r ∷ before)))
@@ -170,10 +169,7 @@ cores_are p past all mpidr level is low here = elim (of_core p (IsOn p past) mpi
 
 -- domains of other places are other domains
 pub apart : (n m : Node) → (n.place == m.place) ≡ false → n ≡ m → ⊥
-apart n m e same =
-    let yes : (n.place == m.place) ≡ true =
-    eq-eqb n.place m.place (ap (λ (x : Node). x.place) same) in
-    absurd (cc)
+apart n m e same = grind (arith, eq-eqb)
 
 -- a core is not below the domain of a level, or asks at least a depth of its domain of another one
 abbrev pub Beside : PlatformValue → List Record → ℕ → ℕ → ℕ → ℕ → ℕ → Type 0

@@ -1,6 +1,6 @@
 -- The firmware's numbers and the MPIDRs of cores name each other.
 use Rattle.std.proofs.Common.{◌≡◌, ℕ, ◌*◌, ◌/◌, ◌^◌, ◌<◌, ◌≤◌, ◌==◌, Bool, true, false, cond}
-use Rattle.std.proofs.Common.{length, Option, None, Some, refl, sym, ap, ◌∙◌, subst, arith}
+use Rattle.std.proofs.Common.{length, Option, None, Some, refl, sym, ap, ◌∙◌, arith}
 use Rattle.std.specs.Prelude.{nat_le, option_map, slice_index, unwrap_or}
 use Rattle.std.specs.List.{position}
 use Rattle.std.proofs.lemmas.Bool.{eqb-true, leb-true}
@@ -73,10 +73,7 @@ number_at p mpidr place e =
 
 pub number_inside : (p : PlatformValue) (mpidr : ℕ) → Laws p → IsCore p mpidr
     → number p mpidr < cores p.board
-number_inside p mpidr laws is =
-    let at = found p mpidr 0 is.0 is.1 in
-    subst (λ (c : ℕ). c < cores p.board) (sym (number_at p mpidr is.0 is.1))
-    (core_inside p.board p.place is.0 laws.is.symmetric (omega (arith, at.inside, laws.count)))
+number_inside p mpidr laws is = grind (arith, found, number_at, core_inside)
 
 -- the MPIDR of a core's number is its own
 pub mpidr_back : (p : PlatformValue) (mpidr : ℕ) → Laws p → IsCore p mpidr
@@ -96,11 +93,7 @@ some_core p c laws inside =
 
 pub number_back : (p : PlatformValue) (c : ℕ) → Laws p → c < cores p.board
     → number p (mpidr_of p c) ≡ c
-number_back p c laws inside =
-    let place = swap_for p.board p.place 0 c in
-    number_at p (mpidr_of p c) place
-    (laws.core place (core_inside p.board p.place c laws.is.symmetric inside))
-    ∙ laws.renumbering.back 0 c
+number_back p c laws inside = grind (arith, number_at, core_inside)
 
 -- two MPIDRs of one number are one
 pub only_one : (p : PlatformValue) (mpidr other : ℕ) → Laws p → IsCore p mpidr → IsCore p other
@@ -144,6 +137,4 @@ asked_low p word level n (Some place) e at = (found p word level place e).low
 
 pub low_asked : (p : PlatformValue) (word level mpidr : ℕ) → IsAskedOf p word level mpidr
     → level ≤ height p.board
-low_asked p word level mpidr asked =
-    asked_low p word level (domain_above p mpidr level)
-    (core_named p.description p.board word level) refl asked.domain
+low_asked p word level mpidr asked = grind (arith, asked_low)

@@ -1,5 +1,5 @@
 -- For worked examples: the records by which an opening that waits may have been made.
-use Rattle.std.proofs.Common.{◌≡◌, ◌∙◌, ◌⊎◌, ◌++◌, ℕ, zero, suc, List, [], ◌∷◌, Option, None, Some}
+use Rattle.std.proofs.Common.{◌≡◌, ◌∙◌, ◌⊎◌, ◌++◌, ℕ, zero, suc, List, [], ◌∷◌, Option, Some}
 use Rattle.std.proofs.Common.{inl, inr, sym, ap, subst, arith, refl}
 use Rattle.psci_headline.specs.psci_fw_spec.declared.outcome.Act.TheVariants as acts
 use Rattle.psci_headline.specs.psci_world_spec.declared.said.Sent.{Sent}
@@ -204,10 +204,7 @@ none_before p past mpidr o (suc k) (r ∷ since) before none unused m =
 -- such an opening does not wait
 pub never_waits : (p : PlatformValue) (past : List Record) (mpidr : ℕ) (o : Opening) (k : ℕ)
     → NoneMade p past mpidr o k past → Waits p past mpidr o → ⊥
-never_waits p past mpidr o k none w =
-    none_before p past mpidr o k w.since w.before
-    (subst (NoneMade p past mpidr o k) w.split none) w.unused
-    (made p past mpidr o w.before w.made)
+never_waits p past mpidr o k none w = grind (arith, none_before, made)
 
 -- so an entry at it breaks sentence 4, if it begins no life
 pub never_enters : (p : PlatformValue) (past : List Record) (mpidr : ℕ) (o : Opening) (k : ℕ)
@@ -215,7 +212,4 @@ pub never_enters : (p : PlatformValue) (past : List Record) (mpidr : ℕ) (o : O
     → ((mpidr ≡ p.boot) × (o ≡ boot_opening p)
     × (life_of p past ≡ life_of p (says past (Enter mpidr) (enters o.address o.context)) → ⊥) → ⊥)
     → OneEntryEach p (says past (Enter mpidr) (enters o.address o.context)) → ⊥
-never_enters p past mpidr o k none other one = elim (one mpidr o None refl refl) [
-  | inl w ↦ never_waits p past mpidr o k none w
-  | inr by ↦ other by
-]
+never_enters p past mpidr o k none other one = grind (arith, never_waits)

@@ -21,7 +21,7 @@ use Rattle.psci_platform_safe.specs.Opened.{OneEntryEach}
 use Rattle.psci_platform_safe.specs.Words.{IsLegalOn, numbered}
 use Rattle.psci_platform_safe.proofs.AskedFor.{AreSound, as_asked}
 use Rattle.psci_platform_safe.proofs.Numbers.{Laws, has_above, number_inside}
-use Rattle.psci_platform_safe.proofs.Told.{AreUnknown, hw_off_told, hw_standby_told, off}
+use Rattle.psci_platform_safe.proofs.Told.{AreUnknown, hw_is_told, off}
 use Rattle.psci_platform_safe.proofs.Told.{record_for}
 
 -- What the laws below say of what is behind a platform.
@@ -85,9 +85,9 @@ states_real : (p : PlatformValue) (past : List Record) → Behind p → IsLegalO
 states_real p [] laws legal = tt
 states_real p (r ∷ past) laws legal = λ word level mpidr asked. (
   λ a. laws.told_off_hw r past (domain_above p mpidr level) legal
-      (hw_off_told p r past word level mpidr laws.names laws.missing legal asked a),
+      (hw_is_told p r past word level mpidr 1 laws.names laws.missing legal asked a),
   λ a. laws.told_standby r past (domain_above p mpidr level) legal
-      (hw_standby_told p r past word level mpidr laws.names laws.missing legal asked a),
+      (hw_is_told p r past word level mpidr 2 laws.names laws.missing legal asked a),
 )
 
 pub safe_on : (p : PlatformValue) (past : List Record) → Behind p → IsLegalOn p past

@@ -2,7 +2,7 @@
 use Rattle.std.proofs.Common.{◌≡◌, ℕ, zero, suc, ◌≤◌, ◌==◌, Bool, true, false, cond, List, ◌∷◌}
 use Rattle.std.proofs.Common.{◌++◌}
 use Rattle.std.proofs.Common.{Option, None, Some, refl, sym, ap, ◌∙◌, subst, arith, inl, inr, not}
-use Rattle.std.specs.Prelude.{Result, nat_lt, slice_index}
+use Rattle.std.specs.Prelude.{Result, slice_index}
 use Rattle.std.proofs.lemmas.Bool.{cases_Bool, eq-eqb, le-leb}
 use Rattle.psci_platform.specs.Calls.{is_there}
 use Rattle.psci_platform.specs.Described.{DescriptionValue}
@@ -11,9 +11,8 @@ use Rattle.psci_platform.specs.States.{depth_at, depths_of, states_of, word_for}
 use Rattle.psci_headline.specs.psci_abi.Calls.{request_of}
 use Rattle.psci_headline.specs.psci_abi.declared.code.Code.{Code}
 use Rattle.psci_headline.specs.psci_abi.declared.registers.Regs.{Regs}
-use Rattle.psci_headline.specs.psci_abi.declared.request.Request.{Request}
 use Rattle.psci_headline.specs.psci_abi.declared.request.Request.TheVariants as requests
-use Rattle.psci_headline.specs.psci_board.Board.{BoardValue, IsBoard, cores, height}
+use Rattle.psci_headline.specs.psci_board.Board.{BoardValue, IsBoard, height}
 use Rattle.psci_headline.specs.psci_fw_spec.declared.call.FwCall.TheVariants as calls
 use Rattle.psci_headline.specs.psci_fw_spec.declared.fault.FwFault.{FwFault}
 use Rattle.psci_headline.specs.psci_fw_spec.declared.fault.FwFault.TheVariants.{NoCore, NoLife}
@@ -23,12 +22,12 @@ use Rattle.psci_headline.specs.psci_fw_spec.declared.outcome.Outcome.{Outcome}
 use Rattle.psci_headline.specs.psci_fw_spec.declared.reply.FwReply.TheVariants as replies
 use Rattle.psci_headline.specs.psci_fw_spec.After.{change}
 use Rattle.psci_headline.specs.psci_fw_spec.Answer.{answer, reply_or}
-use Rattle.psci_headline.specs.psci_fw_spec.Calls.{call_fault, outcome_of}
+use Rattle.psci_headline.specs.psci_fw_spec.Calls.{outcome_of}
 use Rattle.psci_headline.specs.psci_fw_spec.CpuSuspend.{suspend_asked}
 use Rattle.psci_headline.specs.psci_fw_spec.Effects.{function_effect, rest_named}
 use Rattle.psci_headline.specs.psci_fw_spec.Legal.{IsLegal}
 use Rattle.psci_headline.specs.psci_fw_spec.Outcomes.{returns, stops}
-use Rattle.psci_headline.specs.psci_fw_spec.Phases.{Away, Pending, Phase, Running, Suspended}
+use Rattle.psci_headline.specs.psci_fw_spec.Phases.{Phase, Running, Suspended}
 use Rattle.psci_headline.specs.psci_fw_spec.Phases.{activity_of, is_running, unless_pending}
 use Rattle.psci_headline.specs.psci_fw_spec.Values.{Values}
 use Rattle.psci_headline.specs.psci_messages.Message.{MessageValue}
@@ -64,18 +63,14 @@ no_stop o m false code act message e =
     let no : acts.Stop ≡ acts.Return code = sym act ∙ ap (λ (x : Outcome). x.act) e in absurd (cc)
 
 running : (ph : Phase) → is_running ph ≡ true → ph ≡ Running
-running Pending e = absurd (cc)
 running Running e = refl
-running (Suspended depths) e = absurd (cc)
-running Away e = absurd (cc)
+running ph e = absurd (cc)
 
 may_call : (s t u : Bool)
     → cond (not s) (Some NoCore) (cond t (Some NoLife) (cond u None (Some NotRunning))) ≡ None
     → u ≡ true
-may_call false t u e = absurd (cc)
-may_call true true u e = absurd (cc)
 may_call true false true e = refl
-may_call true false false e = absurd (cc)
+may_call s t u e = absurd (cc)
 
 no_fault : (o out : Outcome) (fault : Option FwFault) → replies.Out o ≡ reply_or fault out
     → fault ≡ None
@@ -85,10 +80,7 @@ no_fault o out (Some fault) e = absurd (cc)
 ran : (b : BoardValue) (v : Values) (c : ℕ) (regs : Regs) (o : Outcome)
     → replies.Out o ≡ answer b v c (calls.Smc regs) → v.phase c ≡ Running
 unfolding answer
-ran b v c regs o e =
-    running (v.phase c)
-    (may_call (nat_lt c (cores b)) (v.life == 0) (is_running (v.phase c))
-    (no_fault o (outcome_of b v c (request_of regs)) (call_fault b v c) e))
+ran b v c regs o e = grind (arith, running, may_call, no_fault)
 
 -- Depths ----------------------------------------------------------------------------------------
 
@@ -170,12 +162,7 @@ module _ (p : PlatformValue) (r : Record) (older : List Record) (regs : Regs)
       ≡ change p.board (function_effect p.board c (requests.CpuSuspend asks_word entry context)
       acts.Stop (message_in p (Some sent))) v
   unfolding numbered firmware_history
-  values =
-      now r.event r.said
-      ∙ ap (λ (x : Event). change p.board (effect_in p older x r.said) v) event
-      ∙ ap (λ (x : Said). change p.board (effect_in p older (Call mpidr regs) x) v) said
-      ∙ ap (λ (q : Request). change p.board (function_effect p.board c q acts.Stop
-      (message_in p (Some sent))) v) request
+  values = grind (arith, now, event, said, request)
 
   by_states : (o : Option (List ℕ)) → states_of p.description (mode_of p older) word ≡ o
       → AsksByWord p r older mpidr word

@@ -1,11 +1,9 @@
 -- Worked examples: what is said on a platform of three levels, whose MPIDRs fall and of which the
 -- last core boots; what its cores ask there, and how deep its domains are.
-use Rattle.std.proofs.Common.{◌≡◌, ◌++◌, ℕ, false, List, [], ◌∷◌, length, map, reverse, Option}
-use Rattle.std.proofs.Common.{refl, ap, arith}
-use Rattle.std.specs.Prelude.{option_map, unwrap_or}
+use Rattle.std.proofs.Common.{◌≡◌, ◌++◌, ℕ, false, List, [], ◌∷◌, length, map, reverse}
+use Rattle.std.proofs.Common.{refl, arith}
 use Rattle.psci_platform.specs.Platforms.{IsPlatform}
 use Rattle.psci_headline.specs.Claims.{live_claims}
-use Rattle.psci_headline.specs.psci_board.declared.node.Node.{Node}
 use Rattle.psci_headline.specs.psci_messages.declared.kind.Kind.TheVariants.{Down, Off, Reset}
 use Rattle.psci_headline.specs.psci_messages.declared.kind.Kind.TheVariants.{Start}
 use Rattle.psci_headline.specs.psci_messages.declared.start.Cause.TheVariants as causes
@@ -18,6 +16,7 @@ use Rattle.psci_headline.proofs.world_spec.Scripts.{acked, asks_on, call, enters
 use Rattle.psci_headline.proofs.world_spec.Scripts.{halts, off, part, resumes, started}
 use Rattle.psci_headline.proofs.world_spec.Scripts.{system_off, system_reset, used, value}
 use Rattle.psci_platform_safe.specs.Asked.{asks, depth_above}
+use Rattle.psci_headline.proofs.Tables.{◌⇒◌, Gives}
 use Rattle.psci_platform_safe.specs.Names.{IsAskedOf, domain_above, mpidr_of, number}
 use Rattle.psci_platform_safe.specs.Words.{numbered, run_on}
 use Rattle.psci_platform_safe.proofs.Histories.{computing, state_of, status_of, suspend, tall}
@@ -29,36 +28,34 @@ is_platform : IsPlatform tall
 unfolding computing
 is_platform = record { faultless = refl; place = refl; inside = omega arith; symmetric = refl }
 
-numbers : map (number tall) (0x100 ∷ 0x300 ∷ 0x10000 ∷ 0x10100 ∷ 0x200 ∷ [])
-    ≡ 0 ∷ 1 ∷ 2 ∷ 3 ∷ 4 ∷ []
+numbers : Gives (number tall)
+    (0x100 ⇒ 0 ∷ 0x300 ⇒ 1 ∷ 0x10000 ⇒ 2 ∷ 0x10100 ⇒ 3 ∷ 0x200 ⇒ 4 ∷ [])
 unfolding computing
 numbers = refl
 
-mpidrs : map (mpidr_of tall) (0 ∷ 1 ∷ 2 ∷ 3 ∷ []) ≡ 0x100 ∷ 0x300 ∷ 0x10000 ∷ 0x10100 ∷ []
+mpidrs : Gives (mpidr_of tall) (0 ⇒ 0x100 ∷ 1 ⇒ 0x300 ∷ 2 ⇒ 0x10000 ∷ 3 ⇒ 0x10100 ∷ [])
 unfolding computing
 mpidrs = refl
 
 -- the place of a core's domain of each level
-places : map (λ level. (domain_above tall 0x10000 level).place) (0 ∷ 1 ∷ 2 ∷ 3 ∷ [])
-    ≡ 2 ∷ 2 ∷ 1 ∷ 0 ∷ []
+places : Gives (λ level. (domain_above tall 0x10000 level).place)
+    (0 ⇒ 2 ∷ 1 ⇒ 2 ∷ 2 ⇒ 1 ∷ 3 ⇒ 0 ∷ [])
 unfolding computing
 places = refl
 
--- the group of the word's upper fields, and the system
-group_asked : IsAskedOf tall 0x1ffff 2 0x10000
+-- by the word's upper fields
+asked_of :
+    -- group_asked: a group
+    IsAskedOf tall 0x1ffff 2 0x10000
+    -- system_asked: the system
+    × IsAskedOf tall 0xffffff 3 0x300
 unfolding computing
-group_asked = record { core = (1, refl); domain = refl }
-
-system_asked : IsAskedOf tall 0xffffff 3 0x300
-unfolding computing
-system_asked = record { core = (2, refl); domain = refl }
+asked_of =
+    (record { core = (1, refl); domain = refl }, record { core = (2, refl); domain = refl })
 
 other_group : IsAskedOf tall 0x0ffff 2 0x10000 → ⊥
 unfolding computing
-other_group asked =
-    let no : 0 ≡ 1 =
-    ap (λ (o : Option Node). unwrap_or (option_map (λ (n : Node). n.place) o) 9) asked.domain in
-    absurd (omega (arith, no))
+other_group = search arith
 
 -- What is said -----------------------------------------------------------------------------------
 
@@ -123,61 +120,53 @@ asked_by word =
     map (asks tall (run_on tall [] (tall_on ++ suspend 0x10100 word ∷ [])) 0x10100)
     (0 ∷ 1 ∷ 2 ∷ 3 ∷ [])
 
-words_of_the_core : map asked_by (0x00000001 ∷ 0x00000002 ∷ 0x00010003 ∷ [])
-    ≡ (1 ∷ 0 ∷ 0 ∷ 0 ∷ []) ∷ (2 ∷ 0 ∷ 0 ∷ 0 ∷ []) ∷ (3 ∷ 0 ∷ 0 ∷ 0 ∷ []) ∷ []
+words : Gives asked_by
+    (0x00000001 ⇒ (1 ∷ 0 ∷ 0 ∷ 0 ∷ [])
+    ∷ 0x00000002 ⇒ (2 ∷ 0 ∷ 0 ∷ 0 ∷ [])
+    ∷ 0x00010003 ⇒ (3 ∷ 0 ∷ 0 ∷ 0 ∷ [])
+    -- of the cluster
+    ∷ 0x01000012 ⇒ (2 ∷ 2 ∷ 0 ∷ 0 ∷ [])
+    ∷ 0x01010013 ⇒ (3 ∷ 2 ∷ 0 ∷ 0 ∷ [])
+    ∷ 0x01010023 ⇒ (3 ∷ 3 ∷ 0 ∷ 0 ∷ [])
+    -- of the group and the system
+    ∷ 0x02010113 ⇒ (3 ∷ 2 ∷ 2 ∷ 0 ∷ [])
+    ∷ 0x02010223 ⇒ (3 ∷ 3 ∷ 3 ∷ 0 ∷ [])
+    ∷ 0x03001112 ⇒ (2 ∷ 2 ∷ 2 ∷ 2 ∷ [])
+    ∷ 0x03012223 ⇒ (3 ∷ 3 ∷ 3 ∷ 3 ∷ []) ∷ [])
 unfolding computing
-words_of_the_core = refl
-
-words_of_the_cluster : map asked_by (0x01000012 ∷ 0x01010013 ∷ 0x01010023 ∷ [])
-    ≡ (2 ∷ 2 ∷ 0 ∷ 0 ∷ []) ∷ (3 ∷ 2 ∷ 0 ∷ 0 ∷ []) ∷ (3 ∷ 3 ∷ 0 ∷ 0 ∷ []) ∷ []
-unfolding computing
-words_of_the_cluster = refl
-
-words_of_the_group_and_the_system :
-    map asked_by (0x02010113 ∷ 0x02010223 ∷ 0x03001112 ∷ 0x03012223 ∷ [])
-    ≡ (3 ∷ 2 ∷ 2 ∷ 0 ∷ []) ∷ (3 ∷ 3 ∷ 3 ∷ 0 ∷ []) ∷ (2 ∷ 2 ∷ 2 ∷ 2 ∷ []) ∷ (3 ∷ 3 ∷ 3 ∷ 3 ∷ []) ∷ []
-unfolding computing
-words_of_the_group_and_the_system = refl
+words = refl
 
 -- How deep ---------------------------------------------------------------------------------------
 
 -- a core's own domains after these events, and how many live claims each has
-abbrev depths_of : ℕ → List Event → List ℕ
-depths_of mpidr events =
-    map (depth_above tall (run_on tall [] events) mpidr) (0 ∷ 1 ∷ 2 ∷ 3 ∷ [])
+abbrev depths_of : ℕ × List Event → List ℕ
+depths_of x = map (depth_above tall (run_on tall [] x.1) x.0) (0 ∷ 1 ∷ 2 ∷ 3 ∷ [])
 
-abbrev claims_of : ℕ → List Event → List ℕ
-claims_of mpidr events =
-    map (λ level. length (live_claims tall.board (numbered tall (run_on tall [] events))
-    (domain_above tall mpidr level))) (0 ∷ 1 ∷ 2 ∷ 3 ∷ [])
+abbrev claims_of : ℕ × List Event → List ℕ
+claims_of x =
+    map (λ level. length (live_claims tall.board (numbered tall (run_on tall [] x.1))
+    (domain_above tall x.0 level))) (0 ∷ 1 ∷ 2 ∷ 3 ∷ [])
 
-group_depths : depths_of 0x10100 (tall_on ++ suspend 0x10100 0x02010113 ∷ Deliver 1 ∷ [])
-    ≡ 3 ∷ 2 ∷ 2 ∷ 0 ∷ []
+-- the far core goes down with its group, and before that is carried out life 2 begins
+abbrev group_down : List Event
+group_down = tall_on ++ suspend 0x10100 0x02010113 ∷ Deliver 1 ∷ []
+
+abbrev then_life_2 : List Event
+then_life_2 = tall_on ++ suspend 0x10100 0x02010113 ∷ system_reset 0x100 ∷ Deliver 2 ∷ Enter 0x100
+    ∷ []
+
+depths : Gives depths_of
+    ((0x10100, group_down) ⇒ (3 ∷ 2 ∷ 2 ∷ 0 ∷ [])
+    -- of the core beside it in its group
+    ∷ (0x10000, group_down) ⇒ (3 ∷ 3 ∷ 2 ∷ 0 ∷ [])
+    ∷ (0x10100, tall_on) ⇒ (0 ∷ 0 ∷ 0 ∷ 0 ∷ [])
+    ∷ (0x10100, then_life_2) ⇒ (3 ∷ 3 ∷ 3 ∷ 0 ∷ []) ∷ [])
 unfolding computing
-group_depths = refl
-
-group_claims : claims_of 0x10100 (tall_on ++ suspend 0x10100 0x02010113 ∷ Deliver 1 ∷ [])
-    ≡ 1 ∷ 1 ∷ 1 ∷ 0 ∷ []
-unfolding computing
-group_claims = refl
-
--- of the core beside it in its group
-neighbour_depths : depths_of 0x10000 (tall_on ++ suspend 0x10100 0x02010113 ∷ Deliver 1 ∷ [])
-    ≡ 3 ∷ 3 ∷ 2 ∷ 0 ∷ []
-unfolding computing
-neighbour_depths = refl
-
-running_depths : depths_of 0x10100 tall_on ≡ 0 ∷ 0 ∷ 0 ∷ 0 ∷ []
-unfolding computing
-running_depths = refl
+depths = refl
 
 -- nothing of life 1 is claimed in life 2
-depths_in_life_2 : depths_of 0x10100 (tall_on ++ suspend 0x10100 0x02010113 ∷ system_reset 0x100
-    ∷ Deliver 2 ∷ Enter 0x100 ∷ []) ≡ 3 ∷ 3 ∷ 3 ∷ 0 ∷ []
+claims : Gives claims_of
+    ((0x10100, group_down) ⇒ (1 ∷ 1 ∷ 1 ∷ 0 ∷ [])
+    ∷ (0x10100, then_life_2) ⇒ (1 ∷ 1 ∷ 1 ∷ 0 ∷ []) ∷ [])
 unfolding computing
-depths_in_life_2 = refl
-
-claims_in_life_2 : claims_of 0x10100 (tall_on ++ suspend 0x10100 0x02010113 ∷ system_reset 0x100
-    ∷ Deliver 2 ∷ Enter 0x100 ∷ []) ≡ 1 ∷ 1 ∷ 1 ∷ 0 ∷ []
-unfolding computing
-claims_in_life_2 = refl
+claims = refl

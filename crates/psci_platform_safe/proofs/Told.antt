@@ -1,4 +1,6 @@
 -- Sentences 1 and 5: what AFFINITY_INFO and NODE_HW_STATE told.
+use Rattle.std.proofs.lemmas.Cmp.{int_eq_equiv}
+use Rattle.std.proofs.Common.{int_eq}
 use Rattle.std.proofs.Common.{◌≡◌, ℕ, pos, ◌∷◌, true, false, List, Option, Some, refl, ap, ◌∙◌}
 use Rattle.std.proofs.Common.{subst, inl, inr, option_map}
 use Rattle.std.proofs.lemmas.Bool.{cases_Bool}
@@ -140,38 +142,18 @@ AreUnknown p = (mode : _) (regs : Regs) (word level : ℕ)
     → p.description.functions.node_hw_state ≡ false
     → request_of (regs_for p.description p.board p.place mode regs) ≡ requests.Unknown
 
-pub hw_off_told : (p : PlatformValue) (r : Record) (past : List Record) (word level mpidr : ℕ)
+pub hw_is_told : (p : PlatformValue) (r : Record) (past : List Record) (word level mpidr code : ℕ)
     → Laws p → AreUnknown p → IsLegalOn p (r ∷ past) → IsAskedOf p word level mpidr
-    → Answers r (requests.NodeHwState level word) 1
-    → told_hw p.board 1 (record_for p past r).event (record_for p past r).said
+    → Answers r (requests.NodeHwState level word) code
+    → told_hw p.board code (record_for p past r).event (record_for p past r).said
     ≡ Some (domain_above p mpidr level)
-hw_off_told p r past word level mpidr laws none legal asked a =
-    let is = answered p r past (requests.NodeHwState level word) 1 a in
-    let regs = regs_for p.description p.board p.place (mode_of p past) is.regs in
+hw_is_told p r past word level mpidr code laws none legal asked a =
+    let is = answered p r past (requests.NodeHwState level word) code a in
     elim (cases_Bool p.description.functions.node_hw_state) [
       | inl there ↦
-          ap (λ (x : Event). told_hw p.board 1 x (record_for p past r).said) is.event
-          ∙ ap (told_hw p.board 1 (Call (number p is.caller) regs)) is.said
-          ∙ hw_named p r past word level mpidr 1 laws asked is there
+          let same : int_eq (pos code) (pos code) ≡ true = int_eq_equiv.refl (pos code) in
+          rw (is.event, is.said, same) (hw_named p r past word level mpidr code laws asked is there)
       | inr missing ↦
-          absurd (never p r past (requests.NodeHwState level word) 1 legal is
-          (none (mode_of p past) is.regs word level is.asks missing))
-    ]
-
-pub hw_standby_told : (p : PlatformValue) (r : Record) (past : List Record)
-    (word level mpidr : ℕ) → Laws p → AreUnknown p → IsLegalOn p (r ∷ past)
-    → IsAskedOf p word level mpidr → Answers r (requests.NodeHwState level word) 2
-    → told_hw p.board 2 (record_for p past r).event (record_for p past r).said
-    ≡ Some (domain_above p mpidr level)
-hw_standby_told p r past word level mpidr laws none legal asked a =
-    let is = answered p r past (requests.NodeHwState level word) 2 a in
-    let regs = regs_for p.description p.board p.place (mode_of p past) is.regs in
-    elim (cases_Bool p.description.functions.node_hw_state) [
-      | inl there ↦
-          ap (λ (x : Event). told_hw p.board 2 x (record_for p past r).said) is.event
-          ∙ ap (told_hw p.board 2 (Call (number p is.caller) regs)) is.said
-          ∙ hw_named p r past word level mpidr 2 laws asked is there
-      | inr missing ↦
-          absurd (never p r past (requests.NodeHwState level word) 2 legal is
+          absurd (never p r past (requests.NodeHwState level word) code legal is
           (none (mode_of p past) is.regs word level is.asks missing))
     ]

@@ -1,54 +1,41 @@
 -- Worked examples: openings that wait for a core, in both modes, in life 2 and in a life that is
--- halting, and such as do not.
-use Rattle.std.proofs.Common.{◌≡◌, ◌++◌, ℕ, List, [], ◌∷◌, inl, inr, refl, ap}
-use Rattle.std.proofs.Common.{arith}
-use Rattle.psci_headline.specs.psci_world_spec.declared.event.Event.{Event}
+-- halting, such as do not, and entries that break sentence 4.
+use Rattle.std.proofs.Common.{◌++◌, [], ◌∷◌, None, inl, inr, refl, arith}
 use Rattle.psci_headline.specs.psci_world_spec.declared.event.Event.TheVariants.{Deliver, Enter}
-use Rattle.psci_headline.specs.psci_world_spec.declared.said.Record.{Record}
 use Rattle.psci_headline.proofs.world_spec.Scripts.{call, enters}
 use Rattle.psci_headline.proofs.world_spec.Scripts.{system_off, system_reset}
-use Rattle.psci_platform_safe.specs.Opened.{Waits}
-use Rattle.psci_platform_safe.specs.Words.{run_on}
-use Rattle.psci_platform_safe.proofs.Histories.{after, computing, on_1, says, tall, suspend, told}
-use Rattle.psci_platform_safe.proofs.Histories.{two}
-use Rattle.psci_platform_safe.proofs.Openings.{at, by_cpu_on, by_word, never_waits, none_enters}
-use Rattle.psci_platform_safe.proofs.Openings.{waits_now, waits_since, woken}
+use Rattle.psci_platform_safe.specs.Opened.{OneEntryEach, Waits}
+use Rattle.psci_platform_safe.proofs.Histories.{after, computing, core_1_on, on_1, on_by_the_system}
+use Rattle.psci_platform_safe.proofs.Histories.{says, suspend, tall, tall_after, tall_on, told, two}
+use Rattle.psci_platform_safe.proofs.Openings.{at, by_cpu_on, by_word, never_enters, never_waits}
+use Rattle.psci_platform_safe.proofs.Openings.{none_enters, waits_now, waits_since, woken}
 
 -- Openings that wait -----------------------------------------------------------------------------
 
--- a CPU_ON, by the MPIDR of a core that is not the next one of the tree
-far_core_waits : Waits tall
-    (run_on tall [] (Enter 0x100 ∷ call 0x100 0xc4000003 0x10100 0x40001000 7 ∷ [])) 0x10100
+waiting :
+    -- asked_on_waits: a CPU_ON opens what it asks to the core with its MPIDR
+    Waits two (after (Enter 0x200 ∷ on_1 ∷ [])) 1 (at 0x40001000 7)
+    -- far_core_waits: also to a core that is not the next one of the tree
+    × Waits tall (tall_after (Enter 0x100 ∷ call 0x100 0xc4000003 0x10100 0x40001000 7 ∷ []))
+    0x10100 (at 0x40001000 7)
+    -- suspended_waits: a suspend by a word that powers down opens it to its caller
+    × Waits two (after (core_1_on ++ suspend 1 0x00010002 ∷ [])) 1 (at 0x40004000 9)
+    -- waits_by_the_system: by a word that is one in OS-initiated mode alone
+    × Waits two (after (on_by_the_system ++ suspend 1 0x01010022 ∷ [])) 1 (at 0x40004000 9)
+    -- waits_while_halting: what was asked on before the life was halting
+    × Waits two (after (Enter 0x200 ∷ on_1 ∷ system_off 0x200 ∷ [])) 1 (at 0x40001000 7)
+    -- waits_beside_another: the entry of another core does not use it up
+    × Waits two (says (after (Enter 0x200 ∷ on_1 ∷ [])) (Enter 0) (enters 0x40001000 7)) 1
     (at 0x40001000 7)
 unfolding computing
-far_core_waits = waits_now _ _ _ _ _ (inl (by_cpu_on _ _ _ _ _ refl))
-
--- a suspend by a word that is one in OS-initiated mode alone
-waits_by_the_system : Waits two (after (Enter 0x200 ∷ call 0x200 0x8400000f 1 0 0 ∷ on_1 ∷ Deliver 0
-    ∷ Enter 1 ∷ suspend 1 0x01010022 ∷ [])) 1 (at 0x40004000 9)
-unfolding computing
-waits_by_the_system =
-    waits_now _ _ _ _ _ (inr (by_word _ _ _ 0x01010022 (2 ∷ 2 ∷ 0 ∷ 0 ∷ []) _ _ _ refl refl refl))
-
--- which core an event is of
-abbrev core_in : Event → ℕ
-core_in (Enter c) = c
-core_in event = 0
-
--- what was asked on before the life was halting
-waits_while_halting : Waits two (after (Enter 0x200 ∷ on_1 ∷ system_off 0x200 ∷ [])) 1
-    (at 0x40001000 7)
-unfolding computing
-waits_while_halting =
-    waits_since _ _ _ _ _ _ (λ e. absurd (cc)) refl (inl (by_cpu_on _ _ _ _ _ refl))
-
--- the entry of another core does not use it up
-waits_beside_another : Waits two
-    (says (after (Enter 0x200 ∷ on_1 ∷ [])) (Enter 0) (enters 0x40001000 7)) 1 (at 0x40001000 7)
-unfolding computing
-waits_beside_another =
-    waits_since _ _ _ _ _ _ (λ e. let no : 0 ≡ 1 = ap core_in e in absurd (omega (arith, no))) refl
-    (inl (by_cpu_on _ _ _ _ _ refl))
+waiting = (
+  waits_now _ _ _ _ _ (inl (by_cpu_on _ _ _ _ _ refl)),
+  waits_now _ _ _ _ _ (inl (by_cpu_on _ _ _ _ _ refl)),
+  waits_now _ _ _ _ _ (inr (by_word _ _ _ 0x00010002 (2 ∷ 0 ∷ 0 ∷ 0 ∷ []) _ _ _ refl refl refl)),
+  waits_now _ _ _ _ _ (inr (by_word _ _ _ 0x01010022 (2 ∷ 2 ∷ 0 ∷ 0 ∷ []) _ _ _ refl refl refl)),
+  waits_since _ _ _ _ _ _ (search arith) refl (inl (by_cpu_on _ _ _ _ _ refl)),
+  waits_since _ _ _ _ _ _ (search arith) refl (inl (by_cpu_on _ _ _ _ _ refl)),
+)
 
 -- core 1 begins life 2 as the first one: the boot core's opening waits
 boot_core_waits : Waits two (after (woken ++ Enter 1 ∷ [])) 0x200 (at 0x40000000 0)
@@ -57,50 +44,58 @@ boot_core_waits = record {
   since = told two (after woken) (Enter 1) ∷ [];
   before = after woken;
   split = refl;
-  unused = none_enters 0x200 (told two (after woken) (Enter 1))
-      (λ e. let no : 1 ≡ 0x200 = ap core_in e in absurd (omega (arith, no)));
-  made = inr (refl, refl, λ same. let no : 1 ≡ 2 = same in absurd (omega (arith, no)));
+  unused = none_enters 0x200 (told two (after woken) (Enter 1)) (search arith);
+  made = inr (refl, refl, search arith);
 }
 
 -- Openings that do not ---------------------------------------------------------------------------
 
--- that of a life before
-abbrev reset_after_on : List Record
-reset_after_on =
-    after (Enter 0x200 ∷ on_1 ∷ system_reset 0x200 ∷ Deliver 1 ∷ Enter 0x200 ∷ [])
-
-of_the_life_before : Waits two reset_after_on 1 (at 0x40001000 7) → ⊥
+never_waiting :
+    -- of_the_life_before: that of a life before
+    (Waits two (after (Enter 0x200 ∷ on_1 ∷ system_reset 0x200 ∷ Deliver 1 ∷ Enter 0x200 ∷ [])) 1
+    (at 0x40001000 7) → ⊥)
+    -- not_for_another_core: the boot core's opening waits for no other core
+    × (Waits two (after (woken ++ Enter 1 ∷ [])) 1 (at 0x40000000 0) → ⊥)
 unfolding computing
-of_the_life_before =
-    let other : 1 ≡ 0x200 → ⊥ = λ e. absurd (omega (arith, e)) in
-    let older : 1 ≡ 2 → ⊥ = λ e. absurd (omega (arith, e)) in
-    never_waits two reset_after_on 1 (at 0x40001000 7) 5 (
-      (inl refl, inl other),
-      (
-        (inr older, inl other),
-        (
-          (inr older, inl other),
-          ((inr older, inl other), ((inr older, inl other), λ m. other m.0)),
-        ),
-      ),
-    )
+never_waiting = (
+  never_waits _ _ 1 (at 0x40001000 7) 5 (search (arith, inl, inr)),
+  never_waits _ _ 1 (at 0x40000000 0) 5 (search (arith, inl, inr)),
+)
 
--- the boot core's opening waits for no other core
-abbrev parked : List Record
-parked = after (woken ++ Enter 1 ∷ [])
+-- Entries that break sentence 4 ------------------------------------------------------------------
 
-not_for_another_core : Waits two parked 1 (at 0x40000000 0) → ⊥
+-- by core, life and entry point, and by what was used up
+one_entry_each :
+    -- enters_again: core 1 enters once more where it was asked on
+    (OneEntryEach two (says (after core_1_on) (Enter 1) (enters 0x40001000 7)) → ⊥)
+    -- far_core_enters_again: so does the far core of three levels
+    × (OneEntryEach tall (says (tall_after tall_on) (Enter 0x10100) (enters 0x40001000 7)) → ⊥)
+    -- enters_by_the_system: and core 1 in OS-initiated mode
+    × (OneEntryEach two (says (after on_by_the_system) (Enter 1) (enters 0x40001000 7)) → ⊥)
+    -- enters_while_halting: and in a life that is halting
+    × (OneEntryEach two (says (after (core_1_on ++ system_off 0x200 ∷ [])) (Enter 1)
+    (enters 0x40001000 7)) → ⊥)
+    -- boots_again: the boot core enters twice in one life
+    × (OneEntryEach two (says (after (Enter 0x200 ∷ [])) (Enter 0x200) (enters 0x40000000 0)) → ⊥)
+    -- boots_elsewhere: or begins a life at another address
+    × (OneEntryEach two (says [] (Enter 0x200) (enters 0x40001000 0)) → ⊥)
+    -- another_core_boots: another core enters where the boot core does
+    × (OneEntryEach two (says [] (Enter 1) (enters 0x40000000 0)) → ⊥)
+    -- begins_life_2: also as the first one of life 2
+    × (OneEntryEach two (says (after woken) (Enter 1) (enters 0x40000000 0)) → ⊥)
 unfolding computing
-not_for_another_core =
-    let other : 1 ≡ 0x200 → ⊥ = λ e. absurd (omega (arith, e)) in
-    let older : 1 ≡ 2 → ⊥ = λ e. absurd (omega (arith, e)) in
-    never_waits two parked 1 (at 0x40000000 0) 5 (
-      (inl refl, inl other),
-      (
-        (inr older, inl other),
-        (
-          (inr older, inl other),
-          ((inr older, inl other), ((inr older, inl other), λ m. other m.0)),
-        ),
-      ),
-    )
+one_entry_each = (
+  never_enters _ _ 1 (at 0x40001000 7) 0 ((inl refl, search (arith, inl)), refl, None, refl)
+      (search arith),
+  never_enters _ _ 0x10100 (at 0x40001000 7) 0 ((inl refl, search (arith, inl)), refl, None, refl)
+      (search arith),
+  never_enters _ _ 1 (at 0x40001000 7) 0 ((inl refl, search (arith, inl)), refl, None, refl)
+      (search arith),
+  never_enters _ _ 1 (at 0x40001000 7) 1
+      (search (arith, inl), ((inl refl, search (arith, inl)), refl, None, refl)) (search arith),
+  never_enters _ _ 0x200 (at 0x40000000 0) 0 ((inl refl, inr refl), refl, None, refl)
+      (λ by. by.2 refl),
+  never_enters _ _ 0x200 (at 0x40001000 0) 0 (search arith) (search arith),
+  never_enters _ _ 1 (at 0x40000000 0) 0 (search arith) (search arith),
+  never_enters _ _ 1 (at 0x40000000 0) 4 (search (arith, inl, inr)) (search arith),
+)

@@ -1,4 +1,9 @@
 -- The firmware's numbers and the MPIDRs of cores name each other.
+use Rattle.psci_platform.specs.Platforms.{IsPlatform, PlatformValue}
+use Rattle.psci_platform.specs.Cores.{boot_place}
+use Rattle.psci_headline.specs.psci_board.Board.{IsBoard}
+use Rattle.psci_platform_safe.proofs.Named.{AtBoot}
+use Rattle.psci_platform_safe.proofs.Numbers.{Laws}
 use Rattle.std.proofs.Common.{◌<◌, ℕ, sym, subst}
 use Rattle.psci_headline.specs.psci_board.Board.{cores}
 use Rattle.psci_platform_safe.proofs.Named.{boot_number, laws_of, some_cores}
@@ -6,44 +11,32 @@ use Rattle.psci_platform_safe.proofs.Numbers.{is_core, mpidr_back, number_back, 
 use Rattle.psci_platform_safe.proofs.Numbers.{some_core}
 use Rattle.psci_platform_safe.proofs.laws.law_numbers.Goals as goal
 
-pub returns-clause-core : goal.returns-clause-core
-returns-clause-core c = λ p mpidr board is it.
-    let d = p.description in
-    let laws = laws_of p board is (c.law_paths.ensures p.board board)
-    (c.law_words.ensures p.board board) (c.law_mpidrs.ensures.count d p.board p.boot is.faultless)
-    (λ k. c.law_mpidrs.ensures.core d p.board p.boot k is.faultless)
-    (record {
-      renumbering = c.law_boot_core.ensures.renumbering d p.board p.boot board is.faultless;
-      core_of = λ mpidr. c.law_named.ensures.core d p.board p.boot mpidr board is.faultless;
-      node_of = λ word level. c.law_named.ensures.node d p.board p.boot word level board
+pub returns : goal.returns
+returns c =
+    let at : (p : PlatformValue) → IsBoard p.board → IsPlatform p
+    → AtBoot p (boot_place p.description p.board p.boot) = λ p board is. record {
+      renumbering = c.law_boot_core.ensures.renumbering p.description p.board p.boot board
           is.faultless;
-      boot = c.law_mpidrs.ensures.boot d p.board p.boot board is.faultless;
-    }) in
-    (number_inside p mpidr laws it, mpidr_back p mpidr laws it)
-
-pub returns-clause-number : goal.returns-clause-number
-returns-clause-number c = λ p k board is inside.
-    let d = p.description in
-    let laws = laws_of p board is (c.law_paths.ensures p.board board)
-    (c.law_words.ensures p.board board) (c.law_mpidrs.ensures.count d p.board p.boot is.faultless)
-    (λ k. c.law_mpidrs.ensures.core d p.board p.boot k is.faultless)
-    (record {
-      renumbering = c.law_boot_core.ensures.renumbering d p.board p.boot board is.faultless;
-      core_of = λ mpidr. c.law_named.ensures.core d p.board p.boot mpidr board is.faultless;
-      node_of = λ word level. c.law_named.ensures.node d p.board p.boot word level board
+      core_of = λ mpidr. c.law_named.ensures.core p.description p.board p.boot mpidr board
           is.faultless;
-      boot = c.law_mpidrs.ensures.boot d p.board p.boot board is.faultless;
-    }) in
-    (some_core p k laws inside, number_back p k laws inside)
-
-pub returns-clause-boot : goal.returns-clause-boot
-returns-clause-boot c = λ p board is.
-    let d = p.description in
-    let zero = boot_number p is (record {
-      renumbering = c.law_boot_core.ensures.renumbering d p.board p.boot board is.faultless;
-      core_of = λ mpidr. c.law_named.ensures.core d p.board p.boot mpidr board is.faultless;
-      node_of = λ word level. c.law_named.ensures.node d p.board p.boot word level board
+      node_of = λ word level. c.law_named.ensures.node p.description p.board p.boot word level board
           is.faultless;
-      boot = c.law_mpidrs.ensures.boot d p.board p.boot board is.faultless;
-    }) in
-    (is_core p p.boot (subst (λ (k : ℕ). k < cores p.board) (sym zero) (some_cores p is)), zero)
+      boot = c.law_mpidrs.ensures.boot p.description p.board p.boot board is.faultless;
+    } in
+    let laws : (p : PlatformValue) → IsBoard p.board → IsPlatform p → Laws p = λ p board is.
+    laws_of p board is (c.law_paths.ensures p.board board) (c.law_words.ensures p.board board)
+    (c.law_mpidrs.ensures.count p.description p.board p.boot is.faultless)
+    (λ k. c.law_mpidrs.ensures.core p.description p.board p.boot k is.faultless) (at p board is) in
+    record {
+      core = λ p mpidr board is it. (
+        number_inside p mpidr (laws p board is) it,
+        mpidr_back p mpidr (laws p board is) it,
+      );
+      number = λ p k board is inside.
+          (some_core p k (laws p board is) inside, number_back p k (laws p board is) inside);
+      boot = λ p board is.
+          let zero = boot_number p is (at p board is) in (
+            is_core p p.boot (subst (λ (k : ℕ). k < cores p.board) (sym zero) (some_cores p is)),
+            zero,
+          );
+    }
