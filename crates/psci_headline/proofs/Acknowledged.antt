@@ -4,35 +4,19 @@ use Rattle.std.proofs.Common.{◌==◌, List, [], ◌∷◌, ◌++◌, take, Opt
 use Rattle.std.proofs.Common.{subst, ap, sym, ◌∙◌}
 use Rattle.std.specs.Prelude.{slice_get}
 use Rattle.std.proofs.lemmas.Bool.{and_parts, eqb-true}
-use Rattle.psci_board.specs.Board.{BoardValue, HasNode, up}
-use Rattle.psci_board.specs.Laws.{PathLaws}
-use Rattle.psci_board.specs.declared.node.Node.{Node}
+use Rattle.psci_headline.proofs.Words.{BoardValue, HasNode, up, PathLaws, Node, Deepens}
+use Rattle.psci_headline.proofs.Words.{message_effect, applied, ack_by, starts_below, confirms_on}
+use Rattle.psci_headline.proofs.Words.{AreValues, hw_at, listed, Values, AckValue, MessageValue}
+use Rattle.psci_headline.proofs.Words.{OfCore, is_kind, slot_of, NonePending, Holds, known_below}
+use Rattle.psci_headline.proofs.Words.{WasMade, Record, controller_values, firmware_values, sent_in}
+use Rattle.psci_headline.proofs.Words.{was_in_state}
 use Rattle.psci_ctl_spec.specs.Changes.{change}
-use Rattle.psci_ctl_spec.specs.Effects.{Deepens, message_effect}
-use Rattle.psci_ctl_spec.specs.Parts.{applied}
-use Rattle.psci_ctl_spec.specs.Replies.{ack_by}
 use Rattle.psci_ctl_spec.specs.Values as controlled
-use Rattle.psci_ctl_spec.specs.Values.{starts_below}
-use Rattle.psci_fw_laws.specs.psci_fw_spec.Changes.{confirms_on}
-use Rattle.psci_fw_laws.specs.psci_fw_spec.Invariant.{AreValues}
-use Rattle.psci_fw_laws.specs.psci_fw_spec.NodeHwState.{hw_at}
-use Rattle.psci_fw_laws.specs.psci_fw_spec.Said.{listed}
-use Rattle.psci_fw_laws.specs.psci_fw_spec.Values.{Values}
 use Rattle.psci_ctl_spec.specs.psci_messages.declared.kind.Kind.TheVariants as kinds
-use Rattle.psci_ctl_spec.specs.psci_messages.Message.{AckValue}
-use Rattle.psci_ctl_spec.specs.psci_messages.Message.{MessageValue}
-use Rattle.psci_ctl_spec.specs.psci_messages.Slots.{OfCore, is_kind, slot_of}
 use Rattle.psci_fw_laws.specs.Allowed.{IsAwaited}
-use Rattle.psci_fw_laws.specs.Granted.{NonePending}
-use Rattle.psci_fw_laws.specs.Kept.{Holds}
-use Rattle.psci_fw_laws.specs.KnownBelow.{known_below}
 use Rattle.psci_fw_laws.proofs.Consequences.{none_active, once_down}
 use Rattle.psci_fw_laws.proofs.Parts.{part_from}
-use Rattle.psci_headline.specs.Acknowledged.{WasMade}
-use Rattle.psci_world_spec.specs.declared.said.Record.{Record}
-use Rattle.psci_world_spec.specs.Histories.{controller_values, firmware_values}
-use Rattle.psci_world_spec.specs.Histories.{sent, sent_in}
-use Rattle.psci_headline.specs.Hardware.{was_in_state}
+use Rattle.psci_world_spec.specs.Histories.{sent}
 use Rattle.psci_headline.proofs.Acknowledging.{IsAckOf, acks_message}
 use Rattle.psci_headline.proofs.Applied.{is_down, confirming, levels, applied_live, laid_at}
 use Rattle.psci_headline.proofs.Applied.{Confirms}

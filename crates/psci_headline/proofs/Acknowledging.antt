@@ -4,27 +4,18 @@ use Rattle.std.proofs.Common.{List, [], ◌∷◌, length, take, Some, refl, sub
 use Rattle.std.proofs.Common.{sym, ◌∙◌, arith}
 use Rattle.std.specs.Prelude.{nat_le, slice_get}
 use Rattle.std.proofs.lemmas.Bool.{and_from, eq-eqb, le-leb}
-use Rattle.psci_board.specs.Board.{BoardValue, cores, height, up}
-use Rattle.psci_fw_laws.specs.psci_messages.declared.part.Part.{Part}
+use Rattle.psci_headline.proofs.Words.{BoardValue, cores, height, up, Part, Deepens, message_effect}
+use Rattle.psci_headline.proofs.Words.{depth_or, laid, ack_by, ack_of, may_follow, Phase, Away}
+use Rattle.psci_headline.proofs.Words.{Pending, Values, Kind, AckValue, ArePartsOf, AreClaims}
+use Rattle.psci_headline.proofs.Words.{MessageValue, Holds, known_below, Record, controller_values}
+use Rattle.psci_headline.proofs.Words.{firmware_values, sent}
 use Rattle.psci_ctl_spec.specs.Changes.{change}
-use Rattle.psci_ctl_spec.specs.Effects.{Deepens, message_effect}
-use Rattle.psci_ctl_spec.specs.Parts.{depth_or, laid}
-use Rattle.psci_ctl_spec.specs.Replies.{ack_by, ack_of, may_follow}
 use Rattle.psci_ctl_spec.specs.Values as controlled
 use Rattle.psci_ctl_spec.proofs.Front.{get_take}
-use Rattle.psci_fw_laws.specs.psci_fw_spec.Phases.{Phase, Away, Pending, Running, activity_of}
-use Rattle.psci_fw_laws.specs.psci_fw_spec.Values.{Values}
-use Rattle.psci_ctl_spec.specs.psci_messages.declared.kind.Kind.{Kind}
+use Rattle.psci_fw_laws.specs.psci_fw_spec.Phases.{Running, activity_of}
 use Rattle.psci_ctl_spec.specs.psci_messages.declared.kind.Kind.TheVariants as kinds
-use Rattle.psci_ctl_spec.specs.psci_messages.Message.{AckValue, ArePartsOf, AreClaims}
-use Rattle.psci_ctl_spec.specs.psci_messages.Message.{MessageValue}
 use Rattle.psci_fw_laws.specs.psci_messages.psci_state.Cores.{asks}
-use Rattle.psci_fw_laws.specs.Kept.{Holds}
-use Rattle.psci_fw_laws.specs.KnownBelow.{known_below}
 use Rattle.psci_fw_laws.proofs.Parts.{part_from}
-use Rattle.psci_world_spec.specs.declared.said.Record.{Record}
-use Rattle.psci_world_spec.specs.Histories.{controller_values, firmware_values}
-use Rattle.psci_world_spec.specs.Histories.{sent}
 use Rattle.psci_headline.specs.PoweredDown.{IsDownBy}
 use Rattle.psci_headline.proofs.Deliveries.{IsNew}
 use Rattle.psci_headline.proofs.Slept.{asleep_from, slept_now}

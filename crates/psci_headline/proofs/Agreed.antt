@@ -1,46 +1,26 @@
 -- Firmware and power controller agree after every legal run.
 use Rattle.std.proofs.Common.{◌≡◌, ℕ, List, [], ◌∷◌, ◌++◌, Option, None, Some, option_map, refl}
 use Rattle.std.proofs.Common.{unwrap_or, arith, subst, sym}
-use Rattle.psci_world_spec.specs.psci_abi.Calls.{request_of}
-use Rattle.psci_world_spec.specs.psci_abi.declared.registers.Regs.{Regs}
-use Rattle.psci_board.specs.Board.{BoardValue}
+use Rattle.psci_headline.proofs.Words.{request_of, Regs, BoardValue, MayFollow, last_start, reply}
+use Rattle.psci_headline.proofs.Words.{Start, AckValue, MessageValue, Taken, change}
+use Rattle.psci_headline.proofs.Words.{function_effect, effect, IsLegal, in_life, start_of_life}
+use Rattle.psci_headline.proofs.Words.{Values, IsAllowed, Event, Call, Enter, Wake, Reset, Deliver}
+use Rattle.psci_headline.proofs.Words.{Take, Place, Record, Said, acks, control, controller_values}
+use Rattle.psci_headline.proofs.Words.{delivered, entered, firmware_values, outcome_in, sent, took}
+use Rattle.psci_headline.proofs.Words.{IsLegalPast, legal, indexed, Agree, AgreeIn}
 use Rattle.psci_ctl_spec.specs.declared.call.CtlCall.{CtlCall}
 use Rattle.psci_ctl_spec.specs.Changes as controlling
 use Rattle.psci_ctl_spec.specs.Effects as controlling_effects
 use Rattle.psci_ctl_spec.specs.Exchange as controller
-use Rattle.psci_ctl_spec.specs.Follows.{MayFollow}
 use Rattle.psci_ctl_spec.specs.History as controls
 use Rattle.psci_ctl_spec.specs.Legal as legal_controls
-use Rattle.psci_ctl_spec.specs.Replies.{last_start, reply}
 use Rattle.psci_ctl_spec.specs.Values as controlled
-use Rattle.psci_ctl_spec.specs.psci_messages.declared.start.Start.{Start}
-use Rattle.psci_ctl_spec.specs.psci_messages.Message.{AckValue, MessageValue}
-use Rattle.psci_ctl_spec.specs.psci_messages.declared.taken.Taken.{Taken}
 use Rattle.psci_ctl_spec.specs.psci_messages.declared.taken.Taken.TheVariants as takens
-use Rattle.psci_fw_laws.specs.psci_fw_spec.After.{change}
-use Rattle.psci_fw_laws.specs.psci_fw_spec.Effects.{function_effect}
 use Rattle.psci_fw_laws.specs.psci_fw_spec.Exchange as firmware
-use Rattle.psci_fw_laws.specs.psci_fw_spec.Exchange.{effect}
 use Rattle.psci_fw_laws.specs.psci_fw_spec.History as remembers
-use Rattle.psci_fw_laws.specs.psci_fw_spec.Legal.{IsLegal}
-use Rattle.psci_fw_laws.specs.psci_fw_spec.Lives.{in_life, start_of_life}
-use Rattle.psci_fw_laws.specs.psci_fw_spec.Values.{Values}
-use Rattle.psci_fw_laws.specs.Allowed.{IsAllowed}
-use Rattle.psci_world_spec.specs.declared.event.Event.{Event}
-use Rattle.psci_world_spec.specs.declared.event.Event.TheVariants.{Call, Enter, Wake, Reset}
-use Rattle.psci_world_spec.specs.declared.event.Event.TheVariants.{Deliver, Take}
-use Rattle.psci_world_spec.specs.declared.place.Place.{Place}
-use Rattle.psci_world_spec.specs.declared.said.Record.{Record}
-use Rattle.psci_world_spec.specs.declared.said.Said.{Said}
 use Rattle.psci_world_spec.specs.declared.said.Said.TheVariants as said
-use Rattle.psci_world_spec.specs.Histories.{acks, control, controller_history}
-use Rattle.psci_world_spec.specs.Histories.{controller_values, delivered, entered}
-use Rattle.psci_world_spec.specs.Histories.{firmware_history, firmware_values, outcome_in, sent}
-use Rattle.psci_world_spec.specs.Histories.{took}
-use Rattle.psci_world_spec.specs.Legal.{IsLegalPast, legal}
-use Rattle.psci_world_spec.specs.Lists.{indexed}
+use Rattle.psci_world_spec.specs.Histories.{controller_history, firmware_history}
 use Rattle.psci_world_spec.specs.Places.{first_place, place, place_controlled, place_said}
-use Rattle.psci_headline.specs.Agreement.{Agree, AgreeIn}
 use Rattle.psci_headline.proofs.Agreeing.{AreAgreed, at_start, control_agrees}
 use Rattle.psci_headline.proofs.Controlling.{after_control, more_controls}
 use Rattle.psci_headline.proofs.Happening.{called, entered_by}

@@ -4,20 +4,15 @@ use Rattle.std.proofs.Common.{◌≡◌, ℕ, ◌+◌, ◌<◌, ◌≤◌, ◌==
 use Rattle.std.proofs.Common.{Option, None, Some, unwrap_or, arith, subst, ap, sym, ◌∙◌}
 use Rattle.std.proofs.lemmas.Bool.{cond-true, cond-false, eq-eqb}
 use Rattle.std.proofs.lemmas.Bool.{ne_eqb}
-use Rattle.psci_board.specs.Board.{BoardValue}
-use Rattle.psci_ctl_spec.specs.Changes.{change, next_life, one_more}
-use Rattle.psci_ctl_spec.specs.Effects.{Effect, Nothing, Starts, Deepens, Ends, Begins}
-use Rattle.psci_ctl_spec.specs.Follows.{MayFollow}
+use Rattle.psci_headline.proofs.Words.{BoardValue, next_life, one_more, Nothing, Starts, Deepens}
+use Rattle.psci_headline.proofs.Words.{Ends, Begins, MayFollow, first_starts, in_life}
+use Rattle.psci_headline.proofs.Words.{start_of_life, Values, Place, Started, Running}
+use Rattle.psci_headline.proofs.Words.{Stopped, place_of_effect, AgreeIn}
+use Rattle.psci_ctl_spec.specs.Changes.{change}
+use Rattle.psci_ctl_spec.specs.Effects.{Effect}
 use Rattle.psci_ctl_spec.specs.Values as controlled
-use Rattle.psci_ctl_spec.specs.Values.{first_starts}
-use Rattle.psci_fw_laws.specs.psci_fw_spec.Lives.{in_life, start_of_life}
 use Rattle.psci_fw_laws.specs.psci_fw_spec.Phases as phases
-use Rattle.psci_fw_laws.specs.psci_fw_spec.Phases.{Phase}
-use Rattle.psci_fw_laws.specs.psci_fw_spec.Values.{Values}
-use Rattle.psci_world_spec.specs.declared.place.Place.{Place}
-use Rattle.psci_world_spec.specs.declared.place.Place.TheVariants.{Started, Running, Stopped}
-use Rattle.psci_world_spec.specs.Places.{first_place, place_of_effect}
-use Rattle.psci_headline.specs.Agreement.{AgreeIn}
+use Rattle.psci_world_spec.specs.Places.{first_place}
 
 -- What both know of each other, said of their values and of the places.
 pub record AreAgreed (b : BoardValue) (w : controlled.Values) (place : ℕ → Place) (v : Values)

@@ -4,26 +4,17 @@ use Rattle.std.proofs.Common.{◌==◌, cond, List, [], ◌∷◌, Some, refl, s
 use Rattle.std.proofs.Common.{sym, ◌∙◌, arith}
 use Rattle.std.specs.Prelude.{nat_le, slice_get}
 use Rattle.std.proofs.lemmas.Bool.{and_parts, eqb-false, eqb-true, ne_eqb, and_right}
-use Rattle.psci_board.specs.Board.{BoardValue, height, up}
+use Rattle.psci_headline.proofs.Words.{BoardValue, height, up, Values, Down, AckValue, MessageValue}
+use Rattle.psci_headline.proofs.Words.{OfCore, is_kind, slot_of, IsAllowed, Holds, Record, ack_in}
+use Rattle.psci_headline.proofs.Words.{controller_values, firmware_values, sent, IsLegalPast, Agree}
+use Rattle.psci_headline.proofs.Words.{was_powered_down, is_reported_off}
 use Rattle.psci_ctl_spec.specs.History as controls
 use Rattle.psci_ctl_spec.specs.Values as controlled
 use Rattle.psci_fw_laws.specs.psci_fw_spec.declared.status.Status.TheVariants as statuses
 use Rattle.psci_fw_laws.specs.psci_fw_spec.History as remembers
-use Rattle.psci_fw_laws.specs.psci_fw_spec.Values.{Values}
-use Rattle.psci_ctl_spec.specs.psci_messages.declared.kind.Kind.TheVariants.{Down}
-use Rattle.psci_ctl_spec.specs.psci_messages.Message.{AckValue, MessageValue}
-use Rattle.psci_ctl_spec.specs.psci_messages.Slots.{OfCore, is_kind, slot_of}
-use Rattle.psci_fw_laws.specs.Allowed.{IsAllowed, IsAwaited}
-use Rattle.psci_fw_laws.specs.Kept.{Holds}
-use Rattle.psci_world_spec.specs.declared.said.Record.{Record}
-use Rattle.psci_world_spec.specs.Histories.{ack_in, acks, controller_history}
-use Rattle.psci_world_spec.specs.Histories.{controller_values, firmware_history}
-use Rattle.psci_world_spec.specs.Histories.{firmware_values}
-use Rattle.psci_world_spec.specs.Histories.{sent}
-use Rattle.psci_world_spec.specs.Legal.{IsLegalPast}
+use Rattle.psci_fw_laws.specs.Allowed.{IsAwaited}
+use Rattle.psci_world_spec.specs.Histories.{acks, controller_history, firmware_history}
 use Rattle.psci_world_spec.proofs.Answered.{firmware_legal}
-use Rattle.psci_headline.specs.Agreement.{Agree}
-use Rattle.psci_headline.specs.Moments.{was_powered_down, is_reported_off}
 use Rattle.psci_headline.specs.PoweredDown.{AreDown}
 use Rattle.psci_headline.proofs.Acknowledging.{CoreLaws}
 use Rattle.psci_headline.proofs.CoreSteps.{IsStep, TurnsOff, step}

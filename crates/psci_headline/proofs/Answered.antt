@@ -5,29 +5,20 @@ use Rattle.std.specs.Prelude.{nat_lt, slice_get}
 use Rattle.std.specs.List.{sum_by}
 use Rattle.std.proofs.lemmas.Bool.{and_from, cases_lt, eq-eqb, leb-true, lt-ltb, or_cases}
 use Rattle.std.proofs.lemmas.Option.{same_Some, slice_get_within}
-use Rattle.psci_headline.specs.psci_board.Board.{BoardValue, below, up}
-use Rattle.psci_headline.specs.psci_board.Laws.{PathLaws}
-use Rattle.psci_headline.specs.psci_board.Paths.{is_path_place}
-use Rattle.psci_headline.specs.psci_messages.declared.part.Part.{Part}
-use Rattle.psci_headline.specs.psci_messages.declared.kind.Kind.TheVariants.{Down}
-use Rattle.psci_headline.specs.psci_messages.Message.{AckValue, MessageValue}
+use Rattle.psci_headline.proofs.Words.{BoardValue, below, up, PathLaws, is_path_place, Part, Down}
+use Rattle.psci_headline.proofs.Words.{AckValue, MessageValue, Acknowledge, OfCore, Slot, answers}
+use Rattle.psci_headline.proofs.Words.{changed, is_kind, slot_of, Status, Off, confirms_on}
+use Rattle.psci_headline.proofs.Words.{with_acknowledgement, Away, Values, Holds, IsTold, WasTold}
+use Rattle.psci_headline.proofs.Words.{AreConfirming, IsYetToCome}
 use Rattle.psci_headline.specs.psci_messages.OnlyIf.{only_if}
-use Rattle.psci_headline.specs.psci_messages.Slots.{Acknowledge, OfCore, Slot, answers, changed}
-use Rattle.psci_headline.specs.psci_messages.Slots.{is_kind, slot_of}
-use Rattle.psci_headline.specs.psci_fw_spec.declared.status.Status.{Status}
-use Rattle.psci_headline.specs.psci_fw_spec.declared.status.Status.TheVariants.{Off}
-use Rattle.psci_headline.specs.psci_fw_spec.Changes.{confirms_on, turns_off, with_acknowledgement}
+use Rattle.psci_headline.specs.psci_fw_spec.Changes.{turns_off}
 use Rattle.psci_headline.specs.psci_fw_spec.Confirmed.{applied_part, is_made_at}
-use Rattle.psci_headline.specs.psci_fw_spec.Phases.{Away, is_away}
-use Rattle.psci_headline.specs.psci_fw_spec.Values.{Values}
-use Rattle.psci_headline.specs.psci_fw_laws.Kept.{Holds}
+use Rattle.psci_headline.specs.psci_fw_spec.Phases.{is_away}
 use Rattle.psci_headline.specs.psci_fw_laws.KnownBelow.{known_below}
 use Rattle.psci_headline.proofs.fw_laws.Consequences.{once_down}
 use Rattle.psci_headline.proofs.fw_laws.Parts.{updated_at}
-use Rattle.psci_headline.specs.Waiting.{IsTold, WasTold}
 use Rattle.psci_headline.proofs.Taking.{HasName, IsEmptied, IsNamedOnce, named, still_or}
-use Rattle.psci_headline.specs.Confirming.{AreConfirming, IsConfirmedOr, IsOffOr, IsOutstanding}
-use Rattle.psci_headline.specs.Confirming.{IsYetToCome}
+use Rattle.psci_headline.specs.Confirming.{IsConfirmedOr, IsOffOr, IsOutstanding}
 
 -- what an acknowledgement says of a message that was sent, it says of the one that it answers
 told_of : (b : BoardValue) (starts : ℕ → ℕ) (depth : ℕ → ℕ → ℕ) (a : AckValue)

@@ -3,17 +3,11 @@ use Rattle.std.proofs.Common.{◌≡◌, ℕ, zero, suc, ◌<◌, inl, inr, Bool
 use Rattle.std.proofs.Common.{[], ◌∷◌, ◌++◌, Option, None, Some, option_map, refl, ap, sym, ◌∙◌}
 use Rattle.std.proofs.Common.{arith}
 use Rattle.std.specs.Prelude.{slice_get}
-use Rattle.psci_board.specs.Board.{BoardValue, HasNode}
-use Rattle.psci_board.specs.declared.node.Node.{Node}
-use Rattle.psci_fw_laws.specs.psci_messages.declared.part.Part.{Part}
-use Rattle.psci_ctl_spec.specs.psci_messages.Message.{MessageValue}
-use Rattle.psci_board.specs.Paths.{is_on_path}
-use Rattle.psci_fw_laws.specs.psci_fw_spec.Said.{listed}
-use Rattle.psci_fw_laws.specs.psci_fw_spec.Values.{Values}
-use Rattle.psci_fw_laws.specs.Claims.{AreRising, part_for}
-use Rattle.psci_world_spec.specs.declared.said.Record.{Record}
-use Rattle.psci_world_spec.specs.Histories.{firmware_values, sent, sent_in}
-use Rattle.psci_headline.specs.Claims.{Claim, claim_by, claims}
+use Rattle.psci_headline.proofs.Words.{BoardValue, HasNode, Node, Part, MessageValue, is_on_path}
+use Rattle.psci_headline.proofs.Words.{listed, Values, AreRising, part_for, Record, firmware_values}
+use Rattle.psci_headline.proofs.Words.{sent_in, Claim, claim_by}
+use Rattle.psci_world_spec.specs.Histories.{sent}
+use Rattle.psci_headline.specs.Claims.{claims}
 use Rattle.psci_headline.proofs.Claiming.{HasSource, source, with_claim_of}
 
 -- Lists of claims ------------------------------------------------------------------------------

@@ -6,25 +6,17 @@ use Rattle.std.specs.Prelude.{nat_le, nat_lt, slice_get}
 use Rattle.std.proofs.lemmas.Bool.{and_from, and_parts, eq-eqb, eqb-true, le-leb, ltb-true}
 use Rattle.std.proofs.lemmas.List.Sums.{prefix_len_passes}
 use Rattle.std.proofs.lemmas.Option.{get_or_from_slice_get}
-use Rattle.psci_board.specs.Board.{BoardValue, height, up}
-use Rattle.psci_board.specs.Paths.{is_path_place}
-use Rattle.psci_fw_laws.specs.psci_messages.declared.part.Part.{Part}
-use Rattle.psci_ctl_spec.specs.Parts.{applied, depth_or, is_applied, is_live, laid}
+use Rattle.psci_headline.proofs.Words.{BoardValue, height, up, is_path_place, Part, depth_or, laid}
+use Rattle.psci_headline.proofs.Words.{starts_below, confirms_on, Values, Kind, AckValue, AreClaims}
+use Rattle.psci_headline.proofs.Words.{ArePartsOf, MessageValue, is_kind, slot_of, sent}
+use Rattle.psci_ctl_spec.specs.Parts.{applied, is_applied, is_live}
 use Rattle.psci_ctl_spec.specs.Values as controlled
-use Rattle.psci_ctl_spec.specs.Values.{starts_below}
 use Rattle.psci_ctl_spec.proofs.Front.{get_take}
-use Rattle.psci_fw_laws.specs.psci_fw_spec.Changes.{confirms_on}
 use Rattle.psci_fw_laws.specs.psci_fw_spec.Confirmed.{is_made_at}
-use Rattle.psci_fw_laws.specs.psci_fw_spec.Values.{Values}
-use Rattle.psci_ctl_spec.specs.psci_messages.declared.kind.Kind.{Kind}
 use Rattle.psci_ctl_spec.specs.psci_messages.declared.kind.Kind.TheVariants as kinds
-use Rattle.psci_ctl_spec.specs.psci_messages.Message.{AckValue, AreClaims, ArePartsOf}
-use Rattle.psci_ctl_spec.specs.psci_messages.Message.{MessageValue}
 use Rattle.psci_ctl_spec.specs.psci_messages.Message.{is_climbing}
 use Rattle.psci_ctl_spec.specs.psci_messages.OnlyIf.{only_if}
-use Rattle.psci_ctl_spec.specs.psci_messages.Slots.{is_kind, slot_of}
 use Rattle.psci_fw_laws.specs.KnownBelow.{known_below}
-use Rattle.psci_world_spec.specs.Histories.{sent}
 
 -- a Down
 kind_is : (k : Kind) → is_kind k kinds.Down ≡ true → k ≡ kinds.Down

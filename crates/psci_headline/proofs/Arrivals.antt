@@ -3,46 +3,27 @@ use Rattle.std.proofs.Common.{◌≡◌, ℕ, ◌<◌, Bool, true, false, ◌==�
 use Rattle.std.proofs.Common.{Option, None, Some, option_map, unwrap_or, refl, subst, ap, sym, ◌∙◌}
 use Rattle.std.specs.Prelude.{nat_lt}
 use Rattle.std.proofs.lemmas.Bool.{cond-true, cond-false, eq-eqb, lt-ltb, ne_eqb}
-use Rattle.psci_board.specs.Board.{BoardValue, cores}
-use Rattle.psci_ctl_spec.specs.psci_messages.declared.start.Start.{Start}
-use Rattle.psci_ctl_spec.specs.Replies.{last_start}
+use Rattle.psci_headline.proofs.Words.{BoardValue, cores, Start, last_start, MessageValue, Clear}
+use Rattle.psci_headline.proofs.Words.{OfCore, Slot, changed, is_slot, slot_of, Act, Outcome}
+use Rattle.psci_headline.proofs.Words.{change, reply_or, enter_effect, enter_outcome, IsLegal}
+use Rattle.psci_headline.proofs.Words.{in_life, listed, Values, IsAllowed, Enter, Started, Record}
+use Rattle.psci_headline.proofs.Words.{Absent, Fw, Sent, acks, call, controller_values, entered}
+use Rattle.psci_headline.proofs.Words.{firmware_values, outcome_in, sent_in, IsLegalPast}
+use Rattle.psci_headline.proofs.Words.{if_started, said_of, indexed, step}
 use Rattle.psci_ctl_spec.specs.psci_messages.declared.kind.Kind.TheVariants as kinds
-use Rattle.psci_ctl_spec.specs.psci_messages.Message.{MessageValue}
-use Rattle.psci_ctl_spec.specs.psci_messages.Slots.{Clear, OfCore, Slot, changed, is_slot, slot_of}
 use Rattle.psci_headline.specs.psci_fw_spec.declared.call.FwCall.TheVariants as calls
-use Rattle.psci_headline.specs.psci_fw_spec.declared.outcome.Act.{Act}
 use Rattle.psci_headline.specs.psci_fw_spec.declared.outcome.Act.TheVariants as acts
-use Rattle.psci_headline.specs.psci_fw_spec.declared.outcome.Outcome.{Outcome}
 use Rattle.psci_headline.specs.psci_fw_spec.declared.reply.FwReply.TheVariants as replies
-use Rattle.psci_headline.specs.psci_fw_spec.After.{change}
-use Rattle.psci_headline.specs.psci_fw_spec.Answer.{answer, reply_or}
-use Rattle.psci_headline.specs.psci_fw_spec.Effects.{enter_effect}
-use Rattle.psci_headline.specs.psci_fw_spec.Entering.{enter_outcome}
+use Rattle.psci_headline.specs.psci_fw_spec.Answer.{answer}
 use Rattle.psci_headline.specs.psci_fw_spec.Exchange as firmware
 use Rattle.psci_headline.specs.psci_fw_spec.History as remembers
-use Rattle.psci_headline.specs.psci_fw_spec.Legal.{IsLegal}
-use Rattle.psci_headline.specs.psci_fw_spec.Lives.{in_life}
-use Rattle.psci_headline.specs.psci_fw_spec.Said.{listed}
-use Rattle.psci_headline.specs.psci_fw_spec.Values.{Values}
-use Rattle.psci_headline.specs.psci_fw_laws.Allowed.{IsAllowed}
-use Rattle.psci_headline.specs.psci_world_spec.declared.event.Event.TheVariants.{Enter}
-use Rattle.psci_headline.specs.psci_world_spec.declared.place.Place.TheVariants.{Started}
-use Rattle.psci_headline.specs.psci_world_spec.declared.said.Record.{Record}
-use Rattle.psci_headline.specs.psci_world_spec.declared.said.Said.TheVariants.{Absent, Fw}
-use Rattle.psci_headline.specs.psci_world_spec.declared.said.Sent.{Sent}
-use Rattle.psci_headline.specs.psci_world_spec.Histories.{acks, call, controller_history}
-use Rattle.psci_headline.specs.psci_world_spec.Histories.{controller_values}
-use Rattle.psci_headline.specs.psci_world_spec.Histories.{entered, firmware_history}
-use Rattle.psci_headline.specs.psci_world_spec.Histories.{firmware_values}
-use Rattle.psci_headline.specs.psci_world_spec.Histories.{outcome_in, sent, sent_in}
-use Rattle.psci_headline.specs.psci_world_spec.Legal.{IsLegalPast, if_started, legal}
-use Rattle.psci_headline.specs.psci_world_spec.Legal.{said_of, sent_as}
-use Rattle.psci_headline.specs.psci_world_spec.Lists.{indexed}
+use Rattle.psci_headline.specs.psci_world_spec.Histories.{controller_history, firmware_history}
+use Rattle.psci_headline.specs.psci_world_spec.Histories.{sent}
+use Rattle.psci_headline.specs.psci_world_spec.Legal.{legal, sent_as}
 use Rattle.psci_headline.specs.psci_world_spec.Places.{place, place_after, place_said}
 use Rattle.psci_headline.proofs.world_spec.Answered.{firmware_legal}
 use Rattle.psci_headline.specs.Refusals.{NoneRefused}
 use Rattle.psci_headline.proofs.Agreed.{RunLaws}
-use Rattle.psci_headline.specs.Settling.{step}
 use Rattle.psci_headline.proofs.Finding.{numbered_old}
 
 -- Effects --------------------------------------------------------------------------------------

@@ -5,26 +5,20 @@ use Rattle.std.proofs.Common.{subst, arith}
 use Rattle.std.specs.Prelude.{nat_le, slice_get}
 use Rattle.std.specs.List.{list_all, range_with_len}
 use Rattle.std.proofs.lemmas.Bool.{and_from, cond_both, cond-true, eq-eqb, eqb-true, le-leb}
-use Rattle.psci_board.specs.Board.{BoardValue, HasNode, below, cores, height}
+use Rattle.psci_headline.proofs.Words.{BoardValue, HasNode, below, cores, height, Node, Part}
+use Rattle.psci_headline.proofs.Words.{MessageValue, is_on_path, SuspendMode, start_of_life, Away}
+use Rattle.psci_headline.proofs.Words.{Pending, Phase, Values, part_for, Record, firmware_values}
+use Rattle.psci_headline.proofs.Words.{sent_in, Claim, claim_by}
 use Rattle.psci_board.specs.Board.{size_below, up}
-use Rattle.psci_board.specs.declared.node.Node.{Node}
-use Rattle.psci_fw_laws.specs.psci_messages.declared.part.Part.{Part}
-use Rattle.psci_ctl_spec.specs.psci_messages.Message.{MessageValue}
 use Rattle.psci_fw_laws.specs.psci_messages.psci_state.Cores.{asks}
-use Rattle.psci_board.specs.Paths.{is_on_path}
-use Rattle.psci_fw_laws.specs.psci_fw_spec.declared.mode.SuspendMode.{SuspendMode}
 use Rattle.psci_fw_laws.specs.psci_fw_spec.declared.mode.SuspendMode.TheVariants.{Platform}
 use Rattle.psci_fw_laws.specs.psci_fw_spec.declared.mode.SuspendMode.TheVariants.{OsInitiated}
-use Rattle.psci_fw_laws.specs.psci_fw_spec.Lives.{first_phase, start_of_life}
-use Rattle.psci_fw_laws.specs.psci_fw_spec.Phases.{Away, Pending, Phase, activity_of}
-use Rattle.psci_fw_laws.specs.psci_fw_spec.Values.{Values}
+use Rattle.psci_fw_laws.specs.psci_fw_spec.Lives.{first_phase}
+use Rattle.psci_fw_laws.specs.psci_fw_spec.Phases.{activity_of}
 use Rattle.psci_fw_laws.specs.psci_fw_spec.Views.{ask}
 use Rattle.psci_fw_laws.specs.Asked.{IsAskedFor}
-use Rattle.psci_fw_laws.specs.Claims.{part_for}
 use Rattle.psci_fw_laws.proofs.Parts.{HasPart, part_has}
-use Rattle.psci_world_spec.specs.declared.said.Record.{Record}
-use Rattle.psci_world_spec.specs.Histories.{firmware_values, sent_in}
-use Rattle.psci_headline.specs.Claims.{Claim, all_ask, asks_by, claim_by, claims}
+use Rattle.psci_headline.specs.Claims.{all_ask, asks_by, claims}
 use Rattle.psci_headline.proofs.Claiming.{by_claim}
 
 -- All cores below a domain ---------------------------------------------------------------------

@@ -1,30 +1,18 @@
 -- What is so once the started cores have entered and each Start was served.
 use Rattle.std.proofs.Common.{◌≡◌, ℕ, ◌⊎◌, inl, inr, ◌<◌, false, cond}
 use Rattle.std.proofs.Common.{List, Some, refl, subst, ap, sym, ◌∙◌}
-use Rattle.psci_board.specs.Board.{BoardValue, cores}
+use Rattle.psci_headline.proofs.Words.{BoardValue, cores, MessageValue, OfCore, in_life, Values}
+use Rattle.psci_headline.proofs.Words.{Enter, Place, Started, Running, Stopped, Record}
+use Rattle.psci_headline.proofs.Words.{controller_values, firmware_values, sent, IsLegalPast}
+use Rattle.psci_headline.proofs.Words.{indexed, place, deliveries, step}
 use Rattle.psci_ctl_spec.specs.Values as controlled
 use Rattle.psci_ctl_spec.specs.psci_messages.declared.kind.Kind.TheVariants as kinds
-use Rattle.psci_ctl_spec.specs.psci_messages.Message.{MessageValue}
-use Rattle.psci_ctl_spec.specs.psci_messages.Slots.{OfCore}
-use Rattle.psci_headline.specs.psci_fw_spec.Lives.{in_life}
-use Rattle.psci_headline.specs.psci_fw_spec.Values.{Values}
 use Rattle.psci_headline.proofs.fw_laws.Arriving.{found_life}
-use Rattle.psci_headline.specs.psci_world_spec.declared.event.Event.TheVariants.{Enter}
-use Rattle.psci_headline.specs.psci_world_spec.declared.place.Place.{Place}
-use Rattle.psci_headline.specs.psci_world_spec.declared.place.Place.TheVariants.{Started, Running}
-use Rattle.psci_headline.specs.psci_world_spec.declared.place.Place.TheVariants.{Stopped}
-use Rattle.psci_headline.specs.psci_world_spec.declared.said.Record.{Record}
-use Rattle.psci_headline.specs.psci_world_spec.Histories.{controller_values, firmware_values}
-use Rattle.psci_headline.specs.psci_world_spec.Histories.{sent}
-use Rattle.psci_headline.specs.psci_world_spec.Legal.{IsLegalPast, legal_record}
-use Rattle.psci_headline.specs.psci_world_spec.Lists.{indexed}
-use Rattle.psci_headline.specs.psci_world_spec.Places.{place}
+use Rattle.psci_headline.specs.psci_world_spec.Legal.{legal_record}
 use Rattle.psci_headline.proofs.Agreeing.{found_own}
 use Rattle.psci_headline.proofs.Moving.{entry_moves}
 use Rattle.psci_headline.proofs.Placing.{last_is}
-use Rattle.psci_headline.specs.Drained.{deliveries}
-use Rattle.psci_headline.specs.Settling.{entering}
-use Rattle.psci_headline.specs.Settling.{is_started, step}
+use Rattle.psci_headline.specs.Settling.{entering, is_started}
 use Rattle.psci_headline.proofs.Arrivals.{HaveArrived, arrives, entry_halting, entry_slots}
 use Rattle.psci_headline.proofs.Arrivals.{same_control, same_numbers}
 use Rattle.psci_headline.proofs.Counting.{AreAdded, one_added}

@@ -4,30 +4,22 @@ use Rattle.std.proofs.Common.{◌≡◌, ℕ, ◌⊎◌, ◌<◌, inl, inr, Bool
 use Rattle.std.proofs.Common.{Option, None, Some, refl, arith, subst, ap, sym, ◌∙◌}
 use Rattle.std.specs.Prelude.{slice_get}
 use Rattle.std.proofs.lemmas.Bool.{cases_eq}
-use Rattle.psci_headline.specs.psci_board.Board.{BoardValue, cores, up}
-use Rattle.psci_headline.specs.psci_board.Laws.{PathLaws}
-use Rattle.psci_headline.specs.psci_board.Paths.{is_path_place}
-use Rattle.psci_headline.specs.psci_messages.declared.part.Part.{Part}
+use Rattle.psci_headline.proofs.Words.{BoardValue, cores, up, PathLaws, is_path_place, Part, Start}
+use Rattle.psci_headline.proofs.Words.{MessageValue, OfCore, Put, Slot, changed, slot_of}
+use Rattle.psci_headline.proofs.Words.{PowerOn, target, with_arrival, with_pending, in_life, Phase}
+use Rattle.psci_headline.proofs.Words.{Away, Pending, unless_pending, Values, updated, KnownLaws}
+use Rattle.psci_headline.proofs.Words.{known_below, AreConfirming, IsYetToCome}
 use Rattle.psci_headline.specs.psci_messages.declared.kind.Kind.TheVariants as kinds
-use Rattle.psci_headline.specs.psci_messages.declared.start.Start.{Start}
-use Rattle.psci_headline.specs.psci_messages.Message.{MessageValue}
-use Rattle.psci_headline.specs.psci_messages.Slots.{OfCore, Put, Slot, changed, slot_of}
-use Rattle.psci_headline.specs.psci_fw_spec.declared.status.Status.TheVariants.{Off}
 use Rattle.psci_headline.specs.psci_fw_spec.declared.status.Status.TheVariants as statuses
-use Rattle.psci_headline.specs.psci_fw_spec.Changes.{PowerOn, Rest, target, with_arrival}
-use Rattle.psci_headline.specs.psci_fw_spec.Changes.{with_claims, with_pending, with_phase}
-use Rattle.psci_headline.specs.psci_fw_spec.Changes.{with_rest, with_running}
+use Rattle.psci_headline.specs.psci_fw_spec.Changes.{Rest, with_claims, with_phase, with_rest}
+use Rattle.psci_headline.specs.psci_fw_spec.Changes.{with_running}
 use Rattle.psci_headline.specs.psci_fw_spec.Confirmed.{unless_claimed}
-use Rattle.psci_headline.specs.psci_fw_spec.Lives.{in_life}
 use Rattle.psci_headline.specs.psci_fw_spec.Paths.{claimed_or}
-use Rattle.psci_headline.specs.psci_fw_spec.Phases.{Phase, Away, Pending, Running, unless_pending}
-use Rattle.psci_headline.specs.psci_fw_spec.Values.{Values, updated}
-use Rattle.psci_headline.specs.psci_fw_laws.KnownBelow.{KnownLaws, known_below}
+use Rattle.psci_headline.specs.psci_fw_spec.Phases.{Running}
 use Rattle.psci_headline.specs.psci_fw_laws.Messages.{known_on}
 use Rattle.psci_headline.proofs.fw_laws.Parts.{updated_here, updated_there}
 use Rattle.psci_headline.proofs.Slots.{clear_there, put_here, put_there}
-use Rattle.psci_headline.specs.Confirming.{AreConfirming, IsConfirmedOr, IsOffOr, IsOutstanding}
-use Rattle.psci_headline.specs.Confirming.{IsYetToCome}
+use Rattle.psci_headline.specs.Confirming.{IsConfirmedOr, IsOffOr, IsOutstanding}
 use Rattle.psci_headline.proofs.Coming.{not_at, on_path, other_core, sum_beside, yet_still}
 
 -- What is told of the domains beside a core's path, and of the other cores.

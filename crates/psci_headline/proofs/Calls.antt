@@ -1,33 +1,19 @@
 -- What waits, after each effect of the firmware's calls, entries and acknowledgements.
 use Rattle.std.proofs.Common.{◌≡◌, ℕ, ◌<◌, true, false, List, ◌∷◌, ◌++◌, Option, None}
 use Rattle.std.proofs.Common.{Some, refl, subst, ap, sym, ◌∙◌}
-use Rattle.psci_board.specs.Board.{BoardValue, cores}
-use Rattle.psci_board.specs.declared.node.Core.{Core}
-use Rattle.psci_ctl_spec.specs.psci_messages.declared.start.Start.{Start}
+use Rattle.psci_headline.proofs.Words.{BoardValue, cores, Core, Start, Kind, AckValue, MessageValue}
+use Rattle.psci_headline.proofs.Words.{Clear, OfCore, OfSystem, changed, is_kind, slot_of, Act}
+use Rattle.psci_headline.proofs.Words.{change, with_mode, target, Effect, GoesOn, SetsMode, AsksOn}
+use Rattle.psci_headline.proofs.Words.{Rests, Halts, Stops, enter_effect, in_life, Phase, Away}
+use Rattle.psci_headline.proofs.Words.{Pending, unless_pending, Values, updated, IsAllowed, AreLive}
+use Rattle.psci_headline.proofs.Words.{is_system, WaitingIn}
 use Rattle.psci_ctl_spec.specs.Values as controlled
-use Rattle.psci_ctl_spec.specs.psci_messages.declared.kind.Kind.{Kind}
 use Rattle.psci_ctl_spec.specs.psci_messages.declared.kind.Kind.TheVariants as kinds
-use Rattle.psci_ctl_spec.specs.psci_messages.Message.{AckValue, MessageValue}
-use Rattle.psci_ctl_spec.specs.psci_messages.Slots.{Clear, OfCore, OfSystem, changed, is_kind}
-use Rattle.psci_ctl_spec.specs.psci_messages.Slots.{slot_of}
-use Rattle.psci_headline.specs.psci_fw_spec.declared.outcome.Act.{Act}
 use Rattle.psci_headline.specs.psci_fw_spec.declared.outcome.Act.TheVariants as acts
-use Rattle.psci_headline.specs.psci_fw_spec.After.{change}
-use Rattle.psci_headline.specs.psci_fw_spec.Changes.{with_mode, target}
-use Rattle.psci_headline.specs.psci_fw_spec.Effects.{Effect, GoesOn, SetsMode, AsksOn}
-use Rattle.psci_headline.specs.psci_fw_spec.Effects.{Rests, Halts}
-use Rattle.psci_headline.specs.psci_fw_spec.Effects.{Stops}
-use Rattle.psci_headline.specs.psci_fw_spec.Effects.{enter_effect}
-use Rattle.psci_headline.specs.psci_fw_spec.Lives.{in_life}
-use Rattle.psci_headline.specs.psci_fw_spec.Phases.{Phase, Away, Pending, Running, unless_pending}
+use Rattle.psci_headline.specs.psci_fw_spec.Phases.{Running}
 use Rattle.psci_headline.specs.psci_fw_spec.Said as says
-use Rattle.psci_headline.specs.psci_fw_spec.Values.{Values, updated}
-use Rattle.psci_headline.specs.psci_fw_laws.Allowed.{IsAllowed}
-use Rattle.psci_headline.specs.psci_fw_laws.Live.{AreLive}
-use Rattle.psci_headline.specs.psci_fw_laws.Messages.{is_system}
 use Rattle.psci_headline.proofs.fw_laws.Parts.{updated_here}
 use Rattle.psci_headline.proofs.Moving.{CallerLaws, is_call}
-use Rattle.psci_headline.specs.Waiting.{WaitingIn}
 use Rattle.psci_headline.proofs.Pursuing.{waiting_arrival, waiting_asked, waiting_core}
 use Rattle.psci_headline.proofs.Pursuing.{waiting_halting, waiting_phase, waiting_system}
 use Rattle.psci_headline.proofs.Unclaimed.{none_live_running, none_live_started}

@@ -3,45 +3,28 @@ use Rattle.std.proofs.Common.{◌≡◌, ℕ, zero, suc, ◌+◌, inl, inr, ◌<
 use Rattle.std.proofs.Common.{cond, List, ◌∷◌, ◌++◌, Option, Some, refl, arith, subst, ap, sym, ◌∙◌}
 use Rattle.std.specs.Prelude.{nat_lt, slice_get}
 use Rattle.std.proofs.lemmas.Bool.{cases_eq, cond_both, eqb-false}
-use Rattle.psci_board.specs.Board.{BoardValue, cores}
-use Rattle.psci_board.specs.Laws.{PathLaws}
-use Rattle.psci_ctl_spec.specs.psci_messages.declared.part.Part.{Part}
-use Rattle.psci_ctl_spec.specs.psci_messages.declared.start.Cause.{Cause}
+use Rattle.psci_headline.proofs.Words.{BoardValue, cores, PathLaws, Part, Cause, Start, next_life}
+use Rattle.psci_headline.proofs.Words.{Nothing, Starts, Ends, Begins, message_effect}
+use Rattle.psci_headline.proofs.Words.{MayFollow, AckLaws, SumLaws, ack_by, last_start, may_follow}
+use Rattle.psci_headline.proofs.Words.{Kind, AckValue, AreClaims, MessageValue, PartByPart, Act}
+use Rattle.psci_headline.proofs.Words.{change, with_acknowledgement, Effect, enter_effect, in_life}
+use Rattle.psci_headline.proofs.Words.{start_of_life, Values, IsAllowed, Holds, AreLive}
+use Rattle.psci_headline.proofs.Words.{AreOutstanding, Place, IsNamed, WaitingIn}
 use Rattle.psci_ctl_spec.specs.psci_messages.declared.start.Cause.TheVariants as causes
-use Rattle.psci_ctl_spec.specs.psci_messages.declared.start.Start.{Start}
-use Rattle.psci_ctl_spec.specs.Changes.{next_life}
 use Rattle.psci_ctl_spec.specs.Changes as controlling
 use Rattle.psci_ctl_spec.specs.Effects as controlling_effects
-use Rattle.psci_ctl_spec.specs.Effects.{Nothing, Starts, Deepens, Ends, Begins, message_effect}
-use Rattle.psci_ctl_spec.specs.Follows.{MayFollow}
-use Rattle.psci_ctl_spec.specs.Laws.{AckLaws, SumLaws}
-use Rattle.psci_ctl_spec.specs.Replies.{ack_by, last_start, may_follow}
 use Rattle.psci_ctl_spec.specs.Values as controlled
-use Rattle.psci_ctl_spec.specs.psci_messages.declared.kind.Kind.{Kind}
 use Rattle.psci_ctl_spec.specs.psci_messages.declared.kind.Kind.TheVariants as kinds
-use Rattle.psci_ctl_spec.specs.psci_messages.Message.{AckValue, AreClaims, MessageValue, PartByPart}
-use Rattle.psci_headline.specs.psci_fw_spec.declared.outcome.Act.{Act}
-use Rattle.psci_headline.specs.psci_fw_spec.After.{change}
-use Rattle.psci_headline.specs.psci_fw_spec.Changes.{with_acknowledgement}
-use Rattle.psci_headline.specs.psci_fw_spec.Effects.{Effect, enter_effect}
-use Rattle.psci_headline.specs.psci_fw_spec.Lives.{in_life, start_of_life}
 use Rattle.psci_headline.specs.psci_fw_spec.Said as says
-use Rattle.psci_headline.specs.psci_fw_spec.Values.{Values}
-use Rattle.psci_headline.specs.psci_fw_laws.Allowed.{IsAllowed}
-use Rattle.psci_headline.specs.psci_fw_laws.Kept.{Holds}
-use Rattle.psci_headline.specs.psci_fw_laws.Live.{AreLive}
 use Rattle.psci_headline.specs.psci_fw_laws.Messages.{AreSent}
-use Rattle.psci_headline.specs.psci_fw_laws.Outstanding.{AreOutstanding}
 use Rattle.psci_headline.proofs.fw_laws.Arriving.{first_holds, found_life}
 use Rattle.psci_headline.proofs.fw_laws.Consequences.{once_down}
 use Rattle.psci_headline.proofs.fw_laws.Living.{live_laws}
 use Rattle.psci_headline.proofs.fw_laws.Sums.{known_le}
-use Rattle.psci_headline.specs.psci_world_spec.declared.place.Place.{Place}
 use Rattle.psci_headline.specs.psci_world_spec.declared.place.Place.TheVariants as places
 use Rattle.psci_headline.proofs.Agreeing.{AreAgreed, found_other, found_own}
 use Rattle.psci_headline.proofs.Moving.{CallerLaws, IsCallOf, call_moves, entry_moves}
 use Rattle.psci_headline.proofs.Placing.{last_is, own_life}
-use Rattle.psci_headline.specs.Waiting.{IsNamed, WaitingIn}
 use Rattle.psci_headline.proofs.Calls.{call_waits, entry_waits}
 use Rattle.psci_headline.proofs.Controls.{IsKnown, begun_waits, down_waits, start_told, start_waits}
 use Rattle.psci_headline.proofs.Taking.{waiting_taken}

@@ -4,17 +4,11 @@ use Rattle.std.proofs.Common.{refl, ap, sym, ◌∙◌}
 use Rattle.std.specs.Prelude.{nat_le, slice_get}
 use Rattle.std.proofs.lemmas.Bool.{and_parts, and_right, cond-false, eqb-false, ltb-true, leb-true}
 use Rattle.std.proofs.lemmas.Bool.{ne_eqb}
-use Rattle.psci_board.specs.Board.{BoardValue, HasNode, height, up}
-use Rattle.psci_board.specs.declared.node.Node.{Node}
-use Rattle.psci_ctl_spec.specs.psci_messages.declared.part.Part.{Part}
-use Rattle.psci_ctl_spec.specs.Values.{first_depth, starts_below}
-use Rattle.psci_board.specs.Paths.{is_on_path}
-use Rattle.psci_ctl_spec.specs.psci_messages.declared.kind.Kind.TheVariants.{Down}
-use Rattle.psci_ctl_spec.specs.psci_messages.Message.{MessageValue}
-use Rattle.psci_headline.specs.psci_fw_laws.Claims.{IsClaimOn, IsFromStart}
-use Rattle.psci_headline.specs.psci_fw_laws.KnownBelow.{known_below}
+use Rattle.psci_headline.proofs.Words.{BoardValue, HasNode, height, up, Node, Part, first_depth}
+use Rattle.psci_headline.proofs.Words.{starts_below, is_on_path, Down, MessageValue, IsClaimOn}
+use Rattle.psci_headline.proofs.Words.{known_below, IsLivePart}
+use Rattle.psci_headline.specs.psci_fw_laws.Claims.{IsFromStart}
 use Rattle.psci_headline.proofs.fw_laws.Parts.{part_has}
-use Rattle.psci_headline.specs.Waiting.{IsLivePart}
 use Rattle.psci_headline.proofs.Starting.{same_sum}
 
 -- below this level each live part of a core's Downs has its depth

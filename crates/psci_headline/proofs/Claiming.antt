@@ -5,18 +5,13 @@ use Rattle.std.proofs.Common.{◌∙◌, subst}
 use Rattle.std.specs.Prelude.{nat_le, option_and_then, slice_get}
 use Rattle.std.proofs.lemmas.Bool.{and_from, eq-eqb, eqb-true, false_from_ne_true}
 use Rattle.std.proofs.lemmas.Bool.{le-leb, lt-ltb}
-use Rattle.psci_board.specs.Board.{BoardValue, HasNode, has_node, height, up}
-use Rattle.psci_board.specs.declared.node.Node.{Node}
-use Rattle.psci_fw_laws.specs.psci_messages.declared.part.Part.{Part}
-use Rattle.psci_ctl_spec.specs.psci_messages.Message.{MessageValue}
-use Rattle.psci_board.specs.Paths.{is_on_path, is_path_place}
-use Rattle.psci_fw_laws.specs.psci_fw_spec.Said.{listed}
-use Rattle.psci_fw_laws.specs.psci_fw_spec.Values.{Values}
-use Rattle.psci_fw_laws.specs.Claims.{IsClaimOn, part_for}
+use Rattle.psci_headline.proofs.Words.{BoardValue, HasNode, has_node, height, up, Node, Part}
+use Rattle.psci_headline.proofs.Words.{MessageValue, is_on_path, is_path_place, listed, Values}
+use Rattle.psci_headline.proofs.Words.{IsClaimOn, part_for, Record, firmware_values, sent_in, Claim}
+use Rattle.psci_headline.proofs.Words.{claim_by}
 use Rattle.psci_fw_laws.proofs.Parts.{claim_new, claim_old}
-use Rattle.psci_world_spec.specs.declared.said.Record.{Record}
-use Rattle.psci_world_spec.specs.Histories.{firmware_values, sent, sent_in}
-use Rattle.psci_headline.specs.Claims.{Claim, claim_by, claim_in, claims}
+use Rattle.psci_world_spec.specs.Histories.{sent}
+use Rattle.psci_headline.specs.Claims.{claim_in, claims}
 
 -- The claim of one message ---------------------------------------------------------------------
 

@@ -2,15 +2,9 @@
 use Rattle.std.proofs.Common.{◌≡◌, ℕ, ◌≤◌, inl, inr, true, false, Option, Some, arith, ap}
 use Rattle.std.proofs.Common.{sym, ◌∙◌}
 use Rattle.std.proofs.lemmas.Bool.{eqb-false, eqb-true, ne_eqb}
-use Rattle.psci_headline.specs.psci_board.Board.{BoardValue, up}
-use Rattle.psci_headline.specs.psci_board.Laws.{PathLaws}
-use Rattle.psci_headline.specs.psci_board.Paths.{is_path_place}
-use Rattle.psci_headline.specs.psci_messages.Message.{MessageValue}
-use Rattle.psci_headline.specs.psci_messages.Slots.{Slot, OfCore}
-use Rattle.psci_headline.specs.psci_fw_spec.Values.{updated}
-use Rattle.psci_headline.specs.psci_fw_laws.KnownBelow.{KnownLaws, known_below}
+use Rattle.psci_headline.proofs.Words.{BoardValue, up, PathLaws, is_path_place, MessageValue, Slot}
+use Rattle.psci_headline.proofs.Words.{OfCore, updated, KnownLaws, known_below, IsYetToCome}
 use Rattle.psci_headline.proofs.fw_laws.Parts.{updated_there}
-use Rattle.psci_headline.specs.Confirming.{IsYetToCome}
 
 -- Paths ----------------------------------------------------------------------------------------
 

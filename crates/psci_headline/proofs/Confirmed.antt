@@ -1,30 +1,17 @@
 -- What is told after every legal run.
 use Rattle.std.proofs.Common.{◌≡◌, List, [], ◌∷◌, ◌++◌}
 use Rattle.std.proofs.Common.{subst, sym}
-use Rattle.psci_headline.specs.psci_board.Board.{BoardValue}
-use Rattle.psci_headline.specs.psci_board.Laws.{PathLaws}
-use Rattle.psci_headline.specs.psci_ctl_spec.Effects.{effect_of}
+use Rattle.psci_headline.proofs.Words.{BoardValue, PathLaws, effect_of, start_of_life, Values}
+use Rattle.psci_headline.proofs.Words.{Holds, KnownLaws, Event, Wake, Reset, Deliver, Record, Said}
+use Rattle.psci_headline.proofs.Words.{acks, call, control, controller_values, firmware_values}
+use Rattle.psci_headline.proofs.Words.{sent, IsLegalPast, Agree}
 use Rattle.psci_headline.specs.psci_ctl_spec.Exchange.{CtlExchange}
 use Rattle.psci_headline.specs.psci_ctl_spec.History as controls
 use Rattle.psci_headline.specs.psci_ctl_spec.Values as controlled
 use Rattle.psci_headline.proofs.Deliveries.{IsFew, few, values_by}
 use Rattle.psci_headline.specs.psci_fw_spec.History as remembers
-use Rattle.psci_headline.specs.psci_fw_spec.Lives.{start_of_life}
-use Rattle.psci_headline.specs.psci_fw_spec.Values.{Values}
-use Rattle.psci_headline.specs.psci_fw_laws.Kept.{Holds}
-use Rattle.psci_headline.specs.psci_fw_laws.KnownBelow.{KnownLaws}
-use Rattle.psci_headline.specs.psci_world_spec.declared.event.Event.{Event}
-use Rattle.psci_headline.specs.psci_world_spec.declared.event.Event.TheVariants.{Wake, Reset}
-use Rattle.psci_headline.specs.psci_world_spec.declared.event.Event.TheVariants.{Deliver}
-use Rattle.psci_headline.specs.psci_world_spec.declared.said.Record.{Record}
-use Rattle.psci_headline.specs.psci_world_spec.declared.said.Said.{Said}
-use Rattle.psci_headline.specs.psci_world_spec.Histories.{acks, call, control}
-use Rattle.psci_headline.specs.psci_world_spec.Histories.{controller_history, controller_values}
-use Rattle.psci_headline.specs.psci_world_spec.Histories.{firmware_history}
-use Rattle.psci_headline.specs.psci_world_spec.Histories.{firmware_values, sent}
-use Rattle.psci_headline.specs.psci_world_spec.Legal.{IsLegalPast}
+use Rattle.psci_headline.specs.psci_world_spec.Histories.{controller_history, firmware_history}
 use Rattle.psci_headline.proofs.world_spec.Answered.{firmware_legal}
-use Rattle.psci_headline.specs.Agreement.{Agree}
 use Rattle.psci_headline.specs.Waiting.{Waiting}
 use Rattle.psci_headline.proofs.Moves.{FirmwareLaws, moves}
 use Rattle.psci_headline.specs.Confirming.{Confirming}

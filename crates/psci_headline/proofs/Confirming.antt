@@ -4,23 +4,14 @@ use Rattle.std.proofs.Common.{◌≡◌, ℕ, ◌⊎◌, inl, inr, Bool, true, f
 use Rattle.std.proofs.Common.{cond, Option, None, Some, refl, arith, ap, sym, ◌∙◌}
 use Rattle.std.specs.Prelude.{slice_get}
 use Rattle.std.proofs.lemmas.Bool.{and_parts, eqb-false}
-use Rattle.psci_board.specs.Board.{BoardValue, has_node, up}
-use Rattle.psci_board.specs.Paths.{is_path_place}
-use Rattle.psci_fw_laws.specs.psci_messages.declared.part.Part.{Part}
+use Rattle.psci_headline.proofs.Words.{BoardValue, has_node, up, is_path_place, Part, AckValue}
+use Rattle.psci_headline.proofs.Words.{change, confirms_on, target, Effect, AsksOn, Rests, Enters}
+use Rattle.psci_headline.proofs.Words.{Parks, StopsAtOnce, Acknowledges, start_of_life, Arrival}
+use Rattle.psci_headline.proofs.Words.{arrived, Values, updated, KnownLaws, known_below}
 use Rattle.psci_ctl_spec.specs.psci_messages.declared.start.Start as starts
-use Rattle.psci_ctl_spec.specs.psci_messages.Message.{AckValue}
-use Rattle.psci_fw_laws.specs.psci_fw_spec.After.{change}
-use Rattle.psci_fw_laws.specs.psci_fw_spec.Changes.{confirms_on, target}
 use Rattle.psci_fw_laws.specs.psci_fw_spec.Confirmed.{unless_claimed}
-use Rattle.psci_fw_laws.specs.psci_fw_spec.Effects.{Effect, AsksOn}
-use Rattle.psci_fw_laws.specs.psci_fw_spec.Effects.{Rests}
-use Rattle.psci_fw_laws.specs.psci_fw_spec.Effects.{Enters, Parks, StopsAtOnce}
-use Rattle.psci_fw_laws.specs.psci_fw_spec.Effects.{Acknowledges}
-use Rattle.psci_fw_laws.specs.psci_fw_spec.Lives.{first_confirmed, first_granted, start_of_life}
+use Rattle.psci_fw_laws.specs.psci_fw_spec.Lives.{first_confirmed, first_granted}
 use Rattle.psci_fw_laws.specs.psci_fw_spec.Paths.{claimed_or}
-use Rattle.psci_fw_laws.specs.psci_fw_spec.Said.{Arrival, arrived}
-use Rattle.psci_fw_laws.specs.psci_fw_spec.Values.{Values, updated}
-use Rattle.psci_fw_laws.specs.KnownBelow.{KnownLaws, known_below}
 use Rattle.psci_fw_laws.proofs.Parts.{updated_there}
 
 -- Nothing is changed of a domain.

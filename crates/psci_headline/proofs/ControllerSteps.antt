@@ -2,32 +2,19 @@
 use Rattle.std.proofs.Common.{◌≡◌, ℕ, List, ◌∷◌, ◌++◌, Option, None, Some}
 use Rattle.std.proofs.Common.{refl, subst, ap, sym, ◌∙◌}
 use Rattle.std.specs.Prelude.{slice_get}
-use Rattle.psci_board.specs.Board.{BoardValue}
-use Rattle.psci_ctl_spec.specs.psci_messages.declared.start.Cause.{Cause}
+use Rattle.psci_headline.proofs.Words.{BoardValue, Cause, MayFollow, message_effect, ack_by}
+use Rattle.psci_headline.proofs.Words.{AckValue, MessageValue, listed, Wake, Reset, Deliver, Record}
+use Rattle.psci_headline.proofs.Words.{Said, ack_in, acks, controller_history, controller_values}
+use Rattle.psci_headline.proofs.Words.{delivered, firmware_values, sent, sent_in, indexed, place}
 use Rattle.psci_ctl_spec.specs.Changes as controlling
 use Rattle.psci_ctl_spec.specs.Effects as controlling_effects
 use Rattle.psci_ctl_spec.specs.Exchange as controller
-use Rattle.psci_ctl_spec.specs.Follows.{MayFollow}
 use Rattle.psci_ctl_spec.specs.History as controls
 use Rattle.psci_ctl_spec.specs.Legal as legal_controls
-use Rattle.psci_ctl_spec.specs.Effects.{message_effect}
-use Rattle.psci_ctl_spec.specs.Replies.{ack_by}
 use Rattle.psci_ctl_spec.specs.declared.call.CtlCall.TheVariants as asked
 use Rattle.psci_ctl_spec.specs.Values as controlled
-use Rattle.psci_ctl_spec.specs.psci_messages.Message.{AckValue, MessageValue}
-use Rattle.psci_headline.specs.psci_fw_spec.Said.{listed}
-use Rattle.psci_headline.specs.psci_world_spec.declared.event.Event.TheVariants.{Wake, Reset}
-use Rattle.psci_headline.specs.psci_world_spec.declared.event.Event.TheVariants.{Deliver}
-use Rattle.psci_headline.specs.psci_world_spec.declared.said.Record.{Record}
-use Rattle.psci_headline.specs.psci_world_spec.declared.said.Said.{Said}
 use Rattle.psci_headline.specs.psci_world_spec.declared.said.Said.TheVariants as said
-use Rattle.psci_headline.specs.psci_world_spec.Histories.{ack_in, acks, controller_history}
-use Rattle.psci_headline.specs.psci_world_spec.Histories.{controller_values}
-use Rattle.psci_headline.specs.psci_world_spec.Histories.{delivered, firmware_values, sent}
-use Rattle.psci_headline.specs.psci_world_spec.Histories.{sent_in}
 use Rattle.psci_headline.specs.psci_world_spec.Legal.{legal}
-use Rattle.psci_headline.specs.psci_world_spec.Lists.{indexed}
-use Rattle.psci_headline.specs.psci_world_spec.Places.{place}
 use Rattle.psci_headline.proofs.Agreed.{RunLaws}
 use Rattle.psci_headline.proofs.Controlling.{after_control}
 use Rattle.psci_headline.proofs.Making.{IsDelivered, delivers}

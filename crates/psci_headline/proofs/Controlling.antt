@@ -2,22 +2,15 @@
 use Rattle.std.proofs.Common.{◌≡◌, ℕ, ◌≤◌, List, [], ◌∷◌, ◌++◌, Option, None, Some, arith}
 use Rattle.std.proofs.Common.{refl, subst}
 use Rattle.std.specs.Prelude.{slice_get}
-use Rattle.psci_board.specs.Board.{BoardValue, cores}
+use Rattle.psci_headline.proofs.Words.{BoardValue, cores, AckValue, MessageValue, Event, Wake}
+use Rattle.psci_headline.proofs.Words.{Reset, Deliver, Record, Said, control, controller_values}
+use Rattle.psci_headline.proofs.Words.{delivered, sent, IsReplied, IsLegalPast, legal, indexed}
 use Rattle.psci_board.specs.declared.limits.TheConstants.{MOST_CORES}
 use Rattle.psci_ctl_spec.specs.Exchange as controller
 use Rattle.psci_ctl_spec.specs.Legal as controls
 use Rattle.psci_fw_laws.specs.Messages.{IsSound}
-use Rattle.psci_ctl_spec.specs.psci_messages.Message.{AckValue, MessageValue}
-use Rattle.psci_world_spec.specs.declared.event.Event.{Event}
-use Rattle.psci_world_spec.specs.declared.event.Event.TheVariants.{Wake, Reset}
-use Rattle.psci_world_spec.specs.declared.event.Event.TheVariants.{Deliver}
-use Rattle.psci_world_spec.specs.declared.said.Record.{Record}
-use Rattle.psci_world_spec.specs.declared.said.Said.{Said}
 use Rattle.psci_world_spec.specs.declared.said.Said.TheVariants as said
-use Rattle.psci_world_spec.specs.Histories.{control, controller_history, controller_values}
-use Rattle.psci_world_spec.specs.Histories.{delivered, sent}
-use Rattle.psci_world_spec.specs.Legal.{IsReplied, IsLegalPast, legal}
-use Rattle.psci_world_spec.specs.Lists.{indexed}
+use Rattle.psci_world_spec.specs.Histories.{controller_history}
 use Rattle.psci_world_spec.proofs.Answered.{controller_answered}
 use Rattle.psci_headline.proofs.Happening.{reset_at, woken_at}
 use Rattle.psci_headline.proofs.Numbering.{at_number}

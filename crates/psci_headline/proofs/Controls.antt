@@ -5,31 +5,20 @@ use Rattle.std.specs.Prelude.{nat_lt, slice_get}
 use Rattle.std.proofs.lemmas.Bool.{and_cases, and_parts, cond-true}
 use Rattle.std.proofs.lemmas.Bool.{eq-eqb, eqb-false, eqb-true, ltb-false}
 use Rattle.std.proofs.lemmas.Option.{none-some, slice_get_within}
-use Rattle.psci_board.specs.Board.{BoardValue, cores, height, up}
-use Rattle.psci_ctl_spec.specs.psci_messages.declared.part.Part.{Part}
-use Rattle.psci_board.specs.Board.{domain_of}
-use Rattle.psci_ctl_spec.specs.psci_messages.declared.start.Cause.{Cause}
+use Rattle.psci_headline.proofs.Words.{BoardValue, cores, height, up, Part, domain_of, Cause}
+use Rattle.psci_headline.proofs.Words.{one_more, Nothing, Starts, Deepens, AckLaws, SumLaws}
+use Rattle.psci_headline.proofs.Words.{applied, is_stale, ack_of, may_follow, Kind, AckValue}
+use Rattle.psci_headline.proofs.Words.{ArePartsOf, AreClaims, MessageValue, PartByPart}
+use Rattle.psci_headline.proofs.Words.{start_of_life, Phase, Away, Pending, Values, AreRising}
+use Rattle.psci_headline.proofs.Words.{known_below, AreLive, AreWaiting, IsNamed, IsTold, WaitingIn}
+use Rattle.psci_headline.proofs.Words.{WasTold}
 use Rattle.psci_ctl_spec.specs.psci_messages.declared.start.Cause.TheVariants as causes
-use Rattle.psci_ctl_spec.specs.Changes.{change, one_more}
-use Rattle.psci_ctl_spec.specs.Effects.{Nothing, Starts, Deepens}
+use Rattle.psci_ctl_spec.specs.Changes.{change}
 use Rattle.psci_ctl_spec.specs.Follows.{IsFront}
-use Rattle.psci_ctl_spec.specs.Laws.{AckLaws, SumLaws}
-use Rattle.psci_ctl_spec.specs.Parts.{applied, is_stale}
-use Rattle.psci_ctl_spec.specs.Replies.{ack_of, may_follow}
 use Rattle.psci_ctl_spec.specs.Values as controlled
 use Rattle.psci_ctl_spec.proofs.Front.{take_get}
-use Rattle.psci_ctl_spec.specs.psci_messages.declared.kind.Kind.{Kind}
 use Rattle.psci_ctl_spec.specs.psci_messages.declared.kind.Kind.TheVariants as kinds
-use Rattle.psci_ctl_spec.specs.psci_messages.Message.{AckValue, ArePartsOf, AreClaims, MessageValue}
-use Rattle.psci_ctl_spec.specs.psci_messages.Message.{PartByPart}
-use Rattle.psci_headline.specs.psci_fw_spec.Lives.{start_of_life}
-use Rattle.psci_headline.specs.psci_fw_spec.Phases.{Phase, Away, Pending}
-use Rattle.psci_headline.specs.psci_fw_spec.Values.{Values}
-use Rattle.psci_headline.specs.psci_fw_laws.Claims.{AreRising}
-use Rattle.psci_headline.specs.psci_fw_laws.KnownBelow.{known_below}
-use Rattle.psci_headline.specs.psci_fw_laws.Live.{AreLive}
 use Rattle.psci_headline.specs.psci_fw_laws.Messages.{AreSent, IsSent}
-use Rattle.psci_headline.specs.Waiting.{AreWaiting, IsNamed, IsTold, WaitingIn, WasTold}
 use Rattle.psci_headline.proofs.Deepening.{AreApplied, waiting_deepened}
 use Rattle.psci_headline.proofs.Starting.{same_sum, waiting_started}
 use Rattle.psci_headline.proofs.Taking.{named}

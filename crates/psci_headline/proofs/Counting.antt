@@ -6,9 +6,8 @@ use Rattle.std.specs.List.{list_all}
 use Rattle.std.proofs.lemmas.Bool.{and_from}
 use Rattle.std.proofs.lemmas.List.{length-append}
 use Rattle.std.proofs.lemmas.List.Elements.{filter-append}
-use Rattle.psci_headline.specs.psci_world_spec.declared.event.Event.TheVariants.{Deliver}
-use Rattle.psci_headline.specs.psci_world_spec.declared.said.Record.{Record}
-use Rattle.psci_headline.specs.Drained.{deliveries, delivers, is_settling}
+use Rattle.psci_headline.proofs.Words.{Deliver, Record, deliveries}
+use Rattle.psci_headline.specs.Drained.{delivers, is_settling}
 
 -- deliveries of more records
 pub deliveries_more : (k : ℕ) (added past : List Record)

@@ -6,14 +6,12 @@ use Rattle.std.specs.Prelude.{nat_le, slice_get}
 use Rattle.std.specs.List.{list_all, prefix_len, range_with_len}
 use Rattle.std.proofs.lemmas.Bool.{and_from, cases_Bool, cases_eq, cond-true, cond-false, eq-eqb}
 use Rattle.std.proofs.lemmas.Bool.{le-leb}
-use Rattle.psci_board.specs.Board.{BoardValue, children, cores, first_child, height, nodes, up}
-use Rattle.psci_board.specs.Laws.{ChildLaws, PathLaws}
-use Rattle.psci_board.specs.declared.node.Node.{Node}
-use Rattle.psci_ctl_spec.specs.psci_messages.declared.part.Part.{Part}
-use Rattle.psci_board.specs.Board.{domain_of}
-use Rattle.psci_ctl_spec.specs.Parts.{applied, depth_or, is_applied, is_covered, laid}
-use Rattle.psci_ctl_spec.specs.Values.{Values, starts_below}
-use Rattle.psci_board.specs.Paths.{is_on_path}
+use Rattle.psci_headline.proofs.Words.{BoardValue, cores, height, nodes, up, ChildLaws, PathLaws}
+use Rattle.psci_headline.proofs.Words.{Node, Part, domain_of, depth_or, laid, starts_below}
+use Rattle.psci_headline.proofs.Words.{is_on_path}
+use Rattle.psci_board.specs.Board.{children, first_child}
+use Rattle.psci_ctl_spec.specs.Parts.{applied, is_applied, is_covered}
+use Rattle.psci_ctl_spec.specs.Values.{Values}
 use Rattle.psci_ctl_spec.proofs.Front.{get_take}
 use Rattle.psci_headline.proofs.Deepening.{path_place}
 use Rattle.psci_headline.proofs.Telling.{item_at}

@@ -1,16 +1,11 @@
 -- A domain that is not fully on is as deep as a live claim on it.
 use Rattle.std.proofs.Common.{◌≡◌, ℕ, ◌<◌, ◌⊎◌, inl, inr, Bool, true, false, cond, List, Some}
 use Rattle.std.proofs.Common.{refl, arith, sym, subst}
-use Rattle.psci_board.specs.Board.{BoardValue}
-use Rattle.psci_board.specs.declared.node.Node.{Node}
+use Rattle.psci_headline.proofs.Words.{BoardValue, Node, is_on_path, Record, controller_history}
+use Rattle.psci_headline.proofs.Words.{controller_values, IsReplied, depth_at}
 use Rattle.psci_ctl_spec.specs.History as controls
 use Rattle.psci_ctl_spec.specs.Lasting.{IsApplied, IsFirst}
-use Rattle.psci_board.specs.Paths.{is_on_path}
-use Rattle.psci_world_spec.specs.declared.said.Record.{Record}
-use Rattle.psci_world_spec.specs.Histories.{controller_history, controller_values}
-use Rattle.psci_world_spec.specs.Legal.{IsReplied}
 use Rattle.psci_headline.proofs.AppliedParts.{was_sent}
-use Rattle.psci_headline.specs.Moments.{depth_at}
 use Rattle.psci_headline.specs.Live.{HasLive}
 use Rattle.psci_headline.proofs.Claiming.{part_in, start_in}
 use Rattle.psci_headline.proofs.LiveOnes.{has_live}

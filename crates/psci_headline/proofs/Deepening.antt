@@ -4,19 +4,11 @@ use Rattle.std.proofs.Common.{List, Option, None, Some, refl, arith, ap, sym, â—
 use Rattle.std.specs.Prelude.{nat_le, slice_get}
 use Rattle.std.proofs.lemmas.Bool.{and_parts, eqb-true}
 use Rattle.std.proofs.lemmas.Option.{same_Some}
-use Rattle.psci_board.specs.Board.{BoardValue, height, up}
-use Rattle.psci_ctl_spec.specs.psci_messages.declared.part.Part.{Part}
-use Rattle.psci_ctl_spec.specs.Parts.{depth_or, laid}
-use Rattle.psci_board.specs.Paths.{is_on_path}
-use Rattle.psci_ctl_spec.specs.psci_messages.declared.kind.Kind.TheVariants.{Down}
-use Rattle.psci_ctl_spec.specs.psci_messages.Message.{AckValue, MessageValue}
-use Rattle.psci_ctl_spec.specs.psci_messages.Slots.{Slot}
-use Rattle.psci_headline.specs.psci_fw_spec.Phases.{Phase}
-use Rattle.psci_headline.specs.psci_fw_laws.Claims.{AreRising}
-use Rattle.psci_headline.specs.psci_fw_laws.KnownBelow.{known_below}
+use Rattle.psci_headline.proofs.Words.{BoardValue, height, up, Part, depth_or, laid, is_on_path}
+use Rattle.psci_headline.proofs.Words.{Down, AckValue, MessageValue, Slot, Phase, AreRising}
+use Rattle.psci_headline.proofs.Words.{known_below, AreWaiting, IsLivePart}
 use Rattle.psci_headline.proofs.fw_laws.Consequences.{once}
 use Rattle.psci_headline.proofs.fw_laws.Parts.{part_from}
-use Rattle.psci_headline.specs.Waiting.{AreWaiting, IsLivePart}
 use Rattle.psci_headline.proofs.Taking.{named}
 use Rattle.psci_headline.proofs.Starting.{same_sum}
 

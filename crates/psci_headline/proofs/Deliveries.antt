@@ -3,45 +3,30 @@ use Rattle.std.proofs.Common.{◌≡◌, ℕ, ◌⊎◌, inl, inr, Bool, true, f
 use Rattle.std.proofs.Common.{◌++◌, Option, None, Some, refl, subst, ap, ap₂, sym, ◌∙◌, length}
 use Rattle.std.specs.Prelude.{nat_lt}
 use Rattle.std.proofs.lemmas.Bool.{eqb-true}
-use Rattle.psci_board.specs.Board.{BoardValue, cores}
+use Rattle.psci_headline.proofs.Words.{BoardValue, cores, Start, Nothing, Starts, Deepens, Ends}
+use Rattle.psci_headline.proofs.Words.{Begins, message_effect, ack_by, is_this_life, last_start}
+use Rattle.psci_headline.proofs.Words.{first_depth, first_starts, FwReply, AckValue, MessageValue}
+use Rattle.psci_headline.proofs.Words.{Event, Call, Enter, Wake, Reset, Deliver, Take, Place}
+use Rattle.psci_headline.proofs.Words.{Started, Running, Stopped, Record, Said, Acked, Absent}
+use Rattle.psci_headline.proofs.Words.{ack_in, acks, control, controller_values, delivered, sent}
+use Rattle.psci_headline.proofs.Words.{deliver, if_running, if_started, if_stopped, said_by}
+use Rattle.psci_headline.proofs.Words.{said_of, take, indexed, place}
 use Rattle.psci_ctl_spec.specs.declared.call.CtlCall.TheVariants as asked
 use Rattle.psci_ctl_spec.specs.declared.delivery.Delivery.TheVariants as deliveries
 use Rattle.psci_ctl_spec.specs.declared.kick.Kick.{Kick}
 use Rattle.psci_ctl_spec.specs.declared.kick.Kick.TheVariants as kicks
 use Rattle.psci_ctl_spec.specs.declared.reply.CtlReply.TheVariants as replied
-use Rattle.psci_ctl_spec.specs.psci_messages.declared.start.Start.{Start}
 use Rattle.psci_ctl_spec.specs.Changes.{after, change}
-use Rattle.psci_ctl_spec.specs.Effects.{Effect, Nothing, Starts, Deepens, Ends}
-use Rattle.psci_ctl_spec.specs.Effects.{Begins}
-use Rattle.psci_ctl_spec.specs.Effects.{effect_of, message_effect}
+use Rattle.psci_ctl_spec.specs.Effects.{Effect, effect_of}
 use Rattle.psci_ctl_spec.specs.Exchange.{CtlExchange}
 use Rattle.psci_ctl_spec.specs.History.{values_of}
-use Rattle.psci_ctl_spec.specs.Replies.{ack_by, delivery_of, is_this_life}
-use Rattle.psci_ctl_spec.specs.Replies.{last_start, reply}
-use Rattle.psci_ctl_spec.specs.Values.{Values, first_depth, first_starts}
+use Rattle.psci_ctl_spec.specs.Replies.{delivery_of, reply}
+use Rattle.psci_ctl_spec.specs.Values.{Values}
 use Rattle.psci_ctl_spec.proofs.OneMore.{values_more}
-use Rattle.psci_fw_laws.specs.psci_fw_spec.declared.reply.FwReply.{FwReply}
 use Rattle.psci_fw_laws.specs.psci_fw_spec.declared.reply.FwReply.TheVariants as replies
-use Rattle.psci_ctl_spec.specs.psci_messages.Message.{AckValue, MessageValue}
-use Rattle.psci_world_spec.specs.declared.event.Event.{Event}
-use Rattle.psci_world_spec.specs.declared.event.Event.TheVariants.{Call, Enter}
-use Rattle.psci_world_spec.specs.declared.event.Event.TheVariants.{Wake, Reset}
-use Rattle.psci_world_spec.specs.declared.event.Event.TheVariants.{Deliver, Take}
-use Rattle.psci_world_spec.specs.declared.place.Place.{Place}
-use Rattle.psci_world_spec.specs.declared.place.Place.TheVariants.{Started, Running}
-use Rattle.psci_world_spec.specs.declared.place.Place.TheVariants.{Stopped}
-use Rattle.psci_world_spec.specs.declared.said.Record.{Record}
-use Rattle.psci_world_spec.specs.declared.said.Said.{Said}
 use Rattle.psci_world_spec.specs.declared.said.Said.TheVariants.{Kick as Kicked}
-use Rattle.psci_world_spec.specs.declared.said.Said.TheVariants.{Acked}
-use Rattle.psci_world_spec.specs.declared.said.Said.TheVariants.{Absent}
-use Rattle.psci_world_spec.specs.Histories.{ack_in, acks, control}
 use Rattle.psci_world_spec.specs.Histories.{controller_history}
-use Rattle.psci_world_spec.specs.Histories.{controller_values, delivered, sent}
-use Rattle.psci_world_spec.specs.Legal.{deliver, if_running, if_started, if_stopped}
-use Rattle.psci_world_spec.specs.Legal.{legal, said_by, said_of, take}
-use Rattle.psci_world_spec.specs.Lists.{indexed}
-use Rattle.psci_world_spec.specs.Places.{place}
+use Rattle.psci_world_spec.specs.Legal.{legal}
 use Rattle.psci_headline.proofs.Numbered.{IsListed, listed_from}
 
 -- What a record adds ---------------------------------------------------------------------------

@@ -5,31 +5,18 @@ use Rattle.std.proofs.Common.{◌∙◌, unwrap_or}
 use Rattle.std.specs.Prelude.{slice_get}
 use Rattle.std.proofs.lemmas.Bool.{cases_lt, leb-false, or_parts}
 use Rattle.std.proofs.lemmas.Option.{same_Some}
-use Rattle.psci_board.specs.Board.{BoardValue, up}
-use Rattle.psci_ctl_spec.specs.psci_messages.declared.part.Part.{Part}
-use Rattle.psci_board.specs.Board.{domain_of}
+use Rattle.psci_headline.proofs.Words.{BoardValue, up, Part, domain_of, Deepens, message_effect}
+use Rattle.psci_headline.proofs.Words.{AckLaws, applied, is_stale, laid, ack_by, MessageValue}
+use Rattle.psci_headline.proofs.Words.{OfCore, is_done, is_kind, Values, Record, controller_values}
+use Rattle.psci_headline.proofs.Words.{firmware_values, sent, indexed, place, place_of_effect}
+use Rattle.psci_headline.proofs.Words.{deliveries, serving, IsLivePart}
 use Rattle.psci_ctl_spec.specs.Changes as controlling
-use Rattle.psci_ctl_spec.specs.Effects.{Deepens, message_effect}
 use Rattle.psci_ctl_spec.specs.Follows.{IsFront}
-use Rattle.psci_ctl_spec.specs.Laws.{AckLaws}
-use Rattle.psci_ctl_spec.specs.Parts.{applied, is_stale, laid}
-use Rattle.psci_ctl_spec.specs.Replies.{ack_by}
 use Rattle.psci_ctl_spec.specs.Values as controlled
 use Rattle.psci_ctl_spec.proofs.Front.{is_front, take_get}
 use Rattle.psci_ctl_spec.specs.psci_messages.declared.kind.Kind.TheVariants as kinds
-use Rattle.psci_ctl_spec.specs.psci_messages.Message.{MessageValue}
-use Rattle.psci_ctl_spec.specs.psci_messages.Slots.{OfCore, is_done, is_kind}
-use Rattle.psci_headline.specs.psci_fw_spec.Values.{Values}
 use Rattle.psci_headline.proofs.fw_laws.Consequences.{once_down}
-use Rattle.psci_headline.specs.psci_world_spec.declared.said.Record.{Record}
-use Rattle.psci_headline.specs.psci_world_spec.Histories.{controller_values, firmware_values}
-use Rattle.psci_headline.specs.psci_world_spec.Histories.{sent}
-use Rattle.psci_headline.specs.psci_world_spec.Lists.{indexed}
-use Rattle.psci_headline.specs.psci_world_spec.Places.{place, place_of_effect}
 use Rattle.psci_headline.proofs.Numbering.{at_number}
-use Rattle.psci_headline.specs.Drained.{deliveries}
-use Rattle.psci_headline.specs.Settling.{serving}
-use Rattle.psci_headline.specs.Waiting.{IsLivePart}
 use Rattle.psci_headline.proofs.Serving.{ack_to}
 use Rattle.psci_headline.proofs.Applying.{IsReady, part_applied}
 use Rattle.psci_headline.proofs.Claimed.{AreDeep}

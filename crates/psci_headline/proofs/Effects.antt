@@ -2,31 +2,16 @@
 use Rattle.std.proofs.Common.{◌≡◌, ℕ, inl, inr, ◌<◌, true, false, List}
 use Rattle.std.proofs.Common.{[], ◌∷◌, length, Some, refl, arith, subst, sym, ◌∙◌}
 use Rattle.std.specs.Prelude.{slice_get}
-use Rattle.psci_headline.specs.psci_board.Board.{BoardValue}
-use Rattle.psci_headline.specs.psci_board.Laws.{PathLaws}
-use Rattle.psci_headline.specs.psci_board.declared.node.Core.{Core}
-use Rattle.psci_headline.specs.psci_messages.declared.part.Part.{Part}
-use Rattle.psci_headline.specs.psci_messages.declared.kind.Kind.{Kind}
+use Rattle.psci_headline.proofs.Words.{BoardValue, PathLaws, Core, Part, Kind, Start, ArePartsOf}
+use Rattle.psci_headline.proofs.Words.{AreClaims, MessageValue, OfSystem, slot_of, change}
+use Rattle.psci_headline.proofs.Words.{with_arrival, Rests, Stops, Enters, Parks, StopsAtOnce}
+use Rattle.psci_headline.proofs.Words.{in_life, Phase, Away, Pending, unless_pending, Values}
+use Rattle.psci_headline.proofs.Words.{IsAllowed, Holds, KnownLaws, is_system, AreConfirming}
 use Rattle.psci_headline.specs.psci_messages.declared.kind.Kind.TheVariants as kinds
-use Rattle.psci_headline.specs.psci_messages.declared.start.Start.{Start}
-use Rattle.psci_headline.specs.psci_messages.Message.{ArePartsOf, AreClaims, MessageValue}
-use Rattle.psci_headline.specs.psci_messages.Slots.{OfSystem, slot_of}
-use Rattle.psci_headline.specs.psci_fw_spec.After.{change}
-use Rattle.psci_headline.specs.psci_fw_spec.Changes.{Rest, with_arrival, with_halt}
-use Rattle.psci_headline.specs.psci_fw_spec.Changes.{with_phase, with_rest}
-use Rattle.psci_headline.specs.psci_fw_spec.Effects.{Rests}
-use Rattle.psci_headline.specs.psci_fw_spec.Effects.{Stops, Enters, Parks, StopsAtOnce}
-use Rattle.psci_headline.specs.psci_fw_spec.Lives.{in_life}
-use Rattle.psci_headline.specs.psci_fw_spec.Phases.{Phase, Away, Pending, Running}
-use Rattle.psci_headline.specs.psci_fw_spec.Phases.{unless_pending}
-use Rattle.psci_headline.specs.psci_fw_spec.Values.{Values}
-use Rattle.psci_headline.specs.psci_fw_laws.Allowed.{IsAllowed}
-use Rattle.psci_headline.specs.psci_fw_laws.Kept.{Holds}
-use Rattle.psci_headline.specs.psci_fw_laws.KnownBelow.{KnownLaws}
-use Rattle.psci_headline.specs.psci_fw_laws.Messages.{is_system}
+use Rattle.psci_headline.specs.psci_fw_spec.Changes.{Rest, with_halt, with_phase, with_rest}
+use Rattle.psci_headline.specs.psci_fw_spec.Phases.{Running}
 use Rattle.psci_headline.proofs.fw_laws.Parts.{updated_at}
 use Rattle.psci_headline.proofs.Slots.{put_system}
-use Rattle.psci_headline.specs.Confirming.{AreConfirming}
 use Rattle.psci_headline.proofs.Beside.{AreBeside, IsFlat, all_domains, arrived, arrived_flat}
 use Rattle.psci_headline.proofs.Beside.{claims, phased, rested, runs}
 use Rattle.psci_headline.proofs.Coming.{on_path, yet_still}

@@ -2,28 +2,18 @@
 use Rattle.std.proofs.Common.{◌≡◌, ℕ, Bool, true, false, ◌&&◌, cond, List, Option, None, Some}
 use Rattle.std.proofs.Common.{refl, subst, ap, sym, ◌∙◌, option_and_then}
 use Rattle.std.proofs.lemmas.Bool.{and_from, cond-true, cond-false, eq-eqb, ne_eqb}
-use Rattle.psci_board.specs.Board.{BoardValue}
-use Rattle.psci_board.specs.declared.node.Core.{Core}
-use Rattle.psci_ctl_spec.specs.Replies.{ack_by, may_follow}
+use Rattle.psci_headline.proofs.Words.{BoardValue, Core, ack_by, may_follow, Kind, Down, Used}
+use Rattle.psci_headline.proofs.Words.{AckValue, MessageValue, Acknowledge, OfCore, answers}
+use Rattle.psci_headline.proofs.Words.{changed, is_done, is_kind, is_slot, slot_of, Values}
+use Rattle.psci_headline.proofs.Words.{is_system, AreOutstanding, Record, controller_values}
+use Rattle.psci_headline.proofs.Words.{firmware_values, sent, IsLegalPast, served, serving}
 use Rattle.psci_ctl_spec.specs.Values as controlled
-use Rattle.psci_ctl_spec.specs.psci_messages.declared.kind.Kind.{Kind}
-use Rattle.psci_ctl_spec.specs.psci_messages.declared.kind.Kind.TheVariants.{Down, Start, Off}
-use Rattle.psci_ctl_spec.specs.psci_messages.declared.kind.Kind.TheVariants.{Reset}
-use Rattle.psci_ctl_spec.specs.psci_messages.declared.taken.Taken.TheVariants.{Used, Old}
-use Rattle.psci_ctl_spec.specs.psci_messages.Message.{AckValue, MessageValue}
-use Rattle.psci_ctl_spec.specs.psci_messages.Slots.{Acknowledge, OfCore, answers, changed, is_done}
-use Rattle.psci_ctl_spec.specs.psci_messages.Slots.{is_kind, is_slot}
-use Rattle.psci_ctl_spec.specs.psci_messages.Slots.{left_by, slot_of, taken}
+use Rattle.psci_ctl_spec.specs.psci_messages.declared.kind.Kind.TheVariants.{Start, Off, Reset}
+use Rattle.psci_ctl_spec.specs.psci_messages.declared.taken.Taken.TheVariants.{Old}
+use Rattle.psci_ctl_spec.specs.psci_messages.Slots.{left_by, taken}
 use Rattle.psci_headline.specs.psci_fw_spec.Taking.{taken_by}
-use Rattle.psci_headline.specs.psci_fw_spec.Values.{Values}
-use Rattle.psci_headline.specs.psci_fw_laws.Messages.{is_system}
-use Rattle.psci_headline.specs.psci_fw_laws.Outstanding.{AreOutstanding}
-use Rattle.psci_headline.specs.psci_world_spec.declared.said.Record.{Record}
-use Rattle.psci_headline.specs.psci_world_spec.Histories.{controller_values, firmware_values}
-use Rattle.psci_headline.specs.psci_world_spec.Histories.{sent}
-use Rattle.psci_headline.specs.psci_world_spec.Legal.{IsLegalPast}
 use Rattle.psci_headline.proofs.Agreed.{RunLaws}
-use Rattle.psci_headline.specs.Settling.{served, serving, index_of}
+use Rattle.psci_headline.specs.Settling.{index_of}
 use Rattle.psci_headline.proofs.Serving.{AreAnswered, ack_to, answered_so}
 use Rattle.psci_headline.proofs.Finding.{HasNumber, HaveName, finds}
 use Rattle.psci_headline.proofs.Taking.{HasName}

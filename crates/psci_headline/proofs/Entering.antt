@@ -4,42 +4,26 @@ use Rattle.std.proofs.Common.{◌++◌, length, Option, None, Some, option_map, 
 use Rattle.std.proofs.Common.{subst, arith}
 use Rattle.std.specs.Option.{option_or}
 use Rattle.std.proofs.lemmas.Bool.{eqb-false, eqb-true}
-use Rattle.psci_board.specs.Board.{BoardValue}
-use Rattle.psci_ctl_spec.specs.psci_messages.declared.start.Start.{Start}
-use Rattle.psci_ctl_spec.specs.psci_messages.Message.{MessageValue}
+use Rattle.psci_headline.proofs.Words.{BoardValue, Start, MessageValue, FwFault, Opening, Act}
+use Rattle.psci_headline.proofs.Words.{Outcome, FwReply, change, reply_or, with_arrival, Effect}
+use Rattle.psci_headline.proofs.Words.{AsksOn, Rests, Enters, Parks, StopsAtOnce, enter_effect}
+use Rattle.psci_headline.proofs.Words.{enter_fault, FwExchange, effect, IsLegal, in_life}
+use Rattle.psci_headline.proofs.Words.{start_of_life, stops, arrived, listed, Values, updated}
+use Rattle.psci_headline.proofs.Words.{IsAllowed, enters_or_resumes_by, Made, TakenUp, OfCall}
+use Rattle.psci_headline.proofs.Words.{OfLife}
 use Rattle.psci_fw_laws.specs.psci_fw_spec.declared.call.FwCall.{FwCall}
 use Rattle.psci_fw_laws.specs.psci_fw_spec.declared.call.FwCall.TheVariants as calls
-use Rattle.psci_fw_laws.specs.psci_fw_spec.declared.fault.FwFault.{FwFault}
-use Rattle.psci_fw_laws.specs.psci_fw_spec.declared.opening.Opening.{Opening}
-use Rattle.psci_fw_laws.specs.psci_fw_spec.declared.outcome.Act.{Act}
 use Rattle.psci_fw_laws.specs.psci_fw_spec.declared.outcome.Act.TheVariants as acts
-use Rattle.psci_fw_laws.specs.psci_fw_spec.declared.outcome.Outcome.{Outcome}
-use Rattle.psci_fw_laws.specs.psci_fw_spec.declared.reply.FwReply.{FwReply}
 use Rattle.psci_fw_laws.specs.psci_fw_spec.declared.reply.FwReply.TheVariants as replies
-use Rattle.psci_fw_laws.specs.psci_fw_spec.After.{change}
-use Rattle.psci_fw_laws.specs.psci_fw_spec.Answer.{answer, reply_or}
-use Rattle.psci_fw_laws.specs.psci_fw_spec.Changes.{with_arrival}
+use Rattle.psci_fw_laws.specs.psci_fw_spec.Answer.{answer}
 use Rattle.psci_fw_laws.specs.psci_fw_spec.CpuOff.{off_message}
-use Rattle.psci_fw_laws.specs.psci_fw_spec.Effects.{Effect, AsksOn}
-use Rattle.psci_fw_laws.specs.psci_fw_spec.Effects.{Rests}
-use Rattle.psci_fw_laws.specs.psci_fw_spec.Effects.{Enters, Parks, StopsAtOnce}
 use Rattle.psci_fw_laws.specs.psci_fw_spec.Effects.{effect_of}
-use Rattle.psci_fw_laws.specs.psci_fw_spec.Effects.{enter_effect}
-use Rattle.psci_fw_laws.specs.psci_fw_spec.Entering.{enter_fault, enter_outcome, outcome_at}
-use Rattle.psci_fw_laws.specs.psci_fw_spec.Entering.{resumes}
-use Rattle.psci_fw_laws.specs.psci_fw_spec.Exchange.{FwExchange, effect}
+use Rattle.psci_fw_laws.specs.psci_fw_spec.Entering.{enter_outcome, outcome_at, resumes}
 use Rattle.psci_fw_laws.specs.psci_fw_spec.History.{life, values_of}
-use Rattle.psci_fw_laws.specs.psci_fw_spec.Legal.{IsLegal}
-use Rattle.psci_fw_laws.specs.psci_fw_spec.Lives.{in_life, start_of_life}
-use Rattle.psci_fw_laws.specs.psci_fw_spec.Outcomes.{stops, stops_with}
-use Rattle.psci_fw_laws.specs.psci_fw_spec.Said.{arrived, listed}
-use Rattle.psci_fw_laws.specs.psci_fw_spec.Values.{Values, updated}
-use Rattle.psci_fw_laws.specs.Allowed.{IsAllowed}
+use Rattle.psci_fw_laws.specs.psci_fw_spec.Outcomes.{stops_with}
 use Rattle.psci_fw_laws.proofs.Parts.{updated_at}
-use Rattle.psci_headline.specs.Moments.{enters_or_resumes_by}
-use Rattle.psci_headline.specs.Openings.{AreTakenUp, EnteredAt, Made, TakenUp, entered_by}
-use Rattle.psci_headline.specs.Openings.{entered_to, made_at, made_for_boot, openings, taken_up}
-use Rattle.psci_headline.specs.Openings.{OfCall, OfLife}
+use Rattle.psci_headline.specs.Openings.{AreTakenUp, EnteredAt, entered_by, entered_to, made_at}
+use Rattle.psci_headline.specs.Openings.{made_for_boot, openings, taken_up}
 use Rattle.psci_headline.proofs.Functions.{call_ends}
 use Rattle.psci_headline.proofs.Naming.{AreNamed, made_in, names_target, same_made}
 use Rattle.psci_headline.proofs.TakingUp.{taken_up_by, taking}

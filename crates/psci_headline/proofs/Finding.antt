@@ -6,9 +6,7 @@ use Rattle.std.specs.Prelude.{get_or, slice_get}
 use Rattle.std.proofs.lemmas.Bool.{and_from, and_parts, cond-true, cond-false, eq-eqb, eqb-true}
 use Rattle.std.proofs.lemmas.List.{get_or-reverse, length-reverse, reverse-append}
 use Rattle.std.proofs.lemmas.Option.{get_or_from_slice_get, slice_get-get_or, slice_get_within}
-use Rattle.psci_ctl_spec.specs.psci_messages.Message.{MessageValue}
-use Rattle.psci_ctl_spec.specs.psci_messages.Slots.{is_kind}
-use Rattle.psci_headline.specs.psci_world_spec.Lists.{indexed}
+use Rattle.psci_headline.proofs.Words.{MessageValue, is_kind, indexed}
 use Rattle.psci_headline.specs.Settling.{has_name, index_of}
 use Rattle.psci_headline.proofs.Taking.{same_kind}
 use Rattle.psci_headline.proofs.Telling.{own_kind}

@@ -1,43 +1,22 @@
 -- What waits after a call, an entry and an acknowledgement that was taken.
 use Rattle.std.proofs.Common.{◌≡◌, ℕ, ◌<◌, List, ◌++◌, Option, None, Some, option_map}
 use Rattle.std.proofs.Common.{refl, subst, sym}
-use Rattle.psci_headline.specs.psci_abi.Calls.{request_of}
-use Rattle.psci_headline.specs.psci_abi.declared.registers.Regs.{Regs}
-use Rattle.psci_board.specs.Board.{BoardValue, cores}
-use Rattle.psci_ctl_spec.specs.psci_messages.declared.start.Start.{Start}
-use Rattle.psci_ctl_spec.specs.Replies.{last_start}
-use Rattle.psci_ctl_spec.specs.psci_messages.Message.{AckValue, MessageValue}
-use Rattle.psci_ctl_spec.specs.psci_messages.declared.taken.Taken.{Taken}
+use Rattle.psci_headline.proofs.Words.{request_of, Regs, BoardValue, cores, Start, last_start}
+use Rattle.psci_headline.proofs.Words.{AckValue, MessageValue, Taken, Outcome, change, call_fault}
+use Rattle.psci_headline.proofs.Words.{enter_effect, function_effect, enter_fault, IsLegal}
+use Rattle.psci_headline.proofs.Words.{listed, Values, Call, Enter, Take, Record, Said, ack_in}
+use Rattle.psci_headline.proofs.Words.{acks, controller_values, entered, firmware_history}
+use Rattle.psci_headline.proofs.Words.{firmware_values, outcome_in, sent, sent_in, took, legal}
+use Rattle.psci_headline.proofs.Words.{indexed, place}
 use Rattle.psci_ctl_spec.specs.psci_messages.declared.taken.Taken.TheVariants as takens
 use Rattle.psci_headline.specs.psci_fw_spec.declared.call.FwCall.TheVariants as calls
-use Rattle.psci_headline.specs.psci_fw_spec.declared.outcome.Outcome.{Outcome}
 use Rattle.psci_headline.specs.psci_fw_spec.declared.reply.FwReply.TheVariants as replies
-use Rattle.psci_headline.specs.psci_fw_spec.After.{change}
 use Rattle.psci_headline.specs.psci_fw_spec.Answer.{answer}
-use Rattle.psci_headline.specs.psci_fw_spec.Calls.{call_fault}
-use Rattle.psci_headline.specs.psci_fw_spec.Effects.{enter_effect, function_effect}
-use Rattle.psci_headline.specs.psci_fw_spec.Entering.{enter_fault}
 use Rattle.psci_headline.specs.psci_fw_spec.Exchange as firmware
-use Rattle.psci_headline.specs.psci_fw_spec.Exchange.{effect}
 use Rattle.psci_headline.specs.psci_fw_spec.History as remembers
-use Rattle.psci_headline.specs.psci_fw_spec.Legal.{IsLegal}
 use Rattle.psci_headline.specs.psci_fw_spec.Said as says
-use Rattle.psci_headline.specs.psci_fw_spec.Said.{listed}
-use Rattle.psci_headline.specs.psci_fw_spec.Values.{Values}
-use Rattle.psci_headline.specs.psci_world_spec.declared.event.Event.TheVariants.{Call, Enter}
-use Rattle.psci_headline.specs.psci_world_spec.declared.event.Event.TheVariants.{Take}
 use Rattle.psci_headline.specs.psci_world_spec.declared.place.Place.TheVariants as places
-use Rattle.psci_headline.specs.psci_world_spec.declared.said.Record.{Record}
-use Rattle.psci_headline.specs.psci_world_spec.declared.said.Said.{Said}
 use Rattle.psci_headline.specs.psci_world_spec.declared.said.Said.TheVariants as said
-use Rattle.psci_headline.specs.psci_world_spec.Histories.{ack_in, acks, controller_values}
-use Rattle.psci_headline.specs.psci_world_spec.Histories.{entered}
-use Rattle.psci_headline.specs.psci_world_spec.Histories.{firmware_history, firmware_values}
-use Rattle.psci_headline.specs.psci_world_spec.Histories.{outcome_in, sent}
-use Rattle.psci_headline.specs.psci_world_spec.Histories.{sent_in, took}
-use Rattle.psci_headline.specs.psci_world_spec.Legal.{legal}
-use Rattle.psci_headline.specs.psci_world_spec.Lists.{indexed}
-use Rattle.psci_headline.specs.psci_world_spec.Places.{place}
 use Rattle.psci_headline.proofs.Agreed.{RunLaws}
 use Rattle.psci_headline.proofs.Happening.{called, entered_by}
 use Rattle.psci_headline.proofs.Moving.{function_call}

@@ -1,19 +1,13 @@
 -- A function returns to its caller or stops it: none is answered as a core that enters.
 use Rattle.std.proofs.Common.{◌≡◌, ℕ, false, refl}
 use Rattle.std.proofs.Common.{Option, None, Some, ap, ◌∙◌}
-use Rattle.psci_world_spec.specs.psci_abi.Calls.{request_of}
-use Rattle.psci_world_spec.specs.psci_abi.declared.registers.Regs.{Regs}
-use Rattle.psci_world_spec.specs.psci_abi.declared.request.Request.{Request}
-use Rattle.psci_board.specs.Board.{BoardValue}
+use Rattle.psci_headline.proofs.Words.{request_of, Regs, Request, BoardValue, FwFault, Outcome}
+use Rattle.psci_headline.proofs.Words.{reply_or, call_fault, outcome_of, Values}
+use Rattle.psci_headline.proofs.Words.{enters_or_resumes_by}
 use Rattle.psci_fw_laws.specs.psci_fw_spec.declared.call.FwCall.TheVariants.{Smc}
-use Rattle.psci_fw_laws.specs.psci_fw_spec.declared.fault.FwFault.{FwFault}
-use Rattle.psci_fw_laws.specs.psci_fw_spec.declared.outcome.Outcome.{Outcome}
 use Rattle.psci_fw_laws.specs.psci_fw_spec.declared.reply.FwReply.TheVariants as replies
-use Rattle.psci_fw_laws.specs.psci_fw_spec.Answer.{answer, reply_or}
-use Rattle.psci_fw_laws.specs.psci_fw_spec.Calls.{call_fault, outcome_of}
-use Rattle.psci_fw_laws.specs.psci_fw_spec.Values.{Values}
+use Rattle.psci_fw_laws.specs.psci_fw_spec.Answer.{answer}
 use Rattle.psci_fw_laws.proofs.fw_spec.Endings.{function_ends, outcome_ends}
-use Rattle.psci_headline.specs.Moments.{enters_or_resumes_by}
 
 -- this outcome is no entry
 abbrev Ends : Outcome → Type 0

@@ -1,27 +1,15 @@
 -- What stays so in every round: each started core has entered, and none is pending.
 use Rattle.std.proofs.Common.{◌≡◌, ℕ, ◌+◌, ◌<◌, true, false, List}
 use Rattle.std.proofs.Common.{Some, refl, subst, ap, sym, ◌∙◌}
-use Rattle.psci_board.specs.Board.{BoardValue, cores, height, up}
-use Rattle.psci_ctl_spec.specs.psci_messages.declared.part.Part.{Part}
+use Rattle.psci_headline.proofs.Words.{BoardValue, cores, height, up, Part, Kind, ArePartsOf}
+use Rattle.psci_headline.proofs.Words.{AreClaims, MessageValue, OfCore, OfSystem, in_life, Pending}
+use Rattle.psci_headline.proofs.Words.{Values, IsClaimOn, IsCurrent, HasDeeper, NonePending}
+use Rattle.psci_headline.proofs.Words.{is_system, AreOutstanding, Record, acks, controller_values}
+use Rattle.psci_headline.proofs.Words.{firmware_values, sent, IsLegalPast, place, AreWaiting}
 use Rattle.psci_ctl_spec.specs.Values as controlled
-use Rattle.psci_ctl_spec.specs.psci_messages.declared.kind.Kind.{Kind}
 use Rattle.psci_ctl_spec.specs.psci_messages.declared.kind.Kind.TheVariants as kinds
-use Rattle.psci_ctl_spec.specs.psci_messages.Message.{ArePartsOf, AreClaims, MessageValue}
-use Rattle.psci_ctl_spec.specs.psci_messages.Slots.{OfCore, OfSystem}
-use Rattle.psci_headline.specs.psci_fw_spec.Lives.{in_life}
-use Rattle.psci_headline.specs.psci_fw_spec.Phases.{Pending}
-use Rattle.psci_headline.specs.psci_fw_spec.Values.{Values}
-use Rattle.psci_headline.specs.psci_fw_laws.Claims.{IsClaimOn, IsCurrent}
-use Rattle.psci_headline.specs.psci_fw_laws.Granted.{HasDeeper, NonePending}
-use Rattle.psci_headline.specs.psci_fw_laws.Messages.{is_system}
-use Rattle.psci_headline.specs.psci_fw_laws.Outstanding.{AreOutstanding}
-use Rattle.psci_headline.specs.psci_world_spec.declared.said.Record.{Record}
-use Rattle.psci_headline.specs.psci_world_spec.Histories.{acks, controller_values}
-use Rattle.psci_headline.specs.psci_world_spec.Histories.{firmware_values, sent}
-use Rattle.psci_headline.specs.psci_world_spec.Legal.{IsLegalPast}
-use Rattle.psci_headline.specs.psci_world_spec.Places.{place}
 use Rattle.psci_headline.proofs.Agreeing.{found_own}
-use Rattle.psci_headline.specs.Waiting.{AreWaiting, AwaitsStart}
+use Rattle.psci_headline.specs.Waiting.{AwaitsStart}
 use Rattle.psci_headline.proofs.Applying.{IsDown, IsReady}
 use Rattle.psci_headline.proofs.Beginning.{HasEntered}
 use Rattle.psci_headline.proofs.Carried.{present_known}

@@ -3,34 +3,21 @@ use Rattle.std.proofs.Common.{◌≡◌, ℕ, ◌<◌, Bool, true, false, cond, 
 use Rattle.std.proofs.Common.{List}
 use Rattle.std.specs.Prelude.{nat_lt}
 use Rattle.std.proofs.lemmas.Bool.{ltb-true}
-use Rattle.psci_world_spec.specs.psci_abi.declared.registers.Regs.{Regs}
-use Rattle.psci_board.specs.Board.{BoardValue, cores}
+use Rattle.psci_headline.proofs.Words.{Regs, BoardValue, cores, Start, last_start, reply, Act}
+use Rattle.psci_headline.proofs.Words.{AckValue, MessageValue, Event, Call, Enter, Wake, Reset}
+use Rattle.psci_headline.proofs.Words.{Deliver, Take, Place, Started, Running, Stopped, Record}
+use Rattle.psci_headline.proofs.Words.{Said, Fw, Absent, Sent, acks, controller_values, sent}
+use Rattle.psci_headline.proofs.Words.{sent_in, deliver, if_running, if_started, if_stopped}
+use Rattle.psci_headline.proofs.Words.{said_by, take, indexed, place}
 use Rattle.psci_ctl_spec.specs.declared.call.CtlCall.TheVariants as asked
 use Rattle.psci_ctl_spec.specs.declared.delivery.Delivery.TheVariants as deliveries
 use Rattle.psci_ctl_spec.specs.declared.kick.Kick.TheVariants as kicks
 use Rattle.psci_ctl_spec.specs.declared.reply.CtlReply.{CtlReply}
 use Rattle.psci_ctl_spec.specs.declared.reply.CtlReply.TheVariants as replied
-use Rattle.psci_ctl_spec.specs.psci_messages.declared.start.Start.{Start}
-use Rattle.psci_ctl_spec.specs.Replies.{last_start, reply}
 use Rattle.psci_fw_laws.specs.psci_fw_spec.declared.call.FwCall.TheVariants as calls
-use Rattle.psci_fw_laws.specs.psci_fw_spec.declared.outcome.Act.{Act}
 use Rattle.psci_fw_laws.specs.psci_fw_spec.Answer.{answer}
-use Rattle.psci_ctl_spec.specs.psci_messages.Message.{AckValue, MessageValue}
-use Rattle.psci_world_spec.specs.declared.event.Event.{Event}
-use Rattle.psci_world_spec.specs.declared.event.Event.TheVariants.{Call, Enter, Wake, Reset}
-use Rattle.psci_world_spec.specs.declared.event.Event.TheVariants.{Deliver, Take}
-use Rattle.psci_world_spec.specs.declared.place.Place.{Place}
-use Rattle.psci_world_spec.specs.declared.place.Place.TheVariants.{Started, Running, Stopped}
-use Rattle.psci_world_spec.specs.declared.said.Record.{Record}
-use Rattle.psci_world_spec.specs.declared.said.Said.{Said}
-use Rattle.psci_world_spec.specs.declared.said.Said.TheVariants.{Fw, Kick, Absent}
-use Rattle.psci_world_spec.specs.declared.said.Sent.{Sent}
-use Rattle.psci_world_spec.specs.Histories.{acks, controller_values, sent}
-use Rattle.psci_world_spec.specs.Histories.{sent_in}
-use Rattle.psci_world_spec.specs.Legal.{asked_firmware, deliver, if_running, if_started}
-use Rattle.psci_world_spec.specs.Legal.{if_stopped, legal, on_board, said_by, take}
-use Rattle.psci_world_spec.specs.Lists.{indexed}
-use Rattle.psci_world_spec.specs.Places.{place}
+use Rattle.psci_world_spec.specs.declared.said.Said.TheVariants.{Kick}
+use Rattle.psci_world_spec.specs.Legal.{asked_firmware, legal, on_board}
 
 -- Places ---------------------------------------------------------------------------------------
 

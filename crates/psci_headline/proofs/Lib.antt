@@ -74,6 +74,7 @@ mod ToldOffAxisRows
 mod ToldOffRows
 pub mod ToldTest
 pub mod Waiting
+pub mod Words
 -- In the order of the argument of docs/SETTLING.md.
 
 -- What all steps use: the laws of the crates below, counting, slots, numbers of messages, folding.

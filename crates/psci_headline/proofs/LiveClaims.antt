@@ -4,13 +4,10 @@ use Rattle.std.proofs.Common.{◌∷◌, length, filter, Option, None, Some, ref
 use Rattle.std.proofs.Common.{arith}
 use Rattle.std.specs.Prelude.{slice_get}
 use Rattle.std.proofs.lemmas.Bool.{eq-eqb, eqb-true}
-use Rattle.psci_board.specs.Board.{BoardValue}
-use Rattle.psci_board.specs.declared.node.Node.{Node}
+use Rattle.psci_headline.proofs.Words.{BoardValue, Node, Record, controller_values, Claim, claims}
 use Rattle.psci_ctl_spec.specs.Values.{starts_below}
 use Rattle.psci_fw_laws.specs.KnownBelow.{known_below}
-use Rattle.psci_world_spec.specs.declared.said.Record.{Record}
-use Rattle.psci_world_spec.specs.Histories.{controller_values}
-use Rattle.psci_headline.specs.Claims.{Claim, claims, live_claims, live_in}
+use Rattle.psci_headline.specs.Claims.{live_claims, live_in}
 use Rattle.psci_headline.proofs.Apart.{AreDistinct}
 use Rattle.psci_headline.proofs.Filters.{is_kept, keeps}
 

@@ -3,12 +3,8 @@
 use Rattle.std.proofs.Common.{◌≡◌, ℕ, List, Option, None, Some, refl, ◌∙◌, subst}
 use Rattle.std.specs.Prelude.{slice_get}
 use Rattle.std.proofs.lemmas.Option.{none-some}
-use Rattle.psci_board.specs.Board.{BoardValue}
-use Rattle.psci_board.specs.declared.node.Node.{Node}
-use Rattle.psci_ctl_spec.specs.Values.{starts_below}
-use Rattle.psci_headline.specs.Claims.{Claim, claims, live_claims}
-use Rattle.psci_world_spec.specs.declared.said.Record.{Record}
-use Rattle.psci_world_spec.specs.Histories.{controller_values}
+use Rattle.psci_headline.proofs.Words.{BoardValue, Node, starts_below, Claim, claims, live_claims}
+use Rattle.psci_headline.proofs.Words.{Record, controller_values}
 use Rattle.psci_headline.specs.Live.{HasLive}
 use Rattle.psci_headline.proofs.Claiming.{IsIn}
 use Rattle.psci_headline.proofs.LiveClaims.{live_is, live_kept, none_live}

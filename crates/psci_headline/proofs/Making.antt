@@ -3,39 +3,28 @@ use Rattle.std.proofs.Common.{◌≡◌, ℕ, zero, suc, List, [], ◌∷◌, �
 use Rattle.std.proofs.Common.{Bool, true, false, cond, ap, sym, ◌∙◌, subst}
 use Rattle.std.specs.Prelude.{length, nat_lt, slice_get}
 use Rattle.std.proofs.lemmas.Bool.{eqb-true}
-use Rattle.psci_board.specs.Board.{BoardValue, cores}
+use Rattle.psci_headline.proofs.Words.{BoardValue, cores, message_effect, Start, ack_by}
+use Rattle.psci_headline.proofs.Words.{is_this_life, last_start, FwReply, answer, listed, AckValue}
+use Rattle.psci_headline.proofs.Words.{MessageValue, Event, Call, Enter, Wake, Reset, Deliver, Take}
+use Rattle.psci_headline.proofs.Words.{Place, Started, Running, Stopped, Record, Said, ack_in}
+use Rattle.psci_headline.proofs.Words.{controller_values, delivered, firmware_values, sent}
+use Rattle.psci_headline.proofs.Words.{IsLegalPast, deliver, if_running, if_started, if_stopped}
+use Rattle.psci_headline.proofs.Words.{said_by, said_of, take, indexed, place, WasMade}
 use Rattle.psci_ctl_spec.specs.declared.delivery.Delivery.TheVariants as deliveries
 use Rattle.psci_ctl_spec.specs.declared.kick.Kick.{Kick}
 use Rattle.psci_ctl_spec.specs.declared.kick.Kick.TheVariants as kicks
 use Rattle.psci_ctl_spec.specs.declared.reply.CtlReply.TheVariants as replied
 use Rattle.psci_ctl_spec.specs.Changes.{after, change}
-use Rattle.psci_ctl_spec.specs.Effects.{effect_of, message_effect}
+use Rattle.psci_ctl_spec.specs.Effects.{effect_of}
 use Rattle.psci_ctl_spec.specs.Exchange as controller
-use Rattle.psci_ctl_spec.specs.psci_messages.declared.start.Start.{Start}
 use Rattle.psci_ctl_spec.specs.History as controls
-use Rattle.psci_ctl_spec.specs.Replies.{ack_by, delivery_of, is_this_life, last_start, reply}
+use Rattle.psci_ctl_spec.specs.Replies.{delivery_of, reply}
 use Rattle.psci_ctl_spec.specs.Values.{Values}
 use Rattle.psci_fw_laws.specs.psci_fw_spec.declared.call.FwCall.TheVariants as calls
-use Rattle.psci_fw_laws.specs.psci_fw_spec.declared.reply.FwReply.{FwReply}
 use Rattle.psci_fw_laws.specs.psci_fw_spec.declared.reply.FwReply.TheVariants as replies
-use Rattle.psci_fw_laws.specs.psci_fw_spec.Answer.{answer}
-use Rattle.psci_fw_laws.specs.psci_fw_spec.Said.{listed}
-use Rattle.psci_ctl_spec.specs.psci_messages.Message.{AckValue, MessageValue}
-use Rattle.psci_world_spec.specs.declared.event.Event.{Event}
-use Rattle.psci_world_spec.specs.declared.event.Event.TheVariants.{Call, Enter, Wake, Reset}
-use Rattle.psci_world_spec.specs.declared.event.Event.TheVariants.{Deliver, Take}
-use Rattle.psci_world_spec.specs.declared.place.Place.{Place}
-use Rattle.psci_world_spec.specs.declared.place.Place.TheVariants.{Started, Running, Stopped}
-use Rattle.psci_world_spec.specs.declared.said.Record.{Record}
-use Rattle.psci_world_spec.specs.declared.said.Said.{Said}
 use Rattle.psci_world_spec.specs.declared.said.Said.TheVariants as said
-use Rattle.psci_world_spec.specs.Histories.{ack_in, acks, controller_history, controller_values}
-use Rattle.psci_world_spec.specs.Histories.{delivered, firmware_values, sent}
-use Rattle.psci_world_spec.specs.Legal.{IsLegalPast, deliver, if_running, if_started, if_stopped}
-use Rattle.psci_world_spec.specs.Legal.{legal, said_by, said_of, take}
-use Rattle.psci_world_spec.specs.Lists.{indexed}
-use Rattle.psci_world_spec.specs.Places.{place}
-use Rattle.psci_headline.specs.Acknowledged.{WasMade}
+use Rattle.psci_world_spec.specs.Histories.{acks, controller_history}
+use Rattle.psci_world_spec.specs.Legal.{legal}
 use Rattle.psci_headline.proofs.Numbering.{at_number}
 
 -- What is acknowledged -------------------------------------------------------------------------

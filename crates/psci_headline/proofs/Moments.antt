@@ -2,35 +2,18 @@
 use Rattle.std.proofs.Common.{◌≡◌, ℕ, suc, ◌⊎◌, inl, inr, List, [], ◌∷◌, ◌++◌, Option, None}
 use Rattle.std.proofs.Common.{Some, refl, ap, sym, ◌∙◌, subst, arith}
 use Rattle.std.specs.Prelude.{slice_get}
-use Rattle.psci_board.specs.Board.{BoardValue}
-use Rattle.psci_fw_laws.specs.psci_messages.declared.part.Part.{Part}
-use Rattle.psci_ctl_spec.specs.psci_messages.declared.start.Start.{Start}
-use Rattle.psci_ctl_spec.specs.Replies.{last_start}
+use Rattle.psci_headline.proofs.Words.{BoardValue, Part, Start, last_start, Down, Taken, AckValue}
+use Rattle.psci_headline.proofs.Words.{MessageValue, Outcome, FwExchange, effect, values_of, listed}
+use Rattle.psci_headline.proofs.Words.{AreRising, part_for, Event, Call, Enter, Take, Record, Said}
+use Rattle.psci_headline.proofs.Words.{Fw, acks, call, controller_values, entered, firmware_values}
+use Rattle.psci_headline.proofs.Words.{outcome_in, sent_in, took, IsLegalPast, indexed}
 use Rattle.psci_ctl_spec.specs.Values as controlled
-use Rattle.psci_ctl_spec.specs.psci_messages.declared.kind.Kind.TheVariants.{Down}
-use Rattle.psci_ctl_spec.specs.psci_messages.declared.taken.Taken.{Taken}
-use Rattle.psci_ctl_spec.specs.psci_messages.Message.{AckValue, MessageValue}
-use Rattle.psci_fw_laws.specs.psci_fw_spec.declared.outcome.Outcome.{Outcome}
-use Rattle.psci_fw_laws.specs.psci_fw_spec.Exchange.{FwExchange, effect}
-use Rattle.psci_fw_laws.specs.psci_fw_spec.History.{values_of}
 use Rattle.psci_fw_laws.specs.psci_fw_spec.Said as says
-use Rattle.psci_fw_laws.specs.psci_fw_spec.Said.{listed}
 use Rattle.psci_fw_laws.specs.psci_fw_spec.Sent.{sent_messages}
 use Rattle.psci_fw_laws.specs.Asked.{IsAskedFor, WasAsked}
-use Rattle.psci_fw_laws.specs.Claims.{AreRising, part_for}
 use Rattle.psci_fw_laws.proofs.Parts.{part_has}
-use Rattle.psci_world_spec.specs.declared.event.Event.{Event}
-use Rattle.psci_world_spec.specs.declared.event.Event.TheVariants.{Call, Enter}
-use Rattle.psci_world_spec.specs.declared.event.Event.TheVariants.{Take}
-use Rattle.psci_world_spec.specs.declared.said.Record.{Record}
-use Rattle.psci_world_spec.specs.declared.said.Said.{Said}
-use Rattle.psci_world_spec.specs.declared.said.Said.TheVariants.{Fw, Taken as Took}
-use Rattle.psci_world_spec.specs.Histories.{acks, call, controller_values, entered}
-use Rattle.psci_world_spec.specs.Histories.{firmware_history, firmware_values}
-use Rattle.psci_world_spec.specs.Histories.{outcome_in, sent}
-use Rattle.psci_world_spec.specs.Histories.{sent_in, took}
-use Rattle.psci_world_spec.specs.Legal.{IsLegalPast}
-use Rattle.psci_world_spec.specs.Lists.{indexed}
+use Rattle.psci_world_spec.specs.declared.said.Said.TheVariants.{Taken as Took}
+use Rattle.psci_world_spec.specs.Histories.{firmware_history, sent}
 use Rattle.psci_headline.proofs.Asking.{WereAsked}
 
 -- Records --------------------------------------------------------------------------------------

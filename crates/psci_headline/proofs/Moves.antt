@@ -3,33 +3,16 @@ use Rattle.std.proofs.Common.{◌≡◌, ℕ, Bool, true, false, ◌==◌, cond,
 use Rattle.std.proofs.Common.{◌++◌, Option, None, Some, refl, subst, ap, sym, ◌∙◌}
 use Rattle.std.specs.Prelude.{nat_lt}
 use Rattle.std.proofs.lemmas.Bool.{and_parts, eqb-true, true≢false}
-use Rattle.psci_board.specs.Board.{BoardValue, cores}
-use Rattle.psci_ctl_spec.specs.psci_messages.declared.start.Start.{Start}
-use Rattle.psci_ctl_spec.specs.Replies.{last_start}
-use Rattle.psci_fw_laws.specs.psci_fw_spec.declared.outcome.Act.{Act}
+use Rattle.psci_headline.proofs.Words.{BoardValue, cores, Start, last_start, Act, change, Effect}
+use Rattle.psci_headline.proofs.Words.{Enters, enter_effect, FwExchange, effect, values_of, IsLegal}
+use Rattle.psci_headline.proofs.Words.{MessageValue, IsAllowed, Event, Call, Enter, Place, Started}
+use Rattle.psci_headline.proofs.Words.{Running, Stopped, Record, Said, Fw, Absent, Sent, acks, call}
+use Rattle.psci_headline.proofs.Words.{controller_values, entered, firmware_values, outcome_in}
+use Rattle.psci_headline.proofs.Words.{if_started, place, enters_or_resumes, enters_or_resumes_by}
 use Rattle.psci_fw_laws.specs.psci_fw_spec.declared.outcome.Act.TheVariants as acts
-use Rattle.psci_fw_laws.specs.psci_fw_spec.After.{change}
-use Rattle.psci_fw_laws.specs.psci_fw_spec.Effects.{Effect, Nothing, Enters, enter_effect}
-use Rattle.psci_fw_laws.specs.psci_fw_spec.Exchange.{FwExchange, effect}
-use Rattle.psci_fw_laws.specs.psci_fw_spec.History.{values_of}
-use Rattle.psci_fw_laws.specs.psci_fw_spec.Legal.{IsLegal}
-use Rattle.psci_ctl_spec.specs.psci_messages.Message.{MessageValue}
-use Rattle.psci_fw_laws.specs.Allowed.{IsAllowed}
-use Rattle.psci_world_spec.specs.declared.event.Event.{Event}
-use Rattle.psci_world_spec.specs.declared.event.Event.TheVariants.{Call, Enter}
-use Rattle.psci_world_spec.specs.declared.place.Place.{Place}
-use Rattle.psci_world_spec.specs.declared.place.Place.TheVariants.{Started, Running}
-use Rattle.psci_world_spec.specs.declared.place.Place.TheVariants.{Stopped}
-use Rattle.psci_world_spec.specs.declared.said.Record.{Record}
-use Rattle.psci_world_spec.specs.declared.said.Said.{Said}
-use Rattle.psci_world_spec.specs.declared.said.Said.TheVariants.{Fw, Absent}
-use Rattle.psci_world_spec.specs.declared.said.Sent.{Sent}
-use Rattle.psci_world_spec.specs.Histories.{acks, call, controller_values, entered}
-use Rattle.psci_world_spec.specs.Histories.{firmware_history, firmware_values}
-use Rattle.psci_world_spec.specs.Histories.{outcome_in}
-use Rattle.psci_world_spec.specs.Legal.{if_started, legal, on_board}
-use Rattle.psci_world_spec.specs.Places.{place}
-use Rattle.psci_headline.specs.Moments.{enters_or_resumes, enters_or_resumes_by}
+use Rattle.psci_fw_laws.specs.psci_fw_spec.Effects.{Nothing}
+use Rattle.psci_world_spec.specs.Histories.{firmware_history}
+use Rattle.psci_world_spec.specs.Legal.{legal, on_board}
 use Rattle.psci_headline.proofs.Functions.{call_ends}
 use Rattle.psci_headline.proofs.Records.{IsAdded, IsOfRecord, added}
 

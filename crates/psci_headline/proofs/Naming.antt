@@ -1,28 +1,17 @@
 -- In a legal history an accepted CPU_ON asks on the core that it named.
 use Rattle.std.proofs.Common.{◌≡◌, ℕ, Option, None, Some, option_map, ap, sym, ◌∙◌, refl}
 use Rattle.std.specs.Prelude.{option_and_then}
-use Rattle.psci_world_spec.specs.psci_abi.Calls.{request_of}
-use Rattle.psci_world_spec.specs.psci_abi.declared.registers.Regs.{Regs}
+use Rattle.psci_headline.proofs.Words.{request_of, Regs, BoardValue, Core, Start, Used}
+use Rattle.psci_headline.proofs.Words.{MessageValue, Act, FwReply, answer, PowerOn, target, Effect}
+use Rattle.psci_headline.proofs.Words.{AsksOn, Rests, enter_effect, Values, Made, OfCall}
 use Rattle.psci_world_spec.specs.psci_abi.declared.request.Request.TheVariants.{CpuOn}
-use Rattle.psci_board.specs.Board.{BoardValue, core_of}
-use Rattle.psci_board.specs.declared.node.Core.{Core}
-use Rattle.psci_ctl_spec.specs.psci_messages.declared.start.Start.{Start}
-use Rattle.psci_ctl_spec.specs.psci_messages.declared.taken.Taken.TheVariants.{Used}
-use Rattle.psci_ctl_spec.specs.psci_messages.Message.{MessageValue}
+use Rattle.psci_board.specs.Board.{core_of}
 use Rattle.psci_fw_laws.specs.psci_fw_spec.declared.call.FwCall.{FwCall}
 use Rattle.psci_fw_laws.specs.psci_fw_spec.declared.call.FwCall.TheVariants as calls
-use Rattle.psci_fw_laws.specs.psci_fw_spec.declared.outcome.Act.{Act}
 use Rattle.psci_fw_laws.specs.psci_fw_spec.declared.outcome.Act.TheVariants as acts
-use Rattle.psci_fw_laws.specs.psci_fw_spec.declared.reply.FwReply.{FwReply}
 use Rattle.psci_fw_laws.specs.psci_fw_spec.declared.reply.FwReply.TheVariants as replies
-use Rattle.psci_fw_laws.specs.psci_fw_spec.Answer.{answer}
-use Rattle.psci_fw_laws.specs.psci_fw_spec.Changes.{PowerOn, target}
-use Rattle.psci_fw_laws.specs.psci_fw_spec.Effects.{Effect, AsksOn}
-use Rattle.psci_fw_laws.specs.psci_fw_spec.Effects.{Rests}
 use Rattle.psci_fw_laws.specs.psci_fw_spec.Effects.{effect_of}
-use Rattle.psci_fw_laws.specs.psci_fw_spec.Effects.{enter_effect}
-use Rattle.psci_fw_laws.specs.psci_fw_spec.Values.{Values}
-use Rattle.psci_headline.specs.Openings.{Made, OfCall, made_at, made_by, core_asked, named_in}
+use Rattle.psci_headline.specs.Openings.{made_at, made_by, core_asked, named_in}
 
 -- Which core a call named ----------------------------------------------------------------------
 

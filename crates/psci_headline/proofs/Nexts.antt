@@ -3,27 +3,15 @@ use Rattle.std.proofs.Common.{◌≡◌, ℕ, zero, suc, ◌<◌, ◌≤◌, inl
 use Rattle.std.proofs.Common.{List, ◌∷◌, ◌++◌, Option, None, Some, refl, subst, ap}
 use Rattle.std.proofs.Common.{sym, ◌∙◌, arith}
 use Rattle.std.specs.Prelude.{slice_get}
-use Rattle.psci_board.specs.Board.{BoardValue}
+use Rattle.psci_headline.proofs.Words.{BoardValue, change, Enters, in_life, Away, listed, Values}
+use Rattle.psci_headline.proofs.Words.{Down, AckValue, Holds, Deliver, Record, ack_in, call}
+use Rattle.psci_headline.proofs.Words.{controller_values, firmware_values, sent, legal}
+use Rattle.psci_headline.proofs.Words.{enters_or_resumes, was_powered_down}
 use Rattle.psci_fw_laws.specs.psci_fw_spec.declared.status.Status.TheVariants as statuses
-use Rattle.psci_fw_laws.specs.psci_fw_spec.After.{change}
-use Rattle.psci_fw_laws.specs.psci_fw_spec.Effects.{Enters}
 use Rattle.psci_fw_laws.specs.psci_fw_spec.History as remembers
-use Rattle.psci_fw_laws.specs.psci_fw_spec.Lives.{in_life}
-use Rattle.psci_fw_laws.specs.psci_fw_spec.Phases.{Away, Running}
-use Rattle.psci_fw_laws.specs.psci_fw_spec.Said.{listed}
-use Rattle.psci_fw_laws.specs.psci_fw_spec.Values.{Values}
-use Rattle.psci_ctl_spec.specs.psci_messages.declared.kind.Kind.TheVariants.{Down}
-use Rattle.psci_ctl_spec.specs.psci_messages.Message.{AckValue}
-use Rattle.psci_fw_laws.specs.Kept.{Holds}
+use Rattle.psci_fw_laws.specs.psci_fw_spec.Phases.{Running}
 use Rattle.psci_fw_laws.proofs.Parts.{updated_here}
-use Rattle.psci_world_spec.specs.declared.event.Event.TheVariants.{Deliver}
-use Rattle.psci_world_spec.specs.declared.said.Record.{Record}
-use Rattle.psci_world_spec.specs.Histories.{ack_in, acks, call}
-use Rattle.psci_world_spec.specs.Histories.{controller_values, firmware_history}
-use Rattle.psci_world_spec.specs.Histories.{firmware_values}
-use Rattle.psci_world_spec.specs.Histories.{sent}
-use Rattle.psci_world_spec.specs.Legal.{legal}
-use Rattle.psci_headline.specs.Moments.{enters_or_resumes, was_powered_down}
+use Rattle.psci_world_spec.specs.Histories.{acks, firmware_history}
 use Rattle.psci_headline.specs.PoweredDown.{AreDown, IsDownBy}
 use Rattle.psci_headline.proofs.Acknowledging.{CoreLaws, new_is_down}
 use Rattle.psci_headline.proofs.CoreSteps.{IsStep}

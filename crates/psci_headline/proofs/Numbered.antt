@@ -4,7 +4,7 @@ use Rattle.std.proofs.Common.{sym, ◌∙◌}
 use Rattle.std.specs.Prelude.{slice_get}
 use Rattle.std.proofs.lemmas.List.{get_or-reverse, length-reverse}
 use Rattle.std.proofs.lemmas.Option.{get_or_from_slice_get, slice_get_read, slice_get_within}
-use Rattle.psci_world_spec.specs.Lists.{indexed}
+use Rattle.psci_headline.proofs.Words.{indexed}
 
 -- An item of a list.
 pub record IsListed {A : Type 0} (items : List A) (x : A) : Type 0 where

@@ -1,7 +1,7 @@
 -- An item of some number is an item of the list.
 use Rattle.std.proofs.Common.{◌≡◌, ℕ, ◌-◌, List, length, Some}
 use Rattle.std.specs.Prelude.{slice_get}
-use Rattle.psci_world_spec.specs.Lists.{indexed}
+use Rattle.psci_headline.proofs.Words.{indexed}
 use Rattle.psci_headline.proofs.Finding.{indexed_at}
 
 -- Where an item stands in a list.

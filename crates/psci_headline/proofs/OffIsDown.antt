@@ -1,20 +1,11 @@
 -- A core that is reported OFF does not run, and was powered down since it last went on.
 use Rattle.std.proofs.Common.{◌≡◌, ℕ, ◌<◌, Bool, true, false, ◌==◌, cond, List, Option, None, Some}
 use Rattle.std.proofs.Common.{refl, subst, sym, ◌∙◌}
-use Rattle.psci_board.specs.Board.{BoardValue, cores}
-use Rattle.psci_fw_laws.specs.psci_fw_spec.declared.status.Status.{Status}
-use Rattle.psci_fw_laws.specs.psci_fw_spec.declared.status.Status.TheVariants.{Off}
-use Rattle.psci_fw_laws.specs.psci_fw_spec.Invariant.{AreValues, agrees}
-use Rattle.psci_fw_laws.specs.psci_fw_spec.Lives.{start_of_life}
+use Rattle.psci_headline.proofs.Words.{BoardValue, cores, Status, Off, AreValues, start_of_life}
+use Rattle.psci_headline.proofs.Words.{Values, Running, Stopped, Record, controller_values}
+use Rattle.psci_headline.proofs.Words.{firmware_values, IsLegalPast, place, Agree, OffIsDown}
+use Rattle.psci_fw_laws.specs.psci_fw_spec.Invariant.{agrees}
 use Rattle.psci_fw_laws.specs.psci_fw_spec.Phases as phases
-use Rattle.psci_fw_laws.specs.psci_fw_spec.Values.{Values}
-use Rattle.psci_world_spec.specs.declared.place.Place.TheVariants.{Running, Stopped}
-use Rattle.psci_world_spec.specs.declared.said.Record.{Record}
-use Rattle.psci_world_spec.specs.Histories.{controller_values, firmware_values}
-use Rattle.psci_world_spec.specs.Legal.{IsLegalPast}
-use Rattle.psci_world_spec.specs.Places.{place}
-use Rattle.psci_headline.specs.Agreement.{Agree}
-use Rattle.psci_headline.specs.Safe.{OffIsDown}
 use Rattle.psci_headline.proofs.AllDown.{DownLaws, all_down}
 use Rattle.psci_headline.proofs.Slept.{reported}
 

@@ -5,12 +5,9 @@ use Rattle.std.proofs.Common.{inr}
 use Rattle.std.specs.List.{list_all}
 use Rattle.std.proofs.lemmas.Bool.{and_from, and_parts, both_ways, eq-eqb, eqb-true, cases_Bool}
 use Rattle.std.proofs.lemmas.Bool.{not-true, not_from_false}
-use Rattle.psci_fw_laws.specs.psci_board.Board.{BoardValue}
-use Rattle.psci_fw_laws.specs.psci_fw_spec.declared.opening.Opening.{Opening}
-use Rattle.psci_world_spec.specs.declared.said.Record.{Record}
-use Rattle.psci_world_spec.specs.Histories.{firmware_history}
-use Rattle.psci_headline.specs.Openings.{AreTakenUp, Fits, Made, Maker, OfCall, OfLife}
-use Rattle.psci_headline.specs.Openings.{TakenUp, taken_up}
+use Rattle.psci_headline.proofs.Words.{BoardValue, Opening, Record, firmware_history, Fits, Made}
+use Rattle.psci_headline.proofs.Words.{OfCall, OfLife, TakenUp}
+use Rattle.psci_headline.specs.Openings.{AreTakenUp, Maker, taken_up}
 use Rattle.psci_headline.specs.Test.{are_apart, is_each_once, is_each_open, is_fitting}
 use Rattle.psci_headline.specs.Test.{is_same_made, is_same_maker}
 use Rattle.psci_headline.proofs.Ranges.{all_items, each_item}

@@ -3,30 +3,19 @@ use Rattle.std.proofs.Common.{◌≡◌, ℕ, Bool, true, false, cond, refl}
 use Rattle.std.proofs.Common.{Option, None, Some, subst, sym}
 use Rattle.std.specs.Ordering.{int_eq}
 use Rattle.psci_world_spec.specs.psci_abi.Codes.{success}
-use Rattle.psci_world_spec.specs.psci_abi.declared.code.Code.{Code}
-use Rattle.psci_world_spec.specs.psci_abi.declared.request.Request.{Request}
+use Rattle.psci_headline.proofs.Words.{Code, Request, BoardValue, Start, MessageValue, FwFault}
+use Rattle.psci_headline.proofs.Words.{SuspendMode, Opening, Outcome, reply_or, outcome_of, GoesOn}
+use Rattle.psci_headline.proofs.Words.{enter_effect, function_effect, in_life, with_arrival, stops}
+use Rattle.psci_headline.proofs.Words.{Values}
 use Rattle.psci_world_spec.specs.psci_abi.declared.request.Request.TheVariants as requests
-use Rattle.psci_board.specs.Board.{BoardValue}
-use Rattle.psci_ctl_spec.specs.psci_messages.declared.start.Start.{Start}
-use Rattle.psci_ctl_spec.specs.psci_messages.Message.{MessageValue}
-use Rattle.psci_fw_laws.specs.psci_fw_spec.declared.fault.FwFault.{FwFault}
-use Rattle.psci_fw_laws.specs.psci_fw_spec.declared.mode.SuspendMode.{SuspendMode}
-use Rattle.psci_fw_laws.specs.psci_fw_spec.declared.opening.Opening.{Opening}
 use Rattle.psci_fw_laws.specs.psci_fw_spec.declared.outcome.Act.TheVariants as acts
-use Rattle.psci_fw_laws.specs.psci_fw_spec.declared.outcome.Outcome.{Outcome}
 use Rattle.psci_fw_laws.specs.psci_fw_spec.declared.reply.FwReply.TheVariants as replies
-use Rattle.psci_fw_laws.specs.psci_fw_spec.Answer.{reply_or}
-use Rattle.psci_fw_laws.specs.psci_fw_spec.Calls.{outcome_of}
-use Rattle.psci_fw_laws.specs.psci_fw_spec.Effects.{GoesOn, enter_effect, function_effect}
 use Rattle.psci_fw_laws.specs.psci_fw_spec.Effects.{mode_effect}
 use Rattle.psci_fw_laws.specs.psci_fw_spec.Entering.{enter_outcome, outcome_at, resumes}
-use Rattle.psci_fw_laws.specs.psci_fw_spec.Lives.{in_life}
-use Rattle.psci_fw_laws.specs.psci_fw_spec.Changes.{with_arrival}
 use Rattle.psci_fw_laws.specs.psci_fw_spec.CpuOff.{off_message}
-use Rattle.psci_fw_laws.specs.psci_fw_spec.Outcomes.{returns, stops, stops_with}
+use Rattle.psci_fw_laws.specs.psci_fw_spec.Outcomes.{returns, stops_with}
 use Rattle.psci_fw_laws.specs.psci_fw_spec.Said as says
 use Rattle.psci_fw_laws.specs.psci_fw_spec.SuspendMode.{mode_of}
-use Rattle.psci_fw_laws.specs.psci_fw_spec.Values.{Values}
 use Rattle.psci_fw_laws.proofs.fw_spec.Endings.{function_ends, outcome_ends, starts_with}
 
 -- Functions ------------------------------------------------------------------------------------

@@ -3,27 +3,16 @@
 use Rattle.std.proofs.Common.{◌≡◌, ℕ, ◌<◌, ◌≤◌, ◌==◌, Bool, true, false, cond, Option, None, Some}
 use Rattle.std.proofs.Common.{refl, unwrap_or, arith, subst, ap, sym, ◌∙◌, ◌⊎◌, inl, inr}
 use Rattle.std.proofs.lemmas.Bool.{cases_eq, eqb-false, eqb-true}
-use Rattle.psci_board.specs.Board.{BoardValue, cores}
-use Rattle.psci_ctl_spec.specs.psci_messages.declared.start.Start.{Start}
-use Rattle.psci_ctl_spec.specs.Replies.{last_start, start_shown}
+use Rattle.psci_headline.proofs.Words.{BoardValue, cores, Start, last_start, start_shown, AckValue}
+use Rattle.psci_headline.proofs.Words.{MessageValue, Act, change, with_acknowledgement, Effect}
+use Rattle.psci_headline.proofs.Words.{enter_effect, in_life, Phase, is_running, Values, IsAllowed}
+use Rattle.psci_headline.proofs.Words.{Place, Started, Running, Stopped, AgreeIn}
 use Rattle.psci_ctl_spec.specs.Values as controlled
-use Rattle.psci_ctl_spec.specs.psci_messages.Message.{AckValue, MessageValue}
-use Rattle.psci_fw_laws.specs.psci_fw_spec.declared.outcome.Act.{Act}
 use Rattle.psci_fw_laws.specs.psci_fw_spec.declared.outcome.Act.TheVariants as acts
-use Rattle.psci_fw_laws.specs.psci_fw_spec.After.{change}
-use Rattle.psci_fw_laws.specs.psci_fw_spec.Changes.{with_acknowledgement}
-use Rattle.psci_fw_laws.specs.psci_fw_spec.Effects.{Effect, enter_effect}
-use Rattle.psci_fw_laws.specs.psci_fw_spec.Lives.{in_life}
 use Rattle.psci_fw_laws.specs.psci_fw_spec.Outcomes.{executes_on}
 use Rattle.psci_fw_laws.specs.psci_fw_spec.Phases as phases
-use Rattle.psci_fw_laws.specs.psci_fw_spec.Phases.{Phase, is_running}
-use Rattle.psci_fw_laws.specs.psci_fw_spec.Values.{Values}
-use Rattle.psci_fw_laws.specs.Allowed.{IsAllowed}
 use Rattle.psci_fw_laws.proofs.Arriving.{found_life}
-use Rattle.psci_world_spec.specs.declared.place.Place.{Place}
-use Rattle.psci_world_spec.specs.declared.place.Place.TheVariants.{Started, Running, Stopped}
 use Rattle.psci_world_spec.specs.Places.{place_after}
-use Rattle.psci_headline.specs.Agreement.{AgreeIn}
 use Rattle.psci_headline.proofs.Agreeing.{AreAgreed, found_other, found_own}
 use Rattle.psci_headline.proofs.Moving.{CallerLaws, IsCallOf, IsMoved, call_moves, entry_moves}
 use Rattle.psci_headline.proofs.Moving.{runs_on}

@@ -3,15 +3,12 @@ use Rattle.std.proofs.Common.{◌≡◌, ℕ, zero, suc, inl, inr, Bool, true, f
 use Rattle.std.proofs.Common.{Option, Some, subst, ap, sym, ◌∙◌}
 use Rattle.std.specs.Prelude.{slice_get}
 use Rattle.std.proofs.lemmas.Bool.{cases_eq}
-use Rattle.psci_board.specs.Board.{BoardValue}
-use Rattle.psci_ctl_spec.specs.psci_messages.declared.kind.Kind.TheVariants.{Down, Start}
-use Rattle.psci_ctl_spec.specs.psci_messages.Message.{AckValue, MessageValue}
-use Rattle.psci_ctl_spec.specs.psci_messages.Slots.{Clear, OfCore, OfSystem, Put, Slot, changed}
-use Rattle.psci_ctl_spec.specs.psci_messages.Slots.{slot_of}
-use Rattle.psci_headline.specs.psci_fw_spec.Phases.{Phase, Pending}
-use Rattle.psci_headline.specs.psci_fw_spec.Values.{updated}
+use Rattle.psci_headline.proofs.Words.{BoardValue, Down, AckValue, MessageValue, Clear, OfCore}
+use Rattle.psci_headline.proofs.Words.{OfSystem, Put, Slot, changed, slot_of, Phase, Pending}
+use Rattle.psci_headline.proofs.Words.{updated, AreWaiting, IsNamed, WasTold}
+use Rattle.psci_ctl_spec.specs.psci_messages.declared.kind.Kind.TheVariants.{Start}
 use Rattle.psci_headline.proofs.fw_laws.Parts.{updated_at, updated_here, updated_there}
-use Rattle.psci_headline.specs.Waiting.{AreWaiting, IsNamed, IsPursued, WasTold}
+use Rattle.psci_headline.specs.Waiting.{IsPursued}
 use Rattle.psci_headline.proofs.Slots.{clear_there, put_here, put_system, put_there}
 use Rattle.psci_headline.proofs.Unclaimed.{NoneLive}
 

@@ -2,29 +2,15 @@
 use Rattle.std.proofs.Common.{◌≡◌, ℕ, ◌<◌, ◌≤◌, true, ◌==◌, List, refl, arith}
 use Rattle.std.proofs.Common.{sym, ◌∙◌, subst}
 use Rattle.std.proofs.lemmas.Bool.{cond_both, eqb-false, false≢true}
-use Rattle.psci_board.specs.Board.{BoardValue, cores}
-use Rattle.psci_board.specs.Laws.{PathLaws}
-use Rattle.psci_ctl_spec.specs.psci_messages.Message.{MessageValue}
+use Rattle.psci_headline.proofs.Words.{BoardValue, cores, PathLaws, MessageValue, in_life}
+use Rattle.psci_headline.proofs.Words.{start_of_life, sent_messages, Values, IsClaimOn, Holds}
+use Rattle.psci_headline.proofs.Words.{AreLive, Place, Started, Running, Stopped, Record}
+use Rattle.psci_headline.proofs.Words.{controller_values, firmware_history, firmware_values, sent}
+use Rattle.psci_headline.proofs.Words.{place, Agree, AgreeIn, executes}
 use Rattle.psci_ctl_spec.specs.Follows.{AreValues}
-use Rattle.psci_fw_laws.specs.psci_fw_spec.Lives.{in_life, start_of_life}
 use Rattle.psci_fw_laws.specs.psci_fw_spec.Phases as phases
-use Rattle.psci_fw_laws.specs.psci_fw_spec.Sent.{sent_messages}
-use Rattle.psci_fw_laws.specs.psci_fw_spec.Values.{Values}
-use Rattle.psci_fw_laws.specs.Claims.{IsClaimOn}
-use Rattle.psci_fw_laws.specs.Kept.{Holds}
-use Rattle.psci_fw_laws.specs.Live.{AreLive}
 use Rattle.psci_fw_laws.proofs.Arriving.{first_holds, found_life}
 use Rattle.psci_fw_laws.proofs.Living.{live_laws}
-use Rattle.psci_world_spec.specs.declared.place.Place.{Place}
-use Rattle.psci_world_spec.specs.declared.place.Place.TheVariants.{Started, Running}
-use Rattle.psci_world_spec.specs.declared.place.Place.TheVariants.{Stopped}
-use Rattle.psci_world_spec.specs.declared.said.Record.{Record}
-use Rattle.psci_world_spec.specs.Histories.{controller_values, firmware_history}
-use Rattle.psci_world_spec.specs.Histories.{firmware_values}
-use Rattle.psci_world_spec.specs.Histories.{sent}
-use Rattle.psci_world_spec.specs.Places.{place}
-use Rattle.psci_headline.specs.Agreement.{Agree, AgreeIn}
-use Rattle.psci_headline.specs.Moments.{executes}
 use Rattle.psci_headline.specs.Live.{NoneExecutes}
 use Rattle.psci_headline.proofs.Claiming.{source}
 use Rattle.psci_headline.proofs.LiveClaims.{same_sum}

@@ -1,18 +1,12 @@
 -- Where the world settles: the power controller's life goes on there, and is not halting.
 use Rattle.std.proofs.Common.{◌≡◌, ℕ, ◌+◌, inl, inr, false, List, Some, refl, arith, ap, sym, ◌∙◌}
 use Rattle.std.proofs.lemmas.Option.{same_Some}
-use Rattle.psci_headline.specs.psci_board.Board.{BoardValue, height}
+use Rattle.psci_headline.proofs.Words.{BoardValue, height, MessageValue, Values, Record}
+use Rattle.psci_headline.proofs.Words.{firmware_values, sent, IsLegalPast, indexed, AreAtRest}
+use Rattle.psci_headline.proofs.Words.{deliveries, is_halting}
 use Rattle.psci_headline.specs.psci_messages.declared.kind.Kind.TheVariants as kinds
-use Rattle.psci_headline.specs.psci_messages.Message.{MessageValue}
-use Rattle.psci_headline.specs.psci_fw_spec.Values.{Values}
-use Rattle.psci_headline.specs.psci_world_spec.declared.said.Record.{Record}
-use Rattle.psci_headline.specs.psci_world_spec.Histories.{firmware_values}
-use Rattle.psci_headline.specs.psci_world_spec.Histories.{sent}
-use Rattle.psci_headline.specs.psci_world_spec.Legal.{IsLegalPast}
-use Rattle.psci_headline.specs.psci_world_spec.Lists.{indexed}
 use Rattle.psci_headline.proofs.Agreeing.{found_own}
-use Rattle.psci_headline.specs.Drained.{AreAtRest, deliveries}
-use Rattle.psci_headline.specs.Settling.{begun, halts_in, is_halting, settled}
+use Rattle.psci_headline.specs.Settling.{begun, halts_in, settled}
 use Rattle.psci_headline.proofs.Beginning.{IsUnderWay}
 use Rattle.psci_headline.proofs.Bound.{HasRest, IsRound, comes_to_rest}
 use Rattle.psci_headline.proofs.Counting.{none_added}

@@ -2,32 +2,17 @@
 use Rattle.std.proofs.Common.{◌≡◌, ℕ, Bool, true, false, ◌==◌}
 use Rattle.std.proofs.Common.{cond, List, [], ◌∷◌, Option, None, Some, refl, subst, ap}
 use Rattle.std.proofs.Common.{◌∙◌}
-use Rattle.psci_world_spec.specs.psci_abi.Calls.{request_of}
-use Rattle.psci_board.specs.Board.{BoardValue}
-use Rattle.psci_ctl_spec.specs.psci_messages.declared.start.Cause.{Cause}
-use Rattle.psci_ctl_spec.specs.psci_messages.declared.start.Start.{Start}
-use Rattle.psci_ctl_spec.specs.Replies.{last_start, start_shown}
+use Rattle.psci_headline.proofs.Words.{request_of, BoardValue, Cause, Start, last_start}
+use Rattle.psci_headline.proofs.Words.{start_shown, Act, Effect, Enters, Parks, StopsAtOnce}
+use Rattle.psci_headline.proofs.Words.{Acknowledges, enter_effect, function_effect, FwExchange}
+use Rattle.psci_headline.proofs.Words.{effect, Arrival, arrived, Taken, AckValue, MessageValue}
+use Rattle.psci_headline.proofs.Words.{Event, Call, Enter, Take, Said, Fw, Sent, call, entered}
+use Rattle.psci_headline.proofs.Words.{outcome_in, took, indexed}
 use Rattle.psci_ctl_spec.specs.Values as controlled
-use Rattle.psci_fw_laws.specs.psci_fw_spec.declared.outcome.Act.{Act}
 use Rattle.psci_fw_laws.specs.psci_fw_spec.declared.outcome.Act.TheVariants as acts
-use Rattle.psci_fw_laws.specs.psci_fw_spec.Effects.{Effect, Nothing}
-use Rattle.psci_fw_laws.specs.psci_fw_spec.Effects.{Enters, Parks, StopsAtOnce}
-use Rattle.psci_fw_laws.specs.psci_fw_spec.Effects.{Acknowledges}
-use Rattle.psci_fw_laws.specs.psci_fw_spec.Effects.{enter_effect, function_effect}
-use Rattle.psci_fw_laws.specs.psci_fw_spec.Exchange.{FwExchange, effect}
-use Rattle.psci_fw_laws.specs.psci_fw_spec.Said.{Arrival, arrived}
-use Rattle.psci_ctl_spec.specs.psci_messages.declared.taken.Taken.{Taken}
+use Rattle.psci_fw_laws.specs.psci_fw_spec.Effects.{Nothing}
 use Rattle.psci_ctl_spec.specs.psci_messages.declared.taken.Taken.TheVariants as takens
-use Rattle.psci_ctl_spec.specs.psci_messages.Message.{AckValue, MessageValue}
-use Rattle.psci_world_spec.specs.declared.event.Event.{Event}
-use Rattle.psci_world_spec.specs.declared.event.Event.TheVariants.{Call, Enter}
-use Rattle.psci_world_spec.specs.declared.event.Event.TheVariants.{Take}
-use Rattle.psci_world_spec.specs.declared.said.Said.{Said}
-use Rattle.psci_world_spec.specs.declared.said.Said.TheVariants.{Fw}
 use Rattle.psci_world_spec.specs.declared.said.Said.TheVariants.{Taken as Took}
-use Rattle.psci_world_spec.specs.declared.said.Sent.{Sent}
-use Rattle.psci_world_spec.specs.Histories.{call, entered, outcome_in, took}
-use Rattle.psci_world_spec.specs.Lists.{indexed}
 use Rattle.psci_headline.proofs.Moving.{function_call, is_call}
 use Rattle.psci_headline.proofs.Numbered.{IsListed, listed_from}
 

@@ -4,20 +4,14 @@ use Rattle.std.proofs.Common.{Option, None, Some, refl, arith, subst, ap, sym, â
 use Rattle.std.specs.Prelude.{nat_le, nat_lt}
 use Rattle.std.proofs.lemmas.Bool.{and_left, and_right, cases_eq, cond-false, le-ltb}
 use Rattle.std.proofs.lemmas.Bool.{lt-leb, lt-ltb, ne_eqb, or_from}
-use Rattle.psci_board.specs.Board.{BoardValue, cores}
-use Rattle.psci_ctl_spec.specs.psci_messages.declared.start.Start.{Start}
+use Rattle.psci_headline.proofs.Words.{BoardValue, cores, Start, last_start, start_shown}
+use Rattle.psci_headline.proofs.Words.{call_fault, enter_fault, in_life, is_running, Values, Place}
+use Rattle.psci_headline.proofs.Words.{Started, Running, Stopped}
 use Rattle.psci_ctl_spec.specs.Follows as controlling
-use Rattle.psci_ctl_spec.specs.Replies.{last_start, start_shown}
 use Rattle.psci_ctl_spec.specs.Values as controlled
 use Rattle.psci_fw_laws.specs.psci_fw_spec.declared.fault.FwFault.TheVariants as faults
-use Rattle.psci_fw_laws.specs.psci_fw_spec.Calls.{call_fault}
-use Rattle.psci_fw_laws.specs.psci_fw_spec.Entering.{enter_fault, is_old}
-use Rattle.psci_fw_laws.specs.psci_fw_spec.Lives.{in_life}
+use Rattle.psci_fw_laws.specs.psci_fw_spec.Entering.{is_old}
 use Rattle.psci_fw_laws.specs.psci_fw_spec.Phases as phases
-use Rattle.psci_fw_laws.specs.psci_fw_spec.Phases.{is_running}
-use Rattle.psci_fw_laws.specs.psci_fw_spec.Values.{Values}
-use Rattle.psci_world_spec.specs.declared.place.Place.{Place}
-use Rattle.psci_world_spec.specs.declared.place.Place.TheVariants.{Started, Running, Stopped}
 use Rattle.psci_headline.proofs.Agreeing.{AreAgreed, found_own}
 use Rattle.psci_headline.proofs.Placing.{own_life}
 

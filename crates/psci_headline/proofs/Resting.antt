@@ -3,19 +3,12 @@ use Rattle.std.proofs.Common.{◌≡◌, ℕ, suc, inl, inr, ◌<◌, List, Opti
 use Rattle.std.proofs.Common.{Some, refl, arith, subst, sym, ◌∙◌}
 use Rattle.std.proofs.lemmas.Bool.{cases_lt}
 use Rattle.std.proofs.lemmas.Option.{none-some}
-use Rattle.psci_board.specs.Board.{BoardValue, HasNode, cores}
-use Rattle.psci_board.specs.declared.node.Node.{Node}
+use Rattle.psci_headline.proofs.Words.{BoardValue, HasNode, cores, Node, MessageValue, OfSystem}
+use Rattle.psci_headline.proofs.Words.{Values, known_below, Record, controller_values}
+use Rattle.psci_headline.proofs.Words.{firmware_values, sent, AreAtRest}
 use Rattle.psci_ctl_spec.specs.Values as controlled
-use Rattle.psci_ctl_spec.specs.psci_messages.Message.{MessageValue}
-use Rattle.psci_ctl_spec.specs.psci_messages.Slots.{OfSystem}
-use Rattle.psci_headline.specs.psci_fw_spec.Values.{Values}
 use Rattle.psci_headline.specs.psci_fw_laws.Granted.{AreGranted}
-use Rattle.psci_headline.specs.psci_fw_laws.KnownBelow.{known_below}
 use Rattle.psci_headline.proofs.fw_laws.Sums.{known_same}
-use Rattle.psci_headline.specs.psci_world_spec.declared.said.Record.{Record}
-use Rattle.psci_headline.specs.psci_world_spec.Histories.{controller_values, firmware_values}
-use Rattle.psci_headline.specs.psci_world_spec.Histories.{sent}
-use Rattle.psci_headline.specs.Drained.{AreAtRest}
 use Rattle.psci_headline.proofs.Claimed.{claim_deep}
 use Rattle.psci_headline.proofs.Going.{IsGoing, known_now, none_system, waits_now}
 use Rattle.psci_headline.proofs.Rounds.{DeepAt, deep_or_out, out_at}

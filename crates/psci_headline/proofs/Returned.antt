@@ -2,33 +2,18 @@
 use Rattle.std.proofs.Common.{◌≡◌, ℕ, zero, suc, ◌<◌, Bool, true, false, ◌==◌, cond, List, ◌++◌}
 use Rattle.std.proofs.Common.{Option, None, Some, refl, ap, sym, ◌∙◌, arith, not}
 use Rattle.std.specs.Prelude.{nat_lt}
-use Rattle.psci_world_spec.specs.psci_abi.Calls.{request_of}
-use Rattle.psci_world_spec.specs.psci_abi.declared.code.Code.{Code}
-use Rattle.psci_world_spec.specs.psci_abi.declared.registers.Regs.{Regs}
-use Rattle.psci_world_spec.specs.psci_abi.declared.request.Request.{Request}
-use Rattle.psci_board.specs.Board.{BoardValue, cores}
+use Rattle.psci_headline.proofs.Words.{request_of, Code, Regs, Request, BoardValue, cores, FwFault}
+use Rattle.psci_headline.proofs.Words.{Outcome, reply_or, call_fault, IsLegal, stops, is_running}
+use Rattle.psci_headline.proofs.Words.{Values, Event, Call, Record, Said, Fw, Sent, acks, call}
+use Rattle.psci_headline.proofs.Words.{controller_values, firmware_history, firmware_values}
+use Rattle.psci_headline.proofs.Words.{outcome_in}
 use Rattle.psci_fw_laws.specs.psci_fw_spec.declared.call.FwCall.TheVariants.{Smc}
-use Rattle.psci_fw_laws.specs.psci_fw_spec.declared.fault.FwFault.{FwFault}
 use Rattle.psci_fw_laws.specs.psci_fw_spec.declared.fault.FwFault.TheVariants.{NoCore, NoLife}
 use Rattle.psci_fw_laws.specs.psci_fw_spec.declared.fault.FwFault.TheVariants.{NotRunning}
 use Rattle.psci_fw_laws.specs.psci_fw_spec.declared.outcome.Act.TheVariants as acts
-use Rattle.psci_fw_laws.specs.psci_fw_spec.declared.outcome.Outcome.{Outcome}
 use Rattle.psci_fw_laws.specs.psci_fw_spec.declared.reply.FwReply.TheVariants as replies
-use Rattle.psci_fw_laws.specs.psci_fw_spec.Answer.{answer, reply_or}
-use Rattle.psci_fw_laws.specs.psci_fw_spec.Calls.{call_fault, function_outcome, outcome_of}
-use Rattle.psci_fw_laws.specs.psci_fw_spec.Legal.{IsLegal}
-use Rattle.psci_fw_laws.specs.psci_fw_spec.Outcomes.{stops}
-use Rattle.psci_fw_laws.specs.psci_fw_spec.Phases.{is_running}
-use Rattle.psci_fw_laws.specs.psci_fw_spec.Values.{Values}
-use Rattle.psci_world_spec.specs.declared.event.Event.{Event}
-use Rattle.psci_world_spec.specs.declared.event.Event.TheVariants.{Call}
-use Rattle.psci_world_spec.specs.declared.said.Record.{Record}
-use Rattle.psci_world_spec.specs.declared.said.Said.{Said}
-use Rattle.psci_world_spec.specs.declared.said.Said.TheVariants.{Fw}
-use Rattle.psci_world_spec.specs.declared.said.Sent.{Sent}
-use Rattle.psci_world_spec.specs.Histories.{acks, call, controller_values}
-use Rattle.psci_world_spec.specs.Histories.{firmware_history}
-use Rattle.psci_world_spec.specs.Histories.{firmware_values, outcome_in}
+use Rattle.psci_fw_laws.specs.psci_fw_spec.Answer.{answer}
+use Rattle.psci_fw_laws.specs.psci_fw_spec.Calls.{function_outcome, outcome_of}
 
 -- A core is answered this code to its request, in a life.
 pub record IsReturned (b : BoardValue) (v : Values) (d : ℕ) (r : Request) (code : Code)

@@ -1,33 +1,19 @@
 -- The messages of a legal run are those that the firmware's history says were sent.
 use Rattle.std.proofs.Common.{◌≡◌, ℕ, true, List, [], ◌∷◌, ◌++◌, Option, None, Some, refl}
 use Rattle.std.proofs.Common.{option_map, ap, sym, ◌∙◌, subst}
-use Rattle.psci_world_spec.specs.psci_abi.Calls.{request_of}
-use Rattle.psci_world_spec.specs.psci_abi.declared.registers.Regs.{Regs}
-use Rattle.psci_board.specs.Board.{BoardValue}
-use Rattle.psci_ctl_spec.specs.psci_messages.declared.start.Start.{Start}
-use Rattle.psci_ctl_spec.specs.Replies.{last_start}
-use Rattle.psci_ctl_spec.specs.psci_messages.Message.{AckValue, MessageValue}
-use Rattle.psci_ctl_spec.specs.psci_messages.declared.taken.Taken.{Taken}
+use Rattle.psci_headline.proofs.Words.{request_of, Regs, BoardValue, Start, last_start, AckValue}
+use Rattle.psci_headline.proofs.Words.{MessageValue, Taken, call_fault, enter_fault, IsLegal}
+use Rattle.psci_headline.proofs.Words.{listed, Event, Call, Enter, Wake, Reset, Deliver, Take}
+use Rattle.psci_headline.proofs.Words.{Record, Said, acks, call, controller_values, entered}
+use Rattle.psci_headline.proofs.Words.{firmware_values, outcome_in, sent_in, took, IsLegalPast}
+use Rattle.psci_headline.proofs.Words.{legal, indexed}
 use Rattle.psci_ctl_spec.specs.psci_messages.declared.taken.Taken.TheVariants as takens
 use Rattle.psci_fw_laws.specs.psci_fw_spec.Answer.{answer}
-use Rattle.psci_fw_laws.specs.psci_fw_spec.Calls.{call_fault}
-use Rattle.psci_fw_laws.specs.psci_fw_spec.Entering.{enter_fault}
 use Rattle.psci_fw_laws.specs.psci_fw_spec.Exchange as firmware
-use Rattle.psci_fw_laws.specs.psci_fw_spec.Legal.{IsLegal}
-use Rattle.psci_fw_laws.specs.psci_fw_spec.Said.{listed}
 use Rattle.psci_fw_laws.specs.psci_fw_spec.Said as says
 use Rattle.psci_fw_laws.specs.psci_fw_spec.Sent.{sent_messages}
-use Rattle.psci_world_spec.specs.declared.event.Event.{Event}
-use Rattle.psci_world_spec.specs.declared.event.Event.TheVariants.{Call, Enter, Wake, Reset}
-use Rattle.psci_world_spec.specs.declared.event.Event.TheVariants.{Deliver, Take}
-use Rattle.psci_world_spec.specs.declared.said.Record.{Record}
-use Rattle.psci_world_spec.specs.declared.said.Said.{Said}
 use Rattle.psci_world_spec.specs.declared.said.Said.TheVariants as said
-use Rattle.psci_world_spec.specs.Histories.{acks, call, controller_values, entered}
-use Rattle.psci_world_spec.specs.Histories.{firmware_history, firmware_values, outcome_in, sent}
-use Rattle.psci_world_spec.specs.Histories.{sent_in, took}
-use Rattle.psci_world_spec.specs.Legal.{IsLegalPast, legal}
-use Rattle.psci_world_spec.specs.Lists.{indexed}
+use Rattle.psci_world_spec.specs.Histories.{firmware_history, sent}
 use Rattle.psci_world_spec.proofs.Answered.{firmware_legal}
 use Rattle.psci_headline.proofs.Happening.{entered_by, is_quiet, sends_nothing}
 use Rattle.psci_headline.proofs.Outcomes.{call_sends, enter_sends}

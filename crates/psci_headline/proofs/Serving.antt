@@ -3,41 +3,32 @@ use Rattle.std.proofs.Common.{◌≡◌, ℕ, ◌+◌, true, ◌==◌, cond, Lis
 use Rattle.std.proofs.Common.{length, Some, unwrap_or, refl, ap}
 use Rattle.std.proofs.Common.{◌∙◌}
 use Rattle.std.proofs.lemmas.Bool.{eq-eqb}
-use Rattle.psci_board.specs.Board.{BoardValue}
+use Rattle.psci_headline.proofs.Words.{BoardValue, message_effect, ack_by, is_this_life, AckValue}
+use Rattle.psci_headline.proofs.Words.{MessageValue, Used, with_acknowledgement, Values, Deliver}
+use Rattle.psci_headline.proofs.Words.{Take, Record, Acked, ack_in, call, control}
+use Rattle.psci_headline.proofs.Words.{controller_values, delivered, firmware_values, sent_in, took}
+use Rattle.psci_headline.proofs.Words.{IsLegalPast, deliver, said_by, take, indexed}
+use Rattle.psci_headline.proofs.Words.{place_of_effect, listed, serving, step}
 use Rattle.psci_ctl_spec.specs.declared.delivery.Delivery.TheVariants as deliveries
 use Rattle.psci_ctl_spec.specs.declared.reply.CtlReply.TheVariants as replied
 use Rattle.psci_ctl_spec.specs.Changes.{after}
 use Rattle.psci_ctl_spec.specs.Changes as controlling
-use Rattle.psci_ctl_spec.specs.Effects.{effect_of, message_effect}
+use Rattle.psci_ctl_spec.specs.Effects.{effect_of}
 use Rattle.psci_ctl_spec.specs.Exchange as controller
 use Rattle.psci_ctl_spec.specs.History as controls
-use Rattle.psci_ctl_spec.specs.Replies.{ack_by, delivery_of, is_this_life, reply}
+use Rattle.psci_ctl_spec.specs.Replies.{delivery_of, reply}
 use Rattle.psci_ctl_spec.specs.Values as controlled
-use Rattle.psci_ctl_spec.specs.psci_messages.Message.{AckValue, MessageValue}
-use Rattle.psci_ctl_spec.specs.psci_messages.declared.taken.Taken.TheVariants.{Used}
 use Rattle.psci_headline.specs.psci_fw_spec.Answer.{answer}
-use Rattle.psci_headline.specs.psci_fw_spec.Changes.{with_acknowledgement}
 use Rattle.psci_headline.specs.psci_fw_spec.Exchange as firmware
 use Rattle.psci_headline.specs.psci_fw_spec.History as remembers
 use Rattle.psci_headline.specs.psci_fw_spec.Taking.{taken_by}
-use Rattle.psci_headline.specs.psci_fw_spec.Values.{Values}
-use Rattle.psci_headline.specs.psci_world_spec.declared.event.Event.TheVariants.{Deliver, Take}
-use Rattle.psci_headline.specs.psci_world_spec.declared.said.Record.{Record}
-use Rattle.psci_headline.specs.psci_world_spec.declared.said.Said.TheVariants.{Acked}
 use Rattle.psci_headline.specs.psci_world_spec.declared.said.Said.TheVariants.{Taken as Took}
-use Rattle.psci_headline.specs.psci_world_spec.Histories.{acks, ack_in, call, control}
-use Rattle.psci_headline.specs.psci_world_spec.Histories.{controller_history}
-use Rattle.psci_headline.specs.psci_world_spec.Histories.{controller_values, delivered}
-use Rattle.psci_headline.specs.psci_world_spec.Histories.{firmware_history}
-use Rattle.psci_headline.specs.psci_world_spec.Histories.{firmware_values, sent, sent_in, took}
-use Rattle.psci_headline.specs.psci_world_spec.Legal.{IsLegalPast, deliver, legal, legal_record}
-use Rattle.psci_headline.specs.psci_world_spec.Legal.{said_by, take}
-use Rattle.psci_headline.specs.psci_world_spec.Lists.{indexed}
-use Rattle.psci_headline.specs.psci_world_spec.Places.{place, place_of_effect, place_controlled}
-use Rattle.psci_headline.specs.psci_fw_spec.Said.{listed}
+use Rattle.psci_headline.specs.psci_world_spec.Histories.{acks, controller_history}
+use Rattle.psci_headline.specs.psci_world_spec.Histories.{firmware_history, sent}
+use Rattle.psci_headline.specs.psci_world_spec.Legal.{legal, legal_record}
+use Rattle.psci_headline.specs.psci_world_spec.Places.{place, place_controlled}
 use Rattle.psci_headline.proofs.Agreed.{RunLaws}
 use Rattle.psci_headline.specs.Drained as drained
-use Rattle.psci_headline.specs.Settling.{serving, step}
 use Rattle.psci_headline.proofs.Counting.{AreAdded, delivered_more, one_added}
 use Rattle.psci_headline.proofs.Finding.{numbered_new}
 

@@ -5,15 +5,12 @@ use Rattle.std.specs.Prelude.{nat_lt}
 use Rattle.std.proofs.lemmas.Bool.{and_from, and_parts, eq-eqb, eqb-true}
 use Rattle.std.proofs.lemmas.Bool.{false_from_ne_true, lt-ltb}
 use Rattle.std.proofs.lemmas.Bool.{ltb-true, not_from_false, or_left, or_right}
-use Rattle.psci_board.specs.Board.{BoardValue}
-use Rattle.psci_ctl_spec.specs.Replies.{is_this_life}
-use Rattle.psci_fw_laws.specs.psci_fw_spec.declared.status.Status.{Status}
-use Rattle.psci_fw_laws.specs.psci_fw_spec.declared.status.Status.TheVariants.{On, Off, Pending}
+use Rattle.psci_headline.proofs.Words.{BoardValue, is_this_life, Status, Off, Record}
+use Rattle.psci_headline.proofs.Words.{controller_values, firmware_values, depth_at}
+use Rattle.psci_headline.proofs.Words.{enters_or_resumes, is_reported_off}
+use Rattle.psci_fw_laws.specs.psci_fw_spec.declared.status.Status.TheVariants.{On, Pending}
 use Rattle.psci_fw_laws.specs.psci_fw_spec.SystemCalls.{is_off_status}
-use Rattle.psci_world_spec.specs.declared.said.Record.{Record}
-use Rattle.psci_world_spec.specs.Histories.{controller_values, firmware_values}
-use Rattle.psci_headline.specs.Moments.{depth_at, enters_or_resumes, was_powered_down}
-use Rattle.psci_headline.specs.Moments.{is_powered_down, is_reported_off}
+use Rattle.psci_headline.specs.Moments.{was_powered_down, is_powered_down}
 
 -- Moments --------------------------------------------------------------------------------------
 

@@ -1,9 +1,8 @@
 -- What a change leaves in the slot of a core.
 use Rattle.std.proofs.Common.{◌≡◌, ℕ, ◌==◌, Option, None, Some, refl, ap, sym, ◌∙◌}
 use Rattle.std.proofs.lemmas.Bool.{cond-true, cond-false, eq-eqb, ne_eqb}
-use Rattle.psci_ctl_spec.specs.psci_messages.Message.{MessageValue}
-use Rattle.psci_ctl_spec.specs.psci_messages.Slots.{Clear, OfCore, OfSystem, Put, Slot, changed}
-use Rattle.psci_ctl_spec.specs.psci_messages.Slots.{is_slot, slot_of}
+use Rattle.psci_headline.proofs.Words.{MessageValue, Clear, OfCore, OfSystem, Put, Slot, changed}
+use Rattle.psci_headline.proofs.Words.{is_slot, slot_of}
 
 -- the slot of a message that is sent has it
 pub put_here : (outstanding : Slot → Option MessageValue) (m : MessageValue) (c : ℕ)

@@ -4,15 +4,12 @@ use Rattle.std.proofs.Common.{List, Some, refl, arith, sym, ◌∙◌}
 use Rattle.std.specs.Prelude.{nat_le}
 use Rattle.std.proofs.lemmas.Bool.{and_cases, and_from, eqb-false, le-leb, leb-false, lt-ltb}
 use Rattle.std.proofs.lemmas.Bool.{ne_eqb}
-use Rattle.psci_board.specs.Board.{BoardValue, HasNode, height, up}
-use Rattle.psci_board.specs.declared.node.Node.{Node}
+use Rattle.psci_headline.proofs.Words.{BoardValue, HasNode, height, up, Node, is_on_path}
+use Rattle.psci_headline.proofs.Words.{is_path_place, Record, controller_history, controller_values}
+use Rattle.psci_headline.proofs.Words.{IsReplied}
 use Rattle.psci_ctl_spec.specs.History as controls
 use Rattle.psci_ctl_spec.specs.Lasting.{IsApplied, IsFirst}
-use Rattle.psci_board.specs.Paths.{is_on_path, is_path_place}
 use Rattle.psci_headline.specs.psci_fw_laws.Claims.{IsFromStart}
-use Rattle.psci_headline.specs.psci_world_spec.declared.said.Record.{Record}
-use Rattle.psci_headline.specs.psci_world_spec.Histories.{controller_history, controller_values}
-use Rattle.psci_headline.specs.psci_world_spec.Legal.{IsReplied}
 use Rattle.psci_headline.proofs.AppliedParts.{was_sent}
 use Rattle.psci_headline.proofs.Standing.{HasLive}
 use Rattle.psci_headline.proofs.Starting.{same_sum}

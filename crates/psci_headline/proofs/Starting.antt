@@ -3,18 +3,13 @@ use Rattle.std.proofs.Common.{◌≡◌, ℕ, inl, inr, ◌+◌, ◌≤◌, Bool
 use Rattle.std.proofs.Common.{List, Option, Some, refl, arith, sym, ◌∙◌}
 use Rattle.std.specs.Prelude.{slice_get}
 use Rattle.std.proofs.lemmas.Bool.{cases_Bool, cases_eq, cond-true, cond-false, eq-eqb, ne_eqb}
-use Rattle.psci_board.specs.Board.{BoardValue, height, up}
-use Rattle.psci_board.specs.declared.node.Node.{Node}
-use Rattle.psci_ctl_spec.specs.psci_messages.declared.part.Part.{Part}
-use Rattle.psci_ctl_spec.specs.Changes.{one_more, with_path_on}
+use Rattle.psci_headline.proofs.Words.{BoardValue, height, up, Node, Part, one_more, is_on_path}
+use Rattle.psci_headline.proofs.Words.{AckValue, MessageValue, Slot, Phase, AreWaiting, IsLivePart}
+use Rattle.psci_headline.proofs.Words.{IsTold}
+use Rattle.psci_ctl_spec.specs.Changes.{with_path_on}
 use Rattle.psci_ctl_spec.specs.Values.{starts_below}
-use Rattle.psci_board.specs.Paths.{is_on_path}
-use Rattle.psci_ctl_spec.specs.psci_messages.Message.{AckValue, MessageValue}
-use Rattle.psci_ctl_spec.specs.psci_messages.Slots.{Slot}
-use Rattle.psci_headline.specs.psci_fw_spec.Phases.{Phase}
 use Rattle.psci_headline.specs.psci_fw_laws.KnownBelow.{known_below}
 use Rattle.psci_headline.specs.psci_fw_laws.Messages.{known_on}
-use Rattle.psci_headline.specs.Waiting.{AreWaiting, IsLivePart, IsTold}
 use Rattle.psci_headline.proofs.Taking.{named}
 
 -- Sums -----------------------------------------------------------------------------------------

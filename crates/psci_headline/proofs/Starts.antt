@@ -3,26 +3,17 @@ use Rattle.std.proofs.Common.{◌≡◌, ℕ, ◌⊎◌, inl, inr, ◌+◌, ◌<
 use Rattle.std.proofs.Common.{List, None, Some, refl, arith, ap, sym, ◌∙◌}
 use Rattle.std.proofs.lemmas.Bool.{cases_Bool, cond-true, cond-false, eqb-true, or_left, or_right}
 use Rattle.std.proofs.lemmas.Option.{none-some, same_Some}
-use Rattle.psci_board.specs.Board.{BoardValue, cores}
+use Rattle.psci_headline.proofs.Words.{BoardValue, cores, Nothing, Starts, message_effect, Kind}
+use Rattle.psci_headline.proofs.Words.{AckValue, MessageValue, OfCore, is_done, is_kind, Values}
+use Rattle.psci_headline.proofs.Words.{AreOutstanding, Enter, Record, controller_values}
+use Rattle.psci_headline.proofs.Words.{firmware_values, sent, indexed, deliveries, served, serving}
+use Rattle.psci_headline.proofs.Words.{step}
 use Rattle.psci_ctl_spec.specs.Changes as controlling
-use Rattle.psci_ctl_spec.specs.Effects.{Nothing, Starts, message_effect}
 use Rattle.psci_ctl_spec.specs.Values as controlled
 use Rattle.psci_ctl_spec.specs.psci_messages.declared.start.Cause.TheVariants as causes
-use Rattle.psci_ctl_spec.specs.psci_messages.declared.kind.Kind.{Kind}
 use Rattle.psci_ctl_spec.specs.psci_messages.declared.kind.Kind.TheVariants as kinds
-use Rattle.psci_ctl_spec.specs.psci_messages.Message.{AckValue, MessageValue}
-use Rattle.psci_ctl_spec.specs.psci_messages.Slots.{OfCore, is_done, is_kind}
-use Rattle.psci_headline.specs.psci_fw_spec.Values.{Values}
-use Rattle.psci_headline.specs.psci_fw_laws.Outstanding.{AreOutstanding}
-use Rattle.psci_headline.specs.psci_world_spec.declared.event.Event.TheVariants.{Enter}
-use Rattle.psci_headline.specs.psci_world_spec.declared.said.Record.{Record}
-use Rattle.psci_headline.specs.psci_world_spec.Histories.{controller_values, firmware_values}
-use Rattle.psci_headline.specs.psci_world_spec.Histories.{sent}
-use Rattle.psci_headline.specs.psci_world_spec.Lists.{indexed}
 use Rattle.psci_headline.proofs.Agreeing.{found_own}
-use Rattle.psci_headline.specs.Drained.{deliveries}
-use Rattle.psci_headline.specs.Settling.{all_cores, served, serving, begun, each_core, entering}
-use Rattle.psci_headline.specs.Settling.{is_start, step}
+use Rattle.psci_headline.specs.Settling.{all_cores, begun, each_core, entering, is_start}
 use Rattle.psci_headline.proofs.Serving.{ack_to}
 use Rattle.psci_headline.proofs.Beginning.{HasEntered, HasNoStart, IsIn, IsStartAt, IsUnderWay}
 use Rattle.psci_headline.proofs.Beginning.{enter_step, more_starts}

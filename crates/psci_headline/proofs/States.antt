@@ -1,14 +1,9 @@
 -- Domains that were in a state at some moment.
 use Rattle.std.proofs.Common.{◌≡◌, ℕ, true, List, [], ◌∷◌, ◌++◌, Some, refl, ap, ◌∙◌}
 use Rattle.std.proofs.lemmas.Bool.{and_from, eq-eqb, or_left, or_right}
-use Rattle.psci_board.specs.Board.{BoardValue}
-use Rattle.psci_board.specs.declared.node.Node.{Node}
-use Rattle.psci_ctl_spec.specs.Replies.{is_this_life}
-use Rattle.psci_ctl_spec.specs.Values.{starts_below}
+use Rattle.psci_headline.proofs.Words.{BoardValue, Node, is_this_life, starts_below, hw_at, hw_code}
+use Rattle.psci_headline.proofs.Words.{Record, controller_values}
 use Rattle.psci_fw_laws.specs.psci_fw_spec.declared.hw.Hw.{Hw}
-use Rattle.psci_fw_laws.specs.psci_fw_spec.NodeHwState.{hw_at, hw_code}
-use Rattle.psci_world_spec.specs.declared.said.Record.{Record}
-use Rattle.psci_world_spec.specs.Histories.{controller_values}
 use Rattle.psci_headline.specs.Hardware.{is_hw, is_in_state, was_in_state}
 
 -- a domain that is so deep now, after so many starts below, in this life

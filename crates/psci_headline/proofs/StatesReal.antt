@@ -3,29 +3,18 @@ use Rattle.std.proofs.Common.{◌≡◌, ℕ, ◌<◌, inl, inr, Bool, true, fal
 use Rattle.std.proofs.Common.{List, [], ◌∷◌, Some, refl, subst, ap, sym, ◌∙◌, arith}
 use Rattle.std.specs.Prelude.{nat_le, nat_lt, slice_get}
 use Rattle.std.proofs.lemmas.Bool.{and_parts, and_right, ltb-true, ne_eqb}
-use Rattle.psci_board.specs.Board.{BoardValue, HasNode, height, up}
-use Rattle.psci_board.specs.Laws.{PathLaws}
-use Rattle.psci_board.specs.declared.node.Node.{Node}
+use Rattle.psci_headline.proofs.Words.{BoardValue, HasNode, height, up, PathLaws, Node, first_depth}
+use Rattle.psci_headline.proofs.Words.{first_starts, On, AreValues, hw_at, hw_code, node_hw, Values}
+use Rattle.psci_headline.proofs.Words.{AckValue, IsAllowed, KnownLaws, WasMade, Record, acks}
+use Rattle.psci_headline.proofs.Words.{controller_values, firmware_values, IsLegalPast}
+use Rattle.psci_headline.proofs.Words.{was_in_state, StatesWereReal}
 use Rattle.psci_ctl_spec.specs.Values as controlled
-use Rattle.psci_ctl_spec.specs.Values.{first_depth, first_starts, starts_below}
-use Rattle.psci_fw_laws.specs.psci_fw_spec.declared.hw.Hw.TheVariants.{On}
-use Rattle.psci_fw_laws.specs.psci_fw_spec.Invariant.{AreValues}
-use Rattle.psci_fw_laws.specs.psci_fw_spec.NodeHwState.{hw_at, hw_code, node_hw}
-use Rattle.psci_fw_laws.specs.psci_fw_spec.Values.{Values}
-use Rattle.psci_ctl_spec.specs.psci_messages.Message.{AckValue}
-use Rattle.psci_fw_laws.specs.Allowed.{IsAllowed}
-use Rattle.psci_fw_laws.specs.KnownBelow.{KnownLaws, known_below}
-use Rattle.psci_headline.specs.Acknowledged.{WasMade}
-use Rattle.psci_world_spec.specs.declared.said.Record.{Record}
-use Rattle.psci_world_spec.specs.Histories.{acks, controller_values}
-use Rattle.psci_world_spec.specs.Histories.{firmware_values}
-use Rattle.psci_world_spec.specs.Legal.{IsLegalPast}
-use Rattle.psci_headline.specs.Hardware.{said_hw, was_in_state}
-use Rattle.psci_headline.specs.Safe.{StatesWereReal}
+use Rattle.psci_ctl_spec.specs.Values.{starts_below}
+use Rattle.psci_fw_laws.specs.KnownBelow.{known_below}
+use Rattle.psci_headline.specs.Hardware.{said_hw}
 use Rattle.psci_headline.proofs.Acknowledged.{IsTaken, carried_out}
 use Rattle.psci_headline.proofs.AllDown.{DownLaws, first_controlled, first_life, next_of}
-use Rattle.psci_headline.proofs.Confirming.{How, Stays}
-use Rattle.psci_headline.proofs.Confirming.{confirmed_how, no_sum}
+use Rattle.psci_headline.proofs.Confirming.{How, Stays, confirmed_how, no_sum}
 use Rattle.psci_headline.proofs.Deliveries.{IsFirst, life_before}
 use Rattle.psci_headline.proofs.Nexts.{IsNext}
 use Rattle.psci_headline.proofs.States.{seen_later, seen_now}

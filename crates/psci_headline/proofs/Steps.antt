@@ -3,32 +3,21 @@ use Rattle.std.proofs.Common.{◌≡◌, ℕ, inl, inr, ◌+◌, ◌<◌, ◌≤
 use Rattle.std.proofs.Common.{Option, None, Some, refl, arith, subst, sym, ◌∙◌}
 use Rattle.std.specs.Prelude.{slice_get}
 use Rattle.std.proofs.lemmas.Bool.{cases_eq, cond_both}
-use Rattle.psci_headline.specs.psci_board.Board.{BoardValue}
-use Rattle.psci_headline.specs.psci_board.Laws.{PathLaws}
-use Rattle.psci_headline.specs.psci_ctl_spec.Changes.{next_life, one_more}
+use Rattle.psci_headline.proofs.Words.{BoardValue, PathLaws, next_life, one_more, Start, AckValue}
+use Rattle.psci_headline.proofs.Words.{MessageValue, change, with_mode, with_pending, Effect}
+use Rattle.psci_headline.proofs.Words.{GoesOn, SetsMode, AsksOn, Rests, Halts, Stops, Enters, Parks}
+use Rattle.psci_headline.proofs.Words.{StopsAtOnce, Acknowledges, in_life, start_of_life, Away}
+use Rattle.psci_headline.proofs.Words.{Pending, Values, IsAllowed, Holds, KnownLaws, WasTold}
+use Rattle.psci_headline.proofs.Words.{AreConfirming}
 use Rattle.psci_headline.specs.psci_ctl_spec.Changes as controlling
 use Rattle.psci_headline.specs.psci_ctl_spec.Effects as controlling_effects
 use Rattle.psci_headline.specs.psci_ctl_spec.Values as controlled
-use Rattle.psci_headline.specs.psci_messages.declared.start.Start.{Start}
-use Rattle.psci_headline.specs.psci_messages.Message.{AckValue, MessageValue}
 use Rattle.psci_headline.specs.psci_fw_spec.declared.status.Status.TheVariants as statuses
-use Rattle.psci_headline.specs.psci_fw_spec.After.{change}
-use Rattle.psci_headline.specs.psci_fw_spec.Changes.{with_mode, with_pending}
-use Rattle.psci_headline.specs.psci_fw_spec.Effects.{Effect, Nothing, GoesOn, SetsMode, AsksOn}
-use Rattle.psci_headline.specs.psci_fw_spec.Effects.{Rests, Halts}
-use Rattle.psci_headline.specs.psci_fw_spec.Effects.{Stops, Enters, Parks, StopsAtOnce}
-use Rattle.psci_headline.specs.psci_fw_spec.Effects.{Acknowledges}
-use Rattle.psci_headline.specs.psci_fw_spec.Lives.{first_confirmed, in_life, start_of_life}
-use Rattle.psci_headline.specs.psci_fw_spec.Phases.{Away, Pending}
-use Rattle.psci_headline.specs.psci_fw_spec.Values.{Values}
-use Rattle.psci_headline.specs.psci_fw_laws.Allowed.{IsAllowed}
-use Rattle.psci_headline.specs.psci_fw_laws.Kept.{Holds}
-use Rattle.psci_headline.specs.psci_fw_laws.KnownBelow.{KnownLaws}
+use Rattle.psci_headline.specs.psci_fw_spec.Effects.{Nothing}
+use Rattle.psci_headline.specs.psci_fw_spec.Lives.{first_confirmed}
 use Rattle.psci_headline.proofs.fw_laws.Arriving.{found_life}
 use Rattle.psci_headline.proofs.Agreeing.{found_other, found_own}
-use Rattle.psci_headline.specs.Waiting.{WasTold}
 use Rattle.psci_headline.proofs.Records.{IsOfRecord}
-use Rattle.psci_headline.specs.Confirming.{AreConfirming}
 use Rattle.psci_headline.proofs.Answered.{answered}
 use Rattle.psci_headline.proofs.Beside.{pends}
 use Rattle.psci_headline.proofs.Coming.{yet_later}

@@ -4,18 +4,12 @@ use Rattle.std.proofs.Common.{length, Option, None, Some, refl, arith, subst, ap
 use Rattle.std.specs.Prelude.{slice_get}
 use Rattle.std.proofs.lemmas.Bool.{and_parts, cases_lt, eqb-true, leb-true, or_cases}
 use Rattle.std.proofs.lemmas.Option.{same_Some, slice_get_within}
-use Rattle.psci_board.specs.Board.{BoardValue, up}
-use Rattle.psci_ctl_spec.specs.psci_messages.declared.part.Part.{Part}
-use Rattle.psci_ctl_spec.specs.psci_messages.declared.kind.Kind.{Kind}
-use Rattle.psci_ctl_spec.specs.psci_messages.declared.kind.Kind.TheVariants.{Down, Start, Off}
-use Rattle.psci_ctl_spec.specs.psci_messages.declared.kind.Kind.TheVariants.{Reset}
-use Rattle.psci_ctl_spec.specs.psci_messages.Message.{AckValue, MessageValue}
-use Rattle.psci_ctl_spec.specs.psci_messages.Slots.{Acknowledge, OfCore, Slot, answers, changed}
-use Rattle.psci_ctl_spec.specs.psci_messages.Slots.{is_done, is_kind}
-use Rattle.psci_ctl_spec.specs.psci_messages.Slots.{is_slot, slot_of}
-use Rattle.psci_headline.specs.psci_fw_spec.Phases.{Phase}
-use Rattle.psci_headline.specs.psci_fw_laws.Outstanding.{AreOutstanding}
-use Rattle.psci_headline.specs.Waiting.{AreWaiting, AwaitsStart, IsLivePart, IsTold, WasTold}
+use Rattle.psci_headline.proofs.Words.{BoardValue, up, Part, Kind, Down, AckValue, MessageValue}
+use Rattle.psci_headline.proofs.Words.{Acknowledge, OfCore, Slot, answers, changed, is_done}
+use Rattle.psci_headline.proofs.Words.{is_kind, is_slot, slot_of, Phase, AreOutstanding, AreWaiting}
+use Rattle.psci_headline.proofs.Words.{IsLivePart, IsTold, WasTold}
+use Rattle.psci_ctl_spec.specs.psci_messages.declared.kind.Kind.TheVariants.{Start, Off, Reset}
+use Rattle.psci_headline.specs.Waiting.{AwaitsStart}
 
 -- Names ----------------------------------------------------------------------------------------
 

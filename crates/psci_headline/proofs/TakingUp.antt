@@ -2,9 +2,8 @@
 use Rattle.std.proofs.Common.{◌≡◌, ℕ, zero, suc, ◌<◌, List, ◌∷◌, Option, None, Some, refl, ap, sym}
 use Rattle.std.proofs.Common.{◌∙◌, subst}
 use Rattle.std.specs.Prelude.{slice_get}
-use Rattle.psci_fw_laws.specs.psci_fw_spec.declared.opening.Opening.{Opening}
-use Rattle.psci_fw_laws.specs.psci_fw_spec.Values.{updated}
-use Rattle.psci_headline.specs.Openings.{EnteredAt, Fits, Made, TakenUp, newest}
+use Rattle.psci_headline.proofs.Words.{Opening, updated, Fits, Made, TakenUp}
+use Rattle.psci_headline.specs.Openings.{EnteredAt, newest}
 use Rattle.psci_headline.proofs.Waiting.{AreWaiting, IsBefore, IsFresh, IsWaiting, newest_is}
 use Rattle.psci_headline.proofs.Waiting.{none_left}
 

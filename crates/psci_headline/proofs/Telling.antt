@@ -4,20 +4,13 @@ use Rattle.std.proofs.Common.{length, take, Some, refl, arith, subst, ap, sym, �
 use Rattle.std.specs.Prelude.{slice_get}
 use Rattle.std.proofs.lemmas.Bool.{and_from, cond-true, eq-eqb, le-leb}
 use Rattle.std.proofs.lemmas.Option.{same_Some, slice_get_within}
-use Rattle.psci_board.specs.Board.{BoardValue, height, up}
-use Rattle.psci_ctl_spec.specs.psci_messages.declared.part.Part.{Part}
-use Rattle.psci_board.specs.Board.{domain_of}
-use Rattle.psci_ctl_spec.specs.Laws.{AckLaws}
-use Rattle.psci_ctl_spec.specs.Parts.{applied, depth_or, is_stale, laid}
-use Rattle.psci_ctl_spec.specs.Replies.{ack_of}
-use Rattle.psci_ctl_spec.specs.Values.{Values, starts_below}
-use Rattle.psci_board.specs.Paths.{is_on_path}
+use Rattle.psci_headline.proofs.Words.{BoardValue, height, up, Part, domain_of, AckLaws, applied}
+use Rattle.psci_headline.proofs.Words.{depth_or, is_stale, laid, ack_of, starts_below, is_on_path}
+use Rattle.psci_headline.proofs.Words.{Kind, Down, MessageValue, answers, is_kind, IsLivePart}
+use Rattle.psci_headline.proofs.Words.{IsTold}
+use Rattle.psci_ctl_spec.specs.Values.{Values}
 use Rattle.psci_ctl_spec.proofs.Front.{get_take}
-use Rattle.psci_ctl_spec.specs.psci_messages.declared.kind.Kind.{Kind}
-use Rattle.psci_ctl_spec.specs.psci_messages.declared.kind.Kind.TheVariants.{Down, Start}
-use Rattle.psci_ctl_spec.specs.psci_messages.Message.{MessageValue}
-use Rattle.psci_ctl_spec.specs.psci_messages.Slots.{answers, is_kind}
-use Rattle.psci_headline.specs.Waiting.{IsLivePart, IsTold}
+use Rattle.psci_ctl_spec.specs.psci_messages.declared.kind.Kind.TheVariants.{Start}
 use Rattle.psci_headline.proofs.Starting.{same_sum}
 
 pub own_kind : (k : Kind) → is_kind k k ≡ true

@@ -6,18 +6,12 @@ use Rattle.std.proofs.Common.{is_some, inl, inr}
 use Rattle.std.specs.List.{list_all, range_with_len}
 use Rattle.std.proofs.lemmas.Bool.{and_from, and_parts, cases_eq, eq-eqb, eqb-true, le-leb}
 use Rattle.std.proofs.lemmas.Bool.{leb-true, or_cases, or_left, or_right}
-use Rattle.psci_fw_laws.specs.psci_board.Board.{BoardValue, HasNode, cores, height, nodes, up}
-use Rattle.psci_fw_laws.specs.psci_board.declared.node.Node.{Node}
-use Rattle.psci_world_spec.specs.declared.place.Place.{Place}
-use Rattle.psci_world_spec.specs.declared.place.Place.TheVariants.{Started, Running, Stopped}
-use Rattle.psci_world_spec.specs.declared.said.Record.{Record}
-use Rattle.psci_world_spec.specs.Histories.{controller_values}
-use Rattle.psci_world_spec.specs.Places.{place}
-use Rattle.psci_headline.specs.Claims.{live_claims}
-use Rattle.psci_headline.specs.Moments.{depth_at, executes, is_reported_off}
+use Rattle.psci_headline.proofs.Words.{BoardValue, HasNode, cores, height, nodes, up, Node, Place}
+use Rattle.psci_headline.proofs.Words.{Started, Running, Stopped, Record, controller_values, place}
+use Rattle.psci_headline.proofs.Words.{live_claims, depth_at, executes, is_reported_off, OffIsDown}
+use Rattle.psci_headline.proofs.Words.{StatesWereReal}
 use Rattle.psci_headline.specs.Hardware.{is_said_asleep}
-use Rattle.psci_headline.specs.Safe.{NoDeeperThanAsked, NoneBelowSleeping, OffIsDown, OneLiveClaim}
-use Rattle.psci_headline.specs.Safe.{StatesWereReal}
+use Rattle.psci_headline.specs.Safe.{NoDeeperThanAsked, NoneBelowSleeping, OneLiveClaim}
 use Rattle.psci_headline.specs.Test.{at_each_core, at_each_domain, at_each_level, has_one, is_asked}
 use Rattle.psci_headline.specs.Test.{is_off_down, is_off_stopped, is_one, is_powered}
 use Rattle.psci_headline.specs.Test.{executes_outside, is_each_real, was_asked, was_real}

@@ -8,30 +8,19 @@ use Rattle.std.specs.List.{find, range_with_len}
 use Rattle.std.proofs.lemmas.Bool.{and_from, and_parts, cases_Bool, leb-true, lt-ltb, or_left}
 use Rattle.std.proofs.lemmas.Bool.{or_right}
 use Rattle.std.proofs.lemmas.Option.{same_Some}
-use Rattle.psci_world_spec.specs.psci_abi.Calls.{request_of}
-use Rattle.psci_world_spec.specs.psci_abi.declared.code.Code.{Code}
-use Rattle.psci_world_spec.specs.psci_abi.declared.request.Request.{Request}
+use Rattle.psci_headline.proofs.Words.{request_of, Code, Request, BoardValue, HasNode, height}
+use Rattle.psci_headline.proofs.Words.{nodes, Node, is_this_life, starts_below, On, IsLegal, hw_at}
+use Rattle.psci_headline.proofs.Words.{hw_code, node_hw, Values, Event, Call, Record, Said, Fw}
+use Rattle.psci_headline.proofs.Words.{controller_values, firmware_values, IsLegalPast}
+use Rattle.psci_headline.proofs.Words.{StatesWereReal}
 use Rattle.psci_world_spec.specs.psci_abi.declared.request.Request.TheVariants as requests
-use Rattle.psci_board.specs.Board.{BoardValue, HasNode, height, node_of, nodes}
-use Rattle.psci_board.specs.declared.node.Node.{Node}
-use Rattle.psci_ctl_spec.specs.Replies.{is_this_life}
-use Rattle.psci_ctl_spec.specs.Values.{starts_below}
+use Rattle.psci_board.specs.Board.{node_of}
 use Rattle.psci_fw_laws.specs.psci_fw_spec.declared.hw.Hw.{Hw}
-use Rattle.psci_fw_laws.specs.psci_fw_spec.declared.hw.Hw.TheVariants.{On, Off, Standby}
+use Rattle.psci_fw_laws.specs.psci_fw_spec.declared.hw.Hw.TheVariants.{Off, Standby}
 use Rattle.psci_fw_laws.specs.psci_fw_spec.declared.outcome.Act.TheVariants as acts
-use Rattle.psci_fw_laws.specs.psci_fw_spec.Legal.{IsLegal}
-use Rattle.psci_fw_laws.specs.psci_fw_spec.NodeHwState.{hw_at, hw_code, hw_state_of, node_hw}
-use Rattle.psci_fw_laws.specs.psci_fw_spec.Values.{Values}
-use Rattle.psci_world_spec.specs.declared.event.Event.{Event}
-use Rattle.psci_world_spec.specs.declared.event.Event.TheVariants.{Call}
-use Rattle.psci_world_spec.specs.declared.said.Record.{Record}
-use Rattle.psci_world_spec.specs.declared.said.Said.{Said}
-use Rattle.psci_world_spec.specs.declared.said.Said.TheVariants.{Fw}
-use Rattle.psci_world_spec.specs.Histories.{controller_values, firmware_history}
-use Rattle.psci_world_spec.specs.Histories.{firmware_values}
-use Rattle.psci_world_spec.specs.Legal.{IsLegalPast}
+use Rattle.psci_fw_laws.specs.psci_fw_spec.NodeHwState.{hw_state_of}
+use Rattle.psci_world_spec.specs.Histories.{firmware_history}
 use Rattle.psci_headline.specs.Hardware.{is_hw, is_in_state, known_starts, said_hw, was_in_state}
-use Rattle.psci_headline.specs.Safe.{StatesWereReal}
 use Rattle.psci_headline.specs.ToldHw.{WasSoDeep, hw_asked_of, is_off_depth, is_so_deep}
 use Rattle.psci_headline.specs.ToldHw.{is_standby_depth, told_hw, was_so_deep}
 use Rattle.psci_headline.proofs.Returned.{Extended, IsReturned, returned}

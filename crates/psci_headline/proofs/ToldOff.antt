@@ -9,31 +9,17 @@ use Rattle.std.proofs.lemmas.Bool.{and_from, cases_lt, cond-true, eq-eqb, eqb-tr
 use Rattle.std.proofs.lemmas.Bool.{leb-true}
 use Rattle.std.proofs.lemmas.Bool.{lt-ltb}
 use Rattle.std.proofs.lemmas.Option.{same_Some}
-use Rattle.psci_world_spec.specs.psci_abi.Calls.{request_of}
-use Rattle.psci_world_spec.specs.psci_abi.declared.code.Code.{Code}
-use Rattle.psci_world_spec.specs.psci_abi.declared.request.Request.{Request}
+use Rattle.psci_headline.proofs.Words.{request_of, Code, Request, BoardValue, below, cores}
+use Rattle.psci_headline.proofs.Words.{has_node, height, nodes, PathLaws, Node, Status, Off}
+use Rattle.psci_headline.proofs.Words.{IsLegal, Values, Event, Call, Record, Said, Fw}
+use Rattle.psci_headline.proofs.Words.{firmware_values, OffIsDown}
 use Rattle.psci_world_spec.specs.psci_abi.declared.request.Request.TheVariants as requests
-use Rattle.psci_board.specs.Board.{BoardValue, below, cores, has_node, height}
-use Rattle.psci_board.specs.Board.{node_of, nodes}
-use Rattle.psci_board.specs.Board.{size_below, up}
-use Rattle.psci_board.specs.Laws.{PathLaws}
-use Rattle.psci_board.specs.declared.node.Node.{Node}
+use Rattle.psci_board.specs.Board.{node_of, size_below, up}
 use Rattle.psci_fw_laws.specs.psci_fw_spec.declared.outcome.Act.TheVariants as acts
-use Rattle.psci_fw_laws.specs.psci_fw_spec.declared.status.Status.{Status}
-use Rattle.psci_fw_laws.specs.psci_fw_spec.declared.status.Status.TheVariants.{On, Off, Pending}
+use Rattle.psci_fw_laws.specs.psci_fw_spec.declared.status.Status.TheVariants.{On, Pending}
 use Rattle.psci_fw_laws.specs.psci_fw_spec.AffinityInfo.{affinity_of, is_on, is_pending_status}
-use Rattle.psci_fw_laws.specs.psci_fw_spec.AffinityInfo.{node_status}
-use Rattle.psci_fw_laws.specs.psci_fw_spec.AffinityInfo.{status_code, status_over}
-use Rattle.psci_fw_laws.specs.psci_fw_spec.Legal.{IsLegal}
-use Rattle.psci_fw_laws.specs.psci_fw_spec.Values.{Values}
-use Rattle.psci_world_spec.specs.declared.event.Event.{Event}
-use Rattle.psci_world_spec.specs.declared.event.Event.TheVariants.{Call}
-use Rattle.psci_world_spec.specs.declared.said.Record.{Record}
-use Rattle.psci_world_spec.specs.declared.said.Said.{Said}
-use Rattle.psci_world_spec.specs.declared.said.Said.TheVariants.{Fw}
+use Rattle.psci_fw_laws.specs.psci_fw_spec.AffinityInfo.{node_status, status_code, status_over}
 use Rattle.psci_world_spec.specs.Histories.{firmware_history}
-use Rattle.psci_world_spec.specs.Histories.{firmware_values}
-use Rattle.psci_headline.specs.Safe.{OffIsDown}
 use Rattle.psci_headline.specs.ToldOff.{AllOff, asked_of, told_off}
 use Rattle.psci_headline.proofs.Returned.{Extended, IsReturned, returned}
 use Rattle.psci_headline.proofs.Slept.{report}

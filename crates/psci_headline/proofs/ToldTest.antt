@@ -4,15 +4,8 @@ use Rattle.std.proofs.Common.{not, List, refl, ap, sym, ◌∙◌, arith, inl, i
 use Rattle.std.specs.List.{list_all, range_with_len}
 use Rattle.std.proofs.lemmas.Bool.{and_from, and_parts, cases_Bool, eqb-true, eq-eqb}
 use Rattle.std.proofs.lemmas.Bool.{or_cases, or_left, or_right}
-use Rattle.psci_board.specs.Board.{BoardValue, cores, up}
-use Rattle.psci_board.specs.declared.node.Node.{Node}
-use Rattle.psci_world_spec.specs.declared.place.Place.{Place}
-use Rattle.psci_world_spec.specs.declared.place.Place.TheVariants.{Running, Started}
-use Rattle.psci_world_spec.specs.declared.place.Place.TheVariants.{Stopped}
-use Rattle.psci_world_spec.specs.declared.said.Record.{Record}
-use Rattle.psci_world_spec.specs.Histories.{firmware_values}
-use Rattle.psci_world_spec.specs.Places.{place}
-use Rattle.psci_headline.specs.Moments.{was_powered_down}
+use Rattle.psci_headline.proofs.Words.{BoardValue, cores, up, Node, Place, Running, Started}
+use Rattle.psci_headline.proofs.Words.{Stopped, Record, firmware_values, place, was_powered_down}
 use Rattle.psci_headline.specs.Test.{executes_outside}
 use Rattle.psci_headline.specs.ToldOff.{AllOff}
 use Rattle.psci_headline.proofs.Ranges.{all_in, each_in}

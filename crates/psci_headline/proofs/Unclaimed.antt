@@ -1,15 +1,10 @@
 -- Cores without a live claim.
 use Rattle.std.proofs.Common.{◌≡◌, ℕ, inr, ◌<◌, List, Some, refl, arith, ap, sym}
 use Rattle.std.specs.Prelude.{slice_get}
-use Rattle.psci_board.specs.Board.{BoardValue, cores, up}
-use Rattle.psci_ctl_spec.specs.psci_messages.declared.part.Part.{Part}
-use Rattle.psci_ctl_spec.specs.psci_messages.declared.kind.Kind.TheVariants.{Down}
-use Rattle.psci_ctl_spec.specs.psci_messages.Message.{MessageValue}
-use Rattle.psci_headline.specs.psci_fw_spec.Phases.{Phase, Running}
-use Rattle.psci_headline.specs.psci_fw_laws.Claims.{IsClaimOn}
-use Rattle.psci_headline.specs.psci_fw_laws.Live.{AreLive}
+use Rattle.psci_headline.proofs.Words.{BoardValue, cores, up, Part, Down, MessageValue, Phase}
+use Rattle.psci_headline.proofs.Words.{IsClaimOn, AreLive, IsLivePart}
+use Rattle.psci_headline.specs.psci_fw_spec.Phases.{Running}
 use Rattle.psci_headline.proofs.fw_laws.Parts.{part_from}
-use Rattle.psci_headline.specs.Waiting.{IsLivePart}
 
 -- no part of a Down of this core is live
 abbrev pub NoneLive : BoardValue → ℕ → (ℕ → ℕ) → List MessageValue → ℕ → Type 0

@@ -1,27 +1,18 @@
 -- What waits after every legal run.
 use Rattle.std.proofs.Common.{◌≡◌, List, [], ◌∷◌, refl, arith, subst, ap, sym, ◌∙◌, false}
-use Rattle.psci_board.specs.Board.{BoardValue}
+use Rattle.psci_headline.proofs.Words.{BoardValue, IsLegal, in_life, start_of_life, Event, Call}
+use Rattle.psci_headline.proofs.Words.{Enter, Wake, Reset, Deliver, Take, Record, Said, ack_in}
+use Rattle.psci_headline.proofs.Words.{sent_in, IsLegalPast, legal, WaitingIn}
 use Rattle.psci_ctl_spec.specs.Legal as legal_controls
 use Rattle.psci_ctl_spec.specs.Values as controlled
 use Rattle.psci_headline.specs.psci_fw_spec.History as remembers
-use Rattle.psci_headline.specs.psci_fw_spec.Legal.{IsLegal}
-use Rattle.psci_headline.specs.psci_fw_spec.Lives.{in_life, start_of_life}
-use Rattle.psci_headline.specs.psci_world_spec.declared.event.Event.{Event}
-use Rattle.psci_headline.specs.psci_world_spec.declared.event.Event.TheVariants.{Call, Enter}
-use Rattle.psci_headline.specs.psci_world_spec.declared.event.Event.TheVariants.{Wake, Reset}
-use Rattle.psci_headline.specs.psci_world_spec.declared.event.Event.TheVariants.{Deliver, Take}
-use Rattle.psci_headline.specs.psci_world_spec.declared.said.Record.{Record}
-use Rattle.psci_headline.specs.psci_world_spec.declared.said.Said.{Said}
-use Rattle.psci_headline.specs.psci_world_spec.Histories.{ack_in, acks, controller_history}
-use Rattle.psci_headline.specs.psci_world_spec.Histories.{firmware_history}
-use Rattle.psci_headline.specs.psci_world_spec.Histories.{sent, sent_in}
-use Rattle.psci_headline.specs.psci_world_spec.Legal.{IsLegalPast, legal}
+use Rattle.psci_headline.specs.psci_world_spec.Histories.{acks, controller_history}
+use Rattle.psci_headline.specs.psci_world_spec.Histories.{firmware_history, sent}
 use Rattle.psci_headline.proofs.Agreed.{RunLaws}
 use Rattle.psci_headline.proofs.Controlling.{after_control, more_controls}
 use Rattle.psci_headline.proofs.Happening.{sends_nothing}
 use Rattle.psci_headline.proofs.Making.{unmade}
 use Rattle.psci_headline.proofs.Sending.{after_call, legal_call}
-use Rattle.psci_headline.specs.Waiting.{WaitingIn}
 use Rattle.psci_headline.proofs.BoardLaws.{BoardLaws, Given, is_given}
 use Rattle.psci_headline.proofs.Carried.{WaitsNow}
 use Rattle.psci_headline.proofs.ControllerSteps.{deliver_next, reset_next, wake_next}

@@ -3,12 +3,11 @@ use Rattle.std.proofs.Common.{◌≡◌, ℕ, zero, suc, ◌<◌, ◌≤◌, ◌
 use Rattle.std.proofs.Common.{[], ◌∷◌, Option, None, Some, refl, ap, sym, ◌∙◌, subst, arith}
 use Rattle.std.specs.Prelude.{slice_get}
 use Rattle.std.proofs.lemmas.Bool.{and_from, and_parts, cond_both, eq-eqb, eqb-true}
-use Rattle.psci_board.specs.Board.{BoardValue}
-use Rattle.psci_fw_laws.specs.psci_fw_spec.declared.opening.Opening.{Opening}
+use Rattle.psci_headline.proofs.Words.{BoardValue, Opening, updated, Fits, Made, OfCall, OfLife}
+use Rattle.psci_headline.proofs.Words.{TakenUp}
 use Rattle.psci_fw_laws.specs.psci_fw_spec.Lives.{first_opening}
-use Rattle.psci_fw_laws.specs.psci_fw_spec.Values.{updated}
 use Rattle.psci_fw_laws.proofs.Parts.{updated_at}
-use Rattle.psci_headline.specs.Openings.{Fits, Made, Maker, OfCall, OfLife, TakenUp, newest}
+use Rattle.psci_headline.specs.Openings.{Maker, newest}
 use Rattle.psci_headline.proofs.Filters.{head_kept, head_left, is_kept}
 
 -- The newest opening ---------------------------------------------------------------------------

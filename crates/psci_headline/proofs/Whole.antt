@@ -3,28 +3,17 @@ use Rattle.std.proofs.Common.{◌≡◌, ℕ, inl, inr, ◌<◌, Bool, true, fal
 use Rattle.std.proofs.Common.{Some, refl, arith, subst, ap, sym, ◌∙◌}
 use Rattle.std.proofs.lemmas.Bool.{cases_eq, cases_lt}
 use Rattle.std.proofs.lemmas.Option.{none-some}
-use Rattle.psci_headline.specs.psci_board.Board.{BoardValue, HasNode, cores}
-use Rattle.psci_headline.specs.psci_board.declared.node.Node.{Node}
+use Rattle.psci_headline.proofs.Words.{BoardValue, HasNode, cores, Node, OfCore, On, Status, Off}
+use Rattle.psci_headline.proofs.Words.{AreValues, in_life, hw_at, node_hw, Phase, Away, Values}
+use Rattle.psci_headline.proofs.Words.{Holds, Record, controller_values, firmware_values, sent}
+use Rattle.psci_headline.proofs.Words.{IsLegalPast, AreAtRest, is_halting, AreConfirming}
+use Rattle.psci_headline.proofs.Words.{IsYetToCome}
 use Rattle.psci_headline.specs.psci_ctl_spec.Values as controlled
-use Rattle.psci_headline.specs.psci_messages.Slots.{OfCore}
-use Rattle.psci_headline.specs.psci_fw_spec.declared.hw.Hw.TheVariants.{On}
-use Rattle.psci_headline.specs.psci_fw_spec.declared.status.Status.{Status}
-use Rattle.psci_headline.specs.psci_fw_spec.declared.status.Status.TheVariants.{Off}
-use Rattle.psci_headline.specs.psci_fw_spec.Invariant.{AreValues, agrees}
-use Rattle.psci_headline.specs.psci_fw_spec.Lives.{in_life}
-use Rattle.psci_headline.specs.psci_fw_spec.NodeHwState.{hw_at, node_hw}
-use Rattle.psci_headline.specs.psci_fw_spec.Phases.{Phase, Away}
-use Rattle.psci_headline.specs.psci_fw_spec.Values.{Values}
-use Rattle.psci_headline.specs.psci_fw_laws.Kept.{Holds}
-use Rattle.psci_headline.specs.psci_world_spec.declared.said.Record.{Record}
-use Rattle.psci_headline.specs.psci_world_spec.Histories.{controller_values, firmware_values}
-use Rattle.psci_headline.specs.psci_world_spec.Histories.{sent}
-use Rattle.psci_headline.specs.psci_world_spec.Legal.{IsLegalPast}
+use Rattle.psci_headline.specs.psci_fw_spec.Invariant.{agrees}
 use Rattle.psci_headline.proofs.Agreeing.{found_other, found_own}
-use Rattle.psci_headline.specs.Drained.{AreAtRest}
-use Rattle.psci_headline.specs.Settling.{halts_in, is_halting}
+use Rattle.psci_headline.specs.Settling.{halts_in}
 use Rattle.psci_headline.specs.Complete.{IsToldWhole}
-use Rattle.psci_headline.specs.Confirming.{AreConfirming, Confirming, IsYetToCome}
+use Rattle.psci_headline.specs.Confirming.{Confirming}
 use Rattle.psci_headline.proofs.Confirmed.{RunLaws}
 
 -- The life -------------------------------------------------------------------------------------

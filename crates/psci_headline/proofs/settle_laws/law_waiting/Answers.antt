@@ -1,5 +1,5 @@
 -- What waits after every legal run.
-use Rattle.psci_headline.specs.psci_world_spec.Histories.{controller_history, firmware_history}
+use Rattle.psci_headline.proofs.Words.{controller_history, firmware_history}
 use Rattle.psci_headline.proofs.world_spec.Answered.{firmware_legal}
 use Rattle.psci_headline.proofs.Waited.{waited}
 use Rattle.psci_headline.proofs.settle_laws.law_waiting.Goals as goal

@@ -1,7 +1,6 @@
 -- Where firmware and power controller agree, all is told.
 use Rattle.std.proofs.Common.{subst, sym}
-use Rattle.psci_headline.specs.psci_fw_laws.Kept.{Holds}
-use Rattle.psci_headline.specs.psci_world_spec.Histories.{firmware_history, firmware_values}
+use Rattle.psci_headline.proofs.Words.{Holds, firmware_history, firmware_values}
 use Rattle.psci_headline.proofs.world_spec.Answered.{firmware_legal}
 use Rattle.psci_headline.proofs.Whole.{whole}
 use Rattle.psci_headline.proofs.told.law_complete.Goals as goal
