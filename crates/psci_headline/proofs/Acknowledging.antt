@@ -18,6 +18,7 @@ use Rattle.psci_fw_laws.specs.psci_messages.psci_state.Cores.{asks}
 use Rattle.psci_fw_laws.proofs.Parts.{part_from}
 use Rattle.psci_headline.specs.PoweredDown.{IsDownBy}
 use Rattle.psci_headline.proofs.Deliveries.{IsNew}
+use Rattle.psci_headline.proofs.Numbering.{at_number}
 use Rattle.psci_headline.proofs.Slept.{asleep_from, slept_now}
 
 -- Acknowledgements and their messages ----------------------------------------------------------
@@ -146,14 +147,15 @@ pub new_is_down : (b : BoardValue) (r : Record) (past : List Record) (a : AckVal
     → IsDownBy b (r ∷ past) (firmware_values b past) a
 new_is_down b r past a laws holds new kind some =
     let v : Values = firmware_values b past in
-    let m = new.message in
-    let sent_one = holds.messages new.listed.index m new.listed.at in
-    let of : IsAckOf m a = subst (IsAckOf m) (sym new.ack)
+    let m = new.made.message in
+    let place = at_number (sent past) new.made.number m new.made.at in
+    let sent_one = holds.messages place.index m place.at in
+    let of : IsAckOf m a = subst (IsAckOf m) (sym new.made.ack)
     (acks_message b (controller_values b past) m m.kind) in
     let down : m.kind ≡ kinds.Down = sym of.kind ∙ kind in
     let d : IsOfDown (sent past) a m = record {
-      index = new.listed.index;
-      at = new.listed.at;
+      index = place.index;
+      at = place.at;
       kind = down;
       ack = of;
       first = first_part m down sent_one.sound.parts;
@@ -170,6 +172,6 @@ new_is_down b r past a laws holds new kind some =
       slept = λ life number away.
           slept_now b v.life (r ∷ past) a.core.number
           (asleep_from b v.life (r ∷ past) a.core.number
-          (deep.0 ∙ new.life ∙ ap (λ x. Some x) (sym of.life ∙ life))
+          (deep.0 ∙ new.made.life ∙ ap (λ x. Some x) (sym of.life ∙ life))
           (deep.1 ∙ sender_deep b v (sent past) a m holds d life number away));
     }

@@ -1,13 +1,14 @@
 -- What is told after every legal run.
-use Rattle.std.proofs.Common.{◌≡◌, List, [], ◌∷◌, ◌++◌}
+use Rattle.std.proofs.Common.{List, [], ◌∷◌, ◌++◌}
 use Rattle.std.proofs.Common.{subst, sym}
-use Rattle.psci_headline.proofs.Words.{BoardValue, PathLaws, effect_of, start_of_life, Values}
+use Rattle.psci_headline.proofs.Words.{BoardValue, PathLaws, effect_of, Values}
 use Rattle.psci_headline.proofs.Words.{Holds, KnownLaws, Event, Wake, Reset, Deliver, Record, Said}
 use Rattle.psci_headline.proofs.Words.{acks, call, control, controller_values, firmware_values}
 use Rattle.psci_headline.proofs.Words.{sent, IsLegalPast, Agree}
 use Rattle.psci_headline.specs.psci_ctl_spec.Exchange.{CtlExchange}
 use Rattle.psci_headline.specs.psci_ctl_spec.History as controls
 use Rattle.psci_headline.specs.psci_ctl_spec.Values as controlled
+use Rattle.psci_headline.proofs.Agreed.{first_kept}
 use Rattle.psci_headline.proofs.Deliveries.{IsFew, few, values_by}
 use Rattle.psci_headline.specs.psci_fw_spec.History as remembers
 use Rattle.psci_headline.specs.psci_world_spec.Histories.{controller_history, firmware_history}
@@ -22,7 +23,6 @@ pub record RunLaws (b : BoardValue) : Type 0 where
   pub sums : KnownLaws b
   pub paths : PathLaws b
   pub firmware : FirmwareLaws b
-  pub first : remembers.values_of b [] ≡ start_of_life b 0
   pub holds : (past : List Record) → IsLegalPast b past
       → let v = firmware_values b past in Holds b v (sent past)
   pub agree : (past : List Record) → IsLegalPast b past → Agree b past
@@ -93,8 +93,7 @@ next b r past laws is h =
 
 pub confirming : (b : BoardValue) (past : List Record) → RunLaws b → IsLegalPast b past
     → Confirming b past
-unfolding firmware_history
 confirming b [] laws is =
-    subst (ConfirmingNow b (controller_values b [])) (sym laws.first)
+    subst (ConfirmingNow b (controller_values b [])) (sym (first_kept b))
     (λ life e. first_now b (controller_values b []).starts life)
 confirming b (r ∷ past) laws is = next b r past laws is (confirming b past laws is.1)

@@ -12,7 +12,7 @@ use Rattle.psci_fw_laws.specs.Messages.{IsSound}
 use Rattle.psci_world_spec.specs.declared.said.Said.TheVariants as said
 use Rattle.psci_world_spec.specs.Histories.{controller_history}
 use Rattle.psci_world_spec.proofs.Answered.{controller_answered}
-use Rattle.psci_headline.proofs.Happening.{reset_at, woken_at}
+use Rattle.psci_headline.proofs.Happening.{happens}
 use Rattle.psci_headline.proofs.Numbering.{at_number}
 
 -- a message that the firmware sends can be sent on its board
@@ -58,7 +58,7 @@ wake_legal : (b : BoardValue) (past : List Record) (c : ℕ) (s : Said)
     → controls.IsLegal b (controller_history b past) → s ≡ legal b past (Wake c)
     → controls.IsLegal b (after_control b past (Wake c) s)
 wake_legal b past c (said.Kick start) answered is e =
-    (answered.0, woken_at b past c start e, is)
+    (answered.0, happens b past (Wake c) (said.Kick start) e refl, is)
 wake_legal b past c s answered is e = is
 
 reset_legal : (b : BoardValue) (past : List Record) (c : ℕ) (s : Said)
@@ -66,7 +66,7 @@ reset_legal : (b : BoardValue) (past : List Record) (c : ℕ) (s : Said)
     → controls.IsLegal b (controller_history b past) → s ≡ legal b past (Reset c)
     → controls.IsLegal b (after_control b past (Reset c) s)
 reset_legal b past c (said.Kick start) answered is e =
-    (answered.0, reset_at b past c start e, is)
+    (answered.0, happens b past (Reset c) (said.Kick start) e refl, is)
 reset_legal b past c s answered is e = is
 
 event_legal : (b : BoardValue) (past : List Record) (event : Event) (s : Said)

@@ -18,7 +18,7 @@ use Rattle.psci_headline.specs.psci_fw_spec.Said as says
 use Rattle.psci_headline.specs.psci_world_spec.declared.place.Place.TheVariants as places
 use Rattle.psci_headline.specs.psci_world_spec.declared.said.Said.TheVariants as said
 use Rattle.psci_headline.proofs.Agreed.{RunLaws}
-use Rattle.psci_headline.proofs.Happening.{called, entered_by}
+use Rattle.psci_headline.proofs.Happening.{happens}
 use Rattle.psci_headline.proofs.Moving.{function_call}
 use Rattle.psci_headline.proofs.Numbering.{at_number}
 use Rattle.psci_headline.proofs.Outcomes.{call_sends, enter_sends}
@@ -39,7 +39,7 @@ pub call_next : (b : BoardValue) (past : List Record) (c : ℕ) (regs : Regs) (s
     → s ≡ legal b past (Call c regs) → ack_in s ≡ None → Next b past (Call c regs) s
 unfolding answer
 call_next b past c regs (said.Fw act sends) laws given now is e none =
-    let at = called b past c regs act sends e in
+    let at = happens b past (Call c regs) (said.Fw act sends) e refl in
     let m : Option MessageValue = option_map (λ s. s.message) sends in
     let v : Values = firmware_values b past in
     let same : says.sent (function_effect b c (request_of regs) act m) ≡ m =
@@ -61,7 +61,7 @@ pub enter_next : (b : BoardValue) (past : List Record) (c : ℕ) (s : Said) → 
     → s ≡ legal b past (Enter c) → ack_in s ≡ None → Next b past (Enter c) s
 unfolding answer
 enter_next b past c (said.Fw act sends) laws given now is e none =
-    let at = entered_by b past c act sends e in
+    let at = happens b past (Enter c) (said.Fw act sends) e refl in
     by_start (last_start (controller_values b past) c) at.start refl at.last at.core at.place is
   where
     m : Option MessageValue

@@ -29,6 +29,7 @@ pub mod Happening
 mod HardwareRows
 mod Histories
 mod LevelsRows
+pub mod Items
 pub mod LiveClaims
 pub mod LiveOnes
 mod LiveRows
@@ -58,6 +59,7 @@ pub mod Refusing
 pub mod Returned
 mod SafeRows
 pub mod Safety
+pub mod Saying
 pub mod Sending
 pub mod Slept
 pub mod Sound

@@ -15,7 +15,7 @@ use Rattle.psci_fw_laws.specs.psci_fw_spec.Sent.{sent_messages}
 use Rattle.psci_world_spec.specs.declared.said.Said.TheVariants as said
 use Rattle.psci_world_spec.specs.Histories.{firmware_history, sent}
 use Rattle.psci_world_spec.proofs.Answered.{firmware_legal}
-use Rattle.psci_headline.proofs.Happening.{entered_by, is_quiet, sends_nothing}
+use Rattle.psci_headline.proofs.Happening.{happens, is_quiet, sends_nothing}
 use Rattle.psci_headline.proofs.Outcomes.{call_sends, enter_sends}
 
 -- Records --------------------------------------------------------------------------------------
@@ -56,10 +56,10 @@ enter_same : (b : BoardValue) (past : List Record) (c : ℕ) (s : Said)
 unfolding answer
 enter_same b past c (said.Fw act sends) same is e =
     by_start (last_start (controller_values b past) c)
-    (entered_by b past c act sends e).last is
+    (happens b past (Enter c) (said.Fw act sends) e refl).last is
   where
     start : Start
-    start = (entered_by b past c act sends e).start
+    start = (happens b past (Enter c) (said.Fw act sends) e refl).start
 
     by_start : (o : Option Start) → o ≡ Some start
         → IsLegal b (entered c o (outcome_in act sends) ++ firmware_history b past)

@@ -27,6 +27,7 @@ use Rattle.psci_headline.specs.psci_world_spec.Histories.{acks, controller_histo
 use Rattle.psci_headline.specs.psci_world_spec.Histories.{firmware_history, sent}
 use Rattle.psci_headline.specs.psci_world_spec.Legal.{legal, legal_record}
 use Rattle.psci_headline.specs.psci_world_spec.Places.{place, place_controlled}
+use Rattle.psci_ctl_spec.proofs.OneMore.{values_more}
 use Rattle.psci_headline.proofs.Agreed.{RunLaws}
 use Rattle.psci_headline.specs.Drained as drained
 use Rattle.psci_headline.proofs.Counting.{AreAdded, delivered_more, one_added}
@@ -67,7 +68,7 @@ unfolding controller_history firmware_history sent acks place after effect_of
 delivered_so b past k m laws at present = record {
   control = ap (λ s. controls.values_of b (control w (sent past) (Deliver k) s ++ h)) said
       ∙ ap (λ o. controls.values_of b (delivered o a ++ h)) at
-      ∙ laws.after _ h;
+      ∙ values_more b _ h;
   firmware = refl;
   sent = ap (λ s. listed (sent_in s) ++ sent past) said;
   acks = ap (λ s. listed (ack_in s) ++ acks past) said;

@@ -1,17 +1,18 @@
 -- What waits after every legal run.
 use Rattle.std.proofs.Common.{◌≡◌, List, [], ◌∷◌, refl, arith, subst, ap, sym, ◌∙◌, false}
+use Rattle.psci_headline.proofs.Words.{controller_values}
 use Rattle.psci_headline.proofs.Words.{BoardValue, IsLegal, in_life, start_of_life, Event, Call}
 use Rattle.psci_headline.proofs.Words.{Enter, Wake, Reset, Deliver, Take, Record, Said, ack_in}
 use Rattle.psci_headline.proofs.Words.{sent_in, IsLegalPast, legal, WaitingIn}
 use Rattle.psci_ctl_spec.specs.Legal as legal_controls
 use Rattle.psci_ctl_spec.specs.Values as controlled
-use Rattle.psci_headline.specs.psci_fw_spec.History as remembers
+use Rattle.psci_ctl_spec.specs.History as controls
 use Rattle.psci_headline.specs.psci_world_spec.Histories.{acks, controller_history}
 use Rattle.psci_headline.specs.psci_world_spec.Histories.{firmware_history, sent}
-use Rattle.psci_headline.proofs.Agreed.{RunLaws}
+use Rattle.psci_headline.proofs.Agreed.{RunLaws, first_kept}
 use Rattle.psci_headline.proofs.Controlling.{after_control, more_controls}
 use Rattle.psci_headline.proofs.Happening.{sends_nothing}
-use Rattle.psci_headline.proofs.Making.{unmade}
+use Rattle.psci_headline.proofs.Deliveries.{unmade}
 use Rattle.psci_headline.proofs.Sending.{after_call, legal_call}
 use Rattle.psci_headline.proofs.BoardLaws.{BoardLaws, Given, is_given}
 use Rattle.psci_headline.proofs.Carried.{WaitsNow}
@@ -43,21 +44,20 @@ event_next b past (Take k) s laws given now controls calls e =
     take_next b past k s laws given now (ap sent_in e ∙ sends_nothing b past (Take k) refl)
     (ap ack_in e ∙ unmade b past (Take k) refl)
 
-first_waiting : (b : BoardValue) → WaitsNow b (controlled.start_of_life b) (start_of_life b 0) [] []
-first_waiting b life e =
+first_waiting : (b : BoardValue) → Now b []
+unfolding controller_history sent acks controls.values_of
+first_waiting b =
+    subst (λ v. WaitsNow b (controller_values b []) v [] []) (sym (first_kept b)) (λ life e.
     let is : 1 ≡ life = cc in
     subst (λ l. WaitingIn b l (controlled.start_of_life b) (in_life b l (start_of_life b 0)) [] [])
     is
     (begun_waits b 1 0 false (λ c. 0) (start_of_life b 0).phase [] [] (λ k m at. absurd (cc))
-    (omega arith) (λ k a at. absurd (cc)))
+    (omega arith) (λ k a at. absurd (cc))))
 
 pub waited : (b : BoardValue) → BoardLaws b → (past : List Record) → IsLegalPast b past
     → Now b past
 unfolding controller_history firmware_history sent acks
-waited b laws [] is =
-    subst (λ w. WaitsNow b w (remembers.values_of b []) [] []) (sym laws.runs.begins)
-    (subst (λ v. WaitsNow b (controlled.start_of_life b) v [] []) (sym laws.runs.first)
-    (first_waiting b))
+waited b laws [] is = first_waiting b
 waited b laws (r ∷ past) is =
     event_next b past r.event r.said laws.runs (is_given b past laws is.1)
     (waited b laws past is.1)

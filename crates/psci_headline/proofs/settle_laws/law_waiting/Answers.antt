@@ -8,11 +8,8 @@ pub returns : goal.returns
 returns c = λ b past board.
     waited b (record {
       runs = record {
-        begins = c.law_values.ensures.first b;
-        after = c.law_values.ensures.more b;
         follows = λ v call is. c.law_replies.ensures b v call board is;
         controls = λ before is. c.law_controlled.ensures b before board is;
-        first = c.law_values-2.ensures.first b;
         change = c.law_kept.ensures.values b;
         allowed = λ e h is. c.law_kept.ensures.allowed b e h board is;
         callers = record {

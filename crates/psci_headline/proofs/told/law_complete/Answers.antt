@@ -14,7 +14,6 @@ returns c = λ b past board legal awake rest.
         allowed = λ e h. c.law_kept.ensures.allowed b e h board;
         values = c.law_kept.ensures.values b;
       };
-      first = c.law_values.ensures.first b;
       holds = λ p is. subst (Holds b (firmware_values b p)) (sym (c.law_sent.ensures b p is))
           (c.law_kept.ensures.kept b (firmware_history b p) board (firmware_legal b p is));
       agree = λ p. c.law_agreement.ensures b p board;

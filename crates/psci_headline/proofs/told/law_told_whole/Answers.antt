@@ -13,11 +13,8 @@ pub returns : goal.returns
 returns c = λ b past board is awake.
     let laws : BoardLaws b = record {
       runs = record {
-        begins = c.law_values-2.ensures.first b;
-        after = c.law_values-2.ensures.more b;
         follows = λ v call may. c.law_replies.ensures b v call board may;
         controls = λ before legal. c.law_controlled.ensures b before board legal;
-        first = c.law_values.ensures.first b;
         change = c.law_kept.ensures.values b;
         allowed = λ e h legal. c.law_kept.ensures.allowed b e h board legal;
         callers = record {
