@@ -1,75 +1,37 @@
 -- What a new acknowledgement says of its core.
-use Rattle.std.proofs.Common.{◌≡◌, ℕ, ◌<◌, inr, Bool, true, false, ◌&&◌, ◌==◌, cond}
-use Rattle.std.proofs.Common.{List, [], ◌∷◌, length, take, Some, refl, subst, ap}
+use Rattle.psci_headline.proofs.Taking.{HasName}
+use Rattle.std.proofs.lemmas.Bool.{cond_both}
+use Rattle.psci_headline.proofs.Telling.{HasItem, first_part}
+use Rattle.psci_headline.proofs.Applied.{laid_at}
+use Rattle.std.proofs.Common.{◌≡◌, ℕ, ◌<◌, inr, true, false}
+use Rattle.std.proofs.Common.{List, ◌∷◌, take, Some, refl, subst, ap}
 use Rattle.std.proofs.Common.{sym, ◌∙◌, arith}
-use Rattle.std.specs.Prelude.{nat_le, slice_get}
-use Rattle.std.proofs.lemmas.Bool.{and_from, eq-eqb, le-leb}
-use Rattle.psci_headline.proofs.Words.{BoardValue, cores, height, up, Part, Deepens, message_effect}
-use Rattle.psci_headline.proofs.Words.{depth_or, laid, ack_by, ack_of, may_follow, Phase, Away}
-use Rattle.psci_headline.proofs.Words.{Pending, Values, Kind, AckValue, ArePartsOf, AreClaims}
-use Rattle.psci_headline.proofs.Words.{MessageValue, Holds, known_below, Record, controller_values}
-use Rattle.psci_headline.proofs.Words.{firmware_values, sent}
+use Rattle.std.specs.Prelude.{slice_get}
+use Rattle.psci_headline.proofs.Words.{BoardValue, cores, up, Part, Deepens, message_effect, laid}
+use Rattle.psci_headline.proofs.Words.{ack_by, ack_of, may_follow, Phase, Away, Pending, Values}
+use Rattle.psci_headline.proofs.Words.{Kind, AckValue, MessageValue, Holds, known_below, Record}
+use Rattle.psci_headline.proofs.Words.{controller_values, firmware_values, sent}
 use Rattle.psci_ctl_spec.specs.Changes.{change}
 use Rattle.psci_ctl_spec.specs.Values as controlled
-use Rattle.psci_ctl_spec.proofs.Front.{get_take}
 use Rattle.psci_fw_laws.specs.psci_fw_spec.Phases.{Running, activity_of}
 use Rattle.psci_ctl_spec.specs.psci_messages.declared.kind.Kind.TheVariants as kinds
 use Rattle.psci_fw_laws.specs.psci_messages.psci_state.Cores.{asks}
 use Rattle.psci_fw_laws.proofs.Parts.{part_from}
 use Rattle.psci_headline.specs.PoweredDown.{IsDownBy}
 use Rattle.psci_headline.proofs.Deliveries.{IsNew}
-use Rattle.psci_headline.proofs.Numbering.{at_number}
+use Rattle.psci_headline.proofs.Items.{at_number}
 use Rattle.psci_headline.proofs.Slept.{asleep_from, slept_now}
 
 -- Acknowledgements and their messages ----------------------------------------------------------
 
--- An acknowledgement has the kind, core, life and number of its message.
-pub record IsAckOf (m : MessageValue) (a : AckValue) : Type 0 where
-  pub kind : a.kind ≡ m.kind
-  pub core : a.core.number ≡ m.core.number
-  pub life : a.life ≡ m.life
-  pub number : a.number ≡ m.number
-
-ack_of_message : (m : MessageValue) (n : ℕ) (stale : Bool) → IsAckOf m (ack_of m n stale)
-ack_of_message m n stale = record { kind = refl; core = refl; life = refl; number = refl }
-
-ack_if : (m : MessageValue) (t : Bool) → IsAckOf m (cond t (ack_of m 1 false) (ack_of m 0 true))
-ack_if m true = ack_of_message m 1 false
-ack_if m false = ack_of_message m 0 true
-
+-- an acknowledgement has the name of its message
 pub acks_message : (b : BoardValue) (v : controlled.Values) (m : MessageValue) (k : Kind)
-    → IsAckOf m (ack_by b v m k)
-acks_message b v m kinds.Down = ack_of_message m _ _
-acks_message b v m kinds.Start = ack_if m (may_follow b v m.core.number m.number)
-acks_message b v m kinds.Off = ack_of_message m 1 false
-acks_message b v m kinds.Reset = ack_of_message m 1 false
-
--- The first part -------------------------------------------------------------------------------
-
--- the first part of a list
-record HasFirst (ps : List Part) : Type 0 where
-  pub part : Part
-  pub at : slice_get ps 0 ≡ Some part
-
-first_of : (ps : List Part) → 0 < length ps → HasFirst ps
-first_of [] some = absurd (omega arith)
-first_of (p ∷ ps) some = record { part = p; at = refl }
-
-first_part : (m : MessageValue) → m.kind ≡ kinds.Down → ArePartsOf m.kind m.parts
-    → HasFirst m.parts
-first_part m down are =
-    let claim : AreClaims m.parts = subst (λ k. ArePartsOf k m.parts) down are in
-    first_of m.parts claim.some
-
--- a part that was applied to a core makes it as deep as the part says
-laid_first : (b : BoardValue) (depth : ℕ → ℕ → ℕ) (c n : ℕ) (ps : List Part) (p : Part)
-    → up b 0 c ≡ c → slice_get ps 0 ≡ Some p → 0 < n → laid b c (take n ps) depth 0 c ≡ p.depth
-laid_first b depth c n ps p own at some =
-    let on : (nat_le 0 (height b) && (up b 0 c == c)) ≡ true =
-    and_from _ _ (le-leb 0 (height b) (omega arith)) (eq-eqb (up b 0 c) c own) in
-    let first : slice_get (take n ps) 0 ≡ Some p = get_take ps n 0 some ∙ at in
-    ap (λ t. cond t (depth_or (slice_get (take n ps) 0) (depth 0 c)) (depth 0 c)) on
-    ∙ ap (λ o. depth_or o (depth 0 c)) first
+    → HasName (ack_by b v m k) m
+acks_message b v m kinds.Start =
+    cond_both (may_follow b v m.core.number m.number) (ack_of m 1 false) (ack_of m 0 true)
+    (λ a. HasName a m) (λ e. record { kind = refl; core = refl; life = refl; number = refl })
+    (λ e. record { kind = refl; core = refl; life = refl; number = refl })
+acks_message b v m k = record { kind = refl; core = refl; life = refl; number = refl }
 
 -- A new acknowledgement ------------------------------------------------------------------------
 
@@ -78,8 +40,8 @@ record IsOfDown (messages : List MessageValue) (a : AckValue) (m : MessageValue)
   pub index : ℕ
   pub at : slice_get messages index ≡ Some m
   pub kind : m.kind ≡ kinds.Down
-  pub ack : IsAckOf m a
-  pub first : HasFirst m.parts
+  pub ack : HasName a m
+  pub first : HasItem m.parts 0
 
 away_asks : (p : Phase) → p ≡ Away → asks (activity_of p) 0 ≡ 3
 away_asks p e = ap (λ x. asks (activity_of x) 0) e
@@ -99,7 +61,7 @@ sender_rests : (b : BoardValue) (v : Values) (messages : List MessageValue) (a :
 sender_rests b v messages a m laws holds d life number runs =
     let c = m.core.number in
     let sound = (holds.messages d.index m d.at).sound in
-    let p = d.first.part in
+    let p = d.first.item in
     let present : m.life ≡ v.life = sym d.ack.life ∙ life in
     let core : a.core.number ≡ c = d.ack.core in
     let claim = part_from b v.life 0 (up b 0 c) m p
@@ -115,14 +77,14 @@ sender_rests b v messages a m laws holds d life number runs =
 -- and if it is off or going off, its first depth is power-down
 sender_deep : (b : BoardValue) (v : Values) (messages : List MessageValue) (a : AckValue)
     (m : MessageValue) → Holds b v messages → (d : IsOfDown messages a m) → a.life ≡ v.life
-    → a.number ≡ v.known a.core.number → v.phase a.core.number ≡ Away → d.first.part.depth ≡ 3
+    → a.number ≡ v.known a.core.number → v.phase a.core.number ≡ Away → d.first.item.depth ≡ 3
 sender_deep b v messages a m holds d life number away =
     let c = m.core.number in
     let core : a.core.number ≡ c = d.ack.core in
     let present = (holds.messages d.index m d.at).present (sym d.ack.life ∙ life) in
     let gone : v.phase c ≡ Away = ap v.phase (sym core) ∙ away in
     present.asked d.kind (sym d.ack.number ∙ number ∙ ap v.known core)
-    (not_pending (v.phase c) gone) d.first.part d.first.at
+    (not_pending (v.phase c) gone) d.first.item d.first.at
     ∙ away_asks (v.phase c) gone
 
 -- a delivered Down of which a part was applied made its core as deep as its first part
@@ -137,7 +99,7 @@ now_deep b cv w m a c p laws kind core values at some =
       ap (λ (x : controlled.Values). x.life) is,
       ap (λ (x : controlled.Values). x.depth 0 c) is
           ∙ ap (λ x. laid b x (take a.applied m.parts) cv.depth 0 c) core
-          ∙ laid_first b cv.depth c a.applied m.parts p (laws.own c) at some,
+          ∙ laid_at b cv.depth c a.applied 0 c m.parts p (omega arith) (sym (laws.own c)) at some,
     )
 
 -- what a new acknowledgement says of its core, beside the firmware's values, which stay
@@ -150,7 +112,7 @@ new_is_down b r past a laws holds new kind some =
     let m = new.made.message in
     let place = at_number (sent past) new.made.number m new.made.at in
     let sent_one = holds.messages place.index m place.at in
-    let of : IsAckOf m a = subst (IsAckOf m) (sym new.made.ack)
+    let of : HasName a m = subst (λ x. HasName x m) (sym new.made.ack)
     (acks_message b (controller_values b past) m m.kind) in
     let down : m.kind ≡ kinds.Down = sym of.kind ∙ kind in
     let d : IsOfDown (sent past) a m = record {
@@ -161,7 +123,7 @@ new_is_down b r past a laws holds new kind some =
       first = first_part m down sent_one.sound.parts;
     } in
     let deep = now_deep b (controller_values b past) (controller_values b (r ∷ past)) m a
-    a.core.number d.first.part laws down (sym of.core) new.values d.first.at some in
+    a.core.number d.first.item laws down (sym of.core) new.values d.first.at some in
     record {
       begun = omega (arith, of.life, sent_one.begun);
       number = λ life.

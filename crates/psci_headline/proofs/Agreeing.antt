@@ -6,8 +6,8 @@ use Rattle.std.proofs.lemmas.Bool.{cond-true, cond-false, eq-eqb}
 use Rattle.std.proofs.lemmas.Bool.{ne_eqb}
 use Rattle.psci_headline.proofs.Words.{BoardValue, next_life, one_more, Nothing, Starts, Deepens}
 use Rattle.psci_headline.proofs.Words.{Ends, Begins, MayFollow, first_starts, in_life}
-use Rattle.psci_headline.proofs.Words.{start_of_life, Values, Place, Started, Running}
-use Rattle.psci_headline.proofs.Words.{Stopped, place_of_effect, AgreeIn}
+use Rattle.psci_headline.proofs.Words.{start_of_life, Values, Place, Started, Running, Stopped}
+use Rattle.psci_headline.proofs.Words.{place_of_effect, AgreeIn}
 use Rattle.psci_ctl_spec.specs.Changes.{change}
 use Rattle.psci_ctl_spec.specs.Effects.{Effect}
 use Rattle.psci_ctl_spec.specs.Values as controlled

@@ -1,11 +1,12 @@
 -- Cores that are reported OFF were powered down, after every legal past.
+use Rattle.psci_headline.proofs.Taking.{named}
 use Rattle.std.proofs.Common.{◌≡◌, ℕ, ◌<◌, inl, inr, Bool, true, false}
 use Rattle.std.proofs.Common.{◌==◌, cond, List, [], ◌∷◌, Some, refl, subst, ap}
 use Rattle.std.proofs.Common.{sym, ◌∙◌, arith}
 use Rattle.std.specs.Prelude.{nat_le, slice_get}
-use Rattle.std.proofs.lemmas.Bool.{and_parts, eqb-false, eqb-true, ne_eqb, and_right}
+use Rattle.std.proofs.lemmas.Bool.{eqb-false, eqb-true, ne_eqb, and_right}
 use Rattle.psci_headline.proofs.Words.{BoardValue, height, up, Values, Down, AckValue, MessageValue}
-use Rattle.psci_headline.proofs.Words.{OfCore, is_kind, slot_of, IsAllowed, Holds, Record, ack_in}
+use Rattle.psci_headline.proofs.Words.{OfCore, slot_of, IsAllowed, Holds, Record, ack_in}
 use Rattle.psci_headline.proofs.Words.{controller_values, firmware_values, sent, IsLegalPast, Agree}
 use Rattle.psci_headline.proofs.Words.{was_powered_down, is_reported_off}
 use Rattle.psci_ctl_spec.specs.History as controls
@@ -65,13 +66,8 @@ answers_known v messages b a holds is kind =
     let slot : v.outstanding (OfCore c) ≡ Some m =
     ap (λ k. v.outstanding (slot_of k a.core)) (sym kind) ∙ is.at in
     let of = holds.slots.core c m slot in
-    let all = and_parts (is_kind a.kind m.kind) _ is.answers in
-    let rest = and_parts (c == m.core.number) _ all.1 in
-    let last = and_parts (a.life == m.life) (a.number == m.number) rest.1 in
-    record {
-      life = eqb-true a.life m.life last.0 ∙ of.listed.present;
-      number = eqb-true a.number m.number last.1 ∙ of.number;
-    }
+    let name = named a m is.answers in
+    record { life = name.life ∙ of.listed.present; number = name.number ∙ of.number }
 
 -- a core that an acknowledgement turns off was powered down
 turned_off : (b : BoardValue) (r : Record) (past : List Record) (c : ℕ)

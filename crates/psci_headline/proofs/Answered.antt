@@ -1,4 +1,6 @@
 -- What is told once an acknowledgement was taken.
+use Rattle.std.proofs.lemmas.Bool.{cond_both}
+use Rattle.psci_headline.proofs.Slots.{down_slot}
 use Rattle.std.proofs.Common.{◌≡◌, ℕ, ◌⊎◌, inl, inr, ◌<◌, ◌≤◌, ◌&&◌, not, Bool, true, false}
 use Rattle.std.proofs.Common.{cond, length, List, Option, Some, refl, arith, subst, ap, sym, ◌∙◌}
 use Rattle.std.specs.Prelude.{nat_lt, slice_get}
@@ -6,8 +8,8 @@ use Rattle.std.specs.List.{sum_by}
 use Rattle.std.proofs.lemmas.Bool.{and_from, cases_lt, eq-eqb, leb-true, lt-ltb, or_cases}
 use Rattle.std.proofs.lemmas.Option.{same_Some, slice_get_within}
 use Rattle.psci_headline.proofs.Words.{BoardValue, below, up, PathLaws, is_path_place, Part, Down}
-use Rattle.psci_headline.proofs.Words.{AckValue, MessageValue, Acknowledge, OfCore, Slot, answers}
-use Rattle.psci_headline.proofs.Words.{changed, is_kind, slot_of, Status, Off, confirms_on}
+use Rattle.psci_headline.proofs.Words.{AckValue, MessageValue, Acknowledge, Slot, answers, changed}
+use Rattle.psci_headline.proofs.Words.{is_kind, slot_of, Status, Off, confirms_on}
 use Rattle.psci_headline.proofs.Words.{with_acknowledgement, Away, Values, Holds, IsTold, WasTold}
 use Rattle.psci_headline.proofs.Words.{AreConfirming, IsYetToCome}
 use Rattle.psci_headline.specs.psci_messages.OnlyIf.{only_if}
@@ -35,9 +37,8 @@ told_of b starts depth a sent k m once t at kind answered =
     subst (IsTold b starts depth a)
     (same_Some t.message m (sym t.at ∙ ap (slice_get sent) one ∙ at)) t.told
 
-down_slot : (a : AckValue) (c : ℕ) → a.kind ≡ Down → a.core.number ≡ c
-    → slot_of a.kind a.core ≡ OfCore c
-down_slot a c kind core = ap (λ k. slot_of k a.core) kind ∙ ap OfCore core
+kept : {A : Type 0} (t : Bool) (x was : A) → was ≡ x → cond t x was ≡ x
+kept t x was e = cond_both t x was (λ y. y ≡ x) (λ f. refl) (λ f. e)
 
 -- What is known as an acknowledgement is taken.
 pub record IsTaking (b : BoardValue) (starts : ℕ → ℕ) (depth : ℕ → ℕ → ℕ) (v : Values)
@@ -119,7 +120,7 @@ module _ (b : BoardValue) (starts : ℕ → ℕ) (depth : ℕ → ℕ → ℕ) (
       → applied_part a level (v.outstanding (slot_of a.kind a.core)) ≡ Some is.part
   part_applied level place is by =
       let m : MessageValue = is.message in
-      let slot = down_slot a m.core.number (by.name.kind ∙ is.kind) by.name.core in
+      let slot = down_slot a.kind a.core m.core.number (by.name.kind ∙ is.kind) by.name.core in
       let test : (is_kind a.kind Down && nat_lt level a.applied) ≡ true =
       and_from (is_kind a.kind Down) (nat_lt level a.applied)
       (ap (λ x. is_kind x Down) (by.name.kind ∙ is.kind)) (lt-ltb level a.applied by.low) in
@@ -142,14 +143,10 @@ module _ (b : BoardValue) (starts : ℕ → ℕ) (depth : ℕ → ℕ → ℕ) (
       (ap (is_made_at known) (part_applied level place is by)
       ∙ eq-eqb is.part.generation known is.current))
 
-  kept_true : (s was : Bool) → was ≡ true → cond s true was ≡ true
-  kept_true true was e = refl
-  kept_true false was e = e
-
   domain : (level place : ℕ) → 0 < v.granted level place → IsConfirmedOr b starts v level place
       → IsConfirmedOr b starts (with_acknowledgement b a v) level place
   domain level place some old = elim old [
-    | inl was ↦ inl (kept_true (confirms_on b v a level place) (v.confirmed level place) was)
+    | inl was ↦ inl (kept (confirms_on b v a level place) true (v.confirmed level place) was)
     | inr yet ↦ elim yet [
       | inl is ↦ elim (after_taken level place is) [
         | inl still ↦ inr still
@@ -162,10 +159,6 @@ module _ (b : BoardValue) (starts : ℕ → ℕ) (depth : ℕ → ℕ → ℕ) (
   ]
 
   -- and the core OFF
-  kept_off : (s : Bool) (was : Status) → was ≡ Off → cond s Off was ≡ Off
-  kept_off true was e = refl
-  kept_off false was e = e
-
   off_now : (c : ℕ) (is : IsOutstanding b v.known v.outstanding 0 c) → IsApplied a is.message 0
       → v.phase c ≡ Away → (with_acknowledgement b a v).status c ≡ Off
   off_now c is by away =
@@ -188,7 +181,7 @@ module _ (b : BoardValue) (starts : ℕ → ℕ) (depth : ℕ → ℕ → ℕ) (
     | inl was ↦
         inl (updated_at (λ (s : Status). s ≡ Off) v.status a.core.number
         (cond (turns_off v a) Off (v.status a.core.number)) c
-        (λ here. kept_off (turns_off v a) (v.status a.core.number) (ap v.status (sym here) ∙ was))
+        (λ here. kept (turns_off v a) Off (v.status a.core.number) (ap v.status (sym here) ∙ was))
         (λ there. was))
     | inr yet ↦ elim yet [
       | inl is ↦ elim (after_taken 0 c is) [

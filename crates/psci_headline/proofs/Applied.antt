@@ -1,4 +1,5 @@
 -- What it means that an acknowledgement confirms a claim, and what parts that were applied say.
+use Rattle.psci_headline.proofs.Taking.{same_kind}
 use Rattle.std.proofs.Common.{◌≡◌, ℕ, zero, suc, ◌+◌, ◌<◌, ◌≤◌, Bool, true, false, ◌&&◌}
 use Rattle.std.proofs.Common.{◌==◌, cond, List, [], ◌∷◌, take, Option, None, Some}
 use Rattle.std.proofs.Common.{refl, subst, ap, sym, ◌∙◌, arith, option_and_then}
@@ -17,15 +18,6 @@ use Rattle.psci_ctl_spec.specs.psci_messages.declared.kind.Kind.TheVariants as k
 use Rattle.psci_ctl_spec.specs.psci_messages.Message.{is_climbing}
 use Rattle.psci_ctl_spec.specs.psci_messages.OnlyIf.{only_if}
 use Rattle.psci_fw_laws.specs.KnownBelow.{known_below}
-
--- a Down
-kind_is : (k : Kind) → is_kind k kinds.Down ≡ true → k ≡ kinds.Down
-kind_is kinds.Down e = refl
-kind_is k e = absurd (cc)
-
-pub is_down : (k : Kind) → is_kind kinds.Down k ≡ true → k ≡ kinds.Down
-is_down kinds.Down e = refl
-is_down k e = absurd (cc)
 
 -- What confirms -------------------------------------------------------------------------------
 
@@ -81,7 +73,7 @@ confirming b v a level place e =
     record {
       on = eqb-true place (up b level a.core.number) first.0;
       some = ltb-true 0 (v.granted level place) second.0;
-      kind = kind_is a.kind tests.0;
+      kind = same_kind a.kind kinds.Down tests.0;
       applied = ltb-true level a.applied tests.1;
       message = has.message;
       slot = has.slot;

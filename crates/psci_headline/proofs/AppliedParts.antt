@@ -1,6 +1,7 @@
 -- A part that was applied in this life is one of a Down that was sent in it.
+use Rattle.psci_headline.proofs.Deliveries.{present_life}
 use Rattle.std.proofs.Common.{◌≡◌, ℕ, suc, inl, inr, Bool, true, false, ◌==◌, cond, List}
-use Rattle.std.proofs.Common.{[], ◌∷◌, ◌++◌, Option, None, Some, refl, ap, sym, ◌∙◌}
+use Rattle.std.proofs.Common.{[], ◌∷◌, ◌++◌, Option, None, Some, refl, sym, ◌∙◌}
 use Rattle.std.specs.Prelude.{nat_le, nat_lt, slice_get}
 use Rattle.std.proofs.lemmas.Bool.{and_parts, eqb-true, false≢true}
 use Rattle.std.proofs.lemmas.Option.{same_Some}
@@ -25,7 +26,7 @@ use Rattle.psci_fw_laws.specs.Claims.{IsFromMessage}
 use Rattle.psci_fw_laws.proofs.Parts.{part_from}
 use Rattle.psci_world_spec.specs.declared.said.Said.TheVariants.{Kick}
 use Rattle.psci_world_spec.specs.Histories.{controller_history, sent}
-use Rattle.psci_headline.proofs.Numbering.{IsAt, at_number}
+use Rattle.psci_headline.proofs.Items.{IsListed, at_number}
 
 -- A delivery ----------------------------------------------------------------------------------
 
@@ -65,11 +66,6 @@ carried_by b m a kinds.Off level place p e x = absurd x
 carried_by b m a kinds.Reset level place p e x =
     absurd (applies_under b (nat_lt m.life b.lives) Begins Ends level place p (λ y. y) (λ y. y) x)
 
--- an acknowledged message is of this life
-present_if : (o : Option ℕ) (life : ℕ) → is_this_life o life ≡ true → o ≡ Some life
-present_if None life e = absurd (false≢true e)
-present_if (Some l) life e = ap Some (eqb-true l life e)
-
 acked_if : (t : Bool) (made a : AckValue)
     → deliveries.Applied a ≡ cond t (deliveries.Applied made) deliveries.Ignored → t ≡ true
 acked_if true made a e = refl
@@ -81,7 +77,7 @@ acked_life : (b : BoardValue) (h : List controller.CtlExchange) (m : MessageValu
 unfolding reply delivery_of controls.values_of
 acked_life b h m a e =
     let t = is_this_life (controls.life b h) m.life in
-    present_if (controls.life b h) m.life
+    present_life (controls.life b h) m.life
     (acked_if t (ack_by b (controls.values_of b h) m m.kind) a cc)
 
 -- What a record adds --------------------------------------------------------------------------
@@ -106,7 +102,7 @@ none_applied b life level place p ms e h other before is now was = elim was [
 
 -- an acknowledged message
 delivery_sent : (b : BoardValue) (life level place : ℕ) (p : Part) (ms : List MessageValue)
-    (m : MessageValue) (a : AckValue) (h : List controller.CtlExchange) → IsAt ms m
+    (m : MessageValue) (a : AckValue) (h : List controller.CtlExchange) → IsListed ms m
     → WasSent b life level place p ms h
     → WasSent b life level place p ms (delivered (Some m) a ++ h)
 unfolding effect_of

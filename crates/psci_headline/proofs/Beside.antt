@@ -5,9 +5,9 @@ use Rattle.std.proofs.Common.{Option, None, Some, refl, arith, subst, ap, sym, â
 use Rattle.std.specs.Prelude.{slice_get}
 use Rattle.std.proofs.lemmas.Bool.{cases_eq}
 use Rattle.psci_headline.proofs.Words.{BoardValue, cores, up, PathLaws, is_path_place, Part, Start}
-use Rattle.psci_headline.proofs.Words.{MessageValue, OfCore, Put, Slot, changed, slot_of}
-use Rattle.psci_headline.proofs.Words.{PowerOn, target, with_arrival, with_pending, in_life, Phase}
-use Rattle.psci_headline.proofs.Words.{Away, Pending, unless_pending, Values, updated, KnownLaws}
+use Rattle.psci_headline.proofs.Words.{MessageValue, OfCore, Put, Slot, changed, slot_of, PowerOn}
+use Rattle.psci_headline.proofs.Words.{target, with_arrival, with_pending, in_life, Phase, Away}
+use Rattle.psci_headline.proofs.Words.{Pending, unless_pending, Values, updated, KnownLaws}
 use Rattle.psci_headline.proofs.Words.{known_below, AreConfirming, IsYetToCome}
 use Rattle.psci_headline.specs.psci_messages.declared.kind.Kind.TheVariants as kinds
 use Rattle.psci_headline.specs.psci_fw_spec.declared.status.Status.TheVariants as statuses

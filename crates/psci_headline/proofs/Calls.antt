@@ -1,12 +1,13 @@
 -- What waits, after each effect of the firmware's calls, entries and acknowledgements.
+use Rattle.psci_headline.proofs.Slots.{system_slot, down_slot}
 use Rattle.std.proofs.Common.{◌≡◌, ℕ, ◌<◌, true, false, List, ◌∷◌, ◌++◌, Option, None}
-use Rattle.std.proofs.Common.{Some, refl, subst, ap, sym, ◌∙◌}
-use Rattle.psci_headline.proofs.Words.{BoardValue, cores, Core, Start, Kind, AckValue, MessageValue}
-use Rattle.psci_headline.proofs.Words.{Clear, OfCore, OfSystem, changed, is_kind, slot_of, Act}
-use Rattle.psci_headline.proofs.Words.{change, with_mode, target, Effect, GoesOn, SetsMode, AsksOn}
-use Rattle.psci_headline.proofs.Words.{Rests, Halts, Stops, enter_effect, in_life, Phase, Away}
-use Rattle.psci_headline.proofs.Words.{Pending, unless_pending, Values, updated, IsAllowed, AreLive}
-use Rattle.psci_headline.proofs.Words.{is_system, WaitingIn}
+use Rattle.std.proofs.Common.{Some, subst, ap, sym, ◌∙◌}
+use Rattle.psci_headline.proofs.Words.{BoardValue, cores, Start, Kind, AckValue, MessageValue}
+use Rattle.psci_headline.proofs.Words.{Clear, changed, is_kind, slot_of, Act, change, with_mode}
+use Rattle.psci_headline.proofs.Words.{target, Effect, GoesOn, SetsMode, AsksOn, Rests, Halts}
+use Rattle.psci_headline.proofs.Words.{Stops, enter_effect, in_life, Phase, Away, Pending}
+use Rattle.psci_headline.proofs.Words.{unless_pending, Values, updated, IsAllowed, AreLive}
+use Rattle.psci_headline.proofs.Words.{WaitingIn}
 use Rattle.psci_ctl_spec.specs.Values as controlled
 use Rattle.psci_ctl_spec.specs.psci_messages.declared.kind.Kind.TheVariants as kinds
 use Rattle.psci_headline.specs.psci_fw_spec.declared.outcome.Act.TheVariants as acts
@@ -19,16 +20,6 @@ use Rattle.psci_headline.proofs.Pursuing.{waiting_halting, waiting_phase, waitin
 use Rattle.psci_headline.proofs.Unclaimed.{none_live_running, none_live_started}
 
 -- Slots ----------------------------------------------------------------------------------------
-
-system_slot : (k : Kind) (core : Core) → is_system k ≡ true → slot_of k core ≡ OfSystem
-system_slot kinds.Down core e = absurd (cc)
-system_slot kinds.Start core e = absurd (cc)
-system_slot kinds.Off core e = refl
-system_slot kinds.Reset core e = refl
-
-down_slot : (m : MessageValue) (c : ℕ) → m.kind ≡ kinds.Down → m.core.number ≡ c
-    → slot_of m.kind m.core ≡ OfCore c
-down_slot m c kind core = ap (λ k. slot_of k m.core) kind ∙ ap OfCore core
 
 not_down : (k : Kind) → is_kind k kinds.Down ≡ false → k ≡ kinds.Down → ⊥
 not_down k other e =
@@ -70,7 +61,7 @@ call_waits b life w v sent made (AsksOn c asked) laws is allowed live h =
 call_waits b life w v sent made (Rests c rest m) laws is allowed live h =
     let phase : ℕ → Phase = updated v.phase c (unless_pending (v.phase c) rest.phase) in
     waiting_core b life w.starts w.depth v.halting v.known phase v.outstanding sent made m c
-    (down_slot m c allowed.claim.kind allowed.core) allowed.core
+    (down_slot m.kind m.core c allowed.claim.kind allowed.core) allowed.core
     (none_live_running b life v.known v.phase sent w.starts c live allowed.calls.core
     allowed.calls.runs)
     (λ awake e. allowed.waits (sym (left_by (v.phase c) rest.phase allowed.calls.runs)
@@ -118,7 +109,7 @@ entry_waits b w v sent made c s acts.Stop (Some m) allowed on later live h =
     waiting_core b s.life w.starts w.depth found.halting (updated found.known c s.number)
     (updated found.phase c new)
     (λ slot. changed slot (Clear (record { number = c })) (found.outstanding slot)) sent made m c
-    (down_slot m c allowed.claim.kind allowed.core) allowed.core
+    (down_slot m.kind m.core c allowed.claim.kind allowed.core) allowed.core
     (none_live_started b s.life found.known found.phase sent w.starts c live on later)
     (λ awake e. rests (sym (updated_here found.phase c new) ∙ e))
     (entered_waits b s.life w found sent made c s.number new on later live (λ awake. rests) h)

@@ -4,10 +4,10 @@ use Rattle.std.proofs.Common.{cond, List, ◌∷◌, ◌++◌, Option, Some, ref
 use Rattle.std.specs.Prelude.{nat_lt, slice_get}
 use Rattle.std.proofs.lemmas.Bool.{cases_eq, cond_both, eqb-false}
 use Rattle.psci_headline.proofs.Words.{BoardValue, cores, PathLaws, Part, Cause, Start, next_life}
-use Rattle.psci_headline.proofs.Words.{Nothing, Starts, Ends, Begins, message_effect}
-use Rattle.psci_headline.proofs.Words.{MayFollow, AckLaws, SumLaws, ack_by, last_start, may_follow}
-use Rattle.psci_headline.proofs.Words.{Kind, AckValue, AreClaims, MessageValue, PartByPart, Act}
-use Rattle.psci_headline.proofs.Words.{change, with_acknowledgement, Effect, enter_effect, in_life}
+use Rattle.psci_headline.proofs.Words.{Nothing, Starts, Ends, Begins, message_effect, MayFollow}
+use Rattle.psci_headline.proofs.Words.{AckLaws, SumLaws, ack_by, last_start, may_follow, Kind}
+use Rattle.psci_headline.proofs.Words.{AckValue, AreClaims, MessageValue, PartByPart, Act, change}
+use Rattle.psci_headline.proofs.Words.{with_acknowledgement, Effect, enter_effect, in_life}
 use Rattle.psci_headline.proofs.Words.{start_of_life, Values, IsAllowed, Holds, AreLive}
 use Rattle.psci_headline.proofs.Words.{AreOutstanding, Place, IsNamed, WaitingIn}
 use Rattle.psci_ctl_spec.specs.psci_messages.declared.start.Cause.TheVariants as causes

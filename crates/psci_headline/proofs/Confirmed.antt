@@ -1,10 +1,10 @@
 -- What is told after every legal run.
 use Rattle.std.proofs.Common.{List, [], ◌∷◌, ◌++◌}
 use Rattle.std.proofs.Common.{subst, sym}
-use Rattle.psci_headline.proofs.Words.{BoardValue, PathLaws, effect_of, Values}
-use Rattle.psci_headline.proofs.Words.{Holds, KnownLaws, Event, Wake, Reset, Deliver, Record, Said}
-use Rattle.psci_headline.proofs.Words.{acks, call, control, controller_values, firmware_values}
-use Rattle.psci_headline.proofs.Words.{sent, IsLegalPast, Agree}
+use Rattle.psci_headline.proofs.Words.{BoardValue, PathLaws, effect_of, Values, Holds, KnownLaws}
+use Rattle.psci_headline.proofs.Words.{Event, Wake, Reset, Deliver, Record, Said, acks, call}
+use Rattle.psci_headline.proofs.Words.{control, controller_values, firmware_values, sent}
+use Rattle.psci_headline.proofs.Words.{IsLegalPast, Agree}
 use Rattle.psci_headline.specs.psci_ctl_spec.Exchange.{CtlExchange}
 use Rattle.psci_headline.specs.psci_ctl_spec.History as controls
 use Rattle.psci_headline.specs.psci_ctl_spec.Values as controlled

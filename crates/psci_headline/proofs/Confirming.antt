@@ -1,5 +1,6 @@
 -- What an effect leaves of a domain's confirmed claim: it was confirmed before, or a life has
 -- begun, or an acknowledgement confirms it.
+use Rattle.psci_headline.proofs.Coming.{sum_beside}
 use Rattle.std.proofs.Common.{◌≡◌, ℕ, ◌⊎◌, inl, inr, Bool, true, false, not, ◌==◌}
 use Rattle.std.proofs.Common.{cond, Option, None, Some, refl, arith, ap, sym, ◌∙◌}
 use Rattle.std.specs.Prelude.{slice_get}
@@ -12,7 +13,6 @@ use Rattle.psci_ctl_spec.specs.psci_messages.declared.start.Start as starts
 use Rattle.psci_fw_laws.specs.psci_fw_spec.Confirmed.{unless_claimed}
 use Rattle.psci_fw_laws.specs.psci_fw_spec.Lives.{first_confirmed, first_granted}
 use Rattle.psci_fw_laws.specs.psci_fw_spec.Paths.{claimed_or}
-use Rattle.psci_fw_laws.proofs.Parts.{updated_there}
 
 -- Nothing is changed of a domain.
 pub record Stays (b : BoardValue) (v w : Values) (level place : ℕ) : Type 0 where
@@ -73,15 +73,6 @@ no_sum b level place laws =
     let few = laws.most (λ c. 0) level place 0 (λ c. omega arith) in
     omega (arith, few)
 
--- one core's start counts for no domain beside its path
-beside : (b : BoardValue) (f : ℕ → ℕ) (c number level place : ℕ) → KnownLaws b
-    → is_path_place b c level place ≡ false
-    → known_below b (updated f c number) level place ≡ known_below b f level place
-beside b f c number level place laws off =
-    laws.same (updated f c number) f level place (λ x inside at.
-    updated_there f c number x (λ e.
-    eqb-false place (up b level c) off (sym at ∙ ap (up b level) e)))
-
 -- off the boot path the power-down of a life's start is granted
 first_is : (b : BoardValue) (level place : ℕ) (t : Bool) → first_confirmed b level place ≡ t
     → t ≡ true → first_granted b level place ≡ 3
@@ -113,7 +104,7 @@ entered b v w c s e level place true false laws same off is life known granted c
       stays = record {
         life = life;
         known = ap (λ f. known_below b f level place) known
-            ∙ beside b v.known c s.number level place laws off;
+            ∙ sum_beside b v.known c s.number level place laws off;
         granted = granted;
       };
       before = confirmed;
@@ -125,7 +116,7 @@ entered b v w c s e level place false false laws same off is life known granted 
       is = is;
       new = sym life;
       known = ap (λ f. known_below b f level place) known
-          ∙ (beside b (λ k. 0) c s.number level place laws off ∙ no_sum b level place laws);
+          ∙ (sum_beside b (λ k. 0) c s.number level place laws off ∙ no_sum b level place laws);
       granted = granted ∙ first_is b level place (first_confirmed b level place) refl confirmed;
       off = off_boot b level place confirmed;
     }))

@@ -19,7 +19,7 @@ use Rattle.psci_ctl_spec.proofs.OneMore.{values_more}
 use Rattle.psci_headline.proofs.Agreed.{RunLaws}
 use Rattle.psci_headline.proofs.Controlling.{after_control}
 use Rattle.psci_headline.proofs.Deliveries.{delivered_by}
-use Rattle.psci_headline.proofs.Numbering.{at_number}
+use Rattle.psci_headline.proofs.Items.{at_number}
 use Rattle.psci_headline.proofs.BoardLaws.{Given}
 use Rattle.psci_headline.proofs.Carried.{WaitsNow, acked_waits, started_waits}
 use Rattle.psci_headline.proofs.WaitingNexts.{Now, Next}

@@ -13,7 +13,7 @@ use Rattle.psci_world_spec.specs.declared.said.Said.TheVariants as said
 use Rattle.psci_world_spec.specs.Histories.{controller_history}
 use Rattle.psci_world_spec.proofs.Answered.{controller_answered}
 use Rattle.psci_headline.proofs.Happening.{happens}
-use Rattle.psci_headline.proofs.Numbering.{at_number}
+use Rattle.psci_headline.proofs.Items.{at_number}
 
 -- a message that the firmware sends can be sent on its board
 pub sendable : (b : BoardValue) (m : MessageValue) → cores b ≤ MOST_CORES → IsSound b m

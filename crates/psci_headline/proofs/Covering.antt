@@ -1,9 +1,10 @@
 -- How many parts of a Down are applied: at least those that are live and covered.
+use Rattle.psci_headline.proofs.Ranges.{all_in}
 use Rattle.std.proofs.Common.{◌≡◌, ℕ, zero, suc, inl, inr, ◌+◌, ◌-◌, ◌<◌, ◌≤◌, Bool, true}
 use Rattle.std.proofs.Common.{◌==◌, cond, List, [], ◌∷◌, length, take, Some, refl, arith}
 use Rattle.std.proofs.Common.{subst, ap, sym, ◌∙◌}
 use Rattle.std.specs.Prelude.{nat_le, slice_get}
-use Rattle.std.specs.List.{list_all, prefix_len, range_with_len}
+use Rattle.std.specs.List.{prefix_len}
 use Rattle.std.proofs.lemmas.Bool.{and_from, cases_Bool, cases_eq, cond-true, cond-false, eq-eqb}
 use Rattle.std.proofs.lemmas.Bool.{le-leb}
 use Rattle.psci_headline.proofs.Words.{BoardValue, cores, height, nodes, up, ChildLaws, PathLaws}
@@ -31,14 +32,6 @@ prefix_at_least test (p ∷ ps) (suc n) few h =
     let now : cond (test p) (1 + prefix_len test ps) 0 ≡ 1 + prefix_len test ps =
     cond-true (test p) (1 + prefix_len test ps) 0 here in
     omega (arith, now, rest)
-
-all_in_range : (test : ℕ → Bool) (a n : ℕ)
-    → ((i : ℕ) → a ≤ i → i < a + n → test i ≡ true)
-    → list_all test (range_with_len a n) ≡ true
-all_in_range test a zero h = refl
-all_in_range test a (suc n) h =
-    and_from _ _ (h a (omega arith) (omega arith))
-    (all_in_range test (a + 1) n (λ i low high. h i (omega arith) (omega arith)))
 
 -- Covered --------------------------------------------------------------------------------------
 
@@ -115,7 +108,7 @@ covered : (b : BoardValue) (v : Values) (c k : ℕ) (ps : List Part) (p : Part) 
 covered b v c zero ps p paths kids on low others falls = refl
 covered b v c (suc level) ps p paths kids on low others falls =
     let lower = falls level refl in
-    all_in_range
+    all_in
     (λ place. nat_le p.depth (laid b c (take (suc level) ps) v.depth (suc level - 1) place))
     (first_child b (suc level) (up b (suc level) c)) (children b (domain_of b c (suc level)))
     (λ i first last.

@@ -11,7 +11,7 @@ use Rattle.psci_headline.proofs.Claiming.{part_in, start_in}
 use Rattle.psci_headline.proofs.LiveOnes.{has_live}
 
 -- off the boot path only is a domain down at the life's start
-first_off : (t : Bool) (depth : ℕ) → depth ≡ cond t 0 3 → 0 < depth → (t ≡ false) × (depth ≡ 3)
+pub first_off : (t : Bool) (depth : ℕ) → depth ≡ cond t 0 3 → 0 < depth → (t ≡ false) × (depth ≡ 3)
 first_off true depth e some = absurd (omega (arith, e, some))
 first_off false depth e some = (refl, e)
 

@@ -2,14 +2,12 @@
 use Rattle.std.proofs.Common.{◌≡◌, ℕ, ◌⊎◌, inl, inr, Bool, true, false, cond, List, [], ◌∷◌}
 use Rattle.std.proofs.Common.{◌++◌, Option, None, Some, refl, subst, ap, ap₂, sym, ◌∙◌, length}
 use Rattle.std.proofs.lemmas.Bool.{eqb-true}
-use Rattle.psci_headline.proofs.Words.{BoardValue, Nothing, Starts, Deepens, Ends}
-use Rattle.psci_headline.proofs.Words.{Begins, message_effect, ack_by, is_this_life}
-use Rattle.psci_headline.proofs.Words.{first_depth, first_starts, FwReply, AckValue, MessageValue}
-use Rattle.psci_headline.proofs.Words.{Event, Wake, Reset, Deliver}
-use Rattle.psci_headline.proofs.Words.{Record, Said, Acked}
-use Rattle.psci_headline.proofs.Words.{ack_in, acks, control, controller_values, delivered, sent}
-use Rattle.psci_headline.proofs.Words.{said_by}
-use Rattle.psci_headline.proofs.Words.{said_of, indexed}
+use Rattle.psci_headline.proofs.Words.{BoardValue, Nothing, Starts, Deepens, Ends, Begins}
+use Rattle.psci_headline.proofs.Words.{message_effect, ack_by, is_this_life, first_depth}
+use Rattle.psci_headline.proofs.Words.{first_starts, FwReply, AckValue, MessageValue, Event, Wake}
+use Rattle.psci_headline.proofs.Words.{Reset, Deliver, Record, Said, Acked, ack_in, acks, control}
+use Rattle.psci_headline.proofs.Words.{controller_values, delivered, sent, said_by, said_of}
+use Rattle.psci_headline.proofs.Words.{indexed, legal}
 use Rattle.psci_ctl_spec.specs.declared.delivery.Delivery.TheVariants as deliveries
 use Rattle.psci_ctl_spec.specs.declared.kick.Kick.{Kick}
 use Rattle.psci_ctl_spec.specs.declared.kick.Kick.TheVariants as kicks
@@ -24,7 +22,6 @@ use Rattle.psci_ctl_spec.proofs.OneMore.{values_more}
 use Rattle.psci_fw_laws.specs.psci_fw_spec.declared.reply.FwReply.TheVariants as replies
 use Rattle.psci_world_spec.specs.declared.said.Said.TheVariants.{Kick as Kicked}
 use Rattle.psci_world_spec.specs.Histories.{controller_history}
-use Rattle.psci_world_spec.specs.Legal.{legal}
 use Rattle.psci_headline.proofs.Saying.{of_event}
 
 -- What a record adds ---------------------------------------------------------------------------

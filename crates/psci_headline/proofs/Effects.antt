@@ -1,13 +1,12 @@
 -- What is told after each effect of the firmware's calls, entries and acknowledgements.
+use Rattle.psci_headline.proofs.Slots.{system_slot}
+use Rattle.psci_headline.proofs.Telling.{first_part}
 use Rattle.std.proofs.Common.{◌≡◌, ℕ, inl, inr, ◌<◌, true, false, List}
-use Rattle.std.proofs.Common.{[], ◌∷◌, length, Some, refl, arith, subst, sym, ◌∙◌}
-use Rattle.std.specs.Prelude.{slice_get}
-use Rattle.psci_headline.proofs.Words.{BoardValue, PathLaws, Core, Part, Kind, Start, ArePartsOf}
-use Rattle.psci_headline.proofs.Words.{AreClaims, MessageValue, OfSystem, slot_of, change}
+use Rattle.std.proofs.Common.{refl, subst, sym, ◌∙◌}
+use Rattle.psci_headline.proofs.Words.{BoardValue, PathLaws, Start, MessageValue, change}
 use Rattle.psci_headline.proofs.Words.{with_arrival, Rests, Stops, Enters, Parks, StopsAtOnce}
 use Rattle.psci_headline.proofs.Words.{in_life, Phase, Away, Pending, unless_pending, Values}
 use Rattle.psci_headline.proofs.Words.{IsAllowed, Holds, KnownLaws, is_system, AreConfirming}
-use Rattle.psci_headline.specs.psci_messages.declared.kind.Kind.TheVariants as kinds
 use Rattle.psci_headline.specs.psci_fw_spec.Changes.{Rest, with_halt, with_phase, with_rest}
 use Rattle.psci_headline.specs.psci_fw_spec.Phases.{Running}
 use Rattle.psci_headline.proofs.fw_laws.Parts.{updated_at}
@@ -32,12 +31,6 @@ goes_on b starts v c are = record {
       (unless_pending (v.phase c) Running) x (λ here e. absurd (never_away (v.phase c) e))
       (λ there e. e) away);
 }
-
-system_slot : (k : Kind) (core : Core) → is_system k ≡ true → slot_of k core ≡ OfSystem
-system_slot kinds.Down core e = absurd (cc)
-system_slot kinds.Start core e = absurd (cc)
-system_slot kinds.Off core e = refl
-system_slot kinds.Reset core e = refl
 
 pub halts : (b : BoardValue) (starts : ℕ → ℕ) (v : Values) (c : ℕ) (m : MessageValue)
     → is_system m.kind ≡ true → AreConfirming b starts v
@@ -64,21 +57,6 @@ halting b starts v c is are flat = record {
 
 -- A Down is sent -------------------------------------------------------------------------------
 
--- The first part of a Down.
-record HasFirst (parts : List Part) : Type 0 where
-  pub part : Part
-  pub at : slice_get parts 0 ≡ Some part
-
-first_of : (parts : List Part) → 0 < length parts → HasFirst parts
-first_of [] some = absurd (omega (arith, some))
-first_of (p ∷ ps) some = record { part = p; at = refl }
-
-first_part : (m : MessageValue) → m.kind ≡ kinds.Down → ArePartsOf m.kind m.parts
-    → HasFirst m.parts
-first_part m kind are =
-    let claim : AreClaims m.parts = subst (λ x. ArePartsOf x m.parts) kind are in
-    first_of m.parts claim.some
-
 -- nothing is granted on the path of a core that runs
 flat_running : (b : BoardValue) (v : Values) (sent : List MessageValue) (c : ℕ) → Holds b v sent
     → c < Rattle.psci_headline.specs.psci_board.Board.cores b → v.phase c ≡ Running
@@ -95,7 +73,7 @@ module _ (b : BoardValue) (starts : ℕ → ℕ) (laws : KnownLaws b) (paths : P
       → AreConfirming b starts (change b (Rests c rest m) v)
   rests v sent c rest m holds allowed are =
       let first = first_part m allowed.claim.kind allowed.claim.sound.parts in
-      claims b starts (with_rest c rest v) m first.part paths allowed.claim.kind
+      claims b starts (with_rest c rest v) m first.item paths allowed.claim.kind
       allowed.claim.current first.at
       (subst (AreBeside b starts (with_rest c rest v)) (sym allowed.core)
       (rested b starts v c rest are))
@@ -108,7 +86,7 @@ module _ (b : BoardValue) (starts : ℕ → ℕ) (laws : KnownLaws b) (paths : P
   parks v c s m allowed are =
       let u : Values = with_phase c Away (with_arrival b c s v) in
       let first = first_part m allowed.claim.kind allowed.claim.sound.parts in
-      claims b starts u m first.part paths allowed.claim.kind allowed.claim.current first.at
+      claims b starts u m first.item paths allowed.claim.kind allowed.claim.current first.at
       (subst (AreBeside b starts u) (sym allowed.core)
       (phased b starts (with_arrival b c s v) c Away (arrived b starts v c s laws paths are)))
       (subst (IsFlat b u) (sym allowed.core) (arrived_flat b v c s))

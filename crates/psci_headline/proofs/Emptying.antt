@@ -1,14 +1,13 @@
 -- What is so after what is outstanding for a core was served.
+use Rattle.psci_headline.proofs.Acknowledging.{acks_message}
+use Rattle.psci_headline.proofs.Slots.{core_slot}
 use Rattle.std.proofs.Common.{◌≡◌, ℕ, Bool, true, false, ◌&&◌, cond, List, Option, None, Some}
 use Rattle.std.proofs.Common.{refl, subst, ap, sym, ◌∙◌, option_and_then}
 use Rattle.std.proofs.lemmas.Bool.{and_from, cond-true, cond-false, eq-eqb, ne_eqb}
-use Rattle.psci_headline.proofs.Words.{BoardValue, Core, ack_by, may_follow, Kind, Down, Used}
-use Rattle.psci_headline.proofs.Words.{AckValue, MessageValue, Acknowledge, OfCore, answers}
-use Rattle.psci_headline.proofs.Words.{changed, is_done, is_kind, is_slot, slot_of, Values}
-use Rattle.psci_headline.proofs.Words.{is_system, AreOutstanding, Record, controller_values}
+use Rattle.psci_headline.proofs.Words.{BoardValue, Kind, Used, AckValue, MessageValue, Acknowledge}
+use Rattle.psci_headline.proofs.Words.{OfCore, answers, changed, is_done, is_kind, is_slot, slot_of}
+use Rattle.psci_headline.proofs.Words.{Values, is_system, AreOutstanding, Record, controller_values}
 use Rattle.psci_headline.proofs.Words.{firmware_values, sent, IsLegalPast, served, serving}
-use Rattle.psci_ctl_spec.specs.Values as controlled
-use Rattle.psci_ctl_spec.specs.psci_messages.declared.kind.Kind.TheVariants.{Start, Off, Reset}
 use Rattle.psci_ctl_spec.specs.psci_messages.declared.taken.Taken.TheVariants.{Old}
 use Rattle.psci_ctl_spec.specs.psci_messages.Slots.{left_by, taken}
 use Rattle.psci_headline.specs.psci_fw_spec.Taking.{taken_by}
@@ -21,33 +20,7 @@ use Rattle.psci_headline.proofs.Telling.{own_kind}
 
 -- Names ----------------------------------------------------------------------------------------
 
--- an acknowledgement has the name of its message
-ack_has : (b : BoardValue) (w : controlled.Values) (m : MessageValue) (kind : Kind)
-    → HasName (ack_by b w m kind) m
-ack_has b w m Down = record { kind = refl; core = refl; life = refl; number = refl }
-ack_has b w m Start = by_test (may_follow b w m.core.number m.number)
-  where
-    by_test : (t : Bool) → HasName (cond t (record {
-      kind = m.kind;
-      core = m.core;
-      life = m.life;
-      number = m.number;
-      applied = 1;
-      stale = false;
-    }) (record {
-      kind = m.kind;
-      core = m.core;
-      life = m.life;
-      number = m.number;
-      applied = 0;
-      stale = true;
-    })) m
-    by_test true = record { kind = refl; core = refl; life = refl; number = refl }
-    by_test false = record { kind = refl; core = refl; life = refl; number = refl }
-ack_has b w m Off = record { kind = refl; core = refl; life = refl; number = refl }
-ack_has b w m Reset = record { kind = refl; core = refl; life = refl; number = refl }
-
--- so it answers each message of that name
+-- an acknowledgement answers each message that has the name of its own
 named_answers : (a : AckValue) (m n : MessageValue) → HasName a n → HaveName m n
     → answers a m ≡ true
 named_answers a m n mine same =
@@ -55,12 +28,6 @@ named_answers a m n mine same =
     (and_from _ _ (eq-eqb _ _ (mine.core ∙ sym same.core))
     (and_from _ _ (eq-eqb _ _ (mine.life ∙ sym same.life))
     (eq-eqb _ _ (mine.number ∙ sym same.number))))
-
-core_slot : (k : Kind) (core : Core) → is_system k ≡ false → slot_of k core ≡ OfCore core.number
-core_slot Down core e = refl
-core_slot Start core e = refl
-core_slot Off core e = absurd (cc)
-core_slot Reset core e = absurd (cc)
 
 -- Slots ----------------------------------------------------------------------------------------
 
@@ -112,7 +79,7 @@ empties b past c m laws is n present at core kind = record {
     a = ack_to b past n.message
 
     name : HasName a n.message
-    name = ack_has b (controller_values b past) n.message n.message.kind
+    name = acks_message b (controller_values b past) n.message n.message.kind
 
     mine : answers a m ≡ true
     mine = named_answers a m n.message name n.name

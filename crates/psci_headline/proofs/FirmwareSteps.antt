@@ -3,9 +3,9 @@ use Rattle.std.proofs.Common.{◌≡◌, ℕ, ◌<◌, List, ◌++◌, Option, N
 use Rattle.std.proofs.Common.{refl, subst, sym}
 use Rattle.psci_headline.proofs.Words.{request_of, Regs, BoardValue, cores, Start, last_start}
 use Rattle.psci_headline.proofs.Words.{AckValue, MessageValue, Taken, Outcome, change, call_fault}
-use Rattle.psci_headline.proofs.Words.{enter_effect, function_effect, enter_fault, IsLegal}
-use Rattle.psci_headline.proofs.Words.{listed, Values, Call, Enter, Take, Record, Said, ack_in}
-use Rattle.psci_headline.proofs.Words.{acks, controller_values, entered, firmware_history}
+use Rattle.psci_headline.proofs.Words.{enter_effect, function_effect, enter_fault, IsLegal, listed}
+use Rattle.psci_headline.proofs.Words.{Values, Call, Enter, Take, Record, Said, ack_in, acks}
+use Rattle.psci_headline.proofs.Words.{controller_values, entered, firmware_history}
 use Rattle.psci_headline.proofs.Words.{firmware_values, outcome_in, sent, sent_in, took, legal}
 use Rattle.psci_headline.proofs.Words.{indexed, place}
 use Rattle.psci_ctl_spec.specs.psci_messages.declared.taken.Taken.TheVariants as takens
@@ -20,7 +20,7 @@ use Rattle.psci_headline.specs.psci_world_spec.declared.said.Said.TheVariants as
 use Rattle.psci_headline.proofs.Agreed.{RunLaws}
 use Rattle.psci_headline.proofs.Happening.{happens}
 use Rattle.psci_headline.proofs.Moving.{function_call}
-use Rattle.psci_headline.proofs.Numbering.{at_number}
+use Rattle.psci_headline.proofs.Items.{at_number}
 use Rattle.psci_headline.proofs.Outcomes.{call_sends, enter_sends}
 use Rattle.psci_headline.proofs.Sending.{after_call}
 use Rattle.psci_headline.proofs.BoardLaws.{Given}

@@ -2,14 +2,13 @@
 use Rattle.std.proofs.Common.{◌≡◌, ℕ, ◌<◌, Bool, true, false, None, Some, refl, List, ap, sym, ◌∙◌}
 use Rattle.psci_headline.proofs.Words.{BoardValue, cores, Start, last_start, Event, Call, Enter}
 use Rattle.psci_headline.proofs.Words.{Wake, Reset, Started, Running, Record, Said, Absent}
-use Rattle.psci_headline.proofs.Words.{controller_values, sent_in, said_by, place}
+use Rattle.psci_headline.proofs.Words.{controller_values, sent_in, said_by, place, legal}
 use Rattle.psci_ctl_spec.specs.declared.delivery.Delivery.TheVariants as deliveries
 use Rattle.psci_ctl_spec.specs.declared.kick.Kick.TheVariants as kicks
 use Rattle.psci_ctl_spec.specs.declared.reply.CtlReply.{CtlReply}
 use Rattle.psci_ctl_spec.specs.declared.reply.CtlReply.TheVariants as replied
 use Rattle.psci_fw_laws.specs.psci_fw_spec.Answer.{answer}
 use Rattle.psci_world_spec.specs.declared.said.Said.TheVariants.{Ignored}
-use Rattle.psci_world_spec.specs.Legal.{legal}
 use Rattle.psci_headline.proofs.Saying.{of_event}
 
 -- Places ---------------------------------------------------------------------------------------

@@ -41,8 +41,6 @@ pub mod Moves
 pub mod Moving
 pub mod Naming
 pub mod Nexts
-pub mod Numbered
-pub mod Numbering
 pub mod OffIsDown
 mod Once
 mod OpeningRows

@@ -2,12 +2,10 @@
 use Rattle.std.proofs.Common.{◌≡◌, ℕ, List, [], ◌∷◌, Some, refl, ap}
 use Rattle.std.specs.Prelude.{slice_get}
 use Rattle.psci_headline.proofs.Words.{BoardValue, AckValue, Record, ack_in, sent, IsLegalPast}
-use Rattle.psci_headline.proofs.Words.{WasMade}
+use Rattle.psci_headline.proofs.Words.{WasMade, legal}
 use Rattle.psci_world_spec.specs.Histories.{acks}
-use Rattle.psci_world_spec.specs.Legal.{legal}
 use Rattle.psci_headline.proofs.Deliveries.{new_ack}
-use Rattle.psci_headline.proofs.Items.{of_newest}
-use Rattle.psci_headline.proofs.Numbering.{at_number}
+use Rattle.psci_headline.proofs.Items.{of_newest, at_number}
 
 new_made : (b : BoardValue) (r : Record) (past : List Record) (a : AckValue) → IsLegalPast b past
     → r.said ≡ legal b past r.event → ack_in r.said ≡ Some a → WasMade b (r ∷ past) a

@@ -13,7 +13,7 @@ use Rattle.psci_fw_laws.proofs.Arriving.{first_holds, found_life}
 use Rattle.psci_fw_laws.proofs.Living.{live_laws}
 use Rattle.psci_headline.specs.Live.{NoneExecutes}
 use Rattle.psci_headline.proofs.Claiming.{source}
-use Rattle.psci_headline.proofs.LiveClaims.{same_sum}
+use Rattle.psci_headline.proofs.Starting.{same_sum}
 use Rattle.psci_headline.proofs.LiveOnes.{is_live_one}
 
 -- Values in a life ----------------------------------------------------------------------------

@@ -14,7 +14,7 @@ use Rattle.psci_fw_laws.specs.psci_fw_spec.Effects.{Nothing}
 use Rattle.psci_ctl_spec.specs.psci_messages.declared.taken.Taken.TheVariants as takens
 use Rattle.psci_world_spec.specs.declared.said.Said.TheVariants.{Taken as Took}
 use Rattle.psci_headline.proofs.Moving.{function_call, is_call}
-use Rattle.psci_headline.proofs.Numbered.{IsListed, listed_from}
+use Rattle.psci_headline.proofs.Items.{IsListed, at_number}
 
 -- What an effect says -------------------------------------------------------------------------
 
@@ -47,26 +47,21 @@ shown_life (Some life) n cause s e = by_number (n == 0) e
         let same : record { life = life; number = n; cause = cause } ≡ s = cc in
         ap (λ (x : Start). Some x.life) same
 
+of_arrival : (v : controlled.Values) (made : List AckValue) (c : ℕ) (s : Start) (e : Effect)
+    → v.life ≡ Some s.life → arrived e ≡ Some (record { core = c; start = s })
+    → ((a : AckValue) → e ≡ Acknowledges a → ⊥) → IsOfRecord v made e
+of_arrival v made c s e life is none = record {
+  starts = λ a f.
+      let same : record { core = c; start = s } ≡ a = cc in
+      life ∙ ap (λ (x : Arrival). Some x.start.life) same;
+  takes = λ a f. absurd (none a f);
+}
+
 of_entry : (v : controlled.Values) (made : List AckValue) (c : ℕ) (s : Start) (act : Act)
     (m : Option MessageValue) → v.life ≡ Some s.life → IsOfRecord v made (enter_effect c s act m)
-of_entry v made c s acts.Stop (Some m) life = record {
-  starts = λ a e.
-      let same : record { core = c; start = s } ≡ a = cc in
-      life ∙ ap (λ (x : Arrival). Some x.start.life) same;
-  takes = λ a e. absurd (cc);
-}
-of_entry v made c s acts.Stop None life = record {
-  starts = λ a e.
-      let same : record { core = c; start = s } ≡ a = cc in
-      life ∙ ap (λ (x : Arrival). Some x.start.life) same;
-  takes = λ a e. absurd (cc);
-}
-of_entry v made c s act m life = record {
-  starts = λ a e.
-      let same : record { core = c; start = s } ≡ a = cc in
-      life ∙ ap (λ (x : Arrival). Some x.start.life) same;
-  takes = λ a e. absurd (cc);
-}
+of_entry v made c s acts.Stop (Some m) life = of_arrival v made c s (Parks c s m) life refl (λ a e. cc)
+of_entry v made c s acts.Stop None life = of_arrival v made c s (StopsAtOnce c s) life refl (λ a e. cc)
+of_entry v made c s act m life = of_arrival v made c s (Enters c s) life refl (λ a e. cc)
 
 -- What a record adds --------------------------------------------------------------------------
 
@@ -89,7 +84,7 @@ added_took : (b : BoardValue) (v : controlled.Values) (made : List AckValue) (k 
 added_took b v made k None t at = tt
 added_took b v made k (Some a) takens.Used at = record {
   starts = λ x e. absurd (cc);
-  takes = λ x e. let same : a ≡ x = cc in subst (IsListed made) same (listed_from made k a at);
+  takes = λ x e. let same : a ≡ x = cc in subst (IsListed made) same (at_number made k a at);
 }
 added_took b v made k (Some a) takens.Old at = record {
   starts = λ x e. absurd (cc);

@@ -1,8 +1,11 @@
 -- What a change leaves in the slot of a core.
+use Rattle.std.proofs.Common.{false}
+use Rattle.std.proofs.Common.{true}
+use Rattle.psci_ctl_spec.specs.psci_messages.declared.kind.Kind.TheVariants as kinds
+use Rattle.psci_headline.proofs.Words.{is_system, Core, Kind, MessageValue, Clear, OfCore, OfSystem}
+use Rattle.psci_headline.proofs.Words.{Put, Slot, changed, is_slot, slot_of}
 use Rattle.std.proofs.Common.{◌≡◌, ℕ, ◌==◌, Option, None, Some, refl, ap, sym, ◌∙◌}
 use Rattle.std.proofs.lemmas.Bool.{cond-true, cond-false, eq-eqb, ne_eqb}
-use Rattle.psci_headline.proofs.Words.{MessageValue, Clear, OfCore, OfSystem, Put, Slot, changed}
-use Rattle.psci_headline.proofs.Words.{is_slot, slot_of}
 
 -- the slot of a message that is sent has it
 pub put_here : (outstanding : Slot → Option MessageValue) (m : MessageValue) (c : ℕ)
@@ -34,3 +37,18 @@ pub clear_there : (outstanding : Slot → Option MessageValue) (c x : ℕ) → (
     ≡ outstanding (OfCore x)
 clear_there outstanding c x ne =
     cond-false (c == x) None (outstanding (OfCore x)) (ne_eqb c x (λ s. ne (sym s)))
+
+-- the slots of kinds
+pub system_slot : (k : Kind) (core : Core) → is_system k ≡ true → slot_of k core ≡ OfSystem
+system_slot kinds.Down core e = absurd (cc)
+system_slot kinds.Start core e = absurd (cc)
+system_slot k core e = refl
+
+pub core_slot : (k : Kind) (core : Core) → is_system k ≡ false → slot_of k core ≡ OfCore core.number
+core_slot kinds.Off core e = absurd (cc)
+core_slot kinds.Reset core e = absurd (cc)
+core_slot k core e = refl
+
+pub down_slot : (k : Kind) (core : Core) (c : ℕ) → k ≡ kinds.Down → core.number ≡ c
+    → slot_of k core ≡ OfCore c
+down_slot k core c kind own = ap (λ x. slot_of x core) kind ∙ ap OfCore own

@@ -1,5 +1,5 @@
 -- What waits, after a core was started.
-use Rattle.std.proofs.Common.{◌≡◌, ℕ, inl, inr, ◌+◌, ◌≤◌, Bool, true, false, ◌==◌, cond}
+use Rattle.std.proofs.Common.{◌≡◌, ℕ, inl, inr, ◌+◌, ◌≤◌, Bool, false, ◌==◌, cond}
 use Rattle.std.proofs.Common.{List, Option, Some, refl, arith, sym, ◌∙◌}
 use Rattle.std.specs.Prelude.{slice_get}
 use Rattle.std.proofs.lemmas.Bool.{cases_Bool, cases_eq, cond-true, cond-false, eq-eqb, ne_eqb}
@@ -39,14 +39,6 @@ pub record IsBeside (b : BoardValue) (starts : ℕ → ℕ) (c : ℕ) (m : Messa
   pub off : is_on_path b c level (up b level m.core.number) ≡ false
   pub live : IsLivePart b starts m level p
 
-count_one : (t : Bool) → t ≡ true → cond {A = ℕ} t 1 0 ≡ 1
-count_one true e = refl
-count_one false e = absurd (cc)
-
-count_none : (t : Bool) → t ≡ false → cond {A = ℕ} t 1 0 ≡ 0
-count_none true e = absurd (cc)
-count_none false e = refl
-
 -- a part that is live after the start was live before, and not on the path of the core
 beside : (b : BoardValue) (starts : ℕ → ℕ) (c level : ℕ) (m : MessageValue) (p : Part)
     → CountsOnce b starts c → level ≤ height b
@@ -60,10 +52,10 @@ beside b starts c level m p counts low older live =
     let more = counts level place low in
     elim (cases_Bool (is_on_path b c level place)) [
       | inl on ↦
-          let one = count_one (is_on_path b c level place) on in
+          let one = cond-true {A = ℕ} (is_on_path b c level place) 1 0 on in
           absurd (omega (arith, live, now, before, more, one, older))
       | inr off ↦
-          let none = count_none (is_on_path b c level place) off in
+          let none = cond-false {A = ℕ} (is_on_path b c level place) 1 0 off in
           record { off = off; live = omega (arith, live, now, before, more, none) }
     ]
 
@@ -93,10 +85,10 @@ waiting_started b life starts depth halting known phase outstanding sent made c 
           let more = counts n.level n.place on.level in
           elim (cases_Bool (is_on_path b c n.level n.place)) [
             | inl here ↦
-                let one = count_one (is_on_path b c n.level n.place) here in
+                let one = cond-true {A = ℕ} (is_on_path b c n.level n.place) 1 0 here in
                 absurd (omega (arith, none, more, one))
             | inr there ↦
-                let zero = count_none (is_on_path b c n.level n.place) there in
+                let zero = cond-false {A = ℕ} (is_on_path b c n.level n.place) 1 0 there in
                 cond-false (is_on_path b c n.level n.place) 0 (depth n.level n.place) there
                 ∙ are.first n on (omega (arith, none, more, zero))
           ];

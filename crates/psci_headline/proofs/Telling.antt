@@ -1,13 +1,13 @@
 -- What a new acknowledgement says, once its message was carried out.
+use Rattle.psci_headline.proofs.Words.{ArePartsOf, AreClaims, BoardValue, height, up, Part}
+use Rattle.psci_headline.proofs.Words.{domain_of, AckLaws, applied, depth_or, is_stale, laid}
+use Rattle.psci_headline.proofs.Words.{ack_of, starts_below, is_on_path, Kind, Down, MessageValue}
+use Rattle.psci_headline.proofs.Words.{answers, is_kind, IsLivePart, IsTold}
 use Rattle.std.proofs.Common.{◌≡◌, ℕ, zero, suc, ◌+◌, ◌-◌, ◌<◌, ◌≤◌, Bool, true, List, [], ◌∷◌}
 use Rattle.std.proofs.Common.{length, take, Some, refl, arith, subst, ap, sym, ◌∙◌}
 use Rattle.std.specs.Prelude.{slice_get}
 use Rattle.std.proofs.lemmas.Bool.{and_from, cond-true, eq-eqb, le-leb}
 use Rattle.std.proofs.lemmas.Option.{same_Some, slice_get_within}
-use Rattle.psci_headline.proofs.Words.{BoardValue, height, up, Part, domain_of, AckLaws, applied}
-use Rattle.psci_headline.proofs.Words.{depth_or, is_stale, laid, ack_of, starts_below, is_on_path}
-use Rattle.psci_headline.proofs.Words.{Kind, Down, MessageValue, answers, is_kind, IsLivePart}
-use Rattle.psci_headline.proofs.Words.{IsTold}
 use Rattle.psci_ctl_spec.specs.Values.{Values}
 use Rattle.psci_ctl_spec.proofs.Front.{get_take}
 use Rattle.psci_ctl_spec.specs.psci_messages.declared.kind.Kind.TheVariants.{Start}
@@ -54,7 +54,14 @@ item_at (p ∷ ps) zero low = record { item = p; at = refl }
 item_at (p ∷ ps) (suc k) low =
     let rest = item_at ps k (omega arith) in record { item = rest.item; at = rest.at }
 
--- so each lower one is
+-- so a Down has a first part
+pub first_part : (m : MessageValue) → m.kind ≡ Down → ArePartsOf m.kind m.parts
+    → HasItem m.parts 0
+first_part m down are =
+    let claim : AreClaims m.parts = subst (λ k. ArePartsOf k m.parts) down are in
+    item_at m.parts 0 claim.some
+
+-- so each lower part is
 pub live_down : (b : BoardValue) (starts : ℕ → ℕ) (m : MessageValue) → IsLiveBelow b starts m
     → (gap level : ℕ) (p q : Part) → slice_get m.parts level ≡ Some p
     → slice_get m.parts (level + gap) ≡ Some q → IsLivePart b starts m (level + gap) q

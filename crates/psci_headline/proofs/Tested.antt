@@ -69,11 +69,11 @@ powered_tested b past = (
 
 -- Reported OFF --------------------------------------------------------------------------------
 
-not_running : (p : Place) → not (executes_outside p) ≡ true → p ≡ Running → ⊥
+pub not_running : (p : Place) → not (executes_outside p) ≡ true → p ≡ Running → ⊥
 not_running Started e same = cc
 not_running p e same = cc
 
-still : (p : Place) → (p ≡ Running → ⊥) → not (executes_outside p) ≡ true
+pub still : (p : Place) → (p ≡ Running → ⊥) → not (executes_outside p) ≡ true
 still Started h = refl
 still Running h = absurd (h refl)
 still Stopped h = refl

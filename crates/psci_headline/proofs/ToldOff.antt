@@ -1,5 +1,6 @@
 -- What AFFINITY_INFO answers with OFF: each core of the domain is reported OFF.
-use Rattle.std.proofs.Common.{◌≡◌, ℕ, zero, suc, ◌+◌, ◌<◌, ◌≤◌, Bool, true, false, ◌==◌, ◌||◌, cond}
+use Rattle.std.proofs.lemmas.Bool.{or_parts}
+use Rattle.std.proofs.Common.{◌≡◌, ℕ, zero, suc, ◌+◌, ◌<◌, ◌≤◌, Bool, true, false, ◌==◌, cond}
 use Rattle.std.proofs.Common.{List, ◌∷◌, filter, Option, None, Some, refl, ap, sym, ◌∙◌}
 use Rattle.std.proofs.Common.{subst, arith, pos, inl, inr, option_map}
 use Rattle.std.specs.Prelude.{nat_le, nat_lt}
@@ -26,14 +27,10 @@ use Rattle.psci_headline.proofs.Slept.{report}
 
 -- Lists that no test finds ----------------------------------------------------------------------
 
-or_false : (x y : Bool) → (x || y) ≡ false → (x ≡ false) × (y ≡ false)
-or_false true y e = absurd (cc)
-or_false false y e = (refl, e)
-
 none_head : (p : ℕ → Bool) (t : Bool) (a : ℕ) (xs : List ℕ)
     → list_any p (cond t (a ∷ xs) xs) ≡ false → (t ≡ true → p a ≡ false) × (list_any p xs ≡ false)
 none_head p true a xs e =
-    let both = or_false (p a) (list_any p xs) e in (λ is. both.0, both.1)
+    let both = or_parts (p a) (list_any p xs) e in (λ is. both.0, both.1)
 none_head p false a xs e = (λ is. absurd (cc), e)
 
 none_kept : (p test : ℕ → Bool) (a n c : ℕ)

@@ -1,9 +1,9 @@
 -- What waits after every legal run.
 use Rattle.std.proofs.Common.{◌≡◌, List, [], ◌∷◌, refl, arith, subst, ap, sym, ◌∙◌, false}
-use Rattle.psci_headline.proofs.Words.{controller_values}
-use Rattle.psci_headline.proofs.Words.{BoardValue, IsLegal, in_life, start_of_life, Event, Call}
-use Rattle.psci_headline.proofs.Words.{Enter, Wake, Reset, Deliver, Take, Record, Said, ack_in}
-use Rattle.psci_headline.proofs.Words.{sent_in, IsLegalPast, legal, WaitingIn}
+use Rattle.psci_headline.proofs.Words.{controller_values, BoardValue, IsLegal, in_life}
+use Rattle.psci_headline.proofs.Words.{start_of_life, Event, Call, Enter, Wake, Reset, Deliver}
+use Rattle.psci_headline.proofs.Words.{Take, Record, Said, ack_in, sent_in, IsLegalPast, legal}
+use Rattle.psci_headline.proofs.Words.{WaitingIn}
 use Rattle.psci_ctl_spec.specs.Legal as legal_controls
 use Rattle.psci_ctl_spec.specs.Values as controlled
 use Rattle.psci_ctl_spec.specs.History as controls
