@@ -99,7 +99,8 @@ module _ (b : BoardValue) (past : List Record) (a : AckValue) (t : IsTaken b pas
       same_message (sent past) was_sent.index of_core.listed.index delivered by.message was_sent.at
       of_core.listed.at
       (once_down b v (sent past) t.holds was_sent.index of_core.listed.index delivered by.message
-      was_sent.at of_core.listed.at kind (sym (ap (λ (x : MessageValue). x.kind) one) ∙ sym name.kind ∙ by.kind)
+      was_sent.at of_core.listed.at kind (sym (ap (λ (x : MessageValue). x.kind) one)
+      ∙ sym name.kind ∙ by.kind)
       (sym of.core ∙ sym of_core.core)
       (sym of.life ∙ name.life ∙ ap (λ (x : MessageValue). x.life) one)
       (sym of.number ∙ name.number ∙ ap (λ (x : MessageValue). x.number) one))

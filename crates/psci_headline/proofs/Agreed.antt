@@ -183,14 +183,17 @@ first_kept b = refl
 
 first_agreed : (b : BoardValue) → Now b []
 unfolding controller_history place controls.values_of
-first_agreed b = subst (AreAgreed b (controller_values b []) first_place) (sym (first_kept b)) (record {
-  begun = λ life e. omega arith;
-  stopped = λ e. absurd (cc);
-  present = λ life e.
-      let is : 1 ≡ life = cc in
-      subst (λ l. AgreeIn b controlled.first_starts first_place (in_life b l (start_of_life b 0))) is
-      (at_start b 1);
-})
+first_agreed b =
+    subst (AreAgreed b (controller_values b []) first_place) (sym (first_kept b)) (record {
+      begun = λ life e. omega arith;
+      stopped = λ e. absurd (cc);
+      present = λ life e.
+          let is : 1 ≡ life = cc in
+          subst (λ l. AgreeIn b controlled.first_starts first_place
+          (in_life b l (start_of_life b 0)))
+          is
+          (at_start b 1);
+    })
 
 pub agreed : (b : BoardValue) → RunLaws b → (past : List Record) → IsLegalPast b past → Now b past
 unfolding controller_history firmware_history place

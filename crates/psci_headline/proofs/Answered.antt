@@ -1,17 +1,16 @@
 -- What is told once an acknowledgement was taken.
 use Rattle.std.proofs.lemmas.Bool.{cond_both}
 use Rattle.psci_headline.proofs.Slots.{down_slot}
-use Rattle.std.proofs.Common.{◌≡◌, ℕ, ◌⊎◌, inl, inr, ◌<◌, ◌≤◌, ◌&&◌, not, Bool, true, false}
-use Rattle.std.proofs.Common.{cond, length, List, Option, Some, refl, arith, subst, ap, sym, ◌∙◌}
+use Rattle.std.proofs.Common.{◌≡◌, ℕ, ◌⊎◌, inl, inr, ◌<◌, ◌≤◌, ◌&&◌, Bool, true}
+use Rattle.std.proofs.Common.{cond, List, Option, Some, refl, arith, ap, sym, ◌∙◌}
 use Rattle.std.specs.Prelude.{nat_lt, slice_get}
 use Rattle.std.specs.List.{sum_by}
-use Rattle.std.proofs.lemmas.Bool.{and_from, cases_lt, eq-eqb, leb-true, lt-ltb, or_cases}
-use Rattle.std.proofs.lemmas.Option.{same_Some, slice_get_within}
+use Rattle.std.proofs.lemmas.Bool.{and_from, cases_lt, eq-eqb, lt-ltb}
 use Rattle.psci_headline.proofs.Words.{BoardValue, below, up, PathLaws, is_path_place, Part, Down}
-use Rattle.psci_headline.proofs.Words.{AckValue, MessageValue, Acknowledge, Slot, answers, changed}
-use Rattle.psci_headline.proofs.Words.{is_kind, slot_of, Status, Off, confirms_on}
-use Rattle.psci_headline.proofs.Words.{with_acknowledgement, Away, Values, Holds, IsTold, WasTold}
-use Rattle.psci_headline.proofs.Words.{AreConfirming, IsYetToCome}
+use Rattle.psci_headline.proofs.Words.{AckValue, MessageValue, Acknowledge, Slot, changed, is_kind}
+use Rattle.psci_headline.proofs.Words.{slot_of, Status, Off, confirms_on, with_acknowledgement}
+use Rattle.psci_headline.proofs.Words.{Away, Values, Holds, IsTold, WasTold, AreConfirming}
+use Rattle.psci_headline.proofs.Words.{IsYetToCome}
 use Rattle.psci_headline.specs.psci_messages.OnlyIf.{only_if}
 use Rattle.psci_headline.specs.psci_fw_spec.Changes.{turns_off}
 use Rattle.psci_headline.specs.psci_fw_spec.Confirmed.{applied_part, is_made_at}
@@ -19,23 +18,8 @@ use Rattle.psci_headline.specs.psci_fw_spec.Phases.{is_away}
 use Rattle.psci_headline.specs.psci_fw_laws.KnownBelow.{known_below}
 use Rattle.psci_headline.proofs.fw_laws.Consequences.{once_down}
 use Rattle.psci_headline.proofs.fw_laws.Parts.{updated_at}
-use Rattle.psci_headline.proofs.Taking.{HasName, IsEmptied, IsNamedOnce, named, still_or}
+use Rattle.psci_headline.proofs.Taking.{HasName, IsEmptied, named, none_left, still_or, told_of}
 use Rattle.psci_headline.specs.Confirming.{IsConfirmedOr, IsOffOr, IsOutstanding}
-
--- what an acknowledgement says of a message that was sent, it says of the one that it answers
-told_of : (b : BoardValue) (starts : ℕ → ℕ) (depth : ℕ → ℕ → ℕ) (a : AckValue)
-    (sent : List MessageValue) (k : ℕ) (m : MessageValue) → IsNamedOnce sent
-    → WasTold b starts depth a sent → slice_get sent k ≡ Some m → m.kind ≡ Down
-    → answers a m ≡ true → IsTold b starts depth a m
-told_of b starts depth a sent k m once t at kind answered =
-    let mine : HasName a m = named a m answered in
-    let theirs : HasName a t.message = named a t.message t.told.answers in
-    let one : t.index ≡ k =
-    once t.index k t.message m t.at at (sym theirs.kind ∙ mine.kind ∙ kind) kind
-    (sym theirs.core ∙ mine.core) (sym theirs.life ∙ mine.life)
-    (sym theirs.number ∙ mine.number) in
-    subst (IsTold b starts depth a)
-    (same_Some t.message m (sym t.at ∙ ap (slice_get sent) one ∙ at)) t.told
 
 kept : {A : Type 0} (t : Bool) (x was : A) → was ≡ x → cond t x was ≡ x
 kept t x was e = cond_both t x was (λ y. y ≡ x) (λ f. refl) (λ f. e)
@@ -70,23 +54,10 @@ module _ (b : BoardValue) (starts : ℕ → ℕ) (depth : ℕ → ℕ → ℕ) (
       let of = t.holds.slots.core m.core.number m is.at in
       let mine = named a m emptied.answers in
       let told : IsTold b starts depth a m =
-      told_of b starts depth a sent of.listed.index m (once_down b v sent t.holds)
-      (t.told (mine.life ∙ of.listed.present)) of.listed.at is.kind emptied.answers in
-      elim (or_cases a.stale _ emptied.done) [
-        | inl stale ↦
-            told.stale is.kind stale level is.part high is.listed
-            (is.current ∙ same ∙ ap (known_below b starts level) (sym is.on))
-        | inr rest ↦ elim (or_cases (not (is_kind a.kind Down)) _ rest) [
-          | inl other ↦
-              let down : is_kind a.kind Down ≡ true =
-              ap (λ x. is_kind x Down) (mine.kind ∙ is.kind) in
-              let no : false ≡ true = sym (ap not down) ∙ other in absurd (cc)
-          | inr all ↦
-              let within = slice_get_within m.parts level is.part is.listed in
-              let few = leb-true (length m.parts) a.applied all in
-              absurd (omega (arith, within, few, high))
-        ]
-      ]
+      told_of is.kind emptied sent of.listed.index (once_down b v sent t.holds)
+      (t.told (mine.life ∙ of.listed.present)) of.listed.at in
+      none_left is.kind emptied told level is.part high is.listed
+      (is.current ∙ same ∙ ap (known_below b starts level) (sym is.on))
 
   -- what was outstanding is so still, or the acknowledgement says that the part was applied
   after_taken : (level place : ℕ) (is : IsOutstanding b v.known v.outstanding level place)

@@ -16,7 +16,7 @@ use Rattle.psci_headline.specs.psci_fw_spec.Said as says
 use Rattle.psci_headline.proofs.fw_laws.Parts.{updated_here}
 use Rattle.psci_headline.proofs.Moving.{CallerLaws, is_call}
 use Rattle.psci_headline.proofs.Pursuing.{waiting_arrival, waiting_asked, waiting_core}
-use Rattle.psci_headline.proofs.Pursuing.{waiting_halting, waiting_phase, waiting_system}
+use Rattle.psci_headline.proofs.Pursuing.{waiting_halt, waiting_phase}
 use Rattle.psci_headline.proofs.Unclaimed.{none_live_running, none_live_started}
 
 -- Slots ----------------------------------------------------------------------------------------
@@ -36,9 +36,8 @@ rested : (b : BoardValue) (life : ℕ) (w : controlled.Values) (v : Values)
     → v.phase c ≡ Running → (left ≡ Pending → ⊥) → WaitingIn b life w v sent made
     → WaitingIn b life w
     (record v { phase = updated v.phase c (unless_pending (v.phase c) left) }) sent made
-rested b life w v sent made c left runs ne =
-    waiting_phase b life w.starts w.depth v.halting v.known v.phase v.outstanding sent made c
-    (unless_pending (v.phase c) left)
+rested b life w v sent made c left runs ne h =
+    waiting_phase h c (unless_pending (v.phase c) left)
     (λ e. let no : Running ≡ Pending = sym runs ∙ e in absurd (cc))
     (λ e. absurd (ne (sym (left_by (v.phase c) left runs) ∙ e)))
 
@@ -55,24 +54,18 @@ call_waits b life w v sent made (SetsMode c mode) laws is allowed live h =
 call_waits b life w v sent made (AsksOn c asked) laws is allowed live h =
     subst (λ u. WaitingIn b life w u (asked.message ∷ sent) made)
     (sym (laws.asks_on v c asked allowed.calls.runs))
-    (waiting_asked b life w.starts w.depth v.halting v.known v.phase v.outstanding sent made
-    asked.message (target asked) (ap (λ k. slot_of k asked.message.core) allowed.kind) allowed.kind
-    h)
+    (waiting_asked h asked.message (target asked)
+    (ap (λ k. slot_of k asked.message.core) allowed.kind) allowed.kind)
 call_waits b life w v sent made (Rests c rest m) laws is allowed live h =
-    let phase : ℕ → Phase = updated v.phase c (unless_pending (v.phase c) rest.phase) in
-    waiting_core b life w.starts w.depth v.halting v.known phase v.outstanding sent made m c
+    waiting_core (rested b life w v sent made c rest.phase allowed.calls.runs allowed.waits h) m c
     (down_slot m.kind m.core c allowed.claim.kind allowed.core) allowed.core
     (none_live_running b life v.known v.phase sent w.starts c live allowed.calls.core
     allowed.calls.runs)
     (λ awake e. allowed.waits (sym (left_by (v.phase c) rest.phase allowed.calls.runs)
     ∙ sym (updated_here v.phase c (unless_pending (v.phase c) rest.phase)) ∙ e))
-    (rested b life w v sent made c rest.phase allowed.calls.runs allowed.waits h)
 call_waits b life w v sent made (Halts c m) laws is allowed live h =
-    let phase : ℕ → Phase = updated v.phase c (unless_pending (v.phase c) Away) in
-    waiting_system b life w.starts w.depth true v.known phase v.outstanding sent made m
+    waiting_halt (rested b life w v sent made c Away allowed.calls.runs (λ e. cc) h) m
     (system_slot m.kind m.core allowed.system) (not_down m.kind allowed.plain.other)
-    (waiting_halting b life w.starts w.depth v.halting v.known phase v.outstanding sent made
-    (rested b life w v sent made c Away allowed.calls.runs (λ e. cc) h))
 call_waits b life w v sent made (Stops c) laws is allowed live h =
     rested b life w v sent made c Away allowed.calls.runs (λ e. cc) h
 call_waits b life w v sent made e laws is allowed live h = absurd (cc)
@@ -88,9 +81,8 @@ entered_waits : (b : BoardValue) (life : ℕ) (w : controlled.Values) (found : V
       phase = updated found.phase c new;
       outstanding = λ slot. changed slot (Clear (record { number = c })) (found.outstanding slot);
     }) sent made
-entered_waits b life w found sent made c n new on later live rests =
-    waiting_arrival b life w.starts w.depth found.halting found.known found.phase
-    found.outstanding sent made c n new
+entered_waits b life w found sent made c n new on later live rests h =
+    waiting_arrival h c n new
     (none_live_started b life found.known found.phase sent w.starts c live on later) rests
 
 pub entry_waits : (b : BoardValue) (w : controlled.Values) (v : Values)
@@ -106,13 +98,11 @@ entry_waits b w v sent made c s acts.Stop (Some m) allowed on later live h =
     let new : Phase = unless_pending (found.phase c) Away in
     let rests : new ≡ Pending → ⊥ = λ e. allowed.claim.rests
     (ap (updated found.phase c new) allowed.core ∙ updated_here found.phase c new ∙ e) in
-    waiting_core b s.life w.starts w.depth found.halting (updated found.known c s.number)
-    (updated found.phase c new)
-    (λ slot. changed slot (Clear (record { number = c })) (found.outstanding slot)) sent made m c
+    waiting_core
+    (entered_waits b s.life w found sent made c s.number new on later live (λ awake. rests) h) m c
     (down_slot m.kind m.core c allowed.claim.kind allowed.core) allowed.core
     (none_live_started b s.life found.known found.phase sent w.starts c live on later)
     (λ awake e. rests (sym (updated_here found.phase c new) ∙ e))
-    (entered_waits b s.life w found sent made c s.number new on later live (λ awake. rests) h)
 entry_waits b w v sent made c s acts.Stop None allowed on later live h =
     let found : Values = in_life b s.life v in
     entered_waits b s.life w found sent made c s.number (unless_pending (found.phase c) Away) on

@@ -228,8 +228,7 @@ taking_waits b w place v sent made a i given at h life f = elim (cases_eq life v
       given.holds.slots in
       subst (λ u. WaitingIn b life w u sent made)
       (sym (found_own b life (with_acknowledgement b a v) own))
-      (waiting_taken b life w.starts w.depth v.halting v.known v.phase v.outstanding sent made a i
-      at (once_down b v sent given.holds) slots now)
+      (waiting_taken a i at (once_down b v sent given.holds) slots now)
   | inr other ↦
       subst (λ u. WaitingIn b life w u sent made)
       (sym (found_other b life (with_acknowledgement b a v) other))

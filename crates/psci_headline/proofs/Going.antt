@@ -6,10 +6,10 @@ use Rattle.psci_headline.proofs.Words.{AreClaims, MessageValue, OfCore, OfSystem
 use Rattle.psci_headline.proofs.Words.{Values, IsClaimOn, IsCurrent, HasDeeper, NonePending}
 use Rattle.psci_headline.proofs.Words.{is_system, AreOutstanding, Record, acks, controller_values}
 use Rattle.psci_headline.proofs.Words.{firmware_values, sent, IsLegalPast, place, AreWaiting}
+use Rattle.psci_headline.proofs.Words.{AwaitsStart}
 use Rattle.psci_ctl_spec.specs.Values as controlled
 use Rattle.psci_ctl_spec.specs.psci_messages.declared.kind.Kind.TheVariants as kinds
 use Rattle.psci_headline.proofs.Agreeing.{found_own}
-use Rattle.psci_headline.specs.Waiting.{AwaitsStart}
 use Rattle.psci_headline.proofs.Applying.{IsDown, IsReady}
 use Rattle.psci_headline.proofs.Beginning.{HasEntered}
 use Rattle.psci_headline.proofs.Carried.{present_known}

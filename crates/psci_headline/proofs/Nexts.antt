@@ -113,7 +113,8 @@ new_down : (b : BoardValue) (r : Record) (past : List Record) (a : AckValue) →
     → IsDownBy b (r ∷ past) (firmware_values b (r ∷ past)) a
 new_down b r past a laws next made kind some =
     let new : IsNew b r past a = new_ack b r past a next.said made in
-    subst (λ v. IsDownBy b (r ∷ past) v a) (sym (asks_nothing b r past new.made.number new.made.event))
+    subst (λ v. IsDownBy b (r ∷ past) v a)
+    (sym (asks_nothing b r past new.made.number new.made.event))
     (new_is_down b r past a laws next.holds new kind some)
 
 pub by_ack : (b : BoardValue) (r : Record) (past : List Record) (o : Option AckValue) (k : ℕ)

@@ -59,8 +59,10 @@ of_arrival v made c s e life is none = record {
 
 of_entry : (v : controlled.Values) (made : List AckValue) (c : ℕ) (s : Start) (act : Act)
     (m : Option MessageValue) → v.life ≡ Some s.life → IsOfRecord v made (enter_effect c s act m)
-of_entry v made c s acts.Stop (Some m) life = of_arrival v made c s (Parks c s m) life refl (λ a e. cc)
-of_entry v made c s acts.Stop None life = of_arrival v made c s (StopsAtOnce c s) life refl (λ a e. cc)
+of_entry v made c s acts.Stop (Some m) life =
+    of_arrival v made c s (Parks c s m) life refl (λ a e. cc)
+of_entry v made c s acts.Stop None life =
+    of_arrival v made c s (StopsAtOnce c s) life refl (λ a e. cc)
 of_entry v made c s act m life = of_arrival v made c s (Enters c s) life refl (λ a e. cc)
 
 -- What a record adds --------------------------------------------------------------------------

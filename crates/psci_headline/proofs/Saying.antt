@@ -13,22 +13,23 @@ use Rattle.psci_world_spec.specs.declared.said.Said.TheVariants.{Ignored}
 use Rattle.psci_world_spec.specs.Legal.{asked_controller, asked_firmware, legal}
 
 -- What is so of an event with each answer to it, and with what is said where nothing is asked.
-pub record OfAnswers (b : BoardValue) (past : List Record) (P : Event → Said → Type 0) : Type 0 where
-  pub absent : (event : Event) → P event Absent
-  pub ignored : (event : Event) → P event Ignored
-  pub call : (c : ℕ) (regs : Regs) → c < cores b → place b past c ≡ Running
-      → P (Call c regs) (asked_firmware b past c (calls.Smc regs))
-  pub enter : (c : ℕ) (s : Start) → c < cores b → place b past c ≡ Started
-      → last_start (controller_values b past) c ≡ Some s
-      → P (Enter c) (asked_firmware b past c (calls.Enter s))
-  pub wake : (c : ℕ) → c < cores b → let n = (controller_values b past).starts c in
-      P (Wake c) (asked_controller b past (asked.Wake (record { number = c }) n))
-  pub reset : (c : ℕ) → c < cores b
-      → P (Reset c) (asked_controller b past (asked.Reset (record { number = c })))
-  pub deliver : (k : ℕ) (m : MessageValue) → indexed (sent past) k ≡ Some m
-      → P (Deliver k) (asked_controller b past (asked.Deliver m))
-  pub take : (k : ℕ) (a : AckValue) → indexed (acks past) k ≡ Some a
-      → P (Take k) (asked_firmware b past 0 (calls.Take a))
+pub record OfAnswers (b : BoardValue) (past : List Record) (P : Event → Said → Type 0) : Type 0
+  where
+    pub absent : (event : Event) → P event Absent
+    pub ignored : (event : Event) → P event Ignored
+    pub call : (c : ℕ) (regs : Regs) → c < cores b → place b past c ≡ Running
+        → P (Call c regs) (asked_firmware b past c (calls.Smc regs))
+    pub enter : (c : ℕ) (s : Start) → c < cores b → place b past c ≡ Started
+        → last_start (controller_values b past) c ≡ Some s
+        → P (Enter c) (asked_firmware b past c (calls.Enter s))
+    pub wake : (c : ℕ) → c < cores b → let n = (controller_values b past).starts c in
+        P (Wake c) (asked_controller b past (asked.Wake (record { number = c }) n))
+    pub reset : (c : ℕ) → c < cores b
+        → P (Reset c) (asked_controller b past (asked.Reset (record { number = c })))
+    pub deliver : (k : ℕ) (m : MessageValue) → indexed (sent past) k ≡ Some m
+        → P (Deliver k) (asked_controller b past (asked.Deliver m))
+    pub take : (k : ℕ) (a : AckValue) → indexed (acks past) k ≡ Some a
+        → P (Take k) (asked_firmware b past 0 (calls.Take a))
 
 -- so it is so of each event with what is legal to say of it
 module _ (b : BoardValue) (past : List Record) (P : Event → Said → Type 0)
@@ -65,7 +66,8 @@ module _ (b : BoardValue) (past : List Record) (P : Event → Said → Type 0)
 
   pub of_event : (event : Event) → P event (legal b past event)
   unfolding legal
-  of_event (Call c regs) = of_board (Call c regs) c _ (λ on. of_call c regs (place b past c) on refl)
+  of_event (Call c regs) =
+      of_board (Call c regs) c _ (λ on. of_call c regs (place b past c) on refl)
   of_event (Enter c) =
       of_board (Enter c) c _ (λ on.
       of_entry c (place b past c) (last_start (controller_values b past) c) on refl refl)

@@ -1,15 +1,16 @@
 -- What waits, after an acknowledgement was taken.
+use Rattle.std.proofs.Common.{◌≤◌}
+use Rattle.psci_headline.proofs.Pursuing.{waiting_moved}
 use Rattle.std.proofs.Common.{◌≡◌, ℕ, ◌⊎◌, inl, inr, Bool, true, false, ◌==◌, ◌&&◌, not, cond, List}
 use Rattle.std.proofs.Common.{length, Option, None, Some, refl, arith, subst, ap, sym, ◌∙◌}
 use Rattle.std.specs.Prelude.{slice_get}
 use Rattle.std.proofs.lemmas.Bool.{and_parts, cases_lt, eqb-true, leb-true, or_cases}
 use Rattle.std.proofs.lemmas.Option.{same_Some, slice_get_within}
-use Rattle.psci_headline.proofs.Words.{BoardValue, up, Part, Kind, Down, AckValue, MessageValue}
+use Rattle.psci_headline.proofs.Words.{BoardValue, Part, Kind, Down, AckValue, MessageValue}
 use Rattle.psci_headline.proofs.Words.{Acknowledge, OfCore, Slot, answers, changed, is_done}
 use Rattle.psci_headline.proofs.Words.{is_kind, is_slot, slot_of, Phase, AreOutstanding, AreWaiting}
-use Rattle.psci_headline.proofs.Words.{IsLivePart, IsTold, WasTold}
+use Rattle.psci_headline.proofs.Words.{IsLivePart, IsTold, WasTold, AwaitsStart}
 use Rattle.psci_ctl_spec.specs.psci_messages.declared.kind.Kind.TheVariants.{Start, Off, Reset}
-use Rattle.psci_headline.specs.Waiting.{AwaitsStart}
 
 -- Names ----------------------------------------------------------------------------------------
 
@@ -70,85 +71,69 @@ IsNamedOnce sent = (j k : ℕ) (m n : MessageValue) → slice_get sent j ≡ Som
     → slice_get sent k ≡ Some n → m.kind ≡ Down → n.kind ≡ Down → m.core.number ≡ n.core.number
     → m.life ≡ n.life → m.number ≡ n.number → j ≡ k
 
--- where the acknowledgement of a Down leaves nothing to be done, each live part has its depth
-done_down : (b : BoardValue) (starts : ℕ → ℕ) (depth : ℕ → ℕ → ℕ) (a : AckValue)
-    (sent : List MessageValue) (k level : ℕ) (m : MessageValue) (p : Part) → IsNamedOnce sent
-    → WasTold b starts depth a sent → slice_get sent k ≡ Some m → m.kind ≡ Down → IsEmptied a m
-    → slice_get m.parts level ≡ Some p → IsLivePart b starts m level p
-    → depth level (up b level m.core.number) ≡ p.depth
-done_down b starts depth a sent k level m p once t at kind emptied part live =
-    elim (cases_lt level a.applied) [
-      | inl low ↦ told.applied kind level p low part live
-      | inr high ↦ elim (or_cases a.stale _ emptied.done) [
-        | inl stale ↦ absurd (told.stale kind stale level p high part live)
-        | inr rest ↦ elim (or_cases (not (is_kind a.kind Down)) _ rest) [
-          | inl other ↦
-              let down : is_kind a.kind Down ≡ true =
-              ap (λ x. is_kind x Down) (mine.kind ∙ kind) in
-              let no : false ≡ true = sym (ap not down) ∙ other in absurd (cc)
-          | inr all ↦
-              let within = slice_get_within m.parts level p part in
-              let few = leb-true (length m.parts) a.applied all in
-              absurd (omega (arith, within, few, high))
-        ]
-      ]
+module _ {b : BoardValue} {starts : ℕ → ℕ} {depth : ℕ → ℕ → ℕ} {a : AckValue}
+    {m : MessageValue} (kind : m.kind ≡ Down) (emptied : IsEmptied a m) where
+  -- what an acknowledgement says of a message that was sent, it says of the one that it answers
+  pub told_of : (sent : List MessageValue) (k : ℕ) → IsNamedOnce sent
+      → WasTold b starts depth a sent → slice_get sent k ≡ Some m → IsTold b starts depth a m
+  told_of sent k once t at =
+      let mine = named a m emptied.answers in
+      let theirs = named a t.message t.told.answers in
+      let one = once t.index k t.message m t.at at (sym theirs.kind ∙ mine.kind ∙ kind) kind
+      (sym theirs.core ∙ mine.core) (sym theirs.life ∙ mine.life)
+      (sym theirs.number ∙ mine.number) in
+      subst (IsTold b starts depth a)
+      (same_Some t.message m (sym t.at ∙ ap (slice_get sent) one ∙ at)) t.told
+
+  -- where it leaves nothing to be done, no part that was left out is live
+  pub none_left : (told : IsTold b starts depth a m) (level : ℕ) (p : Part) → a.applied ≤ level
+      → slice_get m.parts level ≡ Some p → IsLivePart b starts m level p → ⊥
+  none_left told level p high part live = elim (or_cases a.stale _ emptied.done) [
+    | inl stale ↦ told.stale kind stale level p high part live
+    | inr rest ↦ elim (or_cases (not (is_kind a.kind Down)) _ rest) [
+      | inl other ↦
+          let down : is_kind a.kind Down ≡ true =
+          ap (λ x. is_kind x Down) ((named a m emptied.answers).kind ∙ kind) in
+          let no : false ≡ true = sym (ap not down) ∙ other in absurd (cc)
+      | inr all ↦
+          let within = slice_get_within m.parts level p part in
+          let few = leb-true (length m.parts) a.applied all in
+          omega (arith, within, few, high)
     ]
-  where
-    mine : HasName a m
-    mine = named a m emptied.answers
-
-    n : MessageValue
-    n = t.message
-
-    theirs : HasName a n
-    theirs = named a n t.told.answers
-
-    one : t.index ≡ k
-    one = once t.index k n m t.at at (sym theirs.kind ∙ mine.kind ∙ kind) kind
-        (sym theirs.core ∙ mine.core) (sym theirs.life ∙ mine.life)
-        (sym theirs.number ∙ mine.number)
-
-    same : n ≡ m
-    same = same_Some n m (sym t.at ∙ ap (slice_get sent) one ∙ at)
-
-    told : IsTold b starts depth a m
-    told = subst (IsTold b starts depth a) same t.told
+  ]
 
 -- an acknowledgement was taken
-pub waiting_taken : (b : BoardValue) (life : ℕ) (starts : ℕ → ℕ) (depth : ℕ → ℕ → ℕ)
-    (halting : Bool) (known : ℕ → ℕ) (phase : ℕ → Phase)
-    (outstanding : Slot → Option MessageValue) (sent : List MessageValue) (made : List AckValue)
+pub waiting_taken : {b : BoardValue} {life : ℕ} {starts : ℕ → ℕ} {depth : ℕ → ℕ → ℕ}
+    {halting : Bool} {known : ℕ → ℕ} {phase : ℕ → Phase}
+    {outstanding : Slot → Option MessageValue} {sent : List MessageValue} {made : List AckValue}
     (a : AckValue) (i : ℕ) → slice_get made i ≡ Some a → IsNamedOnce sent
     → AreOutstanding life known phase sent outstanding
     → AreWaiting b life starts depth halting known phase outstanding sent made
     → AreWaiting b life starts depth halting known phase
     (λ slot. changed slot (Acknowledge a) (outstanding slot)) sent made
-waiting_taken b life starts depth halting known phase outstanding sent made a i is_made once slots
-    are =
-    record {
-      pursued = λ k m at present kind level p part live.
-          elim (are.pursued k m at present kind level p part live) [
-            | inl deep ↦ inl deep
-            | inr other ↦ elim other [
-              | inl waits ↦ elim (still_or outstanding a m.core.number m waits) [
-                | inl still ↦ inr (inl still)
-                | inr emptied ↦
-                    let name = named a m emptied.answers in
-                    let t = are.told i a is_made (name.life ∙ present) in
-                    inl (done_down b starts depth a sent k level m p once t at kind emptied part
-                    live)
-              ]
-              | inr pending ↦ inr (inr pending)
-            ]
-          ];
-      first = are.first;
-      asked = λ awake x on waits same. await x (are.asked awake x on waits same) same;
-      named = are.named;
-      told = are.told;
-    }
+waiting_taken {starts = starts} {halting = halting} {known = known} {phase = phase}
+    {outstanding = outstanding} {sent = sent} a i is_made once slots are =
+    waiting_moved are halting known phase now None
+    (λ k level m p at present kind part live waits. elim waits [
+      | inl out ↦ elim (still_or outstanding a m.core.number m out) [
+        | inl still ↦ inr (inl still)
+        | inr emptied ↦
+            let t = are.told i a is_made ((named a m emptied.answers).life ∙ present) in
+            let told = told_of kind emptied sent k once t at in
+            inl (elim (cases_lt level a.applied) [
+              | inl low ↦ told.applied kind level p low part live
+              | inr high ↦ absurd (none_left kind emptied told level p high part live)
+            ])
+      ]
+      | inr pending ↦ inr (inr pending)
+    ])
+    (λ m none. absurd (cc))
+    (λ awake x on waits same. await x (are.asked awake x on waits same) same)
   where
-    await : (x : ℕ) → AwaitsStart outstanding x → starts x ≡ known x
-        → AwaitsStart (λ slot. changed slot (Acknowledge a) (outstanding slot)) x
+    now : Slot → Option MessageValue
+    now = λ slot. changed slot (Acknowledge a) (outstanding slot)
+
+    await : (x : ℕ) → AwaitsStart outstanding x → starts x ≡ known x → AwaitsStart now x
     await x old same = elim (still_or outstanding a x old.message old.at) [
       | inl still ↦ record { message = old.message; at = still; kind = old.kind }
       | inr emptied ↦

@@ -66,8 +66,8 @@ pub use Rattle.psci_headline.specs.Moments.{executes, is_reported_off, was_power
 pub use Rattle.psci_headline.specs.Openings.{Fits, Made, OfCall, OfLife, TakenUp}
 pub use Rattle.psci_headline.specs.Safe.{OffIsDown, StatesWereReal}
 pub use Rattle.psci_headline.specs.Settling.{is_halting, served, serving, settled, step}
-pub use Rattle.psci_headline.specs.Waiting.{AreWaiting, IsLivePart, IsNamed, IsTold, WaitingIn}
-pub use Rattle.psci_headline.specs.Waiting.{WasTold}
+pub use Rattle.psci_headline.specs.Waiting.{AreWaiting, AwaitsStart, IsLivePart, IsNamed, IsTold}
+pub use Rattle.psci_headline.specs.Waiting.{WaitingIn, WasTold}
 pub use Rattle.psci_headline.specs.psci_fw_laws.Claims.{IsClaimOn, IsCurrent}
 pub use Rattle.psci_headline.specs.psci_fw_laws.Granted.{HasDeeper, NonePending}
 pub use Rattle.psci_headline.specs.psci_fw_laws.Kept.{Holds}
