@@ -1,17 +1,17 @@
 -- What firmware and power controller know of each other, as a life begins, and as the controller
 -- goes on.
-use Rattle.std.proofs.Common.{◌≡◌, ℕ, ◌+◌, ◌<◌, ◌≤◌, ◌==◌, Bool, true, false, cond, refl}
+use Rattle.std.proofs.lemmas.Bool.Decides.{nat_tests}
+use Rattle.std.proofs.Common.{◌≡◌, ℕ, ◌+◌, ◌≤◌, ◌==◌, cond, refl}
 use Rattle.std.proofs.Common.{Option, None, Some, unwrap_or, arith, subst, ap, sym, ◌∙◌}
 use Rattle.std.proofs.lemmas.Bool.{cond-true, cond-false, eq-eqb}
 use Rattle.std.proofs.lemmas.Bool.{ne_eqb}
 use Rattle.psci_headline.proofs.Words.{BoardValue, next_life, one_more, Nothing, Starts, Deepens}
 use Rattle.psci_headline.proofs.Words.{Ends, Begins, MayFollow, first_starts, in_life}
-use Rattle.psci_headline.proofs.Words.{start_of_life, Values, Place, Started, Running, Stopped}
+use Rattle.psci_headline.proofs.Words.{start_of_life, Values, Place, Started, Stopped}
 use Rattle.psci_headline.proofs.Words.{place_of_effect, AgreeIn}
 use Rattle.psci_ctl_spec.specs.Changes.{change}
 use Rattle.psci_ctl_spec.specs.Effects.{Effect}
 use Rattle.psci_ctl_spec.specs.Values as controlled
-use Rattle.psci_fw_laws.specs.psci_fw_spec.Phases as phases
 use Rattle.psci_world_spec.specs.Places.{first_place}
 
 -- What both know of each other, said of their values and of the places.
@@ -27,27 +27,11 @@ pub at_start : (b : BoardValue) (life : ℕ)
     → AgreeIn b first_starts first_place (start_of_life b life)
 at_start b life = record {
   known = λ c. omega arith;
-  waits = λ c on. waits_at (c == 0);
-  started = λ c on. started_at (c == 0);
-  runs = λ c on e. absurd (runs_at (c == 0) e);
-  rests = λ c on e. rests_at (c == 0);
+  waits = λ c on e. grind (arith, nat_tests);
+  started = λ c on less. grind (arith, nat_tests);
+  runs = λ c on e. grind (arith, nat_tests);
+  rests = λ c on e run. grind (arith, nat_tests);
 }
-  where
-    waits_at : (t : Bool) → cond t Started Stopped ≡ Started → 0 < cond t 1 0
-    waits_at true e = omega arith
-    waits_at false e = absurd (cc)
-
-    started_at : (t : Bool) → 0 < cond t 1 0 → cond t Started Stopped ≡ Started
-    started_at true lt = refl
-    started_at false lt = absurd (omega (arith, lt))
-
-    runs_at : (t : Bool) → cond t Started Stopped ≡ Running → ⊥
-    runs_at true e = cc
-    runs_at false e = cc
-
-    rests_at : (t : Bool) → cond t phases.Pending phases.Away ≡ phases.Running → ⊥
-    rests_at true e = cc
-    rests_at false e = cc
 
 -- what a core finds in the firmware's own life, and in another one
 pub found_own : (b : BoardValue) (life : ℕ) (v : Values) → life ≡ v.life → in_life b life v ≡ v
@@ -67,42 +51,12 @@ started_in : (b : BoardValue) (starts : ℕ → ℕ) (place : ℕ → Place) (v 
     → AgreeIn b (one_more starts c)
     (λ x. unwrap_or (cond (x == c) (Some Started) None) (place x)) v
 started_in b starts place v c h = record {
-  known = λ x. known_at (x == c) x (h.known x);
-  waits = λ x on. waits_at (x == c) x (h.known x) (h.waits x on);
-  started = λ x on. started_at (x == c) x (h.started x on);
-  runs = λ x on. runs_at (x == c) x (h.runs x on);
-  rests = λ x on. rests_at (x == c) x (h.rests x on);
+  known = λ x. let le = h.known x in grind (arith, nat_tests);
+  waits = λ x on e. let le = h.known x in let old = h.waits x on in grind (arith, nat_tests);
+  started = λ x on less. let old = h.started x on in grind (arith, nat_tests);
+  runs = λ x on e. let old = h.runs x on in grind (arith, nat_tests);
+  rests = λ x on e run. let old = h.rests x on in grind (arith, nat_tests);
 }
-  where
-    place_at : Bool → ℕ → Place
-    place_at t x = unwrap_or (cond t (Some Started) None) (place x)
-
-    known_at : (t : Bool) (x : ℕ) → v.known x ≤ starts x
-        → v.known x ≤ cond t (starts x + 1) (starts x)
-    known_at true x le = omega (arith, le)
-    known_at false x le = le
-
-    waits_at : (t : Bool) (x : ℕ) → v.known x ≤ starts x
-        → (place x ≡ Started → v.known x < starts x) → place_at t x ≡ Started
-        → v.known x < cond t (starts x + 1) (starts x)
-    waits_at true x le old e = omega (arith, le)
-    waits_at false x le old e = old e
-
-    started_at : (t : Bool) (x : ℕ) → (v.known x < starts x → place x ≡ Started)
-        → v.known x < cond t (starts x + 1) (starts x) → place_at t x ≡ Started
-    started_at true x old lt = refl
-    started_at false x old lt = old lt
-
-    runs_at : (t : Bool) (x : ℕ) → (place x ≡ Running → v.phase x ≡ phases.Running)
-        → place_at t x ≡ Running → v.phase x ≡ phases.Running
-    runs_at true x old e = absurd (cc)
-    runs_at false x old e = old e
-
-    rests_at : (t : Bool) (x : ℕ)
-        → (place x ≡ Stopped → v.phase x ≡ phases.Running → ⊥)
-        → place_at t x ≡ Stopped → v.phase x ≡ phases.Running → ⊥
-    rests_at true x old e = absurd (cc)
-    rests_at false x old e = old e
 
 -- a life begins that is not the firmware's
 begins_in : (b : BoardValue) (life : ℕ) (v : Values) → (life ≡ v.life → ⊥)

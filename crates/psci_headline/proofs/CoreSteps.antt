@@ -1,4 +1,5 @@
 -- What one effect does to the firmware's life, and to the known start, phase and status of a core.
+use Rattle.std.proofs.lemmas.Bool.Decides.{nat_tests}
 use Rattle.std.proofs.Common.{◌≡◌, ℕ, ◌<◌, ◌≤◌, ◌⊎◌, inl, inr, Bool, true, false, ◌==◌, cond, Some}
 use Rattle.std.proofs.Common.{refl, arith, subst, ap, sym, ◌∙◌, ◌&&◌}
 use Rattle.std.specs.Prelude.{nat_lt}
@@ -71,11 +72,7 @@ called : (v w : Values) (c d : ℕ) (e : Effect) (p : Phase) → v.phase d ≡ R
     → w.life ≡ v.life → w.known c ≡ v.known c → w.phase c ≡ updated v.phase d p c
     → w.status c ≡ v.status c → IsStep v w c e
 called v w c d e p ran life known phase status =
-    within v w c e life known
-    (λ now. updated_at (λ x. x ≡ Running → v.phase c ≡ Running) v.phase d p c
-    (λ here x. ap v.phase here ∙ ran) (λ there x. x) (sym phase ∙ now))
-    (λ now. updated_at (λ x. x ≡ Away → (v.phase c ≡ Away) ⊎ (v.phase c ≡ Running)) v.phase d p c
-    (λ here x. inr (ap v.phase here ∙ ran)) (λ there x. inl x) (sym phase ∙ now))
+    within v w c e life known (λ now. grind (arith, nat_tests)) (λ now. grind (arith, nat_tests))
     (λ now. inl (sym status ∙ now))
 
 -- a running core asked another one on
@@ -84,18 +81,8 @@ asked : (v w : Values) (c d t : ℕ) (e : Effect) (p : Phase) → v.phase d ≡ 
     → w.phase c ≡ updated (updated v.phase t Pending) d p c
     → w.status c ≡ updated v.status t statuses.Pending c → IsStep v w c e
 asked v w c d t e p ran life known phase status =
-    within v w c e life known
-    (λ now. updated_at (λ x. x ≡ Running → v.phase c ≡ Running) (updated v.phase t Pending) d p c
-    (λ here x. ap v.phase here ∙ ran)
-    (λ there. updated_at (λ x. x ≡ Running → v.phase c ≡ Running) v.phase t Pending c
-    (λ here x. absurd (cc)) (λ there x. x)) (sym phase ∙ now))
-    (λ now. updated_at (λ x. x ≡ Away → (v.phase c ≡ Away) ⊎ (v.phase c ≡ Running))
-    (updated v.phase t Pending) d p c
-    (λ here x. inr (ap v.phase here ∙ ran))
-    (λ there. updated_at (λ x. x ≡ Away → (v.phase c ≡ Away) ⊎ (v.phase c ≡ Running)) v.phase t
-    Pending c (λ here x. absurd (cc)) (λ there x. inl x)) (sym phase ∙ now))
-    (λ now. updated_at (λ x. x ≡ statuses.Off → (v.status c ≡ statuses.Off) ⊎ TurnsOff v c e)
-    v.status t statuses.Pending c (λ here x. absurd (cc)) (λ there x. inl x) (sym status ∙ now))
+    within v w c e life known (λ now. grind (arith, nat_tests)) (λ now. grind (arith, nat_tests))
+    (λ now. inl (grind (arith, nat_tests)))
 
 -- Entries -------------------------------------------------------------------------------------
 
