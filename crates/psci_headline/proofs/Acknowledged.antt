@@ -1,4 +1,6 @@
 -- A claim that an acknowledgement confirms was carried out as the acknowledgement was made.
+use Rattle.std.proofs.lemmas.Bool.Decides.{nat_tests}
+use Rattle.std.proofs.Common.{arith}
 use Rattle.psci_headline.proofs.Items.{listed_later}
 use Rattle.psci_headline.proofs.Taking.{HasName, named}
 use Rattle.std.proofs.Common.{◌≡◌, ℕ, ◌<◌, inr, true}
@@ -34,9 +36,7 @@ sent_since (r ∷ since) before m is =
 
 same_message : (messages : List MessageValue) (j k : ℕ) (m n : MessageValue)
     → slice_get messages j ≡ Some m → slice_get messages k ≡ Some n → j ≡ k → m ≡ n
-same_message messages j k m n at other same =
-    let one : Some m ≡ Some n = sym at ∙ ap (slice_get messages) same ∙ other in
-    cc one
+same_message messages j k m n at other same = grind (arith, nat_tests)
 
 -- The moment ----------------------------------------------------------------------------------
 

@@ -1,16 +1,17 @@
 -- What a new acknowledgement says of its core.
+use Rattle.std.proofs.lemmas.Bool.Decides.{nat_tests}
 use Rattle.psci_headline.proofs.Taking.{HasName}
 use Rattle.std.proofs.lemmas.Bool.{cond_both}
 use Rattle.psci_headline.proofs.Telling.{HasItem, first_part}
 use Rattle.psci_headline.proofs.Applied.{laid_at}
-use Rattle.std.proofs.Common.{◌≡◌, ℕ, ◌<◌, inr, true, false}
-use Rattle.std.proofs.Common.{List, ◌∷◌, take, Some, refl, subst, ap}
+use Rattle.std.proofs.Common.{◌≡◌, ℕ, ◌<◌, inr}
+use Rattle.std.proofs.Common.{List, ◌∷◌, Some, refl, subst, ap}
 use Rattle.std.proofs.Common.{sym, ◌∙◌, arith}
 use Rattle.std.specs.Prelude.{slice_get}
-use Rattle.psci_headline.proofs.Words.{BoardValue, cores, up, Part, Deepens, message_effect, laid}
-use Rattle.psci_headline.proofs.Words.{ack_by, ack_of, may_follow, Phase, Away, Pending, Values}
-use Rattle.psci_headline.proofs.Words.{Kind, AckValue, MessageValue, Holds, known_below, Record}
-use Rattle.psci_headline.proofs.Words.{controller_values, firmware_values, sent}
+use Rattle.psci_headline.proofs.Words.{BoardValue, cores, up, Part, message_effect, ack_by, Phase}
+use Rattle.psci_headline.proofs.Words.{Away, Pending, Values, Kind, AckValue, MessageValue, Holds}
+use Rattle.psci_headline.proofs.Words.{known_below, Record, controller_values, firmware_values}
+use Rattle.psci_headline.proofs.Words.{sent}
 use Rattle.psci_ctl_spec.specs.Changes.{change}
 use Rattle.psci_ctl_spec.specs.Values as controlled
 use Rattle.psci_fw_laws.specs.psci_fw_spec.Phases.{Running, activity_of}
@@ -27,11 +28,7 @@ use Rattle.psci_headline.proofs.Slept.{asleep_from, slept_now}
 -- an acknowledgement has the name of its message
 pub acks_message : (b : BoardValue) (v : controlled.Values) (m : MessageValue) (k : Kind)
     → HasName (ack_by b v m k) m
-acks_message b v m kinds.Start =
-    cond_both (may_follow b v m.core.number m.number) (ack_of m 1 false) (ack_of m 0 true)
-    (λ a. HasName a m) (λ e. record { kind = refl; core = refl; life = refl; number = refl })
-    (λ e. record { kind = refl; core = refl; life = refl; number = refl })
-acks_message b v m k = record { kind = refl; core = refl; life = refl; number = refl }
+acks_message b v m k = grind (arith, nat_tests, cond_both)
 
 -- A new acknowledgement ------------------------------------------------------------------------
 
@@ -93,14 +90,7 @@ now_deep : (b : BoardValue) (cv w : controlled.Values) (m : MessageValue) (a : A
     → w ≡ change b (message_effect b m a m.kind) cv
     → slice_get m.parts 0 ≡ Some p → 0 < a.applied
     → (w.life ≡ cv.life) × (w.depth 0 c ≡ p.depth)
-now_deep b cv w m a c p laws kind core values at some =
-    let is : w ≡ change b (Deepens m.core.number (take a.applied m.parts)) cv =
-    values ∙ ap (λ k. change b (message_effect b m a k) cv) kind in (
-      ap (λ (x : controlled.Values). x.life) is,
-      ap (λ (x : controlled.Values). x.depth 0 c) is
-          ∙ ap (λ x. laid b x (take a.applied m.parts) cv.depth 0 c) core
-          ∙ laid_at b cv.depth c a.applied 0 c m.parts p (omega arith) (sym (laws.own c)) at some,
-    )
+now_deep b cv w m a c p laws kind core values at some = grind (arith, nat_tests, laid_at)
 
 -- what a new acknowledgement says of its core, beside the firmware's values, which stay
 pub new_is_down : (b : BoardValue) (r : Record) (past : List Record) (a : AckValue) → CoreLaws b

@@ -1,13 +1,14 @@
 -- Firmware and power controller agree after every legal run.
+use Rattle.std.proofs.lemmas.Bool.Decides.{nat_tests}
 use Rattle.std.proofs.Common.{◌≡◌, ℕ, List, [], ◌∷◌, ◌++◌, Option, None, Some, option_map, refl}
 use Rattle.std.proofs.Common.{unwrap_or, arith, subst, sym}
 use Rattle.psci_headline.proofs.Words.{request_of, Regs, BoardValue, MayFollow, last_start, reply}
 use Rattle.psci_headline.proofs.Words.{Start, AckValue, MessageValue, Taken, change}
-use Rattle.psci_headline.proofs.Words.{function_effect, effect, IsLegal, in_life, start_of_life}
-use Rattle.psci_headline.proofs.Words.{Values, IsAllowed, Event, Call, Enter, Wake, Reset, Deliver}
-use Rattle.psci_headline.proofs.Words.{Take, Place, Record, Said, acks, control, controller_values}
+use Rattle.psci_headline.proofs.Words.{function_effect, effect, IsLegal, start_of_life, Values}
+use Rattle.psci_headline.proofs.Words.{IsAllowed, Event, Call, Enter, Wake, Reset, Deliver, Take}
+use Rattle.psci_headline.proofs.Words.{Place, Record, Said, acks, control, controller_values}
 use Rattle.psci_headline.proofs.Words.{delivered, entered, firmware_values, outcome_in, sent, took}
-use Rattle.psci_headline.proofs.Words.{IsLegalPast, legal, indexed, Agree, AgreeIn}
+use Rattle.psci_headline.proofs.Words.{IsLegalPast, legal, indexed, Agree}
 use Rattle.psci_ctl_spec.specs.declared.call.CtlCall.{CtlCall}
 use Rattle.psci_ctl_spec.specs.Changes as controlling
 use Rattle.psci_ctl_spec.specs.Effects as controlling_effects
@@ -15,13 +16,12 @@ use Rattle.psci_ctl_spec.specs.Exchange as controller
 use Rattle.psci_ctl_spec.specs.History as controls
 use Rattle.psci_ctl_spec.specs.Legal as legal_controls
 use Rattle.psci_ctl_spec.specs.Values as controlled
-use Rattle.psci_ctl_spec.specs.psci_messages.declared.taken.Taken.TheVariants as takens
 use Rattle.psci_fw_laws.specs.psci_fw_spec.Exchange as firmware
 use Rattle.psci_fw_laws.specs.psci_fw_spec.History as remembers
 use Rattle.psci_headline.specs.psci_messages.Outstanding
 use Rattle.psci_world_spec.specs.declared.said.Said.TheVariants as said
 use Rattle.psci_world_spec.specs.Histories.{controller_history, firmware_history}
-use Rattle.psci_world_spec.specs.Places.{first_place, place, place_controlled, place_said}
+use Rattle.psci_world_spec.specs.Places.{place, place_controlled, place_said}
 use Rattle.psci_headline.proofs.Agreeing.{AreAgreed, at_start, control_agrees}
 use Rattle.psci_headline.proofs.Controlling.{after_control, more_controls}
 use Rattle.psci_headline.proofs.Happening.{happens}
@@ -147,14 +147,7 @@ took_next : (b : BoardValue) (past : List Record) (o : Option AckValue) (t : Tak
     → Now b past
     → AreAgreed b (controller_values b past) (place b past)
     (remembers.values_of b (took o t ++ firmware_history b past))
-took_next b past None t laws now = now
-took_next b past (Some a) takens.Used laws now =
-    subst (AreAgreed b (controller_values b past) (place b past))
-    (sym (laws.change _ (firmware_history b past)))
-    (take_agrees b (controller_values b past) (place b past) (firmware_values b past) a now)
-took_next b past (Some a) takens.Old laws now =
-    subst (AreAgreed b (controller_values b past) (place b past))
-    (sym (laws.change _ (firmware_history b past))) now
+took_next b past x2 t laws now = grind (arith, nat_tests, take_agrees)
 
 take_next : (b : BoardValue) (past : List Record) (k : ℕ) (s : Said) → RunLaws b → Now b past
     → Next b past (Take k) s
@@ -167,14 +160,8 @@ take_next b past k s laws now = now
 event_next : (b : BoardValue) (past : List Record) (event : Event) (s : Said) → RunLaws b
     → Now b past → legal_controls.IsLegal b (after_control b past event s)
     → IsLegal b (after_call b past event s) → s ≡ legal b past event → Next b past event s
-event_next b past (Call c regs) s laws now controls calls e =
-    call_next b past c regs s laws now calls e
-event_next b past (Enter c) s laws now controls calls e = enter_next b past c s laws now e
-event_next b past (Wake c) s laws now controls calls e = wake_next b past c s laws now controls
-event_next b past (Reset c) s laws now controls calls e = reset_next b past c s laws now controls
-event_next b past (Deliver k) s laws now controls calls e =
-    deliver_next b past k s laws now controls
-event_next b past (Take k) s laws now controls calls e = take_next b past k s laws now
+event_next b past x2 s laws now controls calls e =
+    grind (arith, nat_tests, call_next, enter_next, wake_next, reset_next, deliver_next, take_next)
 
 -- what the firmware keeps before all records
 pub first_kept : (b : BoardValue) → firmware_values b [] ≡ start_of_life b 0
@@ -183,17 +170,7 @@ first_kept b = refl
 
 first_agreed : (b : BoardValue) → Now b []
 unfolding controller_history place controls.values_of
-first_agreed b =
-    subst (AreAgreed b (controller_values b []) first_place) (sym (first_kept b)) (record {
-      begun = λ life e. omega arith;
-      stopped = λ e. absurd (cc);
-      present = λ life e.
-          let is : 1 ≡ life = cc in
-          subst (λ l. AgreeIn b controlled.first_starts first_place
-          (in_life b l (start_of_life b 0)))
-          is
-          (at_start b 1);
-    })
+first_agreed b = grind (arith, nat_tests, first_kept, at_start)
 
 pub agreed : (b : BoardValue) → RunLaws b → (past : List Record) → IsLegalPast b past → Now b past
 unfolding controller_history firmware_history place

@@ -1,13 +1,12 @@
 -- What firmware and power controller know of each other, as a life begins, and as the controller
 -- goes on.
 use Rattle.std.proofs.lemmas.Bool.Decides.{nat_tests}
-use Rattle.std.proofs.Common.{◌≡◌, ℕ, ◌+◌, ◌≤◌, ◌==◌, cond, refl}
+use Rattle.std.proofs.Common.{◌≡◌, ℕ, ◌+◌, ◌≤◌, ◌==◌, cond}
 use Rattle.std.proofs.Common.{Option, None, Some, unwrap_or, arith, subst, ap, sym, ◌∙◌}
 use Rattle.std.proofs.lemmas.Bool.{cond-true, cond-false, eq-eqb}
 use Rattle.std.proofs.lemmas.Bool.{ne_eqb}
-use Rattle.psci_headline.proofs.Words.{BoardValue, next_life, one_more, Nothing, Starts, Deepens}
-use Rattle.psci_headline.proofs.Words.{Ends, Begins, MayFollow, first_starts, in_life}
-use Rattle.psci_headline.proofs.Words.{start_of_life, Values, Place, Started, Stopped}
+use Rattle.psci_headline.proofs.Words.{BoardValue, next_life, one_more, MayFollow, first_starts}
+use Rattle.psci_headline.proofs.Words.{in_life, start_of_life, Values, Place, Started, Stopped}
 use Rattle.psci_headline.proofs.Words.{place_of_effect, AgreeIn}
 use Rattle.psci_ctl_spec.specs.Changes.{change}
 use Rattle.psci_ctl_spec.specs.Effects.{Effect}
@@ -25,13 +24,7 @@ pub record AreAgreed (b : BoardValue) (w : controlled.Values) (place : ℕ → P
 
 pub at_start : (b : BoardValue) (life : ℕ)
     → AgreeIn b first_starts first_place (start_of_life b life)
-at_start b life = record {
-  known = λ c. omega arith;
-  waits = λ c on e. grind (arith, nat_tests);
-  started = λ c on less. grind (arith, nat_tests);
-  runs = λ c on e. grind (arith, nat_tests);
-  rests = λ c on e run. grind (arith, nat_tests);
-}
+at_start b life = grind (arith, nat_tests, nat_tests)
 
 -- what a core finds in the firmware's own life, and in another one
 pub found_own : (b : BoardValue) (life : ℕ) (v : Values) → life ≡ v.life → in_life b life v ≡ v
@@ -50,13 +43,7 @@ started_in : (b : BoardValue) (starts : ℕ → ℕ) (place : ℕ → Place) (v 
     → AgreeIn b starts place v
     → AgreeIn b (one_more starts c)
     (λ x. unwrap_or (cond (x == c) (Some Started) None) (place x)) v
-started_in b starts place v c h = record {
-  known = λ x. let le = h.known x in grind (arith, nat_tests);
-  waits = λ x on e. let le = h.known x in let old = h.waits x on in grind (arith, nat_tests);
-  started = λ x on less. let old = h.started x on in grind (arith, nat_tests);
-  runs = λ x on e. let old = h.runs x on in grind (arith, nat_tests);
-  rests = λ x on e run. let old = h.rests x on in grind (arith, nat_tests);
-}
+started_in b starts place v c h = grind (arith, nat_tests, nat_tests)
 
 -- a life begins that is not the firmware's
 begins_in : (b : BoardValue) (life : ℕ) (v : Values) → (life ≡ v.life → ⊥)
@@ -72,24 +59,4 @@ next_is o l life e f =
 pub control_agrees : (b : BoardValue) (w : controlled.Values) (place : ℕ → Place) (v : Values)
     (e : Effect) → MayFollow b w e → AreAgreed b w place v
     → AreAgreed b (change b e w) (λ x. unwrap_or (place_of_effect x e) (place x)) v
-control_agrees b w place v Nothing may h = h
-control_agrees b w place v (Starts c cause) may h = record {
-  begun = h.begun;
-  stopped = λ e. let some = may.2.1 in absurd (cc);
-  present = λ life e. started_in b w.starts place (in_life b life v) c (h.present life e);
-}
-control_agrees b w place v (Deepens c ps) may h =
-    record { begun = h.begun; stopped = h.stopped; present = h.present }
-control_agrees b w place v Ends may h = record {
-  begun = λ life e. absurd (cc);
-  stopped = λ e c. refl;
-  present = λ life e. absurd (cc);
-}
-control_agrees b w place v Begins may h = record {
-  begun = λ life e.
-      omega (arith, next_is w.life may.0 life may.1 e, h.begun may.0 may.1);
-  stopped = λ e. let no : Some (may.0 + 1) ≡ None = ap next_life (sym may.1) ∙ e in absurd (cc);
-  present = λ life e.
-      begins_in b life v
-      (λ same. omega (arith, same, next_is w.life may.0 life may.1 e, h.begun may.0 may.1));
-}
+control_agrees b w place v x4 may h = grind (arith, nat_tests, started_in, next_is, begins_in)

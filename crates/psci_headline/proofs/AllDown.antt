@@ -1,14 +1,15 @@
 -- Cores that are reported OFF were powered down, after every legal past.
+use Rattle.std.proofs.lemmas.Bool.Decides.{nat_tests}
 use Rattle.psci_headline.proofs.Taking.{named}
 use Rattle.std.proofs.Common.{◌≡◌, ℕ, ◌<◌, inl, inr, Bool, true, false}
-use Rattle.std.proofs.Common.{◌==◌, cond, List, [], ◌∷◌, Some, refl, subst, ap}
+use Rattle.std.proofs.Common.{◌==◌, List, [], ◌∷◌, Some, refl, subst, ap}
 use Rattle.std.proofs.Common.{sym, ◌∙◌, arith}
-use Rattle.std.specs.Prelude.{nat_le, slice_get}
+use Rattle.std.specs.Prelude.{slice_get}
 use Rattle.std.proofs.lemmas.Bool.{eqb-false, eqb-true, ne_eqb, and_right}
-use Rattle.psci_headline.proofs.Words.{BoardValue, height, up, Values, Down, AckValue, MessageValue}
-use Rattle.psci_headline.proofs.Words.{OfCore, slot_of, IsAllowed, Holds, Record, ack_in}
-use Rattle.psci_headline.proofs.Words.{controller_values, firmware_values, sent, IsLegalPast, Agree}
-use Rattle.psci_headline.proofs.Words.{was_powered_down, is_reported_off}
+use Rattle.psci_headline.proofs.Words.{BoardValue, Values, Down, AckValue, MessageValue, OfCore}
+use Rattle.psci_headline.proofs.Words.{slot_of, IsAllowed, Holds, Record, ack_in, controller_values}
+use Rattle.psci_headline.proofs.Words.{firmware_values, sent, IsLegalPast, Agree, was_powered_down}
+use Rattle.psci_headline.proofs.Words.{is_reported_off}
 use Rattle.psci_ctl_spec.specs.History as controls
 use Rattle.psci_ctl_spec.specs.Values as controlled
 use Rattle.psci_fw_laws.specs.psci_fw_spec.declared.status.Status.TheVariants as statuses
@@ -27,10 +28,7 @@ use Rattle.psci_headline.proofs.Slept.{asleep_from, report, reported, slept_now,
 -- Lives that the firmware does not know of -----------------------------------------------------
 
 first_deep : (b : BoardValue) (c : ℕ) → CoreLaws b → (c ≡ 0 → ⊥) → controlled.first_depth b 0 c ≡ 3
-first_deep b c laws other =
-    let apart : (up b 0 0 == c) ≡ false =
-    ne_eqb (up b 0 0) c (λ e. other (sym e ∙ laws.own 0)) in
-    ap (λ t. cond t 0 3) (and_right (nat_le 0 (height b)) (up b 0 0 == c) apart)
+first_deep b c laws other = grind (arith, nat_tests, ne_eqb, and_right)
 
 fresh_next : (b : BoardValue) (r : Record) (past : List Record) (life c : ℕ) → CoreLaws b
     → IsNext b r past → AreDown b past → (controller_values b (r ∷ past)).life ≡ Some life
@@ -113,13 +111,7 @@ off_next : (b : BoardValue) (r : Record) (past : List Record) (c : ℕ) → IsNe
     → AreDown b past → is_reported_off b (r ∷ past) c ≡ true
     → was_powered_down b (firmware_values b (r ∷ past)).life (r ∷ past) c ≡ true
 off_next b r past c next are e =
-    let v : Values = firmware_values b past in
-    let w : Values = firmware_values b (r ∷ past) in
-    let is = reported b (r ∷ past) c e in
-    slept_still b w.life r past c (was_down b r past c (w.life == v.life) next are refl is.0 is.1)
-    (λ goes same.
-    let on : statuses.On ≡ statuses.Off = sym (goes_running b r past c next goes).1 ∙ is.1 in
-    absurd (cc))
+    grind (arith, nat_tests, reported, slept_still, was_down, goes_running)
 
 -- All pasts ------------------------------------------------------------------------------------
 
@@ -158,17 +150,18 @@ unfolding controller_history Rattle.psci_ctl_spec.specs.History.values_of
 first_controlled b = refl
 
 first_down : (b : BoardValue) → CoreLaws b → AreDown b []
-first_down b laws = record {
-  off = λ c e.
-      let is = reported b [] c e in
-      absurd (omega (arith, is.0, first_life b));
-  acked = λ k a at. absurd (no_acks k a at);
-  fresh = λ life c now unknown other.
-      slept_now b life [] c
-      (asleep_from b life [] c now
-      (ap (λ (v : controlled.Values). v.depth 0 c) (first_controlled b)
-      ∙ first_deep b c laws other));
-}
+first_down b laws =
+    grind (
+      arith,
+      nat_tests,
+      reported,
+      first_life,
+      no_acks,
+      slept_now,
+      asleep_from,
+      first_controlled,
+      first_deep,
+    )
 
 pub all_down : (b : BoardValue) (past : List Record) → DownLaws b → IsLegalPast b past
     → AreDown b past

@@ -1,6 +1,7 @@
 -- Different claims on one domain in one life have different generations.
-use Rattle.std.proofs.Common.{◌≡◌, ℕ, zero, suc, ◌<◌, inl, inr, Bool, true, false, cond, List}
-use Rattle.std.proofs.Common.{[], ◌∷◌, ◌++◌, Option, None, Some, option_map, refl, ap, sym, ◌∙◌}
+use Rattle.std.proofs.lemmas.Bool.Decides.{nat_tests}
+use Rattle.std.proofs.Common.{◌≡◌, ℕ, suc, ◌<◌, inl, inr, Bool, true, false, cond, List}
+use Rattle.std.proofs.Common.{[], ◌∷◌, ◌++◌, Option, None, Some, option_map, refl, ap}
 use Rattle.std.proofs.Common.{arith}
 use Rattle.std.specs.Prelude.{slice_get}
 use Rattle.psci_headline.proofs.Words.{BoardValue, HasNode, Node, Part, MessageValue, is_on_path}
@@ -24,14 +25,7 @@ distinct_none j k p q at to same = absurd (cc)
 distinct_more : (x : Claim) (old : List Claim)
     → ((k : ℕ) (y : Claim) → slice_get old k ≡ Some y → y.generation ≡ x.generation → ⊥)
     → AreDistinct old → AreDistinct (x ∷ old)
-distinct_more x old new are zero zero p q at to same = refl
-distinct_more x old new are zero (suc k) p q at to same =
-    let is : p ≡ x = cc in
-    absurd (new k q to (sym same ∙ ap (λ (c : Claim). c.generation) is))
-distinct_more x old new are (suc j) zero p q at to same =
-    let is : q ≡ x = cc in
-    absurd (new j p at (same ∙ ap (λ (c : Claim). c.generation) is))
-distinct_more x old new are (suc j) (suc k) p q at to same = ap suc (are j k p q at to same)
+distinct_more x old new are x4 x5 p q at to same = grind (arith, nat_tests)
 
 first_distinct : (first : Claim) (t : Bool) → AreDistinct (cond t [] (first ∷ []))
 first_distinct first true = distinct_none

@@ -1,20 +1,20 @@
 -- A part that was applied in this life is one of a Down that was sent in it.
+use Rattle.std.proofs.lemmas.Bool.Decides.{nat_tests}
+use Rattle.std.proofs.Common.{arith}
 use Rattle.psci_headline.proofs.Deliveries.{present_life}
-use Rattle.std.proofs.Common.{◌≡◌, ℕ, suc, inl, inr, Bool, true, false, ◌==◌, cond, List}
-use Rattle.std.proofs.Common.{[], ◌∷◌, ◌++◌, Option, None, Some, refl, sym, ◌∙◌}
-use Rattle.std.specs.Prelude.{nat_le, nat_lt, slice_get}
+use Rattle.std.proofs.Common.{◌≡◌, ℕ, suc, Bool, true, false, cond, List}
+use Rattle.std.proofs.Common.{[], ◌∷◌, ◌++◌, Option, None, Some, refl}
+use Rattle.std.specs.Prelude.{slice_get}
 use Rattle.std.proofs.lemmas.Bool.{and_parts, eqb-true, false≢true}
 use Rattle.std.proofs.lemmas.Option.{same_Some}
-use Rattle.psci_headline.proofs.Words.{BoardValue, height, up, Part, Kind, AckValue, MessageValue}
-use Rattle.psci_headline.proofs.Words.{Nothing, Starts, Deepens, Ends, Begins, message_effect}
-use Rattle.psci_headline.proofs.Words.{ack_by, is_this_life, is_on_path, listed, Event, Deliver}
-use Rattle.psci_headline.proofs.Words.{Wake, Reset, Record, Said, Acked, control, controller_values}
+use Rattle.psci_headline.proofs.Words.{BoardValue, Part, Kind, AckValue, MessageValue, Deepens}
+use Rattle.psci_headline.proofs.Words.{message_effect, is_on_path, listed, Event, Deliver, Wake}
+use Rattle.psci_headline.proofs.Words.{Reset, Record, Said, Acked, control, controller_values}
 use Rattle.psci_headline.proofs.Words.{delivered, sent_in, IsReplied, indexed}
 use Rattle.psci_ctl_spec.specs.psci_messages.declared.kind.Kind.TheVariants as kinds
 use Rattle.psci_ctl_spec.specs.declared.call.CtlCall.TheVariants as asked
 use Rattle.psci_ctl_spec.specs.declared.delivery.Delivery.TheVariants as deliveries
 use Rattle.psci_ctl_spec.specs.declared.reply.CtlReply.TheVariants as replied
-use Rattle.psci_ctl_spec.specs.psci_messages.declared.start.Cause.TheVariants as causes
 use Rattle.psci_ctl_spec.specs.Effects.{Effect, effect_of}
 use Rattle.psci_ctl_spec.specs.Exchange as controller
 use Rattle.psci_ctl_spec.specs.History as controls
@@ -37,9 +37,7 @@ applies_within b (Deepens c ps) level place p a = refl
 applies_within b f level place p a = absurd a
 
 life_within : (f : Effect) (o : Option ℕ) → keeps_life f ≡ true → controls.life_by f o ≡ o
-life_within Ends o e = absurd (false≢true e)
-life_within Begins o e = absurd (false≢true e)
-life_within f o e = refl
+life_within f o e = grind (arith, nat_tests, false≢true)
 
 -- What it says of a message that a part of it was applied.
 record IsCarried (b : BoardValue) (level place : ℕ) (m : MessageValue) (p : Part) : Type 0 where
@@ -57,14 +55,7 @@ applies_under b false f g level place p one other a = other a
 carried_by : (b : BoardValue) (m : MessageValue) (a : AckValue) (kind : Kind) (level place : ℕ)
     (p : Part) → m.kind ≡ kind → Applies b (message_effect b m a kind) level place p
     → IsCarried b level place m p
-carried_by b m a kinds.Down level place p e x =
-    record { kind = e; on = x.0; part = take_get m.parts a.applied level p x.1 }
-carried_by b m a kinds.Start level place p e x =
-    absurd (applies_under b (a.applied == 0) Nothing (Starts m.core.number causes.On) level place p
-    (λ y. y) (λ y. y) x)
-carried_by b m a kinds.Off level place p e x = absurd x
-carried_by b m a kinds.Reset level place p e x =
-    absurd (applies_under b (nat_lt m.life b.lives) Begins Ends level place p (λ y. y) (λ y. y) x)
+carried_by b m a x3 level place p e x = grind (arith, nat_tests, take_get, applies_under)
 
 acked_if : (t : Bool) (made a : AckValue)
     → deliveries.Applied a ≡ cond t (deliveries.Applied made) deliveries.Ignored → t ≡ true
@@ -75,10 +66,7 @@ acked_life : (b : BoardValue) (h : List controller.CtlExchange) (m : MessageValu
     → replied.Delivery (deliveries.Applied a) ≡ reply b (controls.values_of b h) (asked.Deliver m)
     → controls.life b h ≡ Some m.life
 unfolding reply delivery_of controls.values_of
-acked_life b h m a e =
-    let t = is_this_life (controls.life b h) m.life in
-    present_life (controls.life b h) m.life
-    (acked_if t (ack_by b (controls.values_of b h) m m.kind) a cc)
+acked_life b h m a e = grind (arith, nat_tests, present_life, acked_if)
 
 -- What a record adds --------------------------------------------------------------------------
 
@@ -94,11 +82,8 @@ none_applied : (b : BoardValue) (life level place : ℕ) (p : Part) (ms : List M
     (e : controller.CtlExchange) (h : List controller.CtlExchange)
     → (Applies b (controls.effect_in b e) level place p → ⊥)
     → WasSent b life level place p ms h → WasSent b life level place p ms (e ∷ h)
-none_applied b life level place p ms e h other before is now was = elim was [
-  | inl here ↦ absurd (other here)
-  | inr old ↦ before is.1 (sym (life_within (controls.effect_in b e) (controls.life b h) old.0)
-      ∙ now) old.1
-]
+none_applied b life level place p ms e h other before is now was =
+    grind (arith, nat_tests, life_within)
 
 -- an acknowledged message
 delivery_sent : (b : BoardValue) (life level place : ℕ) (p : Part) (ms : List MessageValue)
@@ -106,29 +91,19 @@ delivery_sent : (b : BoardValue) (life level place : ℕ) (p : Part) (ms : List 
     → WasSent b life level place p ms h
     → WasSent b life level place p ms (delivered (Some m) a ++ h)
 unfolding effect_of
-delivery_sent b life level place p ms m a h stands before is now was = elim was [
-  | inl here ↦
-      let f = message_effect b m a m.kind in
-      let carried = carried_by b m a m.kind level place p refl here in
-      let within = applies_within b f level place p here in
-      let present : controls.life b h ≡ Some life =
-      sym (life_within f (controls.life b h) within) ∙ now in
-      let on = and_parts (nat_le level (height b)) _ carried.on in
-      record {
-        index = stands.index;
-        message = m;
-        at = stands.at;
-        part = part_from b life level place m p (record {
-          kind = carried.kind;
-          present = same_Some m.life life (sym (acked_life b h m a is.0) ∙ present);
-          on = sym (eqb-true (up b level m.core.number) place on.1);
-          part = carried.part;
-        });
-      }
-  | inr old ↦
-      let f = message_effect b m a m.kind in
-      before is.1 (sym (life_within f (controls.life b h) old.0) ∙ now) old.1
-]
+delivery_sent b life level place p ms m a h stands before is now was =
+    grind (
+      arith,
+      nat_tests,
+      carried_by,
+      applies_within,
+      life_within,
+      and_parts,
+      part_from,
+      same_Some,
+      acked_life,
+      eqb-true,
+    )
 
 numbered_sent : (b : BoardValue) (life level place : ℕ) (p : Part) (ms : List MessageValue)
     (k : ℕ) (o : Option MessageValue) (a : AckValue) (h : List controller.CtlExchange)

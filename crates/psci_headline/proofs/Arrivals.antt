@@ -1,14 +1,15 @@
 -- What is so after a started core has entered.
+use Rattle.std.proofs.lemmas.Bool.Decides.{nat_tests}
+use Rattle.std.proofs.Common.{arith}
 use Rattle.std.proofs.Common.{◌≡◌, ℕ, ◌<◌, Bool, true, false, ◌==◌, cond, List, ◌∷◌, ◌++◌, length}
 use Rattle.std.proofs.Common.{Option, None, Some, option_map, unwrap_or, refl, subst, ap, sym, ◌∙◌}
 use Rattle.std.specs.Prelude.{nat_lt}
 use Rattle.std.proofs.lemmas.Bool.{cond-true, cond-false, eq-eqb, lt-ltb, ne_eqb}
-use Rattle.psci_headline.proofs.Words.{BoardValue, cores, Start, last_start, MessageValue, Clear}
-use Rattle.psci_headline.proofs.Words.{OfCore, Slot, changed, is_slot, slot_of, Act, Outcome}
-use Rattle.psci_headline.proofs.Words.{change, reply_or, enter_effect, enter_outcome, IsLegal}
-use Rattle.psci_headline.proofs.Words.{in_life, listed, Values, IsAllowed, Enter, Started, Record}
-use Rattle.psci_headline.proofs.Words.{Absent, Fw, Sent, acks, call, controller_values, entered}
-use Rattle.psci_headline.proofs.Words.{firmware_values, outcome_in, sent_in, IsLegalPast}
+use Rattle.psci_headline.proofs.Words.{BoardValue, cores, Start, last_start, MessageValue, OfCore}
+use Rattle.psci_headline.proofs.Words.{Act, Outcome, change, reply_or, enter_effect, enter_outcome}
+use Rattle.psci_headline.proofs.Words.{IsLegal, in_life, listed, Values, IsAllowed, Enter, Started}
+use Rattle.psci_headline.proofs.Words.{Record, Absent, Fw, Sent, acks, call, controller_values}
+use Rattle.psci_headline.proofs.Words.{entered, firmware_values, outcome_in, sent_in, IsLegalPast}
 use Rattle.psci_headline.proofs.Words.{if_started, said_of, indexed, step}
 use Rattle.psci_ctl_spec.specs.psci_messages.declared.kind.Kind.TheVariants as kinds
 use Rattle.psci_headline.specs.psci_fw_spec.declared.call.FwCall.TheVariants as calls
@@ -32,9 +33,7 @@ use Rattle.psci_headline.proofs.Finding.{numbered_old}
 pub entry_halting : (b : BoardValue) (v : Values) (c : ℕ) (s : Start) (act : Act)
     (o : Option MessageValue)
     → (change b (enter_effect c s act o) v).halting ≡ (in_life b s.life v).halting
-entry_halting b v c s acts.Stop (Some m) = refl
-entry_halting b v c s acts.Stop None = refl
-entry_halting b v c s act o = refl
+entry_halting b v c s act o = grind (arith, nat_tests)
 
 cleared_from : (t : Bool) (o : Option MessageValue) (m : MessageValue) → cond t None o ≡ Some m
     → o ≡ Some m
@@ -55,16 +54,7 @@ pub entry_slots : (b : BoardValue) (v : Values) (c : ℕ) (s : Start) (act : Act
     (o : Option MessageValue) (x : ℕ) (m : MessageValue) → IsAllowed b v (enter_effect c s act o)
     → (change b (enter_effect c s act o) v).outstanding (OfCore x) ≡ Some m
     → m.kind ≡ kinds.Start → (in_life b s.life v).outstanding (OfCore x) ≡ Some m
-entry_slots b v c s acts.Stop (Some n) x m allowed e start =
-    let found : Slot → Option MessageValue = (in_life b s.life v).outstanding in
-    cleared_from (c == x) (found (OfCore x)) m
-    (put_from (is_slot (slot_of n.kind n.core) (OfCore x))
-    (changed (OfCore x) (Clear (record { number = c })) (found (OfCore x))) n m
-    allowed.claim.kind e start)
-entry_slots b v c s acts.Stop None x m allowed e start =
-    cleared_from (c == x) ((in_life b s.life v).outstanding (OfCore x)) m e
-entry_slots b v c s act o x m allowed e start =
-    cleared_from (c == x) ((in_life b s.life v).outstanding (OfCore x)) m e
+entry_slots b v c s act o x m allowed e start = grind (arith, nat_tests, cleared_from, put_from)
 
 -- The record -----------------------------------------------------------------------------------
 

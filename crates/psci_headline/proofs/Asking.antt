@@ -1,15 +1,16 @@
 -- Each claim of a list was asked for when it was made.
-use Rattle.std.proofs.Common.{◌≡◌, ℕ, zero, suc, ◌+◌, ◌<◌, ◌≤◌, Bool, true, false, ◌==◌, cond}
+use Rattle.std.proofs.lemmas.Bool.Decides.{nat_tests}
+use Rattle.std.proofs.Common.{◌≡◌, ℕ, zero, suc, ◌+◌, ◌<◌, ◌≤◌, Bool, true, false, cond}
 use Rattle.std.proofs.Common.{List, [], ◌∷◌, filter, Some, refl, ap, sym, ◌∙◌}
-use Rattle.std.proofs.Common.{subst, arith}
+use Rattle.std.proofs.Common.{arith}
 use Rattle.std.specs.Prelude.{nat_le, slice_get}
 use Rattle.std.specs.List.{list_all, range_with_len}
 use Rattle.std.proofs.lemmas.Bool.{and_from, cond_both, cond-true, eq-eqb, eqb-true, le-leb}
 use Rattle.psci_headline.proofs.Words.{BoardValue, HasNode, below, cores, height, Node, Part}
 use Rattle.psci_headline.proofs.Words.{MessageValue, is_on_path, SuspendMode, start_of_life, Away}
-use Rattle.psci_headline.proofs.Words.{Pending, Phase, Values, part_for, Record, firmware_values}
-use Rattle.psci_headline.proofs.Words.{sent_in, Claim, claim_by}
-use Rattle.psci_board.specs.Board.{size_below, up}
+use Rattle.psci_headline.proofs.Words.{Phase, Values, part_for, Record, firmware_values, sent_in}
+use Rattle.psci_headline.proofs.Words.{Claim, claim_by}
+use Rattle.psci_board.specs.Board.{up}
 use Rattle.psci_fw_laws.specs.psci_messages.psci_state.Cores.{asks}
 use Rattle.psci_fw_laws.specs.psci_fw_spec.declared.mode.SuspendMode.TheVariants.{Platform}
 use Rattle.psci_fw_laws.specs.psci_fw_spec.declared.mode.SuspendMode.TheVariants.{OsInitiated}
@@ -41,9 +42,7 @@ all_below : (b : BoardValue) (n : Node) (p : ℕ → Bool)
     → ((c : ℕ) → c < cores b → up b n.level c ≡ n.place → p c ≡ true)
     → list_all p (below b n) ≡ true
 unfolding up
-all_below b n p each =
-    all_kept p (λ c. up b n.level c == n.place) 0 (size_below b.levels)
-    (λ c low high e. each c (omega arith) (eqb-true _ _ e))
+all_below b n p each = grind (arith, nat_tests, all_kept, eqb-true)
 
 -- The claim of a message -----------------------------------------------------------------------
 
@@ -70,31 +69,18 @@ asked_by b life v n m p fair e =
 -- a core that is away asks for power-down of its domains
 away_asks : (b : BoardValue) (level c : ℕ) (phase : Phase) → level ≤ height b → phase ≡ Away
     → nat_le 3 (cond (nat_le level (height b)) (asks (activity_of phase) level) 0) ≡ true
-away_asks b level c phase low away =
-    le-leb 3 _ (subst (λ d. 3 ≤ d)
-    (sym (cond-true (nat_le level (height b)) (asks (activity_of phase) level) 0 (le-leb _ _ low)
-    ∙ ap (λ (x : Phase). asks (activity_of x) level) away))
-    (omega arith))
+away_asks b level c phase low away = grind (arith, nat_tests, le-leb, cond-true)
 
 -- a core that the boot core's path does not lead to is away
 away_first : (b : BoardValue) (n : Node) (c : ℕ) → HasNode b n
     → is_on_path b 0 n.level n.place ≡ false → up b n.level c ≡ n.place → first_phase c ≡ Away
 away_first b n c has off at =
-    cond_both (c == 0) Pending Away (λ x. x ≡ Away)
-    (λ e.
-    let zero : c ≡ 0 = eqb-true _ _ e in
-    let on : is_on_path b 0 n.level n.place ≡ true =
-    and_from (nat_le n.level (height b)) (up b n.level 0 == n.place) (le-leb _ _ has.level)
-    (eq-eqb _ _ (ap (up b n.level) (sym zero) ∙ at)) in
-    absurd (cc))
-    (λ e. refl)
+    grind (arith, nat_tests, cond_both, eqb-true, and_from, le-leb, eq-eqb)
 
 start_asked : (b : BoardValue) (life : ℕ) (n : Node) → HasNode b n
     → is_on_path b 0 n.level n.place ≡ false
     → all_ask b (start_of_life b life) n 3 n.level ≡ true
-start_asked b life n has off =
-    all_below b n (λ c. nat_le 3 (ask b (start_of_life b life) c n.level))
-    (λ c on at. away_asks b n.level c (first_phase c) has.level (away_first b n c has off at))
+start_asked b life n has off = grind (arith, nat_tests, all_below, away_asks, away_first)
 
 first_asked : (first : Claim) (t : Bool) (k : ℕ) (x : Claim) → (t ≡ false → first.asked ≡ true)
     → slice_get (cond t [] (first ∷ [])) k ≡ Some x → x.asked ≡ true

@@ -1,5 +1,6 @@
 -- What is told of the domains beside a core's path, as the core stops, enters or is asked on; and
 -- what is then told of all.
+use Rattle.std.proofs.lemmas.Bool.Decides.{nat_tests}
 use Rattle.std.proofs.Common.{◌≡◌, ℕ, ◌⊎◌, ◌<◌, inl, inr, Bool, true, false, cond}
 use Rattle.std.proofs.Common.{Option, None, Some, refl, arith, subst, ap, sym, ◌∙◌}
 use Rattle.std.specs.Prelude.{slice_get}
@@ -7,15 +8,14 @@ use Rattle.std.proofs.lemmas.Bool.{cases_eq}
 use Rattle.psci_headline.proofs.Words.{BoardValue, cores, up, PathLaws, is_path_place, Part, Start}
 use Rattle.psci_headline.proofs.Words.{MessageValue, OfCore, Put, Slot, changed, slot_of, PowerOn}
 use Rattle.psci_headline.proofs.Words.{target, with_arrival, with_pending, in_life, Phase, Away}
-use Rattle.psci_headline.proofs.Words.{Pending, unless_pending, Values, updated, KnownLaws}
-use Rattle.psci_headline.proofs.Words.{known_below, AreConfirming, IsYetToCome}
+use Rattle.psci_headline.proofs.Words.{Pending, Values, updated, KnownLaws, known_below}
+use Rattle.psci_headline.proofs.Words.{AreConfirming, IsYetToCome}
 use Rattle.psci_headline.specs.psci_messages.declared.kind.Kind.TheVariants as kinds
 use Rattle.psci_headline.specs.psci_fw_spec.declared.status.Status.TheVariants as statuses
 use Rattle.psci_headline.specs.psci_fw_spec.Changes.{Rest, with_claims, with_phase, with_rest}
 use Rattle.psci_headline.specs.psci_fw_spec.Changes.{with_running}
 use Rattle.psci_headline.specs.psci_fw_spec.Confirmed.{unless_claimed}
 use Rattle.psci_headline.specs.psci_fw_spec.Paths.{claimed_or}
-use Rattle.psci_headline.specs.psci_fw_spec.Phases.{Running}
 use Rattle.psci_headline.specs.psci_fw_laws.Messages.{known_on}
 use Rattle.psci_headline.proofs.fw_laws.Parts.{updated_here, updated_there}
 use Rattle.psci_headline.proofs.Slots.{clear_there, put_here, put_there}
@@ -38,21 +38,11 @@ IsFlat b v c = (level place : ℕ) → is_path_place b c level place ≡ true
 
 pub phased : (b : BoardValue) (starts : ℕ → ℕ) (v : Values) (c : ℕ) (left : Phase)
     → AreBeside b starts v c → AreBeside b starts (with_phase c left v) c
-phased b starts v c left are = record {
-  domains = are.domains;
-  cores = λ awake x on other away.
-      are.cores awake x on other
-      (sym (updated_there v.phase c (unless_pending (v.phase c) left) x other) ∙ away);
-}
+phased b starts v c left are = grind (arith, nat_tests, updated_there)
 
 pub rested : (b : BoardValue) (starts : ℕ → ℕ) (v : Values) (c : ℕ) (rest : Rest)
     → AreConfirming b starts v → AreBeside b starts (with_rest c rest v) c
-rested b starts v c rest are = record {
-  domains = λ level place off. are.domains level place;
-  cores = λ awake x on other away.
-      are.cores awake x on
-      (sym (updated_there v.phase c (unless_pending (v.phase c) rest.phase) x other) ∙ away);
-}
+rested b starts v c rest are = grind (arith, nat_tests, updated_there)
 
 pub arrived : (b : BoardValue) (starts : ℕ → ℕ) (v : Values) (c : ℕ) (s : Start)
     → KnownLaws b → PathLaws b → AreConfirming b starts (in_life b s.life v)
@@ -87,9 +77,7 @@ arrived b starts v c s laws paths are = record {
 
 pub arrived_flat : (b : BoardValue) (v : Values) (c : ℕ) (s : Start)
     → IsFlat b (with_arrival b c s v) c
-arrived_flat b v c s level place on some =
-    let none = ap (λ t. cond t 0 ((in_life b s.life v).granted level place)) on in
-    absurd (omega (arith, none, subst (λ d. 0 < d) none some))
+arrived_flat b v c s level place on some = grind (arith, nat_tests)
 
 -- All ------------------------------------------------------------------------------------------
 
@@ -97,31 +85,13 @@ arrived_flat b v c s level place on some =
 pub all_domains : (b : BoardValue) (starts : ℕ → ℕ) (v : Values) (c : ℕ)
     → AreBeside b starts v c → IsFlat b v c → (level place : ℕ) → 0 < v.granted level place
     → IsConfirmedOr b starts v level place
-all_domains b starts v c are flat level place some =
-    by_test (is_path_place b c level place) refl
-  where
-    by_test : (t : Bool) → is_path_place b c level place ≡ t → IsConfirmedOr b starts v level place
-    by_test true on = absurd (flat level place on some)
-    by_test false off = are.domains level place off some
+all_domains b starts v c are flat level place some = grind (arith, nat_tests)
 
 -- a core that entered runs
 pub runs : (b : BoardValue) (starts : ℕ → ℕ) (v : Values) (c : ℕ) → AreBeside b starts v c
     → IsFlat b v c → AreConfirming b starts (with_running c v)
-runs b starts v c are flat = record {
-  domains = all_domains b starts v c are flat;
-  cores = λ awake x on away. elim (cases_eq x c) [
-    | inl same ↦
-        let no : Running ≡ Away =
-        sym (ap (updated v.phase c Running) same ∙ updated_here v.phase c Running) ∙ away in
-        absurd (cc)
-    | inr other ↦
-        elim (are.cores awake x on other
-        (sym (updated_there v.phase c Running x other) ∙ away)) [
-          | inl was ↦ inl (updated_there v.status c statuses.On x other ∙ was)
-          | inr yet ↦ inr yet
-        ]
-  ];
-}
+runs b starts v c are flat =
+    grind (arith, nat_tests, all_domains, cases_eq, updated_here, updated_there)
 
 -- a Down was sent, whose parts are of the known starts
 module _ (b : BoardValue) (starts : ℕ → ℕ) (v : Values) (m : MessageValue) (first : Part)

@@ -1,5 +1,7 @@
 -- What the laws of the crates below say of a board, and so of every legal run on it.
-use Rattle.std.proofs.Common.{◌≡◌, ℕ, List, subst, sym}
+use Rattle.std.proofs.lemmas.Bool.Decides.{nat_tests}
+use Rattle.std.proofs.Common.{arith}
+use Rattle.std.proofs.Common.{◌≡◌, ℕ, List}
 use Rattle.psci_headline.proofs.Words.{BoardValue, PathLaws, Part, AckLaws, SumLaws, AreClaims}
 use Rattle.psci_headline.proofs.Words.{PartByPart, sent_messages, Holds, Record, controller_values}
 use Rattle.psci_headline.proofs.Words.{firmware_history, firmware_values, sent, IsLegalPast, place}
@@ -31,16 +33,4 @@ Given b past =
 
 pub is_given : (b : BoardValue) (past : List Record) → BoardLaws b → IsLegalPast b past
     → Given b past
-is_given b past laws is =
-    let agree = laws.agree past is in
-    record {
-      sums = laws.sums;
-      parts = laws.parts;
-      paths = laws.paths;
-      acks = laws.acks;
-      callers = laws.runs.callers;
-      agreed = record { begun = agree.begun; stopped = agree.stopped; present = agree.present };
-      holds = subst (Holds b (firmware_values b past)) (sym (laws.sent past is))
-          (laws.kept past is);
-      lives = (laws.values past is).last;
-    }
+is_given b past laws is = grind (arith, nat_tests)

@@ -1,4 +1,6 @@
 -- What waits, after each effect of the firmware's calls, entries and acknowledgements.
+use Rattle.std.proofs.lemmas.Bool.Decides.{nat_tests}
+use Rattle.std.proofs.Common.{arith}
 use Rattle.psci_headline.proofs.Slots.{system_slot, down_slot}
 use Rattle.std.proofs.Common.{◌≡◌, ℕ, ◌<◌, true, false, List, ◌∷◌, ◌++◌, Option, None}
 use Rattle.std.proofs.Common.{Some, subst, ap, sym, ◌∙◌}
@@ -36,10 +38,7 @@ rested : (b : BoardValue) (life : ℕ) (w : controlled.Values) (v : Values)
     → v.phase c ≡ Running → (left ≡ Pending → ⊥) → WaitingIn b life w v sent made
     → WaitingIn b life w
     (record v { phase = updated v.phase c (unless_pending (v.phase c) left) }) sent made
-rested b life w v sent made c left runs ne h =
-    waiting_phase h c (unless_pending (v.phase c) left)
-    (λ e. let no : Running ≡ Pending = sym runs ∙ e in absurd (cc))
-    (λ e. absurd (ne (sym (left_by (v.phase c) left runs) ∙ e)))
+rested b life w v sent made c left runs ne h = grind (arith, nat_tests, waiting_phase, left_by)
 
 pub call_waits : (b : BoardValue) (life : ℕ) (w : controlled.Values) (v : Values)
     (sent : List MessageValue) (made : List AckValue) (e : Effect) → CallerLaws b

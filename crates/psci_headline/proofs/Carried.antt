@@ -1,4 +1,5 @@
 -- What waits, after one call of the power controller or of the firmware.
+use Rattle.std.proofs.lemmas.Bool.Decides.{nat_tests}
 use Rattle.std.proofs.Common.{◌≡◌, ℕ, zero, suc, ◌+◌, inl, inr, ◌<◌, ◌≤◌, Bool, true, false, ◌==◌}
 use Rattle.std.proofs.Common.{cond, List, ◌∷◌, ◌++◌, Option, Some, refl, arith, subst, ap, sym, ◌∙◌}
 use Rattle.std.specs.Prelude.{nat_lt, slice_get}
@@ -157,12 +158,7 @@ pub acked_waits : (b : BoardValue) (w : controlled.Values) (place : ℕ → Plac
     → a ≡ ack_by b w m m.kind → MayFollow b w (message_effect b m a m.kind)
     → WaitsNow b w v sent made
     → WaitsNow b (controlling.change b (message_effect b m a m.kind) w) v sent (a ∷ made)
-acked_waits b w place v sent made k m a given at own is may h =
-    subst (λ x. WaitsNow b (controlling.change b (message_effect b m x m.kind) w) v sent
-    (x ∷ made))
-    (sym is)
-    (acked_kind b w place v sent made k m m.kind given at own refl
-    (subst (λ x. MayFollow b w (message_effect b m x m.kind)) is may) h)
+acked_waits b w place v sent made k m a given at own is may h = grind (arith, nat_tests, acked_kind)
 
 -- The firmware ---------------------------------------------------------------------------------
 

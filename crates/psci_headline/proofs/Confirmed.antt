@@ -1,10 +1,11 @@
 -- What is told after every legal run.
+use Rattle.std.proofs.lemmas.Bool.Decides.{nat_tests}
+use Rattle.std.proofs.Common.{arith}
 use Rattle.std.proofs.Common.{List, [], ◌∷◌, ◌++◌}
 use Rattle.std.proofs.Common.{subst, sym}
 use Rattle.psci_headline.proofs.Words.{BoardValue, PathLaws, effect_of, Values, Holds, KnownLaws}
-use Rattle.psci_headline.proofs.Words.{Event, Wake, Reset, Deliver, Record, Said, acks, call}
-use Rattle.psci_headline.proofs.Words.{control, controller_values, firmware_values, sent}
-use Rattle.psci_headline.proofs.Words.{IsLegalPast, Agree}
+use Rattle.psci_headline.proofs.Words.{Event, Record, Said, acks, call, control, controller_values}
+use Rattle.psci_headline.proofs.Words.{firmware_values, sent, IsLegalPast, Agree}
 use Rattle.psci_headline.specs.psci_ctl_spec.Exchange.{CtlExchange}
 use Rattle.psci_headline.specs.psci_ctl_spec.History as controls
 use Rattle.psci_headline.specs.psci_ctl_spec.Values as controlled
@@ -77,10 +78,7 @@ by_event : (b : BoardValue) (past : List Record) (event : Event) (said : Said)
     → ConfirmingNow b (controls.values_of b (control (controller_values b past) (sent past) event
     said ++ controller_history b past)) (firmware_values b past)
     → values_next b past event said
-by_event b past (Wake c) said kept does = does
-by_event b past (Reset c) said kept does = does
-by_event b past (Deliver k) said kept does = does
-by_event b past event said asked kept = asked
+by_event b past event said kept does = grind (arith, nat_tests)
 
 next : (b : BoardValue) (r : Record) (past : List Record) → RunLaws b
     → IsLegalPast b (r ∷ past) → Confirming b past → Confirming b (r ∷ past)

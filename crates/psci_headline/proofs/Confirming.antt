@@ -1,14 +1,15 @@
 -- What an effect leaves of a domain's confirmed claim: it was confirmed before, or a life has
 -- begun, or an acknowledgement confirms it.
+use Rattle.std.proofs.lemmas.Bool.Decides.{nat_tests}
 use Rattle.psci_headline.proofs.Coming.{sum_beside}
-use Rattle.std.proofs.Common.{◌≡◌, ℕ, ◌⊎◌, inl, inr, Bool, true, false, not, ◌==◌}
+use Rattle.std.proofs.Common.{◌≡◌, ℕ, ◌⊎◌, inl, inr, Bool, true, false, ◌==◌}
 use Rattle.std.proofs.Common.{cond, Option, None, Some, refl, arith, ap, sym, ◌∙◌}
 use Rattle.std.specs.Prelude.{slice_get}
 use Rattle.std.proofs.lemmas.Bool.{and_parts, eqb-false}
-use Rattle.psci_headline.proofs.Words.{BoardValue, has_node, up, is_path_place, Part, AckValue}
-use Rattle.psci_headline.proofs.Words.{change, confirms_on, target, Effect, AsksOn, Rests, Enters}
-use Rattle.psci_headline.proofs.Words.{Parks, StopsAtOnce, Acknowledges, start_of_life, Arrival}
-use Rattle.psci_headline.proofs.Words.{arrived, Values, updated, KnownLaws, known_below}
+use Rattle.psci_headline.proofs.Words.{BoardValue, up, is_path_place, Part, AckValue, change}
+use Rattle.psci_headline.proofs.Words.{confirms_on, target, Effect, AsksOn, Rests, Enters, Parks}
+use Rattle.psci_headline.proofs.Words.{StopsAtOnce, Acknowledges, start_of_life, Arrival, arrived}
+use Rattle.psci_headline.proofs.Words.{Values, updated, KnownLaws, known_below}
 use Rattle.psci_ctl_spec.specs.psci_messages.declared.start.Start as starts
 use Rattle.psci_fw_laws.specs.psci_fw_spec.Confirmed.{unless_claimed}
 use Rattle.psci_fw_laws.specs.psci_fw_spec.Lives.{first_confirmed, first_granted}
@@ -81,14 +82,7 @@ first_is b level place false same e = absurd (cc)
 
 off_boot : (b : BoardValue) (level place : ℕ) → first_confirmed b level place ≡ true
     → up b level 0 ≡ place → ⊥
-off_boot b level place e at =
-    let both = and_parts (has_node b (record { level = level; place = place }))
-    (not (is_path_place b 0 level place)) e in
-    by_test (is_path_place b 0 level place) refl both.1
-  where
-    by_test : (t : Bool) → (place == up b level 0) ≡ t → not t ≡ true → ⊥
-    by_test true f none = absurd (cc)
-    by_test false f none = eqb-false place (up b level 0) f (sym at)
+off_boot b level place e at = grind (arith, nat_tests, and_parts, eqb-false)
 
 -- a core entered; what it found, and where the domain is
 entered : (b : BoardValue) (v w : Values) (c : ℕ) (s : starts.Start) (e : Effect)

@@ -1,17 +1,18 @@
 -- What waits after a wake-up, a reset and a delivery.
+use Rattle.std.proofs.lemmas.Bool.Decides.{nat_tests}
+use Rattle.std.proofs.Common.{arith}
 use Rattle.std.proofs.Common.{◌≡◌, ℕ, List, ◌∷◌, ◌++◌, None, Some}
 use Rattle.std.proofs.Common.{refl, subst, ap, sym, ◌∙◌}
 use Rattle.std.specs.Prelude.{slice_get}
-use Rattle.psci_headline.proofs.Words.{BoardValue, Cause, MayFollow, message_effect, ack_by}
-use Rattle.psci_headline.proofs.Words.{AckValue, MessageValue, listed, Wake, Reset, Deliver, Record}
-use Rattle.psci_headline.proofs.Words.{Said, ack_in, acks, controller_history, controller_values}
-use Rattle.psci_headline.proofs.Words.{delivered, firmware_values, sent, sent_in, indexed, place}
+use Rattle.psci_headline.proofs.Words.{BoardValue, Cause, MayFollow, ack_by, AckValue, MessageValue}
+use Rattle.psci_headline.proofs.Words.{listed, Wake, Reset, Deliver, Record, Said, ack_in, acks}
+use Rattle.psci_headline.proofs.Words.{controller_history, controller_values, delivered}
+use Rattle.psci_headline.proofs.Words.{firmware_values, sent, sent_in, indexed, place}
 use Rattle.psci_ctl_spec.specs.Changes as controlling
 use Rattle.psci_ctl_spec.specs.Effects as controlling_effects
 use Rattle.psci_ctl_spec.specs.Exchange as controller
 use Rattle.psci_ctl_spec.specs.History as controls
 use Rattle.psci_ctl_spec.specs.Legal as legal_controls
-use Rattle.psci_ctl_spec.specs.declared.call.CtlCall.TheVariants as asked
 use Rattle.psci_ctl_spec.specs.Values as controlled
 use Rattle.psci_headline.specs.psci_world_spec.declared.said.Said.TheVariants as said
 use Rattle.psci_headline.specs.psci_world_spec.Legal.{legal}
@@ -79,16 +80,7 @@ message_next : (b : BoardValue) (past : List Record) (m : MessageValue) (a : Ack
     (firmware_values b past) (sent past) (a ∷ acks past)
 unfolding controlling.after controlling_effects.effect_of
 message_next b past m a i laws given now is at own made =
-    let h : List controller.CtlExchange = controller_history b past in
-    let w : controlled.Values = controller_values b past in
-    let e : controlling_effects.Effect = message_effect b m a m.kind in
-    let may : MayFollow b w e =
-    subst (λ r. MayFollow b w (controlling_effects.effect_of b (asked.Deliver m) r)) (sym is.0)
-    (laws.follows w (asked.Deliver m) is.1) in
-    subst (λ u. WaitsNow b u (firmware_values b past) (sent past) (a ∷ acks past))
-    (sym (values_more b _ h))
-    (acked_waits b w (place b past) (firmware_values b past) (sent past) (acks past) i m a given at
-    own made may now)
+    grind (arith, nat_tests, values_more, acked_waits)
 
 -- a message was delivered
 pub deliver_next : (b : BoardValue) (past : List Record) (k : ℕ) (s : Said) → RunLaws b

@@ -1,4 +1,5 @@
 -- The power controller's history of a legal run is one of its legal histories.
+use Rattle.std.proofs.lemmas.Bool.Decides.{nat_tests}
 use Rattle.std.proofs.Common.{◌≡◌, ℕ, ◌≤◌, List, [], ◌∷◌, ◌++◌, Option, None, Some, arith}
 use Rattle.std.proofs.Common.{refl, subst}
 use Rattle.std.specs.Prelude.{slice_get}
@@ -18,10 +19,7 @@ use Rattle.psci_headline.proofs.Items.{at_number}
 -- a message that the firmware sends can be sent on its board
 pub sendable : (b : BoardValue) (m : MessageValue) → cores b ≤ MOST_CORES → IsSound b m
     → controls.IsSendable b m
-sendable b m most sound = record {
-  message = record { core = omega (arith, most, sound.core); parts = sound.parts };
-  board = record { core = sound.core; levels = sound.few };
-}
+sendable b m most sound = grind (arith, nat_tests)
 
 -- each of these messages can be sent on the board
 abbrev pub AreSendable : BoardValue → List MessageValue → Type 0
@@ -48,10 +46,7 @@ delivery_legal : (b : BoardValue) (past : List Record) (k : ℕ) (s : Said)
     → AreSendable b (sent past) → IsReplied b (after_control b past (Deliver k) s)
     → controls.IsLegal b (controller_history b past)
     → controls.IsLegal b (after_control b past (Deliver k) s)
-delivery_legal b past k (said.Acked index ack) are answered is =
-    deliver_legal b (controller_history b past) (sent past) k (indexed (sent past) k) ack are refl
-    answered is
-delivery_legal b past k s are answered is = is
+delivery_legal b past k s are answered is = grind (arith, nat_tests, deliver_legal)
 
 wake_legal : (b : BoardValue) (past : List Record) (c : ℕ) (s : Said)
     → IsReplied b (after_control b past (Wake c) s)
@@ -73,10 +68,8 @@ event_legal : (b : BoardValue) (past : List Record) (event : Event) (s : Said)
     → AreSendable b (sent past) → IsReplied b (after_control b past event s)
     → controls.IsLegal b (controller_history b past) → s ≡ legal b past event
     → controls.IsLegal b (after_control b past event s)
-event_legal b past (Wake c) s are answered is e = wake_legal b past c s answered is e
-event_legal b past (Reset c) s are answered is e = reset_legal b past c s answered is e
-event_legal b past (Deliver k) s are answered is e = delivery_legal b past k s are answered is
-event_legal b past event s are answered is e = is
+event_legal b past event s are answered is e =
+    grind (arith, nat_tests, wake_legal, reset_legal, delivery_legal)
 
 -- The whole run --------------------------------------------------------------------------------
 

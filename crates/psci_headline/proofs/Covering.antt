@@ -1,6 +1,7 @@
 -- How many parts of a Down are applied: at least those that are live and covered.
+use Rattle.std.proofs.lemmas.Bool.Decides.{nat_tests}
 use Rattle.psci_headline.proofs.Ranges.{all_in}
-use Rattle.std.proofs.Common.{◌≡◌, ℕ, zero, suc, inl, inr, ◌+◌, ◌-◌, ◌<◌, ◌≤◌, Bool, true}
+use Rattle.std.proofs.Common.{◌≡◌, ℕ, zero, suc, ◌+◌, ◌-◌, ◌<◌, ◌≤◌, Bool, true}
 use Rattle.std.proofs.Common.{◌==◌, cond, List, [], ◌∷◌, length, take, Some, refl, arith}
 use Rattle.std.proofs.Common.{subst, ap, sym, ◌∙◌}
 use Rattle.std.specs.Prelude.{nat_le, slice_get}
@@ -8,8 +9,7 @@ use Rattle.std.specs.List.{prefix_len}
 use Rattle.std.proofs.lemmas.Bool.{and_from, cases_Bool, cases_eq, cond-true, cond-false, eq-eqb}
 use Rattle.std.proofs.lemmas.Bool.{le-leb}
 use Rattle.psci_headline.proofs.Words.{BoardValue, cores, height, nodes, up, ChildLaws, PathLaws}
-use Rattle.psci_headline.proofs.Words.{Node, Part, domain_of, depth_or, laid, starts_below}
-use Rattle.psci_headline.proofs.Words.{is_on_path}
+use Rattle.psci_headline.proofs.Words.{Node, Part, domain_of, laid, starts_below}
 use Rattle.psci_board.specs.Board.{children, first_child}
 use Rattle.psci_ctl_spec.specs.Parts.{applied, is_applied, is_covered}
 use Rattle.psci_ctl_spec.specs.Values.{Values}
@@ -75,28 +75,19 @@ below_deep : (b : BoardValue) (v : Values) (c level : ℕ) (ps : List Part) (p q
     → up b (suc level) x ≡ up b (suc level) c
     → p.depth ≤ laid b c (take (suc level) ps) v.depth level (up b level x)
 below_deep b v c level ps p q high at falls others x on joined =
-    elim (cases_eq (up b level x) (up b level c)) [
-      | inl here ↦
-          let on_path : is_on_path b c level (up b level x) ≡ true =
-          and_from _ _ (le-leb level (height b) (omega arith))
-          (eq-eqb (up b level c) (up b level x) (sym here)) in
-          let get : slice_get (take (suc level) ps) level ≡ Some q =
-          get_take ps (suc level) level (omega arith) ∙ at in
-          let now : laid b c (take (suc level) ps) v.depth level (up b level x) ≡ q.depth =
-          cond-true (is_on_path b c level (up b level x)) _ (v.depth level (up b level x)) on_path
-          ∙ ap (λ o. depth_or o (v.depth level (up b level x))) get in
-          omega (arith, now, falls)
-      | inr there ↦
-          let off = cases_Bool (is_on_path b c level (up b level x)) in
-          elim off [
-            | inl on_it ↦ absurd (there (path_place b c level (up b level x) on_it))
-            | inr off_it ↦
-                let now = cond-false (is_on_path b c level (up b level x))
-                (depth_or (slice_get (take (suc level) ps) level) (v.depth level (up b level x)))
-                (v.depth level (up b level x)) off_it in
-                omega (arith, now, others x on joined there)
-          ]
-    ]
+    grind (
+      arith,
+      nat_tests,
+      cases_eq,
+      and_from,
+      le-leb,
+      eq-eqb,
+      get_take,
+      cond-true,
+      cases_Bool,
+      path_place,
+      cond-false,
+    )
 
 -- a part is covered, whose domain's other children are deep
 covered : (b : BoardValue) (v : Values) (c k : ℕ) (ps : List Part) (p : Part) → PathLaws b

@@ -1,5 +1,6 @@
 -- A domain that is not fully on is as deep as a live claim on it.
-use Rattle.std.proofs.Common.{◌≡◌, ℕ, ◌<◌, ◌⊎◌, inl, inr, Bool, true, false, cond, List, Some}
+use Rattle.std.proofs.lemmas.Bool.Decides.{nat_tests}
+use Rattle.std.proofs.Common.{◌≡◌, ℕ, ◌<◌, ◌⊎◌, Bool, true, false, cond, List, Some}
 use Rattle.std.proofs.Common.{refl, arith, sym, subst}
 use Rattle.psci_headline.proofs.Words.{BoardValue, Node, is_on_path, Record, controller_history}
 use Rattle.psci_headline.proofs.Words.{controller_values, IsReplied, depth_at}
@@ -46,7 +47,5 @@ pub claimed_depth : (b : BoardValue) (past : List Record) (life : ℕ) (n : Node
     → (controller_values b past).life ≡ Some life → 0 < depth_at b past n.level n.place
     → HasLive b past n (depth_at b past n.level n.place)
 unfolding controls.values_of
-claimed_depth b past life n is from present some = elim (from present some) [
-  | inl a ↦ applied_live b past life n is present a
-  | inr f ↦ first_live b past life n present some f
-]
+claimed_depth b past life n is from present some =
+    grind (arith, nat_tests, applied_live, first_live)

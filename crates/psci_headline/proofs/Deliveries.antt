@@ -1,11 +1,12 @@
 -- What a legal record leaves of the power controller's values, and the acknowledgement it says.
-use Rattle.std.proofs.Common.{◌≡◌, ℕ, ◌⊎◌, inl, inr, Bool, true, false, cond, List, [], ◌∷◌}
-use Rattle.std.proofs.Common.{◌++◌, Option, None, Some, refl, subst, ap, ap₂, sym, ◌∙◌, length}
+use Rattle.std.proofs.lemmas.Bool.Decides.{nat_tests}
+use Rattle.std.proofs.Common.{arith}
+use Rattle.std.proofs.Common.{◌≡◌, ℕ, ◌⊎◌, Bool, true, false, cond, List, [], ◌∷◌}
+use Rattle.std.proofs.Common.{◌++◌, Option, None, Some, refl, ap, sym, ◌∙◌, length}
 use Rattle.std.proofs.lemmas.Bool.{eqb-true}
-use Rattle.psci_headline.proofs.Words.{BoardValue, Nothing, Starts, Deepens, Ends, Begins}
-use Rattle.psci_headline.proofs.Words.{message_effect, ack_by, is_this_life, first_depth}
-use Rattle.psci_headline.proofs.Words.{first_starts, FwReply, AckValue, MessageValue, Event, Wake}
-use Rattle.psci_headline.proofs.Words.{Reset, Deliver, Record, Said, Acked, ack_in, acks, control}
+use Rattle.psci_headline.proofs.Words.{BoardValue, message_effect, ack_by, is_this_life}
+use Rattle.psci_headline.proofs.Words.{first_depth, first_starts, FwReply, AckValue, MessageValue}
+use Rattle.psci_headline.proofs.Words.{Event, Deliver, Record, Said, Acked, ack_in, acks, control}
 use Rattle.psci_headline.proofs.Words.{controller_values, delivered, sent, said_by, said_of}
 use Rattle.psci_headline.proofs.Words.{indexed, legal}
 use Rattle.psci_ctl_spec.specs.declared.delivery.Delivery.TheVariants as deliveries
@@ -20,7 +21,6 @@ use Rattle.psci_ctl_spec.specs.Replies.{delivery_of, reply}
 use Rattle.psci_ctl_spec.specs.Values.{Values}
 use Rattle.psci_ctl_spec.proofs.OneMore.{values_more}
 use Rattle.psci_fw_laws.specs.psci_fw_spec.declared.reply.FwReply.TheVariants as replies
-use Rattle.psci_world_spec.specs.declared.said.Said.TheVariants.{Kick as Kicked}
 use Rattle.psci_world_spec.specs.Histories.{controller_history}
 use Rattle.psci_headline.proofs.Saying.{of_event}
 
@@ -38,10 +38,7 @@ few_delivered (Some m) a = tt
 
 pub few : (v : Values) (messages : List MessageValue) (event : Event) (said : Said)
     → IsFew (control v messages event said)
-few v messages (Deliver k) (Acked index ack) = few_delivered (indexed messages k) ack
-few v messages (Wake c) (Kicked start) = tt
-few v messages (Reset c) (Kicked start) = tt
-few v messages event said = tt
+few v messages event said = grind (arith, nat_tests, few_delivered)
 
 history_more : (b : BoardValue) (r : Record) (past : List Record)
     → controller_history b (r ∷ past)
@@ -64,31 +61,14 @@ pub record IsFirst (b : BoardValue) (v : Values) : Type 0 where
 life_by : (b : BoardValue) (e : Effect) (v : Values) (life : ℕ)
     → (change b e v).life ≡ Some life
     → (v.life ≡ Some life) ⊎ IsFirst b (change b e v)
-life_by b Nothing v life e = inl e
-life_by b (Starts c cause) v life e = inl e
-life_by b (Deepens c ps) v life e = inl e
-life_by b Ends v life e = absurd (cc)
-life_by b Begins v life e = inr (record { depth = refl; starts = refl })
+life_by b x1 v life e = grind (arith, nat_tests)
 
 by_control : (b : BoardValue) (r : Record) (past : List Record) (life : ℕ) (es : List CtlExchange)
     → control (controller_values b past) (sent past) r.event r.said ≡ es → IsFew es
     → (controller_values b (r ∷ past)).life ≡ Some life
     → ((controller_values b past).life ≡ Some life)
     ⊎ IsFirst b (controller_values b (r ∷ past))
-by_control b r past life [] adds is e =
-    let more = ap (values_of b) (history_more b r past
-    ∙ ap (λ (es : List CtlExchange). es ++ controller_history b past) adds) in
-    inl (ap (λ (v : Values). v.life) (sym more) ∙ e)
-by_control b r past life (x ∷ []) adds is e =
-    let h = controller_history b past in
-    let more : controller_values b (r ∷ past)
-    ≡ change b (effect_of b x.call x.reply) (values_of b h) =
-    ap (values_of b) (history_more b r past ∙ ap (λ (es : List CtlExchange). es ++ h) adds)
-    ∙ values_by b x h in
-    subst (λ (v : Values). v.life ≡ Some life
-    → ((values_of b h).life ≡ Some life) ⊎ IsFirst b v) (sym more)
-    (life_by b (effect_of b x.call x.reply) (values_of b h) life) e
-by_control b r past life (x ∷ y ∷ es) adds is e = absurd is
+by_control b r past life x4 adds is e = grind (arith, nat_tests, history_more, values_by, life_by)
 
 -- after a record the life is the one before, or it begins
 pub life_before : (b : BoardValue) (r : Record) (past : List Record) (life : ℕ)
@@ -185,18 +165,8 @@ new_values : (b : BoardValue) (r : Record) (past : List Record) (a : AckValue)
     controller_values b (r ∷ past)
     ≡ change b (message_effect b m a m.kind) (controller_values b past)
 unfolding effect_of
-new_values b r past a d =
-    let h = controller_history b past in
-    let adds : control (controller_values b past) (sent past) r.event r.said
-    ≡ delivered (Some d.message) a =
-    ap₂ (control (controller_values b past) (sent past)) d.event d.said
-    ∙ ap (λ o. delivered o a) d.at in
-    ap (values_of b) (history_more b r past ∙ ap (λ (es : List CtlExchange). es ++ h) adds)
-    ∙ values_by b _ h
+new_values b r past a d = grind (arith, nat_tests, history_more, values_by)
 
 pub new_ack : (b : BoardValue) (r : Record) (past : List Record) (a : AckValue)
     → r.said ≡ legal b past r.event → ack_in r.said ≡ Some a → IsNew b r past a
-new_ack b r past a is new =
-    let d = subst (λ s. IsDelivered b past r.event s a) (sym is)
-    (delivered_by b past r.event a (ap ack_in (sym is) ∙ new)) in
-    record { made = d; values = new_values b r past a d }
+new_ack b r past a is new = grind (arith, nat_tests, delivered_by, new_values)

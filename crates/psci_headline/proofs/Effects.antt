@@ -1,4 +1,6 @@
 -- What is told after each effect of the firmware's calls, entries and acknowledgements.
+use Rattle.std.proofs.lemmas.Bool.Decides.{nat_tests}
+use Rattle.std.proofs.Common.{arith}
 use Rattle.psci_headline.proofs.Slots.{system_slot}
 use Rattle.psci_headline.proofs.Telling.{first_part}
 use Rattle.std.proofs.Common.{◌≡◌, ℕ, inl, inr, ◌<◌, true, false, List}
@@ -23,14 +25,7 @@ never_away p e = absurd (cc)
 
 pub goes_on : (b : BoardValue) (starts : ℕ → ℕ) (v : Values) (c : ℕ) → AreConfirming b starts v
     → AreConfirming b starts (with_phase c Running v)
-goes_on b starts v c are = record {
-  domains = are.domains;
-  cores = λ awake x on away.
-      are.cores awake x on
-      (updated_at (λ (y : Phase). y ≡ Away → v.phase x ≡ Away) v.phase c
-      (unless_pending (v.phase c) Running) x (λ here e. absurd (never_away (v.phase c) e))
-      (λ there e. e) away);
-}
+goes_on b starts v c are = grind (arith, nat_tests, updated_at, never_away)
 
 pub halts : (b : BoardValue) (starts : ℕ → ℕ) (v : Values) (c : ℕ) (m : MessageValue)
     → is_system m.kind ≡ true → AreConfirming b starts v
@@ -50,10 +45,7 @@ halts b starts v c m system are = record {
 -- a halting life says nothing of cores
 halting : (b : BoardValue) (starts : ℕ → ℕ) (v : Values) (c : ℕ) → v.halting ≡ true
     → AreBeside b starts v c → IsFlat b v c → AreConfirming b starts v
-halting b starts v c is are flat = record {
-  domains = all_domains b starts v c are flat;
-  cores = λ awake. let no : true ≡ false = sym is ∙ awake in absurd (cc);
-}
+halting b starts v c is are flat = grind (arith, nat_tests, all_domains)
 
 -- A Down is sent -------------------------------------------------------------------------------
 

@@ -1,15 +1,17 @@
 -- What is so after what is outstanding for a core was served.
+use Rattle.std.proofs.lemmas.Bool.Decides.{nat_tests}
+use Rattle.std.proofs.Common.{arith}
 use Rattle.psci_headline.proofs.Acknowledging.{acks_message}
 use Rattle.psci_headline.proofs.Slots.{core_slot}
-use Rattle.std.proofs.Common.{◌≡◌, ℕ, Bool, true, false, ◌&&◌, cond, List, Option, None, Some}
+use Rattle.std.proofs.Common.{◌≡◌, ℕ, Bool, true, false, cond, List, Option, None, Some}
 use Rattle.std.proofs.Common.{refl, subst, ap, sym, ◌∙◌, option_and_then}
 use Rattle.std.proofs.lemmas.Bool.{and_from, cond-true, cond-false, eq-eqb, ne_eqb}
 use Rattle.psci_headline.proofs.Words.{BoardValue, Kind, Used, AckValue, MessageValue, Acknowledge}
-use Rattle.psci_headline.proofs.Words.{OfCore, answers, changed, is_done, is_kind, is_slot, slot_of}
-use Rattle.psci_headline.proofs.Words.{Values, is_system, AreOutstanding, Record, controller_values}
+use Rattle.psci_headline.proofs.Words.{OfCore, answers, changed, is_done, slot_of, Values}
+use Rattle.psci_headline.proofs.Words.{is_system, AreOutstanding, Record, controller_values}
 use Rattle.psci_headline.proofs.Words.{firmware_values, sent, IsLegalPast, served, serving}
 use Rattle.psci_ctl_spec.specs.psci_messages.declared.taken.Taken.TheVariants.{Old}
-use Rattle.psci_ctl_spec.specs.psci_messages.Slots.{left_by, taken}
+use Rattle.psci_ctl_spec.specs.psci_messages.Slots.{taken}
 use Rattle.psci_headline.specs.psci_fw_spec.Taking.{taken_by}
 use Rattle.psci_headline.proofs.Agreed.{RunLaws}
 use Rattle.psci_headline.specs.Settling.{index_of}
@@ -23,27 +25,18 @@ use Rattle.psci_headline.proofs.Telling.{own_kind}
 -- an acknowledgement answers each message that has the name of its own
 named_answers : (a : AckValue) (m n : MessageValue) → HasName a n → HaveName m n
     → answers a m ≡ true
-named_answers a m n mine same =
-    and_from _ _ (ap (is_kind a.kind) (same.kind ∙ sym mine.kind) ∙ own_kind a.kind)
-    (and_from _ _ (eq-eqb _ _ (mine.core ∙ sym same.core))
-    (and_from _ _ (eq-eqb _ _ (mine.life ∙ sym same.life))
-    (eq-eqb _ _ (mine.number ∙ sym same.number))))
+named_answers a m n mine same = grind (arith, nat_tests, and_from, own_kind, eq-eqb)
 
 -- Slots ----------------------------------------------------------------------------------------
 
 left_there : (a : AckValue) (c x : ℕ) (o : Option MessageValue)
     → slot_of a.kind a.core ≡ OfCore c → (x ≡ c → ⊥) → changed (OfCore x) (Acknowledge a) o ≡ o
-left_there a c x o slot ne =
-    cond-false (is_slot (slot_of a.kind a.core) (OfCore x)) (left_by a o) o
-    (ap (λ s. is_slot s (OfCore x)) slot ∙ ne_eqb c x (λ e. ne (sym e)))
+left_there a c x o slot ne = grind (arith, nat_tests, cond-false, ne_eqb)
 
 left_here : (a : AckValue) (c : ℕ) (m : MessageValue) → slot_of a.kind a.core ≡ OfCore c
     → answers a m ≡ true
     → changed (OfCore c) (Acknowledge a) (Some m) ≡ cond (is_done a m) None (Some m)
-left_here a c m slot e =
-    cond-true (is_slot (slot_of a.kind a.core) (OfCore c)) (left_by a (Some m)) (Some m)
-    (ap (λ s. is_slot s (OfCore c)) slot ∙ eq-eqb c c refl)
-    ∙ ap (λ t. cond (t && is_done a m) None (Some m)) e
+left_here a c m slot e = grind (arith, nat_tests, cond-true, eq-eqb)
 
 -- What is so after the message of some number was served, which has the name of what is
 -- outstanding for a core.

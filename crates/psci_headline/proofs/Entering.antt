@@ -1,4 +1,5 @@
 -- After every legal history each entry has taken up an opening of its own.
+use Rattle.std.proofs.lemmas.Bool.Decides.{nat_tests}
 use Rattle.std.proofs.Common.{◌≡◌, ℕ, suc, ◌≤◌, Bool, true, false, ◌==◌, cond, List, [], ◌∷◌}
 use Rattle.std.proofs.Common.{◌++◌, length, Option, None, Some, option_map, refl, ap, sym, ◌∙◌}
 use Rattle.std.proofs.Common.{subst, arith}
@@ -63,10 +64,7 @@ module _ (b : BoardValue) (found after : Values) (c : ℕ) (s : Start) (a k : �
 
 answered : (act : Act) (m : Option MessageValue) (fault : Option FwFault) (o : Outcome)
     → replies.Out (record { act = act; message = m }) ≡ reply_or fault o → act ≡ o.act
-answered act m (Some f) o e = absurd (cc)
-answered act m None o e =
-    let same : (record { act = act; message = m }) ≡ o = cc in
-    ap (λ (x : Outcome). x.act) same
+answered act m x2 o e = grind (arith, nat_tests)
 
 entered_at : (b : BoardValue) (v : Values) (c : ℕ) (s : Start) (act : Act)
     (m : Option MessageValue) (x : EnteredAt)
@@ -100,11 +98,8 @@ no_entry c before act x ends is = absurd (cc)
 has_entered : (b : BoardValue) (v : Values) (before c : ℕ) (call : FwCall) (reply : FwReply)
     (x : EnteredAt) → reply ≡ answer b v c call → entered_by before c call reply ≡ Some x
     → HasEntered b v (effect_of b c call reply) x
-has_entered b v before c (calls.Smc regs) (replies.Out o) x e is =
-    absurd (no_entry c before o.act x (call_ends b v c regs o e) is)
-has_entered b v before c (calls.Enter s) (replies.Out o) x e is =
-    entered_at b v c s o.act o.message x e is
-has_entered b v before c call reply x e is = absurd (cc)
+has_entered b v before c call reply x e is =
+    grind (arith, nat_tests, no_entry, call_ends, entered_at)
 
 -- What an effect leaves ------------------------------------------------------------------------
 

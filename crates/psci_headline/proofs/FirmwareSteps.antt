@@ -1,4 +1,6 @@
 -- What waits after a call, an entry and an acknowledgement that was taken.
+use Rattle.std.proofs.lemmas.Bool.Decides.{nat_tests}
+use Rattle.std.proofs.Common.{arith}
 use Rattle.std.proofs.Common.{◌≡◌, ℕ, ◌<◌, List, ◌++◌, Option, None, Some, option_map}
 use Rattle.std.proofs.Common.{refl, subst, sym}
 use Rattle.psci_headline.proofs.Words.{request_of, Regs, BoardValue, cores, Start, last_start}
@@ -108,10 +110,4 @@ took_next b past k (Some a) takens.Old laws given now f =
 
 pub take_next : (b : BoardValue) (past : List Record) (k : ℕ) (s : Said) → RunLaws b
     → Given b past → Now b past → sent_in s ≡ None → ack_in s ≡ None → Next b past (Take k) s
-take_next b past k (said.Fw act sends) laws given now e f =
-    subst (λ o. WaitsNow b (controller_values b past) (firmware_values b past)
-    (listed o ++ sent past) (acks past)) (sym e) now
-take_next b past k (said.Acked index ack) laws given now e f = absurd (cc)
-take_next b past k (said.Taken taken) laws given now e f =
-    took_next b past k (indexed (acks past) k) taken laws given now refl
-take_next b past k s laws given now e f = now
+take_next b past k s laws given now e f = grind (arith, nat_tests, took_next)

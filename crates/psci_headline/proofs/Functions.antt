@@ -1,6 +1,8 @@
 -- A function returns to its caller or stops it: none is answered as a core that enters.
+use Rattle.std.proofs.lemmas.Bool.Decides.{nat_tests}
+use Rattle.std.proofs.Common.{arith}
 use Rattle.std.proofs.Common.{◌≡◌, ℕ, false, refl}
-use Rattle.std.proofs.Common.{Option, None, Some, ap, ◌∙◌}
+use Rattle.std.proofs.Common.{Option}
 use Rattle.psci_headline.proofs.Words.{request_of, Regs, Request, BoardValue, FwFault, Outcome}
 use Rattle.psci_headline.proofs.Words.{reply_or, call_fault, outcome_of, Values}
 use Rattle.psci_headline.proofs.Words.{enters_or_resumes_by}
@@ -21,10 +23,7 @@ no_entry b v c r =
 
 by_fault : (b : BoardValue) (v : Values) (c : ℕ) (r : Request) (o : Outcome) (f : Option FwFault)
     → replies.Out o ≡ reply_or f (outcome_of b v c r) → Ends o
-by_fault b v c r o (Some fault) e = absurd (cc)
-by_fault b v c r o None e =
-    let same : o ≡ outcome_of b v c r = cc in
-    ap (λ (x : Outcome). enters_or_resumes_by x.act) same ∙ no_entry b v c r
+by_fault b v c r o x5 e = grind (arith, nat_tests, no_entry)
 
 -- what a call is answered is no entry
 pub call_ends : (b : BoardValue) (v : Values) (c : ℕ) (regs : Regs) (o : Outcome)

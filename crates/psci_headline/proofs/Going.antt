@@ -1,6 +1,8 @@
 -- What stays so in every round: each started core has entered, and none is pending.
+use Rattle.std.proofs.lemmas.Bool.Decides.{nat_tests}
+use Rattle.std.proofs.Common.{arith}
 use Rattle.std.proofs.Common.{◌≡◌, ℕ, ◌+◌, ◌<◌, true, false, List}
-use Rattle.std.proofs.Common.{Some, refl, subst, ap, sym, ◌∙◌}
+use Rattle.std.proofs.Common.{Some, subst, ap, sym, ◌∙◌}
 use Rattle.psci_headline.proofs.Words.{BoardValue, cores, height, up, Part, Kind, ArePartsOf}
 use Rattle.psci_headline.proofs.Words.{AreClaims, MessageValue, OfCore, OfSystem, in_life, Pending}
 use Rattle.psci_headline.proofs.Words.{Values, IsClaimOn, IsCurrent, HasDeeper, NonePending}
@@ -125,16 +127,10 @@ pub record IsOut (b : BoardValue) (life : ℕ) (past : List Record) (c : ℕ) (m
 slots_now : (b : BoardValue) (before : List Record) (life : ℕ) (past : List Record)
     → SettleLaws b → IsGoing b before life past → let v = firmware_values b past in
     AreOutstanding life v.known v.phase (sent past) v.outstanding
-slots_now b before life past laws going =
-    let v : Values = firmware_values b past in
-    subst (λ l. AreOutstanding l v.known v.phase (sent past) v.outstanding) going.own
-    (laws.past past going.legal).given.holds.slots
+slots_now b before life past laws going = grind (arith, nat_tests)
 
 core_kind : (k : Kind) → is_system k ≡ false → (k ≡ kinds.Start → ⊥) → k ≡ kinds.Down
-core_kind kinds.Down e ne = refl
-core_kind kinds.Start e ne = absurd (ne refl)
-core_kind kinds.Off e ne = absurd (cc)
-core_kind kinds.Reset e ne = absurd (cc)
+core_kind x0 e ne = grind (arith, nat_tests)
 
 pub out_now : (b : BoardValue) (before : List Record) (life : ℕ) (past : List Record) (c : ℕ)
     (m : MessageValue) → SettleLaws b → IsGoing b before life past

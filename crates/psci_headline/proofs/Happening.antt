@@ -1,12 +1,11 @@
 -- What happens to a core happens at its place, and what sends a message is a call or an entry.
+use Rattle.std.proofs.lemmas.Bool.Decides.{nat_tests}
+use Rattle.std.proofs.Common.{arith}
 use Rattle.std.proofs.Common.{◌≡◌, ℕ, ◌<◌, Bool, true, false, None, Some, refl, List, ap, sym, ◌∙◌}
 use Rattle.psci_headline.proofs.Words.{BoardValue, cores, Start, last_start, Event, Call, Enter}
 use Rattle.psci_headline.proofs.Words.{Wake, Reset, Started, Running, Record, Said, Absent}
 use Rattle.psci_headline.proofs.Words.{controller_values, sent_in, said_by, place, legal}
-use Rattle.psci_ctl_spec.specs.declared.delivery.Delivery.TheVariants as deliveries
-use Rattle.psci_ctl_spec.specs.declared.kick.Kick.TheVariants as kicks
 use Rattle.psci_ctl_spec.specs.declared.reply.CtlReply.{CtlReply}
-use Rattle.psci_ctl_spec.specs.declared.reply.CtlReply.TheVariants as replied
 use Rattle.psci_fw_laws.specs.psci_fw_spec.Answer.{answer}
 use Rattle.psci_world_spec.specs.declared.said.Said.TheVariants.{Ignored}
 use Rattle.psci_headline.proofs.Saying.{of_event}
@@ -57,9 +56,7 @@ happens b past event s e some =
 -- Events that send nothing ---------------------------------------------------------------------
 
 none_sent : (n : ℕ) (r : CtlReply) → sent_in (said_by n r) ≡ None
-none_sent n (replied.Delivery (deliveries.Applied ack)) = refl
-none_sent n (replied.Kick (kicks.Started start)) = refl
-none_sent n r = refl
+none_sent n r = grind (arith, nat_tests)
 
 -- whether the power controller or an acknowledgement is what the event is about
 abbrev pub is_quiet : Event → Bool

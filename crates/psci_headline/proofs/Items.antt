@@ -1,4 +1,5 @@
 -- Items of a list: one of some number, and one behind others.
+use Rattle.std.proofs.lemmas.Bool.Decides.{nat_tests}
 use Rattle.std.proofs.Common.{refl}
 use Rattle.std.proofs.Common.{◌∙◌}
 use Rattle.std.proofs.Common.{sym}
@@ -47,6 +48,4 @@ of_first x xs (suc k) y first other at = other k at
 pub of_newest : {A : Type 0} {X : Type 0} (o : Option A) (xs : List A) (k : ℕ) (y : A)
     → (o ≡ Some y → X) → ((j : ℕ) → slice_get xs j ≡ Some y → X)
     → slice_get (listed o ++ xs) k ≡ Some y → X
-of_newest None xs k y first other at = other k at
-of_newest (Some x) xs zero y first other at = first at
-of_newest (Some x) xs (suc k) y first other at = other k at
+of_newest x0 xs k y first other at = grind (arith, nat_tests)

@@ -1,6 +1,8 @@
 -- Live claims by their sources: each is of this life, and each claim of it with the sum of
 -- the starts below is live.
-use Rattle.std.proofs.Common.{◌≡◌, ℕ, List, Option, None, Some, refl, ◌∙◌, subst}
+use Rattle.std.proofs.lemmas.Bool.Decides.{nat_tests}
+use Rattle.std.proofs.Common.{arith}
+use Rattle.std.proofs.Common.{◌≡◌, ℕ, List, Option, None, Some, refl, subst}
 use Rattle.std.specs.Prelude.{slice_get}
 use Rattle.std.proofs.lemmas.Option.{none-some}
 use Rattle.psci_headline.proofs.Words.{BoardValue, Node, starts_below, Claim, claims, live_claims}
@@ -34,6 +36,4 @@ is_live_one b past n k c at = live_of b past n (controller_values b past).life k
 pub has_live : (b : BoardValue) (past : List Record) (n : Node) (life depth generation : ℕ)
     → (controller_values b past).life ≡ Some life → IsIn (claims b life n past) depth generation
     → generation ≡ starts_below b (controller_values b past).starts n → HasLive b past n depth
-has_live b past n life depth generation present is e =
-    let kept = live_kept b past life n is.index is.claim present is.at (is.old ∙ e) in
-    record { index = kept.0; claim = is.claim; at = kept.1; deep = is.deep }
+has_live b past n life depth generation present is e = grind (arith, nat_tests, live_kept)

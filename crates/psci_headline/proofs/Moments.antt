@@ -1,18 +1,17 @@
 -- A message was asked for by the values of its own record.
+use Rattle.std.proofs.lemmas.Bool.Decides.{nat_tests}
 use Rattle.std.proofs.Common.{◌≡◌, ℕ, suc, ◌⊎◌, inl, inr, List, [], ◌∷◌, ◌++◌, Option, None}
 use Rattle.std.proofs.Common.{Some, refl, ap, sym, ◌∙◌, subst, arith}
 use Rattle.std.specs.Prelude.{slice_get}
-use Rattle.psci_headline.proofs.Words.{BoardValue, Part, Start, last_start, Down, Taken, AckValue}
-use Rattle.psci_headline.proofs.Words.{MessageValue, Outcome, FwExchange, effect, values_of, listed}
-use Rattle.psci_headline.proofs.Words.{AreRising, part_for, Event, Call, Enter, Take, Record, Said}
-use Rattle.psci_headline.proofs.Words.{Fw, acks, call, controller_values, entered, firmware_values}
-use Rattle.psci_headline.proofs.Words.{outcome_in, sent_in, took, IsLegalPast, indexed}
+use Rattle.psci_headline.proofs.Words.{BoardValue, Part, Start, Down, Taken, AckValue, MessageValue}
+use Rattle.psci_headline.proofs.Words.{Outcome, FwExchange, effect, values_of, listed, AreRising}
+use Rattle.psci_headline.proofs.Words.{part_for, Event, Record, Said, acks, call, controller_values}
+use Rattle.psci_headline.proofs.Words.{entered, firmware_values, sent_in, took, IsLegalPast}
 use Rattle.psci_ctl_spec.specs.Values as controlled
 use Rattle.psci_fw_laws.specs.psci_fw_spec.Said as says
 use Rattle.psci_fw_laws.specs.psci_fw_spec.Sent.{sent_messages}
 use Rattle.psci_fw_laws.specs.Asked.{IsAskedFor, WasAsked}
 use Rattle.psci_fw_laws.proofs.Parts.{part_has}
-use Rattle.psci_world_spec.specs.declared.said.Said.TheVariants.{Taken as Took}
 use Rattle.psci_world_spec.specs.Histories.{firmware_history, sent}
 use Rattle.psci_headline.proofs.Asking.{WereAsked}
 
@@ -33,10 +32,7 @@ took_one (Some a) t = inr (_, refl)
 -- a record adds one exchange at most to the firmware's history
 adds_one : (v : controlled.Values) (made : List AckValue) (event : Event) (said : Said)
     → OneOrNone (call v made event said)
-adds_one v made (Call c regs) (Fw act sends) = inr (_, refl)
-adds_one v made (Enter c) (Fw act sends) = entered_one c (last_start v c) (outcome_in act sends)
-adds_one v made (Take k) (Took taken) = took_one (indexed made k) taken
-adds_one v made event said = inl refl
+adds_one v made event said = grind (arith, nat_tests, entered_one, took_one)
 
 more_calls : (b : BoardValue) (r : Record) (past : List Record)
     → firmware_history b (r ∷ past)

@@ -1,4 +1,7 @@
 -- What a legal record leaves of the firmware's values.
+use Rattle.psci_fw_laws.specs.psci_fw_spec.Effects.{Nothing}
+use Rattle.std.proofs.lemmas.Bool.Decides.{nat_tests}
+use Rattle.std.proofs.Common.{arith}
 use Rattle.std.proofs.Common.{◌≡◌, ℕ, Bool, true, false, ◌==◌, cond, List, [], ◌∷◌}
 use Rattle.std.proofs.Common.{◌++◌, Option, None, Some, refl, subst, ap, sym, ◌∙◌}
 use Rattle.std.specs.Prelude.{nat_lt}
@@ -9,8 +12,7 @@ use Rattle.psci_headline.proofs.Words.{MessageValue, IsAllowed, Event, Call, Ent
 use Rattle.psci_headline.proofs.Words.{Running, Stopped, Record, Said, Fw, Absent, Sent, acks, call}
 use Rattle.psci_headline.proofs.Words.{controller_values, entered, firmware_values, outcome_in}
 use Rattle.psci_headline.proofs.Words.{if_started, place, enters_or_resumes, enters_or_resumes_by}
-use Rattle.psci_fw_laws.specs.psci_fw_spec.declared.outcome.Act.TheVariants as acts
-use Rattle.psci_fw_laws.specs.psci_fw_spec.Effects.{Nothing}
+use Rattle.psci_headline.proofs.Words.{Nothing}
 use Rattle.psci_world_spec.specs.Histories.{firmware_history}
 use Rattle.psci_world_spec.specs.Legal.{legal, on_board}
 use Rattle.psci_headline.proofs.Functions.{call_ends}
@@ -28,10 +30,7 @@ record EntersOrResumes (b : BoardValue) (c : ℕ) (es : List FwExchange) : Type 
 enters_by : (c : ℕ) (s : Start) (act : Act) (m : Option MessageValue)
     → enters_or_resumes_by act ≡ true
     → enter_effect c s act m ≡ Enters c s
-enters_by c s (acts.Return code) m e = absurd (cc)
-enters_by c s acts.Stop m e = absurd (cc)
-enters_by c s (acts.Enter address context) m e = refl
-enters_by c s acts.Resume m e = refl
+enters_by c s x2 m e = grind (arith, nat_tests)
 
 -- without a start nothing is said of an entry
 not_started : (b : BoardValue) (past : List Record) (c : ℕ) (p : Place) (act : Act)

@@ -1,14 +1,13 @@
 -- What is known after a legal record: cores that go on, and what acknowledgements say.
+use Rattle.std.proofs.lemmas.Bool.Decides.{nat_tests}
 use Rattle.std.proofs.Common.{◌≡◌, ℕ, zero, suc, ◌<◌, ◌≤◌, inl, inr, true}
 use Rattle.std.proofs.Common.{List, ◌∷◌, ◌++◌, Option, None, Some, refl, subst, ap}
 use Rattle.std.proofs.Common.{sym, ◌∙◌, arith}
 use Rattle.std.specs.Prelude.{slice_get}
-use Rattle.psci_headline.proofs.Words.{BoardValue, change, Enters, in_life, Away, listed, Values}
-use Rattle.psci_headline.proofs.Words.{Down, AckValue, Holds, Deliver, Record, ack_in, call}
-use Rattle.psci_headline.proofs.Words.{controller_values, firmware_values, sent, legal}
-use Rattle.psci_headline.proofs.Words.{enters_or_resumes, was_powered_down}
+use Rattle.psci_headline.proofs.Words.{BoardValue, Away, listed, Values, Down, AckValue, Holds}
+use Rattle.psci_headline.proofs.Words.{Deliver, Record, ack_in, controller_values, firmware_values}
+use Rattle.psci_headline.proofs.Words.{sent, legal, enters_or_resumes, was_powered_down}
 use Rattle.psci_fw_laws.specs.psci_fw_spec.declared.status.Status.TheVariants as statuses
-use Rattle.psci_fw_laws.specs.psci_fw_spec.History as remembers
 use Rattle.psci_fw_laws.specs.psci_fw_spec.Phases.{Running}
 use Rattle.psci_fw_laws.proofs.Parts.{updated_here}
 use Rattle.psci_world_spec.specs.Histories.{acks, firmware_history}
@@ -36,15 +35,7 @@ pub goes_running : (b : BoardValue) (r : Record) (past : List Record) (c : ℕ) 
     → enters_or_resumes c r.event r.said ≡ true
     → ((firmware_values b (r ∷ past)).phase c ≡ Running)
     × ((firmware_values b (r ∷ past)).status c ≡ statuses.On)
-goes_running b r past c next by =
-    let went = next.moves.goes c by in
-    let v : Values = firmware_values b past in
-    let is : firmware_values b (r ∷ past) ≡ change b (Enters c went.0) v =
-    next.moves.values ∙ ap (λ e. change b e v) went.1 in
-    let found : Values = in_life b went.0.life v in (
-      ap (λ (w : Values). w.phase c) is ∙ updated_here found.phase c Running,
-      ap (λ (w : Values). w.status c) is ∙ updated_here found.status c statuses.On,
-    )
+goes_running b r past c next by = grind (arith, nat_tests, updated_here)
 
 -- Acknowledgements -----------------------------------------------------------------------------
 
@@ -104,9 +95,7 @@ acks_more r past = refl
 asks_nothing : (b : BoardValue) (r : Record) (past : List Record) (k : ℕ) → r.event ≡ Deliver k
     → firmware_values b (r ∷ past) ≡ firmware_values b past
 unfolding firmware_history
-asks_nothing b r past k e =
-    ap (λ x. remembers.values_of b (call (controller_values b past) (acks past) x r.said
-    ++ firmware_history b past)) e
+asks_nothing b r past k e = grind (arith, nat_tests)
 
 new_down : (b : BoardValue) (r : Record) (past : List Record) (a : AckValue) → CoreLaws b
     → IsNext b r past → ack_in r.said ≡ Some a → a.kind ≡ Down → 0 < a.applied

@@ -1,6 +1,8 @@
 -- A core that is reported OFF does not run, and was powered down since it last went on.
+use Rattle.std.proofs.lemmas.Bool.Decides.{nat_tests}
+use Rattle.std.proofs.Common.{arith}
 use Rattle.std.proofs.Common.{◌≡◌, ℕ, ◌<◌, Bool, true, false, ◌==◌, cond, List, Option, None, Some}
-use Rattle.std.proofs.Common.{refl, subst, sym, ◌∙◌}
+use Rattle.std.proofs.Common.{refl, sym, ◌∙◌}
 use Rattle.psci_headline.proofs.Words.{BoardValue, cores, Status, Off, AreValues, start_of_life}
 use Rattle.psci_headline.proofs.Words.{Values, Running, Stopped, Record, controller_values}
 use Rattle.psci_headline.proofs.Words.{firmware_values, IsLegalPast, place, Agree, OffIsDown}
@@ -16,10 +18,7 @@ none_runs false e = absurd (cc)
 
 off_not_running : (s : Status) (p : phases.Phase) → agrees s p ≡ true → s ≡ Off
     → p ≡ phases.Running → ⊥
-off_not_running s p agree off runs =
-    let no : agrees Off phases.Running ≡ true =
-    subst (λ x. agrees Off x ≡ true) runs (subst (λ x. agrees x p ≡ true) off agree) in
-    absurd (cc)
+off_not_running s p agree off runs = grind (arith, nat_tests)
 
 by_life : (b : BoardValue) (v : Values) (c life : ℕ) (t : Bool) → AreValues b v → v.status c ≡ Off
     → (cond t v (start_of_life b life)).phase c ≡ phases.Running → ⊥

@@ -1,4 +1,5 @@
 -- Entries take up openings, each one of its own, where the tests say so.
+use Rattle.std.proofs.lemmas.Bool.Decides.{nat_tests}
 use Rattle.std.proofs.Common.{◌≡◌, ◌==◌, ◌&&◌, ◌↔◌, ℕ, zero, suc, true, not, List, []}
 use Rattle.std.proofs.Common.{◌∷◌, Option, None, Some, slice_get, refl, sym, ap, ◌∙◌, arith, inl}
 use Rattle.std.proofs.Common.{inr}
@@ -15,18 +16,11 @@ use Rattle.psci_headline.proofs.Ranges.{all_items, each_item}
 -- One entry -----------------------------------------------------------------------------------
 
 opening_same : (o p : Opening) → (o.address == p.address && o.context == p.context) ≡ true → o ≡ p
-opening_same o p e =
-    let parts = and_parts (o.address == p.address) (o.context == p.context) e in
-    let address : o.address ≡ p.address = eqb-true o.address p.address parts.0 in
-    let context : o.context ≡ p.context = eqb-true o.context p.context parts.1 in
-    λ i. record { address = address i; context = context i }
+opening_same o p e = grind (arith, nat_tests, and_parts, eqb-true)
 
 opening_itself : (o p : Opening) → o ≡ p
     → (o.address == p.address && o.context == p.context) ≡ true
-opening_itself o p same =
-    and_from (o.address == p.address) (o.context == p.context)
-    (eq-eqb o.address p.address (ap (λ (x : Opening). x.address) same))
-    (eq-eqb o.context p.context (ap (λ (x : Opening). x.context) same))
+opening_itself o p same = grind (arith, nat_tests, and_from, eq-eqb)
 
 -- an opening that fits
 abbrev HasFit : TakenUp → Type 0
@@ -57,10 +51,7 @@ fitting t (m, is, f) =
 -- No two --------------------------------------------------------------------------------------
 
 maker_same : (m n : Maker) → is_same_maker m n ≡ true → m ≡ n
-maker_same (OfLife life) (OfLife other) e = ap OfLife (eqb-true life other e)
-maker_same (OfCall before) (OfCall other) e = ap OfCall (eqb-true before other e)
-maker_same (OfLife life) (OfCall other) e = absurd (cc)
-maker_same (OfCall before) (OfLife other) e = absurd (cc)
+maker_same x0 x1 e = grind (arith, nat_tests, eqb-true)
 
 maker_itself : (m : Maker) → is_same_maker m m ≡ true
 maker_itself (OfLife life) = eq-eqb life life refl
@@ -75,10 +66,7 @@ record AreSame (made other : Option Made) : Type 0 where
   maker : one.maker ≡ two.maker
 
 same_made : (made other : Option Made) → is_same_made made other ≡ true → AreSame made other
-same_made (Some m) (Some n) e =
-    record { one = m; two = n; is = refl; so = refl; maker = maker_same m.maker n.maker e }
-same_made (Some m) None e = absurd (cc)
-same_made None other e = absurd (cc)
+same_made x0 other e = grind (arith, nat_tests, maker_same)
 
 made_same : (made other : Option Made) (m n : Made) → made ≡ Some m → other ≡ Some n
     → m.maker ≡ n.maker → is_same_made made other ≡ true
@@ -95,11 +83,7 @@ later_apart : (t : TakenUp) (ts : List TakenUp) (k : ℕ) (u : TakenUp) (m n : M
     → are_apart (t ∷ ts) ≡ true → slice_get ts k ≡ Some u → t.made ≡ Some m → u.made ≡ Some n
     → m.maker ≡ n.maker → ⊥
 later_apart t ts k u m n e at is so maker =
-    let apart : not (is_same_made t.made u.made) ≡ true =
-    each_item (λ x. not (is_same_made t.made x.made)) ts k u
-    (and_parts (list_all (λ x. not (is_same_made t.made x.made)) ts) (are_apart ts) e).0 at in
-    both_ways (is_same_made t.made u.made) (not-true _ apart)
-    (made_same t.made u.made m n is so maker)
+    grind (arith, nat_tests, each_item, and_parts, both_ways, not-true, made_same)
 
 once : (ts : List TakenUp) → are_apart ts ≡ true → AreOnce ts
 once [] e j k t u m n at too is so maker = absurd (cc)

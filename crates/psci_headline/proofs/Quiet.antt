@@ -1,12 +1,12 @@
 -- Below a domain with a live claim no core executes.
+use Rattle.std.proofs.lemmas.Bool.Decides.{nat_tests}
 use Rattle.std.proofs.Common.{◌≡◌, ℕ, ◌<◌, ◌≤◌, true, ◌==◌, List, refl, arith}
 use Rattle.std.proofs.Common.{sym, ◌∙◌, subst}
 use Rattle.std.proofs.lemmas.Bool.{cond_both, eqb-false, false≢true}
 use Rattle.psci_headline.proofs.Words.{BoardValue, cores, PathLaws, MessageValue, in_life}
 use Rattle.psci_headline.proofs.Words.{start_of_life, sent_messages, Values, IsClaimOn, Holds}
-use Rattle.psci_headline.proofs.Words.{AreLive, Place, Started, Running, Stopped, Record}
-use Rattle.psci_headline.proofs.Words.{controller_values, firmware_history, firmware_values, sent}
-use Rattle.psci_headline.proofs.Words.{place, Agree, AgreeIn, executes}
+use Rattle.psci_headline.proofs.Words.{AreLive, Place, Record, controller_values, firmware_history}
+use Rattle.psci_headline.proofs.Words.{firmware_values, sent, place, Agree, AgreeIn, executes}
 use Rattle.psci_ctl_spec.specs.Follows.{AreValues}
 use Rattle.psci_fw_laws.specs.psci_fw_spec.Phases as phases
 use Rattle.psci_fw_laws.proofs.Arriving.{first_holds, found_life}
@@ -34,10 +34,7 @@ in_life_holds b v ms life begun last holds =
 at_rest : (b : BoardValue) (starts : ℕ → ℕ) (places : ℕ → Place) (v : Values) (c : ℕ) (p : Place)
     → AgreeIn b starts places v → c < cores b → v.known c ≡ starts c
     → (v.phase c ≡ phases.Running → ⊥) → places c ≡ p → executes p ≡ true → ⊥
-at_rest b starts places v c Started agree on known rests e x =
-    omega (arith, agree.waits c on e, known)
-at_rest b starts places v c Running agree on known rests e x = rests (agree.runs c on e)
-at_rest b starts places v c Stopped agree on known rests e x = false≢true x
+at_rest b starts places v c x5 agree on known rests e x = grind (arith, nat_tests, false≢true)
 
 pub none_executes : (b : BoardValue) (past : List Record) → PathLaws b
     → AreValues b (controller_values b past)

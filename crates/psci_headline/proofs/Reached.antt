@@ -1,5 +1,6 @@
 -- Where the world settles: the power controller's life goes on there, and is not halting.
-use Rattle.std.proofs.Common.{◌≡◌, ℕ, ◌+◌, inl, inr, false, List, Some, refl, arith, ap, sym, ◌∙◌}
+use Rattle.std.proofs.lemmas.Bool.Decides.{nat_tests}
+use Rattle.std.proofs.Common.{◌≡◌, ℕ, ◌+◌, inl, false, List, Some, refl, arith, ap, sym, ◌∙◌}
 use Rattle.std.proofs.lemmas.Option.{same_Some}
 use Rattle.psci_headline.proofs.Words.{BoardValue, height, MessageValue, Values, Record}
 use Rattle.psci_headline.proofs.Words.{firmware_values, sent, IsLegalPast, indexed, AreAtRest}
@@ -20,13 +21,7 @@ use Rattle.psci_headline.proofs.Whole.{LifeGoesOn, going_life}
 first_count : (b : BoardValue) (before : List Record) (life : ℕ) (past : List Record) (k : ℕ)
     (m : MessageValue) → IsUnderWay b before life past → indexed (sent past) k ≡ Some m
     → m.kind ≡ kinds.Down → deliveries k past ≡ deliveries k before
-first_count b before life past k m way at kind = elim (way.count k) [
-  | inl same ↦ same
-  | inr start ↦
-      let same : m ≡ start.message = same_Some m start.message (sym at ∙ start.at) in
-      let no : kinds.Down ≡ kinds.Start =
-      sym kind ∙ ap (λ (x : MessageValue). x.kind) same ∙ start.kind in absurd (cc)
-]
+first_count b before life past k m way at kind = grind (arith, nat_tests, same_Some)
 
 first_round : (b : BoardValue) (before : List Record) (life : ℕ) (past : List Record)
     → SettleLaws b → HasBegun b before life past → IsRound b before life 0 past

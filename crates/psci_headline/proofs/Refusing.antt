@@ -1,7 +1,8 @@
 -- No core at its place is refused.
-use Rattle.std.proofs.Common.{◌≡◌, ◌⊎◌, ℕ, ◌<◌, ◌≤◌, ◌==◌, ◌&&◌, ◌||◌, Bool, true, false, cond, not}
-use Rattle.std.proofs.Common.{Option, None, Some, refl, arith, subst, ap, sym, ◌∙◌, inl, inr}
-use Rattle.std.specs.Prelude.{nat_le, nat_lt}
+use Rattle.std.proofs.lemmas.Bool.Decides.{nat_tests}
+use Rattle.std.proofs.Common.{◌≡◌, ℕ, ◌<◌, ◌≤◌, ◌==◌, Bool, true, false, cond, not}
+use Rattle.std.proofs.Common.{Option, None, Some, refl, arith, subst, ap, sym, ◌∙◌}
+use Rattle.std.specs.Prelude.{nat_lt}
 use Rattle.std.proofs.lemmas.Bool.{and_left, and_right, cases_eq, cond-false, le-ltb}
 use Rattle.std.proofs.lemmas.Bool.{lt-leb, lt-ltb, ne_eqb, or_from}
 use Rattle.psci_headline.proofs.Words.{BoardValue, cores, Start, last_start, start_shown}
@@ -22,11 +23,7 @@ record IsAlive (u : controlled.Values) : Type 0 where
 
 alive : (b : BoardValue) (u : controlled.Values) (place : ℕ → Place) (v : Values) (c : ℕ)
     → AreAgreed b u place v → (place c ≡ Stopped → ⊥) → IsAlive u
-alive b u place v c h ne = by_life u.life refl
-  where
-    by_life : (o : Option ℕ) → u.life ≡ o → IsAlive u
-    by_life None e = absurd (ne (h.stopped e c))
-    by_life (Some life) e = record { life = life; is = e }
+alive b u place v c h ne = grind (arith, nat_tests)
 
 -- Calls ----------------------------------------------------------------------------------------
 
@@ -81,25 +78,12 @@ record IsNew (b : BoardValue) (v : Values) (c : ℕ) (s : Start) : Type 0 where
 not_old : (b : BoardValue) (v : Values) (c : ℕ) (s : Start) → IsNew b v c s
     → is_old b v c s ≡ false
 not_old b v c s new =
-    or_from (nat_lt s.life v.life) _ (le-ltb s.life v.life new.life)
-    (or_from (s.number == 0) _ (ne_eqb s.number 0 (λ e. omega (arith, e, new.some)))
-    (or_from (nat_lt b.starts s.number) _ (le-ltb b.starts s.number new.most)
-    (by_cases (cases_eq s.life v.life))))
-  where
-    by_cases : (s.life ≡ v.life) ⊎ (s.life ≡ v.life → ⊥)
-        → (s.life == v.life && nat_le s.number (v.known c)) ≡ false
-    by_cases (inl e) =
-        and_right (s.life == v.life) _ (lt-leb s.number (v.known c) (new.later e))
-    by_cases (inr ne) = and_left (s.life == v.life) _ (ne_eqb s.life v.life ne)
+    grind (arith, nat_tests, or_from, le-ltb, ne_eqb, cases_eq, and_right, lt-leb, and_left)
 
 new_passed : (b : BoardValue) (v : Values) (c : ℕ) (s : Start) → c < cores b → IsNew b v c s
     → enter_fault b v c s ≡ None
 new_passed b v c s on new =
-    enter_passes (not (nat_lt c (cores b))) (s.life == 0 || nat_lt b.lives s.life)
-    (is_old b v c s) (there b c on)
-    (or_from (s.life == 0) _ (ne_eqb s.life 0 (λ e. omega (arith, e, new.begun)))
-    (le-ltb b.lives s.life new.lives))
-    (not_old b v c s new)
+    grind (arith, nat_tests, enter_passes, there, or_from, ne_eqb, le-ltb, not_old)
 
 pub enter_passed : (b : BoardValue) (u : controlled.Values) (place : ℕ → Place) (v : Values)
     (c : ℕ) → controlling.AreValues b u → AreAgreed b u place v → c < cores b

@@ -1,12 +1,11 @@
 -- What a record says that a call returned is what its function answers, in a life.
+use Rattle.std.proofs.lemmas.Bool.Decides.{nat_tests}
 use Rattle.std.proofs.Common.{◌≡◌, ℕ, zero, suc, ◌<◌, Bool, true, false, ◌==◌, cond, List, ◌++◌}
 use Rattle.std.proofs.Common.{Option, None, Some, refl, ap, sym, ◌∙◌, arith, not}
-use Rattle.std.specs.Prelude.{nat_lt}
-use Rattle.psci_headline.proofs.Words.{request_of, Code, Regs, Request, BoardValue, cores, FwFault}
-use Rattle.psci_headline.proofs.Words.{Outcome, reply_or, call_fault, IsLegal, stops, is_running}
-use Rattle.psci_headline.proofs.Words.{Values, Event, Call, Record, Said, Fw, Sent, acks, call}
-use Rattle.psci_headline.proofs.Words.{controller_values, firmware_history, firmware_values}
-use Rattle.psci_headline.proofs.Words.{outcome_in}
+use Rattle.psci_headline.proofs.Words.{request_of, Code, Regs, Request, BoardValue, FwFault}
+use Rattle.psci_headline.proofs.Words.{Outcome, reply_or, call_fault, IsLegal, stops, Values, Event}
+use Rattle.psci_headline.proofs.Words.{Call, Record, Said, Fw, Sent, acks, call, controller_values}
+use Rattle.psci_headline.proofs.Words.{firmware_history, firmware_values, outcome_in}
 use Rattle.psci_fw_laws.specs.psci_fw_spec.declared.call.FwCall.TheVariants.{Smc}
 use Rattle.psci_fw_laws.specs.psci_fw_spec.declared.fault.FwFault.TheVariants.{NoCore, NoLife}
 use Rattle.psci_fw_laws.specs.psci_fw_spec.declared.fault.FwFault.TheVariants.{NotRunning}
@@ -47,12 +46,7 @@ some_life (suc life) s t u is e = omega arith
 by_fault : (b : BoardValue) (v : Values) (d : ℕ) (r : Request) (code : Code) (o : Outcome)
     (f : Option FwFault) → call_fault b v d ≡ f → o.act ≡ acts.Return code
     → replies.Out o ≡ reply_or f (outcome_of b v d r) → IsReturned b v d r code
-by_fault b v d r code o (Some fault) none act e = absurd (cc)
-by_fault b v d r code o None none act e =
-    let same : o ≡ outcome_of b v d r = cc in
-    by_outcome b v d r code o
-    (some_life v.life (nat_lt d (cores b)) (v.life == 0) (is_running (v.phase d)) refl none) act
-    same
+by_fault b v d r code o x6 none act e = grind (arith, nat_tests, by_outcome, some_life)
 
 by_answer : (b : BoardValue) (v : Values) (d : ℕ) (regs : Regs) (code : Code) (o : Outcome)
     → o.act ≡ acts.Return code → replies.Out o ≡ answer b v d (Smc regs)

@@ -1,6 +1,7 @@
 -- One round: what is outstanding for each core is served once.
-use Rattle.std.proofs.Common.{◌≡◌, ℕ, suc, ◌⊎◌, inl, inr, ◌+◌, ◌-◌, ◌≤◌, Bool, true, false, ◌==◌}
-use Rattle.std.proofs.Common.{cond, List, length, Option, None, Some, refl, arith, subst, ap, sym}
+use Rattle.std.proofs.lemmas.Bool.Decides.{nat_tests}
+use Rattle.std.proofs.Common.{◌≡◌, ℕ, suc, ◌⊎◌, inl, inr, ◌+◌, ◌≤◌, Bool, true, false, ◌==◌}
+use Rattle.std.proofs.Common.{cond, List, Option, None, Some, arith, subst, ap, sym}
 use Rattle.std.proofs.Common.{◌∙◌}
 use Rattle.std.specs.Prelude.{slice_get}
 use Rattle.std.proofs.lemmas.Bool.{cond-true, cond-false, eq-eqb, ne_eqb}
@@ -64,12 +65,7 @@ pub one_index : (b : BoardValue) (before : List Record) (life : ℕ) (past : Lis
     → m.kind ≡ kinds.Down → indexed (sent past) j ≡ Some m → indexed (sent past) k ≡ Some m
     → j ≡ k
 one_index b before life past j k m laws going kind at_j at_k =
-    let one = indexed_at (sent past) j m at_j in
-    let other = indexed_at (sent past) k m at_k in
-    let same = once_down b (firmware_values b past) (sent past)
-    (laws.past past going.legal).given.holds (length (sent past) - 1 - j)
-    (length (sent past) - 1 - k) m m one.1 other.1 kind kind refl refl refl in
-    omega (arith, one.0, other.0, same)
+    grind (arith, nat_tests, indexed_at, once_down)
 
 count_most : (t : Bool) → cond {A = ℕ} t 1 0 ≤ 1
 count_most true = omega arith
@@ -83,11 +79,7 @@ deep_moved : (b : BoardValue) (life r c : ℕ) (past next : List Record)
     → AreDeep b life (controller_values b past).starts (controller_values b next).depth (sent past)
     r c
     → DeepAt b life r c next
-deep_moved b life r c past next messages starts deep =
-    subst (λ l. AreDeep b life (controller_values b next).starts (controller_values b next).depth l
-    r c) (sym messages)
-    (subst (λ s. AreDeep b life s (controller_values b next).depth (sent past) r c) (sym starts)
-    deep)
+deep_moved b life r c past next messages starts deep = grind (arith, nat_tests)
 
 -- a live part that may not have its depth is of the outstanding Down
 pub deep_or_out : (b : BoardValue) (before : List Record) (life : ℕ) (past : List Record)

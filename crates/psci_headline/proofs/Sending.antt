@@ -1,13 +1,13 @@
 -- The messages of a legal run are those that the firmware's history says were sent.
+use Rattle.std.proofs.lemmas.Bool.Decides.{nat_tests}
+use Rattle.std.proofs.Common.{arith}
 use Rattle.std.proofs.Common.{◌≡◌, ℕ, true, List, [], ◌∷◌, ◌++◌, Option, None, Some, refl}
-use Rattle.std.proofs.Common.{option_map, ap, sym, ◌∙◌, subst}
+use Rattle.std.proofs.Common.{option_map, subst}
 use Rattle.psci_headline.proofs.Words.{request_of, Regs, BoardValue, Start, last_start, AckValue}
 use Rattle.psci_headline.proofs.Words.{MessageValue, Taken, call_fault, enter_fault, IsLegal}
-use Rattle.psci_headline.proofs.Words.{listed, Event, Call, Enter, Wake, Reset, Deliver, Take}
-use Rattle.psci_headline.proofs.Words.{Record, Said, acks, call, controller_values, entered}
-use Rattle.psci_headline.proofs.Words.{firmware_values, outcome_in, sent_in, took, IsLegalPast}
-use Rattle.psci_headline.proofs.Words.{legal, indexed}
-use Rattle.psci_ctl_spec.specs.psci_messages.declared.taken.Taken.TheVariants as takens
+use Rattle.psci_headline.proofs.Words.{listed, Event, Call, Enter, Record, Said, acks, call}
+use Rattle.psci_headline.proofs.Words.{controller_values, entered, firmware_values, outcome_in}
+use Rattle.psci_headline.proofs.Words.{sent_in, took, IsLegalPast, legal}
 use Rattle.psci_fw_laws.specs.psci_fw_spec.Answer.{answer}
 use Rattle.psci_fw_laws.specs.psci_fw_spec.Exchange as firmware
 use Rattle.psci_fw_laws.specs.psci_fw_spec.Said as says
@@ -35,9 +35,7 @@ one_entry : (b : BoardValue) (e : firmware.FwExchange) (h : List firmware.FwExch
     (o : Option MessageValue) (l : List MessageValue) → says.sent (firmware.effect b e) ≡ o
     → l ≡ sent_messages b h → listed o ++ l ≡ sent_messages b (e ∷ h)
 unfolding sent_messages
-one_entry b e h o l sends same =
-    ap (λ (x : List MessageValue). listed o ++ x) same
-    ∙ ap (λ (x : Option MessageValue). listed x ++ sent_messages b h) (sym sends)
+one_entry b e h o l sends same = grind (arith, nat_tests)
 
 call_same : (b : BoardValue) (past : List Record) (c : ℕ) (regs : Regs) (s : Said)
     → sent past ≡ sent_messages b (firmware_history b past)
@@ -77,37 +75,23 @@ enter_same b past c s same is e = same
 took_none : (b : BoardValue) (h : List firmware.FwExchange) (o : Option AckValue) (t : Taken)
     → sent_messages b (took o t ++ h) ≡ sent_messages b h
 unfolding sent_messages
-took_none b h None t = refl
-took_none b h (Some a) takens.Used = refl
-took_none b h (Some a) takens.Old = refl
+took_none b h x2 t = grind (arith, nat_tests)
 
 -- an event that sends nothing adds no exchange, or one of an acknowledgement
 quiet_call : (b : BoardValue) (past : List Record) (event : Event) (s : Said)
     → is_quiet event ≡ true → sent_messages b (after_call b past event s)
     ≡ sent_messages b (firmware_history b past)
-quiet_call b past (Call c regs) s q = absurd (cc)
-quiet_call b past (Enter c) s q = absurd (cc)
-quiet_call b past (Take k) (said.Taken taken) q =
-    took_none b (firmware_history b past) (indexed (acks past) k) taken
-quiet_call b past event s q = refl
+quiet_call b past event s q = grind (arith, nat_tests, took_none)
 
 quiet_same : (b : BoardValue) (past : List Record) (event : Event) (s : Said)
     → sent past ≡ sent_messages b (firmware_history b past) → s ≡ legal b past event
     → is_quiet event ≡ true → Same b past event s
-quiet_same b past event s same e q =
-    let none : sent_in s ≡ None = ap sent_in e ∙ sends_nothing b past event q in
-    ap (λ (o : Option MessageValue). listed o ++ sent past) none ∙ same
-    ∙ sym (quiet_call b past event s q)
+quiet_same b past event s same e q = grind (arith, nat_tests, sends_nothing, quiet_call)
 
 event_same : (b : BoardValue) (past : List Record) (event : Event) (s : Said)
     → sent past ≡ sent_messages b (firmware_history b past)
     → IsLegal b (after_call b past event s) → s ≡ legal b past event → Same b past event s
-event_same b past (Call c regs) s same is e = call_same b past c regs s same is
-event_same b past (Enter c) s same is e = enter_same b past c s same is e
-event_same b past (Wake c) s same is e = quiet_same b past (Wake c) s same e refl
-event_same b past (Reset c) s same is e = quiet_same b past (Reset c) s same e refl
-event_same b past (Deliver k) s same is e = quiet_same b past (Deliver k) s same e refl
-event_same b past (Take k) s same is e = quiet_same b past (Take k) s same e refl
+event_same b past x2 s same is e = grind (arith, nat_tests, call_same, enter_same, quiet_same)
 
 -- The whole run --------------------------------------------------------------------------------
 

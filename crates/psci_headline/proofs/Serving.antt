@@ -1,16 +1,15 @@
 -- What is so after a message of this life was delivered and its acknowledgement taken.
-use Rattle.std.proofs.Common.{◌≡◌, ℕ, ◌+◌, true, ◌==◌, cond, List, ◌∷◌, ◌++◌}
+use Rattle.std.proofs.lemmas.Bool.Decides.{nat_tests}
+use Rattle.std.proofs.Common.{arith}
+use Rattle.std.proofs.Common.{◌≡◌, ℕ, ◌+◌, ◌==◌, cond, List, ◌∷◌, ◌++◌}
 use Rattle.std.proofs.Common.{length, Some, unwrap_or, refl, ap}
 use Rattle.std.proofs.Common.{◌∙◌}
 use Rattle.std.proofs.lemmas.Bool.{eq-eqb}
-use Rattle.psci_headline.proofs.Words.{BoardValue, message_effect, ack_by, is_this_life, AckValue}
-use Rattle.psci_headline.proofs.Words.{MessageValue, Used, with_acknowledgement, Values, Deliver}
-use Rattle.psci_headline.proofs.Words.{Take, Record, Acked, ack_in, call, control}
-use Rattle.psci_headline.proofs.Words.{controller_values, delivered, firmware_values, sent_in, took}
-use Rattle.psci_headline.proofs.Words.{IsLegalPast, deliver, said_by, take, indexed}
+use Rattle.psci_headline.proofs.Words.{BoardValue, message_effect, ack_by, AckValue, MessageValue}
+use Rattle.psci_headline.proofs.Words.{Used, with_acknowledgement, Values, Deliver, Take, Record}
+use Rattle.psci_headline.proofs.Words.{Acked, ack_in, control, controller_values, delivered}
+use Rattle.psci_headline.proofs.Words.{firmware_values, sent_in, IsLegalPast, take, indexed}
 use Rattle.psci_headline.proofs.Words.{place_of_effect, listed, serving, step}
-use Rattle.psci_ctl_spec.specs.declared.delivery.Delivery.TheVariants as deliveries
-use Rattle.psci_ctl_spec.specs.declared.reply.CtlReply.TheVariants as replied
 use Rattle.psci_ctl_spec.specs.Changes.{after}
 use Rattle.psci_ctl_spec.specs.Changes as controlling
 use Rattle.psci_ctl_spec.specs.Effects.{effect_of}
@@ -19,8 +18,6 @@ use Rattle.psci_ctl_spec.specs.History as controls
 use Rattle.psci_ctl_spec.specs.Replies.{delivery_of, reply}
 use Rattle.psci_ctl_spec.specs.Values as controlled
 use Rattle.psci_headline.specs.psci_fw_spec.Answer.{answer}
-use Rattle.psci_headline.specs.psci_fw_spec.Exchange as firmware
-use Rattle.psci_headline.specs.psci_fw_spec.History as remembers
 use Rattle.psci_headline.specs.psci_fw_spec.Taking.{taken_by}
 use Rattle.psci_headline.specs.psci_world_spec.declared.said.Said.TheVariants.{Taken as Took}
 use Rattle.psci_headline.specs.psci_world_spec.Histories.{acks, controller_history}
@@ -43,12 +40,7 @@ delivery_said : (b : BoardValue) (past : List Record) (k : ℕ) (m : MessageValu
     → indexed (sent past) k ≡ Some m → (controller_values b past).life ≡ Some m.life
     → legal b past (Deliver k) ≡ Acked (length (acks past)) (ack_to b past m)
 unfolding legal reply delivery_of
-delivery_said b past k m at present =
-    let test : is_this_life (controller_values b past).life m.life ≡ true =
-    ap (λ o. is_this_life o m.life) present ∙ eq-eqb m.life m.life refl in
-    ap (deliver b past) at
-    ∙ ap (λ t. said_by (length (acks past)) (replied.Delivery
-    (cond t (deliveries.Applied (ack_to b past m)) deliveries.Ignored))) test
+delivery_said b past k m at present = grind (arith, nat_tests, eq-eqb)
 
 -- What is so after a delivery.
 record AreDelivered (b : BoardValue) (past : List Record) (k : ℕ) (m : MessageValue) : Type 0 where
@@ -110,23 +102,7 @@ taken_so : (b : BoardValue) (past : List Record) (k : ℕ) (a : AckValue) → Ru
     → indexed (acks past) k ≡ Some a → taken_by (firmware_values b past) a ≡ Used
     → AreTaken b past k a
 unfolding controller_history firmware_history sent place
-taken_so b past k a laws at used = record {
-  control = refl;
-  firmware = ap (λ s. remembers.values_of b (call w (acks past) (Take k) s ++ h)) said
-      ∙ ap (λ o. remembers.values_of b (took o Used ++ h)) at
-      ∙ laws.change _ h;
-  sent = ap (λ s. listed (sent_in s) ++ sent past) said;
-  place = λ x. refl;
-}
-  where
-    w : controlled.Values
-    w = controller_values b past
-
-    h : List firmware.FwExchange
-    h = firmware_history b past
-
-    said : legal b past (Take k) ≡ Took Used
-    said = taken_said b past k a at used
+taken_so b past k a laws at used = grind (arith, nat_tests, taken_said)
 
 -- Both -----------------------------------------------------------------------------------------
 

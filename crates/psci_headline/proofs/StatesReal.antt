@@ -1,9 +1,10 @@
 -- The hardware states that are said of domains were real, after every legal past.
+use Rattle.std.proofs.lemmas.Bool.Decides.{nat_tests}
 use Rattle.std.proofs.Common.{◌≡◌, ℕ, ◌<◌, inl, inr, Bool, true, false, not, ◌==◌, cond}
 use Rattle.std.proofs.Common.{List, [], ◌∷◌, Some, refl, subst, ap, sym, ◌∙◌, arith}
-use Rattle.std.specs.Prelude.{nat_le, nat_lt, slice_get}
+use Rattle.std.specs.Prelude.{nat_lt, slice_get}
 use Rattle.std.proofs.lemmas.Bool.{and_parts, and_right, ltb-true, ne_eqb}
-use Rattle.psci_headline.proofs.Words.{BoardValue, HasNode, height, up, PathLaws, Node, first_depth}
+use Rattle.psci_headline.proofs.Words.{BoardValue, HasNode, up, PathLaws, Node, first_depth}
 use Rattle.psci_headline.proofs.Words.{first_starts, On, AreValues, hw_at, hw_code, node_hw, Values}
 use Rattle.psci_headline.proofs.Words.{AckValue, IsAllowed, KnownLaws, WasMade, Record, acks}
 use Rattle.psci_headline.proofs.Words.{controller_values, firmware_values, IsLegalPast}
@@ -48,9 +49,7 @@ record AreReal (b : BoardValue) (past : List Record) : Type 0 where
 
 first_down : (b : BoardValue) (n : Node) → (up b n.level 0 ≡ n.place → ⊥)
     → first_depth b n.level n.place ≡ 3
-first_down b n off =
-    ap (λ t. cond t 0 3) (and_right (nat_le n.level (height b)) (up b n.level 0 == n.place)
-    (ne_eqb (up b n.level 0) n.place off))
+first_down b n off = grind (arith, nat_tests, and_right, ne_eqb)
 
 first_sum : (b : BoardValue) (n : Node) → KnownLaws b → (up b n.level 0 ≡ n.place → ⊥)
     → starts_below b first_starts n ≡ 0
@@ -88,21 +87,12 @@ fresh_next b r past life n laws next are has now unknown off =
 -- the same life, sum and depth
 so_still : (b : BoardValue) (past : List Record) (v w : Values) (n : Node)
     → Stays b v w n.level n.place → WasSo b past v n → WasSo b past w n
-so_still b past v w n s was =
-    subst (λ l. was_in_state b l (known_below b w.known n.level n.place)
-    (hw_at (w.granted n.level n.place)) past n ≡ true) (sym s.life)
-    (subst (λ k. was_in_state b v.life k (hw_at (w.granted n.level n.place)) past n ≡ true)
-    (sym s.known)
-    (subst (λ d. was_in_state b v.life (known_below b v.known n.level n.place) (hw_at d) past n
-    ≡ true) (sym s.granted) was))
+so_still b past v w n s was = grind (arith, nat_tests)
 
 so_first : (b : BoardValue) (past : List Record) (w : Values) (n : Node)
     → known_below b w.known n.level n.place ≡ 0 → w.granted n.level n.place ≡ 3
     → was_in_state b w.life 0 (hw_at 3) past n ≡ true → WasSo b past w n
-so_first b past w n known granted was =
-    subst (λ k. was_in_state b w.life k (hw_at (w.granted n.level n.place)) past n ≡ true)
-    (sym known)
-    (subst (λ d. was_in_state b w.life 0 (hw_at d) past n ≡ true) (sym granted) was)
+so_first b past w n known granted was = grind (arith, nat_tests)
 
 seen_by : (b : BoardValue) (r : Record) (past : List Record) (n : Node) → RealLaws b
     → IsLegalPast b past → (next : IsNext b r past) → AreReal b past → HasNode b n → (w : Values)

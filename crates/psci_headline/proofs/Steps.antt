@@ -1,6 +1,8 @@
 -- What is told, after one call of the firmware or of the power controller.
+use Rattle.psci_headline.specs.psci_fw_spec.Effects.{Nothing}
+use Rattle.std.proofs.lemmas.Bool.Decides.{nat_tests}
 use Rattle.std.proofs.Common.{◌≡◌, ℕ, inl, inr, ◌+◌, ◌<◌, ◌≤◌, Bool, true, false, ◌==◌, cond, List}
-use Rattle.std.proofs.Common.{Option, None, Some, refl, arith, subst, sym, ◌∙◌}
+use Rattle.std.proofs.Common.{Option, Some, refl, arith, subst, sym, ◌∙◌}
 use Rattle.std.specs.Prelude.{slice_get}
 use Rattle.std.proofs.lemmas.Bool.{cases_eq, cond_both}
 use Rattle.psci_headline.proofs.Words.{BoardValue, PathLaws, next_life, one_more, Start, AckValue}
@@ -13,8 +15,6 @@ use Rattle.psci_headline.specs.psci_ctl_spec.Changes as controlling
 use Rattle.psci_headline.specs.psci_ctl_spec.Effects as controlling_effects
 use Rattle.psci_headline.specs.psci_ctl_spec.Values as controlled
 use Rattle.psci_headline.specs.psci_fw_spec.declared.status.Status.TheVariants as statuses
-use Rattle.psci_headline.specs.psci_fw_spec.Effects.{Nothing}
-use Rattle.psci_headline.specs.psci_fw_spec.Lives.{first_confirmed}
 use Rattle.psci_headline.proofs.fw_laws.Arriving.{found_life}
 use Rattle.psci_headline.proofs.Agreeing.{found_other, found_own}
 use Rattle.psci_headline.proofs.Records.{IsOfRecord}
@@ -122,16 +122,11 @@ first_off false e = refl
 
 pub first : (b : BoardValue) (starts : ℕ → ℕ) (life : ℕ)
     → AreConfirming b starts (start_of_life b life)
-first b starts life = record {
-  domains = λ level place some. inl (first_confirmed_by (first_confirmed b level place) some);
-  cores = λ awake c on away. inl (first_off (c == 0) away);
-}
+first b starts life = grind (arith, nat_tests, first_confirmed_by, first_off)
 
 pub first_now : (b : BoardValue) (starts : ℕ → ℕ) (life : ℕ)
     → AreConfirming b starts (in_life b life (start_of_life b 0))
-first_now b starts life =
-    cond_both (life == 0) (start_of_life b 0) (start_of_life b life)
-    (λ u. AreConfirming b starts u) (λ e. first b starts 0) (λ e. first b starts life)
+first_now b starts life = grind (arith, nat_tests, cond_both, first)
 
 -- more starts
 later : (b : BoardValue) (starts more : ℕ → ℕ) (v : Values) → KnownLaws b
@@ -159,12 +154,7 @@ one_later false n = omega arith
 begins : (b : BoardValue) (w : controlled.Values) (v : Values) (o : Option ℕ) (life : ℕ)
     → ((l : ℕ) → w.life ≡ Some l → v.life ≤ l) → w.life ≡ o → next_life o ≡ Some life
     → (starts : ℕ → ℕ) → AreConfirming b starts (in_life b life v)
-begins b w v None life begun is e starts = absurd (cc)
-begins b w v (Some l) life begun is e starts =
-    let next : l + 1 ≡ life = cc in
-    subst (AreConfirming b starts)
-    (sym (found_other b life v (λ same. omega (arith, next, begun l is, same))))
-    (first b starts life)
+begins b w v x3 life begun is e starts = grind (arith, nat_tests, found_other, first)
 
 pub controlled_by : (b : BoardValue) (w : controlled.Values) (v : Values)
     (e : controlling_effects.Effect) → KnownLaws b

@@ -1,25 +1,21 @@
 -- What waits, after an acknowledgement was taken.
+use Rattle.std.proofs.lemmas.Bool.Decides.{nat_tests}
 use Rattle.std.proofs.Common.{◌≤◌}
 use Rattle.psci_headline.proofs.Pursuing.{waiting_moved}
-use Rattle.std.proofs.Common.{◌≡◌, ℕ, ◌⊎◌, inl, inr, Bool, true, false, ◌==◌, ◌&&◌, not, cond, List}
+use Rattle.std.proofs.Common.{◌≡◌, ℕ, ◌⊎◌, inl, inr, Bool, true, false, ◌&&◌, not, cond, List}
 use Rattle.std.proofs.Common.{length, Option, None, Some, refl, arith, subst, ap, sym, ◌∙◌}
 use Rattle.std.specs.Prelude.{slice_get}
 use Rattle.std.proofs.lemmas.Bool.{and_parts, cases_lt, eqb-true, leb-true, or_cases}
 use Rattle.std.proofs.lemmas.Option.{same_Some, slice_get_within}
 use Rattle.psci_headline.proofs.Words.{BoardValue, Part, Kind, Down, AckValue, MessageValue}
 use Rattle.psci_headline.proofs.Words.{Acknowledge, OfCore, Slot, answers, changed, is_done}
-use Rattle.psci_headline.proofs.Words.{is_kind, is_slot, slot_of, Phase, AreOutstanding, AreWaiting}
-use Rattle.psci_headline.proofs.Words.{IsLivePart, IsTold, WasTold, AwaitsStart}
-use Rattle.psci_ctl_spec.specs.psci_messages.declared.kind.Kind.TheVariants.{Start, Off, Reset}
+use Rattle.psci_headline.proofs.Words.{is_kind, Phase, AreOutstanding, AreWaiting, IsLivePart}
+use Rattle.psci_headline.proofs.Words.{IsTold, WasTold, AwaitsStart}
 
 -- Names ----------------------------------------------------------------------------------------
 
 pub same_kind : (k l : Kind) → is_kind k l ≡ true → k ≡ l
-same_kind Down Down e = refl
-same_kind Start Start e = refl
-same_kind Off Off e = refl
-same_kind Reset Reset e = refl
-same_kind k l e = absurd (cc)
+same_kind k l e = grind (arith, nat_tests)
 
 -- An acknowledgement has the name of a message.
 pub record HasName (a : AckValue) (m : MessageValue) : Type 0 where
@@ -29,16 +25,7 @@ pub record HasName (a : AckValue) (m : MessageValue) : Type 0 where
   pub number : a.number ≡ m.number
 
 pub named : (a : AckValue) (m : MessageValue) → answers a m ≡ true → HasName a m
-named a m e =
-    let kind = and_parts (is_kind a.kind m.kind) _ e in
-    let core = and_parts (a.core.number == m.core.number) _ kind.1 in
-    let rest = and_parts (a.life == m.life) _ core.1 in
-    record {
-      kind = same_kind a.kind m.kind kind.0;
-      core = eqb-true _ _ core.0;
-      life = eqb-true _ _ rest.0;
-      number = eqb-true _ _ rest.1;
-    }
+named a m e = grind (arith, nat_tests, and_parts, same_kind, eqb-true)
 
 -- The slot -------------------------------------------------------------------------------------
 
@@ -59,9 +46,7 @@ emptied_or a m true true e =
 pub still_or : (outstanding : Slot → Option MessageValue) (a : AckValue) (x : ℕ)
     (m : MessageValue) → outstanding (OfCore x) ≡ Some m
     → (changed (OfCore x) (Acknowledge a) (outstanding (OfCore x)) ≡ Some m) ⊎ IsEmptied a m
-still_or outstanding a x m e =
-    subst (λ o. (changed (OfCore x) (Acknowledge a) o ≡ Some m) ⊎ IsEmptied a m) (sym e)
-    (emptied_or a m (is_slot (slot_of a.kind a.core) (OfCore x)) (answers a m && is_done a m) refl)
+still_or outstanding a x m e = grind (arith, nat_tests, emptied_or)
 
 -- The acknowledgement --------------------------------------------------------------------------
 

@@ -1,8 +1,9 @@
 -- What a new acknowledgement says, once its message was carried out.
-use Rattle.psci_headline.proofs.Words.{ArePartsOf, AreClaims, BoardValue, height, up, Part}
-use Rattle.psci_headline.proofs.Words.{domain_of, AckLaws, applied, depth_or, is_stale, laid}
-use Rattle.psci_headline.proofs.Words.{ack_of, starts_below, is_on_path, Kind, Down, MessageValue}
-use Rattle.psci_headline.proofs.Words.{answers, is_kind, IsLivePart, IsTold}
+use Rattle.std.proofs.lemmas.Bool.Decides.{nat_tests}
+use Rattle.psci_headline.proofs.Words.{ArePartsOf, BoardValue, height, up, Part, domain_of, AckLaws}
+use Rattle.psci_headline.proofs.Words.{applied, depth_or, is_stale, laid, ack_of, starts_below}
+use Rattle.psci_headline.proofs.Words.{is_on_path, Kind, Down, MessageValue, answers, is_kind}
+use Rattle.psci_headline.proofs.Words.{IsLivePart, IsTold}
 use Rattle.std.proofs.Common.{◌≡◌, ℕ, zero, suc, ◌+◌, ◌-◌, ◌<◌, ◌≤◌, Bool, true, List, [], ◌∷◌}
 use Rattle.std.proofs.Common.{length, take, Some, refl, arith, subst, ap, sym, ◌∙◌}
 use Rattle.std.specs.Prelude.{slice_get}
@@ -20,22 +21,14 @@ own_kind k = refl
 -- an acknowledgement has the name of its message
 pub own_name : (m : MessageValue) (count : ℕ) (stale : Bool)
     → answers (ack_of m count stale) m ≡ true
-own_name m count stale =
-    and_from _ _ (own_kind m.kind) (and_from _ _ (eq-eqb m.core.number m.core.number refl)
-    (and_from _ _ (eq-eqb m.life m.life refl) (eq-eqb m.number m.number refl)))
+own_name m count stale = grind (arith, nat_tests, and_from, own_kind, eq-eqb)
 
 -- of a message that is no Down it says only that a core was started
 pub told_other : (b : BoardValue) (starts : ℕ → ℕ) (depth : ℕ → ℕ → ℕ) (m : MessageValue)
     (count : ℕ) (stale : Bool) → (m.kind ≡ Down → ⊥)
     → (m.kind ≡ Start → m.number < starts m.core.number)
     → IsTold b starts depth (ack_of m count stale) m
-told_other b starts depth m count stale other started = record {
-  answers = own_name m count stale;
-  few = λ kind. absurd (other kind);
-  applied = λ kind level p low part live. absurd (other kind);
-  stale = λ kind late level p high part live. absurd (other kind);
-  started = started;
-}
+told_other b starts depth m count stale other started = grind (arith, nat_tests, own_name)
 
 -- the part of the next lower level of a live part is live
 abbrev pub IsLiveBelow : BoardValue → (ℕ → ℕ) → MessageValue → Type 0
@@ -57,9 +50,7 @@ item_at (p ∷ ps) (suc k) low =
 -- so a Down has a first part
 pub first_part : (m : MessageValue) → m.kind ≡ Down → ArePartsOf m.kind m.parts
     → HasItem m.parts 0
-first_part m down are =
-    let claim : AreClaims m.parts = subst (λ k. ArePartsOf k m.parts) down are in
-    item_at m.parts 0 claim.some
+first_part m down are = grind (arith, nat_tests, item_at)
 
 -- so each lower part is
 pub live_down : (b : BoardValue) (starts : ℕ → ℕ) (m : MessageValue) → IsLiveBelow b starts m

@@ -1,13 +1,14 @@
 -- Power and claims at a moment are as they shall be where the tests say so.
+use Rattle.std.proofs.lemmas.Bool.Decides.{nat_tests}
 use Rattle.std.proofs.Common.{◌≡◌, ◌+◌, ◌≤◌, ◌<◌, ◌==◌, ◌||◌, ◌&&◌, ◌↔◌, ℕ, Bool, true}
-use Rattle.std.proofs.Common.{not, List, refl, arith}
+use Rattle.std.proofs.Common.{not, List, arith}
 use Rattle.std.proofs.Common.{length}
-use Rattle.std.proofs.Common.{is_some, inl, inr}
+use Rattle.std.proofs.Common.{is_some}
 use Rattle.std.specs.List.{list_all, range_with_len}
 use Rattle.std.proofs.lemmas.Bool.{and_from, and_parts, cases_eq, eq-eqb, eqb-true, le-leb}
 use Rattle.std.proofs.lemmas.Bool.{leb-true, or_cases, or_left, or_right}
 use Rattle.psci_headline.proofs.Words.{BoardValue, HasNode, cores, height, nodes, up, Node, Place}
-use Rattle.psci_headline.proofs.Words.{Started, Running, Stopped, Record, controller_values, place}
+use Rattle.psci_headline.proofs.Words.{Started, Running, Record, controller_values, place}
 use Rattle.psci_headline.proofs.Words.{live_claims, depth_at, executes, is_reported_off, OffIsDown}
 use Rattle.psci_headline.proofs.Words.{StatesWereReal}
 use Rattle.psci_headline.specs.Hardware.{is_said_asleep}
@@ -49,10 +50,7 @@ domain_passes b p n e has =
 
 domains_pass : (b : BoardValue) (p : Node → Bool) → ((n : Node) → HasNode b n → p n ≡ true)
     → at_each_domain b p ≡ true
-domains_pass b p h =
-    levels_pass b (on_level b p) (λ level low.
-    all_in (λ place. p (record { level = level; place = place })) 0 (nodes b level) (λ i o inside.
-    h (record { level = level; place = i }) (record { level = low; place = omega arith })))
+domains_pass b p h = grind (arith, nat_tests, levels_pass, all_in)
 
 -- Power ---------------------------------------------------------------------------------------
 
@@ -74,9 +72,7 @@ not_running Started e same = cc
 not_running p e same = cc
 
 pub still : (p : Place) → (p ≡ Running → ⊥) → not (executes_outside p) ≡ true
-still Started h = refl
-still Running h = absurd (h refl)
-still Stopped h = refl
+still x0 h = grind (arith, nat_tests)
 
 pub off_tested : (b : BoardValue) (past : List Record)
     → ((is_off_stopped b past && is_off_down b past) ≡ true) ↔ OffIsDown b past
@@ -107,17 +103,11 @@ one_tested b past = (
 -- deep, and then so claimed: as it is said of a domain, and as its test says it
 deep_claimed : (depth : ℕ) (claimed : Bool) → (depth == 0 || claimed) ≡ true → 0 < depth
     → claimed ≡ true
-deep_claimed depth claimed e deep = elim (or_cases (depth == 0) claimed e) [
-  | inl none ↦ absurd (omega (arith, eqb-true depth 0 none, deep))
-  | inr is ↦ is
-]
+deep_claimed depth claimed e deep = grind (arith, nat_tests, or_cases, eqb-true)
 
 claimed_deep : (depth : ℕ) (claimed : Bool) → (0 < depth → claimed ≡ true)
     → (depth == 0 || claimed) ≡ true
-claimed_deep depth claimed h = elim (cases_eq depth 0) [
-  | inl none ↦ or_left (depth == 0) claimed (eq-eqb depth 0 none)
-  | inr some ↦ or_right (depth == 0) claimed (h (omega (arith, some)))
-]
+claimed_deep depth claimed h = grind (arith, nat_tests, cases_eq, or_left, eq-eqb, or_right)
 
 pub asked_tested : (b : BoardValue) (past : List Record)
     → (is_asked b past ≡ true) ↔ NoDeeperThanAsked b past

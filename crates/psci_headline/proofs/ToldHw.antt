@@ -1,4 +1,5 @@
 -- What NODE_HW_STATE answers with HW_OFF or HW_STANDBY: the domain was so deep at some moment.
+use Rattle.std.proofs.lemmas.Bool.Decides.{nat_tests}
 use Rattle.std.proofs.Common.{◌≡◌, ℕ, zero, suc, ◌+◌, ◌<◌, ◌≤◌, Bool, true, false, not, ◌==◌, cond}
 use Rattle.std.proofs.Common.{List, [], ◌∷◌, Option, None, Some, refl, ap, sym, ◌∙◌, subst}
 use Rattle.std.proofs.Common.{arith, pos, inl, inr, option_map}
@@ -9,7 +10,7 @@ use Rattle.std.proofs.lemmas.Bool.{and_from, and_parts, cases_Bool, leb-true, lt
 use Rattle.std.proofs.lemmas.Bool.{or_right}
 use Rattle.std.proofs.lemmas.Option.{same_Some}
 use Rattle.psci_headline.proofs.Words.{request_of, Code, Request, BoardValue, HasNode, height}
-use Rattle.psci_headline.proofs.Words.{nodes, Node, is_this_life, starts_below, On, IsLegal, hw_at}
+use Rattle.psci_headline.proofs.Words.{nodes, Node, is_this_life, starts_below, IsLegal, hw_at}
 use Rattle.psci_headline.proofs.Words.{hw_code, node_hw, Values, Event, Call, Record, Said, Fw}
 use Rattle.psci_headline.proofs.Words.{controller_values, firmware_values, IsLegalPast}
 use Rattle.psci_headline.proofs.Words.{StatesWereReal}
@@ -33,16 +34,10 @@ abbrev IsOf : Hw → (ℕ → Bool) → Type 0
 IsOf h is = (depth : ℕ) → depth ≤ 3 → is_hw (hw_at depth) h ≡ true → is depth ≡ true
 
 of_off : IsOf Off is_off_depth
-of_off (suc (suc (suc zero))) low e = refl
-of_off (suc (suc (suc (suc depth)))) low e = absurd (omega (arith, low))
-of_off other low e = let no : false ≡ true = e in absurd (cc)
+of_off other low e = grind (arith, nat_tests)
 
 of_standby : IsOf Standby is_standby_depth
-of_standby zero low e = let no : false ≡ true = e in absurd (cc)
-of_standby (suc zero) low e = refl
-of_standby (suc (suc zero)) low e = refl
-of_standby (suc (suc (suc zero))) low e = let no : false ≡ true = e in absurd (cc)
-of_standby (suc (suc (suc (suc depth)))) low e = absurd (omega (arith, low))
+of_standby x0 low e = grind (arith, nat_tests)
 
 -- no domain is deeper than power-down, after each legal past
 abbrev pub AreShallow : BoardValue → Type 0
@@ -128,9 +123,7 @@ node_at b level true (Some i) n is inside e =
 named_node : (b : BoardValue) (word level : ℕ) (n : Node) → node_of b word level ≡ Some n
     → HasNode b n
 unfolding node_of
-named_node b word level n e =
-    node_at b level (nat_le level (height b)) _ n refl
-    (λ i at. omega (arith, find_inside _ 0 (nodes b level) i at)) e
+named_node b word level n e = grind (arith, nat_tests, node_at, find_inside)
 
 -- The answer ----------------------------------------------------------------------------------
 
@@ -170,14 +163,10 @@ unfolding firmware_history
 told_by b r past state n valid told = by_record b past state n r.event r.said valid told
 
 off_by : (h : Hw) → int_eq (pos (hw_code h)) (pos 1) ≡ true → h ≡ Off
-off_by On e = let no : false ≡ true = e in absurd (cc)
-off_by Off e = refl
-off_by Standby e = let no : false ≡ true = e in absurd (cc)
+off_by x0 e = grind (arith, nat_tests)
 
 standby_by : (h : Hw) → int_eq (pos (hw_code h)) (pos 2) ≡ true → h ≡ Standby
-standby_by On e = let no : false ≡ true = e in absurd (cc)
-standby_by Off e = let no : false ≡ true = e in absurd (cc)
-standby_by Standby e = refl
+standby_by x0 e = grind (arith, nat_tests)
 
 pub was_off : (b : BoardValue) (r : Record) (past : List Record) (n : Node) → AreShallow b
     → IsLegalPast b past → IsLegal b (firmware_history b (r ∷ past)) → StatesWereReal b past

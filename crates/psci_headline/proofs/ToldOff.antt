@@ -1,4 +1,5 @@
 -- What AFFINITY_INFO answers with OFF: each core of the domain is reported OFF.
+use Rattle.std.proofs.lemmas.Bool.Decides.{nat_tests}
 use Rattle.std.proofs.lemmas.Bool.{or_parts}
 use Rattle.std.proofs.Common.{◌≡◌, ℕ, zero, suc, ◌+◌, ◌<◌, ◌≤◌, Bool, true, false, ◌==◌, cond}
 use Rattle.std.proofs.Common.{List, ◌∷◌, filter, Option, None, Some, refl, ap, sym, ◌∙◌}
@@ -55,9 +56,7 @@ over_off false true e = absurd (cc)
 over_off false false e = (refl, refl)
 
 neither : (s : Status) → is_on s ≡ false → is_pending_status s ≡ false → s ≡ Off
-neither On on pending = absurd (cc)
-neither Off on pending = refl
-neither Pending on pending = absurd (cc)
+neither x0 on pending = grind (arith, nat_tests)
 
 -- each core below a domain whose status is OFF is OFF
 core_off : (b : BoardValue) (status : ℕ → Status) (n : Node) (c : ℕ) → PathLaws b
@@ -112,9 +111,7 @@ unfolding node_of
 low_node b word level n e = low_level b level (nat_le level (height b)) _ n refl e
 
 code_off : (s : Status) → int_eq (pos (status_code s)) (pos 1) ≡ true → s ≡ Off
-code_off On e = let no : false ≡ true = e in absurd (cc)
-code_off Off e = refl
-code_off Pending e = let no : false ≡ true = e in absurd (cc)
+code_off x0 e = grind (arith, nat_tests)
 
 pub if_so : (t : Bool) (o : Option Node) (n : Node) → cond t o None ≡ Some n
     → (t ≡ true) × (o ≡ Some n)

@@ -1,4 +1,5 @@
 -- Whether all cores of a domain are off, as a test that computes, and says the same.
+use Rattle.std.proofs.lemmas.Bool.Decides.{nat_tests}
 use Rattle.psci_headline.proofs.Tested.{not_running, still}
 use Rattle.std.proofs.Common.{◌≡◌, ℕ, Bool, true, false, ◌==◌, ◌&&◌, ◌||◌}
 use Rattle.std.proofs.Common.{not, List, ap, sym, ◌∙◌, arith, inl, inr}
@@ -39,10 +40,4 @@ tested_off b past n e c on at =
 pub off_tested : (b : BoardValue) (past : List Record) (n : Node) → AllOff b past n
     → is_all_off b past n ≡ true
 off_tested b past n all =
-    all_in (is_off_in b past n) 0 (cores b) (λ c low high.
-    elim (cases_Bool (up b n.level c == n.place)) [
-      | inl at ↦
-          let off = all c (omega (arith, high)) (eqb-true _ _ at) in
-          or_right _ _ (and_from _ _ (still (place b past c) off.0) off.1)
-      | inr other ↦ or_left _ _ (ap not other)
-    ])
+    grind (arith, nat_tests, all_in, cases_Bool, eqb-true, or_right, and_from, still, or_left)

@@ -1,4 +1,5 @@
 -- Openings that wait for their core, and those that an entry has taken up.
+use Rattle.std.proofs.lemmas.Bool.Decides.{nat_tests}
 use Rattle.std.proofs.Common.{◌≡◌, ℕ, zero, suc, ◌<◌, ◌≤◌, ◌==◌, ◌&&◌, List}
 use Rattle.std.proofs.Common.{[], ◌∷◌, Option, None, Some, refl, ap, sym, ◌∙◌, subst, arith}
 use Rattle.std.specs.Prelude.{slice_get}
@@ -13,15 +14,11 @@ use Rattle.psci_headline.proofs.Filters.{head_kept, head_left, is_kept}
 -- The newest opening ---------------------------------------------------------------------------
 
 newest_new : (m : Made) (made : List Made) → newest m.core m.life (m ∷ made) ≡ Some m
-newest_new m made =
-    head_kept m _ (m.core == m.core && m.life == m.life)
-    (and_from _ _ (eq-eqb m.core m.core refl) (eq-eqb m.life m.life refl))
+newest_new m made = grind (arith, nat_tests, head_kept, and_from, eq-eqb)
 
 newest_old : (c life : ℕ) (m : Made) (made : List Made) → (c ≡ m.core → ⊥)
     → newest c life (m ∷ made) ≡ newest c life made
-newest_old c life m made other =
-    head_left m _ (m.core == c && m.life == life)
-    (λ e. other (sym (eqb-true _ _ (and_parts (m.core == c) _ e).0)))
+newest_old c life m made other = grind (arith, nat_tests, head_left, eqb-true, and_parts)
 
 -- An opening that was made for a core in a life.
 pub record IsMade (c life : ℕ) (made : List Made) (m : Made) : Type 0 where
@@ -86,14 +83,7 @@ pub record AreWaiting (n life : ℕ) (opening : ℕ → Option Opening) (made : 
       → slice_get taken k ≡ Some u → t.made ≡ Some m → u.made ≡ Some l → m.maker ≡ l.maker → j ≡ k
 
 pub none_waiting : (b : BoardValue) → AreWaiting 0 0 (first_opening b) [] []
-none_waiting b = record {
-  waits = λ some. absurd (omega arith);
-  older = λ k m at. absurd (cc);
-  single = λ j k l m at. absurd (cc);
-  past = λ k t m at. absurd (cc);
-  each = λ k t at. absurd (cc);
-  once = λ j k t u m l at. absurd (cc);
-}
+none_waiting b = grind (arith, nat_tests)
 
 -- What happens ---------------------------------------------------------------------------------
 

@@ -1,5 +1,6 @@
 -- Where firmware and power controller agree, all is told.
-use Rattle.std.proofs.Common.{◌≡◌, ℕ, inl, inr, ◌<◌, Bool, true, false, cond, List, Option, None}
+use Rattle.std.proofs.lemmas.Bool.Decides.{nat_tests}
+use Rattle.std.proofs.Common.{◌≡◌, ℕ, inl, inr, ◌<◌, Bool, true, false, cond, List}
 use Rattle.std.proofs.Common.{Some, refl, arith, subst, ap, sym, ◌∙◌}
 use Rattle.std.proofs.lemmas.Bool.{cases_eq, cases_lt}
 use Rattle.std.proofs.lemmas.Option.{none-some}
@@ -11,7 +12,6 @@ use Rattle.psci_headline.proofs.Words.{IsYetToCome}
 use Rattle.psci_headline.specs.psci_ctl_spec.Values as controlled
 use Rattle.psci_headline.specs.psci_fw_spec.Invariant.{agrees}
 use Rattle.psci_headline.proofs.Agreeing.{found_other, found_own}
-use Rattle.psci_headline.specs.Settling.{halts_in}
 use Rattle.psci_headline.specs.Complete.{IsToldWhole}
 use Rattle.psci_headline.specs.Confirming.{Confirming}
 use Rattle.psci_headline.proofs.Confirmed.{RunLaws}
@@ -26,12 +26,7 @@ pub record LifeGoesOn (b : BoardValue) (past : List Record) : Type 0 where
 
 pub going_life : (b : BoardValue) (past : List Record) → is_halting b past ≡ false
     → LifeGoesOn b past
-going_life b past awake = by_life (controller_values b past).life refl awake
-  where
-    by_life : (o : Option ℕ) → (controller_values b past).life ≡ o → halts_in b past o ≡ false
-        → LifeGoesOn b past
-    by_life None e f = absurd (cc)
-    by_life (Some life) e f = record { life = life; present = e; awake = f }
+going_life b past awake = grind (arith, nat_tests)
 
 -- Words ----------------------------------------------------------------------------------------
 

@@ -18,7 +18,7 @@ pub use Rattle.psci_ctl_spec.specs.psci_messages.Message.{AckValue, AreClaims, A
 pub use Rattle.psci_ctl_spec.specs.psci_messages.Message.{MessageValue, PartByPart}
 pub use Rattle.psci_ctl_spec.specs.psci_messages.Slots.{Acknowledge, Clear, OfCore, OfSystem, Put}
 pub use Rattle.psci_ctl_spec.specs.psci_messages.Slots.{Slot, answers, changed, is_done, is_kind}
-pub use Rattle.psci_ctl_spec.specs.psci_messages.Slots.{is_slot, slot_of}
+pub use Rattle.psci_ctl_spec.specs.psci_messages.Slots.{slot_of}
 pub use Rattle.psci_ctl_spec.specs.psci_messages.declared.kind.Kind.{Kind}
 pub use Rattle.psci_ctl_spec.specs.psci_messages.declared.kind.Kind.TheVariants.{Down}
 pub use Rattle.psci_ctl_spec.specs.psci_messages.declared.part.Part.{Part}
