@@ -114,9 +114,7 @@ module _ (b : BoardValue) (past : List Record) (a : AckValue) (t : IsTaken b pas
 
   -- the domain was granted what the part says
   waits : NonePending b v.phase n.level n.place
-  waits c inside at =
-      (none_active b v c n.level t.paths t.values inside has.level
-      (subst (λ place. 0 < v.granted n.level place) (sym at) by.some)).1
+  waits c inside at = grind (arith, nat_tests, none_active)
 
   granted : v.granted n.level n.place ≡ by.part.depth
   granted = t.holds.grants.held n.level n.place by.part
@@ -164,15 +162,7 @@ module _ (b : BoardValue) (past : List Record) (a : AckValue) (t : IsTaken b pas
 
   was_carried_out : was_in_state b v.life (known_below b v.known n.level n.place)
       (hw_at (v.granted n.level n.place)) past n ≡ true
-  was_carried_out =
-      let now : (controller_values b delivery).life ≡ Some v.life =
-      ap (λ (x : controlled.Values). x.life) changed ∙ t.made.life ∙ ap (λ l. Some l) life in
-      subst (λ ms. was_in_state b v.life (known_below b v.known n.level n.place)
-      (hw_at (v.granted n.level n.place)) ms n ≡ true) t.made.parts
-      (seen_since b v.life (known_below b v.known n.level n.place)
-      (hw_at (v.granted n.level n.place)) t.made.since delivery n
-      (seen_now b v.life (known_below b v.known n.level n.place) (v.granted n.level n.place)
-      delivery n now count deep))
+  was_carried_out = grind (arith, nat_tests, changed, life, seen_since, seen_now, count, deep)
 
 -- a claim that an acknowledgement confirms was carried out, in this life and by the starts that are
 -- known

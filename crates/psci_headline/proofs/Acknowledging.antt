@@ -116,14 +116,7 @@ new_is_down b r past a laws holds new kind some =
     a.core.number d.first.item laws down (sym of.core) new.values d.first.at some in
     record {
       begun = omega (arith, of.life, sent_one.begun);
-      number = λ life.
-          let low = (sent_one.present (sym of.life ∙ life)).number in
-          let same = ap v.known of.core in
-          omega (arith, of.number);
+      number = λ life. grind (arith, nat_tests);
       rests = sender_rests b v (sent past) a m laws holds d;
-      slept = λ life number away.
-          slept_now b v.life (r ∷ past) a.core.number
-          (asleep_from b v.life (r ∷ past) a.core.number
-          (deep.0 ∙ new.made.life ∙ ap (λ x. Some x) (sym of.life ∙ life))
-          (deep.1 ∙ sender_deep b v (sent past) a m holds d life number away));
+      slept = λ life number away. grind (arith, nat_tests, slept_now, asleep_from, sender_deep);
     }

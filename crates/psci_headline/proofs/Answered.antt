@@ -1,20 +1,16 @@
 -- What is told once an acknowledgement was taken.
+use Rattle.std.proofs.lemmas.Bool.Decides.{nat_tests}
 use Rattle.std.proofs.lemmas.Bool.{cond_both}
 use Rattle.psci_headline.proofs.Slots.{down_slot}
-use Rattle.std.proofs.Common.{◌≡◌, ℕ, ◌⊎◌, inl, inr, ◌<◌, ◌≤◌, ◌&&◌, Bool, true}
+use Rattle.std.proofs.Common.{◌≡◌, ℕ, ◌⊎◌, inl, inr, ◌<◌, ◌≤◌, Bool, true}
 use Rattle.std.proofs.Common.{cond, List, Option, Some, refl, arith, ap, sym, ◌∙◌}
-use Rattle.std.specs.Prelude.{nat_lt, slice_get}
-use Rattle.std.specs.List.{sum_by}
 use Rattle.std.proofs.lemmas.Bool.{and_from, cases_lt, eq-eqb, lt-ltb}
-use Rattle.psci_headline.proofs.Words.{BoardValue, below, up, PathLaws, is_path_place, Part, Down}
-use Rattle.psci_headline.proofs.Words.{AckValue, MessageValue, Acknowledge, Slot, changed, is_kind}
-use Rattle.psci_headline.proofs.Words.{slot_of, Status, Off, confirms_on, with_acknowledgement}
-use Rattle.psci_headline.proofs.Words.{Away, Values, Holds, IsTold, WasTold, AreConfirming}
-use Rattle.psci_headline.proofs.Words.{IsYetToCome}
-use Rattle.psci_headline.specs.psci_messages.OnlyIf.{only_if}
+use Rattle.psci_headline.proofs.Words.{BoardValue, PathLaws, AckValue, MessageValue, Acknowledge}
+use Rattle.psci_headline.proofs.Words.{Slot, changed, slot_of, Status, Off, confirms_on}
+use Rattle.psci_headline.proofs.Words.{with_acknowledgement, Away, Values, Holds, IsTold, WasTold}
+use Rattle.psci_headline.proofs.Words.{AreConfirming, IsYetToCome}
 use Rattle.psci_headline.specs.psci_fw_spec.Changes.{turns_off}
-use Rattle.psci_headline.specs.psci_fw_spec.Confirmed.{applied_part, is_made_at}
-use Rattle.psci_headline.specs.psci_fw_spec.Phases.{is_away}
+use Rattle.psci_headline.specs.psci_fw_spec.Confirmed.{applied_part}
 use Rattle.psci_headline.specs.psci_fw_laws.KnownBelow.{known_below}
 use Rattle.psci_headline.proofs.fw_laws.Consequences.{once_down}
 use Rattle.psci_headline.proofs.fw_laws.Parts.{updated_at}
@@ -89,30 +85,13 @@ module _ (b : BoardValue) (starts : ℕ → ℕ) (depth : ℕ → ℕ → ℕ) (
   part_applied : (level place : ℕ) (is : IsOutstanding b v.known v.outstanding level place)
       → IsApplied a is.message level
       → applied_part a level (v.outstanding (slot_of a.kind a.core)) ≡ Some is.part
-  part_applied level place is by =
-      let m : MessageValue = is.message in
-      let slot = down_slot a.kind a.core m.core.number (by.name.kind ∙ is.kind) by.name.core in
-      let test : (is_kind a.kind Down && nat_lt level a.applied) ≡ true =
-      and_from (is_kind a.kind Down) (nat_lt level a.applied)
-      (ap (λ x. is_kind x Down) (by.name.kind ∙ is.kind)) (lt-ltb level a.applied by.low) in
-      ap (applied_part a level) (ap v.outstanding slot ∙ is.at)
-      ∙ ap (λ x. only_if x (slice_get m.parts level)) test ∙ is.listed
+  part_applied level place is by = grind (arith, nat_tests, down_slot, and_from, lt-ltb)
 
   confirms : (level place : ℕ) (is : IsOutstanding b v.known v.outstanding level place)
       → IsApplied a is.message level → 0 < v.granted level place
       → confirms_on b v a level place ≡ true
   unfolding known_below
-  confirms level place is by some =
-      let known : ℕ = sum_by v.known (below b (record { level = level; place = place })) in
-      let sent_part : Option Part =
-      applied_part a level (v.outstanding (slot_of a.kind a.core)) in
-      and_from (is_path_place b a.core.number level place)
-      (nat_lt 0 (v.granted level place) && is_made_at known sent_part)
-      (eq-eqb place (up b level a.core.number) (sym (ap (up b level) by.name.core ∙ is.on)))
-      (and_from (nat_lt 0 (v.granted level place)) (is_made_at known sent_part)
-      (lt-ltb 0 (v.granted level place) some)
-      (ap (is_made_at known) (part_applied level place is by)
-      ∙ eq-eqb is.part.generation known is.current))
+  confirms level place is by some = grind (arith, nat_tests, and_from, eq-eqb, lt-ltb, part_applied)
 
   domain : (level place : ℕ) → 0 < v.granted level place → IsConfirmedOr b starts v level place
       → IsConfirmedOr b starts (with_acknowledgement b a v) level place
@@ -132,19 +111,7 @@ module _ (b : BoardValue) (starts : ℕ → ℕ) (depth : ℕ → ℕ → ℕ) (
   -- and the core OFF
   off_now : (c : ℕ) (is : IsOutstanding b v.known v.outstanding 0 c) → IsApplied a is.message 0
       → v.phase c ≡ Away → (with_acknowledgement b a v).status c ≡ Off
-  off_now c is by away =
-      let core : a.core.number ≡ c =
-      by.name.core ∙ sym (t.paths.core is.message.core.number) ∙ is.on in
-      let down : (is_kind a.kind Down && nat_lt 0 a.applied) ≡ true =
-      and_from (is_kind a.kind Down) (nat_lt 0 a.applied)
-      (ap (λ x. is_kind x Down) (by.name.kind ∙ is.kind)) (lt-ltb 0 a.applied by.low) in
-      let turns : turns_off v a ≡ true =
-      and_from (is_kind a.kind Down && nat_lt 0 a.applied) (is_away (v.phase a.core.number)) down
-      (ap (λ x. is_away (v.phase x)) core ∙ ap is_away away) in
-      updated_at (λ (s : Status). s ≡ Off) v.status a.core.number
-      (cond (turns_off v a) Off (v.status a.core.number)) c
-      (λ here. ap (λ x. cond x Off (v.status a.core.number)) turns)
-      (λ there. absurd (there (sym core)))
+  off_now c is by away = grind (arith, nat_tests, and_from, lt-ltb, updated_at)
 
   core_off : (c : ℕ) → v.phase c ≡ Away → IsOffOr b starts v c
       → IsOffOr b starts (with_acknowledgement b a v) c

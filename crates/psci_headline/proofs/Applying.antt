@@ -1,4 +1,5 @@
 -- How many parts of an outstanding Down are applied, once live claims below have their depth.
+use Rattle.std.proofs.lemmas.Bool.Decides.{nat_tests}
 use Rattle.std.proofs.Common.{◌≡◌, ℕ, suc, ◌+◌, ◌-◌, ◌<◌, ◌≤◌}
 use Rattle.std.proofs.Common.{List, length, Some, arith, subst, ap, sym, ◌∙◌}
 use Rattle.std.specs.Prelude.{slice_get}
@@ -86,9 +87,7 @@ covered_so : (b : BoardValue) (life : ℕ) (known : ℕ → ℕ) (phase : ℕ �
 covered_so b life known phase sent w r level m p is down low part live = record {
   core = down.core;
   few = omega (arith, within);
-  level = λ k q at.
-      let inside = slice_get_within m.parts k q at in
-      (down.parts.level k q at, omega (arith, inside, down.few));
+  level = λ k q at. grind (arith, nat_tests, slice_get_within);
   falls = λ k q s at next.
       let more : suc k ≡ k + 1 = omega arith in
       down.parts.falls k q s at (ap (slice_get m.parts) (sym more) ∙ next);

@@ -3,14 +3,13 @@ use Rattle.std.proofs.lemmas.Bool.Decides.{nat_tests}
 use Rattle.std.proofs.Common.{arith}
 use Rattle.std.proofs.Common.{◌≡◌, ℕ, ◌<◌, Bool, true, false, ◌==◌, cond, List, ◌∷◌, ◌++◌, length}
 use Rattle.std.proofs.Common.{Option, None, Some, option_map, unwrap_or, refl, subst, ap, sym, ◌∙◌}
-use Rattle.std.specs.Prelude.{nat_lt}
 use Rattle.std.proofs.lemmas.Bool.{cond-true, cond-false, eq-eqb, lt-ltb, ne_eqb}
 use Rattle.psci_headline.proofs.Words.{BoardValue, cores, Start, last_start, MessageValue, OfCore}
-use Rattle.psci_headline.proofs.Words.{Act, Outcome, change, reply_or, enter_effect, enter_outcome}
-use Rattle.psci_headline.proofs.Words.{IsLegal, in_life, listed, Values, IsAllowed, Enter, Started}
-use Rattle.psci_headline.proofs.Words.{Record, Absent, Fw, Sent, acks, call, controller_values}
-use Rattle.psci_headline.proofs.Words.{entered, firmware_values, outcome_in, sent_in, IsLegalPast}
-use Rattle.psci_headline.proofs.Words.{if_started, said_of, indexed, step}
+use Rattle.psci_headline.proofs.Words.{Act, Outcome, change, enter_effect, enter_outcome, IsLegal}
+use Rattle.psci_headline.proofs.Words.{in_life, listed, Values, IsAllowed, Enter, Started, Record}
+use Rattle.psci_headline.proofs.Words.{Fw, Sent, acks, call, controller_values, entered}
+use Rattle.psci_headline.proofs.Words.{firmware_values, outcome_in, sent_in, IsLegalPast, indexed}
+use Rattle.psci_headline.proofs.Words.{step}
 use Rattle.psci_ctl_spec.specs.psci_messages.declared.kind.Kind.TheVariants as kinds
 use Rattle.psci_headline.specs.psci_fw_spec.declared.call.FwCall.TheVariants as calls
 use Rattle.psci_headline.specs.psci_fw_spec.declared.outcome.Act.TheVariants as acts
@@ -79,10 +78,7 @@ has_outcome b past c free on at =
       last = may.1;
       act = o.act;
       sends = sent_as (length (sent past)) o.message;
-      said = cond-true (nat_lt c (cores b)) _ Absent (lt-ltb c (cores b) on)
-          ∙ ap (λ p. if_started b past c p (last_start (controller_values b past) c)) at
-          ∙ ap (if_started b past c Started) may.1
-          ∙ ap (λ f. said_of (length (sent past)) (reply_or f o)) may.2;
+      said = grind (arith, nat_tests, cond-true, lt-ltb);
     }
 
 -- What is so after an entry of a started core.

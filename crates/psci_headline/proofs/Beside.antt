@@ -8,10 +8,8 @@ use Rattle.std.proofs.lemmas.Bool.{cases_eq}
 use Rattle.psci_headline.proofs.Words.{BoardValue, cores, up, PathLaws, is_path_place, Part, Start}
 use Rattle.psci_headline.proofs.Words.{MessageValue, OfCore, Put, Slot, changed, slot_of, PowerOn}
 use Rattle.psci_headline.proofs.Words.{target, with_arrival, with_pending, in_life, Phase, Away}
-use Rattle.psci_headline.proofs.Words.{Pending, Values, updated, KnownLaws, known_below}
-use Rattle.psci_headline.proofs.Words.{AreConfirming, IsYetToCome}
+use Rattle.psci_headline.proofs.Words.{Values, KnownLaws, AreConfirming, IsYetToCome}
 use Rattle.psci_headline.specs.psci_messages.declared.kind.Kind.TheVariants as kinds
-use Rattle.psci_headline.specs.psci_fw_spec.declared.status.Status.TheVariants as statuses
 use Rattle.psci_headline.specs.psci_fw_spec.Changes.{Rest, with_claims, with_phase, with_rest}
 use Rattle.psci_headline.specs.psci_fw_spec.Changes.{with_running}
 use Rattle.psci_headline.specs.psci_fw_spec.Confirmed.{unless_claimed}
@@ -108,15 +106,7 @@ module _ (b : BoardValue) (starts : ℕ → ℕ) (v : Values) (m : MessageValue)
   -- it is outstanding for the domains on its path
   here : (level place : ℕ) (p : Part) → slice_get m.parts level ≡ Some p
       → up b level m.core.number ≡ place → IsOutstanding b v.known sends level place
-  here level place p listed on = record {
-    message = m;
-    kind = kind;
-    at = put_here v.outstanding m m.core.number slot;
-    on = on;
-    part = p;
-    listed = listed;
-    current = current level p listed ∙ ap (known_below b v.known level) on;
-  }
+  here level place p listed on = grind (arith, nat_tests, put_here)
 
   -- and for the others all is as before
   there : (level place : ℕ) → is_path_place b m.core.number level place ≡ false
@@ -196,15 +186,6 @@ module _ (b : BoardValue) (starts : ℕ → ℕ) (v : Values) (asked : PowerOn) 
   pub pends : AreConfirming b starts v → AreConfirming b starts (with_pending b asked v)
   pends are = record {
     domains = λ level place. by_target level place (is_path_place b t level place) refl are;
-    cores = λ awake x on away. elim (cases_eq x t) [
-      | inl same ↦
-          let no : Pending ≡ Away =
-          sym (ap (updated v.phase t Pending) same ∙ updated_here v.phase t Pending) ∙ away in
-          absurd (cc)
-      | inr other ↦
-          elim (are.cores awake x on (sym (updated_there v.phase t Pending x other) ∙ away)) [
-            | inl was ↦ inl (updated_there v.status t statuses.Pending x other ∙ was)
-            | inr yet ↦ inr (stays 0 x (other_core b t x paths other) yet)
-          ]
-    ];
+    cores = λ awake x on away.
+        grind (arith, nat_tests, cases_eq, updated_here, updated_there, other_core);
   }

@@ -95,12 +95,7 @@ entered : (b : BoardValue) (v w : Values) (c : ℕ) (s : starts.Start) (e : Effe
 entered b v w c s e level place t true laws same off is life known granted confirmed = absurd (cc)
 entered b v w c s e level place true false laws same off is life known granted confirmed =
     inl (record {
-      stays = record {
-        life = life;
-        known = ap (λ f. known_below b f level place) known
-            ∙ sum_beside b v.known c s.number level place laws off;
-        granted = granted;
-      };
+      stays = grind (arith, nat_tests, sum_beside);
       before = confirmed;
     })
 entered b v w c s e level place false false laws same off is life known granted confirmed =
@@ -121,14 +116,7 @@ module _ (b : BoardValue) (v : Values) (laws : KnownLaws b) (level place : ℕ) 
   acknowledged : (a : AckValue) (t : Bool) → confirms_on b v a level place ≡ t
       → cond t true (v.confirmed level place) ≡ true
       → How b v (change b (Acknowledges a) v) (Acknowledges a) level place
-  acknowledged a true by e = inr (inr (record {
-    stays = record { life = refl; known = refl; granted = refl };
-    ack = a;
-    is = refl;
-    by = by;
-  }))
-  acknowledged a false by e =
-      inl (record { stays = record { life = refl; known = refl; granted = refl }; before = e })
+  acknowledged a x1 by e = grind (arith, nat_tests)
 
   pub confirmed_how : (e : Effect) → (change b e v).confirmed level place ≡ true
       → How b v (change b e v) e level place

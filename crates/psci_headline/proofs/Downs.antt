@@ -1,15 +1,16 @@
 -- What is so after an outstanding Down was served.
+use Rattle.std.proofs.lemmas.Bool.Decides.{nat_tests}
 use Rattle.std.proofs.Common.{◌≡◌, ℕ, inl, inr, ◌+◌, ◌<◌, ◌≤◌, Bool, true, false, ◌==◌, cond, not}
 use Rattle.std.proofs.Common.{List, length, take, None, Some, refl, arith, subst, ap, sym}
-use Rattle.std.proofs.Common.{◌∙◌, unwrap_or}
+use Rattle.std.proofs.Common.{◌∙◌}
 use Rattle.std.specs.Prelude.{slice_get}
 use Rattle.std.proofs.lemmas.Bool.{cases_lt, leb-false, or_parts}
 use Rattle.std.proofs.lemmas.Option.{same_Some}
 use Rattle.psci_headline.proofs.Words.{BoardValue, up, Part, domain_of, Deepens, message_effect}
 use Rattle.psci_headline.proofs.Words.{AckLaws, applied, is_stale, laid, ack_by, MessageValue}
 use Rattle.psci_headline.proofs.Words.{OfCore, is_done, is_kind, Values, Record, controller_values}
-use Rattle.psci_headline.proofs.Words.{firmware_values, sent, indexed, place, place_of_effect}
-use Rattle.psci_headline.proofs.Words.{deliveries, serving, IsLivePart}
+use Rattle.psci_headline.proofs.Words.{firmware_values, sent, indexed, place, deliveries, serving}
+use Rattle.psci_headline.proofs.Words.{IsLivePart}
 use Rattle.psci_ctl_spec.specs.Changes as controlling
 use Rattle.psci_ctl_spec.specs.Follows.{IsFront}
 use Rattle.psci_ctl_spec.specs.Values as controlled
@@ -148,10 +149,7 @@ module _ (b : BoardValue) (before : List Record) (life : ℕ) (past : List Recor
   depth_now level place = ap (λ (u : controlled.Values). u.depth level place) control
 
   place_now : (x : ℕ) → place b next x ≡ place b past x
-  place_now x = em.answered.place x
-      ∙ ap (λ k. unwrap_or (place_of_effect x (message_effect b m (ack_by b w m k) k))
-      (place b past x))
-      out.down.kind
+  place_now x = grind (arith, nat_tests, em)
 
   -- the part of the first level that is left
   part_left : is_done (ack_to b past m) m ≡ false → IsLeft b w.starts m r

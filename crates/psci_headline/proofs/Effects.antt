@@ -3,7 +3,7 @@ use Rattle.std.proofs.lemmas.Bool.Decides.{nat_tests}
 use Rattle.std.proofs.Common.{arith}
 use Rattle.psci_headline.proofs.Slots.{system_slot}
 use Rattle.psci_headline.proofs.Telling.{first_part}
-use Rattle.std.proofs.Common.{◌≡◌, ℕ, inl, inr, ◌<◌, true, false, List}
+use Rattle.std.proofs.Common.{◌≡◌, ℕ, inl, inr, ◌<◌, true, List}
 use Rattle.std.proofs.Common.{refl, subst, sym, ◌∙◌}
 use Rattle.psci_headline.proofs.Words.{BoardValue, PathLaws, Start, MessageValue, change}
 use Rattle.psci_headline.proofs.Words.{with_arrival, Rests, Stops, Enters, Parks, StopsAtOnce}
@@ -99,7 +99,4 @@ module _ (b : BoardValue) (starts : ℕ → ℕ) (laws : KnownLaws b) (paths : P
 
   pub stops : (v : Values) (sent : List MessageValue) (c : ℕ) → IsAllowed b v (Stops c)
       → AreConfirming b starts v → AreConfirming b starts (change b (Stops c) v)
-  stops v sent c allowed are = record {
-    domains = are.domains;
-    cores = λ awake. let no : true ≡ false = sym allowed.halting ∙ awake in absurd (cc);
-  }
+  stops v sent c allowed are = grind (arith, nat_tests)

@@ -19,7 +19,7 @@ use Rattle.psci_fw_laws.specs.psci_fw_spec.declared.reply.FwReply.TheVariants as
 use Rattle.psci_fw_laws.specs.psci_fw_spec.Answer.{answer}
 use Rattle.psci_fw_laws.specs.psci_fw_spec.CpuOff.{off_message}
 use Rattle.psci_fw_laws.specs.psci_fw_spec.Effects.{effect_of}
-use Rattle.psci_fw_laws.specs.psci_fw_spec.Entering.{enter_outcome, outcome_at, resumes}
+use Rattle.psci_fw_laws.specs.psci_fw_spec.Entering.{enter_outcome, outcome_at}
 use Rattle.psci_fw_laws.specs.psci_fw_spec.History.{life, values_of}
 use Rattle.psci_fw_laws.specs.psci_fw_spec.Outcomes.{stops_with}
 use Rattle.psci_fw_laws.proofs.Parts.{updated_at}
@@ -50,11 +50,7 @@ module _ (b : BoardValue) (found after : Values) (c : ℕ) (s : Start) (a k : �
 
   opened : (o : Option Opening) → acts.Enter a k ≡ (outcome_at b found after c s o).act
       → o ≡ Some (record { address = a; context = k })
-  opened (Some o) e =
-      let address : o.address ≡ a = cc in
-      let context : o.context ≡ k = cc in
-      λ i. Some (record { address = address i; context = context i })
-  opened None e = absurd (resumed (resumes found c s) e)
+  opened x0 e = grind (arith, nat_tests, resumed)
 
   opened_unless : (t : Bool) (o : Option Opening)
       → acts.Enter a k ≡ (cond t stops (outcome_at b found after c s o)).act
@@ -122,10 +118,7 @@ module _ (b : BoardValue) (n : ℕ) (v : Values) (made : List Made) (taken : Lis
       (cond t v (start_of_life b s.life)).opening
       (listed (cond t None (made_at (OfLife s.life) 0 s.life
       (Some (record { address = b.boot; context = 0 })))) ++ made) taken
-  found_waits c s true is low = are
-  found_waits c s false is low =
-      begun n v.life v.opening made taken are b s.life
-      (let other = eqb-false s.life v.life is in omega (arith, other))
+  found_waits c s x2 is low = grind (arith, nat_tests, begun, eqb-false)
 
   rested : (c : ℕ) (o : Option Opening)
       → AreWaiting (suc n) v.life (updated v.opening c (option_or o (v.opening c)))

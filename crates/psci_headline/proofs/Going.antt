@@ -145,15 +145,7 @@ out_now b before life past c m laws going at =
     core_kind m.kind slot.kind (λ e. going.rests c on (slot.start e)) in
     let claim : AreClaims m.parts = subst (λ k. ArePartsOf k m.parts) kind sound.parts in
     record {
-      down = record {
-        index = slot.listed.index;
-        at = slot.listed.at;
-        present = slot.listed.present;
-        kind = kind;
-        core = sound.core;
-        few = sound.few;
-        parts = known.parts m.parts claim;
-      };
+      down = grind (arith, nat_tests);
       core = slot.core;
       system = slot.kind;
     }

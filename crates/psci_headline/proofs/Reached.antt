@@ -1,13 +1,12 @@
 -- Where the world settles: the power controller's life goes on there, and is not halting.
 use Rattle.std.proofs.lemmas.Bool.Decides.{nat_tests}
-use Rattle.std.proofs.Common.{◌≡◌, ℕ, ◌+◌, inl, false, List, Some, refl, arith, ap, sym, ◌∙◌}
+use Rattle.std.proofs.Common.{◌≡◌, ℕ, ◌+◌, inl, false, List, Some, refl, arith}
 use Rattle.std.proofs.lemmas.Option.{same_Some}
-use Rattle.psci_headline.proofs.Words.{BoardValue, height, MessageValue, Values, Record}
-use Rattle.psci_headline.proofs.Words.{firmware_values, sent, IsLegalPast, indexed, AreAtRest}
-use Rattle.psci_headline.proofs.Words.{deliveries, is_halting}
+use Rattle.psci_headline.proofs.Words.{BoardValue, height, MessageValue, Record, sent, IsLegalPast}
+use Rattle.psci_headline.proofs.Words.{indexed, AreAtRest, deliveries, is_halting}
 use Rattle.psci_headline.specs.psci_messages.declared.kind.Kind.TheVariants as kinds
 use Rattle.psci_headline.proofs.Agreeing.{found_own}
-use Rattle.psci_headline.specs.Settling.{begun, halts_in, settled}
+use Rattle.psci_headline.specs.Settling.{begun, settled}
 use Rattle.psci_headline.proofs.Beginning.{IsUnderWay}
 use Rattle.psci_headline.proofs.Bound.{HasRest, IsRound, comes_to_rest}
 use Rattle.psci_headline.proofs.Counting.{none_added}
@@ -32,12 +31,7 @@ first_round b before life past laws begins =
       deep = λ c k level m p at present kind core part live low. absurd (omega (arith, low));
       most = λ k m at kind.
           omega (arith, first_count b before life past k m begins.way at kind);
-      once = λ c k m at on e.
-          omega (
-            arith,
-            first_count b before life past k m begins.way at
-                (out_now b before life past c m laws going e).down.kind,
-          );
+      once = λ c k m at on e. grind (arith, nat_tests, first_count, out_now);
       left = λ r c m same on e. absurd (omega (arith, same));
       last = λ some. absurd (omega (arith, some));
     }
@@ -72,9 +66,6 @@ reached b past laws is awake =
     let going : IsGoing b past goes.life end = rest.is.going in
     record {
       legal = going.legal;
-      awake = ap (halts_in b end) going.present
-          ∙ ap (λ (v : Values). v.halting)
-          (found_own b goes.life (firmware_values b end) (sym going.own))
-          ∙ going.awake;
+      awake = grind (arith, nat_tests, found_own);
       rest = at_rest b past goes.life end laws going rest.none;
     }

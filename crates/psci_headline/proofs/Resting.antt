@@ -1,4 +1,5 @@
 -- Where nothing is outstanding, firmware and power controller agree on every domain.
+use Rattle.std.proofs.lemmas.Bool.Decides.{nat_tests}
 use Rattle.std.proofs.Common.{◌≡◌, ℕ, suc, inl, inr, ◌<◌, List, Option, None}
 use Rattle.std.proofs.Common.{Some, refl, arith, subst, sym, ◌∙◌}
 use Rattle.std.proofs.lemmas.Bool.{cases_lt}
@@ -65,13 +66,7 @@ module _ (b : BoardValue) (before : List Record) (life : ℕ) (past : List Recor
       ∙ sym live.deep
 
   agree : (n : Node) → HasNode b n → v.granted n.level n.place ≡ w.depth n.level n.place
-  agree n has = elim (cases_lt 0 (v.granted n.level n.place)) [
-    | inl some ↦ granted_deep n.level n.place some
-    | inr low ↦ elim (cases_lt 0 (w.depth n.level n.place)) [
-      | inl some ↦ deep_granted n has some
-      | inr flat ↦ omega (arith, low, flat)
-    ]
-  ]
+  agree n has = grind (arith, nat_tests, cases_lt, granted_deep, deep_granted)
 
   no_system : (o : Option MessageValue) → v.outstanding OfSystem ≡ o → o ≡ None
   no_system None e = refl

@@ -128,11 +128,7 @@ module _ (b : BoardValue) (before : List Record) (life n : ℕ) (first past : Li
 
   -- live parts that have their depth keep it
   deep_kept : (r x : ℕ) → DeepAt b life r x past → DeepAt b life r x next
-  deep_kept r x deep =
-      deep_moved b life r x past next a.messages a.starts
-      (λ j level y p at present down own part live low.
-      a.kept j level y p at present down part live (deep j level y p at present down own part live
-      low))
+  deep_kept r x deep = grind (arith, nat_tests, deep_moved)
 
   round_kept : InRound b before life n first next
   round_kept = record {
@@ -145,12 +141,7 @@ module _ (b : BoardValue) (before : List Record) (life n : ℕ) (first past : Li
   -- another core's message is not delivered
   same_count : (x j : ℕ) (y : MessageValue) → (x ≡ c → ⊥) → indexed (sent first) j ≡ Some y
       → y.core.number ≡ x → deliveries j next ≡ deliveries j past
-  same_count x j y ne at own =
-      let other : j ≡ k → ⊥ = λ e.
-      let same : y ≡ m = same_Some y m (sym at ∙ ap (indexed (sent first)) e ∙ at_first) in
-      ne (sym own ∙ ap (λ (z : MessageValue). z.core.number) same ∙ core) in
-      let none : cond {A = ℕ} (j == k) 1 0 ≡ 0 = cond-false (j == k) 1 0 (ne_eqb j k other) in
-      omega (arith, a.count j, none)
+  same_count x j y ne at own = grind (arith, nat_tests, same_Some, at_first, cond-false, ne_eqb)
 
   todo_kept : (x : ℕ) → (x ≡ c → ⊥) → IsTodo b first x past → IsTodo b first x next
   todo_kept x ne todo = record {
@@ -189,12 +180,7 @@ module _ (b : BoardValue) (before : List Record) (life n : ℕ) (first past : Li
   done_here : IsTodo b first c past → IsDone b life n first c next
   done_here now = record {
     deep = deep_here;
-    left = λ y e.
-        let rest = a.left y e in (
-          sym now.out ∙ out ∙ ap Some (sym rest.0),
-          subst (λ s. IsLeft b s y n) (sym a.starts)
-              (subst (λ z. IsLeft b (controller_values b past).starts z n) (sym rest.0) rest.1),
-        );
+    left = λ y e. grind (arith, nat_tests);
     most = λ j y at down own.
         omega (arith, a.count j, count_most (j == k), now.count j y at down own);
     once = λ j y at down own e.

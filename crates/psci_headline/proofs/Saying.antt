@@ -1,5 +1,7 @@
 -- What is legal to say of an event, by what it asks.
-use Rattle.std.proofs.Common.{◌≡◌, ℕ, ◌<◌, cond, Option, Some, refl}
+use Rattle.std.proofs.lemmas.Bool.Decides.{nat_tests}
+use Rattle.std.proofs.Common.{arith}
+use Rattle.std.proofs.Common.{◌≡◌, ℕ, ◌<◌, cond, Option, Some}
 use Rattle.std.specs.Prelude.{List, nat_lt}
 use Rattle.std.proofs.lemmas.Bool.{cond_both, ltb-true}
 use Rattle.psci_headline.proofs.Words.{Regs, BoardValue, cores, Start, last_start, AckValue}
@@ -36,9 +38,7 @@ module _ (b : BoardValue) (past : List Record) (P : Event → Said → Type 0)
     (is : OfAnswers b past P) where
   of_board : (event : Event) (c : ℕ) (s : Said) → (c < cores b → P event s)
       → P event (cond (nat_lt c (cores b)) s Absent)
-  of_board event c s on =
-      cond_both (nat_lt c (cores b)) s Absent (P event) (λ e. on (ltb-true c (cores b) e))
-      (λ e. is.absent event)
+  of_board event c s on = grind (arith, nat_tests, cond_both, ltb-true)
 
   of_call : (c : ℕ) (regs : Regs) (p : Place) → c < cores b → place b past c ≡ p
       → P (Call c regs) (if_running p (asked_firmware b past c (calls.Smc regs)))
@@ -66,12 +66,4 @@ module _ (b : BoardValue) (past : List Record) (P : Event → Said → Type 0)
 
   pub of_event : (event : Event) → P event (legal b past event)
   unfolding legal
-  of_event (Call c regs) =
-      of_board (Call c regs) c _ (λ on. of_call c regs (place b past c) on refl)
-  of_event (Enter c) =
-      of_board (Enter c) c _ (λ on.
-      of_entry c (place b past c) (last_start (controller_values b past) c) on refl refl)
-  of_event (Wake c) = of_board (Wake c) c _ (λ on. of_wake c (place b past c) on)
-  of_event (Reset c) = of_board (Reset c) c _ (is.reset c)
-  of_event (Deliver k) = of_delivery k (indexed (sent past) k) refl
-  of_event (Take k) = of_take k (indexed (acks past) k) refl
+  of_event x0 = grind (arith, nat_tests, of_board, of_call, of_entry, of_wake, of_delivery, of_take)

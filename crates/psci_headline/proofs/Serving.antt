@@ -129,9 +129,7 @@ pub answered_so : (b : BoardValue) (past : List Record) (k : ℕ) (m : MessageVa
     → taken_by (firmware_values b past) (ack_to b past m) ≡ Used → AreAnswered b past k m
 answered_so b past k m laws is at present used = record {
   legal = (refl, (refl, is));
-  added = λ before are.
-      one_added before next (legal_record b next (Take n)) refl
-      (one_added before past (legal_record b past (Deliver k)) refl are);
+  added = λ before are. grind (arith, nat_tests, one_added);
   control = two.control ∙ one.control;
   firmware = two.firmware ∙ ap (with_acknowledgement b a) one.firmware;
   sent = two.sent ∙ one.sent;

@@ -1,4 +1,5 @@
 -- What waits, after a core was started.
+use Rattle.std.proofs.lemmas.Bool.Decides.{nat_tests}
 use Rattle.std.proofs.Common.{◌≡◌, ℕ, inl, inr, ◌+◌, ◌≤◌, Bool, false, ◌==◌, cond}
 use Rattle.std.proofs.Common.{List, Option, Some, refl, arith, sym, ◌∙◌}
 use Rattle.std.specs.Prelude.{slice_get}
@@ -81,27 +82,9 @@ waiting_started b life starts depth halting known phase outstanding sent made c 
             | inl deep ↦ inl (same ∙ deep)
             | inr other ↦ inr other
           ];
-      first = λ n on none.
-          let more = counts n.level n.place on.level in
-          elim (cases_Bool (is_on_path b c n.level n.place)) [
-            | inl here ↦
-                let one = cond-true {A = ℕ} (is_on_path b c n.level n.place) 1 0 here in
-                absurd (omega (arith, none, more, one))
-            | inr there ↦
-                let zero = cond-false {A = ℕ} (is_on_path b c n.level n.place) 1 0 there in
-                cond-false (is_on_path b c n.level n.place) 0 (depth n.level n.place) there
-                ∙ are.first n on (omega (arith, none, more, zero))
-          ];
-      asked = λ awake x on waits same. elim (cases_eq x c) [
-        | inl here ↦
-            let more : one_more starts c x ≡ starts x + 1 =
-            cond-true (x == c) (starts x + 1) (starts x) (eq-eqb x c here) in
-            absurd (omega (arith, more, same, le x))
-        | inr there ↦
-            let still : one_more starts c x ≡ starts x =
-            cond-false (x == c) (starts x + 1) (starts x) (ne_eqb x c there) in
-            are.asked awake x on waits (sym still ∙ same)
-      ];
+      first = λ n on none. grind (arith, nat_tests, cases_Bool, cond-true, cond-false);
+      asked = λ awake x on waits same.
+          grind (arith, nat_tests, cases_eq, cond-true, eq-eqb, cond-false, ne_eqb);
       named = are.named;
       told = λ k a at present.
           let t = are.told k a at present in

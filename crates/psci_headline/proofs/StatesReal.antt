@@ -9,7 +9,6 @@ use Rattle.psci_headline.proofs.Words.{first_starts, On, AreValues, hw_at, hw_co
 use Rattle.psci_headline.proofs.Words.{AckValue, IsAllowed, KnownLaws, WasMade, Record, acks}
 use Rattle.psci_headline.proofs.Words.{controller_values, firmware_values, IsLegalPast}
 use Rattle.psci_headline.proofs.Words.{was_in_state, StatesWereReal}
-use Rattle.psci_ctl_spec.specs.Values as controlled
 use Rattle.psci_ctl_spec.specs.Values.{starts_below}
 use Rattle.psci_fw_laws.specs.KnownBelow.{known_below}
 use Rattle.psci_headline.specs.Hardware.{said_hw}
@@ -144,12 +143,7 @@ all_real : (b : BoardValue) (past : List Record) → RealLaws b → IsLegalPast 
     → AreReal b past
 all_real b [] laws legal = record {
   seen = λ n has some. absurd (omega (arith, some, first_life b));
-  fresh = λ life n has now unknown off.
-      let first = first_controlled b in
-      first_seen b [] life n laws.sums now (record {
-        depth = ap (λ (v : controlled.Values). v.depth) first;
-        starts = ap (λ (v : controlled.Values). v.starts) first;
-      }) off;
+  fresh = λ life n has now unknown off. grind (arith, nat_tests, first_controlled, first_seen);
 }
 all_real b (r ∷ past) laws legal =
     let next : IsNext b r past = next_of b r past laws.down legal in

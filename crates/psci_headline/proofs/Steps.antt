@@ -41,24 +41,13 @@ module _ (b : BoardValue) (w : controlled.Values) (v : Values) (sent : List Mess
       → ((life : ℕ) → w.life ≡ Some life → life ≡ v.life → AreConfirming b w.starts v
       → AreConfirming b w.starts u)
       → ConfirmingNow b w u
-  own_life u same step life e = elim (cases_eq life v.life) [
-    | inl own ↦
-        subst (AreConfirming b w.starts) (sym (found_own b life u (own ∙ sym same)))
-        (step life e own (subst (AreConfirming b w.starts) (found_own b life v own) (h life e)))
-    | inr other ↦
-        subst (AreConfirming b w.starts)
-        (found_other b life v other ∙ sym (found_other b life u (λ f. other (f ∙ same))))
-        (h life e)
-  ]
+  own_life u same step life e = grind (arith, nat_tests, cases_eq, found_own, found_other)
 
   -- a core entered in the power controller's life
   entered : (u : Values) (s : Start) → w.life ≡ Some s.life → u.life ≡ s.life
       → (AreConfirming b w.starts (in_life b s.life v) → AreConfirming b w.starts u)
       → ConfirmingNow b w u
-  entered u s present life step now e =
-      let same : s.life ≡ now = let f : Some s.life ≡ Some now = sym present ∙ e in cc in
-      subst (AreConfirming b w.starts) (sym (found_own b now u (sym same ∙ sym life)))
-      (step (h s.life present))
+  entered u s present life step now e = grind (arith, nat_tests, found_own)
 
   taken : (a : AckValue) (i : ℕ) → slice_get made i ≡ Some a
       → ConfirmingNow b w (change b (Acknowledges a) v)

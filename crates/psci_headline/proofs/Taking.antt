@@ -2,8 +2,8 @@
 use Rattle.std.proofs.lemmas.Bool.Decides.{nat_tests}
 use Rattle.std.proofs.Common.{◌≤◌}
 use Rattle.psci_headline.proofs.Pursuing.{waiting_moved}
-use Rattle.std.proofs.Common.{◌≡◌, ℕ, ◌⊎◌, inl, inr, Bool, true, false, ◌&&◌, not, cond, List}
-use Rattle.std.proofs.Common.{length, Option, None, Some, refl, arith, subst, ap, sym, ◌∙◌}
+use Rattle.std.proofs.Common.{◌≡◌, ℕ, ◌⊎◌, inl, inr, Bool, true, false, ◌&&◌, cond, List}
+use Rattle.std.proofs.Common.{Option, None, Some, refl, arith, subst, ap, sym, ◌∙◌}
 use Rattle.std.specs.Prelude.{slice_get}
 use Rattle.std.proofs.lemmas.Bool.{and_parts, cases_lt, eqb-true, leb-true, or_cases}
 use Rattle.std.proofs.lemmas.Option.{same_Some, slice_get_within}
@@ -73,19 +73,8 @@ module _ {b : BoardValue} {starts : ℕ → ℕ} {depth : ℕ → ℕ → ℕ} {
   -- where it leaves nothing to be done, no part that was left out is live
   pub none_left : (told : IsTold b starts depth a m) (level : ℕ) (p : Part) → a.applied ≤ level
       → slice_get m.parts level ≡ Some p → IsLivePart b starts m level p → ⊥
-  none_left told level p high part live = elim (or_cases a.stale _ emptied.done) [
-    | inl stale ↦ told.stale kind stale level p high part live
-    | inr rest ↦ elim (or_cases (not (is_kind a.kind Down)) _ rest) [
-      | inl other ↦
-          let down : is_kind a.kind Down ≡ true =
-          ap (λ x. is_kind x Down) ((named a m emptied.answers).kind ∙ kind) in
-          let no : false ≡ true = sym (ap not down) ∙ other in absurd (cc)
-      | inr all ↦
-          let within = slice_get_within m.parts level p part in
-          let few = leb-true (length m.parts) a.applied all in
-          omega (arith, within, few, high)
-    ]
-  ]
+  none_left told level p high part live =
+      grind (arith, nat_tests, or_cases, named, slice_get_within, leb-true)
 
 -- an acknowledgement was taken
 pub waiting_taken : {b : BoardValue} {life : ℕ} {starts : ℕ → ℕ} {depth : ℕ → ℕ → ℕ}

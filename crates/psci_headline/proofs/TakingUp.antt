@@ -1,4 +1,6 @@
 -- An entry takes up the opening that waits for its core.
+use Rattle.std.proofs.lemmas.Bool.Decides.{nat_tests}
+use Rattle.std.proofs.Common.{arith}
 use Rattle.std.proofs.Common.{◌≡◌, ℕ, zero, suc, ◌<◌, List, ◌∷◌, Option, None, Some, refl, ap, sym}
 use Rattle.std.proofs.Common.{◌∙◌, subst}
 use Rattle.std.specs.Prelude.{slice_get}
@@ -20,16 +22,12 @@ module _ (n life : ℕ) (opening : ℕ → Option Opening) (made : List Made) (t
     (here : x.life ≡ life) (at : opening x.core ≡ Some x.opening) where
   -- what waited for the core
   waited : IsWaiting x.life x.core x.opening made taken
-  waited =
-      subst (λ l. IsWaiting l x.core x.opening made taken) (sym here)
-      (are.waits some x.core x.opening at)
+  waited = grind (arith, nat_tests)
 
   -- what was taken up
   took_last : (t : TakenUp) (m : Made) → slice_get (taking x made ∷ taken) 0 ≡ Some t
       → t.made ≡ Some m → newest x.core x.life made ≡ Some m
-  took_last t m at e =
-      let same : taking x made ≡ t = cc in
-      ap (λ (y : TakenUp). y.made) same ∙ e
+  took_last t m at e = grind (arith, nat_tests)
 
   is_last : (m : Made) → newest x.core x.life made ≡ Some m → m ≡ waited.last
   is_last m e = let both : Some m ≡ Some waited.last = sym e ∙ waited.is in cc

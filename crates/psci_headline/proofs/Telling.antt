@@ -1,9 +1,8 @@
 -- What a new acknowledgement says, once its message was carried out.
 use Rattle.std.proofs.lemmas.Bool.Decides.{nat_tests}
-use Rattle.psci_headline.proofs.Words.{ArePartsOf, BoardValue, height, up, Part, domain_of, AckLaws}
-use Rattle.psci_headline.proofs.Words.{applied, depth_or, is_stale, laid, ack_of, starts_below}
-use Rattle.psci_headline.proofs.Words.{is_on_path, Kind, Down, MessageValue, answers, is_kind}
-use Rattle.psci_headline.proofs.Words.{IsLivePart, IsTold}
+use Rattle.psci_headline.proofs.Words.{ArePartsOf, BoardValue, height, Part, domain_of, AckLaws}
+use Rattle.psci_headline.proofs.Words.{applied, is_stale, laid, ack_of, starts_below, Kind, Down}
+use Rattle.psci_headline.proofs.Words.{MessageValue, answers, is_kind, IsLivePart, IsTold}
 use Rattle.std.proofs.Common.{◌≡◌, ℕ, zero, suc, ◌+◌, ◌-◌, ◌<◌, ◌≤◌, Bool, true, List, [], ◌∷◌}
 use Rattle.std.proofs.Common.{length, take, Some, refl, arith, subst, ap, sym, ◌∙◌}
 use Rattle.std.specs.Prelude.{slice_get}
@@ -86,12 +85,7 @@ told_down b v m kind levels below laws = record {
   answers = own_name m n late;
   few = λ k. laws.few;
   applied = λ k level p low part live.
-      let on : is_on_path b c level (up b level c) ≡ true =
-      and_from _ _ (le-leb level (height b) (levels level p part).1) (eq-eqb _ _ refl) in
-      let get : slice_get (take n m.parts) level ≡ Some p =
-      get_take m.parts n level low ∙ part in
-      cond-true (is_on_path b c level (up b level c)) _ (v.depth level (up b level c)) on
-      ∙ ap (λ o. depth_or o (v.depth level (up b level c))) get;
+      grind (arith, nat_tests, and_from, le-leb, eq-eqb, get_take, cond-true);
   stale = λ k is level p high part live.
       let first = laws.stale is in
       let q : Part = first.0 in

@@ -10,10 +10,9 @@ use Rattle.std.proofs.lemmas.Bool.{and_from, and_parts, cases_Bool, leb-true, lt
 use Rattle.std.proofs.lemmas.Bool.{or_right}
 use Rattle.std.proofs.lemmas.Option.{same_Some}
 use Rattle.psci_headline.proofs.Words.{request_of, Code, Request, BoardValue, HasNode, height}
-use Rattle.psci_headline.proofs.Words.{nodes, Node, is_this_life, starts_below, IsLegal, hw_at}
-use Rattle.psci_headline.proofs.Words.{hw_code, node_hw, Values, Event, Call, Record, Said, Fw}
-use Rattle.psci_headline.proofs.Words.{controller_values, firmware_values, IsLegalPast}
-use Rattle.psci_headline.proofs.Words.{StatesWereReal}
+use Rattle.psci_headline.proofs.Words.{nodes, Node, IsLegal, hw_at, hw_code, node_hw, Values, Event}
+use Rattle.psci_headline.proofs.Words.{Call, Record, Said, Fw, controller_values, firmware_values}
+use Rattle.psci_headline.proofs.Words.{IsLegalPast, StatesWereReal}
 use Rattle.psci_world_spec.specs.psci_abi.declared.request.Request.TheVariants as requests
 use Rattle.psci_board.specs.Board.{node_of}
 use Rattle.psci_fw_laws.specs.psci_fw_spec.declared.hw.Hw.{Hw}
@@ -49,12 +48,7 @@ module _ (b : BoardValue) (life sum : ℕ) (h : Hw) (is : ℕ → Bool) (each : 
   -- a domain that is in this state has such a depth
   so_deep : (past : List Record) → IsLegalPast b past → is_in_state b life sum h past n ≡ true
       → is_so_deep b life sum is past n ≡ true
-  so_deep past legal e =
-      let v = controller_values b past in
-      let both = and_parts (is_this_life v.life life) _ e in
-      let rest = and_parts (starts_below b v.starts n == sum) _ both.1 in
-      and_from _ _ both.0 (and_from _ _ rest.0
-      (each (v.depth n.level n.place) (shallow past legal n.level n.place) rest.1))
+  so_deep past legal e = grind (arith, nat_tests, and_parts, and_from)
 
   -- and one that was has had it
   pub once_deep : (past : List Record) → IsLegalPast b past

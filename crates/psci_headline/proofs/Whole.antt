@@ -4,11 +4,10 @@ use Rattle.std.proofs.Common.{◌≡◌, ℕ, inl, inr, ◌<◌, Bool, true, fal
 use Rattle.std.proofs.Common.{Some, refl, arith, subst, ap, sym, ◌∙◌}
 use Rattle.std.proofs.lemmas.Bool.{cases_eq, cases_lt}
 use Rattle.std.proofs.lemmas.Option.{none-some}
-use Rattle.psci_headline.proofs.Words.{BoardValue, HasNode, cores, Node, OfCore, On, Status, Off}
-use Rattle.psci_headline.proofs.Words.{AreValues, in_life, hw_at, node_hw, Phase, Away, Values}
-use Rattle.psci_headline.proofs.Words.{Holds, Record, controller_values, firmware_values, sent}
-use Rattle.psci_headline.proofs.Words.{IsLegalPast, AreAtRest, is_halting, AreConfirming}
-use Rattle.psci_headline.proofs.Words.{IsYetToCome}
+use Rattle.psci_headline.proofs.Words.{BoardValue, HasNode, cores, Node, On, Off, AreValues}
+use Rattle.psci_headline.proofs.Words.{in_life, hw_at, node_hw, Phase, Away, Values, Holds, Record}
+use Rattle.psci_headline.proofs.Words.{controller_values, firmware_values, sent, IsLegalPast}
+use Rattle.psci_headline.proofs.Words.{AreAtRest, is_halting, AreConfirming, IsYetToCome}
 use Rattle.psci_headline.specs.psci_ctl_spec.Values as controlled
 use Rattle.psci_headline.specs.psci_fw_spec.Invariant.{agrees}
 use Rattle.psci_headline.proofs.Agreeing.{found_other, found_own}
@@ -54,26 +53,11 @@ module _ (b : BoardValue) (past : List Record) (laws : RunLaws b) (legal : IsLeg
 
   -- the firmware knows every start
   all_known : (c : ℕ) → c < cores b → found.known c ≡ w.starts c
-  all_known c at =
-      let agree = (laws.agree past legal).present on.life on.present in
-      elim (cases_eq (found.known c) (w.starts c)) [
-        | inl same ↦ same
-        | inr other ↦
-            absurd (rest.entered c at
-            (agree.started c at (omega (arith, other, agree.known c))))
-      ]
+  all_known c at = grind (arith, nat_tests, cases_eq)
 
   -- and so the life: the boot core would wait for its Start in another one
   own : 0 < cores b → on.life ≡ v.life
-  own some = elim (cases_eq on.life v.life) [
-    | inl same ↦ same
-    | inr other ↦
-        let first = found_other b on.life v other in
-        let waits = ((laws.waits past legal) on.life on.present).asked on.awake 0 some
-        (ap (λ (u : Values). u.phase 0) first) (sym (all_known 0 some)) in
-        absurd (none-some waits.message
-        (sym (ap (λ (u : Values). u.outstanding (OfCore 0)) first) ∙ waits.at))
-  ]
+  own some = grind (arith, nat_tests, cases_eq, found_other, all_known, none-some)
 
   -- so nothing is yet to come
   none_yet : 0 < cores b → (level place : ℕ)
@@ -124,13 +108,7 @@ module _ (b : BoardValue) (past : List Record) (laws : RunLaws b) (legal : IsLeg
       ]
 
   pub whole_at : Confirming b past → AreValues b v → IsToldWhole b past
-  whole_at confirming values = record {
-    hw = hw_now confirming;
-    off = off_now confirming;
-    away = λ c at off.
-        off_away (v.phase c)
-        (subst (λ (s : Status). agrees s (v.phase c) ≡ true) off (values.agree c));
-  }
+  whole_at confirming values = grind (arith, nat_tests, hw_now, off_now, nat_tests, off_away)
 
 pub whole : (b : BoardValue) (past : List Record) → RunLaws b → IsLegalPast b past
     → is_halting b past ≡ false → AreAtRest b past → Confirming b past

@@ -10,7 +10,7 @@ pub use Rattle.psci_ctl_spec.specs.Effects.{Begins, Deepens, Ends, Nothing, Star
 pub use Rattle.psci_ctl_spec.specs.Effects.{message_effect}
 pub use Rattle.psci_ctl_spec.specs.Follows.{MayFollow}
 pub use Rattle.psci_ctl_spec.specs.Laws.{AckLaws, SumLaws}
-pub use Rattle.psci_ctl_spec.specs.Parts.{applied, depth_or, is_stale, laid}
+pub use Rattle.psci_ctl_spec.specs.Parts.{applied, is_stale, laid}
 pub use Rattle.psci_ctl_spec.specs.Replies.{ack_by, ack_of, delivery_of, is_this_life, last_start}
 pub use Rattle.psci_ctl_spec.specs.Replies.{may_follow, reply, start_shown}
 pub use Rattle.psci_ctl_spec.specs.Values.{first_depth, first_starts, starts_below}
