@@ -71,19 +71,6 @@ sender_rests b v messages a m laws holds d life number runs =
     (inr (record { index = d.index; message = m; at = d.at; part = claim })) current c sound.core
     refl (ap v.phase (sym core) ∙ runs)
 
--- and if it is off or going off, its first depth is power-down
-sender_deep : (b : BoardValue) (v : Values) (messages : List MessageValue) (a : AckValue)
-    (m : MessageValue) → Holds b v messages → (d : IsOfDown messages a m) → a.life ≡ v.life
-    → a.number ≡ v.known a.core.number → v.phase a.core.number ≡ Away → d.first.item.depth ≡ 3
-sender_deep b v messages a m holds d life number away =
-    let c = m.core.number in
-    let core : a.core.number ≡ c = d.ack.core in
-    let present = (holds.messages d.index m d.at).present (sym d.ack.life ∙ life) in
-    let gone : v.phase c ≡ Away = ap v.phase (sym core) ∙ away in
-    present.asked d.kind (sym d.ack.number ∙ number ∙ ap v.known core)
-    (not_pending (v.phase c) gone) d.first.item d.first.at
-    ∙ away_asks (v.phase c) gone
-
 -- a delivered Down of which a part was applied made its core as deep as its first part
 now_deep : (b : BoardValue) (cv w : controlled.Values) (m : MessageValue) (a : AckValue) (c : ℕ)
     (p : Part) → CoreLaws b → m.kind ≡ kinds.Down → m.core.number ≡ c
@@ -118,5 +105,5 @@ new_is_down b r past a laws holds new kind some =
       begun = omega (arith, of.life, sent_one.begun);
       number = λ life. grind (arith, nat_tests);
       rests = sender_rests b v (sent past) a m laws holds d;
-      slept = λ life number away. grind (arith, nat_tests, slept_now, asleep_from, sender_deep);
+      slept = λ life number away. grind (arith, nat_tests, slept_now, asleep_from);
     }

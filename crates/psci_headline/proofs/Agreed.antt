@@ -27,7 +27,7 @@ use Rattle.psci_headline.proofs.Controlling.{after_control, more_controls}
 use Rattle.psci_headline.proofs.Happening.{happens}
 use Rattle.psci_ctl_spec.proofs.OneMore.{values_more}
 use Rattle.psci_headline.proofs.Moving.{CallerLaws, function_call}
-use Rattle.psci_headline.proofs.Placing.{acted, call_agrees, enter_agrees, take_agrees}
+use Rattle.psci_headline.proofs.Placing.{acted, call_agrees, enter_agrees}
 use Rattle.psci_headline.proofs.Sending.{after_call, legal_call}
 
 -- What the laws of the crates below say of a board.
@@ -147,7 +147,7 @@ took_next : (b : BoardValue) (past : List Record) (o : Option AckValue) (t : Tak
     → Now b past
     → AreAgreed b (controller_values b past) (place b past)
     (remembers.values_of b (took o t ++ firmware_history b past))
-took_next b past x2 t laws now = grind (arith, nat_tests, take_agrees)
+took_next b past o t laws now = grind (arith, nat_tests)
 
 take_next : (b : BoardValue) (past : List Record) (k : ℕ) (s : Said) → RunLaws b → Now b past
     → Next b past (Take k) s
@@ -160,7 +160,7 @@ take_next b past k s laws now = now
 event_next : (b : BoardValue) (past : List Record) (event : Event) (s : Said) → RunLaws b
     → Now b past → legal_controls.IsLegal b (after_control b past event s)
     → IsLegal b (after_call b past event s) → s ≡ legal b past event → Next b past event s
-event_next b past x2 s laws now controls calls e =
+event_next b past event s laws now controls calls e =
     grind (arith, nat_tests, call_next, enter_next, wake_next, reset_next, deliver_next, take_next)
 
 -- what the firmware keeps before all records

@@ -1,13 +1,13 @@
 -- What firmware and power controller know of each other, as a life begins, and as the controller
 -- goes on.
 use Rattle.std.proofs.lemmas.Bool.Decides.{nat_tests}
-use Rattle.std.proofs.Common.{◌≡◌, ℕ, ◌+◌, ◌≤◌, ◌==◌, cond}
+use Rattle.std.proofs.Common.{◌≡◌, ℕ, ◌+◌, ◌≤◌, ◌==◌}
 use Rattle.std.proofs.Common.{Option, None, Some, unwrap_or, arith, subst, ap, sym, ◌∙◌}
 use Rattle.std.proofs.lemmas.Bool.{cond-true, cond-false, eq-eqb}
 use Rattle.std.proofs.lemmas.Bool.{ne_eqb}
-use Rattle.psci_headline.proofs.Words.{BoardValue, next_life, one_more, MayFollow, first_starts}
-use Rattle.psci_headline.proofs.Words.{in_life, start_of_life, Values, Place, Started, Stopped}
-use Rattle.psci_headline.proofs.Words.{place_of_effect, AgreeIn}
+use Rattle.psci_headline.proofs.Words.{BoardValue, next_life, MayFollow, first_starts, in_life}
+use Rattle.psci_headline.proofs.Words.{start_of_life, Values, Place, Stopped, place_of_effect}
+use Rattle.psci_headline.proofs.Words.{AgreeIn}
 use Rattle.psci_ctl_spec.specs.Changes.{change}
 use Rattle.psci_ctl_spec.specs.Effects.{Effect}
 use Rattle.psci_ctl_spec.specs.Values as controlled
@@ -38,13 +38,6 @@ found_other b life v ne =
 
 -- The power controller -------------------------------------------------------------------------
 
--- a core is started
-started_in : (b : BoardValue) (starts : ℕ → ℕ) (place : ℕ → Place) (v : Values) (c : ℕ)
-    → AgreeIn b starts place v
-    → AgreeIn b (one_more starts c)
-    (λ x. unwrap_or (cond (x == c) (Some Started) None) (place x)) v
-started_in b starts place v c h = grind (arith, nat_tests, nat_tests)
-
 -- a life begins that is not the firmware's
 begins_in : (b : BoardValue) (life : ℕ) (v : Values) → (life ≡ v.life → ⊥)
     → AgreeIn b first_starts first_place (in_life b life v)
@@ -59,4 +52,4 @@ next_is o l life e f =
 pub control_agrees : (b : BoardValue) (w : controlled.Values) (place : ℕ → Place) (v : Values)
     (e : Effect) → MayFollow b w e → AreAgreed b w place v
     → AreAgreed b (change b e w) (λ x. unwrap_or (place_of_effect x e) (place x)) v
-control_agrees b w place v x4 may h = grind (arith, nat_tests, started_in, next_is, begins_in)
+control_agrees b w place v e may h = grind (arith, nat_tests, next_is, begins_in)

@@ -2,7 +2,7 @@
 use Rattle.std.proofs.lemmas.Bool.Decides.{nat_tests}
 use Rattle.std.proofs.Common.{arith}
 use Rattle.psci_headline.proofs.Deliveries.{present_life}
-use Rattle.std.proofs.Common.{◌≡◌, ℕ, suc, Bool, true, false, cond, List}
+use Rattle.std.proofs.Common.{◌≡◌, ℕ, suc, true, List}
 use Rattle.std.proofs.Common.{[], ◌∷◌, ◌++◌, Option, None, Some, refl}
 use Rattle.std.specs.Prelude.{slice_get}
 use Rattle.std.proofs.lemmas.Bool.{and_parts, eqb-true, false≢true}
@@ -45,28 +45,16 @@ record IsCarried (b : BoardValue) (level place : ℕ) (m : MessageValue) (p : Pa
   on : is_on_path b m.core.number level place ≡ true
   part : slice_get m.parts level ≡ Some p
 
--- an effect under a test
-applies_under : (b : BoardValue) (t : Bool) (f g : Effect) (level place : ℕ) (p : Part)
-    → (Applies b f level place p → ⊥) → (Applies b g level place p → ⊥)
-    → Applies b (cond t f g) level place p → ⊥
-applies_under b true f g level place p one other a = one a
-applies_under b false f g level place p one other a = other a
-
 carried_by : (b : BoardValue) (m : MessageValue) (a : AckValue) (kind : Kind) (level place : ℕ)
     (p : Part) → m.kind ≡ kind → Applies b (message_effect b m a kind) level place p
     → IsCarried b level place m p
-carried_by b m a x3 level place p e x = grind (arith, nat_tests, take_get, applies_under)
-
-acked_if : (t : Bool) (made a : AckValue)
-    → deliveries.Applied a ≡ cond t (deliveries.Applied made) deliveries.Ignored → t ≡ true
-acked_if true made a e = refl
-acked_if false made a e = absurd (cc)
+carried_by b m a kind level place p e x = grind (arith, nat_tests, take_get)
 
 acked_life : (b : BoardValue) (h : List controller.CtlExchange) (m : MessageValue) (a : AckValue)
     → replied.Delivery (deliveries.Applied a) ≡ reply b (controls.values_of b h) (asked.Deliver m)
     → controls.life b h ≡ Some m.life
 unfolding reply delivery_of controls.values_of
-acked_life b h m a e = grind (arith, nat_tests, present_life, acked_if)
+acked_life b h m a e = grind (arith, nat_tests, present_life)
 
 -- What a record adds --------------------------------------------------------------------------
 

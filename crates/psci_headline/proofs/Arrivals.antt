@@ -34,11 +34,6 @@ pub entry_halting : (b : BoardValue) (v : Values) (c : ℕ) (s : Start) (act : A
     → (change b (enter_effect c s act o) v).halting ≡ (in_life b s.life v).halting
 entry_halting b v c s act o = grind (arith, nat_tests)
 
-cleared_from : (t : Bool) (o : Option MessageValue) (m : MessageValue) → cond t None o ≡ Some m
-    → o ≡ Some m
-cleared_from true o m e = absurd (cc)
-cleared_from false o m e = e
-
 put_from : (t : Bool) (o : Option MessageValue) (n m : MessageValue) → n.kind ≡ kinds.Down
     → cond t (Some n) o ≡ Some m → m.kind ≡ kinds.Start → o ≡ Some m
 put_from true o n m down e start =
@@ -53,7 +48,7 @@ pub entry_slots : (b : BoardValue) (v : Values) (c : ℕ) (s : Start) (act : Act
     (o : Option MessageValue) (x : ℕ) (m : MessageValue) → IsAllowed b v (enter_effect c s act o)
     → (change b (enter_effect c s act o) v).outstanding (OfCore x) ≡ Some m
     → m.kind ≡ kinds.Start → (in_life b s.life v).outstanding (OfCore x) ≡ Some m
-entry_slots b v c s act o x m allowed e start = grind (arith, nat_tests, cleared_from, put_from)
+entry_slots b v c s act o x m allowed e start = grind (arith, nat_tests, put_from)
 
 -- The record -----------------------------------------------------------------------------------
 

@@ -6,16 +6,13 @@ use Rattle.std.proofs.Common.{arith}
 use Rattle.std.specs.Prelude.{nat_le, slice_get}
 use Rattle.std.specs.List.{list_all, range_with_len}
 use Rattle.std.proofs.lemmas.Bool.{and_from, cond_both, cond-true, eq-eqb, eqb-true, le-leb}
-use Rattle.psci_headline.proofs.Words.{BoardValue, HasNode, below, cores, height, Node, Part}
-use Rattle.psci_headline.proofs.Words.{MessageValue, is_on_path, SuspendMode, start_of_life, Away}
-use Rattle.psci_headline.proofs.Words.{Phase, Values, part_for, Record, firmware_values, sent_in}
-use Rattle.psci_headline.proofs.Words.{Claim, claim_by}
+use Rattle.psci_headline.proofs.Words.{BoardValue, HasNode, below, cores, Node, Part, MessageValue}
+use Rattle.psci_headline.proofs.Words.{is_on_path, SuspendMode, start_of_life, Away, Values}
+use Rattle.psci_headline.proofs.Words.{part_for, Record, firmware_values, sent_in, Claim, claim_by}
 use Rattle.psci_board.specs.Board.{up}
-use Rattle.psci_fw_laws.specs.psci_messages.psci_state.Cores.{asks}
 use Rattle.psci_fw_laws.specs.psci_fw_spec.declared.mode.SuspendMode.TheVariants.{Platform}
 use Rattle.psci_fw_laws.specs.psci_fw_spec.declared.mode.SuspendMode.TheVariants.{OsInitiated}
 use Rattle.psci_fw_laws.specs.psci_fw_spec.Lives.{first_phase}
-use Rattle.psci_fw_laws.specs.psci_fw_spec.Phases.{activity_of}
 use Rattle.psci_fw_laws.specs.psci_fw_spec.Views.{ask}
 use Rattle.psci_fw_laws.specs.Asked.{IsAskedFor}
 use Rattle.psci_fw_laws.proofs.Parts.{HasPart, part_has}
@@ -66,11 +63,6 @@ asked_by b life v n m p fair e =
 
 -- The start of a life --------------------------------------------------------------------------
 
--- a core that is away asks for power-down of its domains
-away_asks : (b : BoardValue) (level c : ℕ) (phase : Phase) → level ≤ height b → phase ≡ Away
-    → nat_le 3 (cond (nat_le level (height b)) (asks (activity_of phase) level) 0) ≡ true
-away_asks b level c phase low away = grind (arith, nat_tests, le-leb, cond-true)
-
 -- a core that the boot core's path does not lead to is away
 away_first : (b : BoardValue) (n : Node) (c : ℕ) → HasNode b n
     → is_on_path b 0 n.level n.place ≡ false → up b n.level c ≡ n.place → first_phase c ≡ Away
@@ -80,7 +72,7 @@ away_first b n c has off at =
 start_asked : (b : BoardValue) (life : ℕ) (n : Node) → HasNode b n
     → is_on_path b 0 n.level n.place ≡ false
     → all_ask b (start_of_life b life) n 3 n.level ≡ true
-start_asked b life n has off = grind (arith, nat_tests, all_below, away_asks, away_first)
+start_asked b life n has off = grind (arith, nat_tests, all_below, away_first, le-leb, cond-true)
 
 first_asked : (first : Claim) (t : Bool) (k : ℕ) (x : Claim) → (t ≡ false → first.asked ≡ true)
     → slice_get (cond t [] (first ∷ [])) k ≡ Some x → x.asked ≡ true

@@ -118,7 +118,7 @@ enters_in b before life past c laws way on at = record {
 entering_case : (b : BoardValue) (past : List Record) (c : ℕ) (P : List Record → Type 0)
     → (place b past c ≡ Started → P (step b past (Enter c))) → (HasEntered b c past → P past)
     → P (entering b past c)
-entering_case b past c x3 in_now not_now = grind (arith, nat_tests)
+entering_case b past c P in_now not_now = grind (arith, nat_tests)
 
 -- so an entry of each core, if it is started, with whatever else it leaves
 pub enter_step : (b : BoardValue) (before : List Record) (life : ℕ) (Kept : List Record → Type 0)

@@ -1,16 +1,17 @@
 -- What waits, after one call of the power controller or of the firmware.
+use Rattle.psci_headline.proofs.Quiet.{in_life_holds}
 use Rattle.std.proofs.lemmas.Bool.Decides.{nat_tests}
-use Rattle.std.proofs.Common.{◌≡◌, ℕ, zero, suc, ◌+◌, inl, inr, ◌<◌, ◌≤◌, Bool, true, false, ◌==◌}
+use Rattle.std.proofs.Common.{◌≡◌, ℕ, zero, suc, ◌+◌, inl, inr, ◌<◌, ◌≤◌, Bool, true, false}
 use Rattle.std.proofs.Common.{cond, List, ◌∷◌, ◌++◌, Option, Some, refl, arith, subst, ap, sym, ◌∙◌}
 use Rattle.std.specs.Prelude.{nat_lt, slice_get}
-use Rattle.std.proofs.lemmas.Bool.{cases_eq, cond_both, eqb-false}
+use Rattle.std.proofs.lemmas.Bool.{cases_eq}
 use Rattle.psci_headline.proofs.Words.{BoardValue, cores, PathLaws, Part, Cause, Start, next_life}
 use Rattle.psci_headline.proofs.Words.{Nothing, Starts, Ends, Begins, message_effect, MayFollow}
 use Rattle.psci_headline.proofs.Words.{AckLaws, SumLaws, ack_by, last_start, may_follow, Kind}
 use Rattle.psci_headline.proofs.Words.{AckValue, AreClaims, MessageValue, PartByPart, Act, change}
-use Rattle.psci_headline.proofs.Words.{with_acknowledgement, Effect, enter_effect, in_life}
-use Rattle.psci_headline.proofs.Words.{start_of_life, Values, IsAllowed, Holds, AreLive}
-use Rattle.psci_headline.proofs.Words.{AreOutstanding, Place, IsNamed, WaitingIn}
+use Rattle.psci_headline.proofs.Words.{with_acknowledgement, Effect, enter_effect, in_life, Values}
+use Rattle.psci_headline.proofs.Words.{IsAllowed, Holds, AreLive, AreOutstanding, Place, IsNamed}
+use Rattle.psci_headline.proofs.Words.{WaitingIn}
 use Rattle.psci_ctl_spec.specs.psci_messages.declared.start.Cause.TheVariants as causes
 use Rattle.psci_ctl_spec.specs.Changes as controlling
 use Rattle.psci_ctl_spec.specs.Effects as controlling_effects
@@ -18,7 +19,7 @@ use Rattle.psci_ctl_spec.specs.Values as controlled
 use Rattle.psci_ctl_spec.specs.psci_messages.declared.kind.Kind.TheVariants as kinds
 use Rattle.psci_headline.specs.psci_fw_spec.Said as says
 use Rattle.psci_headline.specs.psci_fw_laws.Messages.{AreSent}
-use Rattle.psci_headline.proofs.fw_laws.Arriving.{first_holds, found_life}
+use Rattle.psci_headline.proofs.fw_laws.Arriving.{found_life}
 use Rattle.psci_headline.proofs.fw_laws.Consequences.{once_down}
 use Rattle.psci_headline.proofs.fw_laws.Living.{live_laws}
 use Rattle.psci_headline.proofs.fw_laws.Sums.{known_le}
@@ -54,11 +55,7 @@ pub present_holds : (b : BoardValue) (w : controlled.Values) (place : ℕ → Pl
     (sent : List MessageValue) (life : ℕ) → IsGiven b w place v sent → w.life ≡ Some life
     → Holds b (in_life b life v) sent
 present_holds b w place v sent life given e =
-    cond_both (life == v.life) v (start_of_life b life) (λ u. Holds b u sent) (λ f. given.holds)
-    (λ f.
-    let other = eqb-false life v.life f in
-    first_holds b v.life v.halting v.known v.phase sent life (given.lives life e)
-    (omega (arith, given.agreed.begun life e, other)) given.holds.apart given.holds.messages)
+    in_life_holds b v sent life (given.agreed.begun life e) (given.lives life e) given.holds
 
 pub present_known : (b : BoardValue) (w : controlled.Values) (place : ℕ → Place) (v : Values)
     (sent : List MessageValue) (life : ℕ) → IsGiven b w place v sent → w.life ≡ Some life

@@ -21,13 +21,6 @@ abbrev pub with_claim_of : BoardValue → ℕ → Values → Node → Option Mes
     → List Claim
 with_claim_of b life v n o old = listed (option_and_then (λ m. claim_in b life v n m) o) ++ old
 
-by_part : (b : BoardValue) (v : Values) (n : Node) (c : ℕ) (P : Claim → Type 0) (old : List Claim)
-    (o : Option Part) (k : ℕ) (x : Claim)
-    → ((p : Part) → o ≡ Some p → P (claim_by b v n c p))
-    → ((j : ℕ) → slice_get old j ≡ Some x → P x)
-    → slice_get (listed (option_map (λ p. claim_by b v n c p) o) ++ old) k ≡ Some x → P x
-by_part b v n c x4 old x6 k x new before at = grind (arith, nat_tests)
-
 -- what holds of the claim that a message makes and of each older one holds of each
 pub by_claim : (b : BoardValue) (life : ℕ) (v : Values) (n : Node) (P : Claim → Type 0)
     (old : List Claim) (o : Option MessageValue) (k : ℕ) (x : Claim)
@@ -35,7 +28,7 @@ pub by_claim : (b : BoardValue) (life : ℕ) (v : Values) (n : Node) (P : Claim 
     → P (claim_by b v n m.core.number p))
     → ((j : ℕ) → slice_get old j ≡ Some x → P x)
     → slice_get (with_claim_of b life v n o old) k ≡ Some x → P x
-by_claim b life v n x4 old x6 k x new before at = grind (arith, nat_tests, by_part)
+by_claim b life v n P old o k x new before at = grind (arith, nat_tests)
 
 -- The start of a life --------------------------------------------------------------------------
 

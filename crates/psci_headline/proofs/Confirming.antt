@@ -116,7 +116,7 @@ module _ (b : BoardValue) (v : Values) (laws : KnownLaws b) (level place : ℕ) 
   acknowledged : (a : AckValue) (t : Bool) → confirms_on b v a level place ≡ t
       → cond t true (v.confirmed level place) ≡ true
       → How b v (change b (Acknowledges a) v) (Acknowledges a) level place
-  acknowledged a x1 by e = grind (arith, nat_tests)
+  acknowledged a t by e = grind (arith, nat_tests)
 
   pub confirmed_how : (e : Effect) → (change b e v).confirmed level place ≡ true
       → How b v (change b e v) e level place

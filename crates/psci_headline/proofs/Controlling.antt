@@ -4,8 +4,8 @@ use Rattle.std.proofs.Common.{◌≡◌, ℕ, ◌≤◌, List, [], ◌∷◌, �
 use Rattle.std.proofs.Common.{refl, subst}
 use Rattle.std.specs.Prelude.{slice_get}
 use Rattle.psci_headline.proofs.Words.{BoardValue, cores, AckValue, MessageValue, Event, Wake}
-use Rattle.psci_headline.proofs.Words.{Reset, Deliver, Record, Said, control, controller_values}
-use Rattle.psci_headline.proofs.Words.{delivered, sent, IsReplied, IsLegalPast, legal, indexed}
+use Rattle.psci_headline.proofs.Words.{Reset, Record, Said, control, controller_values, delivered}
+use Rattle.psci_headline.proofs.Words.{sent, IsReplied, IsLegalPast, legal, indexed}
 use Rattle.psci_board.specs.declared.limits.TheConstants.{MOST_CORES}
 use Rattle.psci_ctl_spec.specs.Exchange as controller
 use Rattle.psci_ctl_spec.specs.Legal as controls
@@ -42,12 +42,6 @@ deliver_legal b h messages k (Some m) ack are e answered is =
     let at = at_number messages k m e in
     (answered.0, are at.index m at.at, is)
 
-delivery_legal : (b : BoardValue) (past : List Record) (k : ℕ) (s : Said)
-    → AreSendable b (sent past) → IsReplied b (after_control b past (Deliver k) s)
-    → controls.IsLegal b (controller_history b past)
-    → controls.IsLegal b (after_control b past (Deliver k) s)
-delivery_legal b past k s are answered is = grind (arith, nat_tests, deliver_legal)
-
 wake_legal : (b : BoardValue) (past : List Record) (c : ℕ) (s : Said)
     → IsReplied b (after_control b past (Wake c) s)
     → controls.IsLegal b (controller_history b past) → s ≡ legal b past (Wake c)
@@ -69,7 +63,7 @@ event_legal : (b : BoardValue) (past : List Record) (event : Event) (s : Said)
     → controls.IsLegal b (controller_history b past) → s ≡ legal b past event
     → controls.IsLegal b (after_control b past event s)
 event_legal b past event s are answered is e =
-    grind (arith, nat_tests, wake_legal, reset_legal, delivery_legal)
+    grind (arith, nat_tests, wake_legal, reset_legal, deliver_legal)
 
 -- The whole run --------------------------------------------------------------------------------
 

@@ -1,10 +1,10 @@
 -- What one effect does to the firmware's life, and to the known start, phase and status of a core.
 use Rattle.psci_fw_laws.specs.psci_fw_spec.Effects.{Nothing}
 use Rattle.std.proofs.lemmas.Bool.Decides.{nat_tests}
-use Rattle.std.proofs.Common.{◌≡◌, ℕ, ◌<◌, ◌≤◌, ◌⊎◌, inl, Bool, true, false, ◌==◌, cond, Some}
+use Rattle.std.proofs.Common.{◌≡◌, ℕ, ◌<◌, ◌≤◌, ◌⊎◌, inl, true, Some}
 use Rattle.std.proofs.Common.{refl, arith, ap, sym, ◌∙◌, ◌&&◌}
 use Rattle.std.specs.Prelude.{nat_lt}
-use Rattle.std.proofs.lemmas.Bool.{and_parts, cond_both, eqb-false, eqb-true, ltb-true}
+use Rattle.std.proofs.lemmas.Bool.{and_parts, cond_both, ltb-true}
 use Rattle.psci_headline.proofs.Words.{BoardValue, Down, AckValue, is_kind, change, target, Effect}
 use Rattle.psci_headline.proofs.Words.{GoesOn, SetsMode, AsksOn, Rests, Halts, Stops, Enters, Parks}
 use Rattle.psci_headline.proofs.Words.{StopsAtOnce, Acknowledges, in_life, start_of_life, Phase}
@@ -13,7 +13,6 @@ use Rattle.psci_headline.proofs.Words.{Nothing}
 use Rattle.psci_ctl_spec.specs.psci_messages.declared.start.Start as starts
 use Rattle.psci_fw_laws.specs.psci_fw_spec.declared.status.Status.TheVariants as statuses
 use Rattle.psci_fw_laws.specs.psci_fw_spec.Changes.{turns_off}
-use Rattle.psci_fw_laws.specs.psci_fw_spec.Lives.{first_status}
 use Rattle.psci_fw_laws.specs.psci_fw_spec.Phases.{Running, is_away}
 use Rattle.psci_fw_laws.specs.Allowed.{IsEntering}
 use Rattle.psci_fw_laws.proofs.Parts.{updated_at}
@@ -87,28 +86,16 @@ in_present : (v w : Values) (c d number : ℕ) (e : Effect) → v.known d < numb
     → IsArrived v w c d number → IsStep v w c e
 in_present v w c d number e later is = grind (arith, nat_tests, updated_at)
 
-not_boot : (c : ℕ) → first_status c ≡ statuses.Off → c ≡ 0 → ⊥
-not_boot c e x2 = grind (arith, nat_tests)
-
 -- a core entered in another life
 in_another : (b : BoardValue) (v w : Values) (c d number life : ℕ) (e : Effect) → v.life ≤ life
     → (life ≡ v.life → ⊥) → Begins life e → IsArrived (start_of_life b life) w c d number
     → IsStep v w c e
-in_another b v w c d number life e later other begins is = grind (arith, nat_tests, not_boot)
-
-by_life : (b : BoardValue) (v w : Values) (c d number life : ℕ) (e : Effect) (t : Bool)
-    → v.life ≤ life → (life ≡ v.life → v.known d < number) → Begins life e
-    → (life == v.life) ≡ t → IsArrived (cond t v (start_of_life b life)) w c d number
-    → IsStep v w c e
-by_life b v w c d number life e true low later begins same is =
-    in_present v w c d number e (later (eqb-true life v.life same)) is
-by_life b v w c d number life e false low later begins same is =
-    in_another b v w c d number life e low (eqb-false life v.life same) begins is
+in_another b v w c d number life e later other begins is = grind (arith, nat_tests)
 
 enters : (b : BoardValue) (v w : Values) (c d : ℕ) (s : starts.Start) (e : Effect)
     → IsEntering b v d s → Begins s.life e → IsArrived (in_life b s.life v) w c d s.number
     → IsStep v w c e
-enters b v w c d s e entering begins is = grind (arith, nat_tests, by_life)
+enters b v w c d s e entering begins is = grind (arith, nat_tests)
 
 -- Acknowledgements ----------------------------------------------------------------------------
 

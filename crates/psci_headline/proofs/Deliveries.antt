@@ -1,27 +1,26 @@
 -- What a legal record leaves of the power controller's values, and the acknowledgement it says.
+use Rattle.psci_headline.proofs.Controlling.{more_controls}
 use Rattle.std.proofs.lemmas.Bool.Decides.{nat_tests}
 use Rattle.std.proofs.Common.{arith}
 use Rattle.std.proofs.Common.{◌≡◌, ℕ, ◌⊎◌, Bool, true, false, cond, List, [], ◌∷◌}
-use Rattle.std.proofs.Common.{◌++◌, Option, None, Some, refl, ap, sym, ◌∙◌, length}
+use Rattle.std.proofs.Common.{Option, None, Some, refl, ap, sym, ◌∙◌, length}
 use Rattle.std.proofs.lemmas.Bool.{eqb-true}
 use Rattle.psci_headline.proofs.Words.{BoardValue, message_effect, ack_by, is_this_life}
 use Rattle.psci_headline.proofs.Words.{first_depth, first_starts, FwReply, AckValue, MessageValue}
 use Rattle.psci_headline.proofs.Words.{Event, Deliver, Record, Said, Acked, ack_in, acks, control}
-use Rattle.psci_headline.proofs.Words.{controller_values, delivered, sent, said_by, said_of}
-use Rattle.psci_headline.proofs.Words.{indexed, legal}
+use Rattle.psci_headline.proofs.Words.{controller_values, sent, said_by, said_of, indexed, legal}
 use Rattle.psci_ctl_spec.specs.declared.delivery.Delivery.TheVariants as deliveries
 use Rattle.psci_ctl_spec.specs.declared.kick.Kick.{Kick}
 use Rattle.psci_ctl_spec.specs.declared.kick.Kick.TheVariants as kicks
 use Rattle.psci_ctl_spec.specs.declared.reply.CtlReply.TheVariants as replied
 use Rattle.psci_ctl_spec.specs.Changes.{after, change}
-use Rattle.psci_ctl_spec.specs.Effects.{Effect, effect_of}
+use Rattle.psci_ctl_spec.specs.Effects.{effect_of}
 use Rattle.psci_ctl_spec.specs.Exchange.{CtlExchange}
 use Rattle.psci_ctl_spec.specs.History.{values_of}
 use Rattle.psci_ctl_spec.specs.Replies.{delivery_of, reply}
 use Rattle.psci_ctl_spec.specs.Values.{Values}
 use Rattle.psci_ctl_spec.proofs.OneMore.{values_more}
 use Rattle.psci_fw_laws.specs.psci_fw_spec.declared.reply.FwReply.TheVariants as replies
-use Rattle.psci_world_spec.specs.Histories.{controller_history}
 use Rattle.psci_headline.proofs.Saying.{of_event}
 
 -- What a record adds ---------------------------------------------------------------------------
@@ -32,19 +31,9 @@ IsFew [] = Unit {0}
 IsFew (e ∷ []) = Unit {0}
 IsFew (e ∷ f ∷ es) = ⊥
 
-few_delivered : (m : Option MessageValue) (a : AckValue) → IsFew (delivered m a)
-few_delivered None a = tt
-few_delivered (Some m) a = tt
-
 pub few : (v : Values) (messages : List MessageValue) (event : Event) (said : Said)
     → IsFew (control v messages event said)
-few v messages event said = grind (arith, nat_tests, few_delivered)
-
-history_more : (b : BoardValue) (r : Record) (past : List Record)
-    → controller_history b (r ∷ past)
-    ≡ control (controller_values b past) (sent past) r.event r.said ++ controller_history b past
-unfolding controller_history
-history_more b r past = refl
+few v messages event said = grind (arith, nat_tests)
 
 pub values_by : (b : BoardValue) (e : CtlExchange) (h : List CtlExchange)
     → values_of b (e ∷ h) ≡ change b (effect_of b e.call e.reply) (values_of b h)
@@ -58,17 +47,12 @@ pub record IsFirst (b : BoardValue) (v : Values) : Type 0 where
   pub depth : v.depth ≡ first_depth b
   pub starts : v.starts ≡ first_starts
 
-life_by : (b : BoardValue) (e : Effect) (v : Values) (life : ℕ)
-    → (change b e v).life ≡ Some life
-    → (v.life ≡ Some life) ⊎ IsFirst b (change b e v)
-life_by b x1 v life e = grind (arith, nat_tests)
-
 by_control : (b : BoardValue) (r : Record) (past : List Record) (life : ℕ) (es : List CtlExchange)
     → control (controller_values b past) (sent past) r.event r.said ≡ es → IsFew es
     → (controller_values b (r ∷ past)).life ≡ Some life
     → ((controller_values b past).life ≡ Some life)
     ⊎ IsFirst b (controller_values b (r ∷ past))
-by_control b r past life x4 adds is e = grind (arith, nat_tests, history_more, values_by, life_by)
+by_control b r past life es adds is e = grind (arith, nat_tests, more_controls, values_by)
 
 -- after a record the life is the one before, or it begins
 pub life_before : (b : BoardValue) (r : Record) (past : List Record) (life : ℕ)
@@ -165,7 +149,7 @@ new_values : (b : BoardValue) (r : Record) (past : List Record) (a : AckValue)
     controller_values b (r ∷ past)
     ≡ change b (message_effect b m a m.kind) (controller_values b past)
 unfolding effect_of
-new_values b r past a d = grind (arith, nat_tests, history_more, values_by)
+new_values b r past a d = grind (arith, nat_tests, more_controls, values_by)
 
 pub new_ack : (b : BoardValue) (r : Record) (past : List Record) (a : AckValue)
     → r.said ≡ legal b past r.event → ack_in r.said ≡ Some a → IsNew b r past a

@@ -7,8 +7,8 @@ use Rattle.std.proofs.Common.{◌≡◌, ℕ, inl, inr, ◌<◌, true, List}
 use Rattle.std.proofs.Common.{refl, subst, sym, ◌∙◌}
 use Rattle.psci_headline.proofs.Words.{BoardValue, PathLaws, Start, MessageValue, change}
 use Rattle.psci_headline.proofs.Words.{with_arrival, Rests, Stops, Enters, Parks, StopsAtOnce}
-use Rattle.psci_headline.proofs.Words.{in_life, Phase, Away, Pending, unless_pending, Values}
-use Rattle.psci_headline.proofs.Words.{IsAllowed, Holds, KnownLaws, is_system, AreConfirming}
+use Rattle.psci_headline.proofs.Words.{in_life, Away, Values, IsAllowed, Holds, KnownLaws}
+use Rattle.psci_headline.proofs.Words.{is_system, AreConfirming}
 use Rattle.psci_headline.specs.psci_fw_spec.Changes.{Rest, with_halt, with_phase, with_rest}
 use Rattle.psci_headline.specs.psci_fw_spec.Phases.{Running}
 use Rattle.psci_headline.proofs.fw_laws.Parts.{updated_at}
@@ -19,13 +19,9 @@ use Rattle.psci_headline.proofs.Coming.{on_path, yet_still}
 
 -- A core goes on or halts ----------------------------------------------------------------------
 
-never_away : (p : Phase) → unless_pending p Running ≡ Away → ⊥
-never_away Pending e = absurd (cc)
-never_away p e = absurd (cc)
-
 pub goes_on : (b : BoardValue) (starts : ℕ → ℕ) (v : Values) (c : ℕ) → AreConfirming b starts v
     → AreConfirming b starts (with_phase c Running v)
-goes_on b starts v c are = grind (arith, nat_tests, updated_at, never_away)
+goes_on b starts v c are = grind (arith, nat_tests, updated_at)
 
 pub halts : (b : BoardValue) (starts : ℕ → ℕ) (v : Values) (c : ℕ) (m : MessageValue)
     → is_system m.kind ≡ true → AreConfirming b starts v

@@ -50,7 +50,7 @@ module _ (b : BoardValue) (found after : Values) (c : ℕ) (s : Start) (a k : �
 
   opened : (o : Option Opening) → acts.Enter a k ≡ (outcome_at b found after c s o).act
       → o ≡ Some (record { address = a; context = k })
-  opened x0 e = grind (arith, nat_tests, resumed)
+  opened o e = grind (arith, nat_tests, resumed)
 
   opened_unless : (t : Bool) (o : Option Opening)
       → acts.Enter a k ≡ (cond t stops (outcome_at b found after c s o)).act
@@ -60,7 +60,7 @@ module _ (b : BoardValue) (found after : Values) (c : ℕ) (s : Start) (a k : �
 
 answered : (act : Act) (m : Option MessageValue) (fault : Option FwFault) (o : Outcome)
     → replies.Out (record { act = act; message = m }) ≡ reply_or fault o → act ≡ o.act
-answered act m x2 o e = grind (arith, nat_tests)
+answered act m fault o e = grind (arith, nat_tests)
 
 entered_at : (b : BoardValue) (v : Values) (c : ℕ) (s : Start) (act : Act)
     (m : Option MessageValue) (x : EnteredAt)
@@ -118,7 +118,7 @@ module _ (b : BoardValue) (n : ℕ) (v : Values) (made : List Made) (taken : Lis
       (cond t v (start_of_life b s.life)).opening
       (listed (cond t None (made_at (OfLife s.life) 0 s.life
       (Some (record { address = b.boot; context = 0 })))) ++ made) taken
-  found_waits c s x2 is low = grind (arith, nat_tests, begun, eqb-false)
+  found_waits c s t is low = grind (arith, nat_tests, begun, eqb-false)
 
   rested : (c : ℕ) (o : Option Opening)
       → AreWaiting (suc n) v.life (updated v.opening c (option_or o (v.opening c)))

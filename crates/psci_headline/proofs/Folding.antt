@@ -52,4 +52,4 @@ pub each_done : (does : List Record → ℕ → List Record) (n : ℕ) (Holds : 
     (Todo Done : ℕ → List Record → Type 0) → IsStep does n Holds Todo Done
     → (past : List Record) → Holds past → ((c : ℕ) → c < n → Todo c past)
     → AreDone n Holds Done (each_core does (range_with_len 0 n) past)
-each_done does n x2 x3 x4 laws past holds todo = grind (arith, nat_tests, from_core)
+each_done does n Holds Todo Done laws past holds todo = grind (arith, nat_tests, from_core)

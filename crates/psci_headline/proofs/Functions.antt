@@ -23,7 +23,7 @@ no_entry b v c r =
 
 by_fault : (b : BoardValue) (v : Values) (c : ℕ) (r : Request) (o : Outcome) (f : Option FwFault)
     → replies.Out o ≡ reply_or f (outcome_of b v c r) → Ends o
-by_fault b v c r o x5 e = grind (arith, nat_tests, no_entry)
+by_fault b v c r o f e = grind (arith, nat_tests, no_entry)
 
 -- what a call is answered is no entry
 pub call_ends : (b : BoardValue) (v : Values) (c : ℕ) (regs : Regs) (o : Outcome)

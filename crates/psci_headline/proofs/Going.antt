@@ -130,7 +130,7 @@ slots_now : (b : BoardValue) (before : List Record) (life : ℕ) (past : List Re
 slots_now b before life past laws going = grind (arith, nat_tests)
 
 core_kind : (k : Kind) → is_system k ≡ false → (k ≡ kinds.Start → ⊥) → k ≡ kinds.Down
-core_kind x0 e ne = grind (arith, nat_tests)
+core_kind k e ne = grind (arith, nat_tests)
 
 pub out_now : (b : BoardValue) (before : List Record) (life : ℕ) (past : List Record) (c : ℕ)
     (m : MessageValue) → SettleLaws b → IsGoing b before life past

@@ -1,18 +1,20 @@
 -- A message was asked for by the values of its own record.
+use Rattle.psci_headline.proofs.Sending.{more_calls}
 use Rattle.std.proofs.lemmas.Bool.Decides.{nat_tests}
 use Rattle.std.proofs.Common.{◌≡◌, ℕ, suc, ◌⊎◌, inl, inr, List, [], ◌∷◌, ◌++◌, Option, None}
 use Rattle.std.proofs.Common.{Some, refl, ap, sym, ◌∙◌, subst, arith}
 use Rattle.std.specs.Prelude.{slice_get}
-use Rattle.psci_headline.proofs.Words.{BoardValue, Part, Start, Down, Taken, AckValue, MessageValue}
-use Rattle.psci_headline.proofs.Words.{Outcome, FwExchange, effect, values_of, listed, AreRising}
-use Rattle.psci_headline.proofs.Words.{part_for, Event, Record, Said, acks, call, controller_values}
-use Rattle.psci_headline.proofs.Words.{entered, firmware_values, sent_in, took, IsLegalPast}
+use Rattle.psci_headline.proofs.Words.{BoardValue, Part, Down, Taken, AckValue, MessageValue}
+use Rattle.psci_headline.proofs.Words.{FwExchange, effect, values_of, listed, AreRising, part_for}
+use Rattle.psci_headline.proofs.Words.{Event, Record, Said, acks, call, controller_values}
+use Rattle.psci_headline.proofs.Words.{firmware_values, sent_in, took, IsLegalPast}
+use Rattle.psci_headline.proofs.Words.{firmware_history}
 use Rattle.psci_ctl_spec.specs.Values as controlled
 use Rattle.psci_fw_laws.specs.psci_fw_spec.Said as says
 use Rattle.psci_fw_laws.specs.psci_fw_spec.Sent.{sent_messages}
 use Rattle.psci_fw_laws.specs.Asked.{IsAskedFor, WasAsked}
 use Rattle.psci_fw_laws.proofs.Parts.{part_has}
-use Rattle.psci_world_spec.specs.Histories.{firmware_history, sent}
+use Rattle.psci_world_spec.specs.Histories.{sent}
 use Rattle.psci_headline.proofs.Asking.{WereAsked}
 
 -- Records --------------------------------------------------------------------------------------
@@ -21,10 +23,6 @@ use Rattle.psci_headline.proofs.Asking.{WereAsked}
 abbrev OneOrNone : List FwExchange → Type 0
 OneOrNone list = (list ≡ []) ⊎ ((e : FwExchange) × (list ≡ e ∷ []))
 
-entered_one : (c : ℕ) (s : Option Start) (o : Outcome) → OneOrNone (entered c s o)
-entered_one c None o = inl refl
-entered_one c (Some s) o = inr (_, refl)
-
 took_one : (a : Option AckValue) (t : Taken) → OneOrNone (took a t)
 took_one None t = inl refl
 took_one (Some a) t = inr (_, refl)
@@ -32,13 +30,7 @@ took_one (Some a) t = inr (_, refl)
 -- a record adds one exchange at most to the firmware's history
 adds_one : (v : controlled.Values) (made : List AckValue) (event : Event) (said : Said)
     → OneOrNone (call v made event said)
-adds_one v made event said = grind (arith, nat_tests, entered_one, took_one)
-
-more_calls : (b : BoardValue) (r : Record) (past : List Record)
-    → firmware_history b (r ∷ past)
-    ≡ call (controller_values b past) (acks past) r.event r.said ++ firmware_history b past
-unfolding firmware_history
-more_calls b r past = refl
+adds_one v made event said = grind (arith, nat_tests, took_one)
 
 more_sent : (r : Record) (past : List Record)
     → sent (r ∷ past) ≡ listed (sent_in r.said) ++ sent past

@@ -1,4 +1,5 @@
 -- What a legal record leaves of the firmware's values.
+use Rattle.psci_headline.proofs.Sending.{after_call, more_calls}
 use Rattle.psci_fw_laws.specs.psci_fw_spec.Effects.{Nothing}
 use Rattle.std.proofs.lemmas.Bool.Decides.{nat_tests}
 use Rattle.std.proofs.Common.{arith}
@@ -12,8 +13,7 @@ use Rattle.psci_headline.proofs.Words.{MessageValue, IsAllowed, Event, Call, Ent
 use Rattle.psci_headline.proofs.Words.{Running, Stopped, Record, Said, Fw, Absent, Sent, acks, call}
 use Rattle.psci_headline.proofs.Words.{controller_values, entered, firmware_values, outcome_in}
 use Rattle.psci_headline.proofs.Words.{if_started, place, enters_or_resumes, enters_or_resumes_by}
-use Rattle.psci_headline.proofs.Words.{Nothing}
-use Rattle.psci_world_spec.specs.Histories.{firmware_history}
+use Rattle.psci_headline.proofs.Words.{Nothing, firmware_history}
 use Rattle.psci_world_spec.specs.Legal.{legal, on_board}
 use Rattle.psci_headline.proofs.Functions.{call_ends}
 use Rattle.psci_headline.proofs.Records.{IsAdded, IsOfRecord, added}
@@ -30,7 +30,7 @@ record EntersOrResumes (b : BoardValue) (c : ℕ) (es : List FwExchange) : Type 
 enters_by : (c : ℕ) (s : Start) (act : Act) (m : Option MessageValue)
     → enters_or_resumes_by act ≡ true
     → enter_effect c s act m ≡ Enters c s
-enters_by c s x2 m e = grind (arith, nat_tests)
+enters_by c s act m e = grind (arith, nat_tests)
 
 -- without a start nothing is said of an entry
 not_started : (b : BoardValue) (past : List Record) (c : ℕ) (p : Place) (act : Act)
@@ -51,11 +51,6 @@ goes_at b past c act m (Some s) is by = record {
   adds = refl;
   enters = enters_by c s act (outcome_in act m).message by;
 }
-
--- the history after a record, whose event says this
-abbrev after_call : BoardValue → List Record → Event → Said → List FwExchange
-after_call b past event s =
-    call (controller_values b past) (acks past) event s ++ firmware_history b past
 
 goes : (b : BoardValue) (past : List Record) (c : ℕ) (event : Event) (said : Said)
     → said ≡ legal b past event → IsLegal b (after_call b past event said)
@@ -97,11 +92,6 @@ pub record FirmwareLaws (b : BoardValue) : Type 0 where
 abbrev added_by : BoardValue → Record → List Record → List FwExchange
 added_by b r past = call (controller_values b past) (acks past) r.event r.said
 
-history_more : (b : BoardValue) (r : Record) (past : List Record)
-    → firmware_history b (r ∷ past) ≡ added_by b r past ++ firmware_history b past
-unfolding firmware_history
-history_more b r past = refl
-
 by_added : (b : BoardValue) (r : Record) (past : List Record) (es : List FwExchange)
     → FirmwareLaws b
     → r.said ≡ legal b past r.event → IsLegal b (firmware_history b (r ∷ past))
@@ -110,11 +100,11 @@ by_added : (b : BoardValue) (r : Record) (past : List Record) (es : List FwExcha
 by_added b r past [] laws is valid adds says = record {
   effect = Nothing;
   allowed = tt;
-  values = ap (values_of b) (history_more b r past
+  values = ap (values_of b) (more_calls b r past
       ∙ ap (λ (es : List FwExchange). es ++ firmware_history b past) adds);
   says = record { starts = λ a e. absurd (cc); takes = λ a e. absurd (cc) };
   goes = λ c by.
-      let on = goes b past c r.event r.said is (subst (IsLegal b) (history_more b r past) valid)
+      let on = goes b past c r.event r.said is (subst (IsLegal b) (more_calls b r past) valid)
       by in
       let no : on.entry ∷ [] ≡ [] = sym on.adds ∙ adds in
       absurd (cc);
@@ -122,7 +112,7 @@ by_added b r past [] laws is valid adds says = record {
 by_added b r past (e ∷ []) laws is valid adds says =
     let h = firmware_history b past in
     let more : firmware_history b (r ∷ past) ≡ e ∷ h =
-    history_more b r past ∙ ap (λ (es : List FwExchange). es ++ h) adds in
+    more_calls b r past ∙ ap (λ (es : List FwExchange). es ++ h) adds in
     record {
       effect = effect b e;
       allowed = laws.allowed e h (subst (IsLegal b) more valid);
@@ -130,7 +120,7 @@ by_added b r past (e ∷ []) laws is valid adds says =
       says = says;
       goes = λ c by.
           let on = goes b past c r.event r.said is
-          (subst (IsLegal b) (history_more b r past) valid) by in
+          (subst (IsLegal b) (more_calls b r past) valid) by in
           let same : on.entry ∷ [] ≡ e ∷ [] = sym on.adds ∙ adds in
           let one : on.entry ≡ e = cc in
           (on.start, ap (effect b) (sym one) ∙ on.enters);

@@ -172,7 +172,7 @@ goes_in b v c s = grind (arith, nat_tests, arrived)
 
 stops_in : (b : BoardValue) (v : Values) (c : ℕ) (s : Start) (o : Option MessageValue)
     → IsMoved (in_life b s.life v) (change b (enter_effect c s acts.Stop o) v) c s.number false
-stops_in b v c s x4 = grind (arith, nat_tests, arrived, rests)
+stops_in b v c s o = grind (arith, nat_tests, arrived, rests)
 
 -- the effect of an entry
 pub entry_moves : (b : BoardValue) (v : Values) (c : ℕ) (s : Start) (act : Act)

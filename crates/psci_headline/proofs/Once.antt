@@ -50,9 +50,6 @@ fitting t (m, is, f) =
 
 -- No two --------------------------------------------------------------------------------------
 
-maker_same : (m n : Maker) → is_same_maker m n ≡ true → m ≡ n
-maker_same x0 x1 e = grind (arith, nat_tests, eqb-true)
-
 maker_itself : (m : Maker) → is_same_maker m m ≡ true
 maker_itself (OfLife life) = eq-eqb life life refl
 maker_itself (OfCall before) = eq-eqb before before refl
@@ -66,12 +63,7 @@ record AreSame (made other : Option Made) : Type 0 where
   maker : one.maker ≡ two.maker
 
 same_made : (made other : Option Made) → is_same_made made other ≡ true → AreSame made other
-same_made x0 other e = grind (arith, nat_tests, maker_same)
-
-made_same : (made other : Option Made) (m n : Made) → made ≡ Some m → other ≡ Some n
-    → m.maker ≡ n.maker → is_same_made made other ≡ true
-made_same made other m n is so maker = rw (is, so) (
-    ap (is_same_maker m.maker) (sym maker) ∙ maker_itself m.maker)
+same_made made other e = grind (arith, nat_tests, eqb-true)
 
 -- no two of them took up the same opening
 abbrev AreOnce : List TakenUp → Type 0
@@ -83,7 +75,7 @@ later_apart : (t : TakenUp) (ts : List TakenUp) (k : ℕ) (u : TakenUp) (m n : M
     → are_apart (t ∷ ts) ≡ true → slice_get ts k ≡ Some u → t.made ≡ Some m → u.made ≡ Some n
     → m.maker ≡ n.maker → ⊥
 later_apart t ts k u m n e at is so maker =
-    grind (arith, nat_tests, each_item, and_parts, both_ways, not-true, made_same)
+    grind (arith, nat_tests, each_item, and_parts, both_ways, not-true)
 
 once : (ts : List TakenUp) → are_apart ts ≡ true → AreOnce ts
 once [] e j k t u m n at too is so maker = absurd (cc)

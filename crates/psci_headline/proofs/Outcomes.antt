@@ -55,7 +55,7 @@ outcome_sends b v c r =
 -- the outcome of a call that is not refused
 pub call_sends : (b : BoardValue) (v : Values) (c : ℕ) (r : Request) (o : Outcome)
     (f : Option FwFault) → replies.Out o ≡ reply_or f (outcome_of b v c r) → Sends b c r o
-call_sends b v c r o x5 e = grind (arith, nat_tests, outcome_sends)
+call_sends b v c r o f e = grind (arith, nat_tests, outcome_sends)
 
 -- Entries --------------------------------------------------------------------------------------
 
@@ -65,7 +65,7 @@ EnterSends c s o = says.sent (enter_effect c s o.act o.message) ≡ o.message
 
 opened : (b : BoardValue) (found arrived : Values) (c : ℕ) (s : Start) (o : Option Opening)
     → EnterSends c s (outcome_at b found arrived c s o)
-opened b found arrived c s x5 = grind (arith, nat_tests)
+opened b found arrived c s o = grind (arith, nat_tests)
 
 entry_sends : (b : BoardValue) (v : Values) (c : ℕ) (s : Start)
     → EnterSends c s (enter_outcome b v c s)
@@ -75,4 +75,4 @@ entry_sends b v c s = grind (arith, nat_tests, opened)
 -- the outcome of an entry that is not refused
 pub enter_sends : (b : BoardValue) (v : Values) (c : ℕ) (s : Start) (o : Outcome)
     (f : Option FwFault) → replies.Out o ≡ reply_or f (enter_outcome b v c s) → EnterSends c s o
-enter_sends b v c s o x5 e = grind (arith, nat_tests, entry_sends)
+enter_sends b v c s o f e = grind (arith, nat_tests, entry_sends)

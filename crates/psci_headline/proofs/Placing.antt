@@ -4,10 +4,9 @@ use Rattle.std.proofs.lemmas.Bool.Decides.{nat_tests}
 use Rattle.std.proofs.Common.{◌≡◌, ℕ, ◌<◌, ◌==◌, true, false, cond, Option, None, Some}
 use Rattle.std.proofs.Common.{refl, unwrap_or, arith, subst}
 use Rattle.std.proofs.lemmas.Bool.{cases_eq, eqb-false, eqb-true}
-use Rattle.psci_headline.proofs.Words.{BoardValue, cores, Start, last_start, AckValue, MessageValue}
-use Rattle.psci_headline.proofs.Words.{Act, change, with_acknowledgement, Effect, enter_effect}
-use Rattle.psci_headline.proofs.Words.{in_life, Phase, is_running, Values, IsAllowed, Place}
-use Rattle.psci_headline.proofs.Words.{Started, Running, Stopped, AgreeIn}
+use Rattle.psci_headline.proofs.Words.{BoardValue, cores, Start, last_start, MessageValue, Act}
+use Rattle.psci_headline.proofs.Words.{change, Effect, enter_effect, in_life, Phase, is_running}
+use Rattle.psci_headline.proofs.Words.{Values, IsAllowed, Place, Started, Running, Stopped, AgreeIn}
 use Rattle.psci_ctl_spec.specs.Values as controlled
 use Rattle.psci_fw_laws.specs.psci_fw_spec.Outcomes.{executes_on}
 use Rattle.psci_fw_laws.specs.psci_fw_spec.Phases as phases
@@ -29,9 +28,6 @@ record IsPlace (act : Act) : Type 0 where
   pub runs : place_after act ≡ Running → executes_on act ≡ true
   pub stops : place_after act ≡ Stopped → executes_on act ≡ false
 
-is_place : (act : Act) → IsPlace act
-is_place act = grind (arith, nat_tests)
-
 -- the places after an act of a core
 abbrev pub acted : (ℕ → Place) → ℕ → Act → ℕ → Place
 acted place c act x = unwrap_or (cond (x == c) (Some (place_after act)) None) (place x)
@@ -40,7 +36,7 @@ acted place c act x = unwrap_or (cond (x == c) (Some (place_after act)) None) (p
 acted_at : (place : ℕ → Place) (c : ℕ) (act : Act) (x : ℕ) (p : Place) (G : Type 0)
     → acted place c act x ≡ p → (x ≡ c → place_after act ≡ p → G)
     → ((x ≡ c → ⊥) → place x ≡ p → G) → G
-acted_at place c act x p x5 e here there = grind (arith, nat_tests, eqb-true, eqb-false)
+acted_at place c act x p G e here there = grind (arith, nat_tests, eqb-true, eqb-false)
 
 -- One core acts --------------------------------------------------------------------------------
 
@@ -49,7 +45,7 @@ moved : (b : BoardValue) (starts : ℕ → ℕ) (place : ℕ → Place) (v w : V
     → AgreeIn b starts place v → IsMoved v w c (starts c) (executes_on act)
     → AgreeIn b starts (acted place c act) w
 moved b starts place v w c act h m =
-    grind (arith, nat_tests, cases_eq, acted_at, is_place, running, eqb-true, eqb-false)
+    grind (arith, nat_tests, cases_eq, acted_at, running, eqb-true, eqb-false)
 
 -- Calls ----------------------------------------------------------------------------------------
 
@@ -102,8 +98,3 @@ enter_agrees b u place v c s act o last h =
     grind (arith, nat_tests, last_is, entry_moves, found_life, found_own, moved)
 
 -- Acknowledgements -----------------------------------------------------------------------------
-
--- an acknowledgement changes neither known starts nor phases
-pub take_agrees : (b : BoardValue) (u : controlled.Values) (place : ℕ → Place) (v : Values)
-    (a : AckValue) → AreAgreed b u place v → AreAgreed b u place (with_acknowledgement b a v)
-take_agrees b u place v a h = grind (arith, nat_tests, cases_eq, found_own, found_other)

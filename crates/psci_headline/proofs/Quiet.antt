@@ -19,7 +19,7 @@ use Rattle.psci_headline.proofs.LiveOnes.{is_live_one}
 -- Values in a life ----------------------------------------------------------------------------
 
 -- what the firmware keeps true holds in each life that is its own or a later one
-in_life_holds : (b : BoardValue) (v : Values) (ms : List MessageValue) (life : ℕ)
+pub in_life_holds : (b : BoardValue) (v : Values) (ms : List MessageValue) (life : ℕ)
     → v.life ≤ life → life ≤ b.lives → Holds b v ms → Holds b (in_life b life v) ms
 in_life_holds b v ms life begun last holds =
     cond_both (life == v.life) v (start_of_life b life) (λ w. Holds b w ms) (λ e. holds)
@@ -34,7 +34,7 @@ in_life_holds b v ms life begun last holds =
 at_rest : (b : BoardValue) (starts : ℕ → ℕ) (places : ℕ → Place) (v : Values) (c : ℕ) (p : Place)
     → AgreeIn b starts places v → c < cores b → v.known c ≡ starts c
     → (v.phase c ≡ phases.Running → ⊥) → places c ≡ p → executes p ≡ true → ⊥
-at_rest b starts places v c x5 agree on known rests e x = grind (arith, nat_tests, false≢true)
+at_rest b starts places v c p agree on known rests e x = grind (arith, nat_tests, false≢true)
 
 pub none_executes : (b : BoardValue) (past : List Record) → PathLaws b
     → AreValues b (controller_values b past)

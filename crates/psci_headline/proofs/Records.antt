@@ -3,11 +3,11 @@ use Rattle.std.proofs.lemmas.Bool.Decides.{nat_tests}
 use Rattle.std.proofs.Common.{arith}
 use Rattle.std.proofs.Common.{◌≡◌, ℕ, true}
 use Rattle.std.proofs.Common.{List, [], ◌∷◌, Option, Some, refl}
-use Rattle.psci_headline.proofs.Words.{request_of, BoardValue, Cause, Start, last_start}
-use Rattle.psci_headline.proofs.Words.{start_shown, Act, Effect, Acknowledges, enter_effect}
-use Rattle.psci_headline.proofs.Words.{function_effect, FwExchange, effect, Arrival, arrived, Taken}
-use Rattle.psci_headline.proofs.Words.{AckValue, MessageValue, Event, Call, Enter, Take, Said, Fw}
-use Rattle.psci_headline.proofs.Words.{Sent, call, entered, outcome_in, took, indexed}
+use Rattle.psci_headline.proofs.Words.{request_of, BoardValue, Start, last_start, Act, Effect}
+use Rattle.psci_headline.proofs.Words.{Acknowledges, enter_effect, function_effect, FwExchange}
+use Rattle.psci_headline.proofs.Words.{effect, Arrival, arrived, Taken, AckValue, MessageValue}
+use Rattle.psci_headline.proofs.Words.{Event, Call, Enter, Take, Said, Fw, Sent, call, entered}
+use Rattle.psci_headline.proofs.Words.{outcome_in, took, indexed}
 use Rattle.psci_ctl_spec.specs.Values as controlled
 use Rattle.psci_world_spec.specs.declared.said.Said.TheVariants.{Taken as Took}
 use Rattle.psci_headline.proofs.Moving.{function_call, is_call}
@@ -25,19 +25,9 @@ of_caller : (v : controlled.Values) (made : List AckValue) (e : Effect) → is_c
     → IsOfRecord v made e
 of_caller v made e of = grind (arith, nat_tests)
 
--- the start that a core is shown is of the power controller's life
-shown_life : (life : Option ℕ) (n : ℕ) (cause : Cause) (s : Start)
-    → start_shown life n cause ≡ Some s → life ≡ Some s.life
-shown_life x0 n cause s e = grind (arith, nat_tests)
-
-of_arrival : (v : controlled.Values) (made : List AckValue) (c : ℕ) (s : Start) (e : Effect)
-    → v.life ≡ Some s.life → arrived e ≡ Some (record { core = c; start = s })
-    → ((a : AckValue) → e ≡ Acknowledges a → ⊥) → IsOfRecord v made e
-of_arrival v made c s e life is none = grind (arith, nat_tests)
-
 of_entry : (v : controlled.Values) (made : List AckValue) (c : ℕ) (s : Start) (act : Act)
     (m : Option MessageValue) → v.life ≡ Some s.life → IsOfRecord v made (enter_effect c s act m)
-of_entry v made c s act m life = grind (arith, nat_tests, of_arrival)
+of_entry v made c s act m life = grind (arith, nat_tests)
 
 -- What a record adds --------------------------------------------------------------------------
 
@@ -50,11 +40,11 @@ IsAdded b v made (e ∷ f ∷ es) = ⊥
 added_entered : (b : BoardValue) (v : controlled.Values) (made : List AckValue) (c : ℕ)
     (s : Option Start) (act : Act) (m : Option Sent) → last_start v c ≡ s
     → IsAdded b v made (entered c s (outcome_in act m))
-added_entered b v made c x4 act m last = grind (arith, nat_tests, of_entry, shown_life)
+added_entered b v made c s act m last = grind (arith, nat_tests, of_entry)
 
 added_took : (b : BoardValue) (v : controlled.Values) (made : List AckValue) (k : ℕ)
     (a : Option AckValue) (t : Taken) → indexed made k ≡ a → IsAdded b v made (took a t)
-added_took b v made k x4 t at = grind (arith, nat_tests, at_number)
+added_took b v made k a t at = grind (arith, nat_tests, at_number)
 
 pub added : (b : BoardValue) (v : controlled.Values) (made : List AckValue) (event : Event)
     (said : Said) → IsAdded b v made (call v made event said)

@@ -57,15 +57,6 @@ call_passed b u place v c are h on at =
 
 -- Entries --------------------------------------------------------------------------------------
 
-enter_passes : (absent lifeless old : Bool) → absent ≡ false → lifeless ≡ false → old ≡ false
-    → cond absent (Some faults.NoCore) (cond lifeless (Some faults.NoLife)
-    (cond old (Some faults.OldStart) None))
-    ≡ None
-enter_passes true lifeless old e f g = absurd (cc)
-enter_passes false true old e f g = absurd (cc)
-enter_passes false false true e f g = absurd (cc)
-enter_passes false false false e f g = refl
-
 -- A start that is new to the core.
 record IsNew (b : BoardValue) (v : Values) (c : ℕ) (s : Start) : Type 0 where
   pub begun : 0 < s.life
@@ -82,8 +73,7 @@ not_old b v c s new =
 
 new_passed : (b : BoardValue) (v : Values) (c : ℕ) (s : Start) → c < cores b → IsNew b v c s
     → enter_fault b v c s ≡ None
-new_passed b v c s on new =
-    grind (arith, nat_tests, enter_passes, there, or_from, ne_eqb, le-ltb, not_old)
+new_passed b v c s on new = grind (arith, nat_tests, there, or_from, ne_eqb, le-ltb, not_old)
 
 pub enter_passed : (b : BoardValue) (u : controlled.Values) (place : ℕ → Place) (v : Values)
     (c : ℕ) → controlling.AreValues b u → AreAgreed b u place v → c < cores b

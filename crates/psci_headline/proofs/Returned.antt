@@ -46,7 +46,7 @@ some_life (suc life) s t u is e = omega arith
 by_fault : (b : BoardValue) (v : Values) (d : ℕ) (r : Request) (code : Code) (o : Outcome)
     (f : Option FwFault) → call_fault b v d ≡ f → o.act ≡ acts.Return code
     → replies.Out o ≡ reply_or f (outcome_of b v d r) → IsReturned b v d r code
-by_fault b v d r code o x6 none act e = grind (arith, nat_tests, by_outcome, some_life)
+by_fault b v d r code o f none act e = grind (arith, nat_tests, by_outcome, some_life)
 
 by_answer : (b : BoardValue) (v : Values) (d : ℕ) (regs : Regs) (code : Code) (o : Outcome)
     → o.act ≡ acts.Return code → replies.Out o ≡ answer b v d (Smc regs)

@@ -66,4 +66,5 @@ module _ (b : BoardValue) (past : List Record) (P : Event → Said → Type 0)
 
   pub of_event : (event : Event) → P event (legal b past event)
   unfolding legal
-  of_event x0 = grind (arith, nat_tests, of_board, of_call, of_entry, of_wake, of_delivery, of_take)
+  of_event event =
+      grind (arith, nat_tests, of_board, of_call, of_entry, of_wake, of_delivery, of_take)

@@ -75,23 +75,17 @@ enter_same b past c s same is e = same
 took_none : (b : BoardValue) (h : List firmware.FwExchange) (o : Option AckValue) (t : Taken)
     → sent_messages b (took o t ++ h) ≡ sent_messages b h
 unfolding sent_messages
-took_none b h x2 t = grind (arith, nat_tests)
-
--- an event that sends nothing adds no exchange, or one of an acknowledgement
-quiet_call : (b : BoardValue) (past : List Record) (event : Event) (s : Said)
-    → is_quiet event ≡ true → sent_messages b (after_call b past event s)
-    ≡ sent_messages b (firmware_history b past)
-quiet_call b past event s q = grind (arith, nat_tests, took_none)
+took_none b h o t = grind (arith, nat_tests)
 
 quiet_same : (b : BoardValue) (past : List Record) (event : Event) (s : Said)
     → sent past ≡ sent_messages b (firmware_history b past) → s ≡ legal b past event
     → is_quiet event ≡ true → Same b past event s
-quiet_same b past event s same e q = grind (arith, nat_tests, sends_nothing, quiet_call)
+quiet_same b past event s same e q = grind (arith, nat_tests, sends_nothing, took_none)
 
 event_same : (b : BoardValue) (past : List Record) (event : Event) (s : Said)
     → sent past ≡ sent_messages b (firmware_history b past)
     → IsLegal b (after_call b past event s) → s ≡ legal b past event → Same b past event s
-event_same b past x2 s same is e = grind (arith, nat_tests, call_same, enter_same, quiet_same)
+event_same b past event s same is e = grind (arith, nat_tests, call_same, enter_same, quiet_same)
 
 -- The whole run --------------------------------------------------------------------------------
 

@@ -47,7 +47,7 @@ slept_still b life r past c was none =
 -- Reports --------------------------------------------------------------------------------------
 
 pub status_off : (s : Status) → is_off_status s ≡ true → s ≡ Off
-status_off x0 e = grind (arith, nat_tests)
+status_off s e = grind (arith, nat_tests)
 
 -- what it means that a core is reported OFF
 pub reported : (b : BoardValue) (past : List Record) (c : ℕ) → is_reported_off b past c ≡ true

@@ -28,7 +28,7 @@ use Rattle.psci_headline.proofs.Taking.{same_kind}
 start_life : (b : BoardValue) (w : controlled.Values) (m : MessageValue) (a : AckValue)
     (kind : Kind) → kind ≡ kinds.Start
     → (controlling.change b (message_effect b m a kind) w).life ≡ w.life
-start_life b w m a x4 e = grind (arith, nat_tests)
+start_life b w m a kind e = grind (arith, nat_tests)
 
 -- nothing of it is left to be done
 start_done : (a : AckValue) (m : MessageValue) → a.kind ≡ kinds.Start → is_done a m ≡ true

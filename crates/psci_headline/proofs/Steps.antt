@@ -1,7 +1,7 @@
 -- What is told, after one call of the firmware or of the power controller.
 use Rattle.psci_headline.specs.psci_fw_spec.Effects.{Nothing}
 use Rattle.std.proofs.lemmas.Bool.Decides.{nat_tests}
-use Rattle.std.proofs.Common.{◌≡◌, ℕ, inl, inr, ◌+◌, ◌<◌, ◌≤◌, Bool, true, false, ◌==◌, cond, List}
+use Rattle.std.proofs.Common.{◌≡◌, ℕ, inl, inr, ◌+◌, ◌≤◌, Bool, true, false, ◌==◌, cond, List}
 use Rattle.std.proofs.Common.{Option, Some, refl, arith, subst, sym, ◌∙◌}
 use Rattle.std.specs.Prelude.{slice_get}
 use Rattle.std.proofs.lemmas.Bool.{cases_eq, cond_both}
@@ -99,11 +99,6 @@ module _ (b : BoardValue) (w : controlled.Values) (v : Values) (sent : List Mess
 
 -- The power controller -------------------------------------------------------------------------
 
--- the start of a life
-first_confirmed_by : (t : Bool) → 0 < cond t 3 0 → t ≡ true
-first_confirmed_by true some = refl
-first_confirmed_by false some = absurd (omega (arith, some))
-
 first_off : (t : Bool) → cond t Pending Away ≡ Away
     → cond t statuses.Pending statuses.Off ≡ statuses.Off
 first_off true e = absurd (cc)
@@ -111,7 +106,7 @@ first_off false e = refl
 
 pub first : (b : BoardValue) (starts : ℕ → ℕ) (life : ℕ)
     → AreConfirming b starts (start_of_life b life)
-first b starts life = grind (arith, nat_tests, first_confirmed_by, first_off)
+first b starts life = grind (arith, nat_tests, first_off)
 
 pub first_now : (b : BoardValue) (starts : ℕ → ℕ) (life : ℕ)
     → AreConfirming b starts (in_life b life (start_of_life b 0))
@@ -143,7 +138,7 @@ one_later false n = omega arith
 begins : (b : BoardValue) (w : controlled.Values) (v : Values) (o : Option ℕ) (life : ℕ)
     → ((l : ℕ) → w.life ≡ Some l → v.life ≤ l) → w.life ≡ o → next_life o ≡ Some life
     → (starts : ℕ → ℕ) → AreConfirming b starts (in_life b life v)
-begins b w v x3 life begun is e starts = grind (arith, nat_tests, found_other, first)
+begins b w v o life begun is e starts = grind (arith, nat_tests, found_other, first)
 
 pub controlled_by : (b : BoardValue) (w : controlled.Values) (v : Values)
     (e : controlling_effects.Effect) → KnownLaws b

@@ -2,8 +2,8 @@
 use Rattle.std.proofs.lemmas.Bool.Decides.{nat_tests}
 use Rattle.std.proofs.Common.{◌≤◌}
 use Rattle.psci_headline.proofs.Pursuing.{waiting_moved}
-use Rattle.std.proofs.Common.{◌≡◌, ℕ, ◌⊎◌, inl, inr, Bool, true, false, ◌&&◌, cond, List}
-use Rattle.std.proofs.Common.{Option, None, Some, refl, arith, subst, ap, sym, ◌∙◌}
+use Rattle.std.proofs.Common.{◌≡◌, ℕ, ◌⊎◌, inl, inr, Bool, true, List}
+use Rattle.std.proofs.Common.{Option, None, Some, arith, subst, ap, sym, ◌∙◌}
 use Rattle.std.specs.Prelude.{slice_get}
 use Rattle.std.proofs.lemmas.Bool.{and_parts, cases_lt, eqb-true, leb-true, or_cases}
 use Rattle.std.proofs.lemmas.Option.{same_Some, slice_get_within}
@@ -34,19 +34,11 @@ pub record IsEmptied (a : AckValue) (m : MessageValue) : Type 0 where
   pub answers : answers a m ≡ true
   pub done : is_done a m ≡ true
 
-emptied_or : (a : AckValue) (m : MessageValue) (s t : Bool) → answers a m && is_done a m ≡ t
-    → (cond s (cond t None (Some m)) (Some m) ≡ Some m) ⊎ IsEmptied a m
-emptied_or a m false t e = inl refl
-emptied_or a m true false e = inl refl
-emptied_or a m true true e =
-    let both = and_parts (answers a m) (is_done a m) e in
-    inr (record { answers = both.0; done = both.1 })
-
 -- what was outstanding for a core stays, or was emptied
 pub still_or : (outstanding : Slot → Option MessageValue) (a : AckValue) (x : ℕ)
     (m : MessageValue) → outstanding (OfCore x) ≡ Some m
     → (changed (OfCore x) (Acknowledge a) (outstanding (OfCore x)) ≡ Some m) ⊎ IsEmptied a m
-still_or outstanding a x m e = grind (arith, nat_tests, emptied_or)
+still_or outstanding a x m e = grind (arith, nat_tests)
 
 -- The acknowledgement --------------------------------------------------------------------------
 

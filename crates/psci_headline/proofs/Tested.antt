@@ -72,7 +72,7 @@ not_running Started e same = cc
 not_running p e same = cc
 
 pub still : (p : Place) → (p ≡ Running → ⊥) → not (executes_outside p) ≡ true
-still x0 h = grind (arith, nat_tests)
+still p h = grind (arith, nat_tests)
 
 pub off_tested : (b : BoardValue) (past : List Record)
     → ((is_off_stopped b past && is_off_down b past) ≡ true) ↔ OffIsDown b past

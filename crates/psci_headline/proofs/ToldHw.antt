@@ -1,17 +1,16 @@
 -- What NODE_HW_STATE answers with HW_OFF or HW_STANDBY: the domain was so deep at some moment.
+use Rattle.psci_headline.proofs.ToldOff.{named_node}
 use Rattle.std.proofs.lemmas.Bool.Decides.{nat_tests}
-use Rattle.std.proofs.Common.{◌≡◌, ℕ, zero, suc, ◌+◌, ◌<◌, ◌≤◌, Bool, true, false, not, ◌==◌, cond}
-use Rattle.std.proofs.Common.{List, [], ◌∷◌, Option, None, Some, refl, ap, sym, ◌∙◌, subst}
-use Rattle.std.proofs.Common.{arith, pos, inl, inr, option_map}
-use Rattle.std.specs.Prelude.{nat_le, nat_lt}
+use Rattle.std.proofs.Common.{◌≡◌, ℕ, ◌<◌, ◌≤◌, Bool, true, not, ◌==◌, cond}
+use Rattle.std.proofs.Common.{List, [], ◌∷◌, None, Some, refl, ap, sym, ◌∙◌, subst}
+use Rattle.std.proofs.Common.{arith, pos, inl, inr}
+use Rattle.std.specs.Prelude.{nat_lt}
 use Rattle.std.specs.Ordering.{int_eq}
-use Rattle.std.specs.List.{find, range_with_len}
-use Rattle.std.proofs.lemmas.Bool.{and_from, and_parts, cases_Bool, leb-true, lt-ltb, or_left}
+use Rattle.std.proofs.lemmas.Bool.{and_from, and_parts, cases_Bool, lt-ltb, or_left}
 use Rattle.std.proofs.lemmas.Bool.{or_right}
-use Rattle.std.proofs.lemmas.Option.{same_Some}
-use Rattle.psci_headline.proofs.Words.{request_of, Code, Request, BoardValue, HasNode, height}
-use Rattle.psci_headline.proofs.Words.{nodes, Node, IsLegal, hw_at, hw_code, node_hw, Values, Event}
-use Rattle.psci_headline.proofs.Words.{Call, Record, Said, Fw, controller_values, firmware_values}
+use Rattle.psci_headline.proofs.Words.{request_of, Code, Request, BoardValue, HasNode, Node}
+use Rattle.psci_headline.proofs.Words.{IsLegal, hw_at, hw_code, node_hw, Values, Event, Call}
+use Rattle.psci_headline.proofs.Words.{Record, Said, Fw, controller_values, firmware_values}
 use Rattle.psci_headline.proofs.Words.{IsLegalPast, StatesWereReal}
 use Rattle.psci_world_spec.specs.psci_abi.declared.request.Request.TheVariants as requests
 use Rattle.psci_board.specs.Board.{node_of}
@@ -88,37 +87,6 @@ pub said_standby : (b : BoardValue) (past : List Record) (n : Node) → AreShall
     → WasSoDeep b is_standby_depth past n
 said_standby b past n = said_deep b past n Standby is_standby_depth of_standby refl
 
--- The domain that a word names ----------------------------------------------------------------
-
--- what is found among the numbers from one on is one of them
-find_inside : (p : ℕ → Bool) (a count i : ℕ) → find p (range_with_len a count) ≡ Some i
-    → i < a + count
-find_inside p a zero i e = absurd (cc)
-find_inside p a (suc count) i e = elim (cases_Bool (p a)) [
-  | inl here ↦
-      let found = rw here at e in
-      let same : a ≡ i = same_Some a i found in
-      omega (arith, same)
-  | inr other ↦
-      let later = rw other at e in
-      omega (arith, find_inside p (a + 1) count i later)
-]
-
-node_at : (b : BoardValue) (level : ℕ) (t : Bool) (o : Option ℕ) (n : Node)
-    → nat_le level (height b) ≡ t → ((i : ℕ) → o ≡ Some i → i < nodes b level)
-    → cond t (option_map (λ i. record { level = level; place = i }) o) None ≡ Some n
-    → HasNode b n
-node_at b level false o n is inside e = absurd (cc)
-node_at b level true None n is inside e = absurd (cc)
-node_at b level true (Some i) n is inside e =
-    subst (HasNode b) (same_Some _ n e)
-    (record { level = leb-true _ _ is; place = inside i refl })
-
-named_node : (b : BoardValue) (word level : ℕ) (n : Node) → node_of b word level ≡ Some n
-    → HasNode b n
-unfolding node_of
-named_node b word level n e = grind (arith, nat_tests, node_at, find_inside)
-
 -- The answer ----------------------------------------------------------------------------------
 
 -- What is so of the firmware's values where NODE_HW_STATE answers this of a domain.
@@ -157,10 +125,10 @@ unfolding firmware_history
 told_by b r past state n valid told = by_record b past state n r.event r.said valid told
 
 off_by : (h : Hw) → int_eq (pos (hw_code h)) (pos 1) ≡ true → h ≡ Off
-off_by x0 e = grind (arith, nat_tests)
+off_by h e = grind (arith, nat_tests)
 
 standby_by : (h : Hw) → int_eq (pos (hw_code h)) (pos 2) ≡ true → h ≡ Standby
-standby_by x0 e = grind (arith, nat_tests)
+standby_by h e = grind (arith, nat_tests)
 
 pub was_off : (b : BoardValue) (r : Record) (past : List Record) (n : Node) → AreShallow b
     → IsLegalPast b past → IsLegal b (firmware_history b (r ∷ past)) → StatesWereReal b past

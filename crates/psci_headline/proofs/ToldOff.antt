@@ -1,4 +1,10 @@
 -- What AFFINITY_INFO answers with OFF: each core of the domain is reported OFF.
+use Rattle.std.proofs.lemmas.Bool.{cases_Bool}
+use Rattle.psci_headline.proofs.Words.{HasNode, request_of, Code, Request, BoardValue, below, cores}
+use Rattle.psci_headline.proofs.Words.{has_node, height, nodes, PathLaws, Node, Status, Off}
+use Rattle.psci_headline.proofs.Words.{IsLegal, Values, Event, Call, Record, Said, Fw}
+use Rattle.psci_headline.proofs.Words.{firmware_values, OffIsDown}
+use Rattle.std.specs.List.{find}
 use Rattle.std.proofs.lemmas.Bool.Decides.{nat_tests}
 use Rattle.std.proofs.lemmas.Bool.{or_parts}
 use Rattle.std.proofs.Common.{◌≡◌, ℕ, zero, suc, ◌+◌, ◌<◌, ◌≤◌, Bool, true, false, ◌==◌, cond}
@@ -11,10 +17,6 @@ use Rattle.std.proofs.lemmas.Bool.{and_from, cases_lt, cond-true, eq-eqb, eqb-tr
 use Rattle.std.proofs.lemmas.Bool.{leb-true}
 use Rattle.std.proofs.lemmas.Bool.{lt-ltb}
 use Rattle.std.proofs.lemmas.Option.{same_Some}
-use Rattle.psci_headline.proofs.Words.{request_of, Code, Request, BoardValue, below, cores}
-use Rattle.psci_headline.proofs.Words.{has_node, height, nodes, PathLaws, Node, Status, Off}
-use Rattle.psci_headline.proofs.Words.{IsLegal, Values, Event, Call, Record, Said, Fw}
-use Rattle.psci_headline.proofs.Words.{firmware_values, OffIsDown}
 use Rattle.psci_world_spec.specs.psci_abi.declared.request.Request.TheVariants as requests
 use Rattle.psci_board.specs.Board.{node_of, size_below, up}
 use Rattle.psci_fw_laws.specs.psci_fw_spec.declared.outcome.Act.TheVariants as acts
@@ -56,7 +58,7 @@ over_off false true e = absurd (cc)
 over_off false false e = (refl, refl)
 
 neither : (s : Status) → is_on s ≡ false → is_pending_status s ≡ false → s ≡ Off
-neither x0 on pending = grind (arith, nat_tests)
+neither s on pending = grind (arith, nat_tests)
 
 -- each core below a domain whose status is OFF is OFF
 core_off : (b : BoardValue) (status : ℕ → Status) (n : Node) (c : ℕ) → PathLaws b
@@ -87,6 +89,37 @@ core_off b status n c paths low off on at =
         (none_kept (λ x. is_pending_status (status x)) test 0 (size_below b.levels) c both.1
         (omega arith) (omega (arith, on)) (eq-eqb _ _ at))
 
+-- The domain that a word names ----------------------------------------------------------------
+
+-- what is found among the numbers from one on is one of them
+find_inside : (p : ℕ → Bool) (a count i : ℕ) → find p (range_with_len a count) ≡ Some i
+    → i < a + count
+find_inside p a zero i e = absurd (cc)
+find_inside p a (suc count) i e = elim (cases_Bool (p a)) [
+  | inl here ↦
+      let found = rw here at e in
+      let same : a ≡ i = same_Some a i found in
+      omega (arith, same)
+  | inr other ↦
+      let later = rw other at e in
+      omega (arith, find_inside p (a + 1) count i later)
+]
+
+node_at : (b : BoardValue) (level : ℕ) (t : Bool) (o : Option ℕ) (n : Node)
+    → nat_le level (height b) ≡ t → ((i : ℕ) → o ≡ Some i → i < nodes b level)
+    → cond t (option_map (λ i. record { level = level; place = i }) o) None ≡ Some n
+    → HasNode b n
+node_at b level false o n is inside e = absurd (cc)
+node_at b level true None n is inside e = absurd (cc)
+node_at b level true (Some i) n is inside e =
+    subst (HasNode b) (same_Some _ n e)
+    (record { level = leb-true _ _ is; place = inside i refl })
+
+pub named_node : (b : BoardValue) (word level : ℕ) (n : Node) → node_of b word level ≡ Some n
+    → HasNode b n
+unfolding node_of
+named_node b word level n e = grind (arith, nat_tests, node_at, find_inside)
+
 -- The answer ----------------------------------------------------------------------------------
 
 -- What is so of the firmware's values where AFFINITY_INFO answers OFF of a domain.
@@ -95,23 +128,8 @@ pub record IsToldOff (b : BoardValue) (v : Values) (n : Node) : Type 0 where
   pub low : n.level ≤ height b
   pub off : node_status b v.status n ≡ Off
 
--- the board has the level of a domain that a word names
-low_level : (b : BoardValue) (level : ℕ) (t : Bool) (o : Option ℕ) (n : Node)
-    → nat_le level (height b) ≡ t
-    → cond t (option_map (λ i. record { level = level; place = i }) o) None ≡ Some n
-    → n.level ≤ height b
-low_level b level false o n is e = absurd (cc)
-low_level b level true None n is e = absurd (cc)
-low_level b level true (Some i) n is e =
-    subst (λ l. l ≤ height b) (ap (λ (x : Node). x.level) (same_Some _ n e)) (leb-true _ _ is)
-
-low_node : (b : BoardValue) (word level : ℕ) (n : Node) → node_of b word level ≡ Some n
-    → n.level ≤ height b
-unfolding node_of
-low_node b word level n e = low_level b level (nat_le level (height b)) _ n refl e
-
 code_off : (s : Status) → int_eq (pos (status_code s)) (pos 1) ≡ true → s ≡ Off
-code_off x0 e = grind (arith, nat_tests)
+code_off s e = grind (arith, nat_tests)
 
 pub if_so : (t : Bool) (o : Option Node) (n : Node) → cond t o None ≡ Some n
     → (t ≡ true) × (o ≡ Some n)
@@ -133,7 +151,7 @@ by_request b v d (requests.AffinityInfo level word) code n is told =
     let named : code ≡ affinity_of b v (Some n) = same ∙ ap (affinity_of b v) both.1 in
     record {
       begun = is.begun;
-      low = low_node b word level n both.1;
+      low = (named_node b word level n both.1).level;
       off = code_off (node_status b v.status n)
           (ap (λ (x : Code). int_eq x.0 (pos 1)) (sym named) ∙ both.0);
     }

@@ -20,7 +20,7 @@ use Rattle.psci_headline.proofs.WaitingNexts.{Now, Next}
 event_next : (b : BoardValue) (past : List Record) (event : Event) (s : Said) → RunLaws b
     → Given b past → Now b past → legal_controls.IsLegal b (after_control b past event s)
     → IsLegal b (after_call b past event s) → s ≡ legal b past event → Next b past event s
-event_next b past x2 s laws given now controls calls e =
+event_next b past event s laws given now controls calls e =
     grind (
       arith,
       nat_tests,

@@ -9,7 +9,7 @@ use Rattle.psci_headline.proofs.Words.{TakenUp}
 use Rattle.psci_fw_laws.specs.psci_fw_spec.Lives.{first_opening}
 use Rattle.psci_fw_laws.proofs.Parts.{updated_at}
 use Rattle.psci_headline.specs.Openings.{Maker, newest}
-use Rattle.psci_headline.proofs.Filters.{head_kept, head_left, is_kept}
+use Rattle.psci_headline.proofs.Filters.{head_kept, is_kept}
 
 -- The newest opening ---------------------------------------------------------------------------
 
@@ -18,7 +18,7 @@ newest_new m made = grind (arith, nat_tests, head_kept, and_from, eq-eqb)
 
 newest_old : (c life : ℕ) (m : Made) (made : List Made) → (c ≡ m.core → ⊥)
     → newest c life (m ∷ made) ≡ newest c life made
-newest_old c life m made other = grind (arith, nat_tests, head_left, eqb-true, and_parts)
+newest_old c life m made other = grind (arith, nat_tests, eqb-true, and_parts)
 
 -- An opening that was made for a core in a life.
 pub record IsMade (c life : ℕ) (made : List Made) (m : Made) : Type 0 where
