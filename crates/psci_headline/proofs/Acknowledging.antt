@@ -1,24 +1,21 @@
 -- What a new acknowledgement says of its core.
+use Rattle.std.proofs.Common.{◌≡◌, ℕ, ◌<◌, inr, List, ◌∷◌, Some, refl, subst, ap, sym, ◌∙◌, arith}
 use Rattle.std.proofs.lemmas.Bool.Decides.{nat_tests}
-use Rattle.psci_headline.proofs.Taking.{HasName}
 use Rattle.std.proofs.lemmas.Bool.{cond_both}
-use Rattle.psci_headline.proofs.Telling.{HasItem, first_part}
-use Rattle.psci_headline.proofs.Applied.{laid_at}
-use Rattle.std.proofs.Common.{◌≡◌, ℕ, ◌<◌, inr}
-use Rattle.std.proofs.Common.{List, ◌∷◌, Some, refl, subst, ap}
-use Rattle.std.proofs.Common.{sym, ◌∙◌, arith}
 use Rattle.std.specs.Prelude.{slice_get}
 use Rattle.psci_headline.proofs.Words.{BoardValue, cores, up, Part, message_effect, ack_by, Phase}
 use Rattle.psci_headline.proofs.Words.{Away, Pending, Values, Kind, AckValue, MessageValue, Holds}
 use Rattle.psci_headline.proofs.Words.{known_below, Record, controller_values, firmware_values}
-use Rattle.psci_headline.proofs.Words.{sent}
+use Rattle.psci_headline.proofs.Words.{sent, IsDownBy}
 use Rattle.psci_ctl_spec.specs.Changes.{change}
 use Rattle.psci_ctl_spec.specs.Values as controlled
 use Rattle.psci_fw_laws.specs.psci_fw_spec.Phases.{Running, activity_of}
 use Rattle.psci_ctl_spec.specs.psci_messages.declared.kind.Kind.TheVariants as kinds
 use Rattle.psci_fw_laws.specs.psci_messages.psci_state.Cores.{asks}
 use Rattle.psci_fw_laws.proofs.Parts.{part_from}
-use Rattle.psci_headline.specs.PoweredDown.{IsDownBy}
+use Rattle.psci_headline.proofs.Taking.{HasName}
+use Rattle.psci_headline.proofs.Telling.{HasItem, first_part}
+use Rattle.psci_headline.proofs.Applied.{laid_at}
 use Rattle.psci_headline.proofs.Deliveries.{IsNew}
 use Rattle.psci_headline.proofs.Items.{at_number}
 use Rattle.psci_headline.proofs.Slept.{asleep_from, slept_now}

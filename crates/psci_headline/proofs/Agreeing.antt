@@ -1,10 +1,9 @@
 -- What firmware and power controller know of each other, as a life begins, and as the controller
 -- goes on.
+use Rattle.std.proofs.Common.{◌≡◌, ℕ, ◌+◌, ◌≤◌, ◌==◌, Option, None, Some, unwrap_or, arith, ap, sym}
+use Rattle.std.proofs.Common.{◌∙◌}
 use Rattle.std.proofs.lemmas.Bool.Decides.{nat_tests}
-use Rattle.std.proofs.Common.{◌≡◌, ℕ, ◌+◌, ◌≤◌, ◌==◌}
-use Rattle.std.proofs.Common.{Option, None, Some, unwrap_or, arith, subst, ap, sym, ◌∙◌}
-use Rattle.std.proofs.lemmas.Bool.{cond-true, cond-false, eq-eqb}
-use Rattle.std.proofs.lemmas.Bool.{ne_eqb}
+use Rattle.std.proofs.lemmas.Bool.{cond-true, cond-false, eq-eqb, ne_eqb}
 use Rattle.psci_headline.proofs.Words.{BoardValue, next_life, MayFollow, first_starts, in_life}
 use Rattle.psci_headline.proofs.Words.{start_of_life, Values, Place, Stopped, place_of_effect}
 use Rattle.psci_headline.proofs.Words.{AgreeIn}
@@ -38,12 +37,6 @@ found_other b life v ne =
 
 -- The power controller -------------------------------------------------------------------------
 
--- a life begins that is not the firmware's
-begins_in : (b : BoardValue) (life : ℕ) (v : Values) → (life ≡ v.life → ⊥)
-    → AgreeIn b first_starts first_place (in_life b life v)
-begins_in b life v ne =
-    subst (AgreeIn b first_starts first_place) (sym (found_other b life v ne)) (at_start b life)
-
 next_is : (o : Option ℕ) (l life : ℕ) → o ≡ Some l → next_life o ≡ Some life → life ≡ l + 1
 next_is o l life e f =
     let g : Some (l + 1) ≡ Some life = ap next_life (sym e) ∙ f in cc
@@ -52,4 +45,4 @@ next_is o l life e f =
 pub control_agrees : (b : BoardValue) (w : controlled.Values) (place : ℕ → Place) (v : Values)
     (e : Effect) → MayFollow b w e → AreAgreed b w place v
     → AreAgreed b (change b e w) (λ x. unwrap_or (place_of_effect x e) (place x)) v
-control_agrees b w place v e may h = grind (arith, nat_tests, next_is, begins_in)
+control_agrees b w place v e may h = grind (arith, nat_tests, next_is)

@@ -1,23 +1,20 @@
 -- Cores that are reported OFF were powered down, after every legal past.
+use Rattle.std.proofs.Common.{◌≡◌, ℕ, ◌<◌, inl, inr, Bool, true, false, ◌==◌, List, [], ◌∷◌, Some}
+use Rattle.std.proofs.Common.{refl, subst, ap, sym, ◌∙◌, arith}
 use Rattle.std.proofs.lemmas.Bool.Decides.{nat_tests}
-use Rattle.psci_headline.proofs.Taking.{named}
-use Rattle.std.proofs.Common.{◌≡◌, ℕ, ◌<◌, inl, inr, Bool, true, false}
-use Rattle.std.proofs.Common.{◌==◌, List, [], ◌∷◌, Some, refl, subst, ap}
-use Rattle.std.proofs.Common.{sym, ◌∙◌, arith}
 use Rattle.std.specs.Prelude.{slice_get}
 use Rattle.std.proofs.lemmas.Bool.{eqb-false, eqb-true, ne_eqb, and_right}
 use Rattle.psci_headline.proofs.Words.{BoardValue, Values, Down, AckValue, MessageValue, OfCore}
 use Rattle.psci_headline.proofs.Words.{slot_of, IsAllowed, Holds, Record, ack_in, controller_values}
 use Rattle.psci_headline.proofs.Words.{firmware_values, sent, IsLegalPast, Agree, was_powered_down}
-use Rattle.psci_headline.proofs.Words.{is_reported_off}
+use Rattle.psci_headline.proofs.Words.{is_reported_off, IsAwaited, AreDown}
 use Rattle.psci_ctl_spec.specs.History as controls
 use Rattle.psci_ctl_spec.specs.Values as controlled
 use Rattle.psci_fw_laws.specs.psci_fw_spec.declared.status.Status.TheVariants as statuses
 use Rattle.psci_fw_laws.specs.psci_fw_spec.History as remembers
-use Rattle.psci_fw_laws.specs.Allowed.{IsAwaited}
 use Rattle.psci_world_spec.specs.Histories.{acks, controller_history, firmware_history}
 use Rattle.psci_world_spec.proofs.Answered.{firmware_legal}
-use Rattle.psci_headline.specs.PoweredDown.{AreDown}
+use Rattle.psci_headline.proofs.Taking.{named}
 use Rattle.psci_headline.proofs.Acknowledging.{CoreLaws}
 use Rattle.psci_headline.proofs.CoreSteps.{IsStep, TurnsOff, step}
 use Rattle.psci_headline.proofs.Deliveries.{life_before}

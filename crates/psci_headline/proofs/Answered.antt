@@ -1,21 +1,19 @@
 -- What is told once an acknowledgement was taken.
+use Rattle.std.proofs.Common.{◌≡◌, ℕ, ◌⊎◌, inl, inr, ◌<◌, ◌≤◌, Bool, true, cond, List, Option, Some}
+use Rattle.std.proofs.Common.{refl, arith, ap, sym, ◌∙◌}
 use Rattle.std.proofs.lemmas.Bool.Decides.{nat_tests}
-use Rattle.std.proofs.lemmas.Bool.{cond_both}
-use Rattle.psci_headline.proofs.Slots.{down_slot}
-use Rattle.std.proofs.Common.{◌≡◌, ℕ, ◌⊎◌, inl, inr, ◌<◌, ◌≤◌, Bool, true}
-use Rattle.std.proofs.Common.{cond, List, Option, Some, refl, arith, ap, sym, ◌∙◌}
-use Rattle.std.proofs.lemmas.Bool.{and_from, cases_lt, eq-eqb, lt-ltb}
+use Rattle.std.proofs.lemmas.Bool.{cond_both, and_from, cases_lt, eq-eqb, lt-ltb}
 use Rattle.psci_headline.proofs.Words.{BoardValue, PathLaws, AckValue, MessageValue, Acknowledge}
 use Rattle.psci_headline.proofs.Words.{Slot, changed, slot_of, Status, Off, confirms_on}
 use Rattle.psci_headline.proofs.Words.{with_acknowledgement, Away, Values, Holds, IsTold, WasTold}
-use Rattle.psci_headline.proofs.Words.{AreConfirming, IsYetToCome}
-use Rattle.psci_headline.specs.psci_fw_spec.Changes.{turns_off}
+use Rattle.psci_headline.proofs.Words.{AreConfirming, IsYetToCome, turns_off, IsConfirmedOr}
+use Rattle.psci_headline.proofs.Words.{IsOffOr, IsOutstanding}
 use Rattle.psci_headline.specs.psci_fw_spec.Confirmed.{applied_part}
 use Rattle.psci_headline.specs.psci_fw_laws.KnownBelow.{known_below}
 use Rattle.psci_headline.proofs.fw_laws.Consequences.{once_down}
 use Rattle.psci_headline.proofs.fw_laws.Parts.{updated_at}
+use Rattle.psci_headline.proofs.Slots.{down_slot}
 use Rattle.psci_headline.proofs.Taking.{HasName, IsEmptied, named, none_left, still_or, told_of}
-use Rattle.psci_headline.specs.Confirming.{IsConfirmedOr, IsOffOr, IsOutstanding}
 
 kept : {A : Type 0} (t : Bool) (x was : A) → was ≡ x → cond t x was ≡ x
 kept t x was e = cond_both t x was (λ y. y ≡ x) (λ f. refl) (λ f. e)

@@ -1,8 +1,7 @@
 -- Different claims on one domain in one life have different generations.
+use Rattle.std.proofs.Common.{◌≡◌, ℕ, suc, ◌<◌, inl, inr, Bool, true, false, cond, List, [], ◌∷◌}
+use Rattle.std.proofs.Common.{◌++◌, Option, None, Some, option_map, refl, ap, arith}
 use Rattle.std.proofs.lemmas.Bool.Decides.{nat_tests}
-use Rattle.std.proofs.Common.{◌≡◌, ℕ, suc, ◌<◌, inl, inr, Bool, true, false, cond, List}
-use Rattle.std.proofs.Common.{[], ◌∷◌, ◌++◌, Option, None, Some, option_map, refl, ap}
-use Rattle.std.proofs.Common.{arith}
 use Rattle.std.specs.Prelude.{slice_get}
 use Rattle.psci_headline.proofs.Words.{BoardValue, HasNode, Node, Part, MessageValue, is_on_path}
 use Rattle.psci_headline.proofs.Words.{listed, Values, AreRising, part_for, Record, firmware_values}

@@ -1,17 +1,16 @@
 -- What it means that an acknowledgement confirms a claim, and what parts that were applied say.
+use Rattle.std.proofs.Common.{◌≡◌, ℕ, zero, suc, ◌+◌, ◌<◌, ◌≤◌, Bool, true, false, ◌&&◌, ◌==◌, List}
+use Rattle.std.proofs.Common.{[], ◌∷◌, take, Option, None, Some, refl, ap, sym, ◌∙◌, arith}
+use Rattle.std.proofs.Common.{option_and_then}
 use Rattle.std.proofs.lemmas.Bool.Decides.{nat_tests}
-use Rattle.psci_headline.proofs.Taking.{same_kind}
-use Rattle.std.proofs.Common.{◌≡◌, ℕ, zero, suc, ◌+◌, ◌<◌, ◌≤◌, Bool, true, false, ◌&&◌}
-use Rattle.std.proofs.Common.{◌==◌, List, [], ◌∷◌, take, Option, None, Some}
-use Rattle.std.proofs.Common.{refl, ap, sym, ◌∙◌, arith, option_and_then}
 use Rattle.std.specs.Prelude.{nat_lt, slice_get}
 use Rattle.std.proofs.lemmas.Bool.{and_from, and_parts, eq-eqb, eqb-true, le-leb, ltb-true}
 use Rattle.std.proofs.lemmas.List.Sums.{prefix_len_passes}
 use Rattle.std.proofs.lemmas.Option.{get_or_from_slice_get}
 use Rattle.psci_headline.proofs.Words.{BoardValue, height, up, is_path_place, Part, laid}
 use Rattle.psci_headline.proofs.Words.{starts_below, confirms_on, Values, Kind, AckValue}
-use Rattle.psci_headline.proofs.Words.{ArePartsOf, MessageValue, is_kind, slot_of, sent}
-use Rattle.psci_ctl_spec.specs.Parts.{applied, is_applied, is_live}
+use Rattle.psci_headline.proofs.Words.{ArePartsOf, MessageValue, is_kind, slot_of, sent, is_applied}
+use Rattle.psci_ctl_spec.specs.Parts.{applied, is_live}
 use Rattle.psci_ctl_spec.specs.Values as controlled
 use Rattle.psci_ctl_spec.proofs.Front.{get_take}
 use Rattle.psci_fw_laws.specs.psci_fw_spec.Confirmed.{is_made_at}
@@ -19,6 +18,7 @@ use Rattle.psci_ctl_spec.specs.psci_messages.declared.kind.Kind.TheVariants as k
 use Rattle.psci_ctl_spec.specs.psci_messages.Message.{is_climbing}
 use Rattle.psci_ctl_spec.specs.psci_messages.OnlyIf.{only_if}
 use Rattle.psci_fw_laws.specs.KnownBelow.{known_below}
+use Rattle.psci_headline.proofs.Taking.{same_kind}
 
 -- What confirms -------------------------------------------------------------------------------
 

@@ -1,9 +1,7 @@
 -- A part that was applied in this life is one of a Down that was sent in it.
+use Rattle.std.proofs.Common.{arith, ◌≡◌, ℕ, suc, true, List, [], ◌∷◌, ◌++◌, Option, None, Some}
+use Rattle.std.proofs.Common.{refl}
 use Rattle.std.proofs.lemmas.Bool.Decides.{nat_tests}
-use Rattle.std.proofs.Common.{arith}
-use Rattle.psci_headline.proofs.Deliveries.{present_life}
-use Rattle.std.proofs.Common.{◌≡◌, ℕ, suc, true, List}
-use Rattle.std.proofs.Common.{[], ◌∷◌, ◌++◌, Option, None, Some, refl}
 use Rattle.std.specs.Prelude.{slice_get}
 use Rattle.std.proofs.lemmas.Bool.{and_parts, eqb-true, false≢true}
 use Rattle.std.proofs.lemmas.Option.{same_Some}
@@ -26,6 +24,7 @@ use Rattle.psci_fw_laws.specs.Claims.{IsFromMessage}
 use Rattle.psci_fw_laws.proofs.Parts.{part_from}
 use Rattle.psci_world_spec.specs.declared.said.Said.TheVariants.{Kick}
 use Rattle.psci_world_spec.specs.Histories.{controller_history, sent}
+use Rattle.psci_headline.proofs.Deliveries.{present_life}
 use Rattle.psci_headline.proofs.Items.{IsListed, at_number}
 
 -- A delivery ----------------------------------------------------------------------------------

@@ -1,15 +1,14 @@
 -- What is so after a started core has entered.
+use Rattle.std.proofs.Common.{arith, ◌≡◌, ℕ, ◌<◌, ◌==◌, cond, List, ◌∷◌, ◌++◌, length, Option, None}
+use Rattle.std.proofs.Common.{Some, option_map, unwrap_or, refl, subst, ap, sym, ◌∙◌}
 use Rattle.std.proofs.lemmas.Bool.Decides.{nat_tests}
-use Rattle.std.proofs.Common.{arith}
-use Rattle.std.proofs.Common.{◌≡◌, ℕ, ◌<◌, Bool, true, false, ◌==◌, cond, List, ◌∷◌, ◌++◌, length}
-use Rattle.std.proofs.Common.{Option, None, Some, option_map, unwrap_or, refl, subst, ap, sym, ◌∙◌}
 use Rattle.std.proofs.lemmas.Bool.{cond-true, cond-false, eq-eqb, lt-ltb, ne_eqb}
 use Rattle.psci_headline.proofs.Words.{BoardValue, cores, Start, last_start, MessageValue, OfCore}
 use Rattle.psci_headline.proofs.Words.{Act, Outcome, change, enter_effect, enter_outcome, IsLegal}
 use Rattle.psci_headline.proofs.Words.{in_life, listed, Values, IsAllowed, Enter, Started, Record}
 use Rattle.psci_headline.proofs.Words.{Fw, Sent, acks, call, controller_values, entered}
 use Rattle.psci_headline.proofs.Words.{firmware_values, outcome_in, sent_in, IsLegalPast, indexed}
-use Rattle.psci_headline.proofs.Words.{step}
+use Rattle.psci_headline.proofs.Words.{step, place_after, place_said, NoneRefused}
 use Rattle.psci_ctl_spec.specs.psci_messages.declared.kind.Kind.TheVariants as kinds
 use Rattle.psci_headline.specs.psci_fw_spec.declared.call.FwCall.TheVariants as calls
 use Rattle.psci_headline.specs.psci_fw_spec.declared.outcome.Act.TheVariants as acts
@@ -20,9 +19,8 @@ use Rattle.psci_headline.specs.psci_fw_spec.History as remembers
 use Rattle.psci_headline.specs.psci_world_spec.Histories.{controller_history, firmware_history}
 use Rattle.psci_headline.specs.psci_world_spec.Histories.{sent}
 use Rattle.psci_headline.specs.psci_world_spec.Legal.{legal, sent_as}
-use Rattle.psci_headline.specs.psci_world_spec.Places.{place, place_after, place_said}
+use Rattle.psci_headline.specs.psci_world_spec.Places.{place}
 use Rattle.psci_headline.proofs.world_spec.Answered.{firmware_legal}
-use Rattle.psci_headline.specs.Refusals.{NoneRefused}
 use Rattle.psci_headline.proofs.Agreed.{RunLaws}
 use Rattle.psci_headline.proofs.Finding.{numbered_old}
 
@@ -34,21 +32,12 @@ pub entry_halting : (b : BoardValue) (v : Values) (c : ℕ) (s : Start) (act : A
     → (change b (enter_effect c s act o) v).halting ≡ (in_life b s.life v).halting
 entry_halting b v c s act o = grind (arith, nat_tests)
 
-put_from : (t : Bool) (o : Option MessageValue) (n m : MessageValue) → n.kind ≡ kinds.Down
-    → cond t (Some n) o ≡ Some m → m.kind ≡ kinds.Start → o ≡ Some m
-put_from true o n m down e start =
-    let same : n ≡ m = cc in
-    let no : kinds.Down ≡ kinds.Start =
-    sym down ∙ ap (λ (x : MessageValue). x.kind) same ∙ start in
-    absurd (cc)
-put_from false o n m down e start = e
-
 -- and leaves no Start outstanding that was not
 pub entry_slots : (b : BoardValue) (v : Values) (c : ℕ) (s : Start) (act : Act)
     (o : Option MessageValue) (x : ℕ) (m : MessageValue) → IsAllowed b v (enter_effect c s act o)
     → (change b (enter_effect c s act o) v).outstanding (OfCore x) ≡ Some m
     → m.kind ≡ kinds.Start → (in_life b s.life v).outstanding (OfCore x) ≡ Some m
-entry_slots b v c s act o x m allowed e start = grind (arith, nat_tests, put_from)
+entry_slots b v c s act o x m allowed e start = grind (arith, nat_tests)
 
 -- The record -----------------------------------------------------------------------------------
 

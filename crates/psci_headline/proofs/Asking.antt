@@ -1,20 +1,18 @@
 -- Each claim of a list was asked for when it was made.
+use Rattle.std.proofs.Common.{◌≡◌, ℕ, zero, suc, ◌+◌, ◌<◌, ◌≤◌, Bool, true, false, cond, List, []}
+use Rattle.std.proofs.Common.{◌∷◌, filter, Some, refl, ap, sym, ◌∙◌, arith}
 use Rattle.std.proofs.lemmas.Bool.Decides.{nat_tests}
-use Rattle.std.proofs.Common.{◌≡◌, ℕ, zero, suc, ◌+◌, ◌<◌, ◌≤◌, Bool, true, false, cond}
-use Rattle.std.proofs.Common.{List, [], ◌∷◌, filter, Some, refl, ap, sym, ◌∙◌}
-use Rattle.std.proofs.Common.{arith}
 use Rattle.std.specs.Prelude.{nat_le, slice_get}
 use Rattle.std.specs.List.{list_all, range_with_len}
 use Rattle.std.proofs.lemmas.Bool.{and_from, cond_both, cond-true, eq-eqb, eqb-true, le-leb}
 use Rattle.psci_headline.proofs.Words.{BoardValue, HasNode, below, cores, Node, Part, MessageValue}
-use Rattle.psci_headline.proofs.Words.{is_on_path, SuspendMode, start_of_life, Away, Values}
-use Rattle.psci_headline.proofs.Words.{part_for, Record, firmware_values, sent_in, Claim, claim_by}
+use Rattle.psci_headline.proofs.Words.{is_on_path, SuspendMode, start_of_life, Values, part_for}
+use Rattle.psci_headline.proofs.Words.{Record, firmware_values, sent_in, Claim, claim_by}
+use Rattle.psci_headline.proofs.Words.{IsAskedFor}
 use Rattle.psci_board.specs.Board.{up}
 use Rattle.psci_fw_laws.specs.psci_fw_spec.declared.mode.SuspendMode.TheVariants.{Platform}
 use Rattle.psci_fw_laws.specs.psci_fw_spec.declared.mode.SuspendMode.TheVariants.{OsInitiated}
-use Rattle.psci_fw_laws.specs.psci_fw_spec.Lives.{first_phase}
 use Rattle.psci_fw_laws.specs.psci_fw_spec.Views.{ask}
-use Rattle.psci_fw_laws.specs.Asked.{IsAskedFor}
 use Rattle.psci_fw_laws.proofs.Parts.{HasPart, part_has}
 use Rattle.psci_headline.specs.Claims.{all_ask, asks_by, claims}
 use Rattle.psci_headline.proofs.Claiming.{by_claim}
@@ -63,16 +61,11 @@ asked_by b life v n m p fair e =
 
 -- The start of a life --------------------------------------------------------------------------
 
--- a core that the boot core's path does not lead to is away
-away_first : (b : BoardValue) (n : Node) (c : ℕ) → HasNode b n
-    → is_on_path b 0 n.level n.place ≡ false → up b n.level c ≡ n.place → first_phase c ≡ Away
-away_first b n c has off at =
-    grind (arith, nat_tests, cond_both, eqb-true, and_from, le-leb, eq-eqb)
-
 start_asked : (b : BoardValue) (life : ℕ) (n : Node) → HasNode b n
     → is_on_path b 0 n.level n.place ≡ false
     → all_ask b (start_of_life b life) n 3 n.level ≡ true
-start_asked b life n has off = grind (arith, nat_tests, all_below, away_first, le-leb, cond-true)
+start_asked b life n has off =
+    grind (arith, nat_tests, all_below, le-leb, cond-true, cond_both, eqb-true, and_from, eq-eqb)
 
 first_asked : (first : Claim) (t : Bool) (k : ℕ) (x : Claim) → (t ≡ false → first.asked ≡ true)
     → slice_get (cond t [] (first ∷ [])) k ≡ Some x → x.asked ≡ true

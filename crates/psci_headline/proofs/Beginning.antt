@@ -1,19 +1,17 @@
 -- What is so once the started cores have entered and each Start was served.
+use Rattle.std.proofs.Common.{arith, ◌≡◌, ℕ, ◌⊎◌, inl, inr, ◌<◌, false, List, Some, refl, subst, ap}
+use Rattle.std.proofs.Common.{sym, ◌∙◌}
 use Rattle.std.proofs.lemmas.Bool.Decides.{nat_tests}
-use Rattle.std.proofs.Common.{arith}
-use Rattle.std.proofs.Common.{◌≡◌, ℕ, ◌⊎◌, inl, inr, ◌<◌, false}
-use Rattle.std.proofs.Common.{List, Some, refl, subst, ap, sym, ◌∙◌}
 use Rattle.psci_headline.proofs.Words.{BoardValue, cores, MessageValue, OfCore, in_life, Values}
 use Rattle.psci_headline.proofs.Words.{Enter, Started, Record, controller_values, firmware_values}
 use Rattle.psci_headline.proofs.Words.{sent, IsLegalPast, indexed, place, deliveries, step}
+use Rattle.psci_headline.proofs.Words.{legal_record, entering}
 use Rattle.psci_ctl_spec.specs.Values as controlled
 use Rattle.psci_ctl_spec.specs.psci_messages.declared.kind.Kind.TheVariants as kinds
 use Rattle.psci_headline.proofs.fw_laws.Arriving.{found_life}
-use Rattle.psci_headline.specs.psci_world_spec.Legal.{legal_record}
 use Rattle.psci_headline.proofs.Agreeing.{found_own}
 use Rattle.psci_headline.proofs.Moving.{entry_moves}
 use Rattle.psci_headline.proofs.Placing.{last_is}
-use Rattle.psci_headline.specs.Settling.{entering}
 use Rattle.psci_headline.proofs.Arrivals.{HaveArrived, arrives, entry_halting, entry_slots}
 use Rattle.psci_headline.proofs.Arrivals.{same_control, same_numbers}
 use Rattle.psci_headline.proofs.Counting.{AreAdded, one_added}

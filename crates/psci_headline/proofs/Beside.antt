@@ -1,23 +1,20 @@
 -- What is told of the domains beside a core's path, as the core stops, enters or is asked on; and
 -- what is then told of all.
+use Rattle.std.proofs.Common.{◌≡◌, ℕ, ◌⊎◌, ◌<◌, inl, inr, Bool, true, false, cond, Option, None}
+use Rattle.std.proofs.Common.{Some, refl, arith, subst, ap, sym, ◌∙◌}
 use Rattle.std.proofs.lemmas.Bool.Decides.{nat_tests}
-use Rattle.std.proofs.Common.{◌≡◌, ℕ, ◌⊎◌, ◌<◌, inl, inr, Bool, true, false, cond}
-use Rattle.std.proofs.Common.{Option, None, Some, refl, arith, subst, ap, sym, ◌∙◌}
 use Rattle.std.specs.Prelude.{slice_get}
 use Rattle.std.proofs.lemmas.Bool.{cases_eq}
 use Rattle.psci_headline.proofs.Words.{BoardValue, cores, up, PathLaws, is_path_place, Part, Start}
 use Rattle.psci_headline.proofs.Words.{MessageValue, OfCore, Put, Slot, changed, slot_of, PowerOn}
 use Rattle.psci_headline.proofs.Words.{target, with_arrival, with_pending, in_life, Phase, Away}
-use Rattle.psci_headline.proofs.Words.{Values, KnownLaws, AreConfirming, IsYetToCome}
+use Rattle.psci_headline.proofs.Words.{Values, KnownLaws, AreConfirming, IsYetToCome, Rest}
+use Rattle.psci_headline.proofs.Words.{with_phase, with_rest, unless_claimed, claimed_or, known_on}
+use Rattle.psci_headline.proofs.Words.{IsConfirmedOr, IsOffOr, IsOutstanding}
 use Rattle.psci_headline.specs.psci_messages.declared.kind.Kind.TheVariants as kinds
-use Rattle.psci_headline.specs.psci_fw_spec.Changes.{Rest, with_claims, with_phase, with_rest}
-use Rattle.psci_headline.specs.psci_fw_spec.Changes.{with_running}
-use Rattle.psci_headline.specs.psci_fw_spec.Confirmed.{unless_claimed}
-use Rattle.psci_headline.specs.psci_fw_spec.Paths.{claimed_or}
-use Rattle.psci_headline.specs.psci_fw_laws.Messages.{known_on}
+use Rattle.psci_headline.specs.psci_fw_spec.Changes.{with_claims, with_running}
 use Rattle.psci_headline.proofs.fw_laws.Parts.{updated_here, updated_there}
 use Rattle.psci_headline.proofs.Slots.{clear_there, put_here, put_there}
-use Rattle.psci_headline.specs.Confirming.{IsConfirmedOr, IsOffOr, IsOutstanding}
 use Rattle.psci_headline.proofs.Coming.{not_at, on_path, other_core, sum_beside, yet_still}
 
 -- What is told of the domains beside a core's path, and of the other cores.

@@ -1,7 +1,6 @@
 -- What the laws of the crates below say of a board, and so of every legal run on it.
+use Rattle.std.proofs.Common.{arith, ◌≡◌, ℕ, List}
 use Rattle.std.proofs.lemmas.Bool.Decides.{nat_tests}
-use Rattle.std.proofs.Common.{arith}
-use Rattle.std.proofs.Common.{◌≡◌, ℕ, List}
 use Rattle.psci_headline.proofs.Words.{BoardValue, PathLaws, Part, AckLaws, SumLaws, AreClaims}
 use Rattle.psci_headline.proofs.Words.{PartByPart, sent_messages, Holds, Record, controller_values}
 use Rattle.psci_headline.proofs.Words.{firmware_history, firmware_values, sent, IsLegalPast, place}

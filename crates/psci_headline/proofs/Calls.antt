@@ -1,9 +1,7 @@
 -- What waits, after each effect of the firmware's calls, entries and acknowledgements.
+use Rattle.std.proofs.Common.{arith, ◌≡◌, ℕ, ◌<◌, true, false, List, ◌∷◌, ◌++◌, Option, None, Some}
+use Rattle.std.proofs.Common.{subst, ap, sym, ◌∙◌}
 use Rattle.std.proofs.lemmas.Bool.Decides.{nat_tests}
-use Rattle.std.proofs.Common.{arith}
-use Rattle.psci_headline.proofs.Slots.{system_slot, down_slot}
-use Rattle.std.proofs.Common.{◌≡◌, ℕ, ◌<◌, true, false, List, ◌∷◌, ◌++◌, Option, None}
-use Rattle.std.proofs.Common.{Some, subst, ap, sym, ◌∙◌}
 use Rattle.psci_headline.proofs.Words.{BoardValue, cores, Start, Kind, AckValue, MessageValue}
 use Rattle.psci_headline.proofs.Words.{Clear, changed, is_kind, slot_of, Act, change, with_mode}
 use Rattle.psci_headline.proofs.Words.{target, Effect, GoesOn, SetsMode, AsksOn, Rests, Halts}
@@ -16,6 +14,7 @@ use Rattle.psci_headline.specs.psci_fw_spec.declared.outcome.Act.TheVariants as 
 use Rattle.psci_headline.specs.psci_fw_spec.Phases.{Running}
 use Rattle.psci_headline.specs.psci_fw_spec.Said as says
 use Rattle.psci_headline.proofs.fw_laws.Parts.{updated_here}
+use Rattle.psci_headline.proofs.Slots.{system_slot, down_slot}
 use Rattle.psci_headline.proofs.Moving.{CallerLaws, is_call}
 use Rattle.psci_headline.proofs.Pursuing.{waiting_arrival, waiting_asked, waiting_core}
 use Rattle.psci_headline.proofs.Pursuing.{waiting_halt, waiting_phase}

@@ -1,8 +1,7 @@
 -- What waits, after one call of the power controller or of the firmware.
-use Rattle.psci_headline.proofs.Quiet.{in_life_holds}
+use Rattle.std.proofs.Common.{◌≡◌, ℕ, zero, suc, ◌+◌, inl, inr, ◌<◌, ◌≤◌, Bool, true, false, cond}
+use Rattle.std.proofs.Common.{List, ◌∷◌, ◌++◌, Option, Some, refl, arith, subst, ap, sym, ◌∙◌}
 use Rattle.std.proofs.lemmas.Bool.Decides.{nat_tests}
-use Rattle.std.proofs.Common.{◌≡◌, ℕ, zero, suc, ◌+◌, inl, inr, ◌<◌, ◌≤◌, Bool, true, false}
-use Rattle.std.proofs.Common.{cond, List, ◌∷◌, ◌++◌, Option, Some, refl, arith, subst, ap, sym, ◌∙◌}
 use Rattle.std.specs.Prelude.{nat_lt, slice_get}
 use Rattle.std.proofs.lemmas.Bool.{cases_eq}
 use Rattle.psci_headline.proofs.Words.{BoardValue, cores, PathLaws, Part, Cause, Start, next_life}
@@ -11,19 +10,19 @@ use Rattle.psci_headline.proofs.Words.{AckLaws, SumLaws, ack_by, last_start, may
 use Rattle.psci_headline.proofs.Words.{AckValue, AreClaims, MessageValue, PartByPart, Act, change}
 use Rattle.psci_headline.proofs.Words.{with_acknowledgement, Effect, enter_effect, in_life, Values}
 use Rattle.psci_headline.proofs.Words.{IsAllowed, Holds, AreLive, AreOutstanding, Place, IsNamed}
-use Rattle.psci_headline.proofs.Words.{WaitingIn}
+use Rattle.psci_headline.proofs.Words.{WaitingIn, AreSent}
 use Rattle.psci_ctl_spec.specs.psci_messages.declared.start.Cause.TheVariants as causes
 use Rattle.psci_ctl_spec.specs.Changes as controlling
 use Rattle.psci_ctl_spec.specs.Effects as controlling_effects
 use Rattle.psci_ctl_spec.specs.Values as controlled
 use Rattle.psci_ctl_spec.specs.psci_messages.declared.kind.Kind.TheVariants as kinds
 use Rattle.psci_headline.specs.psci_fw_spec.Said as says
-use Rattle.psci_headline.specs.psci_fw_laws.Messages.{AreSent}
 use Rattle.psci_headline.proofs.fw_laws.Arriving.{found_life}
 use Rattle.psci_headline.proofs.fw_laws.Consequences.{once_down}
 use Rattle.psci_headline.proofs.fw_laws.Living.{live_laws}
 use Rattle.psci_headline.proofs.fw_laws.Sums.{known_le}
 use Rattle.psci_headline.specs.psci_world_spec.declared.place.Place.TheVariants as places
+use Rattle.psci_headline.proofs.Quiet.{in_life_holds}
 use Rattle.psci_headline.proofs.Agreeing.{AreAgreed, found_other, found_own}
 use Rattle.psci_headline.proofs.Moving.{CallerLaws, IsCallOf, call_moves, entry_moves}
 use Rattle.psci_headline.proofs.Placing.{last_is, own_life}

@@ -1,13 +1,11 @@
 -- Live claims that have their depth, level by level.
-use Rattle.std.proofs.Common.{◌≡◌, ℕ, inl, inr, ◌<◌, false, List, Some}
-use Rattle.std.proofs.Common.{refl, ap, sym, ◌∙◌}
+use Rattle.std.proofs.Common.{◌≡◌, ℕ, inl, inr, ◌<◌, false, List, Some, refl, ap, sym, ◌∙◌}
 use Rattle.std.specs.Prelude.{nat_le, slice_get}
 use Rattle.std.proofs.lemmas.Bool.{and_parts, and_right, cond-false, eqb-false, ltb-true, leb-true}
 use Rattle.std.proofs.lemmas.Bool.{ne_eqb}
 use Rattle.psci_headline.proofs.Words.{BoardValue, HasNode, height, up, Node, Part, first_depth}
 use Rattle.psci_headline.proofs.Words.{starts_below, is_on_path, Down, MessageValue, IsClaimOn}
-use Rattle.psci_headline.proofs.Words.{known_below, IsLivePart}
-use Rattle.psci_headline.specs.psci_fw_laws.Claims.{IsFromStart}
+use Rattle.psci_headline.proofs.Words.{known_below, IsLivePart, IsFromStart}
 use Rattle.psci_headline.proofs.fw_laws.Parts.{part_has}
 use Rattle.psci_headline.proofs.Starting.{same_sum}
 

@@ -1,12 +1,9 @@
 -- Where the claims of a list come from: a life's start, or a message that was sent; and back.
+use Rattle.std.proofs.Common.{arith, ◌≡◌, ℕ, zero, suc, inl, Bool, true, false, cond, List, [], ◌∷◌}
+use Rattle.std.proofs.Common.{◌++◌, Option, None, Some, option_map, refl, ap, sym, ◌∙◌, subst}
 use Rattle.std.proofs.lemmas.Bool.Decides.{nat_tests}
-use Rattle.std.proofs.Common.{arith}
-use Rattle.std.proofs.Common.{◌≡◌, ℕ, zero, suc, inl, Bool, true, false, cond}
-use Rattle.std.proofs.Common.{List, [], ◌∷◌, ◌++◌, Option, None, Some, option_map, refl, ap, sym}
-use Rattle.std.proofs.Common.{◌∙◌, subst}
 use Rattle.std.specs.Prelude.{option_and_then, slice_get}
-use Rattle.std.proofs.lemmas.Bool.{and_from, eq-eqb, eqb-true, false_from_ne_true}
-use Rattle.std.proofs.lemmas.Bool.{le-leb, lt-ltb}
+use Rattle.std.proofs.lemmas.Bool.{and_from, eq-eqb, eqb-true, false_from_ne_true, le-leb, lt-ltb}
 use Rattle.psci_headline.proofs.Words.{BoardValue, HasNode, has_node, Node, Part, MessageValue}
 use Rattle.psci_headline.proofs.Words.{is_on_path, is_path_place, listed, Values, IsClaimOn}
 use Rattle.psci_headline.proofs.Words.{part_for, Record, firmware_values, sent_in, Claim, claim_by}

@@ -1,7 +1,6 @@
 -- What has yet to come of a domain, where values change beside it or more cores are started.
+use Rattle.std.proofs.Common.{◌≡◌, ℕ, ◌≤◌, true, false, Option, Some, arith, ap, sym, ◌∙◌}
 use Rattle.std.proofs.lemmas.Bool.Decides.{nat_tests}
-use Rattle.std.proofs.Common.{◌≡◌, ℕ, ◌≤◌, true, false, Option, Some, arith, ap}
-use Rattle.std.proofs.Common.{sym, ◌∙◌}
 use Rattle.std.proofs.lemmas.Bool.{eqb-false, eqb-true, ne_eqb}
 use Rattle.psci_headline.proofs.Words.{BoardValue, up, PathLaws, is_path_place, MessageValue, Slot}
 use Rattle.psci_headline.proofs.Words.{OfCore, updated, KnownLaws, known_below, IsYetToCome}

@@ -1,8 +1,6 @@
 -- What waits after a wake-up, a reset and a delivery.
+use Rattle.std.proofs.Common.{arith, ◌≡◌, ℕ, List, ◌∷◌, ◌++◌, None, Some, refl, subst, ap, sym, ◌∙◌}
 use Rattle.std.proofs.lemmas.Bool.Decides.{nat_tests}
-use Rattle.std.proofs.Common.{arith}
-use Rattle.std.proofs.Common.{◌≡◌, ℕ, List, ◌∷◌, ◌++◌, None, Some}
-use Rattle.std.proofs.Common.{refl, subst, ap, sym, ◌∙◌}
 use Rattle.std.specs.Prelude.{slice_get}
 use Rattle.psci_headline.proofs.Words.{BoardValue, Cause, MayFollow, ack_by, AckValue, MessageValue}
 use Rattle.psci_headline.proofs.Words.{listed, Wake, Reset, Deliver, Record, Said, ack_in, acks}

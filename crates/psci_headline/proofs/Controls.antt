@@ -2,8 +2,8 @@
 use Rattle.std.proofs.Common.{◌≡◌, ℕ, zero, suc, inl, inr, ◌+◌, ◌<◌, ◌≤◌, Bool, true, false, ◌==◌}
 use Rattle.std.proofs.Common.{cond, List, [], ◌∷◌, take, Some, refl, arith, subst, ap, sym, ◌∙◌}
 use Rattle.std.specs.Prelude.{nat_lt, slice_get}
-use Rattle.std.proofs.lemmas.Bool.{and_cases, and_parts, cond-true}
-use Rattle.std.proofs.lemmas.Bool.{eq-eqb, eqb-false, eqb-true, ltb-false}
+use Rattle.std.proofs.lemmas.Bool.{and_cases, and_parts, cond-true, eq-eqb, eqb-false, eqb-true}
+use Rattle.std.proofs.lemmas.Bool.{ltb-false}
 use Rattle.std.proofs.lemmas.Option.{none-some, slice_get_within}
 use Rattle.psci_headline.proofs.Words.{BoardValue, cores, height, up, Part, domain_of, Cause}
 use Rattle.psci_headline.proofs.Words.{one_more, Nothing, Starts, Deepens, AckLaws, SumLaws}
@@ -11,14 +11,13 @@ use Rattle.psci_headline.proofs.Words.{applied, is_stale, ack_of, may_follow, Ki
 use Rattle.psci_headline.proofs.Words.{ArePartsOf, AreClaims, MessageValue, PartByPart}
 use Rattle.psci_headline.proofs.Words.{start_of_life, Phase, Away, Pending, Values, AreRising}
 use Rattle.psci_headline.proofs.Words.{known_below, AreLive, AreWaiting, IsNamed, IsTold, WaitingIn}
-use Rattle.psci_headline.proofs.Words.{WasTold}
+use Rattle.psci_headline.proofs.Words.{WasTold, IsFront, AreSent}
 use Rattle.psci_ctl_spec.specs.psci_messages.declared.start.Cause.TheVariants as causes
 use Rattle.psci_ctl_spec.specs.Changes.{change}
-use Rattle.psci_ctl_spec.specs.Follows.{IsFront}
 use Rattle.psci_ctl_spec.specs.Values as controlled
 use Rattle.psci_ctl_spec.proofs.Front.{take_get}
 use Rattle.psci_ctl_spec.specs.psci_messages.declared.kind.Kind.TheVariants as kinds
-use Rattle.psci_headline.specs.psci_fw_laws.Messages.{AreSent, IsSent}
+use Rattle.psci_headline.specs.psci_fw_laws.Messages.{IsSent}
 use Rattle.psci_headline.proofs.Deepening.{AreApplied, waiting_deepened}
 use Rattle.psci_headline.proofs.Starting.{same_sum, waiting_started}
 use Rattle.psci_headline.proofs.Taking.{named}

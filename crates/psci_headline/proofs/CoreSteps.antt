@@ -1,18 +1,17 @@
 -- What one effect does to the firmware's life, and to the known start, phase and status of a core.
-use Rattle.psci_fw_laws.specs.psci_fw_spec.Effects.{Nothing}
+use Rattle.std.proofs.Common.{◌≡◌, ℕ, ◌<◌, ◌≤◌, ◌⊎◌, inl, true, Some, refl, arith, ap, sym, ◌∙◌}
+use Rattle.std.proofs.Common.{◌&&◌}
 use Rattle.std.proofs.lemmas.Bool.Decides.{nat_tests}
-use Rattle.std.proofs.Common.{◌≡◌, ℕ, ◌<◌, ◌≤◌, ◌⊎◌, inl, true, Some}
-use Rattle.std.proofs.Common.{refl, arith, ap, sym, ◌∙◌, ◌&&◌}
 use Rattle.std.specs.Prelude.{nat_lt}
 use Rattle.std.proofs.lemmas.Bool.{and_parts, cond_both, ltb-true}
 use Rattle.psci_headline.proofs.Words.{BoardValue, Down, AckValue, is_kind, change, target, Effect}
 use Rattle.psci_headline.proofs.Words.{GoesOn, SetsMode, AsksOn, Rests, Halts, Stops, Enters, Parks}
 use Rattle.psci_headline.proofs.Words.{StopsAtOnce, Acknowledges, in_life, start_of_life, Phase}
 use Rattle.psci_headline.proofs.Words.{Away, Pending, Arrival, arrived, Values, updated, IsAllowed}
-use Rattle.psci_headline.proofs.Words.{Nothing}
+use Rattle.psci_headline.proofs.Words.{Nothing, turns_off}
+use Rattle.psci_fw_laws.specs.psci_fw_spec.Effects.{Nothing}
 use Rattle.psci_ctl_spec.specs.psci_messages.declared.start.Start as starts
 use Rattle.psci_fw_laws.specs.psci_fw_spec.declared.status.Status.TheVariants as statuses
-use Rattle.psci_fw_laws.specs.psci_fw_spec.Changes.{turns_off}
 use Rattle.psci_fw_laws.specs.psci_fw_spec.Phases.{Running, is_away}
 use Rattle.psci_fw_laws.specs.Allowed.{IsEntering}
 use Rattle.psci_fw_laws.proofs.Parts.{updated_at}

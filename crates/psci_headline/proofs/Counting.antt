@@ -1,13 +1,11 @@
 -- How often messages are delivered, along the records, and which records are added.
+use Rattle.std.proofs.Common.{◌≡◌, ℕ, ◌+◌, true, ◌==◌, cond, List, [], ◌∷◌, ◌++◌, refl, arith, ap}
 use Rattle.std.proofs.lemmas.Bool.Decides.{nat_tests}
-use Rattle.std.proofs.Common.{◌≡◌, ℕ, ◌+◌, true, ◌==◌, cond, List, [], ◌∷◌, ◌++◌}
-use Rattle.std.proofs.Common.{refl, arith, ap}
 use Rattle.std.specs.List.{list_all}
 use Rattle.std.proofs.lemmas.Bool.{and_from}
 use Rattle.std.proofs.lemmas.List.{length-append}
 use Rattle.std.proofs.lemmas.List.Elements.{filter-append}
-use Rattle.psci_headline.proofs.Words.{Deliver, Record, deliveries}
-use Rattle.psci_headline.specs.Drained.{is_settling}
+use Rattle.psci_headline.proofs.Words.{Deliver, Record, deliveries, is_settling}
 
 -- deliveries of more records
 pub deliveries_more : (k : ℕ) (added past : List Record)

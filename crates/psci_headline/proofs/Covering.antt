@@ -1,19 +1,18 @@
 -- How many parts of a Down are applied: at least those that are live and covered.
+use Rattle.std.proofs.Common.{◌≡◌, ℕ, zero, suc, ◌+◌, ◌-◌, ◌<◌, ◌≤◌, Bool, true, ◌==◌, cond, List}
+use Rattle.std.proofs.Common.{[], ◌∷◌, length, take, Some, refl, arith, subst, ap, sym, ◌∙◌}
 use Rattle.std.proofs.lemmas.Bool.Decides.{nat_tests}
-use Rattle.psci_headline.proofs.Ranges.{all_in}
-use Rattle.std.proofs.Common.{◌≡◌, ℕ, zero, suc, ◌+◌, ◌-◌, ◌<◌, ◌≤◌, Bool, true}
-use Rattle.std.proofs.Common.{◌==◌, cond, List, [], ◌∷◌, length, take, Some, refl, arith}
-use Rattle.std.proofs.Common.{subst, ap, sym, ◌∙◌}
 use Rattle.std.specs.Prelude.{nat_le, slice_get}
 use Rattle.std.specs.List.{prefix_len}
 use Rattle.std.proofs.lemmas.Bool.{and_from, cases_Bool, cases_eq, cond-true, cond-false, eq-eqb}
 use Rattle.std.proofs.lemmas.Bool.{le-leb}
 use Rattle.psci_headline.proofs.Words.{BoardValue, cores, height, nodes, up, ChildLaws, PathLaws}
-use Rattle.psci_headline.proofs.Words.{Node, Part, domain_of, laid, starts_below}
+use Rattle.psci_headline.proofs.Words.{Node, Part, domain_of, laid, starts_below, is_applied}
 use Rattle.psci_board.specs.Board.{children, first_child}
-use Rattle.psci_ctl_spec.specs.Parts.{applied, is_applied, is_covered}
+use Rattle.psci_ctl_spec.specs.Parts.{applied, is_covered}
 use Rattle.psci_ctl_spec.specs.Values.{Values}
 use Rattle.psci_ctl_spec.proofs.Front.{get_take}
+use Rattle.psci_headline.proofs.Ranges.{all_in}
 use Rattle.psci_headline.proofs.Deepening.{path_place}
 use Rattle.psci_headline.proofs.Telling.{item_at}
 

@@ -1,13 +1,12 @@
 -- A domain that is not fully on is as deep as a live claim on it.
+use Rattle.std.proofs.Common.{◌≡◌, ℕ, ◌<◌, ◌⊎◌, Bool, true, false, cond, List, Some, refl, arith}
+use Rattle.std.proofs.Common.{sym, subst}
 use Rattle.std.proofs.lemmas.Bool.Decides.{nat_tests}
-use Rattle.std.proofs.Common.{◌≡◌, ℕ, ◌<◌, ◌⊎◌, Bool, true, false, cond, List, Some}
-use Rattle.std.proofs.Common.{refl, arith, sym, subst}
 use Rattle.psci_headline.proofs.Words.{BoardValue, Node, is_on_path, Record, controller_history}
-use Rattle.psci_headline.proofs.Words.{controller_values, IsReplied, depth_at}
+use Rattle.psci_headline.proofs.Words.{controller_values, IsReplied, depth_at, IsApplied, IsFirst}
+use Rattle.psci_headline.proofs.Words.{HasLive}
 use Rattle.psci_ctl_spec.specs.History as controls
-use Rattle.psci_ctl_spec.specs.Lasting.{IsApplied, IsFirst}
 use Rattle.psci_headline.proofs.AppliedParts.{was_sent}
-use Rattle.psci_headline.specs.Live.{HasLive}
 use Rattle.psci_headline.proofs.Claiming.{part_in, start_in}
 use Rattle.psci_headline.proofs.LiveOnes.{has_live}
 

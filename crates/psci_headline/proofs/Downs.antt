@@ -1,8 +1,7 @@
 -- What is so after an outstanding Down was served.
-use Rattle.std.proofs.lemmas.Bool.Decides.{nat_tests}
 use Rattle.std.proofs.Common.{◌≡◌, ℕ, inl, inr, ◌+◌, ◌<◌, ◌≤◌, Bool, true, false, ◌==◌, cond, not}
-use Rattle.std.proofs.Common.{List, length, take, None, Some, refl, arith, subst, ap, sym}
-use Rattle.std.proofs.Common.{◌∙◌}
+use Rattle.std.proofs.Common.{List, length, take, None, Some, refl, arith, subst, ap, sym, ◌∙◌}
+use Rattle.std.proofs.lemmas.Bool.Decides.{nat_tests}
 use Rattle.std.specs.Prelude.{slice_get}
 use Rattle.std.proofs.lemmas.Bool.{cases_lt, leb-false, or_parts}
 use Rattle.std.proofs.lemmas.Option.{same_Some}
@@ -10,9 +9,8 @@ use Rattle.psci_headline.proofs.Words.{BoardValue, up, Part, domain_of, Deepens,
 use Rattle.psci_headline.proofs.Words.{AckLaws, applied, is_stale, laid, ack_by, MessageValue}
 use Rattle.psci_headline.proofs.Words.{OfCore, is_done, is_kind, Values, Record, controller_values}
 use Rattle.psci_headline.proofs.Words.{firmware_values, sent, indexed, place, deliveries, serving}
-use Rattle.psci_headline.proofs.Words.{IsLivePart}
+use Rattle.psci_headline.proofs.Words.{IsLivePart, IsFront}
 use Rattle.psci_ctl_spec.specs.Changes as controlling
-use Rattle.psci_ctl_spec.specs.Follows.{IsFront}
 use Rattle.psci_ctl_spec.specs.Values as controlled
 use Rattle.psci_ctl_spec.proofs.Front.{is_front, take_get}
 use Rattle.psci_ctl_spec.specs.psci_messages.declared.kind.Kind.TheVariants as kinds

@@ -1,18 +1,15 @@
 -- What is told after each effect of the firmware's calls, entries and acknowledgements.
+use Rattle.std.proofs.Common.{arith, ◌≡◌, ℕ, inl, inr, ◌<◌, true, List, refl, subst, sym, ◌∙◌}
 use Rattle.std.proofs.lemmas.Bool.Decides.{nat_tests}
-use Rattle.std.proofs.Common.{arith}
-use Rattle.psci_headline.proofs.Slots.{system_slot}
-use Rattle.psci_headline.proofs.Telling.{first_part}
-use Rattle.std.proofs.Common.{◌≡◌, ℕ, inl, inr, ◌<◌, true, List}
-use Rattle.std.proofs.Common.{refl, subst, sym, ◌∙◌}
 use Rattle.psci_headline.proofs.Words.{BoardValue, PathLaws, Start, MessageValue, change}
 use Rattle.psci_headline.proofs.Words.{with_arrival, Rests, Stops, Enters, Parks, StopsAtOnce}
 use Rattle.psci_headline.proofs.Words.{in_life, Away, Values, IsAllowed, Holds, KnownLaws}
-use Rattle.psci_headline.proofs.Words.{is_system, AreConfirming}
-use Rattle.psci_headline.specs.psci_fw_spec.Changes.{Rest, with_halt, with_phase, with_rest}
+use Rattle.psci_headline.proofs.Words.{is_system, AreConfirming, Rest, with_phase, with_rest}
+use Rattle.psci_headline.specs.psci_fw_spec.Changes.{with_halt}
 use Rattle.psci_headline.specs.psci_fw_spec.Phases.{Running}
 use Rattle.psci_headline.proofs.fw_laws.Parts.{updated_at}
-use Rattle.psci_headline.proofs.Slots.{put_system}
+use Rattle.psci_headline.proofs.Slots.{system_slot, put_system}
+use Rattle.psci_headline.proofs.Telling.{first_part}
 use Rattle.psci_headline.proofs.Beside.{AreBeside, IsFlat, all_domains, arrived, arrived_flat}
 use Rattle.psci_headline.proofs.Beside.{claims, phased, rested, runs}
 use Rattle.psci_headline.proofs.Coming.{on_path, yet_still}

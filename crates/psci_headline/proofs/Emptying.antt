@@ -1,20 +1,18 @@
 -- What is so after what is outstanding for a core was served.
-use Rattle.std.proofs.lemmas.Bool.Decides.{nat_tests}
-use Rattle.std.proofs.Common.{arith}
-use Rattle.psci_headline.proofs.Acknowledging.{acks_message}
-use Rattle.psci_headline.proofs.Slots.{core_slot}
-use Rattle.std.proofs.Common.{◌≡◌, ℕ, Bool, true, false, cond, List, Option, None, Some}
+use Rattle.std.proofs.Common.{arith, ◌≡◌, ℕ, Bool, true, false, cond, List, Option, None, Some}
 use Rattle.std.proofs.Common.{refl, subst, ap, sym, ◌∙◌, option_and_then}
+use Rattle.std.proofs.lemmas.Bool.Decides.{nat_tests}
 use Rattle.std.proofs.lemmas.Bool.{and_from, cond-true, cond-false, eq-eqb, ne_eqb}
 use Rattle.psci_headline.proofs.Words.{BoardValue, Kind, Used, AckValue, MessageValue, Acknowledge}
 use Rattle.psci_headline.proofs.Words.{OfCore, answers, changed, is_done, slot_of, Values}
 use Rattle.psci_headline.proofs.Words.{is_system, AreOutstanding, Record, controller_values}
 use Rattle.psci_headline.proofs.Words.{firmware_values, sent, IsLegalPast, served, serving}
+use Rattle.psci_headline.proofs.Words.{taken_by, index_of}
 use Rattle.psci_ctl_spec.specs.psci_messages.declared.taken.Taken.TheVariants.{Old}
 use Rattle.psci_ctl_spec.specs.psci_messages.Slots.{taken}
-use Rattle.psci_headline.specs.psci_fw_spec.Taking.{taken_by}
+use Rattle.psci_headline.proofs.Acknowledging.{acks_message}
+use Rattle.psci_headline.proofs.Slots.{core_slot}
 use Rattle.psci_headline.proofs.Agreed.{RunLaws}
-use Rattle.psci_headline.specs.Settling.{index_of}
 use Rattle.psci_headline.proofs.Serving.{AreAnswered, ack_to, answered_so}
 use Rattle.psci_headline.proofs.Finding.{HasNumber, HaveName, finds}
 use Rattle.psci_headline.proofs.Taking.{HasName}

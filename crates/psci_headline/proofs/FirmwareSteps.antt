@@ -1,8 +1,7 @@
 -- What waits after a call, an entry and an acknowledgement that was taken.
+use Rattle.std.proofs.Common.{arith, ◌≡◌, ℕ, ◌<◌, List, ◌++◌, Option, None, Some, option_map, refl}
+use Rattle.std.proofs.Common.{subst, sym}
 use Rattle.std.proofs.lemmas.Bool.Decides.{nat_tests}
-use Rattle.std.proofs.Common.{arith}
-use Rattle.std.proofs.Common.{◌≡◌, ℕ, ◌<◌, List, ◌++◌, Option, None, Some, option_map}
-use Rattle.std.proofs.Common.{refl, subst, sym}
 use Rattle.psci_headline.proofs.Words.{request_of, Regs, BoardValue, cores, Start, last_start}
 use Rattle.psci_headline.proofs.Words.{AckValue, MessageValue, Taken, Outcome, change, call_fault}
 use Rattle.psci_headline.proofs.Words.{enter_effect, function_effect, enter_fault, IsLegal, listed}

@@ -1,12 +1,9 @@
 -- A function returns to its caller or stops it: none is answered as a core that enters.
+use Rattle.std.proofs.Common.{arith, ◌≡◌, ℕ, false, refl, Option}
 use Rattle.std.proofs.lemmas.Bool.Decides.{nat_tests}
-use Rattle.std.proofs.Common.{arith}
-use Rattle.std.proofs.Common.{◌≡◌, ℕ, false, refl}
-use Rattle.std.proofs.Common.{Option}
 use Rattle.psci_headline.proofs.Words.{request_of, Regs, Request, BoardValue, FwFault, Outcome}
 use Rattle.psci_headline.proofs.Words.{reply_or, call_fault, outcome_of, Values}
-use Rattle.psci_headline.proofs.Words.{enters_or_resumes_by}
-use Rattle.psci_fw_laws.specs.psci_fw_spec.declared.call.FwCall.TheVariants.{Smc}
+use Rattle.psci_headline.proofs.Words.{enters_or_resumes_by, Smc}
 use Rattle.psci_fw_laws.specs.psci_fw_spec.declared.reply.FwReply.TheVariants as replies
 use Rattle.psci_fw_laws.specs.psci_fw_spec.Answer.{answer}
 use Rattle.psci_fw_laws.proofs.fw_spec.Endings.{function_ends, outcome_ends}

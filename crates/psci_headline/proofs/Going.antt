@@ -1,8 +1,6 @@
 -- What stays so in every round: each started core has entered, and none is pending.
+use Rattle.std.proofs.Common.{arith, ◌≡◌, ℕ, ◌+◌, ◌<◌, true, false, List, Some, subst, ap, sym, ◌∙◌}
 use Rattle.std.proofs.lemmas.Bool.Decides.{nat_tests}
-use Rattle.std.proofs.Common.{arith}
-use Rattle.std.proofs.Common.{◌≡◌, ℕ, ◌+◌, ◌<◌, true, false, List}
-use Rattle.std.proofs.Common.{Some, subst, ap, sym, ◌∙◌}
 use Rattle.psci_headline.proofs.Words.{BoardValue, cores, height, up, Part, Kind, ArePartsOf}
 use Rattle.psci_headline.proofs.Words.{AreClaims, MessageValue, OfCore, OfSystem, in_life, Pending}
 use Rattle.psci_headline.proofs.Words.{Values, IsClaimOn, IsCurrent, HasDeeper, NonePending}

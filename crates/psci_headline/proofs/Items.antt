@@ -1,17 +1,10 @@
 -- Items of a list: one of some number, and one behind others.
+use Rattle.std.proofs.Common.{refl, ◌∙◌, sym, ◌-◌, arith, reverse, length, ◌<◌, ◌≡◌, ℕ, zero, suc}
+use Rattle.std.proofs.Common.{List, ◌∷◌, ◌++◌, Option, None, Some}
 use Rattle.std.proofs.lemmas.Bool.Decides.{nat_tests}
-use Rattle.std.proofs.Common.{refl}
-use Rattle.std.proofs.Common.{◌∙◌}
-use Rattle.std.proofs.Common.{sym}
-use Rattle.std.proofs.Common.{◌-◌}
-use Rattle.std.proofs.Common.{arith}
-use Rattle.std.proofs.Common.{reverse}
-use Rattle.std.proofs.Common.{length}
-use Rattle.std.proofs.Common.{◌<◌}
 use Rattle.std.specs.Prelude.{slice_get}
 use Rattle.std.proofs.lemmas.List.{get_or-reverse, length-reverse}
 use Rattle.std.proofs.lemmas.Option.{get_or_from_slice_get, slice_get_read, slice_get_within}
-use Rattle.std.proofs.Common.{◌≡◌, ℕ, zero, suc, List, ◌∷◌, ◌++◌, Option, None, Some}
 use Rattle.std.proofs.lemmas.Option.{same_Some}
 use Rattle.psci_headline.proofs.Words.{indexed, listed}
 

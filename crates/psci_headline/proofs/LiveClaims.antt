@@ -1,7 +1,6 @@
 -- Live claims: those of the list that have the generation of their domain. There is one at most.
-use Rattle.std.proofs.Common.{◌≡◌, ℕ, suc, ◌≤◌, Bool, true, false, ◌==◌, cond, List, []}
-use Rattle.std.proofs.Common.{◌∷◌, length, filter, Option, None, Some, refl, ap, sym, ◌∙◌, subst}
-use Rattle.std.proofs.Common.{arith}
+use Rattle.std.proofs.Common.{◌≡◌, ℕ, suc, ◌≤◌, Bool, true, false, ◌==◌, cond, List, [], ◌∷◌}
+use Rattle.std.proofs.Common.{length, filter, Option, None, Some, refl, ap, sym, ◌∙◌, subst, arith}
 use Rattle.std.specs.Prelude.{slice_get}
 use Rattle.std.proofs.lemmas.Bool.{eq-eqb, eqb-true}
 use Rattle.psci_headline.proofs.Words.{BoardValue, Node, Record, controller_values, Claim, claims}

@@ -1,20 +1,19 @@
 -- A message was asked for by the values of its own record.
-use Rattle.psci_headline.proofs.Sending.{more_calls}
+use Rattle.std.proofs.Common.{◌≡◌, ℕ, suc, ◌⊎◌, inl, inr, List, [], ◌∷◌, ◌++◌, Option, None, Some}
+use Rattle.std.proofs.Common.{refl, ap, sym, ◌∙◌, subst, arith}
 use Rattle.std.proofs.lemmas.Bool.Decides.{nat_tests}
-use Rattle.std.proofs.Common.{◌≡◌, ℕ, suc, ◌⊎◌, inl, inr, List, [], ◌∷◌, ◌++◌, Option, None}
-use Rattle.std.proofs.Common.{Some, refl, ap, sym, ◌∙◌, subst, arith}
 use Rattle.std.specs.Prelude.{slice_get}
-use Rattle.psci_headline.proofs.Words.{BoardValue, Part, Down, Taken, AckValue, MessageValue}
-use Rattle.psci_headline.proofs.Words.{FwExchange, effect, values_of, listed, AreRising, part_for}
-use Rattle.psci_headline.proofs.Words.{Event, Record, Said, acks, call, controller_values}
-use Rattle.psci_headline.proofs.Words.{firmware_values, sent_in, took, IsLegalPast}
-use Rattle.psci_headline.proofs.Words.{firmware_history}
+use Rattle.psci_headline.proofs.Words.{BoardValue, Part, Down, AckValue, MessageValue, FwExchange}
+use Rattle.psci_headline.proofs.Words.{effect, values_of, listed, AreRising, part_for, Event}
+use Rattle.psci_headline.proofs.Words.{Record, Said, acks, call, controller_values, firmware_values}
+use Rattle.psci_headline.proofs.Words.{sent_in, IsLegalPast, firmware_history, IsAskedFor}
 use Rattle.psci_ctl_spec.specs.Values as controlled
 use Rattle.psci_fw_laws.specs.psci_fw_spec.Said as says
 use Rattle.psci_fw_laws.specs.psci_fw_spec.Sent.{sent_messages}
-use Rattle.psci_fw_laws.specs.Asked.{IsAskedFor, WasAsked}
+use Rattle.psci_fw_laws.specs.Asked.{WasAsked}
 use Rattle.psci_fw_laws.proofs.Parts.{part_has}
 use Rattle.psci_world_spec.specs.Histories.{sent}
+use Rattle.psci_headline.proofs.Sending.{more_calls}
 use Rattle.psci_headline.proofs.Asking.{WereAsked}
 
 -- Records --------------------------------------------------------------------------------------
@@ -23,14 +22,10 @@ use Rattle.psci_headline.proofs.Asking.{WereAsked}
 abbrev OneOrNone : List FwExchange → Type 0
 OneOrNone list = (list ≡ []) ⊎ ((e : FwExchange) × (list ≡ e ∷ []))
 
-took_one : (a : Option AckValue) (t : Taken) → OneOrNone (took a t)
-took_one None t = inl refl
-took_one (Some a) t = inr (_, refl)
-
 -- a record adds one exchange at most to the firmware's history
 adds_one : (v : controlled.Values) (made : List AckValue) (event : Event) (said : Said)
     → OneOrNone (call v made event said)
-adds_one v made event said = grind (arith, nat_tests, took_one)
+adds_one v made event said = grind (arith, nat_tests)
 
 more_sent : (r : Record) (past : List Record)
     → sent (r ∷ past) ≡ listed (sent_in r.said) ++ sent past

@@ -1,10 +1,7 @@
 -- What a legal record leaves of the firmware's values.
-use Rattle.psci_headline.proofs.Sending.{after_call, more_calls}
-use Rattle.psci_fw_laws.specs.psci_fw_spec.Effects.{Nothing}
+use Rattle.std.proofs.Common.{arith, ◌≡◌, ℕ, Bool, true, false, ◌==◌, cond, List, [], ◌∷◌, ◌++◌}
+use Rattle.std.proofs.Common.{Option, None, Some, refl, subst, ap, sym, ◌∙◌}
 use Rattle.std.proofs.lemmas.Bool.Decides.{nat_tests}
-use Rattle.std.proofs.Common.{arith}
-use Rattle.std.proofs.Common.{◌≡◌, ℕ, Bool, true, false, ◌==◌, cond, List, [], ◌∷◌}
-use Rattle.std.proofs.Common.{◌++◌, Option, None, Some, refl, subst, ap, sym, ◌∙◌}
 use Rattle.std.specs.Prelude.{nat_lt}
 use Rattle.std.proofs.lemmas.Bool.{and_parts, eqb-true, true≢false}
 use Rattle.psci_headline.proofs.Words.{BoardValue, cores, Start, last_start, Act, change, Effect}
@@ -14,7 +11,9 @@ use Rattle.psci_headline.proofs.Words.{Running, Stopped, Record, Said, Fw, Absen
 use Rattle.psci_headline.proofs.Words.{controller_values, entered, firmware_values, outcome_in}
 use Rattle.psci_headline.proofs.Words.{if_started, place, enters_or_resumes, enters_or_resumes_by}
 use Rattle.psci_headline.proofs.Words.{Nothing, firmware_history}
+use Rattle.psci_fw_laws.specs.psci_fw_spec.Effects.{Nothing}
 use Rattle.psci_world_spec.specs.Legal.{legal, on_board}
+use Rattle.psci_headline.proofs.Sending.{after_call, more_calls}
 use Rattle.psci_headline.proofs.Functions.{call_ends}
 use Rattle.psci_headline.proofs.Records.{IsAdded, IsOfRecord, added}
 

@@ -1,23 +1,19 @@
 -- What calls, entries and acknowledgements leave of known starts and of who runs.
-use Rattle.psci_fw_laws.specs.psci_fw_spec.Effects.{Nothing}
+use Rattle.std.proofs.Common.{arith, ◌≡◌, ℕ, Bool, true, false, cond, Option, None, Some, refl}
+use Rattle.std.proofs.Common.{subst, sym}
 use Rattle.std.proofs.lemmas.Bool.Decides.{nat_tests}
-use Rattle.std.proofs.Common.{arith}
-use Rattle.std.proofs.Common.{◌≡◌, ℕ, Bool, true, false, cond, Option, None, Some}
-use Rattle.std.proofs.Common.{refl, subst, sym}
 use Rattle.std.specs.Ordering.{int_eq}
-use Rattle.psci_world_spec.specs.psci_abi.Codes.{success}
-use Rattle.psci_headline.proofs.Words.{Code, Request, BoardValue, Start, MessageValue, SuspendMode}
-use Rattle.psci_headline.proofs.Words.{Act, change, PowerOn, target, with_mode, with_pending}
-use Rattle.psci_headline.proofs.Words.{Effect, GoesOn, SetsMode, AsksOn, Rests, Halts, Stops}
-use Rattle.psci_headline.proofs.Words.{Enters, Parks, StopsAtOnce, Acknowledges, enter_effect}
-use Rattle.psci_headline.proofs.Words.{function_effect, in_life, Phase, Away, Pending, is_running}
-use Rattle.psci_headline.proofs.Words.{unless_pending, Values, updated, IsAllowed}
+use Rattle.psci_headline.proofs.Words.{success, Code, Request, BoardValue, Start, MessageValue}
+use Rattle.psci_headline.proofs.Words.{SuspendMode, Act, change, PowerOn, target, with_mode}
+use Rattle.psci_headline.proofs.Words.{with_pending, Effect, GoesOn, SetsMode, AsksOn, Rests, Halts}
+use Rattle.psci_headline.proofs.Words.{Stops, Enters, Parks, StopsAtOnce, Acknowledges}
+use Rattle.psci_headline.proofs.Words.{enter_effect, function_effect, in_life, Phase, Away, Pending}
+use Rattle.psci_headline.proofs.Words.{is_running, unless_pending, Values, updated, IsAllowed}
+use Rattle.psci_headline.proofs.Words.{mode_effect, executes_on, mode_of}
+use Rattle.psci_fw_laws.specs.psci_fw_spec.Effects.{Nothing}
 use Rattle.psci_world_spec.specs.psci_abi.declared.request.Request.TheVariants as requests
 use Rattle.psci_fw_laws.specs.psci_fw_spec.declared.outcome.Act.TheVariants as acts
-use Rattle.psci_fw_laws.specs.psci_fw_spec.Effects.{mode_effect}
-use Rattle.psci_fw_laws.specs.psci_fw_spec.Outcomes.{executes_on}
 use Rattle.psci_fw_laws.specs.psci_fw_spec.Phases.{Running}
-use Rattle.psci_fw_laws.specs.psci_fw_spec.SuspendMode.{mode_of}
 use Rattle.psci_fw_laws.proofs.Parts.{updated_at, updated_here, updated_there}
 
 -- What is left where one core did something: its known start, and whether it runs.

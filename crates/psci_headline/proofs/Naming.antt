@@ -1,17 +1,16 @@
 -- In a legal history an accepted CPU_ON asks on the core that it named.
+use Rattle.std.proofs.Common.{arith, ◌≡◌, ℕ, Option, None, Some, option_map, ap, sym, ◌∙◌}
 use Rattle.std.proofs.lemmas.Bool.Decides.{nat_tests}
-use Rattle.std.proofs.Common.{arith}
-use Rattle.std.proofs.Common.{◌≡◌, ℕ, Option, None, Some, option_map, ap, sym, ◌∙◌}
 use Rattle.psci_headline.proofs.Words.{request_of, Regs, BoardValue, Core, Start, Used}
 use Rattle.psci_headline.proofs.Words.{MessageValue, Act, FwReply, answer, PowerOn, target, Effect}
-use Rattle.psci_headline.proofs.Words.{AsksOn, Rests, enter_effect, Values, Made, OfCall}
+use Rattle.psci_headline.proofs.Words.{AsksOn, Rests, enter_effect, Values, Made, OfCall, FwCall}
+use Rattle.psci_headline.proofs.Words.{made_at}
 use Rattle.psci_world_spec.specs.psci_abi.declared.request.Request.TheVariants.{CpuOn}
 use Rattle.psci_board.specs.Board.{core_of}
-use Rattle.psci_fw_laws.specs.psci_fw_spec.declared.call.FwCall.{FwCall}
 use Rattle.psci_fw_laws.specs.psci_fw_spec.declared.call.FwCall.TheVariants as calls
 use Rattle.psci_fw_laws.specs.psci_fw_spec.declared.reply.FwReply.TheVariants as replies
 use Rattle.psci_fw_laws.specs.psci_fw_spec.Effects.{effect_of}
-use Rattle.psci_headline.specs.Openings.{made_at, made_by, core_asked, named_in}
+use Rattle.psci_headline.specs.Openings.{made_by, core_asked, named_in}
 
 -- Which core a call named ----------------------------------------------------------------------
 

@@ -1,17 +1,16 @@
 -- What is known after a legal record: cores that go on, and what acknowledgements say.
+use Rattle.std.proofs.Common.{◌≡◌, ℕ, zero, suc, ◌<◌, ◌≤◌, inl, inr, true, List, ◌∷◌, ◌++◌, Option}
+use Rattle.std.proofs.Common.{None, Some, refl, subst, ap, sym, ◌∙◌, arith}
 use Rattle.std.proofs.lemmas.Bool.Decides.{nat_tests}
-use Rattle.std.proofs.Common.{◌≡◌, ℕ, zero, suc, ◌<◌, ◌≤◌, inl, inr, true}
-use Rattle.std.proofs.Common.{List, ◌∷◌, ◌++◌, Option, None, Some, refl, subst, ap}
-use Rattle.std.proofs.Common.{sym, ◌∙◌, arith}
 use Rattle.std.specs.Prelude.{slice_get}
 use Rattle.psci_headline.proofs.Words.{BoardValue, Away, listed, Values, Down, AckValue, Holds}
 use Rattle.psci_headline.proofs.Words.{Deliver, Record, ack_in, controller_values, firmware_values}
-use Rattle.psci_headline.proofs.Words.{sent, legal, enters_or_resumes, was_powered_down}
+use Rattle.psci_headline.proofs.Words.{sent, legal, enters_or_resumes, was_powered_down, AreDown}
+use Rattle.psci_headline.proofs.Words.{IsDownBy}
 use Rattle.psci_fw_laws.specs.psci_fw_spec.declared.status.Status.TheVariants as statuses
 use Rattle.psci_fw_laws.specs.psci_fw_spec.Phases.{Running}
 use Rattle.psci_fw_laws.proofs.Parts.{updated_here}
 use Rattle.psci_world_spec.specs.Histories.{acks, firmware_history}
-use Rattle.psci_headline.specs.PoweredDown.{AreDown, IsDownBy}
 use Rattle.psci_headline.proofs.Acknowledging.{CoreLaws, new_is_down}
 use Rattle.psci_headline.proofs.CoreSteps.{IsStep}
 use Rattle.psci_headline.proofs.Deliveries.{IsNew, new_ack}

@@ -1,12 +1,11 @@
 -- A core that is reported OFF does not run, and was powered down since it last went on.
+use Rattle.std.proofs.Common.{arith, ◌≡◌, ℕ, ◌<◌, Bool, true, false, ◌==◌, cond, List, Option, None}
+use Rattle.std.proofs.Common.{Some, refl, sym, ◌∙◌}
 use Rattle.std.proofs.lemmas.Bool.Decides.{nat_tests}
-use Rattle.std.proofs.Common.{arith}
-use Rattle.std.proofs.Common.{◌≡◌, ℕ, ◌<◌, Bool, true, false, ◌==◌, cond, List, Option, None, Some}
-use Rattle.std.proofs.Common.{refl, sym, ◌∙◌}
 use Rattle.psci_headline.proofs.Words.{BoardValue, cores, Status, Off, AreValues, start_of_life}
 use Rattle.psci_headline.proofs.Words.{Values, Running, Stopped, Record, controller_values}
 use Rattle.psci_headline.proofs.Words.{firmware_values, IsLegalPast, place, Agree, OffIsDown}
-use Rattle.psci_fw_laws.specs.psci_fw_spec.Invariant.{agrees}
+use Rattle.psci_headline.proofs.Words.{agrees}
 use Rattle.psci_fw_laws.specs.psci_fw_spec.Phases as phases
 use Rattle.psci_headline.proofs.AllDown.{DownLaws, all_down}
 use Rattle.psci_headline.proofs.Slept.{reported}

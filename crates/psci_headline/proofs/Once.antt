@@ -1,16 +1,14 @@
 -- Entries take up openings, each one of its own, where the tests say so.
+use Rattle.std.proofs.Common.{◌≡◌, ◌==◌, ◌&&◌, ◌↔◌, ℕ, zero, suc, true, not, List, [], ◌∷◌, Option}
+use Rattle.std.proofs.Common.{None, Some, slice_get, refl, sym, ap, ◌∙◌, arith, inl, inr}
 use Rattle.std.proofs.lemmas.Bool.Decides.{nat_tests}
-use Rattle.std.proofs.Common.{◌≡◌, ◌==◌, ◌&&◌, ◌↔◌, ℕ, zero, suc, true, not, List, []}
-use Rattle.std.proofs.Common.{◌∷◌, Option, None, Some, slice_get, refl, sym, ap, ◌∙◌, arith, inl}
-use Rattle.std.proofs.Common.{inr}
 use Rattle.std.specs.List.{list_all}
 use Rattle.std.proofs.lemmas.Bool.{and_from, and_parts, both_ways, eq-eqb, eqb-true, cases_Bool}
 use Rattle.std.proofs.lemmas.Bool.{not-true, not_from_false}
 use Rattle.psci_headline.proofs.Words.{BoardValue, Opening, Record, firmware_history, Fits, Made}
-use Rattle.psci_headline.proofs.Words.{OfCall, OfLife, TakenUp}
-use Rattle.psci_headline.specs.Openings.{AreTakenUp, Maker, taken_up}
-use Rattle.psci_headline.specs.Test.{are_apart, is_each_once, is_each_open, is_fitting}
-use Rattle.psci_headline.specs.Test.{is_same_made, is_same_maker}
+use Rattle.psci_headline.proofs.Words.{OfCall, OfLife, TakenUp, AreTakenUp, Maker, taken_up}
+use Rattle.psci_headline.proofs.Words.{is_each_once, is_each_open}
+use Rattle.psci_headline.specs.Test.{are_apart, is_fitting, is_same_made, is_same_maker}
 use Rattle.psci_headline.proofs.Ranges.{all_items, each_item}
 
 -- One entry -----------------------------------------------------------------------------------

@@ -1,20 +1,17 @@
 -- What a legal outcome sends is what its effect says was sent.
+use Rattle.std.proofs.Common.{arith, ◌≡◌, ℕ, Bool, true, false, cond, refl, Option, None, Some}
+use Rattle.std.proofs.Common.{subst, sym}
 use Rattle.std.proofs.lemmas.Bool.Decides.{nat_tests}
-use Rattle.std.proofs.Common.{arith}
-use Rattle.std.proofs.Common.{◌≡◌, ℕ, Bool, true, false, cond, refl}
-use Rattle.std.proofs.Common.{Option, None, Some, subst, sym}
 use Rattle.std.specs.Ordering.{int_eq}
-use Rattle.psci_world_spec.specs.psci_abi.Codes.{success}
-use Rattle.psci_headline.proofs.Words.{Code, Request, BoardValue, Start, MessageValue, FwFault}
-use Rattle.psci_headline.proofs.Words.{SuspendMode, Opening, Outcome, reply_or, outcome_of, GoesOn}
-use Rattle.psci_headline.proofs.Words.{enter_effect, function_effect, Values}
+use Rattle.psci_headline.proofs.Words.{success, Code, Request, BoardValue, Start, MessageValue}
+use Rattle.psci_headline.proofs.Words.{FwFault, SuspendMode, Opening, Outcome, reply_or, outcome_of}
+use Rattle.psci_headline.proofs.Words.{GoesOn, enter_effect, function_effect, Values, mode_effect}
+use Rattle.psci_headline.proofs.Words.{outcome_at, stops_with, mode_of}
 use Rattle.psci_world_spec.specs.psci_abi.declared.request.Request.TheVariants as requests
 use Rattle.psci_fw_laws.specs.psci_fw_spec.declared.reply.FwReply.TheVariants as replies
-use Rattle.psci_fw_laws.specs.psci_fw_spec.Effects.{mode_effect}
-use Rattle.psci_fw_laws.specs.psci_fw_spec.Entering.{enter_outcome, outcome_at}
-use Rattle.psci_fw_laws.specs.psci_fw_spec.Outcomes.{returns, stops_with}
+use Rattle.psci_fw_laws.specs.psci_fw_spec.Entering.{enter_outcome}
+use Rattle.psci_fw_laws.specs.psci_fw_spec.Outcomes.{returns}
 use Rattle.psci_fw_laws.specs.psci_fw_spec.Said as says
-use Rattle.psci_fw_laws.specs.psci_fw_spec.SuspendMode.{mode_of}
 use Rattle.psci_fw_laws.proofs.fw_spec.Endings.{function_ends, outcome_ends, starts_with}
 
 -- Functions ------------------------------------------------------------------------------------

@@ -1,17 +1,16 @@
 -- What firmware and power controller know of each other, as a core calls or enters, and as an
 -- acknowledgement is taken.
+use Rattle.std.proofs.Common.{◌≡◌, ℕ, ◌<◌, ◌==◌, true, false, cond, Option, None, Some, refl}
+use Rattle.std.proofs.Common.{unwrap_or, arith, subst}
 use Rattle.std.proofs.lemmas.Bool.Decides.{nat_tests}
-use Rattle.std.proofs.Common.{◌≡◌, ℕ, ◌<◌, ◌==◌, true, false, cond, Option, None, Some}
-use Rattle.std.proofs.Common.{refl, unwrap_or, arith, subst}
 use Rattle.std.proofs.lemmas.Bool.{cases_eq, eqb-false, eqb-true}
 use Rattle.psci_headline.proofs.Words.{BoardValue, cores, Start, last_start, MessageValue, Act}
 use Rattle.psci_headline.proofs.Words.{change, Effect, enter_effect, in_life, Phase, is_running}
 use Rattle.psci_headline.proofs.Words.{Values, IsAllowed, Place, Started, Running, Stopped, AgreeIn}
+use Rattle.psci_headline.proofs.Words.{executes_on, place_after}
 use Rattle.psci_ctl_spec.specs.Values as controlled
-use Rattle.psci_fw_laws.specs.psci_fw_spec.Outcomes.{executes_on}
 use Rattle.psci_fw_laws.specs.psci_fw_spec.Phases as phases
 use Rattle.psci_fw_laws.proofs.Arriving.{found_life}
-use Rattle.psci_world_spec.specs.Places.{place_after}
 use Rattle.psci_headline.proofs.Agreeing.{AreAgreed, found_other, found_own}
 use Rattle.psci_headline.proofs.Moving.{CallerLaws, IsCallOf, IsMoved, call_moves, entry_moves}
 use Rattle.psci_headline.proofs.Moving.{runs_on}
@@ -32,12 +31,6 @@ record IsPlace (act : Act) : Type 0 where
 abbrev pub acted : (ℕ → Place) → ℕ → Act → ℕ → Place
 acted place c act x = unwrap_or (cond (x == c) (Some (place_after act)) None) (place x)
 
--- a place after an act is that of the core that acted, or as it was
-acted_at : (place : ℕ → Place) (c : ℕ) (act : Act) (x : ℕ) (p : Place) (G : Type 0)
-    → acted place c act x ≡ p → (x ≡ c → place_after act ≡ p → G)
-    → ((x ≡ c → ⊥) → place x ≡ p → G) → G
-acted_at place c act x p G e here there = grind (arith, nat_tests, eqb-true, eqb-false)
-
 -- One core acts --------------------------------------------------------------------------------
 
 -- a core acted that has no start that is not known then
@@ -45,7 +38,7 @@ moved : (b : BoardValue) (starts : ℕ → ℕ) (place : ℕ → Place) (v w : V
     → AgreeIn b starts place v → IsMoved v w c (starts c) (executes_on act)
     → AgreeIn b starts (acted place c act) w
 moved b starts place v w c act h m =
-    grind (arith, nat_tests, cases_eq, acted_at, running, eqb-true, eqb-false)
+    grind (arith, nat_tests, cases_eq, running, eqb-true, eqb-false)
 
 -- Calls ----------------------------------------------------------------------------------------
 

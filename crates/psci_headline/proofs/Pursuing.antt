@@ -1,15 +1,14 @@
 -- What waits, after what the firmware's calls and entries change.
-use Rattle.std.proofs.Common.{◌⊎◌, ◌<◌, ◌++◌, None}
-use Rattle.psci_headline.proofs.Items.{listed_later, of_newest}
-use Rattle.psci_headline.proofs.Words.{Part, cores, up, listed, AwaitsStart, IsLivePart, BoardValue}
-use Rattle.psci_headline.proofs.Words.{Down, AckValue, MessageValue, Clear, OfCore, OfSystem, Put}
-use Rattle.psci_headline.proofs.Words.{Slot, changed, slot_of, Phase, Pending, updated, AreWaiting}
-use Rattle.std.proofs.Common.{◌≡◌, ℕ, inl, inr, Bool, true, false, List, ◌∷◌}
+use Rattle.std.proofs.Common.{◌⊎◌, ◌<◌, ◌++◌, None, ◌≡◌, ℕ, inl, inr, Bool, true, false, List, ◌∷◌}
 use Rattle.std.proofs.Common.{Option, Some, subst, ap, sym, ◌∙◌}
 use Rattle.std.specs.Prelude.{slice_get}
 use Rattle.std.proofs.lemmas.Bool.{cases_eq}
+use Rattle.psci_headline.proofs.Words.{Part, cores, up, listed, AwaitsStart, IsLivePart, BoardValue}
+use Rattle.psci_headline.proofs.Words.{Down, AckValue, MessageValue, Clear, OfCore, OfSystem, Put}
+use Rattle.psci_headline.proofs.Words.{Slot, changed, slot_of, Phase, Pending, updated, AreWaiting}
 use Rattle.psci_ctl_spec.specs.psci_messages.declared.kind.Kind.TheVariants.{Start}
 use Rattle.psci_headline.proofs.fw_laws.Parts.{updated_at, updated_here, updated_there}
+use Rattle.psci_headline.proofs.Items.{listed_later, of_newest}
 use Rattle.psci_headline.proofs.Slots.{clear_there, put_here, put_system, put_there}
 use Rattle.psci_headline.proofs.Unclaimed.{NoneLive}
 

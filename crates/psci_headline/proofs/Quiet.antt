@@ -1,17 +1,16 @@
 -- Below a domain with a live claim no core executes.
+use Rattle.std.proofs.Common.{◌≡◌, ℕ, ◌<◌, ◌≤◌, true, ◌==◌, List, refl, arith, sym, ◌∙◌, subst}
 use Rattle.std.proofs.lemmas.Bool.Decides.{nat_tests}
-use Rattle.std.proofs.Common.{◌≡◌, ℕ, ◌<◌, ◌≤◌, true, ◌==◌, List, refl, arith}
-use Rattle.std.proofs.Common.{sym, ◌∙◌, subst}
 use Rattle.std.proofs.lemmas.Bool.{cond_both, eqb-false, false≢true}
 use Rattle.psci_headline.proofs.Words.{BoardValue, cores, PathLaws, MessageValue, in_life}
 use Rattle.psci_headline.proofs.Words.{start_of_life, sent_messages, Values, IsClaimOn, Holds}
 use Rattle.psci_headline.proofs.Words.{AreLive, Place, Record, controller_values, firmware_history}
 use Rattle.psci_headline.proofs.Words.{firmware_values, sent, place, Agree, AgreeIn, executes}
+use Rattle.psci_headline.proofs.Words.{NoneExecutes}
 use Rattle.psci_ctl_spec.specs.Follows.{AreValues}
 use Rattle.psci_fw_laws.specs.psci_fw_spec.Phases as phases
 use Rattle.psci_fw_laws.proofs.Arriving.{first_holds, found_life}
 use Rattle.psci_fw_laws.proofs.Living.{live_laws}
-use Rattle.psci_headline.specs.Live.{NoneExecutes}
 use Rattle.psci_headline.proofs.Claiming.{source}
 use Rattle.psci_headline.proofs.Starting.{same_sum}
 use Rattle.psci_headline.proofs.LiveOnes.{is_live_one}

@@ -1,12 +1,12 @@
 -- Where the world settles: the power controller's life goes on there, and is not halting.
-use Rattle.std.proofs.lemmas.Bool.Decides.{nat_tests}
 use Rattle.std.proofs.Common.{◌≡◌, ℕ, ◌+◌, inl, false, List, Some, refl, arith}
+use Rattle.std.proofs.lemmas.Bool.Decides.{nat_tests}
 use Rattle.std.proofs.lemmas.Option.{same_Some}
 use Rattle.psci_headline.proofs.Words.{BoardValue, height, MessageValue, Record, sent, IsLegalPast}
-use Rattle.psci_headline.proofs.Words.{indexed, AreAtRest, deliveries, is_halting}
+use Rattle.psci_headline.proofs.Words.{indexed, AreAtRest, deliveries, is_halting, begun}
 use Rattle.psci_headline.specs.psci_messages.declared.kind.Kind.TheVariants as kinds
+use Rattle.psci_headline.specs.Settling.{settled}
 use Rattle.psci_headline.proofs.Agreeing.{found_own}
-use Rattle.psci_headline.specs.Settling.{begun, settled}
 use Rattle.psci_headline.proofs.Beginning.{IsUnderWay}
 use Rattle.psci_headline.proofs.Bound.{HasRest, IsRound, comes_to_rest}
 use Rattle.psci_headline.proofs.Counting.{none_added}

@@ -1,13 +1,10 @@
 -- What a record adds to the firmware's history, and what it says.
+use Rattle.std.proofs.Common.{arith, ◌≡◌, ℕ, true, List, [], ◌∷◌, Option, Some, refl}
 use Rattle.std.proofs.lemmas.Bool.Decides.{nat_tests}
-use Rattle.std.proofs.Common.{arith}
-use Rattle.std.proofs.Common.{◌≡◌, ℕ, true}
-use Rattle.std.proofs.Common.{List, [], ◌∷◌, Option, Some, refl}
 use Rattle.psci_headline.proofs.Words.{request_of, BoardValue, Start, last_start, Act, Effect}
-use Rattle.psci_headline.proofs.Words.{Acknowledges, enter_effect, function_effect, FwExchange}
-use Rattle.psci_headline.proofs.Words.{effect, Arrival, arrived, Taken, AckValue, MessageValue}
-use Rattle.psci_headline.proofs.Words.{Event, Call, Enter, Take, Said, Fw, Sent, call, entered}
-use Rattle.psci_headline.proofs.Words.{outcome_in, took, indexed}
+use Rattle.psci_headline.proofs.Words.{Acknowledges, function_effect, FwExchange, effect, Arrival}
+use Rattle.psci_headline.proofs.Words.{arrived, Taken, AckValue, Event, Call, Enter, Take, Said, Fw}
+use Rattle.psci_headline.proofs.Words.{Sent, call, entered, outcome_in, took, indexed}
 use Rattle.psci_ctl_spec.specs.Values as controlled
 use Rattle.psci_world_spec.specs.declared.said.Said.TheVariants.{Taken as Took}
 use Rattle.psci_headline.proofs.Moving.{function_call, is_call}
@@ -25,10 +22,6 @@ of_caller : (v : controlled.Values) (made : List AckValue) (e : Effect) → is_c
     → IsOfRecord v made e
 of_caller v made e of = grind (arith, nat_tests)
 
-of_entry : (v : controlled.Values) (made : List AckValue) (c : ℕ) (s : Start) (act : Act)
-    (m : Option MessageValue) → v.life ≡ Some s.life → IsOfRecord v made (enter_effect c s act m)
-of_entry v made c s act m life = grind (arith, nat_tests)
-
 -- What a record adds --------------------------------------------------------------------------
 
 -- at most one exchange, which says that
@@ -40,7 +33,7 @@ IsAdded b v made (e ∷ f ∷ es) = ⊥
 added_entered : (b : BoardValue) (v : controlled.Values) (made : List AckValue) (c : ℕ)
     (s : Option Start) (act : Act) (m : Option Sent) → last_start v c ≡ s
     → IsAdded b v made (entered c s (outcome_in act m))
-added_entered b v made c s act m last = grind (arith, nat_tests, of_entry)
+added_entered b v made c s act m last = grind (arith, nat_tests)
 
 added_took : (b : BoardValue) (v : controlled.Values) (made : List AckValue) (k : ℕ)
     (a : Option AckValue) (t : Taken) → indexed made k ≡ a → IsAdded b v made (took a t)

@@ -1,17 +1,16 @@
 -- No core at its place is refused.
+use Rattle.std.proofs.Common.{◌≡◌, ℕ, ◌<◌, ◌≤◌, ◌==◌, Bool, true, false, cond, not, Option, None}
+use Rattle.std.proofs.Common.{Some, refl, arith, subst, ap, sym, ◌∙◌}
 use Rattle.std.proofs.lemmas.Bool.Decides.{nat_tests}
-use Rattle.std.proofs.Common.{◌≡◌, ℕ, ◌<◌, ◌≤◌, ◌==◌, Bool, true, false, cond, not}
-use Rattle.std.proofs.Common.{Option, None, Some, refl, arith, subst, ap, sym, ◌∙◌}
 use Rattle.std.specs.Prelude.{nat_lt}
-use Rattle.std.proofs.lemmas.Bool.{and_left, and_right, cases_eq, cond-false, le-ltb}
-use Rattle.std.proofs.lemmas.Bool.{lt-leb, lt-ltb, ne_eqb, or_from}
+use Rattle.std.proofs.lemmas.Bool.{and_left, and_right, cases_eq, cond-false, le-ltb, lt-leb}
+use Rattle.std.proofs.lemmas.Bool.{lt-ltb, ne_eqb, or_from}
 use Rattle.psci_headline.proofs.Words.{BoardValue, cores, Start, last_start, start_shown}
 use Rattle.psci_headline.proofs.Words.{call_fault, enter_fault, in_life, is_running, Values, Place}
 use Rattle.psci_headline.proofs.Words.{Started, Running, Stopped}
 use Rattle.psci_ctl_spec.specs.Follows as controlling
 use Rattle.psci_ctl_spec.specs.Values as controlled
 use Rattle.psci_fw_laws.specs.psci_fw_spec.declared.fault.FwFault.TheVariants as faults
-use Rattle.psci_fw_laws.specs.psci_fw_spec.Entering.{is_old}
 use Rattle.psci_fw_laws.specs.psci_fw_spec.Phases as phases
 use Rattle.psci_headline.proofs.Agreeing.{AreAgreed, found_own}
 use Rattle.psci_headline.proofs.Placing.{own_life}
@@ -66,14 +65,10 @@ record IsNew (b : BoardValue) (v : Values) (c : ℕ) (s : Start) : Type 0 where
   pub most : s.number ≤ b.starts
   pub later : s.life ≡ v.life → v.known c < s.number
 
-not_old : (b : BoardValue) (v : Values) (c : ℕ) (s : Start) → IsNew b v c s
-    → is_old b v c s ≡ false
-not_old b v c s new =
-    grind (arith, nat_tests, or_from, le-ltb, ne_eqb, cases_eq, and_right, lt-leb, and_left)
-
 new_passed : (b : BoardValue) (v : Values) (c : ℕ) (s : Start) → c < cores b → IsNew b v c s
     → enter_fault b v c s ≡ None
-new_passed b v c s on new = grind (arith, nat_tests, there, or_from, ne_eqb, le-ltb, not_old)
+new_passed b v c s on new =
+    grind (arith, nat_tests, there, or_from, ne_eqb, le-ltb, cases_eq, and_right, lt-leb, and_left)
 
 pub enter_passed : (b : BoardValue) (u : controlled.Values) (place : ℕ → Place) (v : Values)
     (c : ℕ) → controlling.AreValues b u → AreAgreed b u place v → c < cores b

@@ -1,7 +1,7 @@
 -- Where nothing is outstanding, firmware and power controller agree on every domain.
+use Rattle.std.proofs.Common.{◌≡◌, ℕ, suc, inl, inr, ◌<◌, List, Option, None, Some, refl, arith}
+use Rattle.std.proofs.Common.{subst, sym, ◌∙◌}
 use Rattle.std.proofs.lemmas.Bool.Decides.{nat_tests}
-use Rattle.std.proofs.Common.{◌≡◌, ℕ, suc, inl, inr, ◌<◌, List, Option, None}
-use Rattle.std.proofs.Common.{Some, refl, arith, subst, sym, ◌∙◌}
 use Rattle.std.proofs.lemmas.Bool.{cases_lt}
 use Rattle.std.proofs.lemmas.Option.{none-some}
 use Rattle.psci_headline.proofs.Words.{BoardValue, HasNode, cores, Node, MessageValue, OfSystem}

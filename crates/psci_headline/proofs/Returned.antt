@@ -1,12 +1,11 @@
 -- What a record says that a call returned is what its function answers, in a life.
-use Rattle.std.proofs.lemmas.Bool.Decides.{nat_tests}
 use Rattle.std.proofs.Common.{◌≡◌, ℕ, zero, suc, ◌<◌, Bool, true, false, ◌==◌, cond, List, ◌++◌}
 use Rattle.std.proofs.Common.{Option, None, Some, refl, ap, sym, ◌∙◌, arith, not}
+use Rattle.std.proofs.lemmas.Bool.Decides.{nat_tests}
 use Rattle.psci_headline.proofs.Words.{request_of, Code, Regs, Request, BoardValue, FwFault}
 use Rattle.psci_headline.proofs.Words.{Outcome, reply_or, call_fault, IsLegal, stops, Values, Event}
 use Rattle.psci_headline.proofs.Words.{Call, Record, Said, Fw, Sent, acks, call, controller_values}
-use Rattle.psci_headline.proofs.Words.{firmware_history, firmware_values, outcome_in}
-use Rattle.psci_fw_laws.specs.psci_fw_spec.declared.call.FwCall.TheVariants.{Smc}
+use Rattle.psci_headline.proofs.Words.{firmware_history, firmware_values, outcome_in, Smc}
 use Rattle.psci_fw_laws.specs.psci_fw_spec.declared.fault.FwFault.TheVariants.{NoCore, NoLife}
 use Rattle.psci_fw_laws.specs.psci_fw_spec.declared.fault.FwFault.TheVariants.{NotRunning}
 use Rattle.psci_fw_laws.specs.psci_fw_spec.declared.outcome.Act.TheVariants as acts

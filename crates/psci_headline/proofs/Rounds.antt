@@ -1,17 +1,15 @@
 -- One round: what is outstanding for each core is served once.
+use Rattle.std.proofs.Common.{◌≡◌, ℕ, suc, ◌⊎◌, inl, inr, ◌+◌, ◌≤◌, Bool, true, false, ◌==◌, cond}
+use Rattle.std.proofs.Common.{List, Option, None, Some, arith, subst, ap, sym, ◌∙◌}
 use Rattle.std.proofs.lemmas.Bool.Decides.{nat_tests}
-use Rattle.std.proofs.Common.{◌≡◌, ℕ, suc, ◌⊎◌, inl, inr, ◌+◌, ◌≤◌, Bool, true, false, ◌==◌}
-use Rattle.std.proofs.Common.{cond, List, Option, None, Some, arith, subst, ap, sym}
-use Rattle.std.proofs.Common.{◌∙◌}
 use Rattle.std.specs.Prelude.{slice_get}
 use Rattle.std.proofs.lemmas.Bool.{cond-true, cond-false, eq-eqb, ne_eqb}
 use Rattle.std.proofs.lemmas.Option.{none-some, same_Some}
 use Rattle.psci_headline.proofs.Words.{BoardValue, cores, up, Part, MessageValue, OfCore, Record}
 use Rattle.psci_headline.proofs.Words.{controller_values, firmware_values, sent, indexed}
-use Rattle.psci_headline.proofs.Words.{deliveries, served, serving, IsLivePart}
+use Rattle.psci_headline.proofs.Words.{deliveries, served, serving, IsLivePart, is_any}
 use Rattle.psci_ctl_spec.specs.psci_messages.declared.kind.Kind.TheVariants as kinds
 use Rattle.psci_headline.proofs.fw_laws.Consequences.{once_down}
-use Rattle.psci_headline.specs.Settling.{is_any}
 use Rattle.psci_headline.proofs.Claimed.{AreDeep}
 use Rattle.psci_headline.proofs.Downs.{IsDownAnswered, IsLeft, down_answered}
 use Rattle.psci_headline.proofs.Emptying.{answer_case}

@@ -1,17 +1,15 @@
 -- What is legal to say of an event, by what it asks.
+use Rattle.std.proofs.Common.{arith, ◌≡◌, ℕ, ◌<◌, cond, Option, Some}
 use Rattle.std.proofs.lemmas.Bool.Decides.{nat_tests}
-use Rattle.std.proofs.Common.{arith}
-use Rattle.std.proofs.Common.{◌≡◌, ℕ, ◌<◌, cond, Option, Some}
 use Rattle.std.specs.Prelude.{List, nat_lt}
 use Rattle.std.proofs.lemmas.Bool.{cond_both, ltb-true}
 use Rattle.psci_headline.proofs.Words.{Regs, BoardValue, cores, Start, last_start, AckValue}
 use Rattle.psci_headline.proofs.Words.{MessageValue, Event, Call, Enter, Wake, Reset, Deliver, Take}
 use Rattle.psci_headline.proofs.Words.{Place, Started, Running, Stopped, Record, Said, Absent, acks}
 use Rattle.psci_headline.proofs.Words.{controller_values, sent, deliver, if_running, if_started}
-use Rattle.psci_headline.proofs.Words.{if_stopped, take, indexed, place}
+use Rattle.psci_headline.proofs.Words.{if_stopped, take, indexed, place, Ignored}
 use Rattle.psci_ctl_spec.specs.declared.call.CtlCall.TheVariants as asked
 use Rattle.psci_fw_laws.specs.psci_fw_spec.declared.call.FwCall.TheVariants as calls
-use Rattle.psci_world_spec.specs.declared.said.Said.TheVariants.{Ignored}
 use Rattle.psci_world_spec.specs.Legal.{asked_controller, asked_firmware, legal}
 
 -- What is so of an event with each answer to it, and with what is said where nothing is asked.

@@ -1,8 +1,7 @@
 -- The messages of a legal run are those that the firmware's history says were sent.
-use Rattle.std.proofs.lemmas.Bool.Decides.{nat_tests}
-use Rattle.std.proofs.Common.{arith}
-use Rattle.std.proofs.Common.{◌≡◌, ℕ, true, List, [], ◌∷◌, ◌++◌, Option, None, Some, refl}
+use Rattle.std.proofs.Common.{arith, ◌≡◌, ℕ, true, List, [], ◌∷◌, ◌++◌, Option, None, Some, refl}
 use Rattle.std.proofs.Common.{option_map, subst}
+use Rattle.std.proofs.lemmas.Bool.Decides.{nat_tests}
 use Rattle.psci_headline.proofs.Words.{request_of, Regs, BoardValue, Start, last_start, AckValue}
 use Rattle.psci_headline.proofs.Words.{MessageValue, Taken, call_fault, enter_fault, IsLegal}
 use Rattle.psci_headline.proofs.Words.{listed, Event, Call, Enter, Record, Said, acks, call}

@@ -1,11 +1,8 @@
 -- Cores that were powered down, and have not gone on since.
+use Rattle.std.proofs.Common.{arith, ◌≡◌, ℕ, ◌<◌, true, List, [], ◌∷◌, Some}
 use Rattle.std.proofs.lemmas.Bool.Decides.{nat_tests}
-use Rattle.std.proofs.Common.{arith}
-use Rattle.std.proofs.Common.{◌≡◌, ℕ, ◌<◌, true, List, [], ◌∷◌}
-use Rattle.std.proofs.Common.{Some}
-use Rattle.std.proofs.lemmas.Bool.{and_from, and_parts, eq-eqb, eqb-true}
-use Rattle.std.proofs.lemmas.Bool.{false_from_ne_true, lt-ltb}
-use Rattle.std.proofs.lemmas.Bool.{ltb-true, not_from_false, or_left, or_right}
+use Rattle.std.proofs.lemmas.Bool.{and_from, and_parts, eq-eqb, eqb-true, false_from_ne_true}
+use Rattle.std.proofs.lemmas.Bool.{lt-ltb, ltb-true, not_from_false, or_left, or_right}
 use Rattle.psci_headline.proofs.Words.{BoardValue, Status, Off, Record, controller_values}
 use Rattle.psci_headline.proofs.Words.{firmware_values, depth_at, enters_or_resumes}
 use Rattle.psci_headline.proofs.Words.{is_reported_off}

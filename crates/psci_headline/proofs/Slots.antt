@@ -1,13 +1,10 @@
 -- What a change leaves in the slot of a core.
+use Rattle.std.proofs.Common.{arith, false, true, ◌≡◌, ℕ, ◌==◌, Option, None, Some, ap, sym, ◌∙◌}
 use Rattle.std.proofs.lemmas.Bool.Decides.{nat_tests}
-use Rattle.std.proofs.Common.{arith}
-use Rattle.std.proofs.Common.{false}
-use Rattle.std.proofs.Common.{true}
-use Rattle.psci_ctl_spec.specs.psci_messages.declared.kind.Kind.TheVariants as kinds
+use Rattle.std.proofs.lemmas.Bool.{cond-true, cond-false, eq-eqb, ne_eqb}
 use Rattle.psci_headline.proofs.Words.{is_system, Core, Kind, MessageValue, Clear, OfCore, OfSystem}
 use Rattle.psci_headline.proofs.Words.{Put, Slot, changed, slot_of}
-use Rattle.std.proofs.Common.{◌≡◌, ℕ, ◌==◌, Option, None, Some, ap, sym, ◌∙◌}
-use Rattle.std.proofs.lemmas.Bool.{cond-true, cond-false, eq-eqb, ne_eqb}
+use Rattle.psci_ctl_spec.specs.psci_messages.declared.kind.Kind.TheVariants as kinds
 
 -- the slot of a message that is sent has it
 pub put_here : (outstanding : Slot → Option MessageValue) (m : MessageValue) (c : ℕ)

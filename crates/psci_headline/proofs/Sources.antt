@@ -1,14 +1,12 @@
 -- A domain that is not fully on is as deep as a live claim on it.
-use Rattle.psci_headline.proofs.Claiming.{off_path}
-use Rattle.psci_headline.proofs.Deep.{first_off}
-use Rattle.std.proofs.Common.{◌≡◌, ℕ, ◌⊎◌, inl, inr, ◌<◌}
-use Rattle.std.proofs.Common.{List, Some, refl, sym, ◌∙◌}
+use Rattle.std.proofs.Common.{◌≡◌, ℕ, ◌⊎◌, inl, inr, ◌<◌, List, Some, refl, sym, ◌∙◌}
 use Rattle.std.proofs.lemmas.Bool.{and_from, le-leb, lt-ltb}
 use Rattle.psci_headline.proofs.Words.{BoardValue, HasNode, Node, is_on_path, Record}
-use Rattle.psci_headline.proofs.Words.{controller_history, controller_values, IsReplied}
+use Rattle.psci_headline.proofs.Words.{controller_history, controller_values, IsReplied, IsApplied}
+use Rattle.psci_headline.proofs.Words.{IsFirst, IsFromStart}
 use Rattle.psci_ctl_spec.specs.History as controls
-use Rattle.psci_ctl_spec.specs.Lasting.{IsApplied, IsFirst}
-use Rattle.psci_headline.specs.psci_fw_laws.Claims.{IsFromStart}
+use Rattle.psci_headline.proofs.Claiming.{off_path}
+use Rattle.psci_headline.proofs.Deep.{first_off}
 use Rattle.psci_headline.proofs.AppliedParts.{was_sent}
 use Rattle.psci_headline.proofs.Standing.{HasLive}
 use Rattle.psci_headline.proofs.Starting.{same_sum}

@@ -1,16 +1,14 @@
 -- What is known of every legal past, and what follows where no core is started.
-use Rattle.std.proofs.Common.{◌≡◌, ℕ, inl, inr, ◌+◌, ◌<◌, List, Some}
-use Rattle.std.proofs.Common.{arith, ap, sym, ◌∙◌}
+use Rattle.std.proofs.Common.{◌≡◌, ℕ, inl, inr, ◌+◌, ◌<◌, List, Some, arith, ap, sym, ◌∙◌}
 use Rattle.std.proofs.lemmas.Bool.{cases_eq}
 use Rattle.psci_headline.proofs.Words.{BoardValue, HasNode, cores, height, up, ChildLaws, Part}
 use Rattle.psci_headline.proofs.Words.{MessageValue, in_life, Values, IsClaimOn, IsCurrent}
 use Rattle.psci_headline.proofs.Words.{HasDeeper, NonePending, known_below, Started, Record}
 use Rattle.psci_headline.proofs.Words.{controller_values, firmware_values, sent, IsLegalPast, place}
+use Rattle.psci_headline.proofs.Words.{NoneRefused, Waiting}
 use Rattle.psci_ctl_spec.specs.Follows as controlling
-use Rattle.psci_headline.specs.Refusals.{NoneRefused}
 use Rattle.psci_headline.proofs.Agreed.{RunLaws}
 use Rattle.psci_headline.proofs.Agreeing.{found_other, found_own}
-use Rattle.psci_headline.specs.Waiting.{Waiting}
 use Rattle.psci_headline.proofs.Carried.{IsGiven}
 
 -- A live claim of the domain's depth.

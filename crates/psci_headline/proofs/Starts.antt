@@ -1,18 +1,18 @@
 -- What is so once each Start that was outstanding was served.
+use Rattle.std.proofs.Common.{◌≡◌, ℕ, ◌⊎◌, inl, inr, ◌+◌, ◌<◌, true, false, ◌==◌, cond, List, None}
+use Rattle.std.proofs.Common.{Some, arith, ap, sym, ◌∙◌}
 use Rattle.std.proofs.lemmas.Bool.Decides.{nat_tests}
-use Rattle.std.proofs.Common.{◌≡◌, ℕ, ◌⊎◌, inl, inr, ◌+◌, ◌<◌, true, false, ◌==◌, cond}
-use Rattle.std.proofs.Common.{List, None, Some, arith, ap, sym, ◌∙◌}
 use Rattle.std.proofs.lemmas.Bool.{cases_Bool, cond-true, cond-false, eqb-true, or_left, or_right}
 use Rattle.std.proofs.lemmas.Option.{none-some, same_Some}
 use Rattle.psci_headline.proofs.Words.{BoardValue, cores, message_effect, Kind, AckValue}
 use Rattle.psci_headline.proofs.Words.{MessageValue, OfCore, is_done, Values, AreOutstanding, Enter}
 use Rattle.psci_headline.proofs.Words.{Record, controller_values, firmware_values, sent, indexed}
-use Rattle.psci_headline.proofs.Words.{deliveries, served, serving, step}
+use Rattle.psci_headline.proofs.Words.{deliveries, served, serving, step, each_core, entering}
 use Rattle.psci_ctl_spec.specs.Changes as controlling
 use Rattle.psci_ctl_spec.specs.Values as controlled
 use Rattle.psci_ctl_spec.specs.psci_messages.declared.kind.Kind.TheVariants as kinds
+use Rattle.psci_headline.specs.Settling.{all_cores, begun, is_start}
 use Rattle.psci_headline.proofs.Agreeing.{found_own}
-use Rattle.psci_headline.specs.Settling.{all_cores, begun, each_core, entering, is_start}
 use Rattle.psci_headline.proofs.Serving.{ack_to}
 use Rattle.psci_headline.proofs.Beginning.{HasEntered, HasNoStart, IsIn, IsStartAt, IsUnderWay}
 use Rattle.psci_headline.proofs.Beginning.{enter_step, more_starts}

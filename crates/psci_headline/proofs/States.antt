@@ -1,12 +1,10 @@
 -- Domains that were in a state at some moment.
+use Rattle.std.proofs.Common.{arith, ◌≡◌, ℕ, true, List, [], ◌∷◌, ◌++◌, Some}
 use Rattle.std.proofs.lemmas.Bool.Decides.{nat_tests}
-use Rattle.std.proofs.Common.{arith}
-use Rattle.std.proofs.Common.{◌≡◌, ℕ, true, List, [], ◌∷◌, ◌++◌, Some}
 use Rattle.std.proofs.lemmas.Bool.{and_from, eq-eqb, or_left, or_right}
 use Rattle.psci_headline.proofs.Words.{BoardValue, Node, starts_below, hw_at, Record}
-use Rattle.psci_headline.proofs.Words.{controller_values}
-use Rattle.psci_fw_laws.specs.psci_fw_spec.declared.hw.Hw.{Hw}
-use Rattle.psci_headline.specs.Hardware.{is_in_state, was_in_state}
+use Rattle.psci_headline.proofs.Words.{controller_values, Hw, is_in_state}
+use Rattle.psci_headline.specs.Hardware.{was_in_state}
 
 -- a domain that is so deep now, after so many starts below, in this life
 in_state : (b : BoardValue) (life sum depth : ℕ) (past : List Record) (n : Node)

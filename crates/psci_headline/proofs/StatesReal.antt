@@ -1,17 +1,16 @@
 -- The hardware states that are said of domains were real, after every legal past.
+use Rattle.std.proofs.Common.{◌≡◌, ℕ, ◌<◌, inl, inr, Bool, true, false, not, ◌==◌, cond, List, []}
+use Rattle.std.proofs.Common.{◌∷◌, Some, refl, subst, ap, sym, ◌∙◌, arith}
 use Rattle.std.proofs.lemmas.Bool.Decides.{nat_tests}
-use Rattle.std.proofs.Common.{◌≡◌, ℕ, ◌<◌, inl, inr, Bool, true, false, not, ◌==◌, cond}
-use Rattle.std.proofs.Common.{List, [], ◌∷◌, Some, refl, subst, ap, sym, ◌∙◌, arith}
 use Rattle.std.specs.Prelude.{nat_lt, slice_get}
 use Rattle.std.proofs.lemmas.Bool.{and_parts, and_right, ltb-true, ne_eqb}
 use Rattle.psci_headline.proofs.Words.{BoardValue, HasNode, up, PathLaws, Node, first_depth}
 use Rattle.psci_headline.proofs.Words.{first_starts, On, AreValues, hw_at, hw_code, node_hw, Values}
 use Rattle.psci_headline.proofs.Words.{AckValue, IsAllowed, KnownLaws, WasMade, Record, acks}
 use Rattle.psci_headline.proofs.Words.{controller_values, firmware_values, IsLegalPast}
-use Rattle.psci_headline.proofs.Words.{was_in_state, StatesWereReal}
+use Rattle.psci_headline.proofs.Words.{was_in_state, StatesWereReal, said_hw}
 use Rattle.psci_ctl_spec.specs.Values.{starts_below}
 use Rattle.psci_fw_laws.specs.KnownBelow.{known_below}
-use Rattle.psci_headline.specs.Hardware.{said_hw}
 use Rattle.psci_headline.proofs.Acknowledged.{IsTaken, carried_out}
 use Rattle.psci_headline.proofs.AllDown.{DownLaws, first_controlled, first_life, next_of}
 use Rattle.psci_headline.proofs.Confirming.{How, Stays, confirmed_how, no_sum}

@@ -1,20 +1,18 @@
 -- What is told, after one call of the firmware or of the power controller.
-use Rattle.psci_headline.specs.psci_fw_spec.Effects.{Nothing}
-use Rattle.std.proofs.lemmas.Bool.Decides.{nat_tests}
 use Rattle.std.proofs.Common.{◌≡◌, ℕ, inl, inr, ◌+◌, ◌≤◌, Bool, true, false, ◌==◌, cond, List}
 use Rattle.std.proofs.Common.{Option, Some, refl, arith, subst, sym, ◌∙◌}
+use Rattle.std.proofs.lemmas.Bool.Decides.{nat_tests}
 use Rattle.std.specs.Prelude.{slice_get}
 use Rattle.std.proofs.lemmas.Bool.{cases_eq, cond_both}
 use Rattle.psci_headline.proofs.Words.{BoardValue, PathLaws, next_life, one_more, Start, AckValue}
 use Rattle.psci_headline.proofs.Words.{MessageValue, change, with_mode, with_pending, Effect}
 use Rattle.psci_headline.proofs.Words.{GoesOn, SetsMode, AsksOn, Rests, Halts, Stops, Enters, Parks}
-use Rattle.psci_headline.proofs.Words.{StopsAtOnce, Acknowledges, in_life, start_of_life, Away}
-use Rattle.psci_headline.proofs.Words.{Pending, Values, IsAllowed, Holds, KnownLaws, WasTold}
-use Rattle.psci_headline.proofs.Words.{AreConfirming}
+use Rattle.psci_headline.proofs.Words.{StopsAtOnce, Acknowledges, in_life, start_of_life, Values}
+use Rattle.psci_headline.proofs.Words.{IsAllowed, Holds, KnownLaws, WasTold, AreConfirming}
+use Rattle.psci_headline.specs.psci_fw_spec.Effects.{Nothing}
 use Rattle.psci_headline.specs.psci_ctl_spec.Changes as controlling
 use Rattle.psci_headline.specs.psci_ctl_spec.Effects as controlling_effects
 use Rattle.psci_headline.specs.psci_ctl_spec.Values as controlled
-use Rattle.psci_headline.specs.psci_fw_spec.declared.status.Status.TheVariants as statuses
 use Rattle.psci_headline.proofs.fw_laws.Arriving.{found_life}
 use Rattle.psci_headline.proofs.Agreeing.{found_other, found_own}
 use Rattle.psci_headline.proofs.Records.{IsOfRecord}
@@ -99,14 +97,9 @@ module _ (b : BoardValue) (w : controlled.Values) (v : Values) (sent : List Mess
 
 -- The power controller -------------------------------------------------------------------------
 
-first_off : (t : Bool) → cond t Pending Away ≡ Away
-    → cond t statuses.Pending statuses.Off ≡ statuses.Off
-first_off true e = absurd (cc)
-first_off false e = refl
-
 pub first : (b : BoardValue) (starts : ℕ → ℕ) (life : ℕ)
     → AreConfirming b starts (start_of_life b life)
-first b starts life = grind (arith, nat_tests, first_off)
+first b starts life = grind (arith, nat_tests)
 
 pub first_now : (b : BoardValue) (starts : ℕ → ℕ) (life : ℕ)
     → AreConfirming b starts (in_life b life (start_of_life b 0))

@@ -1,9 +1,7 @@
 -- What waits, after an acknowledgement was taken.
+use Rattle.std.proofs.Common.{◌≤◌, ◌≡◌, ℕ, ◌⊎◌, inl, inr, Bool, true, List, Option, None, Some}
+use Rattle.std.proofs.Common.{arith, subst, ap, sym, ◌∙◌}
 use Rattle.std.proofs.lemmas.Bool.Decides.{nat_tests}
-use Rattle.std.proofs.Common.{◌≤◌}
-use Rattle.psci_headline.proofs.Pursuing.{waiting_moved}
-use Rattle.std.proofs.Common.{◌≡◌, ℕ, ◌⊎◌, inl, inr, Bool, true, List}
-use Rattle.std.proofs.Common.{Option, None, Some, arith, subst, ap, sym, ◌∙◌}
 use Rattle.std.specs.Prelude.{slice_get}
 use Rattle.std.proofs.lemmas.Bool.{and_parts, cases_lt, eqb-true, leb-true, or_cases}
 use Rattle.std.proofs.lemmas.Option.{same_Some, slice_get_within}
@@ -11,6 +9,7 @@ use Rattle.psci_headline.proofs.Words.{BoardValue, Part, Kind, Down, AckValue, M
 use Rattle.psci_headline.proofs.Words.{Acknowledge, OfCore, Slot, answers, changed, is_done}
 use Rattle.psci_headline.proofs.Words.{is_kind, Phase, AreOutstanding, AreWaiting, IsLivePart}
 use Rattle.psci_headline.proofs.Words.{IsTold, WasTold, AwaitsStart}
+use Rattle.psci_headline.proofs.Pursuing.{waiting_moved}
 
 -- Names ----------------------------------------------------------------------------------------
 

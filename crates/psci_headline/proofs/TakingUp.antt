@@ -1,11 +1,9 @@
 -- An entry takes up the opening that waits for its core.
+use Rattle.std.proofs.Common.{arith, ◌≡◌, ℕ, zero, suc, ◌<◌, List, ◌∷◌, Option, None, Some, refl}
+use Rattle.std.proofs.Common.{ap, sym, ◌∙◌, subst}
 use Rattle.std.proofs.lemmas.Bool.Decides.{nat_tests}
-use Rattle.std.proofs.Common.{arith}
-use Rattle.std.proofs.Common.{◌≡◌, ℕ, zero, suc, ◌<◌, List, ◌∷◌, Option, None, Some, refl, ap, sym}
-use Rattle.std.proofs.Common.{◌∙◌, subst}
 use Rattle.std.specs.Prelude.{slice_get}
-use Rattle.psci_headline.proofs.Words.{Opening, updated, Fits, Made, TakenUp}
-use Rattle.psci_headline.specs.Openings.{EnteredAt, newest}
+use Rattle.psci_headline.proofs.Words.{Opening, updated, Fits, Made, TakenUp, EnteredAt, newest}
 use Rattle.psci_headline.proofs.Waiting.{AreWaiting, IsBefore, IsFresh, IsWaiting, newest_is}
 use Rattle.psci_headline.proofs.Waiting.{none_left}
 

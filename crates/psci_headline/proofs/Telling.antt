@@ -1,13 +1,13 @@
 -- What a new acknowledgement says, once its message was carried out.
-use Rattle.std.proofs.lemmas.Bool.Decides.{nat_tests}
-use Rattle.psci_headline.proofs.Words.{ArePartsOf, BoardValue, height, Part, domain_of, AckLaws}
-use Rattle.psci_headline.proofs.Words.{applied, is_stale, laid, ack_of, starts_below, Kind, Down}
-use Rattle.psci_headline.proofs.Words.{MessageValue, answers, is_kind, IsLivePart, IsTold}
 use Rattle.std.proofs.Common.{◌≡◌, ℕ, zero, suc, ◌+◌, ◌-◌, ◌<◌, ◌≤◌, Bool, true, List, [], ◌∷◌}
 use Rattle.std.proofs.Common.{length, take, Some, refl, arith, subst, ap, sym, ◌∙◌}
+use Rattle.std.proofs.lemmas.Bool.Decides.{nat_tests}
 use Rattle.std.specs.Prelude.{slice_get}
 use Rattle.std.proofs.lemmas.Bool.{and_from, cond-true, eq-eqb, le-leb}
 use Rattle.std.proofs.lemmas.Option.{same_Some, slice_get_within}
+use Rattle.psci_headline.proofs.Words.{ArePartsOf, BoardValue, height, Part, domain_of, AckLaws}
+use Rattle.psci_headline.proofs.Words.{applied, is_stale, laid, ack_of, starts_below, Kind, Down}
+use Rattle.psci_headline.proofs.Words.{MessageValue, answers, is_kind, IsLivePart, IsTold}
 use Rattle.psci_ctl_spec.specs.Values.{Values}
 use Rattle.psci_ctl_spec.proofs.Front.{get_take}
 use Rattle.psci_ctl_spec.specs.psci_messages.declared.kind.Kind.TheVariants.{Start}

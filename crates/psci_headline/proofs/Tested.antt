@@ -1,21 +1,20 @@
 -- Power and claims at a moment are as they shall be where the tests say so.
+use Rattle.std.proofs.Common.{◌≡◌, ◌+◌, ◌≤◌, ◌<◌, ◌==◌, ◌||◌, ◌&&◌, ◌↔◌, ℕ, Bool, true, not, List}
+use Rattle.std.proofs.Common.{arith, length, is_some}
 use Rattle.std.proofs.lemmas.Bool.Decides.{nat_tests}
-use Rattle.std.proofs.Common.{◌≡◌, ◌+◌, ◌≤◌, ◌<◌, ◌==◌, ◌||◌, ◌&&◌, ◌↔◌, ℕ, Bool, true}
-use Rattle.std.proofs.Common.{not, List, arith}
-use Rattle.std.proofs.Common.{length}
-use Rattle.std.proofs.Common.{is_some}
 use Rattle.std.specs.List.{list_all, range_with_len}
 use Rattle.std.proofs.lemmas.Bool.{and_from, and_parts, cases_eq, eq-eqb, eqb-true, le-leb}
 use Rattle.std.proofs.lemmas.Bool.{leb-true, or_cases, or_left, or_right}
 use Rattle.psci_headline.proofs.Words.{BoardValue, HasNode, cores, height, nodes, up, Node, Place}
 use Rattle.psci_headline.proofs.Words.{Started, Running, Record, controller_values, place}
 use Rattle.psci_headline.proofs.Words.{live_claims, depth_at, executes, is_reported_off, OffIsDown}
-use Rattle.psci_headline.proofs.Words.{StatesWereReal}
+use Rattle.psci_headline.proofs.Words.{StatesWereReal, NoDeeperThanAsked, NoneBelowSleeping}
+use Rattle.psci_headline.proofs.Words.{is_asked, is_off_down, is_off_stopped, is_one, is_powered}
+use Rattle.psci_headline.proofs.Words.{executes_outside}
 use Rattle.psci_headline.specs.Hardware.{is_said_asleep}
-use Rattle.psci_headline.specs.Safe.{NoDeeperThanAsked, NoneBelowSleeping, OneLiveClaim}
-use Rattle.psci_headline.specs.Test.{at_each_core, at_each_domain, at_each_level, has_one, is_asked}
-use Rattle.psci_headline.specs.Test.{is_off_down, is_off_stopped, is_one, is_powered}
-use Rattle.psci_headline.specs.Test.{executes_outside, is_each_real, was_asked, was_real}
+use Rattle.psci_headline.specs.Safe.{OneLiveClaim}
+use Rattle.psci_headline.specs.Test.{at_each_core, at_each_domain, at_each_level, has_one}
+use Rattle.psci_headline.specs.Test.{is_each_real, was_asked, was_real}
 use Rattle.psci_headline.proofs.Ranges.{all_in, each_in, if_holds, where_holds}
 
 -- Everywhere on the board ---------------------------------------------------------------------

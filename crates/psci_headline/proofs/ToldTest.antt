@@ -1,15 +1,13 @@
 -- Whether all cores of a domain are off, as a test that computes, and says the same.
+use Rattle.std.proofs.Common.{◌≡◌, ℕ, Bool, true, false, ◌==◌, ◌&&◌, ◌||◌, not, List, ap, sym, ◌∙◌}
+use Rattle.std.proofs.Common.{arith, inl, inr}
 use Rattle.std.proofs.lemmas.Bool.Decides.{nat_tests}
-use Rattle.psci_headline.proofs.Tested.{not_running, still}
-use Rattle.std.proofs.Common.{◌≡◌, ℕ, Bool, true, false, ◌==◌, ◌&&◌, ◌||◌}
-use Rattle.std.proofs.Common.{not, List, ap, sym, ◌∙◌, arith, inl, inr}
 use Rattle.std.specs.List.{list_all, range_with_len}
-use Rattle.std.proofs.lemmas.Bool.{and_from, and_parts, cases_Bool, eqb-true, eq-eqb}
-use Rattle.std.proofs.lemmas.Bool.{or_cases, or_left, or_right}
+use Rattle.std.proofs.lemmas.Bool.{and_from, and_parts, cases_Bool, eqb-true, eq-eqb, or_cases}
+use Rattle.std.proofs.lemmas.Bool.{or_left, or_right}
 use Rattle.psci_headline.proofs.Words.{BoardValue, cores, up, Node, Record, firmware_values, place}
-use Rattle.psci_headline.proofs.Words.{was_powered_down}
-use Rattle.psci_headline.specs.Test.{executes_outside}
-use Rattle.psci_headline.specs.ToldOff.{AllOff}
+use Rattle.psci_headline.proofs.Words.{was_powered_down, executes_outside, AllOff}
+use Rattle.psci_headline.proofs.Tested.{not_running, still}
 use Rattle.psci_headline.proofs.Ranges.{all_in, each_in}
 
 -- a core is below no such domain, or does not run and was powered down since it last went on

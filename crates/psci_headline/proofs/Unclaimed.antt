@@ -1,6 +1,6 @@
 -- Cores without a live claim.
-use Rattle.std.proofs.lemmas.Bool.Decides.{nat_tests}
 use Rattle.std.proofs.Common.{◌≡◌, ℕ, ◌<◌, List, Some, arith, ap, sym}
+use Rattle.std.proofs.lemmas.Bool.Decides.{nat_tests}
 use Rattle.std.specs.Prelude.{slice_get}
 use Rattle.psci_headline.proofs.Words.{BoardValue, cores, up, Part, Down, MessageValue, Phase}
 use Rattle.psci_headline.proofs.Words.{IsClaimOn, AreLive, IsLivePart}

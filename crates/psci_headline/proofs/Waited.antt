@@ -1,6 +1,6 @@
 -- What waits after every legal run.
-use Rattle.std.proofs.lemmas.Bool.Decides.{nat_tests}
 use Rattle.std.proofs.Common.{◌≡◌, List, [], ◌∷◌, arith, subst}
+use Rattle.std.proofs.lemmas.Bool.Decides.{nat_tests}
 use Rattle.psci_headline.proofs.Words.{BoardValue, IsLegal, Event, Record, Said, IsLegalPast, legal}
 use Rattle.psci_ctl_spec.specs.Legal as legal_controls
 use Rattle.psci_ctl_spec.specs.History as controls

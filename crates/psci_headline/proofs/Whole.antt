@@ -1,18 +1,17 @@
 -- Where firmware and power controller agree, all is told.
+use Rattle.std.proofs.Common.{◌≡◌, ℕ, inl, inr, ◌<◌, Bool, true, false, cond, List, Some, refl}
+use Rattle.std.proofs.Common.{arith, subst, ap, sym, ◌∙◌}
 use Rattle.std.proofs.lemmas.Bool.Decides.{nat_tests}
-use Rattle.std.proofs.Common.{◌≡◌, ℕ, inl, inr, ◌<◌, Bool, true, false, cond, List}
-use Rattle.std.proofs.Common.{Some, refl, arith, subst, ap, sym, ◌∙◌}
 use Rattle.std.proofs.lemmas.Bool.{cases_eq, cases_lt}
 use Rattle.std.proofs.lemmas.Option.{none-some}
 use Rattle.psci_headline.proofs.Words.{BoardValue, HasNode, cores, Node, On, Off, AreValues}
 use Rattle.psci_headline.proofs.Words.{in_life, hw_at, node_hw, Phase, Away, Values, Holds, Record}
 use Rattle.psci_headline.proofs.Words.{controller_values, firmware_values, sent, IsLegalPast}
-use Rattle.psci_headline.proofs.Words.{AreAtRest, is_halting, AreConfirming, IsYetToCome}
+use Rattle.psci_headline.proofs.Words.{AreAtRest, is_halting, AreConfirming, IsYetToCome, agrees}
+use Rattle.psci_headline.proofs.Words.{Confirming}
 use Rattle.psci_headline.specs.psci_ctl_spec.Values as controlled
-use Rattle.psci_headline.specs.psci_fw_spec.Invariant.{agrees}
-use Rattle.psci_headline.proofs.Agreeing.{found_other, found_own}
 use Rattle.psci_headline.specs.Complete.{IsToldWhole}
-use Rattle.psci_headline.specs.Confirming.{Confirming}
+use Rattle.psci_headline.proofs.Agreeing.{found_other, found_own}
 use Rattle.psci_headline.proofs.Confirmed.{RunLaws}
 
 -- The life -------------------------------------------------------------------------------------
