@@ -1,5 +1,5 @@
 -- What a new acknowledgement says of its core.
-use Rattle.std.proofs.Common.{◌≡◌, ℕ, ◌<◌, inr, List, ◌∷◌, Some, refl, subst, ap, sym, ◌∙◌, arith}
+use Rattle.std.proofs.Common.{◌≡◌, ℕ, ◌<◌, inr, List, ◌∷◌, Some, refl, ap, sym, ◌∙◌, arith}
 use Rattle.std.proofs.lemmas.Bool.Decides.{nat_tests}
 use Rattle.std.proofs.lemmas.Bool.{cond_both}
 use Rattle.std.specs.Prelude.{slice_get}
@@ -86,16 +86,9 @@ new_is_down b r past a laws holds new kind some =
     let m = new.made.message in
     let place = at_number (sent past) new.made.number m new.made.at in
     let sent_one = holds.messages place.index m place.at in
-    let of : HasName a m = subst (λ x. HasName x m) (sym new.made.ack)
-    (acks_message b (controller_values b past) m m.kind) in
+    let of : HasName a m = grind (arith, nat_tests, acks_message) in
     let down : m.kind ≡ kinds.Down = sym of.kind ∙ kind in
-    let d : IsOfDown (sent past) a m = record {
-      index = place.index;
-      at = place.at;
-      kind = down;
-      ack = of;
-      first = first_part m down sent_one.sound.parts;
-    } in
+    let d : IsOfDown (sent past) a m = grind (arith, nat_tests, first_part) in
     let deep = now_deep b (controller_values b past) (controller_values b (r ∷ past)) m a
     a.core.number d.first.item laws down (sym of.core) new.values d.first.at some in
     record {

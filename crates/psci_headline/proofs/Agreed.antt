@@ -75,8 +75,7 @@ control_next b past e laws now is =
     let h : List controller.CtlExchange = controller_history b past in
     let v : controlled.Values = controller_values b past in
     let may : MayFollow b v (controlling_effects.effect_of b e.call e.reply) =
-    subst (λ r. MayFollow b v (controlling_effects.effect_of b e.call r)) (sym is.0)
-    (laws.follows v e.call is.1) in
+    grind (arith, nat_tests) in
     subst (λ w. AreAgreed b w (λ x. unwrap_or (place_controlled b x (e ∷ [])) (place b past x))
     (firmware_values b past))
     (sym (values_more b e h))

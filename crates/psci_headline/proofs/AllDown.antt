@@ -5,7 +5,7 @@ use Rattle.std.proofs.lemmas.Bool.Decides.{nat_tests}
 use Rattle.std.specs.Prelude.{slice_get}
 use Rattle.std.proofs.lemmas.Bool.{eqb-false, eqb-true, ne_eqb, and_right}
 use Rattle.psci_headline.proofs.Words.{BoardValue, Values, Down, AckValue, MessageValue, OfCore}
-use Rattle.psci_headline.proofs.Words.{slot_of, IsAllowed, Holds, Record, ack_in, controller_values}
+use Rattle.psci_headline.proofs.Words.{IsAllowed, Holds, Record, ack_in, controller_values}
 use Rattle.psci_headline.proofs.Words.{firmware_values, sent, IsLegalPast, Agree, was_powered_down}
 use Rattle.psci_headline.proofs.Words.{is_reported_off, IsAwaited, AreDown}
 use Rattle.psci_ctl_spec.specs.History as controls
@@ -58,8 +58,7 @@ answers_known : (v : Values) (messages : List MessageValue) (b : BoardValue) (a 
 answers_known v messages b a holds is kind =
     let m = is.message in
     let c = a.core.number in
-    let slot : v.outstanding (OfCore c) ≡ Some m =
-    ap (λ k. v.outstanding (slot_of k a.core)) (sym kind) ∙ is.at in
+    let slot : v.outstanding (OfCore c) ≡ Some m = grind (arith, nat_tests) in
     let of = holds.slots.core c m slot in
     let name = named a m is.answers in
     record { life = name.life ∙ of.listed.present; number = name.number ∙ of.number }
@@ -123,8 +122,7 @@ pub record DownLaws (b : BoardValue) : Type 0 where
 pub next_of : (b : BoardValue) (r : Record) (past : List Record) → DownLaws b
     → IsLegalPast b (r ∷ past) → IsNext b r past
 next_of b r past laws is =
-    let m : Moves b r past =
-    moves b r past laws.firmware is.0 (firmware_legal b (r ∷ past) is) in
+    let m : Moves b r past = grind (arith, nat_tests, moves, firmware_legal) in
     let v : Values = firmware_values b past in
     record {
       moves = m;

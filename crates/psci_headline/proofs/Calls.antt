@@ -94,8 +94,7 @@ pub entry_waits : (b : BoardValue) (w : controlled.Values) (v : Values)
 entry_waits b w v sent made c s acts.Stop (Some m) allowed on later live h =
     let found : Values = in_life b s.life v in
     let new : Phase = unless_pending (found.phase c) Away in
-    let rests : new ≡ Pending → ⊥ = λ e. allowed.claim.rests
-    (ap (updated found.phase c new) allowed.core ∙ updated_here found.phase c new ∙ e) in
+    let rests : new ≡ Pending → ⊥ = grind (arith, nat_tests, updated_here) in
     waiting_core
     (entered_waits b s.life w found sent made c s.number new on later live (λ awake. rests) h) m c
     (down_slot m.kind m.core c allowed.claim.kind allowed.core) allowed.core

@@ -1,5 +1,6 @@
 -- Live claims that have their depth, level by level.
-use Rattle.std.proofs.Common.{◌≡◌, ℕ, inl, inr, ◌<◌, false, List, Some, refl, ap, sym, ◌∙◌}
+use Rattle.std.proofs.Common.{arith, ◌≡◌, ℕ, inl, inr, ◌<◌, false, List, Some, refl, ap, sym, ◌∙◌}
+use Rattle.std.proofs.lemmas.Bool.Decides.{nat_tests}
 use Rattle.std.specs.Prelude.{nat_le, slice_get}
 use Rattle.std.proofs.lemmas.Bool.{and_parts, and_right, cond-false, eqb-false, ltb-true, leb-true}
 use Rattle.std.proofs.lemmas.Bool.{ne_eqb}
@@ -31,8 +32,7 @@ from_start b starts depth level place p first from live =
     let on = and_parts (nat_le level (height b)) _ from.node in
     let has : HasNode b n = record { level = leb-true _ _ on.0; place = ltb-true _ _ on.1 } in
     let off : is_on_path b 0 level place ≡ false =
-    and_right (nat_le level (height b)) _
-    (ne_eqb (up b level 0) place (λ e. eqb-false place (up b level 0) from.off_path (sym e))) in
+    grind (arith, nat_tests, and_right, ne_eqb, eqb-false) in
     first n has (same_sum b starts n ∙ sym live ∙ zero)
     ∙ cond-false (is_on_path b 0 level place) 0 3 off ∙ sym deep
 

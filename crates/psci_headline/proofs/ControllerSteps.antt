@@ -36,9 +36,7 @@ kicked_next b past e c cause laws given now is starts =
     let h : List controller.CtlExchange = controller_history b past in
     let w : controlled.Values = controller_values b past in
     let may : MayFollow b w (controlling_effects.Starts c cause) =
-    subst (MayFollow b w) starts
-    (subst (λ r. MayFollow b w (controlling_effects.effect_of b e.call r)) (sym is.0)
-    (laws.follows w e.call is.1)) in
+    grind (arith, nat_tests) in
     subst (λ u. WaitsNow b u (firmware_values b past) (sent past) (acks past))
     (sym (values_more b e h ∙ ap (λ f. controlling.change b f w) starts))
     (started_waits b w (place b past) (firmware_values b past) (sent past) (acks past) c cause given
@@ -93,8 +91,7 @@ deliver_next b past k (said.Acked index ack) laws given now is e none =
     let h : List controller.CtlExchange = controller_history b past in
     let d = delivered_by b past (Deliver k) ack (ap ack_in (sym e)) in
     let same : d.number ≡ k = cc in
-    let here : indexed (sent past) k ≡ Some d.message =
-    subst (λ j. indexed (sent past) j ≡ Some d.message) same d.at in
+    let here : indexed (sent past) k ≡ Some d.message = grind (arith, nat_tests) in
     let at = at_number (sent past) k d.message here in
     subst (λ o. WaitsNow b (controls.values_of b (delivered o ack ++ h)) (firmware_values b past)
     (sent past) (ack ∷ acks past)) (sym here)

@@ -1,17 +1,18 @@
 -- What waits, after each effect of the power controller.
-use Rattle.std.proofs.Common.{◌≡◌, ℕ, zero, suc, inl, inr, ◌+◌, ◌<◌, ◌≤◌, Bool, true, false, ◌==◌}
-use Rattle.std.proofs.Common.{cond, List, [], ◌∷◌, take, Some, refl, arith, subst, ap, sym, ◌∙◌}
+use Rattle.std.proofs.Common.{◌≡◌, ℕ, zero, suc, ◌+◌, ◌<◌, ◌≤◌, Bool, true, false, ◌==◌, cond, List}
+use Rattle.std.proofs.Common.{[], ◌∷◌, take, Some, refl, arith, subst, ap, sym, ◌∙◌}
+use Rattle.std.proofs.lemmas.Bool.Decides.{nat_tests}
 use Rattle.std.specs.Prelude.{nat_lt, slice_get}
 use Rattle.std.proofs.lemmas.Bool.{and_cases, and_parts, cond-true, eq-eqb, eqb-false, eqb-true}
 use Rattle.std.proofs.lemmas.Bool.{ltb-false}
 use Rattle.std.proofs.lemmas.Option.{none-some, slice_get_within}
-use Rattle.psci_headline.proofs.Words.{BoardValue, cores, height, up, Part, domain_of, Cause}
-use Rattle.psci_headline.proofs.Words.{one_more, Nothing, Starts, Deepens, AckLaws, SumLaws}
-use Rattle.psci_headline.proofs.Words.{applied, is_stale, ack_of, may_follow, Kind, AckValue}
-use Rattle.psci_headline.proofs.Words.{ArePartsOf, AreClaims, MessageValue, PartByPart}
-use Rattle.psci_headline.proofs.Words.{start_of_life, Phase, Away, Pending, Values, AreRising}
-use Rattle.psci_headline.proofs.Words.{known_below, AreLive, AreWaiting, IsNamed, IsTold, WaitingIn}
-use Rattle.psci_headline.proofs.Words.{WasTold, IsFront, AreSent}
+use Rattle.psci_headline.proofs.Words.{BoardValue, cores, height, up, Part, Cause, one_more}
+use Rattle.psci_headline.proofs.Words.{Nothing, Starts, Deepens, AckLaws, SumLaws, applied}
+use Rattle.psci_headline.proofs.Words.{is_stale, ack_of, may_follow, Kind, AckValue, ArePartsOf}
+use Rattle.psci_headline.proofs.Words.{AreClaims, MessageValue, PartByPart, start_of_life, Phase}
+use Rattle.psci_headline.proofs.Words.{Away, Pending, Values, AreRising, known_below, AreLive}
+use Rattle.psci_headline.proofs.Words.{AreWaiting, IsNamed, IsTold, WaitingIn, WasTold, IsFront}
+use Rattle.psci_headline.proofs.Words.{AreSent}
 use Rattle.psci_ctl_spec.specs.psci_messages.declared.start.Cause.TheVariants as causes
 use Rattle.psci_ctl_spec.specs.Changes.{change}
 use Rattle.psci_ctl_spec.specs.Values as controlled
@@ -116,16 +117,8 @@ pub down_waits : (b : BoardValue) (life : ℕ) (w : controlled.Values) (v : Valu
 down_waits b life w v sent made k m known at present kind laws front h =
     let c : ℕ = m.core.number in
     let ps : List Part = take (applied b w c m.parts) m.parts in
-    let are : AreApplied b life w.starts sent c ps = record {
-      index = k;
-      message = m;
-      at = at;
-      present = present;
-      kind = kind;
-      core = refl;
-      part = λ level p get. take_get m.parts (applied b w c m.parts) level p get;
-      live = λ level p get. front.live level p get ∙ same_sum b w.starts (domain_of b c level);
-    } in
+    let are : AreApplied b life w.starts sent c ps =
+    grind (arith, nat_tests, take_get, same_sum) in
     made_more b life (change b (Deepens c ps) w) v sent made
     (ack_of m (applied b w c m.parts) (is_stale b w c m.parts)) k m at
     (told_down b w m kind
@@ -164,10 +157,7 @@ start_told b life w v sent made k m false known at present kind may h =
     let number = (is.present present).number in
     let room = is.sound.room kind in
     let later : m.number < w.starts c =
-    elim (and_cases (w.starts c == m.number) (nat_lt (w.starts c) b.starts) may) [
-      | inl other ↦ omega (arith, eqb-false (w.starts c) m.number other, number, known.le c)
-      | inr full ↦ omega (arith, ltb-false (w.starts c) b.starts full, room)
-    ] in
+    grind (arith, nat_tests, and_cases, eqb-false, ltb-false) in
     made_more b life w v sent made (ack_of m 0 true) k m at
     (told_other b w.starts w.depth m 0 true
     (λ e. let no : kinds.Start ≡ kinds.Down = sym kind ∙ e in absurd (cc)) (λ e. later)) h

@@ -131,8 +131,7 @@ applied_at_least b v c ps n paths kids are =
     prefix_at_least (is_applied b v c ps) ps n are.few (λ k p low at.
     let level = are.level k p at in
     let live : (p.generation == starts_below b v.starts (domain_of b c p.level)) ≡ true =
-    eq-eqb _ _ (are.live k p low at
-    ∙ ap (λ l. starts_below b v.starts (domain_of b c l)) (sym level.0)) in
+    grind (arith, nat_tests, eq-eqb) in
     let cover : is_covered b (laid b c (take k ps) v.depth) (domain_of b c k) p.depth ≡ true =
     covered b v c k ps p paths kids are.core level.1
     (λ l e. are.others l p (omega (arith, low, e)) (ap (slice_get ps) (sym e) ∙ at))

@@ -52,8 +52,7 @@ keeps b life starts depth sent c ps apart are k level m p at present kind part l
     let n : MessageValue = are.message in
     let here : place ≡ up b level n.core.number =
     path_place b c level place on ∙ ap (up b level) (sym are.core) in
-    let sum : q.generation ≡ p.generation =
-    are.live level q get ∙ ap (known_below b starts level) (sym here) ∙ sym live in
+    let sum : q.generation ≡ p.generation = grind (arith, nat_tests) in
     let one : are.index ≡ k = once b sent apart life level place are.index k n m q p are.at at
     (part_from b life level place n q (record {
       kind = are.kind;

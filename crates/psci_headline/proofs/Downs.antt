@@ -160,9 +160,7 @@ module _ (b : BoardValue) (before : List Record) (life : ℕ) (past : List Recor
       let item = item_at m.parts count few in
       let flat : item.item.level ≡ count = out.down.parts.level count item.item item.at in
       let live : IsLivePart b w.starts m count item.item =
-      ack_laws.waits parts.0 item.item item.at
-      ∙ ap (λ l. controlled.starts_below b w.starts (domain_of b m.core.number l)) flat
-      ∙ same_sum b w.starts (domain_of b m.core.number count) in
+      grind (arith, nat_tests, ack_laws, same_sum) in
       elim (cases_lt r count) [
         | inl high ↦ record {
           level = count;

@@ -139,8 +139,7 @@ out_now b before life past c m laws going at =
     let known = known_now b before life past laws going in
     let sound = (known.messages slot.listed.index m slot.listed.at).sound in
     let on : c < cores b = subst (λ x. x < cores b) slot.core sound.core in
-    let kind : m.kind ≡ kinds.Down =
-    core_kind m.kind slot.kind (λ e. going.rests c on (slot.start e)) in
+    let kind : m.kind ≡ kinds.Down = grind (arith, nat_tests, core_kind) in
     let claim : AreClaims m.parts = subst (λ k. ArePartsOf k m.parts) kind sound.parts in
     record {
       down = grind (arith, nat_tests);

@@ -100,8 +100,7 @@ asked_now : (b : BoardValue) (r : Record) (past : List Record) → IsKnown b (r 
     → sent_in r.said ≡ Some m → part_for b life level place m ≡ Some p
     → IsAskedFor b (firmware_values b (r ∷ past)) m
 asked_now b r past now before m life level place p is e =
-    let all : sent (r ∷ past) ≡ m ∷ sent past =
-    more_sent r past ∙ ap (λ o. listed o ++ sent past) is in
+    let all : sent (r ∷ past) ≡ m ∷ sent past = grind (arith, nat_tests, more_sent) in
     let first = subst (λ ms. slice_get ms 0 ≡ Some m) (sym all ∙ now.same) refl in
     let was = now.asked 0 m first (part_has b life level place m p e).kind in
     subst (λ h. IsAskedFor b (values_of b h) m) (sym (more_calls b r past))

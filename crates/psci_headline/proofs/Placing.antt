@@ -1,7 +1,7 @@
 -- What firmware and power controller know of each other, as a core calls or enters, and as an
 -- acknowledgement is taken.
 use Rattle.std.proofs.Common.{◌≡◌, ℕ, ◌<◌, ◌==◌, true, false, cond, Option, None, Some, refl}
-use Rattle.std.proofs.Common.{unwrap_or, arith, subst}
+use Rattle.std.proofs.Common.{unwrap_or, arith}
 use Rattle.std.proofs.lemmas.Bool.Decides.{nat_tests}
 use Rattle.std.proofs.lemmas.Bool.{cases_eq, eqb-false, eqb-true}
 use Rattle.psci_headline.proofs.Words.{BoardValue, cores, Start, last_start, MessageValue, Act}
@@ -62,9 +62,7 @@ pub call_agrees : (b : BoardValue) (u : controlled.Values) (place : ℕ → Plac
 call_agrees b u place v c act e laws on at is allowed h =
     let w : Values = change b e v in
     let m : IsMoved v w c (v.known c) (executes_on act) =
-    subst (λ t. IsMoved v w c (v.known c) t) is.runs
-    (subst (λ x. IsMoved v w x (v.known x) (runs_on e)) is.core
-    (call_moves b v e laws is.is allowed)) in
+    grind (arith, nat_tests, runs_on, call_moves) in
     record {
       begun = λ life f. omega (arith, h.begun life f, m.life);
       stopped = λ f. let stops : place c ≡ Stopped = h.stopped f c in absurd (cc);

@@ -1,5 +1,5 @@
 -- Where the world settles: the power controller's life goes on there, and is not halting.
-use Rattle.std.proofs.Common.{◌≡◌, ℕ, ◌+◌, inl, false, List, Some, refl, arith}
+use Rattle.std.proofs.Common.{◌≡◌, ℕ, ◌+◌, false, List, Some, arith}
 use Rattle.std.proofs.lemmas.Bool.Decides.{nat_tests}
 use Rattle.std.proofs.lemmas.Option.{same_Some}
 use Rattle.psci_headline.proofs.Words.{BoardValue, height, MessageValue, Record, sent, IsLegalPast}
@@ -40,13 +40,8 @@ pub comes : (b : BoardValue) (past : List Record) → SettleLaws b → IsLegalPa
     → (goes : LifeGoesOn b past) → HasRest b past goes.life (settled b past)
 unfolding settled
 comes b past laws is goes =
-    let way : IsUnderWay b past goes.life past = record {
-      legal = is;
-      added = none_added past;
-      present = goes.present;
-      awake = goes.awake;
-      count = λ j. inl refl;
-    } in
+    let way : IsUnderWay b past goes.life past =
+    grind (arith, nat_tests, none_added) in
     let begins = has_begun b past goes.life laws way in
     comes_to_rest b past goes.life (height b + 1) 0 (begun b past) laws (omega arith)
     (first_round b past goes.life (begun b past) laws begins)

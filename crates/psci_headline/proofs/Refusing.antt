@@ -48,8 +48,7 @@ call_passed b u place v c are h on at =
     let runs : (in_life b is.life v).phase c ≡ phases.Running =
     (h.present is.life is.is).runs c on at in
     let own : is.life ≡ v.life = own_life b is.life v c runs in
-    let now : v.phase c ≡ phases.Running =
-    subst (λ (w : Values). w.phase c ≡ phases.Running) (found_own b is.life v own) runs in
+    let now : v.phase c ≡ phases.Running = grind (arith, nat_tests, found_own) in
     call_passes (not (nat_lt c (cores b))) (v.life == 0) (is_running (v.phase c)) (there b c on)
     (ne_eqb v.life 0 (λ e. omega (arith, e, own, are.first is.life is.is)))
     (ap is_running now)

@@ -108,8 +108,7 @@ waiting_taken {starts = starts} {halting = halting} {known = known} {phase = pha
           let theirs = named a t.message t.told.answers in
           let later = t.told.started (sym theirs.kind ∙ mine.kind ∙ old.kind) in
           let at_x : t.message.core.number ≡ x = sym theirs.core ∙ mine.core ∙ is.core in
-          let number : t.message.number ≡ known x =
-          sym theirs.number ∙ mine.number ∙ is.number in
+          let number : t.message.number ≡ known x = grind (arith, nat_tests) in
           let more : starts t.message.core.number ≡ starts x = ap starts at_x in
           absurd (omega (arith, later, number, more, same))
     ]

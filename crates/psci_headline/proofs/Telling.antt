@@ -58,8 +58,7 @@ pub live_down : (b : BoardValue) (starts : ℕ → ℕ) (m : MessageValue) → I
     → IsLivePart b starts m level p
 live_down b starts m below zero level p q at_p at_q live =
     let flat : level + 0 ≡ level = omega arith in
-    let at : slice_get m.parts level ≡ Some q =
-    subst (λ l. slice_get m.parts l ≡ Some q) flat at_q in
+    let at : slice_get m.parts level ≡ Some q = grind (arith, nat_tests) in
     let same : q ≡ p = same_Some q p (sym at ∙ at_p) in
     subst (λ x. IsLivePart b starts m level x) same
     (subst (λ l. IsLivePart b starts m l q) flat live)
@@ -90,10 +89,7 @@ told_down b v m kind levels below laws = record {
       let first = laws.stale is in
       let q : Part = first.0 in
       let lower : n + (level - n) ≡ level = omega (arith, high) in
-      let q_live : IsLivePart b v.starts m n q =
-      live_down b v.starts m below (level - n) n q p first.1
-      (subst (λ l. slice_get m.parts l ≡ Some p) (sym lower) part)
-      (subst (λ l. IsLivePart b v.starts m l p) (sym lower) live) in
+      let q_live : IsLivePart b v.starts m n q = grind (arith, nat_tests, live_down) in
       let sum = same_sum b v.starts (domain_of b c n) in
       let flat : q.level ≡ n = (levels n q first.1).0 in
       first.2 (q_live ∙ sym sum ∙ ap (λ l. starts_below b v.starts (domain_of b c l)) (sym flat));

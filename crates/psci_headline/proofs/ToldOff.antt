@@ -72,8 +72,7 @@ core_off b status n c paths low off on at =
     by_level : (z : Bool) → (n.level == 0) ≡ z
         → cond z (status n.place) (status_over status (below b n)) ≡ Off → status c ≡ Off
     by_level true bottom e =
-        let own : n.place ≡ c =
-        sym at ∙ ap (λ l. up b l c) (eqb-true n.level 0 bottom) ∙ paths.core c in
+        let own : n.place ≡ c = grind (arith, nat_tests, eqb-true) in
         subst (λ x. status x ≡ Off) own e
     by_level false bottom e =
         let both = over_off (list_any (λ x. is_on (status x)) (below b n))

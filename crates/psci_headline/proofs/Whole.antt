@@ -99,8 +99,7 @@ module _ (b : BoardValue) (past : List Record) (laws : RunLaws b) (legal : IsLeg
   off_now : Confirming b past → (c : ℕ) → c < cores b → v.phase c ≡ Away → v.status c ≡ Off
   off_now confirming c at away =
       let some : 0 < cores b = omega (arith, at) in
-      let awake : v.halting ≡ false =
-      ap (λ (u : Values). u.halting) (sym (found_own b on.life v (own some))) ∙ on.awake in
+      let awake : v.halting ≡ false = grind (arith, nat_tests, found_own, own) in
       elim ((are confirming some).cores awake c at away) [
         | inl off ↦ off
         | inr yet ↦ absurd (none_yet some 0 c yet)
