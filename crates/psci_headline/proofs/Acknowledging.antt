@@ -3,15 +3,13 @@ use Rattle.std.proofs.Common.{◌≡◌, ℕ, ◌<◌, inr, List, ◌∷◌, Som
 use Rattle.std.proofs.lemmas.Bool.Decides.{nat_tests}
 use Rattle.std.proofs.lemmas.Bool.{cond_both}
 use Rattle.std.specs.Prelude.{slice_get}
-use Rattle.psci_headline.proofs.Words.{BoardValue, cores, up, Part, message_effect, ack_by, Phase}
-use Rattle.psci_headline.proofs.Words.{Away, Pending, Values, Kind, AckValue, MessageValue, Holds}
-use Rattle.psci_headline.proofs.Words.{known_below, Record, controller_values, firmware_values}
-use Rattle.psci_headline.proofs.Words.{sent, IsDownBy}
+use Rattle.psci_headline.proofs.Words.{BoardValue, cores, up, Part, message_effect, ack_by, Values}
+use Rattle.psci_headline.proofs.Words.{Kind, AckValue, MessageValue, Holds, known_below, Record}
+use Rattle.psci_headline.proofs.Words.{controller_values, firmware_values, sent, IsDownBy}
 use Rattle.psci_ctl_spec.specs.Changes.{change}
 use Rattle.psci_ctl_spec.specs.Values as controlled
-use Rattle.psci_fw_laws.specs.psci_fw_spec.Phases.{Running, activity_of}
+use Rattle.psci_fw_laws.specs.psci_fw_spec.Phases.{Running}
 use Rattle.psci_ctl_spec.specs.psci_messages.declared.kind.Kind.TheVariants as kinds
-use Rattle.psci_fw_laws.specs.psci_messages.psci_state.Cores.{asks}
 use Rattle.psci_fw_laws.proofs.Parts.{part_from}
 use Rattle.psci_headline.proofs.Taking.{HasName}
 use Rattle.psci_headline.proofs.Telling.{HasItem, first_part}
@@ -36,12 +34,6 @@ record IsOfDown (messages : List MessageValue) (a : AckValue) (m : MessageValue)
   pub kind : m.kind ≡ kinds.Down
   pub ack : HasName a m
   pub first : HasItem m.parts 0
-
-away_asks : (p : Phase) → p ≡ Away → asks (activity_of p) 0 ≡ 3
-away_asks p e = ap (λ x. asks (activity_of x) 0) e
-
-not_pending : (p : Phase) → p ≡ Away → p ≡ Pending → ⊥
-not_pending p e f = let no : Away ≡ Pending = sym e ∙ f in absurd (cc)
 
 -- What the board's laws say of a core and the domain of its own.
 pub record CoreLaws (b : BoardValue) : Type 0 where

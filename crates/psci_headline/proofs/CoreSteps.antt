@@ -6,9 +6,9 @@ use Rattle.std.specs.Prelude.{nat_lt}
 use Rattle.std.proofs.lemmas.Bool.{and_parts, cond_both, ltb-true}
 use Rattle.psci_headline.proofs.Words.{BoardValue, Down, AckValue, is_kind, change, target, Effect}
 use Rattle.psci_headline.proofs.Words.{GoesOn, SetsMode, AsksOn, Rests, Halts, Stops, Enters, Parks}
-use Rattle.psci_headline.proofs.Words.{StopsAtOnce, Acknowledges, in_life, start_of_life, Phase}
-use Rattle.psci_headline.proofs.Words.{Away, Pending, Arrival, arrived, Values, updated, IsAllowed}
-use Rattle.psci_headline.proofs.Words.{Nothing, turns_off}
+use Rattle.psci_headline.proofs.Words.{StopsAtOnce, Acknowledges, in_life, Phase, Away, Pending}
+use Rattle.psci_headline.proofs.Words.{Arrival, arrived, Values, updated, IsAllowed, Nothing}
+use Rattle.psci_headline.proofs.Words.{turns_off}
 use Rattle.psci_fw_laws.specs.psci_fw_spec.Effects.{Nothing}
 use Rattle.psci_ctl_spec.specs.psci_messages.declared.start.Start as starts
 use Rattle.psci_fw_laws.specs.psci_fw_spec.declared.status.Status.TheVariants as statuses
@@ -79,17 +79,6 @@ record IsArrived (found w : Values) (c d number : ℕ) : Type 0 where
   pub known : w.known c ≡ updated found.known d number c
   pub phase : (c ≡ d → ⊥) → w.phase c ≡ found.phase c
   pub status : w.status c ≡ statuses.Off → found.status c ≡ statuses.Off
-
--- a core entered in the firmware's life
-in_present : (v w : Values) (c d number : ℕ) (e : Effect) → v.known d < number
-    → IsArrived v w c d number → IsStep v w c e
-in_present v w c d number e later is = grind (arith, nat_tests, updated_at)
-
--- a core entered in another life
-in_another : (b : BoardValue) (v w : Values) (c d number life : ℕ) (e : Effect) → v.life ≤ life
-    → (life ≡ v.life → ⊥) → Begins life e → IsArrived (start_of_life b life) w c d number
-    → IsStep v w c e
-in_another b v w c d number life e later other begins is = grind (arith, nat_tests)
 
 enters : (b : BoardValue) (v w : Values) (c d : ℕ) (s : starts.Start) (e : Effect)
     → IsEntering b v d s → Begins s.life e → IsArrived (in_life b s.life v) w c d s.number

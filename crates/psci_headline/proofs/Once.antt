@@ -6,9 +6,8 @@ use Rattle.std.specs.List.{list_all}
 use Rattle.std.proofs.lemmas.Bool.{and_from, and_parts, both_ways, eq-eqb, eqb-true, cases_Bool}
 use Rattle.std.proofs.lemmas.Bool.{not-true, not_from_false}
 use Rattle.psci_headline.proofs.Words.{BoardValue, Opening, Record, firmware_history, Fits, Made}
-use Rattle.psci_headline.proofs.Words.{OfCall, OfLife, TakenUp, AreTakenUp, Maker, taken_up}
-use Rattle.psci_headline.proofs.Words.{is_each_once, is_each_open}
-use Rattle.psci_headline.specs.Test.{are_apart, is_fitting, is_same_made, is_same_maker}
+use Rattle.psci_headline.proofs.Words.{TakenUp, AreTakenUp, taken_up, is_each_once, is_each_open}
+use Rattle.psci_headline.specs.Test.{are_apart, is_fitting, is_same_made}
 use Rattle.psci_headline.proofs.Ranges.{all_items, each_item}
 
 -- One entry -----------------------------------------------------------------------------------
@@ -47,10 +46,6 @@ fitting t (m, is, f) =
     (opening_itself m.opening t.entered.opening f.opening)
 
 -- No two --------------------------------------------------------------------------------------
-
-maker_itself : (m : Maker) → is_same_maker m m ≡ true
-maker_itself (OfLife life) = eq-eqb life life refl
-maker_itself (OfCall before) = eq-eqb before before refl
 
 -- two openings that are the same one
 record AreSame (made other : Option Made) : Type 0 where

@@ -1,12 +1,12 @@
 -- What firmware and power controller know of each other, as a core calls or enters, and as an
 -- acknowledgement is taken.
-use Rattle.std.proofs.Common.{◌≡◌, ℕ, ◌<◌, ◌==◌, true, false, cond, Option, None, Some, refl}
-use Rattle.std.proofs.Common.{unwrap_or, arith}
+use Rattle.std.proofs.Common.{◌≡◌, ℕ, ◌<◌, ◌==◌, true, cond, Option, None, Some, refl, unwrap_or}
+use Rattle.std.proofs.Common.{arith}
 use Rattle.std.proofs.lemmas.Bool.Decides.{nat_tests}
 use Rattle.std.proofs.lemmas.Bool.{cases_eq, eqb-false, eqb-true}
 use Rattle.psci_headline.proofs.Words.{BoardValue, cores, Start, last_start, MessageValue, Act}
 use Rattle.psci_headline.proofs.Words.{change, Effect, enter_effect, in_life, Phase, is_running}
-use Rattle.psci_headline.proofs.Words.{Values, IsAllowed, Place, Started, Running, Stopped, AgreeIn}
+use Rattle.psci_headline.proofs.Words.{Values, IsAllowed, Place, Running, Stopped, AgreeIn}
 use Rattle.psci_headline.proofs.Words.{executes_on, place_after}
 use Rattle.psci_ctl_spec.specs.Values as controlled
 use Rattle.psci_fw_laws.specs.psci_fw_spec.Phases as phases
@@ -20,12 +20,6 @@ use Rattle.psci_headline.proofs.Moving.{runs_on}
 running : (p : Phase) → is_running p ≡ true → p ≡ phases.Running
 running phases.Running e = refl
 running p e = absurd (cc)
-
--- What an act says of a place.
-record IsPlace (act : Act) : Type 0 where
-  pub started : place_after act ≡ Started → ⊥
-  pub runs : place_after act ≡ Running → executes_on act ≡ true
-  pub stops : place_after act ≡ Stopped → executes_on act ≡ false
 
 -- the places after an act of a core
 abbrev pub acted : (ℕ → Place) → ℕ → Act → ℕ → Place
@@ -87,5 +81,3 @@ pub enter_agrees : (b : BoardValue) (u : controlled.Values) (place : ℕ → Pla
     → AreAgreed b u (acted place c act) (change b (enter_effect c s act o) v)
 enter_agrees b u place v c s act o last h =
     grind (arith, nat_tests, last_is, entry_moves, found_life, found_own, moved)
-
--- Acknowledgements -----------------------------------------------------------------------------
