@@ -23,7 +23,7 @@ pub record AreAgreed (b : BoardValue) (w : controlled.Values) (place : ℕ → P
 
 pub at_start : (b : BoardValue) (life : ℕ)
     → AgreeIn b first_starts first_place (start_of_life b life)
-at_start b life = grind (arith, nat_tests, nat_tests)
+at_start b life = grind (arith, nat_tests)
 
 -- what a core finds in the firmware's own life, and in another one
 pub found_own : (b : BoardValue) (life : ℕ) (v : Values) → life ≡ v.life → in_life b life v ≡ v

@@ -62,14 +62,14 @@ within v w c e life known runs away off = grind (arith, nat_tests)
 called : (v w : Values) (c d : ℕ) (e : Effect) (p : Phase) → v.phase d ≡ Running
     → w.life ≡ v.life → w.known c ≡ v.known c → w.phase c ≡ updated v.phase d p c
     → w.status c ≡ v.status c → IsStep v w c e
-called v w c d e p ran life known phase status = grind (arith, nat_tests, within, nat_tests)
+called v w c d e p ran life known phase status = grind (arith, nat_tests, within)
 
 -- a running core asked another one on
 asked : (v w : Values) (c d t : ℕ) (e : Effect) (p : Phase) → v.phase d ≡ Running
     → w.life ≡ v.life → w.known c ≡ v.known c
     → w.phase c ≡ updated (updated v.phase t Pending) d p c
     → w.status c ≡ updated v.status t statuses.Pending c → IsStep v w c e
-asked v w c d t e p ran life known phase status = grind (arith, nat_tests, within, nat_tests)
+asked v w c d t e p ran life known phase status = grind (arith, nat_tests, within)
 
 -- Entries -------------------------------------------------------------------------------------
 

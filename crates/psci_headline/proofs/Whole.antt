@@ -106,7 +106,7 @@ module _ (b : BoardValue) (past : List Record) (laws : RunLaws b) (legal : IsLeg
       ]
 
   pub whole_at : Confirming b past → AreValues b v → IsToldWhole b past
-  whole_at confirming values = grind (arith, nat_tests, hw_now, off_now, nat_tests, off_away)
+  whole_at confirming values = grind (arith, nat_tests, hw_now, off_now, off_away)
 
 pub whole : (b : BoardValue) (past : List Record) → RunLaws b → IsLegalPast b past
     → is_halting b past ≡ false → AreAtRest b past → Confirming b past
