@@ -1,50 +1,27 @@
 -- A claim that an acknowledgement confirms was carried out as the acknowledgement was made.
-use Rattle.std.proofs.Common.{◌≡◌, ℕ, suc, ◌<◌, inr, true}
-use Rattle.std.proofs.Common.{◌==◌, List, [], ◌∷◌, ◌++◌, take, Option, None, Some}
-use Rattle.std.proofs.Common.{subst, ap, sym, ◌∙◌}
+use Rattle.std.proofs.Common.{arith, ◌≡◌, ℕ, ◌<◌, inr, true, List, [], ◌∷◌, ◌++◌, take, Some, subst}
+use Rattle.std.proofs.Common.{ap, sym, ◌∙◌}
+use Rattle.std.proofs.lemmas.Bool.Decides.{nat_tests}
 use Rattle.std.specs.Prelude.{slice_get}
-use Rattle.std.proofs.lemmas.Bool.{and_parts, eqb-true}
-use Rattle.psci_board.specs.Board.{BoardValue, HasNode, up}
-use Rattle.psci_board.specs.Laws.{PathLaws}
-use Rattle.psci_board.specs.declared.node.Node.{Node}
+use Rattle.psci_headline.proofs.Words.{BoardValue, HasNode, up, PathLaws, Node, Deepens}
+use Rattle.psci_headline.proofs.Words.{message_effect, applied, ack_by, starts_below, confirms_on}
+use Rattle.psci_headline.proofs.Words.{AreValues, hw_at, Values, AckValue, MessageValue, OfCore}
+use Rattle.psci_headline.proofs.Words.{slot_of, NonePending, Holds, known_below, WasMade, Record}
+use Rattle.psci_headline.proofs.Words.{controller_values, firmware_values, sent_in, was_in_state}
+use Rattle.psci_headline.proofs.Words.{IsAwaited}
 use Rattle.psci_ctl_spec.specs.Changes.{change}
-use Rattle.psci_ctl_spec.specs.Effects.{Deepens, message_effect}
-use Rattle.psci_ctl_spec.specs.Parts.{applied}
-use Rattle.psci_ctl_spec.specs.Replies.{ack_by}
 use Rattle.psci_ctl_spec.specs.Values as controlled
-use Rattle.psci_ctl_spec.specs.Values.{starts_below}
-use Rattle.psci_fw_laws.specs.psci_fw_spec.Changes.{confirms_on}
-use Rattle.psci_fw_laws.specs.psci_fw_spec.Invariant.{AreValues}
-use Rattle.psci_fw_laws.specs.psci_fw_spec.NodeHwState.{hw_at}
-use Rattle.psci_fw_laws.specs.psci_fw_spec.Said.{listed}
-use Rattle.psci_fw_laws.specs.psci_fw_spec.Values.{Values}
 use Rattle.psci_ctl_spec.specs.psci_messages.declared.kind.Kind.TheVariants as kinds
-use Rattle.psci_ctl_spec.specs.psci_messages.Message.{AckValue}
-use Rattle.psci_ctl_spec.specs.psci_messages.Message.{MessageValue}
-use Rattle.psci_ctl_spec.specs.psci_messages.Slots.{OfCore, is_kind, slot_of}
-use Rattle.psci_fw_laws.specs.Allowed.{IsAwaited}
-use Rattle.psci_fw_laws.specs.Granted.{NonePending}
-use Rattle.psci_fw_laws.specs.Kept.{Holds}
-use Rattle.psci_fw_laws.specs.KnownBelow.{known_below}
 use Rattle.psci_fw_laws.proofs.Consequences.{none_active, once_down}
 use Rattle.psci_fw_laws.proofs.Parts.{part_from}
-use Rattle.psci_headline.specs.Acknowledged.{WasMade}
-use Rattle.psci_world_spec.specs.declared.said.Record.{Record}
-use Rattle.psci_world_spec.specs.Histories.{controller_values, firmware_values}
-use Rattle.psci_world_spec.specs.Histories.{sent, sent_in}
-use Rattle.psci_headline.specs.Hardware.{was_in_state}
-use Rattle.psci_headline.proofs.Acknowledging.{IsAckOf, acks_message}
-use Rattle.psci_headline.proofs.Applied.{is_down, confirming, levels, applied_live, laid_at}
-use Rattle.psci_headline.proofs.Applied.{Confirms}
-use Rattle.psci_headline.proofs.Numbered.{IsListed}
+use Rattle.psci_world_spec.specs.Histories.{sent}
+use Rattle.psci_headline.proofs.Items.{listed_later, IsListed}
+use Rattle.psci_headline.proofs.Taking.{HasName, named}
+use Rattle.psci_headline.proofs.Acknowledging.{acks_message}
+use Rattle.psci_headline.proofs.Applied.{confirming, levels, applied_live, laid_at, Confirms}
 use Rattle.psci_headline.proofs.States.{seen_now, seen_since}
 
 -- Messages ------------------------------------------------------------------------------------
-
-sent_more : (o : Option MessageValue) (m : MessageValue) (messages : List MessageValue)
-    → IsListed messages m → IsListed (listed o ++ messages) m
-sent_more None m messages is = is
-sent_more (Some x) m messages is = record { index = suc is.index; at = is.at }
 
 -- what was sent by then was sent
 sent_since : (since before : List Record) (m : MessageValue) → IsListed (sent before) m
@@ -52,13 +29,11 @@ sent_since : (since before : List Record) (m : MessageValue) → IsListed (sent 
 unfolding sent
 sent_since [] before m is = is
 sent_since (r ∷ since) before m is =
-    sent_more (sent_in r.said) m (sent (since ++ before)) (sent_since since before m is)
+    listed_later (sent_in r.said) (sent (since ++ before)) m (sent_since since before m is)
 
 same_message : (messages : List MessageValue) (j k : ℕ) (m n : MessageValue)
     → slice_get messages j ≡ Some m → slice_get messages k ≡ Some n → j ≡ k → m ≡ n
-same_message messages j k m n at other same =
-    let one : Some m ≡ Some n = sym at ∙ ap (slice_get messages) same ∙ other in
-    cc one
+same_message messages j k m n at other same = grind (arith, nat_tests)
 
 -- The moment ----------------------------------------------------------------------------------
 
@@ -94,8 +69,8 @@ module _ (b : BoardValue) (past : List Record) (a : AckValue) (t : IsTaken b pas
   abbrev before : List Record
   before = t.made.before
 
-  of : IsAckOf delivered a
-  of = subst (IsAckOf delivered) (sym t.made.ack)
+  of : HasName a delivered
+  of = subst (λ x. HasName x delivered) (sym t.made.ack)
       (acks_message b (controller_values b before) delivered delivered.kind)
 
   was_sent : IsListed (sent past) delivered
@@ -116,20 +91,16 @@ module _ (b : BoardValue) (past : List Record) (a : AckValue) (t : IsTaken b pas
       let awaits = t.awaited in
       let m : MessageValue = awaits.message in
       let one : m ≡ by.message = cc (sym awaits.at ∙ by.slot) in
-      let all = and_parts (is_kind a.kind m.kind) _ awaits.answers in
-      let rest = and_parts (a.core.number == m.core.number) _ all.1 in
-      let last = and_parts (a.life == m.life) (a.number == m.number) rest.1 in
+      let name = named a m awaits.answers in
       let of_core = t.holds.slots.core a.core.number by.message slot in
-      let kind_m : m.kind ≡ kinds.Down =
-      is_down m.kind (ap (λ k. is_kind k m.kind) (sym by.kind) ∙ all.0) in
       same_message (sent past) was_sent.index of_core.listed.index delivered by.message was_sent.at
       of_core.listed.at
       (once_down b v (sent past) t.holds was_sent.index of_core.listed.index delivered by.message
-      was_sent.at of_core.listed.at kind (sym (ap (λ (x : MessageValue). x.kind) one) ∙ kind_m)
+      was_sent.at of_core.listed.at kind (sym (ap (λ (x : MessageValue). x.kind) one)
+      ∙ sym name.kind ∙ by.kind)
       (sym of.core ∙ sym of_core.core)
-      (sym of.life ∙ eqb-true a.life m.life last.0 ∙ ap (λ (x : MessageValue). x.life) one)
-      (sym of.number ∙ eqb-true a.number m.number last.1
-      ∙ ap (λ (x : MessageValue). x.number) one))
+      (sym of.life ∙ name.life ∙ ap (λ (x : MessageValue). x.life) one)
+      (sym of.number ∙ name.number ∙ ap (λ (x : MessageValue). x.number) one))
 
   part_at : slice_get delivered.parts n.level ≡ Some by.part
   part_at = ap (λ (x : MessageValue). slice_get x.parts n.level) same ∙ by.at
@@ -140,9 +111,7 @@ module _ (b : BoardValue) (past : List Record) (a : AckValue) (t : IsTaken b pas
 
   -- the domain was granted what the part says
   waits : NonePending b v.phase n.level n.place
-  waits c inside at =
-      (none_active b v c n.level t.paths t.values inside has.level
-      (subst (λ place. 0 < v.granted n.level place) (sym at) by.some)).1
+  waits c inside at = grind (arith, nat_tests, none_active)
 
   granted : v.granted n.level n.place ≡ by.part.depth
   granted = t.holds.grants.held n.level n.place by.part
@@ -190,15 +159,7 @@ module _ (b : BoardValue) (past : List Record) (a : AckValue) (t : IsTaken b pas
 
   was_carried_out : was_in_state b v.life (known_below b v.known n.level n.place)
       (hw_at (v.granted n.level n.place)) past n ≡ true
-  was_carried_out =
-      let now : (controller_values b delivery).life ≡ Some v.life =
-      ap (λ (x : controlled.Values). x.life) changed ∙ t.made.life ∙ ap (λ l. Some l) life in
-      subst (λ ms. was_in_state b v.life (known_below b v.known n.level n.place)
-      (hw_at (v.granted n.level n.place)) ms n ≡ true) t.made.parts
-      (seen_since b v.life (known_below b v.known n.level n.place)
-      (hw_at (v.granted n.level n.place)) t.made.since delivery n
-      (seen_now b v.life (known_below b v.known n.level n.place) (v.granted n.level n.place)
-      delivery n now count deep))
+  was_carried_out = grind (arith, nat_tests, changed, life, seen_since, seen_now, count, deep)
 
 -- a claim that an acknowledgement confirms was carried out, in this life and by the starts that are
 -- known

@@ -1,83 +1,29 @@
 -- What a new acknowledgement says of its core.
-use Rattle.std.proofs.Common.{◌≡◌, ℕ, ◌<◌, inr, Bool, true, false, ◌&&◌, ◌==◌, cond}
-use Rattle.std.proofs.Common.{List, [], ◌∷◌, length, take, Some, refl, subst, ap}
-use Rattle.std.proofs.Common.{sym, ◌∙◌, arith}
-use Rattle.std.specs.Prelude.{nat_le, slice_get}
-use Rattle.std.proofs.lemmas.Bool.{and_from, eq-eqb, le-leb}
-use Rattle.psci_board.specs.Board.{BoardValue, cores, height, up}
-use Rattle.psci_fw_laws.specs.psci_messages.declared.part.Part.{Part}
+use Rattle.std.proofs.Common.{◌≡◌, ℕ, ◌<◌, inr, List, ◌∷◌, Some, refl, ap, sym, ◌∙◌, arith}
+use Rattle.std.proofs.lemmas.Bool.Decides.{nat_tests}
+use Rattle.std.proofs.lemmas.Bool.{cond_both}
+use Rattle.std.specs.Prelude.{slice_get}
+use Rattle.psci_headline.proofs.Words.{BoardValue, cores, up, Part, message_effect, ack_by, Values}
+use Rattle.psci_headline.proofs.Words.{Kind, AckValue, MessageValue, Holds, known_below, Record}
+use Rattle.psci_headline.proofs.Words.{controller_values, firmware_values, sent, IsDownBy}
 use Rattle.psci_ctl_spec.specs.Changes.{change}
-use Rattle.psci_ctl_spec.specs.Effects.{Deepens, message_effect}
-use Rattle.psci_ctl_spec.specs.Parts.{depth_or, laid}
-use Rattle.psci_ctl_spec.specs.Replies.{ack_by, ack_of, may_follow}
 use Rattle.psci_ctl_spec.specs.Values as controlled
-use Rattle.psci_ctl_spec.proofs.Front.{get_take}
-use Rattle.psci_fw_laws.specs.psci_fw_spec.Phases.{Phase, Away, Pending, Running, activity_of}
-use Rattle.psci_fw_laws.specs.psci_fw_spec.Values.{Values}
-use Rattle.psci_ctl_spec.specs.psci_messages.declared.kind.Kind.{Kind}
+use Rattle.psci_fw_laws.specs.psci_fw_spec.Phases.{Running}
 use Rattle.psci_ctl_spec.specs.psci_messages.declared.kind.Kind.TheVariants as kinds
-use Rattle.psci_ctl_spec.specs.psci_messages.Message.{AckValue, ArePartsOf, AreClaims}
-use Rattle.psci_ctl_spec.specs.psci_messages.Message.{MessageValue}
-use Rattle.psci_fw_laws.specs.psci_messages.psci_state.Cores.{asks}
-use Rattle.psci_fw_laws.specs.Kept.{Holds}
-use Rattle.psci_fw_laws.specs.KnownBelow.{known_below}
 use Rattle.psci_fw_laws.proofs.Parts.{part_from}
-use Rattle.psci_world_spec.specs.declared.said.Record.{Record}
-use Rattle.psci_world_spec.specs.Histories.{controller_values, firmware_values}
-use Rattle.psci_world_spec.specs.Histories.{sent}
-use Rattle.psci_headline.specs.PoweredDown.{IsDownBy}
+use Rattle.psci_headline.proofs.Taking.{HasName}
+use Rattle.psci_headline.proofs.Telling.{HasItem, first_part}
+use Rattle.psci_headline.proofs.Applied.{laid_at}
 use Rattle.psci_headline.proofs.Deliveries.{IsNew}
+use Rattle.psci_headline.proofs.Items.{at_number}
 use Rattle.psci_headline.proofs.Slept.{asleep_from, slept_now}
 
 -- Acknowledgements and their messages ----------------------------------------------------------
 
--- An acknowledgement has the kind, core, life and number of its message.
-pub record IsAckOf (m : MessageValue) (a : AckValue) : Type 0 where
-  pub kind : a.kind ≡ m.kind
-  pub core : a.core.number ≡ m.core.number
-  pub life : a.life ≡ m.life
-  pub number : a.number ≡ m.number
-
-ack_of_message : (m : MessageValue) (n : ℕ) (stale : Bool) → IsAckOf m (ack_of m n stale)
-ack_of_message m n stale = record { kind = refl; core = refl; life = refl; number = refl }
-
-ack_if : (m : MessageValue) (t : Bool) → IsAckOf m (cond t (ack_of m 1 false) (ack_of m 0 true))
-ack_if m true = ack_of_message m 1 false
-ack_if m false = ack_of_message m 0 true
-
+-- an acknowledgement has the name of its message
 pub acks_message : (b : BoardValue) (v : controlled.Values) (m : MessageValue) (k : Kind)
-    → IsAckOf m (ack_by b v m k)
-acks_message b v m kinds.Down = ack_of_message m _ _
-acks_message b v m kinds.Start = ack_if m (may_follow b v m.core.number m.number)
-acks_message b v m kinds.Off = ack_of_message m 1 false
-acks_message b v m kinds.Reset = ack_of_message m 1 false
-
--- The first part -------------------------------------------------------------------------------
-
--- the first part of a list
-record HasFirst (ps : List Part) : Type 0 where
-  pub part : Part
-  pub at : slice_get ps 0 ≡ Some part
-
-first_of : (ps : List Part) → 0 < length ps → HasFirst ps
-first_of [] some = absurd (omega arith)
-first_of (p ∷ ps) some = record { part = p; at = refl }
-
-first_part : (m : MessageValue) → m.kind ≡ kinds.Down → ArePartsOf m.kind m.parts
-    → HasFirst m.parts
-first_part m down are =
-    let claim : AreClaims m.parts = subst (λ k. ArePartsOf k m.parts) down are in
-    first_of m.parts claim.some
-
--- a part that was applied to a core makes it as deep as the part says
-laid_first : (b : BoardValue) (depth : ℕ → ℕ → ℕ) (c n : ℕ) (ps : List Part) (p : Part)
-    → up b 0 c ≡ c → slice_get ps 0 ≡ Some p → 0 < n → laid b c (take n ps) depth 0 c ≡ p.depth
-laid_first b depth c n ps p own at some =
-    let on : (nat_le 0 (height b) && (up b 0 c == c)) ≡ true =
-    and_from _ _ (le-leb 0 (height b) (omega arith)) (eq-eqb (up b 0 c) c own) in
-    let first : slice_get (take n ps) 0 ≡ Some p = get_take ps n 0 some ∙ at in
-    ap (λ t. cond t (depth_or (slice_get (take n ps) 0) (depth 0 c)) (depth 0 c)) on
-    ∙ ap (λ o. depth_or o (depth 0 c)) first
+    → HasName (ack_by b v m k) m
+acks_message b v m k = grind (arith, nat_tests, cond_both)
 
 -- A new acknowledgement ------------------------------------------------------------------------
 
@@ -86,14 +32,8 @@ record IsOfDown (messages : List MessageValue) (a : AckValue) (m : MessageValue)
   pub index : ℕ
   pub at : slice_get messages index ≡ Some m
   pub kind : m.kind ≡ kinds.Down
-  pub ack : IsAckOf m a
-  pub first : HasFirst m.parts
-
-away_asks : (p : Phase) → p ≡ Away → asks (activity_of p) 0 ≡ 3
-away_asks p e = ap (λ x. asks (activity_of x) 0) e
-
-not_pending : (p : Phase) → p ≡ Away → p ≡ Pending → ⊥
-not_pending p e f = let no : Away ≡ Pending = sym e ∙ f in absurd (cc)
+  pub ack : HasName a m
+  pub first : HasItem m.parts 0
 
 -- What the board's laws say of a core and the domain of its own.
 pub record CoreLaws (b : BoardValue) : Type 0 where
@@ -107,7 +47,7 @@ sender_rests : (b : BoardValue) (v : Values) (messages : List MessageValue) (a :
 sender_rests b v messages a m laws holds d life number runs =
     let c = m.core.number in
     let sound = (holds.messages d.index m d.at).sound in
-    let p = d.first.part in
+    let p = d.first.item in
     let present : m.life ≡ v.life = sym d.ack.life ∙ life in
     let core : a.core.number ≡ c = d.ack.core in
     let claim = part_from b v.life 0 (up b 0 c) m p
@@ -120,33 +60,13 @@ sender_rests b v messages a m laws holds d life number runs =
     (inr (record { index = d.index; message = m; at = d.at; part = claim })) current c sound.core
     refl (ap v.phase (sym core) ∙ runs)
 
--- and if it is off or going off, its first depth is power-down
-sender_deep : (b : BoardValue) (v : Values) (messages : List MessageValue) (a : AckValue)
-    (m : MessageValue) → Holds b v messages → (d : IsOfDown messages a m) → a.life ≡ v.life
-    → a.number ≡ v.known a.core.number → v.phase a.core.number ≡ Away → d.first.part.depth ≡ 3
-sender_deep b v messages a m holds d life number away =
-    let c = m.core.number in
-    let core : a.core.number ≡ c = d.ack.core in
-    let present = (holds.messages d.index m d.at).present (sym d.ack.life ∙ life) in
-    let gone : v.phase c ≡ Away = ap v.phase (sym core) ∙ away in
-    present.asked d.kind (sym d.ack.number ∙ number ∙ ap v.known core)
-    (not_pending (v.phase c) gone) d.first.part d.first.at
-    ∙ away_asks (v.phase c) gone
-
 -- a delivered Down of which a part was applied made its core as deep as its first part
 now_deep : (b : BoardValue) (cv w : controlled.Values) (m : MessageValue) (a : AckValue) (c : ℕ)
     (p : Part) → CoreLaws b → m.kind ≡ kinds.Down → m.core.number ≡ c
     → w ≡ change b (message_effect b m a m.kind) cv
     → slice_get m.parts 0 ≡ Some p → 0 < a.applied
     → (w.life ≡ cv.life) × (w.depth 0 c ≡ p.depth)
-now_deep b cv w m a c p laws kind core values at some =
-    let is : w ≡ change b (Deepens m.core.number (take a.applied m.parts)) cv =
-    values ∙ ap (λ k. change b (message_effect b m a k) cv) kind in (
-      ap (λ (x : controlled.Values). x.life) is,
-      ap (λ (x : controlled.Values). x.depth 0 c) is
-          ∙ ap (λ x. laid b x (take a.applied m.parts) cv.depth 0 c) core
-          ∙ laid_first b cv.depth c a.applied m.parts p (laws.own c) at some,
-    )
+now_deep b cv w m a c p laws kind core values at some = grind (arith, nat_tests, laid_at)
 
 -- what a new acknowledgement says of its core, beside the firmware's values, which stay
 pub new_is_down : (b : BoardValue) (r : Record) (past : List Record) (a : AckValue) → CoreLaws b
@@ -155,30 +75,17 @@ pub new_is_down : (b : BoardValue) (r : Record) (past : List Record) (a : AckVal
     → IsDownBy b (r ∷ past) (firmware_values b past) a
 new_is_down b r past a laws holds new kind some =
     let v : Values = firmware_values b past in
-    let m = new.message in
-    let sent_one = holds.messages new.listed.index m new.listed.at in
-    let of : IsAckOf m a = subst (IsAckOf m) (sym new.ack)
-    (acks_message b (controller_values b past) m m.kind) in
+    let m = new.made.message in
+    let place = at_number (sent past) new.made.number m new.made.at in
+    let sent_one = holds.messages place.index m place.at in
+    let of : HasName a m = grind (arith, nat_tests, acks_message) in
     let down : m.kind ≡ kinds.Down = sym of.kind ∙ kind in
-    let d : IsOfDown (sent past) a m = record {
-      index = new.listed.index;
-      at = new.listed.at;
-      kind = down;
-      ack = of;
-      first = first_part m down sent_one.sound.parts;
-    } in
+    let d : IsOfDown (sent past) a m = grind (arith, nat_tests, first_part) in
     let deep = now_deep b (controller_values b past) (controller_values b (r ∷ past)) m a
-    a.core.number d.first.part laws down (sym of.core) new.values d.first.at some in
+    a.core.number d.first.item laws down (sym of.core) new.values d.first.at some in
     record {
       begun = omega (arith, of.life, sent_one.begun);
-      number = λ life.
-          let low = (sent_one.present (sym of.life ∙ life)).number in
-          let same = ap v.known of.core in
-          omega (arith, of.number);
+      number = λ life. grind (arith, nat_tests);
       rests = sender_rests b v (sent past) a m laws holds d;
-      slept = λ life number away.
-          slept_now b v.life (r ∷ past) a.core.number
-          (asleep_from b v.life (r ∷ past) a.core.number
-          (deep.0 ∙ new.life ∙ ap (λ x. Some x) (sym of.life ∙ life))
-          (deep.1 ∙ sender_deep b v (sent past) a m holds d life number away));
+      slept = λ life number away. grind (arith, nat_tests, slept_now, asleep_from);
     }

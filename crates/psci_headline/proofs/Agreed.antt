@@ -1,65 +1,44 @@
 -- Firmware and power controller agree after every legal run.
 use Rattle.std.proofs.Common.{◌≡◌, ℕ, List, [], ◌∷◌, ◌++◌, Option, None, Some, option_map, refl}
 use Rattle.std.proofs.Common.{unwrap_or, arith, subst, sym}
-use Rattle.psci_world_spec.specs.psci_abi.Calls.{request_of}
-use Rattle.psci_world_spec.specs.psci_abi.declared.registers.Regs.{Regs}
-use Rattle.psci_board.specs.Board.{BoardValue}
+use Rattle.std.proofs.lemmas.Bool.Decides.{nat_tests}
+use Rattle.psci_headline.proofs.Words.{request_of, Regs, BoardValue, MayFollow, last_start, reply}
+use Rattle.psci_headline.proofs.Words.{Start, AckValue, MessageValue, Taken, change}
+use Rattle.psci_headline.proofs.Words.{function_effect, effect, IsLegal, start_of_life, Values}
+use Rattle.psci_headline.proofs.Words.{IsAllowed, Event, Call, Enter, Wake, Reset, Deliver, Take}
+use Rattle.psci_headline.proofs.Words.{Place, Record, Said, acks, control, controller_values}
+use Rattle.psci_headline.proofs.Words.{delivered, entered, firmware_values, outcome_in, sent, took}
+use Rattle.psci_headline.proofs.Words.{IsLegalPast, legal, indexed, Agree, place_controlled}
+use Rattle.psci_headline.proofs.Words.{place_said}
 use Rattle.psci_ctl_spec.specs.declared.call.CtlCall.{CtlCall}
 use Rattle.psci_ctl_spec.specs.Changes as controlling
 use Rattle.psci_ctl_spec.specs.Effects as controlling_effects
 use Rattle.psci_ctl_spec.specs.Exchange as controller
-use Rattle.psci_ctl_spec.specs.Follows.{MayFollow}
 use Rattle.psci_ctl_spec.specs.History as controls
 use Rattle.psci_ctl_spec.specs.Legal as legal_controls
-use Rattle.psci_ctl_spec.specs.Replies.{last_start, reply}
 use Rattle.psci_ctl_spec.specs.Values as controlled
-use Rattle.psci_ctl_spec.specs.psci_messages.declared.start.Start.{Start}
-use Rattle.psci_ctl_spec.specs.psci_messages.Message.{AckValue, MessageValue}
-use Rattle.psci_ctl_spec.specs.psci_messages.declared.taken.Taken.{Taken}
-use Rattle.psci_ctl_spec.specs.psci_messages.declared.taken.Taken.TheVariants as takens
-use Rattle.psci_fw_laws.specs.psci_fw_spec.After.{change}
-use Rattle.psci_fw_laws.specs.psci_fw_spec.Effects.{function_effect}
 use Rattle.psci_fw_laws.specs.psci_fw_spec.Exchange as firmware
-use Rattle.psci_fw_laws.specs.psci_fw_spec.Exchange.{effect}
 use Rattle.psci_fw_laws.specs.psci_fw_spec.History as remembers
-use Rattle.psci_fw_laws.specs.psci_fw_spec.Legal.{IsLegal}
-use Rattle.psci_fw_laws.specs.psci_fw_spec.Lives.{in_life, start_of_life}
-use Rattle.psci_fw_laws.specs.psci_fw_spec.Values.{Values}
-use Rattle.psci_fw_laws.specs.Allowed.{IsAllowed}
-use Rattle.psci_world_spec.specs.declared.event.Event.{Event}
-use Rattle.psci_world_spec.specs.declared.event.Event.TheVariants.{Call, Enter, Wake, Reset}
-use Rattle.psci_world_spec.specs.declared.event.Event.TheVariants.{Deliver, Take}
-use Rattle.psci_world_spec.specs.declared.place.Place.{Place}
-use Rattle.psci_world_spec.specs.declared.said.Record.{Record}
-use Rattle.psci_world_spec.specs.declared.said.Said.{Said}
+use Rattle.psci_headline.specs.psci_messages.Outstanding
 use Rattle.psci_world_spec.specs.declared.said.Said.TheVariants as said
-use Rattle.psci_world_spec.specs.Histories.{acks, control, controller_history}
-use Rattle.psci_world_spec.specs.Histories.{controller_values, delivered, entered}
-use Rattle.psci_world_spec.specs.Histories.{firmware_history, firmware_values, outcome_in, sent}
-use Rattle.psci_world_spec.specs.Histories.{took}
-use Rattle.psci_world_spec.specs.Legal.{IsLegalPast, legal}
-use Rattle.psci_world_spec.specs.Lists.{indexed}
-use Rattle.psci_world_spec.specs.Places.{first_place, place, place_controlled, place_said}
-use Rattle.psci_headline.specs.Agreement.{Agree, AgreeIn}
+use Rattle.psci_world_spec.specs.Histories.{controller_history, firmware_history}
+use Rattle.psci_world_spec.specs.Places.{place}
+use Rattle.psci_ctl_spec.proofs.OneMore.{values_more}
 use Rattle.psci_headline.proofs.Agreeing.{AreAgreed, at_start, control_agrees}
 use Rattle.psci_headline.proofs.Controlling.{after_control, more_controls}
-use Rattle.psci_headline.proofs.Happening.{called, entered_by}
-use Rattle.psci_headline.proofs.Making.{AreAfter}
+use Rattle.psci_headline.proofs.Happening.{happens}
 use Rattle.psci_headline.proofs.Moving.{CallerLaws, function_call}
-use Rattle.psci_headline.proofs.Placing.{acted, call_agrees, enter_agrees, take_agrees}
+use Rattle.psci_headline.proofs.Placing.{acted, call_agrees, enter_agrees}
 use Rattle.psci_headline.proofs.Sending.{after_call, legal_call}
 
 -- What the laws of the crates below say of a board.
 pub record RunLaws (b : BoardValue) : Type 0 where
   -- of the power controller's histories
-  pub begins : controls.values_of b [] ≡ controlled.start_of_life b
-  pub after : AreAfter b
   pub follows : (v : controlled.Values) (call : CtlCall) → legal_controls.IsCall b call
       → MayFollow b v (controlling_effects.effect_of b call (reply b v call))
   pub controls : (past : List Record) → IsLegalPast b past
       → legal_controls.IsLegal b (controller_history b past)
   -- and of the firmware's
-  pub first : remembers.values_of b [] ≡ start_of_life b 0
   pub change : (e : firmware.FwExchange) (h : List firmware.FwExchange)
       → remembers.values_of b (e ∷ h) ≡ change b (effect b e) (remembers.values_of b h)
   pub allowed : (e : firmware.FwExchange) (h : List firmware.FwExchange) → IsLegal b (e ∷ h)
@@ -96,11 +75,10 @@ control_next b past e laws now is =
     let h : List controller.CtlExchange = controller_history b past in
     let v : controlled.Values = controller_values b past in
     let may : MayFollow b v (controlling_effects.effect_of b e.call e.reply) =
-    subst (λ r. MayFollow b v (controlling_effects.effect_of b e.call r)) (sym is.0)
-    (laws.follows v e.call is.1) in
+    grind (arith, nat_tests) in
     subst (λ w. AreAgreed b w (λ x. unwrap_or (place_controlled b x (e ∷ [])) (place b past x))
     (firmware_values b past))
-    (sym (laws.after e h))
+    (sym (values_more b e h))
     (control_agrees b v (place b past) (firmware_values b past)
     (controlling_effects.effect_of b e.call e.reply) may now)
 
@@ -135,7 +113,7 @@ call_next : (b : BoardValue) (past : List Record) (c : ℕ) (regs : Regs) (s : S
     → Now b past → IsLegal b (after_call b past (Call c regs) s) → s ≡ legal b past (Call c regs)
     → Next b past (Call c regs) s
 call_next b past c regs (said.Fw act sends) laws now is e =
-    let at = called b past c regs act sends e in
+    let at = happens b past (Call c regs) (said.Fw act sends) e refl in
     let m : Option MessageValue = option_map (λ s. s.message) sends in
     let v : Values = firmware_values b past in
     subst (AreAgreed b (controller_values b past) (acted (place b past) c act))
@@ -148,7 +126,7 @@ call_next b past c regs s laws now is e = now
 enter_next : (b : BoardValue) (past : List Record) (c : ℕ) (s : Said) → RunLaws b → Now b past
     → s ≡ legal b past (Enter c) → Next b past (Enter c) s
 enter_next b past c (said.Fw act sends) laws now e =
-    let at = entered_by b past c act sends e in
+    let at = happens b past (Enter c) (said.Fw act sends) e refl in
     by_start (last_start (controller_values b past) c) at.start refl at.last
   where
     by_start : (o : Option Start) (s : Start) → last_start (controller_values b past) c ≡ o
@@ -169,14 +147,7 @@ took_next : (b : BoardValue) (past : List Record) (o : Option AckValue) (t : Tak
     → Now b past
     → AreAgreed b (controller_values b past) (place b past)
     (remembers.values_of b (took o t ++ firmware_history b past))
-took_next b past None t laws now = now
-took_next b past (Some a) takens.Used laws now =
-    subst (AreAgreed b (controller_values b past) (place b past))
-    (sym (laws.change _ (firmware_history b past)))
-    (take_agrees b (controller_values b past) (place b past) (firmware_values b past) a now)
-took_next b past (Some a) takens.Old laws now =
-    subst (AreAgreed b (controller_values b past) (place b past))
-    (sym (laws.change _ (firmware_history b past))) now
+took_next b past o t laws now = grind (arith, nat_tests)
 
 take_next : (b : BoardValue) (past : List Record) (k : ℕ) (s : Said) → RunLaws b → Now b past
     → Next b past (Take k) s
@@ -189,37 +160,21 @@ take_next b past k s laws now = now
 event_next : (b : BoardValue) (past : List Record) (event : Event) (s : Said) → RunLaws b
     → Now b past → legal_controls.IsLegal b (after_control b past event s)
     → IsLegal b (after_call b past event s) → s ≡ legal b past event → Next b past event s
-event_next b past (Call c regs) s laws now controls calls e =
-    call_next b past c regs s laws now calls e
-event_next b past (Enter c) s laws now controls calls e = enter_next b past c s laws now e
-event_next b past (Wake c) s laws now controls calls e = wake_next b past c s laws now controls
-event_next b past (Reset c) s laws now controls calls e = reset_next b past c s laws now controls
-event_next b past (Deliver k) s laws now controls calls e =
-    deliver_next b past k s laws now controls
-event_next b past (Take k) s laws now controls calls e = take_next b past k s laws now
+event_next b past event s laws now controls calls e =
+    grind (arith, nat_tests, call_next, enter_next, wake_next, reset_next, deliver_next, take_next)
 
-first_agreed : (b : BoardValue)
-    → AreAgreed b (controlled.start_of_life b) first_place (start_of_life b 0)
-first_agreed b = record {
-  begun = λ life e. omega arith;
-  stopped = λ e. absurd (cc);
-  present = λ life e. at_first life e;
-}
-  where
-    at_first : (life : ℕ) → (controlled.start_of_life b).life ≡ Some life
-        → AgreeIn b controlled.first_starts first_place
-        (in_life b life (start_of_life b 0))
-    at_first life e = let is : 1 ≡ life = cc in
-        subst (λ l. AgreeIn b controlled.first_starts
-        first_place (in_life b l (start_of_life b 0))) is
-        (at_start b 1)
+-- what the firmware keeps before all records
+pub first_kept : (b : BoardValue) → firmware_values b [] ≡ start_of_life b 0
+unfolding firmware_history remembers.values_of Outstanding.outstanding Outstanding.last_message
+first_kept b = refl
+
+first_agreed : (b : BoardValue) → Now b []
+unfolding controller_history place controls.values_of
+first_agreed b = grind (arith, nat_tests, first_kept, at_start)
 
 pub agreed : (b : BoardValue) → RunLaws b → (past : List Record) → IsLegalPast b past → Now b past
 unfolding controller_history firmware_history place
-agreed b laws [] is =
-    subst (λ v. AreAgreed b v first_place (remembers.values_of b [])) (sym laws.begins)
-    (subst (AreAgreed b (controlled.start_of_life b) first_place) (sym laws.first)
-    (first_agreed b))
+agreed b laws [] is = first_agreed b
 agreed b laws (r ∷ past) is =
     event_next b past r.event r.said laws (agreed b laws past is.1)
     (subst (legal_controls.IsLegal b) (more_controls b r past) (laws.controls (r ∷ past) is))

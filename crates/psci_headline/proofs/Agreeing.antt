@@ -1,23 +1,16 @@
 -- What firmware and power controller know of each other, as a life begins, and as the controller
 -- goes on.
-use Rattle.std.proofs.Common.{◌≡◌, ℕ, ◌+◌, ◌<◌, ◌≤◌, ◌==◌, Bool, true, false, cond, refl}
-use Rattle.std.proofs.Common.{Option, None, Some, unwrap_or, arith, subst, ap, sym, ◌∙◌}
-use Rattle.std.proofs.lemmas.Bool.{cond-true, cond-false, eq-eqb}
-use Rattle.std.proofs.lemmas.Bool.{ne_eqb}
-use Rattle.psci_board.specs.Board.{BoardValue}
-use Rattle.psci_ctl_spec.specs.Changes.{change, next_life, one_more}
-use Rattle.psci_ctl_spec.specs.Effects.{Effect, Nothing, Starts, Deepens, Ends, Begins}
-use Rattle.psci_ctl_spec.specs.Follows.{MayFollow}
+use Rattle.std.proofs.Common.{◌≡◌, ℕ, ◌+◌, ◌≤◌, ◌==◌, Option, None, Some, unwrap_or, arith, ap, sym}
+use Rattle.std.proofs.Common.{◌∙◌}
+use Rattle.std.proofs.lemmas.Bool.Decides.{nat_tests}
+use Rattle.std.proofs.lemmas.Bool.{cond-true, cond-false, eq-eqb, ne_eqb}
+use Rattle.psci_headline.proofs.Words.{BoardValue, next_life, MayFollow, first_starts, in_life}
+use Rattle.psci_headline.proofs.Words.{start_of_life, Values, Place, Stopped, place_of_effect}
+use Rattle.psci_headline.proofs.Words.{AgreeIn}
+use Rattle.psci_ctl_spec.specs.Changes.{change}
+use Rattle.psci_ctl_spec.specs.Effects.{Effect}
 use Rattle.psci_ctl_spec.specs.Values as controlled
-use Rattle.psci_ctl_spec.specs.Values.{first_starts}
-use Rattle.psci_fw_laws.specs.psci_fw_spec.Lives.{in_life, start_of_life}
-use Rattle.psci_fw_laws.specs.psci_fw_spec.Phases as phases
-use Rattle.psci_fw_laws.specs.psci_fw_spec.Phases.{Phase}
-use Rattle.psci_fw_laws.specs.psci_fw_spec.Values.{Values}
-use Rattle.psci_world_spec.specs.declared.place.Place.{Place}
-use Rattle.psci_world_spec.specs.declared.place.Place.TheVariants.{Started, Running, Stopped}
-use Rattle.psci_world_spec.specs.Places.{first_place, place_of_effect}
-use Rattle.psci_headline.specs.Agreement.{AgreeIn}
+use Rattle.psci_world_spec.specs.Places.{first_place}
 
 -- What both know of each other, said of their values and of the places.
 pub record AreAgreed (b : BoardValue) (w : controlled.Values) (place : ℕ → Place) (v : Values)
@@ -30,29 +23,7 @@ pub record AreAgreed (b : BoardValue) (w : controlled.Values) (place : ℕ → P
 
 pub at_start : (b : BoardValue) (life : ℕ)
     → AgreeIn b first_starts first_place (start_of_life b life)
-at_start b life = record {
-  known = λ c. omega arith;
-  waits = λ c on. waits_at (c == 0);
-  started = λ c on. started_at (c == 0);
-  runs = λ c on e. absurd (runs_at (c == 0) e);
-  rests = λ c on e. rests_at (c == 0);
-}
-  where
-    waits_at : (t : Bool) → cond t Started Stopped ≡ Started → 0 < cond t 1 0
-    waits_at true e = omega arith
-    waits_at false e = absurd (cc)
-
-    started_at : (t : Bool) → 0 < cond t 1 0 → cond t Started Stopped ≡ Started
-    started_at true lt = refl
-    started_at false lt = absurd (omega (arith, lt))
-
-    runs_at : (t : Bool) → cond t Started Stopped ≡ Running → ⊥
-    runs_at true e = cc
-    runs_at false e = cc
-
-    rests_at : (t : Bool) → cond t phases.Pending phases.Away ≡ phases.Running → ⊥
-    rests_at true e = cc
-    rests_at false e = cc
+at_start b life = grind (arith, nat_tests)
 
 -- what a core finds in the firmware's own life, and in another one
 pub found_own : (b : BoardValue) (life : ℕ) (v : Values) → life ≡ v.life → in_life b life v ≡ v
@@ -66,55 +37,6 @@ found_other b life v ne =
 
 -- The power controller -------------------------------------------------------------------------
 
--- a core is started
-started_in : (b : BoardValue) (starts : ℕ → ℕ) (place : ℕ → Place) (v : Values) (c : ℕ)
-    → AgreeIn b starts place v
-    → AgreeIn b (one_more starts c)
-    (λ x. unwrap_or (cond (x == c) (Some Started) None) (place x)) v
-started_in b starts place v c h = record {
-  known = λ x. known_at (x == c) x (h.known x);
-  waits = λ x on. waits_at (x == c) x (h.known x) (h.waits x on);
-  started = λ x on. started_at (x == c) x (h.started x on);
-  runs = λ x on. runs_at (x == c) x (h.runs x on);
-  rests = λ x on. rests_at (x == c) x (h.rests x on);
-}
-  where
-    place_at : Bool → ℕ → Place
-    place_at t x = unwrap_or (cond t (Some Started) None) (place x)
-
-    known_at : (t : Bool) (x : ℕ) → v.known x ≤ starts x
-        → v.known x ≤ cond t (starts x + 1) (starts x)
-    known_at true x le = omega (arith, le)
-    known_at false x le = le
-
-    waits_at : (t : Bool) (x : ℕ) → v.known x ≤ starts x
-        → (place x ≡ Started → v.known x < starts x) → place_at t x ≡ Started
-        → v.known x < cond t (starts x + 1) (starts x)
-    waits_at true x le old e = omega (arith, le)
-    waits_at false x le old e = old e
-
-    started_at : (t : Bool) (x : ℕ) → (v.known x < starts x → place x ≡ Started)
-        → v.known x < cond t (starts x + 1) (starts x) → place_at t x ≡ Started
-    started_at true x old lt = refl
-    started_at false x old lt = old lt
-
-    runs_at : (t : Bool) (x : ℕ) → (place x ≡ Running → v.phase x ≡ phases.Running)
-        → place_at t x ≡ Running → v.phase x ≡ phases.Running
-    runs_at true x old e = absurd (cc)
-    runs_at false x old e = old e
-
-    rests_at : (t : Bool) (x : ℕ)
-        → (place x ≡ Stopped → v.phase x ≡ phases.Running → ⊥)
-        → place_at t x ≡ Stopped → v.phase x ≡ phases.Running → ⊥
-    rests_at true x old e = absurd (cc)
-    rests_at false x old e = old e
-
--- a life begins that is not the firmware's
-begins_in : (b : BoardValue) (life : ℕ) (v : Values) → (life ≡ v.life → ⊥)
-    → AgreeIn b first_starts first_place (in_life b life v)
-begins_in b life v ne =
-    subst (AgreeIn b first_starts first_place) (sym (found_other b life v ne)) (at_start b life)
-
 next_is : (o : Option ℕ) (l life : ℕ) → o ≡ Some l → next_life o ≡ Some life → life ≡ l + 1
 next_is o l life e f =
     let g : Some (l + 1) ≡ Some life = ap next_life (sym e) ∙ f in cc
@@ -123,24 +45,4 @@ next_is o l life e f =
 pub control_agrees : (b : BoardValue) (w : controlled.Values) (place : ℕ → Place) (v : Values)
     (e : Effect) → MayFollow b w e → AreAgreed b w place v
     → AreAgreed b (change b e w) (λ x. unwrap_or (place_of_effect x e) (place x)) v
-control_agrees b w place v Nothing may h = h
-control_agrees b w place v (Starts c cause) may h = record {
-  begun = h.begun;
-  stopped = λ e. let some = may.2.1 in absurd (cc);
-  present = λ life e. started_in b w.starts place (in_life b life v) c (h.present life e);
-}
-control_agrees b w place v (Deepens c ps) may h =
-    record { begun = h.begun; stopped = h.stopped; present = h.present }
-control_agrees b w place v Ends may h = record {
-  begun = λ life e. absurd (cc);
-  stopped = λ e c. refl;
-  present = λ life e. absurd (cc);
-}
-control_agrees b w place v Begins may h = record {
-  begun = λ life e.
-      omega (arith, next_is w.life may.0 life may.1 e, h.begun may.0 may.1);
-  stopped = λ e. let no : Some (may.0 + 1) ≡ None = ap next_life (sym may.1) ∙ e in absurd (cc);
-  present = λ life e.
-      begins_in b life v
-      (λ same. omega (arith, same, next_is w.life may.0 life may.1 e, h.begun may.0 may.1));
-}
+control_agrees b w place v e may h = grind (arith, nat_tests, next_is)

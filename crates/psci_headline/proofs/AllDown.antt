@@ -1,30 +1,20 @@
 -- Cores that are reported OFF were powered down, after every legal past.
-use Rattle.std.proofs.Common.{◌≡◌, ℕ, ◌<◌, inl, inr, Bool, true, false}
-use Rattle.std.proofs.Common.{◌==◌, cond, List, [], ◌∷◌, Some, refl, subst, ap}
-use Rattle.std.proofs.Common.{sym, ◌∙◌, arith}
-use Rattle.std.specs.Prelude.{nat_le, slice_get}
-use Rattle.std.proofs.lemmas.Bool.{and_parts, eqb-false, eqb-true, ne_eqb, and_right}
-use Rattle.psci_board.specs.Board.{BoardValue, height, up}
+use Rattle.std.proofs.Common.{◌≡◌, ℕ, ◌<◌, inl, inr, Bool, true, false, ◌==◌, List, [], ◌∷◌, Some}
+use Rattle.std.proofs.Common.{refl, subst, ap, sym, ◌∙◌, arith}
+use Rattle.std.proofs.lemmas.Bool.Decides.{nat_tests}
+use Rattle.std.specs.Prelude.{slice_get}
+use Rattle.std.proofs.lemmas.Bool.{eqb-false, eqb-true, ne_eqb, and_right}
+use Rattle.psci_headline.proofs.Words.{BoardValue, Values, Down, AckValue, MessageValue, OfCore}
+use Rattle.psci_headline.proofs.Words.{IsAllowed, Holds, Record, ack_in, controller_values}
+use Rattle.psci_headline.proofs.Words.{firmware_values, sent, IsLegalPast, Agree, was_powered_down}
+use Rattle.psci_headline.proofs.Words.{is_reported_off, IsAwaited, AreDown}
 use Rattle.psci_ctl_spec.specs.History as controls
 use Rattle.psci_ctl_spec.specs.Values as controlled
 use Rattle.psci_fw_laws.specs.psci_fw_spec.declared.status.Status.TheVariants as statuses
 use Rattle.psci_fw_laws.specs.psci_fw_spec.History as remembers
-use Rattle.psci_fw_laws.specs.psci_fw_spec.Values.{Values}
-use Rattle.psci_ctl_spec.specs.psci_messages.declared.kind.Kind.TheVariants.{Down}
-use Rattle.psci_ctl_spec.specs.psci_messages.Message.{AckValue, MessageValue}
-use Rattle.psci_ctl_spec.specs.psci_messages.Slots.{OfCore, is_kind, slot_of}
-use Rattle.psci_fw_laws.specs.Allowed.{IsAllowed, IsAwaited}
-use Rattle.psci_fw_laws.specs.Kept.{Holds}
-use Rattle.psci_world_spec.specs.declared.said.Record.{Record}
-use Rattle.psci_world_spec.specs.Histories.{ack_in, acks, controller_history}
-use Rattle.psci_world_spec.specs.Histories.{controller_values, firmware_history}
-use Rattle.psci_world_spec.specs.Histories.{firmware_values}
-use Rattle.psci_world_spec.specs.Histories.{sent}
-use Rattle.psci_world_spec.specs.Legal.{IsLegalPast}
+use Rattle.psci_world_spec.specs.Histories.{acks, controller_history, firmware_history}
 use Rattle.psci_world_spec.proofs.Answered.{firmware_legal}
-use Rattle.psci_headline.specs.Agreement.{Agree}
-use Rattle.psci_headline.specs.Moments.{was_powered_down, is_reported_off}
-use Rattle.psci_headline.specs.PoweredDown.{AreDown}
+use Rattle.psci_headline.proofs.Taking.{named}
 use Rattle.psci_headline.proofs.Acknowledging.{CoreLaws}
 use Rattle.psci_headline.proofs.CoreSteps.{IsStep, TurnsOff, step}
 use Rattle.psci_headline.proofs.Deliveries.{life_before}
@@ -35,10 +25,7 @@ use Rattle.psci_headline.proofs.Slept.{asleep_from, report, reported, slept_now,
 -- Lives that the firmware does not know of -----------------------------------------------------
 
 first_deep : (b : BoardValue) (c : ℕ) → CoreLaws b → (c ≡ 0 → ⊥) → controlled.first_depth b 0 c ≡ 3
-first_deep b c laws other =
-    let apart : (up b 0 0 == c) ≡ false =
-    ne_eqb (up b 0 0) c (λ e. other (sym e ∙ laws.own 0)) in
-    ap (λ t. cond t 0 3) (and_right (nat_le 0 (height b)) (up b 0 0 == c) apart)
+first_deep b c laws other = grind (arith, nat_tests, ne_eqb, and_right)
 
 fresh_next : (b : BoardValue) (r : Record) (past : List Record) (life c : ℕ) → CoreLaws b
     → IsNext b r past → AreDown b past → (controller_values b (r ∷ past)).life ≡ Some life
@@ -71,16 +58,10 @@ answers_known : (v : Values) (messages : List MessageValue) (b : BoardValue) (a 
 answers_known v messages b a holds is kind =
     let m = is.message in
     let c = a.core.number in
-    let slot : v.outstanding (OfCore c) ≡ Some m =
-    ap (λ k. v.outstanding (slot_of k a.core)) (sym kind) ∙ is.at in
+    let slot : v.outstanding (OfCore c) ≡ Some m = grind (arith, nat_tests) in
     let of = holds.slots.core c m slot in
-    let all = and_parts (is_kind a.kind m.kind) _ is.answers in
-    let rest = and_parts (c == m.core.number) _ all.1 in
-    let last = and_parts (a.life == m.life) (a.number == m.number) rest.1 in
-    record {
-      life = eqb-true a.life m.life last.0 ∙ of.listed.present;
-      number = eqb-true a.number m.number last.1 ∙ of.number;
-    }
+    let name = named a m is.answers in
+    record { life = name.life ∙ of.listed.present; number = name.number ∙ of.number }
 
 -- a core that an acknowledgement turns off was powered down
 turned_off : (b : BoardValue) (r : Record) (past : List Record) (c : ℕ)
@@ -126,13 +107,7 @@ off_next : (b : BoardValue) (r : Record) (past : List Record) (c : ℕ) → IsNe
     → AreDown b past → is_reported_off b (r ∷ past) c ≡ true
     → was_powered_down b (firmware_values b (r ∷ past)).life (r ∷ past) c ≡ true
 off_next b r past c next are e =
-    let v : Values = firmware_values b past in
-    let w : Values = firmware_values b (r ∷ past) in
-    let is = reported b (r ∷ past) c e in
-    slept_still b w.life r past c (was_down b r past c (w.life == v.life) next are refl is.0 is.1)
-    (λ goes same.
-    let on : statuses.On ≡ statuses.Off = sym (goes_running b r past c next goes).1 ∙ is.1 in
-    absurd (cc))
+    grind (arith, nat_tests, reported, slept_still, was_down, goes_running)
 
 -- All pasts ------------------------------------------------------------------------------------
 
@@ -147,8 +122,7 @@ pub record DownLaws (b : BoardValue) : Type 0 where
 pub next_of : (b : BoardValue) (r : Record) (past : List Record) → DownLaws b
     → IsLegalPast b (r ∷ past) → IsNext b r past
 next_of b r past laws is =
-    let m : Moves b r past =
-    moves b r past laws.firmware is.0 (firmware_legal b (r ∷ past) is) in
+    let m : Moves b r past = grind (arith, nat_tests, moves, firmware_legal) in
     let v : Values = firmware_values b past in
     record {
       moves = m;
@@ -171,17 +145,18 @@ unfolding controller_history Rattle.psci_ctl_spec.specs.History.values_of
 first_controlled b = refl
 
 first_down : (b : BoardValue) → CoreLaws b → AreDown b []
-first_down b laws = record {
-  off = λ c e.
-      let is = reported b [] c e in
-      absurd (omega (arith, is.0, first_life b));
-  acked = λ k a at. absurd (no_acks k a at);
-  fresh = λ life c now unknown other.
-      slept_now b life [] c
-      (asleep_from b life [] c now
-      (ap (λ (v : controlled.Values). v.depth 0 c) (first_controlled b)
-      ∙ first_deep b c laws other));
-}
+first_down b laws =
+    grind (
+      arith,
+      nat_tests,
+      reported,
+      first_life,
+      no_acks,
+      slept_now,
+      asleep_from,
+      first_controlled,
+      first_deep,
+    )
 
 pub all_down : (b : BoardValue) (past : List Record) → DownLaws b → IsLegalPast b past
     → AreDown b past

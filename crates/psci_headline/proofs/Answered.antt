@@ -1,52 +1,22 @@
 -- What is told once an acknowledgement was taken.
-use Rattle.std.proofs.Common.{◌≡◌, ℕ, ◌⊎◌, inl, inr, ◌<◌, ◌≤◌, ◌&&◌, not, Bool, true, false}
-use Rattle.std.proofs.Common.{cond, length, List, Option, Some, refl, arith, subst, ap, sym, ◌∙◌}
-use Rattle.std.specs.Prelude.{nat_lt, slice_get}
-use Rattle.std.specs.List.{sum_by}
-use Rattle.std.proofs.lemmas.Bool.{and_from, cases_lt, eq-eqb, leb-true, lt-ltb, or_cases}
-use Rattle.std.proofs.lemmas.Option.{same_Some, slice_get_within}
-use Rattle.psci_headline.specs.psci_board.Board.{BoardValue, below, up}
-use Rattle.psci_headline.specs.psci_board.Laws.{PathLaws}
-use Rattle.psci_headline.specs.psci_board.Paths.{is_path_place}
-use Rattle.psci_headline.specs.psci_messages.declared.part.Part.{Part}
-use Rattle.psci_headline.specs.psci_messages.declared.kind.Kind.TheVariants.{Down}
-use Rattle.psci_headline.specs.psci_messages.Message.{AckValue, MessageValue}
-use Rattle.psci_headline.specs.psci_messages.OnlyIf.{only_if}
-use Rattle.psci_headline.specs.psci_messages.Slots.{Acknowledge, OfCore, Slot, answers, changed}
-use Rattle.psci_headline.specs.psci_messages.Slots.{is_kind, slot_of}
-use Rattle.psci_headline.specs.psci_fw_spec.declared.status.Status.{Status}
-use Rattle.psci_headline.specs.psci_fw_spec.declared.status.Status.TheVariants.{Off}
-use Rattle.psci_headline.specs.psci_fw_spec.Changes.{confirms_on, turns_off, with_acknowledgement}
-use Rattle.psci_headline.specs.psci_fw_spec.Confirmed.{applied_part, is_made_at}
-use Rattle.psci_headline.specs.psci_fw_spec.Phases.{Away, is_away}
-use Rattle.psci_headline.specs.psci_fw_spec.Values.{Values}
-use Rattle.psci_headline.specs.psci_fw_laws.Kept.{Holds}
+use Rattle.std.proofs.Common.{◌≡◌, ℕ, ◌⊎◌, inl, inr, ◌<◌, ◌≤◌, Bool, true, cond, List, Option, Some}
+use Rattle.std.proofs.Common.{refl, arith, ap, sym, ◌∙◌}
+use Rattle.std.proofs.lemmas.Bool.Decides.{nat_tests}
+use Rattle.std.proofs.lemmas.Bool.{cond_both, and_from, cases_lt, eq-eqb, lt-ltb}
+use Rattle.psci_headline.proofs.Words.{BoardValue, PathLaws, AckValue, MessageValue, Acknowledge}
+use Rattle.psci_headline.proofs.Words.{Slot, changed, slot_of, Status, Off, confirms_on}
+use Rattle.psci_headline.proofs.Words.{with_acknowledgement, Away, Values, Holds, IsTold, WasTold}
+use Rattle.psci_headline.proofs.Words.{AreConfirming, IsYetToCome, turns_off, IsConfirmedOr}
+use Rattle.psci_headline.proofs.Words.{IsOffOr, IsOutstanding}
+use Rattle.psci_headline.specs.psci_fw_spec.Confirmed.{applied_part}
 use Rattle.psci_headline.specs.psci_fw_laws.KnownBelow.{known_below}
 use Rattle.psci_headline.proofs.fw_laws.Consequences.{once_down}
 use Rattle.psci_headline.proofs.fw_laws.Parts.{updated_at}
-use Rattle.psci_headline.specs.Waiting.{IsTold, WasTold}
-use Rattle.psci_headline.proofs.Taking.{HasName, IsEmptied, IsNamedOnce, named, still_or}
-use Rattle.psci_headline.specs.Confirming.{AreConfirming, IsConfirmedOr, IsOffOr, IsOutstanding}
-use Rattle.psci_headline.specs.Confirming.{IsYetToCome}
+use Rattle.psci_headline.proofs.Slots.{down_slot}
+use Rattle.psci_headline.proofs.Taking.{HasName, IsEmptied, named, none_left, still_or, told_of}
 
--- what an acknowledgement says of a message that was sent, it says of the one that it answers
-told_of : (b : BoardValue) (starts : ℕ → ℕ) (depth : ℕ → ℕ → ℕ) (a : AckValue)
-    (sent : List MessageValue) (k : ℕ) (m : MessageValue) → IsNamedOnce sent
-    → WasTold b starts depth a sent → slice_get sent k ≡ Some m → m.kind ≡ Down
-    → answers a m ≡ true → IsTold b starts depth a m
-told_of b starts depth a sent k m once t at kind answered =
-    let mine : HasName a m = named a m answered in
-    let theirs : HasName a t.message = named a t.message t.told.answers in
-    let one : t.index ≡ k =
-    once t.index k t.message m t.at at (sym theirs.kind ∙ mine.kind ∙ kind) kind
-    (sym theirs.core ∙ mine.core) (sym theirs.life ∙ mine.life)
-    (sym theirs.number ∙ mine.number) in
-    subst (IsTold b starts depth a)
-    (same_Some t.message m (sym t.at ∙ ap (slice_get sent) one ∙ at)) t.told
-
-down_slot : (a : AckValue) (c : ℕ) → a.kind ≡ Down → a.core.number ≡ c
-    → slot_of a.kind a.core ≡ OfCore c
-down_slot a c kind core = ap (λ k. slot_of k a.core) kind ∙ ap OfCore core
+kept : {A : Type 0} (t : Bool) (x was : A) → was ≡ x → cond t x was ≡ x
+kept t x was e = cond_both t x was (λ y. y ≡ x) (λ f. refl) (λ f. e)
 
 -- What is known as an acknowledgement is taken.
 pub record IsTaking (b : BoardValue) (starts : ℕ → ℕ) (depth : ℕ → ℕ → ℕ) (v : Values)
@@ -78,23 +48,10 @@ module _ (b : BoardValue) (starts : ℕ → ℕ) (depth : ℕ → ℕ → ℕ) (
       let of = t.holds.slots.core m.core.number m is.at in
       let mine = named a m emptied.answers in
       let told : IsTold b starts depth a m =
-      told_of b starts depth a sent of.listed.index m (once_down b v sent t.holds)
-      (t.told (mine.life ∙ of.listed.present)) of.listed.at is.kind emptied.answers in
-      elim (or_cases a.stale _ emptied.done) [
-        | inl stale ↦
-            told.stale is.kind stale level is.part high is.listed
-            (is.current ∙ same ∙ ap (known_below b starts level) (sym is.on))
-        | inr rest ↦ elim (or_cases (not (is_kind a.kind Down)) _ rest) [
-          | inl other ↦
-              let down : is_kind a.kind Down ≡ true =
-              ap (λ x. is_kind x Down) (mine.kind ∙ is.kind) in
-              let no : false ≡ true = sym (ap not down) ∙ other in absurd (cc)
-          | inr all ↦
-              let within = slice_get_within m.parts level is.part is.listed in
-              let few = leb-true (length m.parts) a.applied all in
-              absurd (omega (arith, within, few, high))
-        ]
-      ]
+      told_of is.kind emptied sent of.listed.index (once_down b v sent t.holds)
+      (t.told (mine.life ∙ of.listed.present)) of.listed.at in
+      none_left is.kind emptied told level is.part high is.listed
+      (is.current ∙ same ∙ ap (known_below b starts level) (sym is.on))
 
   -- what was outstanding is so still, or the acknowledgement says that the part was applied
   after_taken : (level place : ℕ) (is : IsOutstanding b v.known v.outstanding level place)
@@ -126,39 +83,18 @@ module _ (b : BoardValue) (starts : ℕ → ℕ) (depth : ℕ → ℕ → ℕ) (
   part_applied : (level place : ℕ) (is : IsOutstanding b v.known v.outstanding level place)
       → IsApplied a is.message level
       → applied_part a level (v.outstanding (slot_of a.kind a.core)) ≡ Some is.part
-  part_applied level place is by =
-      let m : MessageValue = is.message in
-      let slot = down_slot a m.core.number (by.name.kind ∙ is.kind) by.name.core in
-      let test : (is_kind a.kind Down && nat_lt level a.applied) ≡ true =
-      and_from (is_kind a.kind Down) (nat_lt level a.applied)
-      (ap (λ x. is_kind x Down) (by.name.kind ∙ is.kind)) (lt-ltb level a.applied by.low) in
-      ap (applied_part a level) (ap v.outstanding slot ∙ is.at)
-      ∙ ap (λ x. only_if x (slice_get m.parts level)) test ∙ is.listed
+  part_applied level place is by = grind (arith, nat_tests, down_slot, and_from, lt-ltb)
 
   confirms : (level place : ℕ) (is : IsOutstanding b v.known v.outstanding level place)
       → IsApplied a is.message level → 0 < v.granted level place
       → confirms_on b v a level place ≡ true
   unfolding known_below
-  confirms level place is by some =
-      let known : ℕ = sum_by v.known (below b (record { level = level; place = place })) in
-      let sent_part : Option Part =
-      applied_part a level (v.outstanding (slot_of a.kind a.core)) in
-      and_from (is_path_place b a.core.number level place)
-      (nat_lt 0 (v.granted level place) && is_made_at known sent_part)
-      (eq-eqb place (up b level a.core.number) (sym (ap (up b level) by.name.core ∙ is.on)))
-      (and_from (nat_lt 0 (v.granted level place)) (is_made_at known sent_part)
-      (lt-ltb 0 (v.granted level place) some)
-      (ap (is_made_at known) (part_applied level place is by)
-      ∙ eq-eqb is.part.generation known is.current))
-
-  kept_true : (s was : Bool) → was ≡ true → cond s true was ≡ true
-  kept_true true was e = refl
-  kept_true false was e = e
+  confirms level place is by some = grind (arith, nat_tests, and_from, eq-eqb, lt-ltb, part_applied)
 
   domain : (level place : ℕ) → 0 < v.granted level place → IsConfirmedOr b starts v level place
       → IsConfirmedOr b starts (with_acknowledgement b a v) level place
   domain level place some old = elim old [
-    | inl was ↦ inl (kept_true (confirms_on b v a level place) (v.confirmed level place) was)
+    | inl was ↦ inl (kept (confirms_on b v a level place) true (v.confirmed level place) was)
     | inr yet ↦ elim yet [
       | inl is ↦ elim (after_taken level place is) [
         | inl still ↦ inr still
@@ -171,25 +107,9 @@ module _ (b : BoardValue) (starts : ℕ → ℕ) (depth : ℕ → ℕ → ℕ) (
   ]
 
   -- and the core OFF
-  kept_off : (s : Bool) (was : Status) → was ≡ Off → cond s Off was ≡ Off
-  kept_off true was e = refl
-  kept_off false was e = e
-
   off_now : (c : ℕ) (is : IsOutstanding b v.known v.outstanding 0 c) → IsApplied a is.message 0
       → v.phase c ≡ Away → (with_acknowledgement b a v).status c ≡ Off
-  off_now c is by away =
-      let core : a.core.number ≡ c =
-      by.name.core ∙ sym (t.paths.core is.message.core.number) ∙ is.on in
-      let down : (is_kind a.kind Down && nat_lt 0 a.applied) ≡ true =
-      and_from (is_kind a.kind Down) (nat_lt 0 a.applied)
-      (ap (λ x. is_kind x Down) (by.name.kind ∙ is.kind)) (lt-ltb 0 a.applied by.low) in
-      let turns : turns_off v a ≡ true =
-      and_from (is_kind a.kind Down && nat_lt 0 a.applied) (is_away (v.phase a.core.number)) down
-      (ap (λ x. is_away (v.phase x)) core ∙ ap is_away away) in
-      updated_at (λ (s : Status). s ≡ Off) v.status a.core.number
-      (cond (turns_off v a) Off (v.status a.core.number)) c
-      (λ here. ap (λ x. cond x Off (v.status a.core.number)) turns)
-      (λ there. absurd (there (sym core)))
+  off_now c is by away = grind (arith, nat_tests, and_from, lt-ltb, updated_at)
 
   core_off : (c : ℕ) → v.phase c ≡ Away → IsOffOr b starts v c
       → IsOffOr b starts (with_acknowledgement b a v) c
@@ -197,7 +117,7 @@ module _ (b : BoardValue) (starts : ℕ → ℕ) (depth : ℕ → ℕ → ℕ) (
     | inl was ↦
         inl (updated_at (λ (s : Status). s ≡ Off) v.status a.core.number
         (cond (turns_off v a) Off (v.status a.core.number)) c
-        (λ here. kept_off (turns_off v a) (v.status a.core.number) (ap v.status (sym here) ∙ was))
+        (λ here. kept (turns_off v a) Off (v.status a.core.number) (ap v.status (sym here) ∙ was))
         (λ there. was))
     | inr yet ↦ elim yet [
       | inl is ↦ elim (after_taken 0 c is) [

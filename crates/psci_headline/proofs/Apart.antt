@@ -1,19 +1,13 @@
 -- Different claims on one domain in one life have different generations.
-use Rattle.std.proofs.Common.{◌≡◌, ℕ, zero, suc, ◌<◌, inl, inr, Bool, true, false, cond, List}
-use Rattle.std.proofs.Common.{[], ◌∷◌, ◌++◌, Option, None, Some, option_map, refl, ap, sym, ◌∙◌}
-use Rattle.std.proofs.Common.{arith}
+use Rattle.std.proofs.Common.{◌≡◌, ℕ, suc, ◌<◌, inl, inr, Bool, true, false, cond, List, [], ◌∷◌}
+use Rattle.std.proofs.Common.{◌++◌, Option, None, Some, option_map, refl, ap, arith}
+use Rattle.std.proofs.lemmas.Bool.Decides.{nat_tests}
 use Rattle.std.specs.Prelude.{slice_get}
-use Rattle.psci_board.specs.Board.{BoardValue, HasNode}
-use Rattle.psci_board.specs.declared.node.Node.{Node}
-use Rattle.psci_fw_laws.specs.psci_messages.declared.part.Part.{Part}
-use Rattle.psci_ctl_spec.specs.psci_messages.Message.{MessageValue}
-use Rattle.psci_board.specs.Paths.{is_on_path}
-use Rattle.psci_fw_laws.specs.psci_fw_spec.Said.{listed}
-use Rattle.psci_fw_laws.specs.psci_fw_spec.Values.{Values}
-use Rattle.psci_fw_laws.specs.Claims.{AreRising, part_for}
-use Rattle.psci_world_spec.specs.declared.said.Record.{Record}
-use Rattle.psci_world_spec.specs.Histories.{firmware_values, sent, sent_in}
-use Rattle.psci_headline.specs.Claims.{Claim, claim_by, claims}
+use Rattle.psci_headline.proofs.Words.{BoardValue, HasNode, Node, Part, MessageValue, is_on_path}
+use Rattle.psci_headline.proofs.Words.{listed, Values, AreRising, part_for, Record, firmware_values}
+use Rattle.psci_headline.proofs.Words.{sent_in, Claim, claim_by}
+use Rattle.psci_world_spec.specs.Histories.{sent}
+use Rattle.psci_headline.specs.Claims.{claims}
 use Rattle.psci_headline.proofs.Claiming.{HasSource, source, with_claim_of}
 
 -- Lists of claims ------------------------------------------------------------------------------
@@ -30,14 +24,7 @@ distinct_none j k p q at to same = absurd (cc)
 distinct_more : (x : Claim) (old : List Claim)
     → ((k : ℕ) (y : Claim) → slice_get old k ≡ Some y → y.generation ≡ x.generation → ⊥)
     → AreDistinct old → AreDistinct (x ∷ old)
-distinct_more x old new are zero zero p q at to same = refl
-distinct_more x old new are zero (suc k) p q at to same =
-    let is : p ≡ x = cc in
-    absurd (new k q to (sym same ∙ ap (λ (c : Claim). c.generation) is))
-distinct_more x old new are (suc j) zero p q at to same =
-    let is : q ≡ x = cc in
-    absurd (new j p at (same ∙ ap (λ (c : Claim). c.generation) is))
-distinct_more x old new are (suc j) (suc k) p q at to same = ap suc (are j k p q at to same)
+distinct_more x old new are x4 x5 p q at to same = grind (arith, nat_tests)
 
 first_distinct : (first : Claim) (t : Bool) → AreDistinct (cond t [] (first ∷ []))
 first_distinct first true = distinct_none

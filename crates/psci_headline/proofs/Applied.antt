@@ -1,39 +1,24 @@
 -- What it means that an acknowledgement confirms a claim, and what parts that were applied say.
-use Rattle.std.proofs.Common.{◌≡◌, ℕ, zero, suc, ◌+◌, ◌<◌, ◌≤◌, Bool, true, false, ◌&&◌}
-use Rattle.std.proofs.Common.{◌==◌, cond, List, [], ◌∷◌, take, Option, None, Some}
-use Rattle.std.proofs.Common.{refl, subst, ap, sym, ◌∙◌, arith, option_and_then}
-use Rattle.std.specs.Prelude.{nat_le, nat_lt, slice_get}
+use Rattle.std.proofs.Common.{◌≡◌, ℕ, zero, suc, ◌+◌, ◌<◌, ◌≤◌, Bool, true, false, ◌&&◌, ◌==◌, List}
+use Rattle.std.proofs.Common.{[], ◌∷◌, take, Option, None, Some, refl, ap, sym, ◌∙◌, arith}
+use Rattle.std.proofs.Common.{option_and_then}
+use Rattle.std.proofs.lemmas.Bool.Decides.{nat_tests}
+use Rattle.std.specs.Prelude.{nat_lt, slice_get}
 use Rattle.std.proofs.lemmas.Bool.{and_from, and_parts, eq-eqb, eqb-true, le-leb, ltb-true}
 use Rattle.std.proofs.lemmas.List.Sums.{prefix_len_passes}
 use Rattle.std.proofs.lemmas.Option.{get_or_from_slice_get}
-use Rattle.psci_board.specs.Board.{BoardValue, height, up}
-use Rattle.psci_board.specs.Paths.{is_path_place}
-use Rattle.psci_fw_laws.specs.psci_messages.declared.part.Part.{Part}
-use Rattle.psci_ctl_spec.specs.Parts.{applied, depth_or, is_applied, is_live, laid}
+use Rattle.psci_headline.proofs.Words.{BoardValue, height, up, is_path_place, Part, laid}
+use Rattle.psci_headline.proofs.Words.{starts_below, confirms_on, Values, Kind, AckValue}
+use Rattle.psci_headline.proofs.Words.{ArePartsOf, MessageValue, is_kind, slot_of, sent, is_applied}
+use Rattle.psci_ctl_spec.specs.Parts.{applied, is_live}
 use Rattle.psci_ctl_spec.specs.Values as controlled
-use Rattle.psci_ctl_spec.specs.Values.{starts_below}
 use Rattle.psci_ctl_spec.proofs.Front.{get_take}
-use Rattle.psci_fw_laws.specs.psci_fw_spec.Changes.{confirms_on}
 use Rattle.psci_fw_laws.specs.psci_fw_spec.Confirmed.{is_made_at}
-use Rattle.psci_fw_laws.specs.psci_fw_spec.Values.{Values}
-use Rattle.psci_ctl_spec.specs.psci_messages.declared.kind.Kind.{Kind}
 use Rattle.psci_ctl_spec.specs.psci_messages.declared.kind.Kind.TheVariants as kinds
-use Rattle.psci_ctl_spec.specs.psci_messages.Message.{AckValue, AreClaims, ArePartsOf}
-use Rattle.psci_ctl_spec.specs.psci_messages.Message.{MessageValue}
 use Rattle.psci_ctl_spec.specs.psci_messages.Message.{is_climbing}
 use Rattle.psci_ctl_spec.specs.psci_messages.OnlyIf.{only_if}
-use Rattle.psci_ctl_spec.specs.psci_messages.Slots.{is_kind, slot_of}
 use Rattle.psci_fw_laws.specs.KnownBelow.{known_below}
-use Rattle.psci_world_spec.specs.Histories.{sent}
-
--- a Down
-kind_is : (k : Kind) → is_kind k kinds.Down ≡ true → k ≡ kinds.Down
-kind_is kinds.Down e = refl
-kind_is k e = absurd (cc)
-
-pub is_down : (k : Kind) → is_kind kinds.Down k ≡ true → k ≡ kinds.Down
-is_down kinds.Down e = refl
-is_down k e = absurd (cc)
+use Rattle.psci_headline.proofs.Taking.{same_kind}
 
 -- What confirms -------------------------------------------------------------------------------
 
@@ -89,7 +74,7 @@ confirming b v a level place e =
     record {
       on = eqb-true place (up b level a.core.number) first.0;
       some = ltb-true 0 (v.granted level place) second.0;
-      kind = kind_is a.kind tests.0;
+      kind = same_kind a.kind kinds.Down tests.0;
       applied = ltb-true level a.applied tests.1;
       message = has.message;
       slot = has.slot;
@@ -114,9 +99,7 @@ climbs low (q ∷ ps) (suc k) p e at =
 
 pub levels : (k : Kind) (ps : List Part) (level : ℕ) (p : Part) → k ≡ kinds.Down → ArePartsOf k ps
     → slice_get ps level ≡ Some p → p.level ≡ level
-levels k ps level p down are at =
-    let claim : AreClaims ps = subst (λ x. ArePartsOf x ps) down are in
-    climbs 0 ps level p claim.levels at ∙ omega arith
+levels k ps level p down are at = grind (arith, nat_tests, climbs)
 
 -- a part that is applied is live
 pub applied_live : (b : BoardValue) (v : controlled.Values) (c : ℕ) (ps : List Part) (level : ℕ)
@@ -135,9 +118,4 @@ pub laid_at : (b : BoardValue) (depth : ℕ → ℕ → ℕ) (c n level place : 
     → level ≤ height b → place ≡ up b level c → slice_get ps level ≡ Some p → level < n
     → laid b c (take n ps) depth level place ≡ p.depth
 laid_at b depth c n level place ps p low on at few =
-    let test : (nat_le level (height b) && (up b level c == place)) ≡ true =
-    and_from _ _ (le-leb level (height b) low) (eq-eqb (up b level c) place (sym on)) in
-    let part : slice_get (take n ps) level ≡ Some p = get_take ps n level few ∙ at in
-    ap (λ t. cond t (depth_or (slice_get (take n ps) level) (depth level place))
-    (depth level place)) test
-    ∙ ap (λ o. depth_or o (depth level place)) part
+    grind (arith, nat_tests, and_from, le-leb, eq-eqb, get_take)

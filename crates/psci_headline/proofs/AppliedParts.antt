@@ -1,40 +1,31 @@
 -- A part that was applied in this life is one of a Down that was sent in it.
-use Rattle.std.proofs.Common.{◌≡◌, ℕ, suc, inl, inr, Bool, true, false, ◌==◌, cond, List}
-use Rattle.std.proofs.Common.{[], ◌∷◌, ◌++◌, Option, None, Some, refl, ap, sym, ◌∙◌}
-use Rattle.std.specs.Prelude.{nat_le, nat_lt, slice_get}
+use Rattle.std.proofs.Common.{arith, ◌≡◌, ℕ, suc, true, List, [], ◌∷◌, ◌++◌, Option, None, Some}
+use Rattle.std.proofs.Common.{refl}
+use Rattle.std.proofs.lemmas.Bool.Decides.{nat_tests}
+use Rattle.std.specs.Prelude.{slice_get}
 use Rattle.std.proofs.lemmas.Bool.{and_parts, eqb-true, false≢true}
 use Rattle.std.proofs.lemmas.Option.{same_Some}
-use Rattle.psci_board.specs.Board.{BoardValue, height, up}
-use Rattle.psci_ctl_spec.specs.psci_messages.declared.part.Part.{Part}
-use Rattle.psci_ctl_spec.specs.psci_messages.declared.kind.Kind.{Kind}
+use Rattle.psci_headline.proofs.Words.{BoardValue, Part, Kind, AckValue, MessageValue, Deepens}
+use Rattle.psci_headline.proofs.Words.{message_effect, is_on_path, listed, Event, Deliver, Wake}
+use Rattle.psci_headline.proofs.Words.{Reset, Record, Said, Acked, control, controller_values}
+use Rattle.psci_headline.proofs.Words.{delivered, sent_in, IsReplied, indexed}
 use Rattle.psci_ctl_spec.specs.psci_messages.declared.kind.Kind.TheVariants as kinds
-use Rattle.psci_ctl_spec.specs.psci_messages.Message.{AckValue, MessageValue}
 use Rattle.psci_ctl_spec.specs.declared.call.CtlCall.TheVariants as asked
 use Rattle.psci_ctl_spec.specs.declared.delivery.Delivery.TheVariants as deliveries
 use Rattle.psci_ctl_spec.specs.declared.reply.CtlReply.TheVariants as replied
-use Rattle.psci_ctl_spec.specs.psci_messages.declared.start.Cause.TheVariants as causes
-use Rattle.psci_ctl_spec.specs.Effects.{Effect, Nothing, Starts, Deepens, Ends, Begins, effect_of}
-use Rattle.psci_ctl_spec.specs.Effects.{message_effect}
+use Rattle.psci_ctl_spec.specs.Effects.{Effect, effect_of}
 use Rattle.psci_ctl_spec.specs.Exchange as controller
 use Rattle.psci_ctl_spec.specs.History as controls
 use Rattle.psci_ctl_spec.specs.Lasting.{Applies, WasApplied, keeps_life}
-use Rattle.psci_ctl_spec.specs.Replies.{ack_by, delivery_of, is_this_life, reply}
+use Rattle.psci_ctl_spec.specs.Replies.{delivery_of, reply}
 use Rattle.psci_ctl_spec.specs.Values.{Values}
-use Rattle.psci_board.specs.Paths.{is_on_path}
 use Rattle.psci_ctl_spec.proofs.Front.{take_get}
-use Rattle.psci_fw_laws.specs.psci_fw_spec.Said.{listed}
 use Rattle.psci_fw_laws.specs.Claims.{IsFromMessage}
 use Rattle.psci_fw_laws.proofs.Parts.{part_from}
-use Rattle.psci_world_spec.specs.declared.event.Event.{Event}
-use Rattle.psci_world_spec.specs.declared.event.Event.TheVariants.{Deliver, Wake, Reset}
-use Rattle.psci_world_spec.specs.declared.said.Record.{Record}
-use Rattle.psci_world_spec.specs.declared.said.Said.{Said}
-use Rattle.psci_world_spec.specs.declared.said.Said.TheVariants.{Kick, Acked}
-use Rattle.psci_world_spec.specs.Histories.{control, controller_history, controller_values}
-use Rattle.psci_world_spec.specs.Histories.{delivered, sent, sent_in}
-use Rattle.psci_world_spec.specs.Legal.{IsReplied}
-use Rattle.psci_world_spec.specs.Lists.{indexed}
-use Rattle.psci_headline.proofs.Numbering.{IsAt, at_number}
+use Rattle.psci_world_spec.specs.declared.said.Said.TheVariants.{Kick}
+use Rattle.psci_world_spec.specs.Histories.{controller_history, sent}
+use Rattle.psci_headline.proofs.Deliveries.{present_life}
+use Rattle.psci_headline.proofs.Items.{IsListed, at_number}
 
 -- A delivery ----------------------------------------------------------------------------------
 
@@ -45,9 +36,7 @@ applies_within b (Deepens c ps) level place p a = refl
 applies_within b f level place p a = absurd a
 
 life_within : (f : Effect) (o : Option ℕ) → keeps_life f ≡ true → controls.life_by f o ≡ o
-life_within Ends o e = absurd (false≢true e)
-life_within Begins o e = absurd (false≢true e)
-life_within f o e = refl
+life_within f o e = grind (arith, nat_tests, false≢true)
 
 -- What it says of a message that a part of it was applied.
 record IsCarried (b : BoardValue) (level place : ℕ) (m : MessageValue) (p : Part) : Type 0 where
@@ -55,43 +44,16 @@ record IsCarried (b : BoardValue) (level place : ℕ) (m : MessageValue) (p : Pa
   on : is_on_path b m.core.number level place ≡ true
   part : slice_get m.parts level ≡ Some p
 
--- an effect under a test
-applies_under : (b : BoardValue) (t : Bool) (f g : Effect) (level place : ℕ) (p : Part)
-    → (Applies b f level place p → ⊥) → (Applies b g level place p → ⊥)
-    → Applies b (cond t f g) level place p → ⊥
-applies_under b true f g level place p one other a = one a
-applies_under b false f g level place p one other a = other a
-
 carried_by : (b : BoardValue) (m : MessageValue) (a : AckValue) (kind : Kind) (level place : ℕ)
     (p : Part) → m.kind ≡ kind → Applies b (message_effect b m a kind) level place p
     → IsCarried b level place m p
-carried_by b m a kinds.Down level place p e x =
-    record { kind = e; on = x.0; part = take_get m.parts a.applied level p x.1 }
-carried_by b m a kinds.Start level place p e x =
-    absurd (applies_under b (a.applied == 0) Nothing (Starts m.core.number causes.On) level place p
-    (λ y. y) (λ y. y) x)
-carried_by b m a kinds.Off level place p e x = absurd x
-carried_by b m a kinds.Reset level place p e x =
-    absurd (applies_under b (nat_lt m.life b.lives) Begins Ends level place p (λ y. y) (λ y. y) x)
-
--- an acknowledged message is of this life
-present_if : (o : Option ℕ) (life : ℕ) → is_this_life o life ≡ true → o ≡ Some life
-present_if None life e = absurd (false≢true e)
-present_if (Some l) life e = ap Some (eqb-true l life e)
-
-acked_if : (t : Bool) (made a : AckValue)
-    → deliveries.Applied a ≡ cond t (deliveries.Applied made) deliveries.Ignored → t ≡ true
-acked_if true made a e = refl
-acked_if false made a e = absurd (cc)
+carried_by b m a kind level place p e x = grind (arith, nat_tests, take_get)
 
 acked_life : (b : BoardValue) (h : List controller.CtlExchange) (m : MessageValue) (a : AckValue)
     → replied.Delivery (deliveries.Applied a) ≡ reply b (controls.values_of b h) (asked.Deliver m)
     → controls.life b h ≡ Some m.life
 unfolding reply delivery_of controls.values_of
-acked_life b h m a e =
-    let t = is_this_life (controls.life b h) m.life in
-    present_if (controls.life b h) m.life
-    (acked_if t (ack_by b (controls.values_of b h) m m.kind) a cc)
+acked_life b h m a e = grind (arith, nat_tests, present_life)
 
 -- What a record adds --------------------------------------------------------------------------
 
@@ -107,41 +69,28 @@ none_applied : (b : BoardValue) (life level place : ℕ) (p : Part) (ms : List M
     (e : controller.CtlExchange) (h : List controller.CtlExchange)
     → (Applies b (controls.effect_in b e) level place p → ⊥)
     → WasSent b life level place p ms h → WasSent b life level place p ms (e ∷ h)
-none_applied b life level place p ms e h other before is now was = elim was [
-  | inl here ↦ absurd (other here)
-  | inr old ↦ before is.1 (sym (life_within (controls.effect_in b e) (controls.life b h) old.0)
-      ∙ now) old.1
-]
+none_applied b life level place p ms e h other before is now was =
+    grind (arith, nat_tests, life_within)
 
 -- an acknowledged message
 delivery_sent : (b : BoardValue) (life level place : ℕ) (p : Part) (ms : List MessageValue)
-    (m : MessageValue) (a : AckValue) (h : List controller.CtlExchange) → IsAt ms m
+    (m : MessageValue) (a : AckValue) (h : List controller.CtlExchange) → IsListed ms m
     → WasSent b life level place p ms h
     → WasSent b life level place p ms (delivered (Some m) a ++ h)
 unfolding effect_of
-delivery_sent b life level place p ms m a h stands before is now was = elim was [
-  | inl here ↦
-      let f = message_effect b m a m.kind in
-      let carried = carried_by b m a m.kind level place p refl here in
-      let within = applies_within b f level place p here in
-      let present : controls.life b h ≡ Some life =
-      sym (life_within f (controls.life b h) within) ∙ now in
-      let on = and_parts (nat_le level (height b)) _ carried.on in
-      record {
-        index = stands.index;
-        message = m;
-        at = stands.at;
-        part = part_from b life level place m p (record {
-          kind = carried.kind;
-          present = same_Some m.life life (sym (acked_life b h m a is.0) ∙ present);
-          on = sym (eqb-true (up b level m.core.number) place on.1);
-          part = carried.part;
-        });
-      }
-  | inr old ↦
-      let f = message_effect b m a m.kind in
-      before is.1 (sym (life_within f (controls.life b h) old.0) ∙ now) old.1
-]
+delivery_sent b life level place p ms m a h stands before is now was =
+    grind (
+      arith,
+      nat_tests,
+      carried_by,
+      applies_within,
+      life_within,
+      and_parts,
+      part_from,
+      same_Some,
+      acked_life,
+      eqb-true,
+    )
 
 numbered_sent : (b : BoardValue) (life level place : ℕ) (p : Part) (ms : List MessageValue)
     (k : ℕ) (o : Option MessageValue) (a : AckValue) (h : List controller.CtlExchange)

@@ -1,23 +1,16 @@
 -- How many parts of an outstanding Down are applied, once live claims below have their depth.
-use Rattle.std.proofs.Common.{◌≡◌, ℕ, suc, ◌+◌, ◌-◌, ◌<◌, ◌≤◌}
-use Rattle.std.proofs.Common.{List, length, Some, arith, subst, ap, sym, ◌∙◌}
+use Rattle.std.proofs.Common.{◌≡◌, ℕ, suc, ◌+◌, ◌-◌, ◌<◌, ◌≤◌, List, length, Some, arith, subst, ap}
+use Rattle.std.proofs.Common.{sym, ◌∙◌}
+use Rattle.std.proofs.lemmas.Bool.Decides.{nat_tests}
 use Rattle.std.specs.Prelude.{slice_get}
 use Rattle.std.proofs.lemmas.Option.{slice_get_within}
-use Rattle.psci_board.specs.Board.{BoardValue, cores, height, up}
-use Rattle.psci_board.specs.Laws.{ChildLaws, PathLaws}
-use Rattle.psci_ctl_spec.specs.psci_messages.declared.part.Part.{Part}
-use Rattle.psci_board.specs.Board.{domain_of}
-use Rattle.psci_ctl_spec.specs.Parts.{applied}
+use Rattle.psci_headline.proofs.Words.{BoardValue, cores, height, up, ChildLaws, PathLaws, Part}
+use Rattle.psci_headline.proofs.Words.{domain_of, applied, MessageValue, PartByPart, Phase, Pending}
+use Rattle.psci_headline.proofs.Words.{IsClaimOn, IsCurrent, HasDeeper, NonePending, known_below}
+use Rattle.psci_headline.proofs.Words.{AreLive, IsLivePart}
 use Rattle.psci_ctl_spec.specs.Values.{Values}
 use Rattle.psci_ctl_spec.specs.psci_messages.declared.kind.Kind.TheVariants as kinds
-use Rattle.psci_ctl_spec.specs.psci_messages.Message.{MessageValue, PartByPart}
-use Rattle.psci_headline.specs.psci_fw_spec.Phases.{Phase, Pending}
-use Rattle.psci_headline.specs.psci_fw_laws.Claims.{IsClaimOn, IsCurrent}
-use Rattle.psci_headline.specs.psci_fw_laws.Granted.{HasDeeper, NonePending}
-use Rattle.psci_headline.specs.psci_fw_laws.KnownBelow.{known_below}
-use Rattle.psci_headline.specs.psci_fw_laws.Live.{AreLive}
 use Rattle.psci_headline.proofs.fw_laws.Sums.{known_same}
-use Rattle.psci_headline.specs.Waiting.{IsLivePart}
 use Rattle.psci_headline.proofs.Claimed.{AreDeep, AreFirst, claim_deep}
 use Rattle.psci_headline.proofs.Covering.{AreCovered, OthersDeep, applied_at_least}
 use Rattle.psci_headline.proofs.Unclaimed.{part_claims}
@@ -94,9 +87,7 @@ covered_so : (b : BoardValue) (life : ℕ) (known : ℕ → ℕ) (phase : ℕ �
 covered_so b life known phase sent w r level m p is down low part live = record {
   core = down.core;
   few = omega (arith, within);
-  level = λ k q at.
-      let inside = slice_get_within m.parts k q at in
-      (down.parts.level k q at, omega (arith, inside, down.few));
+  level = λ k q at. grind (arith, nat_tests, slice_get_within);
   falls = λ k q s at next.
       let more : suc k ≡ k + 1 = omega arith in
       down.parts.falls k q s at (ap (slice_get m.parts) (sym more) ∙ next);

@@ -1,48 +1,27 @@
 -- What is so after a started core has entered.
-use Rattle.std.proofs.Common.{◌≡◌, ℕ, ◌<◌, Bool, true, false, ◌==◌, cond, List, ◌∷◌, ◌++◌, length}
-use Rattle.std.proofs.Common.{Option, None, Some, option_map, unwrap_or, refl, subst, ap, sym, ◌∙◌}
-use Rattle.std.specs.Prelude.{nat_lt}
+use Rattle.std.proofs.Common.{arith, ◌≡◌, ℕ, ◌<◌, ◌==◌, cond, List, ◌∷◌, ◌++◌, length, Option, None}
+use Rattle.std.proofs.Common.{Some, option_map, unwrap_or, refl, subst, ap, sym, ◌∙◌}
+use Rattle.std.proofs.lemmas.Bool.Decides.{nat_tests}
 use Rattle.std.proofs.lemmas.Bool.{cond-true, cond-false, eq-eqb, lt-ltb, ne_eqb}
-use Rattle.psci_board.specs.Board.{BoardValue, cores}
-use Rattle.psci_ctl_spec.specs.psci_messages.declared.start.Start.{Start}
-use Rattle.psci_ctl_spec.specs.Replies.{last_start}
+use Rattle.psci_headline.proofs.Words.{BoardValue, cores, Start, last_start, MessageValue, OfCore}
+use Rattle.psci_headline.proofs.Words.{Act, Outcome, change, enter_effect, enter_outcome, IsLegal}
+use Rattle.psci_headline.proofs.Words.{in_life, listed, Values, IsAllowed, Enter, Started, Record}
+use Rattle.psci_headline.proofs.Words.{Fw, Sent, acks, call, controller_values, entered}
+use Rattle.psci_headline.proofs.Words.{firmware_values, outcome_in, sent_in, IsLegalPast, indexed}
+use Rattle.psci_headline.proofs.Words.{step, place_after, place_said, NoneRefused}
 use Rattle.psci_ctl_spec.specs.psci_messages.declared.kind.Kind.TheVariants as kinds
-use Rattle.psci_ctl_spec.specs.psci_messages.Message.{MessageValue}
-use Rattle.psci_ctl_spec.specs.psci_messages.Slots.{Clear, OfCore, Slot, changed, is_slot, slot_of}
 use Rattle.psci_headline.specs.psci_fw_spec.declared.call.FwCall.TheVariants as calls
-use Rattle.psci_headline.specs.psci_fw_spec.declared.outcome.Act.{Act}
 use Rattle.psci_headline.specs.psci_fw_spec.declared.outcome.Act.TheVariants as acts
-use Rattle.psci_headline.specs.psci_fw_spec.declared.outcome.Outcome.{Outcome}
 use Rattle.psci_headline.specs.psci_fw_spec.declared.reply.FwReply.TheVariants as replies
-use Rattle.psci_headline.specs.psci_fw_spec.After.{change}
-use Rattle.psci_headline.specs.psci_fw_spec.Answer.{answer, reply_or}
-use Rattle.psci_headline.specs.psci_fw_spec.Effects.{enter_effect}
-use Rattle.psci_headline.specs.psci_fw_spec.Entering.{enter_outcome}
+use Rattle.psci_headline.specs.psci_fw_spec.Answer.{answer}
 use Rattle.psci_headline.specs.psci_fw_spec.Exchange as firmware
 use Rattle.psci_headline.specs.psci_fw_spec.History as remembers
-use Rattle.psci_headline.specs.psci_fw_spec.Legal.{IsLegal}
-use Rattle.psci_headline.specs.psci_fw_spec.Lives.{in_life}
-use Rattle.psci_headline.specs.psci_fw_spec.Said.{listed}
-use Rattle.psci_headline.specs.psci_fw_spec.Values.{Values}
-use Rattle.psci_headline.specs.psci_fw_laws.Allowed.{IsAllowed}
-use Rattle.psci_headline.specs.psci_world_spec.declared.event.Event.TheVariants.{Enter}
-use Rattle.psci_headline.specs.psci_world_spec.declared.place.Place.TheVariants.{Started}
-use Rattle.psci_headline.specs.psci_world_spec.declared.said.Record.{Record}
-use Rattle.psci_headline.specs.psci_world_spec.declared.said.Said.TheVariants.{Absent, Fw}
-use Rattle.psci_headline.specs.psci_world_spec.declared.said.Sent.{Sent}
-use Rattle.psci_headline.specs.psci_world_spec.Histories.{acks, call, controller_history}
-use Rattle.psci_headline.specs.psci_world_spec.Histories.{controller_values}
-use Rattle.psci_headline.specs.psci_world_spec.Histories.{entered, firmware_history}
-use Rattle.psci_headline.specs.psci_world_spec.Histories.{firmware_values}
-use Rattle.psci_headline.specs.psci_world_spec.Histories.{outcome_in, sent, sent_in}
-use Rattle.psci_headline.specs.psci_world_spec.Legal.{IsLegalPast, if_started, legal}
-use Rattle.psci_headline.specs.psci_world_spec.Legal.{said_of, sent_as}
-use Rattle.psci_headline.specs.psci_world_spec.Lists.{indexed}
-use Rattle.psci_headline.specs.psci_world_spec.Places.{place, place_after, place_said}
+use Rattle.psci_headline.specs.psci_world_spec.Histories.{controller_history, firmware_history}
+use Rattle.psci_headline.specs.psci_world_spec.Histories.{sent}
+use Rattle.psci_headline.specs.psci_world_spec.Legal.{legal, sent_as}
+use Rattle.psci_headline.specs.psci_world_spec.Places.{place}
 use Rattle.psci_headline.proofs.world_spec.Answered.{firmware_legal}
-use Rattle.psci_headline.specs.Refusals.{NoneRefused}
 use Rattle.psci_headline.proofs.Agreed.{RunLaws}
-use Rattle.psci_headline.specs.Settling.{step}
 use Rattle.psci_headline.proofs.Finding.{numbered_old}
 
 -- Effects --------------------------------------------------------------------------------------
@@ -51,39 +30,14 @@ use Rattle.psci_headline.proofs.Finding.{numbered_old}
 pub entry_halting : (b : BoardValue) (v : Values) (c : ℕ) (s : Start) (act : Act)
     (o : Option MessageValue)
     → (change b (enter_effect c s act o) v).halting ≡ (in_life b s.life v).halting
-entry_halting b v c s acts.Stop (Some m) = refl
-entry_halting b v c s acts.Stop None = refl
-entry_halting b v c s act o = refl
-
-cleared_from : (t : Bool) (o : Option MessageValue) (m : MessageValue) → cond t None o ≡ Some m
-    → o ≡ Some m
-cleared_from true o m e = absurd (cc)
-cleared_from false o m e = e
-
-put_from : (t : Bool) (o : Option MessageValue) (n m : MessageValue) → n.kind ≡ kinds.Down
-    → cond t (Some n) o ≡ Some m → m.kind ≡ kinds.Start → o ≡ Some m
-put_from true o n m down e start =
-    let same : n ≡ m = cc in
-    let no : kinds.Down ≡ kinds.Start =
-    sym down ∙ ap (λ (x : MessageValue). x.kind) same ∙ start in
-    absurd (cc)
-put_from false o n m down e start = e
+entry_halting b v c s act o = grind (arith, nat_tests)
 
 -- and leaves no Start outstanding that was not
 pub entry_slots : (b : BoardValue) (v : Values) (c : ℕ) (s : Start) (act : Act)
     (o : Option MessageValue) (x : ℕ) (m : MessageValue) → IsAllowed b v (enter_effect c s act o)
     → (change b (enter_effect c s act o) v).outstanding (OfCore x) ≡ Some m
     → m.kind ≡ kinds.Start → (in_life b s.life v).outstanding (OfCore x) ≡ Some m
-entry_slots b v c s acts.Stop (Some n) x m allowed e start =
-    let found : Slot → Option MessageValue = (in_life b s.life v).outstanding in
-    cleared_from (c == x) (found (OfCore x)) m
-    (put_from (is_slot (slot_of n.kind n.core) (OfCore x))
-    (changed (OfCore x) (Clear (record { number = c })) (found (OfCore x))) n m
-    allowed.claim.kind e start)
-entry_slots b v c s acts.Stop None x m allowed e start =
-    cleared_from (c == x) ((in_life b s.life v).outstanding (OfCore x)) m e
-entry_slots b v c s act o x m allowed e start =
-    cleared_from (c == x) ((in_life b s.life v).outstanding (OfCore x)) m e
+entry_slots b v c s act o x m allowed e start = grind (arith, nat_tests)
 
 -- The record -----------------------------------------------------------------------------------
 
@@ -108,10 +62,7 @@ has_outcome b past c free on at =
       last = may.1;
       act = o.act;
       sends = sent_as (length (sent past)) o.message;
-      said = cond-true (nat_lt c (cores b)) _ Absent (lt-ltb c (cores b) on)
-          ∙ ap (λ p. if_started b past c p (last_start (controller_values b past) c)) at
-          ∙ ap (if_started b past c Started) may.1
-          ∙ ap (λ f. said_of (length (sent past)) (reply_or f o)) may.2;
+      said = grind (arith, nat_tests, cond-true, lt-ltb);
     }
 
 -- What is so after an entry of a started core.

@@ -1,30 +1,20 @@
 -- Each claim of a list was asked for when it was made.
-use Rattle.std.proofs.Common.{◌≡◌, ℕ, zero, suc, ◌+◌, ◌<◌, ◌≤◌, Bool, true, false, ◌==◌, cond}
-use Rattle.std.proofs.Common.{List, [], ◌∷◌, filter, Some, refl, ap, sym, ◌∙◌}
-use Rattle.std.proofs.Common.{subst, arith}
+use Rattle.std.proofs.Common.{◌≡◌, ℕ, zero, suc, ◌+◌, ◌<◌, ◌≤◌, Bool, true, false, cond, List, []}
+use Rattle.std.proofs.Common.{◌∷◌, filter, Some, refl, ap, sym, ◌∙◌, arith}
+use Rattle.std.proofs.lemmas.Bool.Decides.{nat_tests}
 use Rattle.std.specs.Prelude.{nat_le, slice_get}
 use Rattle.std.specs.List.{list_all, range_with_len}
 use Rattle.std.proofs.lemmas.Bool.{and_from, cond_both, cond-true, eq-eqb, eqb-true, le-leb}
-use Rattle.psci_board.specs.Board.{BoardValue, HasNode, below, cores, height}
-use Rattle.psci_board.specs.Board.{size_below, up}
-use Rattle.psci_board.specs.declared.node.Node.{Node}
-use Rattle.psci_fw_laws.specs.psci_messages.declared.part.Part.{Part}
-use Rattle.psci_ctl_spec.specs.psci_messages.Message.{MessageValue}
-use Rattle.psci_fw_laws.specs.psci_messages.psci_state.Cores.{asks}
-use Rattle.psci_board.specs.Paths.{is_on_path}
-use Rattle.psci_fw_laws.specs.psci_fw_spec.declared.mode.SuspendMode.{SuspendMode}
+use Rattle.psci_headline.proofs.Words.{BoardValue, HasNode, below, cores, Node, Part, MessageValue}
+use Rattle.psci_headline.proofs.Words.{is_on_path, SuspendMode, start_of_life, Values, part_for}
+use Rattle.psci_headline.proofs.Words.{Record, firmware_values, sent_in, Claim, claim_by}
+use Rattle.psci_headline.proofs.Words.{IsAskedFor}
+use Rattle.psci_board.specs.Board.{up}
 use Rattle.psci_fw_laws.specs.psci_fw_spec.declared.mode.SuspendMode.TheVariants.{Platform}
 use Rattle.psci_fw_laws.specs.psci_fw_spec.declared.mode.SuspendMode.TheVariants.{OsInitiated}
-use Rattle.psci_fw_laws.specs.psci_fw_spec.Lives.{first_phase, start_of_life}
-use Rattle.psci_fw_laws.specs.psci_fw_spec.Phases.{Away, Pending, Phase, activity_of}
-use Rattle.psci_fw_laws.specs.psci_fw_spec.Values.{Values}
 use Rattle.psci_fw_laws.specs.psci_fw_spec.Views.{ask}
-use Rattle.psci_fw_laws.specs.Asked.{IsAskedFor}
-use Rattle.psci_fw_laws.specs.Claims.{part_for}
 use Rattle.psci_fw_laws.proofs.Parts.{HasPart, part_has}
-use Rattle.psci_world_spec.specs.declared.said.Record.{Record}
-use Rattle.psci_world_spec.specs.Histories.{firmware_values, sent_in}
-use Rattle.psci_headline.specs.Claims.{Claim, all_ask, asks_by, claim_by, claims}
+use Rattle.psci_headline.specs.Claims.{all_ask, asks_by, claims}
 use Rattle.psci_headline.proofs.Claiming.{by_claim}
 
 -- All cores below a domain ---------------------------------------------------------------------
@@ -47,9 +37,7 @@ all_below : (b : BoardValue) (n : Node) (p : ℕ → Bool)
     → ((c : ℕ) → c < cores b → up b n.level c ≡ n.place → p c ≡ true)
     → list_all p (below b n) ≡ true
 unfolding up
-all_below b n p each =
-    all_kept p (λ c. up b n.level c == n.place) 0 (size_below b.levels)
-    (λ c low high e. each c (omega arith) (eqb-true _ _ e))
+all_below b n p each = grind (arith, nat_tests, all_kept, eqb-true)
 
 -- The claim of a message -----------------------------------------------------------------------
 
@@ -73,34 +61,11 @@ asked_by b life v n m p fair e =
 
 -- The start of a life --------------------------------------------------------------------------
 
--- a core that is away asks for power-down of its domains
-away_asks : (b : BoardValue) (level c : ℕ) (phase : Phase) → level ≤ height b → phase ≡ Away
-    → nat_le 3 (cond (nat_le level (height b)) (asks (activity_of phase) level) 0) ≡ true
-away_asks b level c phase low away =
-    le-leb 3 _ (subst (λ d. 3 ≤ d)
-    (sym (cond-true (nat_le level (height b)) (asks (activity_of phase) level) 0 (le-leb _ _ low)
-    ∙ ap (λ (x : Phase). asks (activity_of x) level) away))
-    (omega arith))
-
--- a core that the boot core's path does not lead to is away
-away_first : (b : BoardValue) (n : Node) (c : ℕ) → HasNode b n
-    → is_on_path b 0 n.level n.place ≡ false → up b n.level c ≡ n.place → first_phase c ≡ Away
-away_first b n c has off at =
-    cond_both (c == 0) Pending Away (λ x. x ≡ Away)
-    (λ e.
-    let zero : c ≡ 0 = eqb-true _ _ e in
-    let on : is_on_path b 0 n.level n.place ≡ true =
-    and_from (nat_le n.level (height b)) (up b n.level 0 == n.place) (le-leb _ _ has.level)
-    (eq-eqb _ _ (ap (up b n.level) (sym zero) ∙ at)) in
-    absurd (cc))
-    (λ e. refl)
-
 start_asked : (b : BoardValue) (life : ℕ) (n : Node) → HasNode b n
     → is_on_path b 0 n.level n.place ≡ false
     → all_ask b (start_of_life b life) n 3 n.level ≡ true
 start_asked b life n has off =
-    all_below b n (λ c. nat_le 3 (ask b (start_of_life b life) c n.level))
-    (λ c on at. away_asks b n.level c (first_phase c) has.level (away_first b n c has off at))
+    grind (arith, nat_tests, all_below, le-leb, cond-true, cond_both, eqb-true, and_from, eq-eqb)
 
 first_asked : (first : Claim) (t : Bool) (k : ℕ) (x : Claim) → (t ≡ false → first.asked ≡ true)
     → slice_get (cond t [] (first ∷ [])) k ≡ Some x → x.asked ≡ true

@@ -1,30 +1,17 @@
 -- What is so once the started cores have entered and each Start was served.
-use Rattle.std.proofs.Common.{◌≡◌, ℕ, ◌⊎◌, inl, inr, ◌<◌, false, cond}
-use Rattle.std.proofs.Common.{List, Some, refl, subst, ap, sym, ◌∙◌}
-use Rattle.psci_board.specs.Board.{BoardValue, cores}
+use Rattle.std.proofs.Common.{arith, ◌≡◌, ℕ, ◌⊎◌, inl, inr, ◌<◌, false, List, Some, refl, subst, ap}
+use Rattle.std.proofs.Common.{sym, ◌∙◌}
+use Rattle.std.proofs.lemmas.Bool.Decides.{nat_tests}
+use Rattle.psci_headline.proofs.Words.{BoardValue, cores, MessageValue, OfCore, in_life, Values}
+use Rattle.psci_headline.proofs.Words.{Enter, Started, Record, controller_values, firmware_values}
+use Rattle.psci_headline.proofs.Words.{sent, IsLegalPast, indexed, place, deliveries, step}
+use Rattle.psci_headline.proofs.Words.{legal_record, entering}
 use Rattle.psci_ctl_spec.specs.Values as controlled
 use Rattle.psci_ctl_spec.specs.psci_messages.declared.kind.Kind.TheVariants as kinds
-use Rattle.psci_ctl_spec.specs.psci_messages.Message.{MessageValue}
-use Rattle.psci_ctl_spec.specs.psci_messages.Slots.{OfCore}
-use Rattle.psci_headline.specs.psci_fw_spec.Lives.{in_life}
-use Rattle.psci_headline.specs.psci_fw_spec.Values.{Values}
 use Rattle.psci_headline.proofs.fw_laws.Arriving.{found_life}
-use Rattle.psci_headline.specs.psci_world_spec.declared.event.Event.TheVariants.{Enter}
-use Rattle.psci_headline.specs.psci_world_spec.declared.place.Place.{Place}
-use Rattle.psci_headline.specs.psci_world_spec.declared.place.Place.TheVariants.{Started, Running}
-use Rattle.psci_headline.specs.psci_world_spec.declared.place.Place.TheVariants.{Stopped}
-use Rattle.psci_headline.specs.psci_world_spec.declared.said.Record.{Record}
-use Rattle.psci_headline.specs.psci_world_spec.Histories.{controller_values, firmware_values}
-use Rattle.psci_headline.specs.psci_world_spec.Histories.{sent}
-use Rattle.psci_headline.specs.psci_world_spec.Legal.{IsLegalPast, legal_record}
-use Rattle.psci_headline.specs.psci_world_spec.Lists.{indexed}
-use Rattle.psci_headline.specs.psci_world_spec.Places.{place}
 use Rattle.psci_headline.proofs.Agreeing.{found_own}
 use Rattle.psci_headline.proofs.Moving.{entry_moves}
 use Rattle.psci_headline.proofs.Placing.{last_is}
-use Rattle.psci_headline.specs.Drained.{deliveries}
-use Rattle.psci_headline.specs.Settling.{entering}
-use Rattle.psci_headline.specs.Settling.{is_started, step}
 use Rattle.psci_headline.proofs.Arrivals.{HaveArrived, arrives, entry_halting, entry_slots}
 use Rattle.psci_headline.proofs.Arrivals.{same_control, same_numbers}
 use Rattle.psci_headline.proofs.Counting.{AreAdded, one_added}
@@ -129,13 +116,7 @@ enters_in b before life past c laws way on at = record {
 entering_case : (b : BoardValue) (past : List Record) (c : ℕ) (P : List Record → Type 0)
     → (place b past c ≡ Started → P (step b past (Enter c))) → (HasEntered b c past → P past)
     → P (entering b past c)
-entering_case b past c P in_now not_now = by_place (place b past c) refl
-  where
-    by_place : (p : Place) → place b past c ≡ p
-        → P (cond (is_started p) (step b past (Enter c)) past)
-    by_place Started e = in_now e
-    by_place Running e = not_now (λ f. let no : Running ≡ Started = sym e ∙ f in cc)
-    by_place Stopped e = not_now (λ f. let no : Stopped ≡ Started = sym e ∙ f in cc)
+entering_case b past c P in_now not_now = grind (arith, nat_tests)
 
 -- so an entry of each core, if it is started, with whatever else it leaves
 pub enter_step : (b : BoardValue) (before : List Record) (life : ℕ) (Kept : List Record → Type 0)

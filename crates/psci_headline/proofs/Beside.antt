@@ -1,33 +1,20 @@
 -- What is told of the domains beside a core's path, as the core stops, enters or is asked on; and
 -- what is then told of all.
-use Rattle.std.proofs.Common.{◌≡◌, ℕ, ◌⊎◌, ◌<◌, inl, inr, Bool, true, false, cond}
-use Rattle.std.proofs.Common.{Option, None, Some, refl, arith, subst, ap, sym, ◌∙◌}
+use Rattle.std.proofs.Common.{◌≡◌, ℕ, ◌⊎◌, ◌<◌, inl, inr, Bool, true, false, cond, Option, None}
+use Rattle.std.proofs.Common.{Some, refl, arith, subst, ap, sym, ◌∙◌}
+use Rattle.std.proofs.lemmas.Bool.Decides.{nat_tests}
 use Rattle.std.specs.Prelude.{slice_get}
 use Rattle.std.proofs.lemmas.Bool.{cases_eq}
-use Rattle.psci_headline.specs.psci_board.Board.{BoardValue, cores, up}
-use Rattle.psci_headline.specs.psci_board.Laws.{PathLaws}
-use Rattle.psci_headline.specs.psci_board.Paths.{is_path_place}
-use Rattle.psci_headline.specs.psci_messages.declared.part.Part.{Part}
+use Rattle.psci_headline.proofs.Words.{BoardValue, cores, up, PathLaws, is_path_place, Part, Start}
+use Rattle.psci_headline.proofs.Words.{MessageValue, OfCore, Put, Slot, changed, slot_of, PowerOn}
+use Rattle.psci_headline.proofs.Words.{target, with_arrival, with_pending, in_life, Phase, Away}
+use Rattle.psci_headline.proofs.Words.{Values, KnownLaws, AreConfirming, IsYetToCome, Rest}
+use Rattle.psci_headline.proofs.Words.{with_phase, with_rest, unless_claimed, claimed_or, known_on}
+use Rattle.psci_headline.proofs.Words.{IsConfirmedOr, IsOffOr, IsOutstanding}
 use Rattle.psci_headline.specs.psci_messages.declared.kind.Kind.TheVariants as kinds
-use Rattle.psci_headline.specs.psci_messages.declared.start.Start.{Start}
-use Rattle.psci_headline.specs.psci_messages.Message.{MessageValue}
-use Rattle.psci_headline.specs.psci_messages.Slots.{OfCore, Put, Slot, changed, slot_of}
-use Rattle.psci_headline.specs.psci_fw_spec.declared.status.Status.TheVariants.{Off}
-use Rattle.psci_headline.specs.psci_fw_spec.declared.status.Status.TheVariants as statuses
-use Rattle.psci_headline.specs.psci_fw_spec.Changes.{PowerOn, Rest, target, with_arrival}
-use Rattle.psci_headline.specs.psci_fw_spec.Changes.{with_claims, with_pending, with_phase}
-use Rattle.psci_headline.specs.psci_fw_spec.Changes.{with_rest, with_running}
-use Rattle.psci_headline.specs.psci_fw_spec.Confirmed.{unless_claimed}
-use Rattle.psci_headline.specs.psci_fw_spec.Lives.{in_life}
-use Rattle.psci_headline.specs.psci_fw_spec.Paths.{claimed_or}
-use Rattle.psci_headline.specs.psci_fw_spec.Phases.{Phase, Away, Pending, Running, unless_pending}
-use Rattle.psci_headline.specs.psci_fw_spec.Values.{Values, updated}
-use Rattle.psci_headline.specs.psci_fw_laws.KnownBelow.{KnownLaws, known_below}
-use Rattle.psci_headline.specs.psci_fw_laws.Messages.{known_on}
+use Rattle.psci_headline.specs.psci_fw_spec.Changes.{with_claims, with_running}
 use Rattle.psci_headline.proofs.fw_laws.Parts.{updated_here, updated_there}
 use Rattle.psci_headline.proofs.Slots.{clear_there, put_here, put_there}
-use Rattle.psci_headline.specs.Confirming.{AreConfirming, IsConfirmedOr, IsOffOr, IsOutstanding}
-use Rattle.psci_headline.specs.Confirming.{IsYetToCome}
 use Rattle.psci_headline.proofs.Coming.{not_at, on_path, other_core, sum_beside, yet_still}
 
 -- What is told of the domains beside a core's path, and of the other cores.
@@ -46,21 +33,11 @@ IsFlat b v c = (level place : ℕ) → is_path_place b c level place ≡ true
 
 pub phased : (b : BoardValue) (starts : ℕ → ℕ) (v : Values) (c : ℕ) (left : Phase)
     → AreBeside b starts v c → AreBeside b starts (with_phase c left v) c
-phased b starts v c left are = record {
-  domains = are.domains;
-  cores = λ awake x on other away.
-      are.cores awake x on other
-      (sym (updated_there v.phase c (unless_pending (v.phase c) left) x other) ∙ away);
-}
+phased b starts v c left are = grind (arith, nat_tests, updated_there)
 
 pub rested : (b : BoardValue) (starts : ℕ → ℕ) (v : Values) (c : ℕ) (rest : Rest)
     → AreConfirming b starts v → AreBeside b starts (with_rest c rest v) c
-rested b starts v c rest are = record {
-  domains = λ level place off. are.domains level place;
-  cores = λ awake x on other away.
-      are.cores awake x on
-      (sym (updated_there v.phase c (unless_pending (v.phase c) rest.phase) x other) ∙ away);
-}
+rested b starts v c rest are = grind (arith, nat_tests, updated_there)
 
 pub arrived : (b : BoardValue) (starts : ℕ → ℕ) (v : Values) (c : ℕ) (s : Start)
     → KnownLaws b → PathLaws b → AreConfirming b starts (in_life b s.life v)
@@ -95,9 +72,7 @@ arrived b starts v c s laws paths are = record {
 
 pub arrived_flat : (b : BoardValue) (v : Values) (c : ℕ) (s : Start)
     → IsFlat b (with_arrival b c s v) c
-arrived_flat b v c s level place on some =
-    let none = ap (λ t. cond t 0 ((in_life b s.life v).granted level place)) on in
-    absurd (omega (arith, none, subst (λ d. 0 < d) none some))
+arrived_flat b v c s level place on some = grind (arith, nat_tests)
 
 -- All ------------------------------------------------------------------------------------------
 
@@ -105,31 +80,13 @@ arrived_flat b v c s level place on some =
 pub all_domains : (b : BoardValue) (starts : ℕ → ℕ) (v : Values) (c : ℕ)
     → AreBeside b starts v c → IsFlat b v c → (level place : ℕ) → 0 < v.granted level place
     → IsConfirmedOr b starts v level place
-all_domains b starts v c are flat level place some =
-    by_test (is_path_place b c level place) refl
-  where
-    by_test : (t : Bool) → is_path_place b c level place ≡ t → IsConfirmedOr b starts v level place
-    by_test true on = absurd (flat level place on some)
-    by_test false off = are.domains level place off some
+all_domains b starts v c are flat level place some = grind (arith, nat_tests)
 
 -- a core that entered runs
 pub runs : (b : BoardValue) (starts : ℕ → ℕ) (v : Values) (c : ℕ) → AreBeside b starts v c
     → IsFlat b v c → AreConfirming b starts (with_running c v)
-runs b starts v c are flat = record {
-  domains = all_domains b starts v c are flat;
-  cores = λ awake x on away. elim (cases_eq x c) [
-    | inl same ↦
-        let no : Running ≡ Away =
-        sym (ap (updated v.phase c Running) same ∙ updated_here v.phase c Running) ∙ away in
-        absurd (cc)
-    | inr other ↦
-        elim (are.cores awake x on other
-        (sym (updated_there v.phase c Running x other) ∙ away)) [
-          | inl was ↦ inl (updated_there v.status c statuses.On x other ∙ was)
-          | inr yet ↦ inr yet
-        ]
-  ];
-}
+runs b starts v c are flat =
+    grind (arith, nat_tests, all_domains, cases_eq, updated_here, updated_there)
 
 -- a Down was sent, whose parts are of the known starts
 module _ (b : BoardValue) (starts : ℕ → ℕ) (v : Values) (m : MessageValue) (first : Part)
@@ -146,15 +103,7 @@ module _ (b : BoardValue) (starts : ℕ → ℕ) (v : Values) (m : MessageValue)
   -- it is outstanding for the domains on its path
   here : (level place : ℕ) (p : Part) → slice_get m.parts level ≡ Some p
       → up b level m.core.number ≡ place → IsOutstanding b v.known sends level place
-  here level place p listed on = record {
-    message = m;
-    kind = kind;
-    at = put_here v.outstanding m m.core.number slot;
-    on = on;
-    part = p;
-    listed = listed;
-    current = current level p listed ∙ ap (known_below b v.known level) on;
-  }
+  here level place p listed on = grind (arith, nat_tests, put_here)
 
   -- and for the others all is as before
   there : (level place : ℕ) → is_path_place b m.core.number level place ≡ false
@@ -234,15 +183,6 @@ module _ (b : BoardValue) (starts : ℕ → ℕ) (v : Values) (asked : PowerOn) 
   pub pends : AreConfirming b starts v → AreConfirming b starts (with_pending b asked v)
   pends are = record {
     domains = λ level place. by_target level place (is_path_place b t level place) refl are;
-    cores = λ awake x on away. elim (cases_eq x t) [
-      | inl same ↦
-          let no : Pending ≡ Away =
-          sym (ap (updated v.phase t Pending) same ∙ updated_here v.phase t Pending) ∙ away in
-          absurd (cc)
-      | inr other ↦
-          elim (are.cores awake x on (sym (updated_there v.phase t Pending x other) ∙ away)) [
-            | inl was ↦ inl (updated_there v.status t statuses.Pending x other ∙ was)
-            | inr yet ↦ inr (stays 0 x (other_core b t x paths other) yet)
-          ]
-    ];
+    cores = λ awake x on away.
+        grind (arith, nat_tests, cases_eq, updated_here, updated_there, other_core);
   }

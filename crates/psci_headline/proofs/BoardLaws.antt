@@ -1,21 +1,12 @@
 -- What the laws of the crates below say of a board, and so of every legal run on it.
-use Rattle.std.proofs.Common.{◌≡◌, ℕ, List, subst, sym}
-use Rattle.psci_board.specs.Board.{BoardValue}
-use Rattle.psci_board.specs.Laws.{PathLaws}
-use Rattle.psci_ctl_spec.specs.psci_messages.declared.part.Part.{Part}
+use Rattle.std.proofs.Common.{arith, ◌≡◌, ℕ, List}
+use Rattle.std.proofs.lemmas.Bool.Decides.{nat_tests}
+use Rattle.psci_headline.proofs.Words.{BoardValue, PathLaws, Part, AckLaws, SumLaws, AreClaims}
+use Rattle.psci_headline.proofs.Words.{PartByPart, sent_messages, Holds, Record, controller_values}
+use Rattle.psci_headline.proofs.Words.{firmware_history, firmware_values, sent, IsLegalPast, place}
+use Rattle.psci_headline.proofs.Words.{Agree}
 use Rattle.psci_ctl_spec.specs.Follows.{AreValues}
-use Rattle.psci_ctl_spec.specs.Laws.{AckLaws, SumLaws}
 use Rattle.psci_ctl_spec.specs.Values as controlled
-use Rattle.psci_ctl_spec.specs.psci_messages.Message.{AreClaims, PartByPart}
-use Rattle.psci_headline.specs.psci_fw_spec.Sent.{sent_messages}
-use Rattle.psci_headline.specs.psci_fw_laws.Kept.{Holds}
-use Rattle.psci_headline.specs.psci_world_spec.declared.said.Record.{Record}
-use Rattle.psci_headline.specs.psci_world_spec.Histories.{controller_values, firmware_history}
-use Rattle.psci_headline.specs.psci_world_spec.Histories.{firmware_values}
-use Rattle.psci_headline.specs.psci_world_spec.Histories.{sent}
-use Rattle.psci_headline.specs.psci_world_spec.Legal.{IsLegalPast}
-use Rattle.psci_headline.specs.psci_world_spec.Places.{place}
-use Rattle.psci_headline.specs.Agreement.{Agree}
 use Rattle.psci_headline.proofs.Agreed.{RunLaws}
 use Rattle.psci_headline.proofs.Carried.{IsGiven}
 
@@ -41,16 +32,4 @@ Given b past =
 
 pub is_given : (b : BoardValue) (past : List Record) → BoardLaws b → IsLegalPast b past
     → Given b past
-is_given b past laws is =
-    let agree = laws.agree past is in
-    record {
-      sums = laws.sums;
-      parts = laws.parts;
-      paths = laws.paths;
-      acks = laws.acks;
-      callers = laws.runs.callers;
-      agreed = record { begun = agree.begun; stopped = agree.stopped; present = agree.present };
-      holds = subst (Holds b (firmware_values b past)) (sym (laws.sent past is))
-          (laws.kept past is);
-      lives = (laws.values past is).last;
-    }
+is_given b past laws is = grind (arith, nat_tests)

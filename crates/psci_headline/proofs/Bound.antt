@@ -1,20 +1,15 @@
 -- How many rounds there are until nothing is outstanding, and how often a Down is delivered.
 use Rattle.std.proofs.Common.{◌≡◌, ℕ, zero, suc, inl, inr, ◌+◌, ◌<◌, ◌≤◌, Bool, true, false, cond}
-use Rattle.std.proofs.Common.{List, Option, None, Some, refl, arith, subst, ap, sym, ◌∙◌}
-use Rattle.std.proofs.Common.{◌||◌}
+use Rattle.std.proofs.Common.{List, Option, None, Some, refl, arith, subst, ap, sym, ◌∙◌, ◌||◌}
 use Rattle.std.specs.Prelude.{is_some}
 use Rattle.std.specs.List.{list_any, range_with_len}
 use Rattle.std.proofs.lemmas.Bool.{cases_lt, or_parts}
 use Rattle.std.proofs.lemmas.Option.{slice_get_within}
-use Rattle.psci_board.specs.Board.{BoardValue, cores, height}
+use Rattle.psci_headline.proofs.Words.{BoardValue, cores, height, MessageValue, Record}
+use Rattle.psci_headline.proofs.Words.{controller_values, firmware_values, sent, indexed}
+use Rattle.psci_headline.proofs.Words.{deliveries, served, Reached, is_any}
 use Rattle.psci_ctl_spec.specs.psci_messages.declared.kind.Kind.TheVariants as kinds
-use Rattle.psci_ctl_spec.specs.psci_messages.Message.{MessageValue}
-use Rattle.psci_headline.specs.psci_world_spec.declared.said.Record.{Record}
-use Rattle.psci_headline.specs.psci_world_spec.Histories.{controller_values, firmware_values}
-use Rattle.psci_headline.specs.psci_world_spec.Histories.{sent}
-use Rattle.psci_headline.specs.psci_world_spec.Lists.{indexed}
-use Rattle.psci_headline.specs.Drained.{deliveries}
-use Rattle.psci_headline.specs.Settling.{Reached, served, is_any, is_waiting, round, rounds}
+use Rattle.psci_headline.specs.Settling.{is_waiting, round, rounds}
 use Rattle.psci_headline.proofs.Controls.{IsKnown}
 use Rattle.psci_headline.proofs.Downs.{IsLeft, same_down}
 use Rattle.psci_headline.proofs.Finding.{finds, indexed_at}

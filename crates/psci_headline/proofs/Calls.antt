@@ -1,48 +1,26 @@
 -- What waits, after each effect of the firmware's calls, entries and acknowledgements.
-use Rattle.std.proofs.Common.{◌≡◌, ℕ, ◌<◌, true, false, List, ◌∷◌, ◌++◌, Option, None}
-use Rattle.std.proofs.Common.{Some, refl, subst, ap, sym, ◌∙◌}
-use Rattle.psci_board.specs.Board.{BoardValue, cores}
-use Rattle.psci_board.specs.declared.node.Core.{Core}
-use Rattle.psci_ctl_spec.specs.psci_messages.declared.start.Start.{Start}
+use Rattle.std.proofs.Common.{arith, ◌≡◌, ℕ, ◌<◌, true, false, List, ◌∷◌, ◌++◌, Option, None, Some}
+use Rattle.std.proofs.Common.{subst, ap, sym, ◌∙◌}
+use Rattle.std.proofs.lemmas.Bool.Decides.{nat_tests}
+use Rattle.psci_headline.proofs.Words.{BoardValue, cores, Start, Kind, AckValue, MessageValue}
+use Rattle.psci_headline.proofs.Words.{Clear, changed, is_kind, slot_of, Act, change, with_mode}
+use Rattle.psci_headline.proofs.Words.{target, Effect, GoesOn, SetsMode, AsksOn, Rests, Halts}
+use Rattle.psci_headline.proofs.Words.{Stops, enter_effect, in_life, Phase, Away, Pending}
+use Rattle.psci_headline.proofs.Words.{unless_pending, Values, updated, IsAllowed, AreLive}
+use Rattle.psci_headline.proofs.Words.{WaitingIn}
 use Rattle.psci_ctl_spec.specs.Values as controlled
-use Rattle.psci_ctl_spec.specs.psci_messages.declared.kind.Kind.{Kind}
 use Rattle.psci_ctl_spec.specs.psci_messages.declared.kind.Kind.TheVariants as kinds
-use Rattle.psci_ctl_spec.specs.psci_messages.Message.{AckValue, MessageValue}
-use Rattle.psci_ctl_spec.specs.psci_messages.Slots.{Clear, OfCore, OfSystem, changed, is_kind}
-use Rattle.psci_ctl_spec.specs.psci_messages.Slots.{slot_of}
-use Rattle.psci_headline.specs.psci_fw_spec.declared.outcome.Act.{Act}
 use Rattle.psci_headline.specs.psci_fw_spec.declared.outcome.Act.TheVariants as acts
-use Rattle.psci_headline.specs.psci_fw_spec.After.{change}
-use Rattle.psci_headline.specs.psci_fw_spec.Changes.{with_mode, target}
-use Rattle.psci_headline.specs.psci_fw_spec.Effects.{Effect, GoesOn, SetsMode, AsksOn}
-use Rattle.psci_headline.specs.psci_fw_spec.Effects.{Rests, Halts}
-use Rattle.psci_headline.specs.psci_fw_spec.Effects.{Stops}
-use Rattle.psci_headline.specs.psci_fw_spec.Effects.{enter_effect}
-use Rattle.psci_headline.specs.psci_fw_spec.Lives.{in_life}
-use Rattle.psci_headline.specs.psci_fw_spec.Phases.{Phase, Away, Pending, Running, unless_pending}
+use Rattle.psci_headline.specs.psci_fw_spec.Phases.{Running}
 use Rattle.psci_headline.specs.psci_fw_spec.Said as says
-use Rattle.psci_headline.specs.psci_fw_spec.Values.{Values, updated}
-use Rattle.psci_headline.specs.psci_fw_laws.Allowed.{IsAllowed}
-use Rattle.psci_headline.specs.psci_fw_laws.Live.{AreLive}
-use Rattle.psci_headline.specs.psci_fw_laws.Messages.{is_system}
 use Rattle.psci_headline.proofs.fw_laws.Parts.{updated_here}
+use Rattle.psci_headline.proofs.Slots.{system_slot, down_slot}
 use Rattle.psci_headline.proofs.Moving.{CallerLaws, is_call}
-use Rattle.psci_headline.specs.Waiting.{WaitingIn}
 use Rattle.psci_headline.proofs.Pursuing.{waiting_arrival, waiting_asked, waiting_core}
-use Rattle.psci_headline.proofs.Pursuing.{waiting_halting, waiting_phase, waiting_system}
+use Rattle.psci_headline.proofs.Pursuing.{waiting_halt, waiting_phase}
 use Rattle.psci_headline.proofs.Unclaimed.{none_live_running, none_live_started}
 
 -- Slots ----------------------------------------------------------------------------------------
-
-system_slot : (k : Kind) (core : Core) → is_system k ≡ true → slot_of k core ≡ OfSystem
-system_slot kinds.Down core e = absurd (cc)
-system_slot kinds.Start core e = absurd (cc)
-system_slot kinds.Off core e = refl
-system_slot kinds.Reset core e = refl
-
-down_slot : (m : MessageValue) (c : ℕ) → m.kind ≡ kinds.Down → m.core.number ≡ c
-    → slot_of m.kind m.core ≡ OfCore c
-down_slot m c kind core = ap (λ k. slot_of k m.core) kind ∙ ap OfCore core
 
 not_down : (k : Kind) → is_kind k kinds.Down ≡ false → k ≡ kinds.Down → ⊥
 not_down k other e =
@@ -59,11 +37,7 @@ rested : (b : BoardValue) (life : ℕ) (w : controlled.Values) (v : Values)
     → v.phase c ≡ Running → (left ≡ Pending → ⊥) → WaitingIn b life w v sent made
     → WaitingIn b life w
     (record v { phase = updated v.phase c (unless_pending (v.phase c) left) }) sent made
-rested b life w v sent made c left runs ne =
-    waiting_phase b life w.starts w.depth v.halting v.known v.phase v.outstanding sent made c
-    (unless_pending (v.phase c) left)
-    (λ e. let no : Running ≡ Pending = sym runs ∙ e in absurd (cc))
-    (λ e. absurd (ne (sym (left_by (v.phase c) left runs) ∙ e)))
+rested b life w v sent made c left runs ne h = grind (arith, nat_tests, waiting_phase, left_by)
 
 pub call_waits : (b : BoardValue) (life : ℕ) (w : controlled.Values) (v : Values)
     (sent : List MessageValue) (made : List AckValue) (e : Effect) → CallerLaws b
@@ -78,24 +52,18 @@ call_waits b life w v sent made (SetsMode c mode) laws is allowed live h =
 call_waits b life w v sent made (AsksOn c asked) laws is allowed live h =
     subst (λ u. WaitingIn b life w u (asked.message ∷ sent) made)
     (sym (laws.asks_on v c asked allowed.calls.runs))
-    (waiting_asked b life w.starts w.depth v.halting v.known v.phase v.outstanding sent made
-    asked.message (target asked) (ap (λ k. slot_of k asked.message.core) allowed.kind) allowed.kind
-    h)
+    (waiting_asked h asked.message (target asked)
+    (ap (λ k. slot_of k asked.message.core) allowed.kind) allowed.kind)
 call_waits b life w v sent made (Rests c rest m) laws is allowed live h =
-    let phase : ℕ → Phase = updated v.phase c (unless_pending (v.phase c) rest.phase) in
-    waiting_core b life w.starts w.depth v.halting v.known phase v.outstanding sent made m c
-    (down_slot m c allowed.claim.kind allowed.core) allowed.core
+    waiting_core (rested b life w v sent made c rest.phase allowed.calls.runs allowed.waits h) m c
+    (down_slot m.kind m.core c allowed.claim.kind allowed.core) allowed.core
     (none_live_running b life v.known v.phase sent w.starts c live allowed.calls.core
     allowed.calls.runs)
     (λ awake e. allowed.waits (sym (left_by (v.phase c) rest.phase allowed.calls.runs)
     ∙ sym (updated_here v.phase c (unless_pending (v.phase c) rest.phase)) ∙ e))
-    (rested b life w v sent made c rest.phase allowed.calls.runs allowed.waits h)
 call_waits b life w v sent made (Halts c m) laws is allowed live h =
-    let phase : ℕ → Phase = updated v.phase c (unless_pending (v.phase c) Away) in
-    waiting_system b life w.starts w.depth true v.known phase v.outstanding sent made m
+    waiting_halt (rested b life w v sent made c Away allowed.calls.runs (λ e. cc) h) m
     (system_slot m.kind m.core allowed.system) (not_down m.kind allowed.plain.other)
-    (waiting_halting b life w.starts w.depth v.halting v.known phase v.outstanding sent made
-    (rested b life w v sent made c Away allowed.calls.runs (λ e. cc) h))
 call_waits b life w v sent made (Stops c) laws is allowed live h =
     rested b life w v sent made c Away allowed.calls.runs (λ e. cc) h
 call_waits b life w v sent made e laws is allowed live h = absurd (cc)
@@ -111,9 +79,8 @@ entered_waits : (b : BoardValue) (life : ℕ) (w : controlled.Values) (found : V
       phase = updated found.phase c new;
       outstanding = λ slot. changed slot (Clear (record { number = c })) (found.outstanding slot);
     }) sent made
-entered_waits b life w found sent made c n new on later live rests =
-    waiting_arrival b life w.starts w.depth found.halting found.known found.phase
-    found.outstanding sent made c n new
+entered_waits b life w found sent made c n new on later live rests h =
+    waiting_arrival h c n new
     (none_live_started b life found.known found.phase sent w.starts c live on later) rests
 
 pub entry_waits : (b : BoardValue) (w : controlled.Values) (v : Values)
@@ -127,15 +94,12 @@ pub entry_waits : (b : BoardValue) (w : controlled.Values) (v : Values)
 entry_waits b w v sent made c s acts.Stop (Some m) allowed on later live h =
     let found : Values = in_life b s.life v in
     let new : Phase = unless_pending (found.phase c) Away in
-    let rests : new ≡ Pending → ⊥ = λ e. allowed.claim.rests
-    (ap (updated found.phase c new) allowed.core ∙ updated_here found.phase c new ∙ e) in
-    waiting_core b s.life w.starts w.depth found.halting (updated found.known c s.number)
-    (updated found.phase c new)
-    (λ slot. changed slot (Clear (record { number = c })) (found.outstanding slot)) sent made m c
-    (down_slot m c allowed.claim.kind allowed.core) allowed.core
+    let rests : new ≡ Pending → ⊥ = grind (arith, nat_tests, updated_here) in
+    waiting_core
+    (entered_waits b s.life w found sent made c s.number new on later live (λ awake. rests) h) m c
+    (down_slot m.kind m.core c allowed.claim.kind allowed.core) allowed.core
     (none_live_started b s.life found.known found.phase sent w.starts c live on later)
     (λ awake e. rests (sym (updated_here found.phase c new) ∙ e))
-    (entered_waits b s.life w found sent made c s.number new on later live (λ awake. rests) h)
 entry_waits b w v sent made c s acts.Stop None allowed on later live h =
     let found : Values = in_life b s.life v in
     entered_waits b s.life w found sent made c s.number (unless_pending (found.phase c) Away) on

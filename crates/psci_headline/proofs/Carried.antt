@@ -1,47 +1,31 @@
 -- What waits, after one call of the power controller or of the firmware.
-use Rattle.std.proofs.Common.{◌≡◌, ℕ, zero, suc, ◌+◌, inl, inr, ◌<◌, ◌≤◌, Bool, true, false, ◌==◌}
-use Rattle.std.proofs.Common.{cond, List, ◌∷◌, ◌++◌, Option, Some, refl, arith, subst, ap, sym, ◌∙◌}
+use Rattle.std.proofs.Common.{◌≡◌, ℕ, zero, suc, ◌+◌, inl, inr, ◌<◌, ◌≤◌, Bool, true, false, cond}
+use Rattle.std.proofs.Common.{List, ◌∷◌, ◌++◌, Option, Some, refl, arith, subst, ap, sym, ◌∙◌}
+use Rattle.std.proofs.lemmas.Bool.Decides.{nat_tests}
 use Rattle.std.specs.Prelude.{nat_lt, slice_get}
-use Rattle.std.proofs.lemmas.Bool.{cases_eq, cond_both, eqb-false}
-use Rattle.psci_board.specs.Board.{BoardValue, cores}
-use Rattle.psci_board.specs.Laws.{PathLaws}
-use Rattle.psci_ctl_spec.specs.psci_messages.declared.part.Part.{Part}
-use Rattle.psci_ctl_spec.specs.psci_messages.declared.start.Cause.{Cause}
+use Rattle.std.proofs.lemmas.Bool.{cases_eq}
+use Rattle.psci_headline.proofs.Words.{BoardValue, cores, PathLaws, Part, Cause, Start, next_life}
+use Rattle.psci_headline.proofs.Words.{Nothing, Starts, Ends, Begins, message_effect, MayFollow}
+use Rattle.psci_headline.proofs.Words.{AckLaws, SumLaws, ack_by, last_start, may_follow, Kind}
+use Rattle.psci_headline.proofs.Words.{AckValue, AreClaims, MessageValue, PartByPart, Act, change}
+use Rattle.psci_headline.proofs.Words.{with_acknowledgement, Effect, enter_effect, in_life, Values}
+use Rattle.psci_headline.proofs.Words.{IsAllowed, Holds, AreLive, AreOutstanding, Place, IsNamed}
+use Rattle.psci_headline.proofs.Words.{WaitingIn, AreSent}
 use Rattle.psci_ctl_spec.specs.psci_messages.declared.start.Cause.TheVariants as causes
-use Rattle.psci_ctl_spec.specs.psci_messages.declared.start.Start.{Start}
-use Rattle.psci_ctl_spec.specs.Changes.{next_life}
 use Rattle.psci_ctl_spec.specs.Changes as controlling
 use Rattle.psci_ctl_spec.specs.Effects as controlling_effects
-use Rattle.psci_ctl_spec.specs.Effects.{Nothing, Starts, Deepens, Ends, Begins, message_effect}
-use Rattle.psci_ctl_spec.specs.Follows.{MayFollow}
-use Rattle.psci_ctl_spec.specs.Laws.{AckLaws, SumLaws}
-use Rattle.psci_ctl_spec.specs.Replies.{ack_by, last_start, may_follow}
 use Rattle.psci_ctl_spec.specs.Values as controlled
-use Rattle.psci_ctl_spec.specs.psci_messages.declared.kind.Kind.{Kind}
 use Rattle.psci_ctl_spec.specs.psci_messages.declared.kind.Kind.TheVariants as kinds
-use Rattle.psci_ctl_spec.specs.psci_messages.Message.{AckValue, AreClaims, MessageValue, PartByPart}
-use Rattle.psci_headline.specs.psci_fw_spec.declared.outcome.Act.{Act}
-use Rattle.psci_headline.specs.psci_fw_spec.After.{change}
-use Rattle.psci_headline.specs.psci_fw_spec.Changes.{with_acknowledgement}
-use Rattle.psci_headline.specs.psci_fw_spec.Effects.{Effect, enter_effect}
-use Rattle.psci_headline.specs.psci_fw_spec.Lives.{in_life, start_of_life}
 use Rattle.psci_headline.specs.psci_fw_spec.Said as says
-use Rattle.psci_headline.specs.psci_fw_spec.Values.{Values}
-use Rattle.psci_headline.specs.psci_fw_laws.Allowed.{IsAllowed}
-use Rattle.psci_headline.specs.psci_fw_laws.Kept.{Holds}
-use Rattle.psci_headline.specs.psci_fw_laws.Live.{AreLive}
-use Rattle.psci_headline.specs.psci_fw_laws.Messages.{AreSent}
-use Rattle.psci_headline.specs.psci_fw_laws.Outstanding.{AreOutstanding}
-use Rattle.psci_headline.proofs.fw_laws.Arriving.{first_holds, found_life}
+use Rattle.psci_headline.proofs.fw_laws.Arriving.{found_life}
 use Rattle.psci_headline.proofs.fw_laws.Consequences.{once_down}
 use Rattle.psci_headline.proofs.fw_laws.Living.{live_laws}
 use Rattle.psci_headline.proofs.fw_laws.Sums.{known_le}
-use Rattle.psci_headline.specs.psci_world_spec.declared.place.Place.{Place}
 use Rattle.psci_headline.specs.psci_world_spec.declared.place.Place.TheVariants as places
+use Rattle.psci_headline.proofs.Quiet.{in_life_holds}
 use Rattle.psci_headline.proofs.Agreeing.{AreAgreed, found_other, found_own}
 use Rattle.psci_headline.proofs.Moving.{CallerLaws, IsCallOf, call_moves, entry_moves}
 use Rattle.psci_headline.proofs.Placing.{last_is, own_life}
-use Rattle.psci_headline.specs.Waiting.{IsNamed, WaitingIn}
 use Rattle.psci_headline.proofs.Calls.{call_waits, entry_waits}
 use Rattle.psci_headline.proofs.Controls.{IsKnown, begun_waits, down_waits, start_told, start_waits}
 use Rattle.psci_headline.proofs.Taking.{waiting_taken}
@@ -70,11 +54,7 @@ pub present_holds : (b : BoardValue) (w : controlled.Values) (place : ℕ → Pl
     (sent : List MessageValue) (life : ℕ) → IsGiven b w place v sent → w.life ≡ Some life
     → Holds b (in_life b life v) sent
 present_holds b w place v sent life given e =
-    cond_both (life == v.life) v (start_of_life b life) (λ u. Holds b u sent) (λ f. given.holds)
-    (λ f.
-    let other = eqb-false life v.life f in
-    first_holds b v.life v.halting v.known v.phase sent life (given.lives life e)
-    (omega (arith, given.agreed.begun life e, other)) given.holds.apart given.holds.messages)
+    in_life_holds b v sent life (given.agreed.begun life e) (given.lives life e) given.holds
 
 pub present_known : (b : BoardValue) (w : controlled.Values) (place : ℕ → Place) (v : Values)
     (sent : List MessageValue) (life : ℕ) → IsGiven b w place v sent → w.life ≡ Some life
@@ -174,12 +154,7 @@ pub acked_waits : (b : BoardValue) (w : controlled.Values) (place : ℕ → Plac
     → a ≡ ack_by b w m m.kind → MayFollow b w (message_effect b m a m.kind)
     → WaitsNow b w v sent made
     → WaitsNow b (controlling.change b (message_effect b m a m.kind) w) v sent (a ∷ made)
-acked_waits b w place v sent made k m a given at own is may h =
-    subst (λ x. WaitsNow b (controlling.change b (message_effect b m x m.kind) w) v sent
-    (x ∷ made))
-    (sym is)
-    (acked_kind b w place v sent made k m m.kind given at own refl
-    (subst (λ x. MayFollow b w (message_effect b m x m.kind)) is may) h)
+acked_waits b w place v sent made k m a given at own is may h = grind (arith, nat_tests, acked_kind)
 
 -- The firmware ---------------------------------------------------------------------------------
 
@@ -245,8 +220,7 @@ taking_waits b w place v sent made a i given at h life f = elim (cases_eq life v
       given.holds.slots in
       subst (λ u. WaitingIn b life w u sent made)
       (sym (found_own b life (with_acknowledgement b a v) own))
-      (waiting_taken b life w.starts w.depth v.halting v.known v.phase v.outstanding sent made a i
-      at (once_down b v sent given.holds) slots now)
+      (waiting_taken a i at (once_down b v sent given.holds) slots now)
   | inr other ↦
       subst (λ u. WaitingIn b life w u sent made)
       (sym (found_other b life (with_acknowledgement b a v) other))

@@ -1,20 +1,13 @@
 -- Live claims that have their depth, level by level.
-use Rattle.std.proofs.Common.{◌≡◌, ℕ, inl, inr, ◌<◌, false, List, Some}
-use Rattle.std.proofs.Common.{refl, ap, sym, ◌∙◌}
+use Rattle.std.proofs.Common.{arith, ◌≡◌, ℕ, inl, inr, ◌<◌, false, List, Some, refl, ap, sym, ◌∙◌}
+use Rattle.std.proofs.lemmas.Bool.Decides.{nat_tests}
 use Rattle.std.specs.Prelude.{nat_le, slice_get}
 use Rattle.std.proofs.lemmas.Bool.{and_parts, and_right, cond-false, eqb-false, ltb-true, leb-true}
 use Rattle.std.proofs.lemmas.Bool.{ne_eqb}
-use Rattle.psci_board.specs.Board.{BoardValue, HasNode, height, up}
-use Rattle.psci_board.specs.declared.node.Node.{Node}
-use Rattle.psci_ctl_spec.specs.psci_messages.declared.part.Part.{Part}
-use Rattle.psci_ctl_spec.specs.Values.{first_depth, starts_below}
-use Rattle.psci_board.specs.Paths.{is_on_path}
-use Rattle.psci_ctl_spec.specs.psci_messages.declared.kind.Kind.TheVariants.{Down}
-use Rattle.psci_ctl_spec.specs.psci_messages.Message.{MessageValue}
-use Rattle.psci_headline.specs.psci_fw_laws.Claims.{IsClaimOn, IsFromStart}
-use Rattle.psci_headline.specs.psci_fw_laws.KnownBelow.{known_below}
+use Rattle.psci_headline.proofs.Words.{BoardValue, HasNode, height, up, Node, Part, first_depth}
+use Rattle.psci_headline.proofs.Words.{starts_below, is_on_path, Down, MessageValue, IsClaimOn}
+use Rattle.psci_headline.proofs.Words.{known_below, IsLivePart, IsFromStart}
 use Rattle.psci_headline.proofs.fw_laws.Parts.{part_has}
-use Rattle.psci_headline.specs.Waiting.{IsLivePart}
 use Rattle.psci_headline.proofs.Starting.{same_sum}
 
 -- below this level each live part of a core's Downs has its depth
@@ -39,8 +32,7 @@ from_start b starts depth level place p first from live =
     let on = and_parts (nat_le level (height b)) _ from.node in
     let has : HasNode b n = record { level = leb-true _ _ on.0; place = ltb-true _ _ on.1 } in
     let off : is_on_path b 0 level place ≡ false =
-    and_right (nat_le level (height b)) _
-    (ne_eqb (up b level 0) place (λ e. eqb-false place (up b level 0) from.off_path (sym e))) in
+    grind (arith, nat_tests, and_right, ne_eqb, eqb-false) in
     first n has (same_sum b starts n ∙ sym live ∙ zero)
     ∙ cond-false (is_on_path b 0 level place) 0 3 off ∙ sym deep
 

@@ -1,22 +1,15 @@
 -- Where the claims of a list come from: a life's start, or a message that was sent; and back.
-use Rattle.std.proofs.Common.{◌≡◌, ℕ, zero, suc, inl, Bool, true, false, ◌==◌, cond}
-use Rattle.std.proofs.Common.{List, [], ◌∷◌, ◌++◌, Option, None, Some, option_map, refl, ap, sym}
-use Rattle.std.proofs.Common.{◌∙◌, subst}
-use Rattle.std.specs.Prelude.{nat_le, option_and_then, slice_get}
-use Rattle.std.proofs.lemmas.Bool.{and_from, eq-eqb, eqb-true, false_from_ne_true}
-use Rattle.std.proofs.lemmas.Bool.{le-leb, lt-ltb}
-use Rattle.psci_board.specs.Board.{BoardValue, HasNode, has_node, height, up}
-use Rattle.psci_board.specs.declared.node.Node.{Node}
-use Rattle.psci_fw_laws.specs.psci_messages.declared.part.Part.{Part}
-use Rattle.psci_ctl_spec.specs.psci_messages.Message.{MessageValue}
-use Rattle.psci_board.specs.Paths.{is_on_path, is_path_place}
-use Rattle.psci_fw_laws.specs.psci_fw_spec.Said.{listed}
-use Rattle.psci_fw_laws.specs.psci_fw_spec.Values.{Values}
-use Rattle.psci_fw_laws.specs.Claims.{IsClaimOn, part_for}
+use Rattle.std.proofs.Common.{arith, ◌≡◌, ℕ, zero, suc, inl, Bool, true, false, cond, List, [], ◌∷◌}
+use Rattle.std.proofs.Common.{◌++◌, Option, None, Some, option_map, refl, ap, sym, ◌∙◌, subst}
+use Rattle.std.proofs.lemmas.Bool.Decides.{nat_tests}
+use Rattle.std.specs.Prelude.{option_and_then, slice_get}
+use Rattle.std.proofs.lemmas.Bool.{and_from, eq-eqb, eqb-true, false_from_ne_true, le-leb, lt-ltb}
+use Rattle.psci_headline.proofs.Words.{BoardValue, HasNode, has_node, Node, Part, MessageValue}
+use Rattle.psci_headline.proofs.Words.{is_on_path, is_path_place, listed, Values, IsClaimOn}
+use Rattle.psci_headline.proofs.Words.{part_for, Record, firmware_values, sent_in, Claim, claim_by}
 use Rattle.psci_fw_laws.proofs.Parts.{claim_new, claim_old}
-use Rattle.psci_world_spec.specs.declared.said.Record.{Record}
-use Rattle.psci_world_spec.specs.Histories.{firmware_values, sent, sent_in}
-use Rattle.psci_headline.specs.Claims.{Claim, claim_by, claim_in, claims}
+use Rattle.psci_world_spec.specs.Histories.{sent}
+use Rattle.psci_headline.specs.Claims.{claim_in, claims}
 
 -- The claim of one message ---------------------------------------------------------------------
 
@@ -25,17 +18,6 @@ abbrev pub with_claim_of : BoardValue → ℕ → Values → Node → Option Mes
     → List Claim
 with_claim_of b life v n o old = listed (option_and_then (λ m. claim_in b life v n m) o) ++ old
 
-by_part : (b : BoardValue) (v : Values) (n : Node) (c : ℕ) (P : Claim → Type 0) (old : List Claim)
-    (o : Option Part) (k : ℕ) (x : Claim)
-    → ((p : Part) → o ≡ Some p → P (claim_by b v n c p))
-    → ((j : ℕ) → slice_get old j ≡ Some x → P x)
-    → slice_get (listed (option_map (λ p. claim_by b v n c p) o) ++ old) k ≡ Some x → P x
-by_part b v n c P old None k x new before at = before k at
-by_part b v n c P old (Some p) zero x new before at =
-    let same : claim_by b v n c p ≡ x = cc in
-    subst P same (new p refl)
-by_part b v n c P old (Some p) (suc k) x new before at = before k at
-
 -- what holds of the claim that a message makes and of each older one holds of each
 pub by_claim : (b : BoardValue) (life : ℕ) (v : Values) (n : Node) (P : Claim → Type 0)
     (old : List Claim) (o : Option MessageValue) (k : ℕ) (x : Claim)
@@ -43,10 +25,7 @@ pub by_claim : (b : BoardValue) (life : ℕ) (v : Values) (n : Node) (P : Claim 
     → P (claim_by b v n m.core.number p))
     → ((j : ℕ) → slice_get old j ≡ Some x → P x)
     → slice_get (with_claim_of b life v n o old) k ≡ Some x → P x
-by_claim b life v n P old None k x new before at = before k at
-by_claim b life v n P old (Some m) k x new before at =
-    by_part b v n m.core.number P old (part_for b life n.level n.place m) k x
-    (λ p e. new m p refl e) before at
+by_claim b life v n P old o k x new before at = grind (arith, nat_tests)
 
 -- The start of a life --------------------------------------------------------------------------
 
@@ -59,11 +38,7 @@ node_is b n has = and_from _ _ (le-leb _ _ has.level) (lt-ltb _ _ has.place)
 pub off_path : (b : BoardValue) (n : Node) (c : ℕ) → HasNode b n
     → is_on_path b c n.level n.place ≡ false → is_path_place b c n.level n.place ≡ false
 off_path b n c has off =
-    false_from_ne_true _ (λ on.
-    let test : is_on_path b c n.level n.place ≡ true =
-    and_from (nat_le n.level (height b)) (up b n.level c == n.place) (le-leb _ _ has.level)
-    (eq-eqb _ _ (sym (eqb-true _ _ on))) in
-    absurd (cc))
+    grind (arith, nat_tests, false_from_ne_true, and_from, le-leb, eq-eqb, eqb-true)
 
 -- Sources --------------------------------------------------------------------------------------
 

@@ -1,16 +1,10 @@
 -- What has yet to come of a domain, where values change beside it or more cores are started.
-use Rattle.std.proofs.Common.{◌≡◌, ℕ, ◌≤◌, inl, inr, true, false, Option, Some, arith, ap}
-use Rattle.std.proofs.Common.{sym, ◌∙◌}
+use Rattle.std.proofs.Common.{◌≡◌, ℕ, ◌≤◌, true, false, Option, Some, arith, ap, sym, ◌∙◌}
+use Rattle.std.proofs.lemmas.Bool.Decides.{nat_tests}
 use Rattle.std.proofs.lemmas.Bool.{eqb-false, eqb-true, ne_eqb}
-use Rattle.psci_headline.specs.psci_board.Board.{BoardValue, up}
-use Rattle.psci_headline.specs.psci_board.Laws.{PathLaws}
-use Rattle.psci_headline.specs.psci_board.Paths.{is_path_place}
-use Rattle.psci_headline.specs.psci_messages.Message.{MessageValue}
-use Rattle.psci_headline.specs.psci_messages.Slots.{Slot, OfCore}
-use Rattle.psci_headline.specs.psci_fw_spec.Values.{updated}
-use Rattle.psci_headline.specs.psci_fw_laws.KnownBelow.{KnownLaws, known_below}
+use Rattle.psci_headline.proofs.Words.{BoardValue, up, PathLaws, is_path_place, MessageValue, Slot}
+use Rattle.psci_headline.proofs.Words.{OfCore, updated, KnownLaws, known_below, IsYetToCome}
 use Rattle.psci_headline.proofs.fw_laws.Parts.{updated_there}
-use Rattle.psci_headline.specs.Confirming.{IsYetToCome}
 
 -- Paths ----------------------------------------------------------------------------------------
 
@@ -33,9 +27,7 @@ other_core b c x paths other = ne_eqb x (up b 0 c) (λ e. other (e ∙ paths.cor
 pub sum_beside : (b : BoardValue) (f : ℕ → ℕ) (c number level place : ℕ) → KnownLaws b
     → is_path_place b c level place ≡ false
     → known_below b (updated f c number) level place ≡ known_below b f level place
-sum_beside b f c number level place laws off =
-    laws.same (updated f c number) f level place (λ x inside at.
-    updated_there f c number x (not_at b c x level place off at))
+sum_beside b f c number level place laws off = grind (arith, nat_tests, updated_there, not_at)
 
 -- What has yet to come -------------------------------------------------------------------------
 
@@ -45,25 +37,10 @@ pub yet_still : (b : BoardValue) (starts before now : ℕ → ℕ) (was is : Slo
     → ((m : MessageValue) → up b level m.core.number ≡ place
     → was (OfCore m.core.number) ≡ Some m → is (OfCore m.core.number) ≡ Some m)
     → IsYetToCome b starts before was level place → IsYetToCome b starts now is level place
-yet_still b starts before now was is level place sum stays yet = elim yet [
-  | inl out ↦
-      inl (record {
-        message = out.message;
-        kind = out.kind;
-        at = stays out.message out.on out.at;
-        on = out.on;
-        part = out.part;
-        listed = out.listed;
-        current = out.current ∙ sym sum;
-      })
-  | inr more ↦ inr (omega (arith, more, sum))
-]
+yet_still b starts before now was is level place sum stays yet = grind (arith, nat_tests)
 
 -- there are more starts
 pub yet_later : (b : BoardValue) (starts later known : ℕ → ℕ) (out : Slot → Option MessageValue)
     (level place : ℕ) → known_below b starts level place ≤ known_below b later level place
     → IsYetToCome b starts known out level place → IsYetToCome b later known out level place
-yet_later b starts later known out level place le yet = elim yet [
-  | inl is ↦ inl is
-  | inr more ↦ inr (omega (arith, more, le))
-]
+yet_later b starts later known out level place le yet = grind (arith, nat_tests)

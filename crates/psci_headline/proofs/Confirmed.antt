@@ -1,33 +1,18 @@
 -- What is told after every legal run.
-use Rattle.std.proofs.Common.{◌≡◌, List, [], ◌∷◌, ◌++◌}
-use Rattle.std.proofs.Common.{subst, sym}
-use Rattle.psci_headline.specs.psci_board.Board.{BoardValue}
-use Rattle.psci_headline.specs.psci_board.Laws.{PathLaws}
-use Rattle.psci_headline.specs.psci_ctl_spec.Effects.{effect_of}
-use Rattle.psci_headline.specs.psci_ctl_spec.Exchange.{CtlExchange}
+use Rattle.std.proofs.Common.{arith, List, [], ◌∷◌, ◌++◌, subst, sym}
+use Rattle.std.proofs.lemmas.Bool.Decides.{nat_tests}
+use Rattle.psci_headline.proofs.Words.{BoardValue, PathLaws, effect_of, Values, Holds, KnownLaws}
+use Rattle.psci_headline.proofs.Words.{Event, Record, Said, acks, call, control, controller_values}
+use Rattle.psci_headline.proofs.Words.{firmware_values, sent, IsLegalPast, Agree, CtlExchange}
+use Rattle.psci_headline.proofs.Words.{Waiting, Confirming}
 use Rattle.psci_headline.specs.psci_ctl_spec.History as controls
 use Rattle.psci_headline.specs.psci_ctl_spec.Values as controlled
-use Rattle.psci_headline.proofs.Deliveries.{IsFew, few, values_by}
 use Rattle.psci_headline.specs.psci_fw_spec.History as remembers
-use Rattle.psci_headline.specs.psci_fw_spec.Lives.{start_of_life}
-use Rattle.psci_headline.specs.psci_fw_spec.Values.{Values}
-use Rattle.psci_headline.specs.psci_fw_laws.Kept.{Holds}
-use Rattle.psci_headline.specs.psci_fw_laws.KnownBelow.{KnownLaws}
-use Rattle.psci_headline.specs.psci_world_spec.declared.event.Event.{Event}
-use Rattle.psci_headline.specs.psci_world_spec.declared.event.Event.TheVariants.{Wake, Reset}
-use Rattle.psci_headline.specs.psci_world_spec.declared.event.Event.TheVariants.{Deliver}
-use Rattle.psci_headline.specs.psci_world_spec.declared.said.Record.{Record}
-use Rattle.psci_headline.specs.psci_world_spec.declared.said.Said.{Said}
-use Rattle.psci_headline.specs.psci_world_spec.Histories.{acks, call, control}
-use Rattle.psci_headline.specs.psci_world_spec.Histories.{controller_history, controller_values}
-use Rattle.psci_headline.specs.psci_world_spec.Histories.{firmware_history}
-use Rattle.psci_headline.specs.psci_world_spec.Histories.{firmware_values, sent}
-use Rattle.psci_headline.specs.psci_world_spec.Legal.{IsLegalPast}
+use Rattle.psci_headline.specs.psci_world_spec.Histories.{controller_history, firmware_history}
 use Rattle.psci_headline.proofs.world_spec.Answered.{firmware_legal}
-use Rattle.psci_headline.specs.Agreement.{Agree}
-use Rattle.psci_headline.specs.Waiting.{Waiting}
+use Rattle.psci_headline.proofs.Agreed.{first_kept}
+use Rattle.psci_headline.proofs.Deliveries.{IsFew, few, values_by}
 use Rattle.psci_headline.proofs.Moves.{FirmwareLaws, moves}
-use Rattle.psci_headline.specs.Confirming.{Confirming}
 use Rattle.psci_headline.proofs.Steps.{ConfirmingNow, controlled_by, effect, first_now}
 
 -- What the laws below say of a board and of its legal pasts.
@@ -35,7 +20,6 @@ pub record RunLaws (b : BoardValue) : Type 0 where
   pub sums : KnownLaws b
   pub paths : PathLaws b
   pub firmware : FirmwareLaws b
-  pub first : remembers.values_of b [] ≡ start_of_life b 0
   pub holds : (past : List Record) → IsLegalPast b past
       → let v = firmware_values b past in Holds b v (sent past)
   pub agree : (past : List Record) → IsLegalPast b past → Agree b past
@@ -90,10 +74,7 @@ by_event : (b : BoardValue) (past : List Record) (event : Event) (said : Said)
     → ConfirmingNow b (controls.values_of b (control (controller_values b past) (sent past) event
     said ++ controller_history b past)) (firmware_values b past)
     → values_next b past event said
-by_event b past (Wake c) said kept does = does
-by_event b past (Reset c) said kept does = does
-by_event b past (Deliver k) said kept does = does
-by_event b past event said asked kept = asked
+by_event b past event said kept does = grind (arith, nat_tests)
 
 next : (b : BoardValue) (r : Record) (past : List Record) → RunLaws b
     → IsLegalPast b (r ∷ past) → Confirming b past → Confirming b (r ∷ past)
@@ -106,8 +87,7 @@ next b r past laws is h =
 
 pub confirming : (b : BoardValue) (past : List Record) → RunLaws b → IsLegalPast b past
     → Confirming b past
-unfolding firmware_history
 confirming b [] laws is =
-    subst (ConfirmingNow b (controller_values b [])) (sym laws.first)
+    subst (ConfirmingNow b (controller_values b [])) (sym (first_kept b))
     (λ life e. first_now b (controller_values b []).starts life)
 confirming b (r ∷ past) laws is = next b r past laws is (confirming b past laws is.1)

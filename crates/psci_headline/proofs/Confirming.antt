@@ -1,27 +1,18 @@
 -- What an effect leaves of a domain's confirmed claim: it was confirmed before, or a life has
 -- begun, or an acknowledgement confirms it.
-use Rattle.std.proofs.Common.{◌≡◌, ℕ, ◌⊎◌, inl, inr, Bool, true, false, not, ◌==◌}
-use Rattle.std.proofs.Common.{cond, Option, None, Some, refl, arith, ap, sym, ◌∙◌}
+use Rattle.std.proofs.Common.{◌≡◌, ℕ, ◌⊎◌, inl, inr, Bool, true, false, ◌==◌, cond, Option, None}
+use Rattle.std.proofs.Common.{Some, refl, arith, ap, sym, ◌∙◌}
+use Rattle.std.proofs.lemmas.Bool.Decides.{nat_tests}
 use Rattle.std.specs.Prelude.{slice_get}
 use Rattle.std.proofs.lemmas.Bool.{and_parts, eqb-false}
-use Rattle.psci_board.specs.Board.{BoardValue, has_node, up}
-use Rattle.psci_board.specs.Paths.{is_path_place}
-use Rattle.psci_fw_laws.specs.psci_messages.declared.part.Part.{Part}
+use Rattle.psci_headline.proofs.Words.{BoardValue, up, is_path_place, Part, AckValue, change}
+use Rattle.psci_headline.proofs.Words.{confirms_on, target, Effect, AsksOn, Rests, Enters, Parks}
+use Rattle.psci_headline.proofs.Words.{StopsAtOnce, Acknowledges, start_of_life, Arrival, arrived}
+use Rattle.psci_headline.proofs.Words.{Values, updated, KnownLaws, known_below, unless_claimed}
+use Rattle.psci_headline.proofs.Words.{claimed_or}
 use Rattle.psci_ctl_spec.specs.psci_messages.declared.start.Start as starts
-use Rattle.psci_ctl_spec.specs.psci_messages.Message.{AckValue}
-use Rattle.psci_fw_laws.specs.psci_fw_spec.After.{change}
-use Rattle.psci_fw_laws.specs.psci_fw_spec.Changes.{confirms_on, target}
-use Rattle.psci_fw_laws.specs.psci_fw_spec.Confirmed.{unless_claimed}
-use Rattle.psci_fw_laws.specs.psci_fw_spec.Effects.{Effect, AsksOn}
-use Rattle.psci_fw_laws.specs.psci_fw_spec.Effects.{Rests}
-use Rattle.psci_fw_laws.specs.psci_fw_spec.Effects.{Enters, Parks, StopsAtOnce}
-use Rattle.psci_fw_laws.specs.psci_fw_spec.Effects.{Acknowledges}
-use Rattle.psci_fw_laws.specs.psci_fw_spec.Lives.{first_confirmed, first_granted, start_of_life}
-use Rattle.psci_fw_laws.specs.psci_fw_spec.Paths.{claimed_or}
-use Rattle.psci_fw_laws.specs.psci_fw_spec.Said.{Arrival, arrived}
-use Rattle.psci_fw_laws.specs.psci_fw_spec.Values.{Values, updated}
-use Rattle.psci_fw_laws.specs.KnownBelow.{KnownLaws, known_below}
-use Rattle.psci_fw_laws.proofs.Parts.{updated_there}
+use Rattle.psci_fw_laws.specs.psci_fw_spec.Lives.{first_confirmed, first_granted}
+use Rattle.psci_headline.proofs.Coming.{sum_beside}
 
 -- Nothing is changed of a domain.
 pub record Stays (b : BoardValue) (v w : Values) (level place : ℕ) : Type 0 where
@@ -82,15 +73,6 @@ no_sum b level place laws =
     let few = laws.most (λ c. 0) level place 0 (λ c. omega arith) in
     omega (arith, few)
 
--- one core's start counts for no domain beside its path
-beside : (b : BoardValue) (f : ℕ → ℕ) (c number level place : ℕ) → KnownLaws b
-    → is_path_place b c level place ≡ false
-    → known_below b (updated f c number) level place ≡ known_below b f level place
-beside b f c number level place laws off =
-    laws.same (updated f c number) f level place (λ x inside at.
-    updated_there f c number x (λ e.
-    eqb-false place (up b level c) off (sym at ∙ ap (up b level) e)))
-
 -- off the boot path the power-down of a life's start is granted
 first_is : (b : BoardValue) (level place : ℕ) (t : Bool) → first_confirmed b level place ≡ t
     → t ≡ true → first_granted b level place ≡ 3
@@ -99,14 +81,7 @@ first_is b level place false same e = absurd (cc)
 
 off_boot : (b : BoardValue) (level place : ℕ) → first_confirmed b level place ≡ true
     → up b level 0 ≡ place → ⊥
-off_boot b level place e at =
-    let both = and_parts (has_node b (record { level = level; place = place }))
-    (not (is_path_place b 0 level place)) e in
-    by_test (is_path_place b 0 level place) refl both.1
-  where
-    by_test : (t : Bool) → (place == up b level 0) ≡ t → not t ≡ true → ⊥
-    by_test true f none = absurd (cc)
-    by_test false f none = eqb-false place (up b level 0) f (sym at)
+off_boot b level place e at = grind (arith, nat_tests, and_parts, eqb-false)
 
 -- a core entered; what it found, and where the domain is
 entered : (b : BoardValue) (v w : Values) (c : ℕ) (s : starts.Start) (e : Effect)
@@ -119,12 +94,7 @@ entered : (b : BoardValue) (v w : Values) (c : ℕ) (s : starts.Start) (e : Effe
 entered b v w c s e level place t true laws same off is life known granted confirmed = absurd (cc)
 entered b v w c s e level place true false laws same off is life known granted confirmed =
     inl (record {
-      stays = record {
-        life = life;
-        known = ap (λ f. known_below b f level place) known
-            ∙ beside b v.known c s.number level place laws off;
-        granted = granted;
-      };
+      stays = grind (arith, nat_tests, sum_beside);
       before = confirmed;
     })
 entered b v w c s e level place false false laws same off is life known granted confirmed =
@@ -134,7 +104,7 @@ entered b v w c s e level place false false laws same off is life known granted 
       is = is;
       new = sym life;
       known = ap (λ f. known_below b f level place) known
-          ∙ (beside b (λ k. 0) c s.number level place laws off ∙ no_sum b level place laws);
+          ∙ (sum_beside b (λ k. 0) c s.number level place laws off ∙ no_sum b level place laws);
       granted = granted ∙ first_is b level place (first_confirmed b level place) refl confirmed;
       off = off_boot b level place confirmed;
     }))
@@ -145,14 +115,7 @@ module _ (b : BoardValue) (v : Values) (laws : KnownLaws b) (level place : ℕ) 
   acknowledged : (a : AckValue) (t : Bool) → confirms_on b v a level place ≡ t
       → cond t true (v.confirmed level place) ≡ true
       → How b v (change b (Acknowledges a) v) (Acknowledges a) level place
-  acknowledged a true by e = inr (inr (record {
-    stays = record { life = refl; known = refl; granted = refl };
-    ack = a;
-    is = refl;
-    by = by;
-  }))
-  acknowledged a false by e =
-      inl (record { stays = record { life = refl; known = refl; granted = refl }; before = e })
+  acknowledged a t by e = grind (arith, nat_tests)
 
   pub confirmed_how : (e : Effect) → (change b e v).confirmed level place ≡ true
       → How b v (change b e v) e level place

@@ -1,37 +1,24 @@
 -- What waits after a wake-up, a reset and a delivery.
-use Rattle.std.proofs.Common.{◌≡◌, ℕ, List, ◌∷◌, ◌++◌, Option, None, Some}
-use Rattle.std.proofs.Common.{refl, subst, ap, sym, ◌∙◌}
+use Rattle.std.proofs.Common.{arith, ◌≡◌, ℕ, List, ◌∷◌, ◌++◌, None, Some, refl, subst, ap, sym, ◌∙◌}
+use Rattle.std.proofs.lemmas.Bool.Decides.{nat_tests}
 use Rattle.std.specs.Prelude.{slice_get}
-use Rattle.psci_board.specs.Board.{BoardValue}
-use Rattle.psci_ctl_spec.specs.psci_messages.declared.start.Cause.{Cause}
+use Rattle.psci_headline.proofs.Words.{BoardValue, Cause, MayFollow, ack_by, AckValue, MessageValue}
+use Rattle.psci_headline.proofs.Words.{listed, Wake, Reset, Deliver, Record, Said, ack_in, acks}
+use Rattle.psci_headline.proofs.Words.{controller_history, controller_values, delivered}
+use Rattle.psci_headline.proofs.Words.{firmware_values, sent, sent_in, indexed, place}
 use Rattle.psci_ctl_spec.specs.Changes as controlling
 use Rattle.psci_ctl_spec.specs.Effects as controlling_effects
 use Rattle.psci_ctl_spec.specs.Exchange as controller
-use Rattle.psci_ctl_spec.specs.Follows.{MayFollow}
 use Rattle.psci_ctl_spec.specs.History as controls
 use Rattle.psci_ctl_spec.specs.Legal as legal_controls
-use Rattle.psci_ctl_spec.specs.Effects.{message_effect}
-use Rattle.psci_ctl_spec.specs.Replies.{ack_by}
-use Rattle.psci_ctl_spec.specs.declared.call.CtlCall.TheVariants as asked
 use Rattle.psci_ctl_spec.specs.Values as controlled
-use Rattle.psci_ctl_spec.specs.psci_messages.Message.{AckValue, MessageValue}
-use Rattle.psci_headline.specs.psci_fw_spec.Said.{listed}
-use Rattle.psci_headline.specs.psci_world_spec.declared.event.Event.TheVariants.{Wake, Reset}
-use Rattle.psci_headline.specs.psci_world_spec.declared.event.Event.TheVariants.{Deliver}
-use Rattle.psci_headline.specs.psci_world_spec.declared.said.Record.{Record}
-use Rattle.psci_headline.specs.psci_world_spec.declared.said.Said.{Said}
 use Rattle.psci_headline.specs.psci_world_spec.declared.said.Said.TheVariants as said
-use Rattle.psci_headline.specs.psci_world_spec.Histories.{ack_in, acks, controller_history}
-use Rattle.psci_headline.specs.psci_world_spec.Histories.{controller_values}
-use Rattle.psci_headline.specs.psci_world_spec.Histories.{delivered, firmware_values, sent}
-use Rattle.psci_headline.specs.psci_world_spec.Histories.{sent_in}
 use Rattle.psci_headline.specs.psci_world_spec.Legal.{legal}
-use Rattle.psci_headline.specs.psci_world_spec.Lists.{indexed}
-use Rattle.psci_headline.specs.psci_world_spec.Places.{place}
+use Rattle.psci_ctl_spec.proofs.OneMore.{values_more}
 use Rattle.psci_headline.proofs.Agreed.{RunLaws}
 use Rattle.psci_headline.proofs.Controlling.{after_control}
-use Rattle.psci_headline.proofs.Making.{IsDelivered, delivers}
-use Rattle.psci_headline.proofs.Numbering.{at_number}
+use Rattle.psci_headline.proofs.Deliveries.{delivered_by}
+use Rattle.psci_headline.proofs.Items.{at_number}
 use Rattle.psci_headline.proofs.BoardLaws.{Given}
 use Rattle.psci_headline.proofs.Carried.{WaitsNow, acked_waits, started_waits}
 use Rattle.psci_headline.proofs.WaitingNexts.{Now, Next}
@@ -49,11 +36,9 @@ kicked_next b past e c cause laws given now is starts =
     let h : List controller.CtlExchange = controller_history b past in
     let w : controlled.Values = controller_values b past in
     let may : MayFollow b w (controlling_effects.Starts c cause) =
-    subst (MayFollow b w) starts
-    (subst (λ r. MayFollow b w (controlling_effects.effect_of b e.call r)) (sym is.0)
-    (laws.follows w e.call is.1)) in
+    grind (arith, nat_tests) in
     subst (λ u. WaitsNow b u (firmware_values b past) (sent past) (acks past))
-    (sym (laws.after e h ∙ ap (λ f. controlling.change b f w) starts))
+    (sym (values_more b e h ∙ ap (λ f. controlling.change b f w) starts))
     (started_waits b w (place b past) (firmware_values b past) (sent past) (acks past) c cause given
     may.0 now)
 
@@ -91,16 +76,7 @@ message_next : (b : BoardValue) (past : List Record) (m : MessageValue) (a : Ack
     (firmware_values b past) (sent past) (a ∷ acks past)
 unfolding controlling.after controlling_effects.effect_of
 message_next b past m a i laws given now is at own made =
-    let h : List controller.CtlExchange = controller_history b past in
-    let w : controlled.Values = controller_values b past in
-    let e : controlling_effects.Effect = message_effect b m a m.kind in
-    let may : MayFollow b w e =
-    subst (λ r. MayFollow b w (controlling_effects.effect_of b (asked.Deliver m) r)) (sym is.0)
-    (laws.follows w (asked.Deliver m) is.1) in
-    subst (λ u. WaitsNow b u (firmware_values b past) (sent past) (a ∷ acks past))
-    (sym (laws.after _ h))
-    (acked_waits b w (place b past) (firmware_values b past) (sent past) (acks past) i m a given at
-    own made may now)
+    grind (arith, nat_tests, values_more, acked_waits)
 
 -- a message was delivered
 pub deliver_next : (b : BoardValue) (past : List Record) (k : ℕ) (s : Said) → RunLaws b
@@ -112,29 +88,14 @@ deliver_next b past k (said.Fw act sends) laws given now is e none =
     (listed o ++ sent past) (acks past)) (sym none) now
 deliver_next b past k (said.Kick start) laws given now is e none = now
 deliver_next b past k (said.Acked index ack) laws given now is e none =
-    by_message (indexed (sent past) k) refl is
-    (delivers b past k index (indexed (sent past) k) ack refl e)
-  where
-    w : controlled.Values
-    w = controller_values b past
-
-    by_message : (o : Option MessageValue) → indexed (sent past) k ≡ o
-        → legal_controls.IsLegal b (delivered o ack ++ controller_history b past)
-        → IsDelivered b past (Deliver k) index ack
-        → WaitsNow b (controls.values_of b (delivered o ack ++ controller_history b past))
-        (firmware_values b past) (sent past) (ack ∷ acks past)
-    by_message None f is d =
-        let same : d.number ≡ k = cc in
-        let no : Some d.message ≡ None =
-        sym (subst (λ j. indexed (sent past) j ≡ Some d.message) same d.at) ∙ f in absurd (cc)
-    by_message (Some m) f is d =
-        let number : d.number ≡ k = cc in
-        let same : m ≡ d.message =
-        let g : Some m ≡ Some d.message =
-        sym f ∙ subst (λ j. indexed (sent past) j ≡ Some d.message) number d.at in cc in
-        let at = at_number (sent past) k m f in
-        message_next b past m ack at.index laws given now is at.at
-        (subst (λ (x : MessageValue). w.life ≡ Some x.life) (sym same) d.life)
-        (subst (λ (x : MessageValue). ack ≡ ack_by b w x x.kind) (sym same) d.ack)
+    let h : List controller.CtlExchange = controller_history b past in
+    let d = delivered_by b past (Deliver k) ack (ap ack_in (sym e)) in
+    let same : d.number ≡ k = cc in
+    let here : indexed (sent past) k ≡ Some d.message = grind (arith, nat_tests) in
+    let at = at_number (sent past) k d.message here in
+    subst (λ o. WaitsNow b (controls.values_of b (delivered o ack ++ h)) (firmware_values b past)
+    (sent past) (ack ∷ acks past)) (sym here)
+    (message_next b past d.message ack at.index laws given now
+    (subst (λ o. legal_controls.IsLegal b (delivered o ack ++ h)) here is) at.at d.life d.ack)
 deliver_next b past k (said.Taken taken) laws given now is e none = now
 deliver_next b past k s laws given now is e none = now

@@ -1,34 +1,25 @@
 -- The power controller's history of a legal run is one of its legal histories.
-use Rattle.std.proofs.Common.{◌≡◌, ℕ, ◌≤◌, List, [], ◌∷◌, ◌++◌, Option, None, Some, arith}
-use Rattle.std.proofs.Common.{refl, subst}
+use Rattle.std.proofs.Common.{◌≡◌, ℕ, ◌≤◌, List, [], ◌∷◌, ◌++◌, Option, None, Some, arith, refl}
+use Rattle.std.proofs.Common.{subst}
+use Rattle.std.proofs.lemmas.Bool.Decides.{nat_tests}
 use Rattle.std.specs.Prelude.{slice_get}
-use Rattle.psci_board.specs.Board.{BoardValue, cores}
+use Rattle.psci_headline.proofs.Words.{BoardValue, cores, AckValue, MessageValue, Event, Wake}
+use Rattle.psci_headline.proofs.Words.{Reset, Record, Said, control, controller_values, delivered}
+use Rattle.psci_headline.proofs.Words.{sent, IsReplied, IsLegalPast, legal, indexed}
 use Rattle.psci_board.specs.declared.limits.TheConstants.{MOST_CORES}
 use Rattle.psci_ctl_spec.specs.Exchange as controller
 use Rattle.psci_ctl_spec.specs.Legal as controls
 use Rattle.psci_fw_laws.specs.Messages.{IsSound}
-use Rattle.psci_ctl_spec.specs.psci_messages.Message.{AckValue, MessageValue}
-use Rattle.psci_world_spec.specs.declared.event.Event.{Event}
-use Rattle.psci_world_spec.specs.declared.event.Event.TheVariants.{Wake, Reset}
-use Rattle.psci_world_spec.specs.declared.event.Event.TheVariants.{Deliver}
-use Rattle.psci_world_spec.specs.declared.said.Record.{Record}
-use Rattle.psci_world_spec.specs.declared.said.Said.{Said}
 use Rattle.psci_world_spec.specs.declared.said.Said.TheVariants as said
-use Rattle.psci_world_spec.specs.Histories.{control, controller_history, controller_values}
-use Rattle.psci_world_spec.specs.Histories.{delivered, sent}
-use Rattle.psci_world_spec.specs.Legal.{IsReplied, IsLegalPast, legal}
-use Rattle.psci_world_spec.specs.Lists.{indexed}
+use Rattle.psci_world_spec.specs.Histories.{controller_history}
 use Rattle.psci_world_spec.proofs.Answered.{controller_answered}
-use Rattle.psci_headline.proofs.Happening.{reset_at, woken_at}
-use Rattle.psci_headline.proofs.Numbering.{at_number}
+use Rattle.psci_headline.proofs.Happening.{happens}
+use Rattle.psci_headline.proofs.Items.{at_number}
 
 -- a message that the firmware sends can be sent on its board
 pub sendable : (b : BoardValue) (m : MessageValue) → cores b ≤ MOST_CORES → IsSound b m
     → controls.IsSendable b m
-sendable b m most sound = record {
-  message = record { core = omega (arith, most, sound.core); parts = sound.parts };
-  board = record { core = sound.core; levels = sound.few };
-}
+sendable b m most sound = grind (arith, nat_tests)
 
 -- each of these messages can be sent on the board
 abbrev pub AreSendable : BoardValue → List MessageValue → Type 0
@@ -51,21 +42,12 @@ deliver_legal b h messages k (Some m) ack are e answered is =
     let at = at_number messages k m e in
     (answered.0, are at.index m at.at, is)
 
-delivery_legal : (b : BoardValue) (past : List Record) (k : ℕ) (s : Said)
-    → AreSendable b (sent past) → IsReplied b (after_control b past (Deliver k) s)
-    → controls.IsLegal b (controller_history b past)
-    → controls.IsLegal b (after_control b past (Deliver k) s)
-delivery_legal b past k (said.Acked index ack) are answered is =
-    deliver_legal b (controller_history b past) (sent past) k (indexed (sent past) k) ack are refl
-    answered is
-delivery_legal b past k s are answered is = is
-
 wake_legal : (b : BoardValue) (past : List Record) (c : ℕ) (s : Said)
     → IsReplied b (after_control b past (Wake c) s)
     → controls.IsLegal b (controller_history b past) → s ≡ legal b past (Wake c)
     → controls.IsLegal b (after_control b past (Wake c) s)
 wake_legal b past c (said.Kick start) answered is e =
-    (answered.0, woken_at b past c start e, is)
+    (answered.0, happens b past (Wake c) (said.Kick start) e refl, is)
 wake_legal b past c s answered is e = is
 
 reset_legal : (b : BoardValue) (past : List Record) (c : ℕ) (s : Said)
@@ -73,17 +55,15 @@ reset_legal : (b : BoardValue) (past : List Record) (c : ℕ) (s : Said)
     → controls.IsLegal b (controller_history b past) → s ≡ legal b past (Reset c)
     → controls.IsLegal b (after_control b past (Reset c) s)
 reset_legal b past c (said.Kick start) answered is e =
-    (answered.0, reset_at b past c start e, is)
+    (answered.0, happens b past (Reset c) (said.Kick start) e refl, is)
 reset_legal b past c s answered is e = is
 
 event_legal : (b : BoardValue) (past : List Record) (event : Event) (s : Said)
     → AreSendable b (sent past) → IsReplied b (after_control b past event s)
     → controls.IsLegal b (controller_history b past) → s ≡ legal b past event
     → controls.IsLegal b (after_control b past event s)
-event_legal b past (Wake c) s are answered is e = wake_legal b past c s answered is e
-event_legal b past (Reset c) s are answered is e = reset_legal b past c s answered is e
-event_legal b past (Deliver k) s are answered is e = delivery_legal b past k s are answered is
-event_legal b past event s are answered is e = is
+event_legal b past event s are answered is e =
+    grind (arith, nat_tests, wake_legal, reset_legal, deliver_legal)
 
 -- The whole run --------------------------------------------------------------------------------
 

@@ -1,35 +1,24 @@
 -- What waits, after each effect of the power controller.
-use Rattle.std.proofs.Common.{◌≡◌, ℕ, zero, suc, inl, inr, ◌+◌, ◌<◌, ◌≤◌, Bool, true, false, ◌==◌}
-use Rattle.std.proofs.Common.{cond, List, [], ◌∷◌, take, Some, refl, arith, subst, ap, sym, ◌∙◌}
+use Rattle.std.proofs.Common.{◌≡◌, ℕ, zero, suc, ◌+◌, ◌<◌, ◌≤◌, Bool, true, false, ◌==◌, cond, List}
+use Rattle.std.proofs.Common.{[], ◌∷◌, take, Some, refl, arith, subst, ap, sym, ◌∙◌}
+use Rattle.std.proofs.lemmas.Bool.Decides.{nat_tests}
 use Rattle.std.specs.Prelude.{nat_lt, slice_get}
-use Rattle.std.proofs.lemmas.Bool.{and_cases, and_parts, cond-true}
-use Rattle.std.proofs.lemmas.Bool.{eq-eqb, eqb-false, eqb-true, ltb-false}
+use Rattle.std.proofs.lemmas.Bool.{and_cases, and_parts, cond-true, eq-eqb, eqb-false, eqb-true}
+use Rattle.std.proofs.lemmas.Bool.{ltb-false}
 use Rattle.std.proofs.lemmas.Option.{none-some, slice_get_within}
-use Rattle.psci_board.specs.Board.{BoardValue, cores, height, up}
-use Rattle.psci_ctl_spec.specs.psci_messages.declared.part.Part.{Part}
-use Rattle.psci_board.specs.Board.{domain_of}
-use Rattle.psci_ctl_spec.specs.psci_messages.declared.start.Cause.{Cause}
+use Rattle.psci_headline.proofs.Words.{BoardValue, cores, height, up, Part, Cause, one_more}
+use Rattle.psci_headline.proofs.Words.{Nothing, Starts, Deepens, AckLaws, SumLaws, applied}
+use Rattle.psci_headline.proofs.Words.{is_stale, ack_of, may_follow, Kind, AckValue, ArePartsOf}
+use Rattle.psci_headline.proofs.Words.{AreClaims, MessageValue, PartByPart, start_of_life, Phase}
+use Rattle.psci_headline.proofs.Words.{Away, Pending, Values, AreRising, known_below, AreLive}
+use Rattle.psci_headline.proofs.Words.{AreWaiting, IsNamed, IsTold, WaitingIn, WasTold, IsFront}
+use Rattle.psci_headline.proofs.Words.{AreSent}
 use Rattle.psci_ctl_spec.specs.psci_messages.declared.start.Cause.TheVariants as causes
-use Rattle.psci_ctl_spec.specs.Changes.{change, one_more}
-use Rattle.psci_ctl_spec.specs.Effects.{Nothing, Starts, Deepens}
-use Rattle.psci_ctl_spec.specs.Follows.{IsFront}
-use Rattle.psci_ctl_spec.specs.Laws.{AckLaws, SumLaws}
-use Rattle.psci_ctl_spec.specs.Parts.{applied, is_stale}
-use Rattle.psci_ctl_spec.specs.Replies.{ack_of, may_follow}
+use Rattle.psci_ctl_spec.specs.Changes.{change}
 use Rattle.psci_ctl_spec.specs.Values as controlled
 use Rattle.psci_ctl_spec.proofs.Front.{take_get}
-use Rattle.psci_ctl_spec.specs.psci_messages.declared.kind.Kind.{Kind}
 use Rattle.psci_ctl_spec.specs.psci_messages.declared.kind.Kind.TheVariants as kinds
-use Rattle.psci_ctl_spec.specs.psci_messages.Message.{AckValue, ArePartsOf, AreClaims, MessageValue}
-use Rattle.psci_ctl_spec.specs.psci_messages.Message.{PartByPart}
-use Rattle.psci_headline.specs.psci_fw_spec.Lives.{start_of_life}
-use Rattle.psci_headline.specs.psci_fw_spec.Phases.{Phase, Away, Pending}
-use Rattle.psci_headline.specs.psci_fw_spec.Values.{Values}
-use Rattle.psci_headline.specs.psci_fw_laws.Claims.{AreRising}
-use Rattle.psci_headline.specs.psci_fw_laws.KnownBelow.{known_below}
-use Rattle.psci_headline.specs.psci_fw_laws.Live.{AreLive}
-use Rattle.psci_headline.specs.psci_fw_laws.Messages.{AreSent, IsSent}
-use Rattle.psci_headline.specs.Waiting.{AreWaiting, IsNamed, IsTold, WaitingIn, WasTold}
+use Rattle.psci_headline.specs.psci_fw_laws.Messages.{IsSent}
 use Rattle.psci_headline.proofs.Deepening.{AreApplied, waiting_deepened}
 use Rattle.psci_headline.proofs.Starting.{same_sum, waiting_started}
 use Rattle.psci_headline.proofs.Taking.{named}
@@ -128,16 +117,8 @@ pub down_waits : (b : BoardValue) (life : ℕ) (w : controlled.Values) (v : Valu
 down_waits b life w v sent made k m known at present kind laws front h =
     let c : ℕ = m.core.number in
     let ps : List Part = take (applied b w c m.parts) m.parts in
-    let are : AreApplied b life w.starts sent c ps = record {
-      index = k;
-      message = m;
-      at = at;
-      present = present;
-      kind = kind;
-      core = refl;
-      part = λ level p get. take_get m.parts (applied b w c m.parts) level p get;
-      live = λ level p get. front.live level p get ∙ same_sum b w.starts (domain_of b c level);
-    } in
+    let are : AreApplied b life w.starts sent c ps =
+    grind (arith, nat_tests, take_get, same_sum) in
     made_more b life (change b (Deepens c ps) w) v sent made
     (ack_of m (applied b w c m.parts) (is_stale b w c m.parts)) k m at
     (told_down b w m kind
@@ -176,10 +157,7 @@ start_told b life w v sent made k m false known at present kind may h =
     let number = (is.present present).number in
     let room = is.sound.room kind in
     let later : m.number < w.starts c =
-    elim (and_cases (w.starts c == m.number) (nat_lt (w.starts c) b.starts) may) [
-      | inl other ↦ omega (arith, eqb-false (w.starts c) m.number other, number, known.le c)
-      | inr full ↦ omega (arith, ltb-false (w.starts c) b.starts full, room)
-    ] in
+    grind (arith, nat_tests, and_cases, eqb-false, ltb-false) in
     made_more b life w v sent made (ack_of m 0 true) k m at
     (told_other b w.starts w.depth m 0 true
     (λ e. let no : kinds.Start ≡ kinds.Down = sym kind ∙ e in absurd (cc)) (λ e. later)) h

@@ -1,26 +1,19 @@
 -- What one effect does to the firmware's life, and to the known start, phase and status of a core.
-use Rattle.std.proofs.Common.{◌≡◌, ℕ, ◌<◌, ◌≤◌, ◌⊎◌, inl, inr, Bool, true, false, ◌==◌, cond, Some}
-use Rattle.std.proofs.Common.{refl, arith, subst, ap, sym, ◌∙◌, ◌&&◌}
+use Rattle.std.proofs.Common.{◌≡◌, ℕ, ◌<◌, ◌≤◌, ◌⊎◌, inl, true, Some, refl, arith, ap, sym, ◌∙◌}
+use Rattle.std.proofs.Common.{◌&&◌}
+use Rattle.std.proofs.lemmas.Bool.Decides.{nat_tests}
 use Rattle.std.specs.Prelude.{nat_lt}
-use Rattle.std.proofs.lemmas.Bool.{and_parts, cond_both, eqb-false, eqb-true, ltb-true}
-use Rattle.psci_board.specs.Board.{BoardValue}
-use Rattle.psci_ctl_spec.specs.psci_messages.declared.kind.Kind.TheVariants.{Down}
-use Rattle.psci_ctl_spec.specs.psci_messages.Message.{AckValue}
-use Rattle.psci_ctl_spec.specs.psci_messages.Slots.{is_kind}
+use Rattle.std.proofs.lemmas.Bool.{and_parts, cond_both, ltb-true}
+use Rattle.psci_headline.proofs.Words.{BoardValue, Down, AckValue, is_kind, change, target, Effect}
+use Rattle.psci_headline.proofs.Words.{GoesOn, SetsMode, AsksOn, Rests, Halts, Stops, Enters, Parks}
+use Rattle.psci_headline.proofs.Words.{StopsAtOnce, Acknowledges, in_life, Phase, Away, Pending}
+use Rattle.psci_headline.proofs.Words.{Arrival, arrived, Values, updated, IsAllowed, Nothing}
+use Rattle.psci_headline.proofs.Words.{turns_off}
+use Rattle.psci_fw_laws.specs.psci_fw_spec.Effects.{Nothing}
 use Rattle.psci_ctl_spec.specs.psci_messages.declared.start.Start as starts
 use Rattle.psci_fw_laws.specs.psci_fw_spec.declared.status.Status.TheVariants as statuses
-use Rattle.psci_fw_laws.specs.psci_fw_spec.After.{change}
-use Rattle.psci_fw_laws.specs.psci_fw_spec.Changes.{target, turns_off}
-use Rattle.psci_fw_laws.specs.psci_fw_spec.Effects.{Effect, Nothing, GoesOn, SetsMode, AsksOn}
-use Rattle.psci_fw_laws.specs.psci_fw_spec.Effects.{Rests, Halts}
-use Rattle.psci_fw_laws.specs.psci_fw_spec.Effects.{Stops, Enters, Parks, StopsAtOnce}
-use Rattle.psci_fw_laws.specs.psci_fw_spec.Effects.{Acknowledges}
-use Rattle.psci_fw_laws.specs.psci_fw_spec.Lives.{first_status, in_life, start_of_life}
-use Rattle.psci_fw_laws.specs.psci_fw_spec.Phases.{Phase, Away, Pending, Running}
-use Rattle.psci_fw_laws.specs.psci_fw_spec.Phases.{is_away}
-use Rattle.psci_fw_laws.specs.psci_fw_spec.Said.{Arrival, arrived}
-use Rattle.psci_fw_laws.specs.psci_fw_spec.Values.{Values, updated}
-use Rattle.psci_fw_laws.specs.Allowed.{IsAllowed, IsEntering}
+use Rattle.psci_fw_laws.specs.psci_fw_spec.Phases.{Running, is_away}
+use Rattle.psci_fw_laws.specs.Allowed.{IsEntering}
 use Rattle.psci_fw_laws.proofs.Parts.{updated_at}
 use Rattle.psci_headline.proofs.Taking.{same_kind}
 
@@ -63,46 +56,20 @@ within : (v w : Values) (c : ℕ) (e : Effect) → w.life ≡ v.life → w.known
     → (w.phase c ≡ Away → (v.phase c ≡ Away) ⊎ (v.phase c ≡ Running))
     → (w.status c ≡ statuses.Off → (v.status c ≡ statuses.Off) ⊎ TurnsOff v c e)
     → IsStep v w c e
-within v w c e life known runs away off = record {
-  life = omega (arith, life);
-  known = λ l. omega (arith, known);
-  runs = λ l k. runs;
-  away = λ l k. away;
-  off = λ l. off;
-  begins = λ other. absurd (other life);
-  boot = λ other. absurd (other life);
-}
+within v w c e life known runs away off = grind (arith, nat_tests)
 
 -- a running core called, and is now of this phase
 called : (v w : Values) (c d : ℕ) (e : Effect) (p : Phase) → v.phase d ≡ Running
     → w.life ≡ v.life → w.known c ≡ v.known c → w.phase c ≡ updated v.phase d p c
     → w.status c ≡ v.status c → IsStep v w c e
-called v w c d e p ran life known phase status =
-    within v w c e life known
-    (λ now. updated_at (λ x. x ≡ Running → v.phase c ≡ Running) v.phase d p c
-    (λ here x. ap v.phase here ∙ ran) (λ there x. x) (sym phase ∙ now))
-    (λ now. updated_at (λ x. x ≡ Away → (v.phase c ≡ Away) ⊎ (v.phase c ≡ Running)) v.phase d p c
-    (λ here x. inr (ap v.phase here ∙ ran)) (λ there x. inl x) (sym phase ∙ now))
-    (λ now. inl (sym status ∙ now))
+called v w c d e p ran life known phase status = grind (arith, nat_tests, within)
 
 -- a running core asked another one on
 asked : (v w : Values) (c d t : ℕ) (e : Effect) (p : Phase) → v.phase d ≡ Running
     → w.life ≡ v.life → w.known c ≡ v.known c
     → w.phase c ≡ updated (updated v.phase t Pending) d p c
     → w.status c ≡ updated v.status t statuses.Pending c → IsStep v w c e
-asked v w c d t e p ran life known phase status =
-    within v w c e life known
-    (λ now. updated_at (λ x. x ≡ Running → v.phase c ≡ Running) (updated v.phase t Pending) d p c
-    (λ here x. ap v.phase here ∙ ran)
-    (λ there. updated_at (λ x. x ≡ Running → v.phase c ≡ Running) v.phase t Pending c
-    (λ here x. absurd (cc)) (λ there x. x)) (sym phase ∙ now))
-    (λ now. updated_at (λ x. x ≡ Away → (v.phase c ≡ Away) ⊎ (v.phase c ≡ Running))
-    (updated v.phase t Pending) d p c
-    (λ here x. inr (ap v.phase here ∙ ran))
-    (λ there. updated_at (λ x. x ≡ Away → (v.phase c ≡ Away) ⊎ (v.phase c ≡ Running)) v.phase t
-    Pending c (λ here x. absurd (cc)) (λ there x. inl x)) (sym phase ∙ now))
-    (λ now. updated_at (λ x. x ≡ statuses.Off → (v.status c ≡ statuses.Off) ⊎ TurnsOff v c e)
-    v.status t statuses.Pending c (λ here x. absurd (cc)) (λ there x. inl x) (sym status ∙ now))
+asked v w c d t e p ran life known phase status = grind (arith, nat_tests, within)
 
 -- Entries -------------------------------------------------------------------------------------
 
@@ -113,62 +80,10 @@ record IsArrived (found w : Values) (c d number : ℕ) : Type 0 where
   pub phase : (c ≡ d → ⊥) → w.phase c ≡ found.phase c
   pub status : w.status c ≡ statuses.Off → found.status c ≡ statuses.Off
 
--- a core entered in the firmware's life
-in_present : (v w : Values) (c d number : ℕ) (e : Effect) → v.known d < number
-    → IsArrived v w c d number → IsStep v w c e
-in_present v w c d number e later is = record {
-  life = omega (arith, is.life);
-  known = λ l. subst (λ n. v.known c ≤ n) (sym is.known)
-      (updated_at (λ n. v.known c ≤ n) v.known d number c
-      (λ here. let same = ap v.known here in omega arith) (λ there. omega arith));
-  runs = λ l k now. sym (is.phase (other k)) ∙ now;
-  away = λ l k now. inl (sym (is.phase (other k)) ∙ now);
-  off = λ l now. inl (is.status now);
-  begins = λ new. absurd (new is.life);
-  boot = λ new. absurd (new is.life);
-}
-  where
-    other : w.known c ≡ v.known c → c ≡ d → ⊥
-    other same here =
-        let now : w.known c ≡ number = is.known ∙ updated_at (λ n. n ≡ number) v.known d number c
-        (λ h. refl) (λ there. absurd (there here)) in
-        let was = ap v.known here in
-        omega arith
-
-not_boot : (c : ℕ) → first_status c ≡ statuses.Off → c ≡ 0 → ⊥
-not_boot c e zero =
-    let off : first_status 0 ≡ statuses.Off = subst (λ k. first_status k ≡ statuses.Off) zero e in
-    absurd (cc)
-
--- a core entered in another life
-in_another : (b : BoardValue) (v w : Values) (c d number life : ℕ) (e : Effect) → v.life ≤ life
-    → (life ≡ v.life → ⊥) → Begins life e → IsArrived (start_of_life b life) w c d number
-    → IsStep v w c e
-in_another b v w c d number life e later other begins is = record {
-  life = omega (arith, is.life);
-  known = λ l. absurd (other (sym is.life ∙ l));
-  runs = λ l. absurd (other (sym is.life ∙ l));
-  away = λ l. absurd (other (sym is.life ∙ l));
-  off = λ l. absurd (other (sym is.life ∙ l));
-  begins = λ new. subst (λ n. Begins n e) (sym is.life) begins;
-  boot = λ new off. not_boot c (is.status off);
-}
-
-by_life : (b : BoardValue) (v w : Values) (c d number life : ℕ) (e : Effect) (t : Bool)
-    → v.life ≤ life → (life ≡ v.life → v.known d < number) → Begins life e
-    → (life == v.life) ≡ t → IsArrived (cond t v (start_of_life b life)) w c d number
-    → IsStep v w c e
-by_life b v w c d number life e true low later begins same is =
-    in_present v w c d number e (later (eqb-true life v.life same)) is
-by_life b v w c d number life e false low later begins same is =
-    in_another b v w c d number life e low (eqb-false life v.life same) begins is
-
 enters : (b : BoardValue) (v w : Values) (c d : ℕ) (s : starts.Start) (e : Effect)
     → IsEntering b v d s → Begins s.life e → IsArrived (in_life b s.life v) w c d s.number
     → IsStep v w c e
-enters b v w c d s e entering begins is =
-    by_life b v w c d s.number s.life e (s.life == v.life) entering.life entering.later begins refl
-    is
+enters b v w c d s e entering begins is = grind (arith, nat_tests)
 
 -- Acknowledgements ----------------------------------------------------------------------------
 
@@ -193,15 +108,7 @@ turned v c a here e =
 
 taken : (b : BoardValue) (v : Values) (c : ℕ) (a : AckValue)
     → IsStep v (change b (Acknowledges a) v) c (Acknowledges a)
-taken b v c a =
-    within v (change b (Acknowledges a) v) c (Acknowledges a) refl refl (λ e. e) (λ e. inl e)
-    (λ now. updated_at
-    (λ x. x ≡ statuses.Off → (v.status c ≡ statuses.Off) ⊎ TurnsOff v c (Acknowledges a)) v.status
-    a.core.number (cond (turns_off v a) statuses.Off (v.status a.core.number)) c
-    (λ here. cond_both (turns_off v a) statuses.Off (v.status a.core.number)
-    (λ x. x ≡ statuses.Off → (v.status c ≡ statuses.Off) ⊎ TurnsOff v c (Acknowledges a))
-    (λ t x. inr (turned v c a here t)) (λ t x. inl (ap v.status here ∙ x)))
-    (λ there x. inl x) now)
+taken b v c a = grind (arith, nat_tests, within, updated_at, cond_both, turned)
 
 -- All -----------------------------------------------------------------------------------------
 

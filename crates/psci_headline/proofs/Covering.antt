@@ -1,20 +1,18 @@
 -- How many parts of a Down are applied: at least those that are live and covered.
-use Rattle.std.proofs.Common.{◌≡◌, ℕ, zero, suc, inl, inr, ◌+◌, ◌-◌, ◌<◌, ◌≤◌, Bool, true}
-use Rattle.std.proofs.Common.{◌==◌, cond, List, [], ◌∷◌, length, take, Some, refl, arith}
-use Rattle.std.proofs.Common.{subst, ap, sym, ◌∙◌}
+use Rattle.std.proofs.Common.{◌≡◌, ℕ, zero, suc, ◌+◌, ◌-◌, ◌<◌, ◌≤◌, Bool, true, ◌==◌, cond, List}
+use Rattle.std.proofs.Common.{[], ◌∷◌, length, take, Some, refl, arith, subst, ap, sym, ◌∙◌}
+use Rattle.std.proofs.lemmas.Bool.Decides.{nat_tests}
 use Rattle.std.specs.Prelude.{nat_le, slice_get}
-use Rattle.std.specs.List.{list_all, prefix_len, range_with_len}
+use Rattle.std.specs.List.{prefix_len}
 use Rattle.std.proofs.lemmas.Bool.{and_from, cases_Bool, cases_eq, cond-true, cond-false, eq-eqb}
 use Rattle.std.proofs.lemmas.Bool.{le-leb}
-use Rattle.psci_board.specs.Board.{BoardValue, children, cores, first_child, height, nodes, up}
-use Rattle.psci_board.specs.Laws.{ChildLaws, PathLaws}
-use Rattle.psci_board.specs.declared.node.Node.{Node}
-use Rattle.psci_ctl_spec.specs.psci_messages.declared.part.Part.{Part}
-use Rattle.psci_board.specs.Board.{domain_of}
-use Rattle.psci_ctl_spec.specs.Parts.{applied, depth_or, is_applied, is_covered, laid}
-use Rattle.psci_ctl_spec.specs.Values.{Values, starts_below}
-use Rattle.psci_board.specs.Paths.{is_on_path}
+use Rattle.psci_headline.proofs.Words.{BoardValue, cores, height, nodes, up, ChildLaws, PathLaws}
+use Rattle.psci_headline.proofs.Words.{Node, Part, domain_of, laid, starts_below, is_applied}
+use Rattle.psci_board.specs.Board.{children, first_child}
+use Rattle.psci_ctl_spec.specs.Parts.{applied, is_covered}
+use Rattle.psci_ctl_spec.specs.Values.{Values}
 use Rattle.psci_ctl_spec.proofs.Front.{get_take}
+use Rattle.psci_headline.proofs.Ranges.{all_in}
 use Rattle.psci_headline.proofs.Deepening.{path_place}
 use Rattle.psci_headline.proofs.Telling.{item_at}
 
@@ -33,14 +31,6 @@ prefix_at_least test (p ∷ ps) (suc n) few h =
     let now : cond (test p) (1 + prefix_len test ps) 0 ≡ 1 + prefix_len test ps =
     cond-true (test p) (1 + prefix_len test ps) 0 here in
     omega (arith, now, rest)
-
-all_in_range : (test : ℕ → Bool) (a n : ℕ)
-    → ((i : ℕ) → a ≤ i → i < a + n → test i ≡ true)
-    → list_all test (range_with_len a n) ≡ true
-all_in_range test a zero h = refl
-all_in_range test a (suc n) h =
-    and_from _ _ (h a (omega arith) (omega arith))
-    (all_in_range test (a + 1) n (λ i low high. h i (omega arith) (omega arith)))
 
 -- Covered --------------------------------------------------------------------------------------
 
@@ -84,28 +74,19 @@ below_deep : (b : BoardValue) (v : Values) (c level : ℕ) (ps : List Part) (p q
     → up b (suc level) x ≡ up b (suc level) c
     → p.depth ≤ laid b c (take (suc level) ps) v.depth level (up b level x)
 below_deep b v c level ps p q high at falls others x on joined =
-    elim (cases_eq (up b level x) (up b level c)) [
-      | inl here ↦
-          let on_path : is_on_path b c level (up b level x) ≡ true =
-          and_from _ _ (le-leb level (height b) (omega arith))
-          (eq-eqb (up b level c) (up b level x) (sym here)) in
-          let get : slice_get (take (suc level) ps) level ≡ Some q =
-          get_take ps (suc level) level (omega arith) ∙ at in
-          let now : laid b c (take (suc level) ps) v.depth level (up b level x) ≡ q.depth =
-          cond-true (is_on_path b c level (up b level x)) _ (v.depth level (up b level x)) on_path
-          ∙ ap (λ o. depth_or o (v.depth level (up b level x))) get in
-          omega (arith, now, falls)
-      | inr there ↦
-          let off = cases_Bool (is_on_path b c level (up b level x)) in
-          elim off [
-            | inl on_it ↦ absurd (there (path_place b c level (up b level x) on_it))
-            | inr off_it ↦
-                let now = cond-false (is_on_path b c level (up b level x))
-                (depth_or (slice_get (take (suc level) ps) level) (v.depth level (up b level x)))
-                (v.depth level (up b level x)) off_it in
-                omega (arith, now, others x on joined there)
-          ]
-    ]
+    grind (
+      arith,
+      nat_tests,
+      cases_eq,
+      and_from,
+      le-leb,
+      eq-eqb,
+      get_take,
+      cond-true,
+      cases_Bool,
+      path_place,
+      cond-false,
+    )
 
 -- a part is covered, whose domain's other children are deep
 covered : (b : BoardValue) (v : Values) (c k : ℕ) (ps : List Part) (p : Part) → PathLaws b
@@ -117,7 +98,7 @@ covered : (b : BoardValue) (v : Values) (c k : ℕ) (ps : List Part) (p : Part) 
 covered b v c zero ps p paths kids on low others falls = refl
 covered b v c (suc level) ps p paths kids on low others falls =
     let lower = falls level refl in
-    all_in_range
+    all_in
     (λ place. nat_le p.depth (laid b c (take (suc level) ps) v.depth (suc level - 1) place))
     (first_child b (suc level) (up b (suc level) c)) (children b (domain_of b c (suc level)))
     (λ i first last.
@@ -150,8 +131,7 @@ applied_at_least b v c ps n paths kids are =
     prefix_at_least (is_applied b v c ps) ps n are.few (λ k p low at.
     let level = are.level k p at in
     let live : (p.generation == starts_below b v.starts (domain_of b c p.level)) ≡ true =
-    eq-eqb _ _ (are.live k p low at
-    ∙ ap (λ l. starts_below b v.starts (domain_of b c l)) (sym level.0)) in
+    grind (arith, nat_tests, eq-eqb) in
     let cover : is_covered b (laid b c (take k ps) v.depth) (domain_of b c k) p.depth ≡ true =
     covered b v c k ps p paths kids are.core level.1
     (λ l e. are.others l p (omega (arith, low, e)) (ap (slice_get ps) (sym e) ∙ at))

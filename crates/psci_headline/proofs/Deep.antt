@@ -1,22 +1,17 @@
 -- A domain that is not fully on is as deep as a live claim on it.
-use Rattle.std.proofs.Common.{◌≡◌, ℕ, ◌<◌, ◌⊎◌, inl, inr, Bool, true, false, cond, List, Some}
-use Rattle.std.proofs.Common.{refl, arith, sym, subst}
-use Rattle.psci_board.specs.Board.{BoardValue}
-use Rattle.psci_board.specs.declared.node.Node.{Node}
+use Rattle.std.proofs.Common.{◌≡◌, ℕ, ◌<◌, ◌⊎◌, Bool, true, false, cond, List, Some, refl, arith}
+use Rattle.std.proofs.Common.{sym, subst}
+use Rattle.std.proofs.lemmas.Bool.Decides.{nat_tests}
+use Rattle.psci_headline.proofs.Words.{BoardValue, Node, is_on_path, Record, controller_history}
+use Rattle.psci_headline.proofs.Words.{controller_values, IsReplied, depth_at, IsApplied, IsFirst}
+use Rattle.psci_headline.proofs.Words.{HasLive}
 use Rattle.psci_ctl_spec.specs.History as controls
-use Rattle.psci_ctl_spec.specs.Lasting.{IsApplied, IsFirst}
-use Rattle.psci_board.specs.Paths.{is_on_path}
-use Rattle.psci_world_spec.specs.declared.said.Record.{Record}
-use Rattle.psci_world_spec.specs.Histories.{controller_history, controller_values}
-use Rattle.psci_world_spec.specs.Legal.{IsReplied}
 use Rattle.psci_headline.proofs.AppliedParts.{was_sent}
-use Rattle.psci_headline.specs.Moments.{depth_at}
-use Rattle.psci_headline.specs.Live.{HasLive}
 use Rattle.psci_headline.proofs.Claiming.{part_in, start_in}
 use Rattle.psci_headline.proofs.LiveOnes.{has_live}
 
 -- off the boot path only is a domain down at the life's start
-first_off : (t : Bool) (depth : ℕ) → depth ≡ cond t 0 3 → 0 < depth → (t ≡ false) × (depth ≡ 3)
+pub first_off : (t : Bool) (depth : ℕ) → depth ≡ cond t 0 3 → 0 < depth → (t ≡ false) × (depth ≡ 3)
 first_off true depth e some = absurd (omega (arith, e, some))
 first_off false depth e some = (refl, e)
 
@@ -51,7 +46,5 @@ pub claimed_depth : (b : BoardValue) (past : List Record) (life : ℕ) (n : Node
     → (controller_values b past).life ≡ Some life → 0 < depth_at b past n.level n.place
     → HasLive b past n (depth_at b past n.level n.place)
 unfolding controls.values_of
-claimed_depth b past life n is from present some = elim (from present some) [
-  | inl a ↦ applied_live b past life n is present a
-  | inr f ↦ first_live b past life n present some f
-]
+claimed_depth b past life n is from present some =
+    grind (arith, nat_tests, applied_live, first_live)

@@ -1,22 +1,15 @@
 -- What waits, after parts of a Down were applied.
-use Rattle.std.proofs.Common.{◌≡◌, ℕ, inl, inr, Bool, true, false, ◌==◌, cond}
-use Rattle.std.proofs.Common.{List, Option, None, Some, refl, arith, ap, sym, ◌∙◌}
-use Rattle.std.specs.Prelude.{nat_le, slice_get}
+use Rattle.std.proofs.Common.{◌≡◌, ℕ, inl, inr, Bool, true, List, Option, Some, refl, arith, ap}
+use Rattle.std.proofs.Common.{sym, ◌∙◌}
+use Rattle.std.proofs.lemmas.Bool.Decides.{nat_tests}
+use Rattle.std.specs.Prelude.{slice_get}
 use Rattle.std.proofs.lemmas.Bool.{and_parts, eqb-true}
 use Rattle.std.proofs.lemmas.Option.{same_Some}
-use Rattle.psci_board.specs.Board.{BoardValue, height, up}
-use Rattle.psci_ctl_spec.specs.psci_messages.declared.part.Part.{Part}
-use Rattle.psci_ctl_spec.specs.Parts.{depth_or, laid}
-use Rattle.psci_board.specs.Paths.{is_on_path}
-use Rattle.psci_ctl_spec.specs.psci_messages.declared.kind.Kind.TheVariants.{Down}
-use Rattle.psci_ctl_spec.specs.psci_messages.Message.{AckValue, MessageValue}
-use Rattle.psci_ctl_spec.specs.psci_messages.Slots.{Slot}
-use Rattle.psci_headline.specs.psci_fw_spec.Phases.{Phase}
-use Rattle.psci_headline.specs.psci_fw_laws.Claims.{AreRising}
-use Rattle.psci_headline.specs.psci_fw_laws.KnownBelow.{known_below}
+use Rattle.psci_headline.proofs.Words.{BoardValue, up, Part, laid, is_on_path, Down, AckValue}
+use Rattle.psci_headline.proofs.Words.{MessageValue, Slot, Phase, AreRising, known_below}
+use Rattle.psci_headline.proofs.Words.{AreWaiting, IsLivePart}
 use Rattle.psci_headline.proofs.fw_laws.Consequences.{once}
 use Rattle.psci_headline.proofs.fw_laws.Parts.{part_from}
-use Rattle.psci_headline.specs.Waiting.{AreWaiting, IsLivePart}
 use Rattle.psci_headline.proofs.Taking.{named}
 use Rattle.psci_headline.proofs.Starting.{same_sum}
 
@@ -40,21 +33,11 @@ pub laid_by : (b : BoardValue) (c : ℕ) (ps : List Part) (depth : ℕ → ℕ �
     → depth level place ≡ d
     → ((p : Part) → is_on_path b c level place ≡ true → slice_get ps level ≡ Some p → p.depth ≡ d)
     → laid b c ps depth level place ≡ d
-laid_by b c ps depth level place d same here =
-    by_test (is_on_path b c level place) (slice_get ps level) refl refl
-  where
-    by_test : (t : Bool) (o : Option Part) → is_on_path b c level place ≡ t
-        → slice_get ps level ≡ o
-        → cond t (depth_or o (depth level place)) (depth level place) ≡ d
-    by_test false o e f = same
-    by_test true None e f = same
-    by_test true (Some p) e f = here p e f
+laid_by b c ps depth level place d same here = grind (arith, nat_tests)
 
 pub path_place : (b : BoardValue) (c level place : ℕ) → is_on_path b c level place ≡ true
     → place ≡ up b level c
-path_place b c level place e =
-    let both = and_parts (nat_le level (height b)) (up b level c == place) e in
-    sym (eqb-true _ _ both.1)
+path_place b c level place e = grind (arith, nat_tests, and_parts, eqb-true)
 
 -- a live part that is deep stays so: what is applied on its domain is that part
 pub keeps : (b : BoardValue) (life : ℕ) (starts : ℕ → ℕ) (depth : ℕ → ℕ → ℕ)
@@ -69,8 +52,7 @@ keeps b life starts depth sent c ps apart are k level m p at present kind part l
     let n : MessageValue = are.message in
     let here : place ≡ up b level n.core.number =
     path_place b c level place on ∙ ap (up b level) (sym are.core) in
-    let sum : q.generation ≡ p.generation =
-    are.live level q get ∙ ap (known_below b starts level) (sym here) ∙ sym live in
+    let sum : q.generation ≡ p.generation = grind (arith, nat_tests) in
     let one : are.index ≡ k = once b sent apart life level place are.index k n m q p are.at at
     (part_from b life level place n q (record {
       kind = are.kind;

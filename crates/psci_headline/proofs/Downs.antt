@@ -1,35 +1,21 @@
 -- What is so after an outstanding Down was served.
 use Rattle.std.proofs.Common.{◌≡◌, ℕ, inl, inr, ◌+◌, ◌<◌, ◌≤◌, Bool, true, false, ◌==◌, cond, not}
-use Rattle.std.proofs.Common.{List, length, take, None, Some, refl, arith, subst, ap, sym}
-use Rattle.std.proofs.Common.{◌∙◌, unwrap_or}
+use Rattle.std.proofs.Common.{List, length, take, None, Some, refl, arith, subst, ap, sym, ◌∙◌}
+use Rattle.std.proofs.lemmas.Bool.Decides.{nat_tests}
 use Rattle.std.specs.Prelude.{slice_get}
 use Rattle.std.proofs.lemmas.Bool.{cases_lt, leb-false, or_parts}
 use Rattle.std.proofs.lemmas.Option.{same_Some}
-use Rattle.psci_board.specs.Board.{BoardValue, up}
-use Rattle.psci_ctl_spec.specs.psci_messages.declared.part.Part.{Part}
-use Rattle.psci_board.specs.Board.{domain_of}
+use Rattle.psci_headline.proofs.Words.{BoardValue, up, Part, domain_of, Deepens, message_effect}
+use Rattle.psci_headline.proofs.Words.{AckLaws, applied, is_stale, laid, ack_by, MessageValue}
+use Rattle.psci_headline.proofs.Words.{OfCore, is_done, is_kind, Values, Record, controller_values}
+use Rattle.psci_headline.proofs.Words.{firmware_values, sent, indexed, place, deliveries, serving}
+use Rattle.psci_headline.proofs.Words.{IsLivePart, IsFront}
 use Rattle.psci_ctl_spec.specs.Changes as controlling
-use Rattle.psci_ctl_spec.specs.Effects.{Deepens, message_effect}
-use Rattle.psci_ctl_spec.specs.Follows.{IsFront}
-use Rattle.psci_ctl_spec.specs.Laws.{AckLaws}
-use Rattle.psci_ctl_spec.specs.Parts.{applied, is_stale, laid}
-use Rattle.psci_ctl_spec.specs.Replies.{ack_by}
 use Rattle.psci_ctl_spec.specs.Values as controlled
 use Rattle.psci_ctl_spec.proofs.Front.{is_front, take_get}
 use Rattle.psci_ctl_spec.specs.psci_messages.declared.kind.Kind.TheVariants as kinds
-use Rattle.psci_ctl_spec.specs.psci_messages.Message.{MessageValue}
-use Rattle.psci_ctl_spec.specs.psci_messages.Slots.{OfCore, is_done, is_kind}
-use Rattle.psci_headline.specs.psci_fw_spec.Values.{Values}
 use Rattle.psci_headline.proofs.fw_laws.Consequences.{once_down}
-use Rattle.psci_headline.specs.psci_world_spec.declared.said.Record.{Record}
-use Rattle.psci_headline.specs.psci_world_spec.Histories.{controller_values, firmware_values}
-use Rattle.psci_headline.specs.psci_world_spec.Histories.{sent}
-use Rattle.psci_headline.specs.psci_world_spec.Lists.{indexed}
-use Rattle.psci_headline.specs.psci_world_spec.Places.{place, place_of_effect}
-use Rattle.psci_headline.proofs.Numbering.{at_number}
-use Rattle.psci_headline.specs.Drained.{deliveries}
-use Rattle.psci_headline.specs.Settling.{serving}
-use Rattle.psci_headline.specs.Waiting.{IsLivePart}
+use Rattle.psci_headline.proofs.Items.{at_number}
 use Rattle.psci_headline.proofs.Serving.{ack_to}
 use Rattle.psci_headline.proofs.Applying.{IsReady, part_applied}
 use Rattle.psci_headline.proofs.Claimed.{AreDeep}
@@ -161,10 +147,7 @@ module _ (b : BoardValue) (before : List Record) (life : ℕ) (past : List Recor
   depth_now level place = ap (λ (u : controlled.Values). u.depth level place) control
 
   place_now : (x : ℕ) → place b next x ≡ place b past x
-  place_now x = em.answered.place x
-      ∙ ap (λ k. unwrap_or (place_of_effect x (message_effect b m (ack_by b w m k) k))
-      (place b past x))
-      out.down.kind
+  place_now x = grind (arith, nat_tests, em)
 
   -- the part of the first level that is left
   part_left : is_done (ack_to b past m) m ≡ false → IsLeft b w.starts m r
@@ -177,9 +160,7 @@ module _ (b : BoardValue) (before : List Record) (life : ℕ) (past : List Recor
       let item = item_at m.parts count few in
       let flat : item.item.level ≡ count = out.down.parts.level count item.item item.at in
       let live : IsLivePart b w.starts m count item.item =
-      ack_laws.waits parts.0 item.item item.at
-      ∙ ap (λ l. controlled.starts_below b w.starts (domain_of b m.core.number l)) flat
-      ∙ same_sum b w.starts (domain_of b m.core.number count) in
+      grind (arith, nat_tests, ack_laws, same_sum) in
       elim (cases_lt r count) [
         | inl high ↦ record {
           level = count;

@@ -1,58 +1,24 @@
 -- What is told after each effect of the firmware's calls, entries and acknowledgements.
-use Rattle.std.proofs.Common.{◌≡◌, ℕ, inl, inr, ◌<◌, true, false, List}
-use Rattle.std.proofs.Common.{[], ◌∷◌, length, Some, refl, arith, subst, sym, ◌∙◌}
-use Rattle.std.specs.Prelude.{slice_get}
-use Rattle.psci_headline.specs.psci_board.Board.{BoardValue}
-use Rattle.psci_headline.specs.psci_board.Laws.{PathLaws}
-use Rattle.psci_headline.specs.psci_board.declared.node.Core.{Core}
-use Rattle.psci_headline.specs.psci_messages.declared.part.Part.{Part}
-use Rattle.psci_headline.specs.psci_messages.declared.kind.Kind.{Kind}
-use Rattle.psci_headline.specs.psci_messages.declared.kind.Kind.TheVariants as kinds
-use Rattle.psci_headline.specs.psci_messages.declared.start.Start.{Start}
-use Rattle.psci_headline.specs.psci_messages.Message.{ArePartsOf, AreClaims, MessageValue}
-use Rattle.psci_headline.specs.psci_messages.Slots.{OfSystem, slot_of}
-use Rattle.psci_headline.specs.psci_fw_spec.After.{change}
-use Rattle.psci_headline.specs.psci_fw_spec.Changes.{Rest, with_arrival, with_halt}
-use Rattle.psci_headline.specs.psci_fw_spec.Changes.{with_phase, with_rest}
-use Rattle.psci_headline.specs.psci_fw_spec.Effects.{Rests}
-use Rattle.psci_headline.specs.psci_fw_spec.Effects.{Stops, Enters, Parks, StopsAtOnce}
-use Rattle.psci_headline.specs.psci_fw_spec.Lives.{in_life}
-use Rattle.psci_headline.specs.psci_fw_spec.Phases.{Phase, Away, Pending, Running}
-use Rattle.psci_headline.specs.psci_fw_spec.Phases.{unless_pending}
-use Rattle.psci_headline.specs.psci_fw_spec.Values.{Values}
-use Rattle.psci_headline.specs.psci_fw_laws.Allowed.{IsAllowed}
-use Rattle.psci_headline.specs.psci_fw_laws.Kept.{Holds}
-use Rattle.psci_headline.specs.psci_fw_laws.KnownBelow.{KnownLaws}
-use Rattle.psci_headline.specs.psci_fw_laws.Messages.{is_system}
+use Rattle.std.proofs.Common.{arith, ◌≡◌, ℕ, inl, inr, ◌<◌, true, List, refl, subst, sym, ◌∙◌}
+use Rattle.std.proofs.lemmas.Bool.Decides.{nat_tests}
+use Rattle.psci_headline.proofs.Words.{BoardValue, PathLaws, Start, MessageValue, change}
+use Rattle.psci_headline.proofs.Words.{with_arrival, Rests, Stops, Enters, Parks, StopsAtOnce}
+use Rattle.psci_headline.proofs.Words.{in_life, Away, Values, IsAllowed, Holds, KnownLaws}
+use Rattle.psci_headline.proofs.Words.{is_system, AreConfirming, Rest, with_phase, with_rest}
+use Rattle.psci_headline.specs.psci_fw_spec.Changes.{with_halt}
+use Rattle.psci_headline.specs.psci_fw_spec.Phases.{Running}
 use Rattle.psci_headline.proofs.fw_laws.Parts.{updated_at}
-use Rattle.psci_headline.proofs.Slots.{put_system}
-use Rattle.psci_headline.specs.Confirming.{AreConfirming}
+use Rattle.psci_headline.proofs.Slots.{system_slot, put_system}
+use Rattle.psci_headline.proofs.Telling.{first_part}
 use Rattle.psci_headline.proofs.Beside.{AreBeside, IsFlat, all_domains, arrived, arrived_flat}
 use Rattle.psci_headline.proofs.Beside.{claims, phased, rested, runs}
 use Rattle.psci_headline.proofs.Coming.{on_path, yet_still}
 
 -- A core goes on or halts ----------------------------------------------------------------------
 
-never_away : (p : Phase) → unless_pending p Running ≡ Away → ⊥
-never_away Pending e = absurd (cc)
-never_away p e = absurd (cc)
-
 pub goes_on : (b : BoardValue) (starts : ℕ → ℕ) (v : Values) (c : ℕ) → AreConfirming b starts v
     → AreConfirming b starts (with_phase c Running v)
-goes_on b starts v c are = record {
-  domains = are.domains;
-  cores = λ awake x on away.
-      are.cores awake x on
-      (updated_at (λ (y : Phase). y ≡ Away → v.phase x ≡ Away) v.phase c
-      (unless_pending (v.phase c) Running) x (λ here e. absurd (never_away (v.phase c) e))
-      (λ there e. e) away);
-}
-
-system_slot : (k : Kind) (core : Core) → is_system k ≡ true → slot_of k core ≡ OfSystem
-system_slot kinds.Down core e = absurd (cc)
-system_slot kinds.Start core e = absurd (cc)
-system_slot kinds.Off core e = refl
-system_slot kinds.Reset core e = refl
+goes_on b starts v c are = grind (arith, nat_tests, updated_at)
 
 pub halts : (b : BoardValue) (starts : ℕ → ℕ) (v : Values) (c : ℕ) (m : MessageValue)
     → is_system m.kind ≡ true → AreConfirming b starts v
@@ -72,27 +38,9 @@ halts b starts v c m system are = record {
 -- a halting life says nothing of cores
 halting : (b : BoardValue) (starts : ℕ → ℕ) (v : Values) (c : ℕ) → v.halting ≡ true
     → AreBeside b starts v c → IsFlat b v c → AreConfirming b starts v
-halting b starts v c is are flat = record {
-  domains = all_domains b starts v c are flat;
-  cores = λ awake. let no : true ≡ false = sym is ∙ awake in absurd (cc);
-}
+halting b starts v c is are flat = grind (arith, nat_tests, all_domains)
 
 -- A Down is sent -------------------------------------------------------------------------------
-
--- The first part of a Down.
-record HasFirst (parts : List Part) : Type 0 where
-  pub part : Part
-  pub at : slice_get parts 0 ≡ Some part
-
-first_of : (parts : List Part) → 0 < length parts → HasFirst parts
-first_of [] some = absurd (omega (arith, some))
-first_of (p ∷ ps) some = record { part = p; at = refl }
-
-first_part : (m : MessageValue) → m.kind ≡ kinds.Down → ArePartsOf m.kind m.parts
-    → HasFirst m.parts
-first_part m kind are =
-    let claim : AreClaims m.parts = subst (λ x. ArePartsOf x m.parts) kind are in
-    first_of m.parts claim.some
 
 -- nothing is granted on the path of a core that runs
 flat_running : (b : BoardValue) (v : Values) (sent : List MessageValue) (c : ℕ) → Holds b v sent
@@ -110,7 +58,7 @@ module _ (b : BoardValue) (starts : ℕ → ℕ) (laws : KnownLaws b) (paths : P
       → AreConfirming b starts (change b (Rests c rest m) v)
   rests v sent c rest m holds allowed are =
       let first = first_part m allowed.claim.kind allowed.claim.sound.parts in
-      claims b starts (with_rest c rest v) m first.part paths allowed.claim.kind
+      claims b starts (with_rest c rest v) m first.item paths allowed.claim.kind
       allowed.claim.current first.at
       (subst (AreBeside b starts (with_rest c rest v)) (sym allowed.core)
       (rested b starts v c rest are))
@@ -123,7 +71,7 @@ module _ (b : BoardValue) (starts : ℕ → ℕ) (laws : KnownLaws b) (paths : P
   parks v c s m allowed are =
       let u : Values = with_phase c Away (with_arrival b c s v) in
       let first = first_part m allowed.claim.kind allowed.claim.sound.parts in
-      claims b starts u m first.part paths allowed.claim.kind allowed.claim.current first.at
+      claims b starts u m first.item paths allowed.claim.kind allowed.claim.current first.at
       (subst (AreBeside b starts u) (sym allowed.core)
       (phased b starts (with_arrival b c s v) c Away (arrived b starts v c s laws paths are)))
       (subst (IsFlat b u) (sym allowed.core) (arrived_flat b v c s))
@@ -144,7 +92,4 @@ module _ (b : BoardValue) (starts : ℕ → ℕ) (laws : KnownLaws b) (paths : P
 
   pub stops : (v : Values) (sent : List MessageValue) (c : ℕ) → IsAllowed b v (Stops c)
       → AreConfirming b starts v → AreConfirming b starts (change b (Stops c) v)
-  stops v sent c allowed are = record {
-    domains = are.domains;
-    cores = λ awake. let no : true ≡ false = sym allowed.halting ∙ awake in absurd (cc);
-  }
+  stops v sent c allowed are = grind (arith, nat_tests)

@@ -1,29 +1,18 @@
 -- What is so after what is outstanding for a core was served.
-use Rattle.std.proofs.Common.{◌≡◌, ℕ, Bool, true, false, ◌&&◌, cond, List, Option, None, Some}
+use Rattle.std.proofs.Common.{arith, ◌≡◌, ℕ, Bool, true, false, cond, List, Option, None, Some}
 use Rattle.std.proofs.Common.{refl, subst, ap, sym, ◌∙◌, option_and_then}
+use Rattle.std.proofs.lemmas.Bool.Decides.{nat_tests}
 use Rattle.std.proofs.lemmas.Bool.{and_from, cond-true, cond-false, eq-eqb, ne_eqb}
-use Rattle.psci_board.specs.Board.{BoardValue}
-use Rattle.psci_board.specs.declared.node.Core.{Core}
-use Rattle.psci_ctl_spec.specs.Replies.{ack_by, may_follow}
-use Rattle.psci_ctl_spec.specs.Values as controlled
-use Rattle.psci_ctl_spec.specs.psci_messages.declared.kind.Kind.{Kind}
-use Rattle.psci_ctl_spec.specs.psci_messages.declared.kind.Kind.TheVariants.{Down, Start, Off}
-use Rattle.psci_ctl_spec.specs.psci_messages.declared.kind.Kind.TheVariants.{Reset}
-use Rattle.psci_ctl_spec.specs.psci_messages.declared.taken.Taken.TheVariants.{Used, Old}
-use Rattle.psci_ctl_spec.specs.psci_messages.Message.{AckValue, MessageValue}
-use Rattle.psci_ctl_spec.specs.psci_messages.Slots.{Acknowledge, OfCore, answers, changed, is_done}
-use Rattle.psci_ctl_spec.specs.psci_messages.Slots.{is_kind, is_slot}
-use Rattle.psci_ctl_spec.specs.psci_messages.Slots.{left_by, slot_of, taken}
-use Rattle.psci_headline.specs.psci_fw_spec.Taking.{taken_by}
-use Rattle.psci_headline.specs.psci_fw_spec.Values.{Values}
-use Rattle.psci_headline.specs.psci_fw_laws.Messages.{is_system}
-use Rattle.psci_headline.specs.psci_fw_laws.Outstanding.{AreOutstanding}
-use Rattle.psci_headline.specs.psci_world_spec.declared.said.Record.{Record}
-use Rattle.psci_headline.specs.psci_world_spec.Histories.{controller_values, firmware_values}
-use Rattle.psci_headline.specs.psci_world_spec.Histories.{sent}
-use Rattle.psci_headline.specs.psci_world_spec.Legal.{IsLegalPast}
+use Rattle.psci_headline.proofs.Words.{BoardValue, Kind, Used, AckValue, MessageValue, Acknowledge}
+use Rattle.psci_headline.proofs.Words.{OfCore, answers, changed, is_done, slot_of, Values}
+use Rattle.psci_headline.proofs.Words.{is_system, AreOutstanding, Record, controller_values}
+use Rattle.psci_headline.proofs.Words.{firmware_values, sent, IsLegalPast, served, serving}
+use Rattle.psci_headline.proofs.Words.{taken_by, index_of}
+use Rattle.psci_ctl_spec.specs.psci_messages.declared.taken.Taken.TheVariants.{Old}
+use Rattle.psci_ctl_spec.specs.psci_messages.Slots.{taken}
+use Rattle.psci_headline.proofs.Acknowledging.{acks_message}
+use Rattle.psci_headline.proofs.Slots.{core_slot}
 use Rattle.psci_headline.proofs.Agreed.{RunLaws}
-use Rattle.psci_headline.specs.Settling.{served, serving, index_of}
 use Rattle.psci_headline.proofs.Serving.{AreAnswered, ack_to, answered_so}
 use Rattle.psci_headline.proofs.Finding.{HasNumber, HaveName, finds}
 use Rattle.psci_headline.proofs.Taking.{HasName}
@@ -31,62 +20,21 @@ use Rattle.psci_headline.proofs.Telling.{own_kind}
 
 -- Names ----------------------------------------------------------------------------------------
 
--- an acknowledgement has the name of its message
-ack_has : (b : BoardValue) (w : controlled.Values) (m : MessageValue) (kind : Kind)
-    → HasName (ack_by b w m kind) m
-ack_has b w m Down = record { kind = refl; core = refl; life = refl; number = refl }
-ack_has b w m Start = by_test (may_follow b w m.core.number m.number)
-  where
-    by_test : (t : Bool) → HasName (cond t (record {
-      kind = m.kind;
-      core = m.core;
-      life = m.life;
-      number = m.number;
-      applied = 1;
-      stale = false;
-    }) (record {
-      kind = m.kind;
-      core = m.core;
-      life = m.life;
-      number = m.number;
-      applied = 0;
-      stale = true;
-    })) m
-    by_test true = record { kind = refl; core = refl; life = refl; number = refl }
-    by_test false = record { kind = refl; core = refl; life = refl; number = refl }
-ack_has b w m Off = record { kind = refl; core = refl; life = refl; number = refl }
-ack_has b w m Reset = record { kind = refl; core = refl; life = refl; number = refl }
-
--- so it answers each message of that name
+-- an acknowledgement answers each message that has the name of its own
 named_answers : (a : AckValue) (m n : MessageValue) → HasName a n → HaveName m n
     → answers a m ≡ true
-named_answers a m n mine same =
-    and_from _ _ (ap (is_kind a.kind) (same.kind ∙ sym mine.kind) ∙ own_kind a.kind)
-    (and_from _ _ (eq-eqb _ _ (mine.core ∙ sym same.core))
-    (and_from _ _ (eq-eqb _ _ (mine.life ∙ sym same.life))
-    (eq-eqb _ _ (mine.number ∙ sym same.number))))
-
-core_slot : (k : Kind) (core : Core) → is_system k ≡ false → slot_of k core ≡ OfCore core.number
-core_slot Down core e = refl
-core_slot Start core e = refl
-core_slot Off core e = absurd (cc)
-core_slot Reset core e = absurd (cc)
+named_answers a m n mine same = grind (arith, nat_tests, and_from, own_kind, eq-eqb)
 
 -- Slots ----------------------------------------------------------------------------------------
 
 left_there : (a : AckValue) (c x : ℕ) (o : Option MessageValue)
     → slot_of a.kind a.core ≡ OfCore c → (x ≡ c → ⊥) → changed (OfCore x) (Acknowledge a) o ≡ o
-left_there a c x o slot ne =
-    cond-false (is_slot (slot_of a.kind a.core) (OfCore x)) (left_by a o) o
-    (ap (λ s. is_slot s (OfCore x)) slot ∙ ne_eqb c x (λ e. ne (sym e)))
+left_there a c x o slot ne = grind (arith, nat_tests, cond-false, ne_eqb)
 
 left_here : (a : AckValue) (c : ℕ) (m : MessageValue) → slot_of a.kind a.core ≡ OfCore c
     → answers a m ≡ true
     → changed (OfCore c) (Acknowledge a) (Some m) ≡ cond (is_done a m) None (Some m)
-left_here a c m slot e =
-    cond-true (is_slot (slot_of a.kind a.core) (OfCore c)) (left_by a (Some m)) (Some m)
-    (ap (λ s. is_slot s (OfCore c)) slot ∙ eq-eqb c c refl)
-    ∙ ap (λ t. cond (t && is_done a m) None (Some m)) e
+left_here a c m slot e = grind (arith, nat_tests, cond-true, eq-eqb)
 
 -- What is so after the message of some number was served, which has the name of what is
 -- outstanding for a core.
@@ -122,7 +70,7 @@ empties b past c m laws is n present at core kind = record {
     a = ack_to b past n.message
 
     name : HasName a n.message
-    name = ack_has b (controller_values b past) n.message n.message.kind
+    name = acks_message b (controller_values b past) n.message n.message.kind
 
     mine : answers a m ≡ true
     mine = named_answers a m n.message name n.name

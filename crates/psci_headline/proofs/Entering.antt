@@ -1,45 +1,28 @@
 -- After every legal history each entry has taken up an opening of its own.
-use Rattle.std.proofs.Common.{◌≡◌, ℕ, suc, ◌≤◌, Bool, true, false, ◌==◌, cond, List, [], ◌∷◌}
-use Rattle.std.proofs.Common.{◌++◌, length, Option, None, Some, option_map, refl, ap, sym, ◌∙◌}
-use Rattle.std.proofs.Common.{subst, arith}
+use Rattle.std.proofs.Common.{◌≡◌, ℕ, suc, ◌≤◌, Bool, true, false, ◌==◌, cond, List, [], ◌∷◌, ◌++◌}
+use Rattle.std.proofs.Common.{length, Option, None, Some, option_map, refl, ap, sym, ◌∙◌, subst}
+use Rattle.std.proofs.Common.{arith}
+use Rattle.std.proofs.lemmas.Bool.Decides.{nat_tests}
 use Rattle.std.specs.Option.{option_or}
 use Rattle.std.proofs.lemmas.Bool.{eqb-false, eqb-true}
-use Rattle.psci_board.specs.Board.{BoardValue}
-use Rattle.psci_ctl_spec.specs.psci_messages.declared.start.Start.{Start}
-use Rattle.psci_ctl_spec.specs.psci_messages.Message.{MessageValue}
-use Rattle.psci_fw_laws.specs.psci_fw_spec.declared.call.FwCall.{FwCall}
+use Rattle.psci_headline.proofs.Words.{BoardValue, Start, MessageValue, FwFault, Opening, Act}
+use Rattle.psci_headline.proofs.Words.{Outcome, FwReply, change, reply_or, with_arrival, Effect}
+use Rattle.psci_headline.proofs.Words.{AsksOn, Rests, Enters, Parks, StopsAtOnce, enter_effect}
+use Rattle.psci_headline.proofs.Words.{enter_fault, FwExchange, effect, IsLegal, in_life}
+use Rattle.psci_headline.proofs.Words.{start_of_life, stops, arrived, listed, Values, updated}
+use Rattle.psci_headline.proofs.Words.{IsAllowed, enters_or_resumes_by, Made, TakenUp, OfCall}
+use Rattle.psci_headline.proofs.Words.{OfLife, FwCall, outcome_at, stops_with, AreTakenUp}
+use Rattle.psci_headline.proofs.Words.{EnteredAt, made_at}
 use Rattle.psci_fw_laws.specs.psci_fw_spec.declared.call.FwCall.TheVariants as calls
-use Rattle.psci_fw_laws.specs.psci_fw_spec.declared.fault.FwFault.{FwFault}
-use Rattle.psci_fw_laws.specs.psci_fw_spec.declared.opening.Opening.{Opening}
-use Rattle.psci_fw_laws.specs.psci_fw_spec.declared.outcome.Act.{Act}
 use Rattle.psci_fw_laws.specs.psci_fw_spec.declared.outcome.Act.TheVariants as acts
-use Rattle.psci_fw_laws.specs.psci_fw_spec.declared.outcome.Outcome.{Outcome}
-use Rattle.psci_fw_laws.specs.psci_fw_spec.declared.reply.FwReply.{FwReply}
 use Rattle.psci_fw_laws.specs.psci_fw_spec.declared.reply.FwReply.TheVariants as replies
-use Rattle.psci_fw_laws.specs.psci_fw_spec.After.{change}
-use Rattle.psci_fw_laws.specs.psci_fw_spec.Answer.{answer, reply_or}
-use Rattle.psci_fw_laws.specs.psci_fw_spec.Changes.{with_arrival}
+use Rattle.psci_fw_laws.specs.psci_fw_spec.Answer.{answer}
 use Rattle.psci_fw_laws.specs.psci_fw_spec.CpuOff.{off_message}
-use Rattle.psci_fw_laws.specs.psci_fw_spec.Effects.{Effect, AsksOn}
-use Rattle.psci_fw_laws.specs.psci_fw_spec.Effects.{Rests}
-use Rattle.psci_fw_laws.specs.psci_fw_spec.Effects.{Enters, Parks, StopsAtOnce}
 use Rattle.psci_fw_laws.specs.psci_fw_spec.Effects.{effect_of}
-use Rattle.psci_fw_laws.specs.psci_fw_spec.Effects.{enter_effect}
-use Rattle.psci_fw_laws.specs.psci_fw_spec.Entering.{enter_fault, enter_outcome, outcome_at}
-use Rattle.psci_fw_laws.specs.psci_fw_spec.Entering.{resumes}
-use Rattle.psci_fw_laws.specs.psci_fw_spec.Exchange.{FwExchange, effect}
+use Rattle.psci_fw_laws.specs.psci_fw_spec.Entering.{enter_outcome}
 use Rattle.psci_fw_laws.specs.psci_fw_spec.History.{life, values_of}
-use Rattle.psci_fw_laws.specs.psci_fw_spec.Legal.{IsLegal}
-use Rattle.psci_fw_laws.specs.psci_fw_spec.Lives.{in_life, start_of_life}
-use Rattle.psci_fw_laws.specs.psci_fw_spec.Outcomes.{stops, stops_with}
-use Rattle.psci_fw_laws.specs.psci_fw_spec.Said.{arrived, listed}
-use Rattle.psci_fw_laws.specs.psci_fw_spec.Values.{Values, updated}
-use Rattle.psci_fw_laws.specs.Allowed.{IsAllowed}
 use Rattle.psci_fw_laws.proofs.Parts.{updated_at}
-use Rattle.psci_headline.specs.Moments.{enters_or_resumes_by}
-use Rattle.psci_headline.specs.Openings.{AreTakenUp, EnteredAt, Made, TakenUp, entered_by}
-use Rattle.psci_headline.specs.Openings.{entered_to, made_at, made_for_boot, openings, taken_up}
-use Rattle.psci_headline.specs.Openings.{OfCall, OfLife}
+use Rattle.psci_headline.specs.Openings.{entered_by, entered_to, made_for_boot, openings, taken_up}
 use Rattle.psci_headline.proofs.Functions.{call_ends}
 use Rattle.psci_headline.proofs.Naming.{AreNamed, made_in, names_target, same_made}
 use Rattle.psci_headline.proofs.TakingUp.{taken_up_by, taking}
@@ -65,11 +48,7 @@ module _ (b : BoardValue) (found after : Values) (c : ℕ) (s : Start) (a k : �
 
   opened : (o : Option Opening) → acts.Enter a k ≡ (outcome_at b found after c s o).act
       → o ≡ Some (record { address = a; context = k })
-  opened (Some o) e =
-      let address : o.address ≡ a = cc in
-      let context : o.context ≡ k = cc in
-      λ i. Some (record { address = address i; context = context i })
-  opened None e = absurd (resumed (resumes found c s) e)
+  opened o e = grind (arith, nat_tests, resumed)
 
   opened_unless : (t : Bool) (o : Option Opening)
       → acts.Enter a k ≡ (cond t stops (outcome_at b found after c s o)).act
@@ -79,10 +58,7 @@ module _ (b : BoardValue) (found after : Values) (c : ℕ) (s : Start) (a k : �
 
 answered : (act : Act) (m : Option MessageValue) (fault : Option FwFault) (o : Outcome)
     → replies.Out (record { act = act; message = m }) ≡ reply_or fault o → act ≡ o.act
-answered act m (Some f) o e = absurd (cc)
-answered act m None o e =
-    let same : (record { act = act; message = m }) ≡ o = cc in
-    ap (λ (x : Outcome). x.act) same
+answered act m fault o e = grind (arith, nat_tests)
 
 entered_at : (b : BoardValue) (v : Values) (c : ℕ) (s : Start) (act : Act)
     (m : Option MessageValue) (x : EnteredAt)
@@ -116,11 +92,8 @@ no_entry c before act x ends is = absurd (cc)
 has_entered : (b : BoardValue) (v : Values) (before c : ℕ) (call : FwCall) (reply : FwReply)
     (x : EnteredAt) → reply ≡ answer b v c call → entered_by before c call reply ≡ Some x
     → HasEntered b v (effect_of b c call reply) x
-has_entered b v before c (calls.Smc regs) (replies.Out o) x e is =
-    absurd (no_entry c before o.act x (call_ends b v c regs o e) is)
-has_entered b v before c (calls.Enter s) (replies.Out o) x e is =
-    entered_at b v c s o.act o.message x e is
-has_entered b v before c call reply x e is = absurd (cc)
+has_entered b v before c call reply x e is =
+    grind (arith, nat_tests, no_entry, call_ends, entered_at)
 
 -- What an effect leaves ------------------------------------------------------------------------
 
@@ -143,10 +116,7 @@ module _ (b : BoardValue) (n : ℕ) (v : Values) (made : List Made) (taken : Lis
       (cond t v (start_of_life b s.life)).opening
       (listed (cond t None (made_at (OfLife s.life) 0 s.life
       (Some (record { address = b.boot; context = 0 })))) ++ made) taken
-  found_waits c s true is low = are
-  found_waits c s false is low =
-      begun n v.life v.opening made taken are b s.life
-      (let other = eqb-false s.life v.life is in omega (arith, other))
+  found_waits c s t is low = grind (arith, nat_tests, begun, eqb-false)
 
   rested : (c : ℕ) (o : Option Opening)
       → AreWaiting (suc n) v.life (updated v.opening c (option_or o (v.opening c)))

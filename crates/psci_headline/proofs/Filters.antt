@@ -42,11 +42,6 @@ pub head_kept : {X : Type 0} (x : X) (list : List X) (t : Bool) → t ≡ true
 head_kept x list true is = refl
 head_kept x list false is = absurd (cc)
 
-pub head_left : {X : Type 0} (x : X) (list : List X) (t : Bool) → (t ≡ true → ⊥)
-    → slice_get (cond t (x ∷ list) list) 0 ≡ slice_get list 0
-head_left x list true none = absurd (none refl)
-head_left x list false none = refl
-
 -- an item that passes is kept
 pub keeps : {X : Type 0} (test : X → Bool) (list : List X) (k : ℕ) (y : X)
     → slice_get list k ≡ Some y → test y ≡ true

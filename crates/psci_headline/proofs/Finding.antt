@@ -1,15 +1,13 @@
 -- The numbers of messages: the newest one, older ones, and how one is found by its name.
-use Rattle.std.proofs.Common.{◌≡◌, ℕ, zero, suc, Bool, true, false, ◌==◌, List, [], ◌∷◌}
-use Rattle.std.proofs.Common.{◌++◌, length, reverse, Some, refl, arith, ap, sym, ◌∙◌}
-use Rattle.std.proofs.Common.{◌<◌, ◌-◌}
+use Rattle.std.proofs.Common.{◌≡◌, ℕ, zero, suc, Bool, true, false, List, [], ◌∷◌, ◌++◌, length}
+use Rattle.std.proofs.Common.{reverse, Some, refl, arith, ap, sym, ◌∙◌, ◌<◌, ◌-◌}
+use Rattle.std.proofs.lemmas.Bool.Decides.{nat_tests}
 use Rattle.std.specs.Prelude.{get_or, slice_get}
 use Rattle.std.proofs.lemmas.Bool.{and_from, and_parts, cond-true, cond-false, eq-eqb, eqb-true}
 use Rattle.std.proofs.lemmas.List.{get_or-reverse, length-reverse, reverse-append}
 use Rattle.std.proofs.lemmas.Option.{get_or_from_slice_get, slice_get-get_or, slice_get_within}
-use Rattle.psci_ctl_spec.specs.psci_messages.Message.{MessageValue}
-use Rattle.psci_ctl_spec.specs.psci_messages.Slots.{is_kind}
-use Rattle.psci_headline.specs.psci_world_spec.Lists.{indexed}
-use Rattle.psci_headline.specs.Settling.{has_name, index_of}
+use Rattle.psci_headline.proofs.Words.{MessageValue, indexed, index_of}
+use Rattle.psci_headline.specs.Settling.{has_name}
 use Rattle.psci_headline.proofs.Taking.{same_kind}
 use Rattle.psci_headline.proofs.Telling.{own_kind}
 
@@ -61,22 +59,11 @@ pub record HaveName (m n : MessageValue) : Type 0 where
   pub number : m.number ≡ n.number
 
 pub name_of : (m n : MessageValue) → has_name m n ≡ true → HaveName m n
-name_of m n e =
-    let kind = and_parts (is_kind m.kind n.kind) _ e in
-    let core = and_parts (m.core.number == n.core.number) _ kind.1 in
-    let rest = and_parts (m.life == n.life) _ core.1 in
-    record {
-      kind = same_kind m.kind n.kind kind.0;
-      core = eqb-true _ _ core.0;
-      life = eqb-true _ _ rest.0;
-      number = eqb-true _ _ rest.1;
-    }
+name_of m n e = grind (arith, nat_tests, and_parts, same_kind, eqb-true)
 
 -- a message has its own name
 own_name : (m : MessageValue) → has_name m m ≡ true
-own_name m =
-    and_from _ _ (own_kind m.kind) (and_from _ _ (eq-eqb m.core.number m.core.number refl)
-    (and_from _ _ (eq-eqb m.life m.life refl) (eq-eqb m.number m.number refl)))
+own_name m = grind (arith, nat_tests, and_from, own_kind, eq-eqb)
 
 -- The number of a message, as it is found by its name.
 pub record HasNumber (m : MessageValue) (sent : List MessageValue) : Type 0 where

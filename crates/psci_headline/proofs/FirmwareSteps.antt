@@ -1,47 +1,27 @@
 -- What waits after a call, an entry and an acknowledgement that was taken.
-use Rattle.std.proofs.Common.{◌≡◌, ℕ, ◌<◌, List, ◌++◌, Option, None, Some, option_map}
-use Rattle.std.proofs.Common.{refl, subst, sym}
-use Rattle.psci_headline.specs.psci_abi.Calls.{request_of}
-use Rattle.psci_headline.specs.psci_abi.declared.registers.Regs.{Regs}
-use Rattle.psci_board.specs.Board.{BoardValue, cores}
-use Rattle.psci_ctl_spec.specs.psci_messages.declared.start.Start.{Start}
-use Rattle.psci_ctl_spec.specs.Replies.{last_start}
-use Rattle.psci_ctl_spec.specs.psci_messages.Message.{AckValue, MessageValue}
-use Rattle.psci_ctl_spec.specs.psci_messages.declared.taken.Taken.{Taken}
+use Rattle.std.proofs.Common.{arith, ◌≡◌, ℕ, ◌<◌, List, ◌++◌, Option, None, Some, option_map, refl}
+use Rattle.std.proofs.Common.{subst, sym}
+use Rattle.std.proofs.lemmas.Bool.Decides.{nat_tests}
+use Rattle.psci_headline.proofs.Words.{request_of, Regs, BoardValue, cores, Start, last_start}
+use Rattle.psci_headline.proofs.Words.{AckValue, MessageValue, Taken, Outcome, change, call_fault}
+use Rattle.psci_headline.proofs.Words.{enter_effect, function_effect, enter_fault, IsLegal, listed}
+use Rattle.psci_headline.proofs.Words.{Values, Call, Enter, Take, Record, Said, ack_in, acks}
+use Rattle.psci_headline.proofs.Words.{controller_values, entered, firmware_history}
+use Rattle.psci_headline.proofs.Words.{firmware_values, outcome_in, sent, sent_in, took, legal}
+use Rattle.psci_headline.proofs.Words.{indexed, place}
 use Rattle.psci_ctl_spec.specs.psci_messages.declared.taken.Taken.TheVariants as takens
 use Rattle.psci_headline.specs.psci_fw_spec.declared.call.FwCall.TheVariants as calls
-use Rattle.psci_headline.specs.psci_fw_spec.declared.outcome.Outcome.{Outcome}
 use Rattle.psci_headline.specs.psci_fw_spec.declared.reply.FwReply.TheVariants as replies
-use Rattle.psci_headline.specs.psci_fw_spec.After.{change}
 use Rattle.psci_headline.specs.psci_fw_spec.Answer.{answer}
-use Rattle.psci_headline.specs.psci_fw_spec.Calls.{call_fault}
-use Rattle.psci_headline.specs.psci_fw_spec.Effects.{enter_effect, function_effect}
-use Rattle.psci_headline.specs.psci_fw_spec.Entering.{enter_fault}
 use Rattle.psci_headline.specs.psci_fw_spec.Exchange as firmware
-use Rattle.psci_headline.specs.psci_fw_spec.Exchange.{effect}
 use Rattle.psci_headline.specs.psci_fw_spec.History as remembers
-use Rattle.psci_headline.specs.psci_fw_spec.Legal.{IsLegal}
 use Rattle.psci_headline.specs.psci_fw_spec.Said as says
-use Rattle.psci_headline.specs.psci_fw_spec.Said.{listed}
-use Rattle.psci_headline.specs.psci_fw_spec.Values.{Values}
-use Rattle.psci_headline.specs.psci_world_spec.declared.event.Event.TheVariants.{Call, Enter}
-use Rattle.psci_headline.specs.psci_world_spec.declared.event.Event.TheVariants.{Take}
 use Rattle.psci_headline.specs.psci_world_spec.declared.place.Place.TheVariants as places
-use Rattle.psci_headline.specs.psci_world_spec.declared.said.Record.{Record}
-use Rattle.psci_headline.specs.psci_world_spec.declared.said.Said.{Said}
 use Rattle.psci_headline.specs.psci_world_spec.declared.said.Said.TheVariants as said
-use Rattle.psci_headline.specs.psci_world_spec.Histories.{ack_in, acks, controller_values}
-use Rattle.psci_headline.specs.psci_world_spec.Histories.{entered}
-use Rattle.psci_headline.specs.psci_world_spec.Histories.{firmware_history, firmware_values}
-use Rattle.psci_headline.specs.psci_world_spec.Histories.{outcome_in, sent}
-use Rattle.psci_headline.specs.psci_world_spec.Histories.{sent_in, took}
-use Rattle.psci_headline.specs.psci_world_spec.Legal.{legal}
-use Rattle.psci_headline.specs.psci_world_spec.Lists.{indexed}
-use Rattle.psci_headline.specs.psci_world_spec.Places.{place}
 use Rattle.psci_headline.proofs.Agreed.{RunLaws}
-use Rattle.psci_headline.proofs.Happening.{called, entered_by}
+use Rattle.psci_headline.proofs.Happening.{happens}
 use Rattle.psci_headline.proofs.Moving.{function_call}
-use Rattle.psci_headline.proofs.Numbering.{at_number}
+use Rattle.psci_headline.proofs.Items.{at_number}
 use Rattle.psci_headline.proofs.Outcomes.{call_sends, enter_sends}
 use Rattle.psci_headline.proofs.Sending.{after_call}
 use Rattle.psci_headline.proofs.BoardLaws.{Given}
@@ -60,7 +40,7 @@ pub call_next : (b : BoardValue) (past : List Record) (c : ℕ) (regs : Regs) (s
     → s ≡ legal b past (Call c regs) → ack_in s ≡ None → Next b past (Call c regs) s
 unfolding answer
 call_next b past c regs (said.Fw act sends) laws given now is e none =
-    let at = called b past c regs act sends e in
+    let at = happens b past (Call c regs) (said.Fw act sends) e refl in
     let m : Option MessageValue = option_map (λ s. s.message) sends in
     let v : Values = firmware_values b past in
     let same : says.sent (function_effect b c (request_of regs) act m) ≡ m =
@@ -82,7 +62,7 @@ pub enter_next : (b : BoardValue) (past : List Record) (c : ℕ) (s : Said) → 
     → s ≡ legal b past (Enter c) → ack_in s ≡ None → Next b past (Enter c) s
 unfolding answer
 enter_next b past c (said.Fw act sends) laws given now is e none =
-    let at = entered_by b past c act sends e in
+    let at = happens b past (Enter c) (said.Fw act sends) e refl in
     by_start (last_start (controller_values b past) c) at.start refl at.last at.core at.place is
   where
     m : Option MessageValue
@@ -129,10 +109,4 @@ took_next b past k (Some a) takens.Old laws given now f =
 
 pub take_next : (b : BoardValue) (past : List Record) (k : ℕ) (s : Said) → RunLaws b
     → Given b past → Now b past → sent_in s ≡ None → ack_in s ≡ None → Next b past (Take k) s
-take_next b past k (said.Fw act sends) laws given now e f =
-    subst (λ o. WaitsNow b (controller_values b past) (firmware_values b past)
-    (listed o ++ sent past) (acks past)) (sym e) now
-take_next b past k (said.Acked index ack) laws given now e f = absurd (cc)
-take_next b past k (said.Taken taken) laws given now e f =
-    took_next b past k (indexed (acks past) k) taken laws given now refl
-take_next b past k s laws given now e f = now
+take_next b past k s laws given now e f = grind (arith, nat_tests, took_next)

@@ -1,10 +1,9 @@
 -- What holds after a step of each core in turn.
-use Rattle.std.proofs.Common.{◌≡◌, ℕ, zero, suc, inl, inr, ◌+◌, ◌<◌, ◌≤◌, List}
-use Rattle.std.proofs.Common.{arith, subst, sym}
+use Rattle.std.proofs.Common.{◌≡◌, ℕ, zero, suc, inl, inr, ◌+◌, ◌<◌, ◌≤◌, List, arith, subst, sym}
+use Rattle.std.proofs.lemmas.Bool.Decides.{nat_tests}
 use Rattle.std.specs.List.{range_with_len}
 use Rattle.std.proofs.lemmas.Bool.{cases_lt}
-use Rattle.psci_headline.specs.psci_world_spec.declared.said.Record.{Record}
-use Rattle.psci_headline.specs.Settling.{each_core}
+use Rattle.psci_headline.proofs.Words.{Record, each_core}
 
 -- What a step of a core does: something that holds stays, what was to be done for the core is done,
 -- and what was to be done or is done for another core stays.
@@ -51,6 +50,4 @@ pub each_done : (does : List Record → ℕ → List Record) (n : ℕ) (Holds : 
     (Todo Done : ℕ → List Record → Type 0) → IsStep does n Holds Todo Done
     → (past : List Record) → Holds past → ((c : ℕ) → c < n → Todo c past)
     → AreDone n Holds Done (each_core does (range_with_len 0 n) past)
-each_done does n Holds Todo Done laws past holds todo =
-    from_core does n Holds Todo Done laws 0 n past (omega arith) holds (λ c low on. todo c on)
-    (λ c none. absurd (omega (arith, none)))
+each_done does n Holds Todo Done laws past holds todo = grind (arith, nat_tests, from_core)

@@ -1,19 +1,12 @@
 -- A function returns to its caller or stops it: none is answered as a core that enters.
-use Rattle.std.proofs.Common.{◌≡◌, ℕ, false, refl}
-use Rattle.std.proofs.Common.{Option, None, Some, ap, ◌∙◌}
-use Rattle.psci_world_spec.specs.psci_abi.Calls.{request_of}
-use Rattle.psci_world_spec.specs.psci_abi.declared.registers.Regs.{Regs}
-use Rattle.psci_world_spec.specs.psci_abi.declared.request.Request.{Request}
-use Rattle.psci_board.specs.Board.{BoardValue}
-use Rattle.psci_fw_laws.specs.psci_fw_spec.declared.call.FwCall.TheVariants.{Smc}
-use Rattle.psci_fw_laws.specs.psci_fw_spec.declared.fault.FwFault.{FwFault}
-use Rattle.psci_fw_laws.specs.psci_fw_spec.declared.outcome.Outcome.{Outcome}
+use Rattle.std.proofs.Common.{arith, ◌≡◌, ℕ, false, refl, Option}
+use Rattle.std.proofs.lemmas.Bool.Decides.{nat_tests}
+use Rattle.psci_headline.proofs.Words.{request_of, Regs, Request, BoardValue, FwFault, Outcome}
+use Rattle.psci_headline.proofs.Words.{reply_or, call_fault, outcome_of, Values}
+use Rattle.psci_headline.proofs.Words.{enters_or_resumes_by, Smc}
 use Rattle.psci_fw_laws.specs.psci_fw_spec.declared.reply.FwReply.TheVariants as replies
-use Rattle.psci_fw_laws.specs.psci_fw_spec.Answer.{answer, reply_or}
-use Rattle.psci_fw_laws.specs.psci_fw_spec.Calls.{call_fault, outcome_of}
-use Rattle.psci_fw_laws.specs.psci_fw_spec.Values.{Values}
+use Rattle.psci_fw_laws.specs.psci_fw_spec.Answer.{answer}
 use Rattle.psci_fw_laws.proofs.fw_spec.Endings.{function_ends, outcome_ends}
-use Rattle.psci_headline.specs.Moments.{enters_or_resumes_by}
 
 -- this outcome is no entry
 abbrev Ends : Outcome → Type 0
@@ -27,10 +20,7 @@ no_entry b v c r =
 
 by_fault : (b : BoardValue) (v : Values) (c : ℕ) (r : Request) (o : Outcome) (f : Option FwFault)
     → replies.Out o ≡ reply_or f (outcome_of b v c r) → Ends o
-by_fault b v c r o (Some fault) e = absurd (cc)
-by_fault b v c r o None e =
-    let same : o ≡ outcome_of b v c r = cc in
-    ap (λ (x : Outcome). enters_or_resumes_by x.act) same ∙ no_entry b v c r
+by_fault b v c r o f e = grind (arith, nat_tests, no_entry)
 
 -- what a call is answered is no entry
 pub call_ends : (b : BoardValue) (v : Values) (c : ℕ) (regs : Regs) (o : Outcome)

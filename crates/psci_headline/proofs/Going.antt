@@ -1,27 +1,15 @@
 -- What stays so in every round: each started core has entered, and none is pending.
-use Rattle.std.proofs.Common.{◌≡◌, ℕ, ◌+◌, ◌<◌, true, false, List}
-use Rattle.std.proofs.Common.{Some, refl, subst, ap, sym, ◌∙◌}
-use Rattle.psci_board.specs.Board.{BoardValue, cores, height, up}
-use Rattle.psci_ctl_spec.specs.psci_messages.declared.part.Part.{Part}
+use Rattle.std.proofs.Common.{arith, ◌≡◌, ℕ, ◌+◌, ◌<◌, true, false, List, Some, subst, ap, sym, ◌∙◌}
+use Rattle.std.proofs.lemmas.Bool.Decides.{nat_tests}
+use Rattle.psci_headline.proofs.Words.{BoardValue, cores, height, up, Part, Kind, ArePartsOf}
+use Rattle.psci_headline.proofs.Words.{AreClaims, MessageValue, OfCore, OfSystem, in_life, Pending}
+use Rattle.psci_headline.proofs.Words.{Values, IsClaimOn, IsCurrent, HasDeeper, NonePending}
+use Rattle.psci_headline.proofs.Words.{is_system, AreOutstanding, Record, acks, controller_values}
+use Rattle.psci_headline.proofs.Words.{firmware_values, sent, IsLegalPast, place, AreWaiting}
+use Rattle.psci_headline.proofs.Words.{AwaitsStart}
 use Rattle.psci_ctl_spec.specs.Values as controlled
-use Rattle.psci_ctl_spec.specs.psci_messages.declared.kind.Kind.{Kind}
 use Rattle.psci_ctl_spec.specs.psci_messages.declared.kind.Kind.TheVariants as kinds
-use Rattle.psci_ctl_spec.specs.psci_messages.Message.{ArePartsOf, AreClaims, MessageValue}
-use Rattle.psci_ctl_spec.specs.psci_messages.Slots.{OfCore, OfSystem}
-use Rattle.psci_headline.specs.psci_fw_spec.Lives.{in_life}
-use Rattle.psci_headline.specs.psci_fw_spec.Phases.{Pending}
-use Rattle.psci_headline.specs.psci_fw_spec.Values.{Values}
-use Rattle.psci_headline.specs.psci_fw_laws.Claims.{IsClaimOn, IsCurrent}
-use Rattle.psci_headline.specs.psci_fw_laws.Granted.{HasDeeper, NonePending}
-use Rattle.psci_headline.specs.psci_fw_laws.Messages.{is_system}
-use Rattle.psci_headline.specs.psci_fw_laws.Outstanding.{AreOutstanding}
-use Rattle.psci_headline.specs.psci_world_spec.declared.said.Record.{Record}
-use Rattle.psci_headline.specs.psci_world_spec.Histories.{acks, controller_values}
-use Rattle.psci_headline.specs.psci_world_spec.Histories.{firmware_values, sent}
-use Rattle.psci_headline.specs.psci_world_spec.Legal.{IsLegalPast}
-use Rattle.psci_headline.specs.psci_world_spec.Places.{place}
 use Rattle.psci_headline.proofs.Agreeing.{found_own}
-use Rattle.psci_headline.specs.Waiting.{AreWaiting, AwaitsStart}
 use Rattle.psci_headline.proofs.Applying.{IsDown, IsReady}
 use Rattle.psci_headline.proofs.Beginning.{HasEntered}
 use Rattle.psci_headline.proofs.Carried.{present_known}
@@ -137,16 +125,10 @@ pub record IsOut (b : BoardValue) (life : ℕ) (past : List Record) (c : ℕ) (m
 slots_now : (b : BoardValue) (before : List Record) (life : ℕ) (past : List Record)
     → SettleLaws b → IsGoing b before life past → let v = firmware_values b past in
     AreOutstanding life v.known v.phase (sent past) v.outstanding
-slots_now b before life past laws going =
-    let v : Values = firmware_values b past in
-    subst (λ l. AreOutstanding l v.known v.phase (sent past) v.outstanding) going.own
-    (laws.past past going.legal).given.holds.slots
+slots_now b before life past laws going = grind (arith, nat_tests)
 
 core_kind : (k : Kind) → is_system k ≡ false → (k ≡ kinds.Start → ⊥) → k ≡ kinds.Down
-core_kind kinds.Down e ne = refl
-core_kind kinds.Start e ne = absurd (ne refl)
-core_kind kinds.Off e ne = absurd (cc)
-core_kind kinds.Reset e ne = absurd (cc)
+core_kind k e ne = grind (arith, nat_tests)
 
 pub out_now : (b : BoardValue) (before : List Record) (life : ℕ) (past : List Record) (c : ℕ)
     (m : MessageValue) → SettleLaws b → IsGoing b before life past
@@ -157,19 +139,10 @@ out_now b before life past c m laws going at =
     let known = known_now b before life past laws going in
     let sound = (known.messages slot.listed.index m slot.listed.at).sound in
     let on : c < cores b = subst (λ x. x < cores b) slot.core sound.core in
-    let kind : m.kind ≡ kinds.Down =
-    core_kind m.kind slot.kind (λ e. going.rests c on (slot.start e)) in
+    let kind : m.kind ≡ kinds.Down = grind (arith, nat_tests, core_kind) in
     let claim : AreClaims m.parts = subst (λ k. ArePartsOf k m.parts) kind sound.parts in
     record {
-      down = record {
-        index = slot.listed.index;
-        at = slot.listed.at;
-        present = slot.listed.present;
-        kind = kind;
-        core = sound.core;
-        few = sound.few;
-        parts = known.parts m.parts claim;
-      };
+      down = grind (arith, nat_tests);
       core = slot.core;
       system = slot.kind;
     }

@@ -26,6 +26,7 @@ pub mod Happening
 mod HardwareRows
 mod Histories
 mod LevelsRows
+pub mod Items
 pub mod LiveClaims
 pub mod LiveOnes
 mod LiveRows
@@ -37,8 +38,6 @@ pub mod Moves
 pub mod Moving
 pub mod Naming
 pub mod Nexts
-pub mod Numbered
-pub mod Numbering
 pub mod OffIsDown
 mod Once
 mod OpeningRows
@@ -54,6 +53,7 @@ pub mod Refusing
 pub mod Returned
 mod SafeRows
 pub mod Safety
+pub mod Saying
 pub mod Sending
 pub mod Slept
 pub mod Sound
@@ -67,6 +67,7 @@ pub mod ToldOff
 mod ToldOffRows
 pub mod ToldTest
 pub mod Waiting
+pub mod Words
 -- In the order of the argument of docs/SETTLING.md.
 
 -- What all steps use: the laws of the crates below, counting, slots, numbers of messages, folding.

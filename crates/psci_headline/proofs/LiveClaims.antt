@@ -1,16 +1,11 @@
 -- Live claims: those of the list that have the generation of their domain. There is one at most.
-use Rattle.std.proofs.Common.{◌≡◌, ℕ, suc, ◌≤◌, Bool, true, false, ◌==◌, cond, List, []}
-use Rattle.std.proofs.Common.{◌∷◌, length, filter, Option, None, Some, refl, ap, sym, ◌∙◌, subst}
-use Rattle.std.proofs.Common.{arith}
+use Rattle.std.proofs.Common.{◌≡◌, ℕ, suc, ◌≤◌, Bool, true, false, ◌==◌, cond, List, [], ◌∷◌}
+use Rattle.std.proofs.Common.{length, filter, Option, None, Some, refl, ap, sym, ◌∙◌, subst, arith}
 use Rattle.std.specs.Prelude.{slice_get}
 use Rattle.std.proofs.lemmas.Bool.{eq-eqb, eqb-true}
-use Rattle.psci_board.specs.Board.{BoardValue}
-use Rattle.psci_board.specs.declared.node.Node.{Node}
-use Rattle.psci_ctl_spec.specs.Values.{starts_below}
-use Rattle.psci_fw_laws.specs.KnownBelow.{known_below}
-use Rattle.psci_world_spec.specs.declared.said.Record.{Record}
-use Rattle.psci_world_spec.specs.Histories.{controller_values}
-use Rattle.psci_headline.specs.Claims.{Claim, claims, live_claims, live_in}
+use Rattle.psci_headline.proofs.Words.{BoardValue, Node, Record, controller_values, Claim, claims}
+use Rattle.psci_headline.proofs.Words.{starts_below}
+use Rattle.psci_headline.specs.Claims.{live_claims, live_in}
 use Rattle.psci_headline.proofs.Apart.{AreDistinct}
 use Rattle.psci_headline.proofs.Filters.{is_kept, keeps}
 
@@ -107,9 +102,3 @@ one_live b past n are = by_life (controller_values b past).life
         → length (live_in b (controller_values b past).starts n past o) ≤ 1
     by_life None = omega arith
     by_life (Some life) = one_of _ (claims b life n past) (are life)
-
--- the starts below a domain are what the firmware would know if it knew all
-pub same_sum : (b : BoardValue) (starts : ℕ → ℕ) (n : Node)
-    → starts_below b starts n ≡ known_below b starts n.level n.place
-unfolding starts_below known_below
-same_sum b starts n = refl

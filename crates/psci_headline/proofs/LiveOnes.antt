@@ -1,15 +1,11 @@
 -- Live claims by their sources: each is of this life, and each claim of it with the sum of
 -- the starts below is live.
-use Rattle.std.proofs.Common.{◌≡◌, ℕ, List, Option, None, Some, refl, ◌∙◌, subst}
+use Rattle.std.proofs.Common.{arith, ◌≡◌, ℕ, List, Option, None, Some, refl, subst}
+use Rattle.std.proofs.lemmas.Bool.Decides.{nat_tests}
 use Rattle.std.specs.Prelude.{slice_get}
 use Rattle.std.proofs.lemmas.Option.{none-some}
-use Rattle.psci_board.specs.Board.{BoardValue}
-use Rattle.psci_board.specs.declared.node.Node.{Node}
-use Rattle.psci_ctl_spec.specs.Values.{starts_below}
-use Rattle.psci_headline.specs.Claims.{Claim, claims, live_claims}
-use Rattle.psci_world_spec.specs.declared.said.Record.{Record}
-use Rattle.psci_world_spec.specs.Histories.{controller_values}
-use Rattle.psci_headline.specs.Live.{HasLive}
+use Rattle.psci_headline.proofs.Words.{BoardValue, Node, starts_below, Claim, claims, live_claims}
+use Rattle.psci_headline.proofs.Words.{Record, controller_values, HasLive}
 use Rattle.psci_headline.proofs.Claiming.{IsIn}
 use Rattle.psci_headline.proofs.LiveClaims.{live_is, live_kept, none_live}
 
@@ -38,6 +34,4 @@ is_live_one b past n k c at = live_of b past n (controller_values b past).life k
 pub has_live : (b : BoardValue) (past : List Record) (n : Node) (life depth generation : ℕ)
     → (controller_values b past).life ≡ Some life → IsIn (claims b life n past) depth generation
     → generation ≡ starts_below b (controller_values b past).starts n → HasLive b past n depth
-has_live b past n life depth generation present is e =
-    let kept = live_kept b past life n is.index is.claim present is.at (is.old ∙ e) in
-    record { index = kept.0; claim = is.claim; at = kept.1; deep = is.deep }
+has_live b past n life depth generation present is e = grind (arith, nat_tests, live_kept)

@@ -1,36 +1,19 @@
 -- A message was asked for by the values of its own record.
-use Rattle.std.proofs.Common.{◌≡◌, ℕ, suc, ◌⊎◌, inl, inr, List, [], ◌∷◌, ◌++◌, Option, None}
-use Rattle.std.proofs.Common.{Some, refl, ap, sym, ◌∙◌, subst, arith}
+use Rattle.std.proofs.Common.{◌≡◌, ℕ, suc, ◌⊎◌, inl, inr, List, [], ◌∷◌, ◌++◌, Option, None, Some}
+use Rattle.std.proofs.Common.{refl, ap, sym, ◌∙◌, subst, arith}
+use Rattle.std.proofs.lemmas.Bool.Decides.{nat_tests}
 use Rattle.std.specs.Prelude.{slice_get}
-use Rattle.psci_board.specs.Board.{BoardValue}
-use Rattle.psci_fw_laws.specs.psci_messages.declared.part.Part.{Part}
-use Rattle.psci_ctl_spec.specs.psci_messages.declared.start.Start.{Start}
-use Rattle.psci_ctl_spec.specs.Replies.{last_start}
+use Rattle.psci_headline.proofs.Words.{BoardValue, Part, Down, AckValue, MessageValue, FwExchange}
+use Rattle.psci_headline.proofs.Words.{effect, values_of, listed, AreRising, part_for, Event}
+use Rattle.psci_headline.proofs.Words.{Record, Said, acks, call, controller_values, firmware_values}
+use Rattle.psci_headline.proofs.Words.{sent_in, IsLegalPast, firmware_history, IsAskedFor}
 use Rattle.psci_ctl_spec.specs.Values as controlled
-use Rattle.psci_ctl_spec.specs.psci_messages.declared.kind.Kind.TheVariants.{Down}
-use Rattle.psci_ctl_spec.specs.psci_messages.declared.taken.Taken.{Taken}
-use Rattle.psci_ctl_spec.specs.psci_messages.Message.{AckValue, MessageValue}
-use Rattle.psci_fw_laws.specs.psci_fw_spec.declared.outcome.Outcome.{Outcome}
-use Rattle.psci_fw_laws.specs.psci_fw_spec.Exchange.{FwExchange, effect}
-use Rattle.psci_fw_laws.specs.psci_fw_spec.History.{values_of}
 use Rattle.psci_fw_laws.specs.psci_fw_spec.Said as says
-use Rattle.psci_fw_laws.specs.psci_fw_spec.Said.{listed}
 use Rattle.psci_fw_laws.specs.psci_fw_spec.Sent.{sent_messages}
-use Rattle.psci_fw_laws.specs.Asked.{IsAskedFor, WasAsked}
-use Rattle.psci_fw_laws.specs.Claims.{AreRising, part_for}
+use Rattle.psci_fw_laws.specs.Asked.{WasAsked}
 use Rattle.psci_fw_laws.proofs.Parts.{part_has}
-use Rattle.psci_world_spec.specs.declared.event.Event.{Event}
-use Rattle.psci_world_spec.specs.declared.event.Event.TheVariants.{Call, Enter}
-use Rattle.psci_world_spec.specs.declared.event.Event.TheVariants.{Take}
-use Rattle.psci_world_spec.specs.declared.said.Record.{Record}
-use Rattle.psci_world_spec.specs.declared.said.Said.{Said}
-use Rattle.psci_world_spec.specs.declared.said.Said.TheVariants.{Fw, Taken as Took}
-use Rattle.psci_world_spec.specs.Histories.{acks, call, controller_values, entered}
-use Rattle.psci_world_spec.specs.Histories.{firmware_history, firmware_values}
-use Rattle.psci_world_spec.specs.Histories.{outcome_in, sent}
-use Rattle.psci_world_spec.specs.Histories.{sent_in, took}
-use Rattle.psci_world_spec.specs.Legal.{IsLegalPast}
-use Rattle.psci_world_spec.specs.Lists.{indexed}
+use Rattle.psci_world_spec.specs.Histories.{sent}
+use Rattle.psci_headline.proofs.Sending.{more_calls}
 use Rattle.psci_headline.proofs.Asking.{WereAsked}
 
 -- Records --------------------------------------------------------------------------------------
@@ -39,27 +22,10 @@ use Rattle.psci_headline.proofs.Asking.{WereAsked}
 abbrev OneOrNone : List FwExchange → Type 0
 OneOrNone list = (list ≡ []) ⊎ ((e : FwExchange) × (list ≡ e ∷ []))
 
-entered_one : (c : ℕ) (s : Option Start) (o : Outcome) → OneOrNone (entered c s o)
-entered_one c None o = inl refl
-entered_one c (Some s) o = inr (_, refl)
-
-took_one : (a : Option AckValue) (t : Taken) → OneOrNone (took a t)
-took_one None t = inl refl
-took_one (Some a) t = inr (_, refl)
-
 -- a record adds one exchange at most to the firmware's history
 adds_one : (v : controlled.Values) (made : List AckValue) (event : Event) (said : Said)
     → OneOrNone (call v made event said)
-adds_one v made (Call c regs) (Fw act sends) = inr (_, refl)
-adds_one v made (Enter c) (Fw act sends) = entered_one c (last_start v c) (outcome_in act sends)
-adds_one v made (Take k) (Took taken) = took_one (indexed made k) taken
-adds_one v made event said = inl refl
-
-more_calls : (b : BoardValue) (r : Record) (past : List Record)
-    → firmware_history b (r ∷ past)
-    ≡ call (controller_values b past) (acks past) r.event r.said ++ firmware_history b past
-unfolding firmware_history
-more_calls b r past = refl
+adds_one v made event said = grind (arith, nat_tests)
 
 more_sent : (r : Record) (past : List Record)
     → sent (r ∷ past) ≡ listed (sent_in r.said) ++ sent past
@@ -134,8 +100,7 @@ asked_now : (b : BoardValue) (r : Record) (past : List Record) → IsKnown b (r 
     → sent_in r.said ≡ Some m → part_for b life level place m ≡ Some p
     → IsAskedFor b (firmware_values b (r ∷ past)) m
 asked_now b r past now before m life level place p is e =
-    let all : sent (r ∷ past) ≡ m ∷ sent past =
-    more_sent r past ∙ ap (λ o. listed o ++ sent past) is in
+    let all : sent (r ∷ past) ≡ m ∷ sent past = grind (arith, nat_tests, more_sent) in
     let first = subst (λ ms. slice_get ms 0 ≡ Some m) (sym all ∙ now.same) refl in
     let was = now.asked 0 m first (part_has b life level place m p e).kind in
     subst (λ h. IsAskedFor b (values_of b h) m) (sym (more_calls b r past))

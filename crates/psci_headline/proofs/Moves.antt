@@ -1,35 +1,19 @@
 -- What a legal record leaves of the firmware's values.
-use Rattle.std.proofs.Common.{◌≡◌, ℕ, Bool, true, false, ◌==◌, cond, List, [], ◌∷◌}
-use Rattle.std.proofs.Common.{◌++◌, Option, None, Some, refl, subst, ap, sym, ◌∙◌}
+use Rattle.std.proofs.Common.{arith, ◌≡◌, ℕ, Bool, true, false, ◌==◌, cond, List, [], ◌∷◌, ◌++◌}
+use Rattle.std.proofs.Common.{Option, None, Some, refl, subst, ap, sym, ◌∙◌}
+use Rattle.std.proofs.lemmas.Bool.Decides.{nat_tests}
 use Rattle.std.specs.Prelude.{nat_lt}
 use Rattle.std.proofs.lemmas.Bool.{and_parts, eqb-true, true≢false}
-use Rattle.psci_board.specs.Board.{BoardValue, cores}
-use Rattle.psci_ctl_spec.specs.psci_messages.declared.start.Start.{Start}
-use Rattle.psci_ctl_spec.specs.Replies.{last_start}
-use Rattle.psci_fw_laws.specs.psci_fw_spec.declared.outcome.Act.{Act}
-use Rattle.psci_fw_laws.specs.psci_fw_spec.declared.outcome.Act.TheVariants as acts
-use Rattle.psci_fw_laws.specs.psci_fw_spec.After.{change}
-use Rattle.psci_fw_laws.specs.psci_fw_spec.Effects.{Effect, Nothing, Enters, enter_effect}
-use Rattle.psci_fw_laws.specs.psci_fw_spec.Exchange.{FwExchange, effect}
-use Rattle.psci_fw_laws.specs.psci_fw_spec.History.{values_of}
-use Rattle.psci_fw_laws.specs.psci_fw_spec.Legal.{IsLegal}
-use Rattle.psci_ctl_spec.specs.psci_messages.Message.{MessageValue}
-use Rattle.psci_fw_laws.specs.Allowed.{IsAllowed}
-use Rattle.psci_world_spec.specs.declared.event.Event.{Event}
-use Rattle.psci_world_spec.specs.declared.event.Event.TheVariants.{Call, Enter}
-use Rattle.psci_world_spec.specs.declared.place.Place.{Place}
-use Rattle.psci_world_spec.specs.declared.place.Place.TheVariants.{Started, Running}
-use Rattle.psci_world_spec.specs.declared.place.Place.TheVariants.{Stopped}
-use Rattle.psci_world_spec.specs.declared.said.Record.{Record}
-use Rattle.psci_world_spec.specs.declared.said.Said.{Said}
-use Rattle.psci_world_spec.specs.declared.said.Said.TheVariants.{Fw, Absent}
-use Rattle.psci_world_spec.specs.declared.said.Sent.{Sent}
-use Rattle.psci_world_spec.specs.Histories.{acks, call, controller_values, entered}
-use Rattle.psci_world_spec.specs.Histories.{firmware_history, firmware_values}
-use Rattle.psci_world_spec.specs.Histories.{outcome_in}
-use Rattle.psci_world_spec.specs.Legal.{if_started, legal, on_board}
-use Rattle.psci_world_spec.specs.Places.{place}
-use Rattle.psci_headline.specs.Moments.{enters_or_resumes, enters_or_resumes_by}
+use Rattle.psci_headline.proofs.Words.{BoardValue, cores, Start, last_start, Act, change, Effect}
+use Rattle.psci_headline.proofs.Words.{Enters, enter_effect, FwExchange, effect, values_of, IsLegal}
+use Rattle.psci_headline.proofs.Words.{MessageValue, IsAllowed, Event, Call, Enter, Place, Started}
+use Rattle.psci_headline.proofs.Words.{Running, Stopped, Record, Said, Fw, Absent, Sent, acks, call}
+use Rattle.psci_headline.proofs.Words.{controller_values, entered, firmware_values, outcome_in}
+use Rattle.psci_headline.proofs.Words.{if_started, place, enters_or_resumes, enters_or_resumes_by}
+use Rattle.psci_headline.proofs.Words.{Nothing, firmware_history}
+use Rattle.psci_fw_laws.specs.psci_fw_spec.Effects.{Nothing}
+use Rattle.psci_world_spec.specs.Legal.{legal, on_board}
+use Rattle.psci_headline.proofs.Sending.{after_call, more_calls}
 use Rattle.psci_headline.proofs.Functions.{call_ends}
 use Rattle.psci_headline.proofs.Records.{IsAdded, IsOfRecord, added}
 
@@ -45,10 +29,7 @@ record EntersOrResumes (b : BoardValue) (c : ℕ) (es : List FwExchange) : Type 
 enters_by : (c : ℕ) (s : Start) (act : Act) (m : Option MessageValue)
     → enters_or_resumes_by act ≡ true
     → enter_effect c s act m ≡ Enters c s
-enters_by c s (acts.Return code) m e = absurd (cc)
-enters_by c s acts.Stop m e = absurd (cc)
-enters_by c s (acts.Enter address context) m e = refl
-enters_by c s acts.Resume m e = refl
+enters_by c s act m e = grind (arith, nat_tests)
 
 -- without a start nothing is said of an entry
 not_started : (b : BoardValue) (past : List Record) (c : ℕ) (p : Place) (act : Act)
@@ -69,11 +50,6 @@ goes_at b past c act m (Some s) is by = record {
   adds = refl;
   enters = enters_by c s act (outcome_in act m).message by;
 }
-
--- the history after a record, whose event says this
-abbrev after_call : BoardValue → List Record → Event → Said → List FwExchange
-after_call b past event s =
-    call (controller_values b past) (acks past) event s ++ firmware_history b past
 
 goes : (b : BoardValue) (past : List Record) (c : ℕ) (event : Event) (said : Said)
     → said ≡ legal b past event → IsLegal b (after_call b past event said)
@@ -115,11 +91,6 @@ pub record FirmwareLaws (b : BoardValue) : Type 0 where
 abbrev added_by : BoardValue → Record → List Record → List FwExchange
 added_by b r past = call (controller_values b past) (acks past) r.event r.said
 
-history_more : (b : BoardValue) (r : Record) (past : List Record)
-    → firmware_history b (r ∷ past) ≡ added_by b r past ++ firmware_history b past
-unfolding firmware_history
-history_more b r past = refl
-
 by_added : (b : BoardValue) (r : Record) (past : List Record) (es : List FwExchange)
     → FirmwareLaws b
     → r.said ≡ legal b past r.event → IsLegal b (firmware_history b (r ∷ past))
@@ -128,11 +99,11 @@ by_added : (b : BoardValue) (r : Record) (past : List Record) (es : List FwExcha
 by_added b r past [] laws is valid adds says = record {
   effect = Nothing;
   allowed = tt;
-  values = ap (values_of b) (history_more b r past
+  values = ap (values_of b) (more_calls b r past
       ∙ ap (λ (es : List FwExchange). es ++ firmware_history b past) adds);
   says = record { starts = λ a e. absurd (cc); takes = λ a e. absurd (cc) };
   goes = λ c by.
-      let on = goes b past c r.event r.said is (subst (IsLegal b) (history_more b r past) valid)
+      let on = goes b past c r.event r.said is (subst (IsLegal b) (more_calls b r past) valid)
       by in
       let no : on.entry ∷ [] ≡ [] = sym on.adds ∙ adds in
       absurd (cc);
@@ -140,7 +111,7 @@ by_added b r past [] laws is valid adds says = record {
 by_added b r past (e ∷ []) laws is valid adds says =
     let h = firmware_history b past in
     let more : firmware_history b (r ∷ past) ≡ e ∷ h =
-    history_more b r past ∙ ap (λ (es : List FwExchange). es ++ h) adds in
+    more_calls b r past ∙ ap (λ (es : List FwExchange). es ++ h) adds in
     record {
       effect = effect b e;
       allowed = laws.allowed e h (subst (IsLegal b) more valid);
@@ -148,7 +119,7 @@ by_added b r past (e ∷ []) laws is valid adds says =
       says = says;
       goes = λ c by.
           let on = goes b past c r.event r.said is
-          (subst (IsLegal b) (history_more b r past) valid) by in
+          (subst (IsLegal b) (more_calls b r past) valid) by in
           let same : on.entry ∷ [] ≡ e ∷ [] = sym on.adds ∙ adds in
           let one : on.entry ≡ e = cc in
           (on.start, ap (effect b) (sym one) ∙ on.enters);

@@ -1,31 +1,19 @@
 -- What calls, entries and acknowledgements leave of known starts and of who runs.
-use Rattle.std.proofs.Common.{◌≡◌, ℕ, Bool, true, false, cond, Option, None, Some}
-use Rattle.std.proofs.Common.{refl, subst, ap, sym, ◌∙◌}
+use Rattle.std.proofs.Common.{arith, ◌≡◌, ℕ, Bool, true, false, cond, Option, None, Some, refl}
+use Rattle.std.proofs.Common.{subst, sym}
+use Rattle.std.proofs.lemmas.Bool.Decides.{nat_tests}
 use Rattle.std.specs.Ordering.{int_eq}
-use Rattle.psci_world_spec.specs.psci_abi.Codes.{success}
-use Rattle.psci_world_spec.specs.psci_abi.declared.code.Code.{Code}
-use Rattle.psci_world_spec.specs.psci_abi.declared.request.Request.{Request}
+use Rattle.psci_headline.proofs.Words.{success, Code, Request, BoardValue, Start, MessageValue}
+use Rattle.psci_headline.proofs.Words.{SuspendMode, Act, change, PowerOn, target, with_mode}
+use Rattle.psci_headline.proofs.Words.{with_pending, Effect, GoesOn, SetsMode, AsksOn, Rests, Halts}
+use Rattle.psci_headline.proofs.Words.{Stops, Enters, Parks, StopsAtOnce, Acknowledges}
+use Rattle.psci_headline.proofs.Words.{enter_effect, function_effect, in_life, Phase, Away, Pending}
+use Rattle.psci_headline.proofs.Words.{is_running, unless_pending, Values, updated, IsAllowed}
+use Rattle.psci_headline.proofs.Words.{mode_effect, executes_on, mode_of}
+use Rattle.psci_fw_laws.specs.psci_fw_spec.Effects.{Nothing}
 use Rattle.psci_world_spec.specs.psci_abi.declared.request.Request.TheVariants as requests
-use Rattle.psci_board.specs.Board.{BoardValue}
-use Rattle.psci_ctl_spec.specs.psci_messages.declared.start.Start.{Start}
-use Rattle.psci_ctl_spec.specs.psci_messages.Message.{MessageValue}
-use Rattle.psci_fw_laws.specs.psci_fw_spec.declared.mode.SuspendMode.{SuspendMode}
-use Rattle.psci_fw_laws.specs.psci_fw_spec.declared.outcome.Act.{Act}
 use Rattle.psci_fw_laws.specs.psci_fw_spec.declared.outcome.Act.TheVariants as acts
-use Rattle.psci_fw_laws.specs.psci_fw_spec.After.{change}
-use Rattle.psci_fw_laws.specs.psci_fw_spec.Changes.{PowerOn, target, with_mode, with_pending}
-use Rattle.psci_fw_laws.specs.psci_fw_spec.Effects.{Effect, Nothing, GoesOn, SetsMode, AsksOn}
-use Rattle.psci_fw_laws.specs.psci_fw_spec.Effects.{Rests, Halts}
-use Rattle.psci_fw_laws.specs.psci_fw_spec.Effects.{Stops, Enters, Parks, StopsAtOnce, Acknowledges}
-use Rattle.psci_fw_laws.specs.psci_fw_spec.Effects.{enter_effect, function_effect, mode_effect}
-use Rattle.psci_fw_laws.specs.psci_fw_spec.Lives.{in_life}
-use Rattle.psci_fw_laws.specs.psci_fw_spec.Outcomes.{executes_on}
-use Rattle.psci_fw_laws.specs.psci_fw_spec.Phases.{Phase, Away, Pending, Running}
-use Rattle.psci_fw_laws.specs.psci_fw_spec.Phases.{is_running}
-use Rattle.psci_fw_laws.specs.psci_fw_spec.Phases.{unless_pending}
-use Rattle.psci_fw_laws.specs.psci_fw_spec.SuspendMode.{mode_of}
-use Rattle.psci_fw_laws.specs.psci_fw_spec.Values.{Values, updated}
-use Rattle.psci_fw_laws.specs.Allowed.{IsAllowed}
+use Rattle.psci_fw_laws.specs.psci_fw_spec.Phases.{Running}
 use Rattle.psci_fw_laws.proofs.Parts.{updated_at, updated_here, updated_there}
 
 -- What is left where one core did something: its known start, and whether it runs.
@@ -95,9 +83,7 @@ return_call b c r code = goes c
 
 sent_call : (b : BoardValue) (c : ℕ) (r : Request) (code : Code) (m : MessageValue)
     → IsCallOf (function_effect b c r (acts.Return code) (Some m)) c true
-sent_call b c (requests.CpuOn target entry_point context) code m =
-    record { is = refl; core = refl; runs = refl }
-sent_call b c r code m = goes c
+sent_call b c r code m = grind (arith, nat_tests, goes)
 
 stop_call : (b : BoardValue) (c : ℕ) (r : Request) (m : MessageValue)
     → IsCallOf (function_effect b c r acts.Stop (Some m)) c false
@@ -120,45 +106,21 @@ function_call b c r acts.Resume o = goes c
 still : (v w : Values) (c : ℕ) → w.life ≡ v.life → w.known ≡ v.known
     → ((x : ℕ) → is_running (w.phase x) ≡ is_running (v.phase x)) → v.phase c ≡ Running
     → IsMoved v w c (v.known c) true
-still v w c life known phase runs = record {
-  life = life;
-  number = ap (λ (f : ℕ → ℕ). f c) known;
-  known = λ x ne. ap (λ (f : ℕ → ℕ). f x) known;
-  here = phase c ∙ ap is_running runs;
-  others = λ x ne. phase x;
-}
+still v w c life known phase runs = grind (arith, nat_tests)
 
 -- where one core's phase was changed
 put : (v w : Values) (c : ℕ) (p : Phase) (runs : Bool) → w.life ≡ v.life → w.known ≡ v.known
     → w.phase ≡ updated v.phase c p → is_running p ≡ runs → IsMoved v w c (v.known c) runs
-put v w c p runs life known phase is = record {
-  life = life;
-  number = ap (λ (f : ℕ → ℕ). f c) known;
-  known = λ x ne. ap (λ (f : ℕ → ℕ). f x) known;
-  here = ap (λ (f : ℕ → Phase). is_running (f c)) phase
-      ∙ ap is_running (updated_here v.phase c p) ∙ is;
-  others = λ x ne. ap (λ (f : ℕ → Phase). is_running (f x)) phase
-      ∙ ap is_running (updated_there v.phase c p x ne);
-}
+put v w c p runs life known phase is = grind (arith, nat_tests, updated_here, updated_there)
 
 -- a phase that is not Running stays so where a pending core stays pending
 rests : (p left : Phase) → (left ≡ Running → ⊥) → is_running (unless_pending p left) ≡ false
-rests p left ne = by_phase p
-  where
-    left_rests : (q : Phase) → (q ≡ Running → ⊥) → is_running q ≡ false
-    left_rests Running f = absurd (f refl)
-    left_rests q f = refl
-
-    by_phase : (q : Phase) → is_running (unless_pending q left) ≡ false
-    by_phase Pending = refl
-    by_phase q = left_rests left ne
+rests p left ne = grind (arith, nat_tests)
 
 -- the target of an accepted CPU_ON did not run, and does not yet
 pending : (v : Values) (asked : PowerOn) → v.phase (target asked) ≡ Away → (x : ℕ)
     → is_running (updated v.phase (target asked) Pending x) ≡ is_running (v.phase x)
-pending v asked away x =
-    updated_at (λ p. is_running p ≡ is_running (v.phase x)) v.phase (target asked) Pending x
-    (λ e. sym (ap is_running (ap v.phase e ∙ away))) (λ ne. refl)
+pending v asked away x = grind (arith, nat_tests, updated_at)
 
 -- what the laws of psci_fw_spec say of callers that run on
 pub record CallerLaws (b : BoardValue) : Type 0 where
@@ -197,33 +159,16 @@ call_moves b v e laws is allowed = absurd (cc)
 arrived : (found w : Values) (c number : ℕ) (p : Phase) (runs : Bool) → w.life ≡ found.life
     → w.known ≡ updated found.known c number → w.phase ≡ updated found.phase c p
     → is_running p ≡ runs → IsMoved found w c number runs
-arrived found w c number p runs life known phase is = record {
-  life = life;
-  number = ap (λ (f : ℕ → ℕ). f c) known ∙ updated_here found.known c number;
-  known = λ x ne. ap (λ (f : ℕ → ℕ). f x) known ∙ updated_there found.known c number x ne;
-  here = ap (λ (f : ℕ → Phase). is_running (f c)) phase
-      ∙ ap is_running (updated_here found.phase c p) ∙ is;
-  others = λ x ne. ap (λ (f : ℕ → Phase). is_running (f x)) phase
-      ∙ ap is_running (updated_there found.phase c p x ne);
-}
+arrived found w c number p runs life known phase is =
+    grind (arith, nat_tests, updated_here, updated_there)
 
 goes_in : (b : BoardValue) (v : Values) (c : ℕ) (s : Start)
     → IsMoved (in_life b s.life v) (change b (Enters c s) v) c s.number true
-goes_in b v c s =
-    arrived (in_life b s.life v) (change b (Enters c s) v) c s.number Running true refl refl refl
-    refl
+goes_in b v c s = grind (arith, nat_tests, arrived)
 
 stops_in : (b : BoardValue) (v : Values) (c : ℕ) (s : Start) (o : Option MessageValue)
     → IsMoved (in_life b s.life v) (change b (enter_effect c s acts.Stop o) v) c s.number false
-stops_in b v c s None =
-    let found : Values = in_life b s.life v in
-    arrived found (change b (StopsAtOnce c s) v) c s.number (unless_pending (found.phase c) Away)
-    false
-    refl refl refl (rests (found.phase c) Away (λ e. cc))
-stops_in b v c s (Some m) =
-    let found : Values = in_life b s.life v in
-    arrived found (change b (Parks c s m) v) c s.number (unless_pending (found.phase c) Away) false
-    refl refl refl (rests (found.phase c) Away (λ e. cc))
+stops_in b v c s o = grind (arith, nat_tests, arrived, rests)
 
 -- the effect of an entry
 pub entry_moves : (b : BoardValue) (v : Values) (c : ℕ) (s : Start) (act : Act)

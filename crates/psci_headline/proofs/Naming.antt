@@ -1,28 +1,16 @@
 -- In a legal history an accepted CPU_ON asks on the core that it named.
-use Rattle.std.proofs.Common.{◌≡◌, ℕ, Option, None, Some, option_map, ap, sym, ◌∙◌, refl}
-use Rattle.std.specs.Prelude.{option_and_then}
-use Rattle.psci_world_spec.specs.psci_abi.Calls.{request_of}
-use Rattle.psci_world_spec.specs.psci_abi.declared.registers.Regs.{Regs}
+use Rattle.std.proofs.Common.{arith, ◌≡◌, ℕ, Option, None, Some, option_map, ap, sym, ◌∙◌}
+use Rattle.std.proofs.lemmas.Bool.Decides.{nat_tests}
+use Rattle.psci_headline.proofs.Words.{request_of, Regs, BoardValue, Core, Start, Used}
+use Rattle.psci_headline.proofs.Words.{MessageValue, Act, FwReply, answer, PowerOn, target, Effect}
+use Rattle.psci_headline.proofs.Words.{AsksOn, Rests, enter_effect, Values, Made, OfCall, FwCall}
+use Rattle.psci_headline.proofs.Words.{made_at}
 use Rattle.psci_world_spec.specs.psci_abi.declared.request.Request.TheVariants.{CpuOn}
-use Rattle.psci_board.specs.Board.{BoardValue, core_of}
-use Rattle.psci_board.specs.declared.node.Core.{Core}
-use Rattle.psci_ctl_spec.specs.psci_messages.declared.start.Start.{Start}
-use Rattle.psci_ctl_spec.specs.psci_messages.declared.taken.Taken.TheVariants.{Used}
-use Rattle.psci_ctl_spec.specs.psci_messages.Message.{MessageValue}
-use Rattle.psci_fw_laws.specs.psci_fw_spec.declared.call.FwCall.{FwCall}
+use Rattle.psci_board.specs.Board.{core_of}
 use Rattle.psci_fw_laws.specs.psci_fw_spec.declared.call.FwCall.TheVariants as calls
-use Rattle.psci_fw_laws.specs.psci_fw_spec.declared.outcome.Act.{Act}
-use Rattle.psci_fw_laws.specs.psci_fw_spec.declared.outcome.Act.TheVariants as acts
-use Rattle.psci_fw_laws.specs.psci_fw_spec.declared.reply.FwReply.{FwReply}
 use Rattle.psci_fw_laws.specs.psci_fw_spec.declared.reply.FwReply.TheVariants as replies
-use Rattle.psci_fw_laws.specs.psci_fw_spec.Answer.{answer}
-use Rattle.psci_fw_laws.specs.psci_fw_spec.Changes.{PowerOn, target}
-use Rattle.psci_fw_laws.specs.psci_fw_spec.Effects.{Effect, AsksOn}
-use Rattle.psci_fw_laws.specs.psci_fw_spec.Effects.{Rests}
 use Rattle.psci_fw_laws.specs.psci_fw_spec.Effects.{effect_of}
-use Rattle.psci_fw_laws.specs.psci_fw_spec.Effects.{enter_effect}
-use Rattle.psci_fw_laws.specs.psci_fw_spec.Values.{Values}
-use Rattle.psci_headline.specs.Openings.{Made, OfCall, made_at, made_by, core_asked, named_in}
+use Rattle.psci_headline.specs.Openings.{made_by, core_asked, named_in}
 
 -- Which core a call named ----------------------------------------------------------------------
 
@@ -40,9 +28,7 @@ NamesTarget b call f = (caller : ℕ) (asked : PowerOn) → f ≡ AsksOn caller 
 
 enters_none : (c : ℕ) (s : Start) (act : Act) (m : Option MessageValue) (caller : ℕ)
     (asked : PowerOn) → enter_effect c s act m ≡ AsksOn caller asked → ⊥
-enters_none c s acts.Stop (Some m) caller asked e = absurd (cc)
-enters_none c s acts.Stop None caller asked e = absurd (cc)
-enters_none c s act m caller asked e = absurd (cc)
+enters_none c s act m caller asked e = grind (arith, nat_tests)
 
 pub names_target : (b : BoardValue) (v : Values) (c : ℕ) (call : FwCall) (reply : FwReply)
     → AreNamed b → reply ≡ answer b v c call → NamesTarget b call (effect_of b c call reply)
@@ -66,7 +52,4 @@ made_in n life f = None
 -- it is the opening that the call made
 pub same_made : (b : BoardValue) (n life : ℕ) (call : FwCall) (f : Effect) → NamesTarget b call f
     → made_by b n life call f ≡ made_in n life f
-same_made b n life call (AsksOn c asked) names =
-    ap (option_and_then (λ t. made_at (OfCall n) t life (Some asked.opening)))
-    (names c asked refl)
-same_made b n life call f names = refl
+same_made b n life call f names = grind (arith, nat_tests)

@@ -1,30 +1,16 @@
 -- What is known after a legal record: cores that go on, and what acknowledgements say.
-use Rattle.std.proofs.Common.{◌≡◌, ℕ, zero, suc, ◌<◌, ◌≤◌, inl, inr, true}
-use Rattle.std.proofs.Common.{List, ◌∷◌, ◌++◌, Option, None, Some, refl, subst, ap}
-use Rattle.std.proofs.Common.{sym, ◌∙◌, arith}
+use Rattle.std.proofs.Common.{◌≡◌, ℕ, zero, suc, ◌<◌, ◌≤◌, inl, inr, true, List, ◌∷◌, ◌++◌, Option}
+use Rattle.std.proofs.Common.{None, Some, refl, subst, ap, sym, ◌∙◌, arith}
+use Rattle.std.proofs.lemmas.Bool.Decides.{nat_tests}
 use Rattle.std.specs.Prelude.{slice_get}
-use Rattle.psci_board.specs.Board.{BoardValue}
+use Rattle.psci_headline.proofs.Words.{BoardValue, Away, listed, Values, Down, AckValue, Holds}
+use Rattle.psci_headline.proofs.Words.{Deliver, Record, ack_in, controller_values, firmware_values}
+use Rattle.psci_headline.proofs.Words.{sent, legal, enters_or_resumes, was_powered_down, AreDown}
+use Rattle.psci_headline.proofs.Words.{IsDownBy}
 use Rattle.psci_fw_laws.specs.psci_fw_spec.declared.status.Status.TheVariants as statuses
-use Rattle.psci_fw_laws.specs.psci_fw_spec.After.{change}
-use Rattle.psci_fw_laws.specs.psci_fw_spec.Effects.{Enters}
-use Rattle.psci_fw_laws.specs.psci_fw_spec.History as remembers
-use Rattle.psci_fw_laws.specs.psci_fw_spec.Lives.{in_life}
-use Rattle.psci_fw_laws.specs.psci_fw_spec.Phases.{Away, Running}
-use Rattle.psci_fw_laws.specs.psci_fw_spec.Said.{listed}
-use Rattle.psci_fw_laws.specs.psci_fw_spec.Values.{Values}
-use Rattle.psci_ctl_spec.specs.psci_messages.declared.kind.Kind.TheVariants.{Down}
-use Rattle.psci_ctl_spec.specs.psci_messages.Message.{AckValue}
-use Rattle.psci_fw_laws.specs.Kept.{Holds}
+use Rattle.psci_fw_laws.specs.psci_fw_spec.Phases.{Running}
 use Rattle.psci_fw_laws.proofs.Parts.{updated_here}
-use Rattle.psci_world_spec.specs.declared.event.Event.TheVariants.{Deliver}
-use Rattle.psci_world_spec.specs.declared.said.Record.{Record}
-use Rattle.psci_world_spec.specs.Histories.{ack_in, acks, call}
-use Rattle.psci_world_spec.specs.Histories.{controller_values, firmware_history}
-use Rattle.psci_world_spec.specs.Histories.{firmware_values}
-use Rattle.psci_world_spec.specs.Histories.{sent}
-use Rattle.psci_world_spec.specs.Legal.{legal}
-use Rattle.psci_headline.specs.Moments.{enters_or_resumes, was_powered_down}
-use Rattle.psci_headline.specs.PoweredDown.{AreDown, IsDownBy}
+use Rattle.psci_world_spec.specs.Histories.{acks, firmware_history}
 use Rattle.psci_headline.proofs.Acknowledging.{CoreLaws, new_is_down}
 use Rattle.psci_headline.proofs.CoreSteps.{IsStep}
 use Rattle.psci_headline.proofs.Deliveries.{IsNew, new_ack}
@@ -48,15 +34,7 @@ pub goes_running : (b : BoardValue) (r : Record) (past : List Record) (c : ℕ) 
     → enters_or_resumes c r.event r.said ≡ true
     → ((firmware_values b (r ∷ past)).phase c ≡ Running)
     × ((firmware_values b (r ∷ past)).status c ≡ statuses.On)
-goes_running b r past c next by =
-    let went = next.moves.goes c by in
-    let v : Values = firmware_values b past in
-    let is : firmware_values b (r ∷ past) ≡ change b (Enters c went.0) v =
-    next.moves.values ∙ ap (λ e. change b e v) went.1 in
-    let found : Values = in_life b went.0.life v in (
-      ap (λ (w : Values). w.phase c) is ∙ updated_here found.phase c Running,
-      ap (λ (w : Values). w.status c) is ∙ updated_here found.status c statuses.On,
-    )
+goes_running b r past c next by = grind (arith, nat_tests, updated_here)
 
 -- Acknowledgements -----------------------------------------------------------------------------
 
@@ -116,16 +94,15 @@ acks_more r past = refl
 asks_nothing : (b : BoardValue) (r : Record) (past : List Record) (k : ℕ) → r.event ≡ Deliver k
     → firmware_values b (r ∷ past) ≡ firmware_values b past
 unfolding firmware_history
-asks_nothing b r past k e =
-    ap (λ x. remembers.values_of b (call (controller_values b past) (acks past) x r.said
-    ++ firmware_history b past)) e
+asks_nothing b r past k e = grind (arith, nat_tests)
 
 new_down : (b : BoardValue) (r : Record) (past : List Record) (a : AckValue) → CoreLaws b
     → IsNext b r past → ack_in r.said ≡ Some a → a.kind ≡ Down → 0 < a.applied
     → IsDownBy b (r ∷ past) (firmware_values b (r ∷ past)) a
 new_down b r past a laws next made kind some =
     let new : IsNew b r past a = new_ack b r past a next.said made in
-    subst (λ v. IsDownBy b (r ∷ past) v a) (sym (asks_nothing b r past new.event.0 new.event.1))
+    subst (λ v. IsDownBy b (r ∷ past) v a)
+    (sym (asks_nothing b r past new.made.number new.made.event))
     (new_is_down b r past a laws next.holds new kind some)
 
 pub by_ack : (b : BoardValue) (r : Record) (past : List Record) (o : Option AckValue) (k : ℕ)

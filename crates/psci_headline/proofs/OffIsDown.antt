@@ -1,20 +1,12 @@
 -- A core that is reported OFF does not run, and was powered down since it last went on.
-use Rattle.std.proofs.Common.{◌≡◌, ℕ, ◌<◌, Bool, true, false, ◌==◌, cond, List, Option, None, Some}
-use Rattle.std.proofs.Common.{refl, subst, sym, ◌∙◌}
-use Rattle.psci_board.specs.Board.{BoardValue, cores}
-use Rattle.psci_fw_laws.specs.psci_fw_spec.declared.status.Status.{Status}
-use Rattle.psci_fw_laws.specs.psci_fw_spec.declared.status.Status.TheVariants.{Off}
-use Rattle.psci_fw_laws.specs.psci_fw_spec.Invariant.{AreValues, agrees}
-use Rattle.psci_fw_laws.specs.psci_fw_spec.Lives.{start_of_life}
+use Rattle.std.proofs.Common.{arith, ◌≡◌, ℕ, ◌<◌, Bool, true, false, ◌==◌, cond, List, Option, None}
+use Rattle.std.proofs.Common.{Some, refl, sym, ◌∙◌}
+use Rattle.std.proofs.lemmas.Bool.Decides.{nat_tests}
+use Rattle.psci_headline.proofs.Words.{BoardValue, cores, Status, Off, AreValues, start_of_life}
+use Rattle.psci_headline.proofs.Words.{Values, Running, Stopped, Record, controller_values}
+use Rattle.psci_headline.proofs.Words.{firmware_values, IsLegalPast, place, Agree, OffIsDown}
+use Rattle.psci_headline.proofs.Words.{agrees}
 use Rattle.psci_fw_laws.specs.psci_fw_spec.Phases as phases
-use Rattle.psci_fw_laws.specs.psci_fw_spec.Values.{Values}
-use Rattle.psci_world_spec.specs.declared.place.Place.TheVariants.{Running, Stopped}
-use Rattle.psci_world_spec.specs.declared.said.Record.{Record}
-use Rattle.psci_world_spec.specs.Histories.{controller_values, firmware_values}
-use Rattle.psci_world_spec.specs.Legal.{IsLegalPast}
-use Rattle.psci_world_spec.specs.Places.{place}
-use Rattle.psci_headline.specs.Agreement.{Agree}
-use Rattle.psci_headline.specs.Safe.{OffIsDown}
 use Rattle.psci_headline.proofs.AllDown.{DownLaws, all_down}
 use Rattle.psci_headline.proofs.Slept.{reported}
 
@@ -25,10 +17,7 @@ none_runs false e = absurd (cc)
 
 off_not_running : (s : Status) (p : phases.Phase) → agrees s p ≡ true → s ≡ Off
     → p ≡ phases.Running → ⊥
-off_not_running s p agree off runs =
-    let no : agrees Off phases.Running ≡ true =
-    subst (λ x. agrees Off x ≡ true) runs (subst (λ x. agrees x p ≡ true) off agree) in
-    absurd (cc)
+off_not_running s p agree off runs = grind (arith, nat_tests)
 
 by_life : (b : BoardValue) (v : Values) (c life : ℕ) (t : Bool) → AreValues b v → v.status c ≡ Off
     → (cond t v (start_of_life b life)).phase c ≡ phases.Running → ⊥

@@ -1,35 +1,23 @@
 -- Entries take up openings, each one of its own, where the tests say so.
-use Rattle.std.proofs.Common.{◌≡◌, ◌==◌, ◌&&◌, ◌↔◌, ℕ, zero, suc, true, not, List, []}
-use Rattle.std.proofs.Common.{◌∷◌, Option, None, Some, slice_get, refl, sym, ap, ◌∙◌, arith, inl}
-use Rattle.std.proofs.Common.{inr}
+use Rattle.std.proofs.Common.{◌≡◌, ◌==◌, ◌&&◌, ◌↔◌, ℕ, zero, suc, true, not, List, [], ◌∷◌, Option}
+use Rattle.std.proofs.Common.{None, Some, slice_get, refl, sym, ap, ◌∙◌, arith, inl, inr}
+use Rattle.std.proofs.lemmas.Bool.Decides.{nat_tests}
 use Rattle.std.specs.List.{list_all}
 use Rattle.std.proofs.lemmas.Bool.{and_from, and_parts, both_ways, eq-eqb, eqb-true, cases_Bool}
 use Rattle.std.proofs.lemmas.Bool.{not-true, not_from_false}
-use Rattle.psci_fw_laws.specs.psci_board.Board.{BoardValue}
-use Rattle.psci_fw_laws.specs.psci_fw_spec.declared.opening.Opening.{Opening}
-use Rattle.psci_world_spec.specs.declared.said.Record.{Record}
-use Rattle.psci_world_spec.specs.Histories.{firmware_history}
-use Rattle.psci_headline.specs.Openings.{AreTakenUp, Fits, Made, Maker, OfCall, OfLife}
-use Rattle.psci_headline.specs.Openings.{TakenUp, taken_up}
-use Rattle.psci_headline.specs.Test.{are_apart, is_each_once, is_each_open, is_fitting}
-use Rattle.psci_headline.specs.Test.{is_same_made, is_same_maker}
+use Rattle.psci_headline.proofs.Words.{BoardValue, Opening, Record, firmware_history, Fits, Made}
+use Rattle.psci_headline.proofs.Words.{TakenUp, AreTakenUp, taken_up, is_each_once, is_each_open}
+use Rattle.psci_headline.specs.Test.{are_apart, is_fitting, is_same_made}
 use Rattle.psci_headline.proofs.Ranges.{all_items, each_item}
 
 -- One entry -----------------------------------------------------------------------------------
 
 opening_same : (o p : Opening) → (o.address == p.address && o.context == p.context) ≡ true → o ≡ p
-opening_same o p e =
-    let parts = and_parts (o.address == p.address) (o.context == p.context) e in
-    let address : o.address ≡ p.address = eqb-true o.address p.address parts.0 in
-    let context : o.context ≡ p.context = eqb-true o.context p.context parts.1 in
-    λ i. record { address = address i; context = context i }
+opening_same o p e = grind (arith, nat_tests, and_parts, eqb-true)
 
 opening_itself : (o p : Opening) → o ≡ p
     → (o.address == p.address && o.context == p.context) ≡ true
-opening_itself o p same =
-    and_from (o.address == p.address) (o.context == p.context)
-    (eq-eqb o.address p.address (ap (λ (x : Opening). x.address) same))
-    (eq-eqb o.context p.context (ap (λ (x : Opening). x.context) same))
+opening_itself o p same = grind (arith, nat_tests, and_from, eq-eqb)
 
 -- an opening that fits
 abbrev HasFit : TakenUp → Type 0
@@ -59,16 +47,6 @@ fitting t (m, is, f) =
 
 -- No two --------------------------------------------------------------------------------------
 
-maker_same : (m n : Maker) → is_same_maker m n ≡ true → m ≡ n
-maker_same (OfLife life) (OfLife other) e = ap OfLife (eqb-true life other e)
-maker_same (OfCall before) (OfCall other) e = ap OfCall (eqb-true before other e)
-maker_same (OfLife life) (OfCall other) e = absurd (cc)
-maker_same (OfCall before) (OfLife other) e = absurd (cc)
-
-maker_itself : (m : Maker) → is_same_maker m m ≡ true
-maker_itself (OfLife life) = eq-eqb life life refl
-maker_itself (OfCall before) = eq-eqb before before refl
-
 -- two openings that are the same one
 record AreSame (made other : Option Made) : Type 0 where
   one : Made
@@ -78,15 +56,7 @@ record AreSame (made other : Option Made) : Type 0 where
   maker : one.maker ≡ two.maker
 
 same_made : (made other : Option Made) → is_same_made made other ≡ true → AreSame made other
-same_made (Some m) (Some n) e =
-    record { one = m; two = n; is = refl; so = refl; maker = maker_same m.maker n.maker e }
-same_made (Some m) None e = absurd (cc)
-same_made None other e = absurd (cc)
-
-made_same : (made other : Option Made) (m n : Made) → made ≡ Some m → other ≡ Some n
-    → m.maker ≡ n.maker → is_same_made made other ≡ true
-made_same made other m n is so maker = rw (is, so) (
-    ap (is_same_maker m.maker) (sym maker) ∙ maker_itself m.maker)
+same_made made other e = grind (arith, nat_tests, eqb-true)
 
 -- no two of them took up the same opening
 abbrev AreOnce : List TakenUp → Type 0
@@ -98,11 +68,7 @@ later_apart : (t : TakenUp) (ts : List TakenUp) (k : ℕ) (u : TakenUp) (m n : M
     → are_apart (t ∷ ts) ≡ true → slice_get ts k ≡ Some u → t.made ≡ Some m → u.made ≡ Some n
     → m.maker ≡ n.maker → ⊥
 later_apart t ts k u m n e at is so maker =
-    let apart : not (is_same_made t.made u.made) ≡ true =
-    each_item (λ x. not (is_same_made t.made x.made)) ts k u
-    (and_parts (list_all (λ x. not (is_same_made t.made x.made)) ts) (are_apart ts) e).0 at in
-    both_ways (is_same_made t.made u.made) (not-true _ apart)
-    (made_same t.made u.made m n is so maker)
+    grind (arith, nat_tests, each_item, and_parts, both_ways, not-true)
 
 once : (ts : List TakenUp) → are_apart ts ≡ true → AreOnce ts
 once [] e j k t u m n at too is so maker = absurd (cc)

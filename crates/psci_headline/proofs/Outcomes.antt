@@ -1,32 +1,17 @@
 -- What a legal outcome sends is what its effect says was sent.
-use Rattle.std.proofs.Common.{◌≡◌, ℕ, Bool, true, false, cond, refl}
-use Rattle.std.proofs.Common.{Option, None, Some, subst, sym}
+use Rattle.std.proofs.Common.{arith, ◌≡◌, ℕ, Bool, true, false, cond, refl, Option, None, Some}
+use Rattle.std.proofs.Common.{subst, sym}
+use Rattle.std.proofs.lemmas.Bool.Decides.{nat_tests}
 use Rattle.std.specs.Ordering.{int_eq}
-use Rattle.psci_world_spec.specs.psci_abi.Codes.{success}
-use Rattle.psci_world_spec.specs.psci_abi.declared.code.Code.{Code}
-use Rattle.psci_world_spec.specs.psci_abi.declared.request.Request.{Request}
+use Rattle.psci_headline.proofs.Words.{success, Code, Request, BoardValue, Start, MessageValue}
+use Rattle.psci_headline.proofs.Words.{FwFault, SuspendMode, Opening, Outcome, reply_or, outcome_of}
+use Rattle.psci_headline.proofs.Words.{GoesOn, enter_effect, function_effect, Values, mode_effect}
+use Rattle.psci_headline.proofs.Words.{outcome_at, stops_with, mode_of}
 use Rattle.psci_world_spec.specs.psci_abi.declared.request.Request.TheVariants as requests
-use Rattle.psci_board.specs.Board.{BoardValue}
-use Rattle.psci_ctl_spec.specs.psci_messages.declared.start.Start.{Start}
-use Rattle.psci_ctl_spec.specs.psci_messages.Message.{MessageValue}
-use Rattle.psci_fw_laws.specs.psci_fw_spec.declared.fault.FwFault.{FwFault}
-use Rattle.psci_fw_laws.specs.psci_fw_spec.declared.mode.SuspendMode.{SuspendMode}
-use Rattle.psci_fw_laws.specs.psci_fw_spec.declared.opening.Opening.{Opening}
-use Rattle.psci_fw_laws.specs.psci_fw_spec.declared.outcome.Act.TheVariants as acts
-use Rattle.psci_fw_laws.specs.psci_fw_spec.declared.outcome.Outcome.{Outcome}
 use Rattle.psci_fw_laws.specs.psci_fw_spec.declared.reply.FwReply.TheVariants as replies
-use Rattle.psci_fw_laws.specs.psci_fw_spec.Answer.{reply_or}
-use Rattle.psci_fw_laws.specs.psci_fw_spec.Calls.{outcome_of}
-use Rattle.psci_fw_laws.specs.psci_fw_spec.Effects.{GoesOn, enter_effect, function_effect}
-use Rattle.psci_fw_laws.specs.psci_fw_spec.Effects.{mode_effect}
-use Rattle.psci_fw_laws.specs.psci_fw_spec.Entering.{enter_outcome, outcome_at, resumes}
-use Rattle.psci_fw_laws.specs.psci_fw_spec.Lives.{in_life}
-use Rattle.psci_fw_laws.specs.psci_fw_spec.Changes.{with_arrival}
-use Rattle.psci_fw_laws.specs.psci_fw_spec.CpuOff.{off_message}
-use Rattle.psci_fw_laws.specs.psci_fw_spec.Outcomes.{returns, stops, stops_with}
+use Rattle.psci_fw_laws.specs.psci_fw_spec.Entering.{enter_outcome}
+use Rattle.psci_fw_laws.specs.psci_fw_spec.Outcomes.{returns}
 use Rattle.psci_fw_laws.specs.psci_fw_spec.Said as says
-use Rattle.psci_fw_laws.specs.psci_fw_spec.SuspendMode.{mode_of}
-use Rattle.psci_fw_laws.specs.psci_fw_spec.Values.{Values}
 use Rattle.psci_fw_laws.proofs.fw_spec.Endings.{function_ends, outcome_ends, starts_with}
 
 -- Functions ------------------------------------------------------------------------------------
@@ -67,10 +52,7 @@ outcome_sends b v c r =
 -- the outcome of a call that is not refused
 pub call_sends : (b : BoardValue) (v : Values) (c : ℕ) (r : Request) (o : Outcome)
     (f : Option FwFault) → replies.Out o ≡ reply_or f (outcome_of b v c r) → Sends b c r o
-call_sends b v c r o (Some fault) e = absurd (cc)
-call_sends b v c r o None e =
-    let same : o ≡ outcome_of b v c r = cc in
-    subst (Sends b c r) (sym same) (outcome_sends b v c r)
+call_sends b v c r o f e = grind (arith, nat_tests, outcome_sends)
 
 -- Entries --------------------------------------------------------------------------------------
 
@@ -80,32 +62,14 @@ EnterSends c s o = says.sent (enter_effect c s o.act o.message) ≡ o.message
 
 opened : (b : BoardValue) (found arrived : Values) (c : ℕ) (s : Start) (o : Option Opening)
     → EnterSends c s (outcome_at b found arrived c s o)
-opened b found arrived c s (Some o) = refl
-opened b found arrived c s None = by_test (resumes found c s)
-  where
-    by_test : (t : Bool) → EnterSends c s
-        (cond t (record { act = acts.Resume; message = None })
-        (stops_with (off_message b arrived c)))
-    by_test true = refl
-    by_test false = refl
+opened b found arrived c s o = grind (arith, nat_tests)
 
 entry_sends : (b : BoardValue) (v : Values) (c : ℕ) (s : Start)
     → EnterSends c s (enter_outcome b v c s)
 unfolding enter_outcome
-entry_sends b v c s = by_halting (in_life b s.life v).halting
-  where
-    found : Values
-    found = in_life b s.life v
-
-    by_halting : (t : Bool) → EnterSends c s
-        (cond t stops (outcome_at b found (with_arrival b c s v) c s (found.opening c)))
-    by_halting true = refl
-    by_halting false = opened b found (with_arrival b c s v) c s (found.opening c)
+entry_sends b v c s = grind (arith, nat_tests, opened)
 
 -- the outcome of an entry that is not refused
 pub enter_sends : (b : BoardValue) (v : Values) (c : ℕ) (s : Start) (o : Outcome)
     (f : Option FwFault) → replies.Out o ≡ reply_or f (enter_outcome b v c s) → EnterSends c s o
-enter_sends b v c s o (Some fault) e = absurd (cc)
-enter_sends b v c s o None e =
-    let same : o ≡ enter_outcome b v c s = cc in
-    subst (EnterSends c s) (sym same) (entry_sends b v c s)
+enter_sends b v c s o f e = grind (arith, nat_tests, entry_sends)

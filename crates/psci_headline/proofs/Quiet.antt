@@ -1,39 +1,24 @@
 -- Below a domain with a live claim no core executes.
-use Rattle.std.proofs.Common.{◌≡◌, ℕ, ◌<◌, ◌≤◌, true, ◌==◌, List, refl, arith}
-use Rattle.std.proofs.Common.{sym, ◌∙◌, subst}
+use Rattle.std.proofs.Common.{◌≡◌, ℕ, ◌<◌, ◌≤◌, true, ◌==◌, List, refl, arith, sym, ◌∙◌, subst}
+use Rattle.std.proofs.lemmas.Bool.Decides.{nat_tests}
 use Rattle.std.proofs.lemmas.Bool.{cond_both, eqb-false, false≢true}
-use Rattle.psci_board.specs.Board.{BoardValue, cores}
-use Rattle.psci_board.specs.Laws.{PathLaws}
-use Rattle.psci_ctl_spec.specs.psci_messages.Message.{MessageValue}
+use Rattle.psci_headline.proofs.Words.{BoardValue, cores, PathLaws, MessageValue, in_life}
+use Rattle.psci_headline.proofs.Words.{start_of_life, sent_messages, Values, IsClaimOn, Holds}
+use Rattle.psci_headline.proofs.Words.{AreLive, Place, Record, controller_values, firmware_history}
+use Rattle.psci_headline.proofs.Words.{firmware_values, sent, place, Agree, AgreeIn, executes}
+use Rattle.psci_headline.proofs.Words.{NoneExecutes}
 use Rattle.psci_ctl_spec.specs.Follows.{AreValues}
-use Rattle.psci_fw_laws.specs.psci_fw_spec.Lives.{in_life, start_of_life}
 use Rattle.psci_fw_laws.specs.psci_fw_spec.Phases as phases
-use Rattle.psci_fw_laws.specs.psci_fw_spec.Sent.{sent_messages}
-use Rattle.psci_fw_laws.specs.psci_fw_spec.Values.{Values}
-use Rattle.psci_fw_laws.specs.Claims.{IsClaimOn}
-use Rattle.psci_fw_laws.specs.Kept.{Holds}
-use Rattle.psci_fw_laws.specs.Live.{AreLive}
 use Rattle.psci_fw_laws.proofs.Arriving.{first_holds, found_life}
 use Rattle.psci_fw_laws.proofs.Living.{live_laws}
-use Rattle.psci_world_spec.specs.declared.place.Place.{Place}
-use Rattle.psci_world_spec.specs.declared.place.Place.TheVariants.{Started, Running}
-use Rattle.psci_world_spec.specs.declared.place.Place.TheVariants.{Stopped}
-use Rattle.psci_world_spec.specs.declared.said.Record.{Record}
-use Rattle.psci_world_spec.specs.Histories.{controller_values, firmware_history}
-use Rattle.psci_world_spec.specs.Histories.{firmware_values}
-use Rattle.psci_world_spec.specs.Histories.{sent}
-use Rattle.psci_world_spec.specs.Places.{place}
-use Rattle.psci_headline.specs.Agreement.{Agree, AgreeIn}
-use Rattle.psci_headline.specs.Moments.{executes}
-use Rattle.psci_headline.specs.Live.{NoneExecutes}
 use Rattle.psci_headline.proofs.Claiming.{source}
-use Rattle.psci_headline.proofs.LiveClaims.{same_sum}
+use Rattle.psci_headline.proofs.Starting.{same_sum}
 use Rattle.psci_headline.proofs.LiveOnes.{is_live_one}
 
 -- Values in a life ----------------------------------------------------------------------------
 
 -- what the firmware keeps true holds in each life that is its own or a later one
-in_life_holds : (b : BoardValue) (v : Values) (ms : List MessageValue) (life : ℕ)
+pub in_life_holds : (b : BoardValue) (v : Values) (ms : List MessageValue) (life : ℕ)
     → v.life ≤ life → life ≤ b.lives → Holds b v ms → Holds b (in_life b life v) ms
 in_life_holds b v ms life begun last holds =
     cond_both (life == v.life) v (start_of_life b life) (λ w. Holds b w ms) (λ e. holds)
@@ -48,10 +33,7 @@ in_life_holds b v ms life begun last holds =
 at_rest : (b : BoardValue) (starts : ℕ → ℕ) (places : ℕ → Place) (v : Values) (c : ℕ) (p : Place)
     → AgreeIn b starts places v → c < cores b → v.known c ≡ starts c
     → (v.phase c ≡ phases.Running → ⊥) → places c ≡ p → executes p ≡ true → ⊥
-at_rest b starts places v c Started agree on known rests e x =
-    omega (arith, agree.waits c on e, known)
-at_rest b starts places v c Running agree on known rests e x = rests (agree.runs c on e)
-at_rest b starts places v c Stopped agree on known rests e x = false≢true x
+at_rest b starts places v c p agree on known rests e x = grind (arith, nat_tests, false≢true)
 
 pub none_executes : (b : BoardValue) (past : List Record) → PathLaws b
     → AreValues b (controller_values b past)

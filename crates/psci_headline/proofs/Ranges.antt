@@ -1,7 +1,6 @@
 -- What passes at each number of a range, or at each item of a list, and the other way round.
-use Rattle.std.proofs.Common.{◌≡◌, ◌+◌, ◌≤◌, ◌<◌, ◌||◌, ℕ, zero, suc, Bool, true, false}
-use Rattle.std.proofs.Common.{not, List, [], ◌∷◌, slice_get, Some, refl, sym, ap, ◌∙◌}
-use Rattle.std.proofs.Common.{arith, inl, inr}
+use Rattle.std.proofs.Common.{◌≡◌, ◌+◌, ◌≤◌, ◌<◌, ◌||◌, ℕ, zero, suc, Bool, true, false, not, List}
+use Rattle.std.proofs.Common.{[], ◌∷◌, slice_get, Some, refl, sym, ap, ◌∙◌, arith, inl, inr}
 use Rattle.std.specs.List.{list_all, range_with_len}
 use Rattle.std.proofs.lemmas.Bool.{and_from, and_parts, cases_eq, true≢false}
 

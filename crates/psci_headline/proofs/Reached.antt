@@ -1,18 +1,12 @@
 -- Where the world settles: the power controller's life goes on there, and is not halting.
-use Rattle.std.proofs.Common.{◌≡◌, ℕ, ◌+◌, inl, inr, false, List, Some, refl, arith, ap, sym, ◌∙◌}
+use Rattle.std.proofs.Common.{◌≡◌, ℕ, ◌+◌, false, List, Some, arith}
+use Rattle.std.proofs.lemmas.Bool.Decides.{nat_tests}
 use Rattle.std.proofs.lemmas.Option.{same_Some}
-use Rattle.psci_headline.specs.psci_board.Board.{BoardValue, height}
+use Rattle.psci_headline.proofs.Words.{BoardValue, height, MessageValue, Record, sent, IsLegalPast}
+use Rattle.psci_headline.proofs.Words.{indexed, AreAtRest, deliveries, is_halting, begun}
 use Rattle.psci_headline.specs.psci_messages.declared.kind.Kind.TheVariants as kinds
-use Rattle.psci_headline.specs.psci_messages.Message.{MessageValue}
-use Rattle.psci_headline.specs.psci_fw_spec.Values.{Values}
-use Rattle.psci_headline.specs.psci_world_spec.declared.said.Record.{Record}
-use Rattle.psci_headline.specs.psci_world_spec.Histories.{firmware_values}
-use Rattle.psci_headline.specs.psci_world_spec.Histories.{sent}
-use Rattle.psci_headline.specs.psci_world_spec.Legal.{IsLegalPast}
-use Rattle.psci_headline.specs.psci_world_spec.Lists.{indexed}
+use Rattle.psci_headline.specs.Settling.{settled}
 use Rattle.psci_headline.proofs.Agreeing.{found_own}
-use Rattle.psci_headline.specs.Drained.{AreAtRest, deliveries}
-use Rattle.psci_headline.specs.Settling.{begun, halts_in, is_halting, settled}
 use Rattle.psci_headline.proofs.Beginning.{IsUnderWay}
 use Rattle.psci_headline.proofs.Bound.{HasRest, IsRound, comes_to_rest}
 use Rattle.psci_headline.proofs.Counting.{none_added}
@@ -26,13 +20,7 @@ use Rattle.psci_headline.proofs.Whole.{LifeGoesOn, going_life}
 first_count : (b : BoardValue) (before : List Record) (life : ℕ) (past : List Record) (k : ℕ)
     (m : MessageValue) → IsUnderWay b before life past → indexed (sent past) k ≡ Some m
     → m.kind ≡ kinds.Down → deliveries k past ≡ deliveries k before
-first_count b before life past k m way at kind = elim (way.count k) [
-  | inl same ↦ same
-  | inr start ↦
-      let same : m ≡ start.message = same_Some m start.message (sym at ∙ start.at) in
-      let no : kinds.Down ≡ kinds.Start =
-      sym kind ∙ ap (λ (x : MessageValue). x.kind) same ∙ start.kind in absurd (cc)
-]
+first_count b before life past k m way at kind = grind (arith, nat_tests, same_Some)
 
 first_round : (b : BoardValue) (before : List Record) (life : ℕ) (past : List Record)
     → SettleLaws b → HasBegun b before life past → IsRound b before life 0 past
@@ -43,12 +31,7 @@ first_round b before life past laws begins =
       deep = λ c k level m p at present kind core part live low. absurd (omega (arith, low));
       most = λ k m at kind.
           omega (arith, first_count b before life past k m begins.way at kind);
-      once = λ c k m at on e.
-          omega (
-            arith,
-            first_count b before life past k m begins.way at
-                (out_now b before life past c m laws going e).down.kind,
-          );
+      once = λ c k m at on e. grind (arith, nat_tests, first_count, out_now);
       left = λ r c m same on e. absurd (omega (arith, same));
       last = λ some. absurd (omega (arith, some));
     }
@@ -57,13 +40,8 @@ pub comes : (b : BoardValue) (past : List Record) → SettleLaws b → IsLegalPa
     → (goes : LifeGoesOn b past) → HasRest b past goes.life (settled b past)
 unfolding settled
 comes b past laws is goes =
-    let way : IsUnderWay b past goes.life past = record {
-      legal = is;
-      added = none_added past;
-      present = goes.present;
-      awake = goes.awake;
-      count = λ j. inl refl;
-    } in
+    let way : IsUnderWay b past goes.life past =
+    grind (arith, nat_tests, none_added) in
     let begins = has_begun b past goes.life laws way in
     comes_to_rest b past goes.life (height b + 1) 0 (begun b past) laws (omega arith)
     (first_round b past goes.life (begun b past) laws begins)
@@ -83,9 +61,6 @@ reached b past laws is awake =
     let going : IsGoing b past goes.life end = rest.is.going in
     record {
       legal = going.legal;
-      awake = ap (halts_in b end) going.present
-          ∙ ap (λ (v : Values). v.halting)
-          (found_own b goes.life (firmware_values b end) (sym going.own))
-          ∙ going.awake;
+      awake = grind (arith, nat_tests, found_own);
       rest = at_rest b past goes.life end laws going rest.none;
     }

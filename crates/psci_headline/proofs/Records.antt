@@ -1,35 +1,14 @@
 -- What a record adds to the firmware's history, and what it says.
-use Rattle.std.proofs.Common.{◌≡◌, ℕ, Bool, true, false, ◌==◌}
-use Rattle.std.proofs.Common.{cond, List, [], ◌∷◌, Option, None, Some, refl, subst, ap}
-use Rattle.std.proofs.Common.{◌∙◌}
-use Rattle.psci_world_spec.specs.psci_abi.Calls.{request_of}
-use Rattle.psci_board.specs.Board.{BoardValue}
-use Rattle.psci_ctl_spec.specs.psci_messages.declared.start.Cause.{Cause}
-use Rattle.psci_ctl_spec.specs.psci_messages.declared.start.Start.{Start}
-use Rattle.psci_ctl_spec.specs.Replies.{last_start, start_shown}
+use Rattle.std.proofs.Common.{arith, ◌≡◌, ℕ, true, List, [], ◌∷◌, Option, Some, refl}
+use Rattle.std.proofs.lemmas.Bool.Decides.{nat_tests}
+use Rattle.psci_headline.proofs.Words.{request_of, BoardValue, Start, last_start, Act, Effect}
+use Rattle.psci_headline.proofs.Words.{Acknowledges, function_effect, FwExchange, effect, Arrival}
+use Rattle.psci_headline.proofs.Words.{arrived, Taken, AckValue, Event, Call, Enter, Take, Said, Fw}
+use Rattle.psci_headline.proofs.Words.{Sent, call, entered, outcome_in, took, indexed}
 use Rattle.psci_ctl_spec.specs.Values as controlled
-use Rattle.psci_fw_laws.specs.psci_fw_spec.declared.outcome.Act.{Act}
-use Rattle.psci_fw_laws.specs.psci_fw_spec.declared.outcome.Act.TheVariants as acts
-use Rattle.psci_fw_laws.specs.psci_fw_spec.Effects.{Effect, Nothing}
-use Rattle.psci_fw_laws.specs.psci_fw_spec.Effects.{Enters, Parks, StopsAtOnce}
-use Rattle.psci_fw_laws.specs.psci_fw_spec.Effects.{Acknowledges}
-use Rattle.psci_fw_laws.specs.psci_fw_spec.Effects.{enter_effect, function_effect}
-use Rattle.psci_fw_laws.specs.psci_fw_spec.Exchange.{FwExchange, effect}
-use Rattle.psci_fw_laws.specs.psci_fw_spec.Said.{Arrival, arrived}
-use Rattle.psci_ctl_spec.specs.psci_messages.declared.taken.Taken.{Taken}
-use Rattle.psci_ctl_spec.specs.psci_messages.declared.taken.Taken.TheVariants as takens
-use Rattle.psci_ctl_spec.specs.psci_messages.Message.{AckValue, MessageValue}
-use Rattle.psci_world_spec.specs.declared.event.Event.{Event}
-use Rattle.psci_world_spec.specs.declared.event.Event.TheVariants.{Call, Enter}
-use Rattle.psci_world_spec.specs.declared.event.Event.TheVariants.{Take}
-use Rattle.psci_world_spec.specs.declared.said.Said.{Said}
-use Rattle.psci_world_spec.specs.declared.said.Said.TheVariants.{Fw}
 use Rattle.psci_world_spec.specs.declared.said.Said.TheVariants.{Taken as Took}
-use Rattle.psci_world_spec.specs.declared.said.Sent.{Sent}
-use Rattle.psci_world_spec.specs.Histories.{call, entered, outcome_in, took}
-use Rattle.psci_world_spec.specs.Lists.{indexed}
 use Rattle.psci_headline.proofs.Moving.{function_call, is_call}
-use Rattle.psci_headline.proofs.Numbered.{IsListed, listed_from}
+use Rattle.psci_headline.proofs.Items.{IsListed, at_number}
 
 -- What an effect says -------------------------------------------------------------------------
 
@@ -41,47 +20,7 @@ pub record IsOfRecord (v : controlled.Values) (made : List AckValue) (e : Effect
 
 of_caller : (v : controlled.Values) (made : List AckValue) (e : Effect) → is_call e ≡ true
     → IsOfRecord v made e
-of_caller v made Nothing of = absurd (cc)
-of_caller v made (Enters c s) of = absurd (cc)
-of_caller v made (Parks c s m) of = absurd (cc)
-of_caller v made (StopsAtOnce c s) of = absurd (cc)
-of_caller v made (Acknowledges a) of = absurd (cc)
-of_caller v made e of = record { starts = λ a e. absurd (cc); takes = λ a e. absurd (cc) }
-
--- the start that a core is shown is of the power controller's life
-shown_life : (life : Option ℕ) (n : ℕ) (cause : Cause) (s : Start)
-    → start_shown life n cause ≡ Some s → life ≡ Some s.life
-shown_life None n cause s e = absurd (cc)
-shown_life (Some life) n cause s e = by_number (n == 0) e
-  where
-    by_number : (t : Bool)
-        → cond t None (Some (record { life = life; number = n; cause = cause })) ≡ Some s
-        → Some life ≡ Some s.life
-    by_number true e = absurd (cc)
-    by_number false e =
-        let same : record { life = life; number = n; cause = cause } ≡ s = cc in
-        ap (λ (x : Start). Some x.life) same
-
-of_entry : (v : controlled.Values) (made : List AckValue) (c : ℕ) (s : Start) (act : Act)
-    (m : Option MessageValue) → v.life ≡ Some s.life → IsOfRecord v made (enter_effect c s act m)
-of_entry v made c s acts.Stop (Some m) life = record {
-  starts = λ a e.
-      let same : record { core = c; start = s } ≡ a = cc in
-      life ∙ ap (λ (x : Arrival). Some x.start.life) same;
-  takes = λ a e. absurd (cc);
-}
-of_entry v made c s acts.Stop None life = record {
-  starts = λ a e.
-      let same : record { core = c; start = s } ≡ a = cc in
-      life ∙ ap (λ (x : Arrival). Some x.start.life) same;
-  takes = λ a e. absurd (cc);
-}
-of_entry v made c s act m life = record {
-  starts = λ a e.
-      let same : record { core = c; start = s } ≡ a = cc in
-      life ∙ ap (λ (x : Arrival). Some x.start.life) same;
-  takes = λ a e. absurd (cc);
-}
+of_caller v made e of = grind (arith, nat_tests)
 
 -- What a record adds --------------------------------------------------------------------------
 
@@ -94,22 +33,11 @@ IsAdded b v made (e ∷ f ∷ es) = ⊥
 added_entered : (b : BoardValue) (v : controlled.Values) (made : List AckValue) (c : ℕ)
     (s : Option Start) (act : Act) (m : Option Sent) → last_start v c ≡ s
     → IsAdded b v made (entered c s (outcome_in act m))
-added_entered b v made c None act m last = tt
-added_entered b v made c (Some s) act m last =
-    of_entry v made c s act (outcome_in act m).message
-    (shown_life v.life (v.starts c) (v.cause c) s last)
+added_entered b v made c s act m last = grind (arith, nat_tests)
 
 added_took : (b : BoardValue) (v : controlled.Values) (made : List AckValue) (k : ℕ)
     (a : Option AckValue) (t : Taken) → indexed made k ≡ a → IsAdded b v made (took a t)
-added_took b v made k None t at = tt
-added_took b v made k (Some a) takens.Used at = record {
-  starts = λ x e. absurd (cc);
-  takes = λ x e. let same : a ≡ x = cc in subst (IsListed made) same (listed_from made k a at);
-}
-added_took b v made k (Some a) takens.Old at = record {
-  starts = λ x e. absurd (cc);
-  takes = λ x e. absurd (cc);
-}
+added_took b v made k a t at = grind (arith, nat_tests, at_number)
 
 pub added : (b : BoardValue) (v : controlled.Values) (made : List AckValue) (event : Event)
     (said : Said) → IsAdded b v made (call v made event said)

@@ -1,23 +1,17 @@
 -- No core at its place is refused.
-use Rattle.std.proofs.Common.{◌≡◌, ◌⊎◌, ℕ, ◌<◌, ◌≤◌, ◌==◌, ◌&&◌, ◌||◌, Bool, true, false, cond, not}
-use Rattle.std.proofs.Common.{Option, None, Some, refl, arith, subst, ap, sym, ◌∙◌, inl, inr}
-use Rattle.std.specs.Prelude.{nat_le, nat_lt}
-use Rattle.std.proofs.lemmas.Bool.{and_left, and_right, cases_eq, cond-false, le-ltb}
-use Rattle.std.proofs.lemmas.Bool.{lt-leb, lt-ltb, ne_eqb, or_from}
-use Rattle.psci_board.specs.Board.{BoardValue, cores}
-use Rattle.psci_ctl_spec.specs.psci_messages.declared.start.Start.{Start}
+use Rattle.std.proofs.Common.{◌≡◌, ℕ, ◌<◌, ◌≤◌, ◌==◌, Bool, true, false, cond, not, Option, None}
+use Rattle.std.proofs.Common.{Some, refl, arith, subst, ap, sym, ◌∙◌}
+use Rattle.std.proofs.lemmas.Bool.Decides.{nat_tests}
+use Rattle.std.specs.Prelude.{nat_lt}
+use Rattle.std.proofs.lemmas.Bool.{and_left, and_right, cases_eq, cond-false, le-ltb, lt-leb}
+use Rattle.std.proofs.lemmas.Bool.{lt-ltb, ne_eqb, or_from}
+use Rattle.psci_headline.proofs.Words.{BoardValue, cores, Start, last_start, start_shown}
+use Rattle.psci_headline.proofs.Words.{call_fault, enter_fault, in_life, is_running, Values, Place}
+use Rattle.psci_headline.proofs.Words.{Started, Running, Stopped}
 use Rattle.psci_ctl_spec.specs.Follows as controlling
-use Rattle.psci_ctl_spec.specs.Replies.{last_start, start_shown}
 use Rattle.psci_ctl_spec.specs.Values as controlled
 use Rattle.psci_fw_laws.specs.psci_fw_spec.declared.fault.FwFault.TheVariants as faults
-use Rattle.psci_fw_laws.specs.psci_fw_spec.Calls.{call_fault}
-use Rattle.psci_fw_laws.specs.psci_fw_spec.Entering.{enter_fault, is_old}
-use Rattle.psci_fw_laws.specs.psci_fw_spec.Lives.{in_life}
 use Rattle.psci_fw_laws.specs.psci_fw_spec.Phases as phases
-use Rattle.psci_fw_laws.specs.psci_fw_spec.Phases.{is_running}
-use Rattle.psci_fw_laws.specs.psci_fw_spec.Values.{Values}
-use Rattle.psci_world_spec.specs.declared.place.Place.{Place}
-use Rattle.psci_world_spec.specs.declared.place.Place.TheVariants.{Started, Running, Stopped}
 use Rattle.psci_headline.proofs.Agreeing.{AreAgreed, found_own}
 use Rattle.psci_headline.proofs.Placing.{own_life}
 
@@ -28,11 +22,7 @@ record IsAlive (u : controlled.Values) : Type 0 where
 
 alive : (b : BoardValue) (u : controlled.Values) (place : ℕ → Place) (v : Values) (c : ℕ)
     → AreAgreed b u place v → (place c ≡ Stopped → ⊥) → IsAlive u
-alive b u place v c h ne = by_life u.life refl
-  where
-    by_life : (o : Option ℕ) → u.life ≡ o → IsAlive u
-    by_life None e = absurd (ne (h.stopped e c))
-    by_life (Some life) e = record { life = life; is = e }
+alive b u place v c h ne = grind (arith, nat_tests)
 
 -- Calls ----------------------------------------------------------------------------------------
 
@@ -58,22 +48,12 @@ call_passed b u place v c are h on at =
     let runs : (in_life b is.life v).phase c ≡ phases.Running =
     (h.present is.life is.is).runs c on at in
     let own : is.life ≡ v.life = own_life b is.life v c runs in
-    let now : v.phase c ≡ phases.Running =
-    subst (λ (w : Values). w.phase c ≡ phases.Running) (found_own b is.life v own) runs in
+    let now : v.phase c ≡ phases.Running = grind (arith, nat_tests, found_own) in
     call_passes (not (nat_lt c (cores b))) (v.life == 0) (is_running (v.phase c)) (there b c on)
     (ne_eqb v.life 0 (λ e. omega (arith, e, own, are.first is.life is.is)))
     (ap is_running now)
 
 -- Entries --------------------------------------------------------------------------------------
-
-enter_passes : (absent lifeless old : Bool) → absent ≡ false → lifeless ≡ false → old ≡ false
-    → cond absent (Some faults.NoCore) (cond lifeless (Some faults.NoLife)
-    (cond old (Some faults.OldStart) None))
-    ≡ None
-enter_passes true lifeless old e f g = absurd (cc)
-enter_passes false true old e f g = absurd (cc)
-enter_passes false false true e f g = absurd (cc)
-enter_passes false false false e f g = refl
 
 -- A start that is new to the core.
 record IsNew (b : BoardValue) (v : Values) (c : ℕ) (s : Start) : Type 0 where
@@ -84,28 +64,10 @@ record IsNew (b : BoardValue) (v : Values) (c : ℕ) (s : Start) : Type 0 where
   pub most : s.number ≤ b.starts
   pub later : s.life ≡ v.life → v.known c < s.number
 
-not_old : (b : BoardValue) (v : Values) (c : ℕ) (s : Start) → IsNew b v c s
-    → is_old b v c s ≡ false
-not_old b v c s new =
-    or_from (nat_lt s.life v.life) _ (le-ltb s.life v.life new.life)
-    (or_from (s.number == 0) _ (ne_eqb s.number 0 (λ e. omega (arith, e, new.some)))
-    (or_from (nat_lt b.starts s.number) _ (le-ltb b.starts s.number new.most)
-    (by_cases (cases_eq s.life v.life))))
-  where
-    by_cases : (s.life ≡ v.life) ⊎ (s.life ≡ v.life → ⊥)
-        → (s.life == v.life && nat_le s.number (v.known c)) ≡ false
-    by_cases (inl e) =
-        and_right (s.life == v.life) _ (lt-leb s.number (v.known c) (new.later e))
-    by_cases (inr ne) = and_left (s.life == v.life) _ (ne_eqb s.life v.life ne)
-
 new_passed : (b : BoardValue) (v : Values) (c : ℕ) (s : Start) → c < cores b → IsNew b v c s
     → enter_fault b v c s ≡ None
 new_passed b v c s on new =
-    enter_passes (not (nat_lt c (cores b))) (s.life == 0 || nat_lt b.lives s.life)
-    (is_old b v c s) (there b c on)
-    (or_from (s.life == 0) _ (ne_eqb s.life 0 (λ e. omega (arith, e, new.begun)))
-    (le-ltb b.lives s.life new.lives))
-    (not_old b v c s new)
+    grind (arith, nat_tests, there, or_from, ne_eqb, le-ltb, cases_eq, and_right, lt-leb, and_left)
 
 pub enter_passed : (b : BoardValue) (u : controlled.Values) (place : ℕ → Place) (v : Values)
     (c : ℕ) → controlling.AreValues b u → AreAgreed b u place v → c < cores b

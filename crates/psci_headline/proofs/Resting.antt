@@ -1,21 +1,15 @@
 -- Where nothing is outstanding, firmware and power controller agree on every domain.
-use Rattle.std.proofs.Common.{◌≡◌, ℕ, suc, inl, inr, ◌<◌, List, Option, None}
-use Rattle.std.proofs.Common.{Some, refl, arith, subst, sym, ◌∙◌}
+use Rattle.std.proofs.Common.{◌≡◌, ℕ, suc, inl, inr, ◌<◌, List, Option, None, Some, refl, arith}
+use Rattle.std.proofs.Common.{subst, sym, ◌∙◌}
+use Rattle.std.proofs.lemmas.Bool.Decides.{nat_tests}
 use Rattle.std.proofs.lemmas.Bool.{cases_lt}
 use Rattle.std.proofs.lemmas.Option.{none-some}
-use Rattle.psci_board.specs.Board.{BoardValue, HasNode, cores}
-use Rattle.psci_board.specs.declared.node.Node.{Node}
+use Rattle.psci_headline.proofs.Words.{BoardValue, HasNode, cores, Node, MessageValue, OfSystem}
+use Rattle.psci_headline.proofs.Words.{Values, known_below, Record, controller_values}
+use Rattle.psci_headline.proofs.Words.{firmware_values, sent, AreAtRest}
 use Rattle.psci_ctl_spec.specs.Values as controlled
-use Rattle.psci_ctl_spec.specs.psci_messages.Message.{MessageValue}
-use Rattle.psci_ctl_spec.specs.psci_messages.Slots.{OfSystem}
-use Rattle.psci_headline.specs.psci_fw_spec.Values.{Values}
 use Rattle.psci_headline.specs.psci_fw_laws.Granted.{AreGranted}
-use Rattle.psci_headline.specs.psci_fw_laws.KnownBelow.{known_below}
 use Rattle.psci_headline.proofs.fw_laws.Sums.{known_same}
-use Rattle.psci_headline.specs.psci_world_spec.declared.said.Record.{Record}
-use Rattle.psci_headline.specs.psci_world_spec.Histories.{controller_values, firmware_values}
-use Rattle.psci_headline.specs.psci_world_spec.Histories.{sent}
-use Rattle.psci_headline.specs.Drained.{AreAtRest}
 use Rattle.psci_headline.proofs.Claimed.{claim_deep}
 use Rattle.psci_headline.proofs.Going.{IsGoing, known_now, none_system, waits_now}
 use Rattle.psci_headline.proofs.Rounds.{DeepAt, deep_or_out, out_at}
@@ -72,13 +66,7 @@ module _ (b : BoardValue) (before : List Record) (life : ℕ) (past : List Recor
       ∙ sym live.deep
 
   agree : (n : Node) → HasNode b n → v.granted n.level n.place ≡ w.depth n.level n.place
-  agree n has = elim (cases_lt 0 (v.granted n.level n.place)) [
-    | inl some ↦ granted_deep n.level n.place some
-    | inr low ↦ elim (cases_lt 0 (w.depth n.level n.place)) [
-      | inl some ↦ deep_granted n has some
-      | inr flat ↦ omega (arith, low, flat)
-    ]
-  ]
+  agree n has = grind (arith, nat_tests, cases_lt, granted_deep, deep_granted)
 
   no_system : (o : Option MessageValue) → v.outstanding OfSystem ≡ o → o ≡ None
   no_system None e = refl

@@ -1,34 +1,17 @@
 -- What a record says that a call returned is what its function answers, in a life.
 use Rattle.std.proofs.Common.{◌≡◌, ℕ, zero, suc, ◌<◌, Bool, true, false, ◌==◌, cond, List, ◌++◌}
 use Rattle.std.proofs.Common.{Option, None, Some, refl, ap, sym, ◌∙◌, arith, not}
-use Rattle.std.specs.Prelude.{nat_lt}
-use Rattle.psci_world_spec.specs.psci_abi.Calls.{request_of}
-use Rattle.psci_world_spec.specs.psci_abi.declared.code.Code.{Code}
-use Rattle.psci_world_spec.specs.psci_abi.declared.registers.Regs.{Regs}
-use Rattle.psci_world_spec.specs.psci_abi.declared.request.Request.{Request}
-use Rattle.psci_board.specs.Board.{BoardValue, cores}
-use Rattle.psci_fw_laws.specs.psci_fw_spec.declared.call.FwCall.TheVariants.{Smc}
-use Rattle.psci_fw_laws.specs.psci_fw_spec.declared.fault.FwFault.{FwFault}
+use Rattle.std.proofs.lemmas.Bool.Decides.{nat_tests}
+use Rattle.psci_headline.proofs.Words.{request_of, Code, Regs, Request, BoardValue, FwFault}
+use Rattle.psci_headline.proofs.Words.{Outcome, reply_or, call_fault, IsLegal, stops, Values, Event}
+use Rattle.psci_headline.proofs.Words.{Call, Record, Said, Fw, Sent, acks, call, controller_values}
+use Rattle.psci_headline.proofs.Words.{firmware_history, firmware_values, outcome_in, Smc}
 use Rattle.psci_fw_laws.specs.psci_fw_spec.declared.fault.FwFault.TheVariants.{NoCore, NoLife}
 use Rattle.psci_fw_laws.specs.psci_fw_spec.declared.fault.FwFault.TheVariants.{NotRunning}
 use Rattle.psci_fw_laws.specs.psci_fw_spec.declared.outcome.Act.TheVariants as acts
-use Rattle.psci_fw_laws.specs.psci_fw_spec.declared.outcome.Outcome.{Outcome}
 use Rattle.psci_fw_laws.specs.psci_fw_spec.declared.reply.FwReply.TheVariants as replies
-use Rattle.psci_fw_laws.specs.psci_fw_spec.Answer.{answer, reply_or}
-use Rattle.psci_fw_laws.specs.psci_fw_spec.Calls.{call_fault, function_outcome, outcome_of}
-use Rattle.psci_fw_laws.specs.psci_fw_spec.Legal.{IsLegal}
-use Rattle.psci_fw_laws.specs.psci_fw_spec.Outcomes.{stops}
-use Rattle.psci_fw_laws.specs.psci_fw_spec.Phases.{is_running}
-use Rattle.psci_fw_laws.specs.psci_fw_spec.Values.{Values}
-use Rattle.psci_world_spec.specs.declared.event.Event.{Event}
-use Rattle.psci_world_spec.specs.declared.event.Event.TheVariants.{Call}
-use Rattle.psci_world_spec.specs.declared.said.Record.{Record}
-use Rattle.psci_world_spec.specs.declared.said.Said.{Said}
-use Rattle.psci_world_spec.specs.declared.said.Said.TheVariants.{Fw}
-use Rattle.psci_world_spec.specs.declared.said.Sent.{Sent}
-use Rattle.psci_world_spec.specs.Histories.{acks, call, controller_values}
-use Rattle.psci_world_spec.specs.Histories.{firmware_history}
-use Rattle.psci_world_spec.specs.Histories.{firmware_values, outcome_in}
+use Rattle.psci_fw_laws.specs.psci_fw_spec.Answer.{answer}
+use Rattle.psci_fw_laws.specs.psci_fw_spec.Calls.{function_outcome, outcome_of}
 
 -- A core is answered this code to its request, in a life.
 pub record IsReturned (b : BoardValue) (v : Values) (d : ℕ) (r : Request) (code : Code)
@@ -62,12 +45,7 @@ some_life (suc life) s t u is e = omega arith
 by_fault : (b : BoardValue) (v : Values) (d : ℕ) (r : Request) (code : Code) (o : Outcome)
     (f : Option FwFault) → call_fault b v d ≡ f → o.act ≡ acts.Return code
     → replies.Out o ≡ reply_or f (outcome_of b v d r) → IsReturned b v d r code
-by_fault b v d r code o (Some fault) none act e = absurd (cc)
-by_fault b v d r code o None none act e =
-    let same : o ≡ outcome_of b v d r = cc in
-    by_outcome b v d r code o
-    (some_life v.life (nat_lt d (cores b)) (v.life == 0) (is_running (v.phase d)) refl none) act
-    same
+by_fault b v d r code o f none act e = grind (arith, nat_tests, by_outcome, some_life)
 
 by_answer : (b : BoardValue) (v : Values) (d : ℕ) (regs : Regs) (code : Code) (o : Outcome)
     → o.act ≡ acts.Return code → replies.Out o ≡ answer b v d (Smc regs)

@@ -1,23 +1,15 @@
 -- One round: what is outstanding for each core is served once.
-use Rattle.std.proofs.Common.{◌≡◌, ℕ, suc, ◌⊎◌, inl, inr, ◌+◌, ◌-◌, ◌≤◌, Bool, true, false, ◌==◌}
-use Rattle.std.proofs.Common.{cond, List, length, Option, None, Some, refl, arith, subst, ap, sym}
-use Rattle.std.proofs.Common.{◌∙◌}
+use Rattle.std.proofs.Common.{◌≡◌, ℕ, suc, ◌⊎◌, inl, inr, ◌+◌, ◌≤◌, Bool, true, false, ◌==◌, cond}
+use Rattle.std.proofs.Common.{List, Option, None, Some, arith, subst, ap, sym, ◌∙◌}
+use Rattle.std.proofs.lemmas.Bool.Decides.{nat_tests}
 use Rattle.std.specs.Prelude.{slice_get}
 use Rattle.std.proofs.lemmas.Bool.{cond-true, cond-false, eq-eqb, ne_eqb}
 use Rattle.std.proofs.lemmas.Option.{none-some, same_Some}
-use Rattle.psci_board.specs.Board.{BoardValue, cores, up}
-use Rattle.psci_ctl_spec.specs.psci_messages.declared.part.Part.{Part}
+use Rattle.psci_headline.proofs.Words.{BoardValue, cores, up, Part, MessageValue, OfCore, Record}
+use Rattle.psci_headline.proofs.Words.{controller_values, firmware_values, sent, indexed}
+use Rattle.psci_headline.proofs.Words.{deliveries, served, serving, IsLivePart, is_any}
 use Rattle.psci_ctl_spec.specs.psci_messages.declared.kind.Kind.TheVariants as kinds
-use Rattle.psci_ctl_spec.specs.psci_messages.Message.{MessageValue}
-use Rattle.psci_ctl_spec.specs.psci_messages.Slots.{OfCore}
 use Rattle.psci_headline.proofs.fw_laws.Consequences.{once_down}
-use Rattle.psci_headline.specs.psci_world_spec.declared.said.Record.{Record}
-use Rattle.psci_headline.specs.psci_world_spec.Histories.{controller_values, firmware_values}
-use Rattle.psci_headline.specs.psci_world_spec.Histories.{sent}
-use Rattle.psci_headline.specs.psci_world_spec.Lists.{indexed}
-use Rattle.psci_headline.specs.Drained.{deliveries}
-use Rattle.psci_headline.specs.Settling.{served, serving, is_any}
-use Rattle.psci_headline.specs.Waiting.{IsLivePart}
 use Rattle.psci_headline.proofs.Claimed.{AreDeep}
 use Rattle.psci_headline.proofs.Downs.{IsDownAnswered, IsLeft, down_answered}
 use Rattle.psci_headline.proofs.Emptying.{answer_case}
@@ -71,12 +63,7 @@ pub one_index : (b : BoardValue) (before : List Record) (life : ℕ) (past : Lis
     → m.kind ≡ kinds.Down → indexed (sent past) j ≡ Some m → indexed (sent past) k ≡ Some m
     → j ≡ k
 one_index b before life past j k m laws going kind at_j at_k =
-    let one = indexed_at (sent past) j m at_j in
-    let other = indexed_at (sent past) k m at_k in
-    let same = once_down b (firmware_values b past) (sent past)
-    (laws.past past going.legal).given.holds (length (sent past) - 1 - j)
-    (length (sent past) - 1 - k) m m one.1 other.1 kind kind refl refl refl in
-    omega (arith, one.0, other.0, same)
+    grind (arith, nat_tests, indexed_at, once_down)
 
 count_most : (t : Bool) → cond {A = ℕ} t 1 0 ≤ 1
 count_most true = omega arith
@@ -90,11 +77,7 @@ deep_moved : (b : BoardValue) (life r c : ℕ) (past next : List Record)
     → AreDeep b life (controller_values b past).starts (controller_values b next).depth (sent past)
     r c
     → DeepAt b life r c next
-deep_moved b life r c past next messages starts deep =
-    subst (λ l. AreDeep b life (controller_values b next).starts (controller_values b next).depth l
-    r c) (sym messages)
-    (subst (λ s. AreDeep b life s (controller_values b next).depth (sent past) r c) (sym starts)
-    deep)
+deep_moved b life r c past next messages starts deep = grind (arith, nat_tests)
 
 -- a live part that may not have its depth is of the outstanding Down
 pub deep_or_out : (b : BoardValue) (before : List Record) (life : ℕ) (past : List Record)
@@ -143,11 +126,7 @@ module _ (b : BoardValue) (before : List Record) (life n : ℕ) (first past : Li
 
   -- live parts that have their depth keep it
   deep_kept : (r x : ℕ) → DeepAt b life r x past → DeepAt b life r x next
-  deep_kept r x deep =
-      deep_moved b life r x past next a.messages a.starts
-      (λ j level y p at present down own part live low.
-      a.kept j level y p at present down part live (deep j level y p at present down own part live
-      low))
+  deep_kept r x deep = grind (arith, nat_tests, deep_moved)
 
   round_kept : InRound b before life n first next
   round_kept = record {
@@ -160,12 +139,7 @@ module _ (b : BoardValue) (before : List Record) (life n : ℕ) (first past : Li
   -- another core's message is not delivered
   same_count : (x j : ℕ) (y : MessageValue) → (x ≡ c → ⊥) → indexed (sent first) j ≡ Some y
       → y.core.number ≡ x → deliveries j next ≡ deliveries j past
-  same_count x j y ne at own =
-      let other : j ≡ k → ⊥ = λ e.
-      let same : y ≡ m = same_Some y m (sym at ∙ ap (indexed (sent first)) e ∙ at_first) in
-      ne (sym own ∙ ap (λ (z : MessageValue). z.core.number) same ∙ core) in
-      let none : cond {A = ℕ} (j == k) 1 0 ≡ 0 = cond-false (j == k) 1 0 (ne_eqb j k other) in
-      omega (arith, a.count j, none)
+  same_count x j y ne at own = grind (arith, nat_tests, same_Some, at_first, cond-false, ne_eqb)
 
   todo_kept : (x : ℕ) → (x ≡ c → ⊥) → IsTodo b first x past → IsTodo b first x next
   todo_kept x ne todo = record {
@@ -204,12 +178,7 @@ module _ (b : BoardValue) (before : List Record) (life n : ℕ) (first past : Li
   done_here : IsTodo b first c past → IsDone b life n first c next
   done_here now = record {
     deep = deep_here;
-    left = λ y e.
-        let rest = a.left y e in (
-          sym now.out ∙ out ∙ ap Some (sym rest.0),
-          subst (λ s. IsLeft b s y n) (sym a.starts)
-              (subst (λ z. IsLeft b (controller_values b past).starts z n) (sym rest.0) rest.1),
-        );
+    left = λ y e. grind (arith, nat_tests);
     most = λ j y at down own.
         omega (arith, a.count j, count_most (j == k), now.count j y at down own);
     once = λ j y at down own e.

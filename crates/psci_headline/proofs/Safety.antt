@@ -1,9 +1,6 @@
 -- A run is safe at every moment.
 use Rattle.std.proofs.Common.{List, [], ◌∷◌}
-use Rattle.psci_board.specs.Board.{BoardValue}
-use Rattle.psci_world_spec.specs.declared.said.Record.{Record}
-use Rattle.psci_world_spec.specs.Legal.{IsLegalPast}
-use Rattle.psci_headline.specs.Safe.{AlwaysSafe, Safe}
+use Rattle.psci_headline.proofs.Words.{BoardValue, Record, IsLegalPast, AlwaysSafe, Safe}
 
 -- at every moment, where it is so after each legal past
 pub always : (b : BoardValue) → ((past : List Record) → IsLegalPast b past → Safe b past)

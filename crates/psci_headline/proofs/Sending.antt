@@ -1,35 +1,20 @@
 -- The messages of a legal run are those that the firmware's history says were sent.
-use Rattle.std.proofs.Common.{◌≡◌, ℕ, true, List, [], ◌∷◌, ◌++◌, Option, None, Some, refl}
-use Rattle.std.proofs.Common.{option_map, ap, sym, ◌∙◌, subst}
-use Rattle.psci_world_spec.specs.psci_abi.Calls.{request_of}
-use Rattle.psci_world_spec.specs.psci_abi.declared.registers.Regs.{Regs}
-use Rattle.psci_board.specs.Board.{BoardValue}
-use Rattle.psci_ctl_spec.specs.psci_messages.declared.start.Start.{Start}
-use Rattle.psci_ctl_spec.specs.Replies.{last_start}
-use Rattle.psci_ctl_spec.specs.psci_messages.Message.{AckValue, MessageValue}
-use Rattle.psci_ctl_spec.specs.psci_messages.declared.taken.Taken.{Taken}
-use Rattle.psci_ctl_spec.specs.psci_messages.declared.taken.Taken.TheVariants as takens
+use Rattle.std.proofs.Common.{arith, ◌≡◌, ℕ, true, List, [], ◌∷◌, ◌++◌, Option, None, Some, refl}
+use Rattle.std.proofs.Common.{option_map, subst}
+use Rattle.std.proofs.lemmas.Bool.Decides.{nat_tests}
+use Rattle.psci_headline.proofs.Words.{request_of, Regs, BoardValue, Start, last_start, AckValue}
+use Rattle.psci_headline.proofs.Words.{MessageValue, Taken, call_fault, enter_fault, IsLegal}
+use Rattle.psci_headline.proofs.Words.{listed, Event, Call, Enter, Record, Said, acks, call}
+use Rattle.psci_headline.proofs.Words.{controller_values, entered, firmware_values, outcome_in}
+use Rattle.psci_headline.proofs.Words.{sent_in, took, IsLegalPast, legal}
 use Rattle.psci_fw_laws.specs.psci_fw_spec.Answer.{answer}
-use Rattle.psci_fw_laws.specs.psci_fw_spec.Calls.{call_fault}
-use Rattle.psci_fw_laws.specs.psci_fw_spec.Entering.{enter_fault}
 use Rattle.psci_fw_laws.specs.psci_fw_spec.Exchange as firmware
-use Rattle.psci_fw_laws.specs.psci_fw_spec.Legal.{IsLegal}
-use Rattle.psci_fw_laws.specs.psci_fw_spec.Said.{listed}
 use Rattle.psci_fw_laws.specs.psci_fw_spec.Said as says
 use Rattle.psci_fw_laws.specs.psci_fw_spec.Sent.{sent_messages}
-use Rattle.psci_world_spec.specs.declared.event.Event.{Event}
-use Rattle.psci_world_spec.specs.declared.event.Event.TheVariants.{Call, Enter, Wake, Reset}
-use Rattle.psci_world_spec.specs.declared.event.Event.TheVariants.{Deliver, Take}
-use Rattle.psci_world_spec.specs.declared.said.Record.{Record}
-use Rattle.psci_world_spec.specs.declared.said.Said.{Said}
 use Rattle.psci_world_spec.specs.declared.said.Said.TheVariants as said
-use Rattle.psci_world_spec.specs.Histories.{acks, call, controller_values, entered}
-use Rattle.psci_world_spec.specs.Histories.{firmware_history, firmware_values, outcome_in, sent}
-use Rattle.psci_world_spec.specs.Histories.{sent_in, took}
-use Rattle.psci_world_spec.specs.Legal.{IsLegalPast, legal}
-use Rattle.psci_world_spec.specs.Lists.{indexed}
+use Rattle.psci_world_spec.specs.Histories.{firmware_history, sent}
 use Rattle.psci_world_spec.proofs.Answered.{firmware_legal}
-use Rattle.psci_headline.proofs.Happening.{entered_by, is_quiet, sends_nothing}
+use Rattle.psci_headline.proofs.Happening.{happens, is_quiet, sends_nothing}
 use Rattle.psci_headline.proofs.Outcomes.{call_sends, enter_sends}
 
 -- Records --------------------------------------------------------------------------------------
@@ -49,9 +34,7 @@ one_entry : (b : BoardValue) (e : firmware.FwExchange) (h : List firmware.FwExch
     (o : Option MessageValue) (l : List MessageValue) → says.sent (firmware.effect b e) ≡ o
     → l ≡ sent_messages b h → listed o ++ l ≡ sent_messages b (e ∷ h)
 unfolding sent_messages
-one_entry b e h o l sends same =
-    ap (λ (x : List MessageValue). listed o ++ x) same
-    ∙ ap (λ (x : Option MessageValue). listed x ++ sent_messages b h) (sym sends)
+one_entry b e h o l sends same = grind (arith, nat_tests)
 
 call_same : (b : BoardValue) (past : List Record) (c : ℕ) (regs : Regs) (s : Said)
     → sent past ≡ sent_messages b (firmware_history b past)
@@ -70,10 +53,10 @@ enter_same : (b : BoardValue) (past : List Record) (c : ℕ) (s : Said)
 unfolding answer
 enter_same b past c (said.Fw act sends) same is e =
     by_start (last_start (controller_values b past) c)
-    (entered_by b past c act sends e).last is
+    (happens b past (Enter c) (said.Fw act sends) e refl).last is
   where
     start : Start
-    start = (entered_by b past c act sends e).start
+    start = (happens b past (Enter c) (said.Fw act sends) e refl).start
 
     by_start : (o : Option Start) → o ≡ Some start
         → IsLegal b (entered c o (outcome_in act sends) ++ firmware_history b past)
@@ -91,37 +74,17 @@ enter_same b past c s same is e = same
 took_none : (b : BoardValue) (h : List firmware.FwExchange) (o : Option AckValue) (t : Taken)
     → sent_messages b (took o t ++ h) ≡ sent_messages b h
 unfolding sent_messages
-took_none b h None t = refl
-took_none b h (Some a) takens.Used = refl
-took_none b h (Some a) takens.Old = refl
-
--- an event that sends nothing adds no exchange, or one of an acknowledgement
-quiet_call : (b : BoardValue) (past : List Record) (event : Event) (s : Said)
-    → is_quiet event ≡ true → sent_messages b (after_call b past event s)
-    ≡ sent_messages b (firmware_history b past)
-quiet_call b past (Call c regs) s q = absurd (cc)
-quiet_call b past (Enter c) s q = absurd (cc)
-quiet_call b past (Take k) (said.Taken taken) q =
-    took_none b (firmware_history b past) (indexed (acks past) k) taken
-quiet_call b past event s q = refl
+took_none b h o t = grind (arith, nat_tests)
 
 quiet_same : (b : BoardValue) (past : List Record) (event : Event) (s : Said)
     → sent past ≡ sent_messages b (firmware_history b past) → s ≡ legal b past event
     → is_quiet event ≡ true → Same b past event s
-quiet_same b past event s same e q =
-    let none : sent_in s ≡ None = ap sent_in e ∙ sends_nothing b past event q in
-    ap (λ (o : Option MessageValue). listed o ++ sent past) none ∙ same
-    ∙ sym (quiet_call b past event s q)
+quiet_same b past event s same e q = grind (arith, nat_tests, sends_nothing, took_none)
 
 event_same : (b : BoardValue) (past : List Record) (event : Event) (s : Said)
     → sent past ≡ sent_messages b (firmware_history b past)
     → IsLegal b (after_call b past event s) → s ≡ legal b past event → Same b past event s
-event_same b past (Call c regs) s same is e = call_same b past c regs s same is
-event_same b past (Enter c) s same is e = enter_same b past c s same is e
-event_same b past (Wake c) s same is e = quiet_same b past (Wake c) s same e refl
-event_same b past (Reset c) s same is e = quiet_same b past (Reset c) s same e refl
-event_same b past (Deliver k) s same is e = quiet_same b past (Deliver k) s same e refl
-event_same b past (Take k) s same is e = quiet_same b past (Take k) s same e refl
+event_same b past event s same is e = grind (arith, nat_tests, call_same, enter_same, quiet_same)
 
 -- The whole run --------------------------------------------------------------------------------
 

@@ -1,43 +1,30 @@
 -- What is so after a message of this life was delivered and its acknowledgement taken.
-use Rattle.std.proofs.Common.{◌≡◌, ℕ, ◌+◌, true, ◌==◌, cond, List, ◌∷◌, ◌++◌}
-use Rattle.std.proofs.Common.{length, Some, unwrap_or, refl, ap}
-use Rattle.std.proofs.Common.{◌∙◌}
+use Rattle.std.proofs.Common.{arith, ◌≡◌, ℕ, ◌+◌, ◌==◌, cond, List, ◌∷◌, ◌++◌, length, Some}
+use Rattle.std.proofs.Common.{unwrap_or, refl, ap, ◌∙◌}
+use Rattle.std.proofs.lemmas.Bool.Decides.{nat_tests}
 use Rattle.std.proofs.lemmas.Bool.{eq-eqb}
-use Rattle.psci_board.specs.Board.{BoardValue}
-use Rattle.psci_ctl_spec.specs.declared.delivery.Delivery.TheVariants as deliveries
-use Rattle.psci_ctl_spec.specs.declared.reply.CtlReply.TheVariants as replied
+use Rattle.psci_headline.proofs.Words.{BoardValue, message_effect, ack_by, AckValue, MessageValue}
+use Rattle.psci_headline.proofs.Words.{Used, with_acknowledgement, Values, Deliver, Take, Record}
+use Rattle.psci_headline.proofs.Words.{Acked, ack_in, control, controller_values, delivered}
+use Rattle.psci_headline.proofs.Words.{firmware_values, sent_in, IsLegalPast, take, indexed}
+use Rattle.psci_headline.proofs.Words.{place_of_effect, listed, serving, step, taken_by}
+use Rattle.psci_headline.proofs.Words.{legal_record, place_controlled}
 use Rattle.psci_ctl_spec.specs.Changes.{after}
 use Rattle.psci_ctl_spec.specs.Changes as controlling
-use Rattle.psci_ctl_spec.specs.Effects.{effect_of, message_effect}
+use Rattle.psci_ctl_spec.specs.Effects.{effect_of}
 use Rattle.psci_ctl_spec.specs.Exchange as controller
 use Rattle.psci_ctl_spec.specs.History as controls
-use Rattle.psci_ctl_spec.specs.Replies.{ack_by, delivery_of, is_this_life, reply}
+use Rattle.psci_ctl_spec.specs.Replies.{delivery_of, reply}
 use Rattle.psci_ctl_spec.specs.Values as controlled
-use Rattle.psci_ctl_spec.specs.psci_messages.Message.{AckValue, MessageValue}
-use Rattle.psci_ctl_spec.specs.psci_messages.declared.taken.Taken.TheVariants.{Used}
 use Rattle.psci_headline.specs.psci_fw_spec.Answer.{answer}
-use Rattle.psci_headline.specs.psci_fw_spec.Changes.{with_acknowledgement}
-use Rattle.psci_headline.specs.psci_fw_spec.Exchange as firmware
-use Rattle.psci_headline.specs.psci_fw_spec.History as remembers
-use Rattle.psci_headline.specs.psci_fw_spec.Taking.{taken_by}
-use Rattle.psci_headline.specs.psci_fw_spec.Values.{Values}
-use Rattle.psci_headline.specs.psci_world_spec.declared.event.Event.TheVariants.{Deliver, Take}
-use Rattle.psci_headline.specs.psci_world_spec.declared.said.Record.{Record}
-use Rattle.psci_headline.specs.psci_world_spec.declared.said.Said.TheVariants.{Acked}
 use Rattle.psci_headline.specs.psci_world_spec.declared.said.Said.TheVariants.{Taken as Took}
-use Rattle.psci_headline.specs.psci_world_spec.Histories.{acks, ack_in, call, control}
-use Rattle.psci_headline.specs.psci_world_spec.Histories.{controller_history}
-use Rattle.psci_headline.specs.psci_world_spec.Histories.{controller_values, delivered}
-use Rattle.psci_headline.specs.psci_world_spec.Histories.{firmware_history}
-use Rattle.psci_headline.specs.psci_world_spec.Histories.{firmware_values, sent, sent_in, took}
-use Rattle.psci_headline.specs.psci_world_spec.Legal.{IsLegalPast, deliver, legal, legal_record}
-use Rattle.psci_headline.specs.psci_world_spec.Legal.{said_by, take}
-use Rattle.psci_headline.specs.psci_world_spec.Lists.{indexed}
-use Rattle.psci_headline.specs.psci_world_spec.Places.{place, place_of_effect, place_controlled}
-use Rattle.psci_headline.specs.psci_fw_spec.Said.{listed}
-use Rattle.psci_headline.proofs.Agreed.{RunLaws}
+use Rattle.psci_headline.specs.psci_world_spec.Histories.{acks, controller_history}
+use Rattle.psci_headline.specs.psci_world_spec.Histories.{firmware_history, sent}
+use Rattle.psci_headline.specs.psci_world_spec.Legal.{legal}
+use Rattle.psci_headline.specs.psci_world_spec.Places.{place}
+use Rattle.psci_ctl_spec.proofs.OneMore.{values_more}
 use Rattle.psci_headline.specs.Drained as drained
-use Rattle.psci_headline.specs.Settling.{serving, step}
+use Rattle.psci_headline.proofs.Agreed.{RunLaws}
 use Rattle.psci_headline.proofs.Counting.{AreAdded, delivered_more, one_added}
 use Rattle.psci_headline.proofs.Finding.{numbered_new}
 
@@ -51,12 +38,7 @@ delivery_said : (b : BoardValue) (past : List Record) (k : ℕ) (m : MessageValu
     → indexed (sent past) k ≡ Some m → (controller_values b past).life ≡ Some m.life
     → legal b past (Deliver k) ≡ Acked (length (acks past)) (ack_to b past m)
 unfolding legal reply delivery_of
-delivery_said b past k m at present =
-    let test : is_this_life (controller_values b past).life m.life ≡ true =
-    ap (λ o. is_this_life o m.life) present ∙ eq-eqb m.life m.life refl in
-    ap (deliver b past) at
-    ∙ ap (λ t. said_by (length (acks past)) (replied.Delivery
-    (cond t (deliveries.Applied (ack_to b past m)) deliveries.Ignored))) test
+delivery_said b past k m at present = grind (arith, nat_tests, eq-eqb)
 
 -- What is so after a delivery.
 record AreDelivered (b : BoardValue) (past : List Record) (k : ℕ) (m : MessageValue) : Type 0 where
@@ -76,7 +58,7 @@ unfolding controller_history firmware_history sent acks place after effect_of
 delivered_so b past k m laws at present = record {
   control = ap (λ s. controls.values_of b (control w (sent past) (Deliver k) s ++ h)) said
       ∙ ap (λ o. controls.values_of b (delivered o a ++ h)) at
-      ∙ laws.after _ h;
+      ∙ values_more b _ h;
   firmware = refl;
   sent = ap (λ s. listed (sent_in s) ++ sent past) said;
   acks = ap (λ s. listed (ack_in s) ++ acks past) said;
@@ -118,23 +100,7 @@ taken_so : (b : BoardValue) (past : List Record) (k : ℕ) (a : AckValue) → Ru
     → indexed (acks past) k ≡ Some a → taken_by (firmware_values b past) a ≡ Used
     → AreTaken b past k a
 unfolding controller_history firmware_history sent place
-taken_so b past k a laws at used = record {
-  control = refl;
-  firmware = ap (λ s. remembers.values_of b (call w (acks past) (Take k) s ++ h)) said
-      ∙ ap (λ o. remembers.values_of b (took o Used ++ h)) at
-      ∙ laws.change _ h;
-  sent = ap (λ s. listed (sent_in s) ++ sent past) said;
-  place = λ x. refl;
-}
-  where
-    w : controlled.Values
-    w = controller_values b past
-
-    h : List firmware.FwExchange
-    h = firmware_history b past
-
-    said : legal b past (Take k) ≡ Took Used
-    said = taken_said b past k a at used
+taken_so b past k a laws at used = grind (arith, nat_tests, taken_said)
 
 -- Both -----------------------------------------------------------------------------------------
 
@@ -161,9 +127,7 @@ pub answered_so : (b : BoardValue) (past : List Record) (k : ℕ) (m : MessageVa
     → taken_by (firmware_values b past) (ack_to b past m) ≡ Used → AreAnswered b past k m
 answered_so b past k m laws is at present used = record {
   legal = (refl, (refl, is));
-  added = λ before are.
-      one_added before next (legal_record b next (Take n)) refl
-      (one_added before past (legal_record b past (Deliver k)) refl are);
+  added = λ before are. grind (arith, nat_tests, one_added);
   control = two.control ∙ one.control;
   firmware = two.firmware ∙ ap (with_acknowledgement b a) one.firmware;
   sent = two.sent ∙ one.sent;

@@ -1,14 +1,9 @@
 -- Unless the world halts it settles.
-use Rattle.std.proofs.Common.{◌≡◌, ℕ, ◌+◌, false, List}
-use Rattle.std.proofs.Common.{◌++◌, arith, subst, ap, sym, ◌∙◌}
+use Rattle.std.proofs.Common.{◌≡◌, ℕ, ◌+◌, false, List, ◌++◌, arith, subst, ap, sym, ◌∙◌}
 use Rattle.std.proofs.lemmas.List.Sums.{AllPass-from_list_all}
-use Rattle.psci_board.specs.Board.{BoardValue}
-use Rattle.psci_headline.specs.psci_world_spec.declared.said.Record.{Record}
-use Rattle.psci_headline.specs.psci_world_spec.Histories.{sent}
-use Rattle.psci_headline.specs.psci_world_spec.Legal.{IsLegalPast}
-use Rattle.psci_headline.specs.psci_world_spec.Lists.{indexed}
-use Rattle.psci_headline.specs.Drained.{AreAtRest, IsSettled, deliveries, is_settling}
-use Rattle.psci_headline.specs.Settling.{Reached, is_halting, settled}
+use Rattle.psci_headline.proofs.Words.{BoardValue, Record, sent, IsLegalPast, indexed, AreAtRest}
+use Rattle.psci_headline.proofs.Words.{deliveries, is_halting, settled, is_settling, Reached}
+use Rattle.psci_headline.specs.Drained.{IsSettled}
 use Rattle.psci_headline.proofs.Bound.{HasRest, IsOften}
 use Rattle.psci_headline.proofs.Counting.{deliveries_more}
 use Rattle.psci_headline.proofs.Going.{IsGoing}

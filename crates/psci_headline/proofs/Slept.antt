@@ -1,29 +1,20 @@
 -- Cores that were powered down, and have not gone on since.
-use Rattle.std.proofs.Common.{◌≡◌, ℕ, ◌<◌, true, false, ◌&&◌, ◌==◌, List, [], ◌∷◌}
-use Rattle.std.proofs.Common.{Some, refl, ap, ◌∙◌}
-use Rattle.std.specs.Prelude.{nat_lt}
-use Rattle.std.proofs.lemmas.Bool.{and_from, and_parts, eq-eqb, eqb-true}
-use Rattle.std.proofs.lemmas.Bool.{false_from_ne_true, lt-ltb}
-use Rattle.std.proofs.lemmas.Bool.{ltb-true, not_from_false, or_left, or_right}
-use Rattle.psci_board.specs.Board.{BoardValue}
-use Rattle.psci_ctl_spec.specs.Replies.{is_this_life}
-use Rattle.psci_fw_laws.specs.psci_fw_spec.declared.status.Status.{Status}
-use Rattle.psci_fw_laws.specs.psci_fw_spec.declared.status.Status.TheVariants.{On, Off, Pending}
+use Rattle.std.proofs.Common.{arith, ◌≡◌, ℕ, ◌<◌, true, List, [], ◌∷◌, Some}
+use Rattle.std.proofs.lemmas.Bool.Decides.{nat_tests}
+use Rattle.std.proofs.lemmas.Bool.{and_from, and_parts, eq-eqb, eqb-true, false_from_ne_true}
+use Rattle.std.proofs.lemmas.Bool.{lt-ltb, ltb-true, not_from_false, or_left, or_right}
+use Rattle.psci_headline.proofs.Words.{BoardValue, Status, Off, Record, controller_values}
+use Rattle.psci_headline.proofs.Words.{firmware_values, depth_at, enters_or_resumes}
+use Rattle.psci_headline.proofs.Words.{is_reported_off}
 use Rattle.psci_fw_laws.specs.psci_fw_spec.SystemCalls.{is_off_status}
-use Rattle.psci_world_spec.specs.declared.said.Record.{Record}
-use Rattle.psci_world_spec.specs.Histories.{controller_values, firmware_values}
-use Rattle.psci_headline.specs.Moments.{depth_at, enters_or_resumes, was_powered_down}
-use Rattle.psci_headline.specs.Moments.{is_powered_down, is_reported_off}
+use Rattle.psci_headline.specs.Moments.{was_powered_down, is_powered_down}
 
 -- Moments --------------------------------------------------------------------------------------
 
 pub asleep_from : (b : BoardValue) (life : ℕ) (past : List Record) (c : ℕ)
     → (controller_values b past).life ≡ Some life → depth_at b past 0 c ≡ 3
     → is_powered_down b life past c ≡ true
-asleep_from b life past c now deep =
-    let present : is_this_life (controller_values b past).life life ≡ true =
-    ap (λ o. is_this_life o life) now ∙ eq-eqb life life refl in
-    and_from _ _ present (eq-eqb (depth_at b past 0 c) 3 deep)
+asleep_from b life past c now deep = grind (arith, nat_tests, eq-eqb, and_from)
 
 -- a core that is powered down now
 pub slept_now : (b : BoardValue) (life : ℕ) (past : List Record) (c : ℕ)
@@ -39,31 +30,27 @@ pub slept_still : (b : BoardValue) (life : ℕ) (r : Record) (past : List Record
     → was_powered_down b life (r ∷ past) c ≡ true
 unfolding was_powered_down
 slept_still b life r past c was none =
-    let now = (firmware_values b (r ∷ past)).life in
-    let stays : (enters_or_resumes c r.event r.said && now == life) ≡ false =
-    false_from_ne_true _ (λ e.
-    let both = and_parts (enters_or_resumes c r.event r.said) (now == life) e in
-    none both.0 (eqb-true now life both.1)) in
-    or_right _ _ (and_from _ _ (not_from_false _ stays) was)
+    grind (
+      arith,
+      nat_tests,
+      false_from_ne_true,
+      and_parts,
+      eqb-true,
+      or_right,
+      and_from,
+      not_from_false,
+    )
 
 -- Reports --------------------------------------------------------------------------------------
 
 pub status_off : (s : Status) → is_off_status s ≡ true → s ≡ Off
-status_off On e = absurd (cc)
-status_off Off e = refl
-status_off Pending e = absurd (cc)
+status_off s e = grind (arith, nat_tests)
 
 -- what it means that a core is reported OFF
 pub reported : (b : BoardValue) (past : List Record) (c : ℕ) → is_reported_off b past c ≡ true
     → (0 < (firmware_values b past).life) × ((firmware_values b past).status c ≡ Off)
-reported b past c e =
-    let v = firmware_values b past in
-    let both = and_parts (nat_lt 0 v.life) (is_off_status (v.status c)) e in
-    (ltb-true 0 v.life both.0, status_off (v.status c) both.1)
+reported b past c e = grind (arith, nat_tests, and_parts, ltb-true, status_off)
 
 pub report : (b : BoardValue) (past : List Record) (c : ℕ) → 0 < (firmware_values b past).life
     → (firmware_values b past).status c ≡ Off → is_reported_off b past c ≡ true
-report b past c begun off =
-    let v = firmware_values b past in
-    and_from (nat_lt 0 v.life) (is_off_status (v.status c)) (lt-ltb 0 v.life begun)
-    (ap is_off_status off)
+report b past c begun off = grind (arith, nat_tests, and_from, lt-ltb)

@@ -1,33 +1,28 @@
 -- What a change leaves in the slot of a core.
-use Rattle.std.proofs.Common.{◌≡◌, ℕ, ◌==◌, Option, None, Some, refl, ap, sym, ◌∙◌}
+use Rattle.std.proofs.Common.{arith, false, true, ◌≡◌, ℕ, ◌==◌, Option, None, Some, ap, sym, ◌∙◌}
+use Rattle.std.proofs.lemmas.Bool.Decides.{nat_tests}
 use Rattle.std.proofs.lemmas.Bool.{cond-true, cond-false, eq-eqb, ne_eqb}
-use Rattle.psci_ctl_spec.specs.psci_messages.Message.{MessageValue}
-use Rattle.psci_ctl_spec.specs.psci_messages.Slots.{Clear, OfCore, OfSystem, Put, Slot, changed}
-use Rattle.psci_ctl_spec.specs.psci_messages.Slots.{is_slot, slot_of}
+use Rattle.psci_headline.proofs.Words.{is_system, Core, Kind, MessageValue, Clear, OfCore, OfSystem}
+use Rattle.psci_headline.proofs.Words.{Put, Slot, changed, slot_of}
+use Rattle.psci_ctl_spec.specs.psci_messages.declared.kind.Kind.TheVariants as kinds
 
 -- the slot of a message that is sent has it
 pub put_here : (outstanding : Slot → Option MessageValue) (m : MessageValue) (c : ℕ)
     → slot_of m.kind m.core ≡ OfCore c
     → changed (OfCore c) (Put m) (outstanding (OfCore c)) ≡ Some m
-put_here outstanding m c e =
-    cond-true (is_slot (slot_of m.kind m.core) (OfCore c)) (Some m) (outstanding (OfCore c))
-    (ap (λ s. is_slot s (OfCore c)) e ∙ eq-eqb c c refl)
+put_here outstanding m c e = grind (arith, nat_tests, cond-true, eq-eqb)
 
 -- another core's slot is as before
 pub put_there : (outstanding : Slot → Option MessageValue) (m : MessageValue) (c x : ℕ)
     → slot_of m.kind m.core ≡ OfCore c → (x ≡ c → ⊥)
     → changed (OfCore x) (Put m) (outstanding (OfCore x)) ≡ outstanding (OfCore x)
-put_there outstanding m c x e ne =
-    cond-false (is_slot (slot_of m.kind m.core) (OfCore x)) (Some m) (outstanding (OfCore x))
-    (ap (λ s. is_slot s (OfCore x)) e ∙ ne_eqb c x (λ s. ne (sym s)))
+put_there outstanding m c x e ne = grind (arith, nat_tests, cond-false, ne_eqb)
 
 -- a message for the system leaves each core's slot
 pub put_system : (outstanding : Slot → Option MessageValue) (m : MessageValue) (x : ℕ)
     → slot_of m.kind m.core ≡ OfSystem
     → changed (OfCore x) (Put m) (outstanding (OfCore x)) ≡ outstanding (OfCore x)
-put_system outstanding m x e =
-    cond-false (is_slot (slot_of m.kind m.core) (OfCore x)) (Some m) (outstanding (OfCore x))
-    (ap (λ s. is_slot s (OfCore x)) e)
+put_system outstanding m x e = grind (arith, nat_tests, cond-false)
 
 -- a core that enters leaves another core's slot
 pub clear_there : (outstanding : Slot → Option MessageValue) (c x : ℕ) → (x ≡ c → ⊥)
@@ -35,3 +30,14 @@ pub clear_there : (outstanding : Slot → Option MessageValue) (c x : ℕ) → (
     ≡ outstanding (OfCore x)
 clear_there outstanding c x ne =
     cond-false (c == x) None (outstanding (OfCore x)) (ne_eqb c x (λ s. ne (sym s)))
+
+-- the slots of kinds
+pub system_slot : (k : Kind) (core : Core) → is_system k ≡ true → slot_of k core ≡ OfSystem
+system_slot k core e = grind (arith, nat_tests)
+
+pub core_slot : (k : Kind) (core : Core) → is_system k ≡ false → slot_of k core ≡ OfCore core.number
+core_slot k core e = grind (arith, nat_tests)
+
+pub down_slot : (k : Kind) (core : Core) (c : ℕ) → k ≡ kinds.Down → core.number ≡ c
+    → slot_of k core ≡ OfCore c
+down_slot k core c kind own = ap (λ x. slot_of x core) kind ∙ ap OfCore own

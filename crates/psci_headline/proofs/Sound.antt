@@ -1,20 +1,13 @@
 -- What the live claims say makes a run safe: no core below a sleeping domain, and no domain deeper
 -- than asked.
-use Rattle.std.proofs.Common.{◌≡◌, ℕ, ◌<◌, true, List, Option, None, Some, refl, arith}
-use Rattle.std.proofs.Common.{ap, sym, ◌∙◌}
+use Rattle.std.proofs.Common.{◌≡◌, ℕ, ◌<◌, true, List, Option, None, Some, refl, arith, ap, sym}
+use Rattle.std.proofs.Common.{◌∙◌}
 use Rattle.std.specs.Prelude.{IsSome}
 use Rattle.std.proofs.lemmas.Bool.{and_from, eq-eqb, false≢true}
-use Rattle.psci_board.specs.Board.{BoardValue, HasNode, cores, up}
-use Rattle.psci_board.specs.Laws.{PathLaws}
-use Rattle.psci_board.specs.declared.node.Node.{Node}
-use Rattle.psci_world_spec.specs.declared.place.Place.TheVariants.{Stopped}
-use Rattle.psci_world_spec.specs.declared.said.Record.{Record}
-use Rattle.psci_world_spec.specs.Histories.{controller_values}
-use Rattle.psci_world_spec.specs.Places.{place}
-use Rattle.psci_headline.specs.Claims.{live_claims}
-use Rattle.psci_headline.specs.Moments.{depth_at, executes}
-use Rattle.psci_headline.specs.Safe.{NoDeeperThanAsked, NoneBelowSleeping}
-use Rattle.psci_headline.specs.Live.{AreAsked, AreClaimed, NoneExecutes}
+use Rattle.psci_headline.proofs.Words.{BoardValue, HasNode, cores, up, PathLaws, Node, Stopped}
+use Rattle.psci_headline.proofs.Words.{Record, controller_values, place, live_claims, depth_at}
+use Rattle.psci_headline.proofs.Words.{executes, NoDeeperThanAsked, NoneBelowSleeping, NoneExecutes}
+use Rattle.psci_headline.specs.Live.{AreAsked, AreClaimed}
 use Rattle.psci_headline.proofs.LiveOnes.{is_live_one}
 use Rattle.psci_headline.proofs.Picked.{any_passes}
 

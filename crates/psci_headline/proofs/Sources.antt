@@ -1,36 +1,15 @@
 -- A domain that is not fully on is as deep as a live claim on it.
-use Rattle.std.proofs.Common.{◌≡◌, ℕ, ◌⊎◌, inl, inr, ◌<◌, Bool, true, false, ◌==◌, cond}
-use Rattle.std.proofs.Common.{List, Some, refl, arith, sym, ◌∙◌}
-use Rattle.std.specs.Prelude.{nat_le}
-use Rattle.std.proofs.lemmas.Bool.{and_cases, and_from, eqb-false, le-leb, leb-false, lt-ltb}
-use Rattle.std.proofs.lemmas.Bool.{ne_eqb}
-use Rattle.psci_board.specs.Board.{BoardValue, HasNode, height, up}
-use Rattle.psci_board.specs.declared.node.Node.{Node}
+use Rattle.std.proofs.Common.{◌≡◌, ℕ, ◌⊎◌, inl, inr, ◌<◌, List, Some, refl, sym, ◌∙◌}
+use Rattle.std.proofs.lemmas.Bool.{and_from, le-leb, lt-ltb}
+use Rattle.psci_headline.proofs.Words.{BoardValue, HasNode, Node, is_on_path, Record}
+use Rattle.psci_headline.proofs.Words.{controller_history, controller_values, IsReplied, IsApplied}
+use Rattle.psci_headline.proofs.Words.{IsFirst, IsFromStart}
 use Rattle.psci_ctl_spec.specs.History as controls
-use Rattle.psci_ctl_spec.specs.Lasting.{IsApplied, IsFirst}
-use Rattle.psci_board.specs.Paths.{is_on_path, is_path_place}
-use Rattle.psci_headline.specs.psci_fw_laws.Claims.{IsFromStart}
-use Rattle.psci_headline.specs.psci_world_spec.declared.said.Record.{Record}
-use Rattle.psci_headline.specs.psci_world_spec.Histories.{controller_history, controller_values}
-use Rattle.psci_headline.specs.psci_world_spec.Legal.{IsReplied}
+use Rattle.psci_headline.proofs.Claiming.{off_path}
+use Rattle.psci_headline.proofs.Deep.{first_off}
 use Rattle.psci_headline.proofs.AppliedParts.{was_sent}
 use Rattle.psci_headline.proofs.Standing.{HasLive}
 use Rattle.psci_headline.proofs.Starting.{same_sum}
-
--- off the boot path only is a domain down at the life's start
-first_off : (t : Bool) (depth : ℕ) → depth ≡ cond t 0 3 → 0 < depth → (t ≡ false) × (depth ≡ 3)
-first_off true depth e some = absurd (omega (arith, e, some))
-first_off false depth e some = (refl, e)
-
--- a node of the board that the power controller finds on no path is on none for the firmware
-off_path : (b : BoardValue) (n : Node) → HasNode b n → is_on_path b 0 n.level n.place ≡ false
-    → is_path_place b 0 n.level n.place ≡ false
-off_path b n has off =
-    elim (and_cases (nat_le n.level (height b)) (up b n.level 0 == n.place) off) [
-      | inl high ↦ absurd (omega (arith, has.level, leb-false n.level (height b) high))
-      | inr other ↦
-          ne_eqb n.place (up b n.level 0) (λ e. eqb-false (up b n.level 0) n.place other (sym e))
-    ]
 
 from_applied : (b : BoardValue) (past : List Record) (life level place : ℕ)
     → IsReplied b (controller_history b past) → (controller_values b past).life ≡ Some life
@@ -56,7 +35,7 @@ from_first b past life level place has some f =
     let from : IsFromStart b level place (record { level = level; depth = 3; generation = 0 }) =
     record {
       node = and_from _ _ (le-leb _ _ has.level) (lt-ltb _ _ has.place);
-      off_path = off_path b n has off.0;
+      off_path = off_path b n 0 has off.0;
       is = refl;
     } in
     record {

@@ -1,27 +1,14 @@
 -- What is known of every legal past, and what follows where no core is started.
-use Rattle.std.proofs.Common.{◌≡◌, ℕ, inl, inr, ◌+◌, ◌<◌, List, Some}
-use Rattle.std.proofs.Common.{arith, ap, sym, ◌∙◌}
+use Rattle.std.proofs.Common.{◌≡◌, ℕ, inl, inr, ◌+◌, ◌<◌, List, Some, arith, ap, sym, ◌∙◌}
 use Rattle.std.proofs.lemmas.Bool.{cases_eq}
-use Rattle.psci_board.specs.Board.{BoardValue, HasNode, cores, height, up}
-use Rattle.psci_board.specs.Laws.{ChildLaws}
-use Rattle.psci_ctl_spec.specs.psci_messages.declared.part.Part.{Part}
+use Rattle.psci_headline.proofs.Words.{BoardValue, HasNode, cores, height, up, ChildLaws, Part}
+use Rattle.psci_headline.proofs.Words.{MessageValue, in_life, Values, IsClaimOn, IsCurrent}
+use Rattle.psci_headline.proofs.Words.{HasDeeper, NonePending, known_below, Started, Record}
+use Rattle.psci_headline.proofs.Words.{controller_values, firmware_values, sent, IsLegalPast, place}
+use Rattle.psci_headline.proofs.Words.{NoneRefused, Waiting}
 use Rattle.psci_ctl_spec.specs.Follows as controlling
-use Rattle.psci_ctl_spec.specs.psci_messages.Message.{MessageValue}
-use Rattle.psci_headline.specs.psci_fw_spec.Lives.{in_life}
-use Rattle.psci_headline.specs.psci_fw_spec.Values.{Values}
-use Rattle.psci_headline.specs.psci_fw_laws.Claims.{IsClaimOn, IsCurrent}
-use Rattle.psci_headline.specs.psci_fw_laws.Granted.{HasDeeper, NonePending}
-use Rattle.psci_headline.specs.psci_fw_laws.KnownBelow.{known_below}
-use Rattle.psci_headline.specs.psci_world_spec.declared.place.Place.TheVariants.{Started}
-use Rattle.psci_headline.specs.psci_world_spec.declared.said.Record.{Record}
-use Rattle.psci_headline.specs.psci_world_spec.Histories.{controller_values, firmware_values}
-use Rattle.psci_headline.specs.psci_world_spec.Histories.{sent}
-use Rattle.psci_headline.specs.psci_world_spec.Legal.{IsLegalPast}
-use Rattle.psci_headline.specs.psci_world_spec.Places.{place}
-use Rattle.psci_headline.specs.Refusals.{NoneRefused}
 use Rattle.psci_headline.proofs.Agreed.{RunLaws}
 use Rattle.psci_headline.proofs.Agreeing.{found_other, found_own}
-use Rattle.psci_headline.specs.Waiting.{Waiting}
 use Rattle.psci_headline.proofs.Carried.{IsGiven}
 
 -- A live claim of the domain's depth.

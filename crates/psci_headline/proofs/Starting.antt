@@ -1,20 +1,15 @@
 -- What waits, after a core was started.
-use Rattle.std.proofs.Common.{◌≡◌, ℕ, inl, inr, ◌+◌, ◌≤◌, Bool, true, false, ◌==◌, cond}
-use Rattle.std.proofs.Common.{List, Option, Some, refl, arith, sym, ◌∙◌}
+use Rattle.std.proofs.Common.{◌≡◌, ℕ, inl, inr, ◌+◌, ◌≤◌, Bool, false, ◌==◌, cond, List, Option}
+use Rattle.std.proofs.Common.{Some, refl, arith, sym, ◌∙◌}
+use Rattle.std.proofs.lemmas.Bool.Decides.{nat_tests}
 use Rattle.std.specs.Prelude.{slice_get}
 use Rattle.std.proofs.lemmas.Bool.{cases_Bool, cases_eq, cond-true, cond-false, eq-eqb, ne_eqb}
-use Rattle.psci_board.specs.Board.{BoardValue, height, up}
-use Rattle.psci_board.specs.declared.node.Node.{Node}
-use Rattle.psci_ctl_spec.specs.psci_messages.declared.part.Part.{Part}
-use Rattle.psci_ctl_spec.specs.Changes.{one_more, with_path_on}
+use Rattle.psci_headline.proofs.Words.{BoardValue, height, up, Node, Part, one_more, is_on_path}
+use Rattle.psci_headline.proofs.Words.{AckValue, MessageValue, Slot, Phase, AreWaiting, IsLivePart}
+use Rattle.psci_headline.proofs.Words.{IsTold, known_on}
+use Rattle.psci_ctl_spec.specs.Changes.{with_path_on}
 use Rattle.psci_ctl_spec.specs.Values.{starts_below}
-use Rattle.psci_board.specs.Paths.{is_on_path}
-use Rattle.psci_ctl_spec.specs.psci_messages.Message.{AckValue, MessageValue}
-use Rattle.psci_ctl_spec.specs.psci_messages.Slots.{Slot}
-use Rattle.psci_headline.specs.psci_fw_spec.Phases.{Phase}
 use Rattle.psci_headline.specs.psci_fw_laws.KnownBelow.{known_below}
-use Rattle.psci_headline.specs.psci_fw_laws.Messages.{known_on}
-use Rattle.psci_headline.specs.Waiting.{AreWaiting, IsLivePart, IsTold}
 use Rattle.psci_headline.proofs.Taking.{named}
 
 -- Sums -----------------------------------------------------------------------------------------
@@ -44,14 +39,6 @@ pub record IsBeside (b : BoardValue) (starts : ℕ → ℕ) (c : ℕ) (m : Messa
   pub off : is_on_path b c level (up b level m.core.number) ≡ false
   pub live : IsLivePart b starts m level p
 
-count_one : (t : Bool) → t ≡ true → cond {A = ℕ} t 1 0 ≡ 1
-count_one true e = refl
-count_one false e = absurd (cc)
-
-count_none : (t : Bool) → t ≡ false → cond {A = ℕ} t 1 0 ≡ 0
-count_none true e = absurd (cc)
-count_none false e = refl
-
 -- a part that is live after the start was live before, and not on the path of the core
 beside : (b : BoardValue) (starts : ℕ → ℕ) (c level : ℕ) (m : MessageValue) (p : Part)
     → CountsOnce b starts c → level ≤ height b
@@ -65,10 +52,10 @@ beside b starts c level m p counts low older live =
     let more = counts level place low in
     elim (cases_Bool (is_on_path b c level place)) [
       | inl on ↦
-          let one = count_one (is_on_path b c level place) on in
+          let one = cond-true {A = ℕ} (is_on_path b c level place) 1 0 on in
           absurd (omega (arith, live, now, before, more, one, older))
       | inr off ↦
-          let none = count_none (is_on_path b c level place) off in
+          let none = cond-false {A = ℕ} (is_on_path b c level place) 1 0 off in
           record { off = off; live = omega (arith, live, now, before, more, none) }
     ]
 
@@ -94,27 +81,9 @@ waiting_started b life starts depth halting known phase outstanding sent made c 
             | inl deep ↦ inl (same ∙ deep)
             | inr other ↦ inr other
           ];
-      first = λ n on none.
-          let more = counts n.level n.place on.level in
-          elim (cases_Bool (is_on_path b c n.level n.place)) [
-            | inl here ↦
-                let one = count_one (is_on_path b c n.level n.place) here in
-                absurd (omega (arith, none, more, one))
-            | inr there ↦
-                let zero = count_none (is_on_path b c n.level n.place) there in
-                cond-false (is_on_path b c n.level n.place) 0 (depth n.level n.place) there
-                ∙ are.first n on (omega (arith, none, more, zero))
-          ];
-      asked = λ awake x on waits same. elim (cases_eq x c) [
-        | inl here ↦
-            let more : one_more starts c x ≡ starts x + 1 =
-            cond-true (x == c) (starts x + 1) (starts x) (eq-eqb x c here) in
-            absurd (omega (arith, more, same, le x))
-        | inr there ↦
-            let still : one_more starts c x ≡ starts x =
-            cond-false (x == c) (starts x + 1) (starts x) (ne_eqb x c there) in
-            are.asked awake x on waits (sym still ∙ same)
-      ];
+      first = λ n on none. grind (arith, nat_tests, cases_Bool, cond-true, cond-false);
+      asked = λ awake x on waits same.
+          grind (arith, nat_tests, cases_eq, cond-true, eq-eqb, cond-false, ne_eqb);
       named = are.named;
       told = λ k a at present.
           let t = are.told k a at present in

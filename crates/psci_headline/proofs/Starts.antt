@@ -1,28 +1,18 @@
 -- What is so once each Start that was outstanding was served.
-use Rattle.std.proofs.Common.{◌≡◌, ℕ, ◌⊎◌, inl, inr, ◌+◌, ◌<◌, Bool, true, false, ◌==◌, cond, not}
-use Rattle.std.proofs.Common.{List, None, Some, refl, arith, ap, sym, ◌∙◌}
+use Rattle.std.proofs.Common.{◌≡◌, ℕ, ◌⊎◌, inl, inr, ◌+◌, ◌<◌, true, false, ◌==◌, cond, List, None}
+use Rattle.std.proofs.Common.{Some, arith, ap, sym, ◌∙◌}
+use Rattle.std.proofs.lemmas.Bool.Decides.{nat_tests}
 use Rattle.std.proofs.lemmas.Bool.{cases_Bool, cond-true, cond-false, eqb-true, or_left, or_right}
 use Rattle.std.proofs.lemmas.Option.{none-some, same_Some}
-use Rattle.psci_board.specs.Board.{BoardValue, cores}
+use Rattle.psci_headline.proofs.Words.{BoardValue, cores, message_effect, Kind, AckValue}
+use Rattle.psci_headline.proofs.Words.{MessageValue, OfCore, is_done, Values, AreOutstanding, Enter}
+use Rattle.psci_headline.proofs.Words.{Record, controller_values, firmware_values, sent, indexed}
+use Rattle.psci_headline.proofs.Words.{deliveries, served, serving, step, each_core, entering}
 use Rattle.psci_ctl_spec.specs.Changes as controlling
-use Rattle.psci_ctl_spec.specs.Effects.{Nothing, Starts, message_effect}
 use Rattle.psci_ctl_spec.specs.Values as controlled
-use Rattle.psci_ctl_spec.specs.psci_messages.declared.start.Cause.TheVariants as causes
-use Rattle.psci_ctl_spec.specs.psci_messages.declared.kind.Kind.{Kind}
 use Rattle.psci_ctl_spec.specs.psci_messages.declared.kind.Kind.TheVariants as kinds
-use Rattle.psci_ctl_spec.specs.psci_messages.Message.{AckValue, MessageValue}
-use Rattle.psci_ctl_spec.specs.psci_messages.Slots.{OfCore, is_done, is_kind}
-use Rattle.psci_headline.specs.psci_fw_spec.Values.{Values}
-use Rattle.psci_headline.specs.psci_fw_laws.Outstanding.{AreOutstanding}
-use Rattle.psci_headline.specs.psci_world_spec.declared.event.Event.TheVariants.{Enter}
-use Rattle.psci_headline.specs.psci_world_spec.declared.said.Record.{Record}
-use Rattle.psci_headline.specs.psci_world_spec.Histories.{controller_values, firmware_values}
-use Rattle.psci_headline.specs.psci_world_spec.Histories.{sent}
-use Rattle.psci_headline.specs.psci_world_spec.Lists.{indexed}
+use Rattle.psci_headline.specs.Settling.{all_cores, begun, is_start}
 use Rattle.psci_headline.proofs.Agreeing.{found_own}
-use Rattle.psci_headline.specs.Drained.{deliveries}
-use Rattle.psci_headline.specs.Settling.{all_cores, served, serving, begun, each_core, entering}
-use Rattle.psci_headline.specs.Settling.{is_start, step}
 use Rattle.psci_headline.proofs.Serving.{ack_to}
 use Rattle.psci_headline.proofs.Beginning.{HasEntered, HasNoStart, IsIn, IsStartAt, IsUnderWay}
 use Rattle.psci_headline.proofs.Beginning.{enter_step, more_starts}
@@ -38,21 +28,11 @@ use Rattle.psci_headline.proofs.Taking.{same_kind}
 start_life : (b : BoardValue) (w : controlled.Values) (m : MessageValue) (a : AckValue)
     (kind : Kind) → kind ≡ kinds.Start
     → (controlling.change b (message_effect b m a kind) w).life ≡ w.life
-start_life b w m a kinds.Down e = absurd (cc)
-start_life b w m a kinds.Start e = by_test (a.applied == 0)
-  where
-    by_test : (t : Bool) → (controlling.change b
-        (cond t Nothing (Starts m.core.number causes.On)) w).life ≡ w.life
-    by_test true = refl
-    by_test false = refl
-start_life b w m a kinds.Off e = absurd (cc)
-start_life b w m a kinds.Reset e = absurd (cc)
+start_life b w m a kind e = grind (arith, nat_tests)
 
 -- nothing of it is left to be done
 start_done : (a : AckValue) (m : MessageValue) → a.kind ≡ kinds.Start → is_done a m ≡ true
-start_done a m e =
-    or_right a.stale _ (or_left (not (is_kind a.kind kinds.Down)) _
-    (ap (λ k. not (is_kind k kinds.Down)) e))
+start_done a m e = grind (arith, nat_tests, or_right, or_left)
 
 -- the life goes on, and it is the firmware's
 abbrev pub IsOwnWay : BoardValue → List Record → ℕ → List Record → Type 0
@@ -156,11 +136,7 @@ start_answered b before life past c m laws both at start n = record {
 no_start_other : (b : BoardValue) (past : List Record) (c : ℕ) (m : MessageValue)
     → (firmware_values b past).outstanding (OfCore c) ≡ Some m → is_start m.kind ≡ false
     → HasNoStart b c past
-no_start_other b past c m at other x e start =
-    let same : m ≡ x = same_Some m x (sym at ∙ e) in
-    let no : false ≡ true =
-    sym other ∙ ap is_start (ap (λ (y : MessageValue). y.kind) same ∙ start) in
-    absurd (cc)
+no_start_other b past c m at other x e start = grind (arith, nat_tests, same_Some)
 
 no_start_none : (b : BoardValue) (past : List Record) (c : ℕ)
     → (firmware_values b past).outstanding (OfCore c) ≡ None → HasNoStart b c past
@@ -213,13 +189,7 @@ NoStarts b life past = ((firmware_values b past).life ≡ life)
 -- an entry leaves no Start where there was none
 kept_entering : (b : BoardValue) (before : List Record) (life : ℕ) (past : List Record) (c : ℕ)
     → NoStarts b life past → IsIn b before life past c → NoStarts b life (step b past (Enter c))
-kept_entering b before life past c kept is = (
-  is.own,
-  λ x on m e start.
-      kept.1 x on m
-      (ap (λ (u : Values). u.outstanding (OfCore x))
-      (sym (found_own b life (firmware_values b past) (sym kept.0))) ∙ is.slots x m e start) start,
-)
+kept_entering b before life past c kept is = grind (arith, nat_tests, found_own)
 
 pub has_begun : (b : BoardValue) (before : List Record) (life : ℕ) → SettleLaws b
     → IsUnderWay b before life before → HasBegun b before life (begun b before)

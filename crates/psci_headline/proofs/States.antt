@@ -1,15 +1,10 @@
 -- Domains that were in a state at some moment.
-use Rattle.std.proofs.Common.{◌≡◌, ℕ, true, List, [], ◌∷◌, ◌++◌, Some, refl, ap, ◌∙◌}
+use Rattle.std.proofs.Common.{arith, ◌≡◌, ℕ, true, List, [], ◌∷◌, ◌++◌, Some}
+use Rattle.std.proofs.lemmas.Bool.Decides.{nat_tests}
 use Rattle.std.proofs.lemmas.Bool.{and_from, eq-eqb, or_left, or_right}
-use Rattle.psci_board.specs.Board.{BoardValue}
-use Rattle.psci_board.specs.declared.node.Node.{Node}
-use Rattle.psci_ctl_spec.specs.Replies.{is_this_life}
-use Rattle.psci_ctl_spec.specs.Values.{starts_below}
-use Rattle.psci_fw_laws.specs.psci_fw_spec.declared.hw.Hw.{Hw}
-use Rattle.psci_fw_laws.specs.psci_fw_spec.NodeHwState.{hw_at, hw_code}
-use Rattle.psci_world_spec.specs.declared.said.Record.{Record}
-use Rattle.psci_world_spec.specs.Histories.{controller_values}
-use Rattle.psci_headline.specs.Hardware.{is_hw, is_in_state, was_in_state}
+use Rattle.psci_headline.proofs.Words.{BoardValue, Node, starts_below, hw_at, Record}
+use Rattle.psci_headline.proofs.Words.{controller_values, Hw, is_in_state}
+use Rattle.psci_headline.specs.Hardware.{was_in_state}
 
 -- a domain that is so deep now, after so many starts below, in this life
 in_state : (b : BoardValue) (life sum depth : ℕ) (past : List Record) (n : Node)
@@ -17,11 +12,7 @@ in_state : (b : BoardValue) (life sum depth : ℕ) (past : List Record) (n : Nod
     → starts_below b (controller_values b past).starts n ≡ sum
     → (controller_values b past).depth n.level n.place ≡ depth
     → is_in_state b life sum (hw_at depth) past n ≡ true
-in_state b life sum depth past n now count deep =
-    let h = hw_at depth in
-    and_from _ _ (ap (λ o. is_this_life o life) now ∙ eq-eqb life life refl)
-    (and_from _ _ (eq-eqb _ sum count)
-    (ap (λ d. is_hw (hw_at d) h) deep ∙ eq-eqb (hw_code h) (hw_code h) refl))
+in_state b life sum depth past n now count deep = grind (arith, nat_tests, and_from, eq-eqb)
 
 by_now : (b : BoardValue) (life sum : ℕ) (h : Hw) (past : List Record) (n : Node)
     → is_in_state b life sum h past n ≡ true → was_in_state b life sum h past n ≡ true

@@ -1,31 +1,19 @@
 -- The hardware states that are said of domains were real, after every legal past.
-use Rattle.std.proofs.Common.{◌≡◌, ℕ, ◌<◌, inl, inr, Bool, true, false, not, ◌==◌, cond}
-use Rattle.std.proofs.Common.{List, [], ◌∷◌, Some, refl, subst, ap, sym, ◌∙◌, arith}
-use Rattle.std.specs.Prelude.{nat_le, nat_lt, slice_get}
+use Rattle.std.proofs.Common.{◌≡◌, ℕ, ◌<◌, inl, inr, Bool, true, false, not, ◌==◌, cond, List, []}
+use Rattle.std.proofs.Common.{◌∷◌, Some, refl, subst, ap, sym, ◌∙◌, arith}
+use Rattle.std.proofs.lemmas.Bool.Decides.{nat_tests}
+use Rattle.std.specs.Prelude.{nat_lt, slice_get}
 use Rattle.std.proofs.lemmas.Bool.{and_parts, and_right, ltb-true, ne_eqb}
-use Rattle.psci_board.specs.Board.{BoardValue, HasNode, height, up}
-use Rattle.psci_board.specs.Laws.{PathLaws}
-use Rattle.psci_board.specs.declared.node.Node.{Node}
-use Rattle.psci_ctl_spec.specs.Values as controlled
-use Rattle.psci_ctl_spec.specs.Values.{first_depth, first_starts, starts_below}
-use Rattle.psci_fw_laws.specs.psci_fw_spec.declared.hw.Hw.TheVariants.{On}
-use Rattle.psci_fw_laws.specs.psci_fw_spec.Invariant.{AreValues}
-use Rattle.psci_fw_laws.specs.psci_fw_spec.NodeHwState.{hw_at, hw_code, node_hw}
-use Rattle.psci_fw_laws.specs.psci_fw_spec.Values.{Values}
-use Rattle.psci_ctl_spec.specs.psci_messages.Message.{AckValue}
-use Rattle.psci_fw_laws.specs.Allowed.{IsAllowed}
-use Rattle.psci_fw_laws.specs.KnownBelow.{KnownLaws, known_below}
-use Rattle.psci_headline.specs.Acknowledged.{WasMade}
-use Rattle.psci_world_spec.specs.declared.said.Record.{Record}
-use Rattle.psci_world_spec.specs.Histories.{acks, controller_values}
-use Rattle.psci_world_spec.specs.Histories.{firmware_values}
-use Rattle.psci_world_spec.specs.Legal.{IsLegalPast}
-use Rattle.psci_headline.specs.Hardware.{said_hw, was_in_state}
-use Rattle.psci_headline.specs.Safe.{StatesWereReal}
+use Rattle.psci_headline.proofs.Words.{BoardValue, HasNode, up, PathLaws, Node, first_depth}
+use Rattle.psci_headline.proofs.Words.{first_starts, On, AreValues, hw_at, hw_code, node_hw, Values}
+use Rattle.psci_headline.proofs.Words.{AckValue, IsAllowed, KnownLaws, WasMade, Record, acks}
+use Rattle.psci_headline.proofs.Words.{controller_values, firmware_values, IsLegalPast}
+use Rattle.psci_headline.proofs.Words.{was_in_state, StatesWereReal, said_hw}
+use Rattle.psci_ctl_spec.specs.Values.{starts_below}
+use Rattle.psci_fw_laws.specs.KnownBelow.{known_below}
 use Rattle.psci_headline.proofs.Acknowledged.{IsTaken, carried_out}
 use Rattle.psci_headline.proofs.AllDown.{DownLaws, first_controlled, first_life, next_of}
-use Rattle.psci_headline.proofs.Confirming.{How, Stays}
-use Rattle.psci_headline.proofs.Confirming.{confirmed_how, no_sum}
+use Rattle.psci_headline.proofs.Confirming.{How, Stays, confirmed_how, no_sum}
 use Rattle.psci_headline.proofs.Deliveries.{IsFirst, life_before}
 use Rattle.psci_headline.proofs.Nexts.{IsNext}
 use Rattle.psci_headline.proofs.States.{seen_later, seen_now}
@@ -59,9 +47,7 @@ record AreReal (b : BoardValue) (past : List Record) : Type 0 where
 
 first_down : (b : BoardValue) (n : Node) → (up b n.level 0 ≡ n.place → ⊥)
     → first_depth b n.level n.place ≡ 3
-first_down b n off =
-    ap (λ t. cond t 0 3) (and_right (nat_le n.level (height b)) (up b n.level 0 == n.place)
-    (ne_eqb (up b n.level 0) n.place off))
+first_down b n off = grind (arith, nat_tests, and_right, ne_eqb)
 
 first_sum : (b : BoardValue) (n : Node) → KnownLaws b → (up b n.level 0 ≡ n.place → ⊥)
     → starts_below b first_starts n ≡ 0
@@ -99,21 +85,12 @@ fresh_next b r past life n laws next are has now unknown off =
 -- the same life, sum and depth
 so_still : (b : BoardValue) (past : List Record) (v w : Values) (n : Node)
     → Stays b v w n.level n.place → WasSo b past v n → WasSo b past w n
-so_still b past v w n s was =
-    subst (λ l. was_in_state b l (known_below b w.known n.level n.place)
-    (hw_at (w.granted n.level n.place)) past n ≡ true) (sym s.life)
-    (subst (λ k. was_in_state b v.life k (hw_at (w.granted n.level n.place)) past n ≡ true)
-    (sym s.known)
-    (subst (λ d. was_in_state b v.life (known_below b v.known n.level n.place) (hw_at d) past n
-    ≡ true) (sym s.granted) was))
+so_still b past v w n s was = grind (arith, nat_tests)
 
 so_first : (b : BoardValue) (past : List Record) (w : Values) (n : Node)
     → known_below b w.known n.level n.place ≡ 0 → w.granted n.level n.place ≡ 3
     → was_in_state b w.life 0 (hw_at 3) past n ≡ true → WasSo b past w n
-so_first b past w n known granted was =
-    subst (λ k. was_in_state b w.life k (hw_at (w.granted n.level n.place)) past n ≡ true)
-    (sym known)
-    (subst (λ d. was_in_state b w.life 0 (hw_at d) past n ≡ true) (sym granted) was)
+so_first b past w n known granted was = grind (arith, nat_tests)
 
 seen_by : (b : BoardValue) (r : Record) (past : List Record) (n : Node) → RealLaws b
     → IsLegalPast b past → (next : IsNext b r past) → AreReal b past → HasNode b n → (w : Values)
@@ -165,12 +142,7 @@ all_real : (b : BoardValue) (past : List Record) → RealLaws b → IsLegalPast 
     → AreReal b past
 all_real b [] laws legal = record {
   seen = λ n has some. absurd (omega (arith, some, first_life b));
-  fresh = λ life n has now unknown off.
-      let first = first_controlled b in
-      first_seen b [] life n laws.sums now (record {
-        depth = ap (λ (v : controlled.Values). v.depth) first;
-        starts = ap (λ (v : controlled.Values). v.starts) first;
-      }) off;
+  fresh = λ life n has now unknown off. grind (arith, nat_tests, first_controlled, first_seen);
 }
 all_real b (r ∷ past) laws legal =
     let next : IsNext b r past = next_of b r past laws.down legal in

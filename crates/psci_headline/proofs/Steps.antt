@@ -1,34 +1,21 @@
 -- What is told, after one call of the firmware or of the power controller.
-use Rattle.std.proofs.Common.{◌≡◌, ℕ, inl, inr, ◌+◌, ◌<◌, ◌≤◌, Bool, true, false, ◌==◌, cond, List}
-use Rattle.std.proofs.Common.{Option, None, Some, refl, arith, subst, sym, ◌∙◌}
+use Rattle.std.proofs.Common.{◌≡◌, ℕ, inl, inr, ◌+◌, ◌≤◌, Bool, true, false, ◌==◌, cond, List}
+use Rattle.std.proofs.Common.{Option, Some, refl, arith, subst, sym, ◌∙◌}
+use Rattle.std.proofs.lemmas.Bool.Decides.{nat_tests}
 use Rattle.std.specs.Prelude.{slice_get}
 use Rattle.std.proofs.lemmas.Bool.{cases_eq, cond_both}
-use Rattle.psci_headline.specs.psci_board.Board.{BoardValue}
-use Rattle.psci_headline.specs.psci_board.Laws.{PathLaws}
-use Rattle.psci_headline.specs.psci_ctl_spec.Changes.{next_life, one_more}
+use Rattle.psci_headline.proofs.Words.{BoardValue, PathLaws, next_life, one_more, Start, AckValue}
+use Rattle.psci_headline.proofs.Words.{MessageValue, change, with_mode, with_pending, Effect}
+use Rattle.psci_headline.proofs.Words.{GoesOn, SetsMode, AsksOn, Rests, Halts, Stops, Enters, Parks}
+use Rattle.psci_headline.proofs.Words.{StopsAtOnce, Acknowledges, in_life, start_of_life, Values}
+use Rattle.psci_headline.proofs.Words.{IsAllowed, Holds, KnownLaws, WasTold, AreConfirming}
+use Rattle.psci_headline.specs.psci_fw_spec.Effects.{Nothing}
 use Rattle.psci_headline.specs.psci_ctl_spec.Changes as controlling
 use Rattle.psci_headline.specs.psci_ctl_spec.Effects as controlling_effects
 use Rattle.psci_headline.specs.psci_ctl_spec.Values as controlled
-use Rattle.psci_headline.specs.psci_messages.declared.start.Start.{Start}
-use Rattle.psci_headline.specs.psci_messages.Message.{AckValue, MessageValue}
-use Rattle.psci_headline.specs.psci_fw_spec.declared.status.Status.TheVariants as statuses
-use Rattle.psci_headline.specs.psci_fw_spec.After.{change}
-use Rattle.psci_headline.specs.psci_fw_spec.Changes.{with_mode, with_pending}
-use Rattle.psci_headline.specs.psci_fw_spec.Effects.{Effect, Nothing, GoesOn, SetsMode, AsksOn}
-use Rattle.psci_headline.specs.psci_fw_spec.Effects.{Rests, Halts}
-use Rattle.psci_headline.specs.psci_fw_spec.Effects.{Stops, Enters, Parks, StopsAtOnce}
-use Rattle.psci_headline.specs.psci_fw_spec.Effects.{Acknowledges}
-use Rattle.psci_headline.specs.psci_fw_spec.Lives.{first_confirmed, in_life, start_of_life}
-use Rattle.psci_headline.specs.psci_fw_spec.Phases.{Away, Pending}
-use Rattle.psci_headline.specs.psci_fw_spec.Values.{Values}
-use Rattle.psci_headline.specs.psci_fw_laws.Allowed.{IsAllowed}
-use Rattle.psci_headline.specs.psci_fw_laws.Kept.{Holds}
-use Rattle.psci_headline.specs.psci_fw_laws.KnownBelow.{KnownLaws}
 use Rattle.psci_headline.proofs.fw_laws.Arriving.{found_life}
 use Rattle.psci_headline.proofs.Agreeing.{found_other, found_own}
-use Rattle.psci_headline.specs.Waiting.{WasTold}
 use Rattle.psci_headline.proofs.Records.{IsOfRecord}
-use Rattle.psci_headline.specs.Confirming.{AreConfirming}
 use Rattle.psci_headline.proofs.Answered.{answered}
 use Rattle.psci_headline.proofs.Beside.{pends}
 use Rattle.psci_headline.proofs.Coming.{yet_later}
@@ -52,24 +39,13 @@ module _ (b : BoardValue) (w : controlled.Values) (v : Values) (sent : List Mess
       → ((life : ℕ) → w.life ≡ Some life → life ≡ v.life → AreConfirming b w.starts v
       → AreConfirming b w.starts u)
       → ConfirmingNow b w u
-  own_life u same step life e = elim (cases_eq life v.life) [
-    | inl own ↦
-        subst (AreConfirming b w.starts) (sym (found_own b life u (own ∙ sym same)))
-        (step life e own (subst (AreConfirming b w.starts) (found_own b life v own) (h life e)))
-    | inr other ↦
-        subst (AreConfirming b w.starts)
-        (found_other b life v other ∙ sym (found_other b life u (λ f. other (f ∙ same))))
-        (h life e)
-  ]
+  own_life u same step life e = grind (arith, nat_tests, cases_eq, found_own, found_other)
 
   -- a core entered in the power controller's life
   entered : (u : Values) (s : Start) → w.life ≡ Some s.life → u.life ≡ s.life
       → (AreConfirming b w.starts (in_life b s.life v) → AreConfirming b w.starts u)
       → ConfirmingNow b w u
-  entered u s present life step now e =
-      let same : s.life ≡ now = let f : Some s.life ≡ Some now = sym present ∙ e in cc in
-      subst (AreConfirming b w.starts) (sym (found_own b now u (sym same ∙ sym life)))
-      (step (h s.life present))
+  entered u s present life step now e = grind (arith, nat_tests, found_own)
 
   taken : (a : AckValue) (i : ℕ) → slice_get made i ≡ Some a
       → ConfirmingNow b w (change b (Acknowledges a) v)
@@ -121,28 +97,13 @@ module _ (b : BoardValue) (w : controlled.Values) (v : Values) (sent : List Mess
 
 -- The power controller -------------------------------------------------------------------------
 
--- the start of a life
-first_confirmed_by : (t : Bool) → 0 < cond t 3 0 → t ≡ true
-first_confirmed_by true some = refl
-first_confirmed_by false some = absurd (omega (arith, some))
-
-first_off : (t : Bool) → cond t Pending Away ≡ Away
-    → cond t statuses.Pending statuses.Off ≡ statuses.Off
-first_off true e = absurd (cc)
-first_off false e = refl
-
 pub first : (b : BoardValue) (starts : ℕ → ℕ) (life : ℕ)
     → AreConfirming b starts (start_of_life b life)
-first b starts life = record {
-  domains = λ level place some. inl (first_confirmed_by (first_confirmed b level place) some);
-  cores = λ awake c on away. inl (first_off (c == 0) away);
-}
+first b starts life = grind (arith, nat_tests)
 
 pub first_now : (b : BoardValue) (starts : ℕ → ℕ) (life : ℕ)
     → AreConfirming b starts (in_life b life (start_of_life b 0))
-first_now b starts life =
-    cond_both (life == 0) (start_of_life b 0) (start_of_life b life)
-    (λ u. AreConfirming b starts u) (λ e. first b starts 0) (λ e. first b starts life)
+first_now b starts life = grind (arith, nat_tests, cond_both, first)
 
 -- more starts
 later : (b : BoardValue) (starts more : ℕ → ℕ) (v : Values) → KnownLaws b
@@ -170,12 +131,7 @@ one_later false n = omega arith
 begins : (b : BoardValue) (w : controlled.Values) (v : Values) (o : Option ℕ) (life : ℕ)
     → ((l : ℕ) → w.life ≡ Some l → v.life ≤ l) → w.life ≡ o → next_life o ≡ Some life
     → (starts : ℕ → ℕ) → AreConfirming b starts (in_life b life v)
-begins b w v None life begun is e starts = absurd (cc)
-begins b w v (Some l) life begun is e starts =
-    let next : l + 1 ≡ life = cc in
-    subst (AreConfirming b starts)
-    (sym (found_other b life v (λ same. omega (arith, next, begun l is, same))))
-    (first b starts life)
+begins b w v o life begun is e starts = grind (arith, nat_tests, found_other, first)
 
 pub controlled_by : (b : BoardValue) (w : controlled.Values) (v : Values)
     (e : controlling_effects.Effect) → KnownLaws b

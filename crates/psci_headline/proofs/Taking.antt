@@ -1,30 +1,20 @@
 -- What waits, after an acknowledgement was taken.
-use Rattle.std.proofs.Common.{◌≡◌, ℕ, ◌⊎◌, inl, inr, Bool, true, false, ◌==◌, ◌&&◌, not, cond, List}
-use Rattle.std.proofs.Common.{length, Option, None, Some, refl, arith, subst, ap, sym, ◌∙◌}
+use Rattle.std.proofs.Common.{◌≤◌, ◌≡◌, ℕ, ◌⊎◌, inl, inr, Bool, true, List, Option, None, Some}
+use Rattle.std.proofs.Common.{arith, subst, ap, sym, ◌∙◌}
+use Rattle.std.proofs.lemmas.Bool.Decides.{nat_tests}
 use Rattle.std.specs.Prelude.{slice_get}
 use Rattle.std.proofs.lemmas.Bool.{and_parts, cases_lt, eqb-true, leb-true, or_cases}
 use Rattle.std.proofs.lemmas.Option.{same_Some, slice_get_within}
-use Rattle.psci_board.specs.Board.{BoardValue, up}
-use Rattle.psci_ctl_spec.specs.psci_messages.declared.part.Part.{Part}
-use Rattle.psci_ctl_spec.specs.psci_messages.declared.kind.Kind.{Kind}
-use Rattle.psci_ctl_spec.specs.psci_messages.declared.kind.Kind.TheVariants.{Down, Start, Off}
-use Rattle.psci_ctl_spec.specs.psci_messages.declared.kind.Kind.TheVariants.{Reset}
-use Rattle.psci_ctl_spec.specs.psci_messages.Message.{AckValue, MessageValue}
-use Rattle.psci_ctl_spec.specs.psci_messages.Slots.{Acknowledge, OfCore, Slot, answers, changed}
-use Rattle.psci_ctl_spec.specs.psci_messages.Slots.{is_done, is_kind}
-use Rattle.psci_ctl_spec.specs.psci_messages.Slots.{is_slot, slot_of}
-use Rattle.psci_headline.specs.psci_fw_spec.Phases.{Phase}
-use Rattle.psci_headline.specs.psci_fw_laws.Outstanding.{AreOutstanding}
-use Rattle.psci_headline.specs.Waiting.{AreWaiting, AwaitsStart, IsLivePart, IsTold, WasTold}
+use Rattle.psci_headline.proofs.Words.{BoardValue, Part, Kind, Down, AckValue, MessageValue}
+use Rattle.psci_headline.proofs.Words.{Acknowledge, OfCore, Slot, answers, changed, is_done}
+use Rattle.psci_headline.proofs.Words.{is_kind, Phase, AreOutstanding, AreWaiting, IsLivePart}
+use Rattle.psci_headline.proofs.Words.{IsTold, WasTold, AwaitsStart}
+use Rattle.psci_headline.proofs.Pursuing.{waiting_moved}
 
 -- Names ----------------------------------------------------------------------------------------
 
 pub same_kind : (k l : Kind) → is_kind k l ≡ true → k ≡ l
-same_kind Down Down e = refl
-same_kind Start Start e = refl
-same_kind Off Off e = refl
-same_kind Reset Reset e = refl
-same_kind k l e = absurd (cc)
+same_kind k l e = grind (arith, nat_tests)
 
 -- An acknowledgement has the name of a message.
 pub record HasName (a : AckValue) (m : MessageValue) : Type 0 where
@@ -34,16 +24,7 @@ pub record HasName (a : AckValue) (m : MessageValue) : Type 0 where
   pub number : a.number ≡ m.number
 
 pub named : (a : AckValue) (m : MessageValue) → answers a m ≡ true → HasName a m
-named a m e =
-    let kind = and_parts (is_kind a.kind m.kind) _ e in
-    let core = and_parts (a.core.number == m.core.number) _ kind.1 in
-    let rest = and_parts (a.life == m.life) _ core.1 in
-    record {
-      kind = same_kind a.kind m.kind kind.0;
-      core = eqb-true _ _ core.0;
-      life = eqb-true _ _ rest.0;
-      number = eqb-true _ _ rest.1;
-    }
+named a m e = grind (arith, nat_tests, and_parts, same_kind, eqb-true)
 
 -- The slot -------------------------------------------------------------------------------------
 
@@ -52,21 +33,11 @@ pub record IsEmptied (a : AckValue) (m : MessageValue) : Type 0 where
   pub answers : answers a m ≡ true
   pub done : is_done a m ≡ true
 
-emptied_or : (a : AckValue) (m : MessageValue) (s t : Bool) → answers a m && is_done a m ≡ t
-    → (cond s (cond t None (Some m)) (Some m) ≡ Some m) ⊎ IsEmptied a m
-emptied_or a m false t e = inl refl
-emptied_or a m true false e = inl refl
-emptied_or a m true true e =
-    let both = and_parts (answers a m) (is_done a m) e in
-    inr (record { answers = both.0; done = both.1 })
-
 -- what was outstanding for a core stays, or was emptied
 pub still_or : (outstanding : Slot → Option MessageValue) (a : AckValue) (x : ℕ)
     (m : MessageValue) → outstanding (OfCore x) ≡ Some m
     → (changed (OfCore x) (Acknowledge a) (outstanding (OfCore x)) ≡ Some m) ⊎ IsEmptied a m
-still_or outstanding a x m e =
-    subst (λ o. (changed (OfCore x) (Acknowledge a) o ≡ Some m) ⊎ IsEmptied a m) (sym e)
-    (emptied_or a m (is_slot (slot_of a.kind a.core) (OfCore x)) (answers a m && is_done a m) refl)
+still_or outstanding a x m e = grind (arith, nat_tests)
 
 -- The acknowledgement --------------------------------------------------------------------------
 
@@ -76,85 +47,58 @@ IsNamedOnce sent = (j k : ℕ) (m n : MessageValue) → slice_get sent j ≡ Som
     → slice_get sent k ≡ Some n → m.kind ≡ Down → n.kind ≡ Down → m.core.number ≡ n.core.number
     → m.life ≡ n.life → m.number ≡ n.number → j ≡ k
 
--- where the acknowledgement of a Down leaves nothing to be done, each live part has its depth
-done_down : (b : BoardValue) (starts : ℕ → ℕ) (depth : ℕ → ℕ → ℕ) (a : AckValue)
-    (sent : List MessageValue) (k level : ℕ) (m : MessageValue) (p : Part) → IsNamedOnce sent
-    → WasTold b starts depth a sent → slice_get sent k ≡ Some m → m.kind ≡ Down → IsEmptied a m
-    → slice_get m.parts level ≡ Some p → IsLivePart b starts m level p
-    → depth level (up b level m.core.number) ≡ p.depth
-done_down b starts depth a sent k level m p once t at kind emptied part live =
-    elim (cases_lt level a.applied) [
-      | inl low ↦ told.applied kind level p low part live
-      | inr high ↦ elim (or_cases a.stale _ emptied.done) [
-        | inl stale ↦ absurd (told.stale kind stale level p high part live)
-        | inr rest ↦ elim (or_cases (not (is_kind a.kind Down)) _ rest) [
-          | inl other ↦
-              let down : is_kind a.kind Down ≡ true =
-              ap (λ x. is_kind x Down) (mine.kind ∙ kind) in
-              let no : false ≡ true = sym (ap not down) ∙ other in absurd (cc)
-          | inr all ↦
-              let within = slice_get_within m.parts level p part in
-              let few = leb-true (length m.parts) a.applied all in
-              absurd (omega (arith, within, few, high))
-        ]
-      ]
-    ]
-  where
-    mine : HasName a m
-    mine = named a m emptied.answers
+module _ {b : BoardValue} {starts : ℕ → ℕ} {depth : ℕ → ℕ → ℕ} {a : AckValue}
+    {m : MessageValue} (kind : m.kind ≡ Down) (emptied : IsEmptied a m) where
+  -- what an acknowledgement says of a message that was sent, it says of the one that it answers
+  pub told_of : (sent : List MessageValue) (k : ℕ) → IsNamedOnce sent
+      → WasTold b starts depth a sent → slice_get sent k ≡ Some m → IsTold b starts depth a m
+  told_of sent k once t at =
+      let mine = named a m emptied.answers in
+      let theirs = named a t.message t.told.answers in
+      let one = once t.index k t.message m t.at at (sym theirs.kind ∙ mine.kind ∙ kind) kind
+      (sym theirs.core ∙ mine.core) (sym theirs.life ∙ mine.life)
+      (sym theirs.number ∙ mine.number) in
+      subst (IsTold b starts depth a)
+      (same_Some t.message m (sym t.at ∙ ap (slice_get sent) one ∙ at)) t.told
 
-    n : MessageValue
-    n = t.message
-
-    theirs : HasName a n
-    theirs = named a n t.told.answers
-
-    one : t.index ≡ k
-    one = once t.index k n m t.at at (sym theirs.kind ∙ mine.kind ∙ kind) kind
-        (sym theirs.core ∙ mine.core) (sym theirs.life ∙ mine.life)
-        (sym theirs.number ∙ mine.number)
-
-    same : n ≡ m
-    same = same_Some n m (sym t.at ∙ ap (slice_get sent) one ∙ at)
-
-    told : IsTold b starts depth a m
-    told = subst (IsTold b starts depth a) same t.told
+  -- where it leaves nothing to be done, no part that was left out is live
+  pub none_left : (told : IsTold b starts depth a m) (level : ℕ) (p : Part) → a.applied ≤ level
+      → slice_get m.parts level ≡ Some p → IsLivePart b starts m level p → ⊥
+  none_left told level p high part live =
+      grind (arith, nat_tests, or_cases, named, slice_get_within, leb-true)
 
 -- an acknowledgement was taken
-pub waiting_taken : (b : BoardValue) (life : ℕ) (starts : ℕ → ℕ) (depth : ℕ → ℕ → ℕ)
-    (halting : Bool) (known : ℕ → ℕ) (phase : ℕ → Phase)
-    (outstanding : Slot → Option MessageValue) (sent : List MessageValue) (made : List AckValue)
+pub waiting_taken : {b : BoardValue} {life : ℕ} {starts : ℕ → ℕ} {depth : ℕ → ℕ → ℕ}
+    {halting : Bool} {known : ℕ → ℕ} {phase : ℕ → Phase}
+    {outstanding : Slot → Option MessageValue} {sent : List MessageValue} {made : List AckValue}
     (a : AckValue) (i : ℕ) → slice_get made i ≡ Some a → IsNamedOnce sent
     → AreOutstanding life known phase sent outstanding
     → AreWaiting b life starts depth halting known phase outstanding sent made
     → AreWaiting b life starts depth halting known phase
     (λ slot. changed slot (Acknowledge a) (outstanding slot)) sent made
-waiting_taken b life starts depth halting known phase outstanding sent made a i is_made once slots
-    are =
-    record {
-      pursued = λ k m at present kind level p part live.
-          elim (are.pursued k m at present kind level p part live) [
-            | inl deep ↦ inl deep
-            | inr other ↦ elim other [
-              | inl waits ↦ elim (still_or outstanding a m.core.number m waits) [
-                | inl still ↦ inr (inl still)
-                | inr emptied ↦
-                    let name = named a m emptied.answers in
-                    let t = are.told i a is_made (name.life ∙ present) in
-                    inl (done_down b starts depth a sent k level m p once t at kind emptied part
-                    live)
-              ]
-              | inr pending ↦ inr (inr pending)
-            ]
-          ];
-      first = are.first;
-      asked = λ awake x on waits same. await x (are.asked awake x on waits same) same;
-      named = are.named;
-      told = are.told;
-    }
+waiting_taken {starts = starts} {halting = halting} {known = known} {phase = phase}
+    {outstanding = outstanding} {sent = sent} a i is_made once slots are =
+    waiting_moved are halting known phase now None
+    (λ k level m p at present kind part live waits. elim waits [
+      | inl out ↦ elim (still_or outstanding a m.core.number m out) [
+        | inl still ↦ inr (inl still)
+        | inr emptied ↦
+            let t = are.told i a is_made ((named a m emptied.answers).life ∙ present) in
+            let told = told_of kind emptied sent k once t at in
+            inl (elim (cases_lt level a.applied) [
+              | inl low ↦ told.applied kind level p low part live
+              | inr high ↦ absurd (none_left kind emptied told level p high part live)
+            ])
+      ]
+      | inr pending ↦ inr (inr pending)
+    ])
+    (λ m none. absurd (cc))
+    (λ awake x on waits same. await x (are.asked awake x on waits same) same)
   where
-    await : (x : ℕ) → AwaitsStart outstanding x → starts x ≡ known x
-        → AwaitsStart (λ slot. changed slot (Acknowledge a) (outstanding slot)) x
+    now : Slot → Option MessageValue
+    now = λ slot. changed slot (Acknowledge a) (outstanding slot)
+
+    await : (x : ℕ) → AwaitsStart outstanding x → starts x ≡ known x → AwaitsStart now x
     await x old same = elim (still_or outstanding a x old.message old.at) [
       | inl still ↦ record { message = old.message; at = still; kind = old.kind }
       | inr emptied ↦
@@ -164,8 +108,7 @@ waiting_taken b life starts depth halting known phase outstanding sent made a i 
           let theirs = named a t.message t.told.answers in
           let later = t.told.started (sym theirs.kind ∙ mine.kind ∙ old.kind) in
           let at_x : t.message.core.number ≡ x = sym theirs.core ∙ mine.core ∙ is.core in
-          let number : t.message.number ≡ known x =
-          sym theirs.number ∙ mine.number ∙ is.number in
+          let number : t.message.number ≡ known x = grind (arith, nat_tests) in
           let more : starts t.message.core.number ≡ starts x = ap starts at_x in
           absurd (omega (arith, later, number, more, same))
     ]

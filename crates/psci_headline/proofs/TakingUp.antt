@@ -1,10 +1,9 @@
 -- An entry takes up the opening that waits for its core.
-use Rattle.std.proofs.Common.{◌≡◌, ℕ, zero, suc, ◌<◌, List, ◌∷◌, Option, None, Some, refl, ap, sym}
-use Rattle.std.proofs.Common.{◌∙◌, subst}
+use Rattle.std.proofs.Common.{arith, ◌≡◌, ℕ, zero, suc, ◌<◌, List, ◌∷◌, Option, None, Some, refl}
+use Rattle.std.proofs.Common.{ap, sym, ◌∙◌, subst}
+use Rattle.std.proofs.lemmas.Bool.Decides.{nat_tests}
 use Rattle.std.specs.Prelude.{slice_get}
-use Rattle.psci_fw_laws.specs.psci_fw_spec.declared.opening.Opening.{Opening}
-use Rattle.psci_fw_laws.specs.psci_fw_spec.Values.{updated}
-use Rattle.psci_headline.specs.Openings.{EnteredAt, Fits, Made, TakenUp, newest}
+use Rattle.psci_headline.proofs.Words.{Opening, updated, Fits, Made, TakenUp, EnteredAt, newest}
 use Rattle.psci_headline.proofs.Waiting.{AreWaiting, IsBefore, IsFresh, IsWaiting, newest_is}
 use Rattle.psci_headline.proofs.Waiting.{none_left}
 
@@ -21,16 +20,12 @@ module _ (n life : ℕ) (opening : ℕ → Option Opening) (made : List Made) (t
     (here : x.life ≡ life) (at : opening x.core ≡ Some x.opening) where
   -- what waited for the core
   waited : IsWaiting x.life x.core x.opening made taken
-  waited =
-      subst (λ l. IsWaiting l x.core x.opening made taken) (sym here)
-      (are.waits some x.core x.opening at)
+  waited = grind (arith, nat_tests)
 
   -- what was taken up
   took_last : (t : TakenUp) (m : Made) → slice_get (taking x made ∷ taken) 0 ≡ Some t
       → t.made ≡ Some m → newest x.core x.life made ≡ Some m
-  took_last t m at e =
-      let same : taking x made ≡ t = cc in
-      ap (λ (y : TakenUp). y.made) same ∙ e
+  took_last t m at e = grind (arith, nat_tests)
 
   is_last : (m : Made) → newest x.core x.life made ≡ Some m → m ≡ waited.last
   is_last m e = let both : Some m ≡ Some waited.last = sym e ∙ waited.is in cc

@@ -1,23 +1,16 @@
 -- What a new acknowledgement says, once its message was carried out.
 use Rattle.std.proofs.Common.{◌≡◌, ℕ, zero, suc, ◌+◌, ◌-◌, ◌<◌, ◌≤◌, Bool, true, List, [], ◌∷◌}
 use Rattle.std.proofs.Common.{length, take, Some, refl, arith, subst, ap, sym, ◌∙◌}
+use Rattle.std.proofs.lemmas.Bool.Decides.{nat_tests}
 use Rattle.std.specs.Prelude.{slice_get}
 use Rattle.std.proofs.lemmas.Bool.{and_from, cond-true, eq-eqb, le-leb}
 use Rattle.std.proofs.lemmas.Option.{same_Some, slice_get_within}
-use Rattle.psci_board.specs.Board.{BoardValue, height, up}
-use Rattle.psci_ctl_spec.specs.psci_messages.declared.part.Part.{Part}
-use Rattle.psci_board.specs.Board.{domain_of}
-use Rattle.psci_ctl_spec.specs.Laws.{AckLaws}
-use Rattle.psci_ctl_spec.specs.Parts.{applied, depth_or, is_stale, laid}
-use Rattle.psci_ctl_spec.specs.Replies.{ack_of}
-use Rattle.psci_ctl_spec.specs.Values.{Values, starts_below}
-use Rattle.psci_board.specs.Paths.{is_on_path}
+use Rattle.psci_headline.proofs.Words.{ArePartsOf, BoardValue, height, Part, domain_of, AckLaws}
+use Rattle.psci_headline.proofs.Words.{applied, is_stale, laid, ack_of, starts_below, Kind, Down}
+use Rattle.psci_headline.proofs.Words.{MessageValue, answers, is_kind, IsLivePart, IsTold}
+use Rattle.psci_ctl_spec.specs.Values.{Values}
 use Rattle.psci_ctl_spec.proofs.Front.{get_take}
-use Rattle.psci_ctl_spec.specs.psci_messages.declared.kind.Kind.{Kind}
-use Rattle.psci_ctl_spec.specs.psci_messages.declared.kind.Kind.TheVariants.{Down, Start}
-use Rattle.psci_ctl_spec.specs.psci_messages.Message.{MessageValue}
-use Rattle.psci_ctl_spec.specs.psci_messages.Slots.{answers, is_kind}
-use Rattle.psci_headline.specs.Waiting.{IsLivePart, IsTold}
+use Rattle.psci_ctl_spec.specs.psci_messages.declared.kind.Kind.TheVariants.{Start}
 use Rattle.psci_headline.proofs.Starting.{same_sum}
 
 pub own_kind : (k : Kind) → is_kind k k ≡ true
@@ -27,22 +20,14 @@ own_kind k = refl
 -- an acknowledgement has the name of its message
 pub own_name : (m : MessageValue) (count : ℕ) (stale : Bool)
     → answers (ack_of m count stale) m ≡ true
-own_name m count stale =
-    and_from _ _ (own_kind m.kind) (and_from _ _ (eq-eqb m.core.number m.core.number refl)
-    (and_from _ _ (eq-eqb m.life m.life refl) (eq-eqb m.number m.number refl)))
+own_name m count stale = grind (arith, nat_tests, and_from, own_kind, eq-eqb)
 
 -- of a message that is no Down it says only that a core was started
 pub told_other : (b : BoardValue) (starts : ℕ → ℕ) (depth : ℕ → ℕ → ℕ) (m : MessageValue)
     (count : ℕ) (stale : Bool) → (m.kind ≡ Down → ⊥)
     → (m.kind ≡ Start → m.number < starts m.core.number)
     → IsTold b starts depth (ack_of m count stale) m
-told_other b starts depth m count stale other started = record {
-  answers = own_name m count stale;
-  few = λ kind. absurd (other kind);
-  applied = λ kind level p low part live. absurd (other kind);
-  stale = λ kind late level p high part live. absurd (other kind);
-  started = started;
-}
+told_other b starts depth m count stale other started = grind (arith, nat_tests, own_name)
 
 -- the part of the next lower level of a live part is live
 abbrev pub IsLiveBelow : BoardValue → (ℕ → ℕ) → MessageValue → Type 0
@@ -61,15 +46,19 @@ item_at (p ∷ ps) zero low = record { item = p; at = refl }
 item_at (p ∷ ps) (suc k) low =
     let rest = item_at ps k (omega arith) in record { item = rest.item; at = rest.at }
 
--- so each lower one is
+-- so a Down has a first part
+pub first_part : (m : MessageValue) → m.kind ≡ Down → ArePartsOf m.kind m.parts
+    → HasItem m.parts 0
+first_part m down are = grind (arith, nat_tests, item_at)
+
+-- so each lower part is
 pub live_down : (b : BoardValue) (starts : ℕ → ℕ) (m : MessageValue) → IsLiveBelow b starts m
     → (gap level : ℕ) (p q : Part) → slice_get m.parts level ≡ Some p
     → slice_get m.parts (level + gap) ≡ Some q → IsLivePart b starts m (level + gap) q
     → IsLivePart b starts m level p
 live_down b starts m below zero level p q at_p at_q live =
     let flat : level + 0 ≡ level = omega arith in
-    let at : slice_get m.parts level ≡ Some q =
-    subst (λ l. slice_get m.parts l ≡ Some q) flat at_q in
+    let at : slice_get m.parts level ≡ Some q = grind (arith, nat_tests) in
     let same : q ≡ p = same_Some q p (sym at ∙ at_p) in
     subst (λ x. IsLivePart b starts m level x) same
     (subst (λ l. IsLivePart b starts m l q) flat live)
@@ -95,20 +84,12 @@ told_down b v m kind levels below laws = record {
   answers = own_name m n late;
   few = λ k. laws.few;
   applied = λ k level p low part live.
-      let on : is_on_path b c level (up b level c) ≡ true =
-      and_from _ _ (le-leb level (height b) (levels level p part).1) (eq-eqb _ _ refl) in
-      let get : slice_get (take n m.parts) level ≡ Some p =
-      get_take m.parts n level low ∙ part in
-      cond-true (is_on_path b c level (up b level c)) _ (v.depth level (up b level c)) on
-      ∙ ap (λ o. depth_or o (v.depth level (up b level c))) get;
+      grind (arith, nat_tests, and_from, le-leb, eq-eqb, get_take, cond-true);
   stale = λ k is level p high part live.
       let first = laws.stale is in
       let q : Part = first.0 in
       let lower : n + (level - n) ≡ level = omega (arith, high) in
-      let q_live : IsLivePart b v.starts m n q =
-      live_down b v.starts m below (level - n) n q p first.1
-      (subst (λ l. slice_get m.parts l ≡ Some p) (sym lower) part)
-      (subst (λ l. IsLivePart b v.starts m l p) (sym lower) live) in
+      let q_live : IsLivePart b v.starts m n q = grind (arith, nat_tests, live_down) in
       let sum = same_sum b v.starts (domain_of b c n) in
       let flat : q.level ≡ n = (levels n q first.1).0 in
       first.2 (q_live ∙ sym sum ∙ ap (λ l. starts_below b v.starts (domain_of b c l)) (sym flat));

@@ -1,26 +1,20 @@
 -- Power and claims at a moment are as they shall be where the tests say so.
-use Rattle.std.proofs.Common.{◌≡◌, ◌+◌, ◌≤◌, ◌<◌, ◌==◌, ◌||◌, ◌&&◌, ◌↔◌, ℕ, Bool, true}
-use Rattle.std.proofs.Common.{not, List, refl, arith}
-use Rattle.std.proofs.Common.{length}
-use Rattle.std.proofs.Common.{is_some, inl, inr}
+use Rattle.std.proofs.Common.{◌≡◌, ◌+◌, ◌≤◌, ◌<◌, ◌==◌, ◌||◌, ◌&&◌, ◌↔◌, ℕ, Bool, true, not, List}
+use Rattle.std.proofs.Common.{arith, length, is_some}
+use Rattle.std.proofs.lemmas.Bool.Decides.{nat_tests}
 use Rattle.std.specs.List.{list_all, range_with_len}
 use Rattle.std.proofs.lemmas.Bool.{and_from, and_parts, cases_eq, eq-eqb, eqb-true, le-leb}
 use Rattle.std.proofs.lemmas.Bool.{leb-true, or_cases, or_left, or_right}
-use Rattle.psci_fw_laws.specs.psci_board.Board.{BoardValue, HasNode, cores, height, nodes, up}
-use Rattle.psci_fw_laws.specs.psci_board.declared.node.Node.{Node}
-use Rattle.psci_world_spec.specs.declared.place.Place.{Place}
-use Rattle.psci_world_spec.specs.declared.place.Place.TheVariants.{Started, Running, Stopped}
-use Rattle.psci_world_spec.specs.declared.said.Record.{Record}
-use Rattle.psci_world_spec.specs.Histories.{controller_values}
-use Rattle.psci_world_spec.specs.Places.{place}
-use Rattle.psci_headline.specs.Claims.{live_claims}
-use Rattle.psci_headline.specs.Moments.{depth_at, executes, is_reported_off}
+use Rattle.psci_headline.proofs.Words.{BoardValue, HasNode, cores, height, nodes, up, Node, Place}
+use Rattle.psci_headline.proofs.Words.{Started, Running, Record, controller_values, place}
+use Rattle.psci_headline.proofs.Words.{live_claims, depth_at, executes, is_reported_off, OffIsDown}
+use Rattle.psci_headline.proofs.Words.{StatesWereReal, NoDeeperThanAsked, NoneBelowSleeping}
+use Rattle.psci_headline.proofs.Words.{is_asked, is_off_down, is_off_stopped, is_one, is_powered}
+use Rattle.psci_headline.proofs.Words.{executes_outside}
 use Rattle.psci_headline.specs.Hardware.{is_said_asleep}
-use Rattle.psci_headline.specs.Safe.{NoDeeperThanAsked, NoneBelowSleeping, OffIsDown, OneLiveClaim}
-use Rattle.psci_headline.specs.Safe.{StatesWereReal}
-use Rattle.psci_headline.specs.Test.{at_each_core, at_each_domain, at_each_level, has_one, is_asked}
-use Rattle.psci_headline.specs.Test.{is_off_down, is_off_stopped, is_one, is_powered}
-use Rattle.psci_headline.specs.Test.{executes_outside, is_each_real, was_asked, was_real}
+use Rattle.psci_headline.specs.Safe.{OneLiveClaim}
+use Rattle.psci_headline.specs.Test.{at_each_core, at_each_domain, at_each_level, has_one}
+use Rattle.psci_headline.specs.Test.{is_each_real, was_asked, was_real}
 use Rattle.psci_headline.proofs.Ranges.{all_in, each_in, if_holds, where_holds}
 
 -- Everywhere on the board ---------------------------------------------------------------------
@@ -55,10 +49,7 @@ domain_passes b p n e has =
 
 domains_pass : (b : BoardValue) (p : Node → Bool) → ((n : Node) → HasNode b n → p n ≡ true)
     → at_each_domain b p ≡ true
-domains_pass b p h =
-    levels_pass b (on_level b p) (λ level low.
-    all_in (λ place. p (record { level = level; place = place })) 0 (nodes b level) (λ i o inside.
-    h (record { level = level; place = i }) (record { level = low; place = omega arith })))
+domains_pass b p h = grind (arith, nat_tests, levels_pass, all_in)
 
 -- Power ---------------------------------------------------------------------------------------
 
@@ -75,14 +66,12 @@ powered_tested b past = (
 
 -- Reported OFF --------------------------------------------------------------------------------
 
-not_running : (p : Place) → not (executes_outside p) ≡ true → p ≡ Running → ⊥
+pub not_running : (p : Place) → not (executes_outside p) ≡ true → p ≡ Running → ⊥
 not_running Started e same = cc
 not_running p e same = cc
 
-still : (p : Place) → (p ≡ Running → ⊥) → not (executes_outside p) ≡ true
-still Started h = refl
-still Running h = absurd (h refl)
-still Stopped h = refl
+pub still : (p : Place) → (p ≡ Running → ⊥) → not (executes_outside p) ≡ true
+still p h = grind (arith, nat_tests)
 
 pub off_tested : (b : BoardValue) (past : List Record)
     → ((is_off_stopped b past && is_off_down b past) ≡ true) ↔ OffIsDown b past
@@ -113,17 +102,11 @@ one_tested b past = (
 -- deep, and then so claimed: as it is said of a domain, and as its test says it
 deep_claimed : (depth : ℕ) (claimed : Bool) → (depth == 0 || claimed) ≡ true → 0 < depth
     → claimed ≡ true
-deep_claimed depth claimed e deep = elim (or_cases (depth == 0) claimed e) [
-  | inl none ↦ absurd (omega (arith, eqb-true depth 0 none, deep))
-  | inr is ↦ is
-]
+deep_claimed depth claimed e deep = grind (arith, nat_tests, or_cases, eqb-true)
 
 claimed_deep : (depth : ℕ) (claimed : Bool) → (0 < depth → claimed ≡ true)
     → (depth == 0 || claimed) ≡ true
-claimed_deep depth claimed h = elim (cases_eq depth 0) [
-  | inl none ↦ or_left (depth == 0) claimed (eq-eqb depth 0 none)
-  | inr some ↦ or_right (depth == 0) claimed (h (omega (arith, some)))
-]
+claimed_deep depth claimed h = grind (arith, nat_tests, cases_eq, or_left, eq-eqb, or_right)
 
 pub asked_tested : (b : BoardValue) (past : List Record)
     → (is_asked b past ≡ true) ↔ NoDeeperThanAsked b past

@@ -1,41 +1,25 @@
 -- What NODE_HW_STATE answers with HW_OFF or HW_STANDBY: the domain was so deep at some moment.
-use Rattle.std.proofs.Common.{◌≡◌, ℕ, zero, suc, ◌+◌, ◌<◌, ◌≤◌, Bool, true, false, not, ◌==◌, cond}
-use Rattle.std.proofs.Common.{List, [], ◌∷◌, Option, None, Some, refl, ap, sym, ◌∙◌, subst}
-use Rattle.std.proofs.Common.{arith, pos, inl, inr, option_map}
-use Rattle.std.specs.Prelude.{nat_le, nat_lt}
+use Rattle.std.proofs.Common.{◌≡◌, ℕ, ◌<◌, ◌≤◌, Bool, true, not, ◌==◌, cond, List, [], ◌∷◌, None}
+use Rattle.std.proofs.Common.{Some, refl, ap, sym, ◌∙◌, subst, arith, pos, inl, inr}
+use Rattle.std.proofs.lemmas.Bool.Decides.{nat_tests}
+use Rattle.std.specs.Prelude.{nat_lt}
 use Rattle.std.specs.Ordering.{int_eq}
-use Rattle.std.specs.List.{find, range_with_len}
-use Rattle.std.proofs.lemmas.Bool.{and_from, and_parts, cases_Bool, leb-true, lt-ltb, or_left}
-use Rattle.std.proofs.lemmas.Bool.{or_right}
-use Rattle.std.proofs.lemmas.Option.{same_Some}
-use Rattle.psci_world_spec.specs.psci_abi.Calls.{request_of}
-use Rattle.psci_world_spec.specs.psci_abi.declared.code.Code.{Code}
-use Rattle.psci_world_spec.specs.psci_abi.declared.request.Request.{Request}
+use Rattle.std.proofs.lemmas.Bool.{and_from, and_parts, cases_Bool, lt-ltb, or_left, or_right}
+use Rattle.psci_headline.proofs.Words.{request_of, Code, Request, BoardValue, HasNode, Node}
+use Rattle.psci_headline.proofs.Words.{IsLegal, hw_at, hw_code, node_hw, Values, Event, Call}
+use Rattle.psci_headline.proofs.Words.{Record, Said, Fw, controller_values, firmware_values}
+use Rattle.psci_headline.proofs.Words.{IsLegalPast, StatesWereReal, node_of, Hw, is_in_state}
+use Rattle.psci_headline.proofs.Words.{said_hw}
 use Rattle.psci_world_spec.specs.psci_abi.declared.request.Request.TheVariants as requests
-use Rattle.psci_board.specs.Board.{BoardValue, HasNode, height, node_of, nodes}
-use Rattle.psci_board.specs.declared.node.Node.{Node}
-use Rattle.psci_ctl_spec.specs.Replies.{is_this_life}
-use Rattle.psci_ctl_spec.specs.Values.{starts_below}
-use Rattle.psci_fw_laws.specs.psci_fw_spec.declared.hw.Hw.{Hw}
-use Rattle.psci_fw_laws.specs.psci_fw_spec.declared.hw.Hw.TheVariants.{On, Off, Standby}
+use Rattle.psci_fw_laws.specs.psci_fw_spec.declared.hw.Hw.TheVariants.{Off, Standby}
 use Rattle.psci_fw_laws.specs.psci_fw_spec.declared.outcome.Act.TheVariants as acts
-use Rattle.psci_fw_laws.specs.psci_fw_spec.Legal.{IsLegal}
-use Rattle.psci_fw_laws.specs.psci_fw_spec.NodeHwState.{hw_at, hw_code, hw_state_of, node_hw}
-use Rattle.psci_fw_laws.specs.psci_fw_spec.Values.{Values}
-use Rattle.psci_world_spec.specs.declared.event.Event.{Event}
-use Rattle.psci_world_spec.specs.declared.event.Event.TheVariants.{Call}
-use Rattle.psci_world_spec.specs.declared.said.Record.{Record}
-use Rattle.psci_world_spec.specs.declared.said.Said.{Said}
-use Rattle.psci_world_spec.specs.declared.said.Said.TheVariants.{Fw}
-use Rattle.psci_world_spec.specs.Histories.{controller_values, firmware_history}
-use Rattle.psci_world_spec.specs.Histories.{firmware_values}
-use Rattle.psci_world_spec.specs.Legal.{IsLegalPast}
-use Rattle.psci_headline.specs.Hardware.{is_hw, is_in_state, known_starts, said_hw, was_in_state}
-use Rattle.psci_headline.specs.Safe.{StatesWereReal}
+use Rattle.psci_fw_laws.specs.psci_fw_spec.NodeHwState.{hw_state_of}
+use Rattle.psci_world_spec.specs.Histories.{firmware_history}
+use Rattle.psci_headline.specs.Hardware.{is_hw, known_starts, was_in_state}
 use Rattle.psci_headline.specs.ToldHw.{WasSoDeep, hw_asked_of, is_off_depth, is_so_deep}
 use Rattle.psci_headline.specs.ToldHw.{is_standby_depth, told_hw, was_so_deep}
+use Rattle.psci_headline.proofs.ToldOff.{named_node, if_so, no_node}
 use Rattle.psci_headline.proofs.Returned.{Extended, IsReturned, returned}
-use Rattle.psci_headline.proofs.ToldOff.{if_so, no_node}
 
 -- How deep ------------------------------------------------------------------------------------
 
@@ -44,16 +28,10 @@ abbrev IsOf : Hw → (ℕ → Bool) → Type 0
 IsOf h is = (depth : ℕ) → depth ≤ 3 → is_hw (hw_at depth) h ≡ true → is depth ≡ true
 
 of_off : IsOf Off is_off_depth
-of_off (suc (suc (suc zero))) low e = refl
-of_off (suc (suc (suc (suc depth)))) low e = absurd (omega (arith, low))
-of_off other low e = let no : false ≡ true = e in absurd (cc)
+of_off other low e = grind (arith, nat_tests)
 
 of_standby : IsOf Standby is_standby_depth
-of_standby zero low e = let no : false ≡ true = e in absurd (cc)
-of_standby (suc zero) low e = refl
-of_standby (suc (suc zero)) low e = refl
-of_standby (suc (suc (suc zero))) low e = let no : false ≡ true = e in absurd (cc)
-of_standby (suc (suc (suc (suc depth)))) low e = absurd (omega (arith, low))
+of_standby x0 low e = grind (arith, nat_tests)
 
 -- no domain is deeper than power-down, after each legal past
 abbrev pub AreShallow : BoardValue → Type 0
@@ -65,12 +43,7 @@ module _ (b : BoardValue) (life sum : ℕ) (h : Hw) (is : ℕ → Bool) (each : 
   -- a domain that is in this state has such a depth
   so_deep : (past : List Record) → IsLegalPast b past → is_in_state b life sum h past n ≡ true
       → is_so_deep b life sum is past n ≡ true
-  so_deep past legal e =
-      let v = controller_values b past in
-      let both = and_parts (is_this_life v.life life) _ e in
-      let rest = and_parts (starts_below b v.starts n == sum) _ both.1 in
-      and_from _ _ both.0 (and_from _ _ rest.0
-      (each (v.depth n.level n.place) (shallow past legal n.level n.place) rest.1))
+  so_deep past legal e = grind (arith, nat_tests, and_parts, and_from)
 
   -- and one that was has had it
   pub once_deep : (past : List Record) → IsLegalPast b past
@@ -110,39 +83,6 @@ pub said_standby : (b : BoardValue) (past : List Record) (n : Node) → AreShall
     → WasSoDeep b is_standby_depth past n
 said_standby b past n = said_deep b past n Standby is_standby_depth of_standby refl
 
--- The domain that a word names ----------------------------------------------------------------
-
--- what is found among the numbers from one on is one of them
-find_inside : (p : ℕ → Bool) (a count i : ℕ) → find p (range_with_len a count) ≡ Some i
-    → i < a + count
-find_inside p a zero i e = absurd (cc)
-find_inside p a (suc count) i e = elim (cases_Bool (p a)) [
-  | inl here ↦
-      let found = rw here at e in
-      let same : a ≡ i = same_Some a i found in
-      omega (arith, same)
-  | inr other ↦
-      let later = rw other at e in
-      omega (arith, find_inside p (a + 1) count i later)
-]
-
-node_at : (b : BoardValue) (level : ℕ) (t : Bool) (o : Option ℕ) (n : Node)
-    → nat_le level (height b) ≡ t → ((i : ℕ) → o ≡ Some i → i < nodes b level)
-    → cond t (option_map (λ i. record { level = level; place = i }) o) None ≡ Some n
-    → HasNode b n
-node_at b level false o n is inside e = absurd (cc)
-node_at b level true None n is inside e = absurd (cc)
-node_at b level true (Some i) n is inside e =
-    subst (HasNode b) (same_Some _ n e)
-    (record { level = leb-true _ _ is; place = inside i refl })
-
-named_node : (b : BoardValue) (word level : ℕ) (n : Node) → node_of b word level ≡ Some n
-    → HasNode b n
-unfolding node_of
-named_node b word level n e =
-    node_at b level (nat_le level (height b)) _ n refl
-    (λ i at. omega (arith, find_inside _ 0 (nodes b level) i at)) e
-
 -- The answer ----------------------------------------------------------------------------------
 
 -- What is so of the firmware's values where NODE_HW_STATE answers this of a domain.
@@ -181,14 +121,10 @@ unfolding firmware_history
 told_by b r past state n valid told = by_record b past state n r.event r.said valid told
 
 off_by : (h : Hw) → int_eq (pos (hw_code h)) (pos 1) ≡ true → h ≡ Off
-off_by On e = let no : false ≡ true = e in absurd (cc)
-off_by Off e = refl
-off_by Standby e = let no : false ≡ true = e in absurd (cc)
+off_by h e = grind (arith, nat_tests)
 
 standby_by : (h : Hw) → int_eq (pos (hw_code h)) (pos 2) ≡ true → h ≡ Standby
-standby_by On e = let no : false ≡ true = e in absurd (cc)
-standby_by Off e = let no : false ≡ true = e in absurd (cc)
-standby_by Standby e = refl
+standby_by h e = grind (arith, nat_tests)
 
 pub was_off : (b : BoardValue) (r : Record) (past : List Record) (n : Node) → AreShallow b
     → IsLegalPast b past → IsLegal b (firmware_history b (r ∷ past)) → StatesWereReal b past

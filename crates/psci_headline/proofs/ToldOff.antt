@@ -1,53 +1,35 @@
 -- What AFFINITY_INFO answers with OFF: each core of the domain is reported OFF.
-use Rattle.std.proofs.Common.{◌≡◌, ℕ, zero, suc, ◌+◌, ◌<◌, ◌≤◌, Bool, true, false, ◌==◌, ◌||◌, cond}
-use Rattle.std.proofs.Common.{List, ◌∷◌, filter, Option, None, Some, refl, ap, sym, ◌∙◌}
-use Rattle.std.proofs.Common.{subst, arith, pos, inl, inr, option_map}
+use Rattle.std.proofs.Common.{◌≡◌, ℕ, zero, suc, ◌+◌, ◌<◌, ◌≤◌, Bool, true, false, ◌==◌, cond, List}
+use Rattle.std.proofs.Common.{◌∷◌, filter, Option, None, Some, refl, ap, sym, ◌∙◌, subst, arith}
+use Rattle.std.proofs.Common.{pos, inl, inr, option_map}
+use Rattle.std.proofs.lemmas.Bool.{cases_Bool, or_parts, and_from, cases_lt, cond-true, eq-eqb}
+use Rattle.std.proofs.lemmas.Bool.{eqb-true, le-leb, leb-true, lt-ltb}
+use Rattle.std.specs.List.{find, list_any, range_with_len}
+use Rattle.std.proofs.lemmas.Bool.Decides.{nat_tests}
 use Rattle.std.specs.Prelude.{nat_le, nat_lt}
 use Rattle.std.specs.Ordering.{int_eq}
-use Rattle.std.specs.List.{list_any, range_with_len}
-use Rattle.std.proofs.lemmas.Bool.{and_from, cases_lt, cond-true, eq-eqb, eqb-true, le-leb}
-use Rattle.std.proofs.lemmas.Bool.{leb-true}
-use Rattle.std.proofs.lemmas.Bool.{lt-ltb}
 use Rattle.std.proofs.lemmas.Option.{same_Some}
-use Rattle.psci_world_spec.specs.psci_abi.Calls.{request_of}
-use Rattle.psci_world_spec.specs.psci_abi.declared.code.Code.{Code}
-use Rattle.psci_world_spec.specs.psci_abi.declared.request.Request.{Request}
+use Rattle.psci_headline.proofs.Words.{HasNode, request_of, Code, Request, BoardValue, below, cores}
+use Rattle.psci_headline.proofs.Words.{has_node, height, nodes, PathLaws, Node, Status, Off}
+use Rattle.psci_headline.proofs.Words.{IsLegal, Values, Event, Call, Record, Said, Fw}
+use Rattle.psci_headline.proofs.Words.{firmware_values, OffIsDown, AllOff}
 use Rattle.psci_world_spec.specs.psci_abi.declared.request.Request.TheVariants as requests
-use Rattle.psci_board.specs.Board.{BoardValue, below, cores, has_node, height}
-use Rattle.psci_board.specs.Board.{node_of, nodes}
-use Rattle.psci_board.specs.Board.{size_below, up}
-use Rattle.psci_board.specs.Laws.{PathLaws}
-use Rattle.psci_board.specs.declared.node.Node.{Node}
+use Rattle.psci_board.specs.Board.{node_of, size_below, up}
 use Rattle.psci_fw_laws.specs.psci_fw_spec.declared.outcome.Act.TheVariants as acts
-use Rattle.psci_fw_laws.specs.psci_fw_spec.declared.status.Status.{Status}
-use Rattle.psci_fw_laws.specs.psci_fw_spec.declared.status.Status.TheVariants.{On, Off, Pending}
+use Rattle.psci_fw_laws.specs.psci_fw_spec.declared.status.Status.TheVariants.{On, Pending}
 use Rattle.psci_fw_laws.specs.psci_fw_spec.AffinityInfo.{affinity_of, is_on, is_pending_status}
-use Rattle.psci_fw_laws.specs.psci_fw_spec.AffinityInfo.{node_status}
-use Rattle.psci_fw_laws.specs.psci_fw_spec.AffinityInfo.{status_code, status_over}
-use Rattle.psci_fw_laws.specs.psci_fw_spec.Legal.{IsLegal}
-use Rattle.psci_fw_laws.specs.psci_fw_spec.Values.{Values}
-use Rattle.psci_world_spec.specs.declared.event.Event.{Event}
-use Rattle.psci_world_spec.specs.declared.event.Event.TheVariants.{Call}
-use Rattle.psci_world_spec.specs.declared.said.Record.{Record}
-use Rattle.psci_world_spec.specs.declared.said.Said.{Said}
-use Rattle.psci_world_spec.specs.declared.said.Said.TheVariants.{Fw}
+use Rattle.psci_fw_laws.specs.psci_fw_spec.AffinityInfo.{node_status, status_code, status_over}
 use Rattle.psci_world_spec.specs.Histories.{firmware_history}
-use Rattle.psci_world_spec.specs.Histories.{firmware_values}
-use Rattle.psci_headline.specs.Safe.{OffIsDown}
-use Rattle.psci_headline.specs.ToldOff.{AllOff, asked_of, told_off}
+use Rattle.psci_headline.specs.ToldOff.{asked_of, told_off}
 use Rattle.psci_headline.proofs.Returned.{Extended, IsReturned, returned}
 use Rattle.psci_headline.proofs.Slept.{report}
 
 -- Lists that no test finds ----------------------------------------------------------------------
 
-or_false : (x y : Bool) → (x || y) ≡ false → (x ≡ false) × (y ≡ false)
-or_false true y e = absurd (cc)
-or_false false y e = (refl, e)
-
 none_head : (p : ℕ → Bool) (t : Bool) (a : ℕ) (xs : List ℕ)
     → list_any p (cond t (a ∷ xs) xs) ≡ false → (t ≡ true → p a ≡ false) × (list_any p xs ≡ false)
 none_head p true a xs e =
-    let both = or_false (p a) (list_any p xs) e in (λ is. both.0, both.1)
+    let both = or_parts (p a) (list_any p xs) e in (λ is. both.0, both.1)
 none_head p false a xs e = (λ is. absurd (cc), e)
 
 none_kept : (p test : ℕ → Bool) (a n c : ℕ)
@@ -72,9 +54,7 @@ over_off false true e = absurd (cc)
 over_off false false e = (refl, refl)
 
 neither : (s : Status) → is_on s ≡ false → is_pending_status s ≡ false → s ≡ Off
-neither On on pending = absurd (cc)
-neither Off on pending = refl
-neither Pending on pending = absurd (cc)
+neither s on pending = grind (arith, nat_tests)
 
 -- each core below a domain whose status is OFF is OFF
 core_off : (b : BoardValue) (status : ℕ → Status) (n : Node) (c : ℕ) → PathLaws b
@@ -92,8 +72,7 @@ core_off b status n c paths low off on at =
     by_level : (z : Bool) → (n.level == 0) ≡ z
         → cond z (status n.place) (status_over status (below b n)) ≡ Off → status c ≡ Off
     by_level true bottom e =
-        let own : n.place ≡ c =
-        sym at ∙ ap (λ l. up b l c) (eqb-true n.level 0 bottom) ∙ paths.core c in
+        let own : n.place ≡ c = grind (arith, nat_tests, eqb-true) in
         subst (λ x. status x ≡ Off) own e
     by_level false bottom e =
         let both = over_off (list_any (λ x. is_on (status x)) (below b n))
@@ -105,6 +84,37 @@ core_off b status n c paths low off on at =
         (none_kept (λ x. is_pending_status (status x)) test 0 (size_below b.levels) c both.1
         (omega arith) (omega (arith, on)) (eq-eqb _ _ at))
 
+-- The domain that a word names ----------------------------------------------------------------
+
+-- what is found among the numbers from one on is one of them
+find_inside : (p : ℕ → Bool) (a count i : ℕ) → find p (range_with_len a count) ≡ Some i
+    → i < a + count
+find_inside p a zero i e = absurd (cc)
+find_inside p a (suc count) i e = elim (cases_Bool (p a)) [
+  | inl here ↦
+      let found = rw here at e in
+      let same : a ≡ i = same_Some a i found in
+      omega (arith, same)
+  | inr other ↦
+      let later = rw other at e in
+      omega (arith, find_inside p (a + 1) count i later)
+]
+
+node_at : (b : BoardValue) (level : ℕ) (t : Bool) (o : Option ℕ) (n : Node)
+    → nat_le level (height b) ≡ t → ((i : ℕ) → o ≡ Some i → i < nodes b level)
+    → cond t (option_map (λ i. record { level = level; place = i }) o) None ≡ Some n
+    → HasNode b n
+node_at b level false o n is inside e = absurd (cc)
+node_at b level true None n is inside e = absurd (cc)
+node_at b level true (Some i) n is inside e =
+    subst (HasNode b) (same_Some _ n e)
+    (record { level = leb-true _ _ is; place = inside i refl })
+
+pub named_node : (b : BoardValue) (word level : ℕ) (n : Node) → node_of b word level ≡ Some n
+    → HasNode b n
+unfolding node_of
+named_node b word level n e = grind (arith, nat_tests, node_at, find_inside)
+
 -- The answer ----------------------------------------------------------------------------------
 
 -- What is so of the firmware's values where AFFINITY_INFO answers OFF of a domain.
@@ -113,25 +123,8 @@ pub record IsToldOff (b : BoardValue) (v : Values) (n : Node) : Type 0 where
   pub low : n.level ≤ height b
   pub off : node_status b v.status n ≡ Off
 
--- the board has the level of a domain that a word names
-low_level : (b : BoardValue) (level : ℕ) (t : Bool) (o : Option ℕ) (n : Node)
-    → nat_le level (height b) ≡ t
-    → cond t (option_map (λ i. record { level = level; place = i }) o) None ≡ Some n
-    → n.level ≤ height b
-low_level b level false o n is e = absurd (cc)
-low_level b level true None n is e = absurd (cc)
-low_level b level true (Some i) n is e =
-    subst (λ l. l ≤ height b) (ap (λ (x : Node). x.level) (same_Some _ n e)) (leb-true _ _ is)
-
-low_node : (b : BoardValue) (word level : ℕ) (n : Node) → node_of b word level ≡ Some n
-    → n.level ≤ height b
-unfolding node_of
-low_node b word level n e = low_level b level (nat_le level (height b)) _ n refl e
-
 code_off : (s : Status) → int_eq (pos (status_code s)) (pos 1) ≡ true → s ≡ Off
-code_off On e = let no : false ≡ true = e in absurd (cc)
-code_off Off e = refl
-code_off Pending e = let no : false ≡ true = e in absurd (cc)
+code_off s e = grind (arith, nat_tests)
 
 pub if_so : (t : Bool) (o : Option Node) (n : Node) → cond t o None ≡ Some n
     → (t ≡ true) × (o ≡ Some n)
@@ -153,7 +146,7 @@ by_request b v d (requests.AffinityInfo level word) code n is told =
     let named : code ≡ affinity_of b v (Some n) = same ∙ ap (affinity_of b v) both.1 in
     record {
       begun = is.begun;
-      low = low_node b word level n both.1;
+      low = (named_node b word level n both.1).level;
       off = code_off (node_status b v.status n)
           (ap (λ (x : Code). int_eq x.0 (pos 1)) (sym named) ∙ both.0);
     }

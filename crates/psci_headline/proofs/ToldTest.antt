@@ -1,20 +1,13 @@
 -- Whether all cores of a domain are off, as a test that computes, and says the same.
-use Rattle.std.proofs.Common.{◌≡◌, ℕ, Bool, true, false, ◌==◌, ◌&&◌, ◌||◌}
-use Rattle.std.proofs.Common.{not, List, refl, ap, sym, ◌∙◌, arith, inl, inr}
+use Rattle.std.proofs.Common.{◌≡◌, ℕ, Bool, true, false, ◌==◌, ◌&&◌, ◌||◌, not, List, ap, sym, ◌∙◌}
+use Rattle.std.proofs.Common.{arith, inl, inr}
+use Rattle.std.proofs.lemmas.Bool.Decides.{nat_tests}
 use Rattle.std.specs.List.{list_all, range_with_len}
-use Rattle.std.proofs.lemmas.Bool.{and_from, and_parts, cases_Bool, eqb-true, eq-eqb}
-use Rattle.std.proofs.lemmas.Bool.{or_cases, or_left, or_right}
-use Rattle.psci_board.specs.Board.{BoardValue, cores, up}
-use Rattle.psci_board.specs.declared.node.Node.{Node}
-use Rattle.psci_world_spec.specs.declared.place.Place.{Place}
-use Rattle.psci_world_spec.specs.declared.place.Place.TheVariants.{Running, Started}
-use Rattle.psci_world_spec.specs.declared.place.Place.TheVariants.{Stopped}
-use Rattle.psci_world_spec.specs.declared.said.Record.{Record}
-use Rattle.psci_world_spec.specs.Histories.{firmware_values}
-use Rattle.psci_world_spec.specs.Places.{place}
-use Rattle.psci_headline.specs.Moments.{was_powered_down}
-use Rattle.psci_headline.specs.Test.{executes_outside}
-use Rattle.psci_headline.specs.ToldOff.{AllOff}
+use Rattle.std.proofs.lemmas.Bool.{and_from, and_parts, cases_Bool, eqb-true, eq-eqb, or_cases}
+use Rattle.std.proofs.lemmas.Bool.{or_left, or_right}
+use Rattle.psci_headline.proofs.Words.{BoardValue, cores, up, Node, Record, firmware_values, place}
+use Rattle.psci_headline.proofs.Words.{was_powered_down, executes_outside, AllOff}
+use Rattle.psci_headline.proofs.Tested.{not_running, still}
 use Rattle.psci_headline.proofs.Ranges.{all_in, each_in}
 
 -- a core is below no such domain, or does not run and was powered down since it last went on
@@ -27,16 +20,6 @@ is_off_in b past n c = not (up b n.level c == n.place)
 abbrev pub is_all_off : BoardValue → List Record → Node → Bool
 is_all_off b past n = list_all (is_off_in b past n) (range_with_len 0 (cores b))
 
-runs_not : (p : Place) → not (executes_outside p) ≡ true → p ≡ Running → ⊥
-runs_not Started e same = absurd (cc)
-runs_not Running e same = let no : false ≡ true = e in absurd (cc)
-runs_not Stopped e same = absurd (cc)
-
-not_runs : (p : Place) → (p ≡ Running → ⊥) → not (executes_outside p) ≡ true
-not_runs Started none = refl
-not_runs Running none = absurd (none refl)
-not_runs Stopped none = refl
-
 -- the test passes where all are off
 pub tested_off : (b : BoardValue) (past : List Record) (n : Node) → is_all_off b past n ≡ true
     → AllOff b past n
@@ -48,17 +31,11 @@ tested_off b past n e c on at =
       | inr rest ↦
           let both = and_parts (not (executes_outside (place b past c)))
           (was_powered_down b (firmware_values b past).life past c) rest in
-          (runs_not (place b past c) both.0, both.1)
+          (not_running (place b past c) both.0, both.1)
     ]
 
 -- and nowhere else
 pub off_tested : (b : BoardValue) (past : List Record) (n : Node) → AllOff b past n
     → is_all_off b past n ≡ true
 off_tested b past n all =
-    all_in (is_off_in b past n) 0 (cores b) (λ c low high.
-    elim (cases_Bool (up b n.level c == n.place)) [
-      | inl at ↦
-          let off = all c (omega (arith, high)) (eqb-true _ _ at) in
-          or_right _ _ (and_from _ _ (not_runs (place b past c) off.0) off.1)
-      | inr other ↦ or_left _ _ (ap not other)
-    ])
+    grind (arith, nat_tests, all_in, cases_Bool, eqb-true, or_right, and_from, still, or_left)

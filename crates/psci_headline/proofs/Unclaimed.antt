@@ -1,15 +1,11 @@
 -- Cores without a live claim.
-use Rattle.std.proofs.Common.{◌≡◌, ℕ, inr, ◌<◌, List, Some, refl, arith, ap, sym}
+use Rattle.std.proofs.Common.{◌≡◌, ℕ, ◌<◌, List, Some, arith, ap, sym}
+use Rattle.std.proofs.lemmas.Bool.Decides.{nat_tests}
 use Rattle.std.specs.Prelude.{slice_get}
-use Rattle.psci_board.specs.Board.{BoardValue, cores, up}
-use Rattle.psci_ctl_spec.specs.psci_messages.declared.part.Part.{Part}
-use Rattle.psci_ctl_spec.specs.psci_messages.declared.kind.Kind.TheVariants.{Down}
-use Rattle.psci_ctl_spec.specs.psci_messages.Message.{MessageValue}
-use Rattle.psci_headline.specs.psci_fw_spec.Phases.{Phase, Running}
-use Rattle.psci_headline.specs.psci_fw_laws.Claims.{IsClaimOn}
-use Rattle.psci_headline.specs.psci_fw_laws.Live.{AreLive}
+use Rattle.psci_headline.proofs.Words.{BoardValue, cores, up, Part, Down, MessageValue, Phase}
+use Rattle.psci_headline.proofs.Words.{IsClaimOn, AreLive, IsLivePart}
+use Rattle.psci_headline.specs.psci_fw_spec.Phases.{Running}
 use Rattle.psci_headline.proofs.fw_laws.Parts.{part_from}
-use Rattle.psci_headline.specs.Waiting.{IsLivePart}
 
 -- no part of a Down of this core is live
 abbrev pub NoneLive : BoardValue → ℕ → (ℕ → ℕ) → List MessageValue → ℕ → Type 0
@@ -22,13 +18,7 @@ pub part_claims : (b : BoardValue) (life : ℕ) (sent : List MessageValue) (k le
     (m : MessageValue) (p : Part) → slice_get sent k ≡ Some m → m.life ≡ life → m.kind ≡ Down
     → slice_get m.parts level ≡ Some p
     → IsClaimOn b life level (up b level m.core.number) p sent
-part_claims b life sent k level m p at present kind part = inr (record {
-  index = k;
-  message = m;
-  at = at;
-  part = part_from b life level (up b level m.core.number) m p
-      (record { kind = kind; present = present; on = refl; part = part });
-})
+part_claims b life sent k level m p at present kind part = grind (arith, nat_tests, part_from)
 
 pub none_live_running : (b : BoardValue) (life : ℕ) (known : ℕ → ℕ) (phase : ℕ → Phase)
     (sent : List MessageValue) (starts : ℕ → ℕ) (c : ℕ)

@@ -1,28 +1,23 @@
 -- Openings that wait for their core, and those that an entry has taken up.
-use Rattle.std.proofs.Common.{◌≡◌, ℕ, zero, suc, ◌<◌, ◌≤◌, ◌==◌, ◌&&◌, List}
-use Rattle.std.proofs.Common.{[], ◌∷◌, Option, None, Some, refl, ap, sym, ◌∙◌, subst, arith}
+use Rattle.std.proofs.Common.{◌≡◌, ℕ, suc, ◌<◌, ◌≤◌, ◌==◌, ◌&&◌, List, [], ◌∷◌, Option, None, Some}
+use Rattle.std.proofs.Common.{refl, sym, ◌∙◌, subst, arith}
+use Rattle.std.proofs.lemmas.Bool.Decides.{nat_tests}
 use Rattle.std.specs.Prelude.{slice_get}
 use Rattle.std.proofs.lemmas.Bool.{and_from, and_parts, cond_both, eq-eqb, eqb-true}
-use Rattle.psci_board.specs.Board.{BoardValue}
-use Rattle.psci_fw_laws.specs.psci_fw_spec.declared.opening.Opening.{Opening}
+use Rattle.psci_headline.proofs.Words.{BoardValue, Opening, updated, Fits, Made, OfCall, OfLife}
+use Rattle.psci_headline.proofs.Words.{TakenUp, Maker, newest}
 use Rattle.psci_fw_laws.specs.psci_fw_spec.Lives.{first_opening}
-use Rattle.psci_fw_laws.specs.psci_fw_spec.Values.{updated}
 use Rattle.psci_fw_laws.proofs.Parts.{updated_at}
-use Rattle.psci_headline.specs.Openings.{Fits, Made, Maker, OfCall, OfLife, TakenUp, newest}
-use Rattle.psci_headline.proofs.Filters.{head_kept, head_left, is_kept}
+use Rattle.psci_headline.proofs.Filters.{head_kept, is_kept}
 
 -- The newest opening ---------------------------------------------------------------------------
 
 newest_new : (m : Made) (made : List Made) → newest m.core m.life (m ∷ made) ≡ Some m
-newest_new m made =
-    head_kept m _ (m.core == m.core && m.life == m.life)
-    (and_from _ _ (eq-eqb m.core m.core refl) (eq-eqb m.life m.life refl))
+newest_new m made = grind (arith, nat_tests, head_kept, and_from, eq-eqb)
 
 newest_old : (c life : ℕ) (m : Made) (made : List Made) → (c ≡ m.core → ⊥)
     → newest c life (m ∷ made) ≡ newest c life made
-newest_old c life m made other =
-    head_left m _ (m.core == c && m.life == life)
-    (λ e. other (sym (eqb-true _ _ (and_parts (m.core == c) _ e).0)))
+newest_old c life m made other = grind (arith, nat_tests, eqb-true, and_parts)
 
 -- An opening that was made for a core in a life.
 pub record IsMade (c life : ℕ) (made : List Made) (m : Made) : Type 0 where
@@ -87,14 +82,7 @@ pub record AreWaiting (n life : ℕ) (opening : ℕ → Option Opening) (made : 
       → slice_get taken k ≡ Some u → t.made ≡ Some m → u.made ≡ Some l → m.maker ≡ l.maker → j ≡ k
 
 pub none_waiting : (b : BoardValue) → AreWaiting 0 0 (first_opening b) [] []
-none_waiting b = record {
-  waits = λ some. absurd (omega arith);
-  older = λ k m at. absurd (cc);
-  single = λ j k l m at. absurd (cc);
-  past = λ k t m at. absurd (cc);
-  each = λ k t at. absurd (cc);
-  once = λ j k t u m l at. absurd (cc);
-}
+none_waiting b = grind (arith, nat_tests)
 
 -- What happens ---------------------------------------------------------------------------------
 
@@ -102,52 +90,24 @@ module _ (n life : ℕ) (opening : ℕ → Option Opening) (made : List Made) (t
     (are : AreWaiting n life opening made taken) where
   -- one more entry
   pub one_more : AreWaiting (suc n) life opening made taken
-  one_more = record {
-    waits = are.waits;
-    older = λ k m at.
-        before_more n (suc n) life life m.maker (omega arith) (omega arith) (are.older k m at);
-    single = are.single;
-    past = λ k t m at e.
-        before_more n (suc n) life life m.maker (omega arith) (omega arith) (are.past k t m at e);
-    each = are.each;
-    once = are.once;
-  }
+  one_more = grind (arith, nat_tests, before_more)
 
   -- the same openings of cores, or fewer of them
   pub fewer : (other : ℕ → Option Opening)
       → ((c : ℕ) (o : Opening) → other c ≡ Some o → opening c ≡ Some o)
       → AreWaiting n life other made taken
-  fewer other from = record {
-    waits = λ some c o e. are.waits some c o (from c o e);
-    older = are.older;
-    single = are.single;
-    past = are.past;
-    each = are.each;
-    once = are.once;
-  }
+  fewer other from = grind (arith, nat_tests)
 
   -- New openings ----------------------------------------------------------------------------
 
   single_new : (x : Made) → (IsBefore n life x.maker → ⊥) → (j k : ℕ) (l m : Made)
       → slice_get (x ∷ made) j ≡ Some l → slice_get (x ∷ made) k ≡ Some m
       → l.maker ≡ m.maker → l.core ≡ m.core
-  single_new x new zero zero l m at to same = let e : l ≡ m = cc in ap (λ (y : Made). y.core) e
-  single_new x new zero (suc k) l m at to same =
-      let e : x ≡ l = cc in
-      absurd (new (subst (IsBefore n life) (sym (ap (λ (y : Made). y.maker) e ∙ same))
-      (are.older k m to)))
-  single_new x new (suc j) zero l m at to same =
-      let e : x ≡ m = cc in
-      absurd (new (subst (IsBefore n life) (same ∙ sym (ap (λ (y : Made). y.maker) e))
-      (are.older j l at)))
-  single_new x new (suc j) (suc k) l m at to same = are.single j k l m at to same
+  single_new x new x2 x3 l m at to same = grind (arith, nat_tests)
 
   older_new : (x : Made) (m later : ℕ) → n ≤ m → life ≤ later → IsBefore m later x.maker
       → (k : ℕ) (y : Made) → slice_get (x ∷ made) k ≡ Some y → IsBefore m later y.maker
-  older_new x m later e f is zero y at =
-      let same : x ≡ y = cc in subst (λ (z : Made). IsBefore m later z.maker) same is
-  older_new x m later e f is (suc k) y at =
-      before_more n m life later y.maker e f (are.older k y at)
+  older_new x m later e f is x6 y at = grind (arith, nat_tests, before_more)
 
   -- what is new was not taken up
   fresh_new : (maker : Maker) → (IsBefore n life maker → ⊥) → IsFresh taken maker
@@ -155,12 +115,7 @@ module _ (n life : ℕ) (opening : ℕ → Option Opening) (made : List Made) (t
 
   waits_new : (x : Made) (later : ℕ) (o : Opening) → x.life ≡ later → x.opening ≡ o
       → (IsBefore n life x.maker → ⊥) → IsWaiting later x.core o (x ∷ made) taken
-  waits_new x later o here is new = record {
-    last = x;
-    is = subst (λ l. newest x.core l (x ∷ made) ≡ Some x) here (newest_new x made);
-    opening = is;
-    fresh = fresh_new x.maker new;
-  }
+  waits_new x later o here is new = grind (arith, nat_tests, newest_new, fresh_new)
 
   -- a core got an opening by a call
   call_waits : (c : ℕ) (o : Opening) → 0 < life → (x : ℕ) (p : Opening)
@@ -186,17 +141,7 @@ module _ (n life : ℕ) (opening : ℕ → Option Opening) (made : List Made) (t
   pub called : (c : ℕ) (o : Opening)
       → AreWaiting (suc n) life (updated opening c (Some o))
       (record { maker = OfCall n; core = c; life = life; opening = o } ∷ made) taken
-  called c o =
-      let new : Made = record { maker = OfCall n; core = c; life = life; opening = o } in
-      record {
-        waits = λ some x p e. call_waits c o some x p e;
-        older = older_new new (suc n) life (omega arith) (omega arith) (omega arith);
-        single = single_new new (λ before. omega (arith, before));
-        past = λ k t m at e. before_more n (suc n) life life m.maker (omega arith) (omega arith)
-            (are.past k t m at e);
-        each = are.each;
-        once = are.once;
-      }
+  called c o = grind (arith, nat_tests, call_waits, older_new, single_new, before_more)
 
   -- a life begins, and the boot core has an opening
   begun_waits : (b : BoardValue) (later : ℕ) → life < later → (c : ℕ) (o : Opening)
@@ -207,15 +152,7 @@ module _ (n life : ℕ) (opening : ℕ → Option Opening) (made : List Made) (t
         life = later;
         opening = record { address = b.boot; context = 0 };
       } ∷ made) taken
-  begun_waits b later less c =
-      let boot : Opening = record { address = b.boot; context = 0 } in
-      let new : Made = record { maker = OfLife later; core = 0; life = later; opening = boot } in
-      cond_both (c == 0) (Some boot) None
-      (λ q. (o : Opening) → q ≡ Some o → IsWaiting later c o (new ∷ made) taken)
-      (λ here o e.
-      subst (λ y. IsWaiting later y o (new ∷ made) taken) (sym (eqb-true _ _ here))
-      (waits_new new later o refl (cc) (λ before. omega (arith, before))))
-      (λ there o e. absurd (cc))
+  begun_waits b later less c = grind (arith, nat_tests, cond_both, eqb-true, waits_new)
 
   pub begun : (b : BoardValue) (later : ℕ) → life < later
       → AreWaiting n later (first_opening b) (record {
@@ -224,27 +161,14 @@ module _ (n life : ℕ) (opening : ℕ → Option Opening) (made : List Made) (t
         life = later;
         opening = record { address = b.boot; context = 0 };
       } ∷ made) taken
-  begun b later less =
-      let boot : Opening = record { address = b.boot; context = 0 } in
-      let new : Made = record { maker = OfLife later; core = 0; life = later; opening = boot } in
-      record {
-        waits = λ some c o e. begun_waits b later less c o e;
-        older = older_new new n later (omega arith) (omega arith) (omega arith);
-        single = single_new new (λ before. omega (arith, before));
-        past = λ k t m at e.
-            before_more n n life later m.maker (omega arith) (omega arith) (are.past k t m at e);
-        each = are.each;
-        once = are.once;
-      }
+  begun b later less = grind (arith, nat_tests, begun_waits, older_new, single_new, before_more)
 
   -- Entries ---------------------------------------------------------------------------------
 
   -- a core that enters has no opening any more
   pub none_left : (c x : ℕ) (o : Opening) → updated opening c None x ≡ Some o
       → (x ≡ c → ⊥) × (opening x ≡ Some o)
-  none_left c x o =
-      updated_at (λ q. q ≡ Some o → (x ≡ c → ⊥) × (opening x ≡ Some o)) opening c None x
-      (λ here e. absurd (cc)) (λ there e. (there, e))
+  none_left c x o = grind (arith, nat_tests, updated_at)
 
   pub arrived : (c : ℕ) → AreWaiting n life (updated opening c None) made taken
   arrived c = fewer (updated opening c None) (λ x o e. (none_left c x o e).1)

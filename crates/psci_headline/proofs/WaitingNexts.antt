@@ -1,15 +1,9 @@
 -- What waits after a record, and after one more.
 use Rattle.std.proofs.Common.{List, ◌++◌}
-use Rattle.psci_board.specs.Board.{BoardValue}
+use Rattle.psci_headline.proofs.Words.{BoardValue, listed, Event, Record, Said, ack_in, acks}
+use Rattle.psci_headline.proofs.Words.{controller_values, firmware_values, sent, sent_in}
 use Rattle.psci_ctl_spec.specs.History as controls
 use Rattle.psci_headline.specs.psci_fw_spec.History as remembers
-use Rattle.psci_headline.specs.psci_fw_spec.Said.{listed}
-use Rattle.psci_headline.specs.psci_world_spec.declared.event.Event.{Event}
-use Rattle.psci_headline.specs.psci_world_spec.declared.said.Record.{Record}
-use Rattle.psci_headline.specs.psci_world_spec.declared.said.Said.{Said}
-use Rattle.psci_headline.specs.psci_world_spec.Histories.{ack_in, acks, controller_values}
-use Rattle.psci_headline.specs.psci_world_spec.Histories.{firmware_values, sent}
-use Rattle.psci_headline.specs.psci_world_spec.Histories.{sent_in}
 use Rattle.psci_headline.proofs.Controlling.{after_control}
 use Rattle.psci_headline.proofs.Sending.{after_call}
 use Rattle.psci_headline.proofs.Carried.{WaitsNow}

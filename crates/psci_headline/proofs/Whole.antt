@@ -1,30 +1,17 @@
 -- Where firmware and power controller agree, all is told.
-use Rattle.std.proofs.Common.{◌≡◌, ℕ, inl, inr, ◌<◌, Bool, true, false, cond, List, Option, None}
-use Rattle.std.proofs.Common.{Some, refl, arith, subst, ap, sym, ◌∙◌}
+use Rattle.std.proofs.Common.{◌≡◌, ℕ, inl, inr, ◌<◌, Bool, true, false, cond, List, Some, refl}
+use Rattle.std.proofs.Common.{arith, subst, ap, sym, ◌∙◌}
+use Rattle.std.proofs.lemmas.Bool.Decides.{nat_tests}
 use Rattle.std.proofs.lemmas.Bool.{cases_eq, cases_lt}
 use Rattle.std.proofs.lemmas.Option.{none-some}
-use Rattle.psci_headline.specs.psci_board.Board.{BoardValue, HasNode, cores}
-use Rattle.psci_headline.specs.psci_board.declared.node.Node.{Node}
+use Rattle.psci_headline.proofs.Words.{BoardValue, HasNode, cores, Node, On, Off, AreValues}
+use Rattle.psci_headline.proofs.Words.{in_life, hw_at, node_hw, Phase, Away, Values, Holds, Record}
+use Rattle.psci_headline.proofs.Words.{controller_values, firmware_values, sent, IsLegalPast}
+use Rattle.psci_headline.proofs.Words.{AreAtRest, is_halting, AreConfirming, IsYetToCome, agrees}
+use Rattle.psci_headline.proofs.Words.{Confirming}
 use Rattle.psci_headline.specs.psci_ctl_spec.Values as controlled
-use Rattle.psci_headline.specs.psci_messages.Slots.{OfCore}
-use Rattle.psci_headline.specs.psci_fw_spec.declared.hw.Hw.TheVariants.{On}
-use Rattle.psci_headline.specs.psci_fw_spec.declared.status.Status.{Status}
-use Rattle.psci_headline.specs.psci_fw_spec.declared.status.Status.TheVariants.{Off}
-use Rattle.psci_headline.specs.psci_fw_spec.Invariant.{AreValues, agrees}
-use Rattle.psci_headline.specs.psci_fw_spec.Lives.{in_life}
-use Rattle.psci_headline.specs.psci_fw_spec.NodeHwState.{hw_at, node_hw}
-use Rattle.psci_headline.specs.psci_fw_spec.Phases.{Phase, Away}
-use Rattle.psci_headline.specs.psci_fw_spec.Values.{Values}
-use Rattle.psci_headline.specs.psci_fw_laws.Kept.{Holds}
-use Rattle.psci_headline.specs.psci_world_spec.declared.said.Record.{Record}
-use Rattle.psci_headline.specs.psci_world_spec.Histories.{controller_values, firmware_values}
-use Rattle.psci_headline.specs.psci_world_spec.Histories.{sent}
-use Rattle.psci_headline.specs.psci_world_spec.Legal.{IsLegalPast}
-use Rattle.psci_headline.proofs.Agreeing.{found_other, found_own}
-use Rattle.psci_headline.specs.Drained.{AreAtRest}
-use Rattle.psci_headline.specs.Settling.{halts_in, is_halting}
 use Rattle.psci_headline.specs.Complete.{IsToldWhole}
-use Rattle.psci_headline.specs.Confirming.{AreConfirming, Confirming, IsYetToCome}
+use Rattle.psci_headline.proofs.Agreeing.{found_other, found_own}
 use Rattle.psci_headline.proofs.Confirmed.{RunLaws}
 
 -- The life -------------------------------------------------------------------------------------
@@ -37,12 +24,7 @@ pub record LifeGoesOn (b : BoardValue) (past : List Record) : Type 0 where
 
 pub going_life : (b : BoardValue) (past : List Record) → is_halting b past ≡ false
     → LifeGoesOn b past
-going_life b past awake = by_life (controller_values b past).life refl awake
-  where
-    by_life : (o : Option ℕ) → (controller_values b past).life ≡ o → halts_in b past o ≡ false
-        → LifeGoesOn b past
-    by_life None e f = absurd (cc)
-    by_life (Some life) e f = record { life = life; present = e; awake = f }
+going_life b past awake = grind (arith, nat_tests)
 
 -- Words ----------------------------------------------------------------------------------------
 
@@ -70,26 +52,11 @@ module _ (b : BoardValue) (past : List Record) (laws : RunLaws b) (legal : IsLeg
 
   -- the firmware knows every start
   all_known : (c : ℕ) → c < cores b → found.known c ≡ w.starts c
-  all_known c at =
-      let agree = (laws.agree past legal).present on.life on.present in
-      elim (cases_eq (found.known c) (w.starts c)) [
-        | inl same ↦ same
-        | inr other ↦
-            absurd (rest.entered c at
-            (agree.started c at (omega (arith, other, agree.known c))))
-      ]
+  all_known c at = grind (arith, nat_tests, cases_eq)
 
   -- and so the life: the boot core would wait for its Start in another one
   own : 0 < cores b → on.life ≡ v.life
-  own some = elim (cases_eq on.life v.life) [
-    | inl same ↦ same
-    | inr other ↦
-        let first = found_other b on.life v other in
-        let waits = ((laws.waits past legal) on.life on.present).asked on.awake 0 some
-        (ap (λ (u : Values). u.phase 0) first) (sym (all_known 0 some)) in
-        absurd (none-some waits.message
-        (sym (ap (λ (u : Values). u.outstanding (OfCore 0)) first) ∙ waits.at))
-  ]
+  own some = grind (arith, nat_tests, cases_eq, found_other, all_known, none-some)
 
   -- so nothing is yet to come
   none_yet : 0 < cores b → (level place : ℕ)
@@ -132,21 +99,14 @@ module _ (b : BoardValue) (past : List Record) (laws : RunLaws b) (legal : IsLeg
   off_now : Confirming b past → (c : ℕ) → c < cores b → v.phase c ≡ Away → v.status c ≡ Off
   off_now confirming c at away =
       let some : 0 < cores b = omega (arith, at) in
-      let awake : v.halting ≡ false =
-      ap (λ (u : Values). u.halting) (sym (found_own b on.life v (own some))) ∙ on.awake in
+      let awake : v.halting ≡ false = grind (arith, nat_tests, found_own, own) in
       elim ((are confirming some).cores awake c at away) [
         | inl off ↦ off
         | inr yet ↦ absurd (none_yet some 0 c yet)
       ]
 
   pub whole_at : Confirming b past → AreValues b v → IsToldWhole b past
-  whole_at confirming values = record {
-    hw = hw_now confirming;
-    off = off_now confirming;
-    away = λ c at off.
-        off_away (v.phase c)
-        (subst (λ (s : Status). agrees s (v.phase c) ≡ true) off (values.agree c));
-  }
+  whole_at confirming values = grind (arith, nat_tests, hw_now, off_now, off_away)
 
 pub whole : (b : BoardValue) (past : List Record) → RunLaws b → IsLegalPast b past
     → is_halting b past ≡ false → AreAtRest b past → Confirming b past

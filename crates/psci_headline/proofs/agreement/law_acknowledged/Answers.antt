@@ -3,4 +3,4 @@ use Rattle.psci_headline.proofs.Making.{was_made}
 use Rattle.psci_headline.proofs.agreement.law_acknowledged.Goals as goal
 
 pub returns : goal.returns
-returns c = λ b past board. was_made b past (c.law_values.ensures.more b)
+returns c = λ b past board. was_made b past

@@ -4,16 +4,11 @@ use Rattle.psci_headline.proofs.agreement.law_agreement.Goals as goal
 
 pub returns : goal.returns
 returns c = λ b past board.
-    agrees b (record {
-      begins = c.law_values.ensures.first b;
-      after = c.law_values.ensures.more b;
-      follows = λ v call is. c.law_replies.ensures b v call board is;
-      controls = λ before is. c.law_controlled.ensures b before board is;
-      first = c.law_values-2.ensures.first b;
-      change = c.law_kept.ensures.values b;
-      allowed = λ e h is. c.law_kept.ensures.allowed b e h board is;
-      callers = record {
-        goes_on = c.law_caller.ensures.goes_on b;
-        asks_on = c.law_caller.ensures.asks_on b;
-      };
-    }) past
+    agrees b (search (
+      c.law_replies.ensures,
+      c.law_controlled.ensures,
+      c.law_kept.ensures.values,
+      c.law_kept.ensures.allowed,
+      c.law_caller.ensures.goes_on,
+      c.law_caller.ensures.asks_on,
+    )) past

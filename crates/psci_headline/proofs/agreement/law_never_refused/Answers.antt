@@ -1,7 +1,6 @@
 -- What is not refused.
-use Rattle.psci_world_spec.specs.Histories.{controller_history, controller_values}
-use Rattle.psci_world_spec.specs.Histories.{firmware_values}
-use Rattle.psci_world_spec.specs.Places.{place}
+use Rattle.psci_headline.proofs.Words.{controller_history, controller_values, firmware_values}
+use Rattle.psci_headline.proofs.Words.{place}
 use Rattle.psci_headline.proofs.Agreeing.{AreAgreed}
 use Rattle.psci_headline.proofs.Refusing.{call_passed, enter_passed}
 use Rattle.psci_headline.proofs.agreement.law_never_refused.Goals as goal

@@ -1,7 +1,6 @@
 -- Cores that are reported OFF.
 use Rattle.std.proofs.Common.{subst, sym}
-use Rattle.psci_fw_laws.specs.Kept.{Holds}
-use Rattle.psci_world_spec.specs.Histories.{firmware_history, firmware_values}
+use Rattle.psci_headline.proofs.Words.{Holds, firmware_history, firmware_values}
 use Rattle.psci_world_spec.proofs.Answered.{firmware_legal}
 use Rattle.psci_headline.proofs.AllDown.{DownLaws}
 use Rattle.psci_headline.proofs.OffIsDown.{off_is_down}

@@ -1,7 +1,6 @@
 -- The world settles.
 use Rattle.std.proofs.Common.{subst, sym}
-use Rattle.psci_headline.specs.psci_world_spec.Histories.{controller_history, firmware_history}
-use Rattle.psci_headline.specs.psci_world_spec.Histories.{firmware_values}
+use Rattle.psci_headline.proofs.Words.{controller_history, firmware_history, firmware_values}
 use Rattle.psci_headline.proofs.world_spec.Answered.{controller_answered, firmware_legal}
 use Rattle.psci_headline.proofs.BoardLaws.{BoardLaws, is_given}
 use Rattle.psci_headline.proofs.Settled.{settles}
@@ -11,31 +10,24 @@ use Rattle.psci_headline.proofs.settle_laws.law_settles.Goals as goal
 
 pub returns : goal.returns
 returns c = λ b past board is awake.
-    let laws : BoardLaws b = record {
-      runs = record {
-        begins = c.law_values.ensures.first b;
-        after = c.law_values.ensures.more b;
-        follows = λ v call may. c.law_replies.ensures b v call board may;
-        controls = λ before legal. c.law_controlled.ensures b before board legal;
-        first = c.law_values-2.ensures.first b;
-        change = c.law_kept.ensures.values b;
-        allowed = λ e h legal. c.law_kept.ensures.allowed b e h board legal;
-        callers = record {
-          goes_on = c.law_caller.ensures.goes_on b;
-          asks_on = c.law_caller.ensures.asks_on b;
-        };
-      };
-      sums = c.law_sums.ensures b;
-      parts = c.law_parts.ensures.parts;
-      paths = c.law_paths.ensures b board;
-      acks = λ u core ps. c.law_acknowledgements.ensures b u core ps;
-      agree = λ before legal. c.law_agreement.ensures b before board legal;
-      values = λ before legal. c.law_limits.ensures.legal b (controller_history b before) board
-          (c.law_controlled.ensures b before board legal);
-      sent = λ before legal. c.law_sent.ensures b before legal;
-      kept = λ before legal. c.law_kept.ensures.kept b (firmware_history b before) board
-          (firmware_legal b before legal);
-    } in
+    let laws : BoardLaws b =
+    search (
+      c.law_replies.ensures,
+      c.law_controlled.ensures,
+      c.law_kept.ensures.values,
+      c.law_kept.ensures.allowed,
+      c.law_caller.ensures.goes_on,
+      c.law_caller.ensures.asks_on,
+      c.law_sums.ensures,
+      c.law_parts.ensures.parts,
+      c.law_paths.ensures,
+      c.law_acknowledgements.ensures,
+      c.law_agreement.ensures,
+      c.law_limits.ensures.legal,
+      c.law_sent.ensures,
+      c.law_kept.ensures.kept,
+      firmware_legal,
+    ) in
     let reached = settles b past (record {
       some = (c.law_sizes.ensures b board).some 0;
       kids = c.law_children.ensures b board;

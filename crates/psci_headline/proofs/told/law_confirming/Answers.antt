@@ -1,7 +1,6 @@
 -- What is told after every legal run.
 use Rattle.std.proofs.Common.{subst, sym}
-use Rattle.psci_headline.specs.psci_fw_laws.Kept.{Holds}
-use Rattle.psci_headline.specs.psci_world_spec.Histories.{firmware_history, firmware_values}
+use Rattle.psci_headline.proofs.Words.{Holds, firmware_history, firmware_values}
 use Rattle.psci_headline.proofs.world_spec.Answered.{firmware_legal}
 use Rattle.psci_headline.proofs.Confirmed.{confirming}
 use Rattle.psci_headline.proofs.told.law_confirming.Goals as goal
@@ -15,7 +14,6 @@ returns c = λ b past board.
         allowed = λ e h. c.law_kept.ensures.allowed b e h board;
         values = c.law_kept.ensures.values b;
       };
-      first = c.law_values.ensures.first b;
       holds = λ p is. subst (Holds b (firmware_values b p)) (sym (c.law_sent.ensures b p is))
           (c.law_kept.ensures.kept b (firmware_history b p) board (firmware_legal b p is));
       agree = λ p. c.law_agreement.ensures b p board;

@@ -1,0 +1,44 @@
+-- Items of a list: one of some number, and one behind others.
+use Rattle.std.proofs.Common.{refl, ◌∙◌, sym, ◌-◌, arith, reverse, length, ◌<◌, ◌≡◌, ℕ, zero, suc}
+use Rattle.std.proofs.Common.{List, ◌∷◌, ◌++◌, Option, None, Some}
+use Rattle.std.proofs.lemmas.Bool.Decides.{nat_tests}
+use Rattle.std.specs.Prelude.{slice_get}
+use Rattle.std.proofs.lemmas.List.{get_or-reverse, length-reverse}
+use Rattle.std.proofs.lemmas.Option.{get_or_from_slice_get, slice_get_read, slice_get_within}
+use Rattle.std.proofs.lemmas.Option.{same_Some}
+use Rattle.psci_headline.proofs.Words.{indexed, listed}
+
+-- An item of a list.
+pub record IsListed {A : Type 0} (items : List A) (x : A) : Type 0 where
+  pub index : ℕ
+  pub at : slice_get items index ≡ Some x
+
+pub at_number : {A : Type 0} (items : List A) (k : ℕ) (x : A) → indexed items k ≡ Some x
+    → IsListed items x
+at_number {A} items k x at =
+    let few : k < length (reverse items) = slice_get_within (reverse items) k x at in
+    let size : length (reverse items) ≡ length items = length-reverse items in
+    let less : k < length items = omega arith in
+    record {
+      index = length items - 1 - k;
+      at = slice_get_read items (length items) (length items - 1 - k) x refl (omega arith)
+          (sym (get_or_from_slice_get (reverse items) k x x at) ∙ get_or-reverse items k x less);
+    }
+
+-- one of those behind it
+pub listed_later : {A : Type 0} (o : Option A) (xs : List A) (x : A) → IsListed xs x
+    → IsListed (listed o ++ xs) x
+listed_later None xs x is = is
+listed_later (Some y) xs x is = record { index = suc is.index; at = is.at }
+
+-- an item is the first one, or one of those behind it
+pub of_first : {A : Type 0} {X : Type 0} (x : A) (xs : List A) (k : ℕ) (y : A) → (x ≡ y → X)
+    → ((j : ℕ) → slice_get xs j ≡ Some y → X) → slice_get (x ∷ xs) k ≡ Some y → X
+of_first x xs zero y first other at = first (same_Some x y at)
+of_first x xs (suc k) y first other at = other k at
+
+-- so too where there may be a first one
+pub of_newest : {A : Type 0} {X : Type 0} (o : Option A) (xs : List A) (k : ℕ) (y : A)
+    → (o ≡ Some y → X) → ((j : ℕ) → slice_get xs j ≡ Some y → X)
+    → slice_get (listed o ++ xs) k ≡ Some y → X
+of_newest x0 xs k y first other at = grind (arith, nat_tests)
