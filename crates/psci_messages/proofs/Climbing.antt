@@ -1,16 +1,13 @@
 -- A claim is made going up, one level after another.
-use Rattle.std.proofs.Common.{◌≡◌, ℕ, zero, suc, ◌+◌, ◌-◌, ◌<◌, ◌≤◌, List, [], ◌∷◌, ◌++◌, length}
-use Rattle.std.proofs.Common.{◌≢◌, refl, sym, ap, arith, ◌∙◌, append_assoc, append-nil}
-use Rattle.std.proofs.Common.{length-append}
+use Rattle.std.proofs.Common.{◌≡◌, ℕ, zero, suc, ◌+◌, ◌<◌, ◌≤◌, length}
+use Rattle.std.proofs.Common.{refl, arith}
 use Rattle.std.proofs.Common.{map, Some, inl, inr}
 use Rattle.std.specs.Prelude.{slice_get}
 use Rattle.std.specs.List.{range_with_len}
 use Rattle.std.proofs.Math.Nat.{eq-zero-or-pos}
 use Rattle.std.proofs.lemmas.Bool.{lt-ltb}
-use Rattle.psci_board.specs.Board.{BoardValue, height}
 use Rattle.psci_messages.specs.declared.part.Part.{Part}
-use Rattle.psci_messages.specs.View.{PowerView, domain_of, generation}
-use Rattle.psci_messages.specs.Claim.{climb, claims_of}
+use Rattle.psci_messages.specs.Claim.{climb}
 
 -- Laws of a climb -----------------------------------------------------------------------------
 
