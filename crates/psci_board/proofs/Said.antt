@@ -109,41 +109,19 @@ good_text bytes s e none =
     (d.all ∙ f, is_board d.text (summary_board s) (d.verdict ∙ f))
 
 -- memory is no fault of a text
-abbrev is_memory : Option BoardFault → Bool
-is_memory (Some Memory) = true
-is_memory (Some Grammar) = false
-is_memory (Some Uneven) = false
-is_memory (Some TooWide) = false
-is_memory (Some TooManyCores) = false
-is_memory (Some BadRange) = false
-is_memory (Some BadBoot) = false
-is_memory (Some BadLimit) = false
-is_memory None = false
-
-apart : false ≡ true → ⊥
-apart e = cc
-
-later : (b : Bool) (f : BoardFault) (o : Option BoardFault) → is_memory (Some f) ≡ false
-    → cond b (Some f) o ≡ Some Memory → o ≡ Some Memory
-later true f o p e = absurd (apart (sym p ∙ ap is_memory e))
-later false f o p e = e
-
 no_memory : (a b c d e f : Bool)
     → cond a (Some Uneven)
     (cond b (Some TooWide)
     (cond c (Some TooManyCores)
     (cond d (Some BadRange) (cond e (Some BadBoot) (cond f (Some BadLimit) None)))))
     ≡ Some Memory → ⊥
-no_memory a b c d e f h =
-    let rest_f = cond f (Some BadLimit) None in
-    let rest_e = cond e (Some BadBoot) rest_f in
-    let rest_d = cond d (Some BadRange) rest_e in
-    let rest_c = cond c (Some TooManyCores) rest_d in
-    let rest_b = cond b (Some TooWide) rest_c in
-    apart (ap is_memory
-    (later f BadLimit None refl (later e BadBoot rest_f refl (later d BadRange rest_e refl
-    (later c TooManyCores rest_d refl
-    (later b TooWide rest_c refl (later a Uneven rest_b refl h)))))))
+no_memory true b c d e f h = cc
+no_memory false true c d e f h = cc
+no_memory false false true d e f h = cc
+no_memory false false false true e f h = cc
+no_memory false false false false true f h = cc
+no_memory false false false false false true h = cc
+no_memory false false false false false false h = cc
 
 never_memory : (s : TextSummary) → fault_in s ≡ Some Memory → ⊥
 unfolding fault_in
@@ -156,14 +134,8 @@ never_memory s h =
 
 faulty : (f : BoardFault) (r : Result BoardValue BoardFault) → (f ≡ Memory → ⊥) → r ≡ Err f
     → Answers (Err f) r
-faulty Grammar r n e = e
-faulty Uneven r n e = e
-faulty TooWide r n e = e
-faulty TooManyCores r n e = e
-faulty BadRange r n e = e
-faulty BadBoot r n e = e
-faulty BadLimit r n e = e
 faulty Memory r n e = absurd (n refl)
+faulty f r n e = e
 
 pub bad_text : (bytes : List ℕ) (s : TextSummary) (f : BoardFault)
     → Some s ≡ option_map text_summary (board_text bytes) → Some f ≡ fault_in s
