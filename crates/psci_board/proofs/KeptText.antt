@@ -5,7 +5,8 @@ use Rattle.std.specs.Str.Parse.{digits_value}
 use Rattle.psci_board.specs.declared.text.TextSummary.{TextSummary}
 use Rattle.psci_board.specs.ReadWords.{◌>>=◌, literal_at, number_at, hex_at}
 use Rattle.psci_board.specs.Reading.{tree_at, format_at, board_text}
-use Rattle.psci_board.specs.Summary.{value_and_rest, tree_summary, ranges_at, with_ranges, no_ranges}
+use Rattle.psci_board.specs.Summary.{value_and_rest, tree_summary, ranges_at, with_ranges}
+use Rattle.psci_board.specs.Summary.{no_ranges}
 use Rattle.psci_board.specs.SummaryVerdict.{text_summary}
 use Rattle.psci_board.specs.Verdict.{format_or_original}
 

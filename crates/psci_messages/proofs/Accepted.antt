@@ -6,6 +6,7 @@ use Rattle.std.specs.Prelude.{Option, not, nat_lt, flat_map, slice_index}
 use Rattle.std.specs.List.{list_any, range_with_len}
 use Rattle.std.proofs.lemmas.Bool.{cases_Bool, cases_eq, lt-ltb, ltb-false}
 use Rattle.std.proofs.lemmas.Bool.{eqb-true, false_from_ne_true}
+use Rattle.std.proofs.lemmas.Bool.Decides.{nat_tests}
 use Rattle.std.proofs.lemmas.List.{nil_from_length, length-append}
 use Rattle.std.proofs.lemmas.List.Concat.{flat_map-cons}
 use Rattle.std.proofs.lemmas.Option.{slice_get_within}
@@ -47,39 +48,13 @@ filters-none : (p q : Node → Bool) (g : ℕ → Node) (a n k : ℕ)
     → filter p (filter q (map g (range_with_len a n))) ≡ [] → a ≤ k → k < a + n
     → q (g k) ≡ true → p (g k) ≡ false
 filters-none p q g a zero k e h i t = absurd (omega arith)
-filters-none p q g a (suc n) k e h i t = elim (cases_eq a k) [
-  | inl same ↦
-      let here : q (g a) ≡ true = ap (λ x. q (g x)) same ∙ t in
-      elim (cases_Bool (p (g a))) [
-        | inl passes ↦ let never = rw (here, passes) at e in absurd (cc never)
-        | inr fails ↦ ap (λ x. p (g x)) (sym same) ∙ fails
-      ]
-  | inr other ↦
-      let later : a + 1 ≤ k = omega (arith, other) in
-      elim (cases_Bool (q (g a))) [
-        | inl passes ↦ elim (cases_Bool (p (g a))) [
-          | inl both ↦ let never = rw (passes, both) at e in absurd (cc never)
-          | inr one ↦
-              let rest = rw (passes, one) at e in
-              filters-none p q g (a + 1) n k rest later (omega arith) t
-        ]
-        | inr fails ↦
-            let rest = rw fails at e in
-            filters-none p q g (a + 1) n k rest later (omega arith) t
-      ]
-]
+filters-none p q g a (suc n) k e h i t = grind (arith, filters-none p q g (a + 1) n k)
 
 -- Accepted requests ------------------------------------------------------------------------------
 
 refusal-none : (b : BoardValue) (v : PowerView) (ns : List Node) → refusal b v ns ≡ None → ns ≡ []
 unfolding refusal
-refusal-none b v ns e = elim (cases_Bool (list_any (is_idle b v) ns)) [
-  | inl idle ↦ let never = rw idle at e in absurd (cc never)
-  | inr busy ↦ elim (eq-zero-or-pos (length ns)) [
-    | inl none ↦ nil_from_length ns none
-    | inr some ↦ let never = rw (busy, lt-ltb 0 (length ns) some) at e in absurd (cc never)
-  ]
-]
+refusal-none b v ns e = grind (arith, nat_tests, nil_from_length ns)
 
 answered : (o : Option Osi) (parts claim : List Part) → answer_by o claim ≡ Ok parts
     → (o ≡ None) × (parts ≡ claim)

@@ -4,6 +4,7 @@ use Rattle.std.proofs.Common.{None, refl, sym, ap, subst, inl, inr}
 use Rattle.std.specs.Prelude.{if◌then◌else◌, ◌==◌, ◌&&◌, ◌||◌, is_none, option_and_then}
 use Rattle.std.specs.List.{list_any}
 use Rattle.std.proofs.lemmas.Bool.{and_parts, eqb-true, cases_Bool, false_from_ne_true, true≢false}
+use Rattle.std.proofs.Common.{arith}
 use Rattle.std.proofs.lemmas.Bool.{and_left}
 use Rattle.std.proofs.lemmas.List.{length-replicate}
 use Rattle.std.proofs.lemmas.Option.{same_Some, none-some, option_and_then_some}
@@ -22,27 +23,13 @@ use Rattle.psci_messages.proofs.LookUps.{look-replicate, length-after, look-afte
 
 same-kind : (k l : Kind) → is_kind k l ≡ true → k ≡ l
 same-kind Down Down e = refl
-same-kind Down Start e = absurd (true≢false (sym e))
-same-kind Down Off e = absurd (true≢false (sym e))
-same-kind Down Reset e = absurd (true≢false (sym e))
-same-kind Start Down e = absurd (true≢false (sym e))
 same-kind Start Start e = refl
-same-kind Start Off e = absurd (true≢false (sym e))
-same-kind Start Reset e = absurd (true≢false (sym e))
-same-kind Off Down e = absurd (true≢false (sym e))
-same-kind Off Start e = absurd (true≢false (sym e))
 same-kind Off Off e = refl
-same-kind Off Reset e = absurd (true≢false (sym e))
-same-kind Reset Down e = absurd (true≢false (sym e))
-same-kind Reset Start e = absurd (true≢false (sym e))
-same-kind Reset Off e = absurd (true≢false (sym e))
 same-kind Reset Reset e = refl
+same-kind k l e = absurd (true≢false (sym e))
 
 slot-number : (kind : Kind) (c d : Core) → c.number ≡ d.number → slot_of kind c ≡ slot_of kind d
-slot-number Down c d e = ap OfCore e
-slot-number Start c d e = ap OfCore e
-slot-number Off c d e = refl
-slot-number Reset c d e = refl
+slot-number kind c d e = ap (λ n. slot_of kind (record { number = n })) e
 
 -- an acknowledgement looks at the slot of the message that it is of
 answered-slot : (a : AckValue) (m : MessageValue) → answers a m ≡ true
@@ -59,10 +46,8 @@ answered-slot a m e =
 stays-of : (m : MessageValue) (a b : Bool) (f : MessageValue → Bool) → f m ≡ a
     → ◌≡◌ {A = Option MessageValue} (if a || b then None else Some m)
     (option_and_then (λ n. if f n then None else Some n) (if b then None else Some m))
-stays-of m true true f e = refl
-stays-of m true false f e = sym (ap (λ (t : Bool). if t then None else Some m) e)
-stays-of m false true f e = refl
-stays-of m false false f e = sym (ap (λ (t : Bool). if t then None else Some m) e)
+stays-of m a true f e = grind arith
+stays-of m a false f e = grind arith
 
 stays-both : (o : Option MessageValue) (e r : MessageValue → Bool)
     → option_and_then (λ m. if e m || r m then None else Some m) o
@@ -138,8 +123,7 @@ stays-where true o = stays-none o
 stays-where false o = stays-all o
 
 same-either : (t : Bool) (o : Option MessageValue) → o ≡ (if t then o else o)
-same-either true o = refl
-same-either false o = refl
+same-either t o = grind arith
 
 -- what an acknowledgement leaves in a slot that holds only its own messages
 stays-acknowledged : (slot : Slot) (a : AckValue) (o : Option MessageValue)

@@ -20,23 +20,7 @@ use Rattle.psci_messages.proofs.ClaimLaws.{claim_laws}
 all-pass : (p test : ℕ → Bool) (a n c : ℕ) → list_all p (filter test (range_with_len a n)) ≡ true
     → a ≤ c → c < a + n → test c ≡ true → p c ≡ true
 all-pass p test a zero c e h i t = absurd (omega arith)
-all-pass p test a (suc n) c e h i t = elim (cases_Bool (test a)) [
-  | inl kept ↦ elim (cases_Bool (p a)) [
-    | inl passes ↦
-        let rest = rw (kept, passes) at e in
-        elim (cases_eq a c) [
-          | inl same ↦ ap p (sym same) ∙ passes
-          | inr other ↦ all-pass p test (a + 1) n c rest (omega (arith, other)) (omega arith) t
-        ]
-    | inr fails ↦ let never = rw (kept, fails) at e in absurd (true≢false (sym never))
-  ]
-  | inr dropped ↦
-      let rest = rw dropped at e in
-      elim (cases_eq a c) [
-        | inl same ↦ absurd (true≢false (sym (ap test same ∙ t) ∙ dropped))
-        | inr other ↦ all-pass p test (a + 1) n c rest (omega (arith, other)) (omega arith) t
-      ]
-]
+all-pass p test a (suc n) c e h i t = grind (arith, all-pass p test (a + 1) n c)
 
 some-fails : (p test : ℕ → Bool) (a n : ℕ)
     → list_all p (filter test (range_with_len a n)) ≡ false
@@ -78,28 +62,17 @@ off-yes : (b : BoardValue) (v : PowerView) (core level : ℕ) → 0 < level
     → 0 < off_wish b v core level
     → is_all_away b v (domain_of b core level) ≡ true
 off-yes b v core zero h i = absurd (omega arith)
-off-yes b v core (suc level) h i =
-    elim (cases_Bool (is_all_away b v (domain_of b core (suc level)))) [
-      | inl all ↦ all
-      | inr part ↦ let never = rw part at i in absurd (omega arith)
-    ]
+off-yes b v core (suc level) h i = grind arith
 
 off-no : (b : BoardValue) (v : PowerView) (core level : ℕ) → off_wish b v core level ≡ 0
     → is_all_away b v (domain_of b core level) ≡ false
 off-no b v core zero e = absurd (omega arith)
-off-no b v core (suc level) e = elim (cases_Bool (is_all_away b v (domain_of b core (suc level)))) [
-  | inl all ↦ let never = rw all at e in absurd (omega arith)
-  | inr part ↦ part
-]
+off-no b v core (suc level) e = grind arith
 
 off-three : (b : BoardValue) (v : PowerView) (core level : ℕ) → 0 < off_wish b v core level
     → off_wish b v core level ≡ 3
 off-three b v core zero h = refl
-off-three b v core (suc level) h =
-    elim (cases_Bool (is_all_away b v (domain_of b core (suc level)))) [
-      | inl all ↦ rw all refl
-      | inr part ↦ let never = rw part at h in absurd (omega arith)
-    ]
+off-three b v core (suc level) h = grind arith
 
 off-some : (b : BoardValue) (v : PowerView) (core : ℕ) → 0 < length (off_claims b v core)
 off-some b v core =

@@ -14,7 +14,8 @@ returns-in_err-literal c =
 pub returns-in_err-ranges : goal.returns-in_err-ranges
 returns-in_err-ranges c =
     c.from_residual-in_err-ranges.ensures ∙ sym (kept_text c.args.text.now
-    ∙ some _ c.in_ok-tree.ensures ∙ some _ c.in_ok-literal.ensures ∙ none _ c.in_err-ranges.ensures)
+    ∙ some _ c.in_ok-tree.ensures ∙ some _ c.in_ok-literal.ensures
+    ∙ none _ c.in_err-ranges.ensures)
 
 pub returns-in_err-literal-2 : goal.returns-in_err-literal-2
 returns-in_err-literal-2 c =
@@ -39,22 +40,24 @@ pub returns-in_err-starts : goal.returns-in_err-starts
 returns-in_err-starts c =
     c.from_residual-in_err-starts.ensures ∙ sym (kept_text c.args.text.now
     ∙ some _ c.in_ok-tree.ensures ∙ some _ c.in_ok-literal.ensures ∙ some _ c.in_ok-ranges.ensures
-    ∙ some _ c.in_ok-literal-2.ensures ∙ some _ c.in_ok-boot.ensures ∙ some _ c.in_ok-literal-3.ensures
-    ∙ none _ c.in_err-starts.ensures)
+    ∙ some _ c.in_ok-literal-2.ensures ∙ some _ c.in_ok-boot.ensures
+    ∙ some _ c.in_ok-literal-3.ensures ∙ none _ c.in_err-starts.ensures)
 
 pub returns-in_err-literal-4 : goal.returns-in_err-literal-4
 returns-in_err-literal-4 c =
     c.from_residual-in_err-literal-4.ensures ∙ sym (kept_text c.args.text.now
     ∙ some _ c.in_ok-tree.ensures ∙ some _ c.in_ok-literal.ensures ∙ some _ c.in_ok-ranges.ensures
-    ∙ some _ c.in_ok-literal-2.ensures ∙ some _ c.in_ok-boot.ensures ∙ some _ c.in_ok-literal-3.ensures
-    ∙ some _ c.in_ok-starts.ensures ∙ none _ c.in_err-literal-4.ensures)
+    ∙ some _ c.in_ok-literal-2.ensures ∙ some _ c.in_ok-boot.ensures
+    ∙ some _ c.in_ok-literal-3.ensures ∙ some _ c.in_ok-starts.ensures
+    ∙ none _ c.in_err-literal-4.ensures)
 
 pub returns-in_err-lives : goal.returns-in_err-lives
 returns-in_err-lives c =
     c.from_residual-in_err-lives.ensures ∙ sym (kept_text c.args.text.now
     ∙ some _ c.in_ok-tree.ensures ∙ some _ c.in_ok-literal.ensures ∙ some _ c.in_ok-ranges.ensures
-    ∙ some _ c.in_ok-literal-2.ensures ∙ some _ c.in_ok-boot.ensures ∙ some _ c.in_ok-literal-3.ensures
-    ∙ some _ c.in_ok-starts.ensures ∙ some _ c.in_ok-literal-4.ensures ∙ none _ c.in_err-lives.ensures)
+    ∙ some _ c.in_ok-literal-2.ensures ∙ some _ c.in_ok-boot.ensures
+    ∙ some _ c.in_ok-literal-3.ensures ∙ some _ c.in_ok-starts.ensures
+    ∙ some _ c.in_ok-literal-4.ensures ∙ none _ c.in_err-lives.ensures)
 
 pub returns-in_err-format : goal.returns-in_err-format
 returns-in_err-format c =
@@ -68,6 +71,7 @@ returns-in_err-format c =
 pub returns : goal.returns
 returns c =
     sym (kept_text c.args.text.now ∙ some _ c.in_ok-tree.ensures ∙ some _ c.in_ok-literal.ensures
-    ∙ some _ c.in_ok-ranges.ensures ∙ some _ c.in_ok-literal-2.ensures ∙ some _ c.in_ok-boot.ensures
-    ∙ some _ c.in_ok-literal-3.ensures ∙ some _ c.in_ok-starts.ensures
-    ∙ some _ c.in_ok-literal-4.ensures ∙ some _ c.in_ok-lives.ensures ∙ some _ c.in_ok-format.ensures)
+    ∙ some _ c.in_ok-ranges.ensures ∙ some _ c.in_ok-literal-2.ensures
+    ∙ some _ c.in_ok-boot.ensures ∙ some _ c.in_ok-literal-3.ensures
+    ∙ some _ c.in_ok-starts.ensures ∙ some _ c.in_ok-literal-4.ensures
+    ∙ some _ c.in_ok-lives.ensures ∙ some _ c.in_ok-format.ensures)
