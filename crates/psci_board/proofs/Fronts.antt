@@ -1,25 +1,21 @@
 -- What is read of numbers and of ranges, step by step.
 use Rattle.std.proofs.Common.{◌≡◌, ℕ, List}
-use Rattle.std.proofs.Common.{length, Option, Some, None, refl, ap, sym, arith}
+use Rattle.std.proofs.Common.{length, Option, Some, None, refl, ap, arith}
 use Rattle.std.proofs.Common.{length-drop}
-use Rattle.std.specs.List.{prefix_len}
-use Rattle.std.specs.Char.{is_ascii_hexdigit}
 use Rattle.std.proofs.lemmas.Option.{cond_some, option_and_then_some, same_Some}
 use Rattle.std.specs.Prelude.{option_map, codes}
 use Rattle.psci_board.specs.Summary.{value_and_rest}
 use Rattle.psci_board.specs.ReadWords.{literal_at, hex_at}
 use Rattle.psci_board.specs.Reading.{range_at}
 use Rattle.psci_board.proofs.More.{Shortens, literal_shortens}
+use Rattle.std.proofs.lemmas.Bool.Decides.{nat_tests}
 
 -- what was read, where a value of it and its rest are known
 pub value_and_rest_some : {A B : Type 0} (f : A
     → B) (o : Option (A × List ℕ)) (v : B) (rest : List ℕ)
     → Some (v, rest) ≡ option_map (value_and_rest f) o → (x : A) × (o ≡ Some (x, rest)) × (v ≡ f x)
 value_and_rest_some f None v rest e = cc
-value_and_rest_some f (Some x) v rest e =
-    let p = same_Some _ (value_and_rest f x) e in
-    let r : x.1 ≡ rest = sym (ap (λ y. y.1) p) in
-    (x.0, ap (λ y. Some (x.0, y)) r, ap (λ y. y.0) p)
+value_and_rest_some f (Some x) v rest e = grind (arith, nat_tests, same_Some)
 
 pub value_and_rest_none : {A B : Type 0} (f : A → B) (o : Option (A × List ℕ))
     → None ≡ option_map (value_and_rest f) o → o ≡ None
@@ -29,10 +25,7 @@ value_and_rest_none f (Some x) e = cc
 pub hex_shortens : Shortens hex_at
 unfolding hex_at
 hex_shortens bytes x e =
-    option_and_then_some _ (literal_at (codes "0x") bytes) x e (λ rest a e1.
-    let n = prefix_len is_ascii_hexdigit rest in
-    let r = (cond_some _ _ _ e1).1 in
-    omega (arith, length-drop n rest, ap (λ y. length y.1) r, literal_shortens _ _ _ a))
+    grind (arith, nat_tests, option_and_then_some, cond_some, length-drop, literal_shortens)
 
 pub range_shortens : Shortens range_at
 unfolding range_at

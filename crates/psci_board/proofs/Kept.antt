@@ -104,11 +104,7 @@ pub one_more : {A : Type 0} (n : ℕ) (is_bad : A → Bool) (xs : List A) (k : �
     → (((nat_lt n (length xs) || list_any is_bad xs) || nat_le n k) || is_bad x)
     ≡ (nat_lt n (length (xs ++ x ∷ [])) || list_any is_bad (xs ++ x ∷ []))
 one_more n is_bad xs k x e =
-    let len : length (xs ++ x ∷ []) ≡ length xs + 1 = length-append xs (x ∷ []) in
-    or_more _ _ _ _ (over_then_full n (length xs) k e)
-    ∙ ap (λ b. b || (list_any is_bad xs || is_bad x))
-    (full_then_more n (length xs) k (length (xs ++ x ∷ [])) e len)
-    ∙ ap (λ b. nat_lt n (length (xs ++ x ∷ [])) || b) (sym (any_more is_bad xs x))
+    grind (arith, nat_tests, length-append, or_more, over_then_full, full_then_more, any_more)
 
 kept_sizes : (ms : List Member) (m : Member)
     → take 16 (take 16 (map (λ m. capped (size m)) ms) ++ capped (size m) ∷ [])
@@ -123,11 +119,7 @@ how_many n f xs = length-take n (map f xs) ∙ ap (min n) (length-map xs f)
 kept_flat : (ms : List Member) (m : Member)
     → with_numbers (kept_numbers (flat_map numbers_in ms)) (numbers_in m)
     ≡ kept_numbers (flat_map numbers_in (ms ++ m ∷ []))
-kept_flat ms m =
-    kept_more (flat_map numbers_in ms) (numbers_in m)
-    ∙ ap kept_numbers
-    (sym (flat_map-append numbers_in ms (m ∷ [])
-    ∙ ap (λ l. flat_map numbers_in ms ++ l) (append-nil (numbers_in m))))
+kept_flat ms m = grind (arith, nat_tests, kept_more, flat_map-append, append-nil)
 
 kept_parts : (ms : List Member) (m : Member) (has_cluster has_group : Bool)
     → has_cluster ≡ (list_any is_number_alone ms || is_number_alone m)

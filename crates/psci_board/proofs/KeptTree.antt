@@ -34,17 +34,11 @@ cap_same n h = let w = is_out n h in omega arith
 
 all_capped : (ns : List ℕ) → list_any is_out_of_width ns ≡ false → map capped ns ≡ ns
 all_capped [] h = refl
-all_capped (n ∷ ns) h =
-    let p = or_parts (is_out_of_width n) (list_any is_out_of_width ns) h in
-    let first : capped n ≡ n = cap_same n p.0 in
-    let rest : map capped ns ≡ ns = all_capped ns p.1 in
-    cc
+all_capped (n ∷ ns) h = grind (arith, nat_tests, or_parts, capped, cap_same, all_capped ns)
 
 all_width : (ns : List ℕ) → list_any is_out_of_width ns ≡ false → list_all is_width ns ≡ true
 all_width [] h = refl
-all_width (n ∷ ns) h =
-    let p = or_parts (is_out_of_width n) (list_any is_out_of_width ns) h in
-    rw (in_width n p.0, all_width ns p.1) refl
+all_width (n ∷ ns) h = grind (arith, nat_tests, or_parts, in_width, all_width ns)
 
 pub pass_width : (ns : List ℕ) → list_any is_out_of_width ns ≡ false → AllPass is_width ns
 pass_width ns h = AllPass-from_list_all is_width ns (all_width ns h)
@@ -74,11 +68,7 @@ any_size (m ∷ ms) = ap (λ b. is_out_of_width (size m) || b) (any_size ms)
 cap_sizes : (ms : List Member) → list_any (λ m. is_out_of_width (size m)) ms ≡ false
     → map (λ m. capped (size m)) ms ≡ map size ms
 cap_sizes [] h = refl
-cap_sizes (m ∷ ms) h =
-    let p = or_parts (is_out_of_width (size m)) (list_any (λ m. is_out_of_width (size m)) ms) h in
-    let first : capped (size m) ≡ size m = cap_same (size m) p.0 in
-    let rest : map (λ m. capped (size m)) ms ≡ map size ms = cap_sizes ms p.1 in
-    cc
+cap_sizes (m ∷ ms) h = grind (arith, nat_tests, or_parts, size, capped, cap_same, cap_sizes ms)
 
 alone : (ms : List Member) → list_any is_group ms ≡ false
     → list_any (λ m. is_out_of_width (size m)) ms ≡ false
@@ -142,9 +132,7 @@ wide_kept (One n) full = refl
 wide_kept (Members ms) full = wide_by ms full (list_any is_group ms) refl
 
 few_kept : (n : ℕ) → nat_lt MOST_CORES n ≡ nat_lt MOST_CORES (min n (MOST_CORES + 1))
-few_kept n = same_tests (nat_lt MOST_CORES n) (nat_lt MOST_CORES (min n (MOST_CORES + 1)))
-    (λ h. grind (arith, nat_tests))
-    (λ h. grind (arith, nat_tests))
+few_kept n = grind (arith, nat_tests, same_tests)
 
 pub total_kept : (t : TreeText)
     → nat_lt MOST_CORES (sum (clusters t)) ≡ nat_lt MOST_CORES (kept_tree t).numbers.total
@@ -197,9 +185,7 @@ pub levels_kept : (t : TreeText) → IsFull t → is_too_wide t ≡ false → su
     → summary_levels (kept_tree t) ≡ levels_of t
 levels_kept (One n) full wide few =
     ap (λ m. (m ∷ []) ∷ []) (cap_same n ((or_parts _ _ (or_parts _ _ wide).0).0))
-levels_kept (Members ms) full wide few =
-    levels_kept_by ms full (list_any is_group ms) refl (narrow ms (list_any is_group ms) refl wide)
-    few
+levels_kept (Members ms) full wide few = grind (arith, nat_tests, levels_kept_by, narrow)
 
 -- The tree of a text is a tree of nodes ---------------------------------------------------------
 
@@ -210,9 +196,7 @@ flat_alone (Cluster n ∷ ms) e = omega (arith, flat_alone ms e)
 flat_alone (Group ns ∷ ms) e = cc
 
 one_level : (n : ℕ) → list_any is_out_of_width (n ∷ []) ≡ false → IsTree ((n ∷ []) ∷ [])
-one_level n h =
-    let w = is_out n (or_parts _ _ h).0 in
-    (refl, omega (arith, sum_by-cons (λ x. x) n []), pass_width (n ∷ []) h, tt)
+one_level n h = grind (arith, nat_tests, is_out, or_parts, sum_by-cons, pass_width)
 
 tree_by : (ms : List Member) (g : Bool) → list_any is_group ms ≡ g → Narrow ms
     → sum (flat_map numbers_in ms) ≤ MOST_CORES → IsTree (levels_by g ms)

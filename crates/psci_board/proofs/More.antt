@@ -2,8 +2,6 @@
 use Rattle.std.proofs.Common.{◌≡◌, ℕ, zero, suc, ◌<◌, ◌≤◌, Bool, true, false, cond, eqb, List, []}
 use Rattle.std.proofs.Common.{◌∷◌, length, Option, Some, None, refl, ap, sym, ◌∙◌, subst, arith}
 use Rattle.std.proofs.Common.{length-drop}
-use Rattle.std.specs.List.{prefix_len}
-use Rattle.std.specs.Char.{is_ascii_digit}
 use Rattle.std.proofs.lemmas.Bool.Decides.{nat_tests}
 use Rattle.std.proofs.lemmas.Option.{cond_some, option_and_then_some}
 use Rattle.std.specs.Prelude.{option_and_then, option_map, IfSome}
@@ -32,10 +30,7 @@ literal_shortens (w ∷ ws) (b ∷ bs) rest e =
 
 pub number_shortens : Shortens number_at
 unfolding number_at
-number_shortens bytes x e =
-    let n = prefix_len is_ascii_digit bytes in
-    let r = (cond_some _ _ _ e).1 in
-    omega (arith, length-drop n bytes, ap (λ y. length y.1) r)
+number_shortens bytes x e = grind (arith, nat_tests, cond_some, length-drop)
 
 -- Items each of which leaves no more than the text.
 module _ {A : Type 0} (item : List ℕ → Option (A × List ℕ)) (s : Shortens item) where
@@ -194,10 +189,7 @@ unspaced item bytes a = rw a refl
 
 space_or_bracket : (b : ℕ) (bs after : List ℕ) → cond (eqb b 32) (Some bs) None ≡ Some after
     → cond (eqb b 41) (Some bs) None ≡ None
-space_or_bracket b bs after e =
-    let h = (cond_some _ _ _ e).0 in
-    let n : b ≡ 32 = grind (arith, nat_tests) in
-    rw n refl
+space_or_bracket b bs after e = grind (arith, nat_tests, cond_some)
 
 pub spaced_unclosed : (bytes after : List ℕ) → literal_at (32 ∷ []) bytes ≡ Some after
     → literal_at (41 ∷ []) bytes ≡ None

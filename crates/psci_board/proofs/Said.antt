@@ -1,7 +1,7 @@
 -- What is said of a text, by what was kept of it.
 use Rattle.std.proofs.Common.{◌≡◌, ℕ, ◌<◌, ◌^◌, ◌-◌, ◌%◌, Bool, true, false, cond, List, length}
 use Rattle.std.proofs.Common.{Option, Some, None, Result, Ok, Err, refl, ap, sym, ◌∙◌, subst, arith}
-use Rattle.std.specs.Prelude.{◌||◌, ◌&&◌, not, nat_lt, ◌==◌, codes, option_map, option_and_then}
+use Rattle.std.specs.Prelude.{◌||◌, ◌&&◌, not, nat_lt, ◌==◌, option_map, option_and_then}
 use Rattle.std.specs.Prelude.{IsOk, IsErrAnd}
 use Rattle.std.proofs.lemmas.Option.{option_and_then_some, same_Some}
 use Rattle.psci_board.specs.declared.limits.TheConstants.{MOST_CORES}
@@ -12,26 +12,21 @@ use Rattle.psci_board.specs.declared.fault.BoardFault.TheVariants.{BadLimit, Mem
 use Rattle.psci_board.specs.declared.text.TextSummary.{TextSummary}
 use Rattle.psci_board.specs.Grammar.{TreeText, BoardText}
 use Rattle.psci_board.specs.Grammar.TreeText.{One, Members}
-use Rattle.psci_board.specs.ReadWords.{literal_at, number_at, hex_at, spaced_at}
-use Rattle.psci_board.specs.Reading.{format_at, range_at, more_at}
+use Rattle.psci_board.specs.ReadWords.{number_at}
 use Rattle.psci_board.specs.Reading.{list_at, member_at, starts_list, tree_at, board_text}
 use Rattle.psci_board.specs.Board.{BoardValue, is_in_some, IsBoard}
 use Rattle.psci_board.specs.SummaryVerdict.{text_summary, summary_board, fault_in}
 use Rattle.psci_board.specs.Verdict.{is_limit, verdict, verdict_or, board_of, Answers}
 use Rattle.psci_board.proofs.KeptTree.{IsFull}
 use Rattle.psci_board.proofs.Decided.{said, decided, is_board}
+use Rattle.std.proofs.lemmas.Bool.Decides.{nat_tests}
 
 -- The text -------------------------------------------------------------------------------------
 
 some_item : {A : Type 0} (item : List ℕ → Option (A × List ℕ)) (bytes : List ℕ)
     (x : List A × List ℕ) → list_at item bytes ≡ Some x → 0 < length x.0
 unfolding list_at
-some_item item bytes x e =
-    option_and_then_some _ (literal_at (codes "(") bytes) x e (λ open_ a e1.
-    option_and_then_some _ (item open_) x e1 (λ first b e2.
-    option_and_then_some _ (literal_at (codes ")") (more_at item first.1).1) x e2 (λ close c e3.
-    let r = same_Some _ x e3 in
-    omega (arith, ap (λ y. length y.0) r))))
+some_item item bytes x e = grind (arith, nat_tests, option_and_then_some, same_Some)
 
 full_tree : (bytes : List ℕ) (x : TreeText × List ℕ) → tree_at bytes ≡ Some x → IsFull x.0
 unfolding tree_at
@@ -48,20 +43,7 @@ full_tree bytes x e = by_test (starts_list bytes) e
 
 pub full_text : (bytes : List ℕ) (t : BoardText) → board_text bytes ≡ Some t → IsFull t.tree
 unfolding board_text
-full_text bytes t e =
-    option_and_then_some _ (tree_at bytes) t e (λ tree a e1.
-    option_and_then_some _ (literal_at (codes " exec") tree.1) t e1 (λ r1 b e2.
-    option_and_then_some _ (spaced_at range_at r1) t e2 (λ first c e3.
-    option_and_then_some _ (literal_at (codes " boot ") (more_at range_at first.1).1) t e3
-    (λ r2 d e4.
-    option_and_then_some _ (hex_at r2) t e4 (λ boot f e5.
-    option_and_then_some _ (literal_at (codes " starts ") boot.1) t e5 (λ r3 g e6.
-    option_and_then_some _ (number_at r3) t e6 (λ starts h e7.
-    option_and_then_some _ (literal_at (codes " lives ") starts.1) t e7 (λ r4 i e8.
-    option_and_then_some _ (number_at r4) t e8 (λ lives j e9.
-    option_and_then_some _ (format_at lives.1) t e9 (λ format k e10.
-    subst (λ (u : BoardText). IsFull u.tree) (same_Some _ _ e10)
-    (full_tree bytes tree a)))))))))))
+full_text bytes t e = grind (arith, nat_tests, option_and_then_some, IsFull, same_Some, full_tree)
 
 -- What is said of the text ----------------------------------------------------------------------
 
