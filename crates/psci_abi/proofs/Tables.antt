@@ -1,4 +1,5 @@
--- Worked examples of one function stand in a table: in each row what it is given, and what it gives.
+-- Worked examples of one function stand in a table: in each row what it is given, and what it
+-- gives.
 use Rattle.std.proofs.Common.{◌≡◌, List, map}
 
 -- A row of a table.

@@ -1,6 +1,6 @@
 -- The first fault of texts that have several at once, and texts at each limit and one beside it.
 use Prim.Native.String.{String}
-use Rattle.std.proofs.Common.{◌∷◌, [], ◌++◌, refl}
+use Rattle.std.proofs.Common.{ℕ, List, ◌∷◌, [], ◌++◌, refl}
 use Rattle.std.specs.Prelude.{codes, Option, None, Some}
 use Rattle.psci_board.specs.declared.fault.BoardFault.{BoardFault}
 use Rattle.psci_board.specs.declared.fault.BoardFault.TheVariants.{Grammar, Uneven, TooWide}
@@ -74,15 +74,18 @@ unfolding board_of verdict board_text tree_at member_at list_at more_at at_most 
     range_at hex_at number_at literal_at
 trees = refl
 
+-- a text that begins with a group of sixteen full clusters, and goes on so
+abbrev beside_full_group : String → List ℕ
+beside_full_group text = codes "(" ++ (widest_list ++ codes text)
+
 -- too many cores: with all faults that are looked for after it, with the next, and with none, where
 -- there are more than 256 by as much as two groups can have
 pub wide_groups : Gives of_text
-    ((codes "(" ++ (widest_list ++ codes " (1)) exec 0x10-0x10 boot 0x1 starts 0 lives 0"))
+    (beside_full_group " (1)) exec 0x10-0x10 boot 0x1 starts 0 lives 0" ⇒ Some TooManyCores
+    ∷ beside_full_group " (1)) exec 0x10-0x10 0x0-0x10 boot 0x0 starts 1 lives 1"
     ⇒ Some TooManyCores
-    ∷ (codes "(" ++ (widest_list ++ codes " (1)) exec 0x10-0x10 0x0-0x10 boot 0x0 starts 1 lives 1"))
-    ⇒ Some TooManyCores
-    ∷ (codes "(" ++ (widest_list ++ (codes " " ++ (widest_list
-    ++ codes ") exec 0x0-0x10 boot 0x0 starts 1 lives 1"))))
+    ∷ beside_full_group
+    " (16 16 16 16 16 16 16 16 16 16 16 16 16 16 16 16)) exec 0x0-0x10 boot 0x0 starts 1 lives 1"
     ⇒ Some TooManyCores ∷ [])
 unfolding board_of verdict board_text tree_at member_at list_at more_at at_most spaced_at
     range_at hex_at number_at literal_at
@@ -97,9 +100,9 @@ unfolding board_of verdict board_text tree_at member_at list_at more_at at_most 
     range_at hex_at number_at literal_at
 limits = refl
 
+-- four ranges and five; the boot address in a later range, at its start, at its last multiple of 4,
+-- and at its end
 pub ranges : Gives with_ranges
-    -- four ranges and five; the boot address in a later range, at its start, at its last multiple of 4,
-    -- and at its end
     ("0x0-0x8 0x10-0x18 0x20-0x28 0x30-0x39 boot 0x30" ⇒ None
     ∷ "0x0-0x8 0x10-0x18 0x20-0x28 0x30-0x39 boot 0x38" ⇒ None
     ∷ "0x0-0x8 0x10-0x18 0x20-0x28 0x30-0x39 boot 0x3c" ⇒ Some BadBoot

@@ -70,7 +70,8 @@ number_again : (n : ℕ) (rest : List ℕ) → IsNumber n → Ends is_ascii_digi
     → number_at (decimal n ++ rest) ≡ Some (n, rest)
 unfolding number_at
 number_again n rest h e =
-    grind (arith, nat_tests, decimal_is_IsNumeral, kind_then, digits_pass, take_at, drop_at, numeral_passes)
+    let d = decimal_is_IsNumeral n h in
+    grind (arith, nat_tests, kind_then, digits_pass, take_at, drop_at, numeral_passes)
 
 -- what passes is the decimal text of its value
 passes_numeral : (ds : List ℕ) → AllDigits 10 ds → is_number ds ≡ true
