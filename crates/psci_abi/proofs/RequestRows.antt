@@ -64,8 +64,8 @@ ends : Gives request_of
     -- a mode has 32 bits, all of which are passed on
     ∷ regs 0x8400000f 0xffffffff 0 0 ⇒ SetSuspendMode 0xffffffff
     ∷ regs 0x8400000f 0x100000001 0 0 ⇒ SetSuspendMode 1
-    -- a reset type has 32 bits in both conventions, all of which are passed on; a cookie has those of
-    -- its convention
+    -- a reset type has 32 bits in both conventions, all of which are passed on; a cookie has those
+    -- of its convention
     ∷ regs 0x84000012 0xffffffff 0x1ffffffff 0 ⇒ SystemReset2 0xffffffff 0xffffffff
     ∷ regs 0xc4000012 0xffffffff 0xffffffffffffffff 0 ⇒ SystemReset2 0xffffffff 0xffffffffffffffff
     ∷ regs 0xc4000012 0x100000000 0 0 ⇒ SystemReset2 0 0 ∷ [])
