@@ -5,6 +5,7 @@ use Rattle.psci_abi.specs.declared.format.Format.TheVariants.{Original}
 use Rattle.psci_board.specs.declared.node.Node.{Node}
 use Rattle.psci_board.specs.Board.{BoardValue, core_of, node_of, path, up, below, children, child}
 use Rattle.psci_board.specs.Board.{may_enter}
+use Rattle.psci_board.proofs.Tables.{◌⇒◌, Gives}
 
 abbrev pub board : List (List ℕ) → BoardValue
 board levels = record {
@@ -56,72 +57,40 @@ groups_cores = refl
 
 -- Nodes -----------------------------------------------------------------------------------------
 
-abbrev pub places_of : BoardValue → ℕ → List ℕ → List (Option Node)
-places_of b level words = map (λ w. node_of b w level) words
+-- the nodes of a level that words name
+abbrev nodes_of : BoardValue → ℕ × List ℕ → List (Option Node)
+nodes_of b named = map (λ word. node_of b word named.0) named.1
 
 abbrev pub node : ℕ → ℕ → Option Node
 node level place = Some (record { level = level; place = place })
 
--- fields below the level are not looked at, those above it are
-pub cluster_system : places_of cluster 1
-    (0 ∷ 0xff ∷ 0x100 ∷ 0x10000 ∷ 0x1000000 ∷ 0x100000000 ∷ [])
-    ≡ node 1 0 ∷ node 1 0 ∷ replicate 4 None
+-- Fields below the level are not looked at, those above it are, and above the height there is none.
+pub cluster_nodes : Gives (nodes_of cluster)
+    ((1, 0 ∷ 0xff ∷ 0x100 ∷ 0x10000 ∷ 0x1000000 ∷ 0x100000000 ∷ [])
+    ⇒ (node 1 0 ∷ node 1 0 ∷ replicate 4 None)
+    ∷ (2, 0 ∷ 0xffff ∷ []) ⇒ (None ∷ None ∷ []) ∷ [])
 unfolding node_of
-cluster_system = refl
+cluster_nodes = refl
 
-pub cluster_above : places_of cluster 2
-    (0 ∷ 0xffff ∷ [])
-    ≡ None ∷ None ∷ []
-unfolding node_of
-cluster_above = refl
-
-pub clusters_nodes : places_of clusters 1
-    (0 ∷ 0x77 ∷ 0x100 ∷ 0x1ff ∷ 0x200 ∷ 0x10100 ∷ 0x1000000 ∷ 0x100000100 ∷ [])
-    ≡ node 1 0 ∷ node 1 0 ∷ node 1 1 ∷ node 1 1 ∷ replicate 4 None
+pub clusters_nodes : Gives (nodes_of clusters)
+    ((1, 0 ∷ 0x77 ∷ 0x100 ∷ 0x1ff ∷ 0x200 ∷ 0x10100 ∷ 0x1000000 ∷ 0x100000100 ∷ [])
+    ⇒ (node 1 0 ∷ node 1 0 ∷ node 1 1 ∷ node 1 1 ∷ replicate 4 None)
+    ∷ (0, 0 ∷ 0x101 ∷ 0x102 ∷ []) ⇒ (node 0 0 ∷ node 0 3 ∷ None ∷ [])
+    ∷ (2, 0 ∷ 0xffff ∷ 0x10000 ∷ 0x1000000 ∷ 0x100000000 ∷ [])
+    ⇒ (node 2 0 ∷ node 2 0 ∷ replicate 3 None)
+    ∷ (3, 0 ∷ []) ⇒ (None ∷ []) ∷ [])
 unfolding node_of
 clusters_nodes = refl
 
-pub clusters_cores_as_nodes : places_of clusters 0
-    (0 ∷ 0x101 ∷ 0x102 ∷ [])
-    ≡ node 0 0 ∷ node 0 3 ∷ None ∷ []
-unfolding node_of
-clusters_cores_as_nodes = refl
-
-pub clusters_system : places_of clusters 2
-    (0 ∷ 0xffff ∷ 0x10000 ∷ 0x1000000 ∷ 0x100000000 ∷ [])
-    ≡ node 2 0 ∷ node 2 0 ∷ replicate 3 None
-unfolding node_of
-clusters_system = refl
-
-pub clusters_above : places_of clusters 3
-    (0 ∷ [])
-    ≡ None ∷ []
-unfolding node_of
-clusters_above = refl
-
-pub groups_nodes : places_of groups 1
-    (0xff ∷ 0x1aa ∷ 0x10055 ∷ 0x200 ∷ 0x10100 ∷ 0x20000 ∷ 0x1000100 ∷ [])
-    ≡ node 1 0 ∷ node 1 1 ∷ node 1 2 ∷ replicate 4 None
+pub groups_nodes : Gives (nodes_of groups)
+    ((1, 0xff ∷ 0x1aa ∷ 0x10055 ∷ 0x200 ∷ 0x10100 ∷ 0x20000 ∷ 0x1000100 ∷ [])
+    ⇒ (node 1 0 ∷ node 1 1 ∷ node 1 2 ∷ replicate 4 None)
+    ∷ (2, 0xffff ∷ 0x1ffff ∷ 0x20000 ∷ 0x1010000 ∷ []) ⇒ (node 2 0 ∷ node 2 1 ∷ None ∷ None ∷ [])
+    ∷ (3, 0 ∷ 0xffffff ∷ 0x1000000 ∷ 0x100000000 ∷ 0x8000000000000000 ∷ [])
+    ⇒ (node 3 0 ∷ node 3 0 ∷ replicate 3 None)
+    ∷ (4, 0 ∷ []) ⇒ (None ∷ []) ∷ [])
 unfolding node_of
 groups_nodes = refl
-
-pub groups_groups : places_of groups 2
-    (0xffff ∷ 0x1ffff ∷ 0x20000 ∷ 0x1010000 ∷ [])
-    ≡ node 2 0 ∷ node 2 1 ∷ None ∷ None ∷ []
-unfolding node_of
-groups_groups = refl
-
-pub groups_system : places_of groups 3
-    (0 ∷ 0xffffff ∷ 0x1000000 ∷ 0x100000000 ∷ 0x8000000000000000 ∷ [])
-    ≡ node 3 0 ∷ node 3 0 ∷ replicate 3 None
-unfolding node_of
-groups_system = refl
-
-pub groups_above : places_of groups 4
-    (0 ∷ [])
-    ≡ None ∷ []
-unfolding node_of
-groups_above = refl
 
 -- Paths -----------------------------------------------------------------------------------------
 

@@ -1,5 +1,5 @@
 -- What may not be answered for a text.
-use Rattle.std.proofs.Common.{◌≡◌, ℕ, ◌∷◌, [], refl, ap, arith}
+use Rattle.std.proofs.Common.{◌≡◌, ℕ, refl, ap, arith}
 use Rattle.std.specs.Prelude.{Result, Ok, Err}
 use Rattle.psci_board.specs.declared.fault.BoardFault.{BoardFault}
 use Rattle.psci_board.specs.declared.fault.BoardFault.TheVariants.{Grammar, Uneven, Memory}

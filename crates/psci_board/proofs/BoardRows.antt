@@ -9,32 +9,32 @@ use Rattle.psci_board.proofs.SpanRows.{uneven}
 -- Boards ----------------------------------------------------------------------------------------
 
 pub no_level : IsBoard (board []) → ⊥
-no_level h = let low = h.low in absurd (omega arith)
+no_level h = omega (arith, h.low)
 
 pub four_levels :
     IsBoard (board ((1 ∷ []) ∷ (1 ∷ []) ∷ (1 ∷ []) ∷ (1 ∷ []) ∷ [])) → ⊥
-four_levels h = let high = h.high in absurd (omega arith)
+four_levels h = omega (arith, h.high)
 
 -- two clusters, and a system of three children
 pub levels_apart : IsBoard (board ((2 ∷ 2 ∷ []) ∷ (3 ∷ []) ∷ [])) → ⊥
-levels_apart h = let nodes = h.tree.0 in absurd (omega arith)
+levels_apart h = omega (arith, h.tree.0)
 
 -- sixteen clusters of 16 cores in one group, and one more core
 pub too_many_cores : IsBoard (board ((replicate 16 16 ++ 1 ∷ []) ∷ (16 ∷ 1 ∷ []) ∷ (2 ∷ []) ∷ []))
     → ⊥
-too_many_cores h = let few = h.tree.1 in absurd (omega arith)
+too_many_cores h = omega (arith, h.tree.1)
 
 pub no_life : IsBoard (record uneven { lives = 0 }) → ⊥
-no_life h = let some = h.some_lives in absurd (omega arith)
+no_life h = omega (arith, h.some_lives)
 
 pub too_many_lives : IsBoard (record uneven { lives = 65536 }) → ⊥
-too_many_lives h = let lives = h.lives in absurd (omega arith)
+too_many_lives h = omega (arith, h.lives)
 
 pub no_start : IsBoard (record uneven { starts = 0 }) → ⊥
-no_start h = let some = h.some_starts in absurd (omega arith)
+no_start h = omega (arith, h.some_starts)
 
 pub too_many_starts : IsBoard (record uneven { starts = 4294967296 }) → ⊥
-too_many_starts h = let starts = h.starts in absurd (omega arith)
+too_many_starts h = omega (arith, h.starts)
 
 pub boot_outside : IsBoard (record uneven { boot = 0x40100000 }) → ⊥
 boot_outside h = let boot = h.boot in cc
@@ -68,10 +68,10 @@ pub last_cluster : HasNode uneven (at 1 4)
 last_cluster = record { level = omega arith; place = omega arith }
 
 pub after_the_last_cluster : HasNode uneven (at 1 5) → ⊥
-after_the_last_cluster h = let place = h.place in absurd (omega arith)
+after_the_last_cluster h = omega (arith, h.place)
 
 pub above_the_system : HasNode uneven (at 4 0) → ⊥
-above_the_system h = let level = h.level in absurd (omega arith)
+above_the_system h = omega (arith, h.level)
 
 pub cores_by_number : core_at uneven 0 ∷ core_at uneven 10 ∷ core_at uneven 11 ∷ []
     ≡ Some (record { number = 0 }) ∷ Some (record { number = 10 }) ∷ None ∷ []

@@ -31,10 +31,7 @@ child_of w q p h e =
 
 of_parent : (b : BoardValue) → IsBoard b → (c l : ℕ) → c < cores b → l < height b
     → Child (counts b l) (place_above b.levels (suc l) c) (place_above b.levels l c)
-of_parent b h c l k m =
-    let here = inside b.levels l c h.tree k (omega arith) in
-    let size = (level b.levels l h.tree m).size in
-    child_of _ _ _ (rw size at here) (place_above-suc b.levels l c m)
+of_parent b h c l k m = grind (arith, nat_tests, inside, level, child_of, place_above-suc)
 
 parent : (b : BoardValue) (c l p : ℕ) → l < height b
     → sum (take p (counts b l)) ≤ place_above b.levels l c

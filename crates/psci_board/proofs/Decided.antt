@@ -4,9 +4,9 @@ use Rattle.std.proofs.Common.{length, take, map, sum, Option, Some, None, Result
 use Rattle.std.proofs.Common.{sym, subst, arith}
 use Rattle.std.specs.Prelude.{◌&&◌, not, ◌==◌}
 use Rattle.std.specs.Str.Parse.{digits_value}
+use Rattle.std.proofs.lemmas.Bool.{and_parts, or_parts}
 use Rattle.std.proofs.lemmas.Bool.Decides.{nat_tests}
 use Rattle.std.proofs.lemmas.List.{take_all}
-use Rattle.psci_board.specs.psci_abi.declared.format.Format.{Format}
 use Rattle.psci_board.specs.declared.limits.TheConstants.{MOST_CORES}
 use Rattle.psci_board.specs.declared.range.AddressRange.{AddressRange}
 use Rattle.psci_board.specs.declared.fault.BoardFault.{BoardFault}
@@ -15,7 +15,6 @@ use Rattle.psci_board.specs.declared.fault.BoardFault.TheVariants.{BadRange, Bad
 use Rattle.psci_board.specs.declared.text.TextSummary.{TextSummary}
 use Rattle.psci_board.specs.Grammar.{BoardText}
 use Rattle.psci_board.specs.Board.{BoardValue, is_in_some, IsBoard}
-use Rattle.psci_board.specs.Summary.{TreeSummaryValue, RangesSummaryValue}
 use Rattle.psci_board.specs.SummaryVerdict.{text_summary, summary_board, fault_in}
 use Rattle.psci_board.specs.Reading.{board_text}
 use Rattle.psci_board.specs.Verdict.{board_of, verdict_or, clusters, range_of, has_bad_range}
@@ -23,15 +22,10 @@ use Rattle.psci_board.specs.Verdict.{board_in, format_or_original, is_limit, ver
 use Rattle.psci_board.proofs.Kept.{kept_ranges, kept_all_ranges}
 use Rattle.psci_board.proofs.KeptTree.{IsFull, kept_tree, tree_is_kept, uneven_kept, wide_kept}
 use Rattle.psci_board.proofs.KeptTree.{total_kept, levels_kept, is_tree, heights, within}
-use Rattle.psci_board.proofs.KeptTree.{left_false}
 
 not_false : (b : Bool) → not b ≡ false → b ≡ true
 not_false true h = refl
 not_false false h = cc
-
-both_true : (a b : Bool) → (a && b) ≡ true → (a ≡ true) × (b ≡ true)
-both_true true b h = (refl, h)
-both_true false b h = cc
 
 limited : (most n : ℕ) → is_limit most n ≡ true → (0 < n) × (n ≤ most)
 limited most n h = (grind (arith, nat_tests), grind (arith, nat_tests))
@@ -58,7 +52,7 @@ is_board t v said =
     let e = passed _ BadBoot _ v d.1 in
     let f = passed _ BadLimit _ v e.1 in
     let few : sum (clusters t.tree) ≤ MOST_CORES = within MOST_CORES _ c.0 in
-    let limits = both_true _ _ (not_false _ f.0) in
+    let limits = and_parts _ _ (not_false _ f.0) in
     let starts = limited (2 ^ 32 - 1) t.starts limits.0 in
     let lives = limited 65535 t.lives limits.1 in
     let same = same_ok (board_in t) v f.1 in
@@ -96,28 +90,7 @@ kept_text t = record {
 }
 
 all_ranges : (rs : List AddressRange) → has_bad_range rs ≡ false → take 4 rs ≡ rs
-all_ranges rs h = take_all 4 rs (within 4 (length rs) (left_false _ _ h))
-
-same_board : {a b : List (List ℕ)} {c d : List AddressRange} (boot starts lives : ℕ)
-    (format : Format) → a ≡ b → c ≡ d
-    → ◌≡◌ {A = BoardValue}
-    (record {
-      levels = a;
-      ranges = c;
-      boot = boot;
-      starts = starts;
-      lives = lives;
-      format = format;
-    })
-    (record {
-      levels = b;
-      ranges = d;
-      boot = boot;
-      starts = starts;
-      lives = lives;
-      format = format;
-    })
-same_board boot starts lives format p q = cc
+all_ranges rs h = take_all 4 rs (within 4 (length rs) (or_parts _ _ h).0)
 
 decided_by : (t : BoardText) → IsFull t.tree
     → verdict t ≡ said (fault_in (kept_text t)) (summary_board (kept_text t))
@@ -132,21 +105,15 @@ decided_by t full =
     next _ _ BadBoot _ _ _
     (ap (λ qs. not (boot % 4 == 0 && is_in_some qs boot)) (sym (all_ranges rs r))) (λ b.
     next _ _ BadLimit _ _ _ refl (λ l.
-    ap Ok (same_board boot t.starts t.lives (format_or_original t.format)
-    (sym (levels_kept t.tree full w (within MOST_CORES _ f)))
-    (sym (all_ranges rs r)))))))))
-
-same_kept : {a b : TreeSummaryValue} {c d : RangesSummaryValue} (boot starts lives : ℕ)
-    (format : Format) → a ≡ b
-    → c ≡ d
-    → ◌≡◌ {A = TextSummary}
-    (record { tree = a; ranges = c; boot = boot; starts = starts; lives = lives; format = format })
-    (record { tree = b; ranges = d; boot = boot; starts = starts; lives = lives; format = format })
-same_kept boot starts lives format p q = cc
+    let levels = sym (levels_kept t.tree full w (within MOST_CORES _ f)) in
+    let ranges = sym (all_ranges rs r) in
+    λ i. Ok (record (board_in t) { levels = levels i; ranges = ranges i })))))))
 
 text_is_kept : (t : BoardText) → text_summary t ≡ kept_text t
-text_is_kept t = same_kept (digits_value 16 t.boot) t.starts t.lives (format_or_original t.format)
-    (tree_is_kept t.tree) (kept_all_ranges [] t.ranges)
+text_is_kept t =
+    let tree = tree_is_kept t.tree in
+    let ranges = kept_all_ranges [] t.ranges in
+    λ i. record (kept_text t) { tree = tree i; ranges = ranges i }
 
 pub decided : (t : BoardText) → IsFull t.tree
     → verdict t ≡ said (fault_in (text_summary t)) (summary_board (text_summary t))

@@ -1,6 +1,7 @@
 -- The first fault of texts that have several at once, and texts at each limit and one beside it.
-use Rattle.std.proofs.Common.{◌≡◌, List, ◌∷◌, [], ◌++◌, refl}
-use Rattle.std.specs.Prelude.{ℕ, codes, map, replicate}
+use Prim.Native.String.{String}
+use Rattle.std.proofs.Common.{ℕ, List, ◌∷◌, [], ◌++◌, refl}
+use Rattle.std.specs.Prelude.{codes, Option, None, Some}
 use Rattle.psci_board.specs.declared.fault.BoardFault.{BoardFault}
 use Rattle.psci_board.specs.declared.fault.BoardFault.TheVariants.{Grammar, Uneven, TooWide}
 use Rattle.psci_board.specs.declared.fault.BoardFault.TheVariants.{TooManyCores, BadRange, BadBoot}
@@ -9,133 +10,108 @@ use Rattle.psci_board.specs.ReadWords.{literal_at, number_at, hex_at, spaced_at}
 use Rattle.psci_board.specs.Reading.{range_at, at_most}
 use Rattle.psci_board.specs.Reading.{more_at, list_at, member_at, tree_at, board_text}
 use Rattle.psci_board.specs.Verdict.{board_of, verdict}
-use Rattle.psci_board.proofs.VerdictRows.{fault_in, with_tree, with_ranges, with_limits}
-use Rattle.psci_board.proofs.VerdictRows.{widest_list}
+use Rattle.psci_board.proofs.Tables.{◌⇒◌, Gives}
+use Rattle.psci_board.proofs.VerdictRows.{of_text, with_tree, with_ranges, with_limits}
+use Rattle.psci_board.proofs.LargestRows.{widest_list}
 
 -- Order -----------------------------------------------------------------------------------------
 
-abbrev first_faults : List (List ℕ) → List (List BoardFault)
-first_faults texts = map (λ text. fault_in (board_of text)) texts
+abbrev first_fault : String → Option BoardFault
+first_fault text = of_text (codes text)
 
 -- each fault with all those that are looked for after it
-pub all_at_once : first_faults (
-    codes "(257 (17) exec 0x10-0x10 boot 0x1 starts 0 lives 0" ∷
-    codes "(257 (17)) exec 0x10-0x10 boot 0x1 starts 0 lives 0" ∷
-    codes "257 exec 0x10-0x10 boot 0x1 starts 0 lives 0" ∷
-    (codes "(" ++ (widest_list ++ codes " (1)) exec 0x10-0x10 boot 0x1 starts 0 lives 0")) ∷
-    codes "16 exec 0x10-0x10 boot 0x1 starts 0 lives 0" ∷
-    codes "16 exec 0x0-0x10 boot 0x1 starts 0 lives 0" ∷
-    codes "16 exec 0x0-0x10 boot 0x0 starts 0 lives 0" ∷
-    []) ≡ (Grammar ∷ []) ∷ (Uneven ∷ []) ∷ (TooWide ∷ []) ∷ (TooManyCores ∷ []) ∷ (BadRange ∷ [])
-    ∷ (BadBoot ∷ []) ∷ (BadLimit ∷ []) ∷ []
+pub all_at_once : Gives first_fault
+    ("(257 (17) exec 0x10-0x10 boot 0x1 starts 0 lives 0" ⇒ Some Grammar
+    ∷ "(257 (17)) exec 0x10-0x10 boot 0x1 starts 0 lives 0" ⇒ Some Uneven
+    ∷ "257 exec 0x10-0x10 boot 0x1 starts 0 lives 0" ⇒ Some TooWide
+    ∷ "16 exec 0x10-0x10 boot 0x1 starts 0 lives 0" ⇒ Some BadRange
+    ∷ "16 exec 0x0-0x10 boot 0x1 starts 0 lives 0" ⇒ Some BadBoot
+    ∷ "16 exec 0x0-0x10 boot 0x0 starts 0 lives 0" ⇒ Some BadLimit ∷ [])
 unfolding board_of verdict board_text tree_at member_at list_at more_at at_most spaced_at
     range_at hex_at number_at literal_at
 all_at_once = refl
 
 -- two neighbours in that order, and nothing else
-pub neighbours : first_faults (
-    codes "(1 (1) exec 0x0-0x10 boot 0x0 starts 1 lives 1" ∷
-    codes "(17 (1)) exec 0x0-0x10 boot 0x0 starts 1 lives 1" ∷
-    (codes "(16 16 16 16 16 16 16 16 16 16 16 16 16 16 16 17)"
-    ++ codes " exec 0x0-0x10 boot 0x0 starts 1 lives 1") ∷
-    (codes "(" ++ (widest_list ++ codes " (1)) exec 0x10-0x10 0x0-0x10 boot 0x0 starts 1 lives 1"))
-    ∷
-    codes "16 exec 0x10-0x10 0x0-0x10 boot 0x1 starts 1 lives 1" ∷
-    codes "16 exec 0x0-0x10 boot 0x1 starts 0 lives 1" ∷
-    codes "16 exec 0x0-0x10 boot 0x1 starts 1 lives 0" ∷
-    []) ≡ (Grammar ∷ []) ∷ (Uneven ∷ []) ∷ (TooWide ∷ []) ∷ (TooManyCores ∷ []) ∷ (BadRange ∷ [])
-    ∷ (BadBoot ∷ []) ∷ (BadBoot ∷ []) ∷ []
+pub neighbours : Gives first_fault
+    ("(1 (1) exec 0x0-0x10 boot 0x0 starts 1 lives 1" ⇒ Some Grammar
+    ∷ "(17 (1)) exec 0x0-0x10 boot 0x0 starts 1 lives 1" ⇒ Some Uneven
+    ∷ "(16 16 16 16 16 16 16 16 16 16 16 16 16 16 16 17) exec 0x0-0x10 boot 0x0 starts 1 lives 1"
+    ⇒ Some TooWide
+    ∷ "16 exec 0x10-0x10 0x0-0x10 boot 0x1 starts 1 lives 1" ⇒ Some BadRange
+    ∷ "16 exec 0x0-0x10 boot 0x1 starts 0 lives 1" ⇒ Some BadBoot
+    ∷ "16 exec 0x0-0x10 boot 0x1 starts 1 lives 0" ⇒ Some BadBoot ∷ [])
 unfolding board_of verdict board_text tree_at member_at list_at more_at at_most spaced_at
     range_at hex_at number_at literal_at
 neighbours = refl
 
 -- Limits ----------------------------------------------------------------------------------------
 
--- 16 members of each list, 16 cores of a cluster, 255 and 256 cores
-pub widest : with_tree (
-    codes "15" ∷
-    codes "16" ∷
-    codes "(1 1 1 1 1 1 1 1 1 1 1 1 1 1 1 1)" ∷
-    codes "(4 4 4 4 4 4 4 4 4 4 4 4 4 4 4 4)" ∷
-    codes "((1) (1) (1) (1) (1) (1) (1) (1) (1) (1) (1) (1) (1) (1) (1) (1))" ∷
-    codes "((1 1 1 1 1 1 1 1 1 1 1 1 1 1 1 1))" ∷
-    codes "(16 16 16 16 16 16 16 16 16 16 16 16 16 16 16 15)" ∷
-    widest_list ∷
-    codes "((16 16 16 16) (16 16 16 16) (16 16 16 16) (16 16 16 16))" ∷
-    (codes "(" ++ (widest_list ++ codes ")")) ∷
-    []) ≡ replicate 10 []
+pub trees : Gives with_tree
+    -- 16 members of each list, 16 cores of a cluster, 255 and 256 cores
+    ("15" ⇒ None
+    ∷ "(1 1 1 1 1 1 1 1 1 1 1 1 1 1 1 1)" ⇒ None
+    ∷ "(4 4 4 4 4 4 4 4 4 4 4 4 4 4 4 4)" ⇒ None
+    ∷ "((1) (1) (1) (1) (1) (1) (1) (1) (1) (1) (1) (1) (1) (1) (1) (1))" ⇒ None
+    ∷ "((1 1 1 1 1 1 1 1 1 1 1 1 1 1 1 1))" ⇒ None
+    ∷ "(16 16 16 16 16 16 16 16 16 16 16 16 16 16 16 15)" ⇒ None
+    ∷ "(16 16 16 16 16 16 16 16 16 16 16 16 16 16 16 16)" ⇒ None
+    ∷ "((16 16 16 16) (16 16 16 16) (16 16 16 16) (16 16 16 16))" ⇒ None
+    ∷ "((16 16 16 16 16 16 16 16 16 16 16 16 16 16 16 16))" ⇒ None
+    -- one more
+    ∷ "(1 17)" ⇒ Some TooWide
+    ∷ "((1) (1 17))" ⇒ Some TooWide
+    ∷ "((1) (1 1 1 1 1 1 1 1 1 1 1 1 1 1 1 1 1))" ⇒ Some TooWide
+    ∷ "(18446744073709551615 1)" ⇒ Some TooWide
+    -- 257 cores, and more than 256 by as much as two groups can have
+    ∷ "((16 16 16 16) (16 16 16 16) (16 16 16 16) (16 16 16 16 1))" ⇒ Some TooManyCores
+    ∷ "((1) (16 16 16 16 16 16 16 16 16 16 16 16 16 16 16 16))" ⇒ Some TooManyCores
+    -- the largest number, and the one after it
+    ∷ "(18446744073709551615)" ⇒ Some TooWide
+    ∷ "(18446744073709551616)" ⇒ Some Grammar
+    ∷ "((18446744073709551615))" ⇒ Some TooWide
+    ∷ "((18446744073709551616))" ⇒ Some Grammar ∷ [])
 unfolding board_of verdict board_text tree_at member_at list_at more_at at_most spaced_at
     range_at hex_at number_at literal_at
-widest = refl
+trees = refl
 
--- one more
-pub one_wider : with_tree (
-    codes "17" ∷
-    codes "(1 17)" ∷
-    codes "((1) (1 17))" ∷
-    codes "(1 1 1 1 1 1 1 1 1 1 1 1 1 1 1 1 1)" ∷
-    codes "((1) (1) (1) (1) (1) (1) (1) (1) (1) (1) (1) (1) (1) (1) (1) (1) (1))" ∷
-    codes "((1) (1 1 1 1 1 1 1 1 1 1 1 1 1 1 1 1 1))" ∷
-    codes "(18446744073709551615 1)" ∷
-    []) ≡ replicate 7 (TooWide ∷ [])
+-- a text that begins with a group of sixteen full clusters, and goes on so
+abbrev beside_full_group : String → List ℕ
+beside_full_group text = codes "(" ++ (widest_list ++ codes text)
+
+-- too many cores: with all faults that are looked for after it, with the next, and with none, where
+-- there are more than 256 by as much as two groups can have
+pub wide_groups : Gives of_text
+    (beside_full_group " (1)) exec 0x10-0x10 boot 0x1 starts 0 lives 0" ⇒ Some TooManyCores
+    ∷ beside_full_group " (1)) exec 0x10-0x10 0x0-0x10 boot 0x0 starts 1 lives 1"
+    ⇒ Some TooManyCores
+    ∷ beside_full_group
+    " (16 16 16 16 16 16 16 16 16 16 16 16 16 16 16 16)) exec 0x0-0x10 boot 0x0 starts 1 lives 1"
+    ⇒ Some TooManyCores ∷ [])
 unfolding board_of verdict board_text tree_at member_at list_at more_at at_most spaced_at
     range_at hex_at number_at literal_at
-one_wider = refl
+wide_groups = refl
 
--- 257 cores, and more than 256 by as much as two groups can have
-pub one_core_more : with_tree (
-    codes "((16 16 16 16) (16 16 16 16) (16 16 16 16) (16 16 16 16 1))" ∷
-    (codes "((1) " ++ (widest_list ++ codes ")")) ∷
-    (codes "(" ++ (widest_list ++ codes " (1))")) ∷
-    (codes "(" ++ (widest_list ++ (codes " " ++ (widest_list ++ codes ")")))) ∷
-    []) ≡ replicate 4 (TooManyCores ∷ [])
-unfolding board_of verdict board_text tree_at member_at list_at more_at at_most spaced_at
-    range_at hex_at number_at literal_at
-one_core_more = refl
-
--- the largest number, and the one after it
-pub largest_numbers : with_tree (
-    codes "18446744073709551615" ∷
-    codes "18446744073709551616" ∷
-    codes "(18446744073709551615)" ∷
-    codes "(18446744073709551616)" ∷
-    codes "((18446744073709551615))" ∷
-    codes "((18446744073709551616))" ∷
-    []) ≡ (TooWide ∷ []) ∷ (Grammar ∷ []) ∷ (TooWide ∷ []) ∷ (Grammar ∷ []) ∷ (TooWide ∷ [])
-    ∷ (Grammar ∷ []) ∷ []
-unfolding board_of verdict board_text tree_at member_at list_at more_at at_most spaced_at
-    range_at hex_at number_at literal_at
-largest_numbers = refl
-
-pub limits : with_limits (
-    codes "starts 4294967295 lives 1" ∷
-    codes "starts 4294967296 lives 1" ∷
-    codes "starts 18446744073709551615 lives 1" ∷
-    codes "starts 18446744073709551616 lives 1" ∷
-    codes "starts 1 lives 65535" ∷
-    codes "starts 1 lives 65536" ∷
-    codes "starts 1 lives 18446744073709551615" ∷
-    codes "starts 1 lives 18446744073709551616" ∷
-    []) ≡ [] ∷ (BadLimit ∷ []) ∷ (BadLimit ∷ []) ∷ (Grammar ∷ [])
-    ∷ [] ∷ (BadLimit ∷ []) ∷ (BadLimit ∷ []) ∷ (Grammar ∷ []) ∷ []
+pub limits : Gives with_limits
+    ("starts 4294967295 lives 1" ⇒ None
+    ∷ "starts 18446744073709551616 lives 1" ⇒ Some Grammar
+    ∷ "starts 1 lives 65535" ⇒ None
+    ∷ "starts 1 lives 18446744073709551615" ⇒ Some BadLimit ∷ [])
 unfolding board_of verdict board_text tree_at member_at list_at more_at at_most spaced_at
     range_at hex_at number_at literal_at
 limits = refl
 
 -- four ranges and five; the boot address in a later range, at its start, at its last multiple of 4,
 -- and at its end
-pub ranges : with_ranges (
-    codes "0x0-0x8 0x10-0x18 0x20-0x28 0x30-0x39 boot 0x30" ∷
-    codes "0x0-0x8 0x10-0x18 0x20-0x28 0x30-0x39 boot 0x38" ∷
-    codes "0x0-0x8 0x10-0x18 0x20-0x28 0x30-0x39 boot 0x3c" ∷
-    codes "0x0-0x8 0x10-0x18 boot 0x14" ∷
-    codes "0x0-0x8 0x10-0x18 boot 0x18" ∷
-    codes "0x0-0x8 0x10-0x18 boot 0x8" ∷
-    codes "0x0-0x8 0x10-0x18 0x20-0x28 0x30-0x39 0x40-0x48 boot 0x30" ∷
-    codes "0x0-0x8 0x10-0x18 0x20-0x28 0x30-0x30 boot 0x0" ∷
-    codes "0x0-0x8 0x10-0x18 0x20-0x28 0x31-0x30 boot 0x0" ∷
-    []) ≡ [] ∷ [] ∷ (BadBoot ∷ []) ∷ [] ∷ (BadBoot ∷ []) ∷ (BadBoot ∷ []) ∷ (BadRange ∷ [])
-    ∷ (BadRange ∷ []) ∷ (BadRange ∷ []) ∷ []
+pub ranges : Gives with_ranges
+    ("0x0-0x8 0x10-0x18 0x20-0x28 0x30-0x39 boot 0x30" ⇒ None
+    ∷ "0x0-0x8 0x10-0x18 0x20-0x28 0x30-0x39 boot 0x38" ⇒ None
+    ∷ "0x0-0x8 0x10-0x18 0x20-0x28 0x30-0x39 boot 0x3c" ⇒ Some BadBoot
+    ∷ "0x0-0x8 0x10-0x18 boot 0x14" ⇒ None
+    ∷ "0x0-0x8 0x10-0x18 boot 0x18" ⇒ Some BadBoot
+    ∷ "0x0-0x8 0x10-0x18 boot 0x8" ⇒ Some BadBoot
+    ∷ "0x0-0x8 0x10-0x18 0x20-0x28 0x30-0x39 0x40-0x48 boot 0x30" ⇒ Some BadRange
+    ∷ "0x0-0x8 0x10-0x18 0x20-0x28 0x30-0x30 boot 0x0" ⇒ Some BadRange
+    ∷ "0x0-0x8 0x10-0x18 0x20-0x28 0x31-0x30 boot 0x0" ⇒ Some BadRange ∷ [])
 unfolding board_of verdict board_text tree_at member_at list_at more_at at_most spaced_at
     range_at hex_at number_at literal_at
 ranges = refl

@@ -36,15 +36,7 @@ pub address_up-injective : (ws : List (List ℕ)) (i j : ℕ) → IsTree ws → 
     → j < size_below ws → address_up ws i ≡ address_up ws j → i ≡ j
 address_up-injective [] i j t h k e = omega arith
 address_up-injective (w ∷ ws) i j t h k e =
-    let a = counted w i h in
-    let b = counted w j k in
-    let x = fields w ws i (address_up (w ∷ ws) j) t h e in
-    let y = fields w ws j (address_up (w ∷ ws) j) t k refl in
-    let same : group_of w i ≡ group_of w j =
-    address_up-injective ws (group_of w i) (group_of w j) t.3 (fits w ws i t h).group
-    (fits w ws j t k).group (cc (x.high, y.high)) in
-    let whole : sum (take (group_of w j) w) + index_in w i ≡ i = rw same at a.whole in
-    omega (arith, whole, b.whole, x.low, y.low)
+    grind (arith, nat_tests, counted, fields, fits, address_up-injective ws)
 
 -- Names -------------------------------------------------------------------------------------------
 

@@ -11,6 +11,7 @@ use Rattle.psci_board.specs.Board.{IsTree, size_below, group_of, place_above}
 use Rattle.psci_board.specs.Board.{first_core}
 use Rattle.psci_board.proofs.Groups.{sum-cons, counted}
 use Rattle.psci_board.proofs.Fields.{fits}
+use Rattle.std.proofs.lemmas.Bool.Decides.{nat_tests}
 
 -- One level -----------------------------------------------------------------------------------
 
@@ -19,19 +20,11 @@ sum_take_grows w zero k h = omega arith
 sum_take_grows [] (suc j) zero h = omega arith
 sum_take_grows [] (suc j) (suc k) h = omega arith
 sum_take_grows (n ∷ ns) (suc j) zero h = absurd (omega arith)
-sum_take_grows (n ∷ ns) (suc j) (suc k) h = omega (
-  arith,
-  sum-cons n (take j ns),
-  sum-cons n (take k ns),
-  sum_take_grows ns j k (omega arith),
-)
+sum_take_grows (n ∷ ns) (suc j) (suc k) h =
+    grind (arith, nat_tests, sum-cons, sum_take_grows ns j k)
 
 pub sum_take_more : (w : List ℕ) (k : ℕ) → sum (take (k + 1) w) ≡ sum (take k w) + get_or w k 0
-sum_take_more w k = elim (cases_lt k (length w)) [
-  | inl m ↦ sum_by_more (λ x. x) w k 0 m
-  | inr m ↦
-      rw (take_all (k + 1) w (omega arith), take_all k w m, get_or_past w k 0 m) (omega arith)
-]
+sum_take_more w k = grind (arith, nat_tests, sum_by_more, take_all, get_or_past)
 
 -- what stands from the first child on is in the group or in a later one
 group_from : (w : List ℕ) (i k : ℕ) → i < sum w → sum (take k w) ≤ i → k ≤ group_of w i
@@ -65,17 +58,14 @@ pub above_from : (levels : List (List ℕ)) (l c p : ℕ) → IsTree levels → 
 above_from levels zero c p t h i f = f
 above_from [] (suc l) c p t h i f = absurd (omega arith)
 above_from (w ∷ ws) (suc l) c p t h i f =
-    above_from ws l (group_of w c) p t.3 (omega arith) (fits w ws c t i).group
-    (group_from w c (first_core ws l p) i (omega (arith, first_up w ws l p)))
+    grind (arith, nat_tests, fits, group_from, first_up, above_from ws l)
 
 pub above_back : (levels : List (List ℕ)) (l c p : ℕ) → IsTree levels → l ≤ length levels
     → c < size_below levels → p ≤ place_above levels l c → first_core levels l p ≤ c
 above_back levels zero c p t h i f = f
 above_back [] (suc l) c p t h i f = absurd (omega arith)
 above_back (w ∷ ws) (suc l) c p t h i f =
-    let here = group_back w c (first_core ws l p) i
-    (above_back ws l (group_of w c) p t.3 (omega arith) (fits w ws c t i).group f) in
-    omega (arith, here, first_up w ws l p)
+    grind (arith, nat_tests, group_back, fits, first_up, above_back ws l)
 
 pub first_grows : (levels : List (List ℕ)) (l p q : ℕ) → p ≤ q
     → first_core levels l p ≤ first_core levels l q
@@ -108,28 +98,19 @@ first_zero levels (suc l) = first_zero levels l
 first_lower : (ws vs : List (List ℕ)) (l p : ℕ) → l ≤ length ws
     → first_core (ws ++ vs) l p ≡ first_core ws l p
 first_lower ws vs zero p h = refl
-first_lower ws vs (suc l) p h =
-    rw (get_or_append_left ws vs [] l (omega arith))
-    (first_lower ws vs l (sum (take p (get_or ws l []))) (omega arith))
+first_lower ws vs (suc l) p h = grind (arith, nat_tests, get_or_append_left, first_lower ws vs l)
 
 first_down : (ws : List (List ℕ)) (w : List ℕ) (p : ℕ)
     → first_core (ws ++ w ∷ []) (length (ws ++ w ∷ [])) p
     ≡ first_core ws (length ws) (sum (take p w))
-first_down ws w p =
-    let long : length (ws ++ w ∷ []) ≡ suc (length ws) = omega (arith, length_push ws w) in
-    ap (λ n. first_core (ws ++ w ∷ []) n p) long
-    ∙ ap (λ k. first_core (ws ++ w ∷ []) (length ws) (sum (take p k)))
-    (get_or-append_seam ws w [] [])
-    ∙ first_lower ws (w ∷ []) (length ws) (sum (take p w)) (omega arith)
+first_down ws w p = grind (arith, nat_tests, length_push, get_or-append_seam, first_lower)
 
 -- one step of the walk
 pub first_step : (levels lower : List (List ℕ)) (w : List ℕ) (place child first : ℕ)
     → levels ≡ lower ++ w ∷ [] → child ≡ sum (take place w)
     → first ≡ first_core lower (length lower) child
     → first ≡ first_core levels (length levels) place
-first_step levels lower w place child first e f g =
-    g ∙ ap (first_core lower (length lower)) f ∙ sym (first_down lower w place)
-    ∙ ap (λ ws. first_core ws (length ws) place) (sym e)
+first_step levels lower w place child first e f g = grind (arith, nat_tests, first_down)
 
 pub first_cut : (ws : List (List ℕ)) (l p : ℕ) → l ≤ length ws
     → first_core (take l ws) (length (take l ws)) p ≡ first_core ws l p

@@ -1,6 +1,7 @@
 -- The last part of known board texts: the format of power state words.
-use Rattle.std.proofs.Common.{◌≡◌, List, ◌∷◌, [], refl}
-use Rattle.std.specs.Prelude.{ℕ, codes, Option, Some, None, Result, Ok, Err, map, replicate}
+use Prim.Native.String.{String}
+use Rattle.std.proofs.Common.{List, ◌∷◌, [], refl}
+use Rattle.std.specs.Prelude.{ℕ, codes, Option, Some, None, Result, Ok, Err}
 use Rattle.std.specs.Fmt.{digits}
 use Rattle.psci_board.specs.psci_abi.declared.format.Format.{Format}
 use Rattle.psci_board.specs.psci_abi.declared.format.Format.TheVariants.{Original, Extended}
@@ -13,92 +14,61 @@ use Rattle.psci_board.specs.ReadWords.{literal_at, number_at, hex_at, spaced_at}
 use Rattle.psci_board.specs.Reading.{range_at, at_most}
 use Rattle.psci_board.specs.Reading.{more_at, list_at, member_at, tree_at, board_text}
 use Rattle.psci_board.specs.Verdict.{board_of, verdict}
+use Rattle.psci_board.proofs.Tables.{◌⇒◌, Gives}
 use Rattle.psci_board.proofs.VerdictRows.{with_limits}
 
--- Formats -------------------------------------------------------------------------------------
+abbrev format_in : Result BoardValue BoardFault → Option Format
+format_in (Ok b) = Some b.format
+format_in (Err f) = None
 
-abbrev format_in : Result BoardValue BoardFault → List Format
-format_in (Ok b) = b.format ∷ []
-format_in (Err f) = []
+-- the format of the board of this text
+abbrev format_of : String → Option Format
+format_of text = format_in (board_of (codes text))
 
--- the formats of the boards of these texts
-abbrev formats : List (List ℕ) → List (List Format)
-formats texts = map (λ text. format_in (board_of text)) texts
-
--- the part is missing: the original format, on boards of height 1, 2 and 3
-missing : formats (
-    codes "4 exec 0x0-0x10 boot 0x0 starts 1 lives 1" ∷
-    codes "(2 2) exec 0x0-0x10 boot 0x0 starts 1 lives 1" ∷
-    codes "((1 1) (1 1)) exec 0x0-0x10 boot 0x0 starts 1 lives 1" ∷
-    []) ≡ replicate 3 (Original ∷ [])
+formats : Gives format_of
+    -- The part is missing: the original format, on boards of height 1, 2 and 3
+    ("4 exec 0x0-0x10 boot 0x0 starts 1 lives 1" ⇒ Some Original
+    ∷ "(2 2) exec 0x0-0x10 boot 0x0 starts 1 lives 1" ⇒ Some Original
+    ∷ "((1 1) (1 1)) exec 0x0-0x10 boot 0x0 starts 1 lives 1" ⇒ Some Original
+    -- the part names the original one
+    ∷ "4 exec 0x0-0x10 boot 0x0 starts 1 lives 1 format original" ⇒ Some Original
+    ∷ "(2 2) exec 0x0-0x10 boot 0x0 starts 1 lives 1 format original" ⇒ Some Original
+    ∷ "((1 1) (1 1)) exec 0x0-0x10 boot 0x0 starts 1 lives 1 format original" ⇒ Some Original
+    -- and the extended one
+    ∷ "4 exec 0x0-0x10 boot 0x0 starts 1 lives 1 format extended" ⇒ Some Extended
+    ∷ "(2 2) exec 0x0-0x10 boot 0x0 starts 1 lives 1 format extended" ⇒ Some Extended
+    ∷ "((1 1) (1 1)) exec 0x0-0x10 boot 0x0 starts 1 lives 1 format extended" ⇒ Some Extended ∷ [])
 unfolding board_of verdict board_text tree_at member_at list_at more_at at_most spaced_at
     range_at hex_at number_at literal_at
-missing = refl
+formats = refl
 
--- the part names the original one
-original : formats (
-    codes "4 exec 0x0-0x10 boot 0x0 starts 1 lives 1 format original" ∷
-    codes "(2 2) exec 0x0-0x10 boot 0x0 starts 1 lives 1 format original" ∷
-    codes "((1 1) (1 1)) exec 0x0-0x10 boot 0x0 starts 1 lives 1 format original" ∷
-    []) ≡ replicate 3 (Original ∷ [])
+faults : Gives with_limits
+    -- misspelled, in another case, cut, without a space or with two, with something behind it
+    ("starts 1 lives 1 format Extended" ⇒ Some Grammar
+    ∷ "starts 1 lives 1 format ORIGINAL" ⇒ Some Grammar
+    ∷ "starts 1 lives 1 Format extended" ⇒ Some Grammar
+    ∷ "starts 1 lives 1 format extende" ⇒ Some Grammar
+    ∷ "starts 1 lives 1 format extendedx" ⇒ Some Grammar
+    ∷ "starts 1 lives 1 format original " ⇒ Some Grammar
+    ∷ "starts 1 lives 1 format" ⇒ Some Grammar
+    ∷ "starts 1 lives 1 format " ⇒ Some Grammar
+    ∷ "starts 1 lives 1format extended" ⇒ Some Grammar
+    ∷ "starts 1 lives 1  format extended" ⇒ Some Grammar
+    ∷ "starts 1 lives 1 format  extended" ⇒ Some Grammar
+    ∷ "starts 1 lives 1 formatextended" ⇒ Some Grammar
+    ∷ "starts 1 lives 1 extended" ⇒ Some Grammar
+    ∷ "starts 1 lives 1 format 1" ⇒ Some Grammar
+    -- twice, or before the end of the text
+    ∷ "starts 1 lives 1 format original format original" ⇒ Some Grammar
+    ∷ "starts 1 lives 1 format original format extended" ⇒ Some Grammar
+    ∷ "starts 1 format original lives 1" ⇒ Some Grammar
+    ∷ "format extended starts 1 lives 1" ⇒ Some Grammar
+    -- it is no fault, and hides none
+    ∷ "starts 0 lives 1 format extended" ⇒ Some BadLimit
+    ∷ "starts 1 lives 65536 format original" ⇒ Some BadLimit ∷ [])
 unfolding board_of verdict board_text tree_at member_at list_at more_at at_most spaced_at
     range_at hex_at number_at literal_at
-original = refl
-
--- and the extended one
-extended : formats (
-    codes "4 exec 0x0-0x10 boot 0x0 starts 1 lives 1 format extended" ∷
-    codes "(2 2) exec 0x0-0x10 boot 0x0 starts 1 lives 1 format extended" ∷
-    codes "((1 1) (1 1)) exec 0x0-0x10 boot 0x0 starts 1 lives 1 format extended" ∷
-    []) ≡ replicate 3 (Extended ∷ [])
-unfolding board_of verdict board_text tree_at member_at list_at more_at at_most spaced_at
-    range_at hex_at number_at literal_at
-extended = refl
-
--- Texts outside the grammar -------------------------------------------------------------------
-
--- misspelled, in another case, cut, without a space or with two, with something behind it
-misspelled : with_limits (
-    codes "starts 1 lives 1 format Extended" ∷
-    codes "starts 1 lives 1 format ORIGINAL" ∷
-    codes "starts 1 lives 1 Format extended" ∷
-    codes "starts 1 lives 1 format extende" ∷
-    codes "starts 1 lives 1 format extendedx" ∷
-    codes "starts 1 lives 1 format original " ∷
-    codes "starts 1 lives 1 format" ∷
-    codes "starts 1 lives 1 format " ∷
-    codes "starts 1 lives 1format extended" ∷
-    codes "starts 1 lives 1  format extended" ∷
-    codes "starts 1 lives 1 format  extended" ∷
-    codes "starts 1 lives 1 formatextended" ∷
-    codes "starts 1 lives 1 extended" ∷
-    codes "starts 1 lives 1 format 1" ∷
-    []) ≡ replicate 14 (Grammar ∷ [])
-unfolding board_of verdict board_text tree_at member_at list_at more_at at_most spaced_at
-    range_at hex_at number_at literal_at
-misspelled = refl
-
--- twice, or before the end of the text
-not_last : with_limits (
-    codes "starts 1 lives 1 format original format original" ∷
-    codes "starts 1 lives 1 format original format extended" ∷
-    codes "starts 1 format original lives 1" ∷
-    codes "format extended starts 1 lives 1" ∷
-    []) ≡ replicate 4 (Grammar ∷ [])
-unfolding board_of verdict board_text tree_at member_at list_at more_at at_most spaced_at
-    range_at hex_at number_at literal_at
-not_last = refl
-
--- it is no fault, and hides none
-limits_before_it : with_limits (
-    codes "starts 0 lives 1 format extended" ∷
-    codes "starts 1 lives 65536 format original" ∷
-    []) ≡ replicate 2 (BadLimit ∷ [])
-unfolding board_of verdict board_text tree_at member_at list_at more_at at_most spaced_at
-    range_at hex_at number_at literal_at
-limits_before_it = refl
-
--- Spellings -----------------------------------------------------------------------------------
+faults = refl
 
 -- the spelling of one cluster of four cores with this part
 abbrev spelled : Option Format → List ℕ
@@ -111,16 +81,9 @@ spelled format = spelling (record {
   format = format;
 })
 
-spelled_missing : spelled None ≡ codes "4 exec 0x0-0x10 boot 0x0 starts 1 lives 1"
+spellings : Gives spelled
+    (None ⇒ codes "4 exec 0x0-0x10 boot 0x0 starts 1 lives 1"
+    ∷ Some Original ⇒ codes "4 exec 0x0-0x10 boot 0x0 starts 1 lives 1 format original"
+    ∷ Some Extended ⇒ codes "4 exec 0x0-0x10 boot 0x0 starts 1 lives 1 format extended" ∷ [])
 unfolding digits
-spelled_missing = refl
-
-spelled_original :
-    spelled (Some Original) ≡ codes "4 exec 0x0-0x10 boot 0x0 starts 1 lives 1 format original"
-unfolding digits
-spelled_original = refl
-
-spelled_extended :
-    spelled (Some Extended) ≡ codes "4 exec 0x0-0x10 boot 0x0 starts 1 lives 1 format extended"
-unfolding digits
-spelled_extended = refl
+spellings = refl

@@ -115,10 +115,7 @@ width w g h l =
     record { some = grind (arith, nat_tests); few = grind (arith, nat_tests) }
 
 pub few_at : (w : List ℕ) (g : ℕ) → AllPass is_width w → get_or w g 0 ≤ 16
-few_at w g h = elim (cases_lt g (length w)) [
-  | inl m ↦ (width w g h m).few
-  | inr m ↦ let none : get_or w g 0 ≡ 0 = get_or_past w g 0 m in omega arith
-]
+few_at w g h = grind (arith, nat_tests, width, get_or_past)
 
 -- one more child of the g-th node, in the list of the parents of all children
 pub one_more_child : (w ps qs : List ℕ) (g k : ℕ) → g < length w → k < get_or w g 0

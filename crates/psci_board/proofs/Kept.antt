@@ -6,7 +6,8 @@ use Rattle.std.specs.Prelude.{◌||◌, not, nat_lt, nat_le, flat_map}
 use Rattle.std.specs.List.{list_any}
 use Rattle.std.proofs.lemmas.Bool.Decides.{nat_tests}
 use Rattle.std.proofs.lemmas.List.{map-append, append-nil, length-map}
-use Rattle.std.proofs.lemmas.List.Folds.{list_any-append}
+use Rattle.std.proofs.lemmas.List.Recursion.{or_push}
+use Rattle.std.proofs.Math.Bool.{or-false, or-true}
 use Rattle.std.proofs.lemmas.List.Sums.{sum_by-append}
 use Rattle.std.proofs.lemmas.Grind.{flat_map-append}
 use Rattle.psci_board.specs.declared.limits.TheConstants.{MOST_CORES}
@@ -14,7 +15,7 @@ use Rattle.psci_board.specs.declared.range.AddressRange.{AddressRange}
 use Rattle.psci_board.specs.Grammar.{Member}
 use Rattle.psci_board.specs.Grammar.Member.{Cluster, Group}
 use Rattle.psci_board.specs.Summary.{NumbersSummaryValue, with_number, with_numbers}
-use Rattle.psci_board.specs.Summary.{TreeSummaryValue, with_member}
+use Rattle.psci_board.specs.Summary.{TreeSummaryValue, with_member, with_size}
 use Rattle.psci_board.specs.Summary.{with_members, RangesSummaryValue, with_range, with_ranges}
 use Rattle.psci_board.specs.Verdict.{is_out_of_width, is_group, numbers_in, range_of, has_bad_range}
 
@@ -36,24 +37,20 @@ kept_numbers ns = record {
   bad_width = list_any is_out_of_width ns;
 }
 
-same_numbers : {a b : List ℕ} {c d : ℕ} {e f : Bool} → a ≡ b → c ≡ d → e ≡ f
-    → ◌≡◌ {A = NumbersSummaryValue} (record { first = a; total = c; bad_width = e })
-    (record { first = b; total = d; bad_width = f })
-same_numbers p q r = cc
-
-or_false : (b : Bool) → (b || false) ≡ b
-or_false true = refl
-or_false false = refl
+any_more : {A : Type 0} (p : A → Bool) (xs : List A) (x : A)
+    → list_any p (xs ++ x ∷ []) ≡ (list_any p xs || p x)
+any_more p xs x = or_push (list_any p) p refl (λ y ys. refl) xs x
 
 pub kept_number : (ns : List ℕ) (n : ℕ)
     → with_number (kept_numbers ns) n ≡ kept_numbers (ns ++ n ∷ [])
 kept_number ns n =
-    same_numbers
-    (take_more MOST_CORES (map capped ns) (capped n ∷ [])
-    ∙ ap (take MOST_CORES) (sym (map-append capped ns (n ∷ []))))
-    (omega (arith, sum_by-append (λ x. x) ns (n ∷ [])))
-    (sym (list_any-append is_out_of_width ns (n ∷ [])
-    ∙ ap (λ b. list_any is_out_of_width ns || b) (or_false (is_out_of_width n))))
+    let first = take_more MOST_CORES (map capped ns) (capped n ∷ [])
+    ∙ ap (take MOST_CORES) (sym (map-append capped ns (n ∷ []))) in
+    let total : min (min (sum ns) (MOST_CORES + 1) + n) (MOST_CORES + 1)
+    ≡ min (sum (ns ++ n ∷ [])) (MOST_CORES + 1) =
+    omega (arith, sum_by-append (λ x. x) ns (n ∷ [])) in
+    let bad_width = sym (any_more is_out_of_width ns n) in
+    λ i. record { first = first i; total = total i; bad_width = bad_width i }
 
 kept_more : (ms ns : List ℕ) → with_numbers (kept_numbers ms) ns ≡ kept_numbers (ms ++ ns)
 unfolding with_numbers
@@ -78,20 +75,6 @@ kept_members ms = record {
   has_cluster = list_any is_number_alone ms;
   has_group = list_any is_group ms;
 }
-
-same_tree : {a b : NumbersSummaryValue} {c d : List ℕ} {e f g h i j : Bool} → a ≡ b → c ≡ d
-    → e ≡ f → g ≡ h
-    → i ≡ j
-    → ◌≡◌ {A = TreeSummaryValue} (record {
-      numbers = a;
-      sizes = c;
-      bad_width = e;
-      has_cluster =
-          g;
-      has_group = i;
-    })
-    (record { numbers = b; sizes = d; bad_width = f; has_cluster = h; has_group = j })
-same_tree p q r s t = cc
 
 -- too many before, or now, or one that is bad
 or_more : (lt any le bad : Bool) → (lt ≡ true → le ≡ true)
@@ -121,21 +104,7 @@ pub one_more : {A : Type 0} (n : ℕ) (is_bad : A → Bool) (xs : List A) (k : �
     → (((nat_lt n (length xs) || list_any is_bad xs) || nat_le n k) || is_bad x)
     ≡ (nat_lt n (length (xs ++ x ∷ [])) || list_any is_bad (xs ++ x ∷ []))
 one_more n is_bad xs k x e =
-    let len : length (xs ++ x ∷ []) ≡ length xs + 1 = length-append xs (x ∷ []) in
-    let any : list_any is_bad (xs ++ x ∷ []) ≡ (list_any is_bad xs || is_bad x) =
-    list_any-append is_bad xs (x ∷ []) ∙ ap (λ b. list_any is_bad xs || b) (or_false (is_bad x)) in
-    or_more _ _ _ _ (over_then_full n (length xs) k e)
-    ∙ ap (λ b. b || (list_any is_bad xs || is_bad x))
-    (full_then_more n (length xs) k (length (xs ++ x ∷ [])) e len)
-    ∙ ap (λ b. nat_lt n (length (xs ++ x ∷ [])) || b) (sym any)
-
-any_more : {A : Type 0} (p : A → Bool) (xs : List A) (x : A)
-    → list_any p (xs ++ x ∷ []) ≡ (list_any p xs || p x)
-any_more p xs x = list_any-append p xs (x ∷ []) ∙ ap (λ b. list_any p xs || b) (or_false (p x))
-
-true_last : (b : Bool) → (b || true) ≡ true
-true_last true = refl
-true_last false = refl
+    grind (arith, nat_tests, length-append, or_more, over_then_full, full_then_more, any_more)
 
 kept_sizes : (ms : List Member) (m : Member)
     → take 16 (take 16 (map (λ m. capped (size m)) ms) ++ capped (size m) ∷ [])
@@ -150,29 +119,38 @@ how_many n f xs = length-take n (map f xs) ∙ ap (min n) (length-map xs f)
 kept_flat : (ms : List Member) (m : Member)
     → with_numbers (kept_numbers (flat_map numbers_in ms)) (numbers_in m)
     ≡ kept_numbers (flat_map numbers_in (ms ++ m ∷ []))
-kept_flat ms m =
-    kept_more (flat_map numbers_in ms) (numbers_in m)
-    ∙ ap kept_numbers
-    (sym (flat_map-append numbers_in ms (m ∷ [])
-    ∙ ap (λ l. flat_map numbers_in ms ++ l) (append-nil (numbers_in m))))
+kept_flat ms m = grind (arith, nat_tests, kept_more, flat_map-append, append-nil)
+
+kept_parts : (ms : List Member) (m : Member) (has_cluster has_group : Bool)
+    → has_cluster ≡ (list_any is_number_alone ms || is_number_alone m)
+    → has_group ≡ (list_any is_group ms || is_group m)
+    → record (with_size (kept_members ms) (size m)) {
+      numbers = with_numbers (kept_numbers (flat_map numbers_in ms)) (numbers_in m);
+      has_cluster = has_cluster;
+      has_group = has_group;
+    } ≡ kept_members (ms ++ m ∷ [])
+kept_parts ms m has_cluster has_group p q =
+    let numbers = kept_flat ms m in
+    let sizes = kept_sizes ms m in
+    let bad = one_more 16 (λ m. is_out_of_width (size m)) ms _ m
+    (how_many 16 (λ m. capped (size m)) ms) in
+    let cluster = p ∙ sym (any_more is_number_alone ms m) in
+    let group = q ∙ sym (any_more is_group ms m) in
+    λ i. record {
+      numbers = numbers i;
+      sizes = sizes i;
+      bad_width = bad i;
+      has_cluster = cluster i;
+      has_group = group i;
+    }
 
 kept_member : (ms : List Member) (m : Member)
     → with_member (kept_members ms) m ≡ kept_members (ms ++ m ∷ [])
 unfolding with_numbers
 kept_member ms (Cluster n) =
-    same_tree (kept_flat ms (Cluster n)) (kept_sizes ms (Cluster n))
-    (one_more 16 (λ m. is_out_of_width (size m)) ms
-    (length (take 16 (map (λ m. capped (size m)) ms))) (Cluster n)
-    (how_many 16 (λ m. capped (size m)) ms))
-    (sym (any_more is_number_alone ms (Cluster n) ∙ true_last (list_any is_number_alone ms)))
-    (sym (any_more is_group ms (Cluster n) ∙ or_false (list_any is_group ms)))
+    kept_parts ms (Cluster n) true _ (sym (or-true _)) (sym (or-false _))
 kept_member ms (Group ns) =
-    same_tree (kept_flat ms (Group ns)) (kept_sizes ms (Group ns))
-    (one_more 16 (λ m. is_out_of_width (size m)) ms
-    (length (take 16 (map (λ m. capped (size m)) ms))) (Group ns)
-    (how_many 16 (λ m. capped (size m)) ms))
-    (sym (any_more is_number_alone ms (Group ns) ∙ or_false (list_any is_number_alone ms)))
-    (sym (any_more is_group ms (Group ns) ∙ true_last (list_any is_group ms)))
+    kept_parts ms (Group ns) _ true (sym (or-false _)) (sym (or-true _))
 
 pub kept_all_members : (ms ns : List Member)
     → with_members (kept_members ms) ns ≡ kept_members (ms ++ ns)
@@ -190,19 +168,12 @@ is_empty_range r = nat_le r.end r.start
 abbrev pub kept_ranges : List AddressRange → RangesSummaryValue
 kept_ranges rs = record { first = take 4 rs; faulty = has_bad_range rs }
 
-same_ranges : {a b : List AddressRange} {c d : Bool} → a ≡ b → c ≡ d
-    → ◌≡◌ {A = RangesSummaryValue} (record { first = a; faulty = c }) (record {
-      first =
-          b;
-      faulty = d;
-    })
-same_ranges p q = cc
-
 kept_range : (rs : List AddressRange) (r : AddressRange)
     → with_range (kept_ranges rs) r ≡ kept_ranges (rs ++ r ∷ [])
 kept_range rs r =
-    same_ranges (take_more 4 rs (r ∷ []))
-    (one_more 4 is_empty_range rs (length (take 4 rs)) r (length-take 4 rs))
+    let first = take_more 4 rs (r ∷ []) in
+    let faulty = one_more 4 is_empty_range rs (length (take 4 rs)) r (length-take 4 rs) in
+    λ i. record { first = first i; faulty = faulty i }
 
 pub kept_all_ranges : (rs : List AddressRange) (qs : List (List ℕ × List ℕ))
     → with_ranges (kept_ranges rs) qs ≡ kept_ranges (rs ++ map range_of qs)

@@ -4,6 +4,7 @@ use Rattle.std.proofs.Common.{length}
 use Rattle.std.proofs.Common.{take, map, sum, refl, ap, sym, ◌∙◌, arith, lit<, lit≤}
 use Rattle.std.specs.Prelude.{◌||◌, ◌&&◌, nat_lt, ◌==◌, flat_map}
 use Rattle.std.specs.List.{list_any, list_all, AllPass}
+use Rattle.std.proofs.lemmas.Bool.{or_parts}
 use Rattle.std.proofs.lemmas.Bool.Decides.{nat_tests}
 use Rattle.std.proofs.lemmas.List.{take_all, length-map}
 use Rattle.std.proofs.lemmas.List.Sums.{sum_by-cons, sum-map, AllPass-from_list_all}
@@ -22,18 +23,6 @@ use Rattle.psci_board.proofs.Kept.{same_tests, kept_members, kept_all_members, h
 
 -- Widths -------------------------------------------------------------------------------------
 
--- what is no width, where none is out of width
-pub left_false : (a b : Bool) → (a || b) ≡ false → a ≡ false
-left_false true b h = h
-left_false false b h = refl
-
-right_false : (a b : Bool) → (a || b) ≡ false → b ≡ false
-right_false true b h = cc
-right_false false b h = h
-
-both_false : (a b : Bool) → (a || b) ≡ false → (a ≡ false) × (b ≡ false)
-both_false a b h = (left_false a b h, right_false a b h)
-
 is_out : (n : ℕ) → is_out_of_width n ≡ false → (0 < n) × (n ≤ 16)
 is_out n h = (grind (arith, nat_tests), grind (arith, nat_tests))
 
@@ -45,17 +34,11 @@ cap_same n h = let w = is_out n h in omega arith
 
 all_capped : (ns : List ℕ) → list_any is_out_of_width ns ≡ false → map capped ns ≡ ns
 all_capped [] h = refl
-all_capped (n ∷ ns) h =
-    let p = both_false (is_out_of_width n) (list_any is_out_of_width ns) h in
-    let first : capped n ≡ n = cap_same n p.0 in
-    let rest : map capped ns ≡ ns = all_capped ns p.1 in
-    cc
+all_capped (n ∷ ns) h = grind (arith, nat_tests, or_parts, capped, cap_same, all_capped ns)
 
 all_width : (ns : List ℕ) → list_any is_out_of_width ns ≡ false → list_all is_width ns ≡ true
 all_width [] h = refl
-all_width (n ∷ ns) h =
-    let p = both_false (is_out_of_width n) (list_any is_out_of_width ns) h in
-    rw (in_width n p.0, all_width ns p.1) refl
+all_width (n ∷ ns) h = grind (arith, nat_tests, or_parts, in_width, all_width ns)
 
 pub pass_width : (ns : List ℕ) → list_any is_out_of_width ns ≡ false → AllPass is_width ns
 pass_width ns h = AllPass-from_list_all is_width ns (all_width ns h)
@@ -64,7 +47,7 @@ pass_width ns h = AllPass-from_list_all is_width ns (all_width ns h)
 fewer_than_sum : (ns : List ℕ) → list_any is_out_of_width ns ≡ false → length ns ≤ sum ns
 fewer_than_sum [] h = omega arith
 fewer_than_sum (n ∷ ns) h =
-    let p = both_false (is_out_of_width n) (list_any is_out_of_width ns) h in
+    let p = or_parts (is_out_of_width n) (list_any is_out_of_width ns) h in
     let w = is_out n p.0 in
     omega (arith, sum_by-cons (λ x. x) n ns, fewer_than_sum ns p.1)
 
@@ -85,11 +68,7 @@ any_size (m ∷ ms) = ap (λ b. is_out_of_width (size m) || b) (any_size ms)
 cap_sizes : (ms : List Member) → list_any (λ m. is_out_of_width (size m)) ms ≡ false
     → map (λ m. capped (size m)) ms ≡ map size ms
 cap_sizes [] h = refl
-cap_sizes (m ∷ ms) h =
-    let p = both_false (is_out_of_width (size m)) (list_any (λ m. is_out_of_width (size m)) ms) h in
-    let first : capped (size m) ≡ size m = cap_same (size m) p.0 in
-    let rest : map (λ m. capped (size m)) ms ≡ map size ms = cap_sizes ms p.1 in
-    cc
+cap_sizes (m ∷ ms) h = grind (arith, nat_tests, or_parts, size, capped, cap_same, cap_sizes ms)
 
 alone : (ms : List Member) → list_any is_group ms ≡ false
     → list_any (λ m. is_out_of_width (size m)) ms ≡ false
@@ -129,10 +108,7 @@ uneven_kept (One n) = refl
 uneven_kept (Members ms) = refl
 
 swapped : (a b : Bool) → (a || ((b || false) || false)) ≡ (b || a)
-swapped true true = refl
-swapped true false = refl
-swapped false true = refl
-swapped false false = refl
+swapped a b = grind arith
 
 long_list : (n : ℕ) → 0 < n → is_out_of_width n ≡ nat_lt 16 n
 long_list n h = let some : (n == 0) ≡ false = grind (arith, nat_tests) in
@@ -156,9 +132,7 @@ wide_kept (One n) full = refl
 wide_kept (Members ms) full = wide_by ms full (list_any is_group ms) refl
 
 few_kept : (n : ℕ) → nat_lt MOST_CORES n ≡ nat_lt MOST_CORES (min n (MOST_CORES + 1))
-few_kept n = same_tests (nat_lt MOST_CORES n) (nat_lt MOST_CORES (min n (MOST_CORES + 1)))
-    (λ h. grind (arith, nat_tests))
-    (λ h. grind (arith, nat_tests))
+few_kept n = grind (arith, nat_tests, same_tests)
 
 pub total_kept : (t : TreeText)
     → nat_lt MOST_CORES (sum (clusters t)) ≡ nat_lt MOST_CORES (kept_tree t).numbers.total
@@ -174,15 +148,15 @@ pub record Narrow (ms : List Member) : Type 0 where
 narrow : (ms : List Member) (g : Bool) → list_any is_group ms ≡ g
     → list_any (λ w. list_any is_out_of_width w) (levels_by g ms) ≡ false → Narrow ms
 narrow ms true e h =
-    let p = both_false _ _ h in
-    let q = both_false _ _ p.1 in
-    record { flat = p.0; sizes = sym (any_size ms) ∙ q.0; outer = left_false _ _ q.1 }
+    let p = or_parts _ _ h in
+    let q = or_parts _ _ p.1 in
+    record { flat = p.0; sizes = sym (any_size ms) ∙ q.0; outer = (or_parts _ _ q.1).0 }
 narrow ms false e h =
-    let p = both_false _ _ h in
-    record { flat = p.0; sizes = alone ms e; outer = left_false _ _ p.1 }
+    let p = or_parts _ _ h in
+    record { flat = p.0; sizes = alone ms e; outer = (or_parts _ _ p.1).0 }
 
 outer_size : (ms : List Member) → Narrow ms → length ms ≤ 16
-outer_size ms h = (is_out (length ms) (left_false _ _ h.outer)).1
+outer_size ms h = (is_out (length ms) (or_parts _ _ h.outer).0).1
 
 member_count : (ms : List Member) → Narrow ms
     → length (take 16 (map (λ m. capped (size m)) ms)) ≡ length ms
@@ -193,31 +167,25 @@ whole_sizes ms h =
     rw (cap_sizes ms h.sizes)
     (take_all 16 (map size ms) (omega (arith, length-map ms size, outer_size ms h)))
 
-three_levels : {a b c d : List ℕ} {n m : ℕ} → a ≡ b → c ≡ d → n ≡ m
-    → ◌≡◌ {A = List (List ℕ)} (a ∷ c ∷ (n ∷ []) ∷ []) (b ∷ d ∷ (m ∷ []) ∷ [])
-three_levels p q r = cc
-
-two_levels : {a b : List ℕ} {n m : ℕ} → a ≡ b → n ≡ m
-    → ◌≡◌ {A = List (List ℕ)} (a ∷ (n ∷ []) ∷ []) (b ∷ (m ∷ []) ∷ [])
-two_levels p q = cc
-
 levels_kept_by : (ms : List Member) → 0 < length ms → (g : Bool) → list_any is_group ms ≡ g
     → Narrow ms
     → sum (flat_map numbers_in ms) ≤ MOST_CORES
     → summary_levels (record (kept_members ms) { has_group = g }) ≡ levels_by g ms
-levels_kept_by ms some true e h few = three_levels (kept_whole (flat_map numbers_in ms) h.flat few)
-    (whole_sizes ms h) (member_count ms h)
+levels_kept_by ms some true e h few =
+    let lowest = kept_whole (flat_map numbers_in ms) h.flat few in
+    let sizes = whole_sizes ms h in
+    let count = member_count ms h in
+    λ i. lowest i ∷ sizes i ∷ (count i ∷ []) ∷ []
 levels_kept_by ms some false e h few =
-    rw (has_cluster ms some e)
-    (two_levels (kept_whole (flat_map numbers_in ms) h.flat few) (member_count ms h))
+    let lowest = kept_whole (flat_map numbers_in ms) h.flat few in
+    let count = member_count ms h in
+    rw (has_cluster ms some e) (λ i. lowest i ∷ (count i ∷ []) ∷ [])
 
 pub levels_kept : (t : TreeText) → IsFull t → is_too_wide t ≡ false → sum (clusters t) ≤ MOST_CORES
     → summary_levels (kept_tree t) ≡ levels_of t
 levels_kept (One n) full wide few =
-    ap (λ m. (m ∷ []) ∷ []) (cap_same n (left_false _ _ (left_false _ _ wide)))
-levels_kept (Members ms) full wide few =
-    levels_kept_by ms full (list_any is_group ms) refl (narrow ms (list_any is_group ms) refl wide)
-    few
+    ap (λ m. (m ∷ []) ∷ []) (cap_same n ((or_parts _ _ (or_parts _ _ wide).0).0))
+levels_kept (Members ms) full wide few = grind (arith, nat_tests, levels_kept_by, narrow)
 
 -- The tree of a text is a tree of nodes ---------------------------------------------------------
 
@@ -228,9 +196,7 @@ flat_alone (Cluster n ∷ ms) e = omega (arith, flat_alone ms e)
 flat_alone (Group ns ∷ ms) e = cc
 
 one_level : (n : ℕ) → list_any is_out_of_width (n ∷ []) ≡ false → IsTree ((n ∷ []) ∷ [])
-one_level n h =
-    let w = is_out n (left_false _ _ h) in
-    (refl, omega (arith, sum_by-cons (λ x. x) n []), pass_width (n ∷ []) h, tt)
+one_level n h = grind (arith, nat_tests, is_out, or_parts, sum_by-cons, pass_width)
 
 tree_by : (ms : List Member) (g : Bool) → list_any is_group ms ≡ g → Narrow ms
     → sum (flat_map numbers_in ms) ≤ MOST_CORES → IsTree (levels_by g ms)
@@ -257,7 +223,7 @@ tree_by ms false e h few = (
 
 pub is_tree : (t : TreeText) → is_too_wide t ≡ false → sum (clusters t) ≤ MOST_CORES
     → IsTree (levels_of t)
-is_tree (One n) wide few = one_level n (left_false _ _ wide)
+is_tree (One n) wide few = one_level n (or_parts _ _ wide).0
 is_tree (Members ms) wide few = tree_by ms (list_any is_group ms) refl
     (narrow ms (list_any is_group ms) refl wide) few
 

@@ -11,9 +11,11 @@ use Rattle.psci_board.specs.Board.{BoardValue, core_at, core_of, node_of, nodes,
 use Rattle.psci_board.specs.Board.{cores_below}
 use Rattle.psci_board.specs.Verdict.{board_of, verdict}
 use Rattle.psci_board.proofs.AffinityRows.{board, cores_of, at, node}
-use Rattle.psci_board.proofs.VerdictRows.{widest_list}
 
--- sixteen clusters of sixteen cores
+-- sixteen clusters of sixteen cores: the most of each that a list may have
+abbrev pub widest_list : List ℕ
+widest_list = codes "(16 16 16 16 16 16 16 16 16 16 16 16 16 16 16 16)"
+
 abbrev pub by_sixteens : BoardValue
 by_sixteens = board (replicate 16 16 ∷ (16 ∷ []) ∷ [])
 

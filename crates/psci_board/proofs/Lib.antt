@@ -10,6 +10,7 @@ pub mod FormatRows
 pub mod Fronts
 pub mod Groups
 pub mod Kept
+pub mod KeptText
 pub mod KeptTree
 pub mod LargestRows
 pub mod Levels

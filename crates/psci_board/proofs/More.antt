@@ -2,8 +2,6 @@
 use Rattle.std.proofs.Common.{◌≡◌, ℕ, zero, suc, ◌<◌, ◌≤◌, Bool, true, false, cond, eqb, List, []}
 use Rattle.std.proofs.Common.{◌∷◌, length, Option, Some, None, refl, ap, sym, ◌∙◌, subst, arith}
 use Rattle.std.proofs.Common.{length-drop}
-use Rattle.std.specs.List.{prefix_len}
-use Rattle.std.specs.Char.{is_ascii_digit}
 use Rattle.std.proofs.lemmas.Bool.Decides.{nat_tests}
 use Rattle.std.proofs.lemmas.Option.{cond_some, option_and_then_some}
 use Rattle.std.specs.Prelude.{option_and_then, option_map, IfSome}
@@ -16,93 +14,6 @@ use Rattle.psci_board.specs.Grammar.Member.{Cluster, Group}
 abbrev pub Shortens : {A : Type 0} → (List ℕ → Option (A × List ℕ)) → Type 0
 Shortens {A} item = (bytes : List ℕ) (x : A × List ℕ) → item bytes ≡ Some x
     → length x.1 ≤ length bytes
-
-spaced_by : {A : Type 0} (item : List ℕ → Option (A × List ℕ)) (s : Shortens item) (bs : List ℕ)
-    (x : A × List ℕ) (t : Bool)
-    → option_and_then item (cond t (Some bs) None) ≡ Some x → length x.1 ≤ length bs
-spaced_by item s bs x true e = s bs x e
-spaced_by item s bs x false e = cc
-
-pub spaced_shortens : {A : Type 0} (item : List ℕ → Option (A × List ℕ)) (s : Shortens item)
-    (bytes : List ℕ) (x : A × List ℕ)
-    → spaced_at item bytes ≡ Some x → length x.1 < length bytes
-unfolding spaced_at literal_at
-spaced_shortens item s [] x e = cc
-spaced_shortens item s (b ∷ bs) x e = omega (arith, spaced_by item s bs x (eqb b 32) e)
-
-then_same : {A : Type 0} (bytes : List ℕ) (f g : List ℕ → List A × List ℕ) (o : Option (A × List ℕ))
-    → ((x : A × List ℕ) → o ≡ Some x → f x.1 ≡ g x.1) → then_more bytes f o ≡ then_more bytes g o
-then_same bytes f g None h = refl
-then_same bytes f g (Some x) h = ap (λ r. (x.0 ∷ r.0, r.1)) (h x refl)
-
--- enough is as good as more
-pub same_fuel : {A : Type 0} (item : List ℕ → Option (A × List ℕ)) (s : Shortens item) (n m : ℕ)
-    (bytes : List ℕ)
-    → length bytes ≤ n → length bytes ≤ m → at_most item n bytes ≡ at_most item m bytes
-unfolding at_most spaced_at literal_at
-same_fuel item s zero zero bytes p q = refl
-same_fuel item s zero (suc m) [] p q = refl
-same_fuel item s zero (suc m) (b ∷ bs) p q = absurd (omega arith)
-same_fuel item s (suc n) zero [] p q = refl
-same_fuel item s (suc n) zero (b ∷ bs) p q = absurd (omega arith)
-same_fuel item s (suc n) (suc m) bytes p q =
-    then_same bytes (at_most item n) (at_most item m) (spaced_at item bytes)
-    (λ x e. same_fuel item s n m x.1 (omega (arith, spaced_shortens item s bytes x e))
-    (omega (arith, spaced_shortens item s bytes x e)))
-
--- one item, and then more
-pub more_unrolled : {A : Type 0} (item : List ℕ → Option (A × List ℕ)) (s : Shortens item)
-    (bytes : List ℕ)
-    → more_at item bytes ≡ then_more bytes (more_at item) (spaced_at item bytes)
-unfolding more_at at_most
-more_unrolled item s bytes =
-    same_fuel item s (length bytes) (suc (length bytes)) bytes (omega arith) (omega arith)
-    ∙ then_same bytes (at_most item (length bytes)) (more_at item) (spaced_at item bytes)
-    (λ x e. same_fuel item s (length bytes) (length x.1) x.1
-    (omega (arith, spaced_shortens item s bytes x e)) (omega arith))
-
-pub more_some : {A : Type 0} (item : List ℕ → Option (A × List ℕ)) (s : Shortens item)
-    (bytes : List ℕ) (x : A) (rest : List ℕ)
-    → spaced_at item bytes ≡ Some (x, rest)
-    → more_at item bytes ≡ (x ∷ (more_at item rest).0, (more_at item rest).1)
-more_some item s bytes x rest e = more_unrolled item s bytes ∙ ap (then_more bytes (more_at item)) e
-
-pub more_none : {A : Type 0} (item : List ℕ → Option (A × List ℕ)) (s : Shortens item)
-    (bytes : List ℕ)
-    → spaced_at item bytes ≡ None → more_at item bytes ≡ ([], bytes)
-more_none item s bytes e = more_unrolled item s bytes ∙ ap (then_more bytes (more_at item)) e
-
-pub number_shortens : Shortens number_at
-unfolding number_at
-number_shortens bytes x e =
-    let n = prefix_len is_ascii_digit bytes in
-    let r = (cond_some _ _ _ e).1 in
-    omega (arith, length-drop n bytes, ap (λ y. length y.1) r)
-
--- a list whose bracket is closed, or not, after its last item
-pub list_closed : {A : Type 0} (item : List ℕ → Option (A × List ℕ)) (s : Shortens item)
-    (bytes open_ rest0 rest close : List ℕ) (first : A)
-    → literal_at (40 ∷ []) bytes ≡ Some open_ → item open_ ≡ Some (first, rest0)
-    → (more_at item rest).1 ≡ (more_at item rest0).1 → spaced_at item rest ≡ None
-    → literal_at (41 ∷ []) rest ≡ Some close
-    → list_at item bytes ≡ Some (first ∷ (more_at item rest0).0, close)
-unfolding list_at
-list_closed item s bytes open_ rest0 rest close first a b same none c =
-    let last : rest ≡ (more_at item rest0).1 =
-    sym (ap (λ r. r.1) (more_none item s rest none)) ∙ same in
-    rw (a, b, ← last, c) refl
-
-pub list_unclosed : {A : Type 0} (item : List ℕ → Option (A × List ℕ)) (s : Shortens item)
-    (bytes open_ rest0 rest : List ℕ) (first : A)
-    → literal_at (40 ∷ []) bytes ≡ Some open_ → item open_ ≡ Some (first, rest0)
-    → (more_at item rest).1 ≡ (more_at item rest0).1 → spaced_at item rest ≡ None
-    → literal_at (41 ∷ []) rest ≡ None
-    → list_at item bytes ≡ None
-unfolding list_at
-list_unclosed item s bytes open_ rest0 rest first a b same none c =
-    let last : rest ≡ (more_at item rest0).1 =
-    sym (ap (λ r. r.1) (more_none item s rest none)) ∙ same in
-    rw (a, b, ← last, c) refl
 
 pub literal_shortens : (word bytes rest : List ℕ) → literal_at word bytes ≡ Some rest
     → length rest ≤ length bytes
@@ -117,39 +28,109 @@ literal_shortens (w ∷ ws) (b ∷ bs) rest e =
     cond_some_or true o x h = h
     cond_some_or false o x h = cc
 
-at_most_shortens : {A : Type 0} (item : List ℕ → Option (A × List ℕ)) (s : Shortens item) (n : ℕ)
-    (bytes : List ℕ)
-    → length (at_most item n bytes).1 ≤ length bytes
-unfolding at_most
-at_most_shortens {A} item s zero bytes = omega arith
-at_most_shortens {A} item s (suc n) bytes =
-    by_first (spaced_at item bytes)
-    (λ x e. omega (arith, spaced_shortens item s bytes x e, at_most_shortens item s n x.1))
-  where
-    by_first : (o : Option (A × List ℕ))
-        → ((x : A × List ℕ) → o ≡ Some x → length (at_most item n x.1).1 ≤ length bytes)
-        → length (then_more bytes (at_most item n) o).1 ≤ length bytes
-    by_first None h = omega arith
-    by_first (Some x) h = h x refl
+pub number_shortens : Shortens number_at
+unfolding number_at
+number_shortens bytes x e = grind (arith, nat_tests, cond_some, length-drop)
 
-pub list_shortens : {A : Type 0} (item : List ℕ → Option (A × List ℕ)) (s : Shortens item)
-    → Shortens (list_at item)
-unfolding list_at more_at
-list_shortens item s bytes x e =
-    option_and_then_some _ (literal_at (40 ∷ []) bytes) x e (λ open_ a e1.
-    option_and_then_some _ (item open_) x e1 (λ first b e2.
-    option_and_then_some _ (literal_at (41 ∷ []) (at_most item (length first.1) first.1).1) x e2
-    (λ close d e3.
-    let r : close ≡ x.1 = cc in
-    omega (
-      arith,
-      ap length r,
-      literal_shortens _ _ _ d,
-      at_most_shortens item s (length first.1)
-          first.1,
-      s open_ first b,
-      literal_shortens _ _ _ a,
-    ))))
+-- Items each of which leaves no more than the text.
+module _ {A : Type 0} (item : List ℕ → Option (A × List ℕ)) (s : Shortens item) where
+  spaced_by : (bs : List ℕ) (x : A × List ℕ) (t : Bool)
+      → option_and_then item (cond t (Some bs) None) ≡ Some x → length x.1 ≤ length bs
+  spaced_by bs x true e = s bs x e
+  spaced_by bs x false e = cc
+
+  pub spaced_shortens : (bytes : List ℕ) (x : A × List ℕ) → spaced_at item bytes ≡ Some x
+      → length x.1 < length bytes
+  unfolding spaced_at literal_at
+  spaced_shortens [] x e = cc
+  spaced_shortens (b ∷ bs) x e = omega (arith, spaced_by bs x (eqb b 32) e)
+
+  then_same : (bytes : List ℕ) (f g : List ℕ → List A × List ℕ) (o : Option (A × List ℕ))
+      → ((x : A × List ℕ) → o ≡ Some x → f x.1 ≡ g x.1)
+      → then_more bytes f o ≡ then_more bytes g o
+  then_same bytes f g None h = refl
+  then_same bytes f g (Some x) h = ap (λ r. (x.0 ∷ r.0, r.1)) (h x refl)
+
+  -- enough is as good as more
+  same_fuel : (n m : ℕ) (bytes : List ℕ) → length bytes ≤ n → length bytes ≤ m
+      → at_most item n bytes ≡ at_most item m bytes
+  unfolding at_most spaced_at literal_at
+  same_fuel zero zero bytes p q = refl
+  same_fuel zero (suc m) [] p q = refl
+  same_fuel zero (suc m) (b ∷ bs) p q = absurd (omega arith)
+  same_fuel (suc n) zero [] p q = refl
+  same_fuel (suc n) zero (b ∷ bs) p q = absurd (omega arith)
+  same_fuel (suc n) (suc m) bytes p q =
+      then_same bytes (at_most item n) (at_most item m) (spaced_at item bytes)
+      (λ x e. let less = spaced_shortens bytes x e in
+      same_fuel n m x.1 (omega arith) (omega arith))
+
+  -- one item, and then more
+  more_unrolled : (bytes : List ℕ)
+      → more_at item bytes ≡ then_more bytes (more_at item) (spaced_at item bytes)
+  unfolding more_at at_most
+  more_unrolled bytes =
+      same_fuel (length bytes) (suc (length bytes)) bytes (omega arith) (omega arith)
+      ∙ then_same bytes (at_most item (length bytes)) (more_at item) (spaced_at item bytes)
+      (λ x e. same_fuel (length bytes) (length x.1) x.1 (omega (arith, spaced_shortens bytes x e))
+      (omega arith))
+
+  pub more_some : (bytes : List ℕ) (x : A) (rest : List ℕ) → spaced_at item bytes ≡ Some (x, rest)
+      → more_at item bytes ≡ (x ∷ (more_at item rest).0, (more_at item rest).1)
+  more_some bytes x rest e = more_unrolled bytes ∙ ap (then_more bytes (more_at item)) e
+
+  pub more_none : (bytes : List ℕ) → spaced_at item bytes ≡ None → more_at item bytes ≡ ([], bytes)
+  more_none bytes e = more_unrolled bytes ∙ ap (then_more bytes (more_at item)) e
+
+  -- a list, once its items are read: as its bracket is closed, or not
+  pub list_ended : (bytes open_ rest0 rest : List ℕ) (first : A)
+      → literal_at (40 ∷ []) bytes ≡ Some open_ → item open_ ≡ Some (first, rest0)
+      → (more_at item rest).1 ≡ (more_at item rest0).1 → spaced_at item rest ≡ None
+      → list_at item bytes
+      ≡ option_map (λ close. (first ∷ (more_at item rest0).0, close)) (literal_at (41 ∷ []) rest)
+  unfolding list_at
+  list_ended bytes open_ rest0 rest first a b same none =
+      let last : rest ≡ (more_at item rest0).1 = sym (ap (λ r. r.1) (more_none rest none)) ∙ same in
+      rw (a, b, ← last) (by_close (literal_at (41 ∷ []) rest))
+    where
+      with_rest : List ℕ → List A × List ℕ
+      with_rest close = (first ∷ (more_at item rest0).0, close)
+
+      by_close : (o : Option (List ℕ))
+          → option_and_then (λ close. Some (with_rest close)) o ≡ option_map with_rest o
+      by_close None = refl
+      by_close (Some x) = refl
+
+  at_most_shortens : (n : ℕ) (bytes : List ℕ) → length (at_most item n bytes).1 ≤ length bytes
+  unfolding at_most
+  at_most_shortens zero bytes = omega arith
+  at_most_shortens (suc n) bytes =
+      by_first (spaced_at item bytes)
+      (λ x e. omega (arith, spaced_shortens bytes x e, at_most_shortens n x.1))
+    where
+      by_first : (o : Option (A × List ℕ))
+          → ((x : A × List ℕ) → o ≡ Some x → length (at_most item n x.1).1 ≤ length bytes)
+          → length (then_more bytes (at_most item n) o).1 ≤ length bytes
+      by_first None h = omega arith
+      by_first (Some x) h = h x refl
+
+  pub list_shortens : Shortens (list_at item)
+  unfolding list_at more_at
+  list_shortens bytes x e =
+      option_and_then_some _ (literal_at (40 ∷ []) bytes) x e (λ open_ a e1.
+      option_and_then_some _ (item open_) x e1 (λ first b e2.
+      option_and_then_some _ (literal_at (41 ∷ []) (at_most item (length first.1) first.1).1) x e2
+      (λ close d e3.
+      let r : close ≡ x.1 = cc in
+      let rest = at_most_shortens (length first.1) first.1 in
+      omega (
+        arith,
+        ap length r,
+        literal_shortens _ _ _ d,
+        rest,
+        s open_ first b,
+        literal_shortens _ _ _ a,
+      ))))
 
 pub member_shortens : Shortens member_at
 unfolding member_at
@@ -208,37 +189,13 @@ unspaced item bytes a = rw a refl
 
 space_or_bracket : (b : ℕ) (bs after : List ℕ) → cond (eqb b 32) (Some bs) None ≡ Some after
     → cond (eqb b 41) (Some bs) None ≡ None
-space_or_bracket b bs after e =
-    let h = (cond_some _ _ _ e).0 in
-    let n : b ≡ 32 = grind (arith, nat_tests) in
-    rw n refl
+space_or_bracket b bs after e = grind (arith, nat_tests, cond_some)
 
 pub spaced_unclosed : (bytes after : List ℕ) → literal_at (32 ∷ []) bytes ≡ Some after
     → literal_at (41 ∷ []) bytes ≡ None
 unfolding literal_at
 spaced_unclosed [] after a = refl
 spaced_unclosed (b ∷ bs) after a = space_or_bracket b bs after a
-
--- a list, once its items are read: as its bracket is closed, or not
-pub list_ended : {A : Type 0} (item : List ℕ → Option (A × List ℕ)) (s : Shortens item)
-    (bytes open_ rest0 rest : List ℕ) (first : A)
-    → literal_at (40 ∷ []) bytes ≡ Some open_ → item open_ ≡ Some (first, rest0)
-    → (more_at item rest).1 ≡ (more_at item rest0).1 → spaced_at item rest ≡ None
-    → list_at item bytes ≡ option_map (λ close. (first ∷ (more_at item rest0).0, close))
-    (literal_at (41 ∷ []) rest)
-unfolding list_at
-list_ended {A} item s bytes open_ rest0 rest first a b same none =
-    let last : rest ≡ (more_at item rest0).1 =
-    sym (ap (λ r. r.1) (more_none item s rest none)) ∙ same in
-    rw (a, b, ← last) (by_close (literal_at (41 ∷ []) rest))
-  where
-    with_rest : List ℕ → List A × List ℕ
-    with_rest close = (first ∷ (more_at item rest0).0, close)
-
-    by_close : (o : Option (List ℕ))
-        → option_and_then (λ close. Some (with_rest close)) o ≡ option_map with_rest o
-    by_close None = refl
-    by_close (Some x) = refl
 
 pub rest_again : {A : Type 0} (x : A) (o : Option (List ℕ))
     → option_map (bytes_after {A = A}) (option_map (λ close. (x, close)) o) ≡ o

@@ -12,7 +12,7 @@ use Rattle.std.proofs.Math.Nat.{div-one, div-div-eq-div-mul, one-le-pow, pow-suc
 use Rattle.std.proofs.Math.Seq.{drop-length}
 use Rattle.psci_board.specs.declared.node.Node.{Node}
 use Rattle.psci_board.specs.declared.node.Core.{Core}
-use Rattle.psci_board.specs.Board.{BoardValue, HasNode, IsBoard, IsTree, size_below, group_of}
+use Rattle.psci_board.specs.Board.{BoardValue, HasNode, IsBoard, IsTree, size_below}
 use Rattle.psci_board.specs.Board.{place_above, height, nodes, cores, up, children_at, first_child}
 use Rattle.psci_board.specs.Board.{children, child, address, address_up, node_of, core_of}
 use Rattle.psci_board.specs.Laws.{WordLaws}
@@ -49,11 +49,7 @@ has_node b word l n h = rw h.level (record { level = h.low; place = h.place })
 
 node_named : (b : BoardValue) → IsTree b.levels → (word : ℕ) (n : Node) → HasNode b n
     → address b n.level n.place ≡ word / 2 ^ (8 * n.level) → node_of b word n.level ≡ Some n
-node_named b t word n h e =
-    let word_at = word / 2 ^ (8 * n.level) in
-    let above = IsTree-drop n.level b.levels t in
-    let found = named_at (drop n.level b.levels) word_at n.place above h.place e in
-    rw (node_of-within b word n.level h.level, found) refl
+node_named b t word n h e = grind (arith, nat_tests, IsTree-drop, named_at, node_of-within)
 
 record CoreOf (b : BoardValue) (word : ℕ) (c : Core) : Type 0 where
   number : c.number < cores b
@@ -91,20 +87,13 @@ fields_above : (ws : List (List ℕ)) (l i : ℕ) → IsTree ws → i < size_bel
 fields_above ws zero i t h k = omega arith
 fields_above [] (suc l) i t h k = absurd (omega arith)
 fields_above (w ∷ ws) (suc l) i t h k =
-    let word = address_up (w ∷ ws) i in
-    let group = (fits w ws i t h).group in
-    let f = fields w ws i word t h refl in
-    fields_above ws l (group_of w i) t.3 group (omega arith)
-    ∙ shifted (address_up ws (group_of w i)) word l f.high
+    grind (arith, nat_tests, fits, fields, shifted, fields_above ws l)
 
 short : (ws : List (List ℕ)) (n i : ℕ) → IsTree ws → i < size_below ws → length ws ≤ n
     → address_up ws i < 256 ^ n
 short [] n i t h k = one-le-pow n 256 (omega arith)
 short (w ∷ ws) zero i t h k = absurd (omega arith)
-short (w ∷ ws) (suc n) i t h k =
-    let f = fits w ws i t h in
-    let later = short ws n (group_of w i) t.3 f.group (omega arith) in
-    rw (pow-suc 256 n) (omega (arith, f.place))
+short (w ∷ ws) (suc n) i t h k = grind (arith, nat_tests, fits, pow-suc, short ws n)
 
 -- a child has its number in a field below those of its parent
 child_place : (b : BoardValue) (l p k : ℕ) → l < height b → k < children_at b (suc l) p

@@ -14,6 +14,7 @@ use Rattle.psci_board.specs.Level.{index_named, child_in}
 use Rattle.psci_board.proofs.Fields.{named_at, named_below, named_below_none, none_named, named_is}
 use Rattle.psci_board.proofs.Levels.{IsTree-drop, level}
 use Rattle.psci_board.proofs.Named.{shifted}
+use Rattle.std.proofs.lemmas.Bool.Decides.{nat_tests}
 
 -- a word without one field more
 next_field : (word k : ℕ) → word / 2 ^ (8 * k) / 256 ≡ word / 2 ^ (8 * (k + 1))
@@ -103,10 +104,7 @@ named_past w word t h =
 -- the highest level stands alone
 highest : (levels : List (List ℕ)) (k : ℕ) → k + 1 ≡ length levels
     → drop k levels ≡ get_or levels k [] ∷ []
-highest levels k e =
-    let next : length levels ≤ suc k = omega arith in
-    drop-cons levels k [] (omega arith)
-    ∙ ap (λ (ws : List (List ℕ)). get_or levels k [] ∷ ws) (drop_all (suc k) levels next)
+highest levels k e = grind (arith, nat_tests, drop-cons, drop_all)
 
 -- nor is one on a level between
 pub none_above : (levels : List (List ℕ)) (word low k : ℕ) → IsTree levels → low ≤ k
@@ -125,11 +123,7 @@ none_above (w ∷ ws) word (suc low) (suc k) t l h e =
 pub named_highest : (levels : List (List ℕ)) (word k : ℕ) → IsTree levels → k + 1 ≡ length levels
     → word / 2 ^ (8 * k) < sum (get_or levels k [])
     → index_named (drop k levels) (word / 2 ^ (8 * k)) ≡ Some (word / 2 ^ (8 * k))
-named_highest levels word k t e h =
-    let cut : drop k levels ≡ get_or levels k [] ∷ [] = highest levels k e in
-    ap (λ ls. index_named ls (word / 2 ^ (8 * k))) cut
-    ∙ named_top (get_or levels k []) (word / 2 ^ (8 * k))
-    (subst IsTree cut (IsTree-drop k levels t)) h
+named_highest levels word k t e h = grind (arith, nat_tests, highest, named_top, IsTree-drop)
 
 pub none_highest : (levels : List (List ℕ)) (word low k : ℕ) → IsTree levels → low ≤ k
     → k + 1 ≡ length levels → sum (get_or levels k []) ≤ word / 2 ^ (8 * k)

@@ -1,6 +1,6 @@
 -- The parent of a node, and its number among the children of that parent.
 use Rattle.std.proofs.Common.{◌≡◌, ℕ, zero, suc, ◌+◌, ◌-◌, ◌<◌, Bool, true, ltb}
-use Rattle.std.proofs.Common.{length, take, get_or, sum, refl, ap, arith, sub-one, add-one}
+use Rattle.std.proofs.Common.{length, get_or, refl, arith, sub-one, add-one}
 use Rattle.std.proofs.Common.{Some, inl, inr}
 use Rattle.std.specs.Prelude.{◌&&◌}
 use Rattle.std.proofs.lemmas.Bool.{cases_lt}
@@ -64,15 +64,11 @@ step b h n m k e =
 
 parent_of_child : (b : BoardValue) → IsBoard b → (n m : Node) (k : ℕ) → child b n k ≡ Some m
     → parent b m ≡ Some n
-parent_of_child b h n m k e =
-    let s = step b h n m k e in
-    rw (yes b m s.below, s.level, s.stands.group) refl
+parent_of_child b h n m k e = grind (arith, nat_tests, step, yes, below, level)
 
 number_of_child : (b : BoardValue) → IsBoard b → (n m : Node) (k : ℕ) → child b n k ≡ Some m
     → child_number b m ≡ Some k
-number_of_child b h n m k e =
-    let s = step b h n m k e in
-    rw (yes b m s.below, s.stands.place) refl
+number_of_child b h n m k e = grind (arith, nat_tests, step, yes, below)
 
 -- From a node to its parent -------------------------------------------------------------------
 
@@ -80,23 +76,12 @@ child_at_parent : (b : BoardValue) → IsBoard b → (l q p k level : ℕ) → s
     → group_of (counts b l) q ≡ p → index_in (counts b l) q ≡ k → l < height b → q < nodes b l
     → child b (record { level = level; place = p }) k ≡ Some (record { level = l; place = q })
 child_at_parent b h l q p k high e f g i j =
-    let size = (level b.levels l h.tree i).size in
-    let c = counted (counts b l) q (omega (arith, size)) in
-    let some : ltb k (get_or (counts b l) p 0) ≡ true =
-    let x : k < get_or (counts b l) p 0 = rw (← f, ← g) c.place in grind (arith, nat_tests) in
-    let whole : sum (take p (counts b l)) + k ≡ q = rw (← f, ← g) c.whole in
-    rw (← e, some, sub-one, whole) refl
+    grind (arith, nat_tests, level, counted, counts, sub-one)
 
 child_of_parent : (b : BoardValue) → IsBoard b → (n m : Node) (k : ℕ) → parent b m ≡ Some n
     → child_number b m ≡ Some k → child b n k ≡ Some m
 child_of_parent b h n m k e d =
-    let c = cond_some (has_parent b m) _ n e in
-    let g = cond_some (has_parent b m) _ k d in
-    let here = below b m c.0 in
-    let level : m.level + 1 ≡ n.level = ap (λ x. x.level) c.1 in
-    let place : group_of (counts b m.level) m.place ≡ n.place = ap (λ x. x.place) c.1 in
-    child_at_parent b h m.level m.place n.place k n.level (omega arith) place g.1 here.level
-    here.place
+    grind (arith, nat_tests, cond_some, below, level, counts, child_at_parent)
 
 parent_node : (b : BoardValue) → IsBoard b → (n m : Node) → parent b m ≡ Some n → HasNode b n
 parent_node b h n m e =

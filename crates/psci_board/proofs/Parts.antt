@@ -13,9 +13,7 @@ kept p n a = filter p (range_with_len a n)
 pub same_kept : (p q : ℕ → Bool) (n a : ℕ) → ((j : ℕ) → a ≤ j → j < a + n → p j ≡ q j)
     → filter p (range_with_len a n) ≡ filter q (range_with_len a n)
 same_kept p q zero a e = refl
-same_kept p q (suc n) a e =
-    let later = same_kept p q n (a + 1) (λ j l h. e j (omega arith) (omega arith)) in
-    rw (e a (omega arith) (omega arith), later) refl
+same_kept p q (suc n) a e = grind (arith, nat_tests, same_kept p q n (a + 1))
 
 none_kept : (p : ℕ → Bool) (n a : ℕ) → ((j : ℕ) → a ≤ j → p j ≡ false) → kept p n a ≡ []
 none_kept p zero a e = refl
@@ -35,9 +33,7 @@ parts_by : (r p q : ℕ → Bool) → Parts r p q → (n a : ℕ) (s t : Bool) �
 parts_by r p q h n a true true e d later =
     let apart : p a ≡ false = h.before a a d (omega arith) in cc
 parts_by r p q h n a true false e d later = rw (e, d, h.left a e, later) refl
-parts_by r p q h n a false true e d later =
-    let after = none_kept p n (a + 1) (λ j l. h.before a j d (omega arith)) in
-    rw (e, d, h.right a d, later, after) refl
+parts_by r p q h n a false true e d later = grind (arith, nat_tests, none_kept)
 parts_by r p q h n a false false e d later = rw (e, d, h.neither a e d) later
 
 parts : (r p q : ℕ → Bool) → Parts r p q → (n a : ℕ) → kept r n a ≡ kept p n a ++ kept q n a
@@ -46,9 +42,7 @@ parts r p q h (suc n) a = parts_by r p q h n a (p a) (q a) refl refl (parts r p 
 
 range-more : (n a : ℕ) → range_with_len a (suc n) ≡ range_with_len a n ++ (a + n) ∷ []
 range-more zero a = let e : a ≡ a + 0 = omega arith in ap (λ k. k ∷ []) e
-range-more (suc n) a =
-    let e : a + 1 + n ≡ a + suc n = omega arith in
-    ap (λ xs. a ∷ xs) (rw (range-more n (a + 1), e) refl)
+range-more (suc n) a = grind (arith, nat_tests, range-more n (a + 1))
 
 flat_map-more : (g : ℕ → List ℕ) (n : ℕ)
     → flat_map g (range_with_len 0 (suc n)) ≡ flat_map g (range_with_len 0 n) ++ g n

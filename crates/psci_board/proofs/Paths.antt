@@ -1,9 +1,8 @@
 -- The nodes above a core.
 use Rattle.std.proofs.Common.{◌≡◌, ℕ, zero, suc, ◌+◌, ◌<◌, ◌≤◌, List, [], ◌∷◌, length, take, drop}
-use Rattle.std.proofs.Common.{get_or, map, sum, refl, arith, Some, inl, inr}
+use Rattle.std.proofs.Common.{get_or, map, sum, refl, arith, Some}
 use Rattle.std.specs.Prelude.{slice_get}
 use Rattle.std.specs.List.{range_with_len}
-use Rattle.std.proofs.lemmas.Bool.{cases_lt}
 use Rattle.std.proofs.lemmas.List.FromFn.{fill_by_all}
 use Rattle.std.proofs.lemmas.Option.{get_or_from_slice_get}
 use Rattle.std.proofs.Math.Seq.{drop-length}
@@ -15,6 +14,7 @@ use Rattle.psci_board.specs.Laws.{PathLaws, SizeLaws}
 use Rattle.psci_board.proofs.Groups.{stands_at, group_of-ordered, width}
 use Rattle.psci_board.proofs.Fields.{fits}
 use Rattle.psci_board.proofs.Levels.{IsTree-drop}
+use Rattle.std.proofs.lemmas.Bool.Decides.{nat_tests}
 
 -- one level up
 pub place_above-suc : (ws : List (List ℕ)) (l i : ℕ) → l < length ws
@@ -33,10 +33,7 @@ place_above-past (w ∷ ws) (suc l) i h = place_above-past ws l (group_of w i) (
 
 joined : (ws : List (List ℕ)) (x y l : ℕ) → place_above ws l x ≡ place_above ws l y
     → place_above ws (suc l) x ≡ place_above ws (suc l) y
-joined ws x y l e = elim (cases_lt l (length ws)) [
-  | inl m ↦ rw (place_above-suc ws l x m, place_above-suc ws l y m, e) refl
-  | inr m ↦ rw (place_above-past ws l x m, place_above-past ws l y m) e
-]
+joined ws x y l e = grind (arith, nat_tests, place_above-suc, place_above-past)
 
 pub ordered : (ws : List (List ℕ)) (x y l : ℕ) → x ≤ y → place_above ws l x ≤ place_above ws l y
 ordered ws x y zero h = h

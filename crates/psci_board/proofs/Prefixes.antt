@@ -5,6 +5,8 @@ use Rattle.std.specs.Prelude.{option_map, ◌&&◌}
 use Rattle.std.specs.Option.{MatchOption}
 use Rattle.std.specs.Cmp.Lexicographic.{pointwise}
 use Rattle.psci_board.specs.ReadWords.{literal_at}
+use Rattle.std.proofs.lemmas.Bool.Decides.{nat_tests}
+use Rattle.std.proofs.Common.{arith}
 
 by_first : (t u : Bool) (o : Option (List ℕ)) (rest : List ℕ) → o ≡ cond u (Some rest) None
     → cond t o None ≡ cond (t && u) (Some rest) None
@@ -16,9 +18,7 @@ pub literal_by_bytes : (word bytes : List ℕ) → literal_at word bytes
 unfolding literal_at
 literal_by_bytes [] bytes = refl
 literal_by_bytes (w ∷ ws) [] = refl
-literal_by_bytes (w ∷ ws) (b ∷ bs) =
-    by_first (eqb b w) (pointwise eqb (take (length ws) bs) ws) (literal_at ws bs)
-    (drop (length ws) bs) (literal_by_bytes ws bs)
+literal_by_bytes (w ∷ ws) (b ∷ bs) = grind (arith, nat_tests, by_first, literal_by_bytes ws bs)
 
 -- what is left once a word was stripped from the front
 pub stripped : (word bytes : List ℕ) (r : Option (Bor (List ℕ)))

@@ -5,6 +5,7 @@ use Rattle.std.proofs.Common.{arith, add-zero, zero-add, append-nil}
 use Rattle.std.specs.Prelude.{filter}
 use Rattle.std.specs.List.{range_with_len}
 use Rattle.std.proofs.lemmas.List.Elements.{filter-append}
+use Rattle.std.proofs.lemmas.Bool.Decides.{nat_tests}
 
 range_split : (a m n : ℕ)
     → range_with_len a (m + n) ≡ range_with_len a m ++ range_with_len (a + m) n
@@ -17,16 +18,12 @@ range_split a (suc m) n =
 keep_all : (test : ℕ → Bool) (a n : ℕ) → ((c : ℕ) → a ≤ c → c < a + n → test c ≡ true)
     → filter test (range_with_len a n) ≡ range_with_len a n
 keep_all test a zero h = refl
-keep_all test a (suc n) h =
-    rw (h a (omega arith) (omega arith))
-    (ap (λ xs. a ∷ xs) (keep_all test (a + 1) n (λ c p q. h c (omega arith) (omega arith))))
+keep_all test a (suc n) h = grind (arith, nat_tests, keep_all test (a + 1) n)
 
 keep_none : (test : ℕ → Bool) (a n : ℕ) → ((c : ℕ) → a ≤ c → c < a + n → test c ≡ false)
     → filter test (range_with_len a n) ≡ []
 keep_none test a zero h = refl
-keep_none test a (suc n) h =
-    rw (h a (omega arith) (omega arith))
-    (keep_none test (a + 1) n (λ c p q. h c (omega arith) (omega arith)))
+keep_none test a (suc n) h = grind (arith, nat_tests, keep_none test (a + 1) n)
 
 -- where a test holds from a on, for k numbers, and nowhere else
 pub keep_middle : (test : ℕ → Bool) (a k n : ℕ) → a + k ≤ n → ((c : ℕ) → c < a → test c ≡ false)

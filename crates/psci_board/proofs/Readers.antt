@@ -1,7 +1,7 @@
 -- What the readers of a board are by its levels.
 use Rattle.std.proofs.Common.{◌≡◌, ℕ, zero, suc, ◌+◌, ◌-◌, ◌*◌, ◌/◌, ◌^◌, ◌<◌, ◌≤◌, Bool, true}
 use Rattle.std.proofs.Common.{false, cond, List, [], get_or, take, drop, sum, refl, arith, Some}
-use Rattle.std.proofs.Common.{None, ltb, leb}
+use Rattle.std.proofs.Common.{None, ltb}
 use Rattle.std.specs.Prelude.{option_map, slice_get}
 use Rattle.std.proofs.lemmas.Bool.Decides.{nat_tests}
 use Rattle.std.proofs.lemmas.Option.{get_or_from_slice_get, unwrap_or-slice_get}
@@ -38,9 +38,7 @@ first_child-some b n w e = at_level n.level e
 
 pub child-none : (b : BoardValue) (n : Node) (k : ℕ) → level_at b n.level ≡ None
     → child b n k ≡ None
-child-none b n k e =
-    let none : ltb k 0 ≡ false = grind (arith, nat_tests) in
-    rw (children-none b n e, none) refl
+child-none b n k e = grind (arith, nat_tests, children-none)
 
 abbrev pub on : ℕ → ℕ → Node
 on level place = record { level = level; place = place }
@@ -58,13 +56,9 @@ child-some b n k w e =
 pub node_of-above : (b : BoardValue) (word level : ℕ) → height b < level
     → node_of b word level ≡ None
 unfolding node_of
-node_of-above b word level h =
-    let above : leb level (height b) ≡ false = grind (arith, nat_tests) in
-    rw above refl
+node_of-above b word level h = grind (arith, nat_tests)
 
 pub node_of-within : (b : BoardValue) (word level : ℕ) → level ≤ height b → node_of b word level
     ≡ option_map (on level) (index_named (drop level b.levels) (word / 2 ^ (8 * level)))
 unfolding node_of
-node_of-within b word level h =
-    let within : leb level (height b) ≡ true = grind (arith, nat_tests) in
-    rw within refl
+node_of-within b word level h = grind (arith, nat_tests)

@@ -1,7 +1,7 @@
 -- What is said of a text, by what was kept of it.
 use Rattle.std.proofs.Common.{◌≡◌, ℕ, ◌<◌, ◌^◌, ◌-◌, ◌%◌, Bool, true, false, cond, List, length}
 use Rattle.std.proofs.Common.{Option, Some, None, Result, Ok, Err, refl, ap, sym, ◌∙◌, subst, arith}
-use Rattle.std.specs.Prelude.{◌||◌, ◌&&◌, not, nat_lt, ◌==◌, codes, option_map, option_and_then}
+use Rattle.std.specs.Prelude.{◌||◌, ◌&&◌, not, nat_lt, ◌==◌, option_map, option_and_then}
 use Rattle.std.specs.Prelude.{IsOk, IsErrAnd}
 use Rattle.std.proofs.lemmas.Option.{option_and_then_some, same_Some}
 use Rattle.psci_board.specs.declared.limits.TheConstants.{MOST_CORES}
@@ -12,26 +12,21 @@ use Rattle.psci_board.specs.declared.fault.BoardFault.TheVariants.{BadLimit, Mem
 use Rattle.psci_board.specs.declared.text.TextSummary.{TextSummary}
 use Rattle.psci_board.specs.Grammar.{TreeText, BoardText}
 use Rattle.psci_board.specs.Grammar.TreeText.{One, Members}
-use Rattle.psci_board.specs.ReadWords.{literal_at, number_at, hex_at, spaced_at}
-use Rattle.psci_board.specs.Reading.{format_at, range_at, more_at}
+use Rattle.psci_board.specs.ReadWords.{number_at}
 use Rattle.psci_board.specs.Reading.{list_at, member_at, starts_list, tree_at, board_text}
 use Rattle.psci_board.specs.Board.{BoardValue, is_in_some, IsBoard}
 use Rattle.psci_board.specs.SummaryVerdict.{text_summary, summary_board, fault_in}
 use Rattle.psci_board.specs.Verdict.{is_limit, verdict, verdict_or, board_of, Answers}
 use Rattle.psci_board.proofs.KeptTree.{IsFull}
 use Rattle.psci_board.proofs.Decided.{said, decided, is_board}
+use Rattle.std.proofs.lemmas.Bool.Decides.{nat_tests}
 
 -- The text -------------------------------------------------------------------------------------
 
 some_item : {A : Type 0} (item : List ℕ → Option (A × List ℕ)) (bytes : List ℕ)
     (x : List A × List ℕ) → list_at item bytes ≡ Some x → 0 < length x.0
 unfolding list_at
-some_item item bytes x e =
-    option_and_then_some _ (literal_at (codes "(") bytes) x e (λ open_ a e1.
-    option_and_then_some _ (item open_) x e1 (λ first b e2.
-    option_and_then_some _ (literal_at (codes ")") (more_at item first.1).1) x e2 (λ close c e3.
-    let r = same_Some _ x e3 in
-    omega (arith, ap (λ y. length y.0) r))))
+some_item item bytes x e = grind (arith, nat_tests, option_and_then_some, same_Some)
 
 full_tree : (bytes : List ℕ) (x : TreeText × List ℕ) → tree_at bytes ≡ Some x → IsFull x.0
 unfolding tree_at
@@ -48,20 +43,7 @@ full_tree bytes x e = by_test (starts_list bytes) e
 
 pub full_text : (bytes : List ℕ) (t : BoardText) → board_text bytes ≡ Some t → IsFull t.tree
 unfolding board_text
-full_text bytes t e =
-    option_and_then_some _ (tree_at bytes) t e (λ tree a e1.
-    option_and_then_some _ (literal_at (codes " exec") tree.1) t e1 (λ r1 b e2.
-    option_and_then_some _ (spaced_at range_at r1) t e2 (λ first c e3.
-    option_and_then_some _ (literal_at (codes " boot ") (more_at range_at first.1).1) t e3
-    (λ r2 d e4.
-    option_and_then_some _ (hex_at r2) t e4 (λ boot f e5.
-    option_and_then_some _ (literal_at (codes " starts ") boot.1) t e5 (λ r3 g e6.
-    option_and_then_some _ (number_at r3) t e6 (λ starts h e7.
-    option_and_then_some _ (literal_at (codes " lives ") starts.1) t e7 (λ r4 i e8.
-    option_and_then_some _ (number_at r4) t e8 (λ lives j e9.
-    option_and_then_some _ (format_at lives.1) t e9 (λ format k e10.
-    subst (λ (u : BoardText). IsFull u.tree) (same_Some _ _ e10)
-    (full_tree bytes tree a)))))))))))
+full_text bytes t e = grind (arith, nat_tests, option_and_then_some, IsFull, same_Some, full_tree)
 
 -- What is said of the text ----------------------------------------------------------------------
 
@@ -109,41 +91,19 @@ good_text bytes s e none =
     (d.all ∙ f, is_board d.text (summary_board s) (d.verdict ∙ f))
 
 -- memory is no fault of a text
-abbrev is_memory : Option BoardFault → Bool
-is_memory (Some Memory) = true
-is_memory (Some Grammar) = false
-is_memory (Some Uneven) = false
-is_memory (Some TooWide) = false
-is_memory (Some TooManyCores) = false
-is_memory (Some BadRange) = false
-is_memory (Some BadBoot) = false
-is_memory (Some BadLimit) = false
-is_memory None = false
-
-apart : false ≡ true → ⊥
-apart e = cc
-
-later : (b : Bool) (f : BoardFault) (o : Option BoardFault) → is_memory (Some f) ≡ false
-    → cond b (Some f) o ≡ Some Memory → o ≡ Some Memory
-later true f o p e = absurd (apart (sym p ∙ ap is_memory e))
-later false f o p e = e
-
 no_memory : (a b c d e f : Bool)
     → cond a (Some Uneven)
     (cond b (Some TooWide)
     (cond c (Some TooManyCores)
     (cond d (Some BadRange) (cond e (Some BadBoot) (cond f (Some BadLimit) None)))))
     ≡ Some Memory → ⊥
-no_memory a b c d e f h =
-    let rest_f = cond f (Some BadLimit) None in
-    let rest_e = cond e (Some BadBoot) rest_f in
-    let rest_d = cond d (Some BadRange) rest_e in
-    let rest_c = cond c (Some TooManyCores) rest_d in
-    let rest_b = cond b (Some TooWide) rest_c in
-    apart (ap is_memory
-    (later f BadLimit None refl (later e BadBoot rest_f refl (later d BadRange rest_e refl
-    (later c TooManyCores rest_d refl
-    (later b TooWide rest_c refl (later a Uneven rest_b refl h)))))))
+no_memory true b c d e f h = cc
+no_memory false true c d e f h = cc
+no_memory false false true d e f h = cc
+no_memory false false false true e f h = cc
+no_memory false false false false true f h = cc
+no_memory false false false false false true h = cc
+no_memory false false false false false false h = cc
 
 never_memory : (s : TextSummary) → fault_in s ≡ Some Memory → ⊥
 unfolding fault_in
@@ -156,14 +116,8 @@ never_memory s h =
 
 faulty : (f : BoardFault) (r : Result BoardValue BoardFault) → (f ≡ Memory → ⊥) → r ≡ Err f
     → Answers (Err f) r
-faulty Grammar r n e = e
-faulty Uneven r n e = e
-faulty TooWide r n e = e
-faulty TooManyCores r n e = e
-faulty BadRange r n e = e
-faulty BadBoot r n e = e
-faulty BadLimit r n e = e
 faulty Memory r n e = absurd (n refl)
+faulty f r n e = e
 
 pub bad_text : (bytes : List ℕ) (s : TextSummary) (f : BoardFault)
     → Some s ≡ option_map text_summary (board_text bytes) → Some f ≡ fault_in s

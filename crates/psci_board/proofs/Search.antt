@@ -1,28 +1,19 @@
 -- What a search for the first number that passes a test finds.
 use Rattle.std.proofs.Common.{◌≡◌, ℕ, zero, suc, ◌+◌, ◌<◌, ◌≤◌, Bool, true, false, refl, arith}
-use Rattle.std.proofs.Common.{Option, Some, None, inl, inr}
+use Rattle.std.proofs.Common.{Option, Some, None}
 use Rattle.std.specs.List.{find, range_with_len}
-use Rattle.std.proofs.lemmas.Bool.{cases_lt}
 use Rattle.std.proofs.lemmas.Option.{same_Some, none-some}
+use Rattle.std.proofs.lemmas.Bool.Decides.{nat_tests}
 
 pub found_first : (p : ℕ → Bool) (n a i : ℕ) → a ≤ i → i < a + n → p i ≡ true
     → ((j : ℕ) → a ≤ j → j < i → p j ≡ false) → find p (range_with_len a n) ≡ Some i
 found_first p zero a i l h t fails = absurd (omega arith)
-found_first p (suc n) a i l h t fails = elim (cases_lt a i) [
-  | inr m ↦
-      let same : i ≡ a = omega arith in
-      let now : p a ≡ true = rw same at t in
-      rw (now, same) refl
-  | inl m ↦ rw (fails a (omega arith) m)
-      (found_first p n (a + 1) i (omega arith) (omega arith) t (λ j b. fails j (omega arith)))
-]
+found_first p (suc n) a i l h t fails = grind (arith, nat_tests, found_first p n (a + 1) i)
 
 pub found_none : (p : ℕ → Bool) (n a : ℕ) → ((j : ℕ) → a ≤ j → j < a + n → p j ≡ false)
     → find p (range_with_len a n) ≡ None
 found_none p zero a fails = refl
-found_none p (suc n) a fails =
-    rw (fails a (omega arith) (omega arith))
-    (found_none p n (a + 1) (λ j l h. fails j (omega arith) (omega arith)))
+found_none p (suc n) a fails = grind (arith, nat_tests, found_none p n (a + 1))
 
 pub record Found (p : ℕ → Bool) (a n i : ℕ) : Type 0 where
   pub from : a ≤ i
@@ -47,10 +38,7 @@ passes_by : (p : ℕ → Bool) (n a i : ℕ) (b : Bool) → p a ≡ b
     → find p (range_with_len a (suc n)) ≡ None
     → p i ≡ true → a ≤ i → (find p (range_with_len (a + 1) n) ≡ None → a + 1 ≤ i → ⊥) → ⊥
 passes_by p n a i true q e t l later = let x : ◌≡◌ {A = Option ℕ} (Some a) None = rw q at e in cc
-passes_by p n a i false q e t l later = elim (cases_lt a i) [
-  | inr m ↦ let same : i ≡ a = omega arith in let r : p a ≡ true = rw same at t in cc
-  | inl m ↦ later (rw q at e) (omega arith)
-]
+passes_by p n a i false q e t l later = grind (arith, nat_tests)
 
 pub none_passes : (p : ℕ → Bool) (n a i : ℕ) → find p (range_with_len a n) ≡ None
     → a ≤ i → i < a + n → p i ≡ true → ⊥

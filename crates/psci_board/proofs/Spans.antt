@@ -1,5 +1,5 @@
 -- The cores below a node stand side by side: they are the cores of its span.
-use Rattle.std.proofs.Common.{◌≡◌, ℕ, ◌+◌, ◌-◌, ◌<◌, ◌≤◌, true, List, []}
+use Rattle.std.proofs.Common.{◌≡◌, ℕ, ◌+◌, ◌-◌, ◌<◌, ◌≤◌, List, []}
 use Rattle.std.proofs.Common.{length, take, drop, get_or, sum, refl, ap, ◌∙◌}
 use Rattle.std.proofs.Common.{◌==◌, Some, arith, inl, inr}
 use Rattle.std.specs.List.{range_with_len}
@@ -8,7 +8,7 @@ use Rattle.std.proofs.lemmas.Bool.Decides.{nat_tests}
 use Rattle.std.proofs.Math.Seq.{drop-length}
 use Rattle.psci_board.specs.declared.node.Node.{Node}
 use Rattle.psci_board.specs.Board.{IsTree, size_below, place_above, HasNodeIn}
-use Rattle.psci_board.specs.Board.{below_in, first_core, span, has_node, cores_below, height, nodes}
+use Rattle.psci_board.specs.Board.{below_in, first_core, span, cores_below, height, nodes}
 use Rattle.psci_board.specs.Board.{BoardValue, HasNode}
 use Rattle.psci_board.specs.Laws.{SpanLaws}
 use Rattle.psci_board.proofs.Ranges.{keep_middle, cut_range}
@@ -116,14 +116,7 @@ pub span_some : (b : BoardValue) (n : Node) (front : List (List ℕ)) (first end
     → front ≡ take n.level b.levels → first ≡ first_core front (length front) n.place
     → end ≡ first_core front (length front) (n.place + 1)
     → Some (record { first = first; count = end - first }) ≡ cores_below b n
-span_some b n front first end h e f g =
-    let here : has_node b n ≡ true =
-    let level = h.level in let place = h.place in grind (arith, nat_tests) in
-    let from : first ≡ first_core b.levels n.level n.place =
-    rw e at f ∙ first_cut b.levels n.level n.place h.level in
-    let to : end ≡ first_core b.levels n.level (n.place + 1) =
-    rw e at g ∙ first_cut b.levels n.level (n.place + 1) h.level in
-    rw (here, from, to) refl
+span_some b n front first end h e f g = grind (arith, nat_tests, first_cut)
 
 pub first_ordered : (front : List (List ℕ)) (p first end : ℕ)
     → first ≡ first_core front (length front) p → end ≡ first_core front (length front) (p + 1)

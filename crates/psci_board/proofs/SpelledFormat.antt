@@ -1,6 +1,6 @@
 -- The last part of a text is read as it is spelled, and in no other way.
 use Rattle.std.proofs.Common.{◌≡◌, ℕ, Bool, true, false, cond, List, [], Option, Some, None, refl}
-use Rattle.std.proofs.Common.{eqb-true, length, subst}
+use Rattle.std.proofs.Common.{eqb-true, subst}
 use Rattle.std.specs.Prelude.{codes}
 use Rattle.std.specs.Char.{is_ascii_digit}
 use Rattle.std.proofs.lemmas.List.{nil_from_length}
@@ -11,6 +11,8 @@ use Rattle.psci_board.specs.psci_abi.declared.format.Format.TheVariants.{Origina
 use Rattle.psci_board.specs.Spelling.{Ends}
 use Rattle.psci_board.specs.Grammar.{format_part}
 use Rattle.psci_board.specs.Reading.{format_at}
+use Rattle.std.proofs.lemmas.Bool.Decides.{nat_tests}
+use Rattle.std.proofs.Common.{arith}
 
 pub format_again : (f : Option Format) → format_at (format_part f) ≡ Some f
 format_again None = refl
@@ -39,6 +41,4 @@ chosen false false false bytes f none original extended e = cc
 pub format_takes : (bytes : List ℕ) (f : Option Format) → format_at bytes ≡ Some f
     → bytes ≡ format_part f
 format_takes bytes f e =
-    chosen _ _ _ bytes f (λ h. nil_from_length bytes (eqb-true (length bytes) 0 h))
-    (bytes_eq-Decides bytes (codes " format original")).0
-    (bytes_eq-Decides bytes (codes " format extended")).0 e
+    grind (arith, nat_tests, chosen, nil_from_length, eqb-true, bytes_eq-Decides)

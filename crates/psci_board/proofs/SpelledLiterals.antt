@@ -15,10 +15,7 @@ unfolding literal_at
 literal_takes [] bytes rest e = cc
 literal_takes (w ∷ ws) [] rest e = cc
 literal_takes (w ∷ ws) (b ∷ bs) rest e =
-    let c = cond_both (eqb b w) (literal_at ws bs) rest e in
-    let first : b ≡ w = eqb-true b w c.0 in
-    let others : bs ≡ ws ++ rest = literal_takes ws bs rest c.1 in
-    cc
+    grind (arith, nat_tests, cond_both, eqb-true, literal_takes ws bs rest)
 
 same : (b : ℕ) → eqb b b ≡ true
 same b = grind (arith, nat_tests)

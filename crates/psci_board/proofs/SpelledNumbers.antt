@@ -64,21 +64,14 @@ tests_pass ds a b c = grind (arith, nat_tests)
 numeral_passes : (n : ℕ) → n < 2 ^ 64 → is_number (decimal n) ≡ true
 numeral_passes zero h = rw (decimal_digit 0 (lit< tt)) refl
 numeral_passes (suc n) h =
-    tests_pass (decimal (suc n)) (decimal_nonempty (suc n) h)
-    (first_decimal (suc n) (omega arith) h) (rw (decimal_is_IsNumeral (suc n) h).1 h)
+    grind (arith, nat_tests, tests_pass, decimal_nonempty, first_decimal, decimal_is_IsNumeral)
 
 number_again : (n : ℕ) (rest : List ℕ) → IsNumber n → Ends is_ascii_digit rest
     → number_at (decimal n ++ rest) ≡ Some (n, rest)
 unfolding number_at
 number_again n rest h e =
     let d = decimal_is_IsNumeral n h in
-    let k : prefix_len is_ascii_digit (decimal n ++ rest) ≡ length (decimal n) =
-    kind_then is_ascii_digit (decimal n) rest (digits_pass (decimal n) d.0.1) e in
-    let t : take (length (decimal n)) (decimal n ++ rest) ≡ decimal n =
-    take_at (decimal n) rest _ refl in
-    let r : drop (length (decimal n)) (decimal n ++ rest) ≡ rest =
-    drop_at (decimal n) rest _ refl in
-    rw (k, t, numeral_passes n h, r, d.1) refl
+    grind (arith, nat_tests, kind_then, digits_pass, take_at, drop_at, numeral_passes)
 
 -- what passes is the decimal text of its value
 passes_numeral : (ds : List ℕ) → AllDigits 10 ds → is_number ds ≡ true
@@ -93,15 +86,7 @@ number_takes : (bytes : List ℕ) (x : ℕ × List ℕ) → number_at bytes ≡ 
     → IsNumber x.0 × (bytes ≡ decimal x.0 ++ x.1)
 unfolding number_at
 number_takes bytes x e =
-    let k = prefix_len is_ascii_digit bytes in
-    let c = cond_some (is_number (take k bytes)) _ _ e in
-    let p = passes_numeral (take k bytes) (decimal_front bytes) c.0 in
-    let value : digits_value 10 (take k bytes) ≡ x.0 = ap (λ y. y.0) c.1 in
-    let after : drop k bytes ≡ x.1 = ap (λ y. y.1) c.1 in (
-      omega (arith, p.0, value),
-      sym (take-append-drop k bytes) ∙ ap (λ r. take k bytes ++ r) after
-          ∙ ap (λ d. d ++ x.1) (sym p.1 ∙ ap decimal value),
-    )
+    grind (arith, nat_tests, cond_some, passes_numeral, decimal_front, take-append-drop)
 
 pub number_reads : Reads number_at decimal IsNumber is_ascii_digit
 number_reads = record { again = number_again; takes = number_takes }
@@ -115,11 +100,7 @@ hex_again : (ds rest : List ℕ) → IsHex ds → Ends is_ascii_hexdigit rest
     → hex_at (hex ds ++ rest) ≡ Some (ds, rest)
 unfolding hex_at literal_at
 hex_again ds rest h e =
-    let k : prefix_len is_ascii_hexdigit (ds ++ rest) ≡ length ds =
-    kind_then is_ascii_hexdigit ds rest (recursion_from_All _ ds h.each) e in
-    let t : take (length ds) (ds ++ rest) ≡ ds = take_at ds rest _ refl in
-    let r : drop (length ds) (ds ++ rest) ≡ rest = drop_at ds rest _ refl in
-    rw (k, hex_length (length ds) h.some h.most, t, r) refl
+    grind (arith, nat_tests, kind_then, recursion_from_All, take_at, drop_at, hex_length)
 
 hex_by_length : (n : ℕ) → (nat_lt 0 n && nat_le n 16) ≡ true → (0 < n) × (n ≤ 16)
 hex_by_length n h = (grind (arith, nat_tests), grind (arith, nat_tests))

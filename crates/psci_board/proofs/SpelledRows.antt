@@ -1,49 +1,36 @@
 -- How known board texts are spelled.
-use Rattle.std.proofs.Common.{◌≡◌, ◌∷◌, [], refl}
-use Rattle.std.specs.Prelude.{codes, None}
+use Prim.Native.String.{String}
+use Rattle.std.proofs.Common.{◌≡◌, ℕ, List, ◌∷◌, [], refl}
+use Rattle.std.specs.Prelude.{codes, Option, None}
 use Rattle.std.specs.Fmt.{digits}
-use Rattle.psci_board.specs.Grammar.{spelling}
+use Rattle.psci_board.specs.Grammar.{BoardText, TreeText, spelling}
 use Rattle.psci_board.specs.Grammar.Member.{Cluster, Group}
 use Rattle.psci_board.specs.Grammar.TreeText.{One, Members}
 use Rattle.psci_board.specs.ReadWords.{literal_at, number_at, hex_at, spaced_at}
 use Rattle.psci_board.specs.Reading.{range_at, at_most}
 use Rattle.psci_board.specs.Reading.{more_at, list_at, member_at, tree_at, board_text}
+use Rattle.psci_board.proofs.Tables.{◌⇒◌, Gives}
 
--- one cluster of four cores
-pub height_1 : spelling (record {
-  tree = One 4;
+-- a board of this tree
+abbrev spelled : TreeText → List ℕ
+spelled tree = spelling (record {
+  tree = tree;
   ranges = (codes "40000000", codes "40100000") ∷ [];
   boot = codes "40000000";
   starts = 1000;
   lives = 3;
   format = None;
-}) ≡ codes "4 exec 0x40000000-0x40100000 boot 0x40000000 starts 1000 lives 3"
-unfolding digits
-height_1 = refl
+})
 
--- two clusters of two cores each
-pub height_2 : spelling (record {
-  tree = Members (Cluster 2 ∷ Cluster 2 ∷ []);
-  ranges = (codes "40000000", codes "40100000") ∷ [];
-  boot = codes "40000000";
-  starts = 1000;
-  lives = 3;
-  format = None;
-}) ≡ codes "(2 2) exec 0x40000000-0x40100000 boot 0x40000000 starts 1000 lives 3"
+-- one cluster of four cores, two clusters of two, and two groups of two clusters of one
+pub heights : Gives spelled
+    (One 4 ⇒ codes "4 exec 0x40000000-0x40100000 boot 0x40000000 starts 1000 lives 3"
+    ∷ Members (Cluster 2 ∷ Cluster 2 ∷ [])
+    ⇒ codes "(2 2) exec 0x40000000-0x40100000 boot 0x40000000 starts 1000 lives 3"
+    ∷ Members (Group (1 ∷ 1 ∷ []) ∷ Group (1 ∷ 1 ∷ []) ∷ [])
+    ⇒ codes "((1 1) (1 1)) exec 0x40000000-0x40100000 boot 0x40000000 starts 1000 lives 3" ∷ [])
 unfolding digits
-height_2 = refl
-
--- two groups of two clusters of one core each
-pub height_3 : spelling (record {
-  tree = Members (Group (1 ∷ 1 ∷ []) ∷ Group (1 ∷ 1 ∷ []) ∷ []);
-  ranges = (codes "40000000", codes "40100000") ∷ [];
-  boot = codes "40000000";
-  starts = 1000;
-  lives = 3;
-  format = None;
-}) ≡ codes "((1 1) (1 1)) exec 0x40000000-0x40100000 boot 0x40000000 starts 1000 lives 3"
-unfolding digits
-height_3 = refl
+heights = refl
 
 -- two ranges, digits of either case, and lists of one member
 pub two_ranges : spelling (record {
@@ -59,54 +46,23 @@ pub two_ranges : spelling (record {
 unfolding digits
 two_ranges = refl
 
--- Texts outside the grammar ---------------------------------------------------------------------
+abbrev read : String → Option BoardText
+read text = board_text (codes text)
 
-pub two_spaces : board_text (codes "4 exec  0x0-0x10 boot 0x0 starts 1 lives 1") ≡ None
-unfolding board_text tree_at list_at more_at at_most spaced_at range_at hex_at number_at literal_at
-two_spaces = refl
-
-pub space_before : board_text (codes " 4 exec 0x0-0x10 boot 0x0 starts 1 lives 1") ≡ None
-unfolding board_text tree_at list_at more_at at_most spaced_at range_at hex_at number_at literal_at
-space_before = refl
-
-pub space_after : board_text (codes "4 exec 0x0-0x10 boot 0x0 starts 1 lives 1 ") ≡ None
-unfolding board_text tree_at list_at more_at at_most spaced_at range_at hex_at number_at literal_at
-space_after = refl
-
-pub space_in_list : board_text (codes "(2 2 ) exec 0x0-0x10 boot 0x0 starts 1 lives 1") ≡ None
-unfolding board_text tree_at member_at list_at more_at at_most spaced_at number_at literal_at
-space_in_list = refl
-
-pub no_range : board_text (codes "4 exec boot 0x0 starts 1 lives 1") ≡ None
-unfolding board_text tree_at list_at more_at at_most spaced_at range_at hex_at number_at literal_at
-no_range = refl
-
-pub no_digit : board_text (codes "4 exec 0x-0x10 boot 0x0 starts 1 lives 1") ≡ None
-unfolding board_text tree_at list_at more_at at_most spaced_at range_at hex_at number_at literal_at
-no_digit = refl
-
-pub seventeen_digits :
-    board_text (codes "4 exec 0x00000000000000000-0x1 boot 0x0 starts 1 lives 1") ≡ None
-unfolding board_text tree_at list_at more_at at_most spaced_at range_at hex_at number_at literal_at
-seventeen_digits = refl
-
-pub capital_x : board_text (codes "4 exec 0X0-0x10 boot 0x0 starts 1 lives 1") ≡ None
-unfolding board_text tree_at list_at more_at at_most spaced_at range_at hex_at number_at literal_at
-capital_x = refl
-
-pub leading_zero : board_text (codes "4 exec 0x0-0x10 boot 0x0 starts 01 lives 1") ≡ None
-unfolding board_text tree_at list_at more_at at_most spaced_at range_at hex_at number_at literal_at
-leading_zero = refl
-
-pub too_large_number :
-    board_text (codes "4 exec 0x0-0x10 boot 0x0 starts 18446744073709551616 lives 1") ≡ None
-unfolding board_text tree_at list_at more_at at_most spaced_at range_at hex_at number_at literal_at
-too_large_number = refl
-
-pub three_brackets : board_text (codes "(((1))) exec 0x0-0x10 boot 0x0 starts 1 lives 1") ≡ None
-unfolding board_text tree_at member_at list_at more_at at_most spaced_at number_at literal_at
-three_brackets = refl
-
-pub empty_group : board_text (codes "(1 ()) exec 0x0-0x10 boot 0x0 starts 1 lives 1") ≡ None
-unfolding board_text tree_at member_at list_at more_at at_most spaced_at number_at literal_at
-empty_group = refl
+-- texts outside the grammar
+pub not_texts : Gives read
+    ("4 exec  0x0-0x10 boot 0x0 starts 1 lives 1" ⇒ None
+    ∷ " 4 exec 0x0-0x10 boot 0x0 starts 1 lives 1" ⇒ None
+    ∷ "4 exec 0x0-0x10 boot 0x0 starts 1 lives 1 " ⇒ None
+    ∷ "(2 2 ) exec 0x0-0x10 boot 0x0 starts 1 lives 1" ⇒ None
+    ∷ "4 exec boot 0x0 starts 1 lives 1" ⇒ None
+    ∷ "4 exec 0x-0x10 boot 0x0 starts 1 lives 1" ⇒ None
+    ∷ "4 exec 0x00000000000000000-0x1 boot 0x0 starts 1 lives 1" ⇒ None
+    ∷ "4 exec 0X0-0x10 boot 0x0 starts 1 lives 1" ⇒ None
+    ∷ "4 exec 0x0-0x10 boot 0x0 starts 01 lives 1" ⇒ None
+    ∷ "4 exec 0x0-0x10 boot 0x0 starts 18446744073709551616 lives 1" ⇒ None
+    ∷ "(((1))) exec 0x0-0x10 boot 0x0 starts 1 lives 1" ⇒ None
+    ∷ "(1 ()) exec 0x0-0x10 boot 0x0 starts 1 lives 1" ⇒ None ∷ [])
+unfolding board_text tree_at member_at list_at more_at at_most spaced_at range_at hex_at number_at
+    literal_at
+not_texts = refl

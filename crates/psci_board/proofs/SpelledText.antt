@@ -7,7 +7,7 @@ use Rattle.std.specs.List.{AllByRecursion}
 use Rattle.std.proofs.lemmas.List.Elements.{recursion_from_All}
 use Rattle.std.proofs.lemmas.Option.{option_and_then_some, same_Some}
 use Rattle.psci_board.specs.psci_abi.declared.format.Format.{Format}
-use Rattle.psci_board.specs.Spelling.{TextLaws, IsHex, IsNumber, hex}
+use Rattle.psci_board.specs.Spelling.{IsHex, IsNumber, hex}
 use Rattle.psci_board.specs.Grammar.{TreeText, BoardText, IsTreeText, IsRange}
 use Rattle.psci_board.specs.Grammar.{IsBoardText, format_part, spaced, tree, range, spelling}
 use Rattle.psci_board.specs.ReadWords.{literal_at, spaced_at, number_at, hex_at}
@@ -15,6 +15,8 @@ use Rattle.psci_board.specs.Reading.{format_at, more_at, range_at}
 use Rattle.psci_board.specs.Reading.{tree_at, board_text}
 use Rattle.psci_board.proofs.Spelled.{first_again, spaced_takes, more_again}
 use Rattle.psci_board.proofs.Spelled.{more_takes, list_of}
+use Rattle.psci_board.proofs.SpelledLiterals.{literal_takes}
+use Rattle.psci_board.proofs.SpelledNumbers.{number_reads, hex_reads}
 use Rattle.psci_board.proofs.SpelledFormat.{ends_number, format_again, format_takes}
 use Rattle.psci_board.proofs.SpelledRanges.{range_reads}
 use Rattle.psci_board.proofs.SpelledTree.{tree_reads}
@@ -31,35 +33,35 @@ no_range : (rest : List ℕ) → spaced_at range_at (codes " boot " ++ rest) ≡
 unfolding spaced_at range_at hex_at literal_at
 no_range rest = refl
 
-others_again : (w : TextLaws) (rs : List (List ℕ × List ℕ)) (rest : List ℕ)
+others_again : (rs : List (List ℕ × List ℕ)) (rest : List ℕ)
     → AllByRecursion IsRange rs
     → more_at range_at (spaced range rs ++ (codes " boot " ++ rest)) ≡ (rs, codes " boot " ++ rest)
-others_again w rs rest h =
-    more_again range_at range IsRange _ (range_reads w) refl rs (codes " boot " ++ rest) h refl
+others_again rs rest h =
+    more_again range_reads refl rs (codes " boot " ++ rest) h refl
     (no_range rest)
 
-parts_again : (w : TextLaws) (t : TreeText) (r : List ℕ × List ℕ) (rs : List (List ℕ × List ℕ))
+parts_again : (t : TreeText) (r : List ℕ × List ℕ) (rs : List (List ℕ × List ℕ))
     (boot : List ℕ)
     (starts lives : ℕ) (f : Option Format) → IsTreeText t → IsRange r → AllByRecursion IsRange rs
     → IsHex boot → IsNumber starts → IsNumber lives
     → IsRead (board t (r ∷ rs) boot starts lives f)
 unfolding board_text literal_at
-parts_again w t r rs boot starts lives f ht hr hrs hb hs hl =
+parts_again t r rs boot starts lives f ht hr hrs hb hs hl =
     let after_starts = codes " lives " ++ (decimal lives ++ format_part f) in
     let after_boot = codes " starts " ++ (decimal starts ++ after_starts) in
     let after_ranges = codes " boot " ++ (hex boot ++ after_boot) in
     let after_tree = codes " exec" ++ (spaced range (r ∷ rs) ++ after_ranges) in
     let tree_again : tree_at (tree t ++ after_tree) ≡ Some (t, after_tree) =
-    (tree_reads w).again t after_tree ht refl in
+    tree_reads.again t after_tree ht refl in
     let range_again =
-    first_again range_at range IsRange _ (range_reads w) refl r rs after_ranges hr refl in
-    let ranges_again = others_again w rs (hex boot ++ after_boot) hrs in
+    first_again range_reads refl r rs after_ranges hr refl in
+    let ranges_again = others_again rs (hex boot ++ after_boot) hrs in
     let boot_again : hex_at (hex boot ++ after_boot) ≡ Some (boot, after_boot) =
-    w.hexadecimals.again boot after_boot hb refl in
+    hex_reads.again boot after_boot hb refl in
     let starts_again : number_at (decimal starts ++ after_starts) ≡ Some (starts, after_starts) =
-    w.numbers.again starts after_starts hs refl in
+    number_reads.again starts after_starts hs refl in
     let lives_again : number_at (decimal lives ++ format_part f) ≡ Some (lives, format_part f) =
-    w.numbers.again lives (format_part f) hl (ends_number f) in
+    number_reads.again lives (format_part f) hl (ends_number f) in
     rw (
       tree_again,
       range_again,
@@ -70,16 +72,16 @@ parts_again w t r rs boot starts lives f ht hr hrs hb hs hl =
       format_again f,
     ) refl
 
-text_by : (w : TextLaws) (t : TreeText) (rs : List (List ℕ × List ℕ)) (boot : List ℕ)
+text_by : (t : TreeText) (rs : List (List ℕ × List ℕ)) (boot : List ℕ)
     (starts lives : ℕ) (f : Option Format)
     → IsBoardText (board t rs boot starts lives f) → IsRead (board t rs boot starts lives f)
-text_by w t [] boot starts lives f h = absurd (omega (arith, h.ranges.some))
-text_by w t (r ∷ rs) boot starts lives f h =
+text_by t [] boot starts lives f h = absurd (omega (arith, h.ranges.some))
+text_by t (r ∷ rs) boot starts lives f h =
     let each = recursion_from_All IsRange (r ∷ rs) h.ranges.each in
-    parts_again w t r rs boot starts lives f h.tree each.0 each.1 h.boot h.starts h.lives
+    parts_again t r rs boot starts lives f h.tree each.0 each.1 h.boot h.starts h.lives
 
-pub text_again : (w : TextLaws) (t : BoardText) → IsBoardText t → board_text (spelling t) ≡ Some t
-text_again w t h = text_by w t.tree t.ranges t.boot t.starts t.lives t.format h
+pub text_again : (t : BoardText) → IsBoardText t → board_text (spelling t) ≡ Some t
+text_again t h = text_by t.tree t.ranges t.boot t.starts t.lives t.format h
 
 -- What is read ----------------------------------------------------------------------------------
 
@@ -95,10 +97,10 @@ parts_joined bytes t after_t w1 rest1 r after_r rs after_rs w2 rest2 b after_b w
     after_s w4 rest4 l f e1 e2 e3 e4 e5 e6 e7 e8 e9 e10 =
     rw (append_assoc r rs) (cc)
 
-pub text_takes : (w : TextLaws) (bytes : List ℕ) (t : BoardText) → board_text bytes ≡ Some t
+pub text_takes : (bytes : List ℕ) (t : BoardText) → board_text bytes ≡ Some t
     → IsBoardText t × (bytes ≡ spelling t)
 unfolding board_text
-text_takes w bytes t e =
+text_takes bytes t e =
     option_and_then_some _ (tree_at bytes) t e (λ top a1 e1.
     option_and_then_some _ (literal_at (codes " exec") top.1) t e1 (λ rest1 a2 e2.
     option_and_then_some _ (spaced_at range_at rest1) t e2 (λ first a3 e3.
@@ -110,19 +112,19 @@ text_takes w bytes t e =
     option_and_then_some _ (literal_at (codes " lives ") starts.1) t e7 (λ rest4 a8 e8.
     option_and_then_some _ (number_at rest4) t e8 (λ lives a9 e9.
     option_and_then_some _ (format_at lives.1) t e9 (λ format a10 e10.
-    let t1 = (tree_reads w).takes bytes top a1 in
-    let t3 = spaced_takes w range_at range IsRange _ (range_reads w) rest1 first a3 in
-    let t4 = more_takes w range_at range IsRange _ (range_reads w) first.1 in
-    let t5 = w.hexadecimals.takes rest2 boot a5 in
-    let t7 = w.numbers.takes rest3 starts a7 in
-    let t9 = w.numbers.takes rest4 lives a9 in
+    let t1 = tree_reads.takes bytes top a1 in
+    let t3 = spaced_takes range_reads rest1 first a3 in
+    let t4 = more_takes range_reads first.1 in
+    let t5 = hex_reads.takes rest2 boot a5 in
+    let t7 = number_reads.takes rest3 starts a7 in
+    let t9 = number_reads.takes rest4 lives a9 in
     let t10 = format_takes lives.1 format a10 in
     let spelled = parts_joined bytes (tree top.0) top.1 (codes " exec") rest1
     (32 ∷ range first.0) first.1 (spaced range others.0) others.1 (codes " boot ") rest2
     (hex boot.0) boot.1 (codes " starts ") rest3 (decimal starts.0) starts.1
     (codes " lives ") rest4 (decimal lives.0) (format_part format)
-    t1.1 (w.word_takes _ top.1 rest1 a2) t3.1 t4.1 (w.word_takes _ others.1 rest2 a4) t5.1
-    (w.word_takes _ boot.1 rest3 a6) t7.1 (w.word_takes _ starts.1 rest4 a8)
+    t1.1 (literal_takes _ top.1 rest1 a2) t3.1 t4.1 (literal_takes _ others.1 rest2 a4) t5.1
+    (literal_takes _ boot.1 rest3 a6) t7.1 (literal_takes _ starts.1 rest4 a8)
     (t9.1 ∙ ap (λ xs. decimal lives.0 ++ xs) t10) in
     subst (λ (y : BoardText). IsBoardText y × (bytes ≡ spelling y)) (same_Some _ _ e10) (
       record {

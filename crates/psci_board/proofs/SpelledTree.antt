@@ -8,7 +8,7 @@ use Rattle.std.specs.Str.Parse.{AllDigits}
 use Rattle.std.proofs.lemmas.Bool.Decides.{nat_tests}
 use Rattle.std.proofs.lemmas.Fmt.{decimal_is_IsNumeral, decimal_nonempty}
 use Rattle.std.proofs.lemmas.Option.{option_and_then_some, same_Some}
-use Rattle.psci_board.specs.Spelling.{TextLaws, IsNumber, Ends, Reads}
+use Rattle.psci_board.specs.Spelling.{IsNumber, Ends, Reads}
 use Rattle.psci_board.specs.Grammar.{Member, TreeText, IsListOf, IsMember, IsTreeText}
 use Rattle.psci_board.specs.Grammar.{bracketed}
 use Rattle.psci_board.specs.Grammar.{member, tree}
@@ -17,6 +17,7 @@ use Rattle.psci_board.specs.Grammar.TreeText.{One, Members}
 use Rattle.psci_board.specs.ReadWords.{number_at}
 use Rattle.psci_board.specs.Reading.{list_at, starts_list, member_at, tree_at}
 use Rattle.psci_board.proofs.Spelled.{list_again, list_takes}
+use Rattle.psci_board.proofs.SpelledNumbers.{number_reads}
 
 -- A number, or a list of items. Both members of the outer list and trees are read so.
 number_or : {A B : Type 0} → (ℕ → B) → (List A → B) → (List ℕ → Option (A × List ℕ)) → List ℕ
@@ -43,12 +44,12 @@ list_starts : {A : Type 0} (P : A → Type 0) (spell : A → List ℕ) (xs : Lis
 list_starts P spell [] rest h = absurd (omega (arith, h.some))
 list_starts P spell (x ∷ xs) rest h = refl
 
-one_again : {A B : Type 0} (w : TextLaws) (one : ℕ → B) (many : List A → B)
+one_again : {A B : Type 0} (one : ℕ → B) (many : List A → B)
     (item : List ℕ → Option (A × List ℕ))
     (n : ℕ) (rest : List ℕ) → IsNumber n → Ends is_ascii_digit rest
     → number_or one many item (decimal n ++ rest) false ≡ Some (one n, rest)
 unfolding number_or
-one_again w one many item n rest h e = rw (w.numbers.again n rest h e) refl
+one_again one many item n rest h e = rw (number_reads.again n rest h e) refl
 
 many_again : {A B : Type 0} (one : ℕ → B) (many : List A → B) (item : List ℕ → Option (A × List ℕ))
     (spell : A → List ℕ) (P : A → Type 0) → Reads item spell P is_ascii_digit
@@ -56,9 +57,9 @@ many_again : {A B : Type 0} (one : ℕ → B) (many : List A → B) (item : List
     → number_or one many item (bracketed spell xs ++ rest) true ≡ Some (many xs, rest)
 unfolding number_or
 many_again one many item spell P r xs rest h =
-    rw (list_again item spell P is_ascii_digit r refl refl xs rest h) refl
+    rw (list_again r refl refl xs rest h) refl
 
-either_takes : {A B : Type 0} (w : TextLaws) (one : ℕ → B) (many : List A → B)
+either_takes : {A B : Type 0} (one : ℕ → B) (many : List A → B)
     (item : List ℕ → Option (A × List ℕ)) (spell : A → List ℕ) (P : A → Type 0)
     → Reads item spell P is_ascii_digit → (bytes : List ℕ) (is_list : Bool) (x : B × List ℕ)
     → number_or one many item bytes is_list ≡ Some x → (C : B × List ℕ → Type 0)
@@ -67,56 +68,56 @@ either_takes : {A B : Type 0} (w : TextLaws) (one : ℕ → B) (many : List A �
     → C (many xs, rest))
     → C x
 unfolding number_or
-either_takes w one many item spell P r bytes true x e C of_one of_many =
+either_takes one many item spell P r bytes true x e C of_one of_many =
     option_and_then_some _ (list_at item bytes) x e (λ xs a e1.
-    let t = list_takes w item spell P is_ascii_digit r bytes xs a in
+    let t = list_takes r bytes xs a in
     subst C (same_Some _ _ e1) (of_many xs.0 xs.1 t.0 t.1))
-either_takes w one many item spell P r bytes false x e C of_one of_many =
+either_takes one many item spell P r bytes false x e C of_one of_many =
     option_and_then_some _ (number_at bytes) x e (λ n a e1.
-    let t = w.numbers.takes bytes n a in
+    let t = number_reads.takes bytes n a in
     subst C (same_Some _ _ e1) (of_one n.0 n.1 t.0 t.1))
 
 -- Members of the outer list ---------------------------------------------------------------------
 
-member_again : (w : TextLaws) (m : Member) (rest : List ℕ) → IsMember m → Ends is_ascii_digit rest
+member_again : (m : Member) (rest : List ℕ) → IsMember m → Ends is_ascii_digit rest
     → member_at (member m ++ rest) ≡ Some (m, rest)
 unfolding member_at number_or
-member_again w (Cluster n) rest h e =
-    rw (number_starts n rest h) (one_again w Cluster Group number_at n rest h e)
-member_again w (Group ns) rest h e =
+member_again (Cluster n) rest h e =
+    rw (number_starts n rest h) (one_again Cluster Group number_at n rest h e)
+member_again (Group ns) rest h e =
     rw (list_starts IsNumber decimal ns rest h)
-    (many_again Cluster Group number_at decimal IsNumber w.numbers ns rest h)
+    (many_again Cluster Group number_at decimal IsNumber number_reads ns rest h)
 
-member_takes : (w : TextLaws) (bytes : List ℕ) (x : Member × List ℕ) → member_at bytes ≡ Some x
+member_takes : (bytes : List ℕ) (x : Member × List ℕ) → member_at bytes ≡ Some x
     → IsMember x.0 × (bytes ≡ member x.0 ++ x.1)
 unfolding member_at number_or
-member_takes w bytes x e =
-    either_takes w Cluster Group number_at decimal IsNumber w.numbers bytes (starts_list bytes) x e
+member_takes bytes x e =
+    either_takes Cluster Group number_at decimal IsNumber number_reads bytes (starts_list bytes) x e
     (λ (y : Member × List ℕ). IsMember y.0 × (bytes ≡ member y.0 ++ y.1))
     (λ n rest h s. (h, s)) (λ ns rest h s. (h, s))
 
-pub member_reads : TextLaws → Reads member_at member IsMember is_ascii_digit
-member_reads w = record { again = member_again w; takes = member_takes w }
+pub member_reads : Reads member_at member IsMember is_ascii_digit
+member_reads = record { again = member_again; takes = member_takes }
 
 -- Trees -----------------------------------------------------------------------------------------
 
-tree_again : (w : TextLaws) (t : TreeText) (rest : List ℕ) → IsTreeText t → Ends is_ascii_digit rest
+tree_again : (t : TreeText) (rest : List ℕ) → IsTreeText t → Ends is_ascii_digit rest
     → tree_at (tree t ++ rest) ≡ Some (t, rest)
 unfolding tree_at number_or
-tree_again w (One n) rest h e =
-    rw (number_starts n rest h) (one_again w One Members member_at n rest h e)
-tree_again w (Members ms) rest h e =
+tree_again (One n) rest h e =
+    rw (number_starts n rest h) (one_again One Members member_at n rest h e)
+tree_again (Members ms) rest h e =
     rw (list_starts IsMember member ms rest h)
-    (many_again One Members member_at member IsMember (member_reads w) ms rest h)
+    (many_again One Members member_at member IsMember member_reads ms rest h)
 
-tree_takes : (w : TextLaws) (bytes : List ℕ) (x : TreeText × List ℕ) → tree_at bytes ≡ Some x
+tree_takes : (bytes : List ℕ) (x : TreeText × List ℕ) → tree_at bytes ≡ Some x
     → IsTreeText x.0 × (bytes ≡ tree x.0 ++ x.1)
 unfolding tree_at number_or
-tree_takes w bytes x e =
-    either_takes w One Members member_at member IsMember (member_reads w) bytes (starts_list bytes)
+tree_takes bytes x e =
+    either_takes One Members member_at member IsMember member_reads bytes (starts_list bytes)
     x e
     (λ (y : TreeText × List ℕ). IsTreeText y.0 × (bytes ≡ tree y.0 ++ y.1))
     (λ n rest h s. (h, s)) (λ ms rest h s. (h, s))
 
-pub tree_reads : TextLaws → Reads tree_at tree IsTreeText is_ascii_digit
-tree_reads w = record { again = tree_again w; takes = tree_takes w }
+pub tree_reads : Reads tree_at tree IsTreeText is_ascii_digit
+tree_reads = record { again = tree_again; takes = tree_takes }

@@ -31,10 +31,7 @@ one_more kind bytes i h l t = elim (cases_lt i (prefix_len kind bytes)) [
 -- a byte of another kind after so many
 pub no_more : (kind : ℕ → Bool) (bytes : List ℕ) (i : ℕ) → i ≤ prefix_len kind bytes
     → kind (get_or bytes i 0) ≡ false → prefix_len kind bytes ≡ i
-no_more kind bytes i h t = elim (cases_lt i (prefix_len kind bytes)) [
-  | inl m ↦ let passes = prefix_len_passes kind bytes i 0 m in cc
-  | inr m ↦ omega arith
-]
+no_more kind bytes i h t = grind (arith, nat_tests, prefix_len_passes)
 
 -- the end of the text after so many
 pub all_of_them : (kind : ℕ → Bool) (bytes : List ℕ) (i : ℕ) → i ≤ prefix_len kind bytes
@@ -58,8 +55,7 @@ front_digits radix is_digit digit [] zero h = tt
 front_digits radix is_digit digit [] (suc i) h = tt
 front_digits radix is_digit digit (b ∷ bs) zero h = tt
 front_digits radix is_digit digit (b ∷ bs) (suc i) h =
-    front_by radix is_digit b bs i (is_digit b) refl (digit b)
-    (front_digits radix is_digit digit bs i) h
+    grind (arith, nat_tests, front_by, front_digits radix is_digit digit bs i)
 
 decimal_digit : (b : ℕ) → is_ascii_digit b ≡ true → digit_value b < 10
 decimal_digit b h = grind (arith, nat_tests)
@@ -98,9 +94,7 @@ too_large bytes i n high h l e =
 pub fifteen_fit : (bytes : List ℕ) (i : ℕ) → i ≤ prefix_len is_ascii_hexdigit bytes
     → i < length bytes → i ≤ 15 → digits_value 16 (take i bytes) < 16 ^ 15
 fifteen_fit bytes i h l few =
-    let short : length (take i bytes) ≤ 15 = grind (arith, length-take) in
-    let most : 16 ^ length (take i bytes) ≤ 16 ^ 15 = pow-le-pow_right (lit< tt) short in
-    omega (arith, digits_value-lt 16 (take i bytes) (hexadecimal_front bytes i h), most)
+    grind (arith, nat_tests, length-take, pow-le-pow_right, digits_value-lt, hexadecimal_front)
 
 -- What is answered ------------------------------------------------------------------------------
 

@@ -1,4 +1,5 @@
 -- What the matches of known command lines ask for, and what they do not ask for.
+use Prim.Native.String.{String}
 use Rattle.std.proofs.Common.{ℕ, false, true, List, [], ◌∷◌, Option, Some, None, refl}
 use Rattle.std.proofs.Common.{arith, inl, inr, ap, subst, sym}
 use Rattle.std.specs.Prelude.{codes}
@@ -34,92 +35,92 @@ request text seed count =
 -- matches of a storm of seed 7 and count 5: on the standard board, with the counts, on another
 -- board
 abbrev pub rows : List Row
-rows = count_row (codes "5") ∷ seed_row (codes "7") ∷ standard_row ∷ no_counts ∷ []
+rows = count_row "5" ∷ seed_row "7" ∷ standard_row ∷ no_counts ∷ []
 
 abbrev pub rows_with_counts : List Row
 rows_with_counts =
-    seed_row (codes "7") ∷ counts_row ∷ count_row (codes "5") ∷ standard_row ∷ []
+    seed_row "7" ∷ counts_row ∷ count_row "5" ∷ standard_row ∷ []
 
 abbrev pub rows_of_board : List Row
 rows_of_board =
-    board_row (codes "4") ∷ seed_row (codes "7") ∷ count_row (codes "5") ∷ no_counts ∷ []
+    board_row "4" ∷ seed_row "7" ∷ count_row "5" ∷ no_counts ∷ []
 
 pub of_rows : IsStormOf rows (Some (request standard_board 7 5))
 of_rows =
-    ((refl, (spelled (codes "7") refl, refl), (spelled (codes "5") refl, refl)), λ e. cc, refl)
+    ((refl, (spelled "7" refl, refl), (spelled "5" refl, refl)), λ e. cc, refl)
 
 of_other_board : IsStormOf rows (Some (request (codes "4") 7 5)) → ⊥
 of_other_board h = let same = h.0.0 in cc
 
 of_other_seed : IsStormOf rows (Some (request standard_board 8 5)) → ⊥
-of_other_seed h = let same = h.0.1.1 in absurd (omega arith)
+of_other_seed h = omega (arith, h.0.1.1)
 
 of_other_count : IsStormOf rows (Some (request standard_board 7 6)) → ⊥
-of_other_count h = let same = h.0.2.1 in absurd (omega arith)
+of_other_count h = omega (arith, h.0.2.1)
 
 of_seed_for_count : IsStormOf rows (Some (request standard_board 5 7)) → ⊥
-of_seed_for_count h = let same = h.0.1.1 in absurd (omega arith)
+of_seed_for_count h = omega (arith, h.0.1.1)
 
 without_counts : IsStormOf rows (Some (record (request standard_board 7 5) { counts = true })) → ⊥
 without_counts h = let text = h.1 in cc
 
 pub of_counts : IsStormOf rows_with_counts
     (Some (record (request standard_board 7 5) { counts = true }))
-of_counts = ((refl, (spelled (codes "7") refl, refl), (spelled (codes "5") refl, refl)), refl, refl)
+of_counts = ((refl, (spelled "7" refl, refl), (spelled "5" refl, refl)), refl, refl)
 
 counts_left_out : IsStormOf rows_with_counts (Some (request standard_board 7 5)) → ⊥
 counts_left_out h = h.1 refl
 
 none_of_rows : IsStormOf rows None → ⊥
 none_of_rows (inl no_board) = cc
-none_of_rows (inr (inl no_seed)) = no_seed (spelled (codes "7") refl)
-none_of_rows (inr (inr no_count)) = no_count (spelled (codes "5") refl)
+none_of_rows (inr (inl no_seed)) = no_seed (spelled "7" refl)
+none_of_rows (inr (inr no_count)) = no_count (spelled "5" refl)
 
 -- the board that is given stands before the standard one
 pub of_given_board : IsStormOf rows_of_board (Some (request (codes "4") 7 5))
 of_given_board =
-    ((refl, (spelled (codes "7") refl, refl), (spelled (codes "5") refl, refl)), λ e. cc, refl)
+    ((refl, (spelled "7" refl, refl), (spelled "5" refl, refl)), λ e. cc, refl)
 
 -- a file to keep the storm in, which is kept in that one and in no other
-abbrev pub kept : Text → StormRequest
+abbrev pub kept : String → StormRequest
 kept path = record (request standard_board 7 5) {
-  keep = Some (record { ref_ptr = (0, 0); now = path });
+  keep = Some (record { ref_ptr = (0, 0); now = codes path });
 }
 
 abbrev pub rows_with_file : List Row
 rows_with_file =
-    seed_row (codes "7") ∷ keep_row (codes "a b") ∷ count_row (codes "5") ∷ standard_row
+    seed_row "7" ∷ keep_row "a b" ∷ count_row "5" ∷ standard_row
     ∷ no_counts ∷ []
 
-pub of_file : IsStormOf rows_with_file (Some (kept (codes "a b")))
+pub of_file : IsStormOf rows_with_file (Some (kept "a b"))
 of_file =
-    ((refl, (spelled (codes "7") refl, refl), (spelled (codes "5") refl, refl)), λ e. cc, refl)
+    ((refl, (spelled "7" refl, refl), (spelled "5" refl, refl)), λ e. cc, refl)
 
-of_other_file : IsStormOf rows_with_file (Some (kept (codes "a"))) → ⊥
+of_other_file : IsStormOf rows_with_file (Some (kept "a")) → ⊥
 of_other_file h = let same = h.2 in cc
 
 file_left_out : IsStormOf rows_with_file (Some (request standard_board 7 5)) → ⊥
 file_left_out h = let same = h.2 in cc
 
-file_of_nothing : IsStormOf rows (Some (kept [])) → ⊥
+file_of_nothing : IsStormOf rows (Some (kept "")) → ⊥
 file_of_nothing h = let same = h.2 in cc
 
 -- a part that is missing or spells no number
-none_without_board : IsStormOf (seed_row (codes "7") ∷ count_row (codes "5") ∷ []) None
+none_without_board : IsStormOf (seed_row "7" ∷ count_row "5" ∷ []) None
 none_without_board = inl refl
 
-without_board : IsStormOf (seed_row (codes "7") ∷ count_row (codes "5") ∷ [])
+without_board : IsStormOf (seed_row "7" ∷ count_row "5" ∷ [])
     (Some (request standard_board 7 5)) → ⊥
 without_board h = let given = h.0.0 in cc
 
-none_with_letter : IsStormOf (seed_row (codes "x") ∷ count_row (codes "5") ∷ standard_row ∷ []) None
-none_with_letter = inr (inl (λ h. let digit = h.0.1.0 in absurd (omega arith)))
+none_with_letter : IsStormOf (seed_row "x" ∷ count_row "5" ∷ standard_row ∷ []) None
+none_with_letter = inr (inl (λ h. omega (arith, h.0.1.0)))
 
-without_seed : IsStormOf (count_row (codes "5") ∷ standard_row ∷ [])
+without_seed : IsStormOf (count_row "5" ∷ standard_row ∷ [])
     (Some (request standard_board 0 5)) → ⊥
 without_seed h = let given = h.0.1 in cc
 
-none_without_count : IsStormOf (seed_row (codes "7") ∷ standard_row ∷ []) None
+none_without_count : IsStormOf (seed_row "7" ∷ standard_row ∷ []) None
 none_without_count = inr (inr refl)
 
 -- The threads of some matches -------------------------------------------------------------------
@@ -135,10 +136,10 @@ threads seed count = record {
 
 pub threads_of_rows : IsThreadsOf rows (Some (threads 7 5))
 threads_of_rows =
-    ((refl, (spelled (codes "7") refl, refl), (spelled (codes "5") refl, refl)), λ e. cc, refl)
+    ((refl, (spelled "7" refl, refl), (spelled "5" refl, refl)), λ e. cc, refl)
 
 threads_of_other_count : IsThreadsOf rows (Some (threads 7 6)) → ⊥
-threads_of_other_count h = let same = h.0.2.1 in absurd (omega arith)
+threads_of_other_count h = omega (arith, h.0.2.1)
 
 threads_on_other_board : IsThreadsOf rows_of_board (Some (threads 7 5)) → ⊥
 threads_on_other_board h = let same = h.0.0 in cc
@@ -146,7 +147,7 @@ threads_on_other_board h = let same = h.0.0 in cc
 threads_with_counts : IsThreadsOf rows_with_counts
     (Some (record (threads 7 5) { counts = true }))
 threads_with_counts =
-    ((refl, (spelled (codes "7") refl, refl), (spelled (codes "5") refl, refl)), refl, refl)
+    ((refl, (spelled "7" refl, refl), (spelled "5" refl, refl)), refl, refl)
 
 threads_without_counts : IsThreadsOf rows (Some (record (threads 7 5) { counts = true })) → ⊥
 threads_without_counts h = let text = h.1 in cc
@@ -155,16 +156,16 @@ threads_counts_left_out : IsThreadsOf rows_with_counts (Some (threads 7 5)) → 
 threads_counts_left_out h = h.1 refl
 
 -- a file to keep the run in, which is kept in that one and in no other
-abbrev pub kept_threads : Text → ThreadsRequest
+abbrev pub kept_threads : String → ThreadsRequest
 kept_threads path = record (threads 7 5) {
-  keep = Some (record { ref_ptr = (0, 0); now = path });
+  keep = Some (record { ref_ptr = (0, 0); now = codes path });
 }
 
-threads_of_file : IsThreadsOf rows_with_file (Some (kept_threads (codes "a b")))
+threads_of_file : IsThreadsOf rows_with_file (Some (kept_threads "a b"))
 threads_of_file =
-    ((refl, (spelled (codes "7") refl, refl), (spelled (codes "5") refl, refl)), λ e. cc, refl)
+    ((refl, (spelled "7" refl, refl), (spelled "5" refl, refl)), λ e. cc, refl)
 
-threads_of_other_file : IsThreadsOf rows_with_file (Some (kept_threads (codes "a"))) → ⊥
+threads_of_other_file : IsThreadsOf rows_with_file (Some (kept_threads "a")) → ⊥
 threads_of_other_file h = let same = h.2 in cc
 
 threads_file_left_out : IsThreadsOf rows_with_file (Some (threads 7 5)) → ⊥
@@ -172,8 +173,8 @@ threads_file_left_out h = let same = h.2 in cc
 
 no_threads_of_rows : IsThreadsOf rows None → ⊥
 no_threads_of_rows (inl no_board) = cc
-no_threads_of_rows (inr (inl no_seed)) = no_seed (spelled (codes "7") refl)
-no_threads_of_rows (inr (inr no_count)) = no_count (spelled (codes "5") refl)
+no_threads_of_rows (inr (inl no_seed)) = no_seed (spelled "7" refl)
+no_threads_of_rows (inr (inr no_count)) = no_count (spelled "5" refl)
 
 -- What a command line asks for --------------------------------------------------------------------
 
@@ -230,11 +231,11 @@ asked_for_replay_by_show h = h.2 refl
 asked_for_nothing : IsAsked None (Some Nothing) → ⊥
 asked_for_nothing h = h
 
-asked_for_no_storm : IsAsked (Some (codes "storm", seed_row (codes "7") ∷ [])) None
-asked_for_no_storm = inl (seed_row (codes "7") ∷ [], refl, inl refl)
+asked_for_no_storm : IsAsked (Some (codes "storm", seed_row "7" ∷ [])) None
+asked_for_no_storm = inl (seed_row "7" ∷ [], refl, inl refl)
 
-asked_for_no_threads : IsAsked (Some (codes "threads", seed_row (codes "7") ∷ [])) None
-asked_for_no_threads = inr (inl (seed_row (codes "7") ∷ [], refl, inl refl))
+asked_for_no_threads : IsAsked (Some (codes "threads", seed_row "7" ∷ [])) None
+asked_for_no_threads = inr (inl (seed_row "7" ∷ [], refl, inl refl))
 
 asked_for_no_show : IsAsked (Some (codes "show", [])) None
 asked_for_no_show = inr (inr ([], refl, λ color e. cc))

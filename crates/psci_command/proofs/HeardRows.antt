@@ -69,30 +69,30 @@ heard_replay colors = (
 
 -- storms: in either order, on another board, with the counts
 heard_storm : (colors : Words)
-    → IsHeardBy (program colors) (storm_with (count (codes "5") (seed (codes "7") [])))
+    → IsHeardBy (program colors) (storm_with (count "5" (seed "7" [])))
     (Ok (Storm (request standard_board 7 5)))
 heard_storm colors = (count_first.fault colors, (rows, count_first.met colors, of_rows))
 
 heard_storm_on_other_board : (colors : Words) → IsHeardBy (program colors)
-    (storm_with (board (codes "4") (seed (codes "7") (count (codes "5") []))))
+    (storm_with (board "4" (seed "7" (count "5" []))))
     (Ok (Storm (request (codes "4") 7 5)))
 heard_storm_on_other_board colors =
     (other_board.fault colors, (rows_of_board, other_board.met colors, of_given_board))
 
 heard_storm_with_counts : (colors : Words) → IsHeardBy (program colors)
-    (storm_with (seed (codes "7") (codes "--counts" ∷ count (codes "5") [])))
+    (storm_with (seed "7" (codes "--counts" ∷ count "5" [])))
     (Ok (Storm (record (request standard_board 7 5) { counts = true })))
 heard_storm_with_counts colors =
     (with_counts.fault colors, (rows_with_counts, with_counts.met colors, of_counts))
 
 heard_storm_with_file : (colors : Words) → IsHeardBy (program colors)
-    (storm_with (seed (codes "7") (codes "--keep" ∷ codes "a b" ∷ count (codes "5") [])))
-    (Ok (Storm (kept (codes "a b"))))
+    (storm_with (seed "7" (codes "--keep" ∷ codes "a b" ∷ count "5" [])))
+    (Ok (Storm (kept "a b")))
 heard_storm_with_file colors =
     (with_file.fault colors, (rows_with_file, with_file.met colors, of_file))
 
 heard_threads : (colors : Words)
-    → IsHeardBy (program colors) (threads_with (seed (codes "7") (count (codes "5") [])))
+    → IsHeardBy (program colors) (threads_with (seed "7" (count "5" [])))
     (Ok (Threads (threads 7 5)))
 heard_threads colors =
     (plain_threads.fault colors, (plain_rows, plain_threads.met colors, plain_asked))

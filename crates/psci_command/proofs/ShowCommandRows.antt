@@ -16,6 +16,7 @@ use Rattle.psci_command.specs.declared.requests.Color.TheVariants.{Always, Auto,
 use Rattle.psci_command.specs.declared.requests.ShowRequest.{ShowRequest}
 use Rattle.psci_command.proofs.StormCommandRows.{row, seed}
 use Rattle.psci_command.proofs.ValueRows.{short_spelled}
+use Rattle.psci_script.proofs.Tables.{◌⇒◌, Gives}
 
 -- How the examples are stated --------------------------------------------------------------------
 
@@ -42,22 +43,21 @@ pub record IsTaken (words : List Text) (rows : List Row) : Type 0 where
   pub met : (a b c d : ℕ × ℕ)
       → subcommand_of (program (somewhere a b c d)) (show_with words) ≡ Some (codes "show", rows)
 
--- a show with these words is refused
-abbrev IsRefused : List Text → ErrorKind → Type 0
-IsRefused words kind = (a b c d : ℕ × ℕ)
-    → fault_of (program (somewhere a b c d)) (show_with words) ≡ kind ∷ []
+-- what the parser says of a show with these words
+abbrev faults : Words → List Text → List ErrorKind
+faults colors words = fault_of (program colors) (show_with words)
 
 -- Taken ------------------------------------------------------------------------------------------
 
 -- no word: no flag, no width, and colors on a terminal
 abbrev no_json : Row
-no_json = row (codes "json") DefaultValue (codes "false")
+no_json = row "json" DefaultValue "false"
 
 abbrev no_legend : Row
-no_legend = row (codes "legend") DefaultValue (codes "false")
+no_legend = row "legend" DefaultValue "false"
 
 abbrev plain_rows : List Row
-plain_rows = no_json ∷ no_legend ∷ row (codes "color") DefaultValue (codes "auto") ∷ []
+plain_rows = no_json ∷ no_legend ∷ row "color" DefaultValue "auto" ∷ []
 
 plain : IsTaken [] plain_rows
 unfolding clap_on_literals
@@ -84,15 +84,15 @@ plain_is_some h = h Auto refl
 
 -- both flags
 flags : IsTaken (codes "--legend" ∷ codes "--json" ∷ [])
-    (row (codes "legend") CommandLine (codes "true") ∷ row (codes "json") CommandLine (codes "true")
-    ∷ row (codes "color") DefaultValue (codes "auto") ∷ [])
+    (row "legend" CommandLine "true" ∷ row "json" CommandLine "true"
+    ∷ row "color" DefaultValue "auto" ∷ [])
 unfolding clap_on_literals
 flags = record { fault = λ a b c d. refl; met = λ a b c d. refl }
 
 -- a width and a word for colors
 abbrev pub colored_rows : List Row
-colored_rows = row (codes "width") CommandLine (codes "120")
-    ∷ row (codes "color") CommandLine (codes "always") ∷ no_json ∷ no_legend ∷ []
+colored_rows = row "width" CommandLine "120"
+    ∷ row "color" CommandLine "always" ∷ no_json ∷ no_legend ∷ []
 
 pub colored : IsTaken (codes "--width" ∷ codes "120" ∷ codes "--color" ∷ codes "always" ∷ [])
     colored_rows
@@ -103,59 +103,33 @@ abbrev pub colored_show : ShowRequest
 colored_show = record { json = false; legend = false; width = Some 120; color = Always }
 
 pub colored_asked : IsShowOf colored_rows (Some colored_show)
-colored_asked = (λ e. cc, λ e. cc, (short_spelled (codes "120") refl, refl), refl)
+colored_asked = (λ e. cc, λ e. cc, (short_spelled "120" refl, refl), refl)
 
 -- the widest, and no color
 widest : IsTaken (codes "--color=never" ∷ codes "--width=65535" ∷ [])
-    (row (codes "color") CommandLine (codes "never")
-    ∷ row (codes "width") CommandLine (codes "65535") ∷ no_json ∷ no_legend ∷ [])
+    (row "color" CommandLine "never"
+    ∷ row "width" CommandLine "65535" ∷ no_json ∷ no_legend ∷ [])
 unfolding clap_on_literals
 widest = record { fault = λ a b c d. refl; met = λ a b c d. refl }
 
 -- Refused ----------------------------------------------------------------------------------------
 
-too_wide : IsRefused (codes "--width" ∷ codes "65536" ∷ []) ValueValidation
+refused : (a b c d : ℕ × ℕ) → Gives (faults (somewhere a b c d))
+    ((codes "--width" ∷ codes "65536" ∷ []) ⇒ (ValueValidation ∷ [])
+    ∷ (codes "--width" ∷ codes "wide" ∷ []) ⇒ (ValueValidation ∷ [])
+    ∷ (codes "--width=80" ∷ codes "--width=80" ∷ []) ⇒ (ArgumentConflict ∷ [])
+    -- a word that is none for colors, in other letters, and none
+    ∷ (codes "--color" ∷ codes "sometimes" ∷ []) ⇒ (InvalidValue ∷ [])
+    ∷ (codes "--color" ∷ codes "Never" ∷ []) ⇒ (InvalidValue ∷ [])
+    ∷ (codes "--color" ∷ []) ⇒ (InvalidValue ∷ [])
+    -- a flag has no value
+    ∷ (codes "--json=yes" ∷ []) ⇒ (TooManyValues ∷ [])
+    -- an option of a storm, and a word too many
+    ∷ seed "0" [] ⇒ (UnknownArgument ∷ [])
+    ∷ (codes "run" ∷ []) ⇒ (UnknownArgument ∷ [])
+    ∷ (codes "--help" ∷ []) ⇒ (DisplayHelp ∷ []) ∷ [])
 unfolding clap_on_literals
-too_wide a b c d = refl
-
-width_of_letters : IsRefused (codes "--width" ∷ codes "wide" ∷ []) ValueValidation
-unfolding clap_on_literals
-width_of_letters a b c d = refl
-
-two_widths : IsRefused (codes "--width=80" ∷ codes "--width=80" ∷ []) ArgumentConflict
-unfolding clap_on_literals
-two_widths a b c d = refl
-
--- a word that is none for colors, in other letters, and none
-other_word : IsRefused (codes "--color" ∷ codes "sometimes" ∷ []) InvalidValue
-unfolding clap_on_literals
-other_word a b c d = refl
-
-other_letters : IsRefused (codes "--color" ∷ codes "Never" ∷ []) InvalidValue
-unfolding clap_on_literals
-other_letters a b c d = refl
-
-no_word : IsRefused (codes "--color" ∷ []) InvalidValue
-unfolding clap_on_literals
-no_word a b c d = refl
-
--- a flag has no value
-json_with_a_value : IsRefused (codes "--json=yes" ∷ []) TooManyValues
-unfolding clap_on_literals
-json_with_a_value a b c d = refl
-
--- an option of a storm, and a word too many
-seed_of_a_storm : IsRefused (seed (codes "0") []) UnknownArgument
-unfolding clap_on_literals
-seed_of_a_storm a b c d = refl
-
-stray_word : IsRefused (codes "run" ∷ []) UnknownArgument
-unfolding clap_on_literals
-stray_word a b c d = refl
-
-help : IsRefused (codes "--help" ∷ []) DisplayHelp
-unfolding clap_on_literals
-help a b c d = refl
+refused a b c d = refl
 
 -- The words for colors ---------------------------------------------------------------------------
 

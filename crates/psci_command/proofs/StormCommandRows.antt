@@ -1,5 +1,6 @@
 -- What known command lines of `storm` are answered.
-use Rattle.std.proofs.Common.{◌≡◌, List, [], ◌∷◌, Some, None, refl}
+use Prim.Native.String.{String}
+use Rattle.std.proofs.Common.{◌≡◌, List, [], ◌∷◌, Option, Some, None, refl}
 use Rattle.std.specs.Fmt.{digits}
 use Rattle.std.specs.Prelude.{Ok, codes}
 use Rattle.clap.proofs.OnLiterals.{clap_on_literals}
@@ -17,6 +18,7 @@ use Rattle.psci_script.specs.psci_board.Grammar.{BoardText, Cluster, Members, sp
 use Rattle.psci_script.specs.psci_board.Verdict.{verdict}
 use Rattle.psci_script.specs.psci_board.psci_abi.declared.format.Format.TheVariants.{Original}
 use Rattle.psci_command.specs.Program.{Words, program, standard_board}
+use Rattle.psci_script.proofs.Tables.{◌⇒◌, Gives}
 
 -- How the examples are stated --------------------------------------------------------------------
 
@@ -25,42 +27,47 @@ abbrev pub storm_with : List Text → List Text
 storm_with words = codes "psci_cli" ∷ codes "storm" ∷ words
 
 -- `--seed N`, `--count N` and `--board TEXT`, before the other words
-abbrev pub seed : Text → List Text → List Text
-seed number words = codes "--seed" ∷ number ∷ words
+abbrev pub seed : String → List Text → List Text
+seed number words = codes "--seed" ∷ codes number ∷ words
 
-abbrev pub count : Text → List Text → List Text
-count number words = codes "--count" ∷ number ∷ words
+abbrev pub count : String → List Text → List Text
+count number words = codes "--count" ∷ codes number ∷ words
 
-abbrev pub board : Text → List Text → List Text
-board text words = codes "--board" ∷ text ∷ words
+abbrev pub board : String → List Text → List Text
+board text words = codes "--board" ∷ codes text ∷ words
 
 -- what the parser finds for an argument: its one text, and where that came from
-abbrev pub row : Text → ValueSource → Text → Row
-row id source text =
-    record { id = id; values = text ∷ []; count = None; source = Some source; reading = AsWritten }
+abbrev pub row : String → ValueSource → String → Row
+row id source text = record {
+  id = codes id;
+  values = codes text ∷ [];
+  count = None;
+  source = Some source;
+  reading = AsWritten;
+}
 
-abbrev pub seed_row : Text → Row
-seed_row = row (codes "seed") CommandLine
+abbrev pub seed_row : String → Row
+seed_row = row "seed" CommandLine
 
-abbrev pub count_row : Text → Row
-count_row = row (codes "count") CommandLine
+abbrev pub count_row : String → Row
+count_row = row "count" CommandLine
 
-abbrev pub board_row : Text → Row
-board_row = row (codes "board") CommandLine
+abbrev pub board_row : String → Row
+board_row = row "board" CommandLine
 
 abbrev pub standard_row : Row
-standard_row = row (codes "board") DefaultValue standard_board
+standard_row = record (row "board" DefaultValue "") { values = standard_board ∷ [] }
 
 -- the flag that asks for the counts, left out and given
 abbrev pub no_counts : Row
-no_counts = row (codes "counts") DefaultValue (codes "false")
+no_counts = row "counts" DefaultValue "false"
 
 abbrev pub counts_row : Row
-counts_row = row (codes "counts") CommandLine (codes "true")
+counts_row = row "counts" CommandLine "true"
 
 -- the file that the storm is to be kept in
-abbrev pub keep_row : Text → Row
-keep_row = row (codes "keep") CommandLine
+abbrev pub keep_row : String → Row
+keep_row = row "keep" CommandLine
 
 -- a storm with these words is taken, and this is found in them
 pub record IsTaken (words : List Text) (rows : List Row) : Type 0 where
@@ -68,9 +75,17 @@ pub record IsTaken (words : List Text) (rows : List Row) : Type 0 where
   pub met : (colors : Words)
       → subcommand_of (program colors) (storm_with words) ≡ Some (codes "storm", rows)
 
--- a storm with these words is refused
-abbrev IsRefused : List Text → ErrorKind → Type 0
-IsRefused words kind = (colors : Words) → fault_of (program colors) (storm_with words) ≡ kind ∷ []
+-- what the parser says of a storm with these words
+abbrev faults : Words → List Text → List ErrorKind
+faults colors words = fault_of (program colors) (storm_with words)
+
+-- and what it finds in them
+abbrev heard : Words → List Text → List ErrorKind × Option (Text × List Row)
+heard colors words = (faults colors words, subcommand_of (program colors) (storm_with words))
+
+-- a storm of these rows, without a fault
+abbrev storm : List Row → List ErrorKind × Option (Text × List Row)
+storm rows = ([], Some (codes "storm", rows))
 
 -- The standard board ------------------------------------------------------------------------------
 
@@ -103,178 +118,91 @@ standard_read = refl
 
 -- Taken -------------------------------------------------------------------------------------------
 
--- the least numbers, and the standard board
-least : IsTaken (seed (codes "0") (count (codes "0") []))
-    (seed_row (codes "0") ∷ count_row (codes "0") ∷ standard_row ∷ no_counts ∷ [])
+taken : (colors : Words) → Gives (heard colors)
+    -- the least numbers, and the standard board
+    (seed "0" (count "0" [])
+    ⇒ storm (seed_row "0" ∷ count_row "0" ∷ standard_row ∷ no_counts ∷ [])
+    -- the largest seed and count
+    ∷ seed "18446744073709551615" (count "10000" [])
+    ⇒ storm (seed_row "18446744073709551615" ∷ count_row "10000" ∷ standard_row
+    ∷ no_counts ∷ [])
+    ∷ count "5" (board "" (seed "7" []))
+    ⇒ storm (count_row "5" ∷ board_row "" ∷ seed_row "7" ∷ no_counts ∷ [])
+    ∷ seed "7" (count "5" (board "(2 2) exec" []))
+    ⇒ storm (seed_row "7" ∷ count_row "5" ∷ board_row "(2 2) exec" ∷ no_counts ∷ [])
+    -- a number after `=`, with a plus and with zeros in front
+    ∷ (codes "--seed=+7" ∷ codes "--count=005" ∷ [])
+    ⇒ storm (seed_row "+7" ∷ count_row "005" ∷ standard_row ∷ no_counts ∷ []) ∷ [])
 unfolding clap_on_literals
-least = record { fault = λ colors. refl; met = λ colors. refl }
-
--- the largest seed and count
-largest : IsTaken (seed (codes "18446744073709551615") (count (codes "10000") []))
-    (seed_row (codes "18446744073709551615") ∷ count_row (codes "10000") ∷ standard_row ∷ no_counts
-    ∷ [])
-unfolding clap_on_literals
-largest = record { fault = λ colors. refl; met = λ colors. refl }
+taken colors = refl
 
 -- a board in place of the standard one, which is not read here, in each place
-pub other_board : IsTaken (board (codes "4") (seed (codes "7") (count (codes "5") [])))
-    (board_row (codes "4") ∷ seed_row (codes "7") ∷ count_row (codes "5") ∷ no_counts ∷ [])
+pub other_board : IsTaken (board "4" (seed "7" (count "5" [])))
+    (board_row "4" ∷ seed_row "7" ∷ count_row "5" ∷ no_counts ∷ [])
 unfolding clap_on_literals
 other_board = record { fault = λ colors. refl; met = λ colors. refl }
 
-board_between : IsTaken (count (codes "5") (board (codes "") (seed (codes "7") [])))
-    (count_row (codes "5") ∷ board_row (codes "") ∷ seed_row (codes "7") ∷ no_counts ∷ [])
-unfolding clap_on_literals
-board_between = record { fault = λ colors. refl; met = λ colors. refl }
-
-board_last : IsTaken (seed (codes "7") (count (codes "5") (board (codes "(2 2) exec") [])))
-    (seed_row (codes "7") ∷ count_row (codes "5") ∷ board_row (codes "(2 2) exec") ∷ no_counts ∷ [])
-unfolding clap_on_literals
-board_last = record { fault = λ colors. refl; met = λ colors. refl }
-
 -- another order
-pub count_first : IsTaken (count (codes "5") (seed (codes "7") []))
-    (count_row (codes "5") ∷ seed_row (codes "7") ∷ standard_row ∷ no_counts ∷ [])
+pub count_first : IsTaken (count "5" (seed "7" []))
+    (count_row "5" ∷ seed_row "7" ∷ standard_row ∷ no_counts ∷ [])
 unfolding clap_on_literals
 count_first = record { fault = λ colors. refl; met = λ colors. refl }
 
--- a number after `=`, with a plus and with zeros in front
-attached : IsTaken (codes "--seed=+7" ∷ codes "--count=005" ∷ [])
-    (seed_row (codes "+7") ∷ count_row (codes "005") ∷ standard_row ∷ no_counts ∷ [])
-unfolding clap_on_literals
-attached = record { fault = λ colors. refl; met = λ colors. refl }
-
 -- the counts are asked for
-pub with_counts : IsTaken (seed (codes "7") (codes "--counts" ∷ count (codes "5") []))
-    (seed_row (codes "7") ∷ counts_row ∷ count_row (codes "5") ∷ standard_row ∷ [])
+pub with_counts : IsTaken (seed "7" (codes "--counts" ∷ count "5" []))
+    (seed_row "7" ∷ counts_row ∷ count_row "5" ∷ standard_row ∷ [])
 unfolding clap_on_literals
 with_counts = record { fault = λ colors. refl; met = λ colors. refl }
 
 -- the storm is to be kept, in a file of any name
 pub with_file : IsTaken
-    (seed (codes "7") (codes "--keep" ∷ codes "a b" ∷ count (codes "5") []))
-    (seed_row (codes "7") ∷ keep_row (codes "a b") ∷ count_row (codes "5") ∷ standard_row
+    (seed "7" (codes "--keep" ∷ codes "a b" ∷ count "5" []))
+    (seed_row "7" ∷ keep_row "a b" ∷ count_row "5" ∷ standard_row
     ∷ no_counts ∷ [])
 unfolding clap_on_literals
 with_file = record { fault = λ colors. refl; met = λ colors. refl }
 
 -- Refused -----------------------------------------------------------------------------------------
 
--- a seed of 2^64, a count of 10001 and one of 2^64, which 64 bits would make a 0
-seed_too_large : IsRefused (seed (codes "18446744073709551616") (count (codes "0") []))
-    ValueValidation
+refused : (colors : Words) → Gives (faults colors)
+    -- a seed of 2^64, a count of 10001 and one of 2^64, which 64 bits would make a 0
+    (seed "18446744073709551616" (count "0" []) ⇒ (ValueValidation ∷ [])
+    ∷ seed "0" (count "10001" []) ⇒ (ValueValidation ∷ [])
+    ∷ seed "0" (count "18446744073709551616" []) ⇒ (ValueValidation ∷ [])
+    -- texts that spell no number
+    ∷ seed "0x7" (count "0" []) ⇒ (ValueValidation ∷ [])
+    ∷ seed "0" (count "" []) ⇒ (ValueValidation ∷ [])
+    ∷ (codes "--seed=0" ∷ codes "--count=-1" ∷ []) ⇒ (ValueValidation ∷ [])
+    -- a number that is missing, and both
+    ∷ count "0" [] ⇒ (MissingRequiredArgument ∷ [])
+    ∷ seed "0" [] ⇒ (MissingRequiredArgument ∷ [])
+    ∷ [] ⇒ (MissingRequiredArgument ∷ [])
+    ∷ board "4" [] ⇒ (MissingRequiredArgument ∷ [])
+    -- an option without its value
+    ∷ count "0" (codes "--seed" ∷ []) ⇒ (InvalidValue ∷ [])
+    -- an option that comes twice
+    ∷ seed "0" (count "0" (seed "0" [])) ⇒ (ArgumentConflict ∷ [])
+    ∷ board "4" (board "4" (seed "0" (count "0" []))) ⇒ (ArgumentConflict ∷ [])
+    ∷ seed "0" (count "0" (codes "--counts" ∷ codes "--counts" ∷ [])) ⇒ (ArgumentConflict ∷ [])
+    -- a flag has no value
+    ∷ seed "0" (count "0" (codes "--counts=x" ∷ [])) ⇒ (TooManyValues ∷ [])
+    -- a file that is not named, and two
+    ∷ seed "0" (count "0" (codes "--keep" ∷ [])) ⇒ (InvalidValue ∷ [])
+    ∷ seed "0" (count "0" (codes "--keep" ∷ codes "a" ∷ codes "--keep" ∷ codes "b" ∷ []))
+    ⇒ (ArgumentConflict ∷ [])
+    -- an option that there is not, and a word too many
+    ∷ seed "0" (count "0" (codes "--rounds" ∷ codes "3" ∷ [])) ⇒ (UnknownArgument ∷ [])
+    ∷ seed "0" (count "0" (codes "4" ∷ [])) ⇒ (UnknownArgument ∷ [])
+    -- help, and the version, which the command has not
+    ∷ (codes "--help" ∷ []) ⇒ (DisplayHelp ∷ [])
+    ∷ (codes "--version" ∷ []) ⇒ (UnknownArgument ∷ []) ∷ [])
 unfolding clap_on_literals
-seed_too_large colors = refl
-
-count_too_large : IsRefused (seed (codes "0") (count (codes "10001") [])) ValueValidation
-unfolding clap_on_literals
-count_too_large colors = refl
-
-count_past_64_bits : IsRefused (seed (codes "0") (count (codes "18446744073709551616") []))
-    ValueValidation
-unfolding clap_on_literals
-count_past_64_bits colors = refl
-
--- texts that spell no number
-seed_of_letters : IsRefused (seed (codes "0x7") (count (codes "0") [])) ValueValidation
-unfolding clap_on_literals
-seed_of_letters colors = refl
-
-count_of_nothing : IsRefused (seed (codes "0") (count (codes "") [])) ValueValidation
-unfolding clap_on_literals
-count_of_nothing colors = refl
-
-count_below_zero : IsRefused (codes "--seed=0" ∷ codes "--count=-1" ∷ []) ValueValidation
-unfolding clap_on_literals
-count_below_zero colors = refl
-
--- a number that is missing, and both
-no_seed : IsRefused (count (codes "0") []) MissingRequiredArgument
-unfolding clap_on_literals
-no_seed colors = refl
-
-no_count : IsRefused (seed (codes "0") []) MissingRequiredArgument
-unfolding clap_on_literals
-no_count colors = refl
-
-no_number : IsRefused [] MissingRequiredArgument
-unfolding clap_on_literals
-no_number colors = refl
-
-board_alone : IsRefused (board (codes "4") []) MissingRequiredArgument
-unfolding clap_on_literals
-board_alone colors = refl
-
--- an option without its value
-no_value : IsRefused (count (codes "0") (codes "--seed" ∷ [])) InvalidValue
-unfolding clap_on_literals
-no_value colors = refl
-
--- an option that comes twice
-two_seeds : IsRefused (seed (codes "0") (count (codes "0") (seed (codes "0") []))) ArgumentConflict
-unfolding clap_on_literals
-two_seeds colors = refl
-
-two_boards : IsRefused
-    (board (codes "4") (board (codes "4") (seed (codes "0") (count (codes "0") []))))
-    ArgumentConflict
-unfolding clap_on_literals
-two_boards colors = refl
-
-counts_twice : IsRefused (seed (codes "0") (count (codes "0") (codes "--counts"
-    ∷ codes "--counts" ∷ []))) ArgumentConflict
-unfolding clap_on_literals
-counts_twice colors = refl
-
--- a flag has no value
-counts_with_a_value : IsRefused (seed (codes "0") (count (codes "0") (codes "--counts=x" ∷ [])))
-    TooManyValues
-unfolding clap_on_literals
-counts_with_a_value colors = refl
-
--- a file that is not named, and two
-no_file : IsRefused (seed (codes "0") (count (codes "0") (codes "--keep" ∷ []))) InvalidValue
-unfolding clap_on_literals
-no_file colors = refl
-
-two_files : IsRefused (seed (codes "0") (count (codes "0") (codes "--keep" ∷ codes "a"
-    ∷ codes "--keep" ∷ codes "b" ∷ []))) ArgumentConflict
-unfolding clap_on_literals
-two_files colors = refl
-
--- an option that there is not, and a word too many
-other_option : IsRefused (seed (codes "0") (count (codes "0") (codes "--rounds" ∷ codes "3" ∷ [])))
-    UnknownArgument
-unfolding clap_on_literals
-other_option colors = refl
-
-stray_word : IsRefused (seed (codes "0") (count (codes "0") (codes "4" ∷ []))) UnknownArgument
-unfolding clap_on_literals
-stray_word colors = refl
-
--- help, and the version, which the command has not
-help : IsRefused (codes "--help" ∷ []) DisplayHelp
-unfolding clap_on_literals
-help colors = refl
-
-no_version : IsRefused (codes "--version" ∷ []) UnknownArgument
-unfolding clap_on_literals
-no_version colors = refl
+refused colors = refl
 
 -- the options of `storm` are no options of the program, nor of `replay`
-before_the_command : (colors : Words) → fault_of (program colors)
-    (codes "psci_cli" ∷ seed (codes "0") (codes "storm" ∷ []))
-    ≡ UnknownArgument ∷ []
+unknown_elsewhere : (colors : Words) → Gives (fault_of (program colors))
+    ((codes "psci_cli" ∷ seed "0" (codes "storm" ∷ [])) ⇒ (UnknownArgument ∷ [])
+    ∷ (codes "psci_cli" ∷ codes "replay" ∷ seed "0" []) ⇒ (UnknownArgument ∷ [])
+    ∷ (codes "psci_cli" ∷ codes "replay" ∷ codes "--counts" ∷ []) ⇒ (UnknownArgument ∷ []) ∷ [])
 unfolding clap_on_literals
-before_the_command colors = refl
-
-of_replay : (colors : Words) → fault_of (program colors)
-    (codes "psci_cli" ∷ codes "replay" ∷ seed (codes "0") [])
-    ≡ UnknownArgument ∷ []
-unfolding clap_on_literals
-of_replay colors = refl
-
-counts_of_a_replay : (colors : Words) → fault_of (program colors)
-    (codes "psci_cli" ∷ codes "replay" ∷ codes "--counts" ∷ []) ≡ UnknownArgument ∷ []
-unfolding clap_on_literals
-counts_of_a_replay colors = refl
+unknown_elsewhere colors = refl

@@ -14,6 +14,7 @@ use Rattle.psci_command.proofs.AskedRows.{threads}
 use Rattle.psci_command.proofs.StormCommandRows.{board, board_row, count, count_row, seed, seed_row}
 use Rattle.psci_command.proofs.StormCommandRows.{counts_row, keep_row, no_counts, standard_row}
 use Rattle.psci_command.proofs.ValueRows.{spelled}
+use Rattle.psci_script.proofs.Tables.{◌⇒◌, Gives}
 
 -- `psci_cli threads` and these words
 abbrev pub threads_with : List Text → List Text
@@ -25,81 +26,54 @@ pub record IsTaken (words : List Text) (rows : List Row) : Type 0 where
   pub met : (colors : Words)
       → subcommand_of (program colors) (threads_with words) ≡ Some (codes "threads", rows)
 
--- threads with these words are refused
-abbrev IsRefused : List Text → ErrorKind → Type 0
-IsRefused words kind = (colors : Words) → fault_of (program colors) (threads_with words) ≡ kind ∷ []
+-- what the parser says of threads with these words
+abbrev faults : Words → List Text → List ErrorKind
+faults colors words = fault_of (program colors) (threads_with words)
 
 abbrev pub plain_rows : List Row
-plain_rows = seed_row (codes "7") ∷ count_row (codes "5") ∷ standard_row ∷ no_counts ∷ []
+plain_rows = seed_row "7" ∷ count_row "5" ∷ standard_row ∷ no_counts ∷ []
 
-pub plain_threads : IsTaken (seed (codes "7") (count (codes "5") [])) plain_rows
+pub plain_threads : IsTaken (seed "7" (count "5" [])) plain_rows
 unfolding clap_on_literals
 plain_threads = record { fault = λ colors. refl; met = λ colors. refl }
 
 pub plain_asked : IsThreadsOf plain_rows (Some (threads 7 5))
 plain_asked =
-    ((refl, (spelled (codes "7") refl, refl), (spelled (codes "5") refl, refl)), λ e. cc, refl)
+    ((refl, (spelled "7" refl, refl), (spelled "5" refl, refl)), λ e. cc, refl)
 
 -- the largest numbers, on another board
 largest : IsTaken
-    (board (codes "4") (seed (codes "18446744073709551615") (count (codes "10000") [])))
-    (board_row (codes "4") ∷ seed_row (codes "18446744073709551615") ∷ count_row (codes "10000")
+    (board "4" (seed "18446744073709551615" (count "10000" [])))
+    (board_row "4" ∷ seed_row "18446744073709551615" ∷ count_row "10000"
     ∷ no_counts ∷ [])
 unfolding clap_on_literals
 largest = record { fault = λ colors. refl; met = λ colors. refl }
 
--- one more than these
-seed_too_large : IsRefused (seed (codes "18446744073709551616") (count (codes "0") []))
-    ValueValidation
+refused : (colors : Words) → Gives (faults colors)
+    -- one more than these
+    (seed "18446744073709551616" (count "0" []) ⇒ (ValueValidation ∷ [])
+    ∷ seed "0" (count "10001" []) ⇒ (ValueValidation ∷ [])
+    -- a number that is missing, and one that comes twice
+    ∷ count "0" [] ⇒ (MissingRequiredArgument ∷ [])
+    ∷ seed "0" [] ⇒ (MissingRequiredArgument ∷ [])
+    ∷ seed "0" (count "0" (count "0" [])) ⇒ (ArgumentConflict ∷ [])
+    -- an option that there is not
+    ∷ seed "0" (count "0" (codes "--json" ∷ [])) ⇒ (UnknownArgument ∷ [])
+    -- a flag has no value, and a file has to be named
+    ∷ seed "0" (count "0" (codes "--counts=x" ∷ [])) ⇒ (TooManyValues ∷ [])
+    ∷ seed "0" (count "0" (codes "--keep" ∷ [])) ⇒ (InvalidValue ∷ [])
+    ∷ (codes "--help" ∷ []) ⇒ (DisplayHelp ∷ []) ∷ [])
 unfolding clap_on_literals
-seed_too_large colors = refl
-
-count_too_large : IsRefused (seed (codes "0") (count (codes "10001") [])) ValueValidation
-unfolding clap_on_literals
-count_too_large colors = refl
-
--- a number that is missing, and one that comes twice
-no_seed : IsRefused (count (codes "0") []) MissingRequiredArgument
-unfolding clap_on_literals
-no_seed colors = refl
-
-no_count : IsRefused (seed (codes "0") []) MissingRequiredArgument
-unfolding clap_on_literals
-no_count colors = refl
-
-two_counts : IsRefused (seed (codes "0") (count (codes "0") (count (codes "0") [])))
-    ArgumentConflict
-unfolding clap_on_literals
-two_counts colors = refl
+refused colors = refl
 
 -- with the counts, and with a file to keep the run in
-with_counts : IsTaken (seed (codes "7") (codes "--counts" ∷ count (codes "5") []))
-    (seed_row (codes "7") ∷ counts_row ∷ count_row (codes "5") ∷ standard_row ∷ [])
+with_counts : IsTaken (seed "7" (codes "--counts" ∷ count "5" []))
+    (seed_row "7" ∷ counts_row ∷ count_row "5" ∷ standard_row ∷ [])
 unfolding clap_on_literals
 with_counts = record { fault = λ colors. refl; met = λ colors. refl }
 
-with_file : IsTaken (seed (codes "7") (codes "--keep" ∷ codes "a b" ∷ count (codes "5") []))
-    (seed_row (codes "7") ∷ keep_row (codes "a b") ∷ count_row (codes "5") ∷ standard_row
+with_file : IsTaken (seed "7" (codes "--keep" ∷ codes "a b" ∷ count "5" []))
+    (seed_row "7" ∷ keep_row "a b" ∷ count_row "5" ∷ standard_row
     ∷ no_counts ∷ [])
 unfolding clap_on_literals
 with_file = record { fault = λ colors. refl; met = λ colors. refl }
-
--- an option that there is not
-other_option : IsRefused (seed (codes "0") (count (codes "0") (codes "--json" ∷ [])))
-    UnknownArgument
-unfolding clap_on_literals
-other_option colors = refl
-
--- a flag has no value, and a file has to be named
-counts_with_a_value : IsRefused (seed (codes "0") (count (codes "0") (codes "--counts=x" ∷ [])))
-    TooManyValues
-unfolding clap_on_literals
-counts_with_a_value colors = refl
-
-no_file : IsRefused (seed (codes "0") (count (codes "0") (codes "--keep" ∷ []))) InvalidValue
-unfolding clap_on_literals
-no_file colors = refl
-
-help : IsRefused (codes "--help" ∷ []) DisplayHelp
-unfolding clap_on_literals
-help colors = refl

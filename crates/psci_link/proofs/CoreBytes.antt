@@ -9,8 +9,8 @@ use Rattle.psci_board.specs.Board.{BoardValue, cores}
 use Rattle.psci_link.specs.declared.fault.FrameFault.{FrameFault}
 use Rattle.psci_link.specs.declared.fault.FrameFault.TheVariants as faults
 use Rattle.psci_link.specs.declared.heading.Heading.{Heading}
-use Rattle.psci_link.specs.Heading.{heading_of}
 use Rattle.psci_link.specs.Frame.{AreBytes, fault_at, fault_of_kind, first_fault}
+use Rattle.std.proofs.lemmas.Bool.Decides.{nat_tests}
 
 -- another fault is said first, and this one by none of the tests after it
 other : (t : Bool) (e : FrameFault) (rest : Option FrameFault) → (e ≡ faults.Core → ⊥)
@@ -28,10 +28,7 @@ passing false e rest holds later said = cc
 of_kind : (b : BoardValue) (bytes : List ℕ) (h : Heading) → slice_index bytes 3 < cores b
     → fault_of_kind b bytes h ≡ Some faults.Core → ⊥
 unfolding fault_of_kind
-of_kind b bytes h there =
-    other _ faults.Count _ (λ e. cc) (other _ faults.Unused _ (λ e. cc)
-    (passing _ faults.Core _ (lt-ltb (slice_index bytes 3) (cores b) there)
-    (other _ faults.Depth _ (λ e. cc) (other _ faults.Level _ (λ e. cc) (none-some faults.Core)))))
+of_kind b bytes h there = grind (arith, nat_tests, other, passing, lt-ltb, none-some)
 
 of_heading : (b : BoardValue) (bytes : List ℕ) (h : Option Heading) → slice_index bytes 3 < cores b
     → fault_at b bytes h ≡ Some faults.Core → ⊥
@@ -41,7 +38,4 @@ of_heading b bytes (Some h) there said = of_kind b bytes h there said
 pub each-is-a-core : (b : BoardValue) (bytes : List ℕ) → AreBytes bytes → cores b ≡ MOST_CORES
     → first_fault b bytes ≡ Some faults.Core → ⊥
 unfolding first_fault
-each-is-a-core b bytes are all =
-    let there : slice_index bytes 3 < cores b = omega (arith, all, are 3) in
-    other _ faults.Length _ (λ e. cc) (other _ faults.Magic _ (λ e. cc)
-    (of_heading b bytes (heading_of (slice_index bytes 2)) there))
+each-is-a-core b bytes are all = grind (arith, nat_tests, other, of_heading)

@@ -1,16 +1,18 @@
 -- The first fault of bytes by the tests that it is made of: where there is none, each test holds
-use Rattle.std.proofs.Common.{◌≡◌, ◌∙◌, ℕ, ◌<◌, Bool, true, false, not, List, length, Option, Some}
+use Rattle.std.proofs.Common.{◌≡◌, ◌∙◌, ℕ, ◌<◌, Bool, true, false, not, List, Option, Some}
 use Rattle.std.proofs.Common.{None, refl, sym}
-use Rattle.std.specs.Prelude.{if◌then◌else◌, ◌==◌, ◌&&◌, nat_lt, slice_index}
+use Rattle.std.specs.Prelude.{if◌then◌else◌, ◌&&◌, nat_lt, slice_index}
 use Rattle.std.proofs.lemmas.Bool.{and_parts, and_from, eq-eqb, ltb-true, lt-ltb}
 use Rattle.std.proofs.lemmas.Option.{same_Some, none-some}
 use Rattle.psci_board.specs.Board.{BoardValue, cores, height}
 use Rattle.psci_link.specs.declared.fault.FrameFault.{FrameFault}
 use Rattle.psci_link.specs.declared.heading.Heading.{Heading}
 use Rattle.psci_messages.specs.Message.{is_climbing, is_falling}
-use Rattle.psci_link.specs.Heading.{is_magic, allows_count, parts_of, HasHeading}
+use Rattle.psci_link.specs.Heading.{allows_count, parts_of, HasHeading}
 use Rattle.psci_link.specs.Frame.{is_within, parts_in, part_fields_in, count_in, is_unused_after}
 use Rattle.psci_link.specs.Frame.{fault_at, fault_of_kind, first_fault}
+use Rattle.std.proofs.lemmas.Bool.Decides.{nat_tests}
+use Rattle.std.proofs.Common.{arith}
 
 -- What every test says of bytes of this kind that have no fault.
 pub record HasNoFault (b : BoardValue) (bytes : List ℕ) (h : Heading) : Type 0 where
@@ -58,18 +60,12 @@ has-no-fault b bytes h none =
 pub is-without-fault : (b : BoardValue) (bytes : List ℕ) (h : Heading) → HasNoFault b bytes h
     → fault_of_kind b bytes h ≡ None
 unfolding fault_of_kind
-is-without-fault b bytes h holds =
-    passes _ _ _ holds.allowed (passes _ _ _ holds.unused
-    (passes _ _ _ (lt-ltb (slice_index bytes 3) (cores b) holds.core) (passes _ _ _ holds.falling
-    (passes _ _ _ (and_from _ _ holds.climbing holds.within) refl))))
+is-without-fault b bytes h holds = grind (arith, nat_tests, passes, lt-ltb, and_from)
 
 pub first_fault-heading : (b : BoardValue) (bytes : List ℕ) (h : Heading) → HasHeading bytes h
     → first_fault b bytes ≡ fault_of_kind b bytes h
 unfolding first_fault
-first_fault-heading b bytes h has =
-    let whole : (length bytes == 53) ≡ true = eq-eqb (length bytes) 53 has.whole in
-    let magic : is_magic bytes ≡ true = has.magic in
-    rw (whole, magic, has.kind) refl
+first_fault-heading b bytes h has = grind (arith, nat_tests, eq-eqb)
 
 -- bytes have one heading
 pub one-heading : (bytes : List ℕ) (h i : Heading) → HasHeading bytes h → HasHeading bytes i → h ≡ i

@@ -1,6 +1,7 @@
 -- How frames are spelled, and what bytes hold: known frames, and which bytes each field has.
 use Rattle.std.proofs.Common.{◌≡◌, [], ◌∷◌, arith, refl}
-use Rattle.std.specs.Prelude.{true, false, replicate, slice_set}
+use Rattle.std.specs.Prelude.{Bool, true, false, replicate, slice_set}
+use Rattle.psci_messages.specs.declared.kind.Kind.{Kind}
 use Rattle.psci_messages.specs.declared.kind.Kind.TheVariants.{Down, Start, Off, Reset}
 use Rattle.psci_link.specs.declared.frame.Frame.{Frame}
 use Rattle.psci_link.specs.declared.frame.Frame.TheVariants.{Message, Ack}
@@ -8,6 +9,7 @@ use Rattle.psci_link.specs.declared.heading.Heading.TheVariants as headings
 use Rattle.psci_link.specs.Frame.{part_fields, frame_bytes, kind_byte, part_bytes, frame_in}
 use Rattle.psci_link.specs.Frame.{IsHeldIn, heading_for}
 use Rattle.psci_link.proofs.FaultRows.{down, acknowledged}
+use Rattle.psci_board.proofs.Tables.{◌⇒◌, Gives}
 
 abbrev down_frame : Frame
 down_frame = Message (record {
@@ -29,11 +31,10 @@ acknowledged_frame = Ack (record {
   stale = false;
 })
 
-down_heading : heading_for down_frame ≡ headings.Message Down
-down_heading = refl
-
-acknowledged_heading : heading_for acknowledged_frame ≡ headings.Ack Down false
-acknowledged_heading = refl
+headings_of_frames : Gives heading_for
+    (down_frame ⇒ headings.Message Down
+    ∷ acknowledged_frame ⇒ headings.Ack Down false ∷ [])
+headings_of_frames = refl
 
 down_holds : IsHeldIn (headings.Message Down) down
 down_holds = record { some = omega arith; most = omega arith; levels = refl; depths = refl }
@@ -102,119 +103,36 @@ part_spelled : part_bytes (record { level = 2; depth = 1; generation = 0x0102030
     ≡ 2 ∷ 1 ∷ 1 ∷ 2 ∷ 3 ∷ 4 ∷ 5 ∷ 6 ∷ 7 ∷ 8 ∷ []
 part_spelled = refl
 
--- the kind bytes
-down_message : kind_byte (Message (record {
-  kind = Down;
+abbrev message : Kind → Frame
+message kind = Message (record {
+  kind = kind;
   core = record { number = 0 };
   life = 0;
   number = 0;
   parts = [];
-})) ≡ 0x01
-down_message = refl
+})
 
-start_message : kind_byte (Message (record {
-  kind = Start;
-  core = record { number = 0 };
-  life = 0;
-  number = 0;
-  parts = [];
-})) ≡ 0x02
-start_message = refl
-
-off_message : kind_byte (Message (record {
-  kind = Off;
-  core = record { number = 0 };
-  life = 0;
-  number = 0;
-  parts = [];
-})) ≡ 0x03
-off_message = refl
-
-reset_message : kind_byte (Message (record {
-  kind = Reset;
-  core = record { number = 0 };
-  life = 0;
-  number = 0;
-  parts = [];
-})) ≡ 0x04
-reset_message = refl
-
-down_answer : kind_byte (Ack (record {
-  kind = Down;
+abbrev answer : Kind → Bool → Frame
+answer kind stale = Ack (record {
+  kind = kind;
   core = record { number = 0 };
   life = 0;
   number = 0;
   applied = 0;
-  stale = false;
-})) ≡ 0x11
-down_answer = refl
+  stale = stale;
+})
 
-stale_down_answer : kind_byte (Ack (record {
-  kind = Down;
-  core = record { number = 0 };
-  life = 0;
-  number = 0;
-  applied = 0;
-  stale = true;
-})) ≡ 0x21
-stale_down_answer = refl
-
-start_answer : kind_byte (Ack (record {
-  kind = Start;
-  core = record { number = 0 };
-  life = 0;
-  number = 0;
-  applied = 0;
-  stale = false;
-})) ≡ 0x12
-start_answer = refl
-
-stale_start_answer : kind_byte (Ack (record {
-  kind = Start;
-  core = record { number = 0 };
-  life = 0;
-  number = 0;
-  applied = 0;
-  stale = true;
-})) ≡ 0x22
-stale_start_answer = refl
-
-off_answer : kind_byte (Ack (record {
-  kind = Off;
-  core = record { number = 0 };
-  life = 0;
-  number = 0;
-  applied = 0;
-  stale = false;
-})) ≡ 0x13
-off_answer = refl
-
-stale_off_answer : kind_byte (Ack (record {
-  kind = Off;
-  core = record { number = 0 };
-  life = 0;
-  number = 0;
-  applied = 0;
-  stale = true;
-})) ≡ 0x23
-stale_off_answer = refl
-
-reset_answer : kind_byte (Ack (record {
-  kind = Reset;
-  core = record { number = 0 };
-  life = 0;
-  number = 0;
-  applied = 0;
-  stale = false;
-})) ≡ 0x14
-reset_answer = refl
-
-stale_reset_answer : kind_byte (Ack (record {
-  kind = Reset;
-  core = record { number = 0 };
-  life = 0;
-  number = 0;
-  applied = 0;
-  stale = true;
-})) ≡ 0x24
-stale_reset_answer = refl
+kind_bytes : Gives kind_byte
+    (message Down ⇒ 0x01
+    ∷ message Start ⇒ 0x02
+    ∷ message Off ⇒ 0x03
+    ∷ message Reset ⇒ 0x04
+    ∷ answer Down false ⇒ 0x11
+    ∷ answer Down true ⇒ 0x21
+    ∷ answer Start false ⇒ 0x12
+    ∷ answer Start true ⇒ 0x22
+    ∷ answer Off false ⇒ 0x13
+    ∷ answer Off true ⇒ 0x23
+    ∷ answer Reset false ⇒ 0x14
+    ∷ answer Reset true ⇒ 0x24 ∷ [])
+kind_bytes = refl

@@ -1,9 +1,8 @@
 -- The laws of frames: the spelling of a frame of the board has no fault and holds the frame, and
 -- bytes without a fault are such a spelling.
-use Rattle.std.proofs.Common.{◌≡◌, ◌∙◌, ℕ, ◌+◌, ◌-◌, ◌^◌, ◌<◌, Bool, List, [], length, drop, Some}
-use Rattle.std.proofs.Common.{None, refl, sym, ap, arith, subst}
-use Rattle.std.specs.Prelude.{◌==◌, slice_index, slice_range}
-use Rattle.std.specs.Int.{w32, to_be_bytes, from_be_bytes}
+use Rattle.std.proofs.Common.{◌≡◌, ◌∙◌, ℕ, ◌^◌, ◌<◌, Bool, List, [], length, Some}
+use Rattle.std.proofs.Common.{None, refl, sym, ap, arith}
+use Rattle.std.specs.Prelude.{◌==◌, slice_index}
 use Rattle.std.proofs.lemmas.Nat.{from_be_bytes-to_be_bytes_4}
 use Rattle.std.proofs.lemmas.Bool.{eqb-true, le-leb}
 use Rattle.std.proofs.lemmas.Option.{none-some}
@@ -18,7 +17,7 @@ use Rattle.psci_link.specs.declared.heading.Heading.{Heading}
 use Rattle.psci_link.specs.declared.heading.Heading.TheVariants as headings
 use Rattle.psci_messages.specs.Message.{is_climbing, is_falling, most_applied}
 use Rattle.psci_link.specs.Heading.{is_magic, heading_of, HasHeading}
-use Rattle.psci_link.specs.Frame.{part_fields, frame_bytes, IsFrame, IsOf, is_within, parts_in}
+use Rattle.psci_link.specs.Frame.{frame_bytes, IsFrame, IsOf, is_within, parts_in}
 use Rattle.psci_link.specs.Frame.{word_at, heading_for}
 use Rattle.psci_link.specs.Frame.{part_fields_in, count_in, AreBytes, frame_in, first_fault}
 use Rattle.psci_link.proofs.Headings.{heading_of-byte, is-held, counted}
@@ -27,6 +26,7 @@ use Rattle.psci_link.proofs.Places.{length-parts_in, parts-in-places, length-pla
 use Rattle.psci_link.proofs.Faults.{HasNoFault, passed, has-no-fault, is-without-fault}
 use Rattle.psci_link.proofs.Faults.{first_fault-heading, one-heading, heading-among}
 use Rattle.psci_link.proofs.Written.{frame-written, frame-is-of}
+use Rattle.std.proofs.lemmas.Bool.Decides.{nat_tests}
 
 pub spelled-heading : (f : Frame) → IsFrame f → HasHeading (frame_bytes f) (heading_for f)
 spelled-heading (Message m) fits = record {
@@ -95,17 +95,8 @@ same-ack kind core life l number n applied stale a b = cc
 pub spelled-held : (f : Frame) → IsFrame f → frame_in (heading_for f) (frame_bytes f) ≡ f
 unfolding frame_in
 spelled-held (Message m) fits =
-    same-message m.kind m.core (from_be_bytes w32 (to_be_bytes w32 m.life)) m.life
-    (from_be_bytes w32 (to_be_bytes w32 m.number)) m.number
-    (parts_in (length m.parts) (part_fields m.parts)) m.parts
-    (from_be_bytes-to_be_bytes_4 m.life fits.life)
-    (from_be_bytes-to_be_bytes_4 m.number fits.number)
-    (parts-in-places m.parts fits.generations)
-spelled-held (Ack a) fits =
-    same-ack a.kind a.core (from_be_bytes w32 (to_be_bytes w32 a.life)) a.life
-    (from_be_bytes w32 (to_be_bytes w32 a.number)) a.number a.applied a.stale
-    (from_be_bytes-to_be_bytes_4 a.life fits.life)
-    (from_be_bytes-to_be_bytes_4 a.number fits.number)
+    grind (arith, nat_tests, same-message, from_be_bytes-to_be_bytes_4, parts-in-places)
+spelled-held (Ack a) fits = grind (arith, nat_tests, same-ack, from_be_bytes-to_be_bytes_4)
 
 -- the bytes of a frame of the board have no fault
 pub spelled-faultless : (b : BoardValue) (f : Frame) → IsFrame f → IsOf b f
@@ -124,30 +115,23 @@ not-refused b f bytes fault fits of same refused =
 -- what the kind byte of bytes says that spell a frame
 pub heading-spelled : (f : Frame) (bytes : List ℕ) (h : Heading) → IsFrame f
     → frame_bytes f ≡ bytes → HasHeading bytes h → h ≡ heading_for f
-heading-spelled f bytes h fits same has =
-    one-heading bytes h (heading_for f) has
-    (subst (λ (xs : List ℕ). HasHeading xs (heading_for f)) same (spelled-heading f fits))
+heading-spelled f bytes h fits same has = grind (arith, nat_tests, one-heading, spelled-heading)
 
 -- bytes that spell a frame hold it
 pub is-read : (f : Frame) (bytes : List ℕ) (h : Heading) → IsFrame f → frame_bytes f ≡ bytes
     → HasHeading bytes h
     → frame_in h bytes ≡ f
-is-read f bytes h fits same has =
-    ap (λ (i : Heading). frame_in i bytes) (heading-spelled f bytes h fits same has)
-    ∙ (ap (frame_in (heading_for f)) (sym same) ∙ spelled-held f fits)
+is-read f bytes h fits same has = grind (arith, nat_tests, heading-spelled, spelled-held)
 
 pub length-spelling : (f : Frame) → IsFrame f → length (frame_bytes f) ≡ 53
 length-spelling f fits = (spelled-heading f fits).whole
 
 pub one-frame : (f g : Frame) → IsFrame f → IsFrame g → frame_bytes f ≡ frame_bytes g → f ≡ g
-one-frame f g fits also same =
-    sym (is-read f (frame_bytes g) (heading_for g) fits same (spelled-heading g also))
-    ∙ spelled-held g also
+one-frame f g fits also same = grind (arith, nat_tests, is-read, spelled-heading, spelled-held)
 
 number-fits : (bytes : List ℕ) (start : ℕ) → AreBytes bytes → word_at bytes start < 2 ^ 32
 number-fits bytes start fits =
-    four_bytes-fit (slice_range bytes start (start + 4))
-    (AreBytes-take ((start + 4) - start) (drop start bytes) (AreBytes-drop start bytes fits))
+    grind (arith, nat_tests, four_bytes-fit, AreBytes-take, AreBytes-drop)
 
 -- what bytes without a fault hold is a frame
 frame-fits : (b : BoardValue) (bytes : List ℕ) (h : Heading) → AreBytes bytes → HasNoFault b bytes h

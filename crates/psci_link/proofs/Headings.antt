@@ -1,7 +1,7 @@
 -- Kind bytes: each says what it was written for, and counts go with parts.
-use Rattle.std.proofs.Common.{◌≡◌, ◌∙◌, ℕ, ◌+◌, ◌*◌, ◌/◌, ◌%◌, ◌≤◌, Bool, true, false, List, []}
-use Rattle.std.proofs.Common.{length, Option, Some, refl, sym, ap, arith, subst, inl, inr}
-use Rattle.std.specs.Prelude.{if◌then◌else◌, nat_le, ◌==◌, ◌⊎◌}
+use Rattle.std.proofs.Common.{◌≡◌, ℕ, ◌+◌, ◌*◌, ◌≤◌, Bool, true, false, List, []}
+use Rattle.std.proofs.Common.{length, Option, Some, refl, sym, arith, subst, inl, inr}
+use Rattle.std.specs.Prelude.{if◌then◌else◌, nat_le, ◌⊎◌}
 use Rattle.std.proofs.lemmas.Option.{same_Some, none-some, option_and_then_some}
 use Rattle.std.proofs.lemmas.Bool.{and_parts, and_from, eqb-true, leb-true, le-leb}
 use Rattle.std.proofs.lemmas.List.{nil_from_length}
@@ -14,6 +14,7 @@ use Rattle.psci_messages.specs.Message.{is_climbing, is_falling, ArePartsOf, mos
 use Rattle.psci_link.specs.Heading.{kind_of, heading_of, heading_with, allows_count, parts_of}
 use Rattle.psci_link.specs.Heading.{IsHeld}
 use Rattle.psci_link.specs.Frame.{kind_code}
+use Rattle.std.proofs.lemmas.Bool.Decides.{nat_tests}
 
 -- the kind byte that says this
 abbrev pub heading_byte : Heading → ℕ
@@ -27,43 +28,16 @@ chosen true x rest y e = inl (refl, same_Some x y e)
 chosen false x rest y e = inr e
 
 kind_of-some : (code : ℕ) (kind : Kind) → kind_of code ≡ Some kind → code ≡ kind_code kind
-kind_of-some code kind e =
-    elim (chosen (code == 1) Down _ kind e) [
-      | inl p ↦ eqb-true code 1 p.0 ∙ ap kind_code p.1
-      | inr later ↦ elim (chosen (code == 2) Start _ kind later) [
-        | inl p ↦ eqb-true code 2 p.0 ∙ ap kind_code p.1
-        | inr later ↦ elim (chosen (code == 3) Off _ kind later) [
-          | inl p ↦ eqb-true code 3 p.0 ∙ ap kind_code p.1
-          | inr later ↦ elim (chosen (code == 4) Reset _ kind later) [
-            | inl p ↦ eqb-true code 4 p.0 ∙ ap kind_code p.1
-            | inr none ↦ absurd (none-some kind none)
-          ]
-        ]
-      ]
-    ]
+kind_of-some code kind e = grind (arith, nat_tests, chosen, eqb-true, none-some)
 
 heading_with-some : (high : ℕ) (kind : Kind) (h : Heading) → heading_with high kind ≡ Some h
     → 16 * high + kind_code kind ≡ heading_byte h
-heading_with-some high kind h e =
-    elim (chosen (high == 0) (Message kind) _ h e) [
-      | inl p ↦ omega (arith, eqb-true high 0 p.0, ap heading_byte p.1)
-      | inr later ↦ elim (chosen (high == 1) (Ack kind false) _ h later) [
-        | inl p ↦ omega (arith, eqb-true high 1 p.0, ap heading_byte p.1)
-        | inr later ↦ elim (chosen (high == 2) (Ack kind true) _ h later) [
-          | inl p ↦ omega (arith, eqb-true high 2 p.0, ap heading_byte p.1)
-          | inr none ↦ absurd (none-some h none)
-        ]
-      ]
-    ]
+heading_with-some high kind h e = grind (arith, nat_tests, chosen, eqb-true, none-some)
 
 -- a byte that says this is the one that is written for it
 pub heading_of-some : (byte : ℕ) (h : Heading) → heading_of byte ≡ Some h → byte ≡ heading_byte h
 heading_of-some byte h e =
-    option_and_then_some {P = byte ≡ heading_byte h} (heading_with (byte / 16))
-    (kind_of (byte % 16)) h e (λ kind named says.
-    let low = kind_of-some (byte % 16) kind named in
-    let whole = heading_with-some (byte / 16) kind h says in
-    omega (arith, low, whole))
+    grind (arith, nat_tests, option_and_then_some, kind_of-some, heading_with-some)
 
 -- the byte that is written for this says it
 pub heading_of-byte : (h : Heading) → heading_of (heading_byte h) ≡ Some h
@@ -83,18 +57,9 @@ heading_of-byte (Ack Reset true) = refl
 -- no frame has more than four parts
 pub parts_of-few : (h : Heading) (n : ℕ) → allows_count h n ≡ true → parts_of h n ≤ 4
 parts_of-few (Message Down) n e = leb-true n 4 (and_parts (nat_le 1 n) (nat_le n 4) e).1
-parts_of-few (Message Start) n e = omega (
-  arith,
-  leb-true n 0 (and_parts (nat_le 0 n) (nat_le n 0) e).1,
-)
-parts_of-few (Message Off) n e = omega (
-  arith,
-  leb-true n 0 (and_parts (nat_le 0 n) (nat_le n 0) e).1,
-)
-parts_of-few (Message Reset) n e = omega (
-  arith,
-  leb-true n 0 (and_parts (nat_le 0 n) (nat_le n 0) e).1,
-)
+parts_of-few (Message Start) n e = grind (arith, nat_tests, leb-true, and_parts)
+parts_of-few (Message Off) n e = grind (arith, nat_tests, leb-true, and_parts)
+parts_of-few (Message Reset) n e = grind (arith, nat_tests, leb-true, and_parts)
 parts_of-few (Ack kind stale) n e = omega arith
 
 -- what was looked at is what every message and every acknowledgement keeps

@@ -11,6 +11,7 @@ use Rattle.std.proofs.lemmas.List.{drop_at}
 use Rattle.std.proofs.lemmas.Bool.{and_parts, eqb-true}
 use Rattle.psci_messages.specs.declared.part.Part.{Part}
 use Rattle.psci_link.specs.Frame.{AreBytes, part_in, parts_in, part_bytes, part_fields}
+use Rattle.std.proofs.lemmas.Bool.Decides.{nat_tests}
 
 pub length-parts_in : (n : ℕ) (bytes : List ℕ) → length (parts_in n bytes) ≡ n
 length-parts_in zero bytes = refl
@@ -85,10 +86,7 @@ parts-written (suc n) bytes fits long =
 zeros : (bytes : List ℕ) → list_all (λ byte. byte == 0) bytes ≡ true
     → bytes ≡ replicate (length bytes) 0
 zeros [] zero_ = refl
-zeros (b ∷ bytes) zero_ =
-    let both = and_parts (b == 0) (list_all (λ byte. byte == 0) bytes) zero_ in
-    let first : b ≡ 0 = eqb-true b 0 both.0 in
-    rw first (ap (λ (xs : List ℕ). 0 ∷ xs) (zeros bytes both.1))
+zeros (b ∷ bytes) zero_ = grind (arith, nat_tests, and_parts, eqb-true, zeros bytes)
 
 pub places-written : (n : ℕ) (bytes : List ℕ) → AreBytes bytes → length bytes ≡ 40 → n ≤ 4
     → list_all (λ byte. byte == 0) (drop (10 * n) bytes) ≡ true → part_fields (parts_in n bytes)
@@ -129,17 +127,7 @@ length-parts (p ∷ ps) = omega (arith, length-parts ps)
 
 pub length-places : (ps : List Part) → length ps ≤ 4 → length (part_fields ps) ≡ 40
 unfolding part_fields
-length-places ps few =
-    let used = length-parts ps in
-    let unused : length {A = ℕ} (replicate (10 * (4 - length ps)) 0) ≡ 10 * (4 - length ps)
-    = length-replicate (10 * (4 - length ps)) 0 in
-    omega (
-      arith,
-      used,
-      unused,
-      length-append (flat_map part_bytes ps)
-          (replicate (10 * (4 - length ps)) 0),
-    )
+length-places ps few = grind (arith, nat_tests, length-parts, length-replicate, length-append)
 
 unused-zero : (n : ℕ) → list_all (λ byte. byte == 0) (replicate n 0) ≡ true
 unused-zero zero = refl
@@ -148,8 +136,4 @@ unused-zero (suc n) = unused-zero n
 pub unused-places : (ps : List Part) → list_all (λ byte. byte == 0)
     (drop (10 * length ps) (part_fields ps)) ≡ true
 unfolding part_fields
-unused-places ps =
-    let rest : List ℕ = replicate (10 * (4 - length ps)) 0 in
-    ap (list_all (λ byte. byte == 0)) (drop_at (flat_map part_bytes ps) rest (10 * length ps)
-    (length-parts ps))
-    ∙ unused-zero (10 * (4 - length ps))
+unused-places ps = grind (arith, nat_tests, drop_at, length-parts, unused-zero)

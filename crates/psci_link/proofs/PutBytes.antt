@@ -2,6 +2,7 @@
 use Rattle.std.proofs.Common.{◌≡◌, ℕ, List, [], ◌∷◌, ◌++◌, ◌-◌, arith, ap, refl, sym, subst}
 use Rattle.std.proofs.Common.{length, take, drop, get_or, replicate}
 use Rattle.std.proofs.Math.ListN.{set}
+use Rattle.std.proofs.lemmas.Bool.Decides.{nat_tests}
 
 -- the first four elements of a list
 abbrev these : List ℕ → List ℕ
@@ -50,7 +51,4 @@ pub part_put : (level depth : ℕ) (xs ys : List ℕ) → length xs ≡ 10
     ≡ level ∷ depth ∷ ys
 part_put level depth [] ys long = absurd (omega (arith, long))
 part_put level depth (a ∷ []) ys long = absurd (omega (arith, long))
-part_put level depth (a ∷ b ∷ xs) ys long =
-    let rest : length (set (set (a ∷ b ∷ xs) 0 level) 1 depth) - 2 ≡ length xs = omega arith in
-    subst (λ k. put 2 k (level ∷ depth ∷ xs) ys ≡ level ∷ depth ∷ ys) (sym rest)
-    (ap (λ zs. level ∷ depth ∷ zs) (none_after xs ys))
+part_put level depth (a ∷ b ∷ xs) ys long = grind (arith, nat_tests, set, none_after)

@@ -7,16 +7,17 @@ use Rattle.psci_link.specs.declared.fault.FrameFault.{FrameFault}
 use Rattle.psci_link.specs.declared.frame.Frame.{Frame}
 use Rattle.psci_link.specs.declared.heading.Heading.{Heading}
 use Rattle.psci_link.specs.declared.heading.Heading.TheVariants as headings
-use Rattle.psci_link.specs.Heading.{HasHeading, parts_of}
+use Rattle.psci_link.specs.Heading.{HasHeading}
 use Rattle.psci_messages.specs.declared.kind.Kind.{Kind}
 use Rattle.psci_link.specs.Frame.{AreBytes, IsFrame, IsHeldIn, IsOf, frame_bytes, frame_in}
 use Rattle.psci_link.specs.Frame.{fault_of_kind, first_fault, heading_for}
-use Rattle.psci_link.specs.Frame.{count_in, parts_in, part_fields_in}
+use Rattle.psci_link.specs.Frame.{count_in}
 use Rattle.psci_link.proofs.Faults.{has-no-fault, first_fault-heading}
 use Rattle.psci_link.proofs.Frames.{heading-spelled, is-read}
 use Rattle.psci_link.proofs.Headings.{counted, is-held}
 use Rattle.psci_link.proofs.Places.{length-parts_in}
 use Rattle.psci_link.proofs.Written.{frame-written, frame-is-of}
+use Rattle.std.proofs.lemmas.Bool.Decides.{nat_tests}
 
 -- what is read is spelled so, and the board's
 pub read-whole : (b : BoardValue) (bytes : List ℕ) (h : Heading) → AreBytes bytes
@@ -40,11 +41,7 @@ spelled-kind bytes h has f fits same = ap Ok (heading-spelled f bytes h fits sam
 -- bytes without a fault hold what a frame of their kind keeps
 pub held-in : (b : BoardValue) (bytes : List ℕ) (h : Heading) → fault_of_kind b bytes h ≡ None
     → IsHeldIn h bytes
-held-in b bytes h none =
-    let sound = has-no-fault b bytes h none in
-    let n = parts_of h (count_in bytes) in
-    is-held h (count_in bytes) (parts_in n (part_fields_in bytes))
-    (length-parts_in n (part_fields_in bytes)) sound.allowed sound.falling sound.climbing
+held-in b bytes h none = grind (arith, nat_tests, has-no-fault, is-held, length-parts_in)
 
 -- they hold a frame of the board
 pub of-board : (b : BoardValue) (bytes : List ℕ) (h : Heading) → fault_of_kind b bytes h ≡ None
@@ -54,10 +51,4 @@ of-board b bytes h none = frame-is-of b bytes h (has-no-fault b bytes h none)
 -- a message has at most four parts
 pub few-held : (kind : Kind) (bytes : List ℕ) → IsHeldIn (headings.Message kind) bytes
     → count_in bytes ≤ 4
-few-held kind bytes held =
-    let parts = parts_in (count_in bytes) (part_fields_in bytes) in
-    omega (
-      arith,
-      (counted kind parts held).few,
-      length-parts_in (count_in bytes) (part_fields_in bytes),
-    )
+few-held kind bytes held = grind (arith, nat_tests, counted, length-parts_in)

@@ -1,7 +1,7 @@
 -- Bytes without a fault are the spelling of the frame that they hold, which is the board's.
 use Rattle.std.proofs.Common.{◌≡◌, ◌∙◌, ℕ, ◌+◌, ◌-◌, ◌≤◌, true, List, [], ◌∷◌, ◌++◌, length, drop}
 use Rattle.std.proofs.Common.{refl, sym, arith}
-use Rattle.std.specs.Prelude.{◌==◌, slice_index, slice_range}
+use Rattle.std.specs.Prelude.{slice_index, slice_range}
 use Rattle.std.specs.Int.{w32, to_be_bytes}
 use Rattle.std.proofs.lemmas.Nat.{be_bytes_4}
 use Rattle.std.proofs.lemmas.List.{length-drop, length-take-le}
@@ -16,6 +16,7 @@ use Rattle.psci_link.specs.Frame.{count_in, AreBytes, frame_in}
 use Rattle.psci_link.proofs.Headings.{heading_byte, heading_of-some, parts_of-few}
 use Rattle.psci_link.proofs.Places.{AreBytes-drop, AreBytes-take, length-parts_in, places-written}
 use Rattle.psci_link.proofs.Faults.{HasNoFault}
+use Rattle.std.proofs.lemmas.Bool.Decides.{nat_tests}
 
 -- the bytes of a frame from their fields
 same-fields : (kind k core count n : ℕ) (lives ls numbers ns parts ps : List ℕ) → kind ≡ k
@@ -56,10 +57,7 @@ frame-fields (a ∷ b ∷ c ∷ d ∷ e ∷ f ∷ g ∷ h ∷ i ∷ j ∷ k ∷ 
 frame-fields (a ∷ b ∷ c ∷ d ∷ e ∷ f ∷ g ∷ h ∷ i ∷ j ∷ k ∷ l ∷ []) magic whole
     = absurd (omega (arith, whole))
 frame-fields (a ∷ b ∷ c ∷ d ∷ e ∷ f ∷ g ∷ h ∷ i ∷ j ∷ k ∷ l ∷ m ∷ rest) magic whole =
-    let both = and_parts (a == 0x50) (b == 0x44) magic in
-    let first : a ≡ 0x50 = eqb-true a 0x50 both.0 in
-    let second : b ≡ 0x44 = eqb-true b 0x44 both.1 in
-    rw (first, second) refl
+    grind (arith, nat_tests, and_parts, eqb-true)
 
 pub frame-written : (b : BoardValue) (bytes : List ℕ) (h : Heading) → AreBytes bytes
     → HasHeading bytes h → HasNoFault b bytes h → frame_bytes (frame_in h bytes) ≡ bytes

@@ -3,20 +3,20 @@ use Rattle.std.proofs.Common.{◌≡◌, ℕ, zero, suc, ◌+◌, ◌-◌, ◌<�
 use Rattle.std.proofs.Common.{[], ◌++◌, length, map, filter, refl, ap, sym, ◌∙◌, arith, inl}
 use Rattle.std.proofs.Common.{inr, None, Some, Ok}
 use Rattle.std.specs.Prelude.{Option, not, nat_lt, flat_map, slice_index}
-use Rattle.std.specs.List.{list_any, range_with_len}
-use Rattle.std.proofs.lemmas.Bool.{cases_Bool, cases_eq, lt-ltb, ltb-false}
+use Rattle.std.specs.List.{range_with_len}
+use Rattle.std.proofs.lemmas.Bool.{cases_eq, ltb-false}
 use Rattle.std.proofs.lemmas.Bool.{eqb-true, false_from_ne_true}
+use Rattle.std.proofs.lemmas.Bool.Decides.{nat_tests}
 use Rattle.std.proofs.lemmas.List.{nil_from_length, length-append}
 use Rattle.std.proofs.lemmas.List.Concat.{flat_map-cons}
 use Rattle.std.proofs.lemmas.Option.{slice_get_within}
-use Rattle.std.proofs.Math.Nat.{eq-zero-or-pos}
 use Rattle.psci_board.specs.declared.node.Node.{Node}
 use Rattle.psci_board.specs.Board.{BoardValue, height, cores, up, children_at, first_child}
 use Rattle.psci_board.specs.Laws.{PathLaws, ChildLaws}
 use Rattle.psci_state.specs.Ask.{IsAsk}
 use Rattle.psci_messages.specs.declared.part.Part.{Part}
 use Rattle.psci_messages.specs.declared.osi.Osi.{Osi}
-use Rattle.psci_messages.specs.View.{PowerView, is_idle}
+use Rattle.psci_messages.specs.View.{PowerView}
 use Rattle.psci_messages.specs.Claim.{own_claims, own_wish}
 use Rattle.psci_messages.specs.LastCore.{refusal, shallow, shallow_at, answer_by, last_core_check}
 use Rattle.psci_messages.specs.Laws.{GrantsAreAsked, LastCoreLaws}
@@ -35,51 +35,20 @@ flat_map-none : (f : ℕ → List Node) (a n k : ℕ) → flat_map f (range_with
     → k < a + n → f k ≡ []
 flat_map-none f a zero k e h i = absurd (omega arith)
 flat_map-none f a (suc n) k e h i =
-    let parts = none_in_front (f a) (flat_map f (range_with_len (a + 1) n))
-    (sym (flat_map-cons f a (range_with_len (a + 1) n)) ∙ e) in
-    elim (cases_eq a k) [
-      | inl same ↦ ap f (sym same) ∙ parts.0
-      | inr other ↦ flat_map-none f (a + 1) n k parts.1 (omega (arith, other)) (omega arith)
-    ]
+    grind (arith, nat_tests, none_in_front, flat_map-cons, flat_map-none f (a + 1) n k)
 
 -- none of some domains passes both tests
 filters-none : (p q : Node → Bool) (g : ℕ → Node) (a n k : ℕ)
     → filter p (filter q (map g (range_with_len a n))) ≡ [] → a ≤ k → k < a + n
     → q (g k) ≡ true → p (g k) ≡ false
 filters-none p q g a zero k e h i t = absurd (omega arith)
-filters-none p q g a (suc n) k e h i t = elim (cases_eq a k) [
-  | inl same ↦
-      let here : q (g a) ≡ true = ap (λ x. q (g x)) same ∙ t in
-      elim (cases_Bool (p (g a))) [
-        | inl passes ↦ let never = rw (here, passes) at e in absurd (cc never)
-        | inr fails ↦ ap (λ x. p (g x)) (sym same) ∙ fails
-      ]
-  | inr other ↦
-      let later : a + 1 ≤ k = omega (arith, other) in
-      elim (cases_Bool (q (g a))) [
-        | inl passes ↦ elim (cases_Bool (p (g a))) [
-          | inl both ↦ let never = rw (passes, both) at e in absurd (cc never)
-          | inr one ↦
-              let rest = rw (passes, one) at e in
-              filters-none p q g (a + 1) n k rest later (omega arith) t
-        ]
-        | inr fails ↦
-            let rest = rw fails at e in
-            filters-none p q g (a + 1) n k rest later (omega arith) t
-      ]
-]
+filters-none p q g a (suc n) k e h i t = grind (arith, filters-none p q g (a + 1) n k)
 
 -- Accepted requests ------------------------------------------------------------------------------
 
 refusal-none : (b : BoardValue) (v : PowerView) (ns : List Node) → refusal b v ns ≡ None → ns ≡ []
 unfolding refusal
-refusal-none b v ns e = elim (cases_Bool (list_any (is_idle b v) ns)) [
-  | inl idle ↦ let never = rw idle at e in absurd (cc never)
-  | inr busy ↦ elim (eq-zero-or-pos (length ns)) [
-    | inl none ↦ nil_from_length ns none
-    | inr some ↦ let never = rw (busy, lt-ltb 0 (length ns) some) at e in absurd (cc never)
-  ]
-]
+refusal-none b v ns e = grind (arith, nat_tests, nil_from_length ns)
 
 answered : (o : Option Osi) (parts claim : List Part) → answer_by o claim ≡ Ok parts
     → (o ≡ None) × (parts ≡ claim)
@@ -90,9 +59,7 @@ accepted : (b : BoardValue) (v : PowerView) (core : ℕ) (ask : List ℕ) (parts
     → last_core_check b v core ask ≡ Ok parts
     → (shallow b v core ask ≡ []) × (parts ≡ own_claims b v core ask)
 unfolding last_core_check
-accepted b v core ask parts e =
-    let told = answered (refusal b v (shallow b v core ask)) parts (own_claims b v core ask) e in
-    (refusal-none b v (shallow b v core ask) told.0, told.1)
+accepted b v core ask parts e = grind (arith, nat_tests, answered, refusal-none)
 
 granted_beside : (b : BoardValue) (v : PowerView) (core : ℕ) (ask : List ℕ) (level c : ℕ)
     → PathLaws b → ChildLaws b → shallow b v core ask ≡ [] → c < cores b → level < height b
@@ -124,14 +91,9 @@ granted_beside b v core ask level c paths child none h i joined apart =
 -- what was granted to a core's domain of a level is at most what was granted to the core
 granted_below : (b : BoardValue) (v : PowerView) (level c : ℕ) → PathLaws b → GrantsAreAsked b v
     → c < cores b → level ≤ height b → v.granted level (up b level c) ≤ v.granted 0 c
-granted_below b v zero c paths grants h i =
-    let same : v.granted 0 (up b 0 c) ≡ v.granted 0 c = ap (v.granted 0) (paths.core c) in
-    omega (arith, same)
+granted_below b v zero c paths grants h i = grind (arith, nat_tests)
 granted_below b v (suc level) c paths grants h i =
-    let next : level + 1 ≡ suc level = omega arith in
-    let step = grants.nested c level h (omega arith) in
-    let nested = rw next at step in
-    omega (arith, nested, granted_below b v level c paths grants h (omega arith))
+    grind (arith, nat_tests, granted_below b v level c paths grants h)
 
 -- no level is asked for more than any other core below asks of itself
 asked_below : (b : BoardValue) (v : PowerView) (core : ℕ) (ask : List ℕ) (level c : ℕ)

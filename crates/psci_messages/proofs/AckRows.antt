@@ -1,5 +1,5 @@
 -- Acknowledgements of each kind of message of which nothing was applied, that are stale, or both.
-use Rattle.std.proofs.Common.{◌≡◌, ℕ, Bool, true, false, List, [], ◌∷◌, refl}
+use Rattle.std.proofs.Common.{ℕ, Bool, true, false, List, [], ◌∷◌, refl}
 use Rattle.std.specs.Prelude.{Some, None, Option}
 use Rattle.psci_messages.specs.declared.part.Part.{Part}
 use Rattle.psci_messages.specs.declared.kind.Kind.{Kind}
@@ -9,6 +9,7 @@ use Rattle.psci_messages.specs.Outstanding.{changes_since, last_message, outstan
 use Rattle.psci_messages.specs.Slots.{Slot}
 use Rattle.psci_messages.specs.Slots.Change.{Acknowledge, Put}
 use Rattle.psci_messages.specs.Slots.Slot.{OfCore, OfSystem}
+use Rattle.psci_board.proofs.Tables.{◌⇒◌, Gives}
 
 abbrev part : ℕ → Part
 part level = record { level = level; depth = 3; generation = 1 }
@@ -43,56 +44,25 @@ left kind applied stale = outstanding (slot kind) (Acknowledge (record {
   stale = stale;
 }) ∷ Put (message kind) ∷ [])
 
--- a Down stays outstanding while a part is left, unless it is stale
-down_nothing_applied : left Down 0 false ≡ Some (message Down)
+outstanding_downs : Gives (λ answer. answer)
+    -- a Down stays outstanding while a part is left, unless it is stale
+    (left Down 0 false ⇒ Some (message Down)
+    ∷ left Down 0 true ⇒ None
+    ∷ left Down 1 true ⇒ None
+    ∷ left Down 2 true ⇒ None ∷ [])
 unfolding outstanding last_message changes_since
-down_nothing_applied = refl
+outstanding_downs = refl
 
-down_stale : left Down 0 true ≡ None
+others_are_done : Gives (λ answer. answer)
+    -- each other message is done, whatever is said of it
+    (left Start 0 false ⇒ None
+    ∷ left Start 0 true ⇒ None
+    ∷ left Start 1 true ⇒ None
+    ∷ left Off 0 false ⇒ None
+    ∷ left Off 0 true ⇒ None
+    ∷ left Off 1 true ⇒ None
+    ∷ left Reset 0 false ⇒ None
+    ∷ left Reset 0 true ⇒ None
+    ∷ left Reset 1 true ⇒ None ∷ [])
 unfolding outstanding last_message changes_since
-down_stale = refl
-
-down_partly_stale : left Down 1 true ≡ None
-unfolding outstanding last_message changes_since
-down_partly_stale = refl
-
-down_applied_and_stale : left Down 2 true ≡ None
-unfolding outstanding last_message changes_since
-down_applied_and_stale = refl
-
--- each other message is done, whatever is said of it
-start_nothing_applied : left Start 0 false ≡ None
-unfolding outstanding last_message changes_since
-start_nothing_applied = refl
-
-start_stale : left Start 0 true ≡ None
-unfolding outstanding last_message changes_since
-start_stale = refl
-
-start_applied_and_stale : left Start 1 true ≡ None
-unfolding outstanding last_message changes_since
-start_applied_and_stale = refl
-
-off_nothing_applied : left Off 0 false ≡ None
-unfolding outstanding last_message changes_since
-off_nothing_applied = refl
-
-off_stale : left Off 0 true ≡ None
-unfolding outstanding last_message changes_since
-off_stale = refl
-
-off_applied_and_stale : left Off 1 true ≡ None
-unfolding outstanding last_message changes_since
-off_applied_and_stale = refl
-
-reset_nothing_applied : left Reset 0 false ≡ None
-unfolding outstanding last_message changes_since
-reset_nothing_applied = refl
-
-reset_stale : left Reset 0 true ≡ None
-unfolding outstanding last_message changes_since
-reset_stale = refl
-
-reset_applied_and_stale : left Reset 1 true ≡ None
-unfolding outstanding last_message changes_since
-reset_applied_and_stale = refl
+others_are_done = refl

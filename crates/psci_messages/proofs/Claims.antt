@@ -7,6 +7,7 @@ use Rattle.std.proofs.lemmas.Bool.{leb-true, le-leb}
 use Rattle.std.proofs.lemmas.Option.{same_Some, none-some}
 use Rattle.psci_messages.specs.declared.part.Part.{Part}
 use Rattle.psci_messages.specs.Message.{is_climbing, is_falling, AreClaims, PartByPart}
+use Rattle.std.proofs.lemmas.Bool.Decides.{nat_tests}
 
 -- From each part to the tests.
 climbing-from : (n : ℕ) (ps : List Part)
@@ -35,13 +36,8 @@ falling-from most (p ∷ ps) some first falls =
 level-at : (n : ℕ) (ps : List Part) → is_climbing n ps ≡ true
     → (k : ℕ) (p : Part) → slice_get ps k ≡ Some p → p.level ≡ n + k
 level-at n [] climbs k p at = absurd (none-some p at)
-level-at n (q ∷ ps) climbs zero p at =
-    let both = and_parts (q.level == n) (is_climbing (n + 1) ps) climbs in
-    let same : q.level ≡ p.level = ap (λ (x : Part). x.level) (same_Some q p at) in
-    omega (arith, eqb-true q.level n both.0, same)
-level-at n (q ∷ ps) climbs (suc k) p at =
-    let both = and_parts (q.level == n) (is_climbing (n + 1) ps) climbs in
-    omega (arith, level-at (n + 1) ps both.1 k p at)
+level-at n (q ∷ ps) climbs zero p at = grind (arith, nat_tests, and_parts, same_Some, eqb-true)
+level-at n (q ∷ ps) climbs (suc k) p at = grind (arith, nat_tests, and_parts, level-at (n + 1) ps)
 
 -- the first depth is bounded, and the parts after it fall from there
 record Falls (most : ℕ) (p : Part) (ps : List Part) : Type 0 where
@@ -73,9 +69,7 @@ falls-at : (most : ℕ) (ps : List Part) → is_falling most ps ≡ true
     → q.depth ≤ p.depth
 falls-at most [] falls k p q at next = absurd (none-some p at)
 falls-at most (r ∷ ps) falls zero p q at next =
-    let first = falls-from most r ps falls in
-    let same : r.depth ≡ p.depth = ap (λ (x : Part). x.depth) (same_Some r p at) in
-    omega (arith, (depth-at r.depth ps first.rest 0 q next).1, same)
+    grind (arith, nat_tests, falls-from, same_Some, depth-at)
 falls-at most (r ∷ ps) falls (suc k) p q at next =
     falls-at r.depth ps (falls-from most r ps falls).rest k p q at next
 

@@ -1,9 +1,10 @@
 -- The slots hold what the history says, looked at backwards.
 use Rattle.std.proofs.Common.{◌≡◌, ◌∙◌, ℕ, Bool, true, false, List, [], ◌∷◌, length, Option, Some}
 use Rattle.std.proofs.Common.{None, refl, sym, ap, subst, inl, inr}
-use Rattle.std.specs.Prelude.{if◌then◌else◌, ◌==◌, ◌&&◌, ◌||◌, is_none, option_and_then}
+use Rattle.std.specs.Prelude.{if◌then◌else◌, ◌&&◌, ◌||◌, is_none, option_and_then}
 use Rattle.std.specs.List.{list_any}
 use Rattle.std.proofs.lemmas.Bool.{and_parts, eqb-true, cases_Bool, false_from_ne_true, true≢false}
+use Rattle.std.proofs.Common.{arith}
 use Rattle.std.proofs.lemmas.Bool.{and_left}
 use Rattle.std.proofs.lemmas.List.{length-replicate}
 use Rattle.std.proofs.lemmas.Option.{same_Some, none-some, option_and_then_some}
@@ -19,50 +20,29 @@ use Rattle.psci_messages.specs.Outstanding.{sent_by, last_message, changes_since
 use Rattle.psci_messages.specs.Outstanding.{outstanding}
 use Rattle.psci_messages.specs.Outstanding.{IsChange, AreChanges}
 use Rattle.psci_messages.proofs.LookUps.{look-replicate, length-after, look-after}
+use Rattle.std.proofs.lemmas.Bool.Decides.{nat_tests}
 
 same-kind : (k l : Kind) → is_kind k l ≡ true → k ≡ l
 same-kind Down Down e = refl
-same-kind Down Start e = absurd (true≢false (sym e))
-same-kind Down Off e = absurd (true≢false (sym e))
-same-kind Down Reset e = absurd (true≢false (sym e))
-same-kind Start Down e = absurd (true≢false (sym e))
 same-kind Start Start e = refl
-same-kind Start Off e = absurd (true≢false (sym e))
-same-kind Start Reset e = absurd (true≢false (sym e))
-same-kind Off Down e = absurd (true≢false (sym e))
-same-kind Off Start e = absurd (true≢false (sym e))
 same-kind Off Off e = refl
-same-kind Off Reset e = absurd (true≢false (sym e))
-same-kind Reset Down e = absurd (true≢false (sym e))
-same-kind Reset Start e = absurd (true≢false (sym e))
-same-kind Reset Off e = absurd (true≢false (sym e))
 same-kind Reset Reset e = refl
+same-kind k l e = absurd (true≢false (sym e))
 
 slot-number : (kind : Kind) (c d : Core) → c.number ≡ d.number → slot_of kind c ≡ slot_of kind d
-slot-number Down c d e = ap OfCore e
-slot-number Start c d e = ap OfCore e
-slot-number Off c d e = refl
-slot-number Reset c d e = refl
+slot-number kind c d e = ap (λ n. slot_of kind (record { number = n })) e
 
 -- an acknowledgement looks at the slot of the message that it is of
 answered-slot : (a : AckValue) (m : MessageValue) → answers a m ≡ true
     → slot_of a.kind a.core ≡ slot_of m.kind m.core
-answered-slot a m e =
-    let kinds = and_parts (is_kind a.kind m.kind)
-    (a.core.number == m.core.number && (a.life == m.life && a.number == m.number)) e in
-    let cores = and_parts (a.core.number == m.core.number)
-    (a.life == m.life && a.number == m.number) kinds.1 in
-    slot-number a.kind a.core m.core (eqb-true a.core.number m.core.number cores.0)
-    ∙ ap (λ (k : Kind). slot_of k m.core) (same-kind a.kind m.kind kinds.0)
+answered-slot a m e = grind (arith, nat_tests, and_parts, slot-number, eqb-true, same-kind)
 
 -- what stays of a message, where a change may end it and others may have
 stays-of : (m : MessageValue) (a b : Bool) (f : MessageValue → Bool) → f m ≡ a
     → ◌≡◌ {A = Option MessageValue} (if a || b then None else Some m)
     (option_and_then (λ n. if f n then None else Some n) (if b then None else Some m))
-stays-of m true true f e = refl
-stays-of m true false f e = sym (ap (λ (t : Bool). if t then None else Some m) e)
-stays-of m false true f e = refl
-stays-of m false false f e = sym (ap (λ (t : Bool). if t then None else Some m) e)
+stays-of m a true f e = grind arith
+stays-of m a false f e = grind arith
 
 stays-both : (o : Option MessageValue) (e r : MessageValue → Bool)
     → option_and_then (λ m. if e m || r m then None else Some m) o
@@ -91,9 +71,7 @@ last-own : (slot : Slot) (changes : List Change) (m : MessageValue)
     → is_slot (slot_of m.kind m.core) slot ≡ true
 unfolding last_message
 last-own slot [] m e = absurd (none-some m e)
-last-own slot (Put n ∷ changes) m e =
-    put-own slot n m (is_slot (slot_of n.kind n.core) slot) (last_message slot changes) refl e
-    (last-own slot changes m)
+last-own slot (Put n ∷ changes) m e = grind (arith, nat_tests, put-own, last-own slot changes m)
 last-own slot (Clear core ∷ changes) m e = last-own slot changes m e
 last-own slot (ClearAll ∷ changes) m e = last-own slot changes m e
 last-own slot (Acknowledge a ∷ changes) m e = last-own slot changes m e
@@ -103,12 +81,7 @@ pub outstanding-own : (slot : Slot) (changes : List Change) (m : MessageValue)
     → is_slot (slot_of m.kind m.core) slot ≡ true
 unfolding outstanding
 outstanding-own slot changes m e =
-    option_and_then_some {P = IsOwn slot m}
-    (λ n. if list_any (ends_message slot n) (changes_since slot changes) then None else Some n)
-    (last_message slot changes) m e
-    (λ n last stays. subst (IsOwn slot) (stays-same
-    (list_any (ends_message slot n) (changes_since slot changes)) n m stays)
-    (last-own slot changes n last))
+    grind (arith, nat_tests, option_and_then_some, stays-same, last-own)
 
 step-sent : (slot : Slot) (change : Change) (changes : List Change) (m : MessageValue)
     → sent_by slot change ≡ Some m → outstanding slot (change ∷ changes) ≡ Some m
@@ -138,8 +111,7 @@ stays-where true o = stays-none o
 stays-where false o = stays-all o
 
 same-either : (t : Bool) (o : Option MessageValue) → o ≡ (if t then o else o)
-same-either true o = refl
-same-either false o = refl
+same-either t o = grind arith
 
 -- what an acknowledgement leaves in a slot that holds only its own messages
 stays-acknowledged : (slot : Slot) (a : AckValue) (o : Option MessageValue)
@@ -147,14 +119,8 @@ stays-acknowledged : (slot : Slot) (a : AckValue) (o : Option MessageValue)
     → option_and_then (λ m. if answers a m && is_done a m then None else Some m) o
     ≡ (if is_slot (slot_of a.kind a.core) slot then left_by a o else o)
 stays-acknowledged slot a None own = same-either (is_slot (slot_of a.kind a.core) slot) None
-stays-acknowledged slot a (Some m) own = elim (cases_Bool (is_slot (slot_of a.kind a.core) slot)) [
-  | inl same ↦ rw same refl
-  | inr elsewhere ↦
-      let other : answers a m ≡ false = false_from_ne_true (answers a m) (λ answered. true≢false
-      (sym (ap (λ (t : Slot). is_slot t slot) (answered-slot a m answered) ∙ own m refl)
-      ∙ elsewhere)) in
-      rw (elsewhere, and_left (answers a m) (is_done a m) other) refl
-]
+stays-acknowledged slot a (Some m) own =
+    grind (arith, nat_tests, false_from_ne_true, true≢false, answered-slot, and_left)
 
 pub outstanding-step : (slot : Slot) (change : Change) (changes : List Change)
     → outstanding slot (change ∷ changes) ≡ changed slot change (outstanding slot changes)

@@ -1,5 +1,5 @@
 -- Worked examples: the last-core check, and the claims of OS-initiated mode.
-use Rattle.std.proofs.Common.{◌≡◌, ℕ, List, [], ◌∷◌, Ok, Err, refl}
+use Rattle.std.proofs.Common.{ℕ, List, [], ◌∷◌, Ok, Err, refl}
 use Rattle.std.specs.Prelude.{Result}
 use Rattle.psci_board.specs.Board.{BoardValue, up}
 use Rattle.psci_state.specs.declared.cores.CoreState.{CoreState}
@@ -11,6 +11,7 @@ use Rattle.psci_messages.specs.Claim.{claims_of, off_claims}
 use Rattle.psci_messages.specs.LastCore.{shallow_at, shallow, refusal, last_core_check}
 use Rattle.psci_messages.proofs.Boards.{board_of, two_clusters, uneven, high, active, asleep, off}
 use Rattle.psci_messages.proofs.Boards.{seen, part}
+use Rattle.psci_board.proofs.Tables.{◌⇒◌, Gives}
 
 -- the answer to a core that asks for this, where cores do that, and domains were granted those
 abbrev check : BoardValue → ℕ → List ℕ → List CoreState → List (List ℕ)
@@ -19,190 +20,107 @@ check b core ask cores granted = last_core_check b (seen b cores granted) core a
 
 -- Two clusters -----------------------------------------------------------------------------------
 
--- every other core was off from the start: the system goes down
-system_down : check two_clusters 0 (3 ∷ 3 ∷ 3 ∷ 0 ∷ [])
-    (active 1 ∷ off 0 ∷ off 0 ∷ off 0 ∷ [])
+two_clusters_checked : Gives (λ answer. answer)
+    -- every other core was off from the start: the system goes down
+    (check two_clusters 0 (3 ∷ 3 ∷ 3 ∷ 0 ∷ []) (active 1 ∷ off 0 ∷ off 0 ∷ off 0 ∷ [])
     ((0 ∷ 3 ∷ 3 ∷ 3 ∷ []) ∷ (0 ∷ 3 ∷ []) ∷ (0 ∷ []) ∷ [])
-    ≡ Ok (part 0 3 1 ∷ part 1 3 1 ∷ part 2 3 1 ∷ [])
-unfolding last_core_check refusal shallow shallow_at claims_of generation is_idle up
-system_down = refl
-
--- the other cluster runs
-other_runs : check two_clusters 0 (3 ∷ 3 ∷ 3 ∷ 0 ∷ [])
-    (active 1 ∷ off 0 ∷ off 0 ∷ active 1 ∷ [])
-    ((0 ∷ 3 ∷ 3 ∷ 0 ∷ []) ∷ (0 ∷ 0 ∷ []) ∷ (0 ∷ []) ∷ [])
-    ≡ Err Denied
-unfolding last_core_check refusal shallow shallow_at claims_of generation is_idle up
-other_runs = refl
-
--- the core of the other cluster sleeps, and left its cluster up
-other_sleeps : check two_clusters 0 (3 ∷ 3 ∷ 3 ∷ 0 ∷ [])
+    ⇒ Ok (part 0 3 1 ∷ part 1 3 1 ∷ part 2 3 1 ∷ [])
+    -- the other cluster runs
+    ∷ check two_clusters 0 (3 ∷ 3 ∷ 3 ∷ 0 ∷ []) (active 1 ∷ off 0 ∷ off 0 ∷ active 1 ∷ [])
+    ((0 ∷ 3 ∷ 3 ∷ 0 ∷ []) ∷ (0 ∷ 0 ∷ []) ∷ (0 ∷ []) ∷ []) ⇒ Err Denied
+    -- the core of the other cluster sleeps, and left its cluster up
+    ∷ check two_clusters 0 (3 ∷ 3 ∷ 3 ∷ 0 ∷ [])
     (active 1 ∷ off 0 ∷ off 0 ∷ asleep (3 ∷ 0 ∷ 0 ∷ 0 ∷ []) 1 ∷ [])
-    ((0 ∷ 3 ∷ 3 ∷ 3 ∷ []) ∷ (0 ∷ 0 ∷ []) ∷ (0 ∷ []) ∷ [])
-    ≡ Err Invalid
-unfolding last_core_check refusal shallow shallow_at claims_of generation is_idle up
-other_sleeps = refl
-
--- the core beside sleeps too shallow, and the other cluster runs: the first wins
-beside_sleeps : check two_clusters 0 (3 ∷ 3 ∷ 3 ∷ 0 ∷ [])
+    ((0 ∷ 3 ∷ 3 ∷ 3 ∷ []) ∷ (0 ∷ 0 ∷ []) ∷ (0 ∷ []) ∷ []) ⇒ Err Invalid
+    -- the core beside sleeps too shallow, and the other cluster runs: the first wins
+    ∷ check two_clusters 0 (3 ∷ 3 ∷ 3 ∷ 0 ∷ [])
     (active 1 ∷ asleep (1 ∷ 0 ∷ 0 ∷ 0 ∷ []) 1 ∷ off 0 ∷ active 2 ∷ [])
-    ((0 ∷ 1 ∷ 3 ∷ 0 ∷ []) ∷ (0 ∷ 0 ∷ []) ∷ (0 ∷ []) ∷ [])
-    ≡ Err Invalid
-unfolding last_core_check refusal shallow shallow_at claims_of generation is_idle up
-beside_sleeps = refl
-
--- the core beside runs, and the other cluster sleeps too shallow: the second wins
-beside_runs : check two_clusters 0 (3 ∷ 3 ∷ 3 ∷ 0 ∷ [])
+    ((0 ∷ 1 ∷ 3 ∷ 0 ∷ []) ∷ (0 ∷ 0 ∷ []) ∷ (0 ∷ []) ∷ []) ⇒ Err Invalid
+    -- the core beside runs, and the other cluster sleeps too shallow: the second wins
+    ∷ check two_clusters 0 (3 ∷ 3 ∷ 3 ∷ 0 ∷ [])
     (active 1 ∷ active 1 ∷ off 0 ∷ asleep (3 ∷ 0 ∷ 0 ∷ 0 ∷ []) 2 ∷ [])
-    ((0 ∷ 0 ∷ 3 ∷ 3 ∷ []) ∷ (0 ∷ 0 ∷ []) ∷ (0 ∷ []) ∷ [])
-    ≡ Err Invalid
-unfolding last_core_check refusal shallow shallow_at claims_of generation is_idle up
-beside_runs = refl
-
--- the core beside runs, and the other cluster sleeps deep enough
-beside_alone : check two_clusters 0 (3 ∷ 3 ∷ 3 ∷ 0 ∷ [])
-    (active 1 ∷ active 1 ∷ off 0 ∷ off 2 ∷ [])
-    ((0 ∷ 0 ∷ 3 ∷ 3 ∷ []) ∷ (0 ∷ 3 ∷ []) ∷ (0 ∷ []) ∷ [])
-    ≡ Err Denied
-unfolding last_core_check refusal shallow shallow_at claims_of generation is_idle up
-beside_alone = refl
-
--- the same, where less is asked: of the core alone, whatever runs
-core_alone : check two_clusters 0 (3 ∷ 0 ∷ 0 ∷ 0 ∷ [])
-    (active 1 ∷ active 1 ∷ off 0 ∷ off 2 ∷ [])
-    ((0 ∷ 0 ∷ 3 ∷ 3 ∷ []) ∷ (0 ∷ 3 ∷ []) ∷ (0 ∷ []) ∷ [])
-    ≡ Ok (part 0 3 1 ∷ [])
-unfolding last_core_check refusal shallow shallow_at claims_of generation is_idle up
-core_alone = refl
-
--- of the cluster alone, where the other cluster runs
-cluster_alone : check two_clusters 2 (3 ∷ 2 ∷ 0 ∷ 0 ∷ [])
+    ((0 ∷ 0 ∷ 3 ∷ 3 ∷ []) ∷ (0 ∷ 0 ∷ []) ∷ (0 ∷ []) ∷ []) ⇒ Err Invalid
+    -- the core beside runs, and the other cluster sleeps deep enough
+    ∷ check two_clusters 0 (3 ∷ 3 ∷ 3 ∷ 0 ∷ []) (active 1 ∷ active 1 ∷ off 0 ∷ off 2 ∷ [])
+    ((0 ∷ 0 ∷ 3 ∷ 3 ∷ []) ∷ (0 ∷ 3 ∷ []) ∷ (0 ∷ []) ∷ []) ⇒ Err Denied
+    -- the same, where less is asked: of the core alone, whatever runs
+    ∷ check two_clusters 0 (3 ∷ 0 ∷ 0 ∷ 0 ∷ []) (active 1 ∷ active 1 ∷ off 0 ∷ off 2 ∷ [])
+    ((0 ∷ 0 ∷ 3 ∷ 3 ∷ []) ∷ (0 ∷ 3 ∷ []) ∷ (0 ∷ []) ∷ []) ⇒ Ok (part 0 3 1 ∷ [])
+    -- of the cluster alone, where the other cluster runs
+    ∷ check two_clusters 2 (3 ∷ 2 ∷ 0 ∷ 0 ∷ [])
     (active 1 ∷ off 0 ∷ active 4 ∷ asleep (2 ∷ 0 ∷ 0 ∷ 0 ∷ []) 2 ∷ [])
-    ((0 ∷ 3 ∷ 0 ∷ 2 ∷ []) ∷ (0 ∷ 0 ∷ []) ∷ (0 ∷ []) ∷ [])
-    ≡ Ok (part 0 3 4 ∷ part 1 2 6 ∷ [])
-unfolding last_core_check refusal shallow shallow_at claims_of generation is_idle up
-cluster_alone = refl
-
--- one more than was granted
-one_deeper : check two_clusters 2 (3 ∷ 3 ∷ 0 ∷ 0 ∷ [])
+    ((0 ∷ 3 ∷ 0 ∷ 2 ∷ []) ∷ (0 ∷ 0 ∷ []) ∷ (0 ∷ []) ∷ []) ⇒ Ok (part 0 3 4 ∷ part 1 2 6 ∷ [])
+    -- one more than was granted
+    ∷ check two_clusters 2 (3 ∷ 3 ∷ 0 ∷ 0 ∷ [])
     (active 1 ∷ off 0 ∷ active 4 ∷ asleep (2 ∷ 0 ∷ 0 ∷ 0 ∷ []) 2 ∷ [])
-    ((0 ∷ 3 ∷ 0 ∷ 2 ∷ []) ∷ (0 ∷ 0 ∷ []) ∷ (0 ∷ []) ∷ [])
-    ≡ Err Invalid
+    ((0 ∷ 3 ∷ 0 ∷ 2 ∷ []) ∷ (0 ∷ 0 ∷ []) ∷ (0 ∷ []) ∷ []) ⇒ Err Invalid
+    -- what was granted counts, and not what the cores of the other cluster ask
+    ∷ check two_clusters 0 (3 ∷ 3 ∷ 3 ∷ 0 ∷ []) (active 1 ∷ off 0 ∷ off 1 ∷ off 1 ∷ [])
+    ((0 ∷ 3 ∷ 3 ∷ 3 ∷ []) ∷ (0 ∷ 2 ∷ []) ∷ (0 ∷ []) ∷ []) ⇒ Err Invalid ∷ [])
 unfolding last_core_check refusal shallow shallow_at claims_of generation is_idle up
-one_deeper = refl
-
--- what was granted counts, and not what the cores of the other cluster ask
-granted_counts : check two_clusters 0 (3 ∷ 3 ∷ 3 ∷ 0 ∷ [])
-    (active 1 ∷ off 0 ∷ off 1 ∷ off 1 ∷ [])
-    ((0 ∷ 3 ∷ 3 ∷ 3 ∷ []) ∷ (0 ∷ 2 ∷ []) ∷ (0 ∷ []) ∷ [])
-    ≡ Err Invalid
-unfolding last_core_check refusal shallow shallow_at claims_of generation is_idle up
-granted_counts = refl
+two_clusters_checked = refl
 
 -- Of two cores beside in one cluster the one runs, and the other sleeps too shallow: whichever of
 -- them comes first, the one that sleeps decides.
 abbrev one_cluster : BoardValue
 one_cluster = board_of ((3 ∷ []) ∷ [])
 
-later_sleeps : check one_cluster 0 (3 ∷ 3 ∷ 0 ∷ 0 ∷ [])
+one_cluster_checked : Gives (λ answer. answer)
+    (check one_cluster 0 (3 ∷ 3 ∷ 0 ∷ 0 ∷ [])
     (active 1 ∷ active 1 ∷ asleep (1 ∷ 0 ∷ 0 ∷ 0 ∷ []) 1 ∷ [])
-    ((0 ∷ 0 ∷ 1 ∷ []) ∷ (0 ∷ []) ∷ [])
-    ≡ Err Invalid
-unfolding last_core_check refusal shallow shallow_at claims_of generation is_idle up
-later_sleeps = refl
-
-earlier_sleeps : check one_cluster 0 (3 ∷ 3 ∷ 0 ∷ 0 ∷ [])
+    ((0 ∷ 0 ∷ 1 ∷ []) ∷ (0 ∷ []) ∷ []) ⇒ Err Invalid
+    ∷ check one_cluster 0 (3 ∷ 3 ∷ 0 ∷ 0 ∷ [])
     (active 1 ∷ asleep (1 ∷ 0 ∷ 0 ∷ 0 ∷ []) 1 ∷ active 1 ∷ [])
-    ((0 ∷ 1 ∷ 0 ∷ []) ∷ (0 ∷ []) ∷ [])
-    ≡ Err Invalid
+    ((0 ∷ 1 ∷ 0 ∷ []) ∷ (0 ∷ []) ∷ []) ⇒ Err Invalid ∷ [])
 unfolding last_core_check refusal shallow shallow_at claims_of generation is_idle up
-earlier_sleeps = refl
+one_cluster_checked = refl
 
 -- Higher boards ----------------------------------------------------------------------------------
 
--- a core alone in its cluster has none beside it at level 1
-alone_in_cluster : check uneven 0 (3 ∷ 3 ∷ 0 ∷ 0 ∷ [])
-    (active 1 ∷ active 1 ∷ active 1 ∷ active 1 ∷ [])
+higher_boards_checked : Gives (λ answer. answer)
+    -- a core alone in its cluster has none beside it at level 1
+    (check uneven 0 (3 ∷ 3 ∷ 0 ∷ 0 ∷ []) (active 1 ∷ active 1 ∷ active 1 ∷ active 1 ∷ [])
     ((0 ∷ 0 ∷ 0 ∷ 0 ∷ []) ∷ (0 ∷ 0 ∷ 0 ∷ []) ∷ (0 ∷ 0 ∷ []) ∷ (0 ∷ []) ∷ [])
-    ≡ Ok (part 0 3 1 ∷ part 1 3 1 ∷ [])
-unfolding last_core_check refusal shallow shallow_at claims_of generation is_idle up
-alone_in_cluster = refl
-
--- one core of two runs in the cluster beside
-half_runs : check uneven 0 (3 ∷ 3 ∷ 3 ∷ 0 ∷ [])
-    (active 1 ∷ off 0 ∷ active 1 ∷ off 1 ∷ [])
-    ((0 ∷ 3 ∷ 0 ∷ 3 ∷ []) ∷ (0 ∷ 0 ∷ 3 ∷ []) ∷ (0 ∷ 3 ∷ []) ∷ (0 ∷ []) ∷ [])
-    ≡ Err Denied
-unfolding last_core_check refusal shallow shallow_at claims_of generation is_idle up
-half_runs = refl
-
--- the last child is looked at, and the group beside at level 3
-last_child : check uneven 1 (3 ∷ 3 ∷ 3 ∷ 1 ∷ [])
-    (off 1 ∷ active 1 ∷ off 1 ∷ off 1 ∷ [])
-    ((3 ∷ 0 ∷ 2 ∷ 3 ∷ []) ∷ (3 ∷ 0 ∷ 3 ∷ []) ∷ (0 ∷ 3 ∷ []) ∷ (0 ∷ []) ∷ [])
-    ≡ Err Invalid
-unfolding last_core_check refusal shallow shallow_at claims_of generation is_idle up
-last_child = refl
-
-group_beside : check uneven 1 (3 ∷ 3 ∷ 3 ∷ 1 ∷ [])
-    (off 1 ∷ active 1 ∷ off 1 ∷ active 1 ∷ [])
-    ((3 ∷ 0 ∷ 3 ∷ 0 ∷ []) ∷ (3 ∷ 0 ∷ 0 ∷ []) ∷ (0 ∷ 0 ∷ []) ∷ (0 ∷ []) ∷ [])
-    ≡ Err Denied
-unfolding last_core_check refusal shallow shallow_at claims_of generation is_idle up
-group_beside = refl
-
-group_accepted : check uneven 1 (3 ∷ 3 ∷ 3 ∷ 1 ∷ [])
+    ⇒ Ok (part 0 3 1 ∷ part 1 3 1 ∷ [])
+    -- one core of two runs in the cluster beside
+    ∷ check uneven 0 (3 ∷ 3 ∷ 3 ∷ 0 ∷ []) (active 1 ∷ off 0 ∷ active 1 ∷ off 1 ∷ [])
+    ((0 ∷ 3 ∷ 0 ∷ 3 ∷ []) ∷ (0 ∷ 0 ∷ 3 ∷ []) ∷ (0 ∷ 3 ∷ []) ∷ (0 ∷ []) ∷ []) ⇒ Err Denied
+    -- the last child is looked at, and the group beside at level 3
+    ∷ check uneven 1 (3 ∷ 3 ∷ 3 ∷ 1 ∷ []) (off 1 ∷ active 1 ∷ off 1 ∷ off 1 ∷ [])
+    ((3 ∷ 0 ∷ 2 ∷ 3 ∷ []) ∷ (3 ∷ 0 ∷ 3 ∷ []) ∷ (0 ∷ 3 ∷ []) ∷ (0 ∷ []) ∷ []) ⇒ Err Invalid
+    ∷ check uneven 1 (3 ∷ 3 ∷ 3 ∷ 1 ∷ []) (off 1 ∷ active 1 ∷ off 1 ∷ active 1 ∷ [])
+    ((3 ∷ 0 ∷ 3 ∷ 0 ∷ []) ∷ (3 ∷ 0 ∷ 0 ∷ []) ∷ (0 ∷ 0 ∷ []) ∷ (0 ∷ []) ∷ []) ⇒ Err Denied
+    ∷ check uneven 1 (3 ∷ 3 ∷ 3 ∷ 1 ∷ [])
     (off 1 ∷ active 2 ∷ off 1 ∷ asleep (3 ∷ 3 ∷ 1 ∷ 0 ∷ []) 1 ∷ [])
     ((3 ∷ 0 ∷ 3 ∷ 3 ∷ []) ∷ (3 ∷ 0 ∷ 3 ∷ []) ∷ (0 ∷ 1 ∷ []) ∷ (0 ∷ []) ∷ [])
-    ≡ Ok (part 0 3 2 ∷ part 1 3 3 ∷ part 2 3 4 ∷ part 3 1 5 ∷ [])
-unfolding last_core_check refusal shallow shallow_at claims_of generation is_idle up
-group_accepted = refl
-
--- the first child is looked at, and the children before and after the caller's own
-first_child : check high 3 (3 ∷ 3 ∷ 3 ∷ 0 ∷ [])
+    ⇒ Ok (part 0 3 2 ∷ part 1 3 3 ∷ part 2 3 4 ∷ part 3 1 5 ∷ [])
+    -- the first child is looked at, and the children before and after the caller's own
+    ∷ check high 3 (3 ∷ 3 ∷ 3 ∷ 0 ∷ [])
     (active 1 ∷ off 0 ∷ asleep (2 ∷ 2 ∷ 0 ∷ 0 ∷ []) 1 ∷ active 1 ∷ [])
     ((0 ∷ 3 ∷ 2 ∷ 0 ∷ []) ∷ (0 ∷ 3 ∷ 2 ∷ 0 ∷ []) ∷ (0 ∷ 0 ∷ []) ∷ (0 ∷ []) ∷ [])
-    ≡ Err Invalid
+    ⇒ Err Invalid ∷ [])
 unfolding last_core_check refusal shallow shallow_at claims_of generation is_idle up
-first_child = refl
+higher_boards_checked = refl
 
 -- CPU_OFF -------------------------------------------------------------------------------------
 
 abbrev off_parts : BoardValue → ℕ → List CoreState → List Part
 off_parts b core cores = off_claims b (seen b cores []) core
 
--- every core below is off
-off_all : off_parts two_clusters 0 (off 1 ∷ off 0 ∷ off 0 ∷ off 2 ∷ [])
-    ≡ part 0 3 1 ∷ part 1 3 1 ∷ part 2 3 3 ∷ []
+off_claimed : Gives (λ answer. answer)
+    -- every core below is off
+    (off_parts two_clusters 0 (off 1 ∷ off 0 ∷ off 0 ∷ off 2 ∷ [])
+    ⇒ (part 0 3 1 ∷ part 1 3 1 ∷ part 2 3 3 ∷ [])
+    -- a suspended core keeps its domains, however deep it asked
+    ∷ off_parts two_clusters 0 (off 1 ∷ asleep (3 ∷ 3 ∷ 3 ∷ 0 ∷ []) 1 ∷ off 0 ∷ off 0 ∷ [])
+    ⇒ (part 0 3 1 ∷ [])
+    ∷ off_parts two_clusters 3 (asleep (3 ∷ 3 ∷ 3 ∷ 0 ∷ []) 1 ∷ off 0 ∷ off 0 ∷ off 2 ∷ [])
+    ⇒ (part 0 3 2 ∷ part 1 3 2 ∷ [])
+    -- and so does a pending one
+    ∷ off_parts two_clusters 0 (off 1 ∷ active 0 ∷ off 0 ∷ off 0 ∷ []) ⇒ (part 0 3 1 ∷ [])
+    -- the first domain that is kept ends the claim: the last core of the cluster is not off
+    ∷ off_parts uneven 0 (off 4 ∷ off 0 ∷ active 1 ∷ off 0 ∷ []) ⇒ (part 0 3 4 ∷ part 1 3 4 ∷ [])
+    ∷ off_parts uneven 3 (off 4 ∷ off 3 ∷ off 2 ∷ off 1 ∷ [])
+    ⇒ (part 0 3 1 ∷ part 1 3 1 ∷ part 2 3 1 ∷ part 3 3 10 ∷ []) ∷ [])
 unfolding claims_of generation is_all_away up
-off_all = refl
-
--- a suspended core keeps its domains, however deep it asked
-off_beside : off_parts two_clusters 0
-    (off 1 ∷ asleep (3 ∷ 3 ∷ 3 ∷ 0 ∷ []) 1 ∷ off 0 ∷ off 0 ∷ [])
-    ≡ part 0 3 1 ∷ []
-unfolding claims_of generation is_all_away up
-off_beside = refl
-
-off_elsewhere : off_parts two_clusters 3
-    (asleep (3 ∷ 3 ∷ 3 ∷ 0 ∷ []) 1 ∷ off 0 ∷ off 0 ∷ off 2 ∷ [])
-    ≡ part 0 3 2 ∷ part 1 3 2 ∷ []
-unfolding claims_of generation is_all_away up
-off_elsewhere = refl
-
--- and so does a pending one
-off_pending : off_parts two_clusters 0 (off 1 ∷ active 0 ∷ off 0 ∷ off 0 ∷ [])
-    ≡ part 0 3 1 ∷ []
-unfolding claims_of generation is_all_away up
-off_pending = refl
-
--- the first domain that is kept ends the claim: the last core of the cluster is not off
-off_uneven : off_parts uneven 0 (off 4 ∷ off 0 ∷ active 1 ∷ off 0 ∷ [])
-    ≡ part 0 3 4 ∷ part 1 3 4 ∷ []
-unfolding claims_of generation is_all_away up
-off_uneven = refl
-
-off_high : off_parts uneven 3 (off 4 ∷ off 3 ∷ off 2 ∷ off 1 ∷ [])
-    ≡ part 0 3 1 ∷ part 1 3 1 ∷ part 2 3 1 ∷ part 3 3 10 ∷ []
-unfolding claims_of generation is_all_away up
-off_high = refl
+off_claimed = refl

@@ -1,9 +1,8 @@
 -- Slots by look-up: what each change leaves in each slot.
-use Rattle.std.proofs.Common.{◌≡◌, ◌∙◌, ℕ, zero, suc, ◌≤◌, true, List, [], ◌∷◌, length, get_or}
-use Rattle.std.proofs.Common.{replicate, Option, Some, None, refl, sym, ap, arith, length-set, inl}
-use Rattle.std.proofs.Common.{inr}
+use Rattle.std.proofs.Common.{◌≡◌, ℕ, zero, suc, ◌≤◌, true, List, [], ◌∷◌, length, get_or}
+use Rattle.std.proofs.Common.{replicate, Option, Some, None, refl, sym, ap, arith, length-set}
 use Rattle.std.specs.Prelude.{if◌then◌else◌, slice_set}
-use Rattle.std.proofs.lemmas.Bool.{eqb-true, eq-eqb, ne_eqb, cases_eq, cases_Bool, true≢false}
+use Rattle.std.proofs.lemmas.Bool.{eqb-true, eq-eqb, ne_eqb, true≢false}
 use Rattle.std.proofs.lemmas.List.{get_or-set_other, get_or_past, length-replicate}
 use Rattle.psci_messages.specs.Message.{MessageValue, AckValue}
 use Rattle.psci_messages.specs.Slots.{SlotsValue, Slot, slot_of, is_slot, message_in, with_message}
@@ -11,6 +10,7 @@ use Rattle.psci_messages.specs.Slots.{left_by, Change, after_change, changed, Is
 use Rattle.psci_messages.specs.Slots.Slot.{OfCore, OfSystem}
 use Rattle.psci_messages.specs.Slots.Change.{Put, Clear, ClearAll, Acknowledge}
 use Rattle.psci_messages.specs.Outstanding.{IsChange}
+use Rattle.std.proofs.lemmas.Bool.Decides.{nat_tests}
 
 look-set : (xs : List (Option MessageValue)) (c : ℕ) (o : Option MessageValue)
     → (length xs ≤ c → o ≡ None)
@@ -30,11 +30,8 @@ IsKept s OfSystem o = Unit {0}
 
 look-with : (s : SlotsValue) (t slot : Slot) (o : Option MessageValue) → IsKept s t o
     → message_in (with_message s t o) slot ≡ (if is_slot t slot then o else message_in s slot)
-look-with s (OfCore c) (OfCore d) o kept = elim (cases_eq c d) [
-  | inl same ↦ rw (eq-eqb c d same, ← same) (look-set s.cores c o kept)
-  | inr apart ↦ rw (ne_eqb c d apart) (get_or-set_other s.cores c d o None
-      (λ same. apart (sym same)))
-]
+look-with s (OfCore c) (OfCore d) o kept =
+    grind (arith, nat_tests, eq-eqb, look-set, ne_eqb, get_or-set_other)
 look-with s (OfCore c) OfSystem o kept = refl
 look-with s OfSystem (OfCore d) o kept = refl
 look-with s OfSystem OfSystem o kept = refl
@@ -75,17 +72,9 @@ same-slot OfSystem OfSystem e = refl
 pub look-after : (s : SlotsValue) (change : Change) → IsChange (length s.cores) change
     → (slot : Slot)
     → message_in (after_change s change) slot ≡ changed slot change (message_in s slot)
-look-after s (Put m) inside slot =
-    look-with s (slot_of m.kind m.core) slot (Some m)
-    (kept-of s (slot_of m.kind m.core) (Some m) inside)
+look-after s (Put m) inside slot = grind (arith, nat_tests, look-with, kept-of)
 look-after s (Clear core) inside slot = look-with s (OfCore core.number) slot None
     (none-kept s (OfCore core.number))
 look-after s ClearAll inside (OfCore c) = look-replicate (length s.cores) c
 look-after s ClearAll inside OfSystem = refl
-look-after s (Acknowledge a) inside slot =
-    let own = slot_of a.kind a.core in
-    look-with s own slot (left_by a (message_in s own)) (left-kept s own a)
-    ∙ (elim (cases_Bool (is_slot own slot)) [
-      | inl same ↦ rw same (ap (λ (t : Slot). left_by a (message_in s t)) (same-slot own slot same))
-      | inr elsewhere ↦ rw elsewhere refl
-    ])
+look-after s (Acknowledge a) inside slot = grind (arith, nat_tests, look-with, left-kept, same-slot)

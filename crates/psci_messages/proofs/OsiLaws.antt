@@ -1,10 +1,10 @@
 -- What holds of the claims of OS-initiated mode.
 use Rattle.std.proofs.Common.{◌≡◌, ℕ, zero, suc, ◌+◌, ◌<◌, ◌≤◌, Bool, true, false, List}
-use Rattle.std.proofs.Common.{length, filter, refl, ap, sym, ◌∙◌, arith, inl, inr, true≢false}
+use Rattle.std.proofs.Common.{length, filter, refl, ◌∙◌, arith, inl, inr, true≢false}
 use Rattle.std.proofs.Common.{get_or, Some}
 use Rattle.std.specs.Prelude.{slice_index, slice_get}
 use Rattle.std.specs.List.{list_all, range_with_len}
-use Rattle.std.proofs.lemmas.Bool.{cases_Bool, cases_eq, cases_lt, eq-eqb, eqb-true}
+use Rattle.std.proofs.lemmas.Bool.{cases_eq, cases_lt, eq-eqb, eqb-true}
 use Rattle.std.proofs.lemmas.Option.{slice_get-get_or}
 use Rattle.std.proofs.Math.Nat.{eq-zero-or-pos}
 use Rattle.psci_board.specs.Board.{BoardValue, cores, up}
@@ -14,47 +14,20 @@ use Rattle.psci_messages.specs.View.{PowerView, domain_of, is_all_away}
 use Rattle.psci_messages.specs.Claim.{own_claims, own_wish, off_claims, off_wish}
 use Rattle.psci_messages.specs.Laws.{OwnLaws, OffLaws}
 use Rattle.psci_messages.proofs.ClaimLaws.{claim_laws}
+use Rattle.std.proofs.lemmas.Bool.Decides.{nat_tests}
 
 -- All and some of the cores below ----------------------------------------------------------------
 
 all-pass : (p test : ℕ → Bool) (a n c : ℕ) → list_all p (filter test (range_with_len a n)) ≡ true
     → a ≤ c → c < a + n → test c ≡ true → p c ≡ true
 all-pass p test a zero c e h i t = absurd (omega arith)
-all-pass p test a (suc n) c e h i t = elim (cases_Bool (test a)) [
-  | inl kept ↦ elim (cases_Bool (p a)) [
-    | inl passes ↦
-        let rest = rw (kept, passes) at e in
-        elim (cases_eq a c) [
-          | inl same ↦ ap p (sym same) ∙ passes
-          | inr other ↦ all-pass p test (a + 1) n c rest (omega (arith, other)) (omega arith) t
-        ]
-    | inr fails ↦ let never = rw (kept, fails) at e in absurd (true≢false (sym never))
-  ]
-  | inr dropped ↦
-      let rest = rw dropped at e in
-      elim (cases_eq a c) [
-        | inl same ↦ absurd (true≢false (sym (ap test same ∙ t) ∙ dropped))
-        | inr other ↦ all-pass p test (a + 1) n c rest (omega (arith, other)) (omega arith) t
-      ]
-]
+all-pass p test a (suc n) c e h i t = grind (arith, all-pass p test (a + 1) n c)
 
 some-fails : (p test : ℕ → Bool) (a n : ℕ)
     → list_all p (filter test (range_with_len a n)) ≡ false
     → (c : ℕ) × (a ≤ c) × (c < a + n) × (test c ≡ true) × (p c ≡ false)
 some-fails p test a zero e = absurd (true≢false e)
-some-fails p test a (suc n) e = elim (cases_Bool (test a)) [
-  | inl kept ↦ elim (cases_Bool (p a)) [
-    | inl passes ↦
-        let less = rw (kept, passes) at e in
-        let rest = some-fails p test (a + 1) n less in
-        (rest.0, omega (arith, rest.1), omega (arith, rest.2), rest.3, rest.4)
-    | inr fails ↦ (a, omega arith, omega arith, kept, fails)
-  ]
-  | inr dropped ↦
-      let less = rw dropped at e in
-      let rest = some-fails p test (a + 1) n less in
-      (rest.0, omega (arith, rest.1), omega (arith, rest.2), rest.3, rest.4)
-]
+some-fails p test a (suc n) e = grind (arith, nat_tests, some-fails p test (a + 1) n)
 
 pub all_off-below : (b : BoardValue) (v : PowerView) (core level c : ℕ)
     → is_all_away b v (domain_of b core level) ≡ true → c < cores b
@@ -67,9 +40,7 @@ pub some_on-below : (b : BoardValue) (v : PowerView) (core level : ℕ)
     → is_all_away b v (domain_of b core level) ≡ false
     → (c : ℕ) × (c < cores b) × (up b level c ≡ up b level core) × (v.is_away c ≡ false)
 unfolding is_all_away up
-some_on-below b v core level e =
-    let one = some-fails v.is_away _ 0 (cores b) e in
-    (one.0, omega (arith, one.2), eqb-true _ _ one.3, one.4)
+some_on-below b v core level e = grind (arith, nat_tests, some-fails, eqb-true)
 
 -- CPU_OFF -------------------------------------------------------------------------------------
 
@@ -78,28 +49,17 @@ off-yes : (b : BoardValue) (v : PowerView) (core level : ℕ) → 0 < level
     → 0 < off_wish b v core level
     → is_all_away b v (domain_of b core level) ≡ true
 off-yes b v core zero h i = absurd (omega arith)
-off-yes b v core (suc level) h i =
-    elim (cases_Bool (is_all_away b v (domain_of b core (suc level)))) [
-      | inl all ↦ all
-      | inr part ↦ let never = rw part at i in absurd (omega arith)
-    ]
+off-yes b v core (suc level) h i = grind arith
 
 off-no : (b : BoardValue) (v : PowerView) (core level : ℕ) → off_wish b v core level ≡ 0
     → is_all_away b v (domain_of b core level) ≡ false
 off-no b v core zero e = absurd (omega arith)
-off-no b v core (suc level) e = elim (cases_Bool (is_all_away b v (domain_of b core (suc level)))) [
-  | inl all ↦ let never = rw all at e in absurd (omega arith)
-  | inr part ↦ part
-]
+off-no b v core (suc level) e = grind arith
 
 off-three : (b : BoardValue) (v : PowerView) (core level : ℕ) → 0 < off_wish b v core level
     → off_wish b v core level ≡ 3
 off-three b v core zero h = refl
-off-three b v core (suc level) h =
-    elim (cases_Bool (is_all_away b v (domain_of b core (suc level)))) [
-      | inl all ↦ rw all refl
-      | inr part ↦ let never = rw part at h in absurd (omega arith)
-    ]
+off-three b v core (suc level) h = grind arith
 
 off-some : (b : BoardValue) (v : PowerView) (core : ℕ) → 0 < length (off_claims b v core)
 off-some b v core =

@@ -2,6 +2,7 @@
 use Rattle.std.proofs.Common.{◌≡◌, ◌≤◌, ℕ, List, [], ◌∷◌, refl, ap, arith}
 use Rattle.psci_messages.specs.declared.part.Part.{Part}
 use Rattle.psci_messages.specs.Places.{AreAtPlaces, places_of, unused}
+use Rattle.psci_board.proofs.Tables.{◌⇒◌, Gives}
 
 -- a place that holds zeros
 abbrev zeros : Part
@@ -25,24 +26,14 @@ system = record { level = 3; depth = 1; generation = 31 }
 unused_is_zeros : unused ≡ zeros
 unused_is_zeros = refl
 
-no_part : places_of [] ≡ zeros ∷ zeros ∷ zeros ∷ zeros ∷ []
-no_part = refl
-
-one_part : places_of (core ∷ []) ≡ core ∷ zeros ∷ zeros ∷ zeros ∷ []
-one_part = refl
-
-three_parts : places_of (core ∷ cluster ∷ group ∷ [])
-    ≡ core ∷ cluster ∷ group ∷ zeros ∷ []
-three_parts = refl
-
-four_parts : places_of (core ∷ cluster ∷ group ∷ system ∷ [])
-    ≡ core ∷ cluster ∷ group ∷ system ∷ []
-four_parts = refl
-
--- for a fifth there is no place
-five_parts : places_of (core ∷ cluster ∷ group ∷ system ∷ core ∷ [])
-    ≡ core ∷ cluster ∷ group ∷ system ∷ []
-five_parts = refl
+places : Gives places_of
+    ([] ⇒ (zeros ∷ zeros ∷ zeros ∷ zeros ∷ [])
+    ∷ (core ∷ []) ⇒ (core ∷ zeros ∷ zeros ∷ zeros ∷ [])
+    ∷ (core ∷ cluster ∷ group ∷ []) ⇒ (core ∷ cluster ∷ group ∷ zeros ∷ [])
+    ∷ (core ∷ cluster ∷ group ∷ system ∷ []) ⇒ (core ∷ cluster ∷ group ∷ system ∷ [])
+    -- for a fifth there is no place
+    ∷ (core ∷ cluster ∷ group ∷ system ∷ core ∷ []) ⇒ (core ∷ cluster ∷ group ∷ system ∷ []) ∷ [])
+places = refl
 
 -- So many are there -------------------------------------------------------------------------------
 

@@ -1,7 +1,7 @@
 -- The ask of a word gives the word back.
 use Rattle.std.proofs.Common.{◌≡◌, ℕ, zero, suc, ◌+◌, ◌*◌, ◌^◌, ◌<◌, ◌≤◌, Bool, true}
-use Rattle.std.proofs.Common.{false, ◌&&◌, ◌==◌, cond, List, length, refl, subst, arith}
-use Rattle.std.proofs.lemmas.Bool.{leb-true, ltb-true, eqb-true}
+use Rattle.std.proofs.Common.{◌&&◌, ◌==◌, cond, List, length, subst, arith}
+use Rattle.std.proofs.lemmas.Bool.{and_parts, leb-true, ltb-true, eqb-true}
 use Rattle.std.proofs.lemmas.List.{get_or_past}
 use Rattle.std.specs.Prelude.{Result, Ok, Err, nat_lt, nat_le, slice_index}
 use Rattle.psci_abi.specs.declared.format.Format.{Format}
@@ -12,24 +12,13 @@ use Rattle.psci_state.specs.PowerState.{bits, state_id, state_type, has_level}
 use Rattle.psci_state.specs.PowerState.{reserved_is_zero, asked, is_state_id, is_power_state}
 use Rattle.psci_state.specs.PowerState.{type_of, ask_of, id_of, word_of}
 
-two : (r s : Bool) → (r && s) ≡ true → (r ≡ true) × (s ≡ true)
-two true s test = (refl, test)
-two false s test = cc
-
 five : (r s t u v : Bool) → (r && s && t && u && v) ≡ true
     → (r ≡ true) × (s ≡ true) × (t ≡ true) × (u ≡ true) × (v ≡ true)
-five true true true true v test = (refl, refl, refl, refl, test)
-five true true true false v test = cc
-five true true false u v test = cc
-five true false t u v test = cc
-five false s t u v test = cc
+five r s t u v test = grind (arith, and_parts)
 
 six : (r s t u v w : Bool) → (r && s && t && u && v && w) ≡ true
     → (r ≡ true) × (s ≡ true) × (t ≡ true) × (u ≡ true) × (v ≡ true) × (w ≡ true)
-six r s t u v w test =
-    let last = two (r && s && t && u && v) w test in
-    let rest = five r s t u v last.0 in
-    (rest.0, rest.1, rest.2, rest.3, rest.4, last.1)
+six r s t u v w test = grind (arith, and_parts)
 
 -- four depths that do not grow upwards
 falling : (ask : List ℕ) → length ask ≡ 4 → slice_index ask 1 ≤ slice_index ask 0
@@ -75,17 +64,16 @@ fields_back : (format : Format) (word : ℕ) (ask : List ℕ) → word < 2 ^ 32
     → state_type format word ≡ type_of ask → id_of ask ≡ state_id format word
     → word_of format ask ≡ word
 fields_back Original word ask below reserved level type id =
-    let zeros = two (bits word 31 26 == 0) (bits word 23 17 == 0) reserved in
+    let zeros = and_parts (bits word 31 26 == 0) (bits word 23 17 == 0) reserved in
     let whole = original_back word below (eqb-true _ _ zeros.0) (eqb-true _ _ zeros.1) in
     omega (arith, whole, id, type, eqb-true (bits word 25 24) (highest_of ask) level)
 fields_back Extended word ask below reserved level type id =
-    let zeros = two (bits word 31 31 == 0) (bits word 29 28 == 0) reserved in
+    let zeros = and_parts (bits word 31 31 == 0) (bits word 29 28 == 0) reserved in
     omega (arith, extended_back word below (eqb-true _ _ zeros.0) (eqb-true _ _ zeros.1), id, type)
 
 taken : (b : Bool) (xs ys : List ℕ) (e : BadState)
     → cond {A = Result (List ℕ) BadState} b (Ok xs) (Err e) ≡ Ok ys → (b ≡ true) × (xs ≡ ys)
-taken true xs ys e is = (refl, cc)
-taken false xs ys e is = cc
+taken b xs ys e is = grind arith
 
 -- The ask of a word: it is one, asks nothing above the height, and gives a word of 32 bits back.
 pub record IsBack (format : Format) (height word : ℕ) (ask : List ℕ) : Type 0 where
@@ -101,7 +89,7 @@ word_back format height word ask is =
     let found = taken (is_power_state format height word) (asked id) ask (record {}) is in
     let parts = five (reserved_is_zero format word) (is_state_id id) (nat_le level height)
     (has_level format word level) (state_type format word == type_of (asked id)) found.0 in
-    let of_id = two (nat_lt id (2 ^ 16)) (is_ask (asked id)) parts.1 in
+    let of_id = and_parts (nat_lt id (2 ^ 16)) (is_ask (asked id)) parts.1 in
     let back : IsBack format height word (asked id) = record {
       shape = ask-from_test (asked id) of_id.1;
       high = leb-true _ _ parts.2;

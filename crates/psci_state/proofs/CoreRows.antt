@@ -1,7 +1,6 @@
 -- Worked examples: what a core asks, and what is kept of cores and power domains.
-use Rattle.std.proofs.Common.{◌≡◌, ℕ, Bool, true, false, List, [], ◌∷◌, refl, None, Some}
+use Rattle.std.proofs.Common.{◌≡◌, true, false, [], ◌∷◌, refl, None, Some}
 use Rattle.psci_state.specs.Ask.{least}
-use Rattle.psci_state.specs.declared.cores.CoreState.{CoreState}
 use Rattle.psci_state.specs.declared.cores.Activity.TheVariants.{Active, Suspended, Away}
 use Rattle.psci_state.specs.Cores.{TreeValue, asks, is_active, is_away, core_changed, ask_at}
 use Rattle.psci_state.specs.Cores.{known_at, is_active_at, is_away_at, granted_at, confirmed_at}

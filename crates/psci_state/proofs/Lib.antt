@@ -1,7 +1,6 @@
 mod AskRows
 pub mod Back
 mod CoreRows
-mod ExtendedRows
-mod OriginalRows
+mod PowerStateRows
 pub mod Words
 pub use Rattle.psci_abi.proofs.Tables

@@ -1,5 +1,5 @@
 -- The word of an ask is read as this ask.
-use Rattle.std.proofs.Common.{◌≡◌, ℕ, ◌+◌, ◌*◌, ◌^◌, ◌<◌, ◌≤◌, Bool, true, false}
+use Rattle.std.proofs.Common.{◌≡◌, ℕ, ◌+◌, ◌*◌, ◌^◌, ◌<◌, ◌≤◌, Bool, true}
 use Rattle.std.proofs.Common.{◌&&◌, ◌==◌, cond, List, [], ◌∷◌, refl, ap, ◌∙◌, arith}
 use Rattle.std.proofs.lemmas.Bool.{le-leb, lt-ltb, eq-eqb}
 use Rattle.std.specs.Cmp.Derive.{both_true}
@@ -12,14 +12,10 @@ use Rattle.psci_state.specs.PowerState.{bits, state_id, state_type, has_level, r
 use Rattle.psci_state.specs.PowerState.{asked, is_state_id, type_of, ask_of, id_of, word_of}
 
 one_bit : (b : Bool) → cond b 1 0 < 2
-one_bit true = omega arith
-one_bit false = omega arith
+one_bit b = grind arith
 
 two_bits : (x y z : Bool) → cond x 3 (cond y 2 (cond z 1 0)) < 4
-two_bits true y z = omega arith
-two_bits false true z = omega arith
-two_bits false false true = omega arith
-two_bits false false false = omega arith
+two_bits x y z = grind arith
 
 -- The fields of a word are those of an ask with this state id.
 record HasFields (format : Format) (word id : ℕ) (ask : List ℕ) : Type 0 where
@@ -92,17 +88,13 @@ digits a b c d la lb lc ld =
 
 -- What the state id of an ask asks, and that it has 16 bits.
 id_of_ask : (ask : List ℕ) → IsAsk ask → (asked (id_of ask) ≡ ask) × (id_of ask < 2 ^ 16)
-id_of_ask [] is = absurd (omega (arith, is.levels))
-id_of_ask (a ∷ []) is = absurd (omega (arith, is.levels))
-id_of_ask (a ∷ b ∷ []) is = absurd (omega (arith, is.levels))
-id_of_ask (a ∷ b ∷ c ∷ []) is = absurd (omega (arith, is.levels))
-id_of_ask (a ∷ b ∷ c ∷ d ∷ e ∷ more) is = absurd (omega (arith, is.levels))
 id_of_ask (a ∷ b ∷ c ∷ d ∷ []) is =
     let most : a ≤ 3 = is.most in
     let second : b ≤ a = is.falls 0 in
     let third : c ≤ b = is.falls 1 in
     let fourth : d ≤ c = is.falls 2 in
     (digits a b c d (omega arith) (omega arith) (omega arith) (omega arith), omega arith)
+id_of_ask other is = absurd (omega (arith, is.levels))
 
 -- An ask passes the test.
 pub ask-test : (ask : List ℕ) → IsAsk ask → is_ask ask ≡ true

@@ -1,5 +1,5 @@
 -- What is kept of cores and of power domains.
-use Rattle.std.specs.Prelude.{ℕ, Bool, true, false, List, [], ◌∷◌, length, slice_index}
+use Rattle.std.specs.Prelude.{ℕ, Bool, true, false, List, [], length, slice_index}
 use Rattle.std.specs.Prelude.{slice_index_or, unwrap_or, nat_le, nat_lt, if◌then◌else◌}
 use Rattle.psci_state.specs.Ask.{IsAsk}
 use Rattle.psci_state.specs.declared.cores.CoreState.{CoreState}

@@ -3,6 +3,6 @@ use Rattle.psci_board.proofs.text_laws.law_board_text.Goals as goal
 
 pub returns : goal.returns
 returns c = record {
-  again = text_again c.law_text.ensures;
-  spelled = text_takes c.law_text.ensures;
+  again = text_again;
+  spelled = text_takes;
 }

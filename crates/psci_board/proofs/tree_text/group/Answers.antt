@@ -3,7 +3,7 @@ use Rattle.psci_board.specs.Summary.{with_numbers}
 use Rattle.psci_board.specs.ReadWords.{number_at}
 use Rattle.psci_board.specs.Reading.{more_at}
 use Rattle.psci_board.proofs.More.{number_shortens, literal_shortens, spaced_shortens, more_some}
-use Rattle.psci_board.proofs.More.{more_none, list_closed, list_unclosed}
+use Rattle.psci_board.proofs.More.{more_none, list_ended}
 use Rattle.psci_board.proofs.tree_text.group.Goals as goal
 
 pub loop-number-init : goal.loop-number-init
@@ -38,36 +38,29 @@ loop-number-preserved c =
       inside = i.inside;
     }
 
-pub returns-in_err-literal-2-clause-read : goal.returns-in_err-literal-2-clause-read
-returns-in_err-literal-2-clause-read c =
-    let e = list_unclosed number_at number_shortens c.args.text.now _ _ _ _
+pub returns-in_err-literal-2 : goal.returns-in_err-literal-2
+returns-in_err-literal-2 c =
+    let e = list_ended number_at number_shortens c.args.text.now _ _ _ _
     (sym c.in_ok-literal.ensures) (sym c.in_ok-first.ensures) c.loop-number.invariant.rest
-    (sym c.in_default.ensures) (sym c.in_err-literal-2.ensures) in
-    rw (e, c.from_residual-in_err-literal-2.ensures) refl
+    (sym c.in_default.ensures) in
+    record {
+      read = rw (e, sym c.in_err-literal-2.ensures, c.from_residual-in_err-literal-2.ensures) refl;
+      summary = rw (e, sym c.in_err-literal-2.ensures) tt;
+    }
 
-pub returns-in_err-literal-2-clause-summary : goal.returns-in_err-literal-2-clause-summary
-returns-in_err-literal-2-clause-summary c =
-    let e = list_unclosed number_at number_shortens c.args.text.now _ _ _ _
+pub returns : goal.returns
+unfolding with_numbers
+returns c =
+    let e = list_ended number_at number_shortens c.args.text.now _ _ _ _
     (sym c.in_ok-literal.ensures) (sym c.in_ok-first.ensures) c.loop-number.invariant.rest
-    (sym c.in_default.ensures) (sym c.in_err-literal-2.ensures) in
-    rw e tt
-
-pub returns-clause-read : goal.returns-clause-read
-returns-clause-read c =
-    let e = list_closed number_at number_shortens c.args.text.now _ _ _ _ _
-    (sym c.in_ok-literal.ensures) (sym c.in_ok-first.ensures) c.loop-number.invariant.rest
-    (sym c.in_default.ensures) (sym c.in_ok-literal-2.ensures) in
+    (sym c.in_default.ensures) in
     let none = more_none number_at number_shortens _ (sym c.in_default.ensures) in
     let n : c.loop-number.count ≡ length
     (c.in_ok-first.first ∷ (more_at number_at c.in_ok-first.rest.now).0) =
     omega (arith, rw none at c.loop-number.invariant.count) in
-    rw e (ap (λ k. Some (k, c.in_ok-literal-2.field-0.now)) n)
-
-pub returns-clause-summary : goal.returns-clause-summary
-unfolding with_numbers
-returns-clause-summary c =
-    let e = list_closed number_at number_shortens c.args.text.now _ _ _ _ _
-    (sym c.in_ok-literal.ensures) (sym c.in_ok-first.ensures) c.loop-number.invariant.rest
-    (sym c.in_default.ensures) (sym c.in_ok-literal-2.ensures) in
-    let none = more_none number_at number_shortens _ (sym c.in_default.ensures) in
-    rw e (rw c.add.ensures at (rw none at c.loop-number.invariant.summary))
+    record {
+      read = rw (e, sym c.in_ok-literal-2.ensures)
+          (ap (λ k. Some (k, c.in_ok-literal-2.field-0.now)) n);
+      summary = rw (e, sym c.in_ok-literal-2.ensures)
+          (rw c.add.ensures at (rw none at c.loop-number.invariant.summary));
+    }

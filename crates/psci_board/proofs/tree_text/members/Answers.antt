@@ -2,35 +2,21 @@ use Rattle.std.proofs.Common.{◌≡◌, ◌∷◌, sym, ap, ◌∙◌, arith, r
 use Rattle.psci_board.specs.Summary.{with_members}
 use Rattle.psci_board.specs.Reading.{member_at, more_at}
 use Rattle.psci_board.proofs.More.{member_shortens, spaced_shortens, more_some, more_none}
-use Rattle.psci_board.proofs.More.{list_ended}
-use Rattle.psci_board.proofs.More.{list_unclosed, rest_again, if_kept, list_unopened, list_empty}
+use Rattle.psci_board.proofs.More.{list_ended, rest_again, if_kept, list_unopened, list_empty}
 use Rattle.psci_board.proofs.More.{read_some, read_none, spaced_some, spaced_none, unspaced}
 use Rattle.psci_board.proofs.More.{spaced_unclosed}
 use Rattle.psci_board.proofs.tree_text.members.Goals as goal
 
-pub returns-in_err-literal-clause-read : goal.returns-in_err-literal-clause-read
-returns-in_err-literal-clause-read c =
-    rw (
-      list_unopened member_at c.args.text.now (sym c.in_err-literal.ensures),
-      c.from_residual.ensures,
-    ) refl
+pub returns-in_err-literal : goal.returns-in_err-literal
+returns-in_err-literal c =
+    let e = list_unopened member_at c.args.text.now (sym c.in_err-literal.ensures) in
+    record { read = rw (e, c.from_residual.ensures) refl; summary = rw e tt }
 
-pub returns-in_err-literal-clause-summary : goal.returns-in_err-literal-clause-summary
-returns-in_err-literal-clause-summary c =
-    rw (list_unopened member_at c.args.text.now (sym c.in_err-literal.ensures)) tt
-
-pub returns-in_err-rest-clause-read : goal.returns-in_err-rest-clause-read
-returns-in_err-rest-clause-read c =
-    rw (
-      list_empty member_at c.args.text.now _ (sym c.in_ok-literal.ensures)
-          (read_none _ c.in_err-rest.ensures.read),
-      c.from_residual-in_err-rest.ensures,
-    ) refl
-
-pub returns-in_err-rest-clause-summary : goal.returns-in_err-rest-clause-summary
-returns-in_err-rest-clause-summary c =
-    rw (list_empty member_at c.args.text.now _ (sym c.in_ok-literal.ensures)
-    (read_none _ c.in_err-rest.ensures.read)) tt
+pub returns-in_err-rest : goal.returns-in_err-rest
+returns-in_err-rest c =
+    let e = list_empty member_at c.args.text.now _ (sym c.in_ok-literal.ensures)
+    (read_none _ c.in_err-rest.ensures.read) in
+    record { read = rw (e, c.from_residual-in_err-rest.ensures) refl; summary = rw e tt }
 
 pub loop-after-init : goal.loop-after-init
 loop-after-init c = record { summary = refl; rest = refl }
@@ -53,48 +39,33 @@ loop-after-preserved c =
       rest = ap (λ r. r.1) (sym m) ∙ i.rest;
     }
 
-pub returns-clause-read : goal.returns-clause-read
-returns-clause-read c =
+pub returns-in_err-rest-2 : goal.returns-in_err-rest-2
+returns-in_err-rest-2 c =
     let first = read_some _ _ _ c.in_ok-rest.ensures.read c.in_ok-rest.ensures.summary in
+    let stuck = spaced_none member_at _ _ (sym c.in-Some.ensures)
+    (read_none _ c.in_err-rest-2.ensures.read) in
     let e =
     list_ended member_at member_shortens c.args.text.now _ _ _ _ (sym c.in_ok-literal.ensures)
-    first.1 c.loop-after.invariant.rest (unspaced member_at _ (sym c.in_default.ensures)) in
-    rw (
-      e,
-      rest_again (first.0 ∷
-          (more_at member_at c.in_ok-rest.rest.now).0) _,
-      c.literal-2.ensures,
-    )
-    refl
+    first.1 c.loop-after.invariant.rest stuck in
+    let unclosed = spaced_unclosed _ _ (sym c.in-Some.ensures) in
+    record {
+      read = rw (e, unclosed, c.from_residual-in_err-rest-2.ensures) refl;
+      summary = rw (e, unclosed) tt;
+    }
 
-pub returns-clause-summary : goal.returns-clause-summary
+pub returns : goal.returns
 unfolding with_members
-returns-clause-summary c =
+returns c =
     let first = read_some _ _ _ c.in_ok-rest.ensures.read c.in_ok-rest.ensures.summary in
+    let last = unspaced member_at _ (sym c.in_default.ensures) in
     let e =
     list_ended member_at member_shortens c.args.text.now _ _ _ _ (sym c.in_ok-literal.ensures)
-    first.1 c.loop-after.invariant.rest (unspaced member_at _ (sym c.in_default.ensures)) in
-    let none =
-    more_none member_at member_shortens _ (unspaced member_at _ (sym c.in_default.ensures)) in
-    rw e (if_kept (λ ms. c.loop-after.summary ≡ with_members c.args.summary.now ms) _ _
-    (rw first.2 at (rw none at c.loop-after.invariant.summary)))
-
-pub returns-in_err-rest-2-clause-read : goal.returns-in_err-rest-2-clause-read
-returns-in_err-rest-2-clause-read c =
-    let first = read_some _ _ _ c.in_ok-rest.ensures.read c.in_ok-rest.ensures.summary in
-    let stuck = spaced_none member_at _ _ (sym c.in-Some.ensures)
-    (read_none _ c.in_err-rest-2.ensures.read) in
-    let e =
-    list_unclosed member_at member_shortens c.args.text.now _ _ _ _ (sym c.in_ok-literal.ensures)
-    first.1 c.loop-after.invariant.rest stuck (spaced_unclosed _ _ (sym c.in-Some.ensures)) in
-    rw (e, c.from_residual-in_err-rest-2.ensures) refl
-
-pub returns-in_err-rest-2-clause-summary : goal.returns-in_err-rest-2-clause-summary
-returns-in_err-rest-2-clause-summary c =
-    let first = read_some _ _ _ c.in_ok-rest.ensures.read c.in_ok-rest.ensures.summary in
-    let stuck = spaced_none member_at _ _ (sym c.in-Some.ensures)
-    (read_none _ c.in_err-rest-2.ensures.read) in
-    let e =
-    list_unclosed member_at member_shortens c.args.text.now _ _ _ _ (sym c.in_ok-literal.ensures)
-    first.1 c.loop-after.invariant.rest stuck (spaced_unclosed _ _ (sym c.in-Some.ensures)) in
-    rw e tt
+    first.1 c.loop-after.invariant.rest last in
+    let none = more_none member_at member_shortens _ last in
+    let items = first.0 ∷ (more_at member_at c.in_ok-rest.rest.now).0 in
+    record {
+      read = rw (e, rest_again items _, c.literal-2.ensures) refl;
+      summary =
+          rw e (if_kept (λ ms. c.loop-after.summary ≡ with_members c.args.summary.now ms) _ _
+          (rw first.2 at (rw none at c.loop-after.invariant.summary)));
+    }

@@ -1,4 +1,4 @@
-use Rattle.std.proofs.Common.{◌∙◌, ap, arith, ◌∷◌}
+use Rattle.std.proofs.Common.{◌∙◌, ap, ◌∷◌}
 use Rattle.psci_link.proofs.PutBytes.{part_put}
 use Rattle.psci_link.proofs.encoding.put_part.Goals as goal
 
