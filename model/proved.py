@@ -2,8 +2,8 @@
 
     for name, sides in Examples(rules, "psci_platform", "Machines").rows(): ..
 
-An example is `NAME : LEFT ≡ RIGHT` with the proof `refl`, in a file *Rows of a crate's proofs/. The
-abbreviations of its file and of a file that others use are read as small functions: numbers, lists,
+An example is `NAME : LEFT ≡ RIGHT` with the proof `refl`, in a file *Rows of a crate's proofs/, or a
+row `GIVEN ⇒ RIGHT` of a table `NAME : Gives FUNCTION ROWS` there. The abbreviations of its file and of a file that others use are read as small functions: numbers, lists,
 records, `λ`, and the names of BUILTIN. What the crate's definitions say, `rules` says in their place:
 `fault_of`, `core_word` and so on.
 """
@@ -13,9 +13,9 @@ import re
 from types import SimpleNamespace
 
 TOP = os.path.dirname(os.path.dirname(os.path.abspath(__file__)))
-TOKEN = re.compile(r"--[^\n]*|0x[0-9A-Fa-f]+|\d+|\+\+|[A-Za-z_][A-Za-z0-9_.]*'*|[∷≡→λ]|\[\]|[-+(){};=.:]")
+TOKEN = re.compile(r"--[^\n]*|0x[0-9A-Fa-f]+|\d+|\+\+|[A-Za-z_][A-Za-z0-9_.]*'*|[∷≡→⇒λ]|\[\]|[-+(){};=.:]")
 # how tightly an operator binds, and whether to the right
-BINDS = {"≡": (1, True), "∷": (2, True), "++": (2, True), "+": (3, False), "-": (3, False)}
+BINDS = {"≡": (1, True), "∷": (2, True), "++": (2, True), "+": (3, False), "-": (3, False), "⇒": (4, False)}
 
 
 class Record(SimpleNamespace):
@@ -63,7 +63,7 @@ class Parser:
 
     @staticmethod
     def joined(sign, left, right):
-        does = {"≡": lambda a, b: (a, b), "∷": lambda a, b: [a, *b], "+": lambda a, b: a + b,
+        does = {"≡": lambda a, b: (a, b), "⇒": lambda a, b: (a, b), "∷": lambda a, b: [a, *b], "+": lambda a, b: a + b,
                 "++": lambda a, b: a + b, "-": lambda a, b: max(a - b, 0)}[sign]
         return lambda names: does(left(names), right(names))
 
@@ -134,12 +134,17 @@ class Parser:
                                        **{name: it(names) for name, it in fields.items()}})
 
 
+class Table(list):
+    """What the rows of a table say: the two sides of each."""
+
+
 def replicated(count):
     return lambda value: [value] * count
 
 
 # names of the language and of its libraries; a constructor that has an argument is a pair
 BUILTIN = {
+    "Gives": lambda function: lambda rows: Table((function(given), comes) for given, comes in rows),
     "true": True, "false": False, "None": None, "Some": lambda value: value, "replicate": replicated,
     "take": lambda count: lambda items: items[:count],
     "slice_set": lambda items: lambda at: lambda value: [*items[:at], value, *items[at + 1:]],
@@ -208,13 +213,15 @@ class Examples:
                 self.names[words] = lazy(lambda names, a=arguments, b=body: curried(a, b, self.names))
 
     def rows(self, files="*Rows"):
-        """Each theorem by its name, and its two sides; nothing in their place where a word of it is unknown."""
+        """Each theorem or row by its name, and its two sides; nothing in their place where a word of it is unknown."""
         for path in sorted(glob.glob(self.path(files))):
             name = os.path.basename(path)[:-len(".antt")]
             self.names = dict(self.shared)
             self.read(path)
             for theorem, text in self.theorems:
                 try:
-                    yield f"{name} {theorem}", Parser(tokens_of(text)).expression()(self.names)
+                    sides = Parser(tokens_of(text)).expression()(self.names)
+                    for row in sides if isinstance(sides, Table) else [sides]:
+                        yield f"{name} {theorem}", row
                 except (KeyError, ValueError):
                     yield f"{name} {theorem}", None
