@@ -1,5 +1,5 @@
-use Rattle.std.proofs.Common.{◌≡◌, ◌∙◌, ◌<◌, ◌^◌, ℕ, Bool, true, false, List, Option, None, Some, ap}
-use Rattle.std.proofs.Common.{find, if◌then◌else◌, sym}
+use Rattle.std.proofs.Common.{◌≡◌, ◌∙◌, ◌<◌, ◌^◌, ℕ, Bool, true, false, List, Option, None, Some}
+use Rattle.std.proofs.Common.{ap, find, if◌then◌else◌, sym}
 use Rattle.std.proofs.lemmas.Option.{IfSome_then}
 use Rattle.psci_abi.specs.Calls.{low_half}
 use Rattle.psci_board.specs.Board.{height}
