@@ -1,5 +1,5 @@
 -- Worked examples: how many calls and entries a book has of a core.
-use Rattle.std.proofs.Common.{◌≡◌, ℕ, List, [], ◌∷◌, refl}
+use Rattle.std.proofs.Common.{ℕ, List, [], ◌∷◌, refl}
 use Rattle.psci_fw.specs.psci_abi.declared.registers.Regs.{Regs}
 use Rattle.psci_fw.specs.psci_board.declared.node.Core.{Core}
 use Rattle.psci_fw.specs.psci_fw_spec.declared.call.FwCall.{FwCall}
@@ -9,6 +9,7 @@ use Rattle.psci_fw.specs.psci_fw_spec.declared.reply.FwReply.{FwReply}
 use Rattle.psci_fw.specs.psci_messages.declared.start.Start.{Start}
 use Rattle.psci_fw.specs.psci_messages.Message.{AckValue}
 use Rattle.psci_shared.specs.Entries.{FwEntry}
+use Rattle.psci_abi.proofs.Tables.{◌⇒◌, Gives}
 use Rattle.psci_bench.specs.Counts.{calls_of, entries_of}
 
 abbrev core : ℕ → Core
@@ -24,18 +25,10 @@ book regs start ack r =
     ∷ by 0 (Smc regs) r ∷ []
 
 module _ (regs : Regs) (start : Start) (ack : AckValue) (r : FwReply) where
-  calls_of_3 : calls_of (book regs start ack r) (core 3) ≡ 1
-  calls_of_3 = refl
-
-  entries_of_3 : entries_of (book regs start ack r) (core 3) ≡ 2
-  entries_of_3 = refl
-
-  calls_of_0 : calls_of (book regs start ack r) (core 0) ≡ 2
-  calls_of_0 = refl
+  calls : Gives (calls_of (book regs start ack r)) (core 3 ⇒ 1 ∷ core 0 ⇒ 2 ∷ [])
+  calls = refl
 
   -- whoever hands it in, an acknowledgement is no entry of a core
-  entries_of_0 : entries_of (book regs start ack r) (core 0) ≡ 2
-  entries_of_0 = refl
-
-  none_of_1 : entries_of (book regs start ack r) (core 1) ≡ 0
-  none_of_1 = refl
+  entries : Gives (entries_of (book regs start ack r))
+      (core 3 ⇒ 2 ∷ core 0 ⇒ 2 ∷ core 1 ⇒ 0 ∷ [])
+  entries = refl

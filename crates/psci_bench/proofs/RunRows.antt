@@ -37,13 +37,6 @@ nothing_asked b t fs cs firmware controller is audited board told unseen = recor
   seen = subst (λ (qs : List Polled). AllInHistory b t.trace.firmware.items qs) (sym unseen) tt;
 }
 
--- the world is on this board, and its records tell the merged list
-on_another_board : (b : BoardValue) (t : Threaded) → ¬ (t.world.board ≡ b) → IsAudited b t → ⊥
-on_another_board b t differs is = differs is.board
-
-told_otherwise : (b : BoardValue) (t : Threaded) → ¬ (HasTold b t) → IsAudited b t → ⊥
-told_otherwise b t differs is = differs is.told
-
 no_record : (b : BoardValue) (t : Threaded) (f : FwEntry) → t.trace.firmware.items ≡ f ∷ []
     → t.trace.controller.items ≡ [] → t.world.past ≡ [] → IsAudited b t → ⊥
 unfolding merged
@@ -53,39 +46,33 @@ no_record b t f fs cs past is =
     (history_of t.trace.firmware.items t.trace.controller.items)) past is.told)
 
 -- two entries of the firmware and one of the power controller: each number is of its own book
-two_of_the_firmware : (b : BoardValue) (t : Threaded) (f g : FwEntry) (c : CtlEntry)
+of_its_own_book : (b : BoardValue) (t : Threaded) (f g : FwEntry) (c : CtlEntry)
     → t.trace.firmware.items ≡ f ∷ g ∷ [] → t.trace.controller.items ≡ c ∷ [] → IsAudited b t
-    → t.firmware ≡ 2
-two_of_the_firmware b t f g c fs cs is = is.firmware ∙ ap length fs
+    → (t.firmware ≡ 2) × (t.controller ≡ 1)
+of_its_own_book b t f g c fs cs is = (is.firmware ∙ ap length fs, is.controller ∙ ap length cs)
 
-one_of_the_controller : (b : BoardValue) (t : Threaded) (f g : FwEntry) (c : CtlEntry)
-    → t.trace.firmware.items ≡ f ∷ g ∷ [] → t.trace.controller.items ≡ c ∷ [] → IsAudited b t
-    → t.controller ≡ 1
-one_of_the_controller b t f g c fs cs is = is.controller ∙ ap length cs
-
-firmware_counted_otherwise : (b : BoardValue) (t : Threaded)
-    → length t.trace.firmware.items ≡ 5 → t.firmware ≡ 6 → IsAudited b t → ⊥
-firmware_counted_otherwise b t five six is = let e = is.firmware in omega (arith, five, six, e)
-
-controller_counted_otherwise : (b : BoardValue) (t : Threaded)
-    → length t.trace.controller.items ≡ 5 → t.controller ≡ 4 → IsAudited b t → ⊥
-controller_counted_otherwise b t five four is =
-    let e = is.controller in omega (arith, five, four, e)
-
--- all of the merged list is audited
-audited_a_part : (b : BoardValue) (t : Threaded)
-    → length (merged t.trace.firmware.items t.trace.controller.items) ≡ 9 → t.audited ≡ 5
-    → IsAudited b t → ⊥
-audited_a_part b t nine five is = let e = is.sound.2 in omega (arith, nine, five, e)
-
--- which is legal on this board, and has tickets that fit
-illegal_list : (b : BoardValue) (t : Threaded)
-    → ¬ (IsSound b t.trace.firmware.items t.trace.controller.items t.audited) → IsAudited b t → ⊥
-illegal_list b t differs is = differs is.sound
-
-tickets_fit : (b : BoardValue) (t : Threaded)
-    → ¬ (TicketsFit t.trace.firmware.items t.trace.controller.items) → IsAudited b t → ⊥
-tickets_fit b t differs is = differs is.sound.0
+not_audited : (b : BoardValue) (t : Threaded) →
+    -- the world is on this board, and its records tell the merged list
+    (¬ (t.world.board ≡ b) → ¬ (IsAudited b t)) × (¬ (HasTold b t) → ¬ (IsAudited b t))
+    -- each book has as many entries as is said
+    × (length t.trace.firmware.items ≡ 5 → t.firmware ≡ 6 → ¬ (IsAudited b t))
+    × (length t.trace.controller.items ≡ 5 → t.controller ≡ 4 → ¬ (IsAudited b t))
+    -- all of the merged list is audited
+    × (length (merged t.trace.firmware.items t.trace.controller.items) ≡ 9 → t.audited ≡ 5
+    → ¬ (IsAudited b t))
+    -- which is legal on this board, and has tickets that fit
+    × (¬ (IsSound b t.trace.firmware.items t.trace.controller.items t.audited)
+    → ¬ (IsAudited b t))
+    × (¬ (TicketsFit t.trace.firmware.items t.trace.controller.items) → ¬ (IsAudited b t))
+not_audited b t = (
+  λ differs is. differs is.board,
+  λ differs is. differs is.told,
+  λ five six is. let e = is.firmware in omega (arith, five, six, e),
+  λ five four is. let e = is.controller in omega (arith, five, four, e),
+  λ nine five is. let e = is.sound.2 in omega (arith, nine, five, e),
+  λ differs is. differs is.sound,
+  λ differs is. differs is.sound.0,
+)
 
 -- Faults ----------------------------------------------------------------------------------------
 
@@ -103,17 +90,14 @@ unfolding IsFound
 illegal_nowhere b none found = none found.0 found.1 found.2
 
 -- tickets that fall, in the firmware's book or in the power controller's
-falling_in_the_firmware : (b : BoardValue) (f g : FwEntry) → g.ticket < f.ticket
-    → IsFound b (Audit audits.Ticket)
+falling : (b : BoardValue) (f g : FwEntry) (c d : CtlEntry)
+    → (g.ticket < f.ticket → IsFound b (Audit audits.Ticket))
+    × (d.ticket < c.ticket → IsFound b (Audit audits.Ticket))
 unfolding IsFound
-falling_in_the_firmware b f g falls =
-    (f ∷ g ∷ [], [], λ fit. let less = fit.firmware.1.0 in omega (arith, less, falls))
-
-falling_in_the_controller : (b : BoardValue) (c d : CtlEntry) → d.ticket < c.ticket
-    → IsFound b (Audit audits.Ticket)
-unfolding IsFound
-falling_in_the_controller b c d falls =
-    ([], c ∷ d ∷ [], λ fit. let less = fit.controller.1.0 in omega (arith, less, falls))
+falling b f g c d = (
+  λ falls. (f ∷ g ∷ [], [], λ fit. let less = fit.firmware.1.0 in omega (arith, less, falls)),
+  λ falls. ([], c ∷ d ∷ [], λ fit. let less = fit.controller.1.0 in omega (arith, less, falls)),
+)
 
 tickets_that_always_fit : (b : BoardValue)
     → ((fs : List FwEntry) (cs : List CtlEntry) → TicketsFit fs cs)
@@ -122,22 +106,7 @@ unfolding IsFound
 tickets_that_always_fit b fit found = found.2 (fit found.0 found.1)
 
 -- the audit itself may run out of memory, as the run may before it
-audit_without_memory : (b : BoardValue) → IsFound b (Audit audits.Memory)
+found_anyway : (b : BoardValue) → IsFound b (Audit audits.Memory) × IsFound b Memory
+    × IsFound b Threads × IsFound b Gate × IsFound b Gather
 unfolding IsFound
-audit_without_memory b = ([], [], tt)
-
-run_without_memory : (b : BoardValue) → IsFound b Memory
-unfolding IsFound
-run_without_memory b = tt
-
-no_threads : (b : BoardValue) → IsFound b Threads
-unfolding IsFound
-no_threads b = tt
-
-gate_said_no : (b : BoardValue) → IsFound b Gate
-unfolding IsFound
-gate_said_no b = tt
-
-not_gathered : (b : BoardValue) → IsFound b Gather
-unfolding IsFound
-not_gathered b = tt
+found_anyway b = (([], [], tt), tt, tt, tt, tt)

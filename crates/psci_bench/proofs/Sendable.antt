@@ -1,10 +1,9 @@
 -- A message that was read on a board can be sent on it.
-use Rattle.std.proofs.Common.{◌≡◌, ℕ, ◌+◌, ◌<◌, ◌≤◌, Bool, true, ◌==◌, List, [], ◌∷◌, length}
-use Rattle.std.proofs.Common.{refl, arith, subst, sym}
+use Rattle.std.proofs.Common.{◌≡◌, ℕ, ◌+◌, ◌≤◌, true, ◌==◌, List, [], ◌∷◌, length}
+use Rattle.std.proofs.Common.{arith, subst, sym}
 use Rattle.std.specs.Prelude.{nat_le}
-use Rattle.std.specs.List.{list_all}
 use Rattle.std.proofs.lemmas.Bool.{and_parts, eqb-true, leb-true}
-use Rattle.psci_board.specs.Board.{BoardValue, cores, height}
+use Rattle.psci_board.specs.Board.{BoardValue, height}
 use Rattle.psci_messages.specs.declared.part.Part.{Part}
 use Rattle.psci_link.specs.declared.frame.Frame.TheVariants.{Message}
 use Rattle.psci_messages.specs.declared.kind.Kind.{Kind}
@@ -31,9 +30,7 @@ few : (h : ℕ) (kind : Kind) (ps : List Part) → ArePartsOf kind ps → is_wit
     → length ps ≤ h + 1
 few h kinds.Down ps are within =
     omega (arith, climbing h 0 ps (omega arith) are.levels within)
-few h kinds.Start ps are within = none h ps are
-few h kinds.Off ps are within = none h ps are
-few h kinds.Reset ps are within = none h ps are
+few h kind ps are within = none h ps are
 
 pub sendable : (b : BoardValue) (m : MessageValue) → IsMessage m → IsOf b (Message m)
     → IsSendable b m

@@ -38,18 +38,16 @@ items = [] ∷ ((1, Pending) ∷ (0, Off) ∷ []) ∷ []
 was_off : HasSeen board items (of 1 0 Off)
 was_off = (omega arith, inr (inl refl))
 
-of_core_0 : HasSeen board items (of 0 0 Off) → ⊥
-of_core_0 h = h.1
-
--- the board has no core 2
-of_core_2 : HasSeen board ([] ∷ [] ∷ ((0, Off) ∷ []) ∷ []) (of 2 0 Off) → ⊥
-of_core_2 h = let e : 2 < 2 = h.0 in omega arith
+-- core 0 was not seen, and the board has no core 2
+not_seen : ¬ (HasSeen board items (of 0 0 Off))
+    × ¬ (HasSeen board ([] ∷ [] ∷ ((0, Off) ∷ []) ∷ []) (of 2 0 Off))
+not_seen = (λ h. h.1, λ h. let e : 2 < 2 = h.0 in omega arith)
 
 both_seen : HaveAllSeen board items (of 1 0 Off ∷ of 1 1 Pending ∷ [])
 both_seen = (was_off, ((omega arith, inl refl), tt))
 
 one_unseen : HaveAllSeen board items (of 1 0 Off ∷ of 0 0 Off ∷ []) → ⊥
-one_unseen h = of_core_0 h.1.0
+one_unseen h = not_seen.0 h.1.0
 
 -- What is kept ------------------------------------------------------------------------------------
 
@@ -61,27 +59,27 @@ serial_of (Some s) = s.serial
 last_of_two : IsLast (of 1 1 Pending) (of 1 0 Off ∷ of 1 1 Pending ∷ [])
 last_of_two = refl
 
-first_of_two : IsLast (of 1 0 Off) (of 1 0 Off ∷ of 1 1 Pending ∷ []) → ⊥
-first_of_two e = let d : ◌≡◌ {A = ℕ} 1 0 = ap serial_of e in omega arith
+-- the first of two, and one of none
+not_last : ¬ (IsLast (of 1 0 Off) (of 1 0 Off ∷ of 1 1 Pending ∷ []))
+    × ¬ (IsLast (of 1 0 Off) [])
+not_last = (
+  λ e. let d : ◌≡◌ {A = ℕ} 1 0 = ap serial_of e in omega arith,
+  λ e. let d : ◌≡◌ {A = ℕ} 9 0 = ap serial_of e in omega arith,
+)
 
-last_of_none : IsLast (of 1 0 Off) [] → ⊥
-last_of_none e = let d : ◌≡◌ {A = ℕ} 9 0 = ap serial_of e in omega arith
+seen_last : IsSeenLast (Some (of 1 1 Pending)) (Some Pending) (of 1 0 Off ∷ of 1 1 Pending ∷ [])
+    × IsSeenLast None None []
+seen_last = ((refl, refl), refl)
 
-pending_is_seen_last : IsSeenLast (Some (of 1 1 Pending)) (Some Pending)
-    (of 1 0 Off ∷ of 1 1 Pending ∷ [])
-pending_is_seen_last = (refl, refl)
-
-pending_is_told_off : IsSeenLast (Some (of 1 1 Pending)) (Some Off) (of 1 1 Pending ∷ []) → ⊥
-pending_is_told_off h = let e : Some Off ≡ Some Pending = h.0 in cc
-
-pending_is_not_kept : IsSeenLast (Some (of 1 1 Pending)) (Some Pending) (of 1 0 Off ∷ []) → ⊥
-pending_is_not_kept h = let d : ◌≡◌ {A = ℕ} 0 1 = ap serial_of h.1 in omega arith
-
-nothing_is_seen : IsSeenLast None None []
-nothing_is_seen = refl
-
-nothing_is_told_off : IsSeenLast None (Some Off) [] → ⊥
-nothing_is_told_off e = let d : Some Off ≡ None = e in cc
+-- what was seen is told as OFF, or is not kept; and so nothing
+not_seen_last : ¬ (IsSeenLast (Some (of 1 1 Pending)) (Some Off) (of 1 1 Pending ∷ []))
+    × ¬ (IsSeenLast (Some (of 1 1 Pending)) (Some Pending) (of 1 0 Off ∷ []))
+    × ¬ (IsSeenLast None (Some Off) [])
+not_seen_last = (
+  λ h. let e : Some Off ≡ Some Pending = h.0 in cc,
+  λ h. let d : ◌≡◌ {A = ℕ} 0 1 = ap serial_of h.1 in omega arith,
+  λ e. let d : Some Off ≡ None = e in cc,
+)
 
 kept_more : IsKept (of 1 0 Off ∷ []) (Some (of 1 1 Pending)) (of 1 0 Off ∷ of 1 1 Pending ∷ [])
 kept_more = inr (of 1 1 Pending, refl, refl)

@@ -1,8 +1,8 @@
 -- Worked examples of lists of entries: in later lives and starts, in OS-initiated mode, in a life
 -- that is to end, and with power state words in the extended format; and for each one that is not
 -- legal.
-use Rattle.std.proofs.Common.{◌≡◌, ℕ, List, [], ◌∷◌, Option, None, Some, pos, negsuc, false}
-use Rattle.std.proofs.Common.{ap, refl, arith}
+use Rattle.std.proofs.Common.{ℕ, List, [], ◌∷◌, Option, None, Some, pos, negsuc, false}
+use Rattle.std.proofs.Common.{refl, arith}
 use Rattle.psci_world_spec.specs.psci_board.Board.{BoardValue}
 use Rattle.psci_board.specs.psci_abi.declared.format.Format.TheVariants.{Extended}
 use Rattle.psci_world_spec.specs.psci_messages.declared.part.Part.{Part}
@@ -25,6 +25,7 @@ use Rattle.psci_audit.specs.Legal.{IsLegal}
 use Rattle.psci_audit.specs.Told.{asked, controlled}
 use Rattle.psci_audit.proofs.ListRows.{boots, delivers_3, enters, judging, on_3}
 use Rattle.psci_audit.proofs.ListRows.{number_in, resets, start, start_number, version}
+use Rattle.psci_examples.proofs.Apart.{apart_by}
 
 -- a core calls a function with one argument, stops, and sends a message or none
 abbrev pub stops : ℕ → ℕ → ℕ → Option MessageValue → Entry
@@ -81,18 +82,21 @@ ends life = Controlled (controlled (asks.Deliver (message kinds.Reset life []))
 abbrev pub boots_in : ℕ → Entry
 boots_in life = enters 0 (record (start 1 causes.Boot) { life = life }) 0x40000000 0
 
+boots_is_legal : IsLegal board (boots ∷ [])
+unfolding judging
+boots_is_legal = ((omega arith, refl, refl, tt, refl), tt)
+
 in_life_2 : IsLegal board (boots_in 2 ∷ ends 1 ∷ system_reset 1 ∷ boots ∷ [])
 unfolding judging
 in_life_2 = (
   (omega arith, refl, refl, tt, refl),
-  (((0, refl), refl), ((omega arith, refl, tt, refl), ((omega arith, refl, refl, tt, refl), tt))),
+  (((0, refl), refl), ((omega arith, refl, tt, refl), boots_is_legal)),
 )
 
 pub wrong_value_in_life_2 : IsLegal board
     (version 0 1 ∷ boots_in 2 ∷ ends 1 ∷ system_reset 1 ∷ boots ∷ []) → ⊥
 unfolding judging
-wrong_value_in_life_2 is =
-    let e : 1 ≡ 65537 = ap number_in is.0.3 in omega (arith, e)
+wrong_value_in_life_2 is = apart_by number_in is.0.3 refl
 
 in_life_3 : IsLegal board (boots_in 3 ∷ ends 2 ∷ system_reset 2 ∷ boots_in 2 ∷ ends 1
     ∷ system_reset 1 ∷ boots ∷ [])
@@ -106,8 +110,7 @@ in_life_3 = (
 pub by_the_last_life : IsLegal board (boots_in 2 ∷ ends 2 ∷ system_reset 2 ∷ boots_in 2 ∷ ends 1
     ∷ system_reset 1 ∷ boots ∷ []) → ⊥
 unfolding judging
-by_the_last_life is =
-    let e : ◌≡◌ {A = ℕ} 3 2 = ap life_number is.0.2 in omega (arith, e)
+by_the_last_life is = apart_by life_number is.0.2 refl
   where
     life_number : Option Start → ℕ
     life_number None = 0
@@ -126,7 +129,7 @@ on_is_legal : IsLegal board on
 unfolding judging
 on_is_legal = (
   (omega arith, refl, refl, tt, refl),
-  (((0, refl), refl), ((omega arith, refl, tt, refl), ((omega arith, refl, refl, tt, refl), tt))),
+  (((0, refl), refl), ((omega arith, refl, tt, refl), boots_is_legal)),
 )
 
 silent_while_halting : IsLegal board (stops 3 0x84000000 0 None ∷ system_off ∷ on)
@@ -135,8 +138,7 @@ silent_while_halting = ((omega arith, refl, tt, refl), ((omega arith, refl, tt, 
 
 pub answered_while_halting : IsLegal board (version 3 65537 ∷ system_off ∷ on) → ⊥
 unfolding judging
-answered_while_halting is =
-    let e : ◌≡◌ {A = ℕ} 0 1 = ap stop_in is.0.3 in omega (arith, e)
+answered_while_halting is = apart_by stop_in is.0.3 refl
 
 -- OS-initiated mode -----------------------------------------------------------------------------
 
@@ -152,21 +154,18 @@ pub stops_in_this_mode : IsLegal board
     (stops 0 0xc4000001 0x02000222 (Some (message kinds.Down 1 (part 0 2 1 ∷ part 1 2 1 ∷ [])))
     ∷ returns 0 0x8400000f 1 0 ∷ on) → ⊥
 unfolding judging
-stops_in_this_mode is = let e : ◌≡◌ {A = ℕ} 1 0 = ap stop_in is.0.3 in omega (arith, e)
+stops_in_this_mode is = apart_by stop_in is.0.3 refl
 
 -- Later starts ----------------------------------------------------------------------------------
 
 fourth_start : IsLegal board (resets 0 4 ∷ resets 0 3 ∷ resets 0 2 ∷ boots ∷ [])
 unfolding judging
-fourth_start = (
-  (omega arith, refl),
-  ((omega arith, refl), ((omega arith, refl), ((omega arith, refl, refl, tt, refl), tt))),
-)
+fourth_start = ((omega arith, refl), ((omega arith, refl), ((omega arith, refl), boots_is_legal)))
 
 pub by_the_third : IsLegal board (enters 0 (start 3 causes.Reset) 0x40000000 0
     ∷ resets 0 4 ∷ resets 0 3 ∷ resets 0 2 ∷ boots ∷ []) → ⊥
 unfolding judging
-by_the_third is = let e : 4 ≡ 3 = ap start_number is.0.2 in omega (arith, e)
+by_the_third is = apart_by start_number is.0.2 refl
 
 -- The extended format ---------------------------------------------------------------------------
 
@@ -186,4 +185,4 @@ pub original_in_extended : IsLegal extended
     (stops 0 0xc4000001 0x01000022 (Some (message kinds.Down 1 (part 0 2 1 ∷ part 1 2 1 ∷ [])))
     ∷ boots ∷ []) → ⊥
 unfolding judging
-original_in_extended is = let e : ◌≡◌ {A = ℕ} 1 0 = ap stop_in is.0.3 in omega (arith, e)
+original_in_extended is = apart_by stop_in is.0.3 refl

@@ -1,6 +1,6 @@
 -- Worked examples: lists of runs that were safe at every moment, as computing says; and for each
 -- axis one that no legal run tells. And what is said of events in a core's fourth start.
-use Rattle.std.proofs.Common.{◌≡◌, List, [], ◌∷◌, None, Some, true, ap, refl, arith}
+use Rattle.std.proofs.Common.{◌≡◌, List, [], ◌∷◌, None, Some, true, refl}
 use Rattle.psci_world_spec.specs.psci_board.Board.{BoardValue}
 use Rattle.psci_board.specs.psci_abi.declared.format.Format.TheVariants.{Extended}
 use Rattle.psci_world_spec.specs.psci_messages.declared.kind.Kind.TheVariants as kinds
@@ -28,6 +28,7 @@ use Rattle.psci_examples.proofs.AuditRows.{by_the_third, ends, message, on}
 use Rattle.psci_examples.proofs.AuditRows.{original_in_extended, refused, returns, stops}
 use Rattle.psci_examples.proofs.AuditRows.{stops_in_this_mode, system_off, system_reset}
 use Rattle.psci_examples.proofs.AuditRows.{wrong_value_in_life_2}
+use Rattle.psci_examples.proofs.Apart.{apart_by}
 
 -- what an example unfolds to compute what a run tells, and that it is safe
 unfoldable checking : Unit {0}
@@ -51,35 +52,41 @@ no_list : (b : BoardValue) (entries : List Entry) → (IsLegal b entries → ⊥
 no_list b entries wrong is =
     wrong (legal_list b entries (record { past = is.past; legal = is.legal; tells = is.tells }))
 
+-- what tells that the boot core entered, that core 3 was asked on and entered, and two lives
+boots_is_told : Tells board (run_from board [] (Enter 0 ∷ [])) (boots ∷ [])
+unfolding checking
+boots_is_told = ((start 1 causes.Boot, refl, refl), tt)
+
+on_is_told : Tells board (run_from board [] (Enter 0 ∷ scripts.on_3 ∷ Deliver 0 ∷ Enter 3 ∷ [])) on
+unfolding checking
+on_is_told = ((start 1 causes.On, refl, refl), ((start_3, refl, refl), (refl, boots_is_told)))
+
+life_2_is_told : Tells board
+    (run_from board [] (Enter 0 ∷ scripts.system_reset 0 ∷ Deliver 0 ∷ Enter 0 ∷ []))
+    (boots_in 2 ∷ ends 1 ∷ system_reset 1 ∷ boots ∷ [])
+unfolding checking
+life_2_is_told = (
+  (record (start 1 causes.Boot) { life = 2 }, refl, refl),
+  ((message kinds.Reset 1 [], refl, refl), (refl, boots_is_told)),
+)
+
 -- The first life --------------------------------------------------------------------------------
 
 boot_core_calls : IsListOfSafe board (version 0 65537 ∷ boots ∷ [])
 unfolding checking
 boot_core_calls = safe_list board (Enter 0 ∷ scripts.version 0 ∷ []) _
-    (refl, ((start 1 causes.Boot, refl, refl), tt)) refl
+    (refl, boots_is_told) refl
 
 wrong_value_told : IsListOfSafe board (version 0 1 ∷ boots ∷ []) → ⊥
 unfolding judging
-wrong_value_told = no_list board _ (λ is.
-    let e : 1 ≡ 65537 = ap number_in is.0.3 in omega (arith, e))
+wrong_value_told = no_list board _ (λ is. apart_by number_in is.0.3 refl)
 
 -- core 3 was asked on, and both call
 both_call : IsListOfSafe board (version 0 65537 ∷ version 3 65537 ∷ on)
 unfolding checking
 both_call = safe_list board
-    (Enter 0 ∷ scripts.on_3 ∷ Deliver 0 ∷ Enter 3 ∷ scripts.version 3 ∷ scripts.version 0 ∷ []) _ (
-      refl,
-      (
-        refl,
-        (
-          (start 1 causes.On, refl, refl),
-          (
-            (start_3, refl, refl),
-            (refl, ((start 1 causes.Boot, refl, refl), tt)),
-          ),
-        ),
-      ),
-    ) refl
+    (Enter 0 ∷ scripts.on_3 ∷ Deliver 0 ∷ Enter 3 ∷ scripts.version 3 ∷ scripts.version 0 ∷ []) _
+    (refl, (refl, on_is_told)) refl
 
 -- a core that does not run
 stopped_core_calls : IsListOfSafe board (version 1 65537 ∷ boots ∷ []) → ⊥
@@ -90,10 +97,8 @@ stopped_core_calls = no_list board _ (λ is. let e = is.0.1 in cc)
 
 two_lives : IsListOfSafe board (boots_in 2 ∷ ends 1 ∷ system_reset 1 ∷ boots ∷ [])
 unfolding checking
-two_lives = safe_list board (Enter 0 ∷ scripts.system_reset 0 ∷ Deliver 0 ∷ Enter 0 ∷ []) _ (
-  (record (start 1 causes.Boot) { life = 2 }, refl, refl),
-  ((message kinds.Reset 1 [], refl, refl), (refl, ((start 1 causes.Boot, refl, refl), tt))),
-) refl
+two_lives = safe_list board (Enter 0 ∷ scripts.system_reset 0 ∷ Deliver 0 ∷ Enter 0 ∷ []) _
+    life_2_is_told refl
 
 wrong_value_told_in_life_2 : IsListOfSafe board
     (version 0 1 ∷ boots_in 2 ∷ ends 1 ∷ system_reset 1 ∷ boots ∷ []) → ⊥
@@ -105,21 +110,8 @@ unfolding checking
 three_lives = safe_list board (Enter 0 ∷ scripts.system_reset 0 ∷ Deliver 0 ∷ Enter 0
     ∷ scripts.system_reset 0 ∷ Deliver 1 ∷ Enter 0 ∷ []) _ (
       (record (start 1 causes.Boot) { life = 3 }, refl, refl),
-      (
-        (message kinds.Reset 2 [], refl, refl),
-        (
-          refl,
-          (
-            (record (start 1 causes.Boot) { life = 2 }, refl, refl),
-            (
-              (message kinds.Reset 1 [], refl, refl),
-              (refl, ((start 1 causes.Boot, refl, refl), tt)),
-            ),
-          ),
-        ),
-      ),
-    )
-    refl
+      ((message kinds.Reset 2 [], refl, refl), (refl, life_2_is_told)),
+    ) refl
 
 told_by_the_last_life : IsListOfSafe board (boots_in 2 ∷ ends 2 ∷ system_reset 2 ∷ boots_in 2
     ∷ ends 1 ∷ system_reset 1 ∷ boots ∷ []) → ⊥
@@ -130,19 +122,7 @@ told_by_the_last_life = no_list board _ by_the_last_life
 silence_told : IsListOfSafe board (stops 3 0x84000000 0 None ∷ system_off ∷ on)
 unfolding checking
 silence_told = safe_list board (Enter 0 ∷ scripts.on_3 ∷ Deliver 0 ∷ Enter 3
-    ∷ scripts.system_off 0 ∷ scripts.version 3 ∷ []) _ (
-      refl,
-      (
-        refl,
-        (
-          (start 1 causes.On, refl, refl),
-          (
-            (start_3, refl, refl),
-            (refl, ((start 1 causes.Boot, refl, refl), tt)),
-          ),
-        ),
-      ),
-    ) refl
+    ∷ scripts.system_off 0 ∷ scripts.version 3 ∷ []) _ (refl, (refl, on_is_told)) refl
 
 answer_told_while_halting : IsListOfSafe board (version 3 65537 ∷ system_off ∷ on) → ⊥
 answer_told_while_halting = no_list board _ answered_while_halting
@@ -151,19 +131,8 @@ denial_told : IsListOfSafe board
     (refused 0 0xc4000001 0x02000222 2 ∷ returns 0 0x8400000f 1 0 ∷ on)
 unfolding checking
 denial_told = safe_list board (Enter 0 ∷ scripts.on_3 ∷ Deliver 0 ∷ Enter 3
-    ∷ call 0 0x8400000f 1 0 0 ∷ call 0 0xc4000001 0x02000222 0 0 ∷ []) _ (
-      refl,
-      (
-        refl,
-        (
-          (start 1 causes.On, refl, refl),
-          (
-            (start_3, refl, refl),
-            (refl, ((start 1 causes.Boot, refl, refl), tt)),
-          ),
-        ),
-      ),
-    ) refl
+    ∷ call 0 0x8400000f 1 0 0 ∷ call 0 0xc4000001 0x02000222 0 0 ∷ []) _
+    (refl, (refl, on_is_told)) refl
 
 stop_told_in_this_mode : IsListOfSafe board
     (stops 0 0xc4000001 0x02000222 (Some (message kinds.Down 1 (part 0 2 1 ∷ part 1 2 1 ∷ [])))
@@ -175,29 +144,27 @@ stop_told_in_this_mode = no_list board _ stops_in_this_mode
 second_start_told : IsListOfSafe board (resets 0 2 ∷ boots ∷ [])
 unfolding checking
 second_start_told = safe_list board (Enter 0 ∷ Reset 0 ∷ []) _
-    (refl, ((start 1 causes.Boot, refl, refl), tt)) refl
+    (refl, boots_is_told) refl
 
 by_the_first_told : IsListOfSafe board (enters 0 (start 1 causes.Boot) 0x40000000 0 ∷ resets 0 2
     ∷ boots ∷ []) → ⊥
 unfolding judging
-by_the_first_told = no_list board _ (λ is.
-    let e : 2 ≡ 1 = ap start_number is.0.2 in omega (arith, e))
+by_the_first_told = no_list board _ (λ is. apart_by start_number is.0.2 refl)
 
 third_start_told : IsListOfSafe board (resets 0 3 ∷ resets 0 2 ∷ boots ∷ [])
 unfolding checking
 third_start_told = safe_list board (Enter 0 ∷ Reset 0 ∷ Reset 0 ∷ []) _
-    (refl, (refl, ((start 1 causes.Boot, refl, refl), tt))) refl
+    (refl, (refl, boots_is_told)) refl
 
 by_the_second_told : IsListOfSafe board (enters 0 (start 2 causes.Reset) 0x40000000 0 ∷ resets 0 3
     ∷ resets 0 2 ∷ boots ∷ []) → ⊥
 unfolding judging
-by_the_second_told = no_list board _ (λ is.
-    let e : 3 ≡ 2 = ap start_number is.0.2 in omega (arith, e))
+by_the_second_told = no_list board _ (λ is. apart_by start_number is.0.2 refl)
 
 fourth_start_told : IsListOfSafe board (resets 0 4 ∷ resets 0 3 ∷ resets 0 2 ∷ boots ∷ [])
 unfolding checking
 fourth_start_told = safe_list board (Enter 0 ∷ Reset 0 ∷ Reset 0 ∷ Reset 0 ∷ []) _
-    (refl, (refl, (refl, ((start 1 causes.Boot, refl, refl), tt)))) refl
+    (refl, (refl, (refl, boots_is_told))) refl
 
 by_the_third_told : IsListOfSafe board (enters 0 (start 3 causes.Reset) 0x40000000 0 ∷ resets 0 4
     ∷ resets 0 3 ∷ resets 0 2 ∷ boots ∷ []) → ⊥

@@ -1,6 +1,6 @@
 -- Worked examples of who calls the firmware, of calls whose first argument is read already, and of
 -- what a reaction and a suspend leave.
-use Rattle.std.proofs.Common.{◌≡◌, ◌<◌, ◌≤◌, ℕ, List, [], ◌∷◌, Option, true, false, None, Some}
+use Rattle.std.proofs.Common.{◌≡◌, ◌≤◌, ℕ, List, [], ◌∷◌, Option, true, false, None, Some}
 use Rattle.std.proofs.Common.{Ok, refl, ap, arith, pos}
 use Rattle.psci_board.specs.Board.{BoardValue, IsBoard, core_of, up}
 use Rattle.psci_board.specs.declared.node.Core.{Core}
@@ -25,6 +25,7 @@ use Rattle.psci_fw.specs.Suspending.{MaySuspend, Suspends}
 use Rattle.psci_fw_state.specs.Seen.{values_in}
 use Rattle.psci_messages.specs.declared.part.Part.{Part}
 use Rattle.psci_state.specs.declared.cores.Activity.TheVariants as activities
+use Rattle.psci_examples.proofs.Apart.{apart_by, never_less}
 
 -- two clusters of two cores: core 0 runs, core 1 is asked on, and the others are off
 abbrev board : BoardValue
@@ -71,15 +72,15 @@ unfolding values_in
 boot_core_calls good values =
     record { board = good; values = values; inside = omega arith; running = refl }
 
-on_a_board_without_starts : IsCaller (record firmware { board = record board { starts = 0 } }) 0 → ⊥
-on_a_board_without_starts h = let e : 0 < 0 = h.board.some_starts in omega (arith, e)
-
-beside_the_board : IsCaller firmware 4 → ⊥
-beside_the_board h = let e : 4 < 4 = h.inside in omega (arith, e)
-
-pending_core_calls : IsCaller firmware 1 → ⊥
+-- on a board without starts, a core beside the board, one that is pending
+calls_not : ¬ (IsCaller (record firmware { board = record board { starts = 0 } }) 0)
+    × ¬ (IsCaller firmware 4) × ¬ (IsCaller firmware 1)
 unfolding values_in
-pending_core_calls h = let e : phases.Pending ≡ phases.Running = h.running in absurd (cc)
+calls_not = (
+  λ h. never_less 0 h.board.some_starts,
+  λ h. never_less 4 h.inside,
+  λ h. let e : phases.Pending ≡ phases.Running = h.running in absurd cc,
+)
 
 -- Calls that are read ---------------------------------------------------------------------------
 
@@ -94,34 +95,30 @@ second_cluster : IsOnOf board (call 0xC4000003 0x100) (core 2)
 unfolding core_of
 second_cluster = record { request = refl; named = refl; inside = omega arith }
 
+abbrev number_of : Option Core → ℕ
+number_of None = 0
+number_of (Some it) = it.number
+
 -- another function; another core; and one that the board does not have
-affinity_info : IsOnOf board (call 0xC4000004 0x100) (core 2) → ⊥
-affinity_info h =
-    let e : requests.AffinityInfo 48 0x100 ≡ requests.CpuOn 0x100 48 7 = h.request in absurd (cc)
-
-another_core : IsOnOf board (call 0xC4000003 0x100) (core 3) → ⊥
+not_on_of : ¬ (IsOnOf board (call 0xC4000004 0x100) (core 2))
+    × ¬ (IsOnOf board (call 0xC4000003 0x100) (core 3))
+    × ¬ (IsOnOf board (call 0xC4000003 0x100) (core 4))
 unfolding core_of
-another_core h =
-    let e : ◌≡◌ {A = ℕ} 2 3 = ap (λ (it : Option Core). number_of it) h.named in omega arith
-  where
-    number_of : Option Core → ℕ
-    number_of None = 0
-    number_of (Some it) = it.number
-
-core_of_no_board : IsOnOf board (call 0xC4000003 0x100) (core 4) → ⊥
-core_of_no_board h = let e : 4 < 4 = h.inside in omega (arith, e)
+not_on_of = (
+  λ h. let e : requests.AffinityInfo 48 0x100 ≡ requests.CpuOn 0x100 48 7 = h.request in absurd cc,
+  λ h. apart_by number_of h.named refl,
+  λ h. never_less 4 h.inside,
+)
 
 -- the call is carried out; not of a core that is pending, and not of another core than is named
 boot_core_turns_on : CallsOn firmware 0 (call 0xC4000003 0x100) (core 2)
 unfolding values_in
 boot_core_turns_on = record { call = refl; on = second_cluster }
 
-pending_core_turns_on : CallsOn firmware 1 (call 0xC4000003 0x100) (core 2) → ⊥
+turns_not_on : ¬ (CallsOn firmware 1 (call 0xC4000003 0x100) (core 2))
+    × ¬ (CallsOn firmware 0 (call 0xC4000003 0x100) (core 4))
 unfolding values_in
-pending_core_turns_on h = let e : false ≡ true = h.call in absurd (cc)
-
-turns_on_a_core_of_no_board : CallsOn firmware 0 (call 0xC4000003 0x100) (core 4) → ⊥
-turns_on_a_core_of_no_board h = core_of_no_board h.on
+turns_not_on = (λ h. let e : false ≡ true = h.call in absurd cc, λ h. not_on_of.2 h.on)
 
 -- core 0 asks for retention of itself
 retention : IsSuspendOf board (call 0xC4000001 0x2) (2 ∷ 0 ∷ 0 ∷ 0 ∷ [])
@@ -135,12 +132,14 @@ boot_core_sleeps : CallsSuspend firmware 0 (call 0xC4000001 0x2) (2 ∷ 0 ∷ 0 
 unfolding values_in
 boot_core_sleeps = record { call = refl; suspend = retention }
 
-pending_core_sleeps : CallsSuspend firmware 1 (call 0xC4000001 0x2) (2 ∷ 0 ∷ 0 ∷ 0 ∷ []) → ⊥
+-- a core that is pending, and by another call
+sleeps_not : ¬ (CallsSuspend firmware 1 (call 0xC4000001 0x2) (2 ∷ 0 ∷ 0 ∷ 0 ∷ []))
+    × ¬ (CallsSuspend firmware 0 (call 0xC4000003 0x2) (2 ∷ 0 ∷ 0 ∷ 0 ∷ []))
 unfolding values_in
-pending_core_sleeps h = let e : false ≡ true = h.call in absurd (cc)
-
-sleeps_by_another_call : CallsSuspend firmware 0 (call 0xC4000003 0x2) (2 ∷ 0 ∷ 0 ∷ 0 ∷ []) → ⊥
-sleeps_by_another_call h = turns_on_in_its_place h.suspend
+sleeps_not = (
+  λ h. let e : false ≡ true = h.call in absurd cc,
+  λ h. turns_on_in_its_place h.suspend,
+)
 
 -- Reactions -------------------------------------------------------------------------------------
 
@@ -150,14 +149,14 @@ stops slot = record { act = acts.Stop; slot = slot }
 nothing_sent : IsReaction firmware firmware (stops None)
 nothing_sent = record { slot = refl; board = refl }
 
-slot_is_empty : IsReaction firmware firmware (stops (Some 0)) → ⊥
+-- the slot is empty; the board is another
+reacts_not : ¬ (IsReaction firmware firmware (stops (Some 0)))
+    × ¬ (IsReaction firmware (record firmware { board = record board { starts = 8 } }) (stops None))
 unfolding values_in
-slot_is_empty h = let e : ◌≡◌ {A = Option ℕ} (Some 0) None = h.slot in absurd (cc)
-
-on_another_board : IsReaction firmware (record firmware { board = record board { starts = 8 } })
-    (stops None) → ⊥
-on_another_board h =
-    let e : ◌≡◌ {A = ℕ} 8 9 = ap (λ (b : BoardValue). b.starts) h.board in omega arith
+reacts_not = (
+  λ h. let e : ◌≡◌ {A = Option ℕ} (Some 0) None = h.slot in absurd cc,
+  λ h. apart_by (λ (b : BoardValue). b.starts) h.board refl,
+)
 
 -- Suspends --------------------------------------------------------------------------------------
 

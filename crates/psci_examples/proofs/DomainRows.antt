@@ -18,6 +18,7 @@ use Rattle.psci_ctl_spec.specs.Parts.{applied, is_stale}
 use Rattle.psci_ctl_spec.specs.Replies.{delivery_of, reply, reset_of, wake_of}
 use Rattle.psci_ctl_spec.specs.Values.{starts_below}
 use Rattle.psci_ctl_spec.proofs.Steps.{ack, board, down, part, reset, started, wake}
+use Rattle.psci_examples.proofs.Apart.{never_less}
 
 -- every domain is as deep as this
 abbrev all : ℕ → ℕ → ℕ → ℕ
@@ -84,7 +85,7 @@ calls_of_the_board : AreCalls board (reset 3 ∷ wake 3 0 ∷ [])
 calls_of_the_board = (omega arith, (omega arith, tt))
 
 call_of_no_core : AreCalls board (reset 4 ∷ []) → ⊥
-call_of_no_core are = let no : 4 < 4 = are.0 in omega (arith, no)
+call_of_no_core are = never_less 4 are.0
 
 starts_alone : NeverShallower board (exchange (wake 3 0) (started 1 1 causes.Wake) ∷ [])
 unfolding effect_of

@@ -1,7 +1,7 @@
 -- Worked examples of replies, of what a function of the firmware leaves, and of what threads keep
 -- of it: books, passes and places.
 use Rattle.std.proofs.Common.{◌≡◌, ℕ, ◌≤◌, List, [], ◌∷◌, length, Ok, Err}
-use Rattle.std.proofs.Common.{false, None, refl, ap, arith}
+use Rattle.std.proofs.Common.{false, None, refl, arith}
 use Rattle.psci_fw.specs.psci_abi.declared.registers.Regs.{Regs}
 use Rattle.psci_fw.specs.psci_abi.declared.request.Request.{Request}
 use Rattle.psci_fw.specs.psci_board.Board.{BoardValue}
@@ -22,17 +22,18 @@ use Rattle.psci_shared.specs.Locked.{IsReply}
 use Rattle.psci_shared.specs.Names.{no_table}
 use Rattle.psci_shared.specs.Passes.{Fits, PassView}
 use Rattle.psci_shared.specs.Places.{AllRise}
+use Rattle.psci_board.proofs.Tables.{◌⇒◌, Gives}
+use Rattle.psci_examples.proofs.Apart.{apart_by}
 
 -- Replies ---------------------------------------------------------------------------------------
 
 abbrev stops : Outcome
 stops = record { act = acts.Stop; message = None }
 
-an_outcome : reply_of (Ok stops) ≡ replies.Out stops
-an_outcome = refl
-
-a_fault : reply_of (Err NotRunning) ≡ replies.Fault NotRunning
-a_fault = refl
+replies_of : Gives reply_of
+    (Ok stops ⇒ replies.Out stops
+    ∷ Err NotRunning ⇒ replies.Fault NotRunning ∷ [])
+replies_of = refl
 
 -- a function is answered by its outcome alone
 another_outcome : (b : BoardValue) (v w : Values) (c : ℕ) (r : Request) (o : Outcome)
@@ -72,17 +73,13 @@ pass core = record {
 no_passes : AreMet [] []
 no_passes = ([], refl)
 
-a_pass_is_lost : AreMet (pass 0 ∷ []) [] → ⊥
-a_pass_is_lost are =
-    let e : ◌≡◌ {A = ℕ} 0 1 = ap length are.1 in omega (arith, e)
+abbrev first_core : List PassView → ℕ
+first_core [] = 9
+first_core (p ∷ ps) = p.core.number
 
-another_core : AreMet (pass 0 ∷ []) (pass 1 ∷ []) → ⊥
-another_core are =
-    let e : ◌≡◌ {A = ℕ} 1 0 = ap first_core are.1 in omega (arith, e)
-  where
-    first_core : List PassView → ℕ
-    first_core [] = 9
-    first_core (p ∷ ps) = p.core.number
+-- a pass is lost; it is of another core
+not_met : ¬ (AreMet (pass 0 ∷ []) []) × ¬ (AreMet (pass 0 ∷ []) (pass 1 ∷ []))
+not_met = (λ are. apart_by length are.1 refl, λ are. apart_by first_core are.1 refl)
 
 no_words : no_table.words ≡ 0
 no_words = refl

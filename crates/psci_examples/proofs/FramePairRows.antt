@@ -1,7 +1,7 @@
 -- Frames with two faults each, of which the one that is told comes first in the table of faults: of
 -- each kind of message, acknowledgement and stale acknowledgement, every pair of faults that it can
 -- have. And what bytes have as their heading.
-use Rattle.std.proofs.Common.{◌≡◌, ℕ, zero, suc, ◌<◌, List, [], ◌∷◌, ◌++◌, map, refl, arith}
+use Rattle.std.proofs.Common.{◌≡◌, ℕ, zero, suc, List, [], ◌∷◌, ◌++◌, map, refl, arith}
 use Rattle.std.specs.Prelude.{Option, Some, slice_set, take, replicate}
 use Rattle.psci_link.specs.declared.fault.FrameFault.{FrameFault}
 use Rattle.psci_link.specs.declared.fault.FrameFault.TheVariants as faults
@@ -11,6 +11,8 @@ use Rattle.psci_link.specs.Frame.{AreBytes, fault_of_kind, first_fault}
 use Rattle.psci_link.specs.Heading.{HasHeading}
 use Rattle.psci_link.proofs.FaultRows.{acknowledged, board, down, start}
 use Rattle.psci_messages.specs.declared.kind.Kind.TheVariants.{Down}
+use Rattle.psci_board.proofs.Tables.{◌⇒◌, Gives}
+use Rattle.psci_examples.proofs.Apart.{apart_by, itself, never_less}
 
 -- Each fault, made in the bytes of a frame: one byte less, another byte.
 abbrev short : List ℕ → List ℕ
@@ -60,10 +62,6 @@ of_kind byte bytes = slice_set bytes 2 byte
 
 -- Messages --------------------------------------------------------------------------------------
 
-down_message : pairs down ≡ in_order
-unfolding first_fault fault_of_kind
-down_message = refl
-
 -- a Down can have two faults more, in its parts
 abbrev in_parts : List (Option FrameFault)
 in_parts = map (first_fault board) (
@@ -79,62 +77,35 @@ parts_of_a_down : in_parts
 unfolding first_fault fault_of_kind
 parts_of_a_down = refl
 
-start_message : pairs (of_kind 0x02 start) ≡ in_order
+messages : Gives pairs
+    (down ⇒ in_order
+    ∷ of_kind 0x02 start ⇒ in_order
+    ∷ of_kind 0x03 start ⇒ in_order
+    ∷ of_kind 0x04 start ⇒ in_order ∷ [])
 unfolding first_fault fault_of_kind
-start_message = refl
-
-off_message : pairs (of_kind 0x03 start) ≡ in_order
-unfolding first_fault fault_of_kind
-off_message = refl
-
-reset_message : pairs (of_kind 0x04 start) ≡ in_order
-unfolding first_fault fault_of_kind
-reset_message = refl
+messages = refl
 
 -- Acknowledgements ------------------------------------------------------------------------------
 
-down_acknowledgement : pairs (of_kind 0x11 acknowledged) ≡ in_order
+acknowledgements : Gives pairs
+    (of_kind 0x11 acknowledged ⇒ in_order
+    ∷ of_kind 0x12 start ⇒ in_order
+    ∷ of_kind 0x13 start ⇒ in_order
+    ∷ of_kind 0x14 start ⇒ in_order
+    ∷ of_kind 0x21 acknowledged ⇒ in_order
+    ∷ of_kind 0x22 start ⇒ in_order
+    ∷ of_kind 0x23 start ⇒ in_order
+    ∷ of_kind 0x24 start ⇒ in_order ∷ [])
 unfolding first_fault fault_of_kind
-down_acknowledgement = refl
-
-start_acknowledgement : pairs (of_kind 0x12 start) ≡ in_order
-unfolding first_fault fault_of_kind
-start_acknowledgement = refl
-
-off_acknowledgement : pairs (of_kind 0x13 start) ≡ in_order
-unfolding first_fault fault_of_kind
-off_acknowledgement = refl
-
-reset_acknowledgement : pairs (of_kind 0x14 start) ≡ in_order
-unfolding first_fault fault_of_kind
-reset_acknowledgement = refl
-
-stale_down_acknowledgement : pairs (of_kind 0x21 acknowledged) ≡ in_order
-unfolding first_fault fault_of_kind
-stale_down_acknowledgement = refl
-
-stale_start_acknowledgement : pairs (of_kind 0x22 start) ≡ in_order
-unfolding first_fault fault_of_kind
-stale_start_acknowledgement = refl
-
-stale_off_acknowledgement : pairs (of_kind 0x23 start) ≡ in_order
-unfolding first_fault fault_of_kind
-stale_off_acknowledgement = refl
-
-stale_reset_acknowledgement : pairs (of_kind 0x24 start) ≡ in_order
-unfolding first_fault fault_of_kind
-stale_reset_acknowledgement = refl
+acknowledgements = refl
 
 -- Headings --------------------------------------------------------------------------------------
 
 a_down : HasHeading down (headings.Message Down)
 a_down = record { whole = refl; magic = refl; kind = refl }
 
-short_frame : HasHeading (short down) (headings.Message Down) → ⊥
-short_frame has = let no : 52 ≡ 53 = has.whole in omega (arith, no)
-
-no_bytes : (h : Heading) → HasHeading [] h → ⊥
-no_bytes h has = let no : 0 ≡ 53 = has.whole in omega (arith, no)
+headless : (h : Heading) → ¬ (HasHeading (short down) (headings.Message Down)) × ¬ (HasHeading [] h)
+headless h = (λ has. apart_by itself has.whole refl, λ has. apart_by itself has.whole refl)
 
 -- each number is a byte; past the end stand zeros
 two_bytes : AreBytes (0x50 ∷ 255 ∷ [])
@@ -143,4 +114,4 @@ two_bytes (suc zero) = omega arith
 two_bytes (suc (suc i)) = omega arith
 
 no_byte : AreBytes (0x50 ∷ 256 ∷ []) → ⊥
-no_byte are = let no : 256 < 256 = are 1 in omega (arith, no)
+no_byte are = never_less 256 (are 1)

@@ -1,3 +1,4 @@
+mod Apart
 mod AuditRows
 mod AuditSafeRows
 mod CallerRows

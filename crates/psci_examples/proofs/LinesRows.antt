@@ -13,6 +13,7 @@ use Rattle.psci_script.specs.Block.{ReadAhead, Refills}
 use Rattle.psci_script.specs.Progress.{Ahead, FailsAhead, FailsLine, FaultyLine, FindsLine}
 use Rattle.psci_script.specs.Progress.{ReadFailed, ReadsAhead, WriteFailed}
 use Rattle.psci_script.specs.Progress.{Progress, progress}
+use Rattle.psci_examples.proofs.Apart.{apart_by, never_less}
 
 -- What is read ahead ----------------------------------------------------------------------------
 
@@ -148,18 +149,19 @@ a_read_failed = record {
 }
 
 -- an answer still waits; the source had ended
-answer_waits : ReadFailed (at [] false [] (49 ∷ []) []) (at [] false [] (49 ∷ []) []) → ⊥
-answer_waits failed = let e : ◌≡◌ {A = ℕ} 1 0 = ap length failed.none_wait in omega (arith, e)
-
-failed_after_the_end : ReadFailed (at [] true [] [] []) (at [] true [] [] []) → ⊥
-failed_after_the_end failed = let e = failed.going in cc
+read_not_failed : ¬ (ReadFailed (at [] false [] (49 ∷ []) []) (at [] false [] (49 ∷ []) []))
+    × ¬ (ReadFailed (at [] true [] [] []) (at [] true [] [] []))
+read_not_failed = (
+  λ failed. apart_by length failed.none_wait refl,
+  λ failed. let e = failed.going in cc,
+)
 
 fails_at_a_read : FailsAhead stops.Read (at (65 ∷ []) false [] [] []) (at (65 ∷ []) false [] [] [])
 fails_at_a_read = (a_read_failed, refl)
 
 fails_and_has_bytes : FailsAhead stops.Read (at [] false (66 ∷ []) [] [])
     (at (66 ∷ []) false [] [] []) → ⊥
-fails_and_has_bytes fails = let e : ◌≡◌ {A = ℕ} 1 0 = ap length fails.1 in omega (arith, e)
+fails_and_has_bytes fails = apart_by length fails.1 refl
 
 -- one of two bytes that waited was written
 a_write_failed : WriteFailed (at [] false (65 ∷ []) (49 ∷ 10 ∷ []) [])
@@ -174,11 +176,9 @@ a_write_failed = record {
 
 fails_at_a_write : FailsAhead stops.Write (at [] false (65 ∷ []) (49 ∷ 10 ∷ []) [])
     (at [] false (65 ∷ []) (49 ∷ 10 ∷ []) (49 ∷ []))
-fails_at_a_write = a_write_failed
-
-fault_of_reading_ahead : ReadsAhead (Err stops.Write) (at [] false (65 ∷ []) (49 ∷ 10 ∷ []) [])
+    × ReadsAhead (Err stops.Write) (at [] false (65 ∷ []) (49 ∷ 10 ∷ []) [])
     (at [] false (65 ∷ []) (49 ∷ 10 ∷ []) (49 ∷ []))
-fault_of_reading_ahead = a_write_failed
+fails_at_a_write = (a_write_failed, a_write_failed)
 
 -- reading ahead needs no memory, and looks at no line
 no_memory_ahead : (s t : Progress) → FailsAhead stops.Memory s t → ⊥
@@ -223,39 +223,28 @@ line_feed_inside s t is finds =
 
 bytes_without_a_line : FindsLine 3 (Ok None) (at (65 ∷ []) true [] [] [])
     (at (65 ∷ []) true [] [] []) → ⊥
-bytes_without_a_line finds = let e : ◌≡◌ {A = ℕ} 1 0 = ap length finds.1 in omega (arith, e)
+bytes_without_a_line finds = apart_by length finds.1 refl
 
 -- what is at the front of bytes: a line, a part of one, or a line that is too long
-front_line : IsFrontOf (fronts.Whole 2) (65 ∷ 66 ∷ 10 ∷ 67 ∷ [])
-front_line = (omega arith, omega arith, refl, refl)
+fronts_of : IsFrontOf (fronts.Whole 2) (65 ∷ 66 ∷ 10 ∷ 67 ∷ [])
+    × IsFrontOf fronts.Part (65 ∷ 66 ∷ []) × IsFrontOf fronts.Long (replicate 257 65)
+fronts_of = ((omega arith, omega arith, refl, refl), (omega arith, refl), (omega arith, refl))
 
-second_line : IsFrontOf (fronts.Whole 2) (65 ∷ 10 ∷ 10 ∷ []) → ⊥
-second_line is = let e = is.2 in cc
-
-front_part : IsFrontOf fronts.Part (65 ∷ 66 ∷ [])
-front_part = (omega arith, refl)
-
-part_with_a_line_feed : IsFrontOf fronts.Part (65 ∷ 10 ∷ []) → ⊥
-part_with_a_line_feed is = let e = is.1 in cc
-
-front_of_a_long_line : IsFrontOf fronts.Long (replicate 257 65)
-front_of_a_long_line = (omega arith, refl)
-
-longest_front : IsFrontOf fronts.Long (replicate 256 65) → ⊥
-longest_front is = let no : 256 < 256 = is.0 in omega (arith, no)
+-- the second line, a part with a line feed, a line that is not too long
+no_fronts_of : ¬ (IsFrontOf (fronts.Whole 2) (65 ∷ 10 ∷ 10 ∷ []))
+    × ¬ (IsFrontOf fronts.Part (65 ∷ 10 ∷ [])) × ¬ (IsFrontOf fronts.Long (replicate 256 65))
+no_fronts_of = (λ is. let e = is.2 in cc, λ is. let e = is.1 in cc, λ is. never_less 256 is.0)
 
 -- line 1,000,001 has begun; 257 bytes and no line feed
 too_many_lines : FaultyLine 1000001 faults.TooMany (at (65 ∷ []) false [] [] [])
 too_many_lines = (omega arith, omega arith)
 
-not_too_many : FaultyLine 1000000 faults.TooMany (at (65 ∷ []) false [] [] []) → ⊥
-not_too_many faulty = let no : 1000000 < 1000000 = faulty.0 in omega (arith, no)
-
 too_long_a_line : FaultyLine 3 faults.Long (at (replicate 257 65) false [] [] [])
 too_long_a_line = (omega arith, omega arith, refl)
 
-not_too_long : FaultyLine 3 faults.Long (at (replicate 256 65) false [] [] []) → ⊥
-not_too_long faulty = let no : 256 < 256 = faulty.1 in omega (arith, no)
+not_too_much : ¬ (FaultyLine 1000000 faults.TooMany (at (65 ∷ []) false [] [] []))
+    × ¬ (FaultyLine 3 faults.Long (at (replicate 256 65) false [] [] []))
+not_too_much = (λ faulty. never_less 1000000 faulty.0, λ faulty. never_less 256 faulty.1)
 
 fails_at_a_long_line : FailsLine 3 (stops.Script 3 faults.Long)
     (at (replicate 257 65) false [] [] []) (at (replicate 257 65) false [] [] [])

@@ -1,7 +1,7 @@
 -- Worked examples of which statuses are the last after the calls of a firmware that threads share,
 -- so that a pass that made them has seen them; and for each axis some that are not the last.
-use Rattle.std.proofs.Common.{◌≡◌, ℕ, zero, suc, ◌<◌, List, [], ◌∷◌, Option, None, Some, pos, refl}
-use Rattle.std.proofs.Common.{ap, arith}
+use Rattle.std.proofs.Common.{ℕ, zero, suc, ◌<◌, List, [], ◌∷◌, Option, None, Some, pos, refl}
+use Rattle.std.proofs.Common.{arith}
 use Rattle.psci_board.specs.psci_abi.declared.format.Format.TheVariants.{Extended, Original}
 use Rattle.psci_fw.specs.psci_board.Board.{BoardValue, core_of}
 use Rattle.psci_messages.specs.declared.part.Part.{Part}
@@ -27,6 +27,7 @@ use Rattle.psci_status.specs.Lists.{Item}
 use Rattle.psci_shared.specs.Entries.{FwEntry}
 use Rattle.psci_shared.specs.Books.{entry, history_of}
 use Rattle.psci_shared.specs.Writing.{AllLast, HasSeen}
+use Rattle.psci_examples.proofs.Apart.{apart_by}
 
 -- what an example unfolds to compute the statuses after entries that are written out
 unfoldable computing : Unit {0}
@@ -105,42 +106,39 @@ abbrev last : List Item → ℕ
 last [] = 99
 last (i ∷ is) = i.0
 
+-- a fact about each core of the board
+both : (P : ℕ → Type 0) → P 0 → P 1 → (core : ℕ) → core < 2 → P core
+both P zeroth first zero h = zeroth
+both P zeroth first (suc zero) h = first
+both P zeroth first (suc (suc core)) h = absurd (omega (arith, h))
+
 -- The first life ---------------------------------------------------------------------------------
 
 boot_core_is_on : AllLast board (boots_in 1 ∷ []) (seen (2, On) (0, Off))
 unfolding computing
-boot_core_is_on zero h = ([], refl)
-boot_core_is_on (suc zero) h = ([], refl)
-boot_core_is_on (suc (suc core)) h = let k : suc (suc core) < 2 = h in absurd (omega arith)
+boot_core_is_on = both _ ([], refl) ([], refl)
 
 boot_core_was_pending : AllLast board (boots_in 1 ∷ []) (seen (1, Pending) (0, Off)) → ⊥
 unfolding computing
-boot_core_was_pending h =
-    let e : ◌≡◌ {A = ℕ} 1 2 = ap last (h 0 (omega arith)).1 in omega (arith, e)
+boot_core_was_pending h = apart_by last (h 0 (omega arith)).1 refl
 
 -- right after an accepted CPU_ON the caller has seen ON_PENDING of the target
 target_is_pending : AllLast board (boots_in 1 ∷ on_1 ∷ []) (seen (2, On) (1, Pending))
 unfolding computing
-target_is_pending zero h = ([], refl)
-target_is_pending (suc zero) h = ([], refl)
-target_is_pending (suc (suc core)) h = let k : suc (suc core) < 2 = h in absurd (omega arith)
+target_is_pending = both _ ([], refl) ([], refl)
 
 target_was_off : AllLast board (boots_in 1 ∷ on_1 ∷ []) (seen (2, On) (0, Off)) → ⊥
 unfolding computing
-target_was_off h =
-    let e : ◌≡◌ {A = ℕ} 0 1 = ap last (h 1 (omega arith)).1 in omega (arith, e)
+target_was_off h = apart_by last (h 1 (omega arith)).1 refl
 
 target_is_on : AllLast board (boots_in 1 ∷ on_1 ∷ enters_1 ∷ []) (seen (2, On) (2, On))
 unfolding computing
-target_is_on zero h = ([], refl)
-target_is_on (suc zero) h = ([], refl)
-target_is_on (suc (suc core)) h = let k : suc (suc core) < 2 = h in absurd (omega arith)
+target_is_on = both _ ([], refl) ([], refl)
 
 target_was_pending : AllLast board (boots_in 1 ∷ on_1 ∷ enters_1 ∷ [])
     (seen (2, On) (1, Pending)) → ⊥
 unfolding computing
-target_was_pending h =
-    let e : ◌≡◌ {A = ℕ} 1 2 = ap last (h 1 (omega arith)).1 in omega (arith, e)
+target_was_pending h = apart_by last (h 1 (omega arith)).1 refl
 
 has_seen_pending : HasSeen (seen (2, On) (1, Pending)) 1 Pending
 has_seen_pending = (1, ([], refl))
@@ -149,28 +147,22 @@ has_seen_pending = (1, ([], refl))
 
 on_in_life_2 : AllLast board (boots_in 1 ∷ system_reset 1 ∷ boots_in 2 ∷ []) (seen (4, On) (0, Off))
 unfolding computing
-on_in_life_2 zero h = ([], refl)
-on_in_life_2 (suc zero) h = ([], refl)
-on_in_life_2 (suc (suc core)) h = let k : suc (suc core) < 2 = h in absurd (omega arith)
+on_in_life_2 = both _ ([], refl) ([], refl)
 
 on_in_life_1 : AllLast board (boots_in 1 ∷ system_reset 1 ∷ boots_in 2 ∷ [])
     (seen (2, On) (0, Off)) → ⊥
 unfolding computing
-on_in_life_1 h =
-    let e : ◌≡◌ {A = ℕ} 2 4 = ap last (h 0 (omega arith)).1 in omega (arith, e)
+on_in_life_1 h = apart_by last (h 0 (omega arith)).1 refl
 
 on_in_life_3 : AllLast board (boots_in 1 ∷ system_reset 1 ∷ boots_in 2 ∷ system_reset 2
     ∷ boots_in 3 ∷ []) (seen (6, On) (0, Off))
 unfolding computing
-on_in_life_3 zero h = ([], refl)
-on_in_life_3 (suc zero) h = ([], refl)
-on_in_life_3 (suc (suc core)) h = let k : suc (suc core) < 2 = h in absurd (omega arith)
+on_in_life_3 = both _ ([], refl) ([], refl)
 
 on_in_the_last_life : AllLast board (boots_in 1 ∷ system_reset 1 ∷ boots_in 2 ∷ system_reset 2
     ∷ boots_in 3 ∷ []) (seen (4, On) (0, Off)) → ⊥
 unfolding computing
-on_in_the_last_life h =
-    let e : ◌≡◌ {A = ℕ} 4 6 = ap last (h 0 (omega arith)).1 in omega (arith, e)
+on_in_the_last_life h = apart_by last (h 0 (omega arith)).1 refl
 
 -- A life that is to end, and OS-initiated mode ---------------------------------------------------
 
@@ -178,77 +170,59 @@ on_in_the_last_life h =
 on_while_halting : AllLast board (boots_in 1 ∷ on_1 ∷ enters_1 ∷ system_off
     ∷ calls 1 0x84000000 0 acts.Stop None ∷ []) (seen (2, On) (2, On))
 unfolding computing
-on_while_halting zero h = ([], refl)
-on_while_halting (suc zero) h = ([], refl)
-on_while_halting (suc (suc core)) h = let k : suc (suc core) < 2 = h in absurd (omega arith)
+on_while_halting = both _ ([], refl) ([], refl)
 
 pending_while_halting : AllLast board (boots_in 1 ∷ on_1 ∷ enters_1 ∷ system_off
     ∷ calls 1 0x84000000 0 acts.Stop None ∷ []) (seen (2, On) (1, Pending)) → ⊥
 unfolding computing
-pending_while_halting h =
-    let e : ◌≡◌ {A = ℕ} 1 2 = ap last (h 1 (omega arith)).1 in omega (arith, e)
+pending_while_halting h = apart_by last (h 1 (omega arith)).1 refl
 
 pending_in_this_mode : AllLast board
     (boots_in 1 ∷ calls 0 0x8400000f 1 returns_0 None ∷ on_1 ∷ []) (seen (2, On) (1, Pending))
 unfolding computing
-pending_in_this_mode zero h = ([], refl)
-pending_in_this_mode (suc zero) h = ([], refl)
-pending_in_this_mode (suc (suc core)) h = let k : suc (suc core) < 2 = h in absurd (omega arith)
+pending_in_this_mode = both _ ([], refl) ([], refl)
 
 off_in_this_mode : AllLast board
     (boots_in 1 ∷ calls 0 0x8400000f 1 returns_0 None ∷ on_1 ∷ []) (seen (2, On) (0, Off)) → ⊥
 unfolding computing
-off_in_this_mode h =
-    let e : ◌≡◌ {A = ℕ} 0 1 = ap last (h 1 (omega arith)).1 in omega (arith, e)
+off_in_this_mode h = apart_by last (h 1 (omega arith)).1 refl
 
 -- Later starts -----------------------------------------------------------------------------------
 
 -- a core that parks is said to be ON until its Down was carried out
 second_start : AllLast board (boots_in 1 ∷ resets 2 ∷ []) (seen (2, On) (0, Off))
 unfolding computing
-second_start zero h = ([], refl)
-second_start (suc zero) h = ([], refl)
-second_start (suc (suc core)) h = let k : suc (suc core) < 2 = h in absurd (omega arith)
+second_start = both _ ([], refl) ([], refl)
 
 second_start_seen_late : AllLast board (boots_in 1 ∷ resets 2 ∷ []) (seen (1, Pending) (0, Off)) → ⊥
 unfolding computing
-second_start_seen_late h =
-    let e : ◌≡◌ {A = ℕ} 1 2 = ap last (h 0 (omega arith)).1 in omega (arith, e)
+second_start_seen_late h = apart_by last (h 0 (omega arith)).1 refl
 
 third_start : AllLast board (boots_in 1 ∷ resets 2 ∷ resets 3 ∷ []) (seen (2, On) (0, Off))
 unfolding computing
-third_start zero h = ([], refl)
-third_start (suc zero) h = ([], refl)
-third_start (suc (suc core)) h = let k : suc (suc core) < 2 = h in absurd (omega arith)
+third_start = both _ ([], refl) ([], refl)
 
 third_start_seen_late : AllLast board (boots_in 1 ∷ resets 2 ∷ resets 3 ∷ [])
     (seen (1, Pending) (0, Off)) → ⊥
 unfolding computing
-third_start_seen_late h =
-    let e : ◌≡◌ {A = ℕ} 1 2 = ap last (h 0 (omega arith)).1 in omega (arith, e)
+third_start_seen_late h = apart_by last (h 0 (omega arith)).1 refl
 
 fourth_start : AllLast board (boots_in 1 ∷ resets 2 ∷ resets 3 ∷ resets 4 ∷ [])
     (seen (2, On) (0, Off))
 unfolding computing
-fourth_start zero h = ([], refl)
-fourth_start (suc zero) h = ([], refl)
-fourth_start (suc (suc core)) h = let k : suc (suc core) < 2 = h in absurd (omega arith)
+fourth_start = both _ ([], refl) ([], refl)
 
 fourth_start_seen_late : AllLast board (boots_in 1 ∷ resets 2 ∷ resets 3 ∷ resets 4 ∷ [])
     (seen (1, Pending) (0, Off)) → ⊥
 unfolding computing
-fourth_start_seen_late h =
-    let e : ◌≡◌ {A = ℕ} 1 2 = ap last (h 0 (omega arith)).1 in omega (arith, e)
+fourth_start_seen_late h = apart_by last (h 0 (omega arith)).1 refl
 
 -- The extended format ----------------------------------------------------------------------------
 
 on_in_extended : AllLast extended (boots_in 1 ∷ on_1 ∷ []) (seen (2, On) (1, Pending))
 unfolding computing
-on_in_extended zero h = ([], refl)
-on_in_extended (suc zero) h = ([], refl)
-on_in_extended (suc (suc core)) h = let k : suc (suc core) < 2 = h in absurd (omega arith)
+on_in_extended = both _ ([], refl) ([], refl)
 
 off_in_extended : AllLast extended (boots_in 1 ∷ on_1 ∷ []) (seen (2, On) (0, Off)) → ⊥
 unfolding computing
-off_in_extended h =
-    let e : ◌≡◌ {A = ℕ} 0 1 = ap last (h 1 (omega arith)).1 in omega (arith, e)
+off_in_extended h = apart_by last (h 1 (omega arith)).1 refl

@@ -21,56 +21,39 @@ use Rattle.psci_script.specs.Progress.{IsLineFront}
 use Rattle.psci_script.specs.ScriptRun.{ScriptRun, events_of, run_of}
 use Rattle.psci_script.specs.Told.{Ended, EndsBy, IsUntold, Runs, Telling, account}
 use Rattle.psci_script.proofs.EndRows.{answering, board, text}
+use Rattle.psci_board.proofs.Tables.{◌⇒◌, Gives}
+use Rattle.psci_examples.proofs.Apart.{apart_by, itself}
 
 -- How a replay ended ----------------------------------------------------------------------------
 
 abbrev replayed : ℕ → ℕ → Result Replayed ReplayFault
 replayed lines events = Ok (record { lines = lines; events = events })
 
-a_write_fault : is_write_fault (Err stops.Write) ≡ true
-a_write_fault = refl
+write_faults : Gives is_write_fault
+    (Err stops.Write ⇒ true
+    ∷ replayed 3 2 ⇒ false
+    ∷ Err stops.Read ⇒ false
+    ∷ Err stops.Memory ⇒ false
+    ∷ Err (stops.Script 3 faults.Line) ⇒ false
+    ∷ Err (stops.Board Grammar) ⇒ false ∷ [])
+write_faults = refl
 
-the_end : is_write_fault (replayed 3 2) ≡ false
-the_end = refl
+faults_of_no_device : IsNoDevice stops.Memory × IsNoDevice (stops.Script 3 faults.Line)
+faults_of_no_device = (tt, tt)
 
-a_read_fault : is_write_fault (Err stops.Read) ≡ false
-a_read_fault = refl
+faults_of_devices : ¬ (IsNoDevice stops.Read) × ¬ (IsNoDevice stops.Write)
+faults_of_devices = (λ is. is, λ is. is)
 
-a_memory_fault : is_write_fault (Err stops.Memory) ≡ false
-a_memory_fault = refl
+-- out of the grammar, and out of memory
+refuses_a_line : LineRefused (stops.Script 3 faults.Line) 3 None
+    × LineRefused stops.Memory 3 (Some Blank)
+refuses_a_line = ((refl, refl, refl), tt)
 
-a_script_fault : is_write_fault (Err (stops.Script 3 faults.Line)) ≡ false
-a_script_fault = refl
-
-a_board_fault : is_write_fault (Err (stops.Board Grammar)) ≡ false
-a_board_fault = refl
-
-memory_is_no_device : IsNoDevice stops.Memory
-memory_is_no_device = tt
-
-script_is_no_device : IsNoDevice (stops.Script 3 faults.Line)
-script_is_no_device = tt
-
-read_is_of_a_device : IsNoDevice stops.Read → ⊥
-read_is_of_a_device is = is
-
-write_is_of_a_device : IsNoDevice stops.Write → ⊥
-write_is_of_a_device is = is
-
-out_of_grammar : LineRefused (stops.Script 3 faults.Line) 3 None
-out_of_grammar = (refl, refl, refl)
-
-out_of_memory : LineRefused stops.Memory 3 (Some Blank)
-out_of_memory = tt
-
-of_another_number : LineRefused (stops.Script 4 faults.Line) 3 None → ⊥
-of_another_number is = let no : 4 ≡ 3 = is.0 in omega (arith, no)
-
-a_good_line : LineRefused (stops.Script 3 faults.Line) 3 (Some Blank) → ⊥
-a_good_line is = let e = is.2 in cc
-
-no_refusal_of_a_device : LineRefused stops.Read 3 None → ⊥
-no_refusal_of_a_device is = is
+-- by another number, a good line, and by a fault of a device
+refuses_no_line : ¬ (LineRefused (stops.Script 4 faults.Line) 3 None)
+    × ¬ (LineRefused (stops.Script 3 faults.Line) 3 (Some Blank))
+    × ¬ (LineRefused stops.Read 3 None)
+refuses_no_line = (λ is. apart_by itself is.0 refl, λ is. let e = is.2 in cc, λ is. is)
 
 -- Scripts that came to their end ----------------------------------------------------------------
 
@@ -101,14 +84,12 @@ events_in (Err fault) = 0
 
 another_count : Replays (replayed 3 1) (Some script) (Some []) (Some []) (Some answers) → ⊥
 unfolding answering
-another_count replays =
-    let e : ◌≡◌ {A = ℕ} 2 1 = ap events_in replays.0 in omega (arith, e)
+another_count replays = apart_by events_in replays.0 refl
 
 one_answer_is_missing : Replays (replayed 3 2) (Some script) (Some []) (Some [])
     (Some (text (codes "1 absent" ∷ []))) → ⊥
 unfolding answering
-one_answer_is_missing replays =
-    let e : ◌≡◌ {A = ℕ} 9 18 = ap length replays.1 in omega (arith, e)
+one_answer_is_missing replays = apart_by length replays.1 refl
 
 answered_to_a_fault : Replays (Err (stops.Script 3 faults.Line))
     (Some (text (board ∷ codes "enter 9" ∷ codes "x" ∷ codes "enter 9" ∷ []))) (Some []) (Some [])
@@ -189,7 +170,7 @@ answer_to_nothing replays =
     front (x ∷ xs) ys e = absurd (cc)
 
     unanswered : (xs : List ℕ) → [] ≡ xs → 49 ∷ [] ≡ (transcript xs).text → ⊥
-    unanswered [] e is = let no : ◌≡◌ {A = ℕ} 1 0 = ap length is in omega (arith, no)
+    unanswered [] e is = apart_by length is refl
     unanswered (x ∷ xs) e is = absurd (cc)
 
 -- the rest of a read fault is the front of a line, and that of a memory fault one block at most
@@ -213,9 +194,8 @@ nothing_was_written = (0, refl)
 
 another_answer : AnswersPart (Some script) (Some []) (Some (50 ∷ [])) → ⊥
 unfolding answering
-another_answer (zero, to) = let no : ◌≡◌ {A = ℕ} 1 0 = ap length to in omega (arith, no)
-another_answer (suc n, to) =
-    let no : 50 ≡ 49 = ap (λ (l : List ℕ). slice_index l 0) to in omega (arith, no)
+another_answer (zero, to) = apart_by length to refl
+another_answer (suc n, to) = apart_by (λ (l : List ℕ). slice_index l 0) to refl
 
 -- What is told ----------------------------------------------------------------------------------
 

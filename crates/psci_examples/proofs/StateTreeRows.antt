@@ -1,7 +1,7 @@
 -- Worked examples of what the functions over the firmware's tree of power domains ask and leave, of
 -- what is counted beside it, and of a core that is running.
-use Rattle.std.proofs.Common.{◌≡◌, ◌<◌, ◌==◌, ℕ, Bool, zero, suc, List, [], ◌∷◌, length, true}
-use Rattle.std.proofs.Common.{false, None, refl, ap}
+use Rattle.std.proofs.Common.{◌≡◌, ◌==◌, ℕ, Bool, zero, suc, List, [], ◌∷◌, length, true}
+use Rattle.std.proofs.Common.{false, None, refl}
 use Rattle.std.specs.Prelude.{if◌then◌else◌}
 use Rattle.std.proofs.Common.{arith}
 use Rattle.psci_board.specs.Board.{BoardValue, IsBoard, place_above}
@@ -18,8 +18,10 @@ use Rattle.psci_fw.specs.psci_fw_spec.declared.status.Status.TheVariants.{On, Of
 use Rattle.psci_fw.specs.psci_fw_spec.psci_abi.declared.format.Format.TheVariants.{Original}
 use Rattle.psci_messages.specs.declared.part.Part.{Part}
 use Rattle.psci_state.specs.declared.cores.Activity.TheVariants as activities
+use Rattle.psci_state.specs.declared.cores.CoreState.{CoreState}
 use Rattle.psci_tree.specs.Changes.{made_pending, start_of_life}
 use Rattle.psci_tree.specs.Recount.{IsDomainTree, TreeValue, granted_at, is_confirmed_at, state_at}
+use Rattle.psci_examples.proofs.Apart.{apart_by, itself, never_less}
 
 -- two clusters of two cores: core 1 is asked on, core 3 off, and its cluster was granted retention
 abbrev board : BoardValue
@@ -49,30 +51,31 @@ tree = record {
 its_tree : IsBoard board → IsDomainTree tree → IsTreeOf board tree
 its_tree good is = record { board = good; tree = is; levels = refl }
 
-board_without_starts : IsTreeOf (record board { starts = 0 }) tree → ⊥
-board_without_starts h = let e : 0 < 0 = h.board.some_starts in omega (arith, e)
-
-row_is_missing : IsTreeOf board (record tree { cores = [] }) → ⊥
-row_is_missing h = let e : ◌≡◌ {A = ℕ} 0 4 = h.tree.cores in omega arith
-
-tree_of_one_cluster : IsTreeOf board (record tree { levels = (4 ∷ []) ∷ [] }) → ⊥
-tree_of_one_cluster h = let e : ◌≡◌ {A = ℕ} 1 2 = ap length h.levels in omega arith
+-- a board without starts, a row that is missing, a tree of one cluster
+not_its_tree : ¬ (IsTreeOf (record board { starts = 0 }) tree)
+    × ¬ (IsTreeOf board (record tree { cores = [] }))
+    × ¬ (IsTreeOf board (record tree { levels = (4 ∷ []) ∷ [] }))
+not_its_tree = (
+  λ h. never_less 0 h.board.some_starts,
+  λ h. apart_by itself h.tree.cores refl,
+  λ h. apart_by length h.levels refl,
+)
 
 -- the first tree has no core that was started
 first_tree : (b : BoardValue) → (start_of_life b.levels).levels ≡ b.levels
     → IsDomainTree (start_of_life b.levels) → IsFirstTree b (start_of_life b.levels)
 first_tree b levels is = record { value = refl; levels = levels; tree = is }
 
-started_before : IsFirstTree board tree → ⊥
+-- a core was started before; a tree of another board, and without rows
+not_first : ¬ (IsFirstTree board tree)
+    × ¬ (IsFirstTree board (record tree { levels = (4 ∷ []) ∷ [] }))
+    × ¬ (IsFirstTree board (record tree { cores = [] }))
 unfolding start_of_life made_pending
-started_before h =
-    let e : ◌≡◌ {A = ℕ} 1 0 = ap (λ (t : TreeValue). (state_at t 0).known) h.value in omega arith
-
-first_of_another : IsFirstTree board (record tree { levels = (4 ∷ []) ∷ [] }) → ⊥
-first_of_another h = let e : ◌≡◌ {A = ℕ} 1 2 = ap length h.levels in omega arith
-
-first_without_rows : IsFirstTree board (record tree { cores = [] }) → ⊥
-first_without_rows h = let e : ◌≡◌ {A = ℕ} 0 4 = h.tree.cores in omega arith
+not_first = (
+  λ h. apart_by (λ (t : TreeValue). (state_at t 0).known) h.value refl,
+  λ h. apart_by length h.levels refl,
+  λ h. apart_by itself h.tree.cores refl,
+)
 
 -- What stays ------------------------------------------------------------------------------------
 
@@ -99,15 +102,14 @@ without_rows = record tree { cores = [] }
 cores_stay : IsDomainTree woken → KeepsCores tree woken
 cores_stay is = record { cores = λ c. refl; levels = refl; tree = is }
 
-a_core_changed : KeepsCores tree restarted → ⊥
-a_core_changed h =
-    let e : ◌≡◌ {A = ℕ} 6 5 = ap (λ s. s.known) (h.cores 3) in omega arith
-
-levels_changed : KeepsCores tree flat → ⊥
-levels_changed h = let e : ◌≡◌ {A = ℕ} 1 2 = ap length h.levels in omega arith
-
-rows_are_gone : KeepsCores without_rows without_rows → ⊥
-rows_are_gone h = let e : ◌≡◌ {A = ℕ} 0 4 = h.tree.cores in omega arith
+-- a core changed, levels did, rows are gone
+cores_change : ¬ (KeepsCores tree restarted) × ¬ (KeepsCores tree flat)
+    × ¬ (KeepsCores without_rows without_rows)
+cores_change = (
+  λ h. apart_by (λ (s : CoreState). s.known) (h.cores 3) refl,
+  λ h. apart_by length h.levels refl,
+  λ h. apart_by itself h.tree.cores refl,
+)
 
 -- what was granted is confirmed
 abbrev confirmed : TreeValue
@@ -117,18 +119,15 @@ granted_stays : IsDomainTree confirmed → KeepsGranted tree confirmed
 granted_stays is =
     record { granted = λ l p. refl; cores = λ c. refl; levels = refl; tree = is }
 
-grant_changed : KeepsGranted tree woken → ⊥
-grant_changed h = let e : ◌≡◌ {A = ℕ} 0 2 = h.granted 1 1 in omega arith
-
-core_changed_too : KeepsGranted tree restarted → ⊥
-core_changed_too h =
-    let e : ◌≡◌ {A = ℕ} 6 5 = ap (λ s. s.known) (h.cores 3) in omega arith
-
-levels_changed_too : KeepsGranted tree flat → ⊥
-levels_changed_too h = let e : ◌≡◌ {A = ℕ} 1 2 = ap length h.levels in omega arith
-
-rows_are_gone_too : KeepsGranted without_rows without_rows → ⊥
-rows_are_gone_too h = let e : ◌≡◌ {A = ℕ} 0 4 = h.tree.cores in omega arith
+-- what was granted changed, and so did a core, levels, rows
+grants_change : ¬ (KeepsGranted tree woken) × ¬ (KeepsGranted tree restarted)
+    × ¬ (KeepsGranted tree flat) × ¬ (KeepsGranted without_rows without_rows)
+grants_change = (
+  λ h. apart_by itself (h.granted 1 1) refl,
+  λ h. apart_by (λ (s : CoreState). s.known) (h.cores 3) refl,
+  λ h. apart_by length h.levels refl,
+  λ h. apart_by itself h.tree.cores refl,
+)
 
 -- nothing is granted to core 3 any more, nor to its cluster: core 2 keeps what it was granted
 abbrev cleared : TreeValue
@@ -177,20 +176,16 @@ path_cleared : IsDomainTree cleared → ClearsPath tree cleared 3
 path_cleared is =
     record { granted = grants_cleared; confirmed = confirmed_cleared; levels = refl; tree = is }
 
--- the path of core 3 is not cleared: its cluster is still granted retention
-path_still_granted : ClearsPath tree tree 3 → ⊥
-path_still_granted h = let e : ◌≡◌ {A = ℕ} 2 0 = h.granted 1 1 in omega arith
-
--- nor where what was confirmed of the core is still so
-path_still_confirmed : ClearsPath tree tree 3 → ⊥
-path_still_confirmed h = let e : true ≡ false = h.confirmed 0 3 in absurd (cc)
-
--- nor where the tree has become another
-cleared_on_other_levels : ClearsPath tree flat 0 → ⊥
-cleared_on_other_levels h = let e : ◌≡◌ {A = ℕ} 1 2 = ap length h.levels in omega arith
-
-cleared_without_rows : ClearsPath without_rows without_rows 0 → ⊥
-cleared_without_rows h = let e : ◌≡◌ {A = ℕ} 0 4 = h.tree.cores in omega arith
+-- the path of core 3 is not cleared: its cluster is still granted retention; nor where what was
+-- confirmed of the core is still so; nor where the tree has become another, or has no rows
+path_not_cleared : ¬ (ClearsPath tree tree 3) × ¬ (ClearsPath tree tree 3)
+    × ¬ (ClearsPath tree flat 0) × ¬ (ClearsPath without_rows without_rows 0)
+path_not_cleared = (
+  λ h. apart_by itself (h.granted 1 1) refl,
+  λ h. let e : true ≡ false = h.confirmed 0 3 in absurd cc,
+  λ h. apart_by length h.levels refl,
+  λ h. apart_by itself h.tree.cores refl,
+)
 
 -- Claims ----------------------------------------------------------------------------------------
 
@@ -205,14 +200,14 @@ claimed granted may = record {
   may = may;
 }
 
-core_beside_the_board : (granted : ℕ → ℕ → ℕ) → IsGrantable board 4 (own ∷ []) granted → ⊥
-core_beside_the_board granted h = let e : 4 < 4 = h.inside in omega (arith, e)
-
-nothing_claimed : (granted : ℕ → ℕ → ℕ) → IsGrantable board 0 [] granted → ⊥
-nothing_claimed granted h = let e : 0 < 0 = h.claims.some in omega (arith, e)
-
-granted_already : IsGrantable board 0 (own ∷ []) (λ level place. 2) → ⊥
-granted_already h = let e : ◌≡◌ {A = ℕ} 2 0 = h.may.free 0 (omega arith) in omega arith
+-- by a core beside the board, of nothing, and of what was granted already
+not_claimed : (granted : ℕ → ℕ → ℕ) → ¬ (IsGrantable board 4 (own ∷ []) granted)
+    × ¬ (IsGrantable board 0 [] granted) × ¬ (IsGrantable board 0 (own ∷ []) (λ level place. 2))
+not_claimed granted = (
+  λ h. never_less 4 h.inside,
+  λ h. never_less 0 h.claims.some,
+  λ h. apart_by itself (h.may.free 0 (omega arith)) refl,
+)
 
 -- Counts ----------------------------------------------------------------------------------------
 
@@ -235,21 +230,19 @@ counted : (kept : List (List StatusCounts)) → IsBoard board
     → AreCounts board.levels (status_at rows) kept → AreCounted board (status_at rows) rows kept
 counted kept good counts = record { board = good; count = refl; counts = counts }
 
-counted_without_lives : AreCounted (record board { lives = 0 }) (status_at rows) rows
-    ((one ∷ none ∷ []) ∷ (one ∷ []) ∷ []) → ⊥
-counted_without_lives h = let e : 0 < 0 = h.board.some_lives in omega (arith, e)
-
-row_too_many : AreCounted board (status_at rows) (off ∷ rows)
-    ((one ∷ none ∷ []) ∷ (one ∷ []) ∷ []) → ⊥
-row_too_many h = let e : ◌≡◌ {A = ℕ} 5 4 = h.count in omega arith
-
-nobody_is_counted : AreCounted board (status_at rows) rows
-    ((none ∷ none ∷ []) ∷ (none ∷ []) ∷ []) → ⊥
+-- on a board without lives, of a row too many, and where nobody is counted
+not_counted :
+    ¬ (AreCounted (record board { lives = 0 }) (status_at rows) rows
+    ((one ∷ none ∷ []) ∷ (one ∷ []) ∷ []))
+    × ¬ (AreCounted board (status_at rows) (off ∷ rows) ((one ∷ none ∷ []) ∷ (one ∷ []) ∷ []))
+    × ¬ (AreCounted board (status_at rows) rows ((none ∷ none ∷ []) ∷ (none ∷ []) ∷ []))
 unfolding counts_below
-nobody_is_counted h =
-    let e : ◌≡◌ {A = ℕ} 0 1 =
-    ap (λ (k : StatusCounts). k.on) (h.counts.each 1 0 (omega arith) (omega arith) (omega arith)) in
-    omega arith
+not_counted = (
+  λ h. never_less 0 h.board.some_lives,
+  λ h. apart_by itself h.count refl,
+  λ h. apart_by (λ (k : StatusCounts). k.on)
+      (h.counts.each 1 0 (omega arith) (omega arith) (omega arith)) refl,
+)
 
 -- Running cores ---------------------------------------------------------------------------------
 
@@ -270,13 +263,11 @@ boot_core_runs : IsRunningCore state 0
 unfolding values_in
 boot_core_runs = record { inside = omega arith; running = refl }
 
-nobody_runs : IsRunningCore state 4 → ⊥
-nobody_runs h = let e : 4 < 4 = h.inside in omega (arith, e)
-
-pending_core_runs : IsRunningCore state 1 → ⊥
+-- a core beside the board, one that is pending, one that is off
+runs_not : ¬ (IsRunningCore state 4) × ¬ (IsRunningCore state 1) × ¬ (IsRunningCore state 3)
 unfolding values_in
-pending_core_runs h = let e : phases.Pending ≡ phases.Running = h.running in absurd (cc)
-
-off_core_runs : IsRunningCore state 3 → ⊥
-unfolding values_in
-off_core_runs h = let e : phases.Away ≡ phases.Running = h.running in absurd (cc)
+runs_not = (
+  λ h. never_less 4 h.inside,
+  λ h. let e : phases.Pending ≡ phases.Running = h.running in absurd cc,
+  λ h. let e : phases.Away ≡ phases.Running = h.running in absurd cc,
+)

@@ -1,7 +1,7 @@
 -- Worked examples: what a call and an acknowledgement from C are answered and leave in a place,
 -- what an opening leaves, and the wrong things that none of them leaves.
 use Rattle.std.proofs.Common.{◌≡◌, ℕ, pos, Bool, true, false, List, [], ◌∷◌, ◌<◌, refl, sym, ap}
-use Rattle.std.proofs.Common.{◌∙◌, subst, arith}
+use Rattle.std.proofs.Common.{◌∙◌, subst}
 use Rattle.std.specs.Prelude.{None, Some, Result, Ok, Err, replicate}
 use Rattle.psci_board.specs.Board.{BoardValue, cores}
 use Rattle.psci_board.specs.declared.fault.BoardFault.{BoardFault}
@@ -24,6 +24,7 @@ use Rattle.psci_ffi.specs.Frames.{IsTakenIn}
 use Rattle.psci_ffi.specs.Shown.{IsAfter, IsNew, IsSameIf, IsSameRefused, Opens, answered}
 use Rattle.psci_ffi.specs.Shown.{no_frame, refused, shown}
 use Rattle.psci_ffi.specs.Slot.{Kept}
+use Rattle.psci_ffi.proofs.Apart.{apart-by, itself}
 
 abbrev values : List Step → Values
 values steps = values_of board (history steps)
@@ -38,21 +39,10 @@ version = (asks 0 0x84000000 0).call
 abbrev on-3 : FwCall
 on-3 = (on 0 0x101).call
 
--- what is said of a board and values, where it is said of a firmware that has them
-of : {A : Type 0} (said : BoardValue → Values → A) (f : FirmwareValue) (v : Values)
-    → f.board ≡ board → seen f ≡ v → said f.board (seen f) ≡ said board v
-of said f v is was = ap (λ b. said b (seen f)) is ∙ ap (said board) was
-
 -- a place that holds a firmware, and one that does not
 abbrev full : Kept → ℕ
 full None = 0
 full (Some p) = 1
-
-apart : (p : PolledView) → ◌≡◌ {A = Kept} (Some p) None → ⊥
-apart p e = let n : ◌≡◌ {A = ℕ} 1 0 = ap full e in omega arith
-
-apart' : (p : PolledView) → ◌≡◌ {A = Kept} None (Some p) → ⊥
-apart' p e = let n : ◌≡◌ {A = ℕ} 0 1 = ap full e in omega arith
 
 -- What a call is answered ---------------------------------------------------------------------
 
@@ -60,57 +50,43 @@ abbrev returned : ℕ → Answer
 returned code =
     record { what = 0; code = pos code; address = 0; context = 0; message = no_frame }
 
-version-1-1 : (p : PolledView) → p.firmware.board ≡ board → seen p.firmware ≡ booted
-    → answered (Some p) 0 (Some version) ≡ returned 0x10001
-unfolding computing
-version-1-1 p is was =
-    of (λ b v. shown (answer b v 0 version)) p.firmware booted is was
+-- what is said of a firmware that has booted
+of : {A : Type 0} (said : BoardValue → Values → A) (f : FirmwareValue) → f.board ≡ board
+    → seen f ≡ booted → said f.board (seen f) ≡ said board booted
+of said f is was = ap (λ b. said b (seen f)) is ∙ ap (said board) was
+
+-- such a firmware answers a core's call so
+abbrev Answers : ℕ → FwCall → Answer → Type 0
+Answers core call a = (p : PolledView) → p.firmware.board ≡ board → seen p.firmware ≡ booted
+    → answered (Some p) core (Some call) ≡ a
+
+answers-by : (core : ℕ) (call : FwCall) → Answers core call (shown (answer board booted core call))
+answers-by core call p = of (λ b v. shown (answer b v core call)) p.firmware
 
 -- the caller counts: core 2 is off, and there is no core 4
-core-2-is-off : (p : PolledView) → p.firmware.board ≡ board → seen p.firmware ≡ booted
-    → answered (Some p) 2 (Some version) ≡ refused 19
+answers : Answers 0 version (returned 0x10001) × Answers 2 version (refused 19)
+    × Answers 4 version (refused 17)
 unfolding computing
-core-2-is-off p is was =
-    of (λ b v. shown (answer b v 2 version)) p.firmware booted is was
-
-no-core-4 : (p : PolledView) → p.firmware.board ≡ board → seen p.firmware ≡ booted
-    → answered (Some p) 4 (Some version) ≡ refused 17
-unfolding computing
-no-core-4 p is was =
-    of (λ b v. shown (answer b v 4 version)) p.firmware booted is was
+answers = (answers-by 0 version, answers-by 2 version, answers-by 4 version)
 
 -- What a call leaves --------------------------------------------------------------------------
 
-no-call-leaves-all : (k : Kept) → IsAfter k 0 None k
-no-call-leaves-all k = refl
+leaves : (k : Kept) (p q : PolledView) → IsAfter k 0 None k × IsAfter None 0 (Some version) None
+    × (IsNext p 0 on-3 q → IsAfter (Some p) 0 (Some on-3) (Some q))
+    × (IsAfter (Some p) 0 (Some on-3) (Some q) → IsNext p 0 on-3 q)
+leaves k p q = (refl, refl, λ h. h, λ h. h)
 
-no-call-empties : (p : PolledView) → IsAfter (Some p) 0 None None → ⊥
-no-call-empties p h = apart' p h
-
-empty-stays-empty : IsAfter None 0 (Some version) None
-empty-stays-empty = refl
-
-empty-is-filled : (p : PolledView) → IsAfter None 0 (Some version) (Some p) → ⊥
-empty-is-filled p h = apart p h
-
-firmware-is-lost : (p : PolledView) → IsAfter (Some p) 0 (Some version) None → ⊥
-firmware-is-lost p h = h
-
-leaves-what-is-next : (p q : PolledView) → IsNext p 0 on-3 q
-    → IsAfter (Some p) 0 (Some on-3) (Some q)
-leaves-what-is-next p q h = h
-
-leaves-nothing-else : (p q : PolledView) → IsAfter (Some p) 0 (Some on-3) (Some q)
-    → IsNext p 0 on-3 q
-leaves-nothing-else p q h = h
+-- a place that no call was made of, or of which it was empty; and one whose firmware is lost
+leaves-not : (p : PolledView) → ¬ (IsAfter (Some p) 0 None None)
+    × ¬ (IsAfter None 0 (Some version) (Some p)) × ¬ (IsAfter (Some p) 0 (Some version) None)
+leaves-not p = (λ h. apart-by full h refl, λ h. apart-by full h refl, λ h. h)
 
 -- Refusals ------------------------------------------------------------------------------------
 
-no-call-is-no-change : (p : PolledView) → IsSameRefused (Some p) 0 None None → ⊥
-no-call-is-no-change p h = apart' p h
-
-refused-when-empty : (p : PolledView) → IsSameRefused None 0 (Some version) (Some p) → ⊥
-refused-when-empty p h = apart p h
+-- where no call is made, and in an empty place, nothing changes
+refused-and-changed : (p : PolledView) → ¬ (IsSameRefused (Some p) 0 None None)
+    × ¬ (IsSameRefused None 0 (Some version) (Some p))
+refused-and-changed p = (λ h. apart-by full h refl, λ h. apart-by full h refl)
 
 -- a call of core 2, which is off, leaves all as it was; a call of core 0 need not
 refused-and-emptied : (p : PolledView) → p.firmware.board ≡ board → seen p.firmware ≡ booted
@@ -119,68 +95,53 @@ unfolding computing
 refused-and-emptied p is was h =
     let same : IsSameIf (answer board booted 2 on-3) (Some p) None =
     subst (λ (r : FwReply). IsSameIf r (Some p) None)
-    (of (λ b v. answer b v 2 on-3) p.firmware booted is was) h in apart' p same
+    (of (λ b v. answer b v 2 on-3) p.firmware is was) h in apart-by full same refl
 
 accepted-and-changed : (p : PolledView) (k : Kept) → p.firmware.board ≡ board
     → seen p.firmware ≡ booted → IsSameRefused (Some p) 0 (Some on-3) k
 unfolding computing
 accepted-and-changed p k is was =
-    let free : IsSameIf (answer board booted 0 on-3) (Some p) k = tt in
     subst (λ (r : FwReply). IsSameIf r (Some p) k)
-    (sym (of (λ b v. answer b v 0 on-3) p.firmware booted is was)) free
+    (sym (of (λ b v. answer b v 0 on-3) p.firmware is was)) tt
 
 -- Opening -------------------------------------------------------------------------------------
 
-abbrev Said : Type 0
-Said = Result BoardValue BoardFault
-
-opened : (k : Kept) (p : PolledView) → IsNew board p → Opens (Ok tt) (Ok board) k (Some p)
-opened k p h = h
-
-opened-means-new : (k : Kept) (p : PolledView) → Opens (Ok tt) (Ok board) k (Some p) → IsNew board p
-opened-means-new k p h = h
-
-opened-and-empty : (k : Kept) → Opens (Ok tt) (Ok board) k None → ⊥
-opened-and-empty k h = h
-
-opened-with-a-fault : (k l : Kept) → Opens (Ok tt) (Err Uneven) k l → ⊥
-opened-with-a-fault k l h = h
-
-no-memory : (k : Kept) → Opens (Err Memory) (Ok board) k k
-no-memory k = (refl, refl)
-
-no-memory-but-filled : (p : PolledView) → Opens (Err Memory) (Ok board) None (Some p) → ⊥
-no-memory-but-filled p h = apart p h.1
-
-no-memory-but-emptied : (p : PolledView) → Opens (Err Memory) (Ok board) (Some p) None → ⊥
-no-memory-but-emptied p h = apart' p h.1
-
-abbrev truth : Bool → ℕ
-truth true = 1
-truth false = 0
-
--- a fault of the text comes before memory
-memory-before-a-fault : (k : Kept) → Opens (Err Memory) (Err Uneven) k k → ⊥
-memory-before-a-fault k h = let e : ◌≡◌ {A = ℕ} 0 1 = ap truth h.0 in omega arith
-
-faulty : (k : Kept) → Opens (Err Uneven) (Err Uneven) k k
-faulty k = (refl, refl)
+opens : (k : Kept) (p : PolledView) → (IsNew board p → Opens (Ok tt) (Ok board) k (Some p))
+    × (Opens (Ok tt) (Ok board) k (Some p) → IsNew board p)
+    × Opens (Err Memory) (Ok board) k k × Opens (Err Uneven) (Err Uneven) k k
+opens k p = (λ h. h, λ h. h, (refl, refl), (refl, refl))
 
 -- which fault, by a number
-abbrev which : Said → ℕ
+abbrev which : Result BoardValue BoardFault → ℕ
 which (Ok b) = 0
 which (Err Uneven) = 1
 which (Err TooWide) = 2
 which (Err fault) = 3
 
-another-fault : (k : Kept) → Opens (Err Uneven) (Err TooWide) k k → ⊥
-another-fault k h = let e : ◌≡◌ {A = ℕ} 2 1 = ap which h.0 in omega arith
+abbrev truth : Bool → ℕ
+truth true = 1
+truth false = 0
 
-no-fault : (k : Kept) → Opens (Err Uneven) (Ok board) k k → ⊥
-no-fault k h = let e : ◌≡◌ {A = ℕ} 0 1 = ap which h.0 in omega arith
-
-faulty-and-emptied : (p : PolledView) → Opens (Err Uneven) (Err Uneven) (Some p) None → ⊥
-faulty-and-emptied p h = apart' p h.1
+opens-not : (k l : Kept) (p : PolledView) → ¬ (Opens (Ok tt) (Ok board) k None)
+    × ¬ (Opens (Ok tt) (Err Uneven) k l)
+    × ¬ (Opens (Err Memory) (Ok board) None (Some p))
+    × ¬ (Opens (Err Memory) (Ok board) (Some p) None)
+    -- a fault of the text comes before memory
+    × ¬ (Opens (Err Memory) (Err Uneven) k k)
+    -- another fault, and none
+    × ¬ (Opens (Err Uneven) (Err TooWide) k k)
+    × ¬ (Opens (Err Uneven) (Ok board) k k)
+    × ¬ (Opens (Err Uneven) (Err Uneven) (Some p) None)
+opens-not k l p = (
+  λ h. h,
+  λ h. h,
+  λ h. apart-by full h.1 refl,
+  λ h. apart-by full h.1 refl,
+  λ h. apart-by truth h.0 refl,
+  λ h. apart-by which h.0 refl,
+  λ h. apart-by which h.0 refl,
+  λ h. apart-by full h.1 refl,
+)
 
 -- Acknowledgements ----------------------------------------------------------------------------
 
@@ -205,47 +166,22 @@ spelled kind count =
 empty-place-takes : IsTakenIn None (spelled 18 1) 16 None
 empty-place-takes = (refl, refl)
 
-empty-place-uses : IsTakenIn None (spelled 18 1) 0 None → ⊥
-empty-place-uses h = let e : ◌≡◌ {A = ℕ} 0 16 = h.0 in omega arith
-
-empty-place-is-filled : (p : PolledView) → IsTakenIn None (spelled 18 1) 16 (Some p) → ⊥
-empty-place-is-filled p h = apart p h.1
-
-place-is-emptied : (p : PolledView) (bytes : List ℕ) (code : ℕ) → IsTakenIn (Some p) bytes code None
-    → ⊥
-place-is-emptied p bytes code h = h
-
-takes-by : (p q : PolledView) (bytes : List ℕ) (code : ℕ) → IsTakenIn (Some p) bytes code (Some q)
-    → IsTakenBy p bytes code q
-takes-by p q bytes code h = h
+takes-not : (p : PolledView) (bytes : List ℕ) (code : ℕ) → ¬ (IsTakenIn None (spelled 18 1) 0 None)
+    × ¬ (IsTakenIn None (spelled 18 1) 16 (Some p)) × ¬ (IsTakenIn (Some p) bytes code None)
+takes-not p bytes code = (λ h. apart-by itself h.0 refl, λ h. apart-by full h.1 refl, λ h. h)
 
 -- no byte is a frame of the wrong length, on every board
-no-bytes : (p : PolledView) → IsFaulty [] 33 p p
+no-bytes : (p q : PolledView) → IsFaulty [] 33 p p × ¬ (IsFaulty [] 0 p p)
+    × (IsFaulty [] 33 p q → q ≡ p)
 unfolding first_fault
-no-bytes p = (refl, refl)
+no-bytes p q = ((refl, refl), λ h. apart-by itself h.0 refl, λ h. h.1)
 
-no-bytes-used : (p : PolledView) → IsFaulty [] 0 p p → ⊥
-unfolding first_fault
-no-bytes-used p h = let e : ◌≡◌ {A = ℕ} 0 33 = h.0 in omega arith
-
-no-bytes-change-nothing : (p q : PolledView) → IsFaulty [] 33 p q → q ≡ p
-unfolding first_fault
-no-bytes-change-nothing p q h = h.1
-
--- the frame of a message is refused by its own number, and nothing changes
-message-is-refused : (p q : PolledView) (bytes : List ℕ) (code : ℕ) → IsRead p bytes (Message start)
-    → IsMisplaced start bytes code p q → (code ≡ 41) × (q ≡ p)
-message-is-refused p q bytes code read h = h read
-
-ack-is-taken : (p q : PolledView) (bytes : List ℕ) (code : ℕ) → IsRead p bytes (Ack ack)
-    → IsAcknowledged ack bytes code p q → IsTaken ack code p q
-ack-is-taken p q bytes code read h = h read
-
--- what is read is spelled so
-start-is-spelled : (p : PolledView) (bytes : List ℕ) → IsRead p bytes (Message start)
-    → bytes ≡ frame_bytes (Message start)
-start-is-spelled p bytes h = sym h.2
-
-start-is-of-the-board : (p : PolledView) (bytes : List ℕ) → IsRead p bytes (Message start)
-    → 3 < cores p.firmware.board
-start-is-of-the-board p bytes h = h.1.0
+-- the frame of a message is refused by its own number, and nothing changes; an acknowledgement is
+-- taken; and what is read is spelled so, of a core of the board
+reads : (p q : PolledView) (bytes : List ℕ) (code : ℕ)
+    → (IsTakenIn (Some p) bytes code (Some q) → IsTakenBy p bytes code q)
+    × (IsRead p bytes (Message start) → IsMisplaced start bytes code p q → (code ≡ 41) × (q ≡ p))
+    × (IsRead p bytes (Ack ack) → IsAcknowledged ack bytes code p q → IsTaken ack code p q)
+    × (IsRead p bytes (Message start) → bytes ≡ frame_bytes (Message start))
+    × (IsRead p bytes (Message start) → 3 < cores p.firmware.board)
+reads p q bytes code = (λ h. h, λ read h. h read, λ read h. h read, λ h. sym h.2, λ h. h.1.0)

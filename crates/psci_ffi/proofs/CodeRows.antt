@@ -1,5 +1,8 @@
 -- Each number that crosses to C, as psci.h has it; each act, with and without a message; an empty
 -- place.
+use Rattle.psci_fw_spec.specs.declared.reply.FwReply.{FwReply}
+use Rattle.psci_fw_spec.specs.declared.outcome.Act.{Act}
+use Rattle.std.proofs.Common.{Option, ℤ}
 use Rattle.std.proofs.Common.{◌≡◌, ℕ, pos, negsuc, true, false, [], ◌∷◌, map, refl}
 use Rattle.std.specs.Prelude.{None, Some, Ok, Err, replicate}
 use Rattle.psci_board.specs.declared.fault.BoardFault.TheVariants as boards
@@ -19,6 +22,7 @@ use Rattle.psci_ffi.specs.declared.answer.SomeFrame.{SomeFrame}
 use Rattle.psci_ffi.specs.Codes.{cause_said, frame_code, hw_number, not_an_ack, opened_said}
 use Rattle.psci_ffi.specs.Codes.{refusal, status_code, taken_code}
 use Rattle.psci_ffi.specs.Shown.{answered, shown, start_called}
+use Rattle.psci_abi.proofs.Tables.{◌⇒◌, Gives}
 
 -- Numbers -------------------------------------------------------------------------------------
 
@@ -64,6 +68,11 @@ hardware-states = refl
 abbrev nothing : SomeFrame
 nothing = record { some = false; bytes = replicate 53 0 }
 
+-- the answer of this number, code, address and context
+abbrev says : ℕ → ℤ → ℕ → ℕ → SomeFrame → Answer
+says what code address context message =
+    record { what = what; code = code; address = address; context = context; message = message }
+
 -- core 3 is to be started, by its second start in life 1
 abbrev message : MessageValue
 message =
@@ -75,40 +84,23 @@ sent = record {
   bytes = 0x50 ∷ 0x44 ∷ 2 ∷ 3 ∷ 0 ∷ 0 ∷ 0 ∷ 1 ∷ 0 ∷ 0 ∷ 0 ∷ 1 ∷ 0 ∷ replicate 40 0;
 }
 
-returned : shown (Out (record { act = Return (record { 0 = negsuc 1 }); message = None }))
-    ≡ record { what = 0; code = negsuc 1; address = 0; context = 0; message = nothing }
-returned = refl
+abbrev out : Act → Option MessageValue → FwReply
+out act message = Out (record { act = act; message = message })
 
-returned-and-sent : shown
-    (Out (record { act = Return (record { 0 = pos 0 }); message = Some message }))
-    ≡ record { what = 0; code = pos 0; address = 0; context = 0; message = sent }
+acts : Gives shown
+    (out (Return (record { 0 = negsuc 1 })) None ⇒ says 0 (negsuc 1) 0 0 nothing
+    ∷ out (Return (record { 0 = pos 0 })) (Some message) ⇒ says 0 (pos 0) 0 0 sent
+    ∷ out Stop None ⇒ says 1 (pos 0) 0 0 nothing
+    ∷ out (Enter 0x40001000 7) None ⇒ says 2 (pos 0) 0x40001000 7 nothing
+    ∷ out Resume None ⇒ says 3 (pos 0) 0 0 nothing
+    ∷ Fault refusals.OldStart ⇒ says 20 (pos 0) 0 0 nothing ∷ [])
 unfolding part_fields
-returned-and-sent = refl
-
-stopped : shown (Out (record { act = Stop; message = None }))
-    ≡ record { what = 1; code = pos 0; address = 0; context = 0; message = nothing }
-stopped = refl
-
-entered : shown (Out (record { act = Enter 0x40001000 7; message = None }))
-    ≡ record { what = 2; code = pos 0; address = 0x40001000; context = 7; message = nothing }
-entered = refl
-
-resumed : shown (Out (record { act = Resume; message = None }))
-    ≡ record { what = 3; code = pos 0; address = 0; context = 0; message = nothing }
-resumed = refl
+acts = refl
 
 -- Refusals ------------------------------------------------------------------------------------
 
-abbrev refused-by : ℕ → Answer
-refused-by number =
-    record { what = number; code = pos 0; address = 0; context = 0; message = nothing }
-
-used-start : shown (Fault refusals.OldStart) ≡ refused-by 20
-used-start = refl
-
-empty-place : answered None 0 (start_called 1 1 0) ≡ refused-by 16
+-- in an empty place, also by a start with no such cause
+empty-place : Gives (λ cause. answered None 0 (start_called 1 1 cause))
+    (0 ⇒ says 16 (pos 0) 0 0 nothing
+    ∷ 4 ⇒ says 21 (pos 0) 0 0 nothing ∷ [])
 empty-place = refl
-
--- a start with no such cause, also where the place is empty
-no-cause : answered None 0 (start_called 1 1 4) ≡ refused-by 21
-no-cause = refl

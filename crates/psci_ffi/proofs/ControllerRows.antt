@@ -24,6 +24,7 @@ use Rattle.psci_ffi.specs.declared.controller_answer.DomainDepth.{DomainDepth}
 use Rattle.psci_ffi.specs.ControllerCalls.{not_a_message}
 use Rattle.psci_ffi.specs.ControllerReaders.{depth_read, life_read, started_read, starts_read}
 use Rattle.psci_ffi.specs.ControllerShown.{call_shown, cause_number}
+use Rattle.psci_abi.proofs.Tables.{◌⇒◌, Gives}
 
 -- what an example unfolds to compute replies and values
 unfoldable pub computing : Unit {0}
@@ -78,72 +79,37 @@ abbrev switches : ℕ → List DomainDepth → SomeFrame → ControllerAnswer
 switches many domains ack =
     record { what = 2; start = nobody; many = many; domains = domains; ack = ack }
 
--- core 3 is asked on; the same message again is late; one of another life is ignored
-starts : told [] (start 3 1 0) ≡ only 1 (found 3 1 1 1) (ack 0x12 3 1 0 1)
-unfolding computing
-starts = refl
-
-starts-once : told (start 3 1 0 ∷ []) (start 3 1 0) ≡ only 0 nobody (ack 0x22 3 1 0 0)
-unfolding computing
-starts-once = refl
-
-other-life : told [] (start 3 2 0) ≡ only 0 nobody nothing
-unfolding computing
-other-life = refl
-
 -- core 3 goes down, with its cluster
 abbrev down-3 : CtlCall
 down-3 = down 3 1 1 (part 0 3 1 ∷ part 1 2 1 ∷ [])
 
-goes-down : told (start 3 1 0 ∷ []) down-3
-    ≡ switches 2 (and-no-more (domain 0 3 3 ∷ domain 1 1 2 ∷ []) 2) (ack 0x11 3 1 1 2)
-unfolding computing
-goes-down = refl
-
--- core 2 was started before the message came, and so was core 3
-only-the-core : told (start 3 1 0 ∷ start 2 1 0 ∷ []) down-3
-    ≡ switches 1 (and-no-more (domain 0 3 3 ∷ []) 3) (ack 0x21 3 1 1 1)
-unfolding computing
-only-the-core = refl
-
-no-domain : told (start 3 1 0 ∷ wake 3 1 ∷ []) down-3
-    ≡ switches 0 (and-no-more [] 4) (ack 0x21 3 1 1 0)
-unfolding computing
-no-domain = refl
-
--- the last core takes the system down
-goes-down-with-the-system : told [] (down 0 1 1 (part 0 3 1 ∷ part 1 3 1 ∷ part 2 3 1 ∷ []))
-    ≡ switches 3 (and-no-more (domain 0 0 3 ∷ domain 1 0 3 ∷ domain 2 0 3 ∷ []) 1)
+-- what is told of a call after these
+is-told : Gives (λ (a : ControllerAnswer). a)
+    -- core 3 is asked on; the same message again is late; one of another life is ignored
+    (told [] (start 3 1 0) ⇒ only 1 (found 3 1 1 1) (ack 0x12 3 1 0 1)
+    ∷ told (start 3 1 0 ∷ []) (start 3 1 0) ⇒ only 0 nobody (ack 0x22 3 1 0 0)
+    ∷ told [] (start 3 2 0) ⇒ only 0 nobody nothing
+    ∷ told (start 3 1 0 ∷ []) down-3
+    ⇒ switches 2 (and-no-more (domain 0 3 3 ∷ domain 1 1 2 ∷ []) 2) (ack 0x11 3 1 1 2)
+    -- core 2 was started before the message came, and so was core 3
+    ∷ told (start 3 1 0 ∷ start 2 1 0 ∷ []) down-3
+    ⇒ switches 1 (and-no-more (domain 0 3 3 ∷ []) 3) (ack 0x21 3 1 1 1)
+    ∷ told (start 3 1 0 ∷ wake 3 1 ∷ []) down-3 ⇒ switches 0 (and-no-more [] 4) (ack 0x21 3 1 1 0)
+    -- the last core takes the system down
+    ∷ told [] (down 0 1 1 (part 0 3 1 ∷ part 1 3 1 ∷ part 2 3 1 ∷ []))
+    ⇒ switches 3 (and-no-more (domain 0 0 3 ∷ domain 1 0 3 ∷ domain 2 0 3 ∷ []) 1)
     (ack 0x11 0 1 1 3)
+    -- the end of a life, and of the last one
+    ∷ told [] (off 0 1 1) ⇒ only 3 nobody (ack 0x13 0 1 1 1)
+    ∷ told [] (reset_system 0 1 1) ⇒ only 4 (found 0 2 1 0) (ack 0x14 0 1 1 1)
+    ∷ told (reset_system 0 1 1 ∷ reset_system 0 2 1 ∷ []) (reset_system 0 3 1)
+    ⇒ only 3 nobody (ack 0x14 0 3 1 1)
+    -- wake-ups and resets
+    ∷ told (down 0 1 1 (part 0 3 1 ∷ []) ∷ []) (wake 0 1) ⇒ only 1 (found 0 1 2 2) nothing
+    ∷ told [] (wake 0 0) ⇒ only 0 nobody nothing
+    ∷ told [] (reset 1) ⇒ only 1 (found 1 1 1 3) nothing ∷ [])
 unfolding computing
-goes-down-with-the-system = refl
-
--- the end of a life, and of the last one
-goes-off : told [] (off 0 1 1) ≡ only 3 nobody (ack 0x13 0 1 1 1)
-unfolding computing
-goes-off = refl
-
-begins-anew : told [] (reset_system 0 1 1) ≡ only 4 (found 0 2 1 0) (ack 0x14 0 1 1 1)
-unfolding computing
-begins-anew = refl
-
-ends : told (reset_system 0 1 1 ∷ reset_system 0 2 1 ∷ []) (reset_system 0 3 1)
-    ≡ only 3 nobody (ack 0x14 0 3 1 1)
-unfolding computing
-ends = refl
-
--- wake-ups and resets
-wakes : told (down 0 1 1 (part 0 3 1 ∷ []) ∷ []) (wake 0 1) ≡ only 1 (found 0 1 2 2) nothing
-unfolding computing
-wakes = refl
-
-wakes-late : told [] (wake 0 0) ≡ only 0 nobody nothing
-unfolding computing
-wakes-late = refl
-
-resets : told [] (reset 1) ≡ only 1 (found 1 1 1 3) nothing
-unfolding computing
-resets = refl
+is-told = refl
 
 cause-numbers : map cause_number
     (causes.Boot ∷ causes.On ∷ causes.Wake ∷ causes.Reset ∷ []) ≡ 0 ∷ 1 ∷ 2 ∷ 3 ∷ []

@@ -1,5 +1,7 @@
 -- Worked examples: the fields of each kind of frame, and what is read of bytes.
-use Rattle.std.proofs.Common.{◌≡◌, ℕ, Bool, true, false, [], ◌∷◌, map, refl, ap, arith}
+use Rattle.psci_link.specs.declared.frame.Frame.{Frame}
+use Rattle.std.proofs.Common.{List, ◌++◌}
+use Rattle.std.proofs.Common.{◌≡◌, ℕ, Bool, true, false, [], ◌∷◌, map, refl}
 use Rattle.std.specs.Prelude.{None, Some, replicate}
 use Rattle.psci_messages.specs.declared.kind.Kind.{Kind}
 use Rattle.psci_messages.specs.declared.kind.Kind.TheVariants.{Down, Start, Off, Reset}
@@ -10,6 +12,8 @@ use Rattle.psci_link.specs.Frame.{part_fields}
 use Rattle.psci_ffi.specs.declared.fields.Fields.{Fields}
 use Rattle.psci_ffi.specs.declared.fields.PartFields.{PartFields}
 use Rattle.psci_ffi.specs.Fields.{IsDecodedIn, IsUnread, fields_of, frame_given, frame_spelled}
+use Rattle.psci_abi.proofs.Tables.{◌⇒◌, Gives}
+use Rattle.psci_ffi.proofs.Apart.{apart-by, itself}
 
 abbrev part : ℕ → ℕ → ℕ → PartFields
 part level depth generation =
@@ -31,31 +35,19 @@ down = record {
 
 abbrev four : MessageValue
 four = record down {
-  parts = record { level = 0; depth = 3; generation = 7 }
-      ∷ record { level = 1; depth = 2; generation = 19 }
-      ∷ record { level = 2; depth = 1; generation = 20 }
+  parts = down.parts ++ record { level = 2; depth = 1; generation = 20 }
       ∷ record { level = 3; depth = 1; generation = 21 } ∷ [];
 }
 
-of-a-down : fields_of (Message down) ≡ record {
-  kind = 1;
-  count = 2;
-  core = 5;
-  life = 3;
-  number = 7;
-  parts = part 0 3 7 ∷ part 1 2 19 ∷ none ∷ none ∷ [];
-}
-of-a-down = refl
+-- a Down of core 5, which has these parts
+abbrev of-core-5 : ℕ → List PartFields → Fields
+of-core-5 count parts =
+    record { kind = 1; count = count; core = 5; life = 3; number = 7; parts = parts }
 
-of-four-parts : fields_of (Message four) ≡ record {
-  kind = 1;
-  count = 4;
-  core = 5;
-  life = 3;
-  number = 7;
-  parts = part 0 3 7 ∷ part 1 2 19 ∷ part 2 1 20 ∷ part 3 1 21 ∷ [];
-}
-of-four-parts = refl
+of-downs : Gives (λ m. fields_of (Message m))
+    (down ⇒ of-core-5 2 (part 0 3 7 ∷ part 1 2 19 ∷ none ∷ none ∷ [])
+    ∷ four ⇒ of-core-5 4 (part 0 3 7 ∷ part 1 2 19 ∷ part 2 1 20 ∷ part 3 1 21 ∷ []) ∷ [])
+of-downs = refl
 
 abbrev other : Kind → MessageValue
 other kind = record { kind = kind; core = record { number = 2 }; life = 1; number = 0; parts = [] }
@@ -95,33 +87,31 @@ with-parts p q = record (plain 1 2) { parts = p ∷ q ∷ none ∷ none ∷ [] }
 -- Reading --------------------------------------------------------------------------------------
 
 -- nothing is written of bytes that are no frame, nor without a firmware
-a-fault : IsUnread (Some Magic) 34 (plain 2 0) (plain 2 0)
-a-fault = (refl, refl)
+unread : IsUnread (Some Magic) 34 (plain 2 0) (plain 2 0)
+    × IsDecodedIn None [] 16 (plain 2 0) (plain 2 0)
+unread = ((refl, refl), (refl, refl))
 
-a-fault-that-writes : IsUnread (Some Magic) 34 (plain 2 0) (plain 3 0) → ⊥
-a-fault-that-writes h = let e : ◌≡◌ {A = ℕ} 3 2 = ap (λ (f : Fields). f.kind) h.1 in omega arith
-
-another-fault : IsUnread (Some Magic) 35 (plain 2 0) (plain 2 0) → ⊥
-another-fault h = let e : ◌≡◌ {A = ℕ} 35 34 = h.0 in omega arith
-
-no-firmware : IsDecodedIn None [] 16 (plain 2 0) (plain 2 0)
-no-firmware = (refl, refl)
-
-no-firmware-is-read : IsDecodedIn None [] 0 (plain 2 0) (plain 2 0) → ⊥
-no-firmware-is-read h = let e : ◌≡◌ {A = ℕ} 0 16 = h.0 in omega arith
-
-no-firmware-writes : IsDecodedIn None [] 16 (plain 2 0) (plain 3 0) → ⊥
-no-firmware-writes h = let e : ◌≡◌ {A = ℕ} 3 2 = ap (λ (f : Fields). f.kind) h.1 in omega arith
+-- something is, and another number is said
+unread-not : ¬ (IsUnread (Some Magic) 34 (plain 2 0) (plain 3 0))
+    × ¬ (IsUnread (Some Magic) 35 (plain 2 0) (plain 2 0))
+    × ¬ (IsDecodedIn None [] 0 (plain 2 0) (plain 2 0))
+    × ¬ (IsDecodedIn None [] 16 (plain 2 0) (plain 3 0))
+unread-not = (
+  λ h. apart-by (λ (f : Fields). f.kind) h.1 refl,
+  λ h. apart-by itself h.0 refl,
+  λ h. apart-by itself h.0 refl,
+  λ h. apart-by (λ (f : Fields). f.kind) h.1 refl,
+)
 
 -- Writing --------------------------------------------------------------------------------------
 
 -- each kind of frame is written from its own fields
-again : map (λ frame. frame_given (fields_of frame))
-    (Message down ∷ Message four ∷ Message (other Start) ∷ Message (other Off)
-    ∷ Message (other Reset) ∷ Ack (applied Down 4 false) ∷ Ack (applied Reset 1 true) ∷ [])
-    ≡ map Some
-    (Message down ∷ Message four ∷ Message (other Start) ∷ Message (other Off)
-    ∷ Message (other Reset) ∷ Ack (applied Down 4 false) ∷ Ack (applied Reset 1 true) ∷ [])
+abbrev each : List Frame
+each =
+    Message down ∷ Message four ∷ Message (other Start) ∷ Message (other Off)
+    ∷ Message (other Reset) ∷ Ack (applied Down 4 false) ∷ Ack (applied Reset 1 true) ∷ []
+
+again : map (λ frame. frame_given (fields_of frame)) each ≡ map Some each
 again = refl
 
 -- what is not counted is not looked at

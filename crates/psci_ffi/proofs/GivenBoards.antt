@@ -3,8 +3,9 @@ use Rattle.std.proofs.Common.{◌≡◌, ℕ, suc, zero, ◌<◌, ◌≤◌, ◌
 use Rattle.std.proofs.Common.{List, [], ◌∷◌, length}
 use Rattle.std.proofs.Common.{take, map, sum, get_or, Option, Some, None, refl, ap, ◌∙◌}
 use Rattle.std.proofs.Common.{arith}
-use Rattle.std.specs.Prelude.{◌&&◌, ◌||◌, not, nat_lt, nat_le, ◌==◌, Result, Ok, Err}
+use Rattle.std.specs.Prelude.{◌&&◌, not, nat_lt, nat_le, ◌==◌, Result, Ok, Err}
 use Rattle.std.specs.List.{list_any, list_all}
+use Rattle.std.proofs.lemmas.Bool.{and_parts, eqb-true, leb-true, ltb-true, not-false, or_parts}
 use Rattle.std.proofs.lemmas.Bool.Decides.{nat_tests}
 use Rattle.std.proofs.lemmas.List.{length-map, length-take}
 use Rattle.psci_board.specs.psci_abi.declared.format.Format.{Format}
@@ -34,27 +35,13 @@ few_below (x ∷ ls) (suc i) l h t = few_below ls i l (omega (arith, h)) t.3
 pub small : (n : ℕ) → n ≤ MOST_CORES → n < 65536
 small n h = omega (arith, h)
 
-both : (a b : Bool) → (a && b) ≡ true → (a ≡ true) × (b ≡ true)
-both true b h = (refl, h)
-both false b h = cc
-
-either_false : (a b : Bool) → (a || b) ≡ false → (a ≡ false) × (b ≡ false)
-either_false true b h = cc
-either_false false b h = (refl, h)
-
-same : (a b : ℕ) → (a == b) ≡ true → a ≡ b
-same a b h = grind (arith, nat_tests)
-
-no_more : (a b : ℕ) → nat_le a b ≡ true → a ≤ b
-no_more a b h = grind (arith, nat_tests)
-
 -- no level has more nodes than a board has cores
 few_nodes : (ls : List GivenLevel) → list_all (λ l. nat_le l.nodes MOST_CORES) ls ≡ true
     → list_all (λ w. nat_le (length w) MOST_CORES) (map level_given ls) ≡ true
 few_nodes [] h = refl
 few_nodes (l ∷ ls) h =
-    let p = both _ _ h in
-    let n = no_more l.nodes MOST_CORES p.0 in
+    let p = and_parts _ _ h in
+    let n = leb-true l.nodes MOST_CORES p.0 in
     let s = length-take l.nodes l.children in
     let m : length (take l.nodes l.children) ≤ MOST_CORES = omega (arith, n, s) in
     let t : nat_le (length (take l.nodes l.children)) MOST_CORES ≡ true =
@@ -68,18 +55,14 @@ tree : (ws : List (List ℕ)) → is_even ws ≡ true
     → IsTree ws
 tree [] e w n s = tt
 tree (v ∷ ws) e w n s =
-    let p = both _ _ e in
-    let q = either_false _ _ w in
-    let r = both _ _ n in
-    let fits = same (length v) (size_below ws) p.0 in
-    let few = no_more (length v) MOST_CORES r.0 in
+    let p = and_parts _ _ e in
+    let q = or_parts _ _ w in
+    let r = and_parts _ _ n in
+    let fits = eqb-true (length v) (size_below ws) p.0 in
+    let few = leb-true (length v) MOST_CORES r.0 in
     (fits, s, pass_width v q.0, tree ws p.1 q.1 r.1 (omega (arith, fits, few)))
 
 -- Boards ---------------------------------------------------------------------------------------
-
-not_false : (b : Bool) → not b ≡ false → b ≡ true
-not_false true h = refl
-not_false false h = cc
 
 passed : (b : Bool) (f : BoardFault) (y : Option BoardFault)
     → cond b (Some f) y ≡ None → (b ≡ false) × (y ≡ None)
@@ -88,9 +71,6 @@ passed false f y h = (refl, h)
 
 limited : (most n : ℕ) → is_limit most n ≡ true → (0 < n) × (n ≤ most)
 limited most n h = (grind (arith, nat_tests), grind (arith, nat_tests))
-
-low : (a : ℕ) → nat_lt 0 a ≡ true → 0 < a
-low a h = grind (arith, nat_tests)
 
 short : (g : GivenBoard) → g.height ≤ 3 → length (levels_given g) ≤ 3
 short g h =
@@ -109,18 +89,18 @@ is_board g format formed h =
     let d = passed _ BadRange _ c.1 in
     let e = passed _ BadBoot _ d.1 in
     let f = passed _ BadLimit _ e.1 in
-    let outer = both _ _ formed in
-    let inner = both _ _ outer.0 in
-    let limits = both _ _ (not_false _ f.0) in
+    let outer = and_parts _ _ formed in
+    let inner = and_parts _ _ outer.0 in
+    let limits = and_parts _ _ (not-false _ f.0) in
     let starts = limited (2 ^ 32 - 1) g.starts limits.0 in
     let lives = limited 65535 g.lives limits.1 in
     record {
-      tree = tree (levels_given g) (not_false _ a.0) b.0
+      tree = tree (levels_given g) (not-false _ a.0) b.0
           (few_nodes (take g.height g.levels) outer.1)
           (within MOST_CORES _ c.0);
-      low = low _ inner.0;
-      high = short g (no_more g.height 3 inner.1);
-      boot = not_false _ e.0;
+      low = ltb-true 0 _ inner.0;
+      high = short g (leb-true g.height 3 inner.1);
+      boot = not-false _ e.0;
       some_starts = starts.0;
       starts = omega (arith, starts.1);
       some_lives = lives.0;
@@ -153,13 +133,8 @@ not_memory : (a b c d e f : Bool)
     → cond a (Some Uneven) (cond b (Some TooWide) (cond c (Some TooManyCores)
     (cond d (Some BadRange) (cond e (Some BadBoot) (cond f (Some BadLimit) None))))) ≡ Some Memory
     → ⊥
-not_memory true b c d e f h = cc
-not_memory false true c d e f h = cc
-not_memory false false true d e f h = cc
-not_memory false false false true e f h = cc
-not_memory false false false false true f h = cc
-not_memory false false false false false true h = cc
 not_memory false false false false false false h = cc
+not_memory a b c d e f h = cc
 
 no_memory : (g : GivenBoard) → fault_given g ≡ Some Memory → ⊥
 unfolding fault_given
@@ -173,13 +148,7 @@ no_memory g h =
 by_fault : (fault : BoardFault) (said : Said) → (fault ≡ Memory → ⊥) → said ≡ Err fault
     → Answers (Err fault) said
 by_fault Memory said p e = absurd (p refl)
-by_fault Grammar said p e = e
-by_fault Uneven said p e = e
-by_fault TooWide said p e = e
-by_fault TooManyCores said p e = e
-by_fault BadRange said p e = e
-by_fault BadBoot said p e = e
-by_fault BadLimit said p e = e
+by_fault fault said p e = e
 
 pub bad_answer : (g : GivenBoard) (format : Format) (fault : BoardFault) → has_levels g ≡ true
     → format_given g.format ≡ Some format → fault_given g ≡ Some fault

@@ -1,6 +1,6 @@
 -- Worked examples: boards that C gives as a struct, and the first fault of each struct that gives
 -- none.
-use Rattle.std.proofs.Common.{◌≡◌, ℕ, ◌-◌, List, [], ◌∷◌, ◌++◌, length, map, refl}
+use Rattle.std.proofs.Common.{◌≡◌, ℕ, ◌-◌, List, [], ◌∷◌, ◌++◌, length, refl}
 use Rattle.std.specs.Prelude.{Result, Ok, Err, replicate}
 use Rattle.psci_board.specs.psci_abi.declared.format.Format.TheVariants.{Original, Extended}
 use Rattle.psci_board.specs.Board.{BoardValue}
@@ -12,6 +12,7 @@ use Rattle.psci_ffi.specs.declared.given.GivenBoard.{GivenBoard}
 use Rattle.psci_ffi.specs.declared.given.GivenLevel.{GivenLevel}
 use Rattle.psci_ffi.specs.declared.given.GivenRange.{GivenRange}
 use Rattle.psci_ffi.specs.Given.{board_of_given, fault_given}
+use Rattle.psci_abi.proofs.Tables.{◌⇒◌, Gives}
 
 -- Structs ---------------------------------------------------------------------------------------
 
@@ -63,26 +64,22 @@ with_ranges many a b =
 abbrev Said : Type 0
 Said = Result BoardValue BoardFault
 
-two_levels : ◌≡◌ {A = Said} (board_of_given given) (Ok board)
+boards_given : Gives board_of_given
+    (given ⇒ Ok board
+    ∷ record given { format = 1 } ⇒ Ok (record board { format = Extended })
+    ∷ with_levels 1 (level (1 ∷ [])) (level []) (level [])
+    ⇒ Ok (record board { levels = (1 ∷ []) ∷ [] })
+    -- a cluster of one core beside a group of two clusters, of which one is the widest
+    ∷ with_levels 3 (level (1 ∷ 2 ∷ 16 ∷ [])) (level (1 ∷ 2 ∷ [])) (level (2 ∷ []))
+    ⇒ Ok (record board { levels = (1 ∷ 2 ∷ 16 ∷ []) ∷ (1 ∷ 2 ∷ []) ∷ (2 ∷ []) ∷ [] })
+    -- what is not counted is not looked at: children, a level and a range
+    ∷ record given {
+      ranges = range 0x40000000 0x40100000 ∷ range 9 1 ∷ no_range ∷ no_range ∷ [];
+      levels = record { nodes = 2; children = 2 ∷ 2 ∷ 99 ∷ replicate 253 0 } ∷ level (2 ∷ [])
+          ∷ record { nodes = 300; children = replicate 256 7 } ∷ [];
+    } ⇒ Ok board ∷ [])
 unfolding board_of_given fault_given
-two_levels = refl
-
-in_the_extended_format : ◌≡◌ {A = Said} (board_of_given (record given { format = 1 }))
-    (Ok (record board { format = Extended }))
-unfolding board_of_given fault_given
-in_the_extended_format = refl
-
-one_core : ◌≡◌ {A = Said} (board_of_given (with_levels 1 (level (1 ∷ [])) (level []) (level [])))
-    (Ok (record board { levels = (1 ∷ []) ∷ [] }))
-unfolding board_of_given fault_given
-one_core = refl
-
--- a cluster of one core beside a group of two clusters, of which one is the widest
-three_levels : ◌≡◌ {A = Said}
-    (board_of_given (with_levels 3 (level (1 ∷ 2 ∷ 16 ∷ [])) (level (1 ∷ 2 ∷ [])) (level (2 ∷ []))))
-    (Ok (record board { levels = (1 ∷ 2 ∷ 16 ∷ []) ∷ (1 ∷ 2 ∷ []) ∷ (2 ∷ []) ∷ [] }))
-unfolding board_of_given fault_given
-three_levels = refl
+boards_given = refl
 
 -- four ranges, the boot address in the third
 four_ranges : ◌≡◌ {A = Said}
@@ -95,100 +92,13 @@ four_ranges : ◌≡◌ {A = Said}
 unfolding board_of_given fault_given
 four_ranges = refl
 
--- what is not counted is not looked at: children, a level and a range
-not_counted : ◌≡◌ {A = Said}
-    (board_of_given (record given {
-      ranges = range 0x40000000 0x40100000 ∷ range 9 1 ∷ no_range ∷ no_range ∷ [];
-      levels = record { nodes = 2; children = 2 ∷ 2 ∷ 99 ∷ replicate 253 0 } ∷ level (2 ∷ [])
-          ∷ record { nodes = 300; children = replicate 256 7 } ∷ [];
-    }))
-    (Ok board)
-unfolding board_of_given fault_given
-not_counted = refl
-
 -- Faults ----------------------------------------------------------------------------------------
 
 abbrev fault_in : Said → List BoardFault
 fault_in (Ok b) = []
 fault_in (Err fault) = fault ∷ []
 
-abbrev faults : List GivenBoard → List (List BoardFault)
-faults gs = map (λ g. fault_in (board_of_given g)) gs
-
--- no level, four levels, more nodes on a level than there is room for, on the lowest and on the
--- next
-no_levels : faults (
-    record given { height = 0 } ∷
-    record given { height = 4 } ∷
-    with_levels 1 (record { nodes = 257; children = replicate 256 1 }) (level []) (level []) ∷
-    with_levels 2 (level (2 ∷ [])) (record { nodes = 257; children = replicate 256 1 }) (level []) ∷
-    record given { format = 2 } ∷ [])
-    ≡ (Grammar ∷ []) ∷ (Grammar ∷ []) ∷ (Grammar ∷ []) ∷ (Grammar ∷ []) ∷ (Grammar ∷ []) ∷ []
-unfolding board_of_given fault_given
-no_levels = refl
-
--- a cluster too few, a cluster too many, a system of two nodes, of none
-uneven : faults (
-    with_levels 2 (level (2 ∷ [])) (level (2 ∷ [])) (level []) ∷
-    with_levels 2 (level (2 ∷ 2 ∷ 2 ∷ [])) (level (2 ∷ [])) (level []) ∷
-    with_levels 2 (level (2 ∷ 2 ∷ [])) (level (1 ∷ 1 ∷ [])) (level []) ∷
-    with_levels 1 (level []) (level []) (level []) ∷
-    with_levels 3 (level (1 ∷ 1 ∷ [])) (level (2 ∷ [])) (level (2 ∷ [])) ∷ [])
-    ≡ (Uneven ∷ []) ∷ (Uneven ∷ []) ∷ (Uneven ∷ []) ∷ (Uneven ∷ []) ∷ (Uneven ∷ []) ∷ []
-unfolding board_of_given fault_given
-uneven = refl
-
--- a cluster without cores, of 17, a system of 17 clusters
-too_wide : faults (
-    with_levels 2 (level (2 ∷ 0 ∷ [])) (level (2 ∷ [])) (level []) ∷
-    with_levels 1 (level (17 ∷ [])) (level []) (level []) ∷
-    with_levels 2 (level (replicate 17 1)) (level (17 ∷ [])) (level []) ∷ [])
-    ≡ (TooWide ∷ []) ∷ (TooWide ∷ []) ∷ (TooWide ∷ []) ∷ []
-unfolding board_of_given fault_given
-too_wide = refl
-
--- 256 cores, and 257
-many_cores : faults (
-    with_levels 2 (level (replicate 16 16)) (level (16 ∷ [])) (level []) ∷
-    with_levels 3 (level (replicate 16 16 ++ 1 ∷ [])) (level (16 ∷ 1 ∷ [])) (level (2 ∷ [])) ∷ [])
-    ≡ [] ∷ (TooManyCores ∷ []) ∷ []
-unfolding board_of_given fault_given
-many_cores = refl
-
--- five ranges; one of no address; one that ends before it begins; a second one of no address
-bad_ranges : faults (
-    with_ranges 5 (range 0x40000000 0x40100000) (range 2 3) ∷
-    with_ranges 1 (range 0x40000000 0x40000000) (range 2 3) ∷
-    with_ranges 1 (range 0x40100000 0x40000000) (range 2 3) ∷
-    with_ranges 2 (range 0x40000000 0x40100000) (range 2 2) ∷ [])
-    ≡ (BadRange ∷ []) ∷ (BadRange ∷ []) ∷ (BadRange ∷ []) ∷ (BadRange ∷ []) ∷ []
-unfolding board_of_given fault_given
-bad_ranges = refl
-
--- no range; not aligned; before the range; the last word of it; after it
-boots_at : faults (
-    with_ranges 0 (range 0x40000000 0x40100000) no_range ∷
-    record given { boot = 0x40000002 } ∷
-    record given { boot = 0x3ffffffc } ∷
-    record given { boot = 0x400ffffc } ∷
-    record given { boot = 0x40100000 } ∷ [])
-    ≡ (BadBoot ∷ []) ∷ (BadBoot ∷ []) ∷ (BadBoot ∷ []) ∷ [] ∷ (BadBoot ∷ []) ∷ []
-unfolding board_of_given fault_given
-boots_at = refl
-
-limits : faults (
-    record given { starts = 0 } ∷
-    record given { starts = 1 } ∷
-    record given { starts = 4294967295 } ∷
-    record given { lives = 0 } ∷
-    record given { lives = 1 } ∷
-    record given { lives = 65535 } ∷
-    record given { lives = 65536 } ∷ [])
-    ≡ (BadLimit ∷ []) ∷ [] ∷ [] ∷ (BadLimit ∷ []) ∷ [] ∷ [] ∷ (BadLimit ∷ []) ∷ []
-unfolding board_of_given fault_given
-limits = refl
-
--- each fault with those that are looked for after it
+-- with all the faults that are looked for after the one that it has
 abbrev all_after : GivenBoard → GivenBoard
 all_after g = record g {
   many_ranges = 1;
@@ -197,14 +107,58 @@ all_after g = record g {
   starts = 0;
 }
 
-in_order : faults (
-    all_after (record (with_levels 1 (level (17 ∷ 1 ∷ [])) (level []) (level [])) { format = 9 }) ∷
-    all_after (with_levels 1 (level (17 ∷ 1 ∷ [])) (level []) (level [])) ∷
-    all_after (with_levels 2 (level (replicate 16 17)) (level (16 ∷ [])) (level [])) ∷
-    all_after (with_levels 3 (level (replicate 17 16)) (level (16 ∷ 1 ∷ [])) (level (2 ∷ []))) ∷
-    all_after given ∷
-    record given { boot = 1; starts = 0 } ∷ [])
-    ≡ (Grammar ∷ []) ∷ (Uneven ∷ []) ∷ (TooWide ∷ []) ∷ (TooManyCores ∷ []) ∷ (BadRange ∷ [])
-    ∷ (BadBoot ∷ []) ∷ []
+faults_given : Gives (λ g. fault_in (board_of_given g))
+    -- no level, four levels, more nodes on a level than there is room for, on the lowest and on the
+    -- next
+    (record given { height = 0 } ⇒ (Grammar ∷ [])
+    ∷ record given { height = 4 } ⇒ (Grammar ∷ [])
+    ∷ with_levels 1 (record { nodes = 257; children = replicate 256 1 }) (level []) (level [])
+    ⇒ (Grammar ∷ [])
+    ∷ with_levels 2 (level (2 ∷ [])) (record { nodes = 257; children = replicate 256 1 }) (level [])
+    ⇒ (Grammar ∷ [])
+    ∷ record given { format = 2 } ⇒ (Grammar ∷ [])
+    -- a cluster too few, a cluster too many, a system of two nodes, of none
+    ∷ with_levels 2 (level (2 ∷ [])) (level (2 ∷ [])) (level []) ⇒ (Uneven ∷ [])
+    ∷ with_levels 2 (level (2 ∷ 2 ∷ 2 ∷ [])) (level (2 ∷ [])) (level []) ⇒ (Uneven ∷ [])
+    ∷ with_levels 2 (level (2 ∷ 2 ∷ [])) (level (1 ∷ 1 ∷ [])) (level []) ⇒ (Uneven ∷ [])
+    ∷ with_levels 1 (level []) (level []) (level []) ⇒ (Uneven ∷ [])
+    ∷ with_levels 3 (level (1 ∷ 1 ∷ [])) (level (2 ∷ [])) (level (2 ∷ [])) ⇒ (Uneven ∷ [])
+    -- a cluster without cores, of 17, a system of 17 clusters
+    ∷ with_levels 2 (level (2 ∷ 0 ∷ [])) (level (2 ∷ [])) (level []) ⇒ (TooWide ∷ [])
+    ∷ with_levels 1 (level (17 ∷ [])) (level []) (level []) ⇒ (TooWide ∷ [])
+    ∷ with_levels 2 (level (replicate 17 1)) (level (17 ∷ [])) (level []) ⇒ (TooWide ∷ [])
+    -- 256 cores, and 257
+    ∷ with_levels 2 (level (replicate 16 16)) (level (16 ∷ [])) (level []) ⇒ []
+    ∷ with_levels 3 (level (replicate 16 16 ++ 1 ∷ [])) (level (16 ∷ 1 ∷ [])) (level (2 ∷ []))
+    ⇒ (TooManyCores ∷ [])
+    -- five ranges; one of no address; one that ends before it begins; a second one of no address
+    ∷ with_ranges 5 (range 0x40000000 0x40100000) (range 2 3) ⇒ (BadRange ∷ [])
+    ∷ with_ranges 1 (range 0x40000000 0x40000000) (range 2 3) ⇒ (BadRange ∷ [])
+    ∷ with_ranges 1 (range 0x40100000 0x40000000) (range 2 3) ⇒ (BadRange ∷ [])
+    ∷ with_ranges 2 (range 0x40000000 0x40100000) (range 2 2) ⇒ (BadRange ∷ [])
+    -- no range; not aligned; before the range; the last word of it; after it
+    ∷ with_ranges 0 (range 0x40000000 0x40100000) no_range ⇒ (BadBoot ∷ [])
+    ∷ record given { boot = 0x40000002 } ⇒ (BadBoot ∷ [])
+    ∷ record given { boot = 0x3ffffffc } ⇒ (BadBoot ∷ [])
+    ∷ record given { boot = 0x400ffffc } ⇒ []
+    ∷ record given { boot = 0x40100000 } ⇒ (BadBoot ∷ [])
+    -- the limits of starts and of lives
+    ∷ record given { starts = 0 } ⇒ (BadLimit ∷ [])
+    ∷ record given { starts = 1 } ⇒ []
+    ∷ record given { starts = 4294967295 } ⇒ []
+    ∷ record given { lives = 0 } ⇒ (BadLimit ∷ [])
+    ∷ record given { lives = 1 } ⇒ []
+    ∷ record given { lives = 65535 } ⇒ []
+    ∷ record given { lives = 65536 } ⇒ (BadLimit ∷ [])
+    -- with all that are looked for after it
+    ∷ all_after (record (with_levels 1 (level (17 ∷ 1 ∷ [])) (level []) (level [])) { format = 9 })
+    ⇒ (Grammar ∷ [])
+    ∷ all_after (with_levels 1 (level (17 ∷ 1 ∷ [])) (level []) (level [])) ⇒ (Uneven ∷ [])
+    ∷ all_after (with_levels 2 (level (replicate 16 17)) (level (16 ∷ [])) (level []))
+    ⇒ (TooWide ∷ [])
+    ∷ all_after (with_levels 3 (level (replicate 17 16)) (level (16 ∷ 1 ∷ [])) (level (2 ∷ [])))
+    ⇒ (TooManyCores ∷ [])
+    ∷ all_after given ⇒ (BadRange ∷ [])
+    ∷ record given { boot = 1; starts = 0 } ⇒ (BadBoot ∷ []) ∷ [])
 unfolding board_of_given fault_given
-in_order = refl
+faults_given = refl

@@ -1,3 +1,4 @@
+mod Apart
 mod CallRows
 mod CodeRows
 pub mod ControllerCrossing

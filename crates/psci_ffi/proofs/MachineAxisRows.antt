@@ -2,13 +2,12 @@
 -- all bits count and two states of one class, in either mode; and what an opening leaves in its
 -- place.
 use Rattle.std.proofs.Common.{◌≡◌, ℕ, Bool, List, [], ◌∷◌, ◌++◌, map, true, false, refl, ap}
-use Rattle.std.proofs.Common.{replicate, arith}
+use Rattle.std.proofs.Common.{replicate}
 use Rattle.std.specs.Prelude.{Result, Ok, Err, None, Some}
 use Rattle.psci_abi.specs.declared.code.Code.{Code}
 use Rattle.psci_abi.specs.declared.registers.Regs.{Regs}
 use Rattle.psci_abi.specs.declared.format.Format.TheVariants.{Original}
 use Rattle.psci_board.specs.Board.{BoardValue}
-use Rattle.psci_board.specs.declared.fault.BoardFault.{BoardFault}
 use Rattle.psci_board.specs.declared.fault.BoardFault.TheVariants as boards
 use Rattle.psci_fw.specs.Seen.{seen}
 use Rattle.psci_fw_spec.specs.declared.call.FwCall.TheVariants.{Smc}
@@ -33,6 +32,7 @@ use Rattle.psci_ffi.specs.MachineCalls.{regs_in, told_in}
 use Rattle.psci_ffi.specs.MachineSlot.{IsFull, KeptMachine}
 use Rattle.psci_ffi.specs.Machines.{machine_on}
 use Rattle.psci_ffi.specs.Shown.{act_shown, answered, no_frame, shown}
+use Rattle.psci_ffi.proofs.Apart.{apart-by}
 
 -- A machine -------------------------------------------------------------------------------------
 
@@ -163,9 +163,6 @@ nothing_tells code told = told
 
 -- Opening ---------------------------------------------------------------------------------------
 
-abbrev Said : Type 0
-Said = Result BoardValue BoardFault
-
 abbrev truth : Bool → ℕ
 truth true = 1
 truth false = 0
@@ -175,30 +172,23 @@ abbrev full : KeptMachine → ℕ
 full None = 0
 full (Some m) = 1
 
--- want of memory is answered of a board without a fault alone
-no_memory_for_no_board : IsMade (Err (Board boards.Memory)) (Err boards.Uneven) paired 1 → ⊥
-no_memory_for_no_board h = let e : ◌≡◌ {A = ℕ} 0 1 = ap truth h in omega arith
-
--- nor is it said by an opening, which leaves what was there
-no_memory_opens_nothing : OpensMachine (Err (Board boards.Memory)) (Ok paired_board) paired 1 None
-    kept → ⊥
-no_memory_opens_nothing h = let e : ◌≡◌ {A = ℕ} 1 0 = ap full h.1 in omega arith
-
-memory_before_a_fault : OpensMachine (Err (Board boards.Memory)) (Err boards.Uneven) paired 1 kept
-    kept → ⊥
-memory_before_a_fault h = let e : ◌≡◌ {A = ℕ} 0 1 = ap truth h.0 in omega arith
-
--- a fault leaves what was there
-faulty_and_emptied : OpensMachine (Err Room) (Ok paired_board) (record paired { many_rows = 65 }) 1
-    kept None → ⊥
-faulty_and_emptied h = let e : ◌≡◌ {A = ℕ} 0 1 = ap full h.1 in omega arith
-
-opened_and_empty : OpensMachine (Ok tt) (Ok paired_board) paired 1 kept None → ⊥
+opens_not :
+    -- want of memory is answered of a board without a fault alone
+    ¬ (IsMade (Err (Board boards.Memory)) (Err boards.Uneven) paired 1)
+    -- nor is it said by an opening, which leaves what was there
+    × ¬ (OpensMachine (Err (Board boards.Memory)) (Ok paired_board) paired 1 None kept)
+    × ¬ (OpensMachine (Err (Board boards.Memory)) (Err boards.Uneven) paired 1 kept kept)
+    -- a fault leaves what was there
+    × ¬ (OpensMachine (Err Room) (Ok paired_board) (record paired { many_rows = 65 }) 1 kept None)
+    × ¬ (OpensMachine (Ok tt) (Ok paired_board) paired 1 kept None)
+    × ¬ (OpensMachine (Ok tt) (Err boards.Uneven) paired 1 kept kept) × ¬ (IsFull None)
 unfolding checking
-opened_and_empty h = let e : ◌≡◌ {A = ℕ} 0 1 = ap full h in omega arith
-
-opened_with_a_fault : OpensMachine (Ok tt) (Err boards.Uneven) paired 1 kept kept → ⊥
-opened_with_a_fault h = h
-
-no_machine_in_an_empty_slot : IsFull None → ⊥
-no_machine_in_an_empty_slot h = h
+opens_not = (
+  λ h. apart-by truth h refl,
+  λ h. apart-by full h.1 refl,
+  λ h. apart-by truth h.0 refl,
+  λ h. apart-by full h.1 refl,
+  λ h. apart-by full h refl,
+  λ h. h,
+  λ h. h,
+)

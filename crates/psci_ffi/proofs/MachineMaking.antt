@@ -24,14 +24,8 @@ Said = Result BoardValue BoardFault
 
 pub bad_board : (said : Said) (fault : BoardFault) (g : GivenMachine) (boot : ℕ)
     → Answers (Err fault) said → IsMade (Err (faults.Board fault)) said g boot
-bad_board said boards.Grammar g boot is = ap (λ (s : Said). machine_by s g boot) is
-bad_board said boards.Uneven g boot is = ap (λ (s : Said). machine_by s g boot) is
-bad_board said boards.TooWide g boot is = ap (λ (s : Said). machine_by s g boot) is
-bad_board said boards.TooManyCores g boot is = ap (λ (s : Said). machine_by s g boot) is
-bad_board said boards.BadRange g boot is = ap (λ (s : Said). machine_by s g boot) is
-bad_board said boards.BadBoot g boot is = ap (λ (s : Said). machine_by s g boot) is
-bad_board said boards.BadLimit g boot is = ap (λ (s : Said). machine_by s g boot) is
 bad_board said boards.Memory g boot is = is
+bad_board said fault g boot is = ap (λ (s : Said). machine_by s g boot) is
 
 pub no_memory : (said : Said) (b : BoardValue) (g : GivenMachine) (boot : ℕ)
     → Answers (Ok b) said → IsMade (Err (faults.Board boards.Memory)) said g boot
@@ -66,16 +60,9 @@ pub ruleset making = (bad_board, no_room, no_memory)
 pub failed : (said : Said) (fault : MachineFault) (g : GivenMachine) (boot : ℕ)
     (old left : KeptMachine) → IsMade (Err fault) said g boot → left ≡ old
     → OpensMachine (Err fault) said g boot old left
-failed said (faults.Board boards.Grammar) g boot old left is same = (is, same)
-failed said (faults.Board boards.Uneven) g boot old left is same = (is, same)
-failed said (faults.Board boards.TooWide) g boot old left is same = (is, same)
-failed said (faults.Board boards.TooManyCores) g boot old left is same = (is, same)
-failed said (faults.Board boards.BadRange) g boot old left is same = (is, same)
-failed said (faults.Board boards.BadBoot) g boot old left is same = (is, same)
-failed said (faults.Board boards.BadLimit) g boot old left is same = (is, same)
 failed said (faults.Board boards.Memory) g boot old left is same = (is, same)
-failed said faults.Room g boot old left is same = (is, same)
-failed said (faults.Description fault) g boot old left is same = (is, same)
+failed said (faults.Board fault) g boot old left is same = (is, same)
+failed said fault g boot old left is same = (is, same)
 
 pub opened : (said : Said) (m : PlatformValue) (g : GivenMachine) (boot : ℕ)
     (old left : KeptMachine) → IsMade (Ok m) said g boot → left ≡ Some m

@@ -29,6 +29,8 @@ use Rattle.psci_ffi.specs.MachineSlot.{KeptMachine}
 use Rattle.psci_ffi.specs.Machines.{classes_given, functions_given, has_room, machine_by}
 use Rattle.psci_ffi.specs.Machines.{machine_given, machine_on}
 use Rattle.psci_ffi.specs.Shown.{refused}
+use Rattle.psci_abi.proofs.Tables.{◌⇒◌, Gives}
+use Rattle.psci_ffi.proofs.Apart.{itself}
 
 -- Structs ---------------------------------------------------------------------------------------
 
@@ -85,18 +87,16 @@ uncounted : machine_given (record mx8mm {
 }) ≡ record description { mpidrs = 0 ∷ []; rows = []; resets = [] }
 uncounted = refl
 
--- classes rise: standby, retention, power-down; any of them may be missing, and more than there is
--- room for are not seen
-three_classes : classes_given 1 2
-    ≡ Running ∷ Standby ∷ Retention ∷ Retention ∷ replicate 12 PowerDown
-three_classes = refl
-
 one_class : map (λ standby. classes_given standby 0) (0 ∷ 15 ∷ 255 ∷ [])
     ≡ down ∷ (Running ∷ replicate 15 Standby) ∷ (Running ∷ replicate 15 Standby) ∷ []
 one_class = refl
 
-no_standby : classes_given 0 255 ≡ Running ∷ replicate 15 Retention
-no_standby = refl
+-- classes rise: standby, retention, power-down; any of them may be missing, and more than there is
+-- room for are not seen
+classes_by_count : Gives (λ (cs : List Class). cs)
+    (classes_given 1 2 ⇒ (Running ∷ Standby ∷ Retention ∷ Retention ∷ replicate 12 PowerDown)
+    ∷ classes_given 0 255 ⇒ (Running ∷ replicate 15 Retention) ∷ [])
+classes_by_count = refl
 
 -- a bit for each function
 abbrev none_there : Functions
@@ -231,14 +231,11 @@ unfolding calling
 places_in_tree = refl
 
 -- of an empty place
-no_number : core_read None 0 ≡ 0xFFFF
-no_number = refl
-
-no_mpidr : mpidr_read None 0 ≡ 0xFFFFFFFFFFFFFFFF
-no_mpidr = refl
-
-own_place : place_read None (record { level = 1; place = 3 }) ≡ 3
-own_place = refl
+of_an_empty_place : Gives itself
+    (core_read None 0 ⇒ 0xFFFF
+    ∷ mpidr_read None 0 ⇒ 0xFFFFFFFFFFFFFFFF
+    ∷ place_read None (record { level = 1; place = 3 }) ⇒ 3 ∷ [])
+of_an_empty_place = refl
 
 -- a call where there is no firmware is refused, and asks nothing
 no_call : IsCalledIn None None 0 (regs_given 0x84000000 0 0 0) (refused no_firmware) nothing_asked

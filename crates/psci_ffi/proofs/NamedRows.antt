@@ -1,7 +1,7 @@
 -- Worked examples: calls in the words of a machine whose core or power state is kept. The board has
 -- two clusters of two cores.
 use Rattle.std.proofs.Common.{◌≡◌, ◌<◌, ℕ, zero, suc, [], ◌∷◌, map, Option}
-use Rattle.std.proofs.Common.{None, Some, true, false, refl, ap, arith}
+use Rattle.std.proofs.Common.{None, Some, true, false, refl, arith}
 use Rattle.std.specs.Prelude.{slice_index}
 use Rattle.psci_abi.specs.declared.registers.Regs.{Regs}
 use Rattle.psci_abi.specs.declared.request.Request.TheVariants as requests
@@ -18,6 +18,7 @@ use Rattle.psci_state.specs.declared.cores.Activity.TheVariants as activities
 use Rattle.psci_status.specs.Polled.{PolledView}
 use Rattle.psci_ffi.specs.MachineNamed.{AsksSuspend, MayAskSuspend, MayTurnOn, is_node_word}
 use Rattle.psci_ffi.specs.Named.{AreWords, NamesCore}
+use Rattle.psci_ffi.proofs.Apart.{apart-by, itself}
 
 abbrev board : BoardValue
 board = record {
@@ -66,27 +67,29 @@ its_words = record { count = refl; each = each }
     each (suc (suc (suc zero))) h = refl
     each (suc (suc (suc (suc core)))) h = absurd (omega (arith, h))
 
-word_is_missing : AreWords board (0 ∷ 1 ∷ 0x100 ∷ []) → ⊥
-word_is_missing h = let e : ◌≡◌ {A = ℕ} 3 4 = h.count in omega arith
-
-clusters_exchanged : AreWords board (0x100 ∷ 0x101 ∷ 0 ∷ 1 ∷ []) → ⊥
-clusters_exchanged h =
-    let e : ◌≡◌ {A = ℕ} 0x100 0 = h.each 0 (omega arith) in omega arith
+-- a word is missing; the clusters are exchanged
+are_not_words : ¬ (AreWords board (0 ∷ 1 ∷ 0x100 ∷ []))
+    × ¬ (AreWords board (0x100 ∷ 0x101 ∷ 0 ∷ 1 ∷ []))
+are_not_words = (
+  λ h. apart-by itself h.count refl,
+  λ h. apart-by itself (h.each 0 (omega arith)) refl,
+)
 
 names_core_2 : NamesCore board 0x100 (number 2)
 unfolding core_of
 names_core_2 = record { named = refl; inside = omega arith }
 
-names_another : NamesCore board 0x100 (number 3) → ⊥
-unfolding core_of
-names_another h = let e : ◌≡◌ {A = ℕ} 2 3 = ap (number_or 0) h.named in omega arith
-  where
-    number_or : ℕ → Option Core → ℕ
-    number_or n None = n
-    number_or n (Some core) = core.number
+abbrev number_or : ℕ → Option Core → ℕ
+number_or n None = n
+number_or n (Some core) = core.number
 
-names_none_of_the_board : NamesCore board 0x200 (number 4) → ⊥
-names_none_of_the_board h = let e : 4 < 4 = h.inside in omega (arith, e)
+-- another core, and one that the board does not have
+names_not : ¬ (NamesCore board 0x100 (number 3)) × ¬ (NamesCore board 0x200 (number 4))
+unfolding core_of
+names_not = (
+  λ h. apart-by (number_or 0) h.named refl,
+  λ h. let e : 4 < 4 = h.inside in omega (arith, e),
+)
 
 -- Calls -----------------------------------------------------------------------------------------
 
@@ -137,22 +140,17 @@ turns_on f =
 
 -- an empty place carries nothing out; nor may a core call that is pending, by another function, or
 -- of a core that the board does not have
-empty_turns_on : MayTurnOn None 0 (call 0xC4000003 0x100) (number 2) → ⊥
-empty_turns_on h = h
-
-pending_turns_on : (f : PolledView)
-    → MayTurnOn (Some (held f)) 1 (call 0xC4000003 0x100) (number 2) → ⊥
+turns_not_on : (f : PolledView) → ¬ (MayTurnOn None 0 (call 0xC4000003 0x100) (number 2))
+    × ¬ (MayTurnOn (Some (held f)) 1 (call 0xC4000003 0x100) (number 2))
+    × ¬ (MayTurnOn (Some (held f)) 0 (call 0xC4000004 0x100) (number 2))
+    × ¬ (MayTurnOn (Some (held f)) 0 (call 0xC4000003 0x200) (number 4))
 unfolding values_in
-pending_turns_on f h = let e : false ≡ true = h.call in absurd (cc)
-
-turns_on_by_another_call : (f : PolledView)
-    → MayTurnOn (Some (held f)) 0 (call 0xC4000004 0x100) (number 2) → ⊥
-turns_on_by_another_call f h =
-    let e : requests.AffinityInfo 48 0x100 ≡ requests.CpuOn 0x100 48 7 = h.on.request in absurd (cc)
-
-turns_on_beside_the_board : (f : PolledView)
-    → MayTurnOn (Some (held f)) 0 (call 0xC4000003 0x200) (number 4) → ⊥
-turns_on_beside_the_board f h = let e : 4 < 4 = h.on.inside in omega (arith, e)
+turns_not_on f = (
+  λ h. h,
+  λ h. let e : false ≡ true = h.call in absurd cc,
+  λ h. calls_node (record { request = h.on.request }),
+  λ h. let e : 4 < 4 = h.on.inside in omega (arith, e),
+)
 
 -- core 0 asks for retention of itself
 sleeps : (f : PolledView)
@@ -164,15 +162,14 @@ sleeps_in_a_place : (f : PolledView)
     → MayAskSuspend (Some (held f)) 0 (call 0xC4000001 0x2) (Some (2 ∷ 0 ∷ 0 ∷ 0 ∷ []))
 sleeps_in_a_place f = sleeps f
 
-empty_sleeps : MayAskSuspend None 0 (call 0xC4000001 0x2) (Some (2 ∷ 0 ∷ 0 ∷ 0 ∷ [])) → ⊥
-empty_sleeps h = h
-
-pending_sleeps : (f : PolledView)
-    → AsksSuspend (held f) 1 (call 0xC4000001 0x2) (Some (2 ∷ 0 ∷ 0 ∷ 0 ∷ [])) → ⊥
+-- in an empty place, while pending, and where it is turned on
+sleeps_not : (f : PolledView)
+    → ¬ (MayAskSuspend None 0 (call 0xC4000001 0x2) (Some (2 ∷ 0 ∷ 0 ∷ 0 ∷ [])))
+    × ¬ (AsksSuspend (held f) 1 (call 0xC4000001 0x2) (Some (2 ∷ 0 ∷ 0 ∷ 0 ∷ [])))
+    × ¬ (AsksSuspend (held f) 0 (call 0xC4000003 0x2) (Some (2 ∷ 0 ∷ 0 ∷ 0 ∷ [])))
 unfolding values_in
-pending_sleeps f h = let e : false ≡ true = h.call in absurd (cc)
-
-turns_on_in_its_place : (f : PolledView)
-    → AsksSuspend (held f) 0 (call 0xC4000003 0x2) (Some (2 ∷ 0 ∷ 0 ∷ 0 ∷ [])) → ⊥
-turns_on_in_its_place f h =
-    let e : requests.CpuOn 0x2 48 7 ≡ requests.CpuSuspend 0x2 48 7 = h.asked.request in absurd (cc)
+sleeps_not f = (
+  λ h. h,
+  λ h. let e : false ≡ true = h.call in absurd cc,
+  λ h. let e : requests.CpuOn 2 48 7 ≡ requests.CpuSuspend 2 48 7 = h.asked.request in absurd cc,
+)

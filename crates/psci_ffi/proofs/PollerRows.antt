@@ -14,6 +14,7 @@ use Rattle.psci_status.proofs.Calls.{board, computing}
 use Rattle.psci_ffi.specs.PollerSlot.{KeptWatch}
 use Rattle.psci_ffi.specs.Pollers.{HasPolledIn, IsFilled, IsOpenedFor, OpensPoller}
 use Rattle.psci_ffi.specs.Watching.{HasPolled, IsWatchOf, WatchView}
+use Rattle.psci_ffi.proofs.Apart.{apart-by, itself, neither}
 
 -- Firmware, and who polls it ------------------------------------------------------------------
 
@@ -48,32 +49,24 @@ watches : (f : FirmwareValue) → f.board ≡ board
     → IsWatchOf (view f asked-rows) (watch board (table 2) asked-seen)
 watches f is = record { board = sym is; table = refl; seen = refl }
 
--- of another board, of other words, and one that has not seen the last of core 3
-watches-another-board : (f : FirmwareValue) → f.board ≡ board
-    → IsWatchOf (view f asked-rows) (watch (record board { starts = 8 }) (table 2) asked-seen) → ⊥
-watches-another-board f is w =
-    let e : ◌≡◌ {A = ℕ} 8 9 = ap (λ (b : BoardValue). b.starts) (w.board ∙ is) in omega arith
-
-watches-other-words : (f : FirmwareValue)
-    → IsWatchOf (view f asked-rows) (watch board (table 5) asked-seen) → ⊥
-watches-other-words f w =
-    let e : ◌≡◌ {A = ℕ} 5 2 = ap (λ (t : TableId). t.atom) w.table in omega arith
-
 -- the serial of the last item
 abbrev last : List Item → ℕ
 last [] = 99
 last (i ∷ is) = i.0
 
-has-not-seen-the-last : (f : FirmwareValue) → IsWatchOf (view f asked-rows)
-    (watch board (table 2)
-    (((2, On) ∷ []) ∷ ((0, Off) ∷ []) ∷ ((0, Off) ∷ []) ∷ ((0, Off) ∷ []) ∷ [])) → ⊥
-has-not-seen-the-last f w =
-    let e : ◌≡◌ {A = ℕ} 0 1 = ap (λ (s : List (List Item)). last (row s 3)) w.seen in omega arith
-
-has-seen-nothing : (f : FirmwareValue) → IsWatchOf (view f asked-rows)
-    (watch board (table 2) ([] ∷ [] ∷ [] ∷ [] ∷ [])) → ⊥
-has-seen-nothing f w =
-    let e : ◌≡◌ {A = ℕ} 99 2 = ap (λ (s : List (List Item)). last (row s 0)) w.seen in omega arith
+-- of another board, of other words, and one that has not seen the last of core 3, or nothing
+watches-not : (f : FirmwareValue) → f.board ≡ board
+    → ¬ (IsWatchOf (view f asked-rows) (watch (record board { starts = 8 }) (table 2) asked-seen))
+    × ¬ (IsWatchOf (view f asked-rows) (watch board (table 5) asked-seen))
+    × ¬ (IsWatchOf (view f asked-rows) (watch board (table 2)
+    (((2, On) ∷ []) ∷ ((0, Off) ∷ []) ∷ ((0, Off) ∷ []) ∷ ((0, Off) ∷ []) ∷ [])))
+    × ¬ (IsWatchOf (view f asked-rows) (watch board (table 2) ([] ∷ [] ∷ [] ∷ [] ∷ [])))
+watches-not f is = (
+  λ w. apart-by (λ (b : BoardValue). b.starts) (w.board ∙ is) refl,
+  λ w. apart-by (λ (t : TableId). t.atom) w.table refl,
+  λ w. apart-by (λ (s : List (List Item)). last (row s 3)) w.seen refl,
+  λ w. apart-by (λ (s : List (List Item)). last (row s 0)) w.seen refl,
+)
 
 -- A poll --------------------------------------------------------------------------------------
 
@@ -107,16 +100,6 @@ no-such-core : HasPolled old 2 (code (negsuc 1)) old
 unfolding computing
 no-such-core = record { board = refl; table = refl; answer = (refl, refl) }
 
--- a poll changes neither the board nor whose words they are
-polled-by-another-board : HasPolled old 2 (code (negsuc 1))
-    (watch (record board { starts = 8 }) (table 2) asked-seen) → ⊥
-polled-by-another-board p =
-    let e : ◌≡◌ {A = ℕ} 8 9 = ap (λ (b : BoardValue). b.starts) p.board in omega arith
-
-polled-by-other-words : HasPolled old 2 (code (negsuc 1)) (watch board (table 5) asked-seen) → ⊥
-polled-by-other-words p =
-    let e : ◌≡◌ {A = ℕ} 5 2 = ap (λ (t : TableId). t.atom) p.table in omega arith
-
 -- the number of a status, or 9
 abbrev number-in : Code → ℕ
 number-in c = elim c.0 [ pos n ↦ n | negsuc n ↦ 9 ]
@@ -125,16 +108,24 @@ abbrev last-code : List Item → ℕ
 last-code [] = 9
 last-code (i ∷ is) = status_code i.1
 
--- the status of core 0 is answered for core 3; and one where there is no such core
+-- a poll changes neither the board nor whose words they are; no core is not off
+polled-not : ¬ (HasPolled old 2 (code (negsuc 1)) (watch (record board { starts = 8 }) (table 2)
+    asked-seen))
+    × ¬ (HasPolled old 2 (code (negsuc 1)) (watch board (table 5) asked-seen))
+    × ¬ (HasPolled old 2 (code (pos 1)) old)
+unfolding computing
+polled-not = (
+  λ p. apart-by (λ (b : BoardValue). b.starts) p.board refl,
+  λ p. apart-by (λ (t : TableId). t.atom) p.table refl,
+  λ p. apart-by number-in p.answer.0 refl,
+)
+
+-- the status of core 0 is answered for core 3
 core-0-is-answered : HasPolled old 0x101 (code (pos 0)) old → ⊥
 unfolding computing
 core-0-is-answered p =
     let e : 2 ≡ status_code p.answer.0 = ap last-code p.answer.1.2.1 in
     let f : 0 ≡ status_code p.answer.0 = ap number-in p.answer.2 in omega arith
-
-no-such-core-is-off : HasPolled old 2 (code (pos 1)) old → ⊥
-unfolding computing
-no-such-core-is-off p = let e : ◌≡◌ {A = ℕ} 1 9 = ap number-in p.answer.0 in omega arith
 
 -- What C gets ---------------------------------------------------------------------------------
 
@@ -148,84 +139,51 @@ abbrev is-full : KeptWatch → ℕ
 is-full None = 0
 is-full (Some w) = 1
 
-filled : IsFilled old 0 empty full
-filled = inl (refl, refl)
+fills : IsFilled old 0 empty full × IsFilled old 0 (Some new) full
+    × IsFilled old 8 (Some new) (Some new)
+fills = (inl (refl, refl), inl (refl, refl), inr (refl, refl))
 
-filled-anew : IsFilled old 0 (Some new) full
-filled-anew = inl (refl, refl)
+-- one is put there without memory; none is; one is taken away without memory
+fills-not : ¬ (IsFilled old 8 empty full) × ¬ (IsFilled old 0 empty empty)
+    × ¬ (IsFilled old 8 full empty)
+fills-not = (
+  neither (λ h. apart-by itself h.0 refl) (λ h. apart-by is-full h.1 refl),
+  neither (λ h. apart-by is-full h.1 refl) (λ h. apart-by itself h.0 refl),
+  neither (λ h. apart-by itself h.0 refl) (λ h. apart-by is-full h.1 refl),
+)
 
-no-memory-to-fill : IsFilled old 8 (Some new) (Some new)
-no-memory-to-fill = inr (refl, refl)
-
-filled-without-memory : IsFilled old 8 empty full → ⊥
-filled-without-memory (inl h) = let e : ◌≡◌ {A = ℕ} 8 0 = h.0 in omega arith
-filled-without-memory (inr h) = let e : ◌≡◌ {A = ℕ} 1 0 = ap is-full h.1 in omega arith
-
-not-filled : IsFilled old 0 empty empty → ⊥
-not-filled (inl h) = let e : ◌≡◌ {A = ℕ} 0 1 = ap is-full h.1 in omega arith
-not-filled (inr h) = let e : ◌≡◌ {A = ℕ} 0 8 = h.0 in omega arith
-
-emptied-without-memory : IsFilled old 8 full empty → ⊥
-emptied-without-memory (inl h) = let e : ◌≡◌ {A = ℕ} 8 0 = h.0 in omega arith
-emptied-without-memory (inr h) = let e : ◌≡◌ {A = ℕ} 0 1 = ap is-full h.1 in omega arith
-
--- a poller of this firmware is opened, with one in it before and with none
-opened : (f : FirmwareValue) → f.board ≡ board
+-- a poller of this firmware is opened, with one in it before and with none; or it is not
+opens : (f : FirmwareValue) → f.board ≡ board
     → OpensPoller (Some (view f asked-rows)) 0 empty full
-opened f is = inl (refl, watches f is)
-
-opened-anew : (f : FirmwareValue) → f.board ≡ board
-    → OpensPoller (Some (view f asked-rows)) 0 (Some new) full
-opened-anew f is = inl (refl, watches f is)
-
-no-memory-to-open : (f : FirmwareValue) → OpensPoller (Some (view f asked-rows)) 8 full full
-no-memory-to-open f = inr (refl, refl)
-
-no-firmware-to-poll : OpensPoller None 16 full full
-no-firmware-to-poll = (refl, refl)
+    × OpensPoller (Some (view f asked-rows)) 0 (Some new) full
+    × OpensPoller (Some (view f asked-rows)) 8 full full × OpensPoller None 16 full full
+opens f is = (inl (refl, watches f is), inl (refl, watches f is), inr (refl, refl), (refl, refl))
 
 -- one who polls other words; none; another number; one is put there without memory or firmware
-opened-over-other-words : (f : FirmwareValue)
-    → IsOpenedFor (view f asked-rows) 0 empty (Some (watch board (table 5) asked-seen)) → ⊥
-opened-over-other-words f (inl h) = watches-other-words f h.1
-opened-over-other-words f (inr h) = let e : ◌≡◌ {A = ℕ} 0 8 = h.0 in omega arith
-
-nobody-polls-then : (f : FirmwareValue) → IsOpenedFor (view f asked-rows) 0 empty empty → ⊥
-nobody-polls-then f (inl h) = h.1
-nobody-polls-then f (inr h) = let e : ◌≡◌ {A = ℕ} 0 8 = h.0 in omega arith
-
-opened-and-16 : (f : FirmwareValue) → IsOpenedFor (view f asked-rows) 16 empty full → ⊥
-opened-and-16 f (inl h) = let e : ◌≡◌ {A = ℕ} 16 0 = h.0 in omega arith
-opened-and-16 f (inr h) = let e : ◌≡◌ {A = ℕ} 16 8 = h.0 in omega arith
-
-opened-without-memory : (f : FirmwareValue) → IsOpenedFor (view f asked-rows) 8 empty full → ⊥
-opened-without-memory f (inl h) = let e : ◌≡◌ {A = ℕ} 8 0 = h.0 in omega arith
-opened-without-memory f (inr h) = let e : ◌≡◌ {A = ℕ} 1 0 = ap is-full h.1 in omega arith
-
-opened-of-an-empty-place : OpensPoller None 0 empty full → ⊥
-opened-of-an-empty-place h = let e : ◌≡◌ {A = ℕ} 0 16 = h.0 in omega arith
-
-emptied-by-an-empty-place : OpensPoller None 16 full empty → ⊥
-emptied-by-an-empty-place h = let e : ◌≡◌ {A = ℕ} 0 1 = ap is-full h.1 in omega arith
+opens-not : (f : FirmwareValue) → f.board ≡ board
+    → ¬ (IsOpenedFor (view f asked-rows) 0 empty (Some (watch board (table 5) asked-seen)))
+    × ¬ (IsOpenedFor (view f asked-rows) 0 empty empty)
+    × ¬ (IsOpenedFor (view f asked-rows) 16 empty full)
+    × ¬ (IsOpenedFor (view f asked-rows) 8 empty full)
+    × ¬ (OpensPoller None 0 empty full) × ¬ (OpensPoller None 16 full empty)
+opens-not f is = (
+  neither (λ h. (watches-not f is).1 h.1) (λ h. apart-by itself h.0 refl),
+  neither (λ h. h.1) (λ h. apart-by itself h.0 refl),
+  neither (λ h. apart-by itself h.0 refl) (λ h. apart-by itself h.0 refl),
+  neither (λ h. apart-by itself h.0 refl) (λ h. apart-by is-full h.1 refl),
+  λ h. apart-by itself h.0 refl,
+  λ h. apart-by is-full h.1 refl,
+)
 
 -- a poll: of core 3, of no core, and by an empty poller
-polled-core-3 : HasPolledIn (Some old) 0x101 (pos 0) (Some new)
-polled-core-3 = core-3-is-on
-
-polled-no-core : HasPolledIn (Some old) 2 (negsuc 1) (Some old)
-polled-no-core = no-such-core
-
-empty-poller : HasPolledIn None 0x101 (pos 16) None
-empty-poller = (refl, refl)
+polls : HasPolledIn (Some old) 0x101 (pos 0) (Some new)
+    × HasPolledIn (Some old) 2 (negsuc 1) (Some old) × HasPolledIn None 0x101 (pos 16) None
+polls = (core-3-is-on, no-such-core, (refl, refl))
 
 abbrev absolute : ℤ → ℕ
 absolute z = elim z [ pos n ↦ n | negsuc n ↦ 100 ]
 
-empty-poller-is-off : HasPolledIn None 0x101 (pos 1) None → ⊥
-empty-poller-is-off h = let e : ◌≡◌ {A = ℕ} 1 16 = ap absolute h.0 in omega arith
-
-empty-poller-is-filled : HasPolledIn None 0x101 (pos 16) full → ⊥
-empty-poller-is-filled h = let e : ◌≡◌ {A = ℕ} 1 0 = ap is-full h.1 in omega arith
-
-poller-is-emptied : HasPolledIn (Some old) 2 (negsuc 1) None → ⊥
-poller-is-emptied h = h
+-- an empty poller says that the core is off, or is filled; and a poller is emptied
+polls-not : ¬ (HasPolledIn None 0x101 (pos 1) None) × ¬ (HasPolledIn None 0x101 (pos 16) full)
+    × ¬ (HasPolledIn (Some old) 2 (negsuc 1) None)
+polls-not = (λ h. apart-by absolute h.0 refl, λ h. apart-by is-full h.1 refl, λ h. h)

@@ -78,38 +78,31 @@ both : {A : Type 0} (said : BoardValue → Values → A) (f : FirmwareValue) (v 
     → f.board ≡ board → seen f ≡ v → said f.board (seen f) ≡ said board v
 both said f v is was = ap (λ b. said b (seen f)) is ∙ ap (said board) was
 
-life-2 : (p : PolledView) → seen p.firmware ≡ now → life_read (Some p) ≡ 2
-unfolding computing
-life-2 p was = ap (λ (v : Values). v.life) was
-
-not-halting : (p : PolledView) → seen p.firmware ≡ now → halting_read (Some p) ≡ false
-unfolding computing
-not-halting p was = ap (λ (v : Values). v.halting) was
-
 halting : (p : PolledView) → seen p.firmware ≡ halted → halting_read (Some p) ≡ true
 unfolding computing
 halting p was = ap (λ (v : Values). v.halting) was
 
--- by its fourth start, and none of core 1
-known-starts : (p : PolledView) → seen p.firmware ≡ now
-    → known_read (Some p) 0 ∷ known_read (Some p) 1 ∷ known_read (Some p) 3 ∷ [] ≡ 1 ∷ 0 ∷ 4 ∷ []
-unfolding computing
-known-starts p was = ap (λ (v : Values). v.known 0 ∷ v.known 1 ∷ v.known 3 ∷ []) was
-
-running-cores : (p : PolledView) → seen p.firmware ≡ now
-    → running_read (Some p) 0 ∷ running_read (Some p) 3 ∷ [] ≡ true ∷ false ∷ []
-unfolding computing
-running-cores p was =
-    ap (λ (v : Values). is_running (v.phase 0) ∷ is_running (v.phase 3) ∷ []) was
-
--- the cluster of core 3 was granted what its core was, the system nothing
-granted-depths : (p : PolledView) → seen p.firmware ≡ now
-    → granted_read (Some p) (node 0 3) ∷ granted_read (Some p) (node 1 1)
+reads-now : (p : PolledView) → seen p.firmware ≡ now
+    → (life_read (Some p) ≡ 2) × (halting_read (Some p) ≡ false)
+    -- the known starts: of core 3 its fourth one, and none of core 1
+    × (known_read (Some p) 0 ∷ known_read (Some p) 1 ∷ known_read (Some p) 3 ∷ [] ≡ 1 ∷ 0 ∷ 4 ∷ [])
+    × (running_read (Some p) 0 ∷ running_read (Some p) 3 ∷ [] ≡ true ∷ false ∷ [])
+    -- the cluster of core 3 was granted what its core was, the system nothing
+    × (granted_read (Some p) (node 0 3) ∷ granted_read (Some p) (node 1 1)
     ∷ granted_read (Some p) (node 1 0) ∷ granted_read (Some p) (node 2 0) ∷ []
-    ≡ 3 ∷ 3 ∷ 0 ∷ 0 ∷ []
+    ≡ 3 ∷ 3 ∷ 0 ∷ 0 ∷ [])
+    -- the hardware of core 0 is on; that of core 3 is off, that of its cluster not yet
+    × (hw_read (Some p) (node 0 0) ∷ hw_read (Some p) (node 0 3) ∷ hw_read (Some p) (node 1 1) ∷ []
+    ≡ 0 ∷ 1 ∷ 0 ∷ [])
 unfolding computing
-granted-depths p was =
-    ap (λ (v : Values). v.granted 0 3 ∷ v.granted 1 1 ∷ v.granted 1 0 ∷ v.granted 2 0 ∷ []) was
+reads-now p was = (
+  ap (λ (v : Values). v.life) was,
+  ap (λ (v : Values). v.halting) was,
+  ap (λ (v : Values). v.known 0 ∷ v.known 1 ∷ v.known 3 ∷ []) was,
+  ap (λ (v : Values). is_running (v.phase 0) ∷ is_running (v.phase 3) ∷ []) was,
+  ap (λ (v : Values). v.granted 0 3 ∷ v.granted 1 1 ∷ v.granted 1 0 ∷ v.granted 2 0 ∷ []) was,
+  ap (λ (v : Values). hw_said v (node 0 0) ∷ hw_said v (node 0 3) ∷ hw_said v (node 1 1) ∷ []) was,
+)
 
 -- ON, OFF and ON_PENDING, of cores and of a cluster; before any core has entered none of these
 statuses : (p : PolledView) → p.firmware.board ≡ board → seen p.firmware ≡ asked
@@ -119,14 +112,6 @@ unfolding computing node_status
 statuses p is was =
     both (λ b v. status_said b v (node 0 0) ∷ status_said b v (node 0 1)
     ∷ status_said b v (node 0 3) ∷ status_said b v (node 1 1) ∷ []) p.firmware asked is was
-
--- the hardware of core 0 is on; that of core 3 is off, that of its cluster not yet
-hardware : (p : PolledView) → seen p.firmware ≡ now
-    → hw_read (Some p) (node 0 0) ∷ hw_read (Some p) (node 0 3) ∷ hw_read (Some p) (node 1 1) ∷ []
-    ≡ 0 ∷ 1 ∷ 0 ∷ []
-unfolding computing
-hardware p was =
-    ap (λ (v : Values). hw_said v (node 0 0) ∷ hw_said v (node 0 3) ∷ hw_said v (node 1 1) ∷ []) was
 
 before-any-entry : (p : PolledView) → (seen p.firmware).life ≡ 0
     → (status_read (Some p) (node 0 0) ≡ 18) × (hw_read (Some p) (node 0 0) ≡ 18)

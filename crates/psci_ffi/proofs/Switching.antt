@@ -53,9 +53,7 @@ few : (kind : Kind) (most : ℕ) (ps : List Part) → ArePartsOf kind ps → is_
     → length ps ≤ most + 1
 few kinds.Down most ps h w =
     let least = few-from 0 most ps (omega arith) h.levels w in omega (arith, least)
-few kinds.Start most ps h w = rw h (omega arith)
-few kinds.Off most ps h w = rw h (omega arith)
-few kinds.Reset most ps h w = rw h (omega arith)
+few kind most ps h w = rw h (omega arith)
 
 -- what a call comes down to is computed
 unfoldable pub act : Unit {0}

@@ -27,6 +27,7 @@ use Rattle.psci_ffi.specs.Codes.{taken_code}
 use Rattle.psci_ffi.specs.Frames.{IsTaken}
 use Rattle.psci_ffi.specs.Shown.{IsNew}
 use Rattle.psci_ffi.proofs.PollerRows.{Rows, asked-rows, table, view}
+use Rattle.psci_ffi.proofs.Apart.{apart-by, itself}
 
 -- A new firmware ------------------------------------------------------------------------------
 
@@ -37,23 +38,17 @@ is-new : (f : FirmwareValue) → f.board ≡ board → seen f ≡ start_of_life 
     → IsNew board (view f first-rows)
 is-new f is was = record { board = is; values = was; written = refl }
 
-new-of-another-board : (f : FirmwareValue) → f.board.starts ≡ 8 → IsNew board (view f first-rows)
-    → ⊥
-new-of-another-board f eight n =
-    let e : f.board.starts ≡ 9 = ap (λ (b : BoardValue). b.starts) n.board in
-    omega (arith, eight, e)
-
-new-in-life-1 : (f : FirmwareValue) → (seen f).life ≡ 1 → IsNew board (view f first-rows) → ⊥
-new-in-life-1 f one n =
-    let e : (seen f).life ≡ 0 = ap (λ (v : Values). v.life) n.values in omega (arith, one, e)
-
-new-and-asked-on : (f : FirmwareValue) → IsNew board (view f asked-rows) → ⊥
-new-and-asked-on f n =
-    let e : ◌≡◌ {A = ℕ} 2 1 = ap (λ (rows : Rows). length (row rows 3)) n.written in omega arith
-
-new-without-core-3 : (f : FirmwareValue)
-    → IsNew board (view f ((Off ∷ []) ∷ (Off ∷ []) ∷ (Off ∷ []) ∷ [])) → ⊥
-new-without-core-3 f n = let e : ◌≡◌ {A = ℕ} 3 4 = ap length n.written in omega arith
+-- of another board, in life 1, of which core 3 was asked on, and that has no core 3
+new-not : (f : FirmwareValue) → (f.board.starts ≡ 8 → ¬ (IsNew board (view f first-rows)))
+    × ((seen f).life ≡ 1 → ¬ (IsNew board (view f first-rows)))
+    × ¬ (IsNew board (view f asked-rows))
+    × ¬ (IsNew board (view f ((Off ∷ []) ∷ (Off ∷ []) ∷ (Off ∷ []) ∷ [])))
+new-not f = (
+  λ eight n. apart-by itself (sym eight ∙ ap (λ (b : BoardValue). b.starts) n.board) refl,
+  λ one n. apart-by itself (sym one ∙ ap (λ (v : Values). v.life) n.values) refl,
+  λ n. apart-by (λ (rows : Rows). length (row rows 3)) n.written refl,
+  λ n. apart-by length n.written refl,
+)
 
 -- A call --------------------------------------------------------------------------------------
 
@@ -93,6 +88,15 @@ wrote v v' rows rows' f g is was now same core small =
     ∙ ap (λ (u : Values). written_then u.life v' core (row rows core)) (sym was)
     ∙ ap (λ (u : Values). written_then (seen f).life u core (row rows core)) (sym now)
 
+-- and what was written of core 3 is so
+wrote-of-3 : (v v' : Values) (rows rows' : Rows) (f g : FirmwareValue) → f.board ≡ board
+    → seen f ≡ v → seen g ≡ v' → IsWrittenFrom (view f rows) (view g rows')
+    → Same v v' rows rows' 3
+wrote-of-3 v v' rows rows' f g is was now w =
+    w 3 (subst (λ (b : BoardValue). 3 < cores b) (sym is) (omega arith))
+    ∙ ap (λ (u : Values). written_then u.life (seen g) 3 (row rows 3)) was
+    ∙ ap (λ (u : Values). written_then v.life u 3 (row rows 3)) now
+
 asked-on : (core : ℕ) → core < 4 → Same booted (next 0 on-3 booted) booted-rows asked-rows core
 unfolding computing
 asked-on = each (Same booted (next 0 on-3 booted) booted-rows asked-rows) refl refl refl refl
@@ -109,6 +113,10 @@ core-3-is-asked-on f g is also was now = record {
   written = wrote booted (next 0 on-3 booted) booted-rows asked-rows f g is was now asked-on;
 }
 
+other-board : (b c : BoardValue) → b.starts ≡ 9 → c.starts ≡ 8 → c ≡ b → ⊥
+other-board b c nine eight same =
+    apart-by itself (sym eight ∙ (ap (λ (x : BoardValue). x.starts) same ∙ nine)) refl
+
 -- what core 3 is then by the definition
 abbrev status-3 : Values → ℕ
 status-3 v = status_code (v.status 3)
@@ -121,39 +129,29 @@ then-3 f g c rows is was n =
     ∙ ap (λ (b : BoardValue). status-3 (after b c on-3 (answer b (seen f) c on-3) (seen f))) is
     ∙ ap (λ (v : Values). status-3 (after board c on-3 (answer board v c on-3) v)) was
 
-next-on-another-board : (f g : FirmwareValue) → f.board.starts ≡ 9 → g.board.starts ≡ 8
-    → IsNext (view f booted-rows) 0 on-3 (view g asked-rows) → ⊥
-next-on-another-board f g nine eight n =
-    let e : g.board.starts ≡ f.board.starts = ap (λ (b : BoardValue). b.starts) n.board in
-    omega (arith, nine, eight, e)
-
-nothing-came-of-it : (f g : FirmwareValue) → f.board ≡ board → seen f ≡ booted
-    → status-3 (seen g) ≡ 1 → IsNext (view f booted-rows) 0 on-3 (view g asked-rows) → ⊥
+next-not : (f g : FirmwareValue) → (f.board.starts ≡ 9 → g.board.starts ≡ 8
+    → ¬ (IsNext (view f booted-rows) 0 on-3 (view g asked-rows)))
+    -- nothing came of it
+    × (f.board ≡ board → seen f ≡ booted → status-3 (seen g) ≡ 1
+    → ¬ (IsNext (view f booted-rows) 0 on-3 (view g asked-rows)))
+    -- the caller counts: core 2 may not ask
+    × (f.board ≡ board → seen f ≡ booted → status-3 (seen g) ≡ 2
+    → ¬ (IsNext (view f booted-rows) 2 on-3 (view g asked-rows)))
+    -- over other words, and not written
+    × ¬ (IsNext (view f booted-rows) 0 on-3
+    (record { firmware = g; table = table 5; written = asked-rows }))
+    × (f.board ≡ board → seen f ≡ booted → seen g ≡ next 0 on-3 booted
+    → ¬ (IsNext (view f booted-rows) 0 on-3 (view g booted-rows)))
 unfolding computing
-nothing-came-of-it f g is was one n =
-    let e : status-3 (seen g) ≡ 2 = then-3 f g 0 asked-rows is was n in omega (arith, one, e)
-
--- the caller counts
-core-2-may-not-ask : (f g : FirmwareValue) → f.board ≡ board → seen f ≡ booted
-    → status-3 (seen g) ≡ 2 → IsNext (view f booted-rows) 2 on-3 (view g asked-rows) → ⊥
-unfolding computing
-core-2-may-not-ask f g is was two n =
-    let e : status-3 (seen g) ≡ 1 = then-3 f g 2 asked-rows is was n in omega (arith, two, e)
-
-next-over-other-words : (f g : FirmwareValue) → IsNext (view f booted-rows) 0 on-3
-    (record { firmware = g; table = table 5; written = asked-rows }) → ⊥
-next-over-other-words f g n =
-    let e : ◌≡◌ {A = ℕ} 5 2 = ap (λ (t : TableId). t.atom) n.table in omega arith
-
-next-is-not-written : (f g : FirmwareValue) → f.board ≡ board → seen f ≡ booted
-    → seen g ≡ next 0 on-3 booted → IsNext (view f booted-rows) 0 on-3 (view g booted-rows) → ⊥
-unfolding computing
-next-is-not-written f g is was now n =
-    let small : 3 < cores f.board =
-    subst (λ (b : BoardValue). 3 < cores b) (sym is) (omega arith) in
-    let e : ◌≡◌ {A = ℕ} 1 2 = ap length (n.written 3 small)
-    ∙ ap (λ (u : Values). length (written_then u.life (seen g) 3 (Off ∷ []))) was
-    ∙ ap (λ (u : Values). length (written_then 1 u 3 (Off ∷ []))) now in omega arith
+next-not f g = (
+  λ nine eight n. other-board f.board g.board nine eight n.board,
+  λ is was one n. apart-by itself (sym one ∙ then-3 f g 0 asked-rows is was n) refl,
+  λ is was two n. apart-by itself (sym two ∙ then-3 f g 2 asked-rows is was n) refl,
+  λ n. apart-by (λ (t : TableId). t.atom) n.table refl,
+  λ is was now n. apart-by length
+      (wrote-of-3 booted (next 0 on-3 booted) booted-rows booted-rows f g is was now n.written)
+      refl,
+)
 
 -- An acknowledgement --------------------------------------------------------------------------
 
@@ -192,77 +190,57 @@ unfolding computing
 stayed-on = each (Same going (taken 2 going) going-rows going-rows) refl refl refl refl
 
 -- what is taken of these values is taken of the firmware that has them
-takes-of : (f g : FirmwareValue) (life : ℕ) → f.board ≡ board → seen f ≡ going
-    → seen g ≡ taken life going
-    → seen g ≡ after f.board 0 (calls.Take (down life))
-    (replies.Taken (taken_by (seen f) (down life))) (seen f)
-takes-of f g life is was now =
-    now
-    ∙ ap (λ (b : BoardValue). after b 0 (calls.Take (down life))
-    (replies.Taken (taken_by going (down life))) going) (sym is)
-    ∙ ap (λ (v : Values). after f.board 0 (calls.Take (down life))
-    (replies.Taken (taken_by v (down life))) v) (sym was)
+takes : (f g : FirmwareValue) (life code : ℕ) (rows : Rows) → f.board ≡ board → g.board ≡ board
+    → seen f ≡ going → seen g ≡ taken life going
+    → code ≡ taken_code (taken_by going (down life))
+    → ((core : ℕ) → core < 4 → Same going (taken life going) going-rows rows core)
+    → IsTaken (down life) code (view f going-rows) (view g rows)
+takes f g life code rows is also was now said same = record {
+  answer = said ∙ ap (λ (v : Values). taken_code (taken_by v (down life))) (sym was);
+  after = now
+      ∙ ap (λ (b : BoardValue). after b 0 (calls.Take (down life))
+      (replies.Taken (taken_by going (down life))) going) (sym is)
+      ∙ ap (λ (v : Values). after f.board 0 (calls.Take (down life))
+      (replies.Taken (taken_by v (down life))) v) (sym was);
+  board = also ∙ sym is;
+  table = refl;
+  written = wrote going (taken life going) going-rows rows f g is was now same;
+}
 
 -- it is used; one of another life is old
 core-3-is-off : (f g : FirmwareValue) → f.board ≡ board → g.board ≡ board → seen f ≡ going
     → seen g ≡ taken 1 going → IsTaken (down 1) 0 (view f going-rows) (view g gone-rows)
 unfolding computing
-core-3-is-off f g is also was now = record {
-  answer = ap (λ (v : Values). taken_code (taken_by v (down 1))) (sym was);
-  after = takes-of f g 1 is was now;
-  board = also ∙ sym is;
-  table = refl;
-  written = wrote going (taken 1 going) going-rows gone-rows f g is was now went-off;
-}
+core-3-is-off f g is also was now = takes f g 1 0 gone-rows is also was now refl went-off
 
 old-ack : (f g : FirmwareValue) → f.board ≡ board → g.board ≡ board → seen f ≡ going
     → seen g ≡ taken 2 going → IsTaken (down 2) 1 (view f going-rows) (view g going-rows)
 unfolding computing
-old-ack f g is also was now = record {
-  answer = ap (λ (v : Values). taken_code (taken_by v (down 2))) (sym was);
-  after = takes-of f g 2 is was now;
-  board = also ∙ sym is;
-  table = refl;
-  written = wrote going (taken 2 going) going-rows going-rows f g is was now stayed-on;
-}
+old-ack f g is also was now = takes f g 2 1 going-rows is also was now refl stayed-on
 
-used-is-said-to-be-old : (f g : FirmwareValue) → seen f ≡ going
-    → IsTaken (down 1) 1 (view f going-rows) (view g gone-rows) → ⊥
+taken-not : (f g : FirmwareValue)
+    -- it is used, and said to be old
+    → (seen f ≡ going → ¬ (IsTaken (down 1) 1 (view f going-rows) (view g gone-rows)))
+    -- and still on
+    × (f.board ≡ board → seen f ≡ going → status-3 (seen g) ≡ 0
+    → ¬ (IsTaken (down 1) 0 (view f going-rows) (view g gone-rows)))
+    -- on another board, over other words, and not written
+    × (f.board.starts ≡ 9 → g.board.starts ≡ 8
+    → ¬ (IsTaken (down 1) 0 (view f going-rows) (view g gone-rows)))
+    × ¬ (IsTaken (down 1) 0 (view f going-rows)
+    (record { firmware = g; table = table 5; written = gone-rows }))
+    × (f.board ≡ board → seen f ≡ going → seen g ≡ taken 1 going
+    → ¬ (IsTaken (down 1) 0 (view f going-rows) (view g going-rows)))
 unfolding computing
-used-is-said-to-be-old f g was t =
-    let e : 1 ≡ taken_code (taken_by (seen f) (down 1)) = t.answer in
-    let zero-code : taken_code (taken_by (seen f) (down 1)) ≡ 0 =
-    ap (λ (v : Values). taken_code (taken_by v (down 1))) was in
-    omega (arith, e, zero-code)
-
-taken-but-still-on : (f g : FirmwareValue) → f.board ≡ board → seen f ≡ going
-    → status-3 (seen g) ≡ 0 → IsTaken (down 1) 0 (view f going-rows) (view g gone-rows) → ⊥
-unfolding computing
-taken-but-still-on f g is was on t =
-    let e : status-3 (seen g) ≡ 1 =
-    ap status-3 t.after
-    ∙ ap (λ (b : BoardValue). status-3
-    (after b 0 (calls.Take (down 1)) (replies.Taken (taken_by (seen f) (down 1))) (seen f))) is
-    ∙ ap (λ (v : Values). status-3 (taken 1 v)) was in
-    omega (arith, on, e)
-
-taken-on-another-board : (f g : FirmwareValue) → f.board.starts ≡ 9 → g.board.starts ≡ 8
-    → IsTaken (down 1) 0 (view f going-rows) (view g gone-rows) → ⊥
-taken-on-another-board f g nine eight t =
-    let e : g.board.starts ≡ f.board.starts = ap (λ (b : BoardValue). b.starts) t.board in
-    omega (arith, nine, eight, e)
-
-taken-over-other-words : (f g : FirmwareValue) → IsTaken (down 1) 0 (view f going-rows)
-    (record { firmware = g; table = table 5; written = gone-rows }) → ⊥
-taken-over-other-words f g t =
-    let e : ◌≡◌ {A = ℕ} 5 2 = ap (λ (z : TableId). z.atom) t.table in omega arith
-
-taken-is-not-written : (f g : FirmwareValue) → f.board ≡ board → seen f ≡ going
-    → seen g ≡ taken 1 going → IsTaken (down 1) 0 (view f going-rows) (view g going-rows) → ⊥
-unfolding computing
-taken-is-not-written f g is was now t =
-    let small : 3 < cores f.board =
-    subst (λ (b : BoardValue). 3 < cores b) (sym is) (omega arith) in
-    let e : ◌≡◌ {A = ℕ} 3 4 = ap length (t.written 3 small)
-    ∙ ap (λ (u : Values). length (written_then u.life (seen g) 3 (On ∷ Pending ∷ Off ∷ []))) was
-    ∙ ap (λ (u : Values). length (written_then 1 u 3 (On ∷ Pending ∷ Off ∷ []))) now in omega arith
+taken-not f g = (
+  λ was t. apart-by itself
+      (t.answer ∙ ap (λ (v : Values). taken_code (taken_by v (down 1))) was) refl,
+  λ is was on t. apart-by itself (sym on ∙ (ap status-3 t.after
+      ∙ (ap (λ (b : BoardValue). status-3
+      (after b 0 (calls.Take (down 1)) (replies.Taken (taken_by (seen f) (down 1))) (seen f))) is
+      ∙ ap (λ (v : Values). status-3 (taken 1 v)) was))) refl,
+  λ nine eight t. other-board f.board g.board nine eight t.board,
+  λ t. apart-by (λ (z : TableId). z.atom) t.table refl,
+  λ is was now t. apart-by length
+      (wrote-of-3 going (taken 1 going) going-rows going-rows f g is was now t.written) refl,
+)

@@ -174,12 +174,12 @@ down d b boot none there =
     let one = right (same 0) _ all in
     let two = right (same 1) _ one in
     let three = right (same 2) _ two in
-    let e0 : depth_at d 0 (slice_index d.system 0) ≡ slice_index (deepest_of h) 0 =
-    eqb-true _ _ (left (same 0) _ all) in
-    let e1 : depth_at d 1 (slice_index d.system 1) ≡ slice_index (deepest_of h) 1 =
-    eqb-true _ _ (left (same 1) _ one) in
-    let e2 : depth_at d 2 (slice_index d.system 2) ≡ slice_index (deepest_of h) 2 =
-    eqb-true _ _ (left (same 2) _ two) in
-    let e3 : depth_at d 3 (slice_index d.system 3) ≡ slice_index (deepest_of h) 3 =
-    eqb-true _ _ (left (same 3) _ three) in
-    rw (e0, e1, e2, e3) refl
+    let at : (level : ℕ) → same level ≡ true
+    → depth_at d level (slice_index d.system level) ≡ slice_index (deepest_of h) level =
+    λ level e. eqb-true _ _ e in
+    rw (
+      at 0 (left (same 0) _ all),
+      at 1 (left (same 1) _ one),
+      at 2 (left (same 2) _ two),
+      at 3 (left (same 3) _ three),
+    ) refl

@@ -3,6 +3,7 @@
 use Rattle.std.proofs.Common.{◌≡◌, ◌∙◌, ℕ, [], ◌∷◌, ap, refl}
 use Rattle.psci_abi.specs.declared.registers.Regs.{Regs}
 use Rattle.psci_fw.specs.Seen.{seen}
+use Rattle.psci_fw_spec.specs.declared.mode.SuspendMode.{SuspendMode}
 use Rattle.psci_fw_spec.specs.declared.mode.SuspendMode.TheVariants.{Platform, OsInitiated}
 use Rattle.psci_platform.specs.Calls.{regs_for}
 use Rattle.psci_platform.specs.Cores.{boot_place}
@@ -10,6 +11,7 @@ use Rattle.psci_platform.specs.Described.{DescriptionValue}
 use Rattle.psci_platform.specs.Platforms.{PlatformFirmwareValue, PlatformValue, called}
 use Rattle.psci_platform.proofs.Machines.{all_functions, calling, mt8365, pine64_board}
 use Rattle.psci_platform.proofs.Machines.{rk3399, rk3399_board, sda660, sda660_board}
+use Rattle.psci_abi.proofs.Tables.{◌⇒◌, Gives}
 
 -- registers x0 to x3
 abbrev regs : ℕ → ℕ → ℕ → ℕ → Regs
@@ -24,10 +26,12 @@ by_mpidr = record sda660 {
 
 -- Formats and modes -----------------------------------------------------------------------------
 
-suspend_extended : regs_for by_mpidr sda660_board 4 Platform (regs 0xC4000001 0x400000F2 9 7)
-    ≡ regs 0xC4000001 0x40000033 9 7
+called_by_mpidr : Gives (regs_for by_mpidr sda660_board 4 Platform)
+    (regs 0xC4000001 0x400000F2 9 7 ⇒ regs 0xC4000001 0x40000033 9 7
+    ∷ regs 0xC400000D 0x101 0 0 ⇒ regs 0xC400000D 1 0 0
+    ∷ regs 0x8400000D 0x001 1 0 ⇒ regs 0x8400000D 0x100 1 0 ∷ [])
 unfolding calling
-suspend_extended = refl
+called_by_mpidr = refl
 
 suspend_by_the_system : regs_for mt8365 pine64_board 0 OsInitiated (regs 0x84000001 0x01010004 0 7)
     ≡ regs 0x84000001 0x01010033 0 7
@@ -37,30 +41,16 @@ suspend_by_the_system = refl
 -- Resets ----------------------------------------------------------------------------------------
 
 -- a warm reset, and one of the vendor in the low half of a register
-warm_reset : regs_for rk3399 rk3399_board 0 Platform (regs 0xC4000012 0 9 0)
-    ≡ regs 0xC4000012 0 9 0
+called_for_resets : Gives (regs_for rk3399 rk3399_board 0 Platform)
+    (regs 0xC4000012 0 9 0 ⇒ regs 0xC4000012 0 9 0
+    ∷ regs 0xC4000012 0x180000001 9 0 ⇒ regs 0xC4000012 0 9 0 ∷ [])
 unfolding calling
-warm_reset = refl
-
-narrow_reset : regs_for rk3399 rk3399_board 0 Platform (regs 0xC4000012 0x180000001 9 0)
-    ≡ regs 0xC4000012 0 9 0
-unfolding calling
-narrow_reset = refl
+called_for_resets = refl
 
 -- Another boot core -----------------------------------------------------------------------------
 
 third_of_its_cluster : boot_place by_mpidr sda660_board 0x102 ≡ 6
 third_of_its_cluster = refl
-
-node_hw_state : regs_for by_mpidr sda660_board 4 Platform (regs 0xC400000D 0x101 0 0)
-    ≡ regs 0xC400000D 1 0 0
-unfolding calling
-node_hw_state = refl
-
-node_hw_state_of_a_cluster : regs_for by_mpidr sda660_board 4 Platform (regs 0x8400000D 0x001 1 0)
-    ≡ regs 0x8400000D 0x100 1 0
-unfolding calling
-node_hw_state_of_a_cluster = refl
 
 -- Called ----------------------------------------------------------------------------------------
 
@@ -68,20 +58,22 @@ abbrev platform : PlatformValue
 platform = record { description = by_mpidr; board = sda660_board; boot = 0x100; place = 4 }
 
 -- the firmware of a platform is called in the mode that it is in, and for the core that boots
+called_by : (f : PlatformFirmwareValue) (r : Regs) (m : SuspendMode) → f.platform ≡ platform
+    → (seen f.firmware).mode ≡ m → called f r ≡ regs_for by_mpidr sda660_board 4 m r
+called_by f r m is mode =
+    ap (λ (p : PlatformValue). regs_for p.description p.board p.place (seen f.firmware).mode r) is
+    ∙ ap (λ m. regs_for by_mpidr sda660_board 4 m r) mode
+
 called_in_its_mode : (f : PlatformFirmwareValue) → f.platform ≡ platform
     → (seen f.firmware).mode ≡ OsInitiated
     → called f (regs 0x84000001 0x400000F4 0 7) ≡ regs 0x84000001 0x40000033 0 7
 unfolding calling
 called_in_its_mode f is mode =
-    ap (λ (p : PlatformValue). regs_for p.description p.board p.place (seen f.firmware).mode
-    (regs 0x84000001 0x400000F4 0 7)) is
-    ∙ ap (λ m. regs_for by_mpidr sda660_board 4 m (regs 0x84000001 0x400000F4 0 7)) mode
+    called_by f (regs 0x84000001 0x400000F4 0 7) OsInitiated is mode
 
 called_for_its_boot_core : (f : PlatformFirmwareValue) → f.platform ≡ platform
     → (seen f.firmware).mode ≡ Platform
     → called f (regs 0xC4000003 0x101 0x80001000 7) ≡ regs 0xC4000003 1 0x80001000 7
 unfolding calling
 called_for_its_boot_core f is mode =
-    ap (λ (p : PlatformValue). regs_for p.description p.board p.place (seen f.firmware).mode
-    (regs 0xC4000003 0x101 0x80001000 7)) is
-    ∙ ap (λ m. regs_for by_mpidr sda660_board 4 m (regs 0xC4000003 0x101 0x80001000 7)) mode
+    called_by f (regs 0xC4000003 0x101 0x80001000 7) Platform is mode

@@ -12,6 +12,8 @@ use Rattle.psci_platform.proofs.Machines.{calling}
 use Rattle.psci_platform.proofs.Machines.{all_functions, hamoa, hamoa_board, mt8365, mt8370}
 use Rattle.psci_platform.proofs.Machines.{mt8370_board}
 use Rattle.psci_platform.proofs.Machines.{rk3399, rk3399_board}
+use Rattle.psci_abi.proofs.Tables.{◌⇒◌, Gives}
+use Rattle.psci_platform.proofs.Machines.{itself}
 
 -- registers x0 to x3
 abbrev regs : ℕ → ℕ → ℕ → ℕ → Regs
@@ -27,69 +29,38 @@ asks_rk3399 r = asked_for rk3399 Platform r
 
 -- Arguments -----------------------------------------------------------------------------------
 
-cpu_on : of_mt8370 (regs 0xC4000003 0x700 0x40001000 7) ≡ regs 0xC4000003 5 0x40001000 7
+called_of_mt8370 : Gives of_mt8370
+    (regs 0xC4000003 0x700 0x40001000 7 ⇒ regs 0xC4000003 5 0x40001000 7
+    -- an SMC32 call has the low half of a register
+    ∷ regs 0x84000003 0x100000700 0x40001000 7 ⇒ regs 0x84000003 5 0x40001000 7
+    -- no such core
+    ∷ regs 0xC4000003 0x100000700 0x40001000 7 ⇒ regs 0xC4000003 0xFFFFFFFF 0x40001000 7
+    ∷ regs 0xC4000001 0x01010010 0x40001000 7 ⇒ regs 0xC4000001 0x01010033 0x40001000 7
+    -- no such word
+    ∷ regs 0x84000001 0x01010033 0x40001000 7 ⇒ regs 0x84000001 0xFFFFFFFF 0x40001000 7
+    ∷ regs 0x8400000F 1 0 0 ⇒ regs 0x8400000F 1 0 0  -- no name of a core or a state
+    ∷ regs 0x84000000 0x700 0 0 ⇒ regs 0x84000000 0x700 0 0 ∷ [])
 unfolding calling
-cpu_on = refl
+called_of_mt8370 = refl
 
--- an SMC32 call has the low half of a register
-narrow_cpu_on : of_mt8370 (regs 0x84000003 0x100000700 0x40001000 7)
-    ≡ regs 0x84000003 5 0x40001000 7
+called_of_hamoa : Gives (regs_for hamoa hamoa_board 0 Platform)
+    (regs 0xC4000004 0x10300 0 0 ⇒ regs 0xC4000004 0x103 0 0
+    ∷ regs 0xC4000004 0x20000 1 0 ⇒ regs 0xC4000004 0x200 1 0 ∷ [])
 unfolding calling
-narrow_cpu_on = refl
-
-wide_cpu_on : of_mt8370 (regs 0xC4000003 0x100000700 0x40001000 7)
-    ≡ regs 0xC4000003 0xFFFFFFFF 0x40001000 7
-unfolding calling
-wide_cpu_on = refl
-
-cpu_suspend : of_mt8370 (regs 0xC4000001 0x01010010 0x40001000 7)
-    ≡ regs 0xC4000001 0x01010033 0x40001000 7
-unfolding calling
-cpu_suspend = refl
-
-no_such_word : of_mt8370 (regs 0x84000001 0x01010033 0x40001000 7)
-    ≡ regs 0x84000001 0xFFFFFFFF 0x40001000 7
-unfolding calling
-no_such_word = refl
-
-affinity_info : regs_for hamoa hamoa_board 0 Platform (regs 0xC4000004 0x10300 0 0)
-    ≡ regs 0xC4000004 0x103 0 0
-unfolding calling
-affinity_info = refl
-
-affinity_info_of_a_cluster : regs_for hamoa hamoa_board 0 Platform (regs 0xC4000004 0x20000 1 0)
-    ≡ regs 0xC4000004 0x200 1 0
-unfolding calling
-affinity_info_of_a_cluster = refl
+called_of_hamoa = refl
 
 node_hw_state : regs_for (record hamoa { functions = all_functions }) hamoa_board 0 Platform
     (regs 0x8400000D 0x20000 1 0) ≡ regs 0x8400000D 0x200 1 0
 unfolding calling
 node_hw_state = refl
 
-vendor_reset : regs_for rk3399 rk3399_board 0 Platform (regs 0x84000012 0x80000001 9 0)
-    ≡ regs 0x84000012 0 9 0
+called_of_rk3399 : Gives (regs_for rk3399 rk3399_board 0 Platform)
+    (regs 0x84000012 0x80000001 9 0 ⇒ regs 0x84000012 0 9 0
+    ∷ regs 0x84000012 0x80000002 9 0 ⇒ regs 0x84000012 0x80000002 9 0
+    -- what is no name stays
+    ∷ regs 0xC400000E 0x40001000 7 0 ⇒ regs 0xC400000E 0x40001000 7 0 ∷ [])
 unfolding calling
-vendor_reset = refl
-
-other_reset : regs_for rk3399 rk3399_board 0 Platform (regs 0x84000012 0x80000002 9 0)
-    ≡ regs 0x84000012 0x80000002 9 0
-unfolding calling
-other_reset = refl
-
--- what is no name of a core, a state or a function stays
-system_suspend : regs_for rk3399 rk3399_board 0 Platform (regs 0xC400000E 0x40001000 7 0)
-    ≡ regs 0xC400000E 0x40001000 7 0
-unfolding calling
-system_suspend = refl
-
-set_suspend_mode : of_mt8370 (regs 0x8400000F 1 0 0) ≡ regs 0x8400000F 1 0 0
-unfolding calling
-set_suspend_mode = refl
-
-version : of_mt8370 (regs 0x84000000 0x700 0 0) ≡ regs 0x84000000 0x700 0 0
-unfolding calling
-version = refl
+called_of_rk3399 = refl
 
 -- Functions -----------------------------------------------------------------------------------
 
@@ -120,121 +91,61 @@ words =
     0x84000001 ∷ 0xC4000001 ∷ 0x84000002 ∷ 0x84000003 ∷ 0xC4000003 ∷ 0x84000008 ∷ 0x84000009
     ∷ 0x8400000D ∷ 0xC400000D ∷ 0x8400000E ∷ 0xC400000E ∷ 0x8400000F ∷ 0x84000012 ∷ 0xC4000012 ∷ []
 
-none_is_there : map (called without_any) words ≡ replicate 14 0
-unfolding calling
-none_is_there = refl
-
-no_feature_is_there : map (features without_any) words ≡ replicate 14 0
-unfolding calling
-no_feature_is_there = refl
-
-all_are_there : map (called (record rk3399 { functions = all_functions })) words ≡ words
-unfolding calling
-all_are_there = refl
-
-all_features_are_there : map (features (record rk3399 { functions = all_functions })) words ≡ words
-unfolding calling
-all_features_are_there = refl
-
 -- these are always there
 abbrev others : List ℕ
 others = 0x84000000 ∷ 0x84000004 ∷ 0xC4000004 ∷ 0x84000006 ∷ 0x8400000A ∷ []
 
-others_are_there : map (called without_any) others ≡ others
+none_is_there : Gives itself
+    (map (called without_any) words ⇒ replicate 14 0
+    ∷ map (features without_any) words ⇒ replicate 14 0
+    ∷ map (called (record rk3399 { functions = all_functions })) words ⇒ words
+    ∷ map (features (record rk3399 { functions = all_functions })) words ⇒ words
+    ∷ map (called without_any) others ⇒ others
+    ∷ map (features without_any) others ⇒ others ∷ [])
 unfolding calling
-others_are_there = refl
-
-other_features_are_there : map (features without_any) others ≡ others
-unfolding calling
-other_features_are_there = refl
+none_is_there = refl
 
 -- each function by itself
 abbrev only : Functions → List ℕ
 only f = filter (λ x. nat_lt 0 x) (map (called (record rk3399 { functions = f })) words)
 
-only_cpu_suspend : only (record without_any.functions { cpu_suspend = true })
-    ≡ 0x84000001 ∷ 0xC4000001 ∷ 0x8400000F ∷ []
+-- each function by itself
+each_function_alone : Gives (λ f. only f)
+    (record without_any.functions { cpu_suspend = true }
+    ⇒ (0x84000001 ∷ 0xC4000001 ∷ 0x8400000F ∷ [])
+    ∷ record without_any.functions { cpu_off = true } ⇒ (0x84000002 ∷ [])
+    ∷ record without_any.functions { cpu_on = true } ⇒ (0x84000003 ∷ 0xC4000003 ∷ [])
+    ∷ record without_any.functions { system_off = true } ⇒ (0x84000008 ∷ [])
+    ∷ record without_any.functions { system_reset = true } ⇒ (0x84000009 ∷ [])
+    ∷ record without_any.functions { node_hw_state = true } ⇒ (0x8400000D ∷ 0xC400000D ∷ [])
+    ∷ record without_any.functions { system_suspend = true } ⇒ (0x8400000E ∷ 0xC400000E ∷ [])
+    ∷ record without_any.functions { system_reset2 = true } ⇒ (0x84000012 ∷ 0xC4000012 ∷ []) ∷ [])
 unfolding calling
-only_cpu_suspend = refl
-
-only_cpu_off : only (record without_any.functions { cpu_off = true }) ≡ 0x84000002 ∷ []
-unfolding calling
-only_cpu_off = refl
-
-only_cpu_on : only (record without_any.functions { cpu_on = true }) ≡ 0x84000003 ∷ 0xC4000003 ∷ []
-unfolding calling
-only_cpu_on = refl
-
-only_system_off : only (record without_any.functions { system_off = true }) ≡ 0x84000008 ∷ []
-unfolding calling
-only_system_off = refl
-
-only_system_reset : only (record without_any.functions { system_reset = true }) ≡ 0x84000009 ∷ []
-unfolding calling
-only_system_reset = refl
-
-only_node_hw_state : only (record without_any.functions { node_hw_state = true })
-    ≡ 0x8400000D ∷ 0xC400000D ∷ []
-unfolding calling
-only_node_hw_state = refl
-
-only_system_suspend : only (record without_any.functions { system_suspend = true })
-    ≡ 0x8400000E ∷ 0xC400000E ∷ []
-unfolding calling
-only_system_suspend = refl
-
-only_system_reset2 : only (record without_any.functions { system_reset2 = true })
-    ≡ 0x84000012 ∷ 0xC4000012 ∷ []
-unfolding calling
-only_system_reset2 = refl
+each_function_alone = refl
 
 -- What else is asked --------------------------------------------------------------------------
 
-asks_cluster : asks_rk3399 (regs 0xC4000001 0x01010000 0 0) ≡ asks.States (1 ∷ 1 ∷ 0 ∷ 0 ∷ [])
+asked_of_rk3399 : Gives asks_rk3399
+    (regs 0xC4000001 0x01010000 0 0 ⇒ asks.States (1 ∷ 1 ∷ 0 ∷ 0 ∷ [])
+    ∷ regs 0xC4000001 0x01010033 0 0 ⇒ asks.Nothing
+    ∷ regs 0x8400000E 0 0 0 ⇒ asks.States (1 ∷ 1 ∷ 1 ∷ 0 ∷ [])
+    ∷ regs 0xC4000012 0x80000001 9 0 ⇒ asks.Reset 0x80000001
+    ∷ regs 0xC4000012 0x80000002 9 0 ⇒ asks.Nothing
+    ∷ regs 0x84000002 0x01010000 0 0 ⇒ asks.Nothing ∷ [])
 unfolding asked_for
-asks_cluster = refl
+asked_of_rk3399 = refl
 
-asks_no_state : asks_rk3399 (regs 0xC4000001 0x01010033 0 0) ≡ asks.Nothing
+asked_of_mt8365 : Gives itself
+    (asked_for mt8365 OsInitiated (regs 0x84000001 0x01010004 0 0)
+    ⇒ asks.States (1 ∷ 2 ∷ 0 ∷ 0 ∷ [])
+    ∷ asked_for mt8365 Platform (regs 0x84000001 0x01010004 0 0) ⇒ asks.Nothing ∷ [])
 unfolding asked_for
-asks_no_state = refl
-
-asks_second_state : asked_for mt8365 OsInitiated (regs 0x84000001 0x01010004 0 0)
-    ≡ asks.States (1 ∷ 2 ∷ 0 ∷ 0 ∷ [])
-unfolding asked_for
-asks_second_state = refl
-
-asks_refused_state : asked_for mt8365 Platform (regs 0x84000001 0x01010004 0 0)
-    ≡ asks.Nothing
-unfolding asked_for
-asks_refused_state = refl
-
-asks_system : asks_rk3399 (regs 0x8400000E 0 0 0) ≡ asks.States (1 ∷ 1 ∷ 1 ∷ 0 ∷ [])
-unfolding asked_for
-asks_system = refl
-
-asks_reset : asks_rk3399 (regs 0xC4000012 0x80000001 9 0) ≡ asks.Reset 0x80000001
-unfolding asked_for
-asks_reset = refl
-
-asks_other_reset : asks_rk3399 (regs 0xC4000012 0x80000002 9 0) ≡ asks.Nothing
-unfolding asked_for
-asks_other_reset = refl
-
-asks_for_nothing : asks_rk3399 (regs 0x84000002 0x01010000 0 0) ≡ asks.Nothing
-unfolding asked_for
-asks_for_nothing = refl
+asked_of_mt8365 = refl
 
 -- nothing is asked of a function that is not there
-asks_no_suspend : asked_for without_any Platform (regs 0xC4000001 0x01010000 0 0)
-    ≡ asks.Nothing
+asked_without_any : Gives (asked_for without_any Platform)
+    (regs 0xC4000001 0x01010000 0 0 ⇒ asks.Nothing
+    ∷ regs 0x8400000E 0 0 0 ⇒ asks.Nothing
+    ∷ regs 0xC4000012 0x80000001 9 0 ⇒ asks.Nothing ∷ [])
 unfolding asked_for
-asks_no_suspend = refl
-
-asks_no_system : asked_for without_any Platform (regs 0x8400000E 0 0 0) ≡ asks.Nothing
-unfolding asked_for
-asks_no_system = refl
-
-asks_no_reset : asked_for without_any Platform (regs 0xC4000012 0x80000001 9 0)
-    ≡ asks.Nothing
-unfolding asked_for
-asks_no_reset = refl
+asked_without_any = refl

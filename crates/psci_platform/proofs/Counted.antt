@@ -1,9 +1,10 @@
 -- Two places of a list with one number are counted twice.
 use Rattle.std.proofs.Common.{◌≡◌, ◌==◌, ℕ, zero, suc, ◌+◌, ◌<◌, ◌≤◌, Bool, true, false, ◌||◌, cond}
 use Rattle.std.proofs.Common.{List, [], ◌∷◌, length, refl, arith}
+use Rattle.std.proofs.lemmas.List.Folds.{list_any_at}
 use Rattle.std.proofs.lemmas.Bool.Decides.{nat_tests}
 use Rattle.std.proofs.lemmas.List.Sums.{sum_by-cons}
-use Rattle.std.specs.List.{count_by, list_any}
+use Rattle.std.specs.List.{count_by}
 use Rattle.std.specs.Prelude.{nat_lt, slice_index}
 use Rattle.psci_platform.specs.Faults.{has_same}
 
@@ -41,13 +42,6 @@ pub or_right : (s t : Bool) → t ≡ true → (s || t) ≡ true
 or_right true t e = refl
 or_right false t e = e
 
-any_at : (p : ℕ → Bool) (xs : List ℕ) (c : ℕ) → c < length xs → p (slice_index xs c) ≡ true
-    → list_any p xs ≡ true
-any_at p [] c below e = absurd (omega (arith, below))
-any_at p (x ∷ xs) zero below e = rw e refl
-any_at p (x ∷ xs) (suc c) below e =
-    or_right (p x) (list_any p xs) (any_at p xs c (omega (arith, below)) e)
-
 -- where no two are the same, two places have different ones
 pub differ : (xs : List ℕ) (k c : ℕ) → has_same xs ≡ false → k < c → c < length xs
     → slice_index xs k ≡ slice_index xs c → ⊥
@@ -58,5 +52,5 @@ differ xs k c none before below same =
     let two = twice (λ y. y == x) xs k c before below e f in
     let more : nat_lt 1 (count_by (λ y. y == x) xs) ≡ true = grind (arith, nat_tests, two) in
     let some : has_same xs ≡ true =
-    any_at (λ z. nat_lt 1 (count_by (λ y. y == z) xs)) xs c below more in
+    list_any_at (λ z. nat_lt 1 (count_by (λ y. y == z) xs)) xs c 0 below more in
     cc

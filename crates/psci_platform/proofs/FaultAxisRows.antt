@@ -13,6 +13,8 @@ use Rattle.psci_platform.specs.Described.{DescriptionValue}
 use Rattle.psci_platform.specs.Faults.{fault_of, is_mpidr, is_row_word}
 use Rattle.psci_platform.proofs.Machines.{all_functions, checking, down, fault, hip07}
 use Rattle.psci_platform.proofs.Machines.{hip07_board, level, pine64, pine64_board, rk3399, row}
+use Rattle.psci_abi.proofs.Tables.{◌⇒◌, Gives}
+use Rattle.psci_platform.proofs.Machines.{itself}
 
 -- Bits ------------------------------------------------------------------------------------------
 
@@ -54,31 +56,23 @@ with_second word states = record rk3399 {
   rows = row 0x10000 (1 ∷ 0 ∷ 0 ∷ 0 ∷ []) ∷ row word states ∷ [];
 }
 
-second_word : fault (with_second 0x30000 (1 ∷ 0 ∷ 0 ∷ 0 ∷ [])) ≡ Some faults.BadWord
+faults_of_a_second_row : Gives fault
+    (with_second 0x30000 (1 ∷ 0 ∷ 0 ∷ 0 ∷ []) ⇒ Some faults.BadWord
+    ∷ with_second 0x00001 (1 ∷ 0 ∷ 0 ∷ 0 ∷ []) ⇒ Some faults.WrongType
+    ∷ with_second 0x10001 (1 ∷ 0 ∷ 1 ∷ 0 ∷ []) ⇒ Some faults.BadStates ∷ [])
 unfolding checking
-second_word = refl
-
-second_type : fault (with_second 0x00001 (1 ∷ 0 ∷ 0 ∷ 0 ∷ [])) ≡ Some faults.WrongType
-unfolding checking
-second_type = refl
-
-second_states : fault (with_second 0x10001 (1 ∷ 0 ∷ 1 ∷ 0 ∷ [])) ≡ Some faults.BadStates
-unfolding checking
-second_states = refl
+faults_of_a_second_row = refl
 
 -- Not side by side ----------------------------------------------------------------------------
 
-same_mpidr_far_apart : fault (record rk3399 { mpidrs = 0x101 ∷ 1 ∷ 2 ∷ 3 ∷ 0x100 ∷ 0x101 ∷ [] })
-    ≡ Some faults.SameMpidr
+faults_far_apart : Gives fault
+    (record rk3399 { mpidrs = 0x101 ∷ 1 ∷ 2 ∷ 3 ∷ 0x100 ∷ 0x101 ∷ [] } ⇒ Some faults.SameMpidr
+    ∷ record rk3399 {
+      rows = row 0x10000 (1 ∷ 0 ∷ 0 ∷ 0 ∷ []) ∷ row 0x10001 (1 ∷ 1 ∷ 0 ∷ 0 ∷ [])
+          ∷ row 0x10000 (1 ∷ 1 ∷ 0 ∷ 0 ∷ []) ∷ [];
+    } ⇒ Some faults.SameWord ∷ [])
 unfolding checking
-same_mpidr_far_apart = refl
-
-same_word_far_apart : fault (record rk3399 {
-  rows = row 0x10000 (1 ∷ 0 ∷ 0 ∷ 0 ∷ []) ∷ row 0x10001 (1 ∷ 1 ∷ 0 ∷ 0 ∷ [])
-      ∷ row 0x10000 (1 ∷ 1 ∷ 0 ∷ 0 ∷ []) ∷ [];
-}) ≡ Some faults.SameWord
-unfolding checking
-same_word_far_apart = refl
+faults_far_apart = refl
 
 -- Levels and heights ------------------------------------------------------------------------------
 
@@ -100,36 +94,20 @@ abbrev of_one_level : List ℕ → Option PlatformFault
 of_one_level system =
     fault_of (record pine64 { functions = all_functions; system = system }) pine64_board 0
 
-system_of_one_level : of_one_level (1 ∷ 1 ∷ 0 ∷ 0 ∷ []) ≡ None
-unfolding checking
-system_of_one_level = refl
-
-system_above_one_level : of_one_level (1 ∷ 1 ∷ 1 ∷ 0 ∷ []) ≡ Some faults.BadSystem
-unfolding checking
-system_above_one_level = refl
-
 abbrev of_three_levels : List ℕ → Option PlatformFault
 of_three_levels system =
     fault_of (record hip07 { functions = all_functions; system = system }) hip07_board 0x10000
 
-system_of_three_levels : of_three_levels (1 ∷ 1 ∷ 1 ∷ 1 ∷ []) ≡ None
+faults_by_height : Gives itself
+    (of_one_level (1 ∷ 1 ∷ 0 ∷ 0 ∷ []) ⇒ None
+    ∷ of_one_level (1 ∷ 1 ∷ 1 ∷ 0 ∷ []) ⇒ Some faults.BadSystem
+    ∷ of_three_levels (1 ∷ 1 ∷ 1 ∷ 1 ∷ []) ⇒ None
+    ∷ of_three_levels (1 ∷ 1 ∷ 1 ∷ 0 ∷ []) ⇒ Some faults.BadSystem
+    -- how many levels a board of each height takes down
+    ∷ fault_of (record pine64 { levels = 2 }) pine64_board 0 ⇒ Some faults.TooManyLevels
+    ∷ fault_of (record hip07 { levels = 4 }) hip07_board 0x10000 ⇒ Some faults.TooManyLevels ∷ [])
 unfolding checking
-system_of_three_levels = refl
-
-system_below_three_levels : of_three_levels (1 ∷ 1 ∷ 1 ∷ 0 ∷ []) ≡ Some faults.BadSystem
-unfolding checking
-system_below_three_levels = refl
-
--- how many levels a board of each height takes down
-levels_above_one : fault_of (record pine64 { levels = 2 }) pine64_board 0
-    ≡ Some faults.TooManyLevels
-unfolding checking
-levels_above_one = refl
-
-levels_above_three : fault_of (record hip07 { levels = 4 }) hip07_board 0x10000
-    ≡ Some faults.TooManyLevels
-unfolding checking
-levels_above_three = refl
+faults_by_height = refl
 
 -- a class that falls at a level between
 falling_at_the_cluster : fault (record rk3399 {

@@ -1,5 +1,6 @@
--- The faults of a description: each alone, at its limit and one beside.
-use Rattle.std.proofs.Common.{◌≡◌, ℕ, ◌+◌, ◌-◌, List, [], ◌∷◌, ◌++◌, false, refl, map, replicate}
+-- The faults of a description, of SYSTEM_SUSPEND and of functions: each alone, at its limit and one
+-- beside.
+use Rattle.std.proofs.Common.{ℕ, ◌+◌, ◌-◌, List, [], ◌∷◌, ◌++◌, false, refl, map, replicate}
 use Rattle.std.specs.Prelude.{Option, Some, None}
 use Rattle.std.specs.List.{range_with_len}
 use Rattle.psci_abi.specs.declared.format.Format.TheVariants.{Extended}
@@ -17,119 +18,69 @@ use Rattle.psci_platform.proofs.Machines.{hip07_board}
 use Rattle.psci_platform.proofs.Machines.{imx8mm, level, mt8365, mt8370, mt8370_board, pine64}
 use Rattle.psci_platform.proofs.Machines.{pine64_board, retained, rk3399, rk3399_board, row, sda660}
 use Rattle.psci_platform.proofs.Machines.{sda660_board, tegra186, tegra186_board}
+use Rattle.psci_abi.proofs.Tables.{◌⇒◌, Gives}
+use Rattle.psci_platform.proofs.Machines.{itself}
 
 -- Real machines have none -----------------------------------------------------------------------
 
-pine64_has_none : fault_of pine64 pine64_board 0 ≡ None
+real_machines_have_none : Gives itself
+    (fault_of pine64 pine64_board 0 ⇒ None
+    ∷ fault_of rk3399 rk3399_board 0 ⇒ None
+    ∷ fault_of imx8mm pine64_board 0 ⇒ None
+    ∷ fault_of mt8370 mt8370_board 0 ⇒ None
+    -- two states of one class are no fault
+    ∷ fault_of mt8365 pine64_board 0 ⇒ None
+    ∷ fault_of sda660 sda660_board 0x100 ⇒ None
+    ∷ fault_of hamoa hamoa_board 0 ⇒ None
+    ∷ fault_of hip07 hip07_board 0x10000 ⇒ None
+    ∷ fault_of tegra186 tegra186_board 0x100 ⇒ None ∷ [])
 unfolding checking
-pine64_has_none = refl
-
-rk3399_has_none : fault_of rk3399 rk3399_board 0 ≡ None
-unfolding checking
-rk3399_has_none = refl
-
-imx8mm_has_none : fault_of imx8mm pine64_board 0 ≡ None
-unfolding checking
-imx8mm_has_none = refl
-
-mt8370_has_none : fault_of mt8370 mt8370_board 0 ≡ None
-unfolding checking
-mt8370_has_none = refl
-
--- two states of one class are no fault
-mt8365_has_none : fault_of mt8365 pine64_board 0 ≡ None
-unfolding checking
-mt8365_has_none = refl
-
-sda660_has_none : fault_of sda660 sda660_board 0x100 ≡ None
-unfolding checking
-sda660_has_none = refl
-
-hamoa_has_none : fault_of hamoa hamoa_board 0 ≡ None
-unfolding checking
-hamoa_has_none = refl
-
-hip07_has_none : fault_of hip07 hip07_board 0x10000 ≡ None
-unfolding checking
-hip07_has_none = refl
-
-tegra186_has_none : fault_of tegra186 tegra186_board 0x100 ≡ None
-unfolding checking
-tegra186_has_none = refl
+real_machines_have_none = refl
 
 -- Each fault, in RK3399's description ------------------------------------------------------------
 
 abbrev with_mpidrs : List ℕ → DescriptionValue
 with_mpidrs mpidrs = record rk3399 { mpidrs = mpidrs }
 
-one_too_few : fault (with_mpidrs (0 ∷ 1 ∷ 2 ∷ 3 ∷ 0x100 ∷ [])) ≡ Some faults.WrongCount
+faults_of_mpidrs : Gives (λ mpidrs. fault (with_mpidrs mpidrs))
+    ((0 ∷ 1 ∷ 2 ∷ 3 ∷ 0x100 ∷ []) ⇒ Some faults.WrongCount  -- one too few
+    ∷ (0 ∷ 1 ∷ 2 ∷ 3 ∷ 0x100 ∷ 0x101 ∷ 0x102 ∷ []) ⇒ Some faults.WrongCount  -- one too many
+    ∷ (0 ∷ 1 ∷ 2 ∷ 3 ∷ 0x100 ∷ 0x1000000 ∷ []) ⇒ Some faults.BadMpidr
+    ∷ (0 ∷ 1 ∷ 2 ∷ 3 ∷ 0x100 ∷ 0x80000101 ∷ []) ⇒ Some faults.BadMpidr
+    ∷ (0 ∷ 1 ∷ 2 ∷ 3 ∷ 0x100 ∷ 0x10000000000 ∷ []) ⇒ Some faults.BadMpidr
+    ∷ (0 ∷ 1 ∷ 2 ∷ 3 ∷ 0x100 ∷ 0xFF00FFFFFF ∷ []) ⇒ None  -- all fields
+    ∷ (0 ∷ 1 ∷ 2 ∷ 3 ∷ 0x100 ∷ 0x100 ∷ []) ⇒ Some faults.SameMpidr ∷ [])
 unfolding checking
-one_too_few = refl
+faults_of_mpidrs = refl
 
-one_too_many : fault (with_mpidrs (0 ∷ 1 ∷ 2 ∷ 3 ∷ 0x100 ∷ 0x101 ∷ 0x102 ∷ []))
-    ≡ Some faults.WrongCount
+faults_of_the_boot_core : Gives (fault_of rk3399 rk3399_board)
+    (4 ⇒ Some faults.NoBootCore
+    ∷ 0x100 ⇒ Some faults.LateBootCore ∷ [])
 unfolding checking
-one_too_many = refl
+faults_of_the_boot_core = refl
 
-bit_24 : fault (with_mpidrs (0 ∷ 1 ∷ 2 ∷ 3 ∷ 0x100 ∷ 0x1000000 ∷ [])) ≡ Some faults.BadMpidr
+faults_of_levels : Gives fault
+    (record rk3399 { levels = 3 } ⇒ Some faults.TooManyLevels
+    -- fewer levels than the board has are no fault, where nothing is asked above them
+    ∷ record rk3399 {
+      levels = 1;
+      functions = record all_functions { system_suspend = false };
+    } ⇒ None ∷ [])
 unfolding checking
-bit_24 = refl
-
-bit_31 : fault (with_mpidrs (0 ∷ 1 ∷ 2 ∷ 3 ∷ 0x100 ∷ 0x80000101 ∷ [])) ≡ Some faults.BadMpidr
-unfolding checking
-bit_31 = refl
-
-bit_40 : fault (with_mpidrs (0 ∷ 1 ∷ 2 ∷ 3 ∷ 0x100 ∷ 0x10000000000 ∷ [])) ≡ Some faults.BadMpidr
-unfolding checking
-bit_40 = refl
-
-all_fields : fault (with_mpidrs (0 ∷ 1 ∷ 2 ∷ 3 ∷ 0x100 ∷ 0xFF00FFFFFF ∷ [])) ≡ None
-unfolding checking
-all_fields = refl
-
-same_mpidr : fault (with_mpidrs (0 ∷ 1 ∷ 2 ∷ 3 ∷ 0x100 ∷ 0x100 ∷ [])) ≡ Some faults.SameMpidr
-unfolding checking
-same_mpidr = refl
-
-no_boot_core : fault_of rk3399 rk3399_board 4 ≡ Some faults.NoBootCore
-unfolding checking
-no_boot_core = refl
-
-late_boot_core : fault_of rk3399 rk3399_board 0x100 ≡ Some faults.LateBootCore
-unfolding checking
-late_boot_core = refl
-
-too_many_levels : fault (record rk3399 { levels = 3 }) ≡ Some faults.TooManyLevels
-unfolding checking
-too_many_levels = refl
-
--- fewer levels than the board has are no fault, where nothing is asked above them
-fewer_levels : fault (record rk3399 {
-  levels = 1;
-  functions = record all_functions { system_suspend = false };
-})
-    ≡ None
-unfolding checking
-fewer_levels = refl
+faults_of_levels = refl
 
 abbrev with_class : ℕ → List Class → DescriptionValue
 with_class place classes = record rk3399 {
   classes = replicate place down ++ classes ∷ replicate (3 - place) down;
 }
 
-falling_at_the_core : fault (with_class 0 (level (PowerDown ∷ Retention ∷ []) 13))
-    ≡ Some faults.FallingClass
+faults_of_classes : Gives fault
+    (with_class 0 (level (PowerDown ∷ Retention ∷ []) 13) ⇒ Some faults.FallingClass
+    ∷ with_class 3 (Running ∷ replicate 14 PowerDown ++ Standby ∷ []) ⇒ Some faults.FallingClass
+    -- state 0 is not running
+    ∷ with_class 2 (replicate 16 PowerDown) ⇒ Some faults.FallingClass ∷ [])
 unfolding checking
-falling_at_the_core = refl
-
-falling_at_the_last_number : fault (with_class 3 (Running ∷ replicate 14 PowerDown ++ Standby ∷ []))
-    ≡ Some faults.FallingClass
-unfolding checking
-falling_at_the_last_number = refl
-
-state_0_is_not_running : fault (with_class 2 (replicate 16 PowerDown)) ≡ Some faults.FallingClass
-unfolding checking
-state_0_is_not_running = refl
+faults_of_classes = refl
 
 -- words of power-down of the core, all of them different
 abbrev words : ℕ → List Row
@@ -138,98 +89,63 @@ words count = map (λ id. row (0x10000 + id) (1 ∷ 0 ∷ 0 ∷ 0 ∷ [])) (rang
 abbrev with_rows : List Row → DescriptionValue
 with_rows rows = record rk3399 { rows = rows }
 
-rows_64 : fault (with_rows (words 64)) ≡ None
+faults_of_many_rows : Gives (λ count. fault (with_rows (words count)))
+    (64 ⇒ None
+    ∷ 65 ⇒ Some faults.TooManyRows ∷ [])
 unfolding checking
-rows_64 = refl
+faults_of_many_rows = refl
 
-rows_65 : fault (with_rows (words 65)) ≡ Some faults.TooManyRows
-unfolding checking
-rows_65 = refl
+-- a row of power-down of the core, and a description that has it alone
+abbrev masked : ℕ → ℕ → Row
+masked word mask = record { word = word; mask = mask; states = 1 ∷ 0 ∷ 0 ∷ 0 ∷ [] }
 
--- a row of power-down of the core
 abbrev with_word : ℕ → ℕ → DescriptionValue
-with_word word mask =
-    with_rows (record { word = word; mask = mask; states = 1 ∷ 0 ∷ 0 ∷ 0 ∷ [] } ∷ [])
+with_word word mask = with_rows (masked word mask ∷ [])
 
-reserved_17 : fault (with_word 0x00030000 0xFFFFFFFF) ≡ Some faults.BadWord
+faults_of_words : Gives fault
+    (with_word 0x00030000 0xFFFFFFFF ⇒ Some faults.BadWord  -- reserved 17
+    ∷ with_word 0x80010000 0xFFFFFFFF ⇒ Some faults.BadWord  -- reserved 31
+    -- a reserved bit that does not count would be read whatever it is
+    ∷ with_word 0x00010000 0xFBFFFFFF ⇒ Some faults.BadWord
+    ∷ with_word 0x00010001 0xFFFFFFFE ⇒ Some faults.BadWord  -- bit outside the mask
+    -- no id counts
+    ∷ with_word 0x00010000 0xFCFF0000 ⇒ None ∷ [])
 unfolding checking
-reserved_17 = refl
+faults_of_words = refl
 
-reserved_31 : fault (with_word 0x80010000 0xFFFFFFFF) ≡ Some faults.BadWord
-unfolding checking
-reserved_31 = refl
+-- in the extended format other bits are reserved, and the type is bit 30
+abbrev extended_fault : DescriptionValue → Option PlatformFault
+extended_fault d = fault_of d (record rk3399_board { format = Extended }) 0
 
--- a reserved bit that does not count would be read whatever it is
-reserved_26_does_not_count : fault (with_word 0x00010000 0xFBFFFFFF) ≡ Some faults.BadWord
+faults_in_the_extended_format : Gives extended_fault
+    (with_rows (row 0x50000000 (1 ∷ 0 ∷ 0 ∷ 0 ∷ []) ∷ []) ⇒ Some faults.BadWord
+    ∷ with_rows (row 0x4FFFFFFF (1 ∷ 0 ∷ 0 ∷ 0 ∷ []) ∷ []) ⇒ None
+    ∷ with_word 0x00010000 0xFFFFFFFF ⇒ Some faults.WrongType ∷ [])
 unfolding checking
-reserved_26_does_not_count = refl
+faults_in_the_extended_format = refl
 
-bit_outside_the_mask : fault (with_word 0x00010001 0xFFFFFFFE) ≡ Some faults.BadWord
+faults_of_two_words : Gives (λ rows. fault (with_rows rows))
+    ((row 0x10000 (1 ∷ 0 ∷ 0 ∷ 0 ∷ []) ∷ row 0x10000 (1 ∷ 1 ∷ 0 ∷ 0 ∷ []) ∷ [])
+    ⇒ Some faults.SameWord
+    -- 0x10003 is read by both
+    ∷ (masked 0x10001 0xFFFFFFFD ∷ masked 0x10002 0xFFFFFFFE ∷ []) ⇒ Some faults.SameWord
+    -- but bit 1 tells these apart
+    ∷ (masked 0x10000 0xFFFFFFFE ∷ masked 0x10002 0xFFFFFFFE ∷ []) ⇒ None ∷ [])
 unfolding checking
-bit_outside_the_mask = refl
+faults_of_two_words = refl
 
-no_id_counts : fault (with_word 0x00010000 0xFCFF0000) ≡ None
+faults_of_types : Gives fault
+    (record (with_word 0x00010000 0xFFFFFFFF) {
+      classes = level (Retention ∷ []) 14 ∷ down ∷ down ∷ down ∷ [];
+    } ⇒ Some faults.WrongType
+    ∷ with_word 0x00000001 0xFFFFFFFF ⇒ Some faults.WrongType  -- power down by the core
+    ∷ with_word 0x00000000 0xFFFEFFFF ⇒ Some faults.WrongType  -- type does not count
+    -- nor of a row in retention, whose words have a zero there
+    ∷ record (with_word 0x00000000 0xFFFEFFFF) {
+      classes = level (Retention ∷ []) 14 ∷ down ∷ down ∷ down ∷ [];
+    } ⇒ Some faults.WrongType ∷ [])
 unfolding checking
-no_id_counts = refl
-
--- in the extended format other bits are reserved
-reserved_28 : fault_of (with_rows (row 0x50000000 (1 ∷ 0 ∷ 0 ∷ 0 ∷ []) ∷ []))
-    (record rk3399_board { format = Extended }) 0 ≡ Some faults.BadWord
-unfolding checking
-reserved_28 = refl
-
-not_reserved_17 : fault_of (with_rows (row 0x4FFFFFFF (1 ∷ 0 ∷ 0 ∷ 0 ∷ []) ∷ []))
-    (record rk3399_board { format = Extended }) 0 ≡ None
-unfolding checking
-not_reserved_17 = refl
-
-same_word : fault (with_rows (row 0x10000 (1 ∷ 0 ∷ 0 ∷ 0 ∷ [])
-    ∷ row 0x10000 (1 ∷ 1 ∷ 0 ∷ 0 ∷ []) ∷ []))
-    ≡ Some faults.SameWord
-unfolding checking
-same_word = refl
-
--- 0x10003 is read by both
-word_of_a_mask : fault (with_rows (
-    record { word = 0x10001; mask = 0xFFFFFFFD; states = 1 ∷ 0 ∷ 0 ∷ 0 ∷ [] }
-    ∷ record { word = 0x10002; mask = 0xFFFFFFFE; states = 1 ∷ 0 ∷ 0 ∷ 0 ∷ [] } ∷ []))
-    ≡ Some faults.SameWord
-unfolding checking
-word_of_a_mask = refl
-
--- but bit 1 tells these apart
-apart_by_a_mask : fault (with_rows (
-    record { word = 0x10000; mask = 0xFFFFFFFE; states = 1 ∷ 0 ∷ 0 ∷ 0 ∷ [] }
-    ∷ record { word = 0x10002; mask = 0xFFFFFFFE; states = 1 ∷ 0 ∷ 0 ∷ 0 ∷ [] } ∷ []))
-    ≡ None
-unfolding checking
-apart_by_a_mask = refl
-
-power_down_by_the_word : fault (record (with_word 0x00010000 0xFFFFFFFF) {
-  classes = level (Retention ∷ []) 14 ∷ down ∷ down ∷ down ∷ [];
-}) ≡ Some faults.WrongType
-unfolding checking
-power_down_by_the_word = refl
-
-power_down_by_the_core : fault (with_word 0x00000001 0xFFFFFFFF) ≡ Some faults.WrongType
-unfolding checking
-power_down_by_the_core = refl
-
-type_does_not_count : fault (with_word 0x00000000 0xFFFEFFFF) ≡ Some faults.WrongType
-unfolding checking
-type_does_not_count = refl
-
--- nor of a row in retention, whose words have a zero there
-type_of_retention_does_not_count : fault (record (with_word 0x00000000 0xFFFEFFFF) {
-  classes = level (Retention ∷ []) 14 ∷ down ∷ down ∷ down ∷ [];
-}) ≡ Some faults.WrongType
-unfolding checking
-type_of_retention_does_not_count = refl
-
-type_is_bit_30_in_the_extended_format : fault_of (with_word 0x00010000 0xFFFFFFFF)
-    (record rk3399_board { format = Extended }) 0 ≡ Some faults.WrongType
-unfolding checking
-type_is_bit_30_in_the_extended_format = refl
+faults_of_types = refl
 
 -- these states of a word, on a board of three levels
 abbrev with_states : List ℕ → DescriptionValue
@@ -241,42 +157,56 @@ with_states states = record hip07 {
 abbrev states_fault : List ℕ → Option PlatformFault
 states_fault states = fault_of (with_states states) hip07_board 0x10000
 
-states_of_all_levels : states_fault (1 ∷ 2 ∷ 2 ∷ 1 ∷ []) ≡ None
+faults_of_states : Gives states_fault
+    ((1 ∷ 2 ∷ 2 ∷ 1 ∷ []) ⇒ None  -- states of all levels
+    ∷ (1 ∷ 1 ∷ 2 ∷ 0 ∷ []) ⇒ Some faults.BadStates  -- states that grow upwards
+    ∷ (1 ∷ 0 ∷ 1 ∷ 0 ∷ []) ⇒ Some faults.BadStates  -- states with a gap
+    ∷ (1 ∷ 16 ∷ 0 ∷ 0 ∷ []) ⇒ Some faults.BadStates  -- no such state
+    -- last state
+    ∷ (1 ∷ 15 ∷ 0 ∷ 0 ∷ []) ⇒ None ∷ [])
 unfolding checking
-states_of_all_levels = refl
+faults_of_states = refl
 
-states_that_grow_upwards : states_fault (1 ∷ 1 ∷ 2 ∷ 0 ∷ []) ≡ Some faults.BadStates
+faults_above_the_levels : Gives itself
+    -- running core
+    (fault (record rk3399 { rows = row 0 (0 ∷ 0 ∷ 0 ∷ 0 ∷ []) ∷ [] }) ⇒ Some faults.BadStates
+    ∷ fault_of (record (with_states (1 ∷ 2 ∷ 0 ∷ 0 ∷ [])) { levels = 0 }) hip07_board 0x10000
+    ⇒ Some faults.BadStates
+    -- also where it is a state of running
+    ∷ fault (record rk3399 {
+      levels = 1;
+      classes = down ∷ down ∷ (Running ∷ Running ∷ replicate 14 PowerDown) ∷ down ∷ [];
+      rows = row 0x10000 (1 ∷ 0 ∷ 1 ∷ 0 ∷ []) ∷ [];
+    }) ⇒ Some faults.BadStates ∷ [])
 unfolding checking
-states_that_grow_upwards = refl
+faults_above_the_levels = refl
 
-states_with_a_gap : states_fault (1 ∷ 0 ∷ 1 ∷ 0 ∷ []) ≡ Some faults.BadStates
-unfolding checking
-states_with_a_gap = refl
+-- SYSTEM_SUSPEND --------------------------------------------------------------------------------
 
-no_such_state : states_fault (1 ∷ 16 ∷ 0 ∷ 0 ∷ []) ≡ Some faults.BadStates
+faults_of_the_system : Gives fault
+    (record rk3399 { system = 1 ∷ 1 ∷ 0 ∷ 0 ∷ [] } ⇒ Some faults.BadSystem
+    ∷ record rk3399 { system = 0 ∷ 1 ∷ 1 ∷ 0 ∷ [] } ⇒ Some faults.BadSystem
+    ∷ record rk3399 { classes = down ∷ down ∷ retained ∷ down ∷ [] } ⇒ Some faults.BadSystem
+    ∷ record rk3399 { system = 1 ∷ 1 ∷ 1 ∷ 1 ∷ [] } ⇒ Some faults.BadSystem
+    ∷ record rk3399 { levels = 1 } ⇒ Some faults.BadSystem
+    -- all levels of the board, and not those alone that the platform takes down
+    ∷ record rk3399 { levels = 1; system = 1 ∷ 1 ∷ 0 ∷ 0 ∷ [] } ⇒ Some faults.BadSystem
+    ∷ record rk3399 { system = 2 ∷ 15 ∷ 3 ∷ 0 ∷ [] } ⇒ None
+    ∷ record rk3399 { system = 1 ∷ 16 ∷ 1 ∷ 0 ∷ [] } ⇒ Some faults.BadSystem ∷ [])
 unfolding checking
-no_such_state = refl
+faults_of_the_system = refl
 
-last_state : states_fault (1 ∷ 15 ∷ 0 ∷ 0 ∷ []) ≡ None
-unfolding checking
-last_state = refl
+-- Functions -------------------------------------------------------------------------------------
 
-running_core : fault (record rk3399 { rows = row 0 (0 ∷ 0 ∷ 0 ∷ 0 ∷ []) ∷ [] })
-    ≡ Some faults.BadStates
+faults_of_functions : Gives fault
+    (record rk3399 { functions = record all_functions { cpu_on = false } }
+    ⇒ Some faults.BadFunctions
+    ∷ record rk3399 { functions = record all_functions { cpu_off = false } } ⇒ None
+    ∷ record rk3399 { functions = record all_functions { cpu_suspend = false } }
+    ⇒ Some faults.BadFunctions
+    ∷ record rk3399 { functions = record all_functions { system_reset2 = false } }
+    ⇒ Some faults.BadFunctions
+    ∷ record rk3399 { resets = 0x80000001 ∷ 0x7FFFFFFF ∷ [] } ⇒ Some faults.BadFunctions
+    ∷ record rk3399 { resets = 0x80000000 ∷ 0xFFFFFFFF ∷ [] } ⇒ None ∷ [])
 unfolding checking
-running_core = refl
-
-above_the_levels :
-    fault_of (record (with_states (1 ∷ 2 ∷ 0 ∷ 0 ∷ [])) { levels = 0 }) hip07_board 0x10000
-    ≡ Some faults.BadStates
-unfolding checking
-above_the_levels = refl
-
--- also where it is a state of running
-running_above_the_levels : fault (record rk3399 {
-  levels = 1;
-  classes = down ∷ down ∷ (Running ∷ Running ∷ replicate 14 PowerDown) ∷ down ∷ [];
-  rows = row 0x10000 (1 ∷ 0 ∷ 1 ∷ 0 ∷ []) ∷ [];
-}) ≡ Some faults.BadStates
-unfolding checking
-running_above_the_levels = refl
+faults_of_functions = refl

@@ -14,6 +14,7 @@ use Rattle.psci_platform.specs.Calls.{regs_for}
 use Rattle.psci_platform.specs.Described.{DescriptionValue}
 use Rattle.psci_platform.specs.Identity.{asks_up_to, depths_at, identity, own_asked}
 use Rattle.psci_platform.proofs.Machines.{board, calling, row}
+use Rattle.psci_abi.proofs.Tables.{◌⇒◌, Gives}
 
 -- What an identity has --------------------------------------------------------------------------
 
@@ -80,16 +81,12 @@ told_beside : map (own_asked small) (CpuSuspend 0x01010033 0x40001000 7
 told_beside = refl
 
 -- a domain is named by its first core: another request, for the same domain
-second_core_of_a_cluster : regs_for (identity small) small 0 Platform (regs 0xC4000004 0x101 1 0)
-    ≡ regs 0xC4000004 0x100 1 0
+called_otherwise : Gives (regs_for (identity small) small 0 Platform)
+    (regs 0xC4000004 0x101 1 0 ⇒ regs 0xC4000004 0x100 1 0
+    -- a word of no row is none, and is another one that is none
+    ∷ regs 0xC4000001 0x01010003 0 0 ⇒ regs 0xC4000001 0xFFFFFFFF 0 0 ∷ [])
 unfolding calling asks_up_to
-second_core_of_a_cluster = refl
-
--- a word of no row is none, and is another one that is none
-word_of_no_row : regs_for (identity small) small 0 Platform (regs 0xC4000001 0x01010003 0 0)
-    ≡ regs 0xC4000001 0xFFFFFFFF 0 0
-unfolding calling asks_up_to
-word_of_no_row = refl
+called_otherwise = refl
 
 -- One change, and it is another call --------------------------------------------------------------
 

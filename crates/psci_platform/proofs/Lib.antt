@@ -11,7 +11,6 @@ pub mod Counted
 mod FaultAxisRows
 mod FaultOrderRows
 mod FaultRows
-mod FunctionFaultRows
 mod IdentityRows
 pub mod KeptCalls
 pub mod Machines

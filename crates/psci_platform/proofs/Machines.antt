@@ -28,6 +28,10 @@ unfoldable pub calling : Unit {0}
 unfolding regs_for moved up
 calling = tt
 
+-- what a table says of things that are each written out
+abbrev pub itself : {A : Type 0} → A → A
+itself a = a
+
 -- a board of these levels and this format
 abbrev pub board : List (List ℕ) → Format → BoardValue
 board levels format = record {

@@ -1,5 +1,5 @@
 -- Names in their slots, and what rows are.
-use Rattle.std.proofs.Common.{List, None, Some, [], ◌∷◌, ◌≡◌, refl, true, false}
+use Rattle.std.proofs.Common.{List, None, Some, [], ◌∷◌, refl, true, false}
 use Rattle.psci_fw_spec.specs.declared.mode.SuspendMode.TheVariants.{Platform, OsInitiated}
 use Rattle.std.specs.List.{Contains}
 use Rattle.std.proofs.lemmas.List.Elements.{All-nil}
@@ -7,21 +7,18 @@ use Rattle.psci_platform.specs.Names.{AreAmong, are_found, name_in, own_name, sl
 use Rattle.psci_platform.specs.States.{can_ask_by}
 use Rattle.psci_platform.specs.declared.names.Name.{Name}
 use Rattle.psci_platform.specs.declared.readings.Reading.{Reading}
+use Rattle.psci_abi.proofs.Tables.{◌⇒◌, Gives}
+use Rattle.psci_platform.proofs.Machines.{itself}
 
 -- the slot is in the upper half of the product
-upper_half : slot_of 0x100000000 7 5 ≡ 5
-upper_half = refl
-
-lower_half : slot_of 3 7 5 ≡ 0
-lower_half = refl
-
--- as many bits of it as the mask has
-masked : slot_of 0x100000000 3 7 ≡ 3
-masked = refl
-
--- and no carry beyond 64 bits
-cut_off : slot_of 0x8000000000000000 7 2 ≡ 0
-cut_off = refl
+slots_of : Gives itself
+    (slot_of 0x100000000 7 5 ⇒ 5
+    ∷ slot_of 3 7 5 ⇒ 0
+    -- as many bits of it as the mask has
+    ∷ slot_of 0x100000000 3 7 ⇒ 3
+    -- and no carry beyond 64 bits
+    ∷ slot_of 0x8000000000000000 7 2 ⇒ 0 ∷ [])
+slots_of = refl
 
 abbrev first : Name
 first = record { fields = 0x100; word = 1; core = record { number = 1 } }
@@ -30,40 +27,29 @@ abbrev other : Name
 other = record { fields = 0x301; word = 2; core = record { number = 2 } }
 
 -- a candidate is compared
-own : own_name 0x100 (Some first) ≡ Some first
-own = refl
-
-not_own : own_name 0x101 (Some first) ≡ None
-not_own = refl
-
-no_candidate : own_name 0x100 None ≡ None
-no_candidate = refl
+own_names : Gives itself
+    (own_name 0x100 (Some first) ⇒ Some first
+    ∷ own_name 0x101 (Some first) ⇒ None
+    ∷ own_name 0x100 None ⇒ None ∷ [])
+own_names = refl
 
 abbrev slots : List Name
 slots = first ∷ other ∷ []
 
-in_its_slot : name_in slots 0x100000000 1 0x301 ≡ Some other
-in_its_slot = refl
-
--- another name stands in the slot, or no slot has the number
-taken : name_in slots 0x100000000 1 0x300 ≡ None
-taken = refl
-
-past_the_slots : name_in slots 0x100000000 3 2 ≡ None
-past_the_slots = refl
+names_in : Gives itself
+    (name_in slots 0x100000000 1 0x301 ⇒ Some other
+    -- another name stands in the slot, or no slot has the number
+    ∷ name_in slots 0x100000000 1 0x300 ⇒ None
+    ∷ name_in slots 0x100000000 3 2 ⇒ None ∷ [])
+names_in = refl
 
 -- at level 0 each of two MPIDRs has its name, and at level 1 none
-all_found : are_found (0x100 ∷ 0x301 ∷ []) 0 slots 0x100000000 1 ≡ true
+found : Gives itself
+    (are_found (0x100 ∷ 0x301 ∷ []) 0 slots 0x100000000 1 ⇒ true
+    ∷ are_found (0x100 ∷ 0x302 ∷ []) 0 slots 0x100000000 1 ⇒ false
+    ∷ are_found (0x100 ∷ 0x301 ∷ []) 1 slots 0x100000000 1 ⇒ false ∷ [])
 unfolding are_found
-all_found = refl
-
-one_missing : are_found (0x100 ∷ 0x302 ∷ []) 0 slots 0x100000000 1 ≡ false
-unfolding are_found
-one_missing = refl
-
-other_level : are_found (0x100 ∷ 0x301 ∷ []) 1 slots 0x100000000 1 ≡ false
-unfolding are_found
-other_level = refl
+found = refl
 
 -- platform-coordinated, only a first state of its class is asked for
 abbrev deeper : Reading
@@ -75,14 +61,11 @@ deeper = record {
   is_first = false;
 }
 
-deeper_in_platform_mode : can_ask_by deeper Platform ≡ false
-deeper_in_platform_mode = refl
-
-deeper_in_os_mode : can_ask_by deeper OsInitiated ≡ true
-deeper_in_os_mode = refl
-
-first_in_platform_mode : can_ask_by (record deeper { is_first = true }) Platform ≡ true
-first_in_platform_mode = refl
+asked_by : Gives itself
+    (can_ask_by deeper Platform ⇒ false
+    ∷ can_ask_by deeper OsInitiated ⇒ true
+    ∷ can_ask_by (record deeper { is_first = true }) Platform ⇒ true ∷ [])
+asked_by = refl
 
 -- each of no slots has a name
 no_slots : AreAmong slots []

@@ -176,21 +176,10 @@ pub no_tables : (d : DescriptionValue) (b : BoardValue) (boot : ℕ) → AreName
 no_tables d b boot zero = tt
 no_tables d b boot (suc level) = tt
 
-at_suc : (d : DescriptionValue) (b : BoardValue) (boot from level : ℕ) (o : Option Table)
-    → IfSome o (HasNames d b boot (from + suc level))
-    → IfSome o (HasNames d b boot (suc from + level))
-at_suc d b boot from level None is = tt
-at_suc d b boot from level (Some t) is =
-    let same : from + suc level ≡ suc from + level = omega arith in
-    subst (λ (l : ℕ). HasNames d b boot l t) same is
-
-back : (d : DescriptionValue) (b : BoardValue) (boot from level : ℕ) (o : Option Table)
-    → IfSome o (HasNames d b boot (suc from + level))
-    → IfSome o (HasNames d b boot (from + suc level))
-back d b boot from level None is = tt
-back d b boot from level (Some t) is =
-    let same : suc from + level ≡ from + suc level = omega arith in
-    subst (λ (l : ℕ). HasNames d b boot l t) same is
+-- what holds at a level holds at the same one
+at_level : (d : DescriptionValue) (b : BoardValue) (boot k l : ℕ) (o : Option Table) → k ≡ l
+    → IfSome o (HasNames d b boot k) → IfSome o (HasNames d b boot l)
+at_level d b boot k l o same is = subst (λ (n : ℕ). IfSome o (HasNames d b boot n)) same is
 
 -- one more table, with those before it
 more_from : (d : DescriptionValue) (b : BoardValue) (boot from : ℕ) (ts : List Table) (t : Table)
@@ -201,34 +190,22 @@ more_from d b boot from [] t each has zero = has
 more_from d b boot from [] t each has (suc level) = tt
 more_from d b boot from (u ∷ ts) t each has zero = each zero
 more_from d b boot from (u ∷ ts) t each has (suc level) =
-    let same : from + length (u ∷ ts) ≡ suc from + length ts = omega arith in
-    back d b boot from level (slice_get (ts ++ t ∷ []) level)
+    at_level d b boot (suc from + level) (from + suc level) (slice_get (ts ++ t ∷ []) level)
+    (omega arith)
     (more_from d b boot (suc from) ts t
-    (λ l. at_suc d b boot from l (slice_get ts l) (each (suc l)))
-    (subst (λ (l : ℕ). HasNames d b boot l t) same has) level)
-
-from_zero : (d : DescriptionValue) (b : BoardValue) (boot level : ℕ) (o : Option Table)
-    → IfSome o (HasNames d b boot level) → IfSome o (HasNames d b boot (0 + level))
-from_zero d b boot level None is = tt
-from_zero d b boot level (Some t) is =
-    let same : level ≡ 0 + level = omega arith in
-    subst (λ (l : ℕ). HasNames d b boot l t) same is
-
-to_zero : (d : DescriptionValue) (b : BoardValue) (boot level : ℕ) (o : Option Table)
-    → IfSome o (HasNames d b boot (0 + level)) → IfSome o (HasNames d b boot level)
-to_zero d b boot level None is = tt
-to_zero d b boot level (Some t) is =
-    let same : 0 + level ≡ level = omega arith in
-    subst (λ (l : ℕ). HasNames d b boot l t) same is
+    (λ l. at_level d b boot (from + suc l) (suc from + l) (slice_get ts l) (omega arith)
+    (each (suc l)))
+    (at_level d b boot (from + length (u ∷ ts)) (suc from + length ts) (Some t) (omega arith) has)
+    level)
 
 pub one_table_more : (d : DescriptionValue) (b : BoardValue) (boot level : ℕ) (ts : List Table)
     (t : Table) → AreNames d b boot ts → length ts ≡ level → HasNames d b boot level t
     → AreNames d b boot (ts ++ t ∷ [])
 one_table_more d b boot level ts t each long has k =
-    let same : level ≡ 0 + length ts = omega (arith, long) in
-    to_zero d b boot k (slice_get (ts ++ t ∷ []) k)
-    (more_from d b boot 0 ts t (λ l. from_zero d b boot l (slice_get ts l) (each l))
-    (subst (λ (l : ℕ). HasNames d b boot l t) same has) k)
+    at_level d b boot (0 + k) k (slice_get (ts ++ t ∷ []) k) (omega arith)
+    (more_from d b boot 0 ts t
+    (λ l. at_level d b boot l (0 + l) (slice_get ts l) (omega arith) (each l))
+    (at_level d b boot level (0 + length ts) (Some t) (omega (arith, long)) has) k)
 
 -- the table at a level is its
 pub table_at : (d : DescriptionValue) (b : BoardValue) (boot level : ℕ) (ts : List Table)

@@ -4,9 +4,9 @@ use Rattle.std.proofs.Common.{false, cond, List, [], ◌∷◌, length, map, nat
 use Rattle.std.proofs.Common.{refl, sym, ap}
 use Rattle.std.proofs.Common.{◌∙◌, arith}
 use Rattle.std.proofs.lemmas.Bool.{eq-eqb, eqb-true, le-ltb}
-use Rattle.std.proofs.lemmas.List.Folds.{list_all-map, list_any_at}
+use Rattle.std.proofs.lemmas.List.Folds.{list_all-map, list_any_at, list_any_none}
 use Rattle.std.proofs.lemmas.Option.{same_Some}
-use Rattle.std.specs.List.{count_by, list_all, list_any, range_with_len}
+use Rattle.std.specs.List.{count_by, list_all, range_with_len}
 use Rattle.std.specs.Prelude.{slice_index}
 use Rattle.psci_abi.specs.declared.format.Format.{Format}
 use Rattle.psci_abi.specs.declared.format.Format.TheVariants.{Original, Extended}
@@ -121,10 +121,6 @@ once f most x (suc n) a differ inside =
     once_by f most x n a (f a == x) refl differ inside
     (once f most x n (a + 1) differ (omega (arith, inside)))
 
-none_passes : (p : ℕ → Bool) (xs : List ℕ) → ((x : ℕ) → p x ≡ false) → list_any p xs ≡ false
-none_passes p [] fails = refl
-none_passes p (x ∷ xs) fails = rw (fails x) (none_passes p xs fails)
-
 one_number : (i j : ℕ)
     → ◌≡◌ {A = Option Core} (Some (record { number = i })) (Some (record { number = j })) → i ≡ j
 one_number i j e = ap (λ (c : Core). c.number) (same_Some _ _ e)
@@ -137,9 +133,9 @@ own_differ b laws i j low high same =
 
 own_once : (b : BoardValue) → BoardLaws b → has_same (own_words b) ≡ false
 own_once b laws =
-    none_passes (λ x. nat_lt 1 (count_by (λ y. y == x) (own_words b))) (own_words b)
-    (λ x. le-ltb 1 (count_by (λ y. y == x) (own_words b))
-    (once (address b 0) (cores b) x (cores b) 0 (own_differ b laws) (omega arith)))
+    list_any_none (λ x. nat_lt 1 (count_by (λ y. y == x) (own_words b))) (own_words b)
+    (λ k d inside. le-ltb 1 _
+    (once (address b 0) (cores b) _ (cores b) 0 (own_differ b laws) (omega arith)))
 
 -- The whole -------------------------------------------------------------------------------------
 

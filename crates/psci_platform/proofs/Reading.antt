@@ -5,7 +5,7 @@ use Rattle.std.proofs.lemmas.Option.{none-some, same_Some}
 use Rattle.psci_abi.specs.declared.format.Format.{Format}
 use Rattle.psci_fw_spec.specs.declared.mode.SuspendMode.{SuspendMode}
 use Rattle.psci_fw_spec.specs.declared.mode.SuspendMode.TheVariants.{Platform, OsInitiated}
-use Rattle.std.specs.Prelude.{IfSome, Result, Ok, Err, is_ok}
+use Rattle.std.specs.Prelude.{IfSome, Result, Ok, Err, is_ok, option_map}
 use Rattle.std.specs.Result.{result_unwrap_or}
 use Rattle.psci_state.specs.Ask.{deepest_of}
 use Rattle.psci_state.specs.declared.fault.BadState.{BadState}
@@ -19,45 +19,6 @@ use Rattle.psci_platform.specs.States.{states_if, states_of, word_for}
 use Rattle.psci_platform.specs.declared.readings.Reading.{Reading}
 use Rattle.psci_platform.specs.declared.row.Row.{Row}
 
--- the reading that is found, by the row that reads the word
-abbrev found : DescriptionValue → Format → ℕ → Option Row → Option Reading
-found d format height None = None
-found d format height (Some row) = Some (reading_of d format height row)
-
-step : (d : DescriptionValue) (format : Format) (height : ℕ) (t : Bool) (row : Row) (o : Option Row)
-    → (if t then Some (reading_of d format height row) else found d format height o)
-    ≡ found d format height (if t then Some row else o)
-step d format height true row o = refl
-step d format height false row o = refl
-
-by_row : (d : DescriptionValue) (format : Format) (height : ℕ) (word : ℕ) (rows : List Row)
-    → find (λ (r : Reading). reads word r.row) (map (reading_of d format height) rows)
-    ≡ found d format height (find (reads word) rows)
-by_row d format height word [] = refl
-by_row d format height word (row ∷ rows) =
-    ap (λ (o : Option Reading). if reads word row then Some (reading_of d format height row) else o)
-    (by_row d format height word rows)
-    ∙ step d format height (reads word row) row (find (reads word) rows)
-
-same_mode : (d : DescriptionValue) (format : Format) (height : ℕ) (mode : SuspendMode) (row : Row)
-    → can_ask_by (reading_of d format height row) mode ≡ can_ask d mode row.states
-same_mode d format height OsInitiated row = refl
-same_mode d format height Platform row = refl
-
--- a reading that is found is that of the word's row
-read : (d : DescriptionValue) (format : Format) (height : ℕ) (o : Option Row) (r : Reading)
-    → found d format height o ≡ Some r → o ≡ Some r.row × (r ≡ reading_of d format height r.row)
-read d format height None r e = absurd (none-some r e)
-read d format height (Some row) r e =
-    let same = same_Some (reading_of d format height row) r e in
-    let own : row ≡ r.row = ap (λ (x : Reading). x.row) same in
-    (ap (λ (x : Row). Some x) own, sym same ∙ ap (reading_of d format height) own)
-
-none_read : (d : DescriptionValue) (format : Format) (height : ℕ) (o : Option Row)
-    → found d format height o ≡ None → o ≡ None
-none_read d format height None e = refl
-none_read d format height (Some row) e = absurd (none-some (reading_of d format height row) (sym e))
-
 -- what is kept of the rows is theirs
 pub rows_of : (d : DescriptionValue) (b : BoardValue) (boot : ℕ) (o : Option (Bor Ready))
     (r : Bor Ready) (readings : List Reading) → IfSome o (λ r. IsReady d b boot r.now)
@@ -68,50 +29,6 @@ rows_of d b boot o r readings is e same =
     subst (λ (o : Option (Bor Ready)). IfSome o (λ r. IsReady d b boot r.now)) e is in
     same ∙ here.rows
 
--- a reading of the rows that is found is that of the word's row
-row_read : (d : DescriptionValue) (format : Format) (height : ℕ) (word : ℕ)
-    (readings : List Reading) (r : Reading) → readings ≡ map (reading_of d format height) d.rows
-    → find (λ (r : Reading). reads word r.row) readings ≡ Some r
-    → row_of d word ≡ Some r.row × (r ≡ reading_of d format height r.row)
-row_read d format height word readings r are e =
-    read d format height (row_of d word) r
-    (sym (by_row d format height word d.rows)
-    ∙ sym (ap (find (λ (x : Reading). reads word x.row)) are) ∙ e)
-
--- so the word has the row's states, or none where they cannot be asked for
-pub states_read : (d : DescriptionValue) (format : Format) (height : ℕ) (mode : SuspendMode)
-    (word : ℕ) (readings : List Reading) (r : Reading) (t : Bool)
-    → readings ≡ map (reading_of d format height) d.rows
-    → find (λ (r : Reading). reads word r.row) readings ≡ Some r → can_ask_by r mode ≡ t
-    → (if t then Some r.row.states else None) ≡ states_of d mode word
-states_read d format height mode word readings r t are e can =
-    let row = row_read d format height word readings r are e in
-    let may : can_ask d mode r.row.states ≡ t =
-    sym (same_mode d format height mode r.row) ∙ ap (λ (x : Reading). can_ask_by x mode)
-    (sym row.1) ∙ can
-    in
-    sym (ap (states_if d mode) row.0 ∙ ap (λ (t : Bool). if t then Some r.row.states else None) may)
-
-pub word_found : (d : DescriptionValue) (format : Format) (height : ℕ) (mode : SuspendMode)
-    (word : ℕ)
-    (readings : List Reading) (r : Reading) → readings ≡ map (reading_of d format height) d.rows
-    → find (λ (r : Reading). reads word r.row) readings ≡ Some r → can_ask_by r mode ≡ true
-    → r.word ≡ word_for d format (states_of d mode word)
-word_found d format height mode word readings r are e can =
-    ap (λ (x : Reading). x.word) (row_read d format height word readings r are e).1
-    ∙ ap (word_for d format) (states_read d format height mode word readings r true are e can)
-
-pub states_missed : (d : DescriptionValue) (format : Format) (height : ℕ) (mode : SuspendMode)
-    (word : ℕ)
-    (readings : List Reading) → readings ≡ map (reading_of d format height) d.rows
-    → find (λ (r : Reading). reads word r.row) readings ≡ None
-    → None ≡ states_of d mode word
-states_missed d format height mode word readings are e =
-    let all = ap (find (λ (x : Reading). reads word x.row)) are in
-    let none = none_read d format height (row_of d word)
-    (sym (by_row d format height word d.rows) ∙ sym all ∙ e) in
-    sym (ap (states_if d mode) none)
-
 pub no_word : (d : DescriptionValue) (format : Format) (mode : SuspendMode) (word : ℕ)
     → None ≡ states_of d mode word → no_state ≡ word_for d format (states_of d mode word)
 no_word d format mode word none = ap (word_for d format) none
@@ -121,15 +38,80 @@ ok_is : (o : Result (List ℕ) BadState) → is_ok o ≡ true
 ok_is (Ok ask) e = refl
 ok_is (Err bad) e = absurd (cc)
 
--- what is kept of a row's word is what it asks
-pub ask_found : (d : DescriptionValue) (format : Format) (height word : ℕ)
-    (readings : List Reading) (r : Reading)
-    → readings ≡ map (reading_of d format height) d.rows
-    → find (λ (r : Reading). reads word r.row) readings ≡ Some r → r.is_ask ≡ true
-    → ask_of format height r.word ≡ Ok r.ask
-ask_found d format height word readings r are e asks =
-    let row = row_read d format height word readings r are e in
-    let own = word_for d format (Some r.row.states) in
-    ap (λ (x : Reading). ask_of format height x.word) row.1
-    ∙ ok_is (ask_of format height own) (sym (ap (λ (x : Reading). x.is_ask) row.1) ∙ asks)
-    ∙ ap (λ (x : List ℕ). Ok x) (sym (ap (λ (x : Reading). x.ask) row.1))
+module _ (d : DescriptionValue) (format : Format) (height : ℕ) where
+  abbrev reading : Row → Reading
+  reading = reading_of d format height
+
+  step : (t : Bool) (row : Row) (o : Option Row)
+      → (if t then Some (reading row) else option_map reading o)
+      ≡ option_map reading (if t then Some row else o)
+  step true row o = refl
+  step false row o = refl
+
+  -- the reading that is found is that of the row that reads the word
+  by_row : (word : ℕ) (rows : List Row)
+      → find (λ (r : Reading). reads word r.row) (map reading rows)
+      ≡ option_map reading (find (reads word) rows)
+  by_row word [] = refl
+  by_row word (row ∷ rows) =
+      ap (λ (o : Option Reading). if reads word row then Some (reading row) else o)
+      (by_row word rows)
+      ∙ step (reads word row) row (find (reads word) rows)
+
+  same_mode : (mode : SuspendMode) (row : Row)
+      → can_ask_by (reading row) mode ≡ can_ask d mode row.states
+  same_mode OsInitiated row = refl
+  same_mode Platform row = refl
+
+  read : (o : Option Row) (r : Reading) → option_map reading o ≡ Some r
+      → o ≡ Some r.row × (r ≡ reading r.row)
+  read None r e = absurd (none-some r e)
+  read (Some row) r e =
+      let same = same_Some (reading row) r e in
+      let own : row ≡ r.row = ap (λ (x : Reading). x.row) same in
+      (ap (λ (x : Row). Some x) own, sym same ∙ ap reading own)
+
+  none_read : (o : Option Row) → option_map reading o ≡ None → o ≡ None
+  none_read None e = refl
+  none_read (Some row) e = absurd (none-some (reading row) (sym e))
+
+  -- readings of the rows, among which one is looked for that reads a word
+  module _ (word : ℕ) (readings : List Reading) (are : readings ≡ map reading d.rows) where
+    looked_for : find (λ (r : Reading). reads word r.row) readings
+        ≡ option_map reading (row_of d word)
+    looked_for = ap (find (λ (r : Reading). reads word r.row)) are ∙ by_row word d.rows
+
+    pub states_missed : find (λ (r : Reading). reads word r.row) readings ≡ None
+        → (mode : SuspendMode) → None ≡ states_of d mode word
+    states_missed e mode =
+        sym (ap (states_if d mode) (none_read (row_of d word) (sym looked_for ∙ e)))
+
+    -- one that is found is that of the word's row
+    module _ (r : Reading) (e : find (λ (r : Reading). reads word r.row) readings ≡ Some r) where
+      row_read : row_of d word ≡ Some r.row × (r ≡ reading r.row)
+      row_read = read (row_of d word) r (sym looked_for ∙ e)
+
+      -- so the word has the row's states, or none where they cannot be asked for
+      pub states_read : (mode : SuspendMode) (t : Bool) → can_ask_by r mode ≡ t
+          → (if t then Some r.row.states else None) ≡ states_of d mode word
+      states_read mode t can =
+          let row = row_read in
+          let may : can_ask d mode r.row.states ≡ t =
+          sym (same_mode mode r.row) ∙ ap (λ (x : Reading). can_ask_by x mode) (sym row.1) ∙ can in
+          sym (ap (states_if d mode) row.0
+          ∙ ap (λ (t : Bool). if t then Some r.row.states else None) may)
+
+      pub word_found : (mode : SuspendMode) → can_ask_by r mode ≡ true
+          → r.word ≡ word_for d format (states_of d mode word)
+      word_found mode can =
+          let row = row_read in
+          ap (λ (x : Reading). x.word) row.1 ∙ ap (word_for d format) (states_read mode true can)
+
+      -- what is kept of a row's word is what it asks
+      pub ask_found : r.is_ask ≡ true → ask_of format height r.word ≡ Ok r.ask
+      ask_found asks =
+          let row = row_read in
+          let own = word_for d format (Some r.row.states) in
+          ap (λ (x : Reading). ask_of format height x.word) row.1
+          ∙ ok_is (ask_of format height own) (sym (ap (λ (x : Reading). x.is_ask) row.1) ∙ asks)
+          ∙ ap (λ (x : List ℕ). Ok x) (sym (ap (λ (x : Reading). x.ask) row.1))

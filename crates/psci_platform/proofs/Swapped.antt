@@ -3,7 +3,7 @@ use Rattle.std.proofs.Common.{◌≡◌, ℕ, zero, suc, ◌+◌, ◌-◌, ◌==
 use Rattle.std.proofs.Common.{Bool, true, false, List, [], ◌∷◌, length, drop, sum, refl, sym, ap}
 use Rattle.std.proofs.Common.{◌∙◌, arith, inl, inr, None}
 use Rattle.std.specs.List.{list_all, range_with_len}
-use Rattle.std.proofs.lemmas.Bool.{cases_lt, eqb-true, le-ltb, lt-ltb, ltb-true}
+use Rattle.std.proofs.lemmas.Bool.{and_parts, cases_lt, eqb-true, le-ltb, lt-ltb, ltb-true}
 use Rattle.psci_board.specs.Board.{BoardValue, IsBoard, IsTree, cores, group_of, height, nodes}
 use Rattle.psci_board.specs.Board.{parent, place_above, size_below, up}
 use Rattle.psci_board.specs.declared.node.Node.{Node}
@@ -15,12 +15,10 @@ use Rattle.psci_platform.specs.Swaps.{goes_along, is_swapped, is_symmetric, move
 -- Tests -----------------------------------------------------------------------------------------
 
 pub left : (s t : Bool) → (s && t) ≡ true → s ≡ true
-left true t e = refl
-left false t e = absurd (cc)
+left s t e = (and_parts s t e).0
 
 pub right : (s t : Bool) → (s && t) ≡ true → t ≡ true
-right true t e = e
-right false t e = absurd (cc)
+right s t e = (and_parts s t e).1
 
 none_right : (s t : Bool) → t ≡ false → (s && t) ≡ false
 none_right true t e = e

@@ -1,9 +1,9 @@
 -- Of which tally records are that send a message or enter with context 0; which answers are the
 -- same; and that every sort of question has its own place in the table.
-use Rattle.std.proofs.Common.{◌≡◌, true, false, List, [], ◌∷◌, Bool, map, refl}
+use Rattle.std.specs.Prelude.{filter}
+use Rattle.std.proofs.Common.{◌≡◌, true, false, List, [], ◌∷◌, map, refl}
 use Rattle.std.specs.Prelude.{negsuc, pos, ◌++◌}
 use Rattle.std.specs.List.{range_with_len}
-use Rattle.psci_world_spec.specs.psci_fw_spec.declared.outcome.Act.TheVariants as acts
 use Rattle.psci_world_spec.specs.psci_messages.declared.kind.Kind.TheVariants as kinds
 use Rattle.psci_world_spec.proofs.Scripts as scripts
 use Rattle.psci_world_spec.specs.declared.event.Event.TheVariants as events
@@ -14,32 +14,21 @@ use Rattle.psci_storm.specs.declared.answer.Answer.{Answer}
 use Rattle.psci_storm.specs.declared.answer.Answer.TheVariants as answers
 use Rattle.psci_storm.specs.Counts.{count_of}
 use Rattle.psci_storm.specs.Tallies.{answer_of, asked_index, asked_of, is_answer, tally_of}
+use Rattle.psci_world_spec.proofs.Tables.{◌⇒◌, Gives}
 
 -- What is said, whatever message is sent with it ----------------------------------------------
 
 -- CPU_ON of core 3 in life 2
-pub returns_and_sends : answer_of (scripts.returns (pos 0) (scripts.sends 4 kinds.Start 3 2 5 []))
-    ≡ answers.Return (pos 0)
-returns_and_sends = refl
-
--- CPU_OFF by core 3 in life 2
-pub stops_and_sends : answer_of (scripts.stops (scripts.sends 4 kinds.Down 3 2 5
-    (scripts.part 0 3 5 ∷ []))) ≡ answers.Stop
-stops_and_sends = refl
-
--- the boot core enters with context 0, at any address
-pub enters_without_context : answer_of (scripts.enters 0x40000000 0) ≡ answers.Enter
-enters_without_context = refl
-
-pub enters_at_0 : answer_of (scripts.enters 0 7) ≡ answers.Enter
-enters_at_0 = refl
-
-pub nothing_applied : answer_of (scripts.acked 4 kinds.Down 3 2 5 0 true) ≡ answers.Acked 0 true
-nothing_applied = refl
-
-pub off_carried_out : answer_of (scripts.acked 0 kinds.Off 1 2 5 1 false)
-    ≡ answers.Acked 1 false
-off_carried_out = refl
+pub answers_of : Gives answer_of
+    (scripts.returns (pos 0) (scripts.sends 4 kinds.Start 3 2 5 []) ⇒ answers.Return (pos 0)
+    -- CPU_OFF by core 3 in life 2
+    ∷ scripts.stops (scripts.sends 4 kinds.Down 3 2 5 (scripts.part 0 3 5 ∷ [])) ⇒ answers.Stop
+    -- the boot core enters with context 0, at any address
+    ∷ scripts.enters 0x40000000 0 ⇒ answers.Enter
+    ∷ scripts.enters 0 7 ⇒ answers.Enter
+    ∷ scripts.acked 4 kinds.Down 3 2 5 0 true ⇒ answers.Acked 0 true
+    ∷ scripts.acked 0 kinds.Off 1 2 5 1 false ⇒ answers.Acked 1 false ∷ [])
+answers_of = refl
 
 -- a record that is tallied: a call of core 3, and a wake-up of the last core
 pub last_core_calls : asked_of
@@ -60,35 +49,10 @@ each = answers.Return (pos 0) ∷ answers.Return (pos 1) ∷ answers.Return (neg
     ∷ answers.Acked 1 true ∷ answers.Acked 1 false ∷ answers.Used ∷ answers.Old
     ∷ answers.Ignored ∷ answers.Absent ∷ []
 
--- each is the same as itself
-pub each_is_itself : map (λ (a : Answer). is_answer a a) each
-    ≡ true ∷ true ∷ true ∷ true ∷ true ∷ true ∷ true ∷ true ∷ true ∷ true ∷ true ∷ true
-    ∷ true ∷ true ∷ []
+-- each is the same as itself, and as none of the others
+pub each_is_itself : map (λ (a : Answer). filter (λ (b : Answer). is_answer a b) each) each
+    ≡ map (λ (a : Answer). a ∷ []) each
 each_is_itself = refl
-
--- and as none of the others
-abbrev those_like : Answer → List Bool
-those_like a = map (λ (b : Answer). is_answer a b) each
-
-pub like_success : those_like (answers.Return (pos 0))
-    ≡ true ∷ false ∷ false ∷ false ∷ false ∷ false ∷ false ∷ false ∷ false ∷ false ∷ false
-    ∷ false ∷ false ∷ false ∷ []
-like_success = refl
-
-pub like_stop : those_like answers.Stop
-    ≡ false ∷ false ∷ false ∷ true ∷ false ∷ false ∷ false ∷ false ∷ false ∷ false ∷ false
-    ∷ false ∷ false ∷ false ∷ []
-like_stop = refl
-
-pub like_applied : those_like (answers.Acked 1 true)
-    ≡ false ∷ false ∷ false ∷ false ∷ false ∷ false ∷ false ∷ false ∷ true ∷ false ∷ false
-    ∷ false ∷ false ∷ false ∷ []
-like_applied = refl
-
-pub like_old : those_like answers.Old
-    ≡ false ∷ false ∷ false ∷ false ∷ false ∷ false ∷ false ∷ false ∷ false ∷ false ∷ false
-    ∷ true ∷ false ∷ false ∷ []
-like_old = refl
 
 -- The sorts of questions --------------------------------------------------------------------------
 

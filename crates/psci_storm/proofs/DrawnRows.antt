@@ -1,4 +1,6 @@
 -- Worked examples of events that were drawn, on a board of one core.
+use Rattle.std.proofs.lemmas.Bool.Decides.{nat_tests}
+use Rattle.std.proofs.Common.{◌==◌, false}
 use Rattle.std.proofs.Common.{◌≡◌, ◌∙◌, ◌+◌, ◌++◌, ℕ, List, [], ◌∷◌}
 use Rattle.std.proofs.Common.{length, refl, ap, sym, subst, arith, length-append}
 use Rattle.psci_storm.specs.Storm.{HappensBy, IsDrawn}
@@ -61,18 +63,18 @@ no_events past (event ∷ events) many = absurd (omega arith)
 pub none_drawn : (before after : List Record) → IsDrawn one_core before 0 after → after ≡ before
 none_drawn before after d = d.run ∙ no_events before d.drawn d.many
 
--- one event was drawn, and none happened; two were, and one happened
-none_of_one : IsDrawn one_core [] 1 [] → ⊥
-none_of_one d =
-    let many : ◌≡◌ {A = ℕ} 0 1 =
-    ap length d.run ∙ run_length [] d.drawn ∙ ap (λ (n : ℕ). n + 0) d.many in
-    absurd (omega (arith, many))
+-- another number of events than happened
+not_drawn : (count : ℕ) (past : List Record) → length past == count ≡ false
+    → IsDrawn one_core [] count past → ⊥
+not_drawn count past other d =
+    let many = drawn_length [] past count d in absurd (grind (arith, nat_tests))
 
-one_of_two : IsDrawn one_core [] 2 (wrong ∷ []) → ⊥
-one_of_two d =
-    let many : ◌≡◌ {A = ℕ} 1 2 =
-    ap length d.run ∙ run_length [] d.drawn ∙ ap (λ (n : ℕ). n + 0) d.many in
-    absurd (omega (arith, many))
+-- one event was drawn, and none happened; two were, and one happened; three or one, and two
+-- happened
+miscounted : (IsDrawn one_core [] 1 [] → ⊥) × (IsDrawn one_core [] 2 (wrong ∷ []) → ⊥)
+    × (IsDrawn one_core [] 3 (after asleep) → ⊥) × (IsDrawn one_core [] 1 (after asleep) → ⊥)
+unfolding run_from
+miscounted = (not_drawn 1 [] refl, not_drawn 2 _ refl, not_drawn 3 _ refl, not_drawn 1 _ refl)
 
 -- Events that happen ------------------------------------------------------------------------------
 
@@ -129,14 +131,6 @@ two_drawn = record { drawn = asleep; many = refl; run = refl }
 one_more_drawn : IsDrawn one_core (after (Enter 0 ∷ [])) 1 (after asleep)
 unfolding run_from
 one_more_drawn = record { drawn = suspend ∷ []; many = refl; run = refl }
-
-too_few_drawn : IsDrawn one_core [] 3 (after asleep) → ⊥
-unfolding run_from
-too_few_drawn h = let many = drawn_length [] (after asleep) 3 h in absurd (omega arith)
-
-too_many_drawn : IsDrawn one_core [] 1 (after asleep) → ⊥
-unfolding run_from
-too_many_drawn h = let many = drawn_length [] (after asleep) 1 h in absurd (omega arith)
 
 wrong_drawn : IsDrawn one_core [] 1 (wrong ∷ []) → ⊥
 wrong_drawn h = wrong_happens (record { events = h.drawn; run = h.run })

@@ -8,7 +8,6 @@ use Rattle.psci_world.specs.declared.settling.Settled.TheVariants.{Halting, Quie
 use Rattle.psci_world.specs.psci_world_spec.declared.event.Event.{Event}
 use Rattle.psci_world.specs.psci_world_spec.declared.event.Event.TheVariants.{Enter}
 use Rattle.psci_world.specs.psci_world_spec.declared.said.Record.{Record}
-use Rattle.psci_world.specs.psci_world_spec.Legal.{run_from}
 use Rattle.psci_world.proofs.world_spec.Runs.{stays_legal}
 use Rattle.psci_world.proofs.world_spec.Scripts.{one_core}
 use Rattle.psci_storm.proofs.BlownRows.{calm, halts, more_drawn, rest_said_to_halt, rested}
@@ -59,21 +58,17 @@ storm_that_halts safe = record {
 }
 
 -- other numbers: the events without those of settling, one event too many; no message, one too many
-drawn_counted : Storms 2 rested (counts 2 1 (Quiet 1)) → ⊥
-unfolding run_from
-drawn_counted h = let many = h.events in absurd (omega arith)
-
-one_too_many : Storms 0 (Enter 0 ∷ []) (counts 2 0 (Quiet 0)) → ⊥
-unfolding run_from
-one_too_many h = let many = h.events in absurd (omega arith)
-
-no_message_counted : Storms 2 rested (counts 4 0 (Quiet 1)) → ⊥
+miscounted : (Storms 2 rested (counts 2 1 (Quiet 1)) → ⊥)
+    × (Storms 0 (Enter 0 ∷ []) (counts 2 0 (Quiet 0)) → ⊥)
+    × (Storms 2 rested (counts 4 0 (Quiet 1)) → ⊥)
+    × (Storms 2 rested (counts 4 2 (Quiet 1)) → ⊥)
 unfolding computing
-no_message_counted h = let many = h.sent in absurd (omega arith)
-
-acknowledgement_counted : Storms 2 rested (counts 4 2 (Quiet 1)) → ⊥
-unfolding computing
-acknowledgement_counted h = let many = h.sent in absurd (omega arith)
+miscounted = (
+  λ h. let many = h.events in absurd (omega arith),
+  λ h. let many = h.events in absurd (omega arith),
+  λ h. let many = h.sent in absurd (omega arith),
+  λ h. let many = h.sent in absurd (omega arith),
+)
 
 -- what is drawn and how the world settles is that of the storm
 other_count : Storms 2 (Enter 0 ∷ []) (counts 1 0 (Quiet 0)) → ⊥

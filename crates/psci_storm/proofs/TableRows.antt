@@ -113,21 +113,6 @@ tallies_spelled = refl
 -- The table has a row for each thing that is asked.
 pub has_row : (a : Asked) → list_any (λ t. asked_index t.asked == asked_index a) TALLIES ≡ true
 has_row (asked.Call functions.Version) = refl
-has_row (asked.Call functions.CpuSuspend) = refl
-has_row (asked.Call functions.CpuOff) = refl
-has_row (asked.Call functions.CpuOn) = refl
-has_row (asked.Call functions.AffinityInfo) = refl
-has_row (asked.Call functions.MigrateInfoType) = refl
-has_row (asked.Call functions.SystemOff) = refl
-has_row (asked.Call functions.SystemReset) = refl
-has_row (asked.Call functions.Features) = refl
-has_row (asked.Call functions.NodeHwState) = refl
-has_row (asked.Call functions.SystemSuspend) = refl
-has_row (asked.Call functions.SetSuspendMode) = refl
-has_row (asked.Call functions.SystemReset2) = refl
+has_row (asked.Call f) = refl
 has_row asked.Unknown = refl
-has_row asked.Enter = refl
-has_row asked.Wake = refl
-has_row asked.Reset = refl
-has_row asked.Deliver = refl
-has_row asked.Take = refl
+has_row a = refl

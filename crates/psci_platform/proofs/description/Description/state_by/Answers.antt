@@ -1,66 +1,62 @@
 -- What was found out of the row that reads a word says what the word is.
-use Rattle.std.proofs.Common.{false, sym, true}
+use Rattle.std.proofs.Common.{◌≡◌, Bool, None, Some, false, find, if◌then◌else◌, map, sym, true}
 use Rattle.psci_board.specs.Board.{height}
+use Rattle.psci_platform.specs.States.{can_ask_by, reading_of, reads, states_of}
+use Rattle.psci_platform.specs.declared.readings.Reading.{Reading}
 use Rattle.psci_platform.proofs.Reading.{no_word, rows_of, states_missed, states_read}
 use Rattle.psci_platform.proofs.Reading.{word_found}
 use Rattle.psci_platform.proofs.description.Description.state_by.Goals as goal
+use Rattle.psci_platform.proofs.description.Description.state_by.Goals.{After-deref}
+
+kept : (c : After-deref) → c.deref.result.now
+    ≡ map (reading_of c.args.self.now c.args.board.now.format (height c.args.board.now))
+    c.args.self.now.rows
+kept c = rows_of c.args.self.now c.args.board.now c.args.boot.number c.args.ready c.in-Some.ready _
+    c.requires.ready c.in-Some.is c.deref.ensures.value
+
+read : (c : After-deref) (r : Reading)
+    → find (λ (r : Reading). reads c.args.word r.row) c.deref.result.now ≡ Some r
+    → (t : Bool) → can_ask_by r c.args.mode ≡ t → (if t then Some r.row.states else None)
+    ≡ states_of c.args.self.now c.args.mode c.args.word
+read c r e t can =
+    states_read c.args.self.now c.args.board.now.format (height c.args.board.now) c.args.word _
+    (kept c) r e c.args.mode t can
+
+missed : (c : After-deref)
+    → find (λ (r : Reading). reads c.args.word r.row) c.deref.result.now ≡ None
+    → None ≡ states_of c.args.self.now c.args.mode c.args.word
+missed c e =
+    states_missed c.args.self.now c.args.board.now.format (height c.args.board.now) c.args.word _
+    (kept c) e c.args.mode
 
 pub returns-in-Some-reader_in-clause-word : goal.returns-in-Some-reader_in-clause-word
 returns-in-Some-reader_in-clause-word c =
-    let d = c.args.self.now in
-    let b = c.args.board.now in
-    let are = rows_of d b c.args.boot.number c.args.ready c.in-Some.ready c.deref.result.now
-    c.requires.ready c.in-Some.is c.deref.ensures.value in
-    word_found d b.format (height b) c.args.mode c.args.word c.deref.result.now
-    c.in-Some-reader_in.reading.now are (sym c.in-Some-reader_in.ensures)
+    word_found c.args.self.now c.args.board.now.format (height c.args.board.now) c.args.word _
+    (kept (goal.at.returns-in-Some-reader_in-clause-word c).After-deref)
+    c.in-Some-reader_in.reading.now (sym c.in-Some-reader_in.ensures) c.args.mode
     (sym c.if-can_ask.ensures)
 
 pub returns-in-Some-reader_in-clause-states : goal.returns-in-Some-reader_in-clause-states
 returns-in-Some-reader_in-clause-states c =
-    let d = c.args.self.now in
-    let b = c.args.board.now in
-    let are = rows_of d b c.args.boot.number c.args.ready c.in-Some.ready c.deref.result.now
-    c.requires.ready c.in-Some.is c.deref.ensures.value in
-    states_read d b.format (height b) c.args.mode c.args.word c.deref.result.now
-    c.in-Some-reader_in.reading.now true are (sym c.in-Some-reader_in.ensures)
-    (sym c.if-can_ask.ensures)
+    read (goal.at.returns-in-Some-reader_in-clause-states c).After-deref _
+    (sym c.in-Some-reader_in.ensures) true (sym c.if-can_ask.ensures)
 
 pub returns-in-Some-2-clause-word : goal.returns-in-Some-2-clause-word
 returns-in-Some-2-clause-word c =
-    let d = c.args.self.now in
-    let b = c.args.board.now in
-    let are = rows_of d b c.args.boot.number c.args.ready c.in-Some.ready c.deref.result.now
-    c.requires.ready c.in-Some.is c.deref.ensures.value in
-    no_word d b.format c.args.mode c.args.word
-    (states_read d b.format (height b) c.args.mode c.args.word c.deref.result.now
-    c.in-Some-reader_in.reading.now false are (sym c.in-Some-reader_in.ensures)
-    (sym c.if-can_ask.ensures))
+    no_word c.args.self.now c.args.board.now.format c.args.mode c.args.word
+    (read (goal.at.returns-in-Some-2-clause-word c).After-deref _
+    (sym c.in-Some-reader_in.ensures) false (sym c.if-can_ask.ensures))
 
 pub returns-in-Some-2-clause-states : goal.returns-in-Some-2-clause-states
 returns-in-Some-2-clause-states c =
-    let d = c.args.self.now in
-    let b = c.args.board.now in
-    let are = rows_of d b c.args.boot.number c.args.ready c.in-Some.ready c.deref.result.now
-    c.requires.ready c.in-Some.is c.deref.ensures.value in
-    states_read d b.format (height b) c.args.mode c.args.word c.deref.result.now
-    c.in-Some-reader_in.reading.now false are (sym c.in-Some-reader_in.ensures)
-    (sym c.if-can_ask.ensures)
+    read (goal.at.returns-in-Some-2-clause-states c).After-deref _
+    (sym c.in-Some-reader_in.ensures) false (sym c.if-can_ask.ensures)
 
 pub returns-in-None-clause-word : goal.returns-in-None-clause-word
 returns-in-None-clause-word c =
-    let d = c.args.self.now in
-    let b = c.args.board.now in
-    let are = rows_of d b c.args.boot.number c.args.ready c.in-Some.ready c.deref.result.now
-    c.requires.ready c.in-Some.is c.deref.ensures.value in
-    no_word d b.format c.args.mode c.args.word
-    (states_missed d b.format (height b) c.args.mode c.args.word c.deref.result.now are
-    (sym c.in-None.ensures))
+    no_word c.args.self.now c.args.board.now.format c.args.mode c.args.word
+    (missed (goal.at.returns-in-None-clause-word c).After-deref (sym c.in-None.ensures))
 
 pub returns-in-None-clause-states : goal.returns-in-None-clause-states
 returns-in-None-clause-states c =
-    let d = c.args.self.now in
-    let b = c.args.board.now in
-    let are = rows_of d b c.args.boot.number c.args.ready c.in-Some.ready c.deref.result.now
-    c.requires.ready c.in-Some.is c.deref.ensures.value in
-    states_missed d b.format (height b) c.args.mode c.args.word c.deref.result.now are
-    (sym c.in-None.ensures)
+    missed (goal.at.returns-in-None-clause-states c).After-deref (sym c.in-None.ensures)
