@@ -22,7 +22,11 @@ loop-level-preserved c =
     omega (arith, c.loop-level-test.true, c.height-level-end.ensures.height) in
     let place : c.loop-level.place ≡ q = c.loop-level.invariant.place in
     let inside : c.loop-level.place < size_below (drop l levels) =
-    omega (arith, place, place_inside levels l core c.requires.tree c.requires.core (omega arith)) in
+    omega (
+      arith,
+      place,
+      place_inside levels l core c.requires.tree c.requires.core (omega arith),
+    ) in
     let number : c.unwrap_or.result ≡ index_in (get_or levels l []) q =
     c.unwrap_or.ensures
     ∙ ap (λ o. unwrap_or o 0) (c.child_number.ensures ∙ number_some b n fits inside)
