@@ -1,7 +1,7 @@
 -- Worked examples: the answer text of a run, and what a replay prints by its end; and for each
 -- clause something that breaks it.
 use Rattle.std.proofs.Common.{◌≡◌, ℕ, zero, suc, List, [], ◌∷◌, ◌++◌, length}
-use Rattle.std.proofs.Common.{Option, None, Some, Ok, Err, Result, refl, ap, arith}
+use Rattle.std.proofs.Common.{Option, None, Some, Ok, Err, Result, refl, ap}
 use Rattle.std.specs.Prelude.{codes}
 use Rattle.std.specs.Fmt.{digits}
 use Rattle.psci_script.specs.psci_board.Board.{BoardValue}
@@ -17,9 +17,11 @@ use Rattle.psci_script.specs.declared.fault.ScriptFault.TheVariants as faults
 use Rattle.psci_script.specs.Script.{transcript}
 use Rattle.psci_machine.specs.Safe.{AlwaysSafe}
 use Rattle.psci_script.specs.ScriptRun.{ScriptRun, run_of}
-use Rattle.psci_script.proofs.EndRows.{answering, board, entered, text}
+use Rattle.psci_script.proofs.EndRows.{entered}
+use Rattle.psci_script.proofs.Scripts.{answering, board, text}
 use Rattle.psci_answers.specs.ScriptRun.{AllSafe, IsSafeText, Prints, SaysRun, WritesPart}
 use Rattle.psci_answers.specs.ScriptRun.{WritesRun, text_of}
+use Rattle.std.proofs.lemmas.Bool.{eqb-false}
 
 -- the first byte, or 0 of none
 abbrev first_or_0 : List ℕ → ℕ
@@ -42,7 +44,7 @@ text_of_three = refl
 other_text : (b : BoardValue)
     → IsSafeText [] (record { board = b; past = entered 2 0x4 ∷ [] }) → ⊥
 unfolding digits
-other_text b is = let e : ◌≡◌ {A = ℕ} 0 16 = ap length is.text in omega arith
+other_text b is = eqb-false 0 16 refl (ap length is.text)
 
 illegal_run : (answers : List ℕ) (run : ScriptRun) → ¬ (IsLegalPast run.board run.past)
     → IsSafeText answers run → ⊥
@@ -57,7 +59,7 @@ unanswered : SaysRun [] None
 unanswered = refl
 
 answered_without_a_board : SaysRun (codes "1 absent\n") None → ⊥
-answered_without_a_board h = let e : ◌≡◌ {A = ℕ} 9 0 = ap length h in omega arith
+answered_without_a_board h = eqb-false 9 0 refl (ap length h)
 
 answered_otherwise : (answers : List ℕ) (run : ScriptRun) → ¬ (answers ≡ text_of run.past)
     → SaysRun answers (Some run) → ⊥
@@ -82,11 +84,11 @@ whole_text safe = (safe script, refl)
 
 text_before : WritesRun script (Some (55 ∷ [])) (Some (answers ++ 55 ∷ [])) → ⊥
 unfolding answering
-text_before h = let e : ◌≡◌ {A = ℕ} 49 55 = ap first_or_0 h.1 in omega arith
+text_before h = eqb-false 49 55 refl (ap first_or_0 h.1)
 
 text_lacks : WritesRun script (Some (55 ∷ [])) (Some (55 ∷ [])) → ⊥
 unfolding answering
-text_lacks h = let e : ◌≡◌ {A = ℕ} 1 19 = ap length h.1 in omega arith
+text_lacks h = eqb-false 1 19 refl (ap length h.1)
 
 -- it is that of a run
 text_of_no_run : (bytes : List ℕ) (before after : Option (List ℕ))
@@ -107,30 +109,22 @@ no_part safe = (safe script, 0, refl)
 
 back_part : WritesPart script (Some []) (Some (codes "2 absent\n")) → ⊥
 unfolding answering
-back_part (says, zero, to) = let e : ◌≡◌ {A = ℕ} 9 0 = ap length to in omega arith
-back_part (says, suc n, to) = let e : ◌≡◌ {A = ℕ} 50 49 = ap first_or_0 to in omega arith
+back_part (says, zero, to) = eqb-false 9 0 refl (ap length to)
+back_part (says, suc n, to) = eqb-false 50 49 refl (ap first_or_0 to)
 
 -- a script that ends well, or at a fault of its own, is answered as a whole
 abbrev whole : Result Replayed ReplayFault
 whole = Ok (record { lines = 3; events = 2 })
 
-prints_all : AllSafe → Prints whole (Some script) (Some []) (Some answers)
+prints_the_whole : AllSafe → Prints whole (Some script) (Some []) (Some answers)
+    × Prints (Err (Script 4 faults.Line)) (Some script) (Some []) (Some answers)
 unfolding answering
-prints_all safe = (safe script, refl)
+prints_the_whole safe = ((safe script, refl), (safe script, refl))
 
-prints_to_a_fault : AllSafe
-    → Prints (Err (Script 4 faults.Line)) (Some script) (Some []) (Some answers)
+prints_a_part : ¬ (Prints whole (Some script) (Some []) (Some (codes "1 absent\n")))
+    × ¬ (Prints (Err (Script 4 faults.Line)) (Some script) (Some []) (Some (codes "1 absent\n")))
 unfolding answering
-prints_to_a_fault safe = (safe script, refl)
-
-prints_a_part : Prints whole (Some script) (Some []) (Some (codes "1 absent\n")) → ⊥
-unfolding answering
-prints_a_part h = let e : ◌≡◌ {A = ℕ} 9 18 = ap length h.1 in omega arith
-
-prints_a_part_to_a_fault : Prints (Err (Script 4 faults.Line)) (Some script) (Some [])
-    (Some (codes "1 absent\n")) → ⊥
-unfolding answering
-prints_a_part_to_a_fault h = let e : ◌≡◌ {A = ℕ} 9 18 = ap length h.1 in omega arith
+prints_a_part = (λ h. eqb-false 9 18 refl (ap length h.1), λ h. eqb-false 9 18 refl (ap length h.1))
 
 -- a board at fault is answered by nothing
 prints_no_board : AllSafe → Prints (Err (Board Grammar)) (Some (codes "board (2 2"))
@@ -141,20 +135,17 @@ prints_no_board safe = (safe (codes "board (2 2"), refl)
 prints_after_no_board : Prints (Err (Board Grammar)) (Some (codes "board (2 2")) (Some [])
     (Some (codes "1 absent\n")) → ⊥
 unfolding answering
-prints_after_no_board h = let e : ◌≡◌ {A = ℕ} 9 0 = ap length h.1 in omega arith
+prints_after_no_board h = eqb-false 9 0 refl (ap length h.1)
 
 -- a source whose bytes are not known
 prints_of_unknown : (before after : Option (List ℕ)) → Prints whole None before after
 prints_of_unknown before after = tt
 
 -- where a read failed or memory ran out, some whole lines are answered, and all of them
-read_failed : AllSafe → Prints (Err Read) (Some script) (Some []) (Some (codes "1 absent\n"))
+some_whole_lines : AllSafe → Prints (Err Read) (Some script) (Some []) (Some (codes "1 absent\n"))
+    × Prints (Err Memory) (Some script) (Some []) (Some (codes "1 absent\n"))
 unfolding answering
-read_failed safe = (shorter, (safe shorter, refl))
-
-memory_ran_out : AllSafe → Prints (Err Memory) (Some script) (Some []) (Some (codes "1 absent\n"))
-unfolding answering
-memory_ran_out safe = (shorter, (safe shorter, refl))
+some_whole_lines safe = ((shorter, (safe shorter, refl)), (shorter, (safe shorter, refl)))
 
 all_of_the_read : (first : Option (List ℕ)) (after : List ℕ)
     → Prints (Err Read) first (Some []) (Some after)
@@ -173,7 +164,5 @@ write_failed safe = (safe script, 10, refl)
 
 write_failed_otherwise : Prints (Err Write) (Some script) (Some []) (Some (55 ∷ [])) → ⊥
 unfolding answering
-write_failed_otherwise (says, zero, to) =
-    let e : ◌≡◌ {A = ℕ} 1 0 = ap length to in omega arith
-write_failed_otherwise (says, suc n, to) =
-    let e : ◌≡◌ {A = ℕ} 55 49 = ap first_or_0 to in omega arith
+write_failed_otherwise (says, zero, to) = eqb-false 1 0 refl (ap length to)
+write_failed_otherwise (says, suc n, to) = eqb-false 55 49 refl (ap first_or_0 to)

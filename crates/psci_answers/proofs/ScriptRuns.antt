@@ -12,7 +12,7 @@ use Rattle.psci_script.specs.psci_world_spec.declared.said.Record.{Record}
 use Rattle.psci_script.specs.psci_world_spec.Legal.{IsLegalPast, legal, legal_record, run_from}
 use Rattle.psci_script.specs.declared.fault.Replayed.{Replayed}
 use Rattle.psci_script.specs.declared.fault.ReplayFault.{ReplayFault}
-use Rattle.psci_script.specs.declared.fault.ReplayFault.TheVariants.{Script, Board, Read, Write}
+use Rattle.psci_script.specs.declared.fault.ReplayFault.TheVariants.{Read, Write}
 use Rattle.psci_script.specs.declared.fault.ReplayFault.TheVariants.{Memory}
 use Rattle.psci_script.specs.declared.fault.ScriptFault.{ScriptFault}
 use Rattle.psci_script.specs.declared.grammar.Line.{Line as LineSays}
@@ -101,12 +101,7 @@ part_run (Some bytes) before after safe is = (safe bytes, is.0, is.1)
 -- what a replay leaves is what it prints
 pub prints : (end : Result Replayed ReplayFault) (first left before after : Option (List ℕ))
     → AllSafe → Replays end first left before after → Prints end first before after
-prints (Ok replayed) first left before after safe is =
-    answers_run (Ok replayed) first before after safe is
-prints (Err (Script line fault)) first left before after safe is =
-    answers_run (Err (Script line fault)) first before after safe is
-prints (Err (Board fault)) first left before after safe is =
-    answers_run (Err (Board fault)) first before after safe is
 prints (Err Read) first left before after safe is = (is.whole, (safe is.whole, is.to))
 prints (Err Memory) first left before after safe is = (is.whole, (safe is.whole, is.to))
 prints (Err Write) first left before after safe is = part_run first before after safe is
+prints end first left before after safe is = answers_run end first before after safe is

@@ -1,7 +1,6 @@
 -- Tickets that rise in two lists, and are in both or not.
 use Rattle.std.proofs.Common.{◌≡◌, ℕ, ◌<◌, ◌≤◌, List, [], ◌∷◌, None, Some, inl, inr, refl, sym}
-use Rattle.std.proofs.Common.{arith}
-use Rattle.std.proofs.Common.{◌-◌, length, take, drop, get_or, ap, ◌∙◌, subst}
+use Rattle.std.proofs.Common.{arith, ◌-◌, length, take, drop, get_or, ap, ◌∙◌, subst}
 use Rattle.std.specs.Prelude.{◌↔◌}
 use Rattle.std.proofs.Math.Seq.{take-length}
 use Rattle.psci_shared.specs.Entries.{FwEntry}

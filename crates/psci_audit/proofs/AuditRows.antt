@@ -13,6 +13,7 @@ use Rattle.psci_audit.proofs.ListRows.{boots, judging, number_in, start, version
 use Rattle.psci_audit.specs.declared.fault.AuditFault.TheVariants.{Ticket, Illegal, Memory}
 use Rattle.psci_audit.specs.Merged.{IsFault, IsFirstIllegal, IsFollowed, IsJudged, IsSound}
 use Rattle.psci_audit.specs.Merged.{asked_by, merged}
+use Rattle.std.proofs.lemmas.Bool.{eqb-false}
 
 unfoldable auditing : Unit {0}
 unfolding judging merged
@@ -49,7 +50,7 @@ one_entry = (
 
 not_two : IsSound board (enters 7 ∷ []) [] 2 → ⊥
 unfolding auditing
-not_two sound = let e : 1 ≡ 2 = sound.2 in omega (arith, e)
+not_two sound = eqb-false 1 2 refl sound.2
 
 twice : IsSound board (enters 7 ∷ enters 8 ∷ []) [] 2 → ⊥
 unfolding auditing
@@ -113,22 +114,18 @@ no_ticket_fault cannot =
 
 -- One entry of a list --------------------------------------------------------------------------
 
-goes_on : IsFollowed (Ok true) 3 None
-goes_on = refl
-
-stops : IsFollowed (Ok false) 3 (Some (Illegal 3))
-stops = refl
-
--- the entry could not be judged, whatever its place
-without_memory : IsFollowed (Err (record {})) 3 (Some Memory)
-without_memory = refl
+-- an entry that goes on, one that stops the audit, and one that could not be judged, whatever its
+-- place
+follows : IsFollowed (Ok true) 3 None × IsFollowed (Ok false) 3 (Some (Illegal 3))
+    × IsFollowed (Err (record {})) 3 (Some Memory)
+follows = (refl, refl, refl)
 
 -- a list that is judged never has a ticket that does not fit
 no_ticket : IsJudged board [] (Err Ticket) → ⊥
 no_ticket judged = judged
 
 two_of_one : IsJudged board (boots ∷ []) (Ok 2) → ⊥
-two_of_one judged = let e : 1 ≡ 2 = judged.1 in omega (arith, e)
+two_of_one judged = eqb-false 1 2 refl judged.1
 
 none_of_one : IsJudged board [] (Err (Illegal 0)) → ⊥
 none_of_one judged = nothing_is_illegal_in_none 0 judged

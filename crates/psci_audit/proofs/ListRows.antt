@@ -1,5 +1,5 @@
 -- Worked examples: a list that is legal, and for each way to be wrong one that is not.
-use Rattle.std.proofs.Common.{◌≡◌, ℕ, List, [], ◌∷◌, Option, None, Some, pos, negsuc, false, true}
+use Rattle.std.proofs.Common.{ℕ, List, [], ◌∷◌, Option, None, Some, pos, negsuc, false}
 use Rattle.std.proofs.Common.{ap, refl, arith}
 use Rattle.psci_world_spec.specs.psci_ctl_spec.declared.call.CtlCall.TheVariants as asks
 use Rattle.psci_world_spec.specs.psci_ctl_spec.declared.delivery.Delivery.TheVariants as deliveries
@@ -22,6 +22,8 @@ use Rattle.psci_audit.specs.Entries.{Entry, Asked, Controlled, acks, controller_
 use Rattle.psci_audit.specs.Entries.{firmware_history, place, sent}
 use Rattle.psci_audit.specs.Legal.{IsLegal, MayFollow}
 use Rattle.psci_audit.specs.Told.{asked, controlled}
+use Rattle.std.proofs.lemmas.Bool.{eqb-false}
+use Rattle.psci_world_spec.specs.psci_ctl_spec.declared.reply.CtlReply.{CtlReply}
 
 -- what an example unfolds to judge a list that is written out
 unfoldable pub judging : Unit {0}
@@ -151,69 +153,67 @@ abbrev pub start_number : Option Start → ℕ
 start_number None = 0
 start_number (Some s) = s.number
 
+-- how much of a message is applied, or 9; the number of a start, or 9
+abbrev pub applied_in : CtlReply → ℕ
+applied_in (replied.Delivery (deliveries.Applied a)) = a.applied
+applied_in reply = 9
+
+abbrev pub started_in : CtlReply → ℕ
+started_in (replied.Kick (kicks.Started s)) = s.number
+started_in reply = 9
+
 -- Lists that are not ---------------------------------------------------------------------------
 
 -- another reply
 wrong_reply : IsLegal board (enters 0 (start 1 causes.Boot) 0x40000004 0 ∷ []) → ⊥
 unfolding judging
-wrong_reply is =
-    let e : 0x40000004 ≡ 0x40000000 = ap number_in is.0.4 in omega (arith, e)
+wrong_reply is = eqb-false 0x40000004 0x40000000 refl (ap number_in is.0.4)
 
 wrong_value : IsLegal board (version 0 1 ∷ boots ∷ []) → ⊥
 unfolding judging
-wrong_value is = let e : 1 ≡ 65537 = ap number_in is.0.3 in omega (arith, e)
-
--- an entry twice
-twice : IsLegal board (boots ∷ boots ∷ []) → ⊥
-unfolding judging
-twice is = let e = is.0.1 in cc
-
--- a call before the entry, and one of a core that does not run
-too_early : IsLegal board (version 0 65537 ∷ []) → ⊥
-unfolding judging
-too_early is = let e = is.0.1 in cc
+wrong_value is = eqb-false 1 65537 refl (ap number_in is.0.3)
 
 not_running : IsLegal board (version 1 65537 ∷ boots ∷ []) → ⊥
 unfolding judging
 not_running is = let e = is.0.1 in cc
 
--- a call after the core was reset, before it enters: the firmware does not know of that yet
-reset_calls : IsLegal board (version 0 65537 ∷ resets 0 2 ∷ boots ∷ []) → ⊥
-unfolding judging
-reset_calls is = let e = is.0.1 in cc
-
 -- an entry by another start than the last one
 another_start : IsLegal board (enters 0 (start 2 causes.Reset) 0x40000000 0 ∷ []) → ⊥
 unfolding judging
-another_start is = let e : 1 ≡ 2 = ap start_number is.0.2 in omega (arith, e)
+another_start is = eqb-false 1 2 refl (ap start_number is.0.2)
 
--- a refusal
-refusal : IsLegal board
-    (Asked (asked 1 (calls.Enter (start 1 causes.Boot)) (replies.Fault OldStart)) ∷ []) → ⊥
-unfolding judging
-refusal is = is.0.3
+-- what is not legal either
+abbrev Illegal : List Entry → Type 0
+Illegal entries = IsLegal board entries → ⊥
 
--- a message that is delivered before it was sent, an acknowledgement that is taken before it was
--- made
-not_sent : IsLegal board (delivers_3 ∷ boots ∷ []) → ⊥
+illegal_lists :
+    -- an entry twice
+    Illegal (boots ∷ boots ∷ [])
+    -- a call before the entry, and one of a core that does not run
+    × Illegal (version 0 65537 ∷ [])
+    -- a call after the core was reset, before it enters: the firmware does not know of that yet
+    × Illegal (version 0 65537 ∷ resets 0 2 ∷ boots ∷ [])
+    -- a refusal
+    × Illegal (Asked (asked 1 (calls.Enter (start 1 causes.Boot)) (replies.Fault OldStart)) ∷ [])
+    -- a message that is delivered before it was sent, an acknowledgement that is taken before it
+    -- was made
+    × Illegal (delivers_3 ∷ boots ∷ [])
+    × Illegal (takes_3 ∷ on_3 ∷ boots ∷ [])
+    -- a stopped core is woken by another number
+    × Illegal (not_woken 1 7 ∷ boots ∷ [])
+    -- a core that runs is woken
+    × Illegal (wakes 0 1 2 ∷ boots ∷ [])
+    -- a core that the board does not have
+    × Illegal (resets 4 1 ∷ [])
 unfolding judging
-not_sent is = let e = is.0.0.1 in cc
-
-not_made : IsLegal board (takes_3 ∷ on_3 ∷ boots ∷ []) → ⊥
-unfolding judging
-not_made is = let e = is.0.1.1 in cc
-
--- a stopped core is woken by another number
-another_number : IsLegal board (not_woken 1 7 ∷ boots ∷ []) → ⊥
-unfolding judging
-another_number is = let e = is.0.1.0 in cc
-
--- a core that runs is woken
-wakes_running : IsLegal board (wakes 0 1 2 ∷ boots ∷ []) → ⊥
-unfolding judging
-wakes_running is = let e = is.0.1 in cc
-
--- a core that the board does not have
-no_core : IsLegal board (resets 4 1 ∷ []) → ⊥
-unfolding judging
-no_core is = let e = is.0.0 in omega (arith, e)
+illegal_lists = (
+  λ is. let e = is.0.1 in cc,
+  λ is. let e = is.0.1 in cc,
+  λ is. let e = is.0.1 in cc,
+  λ is. is.0.3,
+  λ is. let e = is.0.0.1 in cc,
+  λ is. let e = is.0.1.1 in cc,
+  λ is. let e = is.0.1.0 in cc,
+  λ is. let e = is.0.1 in cc,
+  λ is. let e = is.0.0 in omega (arith, e),
+)

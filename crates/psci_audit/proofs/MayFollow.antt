@@ -29,13 +29,10 @@ use Rattle.psci_world_spec.specs.declared.place.Place.{Place}
 use Rattle.psci_world_spec.specs.declared.place.Place.TheVariants.{Started, Running, Stopped}
 use Rattle.psci_world_spec.specs.declared.said.Record.{Record}
 use Rattle.psci_world_spec.specs.declared.said.Said.{Said}
-use Rattle.psci_world_spec.specs.declared.said.Said.TheVariants.{Ignored}
-use Rattle.psci_world_spec.specs.declared.said.Said.TheVariants.{Taken as Took}
-use Rattle.psci_world_spec.specs.Histories.{acks, controller_values, firmware_values}
-use Rattle.psci_world_spec.specs.Histories.{sent}
-use Rattle.psci_world_spec.specs.Legal.{asked_firmware, deliver, if_running}
-use Rattle.psci_world_spec.specs.Legal.{if_started, if_stopped, legal, legal_record}
-use Rattle.psci_world_spec.specs.Legal.{said_by, said_of, take}
+use Rattle.psci_world_spec.specs.declared.said.Said.TheVariants.{Ignored, Taken as Took}
+use Rattle.psci_world_spec.specs.Histories.{acks, controller_values, firmware_values, sent}
+use Rattle.psci_world_spec.specs.Legal.{asked_firmware, deliver, if_running, if_started, if_stopped}
+use Rattle.psci_world_spec.specs.Legal.{legal, legal_record, said_by, said_of, take}
 use Rattle.psci_world_spec.specs.Lists.{indexed}
 use Rattle.psci_world_spec.specs.Places.{place}
 use Rattle.psci_audit.specs.Entries.{Entry, Asked, Controlled}
@@ -202,22 +199,13 @@ wake_at b past c halted r Stopped on at may =
     (said_by (length (acks past)) (replied.Kick (woken starts)))) at
     ∙ ap (λ (x : ℕ). said_by (length (acks past)) (replied.Kick (woken x))) (sym may.0))
     (wake_told b past (length (acks past)) c halted (woken halted) may.0))
-wake_at b past c halted r Started on at may =
+wake_at b past c halted r p on at may =
     told_by b past _ (Wake c) Ignored
     (on_core b c _ on ∙ ap (λ (x : Place). if_stopped x (said_by (length (acks past))
     (replied.Kick (wake_of b (controller_values b past) c
     ((controller_values b past).starts c))))) at) (
       halted,
-      λ stopped. absurd (let f : Started ≡ Stopped = sym at ∙ stopped in cc),
-      ap (λ (x : CtlReply). controlled (asks.Wake (record { number = c }) halted) x) may,
-    )
-wake_at b past c halted r Running on at may =
-    told_by b past _ (Wake c) Ignored
-    (on_core b c _ on ∙ ap (λ (x : Place). if_stopped x (said_by (length (acks past))
-    (replied.Kick (wake_of b (controller_values b past) c
-    ((controller_values b past).starts c))))) at) (
-      halted,
-      λ stopped. absurd (let f : Running ≡ Stopped = sym at ∙ stopped in cc),
+      λ stopped. absurd (let f : p ≡ Stopped = sym at ∙ stopped in cc),
       ap (λ (x : CtlReply). controlled (asks.Wake (record { number = c }) halted) x) may,
     )
 

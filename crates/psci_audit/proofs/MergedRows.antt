@@ -15,6 +15,10 @@ use Rattle.psci_audit.specs.Told.{asked}
 use Rattle.psci_audit.proofs.ListRows.{start}
 use Rattle.psci_audit.specs.Merged.{IsIn, TicketsFit, asked_by, controlled_by, is_asked_first}
 use Rattle.psci_audit.specs.Merged.{merged}
+use Rattle.psci_world_spec.proofs.Tables.{◌⇒◌, Gives}
+use Rattle.psci_world_spec.specs.psci_fw_spec.declared.call.FwCall.{FwCall}
+use Rattle.std.proofs.Common.{List}
+use Rattle.psci_audit.specs.Entries.{Entry}
 
 -- an entry of the firmware's book under a ticket
 abbrev f : ℕ → FwEntry
@@ -36,59 +40,41 @@ c ticket = record {
 
 -- The merged list ------------------------------------------------------------------------------
 
-none : merged [] [] ≡ []
-unfolding merged
-none = refl
+abbrev merge : List FwEntry × List CtlEntry → List Entry
+merge (firmware, controller) = merged firmware controller
 
-one_book : merged [] (c 2 ∷ c 5 ∷ []) ≡ controlled_by (c 2) ∷ controlled_by (c 5) ∷ []
+merged_books : Gives merge
+    (([], []) ⇒ []
+    ∷ ([], c 2 ∷ c 5 ∷ []) ⇒ (controlled_by (c 2) ∷ controlled_by (c 5) ∷ [])
+    ∷ (f 2 ∷ f 5 ∷ [], []) ⇒ (asked_by (f 2) ∷ asked_by (f 5) ∷ [])
+    -- by the tickets, whichever book is looked at first
+    ∷ (f 1 ∷ f 4 ∷ f 6 ∷ [], c 2 ∷ c 3 ∷ c 5 ∷ [])
+    ⇒ (asked_by (f 1) ∷ controlled_by (c 2) ∷ controlled_by (c 3)
+    ∷ asked_by (f 4) ∷ controlled_by (c 5) ∷ asked_by (f 6) ∷ [])
+    ∷ (f 7 ∷ [], c 0 ∷ c 8 ∷ [])
+    ⇒ (controlled_by (c 0) ∷ asked_by (f 7) ∷ controlled_by (c 8) ∷ []) ∷ [])
 unfolding merged
-one_book = refl
+merged_books = refl
 
-other_book : merged (f 2 ∷ f 5 ∷ []) [] ≡ asked_by (f 2) ∷ asked_by (f 5) ∷ []
-unfolding merged
-other_book = refl
-
--- by the tickets, whichever book is looked at first
-by_ticket : merged (f 1 ∷ f 4 ∷ f 6 ∷ []) (c 2 ∷ c 3 ∷ c 5 ∷ [])
-    ≡ asked_by (f 1) ∷ controlled_by (c 2) ∷ controlled_by (c 3) ∷ asked_by (f 4)
-    ∷ controlled_by (c 5) ∷ asked_by (f 6) ∷ []
-unfolding merged
-by_ticket = refl
-
-controller_first : merged (f 7 ∷ []) (c 0 ∷ c 8 ∷ [])
-    ≡ controlled_by (c 0) ∷ asked_by (f 7) ∷ controlled_by (c 8) ∷ []
-unfolding merged
-controller_first = refl
-
--- an acknowledgement stands under core 0, whichever pass took it
-no_core_of_a_take : asked_by (record (f 1) {
-  call = calls.Take (record {
-    kind = kinds.Start;
-    core = record { number = 3 };
-    life = 1;
-    number = 0;
-    applied = 1;
-    stale = false;
-  });
+abbrev take : FwCall
+take = calls.Take (record {
+  kind = kinds.Start;
+  core = record { number = 3 };
+  life = 1;
+  number = 0;
+  applied = 1;
+  stale = false;
 })
-    ≡ Asked (asked 0 (calls.Take (record {
-      kind = kinds.Start;
-      core = record { number = 3 };
-      life = 1;
-      number = 0;
-      applied = 1;
-      stale = false;
-    })) (replies.Fault NoCore))
-no_core_of_a_take = refl
 
--- a function and an entry stand under the core of their pass
-a_call_of_core_3 : asked_by (f 1)
-    ≡ Asked (asked 3 (calls.Smc (record { x0 = 0; x1 = 0; x2 = 0; x3 = 0 })) (replies.Fault NoCore))
-a_call_of_core_3 = refl
-
-an_entry_of_core_3 : asked_by (record (f 1) { call = calls.Enter (start 2 causes.On) })
-    ≡ Asked (asked 3 (calls.Enter (start 2 causes.On)) (replies.Fault NoCore))
-an_entry_of_core_3 = refl
+asked_as : Gives asked_by
+    -- an acknowledgement stands under core 0, whichever pass took it
+    (record (f 1) { call = take } ⇒ Asked (asked 0 take (replies.Fault NoCore))
+    -- a function and an entry stand under the core of their pass
+    ∷ f 1
+    ⇒ Asked (asked 3 (calls.Smc (record { x0 = 0; x1 = 0; x2 = 0; x3 = 0 })) (replies.Fault NoCore))
+    ∷ record (f 1) { call = calls.Enter (start 2 causes.On) }
+    ⇒ Asked (asked 3 (calls.Enter (start 2 causes.On)) (replies.Fault NoCore)) ∷ [])
+asked_as = refl
 
 -- whose entry is the next one
 next_by_ticket : is_asked_first (f 2 ∷ []) (c 1 ∷ []) ∷ is_asked_first (f 2 ∷ []) (c 3 ∷ [])

@@ -30,16 +30,13 @@ use Rattle.psci_world_spec.specs.declared.said.Said.{Said}
 use Rattle.psci_world_spec.specs.declared.said.Said.TheVariants.{Fw, Kick, Acked, Ignored, Absent}
 use Rattle.psci_world_spec.specs.declared.said.Said.TheVariants.{Taken as Took}
 use Rattle.psci_world_spec.specs.declared.said.Sent.{Sent}
-use Rattle.psci_world_spec.specs.Histories.{acks, controller_values, outcome_in}
-use Rattle.psci_world_spec.specs.Histories.{sent}
+use Rattle.psci_world_spec.specs.Histories.{acks, controller_values, outcome_in, sent}
 use Rattle.psci_world_spec.specs.Legal.{IsLegalPast, asked_firmware, deliver, if_running}
-use Rattle.psci_world_spec.specs.Legal.{if_started, if_stopped, legal}
-use Rattle.psci_world_spec.specs.Legal.{said_by, take}
+use Rattle.psci_world_spec.specs.Legal.{if_started, if_stopped, legal, said_by, take}
 use Rattle.psci_world_spec.specs.Lists.{indexed}
 use Rattle.psci_world_spec.specs.Places.{place}
 use Rattle.psci_audit.specs.Entries.{Entry, Asked, Controlled}
-use Rattle.psci_audit.specs.Legal.{IsLegal, MayAsk, MayBe, MayControl, MayFollow}
-use Rattle.psci_audit.specs.Legal.{MayWake, Now}
+use Rattle.psci_audit.specs.Legal.{IsLegal, MayAsk, MayBe, MayControl, MayFollow, MayWake, Now}
 use Rattle.psci_audit.specs.Told.{IsListOf, IsTold, Tells}
 use Rattle.psci_audit.proofs.Reading.{at_core, delivery_said, is_delivery, is_kick, is_out}
 use Rattle.psci_audit.proofs.Reading.{kick_said}

@@ -1,12 +1,10 @@
 -- Worked examples: lists in which another core than the boot core calls, with later starts, later
 -- messages and a second life; and for each way to be wrong there one that is not legal.
-use Rattle.std.proofs.Common.{◌≡◌, ℕ, List, [], ◌∷◌, Option, None, Some, true, false}
+use Rattle.std.proofs.Common.{◌≡◌, ℕ, List, [], ◌∷◌, Some, true, false}
 use Rattle.std.proofs.Common.{ap, refl, arith}
 use Rattle.psci_world_spec.specs.psci_messages.declared.part.Part.{Part}
 use Rattle.psci_world_spec.specs.psci_ctl_spec.declared.call.CtlCall.TheVariants as asks
 use Rattle.psci_world_spec.specs.psci_ctl_spec.declared.delivery.Delivery.TheVariants as deliveries
-use Rattle.psci_world_spec.specs.psci_ctl_spec.declared.kick.Kick.TheVariants as kicks
-use Rattle.psci_world_spec.specs.psci_ctl_spec.declared.reply.CtlReply.{CtlReply}
 use Rattle.psci_world_spec.specs.psci_ctl_spec.declared.reply.CtlReply.TheVariants as replied
 use Rattle.psci_world_spec.specs.psci_fw_spec.declared.call.FwCall.TheVariants as calls
 use Rattle.psci_world_spec.specs.psci_fw_spec.declared.outcome.Act.TheVariants as acts
@@ -22,6 +20,8 @@ use Rattle.psci_audit.specs.Legal.{IsLegal}
 use Rattle.psci_audit.specs.Told.{asked, controlled}
 use Rattle.psci_audit.proofs.ListRows.{ack_3, boots, delivers_3, enters, judging, on_3, resets}
 use Rattle.psci_audit.proofs.ListRows.{start, start_3, takes_3, version, wakes}
+use Rattle.std.proofs.lemmas.Bool.{eqb-false}
+use Rattle.psci_audit.proofs.ListRows.{applied_in, started_in}
 
 -- a core calls the function of this word, stops, and sends a message
 abbrev stops : ℕ → ℕ → MessageValue → Entry
@@ -53,6 +53,9 @@ delivers m a = Controlled (controlled (asks.Deliver m) (replied.Delivery (delive
 
 abbrev takes : AckValue → Entry
 takes a = Asked (asked 0 (calls.Take a) (replies.Taken takens.Used))
+
+abbrev Illegal : List Entry → Type 0
+Illegal entries = IsLegal board entries → ⊥
 
 -- Core 3 ---------------------------------------------------------------------------------------
 
@@ -99,15 +102,16 @@ taken_late : IsLegal board (takes_old ∷ on)
 unfolding judging
 taken_late = ((refl, (0, refl), refl), on_is_legal)
 
-taken_as_old : IsLegal board (takes_old ∷ delivers_3 ∷ on_3 ∷ boots ∷ []) → ⊥
+illegal_acknowledgements :
+    Illegal (takes_old ∷ delivers_3 ∷ on_3 ∷ boots ∷ [])
+    -- an acknowledgement stands under no core but core 0
+    × Illegal (Asked (asked 3 (calls.Take ack_3) (replies.Taken takens.Used)) ∷ delivers_3 ∷ on_3
+    ∷ boots ∷ [])
 unfolding judging
-taken_as_old is = let e : replies.Taken takens.Old ≡ replies.Taken takens.Used = is.0.2 in cc
-
--- an acknowledgement stands under no core but core 0
-taken_by_core_3 : IsLegal board (Asked (asked 3 (calls.Take ack_3) (replies.Taken takens.Used))
-    ∷ delivers_3 ∷ on_3 ∷ boots ∷ []) → ⊥
-unfolding judging
-taken_by_core_3 is = let e : 3 ≡ 0 = is.0.0 in omega (arith, e)
+illegal_acknowledgements = (
+  λ is. let e : replies.Taken takens.Old ≡ replies.Taken takens.Used = is.0.2 in cc,
+  λ is. eqb-false 3 0 refl is.0.0,
+)
 
 -- the Start comes twice: the second time it is stale
 abbrev stale_3 : AckValue
@@ -124,14 +128,9 @@ delivered_again = (
   ),
 )
 
--- how much of a message is applied
-abbrev applied_in : CtlReply → ℕ
-applied_in (replied.Delivery (deliveries.Applied a)) = a.applied
-applied_in reply = 9
-
 another_ack : IsLegal board (delivers start_3 stale_3 ∷ on_3 ∷ boots ∷ []) → ⊥
 unfolding judging
-another_ack is = let e : 0 ≡ 1 = ap applied_in is.0.1 in omega (arith, e)
+another_ack is = eqb-false 0 1 refl (ap applied_in is.0.1)
 
 -- Starts ---------------------------------------------------------------------------------------
 
@@ -158,39 +157,34 @@ woken_again = ((omega arith, (refl, refl)), ((omega arith, refl, refl, tt, refl)
 
 woken_by_the_first : IsLegal board (wakes 0 1 3 ∷ parks ∷ resets 0 2 ∷ boots ∷ []) → ⊥
 unfolding judging
-woken_by_the_first is = let e : 1 ≡ 2 = is.0.1.0 in omega (arith, e)
-
--- the number of the start
-abbrev started_in : CtlReply → ℕ
-started_in (replied.Kick (kicks.Started s)) = s.number
-started_in reply = 9
+woken_by_the_first is = eqb-false 1 2 refl is.0.1.0
 
 reset_by_another : IsLegal board (resets 0 3 ∷ boots ∷ []) → ⊥
 unfolding judging
-reset_by_another is = let e : 3 ≡ 2 = ap started_in is.0.1 in omega (arith, e)
+reset_by_another is = eqb-false 3 2 refl (ap started_in is.0.1)
 
-woken_by_another : IsLegal board (wakes 1 0 2 ∷ boots ∷ []) → ⊥
+illegal_starts :
+    Illegal (wakes 1 0 2 ∷ boots ∷ [])
+    -- a core that was started and has not entered is woken
+    × Illegal (wakes 0 1 2 ∷ [])
 unfolding judging
-woken_by_another is = let e : 2 ≡ 1 = ap started_in is.0.1.1 in omega (arith, e)
-
--- a core that was started and has not entered is woken
-wakes_started : IsLegal board (wakes 0 1 2 ∷ []) → ⊥
-unfolding judging
-wakes_started is = let e = is.0.1 in cc
+illegal_starts = (
+  λ is. eqb-false 2 1 refl (ap started_in is.0.1.1),
+  λ is. let e = is.0.1 in cc,
+)
 
 -- No core of the board -------------------------------------------------------------------------
 
-no_core_woken : IsLegal board (wakes 4 0 1 ∷ []) → ⊥
+no_core_of_the_board :
+    Illegal (wakes 4 0 1 ∷ [])
+    × Illegal (version 4 65537 ∷ boots ∷ [])
+    × Illegal (enters 4 (start 1 causes.Boot) 0x40000000 0 ∷ [])
 unfolding judging
-no_core_woken is = let e = is.0.0 in omega (arith, e)
-
-no_core_calls : IsLegal board (version 4 65537 ∷ boots ∷ []) → ⊥
-unfolding judging
-no_core_calls is = let e = is.0.0 in omega (arith, e)
-
-no_core_enters : IsLegal board (enters 4 (start 1 causes.Boot) 0x40000000 0 ∷ []) → ⊥
-unfolding judging
-no_core_enters is = let e = is.0.0 in omega (arith, e)
+no_core_of_the_board = (
+  λ is. let e = is.0.0 in omega (arith, e),
+  λ is. let e = is.0.0 in omega (arith, e),
+  λ is. let e = is.0.0 in omega (arith, e),
+)
 
 -- The next life --------------------------------------------------------------------------------
 

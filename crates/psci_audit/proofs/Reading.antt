@@ -19,8 +19,7 @@ use Rattle.psci_world_spec.specs.declared.said.Said.{Said}
 use Rattle.psci_world_spec.specs.declared.said.Said.TheVariants.{Fw, Kick, Acked, Absent}
 use Rattle.psci_world_spec.specs.declared.said.Sent.{Sent}
 use Rattle.psci_world_spec.specs.Histories.{outcome_in}
-use Rattle.psci_world_spec.specs.Legal.{on_board}
-use Rattle.psci_world_spec.specs.Legal.{said_by, said_of, sent_as}
+use Rattle.psci_world_spec.specs.Legal.{on_board, said_by, said_of, sent_as}
 
 same_message : (n : ℕ) (m : Option MessageValue) → option_map (λ s. s.message) (sent_as n m) ≡ m
 same_message n None = refl

@@ -4,7 +4,6 @@ use Rattle.std.proofs.Common.{◌≡◌, ℕ, [], ◌∷◌, Option, None, Some,
 use Rattle.std.proofs.Common.{ap, refl, arith}
 use Rattle.psci_world_spec.specs.psci_ctl_spec.declared.delivery.Delivery.TheVariants as deliveries
 use Rattle.psci_world_spec.specs.psci_ctl_spec.declared.kick.Kick.TheVariants as kicks
-use Rattle.psci_world_spec.specs.psci_ctl_spec.declared.reply.CtlReply.{CtlReply}
 use Rattle.psci_world_spec.specs.psci_ctl_spec.declared.reply.CtlReply.TheVariants as replied
 use Rattle.psci_world_spec.specs.psci_fw_spec.declared.outcome.Act.TheVariants as acts
 use Rattle.psci_world_spec.specs.psci_fw_spec.declared.reply.FwReply.{FwReply}
@@ -21,6 +20,8 @@ use Rattle.psci_world.specs.Seen.{WorldValue}
 use Rattle.psci_audit.proofs.ListRows.{ack_3, boots, judging, start, start_3, version}
 use Rattle.psci_audit.specs.Following.{Follows, IsStep}
 use Rattle.psci_audit.specs.Replies.{SaysDelivery, SaysKick, SaysOutcome, SaysTaken}
+use Rattle.std.proofs.lemmas.Bool.{eqb-false}
+use Rattle.psci_audit.proofs.ListRows.{applied_in, started_in}
 
 -- Outcomes -------------------------------------------------------------------------------------
 
@@ -32,77 +33,55 @@ abbrev returns : Option MessageValue → FwReply
 returns message =
     replies.Out (record { act = acts.Return (record { 0 = pos 0 }); message = message })
 
-with_its_message : SaysOutcome on_3 (returns (Some start_3))
-with_its_message = refl
+replies_said : SaysOutcome on_3 (returns (Some start_3))
+    × SaysTaken (Taken takens.Old) (replies.Taken takens.Old)
+    × SaysDelivery (Acked 4 ack_3) (replied.Delivery (deliveries.Applied ack_3))
+    × SaysDelivery Ignored (replied.Delivery deliveries.Ignored)
+    × SaysKick (Kick (start 2 causes.Reset)) (replied.Kick (kicks.Started (start 2 causes.Reset)))
+replies_said = (refl, refl, refl, refl, refl)
 
 -- the number of the start that a message names, or 9
 abbrev number_in : FwReply → ℕ
 number_in (replies.Out o) = elim o.message [ None ↦ 9 | Some m ↦ m.number ]
 number_in reply = 8
 
-without_its_message : SaysOutcome on_3 (returns None) → ⊥
-without_its_message says = let e : 9 ≡ 0 = ap number_in says in omega (arith, e)
+other_outcomes :
+    ¬ (SaysOutcome on_3 (returns None))
+    × ¬ (SaysOutcome on_3 (returns (Some (record start_3 { number = 1 }))))
+other_outcomes = (
+  λ says. eqb-false 9 0 refl (ap number_in says),
+  λ says. eqb-false 1 0 refl (ap number_in says),
+)
 
-with_another : SaysOutcome on_3 (returns (Some (record start_3 { number = 1 }))) → ⊥
-with_another says = let e : 1 ≡ 0 = ap number_in says in omega (arith, e)
-
-ignored_call : SaysOutcome Ignored (returns None) → ⊥
-ignored_call says = says
+-- nothing is said of what does not happen
+nothing_is_said : ¬ (SaysOutcome Ignored (returns None))
+    × ¬ (SaysTaken Absent (replies.Taken takens.Old))
+    × ¬ (SaysDelivery Absent (replied.Delivery deliveries.Ignored))
+    × ¬ (SaysKick Absent (replied.Kick kicks.Ignored))
+nothing_is_said = (λ says. says, λ says. says, λ says. says, λ says. says)
 
 -- Acknowledgements and messages ----------------------------------------------------------------
-
-taken_so : SaysTaken (Taken takens.Old) (replies.Taken takens.Old)
-taken_so = refl
 
 taken_otherwise : SaysTaken (Taken takens.Old) (replies.Taken takens.Used) → ⊥
 taken_otherwise says =
     let e : replies.Taken takens.Used ≡ replies.Taken takens.Old = says in cc
 
-not_taken : SaysTaken Absent (replies.Taken takens.Old) → ⊥
-not_taken says = says
-
-delivered_so : SaysDelivery (Acked 4 ack_3) (replied.Delivery (deliveries.Applied ack_3))
-delivered_so = refl
-
--- how much is applied, or 9
-abbrev applied_in : CtlReply → ℕ
-applied_in (replied.Delivery (deliveries.Applied a)) = a.applied
-applied_in reply = 9
-
 delivered_otherwise : SaysDelivery (Acked 4 ack_3)
     (replied.Delivery (deliveries.Applied (record ack_3 { applied = 0; stale = true }))) → ⊥
-delivered_otherwise says = let e : 0 ≡ 1 = ap applied_in says in omega (arith, e)
-
-ignored_so : SaysDelivery Ignored (replied.Delivery deliveries.Ignored)
-ignored_so = refl
+delivered_otherwise says = eqb-false 0 1 refl (ap applied_in says)
 
 ignored_otherwise : SaysDelivery Ignored (replied.Delivery (deliveries.Applied ack_3)) → ⊥
-ignored_otherwise says = let e : 1 ≡ 9 = ap applied_in says in omega (arith, e)
-
--- there is no message of that number, and nothing became of it
-no_message : SaysDelivery Absent (replied.Delivery deliveries.Ignored) → ⊥
-no_message says = says
+ignored_otherwise says = eqb-false 1 9 refl (ap applied_in says)
 
 -- Starts ---------------------------------------------------------------------------------------
 
-started_so : SaysKick (Kick (start 2 causes.Reset))
-    (replied.Kick (kicks.Started (start 2 causes.Reset)))
-started_so = refl
-
--- the number of the start, or 9
-abbrev started_in : CtlReply → ℕ
-started_in (replied.Kick (kicks.Started s)) = s.number
-started_in reply = 9
-
-started_otherwise : SaysKick (Kick (start 2 causes.Reset))
-    (replied.Kick (kicks.Started (start 3 causes.Reset))) → ⊥
-started_otherwise says = let e : 3 ≡ 2 = ap started_in says in omega (arith, e)
-
-not_started : SaysKick Ignored (replied.Kick (kicks.Started (start 3 causes.Reset))) → ⊥
-not_started says = let e : 3 ≡ 9 = ap started_in says in omega (arith, e)
-
-no_core : SaysKick Absent (replied.Kick kicks.Ignored) → ⊥
-no_core says = says
+started_otherwise :
+    ¬ (SaysKick (Kick (start 2 causes.Reset)) (replied.Kick (kicks.Started (start 3 causes.Reset))))
+    × ¬ (SaysKick Ignored (replied.Kick (kicks.Started (start 3 causes.Reset))))
+started_otherwise = (
+  λ says. eqb-false 3 2 refl (ap started_in says),
+  λ says. eqb-false 3 9 refl (ap started_in says),
+)
 
 -- One entry more -------------------------------------------------------------------------------
 

@@ -16,9 +16,8 @@ use Rattle.psci_audit.specs.Told.{IsListOfSafe, Tells}
 use Rattle.psci_audit.specs.Following.{IsStep}
 use Rattle.psci_world.specs.psci_board.declared.memory.Memory.{Memory as NoMemory}
 use Rattle.psci_audit.specs.declared.fault.AuditFault.{AuditFault}
-use Rattle.psci_audit.specs.Merged.{IsFirstIllegal, IsFollowed, IsJudged, asked_by}
-use Rattle.psci_audit.specs.Merged.{controlled_by, history_of, is_asked_first, merged}
-use Rattle.psci_audit.specs.Merged.{put_in}
+use Rattle.psci_audit.specs.Merged.{IsFirstIllegal, IsFollowed, IsJudged, asked_by, controlled_by}
+use Rattle.psci_audit.specs.Merged.{history_of, is_asked_first, merged, put_in}
 use Rattle.psci_audit.proofs.Apart.{tail}
 
 pub merged_asked : (f : FwEntry) (fs : List FwEntry) (cs : List CtlEntry)

@@ -23,7 +23,7 @@ use Rattle.psci_world_spec.specs.declared.place.Place.{Place}
 use Rattle.psci_world_spec.specs.declared.place.Place.TheVariants.{Started, Running, Stopped}
 use Rattle.psci_world_spec.specs.declared.said.Record.{Record}
 use Rattle.psci_world_spec.specs.declared.said.Said.{Said}
-use Rattle.psci_world_spec.specs.declared.said.Said.TheVariants.{Fw, Kick, Acked, Ignored, Absent}
+use Rattle.psci_world_spec.specs.declared.said.Said.TheVariants.{Fw, Kick, Acked, Ignored}
 use Rattle.psci_world_spec.specs.declared.said.Said.TheVariants.{Taken as Took}
 use Rattle.psci_world_spec.specs.Histories.{acks, controller_values, sent}
 use Rattle.psci_world_spec.specs.Legal.{if_stopped, legal, legal_record}
@@ -85,15 +85,9 @@ never old new e cannot entries tells follow =
 
 call_says : (b : BoardValue) (past : List Record) (c : ℕ) (regs : Regs) (r : FwReply) (s : Said)
     → SaysOutcome s r ↔ IsTold b past (Call c regs) s (Asked (asked c (calls.Smc regs) r))
-call_says b past c regs r (Fw act sends) = (
-  λ e. ap (λ (x : FwReply). asked c (calls.Smc regs) x) e,
-  λ e. ap (λ (x : FwExchange). x.reply) e,
-)
-call_says b past c regs r (Kick start) = (λ h. h, λ h. h)
-call_says b past c regs r (Acked index ack) = (λ h. h, λ h. h)
-call_says b past c regs r (Took taken) = (λ h. h, λ h. h)
-call_says b past c regs r Ignored = (λ h. h, λ h. h)
-call_says b past c regs r Absent = (λ h. h, λ h. h)
+call_says b past c regs r (Fw act sends) =
+    (λ e. ap (asked c (calls.Smc regs)) e, λ e. ap (λ (x : FwExchange). x.reply) e)
+call_says b past c regs r s = (λ h. h, λ h. h)
 
 pub called : (old new : WorldValue) (c : ℕ) (regs : Regs) (r : FwReply) (rec : Record)
     (may : Bool) → Happened old new (Call c regs) rec → (IsTrue may ↔ SaysOutcome rec.said r)
@@ -107,14 +101,10 @@ enter_says : (b : BoardValue) (past : List Record) (c : ℕ) (start : Start) (r 
     (s : Said) → last_start (controller_values b past) c ≡ Some start
     → SaysOutcome s r ↔ IsTold b past (Enter c) s (Asked (asked c (calls.Enter start) r))
 enter_says b past c start r (Fw act sends) last = (
-  λ e. (start, last, ap (λ (x : FwReply). asked c (calls.Enter start) x) e),
+  λ e. (start, last, ap (asked c (calls.Enter start)) e),
   λ is. ap (λ (x : FwExchange). x.reply) is.2,
 )
-enter_says b past c start r (Kick s) last = (λ h. h, λ h. h)
-enter_says b past c start r (Acked index ack) last = (λ h. h, λ h. h)
-enter_says b past c start r (Took taken) last = (λ h. h, λ h. h)
-enter_says b past c start r Ignored last = (λ h. h, λ h. h)
-enter_says b past c start r Absent last = (λ h. h, λ h. h)
+enter_says b past c start r s last = (λ h. h, λ h. h)
 
 pub entered : (old new : WorldValue) (c : ℕ) (start : Start) (r : FwReply) (rec : Record)
     (may : Bool) → last_start (controller_values old.board old.past) c ≡ Some start
@@ -137,15 +127,9 @@ enters_late old new c start r cannot = never old new _ (λ may. cannot may.2)
 take_says : (b : BoardValue) (past : List Record) (k : ℕ) (ack : AckValue) (r : FwReply)
     (s : Said) → indexed (acks past) k ≡ Some ack
     → SaysTaken s r ↔ IsTold b past (Take k) s (Asked (asked 0 (calls.Take ack) r))
-take_says b past k ack r (Took taken) at = (
-  λ e. (ack, at, ap (λ (x : FwReply). asked 0 (calls.Take ack) x) e),
-  λ is. ap (λ (x : FwExchange). x.reply) is.2,
-)
-take_says b past k ack r (Kick s) at = (λ h. h, λ h. h)
-take_says b past k ack r (Acked index a) at = (λ h. h, λ h. h)
-take_says b past k ack r (Fw act sends) at = (λ h. h, λ h. h)
-take_says b past k ack r Ignored at = (λ h. h, λ h. h)
-take_says b past k ack r Absent at = (λ h. h, λ h. h)
+take_says b past k ack r (Took taken) at =
+    (λ e. (ack, at, ap (asked 0 (calls.Take ack)) e), λ is. ap (λ (x : FwExchange). x.reply) is.2)
+take_says b past k ack r s at = (λ h. h, λ h. h)
 
 pub took : (old new : WorldValue) (k : ℕ) (ack : AckValue) (r : FwReply) (rec : Record)
     (may : Bool) → indexed (acks old.past) k ≡ Some ack → Happened old new (Take k) rec
@@ -166,18 +150,11 @@ never_made old new ack r none = never old new _ (λ may. none may.1.0 may.1.1)
 deliver_says : (b : BoardValue) (past : List Record) (k : ℕ) (m : MessageValue) (r : CtlReply)
     (s : Said) → indexed (sent past) k ≡ Some m
     → SaysDelivery s r ↔ IsTold b past (Deliver k) s (Controlled (controlled (asks.Deliver m) r))
-deliver_says b past k m r (Acked index ack) at = (
-  λ e. (m, at, ap (λ (x : CtlReply). controlled (asks.Deliver m) x) e),
-  λ is. ap (λ (x : CtlExchange). x.reply) is.2,
-)
-deliver_says b past k m r Ignored at = (
-  λ e. (m, at, ap (λ (x : CtlReply). controlled (asks.Deliver m) x) e),
-  λ is. ap (λ (x : CtlExchange). x.reply) is.2,
-)
-deliver_says b past k m r (Kick s) at = (λ h. h, λ h. h)
-deliver_says b past k m r (Took taken) at = (λ h. h, λ h. h)
-deliver_says b past k m r (Fw act sends) at = (λ h. h, λ h. h)
-deliver_says b past k m r Absent at = (λ h. h, λ h. h)
+deliver_says b past k m r (Acked index ack) at =
+    (λ e. (m, at, ap (controlled (asks.Deliver m)) e), λ is. ap (λ (x : CtlExchange). x.reply) is.2)
+deliver_says b past k m r Ignored at =
+    (λ e. (m, at, ap (controlled (asks.Deliver m)) e), λ is. ap (λ (x : CtlExchange). x.reply) is.2)
+deliver_says b past k m r s at = (λ h. h, λ h. h)
 
 pub delivered : (old new : WorldValue) (k : ℕ) (m : MessageValue) (r : CtlReply) (rec : Record)
     (may : Bool) → indexed (sent old.past) k ≡ Some m → Happened old new (Deliver k) rec
@@ -196,18 +173,11 @@ never_sent old new m r none = never old new _ (λ may. none may.0.0 may.0.1)
 reset_says : (b : BoardValue) (past : List Record) (core : Core) (r : CtlReply) (s : Said)
     → SaysKick s r
     ↔ IsTold b past (Reset core.number) s (Controlled (controlled (asks.Reset core) r))
-reset_says b past core r (Kick start) = (
-  λ e. ap (λ (x : CtlReply). controlled (asks.Reset core) x) e,
-  λ is. ap (λ (x : CtlExchange). x.reply) is,
-)
-reset_says b past core r Ignored = (
-  λ e. ap (λ (x : CtlReply). controlled (asks.Reset core) x) e,
-  λ is. ap (λ (x : CtlExchange). x.reply) is,
-)
-reset_says b past core r (Acked index ack) = (λ h. h, λ h. h)
-reset_says b past core r (Took taken) = (λ h. h, λ h. h)
-reset_says b past core r (Fw act sends) = (λ h. h, λ h. h)
-reset_says b past core r Absent = (λ h. h, λ h. h)
+reset_says b past core r (Kick start) =
+    (λ e. ap (controlled (asks.Reset core)) e, λ is. ap (λ (x : CtlExchange). x.reply) is)
+reset_says b past core r Ignored =
+    (λ e. ap (controlled (asks.Reset core)) e, λ is. ap (λ (x : CtlExchange). x.reply) is)
+reset_says b past core r s = (λ h. h, λ h. h)
 
 pub was_reset : (old new : WorldValue) (core : Core) (r : CtlReply) (rec : Record) (may : Bool)
     → Happened old new (Reset core.number) rec → (IsTrue may ↔ SaysKick rec.said r)
@@ -240,18 +210,15 @@ wake_says : (w : WorldValue) (core : Core) (halted : ℕ) (r : CtlReply) (s : Sa
     (Controlled (controlled (asks.Wake core halted) r))
 wake_says w core halted r (Kick start) said last =
     let same = last (stopped w.board w.past core.number start said) in (
-      λ e. ap (λ (x : CtlReply). controlled (asks.Wake core halted) x) e
+      λ e. ap (controlled (asks.Wake core halted)) e
           ∙ ap (λ (x : ℕ). controlled (asks.Wake core x) (replied.Kick (kicks.Started start))) same,
       λ is. ap (λ (x : CtlExchange). x.reply) is,
     )
 wake_says w core halted r Ignored said last = (
-  λ e. (halted, last, ap (λ (x : CtlReply). controlled (asks.Wake core halted) x) e),
+  λ e. (halted, last, ap (controlled (asks.Wake core halted)) e),
   λ is. ap (λ (x : CtlExchange). x.reply) is.2,
 )
-wake_says w core halted r (Acked index ack) said last = (λ h. h, λ h. h)
-wake_says w core halted r (Took taken) said last = (λ h. h, λ h. h)
-wake_says w core halted r (Fw act sends) said last = (λ h. h, λ h. h)
-wake_says w core halted r Absent said last = (λ h. h, λ h. h)
+wake_says w core halted r s said last = (λ h. h, λ h. h)
 
 pub woken : (old new : WorldValue) (core : Core) (halted : ℕ) (r : CtlReply) (rec : Record)
     (may : Bool) → MayBeWoken old core.number halted → Happened old new (Wake core.number) rec

@@ -3,8 +3,6 @@ use Rattle.std.proofs.Common.{◌≡◌, ℕ, [], ◌∷◌, None, Some, pos, tr
 use Rattle.psci_world_spec.specs.psci_ctl_spec.declared.call.CtlCall.{CtlCall}
 use Rattle.psci_world_spec.specs.psci_ctl_spec.declared.call.CtlCall.TheVariants as asks
 use Rattle.psci_world_spec.specs.psci_ctl_spec.declared.delivery.Delivery.TheVariants as deliveries
-use Rattle.psci_world_spec.specs.psci_ctl_spec.declared.kick.Kick.TheVariants as kicks
-use Rattle.psci_world_spec.specs.psci_ctl_spec.declared.reply.CtlReply.{CtlReply}
 use Rattle.psci_world_spec.specs.psci_ctl_spec.declared.reply.CtlReply.TheVariants as replied
 use Rattle.psci_world_spec.specs.psci_ctl_spec.Exchange.{CtlExchange}
 use Rattle.psci_world_spec.specs.psci_fw_spec.declared.call.FwCall.{FwCall}
@@ -23,9 +21,11 @@ use Rattle.psci_world_spec.specs.declared.said.Said.TheVariants.{Absent}
 use Rattle.psci_world_spec.proofs.Scripts.{board, computing}
 use Rattle.psci_audit.specs.Entries.{Entry, Asked, Controlled}
 use Rattle.psci_audit.specs.Told.{Tells, asked, controlled}
-use Rattle.psci_audit.proofs.ListRows.{ack_3, boots, delivers_3, enters, not_woken, on_3}
-use Rattle.psci_audit.proofs.ListRows.{resets, start, start_3, start_number, takes_3}
-use Rattle.psci_audit.proofs.ListRows.{version, wakes}
+use Rattle.psci_audit.proofs.ListRows.{ack_3, boots, delivers_3, enters, not_woken, on_3, resets}
+use Rattle.psci_audit.proofs.ListRows.{start, start_3, start_number, takes_3, version, wakes}
+use Rattle.psci_audit.proofs.ListRows.{applied_in, started_in}
+use Rattle.std.proofs.lemmas.Bool.{eqb-false}
+use Rattle.std.proofs.Common.{◌∙◌}
 
 -- the boot core enters
 abbrev entered : Record
@@ -53,6 +53,15 @@ word_of (calls.Take ack) = 0
 
 abbrev asked_for : FwExchange → ℕ
 asked_for e = word_of e.call
+
+-- what a call of the power controller names, or 9
+abbrev halted_in : CtlCall → ℕ
+halted_in (asks.Wake core halted) = halted
+halted_in call = 9
+
+abbrev core_of : CtlCall → ℕ
+core_of (asks.Reset core) = core.number
+core_of call = 9
 
 -- Told -----------------------------------------------------------------------------------------
 
@@ -139,19 +148,14 @@ woken_again_told = (refl, (refl, tt))
 
 -- Not told -------------------------------------------------------------------------------------
 
--- an entry without a record, a record without an entry
-no_record : Tells board [] (boots ∷ []) → ⊥
-no_record tells = tells
-
-no_entry : Tells board (entered ∷ entered ∷ []) (boots ∷ []) → ⊥
-no_entry tells = tells.1
-
--- what the world does not carry out is no entry
-ignored_entry : Tells board (record { event = Enter 0; said = Ignored } ∷ []) (boots ∷ []) → ⊥
-ignored_entry tells = tells.0
-
-absent : Tells board (record { event = Reset 9; said = Absent } ∷ []) (resets 9 1 ∷ []) → ⊥
-absent tells = tells.0
+refused :
+    -- an entry without a record, a record without an entry
+    ¬ (Tells board [] (boots ∷ []))
+    × ¬ (Tells board (entered ∷ entered ∷ []) (boots ∷ []))
+    -- what the world does not carry out is no entry
+    × ¬ (Tells board (record { event = Enter 0; said = Ignored } ∷ []) (boots ∷ []))
+    × ¬ (Tells board (record { event = Reset 9; said = Absent } ∷ []) (resets 9 1 ∷ []))
+refused = (λ tells. tells, λ tells. tells.1, λ tells. tells.0, λ tells. tells.0)
 
 -- another start than the core's last
 other_start : Tells board (entered ∷ [])
@@ -161,64 +165,26 @@ other_start tells =
     let e : 1 ≡ tells.0.0.number = ap start_number tells.0.1 in
     let d : 2 ≡ tells.0.0.number = ap asked_for tells.0.2 in omega (arith, e, d)
 
--- the message of another number
-other_message : Tells board (delivered_3 1 ∷ asked_3 ∷ entered ∷ [])
-    (delivers_3 ∷ on_3 ∷ boots ∷ []) → ⊥
+told_otherwise :
+    -- the message of another number
+    ¬ (Tells board (delivered_3 1 ∷ asked_3 ∷ entered ∷ []) (delivers_3 ∷ on_3 ∷ boots ∷ []))
+    -- another call
+    × ¬ (Tells board (asked_3 ∷ entered ∷ []) (version 0 65537 ∷ boots ∷ []))
+    -- a message that is ignored, told as one that is carried out
+    × ¬ (Tells board (ignored_3 ∷ asked_3 ∷ entered ∷ []) (delivers_3 ∷ on_3 ∷ boots ∷ []))
+    -- a wake-up of a stopped core that is ignored, by another number than its last start's
+    × ¬ (Tells board (record { event = Wake 1; said = Ignored } ∷ []) (not_woken 1 7 ∷ []))
+    -- a reset of another core, and one that is ignored, told as a start
+    × ¬ (Tells board (record { event = Reset 2; said = Kick (start 1 causes.Reset) } ∷ [])
+    (resets 3 1 ∷ []))
+    × ¬ (Tells board (record { event = Reset 2; said = Ignored } ∷ []) (resets 2 1 ∷ []))
 unfolding computing
-other_message tells = let e = tells.0.1 in cc
-
--- another call
-other_call : Tells board (asked_3 ∷ entered ∷ []) (version 0 65537 ∷ boots ∷ []) → ⊥
-unfolding computing
-other_call tells =
-    let e : 0x84000000 ≡ 0xc4000003 = ap asked_for tells.0 in omega (arith, e)
-
--- a message that is ignored, told as one that is carried out
-abbrev applied_in : CtlReply → ℕ
-applied_in (replied.Delivery (deliveries.Applied a)) = a.applied
-applied_in reply = 9
-
-abbrev applied_for : CtlExchange → ℕ
-applied_for e = applied_in e.reply
-
-told_as_delivered : Tells board (ignored_3 ∷ asked_3 ∷ entered ∷ [])
-    (delivers_3 ∷ on_3 ∷ boots ∷ []) → ⊥
-told_as_delivered tells = let e : 1 ≡ 9 = ap applied_for tells.0.2 in omega (arith, e)
-
--- a wake-up of a stopped core that is ignored, by another number than its last start's
-abbrev halted_in : CtlCall → ℕ
-halted_in (asks.Wake core halted) = halted
-halted_in call = 9
-
-abbrev halted_for : CtlExchange → ℕ
-halted_for e = halted_in e.call
-
-ignored_by_another : Tells board (record { event = Wake 1; said = Ignored } ∷ [])
-    (not_woken 1 7 ∷ []) → ⊥
-unfolding computing
-ignored_by_another tells =
-    let e : 7 ≡ tells.0.0 = ap halted_for tells.0.2 in
-    let d : tells.0.0 ≡ 0 = tells.0.1 refl in omega (arith, e, d)
-
--- a reset of another core, and one that is ignored, told as a start
-abbrev core_of : CtlCall → ℕ
-core_of (asks.Reset core) = core.number
-core_of call = 9
-
-abbrev core_for : CtlExchange → ℕ
-core_for e = core_of e.call
-
-another_core : Tells board (record { event = Reset 2; said = Kick (start 1 causes.Reset) } ∷ [])
-    (resets 3 1 ∷ []) → ⊥
-another_core tells = let e : 3 ≡ 2 = ap core_for tells.0 in omega (arith, e)
-
-abbrev started_in : CtlReply → ℕ
-started_in (replied.Kick (kicks.Started s)) = s.number
-started_in reply = 9
-
-abbrev started_for : CtlExchange → ℕ
-started_for e = started_in e.reply
-
-told_as_started : Tells board (record { event = Reset 2; said = Ignored } ∷ [])
-    (resets 2 1 ∷ []) → ⊥
-told_as_started tells = let e : 1 ≡ 9 = ap started_for tells.0 in omega (arith, e)
+told_otherwise = (
+  λ tells. let e = tells.0.1 in cc,
+  λ tells. eqb-false 0x84000000 0xc4000003 refl (ap asked_for tells.0),
+  λ tells. eqb-false 1 9 refl (ap (λ (x : CtlExchange). applied_in x.reply) tells.0.2),
+  λ tells. eqb-false 7 0 refl
+      (ap (λ (x : CtlExchange). halted_in x.call) tells.0.2 ∙ tells.0.1 refl),
+  λ tells. eqb-false 3 2 refl (ap (λ (x : CtlExchange). core_of x.call) tells.0),
+  λ tells. eqb-false 1 9 refl (ap (λ (x : CtlExchange). started_in x.reply) tells.0),
+)

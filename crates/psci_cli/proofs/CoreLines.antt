@@ -1,6 +1,5 @@
 -- The lines of cores, one after the other.
-use Rattle.std.proofs.Common.{◌≡◌, ◌+◌, ◌++◌, ◌∷◌, [], ℕ, List, take, append-nil}
-use Rattle.std.proofs.Common.{ap, ◌∙◌}
+use Rattle.std.proofs.Common.{◌≡◌, ◌+◌, ◌++◌, ◌∷◌, [], ℕ, List, take, append-nil, ap, ◌∙◌}
 use Rattle.std.proofs.lemmas.Grind.{flat_map-append}
 use Rattle.psci_bench.specs.psci_shared.Entries.{FwEntry}
 use Rattle.psci_bench.specs.declared.gathering.Polled.{Polled}

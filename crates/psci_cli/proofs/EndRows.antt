@@ -42,39 +42,27 @@ nothing_to_write : (b : BoardValue) → IsStormed (Err (Replay Write)) (Ok b) 3 
 nothing_to_write b h = let memory = h.1 in cc
 
 -- a storm that cannot be kept is not written, or there is no memory to
-not_kept : IsUnkept (Replay Write)
-not_kept = inl refl
-
-not_kept_without_memory : IsUnkept (Replay Memory)
-not_kept_without_memory = inr refl
+not_kept : IsUnkept (Replay Write) × IsUnkept (Replay Memory)
+not_kept = (inl refl, inr refl)
 
 not_kept_by_read : IsUnkept (Replay Read) → ⊥
 not_kept_by_read (inl e) = cc
 not_kept_by_read (inr e) = cc
 
-storm_done : (b : BoardValue) → StormEnds (Ok tt) (Ok b)
-storm_done b = refl
+storm_ends : (b : BoardValue) → StormEnds (Ok tt) (Ok b)
+    × StormEnds (Err (GivenBoard boards.BadBoot)) (Err boards.BadBoot)
+    × StormEnds (Err (GivenBoard boards.Memory)) (Ok b)
+    × StormEnds (Err (Replay Write)) (Ok b) × StormEnds (Err (Replay Memory)) (Ok b)
+storm_ends b = (refl, refl, refl, (refl, inl refl), (refl, inr refl))
 
 storm_of_no_board : StormEnds (Ok tt) (Err boards.Grammar) → ⊥
 storm_of_no_board h = cc
-
-board_faulty : StormEnds (Err (GivenBoard boards.BadBoot)) (Err boards.BadBoot)
-board_faulty = refl
 
 board_not_so : StormEnds (Err (GivenBoard boards.BadBoot)) (Err boards.Grammar) → ⊥
 board_not_so h = cc
 
 board_not_faulty : (b : BoardValue) → StormEnds (Err (GivenBoard boards.BadBoot)) (Ok b) → ⊥
 board_not_faulty b h = cc
-
-board_not_kept : (b : BoardValue) → StormEnds (Err (GivenBoard boards.Memory)) (Ok b)
-board_not_kept b = refl
-
-storm_not_written : (b : BoardValue) → StormEnds (Err (Replay Write)) (Ok b)
-storm_not_written b = (refl, inl refl)
-
-storm_without_memory : (b : BoardValue) → StormEnds (Err (Replay Memory)) (Ok b)
-storm_without_memory b = (refl, inr refl)
 
 storm_not_read : (b : BoardValue) → StormEnds (Err (Replay Read)) (Ok b) → ⊥
 storm_not_read b (made, inl e) = cc

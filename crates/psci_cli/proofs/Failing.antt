@@ -11,17 +11,6 @@ use Rattle.psci_cli.specs.Threading.{IsStarted, IsThreaded, failure_at}
 -- a run that was started and failed ends as its fault says
 pub failed : {said : Result BoardValue BoardFault} (started : IsStarted said) (fault : BenchFault)
     → IsFound started.board fault → IsThreaded (Err (failure_at fault)) said
-failed s faults.Gate f =
-    record { started = s; fault = faults.Gate; is_told = refl; is_found = f }
-failed s faults.Gather f =
-    record { started = s; fault = faults.Gather; is_told = refl; is_found = f }
-failed s faults.Threads f =
-    record { started = s; fault = faults.Threads; is_told = refl; is_found = f }
-failed s faults.Memory f =
-    record { started = s; fault = faults.Memory; is_told = refl; is_found = f }
-failed s (faults.Audit found.Ticket) f =
-    record { started = s; fault = faults.Audit found.Ticket; is_told = refl; is_found = f }
-failed s (faults.Audit found.Memory) f =
-    record { started = s; fault = faults.Audit found.Memory; is_told = refl; is_found = f }
 failed s (faults.Audit (found.Illegal place)) f =
     record { started = s; fault = faults.Audit (found.Illegal place); is_told = refl; is_found = f }
+failed s fault f = record { started = s; fault = fault; is_told = refl; is_found = f }

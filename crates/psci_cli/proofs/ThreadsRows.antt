@@ -1,5 +1,5 @@
 -- The lines of threads, and how threads end.
-use Rattle.std.proofs.Common.{◌≡◌, Result, Ok, Err, refl, inl, inr, ap, arith}
+use Rattle.std.proofs.Common.{◌≡◌, Result, Ok, Err, refl, inl, inr, ap, arith, [], ◌∷◌}
 use Rattle.std.specs.Fmt.{digits}
 use Rattle.std.specs.Prelude.{codes}
 use Rattle.psci_command.specs.psci_board.Board.{BoardValue, cores}
@@ -18,6 +18,7 @@ use Rattle.psci_bench.specs.psci_audit.declared.fault.AuditFault.TheVariants as 
 use Rattle.psci_cli.specs.Threading.{IsTooLarge, ThreadsEnds, failure_at}
 use Rattle.psci_cli.specs.Ends.{IsUnkept}
 use Rattle.psci_cli.specs.ThreadsText.{core_text, threads_text}
+use Rattle.psci_script.proofs.Tables.{◌⇒◌, Gives}
 
 no_call : threads_text 0 0 0 ≡ codes "threads firmware 0 controller 0 audited 0"
 unfolding digits
@@ -32,27 +33,16 @@ unfolding digits
 core = refl
 
 -- each fault of a run has a failure of its own, but for the two wants of memory
-gate : failure_at faults.Gate ≡ Gate
-gate = refl
-
-no_threads : failure_at faults.Threads ≡ Threads
-no_threads = refl
-
-gather : failure_at faults.Gather ≡ Gather
-gather = refl
-
-memory : failure_at faults.Memory ≡ Replay Memory
-memory = refl
-
-memory_of_the_audit : failure_at (faults.Audit found.Memory) ≡ Replay Memory
-memory_of_the_audit = refl
-
-ticket : failure_at (faults.Audit found.Ticket) ≡ Audit failures.Ticket
-ticket = refl
-
--- the place stays
-illegal : failure_at (faults.Audit (found.Illegal 41)) ≡ Audit (failures.Illegal 41)
-illegal = refl
+failures_of_threads : Gives failure_at
+    (faults.Gate ⇒ Gate
+    ∷ faults.Threads ⇒ Threads
+    ∷ faults.Gather ⇒ Gather
+    ∷ faults.Memory ⇒ Replay Memory
+    ∷ faults.Audit found.Memory ⇒ Replay Memory
+    ∷ faults.Audit found.Ticket ⇒ Audit failures.Ticket
+    -- the place stays
+    ∷ faults.Audit (found.Illegal 41) ⇒ Audit (failures.Illegal 41) ∷ [])
+failures_of_threads = refl
 
 -- the board is looked at first: a faulty one is neither too large nor run
 faulty : ThreadsEnds (Err (GivenBoard boards.BadBoot)) (Err boards.BadBoot)
@@ -92,13 +82,10 @@ not_written b is = inl (record { board = b; is_said = refl; few = omega (arith, 
 
 -- nothing is read
 no_read_at : (fault : BenchFault) → Replay Read ≡ failure_at fault → ⊥
-no_read_at faults.Gate e = cc
-no_read_at faults.Threads e = cc
-no_read_at faults.Gather e = cc
-no_read_at faults.Memory e = cc
 no_read_at (faults.Audit found.Ticket) e = cc
 no_read_at (faults.Audit (found.Illegal place)) e = cc
 no_read_at (faults.Audit found.Memory) e = cc
+no_read_at _ e = cc
 
 unread : IsUnkept (Replay Read) → ⊥
 unread (inl e) = cc

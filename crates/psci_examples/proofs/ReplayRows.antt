@@ -20,7 +20,7 @@ use Rattle.psci_script.specs.Run.{Replays, WritesAnswers, is_write_fault}
 use Rattle.psci_script.specs.Progress.{IsLineFront}
 use Rattle.psci_script.specs.ScriptRun.{ScriptRun, events_of, run_of}
 use Rattle.psci_script.specs.Told.{Ended, EndsBy, IsUntold, Runs, Telling, account}
-use Rattle.psci_script.proofs.EndRows.{answering, board, text}
+use Rattle.psci_script.proofs.Scripts.{answering, board, text}
 use Rattle.psci_board.proofs.Tables.{◌⇒◌, Gives}
 use Rattle.psci_examples.proofs.Apart.{apart_by, itself}
 

@@ -1,9 +1,7 @@
 -- How the lines that remain come out, by what the next one says.
 use Rattle.std.proofs.Common.{◌≡◌, ℕ, ◌+◌, ◌≤◌, ◌<◌, List, [], ◌∷◌, ◌++◌, length, refl, ap, sym}
-use Rattle.std.proofs.Common.{◌∙◌}
-use Rattle.std.proofs.Common.{append_assoc, Bool, true, false, cond, nat_lt, arith, Option, Some}
-use Rattle.std.proofs.Common.{None}
-use Rattle.std.proofs.Common.{Result, Ok, Err, subst}
+use Rattle.std.proofs.Common.{◌∙◌, append_assoc, Bool, true, false, cond, nat_lt, arith, Option}
+use Rattle.std.proofs.Common.{Some, None, Result, Ok, Err, subst}
 use Rattle.std.proofs.lemmas.Bool.Decides.{nat_tests}
 use Rattle.psci_world_spec.specs.psci_board.Board.{BoardValue}
 use Rattle.psci_world_spec.specs.declared.event.Event.{Event}
@@ -17,15 +15,23 @@ use Rattle.psci_script.specs.declared.fault.ReplayFault.TheVariants.{Script}
 use Rattle.psci_script.specs.Line.{line_of}
 use Rattle.psci_script.specs.Lines.{lines}
 use Rattle.psci_script.specs.Script.{line_said, ok_or, transcript, transcript_of_line}
-use Rattle.psci_script.specs.Script.{transcript_of_rest}
-use Rattle.psci_script.specs.ScriptRun.{GoesOn, ScriptRun, events_of, with_event}
-use Rattle.psci_script.specs.ScriptRun.{with_record}
+use Rattle.psci_script.specs.Script.{transcript_of_rest, transcript_of_board, transcript_of_first}
+use Rattle.psci_script.specs.ScriptRun.{GoesOn, ScriptRun, events_of, with_event, with_record}
 use Rattle.psci_script.specs.Told.{Account, account, remaining}
+use Rattle.psci_world_spec.specs.psci_board.declared.fault.BoardFault.{BoardFault}
+use Rattle.psci_script.specs.ScriptRun.{run_by, run_on}
 
 -- before the first line
 pub account_is : (bytes : List ℕ) → account bytes ≡ remaining None 0 (lines bytes)
 unfolding transcript
 account_is bytes = refl
+
+-- by the first line, and by the board
+abbrev pub by_first : Result (List ℕ) ScriptFault → List (List ℕ) → Account
+by_first r ls = record { run = run_by r ls; end = (transcript_of_first r ls).end }
+
+abbrev pub by_board : Result BoardValue BoardFault → List (List ℕ) → Account
+by_board r ls = record { run = run_on r ls; end = (transcript_of_board r ls).end }
 
 -- after so many lines, by what the next one says
 abbrev after_said : ScriptRun → ℕ → Result LineSays ScriptFault → List (List ℕ) → Account

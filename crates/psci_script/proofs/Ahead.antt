@@ -1,26 +1,18 @@
 -- Reading ahead, step after step.
 use Rattle.std.proofs.Common.{◌≡◌, ℕ, ◌<◌, Bool, true, false, List, [], ◌++◌, length, take, refl}
-use Rattle.std.proofs.Common.{ap, sym, ◌∙◌, arith, Option, Some, None, append_assoc, append-nil}
+use Rattle.std.proofs.Common.{ap, sym, ◌∙◌, arith, Option, append_assoc, append-nil}
 use Rattle.std.proofs.Common.{Result, Ok, Err, IfOk, IfErr, OnErr, IsErr, IsErrAnd, length-append}
 use Rattle.std.proofs.Common.{subst}
-use Rattle.std.specs.Io.KnownBytes.{Appends, Consumes, Keeps}
+use Rattle.std.specs.Io.KnownBytes.{Appends, Keeps}
 use Rattle.psci_script.specs.declared.fault.ReplayFault.{ReplayFault}
-use Rattle.psci_script.specs.declared.fault.ReplayFault.TheVariants.{Script, Board, Read, Write}
-use Rattle.psci_script.specs.declared.fault.ReplayFault.TheVariants.{Memory}
+use Rattle.psci_script.specs.declared.fault.ReplayFault.TheVariants.{Read, Write}
 use Rattle.psci_script.specs.Answered.{Answered}
 use Rattle.psci_script.specs.Block.{ReadAhead, Refills}
 use Rattle.psci_script.specs.declared.progress.Progress.{Progress as Fields}
 use Rattle.psci_script.specs.Progress.{Progress, progress, SameDevices, StaySound, Ahead}
 use Rattle.psci_script.specs.Progress.{WriteFailed, ReadFailed, ReadsAhead, FailsAhead}
 use Rattle.psci_script.proofs.Known.{appends_more, consumes_more, consumes_keeps}
-
-consumes_none : (a : Option (List ℕ)) → (let none : List ℕ = [] in Consumes a a none)
-consumes_none None = tt
-consumes_none (Some x) = refl
-
-appends_none : (a : Option (List ℕ)) → (let none : List ℕ = [] in Appends a a none)
-appends_none None = tt
-appends_none (Some x) = sym (append-nil x)
+use Rattle.psci_script.proofs.Known.{appends_none, consumes_none}
 
 -- the same devices, and none of them failed, from step to step
 pub same_more : {S K : Type 0} {s t u : Fields S K} → SameDevices s t → SameDevices t u
@@ -165,13 +157,7 @@ reads_ahead (Err Read) s new left after taken answered a w ok err kept same goin
   },
   ap (λ (b : ReadAhead). b.unread) same,
 )
-reads_ahead (Err Write) s new left after taken answered a w ok err kept same going = absurd (cc err)
-reads_ahead (Err Memory) s new left after taken answered a w ok err kept same going =
-    absurd (cc err)
-reads_ahead (Err (Board f)) s new left after taken answered a w ok err kept same going =
-    absurd (cc err)
-reads_ahead (Err (Script l f)) s new left after taken answered a w ok err kept same going =
-    absurd (cc err)
+reads_ahead r s new left after taken answered a w ok err kept same going = absurd (cc err)
 
 -- a write that failed
 pub write_failed_at : (s : Progress) (t : Progress) (count : ℕ)

@@ -13,17 +13,17 @@ use Rattle.psci_script.specs.declared.fault.ReplayFault.{ReplayFault}
 use Rattle.psci_script.specs.declared.fault.ReplayFault.TheVariants.{Script}
 use Rattle.psci_script.specs.declared.lines.Extent.{Extent}
 use Rattle.psci_script.specs.Lines.{lines, has_line_feed, AreWhole}
-use Rattle.psci_script.specs.Script.{board_line, line_said, ok_or, transcript_of_first}
+use Rattle.psci_script.specs.Script.{board_line, line_said, ok_or}
 use Rattle.psci_board.specs.ReadWords.{literal_at}
 use Rattle.psci_script.specs.Block.{ReadAhead}
 use Rattle.psci_script.specs.Progress.{Progress, WriteFailed, IsLine, FaultyLine}
 use Rattle.psci_script.specs.Run.{AreSound, Follows}
-use Rattle.psci_script.specs.ScriptRun.{ScriptRun, run_by}
+use Rattle.psci_script.specs.ScriptRun.{ScriptRun}
 use Rattle.psci_script.specs.Told.{Account, CutShort, Ended, Goes, Unwritten, account, remaining}
 use Rattle.psci_script.proofs.Known.{appends_more}
 use Rattle.psci_script.proofs.Split.{lines_long, lines_some, lines_none, Longer}
 use Rattle.psci_script.proofs.Accounts.{fault_remains, goes_as, goes_on, is_lt, line_long}
-use Rattle.psci_script.proofs.Accounts.{line_many, no_rest_is, run_still}
+use Rattle.psci_script.proofs.Accounts.{line_many, no_rest_is, run_still, by_first}
 use Rattle.psci_script.proofs.Taking.{goes_ahead, line_first, skipped}
 
 pub follows_whole : (block : ReadAhead) (rest : List ℕ) → (block.ended ≡ true → rest ≡ [])
@@ -110,10 +110,7 @@ faulty_line : (run : Option ScriptRun) (n : ℕ) (l : List ℕ) (ls : List (List
     → (run ≡ None → n ≡ 0)
     → remaining run n (l ∷ ls) ≡ record { run = run; end = Err (Script (n + 1) fault) }
 faulty_line None n l ls fault e f z =
-    ap (λ r. let a : Account = record {
-      run = run_by r ls;
-      end = (transcript_of_first r ls).end;
-    } in a) (f refl)
+    ap (λ r. by_first r ls) (f refl)
     ∙ ap (λ (m : ℕ). let a : Account = record { run = None; end = Err (Script (m + 1) fault) } in a)
     (sym (z refl))
 faulty_line (Some run) n l ls fault e f z = fault_remains run n l ls fault e

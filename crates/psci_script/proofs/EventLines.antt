@@ -15,13 +15,11 @@ use Rattle.psci_script.specs.Line.{line_of, event_at, after_word, call_at, alone
 use Rattle.psci_script.specs.Line.{register_at, optional_register_at}
 use Rattle.psci_script.specs.EventText.{EventText, RegisterText, register_text, register_value}
 use Rattle.psci_script.specs.EventText.{registers_text, event_text, value_at, event_of, Word}
-use Rattle.psci_script.specs.EventText.{word_text, word_event}
-use Rattle.psci_script.specs.EventText.{AreRegisterTexts, IsEventText}
+use Rattle.psci_script.specs.EventText.{word_text, word_event, AreRegisterTexts, IsEventText}
 use Rattle.psci_script.specs.EventText.{SpellsWhatItSays}
 use Rattle.psci_script.specs.EventText.EventText.{CallText, NumberText}
 use Rattle.psci_script.specs.EventText.Word.{EnterWord, WakeWord, ResetWord, DeliverWord, TakeWord}
-use Rattle.psci_script.proofs.Words.{IsRegister}
-use Rattle.psci_script.proofs.Words.{register_takes}
+use Rattle.psci_script.proofs.Words.{IsRegister, register_takes}
 
 -- the bytes after so many registers that may be missing
 abbrev after : ℕ → List ℕ → List ℕ

@@ -5,8 +5,7 @@ use Rattle.std.proofs.Common.{subst, nat_lt, cond, inr}
 use Rattle.std.proofs.lemmas.List.{take_all}
 use borrow.Author.Tests.{ltb-true, ltb-false}
 use Rattle.psci_script.specs.declared.fault.ReplayFault.{ReplayFault}
-use Rattle.psci_script.specs.declared.fault.ReplayFault.TheVariants.{Script, Board, Read, Write}
-use Rattle.psci_script.specs.declared.fault.ReplayFault.TheVariants.{Memory}
+use Rattle.psci_script.specs.declared.fault.ReplayFault.TheVariants.{Read, Write}
 use Rattle.psci_script.specs.declared.lines.Extent.{Extent}
 use Rattle.psci_script.specs.Lines.{has_line_feed}
 use Rattle.psci_script.specs.Progress.{Progress, Ahead, ReadsAhead, FailsAhead, FailsLine}
@@ -18,9 +17,7 @@ not_found : (e : ReplayFault) (n : ℕ) (s m t : Progress) → FailsAhead e m t 
 not_found Read n s m t h a f =
     (read_failed_more s m t a h.0, subst (λ (x : List ℕ). IsLineFront n x) (sym h.1) f)
 not_found Write n s m t h a f = write_failed_more s m t a h
-not_found Memory n s m t h a f = absurd h
-not_found (Board b) n s m t h a f = absurd h
-not_found (Script l b) n s m t h a f = absurd h
+not_found e n s m t h a f = absurd h
 
 pub finds_fault : (r : Result (Option Extent) ReplayFault) (e : ReplayFault) (n : ℕ)
     (s m t : Progress)

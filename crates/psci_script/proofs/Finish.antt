@@ -1,20 +1,19 @@
 -- What a told script leaves, when the last texts were written too.
 use Rattle.std.proofs.Common.{arith, ◌≡◌, ℕ, ◌+◌, Bool, true, false, List, [], ◌++◌, length, take}
-use Rattle.std.proofs.Common.{refl, ap, sym, ◌∙◌, append-nil, subst, Option, Some}
+use Rattle.std.proofs.Common.{refl, ap, sym, ◌∙◌, subst, Option, Some}
 use Rattle.std.proofs.Common.{None, Result, Ok, Err, IsErr, IsErrAnd, inl}
 use Rattle.std.proofs.Math.Seq.{take-append-add}
 use Rattle.std.specs.Io.KnownBytes.{Appends, Consumes, IsAtEnd}
 use Rattle.psci_script.specs.declared.fault.Replayed.{Replayed}
 use Rattle.psci_script.specs.declared.fault.ReplayFault.{ReplayFault}
-use Rattle.psci_script.specs.declared.fault.ReplayFault.TheVariants.{Script, Board, Read, Write}
-use Rattle.psci_script.specs.declared.fault.ReplayFault.TheVariants.{Memory}
+use Rattle.psci_script.specs.declared.fault.ReplayFault.TheVariants.{Read, Write, Memory}
 use Rattle.psci_script.specs.Progress.{Progress, IsLineFront}
 use Rattle.psci_script.specs.Run.{IsWithinBlock, is_write_fault}
 use Rattle.psci_script.specs.ScriptRun.{GoesOn, ScriptRun, run_of, run_of_lines}
 use Rattle.psci_script.specs.Told.{Account, CutShort, Ended, Runs, Tells, TellsAll, TellsLines}
 use Rattle.psci_script.specs.Told.{TellsPart, Unwritten, account}
 use Rattle.psci_script.proofs.Accounts.{goes_as, goes_self}
-use Rattle.psci_script.proofs.Known.{appends_more}
+use Rattle.psci_script.proofs.Known.{appends_more, appends_none, consumes_none}
 use Rattle.psci_script.proofs.Split.{lines_none}
 
 -- All was written ---------------------------------------------------------------------------------
@@ -108,17 +107,12 @@ pub finish_part : (told : Option ScriptRun → List ℕ → Type 0) (r : Result 
     (first before after : Option (List ℕ)) (s : Progress) (n : ℕ) → is_write_fault r ≡ false
     → Runs told r first before s → Appends s.taken after (take n s.answered.waiting)
     → TellsPart told first before after
-finish_part told (Ok x) first before after s n e k a =
-    ended_part told (Ok x) first before after s n k a
-finish_part told (Err (Script l f)) first before after s n e k a =
-    ended_part told (Err (Script l f)) first before after s n k a
-finish_part told (Err (Board f)) first before after s n e k a =
-    ended_part told (Err (Board f)) first before after s n k a
 finish_part told (Err Read) first before after s n e k a =
     cut_short_part told IsLineFront first before after s n k a
 finish_part told (Err Memory) first before after s n e k a =
     cut_short_part told IsWithinBlock first before after s n k a
 finish_part told (Err Write) first before after s n e k a = absurd (cc)
+finish_part told r first before after s n e k a = ended_part told r first before after s n k a
 
 -- The last texts were written ---------------------------------------------------------------------
 
@@ -126,30 +120,21 @@ pub finish_done : (told : Option ScriptRun → List ℕ → Type 0) (r : Result 
     (first before after : Option (List ℕ)) (s : Progress) → is_write_fault r ≡ false
     → Runs told r first before s → Appends s.taken after s.answered.waiting
     → Tells told r first s.left before after
-finish_done told (Ok x) first before after s e k a =
-    tells_all told (Ok x) first before after s k a
-finish_done told (Err (Script l f)) first before after s e k a =
-    tells_all told (Err (Script l f)) first before after s k a
-finish_done told (Err (Board f)) first before after s e k a =
-    tells_all told (Err (Board f)) first before after s k a
 finish_done told (Err Read) first before after s e k a =
     tells_lines told IsLineFront first before after s k a
 finish_done told (Err Memory) first before after s e k a =
     tells_lines told IsWithinBlock first before after s k a
 finish_done told (Err Write) first before after s e k a = absurd (cc)
+finish_done told r first before after s e k a = tells_all told r first before after s k a
 
 -- A write failed before ---------------------------------------------------------------------------
 
 pub finish_failed : (told : Option ScriptRun → List ℕ → Type 0) (r : Result Replayed ReplayFault)
     (first before : Option (List ℕ)) (s : Progress) → is_write_fault r ≡ true
     → Runs told r first before s → Tells told r first s.left before s.taken
-finish_failed told (Ok x) first before s e k = absurd (cc)
-finish_failed told (Err (Script l f)) first before s e k = absurd (cc)
-finish_failed told (Err (Board f)) first before s e k = absurd (cc)
-finish_failed told (Err Read) first before s e k = absurd (cc)
-finish_failed told (Err Memory) first before s e k = absurd (cc)
 finish_failed told (Err Write) first before s e k =
     tells_part told first before s.left s.taken k
+finish_failed told _ first before s e k = absurd (cc)
 
 -- an answer that stands in another error's place
 pub tells_so : (told : Option ScriptRun → List ℕ → Type 0) (r : Result Replayed ReplayFault)
@@ -161,14 +146,6 @@ tells_so told (Err f) e first left before after h k =
     subst (λ (x : ReplayFault). Tells told (Err x) first left before after) (sym h.1) k
 
 -- Nothing was done --------------------------------------------------------------------------------
-
-pub consumes_none : (a : Option (List ℕ)) → (let none : List ℕ = [] in Consumes a a none)
-consumes_none None = tt
-consumes_none (Some p) = refl
-
-pub appends_none : (a : Option (List ℕ)) → (let none : List ℕ = [] in Appends a a none)
-appends_none None = tt
-appends_none (Some p) = sym (append-nil p)
 
 pub nothing_done : (told : Option ScriptRun → List ℕ → Type 0) (first before : Option (List ℕ))
     → told None [] → TellsLines told IsWithinBlock first first before before

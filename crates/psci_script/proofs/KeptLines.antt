@@ -11,13 +11,12 @@ use Rattle.std.proofs.lemmas.Fmt.{digits_is_IsNumeral}
 use Rattle.std.proofs.lemmas.List.{append-nil}
 use Rattle.std.proofs.lemmas.List.Elements.{All-from_recursion}
 use Rattle.psci_script.specs.EventText.{EventText, IsEventText, RegisterText, ReadsAsSpelled}
-use Rattle.psci_script.specs.EventText.{event_of, event_text}
+use Rattle.psci_script.specs.EventText.{event_of, event_text, IsRegisterText}
 use Rattle.psci_script.specs.EventText.EventText.{CallText, NumberText}
 use Rattle.psci_script.specs.EventText.RegisterText.{Hexadecimal}
 use Rattle.psci_script.specs.EventText.Word.{EnterWord, WakeWord, ResetWord, DeliverWord, TakeWord}
 use Rattle.psci_script.specs.declared.grammar.Line.TheVariants.{Event as Says}
 use Rattle.psci_script.specs.Line.{line_of}
-use Rattle.psci_script.specs.EventText.{IsRegisterText}
 use Rattle.psci_world_spec.specs.declared.event.Event.{Event}
 use Rattle.psci_world_spec.specs.declared.event.Event.TheVariants.{Call, Enter, Wake, Reset}
 use Rattle.psci_world_spec.specs.declared.event.Event.TheVariants.{Deliver, Take}
@@ -107,28 +106,16 @@ is_spelled (Call core regs) h = (
   ),
   omega arith,
 )
-is_spelled (Enter core) h = h
-is_spelled (Wake core) h = h
-is_spelled (Reset core) h = h
-is_spelled (Deliver number) h = h
-is_spelled (Take number) h = h
+is_spelled e h = h
 
 says : (e : Event) → HasWords e → event_of (spelled e) ≡ e
 says (Call core regs) h =
     rw (value_of regs.x0 h.1, value_of regs.x1 h.2, value_of regs.x2 h.3, value_of regs.x3 h.4) refl
-says (Enter core) h = refl
-says (Wake core) h = refl
-says (Reset core) h = refl
-says (Deliver number) h = refl
-says (Take number) h = refl
+says e h = refl
 
 is_line : (e : Event) → event_text (spelled e) ≡ event_line e
 is_line (Call core regs) = rw (append-nil (digits 16 false regs.x3)) refl
-is_line (Enter core) = refl
-is_line (Wake core) = refl
-is_line (Reset core) = refl
-is_line (Deliver number) = refl
-is_line (Take number) = refl
+is_line e = refl
 
 pub reads_as_kept : ReadsAsSpelled → ReadsAsKept
 reads_as_kept reads e words =

@@ -1,7 +1,6 @@
 -- What a read or a write in steps does to the known bytes.
-use Rattle.std.proofs.Common.{ℕ, ◌+◌, List, ◌++◌, take}
-use Rattle.std.proofs.Common.{drop, ap, sym, ◌∙◌, Option, Some, None, Result, Ok, Err, OnErr}
-use Rattle.std.proofs.Common.{append_assoc, subst}
+use Rattle.std.proofs.Common.{ℕ, ◌+◌, List, ◌++◌, take, drop, ap, sym, ◌∙◌, Option, Some, None}
+use Rattle.std.proofs.Common.{Result, Ok, Err, OnErr, append_assoc, subst, refl, append-nil, []}
 use Rattle.std.proofs.Math.Seq.{take-add}
 use Rattle.std.specs.Prelude.{IfErr}
 use Rattle.std.specs.Io.KnownBytes.{Appends, Consumes, Keeps}
@@ -51,3 +50,11 @@ on_err (Err e) P h = h
 pub on_err_as : {A E : Type 0} (r : Result A E) {P Q : Type 0} → (P → Q) → OnErr r P → OnErr r Q
 on_err_as (Ok x) f h = tt
 on_err_as (Err e) f h = f h
+
+pub consumes_none : (a : Option (List ℕ)) → (let none : List ℕ = [] in Consumes a a none)
+consumes_none None = tt
+consumes_none (Some p) = refl
+
+pub appends_none : (a : Option (List ℕ)) → (let none : List ℕ = [] in Appends a a none)
+appends_none None = tt
+appends_none (Some p) = sym (append-nil p)

@@ -21,7 +21,7 @@ pub mod Moved
 mod NumberRows
 mod ReadRows
 mod ScriptRows
-mod Scripts
+pub mod Scripts
 pub mod SpelledLines
 pub mod Split
 pub mod Steps

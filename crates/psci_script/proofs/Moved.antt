@@ -47,10 +47,7 @@ refilled n k count most xs buffer rest waiting h m l e =
 
 pub some_came : (n : ℕ) (buffer : List ℕ) → n ≤ length buffer → nat_lt 0 n ≡ true
     → 0 < length (take n buffer)
-some_came n buffer h e =
-    let l : length (take n buffer) ≡ n = length-take-le n buffer h in
-    let b : 0 < n = ltb-true 0 n e in
-    omega arith
+some_came n buffer h e = omega (arith, length-take-le n buffer h, ltb-true 0 n e)
 
 pub none_came : (n : ℕ) (buffer : List ℕ) → nat_lt 0 n ≡ false → take n buffer ≡ []
 none_came n buffer e =

@@ -3,8 +3,7 @@ use Rattle.std.proofs.Common.{◌≡◌, ℕ, List, [], ◌∷◌, ◌++◌, Res
 use Rattle.std.specs.Prelude.{codes, Ok}
 use Rattle.std.specs.Fmt.{digits}
 use Rattle.psci_board.specs.ReadWords.{literal_at, number_at, hex_at, spaced_at}
-use Rattle.psci_board.specs.Reading.{range_at, at_most}
-use Rattle.psci_board.specs.Reading.{more_at, list_at, member_at, tree_at}
+use Rattle.psci_board.specs.Reading.{range_at, at_most, more_at, list_at, member_at, tree_at}
 use Rattle.psci_board.specs.Reading.{board_text}
 use Rattle.psci_board.specs.Verdict.{board_of, verdict}
 use Rattle.psci_world_spec.proofs.Scripts.{computing}

@@ -1,26 +1,21 @@
 -- Event lines are read as they are spelled.
-use Rattle.std.proofs.Common.{◌≡◌, ℕ, ◌≤◌}
-use Rattle.std.proofs.Common.{List, [], ◌∷◌, ◌++◌, length, Option, Some, refl, ap, ◌∙◌}
+use Rattle.std.proofs.Common.{◌≡◌, ℕ, ◌≤◌, List, [], ◌∷◌, ◌++◌, length, Option, Some, refl, ap, ◌∙◌}
 use Rattle.std.proofs.Common.{arith, subst}
 use Rattle.std.specs.Prelude.{option_map, unwrap_or}
 use Rattle.std.specs.Fmt.{decimal}
 use Rattle.std.proofs.lemmas.List.{append-nil}
 use Rattle.psci_board.specs.Spelling.{TextLaws, IsNumber}
 use Rattle.psci_board.specs.ReadWords.{literal_at, number_at, spaced_at}
-use Rattle.psci_world_spec.specs.declared.event.Event.TheVariants.{Enter, Wake, Reset}
-use Rattle.psci_world_spec.specs.declared.event.Event.TheVariants.{Deliver, Take}
+use Rattle.psci_world_spec.specs.declared.event.Event.TheVariants.{Enter}
 use Rattle.psci_script.specs.declared.grammar.Line.TheVariants.{Event as Says}
 use Rattle.psci_script.specs.Line.{line_of, event_at, call_at, alone_at}
 use Rattle.psci_script.specs.Line.{register_at, optional_register_at}
-use Rattle.psci_script.specs.EventText.{RegisterText, register_value}
-use Rattle.psci_script.specs.EventText.{registers_text, event_of, Word}
-use Rattle.psci_script.specs.EventText.{word_text, word_event}
-use Rattle.psci_script.specs.EventText.{AreRegisterTexts, IsRegisterText}
-use Rattle.psci_script.specs.EventText.{ReadsAsSpelled}
+use Rattle.psci_script.specs.EventText.{RegisterText, register_value, registers_text, event_of}
+use Rattle.psci_script.specs.EventText.{Word, word_text, word_event, AreRegisterTexts}
+use Rattle.psci_script.specs.EventText.{IsRegisterText, ReadsAsSpelled}
 use Rattle.psci_script.specs.EventText.EventText.{CallText, NumberText}
-use Rattle.psci_script.specs.EventText.Word.{EnterWord, WakeWord, ResetWord, DeliverWord, TakeWord}
-use Rattle.psci_script.proofs.Words.{IsEnd, number_again}
-use Rattle.psci_script.proofs.Words.{register_again}
+use Rattle.psci_script.specs.EventText.Word.{EnterWord}
+use Rattle.psci_script.proofs.Words.{IsEnd, number_again, register_again}
 
 registers_end : (rs : List RegisterText) → IsEnd (registers_text rs)
 registers_end [] = tt
@@ -91,20 +86,14 @@ word_again : (w : TextLaws) (word : Word) (n : ℕ) → IsNumber n
     → event_at (word_text word ++ decimal n) ≡ Some (word_event word n)
 unfolding event_at literal_at
 word_again w EnterWord n c = ap (option_map Enter) (alone_again w n c)
-word_again w WakeWord n c = ap (option_map Wake) (alone_again w n c)
-word_again w ResetWord n c = ap (option_map Reset) (alone_again w n c)
-word_again w DeliverWord n c = ap (option_map Deliver) (alone_again w n c)
-word_again w TakeWord n c = ap (option_map Take) (alone_again w n c)
+word_again w word n c = ap (option_map (word_event word)) (alone_again w n c)
 
 -- no event line is empty or a comment
 word_line : (word : Word) (n : ℕ) → line_of (word_text word ++ decimal n)
     ≡ option_map Says (event_at (word_text word ++ decimal n))
 unfolding line_of
 word_line EnterWord n = refl
-word_line WakeWord n = refl
-word_line ResetWord n = refl
-word_line DeliverWord n = refl
-word_line TakeWord n = refl
+word_line word n = refl
 
 pub line_again : TextLaws → ReadsAsSpelled
 unfolding line_of event_at literal_at

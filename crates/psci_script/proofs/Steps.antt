@@ -1,8 +1,7 @@
 -- One step of a script, by what was answered.
 use Rattle.std.proofs.Common.{◌≡◌, ℕ, ◌+◌, ◌<◌, ◌≤◌, List, [], ◌∷◌, ◌++◌, length, take, refl, sym}
-use Rattle.std.proofs.Common.{ap}
-use Rattle.std.proofs.Common.{arith, subst, Option, Some, None, Result, Ok, Err, ◌∙◌}
-use Rattle.std.proofs.Common.{IsErr, IsErrAnd, IfErr, inl, inr, false}
+use Rattle.std.proofs.Common.{ap, arith, subst, Option, Some, None, Result, Ok, Err, ◌∙◌, IsErr}
+use Rattle.std.proofs.Common.{IsErrAnd, IfErr, inl, inr, false}
 use Rattle.std.proofs.lemmas.List.{length-take-le}
 use Rattle.psci_world_spec.specs.psci_board.Board.{BoardValue}
 use Rattle.psci_script.specs.declared.fault.Replayed.{Replayed}
@@ -15,19 +14,19 @@ use Rattle.psci_script.specs.declared.grammar.Line.{Line as LineSays}
 use Rattle.psci_script.specs.declared.grammar.Line.TheVariants.{Blank, Event as Says}
 use Rattle.psci_script.specs.declared.lines.Extent.{Extent}
 use Rattle.psci_script.specs.Line.{line_of}
-use Rattle.psci_script.specs.Script.{transcript_of_board, transcript_of_first}
 use Rattle.psci_script.specs.Answered.{Answered}
 use Rattle.psci_script.specs.Block.{ReadAhead}
 use Rattle.psci_script.specs.Progress.{Ahead, Progress, progress, IsLine, IsLineFront, FailsLine}
 use Rattle.psci_script.specs.Progress.{FindsLine, first_progress}
 use Rattle.psci_script.specs.Run.{BoardRead, IsNoDevice, IsWithinBlock, LineRefused}
-use Rattle.psci_script.specs.ScriptRun.{ScriptRun, run_by, run_on, with_record}
-use Rattle.psci_script.specs.Told.{Account, Ended, EndsBy, Goes, IsUnderWay, LineTold, Runs}
+use Rattle.psci_script.specs.ScriptRun.{ScriptRun, with_record}
+use Rattle.psci_script.specs.Told.{Ended, EndsBy, Goes, IsUnderWay, LineTold, Runs}
 use Rattle.psci_script.specs.Told.{remaining}
 use Rattle.psci_script.proofs.Accounts.{account_is, blank_remains, event_remains, unread_remains}
 use Rattle.psci_script.proofs.Ends.{ends_faulty, ends_line, stopped, failed}
-use Rattle.psci_script.proofs.Finish.{appends_none, consumes_none}
+use Rattle.psci_script.proofs.Known.{appends_none, consumes_none}
 use Rattle.psci_script.proofs.Taking.{goes_ahead, goes_line, skipped}
+use Rattle.psci_script.proofs.Accounts.{by_board, by_first}
 
 pub if_err_so : {X : Type 0} (r : Result X ReplayFault) (e : ReplayFault) (P : ReplayFault → Type 0)
     → IsErr r × IsErrAnd r (λ f. f ≡ e) → P e → IfErr r P
@@ -99,19 +98,10 @@ pub board_not : (told : Option ScriptRun → List ℕ → Type 0) (e : ReplayFau
 board_not told (Script l fault) first before t x m k i h =
     faulty_at told l 1 fault first before t h.0
     (by_board_line told first before t x (Err (Script 1 fault)) k i
-    (λ ls. ap (λ r. let a : Account = record {
-      run = run_by r ls;
-      end = (transcript_of_first r ls).end;
-    } in a) h.1))
+    (λ ls. ap (λ r. by_first r ls) h.1))
 board_not told (Board fault) first before t x m k i h =
     by_board_line told first before t x (Err (Board fault)) k i
-    (λ ls. ap (λ r. let a : Account = record {
-      run = run_by r ls;
-      end = (transcript_of_first r ls).end;
-    } in a) h.1 ∙ ap (λ r. let a : Account = record {
-      run = run_on r ls;
-      end = (transcript_of_board r ls).end;
-    } in a) h.2)
+    (λ ls. ap (λ r. by_first r ls) h.1 ∙ ap (λ r. by_board r ls) h.2)
 board_not told Read first before t x m k i h = absurd h
 board_not told Write first before t x m k i h = absurd h
 board_not told Memory first before t x m k i h = memory_out told first before t m k
@@ -133,13 +123,7 @@ begun is_at told b first before block left taken old new e at i k r more ev = re
   at = at;
   few = omega arith;
   goes = goes_line told None (first_run b) 0 first before block left taken old new e i k
-      (λ ls. ap (λ x. let a : Account = record {
-        run = run_by x ls;
-        end = (transcript_of_first x ls).end;
-      } in a) r.1 ∙ ap (λ x. let a : Account = record {
-        run = run_on x ls;
-        end = (transcript_of_board x ls).end;
-      } in a) r.2)
+      (λ ls. ap (λ x. by_first x ls) r.1 ∙ ap (λ x. by_board x ls) r.2)
       more (ev ∙ k.events);
 }
 
@@ -174,11 +158,9 @@ same_answers told run n first before block left taken old new e k =
 -- a line that is refused is no fault of a device
 pub line_fault : (f : ReplayFault) (n : ℕ) (line : Option LineSays) → LineRefused f n line
     → IsNoDevice f
-line_fault Memory n line r = tt
-line_fault (Script m fault) n line r = tt
-line_fault (Board fault) n line r = tt
 line_fault Read n line r = r
 line_fault Write n line r = r
+line_fault f n line r = tt
 
 pub line_not : (told : Option ScriptRun → List ℕ → Type 0) (f : ReplayFault) (run : ScriptRun)
     (n : ℕ) (first before : Option (List ℕ)) (block : ReadAhead) (left taken : Option (List ℕ))
@@ -195,14 +177,12 @@ line_not told (Script l fault) run n first before block left taken old new e m h
     (same_answers told (Some run) n first before block left taken old new a k) i
     (λ ls. unread_remains run n (take e.line block.unread) ls (omega arith)
     (line_short e block i) x.2)))
-line_not told (Board fault) run n first before block left taken old new e m h i k x a = absurd x
-line_not told Read run n first before block left taken old new e m h i k x a = absurd x
-line_not told Write run n first before block left taken old new e m h i k x a = absurd x
 line_not told Memory run n first before block left taken old new e m h i k x a =
     stopped told IsWithinBlock (Some run) n first before (progress block left new taken)
     (λ z. absurd (cc))
     (same_answers told (Some run) n first before block left taken old new a k)
     (λ t _. line_some e block i) m
+line_not told _ run n first before block left taken old new e m h i k x a = absurd x
 
 pub line_goes : (is_at : ScriptRun → Type 0) (told : Option ScriptRun → List ℕ → Type 0)
     (o : Option LineSays) (run : ScriptRun) (n : ℕ) (first before : Option (List ℕ))

@@ -19,7 +19,7 @@ use Rattle.psci_script.specs.Run.{Follows}
 use Rattle.psci_script.specs.ScriptRun.{GoesOn, ScriptRun, events_of, run_of, with_record}
 use Rattle.psci_script.specs.Told.{EventTold, Goes, IsUnderWay, LineTold, Tells}
 use Rattle.psci_script.specs.Told.{account, events_in, remaining}
-use Rattle.psci_script.proofs.EndRows.{answering, board, text}
+use Rattle.psci_script.proofs.Scripts.{answering, board, text}
 
 -- a byte is told for each event, and nothing before there is a board
 abbrev tally : Option ScriptRun → List ℕ → Type 0

@@ -14,29 +14,18 @@ use Rattle.psci_world_spec.proofs.Scripts.{started}
 use Rattle.psci_world_spec.specs.declared.said.Said.TheVariants.{Fw, Acked, Ignored, Absent}
 use Rattle.psci_world_spec.specs.declared.said.Said.TheVariants.{Taken as Took}
 use Rattle.psci_script.specs.Text.{answer_line, said_text}
+use Rattle.psci_board.proofs.Tables.{◌⇒◌, Gives}
 
--- an act alone, and one with a message of this kind
+-- an act alone
 abbrev alone : Act → List ℕ
 alone act = said_text (Fw act None)
 
-abbrev with_message : Act → Kind → List ℕ
-with_message act kind = said_text (Fw act (Some (record {
+-- a message of this kind with these parts, beside an act
+abbrev with_message : Act × Kind × List Part → List ℕ
+with_message (act, kind, parts) = said_text (Fw act (Some (record {
   index = 12;
   message = record {
     kind = kind;
-    core = record { number = 3 };
-    life = 2;
-    number = 10;
-    parts = [];
-  };
-})))
-
--- a Down with these parts
-abbrev down_with : List Part → List ℕ
-down_with parts = said_text (Fw Stop (Some (record {
-  index = 12;
-  message = record {
-    kind = Down;
     core = record { number = 3 };
     life = 2;
     number = 10;
@@ -45,8 +34,8 @@ down_with parts = said_text (Fw Stop (Some (record {
 })))
 
 -- an acknowledgement of a Down
-abbrev made : ℕ → ℕ → Bool → List ℕ
-made index applied stale = said_text (Acked index (record {
+abbrev made : ℕ × ℕ × Bool → List ℕ
+made (index, applied, stale) = said_text (Acked index (record {
   kind = Down;
   core = record { number = 3 };
   life = 1;
@@ -56,45 +45,22 @@ made index applied stale = said_text (Acked index (record {
 }))
 
 -- a code: signed, in decimal
-return_0 : alone (Return (record { 0 = pos 0 })) ≡ codes "return 0"
+acts : Gives alone
+    (Return (record { 0 = pos 0 }) ⇒ codes "return 0"
+    ∷ Return (record { 0 = pos 65537 }) ⇒ codes "return 65537"
+    ∷ Return (record { 0 = negsuc 0 }) ⇒ codes "return -1"
+    ∷ Return (record { 0 = negsuc 8 }) ⇒ codes "return -9"
+    -- a core that stops
+    ∷ Stop ⇒ codes "stop"
+    -- an entry point and a context id: lower-case digits, no leading zeros
+    ∷ Enter 0 0 ⇒ codes "enter 0x0 0x0"
+    ∷ Enter 0x40001000 0xabcdef ⇒ codes "enter 0x40001000 0xabcdef"
+    ∷ Enter 0xfffffffffffffffc 0xffffffffffffffff
+    ⇒ codes "enter 0xfffffffffffffffc 0xffffffffffffffff"
+    -- a core that resumes
+    ∷ Resume ⇒ codes "resume 0" ∷ [])
 unfolding digits
-return_0 = refl
-
-return_65537 : alone (Return (record { 0 = pos 65537 })) ≡ codes "return 65537"
-unfolding digits
-return_65537 = refl
-
-return_minus_1 : alone (Return (record { 0 = negsuc 0 })) ≡ codes "return -1"
-unfolding digits
-return_minus_1 = refl
-
-return_minus_9 : alone (Return (record { 0 = negsuc 8 })) ≡ codes "return -9"
-unfolding digits
-return_minus_9 = refl
-
--- a core that stops
-stop : alone Stop ≡ codes "stop"
-unfolding digits
-stop = refl
-
--- an entry point and a context id: lower-case digits, no leading zeros
-enter_at_zero : alone (Enter 0 0) ≡ codes "enter 0x0 0x0"
-unfolding digits
-enter_at_zero = refl
-
-enter_at_address : alone (Enter 0x40001000 0xabcdef) ≡ codes "enter 0x40001000 0xabcdef"
-unfolding digits
-enter_at_address = refl
-
-enter_largest : alone (Enter 0xfffffffffffffffc 0xffffffffffffffff)
-    ≡ codes "enter 0xfffffffffffffffc 0xffffffffffffffff"
-unfolding digits
-enter_largest = refl
-
--- a core that resumes
-resume : alone Resume ≡ codes "resume 0"
-unfolding digits
-resume = refl
+acts = refl
 
 -- a core that the power controller started, whatever for: the number of its start
 started_again : (cause : _) → said_text (started 1 2 cause) ≡ codes "started 2"
@@ -106,68 +72,41 @@ unfolding digits
 started_often cause = refl
 
 -- an acknowledgement: its number, how many parts were applied, and whether it is stale
-none_applied_stale : made 1 0 true ≡ codes "ack #1 applied 0 stale"
+acks : Gives made
+    ((1, 0, true) ⇒ codes "ack #1 applied 0 stale"
+    ∷ (0, 1, false) ⇒ codes "ack #0 applied 1"
+    ∷ (2, 0, false) ⇒ codes "ack #2 applied 0"
+    ∷ (10, 4, true) ⇒ codes "ack #10 applied 4 stale" ∷ [])
 unfolding digits
-none_applied_stale = refl
-
-one_applied : made 0 1 false ≡ codes "ack #0 applied 1"
-unfolding digits
-one_applied = refl
-
-part_applied : made 2 0 false ≡ codes "ack #2 applied 0"
-unfolding digits
-part_applied = refl
-
-four_applied_stale : made 10 4 true ≡ codes "ack #10 applied 4 stale"
-unfolding digits
-four_applied_stale = refl
+acks = refl
 
 -- what became of an acknowledgement
-used : said_text (Took Used) ≡ codes "used"
+said : Gives said_text
+    (Took Used ⇒ codes "used"
+    ∷ Took Old ⇒ codes "old"
+    -- nothing happened, and no such core, message or acknowledgement
+    ∷ Ignored ⇒ codes "ignored"
+    ∷ Absent ⇒ codes "absent" ∷ [])
 unfolding digits
-used = refl
-
-old : said_text (Took Old) ≡ codes "old"
-unfolding digits
-old = refl
-
--- nothing happened, and no such core, message or acknowledgement
-ignored : said_text Ignored ≡ codes "ignored"
-unfolding digits
-ignored = refl
-
-absent : said_text Absent ≡ codes "absent"
-unfolding digits
-absent = refl
+said = refl
 
 -- a message of each kind, after its act
-down : with_message Stop Down ≡ codes "stop #12 down 3 life 2 number 10"
+messages : Gives with_message
+    ((Stop, Down, []) ⇒ codes "stop #12 down 3 life 2 number 10"
+    ∷ (Stop, Down, record { level = 0; depth = 2; generation = 10 } ∷ [])
+    ⇒ codes "stop #12 down 3 life 2 number 10 parts 0:2:10"
+    ∷ (
+      Stop,
+      Down,
+      record { level = 0; depth = 3; generation = 10 }
+          ∷ record { level = 1; depth = 1; generation = 12 } ∷ [],
+    )
+    ⇒ codes "stop #12 down 3 life 2 number 10 parts 0:3:10 1:1:12"
+    ∷ (Return (record { 0 = pos 0 }), Start, []) ⇒ codes "return 0 #12 start 3 life 2 number 10"
+    ∷ (Stop, Off, []) ⇒ codes "stop #12 off 3 life 2 number 10"
+    ∷ (Stop, Reset, []) ⇒ codes "stop #12 reset 3 life 2 number 10" ∷ [])
 unfolding digits
-down = refl
-
-one_part : down_with (record { level = 0; depth = 2; generation = 10 } ∷ [])
-    ≡ codes "stop #12 down 3 life 2 number 10 parts 0:2:10"
-unfolding digits
-one_part = refl
-
-two_parts : down_with (record { level = 0; depth = 3; generation = 10 }
-    ∷ record { level = 1; depth = 1; generation = 12 } ∷ [])
-    ≡ codes "stop #12 down 3 life 2 number 10 parts 0:3:10 1:1:12"
-unfolding digits
-two_parts = refl
-
-start : with_message (Return (record { 0 = pos 0 })) Start
-    ≡ codes "return 0 #12 start 3 life 2 number 10"
-unfolding digits
-start = refl
-
-off : with_message Stop Off ≡ codes "stop #12 off 3 life 2 number 10"
-unfolding digits
-off = refl
-
-reset : with_message Stop Reset ≡ codes "stop #12 reset 3 life 2 number 10"
-unfolding digits
-reset = refl
+messages = refl
 
 -- the number of the event, the answer and a line feed
 first_line : answer_line 1 Ignored ≡ codes "1 ignored" ++ 10 ∷ []

@@ -19,50 +19,30 @@ not_less less = omega (arith, less)
 abbrev call : ℕ → ℕ → ℕ → ℕ → ℕ → Event
 call core x0 x1 x2 x3 = Call core (record { x0 = x0; x1 = x1; x2 = x2; x3 = x3 })
 
-largest_entry : HasWords (Enter largest)
-largest_entry = omega arith
+largest_numbers : HasWords (Enter largest) × HasWords (Wake largest) × HasWords (Reset largest)
+    × HasWords (Deliver largest) × HasWords (Take largest)
+    × HasWords (call largest largest largest largest largest)
+largest_numbers =
+    let fits : largest < 18446744073709551616 = omega arith in
+    (fits, fits, fits, fits, fits, (fits, fits, fits, fits, fits))
 
-largest_wake_up : HasWords (Wake largest)
-largest_wake_up = omega arith
+abbrev HasNoWords : Event → Type 0
+HasNoWords event = HasWords event → ⊥
 
-largest_reset : HasWords (Reset largest)
-largest_reset = omega arith
-
-largest_delivery : HasWords (Deliver largest)
-largest_delivery = omega arith
-
-largest_taking : HasWords (Take largest)
-largest_taking = omega arith
-
-largest_call : HasWords (call largest largest largest largest largest)
-largest_call = (omega arith, omega arith, omega arith, omega arith, omega arith)
-
-larger_entry : HasWords (Enter larger) → ⊥
-larger_entry h = not_less h
-
-larger_wake_up : HasWords (Wake larger) → ⊥
-larger_wake_up h = not_less h
-
-larger_reset : HasWords (Reset larger) → ⊥
-larger_reset h = not_less h
-
-larger_delivery : HasWords (Deliver larger) → ⊥
-larger_delivery h = not_less h
-
-larger_taking : HasWords (Take larger) → ⊥
-larger_taking h = not_less h
-
-call_of_a_larger_core : HasWords (call larger 0 0 0 0) → ⊥
-call_of_a_larger_core h = not_less h.0
-
-larger_word : HasWords (call 0 larger 0 0 0) → ⊥
-larger_word h = not_less h.1
-
-larger_first_argument : HasWords (call 0 0 larger 0 0) → ⊥
-larger_first_argument h = not_less h.2
-
-larger_second_argument : HasWords (call 0 0 0 larger 0) → ⊥
-larger_second_argument h = not_less h.3
-
-larger_third_argument : HasWords (call 0 0 0 0 larger) → ⊥
-larger_third_argument h = not_less h.4
+larger_numbers : HasNoWords (Enter larger) × HasNoWords (Wake larger) × HasNoWords (Reset larger)
+    × HasNoWords (Deliver larger) × HasNoWords (Take larger)
+    × HasNoWords (call larger 0 0 0 0) × HasNoWords (call 0 larger 0 0 0)
+    × HasNoWords (call 0 0 larger 0 0) × HasNoWords (call 0 0 0 larger 0)
+    × HasNoWords (call 0 0 0 0 larger)
+larger_numbers = (
+  not_less,
+  not_less,
+  not_less,
+  not_less,
+  not_less,
+  λ h. not_less h.0,
+  λ h. not_less h.1,
+  λ h. not_less h.2,
+  λ h. not_less h.3,
+  λ h. not_less h.4,
+)

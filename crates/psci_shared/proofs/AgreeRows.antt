@@ -1,6 +1,6 @@
 -- Worked examples of passes that agree with a book, and for each clause one that breaks just it.
 -- Core 0 asked twice, and core 1 in between.
-use Rattle.std.proofs.lemmas.Bool.{false≢true}
+use Rattle.std.proofs.lemmas.Bool.{false≢true, eqb-false}
 use Rattle.std.proofs.Common.{◌≡◌, ℕ, zero, suc, ◌<◌, ◌≤◌, List, [], ◌∷◌, map, Bool, true, false}
 use Rattle.std.proofs.Common.{refl, ap, arith}
 use Rattle.psci_fw.specs.psci_board.declared.node.Core.{Core}
@@ -20,6 +20,7 @@ use Rattle.psci_shared.specs.Views.{entered, item}
 use Rattle.psci_shared.specs.Gathers.{IsCause, items_of}
 use Rattle.psci_shared.specs.Passes.{PassView}
 use Rattle.psci_shared.specs.Places.{AllPlaced, places_of, times}
+use Rattle.psci_board.proofs.Tables.{◌⇒◌, Gives}
 
 abbrev core : ℕ → Core
 core n = record { number = n }
@@ -73,8 +74,7 @@ both_agree = (
 
 -- a pass without items agrees with every book
 second_does_not_agree : Agree wide (pass false 0 ours ∷ pass false 0 theirs ∷ []) → ⊥
-second_does_not_agree h =
-    let e : ◌≡◌ {A = ℕ} 1 0 = ap (λ (c : Core). c.number) h.0.1.0.1.0.1.0 in omega arith
+second_does_not_agree h = eqb-false 1 0 refl (ap (λ (c : Core). c.number) h.0.1.0.1.0.1.0)
 
 no_items : Agrees wide (pass false 1 [])
 no_items = ((λ is. absurd (false≢true is)), tt)
@@ -82,10 +82,7 @@ no_items = ((λ is. absurd (false≢true is)), tt)
 -- Passes that break one clause --------------------------------------------------------------------
 
 told_while_there_is_room : Agrees wide (pass true 0 ours) → ⊥
-told_while_there_is_room h = let e : ◌≡◌ {A = ℕ} 3 4 = h.0 refl in omega arith
-
-another_core : AllStandFrom entries (core 1) 0 ours → ⊥
-another_core h = let e : ◌≡◌ {A = ℕ} 0 1 = ap (λ (c : Core). c.number) h.0.1.0 in omega arith
+told_while_there_is_room h = eqb-false 3 4 refl (h.0 refl)
 
 -- what tells calls and replies apart
 abbrev word : FwCall → ℕ
@@ -101,33 +98,34 @@ number (Fault OldStart) = 4
 number (Out outcome) = 5
 number (Taken taken) = 6
 
-another_call : AllStandFrom entries (core 0) 0 (item 0 (ask 7) (Fault NoLife) ∷ []) → ⊥
-another_call h = let e : ◌≡◌ {A = ℕ} 1 7 = ap word h.0.1.1 in omega arith
+-- these items of a core do not stand in the book
+abbrev Strays : ℕ → List FwItem → Type 0
+Strays n items = AllStandFrom entries (core n) 0 items → ⊥
 
-another_reply : AllStandFrom entries (core 0) 0 (item 0 (ask 1) (Fault OldStart) ∷ []) → ⊥
-another_reply h = let e : ◌≡◌ {A = ℕ} 1 4 = ap number h.0.1.2 in omega arith
-
--- core 1 called a function, and the item says that it entered in life 2
-entered_where_called : AllStandFrom entries (core 1) 0
-    (item 1 (Enter (record { life = 2; number = 1; cause = On })) (Fault NotRunning) ∷ []) → ⊥
-entered_where_called h = let e : ◌≡◌ {A = ℕ} 2 0 = ap word h.0.1.1 in omega arith
-
--- it was refused since core 1 does not run, and the item says since there is no such core
-refused_otherwise : AllStandFrom entries (core 1) 0 (item 1 (ask 2) (Fault NoCore) ∷ []) → ⊥
-refused_otherwise h = let e : ◌≡◌ {A = ℕ} 2 3 = ap number h.0.1.2 in omega arith
-
--- the same entry twice; entries in the wrong order
-place_twice : AllStandFrom entries (core 1) 0
-    (item 1 (ask 2) (Fault NotRunning) ∷ item 1 (ask 2) (Fault NotRunning) ∷ []) → ⊥
-place_twice h = let e : 2 ≤ 1 = h.1.0.0 in omega arith
-
-places_fall : AllStandFrom entries (core 0) 0
-    (item 2 (ask 3) (Fault NoLife) ∷ item 0 (ask 1) (Fault NoLife) ∷ []) → ⊥
-places_fall h = let e : 3 ≤ 0 = h.1.0.0 in omega arith
-
--- there is no such entry
-place_is_past : AllStandFrom entries (core 0) 0 (item 3 (ask 1) (Fault NoLife) ∷ []) → ⊥
-place_is_past h = h.0.1
+strays : Strays 1 ours
+    -- another call, another reply
+    × Strays 0 (item 0 (ask 7) (Fault NoLife) ∷ [])
+    × Strays 0 (item 0 (ask 1) (Fault OldStart) ∷ [])
+    -- core 1 called a function, and the item says that it entered in life 2
+    × Strays 1
+    (item 1 (Enter (record { life = 2; number = 1; cause = On })) (Fault NotRunning) ∷ [])
+    -- it was refused since core 1 does not run, and the item says since there is no such core
+    × Strays 1 (item 1 (ask 2) (Fault NoCore) ∷ [])
+    -- the same entry twice; entries in the wrong order
+    × Strays 1 (item 1 (ask 2) (Fault NotRunning) ∷ item 1 (ask 2) (Fault NotRunning) ∷ [])
+    × Strays 0 (item 2 (ask 3) (Fault NoLife) ∷ item 0 (ask 1) (Fault NoLife) ∷ [])
+    -- there is no such entry
+    × Strays 0 (item 3 (ask 1) (Fault NoLife) ∷ [])
+strays = (
+  λ h. eqb-false 0 1 refl (ap (λ (c : Core). c.number) h.0.1.0),
+  λ h. eqb-false 1 7 refl (ap word h.0.1.1),
+  λ h. eqb-false 1 4 refl (ap number h.0.1.2),
+  λ h. eqb-false 2 0 refl (ap word h.0.1.1),
+  λ h. eqb-false 2 3 refl (ap number h.0.1.2),
+  λ h. let e : 2 ≤ 1 = h.1.0.0 in omega arith,
+  λ h. let e : 3 ≤ 0 = h.1.0.0 in omega arith,
+  λ h. h.0.1,
+)
 
 -- two passes that agree, with one place
 one_place_in_two : Agree wide (pass false 1 theirs ∷ pass false 1 theirs ∷ []) → ⊥
@@ -149,13 +147,11 @@ second_is_not_apart : apart_from (places ours)
     (places theirs ∷ places (item 2 (ask 3) (Fault NoLife) ∷ []) ∷ []) ≡ false
 second_is_not_apart = refl
 
--- not the first pass, but the two behind it
-last_two_are_not_apart :
-    all_apart (places theirs ∷ places ours ∷ places ours ∷ []) ≡ false
-last_two_are_not_apart = refl
-
-all_are_apart : all_apart (places theirs ∷ places ours ∷ [] ∷ []) ≡ true
-all_are_apart = refl
+places_apart : Gives all_apart
+    ((places theirs ∷ places ours ∷ [] ∷ []) ⇒ true
+    -- not the first pass, but the two behind it
+    ∷ (places theirs ∷ places ours ∷ places ours ∷ []) ⇒ false ∷ [])
+places_apart = refl
 
 -- each place of the book stands in one of two passes; the place in none, and the one in two
 placed : map (λ place. times place (map places_of (pass false 0 ours ∷ pass false 1 theirs ∷ [])))
@@ -183,11 +179,11 @@ room_needs_no_place zero h = refl
 room_needs_no_place (suc place) h = let k : suc place < 1 = h in absurd (omega arith)
 
 place_in_none : AllPlaced wide (pass false 0 ours ∷ []) → ⊥
-place_in_none h = let e : ◌≡◌ {A = ℕ} 0 1 = h 1 (omega arith) in omega arith
+place_in_none h = eqb-false 0 1 refl (h 1 (omega arith))
 
 last_place_in_none : AllPlaced wide
     (pass false 0 (item 0 (ask 1) (Fault NoLife) ∷ []) ∷ pass false 1 theirs ∷ []) → ⊥
-last_place_in_none h = let e : ◌≡◌ {A = ℕ} 0 1 = h 2 (omega arith) in omega arith
+last_place_in_none h = eqb-false 0 1 refl (h 2 (omega arith))
 
 -- Gathering ---------------------------------------------------------------------------------------
 

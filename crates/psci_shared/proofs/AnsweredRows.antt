@@ -1,8 +1,7 @@
 -- Worked examples of how a call through a pass was answered.
-use Rattle.std.proofs.Common.{◌≡◌, inl, inr, ℕ, zero, suc, ◌<◌, List, [], ◌∷◌, length, pos}
+use Rattle.std.proofs.Common.{◌≡◌, inl, inr, ℕ, List, [], ◌∷◌, length, pos}
 use Rattle.std.proofs.Common.{false, refl, ap, arith, None, Some}
-use Rattle.psci_fw.specs.psci_abi.declared.format.Format.TheVariants.{Original}
-use Rattle.psci_fw.specs.psci_board.Board.{BoardValue, core_of}
+use Rattle.psci_fw.specs.psci_board.Board.{core_of}
 use Rattle.psci_fw.specs.psci_fw_spec.After.{after}
 use Rattle.psci_fw.specs.psci_fw_spec.Answer.{answer}
 use Rattle.psci_fw.specs.psci_fw_spec.Calls.{outcome_of}
@@ -28,23 +27,14 @@ use Rattle.psci_shared.specs.Books.{entry, history_of}
 use Rattle.psci_shared.specs.Passes.{PassView}
 use Rattle.psci_shared.specs.Views.{item}
 use Rattle.psci_shared.specs.Writing.{AllLast, Stand}
+use Rattle.psci_shared.proofs.TwoCores.{board, of_two}
+use Rattle.std.proofs.lemmas.Bool.{eqb-false}
 
 -- what an example unfolds to compute an answer, and the statuses after it
 unfoldable pub computing : Unit {0}
 unfolding answer values_of after outcome_of enter_outcome target_of core_of outstanding last_message
     changes_since statuses history_of
 computing = tt
-
--- two cores
-abbrev pub board : BoardValue
-board = record {
-  levels = (2 ∷ []) ∷ [];
-  ranges = record { start = 0; end = 64 } ∷ [];
-  boot = 0;
-  starts = 9;
-  lives = 3;
-  format = Original;
-}
 
 -- the boot core enters in a life
 abbrev pub starts : ℕ → FwCall
@@ -119,15 +109,13 @@ seen_on = ((2, On) ∷ (0, Off) ∷ []) ∷ ((1, Pending) ∷ (0, Off) ∷ []) �
 
 on_stands : Stand board after_on seen_on
 unfolding computing
-on_stands zero h = (inl (refl, refl), omega arith, (inr (inr (inl (refl, refl))), tt, tt))
-on_stands (suc zero) h = (inl (refl, refl), omega arith, (inr (inl (refl, refl)), tt, tt))
-on_stands (suc (suc core)) h = tt
+on_stands = of_two _
+    (inl (refl, refl), omega arith, (inr (inr (inl (refl, refl))), tt, tt))
+    (inl (refl, refl), omega arith, (inr (inl (refl, refl)), tt, tt))
 
 on_is_last : AllLast board after_on seen_on
 unfolding computing
-on_is_last zero h = ((0, Off) ∷ [], refl)
-on_is_last (suc zero) h = ((0, Off) ∷ [], refl)
-on_is_last (suc (suc core)) h = let k : suc (suc core) < 2 = h in absurd (omega arith)
+on_is_last = of_two _ ((0, Off) ∷ [], refl) ((0, Off) ∷ [], refl)
 
 core_1_is_asked_on : IsAnsweredAfter board booted 5 (fresh 0)
     (pass 0 (item 1 on accepted ∷ []) seen_on) on accepted
@@ -147,21 +135,10 @@ kind (Fault NoLife) = 4
 kind (Fault NotRunning) = 5
 kind (Fault fault) = 6
 
--- another reply than the answer; one that is the answer before the entries, and after this call
-returned_alone : IsAnsweredAfter board booted 5 (fresh 0)
-    (pass 0 (item 1 on boots ∷ []) seen_on) on boots → ⊥
-unfolding computing
-returned_alone h = let e : ◌≡◌ {A = ℕ} 1 2 = ap kind h.1 in omega arith
-
-as_without_entries : IsAnsweredAfter board booted 5 (fresh 0)
-    (pass 0 (item 1 on (Fault NoLife) ∷ []) seen_on) on (Fault NoLife) → ⊥
-unfolding computing
-as_without_entries h = let e : ◌≡◌ {A = ℕ} 4 2 = ap kind h.1 in omega arith
-
 on_twice : IsAnsweredAfter board after_on 6 (fresh 0)
     (pass 0 (item 2 on accepted ∷ []) seen_on) on accepted → ⊥
 unfolding computing
-on_twice h = let e : ◌≡◌ {A = ℕ} 2 1 = ap kind h.1 in omega arith
+on_twice h = eqb-false 2 1 refl (ap kind h.1)
 
 -- the place of the first item
 abbrev first_place : List FwItem → ℕ
@@ -172,71 +149,61 @@ abbrev first_reply : List FwItem → ℕ
 first_reply [] = 99
 first_reply (i ∷ is) = kind i.reply
 
--- the item has another place, another reply, or is not there; what was there before is gone
-one_place_lower : IsAnsweredAfter board booted 5 (fresh 0)
-    (pass 0 (item 0 on accepted ∷ []) seen_on) on accepted → ⊥
-unfolding computing
-one_place_lower h = let e : ◌≡◌ {A = ℕ} 0 1 = ap first_place h.2 in omega arith
-
-one_place_higher : IsAnsweredAfter board booted 5 (fresh 0)
-    (pass 0 (item 2 on accepted ∷ []) seen_on) on accepted → ⊥
-unfolding computing
-one_place_higher h = let e : ◌≡◌ {A = ℕ} 2 1 = ap first_place h.2 in omega arith
-
-item_of_another_reply : IsAnsweredAfter board booted 5 (fresh 0)
-    (pass 0 (item 1 on boots ∷ []) seen_on) on accepted → ⊥
-unfolding computing
-item_of_another_reply h = let e : ◌≡◌ {A = ℕ} 1 2 = ap first_reply h.2 in omega arith
-
-no_item : IsAnsweredAfter board booted 5 (fresh 0) (pass 0 [] seen_on) on accepted → ⊥
-unfolding computing
-no_item h = let e : ◌≡◌ {A = ℕ} 0 1 = ap length h.2 in omega arith
-
 old_item_is_gone : IsAnsweredAfter board booted 5 (pass 0 (item 0 (starts 1) boots ∷ []) [])
     (pass 0 (item 1 on accepted ∷ []) seen_on) on accepted → ⊥
 unfolding computing
-old_item_is_gone h = let e : ◌≡◌ {A = ℕ} 1 2 = ap length h.2 in omega arith
+old_item_is_gone h = eqb-false 1 2 refl (ap length h.2)
 
 -- a pass has seen what core 1 never was, or of core 0 what came by another serial
 never_on : Within (Pending ∷ Off ∷ []) ((1, On) ∷ []) → ⊥
 never_on (inl e, above, more) = let s : On ≡ Pending = e.1 in cc
-never_on (inr (inl e), above, more) = let s : ◌≡◌ {A = ℕ} 1 0 = e.0 in omega arith
+never_on (inr (inl e), above, more) = eqb-false 1 0 refl e.0
 never_on (inr (inr e), above, more) = e
 
-core_1_was_never_on : IsAnsweredAfter board booted 5 (fresh 0)
-    (pass 0 (item 1 on accepted ∷ []) (((2, On) ∷ []) ∷ ((1, On) ∷ []) ∷ [])) on accepted → ⊥
-unfolding computing
-core_1_was_never_on h = never_on (h.3 1 (omega arith))
-
 not_off_then : Within (On ∷ Pending ∷ Off ∷ []) ((2, On) ∷ (1, Off) ∷ []) → ⊥
-not_off_then (i, above, (inl e, over, more)) = let s : ◌≡◌ {A = ℕ} 1 2 = e.0 in omega arith
+not_off_then (i, above, (inl e, over, more)) = eqb-false 1 2 refl e.0
 not_off_then (i, above, (inr (inl e), over, more)) = let s : Off ≡ Pending = e.1 in cc
-not_off_then (i, above, (inr (inr (inl e)), over, more)) =
-    let s : ◌≡◌ {A = ℕ} 1 0 = e.0 in omega arith
+not_off_then (i, above, (inr (inr (inl e)), over, more)) = eqb-false 1 0 refl e.0
 not_off_then (i, above, (inr (inr (inr e)), over, more)) = e
-
-core_0_was_not_off_then : IsAnsweredAfter board booted 5 (fresh 0)
-    (pass 0 (item 1 on accepted ∷ [])
-    (((2, On) ∷ (1, Off) ∷ []) ∷ ((1, Pending) ∷ []) ∷ [])) on accepted → ⊥
-unfolding computing
-core_0_was_not_off_then h = not_off_then (h.3 0 (omega arith))
 
 -- the serial of the last item
 abbrev last : List Item → ℕ
 last [] = 9
 last (i ∷ is) = i.0
 
--- a pass has not seen what the call made of its target; or what its caller is
-target_is_not_seen : IsAnsweredAfter board booted 5 (fresh 0)
-    (pass 0 (item 1 on accepted ∷ []) (((2, On) ∷ (0, Off) ∷ []) ∷ ((0, Off) ∷ []) ∷ [])) on
-    accepted → ⊥
-unfolding computing
-target_is_not_seen h =
-    let e : ◌≡◌ {A = ℕ} 0 1 = ap last (h.4 1 (omega arith)).1 in omega arith
+-- core 0 asks core 1 on once it has entered, and is answered so: its items, and what it has seen
+abbrev Answers : List FwItem → List (List Item) → FwReply → Type 0
+Answers items seen reply =
+    IsAnsweredAfter board booted 5 (fresh 0) (pass 0 items seen) on reply
 
-caller_is_not_seen : IsAnsweredAfter board booted 5 (fresh 0)
-    (pass 0 (item 1 on accepted ∷ [])
-    (((1, Pending) ∷ (0, Off) ∷ []) ∷ ((1, Pending) ∷ (0, Off) ∷ []) ∷ [])) on accepted → ⊥
+other_answers :
+    -- another reply than the answer; one that is the answer before the entries
+    ¬ (Answers (item 1 on boots ∷ []) seen_on boots)
+    × ¬ (Answers (item 1 on (Fault NoLife) ∷ []) seen_on (Fault NoLife))
+    -- the item has another place, another reply, or is not there
+    × ¬ (Answers (item 0 on accepted ∷ []) seen_on accepted)
+    × ¬ (Answers (item 2 on accepted ∷ []) seen_on accepted)
+    × ¬ (Answers (item 1 on boots ∷ []) seen_on accepted)
+    × ¬ (Answers [] seen_on accepted)
+    -- a pass has seen what core 1 never was, or of core 0 what came by another serial
+    × ¬ (Answers (item 1 on accepted ∷ []) (((2, On) ∷ []) ∷ ((1, On) ∷ []) ∷ []) accepted)
+    × ¬ (Answers (item 1 on accepted ∷ []) (((2, On) ∷ (1, Off) ∷ []) ∷ ((1, Pending) ∷ []) ∷ [])
+    accepted)
+    -- a pass has not seen what the call made of its target; or what its caller is
+    × ¬ (Answers (item 1 on accepted ∷ []) (((2, On) ∷ (0, Off) ∷ []) ∷ ((0, Off) ∷ []) ∷ [])
+    accepted)
+    × ¬ (Answers (item 1 on accepted ∷ [])
+    (((1, Pending) ∷ (0, Off) ∷ []) ∷ ((1, Pending) ∷ (0, Off) ∷ []) ∷ []) accepted)
 unfolding computing
-caller_is_not_seen h =
-    let e : ◌≡◌ {A = ℕ} 1 2 = ap last (h.4 0 (omega arith)).1 in omega arith
+other_answers = (
+  λ h. eqb-false 1 2 refl (ap kind h.1),
+  λ h. eqb-false 4 2 refl (ap kind h.1),
+  λ h. eqb-false 0 1 refl (ap first_place h.2),
+  λ h. eqb-false 2 1 refl (ap first_place h.2),
+  λ h. eqb-false 1 2 refl (ap first_reply h.2),
+  λ h. eqb-false 0 1 refl (ap length h.2),
+  λ h. never_on (h.3 1 (omega arith)),
+  λ h. not_off_then (h.3 0 (omega arith)),
+  λ h. eqb-false 0 1 refl (ap last (h.4 1 (omega arith)).1),
+  λ h. eqb-false 1 2 refl (ap last (h.4 0 (omega arith)).1),
+)

@@ -1,8 +1,7 @@
 -- Worked examples of books: the reply after entries, what passes have seen of them, and what the
 -- type of a book keeps. In life 2 the boot core has entered, and core 1 is OFF.
-use Rattle.std.proofs.Common.{◌≡◌, inl, inr, ℕ, zero, suc, ◌<◌, ◌≤◌, List, [], ◌∷◌, pos}
-use Rattle.std.proofs.Common.{false, refl, ap, arith, None}
-use Rattle.psci_fw.specs.psci_abi.declared.format.Format.TheVariants.{Original}
+use Rattle.std.proofs.Common.{◌≡◌, inl, inr, ℕ, zero, suc, ◌<◌, ◌≤◌, List, [], ◌∷◌, pos, false}
+use Rattle.std.proofs.Common.{refl, ap, arith, None, ◌∙◌, sym}
 use Rattle.psci_fw.specs.psci_board.Board.{BoardValue}
 use Rattle.psci_fw.specs.psci_fw_spec.Answer.{answer}
 use Rattle.psci_fw.specs.psci_fw_spec.After.{after}
@@ -29,22 +28,14 @@ use Rattle.psci_shared.specs.Gathers.{AllSeen, AllStand}
 use Rattle.psci_shared.specs.Inside.{IsTied}
 use Rattle.psci_shared.specs.Passes.{PassView}
 use Rattle.psci_shared.specs.Writing.{Stand}
+use Rattle.psci_shared.proofs.TwoCores.{board, of_two}
+use Rattle.std.proofs.lemmas.Bool.{eqb-false}
+use Rattle.psci_board.proofs.Tables.{◌⇒◌, Gives}
 
 -- what an example unfolds to compute an answer
 unfoldable computing : Unit {0}
 unfolding answer values_of after outcome_of enter_outcome target_of
 computing = tt
-
--- two cores
-abbrev board : BoardValue
-board = record {
-  levels = (2 ∷ []) ∷ [];
-  ranges = record { start = 0; end = 64 } ∷ [];
-  boot = 0;
-  starts = 9;
-  lives = 3;
-  format = Original;
-}
 
 abbrev enters : ℕ → FwEntry
 enters life = entry life (record { number = 0 })
@@ -64,17 +55,16 @@ told = Out (record { act = acts.Return (record { 0 = pos 0x10001 }); message = N
 
 -- The reply after entries -------------------------------------------------------------------------
 
-before_a_life : answer_after board [] 0 version ≡ Fault NoLife
-unfolding computing history_of
-before_a_life = refl
+-- what a core is replied that asks for the version
+abbrev replied : List FwEntry × ℕ → FwReply
+replied (entries, core) = answer_after board entries core version
 
-of_a_running_core : answer_after board entries 0 version ≡ told
+replies_after_entries : Gives replied
+    (([], 0) ⇒ Fault NoLife
+    ∷ (entries, 0) ⇒ told
+    ∷ (entries, 1) ⇒ Fault NotRunning ∷ [])
 unfolding computing history_of
-of_a_running_core = refl
-
-of_a_core_that_is_off : answer_after board entries 1 version ≡ Fault NotRunning
-unfolding computing history_of
-of_a_core_that_is_off = refl
+replies_after_entries = refl
 
 -- What passes have seen ---------------------------------------------------------------------------
 
@@ -103,8 +93,8 @@ both_have_seen = (older, (newer, tt))
 
 -- an item was seen that was not written: by the first pass, by the second, of another core
 not_of_the_log : Within (Pending ∷ Off ∷ []) ((2, On) ∷ []) → ⊥
-not_of_the_log (inl e, above, more) = let s : ◌≡◌ {A = ℕ} 2 1 = e.0 in omega arith
-not_of_the_log (inr (inl e), above, more) = let s : ◌≡◌ {A = ℕ} 2 0 = e.0 in omega arith
+not_of_the_log (inl e, above, more) = eqb-false 2 1 refl e.0
+not_of_the_log (inr (inl e), above, more) = eqb-false 2 0 refl e.0
 not_of_the_log (inr (inr e), above, more) = e
 
 first_has_not_seen : AllSeen log
@@ -121,9 +111,7 @@ of_a_core_without_a_log h = (h.0 2).0
 -- the statuses after the entries: OFF, ON_PENDING and ON of the boot core in either life
 first_stands : Stand board entries ([] ∷ ((0, Off) ∷ []) ∷ [])
 unfolding statuses history_of
-first_stands zero h = tt
-first_stands (suc zero) h = (inl (refl, refl), tt, tt)
-first_stands (suc (suc core)) h = tt
+first_stands = of_two _ tt (inl (refl, refl), tt, tt)
 
 second_stands : Stand board entries []
 unfolding statuses history_of
@@ -134,7 +122,7 @@ all_stand = (first_stands, (second_stands, tt))
 
 -- a status that core 1 never had: seen by the first pass, and by the second
 never_on : Within (Off ∷ []) ((1, On) ∷ []) → ⊥
-never_on (inl e, above, more) = let s : ◌≡◌ {A = ℕ} 1 0 = e.0 in omega arith
+never_on (inl e, above, more) = eqb-false 1 0 refl e.0
 never_on (inr e, above, more) = e
 
 first_does_not_stand : AllStand board entries (pass ([] ∷ ((1, On) ∷ []) ∷ []) ∷ pass [] ∷ []) → ⊥
@@ -178,16 +166,14 @@ is_out (Fault fault) = 3
 illegal : (f : FirmwareValue)
     → IsTied board f (entry 0 (record { number = 1 }) version told ∷ []) 4 3 → ⊥
 unfolding computing history_of
-illegal f h = let e : ◌≡◌ {A = ℕ} 1 3 = ap is_out h.legal.0 in omega arith
+illegal f h = eqb-false 1 3 refl (ap is_out h.legal.0)
 
 -- the firmware is of another board; it has another life than the entries say
 other_board : (f : FirmwareValue) → f.board.starts ≡ 8 → IsTied board f [] 4 3 → ⊥
 other_board f eight h =
-    let e : f.board.starts ≡ 9 = ap (λ (b : BoardValue). b.starts) h.board in
-    omega (arith, eight, e)
+    eqb-false 8 9 refl (sym eight ∙ ap (λ (b : BoardValue). b.starts) h.board)
 
 other_life : (f : FirmwareValue) → (seen f).life ≡ 1 → IsTied board f entries 4 3 → ⊥
 unfolding computing history_of
 other_life f one h =
-    let e : (seen f).life ≡ 2 = ap (λ (v : Values). v.life) h.values in
-    omega (arith, one, e)
+    eqb-false 1 2 refl (sym one ∙ ap (λ (v : Values). v.life) h.values)

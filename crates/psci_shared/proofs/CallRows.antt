@@ -20,6 +20,7 @@ use Rattle.psci_shared.specs.Gathers.{met}
 use Rattle.psci_shared.specs.Passes.{Fits, IsCalled, IsRefused, PassView}
 use Rattle.psci_shared.specs.Views.{item}
 use Rattle.psci_shared.specs.Writing.{HasSeen}
+use Rattle.std.proofs.lemmas.Bool.{eqb-false, true≢false, false≢true}
 
 -- a function that core 2 asks for, its entry in life 2, and an acknowledgement in life 3
 abbrev ask : ℕ → FwCall
@@ -46,28 +47,40 @@ used = Taken takens.Used
 
 -- What fits ---------------------------------------------------------------------------------------
 
-function_fits : Fits (ask 1) stops × Fits (ask 1) (Fault NotRunning)
-function_fits = (tt, tt)
+fitting : Fits (ask 1) stops × Fits (ask 1) (Fault NotRunning) × Fits enter stops
+    × Fits enter (Fault NoLife) × Fits take used
+fitting = (tt, tt, tt, tt, tt)
 
-function_is_not_taken : Fits (ask 1) used → ⊥
-function_is_not_taken h = h
-
-entry_fits : Fits enter stops × Fits enter (Fault NoLife)
-entry_fits = (tt, tt)
-
-entry_is_not_taken : Fits enter used → ⊥
-entry_is_not_taken h = h
-
-acknowledgement_fits : Fits take used
-acknowledgement_fits = tt
-
-no_outcome_of_an_acknowledgement : Fits take stops → ⊥
-no_outcome_of_an_acknowledgement h = h
-
-acknowledgement_is_not_refused : Fits take (Fault NoLife) → ⊥
-acknowledgement_is_not_refused h = h
+not_fitting : ¬ (Fits (ask 1) used) × ¬ (Fits enter used) × ¬ (Fits take stops)
+    × ¬ (Fits take (Fault NoLife))
+not_fitting = (λ h. h, λ h. h, λ h. h, λ h. h)
 
 -- A call that was entered -------------------------------------------------------------------------
+
+-- the place of the first item
+abbrev first_place : List FwItem → ℕ
+first_place [] = 99
+first_place (i ∷ is) = i.place
+
+-- what tells calls and replies apart
+abbrev word : FwCall → ℕ
+word (Smc regs) = regs.x0
+word (Enter start) = 100 + start.number
+word (Take ack) = 200
+
+abbrev is_out : FwReply → ℕ
+is_out (Out outcome) = 1
+is_out (Taken taken) = 2
+is_out (Fault fault) = 3
+
+-- the last item
+abbrev last_word : List FwItem → ℕ
+last_word [] = 99
+last_word (i ∷ is) = word i.call
+
+abbrev last_reply : List FwItem → ℕ
+last_reply [] = 99
+last_reply (i ∷ is) = is_out i.reply
 
 abbrev pass : ℕ → Bool → List FwItem → List (List Item) → PassView
 pass n told items seen = record {
@@ -92,31 +105,6 @@ entered_behind = (7, [] ∷ ((2, On) ∷ []) ∷ [], refl)
 first_of_a_told_pass : IsCalled (pass 0 true [] []) (pass 0 true (new ∷ []) []) enter (Fault NoLife)
 first_of_a_told_pass = (7, [], refl)
 
--- the place of the first item
-abbrev first_place : List FwItem → ℕ
-first_place [] = 99
-first_place (i ∷ is) = i.place
-
-entered_in_front : IsCalled (pass 2 false (old ∷ []) []) (pass 2 false (new ∷ old ∷ []) []) enter
-    (Fault NoLife) → ⊥
-entered_in_front h =
-    let e : ◌≡◌ {A = ℕ} 7 3 = ap (λ (p : PassView). first_place p.items) h.2 in omega arith
-
-nothing_entered : IsCalled (pass 2 false (old ∷ []) []) (pass 2 false (old ∷ []) []) (ask 1) stops
-    → ⊥
-nothing_entered h =
-    let e : ◌≡◌ {A = ℕ} 1 2 = ap (λ (p : PassView). length p.items) h.2 in omega arith
-
-entered_by_another_core : IsCalled (pass 2 false [] []) (pass 1 false (new ∷ []) []) enter
-    (Fault NoLife) → ⊥
-entered_by_another_core h =
-    let e : ◌≡◌ {A = ℕ} 1 2 = ap (λ (p : PassView). p.core.number) h.2 in omega arith
-
-entered_and_told : IsCalled (pass 2 false [] []) (pass 2 true (new ∷ []) []) enter (Fault NoLife)
-    → ⊥
-entered_and_told h =
-    let e : true ≡ false = ap (λ (p : PassView). p.told_full) h.2 in absurd (cc)
-
 -- what a pass had seen it has seen after a call
 length_if : (b : Bool) (i j : Item) → 1 ≤ length (if b then i ∷ j ∷ [] else j ∷ [])
 length_if true i j = omega arith
@@ -135,70 +123,48 @@ entered_and_forgotten h =
     let some : 1 ≤ length (row (gains (((0, Off) ∷ []) ∷ []) h.1) 0) = some_stay (0, Off) h.1 in
     omega arith
 
--- what tells calls and replies apart
-abbrev word : FwCall → ℕ
-word (Smc regs) = regs.x0
-word (Enter start) = 100 + start.number
-word (Take ack) = 200
-
-abbrev is_out : FwReply → ℕ
-is_out (Out outcome) = 1
-is_out (Taken taken) = 2
-is_out (Fault fault) = 3
-
--- the last item
-abbrev last_word : List FwItem → ℕ
-last_word [] = 99
-last_word (i ∷ is) = word i.call
-
-abbrev last_reply : List FwItem → ℕ
-last_reply [] = 99
-last_reply (i ∷ is) = is_out i.reply
-
-another_call : IsCalled (pass 2 false [] []) (pass 2 false (new ∷ []) []) (ask 5) (Fault NoLife)
-    → ⊥
-another_call h =
-    let e : ◌≡◌ {A = ℕ} 104 5 = ap (λ (p : PassView). last_word p.items) h.2 in omega arith
-
-another_reply : IsCalled (pass 2 false [] []) (pass 2 false (new ∷ []) []) enter stops → ⊥
-another_reply h =
-    let e : ◌≡◌ {A = ℕ} 3 1 = ap (λ (p : PassView). last_reply p.items) h.2 in omega arith
+called_otherwise :
+    ¬ (IsCalled (pass 2 false (old ∷ []) []) (pass 2 false (new ∷ old ∷ []) []) enter
+    (Fault NoLife))
+    × ¬ (IsCalled (pass 2 false (old ∷ []) []) (pass 2 false (old ∷ []) []) (ask 1) stops)
+    × ¬ (IsCalled (pass 2 false [] []) (pass 1 false (new ∷ []) []) enter (Fault NoLife))
+    × ¬ (IsCalled (pass 2 false [] []) (pass 2 true (new ∷ []) []) enter (Fault NoLife))
+    × ¬ (IsCalled (pass 2 false [] []) (pass 2 false (new ∷ []) []) (ask 5) (Fault NoLife))
+    × ¬ (IsCalled (pass 2 false [] []) (pass 2 false (new ∷ []) []) enter stops)
+called_otherwise = (
+  λ h. eqb-false 7 3 refl (ap (λ (p : PassView). first_place p.items) h.2),
+  λ h. eqb-false 1 2 refl (ap (λ (p : PassView). length p.items) h.2),
+  λ h. eqb-false 1 2 refl (ap (λ (p : PassView). p.core.number) h.2),
+  λ h. true≢false (ap (λ (p : PassView). p.told_full) h.2),
+  λ h. eqb-false 104 5 refl (ap (λ (p : PassView). last_word p.items) h.2),
+  λ h. eqb-false 3 1 refl (ap (λ (p : PassView). last_reply p.items) h.2),
+)
 
 -- A call that was refused -------------------------------------------------------------------------
 
-full_is_told : IsRefused (pass 1 false (old ∷ []) []) (pass 1 true (old ∷ []) []) enter BookFull
-full_is_told = refl
+refused_so : IsRefused (pass 1 false (old ∷ []) []) (pass 1 true (old ∷ []) []) enter BookFull
+    × IsRefused (pass 1 false (old ∷ []) []) (pass 1 false (old ∷ new ∷ []) []) enter (Fw NoLife)
+refused_so = (refl, (7, [], refl))
 
-full_is_not_told : IsRefused (pass 1 false [] []) (pass 1 false [] []) enter BookFull → ⊥
-full_is_not_told h =
-    let e : false ≡ true = ap (λ (p : PassView). p.told_full) h in absurd (cc)
-
-full_and_entered : IsRefused (pass 1 false [] []) (pass 1 true (new ∷ []) []) enter BookFull → ⊥
-full_and_entered h =
-    let e : ◌≡◌ {A = ℕ} 1 0 = ap (λ (p : PassView). length p.items) h in omega arith
-
-fault_is_entered : IsRefused (pass 1 false (old ∷ []) []) (pass 1 false (old ∷ new ∷ []) []) enter
-    (Fw NoLife)
-fault_is_entered = (7, [], refl)
-
-fault_is_not_entered : IsRefused (pass 1 false [] []) (pass 1 false [] []) enter (Fw NoLife) → ⊥
-fault_is_not_entered h =
-    let e : ◌≡◌ {A = ℕ} 0 1 = ap (λ (p : PassView). length p.items) h.2 in omega arith
-
-fault_is_told : IsRefused (pass 1 false [] []) (pass 1 true [] []) enter (Fw NoLife) → ⊥
-fault_is_told h =
-    let e : ◌≡◌ {A = ℕ} 0 1 = ap (λ (p : PassView). length p.items) h.2 in omega arith
+refused_otherwise :
+    ¬ (IsRefused (pass 1 false [] []) (pass 1 false [] []) enter BookFull)
+    × ¬ (IsRefused (pass 1 false [] []) (pass 1 true (new ∷ []) []) enter BookFull)
+    × ¬ (IsRefused (pass 1 false [] []) (pass 1 false [] []) enter (Fw NoLife))
+    × ¬ (IsRefused (pass 1 false [] []) (pass 1 true [] []) enter (Fw NoLife))
+refused_otherwise = (
+  λ h. false≢true (ap (λ (p : PassView). p.told_full) h),
+  λ h. eqb-false 1 0 refl (ap (λ (p : PassView). length p.items) h),
+  λ h. eqb-false 0 1 refl (ap (λ (p : PassView). length p.items) h.2),
+  λ h. eqb-false 0 1 refl (ap (λ (p : PassView). length p.items) h.2),
+)
 
 -- What was seen last ------------------------------------------------------------------------------
 
 abbrev rows : List (List Item)
 rows = ((4, On) ∷ (1, Off) ∷ []) ∷ ((2, Pending) ∷ []) ∷ [] ∷ []
 
-on_is_seen : HasSeen rows 0 On
-on_is_seen = (4, ((1, Off) ∷ [], refl))
-
-pending_is_seen : HasSeen rows 1 Pending
-pending_is_seen = (2, ([], refl))
+have_seen : HasSeen rows 0 On × HasSeen rows 1 Pending
+have_seen = ((4, ((1, Off) ∷ [], refl)), (2, ([], refl)))
 
 -- the serial of the last item, by its status
 abbrev off_first : List Item → ℕ
@@ -207,15 +173,16 @@ off_first ((serial, Off) ∷ is) = 1
 off_first ((serial, On) ∷ is) = 2
 off_first ((serial, Pending) ∷ is) = 3
 
--- what was seen before the last; of another core; of a core of which nothing was seen
-older_is_not_last : HasSeen rows 0 Off → ⊥
-older_is_not_last h = let e : ◌≡◌ {A = ℕ} 2 1 = ap off_first h.1.1 in omega arith
-
-other_core_has_seen : HasSeen rows 1 On → ⊥
-other_core_has_seen h = let e : ◌≡◌ {A = ℕ} 3 2 = ap off_first h.1.1 in omega arith
-
-nothing_was_seen : HasSeen rows 2 Off → ⊥
-nothing_was_seen h = let e : ◌≡◌ {A = ℕ} 0 1 = ap off_first h.1.1 in omega arith
+have_not_seen :
+    -- what was seen before the last; of another core; of a core of which nothing was seen
+    ¬ (HasSeen rows 0 Off)
+    × ¬ (HasSeen rows 1 On)
+    × ¬ (HasSeen rows 2 Off)
+have_not_seen = (
+  λ h. eqb-false 2 1 refl (ap off_first h.1.1),
+  λ h. eqb-false 3 2 refl (ap off_first h.1.1),
+  λ h. eqb-false 0 1 refl (ap off_first h.1.1),
+)
 
 -- a pass that is told of a status more of core 1: its core, its items and what it was told stay
 told_of_core_1 : met ([] ∷ ((3, On) ∷ []) ∷ []) (pass 2 true (old ∷ new ∷ []) rows)

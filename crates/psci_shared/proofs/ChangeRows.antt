@@ -1,9 +1,7 @@
 -- Worked examples of the one core whose status a call may change while its life goes on, and of
 -- what is written when the last call was not yet.
-use Rattle.std.proofs.Common.{◌≡◌, ℕ, zero, suc, ◌<◌, List, [], ◌∷◌, pos, negsuc}
-use Rattle.std.proofs.Common.{Bool, true, false, refl, arith, Option, Some, None}
-use Rattle.psci_fw.specs.psci_abi.declared.format.Format.TheVariants.{Original}
-use Rattle.psci_fw.specs.psci_board.Board.{BoardValue}
+use Rattle.std.proofs.Common.{◌≡◌, ℕ, ◌<◌, List, [], ◌∷◌, pos, negsuc}
+use Rattle.std.proofs.Common.{Bool, true, false, refl, Option, Some, None}
 use Rattle.psci_fw.specs.psci_fw_spec.declared.call.FwCall.{FwCall}
 use Rattle.psci_fw.specs.psci_fw_spec.declared.call.FwCall.TheVariants.{Enter, Smc, Take}
 use Rattle.psci_fw.specs.psci_fw_spec.declared.fault.FwFault.TheVariants.{NotRunning}
@@ -25,17 +23,8 @@ use Rattle.psci_shared.specs.Entries.{FwEntry}
 use Rattle.psci_shared.specs.Books.{entry, history_of}
 use Rattle.psci_status.specs.Naming.{names}
 use Rattle.psci_shared.specs.Writing.{IsOneBehind}
-
--- two cores
-abbrev board : BoardValue
-board = record {
-  levels = (2 ∷ []) ∷ [];
-  ranges = record { start = 0; end = 64 } ∷ [];
-  boot = 0;
-  starts = 9;
-  lives = 3;
-  format = Original;
-}
+use Rattle.psci_shared.proofs.TwoCores.{board, of_two}
+use Rattle.psci_board.proofs.Tables.{◌⇒◌, Gives}
 
 abbrev message : Kind → ℕ → ℕ → MessageValue
 message kind core life = record {
@@ -47,8 +36,8 @@ message kind core life = record {
 }
 
 -- which of the two cores a call of this core names, with this reply
-abbrev named : ℕ → FwCall → FwReply → List Bool
-named core call reply =
+abbrev named : ℕ × FwCall × FwReply → List Bool
+named (core, call, reply) =
     let e = effect_of board core call reply in names e 0 ∷ names e 1 ∷ []
 
 -- it names this core of the two, or none
@@ -86,69 +75,45 @@ success = acts.Return (record { 0 = pos 0 })
 -- CPU_ON ------------------------------------------------------------------------------------------
 
 -- the target, not the caller: of core 0 in the first life, of core 1 in the second
-asked_by_core_0 : named 0 (smc 0x84000003 1) (ends success (Some (message Start 1 1))) ≡ core_1
-asked_by_core_0 = refl
-
-asked_by_core_1 : named 1 (smc 0xc4000003 0) (ends success (Some (message Start 0 2))) ≡ core_0
-asked_by_core_1 = refl
-
--- it was on, or pending: nothing was sent
-asked_in_vain : named 0 (smc 0x84000003 1) (ends (acts.Return (record { 0 = negsuc 3 })) None)
-    ≡ no_core
-asked_in_vain = refl
-
--- the core does not run
-refused : named 1 (smc 0x84000003 0) (replies.Fault NotRunning) ≡ no_core
-refused = refl
+named_by_cpu_on : Gives named
+    ((0, smc 0x84000003 1, ends success (Some (message Start 1 1))) ⇒ core_1
+    ∷ (1, smc 0xc4000003 0, ends success (Some (message Start 0 2))) ⇒ core_0
+    -- it was on, or pending: nothing was sent
+    ∷ (0, smc 0x84000003 1, ends (acts.Return (record { 0 = negsuc 3 })) None) ⇒ no_core
+    -- the core does not run
+    ∷ (1, smc 0x84000003 0, replies.Fault NotRunning) ⇒ no_core ∷ [])
+named_by_cpu_on = refl
 
 -- Other functions ---------------------------------------------------------------------------------
 
-version : named 0 (smc 0x84000000 0) (ends (acts.Return (record { 0 = pos 0x10001 })) None)
-    ≡ no_core
-version = refl
-
--- whatever is sent beside a return code, if it is not a CPU_ON
-nothing_is_asked : named 0 (smc 0x84000000 0) (ends success (Some (message Start 1 1))) ≡ no_core
-nothing_is_asked = refl
-
-goes_off : named 1 (smc 0x84000002 0) (ends acts.Stop (Some (message Down 1 1))) ≡ no_core
-goes_off = refl
-
-suspends : named 0 (smc 0x84000001 0) (ends acts.Stop (Some (message Down 0 2))) ≡ no_core
-suspends = refl
+named_by_others : Gives named
+    ((0, smc 0x84000000 0, ends (acts.Return (record { 0 = pos 0x10001 })) None) ⇒ no_core
+    -- whatever is sent beside a return code, if it is not a CPU_ON
+    ∷ (0, smc 0x84000000 0, ends success (Some (message Start 1 1))) ⇒ no_core
+    ∷ (1, smc 0x84000002 0, ends acts.Stop (Some (message Down 1 1))) ⇒ no_core
+    ∷ (0, smc 0x84000001 0, ends acts.Stop (Some (message Down 0 2))) ⇒ no_core ∷ [])
+named_by_others = refl
 
 -- Entries -----------------------------------------------------------------------------------------
 
-first_enters : named 0 (enter 1 causes.Boot) (ends (acts.Enter 0 0) None) ≡ core_0
-first_enters = refl
-
-other_enters : named 1 (enter 1 causes.On) (ends (acts.Enter 4 7) None) ≡ core_1
-other_enters = refl
-
-resumes_in_a_second_life : named 1 (enter 2 causes.Wake) (ends acts.Resume None) ≡ core_1
-resumes_in_a_second_life = refl
-
-parks : named 1 (enter 1 causes.Wake) (ends acts.Stop (Some (message Down 1 1))) ≡ no_core
-parks = refl
-
-parks_while_the_life_is_halting : named 1 (enter 1 causes.Wake) (ends acts.Stop None) ≡ no_core
-parks_while_the_life_is_halting = refl
+named_by_entries : Gives named
+    ((0, enter 1 causes.Boot, ends (acts.Enter 0 0) None) ⇒ core_0
+    ∷ (1, enter 1 causes.On, ends (acts.Enter 4 7) None) ⇒ core_1
+    ∷ (1, enter 2 causes.Wake, ends acts.Resume None) ⇒ core_1
+    ∷ (1, enter 1 causes.Wake, ends acts.Stop (Some (message Down 1 1))) ⇒ no_core
+    ∷ (1, enter 1 causes.Wake, ends acts.Stop None) ⇒ no_core ∷ [])
+named_by_entries = refl
 
 -- Acknowledgements --------------------------------------------------------------------------------
 
 -- the core of the message, whoever took it
-down_of_core_1 : named 0 (take Down 1) (replies.Taken Used) ≡ core_1
-down_of_core_1 = refl
-
-down_of_core_0 : named 1 (take Down 0) (replies.Taken Used) ≡ core_0
-down_of_core_0 = refl
-
--- that of a Start leaves its core's status, but it is looked at
-start_of_core_1 : named 0 (take Start 1) (replies.Taken Used) ≡ core_1
-start_of_core_1 = refl
-
-old : named 0 (take Down 1) (replies.Taken Old) ≡ no_core
-old = refl
+named_by_acknowledgements : Gives named
+    ((0, take Down 1, replies.Taken Used) ⇒ core_1
+    ∷ (1, take Down 0, replies.Taken Used) ⇒ core_0
+    -- that of a Start leaves its core's status, but it is looked at
+    ∷ (0, take Start 1, replies.Taken Used) ⇒ core_1
+    ∷ (0, take Down 1, replies.Taken Old) ⇒ no_core ∷ [])
+named_by_acknowledgements = refl
 
 -- What is written of all but the last call --------------------------------------------------------
 
@@ -170,9 +135,7 @@ behind : (core : ℕ) → core < 2
     → row ((On ∷ Pending ∷ Off ∷ []) ∷ (Off ∷ []) ∷ []) core
     ≡ statuses board (history_of first) core
 unfolding statuses history_of
-behind zero h = refl
-behind (suc zero) h = refl
-behind (suc (suc core)) h = let k : suc (suc core) < 2 = h in absurd (omega arith)
+behind = of_two _ refl refl
 
 one_behind : IsOneBehind board ((On ∷ Pending ∷ Off ∷ []) ∷ (Off ∷ []) ∷ []) entries 1
     (Some (record { number = 1 }))

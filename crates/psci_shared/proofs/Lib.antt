@@ -12,6 +12,7 @@ pub mod PollRows
 pub mod Polling
 mod RefusedRows
 pub mod Stays
+pub mod TwoCores
 pub mod Unnamed
 mod ViewRows
 pub mod Walking

@@ -1,14 +1,12 @@
 -- What a pass has seen last, right after a call of its own.
-use Rattle.std.proofs.Common.{◌≡◌, ◌≢◌, ℕ, suc, ◌<◌, List, [], ◌∷◌, ◌++◌, length}
-use Rattle.std.proofs.Common.{Bool, true, false, refl}
-use Rattle.std.proofs.Common.{sym, ap, ◌∙◌, subst, arith, Option, Some}
+use Rattle.std.proofs.Common.{◌≡◌, ◌≢◌, ℕ, suc, ◌<◌, List, [], ◌∷◌, ◌++◌, length, Bool, true, false}
+use Rattle.std.proofs.Common.{refl, ap, ◌∙◌, subst, Option, Some}
 use Rattle.std.specs.Prelude.{◌==◌, if◌then◌else◌, unwrap_or}
 use Rattle.std.specs.Option.{option_or}
-use Rattle.std.proofs.lemmas.Bool.{eqb-true, ne_eqb}
-use Rattle.std.proofs.lemmas.Bool.Decides.{nat_tests}
+use Rattle.std.proofs.lemmas.Bool.{ne_eqb}
 use Rattle.psci_fw.specs.psci_board.Board.{BoardValue, cores}
 use Rattle.psci_fw.specs.psci_fw_spec.declared.status.Status.{Status}
-use Rattle.psci_fw.specs.psci_fw_spec.declared.status.Status.TheVariants.{On, Off, Pending}
+use Rattle.psci_fw.specs.psci_fw_spec.declared.status.Status.TheVariants.{On, Pending}
 use Rattle.psci_fw.specs.psci_fw_spec.AffinityInfo.{status_code}
 use Rattle.psci_fw.specs.psci_fw_spec.Changes.{PowerOn, target}
 use Rattle.psci_fw.specs.psci_fw_spec.Effects.{AsksOn, Effect, Enters}
@@ -19,23 +17,14 @@ use Rattle.psci_fw.specs.psci_fw_spec.Said.{arrived}
 use Rattle.psci_fw.specs.psci_fw_spec.Statuses.{added, statuses}
 use Rattle.psci_messages.specs.declared.start.Start.{Start}
 use Rattle.psci_messages.specs.OnlyIf.{only_if}
-use Rattle.psci_status.specs.Lists.{Begins, IsLast, Item, row, status_of}
+use Rattle.psci_status.specs.Lists.{Begins, IsLast, Item, row}
 use Rattle.psci_shared.specs.Entries.{FwEntry}
 use Rattle.psci_shared.specs.Books.{exchange_of, history_of}
 use Rattle.psci_shared.specs.Writing.{AllLast, HasSeen}
 use Rattle.psci_shared.proofs.Histories.{history_more}
+use Rattle.psci_status.proofs.Last.{same_code, same_status}
 
 -- the last status
-
-status_of_code : (s : Status) → status_of (status_code s) ≡ s
-status_of_code On = refl
-status_of_code Off = refl
-status_of_code Pending = refl
-
-same_status : (s t : Status) → (status_code s == status_code t) ≡ true → t ≡ s
-same_status s t e =
-    sym (status_of_code t) ∙ ap status_of (sym (eqb-true (status_code s) (status_code t) e))
-    ∙ status_of_code s
 
 last_added_if : (s t : Status) (ts : List Status) (items : List Item) (b : Bool)
     → (status_code s == status_code t) ≡ b → IsLast (if b then t ∷ ts else s ∷ t ∷ ts) items
@@ -69,9 +58,6 @@ has_seen b entries seen core last ne small =
 
 -- the status after a call
 
-same : (k : ℕ) → (k == k) ≡ true
-same k = grind (arith, nat_tests)
-
 says : (b : BoardValue) (e : FwExchange) (h : List FwExchange) (core : ℕ) (f : Effect) (s : Status)
     → effect b e ≡ f → says_status b core h f ≡ Some s → status b (e ∷ h) core ≡ s
 says b e h core f s is said =
@@ -83,13 +69,13 @@ says_pending : (b : BoardValue) (h : List FwExchange) (caller : ℕ) (asked : Po
     → says_status b (target asked) h (AsksOn caller asked) ≡ Some Pending
 says_pending b h caller asked =
     ap (λ (t : Bool). option_or (only_if t (Some Pending))
-    (says_off b (target asked) h (AsksOn caller asked))) (same (target asked))
+    (says_off b (target asked) h (AsksOn caller asked))) (same_code (target asked))
 
 says_on : (b : BoardValue) (h : List FwExchange) (core : ℕ) (s : Start)
     → says_status b core h (Enters core s) ≡ Some On
 says_on b h core s =
     ap (λ (t : Bool). option_or (only_if t (Some On)) (says_off b core h (Enters core s)))
-    (same core)
+    (same_code core)
 
 -- after a call more
 

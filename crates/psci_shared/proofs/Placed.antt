@@ -17,9 +17,7 @@ found : {W C R : Type 0} (entries : List (Entry W C R)) (place : ℕ) (core : W)
     → StandsAt (slice_get entries place) core i → place < length entries
 found [] place core i h = absurd h
 found (e ∷ es) zero core i h = omega arith
-found (e ∷ es) (suc place) core i h =
-    let a : place < length es = found es place core i h in
-    omega arith
+found (e ∷ es) (suc place) core i h = omega (arith, found es place core i h)
 
 rises : {W C R : Type 0} (entries : List (Entry W C R)) (core : W) (from : ℕ) (is : List (Item C R))
     → AllStandFrom entries core from is → lists.Rising (length entries) from (places is)
@@ -48,12 +46,12 @@ total_same : {W S C R : Type 0} (ps : List (AnyPass W S C R))
     → lists.total (map places_of ps) ≡ items_of ps
 total_same {W} {S} {C} {R} [] = refl
 total_same {W} {S} {C} {R} (p ∷ ps) =
-    let a : items_of (p ∷ ps) ≡ length p.items + items_of ps = sum_by-cons
-    (λ (q : AnyPass W S C R). length q.items) p ps in
-    let b : length (places p.items) ≡ length p.items = length-map p.items
-    (λ (i : Item C R). i.place) in
-    let c : lists.total (map places_of ps) ≡ items_of ps = total_same ps in
-    omega arith
+    omega (
+      arith,
+      sum_by-cons (λ (q : AnyPass W S C R). length q.items) p ps,
+      length-map p.items (λ (i : Item C R). i.place),
+      total_same ps,
+    )
 
 pub all_placed : {W S C R : Type 0} (b : AnyBook W C R) (ps : List (AnyPass W S C R)) → Agree b ps
     → length b.entries ≡ items_of ps → AllPlaced b ps

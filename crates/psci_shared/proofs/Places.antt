@@ -4,9 +4,9 @@ use Rattle.std.proofs.Common.{◌≡◌, ◌⊎◌, inl, inr, ℕ, zero, suc, �
 use Rattle.std.proofs.Common.{length, Bool, true, false, refl, sym, ap, subst, ◌∙◌, arith}
 use Rattle.std.specs.Prelude.{◌==◌, not, if◌then◌else◌, count_by}
 use Rattle.std.proofs.lemmas.Bool.{and_parts, or_parts, not-true, ne_eqb, cases_eq}
-use Rattle.std.proofs.lemmas.Bool.Decides.{nat_tests}
 use Rattle.std.proofs.lemmas.List.Sums.{sum_by-cons}
 use Rattle.psci_shared.specs.Places.{EachOnce, all_apart, apart, apart_from, has_place, times}
+use Rattle.psci_status.proofs.Last.{same_code}
 
 -- Lists that share no place, and rise -------------------------------------------------------------
 
@@ -55,12 +55,9 @@ times_is k (ps ∷ pss) =
 once_other : (p k : ℕ) → (p ≡ k → ⊥) → once p k ≡ 0
 once_other p k ne = ap (λ (t : Bool). if t then 1 else 0) (ne_eqb p k ne)
 
-same : (k : ℕ) → (k == k) ≡ true
-same k = grind (arith, nat_tests)
-
 once_same : (p k : ℕ) → p ≡ k → once p k ≡ 1
 once_same p k e =
-    subst (λ (q : ℕ). once q k ≡ 1) (sym e) (ap (λ (t : Bool). if t then 1 else 0) (same k))
+    subst (λ (q : ℕ). once q k ≡ 1) (sym e) (ap (λ (t : Bool). if t then 1 else 0) (same_code k))
 
 once_small : (p k : ℕ) → once p k ≤ 1
 once_small p k = elim (cases_eq p k) [
@@ -75,20 +72,16 @@ past n from [] k h lt = refl
 past n from (p ∷ ps) k h lt =
     let low : from ≤ p = h.0 in
     let a : once p k ≡ 0 = once_other p k (λ (e : p ≡ k). omega arith) in
-    let b : in_list k ps ≡ 0 = past n (p + 1) ps k h.2 (omega arith) in
-    omega arith
+    omega (arith, past n (p + 1) ps k h.2 (omega arith))
 
 one_list : (n from : ℕ) (ps : List ℕ) (k : ℕ) → Rising n from ps → in_list k ps ≤ 1
 one_list n from [] k h = omega arith
 one_list n from (p ∷ ps) k h = elim (cases_eq p k) [
   | inl e ↦
       let a : once p k ≤ 1 = once_small p k in
-      let b : in_list k ps ≡ 0 = past n (p + 1) ps k h.2 (omega arith) in
-      omega arith
+      omega (arith, past n (p + 1) ps k h.2 (omega arith))
   | inr ne ↦
-      let a : once p k ≡ 0 = once_other p k ne in
-      let b : in_list k ps ≤ 1 = one_list n (p + 1) ps k h.2 in
-      omega arith
+      omega (arith, once_other p k ne, one_list n (p + 1) ps k h.2)
 ]
 
 not_has : (k : ℕ) (ps : List ℕ) → has_place k ps ≡ false → in_list k ps ≡ 0
@@ -96,8 +89,7 @@ not_has k [] e = refl
 not_has k (p ∷ ps) e =
     let parts = or_parts (p == k) (has_place k ps) e in
     let a : once p k ≡ 0 = ap (λ (t : Bool). if t then 1 else 0) parts.0 in
-    let b : in_list k ps ≡ 0 = not_has k ps parts.1 in
-    omega arith
+    omega (arith, a, not_has k ps parts.1)
 
 one_of_two : (k : ℕ) (ps qs : List ℕ) → apart ps qs ≡ true
     → (in_list k ps ≡ 0) ⊎ (in_list k qs ≡ 0)
@@ -152,57 +144,45 @@ up_none (suc n) = let a : up (λ k. 0) n ≡ 0 = up_none n in omega arith
 
 up_both : (f g : ℕ → ℕ) (n : ℕ) → up (λ k. f k + g k) n ≡ up f n + up g n
 up_both f g zero = refl
-up_both f g (suc n) =
-    let a : up (λ k. f k + g k) n ≡ up f n + up g n = up_both f g n in
-    omega arith
+up_both f g (suc n) = omega (arith, up_both f g n)
 
 up_past : (p n : ℕ) → n ≤ p → up (once p) n ≡ 0
 up_past p zero h = refl
 up_past p (suc n) h =
     let a : once p n ≡ 0 = once_other p n (λ (e : p ≡ n). omega arith) in
-    let b : up (once p) n ≡ 0 = up_past p n (omega arith) in
-    omega arith
+    omega (arith, up_past p n (omega arith))
 
 up_once : (p n : ℕ) → p < n → up (once p) n ≡ 1
 up_once p zero h = absurd (omega arith)
 up_once p (suc n) h = elim (cases_eq p n) [
   | inl e ↦
       let a : once p n ≡ 1 = once_same p n e in
-      let b : up (once p) n ≡ 0 = up_past p n (omega arith) in
-      omega arith
+      omega (arith, up_past p n (omega arith))
   | inr ne ↦
       let a : once p n ≡ 0 = once_other p n ne in
-      let b : up (once p) n ≡ 1 = up_once p n (omega arith) in
-      omega arith
+      omega (arith, up_once p n (omega arith))
 ]
 
 up_list : (n from : ℕ) (ps : List ℕ) → Rising n from ps → up (λ k. in_list k ps) n ≡ length ps
 up_list n from [] h = up_none n
 up_list n from (p ∷ ps) h =
-    let a : up (λ k. once p k + in_list k ps) n ≡ up (once p) n + up (λ k. in_list k ps) n =
-    up_both (once p) (λ k. in_list k ps) n in
-    let b : up (once p) n ≡ 1 = up_once p n h.1 in
-    let c : up (λ k. in_list k ps) n ≡ length ps = up_list n (p + 1) ps h.2 in
-    omega arith
+    omega (arith, up_both (once p) (λ k. in_list k ps) n, up_once p n h.1, up_list n (p + 1) ps h.2)
 
 up_lists : (n : ℕ) (pss : List (List ℕ)) → AllRising n pss → up (λ k. in_lists k pss) n ≡ total pss
 up_lists n [] h = up_none n
 up_lists n (ps ∷ pss) h =
-    let a : up (λ k. in_list k ps + in_lists k pss) n
-    ≡ up (λ k. in_list k ps) n + up (λ k. in_lists k pss) n =
-    up_both (λ k. in_list k ps) (λ k. in_lists k pss) n in
-    let b : up (λ k. in_list k ps) n ≡ length ps = up_list n 0 ps h.0 in
-    let c : up (λ k. in_lists k pss) n ≡ total pss = up_lists n pss h.1 in
-    omega arith
+    omega (
+      arith,
+      up_both (λ k. in_list k ps) (λ k. in_lists k pss) n,
+      up_list n 0 ps h.0,
+      up_lists n pss h.1,
+    )
 
 -- Each place stands in them once ------------------------------------------------------------------
 
 up_small : (f : ℕ → ℕ) → ((k : ℕ) → f k ≤ 1) → (n : ℕ) → up f n ≤ n
 up_small f small zero = omega arith
-up_small f small (suc n) =
-    let a : f n ≤ 1 = small n in
-    let b : up f n ≤ n = up_small f small n in
-    omega arith
+up_small f small (suc n) = omega (arith, small n, up_small f small n)
 
 exactly : (f : ℕ → ℕ) → ((k : ℕ) → f k ≤ 1) → (n : ℕ) → up f n ≡ n → (k : ℕ) → k < n → f k ≡ 1
 exactly f small zero e k lt = absurd (omega arith)

@@ -1,9 +1,7 @@
 -- Worked examples of a run of a pass: calls and polls, what it keeps of what it saw, and why no
 -- pass is made.
-use Rattle.std.proofs.Common.{◌≡◌, inl, inr, ℕ, ◌<◌, ◌≤◌, true, false, List, [], ◌∷◌, length}
+use Rattle.std.proofs.Common.{◌≡◌, inl, inr, ℕ, ◌<◌, ◌≤◌, false, List, [], ◌∷◌, length}
 use Rattle.std.proofs.Common.{refl, ap, arith, Some, None}
-use Rattle.psci_fw.specs.psci_abi.declared.format.Format.TheVariants.{Original}
-use Rattle.psci_fw.specs.psci_board.Board.{BoardValue}
 use Rattle.psci_fw.specs.psci_fw_spec.declared.call.FwCall.{FwCall}
 use Rattle.psci_fw.specs.psci_fw_spec.declared.call.FwCall.TheVariants.{Enter}
 use Rattle.psci_fw.specs.psci_fw_spec.declared.fault.FwFault.TheVariants.{NoLife}
@@ -20,17 +18,8 @@ use Rattle.psci_shared.specs.declared.sighting.Sighting.{Sighting}
 use Rattle.psci_shared.specs.Passes.{IsFirst, IsNoPass, PassView}
 use Rattle.psci_shared.specs.Views.{item, told}
 use Rattle.psci_shared.specs.Polls.{AreInHistory, Goes, IsAmong, IsInHistory, IsPolled}
-
--- two cores
-abbrev board : BoardValue
-board = record {
-  levels = (2 ∷ []) ∷ [];
-  ranges = record { start = 0; end = 64 } ∷ [];
-  boot = 0;
-  starts = 9;
-  lives = 3;
-  format = Original;
-}
+use Rattle.psci_shared.proofs.TwoCores.{board}
+use Rattle.std.proofs.lemmas.Bool.{eqb-false, true≢false}
 
 abbrev pass : List FwItem → List (List Item) → PassView
 pass items seen =
@@ -42,12 +31,9 @@ enter = Enter (record { life = 2; number = 4; cause = Wake })
 abbrev new : FwItem
 new = item 7 enter (Fault NoLife)
 
--- one of these
-first_is_among : IsAmong (1, Pending) ((1, Pending) ∷ (0, Off) ∷ [])
-first_is_among = inl refl
-
-second_is_among : IsAmong (0, Off) ((1, Pending) ∷ (0, Off) ∷ [])
-second_is_among = inr (inl refl)
+are_among : IsAmong (1, Pending) ((1, Pending) ∷ (0, Off) ∷ [])
+    × IsAmong (0, Off) ((1, Pending) ∷ (0, Off) ∷ [])
+are_among = (inl refl, inr (inl refl))
 
 -- another status by that serial
 other_is_not_among : IsAmong (0, On) ((0, Off) ∷ []) → ⊥
@@ -64,57 +50,46 @@ one_call : Goes board (pass [] (((0, Off) ∷ []) ∷ []))
 one_call = (inl (enter, Fault NoLife, (7, ((1, On) ∷ []) ∷ [], refl)), refl)
 
 call_forgotten : Goes board (pass (new ∷ []) []) [] (pass [] []) → ⊥
-call_forgotten h =
-    let e : ◌≡◌ {A = ℕ} 0 1 = ap (λ (p : PassView). length p.items) h in omega arith
+call_forgotten h = eqb-false 0 1 refl (ap (λ (p : PassView). length p.items) h)
 
--- no pass: of core 2, which the board has not; of core 1 for want of memory
-no_core_2 : IsNoPass board 3 (record { number = 2 }) NoCore
-no_core_2 = omega arith
+-- no pass: of core 2, which the board has not, also once there are too many; of core 1 for want of
+-- memory; of core 0 since there are too many
+no_pass : IsNoPass board 3 (record { number = 2 }) NoCore
+    × IsNoPass board 1000 (record { number = 2 }) NoCore
+    × IsNoPass board 999 (record { number = 1 }) Memory
+    × IsNoPass board 1000 (record { number = 0 }) TooMany
+no_pass = (omega arith, omega arith, (omega arith, omega arith), (omega arith, refl))
 
-no_core_2_of_1000 : IsNoPass board 1000 (record { number = 2 }) NoCore
-no_core_2_of_1000 = omega arith
-
-no_memory_for_core_1 : IsNoPass board 999 (record { number = 1 }) Memory
-no_memory_for_core_1 = (omega arith, omega arith)
-
-core_1_is_there : IsNoPass board 3 (record { number = 1 }) NoCore → ⊥
-core_1_is_there h = let e : 2 ≤ 1 = h in omega arith
-
-too_many_for_core_0 : IsNoPass board 1000 (record { number = 0 }) TooMany
-too_many_for_core_0 = (omega arith, refl)
-
-not_too_many_at_999 : IsNoPass board 999 (record { number = 0 }) TooMany → ⊥
-not_too_many_at_999 h = let e : ◌≡◌ {A = ℕ} 999 1000 = h.1 in omega arith
-
-too_many_before_no_core : IsNoPass board 1000 (record { number = 2 }) TooMany → ⊥
-too_many_before_no_core h = let e : 2 < 2 = h.0 in omega arith
-
-too_many_before_memory : IsNoPass board 1000 (record { number = 1 }) Memory → ⊥
-too_many_before_memory h = let e : 1000 < 1000 = h.1 in omega arith
-
-no_core_before_memory : IsNoPass board 3 (record { number = 2 }) Memory → ⊥
-no_core_before_memory h = let e : 2 < 2 = h.0 in omega arith
+-- core 1 is there; there are not too many; another reason comes first
+a_pass : ¬ (IsNoPass board 3 (record { number = 1 }) NoCore)
+    × ¬ (IsNoPass board 999 (record { number = 0 }) TooMany)
+    × ¬ (IsNoPass board 1000 (record { number = 2 }) TooMany)
+    × ¬ (IsNoPass board 1000 (record { number = 1 }) Memory)
+    × ¬ (IsNoPass board 3 (record { number = 2 }) Memory)
+a_pass = (
+  λ h. let e : 2 ≤ 1 = h in omega arith,
+  λ h. eqb-false 999 1000 refl h.1,
+  λ h. let e : 2 < 2 = h.0 in omega arith,
+  λ h. let e : 1000 < 1000 = h.1 in omega arith,
+  λ h. let e : 2 < 2 = h.0 in omega arith,
+)
 
 -- a new pass of core 1: it has no item, was told nothing and has room for four
 first_of_core_1 : IsFirst (record { number = 1 }) 4
     (record { core = record { number = 1 }; room = 4; told_full = false; items = []; seen = [] })
 first_of_core_1 = refl
 
-first_of_another_core : IsFirst (record { number = 0 }) 4
-    (record { core = record { number = 1 }; room = 4; told_full = false; items = []; seen = [] })
-    → ⊥
-first_of_another_core h =
-    let e : ◌≡◌ {A = ℕ} 1 0 = ap (λ (p : PassView). p.core.number) h in omega arith
-
-first_has_no_item : IsFirst (record { number = 0 }) 4 (pass (new ∷ []) []) → ⊥
-first_has_no_item h =
-    let e : ◌≡◌ {A = ℕ} 1 0 = ap (λ (p : PassView). length p.items) h in omega arith
-
-first_has_other_room : IsFirst (record { number = 0 }) 5 (pass [] []) → ⊥
-first_has_other_room h = let e : ◌≡◌ {A = ℕ} 4 5 = ap (λ (p : PassView). p.room) h in omega arith
-
-first_was_told : IsFirst (record { number = 0 }) 4 (told (pass [] [])) → ⊥
-first_was_told h = let e : true ≡ false = ap (λ (p : PassView). p.told_full) h in cc
+no_first_pass :
+    ¬ (IsFirst (record { number = 0 }) 4 (record (pass [] []) { core = record { number = 1 } }))
+    × ¬ (IsFirst (record { number = 0 }) 4 (pass (new ∷ []) []))
+    × ¬ (IsFirst (record { number = 0 }) 5 (pass [] []))
+    × ¬ (IsFirst (record { number = 0 }) 4 (told (pass [] [])))
+no_first_pass = (
+  λ h. eqb-false 1 0 refl (ap (λ (p : PassView). p.core.number) h),
+  λ h. eqb-false 1 0 refl (ap (λ (p : PassView). length p.items) h),
+  λ h. eqb-false 4 5 refl (ap (λ (p : PassView). p.room) h),
+  λ h. true≢false (ap (λ (p : PassView). p.told_full) h),
+)
 
 -- what a poll saw ---------------------------------------------------------------------------------
 
@@ -151,7 +126,7 @@ on_at_first (small, inr other) = other
 
 off_later : IsInHistory board [] (of 1 1 Off) → ⊥
 unfolding statuses history_of
-off_later (small, inl is) = let e : ◌≡◌ {A = ℕ} 1 0 = is.0 in omega arith
+off_later (small, inl is) = eqb-false 1 0 refl is.0
 off_later (small, inr other) = other
 
 off_core_2 : IsInHistory board [] (of 2 0 Off) → ⊥

@@ -1,7 +1,6 @@
 -- What a pass has seen it keeps, and what a poll answered stands in the history.
-use Rattle.std.proofs.Common.{◌≡◌, inl, inr, ⊎_elim, ℕ, zero, suc, ◌<◌, List, [], ◌∷◌}
-use Rattle.std.proofs.Common.{Bool, true, false}
-use Rattle.std.proofs.Common.{refl, sym, subst, Option, Some, None}
+use Rattle.std.proofs.Common.{◌≡◌, inl, inr, ⊎_elim, ℕ, zero, suc, ◌<◌, List, [], ◌∷◌, Bool, true}
+use Rattle.std.proofs.Common.{false, refl, sym, subst, Option, Some, None}
 use Rattle.std.specs.Prelude.{nat_lt, slice_set, if◌then◌else◌, pos}
 use Rattle.psci_fw.specs.psci_abi.declared.code.Code.{Code}
 use Rattle.psci_fw.specs.psci_board.Board.{BoardValue, cores, core_of}

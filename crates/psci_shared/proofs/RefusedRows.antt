@@ -1,7 +1,7 @@
 -- Worked examples of calls through a pass that were refused or came first, and of a book that is
 -- full.
-use Rattle.std.proofs.Common.{◌≡◌, inl, inr, ℕ, zero, suc, ◌<◌, List, [], ◌∷◌, length}
-use Rattle.std.proofs.Common.{refl, ap, arith, subst, true}
+use Rattle.std.proofs.Common.{◌≡◌, inl, inr, ℕ, List, [], ◌∷◌, length, refl, ap}
+use Rattle.std.proofs.Common.{arith, subst, true, ◌∙◌, sym}
 use Rattle.psci_fw.specs.psci_fw_spec.Legal.{IsLegal}
 use Rattle.psci_fw.specs.psci_fw_spec.declared.fault.FwFault.TheVariants.{NoLife, NotRunning}
 use Rattle.psci_fw.specs.psci_fw_spec.declared.reply.FwReply.{FwReply}
@@ -16,9 +16,11 @@ use Rattle.psci_shared.specs.Books.{BookView, entry, history_of}
 use Rattle.psci_shared.specs.Locked.{IsTurnedAway}
 use Rattle.psci_shared.specs.Views.{item}
 use Rattle.psci_shared.specs.Writing.{AllLast, Stand}
-use Rattle.psci_shared.proofs.AnsweredRows.{accepted, board, booted, boots, computing, enters}
+use Rattle.psci_shared.proofs.AnsweredRows.{accepted, booted, boots, computing, enters}
 use Rattle.psci_shared.proofs.AnsweredRows.{fresh, kind, on, pass, seen_on, starts, take, version}
 use Rattle.psci_shared.proofs.AnsweredRows.{version_told, was_old}
+use Rattle.psci_shared.proofs.TwoCores.{board, of_two}
+use Rattle.std.proofs.lemmas.Bool.{eqb-false}
 
 -- Core 1 is refused, in life 2 -------------------------------------------------------------------
 
@@ -33,16 +35,13 @@ seen_twice = ((4, On) ∷ (2, On) ∷ []) ∷ ((0, Off) ∷ []) ∷ []
 
 refused_stands : Stand board refused seen_twice
 unfolding computing
-refused_stands zero h =
+refused_stands = of_two _
     (inl (refl, refl), omega arith, (inr (inr (inl (refl, refl))), tt, tt))
-refused_stands (suc zero) h = (inl (refl, refl), tt, tt)
-refused_stands (suc (suc core)) h = tt
+    (inl (refl, refl), tt, tt)
 
 refused_is_last : AllLast board refused seen_twice
 unfolding computing
-refused_is_last zero h = ((2, On) ∷ [], refl)
-refused_is_last (suc zero) h = ([], refl)
-refused_is_last (suc (suc core)) h = let k : suc (suc core) < 2 = h in absurd (omega arith)
+refused_is_last = of_two _ ((2, On) ∷ [], refl) ([], refl)
 
 -- behind an item that the pass has
 abbrev item_0 : FwItem
@@ -57,18 +56,18 @@ core_1_is_refused = (twice, 7, ((refl, (refl, tt)), refl, refl, refused_stands, 
 as_core_0 : IsAnsweredAfter board twice 7 (pass 1 (item_0 ∷ []) [])
     (pass 1 (item_0 ∷ item 2 version version_told ∷ []) seen_twice) version version_told → ⊥
 unfolding computing
-as_core_0 h = let e : ◌≡◌ {A = ℕ} 1 5 = ap kind h.1 in omega arith
+as_core_0 h = eqb-false 1 5 refl (ap kind h.1)
 
 -- of another fault
 another_fault : IsAnsweredAfter board twice 7 (pass 1 (item_0 ∷ []) [])
     (pass 1 (item_0 ∷ item 2 version (Fault NoLife) ∷ []) seen_twice) version (Fault NoLife) → ⊥
 unfolding computing
-another_fault h = let e : ◌≡◌ {A = ℕ} 4 5 = ap kind h.1 in omega arith
+another_fault h = eqb-false 4 5 refl (ap kind h.1)
 
 -- what the firmware refuses is entered as well
 refused_without_an_item : IsAnsweredFault board 9 (pass 1 (item_0 ∷ []) [])
     (pass 1 (item_0 ∷ []) []) version (Fw NotRunning) → ⊥
-refused_without_an_item h = let e : ◌≡◌ {A = ℕ} 1 2 = ap length h.2.2 in omega arith
+refused_without_an_item h = eqb-false 1 2 refl (ap length h.2.2)
 
 -- The first calls --------------------------------------------------------------------------------
 
@@ -81,15 +80,11 @@ seen_first = ((0, Off) ∷ []) ∷ ((0, Off) ∷ []) ∷ []
 
 take_stands : Stand board after_take seen_first
 unfolding computing
-take_stands zero h = (inl (refl, refl), tt, tt)
-take_stands (suc zero) h = (inl (refl, refl), tt, tt)
-take_stands (suc (suc core)) h = tt
+take_stands = of_two _ (inl (refl, refl), tt, tt) (inl (refl, refl), tt, tt)
 
 take_is_last : AllLast board after_take seen_first
 unfolding computing
-take_is_last zero h = ([], refl)
-take_is_last (suc zero) h = ([], refl)
-take_is_last (suc (suc core)) h = let k : suc (suc core) < 2 = h in absurd (omega arith)
+take_is_last = of_two _ ([], refl) ([], refl)
 
 nothing_was_sent : IsAnswered board (fresh 1) (pass 1 (item 0 take was_old ∷ []) seen_first) take
     was_old
@@ -106,26 +101,27 @@ is_used (Fault fault) = 3
 used_without_a_message : IsAnsweredAfter board [] 0 (fresh 1)
     (pass 1 (item 0 take (Taken takens.Used) ∷ []) seen_first) take (Taken takens.Used) → ⊥
 unfolding computing
-used_without_a_message h = let e : ◌≡◌ {A = ℕ} 1 0 = ap is_used h.1 in omega arith
+used_without_a_message h = eqb-false 1 0 refl (ap is_used h.1)
 
 abbrev seen_entry : List (List Item)
 seen_entry = ((2, On) ∷ (1, Pending) ∷ (0, Off) ∷ []) ∷ ((0, Off) ∷ []) ∷ []
 
 entry_stands : Stand board booted seen_entry
 unfolding computing
-entry_stands zero h = (
+entry_stands = of_two _ (
   inl (refl, refl),
   omega arith,
-  (inr (inl (refl, refl)), omega arith, (inr (inr (inl (refl, refl))), tt, tt)),
+  (
+    inr (inl (refl, refl)),
+    omega arith,
+    (inr (inr (inl (refl, refl))), tt, tt),
+  ),
 )
-entry_stands (suc zero) h = (inl (refl, refl), tt, tt)
-entry_stands (suc (suc core)) h = tt
+    (inl (refl, refl), tt, tt)
 
 entry_is_last : AllLast board booted seen_entry
 unfolding computing
-entry_is_last zero h = ((1, Pending) ∷ (0, Off) ∷ [], refl)
-entry_is_last (suc zero) h = ([], refl)
-entry_is_last (suc (suc core)) h = let k : suc (suc core) < 2 = h in absurd (omega arith)
+entry_is_last = of_two _ ((1, Pending) ∷ (0, Off) ∷ [], refl) ([], refl)
 
 first_entry : IsAnsweredAfter board [] 1 (fresh 0)
     (pass 0 (item 0 (starts 1) boots ∷ []) seen_entry) (starts 1) boots
@@ -140,12 +136,12 @@ early = entry 0 (record { number = 0 }) version version_told
 illegal : IsAnsweredAfter board (early ∷ []) 1 (fresh 0)
     (pass 0 (item 1 (starts 1) boots ∷ []) seen_entry) (starts 1) boots → ⊥
 unfolding computing
-illegal h = let e : ◌≡◌ {A = ℕ} 1 4 = ap kind h.0.0 in omega arith
+illegal h = eqb-false 1 4 refl (ap kind h.0.0)
 
 first_is_illegal : IsAnsweredAfter board (early ∷ enters 1 ∷ []) 1 (fresh 0)
     (pass 0 (item 2 on accepted ∷ []) seen_on) on accepted → ⊥
 unfolding computing
-first_is_illegal h = let e : ◌≡◌ {A = ℕ} 1 4 = ap kind h.0.1.0 in omega arith
+first_is_illegal h = eqb-false 1 4 refl (ap kind h.0.1.0)
 
 -- A book that is full ----------------------------------------------------------------------------
 
@@ -163,26 +159,19 @@ so_the_book_was_full = (twice, (refl, (refl, tt)), refl)
 
 -- there is room for one more, or there was for one less; the entries are not legal
 room_for_one_more : (h : IsFull board 3) → h.0 ≡ twice → ⊥
-room_for_one_more h is =
-    let e : length h.0 ≡ 3 = h.2 in
-    let two : length h.0 ≡ 2 = ap length is in omega (arith, e, two)
+room_for_one_more h is = eqb-false 3 2 refl (sym h.2 ∙ ap length is)
 
 one_too_many : (h : IsFull board 1) → h.0 ≡ twice → ⊥
-one_too_many h is =
-    let e : length h.0 ≡ 1 = h.2 in
-    let two : length h.0 ≡ 2 = ap length is in omega (arith, e, two)
+one_too_many h is = eqb-false 1 2 refl (sym h.2 ∙ ap length is)
 
 full_of_illegal_entries : (h : IsFull board 1) → h.0 ≡ early ∷ [] → ⊥
 unfolding computing
 full_of_illegal_entries h is =
-    let l : IsLegal board (history_of (early ∷ [])) =
-    subst (λ (entries : List FwEntry). IsLegal board (history_of entries)) is h.1 in
-    let e : ◌≡◌ {A = ℕ} 1 4 = ap kind l.0 in omega arith
+    eqb-false 1 4 refl (ap kind
+    (subst (λ (entries : List FwEntry). IsLegal board (history_of entries)) is h.1).0)
 
 not_full_yet : (h : IsAnsweredFault board 3 (fresh 1) (fresh 1) version BookFull) → h.0 ≡ twice → ⊥
-not_full_yet h is =
-    let e : length h.0 ≡ 3 = h.2 in
-    let two : length h.0 ≡ 2 = ap length is in omega (arith, e, two)
+not_full_yet h is = eqb-false 3 2 refl (sym h.2 ∙ ap length is)
 
 abbrev book_of : ℕ → BookView
 book_of room = record { entries = twice; room = room }
@@ -193,11 +182,12 @@ turned_away : IsTurnedAway board 2 (book_of 2) (book_of 2) (fresh 1)
 unfolding computing
 turned_away = (refl, refl, refl, (refl, (refl, tt)))
 
-turned_away_early : IsTurnedAway board 3 (book_of 3) (book_of 3) (fresh 1)
-    (record (fresh 1) { told_full = true }) → ⊥
-turned_away_early h = let e : ◌≡◌ {A = ℕ} 2 3 = h.2 in omega arith
-
-turned_away_and_cut : IsTurnedAway board 2 (book_of 2) (book_of 1) (fresh 1)
-    (record (fresh 1) { told_full = true }) → ⊥
-turned_away_and_cut h =
-    let e : ◌≡◌ {A = ℕ} 1 2 = ap (λ (b : BookView). b.room) h.0 in omega arith
+turned_away_otherwise :
+    ¬ (IsTurnedAway board 3 (book_of 3) (book_of 3) (fresh 1)
+    (record (fresh 1) { told_full = true }))
+    × ¬ (IsTurnedAway board 2 (book_of 2) (book_of 1) (fresh 1)
+    (record (fresh 1) { told_full = true }))
+turned_away_otherwise = (
+  λ h. eqb-false 2 3 refl h.2,
+  λ h. eqb-false 1 2 refl (ap (λ (b : BookView). b.room) h.0),
+)

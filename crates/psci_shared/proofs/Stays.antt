@@ -1,6 +1,5 @@
 -- A core that the last call does not name has nothing more to be written.
-use Rattle.std.proofs.Common.{◌≡◌, ◌≢◌, ℕ, List, ◌∷◌, false, refl, sym, ap, ◌∙◌}
-use Rattle.std.proofs.Common.{subst, Option}
+use Rattle.std.proofs.Common.{◌≡◌, ◌≢◌, ℕ, List, ◌∷◌, false, refl, sym, ap, ◌∙◌, subst, Option}
 use Rattle.std.specs.Prelude.{◌<◌}
 use Rattle.psci_fw.specs.psci_board.Board.{BoardValue, cores}
 use Rattle.psci_fw.specs.psci_board.declared.node.Core.{Core}
@@ -8,7 +7,7 @@ use Rattle.psci_fw.specs.psci_fw_spec.declared.status.Status.{Status}
 use Rattle.psci_fw.specs.psci_fw_spec.declared.call.FwCall.{FwCall}
 use Rattle.psci_fw.specs.psci_fw_spec.declared.call.FwCall.TheVariants.{Smc, Enter, Take}
 use Rattle.psci_fw.specs.psci_fw_spec.declared.reply.FwReply.{FwReply}
-use Rattle.psci_fw.specs.psci_fw_spec.declared.reply.FwReply.TheVariants.{Out, Taken, Fault}
+use Rattle.psci_fw.specs.psci_fw_spec.declared.reply.FwReply.TheVariants.{Out, Taken}
 use Rattle.psci_fw.specs.psci_fw_spec.Effects.{effect_of}
 use Rattle.psci_fw.specs.psci_fw_spec.Exchange.{FwExchange}
 use Rattle.psci_fw.specs.psci_fw_spec.History.{life, status, values_of}
@@ -30,15 +29,10 @@ names_no_other : (b : BoardValue) (c : Core) (core : ℕ) (call : FwCall) (reply
     → is_named (named_by c call reply) core ≡ false
     → names (effect_of b c.number call reply) core ≡ false
 names_no_other b c core (Smc regs) (Out o) other = names_smc b c.number core regs o other
-names_no_other b c core (Smc regs) (Taken taken) other = refl
-names_no_other b c core (Smc regs) (Fault fault) other = refl
 names_no_other b c core (Enter start) (Out o) other = names_enter b c.number core start o other
-names_no_other b c core (Enter start) (Taken taken) other = refl
-names_no_other b c core (Enter start) (Fault fault) other = refl
-names_no_other b c core (Take ack) (Out o) other = refl
 names_no_other b c core (Take ack) (Taken taken) other =
     names_take b c.number core ack taken other
-names_no_other b c core (Take ack) (Fault fault) other = refl
+names_no_other b c core call reply other = refl
 
 pub others_stay : (b : BoardValue) (log : List (List Status)) (entries : List FwEntry)
     (before : ℕ) (changed : Option Core) (v : Values)

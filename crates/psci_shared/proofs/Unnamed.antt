@@ -18,7 +18,7 @@ use Rattle.psci_fw.specs.psci_fw_spec.declared.mode.SuspendMode.{SuspendMode}
 use Rattle.psci_fw.specs.psci_fw_spec.declared.outcome.Act.{Act}
 use Rattle.psci_fw.specs.psci_fw_spec.declared.outcome.Act.TheVariants as acts
 use Rattle.psci_fw.specs.psci_fw_spec.declared.reply.FwReply.{FwReply}
-use Rattle.psci_fw.specs.psci_fw_spec.declared.reply.FwReply.TheVariants.{Out, Taken, Fault}
+use Rattle.psci_fw.specs.psci_fw_spec.declared.reply.FwReply.TheVariants.{Out, Taken}
 use Rattle.psci_fw.specs.psci_fw_spec.declared.status.Status.{Status}
 use Rattle.psci_fw.specs.psci_fw_spec.Effects.{Effect, GoesOn, effect_of, function_effect}
 use Rattle.psci_fw.specs.psci_fw_spec.Effects.{mode_effect, return_effect, sent_effect, stop_effect}
@@ -46,8 +46,6 @@ NobodyEntered e = arrived e ≡ None
 none_stops : (b : BoardValue) (c : ℕ) (r : Request) (m : MessageValue)
     → NobodyEntered (stop_effect b c r m)
 none_stops b c requests.SystemOff m = refl
-none_stops b c requests.SystemReset m = refl
-none_stops b c (requests.SystemReset2 reset_type cookie) m = refl
 none_stops b c r m = refl
 
 none_set : (c : ℕ) (mode : Option SuspendMode) (t : Bool)
@@ -76,14 +74,9 @@ none_calls b c r act m = refl
 none_unnamed : (b : BoardValue) (c : Core) (call : FwCall) (reply : FwReply)
     → named_by c call reply ≡ None → NobodyEntered (effect_of b c.number call reply)
 none_unnamed b c (Smc regs) (Out o) none = none_calls b c.number (request_of regs) o.act o.message
-none_unnamed b c (Smc regs) (Taken taken) none = refl
-none_unnamed b c (Smc regs) (Fault fault) none = refl
 none_unnamed b c (Enter start) (Out o) none = absurd (none-some c (sym none))
-none_unnamed b c (Enter start) (Taken taken) none = refl
-none_unnamed b c (Enter start) (Fault fault) none = refl
-none_unnamed b c (Take ack) (Out o) none = refl
 none_unnamed b c (Take ack) (Taken taken) none = absurd (none-some ack.core (sym none))
-none_unnamed b c (Take ack) (Fault fault) none = refl
+none_unnamed b c call reply none = refl
 
 same_life : (b : BoardValue) (last : FwEntry) (h : List FwExchange)
     → named_by last.core last.call last.reply ≡ None

@@ -1,12 +1,11 @@
 -- Worked examples of what is written of each core, of what a pass has seen of it, and of what a
 -- pass is answered. The boot core has entered: it was OFF, ON_PENDING and ON, and the others are
 -- OFF.
-use Rattle.std.proofs.Common.{◌≡◌, inl, inr, ℕ, zero, suc, ◌<◌, ◌≤◌, List, [], ◌∷◌, length, pos}
+use Rattle.std.proofs.Common.{◌≡◌, inl, inr, ℕ, ◌<◌, ◌≤◌, List, [], ◌∷◌, length, pos}
 use Rattle.std.proofs.Common.{negsuc, Bool, true, false, refl, ap, arith, Some, None}
 use Rattle.std.specs.Prelude.{nat_lt, if◌then◌else◌}
 use Rattle.psci_fw.specs.psci_abi.declared.code.Code.{Code}
-use Rattle.psci_fw.specs.psci_abi.declared.format.Format.TheVariants.{Original}
-use Rattle.psci_fw.specs.psci_board.Board.{BoardValue, core_of}
+use Rattle.psci_fw.specs.psci_board.Board.{core_of}
 use Rattle.psci_fw.specs.psci_fw_spec.declared.call.FwCall.TheVariants.{Enter, Smc}
 use Rattle.psci_fw.specs.psci_fw_spec.declared.outcome.Act.TheVariants as acts
 use Rattle.psci_fw.specs.psci_fw_spec.declared.reply.FwReply.TheVariants.{Out}
@@ -22,17 +21,10 @@ use Rattle.psci_shared.specs.Books.{entry, history_of}
 use Rattle.psci_shared.specs.Passes.{IsAffinity, IsRead, PassView}
 use Rattle.psci_status.specs.Writing.{one_more}
 use Rattle.psci_shared.specs.Writing.{AllLast, IsWritten, Stand, written_after}
-
--- two cores
-abbrev board : BoardValue
-board = record {
-  levels = (2 ∷ []) ∷ [];
-  ranges = record { start = 0; end = 64 } ∷ [];
-  boot = 0;
-  starts = 9;
-  lives = 3;
-  format = Original;
-}
+use Rattle.psci_shared.proofs.TwoCores.{board, of_two}
+use Rattle.std.proofs.lemmas.Bool.{eqb-false}
+use Rattle.psci_board.proofs.Tables.{◌⇒◌, Gives}
+use Rattle.psci_fw.specs.psci_fw_spec.declared.status.Status.{Status}
 
 -- the Start of a core that was never on
 abbrev start_of : ℕ → MessageValue
@@ -53,59 +45,39 @@ entries =
 
 written : IsWritten board ((On ∷ Pending ∷ Off ∷ []) ∷ (Off ∷ []) ∷ []) entries
 unfolding statuses history_of
-written zero h = refl
-written (suc zero) h = refl
-written (suc (suc core)) h = let k : suc (suc core) < 2 = h in absurd (omega arith)
+written = of_two _ refl refl
 
--- the status at the life's start is not written; nothing is; another status is
-opening_is_missing : IsWritten board ((On ∷ Off ∷ []) ∷ (Off ∷ []) ∷ []) entries → ⊥
+written_otherwise :
+    -- the status at the life's start is not written; nothing is; nothing is said of core 1
+    ¬ (IsWritten board ((On ∷ Off ∷ []) ∷ (Off ∷ []) ∷ []) entries)
+    × ¬ (IsWritten board ((Off ∷ []) ∷ (Off ∷ []) ∷ []) entries)
+    × ¬ (IsWritten board ((On ∷ Pending ∷ Off ∷ []) ∷ []) entries)
 unfolding statuses history_of
-opening_is_missing h = let e : ◌≡◌ {A = ℕ} 2 3 = ap length (h 0 (omega arith)) in omega arith
-
-nothing_is_written : IsWritten board ((Off ∷ []) ∷ (Off ∷ []) ∷ []) entries → ⊥
-unfolding statuses history_of
-nothing_is_written h = let e : ◌≡◌ {A = ℕ} 1 3 = ap length (h 0 (omega arith)) in omega arith
-
--- nothing is said of core 1
-other_core_is_missing : IsWritten board ((On ∷ Pending ∷ Off ∷ []) ∷ []) entries → ⊥
-unfolding statuses history_of
-other_core_is_missing h = let e : ◌≡◌ {A = ℕ} 0 1 = ap length (h 1 (omega arith)) in omega arith
+written_otherwise = (
+  λ h. eqb-false 2 3 refl (ap length (h 0 (omega arith))),
+  λ h. eqb-false 1 3 refl (ap length (h 0 (omega arith))),
+  λ h. eqb-false 0 1 refl (ap length (h 1 (omega arith))),
+)
 
 -- before any call
 first_written : IsWritten board ((Off ∷ []) ∷ (Off ∷ []) ∷ []) []
 unfolding statuses history_of
-first_written zero h = refl
-first_written (suc zero) h = refl
-first_written (suc (suc core)) h = let k : suc (suc core) < 2 = h in absurd (omega arith)
+first_written = of_two _ refl refl
+
+-- whether a life begins, the core, its status, and what was written
+abbrev more : Bool × ℕ × Status × List Status → List Status
+more (begins, core, status, written) = one_more begins core status written
 
 -- one status more: another one, the same, and one that opens a life; of the boot core, and of
 -- another
-another_status : one_more false 0 Pending (Off ∷ []) ≡ Pending ∷ Off ∷ []
-another_status = refl
+one_status_more : Gives more
+    ((false, 0, Pending, Off ∷ []) ⇒ (Pending ∷ Off ∷ [])
+    ∷ (false, 1, Off, Off ∷ []) ⇒ (Off ∷ [])
+    ∷ (true, 0, On, Off ∷ []) ⇒ (On ∷ Pending ∷ Off ∷ [])
+    ∷ (true, 1, Pending, On ∷ []) ⇒ (Pending ∷ Off ∷ On ∷ []) ∷ [])
+one_status_more = refl
 
-same_status : one_more false 1 Off (Off ∷ []) ≡ Off ∷ []
-same_status = refl
-
-boot_core_in_a_new_life : one_more true 0 On (Off ∷ []) ≡ On ∷ Pending ∷ Off ∷ []
-boot_core_in_a_new_life = refl
-
-core_in_a_new_life : one_more true 1 Pending (On ∷ []) ≡ Pending ∷ Off ∷ On ∷ []
-core_in_a_new_life = refl
-
--- by the life before: none, or the same; and where there is no life yet
-after_an_opening : written_after board entries 0 0 (Off ∷ []) ≡ On ∷ Pending ∷ Off ∷ []
-unfolding history_of
-after_an_opening = refl
-
-after_no_opening : written_after board entries 1 0 (Off ∷ []) ≡ On ∷ Off ∷ []
-unfolding history_of
-after_no_opening = refl
-
-without_a_life : written_after board [] 0 0 (Off ∷ []) ≡ Off ∷ []
-unfolding history_of
-without_a_life = refl
-
--- core 0 asks core 1 on
+-- the same, and core 0 asks core 1 on
 abbrev asked_on : List FwEntry
 asked_on =
     entry 1 (record { number = 0 }) (Enter (record { life = 1; number = 1; cause = Boot }))
@@ -113,29 +85,32 @@ asked_on =
     ∷ entry 2 (record { number = 0 }) (Smc (record { x0 = 0x84000003; x1 = 1; x2 = 0; x3 = 0 }))
     (Out (record { act = acts.Return (record { 0 = pos 0 }); message = Some (start_of 1) })) ∷ []
 
-after_asking_on : written_after board asked_on 1 1 (Off ∷ []) ≡ Pending ∷ Off ∷ []
-unfolding history_of core_of
-after_asking_on = refl
+-- the entries, the life before, the core, and what was written
+abbrev after : List FwEntry × ℕ × ℕ × List Status → List Status
+after (entries, before, core, written) = written_after board entries before core written
 
-caller_stays_on : written_after board asked_on 1 0 (On ∷ Pending ∷ Off ∷ [])
-    ≡ On ∷ Pending ∷ Off ∷ []
+-- by the life before: none, or the same; and where there is no life yet
+after_entries : Gives after
+    ((entries, 0, 0, Off ∷ []) ⇒ (On ∷ Pending ∷ Off ∷ [])
+    ∷ (entries, 1, 0, Off ∷ []) ⇒ (On ∷ Off ∷ [])
+    ∷ ([], 0, 0, Off ∷ []) ⇒ (Off ∷ [])
+    ∷ (asked_on, 1, 1, Off ∷ []) ⇒ (Pending ∷ Off ∷ [])
+    ∷ (asked_on, 1, 0, On ∷ Pending ∷ Off ∷ []) ⇒ (On ∷ Pending ∷ Off ∷ []) ∷ [])
 unfolding history_of core_of
-caller_stays_on = refl
+after_entries = refl
 
 -- What a pass has seen ----------------------------------------------------------------------------
 
 -- a pass that has missed ON_PENDING
 seen : Stand board entries (((2, On) ∷ (0, Off) ∷ []) ∷ ((0, Off) ∷ []) ∷ [])
 unfolding statuses history_of
-seen zero h = (inl (refl, refl), omega arith, (inr (inr (inl (refl, refl))), tt, tt))
-seen (suc zero) h = (inl (refl, refl), tt, tt)
-seen (suc (suc core)) h = tt
+seen = of_two _
+    (inl (refl, refl), omega arith, (inr (inr (inl (refl, refl))), tt, tt))
+    (inl (refl, refl), tt, tt)
 
 all_last : AllLast board entries (((2, On) ∷ (0, Off) ∷ []) ∷ ((0, Off) ∷ []) ∷ [])
 unfolding statuses history_of
-all_last zero h = ((0, Off) ∷ [], refl)
-all_last (suc zero) h = ([], refl)
-all_last (suc (suc core)) h = let k : suc (suc core) < 2 = h in absurd (omega arith)
+all_last = of_two _ ((0, Off) ∷ [], refl) ([], refl)
 
 -- the serial of the last item
 abbrev last : List Item → ℕ
@@ -144,7 +119,7 @@ last (i ∷ is) = i.0
 
 not_the_last : AllLast board entries (((1, Pending) ∷ []) ∷ ((0, Off) ∷ []) ∷ []) → ⊥
 unfolding statuses history_of
-not_the_last h = let e : ◌≡◌ {A = ℕ} 1 2 = ap last (h 0 (omega arith)).1 in omega arith
+not_the_last h = eqb-false 1 2 refl (ap last (h 0 (omega arith)).1)
 
 seen_backwards : Stand board entries (((0, Off) ∷ (2, On) ∷ []) ∷ []) → ⊥
 unfolding statuses history_of
@@ -186,15 +161,14 @@ nobody_is_read = (refl, refl)
 -- then nothing was read, and no status is answered
 nothing_is_read_of_nobody : IsAffinity None before
     (pass (((1, Pending) ∷ (0, Off) ∷ []) ∷ ((0, Off) ∷ []) ∷ [])) (record { 0 = negsuc 1 }) → ⊥
-nothing_is_read_of_nobody h =
-    let e : ◌≡◌ {A = ℕ} 2 1 = ap (λ (p : PassView). length (row p.seen 0)) h.1 in omega arith
+nothing_is_read_of_nobody h = eqb-false 2 1 refl (ap (λ (p : PassView). length (row p.seen 0)) h.1)
 
 -- the number of a status, or 9
 abbrev status_in : Code → ℕ
 status_in code = elim code.0 [ pos n ↦ n | negsuc n ↦ 9 ]
 
 no_status_of_nobody : IsAffinity None before before (record { 0 = pos 1 }) → ⊥
-no_status_of_nobody h = let e : ◌≡◌ {A = ℕ} 1 9 = ap status_in h.0 in omega arith
+no_status_of_nobody h = eqb-false 1 9 refl (ap status_in h.0)
 
 -- the status of the last item
 abbrev last_code : List Item → ℕ
@@ -203,7 +177,7 @@ last_code (i ∷ is) = status_code i.1
 
 -- another status than the last that was seen
 another_is_read : IsRead before before 0 On → ⊥
-another_is_read h = let e : ◌≡◌ {A = ℕ} 1 0 = ap last_code h.1.1.1 in omega arith
+another_is_read h = eqb-false 1 0 refl (ap last_code h.1.1.1)
 
 gain_one : (b : Bool) (i j : Item) → length (if b then i ∷ j ∷ [] else j ∷ []) ≤ 2
 gain_one true i j = omega arith
@@ -221,5 +195,4 @@ two_are_read h =
 
 other_core_is_read : IsRead before
     (pass (((1, On) ∷ (0, Off) ∷ []) ∷ ((1, On) ∷ (0, Off) ∷ []) ∷ [])) 0 On → ⊥
-other_core_is_read h =
-    let e : ◌≡◌ {A = ℕ} 2 1 = ap (λ (p : PassView). length (row p.seen 1)) h.1.0 in omega arith
+other_core_is_read h = eqb-false 2 1 refl (ap (λ (p : PassView). length (row p.seen 1)) h.1.0)

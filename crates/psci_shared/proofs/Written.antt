@@ -9,8 +9,7 @@ use Rattle.psci_fw.specs.psci_fw_spec.declared.status.Status.{Status}
 use Rattle.psci_fw.specs.psci_fw_spec.declared.status.Status.TheVariants.{Off}
 use Rattle.psci_fw.specs.psci_fw_spec.Exchange.{FwExchange}
 use Rattle.psci_fw.specs.psci_fw_spec.History.{life, status}
-use Rattle.psci_fw.specs.psci_fw_spec.Lives.{first_status}
-use Rattle.psci_fw.specs.psci_fw_spec.Statuses.{added, statuses}
+use Rattle.psci_fw.specs.psci_fw_spec.Statuses.{statuses}
 use Rattle.psci_status.specs.Lists.{Item, Within, row}
 use Rattle.psci_shared.specs.Entries.{FwEntry}
 use Rattle.psci_shared.specs.Books.{BookView, exchange_of, history_of}
@@ -18,23 +17,13 @@ use Rattle.psci_shared.specs.Views.{entered}
 use Rattle.psci_shared.specs.Gathers.{AllSeen, AllStand}
 use Rattle.psci_shared.specs.Passes.{PassView}
 use Rattle.psci_status.specs.Writing.{one_more}
-use Rattle.psci_status.proofs.Last.{length_added, more, statuses_more}
+use Rattle.psci_status.proofs.Last.{more, statuses_more}
 use Rattle.psci_shared.specs.Writing.{IsWritten, Stand, written_after}
 use Rattle.psci_shared.proofs.Histories.{history_more, history_none}
+use Rattle.psci_status.proofs.CallSteps.{first_statuses, row_same}
+use Rattle.psci_status.proofs.Counting.{length_one_more}
 
 -- How long the lists are ----------------------------------------------------------------------
-
-pub length_one_more : (opens : Bool) (core : ℕ) (s : Status) (ss : List Status)
-    → length (one_more opens core s ss) ≤ length ss + 2
-length_one_more true core s ss =
-    let a : length (added (first_status core) ss) ≤ length ss + 1 = length_added
-    (first_status core) ss in
-    let b : length (added s (added (first_status core) ss)) ≤ length
-    (added (first_status core) ss) + 1 = length_added s (added (first_status core) ss) in
-    omega arith
-length_one_more false core s ss =
-    let a : length (added s ss) ≤ length ss + 1 = length_added s ss in
-    omega arith
 
 -- One call more -------------------------------------------------------------------------------
 
@@ -65,12 +54,12 @@ pub few_written : (b : BoardValue) (log : List (List Status)) (entries : List Fw
     → IsWritten b log entries → length entries < 2 ^ 32
     → (core : ℕ) → core < cores b → length (row log core) < 2 ^ 60
 few_written b log entries is few core small =
-    let a : length (statuses b (history_of entries) core) ≤ 2 * length (history_of entries) + 1 =
-    length_statuses b (history_of entries) core in
-    let c : length (row log core) ≡ length (statuses b (history_of entries) core) = ap length
-    (is core small) in
-    let d : length (history_of entries) ≡ length entries = length_history entries in
-    omega arith
+    omega (
+      arith,
+      length_statuses b (history_of entries) core,
+      ap length (is core small),
+      length_history entries,
+    )
 
 -- what is written after one call more
 pub written_more : (b : BoardValue) (log log' : List (List Status)) (entries : List FwEntry)
@@ -89,10 +78,6 @@ written_more b log log' entries e before was is wrote core small =
     ∙ statuses_more b (exchange_of e) h core
     ∙ sym (ap (λ (h' : List FwExchange). statuses b h' core) (history_more entries e))
 
-first_statuses : (b : BoardValue) (core : ℕ) → statuses b [] core ≡ Off ∷ []
-unfolding statuses
-first_statuses b core = refl
-
 -- what is written before any call
 pub written_none : (b : BoardValue) (log : List (List Status))
     → log ≡ replicate (cores b) (Off ∷ [])
@@ -101,11 +86,6 @@ written_none b log is core small =
     ap (λ (l : List (List Status)). row l core) is ∙ row_same (cores b) core small
     ∙ sym (first_statuses b core) ∙ sym
     (ap (λ (h : List FwExchange). statuses b h core) history_none)
-  where
-    row_same : (n c : ℕ) → c < n → row (replicate n (Off ∷ [])) c ≡ Off ∷ []
-    row_same zero c h = absurd (omega arith)
-    row_same (suc n) zero h = refl
-    row_same (suc n) (suc c) h = row_same n c (omega arith)
 
 -- the same over books, as the lock has them
 pub written_on : (b : BoardValue) (log log1 log2 : List (List Status)) (k k' : BookView)

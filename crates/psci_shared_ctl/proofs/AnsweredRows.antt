@@ -1,9 +1,7 @@
 -- Worked examples of how a call through a pass was answered, of a book that is full, of a new pass
 -- and of why none is made.
 use Rattle.std.proofs.Common.{◌≡◌, ℕ, ◌<◌, List, [], ◌∷◌, length, false, true, refl, ap, arith}
-use Rattle.std.proofs.Common.{subst}
-use Rattle.psci_board.specs.Board.{BoardValue}
-use Rattle.psci_ctl.specs.psci_ctl_spec.psci_abi.declared.format.Format.TheVariants.{Original}
+use Rattle.std.proofs.Common.{subst, ◌∙◌, sym}
 use Rattle.psci_ctl.specs.psci_ctl_spec.Effects.{effect_of}
 use Rattle.psci_ctl.specs.psci_ctl_spec.History.{values_of}
 use Rattle.psci_ctl.specs.psci_ctl_spec.Legal.{IsLegal}
@@ -23,22 +21,13 @@ use Rattle.psci_shared_ctl.specs.Books.{BookView, entry, history_of}
 use Rattle.psci_shared_ctl.specs.Locked.{IsTurnedAway}
 use Rattle.psci_shared.specs.Views.{first, item}
 use Rattle.psci_shared_ctl.specs.Passes.{IsNoPass, PassView}
+use Rattle.psci_shared.proofs.TwoCores.{board}
+use Rattle.std.proofs.lemmas.Bool.{eqb-false}
 
 -- what an example unfolds to compute a reply
 unfoldable computing : Unit {0}
 unfolding values_of effect_of reply delivery_of reset_of wake_of history_of
 computing = tt
-
--- two cores
-abbrev board : BoardValue
-board = record {
-  levels = (2 ∷ []) ∷ [];
-  ranges = record { start = 0; end = 64 } ∷ [];
-  boot = 0;
-  starts = 9;
-  lives = 3;
-  format = Original;
-}
 
 -- a core is reset, and a core has a wake-up event that stopped in its start of this number
 abbrev reset : ℕ → CtlCall
@@ -101,15 +90,18 @@ so_it_is_answered : IsAnswered board (pass (old ∷ []))
 unfolding computing
 so_it_is_answered = (entries, ((refl, omega arith, (refl, omega arith, tt)), refl, refl))
 
-core_1_was_started_since : IsAnsweredAfter board entries (pass [])
-    (pass (item 2 (wake 1 1) ignored ∷ [])) (wake 1 1) ignored
-unfolding computing
-core_1_was_started_since = ((refl, omega arith, (refl, omega arith, tt)), refl, refl)
+-- a call of a pass without items once both resets were entered: its items then, and its reply
+abbrev Answers : CtlCall → List CtlItem → CtlReply → Type 0
+Answers call items reply = IsAnsweredAfter board entries (pass []) (pass items) call reply
 
-message_of_another_life : IsAnsweredAfter board entries (pass [])
-    (pass (item 2 deliver passed_over ∷ [])) deliver passed_over
+-- so is a core that was started since, and a message of another life
+are_answered : Answers (wake 1 1) (item 2 (wake 1 1) ignored ∷ []) ignored
+    × Answers deliver (item 2 deliver passed_over ∷ []) passed_over
 unfolding computing
-message_of_another_life = ((refl, omega arith, (refl, omega arith, tt)), refl, refl)
+are_answered = (
+  ((refl, omega arith, (refl, omega arith, tt)), refl, refl),
+  ((refl, omega arith, (refl, omega arith, tt)), refl, refl),
+)
 
 -- what tells replies apart
 abbrev number_in : CtlReply → ℕ
@@ -117,27 +109,6 @@ number_in (Kick (kicks.Started s)) = s.number
 number_in (Kick kicks.Ignored) = 0
 number_in (Delivery (deliveries.Applied ack)) = 97
 number_in (Delivery deliveries.Ignored) = 98
-
--- another reply: as with fewer entries, as with more, of another core
-as_before_the_last : IsAnsweredAfter board entries (pass [])
-    (pass (item 2 (reset 1) (reset_to 2) ∷ [])) (reset 1) (reset_to 2) → ⊥
-unfolding computing
-as_before_the_last h = let e : ◌≡◌ {A = ℕ} 2 3 = ap number_in h.1 in omega arith
-
-as_after_the_call : IsAnsweredAfter board entries (pass [])
-    (pass (item 2 (reset 1) (reset_to 4) ∷ [])) (reset 1) (reset_to 4) → ⊥
-unfolding computing
-as_after_the_call h = let e : ◌≡◌ {A = ℕ} 4 3 = ap number_in h.1 in omega arith
-
-as_core_1 : IsAnsweredAfter board entries (pass [])
-    (pass (item 2 (reset 0) (reset_to 3) ∷ [])) (reset 0) (reset_to 3) → ⊥
-unfolding computing
-as_core_1 h = let e : ◌≡◌ {A = ℕ} 3 2 = ap number_in h.1 in omega arith
-
-always_ignored : IsAnsweredAfter board entries (pass [])
-    (pass (item 2 (wake 1 2) ignored ∷ [])) (wake 1 2) ignored → ⊥
-unfolding computing
-always_ignored h = let e : ◌≡◌ {A = ℕ} 0 3 = ap number_in h.1 in omega arith
 
 -- the place and the reply of the first item
 abbrev first_place : List CtlItem → ℕ
@@ -148,41 +119,45 @@ abbrev first_number : List CtlItem → ℕ
 first_number [] = 99
 first_number (i ∷ is) = number_in i.reply
 
--- another place, another reply in the item, no item, and an item that is gone
-one_place_lower : IsAnsweredAfter board entries (pass [])
-    (pass (item 1 (wake 1 2) (woken_to 3) ∷ [])) (wake 1 2) (woken_to 3) → ⊥
+other_answers :
+    -- another reply: as with fewer entries, as with more, of another core
+    ¬ (Answers (reset 1) (item 2 (reset 1) (reset_to 2) ∷ []) (reset_to 2))
+    × ¬ (Answers (reset 1) (item 2 (reset 1) (reset_to 4) ∷ []) (reset_to 4))
+    × ¬ (Answers (reset 0) (item 2 (reset 0) (reset_to 3) ∷ []) (reset_to 3))
+    × ¬ (Answers (wake 1 2) (item 2 (wake 1 2) ignored ∷ []) ignored)
+    -- another place, another reply in the item, no item
+    × ¬ (Answers (wake 1 2) (item 1 (wake 1 2) (woken_to 3) ∷ []) (woken_to 3))
+    × ¬ (Answers (wake 1 2) (item 3 (wake 1 2) (woken_to 3) ∷ []) (woken_to 3))
+    × ¬ (Answers (wake 1 2) (item 2 (wake 1 2) ignored ∷ []) (woken_to 3))
+    × ¬ (Answers (wake 1 2) [] (woken_to 3))
 unfolding computing
-one_place_lower h = let e : ◌≡◌ {A = ℕ} 1 2 = ap first_place h.2 in omega arith
+other_answers = (
+  λ h. eqb-false 2 3 refl (ap number_in h.1),
+  λ h. eqb-false 4 3 refl (ap number_in h.1),
+  λ h. eqb-false 3 2 refl (ap number_in h.1),
+  λ h. eqb-false 0 3 refl (ap number_in h.1),
+  λ h. eqb-false 1 2 refl (ap first_place h.2),
+  λ h. eqb-false 3 2 refl (ap first_place h.2),
+  λ h. eqb-false 0 3 refl (ap first_number h.2),
+  λ h. eqb-false 0 1 refl (ap length h.2),
+)
 
-one_place_higher : IsAnsweredAfter board entries (pass [])
-    (pass (item 3 (wake 1 2) (woken_to 3) ∷ [])) (wake 1 2) (woken_to 3) → ⊥
-unfolding computing
-one_place_higher h = let e : ◌≡◌ {A = ℕ} 3 2 = ap first_place h.2 in omega arith
-
-item_of_another_reply : IsAnsweredAfter board entries (pass [])
-    (pass (item 2 (wake 1 2) ignored ∷ [])) (wake 1 2) (woken_to 3) → ⊥
-unfolding computing
-item_of_another_reply h = let e : ◌≡◌ {A = ℕ} 0 3 = ap first_number h.2 in omega arith
-
-no_item : IsAnsweredAfter board entries (pass []) (pass []) (wake 1 2) (woken_to 3) → ⊥
-unfolding computing
-no_item h = let e : ◌≡◌ {A = ℕ} 0 1 = ap length h.2 in omega arith
-
+-- an item that is gone
 old_item_is_gone : IsAnsweredAfter board entries (pass (old ∷ []))
     (pass (item 2 (wake 1 2) (woken_to 3) ∷ [])) (wake 1 2) (woken_to 3) → ⊥
 unfolding computing
-old_item_is_gone h = let e : ◌≡◌ {A = ℕ} 1 2 = ap length h.2 in omega arith
+old_item_is_gone h = eqb-false 1 2 refl (ap length h.2)
 
 -- the entries before are not legal: the last of them, the first
 last_is_illegal : IsAnsweredAfter board (resets 1 ∷ resets 1 ∷ []) (pass [])
     (pass (item 2 (reset 1) (reset_to 3) ∷ [])) (reset 1) (reset_to 3) → ⊥
 unfolding computing
-last_is_illegal h = let e : ◌≡◌ {A = ℕ} 1 2 = ap number_in h.0.0 in omega arith
+last_is_illegal h = eqb-false 1 2 refl (ap number_in h.0.0)
 
 first_is_illegal : IsAnsweredAfter board (resets 2 ∷ resets 2 ∷ []) (pass [])
     (pass (item 2 (reset 1) (reset_to 3) ∷ [])) (reset 1) (reset_to 3) → ⊥
 unfolding computing
-first_is_illegal h = let e : ◌≡◌ {A = ℕ} 2 1 = ap number_in h.0.2.0 in omega arith
+first_is_illegal h = eqb-false 2 1 refl (ap number_in h.0.2.0)
 
 -- A book that is full ----------------------------------------------------------------------------
 
@@ -208,24 +183,19 @@ turned_away = (refl, refl, refl, (refl, omega arith, (refl, omega arith, tt)))
 
 turned_away_early : IsTurnedAway board 3 full_book full_book (new_pass 2)
     (record (new_pass 2) { told_full = true }) → ⊥
-turned_away_early h = let e : ◌≡◌ {A = ℕ} 2 3 = h.2 in omega arith
+turned_away_early h = eqb-false 2 3 refl h.2
 
 room_for_one_more : (h : IsFull board 3) → h.0 ≡ entries → ⊥
-room_for_one_more h is =
-    let e : length h.0 ≡ 3 = h.2 in
-    let two : length h.0 ≡ 2 = ap length is in omega (arith, e, two)
+room_for_one_more h is = eqb-false 3 2 refl (sym h.2 ∙ ap length is)
 
 one_too_many : (h : IsFull board 1) → h.0 ≡ entries → ⊥
-one_too_many h is =
-    let e : length h.0 ≡ 1 = h.2 in
-    let two : length h.0 ≡ 2 = ap length is in omega (arith, e, two)
+one_too_many h is = eqb-false 1 2 refl (sym h.2 ∙ ap length is)
 
 full_of_illegal_entries : (h : IsFull board 1) → h.0 ≡ resets 2 ∷ [] → ⊥
 unfolding computing
 full_of_illegal_entries h is =
-    let l : IsLegal board (history_of (resets 2 ∷ [])) =
-    subst (λ (es : List CtlEntry). IsLegal board (history_of es)) is h.1 in
-    let e : ◌≡◌ {A = ℕ} 2 1 = ap number_in l.0 in omega arith
+    eqb-false 2 1 refl (ap number_in
+    (subst (λ (es : List CtlEntry). IsLegal board (history_of es)) is h.1).0)
 
 -- Passes -----------------------------------------------------------------------------------------
 
@@ -233,21 +203,10 @@ a_new_pass : new_pass 4
     ≡ record { core = tt; room = 4; told_full = false; items = []; seen = tt }
 a_new_pass = refl
 
-too_many : IsNoPass 1000 TooMany
-too_many = refl
+-- they are too many; memory lacks
+no_pass : IsNoPass 1000 TooMany × IsNoPass 999 Memory × IsNoPass 0 Memory
+no_pass = (refl, omega arith, omega arith)
 
-not_too_many_at_999 : IsNoPass 999 TooMany → ⊥
-not_too_many_at_999 h = let e : ◌≡◌ {A = ℕ} 999 1000 = h in omega arith
-
-no_memory_at_999 : IsNoPass 999 Memory
-no_memory_at_999 = omega arith
-
-no_memory_for_the_first : IsNoPass 0 Memory
-no_memory_for_the_first = omega arith
-
-too_many_before_memory : IsNoPass 1000 Memory → ⊥
-too_many_before_memory h = let e : 1000 < 1000 = h in omega arith
-
--- no pass of a power controller is for a core
-every_core_is_there : IsNoPass 3 NoCore → ⊥
-every_core_is_there h = h
+-- they are not too many; another reason comes first; no pass of a power controller is for a core
+a_pass : ¬ (IsNoPass 999 TooMany) × ¬ (IsNoPass 1000 Memory) × ¬ (IsNoPass 3 NoCore)
+a_pass = (eqb-false 999 1000 refl, λ h. let e : 1000 < 1000 = h in omega arith, λ h. h)

@@ -1,7 +1,6 @@
 -- Worked examples of a book without entries, and of a controller that does not have the values of
 -- the entries.
-use Rattle.std.proofs.Common.{◌≡◌, [], ◌∷◌, refl, ap}
-use Rattle.std.proofs.Common.{arith}
+use Rattle.std.proofs.Common.{◌≡◌, [], ◌∷◌, refl, ap, ◌∙◌, sym}
 use Rattle.psci_ctl.specs.Seen.{ControllerValue, seen}
 use Rattle.psci_ctl.specs.psci_ctl_spec.Effects.{effect_of}
 use Rattle.psci_ctl.specs.psci_ctl_spec.History.{values_of}
@@ -13,7 +12,8 @@ use Rattle.psci_ctl.specs.psci_ctl_spec.psci_messages.declared.start.Cause.TheVa
 use Rattle.psci_shared_ctl.specs.Entries.{CtlEntry}
 use Rattle.psci_shared_ctl.specs.Books.{entry, history_of}
 use Rattle.psci_shared_ctl.specs.Inside.{IsTied}
-use Rattle.psci_shared_ctl.proofs.CallRows.{board}
+use Rattle.psci_shared.proofs.TwoCores.{board}
+use Rattle.std.proofs.lemmas.Bool.{eqb-false}
 
 -- Books -------------------------------------------------------------------------------------------
 
@@ -30,12 +30,10 @@ start_not_counted : (c : ControllerValue) → (seen c).starts 1 ≡ 0
     → IsTied board c (restarted ∷ []) 4 3 → ⊥
 unfolding history_of values_of effect_of
 start_not_counted c none h =
-    let e : (seen c).starts 1 ≡ 1 = ap (λ (v : Values). v.starts 1) h.values in
-    omega (arith, none, e)
+    eqb-false 0 1 refl (sym none ∙ ap (λ (v : Values). v.starts 1) h.values)
 
 start_counted_too_soon : (c : ControllerValue) → (seen c).starts 1 ≡ 1
     → IsTied board c [] 4 3 → ⊥
 unfolding history_of values_of effect_of
 start_counted_too_soon c one h =
-    let e : (seen c).starts 1 ≡ 0 = ap (λ (v : Values). v.starts 1) h.values in
-    omega (arith, one, e)
+    eqb-false 1 0 refl (sym one ∙ ap (λ (v : Values). v.starts 1) h.values)

@@ -1,8 +1,7 @@
 -- Worked examples of what a pass is after a call, and of what the type of a book keeps.
-use Rattle.std.proofs.Common.{◌≡◌, ℕ, ◌<◌, ◌≤◌, List, [], ◌∷◌, length, Bool, true, false}
-use Rattle.std.proofs.Common.{refl, ap, arith}
+use Rattle.std.proofs.Common.{◌≡◌, ℕ, ◌<◌, ◌≤◌, List, [], ◌∷◌, length, Bool, true, false, refl, ap}
+use Rattle.std.proofs.Common.{arith, ◌∙◌, sym}
 use Rattle.psci_board.specs.Board.{BoardValue}
-use Rattle.psci_ctl.specs.psci_ctl_spec.psci_abi.declared.format.Format.TheVariants.{Original}
 use Rattle.psci_ctl.specs.Seen.{ControllerValue, seen}
 use Rattle.psci_ctl.specs.psci_ctl_spec.History.{values_of}
 use Rattle.psci_ctl.specs.psci_ctl_spec.Replies.{reply, wake_of}
@@ -18,6 +17,8 @@ use Rattle.psci_shared_ctl.specs.Books.{entry, history_of}
 use Rattle.psci_shared_ctl.specs.Inside.{IsTied}
 use Rattle.psci_shared.specs.Views.{item, told}
 use Rattle.psci_shared_ctl.specs.Passes.{Fits, IsCalled, PassView}
+use Rattle.psci_shared.proofs.TwoCores.{board}
+use Rattle.std.proofs.lemmas.Bool.{eqb-false, true≢false}
 
 abbrev wake : ℕ → CtlCall
 wake halted = Wake (record { number = 3 }) halted
@@ -46,48 +47,15 @@ delivered = Delivery deliveries.Ignored
 all_fit : Fits deliver delivered × Fits (wake 1) kicked × Fits reset kicked
 all_fit = (tt, tt, tt)
 
-message_is_no_kick : Fits deliver kicked → ⊥
-message_is_no_kick h = h
-
-wake_is_no_delivery : Fits (wake 1) delivered → ⊥
-wake_is_no_delivery h = h
-
-reset_is_no_delivery : Fits reset delivered → ⊥
-reset_is_no_delivery h = h
+none_fits : ¬ (Fits deliver kicked) × ¬ (Fits (wake 1) delivered) × ¬ (Fits reset delivered)
+none_fits = (λ h. h, λ h. h, λ h. h)
 
 -- A call that was entered -------------------------------------------------------------------------
-
-abbrev pass : Bool → List CtlItem → PassView
-pass told items = record { core = tt; room = 4; told_full = told; items = items; seen = tt }
-
-abbrev old : CtlItem
-old = item 3 (wake 1) kicked
-
-abbrev new : CtlItem
-new = item 7 reset kicked
-
-entered_behind : IsCalled (pass false (old ∷ [])) (pass false (old ∷ new ∷ [])) reset kicked
-entered_behind = (7, refl)
-
-first_of_a_told_pass : IsCalled (pass true []) (pass true (new ∷ [])) reset kicked
-first_of_a_told_pass = (7, refl)
 
 -- the place of the first item
 abbrev first_place : List CtlItem → ℕ
 first_place [] = 99
 first_place (i ∷ is) = i.place
-
-entered_in_front : IsCalled (pass false (old ∷ [])) (pass false (new ∷ old ∷ [])) reset kicked → ⊥
-entered_in_front h =
-    let e : ◌≡◌ {A = ℕ} 7 3 = ap (λ (p : PassView). first_place p.items) h.1 in omega arith
-
-nothing_entered : IsCalled (pass false []) (pass false []) reset kicked → ⊥
-nothing_entered h =
-    let e : ◌≡◌ {A = ℕ} 0 1 = ap (λ (p : PassView). length p.items) h.1 in omega arith
-
-entered_and_told : IsCalled (pass false []) (pass true (new ∷ [])) reset kicked → ⊥
-entered_and_told h =
-    let e : true ≡ false = ap (λ (p : PassView). p.told_full) h.1 in absurd (cc)
 
 -- what tells calls and replies apart
 abbrev kind : CtlCall → ℕ
@@ -107,30 +75,40 @@ abbrev first_reply : List CtlItem → ℕ
 first_reply [] = 99
 first_reply (i ∷ is) = is_kick i.reply
 
-another_call : IsCalled (pass false []) (pass false (new ∷ [])) (wake 5) kicked → ⊥
-another_call h =
-    let e : ◌≡◌ {A = ℕ} 8 5 = ap (λ (p : PassView). first_kind p.items) h.1 in omega arith
+abbrev pass : Bool → List CtlItem → PassView
+pass told items = record { core = tt; room = 4; told_full = told; items = items; seen = tt }
 
-another_reply : IsCalled (pass false []) (pass false (new ∷ [])) reset delivered → ⊥
-another_reply h =
-    let e : ◌≡◌ {A = ℕ} 1 0 = ap (λ (p : PassView). first_reply p.items) h.1 in omega arith
+abbrev old : CtlItem
+old = item 3 (wake 1) kicked
+
+abbrev new : CtlItem
+new = item 7 reset kicked
+
+entered_behind : IsCalled (pass false (old ∷ [])) (pass false (old ∷ new ∷ [])) reset kicked
+entered_behind = (7, refl)
+
+first_of_a_told_pass : IsCalled (pass true []) (pass true (new ∷ [])) reset kicked
+first_of_a_told_pass = (7, refl)
+
+called_otherwise :
+    ¬ (IsCalled (pass false (old ∷ [])) (pass false (new ∷ old ∷ [])) reset kicked)
+    × ¬ (IsCalled (pass false []) (pass false []) reset kicked)
+    × ¬ (IsCalled (pass false []) (pass true (new ∷ [])) reset kicked)
+    × ¬ (IsCalled (pass false []) (pass false (new ∷ [])) (wake 5) kicked)
+    × ¬ (IsCalled (pass false []) (pass false (new ∷ [])) reset delivered)
+called_otherwise = (
+  λ h. eqb-false 7 3 refl (ap (λ (p : PassView). first_place p.items) h.1),
+  λ h. eqb-false 0 1 refl (ap (λ (p : PassView). length p.items) h.1),
+  λ h. true≢false (ap (λ (p : PassView). p.told_full) h.1),
+  λ h. eqb-false 8 5 refl (ap (λ (p : PassView). first_kind p.items) h.1),
+  λ h. eqb-false 1 0 refl (ap (λ (p : PassView). first_reply p.items) h.1),
+)
 
 -- a pass that was told that the book is full keeps its items and its room
 told_full : told (pass false (old ∷ new ∷ [])) ≡ pass true (old ∷ new ∷ [])
 told_full = refl
 
 -- What the type of a book keeps -------------------------------------------------------------------
-
--- two cores
-abbrev pub board : BoardValue
-board = record {
-  levels = (2 ∷ []) ∷ [];
-  ranges = record { start = 0; end = 64 } ∷ [];
-  boot = 0;
-  starts = 9;
-  lives = 3;
-  format = Original;
-}
 
 tied : (c : ControllerValue) → c.board ≡ board → seen c ≡ values_of board (history_of [])
     → IsTied board c [] 4 3
@@ -158,9 +136,8 @@ room_is_too_large c h = let e : 0x100000000 < 0x100000000 = h.small in omega ari
 -- a wake-up was answered with a delivery
 illegal : (c : ControllerValue) → IsTied board c (entry 0 (wake 1) delivered ∷ []) 4 3 → ⊥
 unfolding history_of values_of reply wake_of
-illegal c h = let e : ◌≡◌ {A = ℕ} 0 1 = ap is_kick h.legal.0 in omega arith
+illegal c h = eqb-false 0 1 refl (ap is_kick h.legal.0)
 
 other_board : (c : ControllerValue) → c.board.starts ≡ 8 → IsTied board c [] 4 3 → ⊥
 other_board c eight h =
-    let e : c.board.starts ≡ 9 = ap (λ (b : BoardValue). b.starts) h.board in
-    omega (arith, eight, e)
+    eqb-false 8 9 refl (sym eight ∙ ap (λ (b : BoardValue). b.starts) h.board)

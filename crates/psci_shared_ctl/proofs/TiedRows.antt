@@ -1,7 +1,5 @@
 -- Worked examples of what the type of a book with two entries keeps, and what it does not.
-use Rattle.std.proofs.Common.{◌≡◌, ℕ, ◌<◌, List, [], ◌∷◌, refl, ap, arith}
-use Rattle.psci_board.specs.Board.{BoardValue}
-use Rattle.psci_ctl.specs.psci_ctl_spec.psci_abi.declared.format.Format.TheVariants.{Original}
+use Rattle.std.proofs.Common.{◌≡◌, ℕ, ◌<◌, List, [], ◌∷◌, refl, ap, arith, ◌∙◌, sym}
 use Rattle.psci_ctl.specs.Seen.{ControllerValue, seen}
 use Rattle.psci_ctl.specs.psci_ctl_spec.Effects.{effect_of}
 use Rattle.psci_ctl.specs.psci_ctl_spec.History.{values_of}
@@ -15,22 +13,13 @@ use Rattle.psci_ctl.specs.psci_ctl_spec.psci_messages.declared.start.Cause.TheVa
 use Rattle.psci_shared_ctl.specs.Entries.{CtlEntry}
 use Rattle.psci_shared_ctl.specs.Books.{entry, history_of}
 use Rattle.psci_shared_ctl.specs.Inside.{IsTied}
+use Rattle.psci_shared.proofs.TwoCores.{board}
+use Rattle.std.proofs.lemmas.Bool.{eqb-false}
 
 -- what an example unfolds to compute a reply and what is kept
 unfoldable computing : Unit {0}
 unfolding values_of effect_of reply reset_of history_of
 computing = tt
-
--- two cores
-abbrev board : BoardValue
-board = record {
-  levels = (2 ∷ []) ∷ [];
-  ranges = record { start = 0; end = 64 } ∷ [];
-  boot = 0;
-  starts = 9;
-  lives = 3;
-  format = Original;
-}
 
 -- a core is reset, for its start of this number
 abbrev resets : ℕ → ℕ → CtlEntry
@@ -64,7 +53,7 @@ number_in (Delivery delivery) = 0
 answered_as_the_first : (c : ControllerValue)
     → IsTied board c (resets 1 1 ∷ resets 1 1 ∷ []) 4 3 → ⊥
 unfolding computing
-answered_as_the_first c h = let e : ◌≡◌ {A = ℕ} 1 2 = ap number_in h.legal.0 in omega arith
+answered_as_the_first c h = eqb-false 1 2 refl (ap number_in h.legal.0)
 
 no_core : (c : ControllerValue) → IsTied board c (resets 2 1 ∷ []) 4 3 → ⊥
 unfolding computing
@@ -74,5 +63,4 @@ no_core c h = let e : 2 < 2 = h.legal.1 in omega arith
 other_start : (c : ControllerValue) → (seen c).starts 1 ≡ 1 → IsTied board c entries 4 3 → ⊥
 unfolding computing
 other_start c one h =
-    let e : (seen c).starts 1 ≡ 2 = ap (λ (v : Values). v.starts 1) h.values in
-    omega (arith, one, e)
+    eqb-false 1 2 refl (sym one ∙ ap (λ (v : Values). v.starts 1) h.values)

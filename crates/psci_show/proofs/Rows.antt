@@ -1,7 +1,6 @@
 -- One row more.
 use Rattle.std.proofs.Common.{◌≡◌, ℕ, ◌+◌, List, ◌∷◌, ◌++◌, length, ap, sym, ◌∙◌, append_assoc}
-use Rattle.std.proofs.Common.{arith}
-use Rattle.std.proofs.Common.{Option, Some}
+use Rattle.std.proofs.Common.{arith, Some}
 use Rattle.psci_world.specs.Seen.{WorldValue}
 use Rattle.psci_world.specs.psci_board.Board.{BoardValue}
 use Rattle.psci_world.specs.psci_world_spec.Legal.{legal_record}

@@ -1,6 +1,6 @@
 -- Worked examples: how a row begins, and what a run is shown as; and for each clause something that
 -- breaks it.
-use Rattle.std.proofs.Common.{◌≡◌, ℕ, true, false, List, [], ◌∷◌, ◌++◌, length, ap, arith, refl}
+use Rattle.std.proofs.Common.{◌≡◌, ℕ, true, false, List, [], ◌∷◌, ◌++◌, length, ap, refl}
 use Rattle.std.proofs.Common.{None, Some}
 use Rattle.std.specs.Prelude.{codes}
 use Rattle.std.specs.Fmt.{digits}
@@ -10,10 +10,12 @@ use Rattle.psci_world.specs.psci_world_spec.declared.said.Record.{Record}
 use Rattle.psci_world.specs.psci_world_spec.declared.said.Said.TheVariants.{Absent, Ignored}
 use Rattle.psci_script.specs.Line.{line_of}
 use Rattle.psci_script.specs.declared.grammar.Line.TheVariants.{Event as Says}
-use Rattle.psci_script.proofs.EndRows.{reading}
+use Rattle.psci_script.proofs.Scripts.{reading}
 use Rattle.psci_show.specs.declared.form.Form.{Form}
 use Rattle.psci_show.specs.declared.form.Form.TheVariants.{Lines, Json}
 use Rattle.psci_show.specs.Shown.{HasRows, IsEventRow, IsHeading, IsShown, front, number_text}
+use Rattle.psci_script.proofs.Tables.{◌⇒◌, Gives}
+use Rattle.std.proofs.lemmas.Bool.{eqb-false}
 
 -- lines of 80 columns, with a legend and without
 abbrev with_legend : Form
@@ -30,29 +32,15 @@ take = record { event = Take 7; said = Absent }
 
 -- The front ---------------------------------------------------------------------------------------
 
-of_one_digit : number_text 9 ≡ codes "   9"
+number_texts : Gives number_text
+    (9 ⇒ codes "   9"
+    ∷ 10 ⇒ codes "  10"
+    ∷ 999 ⇒ codes " 999"
+    ∷ 100 ⇒ codes " 100"
+    ∷ 1000 ⇒ codes "1000"
+    ∷ 12345 ⇒ codes "12345" ∷ [])
 unfolding digits
-of_one_digit = refl
-
-of_two_digits : number_text 10 ≡ codes "  10"
-unfolding digits
-of_two_digits = refl
-
-of_three_digits : number_text 999 ≡ codes " 999"
-unfolding digits
-of_three_digits = refl
-
-still_in_three : number_text 100 ≡ codes " 100"
-unfolding digits
-still_in_three = refl
-
-of_four_digits : number_text 1000 ≡ codes "1000"
-unfolding digits
-of_four_digits = refl
-
-of_five_digits : number_text 12345 ≡ codes "12345"
-unfolding digits
-of_five_digits = refl
+number_texts = refl
 
 front_of_a_row : front plain 7 (codes "wake 3") ≡ codes "   7"
 unfolding digits
@@ -64,13 +52,13 @@ front_in_json = refl
 
 -- A row -------------------------------------------------------------------------------------------
 
-row : IsEventRow plain 7 wake (codes "   7  R.. a wake-up\n")
+rows : IsEventRow plain 7 wake (codes "   7  R.. a wake-up\n")
+    × IsEventRow Json 7 wake (codes "{\"number\": 7, \"line\": \"wake 3\"}\n")
 unfolding digits reading
-row = record { line = codes "wake 3"; says = refl; more = codes "  R.. a wake-up\n"; is = refl }
-
-row_in_json : IsEventRow Json 7 wake (codes "{\"number\": 7, \"line\": \"wake 3\"}\n")
-unfolding digits reading
-row_in_json = record { line = codes "wake 3"; says = refl; more = codes "\"}\n"; is = refl }
+rows = (
+  record { line = codes "wake 3"; says = refl; more = codes "  R.. a wake-up\n"; is = refl },
+  record { line = codes "wake 3"; says = refl; more = codes "\"}\n"; is = refl },
+)
 
 fourth : List ℕ → ℕ
 fourth (a ∷ b ∷ c ∷ d ∷ rest) = d
@@ -78,7 +66,7 @@ fourth other = 0
 
 row_of_another_number : IsEventRow plain 7 wake (codes "   8  R.. a wake-up\n") → ⊥
 unfolding digits fourth
-row_of_another_number k = let e : ◌≡◌ {A = ℕ} 56 55 = ap fourth k.is in omega arith
+row_of_another_number k = eqb-false 56 55 refl (ap fourth k.is)
 
 row_of_another_event : (text : List ℕ) (k : IsEventRow Json 7 wake text)
     → ¬ (line_of k.line ≡ Some (Says (Wake 3))) → ⊥
@@ -93,7 +81,7 @@ any_legend : IsHeading with_legend (codes "  R  the core runs\n")
 any_legend = λ no. absurd (cc)
 
 legend_unasked : IsHeading plain (codes "R") → ⊥
-legend_unasked h = let e : ◌≡◌ {A = ℕ} 1 0 = ap length (h refl) in omega arith
+legend_unasked h = eqb-false 1 0 refl (ap length (h refl))
 
 -- A run -------------------------------------------------------------------------------------------
 
@@ -101,7 +89,7 @@ nothing_yet : IsShown plain None []
 nothing_yet = λ _. refl
 
 json_before_the_board : IsShown Json None (codes "{") → ⊥
-json_before_the_board h = let e : ◌≡◌ {A = ℕ} 1 0 = ap length h in omega arith
+json_before_the_board h = eqb-false 1 0 refl (ap length h)
 
 no_event : (b : BoardValue) → IsShown plain (Some (record { board = b; past = [] })) []
 no_event b = λ _. refl

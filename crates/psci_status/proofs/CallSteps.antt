@@ -1,8 +1,7 @@
 -- What the calls of a polled firmware have to show, over plain values.
 use Rattle.std.proofs.Common.{◌≡◌, ◌≢◌, ℕ, ◌<◌, List, false, refl, sym, ap, ◌∙◌, subst, replicate}
-use Rattle.std.proofs.Common.{[], ◌∷◌, ◌+◌, ◌*◌, ◌^◌, ◌≤◌, length}
+use Rattle.std.proofs.Common.{[], ◌∷◌, ◌+◌, ◌*◌, ◌^◌, ◌≤◌, length, Option, zero, suc, arith}
 use Rattle.std.proofs.lemmas.Nat.{mul-le}
-use Rattle.std.proofs.Common.{Option, zero, suc, arith}
 use Rattle.atomic_table.specs.Seated.{TableId}
 use Rattle.psci_board.specs.Board.{BoardValue, IsBoard, cores}
 use Rattle.psci_board.specs.declared.node.Core.{Core}
@@ -32,11 +31,11 @@ use Rattle.psci_status.specs.Writing.{most_statuses, written_then}
 use Rattle.psci_status.proofs.Past.{More, added_nothing, nothing_more, past_more}
 
 -- before any call
-first_statuses : (b : BoardValue) (core : ℕ) → statuses b [] core ≡ Off ∷ []
+pub first_statuses : (b : BoardValue) (core : ℕ) → statuses b [] core ≡ Off ∷ []
 unfolding statuses
 first_statuses b core = refl
 
-row_same : (n c : ℕ) → c < n → row (replicate n (Off ∷ [])) c ≡ Off ∷ []
+pub row_same : (n c : ℕ) → c < n → row (replicate n (Off ∷ [])) c ≡ Off ∷ []
 row_same zero c h = absurd (omega arith)
 row_same (suc n) zero h = refl
 row_same (suc n) (suc c) h = row_same n c (omega arith)
@@ -148,9 +147,12 @@ few_rows f table rows n few p core small =
     few b p.past.history core p.board p.past.legal in
     let lives : b.lives + 1 ≤ 65536 = omega (arith, p.board.lives) in
     let starts : 3 * b.starts + 8 ≤ 3 * 2 ^ 32 + 8 = omega (arith, p.board.starts) in
-    let bound : (b.lives + 1) * (3 * b.starts + 8) ≤ 65536 * (3 * 2 ^ 32 + 8) =
-    mul-le (b.lives + 1) (3 * b.starts + 8) 65536 (3 * 2 ^ 32 + 8) lives starts in
-    omega (arith, same, most, bound)
+    omega (
+      arith,
+      mul-le (b.lives + 1) (3 * b.starts + 8) 65536 (3 * 2 ^ 32 + 8) lives starts,
+      same,
+      most,
+    )
 
 -- What a call leaves -----------------------------------------------------------------------------
 

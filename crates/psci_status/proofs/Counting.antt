@@ -2,7 +2,6 @@
 use Rattle.std.proofs.Common.{◌≡◌, ◌≢◌, ⊎_elim, ℕ, ◌+◌, ◌*◌, ◌≤◌, List, [], ◌∷◌}
 use Rattle.std.proofs.Common.{length, Bool, true, false, refl, sym, ap, ◌∙◌, subst, arith}
 use Rattle.std.specs.Prelude.{◌⊎◌, ◌==◌, not, if◌then◌else◌}
-use Rattle.std.proofs.lemmas.Bool.Decides.{nat_tests}
 use Rattle.psci_board.specs.Board.{BoardValue, IsBoard}
 use Rattle.psci_fw_laws.specs.Allowed.{IsAllowed}
 use Rattle.psci_fw_laws.specs.Within.{AreWithin}
@@ -19,21 +18,17 @@ use Rattle.psci_fw_spec.specs.Values.{Values}
 use Rattle.psci_status.specs.Writing.{most_statuses, one_more}
 use Rattle.psci_status.proofs.Last.{added_last, length_added, statuses_more}
 use Rattle.psci_status.proofs.Weighing.{Grows, grows, per_life, rank, rank_most, rank_some, weight}
+use Rattle.psci_status.proofs.Staying.{same_life}
 
-length_one_more : (opens : Bool) (core : ℕ) (s : Status) (ss : List Status)
+pub length_one_more : (opens : Bool) (core : ℕ) (s : Status) (ss : List Status)
     → length (one_more opens core s ss) ≤ length ss + 2
 length_one_more true core s ss =
-    let a : length (added (first_status core) ss) ≤ length ss + 1 = length_added
-    (first_status core) ss in
-    let b : length (added s (added (first_status core) ss)) ≤ length
-    (added (first_status core) ss) + 1 = length_added s (added (first_status core) ss) in
-    omega arith
-length_one_more false core s ss =
-    let a : length (added s ss) ≤ length ss + 1 = length_added s ss in
-    omega arith
-
-same_life : (l : ℕ) → not (l == l) ≡ false
-same_life l = grind (arith, nat_tests)
+    omega (
+      arith,
+      length_added (first_status core) ss,
+      length_added s (added (first_status core) ss),
+    )
+length_one_more false core s ss = omega (arith, length_added s ss)
 
 not_zero : (l : ℕ) → (l == 0) ≡ false → l ≢ 0
 not_zero l some is = let e : (l == 0) ≡ true = ap (λ (n : ℕ). n == 0) is in cc
@@ -149,11 +144,12 @@ mul_le x y n h = grind arith
 weight_most : (b : BoardValue) (l k : ℕ) (s : Status) → l ≤ b.lives → k ≤ b.starts
     → weight b l k s ≤ most_statuses b
 weight_most b l k s lives most =
-    let r : rank s ≤ 3 = rank_most s in
-    let e : l * per_life b ≤ b.lives * per_life b = mul_le l b.lives (per_life b) lives in
-    let f : (b.lives + 1) * per_life b ≡ b.lives * per_life b + per_life b =
-    one_more_time b.lives (per_life b) in
-    omega arith
+    omega (
+      arith,
+      rank_most s,
+      mul_le l b.lives (per_life b) lives,
+      one_more_time b.lives (per_life b),
+    )
   where
     one_more_time : (l n : ℕ) → (l + 1) * n ≡ l * n + n
     one_more_time l n = grind arith
@@ -164,8 +160,8 @@ pub few_statuses : (b : BoardValue) (h : List FwExchange) (core : ℕ) → Kept 
     → length (statuses b h core) ≤ most_statuses b
 unfolding values_of
 few_statuses b h core kept changed valued board legal within =
-    let a : length (statuses b h core) ≤ weight b (life b h) (known b h core) (status b h core) =
-    weighed b h core kept changed valued board legal in
-    let c : weight b (life b h) (known b h core) (status b h core) ≤ most_statuses b =
-    weight_most b (life b h) (known b h core) (status b h core) within.lives (within.starts core) in
-    omega arith
+    omega (
+      arith,
+      weighed b h core kept changed valued board legal,
+      weight_most b (life b h) (known b h core) (status b h core) within.lives (within.starts core),
+    )

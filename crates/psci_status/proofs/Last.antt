@@ -6,7 +6,6 @@ use Rattle.std.proofs.lemmas.Bool.{eqb-true, ne_eqb}
 use Rattle.std.proofs.lemmas.Bool.Decides.{nat_tests}
 use Rattle.psci_board.specs.Board.{BoardValue}
 use Rattle.psci_fw_spec.specs.declared.status.Status.{Status}
-use Rattle.psci_fw_spec.specs.declared.status.Status.TheVariants.{On, Off, Pending}
 use Rattle.psci_fw_spec.specs.AffinityInfo.{status_code}
 use Rattle.psci_fw_spec.specs.Exchange.{FwExchange, effect}
 use Rattle.psci_fw_spec.specs.History.{begins, life, life_after, status}
@@ -15,18 +14,14 @@ use Rattle.psci_fw_spec.specs.Said.{Arrival, arrived}
 use Rattle.psci_fw_spec.specs.Statuses.{added, statuses}
 use Rattle.psci_status.specs.Lists.{status_of}
 use Rattle.psci_status.specs.Writing.{one_more}
+use Rattle.psci_status.proofs.Lists.{status_of_code}
 
-status_of_code : (s : Status) → status_of (status_code s) ≡ s
-status_of_code On = refl
-status_of_code Off = refl
-status_of_code Pending = refl
-
-same_status : (s t : Status) → (status_code s == status_code t) ≡ true → t ≡ s
+pub same_status : (s t : Status) → (status_code s == status_code t) ≡ true → t ≡ s
 same_status s t e =
     sym (status_of_code t) ∙ ap status_of (sym (eqb-true (status_code s) (status_code t) e))
     ∙ status_of_code s
 
-same_code : (n : ℕ) → (n == n) ≡ true
+pub same_code : (n : ℕ) → (n == n) ≡ true
 same_code n = grind (arith, nat_tests)
 
 -- what was added is the last

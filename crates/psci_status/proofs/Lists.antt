@@ -65,7 +65,7 @@ gain_from_within : (log : List Status) (n xs : List Item) → Within log n → W
 gain_from_within log [] xs h k = k
 gain_from_within log (i ∷ is) xs h k = gain_within log i xs h.0 k
 
-status_of_code : (s : Status) → status_of (status_code s) ≡ s
+pub status_of_code : (s : Status) → status_of (status_code s) ≡ s
 status_of_code On = refl
 status_of_code Off = refl
 status_of_code Pending = refl
@@ -159,8 +159,7 @@ pub word_length : (log : List Status) (r : ℕ) → IsWord log r → r / 4 + 1 �
 word_length [] r h = absurd h
 word_length (s ∷ ss) r h =
     let e : r ≡ 4 * length ss + status_code s = h in
-    let small : status_code s < 3 = code_small s in
-    omega arith
+    omega (arith, code_small s)
 
 -- the word that the writer stores after this one
 pub next_word : (log : List Status) (r k : ℕ) (s : Status) (new : ℕ) → r / 4 + 1 ≡ length log

@@ -1,9 +1,7 @@
 -- A call goes on from a past: what it leaves, and what it then has to write.
-use Rattle.std.proofs.Common.{◌≡◌, ◌≢◌, ℕ, ◌<◌, List, ◌∷◌, Bool, true}
-use Rattle.std.proofs.Common.{false}
-use Rattle.std.proofs.Common.{refl, sym, ap, ◌∙◌, subst, arith, Option, None, Some}
+use Rattle.std.proofs.Common.{◌≡◌, ◌≢◌, ℕ, ◌<◌, List, ◌∷◌, Bool, true, false, refl, sym, ap, ◌∙◌}
+use Rattle.std.proofs.Common.{subst, Option, None, Some}
 use Rattle.std.specs.Prelude.{◌==◌, not, if◌then◌else◌}
-use Rattle.std.proofs.lemmas.Bool.Decides.{nat_tests}
 use Rattle.std.specs.Ordering.{int_eq}
 use Rattle.psci_abi.specs.Calls.{request_of}
 use Rattle.psci_abi.specs.Codes.{success}
@@ -28,8 +26,7 @@ use Rattle.psci_fw_spec.specs.declared.status.Status.{Status}
 use Rattle.psci_fw_spec.specs.After.{after}
 use Rattle.psci_fw_spec.specs.Answer.{answer}
 use Rattle.psci_fw_spec.specs.Effects.{GoesOn, effect_of, enter_effect, function_effect}
-use Rattle.psci_fw_spec.specs.Effects.{mode_effect}
-use Rattle.psci_fw_spec.specs.Effects.{return_effect, sent_effect, stop_effect}
+use Rattle.psci_fw_spec.specs.Effects.{mode_effect, return_effect, sent_effect, stop_effect}
 use Rattle.psci_fw_spec.specs.Exchange.{FwExchange}
 use Rattle.psci_fw_spec.specs.History.{life, status, values_of}
 use Rattle.psci_fw_spec.specs.Statuses.{added, statuses}
@@ -40,7 +37,7 @@ use Rattle.psci_status.specs.Naming.{asked_by, is_named, names, sent_beside}
 use Rattle.psci_status.specs.Polled.{IsPast}
 use Rattle.psci_status.specs.Writing.{one_more, written_then}
 use Rattle.psci_status.proofs.Last.{added_last, statuses_more}
-use Rattle.psci_status.proofs.Staying.{status_stays}
+use Rattle.psci_status.proofs.Staying.{same_life, status_stays}
 
 -- Whom a call names ---------------------------------------------------------------------------
 
@@ -56,69 +53,29 @@ names_set c core number false = refl
 -- a function that returns, and sends nothing
 pub names_return : (c core : ℕ) (r : Request) (code : Code)
     → names (return_effect c r code) core ≡ false
-names_return c core requests.Version code = refl
-names_return c core (requests.CpuSuspend state entry_point context) code = refl
-names_return c core requests.CpuOff code = refl
-names_return c core (requests.CpuOn word entry_point context) code = refl
-names_return c core (requests.AffinityInfo level word) code = refl
-names_return c core (requests.NodeHwState level word) code = refl
-names_return c core requests.MigrateInfoType code = refl
-names_return c core requests.SystemOff code = refl
-names_return c core requests.SystemReset code = refl
-names_return c core (requests.Features word) code = refl
-names_return c core (requests.SystemSuspend entry_point context) code = refl
 names_return c core (requests.SetSuspendMode mode) code =
     names_set c core mode (int_eq code.0 success.0)
-names_return c core (requests.SystemReset2 reset_type cookie) code = refl
-names_return c core requests.Unknown code = refl
+names_return c core r code = refl
 
 -- a function that stops its caller
 pub names_stop : (b : BoardValue) (c core : ℕ) (r : Request) (m : MessageValue)
     → names (stop_effect b c r m) core ≡ false
 names_stop b c core requests.Version m = refl
-names_stop b c core (requests.CpuSuspend state entry_point context) m = refl
-names_stop b c core requests.CpuOff m = refl
-names_stop b c core (requests.CpuOn word entry_point context) m = refl
-names_stop b c core (requests.AffinityInfo level word) m = refl
-names_stop b c core (requests.NodeHwState level word) m = refl
-names_stop b c core requests.MigrateInfoType m = refl
-names_stop b c core requests.SystemOff m = refl
-names_stop b c core requests.SystemReset m = refl
-names_stop b c core (requests.Features word) m = refl
-names_stop b c core (requests.SystemSuspend entry_point context) m = refl
-names_stop b c core (requests.SetSuspendMode mode) m = refl
-names_stop b c core (requests.SystemReset2 reset_type cookie) m = refl
-names_stop b c core requests.Unknown m = refl
+names_stop b c core r m = refl
 
 -- a function that returns and sends something names whom it sent it for, if it names a core
 names_sent : (c core : ℕ) (r : Request) (m : MessageValue) → (core == m.core.number) ≡ false
     → names (sent_effect c r m) core ≡ false
-names_sent c core requests.Version m other = refl
-names_sent c core (requests.CpuSuspend state entry_point context) m other = refl
-names_sent c core requests.CpuOff m other = refl
 names_sent c core (requests.CpuOn word entry_point context) m other = other
-names_sent c core (requests.AffinityInfo level word) m other = refl
-names_sent c core (requests.NodeHwState level word) m other = refl
-names_sent c core requests.MigrateInfoType m other = refl
-names_sent c core requests.SystemOff m other = refl
-names_sent c core requests.SystemReset m other = refl
-names_sent c core (requests.Features word) m other = refl
-names_sent c core (requests.SystemSuspend entry_point context) m other = refl
-names_sent c core (requests.SetSuspendMode mode) m other = refl
-names_sent c core (requests.SystemReset2 reset_type cookie) m other = refl
-names_sent c core requests.Unknown m other = refl
+names_sent c core r m other = refl
 
 names_function : (b : BoardValue) (c core : ℕ) (r : Request) (act : Act)
     (m : Option MessageValue) → is_named (sent_beside act m) core ≡ false
     → names (function_effect b c r act m) core ≡ false
 names_function b c core r acts.Stop (Some m) other = names_stop b c core r m
-names_function b c core r acts.Stop None other = refl
 names_function b c core r (acts.Return code) (Some m) other = names_sent c core r m other
 names_function b c core r (acts.Return code) None other = names_return c core r code
-names_function b c core r (acts.Enter address context) (Some m) other = refl
-names_function b c core r (acts.Enter address context) None other = refl
-names_function b c core r acts.Resume (Some m) other = refl
-names_function b c core r acts.Resume None other = refl
+names_function b c core r act m other = refl
 
 pub names_smc : (b : BoardValue) (c core : ℕ) (regs : Regs) (o : Outcome)
     → is_named (asked_by o) core ≡ false
@@ -129,12 +86,7 @@ names_arrival : (c core : ℕ) (s : Start) (act : Act) (m : Option MessageValue)
     → (core == c) ≡ false → names (enter_effect c s act m) core ≡ false
 names_arrival c core s acts.Stop (Some m) other = refl
 names_arrival c core s acts.Stop None other = refl
-names_arrival c core s (acts.Return code) (Some m) other = other
-names_arrival c core s (acts.Return code) None other = other
-names_arrival c core s (acts.Enter address context) (Some m) other = other
-names_arrival c core s (acts.Enter address context) None other = other
-names_arrival c core s acts.Resume (Some m) other = other
-names_arrival c core s acts.Resume None other = other
+names_arrival c core s act m other = other
 
 pub names_enter : (b : BoardValue) (c core : ℕ) (s : Start) (o : Outcome)
     → (core == c) ≡ false → names (effect_of b c (Enter s) (replies.Out o)) core ≡ false
@@ -227,9 +179,6 @@ nothing_more b v written past core small = by_life (v.life == 0) refl
     h : List FwExchange
     h = past.history
 
-    same : (l : ℕ) → not (l == l) ≡ false
-    same l = grind (arith, nat_tests)
-
     some : (v.life == 0) ≡ false → life b h ≢ 0
     some is z =
         let e : (v.life == 0) ≡ true =
@@ -246,5 +195,5 @@ nothing_more b v written past core small = by_life (v.life == 0) refl
         else one_more (not (v.life == v.life)) core (v.status core) (row written core))
     by_life true is = refl
     by_life false is =
-        sym (ap (λ (x : Bool). one_more x core (v.status core) (row written core)) (same v.life)
-        ∙ told is)
+        sym (ap (λ (x : Bool). one_more x core (v.status core) (row written core))
+        (same_life v.life) ∙ told is)

@@ -1,6 +1,6 @@
 -- Worked examples: a past of values and of what was written.
-use Rattle.std.proofs.Common.{◌≡◌, ℕ, zero, suc, ◌<◌, pos, List, [], ◌∷◌, length, refl, ap}
-use Rattle.std.proofs.Common.{subst, arith, None}
+use Rattle.std.proofs.Common.{◌≡◌, ℕ, zero, suc, ◌<◌, pos, List, [], ◌∷◌, length, refl, ap, subst}
+use Rattle.std.proofs.Common.{arith, None, eqb, false, sym, ◌∙◌}
 use Rattle.psci_messages.specs.declared.start.Cause.TheVariants as causes
 use Rattle.psci_fw_spec.specs.declared.call.FwCall.TheVariants.{Smc}
 use Rattle.psci_fw_spec.specs.declared.outcome.Act.TheVariants as acts
@@ -17,6 +17,7 @@ use Rattle.psci_fw_spec.specs.Values.{Values}
 use Rattle.psci_status.specs.Lists.{row}
 use Rattle.psci_status.specs.Polled.{IsPast}
 use Rattle.psci_status.proofs.Calls.{Step, board, boots, computing, enters, history, on}
+use Rattle.std.proofs.lemmas.Bool.{eqb-false}
 
 -- The values after some calls, and what was written of each core ----------------------------------
 
@@ -62,16 +63,22 @@ anew_rows = (Pending ∷ On ∷ Pending ∷ Off ∷ []) ∷ (Off ∷ []) ∷ (Of
 
 -- A past ------------------------------------------------------------------------------------------
 
+-- what holds of each of the four cores
+pub of_four : (P : ℕ → Type 0) → P 0 → P 1 → P 2 → P 3 → (core : ℕ) → core < 4 → P core
+of_four P a b c d zero h = a
+of_four P a b c d (suc zero) h = b
+of_four P a b c d (suc (suc zero)) h = c
+of_four P a b c d (suc (suc (suc zero))) h = d
+of_four P a b c d (suc (suc (suc (suc core)))) h = absurd (omega (arith, h))
+
 before_any_call : IsPast board (values none) first_rows
 unfolding computing
-before_any_call = record { history = []; legal = tt; values = refl; written = written }
-  where
-    written : (core : ℕ) → core < 4 → row first_rows core ≡ statuses board [] core
-    written zero h = refl
-    written (suc zero) h = refl
-    written (suc (suc zero)) h = refl
-    written (suc (suc (suc zero))) h = refl
-    written (suc (suc (suc (suc c)))) h = absurd (omega (arith, h))
+before_any_call = record {
+  history = [];
+  legal = tt;
+  values = refl;
+  written = of_four _ refl refl refl refl;
+}
 
 abbrev pub past_of_both : IsPast board (values both) both_rows
 unfolding computing
@@ -79,15 +86,8 @@ past_of_both = record {
   history = history both;
   legal = (refl, (refl, (refl, tt)));
   values = refl;
-  written = written;
+  written = of_four _ refl refl refl refl;
 }
-  where
-    written : (core : ℕ) → core < 4 → row both_rows core ≡ statuses board (history both) core
-    written zero h = refl
-    written (suc zero) h = refl
-    written (suc (suc zero)) h = refl
-    written (suc (suc (suc zero))) h = refl
-    written (suc (suc (suc (suc c)))) h = absurd (omega (arith, h))
 
 past_in_life_2 : IsPast board (values anew) anew_rows
 unfolding computing
@@ -95,15 +95,8 @@ past_in_life_2 = record {
   history = history anew;
   legal = (refl, (refl, (refl, (refl, tt))));
   values = refl;
-  written = written;
+  written = of_four _ refl refl refl refl;
 }
-  where
-    written : (core : ℕ) → core < 4 → row anew_rows core ≡ statuses board (history anew) core
-    written zero h = refl
-    written (suc zero) h = refl
-    written (suc (suc zero)) h = refl
-    written (suc (suc (suc zero))) h = refl
-    written (suc (suc (suc (suc c)))) h = absurd (omega (arith, h))
 
 -- an outcome before any core has entered, where a refusal is legal
 abbrev early : FwExchange
@@ -123,54 +116,46 @@ unfolding computing
 illegal_past v rows p is =
     let l : IsLegal board (early ∷ []) =
     subst (λ (h : List FwExchange). IsLegal board h) is p.legal in
-    let e : ◌≡◌ {A = ℕ} 1 3 = ap is_out l.0 in omega arith
+    eqb-false 1 3 refl (ap is_out l.0)
 
 -- the values are of another life, of another status of core 3
 other_life : (v : Values) (rows : Rows) (p : IsPast board v rows) → p.history ≡ history booted
     → v.life ≡ 2 → ⊥
 unfolding computing
 other_life v rows p is two =
-    let e : v.life ≡ (values_of board p.history).life = ap (λ (u : Values). u.life) p.values in
-    let one : (values_of board p.history).life ≡ 1 =
-    ap (λ (h : List FwExchange). (values_of board h).life) is in
-    omega (arith, e, one, two)
+    eqb-false 2 1 refl (sym two ∙ ap (λ (u : Values). u.life) p.values
+    ∙ ap (λ (h : List FwExchange). (values_of board h).life) is)
 
 other_status : (v : Values) (rows : Rows) (p : IsPast board v rows) → p.history ≡ history both
     → v.status 3 ≡ Off → ⊥
 unfolding computing
 other_status v rows p is off =
-    let e : status_code (v.status 3) ≡ status_code ((values_of board p.history).status 3) =
-    ap (λ (u : Values). status_code (u.status 3)) p.values in
-    let on : status_code ((values_of board p.history).status 3) ≡ 0 =
-    ap (λ (h : List FwExchange). status_code ((values_of board h).status 3)) is in
-    let off_1 : status_code (v.status 3) ≡ 1 = ap status_code off in
-    omega (arith, e, on, off_1)
+    eqb-false 1 0 refl (ap status_code (sym off)
+    ∙ ap (λ (u : Values). status_code (u.status 3)) p.values
+    ∙ ap (λ (h : List FwExchange). status_code ((values_of board h).status 3)) is)
+
+-- other numbers of statuses than were written
+not_past : (v : Values) (rows : Rows) (steps : List Step) (core : ℕ) (p : IsPast board v rows)
+    → core < 4 → eqb (length (row rows core)) (length (statuses board (history steps) core)) ≡ false
+    → p.history ≡ history steps → ⊥
+unfolding computing
+not_past v rows steps core p small differ is = eqb-false _ _ differ
+    (ap length (p.written core small)
+    ∙ ap (λ (h : List FwExchange). length (statuses board h core)) is)
 
 -- the status at the life's start is not written; nothing is of core 3; one status is too many
 start_is_not_written : (v : Values)
     → (p : IsPast board v ((On ∷ Off ∷ []) ∷ (Off ∷ []) ∷ (Off ∷ []) ∷ (Off ∷ []) ∷ []))
     → p.history ≡ history booted → ⊥
 unfolding computing
-start_is_not_written v p is =
-    let e : 2 ≡ length (statuses board p.history 0) = ap length (p.written 0 (omega arith)) in
-    let three : length (statuses board p.history 0) ≡ 3 =
-    ap (λ (h : List FwExchange). length (statuses board h 0)) is in
-    omega (arith, e, three)
+start_is_not_written v p is = not_past v _ booted 0 p (omega arith) refl is
 
 core_3_is_not_written : (v : Values)
     → (p : IsPast board v ((On ∷ Pending ∷ Off ∷ []) ∷ (Off ∷ []) ∷ (Off ∷ []) ∷ []))
     → p.history ≡ history booted → ⊥
 unfolding computing
-core_3_is_not_written v p is =
-    let e : 0 ≡ length (statuses board p.history 3) = ap length (p.written 3 (omega arith)) in
-    let one : length (statuses board p.history 3) ≡ 1 =
-    ap (λ (h : List FwExchange). length (statuses board h 3)) is in
-    omega (arith, e, one)
+core_3_is_not_written v p is = not_past v _ booted 3 p (omega arith) refl is
 
 once_more : (v : Values) → (p : IsPast board v booted_rows) → p.history ≡ [] → ⊥
 unfolding computing
-once_more v p is =
-    let e : 3 ≡ length (statuses board p.history 0) = ap length (p.written 0 (omega arith)) in
-    let one : length (statuses board p.history 0) ≡ 1 =
-    ap (λ (h : List FwExchange). length (statuses board h 0)) is in
-    omega (arith, e, one)
+once_more v p is = not_past v _ none 0 p (omega arith) refl is

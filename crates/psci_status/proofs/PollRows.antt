@@ -7,30 +7,34 @@ use Rattle.psci_fw_spec.specs.declared.status.Status.TheVariants.{Off, On, Pendi
 use Rattle.psci_fw_spec.specs.AffinityInfo.{status_code}
 use Rattle.psci_status.specs.Lists.{Item, gain, row}
 use Rattle.psci_status.specs.Polls.{IsLoaded, IsPolledAs}
+use Rattle.std.proofs.lemmas.Bool.{eqb-false}
 
 abbrev seen : List (List Item)
 seen = ((0, Off) ∷ []) ∷ ((0, Off) ∷ []) ∷ []
 
 -- One load ----------------------------------------------------------------------------------------
 
--- of core 0; of core 1, of which two were missed; of core 1 nothing new
-one_more_is_loaded : IsLoaded seen (((1, Pending) ∷ (0, Off) ∷ []) ∷ ((0, Off) ∷ []) ∷ []) 0 Pending
-one_more_is_loaded = (1, refl, ((0, Off) ∷ [], refl), (omega arith, (tt, tt)))
-
-two_were_missed : IsLoaded seen (((0, Off) ∷ []) ∷ ((3, On) ∷ (0, Off) ∷ []) ∷ []) 1 On
-two_were_missed = (3, refl, ((0, Off) ∷ [], refl), (omega arith, (tt, tt)))
-
-nothing_new_is_loaded : IsLoaded (((4, On) ∷ []) ∷ ((2, Pending) ∷ (0, Off) ∷ []) ∷ [])
+-- of core 0; of core 1, of which two were missed; of core 1 nothing new; the first of a core
+is_loaded : IsLoaded seen (((1, Pending) ∷ (0, Off) ∷ []) ∷ ((0, Off) ∷ []) ∷ []) 0 Pending
+    × IsLoaded seen (((0, Off) ∷ []) ∷ ((3, On) ∷ (0, Off) ∷ []) ∷ []) 1 On
+    × IsLoaded (((4, On) ∷ []) ∷ ((2, Pending) ∷ (0, Off) ∷ []) ∷ [])
     (((4, On) ∷ []) ∷ ((2, Pending) ∷ (0, Off) ∷ []) ∷ []) 1 Pending
-nothing_new_is_loaded = (2, refl, ((0, Off) ∷ [], refl), (omega arith, (tt, tt)))
-
--- the first of a core
-first_is_loaded : IsLoaded ([] ∷ []) (((5, On) ∷ []) ∷ []) 0 On
-first_is_loaded = (5, refl, ([], refl), (tt, tt))
+    × IsLoaded ([] ∷ []) (((5, On) ∷ []) ∷ []) 0 On
+is_loaded = (
+  (1, refl, ((0, Off) ∷ [], refl), (omega arith, (tt, tt))),
+  (3, refl, ((0, Off) ∷ [], refl), (omega arith, (tt, tt))),
+  (2, refl, ((0, Off) ∷ [], refl), (omega arith, (tt, tt))),
+  (5, refl, ([], refl), (tt, tt)),
+)
 
 gain_one : (b : Bool) (i j : Item) → length (if b then i ∷ j ∷ [] else j ∷ []) ≤ 2
 gain_one true i j = omega arith
 gain_one false i j = omega arith
+
+-- the number of the last status
+abbrev last_code : List Item → ℕ
+last_code [] = 9
+last_code (i ∷ is) = status_code i.1
 
 -- two items more; one of another core
 two_are_loaded :
@@ -43,43 +47,34 @@ two_are_loaded h =
     gain_one (nat_lt 0 h.0) (h.0, On) (0, Off) in
     omega arith
 
-another_core_is_loaded : IsLoaded seen
-    (((1, On) ∷ (0, Off) ∷ []) ∷ ((1, On) ∷ (0, Off) ∷ []) ∷ []) 0 On → ⊥
-another_core_is_loaded h =
-    let e : ◌≡◌ {A = ℕ} 2 1 = ap (λ (s : List (List Item)). length (row s 1)) h.1 in omega arith
-
--- the number of the last status
-abbrev last_code : List Item → ℕ
-last_code [] = 9
-last_code (i ∷ is) = status_code i.1
-
--- another status than the last; serials that do not rise
-another_status_is_loaded : IsLoaded seen seen 0 On → ⊥
-another_status_is_loaded h = let e : ◌≡◌ {A = ℕ} 1 0 = ap last_code h.2.1 in omega arith
-
-another_status_of_core_1 : IsLoaded (((1, Pending) ∷ []) ∷ ((0, Off) ∷ []) ∷ [])
-    (((1, Pending) ∷ []) ∷ ((0, Off) ∷ []) ∷ []) 1 Pending → ⊥
-another_status_of_core_1 h = let e : ◌≡◌ {A = ℕ} 1 2 = ap last_code h.2.1 in omega arith
-
-backwards : IsLoaded (((1, Off) ∷ (3, On) ∷ []) ∷ []) (((1, Off) ∷ (3, On) ∷ []) ∷ []) 0 Off → ⊥
-backwards h = let e : 3 < 1 = h.3.0 in omega arith
-
-backwards_of_core_1 : IsLoaded ([] ∷ ((1, Off) ∷ (3, On) ∷ []) ∷ [])
-    ([] ∷ ((1, Off) ∷ (3, On) ∷ []) ∷ []) 1 Off → ⊥
-backwards_of_core_1 h = let e : 3 < 1 = h.3.0 in omega arith
+loaded_otherwise :
+    ¬ (IsLoaded seen (((1, On) ∷ (0, Off) ∷ []) ∷ ((1, On) ∷ (0, Off) ∷ []) ∷ []) 0 On)
+    -- another status than the last; serials that do not rise
+    × ¬ (IsLoaded seen seen 0 On)
+    × ¬ (IsLoaded (((1, Pending) ∷ []) ∷ ((0, Off) ∷ []) ∷ [])
+    (((1, Pending) ∷ []) ∷ ((0, Off) ∷ []) ∷ []) 1 Pending)
+    × ¬ (IsLoaded (((1, Off) ∷ (3, On) ∷ []) ∷ []) (((1, Off) ∷ (3, On) ∷ []) ∷ []) 0 Off)
+    × ¬ (IsLoaded ([] ∷ ((1, Off) ∷ (3, On) ∷ []) ∷ []) ([] ∷ ((1, Off) ∷ (3, On) ∷ []) ∷ []) 1 Off)
+loaded_otherwise = (
+  λ h. eqb-false 2 1 refl (ap (λ (s : List (List Item)). length (row s 1)) h.1),
+  λ h. eqb-false 1 0 refl (ap last_code h.2.1),
+  λ h. eqb-false 1 2 refl (ap last_code h.2.1),
+  λ h. let e : 3 < 1 = h.3.0 in omega arith,
+  λ h. let e : 3 < 1 = h.3.0 in omega arith,
+)
 
 -- What a poll answers -----------------------------------------------------------------------------
 
-pending_of_core_1 : IsPolledAs (Some (record { number = 1 })) seen
+is_polled : IsPolledAs (Some (record { number = 1 })) seen
     (((0, Off) ∷ []) ∷ ((1, Pending) ∷ (0, Off) ∷ []) ∷ []) (record { 0 = pos 2 })
-pending_of_core_1 = (Pending, (1, refl, ((0, Off) ∷ [], refl), (omega arith, (tt, tt))), refl)
-
-on_of_core_0 : IsPolledAs (Some (record { number = 0 })) seen
+    × IsPolledAs (Some (record { number = 0 })) seen
     (((2, On) ∷ (0, Off) ∷ []) ∷ ((0, Off) ∷ []) ∷ []) (record { 0 = pos 0 })
-on_of_core_0 = (On, (2, refl, ((0, Off) ∷ [], refl), (omega arith, (tt, tt))), refl)
-
-still_off : IsPolledAs (Some (record { number = 1 })) seen seen (record { 0 = pos 1 })
-still_off = (Off, (0, refl, ([], refl), (tt, tt)), refl)
+    × IsPolledAs (Some (record { number = 1 })) seen seen (record { 0 = pos 1 })
+is_polled = (
+  (Pending, (1, refl, ((0, Off) ∷ [], refl), (omega arith, (tt, tt))), refl),
+  (On, (2, refl, ((0, Off) ∷ [], refl), (omega arith, (tt, tt))), refl),
+  (Off, (0, refl, ([], refl), (tt, tt)), refl),
+)
 
 -- the number of a status, or 9
 abbrev status_in : Code → ℕ
@@ -100,21 +95,20 @@ by_another_core h =
     let e : 1 ≡ status_code h.0 = ap last_code h.1.2.1 in
     let f : 2 ≡ status_code h.0 = ap status_in h.2 in omega arith
 
+abbrev absolute : Code → ℕ
+absolute code = elim code.0 [ pos n ↦ n | negsuc n ↦ n ]
+
 -- the word names no core: nothing is read, and no status is answered
 nobody : IsPolledAs None seen seen (record { 0 = negsuc 1 })
 nobody = (refl, refl)
 
-something_is_read_of_nobody : IsPolledAs None seen
-    (((1, Pending) ∷ (0, Off) ∷ []) ∷ ((0, Off) ∷ []) ∷ []) (record { 0 = negsuc 1 }) → ⊥
-something_is_read_of_nobody h =
-    let e : ◌≡◌ {A = ℕ} 2 1 = ap (λ (s : List (List Item)). length (row s 0)) h.1 in omega arith
-
-nobody_is_off : IsPolledAs None seen seen (record { 0 = pos 1 }) → ⊥
-nobody_is_off h = let e : ◌≡◌ {A = ℕ} 1 9 = ap status_in h.0 in omega arith
-
--- nor another code below 0
-abbrev absolute : Code → ℕ
-absolute code = elim code.0 [ pos n ↦ n | negsuc n ↦ n ]
-
-nobody_is_denied : IsPolledAs None seen seen (record { 0 = negsuc 2 }) → ⊥
-nobody_is_denied h = let e : ◌≡◌ {A = ℕ} 2 1 = ap absolute h.0 in omega arith
+nobody_is_polled :
+    ¬ (IsPolledAs None seen (((1, Pending) ∷ (0, Off) ∷ []) ∷ ((0, Off) ∷ []) ∷ [])
+    (record { 0 = negsuc 1 }))
+    × ¬ (IsPolledAs None seen seen (record { 0 = pos 1 }))
+    × ¬ (IsPolledAs None seen seen (record { 0 = negsuc 2 }))
+nobody_is_polled = (
+  λ h. eqb-false 2 1 refl (ap (λ (s : List (List Item)). length (row s 0)) h.1),
+  λ h. eqb-false 1 9 refl (ap status_in h.0),
+  λ h. eqb-false 2 1 refl (ap absolute h.0),
+)

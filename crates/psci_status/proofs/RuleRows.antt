@@ -1,9 +1,9 @@
 -- Worked examples of the rule: a run that keeps it, and for each of its clauses one that breaks
 -- just that. Two cores have words; the first was OFF, ON_PENDING and ON, the other OFF alone. The
 -- first seat is the writer's, the second a reader's, and the third one that was taken in.
-use Rattle.std.proofs.lemmas.Bool.{false≢true}
-use Rattle.std.proofs.Common.{◌≡◌, inl, inr, ℕ, zero, suc, ◌<◌, List, [], ◌∷◌, length}
-use Rattle.std.proofs.Common.{true, false, refl, sym, ap, subst, arith}
+use Rattle.std.proofs.lemmas.Bool.{false≢true, eqb-false}
+use Rattle.std.proofs.Common.{◌≡◌, inl, inr, ℕ, zero, suc, ◌<◌, List, [], ◌∷◌, length, true, false}
+use Rattle.std.proofs.Common.{refl, sym, ap, subst, arith, ◌∙◌}
 use mathlib.Core.Option.{some, some-ne-none, some-injective}
 use lib.ListN.{get_elem?}
 use Rattle.atomic_table.specs.Table.{State}
@@ -13,14 +13,15 @@ use Rattle.psci_status.specs.declared.rule.View.{View}
 use Rattle.std.specs.Prelude.{slice_index}
 use Rattle.psci_status.specs.Lists.{IsWord, Item, Stands, Within, row}
 use Rattle.psci_status.specs.Rule.{Fits, Kept, begins, informed, nobody, note_of}
+use Rattle.psci_abi.proofs.Tables.{◌⇒◌, Gives}
 
 -- A run that keeps it -----------------------------------------------------------------------------
 
-abbrev log : List (List Status)
+abbrev pub log : List (List Status)
 log = (On ∷ Pending ∷ Off ∷ []) ∷ (Off ∷ []) ∷ []
 
 -- the writer was told of the reader's items, and the reader has missed ON_PENDING
-abbrev items : List (List Item)
+abbrev pub items : List (List Item)
 items = ((2, On) ∷ (0, Off) ∷ []) ∷ ((0, Off) ∷ []) ∷ []
 
 abbrev writer : View
@@ -32,7 +33,7 @@ reader = record { writer = false; log = []; seen = items; told = [] }
 abbrev run : List ℕ → List View → State (Unit {0}) View
 run words views = record { words = words; homes = []; views = views }
 
-items_stand : (core : ℕ) → Within (row log core) (row items core)
+pub items_stand : (core : ℕ) → Within (row log core) (row items core)
 items_stand zero = (inl (refl, refl), omega arith, (inr (inr (inl (refl, refl))), tt, tt))
 items_stand (suc zero) = (inl (refl, refl), tt, tt)
 items_stand (suc (suc core)) = tt
@@ -68,6 +69,17 @@ kept = record {
     seats (suc (suc zero)) v e = subst (Fits 0 log 2) (some-injective _ _ e) nobody_fits
     seats (suc (suc (suc seat))) v e = absurd (some-ne-none v (sym e))
 
+-- what was not written of either core
+pub never_off : Stands (On ∷ Pending ∷ Off ∷ []) (3, Off) → ⊥
+never_off (inl is) = eqb-false 3 2 refl is.0
+never_off (inr (inl is)) = eqb-false 3 1 refl is.0
+never_off (inr (inr (inl is))) = eqb-false 3 0 refl is.0
+never_off (inr (inr (inr other))) = other
+
+pub never_on : Stands (Off ∷ []) (1, On) → ⊥
+never_on (inl is) = eqb-false 1 0 refl is.0
+never_on (inr other) = other
+
 -- Runs that break one clause ----------------------------------------------------------------------
 
 -- the writer has all that was written, so its lists are the log
@@ -77,28 +89,21 @@ the_log words views k = ((k.seats 0 writer refl).0 refl).1
 
 -- a core has no word
 word_is_missing : Kept 2 (run (8 ∷ []) (writer ∷ [])) → ⊥
-word_is_missing k = let e : ◌≡◌ {A = ℕ} 1 2 = k.wide in omega arith
+word_is_missing k = eqb-false 1 2 refl k.wide
 
 -- nothing is said of what was written of a core
 log_is_short : Kept 3 (run (8 ∷ 1 ∷ 1 ∷ []) (writer ∷ [])) → ⊥
-log_is_short k =
-    let same : log ≡ k.log = ((k.seats 0 writer refl).0 refl).1 in
-    let e : ◌≡◌ {A = ℕ} 2 3 = subst (λ (l : List (List Status)). length l ≡ 3) (sym same) k.long in
-    omega arith
+log_is_short k = eqb-false 2 3 refl (ap length ((k.seats 0 writer refl).0 refl).1 ∙ k.long)
 
 -- a word holds the serial before the last
 word_is_late : Kept 2 (run (4 ∷ 1 ∷ []) (writer ∷ [])) → ⊥
-word_is_late k =
-    let e : ◌≡◌ {A = ℕ} 4 8 = subst (λ (l : List (List Status)). IsWord (row l 0) 4)
-    (sym (the_log _ _ k)) (k.words 0 (omega arith)) in
-    omega arith
+word_is_late k = eqb-false 4 8 refl (subst (λ (l : List (List Status)). IsWord (row l 0) 4)
+    (sym (the_log _ _ k)) (k.words 0 (omega arith)))
 
 -- a word holds another status than the last
 word_is_other : Kept 2 (run (8 ∷ 2 ∷ []) (writer ∷ [])) → ⊥
-word_is_other k =
-    let e : ◌≡◌ {A = ℕ} 2 1 = subst (λ (l : List (List Status)). IsWord (row l 1) 2)
-    (sym (the_log _ _ k)) (k.words 1 (omega arith)) in
-    omega arith
+word_is_other k = eqb-false 2 1 refl (subst (λ (l : List (List Status)). IsWord (row l 1) 2)
+    (sym (the_log _ _ k)) (k.words 1 (omega arith)))
 
 -- two seats write
 two_writers : Kept 2 (run (8 ∷ 1 ∷ []) (writer ∷ writer ∷ [])) → ⊥
@@ -107,42 +112,23 @@ two_writers k =
     let second : 1 ≡ k.writer = ((k.seats 1 writer refl).0 refl).0 in
     omega arith
 
--- the writer has something else than what was written
-writer_forgets : Fits 0 log 0 (record writer { log = (On ∷ Off ∷ []) ∷ (Off ∷ []) ∷ [] }) → ⊥
-writer_forgets f =
-    let e : ◌≡◌ {A = ℕ} 2 3 = ap (λ (l : List (List Status)). length (row l 0)) (f.0 refl).1 in
-    omega arith
-
--- a reader has seen what was not written
-seen_unwritten : Fits 0 log 1 (record reader { seen = [] ∷ ((1, On) ∷ []) ∷ [] }) → ⊥
-seen_unwritten f = let stands : Stands (Off ∷ []) (1, On) = (f.1 1).0 in not_there stands
-  where
-    not_there : Stands (Off ∷ []) (1, On) → ⊥
-    not_there (inl is) = let e : ◌≡◌ {A = ℕ} 1 0 = is.0 in omega arith
-    not_there (inr other) = other
-
--- serials that fall
-seen_backwards : Fits 0 log 1 (record reader { seen = ((0, Off) ∷ (2, On) ∷ []) ∷ [] }) → ⊥
-seen_backwards f = let e : 2 < 0 = (f.1 0).1 in omega arith
-
--- the writer was told what was not written
-told_unwritten : Fits 0 log 0 (record writer { told = ((3, Off) ∷ []) ∷ [] }) → ⊥
-told_unwritten f =
-    let stands : Stands (On ∷ Pending ∷ Off ∷ []) (3, Off) = (f.2 0).0 in not_there stands
-  where
-    not_there : Stands (On ∷ Pending ∷ Off ∷ []) (3, Off) → ⊥
-    not_there (inl is) = let e : ◌≡◌ {A = ℕ} 3 2 = is.0 in omega arith
-    not_there (inr (inl is)) = let e : ◌≡◌ {A = ℕ} 3 1 = is.0 in omega arith
-    not_there (inr (inr (inl is))) = let e : ◌≡◌ {A = ℕ} 3 0 = is.0 in omega arith
-    not_there (inr (inr (inr other))) = other
-
-told_unwritten_of_second : Fits 0 log 0 (record writer { told = [] ∷ ((1, On) ∷ []) ∷ [] }) → ⊥
-told_unwritten_of_second f =
-    let stands : Stands (Off ∷ []) (1, On) = (f.2 1).0 in not_there stands
-  where
-    not_there : Stands (Off ∷ []) (1, On) → ⊥
-    not_there (inl is) = let e : ◌≡◌ {A = ℕ} 1 0 = is.0 in omega arith
-    not_there (inr other) = other
+fits_not :
+    -- the writer has something else than what was written
+    ¬ (Fits 0 log 0 (record writer { log = (On ∷ Off ∷ []) ∷ (Off ∷ []) ∷ [] }))
+    -- a reader has seen what was not written
+    × ¬ (Fits 0 log 1 (record reader { seen = [] ∷ ((1, On) ∷ []) ∷ [] }))
+    -- serials that fall
+    × ¬ (Fits 0 log 1 (record reader { seen = ((0, Off) ∷ (2, On) ∷ []) ∷ [] }))
+    -- the writer was told what was not written
+    × ¬ (Fits 0 log 0 (record writer { told = ((3, Off) ∷ []) ∷ [] }))
+    × ¬ (Fits 0 log 0 (record writer { told = [] ∷ ((1, On) ∷ []) ∷ [] }))
+fits_not = (
+  λ f. eqb-false 2 3 refl (ap (λ (l : List (List Status)). length (row l 0)) (f.0 refl).1),
+  λ f. never_on (f.1 1).0,
+  λ f. let e : 2 < 0 = (f.1 0).1 in omega arith,
+  λ f. never_off (f.2 0).0,
+  λ f. never_on (f.2 1).0,
+)
 
 -- Views -------------------------------------------------------------------------------------------
 
@@ -155,27 +141,21 @@ at_the_start : begins 2 ≡ record {
 }
 at_the_start = refl
 
--- a note of the writer has the last items, one of a reader what it has seen
-notes_of_both : (note_of writer).seen ∷ (note_of reader).seen ∷ []
-    ≡ (((2, On) ∷ []) ∷ ((0, Off) ∷ []) ∷ []) ∷ items ∷ []
-notes_of_both = refl
+-- a note of the writer has the last items, one of a reader what it has seen; no note writes, or has
+-- what was written or what its seat was told
+notes : Gives note_of
+    (writer ⇒ record reader { seen = ((2, On) ∷ []) ∷ ((0, Off) ∷ []) ∷ [] }
+    ∷ reader ⇒ reader
+    ∷ record reader { told = items } ⇒ reader ∷ [])
+notes = refl
 
--- no note writes, or has what was written or what its seat was told
-note_of_writer : note_of writer ≡ record reader { seen = ((2, On) ∷ []) ∷ ((0, Off) ∷ []) ∷ [] }
-note_of_writer = refl
+-- a view that meets a note
+abbrev meets : View × View → View
+meets (view, note) = informed view note
 
-note_of_reader : note_of (record reader { told = items }) ≡ reader
-note_of_reader = refl
-
--- a reader that gains stays a reader, which is told nothing
-reader_stays : informed (record reader { seen = ((0, Off) ∷ []) ∷ ((0, Off) ∷ []) ∷ [] })
-    (note_of writer) ≡ reader
-reader_stays = refl
-
--- a reader gains what a note of the writer has; the writer keeps what a reader's note says
-reader_is_informed : (informed (record reader { seen = ((0, Off) ∷ []) ∷ ((0, Off) ∷ []) ∷ [] })
-    (note_of writer)).seen ≡ items
-reader_is_informed = refl
-
-writer_is_informed : informed (record writer { told = [] }) (note_of reader) ≡ writer
-writer_is_informed = refl
+who_is_informed : Gives meets
+    -- a reader gains what a note of the writer has; it stays a reader, which is told nothing
+    ((record reader { seen = ((0, Off) ∷ []) ∷ ((0, Off) ∷ []) ∷ [] }, note_of writer) ⇒ reader
+    -- the writer keeps what a reader's note says
+    ∷ (record writer { told = [] }, note_of reader) ⇒ writer ∷ [])
+who_is_informed = refl

@@ -13,10 +13,12 @@ use Rattle.psci_status.specs.Lists.{HasMet, IsLast, Item, Within, row}
 use Rattle.psci_status.specs.Seats.{AreOf, MayRead, MayWrite, WritesBoard, table}
 use Rattle.psci_status.specs.Seats.{table_of_reader, table_of_writer}
 use Rattle.psci_status.proofs.Calls.{board, computing}
+use Rattle.std.proofs.lemmas.Bool.{eqb-false}
 
--- two tables with another number of words are two
-apart : (t u : TableId) (n m : ℕ) → t.words ≡ n → u.words ≡ m → t ≡ u → n ≡ m
-apart t u n m few many same = sym few ∙ ap (λ (it : TableId). it.words) same ∙ many
+-- a table of five words is none of four
+apart : (t u : TableId) → t.words ≡ 5 → u.words ≡ 4 → t ≡ u → ⊥
+apart t u five four same =
+    eqb-false 5 4 refl (sym five ∙ ap (λ (it : TableId). it.words) same ∙ four)
 
 -- Writing -----------------------------------------------------------------------------------------
 
@@ -31,9 +33,7 @@ no_word_of_it words w four h =
 
 another_table : (words : StatusWords) (w : Writer) → (table words).words ≡ 4
     → (table_of_writer w).words ≡ 5 → MayWrite words w 3 → ⊥
-another_table words w four five h =
-    let e : 5 ≡ 4 = apart (table_of_writer w) (table words) 5 4 five four h.table in
-    omega (arith, e)
+another_table words w four five h = apart _ _ five four h.table
 
 -- of the board with four cores
 whole_board : (words : StatusWords) (w : Writer) → (table words).words ≡ 4
@@ -52,9 +52,7 @@ word_is_missing words w three h =
 
 board_of_another_table : (words : StatusWords) (w : Writer) → (table words).words ≡ 4
     → (table_of_writer w).words ≡ 5 → WritesBoard words w board 4 → ⊥
-board_of_another_table words w four five h =
-    let e : 5 ≡ 4 = apart (table_of_writer w) (table words) 5 4 five four h.table in
-    omega (arith, e)
+board_of_another_table words w four five h = apart _ _ five four h.table
 
 -- Reading -----------------------------------------------------------------------------------------
 
@@ -68,9 +66,7 @@ read_no_word words r four h =
 
 read_another_table : (words : StatusWords) (r : Reader) → (table words).words ≡ 4
     → (table_of_reader r).words ≡ 5 → MayRead words r 3 → ⊥
-read_another_table words r four five h =
-    let e : 5 ≡ 4 = apart (table_of_reader r) (table words) 5 4 five four h.table in
-    omega (arith, e)
+read_another_table words r four five h = apart _ _ five four h.table
 
 -- Meeting -----------------------------------------------------------------------------------------
 
@@ -80,15 +76,11 @@ both_of_it words w r wrote read = record { writer = wrote; reader = read }
 
 writer_of_another : (words : StatusWords) (w : Writer) (r : Reader) → (table words).words ≡ 4
     → (table_of_writer w).words ≡ 5 → AreOf words w r → ⊥
-writer_of_another words w r four five h =
-    let e : 5 ≡ 4 = apart (table_of_writer w) (table words) 5 4 five four h.writer in
-    omega (arith, e)
+writer_of_another words w r four five h = apart _ _ five four h.writer
 
 reader_of_another : (words : StatusWords) (w : Writer) (r : Reader) → (table words).words ≡ 4
     → (table_of_reader r).words ≡ 5 → AreOf words w r → ⊥
-reader_of_another words w r four five h =
-    let e : 5 ≡ 4 = apart (table_of_reader r) (table words) 5 4 five four h.reader in
-    omega (arith, e)
+reader_of_another words w r four five h = apart _ _ five four h.reader
 
 -- of one core OFF was written, and then ON
 abbrev wrote : List (List Status)
@@ -128,8 +120,8 @@ learned = record { saw = before; seen = refl; stand = after; last = last }
 
 -- an item that nobody has written stands in no list
 nobody_wrote : Within (On ∷ Off ∷ []) (unwritten ∷ []) → ⊥
-nobody_wrote (inl is, above, rest) = let e : ◌≡◌ {A = ℕ} 2 1 = is.0 in omega arith
-nobody_wrote (inr (inl is), above, rest) = let e : ◌≡◌ {A = ℕ} 2 0 = is.0 in omega arith
+nobody_wrote (inl is, above, rest) = eqb-false 2 1 refl (is.0)
+nobody_wrote (inr (inl is), above, rest) = eqb-false 2 0 refl (is.0)
 nobody_wrote (inr (inr none), above, rest) = none
 
 -- it had seen what was not written, or has; it has learned nothing; it has not learned the last
@@ -144,8 +136,7 @@ has_seen_another h = nobody_wrote (h.stand 0)
 learned_nothing : HasMet wrote 1 saw saw → ⊥
 unfolding computing
 learned_nothing h =
-    let e : ◌≡◌ {A = ℕ} 1 2 = ap (λ (l : List (List Item)). length (row l 0)) h.seen in
-    omega arith
+    eqb-false 1 2 refl (ap (λ (l : List (List Item)). length (row l 0)) h.seen)
 
 last_is_unseen : HasMet wrote 1 saw saw → ⊥
 unfolding computing

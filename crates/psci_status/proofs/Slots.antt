@@ -67,21 +67,9 @@ module _ (b b' : BoardValue) (v : Values) (c core : ℕ) (code : Code) (m : Mess
   names_sent : (r : Request) → replies.Out (record { act = acts.Return code; message = Some m })
       ≡ reply_or (call_fault b v c) (outcome_of b v c r)
       → (core == slot_number b' m) ≡ false → names (sent_effect c r m) core ≡ false
-  names_sent requests.Version is other = refl
-  names_sent (requests.CpuSuspend state entry_point context) is other = refl
-  names_sent requests.CpuOff is other = refl
   names_sent (requests.CpuOn target entry_point context) is other =
       names_on target entry_point context is other
-  names_sent (requests.AffinityInfo level word) is other = refl
-  names_sent (requests.NodeHwState level word) is other = refl
-  names_sent requests.MigrateInfoType is other = refl
-  names_sent requests.SystemOff is other = refl
-  names_sent requests.SystemReset is other = refl
-  names_sent (requests.Features word) is other = refl
-  names_sent (requests.SystemSuspend entry_point context) is other = refl
-  names_sent (requests.SetSuspendMode mode) is other = refl
-  names_sent (requests.SystemReset2 reset_type cookie) is other = refl
-  names_sent requests.Unknown is other = refl
+  names_sent r is other = refl
 
 names_function : (b b' : BoardValue) (v : Values) (c core : ℕ) (r : Request) (act : Act)
     (m : Option MessageValue) → replies.Out (record { act = act; message = m })
@@ -89,14 +77,10 @@ names_function : (b b' : BoardValue) (v : Values) (c core : ℕ) (r : Request) (
     → is_named (slot_beside act (option_map (slot_number b') m)) core ≡ false
     → names (function_effect b c r act m) core ≡ false
 names_function b b' v c core r acts.Stop (Some m) is other = names_stop b c core r m
-names_function b b' v c core r acts.Stop None is other = refl
 names_function b b' v c core r (acts.Return code) (Some m) is other =
     names_sent b b' v c core code m r is other
 names_function b b' v c core r (acts.Return code) None is other = names_return c core r code
-names_function b b' v c core r (acts.Enter address context) (Some m) is other = refl
-names_function b b' v c core r (acts.Enter address context) None is other = refl
-names_function b b' v c core r acts.Resume (Some m) is other = refl
-names_function b b' v c core r acts.Resume None is other = refl
+names_function b b' v c core r act m is other = refl
 
 pub names_by_slot : (b b' : BoardValue) (v : Values) (c core : ℕ) (regs : Regs) (o : Outcome)
     (slot : Option ℕ) → replies.Out o ≡ answer b v c (Smc regs)

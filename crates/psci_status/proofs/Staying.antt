@@ -10,8 +10,8 @@ use Rattle.psci_messages.specs.OnlyIf.{only_if}
 use Rattle.psci_messages.specs.Slots.{is_kind}
 use Rattle.psci_fw_spec.specs.declared.status.Status.{Status}
 use Rattle.psci_fw_spec.specs.declared.status.Status.TheVariants.{On, Off, Pending}
-use Rattle.psci_fw_spec.specs.Effects.{Effect, Nothing, GoesOn, SetsMode, AsksOn, Rests, Halts}
-use Rattle.psci_fw_spec.specs.Effects.{Stops, Enters, Parks, StopsAtOnce, Acknowledges}
+use Rattle.psci_fw_spec.specs.Effects.{Effect, AsksOn}
+use Rattle.psci_fw_spec.specs.Effects.{Enters, Acknowledges}
 use Rattle.psci_fw_spec.specs.Exchange.{FwExchange, effect}
 use Rattle.psci_fw_spec.specs.History.{begins, life, phase, says_status, status}
 use Rattle.psci_fw_spec.specs.Lives.{first_status}
@@ -23,23 +23,16 @@ use Rattle.psci_status.proofs.Last.{begins_is}
 -- an effect that does not name a core says nothing of its status
 pub says_nothing : (b : BoardValue) (core : ℕ) (h : List FwExchange) (e : Effect)
     → names e core ≡ false → says_status b core h e ≡ None
-says_nothing b core h Nothing other = refl
-says_nothing b core h (GoesOn c) other = refl
-says_nothing b core h (SetsMode c mode) other = refl
 says_nothing b core h (AsksOn c asked) other =
     ap (λ (t : Bool). option_or (only_if t (Some Pending)) None) other
-says_nothing b core h (Rests c rest m) other = refl
-says_nothing b core h (Halts c m) other = refl
-says_nothing b core h (Stops c) other = refl
 says_nothing b core h (Enters c s) other =
     ap (λ (t : Bool). option_or (only_if t (Some On)) None) other
-says_nothing b core h (Parks c s m) other = refl
-says_nothing b core h (StopsAtOnce c s) other = refl
 says_nothing b core h (Acknowledges a) other =
     ap (λ (t : Bool). only_if (t && ((is_kind a.kind Down && nat_lt 0 a.applied)
     && is_away (phase b h core))) (Some Off)) other
+says_nothing b core h e other = refl
 
-same_life : (l : ℕ) → not (l == l) ≡ false
+pub same_life : (l : ℕ) → not (l == l) ≡ false
 same_life l = grind (arith, nat_tests)
 
 pub no_life_begins : (b : BoardValue) (e : FwExchange) (h : List FwExchange)

@@ -13,8 +13,8 @@ use Rattle.psci_fw_spec.specs.declared.status.Status.{Status}
 use Rattle.psci_fw_spec.specs.declared.status.Status.TheVariants.{On, Off, Pending}
 use Rattle.psci_fw_spec.specs.After.{change}
 use Rattle.psci_fw_spec.specs.Changes.{target, turns_off}
-use Rattle.psci_fw_spec.specs.Effects.{Effect, Nothing, GoesOn, SetsMode, AsksOn, Rests, Halts}
-use Rattle.psci_fw_spec.specs.Effects.{Stops, Enters, Parks, StopsAtOnce, Acknowledges}
+use Rattle.psci_fw_spec.specs.Effects.{Effect, AsksOn}
+use Rattle.psci_fw_spec.specs.Effects.{Enters, Parks, StopsAtOnce, Acknowledges}
 use Rattle.psci_fw_spec.specs.Invariant.{agrees}
 use Rattle.psci_fw_spec.specs.Lives.{start_of_life}
 use Rattle.psci_fw_spec.specs.Phases.{Phase, is_away}
@@ -58,10 +58,7 @@ stays b l k s = inl (refl, refl, omega arith)
 -- Lives ---------------------------------------------------------------------------------------
 
 later_life : (l l' n : ℕ) → l < l' → l * n + n ≤ l' * n
-later_life l l' n h =
-    let e : (l + 1) * n ≤ l' * n = mul_le (l + 1) l' n (omega arith) in
-    let f : (l + 1) * n ≡ l * n + n = one_more_time l n in
-    omega arith
+later_life l l' n h = omega (arith, mul_le (l + 1) l' n (omega arith), one_more_time l n)
   where
     one_more_time : (l n : ℕ) → (l + 1) * n ≡ l * n + n
     one_more_time l n = grind arith
@@ -151,9 +148,7 @@ goes_off : (b : BoardValue) (l k : ℕ) (s : Status) (p : Phase) → agrees s p 
 goes_off b l k On p fits away = inr (inl (refl, omega arith))
 goes_off b l k Off p fits away = stays b l k Off
 goes_off b l k Pending phases.Away fits away = absurd (cc)
-goes_off b l k Pending phases.Pending fits away = absurd (cc)
-goes_off b l k Pending phases.Running fits away = absurd (cc)
-goes_off b l k Pending (phases.Suspended ask) fits away = absurd (cc)
+goes_off b l k Pending p fits away = absurd (cc)
 
 both : (x y : Bool) → (x && y) ≡ true → y ≡ true
 both true y e = e
@@ -185,16 +180,10 @@ pub grows : (b : BoardValue) (v : Values) (core : ℕ) (e : Effect) → IsAllowe
     → agrees (v.status core) (v.phase core) ≡ true → v.known core ≤ b.starts
     → Grows b v.life (v.known core) (v.status core) (change b e v).life ((change b e v).known core)
     ((change b e v).status core)
-grows b v core Nothing may fits most = stays b v.life (v.known core) (v.status core)
-grows b v core (GoesOn c) may fits most = stays b v.life (v.known core) (v.status core)
-grows b v core (SetsMode c mode) may fits most = stays b v.life (v.known core) (v.status core)
 grows b v core (AsksOn c asked) may fits most =
     asked_if b v.life (v.known core) (v.status core) (core == target asked)
     (λ (e : (core == target asked) ≡ true). subst (λ (k : ℕ). v.status k ≡ Off)
     (sym (eqb-true core (target asked) e)) may.off)
-grows b v core (Rests c rest m) may fits most = stays b v.life (v.known core) (v.status core)
-grows b v core (Halts c m) may fits most = stays b v.life (v.known core) (v.status core)
-grows b v core (Stops c) may fits most = stays b v.life (v.known core) (v.status core)
 grows b v core (Enters c s) may fits most =
     found_on b v c core s (s.life == v.life) refl may.enters most
 grows b v core (Parks c s m) may fits most =
@@ -203,3 +192,4 @@ grows b v core (StopsAtOnce c s) may fits most =
     found_so b v c core s (s.life == v.life) refl may.enters most
 grows b v core (Acknowledges a) may fits most =
     acknowledged b v a core (core == a.core.number) refl fits
+grows b v core e may fits most = stays b v.life (v.known core) (v.status core)

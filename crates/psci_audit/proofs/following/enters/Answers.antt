@@ -1,8 +1,7 @@
 -- An entry.
 use Rattle.std.proofs.Common.{ℕ, refl, subst}
 use Rattle.psci_world_spec.specs.declared.event.Event.TheVariants.{Enter}
-use Rattle.psci_audit.proofs.Steps.{Happened, entered, enters_late, enters_nowhere}
-use Rattle.psci_audit.proofs.Steps.{not_so}
+use Rattle.psci_audit.proofs.Steps.{Happened, entered, enters_late, enters_nowhere, not_so}
 use Rattle.psci_audit.proofs.following.enters.Goals as goal
 
 pub returns-then-not-is_on_board-clause-step : goal.returns-then-not-is_on_board-clause-step

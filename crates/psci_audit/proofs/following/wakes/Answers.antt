@@ -1,8 +1,7 @@
 -- A wake-up.
 use Rattle.std.proofs.Common.{ℕ, refl, subst}
 use Rattle.psci_world_spec.specs.declared.event.Event.TheVariants.{Wake}
-use Rattle.psci_audit.proofs.Steps.{Happened, not_so, wakes_late, wakes_nowhere}
-use Rattle.psci_audit.proofs.Steps.{woken}
+use Rattle.psci_audit.proofs.Steps.{Happened, not_so, wakes_late, wakes_nowhere, woken}
 use Rattle.psci_audit.proofs.following.wakes.Goals as goal
 
 pub returns-then-not-is_on_board-clause-step : goal.returns-then-not-is_on_board-clause-step

@@ -2,8 +2,7 @@
 use Rattle.std.proofs.Common.{refl, ap, sym, ◌∙◌, arith}
 use Rattle.psci_audit.specs.Merged.{merged}
 use Rattle.psci_audit.proofs.Apart.{parts}
-use Rattle.psci_audit.proofs.SoFar.{after_asked, after_controlled, begin, ended, stops_asked}
-use Rattle.psci_audit.proofs.SoFar.{told}
+use Rattle.psci_audit.proofs.SoFar.{after_asked, after_controlled, begin, ended, stops_asked, told}
 use Rattle.psci_audit.proofs.SoFar.{stops_controlled}
 use Rattle.psci_audit.proofs.merging.follow_all.Goals as goal
 

@@ -1,5 +1,5 @@
 -- The first line is taken, or ends the script.
-use Rattle.std.proofs.Common.{ℕ, List, take, ◌∙◌, subst, sym, Some, None, Ok, Err, refl}
+use Rattle.std.proofs.Common.{ℕ, List, take, subst, sym, Some, None, Ok, Err, refl}
 use Rattle.psci_script.specs.declared.fault.ReplayFault.{ReplayFault}
 use Rattle.psci_script.specs.declared.fault.ReplayFault.TheVariants.{Memory}
 use Rattle.psci_script.specs.Block.{ReadAhead}

@@ -1,7 +1,6 @@
 use Rattle.std.proofs.Common.{Some}
 use Rattle.psci_status.proofs.Past.{names_enter}
-use Rattle.psci_status.proofs.CallSteps.{next_left, next_still, others_stay}
-use Rattle.psci_status.proofs.CallSteps.{polled_next}
+use Rattle.psci_status.proofs.CallSteps.{next_left, next_still, others_stay, polled_next}
 use Rattle.psci_fw.specs.Reactions.{outcome_in}
 use Rattle.psci_fw.specs.Seen.{seen}
 use Rattle.psci_fw_spec.specs.declared.call.FwCall.TheVariants as calls

@@ -1,7 +1,6 @@
 use Rattle.std.proofs.Common.{◌≡◌, Option, false, refl, subst}
 use Rattle.psci_status.proofs.Slots.{names_by_slot}
-use Rattle.psci_status.proofs.CallSteps.{life_left, next_left, next_still, others_stay}
-use Rattle.psci_status.proofs.CallSteps.{polled_next}
+use Rattle.psci_status.proofs.CallSteps.{life_left, next_left, next_still, others_stay, polled_next}
 use Rattle.psci_board.specs.declared.node.Core.{Core}
 use Rattle.psci_status.specs.Naming.{is_named}
 use Rattle.psci_fw.specs.Reactions.{outcome_in}

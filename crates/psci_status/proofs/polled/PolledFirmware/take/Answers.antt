@@ -2,8 +2,7 @@ use Rattle.std.proofs.Common.{◌≡◌, Some, false, refl, subst}
 use Rattle.std.specs.Prelude.{◌==◌}
 use Rattle.psci_messages.specs.Message.{AckValue}
 use Rattle.psci_status.proofs.Past.{names_take}
-use Rattle.psci_status.proofs.CallSteps.{life_left, life_taken, others_stay, polled_next}
-use Rattle.psci_status.proofs.CallSteps.{next_left}
+use Rattle.psci_status.proofs.CallSteps.{life_left, life_taken, others_stay, polled_next, next_left}
 use Rattle.psci_fw.specs.Seen.{seen}
 use Rattle.psci_fw_spec.specs.declared.call.FwCall.TheVariants as calls
 use Rattle.psci_fw_spec.specs.declared.reply.FwReply.TheVariants as replies
