@@ -4,7 +4,7 @@ use Rattle.std.proofs.Common.{arith, ◌-◌, length, take, drop, get_or, ap, �
 use Rattle.std.specs.Prelude.{◌↔◌}
 use Rattle.std.proofs.Math.Seq.{take-length}
 use Rattle.psci_shared.specs.Entries.{FwEntry}
-use Rattle.psci_shared_ctl.specs.Entries.{CtlEntry}
+use Rattle.psci_shared.specs.CtlEntries.{CtlEntry}
 use Rattle.psci_audit.specs.Merged.{AreApart, IsIn, RiseAfter, tickets_by, tickets_of}
 
 -- what rises after some ticket rises

@@ -9,7 +9,7 @@ use Rattle.psci_world_spec.specs.psci_fw_spec.declared.reply.FwReply.TheVariants
 use Rattle.psci_world_spec.specs.psci_messages.declared.kind.Kind.TheVariants as kinds
 use Rattle.psci_world_spec.specs.psci_messages.declared.start.Cause.TheVariants as causes
 use Rattle.psci_shared.specs.Entries.{FwEntry}
-use Rattle.psci_shared_ctl.specs.Entries.{CtlEntry}
+use Rattle.psci_shared.specs.CtlEntries.{CtlEntry}
 use Rattle.psci_audit.specs.Entries.{Asked}
 use Rattle.psci_audit.specs.Told.{asked}
 use Rattle.psci_audit.proofs.ListRows.{start}

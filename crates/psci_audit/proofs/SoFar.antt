@@ -8,7 +8,7 @@ use Rattle.std.proofs.lemmas.List.{reverse-reverse}
 use Rattle.psci_world_spec.specs.psci_board.Board.{BoardValue, IsBoard}
 use Rattle.psci_world_spec.specs.declared.said.Record.{Record}
 use Rattle.psci_shared.specs.Entries.{FwEntry}
-use Rattle.psci_shared_ctl.specs.Entries.{CtlEntry}
+use Rattle.psci_shared.specs.CtlEntries.{CtlEntry}
 use Rattle.psci_world.specs.Seen.{WorldValue}
 use Rattle.psci_audit.specs.Entries.{Entry}
 use Rattle.psci_audit.specs.Legal.{IsLegal}

@@ -6,7 +6,7 @@ use Rattle.psci_world.specs.psci_board.Board.{BoardValue}
 use Rattle.psci_world_spec.specs.psci_fw_spec.declared.call.FwCall.{FwCall}
 use Rattle.psci_world_spec.specs.psci_fw_spec.declared.call.FwCall.TheVariants as calls
 use Rattle.psci_shared.specs.Entries.{FwEntry}
-use Rattle.psci_shared_ctl.specs.Entries.{CtlEntry}
+use Rattle.psci_shared.specs.CtlEntries.{CtlEntry}
 use Rattle.psci_audit.specs.Entries.{Entry, Asked, Controlled}
 use Rattle.psci_audit.specs.Legal.{IsLegal, MayFollow}
 use Rattle.psci_audit.specs.Told.{asked, controlled}

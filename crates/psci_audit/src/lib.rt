@@ -22,6 +22,6 @@ pub use fault::AuditFault;
 pub use laws::law_told;
 pub use merging::{Retold, audit, retell};
 pub use psci_shared::{FwCall, FwEntry};
-pub use psci_shared_ctl::CtlEntry;
+pub use psci_shared::CtlEntry;
 pub use psci_world::World;
 pub use trace::Trace;

@@ -12,7 +12,7 @@ use crate::laws::law_told;
 use crate::tickets::tickets_fit;
 use crate::trace::Trace;
 use psci_shared::FwEntry;
-use psci_shared_ctl::CtlEntry;
+use psci_shared::CtlEntry;
 use psci_world::{Board, Memory, World};
 use std::alloc::Global;
 

@@ -5,7 +5,7 @@ ghost use Rattle.psci_audit.specs.Merged.{AreApart, IsAfter, RiseAfter, TicketsF
 ghost use Rattle.psci_audit.specs.Merged.{tickets_by, tickets_of};
 
 use psci_shared::FwEntry;
-use psci_shared_ctl::CtlEntry;
+use psci_shared::CtlEntry;
 
 /// Whether the tickets rise in each book, and none is in both.
 pub(crate) fn tickets_fit(firmware: &[FwEntry], controller: &[CtlEntry]) -> bool

@@ -1,7 +1,7 @@
 //! What was asked of a firmware and a power controller.
 
 use psci_shared::FwEntry;
-use psci_shared_ctl::CtlEntry;
+use psci_shared::CtlEntry;
 
 /// The entries of both books, each in the order of its book.
 #[derive(Drop)]

@@ -12,7 +12,7 @@ use Rattle.std.specs.declared.sync.ledger.Ledger as Ledger
 use Rattle.psci_board.proofs.board.Board.TheSendSync as board
 use Rattle.psci_shared.specs.declared.named.Named as Named
 use Rattle.psci_shared.proofs.Crossing.{shared}
-use Rattle.psci_shared_ctl.proofs.shared.SharedController.TheSendSync as controller
+use Rattle.psci_shared.proofs.controller.shared.SharedController.TheSendSync as controller
 use Rattle.psci_bench.proofs.wire.Wire.TheSendSync as wire
 use Rattle.psci_bench.specs.contracts.platform.Platform as Platform
 

@@ -8,7 +8,7 @@ use Rattle.psci_audit.specs.Merged.{IsFault, IsSound, TicketsFit, history_of, me
 use Rattle.psci_audit.specs.Told.{Tells}
 use Rattle.psci_audit.specs.declared.fault.AuditFault.TheVariants as audits
 use Rattle.psci_shared.specs.Entries.{FwEntry}
-use Rattle.psci_shared_ctl.specs.Entries.{CtlEntry}
+use Rattle.psci_shared.specs.CtlEntries.{CtlEntry}
 use Rattle.psci_bench.specs.declared.gathering.Polled.{Polled}
 use Rattle.psci_bench.specs.Seen.{AllInHistory}
 use Rattle.psci_bench.specs.Runs.{IsAudited, IsFound}

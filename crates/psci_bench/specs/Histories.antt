@@ -5,8 +5,8 @@ use Rattle.psci_fw.specs.psci_fw_spec.Legal.{IsLegal}
 use Rattle.psci_ctl.specs.psci_ctl_spec.Legal as controls
 use Rattle.psci_shared.specs.Entries.{FwEntry}
 use Rattle.psci_shared.specs.Books.{history_of}
-use Rattle.psci_shared_ctl.specs.Entries.{CtlEntry}
-use Rattle.psci_shared_ctl.specs.Books as control_books
+use Rattle.psci_shared.specs.CtlEntries.{CtlEntry}
+use Rattle.psci_shared.specs.CtlBooks as control_books
 
 -- the firmware's: each reply is the answer after the entries before it
 abbrev pub AreLegalCalls : BoardValue → List FwEntry → Type 0

@@ -4,7 +4,7 @@ use Rattle.psci_audit.specs.psci_board.Board.{BoardValue}
 use Rattle.psci_audit.specs.Merged.{IsFault, IsSound, history_of}
 use Rattle.psci_audit.specs.Told.{Tells}
 use Rattle.psci_shared.specs.Entries.{FwEntry}
-use Rattle.psci_shared_ctl.specs.Entries.{CtlEntry}
+use Rattle.psci_shared.specs.CtlEntries.{CtlEntry}
 use Rattle.psci_bench.specs.Seen.{AllInHistory}
 use Rattle.psci_bench.specs.declared.fault.BenchFault.{BenchFault}
 use Rattle.psci_bench.specs.declared.fault.BenchFault.TheVariants.{Gate, Memory, Threads}

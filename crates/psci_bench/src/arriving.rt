@@ -6,7 +6,7 @@ use crate::platform::{Ending, Platform};
 use crate::worker::{State, TURNS, Worker};
 use psci_fw::Start;
 use psci_shared::Named;
-use psci_shared_ctl::Kick;
+use psci_shared::Kick;
 use std::sync::Wait;
 use std::thread;
 

@@ -16,7 +16,7 @@ use crate::watch::Watch;
 use crate::wire::Wire;
 use crate::worker::Worker;
 use psci_shared::{Board, Core, Named, SharedFirmware, StatusWords, Tickets, Writer};
-use psci_shared_ctl::SharedController;
+use psci_shared::SharedController;
 use std::alloc::Global;
 use std::marker::Brand;
 use std::sync::Wait;

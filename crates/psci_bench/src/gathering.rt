@@ -11,7 +11,7 @@ use crate::cut::Cut;
 use crate::platform::Returned;
 use crate::watch::Watch;
 use psci_shared::{Core, FwEntry, Named, Pass, SharedFirmware, Sighting};
-use psci_shared_ctl::{CtlEntry, CtlPass, SharedController};
+use psci_shared::{CtlEntry, CtlPass, SharedController};
 use std::alloc::{AllocError, Global};
 
 /// The entries of both books, each in the order of its book, and what was seen by polls.

@@ -12,7 +12,7 @@ use crate::wire::Bytes;
 use psci_link::{Frame, decode, encode};
 use psci_messages::Message;
 use psci_shared::{Core, Named};
-use psci_shared_ctl::{CtlPass, Delivery};
+use psci_shared::{CtlPass, Delivery};
 use psci_storm::Draws;
 use std::alloc::{AllocError, Global};
 use std::sync::Wait;

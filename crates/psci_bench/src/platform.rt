@@ -6,7 +6,7 @@ use crate::cut::Cut;
 use crate::watch::Watch;
 use crate::wire::Wire;
 use psci_shared::{Board, Core, Named, SharedFirmware};
-use psci_shared_ctl::{CtlPass, SharedController};
+use psci_shared::{CtlPass, SharedController};
 use std::alloc::{AllocError, AllocFailed};
 
 /// What all threads of a run share.

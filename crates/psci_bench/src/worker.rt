@@ -10,7 +10,7 @@ use crate::watch::Watch;
 use psci_fw::{Act, Outcome};
 use psci_link::Frame;
 use psci_shared::{CallFault, Core, Named};
-use psci_shared_ctl::CtlPass;
+use psci_shared::CtlPass;
 use psci_storm::Draws;
 use std::sync::Wait;
 

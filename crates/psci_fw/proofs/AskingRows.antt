@@ -74,8 +74,8 @@ code n = record { 0 = pos n }
 
 -- Which calls are carried out ---------------------------------------------------------------------
 
--- of a core that runs, one that is off, and one that is not there; none before a life, and none in a
--- halting one
+-- of a core that runs, one that is off, and one that is not there; none before a life, and none in
+-- a halting one
 carried_out : Gives (λ (q : FirmwareValue × ℕ). may_call q.0 q.1)
     ((second, 0) ⇒ true
     ∷ (second, 1) ⇒ false

@@ -49,7 +49,9 @@ lives_fresh b v life e some = record { same = λ none. absurd (omega arith) }
 
 -- a caller that is not refused has a life
 caller_lives : (b : BoardValue) (v : Values) (c : ℕ) → call_fault b v c ≡ None → 0 < v.life
-caller_lives b v c e = is_some v.life (passed (v.life == 0) NoLife _ (passed (not (nat_lt c (cores b))) NoCore _ e).1).0
+caller_lives b v c e =
+    is_some v.life
+    (passed (v.life == 0) NoLife _ (passed (not (nat_lt c (cores b))) NoCore _ e).1).0
 
 pub call_fresh : (b : BoardValue) (v : Values) (c : ℕ) (regs : Regs) (o : Outcome)
     → (after b c (Smc regs) (Out o) v).life ≡ v.life → call_fault b v c ≡ None
@@ -62,7 +64,8 @@ start_lives : (b : BoardValue) (v : Values) (c : ℕ) (s : Start) → enter_faul
     → 0 < s.life
 start_lives b v c s e =
     is_some s.life (first_fails (s.life == 0) _
-    (passed (s.life == 0 || nat_lt b.lives s.life) NoLife _ (passed (not (nat_lt c (cores b))) NoCore _ e).1).0)
+    (passed (s.life == 0 || nat_lt b.lives s.life) NoLife _
+    (passed (not (nat_lt c (cores b))) NoCore _ e).1).0)
 
 pub enter_fresh : (b : BoardValue) (v : Values) (c : ℕ) (s : Start) (o : Outcome)
     → (after b c (Enter s) (Out o) v).life ≡ s.life → enter_fault b v c s ≡ None

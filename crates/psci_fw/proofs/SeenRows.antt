@@ -98,8 +98,8 @@ statuses_shown : Gives (λ (q : ℕ × Node). status_shown (firmware q.0) q.1)
 unfolding values_in node_status
 statuses_shown = refl
 
--- a core that runs, two that are powered down, one not confirmed, and a cluster in standby, of which
--- nothing is shown before a life
+-- a core that runs, two that are powered down, one not confirmed, and a cluster in standby, of
+-- which nothing is shown before a life
 hardware_shown : Gives (λ (q : ℕ × Node). hw_shown (firmware q.0) q.1)
     ((3, at 0 0) ⇒ Some hardware.On
     ∷ (3, at 0 2) ⇒ Some hardware.Off

@@ -1,6 +1,12 @@
 pub mod Agree
 pub mod Answered
 pub mod Books
+pub mod CtlAnswered
+pub mod CtlBooks
+pub mod CtlEntries
+pub mod CtlInside
+pub mod CtlLocked
+pub mod CtlPasses
 pub mod Entries
 pub mod Gathers
 pub mod Inside

@@ -1,4 +1,5 @@
-//! One firmware that core threads share, behind a lock, with a book of all that it was asked.
+//! One firmware and one power controller that core threads share, each behind a lock, with a book
+//! of all that it was asked.
 //!
 //! - A *book* has an *entry* for each call, in the order in which the calls were carried out.
 //! - A *pass* is what one thread calls by: it has a core, and keeps an *item* for each of its
@@ -16,6 +17,7 @@ mod agreement;
 mod asking;
 mod book;
 mod booked;
+mod controller;
 mod done;
 mod entry;
 mod fault;
@@ -37,6 +39,10 @@ mod writing;
 pub use agreement::agree;
 pub use book::FwBook;
 pub use booked::Booked;
+pub use controller::{
+    CtlBook, CtlBooks, CtlCall, CtlEntry, CtlGatherFault, CtlItem, CtlLocked, CtlPass, CtlReply,
+    Delivery, Kick, Message, SharedController,
+};
 pub use entry::{BookFull, Entry, FwEntry, FwItem, Item};
 pub use fault::{CallFault, GatherCause, PassFault};
 pub use gather::{Books, GatherFault};

@@ -6,7 +6,7 @@ ghost use Rattle.psci_board.specs.Board.{cores};
 use crate::named::BOARD;
 use psci_board::Board;
 use psci_fw::Cause;
-use psci_shared_ctl::{Core, CtlPass, Kick, Named, SharedController, Start, Tickets};
+use psci_shared::{Core, CtlPass, Kick, Named, SharedController, Start, Tickets};
 use std::alloc::Global;
 use std::marker::Brand;
 use std::sync::Wait;

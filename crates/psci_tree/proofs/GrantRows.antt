@@ -49,7 +49,8 @@ may : (cores clusters groups : List ℕ) (system depth : ℕ) (n : Node) → dep
     → MayGrant (granting cores clusters groups system) n depth
 may cores clusters groups system depth n h children parent = record {
   deepest = h;
-  children = λ c i l. four (ChildOk (granting cores clusters groups system) n depth) (children l) c i;
+  children = λ c i l.
+      four (ChildOk (granting cores clusters groups system) n depth) (children l) c i;
   parent = λ c i l. four (ParentOk (granting cores clusters groups system) n depth) (parent l) c i;
 }
 

@@ -1,5 +1,5 @@
--- Sums over lists of numbers, over ranges, and over what a filter keeps of a range. A count is a sum
--- of ones.
+-- Sums over lists of numbers, over ranges, and over what a filter keeps of a range. A count is a
+-- sum of ones.
 use Rattle.std.proofs.Common.{◌≡◌, ℕ, zero, suc, ◌+◌, ◌<◌, ◌≤◌, Bool, true, false, cond, not, List}
 use Rattle.std.proofs.Common.{[], ◌∷◌, length, filter, refl, ap, sym, ◌∙◌, arith, inl, inr}
 use Rattle.std.proofs.Common.{◌==◌, ◌&&◌}

@@ -1,6 +1,6 @@
 -- The fields of a tree in memory, and the value that it is seen as.
-use Rattle.std.proofs.Common.{◌≡◌, ◌<◌, ◌≤◌, ◌∙◌, arith, ap, sym, subst, map, length, get_or, [], List, ℕ}
-use Rattle.std.proofs.Common.{Vec, Global}
+use Rattle.std.proofs.Common.{◌≡◌, ◌<◌, ◌≤◌, ◌∙◌, arith, ap, sym, subst, map, length, get_or, []}
+use Rattle.std.proofs.Common.{List, ℕ, Vec, Global}
 use Rattle.std.proofs.Math.ListN.{set}
 use Rattle.std.specs.Vec.{with_items}
 use Rattle.std.proofs.lemmas.List.{length-map, with_items_is}
@@ -123,7 +123,8 @@ rows_seen x v ws gs fs is e g f =
 
 -- the depths of one domain are written
 pub depths_with : (x : Inside) (v : TreeValue) (n : Node) {vs : List (Vec Depths Global)}
-    (ws : List (Vec Depths Global)) (d : Depths) {g f : ℕ} → the_view x ≡ v → length ws ≡ x.depths.len → vs ≡ x.depths.items
+    (ws : List (Vec Depths Global)) (d : Depths) {g f : ℕ} → the_view x ≡ v
+    → length ws ≡ x.depths.len → vs ≡ x.depths.items
     → rows_in ws ≡ set (rows_in vs) n.level (set (get_or (rows_in vs) n.level []) n.place d)
     → d.granted ≡ g → d.confirmed ≡ f
     → value_with x (rows_in (with_items x.depths ws).items)

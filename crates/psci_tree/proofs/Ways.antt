@@ -112,7 +112,8 @@ leads_up root levels core ks l k d n t w h to e is lower =
     let i : ℕ = get_or ks l 0 in
     let own : List ℕ = get_or levels l [] in
     let same : map child_count row ≡ own = fans_at root levels l k w e in
-    let below : q < size_below (drop l levels) = place_inside_level levels l core t h (omega arith) in
+    let below : q < size_below (drop l levels) =
+    place_inside_level levels l core t h (omega arith) in
     let c : Counted own q =
     counted own q (omega (arith, below, (level levels l t (omega arith)).size)) in
     let up : p ≡ group_of own q = place_above-suc levels l core (omega arith) in

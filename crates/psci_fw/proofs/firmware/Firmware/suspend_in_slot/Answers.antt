@@ -20,8 +20,8 @@ invariant_of-self c =
     let o = outcome_in g.board (seen g) c.suspend_with.result in
     let before : IsFirmware f = subst IsFirmware (sym c.deref_mut.ensures.value) c.self.invariant in
     let may = may_seen {f = f} core (c.deref_mut.ensures.value ∙ c.self.view_is) c.requires.call in
-    firmware_left f g core c.args.regs o may c.suspend_with.ensures.answer c.suspend_with.ensures.after
-    c.suspend_with.ensures.reaction.board before
+    firmware_left f g core c.args.regs o may c.suspend_with.ensures.answer
+    c.suspend_with.ensures.after c.suspend_with.ensures.reaction.board before
     (c.law_invariant.ensures.answer f.board (seen f) core (Smc c.args.regs) before.board
     before.values)
     (c.law_fresh.ensures.call f.board (seen f) core c.args.regs o (carried_out f core may).0)

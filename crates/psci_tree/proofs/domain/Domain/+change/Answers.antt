@@ -7,7 +7,8 @@ use Rattle.psci_tree.specs.declared.kept.Kept.{Kept}
 use Rattle.psci_tree.specs.declared.domain.Domain.{Domain}
 use Rattle.psci_tree.specs.declared.domain.Domain.TheViews.{out-Domain, the_lemmas}
 use Rattle.psci_tree.proofs.Exchanged.{Through, above_of, child_exchange, child_kept, is_child}
-use Rattle.psci_tree.proofs.Exchanged.{cores_put, keeps_new, kept_put, part_below, shape_put, small_after, small_below}
+use Rattle.psci_tree.proofs.Exchanged.{cores_put, keeps_new, kept_put, part_below, shape_put}
+use Rattle.psci_tree.proofs.Exchanged.{small_after, small_below}
 use Rattle.psci_tree.proofs.Keeping.{kept_own, kept_roll_core}
 use Rattle.psci_tree.proofs.domain.Domain.+change.Goals as goal
 use Rattle.psci_tree.proofs.domain.Domain.+change.Goals.{After-change}
@@ -78,7 +79,8 @@ through : (t : ℕ) (c : After-change t)
     → Through c.args.self.now c.index_mut.result.now c.change.new.self c.args.level
     c.args.way.now c.args.state.now
 through t c =
-    let above = above_of c.if-level-eq0.false c.requires.exchange.descent c.requires.kept in record {
+    let above =
+    above_of c.if-level-eq0.false c.requires.exchange.descent c.requires.kept in record {
       above = above;
       is = is_child above (simp the_lemmas at c.index_mut.ensures.value);
       cores = c.change.ensures.cores;

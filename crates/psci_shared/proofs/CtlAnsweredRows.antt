@@ -1,0 +1,212 @@
+-- Worked examples of how a call through a pass was answered, of a book that is full, of a new pass
+-- and of why none is made.
+use Rattle.std.proofs.Common.{◌≡◌, ℕ, ◌<◌, List, [], ◌∷◌, length, false, true, refl, ap, arith}
+use Rattle.std.proofs.Common.{subst, ◌∙◌, sym}
+use Rattle.psci_ctl.specs.psci_ctl_spec.Effects.{effect_of}
+use Rattle.psci_ctl.specs.psci_ctl_spec.History.{values_of}
+use Rattle.psci_ctl.specs.psci_ctl_spec.Legal.{IsLegal}
+use Rattle.psci_ctl.specs.psci_ctl_spec.Replies.{delivery_of, reply, reset_of, wake_of}
+use Rattle.psci_ctl.specs.psci_ctl_spec.declared.call.CtlCall.{CtlCall}
+use Rattle.psci_ctl.specs.psci_ctl_spec.declared.call.CtlCall.TheVariants.{Deliver, Reset, Wake}
+use Rattle.psci_ctl.specs.psci_ctl_spec.declared.delivery.Delivery.TheVariants as deliveries
+use Rattle.psci_ctl.specs.psci_ctl_spec.declared.kick.Kick.TheVariants as kicks
+use Rattle.psci_ctl.specs.psci_ctl_spec.declared.reply.CtlReply.{CtlReply}
+use Rattle.psci_ctl.specs.psci_ctl_spec.declared.reply.CtlReply.TheVariants.{Delivery, Kick}
+use Rattle.psci_ctl.specs.psci_ctl_spec.psci_messages.declared.kind.Kind.TheVariants as kinds
+use Rattle.psci_ctl.specs.psci_ctl_spec.psci_messages.declared.start.Cause.TheVariants as causes
+use Rattle.psci_shared.specs.declared.fault.PassFault.TheVariants.{NoCore, TooMany, Memory}
+use Rattle.psci_shared.specs.CtlEntries.{CtlEntry, CtlItem}
+use Rattle.psci_shared.specs.CtlAnswered.{IsAnswered, IsAnsweredAfter, IsFull}
+use Rattle.psci_shared.specs.CtlBooks.{BookView, entry, history_of}
+use Rattle.psci_shared.specs.CtlLocked.{IsTurnedAway}
+use Rattle.psci_shared.specs.Views.{first, item}
+use Rattle.psci_shared.specs.CtlPasses.{IsNoPass, PassView}
+use Rattle.psci_shared.proofs.TwoCores.{board}
+use Rattle.std.proofs.lemmas.Bool.{eqb-false}
+
+-- what an example unfolds to compute a reply
+unfoldable computing : Unit {0}
+unfolding values_of effect_of reply delivery_of reset_of wake_of history_of
+computing = tt
+
+-- a core is reset, and a core has a wake-up event that stopped in its start of this number
+abbrev reset : ℕ → CtlCall
+reset c = Reset (record { number = c })
+
+abbrev wake : ℕ → ℕ → CtlCall
+wake c halted = Wake (record { number = c }) halted
+
+abbrev reset_to : ℕ → CtlReply
+reset_to number =
+    Kick (kicks.Started (record { life = 1; number = number; cause = causes.Reset }))
+
+abbrev woken_to : ℕ → CtlReply
+woken_to number = Kick (kicks.Started (record { life = 1; number = number; cause = causes.Wake }))
+
+abbrev ignored : CtlReply
+ignored = Kick kicks.Ignored
+
+-- a Start of core 1 by the firmware of life 2, when there is life 1
+abbrev deliver : CtlCall
+deliver = Deliver (record {
+  kind = kinds.Start;
+  core = record { number = 1 };
+  life = 2;
+  number = 0;
+  parts = [];
+})
+
+abbrev passed_over : CtlReply
+passed_over = Delivery deliveries.Ignored
+
+-- core 1 was reset twice
+abbrev resets : ℕ → CtlEntry
+resets number = entry number (reset 1) (reset_to number)
+
+abbrev entries : List CtlEntry
+entries = resets 1 ∷ resets 2 ∷ []
+
+abbrev pass : List CtlItem → PassView
+pass items = record { core = tt; room = 4; told_full = false; items = items; seen = tt }
+
+-- A call -----------------------------------------------------------------------------------------
+
+-- the first of all; of another core behind an item; one that is ignored; a message
+first_of_all : IsAnswered board (pass []) (pass (item 0 (reset 1) (reset_to 1) ∷ [])) (reset 1)
+    (reset_to 1)
+unfolding computing
+first_of_all = ([], (tt, refl, refl))
+
+abbrev old : CtlItem
+old = item 0 (reset 1) (reset_to 1)
+
+core_1_is_woken : IsAnsweredAfter board entries (pass (old ∷ []))
+    (pass (old ∷ item 2 (wake 1 2) (woken_to 3) ∷ [])) (wake 1 2) (woken_to 3)
+unfolding computing
+core_1_is_woken = ((refl, omega arith, (refl, omega arith, tt)), refl, refl)
+
+so_it_is_answered : IsAnswered board (pass (old ∷ []))
+    (pass (old ∷ item 2 (wake 1 2) (woken_to 3) ∷ [])) (wake 1 2) (woken_to 3)
+unfolding computing
+so_it_is_answered = (entries, ((refl, omega arith, (refl, omega arith, tt)), refl, refl))
+
+-- a call of a pass without items once both resets were entered: its items then, and its reply
+abbrev Answers : CtlCall → List CtlItem → CtlReply → Type 0
+Answers call items reply = IsAnsweredAfter board entries (pass []) (pass items) call reply
+
+-- so is a core that was started since, and a message of another life
+are_answered : Answers (wake 1 1) (item 2 (wake 1 1) ignored ∷ []) ignored
+    × Answers deliver (item 2 deliver passed_over ∷ []) passed_over
+unfolding computing
+are_answered = (
+  ((refl, omega arith, (refl, omega arith, tt)), refl, refl),
+  ((refl, omega arith, (refl, omega arith, tt)), refl, refl),
+)
+
+-- what tells replies apart
+abbrev number_in : CtlReply → ℕ
+number_in (Kick (kicks.Started s)) = s.number
+number_in (Kick kicks.Ignored) = 0
+number_in (Delivery (deliveries.Applied ack)) = 97
+number_in (Delivery deliveries.Ignored) = 98
+
+-- the place and the reply of the first item
+abbrev first_place : List CtlItem → ℕ
+first_place [] = 99
+first_place (i ∷ is) = i.place
+
+abbrev first_number : List CtlItem → ℕ
+first_number [] = 99
+first_number (i ∷ is) = number_in i.reply
+
+other_answers :
+    -- another reply: as with fewer entries, as with more, of another core
+    ¬ (Answers (reset 1) (item 2 (reset 1) (reset_to 2) ∷ []) (reset_to 2))
+    × ¬ (Answers (reset 1) (item 2 (reset 1) (reset_to 4) ∷ []) (reset_to 4))
+    × ¬ (Answers (reset 0) (item 2 (reset 0) (reset_to 3) ∷ []) (reset_to 3))
+    × ¬ (Answers (wake 1 2) (item 2 (wake 1 2) ignored ∷ []) ignored)
+    -- another place, another reply in the item, no item
+    × ¬ (Answers (wake 1 2) (item 1 (wake 1 2) (woken_to 3) ∷ []) (woken_to 3))
+    × ¬ (Answers (wake 1 2) (item 3 (wake 1 2) (woken_to 3) ∷ []) (woken_to 3))
+    × ¬ (Answers (wake 1 2) (item 2 (wake 1 2) ignored ∷ []) (woken_to 3))
+    × ¬ (Answers (wake 1 2) [] (woken_to 3))
+unfolding computing
+other_answers = (
+  λ h. eqb-false 2 3 refl (ap number_in h.1),
+  λ h. eqb-false 4 3 refl (ap number_in h.1),
+  λ h. eqb-false 3 2 refl (ap number_in h.1),
+  λ h. eqb-false 0 3 refl (ap number_in h.1),
+  λ h. eqb-false 1 2 refl (ap first_place h.2),
+  λ h. eqb-false 3 2 refl (ap first_place h.2),
+  λ h. eqb-false 0 3 refl (ap first_number h.2),
+  λ h. eqb-false 0 1 refl (ap length h.2),
+)
+
+-- an item that is gone
+old_item_is_gone : IsAnsweredAfter board entries (pass (old ∷ []))
+    (pass (item 2 (wake 1 2) (woken_to 3) ∷ [])) (wake 1 2) (woken_to 3) → ⊥
+unfolding computing
+old_item_is_gone h = eqb-false 1 2 refl (ap length h.2)
+
+-- the entries before are not legal: the last of them, the first
+last_is_illegal : IsAnsweredAfter board (resets 1 ∷ resets 1 ∷ []) (pass [])
+    (pass (item 2 (reset 1) (reset_to 3) ∷ [])) (reset 1) (reset_to 3) → ⊥
+unfolding computing
+last_is_illegal h = eqb-false 1 2 refl (ap number_in h.0.0)
+
+first_is_illegal : IsAnsweredAfter board (resets 2 ∷ resets 2 ∷ []) (pass [])
+    (pass (item 2 (reset 1) (reset_to 3) ∷ [])) (reset 1) (reset_to 3) → ⊥
+unfolding computing
+first_is_illegal h = eqb-false 2 1 refl (ap number_in h.0.2.0)
+
+-- A book that is full ----------------------------------------------------------------------------
+
+full_with_two : IsFull board 2
+unfolding computing
+full_with_two = (entries, (refl, omega arith, (refl, omega arith, tt)), refl)
+
+full_without_room : IsFull board 0
+unfolding computing
+full_without_room = ([], tt, refl)
+
+-- what a call leaves then
+abbrev full_book : BookView
+full_book = record { entries = entries; room = 2 }
+
+abbrev new_pass : ℕ → PassView
+new_pass room = first tt room tt
+
+turned_away : IsTurnedAway board 2 full_book full_book (new_pass 2)
+    (record (new_pass 2) { told_full = true })
+unfolding computing
+turned_away = (refl, refl, refl, (refl, omega arith, (refl, omega arith, tt)))
+
+turned_away_early : IsTurnedAway board 3 full_book full_book (new_pass 2)
+    (record (new_pass 2) { told_full = true }) → ⊥
+turned_away_early h = eqb-false 2 3 refl h.2
+
+room_for_one_more : (h : IsFull board 3) → h.0 ≡ entries → ⊥
+room_for_one_more h is = eqb-false 3 2 refl (sym h.2 ∙ ap length is)
+
+one_too_many : (h : IsFull board 1) → h.0 ≡ entries → ⊥
+one_too_many h is = eqb-false 1 2 refl (sym h.2 ∙ ap length is)
+
+full_of_illegal_entries : (h : IsFull board 1) → h.0 ≡ resets 2 ∷ [] → ⊥
+unfolding computing
+full_of_illegal_entries h is =
+    eqb-false 2 1 refl (ap number_in
+    (subst (λ (es : List CtlEntry). IsLegal board (history_of es)) is h.1).0)
+
+-- Passes -----------------------------------------------------------------------------------------
+
+a_new_pass : new_pass 4
+    ≡ record { core = tt; room = 4; told_full = false; items = []; seen = tt }
+a_new_pass = refl
+
+-- they are too many; memory lacks
+no_pass : IsNoPass 1000 TooMany × IsNoPass 999 Memory × IsNoPass 0 Memory
+no_pass = (refl, omega arith, omega arith)
+
+-- they are not too many; another reason comes first; no pass of a power controller is for a core
+a_pass : ¬ (IsNoPass 999 TooMany) × ¬ (IsNoPass 1000 Memory) × ¬ (IsNoPass 3 NoCore)
+a_pass = (eqb-false 999 1000 refl, λ h. let e : 1000 < 1000 = h in omega arith, λ h. h)
