@@ -18,8 +18,7 @@ use crate::finding::{find_ack, find_message};
 use crate::said::{says_delivery, says_kick, says_outcome, says_taken};
 use psci_ctl::{CtlCall, CtlReply};
 use psci_fw::{FwCall, FwReply};
-use psci_shared::FwEntry;
-use psci_shared::CtlEntry;
+use psci_shared::{CtlEntry, FwEntry};
 use psci_world::{Ack, Core, Event, Memory, Message, Place, Regs, Start, World};
 
 /// Whether this call of the firmware may follow.

@@ -21,7 +21,6 @@ mod trace;
 pub use fault::AuditFault;
 pub use laws::law_told;
 pub use merging::{Retold, audit, retell};
-pub use psci_shared::{FwCall, FwEntry};
-pub use psci_shared::CtlEntry;
+pub use psci_shared::{CtlEntry, FwCall, FwEntry};
 pub use psci_world::World;
 pub use trace::Trace;

@@ -11,8 +11,7 @@ use crate::following::{follow_controller, follow_firmware};
 use crate::laws::law_told;
 use crate::tickets::tickets_fit;
 use crate::trace::Trace;
-use psci_shared::FwEntry;
-use psci_shared::CtlEntry;
+use psci_shared::{CtlEntry, FwEntry};
 use psci_world::{Board, Memory, World};
 use std::alloc::Global;
 

@@ -4,8 +4,7 @@ ghost use Rattle.std.specs.Prelude.{◌≡◌, ◌↔◌, IsTrue, None, option_m
 ghost use Rattle.psci_audit.specs.Merged.{AreApart, IsAfter, RiseAfter, TicketsFit};
 ghost use Rattle.psci_audit.specs.Merged.{tickets_by, tickets_of};
 
-use psci_shared::FwEntry;
-use psci_shared::CtlEntry;
+use psci_shared::{CtlEntry, FwEntry};
 
 /// Whether the tickets rise in each book, and none is in both.
 pub(crate) fn tickets_fit(firmware: &[FwEntry], controller: &[CtlEntry]) -> bool

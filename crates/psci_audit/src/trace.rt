@@ -1,7 +1,6 @@
 //! What was asked of a firmware and a power controller.
 
-use psci_shared::FwEntry;
-use psci_shared::CtlEntry;
+use psci_shared::{CtlEntry, FwEntry};
 
 /// The entries of both books, each in the order of its book.
 #[derive(Drop)]

@@ -5,8 +5,7 @@ ghost use Rattle.std.specs.Prelude.{◌<◌};
 use crate::platform::{Ending, Platform};
 use crate::worker::{State, TURNS, Worker};
 use psci_fw::Start;
-use psci_shared::Named;
-use psci_shared::Kick;
+use psci_shared::{Kick, Named};
 use std::sync::Wait;
 use std::thread;
 

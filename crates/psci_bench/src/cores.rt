@@ -15,8 +15,9 @@ use crate::platform::{Platform, Returned};
 use crate::watch::Watch;
 use crate::wire::Wire;
 use crate::worker::Worker;
-use psci_shared::{Board, Core, Named, SharedFirmware, StatusWords, Tickets, Writer};
-use psci_shared::SharedController;
+use psci_shared::{
+    Board, Core, Named, SharedController, SharedFirmware, StatusWords, Tickets, Writer,
+};
 use std::alloc::Global;
 use std::marker::Brand;
 use std::sync::Wait;

@@ -10,8 +10,9 @@ ghost use Rattle.psci_bench.specs.Seen.{AllInHistory, AreSeen, IsSeenByOne};
 use crate::cut::Cut;
 use crate::platform::Returned;
 use crate::watch::Watch;
-use psci_shared::{Core, FwEntry, Named, Pass, SharedFirmware, Sighting};
-use psci_shared::{CtlEntry, CtlPass, SharedController};
+use psci_shared::{
+    Core, CtlEntry, CtlPass, FwEntry, Named, Pass, SharedController, SharedFirmware, Sighting,
+};
 use std::alloc::{AllocError, Global};
 
 /// The entries of both books, each in the order of its book, and what was seen by polls.

@@ -5,8 +5,7 @@ ghost use Rattle.std.specs.Prelude.{◌≡◌};
 use crate::cut::Cut;
 use crate::watch::Watch;
 use crate::wire::Wire;
-use psci_shared::{Board, Core, Named, SharedFirmware};
-use psci_shared::{CtlPass, SharedController};
+use psci_shared::{Board, Core, CtlPass, Named, SharedController, SharedFirmware};
 use std::alloc::{AllocError, AllocFailed};
 
 /// What all threads of a run share.

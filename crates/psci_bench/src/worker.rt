@@ -9,8 +9,7 @@ use crate::platform::{Ending, Platform, Returned, fault_of};
 use crate::watch::Watch;
 use psci_fw::{Act, Outcome};
 use psci_link::Frame;
-use psci_shared::{CallFault, Core, Named};
-use psci_shared::CtlPass;
+use psci_shared::{CallFault, Core, CtlPass, Named};
 use psci_storm::Draws;
 use std::sync::Wait;
 
