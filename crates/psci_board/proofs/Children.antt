@@ -1,14 +1,11 @@
 -- The children of a node, and the cores below them.
-use Rattle.std.proofs.Common.{◌≡◌, ℕ, zero, suc, ◌+◌, ◌-◌, ◌<◌, ◌≤◌, Bool, true, false, eqb, ltb}
-use Rattle.std.proofs.Common.{List, [], take, get_or, sum, refl, ◌∙◌, arith, sub-one, Some, inl}
-use Rattle.std.proofs.Common.{inr}
-use Rattle.std.proofs.lemmas.Bool.{cases_lt, cases_eq}
-use Rattle.std.proofs.lemmas.Bool.Decides.{nat_tests}
-use Rattle.std.proofs.lemmas.List.{get_or_past}
-use Rattle.std.proofs.lemmas.Option.{cond_some}
-use Rattle.psci_board.specs.declared.node.Node.{Node}
-use Rattle.psci_board.specs.Board.{BoardValue, HasNode, IsBoard, group_of, place_above, height}
-use Rattle.psci_board.specs.Board.{nodes, cores, up, children, children_at, first_child, child}
+use Rattle.std.proofs.lemmas.Bool.{cases_eq}
+use Rattle.psci_board.proofs.Terms.{◌+◌, ◌-◌, ◌<◌, ◌∙◌, ◌≡◌, ◌≤◌, [], arith, BoardValue, Bool}
+use Rattle.psci_board.proofs.Terms.{cases_lt, child, children, children_at, cond_some, cores, eqb}
+use Rattle.psci_board.proofs.Terms.{false, first_child, get_or, get_or_past, group_of, HasNode}
+use Rattle.psci_board.proofs.Terms.{height, inl, inr, IsBoard, List, ltb, nat_tests, Node, nodes}
+use Rattle.psci_board.proofs.Terms.{place_above, refl, Some, sub-one, suc, sum, take, true, zero, ℕ}
+use Rattle.psci_board.specs.Board.{up}
 use Rattle.psci_board.specs.Laws.{ChildLaws}
 use Rattle.psci_board.proofs.Groups.{counted, in_group, group_inside, width, few_at}
 use Rattle.psci_board.proofs.Levels.{level}

@@ -1,24 +1,16 @@
 -- What is kept of a text decides the verdict on it, and a text without a fault has a board.
-use Rattle.std.proofs.Common.{◌≡◌, ℕ, ◌<◌, ◌≤◌, ◌^◌, ◌-◌, ◌%◌, Bool, true, false, cond, List, []}
-use Rattle.std.proofs.Common.{length, take, map, sum, Option, Some, None, Result, Ok, Err, refl, ap}
-use Rattle.std.proofs.Common.{sym, subst, arith}
-use Rattle.std.specs.Prelude.{◌&&◌, not, ◌==◌}
-use Rattle.std.specs.Str.Parse.{digits_value}
-use Rattle.std.proofs.lemmas.Bool.{and_parts, or_parts}
-use Rattle.std.proofs.lemmas.Bool.Decides.{nat_tests}
-use Rattle.std.proofs.lemmas.List.{take_all}
-use Rattle.psci_board.specs.declared.limits.TheConstants.{MOST_CORES}
-use Rattle.psci_board.specs.declared.range.AddressRange.{AddressRange}
-use Rattle.psci_board.specs.declared.fault.BoardFault.{BoardFault}
-use Rattle.psci_board.specs.declared.fault.BoardFault.TheVariants.{Uneven, TooWide, TooManyCores}
-use Rattle.psci_board.specs.declared.fault.BoardFault.TheVariants.{BadRange, BadBoot, BadLimit}
-use Rattle.psci_board.specs.declared.text.TextSummary.{TextSummary}
-use Rattle.psci_board.specs.Grammar.{BoardText}
-use Rattle.psci_board.specs.Board.{BoardValue, is_in_some, IsBoard}
-use Rattle.psci_board.specs.SummaryVerdict.{text_summary, summary_board, fault_in}
+use Rattle.std.proofs.lemmas.Bool.{and_parts}
+use Rattle.psci_board.proofs.Terms.{◌%◌, ◌&&◌, ◌-◌, ◌<◌, ◌==◌, ◌^◌, ◌≡◌, ◌≤◌, [], AddressRange, ap}
+use Rattle.psci_board.proofs.Terms.{arith, BadBoot, BadLimit, BadRange, BoardFault, BoardText}
+use Rattle.psci_board.proofs.Terms.{BoardValue, Bool, clusters, cond, digits_value, Err, false}
+use Rattle.psci_board.proofs.Terms.{format_or_original, has_bad_range, is_in_some, is_limit}
+use Rattle.psci_board.proofs.Terms.{IsBoard, length, List, map, MOST_CORES, nat_tests, None, not}
+use Rattle.psci_board.proofs.Terms.{Ok, Option, or_parts, range_of, refl, Result, Some, subst, sum}
+use Rattle.psci_board.proofs.Terms.{summary_board, sym, take, take_all, text_summary, TextSummary}
+use Rattle.psci_board.proofs.Terms.{TooManyCores, TooWide, true, Uneven, verdict_or, ℕ}
+use Rattle.psci_board.specs.SummaryVerdict.{fault_in}
 use Rattle.psci_board.specs.Reading.{board_text}
-use Rattle.psci_board.specs.Verdict.{board_of, verdict_or, clusters, range_of, has_bad_range}
-use Rattle.psci_board.specs.Verdict.{board_in, format_or_original, is_limit, verdict}
+use Rattle.psci_board.specs.Verdict.{board_of, board_in, verdict}
 use Rattle.psci_board.proofs.Kept.{kept_ranges, kept_all_ranges}
 use Rattle.psci_board.proofs.KeptTree.{IsFull, kept_tree, tree_is_kept, uneven_kept, wide_kept}
 use Rattle.psci_board.proofs.KeptTree.{total_kept, levels_kept, is_tree, heights, within}

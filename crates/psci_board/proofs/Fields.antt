@@ -1,10 +1,10 @@
 -- The affinity fields of a place, and the place that a word names.
-use Rattle.std.proofs.Common.{◌≡◌, ℕ, ◌+◌, ◌*◌, ◌/◌, ◌%◌, ◌<◌, ◌≤◌, Bool, true, false, ltb, eqb}
-use Rattle.std.proofs.Common.{◌==◌, cond, List, [], ◌∷◌, take, get_or, sum, refl, arith, Some, None}
-use Rattle.std.proofs.lemmas.Bool.{eq-eqb, eqb-true}
-use Rattle.std.proofs.lemmas.Bool.Decides.{nat_tests}
-use Rattle.psci_board.specs.Board.{group_of, index_in, IsTree, size_below, address_up}
-use Rattle.psci_board.specs.Level.{index_named, child_in}
+use Rattle.std.proofs.Common.{◌==◌}
+use Rattle.std.proofs.lemmas.Bool.{eqb-true}
+use Rattle.psci_board.proofs.Terms.{◌%◌, ◌*◌, ◌+◌, ◌/◌, ◌<◌, ◌∷◌, ◌≡◌, ◌≤◌, [], address_up, arith}
+use Rattle.psci_board.proofs.Terms.{Bool, child_in, cond, eq-eqb, eqb, false, get_or, group_of}
+use Rattle.psci_board.proofs.Terms.{index_in, index_named, IsTree, List, ltb, nat_tests, None, refl}
+use Rattle.psci_board.proofs.Terms.{size_below, Some, sum, take, true, ℕ}
 use Rattle.psci_board.proofs.Groups.{stands_at, counted, few_at}
 use Rattle.psci_board.proofs.Search.{found_first, found_none, found, none_passes}
 

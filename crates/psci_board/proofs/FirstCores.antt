@@ -1,17 +1,13 @@
 -- The number of the first core below a node, level by level.
-use Rattle.std.proofs.Common.{◌≡◌, ℕ, zero, suc, ◌+◌, ◌<◌, ◌≤◌, List, []}
-use Rattle.std.proofs.Common.{◌∷◌, ◌++◌, length, take, drop, get_or, sum, refl, ap, sym, ◌∙◌}
-use Rattle.std.proofs.Common.{arith, inl, inr}
-use Rattle.std.proofs.lemmas.Bool.{cases_lt}
-use Rattle.std.proofs.lemmas.List.{take_all, get_or_past, get_or_append_left, length_push}
-use Rattle.std.proofs.lemmas.List.{length-take-le, take-append-drop}
-use Rattle.std.proofs.lemmas.List.Sums.{sum_by_more}
+use Rattle.std.proofs.lemmas.List.{length-take-le}
 use Rattle.std.proofs.Math.Seq.{get_or-append_seam}
-use Rattle.psci_board.specs.Board.{IsTree, size_below, group_of, place_above}
-use Rattle.psci_board.specs.Board.{first_core}
+use Rattle.psci_board.proofs.Terms.{◌++◌, ◌+◌, ◌<◌, ◌∙◌, ◌∷◌, ◌≡◌, ◌≤◌, [], ap, arith, cases_lt}
+use Rattle.psci_board.proofs.Terms.{drop, first_core, get_or, get_or_append_left, get_or_past}
+use Rattle.psci_board.proofs.Terms.{group_of, inl, inr, IsTree, length, length_push, List}
+use Rattle.psci_board.proofs.Terms.{nat_tests, place_above, refl, size_below, suc, sum, sum_by_more}
+use Rattle.psci_board.proofs.Terms.{sym, take, take-append-drop, take_all, zero, ℕ}
 use Rattle.psci_board.proofs.Groups.{sum-cons, counted}
 use Rattle.psci_board.proofs.Fields.{fits}
-use Rattle.std.proofs.lemmas.Bool.Decides.{nat_tests}
 
 -- One level -----------------------------------------------------------------------------------
 

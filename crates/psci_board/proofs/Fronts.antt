@@ -1,14 +1,10 @@
 -- What is read of numbers and of ranges, step by step.
-use Rattle.std.proofs.Common.{◌≡◌, ℕ, List}
-use Rattle.std.proofs.Common.{length, Option, Some, None, refl, ap, arith}
-use Rattle.std.proofs.Common.{length-drop}
-use Rattle.std.proofs.lemmas.Option.{cond_some, option_and_then_some, same_Some}
-use Rattle.std.specs.Prelude.{option_map, codes}
-use Rattle.psci_board.specs.Summary.{value_and_rest}
-use Rattle.psci_board.specs.ReadWords.{literal_at, hex_at}
+use Rattle.psci_board.proofs.Terms.{◌≡◌, ap, arith, codes, cond_some, length, length-drop, List}
+use Rattle.psci_board.proofs.Terms.{literal_at, nat_tests, None, Option, option_and_then_some}
+use Rattle.psci_board.proofs.Terms.{option_map, refl, same_Some, Some, value_and_rest, ℕ}
+use Rattle.psci_board.specs.ReadWords.{hex_at}
 use Rattle.psci_board.specs.Reading.{range_at}
 use Rattle.psci_board.proofs.More.{Shortens, literal_shortens}
-use Rattle.std.proofs.lemmas.Bool.Decides.{nat_tests}
 
 -- what was read, where a value of it and its rest are known
 pub value_and_rest_some : {A B : Type 0} (f : A

@@ -1,14 +1,9 @@
 -- Places counted through groups.
-use Rattle.std.proofs.Common.{◌≡◌, ℕ, zero, suc, ◌+◌, ◌-◌, ◌<◌, ◌≤◌, Bool, true, false, ltb, List}
-use Rattle.std.proofs.Common.{[], ◌∷◌, length, ◌++◌, take, get_or, sum, refl, arith, add-one, sym}
-use Rattle.std.proofs.Common.{inl, inr}
-use Rattle.std.specs.List.{AllPass}
-use Rattle.std.proofs.lemmas.Bool.{cases_lt}
-use Rattle.std.proofs.lemmas.Bool.Decides.{nat_tests}
-use Rattle.std.proofs.lemmas.List.{get_or_append_left, get_or_push, get_or_past, length_push}
-use Rattle.std.proofs.lemmas.List.{get_or_default}
-use Rattle.std.proofs.lemmas.List.Sums.{sum_by-cons}
-use Rattle.psci_board.specs.Board.{group_of, index_in, is_width}
+use Rattle.psci_board.proofs.Terms.{◌++◌, ◌+◌, ◌-◌, ◌<◌, ◌∷◌, ◌≡◌, ◌≤◌, [], add-one, AllPass, arith}
+use Rattle.psci_board.proofs.Terms.{Bool, cases_lt, false, get_or, get_or_append_left}
+use Rattle.psci_board.proofs.Terms.{get_or_default, get_or_past, get_or_push, group_of, index_in}
+use Rattle.psci_board.proofs.Terms.{inl, inr, is_width, length, length_push, List, ltb, nat_tests}
+use Rattle.psci_board.proofs.Terms.{refl, suc, sum, sum_by-cons, sym, take, true, zero, ℕ}
 use Rattle.psci_board.specs.Level.{IsIndexed}
 
 pub sum-cons : (n : ℕ) (ns : List ℕ) → sum (n ∷ ns) ≡ n + sum ns

@@ -1,23 +1,19 @@
 -- What is kept of numbers, of members and of ranges, said at once of the whole list.
-use Rattle.std.proofs.Common.{◌≡◌, ℕ, zero, suc, ◌+◌, Bool, true, false, min, List, [], ◌∷◌, ◌++◌}
-use Rattle.std.proofs.Common.{length, take, map, sum, refl, ap, sym, ◌∙◌, arith, append_assoc}
-use Rattle.std.proofs.Common.{length-append, length-take}
-use Rattle.std.specs.Prelude.{◌||◌, not, nat_lt, nat_le, flat_map}
-use Rattle.std.specs.List.{list_any}
-use Rattle.std.proofs.lemmas.Bool.Decides.{nat_tests}
-use Rattle.std.proofs.lemmas.List.{map-append, append-nil, length-map}
+use Rattle.std.proofs.Common.{length-take}
+use Rattle.std.proofs.lemmas.List.{map-append, append-nil}
 use Rattle.std.proofs.lemmas.List.Recursion.{or_push}
 use Rattle.std.proofs.Math.Bool.{or-false, or-true}
 use Rattle.std.proofs.lemmas.List.Sums.{sum_by-append}
-use Rattle.std.proofs.lemmas.Grind.{flat_map-append}
-use Rattle.psci_board.specs.declared.limits.TheConstants.{MOST_CORES}
-use Rattle.psci_board.specs.declared.range.AddressRange.{AddressRange}
-use Rattle.psci_board.specs.Grammar.{Member}
-use Rattle.psci_board.specs.Grammar.Member.{Cluster, Group}
-use Rattle.psci_board.specs.Summary.{NumbersSummaryValue, with_number, with_numbers}
-use Rattle.psci_board.specs.Summary.{TreeSummaryValue, with_member, with_size}
-use Rattle.psci_board.specs.Summary.{with_members, RangesSummaryValue, with_range, with_ranges}
-use Rattle.psci_board.specs.Verdict.{is_out_of_width, is_group, numbers_in, range_of, has_bad_range}
+use Rattle.psci_board.proofs.Terms.{◌++◌, ◌+◌, ◌||◌, ◌∙◌, ◌∷◌, ◌≡◌, [], AddressRange, ap}
+use Rattle.psci_board.proofs.Terms.{append_assoc, arith, Bool, Cluster, false, flat_map}
+use Rattle.psci_board.proofs.Terms.{flat_map-append, Group, has_bad_range, is_group}
+use Rattle.psci_board.proofs.Terms.{is_out_of_width, length, length-append, length-map, List}
+use Rattle.psci_board.proofs.Terms.{list_any, map, Member, min, MOST_CORES, nat_le, nat_lt}
+use Rattle.psci_board.proofs.Terms.{nat_tests, not, numbers_in, range_of, refl, suc, sum, sym, take}
+use Rattle.psci_board.proofs.Terms.{TreeSummaryValue, true, zero, ℕ}
+use Rattle.psci_board.specs.Summary.{NumbersSummaryValue, with_number, with_numbers, with_member}
+use Rattle.psci_board.specs.Summary.{with_size, with_members, RangesSummaryValue, with_range}
+use Rattle.psci_board.specs.Summary.{with_ranges}
 
 -- the first of the first, and more, are the first of all
 pub take_more : {A : Type 0} (n : ℕ) (xs ys : List A) → take n (take n xs ++ ys) ≡ take n (xs ++ ys)

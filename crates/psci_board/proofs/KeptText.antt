@@ -1,14 +1,12 @@
 -- What is kept of a whole text, by what is kept of its parts, one after the other.
-use Rattle.std.proofs.Common.{◌≡◌, List, ℕ, Option, Some, None, refl, ap, sym}
-use Rattle.std.specs.Prelude.{option_and_then, option_map, codes}
-use Rattle.std.specs.Str.Parse.{digits_value}
-use Rattle.psci_board.specs.declared.text.TextSummary.{TextSummary}
-use Rattle.psci_board.specs.ReadWords.{◌>>=◌, literal_at, number_at, hex_at}
-use Rattle.psci_board.specs.Reading.{tree_at, format_at, board_text}
-use Rattle.psci_board.specs.Summary.{value_and_rest, tree_summary, ranges_at, with_ranges}
-use Rattle.psci_board.specs.Summary.{no_ranges}
-use Rattle.psci_board.specs.SummaryVerdict.{text_summary}
-use Rattle.psci_board.specs.Verdict.{format_or_original}
+use Rattle.psci_board.proofs.Terms.{◌≡◌, ap, codes, digits_value, format_at, format_or_original}
+use Rattle.psci_board.proofs.Terms.{hex_at, List, literal_at, no_ranges, None, number_at, Option}
+use Rattle.psci_board.proofs.Terms.{option_and_then, option_map, refl, Some, sym, text_summary}
+use Rattle.psci_board.proofs.Terms.{TextSummary, tree_at, tree_summary, value_and_rest, with_ranges}
+use Rattle.psci_board.proofs.Terms.{ℕ}
+use Rattle.psci_board.specs.ReadWords.{◌>>=◌}
+use Rattle.psci_board.specs.Reading.{board_text}
+use Rattle.psci_board.specs.Summary.{ranges_at}
 
 abbrev pub kept_at : List ℕ → Option TextSummary
 kept_at bytes = do

@@ -1,23 +1,18 @@
 -- What is kept of a tree decides what is said of it, and is the tree where no fault is said.
-use Rattle.std.proofs.Common.{◌≡◌, ℕ, ◌+◌, ◌<◌, ◌≤◌, Bool, true, false, cond, min, List, [], ◌∷◌}
-use Rattle.std.proofs.Common.{length}
-use Rattle.std.proofs.Common.{take, map, sum, refl, ap, sym, ◌∙◌, arith, lit<, lit≤}
-use Rattle.std.specs.Prelude.{◌||◌, ◌&&◌, nat_lt, ◌==◌, flat_map}
-use Rattle.std.specs.List.{list_any, list_all, AllPass}
-use Rattle.std.proofs.lemmas.Bool.{or_parts}
-use Rattle.std.proofs.lemmas.Bool.Decides.{nat_tests}
-use Rattle.std.proofs.lemmas.List.{take_all, length-map}
-use Rattle.std.proofs.lemmas.List.Sums.{sum_by-cons, sum-map, AllPass-from_list_all}
+use Rattle.std.proofs.Common.{lit≤}
+use Rattle.std.specs.List.{list_all}
+use Rattle.std.proofs.lemmas.List.Sums.{sum-map, AllPass-from_list_all}
 use Rattle.std.proofs.lemmas.List.Concat.{length-flat_map}
-use Rattle.psci_board.specs.declared.limits.TheConstants.{MOST_CORES}
-use Rattle.psci_board.specs.Grammar.{Member, TreeText}
-use Rattle.psci_board.specs.Grammar.Member.{Cluster, Group}
-use Rattle.psci_board.specs.Grammar.TreeText.{One, Members}
-use Rattle.psci_board.specs.Board.{is_width, IsTree}
-use Rattle.psci_board.specs.Summary.{TreeSummaryValue, no_members, tree_summary}
+use Rattle.psci_board.proofs.Terms.{◌&&◌, ◌+◌, ◌<◌, ◌==◌, ◌||◌, ◌∙◌, ◌∷◌, ◌≡◌, ◌≤◌, [], AllPass, ap}
+use Rattle.psci_board.proofs.Terms.{arith, Bool, Cluster, clusters, cond, false, flat_map, Group}
+use Rattle.psci_board.proofs.Terms.{is_group, is_out_of_width, is_width, IsTree, length, length-map}
+use Rattle.psci_board.proofs.Terms.{List, list_any, lit<, map, Member, Members, min, MOST_CORES}
+use Rattle.psci_board.proofs.Terms.{nat_lt, nat_tests, numbers_in, One, or_parts, refl, sum}
+use Rattle.psci_board.proofs.Terms.{sum_by-cons, sym, take, take_all, tree_summary}
+use Rattle.psci_board.proofs.Terms.{TreeSummaryValue, TreeText, true, ℕ}
+use Rattle.psci_board.specs.Summary.{no_members}
 use Rattle.psci_board.specs.SummaryVerdict.{summary_levels}
-use Rattle.psci_board.specs.Verdict.{is_out_of_width, is_group, numbers_in, clusters, levels_of}
-use Rattle.psci_board.specs.Verdict.{is_uneven, is_too_wide}
+use Rattle.psci_board.specs.Verdict.{levels_of, is_uneven, is_too_wide}
 use Rattle.psci_board.proofs.Kept.{capped, kept_numbers, kept_number, size, is_number_alone}
 use Rattle.psci_board.proofs.Kept.{same_tests, kept_members, kept_all_members, how_many}
 

@@ -1,9 +1,8 @@
 -- The levels of a tree, from one on.
-use Rattle.std.proofs.Common.{◌≡◌, ℕ, zero, suc, ◌+◌, ◌<◌, List, [], ◌∷◌, length, drop, drop-cons}
-use Rattle.std.proofs.Common.{get_or, sum, refl, add-one, sym}
-use Rattle.std.specs.List.{AllPass}
-use Rattle.std.proofs.lemmas.List.{get_or_default}
-use Rattle.psci_board.specs.Board.{IsTree, size_below, is_width}
+use Rattle.std.proofs.Common.{drop-cons}
+use Rattle.psci_board.proofs.Terms.{◌+◌, ◌<◌, ◌∷◌, ◌≡◌, [], add-one, AllPass, drop, get_or}
+use Rattle.psci_board.proofs.Terms.{get_or_default, is_width, IsTree, length, List, refl}
+use Rattle.psci_board.proofs.Terms.{size_below, suc, sum, sym, zero, ℕ}
 
 -- what stands above a level is a tree
 pub IsTree-drop : (n : ℕ) (ls : List (List ℕ)) → IsTree ls → IsTree (drop n ls)

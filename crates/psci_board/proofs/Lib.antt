@@ -38,6 +38,7 @@ pub mod SpelledRows
 pub mod SpelledText
 pub mod SpelledTree
 mod SpellingRows
+pub mod Terms
 pub mod Values
 pub mod VerdictRows
 pub mod WordRows

@@ -1,14 +1,12 @@
 -- Items that follow one another: reading them one at a time.
-use Rattle.std.proofs.Common.{◌≡◌, ℕ, zero, suc, ◌<◌, ◌≤◌, Bool, true, false, cond, eqb, List, []}
-use Rattle.std.proofs.Common.{◌∷◌, length, Option, Some, None, refl, ap, sym, ◌∙◌, subst, arith}
-use Rattle.std.proofs.Common.{length-drop}
-use Rattle.std.proofs.lemmas.Bool.Decides.{nat_tests}
-use Rattle.std.proofs.lemmas.Option.{cond_some, option_and_then_some}
-use Rattle.std.specs.Prelude.{option_and_then, option_map, IfSome}
+use Rattle.std.specs.Prelude.{IfSome}
+use Rattle.psci_board.proofs.Terms.{◌<◌, ◌∙◌, ◌∷◌, ◌≡◌, ◌≤◌, [], ap, arith, Bool, Cluster, cond}
+use Rattle.psci_board.proofs.Terms.{cond_some, eqb, false, Group, length, length-drop, List}
+use Rattle.psci_board.proofs.Terms.{nat_tests, None, Option, option_and_then, option_and_then_some}
+use Rattle.psci_board.proofs.Terms.{option_map, refl, Some, starts_list, subst, suc, sym, then_more}
+use Rattle.psci_board.proofs.Terms.{true, zero, ℕ}
 use Rattle.psci_board.specs.ReadWords.{literal_at, spaced_at, number_at}
-use Rattle.psci_board.specs.Reading.{at_most, more_at, then_more}
-use Rattle.psci_board.specs.Reading.{list_at, member_at, starts_list, bytes_after}
-use Rattle.psci_board.specs.Grammar.Member.{Cluster, Group}
+use Rattle.psci_board.specs.Reading.{at_most, more_at, list_at, member_at, bytes_after}
 
 -- what is left is no longer than the text
 abbrev pub Shortens : {A : Type 0} → (List ℕ → Option (A × List ℕ)) → Type 0

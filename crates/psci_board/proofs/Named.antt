@@ -1,22 +1,17 @@
 -- Affinity words and the nodes that they name.
-use Rattle.std.proofs.Common.{◌≡◌, ℕ, zero, suc, ◌+◌, ◌-◌, ◌*◌, ◌/◌, ◌^◌, ◌<◌, ◌≤◌, ltb, List, []}
-use Rattle.std.proofs.Common.{◌∷◌, length, drop, take, get_or, sum, refl, sym, ◌∙◌, arith, add-one}
-use Rattle.std.proofs.Common.{sub-one, Option, Some, None, inl, inr}
-use Rattle.std.specs.Prelude.{option_map}
-use Rattle.std.proofs.lemmas.Bool.{cases_lt}
-use Rattle.std.proofs.lemmas.Bool.Decides.{nat_tests}
-use Rattle.std.proofs.lemmas.List.{get_or_default, get_or_past}
-use Rattle.std.proofs.lemmas.Nat.{pow-add}
-use Rattle.std.proofs.lemmas.Option.{cond_some, none-some, same_Some}
-use Rattle.std.proofs.Math.Nat.{div-one, div-div-eq-div-mul, one-le-pow, pow-suc}
-use Rattle.std.proofs.Math.Seq.{drop-length}
-use Rattle.psci_board.specs.declared.node.Node.{Node}
+use Rattle.std.proofs.Math.Nat.{one-le-pow, pow-suc}
+use Rattle.psci_board.proofs.Terms.{◌*◌, ◌+◌, ◌-◌, ◌/◌, ◌<◌, ◌^◌, ◌∙◌, ◌∷◌, ◌≡◌, ◌≤◌, [], add-one}
+use Rattle.psci_board.proofs.Terms.{address_up, arith, BoardValue, cases_lt, child, children}
+use Rattle.psci_board.proofs.Terms.{children_at, cond_some, cores, div-div-eq-div-mul, div-one}
+use Rattle.psci_board.proofs.Terms.{drop, drop-length, first_child, get_or, get_or_default}
+use Rattle.psci_board.proofs.Terms.{get_or_past, HasNode, height, index_named, inl, inr, IsBoard}
+use Rattle.psci_board.proofs.Terms.{IsTree, length, List, ltb, nat_tests, Node, nodes, None}
+use Rattle.psci_board.proofs.Terms.{none-some, Option, option_map, place_above, pow-add, refl}
+use Rattle.psci_board.proofs.Terms.{same_Some, size_below, Some, sub-one, suc, sum, sym, take, zero}
+use Rattle.psci_board.proofs.Terms.{ℕ}
 use Rattle.psci_board.specs.declared.node.Core.{Core}
-use Rattle.psci_board.specs.Board.{BoardValue, HasNode, IsBoard, IsTree, size_below}
-use Rattle.psci_board.specs.Board.{place_above, height, nodes, cores, up, children_at, first_child}
-use Rattle.psci_board.specs.Board.{children, child, address, address_up, node_of, core_of}
+use Rattle.psci_board.specs.Board.{up, address, node_of, core_of}
 use Rattle.psci_board.specs.Laws.{WordLaws}
-use Rattle.psci_board.specs.Level.{index_named}
 use Rattle.psci_board.proofs.Fields.{fits, fields, named_at, named_is}
 use Rattle.psci_board.proofs.Children.{child_inside}
 use Rattle.psci_board.proofs.Groups.{stands_at}

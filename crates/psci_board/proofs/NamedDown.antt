@@ -1,20 +1,15 @@
 -- The place that a word names, from the highest level down.
-use Rattle.std.proofs.Common.{◌≡◌, ℕ, zero, suc, ◌+◌, ◌*◌, ◌/◌, ◌%◌, ◌^◌, ◌<◌, ◌≤◌, List, [], ◌∷◌}
-use Rattle.std.proofs.Common.{sum, take, length, drop, get_or, ap, subst, refl, sym, ◌∙◌, arith}
-use Rattle.std.proofs.Common.{Some, None}
-use Rattle.std.proofs.lemmas.Nat.{pow-add}
-use Rattle.std.proofs.Math.Nat.{div-one, div-div-eq-div-mul}
-use Rattle.std.specs.Int.{w64, to_le_bytes}
 use Rattle.std.proofs.Math.Seq.{drop-cons}
 use Rattle.std.proofs.lemmas.List.{drop_all}
-use Rattle.psci_board.specs.Board.{IsTree, address_up, group_of, index_in}
-use Rattle.psci_board.specs.Board.{size_below}
+use Rattle.psci_board.proofs.Terms.{◌%◌, ◌*◌, ◌+◌, ◌/◌, ◌<◌, ◌^◌, ◌∙◌, ◌∷◌, ◌≡◌, ◌≤◌, []}
+use Rattle.psci_board.proofs.Terms.{address_up, ap, arith, child_in, div-div-eq-div-mul, div-one}
+use Rattle.psci_board.proofs.Terms.{drop, get_or, group_of, index_in, index_named, IsTree, length}
+use Rattle.psci_board.proofs.Terms.{List, nat_tests, None, pow-add, refl, size_below, Some, subst}
+use Rattle.psci_board.proofs.Terms.{suc, sum, sym, take, to_le_bytes, w64, zero, ℕ}
 use Rattle.psci_board.proofs.Groups.{counted}
-use Rattle.psci_board.specs.Level.{index_named, child_in}
 use Rattle.psci_board.proofs.Fields.{named_at, named_below, named_below_none, none_named, named_is}
 use Rattle.psci_board.proofs.Levels.{IsTree-drop, level}
 use Rattle.psci_board.proofs.Named.{shifted}
-use Rattle.std.proofs.lemmas.Bool.Decides.{nat_tests}
 
 -- a word without one field more
 next_field : (word k : ℕ) → word / 2 ^ (8 * k) / 256 ≡ word / 2 ^ (8 * (k + 1))

@@ -1,16 +1,10 @@
 -- The parent of a node, and its number among the children of that parent.
-use Rattle.std.proofs.Common.{◌≡◌, ℕ, zero, suc, ◌+◌, ◌-◌, ◌<◌, Bool, true, ltb}
-use Rattle.std.proofs.Common.{length, get_or, refl, arith, sub-one, add-one}
-use Rattle.std.proofs.Common.{Some, inl, inr}
-use Rattle.std.specs.Prelude.{◌&&◌}
-use Rattle.std.proofs.lemmas.Bool.{cases_lt}
-use Rattle.std.proofs.lemmas.Bool.Decides.{nat_tests}
-use Rattle.std.proofs.lemmas.List.{get_or_past}
-use Rattle.std.proofs.lemmas.Option.{cond_some}
-use Rattle.psci_board.specs.declared.node.Node.{Node}
-use Rattle.psci_board.specs.Board.{BoardValue, HasNode, IsBoard, group_of, index_in, place_above}
-use Rattle.psci_board.specs.Board.{height, nodes, up, children, children_at, first_child}
-use Rattle.psci_board.specs.Board.{child, parent, child_number}
+use Rattle.psci_board.proofs.Terms.{◌&&◌, ◌+◌, ◌-◌, ◌<◌, ◌≡◌, add-one, arith, BoardValue, Bool}
+use Rattle.psci_board.proofs.Terms.{cases_lt, child, children, children_at, cond_some, first_child}
+use Rattle.psci_board.proofs.Terms.{get_or, get_or_past, group_of, HasNode, height, index_in, inl}
+use Rattle.psci_board.proofs.Terms.{inr, IsBoard, length, ltb, nat_tests, Node, nodes, place_above}
+use Rattle.psci_board.proofs.Terms.{refl, Some, sub-one, suc, true, zero, ℕ}
+use Rattle.psci_board.specs.Board.{up, parent, child_number}
 use Rattle.psci_board.specs.Laws.{ParentLaws}
 use Rattle.psci_board.proofs.Groups.{Stands, stands_at, counted}
 use Rattle.psci_board.proofs.Levels.{level}

@@ -1,10 +1,9 @@
 -- Filters over the numbers from one on, which leave the numbers in their order.
-use Rattle.std.proofs.Common.{◌≡◌, ℕ, zero, suc, ◌+◌, ◌<◌, ◌≤◌, Bool, true, false, ◌&&◌, ltb, leb}
-use Rattle.std.proofs.Common.{List, [], ◌∷◌, ◌++◌, refl, ap, sym, ◌∙◌, arith, zero-add, append-nil}
-use Rattle.std.specs.Prelude.{flat_map, filter, ◌==◌}
-use Rattle.std.specs.List.{range_with_len}
-use Rattle.std.proofs.lemmas.Bool.Decides.{nat_tests}
-use Rattle.std.proofs.lemmas.Grind.{flat_map-append}
+use Rattle.std.proofs.Common.{◌&&◌, leb}
+use Rattle.psci_board.proofs.Terms.{◌++◌, ◌+◌, ◌<◌, ◌==◌, ◌∙◌, ◌∷◌, ◌≡◌, ◌≤◌, [], ap, append-nil}
+use Rattle.psci_board.proofs.Terms.{arith, Bool, false, filter, flat_map, flat_map-append, List}
+use Rattle.psci_board.proofs.Terms.{ltb, nat_tests, range_with_len, refl, suc, sym, true, zero}
+use Rattle.psci_board.proofs.Terms.{zero-add, ℕ}
 
 -- the numbers from a on, n of them, that pass
 abbrev kept : (ℕ → Bool) → ℕ → ℕ → List ℕ

@@ -1,20 +1,15 @@
 -- The nodes above a core.
-use Rattle.std.proofs.Common.{◌≡◌, ℕ, zero, suc, ◌+◌, ◌<◌, ◌≤◌, List, [], ◌∷◌, length, take, drop}
-use Rattle.std.proofs.Common.{get_or, map, sum, refl, arith, Some}
-use Rattle.std.specs.Prelude.{slice_get}
-use Rattle.std.specs.List.{range_with_len}
 use Rattle.std.proofs.lemmas.List.FromFn.{fill_by_all}
-use Rattle.std.proofs.lemmas.Option.{get_or_from_slice_get}
-use Rattle.std.proofs.Math.Seq.{drop-length}
-use Rattle.psci_board.specs.declared.limits.TheConstants.{MOST_CORES}
-use Rattle.psci_board.specs.declared.node.Node.{Node}
-use Rattle.psci_board.specs.Board.{BoardValue, IsBoard, IsTree, size_below, group_of, place_above}
-use Rattle.psci_board.specs.Board.{nodes_up, path, height, up}
+use Rattle.psci_board.proofs.Terms.{◌+◌, ◌<◌, ◌∷◌, ◌≡◌, ◌≤◌, [], arith, BoardValue, drop}
+use Rattle.psci_board.proofs.Terms.{drop-length, get_or, get_or_from_slice_get, group_of, height}
+use Rattle.psci_board.proofs.Terms.{IsBoard, IsTree, length, List, map, MOST_CORES, nat_tests, Node}
+use Rattle.psci_board.proofs.Terms.{nodes_up, place_above, range_with_len, refl, size_below}
+use Rattle.psci_board.proofs.Terms.{slice_get, Some, suc, sum, take, zero, ℕ}
+use Rattle.psci_board.specs.Board.{path, up}
 use Rattle.psci_board.specs.Laws.{PathLaws, SizeLaws}
 use Rattle.psci_board.proofs.Groups.{stands_at, group_of-ordered, width}
 use Rattle.psci_board.proofs.Fields.{fits}
 use Rattle.psci_board.proofs.Levels.{IsTree-drop}
-use Rattle.std.proofs.lemmas.Bool.Decides.{nat_tests}
 
 -- one level up
 pub place_above-suc : (ws : List (List ℕ)) (l i : ℕ) → l < length ws

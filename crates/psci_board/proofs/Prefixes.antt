@@ -1,12 +1,11 @@
 -- A word stands at the front of a text where the bytes there, one by one, are those of the word.
-use Rattle.std.proofs.Common.{◌≡◌, ℕ, Bool, true, false, cond, eqb, List, [], ◌∷◌, Option}
-use Rattle.std.proofs.Common.{Some, None, refl, length, take, drop, Bor, ◌+◌}
-use Rattle.std.specs.Prelude.{option_map, ◌&&◌}
+use Rattle.std.proofs.Common.{Bor}
 use Rattle.std.specs.Option.{MatchOption}
 use Rattle.std.specs.Cmp.Lexicographic.{pointwise}
+use Rattle.psci_board.proofs.Terms.{◌&&◌, ◌+◌, ◌∷◌, ◌≡◌, [], arith, Bool, cond, drop, eqb, false}
+use Rattle.psci_board.proofs.Terms.{length, List, nat_tests, None, Option, option_map, refl, Some}
+use Rattle.psci_board.proofs.Terms.{take, true, ℕ}
 use Rattle.psci_board.specs.ReadWords.{literal_at}
-use Rattle.std.proofs.lemmas.Bool.Decides.{nat_tests}
-use Rattle.std.proofs.Common.{arith}
 
 by_first : (t u : Bool) (o : Option (List ℕ)) (rest : List ℕ) → o ≡ cond u (Some rest) None
     → cond t o None ≡ cond (t && u) (Some rest) None

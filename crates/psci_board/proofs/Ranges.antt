@@ -1,11 +1,9 @@
 -- Ranges of numbers: which part a test keeps, and a range within a range.
-use Rattle.std.proofs.Common.{◌≡◌, ℕ, zero, suc, ◌+◌, ◌-◌, ◌<◌, ◌≤◌, Bool, true, false, []}
-use Rattle.std.proofs.Common.{◌∷◌, ◌++◌, take, drop, refl, ap, sym, ◌∙◌}
-use Rattle.std.proofs.Common.{arith, add-zero, zero-add, append-nil}
-use Rattle.std.specs.Prelude.{filter}
-use Rattle.std.specs.List.{range_with_len}
+use Rattle.std.proofs.Common.{add-zero}
 use Rattle.std.proofs.lemmas.List.Elements.{filter-append}
-use Rattle.std.proofs.lemmas.Bool.Decides.{nat_tests}
+use Rattle.psci_board.proofs.Terms.{◌++◌, ◌+◌, ◌-◌, ◌<◌, ◌∙◌, ◌∷◌, ◌≡◌, ◌≤◌, [], ap, append-nil}
+use Rattle.psci_board.proofs.Terms.{arith, Bool, drop, false, filter, nat_tests, range_with_len}
+use Rattle.psci_board.proofs.Terms.{refl, suc, sym, take, true, zero, zero-add, ℕ}
 
 range_split : (a m n : ℕ)
     → range_with_len a (m + n) ≡ range_with_len a m ++ range_with_len (a + m) n

@@ -1,14 +1,11 @@
 -- What the readers of a board are by its levels.
-use Rattle.std.proofs.Common.{◌≡◌, ℕ, zero, suc, ◌+◌, ◌-◌, ◌*◌, ◌/◌, ◌^◌, ◌<◌, ◌≤◌, Bool, true}
-use Rattle.std.proofs.Common.{false, cond, List, [], get_or, take, drop, sum, refl, arith, Some}
-use Rattle.std.proofs.Common.{None, ltb}
-use Rattle.std.specs.Prelude.{option_map, slice_get}
-use Rattle.std.proofs.lemmas.Bool.Decides.{nat_tests}
-use Rattle.std.proofs.lemmas.Option.{get_or_from_slice_get, unwrap_or-slice_get}
-use Rattle.psci_board.specs.declared.node.Node.{Node}
-use Rattle.psci_board.specs.Board.{BoardValue, level_at, children_at, children, child, first_child}
-use Rattle.psci_board.specs.Board.{node_of, height}
-use Rattle.psci_board.specs.Level.{child_in, index_named}
+use Rattle.std.proofs.lemmas.Option.{unwrap_or-slice_get}
+use Rattle.psci_board.proofs.Terms.{◌*◌, ◌+◌, ◌-◌, ◌/◌, ◌<◌, ◌^◌, ◌≡◌, ◌≤◌, [], arith, BoardValue}
+use Rattle.psci_board.proofs.Terms.{Bool, child, child_in, children, children_at, cond, drop, false}
+use Rattle.psci_board.proofs.Terms.{first_child, get_or, get_or_from_slice_get, height, index_named}
+use Rattle.psci_board.proofs.Terms.{List, ltb, nat_tests, Node, None, option_map, refl, slice_get}
+use Rattle.psci_board.proofs.Terms.{Some, suc, sum, take, true, zero, ℕ}
+use Rattle.psci_board.specs.Board.{level_at, node_of}
 
 past : (ls : List (List ℕ)) (i : ℕ) → slice_get ls i ≡ None → get_or ls i [] ≡ []
 past ls i e = rw (← unwrap_or-slice_get ls i []) (rw e refl)

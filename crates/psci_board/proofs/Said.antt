@@ -1,25 +1,20 @@
 -- What is said of a text, by what was kept of it.
-use Rattle.std.proofs.Common.{◌≡◌, ℕ, ◌<◌, ◌^◌, ◌-◌, ◌%◌, Bool, true, false, cond, List, length}
-use Rattle.std.proofs.Common.{Option, Some, None, Result, Ok, Err, refl, ap, sym, ◌∙◌, subst, arith}
-use Rattle.std.specs.Prelude.{◌||◌, ◌&&◌, not, nat_lt, ◌==◌, option_map, option_and_then}
 use Rattle.std.specs.Prelude.{IsOk, IsErrAnd}
-use Rattle.std.proofs.lemmas.Option.{option_and_then_some, same_Some}
-use Rattle.psci_board.specs.declared.limits.TheConstants.{MOST_CORES}
-use Rattle.psci_board.specs.declared.fault.BoardFault.{BoardFault}
-use Rattle.psci_board.specs.declared.fault.BoardFault.TheVariants.{Grammar, Uneven, TooWide}
-use Rattle.psci_board.specs.declared.fault.BoardFault.TheVariants.{TooManyCores, BadRange, BadBoot}
-use Rattle.psci_board.specs.declared.fault.BoardFault.TheVariants.{BadLimit, Memory}
-use Rattle.psci_board.specs.declared.text.TextSummary.{TextSummary}
-use Rattle.psci_board.specs.Grammar.{TreeText, BoardText}
-use Rattle.psci_board.specs.Grammar.TreeText.{One, Members}
-use Rattle.psci_board.specs.ReadWords.{number_at}
-use Rattle.psci_board.specs.Reading.{list_at, member_at, starts_list, tree_at, board_text}
-use Rattle.psci_board.specs.Board.{BoardValue, is_in_some, IsBoard}
-use Rattle.psci_board.specs.SummaryVerdict.{text_summary, summary_board, fault_in}
-use Rattle.psci_board.specs.Verdict.{is_limit, verdict, verdict_or, board_of, Answers}
+use Rattle.psci_board.proofs.Terms.{◌%◌, ◌&&◌, ◌-◌, ◌<◌, ◌==◌, ◌^◌, ◌||◌, ◌∙◌, ◌≡◌, ap, arith}
+use Rattle.psci_board.proofs.Terms.{BadBoot, BadLimit, BadRange, BoardFault, BoardText, BoardValue}
+use Rattle.psci_board.proofs.Terms.{Bool, cond, Err, false, is_in_some, is_limit, IsBoard, length}
+use Rattle.psci_board.proofs.Terms.{List, member_at, Members, MOST_CORES, nat_lt, nat_tests, None}
+use Rattle.psci_board.proofs.Terms.{not, number_at, Ok, One, Option, option_and_then}
+use Rattle.psci_board.proofs.Terms.{option_and_then_some, option_map, refl, Result, same_Some, Some}
+use Rattle.psci_board.proofs.Terms.{starts_list, subst, summary_board, sym, text_summary}
+use Rattle.psci_board.proofs.Terms.{TextSummary, TooManyCores, TooWide, TreeText, true, Uneven}
+use Rattle.psci_board.proofs.Terms.{verdict_or, ℕ}
+use Rattle.psci_board.specs.declared.fault.BoardFault.TheVariants.{Grammar, Memory}
+use Rattle.psci_board.specs.Reading.{list_at, tree_at, board_text}
+use Rattle.psci_board.specs.SummaryVerdict.{fault_in}
+use Rattle.psci_board.specs.Verdict.{verdict, board_of, Answers}
 use Rattle.psci_board.proofs.KeptTree.{IsFull}
 use Rattle.psci_board.proofs.Decided.{said, decided, is_board}
-use Rattle.std.proofs.lemmas.Bool.Decides.{nat_tests}
 
 -- The text -------------------------------------------------------------------------------------
 

@@ -1,9 +1,8 @@
 -- What a search for the first number that passes a test finds.
-use Rattle.std.proofs.Common.{◌≡◌, ℕ, zero, suc, ◌+◌, ◌<◌, ◌≤◌, Bool, true, false, refl, arith}
-use Rattle.std.proofs.Common.{Option, Some, None}
-use Rattle.std.specs.List.{find, range_with_len}
-use Rattle.std.proofs.lemmas.Option.{same_Some, none-some}
-use Rattle.std.proofs.lemmas.Bool.Decides.{nat_tests}
+use Rattle.std.specs.List.{find}
+use Rattle.psci_board.proofs.Terms.{◌+◌, ◌<◌, ◌≡◌, ◌≤◌, arith, Bool, false, nat_tests, None}
+use Rattle.psci_board.proofs.Terms.{none-some, Option, range_with_len, refl, same_Some, Some, suc}
+use Rattle.psci_board.proofs.Terms.{true, zero, ℕ}
 
 pub found_first : (p : ℕ → Bool) (n a i : ℕ) → a ≤ i → i < a + n → p i ≡ true
     → ((j : ℕ) → a ≤ j → j < i → p j ≡ false) → find p (range_with_len a n) ≡ Some i

@@ -1,15 +1,12 @@
 -- The cores below a node stand side by side: they are the cores of its span.
-use Rattle.std.proofs.Common.{◌≡◌, ℕ, ◌+◌, ◌-◌, ◌<◌, ◌≤◌, List, []}
-use Rattle.std.proofs.Common.{length, take, drop, get_or, sum, refl, ap, ◌∙◌}
-use Rattle.std.proofs.Common.{◌==◌, Some, arith, inl, inr}
-use Rattle.std.specs.List.{range_with_len}
-use Rattle.std.proofs.lemmas.Bool.{cases_lt, eq-eqb, ne_eqb}
-use Rattle.std.proofs.lemmas.Bool.Decides.{nat_tests}
-use Rattle.std.proofs.Math.Seq.{drop-length}
-use Rattle.psci_board.specs.declared.node.Node.{Node}
-use Rattle.psci_board.specs.Board.{IsTree, size_below, place_above, HasNodeIn}
-use Rattle.psci_board.specs.Board.{below_in, first_core, span, cores_below, height, nodes}
-use Rattle.psci_board.specs.Board.{BoardValue, HasNode}
+use Rattle.std.proofs.Common.{◌==◌}
+use Rattle.std.proofs.lemmas.Bool.{ne_eqb}
+use Rattle.psci_board.proofs.Terms.{◌+◌, ◌-◌, ◌<◌, ◌∙◌, ◌≡◌, ◌≤◌, [], ap, arith, BoardValue}
+use Rattle.psci_board.proofs.Terms.{cases_lt, drop, drop-length, eq-eqb, first_core, get_or}
+use Rattle.psci_board.proofs.Terms.{HasNode, height, inl, inr, IsTree, length, List, nat_tests}
+use Rattle.psci_board.proofs.Terms.{Node, nodes, place_above, range_with_len, refl, size_below}
+use Rattle.psci_board.proofs.Terms.{Some, sum, take, ℕ}
+use Rattle.psci_board.specs.Board.{HasNodeIn, below_in, span, cores_below}
 use Rattle.psci_board.specs.Laws.{SpanLaws}
 use Rattle.psci_board.proofs.Ranges.{keep_middle, cut_range}
 use Rattle.psci_board.proofs.FirstCores.{above_from, above_back, first_grows, first_end}

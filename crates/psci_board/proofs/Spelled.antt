@@ -1,14 +1,11 @@
 -- What is spelled is read, whatever follows it, and what is read is spelled so: lists.
-use Rattle.std.proofs.Common.{◌≡◌, ℕ, zero, suc, Bool, false, List, [], ◌∷◌, ◌++◌}
-use Rattle.std.proofs.Common.{length, Option, Some, None, refl, ap, sym, ◌∙◌, arith, append_assoc}
-use Rattle.std.proofs.Common.{subst, length-append}
-use Rattle.std.specs.List.{AllByRecursion}
-use Rattle.std.proofs.lemmas.List.Elements.{All-from_recursion, recursion_from_All}
-use Rattle.std.proofs.lemmas.Option.{option_and_then_some, same_Some}
-use Rattle.psci_board.specs.Grammar.{spaced, bracketed, IsListOf}
+use Rattle.psci_board.proofs.Terms.{◌++◌, ◌∙◌, ◌∷◌, ◌≡◌, [], All-from_recursion, AllByRecursion, ap}
+use Rattle.psci_board.proofs.Terms.{append_assoc, arith, Bool, bracketed, Ends, false, IsListOf}
+use Rattle.psci_board.proofs.Terms.{length, length-append, List, None, Option, option_and_then_some}
+use Rattle.psci_board.proofs.Terms.{Reads, recursion_from_All, refl, same_Some, Some, spaced, subst}
+use Rattle.psci_board.proofs.Terms.{suc, sym, then_more, zero, ℕ}
 use Rattle.psci_board.specs.ReadWords.{literal_at, spaced_at}
-use Rattle.psci_board.specs.Spelling.{Ends, Reads}
-use Rattle.psci_board.specs.Reading.{then_more, at_most, more_at, list_at}
+use Rattle.psci_board.specs.Reading.{at_most, more_at, list_at}
 use Rattle.psci_board.proofs.More.{Shortens, more_some, more_none}
 use Rattle.psci_board.proofs.SpelledLiterals.{literal_takes}
 

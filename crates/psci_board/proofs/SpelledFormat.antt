@@ -1,18 +1,10 @@
 -- The last part of a text is read as it is spelled, and in no other way.
-use Rattle.std.proofs.Common.{◌≡◌, ℕ, Bool, true, false, cond, List, [], Option, Some, None, refl}
-use Rattle.std.proofs.Common.{eqb-true, subst}
-use Rattle.std.specs.Prelude.{codes}
-use Rattle.std.specs.Char.{is_ascii_digit}
 use Rattle.std.proofs.lemmas.List.{nil_from_length}
-use Rattle.std.proofs.lemmas.Option.{same_Some}
 use Rattle.std.proofs.lemmas.Slice.Eq.{bytes_eq-Decides}
-use Rattle.psci_board.specs.psci_abi.declared.format.Format.{Format}
+use Rattle.psci_board.proofs.Terms.{◌≡◌, [], arith, Bool, codes, cond, Ends, eqb-true, false}
+use Rattle.psci_board.proofs.Terms.{Format, format_at, format_part, is_ascii_digit, List, nat_tests}
+use Rattle.psci_board.proofs.Terms.{None, Option, refl, same_Some, Some, subst, true, ℕ}
 use Rattle.psci_board.specs.psci_abi.declared.format.Format.TheVariants.{Original, Extended}
-use Rattle.psci_board.specs.Spelling.{Ends}
-use Rattle.psci_board.specs.Grammar.{format_part}
-use Rattle.psci_board.specs.Reading.{format_at}
-use Rattle.std.proofs.lemmas.Bool.Decides.{nat_tests}
-use Rattle.std.proofs.Common.{arith}
 
 pub format_again : (f : Option Format) → format_at (format_part f) ≡ Some f
 format_again None = refl

@@ -1,7 +1,6 @@
 -- A word is read where it stands, and nowhere else.
-use Rattle.std.proofs.Common.{◌≡◌, ℕ, Bool, true, false, cond, eqb, List, [], ◌∷◌, ◌++◌, Option}
-use Rattle.std.proofs.Common.{Some, None, refl, eqb-true, arith}
-use Rattle.std.proofs.lemmas.Bool.Decides.{nat_tests}
+use Rattle.psci_board.proofs.Terms.{◌++◌, ◌∷◌, ◌≡◌, [], arith, Bool, cond, eqb, eqb-true, false}
+use Rattle.psci_board.proofs.Terms.{List, nat_tests, None, Option, refl, Some, true, ℕ}
 use Rattle.psci_board.specs.ReadWords.{literal_at}
 
 cond_both : {A : Type 0} (t : Bool) (o : Option A) (x : A) → cond t o None ≡ Some x

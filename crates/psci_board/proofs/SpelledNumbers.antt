@@ -1,21 +1,18 @@
 -- Numbers are read as they are spelled, and in no other way.
-use Rattle.std.proofs.Common.{◌≡◌, ℕ, zero, suc, ◌+◌, ◌<◌, ◌≤◌, ◌^◌, Bool, true, false, cond, List}
-use Rattle.std.proofs.Common.{[], ◌∷◌, ◌++◌, length, take, drop, get_or, Some, refl, ap, sym, ◌∙◌}
-use Rattle.std.proofs.Common.{lit<, arith, one-add, subst}
-use Rattle.std.specs.Prelude.{◌&&◌, nat_lt, nat_le}
-use Rattle.std.specs.List.{AllByRecursion, prefix_len}
-use Rattle.std.specs.Char.{is_ascii_digit, is_ascii_hexdigit, digit_value}
-use Rattle.std.specs.Fmt.{decimal}
-use Rattle.std.specs.Str.Parse.{AllDigits, digits_value}
-use Rattle.std.proofs.lemmas.Bool.Decides.{nat_tests}
-use Rattle.std.proofs.lemmas.Fmt.{decimal_is_IsNumeral, decimal-digits_value, first_decimal}
-use Rattle.std.proofs.lemmas.Fmt.{decimal_digit, decimal_nonempty}
+use Rattle.std.proofs.Common.{one-add}
+use Rattle.std.proofs.lemmas.Fmt.{decimal-digits_value, first_decimal, decimal_digit}
 use Rattle.std.proofs.lemmas.Str.Parse.{numerals_by_value, tells_digits, IsNumeralModel}
-use Rattle.std.proofs.lemmas.List.{take_at, drop_at, take-append-drop}
-use Rattle.std.proofs.lemmas.List.Elements.{All-from_recursion, recursion_from_All}
+use Rattle.std.proofs.lemmas.List.{take_at, drop_at}
 use Rattle.std.proofs.lemmas.List.Folds.{length-prefix_len}
-use Rattle.std.proofs.lemmas.Option.{cond_some, option_and_then_some}
-use Rattle.psci_board.specs.Spelling.{IsNumber, IsHex, hex, Ends, Reads}
+use Rattle.psci_board.proofs.Terms.{◌&&◌, ◌++◌, ◌+◌, ◌<◌, ◌^◌, ◌∙◌, ◌∷◌, ◌≡◌, ◌≤◌, []}
+use Rattle.psci_board.proofs.Terms.{All-from_recursion, AllByRecursion, AllDigits, ap, arith, Bool}
+use Rattle.psci_board.proofs.Terms.{cond, cond_some, decimal, decimal_is_IsNumeral}
+use Rattle.psci_board.proofs.Terms.{decimal_nonempty, digit_value, digits_value, drop, Ends, false}
+use Rattle.psci_board.proofs.Terms.{get_or, hex, is_ascii_digit, is_ascii_hexdigit, IsHex, IsNumber}
+use Rattle.psci_board.proofs.Terms.{length, List, lit<, nat_le, nat_lt, nat_tests}
+use Rattle.psci_board.proofs.Terms.{option_and_then_some, prefix_len, Reads, recursion_from_All}
+use Rattle.psci_board.proofs.Terms.{refl, Some, subst, suc, sym, take, take-append-drop, true, zero}
+use Rattle.psci_board.proofs.Terms.{ℕ}
 use Rattle.psci_board.specs.ReadWords.{literal_at, number_at, is_number, hex_at}
 use Rattle.psci_board.proofs.Values.{decimal_front}
 use Rattle.psci_board.proofs.SpelledLiterals.{literal_takes}

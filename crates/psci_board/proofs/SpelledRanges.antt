@@ -1,10 +1,8 @@
 -- Ranges are read as they are spelled, and in no other way.
-use Rattle.std.proofs.Common.{◌≡◌, ℕ, List, ◌∷◌, ◌++◌, [], Some, refl, append_assoc, subst}
-use Rattle.std.specs.Char.{is_ascii_hexdigit}
-use Rattle.std.proofs.lemmas.Option.{option_and_then_some, same_Some}
-use Rattle.psci_board.specs.ReadWords.{literal_at, hex_at}
-use Rattle.psci_board.specs.Spelling.{Ends, Reads, hex}
-use Rattle.psci_board.specs.Grammar.{IsRange, range}
+use Rattle.psci_board.proofs.Terms.{◌++◌, ◌∷◌, ◌≡◌, [], append_assoc, Ends, hex, hex_at}
+use Rattle.psci_board.proofs.Terms.{is_ascii_hexdigit, IsRange, List, option_and_then_some, range}
+use Rattle.psci_board.proofs.Terms.{Reads, refl, same_Some, Some, subst, ℕ}
+use Rattle.psci_board.specs.ReadWords.{literal_at}
 use Rattle.psci_board.specs.Reading.{range_at}
 use Rattle.psci_board.proofs.SpelledLiterals.{literal_takes}
 use Rattle.psci_board.proofs.SpelledNumbers.{hex_reads}

@@ -1,20 +1,14 @@
 -- A board text is read as it is spelled, and in no other way.
-use Rattle.std.proofs.Common.{◌≡◌, ℕ, List, [], ◌∷◌, ◌++◌, Option, Some, None, refl}
-use Rattle.std.proofs.Common.{ap, arith, append_assoc, subst, ◌∙◌}
-use Rattle.std.specs.Prelude.{codes}
-use Rattle.std.specs.Fmt.{decimal}
-use Rattle.std.specs.List.{AllByRecursion}
-use Rattle.std.proofs.lemmas.List.Elements.{recursion_from_All}
-use Rattle.std.proofs.lemmas.Option.{option_and_then_some, same_Some}
-use Rattle.psci_board.specs.psci_abi.declared.format.Format.{Format}
-use Rattle.psci_board.specs.Spelling.{IsHex, IsNumber, hex}
-use Rattle.psci_board.specs.Grammar.{TreeText, BoardText, IsTreeText, IsRange}
-use Rattle.psci_board.specs.Grammar.{IsBoardText, format_part, spaced, tree, range, spelling}
-use Rattle.psci_board.specs.ReadWords.{literal_at, spaced_at, number_at, hex_at}
-use Rattle.psci_board.specs.Reading.{format_at, more_at, range_at}
-use Rattle.psci_board.specs.Reading.{tree_at, board_text}
-use Rattle.psci_board.proofs.Spelled.{first_again, spaced_takes, more_again}
-use Rattle.psci_board.proofs.Spelled.{more_takes, list_of}
+use Rattle.psci_board.proofs.Terms.{◌++◌, ◌∙◌, ◌∷◌, ◌≡◌, [], AllByRecursion, ap, append_assoc}
+use Rattle.psci_board.proofs.Terms.{arith, BoardText, codes, decimal, Format, format_at}
+use Rattle.psci_board.proofs.Terms.{format_part, hex, IsHex, IsNumber, IsRange, IsTreeText, List}
+use Rattle.psci_board.proofs.Terms.{more_at, None, number_at, Option, option_and_then_some, range}
+use Rattle.psci_board.proofs.Terms.{recursion_from_All, refl, same_Some, Some, spaced, subst, tree}
+use Rattle.psci_board.proofs.Terms.{tree_at, TreeText, ℕ}
+use Rattle.psci_board.specs.Grammar.{IsBoardText, spelling}
+use Rattle.psci_board.specs.ReadWords.{literal_at, spaced_at, hex_at}
+use Rattle.psci_board.specs.Reading.{range_at, board_text}
+use Rattle.psci_board.proofs.Spelled.{first_again, spaced_takes, more_again, more_takes, list_of}
 use Rattle.psci_board.proofs.SpelledLiterals.{literal_takes}
 use Rattle.psci_board.proofs.SpelledNumbers.{number_reads, hex_reads}
 use Rattle.psci_board.proofs.SpelledFormat.{ends_number, format_again, format_takes}

@@ -1,21 +1,13 @@
 -- A tree is read as it is spelled, and in no other way.
-use Rattle.std.proofs.Common.{◌≡◌, ℕ, ◌<◌, Bool, true, false, cond, eqb, List, [], ◌∷◌, ◌++◌}
-use Rattle.std.proofs.Common.{length, Option, Some, refl, arith, subst}
-use Rattle.std.specs.Prelude.{option_and_then}
-use Rattle.std.specs.Char.{is_ascii_digit, digit_value}
-use Rattle.std.specs.Fmt.{decimal}
-use Rattle.std.specs.Str.Parse.{AllDigits}
-use Rattle.std.proofs.lemmas.Bool.Decides.{nat_tests}
-use Rattle.std.proofs.lemmas.Fmt.{decimal_is_IsNumeral, decimal_nonempty}
-use Rattle.std.proofs.lemmas.Option.{option_and_then_some, same_Some}
-use Rattle.psci_board.specs.Spelling.{IsNumber, Ends, Reads}
-use Rattle.psci_board.specs.Grammar.{Member, TreeText, IsListOf, IsMember, IsTreeText}
-use Rattle.psci_board.specs.Grammar.{bracketed}
-use Rattle.psci_board.specs.Grammar.{member, tree}
-use Rattle.psci_board.specs.Grammar.Member.{Cluster, Group}
-use Rattle.psci_board.specs.Grammar.TreeText.{One, Members}
-use Rattle.psci_board.specs.ReadWords.{number_at}
-use Rattle.psci_board.specs.Reading.{list_at, starts_list, member_at, tree_at}
+use Rattle.psci_board.proofs.Terms.{◌++◌, ◌<◌, ◌∷◌, ◌≡◌, [], AllDigits, arith, Bool, bracketed}
+use Rattle.psci_board.proofs.Terms.{Cluster, cond, decimal, decimal_is_IsNumeral, decimal_nonempty}
+use Rattle.psci_board.proofs.Terms.{digit_value, Ends, eqb, false, Group, is_ascii_digit, IsListOf}
+use Rattle.psci_board.proofs.Terms.{IsNumber, IsTreeText, length, List, Member, Members, nat_tests}
+use Rattle.psci_board.proofs.Terms.{number_at, One, Option, option_and_then, option_and_then_some}
+use Rattle.psci_board.proofs.Terms.{Reads, refl, same_Some, Some, starts_list, subst, tree}
+use Rattle.psci_board.proofs.Terms.{TreeText, true, ℕ}
+use Rattle.psci_board.specs.Grammar.{IsMember, member}
+use Rattle.psci_board.specs.Reading.{list_at, member_at, tree_at}
 use Rattle.psci_board.proofs.Spelled.{list_again, list_takes}
 use Rattle.psci_board.proofs.SpelledNumbers.{number_reads}
 

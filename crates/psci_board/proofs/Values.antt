@@ -1,18 +1,15 @@
 -- Digits at the front of a text, and their value, as they are counted one by one.
-use Rattle.std.proofs.Common.{◌≡◌, ℕ, zero, suc, ◌+◌, ◌*◌, ◌<◌, ◌≤◌, ◌^◌, Bool, true, false, cond}
-use Rattle.std.proofs.Common.{List, [], ◌∷◌, length, take, get_or, refl, arith, lit<}
-use Rattle.std.proofs.Common.{inl, inr, Option}
 use Rattle.std.proofs.Math.Nat.{pow-le-pow_right}
-use Rattle.std.specs.Prelude.{if◌then◌else◌, nat_lt, nat_le, Some, None}
-use Rattle.std.specs.List.{prefix_len}
-use Rattle.std.specs.Char.{is_ascii_digit, is_ascii_hexdigit, digit_value}
-use Rattle.std.specs.Str.Parse.{AllDigits, digits_value}
-use Rattle.std.proofs.lemmas.Bool.{cases_lt}
-use Rattle.std.proofs.lemmas.Bool.Decides.{nat_tests}
+use Rattle.std.specs.Prelude.{if◌then◌else◌, Some, None}
 use Rattle.std.proofs.lemmas.List.{take-take, length-take}
 use Rattle.std.proofs.lemmas.List.Sums.{prefix_len-le-length, prefix_len_passes, prefix_len_stops}
 use Rattle.std.proofs.lemmas.Str.Parse.{digits_value-take-le}
-use Rattle.std.proofs.lemmas.Int.Digits.{digits_value_more, digits_value-lt}
+use Rattle.std.proofs.lemmas.Int.Digits.{digits_value-lt}
+use Rattle.psci_board.proofs.Terms.{◌*◌, ◌+◌, ◌<◌, ◌^◌, ◌∷◌, ◌≡◌, ◌≤◌, [], AllDigits, arith, Bool}
+use Rattle.psci_board.proofs.Terms.{cases_lt, cond, digit_value, digits_value, digits_value_more}
+use Rattle.psci_board.proofs.Terms.{false, get_or, inl, inr, is_ascii_digit, is_ascii_hexdigit}
+use Rattle.psci_board.proofs.Terms.{length, List, lit<, nat_le, nat_lt, nat_tests, Option}
+use Rattle.psci_board.proofs.Terms.{prefix_len, refl, suc, take, true, zero, ℕ}
 
 -- How far they go -------------------------------------------------------------------------------
 

@@ -1,12 +1,6 @@
 -- What is known before an answer, and what is to be shown of its effect.
-use Rattle.std.proofs.Common.{◌≡◌, ℕ, ◌<◌}
-use Rattle.psci_board.specs.Board.{BoardValue}
-use Rattle.psci_fw_spec.specs.After.{change}
-use Rattle.psci_fw_spec.specs.Effects.{Effect}
-use Rattle.psci_fw_spec.specs.Invariant.{AreValues}
-use Rattle.psci_fw_spec.specs.Phases.{Running}
-use Rattle.psci_fw_spec.specs.Values.{Values}
-use Rattle.psci_fw_laws.specs.Allowed.{IsAllowed}
+use Rattle.psci_fw_laws.proofs.Words.{◌<◌, ◌≡◌, AreValues, BoardValue, change, Effect, IsAllowed}
+use Rattle.psci_fw_laws.proofs.Words.{Running, Values, ℕ}
 
 -- What is known of the values before an answer.
 pub record IsReady (b : BoardValue) (v : Values) : Type 0 where

@@ -1,29 +1,19 @@
 -- A core enters: what it finds, what its arrival leaves, and what it does then.
-use Rattle.std.proofs.Common.{◌≡◌, ℕ, ◌<◌, ◌≤◌, Bool, false, ◌==◌, List}
-use Rattle.std.proofs.Common.{None, Some, refl, arith, ap, sym, ◌∙◌}
-use Rattle.std.specs.Prelude.{slice_get}
-use Rattle.std.proofs.lemmas.Bool.{cond_both, cond-true, eq-eqb, eqb-true, eqb-false}
-use Rattle.psci_board.specs.Board.{BoardValue}
-use Rattle.psci_board.specs.Laws.{PathLaws}
-use Rattle.psci_messages.specs.Message.{MessageValue}
-use Rattle.psci_messages.specs.Slots.{OfCore}
-use Rattle.psci_messages.specs.declared.start.Start.{Start}
-use Rattle.psci_fw_spec.specs.declared.status.Status.TheVariants as statuses
-use Rattle.psci_fw_spec.specs.AffinityInfo.{is_on}
-use Rattle.psci_fw_spec.specs.Changes.{with_arrival, with_phase, with_running}
-use Rattle.psci_fw_spec.specs.Lives.{first_phase, first_status, in_life, start_of_life}
-use Rattle.psci_fw_spec.specs.Phases.{Phase, Running, unless_pending}
-use Rattle.psci_fw_spec.specs.Values.{Values, updated}
-use Rattle.psci_fw_laws.specs.Allowed.{IsEntering}
-use Rattle.psci_fw_laws.specs.Claims.{AreRising}
-use Rattle.psci_fw_laws.specs.Messages.{AreSent}
+use Rattle.psci_fw_laws.proofs.Words.{◌<◌, ◌==◌, ◌∙◌, ◌≡◌, ◌≤◌, ap, AreRising, AreSent, arith}
+use Rattle.psci_fw_laws.proofs.Words.{BoardValue, Bool, cond-true, cond_both, eq-eqb, eqb-false}
+use Rattle.psci_fw_laws.proofs.Words.{eqb-true, false, first_phase, Holds, in_life, is_on}
+use Rattle.psci_fw_laws.proofs.Words.{IsEntering, List, MessageValue, None, OfCore, PathLaws, Phase}
+use Rattle.psci_fw_laws.proofs.Words.{refl, Running, slice_get, Some, Start, start_of_life, sym}
+use Rattle.psci_fw_laws.proofs.Words.{unless_pending, updated, Values, with_arrival, with_phase}
+use Rattle.psci_fw_laws.proofs.Words.{with_running, ℕ}
+use Rattle.psci_fw_spec.specs.Lives.{first_status}
 use Rattle.psci_fw_laws.proofs.Claiming.{quiet_arrival, quiet_life, quiet_phase}
 use Rattle.psci_fw_laws.proofs.Granting.{granted_arrival, granted_life, granted_phase}
-use Rattle.psci_fw_laws.specs.Kept.{Holds}
 use Rattle.psci_fw_laws.proofs.Older.{NoneCurrent, none_arrived}
 use Rattle.psci_fw_laws.proofs.Parts.{part_has, updated_at, updated_here}
 use Rattle.psci_fw_laws.proofs.Sending.{sent_arrival, sent_life, sent_phase}
 use Rattle.psci_fw_laws.proofs.Slots.{outstanding_arrival, outstanding_none, outstanding_phase}
+use Rattle.psci_fw_spec.specs.declared.status.Status.TheVariants as statuses
 
 -- The start of a life -------------------------------------------------------------------------
 

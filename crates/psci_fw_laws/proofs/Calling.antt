@@ -1,24 +1,14 @@
 -- What renumbered cores are answered, whatever the call.
-use Rattle.std.proofs.Common.{◌≡◌, ℕ, refl, ap}
-use Rattle.std.proofs.Common.{Option, None, Some}
-use Rattle.psci_abi.specs.Calls.{request_of}
-use Rattle.psci_board.specs.Board.{BoardValue}
-use Rattle.psci_messages.specs.Slots.{slot_of}
-use Rattle.psci_fw_spec.specs.declared.call.FwCall.{FwCall}
-use Rattle.psci_fw_spec.specs.declared.call.FwCall.TheVariants.{Smc, Enter, Take}
-use Rattle.psci_fw_spec.specs.declared.fault.FwFault.{FwFault}
-use Rattle.psci_fw_spec.specs.declared.outcome.Outcome.{Outcome}
-use Rattle.psci_fw_spec.specs.declared.reply.FwReply.TheVariants.{Out, Fault}
-use Rattle.psci_fw_spec.specs.declared.reply.FwReply.TheVariants as replies
-use Rattle.psci_fw_spec.specs.Answer.{answer, reply_or}
-use Rattle.psci_fw_spec.specs.Calls.{call_fault}
-use Rattle.psci_fw_spec.specs.Values.{Values}
-use Rattle.psci_fw_laws.specs.Renumbered.{CallsBy, SparesBoot}
-use Rattle.psci_fw_laws.specs.Renumbered.{outcome_by, reply_by, values_by}
+use Rattle.psci_fw_laws.proofs.Words.{◌≡◌, ap, BoardValue, call_fault, CallsBy, Enter, Fault}
+use Rattle.psci_fw_laws.proofs.Words.{FwCall, FwFault, None, Option, Out, Outcome, outcome_by, refl}
+use Rattle.psci_fw_laws.proofs.Words.{reply_by, reply_or, request_of, slot_of, Smc, Some}
+use Rattle.psci_fw_laws.proofs.Words.{SparesBoot, Take, Values, values_by, ℕ}
+use Rattle.psci_fw_spec.specs.Answer.{answer}
 use Rattle.psci_fw_laws.proofs.EntriesBy.{enter_fault-by, enter_outcome-by, finds-by}
 use Rattle.psci_fw_laws.proofs.FunctionsBy.{outcome_of-by}
 use Rattle.psci_fw_laws.proofs.Renumbering.{Renumbers}
 use Rattle.psci_fw_laws.proofs.SlotsBy.{at_slot-by, taken-by}
+use Rattle.psci_fw_spec.specs.declared.reply.FwReply.TheVariants as replies
 
 -- Answers ---------------------------------------------------------------------------------------
 

@@ -1,14 +1,8 @@
 -- Worked examples are stated of the legal history of some calls.
-use Rattle.std.proofs.Common.{ℕ, List, [], ◌∷◌, false}
+use Rattle.psci_fw_laws.proofs.Words.{◌∷◌, [], BoardValue, Enter, false, FwCall, FwExchange, Kind}
+use Rattle.psci_fw_laws.proofs.Words.{List, MessageValue, Part, Smc, Take, ℕ}
 use Rattle.psci_fw_spec.specs.psci_abi.declared.format.Format.TheVariants.{Original}
-use Rattle.psci_board.specs.Board.{BoardValue}
-use Rattle.psci_messages.specs.declared.part.Part.{Part}
-use Rattle.psci_messages.specs.declared.kind.Kind.{Kind}
-use Rattle.psci_messages.specs.Message.{MessageValue}
-use Rattle.psci_fw_spec.specs.declared.call.FwCall.{FwCall}
-use Rattle.psci_fw_spec.specs.declared.call.FwCall.TheVariants.{Smc, Enter, Take}
 use Rattle.psci_messages.specs.declared.start.Cause.TheVariants.{Wake}
-use Rattle.psci_fw_spec.specs.Exchange.{FwExchange}
 use Rattle.psci_fw_spec.specs.Legal.{legal_reply}
 
 -- two clusters of two cores

@@ -1,35 +1,24 @@
 -- What happens to the values of renumbered cores.
-use Rattle.std.proofs.Common.{arith}
-use Rattle.std.proofs.Common.{◌≡◌, ℕ, Bool, true, false, ◌&&◌, nat_lt, refl}
-use Rattle.std.proofs.Common.{sym, ap, ◌∙◌, if◌then◌else◌, Option, None, Some, slice_get}
-use Rattle.std.specs.Prelude.{option_map}
+use Rattle.std.proofs.Common.{slice_get}
 use Rattle.std.specs.Option.{option_or}
-use Rattle.std.specs.List.{sum_by}
-use Rattle.psci_board.specs.Board.{BoardValue, below, up}
-use Rattle.psci_board.specs.Paths.{is_path_place}
-use Rattle.psci_board.specs.declared.node.Node.{Node}
-use Rattle.psci_messages.specs.declared.part.Part.{Part}
-use Rattle.psci_messages.specs.declared.kind.Kind.TheVariants.{Down}
-use Rattle.psci_messages.specs.Message.{AckValue, MessageValue}
-use Rattle.psci_messages.specs.Slots.{Acknowledge, Clear, Put, is_kind, slot_of}
-use Rattle.psci_messages.specs.declared.start.Start.{Start}
-use Rattle.psci_fw_spec.specs.declared.status.Status.TheVariants as statuses
-use Rattle.psci_fw_spec.specs.Changes.{PowerOn, Rest, confirms_on, target, turns_off}
-use Rattle.psci_fw_spec.specs.Changes.{with_acknowledgement, with_arrival, with_claims, with_halt}
-use Rattle.psci_fw_spec.specs.Changes.{with_pending, with_rest, with_running, with_sent}
-use Rattle.psci_fw_spec.specs.Changes.{with_slots}
-use Rattle.psci_fw_spec.specs.Confirmed.{applied_part, claimed_anew, confirms, is_made_at}
-use Rattle.psci_fw_spec.specs.Confirmed.{unconfirmed, unless_claimed}
-use Rattle.psci_fw_spec.specs.Lives.{in_life}
-use Rattle.psci_fw_spec.specs.Paths.{claimed_or, cleared, granted_with}
-use Rattle.psci_fw_spec.specs.Phases.{Phase, is_away}
-use Rattle.psci_fw_spec.specs.Phases as phases
-use Rattle.psci_fw_spec.specs.Values.{Values, updated}
-use Rattle.psci_fw_laws.specs.Renumbered.{acknowledgement_by, message_by, node_by}
-use Rattle.psci_fw_laws.specs.Renumbered.{values_by}
+use Rattle.psci_fw_laws.proofs.Words.{◌&&◌, ◌∙◌, ◌≡◌, Acknowledge, acknowledgement_by, AckValue, ap}
+use Rattle.psci_fw_laws.proofs.Words.{arith, below, BoardValue, Bool, claimed_or, Clear, cleared}
+use Rattle.psci_fw_laws.proofs.Words.{confirms_on, Down, false, granted_with, if◌then◌else◌}
+use Rattle.psci_fw_laws.proofs.Words.{in_life, is_away, is_kind, is_made_at, is_path_place}
+use Rattle.psci_fw_laws.proofs.Words.{message_by, MessageValue, nat_lt, Node, node_by, None, Option}
+use Rattle.psci_fw_laws.proofs.Words.{option_map, Part, Phase, PowerOn, Put, refl, Rest, slot_of}
+use Rattle.psci_fw_laws.proofs.Words.{Some, Start, sum_by, sym, true, turns_off, up, updated}
+use Rattle.psci_fw_laws.proofs.Words.{Values, values_by, with_acknowledgement, with_arrival}
+use Rattle.psci_fw_laws.proofs.Words.{with_claims, with_halt, with_pending, with_rest, with_running}
+use Rattle.psci_fw_laws.proofs.Words.{with_slots, ℕ}
+use Rattle.psci_fw_spec.specs.Changes.{target, with_sent}
+use Rattle.psci_fw_spec.specs.Confirmed.{applied_part, claimed_anew, confirms, unconfirmed}
+use Rattle.psci_fw_spec.specs.Confirmed.{unless_claimed}
 use Rattle.psci_fw_laws.proofs.Renumbering.{Renumbers, node_back, sum-below}
 use Rattle.psci_fw_laws.proofs.SlotsBy.{at_slot-by, with_slots-by}
 use Rattle.psci_fw_laws.proofs.StoppingBy.{updated-by, with_phase-by}
+use Rattle.psci_fw_spec.specs.declared.status.Status.TheVariants as statuses
+use Rattle.psci_fw_spec.specs.Phases as phases
 
 -- Paths -----------------------------------------------------------------------------------------
 

@@ -1,19 +1,10 @@
 -- Claims of one domain stay apart, and below a current one no core runs.
-use Rattle.std.proofs.Common.{◌≡◌, ℕ, zero, suc, ◌<◌, inl, inr, Bool, false, List, [], ◌∷◌}
-use Rattle.std.proofs.Common.{Some, refl, arith, subst, ap, sym, ◌∙◌}
-use Rattle.std.specs.Prelude.{slice_get}
-use Rattle.std.proofs.lemmas.Bool.{cases_eq}
-use Rattle.psci_board.specs.Board.{BoardValue, cores, up}
-use Rattle.psci_messages.specs.declared.part.Part.{Part}
-use Rattle.psci_messages.specs.declared.kind.Kind.TheVariants.{Down}
-use Rattle.psci_messages.specs.Message.{MessageValue}
-use Rattle.psci_messages.specs.Slots.{is_kind}
-use Rattle.psci_fw_spec.specs.Lives.{first_phase}
-use Rattle.psci_fw_spec.specs.Phases.{Phase, Running}
-use Rattle.psci_fw_spec.specs.Values.{updated}
-use Rattle.psci_fw_laws.specs.KnownBelow.{known_below}
-use Rattle.psci_fw_laws.specs.Claims.{AreRising, AreQuiet, IsFromMessage, part_for}
-use Rattle.psci_fw_laws.specs.Messages.{AreSent, known_on}
+use Rattle.psci_fw_laws.proofs.Words.{◌<◌, ◌∙◌, ◌∷◌, ◌≡◌, [], ap, AreQuiet, AreRising, AreSent}
+use Rattle.psci_fw_laws.proofs.Words.{arith, BoardValue, Bool, cases_eq, cores, Down, false}
+use Rattle.psci_fw_laws.proofs.Words.{first_phase, inl, inr, is_kind, IsFromMessage, known_below}
+use Rattle.psci_fw_laws.proofs.Words.{known_on, List, MessageValue, Part, part_for, Phase, refl}
+use Rattle.psci_fw_laws.proofs.Words.{Running, slice_get, Some, subst, suc, sym, up, updated, zero}
+use Rattle.psci_fw_laws.proofs.Words.{ℕ}
 use Rattle.psci_fw_laws.proofs.Older.{NoneCurrent, known_beside, none_arrived}
 use Rattle.psci_fw_laws.proofs.Parts.{claim_more, no_part, part_has, updated_at}
 use Rattle.psci_fw_laws.proofs.Sums.{known_less}

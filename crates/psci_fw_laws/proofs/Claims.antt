@@ -1,13 +1,9 @@
 -- Claims of renumbered cores.
-use Rattle.std.proofs.Common.{◌≡◌, ℕ, zero, suc, ◌+◌, not, List}
-use Rattle.std.proofs.Common.{refl, ap, ◌∙◌}
-use Rattle.psci_board.specs.Board.{BoardValue, height}
-use Rattle.psci_board.specs.declared.node.Node.{Node}
-use Rattle.psci_messages.specs.Claim.{climb, claims_of, least_wish, off_claims, off_wish}
-use Rattle.psci_messages.specs.Claim.{own_claims, own_wish, platform_claims}
-use Rattle.psci_messages.specs.View.{PowerView, domain_of, generation, is_all_away, is_idle}
-use Rattle.psci_messages.specs.View.{least_ask}
-use Rattle.psci_fw_laws.specs.Renumbered.{node_by}
+use Rattle.psci_fw_laws.proofs.Words.{◌+◌, ◌∙◌, ◌≡◌, ap, BoardValue, domain_of, height, least_wish}
+use Rattle.psci_fw_laws.proofs.Words.{List, Node, node_by, not, off_wish, own_claims, own_wish}
+use Rattle.psci_fw_laws.proofs.Words.{platform_claims, PowerView, refl, suc, zero, ℕ}
+use Rattle.psci_messages.specs.Claim.{climb, claims_of, off_claims}
+use Rattle.psci_messages.specs.View.{generation, is_all_away, is_idle, least_ask}
 use Rattle.psci_fw_laws.proofs.Renumbering.{Renumbers, all-below, least-below, sum-below}
 
 -- the same view, of the other numbers

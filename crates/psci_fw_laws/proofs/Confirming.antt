@@ -1,20 +1,13 @@
 -- What an acknowledgement confirms, exactly, and what NODE_HW_STATE says then.
-use Rattle.std.proofs.Common.{◌≡◌, ◌⊎◌, ℕ, zero, suc, ◌<◌, Bool, true, false, ◌&&◌, ◌==◌, cond}
-use Rattle.std.proofs.Common.{Option, None, Some, refl, ap, sym, ◌∙◌, arith, inl, inr}
-use Rattle.std.specs.Prelude.{nat_lt, option_and_then, slice_get}
-use Rattle.std.specs.List.{sum_by}
-use Rattle.std.proofs.lemmas.Bool.{and_from, and_parts, eq-eqb, eqb-true, lt-ltb, ltb-true}
-use Rattle.psci_board.specs.Board.{BoardValue, below, up}
-use Rattle.psci_board.specs.declared.node.Node.{Node}
-use Rattle.psci_messages.specs.declared.part.Part.{Part}
-use Rattle.psci_messages.specs.declared.kind.Kind.TheVariants.{Down}
-use Rattle.psci_messages.specs.Message.{AckValue, MessageValue}
+use Rattle.std.specs.Prelude.{nat_lt, option_and_then}
+use Rattle.psci_fw_laws.proofs.Words.{◌&&◌, ◌<◌, ◌==◌, ◌∙◌, ◌≡◌, ◌⊎◌, AckValue, and_from, and_parts}
+use Rattle.psci_fw_laws.proofs.Words.{ap, arith, below, BoardValue, Bool, cond, confirms_on, Down}
+use Rattle.psci_fw_laws.proofs.Words.{eq-eqb, eqb-true, false, inl, inr, is_kind, is_made_at}
+use Rattle.psci_fw_laws.proofs.Words.{lt-ltb, ltb-true, MessageValue, Node, None, Option, Part}
+use Rattle.psci_fw_laws.proofs.Words.{refl, slice_get, slot_of, Some, suc, sum_by, sym, true, up}
+use Rattle.psci_fw_laws.proofs.Words.{Values, with_acknowledgement, zero, ℕ}
 use Rattle.psci_messages.specs.OnlyIf.{only_if}
-use Rattle.psci_messages.specs.Slots.{is_kind, slot_of}
-use Rattle.psci_fw_spec.specs.Changes.{confirms_on, with_acknowledgement}
-use Rattle.psci_fw_spec.specs.Confirmed.{is_made_at}
 use Rattle.psci_fw_spec.specs.NodeHwState.{hw_at, node_hw}
-use Rattle.psci_fw_spec.specs.Values.{Values}
 use Rattle.psci_fw_spec.specs.declared.hw.Hw.{Hw}
 use Rattle.psci_fw_spec.specs.declared.hw.Hw.TheVariants.{Off, On, Standby}
 use Rattle.psci_fw_laws.specs.CarriedOut.{IsCarriedOut}

@@ -1,33 +1,22 @@
 -- What follows from what is kept.
-use Rattle.std.proofs.Common.{◌≡◌, ℕ, ◌+◌, ◌<◌, ◌≤◌, ◌⊎◌, inl, inr, true, false, List, []}
-use Rattle.std.proofs.Common.{◌∷◌, length, Some, refl, arith, subst, ap, sym, ◌∙◌}
-use Rattle.std.specs.Prelude.{slice_get}
-use Rattle.psci_board.specs.Board.{BoardValue, cores, height, up}
-use Rattle.psci_board.specs.Laws.{PathLaws, SpanLaws}
-use Rattle.psci_board.specs.declared.node.Node.{Node}
-use Rattle.psci_messages.specs.declared.part.Part.{Part}
+use Rattle.psci_fw_laws.proofs.Words.{◌+◌, ◌<◌, ◌∙◌, ◌∷◌, ◌≡◌, ◌≤◌, ◌⊎◌, [], activity_of, agrees}
+use Rattle.psci_fw_laws.proofs.Words.{ap, AreClaims, ArePartsOf, AreRising, AreValues, arith, ask}
+use Rattle.psci_fw_laws.proofs.Words.{asks, Away, BoardValue, cores, Down, false, height, Holds}
+use Rattle.psci_fw_laws.proofs.Words.{inl, inr, is_on, IsClaimOn, IsCurrent, Kind, length, List}
+use Rattle.psci_fw_laws.proofs.Words.{MessageValue, Node, Part, part_for, PartByPart, PathLaws}
+use Rattle.psci_fw_laws.proofs.Words.{Pending, Phase, refl, Running, slice_get, Some, SpanLaws}
+use Rattle.psci_fw_laws.proofs.Words.{Status, subst, Suspended, sym, true, up, Values, ℕ}
 use Rattle.psci_messages.specs.View.{generation}
-use Rattle.psci_messages.specs.declared.kind.Kind.{Kind}
-use Rattle.psci_messages.specs.declared.kind.Kind.TheVariants.{Down}
-use Rattle.psci_messages.specs.Message.{ArePartsOf, AreClaims, MessageValue, PartByPart}
-use Rattle.psci_messages.specs.psci_state.Cores.{asks}
-use Rattle.psci_fw_spec.specs.declared.status.Status.{Status}
-use Rattle.psci_fw_spec.specs.declared.status.Status.TheVariants as statuses
-use Rattle.psci_fw_spec.specs.AffinityInfo.{is_on}
-use Rattle.psci_fw_spec.specs.Invariant.{AreValues, agrees}
-use Rattle.psci_fw_spec.specs.Phases.{Phase, Away, Pending, Running, Suspended, activity_of}
-use Rattle.psci_fw_spec.specs.Values.{Values}
-use Rattle.psci_fw_spec.specs.Views.{ask, view}
-use Rattle.psci_fw_laws.specs.Claims.{AreRising, IsClaimOn, IsCurrent, part_for}
+use Rattle.psci_fw_spec.specs.Views.{view}
 use Rattle.psci_fw_laws.specs.Entered.{AreEntered}
 use Rattle.psci_fw_laws.specs.Granted.{HasDeeper, NonePending}
-use Rattle.psci_fw_laws.specs.Kept.{Holds}
 use Rattle.psci_fw_laws.specs.KnownBelow.{KnownLaws, known_below}
 use Rattle.psci_fw_laws.specs.Within.{AreWithin}
 use Rattle.psci_fw_laws.proofs.Made.{ask_own, granted_below}
 use Rattle.psci_fw_laws.proofs.Parts.{part_from, part_has}
 use Rattle.psci_fw_laws.proofs.Sums.{known_gap, known_le, known_less, known_most, known_own}
 use Rattle.psci_fw_laws.proofs.Sums.{known_rises, known_same}
+use Rattle.psci_fw_spec.specs.declared.status.Status.TheVariants as statuses
 
 -- Claims --------------------------------------------------------------------------------------
 

@@ -1,10 +1,9 @@
 -- What is counted over some cores is a fold whose steps commute.
-use Rattle.std.proofs.Common.{◌≡◌, ℕ, ◌+◌, Bool, true, false, ◌&&◌, ◌||◌, List, [], ◌∷◌}
-use Rattle.std.proofs.Common.{if◌then◌else◌, min, map, filter, refl, ap, ◌∙◌, arith, inl, inr}
-use Rattle.std.specs.List.{sum_by, list_all, list_any}
-use Rattle.std.proofs.lemmas.Bool.{cases_Bool}
-use Rattle.std.proofs.lemmas.List.Sums.{sum_by-cons}
-use Rattle.psci_messages.specs.psci_state.Ask.{least}
+use Rattle.std.proofs.Common.{min}
+use Rattle.psci_fw_laws.proofs.Words.{◌&&◌, ◌+◌, ◌||◌, ◌∙◌, ◌∷◌, ◌≡◌, [], ap, arith, Bool}
+use Rattle.psci_fw_laws.proofs.Words.{cases_Bool, false, filter, if◌then◌else◌, inl, inr, least}
+use Rattle.psci_fw_laws.proofs.Words.{List, list_all, list_any, map, refl, sum_by, sum_by-cons}
+use Rattle.psci_fw_laws.proofs.Words.{true, ℕ}
 use Rattle.psci_fw_laws.proofs.Folds.{fold, Commutes}
 
 -- Steps -----------------------------------------------------------------------------------------

@@ -1,46 +1,33 @@
 -- What a call, an entry or an acknowledgement is answered is allowed.
-use Rattle.std.proofs.Common.{◌≡◌, ℕ, ◌<◌, ◌≤◌, Bool, true, false, cond, ◌==◌, ◌&&◌, ◌||◌, not}
-use Rattle.std.proofs.Common.{Option, None, Some, is_some, refl, arith, subst, ap, sym, ◌∙◌}
+use Rattle.std.proofs.Common.{is_some}
 use Rattle.std.specs.Prelude.{nat_le, nat_lt}
-use Rattle.std.proofs.lemmas.Bool.{cond_both, eqb-false, ltb-false, ltb-true}
-use Rattle.std.proofs.lemmas.Bool.{or_left, or_parts, or_right, not-false}
+use Rattle.std.proofs.lemmas.Bool.{ltb-false, or_parts, not-false}
+use Rattle.psci_fw_laws.proofs.Words.{◌&&◌, ◌<◌, ◌==◌, ◌||◌, ◌∙◌, ◌≡◌, ◌≤◌, AckValue, activity_of}
+use Rattle.psci_fw_laws.proofs.Words.{answers, ap, AreValues, arith, asks, Away, BoardValue, Bool}
+use Rattle.psci_fw_laws.proofs.Words.{call_fault, cond, cond_both, cores, effect_of, Enter}
+use Rattle.psci_fw_laws.proofs.Words.{enter_effect, enter_fault, eqb-false, false, FwCall, FwFault}
+use Rattle.psci_fw_laws.proofs.Words.{in_life, IsCalling, IsEntering, ltb-true, MessageValue, None}
+use Rattle.psci_fw_laws.proofs.Words.{not, off_message, off_parts, Opening, Option, or_left}
+use Rattle.psci_fw_laws.proofs.Words.{or_right, Outcome, outcome_at, outcome_of, Parks, Pending}
+use Rattle.psci_fw_laws.proofs.Words.{Phase, refl, reply_or, resumes, Running, slot_of, Smc, Some}
+use Rattle.psci_fw_laws.proofs.Words.{Start, start_of_life, stops, stops_with, subst, sym, Take}
+use Rattle.psci_fw_laws.proofs.Words.{taken, true, unless_pending, Values, with_arrival, with_phase}
+use Rattle.psci_fw_laws.proofs.Words.{ℕ}
 use Rattle.psci_fw_spec.specs.psci_abi.Calls.{request_of}
 use Rattle.psci_fw_spec.specs.psci_abi.declared.registers.Regs.{Regs}
-use Rattle.psci_board.specs.Board.{BoardValue, cores}
-use Rattle.psci_messages.specs.declared.taken.Taken.TheVariants as takens
-use Rattle.psci_messages.specs.Message.{AckValue, MessageValue}
-use Rattle.psci_messages.specs.Slots.{answers, slot_of, taken}
-use Rattle.psci_messages.specs.psci_state.Cores.{asks}
-use Rattle.psci_fw_spec.specs.declared.call.FwCall.{FwCall}
-use Rattle.psci_fw_spec.specs.declared.call.FwCall.TheVariants.{Smc, Enter, Take}
-use Rattle.psci_fw_spec.specs.declared.fault.FwFault.{FwFault}
-use Rattle.psci_fw_spec.specs.declared.fault.FwFault.TheVariants as faults
-use Rattle.psci_fw_spec.specs.declared.opening.Opening.{Opening}
-use Rattle.psci_fw_spec.specs.declared.outcome.Act.TheVariants as acts
-use Rattle.psci_fw_spec.specs.declared.outcome.Outcome.{Outcome}
-use Rattle.psci_fw_spec.specs.declared.reply.FwReply.TheVariants as replies
-use Rattle.psci_messages.specs.declared.start.Start.{Start}
-use Rattle.psci_fw_spec.specs.Answer.{answer, reply_or}
-use Rattle.psci_fw_spec.specs.Calls.{call_fault, outcome_of}
-use Rattle.psci_fw_spec.specs.Changes.{with_arrival, with_phase}
-use Rattle.psci_fw_spec.specs.Claims.{off_parts}
-use Rattle.psci_fw_spec.specs.CpuOff.{off_message}
-use Rattle.psci_fw_spec.specs.Effects.{Parks, effect_of, enter_effect}
-use Rattle.psci_fw_spec.specs.Entering.{enter_fault, enter_outcome, is_old, outcome_at, resumes}
-use Rattle.psci_fw_spec.specs.Invariant.{AreValues}
-use Rattle.psci_fw_spec.specs.Lives.{in_life, start_of_life}
-use Rattle.psci_fw_spec.specs.Outcomes.{stops, stops_with}
-use Rattle.psci_fw_spec.specs.Phases.{Phase, Away, Pending, Running, is_running}
-use Rattle.psci_fw_spec.specs.Phases.{activity_of, unless_pending}
-use Rattle.psci_fw_spec.specs.Values.{Values}
-use Rattle.psci_fw_laws.specs.Allowed.{IsCalling}
+use Rattle.psci_fw_spec.specs.Answer.{answer}
+use Rattle.psci_fw_spec.specs.Entering.{enter_outcome, is_old}
+use Rattle.psci_fw_spec.specs.Phases.{is_running}
 use Rattle.psci_fw_laws.proofs.Allowing.{Allows, IsReady}
-use Rattle.psci_fw_laws.specs.Allowed.{IsEntering}
 use Rattle.psci_fw_laws.proofs.Arriving.{found_life}
 use Rattle.psci_fw_laws.proofs.Functions.{call_allowed}
 use Rattle.psci_fw_laws.proofs.Lower.{LowerLaws}
 use Rattle.psci_fw_laws.proofs.Made.{new_claim, off_made}
 use Rattle.psci_fw_laws.proofs.Parts.{updated_here}
+use Rattle.psci_messages.specs.declared.taken.Taken.TheVariants as takens
+use Rattle.psci_fw_spec.specs.declared.fault.FwFault.TheVariants as faults
+use Rattle.psci_fw_spec.specs.declared.outcome.Act.TheVariants as acts
+use Rattle.psci_fw_spec.specs.declared.reply.FwReply.TheVariants as replies
 
 -- Calls ---------------------------------------------------------------------------------------
 

@@ -1,27 +1,17 @@
 -- Renumbered cores that enter.
-use Rattle.std.proofs.Common.{arith}
-use Rattle.std.proofs.Common.{◌≡◌, ℕ, ◌==◌, Bool, true, false, ◌&&◌, not}
-use Rattle.std.proofs.Common.{refl, sym, ap, ◌∙◌, if◌then◌else◌, Option, None, Some}
-use Rattle.std.proofs.Common.{◌⊎◌}
-use Rattle.std.proofs.lemmas.Bool.{eq-eqb}
-use Rattle.psci_board.specs.Board.{BoardValue, has_node, up}
-use Rattle.psci_board.specs.Paths.{is_path_place}
-use Rattle.psci_messages.specs.declared.start.Start.{Start}
-use Rattle.psci_fw_spec.specs.declared.opening.Opening.{Opening}
-use Rattle.psci_fw_spec.specs.declared.status.Status.TheVariants as statuses
-use Rattle.psci_fw_spec.specs.Changes.{with_arrival}
-use Rattle.psci_fw_spec.specs.Entering.{enter_fault, enter_outcome, outcome_at}
-use Rattle.psci_fw_spec.specs.Entering.{resumes, without_opening}
-use Rattle.psci_fw_spec.specs.Lives.{in_life, start_of_life}
-use Rattle.psci_fw_spec.specs.Outcomes.{stops}
+use Rattle.psci_fw_laws.proofs.Words.{◌&&◌, ◌==◌, ◌∙◌, ◌≡◌, ◌⊎◌, ap, arith, BoardValue, Bool}
+use Rattle.psci_fw_laws.proofs.Words.{enter_fault, eq-eqb, false, has_node, if◌then◌else◌, in_life}
+use Rattle.psci_fw_laws.proofs.Words.{is_path_place, None, not, Opening, Option, outcome_at}
+use Rattle.psci_fw_laws.proofs.Words.{outcome_by, refl, resumes, Some, Start, start_of_life, stops}
+use Rattle.psci_fw_laws.proofs.Words.{sym, true, up, Values, values_by, with_arrival, ℕ}
+use Rattle.psci_fw_spec.specs.Entering.{enter_outcome, without_opening}
 use Rattle.psci_fw_spec.specs.Phases.{is_resumable}
-use Rattle.psci_fw_spec.specs.Phases as phases
-use Rattle.psci_fw_spec.specs.Values.{Values}
-use Rattle.psci_fw_laws.specs.Renumbered.{outcome_by, values_by}
 use Rattle.psci_fw_laws.proofs.Changing.{FindsBy, with_arrival-by}
 use Rattle.psci_fw_laws.proofs.Renumbering.{Renumbers}
 use Rattle.psci_fw_laws.proofs.ReturningBy.{has_node-by}
 use Rattle.psci_fw_laws.proofs.StoppingBy.{chosen, cpu_off-by}
+use Rattle.psci_fw_spec.specs.declared.status.Status.TheVariants as statuses
+use Rattle.psci_fw_spec.specs.Phases as phases
 
 -- The start of a life ---------------------------------------------------------------------------
 

@@ -1,9 +1,7 @@
 -- A fold over numbers does not depend on the order of two of them, if its steps commute.
-use Rattle.std.proofs.Common.{◌≡◌, ℕ, zero, suc, ◌+◌, ◌==◌, ◌<◌, ◌≤◌, Bool, List, []}
-use Rattle.std.proofs.Common.{◌∷◌, if◌then◌else◌, refl, sym, ap, subst, ◌∙◌, ◌⊎◌, arith, inl, inr}
-use Rattle.std.specs.List.{range_with_len}
-use Rattle.std.proofs.lemmas.Bool.{cases_eq}
-use Rattle.psci_fw_laws.specs.Renumbered.{swap}
+use Rattle.psci_fw_laws.proofs.Words.{◌+◌, ◌<◌, ◌==◌, ◌∙◌, ◌∷◌, ◌≡◌, ◌≤◌, ◌⊎◌, [], ap, arith, Bool}
+use Rattle.psci_fw_laws.proofs.Words.{cases_eq, if◌then◌else◌, inl, inr, List, range_with_len, refl}
+use Rattle.psci_fw_laws.proofs.Words.{subst, suc, swap, sym, zero, ℕ}
 
 -- a right fold
 abbrev pub fold : {R : Type 0} → (ℕ → R → R) → R → List ℕ → R

@@ -1,44 +1,29 @@
 -- What is kept after the calls of renumbered cores.
-use Rattle.std.proofs.Common.{◌≡◌, ℕ, Bool, true, false, refl, ap, ◌∙◌}
-use Rattle.std.proofs.Common.{if◌then◌else◌, Option, None, Some}
-use Rattle.std.specs.Prelude.{option_map}
-use Rattle.std.specs.Ordering.{int_eq}
-use Rattle.psci_abi.specs.Calls.{request_of}
-use Rattle.psci_abi.specs.Codes.{success}
+use Rattle.psci_fw_laws.proofs.Words.{◌∙◌, ◌≡◌, acknowledgement_by, Acknowledges, Act, ap, AsksBy}
+use Rattle.psci_fw_laws.proofs.Words.{AsksOn, Away, BoardValue, Bool, CallsBy, change, Effect}
+use Rattle.psci_fw_laws.proofs.Words.{effect_of, Enter, enter_effect, Enters, false, Fault}
+use Rattle.psci_fw_laws.proofs.Words.{function_effect, FwCall, FwReply, GoesOn, Halts}
+use Rattle.psci_fw_laws.proofs.Words.{if◌then◌else◌, int_eq, message_by, MessageValue, mode_effect}
+use Rattle.psci_fw_laws.proofs.Words.{mode_of, None, Nothing, Option, option_map, Out, Parks, refl}
+use Rattle.psci_fw_laws.proofs.Words.{reply_by, request_of, Rests, Running, SetsMode, Smc, Some}
+use Rattle.psci_fw_laws.proofs.Words.{SparesBoot, Start, Stops, StopsAtOnce, success, SuspendMode}
+use Rattle.psci_fw_laws.proofs.Words.{Take, true, Values, values_by, with_arrival, with_claims}
+use Rattle.psci_fw_laws.proofs.Words.{with_halt, with_mode, with_pending, with_phase, with_rest}
+use Rattle.psci_fw_laws.proofs.Words.{with_running, ℕ}
 use Rattle.psci_abi.specs.declared.code.Code.{Code}
 use Rattle.psci_abi.specs.declared.request.Request.{Request}
-use Rattle.psci_abi.specs.declared.request.Request.TheVariants as requests
-use Rattle.psci_board.specs.Board.{BoardValue}
-use Rattle.psci_messages.specs.Message.{MessageValue}
-use Rattle.psci_messages.specs.declared.start.Start.{Start}
 use Rattle.psci_messages.specs.declared.taken.Taken.TheVariants.{Used}
-use Rattle.psci_fw_spec.specs.declared.call.FwCall.{FwCall}
-use Rattle.psci_fw_spec.specs.declared.call.FwCall.TheVariants.{Smc, Enter, Take}
-use Rattle.psci_fw_spec.specs.declared.mode.SuspendMode.{SuspendMode}
-use Rattle.psci_fw_spec.specs.declared.outcome.Act.{Act}
-use Rattle.psci_fw_spec.specs.declared.outcome.Act.TheVariants as acts
-use Rattle.psci_fw_spec.specs.declared.reply.FwReply.{FwReply}
-use Rattle.psci_fw_spec.specs.declared.reply.FwReply.TheVariants.{Out, Fault}
-use Rattle.psci_fw_spec.specs.declared.reply.FwReply.TheVariants as replies
-use Rattle.psci_fw_spec.specs.After.{after, change}
-use Rattle.psci_fw_spec.specs.Changes.{with_arrival, with_claims, with_halt, with_mode}
-use Rattle.psci_fw_spec.specs.Changes.{with_pending}
-use Rattle.psci_fw_spec.specs.Changes.{with_phase, with_rest, with_running}
-use Rattle.psci_fw_spec.specs.Effects.{Acknowledges, AsksOn, Effect, Enters, GoesOn, Halts, Nothing}
-use Rattle.psci_fw_spec.specs.Effects.{Parks, Rests, SetsMode, Stops, StopsAtOnce, effect_of}
-use Rattle.psci_fw_spec.specs.Effects.{enter_effect, function_effect, mode_effect, return_effect}
-use Rattle.psci_fw_spec.specs.Effects.{sent_effect, stop_effect}
-use Rattle.psci_fw_spec.specs.Phases.{Away, Running}
-use Rattle.psci_fw_spec.specs.SuspendMode.{mode_of}
-use Rattle.psci_fw_spec.specs.Values.{Values}
-use Rattle.psci_fw_laws.specs.Renumbered.{AsksBy, CallsBy, SparesBoot, acknowledgement_by}
-use Rattle.psci_fw_laws.specs.Renumbered.{message_by, reply_by, values_by}
+use Rattle.psci_fw_spec.specs.After.{after}
+use Rattle.psci_fw_spec.specs.Effects.{return_effect, sent_effect, stop_effect}
 use Rattle.psci_fw_laws.proofs.Changing.{FindsBy, power_on_by, with_acknowledgement-by}
 use Rattle.psci_fw_laws.proofs.Changing.{with_arrival-by, with_claims-by, with_halt-by}
 use Rattle.psci_fw_laws.proofs.Changing.{with_pending-by, with_rest-by, with_running-by}
 use Rattle.psci_fw_laws.proofs.EntriesBy.{finds-by}
 use Rattle.psci_fw_laws.proofs.Renumbering.{Renumbers}
 use Rattle.psci_fw_laws.proofs.StoppingBy.{with_phase-by}
+use Rattle.psci_abi.specs.declared.request.Request.TheVariants as requests
+use Rattle.psci_fw_spec.specs.declared.outcome.Act.TheVariants as acts
+use Rattle.psci_fw_spec.specs.declared.reply.FwReply.TheVariants as replies
 
 -- Effects ---------------------------------------------------------------------------------------
 

@@ -1,27 +1,18 @@
 -- What a function is answered is allowed.
-use Rattle.std.proofs.Common.{◌≡◌, ℕ, true, false, []}
-use Rattle.std.proofs.Common.{refl}
-use Rattle.psci_fw_spec.specs.psci_abi.declared.request.Request.{Request}
-use Rattle.psci_fw_spec.specs.psci_abi.declared.request.Request.TheVariants as requests
-use Rattle.psci_board.specs.Board.{BoardValue}
-use Rattle.psci_messages.specs.declared.kind.Kind.{Kind}
-use Rattle.psci_messages.specs.declared.kind.Kind.TheVariants as kinds
-use Rattle.psci_fw_spec.specs.Calls.{function_outcome, outcome_of}
+use Rattle.psci_fw_laws.proofs.Words.{◌≡◌, [], BoardValue, false, function_outcome, Halts}
+use Rattle.psci_fw_laws.proofs.Words.{is_system, IsAllowed, IsCalling, Kind, message_for}
+use Rattle.psci_fw_laws.proofs.Words.{outcome_of, refl, Request, system_reset2, true, Values, ℕ}
 use Rattle.psci_fw_spec.specs.CpuOn.{target_of}
-use Rattle.psci_fw_spec.specs.Effects.{Halts}
-use Rattle.psci_fw_spec.specs.Outcomes.{message_for}
 use Rattle.psci_fw_spec.specs.SuspendMode.{set_suspend_mode}
-use Rattle.psci_fw_spec.specs.SystemCalls.{system_reset2}
-use Rattle.psci_fw_spec.specs.Values.{Values}
 use Rattle.psci_fw_spec.proofs.Endings.{outcome_ends, reset2_ends}
-use Rattle.psci_fw_laws.specs.Messages.{is_system}
-use Rattle.psci_fw_laws.specs.Allowed.{IsAllowed, IsCalling}
 use Rattle.psci_fw_laws.proofs.Allowing.{Allows, IsReady}
 use Rattle.psci_fw_laws.proofs.Lower.{LowerLaws}
 use Rattle.psci_fw_laws.proofs.Started.{system_other}
 use Rattle.psci_fw_laws.proofs.Returning.{outcome_effect, returned}
 use Rattle.psci_fw_laws.proofs.Stopping.{off_allowed, suspend_allowed, system_allowed}
 use Rattle.psci_fw_laws.proofs.Targets.{on_allowed}
+use Rattle.psci_fw_spec.specs.psci_abi.declared.request.Request.TheVariants as requests
+use Rattle.psci_messages.specs.declared.kind.Kind.TheVariants as kinds
 
 -- All functions -------------------------------------------------------------------------------
 

@@ -1,18 +1,14 @@
 -- What each function answers renumbered cores.
-use Rattle.std.proofs.Common.{◌≡◌, ℕ, refl}
+use Rattle.psci_fw_laws.proofs.Words.{◌≡◌, AsksBy, BoardValue, function_outcome, mode_of, node_of}
+use Rattle.psci_fw_laws.proofs.Words.{outcome_by, refl, stops, Values, values_by, ℕ}
 use Rattle.psci_abi.specs.declared.request.Request.{Request}
-use Rattle.psci_abi.specs.declared.request.Request.TheVariants as requests
-use Rattle.psci_board.specs.Board.{BoardValue, node_of}
-use Rattle.psci_messages.specs.declared.kind.Kind.TheVariants as kinds
-use Rattle.psci_fw_spec.specs.Calls.{function_outcome, outcome_of}
-use Rattle.psci_fw_spec.specs.Outcomes.{stops}
-use Rattle.psci_fw_spec.specs.SuspendMode.{mode_of}
-use Rattle.psci_fw_spec.specs.Values.{Values}
-use Rattle.psci_fw_laws.specs.Renumbered.{AsksBy, outcome_by, values_by}
+use Rattle.psci_fw_spec.specs.Calls.{outcome_of}
 use Rattle.psci_fw_laws.proofs.Renumbering.{Renumbers}
 use Rattle.psci_fw_laws.proofs.ReturningBy.{affinity-by, cpu_on-by, hw_state-by, mode_asked-by}
 use Rattle.psci_fw_laws.proofs.StoppingBy.{chosen, cpu_off-by, cpu_suspend-by, system_message-by}
 use Rattle.psci_fw_laws.proofs.StoppingBy.{system_reset2-by, system_suspend-by}
+use Rattle.psci_abi.specs.declared.request.Request.TheVariants as requests
+use Rattle.psci_messages.specs.declared.kind.Kind.TheVariants as kinds
 
 function-by : (b : BoardValue) (s : ℕ → ℕ → ℕ) (v : Values) (c : ℕ) (r q : Request) → Renumbers b s
     → AsksBy b s r q

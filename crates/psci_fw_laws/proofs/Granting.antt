@@ -1,23 +1,14 @@
 -- What is granted is what current claims say, after each change.
-use Rattle.std.proofs.Common.{◌≡◌, ℕ, ◌<◌, inl, inr, Bool, true, false, List, ◌∷◌}
-use Rattle.std.proofs.Common.{◌==◌, ◌&&◌, not, cond, Option, None, Some, refl, arith, ap, sym, ◌∙◌}
-use Rattle.std.specs.Prelude.{slice_get}
-use Rattle.std.proofs.lemmas.Bool.{and_from, and_parts, cases_eq, cond_both, eqb-false, eqb-true}
-use Rattle.std.proofs.lemmas.Bool.{cond-true, not-true, not_from_false}
-use Rattle.psci_board.specs.Board.{BoardValue, cores, has_node, up}
-use Rattle.psci_messages.specs.declared.part.Part.{Part}
-use Rattle.psci_messages.specs.declared.kind.Kind.TheVariants.{Down}
-use Rattle.psci_messages.specs.Message.{MessageValue}
-use Rattle.psci_messages.specs.Slots.{is_kind}
+use Rattle.std.proofs.lemmas.Bool.{not-true, not_from_false}
+use Rattle.psci_fw_laws.proofs.Words.{◌&&◌, ◌<◌, ◌==◌, ◌∙◌, ◌∷◌, ◌≡◌, and_from, and_parts, ap}
+use Rattle.psci_fw_laws.proofs.Words.{AreSent, arith, BoardValue, Bool, cases_eq, claimed_or}
+use Rattle.psci_fw_laws.proofs.Words.{cleared, cond, cond-true, cond_both, cores, Down, eqb-false}
+use Rattle.psci_fw_laws.proofs.Words.{eqb-true, false, granted_with, has_node, inl, inr, is_kind}
+use Rattle.psci_fw_laws.proofs.Words.{is_path_place, IsFromMessage, known_below, List, MessageValue}
+use Rattle.psci_fw_laws.proofs.Words.{None, not, Option, Part, Pending, Phase, refl, slice_get}
+use Rattle.psci_fw_laws.proofs.Words.{Some, sym, true, up, updated, ℕ}
 use Rattle.psci_fw_spec.specs.Lives.{first_granted}
-use Rattle.psci_fw_spec.specs.Paths.{claimed_or, cleared, granted_with}
-use Rattle.psci_board.specs.Paths.{is_path_place}
-use Rattle.psci_fw_spec.specs.Phases.{Phase, Pending}
-use Rattle.psci_fw_spec.specs.Values.{updated}
-use Rattle.psci_fw_laws.specs.KnownBelow.{known_below}
-use Rattle.psci_fw_laws.specs.Claims.{IsFromMessage}
 use Rattle.psci_fw_laws.specs.Granted.{AreGranted, HasCurrent}
-use Rattle.psci_fw_laws.specs.Messages.{AreSent}
 use Rattle.psci_fw_laws.proofs.Claiming.{IsNewDown}
 use Rattle.psci_fw_laws.proofs.Older.{NoneCurrent, known_beside, none_arrived}
 use Rattle.psci_fw_laws.proofs.Parts.{claim_before, claim_more, claim_new, claim_old, part_from}

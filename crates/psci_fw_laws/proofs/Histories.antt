@@ -1,32 +1,19 @@
 -- After every legal history the firmware keeps what it keeps.
-use Rattle.std.proofs.Common.{◌≡◌, ℕ, List, [], ◌∷◌, ◌++◌}
-use Rattle.std.proofs.Common.{refl, arith, subst, sym}
-use Rattle.psci_board.specs.Board.{BoardValue}
-use Rattle.psci_messages.specs.Message.{MessageValue}
-use Rattle.psci_fw_spec.specs.declared.call.FwCall.{FwCall}
-use Rattle.psci_fw_spec.specs.declared.reply.FwReply.{FwReply}
-use Rattle.psci_fw_spec.specs.After.{after, change}
-use Rattle.psci_fw_spec.specs.Answer.{answer}
-use Rattle.psci_fw_spec.specs.Changes.{with_arrival, with_mode, with_phase, with_rest}
-use Rattle.psci_fw_spec.specs.Effects.{Effect, Nothing, GoesOn, SetsMode, AsksOn, Rests, Halts}
-use Rattle.psci_fw_spec.specs.Effects.{Stops, Enters, Parks, StopsAtOnce, Acknowledges, effect_of}
-use Rattle.psci_fw_spec.specs.Exchange.{FwExchange, effect}
-use Rattle.psci_fw_spec.specs.History.{values_of}
-use Rattle.psci_fw_spec.specs.Invariant.{AreValues}
-use Rattle.psci_fw_spec.specs.Legal.{IsLegal}
-use Rattle.psci_fw_spec.specs.Lives.{first_phase, start_of_life}
-use Rattle.psci_fw_spec.specs.Phases.{Away}
-use Rattle.psci_fw_spec.specs.Said.{listed, sent}
+use Rattle.psci_fw_laws.proofs.Words.{◌++◌, ◌∷◌, ◌≡◌, [], Acknowledges, answer, AreValues, arith}
+use Rattle.psci_fw_laws.proofs.Words.{AsksOn, Away, BoardValue, change, Effect, effect, effect_of}
+use Rattle.psci_fw_laws.proofs.Words.{Enters, first_phase, FwCall, FwExchange, FwReply, GoesOn}
+use Rattle.psci_fw_laws.proofs.Words.{Halts, Holds, IsAllowed, IsLegal, List, listed, MessageValue}
+use Rattle.psci_fw_laws.proofs.Words.{Nothing, Parks, refl, Rests, sent, SetsMode, start_of_life}
+use Rattle.psci_fw_laws.proofs.Words.{Stops, StopsAtOnce, subst, sym, Values, values_of}
+use Rattle.psci_fw_laws.proofs.Words.{with_arrival, with_mode, with_phase, with_rest, ℕ}
+use Rattle.psci_fw_spec.specs.After.{after}
 use Rattle.psci_fw_spec.specs.Sent.{sent_messages}
-use Rattle.psci_fw_spec.specs.Values.{Values}
-use Rattle.psci_fw_laws.specs.Allowed.{IsAllowed}
 use Rattle.psci_fw_laws.proofs.Allowing.{IsReady}
 use Rattle.psci_fw_laws.proofs.Arriving.{arrived_new, arrives, first_not_on, runs, stays}
 use Rattle.psci_fw_laws.proofs.Claiming.{apart_none, quiet_life}
 use Rattle.psci_fw_laws.proofs.Consequences.{entered}
 use Rattle.psci_fw_laws.proofs.Entries.{answer_allowed}
 use Rattle.psci_fw_laws.proofs.Granting.{granted_life}
-use Rattle.psci_fw_laws.specs.Kept.{Holds}
 use Rattle.psci_fw_laws.proofs.Lower.{LowerLaws}
 use Rattle.psci_fw_laws.proofs.Older.{NoneCurrent, none_running}
 use Rattle.psci_fw_laws.proofs.Resting.{claims, rests}

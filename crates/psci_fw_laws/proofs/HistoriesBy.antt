@@ -1,17 +1,9 @@
 -- Histories told of renumbered cores.
-use Rattle.std.proofs.Common.{◌≡◌, ℕ, List, [], ◌∷◌, sym, ap, ◌∙◌, inr}
-use Rattle.psci_board.specs.Board.{BoardValue}
-use Rattle.psci_fw_spec.specs.declared.call.FwCall.{FwCall}
-use Rattle.psci_fw_spec.specs.declared.call.FwCall.TheVariants.{Enter, Smc, Take}
+use Rattle.psci_fw_laws.proofs.Words.{◌∙◌, ◌∷◌, ◌≡◌, [], answer, ap, BoardValue, Enter, FwCall}
+use Rattle.psci_fw_laws.proofs.Words.{FwExchange, inr, IsLegal, List, Smc, SparesBoot}
+use Rattle.psci_fw_laws.proofs.Words.{start_of_life, sym, Take, Values, values_by, values_of, ℕ}
 use Rattle.psci_fw_spec.specs.After.{after}
-use Rattle.psci_fw_spec.specs.Answer.{answer}
-use Rattle.psci_fw_spec.specs.Exchange.{FwExchange}
-use Rattle.psci_fw_spec.specs.History.{values_of}
-use Rattle.psci_fw_spec.specs.Legal.{IsLegal}
-use Rattle.psci_fw_spec.specs.Lives.{start_of_life}
-use Rattle.psci_fw_spec.specs.Values.{Values}
-use Rattle.psci_fw_laws.specs.Renumbered.{ExchangedBy, HappenedBy, SparesBoot}
-use Rattle.psci_fw_laws.specs.Renumbered.{values_by}
+use Rattle.psci_fw_laws.specs.Renumbered.{ExchangedBy, HappenedBy}
 use Rattle.psci_fw_laws.proofs.Calling.{answer-by}
 use Rattle.psci_fw_laws.proofs.EntriesBy.{start_of_life-by}
 use Rattle.psci_fw_laws.proofs.Following.{after-by}

@@ -1,12 +1,9 @@
 -- A fold over numbers whose steps commute is the same over their other numbers.
-use Rattle.std.proofs.Common.{◌≡◌, ℕ, zero, suc, ◌+◌, ◌<◌, ◌≤◌, nat_lt, nat_le, Bool, true}
-use Rattle.std.proofs.Common.{false, ◌&&◌, if◌then◌else◌, refl, sym, ap, ◌∙◌, arith}
-use Rattle.std.proofs.Common.{inl, inr}
-use Rattle.std.specs.List.{range_with_len}
-use Rattle.std.proofs.lemmas.Bool.{cases_eq, cases_lt}
-use Rattle.psci_fw_laws.specs.Renumbered.{swap}
-use Rattle.psci_fw_laws.proofs.Folds.{Commutes, alike, fold}
-use Rattle.psci_fw_laws.proofs.Folds.{swapped-fold}
+use Rattle.std.proofs.Common.{nat_le}
+use Rattle.psci_fw_laws.proofs.Words.{◌&&◌, ◌+◌, ◌<◌, ◌∙◌, ◌≡◌, ◌≤◌, ap, arith, Bool, cases_eq}
+use Rattle.psci_fw_laws.proofs.Words.{cases_lt, false, if◌then◌else◌, inl, inr, nat_lt}
+use Rattle.psci_fw_laws.proofs.Words.{range_with_len, refl, suc, swap, sym, true, zero, ℕ}
+use Rattle.psci_fw_laws.proofs.Folds.{Commutes, alike, fold, swapped-fold}
 
 -- the first n numbers renumbered among themselves: those whose other number is one of them
 abbrev so_far : (ℕ → ℕ) → ℕ → ℕ → ℕ

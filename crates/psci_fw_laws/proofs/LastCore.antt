@@ -1,17 +1,14 @@
 -- The last-core check of renumbered cores.
-use Rattle.std.proofs.Common.{◌≡◌, ℕ, zero, suc, ◌-◌, ◌==◌, Bool, true, false, not, nat_lt}
-use Rattle.std.proofs.Common.{◌&&◌, ◌||◌, List, [], ◌∷◌, length, map, filter, flat_map, refl, sym}
-use Rattle.std.proofs.Common.{ap, ◌∙◌, arith, inl, inr}
-use Rattle.std.specs.List.{list_any, range_with_len}
-use Rattle.std.proofs.lemmas.Bool.{cases_Bool, lt-ltb}
+use Rattle.std.proofs.Common.{flat_map}
 use Rattle.std.proofs.lemmas.List.Concat.{flat_map-cons}
 use Rattle.std.proofs.lemmas.List.Folds.{list_any-append}
-use Rattle.psci_board.specs.Board.{BoardValue, height, up, first_child, children_at}
-use Rattle.psci_board.specs.declared.node.Node.{Node}
-use Rattle.psci_messages.specs.Claim.{own_wish}
+use Rattle.psci_fw_laws.proofs.Words.{◌&&◌, ◌-◌, ◌==◌, ◌||◌, ◌∙◌, ◌∷◌, ◌≡◌, [], ap, arith}
+use Rattle.psci_fw_laws.proofs.Words.{BoardValue, Bool, cases_Bool, children_at, false, filter}
+use Rattle.psci_fw_laws.proofs.Words.{first_child, height, inl, inr, length, List, list_any, lt-ltb}
+use Rattle.psci_fw_laws.proofs.Words.{map, nat_lt, Node, node_by, not, own_wish, PowerView}
+use Rattle.psci_fw_laws.proofs.Words.{range_with_len, refl, suc, sym, true, up, zero, ℕ}
 use Rattle.psci_messages.specs.LastCore.{last_core_check, refusal, shallow, shallow_at}
-use Rattle.psci_messages.specs.View.{PowerView, is_idle}
-use Rattle.psci_fw_laws.specs.Renumbered.{node_by}
+use Rattle.psci_messages.specs.View.{is_idle}
 use Rattle.psci_fw_laws.proofs.Counts.{list_any-fold, ors, ors-commutes}
 use Rattle.psci_fw_laws.proofs.Claims.{is_idle-by, own_claims-by, view_by}
 use Rattle.psci_fw_laws.proofs.Renumbering.{Renumbers, node_back}

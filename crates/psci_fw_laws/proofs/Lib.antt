@@ -54,4 +54,5 @@ pub mod Targets
 pub mod Told
 pub mod Twins
 pub mod ValueRows
+pub mod Words
 pub use Rattle.psci_fw_spec.proofs as fw_spec

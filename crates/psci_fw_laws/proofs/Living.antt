@@ -1,13 +1,7 @@
 -- A claim with the sum of all starts below as its generation.
-use Rattle.std.proofs.Common.{◌≡◌, ℕ, ◌≤◌, List, arith, sym, ◌∙◌}
-use Rattle.psci_board.specs.Board.{BoardValue, up}
-use Rattle.psci_board.specs.Laws.{PathLaws}
-use Rattle.psci_messages.specs.declared.part.Part.{Part}
-use Rattle.psci_messages.specs.Message.{MessageValue}
-use Rattle.psci_fw_spec.specs.Values.{Values}
-use Rattle.psci_fw_laws.specs.Claims.{IsClaimOn, IsCurrent}
-use Rattle.psci_fw_laws.specs.Kept.{Holds}
-use Rattle.psci_fw_laws.specs.KnownBelow.{known_below}
+use Rattle.psci_fw_laws.proofs.Words.{◌∙◌, ◌≡◌, ◌≤◌, arith, BoardValue, Holds, IsClaimOn, IsCurrent}
+use Rattle.psci_fw_laws.proofs.Words.{known_below, List, MessageValue, Part, PathLaws, sym, up}
+use Rattle.psci_fw_laws.proofs.Words.{Values, ℕ}
 use Rattle.psci_fw_laws.specs.Live.{AreLive}
 use Rattle.psci_fw_laws.proofs.Consequences.{equal_each}
 use Rattle.psci_fw_laws.proofs.Older.{claim_older}

@@ -1,21 +1,10 @@
 -- The laws of the crates below on which the laws of this crate stand.
-use Rattle.std.proofs.Common.{◌≡◌, ℕ, ◌<◌, false, List, None, Ok}
-use Rattle.psci_board.specs.Board.{BoardValue, cores}
-use Rattle.psci_board.specs.Laws.{PathLaws, SpanLaws, WordLaws}
-use Rattle.psci_messages.specs.declared.part.Part.{Part}
-use Rattle.psci_messages.specs.Laws.{BelowLaws, ClaimLaws, LastCoreLaws, PlatformLaws}
-use Rattle.psci_messages.specs.View.{PowerView}
-use Rattle.psci_messages.specs.Message.{AreClaims, PartByPart}
-use Rattle.psci_messages.specs.psci_state.Ask.{IsAsk}
-use Rattle.psci_messages.specs.declared.start.Start.{Start}
-use Rattle.psci_fw_spec.specs.After.{change}
-use Rattle.psci_fw_spec.specs.Changes.{PowerOn, with_arrival, with_pending}
-use Rattle.psci_fw_spec.specs.Claims.{off_parts, suspend_parts}
-use Rattle.psci_fw_spec.specs.Effects.{AsksOn, GoesOn}
-use Rattle.psci_fw_spec.specs.Invariant.{AreValues}
-use Rattle.psci_fw_spec.specs.Lives.{in_life, start_of_life}
-use Rattle.psci_fw_spec.specs.Phases.{Running}
-use Rattle.psci_fw_spec.specs.Values.{Values}
+use Rattle.psci_fw_laws.proofs.Words.{◌<◌, ◌≡◌, AreClaims, AreValues, AsksOn, BoardValue, change}
+use Rattle.psci_fw_laws.proofs.Words.{ClaimLaws, cores, false, GoesOn, in_life, IsAsk, List, None}
+use Rattle.psci_fw_laws.proofs.Words.{off_parts, Ok, Part, PartByPart, PathLaws, PowerOn, PowerView}
+use Rattle.psci_fw_laws.proofs.Words.{Running, SpanLaws, Start, start_of_life, suspend_parts}
+use Rattle.psci_fw_laws.proofs.Words.{Values, with_arrival, with_pending, WordLaws, ℕ}
+use Rattle.psci_messages.specs.Laws.{BelowLaws, LastCoreLaws, PlatformLaws}
 
 -- What holds of a board, of claims on it, and of what the firmware answers.
 pub record LowerLaws (b : BoardValue) : Type 0 where

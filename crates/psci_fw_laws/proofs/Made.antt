@@ -1,33 +1,22 @@
 -- What a core that stops sends.
-use Rattle.std.proofs.Common.{◌≡◌, ℕ, zero, suc, ◌+◌, ◌<◌, ◌≤◌, false, List, length}
-use Rattle.std.proofs.Common.{Some, Ok, refl, arith, subst, ap, sym, ◌∙◌}
-use Rattle.std.specs.Prelude.{slice_get, slice_index}
-use Rattle.std.proofs.lemmas.Bool.{cond-true, cond_both, eq-eqb, le-leb}
+use Rattle.std.proofs.lemmas.Bool.{le-leb}
 use Rattle.std.proofs.lemmas.Option.{slice_get_within}
-use Rattle.psci_board.specs.Board.{BoardValue, cores, height, up}
-use Rattle.psci_board.specs.Laws.{PathLaws}
-use Rattle.psci_messages.specs.Claim.{claims_of, least_wish, off_wish, own_wish, platform_claims}
-use Rattle.psci_messages.specs.declared.part.Part.{Part}
-use Rattle.psci_messages.specs.Laws.{ClaimLaws}
-use Rattle.psci_messages.specs.View.{domain_of, generation}
-use Rattle.psci_messages.specs.declared.kind.Kind.TheVariants.{Down}
-use Rattle.psci_messages.specs.Message.{AreClaims, MessageValue}
-use Rattle.psci_messages.specs.psci_state.Cores.{asks}
-use Rattle.psci_fw_spec.specs.declared.mode.SuspendMode.{SuspendMode}
-use Rattle.psci_fw_spec.specs.declared.mode.SuspendMode.TheVariants.{Platform, OsInitiated}
-use Rattle.psci_fw_spec.specs.Changes.{with_claims, with_phase}
-use Rattle.psci_fw_spec.specs.Claims.{leaving_claims, off_parts, suspend_claims, suspend_parts}
-use Rattle.psci_fw_spec.specs.Invariant.{AreValues}
-use Rattle.psci_fw_spec.specs.Outcomes.{message_for}
-use Rattle.psci_fw_spec.specs.Phases.{Away, Pending, Running, Suspended, activity_of}
-use Rattle.psci_fw_spec.specs.Phases.{unless_pending}
-use Rattle.psci_fw_spec.specs.Values.{Values}
-use Rattle.psci_fw_spec.specs.Views.{ask, view}
+use Rattle.psci_fw_laws.proofs.Words.{◌+◌, ◌<◌, ◌∙◌, ◌≡◌, ◌≤◌, activity_of, ap, AreClaims}
+use Rattle.psci_fw_laws.proofs.Words.{AreValues, arith, ask, asks, Away, BoardValue, ClaimLaws}
+use Rattle.psci_fw_laws.proofs.Words.{cond-true, cond_both, cores, domain_of, Down, eq-eqb, false}
+use Rattle.psci_fw_laws.proofs.Words.{height, IsNewClaim, known_on, least_wish, leaving_claims}
+use Rattle.psci_fw_laws.proofs.Words.{length, List, message_for, MessageValue, off_wish, Ok}
+use Rattle.psci_fw_laws.proofs.Words.{OsInitiated, own_wish, Part, PathLaws, Pending, Platform}
+use Rattle.psci_fw_laws.proofs.Words.{platform_claims, refl, Running, slice_get, slice_index, Some}
+use Rattle.psci_fw_laws.proofs.Words.{subst, suc, suspend_claims, Suspended, SuspendMode, sym}
+use Rattle.psci_fw_laws.proofs.Words.{unless_pending, up, Values, with_claims, with_phase, zero, ℕ}
+use Rattle.psci_messages.specs.Claim.{claims_of}
+use Rattle.psci_messages.specs.View.{generation}
+use Rattle.psci_fw_spec.specs.Claims.{off_parts, suspend_parts}
+use Rattle.psci_fw_spec.specs.Views.{view}
 use Rattle.psci_fw_laws.specs.KnownBelow.{known_below}
-use Rattle.psci_fw_laws.specs.Messages.{known_on}
 use Rattle.psci_fw_laws.proofs.Lower.{LowerLaws}
 use Rattle.psci_fw_laws.proofs.Parts.{part_has, updated_here}
-use Rattle.psci_fw_laws.specs.Allowed.{IsNewClaim}
 use Rattle.psci_fw_laws.proofs.Sums.{known_most, known_own, known_rises}
 
 -- The parts of a claim: no more than there are levels, each of its domain's generation.

@@ -1,20 +1,9 @@
 -- Each Down was asked for when it was sent.
-use Rattle.std.proofs.Common.{◌≡◌, ℕ, zero, suc, List, [], ◌∷◌, ◌++◌, Option, None, Some}
-use Rattle.std.proofs.Common.{refl, subst, ap, sym, ◌∙◌}
-use Rattle.std.specs.Prelude.{slice_get}
-use Rattle.psci_board.specs.Board.{BoardValue}
-use Rattle.psci_messages.specs.declared.kind.Kind.TheVariants.{Down}
-use Rattle.psci_messages.specs.Message.{MessageValue}
-use Rattle.psci_fw_spec.specs.After.{change}
-use Rattle.psci_fw_spec.specs.Effects.{Effect, AsksOn, Rests, Halts}
-use Rattle.psci_fw_spec.specs.Effects.{Parks}
-use Rattle.psci_fw_spec.specs.Exchange.{FwExchange, effect}
-use Rattle.psci_fw_spec.specs.History.{values_of}
-use Rattle.psci_fw_spec.specs.Legal.{IsLegal}
-use Rattle.psci_fw_spec.specs.Said.{listed, sent}
+use Rattle.psci_fw_laws.proofs.Words.{◌++◌, ◌∙◌, ◌∷◌, ◌≡◌, [], ap, AsksOn, BoardValue, change, Down}
+use Rattle.psci_fw_laws.proofs.Words.{Effect, effect, FwExchange, Halts, IsAllowed, IsLegal, List}
+use Rattle.psci_fw_laws.proofs.Words.{listed, MessageValue, None, Option, Parks, refl, Rests, sent}
+use Rattle.psci_fw_laws.proofs.Words.{slice_get, Some, subst, suc, sym, Values, values_of, zero, ℕ}
 use Rattle.psci_fw_spec.specs.Sent.{sent_messages}
-use Rattle.psci_fw_spec.specs.Values.{Values}
-use Rattle.psci_fw_laws.specs.Allowed.{IsAllowed}
 use Rattle.psci_fw_laws.specs.Asked.{IsAskedFor, WasAsked}
 use Rattle.psci_fw_laws.proofs.Started.{not_down}
 

@@ -1,22 +1,13 @@
 -- The entry that begins a life, whatever was kept before.
-use Rattle.std.proofs.Common.{◌≡◌, ◌<◌, ◌==◌, ℕ, false, Option, None, Some, arith, ap, refl}
 use Rattle.std.specs.Prelude.{nat_lt}
-use Rattle.psci_board.specs.Board.{BoardValue}
-use Rattle.psci_messages.specs.declared.start.Start.{Start}
-use Rattle.psci_messages.specs.Message.{MessageValue}
-use Rattle.psci_fw_spec.specs.declared.call.FwCall.TheVariants.{Enter}
-use Rattle.psci_fw_spec.specs.declared.outcome.Act.{Act}
-use Rattle.psci_fw_spec.specs.declared.outcome.Act.TheVariants as acts
-use Rattle.psci_fw_spec.specs.declared.outcome.Outcome.{Outcome}
-use Rattle.psci_fw_spec.specs.declared.reply.FwReply.TheVariants.{Out}
-use Rattle.psci_fw_spec.specs.After.{after, change}
+use Rattle.psci_fw_laws.proofs.Words.{◌<◌, ◌==◌, ◌≡◌, Act, ap, arith, Away, BoardValue, change}
+use Rattle.psci_fw_laws.proofs.Words.{Enter, enter_effect, false, MessageValue, None, Option, Out}
+use Rattle.psci_fw_laws.proofs.Words.{Outcome, refl, Some, Start, start_of_life, Values}
+use Rattle.psci_fw_laws.proofs.Words.{with_arrival, with_claims, with_phase, with_running, ℕ}
+use Rattle.psci_fw_spec.specs.After.{after}
 use Rattle.psci_fw_spec.specs.Answer.{answer}
-use Rattle.psci_fw_spec.specs.Changes.{with_arrival, with_claims, with_phase, with_running}
-use Rattle.psci_fw_spec.specs.Effects.{enter_effect}
 use Rattle.psci_fw_spec.specs.Entering.{enter_outcome}
-use Rattle.psci_fw_spec.specs.Lives.{start_of_life}
-use Rattle.psci_fw_spec.specs.Phases.{Away}
-use Rattle.psci_fw_spec.specs.Values.{Values}
+use Rattle.psci_fw_spec.specs.declared.outcome.Act.TheVariants as acts
 
 -- a later life is another one, and no earlier one
 another : (life later : ℕ) → life < later → (later == life) ≡ false

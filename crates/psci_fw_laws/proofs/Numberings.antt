@@ -1,15 +1,11 @@
 -- What is folded over all cores, and over the children of a node, is the same of renumbered ones.
-use Rattle.std.proofs.Common.{◌≡◌, ℕ, suc, ◌+◌, ◌-◌, ◌==◌, ◌<◌, ◌≤◌, Bool}
-use Rattle.std.proofs.Common.{if◌then◌else◌, List, [], get_or, refl, sym, ap}
-use Rattle.std.proofs.Common.{◌∙◌, arith, inl, inr}
-use Rattle.std.specs.List.{range_with_len}
-use Rattle.std.proofs.lemmas.Bool.{cases_eq, cases_lt, eq-eqb, lt-ltb, ltb-true, ne_eqb}
+use Rattle.std.proofs.Common.{get_or}
 use Rattle.std.proofs.lemmas.List.{get_or_past}
-use Rattle.psci_board.specs.Board.{BoardValue, HasNode, cores, height, nodes, up, first_child}
-use Rattle.psci_board.specs.Board.{children_at}
-use Rattle.psci_board.specs.declared.node.Node.{Node}
-use Rattle.psci_board.specs.Laws.{ChildLaws, PathLaws}
-use Rattle.psci_fw_laws.specs.Renumbered.{IsRenumbering}
+use Rattle.psci_fw_laws.proofs.Words.{◌+◌, ◌-◌, ◌<◌, ◌==◌, ◌∙◌, ◌≡◌, ◌≤◌, [], ap, arith, BoardValue}
+use Rattle.psci_fw_laws.proofs.Words.{Bool, cases_eq, cases_lt, ChildLaws, children_at, cores}
+use Rattle.psci_fw_laws.proofs.Words.{eq-eqb, first_child, HasNode, height, if◌then◌else◌, inl, inr}
+use Rattle.psci_fw_laws.proofs.Words.{IsRenumbering, List, lt-ltb, ltb-true, ne_eqb, Node, nodes}
+use Rattle.psci_fw_laws.proofs.Words.{PathLaws, range_with_len, refl, suc, sym, up, ℕ}
 use Rattle.psci_fw_laws.proofs.Folds.{Commutes, alike, fold}
 use Rattle.psci_fw_laws.proofs.Counts.{passing-commutes}
 use Rattle.psci_fw_laws.proofs.Involutions.{fold-other, fold-window, is_within, is_within-false}

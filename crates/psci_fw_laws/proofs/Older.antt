@@ -1,13 +1,8 @@
 -- No claim is above the known starts below its domain.
-use Rattle.std.proofs.Common.{◌≡◌, ℕ, ◌<◌, ◌≤◌, inl, inr, Bool, List, arith, subst, ap, sym}
-use Rattle.psci_board.specs.Board.{BoardValue, cores, up}
-use Rattle.psci_messages.specs.declared.part.Part.{Part}
-use Rattle.psci_messages.specs.Message.{MessageValue}
-use Rattle.psci_fw_spec.specs.Phases.{Phase, Running}
-use Rattle.psci_fw_spec.specs.Values.{updated}
-use Rattle.psci_fw_laws.specs.KnownBelow.{known_below}
-use Rattle.psci_fw_laws.specs.Claims.{AreQuiet, IsClaimOn, IsFromMessage}
-use Rattle.psci_fw_laws.specs.Messages.{AreSent}
+use Rattle.psci_fw_laws.proofs.Words.{◌<◌, ◌≡◌, ◌≤◌, ap, AreQuiet, AreSent, arith, BoardValue, Bool}
+use Rattle.psci_fw_laws.proofs.Words.{cores, inl, inr, IsClaimOn, IsFromMessage, known_below, List}
+use Rattle.psci_fw_laws.proofs.Words.{MessageValue, Part, Phase, Running, subst, sym, up, updated}
+use Rattle.psci_fw_laws.proofs.Words.{ℕ}
 use Rattle.psci_fw_laws.proofs.Parts.{part_has, updated_at, updated_here, updated_there}
 use Rattle.psci_fw_laws.proofs.Sums.{known_less, known_same}
 

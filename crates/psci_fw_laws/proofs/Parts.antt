@@ -1,17 +1,9 @@
 -- Which messages claim something of a domain.
-use Rattle.std.proofs.Common.{◌≡◌, ℕ, zero, suc, ◌⊎◌, inl, inr, Bool, true, false}
-use Rattle.std.proofs.Common.{◌==◌, ◌&&◌, cond, List, ◌∷◌, Option, None, Some, refl, ap}
-use Rattle.std.proofs.Common.{subst}
-use Rattle.std.specs.Prelude.{slice_get}
-use Rattle.std.proofs.lemmas.Bool.{and_from, and_parts, cond_both, eq-eqb, eqb-false, eqb-true}
-use Rattle.psci_board.specs.Board.{BoardValue, up}
-use Rattle.psci_messages.specs.declared.part.Part.{Part}
-use Rattle.psci_messages.specs.declared.kind.Kind.{Kind}
-use Rattle.psci_messages.specs.declared.kind.Kind.TheVariants.{Down}
-use Rattle.psci_messages.specs.Message.{MessageValue}
-use Rattle.psci_messages.specs.Slots.{is_kind}
-use Rattle.psci_fw_spec.specs.Values.{updated}
-use Rattle.psci_fw_laws.specs.Claims.{IsClaimOn, IsFromMessage, part_for}
+use Rattle.psci_fw_laws.proofs.Words.{◌&&◌, ◌==◌, ◌∷◌, ◌≡◌, ◌⊎◌, and_from, and_parts, ap}
+use Rattle.psci_fw_laws.proofs.Words.{BoardValue, Bool, cond, cond_both, Down, eq-eqb, eqb-false}
+use Rattle.psci_fw_laws.proofs.Words.{eqb-true, false, inl, inr, is_kind, IsClaimOn, IsFromMessage}
+use Rattle.psci_fw_laws.proofs.Words.{Kind, List, MessageValue, None, Option, Part, part_for, refl}
+use Rattle.psci_fw_laws.proofs.Words.{slice_get, Some, subst, suc, true, up, updated, zero, ℕ}
 
 -- A function updated at one core ---------------------------------------------------------------
 

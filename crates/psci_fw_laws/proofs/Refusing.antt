@@ -1,18 +1,15 @@
 -- Why an OS-initiated request is refused, exactly.
-use Rattle.std.proofs.Common.{◌≡◌, ℕ, zero, suc, ◌+◌, ◌-◌, ◌<◌, ◌≤◌, Bool, true, false, not, ◌==◌}
-use Rattle.std.proofs.Common.{cond, List, length, None, Some, Ok, Err, refl, ap}
-use Rattle.std.proofs.Common.{sym, ◌∙◌, subst, arith, inl, inr}
-use Rattle.std.specs.Prelude.{nat_lt, slice_index}
-use Rattle.std.specs.List.{list_any, range_with_len}
-use Rattle.std.proofs.lemmas.Bool.{and_from, and_parts, cases_Bool, eq-eqb, eqb-true}
-use Rattle.std.proofs.lemmas.Bool.{lt-ltb, ltb-true, ne_eqb}
-use Rattle.psci_board.specs.Board.{BoardValue, children_at, cores, first_child, height, nodes, up}
-use Rattle.psci_board.specs.Laws.{ChildLaws, PathLaws}
-use Rattle.psci_board.specs.declared.node.Node.{Node}
-use Rattle.psci_messages.specs.declared.part.Part.{Part}
-use Rattle.psci_messages.specs.Claim.{own_claims, own_wish}
+use Rattle.std.specs.Prelude.{nat_lt}
+use Rattle.psci_fw_laws.proofs.Words.{◌+◌, ◌-◌, ◌<◌, ◌==◌, ◌∙◌, ◌≡◌, ◌≤◌, and_from, and_parts, ap}
+use Rattle.psci_fw_laws.proofs.Words.{arith, BoardValue, Bool, cases_Bool, ChildLaws, children_at}
+use Rattle.psci_fw_laws.proofs.Words.{cond, cores, eq-eqb, eqb-true, Err, false, first_child}
+use Rattle.psci_fw_laws.proofs.Words.{height, inl, inr, length, List, list_any, lt-ltb, ltb-true}
+use Rattle.psci_fw_laws.proofs.Words.{ne_eqb, Node, nodes, None, not, Ok, own_claims, own_wish}
+use Rattle.psci_fw_laws.proofs.Words.{Part, PathLaws, PowerView, range_with_len, refl, slice_index}
+use Rattle.psci_fw_laws.proofs.Words.{Some, subst, suc, sym, true, zero, ℕ}
+use Rattle.psci_board.specs.Board.{up}
 use Rattle.psci_messages.specs.LastCore.{answer_by, last_core_check, refusal, shallow, shallow_at}
-use Rattle.psci_messages.specs.View.{PowerView, is_idle}
+use Rattle.psci_messages.specs.View.{is_idle}
 use Rattle.psci_messages.specs.declared.osi.Osi.TheVariants.{Denied, Invalid}
 use Rattle.psci_fw_laws.specs.Beside.{AreAwake, HasSleeper, IsInTheWay, NobodyAwake}
 use Rattle.psci_fw_laws.proofs.Passing.{all_one, any_one, one_all, one_any}

@@ -1,18 +1,13 @@
 -- What a renumbering keeps, and what is counted below a domain and over all cores.
-use Rattle.std.proofs.Common.{arith}
-use Rattle.std.proofs.Common.{◌≡◌, ℕ, suc, ◌==◌, nat_lt, Bool}
-use Rattle.std.proofs.Common.{map, sym, ap, ◌∙◌}
-use Rattle.std.specs.List.{range_with_len, sum_by, list_all, list_any}
-use Rattle.psci_board.specs.Board.{BoardValue, below, cores, nodes, up, first_child}
-use Rattle.psci_board.specs.Board.{children_at}
-use Rattle.psci_board.specs.declared.node.Node.{Node}
-use Rattle.psci_messages.specs.psci_state.Ask.{least}
-use Rattle.psci_fw_laws.specs.Renumbered.{node_by}
+use Rattle.psci_fw_laws.proofs.Words.{◌==◌, ◌∙◌, ◌≡◌, ap, arith, below, BoardValue, Bool}
+use Rattle.psci_fw_laws.proofs.Words.{children_at, cores, first_child, least, list_all, list_any}
+use Rattle.psci_fw_laws.proofs.Words.{map, nat_lt, Node, node_by, nodes, range_with_len, suc}
+use Rattle.psci_fw_laws.proofs.Words.{sum_by, sym, ℕ}
+use Rattle.psci_board.specs.Board.{up}
 use Rattle.psci_fw_laws.proofs.Folds.{Commutes, fold}
-use Rattle.psci_fw_laws.proofs.Counts.{adds-commutes, ands-commutes, fold-filter}
-use Rattle.psci_fw_laws.proofs.Counts.{least-fold, lessens-commutes, list_all-fold}
-use Rattle.psci_fw_laws.proofs.Counts.{list_any-fold, ors-commutes, passing}
-use Rattle.psci_fw_laws.proofs.Counts.{passing-commutes, sum_by-fold}
+use Rattle.psci_fw_laws.proofs.Counts.{adds-commutes, ands-commutes, fold-filter, least-fold}
+use Rattle.psci_fw_laws.proofs.Counts.{lessens-commutes, list_all-fold, list_any-fold, ors-commutes}
+use Rattle.psci_fw_laws.proofs.Counts.{passing, passing-commutes, sum_by-fold}
 
 -- What a renumbering keeps of a board.
 pub record Renumbers (b : BoardValue) (s : ℕ → ℕ → ℕ) : Type 1 where

@@ -1,24 +1,13 @@
 -- A core that runs stops, and sends what it claims.
-use Rattle.std.proofs.Common.{◌≡◌, ℕ, ◌+◌, ◌<◌, inr, true, List, ◌∷◌, Some, refl}
-use Rattle.std.proofs.Common.{arith, subst, ap, sym, ◌∙◌}
-use Rattle.std.specs.Prelude.{slice_get}
-use Rattle.psci_board.specs.Board.{BoardValue, cores, up}
-use Rattle.psci_board.specs.Laws.{PathLaws, SpanLaws}
-use Rattle.psci_messages.specs.declared.part.Part.{Part}
-use Rattle.psci_messages.specs.declared.kind.Kind.{Kind}
-use Rattle.psci_messages.specs.declared.kind.Kind.TheVariants.{Down, Start}
-use Rattle.psci_messages.specs.Message.{MessageValue}
-use Rattle.psci_messages.specs.Slots.{slot_of}
-use Rattle.psci_fw_spec.specs.Changes.{with_claims, with_phase}
-use Rattle.psci_fw_spec.specs.Phases.{Phase, Pending, Running, unless_pending}
-use Rattle.psci_fw_spec.specs.Values.{Values}
-use Rattle.psci_fw_laws.specs.Allowed.{IsNewClaim}
-use Rattle.psci_fw_laws.specs.KnownBelow.{known_below}
-use Rattle.psci_fw_laws.specs.Messages.{IsSent, is_system}
-use Rattle.psci_fw_laws.specs.Outstanding.{IsOfCore}
+use Rattle.psci_fw_laws.proofs.Words.{◌+◌, ◌<◌, ◌∙◌, ◌∷◌, ◌≡◌, ap, arith, BoardValue, cores, Down}
+use Rattle.psci_fw_laws.proofs.Words.{Holds, inr, is_system, IsNewClaim, IsOfCore, IsSent, Kind}
+use Rattle.psci_fw_laws.proofs.Words.{known_below, List, MessageValue, Part, PathLaws, Pending}
+use Rattle.psci_fw_laws.proofs.Words.{Phase, refl, Running, slice_get, slot_of, Some, SpanLaws}
+use Rattle.psci_fw_laws.proofs.Words.{subst, sym, true, unless_pending, up, Values, with_claims}
+use Rattle.psci_fw_laws.proofs.Words.{with_phase, ℕ}
+use Rattle.psci_messages.specs.declared.kind.Kind.TheVariants.{Start}
 use Rattle.psci_fw_laws.proofs.Claiming.{IsNewDown, above_down, apart_new, quiet_new, quiet_phase}
 use Rattle.psci_fw_laws.proofs.Granting.{granted_claim, granted_phase}
-use Rattle.psci_fw_laws.specs.Kept.{Holds}
 use Rattle.psci_fw_laws.proofs.Older.{NoneCurrent}
 use Rattle.psci_fw_laws.proofs.Parts.{part_from}
 use Rattle.psci_fw_laws.proofs.Sending.{sent_new, sent_phase}

@@ -1,20 +1,11 @@
 -- A function that returns changes nothing but the mode.
-use Rattle.std.proofs.Common.{ℕ, Bool, true, false, cond}
-use Rattle.std.proofs.Common.{None, Some}
-use Rattle.std.specs.Ordering.{int_eq}
+use Rattle.psci_fw_laws.proofs.Words.{BoardValue, Bool, Code, cond, Effect, false, function_effect}
+use Rattle.psci_fw_laws.proofs.Words.{GoesOn, int_eq, IsAllowed, IsCalling, mode_effect, mode_of}
+use Rattle.psci_fw_laws.proofs.Words.{None, Outcome, Request, Some, true, Values, ℕ}
 use Rattle.psci_fw_spec.specs.psci_abi.Codes.{success}
-use Rattle.psci_fw_spec.specs.psci_abi.declared.code.Code.{Code}
-use Rattle.psci_fw_spec.specs.psci_abi.declared.request.Request.{Request}
-use Rattle.psci_fw_spec.specs.psci_abi.declared.request.Request.TheVariants as requests
-use Rattle.psci_board.specs.Board.{BoardValue}
-use Rattle.psci_fw_spec.specs.declared.outcome.Act.TheVariants as acts
-use Rattle.psci_fw_spec.specs.declared.outcome.Outcome.{Outcome}
-use Rattle.psci_fw_spec.specs.Effects.{Effect, GoesOn, function_effect}
-use Rattle.psci_fw_spec.specs.Effects.{mode_effect}
-use Rattle.psci_fw_spec.specs.SuspendMode.{mode_of}
-use Rattle.psci_fw_spec.specs.Values.{Values}
-use Rattle.psci_fw_laws.specs.Allowed.{IsAllowed, IsCalling}
 use Rattle.psci_fw_laws.proofs.Allowing.{Allows}
+use Rattle.psci_fw_spec.specs.psci_abi.declared.request.Request.TheVariants as requests
+use Rattle.psci_fw_spec.specs.declared.outcome.Act.TheVariants as acts
 
 -- what a function comes down to that ended so
 abbrev pub outcome_effect : BoardValue → ℕ → Request → Outcome → Effect

@@ -1,29 +1,22 @@
 -- Functions that return to their caller, of renumbered cores.
-use Rattle.std.proofs.Common.{◌≡◌, ℕ, zero, suc, ◌==◌, Bool, true, false, not}
-use Rattle.std.proofs.Common.{[], refl, ap, arith, if◌then◌else◌}
-use Rattle.std.proofs.Common.{Option, None, Some, Ok, Err}
-use Rattle.std.specs.Prelude.{option_map}
-use Rattle.std.proofs.lemmas.Bool.{ne_eqb}
-use Rattle.psci_abi.specs.Codes.{internal_failure, invalid_address}
-use Rattle.psci_board.specs.Board.{BoardValue, below, core_of, has_node, may_enter}
-use Rattle.psci_board.specs.declared.node.Core.{Core}
-use Rattle.psci_board.specs.declared.node.Node.{Node}
-use Rattle.psci_messages.specs.declared.kind.Kind.TheVariants as kinds
-use Rattle.psci_fw_spec.specs.declared.mode.SuspendMode.{SuspendMode}
-use Rattle.psci_fw_spec.specs.declared.mode.SuspendMode.TheVariants.{Platform, OsInitiated}
-use Rattle.psci_fw_spec.specs.declared.status.Status.{Status}
-use Rattle.psci_fw_spec.specs.declared.status.Status.TheVariants as statuses
-use Rattle.psci_fw_spec.specs.AffinityInfo.{affinity_of, is_on, is_pending_status, node_status}
+use Rattle.psci_fw_laws.proofs.Words.{◌==◌, ◌≡◌, [], ap, arith, below, BoardValue, Bool, Core}
+use Rattle.psci_fw_laws.proofs.Words.{core_by, core_of, Err, false, has_node, if◌then◌else◌}
+use Rattle.psci_fw_laws.proofs.Words.{invalid_address, is_away, is_on, may_enter, ne_eqb, Node}
+use Rattle.psci_fw_laws.proofs.Words.{node_by, None, not, off_target, Ok, Option, option_map}
+use Rattle.psci_fw_laws.proofs.Words.{OsInitiated, outcome_by, Platform, refl, returns, Some}
+use Rattle.psci_fw_laws.proofs.Words.{start_outcome, Status, suc, SuspendMode, target_among, true}
+use Rattle.psci_fw_laws.proofs.Words.{Values, values_by, zero, ℕ}
+use Rattle.psci_abi.specs.Codes.{internal_failure}
+use Rattle.psci_fw_spec.specs.AffinityInfo.{affinity_of, is_pending_status, node_status}
 use Rattle.psci_fw_spec.specs.AffinityInfo.{status_over}
-use Rattle.psci_fw_spec.specs.CpuOn.{cpu_on, off_target, start_outcome, target_among, target_of}
+use Rattle.psci_fw_spec.specs.CpuOn.{cpu_on, target_of}
 use Rattle.psci_fw_spec.specs.NodeHwState.{hw_state_of}
-use Rattle.psci_fw_spec.specs.Outcomes.{returns}
-use Rattle.psci_fw_spec.specs.Phases.{is_away, is_suspended_or_pending}
+use Rattle.psci_fw_spec.specs.Phases.{is_suspended_or_pending}
 use Rattle.psci_fw_spec.specs.SuspendMode.{may_set, mode_asked}
-use Rattle.psci_fw_spec.specs.Values.{Values}
-use Rattle.psci_fw_laws.specs.Renumbered.{core_by, node_by, outcome_by, values_by}
 use Rattle.psci_fw_laws.proofs.Renumbering.{any-below, any-cores, Renumbers}
 use Rattle.psci_fw_laws.proofs.StoppingBy.{all_others-by, message_for-by}
+use Rattle.psci_messages.specs.declared.kind.Kind.TheVariants as kinds
+use Rattle.psci_fw_spec.specs.declared.status.Status.TheVariants as statuses
 
 -- AFFINITY_INFO ---------------------------------------------------------------------------------
 

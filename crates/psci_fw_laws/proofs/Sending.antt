@@ -1,16 +1,9 @@
 -- What is said of each message stays so.
-use Rattle.std.proofs.Common.{◌≡◌, ℕ, zero, suc, ◌<◌, ◌≤◌, Bool, true, List, ◌∷◌}
-use Rattle.std.proofs.Common.{Some, arith, ap, ◌∙◌}
-use Rattle.std.specs.Prelude.{slice_get}
-use Rattle.psci_board.specs.Board.{BoardValue, up}
-use Rattle.psci_board.specs.Laws.{PathLaws}
-use Rattle.psci_messages.specs.declared.part.Part.{Part}
-use Rattle.psci_messages.specs.declared.kind.Kind.TheVariants.{Down, Start}
-use Rattle.psci_messages.specs.Message.{MessageValue}
-use Rattle.psci_messages.specs.psci_state.Cores.{asks}
-use Rattle.psci_fw_spec.specs.Phases.{Phase, Pending, activity_of}
-use Rattle.psci_fw_spec.specs.Values.{updated}
-use Rattle.psci_fw_laws.specs.Messages.{AreSent, IsSent}
+use Rattle.psci_fw_laws.proofs.Words.{◌<◌, ◌∙◌, ◌∷◌, ◌≡◌, ◌≤◌, activity_of, ap, AreSent, arith}
+use Rattle.psci_fw_laws.proofs.Words.{asks, BoardValue, Bool, Down, IsSent, List, MessageValue}
+use Rattle.psci_fw_laws.proofs.Words.{Part, PathLaws, Pending, Phase, slice_get, Some, suc, true}
+use Rattle.psci_fw_laws.proofs.Words.{up, updated, zero, ℕ}
+use Rattle.psci_messages.specs.declared.kind.Kind.TheVariants.{Start}
 use Rattle.psci_fw_laws.proofs.Parts.{updated_at}
 use Rattle.psci_fw_laws.proofs.Sums.{known_gap, known_le}
 

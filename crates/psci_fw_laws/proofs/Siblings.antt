@@ -1,11 +1,7 @@
 -- To swap two cores of one cluster is a renumbering of the board.
-use Rattle.std.proofs.Common.{arith}
-use Rattle.std.proofs.Common.{◌≡◌, ℕ, zero, suc, nat_lt}
-use Rattle.std.proofs.Common.{refl, sym, ap, ◌∙◌}
-use Rattle.std.proofs.lemmas.Bool.{lt-ltb}
-use Rattle.psci_board.specs.Board.{BoardValue, nodes, up}
-use Rattle.psci_board.specs.Laws.{PathLaws}
-use Rattle.psci_fw_laws.specs.Renumbered.{AreSiblings, IsRenumbering, swap, swap_cores}
+use Rattle.psci_fw_laws.proofs.Words.{◌∙◌, ◌≡◌, ap, arith, BoardValue, IsRenumbering, lt-ltb}
+use Rattle.psci_fw_laws.proofs.Words.{nat_lt, nodes, PathLaws, refl, suc, swap, sym, up, zero, ℕ}
+use Rattle.psci_fw_laws.specs.Renumbered.{AreSiblings, swap_cores}
 use Rattle.psci_fw_laws.proofs.Folds.{swap-back}
 
 -- a function that says the same of both says the same of each core and its other number

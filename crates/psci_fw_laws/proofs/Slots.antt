@@ -1,15 +1,11 @@
 -- What is outstanding, after each change.
-use Rattle.std.proofs.Common.{◌≡◌, ℕ, suc, true, false, List, ◌∷◌}
-use Rattle.std.proofs.Common.{◌==◌, Option, None, Some, refl, subst, ap, sym, ◌∙◌}
-use Rattle.std.proofs.lemmas.Bool.{cond_both, eqb-true, eqb-false}
-use Rattle.psci_messages.specs.declared.kind.Kind.TheVariants.{Down, Start}
-use Rattle.psci_messages.specs.Message.{AckValue, MessageValue}
-use Rattle.psci_messages.specs.Slots.{Acknowledge, Clear, Put, OfCore, OfSystem, Slot, changed}
-use Rattle.psci_messages.specs.Slots.{is_slot, left_by, slot_of}
-use Rattle.psci_fw_spec.specs.Phases.{Phase, Pending}
-use Rattle.psci_fw_spec.specs.Values.{updated}
-use Rattle.psci_fw_laws.specs.Messages.{is_system}
-use Rattle.psci_fw_laws.specs.Outstanding.{AreOutstanding, IsOfCore, IsOfLife}
+use Rattle.psci_fw_laws.proofs.Words.{◌==◌, ◌∙◌, ◌∷◌, ◌≡◌, Acknowledge, AckValue, ap, changed}
+use Rattle.psci_fw_laws.proofs.Words.{Clear, cond_both, Down, eqb-false, eqb-true, false, is_slot}
+use Rattle.psci_fw_laws.proofs.Words.{is_system, IsOfCore, IsOfLife, left_by, List, MessageValue}
+use Rattle.psci_fw_laws.proofs.Words.{None, OfCore, OfSystem, Option, Pending, Phase, Put, refl}
+use Rattle.psci_fw_laws.proofs.Words.{Slot, slot_of, Some, subst, suc, sym, true, updated, ℕ}
+use Rattle.psci_messages.specs.declared.kind.Kind.TheVariants.{Start}
+use Rattle.psci_fw_laws.specs.Outstanding.{AreOutstanding}
 use Rattle.psci_fw_laws.proofs.Parts.{updated_at, updated_there}
 
 of_life_more : (life : ℕ) (sent : List MessageValue) (m n : MessageValue) → IsOfLife life sent n

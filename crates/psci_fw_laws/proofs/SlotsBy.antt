@@ -1,20 +1,12 @@
 -- Outstanding messages of renumbered cores.
-use Rattle.std.proofs.Common.{arith, ◌==◌}
-use Rattle.std.proofs.Common.{◌≡◌, ℕ, Bool, true, false, ◌&&◌, refl, sym, ap}
-use Rattle.std.proofs.Common.{if◌then◌else◌, Option, None, Some}
-use Rattle.std.specs.Prelude.{option_map}
-use Rattle.psci_board.specs.declared.node.Core.{Core}
-use Rattle.psci_messages.specs.declared.kind.Kind.{Kind}
-use Rattle.psci_messages.specs.declared.kind.Kind.TheVariants.{Down}
-use Rattle.psci_messages.specs.Message.{AckValue, MessageValue}
-use Rattle.psci_messages.specs.Slots.{Acknowledge, Change, Clear, ClearAll, OfCore, OfSystem, Put}
-use Rattle.psci_messages.specs.Slots.{Slot}
-use Rattle.psci_messages.specs.Slots.{answers, changed, is_done, is_slot, left_by, slot_of}
-use Rattle.psci_messages.specs.Slots.{taken}
-use Rattle.psci_fw_spec.specs.Changes.{with_slots}
-use Rattle.psci_fw_spec.specs.Values.{Values}
-use Rattle.psci_fw_laws.specs.Renumbered.{acknowledgement_by, core_by, message_by, slot_by}
-use Rattle.psci_fw_laws.specs.Renumbered.{values_by}
+use Rattle.psci_fw_laws.proofs.Words.{◌&&◌, ◌==◌, ◌≡◌, Acknowledge, acknowledgement_by, AckValue}
+use Rattle.psci_fw_laws.proofs.Words.{answers, ap, arith, Bool, changed, Clear, Core, core_by, Down}
+use Rattle.psci_fw_laws.proofs.Words.{false, if◌then◌else◌, is_slot, Kind, left_by, message_by}
+use Rattle.psci_fw_laws.proofs.Words.{MessageValue, None, OfCore, OfSystem, Option, option_map, Put}
+use Rattle.psci_fw_laws.proofs.Words.{refl, Slot, slot_of, Some, sym, taken, true, Values}
+use Rattle.psci_fw_laws.proofs.Words.{values_by, with_slots, ℕ}
+use Rattle.psci_messages.specs.Slots.{Change, ClearAll, is_done}
+use Rattle.psci_fw_laws.specs.Renumbered.{slot_by}
 use Rattle.psci_fw_laws.proofs.Renumbering.{other_test}
 
 -- the same change, of the other number

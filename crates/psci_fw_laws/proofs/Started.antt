@@ -1,30 +1,21 @@
 -- A core is asked on, the system is asked to go off, an acknowledgement is taken.
-use Rattle.std.proofs.Common.{◌≡◌, ℕ, ◌<◌, Bool, true, false, cond, List, [], ◌∷◌}
-use Rattle.std.proofs.Common.{Some, refl, arith, subst, ap, sym, ◌∙◌}
-use Rattle.std.specs.Prelude.{slice_get}
-use Rattle.std.proofs.lemmas.Bool.{cond_both}
-use Rattle.psci_board.specs.Board.{BoardValue}
-use Rattle.psci_messages.specs.declared.part.Part.{Part}
-use Rattle.psci_messages.specs.declared.kind.Kind.{Kind}
-use Rattle.psci_messages.specs.declared.kind.Kind.TheVariants.{Down, Start, Off, Reset}
-use Rattle.psci_messages.specs.Message.{AckValue, ArePartsOf, MessageValue}
-use Rattle.psci_messages.specs.Slots.{OfSystem, is_kind, slot_of}
-use Rattle.psci_fw_spec.specs.declared.status.Status.TheVariants as statuses
-use Rattle.psci_fw_spec.specs.AffinityInfo.{is_on}
-use Rattle.psci_fw_spec.specs.Changes.{PowerOn, turns_off, with_acknowledgement, with_halt}
-use Rattle.psci_fw_spec.specs.Changes.{with_pending}
-use Rattle.psci_fw_spec.specs.Phases.{Phase, Pending}
-use Rattle.psci_fw_spec.specs.Values.{Values, updated}
+use Rattle.psci_fw_laws.proofs.Words.{◌<◌, ◌∙◌, ◌∷◌, ◌≡◌, [], AckValue, ap, ArePartsOf, arith}
+use Rattle.psci_fw_laws.proofs.Words.{BoardValue, Bool, cond, cond_both, Down, false, Holds}
+use Rattle.psci_fw_laws.proofs.Words.{is_kind, is_on, is_system, IsOfLife, IsSent, Kind, List}
+use Rattle.psci_fw_laws.proofs.Words.{MessageValue, OfSystem, Part, Pending, Phase, PowerOn, refl}
+use Rattle.psci_fw_laws.proofs.Words.{slice_get, slot_of, Some, subst, sym, true, turns_off}
+use Rattle.psci_fw_laws.proofs.Words.{updated, Values, with_acknowledgement, with_halt}
+use Rattle.psci_fw_laws.proofs.Words.{with_pending, ℕ}
+use Rattle.psci_messages.specs.declared.kind.Kind.TheVariants.{Start, Off, Reset}
 use Rattle.psci_fw_laws.specs.Allowed.{IsPlain}
-use Rattle.psci_fw_laws.specs.Messages.{IsSent, IsSound, is_system}
-use Rattle.psci_fw_laws.specs.Outstanding.{IsOfLife}
+use Rattle.psci_fw_laws.specs.Messages.{IsSound}
 use Rattle.psci_fw_laws.proofs.Claiming.{above_other, apart_new, quiet_other, quiet_phase}
 use Rattle.psci_fw_laws.proofs.Granting.{granted_other, granted_pending}
-use Rattle.psci_fw_laws.specs.Kept.{Holds}
 use Rattle.psci_fw_laws.proofs.Parts.{updated_at, updated_here}
 use Rattle.psci_fw_laws.proofs.Sending.{sent_halting, sent_new, sent_phase}
 use Rattle.psci_fw_laws.proofs.Slots.{AreAt, outstanding_asked, outstanding_put, outstanding_sent}
 use Rattle.psci_fw_laws.proofs.Slots.{outstanding_taken}
+use Rattle.psci_fw_spec.specs.declared.status.Status.TheVariants as statuses
 
 no_parts : (ps : List Part) (k : ℕ) (p : Part) → ps ≡ [] → slice_get ps k ≡ Some p → ⊥
 no_parts ps k p e i = grind arith

@@ -1,35 +1,21 @@
 -- A function that stops its caller, by CPU_OFF or a suspend, is allowed.
-use Rattle.std.proofs.Common.{◌≡◌, ℕ, ◌≤◌, false, List}
-use Rattle.std.proofs.Common.{Some, Ok, refl, subst, ap, sym, ◌∙◌}
-use Rattle.std.specs.Prelude.{slice_get}
-use Rattle.psci_fw_spec.specs.psci_abi.declared.request.Request.{Request}
-use Rattle.psci_fw_spec.specs.psci_abi.declared.request.Request.TheVariants as requests
-use Rattle.psci_board.specs.Board.{BoardValue, height}
-use Rattle.psci_messages.specs.declared.part.Part.{Part}
-use Rattle.psci_messages.specs.declared.kind.Kind.TheVariants as kinds
-use Rattle.psci_messages.specs.psci_state.Ask.{IsAsk, deepest_of}
-use Rattle.psci_messages.specs.psci_state.Cores.{asks}
-use Rattle.psci_fw_spec.specs.declared.opening.Opening.{Opening}
-use Rattle.psci_fw_spec.specs.After.{change}
-use Rattle.psci_fw_spec.specs.Changes.{Rest, with_rest}
-use Rattle.psci_fw_spec.specs.Claims.{off_parts, suspend_parts}
-use Rattle.psci_fw_spec.specs.CpuOff.{off_message}
-use Rattle.psci_fw_spec.specs.CpuSuspend.{ask_named, suspend_asked}
-use Rattle.psci_fw_spec.specs.Effects.{Rests, going_off}
-use Rattle.psci_fw_spec.specs.Effects.{rest_named, suspends}
-use Rattle.psci_fw_spec.specs.Invariant.{AreValues, IsPhase}
-use Rattle.psci_fw_spec.specs.Outcomes.{message_for}
-use Rattle.psci_fw_spec.specs.Phases.{Pending, Running, Suspended, activity_of}
-use Rattle.psci_fw_spec.specs.Phases.{unless_pending}
-use Rattle.psci_fw_spec.specs.SystemCalls.{system_suspend}
-use Rattle.psci_fw_spec.specs.Values.{Values, updated}
+use Rattle.psci_fw_laws.proofs.Words.{◌∙◌, ◌≡◌, ◌≤◌, activity_of, ap, AreValues, ask_named, asks}
+use Rattle.psci_fw_laws.proofs.Words.{BoardValue, change, false, height, IsAsk, IsCalling, List}
+use Rattle.psci_fw_laws.proofs.Words.{message_for, off_message, off_parts, Ok, Opening, Part}
+use Rattle.psci_fw_laws.proofs.Words.{Pending, refl, Request, Rest, Rests, Running, slice_get, Some}
+use Rattle.psci_fw_laws.proofs.Words.{subst, suspend_asked, suspend_parts, Suspended, sym}
+use Rattle.psci_fw_laws.proofs.Words.{system_suspend, unless_pending, updated, Values, with_rest, ℕ}
+use Rattle.psci_messages.specs.psci_state.Ask.{deepest_of}
+use Rattle.psci_fw_spec.specs.Effects.{going_off, rest_named, suspends}
+use Rattle.psci_fw_spec.specs.Invariant.{IsPhase}
 use Rattle.psci_fw_spec.proofs.Endings.{suspend_ends, system_ends}
-use Rattle.psci_fw_laws.specs.Allowed.{IsCalling}
 use Rattle.psci_fw_laws.proofs.Allowing.{Allows, IsReady}
 use Rattle.psci_fw_laws.proofs.Lower.{LowerLaws}
 use Rattle.psci_fw_laws.proofs.Made.{AreMade, new_claim, off_made, suspend_made, suspend_own}
 use Rattle.psci_fw_laws.proofs.Parts.{updated_here}
 use Rattle.psci_fw_laws.proofs.Returning.{outcome_effect, returned}
+use Rattle.psci_fw_spec.specs.psci_abi.declared.request.Request.TheVariants as requests
+use Rattle.psci_messages.specs.declared.kind.Kind.TheVariants as kinds
 
 -- Stops ---------------------------------------------------------------------------------------
 

@@ -1,35 +1,28 @@
 -- Functions that may stop their caller, of renumbered cores.
-use Rattle.std.proofs.Common.{◌≡◌, ℕ, ◌==◌, Bool, true, false, not, ◌&&◌, ◌||◌, List, [], refl}
-use Rattle.std.proofs.Common.{ap, ◌∙◌, if◌then◌else◌, Result, Ok, Err}
-use Rattle.std.specs.List.{list_all, range_with_len}
+use Rattle.std.proofs.Common.{Result}
+use Rattle.psci_fw_laws.proofs.Words.{◌&&◌, ◌==◌, ◌||◌, ◌∙◌, ◌≡◌, [], ap, ask_named, Away}
+use Rattle.psci_fw_laws.proofs.Words.{BoardValue, Bool, cores, Err, false, height, if◌then◌else◌}
+use Rattle.psci_fw_laws.proofs.Words.{invalid_address, Kind, leaving_claims, List, list_all}
+use Rattle.psci_fw_laws.proofs.Words.{may_enter, message_by, message_for, not, Ok, OsInitiated}
+use Rattle.psci_fw_laws.proofs.Words.{Outcome, outcome_by, Part, Phase, Platform, PowerView}
+use Rattle.psci_fw_laws.proofs.Words.{range_with_len, refl, returns, stops_with, success}
+use Rattle.psci_fw_laws.proofs.Words.{suspend_asked, suspend_claims, Suspended, SuspendMode}
+use Rattle.psci_fw_laws.proofs.Words.{system_reset2, system_suspend, true, unless_pending, updated}
+use Rattle.psci_fw_laws.proofs.Words.{Values, values_by, with_phase, ℕ}
 use Rattle.psci_abi.specs.declared.code.Code.{Code}
-use Rattle.psci_abi.specs.Codes.{denied, invalid_address, invalid_parameters, success}
-use Rattle.psci_board.specs.Board.{BoardValue, cores, height, may_enter}
+use Rattle.psci_abi.specs.Codes.{denied, invalid_parameters}
 use Rattle.psci_messages.specs.declared.osi.Osi.{Osi}
-use Rattle.psci_messages.specs.declared.part.Part.{Part}
-use Rattle.psci_messages.specs.View.{PowerView}
-use Rattle.psci_messages.specs.declared.kind.Kind.{Kind}
-use Rattle.psci_messages.specs.declared.kind.Kind.TheVariants as kinds
 use Rattle.psci_fw_spec.specs.psci_messages.psci_state.Ask.{deepest_of, is_deep}
 use Rattle.psci_fw_spec.specs.psci_messages.psci_state.declared.fault.BadState.{BadState}
-use Rattle.psci_fw_spec.specs.declared.mode.SuspendMode.{SuspendMode}
-use Rattle.psci_fw_spec.specs.declared.mode.SuspendMode.TheVariants.{Platform, OsInitiated}
-use Rattle.psci_fw_spec.specs.declared.outcome.Outcome.{Outcome}
-use Rattle.psci_fw_spec.specs.Changes.{with_phase}
-use Rattle.psci_fw_spec.specs.Claims.{leaving_claims, off_parts, suspend_claims, suspend_parts}
+use Rattle.psci_fw_spec.specs.Claims.{off_parts, suspend_parts}
 use Rattle.psci_fw_spec.specs.CpuOff.{cpu_off}
-use Rattle.psci_fw_spec.specs.CpuSuspend.{ask_named, cpu_suspend, suspend_answer}
-use Rattle.psci_fw_spec.specs.CpuSuspend.{suspend_asked}
-use Rattle.psci_fw_spec.specs.Outcomes.{message_for, returns, stops_with}
-use Rattle.psci_fw_spec.specs.Phases.{Away, Phase, Suspended, unless_pending}
+use Rattle.psci_fw_spec.specs.CpuSuspend.{cpu_suspend, suspend_answer}
 use Rattle.psci_fw_spec.specs.SystemCalls.{all_others, is_off_status, system_message}
-use Rattle.psci_fw_spec.specs.SystemCalls.{system_reset2, system_suspend}
-use Rattle.psci_fw_spec.specs.Values.{Values, updated}
 use Rattle.psci_fw_spec.specs.Views.{view}
-use Rattle.psci_fw_laws.specs.Renumbered.{message_by, outcome_by, values_by}
 use Rattle.psci_fw_laws.proofs.Claims.{off_claims-by, platform_claims-by, view_by}
 use Rattle.psci_fw_laws.proofs.LastCore.{last_core_check-by}
 use Rattle.psci_fw_laws.proofs.Renumbering.{all-cores, other_test, Renumbers}
+use Rattle.psci_messages.specs.declared.kind.Kind.TheVariants as kinds
 
 -- Values ----------------------------------------------------------------------------------------
 

@@ -1,11 +1,10 @@
 -- Sums over the cores below a domain.
-use Rattle.std.proofs.Common.{◌≡◌, ℕ, zero, suc, ◌+◌, ◌*◌, ◌<◌, ◌≤◌, Bool, true, cond}
-use Rattle.std.proofs.Common.{[], ◌∷◌, filter, refl, ap, ◌∙◌, arith, inl, inr}
-use Rattle.std.specs.List.{sum_by, range_with_len}
-use Rattle.std.proofs.lemmas.Bool.{cases_Bool, cases_eq, eq-eqb, eqb-true}
-use Rattle.std.proofs.lemmas.List.Sums.{sum_by-cons}
-use Rattle.psci_board.specs.Board.{BoardValue, below, cores, span, up}
-use Rattle.psci_board.specs.Laws.{PathLaws, SpanLaws}
+use Rattle.std.proofs.Common.{◌*◌}
+use Rattle.psci_fw_laws.proofs.Words.{◌+◌, ◌<◌, ◌∙◌, ◌∷◌, ◌≡◌, ◌≤◌, [], ap, arith, below}
+use Rattle.psci_fw_laws.proofs.Words.{BoardValue, Bool, cases_Bool, cases_eq, cond, cores, eq-eqb}
+use Rattle.psci_fw_laws.proofs.Words.{eqb-true, filter, inl, inr, PathLaws, range_with_len, refl}
+use Rattle.psci_fw_laws.proofs.Words.{SpanLaws, suc, sum_by, sum_by-cons, true, zero, ℕ}
+use Rattle.psci_board.specs.Board.{span, up}
 use Rattle.psci_fw_laws.specs.KnownBelow.{known_below}
 
 -- Sums over the numbers that a filter keeps of a range ---------------------------------------

@@ -1,22 +1,15 @@
 -- The target of an accepted CPU_ON is a core of the board that is off.
-use Rattle.std.proofs.Common.{◌≡◌, ℕ, Bool, true, false, cond, ◌==◌}
-use Rattle.std.proofs.Common.{Option, None, Some, Ok, Err, refl, arith}
 use Rattle.std.specs.Prelude.{Result}
-use Rattle.std.proofs.lemmas.Bool.{eqb-false}
-use Rattle.psci_fw_spec.specs.psci_abi.declared.code.Code.{Code}
-use Rattle.psci_fw_spec.specs.psci_abi.declared.request.Request.TheVariants as requests
-use Rattle.psci_board.specs.Board.{BoardValue, core_of, may_enter}
-use Rattle.psci_board.specs.declared.node.Core.{Core}
-use Rattle.psci_fw_spec.specs.declared.status.Status.{Status}
-use Rattle.psci_fw_spec.specs.declared.status.Status.TheVariants as statuses
-use Rattle.psci_fw_spec.specs.CpuOn.{off_target, start_outcome, target_among, target_of}
-use Rattle.psci_fw_spec.specs.Invariant.{agrees}
-use Rattle.psci_fw_spec.specs.Phases.{Phase, Away}
-use Rattle.psci_fw_spec.specs.Values.{Values}
-use Rattle.psci_fw_laws.specs.Allowed.{IsCalling}
+use Rattle.psci_fw_laws.proofs.Words.{◌==◌, ◌≡◌, agrees, arith, Away, BoardValue, Bool, Code, cond}
+use Rattle.psci_fw_laws.proofs.Words.{Core, core_of, eqb-false, Err, false, IsCalling, may_enter}
+use Rattle.psci_fw_laws.proofs.Words.{None, off_target, Ok, Option, Phase, refl, Some}
+use Rattle.psci_fw_laws.proofs.Words.{start_outcome, Status, target_among, true, Values, ℕ}
+use Rattle.psci_fw_spec.specs.CpuOn.{target_of}
 use Rattle.psci_fw_laws.proofs.Allowing.{Allows, IsReady}
 use Rattle.psci_fw_laws.proofs.Lower.{LowerLaws}
 use Rattle.psci_fw_laws.proofs.Returning.{outcome_effect, returned}
+use Rattle.psci_fw_spec.specs.psci_abi.declared.request.Request.TheVariants as requests
+use Rattle.psci_fw_spec.specs.declared.status.Status.TheVariants as statuses
 
 -- CPU_ON --------------------------------------------------------------------------------------
 

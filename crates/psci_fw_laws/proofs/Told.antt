@@ -1,17 +1,12 @@
 -- Each request asks of the renumbered cores what some other request asks.
-use Rattle.std.proofs.Common.{◌≡◌, ℕ, ◌<◌, refl, sym, ap, ◌∙◌}
-use Rattle.std.proofs.Common.{arith, Option, None, Some}
-use Rattle.std.specs.Prelude.{option_map}
-use Rattle.std.proofs.lemmas.Bool.{lt-ltb, ltb-true}
-use Rattle.std.proofs.lemmas.Option.{none-some, same_Some}
+use Rattle.std.proofs.lemmas.Option.{none-some}
+use Rattle.psci_fw_laws.proofs.Words.{◌<◌, ◌∙◌, ◌≡◌, ap, arith, AsksBy, BoardValue, Core, core_by}
+use Rattle.psci_fw_laws.proofs.Words.{core_of, HasNode, lt-ltb, ltb-true, Node, node_by, node_of}
+use Rattle.psci_fw_laws.proofs.Words.{nodes, None, Option, option_map, refl, same_Some, Some, sym}
+use Rattle.psci_fw_laws.proofs.Words.{WordLaws, ℕ}
 use Rattle.psci_abi.specs.declared.request.Request.{Request}
-use Rattle.psci_abi.specs.declared.request.Request.TheVariants as requests
-use Rattle.psci_board.specs.Board.{BoardValue, HasNode, core_of, node_of, nodes}
-use Rattle.psci_board.specs.declared.node.Core.{Core}
-use Rattle.psci_board.specs.declared.node.Node.{Node}
-use Rattle.psci_board.specs.Laws.{WordLaws}
-use Rattle.psci_fw_laws.specs.Renumbered.{AsksBy, core_by, node_by}
 use Rattle.psci_fw_laws.proofs.Renumbering.{Renumbers}
+use Rattle.psci_abi.specs.declared.request.Request.TheVariants as requests
 
 -- the other place of a node is one too
 place_inside : (b : BoardValue) (s : ℕ → ℕ → ℕ) (level place : ℕ) → Renumbers b s

@@ -1,17 +1,15 @@
 -- To swap two clusters with as many cores is a renumbering of the board.
-use Rattle.std.proofs.Common.{◌≡◌, ℕ, zero, suc, ◌+◌, ◌-◌, ◌<◌, ◌≤◌, nat_lt, true, false}
-use Rattle.std.proofs.Common.{List, [], ◌∷◌, length, sum, drop, refl, sym, ap, subst, ◌∙◌, arith}
-use Rattle.std.proofs.Common.{inl, inr}
-use Rattle.std.proofs.Common.{Option, ◌⊎◌}
-use Rattle.std.proofs.lemmas.Bool.{cases_lt, le-ltb, lt-ltb}
-use Rattle.std.proofs.lemmas.Option.{same_Some}
-use Rattle.psci_board.specs.Board.{BoardValue, IsBoard, IsTree, children_at, cores, first_child}
-use Rattle.psci_board.specs.Board.{group_of, height, nodes, parent, place_above, size_below, up}
-use Rattle.psci_board.specs.declared.node.Node.{Node}
-use Rattle.psci_board.specs.Laws.{ChildLaws, ParentLaws, PathLaws}
+use Rattle.std.proofs.Common.{sum, drop}
+use Rattle.std.proofs.lemmas.Bool.{le-ltb}
+use Rattle.psci_fw_laws.proofs.Words.{◌+◌, ◌-◌, ◌<◌, ◌∙◌, ◌∷◌, ◌≡◌, ◌≤◌, ◌⊎◌, [], ap, arith}
+use Rattle.psci_fw_laws.proofs.Words.{BoardValue, cases_lt, ChildLaws, children_at, cores, false}
+use Rattle.psci_fw_laws.proofs.Words.{first_child, height, inl, inr, IsBoard, IsRenumbering, length}
+use Rattle.psci_fw_laws.proofs.Words.{List, lt-ltb, nat_lt, Node, nodes, Option, PathLaws, refl}
+use Rattle.psci_fw_laws.proofs.Words.{same_Some, subst, suc, swap, sym, true, zero, ℕ}
+use Rattle.psci_board.specs.Board.{IsTree, group_of, parent, place_above, size_below, up}
+use Rattle.psci_board.specs.Laws.{ParentLaws}
 use Rattle.psci_board.proofs.Groups.{sum-cons}
-use Rattle.psci_fw_laws.specs.Renumbered.{AreTwins, IsRenumbering, core_beside, is_in_cluster, swap}
-use Rattle.psci_fw_laws.specs.Renumbered.{swap_clusters}
+use Rattle.psci_fw_laws.specs.Renumbered.{AreTwins, core_beside, is_in_cluster, swap_clusters}
 use Rattle.psci_fw_laws.proofs.Folds.{cases_within, swap-back, swap-first, swap-other, swap-second}
 use Rattle.psci_fw_laws.proofs.Involutions.{is_within-false}
 use Rattle.psci_fw_laws.proofs.Numberings.{child_inside}

@@ -1,41 +1,29 @@
 -- What a function answers a running caller leaves values such as the firmware keeps.
-use Rattle.std.proofs.Common.{◌≡◌, ◌≤◌, ◌<◌, ◌==◌, ◌⊎◌, ◌↔◌, ℕ, zero, suc, [], Bool}
-use Rattle.std.proofs.Common.{true, false, cond, List, Option, None, Some, Ok, inl, inr, refl}
-use Rattle.std.proofs.Common.{sym, ap, subst, ◌∙◌, arith}
-use Rattle.std.specs.Prelude.{Result, Err, IsTrue, is_some}
-use Rattle.psci_abi.specs.Codes.{internal_failure, invalid_address}
-use Rattle.psci_abi.specs.declared.code.Code.{Code}
-use Rattle.psci_abi.specs.declared.request.Request.{Request}
-use Rattle.psci_abi.specs.declared.request.Request.TheVariants as requests
-use Rattle.psci_board.specs.Board.{BoardValue, core_of, cores, height, may_enter}
-use Rattle.psci_board.specs.declared.node.Core.{Core}
-use Rattle.psci_messages.specs.declared.part.Part.{Part}
-use Rattle.psci_messages.specs.declared.kind.Kind.TheVariants as kinds
-use Rattle.psci_state.specs.Ask.{IsAsk, deepest_of, highest_of, is_ask, is_deep}
-use Rattle.psci_fw_spec.specs.declared.opening.Opening.{Opening}
-use Rattle.psci_fw_spec.specs.declared.status.Status.{Status}
-use Rattle.psci_fw_spec.specs.declared.status.Status.TheVariants as statuses
-use Rattle.psci_fw_spec.specs.After.{change}
-use Rattle.psci_fw_spec.specs.Calls.{function_outcome, outcome_of}
-use Rattle.psci_fw_spec.specs.Changes.{PowerOn, with_pending}
-use Rattle.psci_fw_spec.specs.Claims.{suspend_parts}
-use Rattle.psci_fw_spec.specs.CpuOn.{off_target, start_outcome, target_among, target_of}
-use Rattle.psci_fw_spec.specs.CpuOff.{off_message}
-use Rattle.psci_fw_spec.specs.CpuSuspend.{ask_named, suspend_asked}
-use Rattle.psci_fw_spec.specs.Effects.{Effect, GoesOn, Rests, function_effect, going_off}
-use Rattle.psci_fw_spec.specs.Effects.{rest_named, suspends}
-use Rattle.psci_fw_spec.specs.Invariant.{AreValues, IsPhase}
-use Rattle.psci_fw_spec.specs.Outcomes.{message_for}
-use Rattle.psci_fw_spec.specs.Phases.{Phase, Pending, Running, Suspended, Away}
-use Rattle.psci_fw_spec.specs.SuspendMode.{mode_of}
-use Rattle.psci_fw_spec.specs.SystemCalls.{system_reset2, system_suspend}
-use Rattle.psci_fw_spec.specs.Values.{Values, updated}
+use Rattle.std.specs.Prelude.{Err, IsTrue}
+use Rattle.psci_fw_spec.proofs.Words.{◌<◌, ◌==◌, ◌↔◌, ◌∙◌, ◌≡◌, ◌≤◌, ◌⊎◌, [], ap, AreValues, arith}
+use Rattle.psci_fw_spec.proofs.Words.{ask_named, Away, BoardValue, Bool, change, Code, cond, Core}
+use Rattle.psci_fw_spec.proofs.Words.{core_of, cores, deepest_of, Effect, false, function_effect}
+use Rattle.psci_fw_spec.proofs.Words.{function_outcome, GoesOn, height, inl, inr, invalid_address}
+use Rattle.psci_fw_spec.proofs.Words.{is_deep, is_some, IsAsk, IsPhase, List, may_enter}
+use Rattle.psci_fw_spec.proofs.Words.{message_for, mode_of, None, off_message, off_target, Ok}
+use Rattle.psci_fw_spec.proofs.Words.{Opening, Option, outcome_of, Part, Pending, Phase, PowerOn}
+use Rattle.psci_fw_spec.proofs.Words.{refl, Request, rest_named, Rests, Result, Running, Some}
+use Rattle.psci_fw_spec.proofs.Words.{start_outcome, Status, subst, suc, suspend_asked}
+use Rattle.psci_fw_spec.proofs.Words.{suspend_parts, Suspended, sym, system_reset2, system_suspend}
+use Rattle.psci_fw_spec.proofs.Words.{target_among, true, updated, Values, with_pending, zero, ℕ}
+use Rattle.psci_abi.specs.Codes.{internal_failure}
+use Rattle.psci_state.specs.Ask.{highest_of, is_ask}
+use Rattle.psci_fw_spec.specs.CpuOn.{target_of}
+use Rattle.psci_fw_spec.specs.Effects.{going_off, suspends}
 use Rattle.psci_fw_spec.proofs.Asked.{Known, asked_running, asks_at}
 use Rattle.psci_fw_spec.proofs.Endings.{outcome_ends, reset2_ends, suspend_ends, system_ends}
 use Rattle.psci_fw_spec.proofs.Changing.{kept_halting, kept_leaving, kept_on, kept_pending}
 use Rattle.psci_fw_spec.proofs.Modes.{kept_by_mode}
 use Rattle.psci_fw_spec.proofs.Stopping.{held_of, kept_resting, off_held, suspend_held}
 use Rattle.psci_fw_spec.proofs.Updates.{ran_left}
+use Rattle.psci_abi.specs.declared.request.Request.TheVariants as requests
+use Rattle.psci_messages.specs.declared.kind.Kind.TheVariants as kinds
+use Rattle.psci_fw_spec.specs.declared.status.Status.TheVariants as statuses
 
 -- a running caller, in a life that is not halting
 pub record IsCalling (b : BoardValue) (v : Values) (c : ℕ) : Type 0 where

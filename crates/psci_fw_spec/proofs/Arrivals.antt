@@ -1,24 +1,13 @@
 -- A core that enters and goes on runs, in the life of its start; and the first start of all.
-use Rattle.std.proofs.Common.{◌≡◌, ◌<◌, ◌==◌, ℕ, Bool, true, false, cond, nat_lt}
-use Rattle.std.proofs.Common.{Option, None, Some, refl, sym, arith}
-use Rattle.std.proofs.lemmas.Bool.{eqb-true}
-use Rattle.std.proofs.lemmas.Bool.Decides.{nat_tests}
-use Rattle.psci_board.specs.Board.{BoardValue, cores}
-use Rattle.psci_messages.specs.Message.{MessageValue}
-use Rattle.psci_fw_spec.specs.declared.call.FwCall.TheVariants.{Enter}
-use Rattle.psci_fw_spec.specs.declared.outcome.Act.{Act}
-use Rattle.psci_fw_spec.specs.declared.outcome.Act.TheVariants as acts
-use Rattle.psci_fw_spec.specs.declared.outcome.Outcome.{Outcome}
-use Rattle.psci_fw_spec.specs.declared.reply.FwReply.TheVariants.{Out}
-use Rattle.psci_messages.specs.declared.start.Start.{Start}
-use Rattle.psci_fw_spec.specs.After.{after, change}
+use Rattle.psci_fw_spec.proofs.Words.{◌<◌, ◌==◌, ◌≡◌, Act, arith, BoardValue, Bool, change, cond}
+use Rattle.psci_fw_spec.proofs.Words.{cores, Enter, enter_effect, Enters, eqb-true, executes_on}
+use Rattle.psci_fw_spec.proofs.Words.{false, in_life, MessageValue, nat_lt, nat_tests, None, Option}
+use Rattle.psci_fw_spec.proofs.Words.{Out, Outcome, refl, Running, Some, Start, start_of_life, sym}
+use Rattle.psci_fw_spec.proofs.Words.{true, Values, ℕ}
+use Rattle.psci_fw_spec.specs.After.{after}
 use Rattle.psci_fw_spec.specs.Answer.{answer}
-use Rattle.psci_fw_spec.specs.Effects.{Enters, enter_effect}
 use Rattle.psci_fw_spec.specs.Entering.{enter_outcome}
-use Rattle.psci_fw_spec.specs.Lives.{in_life, start_of_life}
-use Rattle.psci_fw_spec.specs.Outcomes.{executes_on}
-use Rattle.psci_fw_spec.specs.Phases.{Running}
-use Rattle.psci_fw_spec.specs.Values.{Values}
+use Rattle.psci_fw_spec.specs.declared.outcome.Act.TheVariants as acts
 
 pub at_itself : {A : Type 0} (c : ℕ) (x y : A) → cond (c == c) x y ≡ x
 at_itself c x y = let same : (c == c) ≡ true = grind (arith, nat_tests) in rw same refl

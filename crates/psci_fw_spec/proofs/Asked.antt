@@ -1,20 +1,16 @@
 -- What cores ask of the domains on their paths, by their phases.
-use Rattle.std.proofs.Common.{◌≡◌, ◌≤◌, ◌<◌, ◌+◌, ℕ, zero, suc, Bool, true, false, cond, nat_le}
-use Rattle.std.proofs.Common.{List, refl, sym, ap, subst, ◌∙◌, arith}
-use Rattle.std.specs.Prelude.{if◌then◌else◌, slice_index}
-use Rattle.std.proofs.lemmas.Bool.{le-leb}
-use Rattle.psci_board.specs.Board.{BoardValue, IsBoard, cores, height, up}
-use Rattle.psci_board.specs.Laws.{PathLaws, WordLaws}
-use Rattle.psci_messages.specs.declared.part.Part.{Part}
+use Rattle.std.specs.Prelude.{slice_index}
+use Rattle.psci_fw_spec.proofs.Words.{◌+◌, ◌<◌, ◌∙◌, ◌≡◌, ◌≤◌, activity_of, ap, AreClaims, arith}
+use Rattle.psci_fw_spec.proofs.Words.{Away, BoardValue, Bool, cond, cores, domain_of, false, height}
+use Rattle.psci_fw_spec.proofs.Words.{if◌then◌else◌, is_all_away, is_away, IsAsk, IsBoard, IsPhase}
+use Rattle.psci_fw_spec.proofs.Words.{le-leb, least_ask, List, nat_le, Part, PathLaws, Pending}
+use Rattle.psci_fw_spec.proofs.Words.{Phase, PowerView, refl, Running, subst, suc, Suspended, sym}
+use Rattle.psci_fw_spec.proofs.Words.{true, up, Values, zero, ℕ}
+use Rattle.psci_board.specs.Laws.{WordLaws}
 use Rattle.psci_messages.specs.Laws.{BelowLaws, ClaimLaws, PlatformLaws, OwnLaws, OffLaws}
 use Rattle.psci_messages.specs.Laws.{LastCoreLaws}
-use Rattle.psci_messages.specs.View.{PowerView, domain_of, is_all_away, least_ask}
-use Rattle.psci_messages.specs.Message.{AreClaims, PartByPart}
-use Rattle.psci_state.specs.Ask.{IsAsk}
-use Rattle.psci_state.specs.Cores.{IsActivity, asks, is_away}
-use Rattle.psci_fw_spec.specs.Invariant.{IsPhase}
-use Rattle.psci_fw_spec.specs.Phases.{Phase, Pending, Running, Suspended, Away, activity_of}
-use Rattle.psci_fw_spec.specs.Values.{Values}
+use Rattle.psci_messages.specs.Message.{PartByPart}
+use Rattle.psci_state.specs.Cores.{IsActivity, asks}
 use Rattle.psci_fw_spec.specs.Views.{view}
 
 -- what is known of a board and of the claims on its domains

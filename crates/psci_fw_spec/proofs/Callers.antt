@@ -1,37 +1,19 @@
 -- What a running caller is answered, and what that leaves of it.
-use Rattle.std.proofs.Common.{◌≡◌, ◌<◌, ◌==◌, ℕ, Bool, true, false, cond, nat_lt}
-use Rattle.std.proofs.Common.{Option, None, Some, refl, sym, ◌∙◌, ap, arith}
-use Rattle.std.specs.Ordering.{int_eq}
-use Rattle.std.proofs.lemmas.Bool.{eqb-true}
-use Rattle.std.proofs.lemmas.Bool.Decides.{nat_tests}
-use Rattle.psci_abi.specs.Calls.{request_of}
-use Rattle.psci_abi.specs.Codes.{success}
-use Rattle.psci_abi.specs.declared.code.Code.{Code}
-use Rattle.psci_abi.specs.declared.registers.Regs.{Regs}
-use Rattle.psci_abi.specs.declared.request.Request.{Request}
-use Rattle.psci_abi.specs.declared.request.Request.TheVariants as requests
-use Rattle.psci_board.specs.Board.{BoardValue, cores}
-use Rattle.psci_messages.specs.Message.{MessageValue}
-use Rattle.psci_fw_spec.specs.declared.call.FwCall.TheVariants.{Smc}
-use Rattle.psci_fw_spec.specs.declared.mode.SuspendMode.{SuspendMode}
-use Rattle.psci_fw_spec.specs.declared.outcome.Act.{Act}
-use Rattle.psci_fw_spec.specs.declared.outcome.Act.TheVariants as acts
-use Rattle.psci_fw_spec.specs.declared.reply.FwReply.{FwReply}
-use Rattle.psci_fw_spec.specs.declared.reply.FwReply.TheVariants.{Out, Taken, Fault}
-use Rattle.psci_fw_spec.specs.declared.status.Status.TheVariants.{Off}
-use Rattle.psci_fw_spec.specs.After.{after, change}
+use Rattle.psci_fw_spec.proofs.Words.{◌<◌, ◌==◌, ◌∙◌, ◌≡◌, Act, ap, AreValues, arith, AsksOn, Away}
+use Rattle.psci_fw_spec.proofs.Words.{BoardValue, Bool, change, Code, cond, cores, Effect, eqb-true}
+use Rattle.psci_fw_spec.proofs.Words.{executes_on, false, Fault, function_effect, FwReply, GoesOn}
+use Rattle.psci_fw_spec.proofs.Words.{int_eq, MessageValue, mode_effect, mode_of, nat_lt, nat_tests}
+use Rattle.psci_fw_spec.proofs.Words.{None, Off, Option, Out, outcome_of, Phase, PowerOn, refl}
+use Rattle.psci_fw_spec.proofs.Words.{Regs, Request, request_of, return_effect, Running}
+use Rattle.psci_fw_spec.proofs.Words.{sent_effect, SetsMode, Smc, Some, stop_effect, success}
+use Rattle.psci_fw_spec.proofs.Words.{SuspendMode, sym, Taken, target, true, unless_pending, Values}
+use Rattle.psci_fw_spec.proofs.Words.{with_pending, ℕ}
+use Rattle.psci_fw_spec.specs.After.{after}
 use Rattle.psci_fw_spec.specs.Answer.{answer}
-use Rattle.psci_fw_spec.specs.Calls.{outcome_of}
-use Rattle.psci_fw_spec.specs.Changes.{PowerOn, target, with_pending}
-use Rattle.psci_fw_spec.specs.Effects.{AsksOn, Effect, GoesOn, SetsMode, function_effect}
-use Rattle.psci_fw_spec.specs.Effects.{mode_effect, return_effect, sent_effect, stop_effect}
-use Rattle.psci_fw_spec.specs.Invariant.{AreValues}
-use Rattle.psci_fw_spec.specs.Outcomes.{executes_on}
-use Rattle.psci_fw_spec.specs.Phases.{Phase, Running, Away, unless_pending}
-use Rattle.psci_fw_spec.specs.Phases as phases
-use Rattle.psci_fw_spec.specs.SuspendMode.{mode_of}
-use Rattle.psci_fw_spec.specs.Values.{Values}
 use Rattle.psci_fw_spec.proofs.Targets.{Asks, asks_outcome, off_away}
+use Rattle.psci_abi.specs.declared.request.Request.TheVariants as requests
+use Rattle.psci_fw_spec.specs.declared.outcome.Act.TheVariants as acts
+use Rattle.psci_fw_spec.specs.Phases as phases
 
 -- The answer ----------------------------------------------------------------------------------
 

@@ -1,23 +1,14 @@
 -- Changes that claim nothing leave values such as the firmware keeps.
-use Rattle.std.proofs.Common.{◌≡◌, ◌≤◌, ◌<◌, ◌⊎◌, ◌&&◌, nat_lt, ℕ, Bool, true, cond, None}
-use Rattle.std.proofs.Common.{Some, inl, inr, refl, sym, ap, ◌∙◌, true≢false}
-use Rattle.std.specs.Prelude.{is_some}
-use Rattle.psci_board.specs.Board.{BoardValue, cores}
-use Rattle.psci_messages.specs.declared.kind.Kind.TheVariants.{Down}
-use Rattle.psci_messages.specs.Message.{AckValue, MessageValue}
-use Rattle.psci_messages.specs.Slots.{is_kind}
+use Rattle.psci_fw_spec.proofs.Words.{◌&&◌, ◌<◌, ◌∙◌, ◌≡◌, ◌≤◌, ◌⊎◌, AckValue, activity_of, agrees}
+use Rattle.psci_fw_spec.proofs.Words.{ap, AreAwake, AreValues, Away, BoardValue, Bool, cond, cores}
+use Rattle.psci_fw_spec.proofs.Words.{Down, in_life, inl, inr, is_expected, is_kind, is_some}
+use Rattle.psci_fw_spec.proofs.Words.{IsPhase, MessageValue, nat_lt, None, Pending, Phase, PowerOn}
+use Rattle.psci_fw_spec.proofs.Words.{refl, Running, Some, Start, Status, sym, target, true}
+use Rattle.psci_fw_spec.proofs.Words.{true≢false, unless_pending, updated, Values, with_arrival}
+use Rattle.psci_fw_spec.proofs.Words.{with_pending, with_phase, ℕ}
 use Rattle.psci_state.specs.Cores.{is_away as is_core_away}
-use Rattle.psci_messages.specs.declared.start.Start.{Start}
-use Rattle.psci_fw_spec.specs.declared.status.Status.{Status}
-use Rattle.psci_fw_spec.specs.declared.status.Status.TheVariants as statuses
-use Rattle.psci_fw_spec.specs.Changes.{PowerOn, target, turns_off, with_acknowledgement}
-use Rattle.psci_fw_spec.specs.Changes.{with_arrival, with_halt, with_pending, with_phase}
-use Rattle.psci_fw_spec.specs.Changes.{with_running}
-use Rattle.psci_fw_spec.specs.Invariant.{AreAwake, AreValues, IsPhase, agrees, is_expected}
-use Rattle.psci_fw_spec.specs.Lives.{in_life}
-use Rattle.psci_fw_spec.specs.Phases.{Phase, Pending, Running, Away, activity_of}
-use Rattle.psci_fw_spec.specs.Phases.{is_away, unless_pending}
-use Rattle.psci_fw_spec.specs.Values.{Values, updated}
+use Rattle.psci_fw_spec.specs.Changes.{turns_off, with_acknowledgement, with_halt, with_running}
+use Rattle.psci_fw_spec.specs.Phases.{is_away}
 use Rattle.psci_fw_spec.specs.Views.{view}
 use Rattle.psci_fw_spec.proofs.Asked.{Known, asked_pending, asked_running, asks_at}
 use Rattle.psci_fw_spec.proofs.Granting.{AreBounded, ChangedAt, bounded_cleared, bounded_left}
@@ -25,6 +16,7 @@ use Rattle.psci_fw_spec.proofs.Granting.{granted_cleared}
 use Rattle.psci_fw_spec.proofs.Holding.{awake_from, bounded_of, granted_of, same_phases}
 use Rattle.psci_fw_spec.proofs.Updates.{both_updated, left_else, updated_at, updated_each}
 use Rattle.psci_fw_spec.proofs.Updates.{updated_else}
+use Rattle.psci_fw_spec.specs.declared.status.Status.TheVariants as statuses
 
 -- Going on ------------------------------------------------------------------------------------
 

@@ -1,23 +1,16 @@
 -- What a core that stops sends is a claim.
-use Rattle.std.proofs.Common.{◌≡◌, ◌≤◌, ◌<◌, ◌+◌, ℕ, List, length, inl, inr, sym, ap, subst}
-use Rattle.std.proofs.Common.{arith, Some, Ok}
-use Rattle.std.specs.Prelude.{slice_get}
+use Rattle.std.proofs.Common.{length}
 use Rattle.std.proofs.Math.Nat.{eq-zero-or-pos}
-use Rattle.psci_board.specs.Board.{BoardValue, IsBoard, cores}
-use Rattle.psci_messages.specs.Claim.{claims_of, least_wish, off_wish, own_wish}
-use Rattle.psci_messages.specs.declared.part.Part.{Part}
-use Rattle.psci_messages.specs.View.{PowerView}
-use Rattle.psci_messages.specs.Message.{AreClaims}
-use Rattle.psci_state.specs.Ask.{IsAsk}
-use Rattle.psci_fw_spec.specs.declared.mode.SuspendMode.{SuspendMode}
-use Rattle.psci_fw_spec.specs.declared.mode.SuspendMode.TheVariants.{Platform, OsInitiated}
-use Rattle.psci_fw_spec.specs.Changes.{with_phase}
-use Rattle.psci_fw_spec.specs.Claims.{leaving_claims, suspend_claims, off_parts, suspend_parts}
-use Rattle.psci_fw_spec.specs.Phases.{Phase, Suspended, Away}
-use Rattle.psci_fw_spec.specs.Values.{Values}
+use Rattle.psci_fw_spec.proofs.Words.{◌+◌, ◌<◌, ◌≡◌, ◌≤◌, ap, AreClaims, arith, Away, BoardValue}
+use Rattle.psci_fw_spec.proofs.Words.{claims_of, cores, inl, inr, IsAsk, IsBoard, least_wish}
+use Rattle.psci_fw_spec.proofs.Words.{leaving_claims, List, off_wish, Ok, OsInitiated, own_wish}
+use Rattle.psci_fw_spec.proofs.Words.{Part, Phase, Platform, PowerView, slice_get, Some, subst}
+use Rattle.psci_fw_spec.proofs.Words.{suspend_claims, Suspended, SuspendMode, sym, Values}
+use Rattle.psci_fw_spec.proofs.Words.{with_phase, ℕ}
+use Rattle.psci_fw_spec.specs.Claims.{off_parts, suspend_parts}
 use Rattle.psci_fw_spec.specs.Views.{view}
-use Rattle.psci_fw_spec.proofs.Asked.{IsAsking, Known, alone, asked-fall, asked_away}
-use Rattle.psci_fw_spec.proofs.Asked.{asked_within, asks_at, least_is}
+use Rattle.psci_fw_spec.proofs.Asked.{IsAsking, Known, alone, asked-fall, asked_away, asked_within}
+use Rattle.psci_fw_spec.proofs.Asked.{asks_at, least_is}
 
 -- a claim of which the core itself is asked something, with depths of 3 at most that fall
 wanted_claim : (b : BoardValue) (w : PowerView) (c : ℕ) (want : ℕ → ℕ) → IsBoard b → Known b

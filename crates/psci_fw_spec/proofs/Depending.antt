@@ -1,43 +1,31 @@
 -- What an answer depends on, and that it depends on nothing else.
-use Rattle.std.proofs.Common.{◌≡◌, ◌==◌, ◌&&◌, not, ℕ, Bool, true, false, cond, List, Option}
-use Rattle.std.proofs.Common.{None, Some, Ok, Err, refl, ◌∙◌, ◌+◌, ap, subst}
-use Rattle.std.specs.Prelude.{Result}
-use Rattle.psci_abi.specs.Codes.{denied, invalid_address, invalid_parameters, success}
-use Rattle.psci_abi.specs.declared.code.Code.{Code}
-use Rattle.psci_abi.specs.declared.request.Request.TheVariants as requests
-use Rattle.psci_board.specs.Board.{BoardValue, core_of, height, may_enter, node_of}
-use Rattle.psci_board.specs.declared.node.Core.{Core}
+use Rattle.psci_fw_spec.proofs.Words.{◌&&◌, ◌+◌, ◌==◌, ◌∙◌, ◌≡◌, all_others, ap, ask_named, Away}
+use Rattle.psci_fw_spec.proofs.Words.{BadState, BoardValue, Bool, Code, cond, Core, core_of}
+use Rattle.psci_fw_spec.proofs.Words.{deepest_of, denied, Err, false, function_outcome, height}
+use Rattle.psci_fw_spec.proofs.Words.{in_life, invalid_address, invalid_parameters, is_deep}
+use Rattle.psci_fw_spec.proofs.Words.{is_off_status, leaving_claims, List, may_enter, may_set}
+use Rattle.psci_fw_spec.proofs.Words.{message_for, mode_asked, mode_of, None, not, Off, off_message}
+use Rattle.psci_fw_spec.proofs.Words.{off_target, Ok, Opening, Option, Osi, OsInitiated, outcome_at}
+use Rattle.psci_fw_spec.proofs.Words.{Part, Platform, refl, Result, resumes, returns, Some, Start}
+use Rattle.psci_fw_spec.proofs.Words.{start_of_life, start_outcome, Status, stops, stops_with}
+use Rattle.psci_fw_spec.proofs.Words.{subst, success, suspend_answer, suspend_asked, suspend_claims}
+use Rattle.psci_fw_spec.proofs.Words.{SuspendMode, system_message, target_among, true, Values}
+use Rattle.psci_fw_spec.proofs.Words.{with_arrival, with_phase, ℕ}
+use Rattle.psci_board.specs.Board.{node_of}
 use Rattle.psci_board.specs.declared.node.Node.{Node}
-use Rattle.psci_messages.specs.declared.osi.Osi.{Osi}
-use Rattle.psci_messages.specs.declared.part.Part.{Part}
 use Rattle.psci_messages.specs.Claim.{claims_of}
 use Rattle.psci_messages.specs.View.{generation, is_all_away, least_ask}
-use Rattle.psci_messages.specs.declared.kind.Kind.TheVariants as kinds
-use Rattle.psci_state.specs.Ask.{deepest_of, is_deep}
-use Rattle.psci_state.specs.declared.fault.BadState.{BadState}
-use Rattle.psci_fw_spec.specs.declared.mode.SuspendMode.{SuspendMode}
-use Rattle.psci_fw_spec.specs.declared.mode.SuspendMode.TheVariants.{Platform, OsInitiated}
-use Rattle.psci_messages.specs.declared.start.Start.{Start}
-use Rattle.psci_fw_spec.specs.declared.opening.Opening.{Opening}
-use Rattle.psci_fw_spec.specs.declared.outcome.Act.TheVariants as acts
-use Rattle.psci_fw_spec.specs.declared.status.Status.{Status}
-use Rattle.psci_fw_spec.specs.declared.status.Status.TheVariants.{On, Off, Pending}
+use Rattle.psci_fw_spec.specs.declared.status.Status.TheVariants.{On, Pending}
 use Rattle.psci_fw_spec.specs.AffinityInfo.{affinity_of}
-use Rattle.psci_fw_spec.specs.Calls.{function_outcome}
-use Rattle.psci_fw_spec.specs.Changes.{with_arrival, with_phase}
-use Rattle.psci_fw_spec.specs.Claims.{leaving_claims, off_parts, suspend_claims, suspend_parts}
-use Rattle.psci_fw_spec.specs.CpuOff.{off_message}
-use Rattle.psci_fw_spec.specs.CpuOn.{off_target, start_outcome, target_among, target_of}
-use Rattle.psci_fw_spec.specs.CpuSuspend.{ask_named, suspend_answer, suspend_asked}
-use Rattle.psci_fw_spec.specs.Entering.{enter_outcome, is_wake, outcome_at, resumes}
-use Rattle.psci_fw_spec.specs.Lives.{in_life, start_of_life}
-use Rattle.psci_fw_spec.specs.Phases.{Away, is_resumable}
+use Rattle.psci_fw_spec.specs.Claims.{off_parts, suspend_parts}
+use Rattle.psci_fw_spec.specs.CpuOn.{target_of}
+use Rattle.psci_fw_spec.specs.Entering.{enter_outcome, is_wake}
+use Rattle.psci_fw_spec.specs.Phases.{is_resumable}
 use Rattle.psci_fw_spec.specs.NodeHwState.{hw_state_of}
-use Rattle.psci_fw_spec.specs.Outcomes.{message_for, returns, stops, stops_with}
-use Rattle.psci_fw_spec.specs.SuspendMode.{may_set, mode_asked, mode_of}
-use Rattle.psci_fw_spec.specs.SystemCalls.{all_others, is_off_status, system_message}
-use Rattle.psci_fw_spec.specs.Values.{Values}
 use Rattle.psci_fw_spec.specs.Views.{view}
+use Rattle.psci_abi.specs.declared.request.Request.TheVariants as requests
+use Rattle.psci_messages.specs.declared.kind.Kind.TheVariants as kinds
+use Rattle.psci_fw_spec.specs.declared.outcome.Act.TheVariants as acts
 
 -- SYSTEM_RESET2 -------------------------------------------------------------------------------
 

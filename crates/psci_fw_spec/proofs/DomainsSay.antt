@@ -1,26 +1,19 @@
 -- What one more exchange says of granted depths and confirmed claims is what its effect leaves of
 -- them.
-use Rattle.std.proofs.Common.{◌≡◌, ◌∙◌, ℕ, Bool, true, false, not, cond, ◌==◌, List, Option, None}
-use Rattle.std.proofs.Common.{Some, option_map, unwrap_or, refl, ap, slice_get}
-use Rattle.std.specs.Option.{option_or}
-use Rattle.psci_board.specs.Board.{BoardValue}
-use Rattle.psci_messages.specs.declared.part.Part.{Part}
-use Rattle.psci_fw_spec.specs.After.{change}
-use Rattle.psci_fw_spec.specs.Changes.{target}
-use Rattle.psci_fw_spec.specs.Effects.{Effect, AsksOn, Rests, Enters, Parks, StopsAtOnce}
-use Rattle.psci_fw_spec.specs.Effects.{Acknowledges}
-use Rattle.psci_fw_spec.specs.Exchange.{FwExchange}
-use Rattle.psci_fw_spec.specs.History.{begins, granted, life, says_granted, values_of, changes}
-use Rattle.psci_fw_spec.specs.History.{confirmed, known, says_confirmed}
-use Rattle.psci_messages.specs.OnlyIf.{only_if}
-use Rattle.psci_fw_spec.specs.Lives.{first_granted, first_confirmed}
+use Rattle.std.proofs.Common.{slice_get}
+use Rattle.psci_fw_spec.proofs.Words.{◌==◌, ◌∙◌, ◌≡◌, Acknowledges, ap, arrived, AsksOn, begins}
+use Rattle.psci_fw_spec.proofs.Words.{BoardValue, Bool, change, changes, claimed_or, cond, Effect}
+use Rattle.psci_fw_spec.proofs.Words.{Enters, false, first_granted, FwExchange, known, life, List}
+use Rattle.psci_fw_spec.proofs.Words.{None, not, only_if, Option, option_map, option_or, Parks}
+use Rattle.psci_fw_spec.proofs.Words.{Part, refl, Rests, Some, StopsAtOnce, target, true, unwrap_or}
+use Rattle.psci_fw_spec.proofs.Words.{ℕ}
+use Rattle.psci_fw_spec.specs.History.{granted, says_granted, values_of, confirmed, says_confirmed}
+use Rattle.psci_fw_spec.specs.Lives.{first_confirmed}
 use Rattle.psci_board.specs.Paths.{is_path_place}
-use Rattle.psci_fw_spec.specs.Said.{arrived}
-use Rattle.psci_fw_spec.specs.Paths.{claimed_or}
 use Rattle.psci_fw_spec.proofs.Says.{found, said, found_says}
-use Rattle.psci_messages.specs.Outstanding as slots
 use Rattle.psci_messages.specs.Slots.{slot_of}
 use Rattle.psci_fw_spec.specs.Confirmed.{confirms, unless_claimed}
+use Rattle.psci_messages.specs.Outstanding as slots
 
 -- Granted depths ------------------------------------------------------------------------------
 

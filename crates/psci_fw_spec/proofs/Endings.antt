@@ -1,30 +1,18 @@
 -- How a function ends: it returns a code, or stops its caller and sends a message, and an accepted
 -- CPU_ON returns SUCCESS and sends a Start. What each of these ways has, each outcome has.
-use Rattle.std.proofs.Common.{◌≡◌, ℕ, Bool, true, false, cond, ◌==◌, ◌&&◌, not, List, [], refl}
-use Rattle.std.proofs.Common.{Some, Ok, Err}
-use Rattle.std.specs.Prelude.{Result}
-use Rattle.psci_abi.specs.Codes.{denied, invalid_address, invalid_parameters, success}
-use Rattle.psci_abi.specs.declared.code.Code.{Code}
-use Rattle.psci_abi.specs.declared.request.Request.{Request}
+use Rattle.psci_fw_spec.proofs.Words.{◌&&◌, ◌==◌, ◌≡◌, [], all_others, ask_named, BadState}
+use Rattle.psci_fw_spec.proofs.Words.{BoardValue, Bool, Code, cond, Core, deepest_of, denied, Err}
+use Rattle.psci_fw_spec.proofs.Words.{false, function_outcome, height, invalid_address}
+use Rattle.psci_fw_spec.proofs.Words.{invalid_parameters, is_deep, is_off_status, List, may_enter}
+use Rattle.psci_fw_spec.proofs.Words.{message_for, MessageValue, not, Ok, Osi, Outcome, Part, refl}
+use Rattle.psci_fw_spec.proofs.Words.{Request, Result, returns, Some, start_outcome, stops}
+use Rattle.psci_fw_spec.proofs.Words.{stops_with, success, suspend_answer, suspend_asked}
+use Rattle.psci_fw_spec.proofs.Words.{suspend_parts, system_message, system_reset2, system_suspend}
+use Rattle.psci_fw_spec.proofs.Words.{target_of, true, Values, ℕ}
+use Rattle.psci_fw_spec.specs.Calls.{outcome_of}
 use Rattle.psci_abi.specs.declared.request.Request.TheVariants as requests
-use Rattle.psci_board.specs.Board.{BoardValue, height, may_enter}
-use Rattle.psci_board.specs.declared.node.Core.{Core}
-use Rattle.psci_messages.specs.declared.osi.Osi.{Osi}
-use Rattle.psci_messages.specs.declared.part.Part.{Part}
 use Rattle.psci_messages.specs.declared.kind.Kind.TheVariants as kinds
-use Rattle.psci_messages.specs.Message.{MessageValue}
-use Rattle.psci_state.specs.Ask.{deepest_of, is_deep}
-use Rattle.psci_state.specs.declared.fault.BadState.{BadState}
 use Rattle.psci_fw_spec.specs.declared.outcome.Act.TheVariants as acts
-use Rattle.psci_fw_spec.specs.declared.outcome.Outcome.{Outcome}
-use Rattle.psci_fw_spec.specs.Calls.{function_outcome, outcome_of}
-use Rattle.psci_fw_spec.specs.Claims.{suspend_parts}
-use Rattle.psci_fw_spec.specs.CpuOn.{start_outcome, target_of}
-use Rattle.psci_fw_spec.specs.CpuSuspend.{ask_named, suspend_answer, suspend_asked}
-use Rattle.psci_fw_spec.specs.Outcomes.{message_for, returns, stops, stops_with}
-use Rattle.psci_fw_spec.specs.SystemCalls.{all_others, is_off_status, system_message}
-use Rattle.psci_fw_spec.specs.SystemCalls.{system_reset2, system_suspend}
-use Rattle.psci_fw_spec.specs.Values.{Values}
 
 -- SUCCESS is returned, and this is sent
 abbrev pub starts_with : MessageValue → Outcome

@@ -1,45 +1,31 @@
 -- What a core is answered that enters leaves values such as the firmware keeps, and so does every
 -- answer.
-use Rattle.std.proofs.Common.{◌≡◌, ◌≤◌, ◌<◌, ◌==◌, ◌||◌, ◌&&◌, not, nat_lt, nat_le, ℕ, Bool, true}
-use Rattle.std.proofs.Common.{false, cond, List, [], ◌∷◌, Option, None, Some, refl, sym, ap}
-use Rattle.std.proofs.Common.{subst, ◌∙◌}
 use Rattle.std.proofs.lemmas.Bool.{ltb-false, ltb-true}
-use Rattle.psci_abi.specs.Calls.{request_of}
-use Rattle.psci_board.specs.Board.{BoardValue, cores, height}
+use Rattle.psci_fw_spec.proofs.Words.{◌&&◌, ◌<◌, ◌==◌, ◌||◌, ◌∙◌, ◌∷◌, ◌≡◌, ◌≤◌, [], ap, AreValues}
+use Rattle.psci_fw_spec.proofs.Words.{BoardValue, Bool, call_fault, change, cond, cores, deepest_of}
+use Rattle.psci_fw_spec.proofs.Words.{effect_of, Enter, enter_effect, false, FwCall, FwExchange}
+use Rattle.psci_fw_spec.proofs.Words.{FwFault, height, in_life, IsLegal, IsPhase, List, nat_le}
+use Rattle.psci_fw_spec.proofs.Words.{nat_lt, None, not, off_message, Old, Opening, Option, Outcome}
+use Rattle.psci_fw_spec.proofs.Words.{outcome_at, outcome_of, Parks, Phase, refl, reply_or}
+use Rattle.psci_fw_spec.proofs.Words.{request_of, resumes, Running, Smc, Some, Start, start_of_life}
+use Rattle.psci_fw_spec.proofs.Words.{stops, stops_with, subst, Suspended, sym, Take, true, updated}
+use Rattle.psci_fw_spec.proofs.Words.{Used, Values, with_arrival, ℕ}
 use Rattle.psci_messages.specs.declared.taken.Taken.{Taken}
-use Rattle.psci_messages.specs.declared.taken.Taken.TheVariants.{Used, Old}
-use Rattle.psci_state.specs.Ask.{deepest_of}
-use Rattle.psci_fw_spec.specs.declared.call.FwCall.{FwCall}
-use Rattle.psci_fw_spec.specs.declared.call.FwCall.TheVariants.{Smc, Enter, Take}
-use Rattle.psci_fw_spec.specs.declared.fault.FwFault.{FwFault}
-use Rattle.psci_fw_spec.specs.declared.fault.FwFault.TheVariants as faults
-use Rattle.psci_fw_spec.specs.declared.opening.Opening.{Opening}
-use Rattle.psci_fw_spec.specs.declared.outcome.Act.TheVariants as acts
-use Rattle.psci_fw_spec.specs.declared.outcome.Outcome.{Outcome}
-use Rattle.psci_fw_spec.specs.declared.reply.FwReply.TheVariants as replies
-use Rattle.psci_messages.specs.declared.start.Start.{Start}
-use Rattle.psci_fw_spec.specs.After.{after, change}
-use Rattle.psci_fw_spec.specs.Answer.{answer, reply_or}
-use Rattle.psci_fw_spec.specs.Calls.{call_fault, outcome_of}
-use Rattle.psci_fw_spec.specs.Changes.{with_arrival}
-use Rattle.psci_fw_spec.specs.CpuOff.{off_message}
-use Rattle.psci_fw_spec.specs.Effects.{Parks, effect_of, enter_effect}
-use Rattle.psci_fw_spec.specs.Entering.{enter_fault, enter_outcome, is_old, outcome_at, resumes}
-use Rattle.psci_fw_spec.specs.Exchange.{FwExchange}
+use Rattle.psci_fw_spec.specs.After.{after}
+use Rattle.psci_fw_spec.specs.Answer.{answer}
+use Rattle.psci_fw_spec.specs.Entering.{enter_fault, enter_outcome, is_old}
 use Rattle.psci_fw_spec.specs.History.{values_of}
-use Rattle.psci_fw_spec.specs.Invariant.{AreValues, IsPhase}
-use Rattle.psci_fw_spec.specs.Legal.{IsLegal}
-use Rattle.psci_fw_spec.specs.Lives.{in_life, start_of_life}
-use Rattle.psci_fw_spec.specs.Outcomes.{stops, stops_with}
-use Rattle.psci_fw_spec.specs.Phases.{Phase, Running, Suspended, is_running}
+use Rattle.psci_fw_spec.specs.Phases.{is_running}
 use Rattle.psci_fw_spec.specs.Taking.{taken_by}
-use Rattle.psci_fw_spec.specs.Values.{Values, updated}
 use Rattle.psci_fw_spec.proofs.Answered.{Worded, kept_function}
 use Rattle.psci_fw_spec.proofs.Asked.{Known, asked_running, asks_at}
 use Rattle.psci_fw_spec.proofs.Changing.{kept_acknowledged, kept_ceasing, kept_entering}
 use Rattle.psci_fw_spec.proofs.Starting.{are_first, are_in_life}
 use Rattle.psci_fw_spec.proofs.Stopping.{arrived_held, kept_parking, off_held}
 use Rattle.psci_fw_spec.proofs.Updates.{parked_left, updated_at, updated_else}
+use Rattle.psci_fw_spec.specs.declared.fault.FwFault.TheVariants as faults
+use Rattle.psci_fw_spec.specs.declared.outcome.Act.TheVariants as acts
+use Rattle.psci_fw_spec.specs.declared.reply.FwReply.TheVariants as replies
 
 -- Who may enter -------------------------------------------------------------------------------
 

@@ -1,16 +1,10 @@
 -- Granted depths, as phases change: a path is cleared, or a core that stops claims.
-use Rattle.std.proofs.Common.{◌≡◌, ◌≤◌, ◌<◌, ◌+◌, ◌==◌, ℕ, zero, suc, Bool, true, false, cond}
-use Rattle.std.proofs.Common.{List, inl, inr, refl, sym, ap, subst, ◌∙◌, arith, true≢false}
-use Rattle.std.specs.Prelude.{slice_get}
-use Rattle.std.proofs.lemmas.Bool.{cases_eq, eqb-true, eqb-false}
-use Rattle.psci_board.specs.Board.{BoardValue, cores, height, up}
-use Rattle.psci_board.specs.Laws.{PathLaws}
-use Rattle.psci_messages.specs.declared.part.Part.{Part}
-use Rattle.psci_state.specs.Cores.{is_away}
-use Rattle.psci_fw_spec.specs.declared.mode.SuspendMode.{SuspendMode}
-use Rattle.psci_fw_spec.specs.declared.mode.SuspendMode.TheVariants.{Platform}
-use Rattle.psci_fw_spec.specs.Paths.{claimed_or, cleared, granted_with}
-use Rattle.psci_fw_spec.specs.Phases.{Phase, activity_of}
+use Rattle.std.proofs.lemmas.Bool.{eqb-false}
+use Rattle.psci_fw_spec.proofs.Words.{◌+◌, ◌<◌, ◌==◌, ◌∙◌, ◌≡◌, ◌≤◌, activity_of, ap, arith}
+use Rattle.psci_fw_spec.proofs.Words.{BoardValue, Bool, cases_eq, claimed_or, cleared, cond, cores}
+use Rattle.psci_fw_spec.proofs.Words.{eqb-true, false, granted_with, height, inl, inr, is_away}
+use Rattle.psci_fw_spec.proofs.Words.{List, Part, PathLaws, Phase, Platform, refl, slice_get, subst}
+use Rattle.psci_fw_spec.proofs.Words.{suc, SuspendMode, sym, true, true≢false, up, zero, ℕ}
 use Rattle.psci_fw_spec.proofs.Asked.{IsAllOff, IsLeast, apart, asks_at, joined, least_at}
 use Rattle.psci_fw_spec.proofs.Asked.{least_beside}
 

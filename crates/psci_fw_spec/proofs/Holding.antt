@@ -1,10 +1,6 @@
 -- What holds of values, by what it is read from: phases, openings and granted depths.
-use Rattle.std.proofs.Common.{◌≡◌, ℕ, sym, subst}
-use Rattle.std.specs.Prelude.{is_some}
-use Rattle.psci_board.specs.Board.{BoardValue}
-use Rattle.psci_fw_spec.specs.Invariant.{AreAwake, AreValues, is_expected}
-use Rattle.psci_fw_spec.specs.Phases.{Phase}
-use Rattle.psci_fw_spec.specs.Values.{Values}
+use Rattle.psci_fw_spec.proofs.Words.{◌≡◌, AreAwake, AreValues, BoardValue, is_expected, is_some}
+use Rattle.psci_fw_spec.proofs.Words.{Phase, subst, sym, Values, ℕ}
 use Rattle.psci_fw_spec.proofs.Asked.{IsLeast, Known, all_off, least_is, off_all, one_least}
 use Rattle.psci_fw_spec.proofs.Granting.{AreBounded, AreGranted}
 

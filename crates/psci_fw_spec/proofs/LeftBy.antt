@@ -1,35 +1,18 @@
 -- No outcome leaves a core pending: what is left is that it runs, is suspended or is away.
-use Rattle.std.proofs.Common.{◌==◌, ℕ, Bool, true, false, cond, List, [], ◌∷◌}
-use Rattle.std.proofs.Common.{Option, None, Some, Result, Ok, Err, option_and_then, unwrap_or}
-use Rattle.std.specs.Ordering.{int_eq}
-use Rattle.psci_abi.specs.Calls.{request_of}
-use Rattle.psci_abi.specs.Codes.{success}
-use Rattle.psci_abi.specs.declared.code.Code.{Code}
-use Rattle.psci_abi.specs.declared.request.Request.{Request}
+use Rattle.std.proofs.Common.{Result, option_and_then}
+use Rattle.psci_fw_spec.proofs.Words.{◌==◌, ◌∷◌, [], Act, arrived, ask_named, Away, BadState}
+use Rattle.psci_fw_spec.proofs.Words.{begins, BoardValue, Bool, Code, cond, effect, effect_of}
+use Rattle.psci_fw_spec.proofs.Words.{Enter, enter_effect, Err, false, function_effect, FwCall}
+use Rattle.psci_fw_spec.proofs.Words.{FwExchange, FwReply, GoesOn, int_eq, life, List, MessageValue}
+use Rattle.psci_fw_spec.proofs.Words.{mode_effect, mode_of, None, Ok, Old, only_if, Opening, Option}
+use Rattle.psci_fw_spec.proofs.Words.{Out, Pending, Phase, phase_left, Request, request_of}
+use Rattle.psci_fw_spec.proofs.Words.{rest_named, return_effect, sent_effect, Smc, Some, Start}
+use Rattle.psci_fw_spec.proofs.Words.{stop_effect, success, SuspendMode, Take, Taken, true}
+use Rattle.psci_fw_spec.proofs.Words.{unwrap_or, Used, ℕ}
+use Rattle.psci_fw_spec.specs.Effects.{rest_of}
+use Rattle.psci_fw_spec.specs.Said.{Left, left}
 use Rattle.psci_abi.specs.declared.request.Request.TheVariants as requests
-use Rattle.psci_board.specs.Board.{BoardValue}
-use Rattle.psci_messages.specs.declared.taken.Taken.TheVariants.{Used, Old}
-use Rattle.psci_messages.specs.Message.{MessageValue}
-use Rattle.psci_state.specs.declared.fault.BadState.{BadState}
-use Rattle.psci_fw_spec.specs.declared.call.FwCall.{FwCall}
-use Rattle.psci_fw_spec.specs.declared.call.FwCall.TheVariants.{Smc, Enter, Take}
-use Rattle.psci_fw_spec.specs.declared.mode.SuspendMode.{SuspendMode}
-use Rattle.psci_fw_spec.specs.declared.opening.Opening.{Opening}
-use Rattle.psci_fw_spec.specs.declared.outcome.Act.{Act}
 use Rattle.psci_fw_spec.specs.declared.outcome.Act.TheVariants as acts
-use Rattle.psci_fw_spec.specs.declared.reply.FwReply.{FwReply}
-use Rattle.psci_fw_spec.specs.declared.reply.FwReply.TheVariants.{Out, Taken}
-use Rattle.psci_messages.specs.declared.start.Start.{Start}
-use Rattle.psci_fw_spec.specs.CpuSuspend.{ask_named}
-use Rattle.psci_fw_spec.specs.Effects.{GoesOn, effect_of, enter_effect, function_effect}
-use Rattle.psci_fw_spec.specs.Effects.{mode_effect, rest_named, rest_of, return_effect}
-use Rattle.psci_fw_spec.specs.Effects.{sent_effect, stop_effect}
-use Rattle.psci_fw_spec.specs.Exchange.{FwExchange, effect}
-use Rattle.psci_fw_spec.specs.History.{begins, life, phase_left}
-use Rattle.psci_messages.specs.OnlyIf.{only_if}
-use Rattle.psci_fw_spec.specs.Phases.{Phase, Pending, Away}
-use Rattle.psci_fw_spec.specs.Said.{Left, arrived, left}
-use Rattle.psci_fw_spec.specs.SuspendMode.{mode_of}
 
 -- a phase that an outcome can leave
 abbrev pub IsLeft : Phase → Type 0

@@ -62,3 +62,4 @@ mod Targets
 mod Updates
 mod ValueRows
 mod Wishes
+pub mod Words

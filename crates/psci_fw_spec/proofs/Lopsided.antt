@@ -1,7 +1,6 @@
 -- What examples need that go along the axes: an uneven board of three levels, and plain calls by
 -- any core.
-use Rattle.std.proofs.Common.{ℕ, List, [], ◌∷◌}
-use Rattle.psci_board.specs.Board.{BoardValue}
+use Rattle.psci_fw_spec.proofs.Words.{◌∷◌, [], BoardValue, List, ℕ}
 use Rattle.psci_fw_spec.proofs.Steps.{◌⇒◌, Row, boot, boots, enter_on, goes_on_3, on_3, starts}
 use Rattle.psci_fw_spec.proofs.Steps.{Step, board, smc}
 

@@ -1,28 +1,18 @@
 -- What the message of a function and of a park names.
-use Rattle.std.proofs.Common.{◌≡◌, ℕ, Bool, true, false, cond, Option, None, Some, refl, subst}
-use Rattle.psci_abi.specs.declared.request.Request.{Request}
-use Rattle.psci_abi.specs.declared.request.Request.TheVariants as requests
-use Rattle.psci_board.specs.Board.{BoardValue}
-use Rattle.psci_messages.specs.declared.kind.Kind.TheVariants as kinds
-use Rattle.psci_messages.specs.declared.start.Start.{Start}
-use Rattle.psci_messages.specs.Message.{MessageValue}
-use Rattle.psci_fw_spec.specs.declared.opening.Opening.{Opening}
-use Rattle.psci_fw_spec.specs.declared.outcome.Act.TheVariants as acts
-use Rattle.psci_fw_spec.specs.declared.outcome.Outcome.{Outcome}
-use Rattle.psci_fw_spec.specs.Calls.{function_outcome, outcome_of}
-use Rattle.psci_fw_spec.specs.Changes.{with_arrival}
-use Rattle.psci_fw_spec.specs.CpuOn.{target_of}
-use Rattle.psci_fw_spec.specs.CpuSuspend.{ask_named}
-use Rattle.psci_fw_spec.specs.CpuOff.{off_message}
-use Rattle.psci_fw_spec.specs.Entering.{enter_outcome, outcome_at, resumes}
-use Rattle.psci_fw_spec.specs.Lives.{in_life}
+use Rattle.psci_fw_spec.proofs.Words.{◌≡◌, ask_named, BoardValue, Bool, cond, false}
+use Rattle.psci_fw_spec.proofs.Words.{function_outcome, in_life, MessageValue, None, off_message}
+use Rattle.psci_fw_spec.proofs.Words.{Opening, Option, Outcome, outcome_at, outcome_of, refl}
+use Rattle.psci_fw_spec.proofs.Words.{Request, resumes, Some, Start, stops, stops_with, subst}
+use Rattle.psci_fw_spec.proofs.Words.{target_of, true, Values, with_arrival, ℕ}
+use Rattle.psci_fw_spec.specs.Entering.{enter_outcome}
 use Rattle.psci_fw_spec.specs.Named.{IsNamed}
-use Rattle.psci_fw_spec.specs.Outcomes.{stops, stops_with}
-use Rattle.psci_fw_spec.specs.Values.{Values}
 use Rattle.psci_fw_spec.proofs.Arrivals.{at_itself, begun}
 use Rattle.psci_fw_spec.proofs.Endings.{on_ends, outcome_ends, reset2_ends, suspend_ends}
 use Rattle.psci_fw_spec.proofs.Endings.{system_ends}
 use Rattle.psci_fw_spec.proofs.Targets.{started_core}
+use Rattle.psci_abi.specs.declared.request.Request.TheVariants as requests
+use Rattle.psci_messages.specs.declared.kind.Kind.TheVariants as kinds
+use Rattle.psci_fw_spec.specs.declared.outcome.Act.TheVariants as acts
 
 -- Functions -----------------------------------------------------------------------------------
 

@@ -1,23 +1,16 @@
 -- That the suspend mode is set leaves values such as the firmware keeps.
-use Rattle.std.proofs.Common.{◌≡◌, ◌≤◌, ◌<◌, ◌+◌, ◌==◌, ◌||◌, ℕ, zero, suc, Bool, true, false, cond}
-use Rattle.std.proofs.Common.{Option, None, Some, inl, inr, refl, sym, ap, subst, ◌∙◌, arith}
 use Rattle.std.specs.List.{list_all, range_with_len}
-use Rattle.std.proofs.lemmas.Bool.{and_parts, cases_eq, ne_eqb}
-use Rattle.psci_board.specs.Board.{BoardValue, cores, height, up}
+use Rattle.psci_fw_spec.proofs.Words.{◌+◌, ◌<◌, ◌==◌, ◌||◌, ◌∙◌, ◌≡◌, ◌≤◌, activity_of, all_others}
+use Rattle.psci_fw_spec.proofs.Words.{and_parts, ap, AreValues, arith, Away, BoardValue, Bool}
+use Rattle.psci_fw_spec.proofs.Words.{cases_eq, change, cond, cores, denied, false, GoesOn, height}
+use Rattle.psci_fw_spec.proofs.Words.{if◌then◌else◌, inl, inr, int_eq, may_set, mode_asked}
+use Rattle.psci_fw_spec.proofs.Words.{mode_effect, ne_eqb, None, Option, OsInitiated, Phase}
+use Rattle.psci_fw_spec.proofs.Words.{Platform, refl, Running, SetsMode, Some, subst, suc, success}
+use Rattle.psci_fw_spec.proofs.Words.{SuspendMode, sym, true, up, Values, zero, ℕ}
 use Rattle.psci_state.specs.Cores.{is_away as is_core_away}
-use Rattle.psci_abi.specs.Codes.{denied, success}
-use Rattle.std.specs.Ordering.{int_eq}
-use Rattle.std.specs.Prelude.{if◌then◌else◌}
-use Rattle.psci_fw_spec.specs.declared.mode.SuspendMode.{SuspendMode}
-use Rattle.psci_fw_spec.specs.declared.mode.SuspendMode.TheVariants.{Platform, OsInitiated}
-use Rattle.psci_fw_spec.specs.After.{change}
 use Rattle.psci_fw_spec.specs.Changes.{with_mode}
-use Rattle.psci_fw_spec.specs.Effects.{GoesOn, SetsMode, mode_effect}
-use Rattle.psci_fw_spec.specs.Invariant.{AreValues}
-use Rattle.psci_fw_spec.specs.Phases.{Phase, Running, Away, activity_of, is_away}
-use Rattle.psci_fw_spec.specs.SuspendMode.{is_mode, may_set, mode_asked}
-use Rattle.psci_fw_spec.specs.SystemCalls.{all_others}
-use Rattle.psci_fw_spec.specs.Values.{Values}
+use Rattle.psci_fw_spec.specs.Phases.{is_away}
+use Rattle.psci_fw_spec.specs.SuspendMode.{is_mode}
 use Rattle.psci_fw_spec.proofs.Asked.{IsAllOff, IsLeast, Known, apart, asked_running, asks_at}
 use Rattle.psci_fw_spec.proofs.Changing.{kept_on}
 use Rattle.psci_fw_spec.proofs.Granting.{AreBounded, AreGranted, none_granted}

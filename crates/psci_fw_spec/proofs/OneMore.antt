@@ -1,11 +1,9 @@
 -- A history with one more exchange says the values that it leaves, field by field.
-use Rattle.std.proofs.Common.{◌≡◌, List, [], ◌∷◌, refl}
-use Rattle.psci_board.specs.Board.{BoardValue}
+use Rattle.psci_fw_spec.proofs.Words.{◌∷◌, ◌≡◌, [], BoardValue, effect, FwExchange, List, refl}
+use Rattle.psci_fw_spec.proofs.Words.{start_of_life}
 use Rattle.psci_messages.specs.Outstanding.{last_message, outstanding}
 use Rattle.psci_fw_spec.specs.After.{after}
-use Rattle.psci_fw_spec.specs.Exchange.{FwExchange, effect}
 use Rattle.psci_fw_spec.specs.History.{values_of}
-use Rattle.psci_fw_spec.specs.Lives.{start_of_life}
 use Rattle.psci_fw_spec.proofs.DomainsSay.{confirmed_more, granted_more}
 use Rattle.psci_fw_spec.proofs.OpeningsSay.{opening_more}
 use Rattle.psci_fw_spec.proofs.PhasesSay.{phase_more}

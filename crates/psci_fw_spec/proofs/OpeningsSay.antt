@@ -1,18 +1,11 @@
 -- What one more exchange says of openings is what its effect leaves of them.
-use Rattle.std.proofs.Common.{◌≡◌, ◌∙◌, ℕ, Bool, true, false, not, cond, ◌==◌, List}
-use Rattle.std.proofs.Common.{Option, None, Some, option_map, unwrap_or, refl, ap}
-use Rattle.std.specs.Option.{option_or}
-use Rattle.std.proofs.lemmas.Bool.{eqb-true}
-use Rattle.psci_board.specs.Board.{BoardValue}
-use Rattle.psci_fw_spec.specs.declared.opening.Opening.{Opening}
-use Rattle.psci_fw_spec.specs.After.{change}
-use Rattle.psci_fw_spec.specs.Changes.{target}
-use Rattle.psci_fw_spec.specs.Effects.{Effect, AsksOn, Rests, Enters, Parks, StopsAtOnce}
-use Rattle.psci_fw_spec.specs.Exchange.{FwExchange}
-use Rattle.psci_fw_spec.specs.History.{begins, life, opening, says_opening, values_of}
-use Rattle.psci_messages.specs.OnlyIf.{only_if}
+use Rattle.psci_fw_spec.proofs.Words.{◌==◌, ◌∙◌, ◌≡◌, ap, arrived, AsksOn, begins, BoardValue, Bool}
+use Rattle.psci_fw_spec.proofs.Words.{change, cond, Effect, Enters, eqb-true, false, FwExchange}
+use Rattle.psci_fw_spec.proofs.Words.{life, List, None, not, only_if, Opening, Option, option_map}
+use Rattle.psci_fw_spec.proofs.Words.{option_or, Parks, refl, Rests, Some, StopsAtOnce, target}
+use Rattle.psci_fw_spec.proofs.Words.{true, unwrap_or, ℕ}
+use Rattle.psci_fw_spec.specs.History.{opening, says_opening, values_of}
 use Rattle.psci_fw_spec.specs.Lives.{first_opening}
-use Rattle.psci_fw_spec.specs.Said.{arrived}
 use Rattle.psci_fw_spec.proofs.Says.{found, found_says, said, said_or}
 
 -- of each effect

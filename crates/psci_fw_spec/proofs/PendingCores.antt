@@ -1,25 +1,16 @@
 -- A core is pending exactly where its status is ON_PENDING, after every history.
-use Rattle.std.proofs.Common.{◌≡◌, ◌∙◌, ◌↔◌, ◌==◌, ◌&&◌, ℕ, Bool, true, false, cond, List, [], ◌∷◌}
-use Rattle.std.proofs.Common.{None, Some, unwrap_or, nat_lt, refl, sym, ap, subst}
-use Rattle.std.specs.Option.{option_or}
-use Rattle.std.proofs.lemmas.Bool.{and_parts}
-use Rattle.psci_board.specs.Board.{BoardValue}
-use Rattle.psci_messages.specs.declared.kind.Kind.TheVariants.{Down}
-use Rattle.psci_messages.specs.Message.{AckValue}
-use Rattle.psci_messages.specs.Slots.{is_kind}
-use Rattle.psci_fw_spec.specs.declared.status.Status.{Status}
+use Rattle.psci_fw_spec.proofs.Words.{◌&&◌, ◌==◌, ◌↔◌, ◌∙◌, ◌∷◌, ◌≡◌, [], Acknowledges, AckValue}
+use Rattle.psci_fw_spec.proofs.Words.{and_parts, ap, arrived, AsksOn, begins, BoardValue, Bool}
+use Rattle.psci_fw_spec.proofs.Words.{cond, Down, Effect, effect, Enters, false, first_status}
+use Rattle.psci_fw_spec.proofs.Words.{FwExchange, is_kind, is_pending, life, List, nat_lt, None}
+use Rattle.psci_fw_spec.proofs.Words.{only_if, option_or, Parks, Pending, Phase, phase, phase_left}
+use Rattle.psci_fw_spec.proofs.Words.{refl, says_pending, says_status, Some, Status, status}
+use Rattle.psci_fw_spec.proofs.Words.{StopsAtOnce, subst, sym, target, true, unwrap_or, ℕ}
+use Rattle.psci_fw_spec.specs.History.{is_gone}
+use Rattle.psci_fw_spec.specs.Phases.{is_away}
+use Rattle.psci_fw_spec.proofs.LeftBy.{IsLeft, is_left}
 use Rattle.psci_fw_spec.specs.declared.status.Status.TheVariants as statuses
 use Rattle.psci_fw_spec.specs.AffinityInfo as affinity
-use Rattle.psci_fw_spec.specs.Changes.{target}
-use Rattle.psci_fw_spec.specs.Effects.{Effect, AsksOn, Enters, Parks, StopsAtOnce, Acknowledges}
-use Rattle.psci_fw_spec.specs.Exchange.{FwExchange, effect}
-use Rattle.psci_fw_spec.specs.History.{begins, is_gone, is_pending, life, phase}
-use Rattle.psci_messages.specs.OnlyIf.{only_if}
-use Rattle.psci_fw_spec.specs.History.{phase_left, says_pending, says_status, status}
-use Rattle.psci_fw_spec.specs.Lives.{first_status}
-use Rattle.psci_fw_spec.specs.Phases.{Phase, Pending, is_away}
-use Rattle.psci_fw_spec.specs.Said.{arrived}
-use Rattle.psci_fw_spec.proofs.LeftBy.{IsLeft, is_left}
 
 -- What is said of one core --------------------------------------------------------------------
 

@@ -1,19 +1,12 @@
 -- What one more exchange says of phases is what its effect leaves of them.
-use Rattle.std.proofs.Common.{◌≡◌, ◌∙◌, ℕ, Bool, true, false, not, cond, ◌==◌, List}
-use Rattle.std.proofs.Common.{None, Some, unwrap_or, refl, sym, ap}
-use Rattle.std.specs.Option.{option_or}
-use Rattle.std.proofs.lemmas.Bool.{eqb-true}
-use Rattle.psci_board.specs.Board.{BoardValue}
-use Rattle.psci_fw_spec.specs.After.{change}
-use Rattle.psci_fw_spec.specs.Changes.{target}
-use Rattle.psci_fw_spec.specs.Effects.{Effect, GoesOn, SetsMode, AsksOn, Rests, Halts}
-use Rattle.psci_fw_spec.specs.Effects.{Stops, Enters, Parks, StopsAtOnce}
-use Rattle.psci_fw_spec.specs.Exchange.{FwExchange}
-use Rattle.psci_fw_spec.specs.History.{begins, is_pending, life, phase_left, says_left}
-use Rattle.psci_messages.specs.OnlyIf.{only_if}
-use Rattle.psci_fw_spec.specs.History.{says_pending, values_of}
-use Rattle.psci_fw_spec.specs.Phases.{Phase, Pending, Running, Away, unless_pending}
-use Rattle.psci_fw_spec.specs.Said.{arrived}
+use Rattle.psci_fw_spec.proofs.Words.{◌==◌, ◌∙◌, ◌≡◌, ap, arrived, AsksOn, Away, begins, BoardValue}
+use Rattle.psci_fw_spec.proofs.Words.{Bool, change, cond, Effect, Enters, eqb-true, false}
+use Rattle.psci_fw_spec.proofs.Words.{FwExchange, GoesOn, Halts, is_pending, life, List, None, not}
+use Rattle.psci_fw_spec.proofs.Words.{only_if, option_or, Parks, Pending, Phase, phase_left, refl}
+use Rattle.psci_fw_spec.proofs.Words.{Rests, Running, says_pending, SetsMode, Some, StopsAtOnce}
+use Rattle.psci_fw_spec.proofs.Words.{sym, target, true, unless_pending, unwrap_or, ℕ}
+use Rattle.psci_fw_spec.specs.Effects.{Stops}
+use Rattle.psci_fw_spec.specs.History.{says_left, values_of}
 use Rattle.psci_fw_spec.proofs.LeftBy.{IsLeft, is_left}
 use Rattle.psci_fw_spec.proofs.Says.{found}
 

@@ -1,28 +1,19 @@
 -- Replies are the same where the test says so, and a history is legal where its test says so.
-use Rattle.std.proofs.Common.{◌≡◌, ◌==◌, ◌&&◌, ℕ, ℤ, Bool, true, List, [], ◌∷◌, Option}
-use Rattle.std.proofs.Common.{None, Some, refl, sym, ◌∙◌, ap, arith}
-use Rattle.std.specs.Ordering.{int_eq}
-use Rattle.std.proofs.lemmas.Bool.{and_parts, eqb-true}
-use Rattle.std.proofs.lemmas.Bool.Decides.{Decides-int_eq, nat_tests}
-use Rattle.psci_board.specs.Board.{BoardValue}
-use Rattle.psci_messages.specs.declared.part.Part.{Part}
-use Rattle.psci_messages.specs.declared.kind.Kind.{Kind}
-use Rattle.psci_messages.specs.declared.kind.Kind.TheVariants as kinds
+use Rattle.std.proofs.lemmas.Bool.Decides.{Decides-int_eq}
+use Rattle.psci_fw_spec.proofs.Words.{◌&&◌, ◌==◌, ◌∙◌, ◌∷◌, ◌≡◌, [], Act, and_parts, ap, arith}
+use Rattle.psci_fw_spec.proofs.Words.{BoardValue, Bool, eqb-true, Fault, FwExchange, FwFault}
+use Rattle.psci_fw_spec.proofs.Words.{FwReply, int_eq, is_kind, IsLegal, Kind, legal_reply, List}
+use Rattle.psci_fw_spec.proofs.Words.{MessageValue, nat_tests, None, Option, Out, Part, refl, Some}
+use Rattle.psci_fw_spec.proofs.Words.{sym, true, ℕ, ℤ}
 use Rattle.psci_messages.specs.declared.taken.Taken.{Taken}
-use Rattle.psci_messages.specs.declared.taken.Taken.TheVariants as takens
-use Rattle.psci_messages.specs.Message.{MessageValue}
-use Rattle.psci_messages.specs.Slots.{is_kind}
-use Rattle.psci_fw_spec.specs.declared.fault.FwFault.{FwFault}
-use Rattle.psci_fw_spec.specs.declared.fault.FwFault.TheVariants as faults
-use Rattle.psci_fw_spec.specs.declared.outcome.Act.{Act}
-use Rattle.psci_fw_spec.specs.declared.outcome.Act.TheVariants as acts
-use Rattle.psci_fw_spec.specs.declared.reply.FwReply.{FwReply}
-use Rattle.psci_fw_spec.specs.declared.reply.FwReply.TheVariants.{Out, Fault}
-use Rattle.psci_fw_spec.specs.declared.reply.FwReply.TheVariants as replies
-use Rattle.psci_fw_spec.specs.Exchange.{FwExchange}
-use Rattle.psci_fw_spec.specs.Legal.{IsLegal, is_legal, legal_reply}
+use Rattle.psci_fw_spec.specs.Legal.{is_legal}
 use Rattle.psci_fw_spec.specs.Same.{are_same_parts, fault_code, is_same_act, is_same_message}
 use Rattle.psci_fw_spec.specs.Same.{is_same_reply, is_same_sent, is_same_taken}
+use Rattle.psci_messages.specs.declared.kind.Kind.TheVariants as kinds
+use Rattle.psci_messages.specs.declared.taken.Taken.TheVariants as takens
+use Rattle.psci_fw_spec.specs.declared.fault.FwFault.TheVariants as faults
+use Rattle.psci_fw_spec.specs.declared.outcome.Act.TheVariants as acts
+use Rattle.psci_fw_spec.specs.declared.reply.FwReply.TheVariants as replies
 
 -- Equal to itself -----------------------------------------------------------------------------
 

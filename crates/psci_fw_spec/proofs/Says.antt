@@ -1,20 +1,11 @@
 -- What one more exchange says of life, halting, mode and known starts is what its effect leaves.
-use Rattle.std.proofs.Common.{◌≡◌, ◌∙◌, ℕ, Bool, true, false, not, cond, ◌==◌, List}
-use Rattle.std.proofs.Common.{None, Some, unwrap_or, refl, ap}
-use Rattle.std.specs.Option.{option_or}
-use Rattle.std.proofs.lemmas.Bool.{eqb-true}
-use Rattle.psci_board.specs.Board.{BoardValue}
-use Rattle.psci_fw_spec.specs.declared.mode.SuspendMode.TheVariants.{Platform}
-use Rattle.psci_messages.specs.declared.start.Start.{Start}
-use Rattle.psci_fw_spec.specs.After.{change}
-use Rattle.psci_fw_spec.specs.Effects.{Effect, Enters, Parks, StopsAtOnce}
-use Rattle.psci_fw_spec.specs.Exchange.{FwExchange}
-use Rattle.psci_fw_spec.specs.History.{begins, halting, known, life, life_after, mode}
-use Rattle.psci_messages.specs.OnlyIf.{only_if}
-use Rattle.psci_fw_spec.specs.History.{says_halting, says_known, says_mode, values_of}
-use Rattle.psci_fw_spec.specs.Lives.{start_of_life}
-use Rattle.psci_fw_spec.specs.Said.{arrived}
-use Rattle.psci_fw_spec.specs.Values.{Values}
+use Rattle.psci_fw_spec.proofs.Words.{◌==◌, ◌∙◌, ◌≡◌, ap, arrived, begins, BoardValue, Bool, change}
+use Rattle.psci_fw_spec.proofs.Words.{cond, Effect, Enters, eqb-true, false, FwExchange, known}
+use Rattle.psci_fw_spec.proofs.Words.{life, List, None, not, only_if, option_or, Parks, Platform}
+use Rattle.psci_fw_spec.proofs.Words.{refl, Some, Start, start_of_life, StopsAtOnce, true}
+use Rattle.psci_fw_spec.proofs.Words.{unwrap_or, Values, ℕ}
+use Rattle.psci_fw_spec.specs.History.{halting, life_after, mode, says_halting, says_known}
+use Rattle.psci_fw_spec.specs.History.{says_mode, values_of}
 
 -- something is said of one core, or of no other
 pub said : {A : Type 0} (t : Bool) (x y : A) → unwrap_or (only_if t (Some x)) y ≡ cond t x y

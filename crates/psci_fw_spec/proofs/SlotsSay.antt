@@ -1,17 +1,14 @@
 -- What one more exchange does to outstanding messages is what its effect leaves of them.
-use Rattle.std.proofs.Common.{◌≡◌, ◌∙◌, ℕ, Bool, true, false, not, ◌==◌, List, [], ◌∷◌, ◌++◌}
-use Rattle.std.proofs.Common.{Some, refl, ap}
-use Rattle.psci_board.specs.Board.{BoardValue}
-use Rattle.psci_messages.specs.Outstanding as slots
+use Rattle.std.proofs.Common.{◌++◌}
+use Rattle.psci_fw_spec.proofs.Words.{◌==◌, ◌∙◌, ◌∷◌, ◌≡◌, [], Acknowledges, ap, arrived, AsksOn}
+use Rattle.psci_fw_spec.proofs.Words.{begins, BoardValue, Bool, change, changes, Effect, Enters}
+use Rattle.psci_fw_spec.proofs.Words.{false, FwExchange, Halts, life, List, not, Parks, refl, Rests}
+use Rattle.psci_fw_spec.proofs.Words.{Some, Start, StopsAtOnce, true, ℕ}
 use Rattle.psci_messages.specs.Slots.{Change, Clear, ClearAll, Put, Slot, changed}
-use Rattle.psci_messages.specs.declared.start.Start.{Start}
-use Rattle.psci_fw_spec.specs.After.{change}
-use Rattle.psci_fw_spec.specs.Effects.{Effect, AsksOn, Rests, Halts}
-use Rattle.psci_fw_spec.specs.Effects.{Enters, Parks, StopsAtOnce, Acknowledges}
-use Rattle.psci_fw_spec.specs.Exchange.{FwExchange}
-use Rattle.psci_fw_spec.specs.History.{begins, changes, life, values_of}
-use Rattle.psci_fw_spec.specs.Said.{arrival_changes, arrived, slot_changes}
+use Rattle.psci_fw_spec.specs.History.{values_of}
+use Rattle.psci_fw_spec.specs.Said.{arrival_changes, slot_changes}
 use Rattle.psci_fw_spec.proofs.Says.{found}
+use Rattle.psci_messages.specs.Outstanding as slots
 
 -- what one more change leaves outstanding, as the law of slots says it
 abbrev pub IsOneMore : Type 0

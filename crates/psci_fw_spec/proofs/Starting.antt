@@ -1,19 +1,18 @@
 -- What holds of the values at the start of a life.
-use Rattle.std.proofs.Common.{◌≡◌, ◌≤◌, ◌<◌, ◌+◌, ◌==◌, ◌&&◌, not, ℕ, Bool, true, false, cond}
-use Rattle.std.proofs.Common.{None, Some, inl, inr, refl, sym, ap, subst, ◌∙◌, arith, true≢false}
-use Rattle.std.specs.Prelude.{is_some}
-use Rattle.std.proofs.lemmas.Bool.{and_from, cases_eq, eq-eqb, le-leb, lt-ltb, ne_eqb}
-use Rattle.psci_board.specs.Board.{BoardValue, cores, has_node, height, nodes, up}
-use Rattle.psci_fw_spec.specs.declared.opening.Opening.{Opening}
-use Rattle.psci_fw_spec.specs.declared.status.Status.TheVariants as statuses
-use Rattle.psci_fw_spec.specs.Invariant.{AreValues, IsPhase, agrees, is_expected}
-use Rattle.psci_fw_spec.specs.Lives.{first_granted, first_phase, in_life, start_of_life}
-use Rattle.psci_fw_spec.specs.Phases.{Pending, Away}
-use Rattle.psci_fw_spec.specs.Values.{Values}
+use Rattle.std.proofs.lemmas.Bool.{and_from, lt-ltb}
+use Rattle.psci_fw_spec.proofs.Words.{◌&&◌, ◌+◌, ◌<◌, ◌==◌, ◌∙◌, ◌≡◌, ◌≤◌, agrees, ap, AreValues}
+use Rattle.psci_fw_spec.proofs.Words.{arith, Away, BoardValue, Bool, cases_eq, cond, cores, eq-eqb}
+use Rattle.psci_fw_spec.proofs.Words.{false, first_granted, height, in_life, inl, inr, is_expected}
+use Rattle.psci_fw_spec.proofs.Words.{is_some, IsPhase, le-leb, ne_eqb, None, not, Opening, Pending}
+use Rattle.psci_fw_spec.proofs.Words.{refl, Some, start_of_life, subst, sym, true, true≢false, up}
+use Rattle.psci_fw_spec.proofs.Words.{Values, ℕ}
+use Rattle.psci_board.specs.Board.{has_node, nodes}
+use Rattle.psci_fw_spec.specs.Lives.{first_phase}
 use Rattle.psci_fw_spec.proofs.Asked.{IsLeast, Known, alone, asked_away, asked_pending, asks_at}
 use Rattle.psci_fw_spec.proofs.Asked.{joined}
 use Rattle.psci_fw_spec.proofs.Granting.{AreGranted}
 use Rattle.psci_fw_spec.proofs.Holding.{awake_from}
+use Rattle.psci_fw_spec.specs.declared.status.Status.TheVariants as statuses
 
 -- Cores ---------------------------------------------------------------------------------------
 

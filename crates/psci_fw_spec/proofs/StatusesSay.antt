@@ -1,23 +1,14 @@
 -- What one more exchange says of statuses is what its effect leaves of them.
-use Rattle.std.proofs.Common.{◌≡◌, ◌∙◌, ℕ, Bool, true, false, not, cond, ◌==◌, ◌&&◌, List}
-use Rattle.std.proofs.Common.{None, Some, unwrap_or, nat_lt, refl, ap}
-use Rattle.std.specs.Option.{option_or}
-use Rattle.std.proofs.lemmas.Bool.{eqb-true}
-use Rattle.psci_board.specs.Board.{BoardValue}
-use Rattle.psci_messages.specs.declared.kind.Kind.TheVariants.{Down}
-use Rattle.psci_messages.specs.Slots.{is_kind}
-use Rattle.psci_fw_spec.specs.declared.status.Status.TheVariants as statuses
-use Rattle.psci_fw_spec.specs.After.{change}
-use Rattle.psci_fw_spec.specs.Changes.{target}
-use Rattle.psci_fw_spec.specs.Effects.{Effect, AsksOn, Enters, Parks, StopsAtOnce, Acknowledges}
-use Rattle.psci_fw_spec.specs.Exchange.{FwExchange}
-use Rattle.psci_fw_spec.specs.History.{begins, life, phase, says_status, status}
-use Rattle.psci_messages.specs.OnlyIf.{only_if}
+use Rattle.psci_fw_spec.proofs.Words.{◌&&◌, ◌==◌, ◌∙◌, ◌≡◌, Acknowledges, ap, arrived, AsksOn}
+use Rattle.psci_fw_spec.proofs.Words.{begins, BoardValue, Bool, change, cond, Down, Effect, Enters}
+use Rattle.psci_fw_spec.proofs.Words.{eqb-true, false, first_status, FwExchange, is_kind, life}
+use Rattle.psci_fw_spec.proofs.Words.{List, nat_lt, None, not, only_if, option_or, Parks, phase}
+use Rattle.psci_fw_spec.proofs.Words.{refl, says_status, Some, status, StopsAtOnce, target, true}
+use Rattle.psci_fw_spec.proofs.Words.{unwrap_or, ℕ}
 use Rattle.psci_fw_spec.specs.History.{values_of}
-use Rattle.psci_fw_spec.specs.Lives.{first_status}
 use Rattle.psci_fw_spec.specs.Phases.{is_away}
-use Rattle.psci_fw_spec.specs.Said.{arrived}
 use Rattle.psci_fw_spec.proofs.Says.{found, found_says, said, said_or}
+use Rattle.psci_fw_spec.specs.declared.status.Status.TheVariants as statuses
 
 -- of each effect
 module _ (b : BoardValue) (h : List FwExchange) where

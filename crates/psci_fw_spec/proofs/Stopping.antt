@@ -1,28 +1,15 @@
 -- What a core claims that stops is granted, and leaves values such as the firmware keeps.
-use Rattle.std.proofs.Common.{◌≡◌, ◌≤◌, ◌<◌, ℕ, true, false, List, Ok, refl, sym, ap, subst, ◌∙◌}
-use Rattle.std.proofs.Common.{arith, Option, None, Some}
-use Rattle.std.specs.Prelude.{is_some}
-use Rattle.std.specs.Option.{option_or}
-use Rattle.psci_board.specs.Board.{BoardValue, cores}
-use Rattle.psci_messages.specs.Claim.{claims_of, least_wish, off_wish, own_wish}
-use Rattle.psci_messages.specs.declared.part.Part.{Part}
-use Rattle.psci_messages.specs.View.{PowerView}
-use Rattle.psci_messages.specs.Message.{MessageValue}
-use Rattle.psci_state.specs.Ask.{IsAsk}
-use Rattle.psci_state.specs.Cores.{is_away}
-use Rattle.psci_fw_spec.specs.declared.mode.SuspendMode.{SuspendMode}
-use Rattle.psci_fw_spec.specs.declared.mode.SuspendMode.TheVariants.{Platform, OsInitiated}
-use Rattle.psci_fw_spec.specs.declared.opening.Opening.{Opening}
-use Rattle.psci_messages.specs.declared.start.Start.{Start}
-use Rattle.psci_fw_spec.specs.declared.status.Status.TheVariants as statuses
-use Rattle.psci_fw_spec.specs.Changes.{Rest, with_arrival, with_claims, with_phase, with_rest}
-use Rattle.psci_fw_spec.specs.Claims.{leaving_claims, off_parts, suspend_claims, suspend_parts}
-use Rattle.psci_fw_spec.specs.Invariant.{AreValues, IsPhase, agrees, is_expected}
-use Rattle.psci_fw_spec.specs.Lives.{in_life}
-use Rattle.psci_fw_spec.specs.Paths.{cleared, granted_with}
-use Rattle.psci_fw_spec.specs.Phases.{Phase, Running, Suspended, Away, activity_of, unless_pending}
-use Rattle.psci_fw_spec.specs.Values.{Values, updated}
-use Rattle.psci_fw_spec.specs.Views.{view}
+use Rattle.psci_fw_spec.proofs.Words.{◌<◌, ◌∙◌, ◌≡◌, ◌≤◌, activity_of, agrees, ap, AreValues, arith}
+use Rattle.psci_fw_spec.proofs.Words.{Away, BoardValue, claims_of, cleared, cores, false}
+use Rattle.psci_fw_spec.proofs.Words.{granted_with, in_life, is_away, is_expected, is_some, IsAsk}
+use Rattle.psci_fw_spec.proofs.Words.{IsPhase, least_wish, leaving_claims, List, MessageValue, None}
+use Rattle.psci_fw_spec.proofs.Words.{off_wish, Ok, Opening, Option, option_or, OsInitiated}
+use Rattle.psci_fw_spec.proofs.Words.{own_wish, Part, Phase, Platform, PowerView, refl, Running}
+use Rattle.psci_fw_spec.proofs.Words.{Some, Start, subst, suspend_claims, Suspended, SuspendMode}
+use Rattle.psci_fw_spec.proofs.Words.{sym, true, unless_pending, updated, Values, view}
+use Rattle.psci_fw_spec.proofs.Words.{with_arrival, with_phase, ℕ}
+use Rattle.psci_fw_spec.specs.Changes.{Rest, with_claims, with_rest}
+use Rattle.psci_fw_spec.specs.Claims.{off_parts, suspend_parts}
 use Rattle.psci_fw_spec.proofs.Asked.{IsAsking, Known, asked_running, asks_at, phase_asks}
 use Rattle.psci_fw_spec.proofs.Changing.{agree_away, known_arrived, on_where_runs, phase_away}
 use Rattle.psci_fw_spec.proofs.Granting.{AreBounded, AreGranted, AreWanted, ChangedAt}
@@ -32,6 +19,7 @@ use Rattle.psci_fw_spec.proofs.Holding.{awake_from, bounded_of, granted_of}
 use Rattle.psci_fw_spec.proofs.Updates.{both_updated, left_at, left_each, left_else, parked_left}
 use Rattle.psci_fw_spec.proofs.Updates.{ran_left, updated_at, updated_each, updated_else}
 use Rattle.psci_fw_spec.proofs.Wishes.{claim_laid, least_wanted, off_wanted, own_wanted}
+use Rattle.psci_fw_spec.specs.declared.status.Status.TheVariants as statuses
 
 -- Granted depths ------------------------------------------------------------------------------
 

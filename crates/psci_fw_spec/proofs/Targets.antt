@@ -1,36 +1,20 @@
 -- The target of an accepted CPU_ON was off.
-use Rattle.std.proofs.Common.{◌≡◌, ◌==◌, ℕ, Bool, true, false, cond, Option, None, Some, Result}
-use Rattle.std.proofs.Common.{Ok, Err, refl, sym, ◌∙◌, ap, subst}
-use Rattle.std.specs.Ordering.{int_eq}
-use Rattle.psci_abi.specs.Calls.{request_of}
-use Rattle.psci_abi.specs.Codes.{success}
-use Rattle.psci_abi.specs.declared.code.Code.{Code}
-use Rattle.psci_abi.specs.declared.registers.Regs.{Regs}
-use Rattle.psci_abi.specs.declared.request.Request.{Request}
+use Rattle.std.proofs.Common.{Result}
+use Rattle.psci_fw_spec.proofs.Words.{◌==◌, ◌∙◌, ◌≡◌, Act, agrees, ap, AreValues, AsksOn}
+use Rattle.psci_fw_spec.proofs.Words.{BoardValue, Bool, call_fault, Code, cond, Core, core_of}
+use Rattle.psci_fw_spec.proofs.Words.{Effect, effect_of, Err, false, function_effect}
+use Rattle.psci_fw_spec.proofs.Words.{function_outcome, FwFault, GoesOn, int_eq, may_enter}
+use Rattle.psci_fw_spec.proofs.Words.{MessageValue, mode_effect, mode_of, None, Off, off_target, Ok}
+use Rattle.psci_fw_spec.proofs.Words.{Option, Outcome, Phase, PowerOn, refl, Regs, reply_or}
+use Rattle.psci_fw_spec.proofs.Words.{Request, request_of, return_effect, sent_effect, Smc, Some}
+use Rattle.psci_fw_spec.proofs.Words.{start_outcome, Status, stop_effect, stops, subst, success}
+use Rattle.psci_fw_spec.proofs.Words.{SuspendMode, sym, target, target_among, true, Values, ℕ}
+use Rattle.psci_fw_spec.specs.Answer.{answer}
+use Rattle.psci_fw_spec.specs.Calls.{outcome_of}
+use Rattle.psci_fw_spec.specs.CpuOn.{target_of}
 use Rattle.psci_abi.specs.declared.request.Request.TheVariants as requests
-use Rattle.psci_board.specs.Board.{BoardValue, core_of, may_enter}
-use Rattle.psci_board.specs.declared.node.Core.{Core}
-use Rattle.psci_messages.specs.Message.{MessageValue}
-use Rattle.psci_fw_spec.specs.declared.call.FwCall.TheVariants.{Smc}
-use Rattle.psci_fw_spec.specs.declared.fault.FwFault.{FwFault}
-use Rattle.psci_fw_spec.specs.declared.mode.SuspendMode.{SuspendMode}
-use Rattle.psci_fw_spec.specs.declared.outcome.Act.{Act}
 use Rattle.psci_fw_spec.specs.declared.outcome.Act.TheVariants as acts
-use Rattle.psci_fw_spec.specs.declared.outcome.Outcome.{Outcome}
-use Rattle.psci_fw_spec.specs.declared.status.Status.{Status}
-use Rattle.psci_fw_spec.specs.declared.status.Status.TheVariants.{Off}
-use Rattle.psci_fw_spec.specs.Answer.{answer, reply_or}
-use Rattle.psci_fw_spec.specs.Calls.{call_fault, function_outcome, outcome_of}
-use Rattle.psci_fw_spec.specs.Changes.{PowerOn, target}
-use Rattle.psci_fw_spec.specs.CpuOn.{off_target, start_outcome, target_among, target_of}
-use Rattle.psci_fw_spec.specs.Effects.{Effect, AsksOn, GoesOn, effect_of, function_effect}
-use Rattle.psci_fw_spec.specs.Effects.{mode_effect, return_effect, sent_effect, stop_effect}
-use Rattle.psci_fw_spec.specs.Invariant.{AreValues, agrees}
-use Rattle.psci_fw_spec.specs.Outcomes.{stops}
-use Rattle.psci_fw_spec.specs.Phases.{Phase}
 use Rattle.psci_fw_spec.specs.Phases as phases
-use Rattle.psci_fw_spec.specs.SuspendMode.{mode_of}
-use Rattle.psci_fw_spec.specs.Values.{Values}
 
 -- A CPU_ON that was accepted: what was asked, and that its target was off.
 pub record WasAsked (b : BoardValue) (v : Values) (r : Request) (asked : PowerOn) : Type 0 where

@@ -1,12 +1,9 @@
 -- Functions of cores with one core's value updated.
-use Rattle.std.proofs.Common.{◌≡◌, ◌==◌, ℕ, Bool, true, false, cond, refl, sym, ap, subst, ◌∙◌}
-use Rattle.std.specs.Prelude.{Option, None, is_some}
-use Rattle.std.proofs.lemmas.Bool.{eq-eqb, eqb-true, ne_eqb}
-use Rattle.psci_fw_spec.specs.declared.opening.Opening.{Opening}
-use Rattle.psci_fw_spec.specs.Invariant.{is_expected}
-use Rattle.psci_fw_spec.specs.Phases.{Phase, Pending, Running, Away, unless_pending}
-use Rattle.psci_fw_spec.specs.Changes.{with_phase}
-use Rattle.psci_fw_spec.specs.Values.{Values, updated}
+use Rattle.std.specs.Prelude.{Option, None}
+use Rattle.psci_fw_spec.proofs.Words.{◌==◌, ◌∙◌, ◌≡◌, ap, Away, Bool, cond, eq-eqb, eqb-true, false}
+use Rattle.psci_fw_spec.proofs.Words.{is_expected, is_some, ne_eqb, Opening, Pending, Phase, refl}
+use Rattle.psci_fw_spec.proofs.Words.{Running, subst, sym, true, unless_pending, updated, Values}
+use Rattle.psci_fw_spec.proofs.Words.{with_phase, ℕ}
 use Rattle.psci_fw_spec.proofs.Granting.{ChangedAt, chosen}
 
 pub updated_at : {A : Type 0} (f : ℕ → A) (c : ℕ) (x : A) → updated f c x c ≡ x

@@ -1,22 +1,16 @@
 -- Each way to stop wants what a stop may want of the domains on its core's path.
-use Rattle.std.proofs.Common.{◌≡◌, ◌≤◌, ◌<◌, ◌+◌, ℕ, zero, suc, Bool, true, false, cond, List}
-use Rattle.std.proofs.Common.{inl, inr, refl, sym, ap, subst, ◌∙◌, arith, true≢false, Ok, get_or}
-use Rattle.std.specs.Prelude.{slice_get, length, Some}
+use Rattle.std.proofs.Common.{get_or}
+use Rattle.std.specs.Prelude.{length, Some}
 use Rattle.std.proofs.lemmas.Bool.{cases_Bool, cases_lt}
 use Rattle.std.proofs.lemmas.Option.{slice_get-get_or, slice_get_past}
-use Rattle.psci_board.specs.Board.{BoardValue, cores, height, up}
-use Rattle.psci_messages.specs.Claim.{claims_of, least_wish, off_wish, own_wish}
-use Rattle.psci_messages.specs.LastCore.{last_core_check}
-use Rattle.psci_messages.specs.declared.part.Part.{Part}
-use Rattle.psci_messages.specs.View.{PowerView, domain_of, is_all_away}
-use Rattle.psci_state.specs.Ask.{IsAsk}
-use Rattle.psci_state.specs.Cores.{is_away}
-use Rattle.psci_fw_spec.specs.declared.mode.SuspendMode.{SuspendMode}
-use Rattle.psci_fw_spec.specs.declared.mode.SuspendMode.TheVariants.{Platform, OsInitiated}
-use Rattle.psci_fw_spec.specs.Phases.{Phase, Suspended, Away, activity_of}
-use Rattle.psci_fw_spec.specs.Values.{Values}
+use Rattle.psci_fw_spec.proofs.Words.{◌+◌, ◌<◌, ◌∙◌, ◌≡◌, ◌≤◌, activity_of, ap, arith, Away}
+use Rattle.psci_fw_spec.proofs.Words.{BoardValue, Bool, claimed_or, claims_of, cond, cores}
+use Rattle.psci_fw_spec.proofs.Words.{domain_of, false, height, inl, inr, is_all_away, is_away}
+use Rattle.psci_fw_spec.proofs.Words.{IsAsk, last_core_check, least_wish, List, off_wish, Ok}
+use Rattle.psci_fw_spec.proofs.Words.{OsInitiated, own_wish, Part, Phase, Platform, PowerView, refl}
+use Rattle.psci_fw_spec.proofs.Words.{slice_get, subst, suc, Suspended, SuspendMode, sym, true}
+use Rattle.psci_fw_spec.proofs.Words.{true≢false, up, Values, zero, ℕ}
 use Rattle.psci_fw_spec.specs.Views.{view}
-use Rattle.psci_fw_spec.specs.Paths.{claimed_or}
 use Rattle.psci_fw_spec.proofs.Asked.{IsAllOff, IsAsking, IsLeast, Known, all_off, alone, apart}
 use Rattle.psci_fw_spec.proofs.Asked.{asked-fall, asked-most, asked_away, asked_within, asks_at}
 use Rattle.psci_fw_spec.proofs.Asked.{joined, least_is, off_all}

@@ -1,34 +1,25 @@
 -- An acknowledgement is taken: what the values in the state are then.
-use Rattle.std.proofs.Common.{◌≡◌, ℕ, ◌<◌, slice_get, Bool, true, false, cond, List, length, None}
-use Rattle.std.proofs.Common.{Some, Option, refl, sym, ◌∙◌, ap, inl, inr, slice_index_or}
-use Rattle.std.proofs.lemmas.Bool.{and_parts, cases_lt}
-use Rattle.std.proofs.lemmas.List.{get_or_past}
+use Rattle.std.proofs.Common.{slice_index_or}
+use Rattle.psci_fw_state.proofs.Words.{◌<◌, ◌∙◌, ◌≡◌, Acknowledge, AckValue, Activity, and_parts}
+use Rattle.psci_fw_state.proofs.Words.{answered, ap, applied_part, Bool, cases_lt, changed, cond}
+use Rattle.psci_fw_state.proofs.Words.{confirms_on, CoreRow, CoreState, false, get_or_past}
+use Rattle.psci_fw_state.proofs.Words.{granted_at, inl, inr, is_away, is_confirmed_at}
+use Rattle.psci_fw_state.proofs.Words.{is_last_claim, length, List, message_in, MessageValue, None}
+use Rattle.psci_fw_state.proofs.Words.{Option, Part, phase_by, refl, row_at, slice_get, Slot}
+use Rattle.psci_fw_state.proofs.Words.{slot_of, SlotsValue, Some, state_at, StateValue, Status}
+use Rattle.psci_fw_state.proofs.Words.{StatusCounts, sym, taken, TreeValue, true, turns_off}
+use Rattle.psci_fw_state.proofs.Words.{updated, Used, Values, ℕ}
 use Rattle.psci_messages.specs.declared.kind.Kind.{Kind}
 use Rattle.psci_messages.specs.declared.kind.Kind.TheVariants.{Down, Start, Off, Reset}
-use Rattle.psci_messages.specs.declared.taken.Taken.TheVariants.{Old, Used}
-use Rattle.psci_messages.specs.Message.{AckValue, MessageValue}
-use Rattle.psci_messages.specs.Slots.{Slot, SlotsValue, answers, answered, changed, is_kind}
-use Rattle.psci_messages.specs.Slots.{message_in, slot_of, taken}
-use Rattle.psci_messages.specs.Slots.Change.{Acknowledge}
-use Rattle.psci_fw_spec.specs.declared.status.Status.TheVariants as statuses
-use Rattle.psci_fw_spec.specs.Changes.{confirms_on, turns_off, with_acknowledgement}
-use Rattle.psci_fw_spec.specs.Confirmed.{applied_part}
-use Rattle.psci_fw_spec.specs.Phases.{is_away}
-use Rattle.psci_fw_spec.specs.Values.{Values, updated}
-use Rattle.psci_messages.specs.declared.part.Part.{Part}
-use Rattle.psci_tree.specs.Recount.{TreeValue, state_at, granted_at, is_confirmed_at}
-use Rattle.psci_state.specs.declared.cores.Activity.{Activity}
-use Rattle.psci_state.specs.declared.cores.Activity.TheVariants as activities
-use Rattle.psci_state.specs.declared.cores.CoreState.{CoreState}
-use Rattle.psci_fw_spec.specs.declared.status.Status.{Status}
-use Rattle.psci_fw_state.specs.declared.row.CoreRow.{CoreRow}
-use Rattle.psci_fw_state.specs.declared.counts.StatusCounts.{StatusCounts}
-use Rattle.psci_fw_state.specs.Confirming.{is_last_claim}
-use Rattle.psci_fw_state.specs.Rows.{row_at}
-use Rattle.psci_fw_state.specs.Seen.{StateValue, phase_by, values_in}
+use Rattle.psci_messages.specs.declared.taken.Taken.TheVariants.{Old}
+use Rattle.psci_messages.specs.Slots.{answers, is_kind}
+use Rattle.psci_fw_spec.specs.Changes.{with_acknowledgement}
+use Rattle.psci_fw_state.specs.Seen.{values_in}
 use Rattle.psci_fw_state.proofs.Changed.{Set, ap_set, both_set, off_is_away, stays, updated_is}
 use Rattle.psci_fw_state.proofs.Confirming.{claims_confirmed}
 use Rattle.psci_fw_state.proofs.Equal.{same_values, updated_same}
+use Rattle.psci_fw_spec.specs.declared.status.Status.TheVariants as statuses
+use Rattle.psci_state.specs.declared.cores.Activity.TheVariants as activities
 
 -- Slots -----------------------------------------------------------------------------------------
 

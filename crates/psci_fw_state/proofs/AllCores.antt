@@ -1,33 +1,25 @@
 -- What the counts of the whole system say of all cores together.
-use Rattle.std.proofs.Common.{◌≡◌, ℕ, ◌+◌, ◌<◌, ◌≤◌, ◌==◌, Bool, true, cond, not, ltb, List, length}
-use Rattle.std.proofs.Common.{drop, refl, ap, sym, ◌∙◌, arith, ◌^◌}
-use Rattle.std.specs.List.{sum_by, count_by, list_any, range_with_len}
-use Rattle.std.proofs.lemmas.Bool.{lt-ltb}
-use Rattle.std.proofs.lemmas.List.{drop_all, get_or_past}
-use Rattle.std.proofs.lemmas.List.FromFn.{length-range_with_len}
-use Rattle.psci_fw_spec.specs.AffinityInfo.{is_on, is_pending_status}
-use Rattle.psci_fw_spec.specs.Invariant.{agrees}
-use Rattle.psci_fw_spec.specs.Phases.{is_away, is_suspended_or_pending}
-use Rattle.psci_fw_spec.specs.SystemCalls.{all_others, is_off_status}
-use Rattle.psci_state.specs.declared.cores.Activity.{Activity}
-use Rattle.psci_state.specs.declared.cores.Activity.TheVariants as activities
-use Rattle.psci_state.specs.declared.cores.CoreState.{CoreState}
-use Rattle.psci_tree.specs.Recount.{is_active, is_away as is_gone, active, is_active_at, is_away_at}
-use Rattle.psci_tree.specs.Recount.{never_started, off, state_at}
-use Rattle.psci_board.specs.declared.node.Node.{Node}
-use Rattle.psci_board.specs.Board.{HasNodeIn, below_in, cores, height, size_below}
+use Rattle.std.proofs.Common.{◌^◌}
+use Rattle.std.proofs.lemmas.List.{drop_all}
+use Rattle.psci_fw_state.proofs.Words.{◌+◌, ◌<◌, ◌==◌, ◌∙◌, ◌≡◌, ◌≤◌, Activity, agrees, ap, arith}
+use Rattle.psci_fw_state.proofs.Words.{below_in, Bool, cond, CoreRow, cores, CoreState, count_by}
+use Rattle.psci_fw_state.proofs.Words.{drop, get_or_past, HasNodeIn, height, is_active, is_away}
+use Rattle.psci_fw_state.proofs.Words.{is_off_status, is_on, is_pending_status}
+use Rattle.psci_fw_state.proofs.Words.{is_suspended_or_pending, IsState, length}
+use Rattle.psci_fw_state.proofs.Words.{length-range_with_len, List, list_any, lt-ltb, ltb}
+use Rattle.psci_fw_state.proofs.Words.{never_started, Node, not, off_row, one_core, phase_by}
+use Rattle.psci_fw_state.proofs.Words.{range_with_len, refl, size_below, size_few, state_at}
+use Rattle.psci_fw_state.proofs.Words.{StateValue, status_at, StatusCounts, sum_by, sym, true, ℕ}
+use Rattle.psci_fw_spec.specs.SystemCalls.{all_others}
+use Rattle.psci_tree.specs.Recount.{is_away as is_gone, active, is_active_at, is_away_at, off}
 use Rattle.psci_board.specs.declared.span.CoreSpan.{CoreSpan}
 use Rattle.psci_board.specs.Laws.{SpanLaws}
-use Rattle.psci_fw_state.specs.declared.counts.StatusCounts.{StatusCounts}
-use Rattle.psci_fw_state.specs.declared.row.CoreRow.{CoreRow}
-use Rattle.psci_fw_state.specs.Counts.{counts_below, one_core}
-use Rattle.psci_fw_state.specs.Rows.{off_row, status_at}
-use Rattle.psci_fw_state.specs.Seen.{IsState, StateValue, phase_by}
+use Rattle.psci_fw_state.specs.Counts.{counts_below}
 use Rattle.psci_tree.proofs.Ranges.{counted_both, ones, sums}
-use Rattle.psci_tree.proofs.Slices.{size_few}
 use Rattle.psci_fw_state.proofs.NodeStatus.{some_counted}
 use Rattle.psci_fw_state.proofs.CoreCounts.{others, at_most, equal, same_sums, same_less, started}
 use Rattle.psci_fw_state.proofs.CoreCounts.{away_is, settled_one, waiting_one}
+use Rattle.psci_state.specs.declared.cores.Activity.TheVariants as activities
 
 -- The whole system -------------------------------------------------------------------------------
 

@@ -1,30 +1,19 @@
 -- A core arrives: what the values in the state are then.
-use Rattle.std.proofs.Common.{◌≡◌, ℕ, ◌==◌, Bool, true, false, cond, List, None, refl, sym, ◌∙◌, ap}
-use Rattle.std.proofs.Common.{arith}
-use Rattle.psci_board.specs.Board.{BoardValue}
-use Rattle.psci_messages.specs.Slots.{Slot, SlotsValue, changed, message_in}
-use Rattle.psci_messages.specs.Slots.Change.{Clear}
-use Rattle.psci_state.specs.declared.cores.Activity.{Activity}
-use Rattle.psci_state.specs.declared.cores.Activity.TheVariants as activities
-use Rattle.psci_state.specs.declared.cores.CoreState.{CoreState}
-use Rattle.psci_tree.specs.Recount.{TreeValue, state_at, granted_at, known_at, is_confirmed_at}
-use Rattle.psci_messages.specs.declared.start.Start.{Start}
-use Rattle.psci_fw_spec.specs.declared.status.Status.{Status}
-use Rattle.psci_fw_spec.specs.declared.status.Status.TheVariants as statuses
-use Rattle.psci_fw_spec.specs.Changes.{with_arrival, with_phase, with_running}
-use Rattle.psci_fw_spec.specs.Lives.{in_life}
-use Rattle.psci_fw_spec.specs.Confirmed.{unconfirmed}
-use Rattle.psci_fw_spec.specs.Paths.{cleared}
-use Rattle.psci_fw_spec.specs.Phases.{Phase, unless_pending}
-use Rattle.psci_fw_spec.specs.Phases as phases
-use Rattle.psci_fw_spec.specs.Values.{Values, updated}
-use Rattle.psci_fw_state.specs.declared.row.CoreRow.{CoreRow}
-use Rattle.psci_fw_state.specs.declared.counts.StatusCounts.{StatusCounts}
-use Rattle.psci_fw_state.specs.Rows.{row_at}
-use Rattle.psci_fw_state.specs.Seen.{StateValue, is_pending_phase, phase_by, stopped, values_in}
+use Rattle.psci_fw_state.proofs.Words.{◌==◌, ◌∙◌, ◌≡◌, Activity, ap, arith, BoardValue, Bool}
+use Rattle.psci_fw_state.proofs.Words.{changed, Clear, cleared, cond, CoreRow, CoreState, false}
+use Rattle.psci_fw_state.proofs.Words.{granted_at, in_life, is_confirmed_at, is_pending_phase}
+use Rattle.psci_fw_state.proofs.Words.{known_at, List, message_in, None, Phase, phase_by, refl}
+use Rattle.psci_fw_state.proofs.Words.{row_at, Slot, SlotsValue, Start, state_at, StateValue}
+use Rattle.psci_fw_state.proofs.Words.{Status, StatusCounts, sym, TreeValue, true, unconfirmed}
+use Rattle.psci_fw_state.proofs.Words.{unless_pending, updated, Values, with_phase, ℕ}
+use Rattle.psci_fw_spec.specs.Changes.{with_arrival, with_running}
+use Rattle.psci_fw_state.specs.Seen.{stopped, values_in}
 use Rattle.psci_fw_state.proofs.Changed.{Set, ap_set, both_set, core_set, left_not_pending}
 use Rattle.psci_fw_state.proofs.Changed.{off_is_away, stays, updated_is}
 use Rattle.psci_fw_state.proofs.Equal.{arrived, same_values}
+use Rattle.psci_state.specs.declared.cores.Activity.TheVariants as activities
+use Rattle.psci_fw_spec.specs.declared.status.Status.TheVariants as statuses
+use Rattle.psci_fw_spec.specs.Phases as phases
 
 -- Arrived ---------------------------------------------------------------------------------------
 

@@ -1,33 +1,30 @@
 -- A life begins: what the values in the state are then.
-use Rattle.std.proofs.Common.{◌≡◌, ℕ, ◌<◌, ◌≤◌, ◌==◌, ◌&&◌, Bool, true, false, cond, List, [], ◌∷◌}
-use Rattle.std.proofs.Common.{length, sum, drop, leb, ltb, not, None, Option, refl, sym, subst, ◌∙◌}
-use Rattle.std.proofs.Common.{ap, arith, inl, inr}
+use Rattle.std.proofs.Common.{sum}
 use Rattle.std.specs.List.{AllPass}
-use Rattle.std.proofs.lemmas.Bool.{and_parts, cases_lt, ltb-true, leb-true}
-use Rattle.std.proofs.lemmas.List.{get_or-replicate, get_or_past, length-replicate}
 use Rattle.std.proofs.Math.ListN.{replicate}
-use Rattle.std.proofs.lemmas.List.Sums.{sum_by-cons}
-use Rattle.psci_board.specs.Board.{BoardValue, IsBoard, IsTree, is_width, size_below, cores, height}
-use Rattle.psci_board.specs.Board.{nodes, place_above, up}
-use Rattle.psci_messages.specs.Message.{MessageValue}
-use Rattle.psci_messages.specs.Slots.{Slot, SlotsValue, message_in, no_messages}
+use Rattle.psci_fw_state.proofs.Words.{◌&&◌, ◌<◌, ◌==◌, ◌∙◌, ◌∷◌, ◌≡◌, ◌≤◌, [], and_parts, ap}
+use Rattle.psci_fw_state.proofs.Words.{arith, BoardValue, Bool, cases_lt, cond, CoreRow, cores}
+use Rattle.psci_fw_state.proofs.Words.{CoreState, drop, false, first_row, get_or-replicate}
+use Rattle.psci_fw_state.proofs.Words.{get_or_past, granted_at, height, in_life, inl, inr}
+use Rattle.psci_fw_state.proofs.Words.{is_confirmed_at, IsDomainTree, IsState, IsTree, leb}
+use Rattle.psci_fw_state.proofs.Words.{leb-true, length, length-replicate, List, ltb, ltb-true}
+use Rattle.psci_fw_state.proofs.Words.{message_in, MessageValue, never_started, nodes, None, not}
+use Rattle.psci_fw_state.proofs.Words.{off_row, Option, phase_by, place_above, Platform, refl}
+use Rattle.psci_fw_state.proofs.Words.{row_at, size_below, Slot, SlotsValue, state_at, StateValue}
+use Rattle.psci_fw_state.proofs.Words.{status_at, StatusCounts, subst, sum_by-cons, sym, TreeValue}
+use Rattle.psci_fw_state.proofs.Words.{true, updated, Values, ℕ}
+use Rattle.psci_board.specs.Board.{IsBoard, is_width, up}
+use Rattle.psci_messages.specs.Slots.{no_messages}
 use Rattle.psci_messages.specs.Slots.Slot.{OfCore, OfSystem}
-use Rattle.psci_state.specs.declared.cores.Activity.TheVariants as activities
-use Rattle.psci_state.specs.declared.cores.CoreState.{CoreState}
-use Rattle.psci_tree.specs.Recount.{IsDomainTree, TreeValue, state_at, granted_at, never_started}
-use Rattle.psci_tree.specs.Recount.{is_confirmed_at}
-use Rattle.psci_fw_spec.specs.declared.mode.SuspendMode.TheVariants.{Platform}
-use Rattle.psci_fw_spec.specs.declared.status.Status.TheVariants as statuses
 use Rattle.psci_fw_spec.specs.Lives.{first_confirmed, first_granted, first_phase, first_status}
-use Rattle.psci_fw_spec.specs.Lives.{in_life, start_of_life}
-use Rattle.psci_fw_spec.specs.Phases as phases
-use Rattle.psci_fw_spec.specs.Values.{Values, updated}
-use Rattle.psci_fw_state.specs.declared.row.CoreRow.{CoreRow}
-use Rattle.psci_fw_state.specs.declared.counts.StatusCounts.{StatusCounts}
-use Rattle.psci_fw_state.specs.Rows.{AreFirst, first_row, off_row, row_at, status_at}
-use Rattle.psci_fw_state.specs.Seen.{IsState, StateValue, phase_by, values_in}
+use Rattle.psci_fw_spec.specs.Lives.{start_of_life}
+use Rattle.psci_fw_state.specs.Rows.{AreFirst}
+use Rattle.psci_fw_state.specs.Seen.{values_in}
 use Rattle.psci_fw_state.proofs.Equal.{same_values}
 use Rattle.psci_fw_state.proofs.Beyond.{confirmed_beyond, granted_beyond}
+use Rattle.psci_state.specs.declared.cores.Activity.TheVariants as activities
+use Rattle.psci_fw_spec.specs.declared.status.Status.TheVariants as statuses
+use Rattle.psci_fw_spec.specs.Phases as phases
 
 -- Every board has a core ------------------------------------------------------------------------
 

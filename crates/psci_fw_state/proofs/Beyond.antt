@@ -1,10 +1,8 @@
 -- Domains that are not there have nothing granted, and nothing confirmed.
-use Rattle.std.proofs.Common.{◌≡◌, ℕ, ◌<◌, ◌≤◌, List, [], length, drop, map, get_or, false, ltb}
-use Rattle.std.proofs.Common.{ap, arith, inl, inr, refl}
-use Rattle.std.proofs.lemmas.Bool.{cases_lt}
-use Rattle.std.proofs.lemmas.List.{get_or_past, length-map}
-use Rattle.psci_board.specs.Board.{size_below}
-use Rattle.psci_tree.specs.Recount.{IsDomainTree, TreeValue, granted_at, is_confirmed_at}
+use Rattle.psci_fw_state.proofs.Words.{◌<◌, ◌≡◌, ◌≤◌, [], ap, arith, cases_lt, drop, false, get_or}
+use Rattle.psci_fw_state.proofs.Words.{get_or_past, granted_at, inl, inr, is_confirmed_at}
+use Rattle.psci_fw_state.proofs.Words.{IsDomainTree, length, length-map, List, ltb, map, refl}
+use Rattle.psci_fw_state.proofs.Words.{size_below, TreeValue, ℕ}
 use Rattle.psci_tree.specs.Recount.{level_sizes}
 use Rattle.psci_tree.proofs.Granted.{length_level_sizes, row_length}
 

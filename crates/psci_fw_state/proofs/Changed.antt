@@ -1,23 +1,17 @@
 -- What the values in a state say once the state of one core, or its row, is another one.
-use Rattle.std.proofs.Common.{◌≡◌, ℕ, ◌<◌, ◌==◌, Bool, true, false, cond, List, length, refl, sym}
-use Rattle.std.proofs.Common.{◌∙◌, ap, arith}
-use Rattle.std.proofs.Math.ListN.{set}
-use Rattle.std.proofs.lemmas.Bool.{eqb-true, eqb-false}
-use Rattle.std.proofs.lemmas.List.{get_or-set_same, get_or-set_other}
-use Rattle.psci_board.specs.Board.{cores, size_below}
-use Rattle.psci_state.specs.declared.cores.Activity.TheVariants as activities
-use Rattle.psci_state.specs.declared.cores.CoreState.{CoreState}
-use Rattle.psci_tree.specs.Recount.{TreeValue, state_at, granted_at, known_at, is_confirmed_at}
-use Rattle.psci_fw_spec.specs.declared.status.Status.{Status}
-use Rattle.psci_fw_spec.specs.declared.status.Status.TheVariants as statuses
-use Rattle.psci_fw_spec.specs.Changes.{with_phase}
-use Rattle.psci_fw_spec.specs.Phases.{Phase, unless_pending}
-use Rattle.psci_fw_spec.specs.Phases as phases
-use Rattle.psci_fw_spec.specs.Values.{updated}
-use Rattle.psci_fw_state.specs.declared.row.CoreRow.{CoreRow}
-use Rattle.psci_fw_state.specs.Rows.{off_row, row_at}
-use Rattle.psci_fw_state.specs.Seen.{IsState, StateValue, is_pending_phase, phase_by, values_in}
+use Rattle.std.proofs.lemmas.Bool.{eqb-false}
+use Rattle.psci_fw_state.proofs.Words.{◌<◌, ◌==◌, ◌∙◌, ◌≡◌, ap, arith, Bool, cond, CoreRow, cores}
+use Rattle.psci_fw_state.proofs.Words.{CoreState, eqb-true, false, get_or-set_other}
+use Rattle.psci_fw_state.proofs.Words.{get_or-set_same, granted_at, is_confirmed_at}
+use Rattle.psci_fw_state.proofs.Words.{is_pending_phase, IsState, known_at, length, List, off_row}
+use Rattle.psci_fw_state.proofs.Words.{Phase, phase_by, refl, row_at, set, size_below, state_at}
+use Rattle.psci_fw_state.proofs.Words.{StateValue, Status, sym, TreeValue, true, unless_pending}
+use Rattle.psci_fw_state.proofs.Words.{updated, with_phase, ℕ}
+use Rattle.psci_fw_state.specs.Seen.{values_in}
 use Rattle.psci_fw_state.proofs.Equal.{same_values}
+use Rattle.psci_state.specs.declared.cores.Activity.TheVariants as activities
+use Rattle.psci_fw_spec.specs.declared.status.Status.TheVariants as statuses
+use Rattle.psci_fw_spec.specs.Phases as phases
 
 -- One core --------------------------------------------------------------------------------------
 

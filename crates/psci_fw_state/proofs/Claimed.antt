@@ -1,15 +1,10 @@
 -- A Down was sent: what the values in the state are then.
-use Rattle.std.proofs.Common.{◌≡◌, ℕ, refl, ap}
-use Rattle.psci_messages.specs.Message.{MessageValue}
-use Rattle.psci_messages.specs.Slots.{Slot, SlotsValue, changed, message_in}
-use Rattle.psci_messages.specs.Slots.Change.{Put}
-use Rattle.psci_state.specs.declared.cores.CoreState.{CoreState}
-use Rattle.psci_tree.specs.Recount.{TreeValue, state_at, granted_at, is_confirmed_at}
+use Rattle.psci_fw_state.proofs.Words.{◌≡◌, ap, changed, claimed_anew, CoreState, granted_at}
+use Rattle.psci_fw_state.proofs.Words.{granted_with, is_confirmed_at, message_in, MessageValue}
+use Rattle.psci_fw_state.proofs.Words.{phase_by, Put, refl, row_at, Slot, SlotsValue, state_at}
+use Rattle.psci_fw_state.proofs.Words.{StateValue, TreeValue, ℕ}
 use Rattle.psci_fw_spec.specs.Changes.{with_claims}
-use Rattle.psci_fw_spec.specs.Confirmed.{claimed_anew}
-use Rattle.psci_fw_spec.specs.Paths.{granted_with}
-use Rattle.psci_fw_state.specs.Rows.{row_at}
-use Rattle.psci_fw_state.specs.Seen.{StateValue, phase_by, values_in}
+use Rattle.psci_fw_state.specs.Seen.{values_in}
 use Rattle.psci_fw_state.proofs.Equal.{same_values}
 
 pub claimed_of : (s : StateValue) (u : TreeValue) (slots : SlotsValue) (m : MessageValue)

@@ -1,22 +1,16 @@
 -- Claims are confirmed one after another, from the core up.
-use Rattle.std.proofs.Common.{◌≡◌, ℕ, ◌+◌, ◌≤◌, ◌==◌, ◌&&◌, Bool, true, false, cond, nat_lt}
-use Rattle.std.proofs.Common.{List, length, slice_get, None, Option, refl, sym, ◌∙◌}
-use Rattle.std.proofs.Common.{ap, arith, inl, inr, min}
-use Rattle.std.specs.List.{sum_by}
 use Rattle.std.proofs.Math.Nat.{min-eq_left, min-eq_right}
-use Rattle.std.proofs.lemmas.Bool.{cases_lt, eqb-true}
-use Rattle.std.proofs.lemmas.Option.{slice_get_past}
-use Rattle.psci_board.specs.Board.{BoardValue, below, below_in, cores, height, up}
-use Rattle.psci_board.specs.declared.node.Node.{Node}
-use Rattle.psci_messages.specs.declared.part.Part.{Part}
-use Rattle.psci_messages.specs.Message.{AckValue}
-use Rattle.psci_messages.specs.Slots.{message_in, slot_of}
-use Rattle.psci_tree.specs.Recount.{TreeValue, IsDomainTree, state_at, granted_at, known_at, known}
-use Rattle.psci_tree.specs.Recount.{is_confirmed_at}
-use Rattle.psci_fw_spec.specs.Changes.{confirms_on}
-use Rattle.psci_fw_spec.specs.Confirmed.{applied_part, is_made_at}
-use Rattle.psci_fw_state.specs.Confirming.{is_last_claim}
-use Rattle.psci_fw_state.specs.Seen.{StateValue, values_in}
+use Rattle.psci_fw_state.proofs.Words.{◌&&◌, ◌+◌, ◌==◌, ◌∙◌, ◌≡◌, ◌≤◌, AckValue, ap, applied_part}
+use Rattle.psci_fw_state.proofs.Words.{arith, below_in, BoardValue, Bool, cases_lt, cond}
+use Rattle.psci_fw_state.proofs.Words.{confirms_on, cores, eqb-true, false, granted_at, height, inl}
+use Rattle.psci_fw_state.proofs.Words.{inr, is_confirmed_at, is_last_claim, is_made_at}
+use Rattle.psci_fw_state.proofs.Words.{IsDomainTree, known_at, length, List, message_in, min}
+use Rattle.psci_fw_state.proofs.Words.{nat_lt, Node, None, Option, Part, refl, slice_get}
+use Rattle.psci_fw_state.proofs.Words.{slice_get_past, slot_of, state_at, StateValue, sum_by, sym}
+use Rattle.psci_fw_state.proofs.Words.{TreeValue, true, up, ℕ}
+use Rattle.psci_board.specs.Board.{below}
+use Rattle.psci_tree.specs.Recount.{known}
+use Rattle.psci_fw_state.specs.Seen.{values_in}
 use Rattle.psci_fw_state.proofs.Beyond.{granted_beyond}
 use Rattle.psci_fw_state.proofs.LevelByLevel.{IsDone, all_levels, level_more}
 

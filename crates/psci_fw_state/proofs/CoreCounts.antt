@@ -1,21 +1,16 @@
 -- What is counted of each core, and what such counts say of all cores but one.
-use Rattle.std.proofs.Common.{◌≡◌, ℕ, ◌+◌, ◌≤◌, ◌==◌, ◌||◌, Bool, true, false, cond, not, ltb}
-use Rattle.std.proofs.Common.{List, [], ◌∷◌, refl, ap, sym, ◌∙◌, arith, inl, inr}
-use Rattle.std.specs.List.{sum_by, count_by, list_all, range_with_len}
-use Rattle.std.proofs.lemmas.Bool.{cases_lt, eq-eqb, ne_eqb}
-use Rattle.std.proofs.lemmas.List.Sums.{sum_by-cons}
-use Rattle.psci_fw_spec.specs.declared.status.Status.{Status}
-use Rattle.psci_fw_spec.specs.declared.status.Status.TheVariants as statuses
-use Rattle.psci_fw_spec.specs.AffinityInfo.{is_on, is_pending_status}
-use Rattle.psci_fw_spec.specs.Invariant.{agrees}
-use Rattle.psci_fw_spec.specs.Phases.{is_away, is_suspended_or_pending}
-use Rattle.psci_fw_spec.specs.SystemCalls.{is_off_status}
-use Rattle.psci_state.specs.declared.cores.Activity.{Activity}
-use Rattle.psci_state.specs.declared.cores.Activity.TheVariants as activities
-use Rattle.psci_tree.specs.Recount.{is_active, is_away as is_gone}
+use Rattle.std.specs.List.{list_all}
+use Rattle.psci_fw_state.proofs.Words.{◌+◌, ◌==◌, ◌||◌, ◌∙◌, ◌∷◌, ◌≡◌, ◌≤◌, [], Activity, agrees}
+use Rattle.psci_fw_state.proofs.Words.{ap, arith, Bool, cases_lt, cond, count_by, eq-eqb, false}
+use Rattle.psci_fw_state.proofs.Words.{inl, inr, is_active, is_away, is_off_status, is_on}
+use Rattle.psci_fw_state.proofs.Words.{is_pending_status, is_suspended_or_pending, List, ltb}
+use Rattle.psci_fw_state.proofs.Words.{ne_eqb, not, phase_by, range_with_len, refl, Status, sum_by}
+use Rattle.psci_fw_state.proofs.Words.{sum_by-cons, sym, true, ℕ}
+use Rattle.psci_tree.specs.Recount.{is_away as is_gone}
 use Rattle.psci_tree.proofs.Ranges.{all_counted, range_once, range_same}
-use Rattle.psci_fw_state.specs.Seen.{phase_by}
 use Rattle.psci_fw_state.proofs.Changed.{off_is_away, suspended_is}
+use Rattle.psci_fw_spec.specs.declared.status.Status.TheVariants as statuses
+use Rattle.psci_state.specs.declared.cores.Activity.TheVariants as activities
 
 -- All cores but one ------------------------------------------------------------------------------
 

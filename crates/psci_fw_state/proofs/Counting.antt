@@ -1,18 +1,13 @@
 -- What is counted of the cores below a domain, once one core has another status.
-use Rattle.std.proofs.Common.{◌≡◌, ℕ, ◌+◌, ◌-◌, ◌<◌, ◌≤◌, ◌==◌, Bool, true, false}
-use Rattle.std.proofs.Common.{cond, List, filter, ap, sym, arith}
-use Rattle.std.specs.List.{count_by, range_with_len}
-use Rattle.std.proofs.lemmas.Bool.{eq-eqb, ne_eqb}
-use Rattle.std.proofs.lemmas.List.FromFn.{length-range_with_len}
+use Rattle.std.proofs.Common.{filter}
 use Rattle.std.proofs.lemmas.List.Sums.{count_by-le-length, length-filter}
-use Rattle.psci_board.specs.declared.node.Node.{Node}
-use Rattle.psci_board.specs.Board.{IsTree, below_in, place_above, size_below}
-use Rattle.psci_fw_spec.specs.declared.status.Status.{Status}
-use Rattle.psci_fw_spec.specs.declared.status.Status.TheVariants.{Off}
-use Rattle.psci_fw_spec.specs.AffinityInfo.{is_on, is_pending_status}
+use Rattle.psci_fw_state.proofs.Words.{◌+◌, ◌-◌, ◌<◌, ◌==◌, ◌≡◌, ◌≤◌, ap, arith, below_in, Bool}
+use Rattle.psci_fw_state.proofs.Words.{cond, count_by, eq-eqb, false, is_on, is_pending_status}
+use Rattle.psci_fw_state.proofs.Words.{IsTree, length-range_with_len, List, MayRecount, ne_eqb}
+use Rattle.psci_fw_state.proofs.Words.{no_cores, Node, Off, one_core, place_above, range_with_len}
+use Rattle.psci_fw_state.proofs.Words.{recounted, size_below, size_few, Status, sym, true, ℕ}
 use Rattle.psci_tree.proofs.Ranges.{sum_off, sum_on, zeros}
-use Rattle.psci_tree.proofs.Slices.{size_few}
-use Rattle.psci_fw_state.specs.Counts.{MayRecount, counts_below, no_cores, one_core, recounted}
+use Rattle.psci_fw_state.specs.Counts.{counts_below}
 
 -- Cores below a domain ---------------------------------------------------------------------------
 

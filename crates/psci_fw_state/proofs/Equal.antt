@@ -1,13 +1,7 @@
 -- When values are equal, and what an arrival in the firmware's life comes to.
-use Rattle.std.proofs.Common.{◌≡◌, ℕ, ◌==◌, Bool, true, false, cond, None, refl}
-use Rattle.std.proofs.lemmas.Bool.{eqb-true}
-use Rattle.psci_board.specs.Board.{BoardValue}
-use Rattle.psci_messages.specs.Slots.{Slot, changed}
-use Rattle.psci_messages.specs.Slots.Change.{Clear}
-use Rattle.psci_messages.specs.declared.start.Start.{Start}
-use Rattle.psci_fw_spec.specs.Confirmed.{unconfirmed}
-use Rattle.psci_fw_spec.specs.Paths.{cleared}
-use Rattle.psci_fw_spec.specs.Values.{Values, updated}
+use Rattle.psci_fw_state.proofs.Words.{◌==◌, ◌≡◌, BoardValue, Bool, changed, Clear, cleared, cond}
+use Rattle.psci_fw_state.proofs.Words.{eqb-true, false, None, refl, Slot, Start, true, unconfirmed}
+use Rattle.psci_fw_state.proofs.Words.{updated, Values, ℕ}
 
 -- values are equal that say the same of each core, domain and slot
 pub record Same (v w : Values) : Type 0 where

@@ -1,20 +1,17 @@
 -- Parts are granted one after another, from the core up.
-use Rattle.std.proofs.Common.{◌≡◌, ℕ, ◌+◌, ◌-◌, ◌<◌, ◌≤◌, ◌==◌, ◌&&◌, Bool, true, false, cond, List}
-use Rattle.std.proofs.Common.{length, drop, slice_get, Some, Option, refl, sym, subst, ◌∙◌, ap}
-use Rattle.std.proofs.Common.{arith, add-one}
-use Rattle.std.proofs.lemmas.Bool.{eqb-true}
-use Rattle.std.proofs.lemmas.Option.{slice_get_past}
-use Rattle.psci_board.specs.Board.{BoardValue, HasNodeIn, cores, height, place_above, size_below}
+use Rattle.std.proofs.Common.{add-one}
+use Rattle.psci_fw_state.proofs.Words.{◌&&◌, ◌+◌, ◌-◌, ◌<◌, ◌==◌, ◌∙◌, ◌≡◌, ◌≤◌, ap, arith}
+use Rattle.psci_fw_state.proofs.Words.{BoardValue, Bool, claimed_anew, cond, cores, drop, eqb-true}
+use Rattle.psci_fw_state.proofs.Words.{false, granted_at, granted_with, HasNodeIn, height}
+use Rattle.psci_fw_state.proofs.Words.{is_confirmed_at, length, List, Node, Option, Part, PathLaws}
+use Rattle.psci_fw_state.proofs.Words.{place_above, refl, size_below, slice_get, slice_get_past}
+use Rattle.psci_fw_state.proofs.Words.{Some, subst, sym, TreeValue, true, ℕ}
 use Rattle.psci_board.specs.Board.{up}
-use Rattle.psci_board.specs.Laws.{PathLaws}
-use Rattle.psci_board.specs.declared.node.Node.{Node}
-use Rattle.psci_messages.specs.declared.part.Part.{Part}
 use Rattle.psci_messages.specs.Message.{PartByPart}
 use Rattle.psci_tree.specs.Changes.{MayGrant}
 use Rattle.psci_tree.specs.Standing.{on_path as on_path_of}
-use Rattle.psci_tree.specs.Recount.{TreeValue, granted_at, is_confirmed_at}
-use Rattle.psci_fw_spec.specs.Confirmed.{claimed_anew, unless_claimed}
-use Rattle.psci_fw_spec.specs.Paths.{claimed_or, granted_with}
+use Rattle.psci_fw_spec.specs.Confirmed.{unless_claimed}
+use Rattle.psci_fw_spec.specs.Paths.{claimed_or}
 use Rattle.psci_fw_state.specs.Claims.{MayClaim}
 use Rattle.psci_fw_state.proofs.LevelByLevel.{IsDone, all_levels, level_more, other_level}
 

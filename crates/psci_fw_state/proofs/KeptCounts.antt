@@ -1,19 +1,16 @@
 -- The counts that are kept, by level and place, once a core has another status.
-use Rattle.std.proofs.Common.{◌≡◌, ℕ, zero, suc, ◌+◌, ◌-◌, ◌<◌, ◌≤◌, List, [], ◌∷◌, ◌++◌, length}
-use Rattle.std.proofs.Common.{take, drop, get_or, map, replicate}
-use Rattle.std.proofs.Common.{refl, ap, sym, ◌∙◌, subst, arith, inl, inr}
-use Rattle.std.proofs.Math.ListN.{set}
-use Rattle.std.proofs.lemmas.Bool.{cases_eq, cases_lt}
-use Rattle.std.proofs.lemmas.List.{get_or-map, get_or-replicate, get_or-set_other, get_or-set_same}
-use Rattle.std.proofs.lemmas.List.{length-map, length-replicate, length-set}
-use Rattle.psci_board.specs.declared.node.Node.{Node}
-use Rattle.psci_board.specs.Board.{BoardValue, IsTree, cores, height, place_above, size_below, up}
-use Rattle.psci_board.specs.Laws.{PathLaws}
-use Rattle.psci_fw_spec.specs.declared.status.Status.{Status}
-use Rattle.psci_fw_spec.specs.declared.status.Status.TheVariants.{Off}
-use Rattle.psci_fw_state.specs.declared.counts.StatusCounts.{StatusCounts}
-use Rattle.psci_fw_state.specs.Counts.{AreCounts, HasDomains, counts_at, counts_below, level_counts}
-use Rattle.psci_fw_state.specs.Counts.{MayRecount, no_cores, one_core, recounted, with_counts}
+use Rattle.std.proofs.Common.{zero, ◌++◌, take}
+use Rattle.std.proofs.lemmas.Bool.{cases_eq}
+use Rattle.psci_fw_state.proofs.Words.{◌+◌, ◌-◌, ◌<◌, ◌∙◌, ◌∷◌, ◌≡◌, ◌≤◌, [], ap, AreCounts, arith}
+use Rattle.psci_fw_state.proofs.Words.{BoardValue, cases_lt, cores, counts_at, counts_below, drop}
+use Rattle.psci_fw_state.proofs.Words.{get_or, get_or-map, get_or-replicate, get_or-set_other}
+use Rattle.psci_fw_state.proofs.Words.{get_or-set_same, height, inl, inr, IsTree, length}
+use Rattle.psci_fw_state.proofs.Words.{length-map, length-replicate, length-set, level_counts, List}
+use Rattle.psci_fw_state.proofs.Words.{map, MayRecount, no_cores, Node, Off, one_core, PathLaws}
+use Rattle.psci_fw_state.proofs.Words.{place_above, recounted, refl, replicate, set, size_below}
+use Rattle.psci_fw_state.proofs.Words.{Status, StatusCounts, subst, suc, sym, ℕ}
+use Rattle.psci_board.specs.Board.{up}
+use Rattle.psci_fw_state.specs.Counts.{HasDomains, with_counts}
 use Rattle.psci_fw_state.proofs.Counting.{may_recount, none_below, recounted_off, recounted_on}
 
 -- One domain -------------------------------------------------------------------------------------

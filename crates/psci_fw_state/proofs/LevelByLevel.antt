@@ -1,7 +1,6 @@
 -- What is said of each domain while its levels are gone through from the cores up.
-use Rattle.std.proofs.Common.{◌≡◌, ℕ, ◌+◌, ◌<◌, ◌≤◌, ◌==◌, ◌&&◌, cond, false, refl, sym, ◌∙◌, arith}
-use Rattle.std.proofs.Common.{inl, inr}
-use Rattle.std.proofs.lemmas.Bool.{cases_lt}
+use Rattle.psci_fw_state.proofs.Words.{◌&&◌, ◌+◌, ◌<◌, ◌==◌, ◌∙◌, ◌≡◌, ◌≤◌, arith, cases_lt, cond}
+use Rattle.psci_fw_state.proofs.Words.{false, inl, inr, refl, sym, ℕ}
 
 -- below this level it is what it is to be, and from it up what it was
 pub record IsDone {X : Type 0} (old new now : ℕ → ℕ → X) (n : ℕ) : Type 0 where

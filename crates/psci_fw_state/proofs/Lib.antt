@@ -18,3 +18,4 @@ mod Viewed
 mod WishRows
 mod KeptCounts
 mod KeptRows
+pub mod Words

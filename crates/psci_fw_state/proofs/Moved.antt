@@ -1,36 +1,26 @@
 -- A core is suspended, or asked on: what the values in the state are then.
-use Rattle.std.proofs.Common.{◌≡◌, ℕ, ◌<◌, ◌==◌, Bool, false, cond, List, length, None, Some}
-use Rattle.std.proofs.Common.{Option, Vec, refl, sym, ◌∙◌, ap, arith}
-use Rattle.std.proofs.Math.ListN.{set}
-use Rattle.std.proofs.lemmas.List.{length-set, with_items_is}
+use Rattle.std.proofs.Common.{Vec}
 use Rattle.std.specs.Option.{option_or}
 use Rattle.std.specs.Vec.{with_items}
-use Rattle.psci_board.specs.Board.{BoardValue, place_above, up}
-use Rattle.psci_messages.specs.Message.{MessageValue}
-use Rattle.psci_messages.specs.Slots.{Slot, SlotsValue, changed, message_in}
-use Rattle.psci_messages.specs.Slots.Change.{Put}
+use Rattle.psci_fw_state.proofs.Words.{◌<◌, ◌==◌, ◌∙◌, ◌≡◌, ap, AreCounts, arith, BoardValue, Bool}
+use Rattle.psci_fw_state.proofs.Words.{changed, cleared, cond, CoreRow, CoreState, false}
+use Rattle.psci_fw_state.proofs.Words.{granted_at, is_confirmed_at, IsState, known_at, length}
+use Rattle.psci_fw_state.proofs.Words.{length-set, List, message_in, MessageValue, None, Opening}
+use Rattle.psci_fw_state.proofs.Words.{Option, Phase, phase_by, place_above, Put, refl, row_at, set}
+use Rattle.psci_fw_state.proofs.Words.{Slot, SlotsValue, Some, state_at, StateValue, status_at}
+use Rattle.psci_fw_state.proofs.Words.{StatusCounts, suspends, sym, TreeValue, unconfirmed}
+use Rattle.psci_fw_state.proofs.Words.{unless_pending, updated, with_items_is, with_rest, ℕ}
+use Rattle.psci_board.specs.Board.{up}
 use Rattle.psci_state.specs.Ask.{is_deep}
-use Rattle.psci_state.specs.declared.cores.Activity.TheVariants as activities
-use Rattle.psci_state.specs.declared.cores.CoreState.{CoreState}
-use Rattle.psci_tree.specs.Recount.{TreeValue, state_at, granted_at, known_at, is_confirmed_at}
-use Rattle.psci_fw_spec.specs.declared.opening.Opening.{Opening}
-use Rattle.psci_fw_spec.specs.declared.status.Status.TheVariants as statuses
-use Rattle.psci_fw_spec.specs.Changes.{with_pending, with_rest}
-use Rattle.psci_fw_spec.specs.Effects.{suspends}
-use Rattle.psci_fw_spec.specs.Confirmed.{unconfirmed}
-use Rattle.psci_fw_spec.specs.Paths.{cleared}
-use Rattle.psci_fw_spec.specs.Phases.{Phase, unless_pending}
-use Rattle.psci_fw_spec.specs.Phases as phases
-use Rattle.psci_fw_spec.specs.Values.{updated}
-use Rattle.psci_fw_state.specs.declared.row.CoreRow.{CoreRow}
-use Rattle.psci_fw_state.specs.declared.counts.StatusCounts.{StatusCounts}
-use Rattle.psci_fw_state.specs.Counts.{AreCounts}
-use Rattle.psci_fw_state.specs.Rows.{row_at, status_at}
-use Rattle.psci_fw_state.specs.Seen.{IsState, StateValue, phase_by, values_in}
+use Rattle.psci_fw_spec.specs.Changes.{with_pending}
+use Rattle.psci_fw_state.specs.Seen.{values_in}
 use Rattle.psci_fw_state.proofs.Changed.{Set, ap_set, both_set, core_set, row_set, stays}
 use Rattle.psci_fw_state.proofs.Changed.{suspended_is, updated_is}
 use Rattle.psci_fw_state.proofs.Equal.{same_values}
 use Rattle.psci_fw_state.proofs.KeptCounts.{same_counts}
+use Rattle.psci_state.specs.declared.cores.Activity.TheVariants as activities
+use Rattle.psci_fw_spec.specs.declared.status.Status.TheVariants as statuses
+use Rattle.psci_fw_spec.specs.Phases as phases
 
 -- the rows in memory, one of them set
 pub rows_set : {Z : Type 0} (old : Vec CoreRow Z) (mid new : List CoreRow) (c : ℕ) (r : CoreRow)

@@ -1,19 +1,16 @@
 -- The status of a node is that of what is counted of the cores below it.
-use Rattle.std.proofs.Common.{◌≡◌, ℕ, ◌+◌, ◌<◌, ◌≤◌, ◌==◌, ◌||◌, Bool, true, false, cond, List, []}
-use Rattle.std.proofs.Common.{◌∷◌, length, leb, ltb, refl, ap, ◌∙◌, arith}
-use Rattle.std.specs.List.{count_by, list_any}
-use Rattle.std.proofs.lemmas.Bool.{and_from, eq-eqb, le-leb, leb-true, lt-ltb, ltb-false, ltb-true}
-use Rattle.std.proofs.lemmas.Bool.{ne_eqb}
-use Rattle.std.proofs.lemmas.List.{get_or_past}
-use Rattle.std.proofs.lemmas.List.Sums.{sum_by-cons}
-use Rattle.psci_board.specs.Board.{BoardValue, below_in, cores, has_node, height, nodes}
-use Rattle.psci_board.specs.declared.node.Node.{Node}
-use Rattle.psci_fw_spec.specs.declared.status.Status.{Status}
-use Rattle.psci_fw_spec.specs.declared.status.Status.TheVariants.{Off}
-use Rattle.psci_fw_spec.specs.AffinityInfo.{is_on, is_pending_status, node_status, status_over}
-use Rattle.psci_fw_state.specs.Counts.{counts_at, counts_below, status_counted}
-use Rattle.psci_fw_state.specs.Rows.{off_row, row_at, status_at}
-use Rattle.psci_fw_state.specs.Seen.{IsState, StateValue, values_in}
+use Rattle.std.proofs.lemmas.Bool.{and_from, le-leb, ltb-false}
+use Rattle.psci_fw_state.proofs.Words.{◌+◌, ◌<◌, ◌==◌, ◌||◌, ◌∙◌, ◌∷◌, ◌≡◌, ◌≤◌, [], ap, arith}
+use Rattle.psci_fw_state.proofs.Words.{below_in, BoardValue, Bool, cond, cores, count_by, counts_at}
+use Rattle.psci_fw_state.proofs.Words.{eq-eqb, false, get_or_past, height, is_on, is_pending_status}
+use Rattle.psci_fw_state.proofs.Words.{IsState, leb, leb-true, length, List, list_any, lt-ltb, ltb}
+use Rattle.psci_fw_state.proofs.Words.{ltb-true, ne_eqb, Node, nodes, Off, off_row, refl, row_at}
+use Rattle.psci_fw_state.proofs.Words.{StateValue, Status, status_at, status_counted, sum_by-cons}
+use Rattle.psci_fw_state.proofs.Words.{true, ℕ}
+use Rattle.psci_board.specs.Board.{has_node}
+use Rattle.psci_fw_spec.specs.AffinityInfo.{node_status, status_over}
+use Rattle.psci_fw_state.specs.Counts.{counts_below}
+use Rattle.psci_fw_state.specs.Seen.{values_in}
 
 -- Counted or looked for -------------------------------------------------------------------------
 

@@ -1,32 +1,26 @@
 -- What claims are made from is what the tree holds.
-use Rattle.std.proofs.Common.{◌≡◌, ℕ, refl, length, sym, List, Ok, Err, None, Some}
+use Rattle.std.proofs.Common.{Err}
 use Rattle.std.specs.Prelude.{nat_le, if◌then◌else◌, Option}
-use Rattle.psci_board.specs.Board.{BoardValue}
+use Rattle.psci_fw_state.proofs.Words.{◌≡◌, Activity, asked_wish, BoardValue, is_active, IsState}
+use Rattle.psci_fw_state.proofs.Words.{length, List, None, Ok, Opening, own_claims, Part, phase_by}
+use Rattle.psci_fw_state.proofs.Words.{Platform, refl, refusal, row_at, shallow, Some, state_at}
+use Rattle.psci_fw_state.proofs.Words.{StateValue, Status, suspends, sym, Values, view_of}
+use Rattle.psci_fw_state.proofs.Words.{wish_unless, wished_claims, with_rest, ℕ}
 use Rattle.psci_messages.specs.declared.osi.Osi.{Osi}
-use Rattle.psci_messages.specs.declared.part.Part.{Part}
-use Rattle.psci_messages.specs.Claim.{claims_of, own_claims}
-use Rattle.psci_messages.specs.LastCore.{answer_by, last_core_check, refusal, shallow}
-use Rattle.psci_messages.specs.Looked.{view_of}
+use Rattle.psci_messages.specs.Claim.{claims_of}
+use Rattle.psci_messages.specs.LastCore.{answer_by, last_core_check}
 use Rattle.psci_messages.specs.View.{generation}
 use Rattle.psci_coord.specs.declared.claim.Wish.{Wish}
 use Rattle.psci_coord.specs.declared.claim.Wish.TheVariants.{Least, Own}
-use Rattle.psci_state.specs.declared.cores.Activity.{Activity}
-use Rattle.psci_state.specs.declared.cores.Activity.TheVariants as activities
-use Rattle.psci_tree.specs.Recount.{asks, state_at, is_active, is_away}
-use Rattle.psci_fw_spec.specs.declared.status.Status.{Status}
-use Rattle.psci_fw_spec.specs.declared.status.Status.TheVariants as statuses
+use Rattle.psci_tree.specs.Recount.{asks, is_away}
 use Rattle.psci_fw_spec.specs.declared.mode.SuspendMode.{SuspendMode}
-use Rattle.psci_fw_spec.specs.declared.mode.SuspendMode.TheVariants.{Platform, OsInitiated}
-use Rattle.psci_fw_spec.specs.declared.opening.Opening.{Opening}
-use Rattle.psci_fw_spec.specs.Changes.{with_rest}
+use Rattle.psci_fw_spec.specs.declared.mode.SuspendMode.TheVariants.{OsInitiated}
 use Rattle.psci_fw_spec.specs.Claims.{suspend_claims}
-use Rattle.psci_fw_spec.specs.Effects.{suspends}
 use Rattle.psci_fw_spec.specs.Phases.{activity_of}
-use Rattle.psci_fw_spec.specs.Values.{Values}
 use Rattle.psci_fw_spec.specs.Views.{view}
-use Rattle.psci_fw_state.specs.Rows.{row_at}
-use Rattle.psci_fw_state.specs.Seen.{IsState, StateValue, phase_by, values_in}
-use Rattle.psci_fw_state.specs.Wishes.{asked_wish, wish_unless, wished_claims}
+use Rattle.psci_fw_state.specs.Seen.{values_in}
+use Rattle.psci_state.specs.declared.cores.Activity.TheVariants as activities
+use Rattle.psci_fw_spec.specs.declared.status.Status.TheVariants as statuses
 
 back : (s : Status) (a : Activity) → activity_of (phase_by s a) ≡ a
 back statuses.On activities.Active = refl

@@ -1,25 +1,21 @@
 -- A claim that an acknowledgement confirms was carried out as the acknowledgement was made.
-use Rattle.std.proofs.Common.{arith, ◌≡◌, ℕ, ◌<◌, inr, true, List, [], ◌∷◌, ◌++◌, take, Some, subst}
-use Rattle.std.proofs.Common.{ap, sym, ◌∙◌}
-use Rattle.std.proofs.lemmas.Bool.Decides.{nat_tests}
-use Rattle.std.specs.Prelude.{slice_get}
-use Rattle.psci_headline.proofs.Words.{BoardValue, HasNode, up, PathLaws, Node, Deepens}
-use Rattle.psci_headline.proofs.Words.{message_effect, applied, ack_by, starts_below, confirms_on}
-use Rattle.psci_headline.proofs.Words.{AreValues, hw_at, Values, AckValue, MessageValue, OfCore}
-use Rattle.psci_headline.proofs.Words.{slot_of, NonePending, Holds, known_below, WasMade, Record}
-use Rattle.psci_headline.proofs.Words.{controller_values, firmware_values, sent_in, was_in_state}
-use Rattle.psci_headline.proofs.Words.{IsAwaited}
+use Rattle.psci_headline.proofs.Words.{◌++◌, ◌<◌, ◌∙◌, ◌∷◌, ◌≡◌, [], ack_by, AckValue, ap, applied}
+use Rattle.psci_headline.proofs.Words.{AreValues, arith, BoardValue, confirms_on, controller_values}
+use Rattle.psci_headline.proofs.Words.{Deepens, firmware_values, HasNode, Holds, hw_at, inr}
+use Rattle.psci_headline.proofs.Words.{IsAwaited, known_below, List, message_effect, MessageValue}
+use Rattle.psci_headline.proofs.Words.{nat_tests, Node, NonePending, OfCore, part_from, PathLaws}
+use Rattle.psci_headline.proofs.Words.{Record, sent_in, slice_get, slot_of, Some, starts_below}
+use Rattle.psci_headline.proofs.Words.{subst, sym, take, true, up, Values, was_in_state, WasMade, ℕ}
 use Rattle.psci_ctl_spec.specs.Changes.{change}
-use Rattle.psci_ctl_spec.specs.Values as controlled
-use Rattle.psci_ctl_spec.specs.psci_messages.declared.kind.Kind.TheVariants as kinds
 use Rattle.psci_fw_laws.proofs.Consequences.{none_active, once_down}
-use Rattle.psci_fw_laws.proofs.Parts.{part_from}
 use Rattle.psci_world_spec.specs.Histories.{sent}
 use Rattle.psci_headline.proofs.Items.{listed_later, IsListed}
 use Rattle.psci_headline.proofs.Taking.{HasName, named}
 use Rattle.psci_headline.proofs.Acknowledging.{acks_message}
 use Rattle.psci_headline.proofs.Applied.{confirming, levels, applied_live, laid_at, Confirms}
 use Rattle.psci_headline.proofs.States.{seen_now, seen_since}
+use Rattle.psci_ctl_spec.specs.Values as controlled
+use Rattle.psci_ctl_spec.specs.psci_messages.declared.kind.Kind.TheVariants as kinds
 
 -- Messages ------------------------------------------------------------------------------------
 

@@ -1,22 +1,19 @@
 -- What a new acknowledgement says of its core.
-use Rattle.std.proofs.Common.{◌≡◌, ℕ, ◌<◌, inr, List, ◌∷◌, Some, refl, ap, sym, ◌∙◌, arith}
-use Rattle.std.proofs.lemmas.Bool.Decides.{nat_tests}
-use Rattle.std.proofs.lemmas.Bool.{cond_both}
-use Rattle.std.specs.Prelude.{slice_get}
-use Rattle.psci_headline.proofs.Words.{BoardValue, cores, up, Part, message_effect, ack_by, Values}
-use Rattle.psci_headline.proofs.Words.{Kind, AckValue, MessageValue, Holds, known_below, Record}
-use Rattle.psci_headline.proofs.Words.{controller_values, firmware_values, sent, IsDownBy}
+use Rattle.psci_headline.proofs.Words.{◌<◌, ◌∙◌, ◌∷◌, ◌≡◌, ack_by, AckValue, ap, arith, BoardValue}
+use Rattle.psci_headline.proofs.Words.{cond_both, controller_values, cores, firmware_values, Holds}
+use Rattle.psci_headline.proofs.Words.{inr, IsDownBy, Kind, known_below, List, message_effect}
+use Rattle.psci_headline.proofs.Words.{MessageValue, nat_tests, Part, part_from, Record, refl, sent}
+use Rattle.psci_headline.proofs.Words.{slice_get, Some, sym, up, Values, ℕ}
 use Rattle.psci_ctl_spec.specs.Changes.{change}
-use Rattle.psci_ctl_spec.specs.Values as controlled
 use Rattle.psci_fw_laws.specs.psci_fw_spec.Phases.{Running}
-use Rattle.psci_ctl_spec.specs.psci_messages.declared.kind.Kind.TheVariants as kinds
-use Rattle.psci_fw_laws.proofs.Parts.{part_from}
 use Rattle.psci_headline.proofs.Taking.{HasName}
 use Rattle.psci_headline.proofs.Telling.{HasItem, first_part}
 use Rattle.psci_headline.proofs.Applied.{laid_at}
 use Rattle.psci_headline.proofs.Deliveries.{IsNew}
 use Rattle.psci_headline.proofs.Items.{at_number}
 use Rattle.psci_headline.proofs.Slept.{asleep_from, slept_now}
+use Rattle.psci_ctl_spec.specs.Values as controlled
+use Rattle.psci_ctl_spec.specs.psci_messages.declared.kind.Kind.TheVariants as kinds
 
 -- Acknowledgements and their messages ----------------------------------------------------------
 

@@ -1,16 +1,23 @@
 -- Firmware and power controller agree after every legal run.
-use Rattle.std.proofs.Common.{◌≡◌, ℕ, List, [], ◌∷◌, ◌++◌, Option, None, Some, option_map, refl}
-use Rattle.std.proofs.Common.{unwrap_or, arith, subst, sym}
-use Rattle.std.proofs.lemmas.Bool.Decides.{nat_tests}
-use Rattle.psci_headline.proofs.Words.{request_of, Regs, BoardValue, MayFollow, last_start, reply}
-use Rattle.psci_headline.proofs.Words.{Start, AckValue, MessageValue, Taken, change}
-use Rattle.psci_headline.proofs.Words.{function_effect, effect, IsLegal, start_of_life, Values}
-use Rattle.psci_headline.proofs.Words.{IsAllowed, Event, Call, Enter, Wake, Reset, Deliver, Take}
-use Rattle.psci_headline.proofs.Words.{Place, Record, Said, acks, control, controller_values}
-use Rattle.psci_headline.proofs.Words.{delivered, entered, firmware_values, outcome_in, sent, took}
-use Rattle.psci_headline.proofs.Words.{IsLegalPast, legal, indexed, Agree, place_controlled}
-use Rattle.psci_headline.proofs.Words.{place_said}
+use Rattle.psci_headline.proofs.Words.{◌++◌, ◌∷◌, ◌≡◌, [], acks, AckValue, Agree, arith, BoardValue}
+use Rattle.psci_headline.proofs.Words.{Call, change, control, controller_values, Deliver, delivered}
+use Rattle.psci_headline.proofs.Words.{effect, Enter, entered, Event, firmware_values}
+use Rattle.psci_headline.proofs.Words.{function_effect, indexed, IsAllowed, IsLegal, IsLegalPast}
+use Rattle.psci_headline.proofs.Words.{last_start, legal, List, MayFollow, MessageValue, nat_tests}
+use Rattle.psci_headline.proofs.Words.{None, Option, option_map, outcome_in, Place}
+use Rattle.psci_headline.proofs.Words.{place_controlled, place_said, Record, refl, Regs, request_of}
+use Rattle.psci_headline.proofs.Words.{Reset, Said, sent, Some, Start, start_of_life, subst, sym}
+use Rattle.psci_headline.proofs.Words.{Take, Taken, took, unwrap_or, Values, values_more, Wake, ℕ}
+use Rattle.psci_ctl_spec.specs.Replies.{reply}
 use Rattle.psci_ctl_spec.specs.declared.call.CtlCall.{CtlCall}
+use Rattle.psci_world_spec.specs.Histories.{controller_history, firmware_history}
+use Rattle.psci_world_spec.specs.Places.{place}
+use Rattle.psci_headline.proofs.Agreeing.{AreAgreed, at_start, control_agrees}
+use Rattle.psci_headline.proofs.Controlling.{after_control, more_controls}
+use Rattle.psci_headline.proofs.Happening.{happens}
+use Rattle.psci_headline.proofs.Moving.{CallerLaws, function_call}
+use Rattle.psci_headline.proofs.Placing.{acted, call_agrees, enter_agrees}
+use Rattle.psci_headline.proofs.Sending.{after_call, legal_call}
 use Rattle.psci_ctl_spec.specs.Changes as controlling
 use Rattle.psci_ctl_spec.specs.Effects as controlling_effects
 use Rattle.psci_ctl_spec.specs.Exchange as controller
@@ -21,15 +28,6 @@ use Rattle.psci_fw_laws.specs.psci_fw_spec.Exchange as firmware
 use Rattle.psci_fw_laws.specs.psci_fw_spec.History as remembers
 use Rattle.psci_headline.specs.psci_messages.Outstanding
 use Rattle.psci_world_spec.specs.declared.said.Said.TheVariants as said
-use Rattle.psci_world_spec.specs.Histories.{controller_history, firmware_history}
-use Rattle.psci_world_spec.specs.Places.{place}
-use Rattle.psci_ctl_spec.proofs.OneMore.{values_more}
-use Rattle.psci_headline.proofs.Agreeing.{AreAgreed, at_start, control_agrees}
-use Rattle.psci_headline.proofs.Controlling.{after_control, more_controls}
-use Rattle.psci_headline.proofs.Happening.{happens}
-use Rattle.psci_headline.proofs.Moving.{CallerLaws, function_call}
-use Rattle.psci_headline.proofs.Placing.{acted, call_agrees, enter_agrees}
-use Rattle.psci_headline.proofs.Sending.{after_call, legal_call}
 
 -- What the laws of the crates below say of a board.
 pub record RunLaws (b : BoardValue) : Type 0 where

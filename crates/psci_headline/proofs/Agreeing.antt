@@ -1,16 +1,14 @@
 -- What firmware and power controller know of each other, as a life begins, and as the controller
 -- goes on.
-use Rattle.std.proofs.Common.{◌≡◌, ℕ, ◌+◌, ◌≤◌, ◌==◌, Option, None, Some, unwrap_or, arith, ap, sym}
-use Rattle.std.proofs.Common.{◌∙◌}
-use Rattle.std.proofs.lemmas.Bool.Decides.{nat_tests}
-use Rattle.std.proofs.lemmas.Bool.{cond-true, cond-false, eq-eqb, ne_eqb}
-use Rattle.psci_headline.proofs.Words.{BoardValue, next_life, MayFollow, first_starts, in_life}
-use Rattle.psci_headline.proofs.Words.{start_of_life, Values, Place, Stopped, place_of_effect}
-use Rattle.psci_headline.proofs.Words.{AgreeIn}
+use Rattle.psci_headline.proofs.Words.{◌+◌, ◌==◌, ◌∙◌, ◌≡◌, ◌≤◌, AgreeIn, ap, arith, BoardValue}
+use Rattle.psci_headline.proofs.Words.{cond-false, cond-true, eq-eqb, first_starts, in_life}
+use Rattle.psci_headline.proofs.Words.{MayFollow, nat_tests, ne_eqb, next_life, None, Option, Place}
+use Rattle.psci_headline.proofs.Words.{place_of_effect, Some, start_of_life, Stopped, sym}
+use Rattle.psci_headline.proofs.Words.{unwrap_or, Values, ℕ}
 use Rattle.psci_ctl_spec.specs.Changes.{change}
 use Rattle.psci_ctl_spec.specs.Effects.{Effect}
-use Rattle.psci_ctl_spec.specs.Values as controlled
 use Rattle.psci_world_spec.specs.Places.{first_place}
+use Rattle.psci_ctl_spec.specs.Values as controlled
 
 -- What both know of each other, said of their values and of the places.
 pub record AreAgreed (b : BoardValue) (w : controlled.Values) (place : ℕ → Place) (v : Values)

@@ -1,19 +1,13 @@
 -- Cores that are reported OFF were powered down, after every legal past.
-use Rattle.std.proofs.Common.{◌≡◌, ℕ, ◌<◌, inl, inr, Bool, true, false, ◌==◌, List, [], ◌∷◌, Some}
-use Rattle.std.proofs.Common.{refl, subst, ap, sym, ◌∙◌, arith}
-use Rattle.std.proofs.lemmas.Bool.Decides.{nat_tests}
-use Rattle.std.specs.Prelude.{slice_get}
-use Rattle.std.proofs.lemmas.Bool.{eqb-false, eqb-true, ne_eqb, and_right}
-use Rattle.psci_headline.proofs.Words.{BoardValue, Values, Down, AckValue, MessageValue, OfCore}
-use Rattle.psci_headline.proofs.Words.{IsAllowed, Holds, Record, ack_in, controller_values}
-use Rattle.psci_headline.proofs.Words.{firmware_values, sent, IsLegalPast, Agree, was_powered_down}
-use Rattle.psci_headline.proofs.Words.{is_reported_off, IsAwaited, AreDown}
-use Rattle.psci_ctl_spec.specs.History as controls
-use Rattle.psci_ctl_spec.specs.Values as controlled
-use Rattle.psci_fw_laws.specs.psci_fw_spec.declared.status.Status.TheVariants as statuses
-use Rattle.psci_fw_laws.specs.psci_fw_spec.History as remembers
+use Rattle.psci_headline.proofs.Words.{◌<◌, ◌==◌, ◌∙◌, ◌∷◌, ◌≡◌, [], ack_in, AckValue, Agree}
+use Rattle.psci_headline.proofs.Words.{and_right, ap, AreDown, arith, BoardValue, Bool}
+use Rattle.psci_headline.proofs.Words.{controller_values, Down, eqb-false, eqb-true, false}
+use Rattle.psci_headline.proofs.Words.{firmware_legal, firmware_values, Holds, inl, inr}
+use Rattle.psci_headline.proofs.Words.{is_reported_off, IsAllowed, IsAwaited, IsLegalPast, List}
+use Rattle.psci_headline.proofs.Words.{MessageValue, nat_tests, ne_eqb, OfCore, Record, refl, sent}
+use Rattle.psci_headline.proofs.Words.{slice_get, Some, subst, sym, true, Values, was_powered_down}
+use Rattle.psci_headline.proofs.Words.{ℕ}
 use Rattle.psci_world_spec.specs.Histories.{acks, controller_history, firmware_history}
-use Rattle.psci_world_spec.proofs.Answered.{firmware_legal}
 use Rattle.psci_headline.proofs.Taking.{named}
 use Rattle.psci_headline.proofs.Acknowledging.{CoreLaws}
 use Rattle.psci_headline.proofs.CoreSteps.{IsStep, TurnsOff, step}
@@ -21,6 +15,10 @@ use Rattle.psci_headline.proofs.Deliveries.{life_before}
 use Rattle.psci_headline.proofs.Nexts.{IsNext, acks_more, by_ack, goes_running}
 use Rattle.psci_headline.proofs.Moves.{FirmwareLaws, Moves, moves}
 use Rattle.psci_headline.proofs.Slept.{asleep_from, report, reported, slept_now, slept_still}
+use Rattle.psci_ctl_spec.specs.History as controls
+use Rattle.psci_ctl_spec.specs.Values as controlled
+use Rattle.psci_fw_laws.specs.psci_fw_spec.declared.status.Status.TheVariants as statuses
+use Rattle.psci_fw_laws.specs.psci_fw_spec.History as remembers
 
 -- Lives that the firmware does not know of -----------------------------------------------------
 

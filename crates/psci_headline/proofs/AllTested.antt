@@ -1,10 +1,8 @@
 -- The world is safe at a moment, and at every moment, where the tests say so.
-use Rattle.std.proofs.Common.{◌≡◌, ◌&&◌, ◌↔◌, true, List, [], ◌∷◌}
-use Rattle.std.proofs.lemmas.Bool.{and_from, and_parts}
-use Rattle.psci_headline.proofs.Words.{BoardValue, Record, AlwaysSafe, Safe, is_asked, is_each_once}
+use Rattle.psci_headline.proofs.Words.{◌&&◌, ◌↔◌, ◌∷◌, ◌≡◌, [], AlwaysSafe, and_from, and_parts}
+use Rattle.psci_headline.proofs.Words.{BoardValue, is_always_safe, is_asked, is_each_once}
 use Rattle.psci_headline.proofs.Words.{is_each_open, is_off_down, is_off_stopped, is_one}
-use Rattle.psci_headline.proofs.Words.{is_powered}
-use Rattle.psci_headline.specs.Test.{is_always_safe, is_safe}
+use Rattle.psci_headline.proofs.Words.{is_powered, is_safe, List, Record, Safe, true}
 use Rattle.psci_headline.proofs.Once.{entries_tested}
 use Rattle.psci_headline.proofs.Tested.{asked_tested, off_tested, one_tested, powered_tested}
 use Rattle.psci_headline.proofs.Tested.{states_tested}

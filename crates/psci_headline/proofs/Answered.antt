@@ -1,13 +1,11 @@
 -- What is told once an acknowledgement was taken.
-use Rattle.std.proofs.Common.{◌≡◌, ℕ, ◌⊎◌, inl, inr, ◌<◌, ◌≤◌, Bool, true, cond, List, Option, Some}
-use Rattle.std.proofs.Common.{refl, arith, ap, sym, ◌∙◌}
-use Rattle.std.proofs.lemmas.Bool.Decides.{nat_tests}
-use Rattle.std.proofs.lemmas.Bool.{cond_both, and_from, cases_lt, eq-eqb, lt-ltb}
-use Rattle.psci_headline.proofs.Words.{BoardValue, PathLaws, AckValue, MessageValue, Acknowledge}
-use Rattle.psci_headline.proofs.Words.{Slot, changed, slot_of, Status, Off, confirms_on}
-use Rattle.psci_headline.proofs.Words.{with_acknowledgement, Away, Values, Holds, IsTold, WasTold}
-use Rattle.psci_headline.proofs.Words.{AreConfirming, IsYetToCome, turns_off, IsConfirmedOr}
-use Rattle.psci_headline.proofs.Words.{IsOffOr, IsOutstanding}
+use Rattle.psci_headline.proofs.Words.{◌<◌, ◌∙◌, ◌≡◌, ◌≤◌, ◌⊎◌, Acknowledge, AckValue, and_from, ap}
+use Rattle.psci_headline.proofs.Words.{AreConfirming, arith, Away, BoardValue, Bool, cases_lt}
+use Rattle.psci_headline.proofs.Words.{changed, cond, cond_both, confirms_on, eq-eqb, Holds, inl}
+use Rattle.psci_headline.proofs.Words.{inr, IsConfirmedOr, IsOffOr, IsOutstanding, IsTold}
+use Rattle.psci_headline.proofs.Words.{IsYetToCome, List, lt-ltb, MessageValue, nat_tests, Off}
+use Rattle.psci_headline.proofs.Words.{Option, PathLaws, refl, Slot, slot_of, Some, Status, sym}
+use Rattle.psci_headline.proofs.Words.{true, turns_off, Values, WasTold, with_acknowledgement, ℕ}
 use Rattle.psci_headline.specs.psci_fw_spec.Confirmed.{applied_part}
 use Rattle.psci_headline.specs.psci_fw_laws.KnownBelow.{known_below}
 use Rattle.psci_headline.proofs.fw_laws.Consequences.{once_down}

@@ -1,11 +1,9 @@
 -- Different claims on one domain in one life have different generations.
-use Rattle.std.proofs.Common.{◌≡◌, ℕ, suc, ◌<◌, inl, inr, Bool, true, false, cond, List, [], ◌∷◌}
-use Rattle.std.proofs.Common.{◌++◌, Option, None, Some, option_map, refl, ap, arith}
-use Rattle.std.proofs.lemmas.Bool.Decides.{nat_tests}
-use Rattle.std.specs.Prelude.{slice_get}
-use Rattle.psci_headline.proofs.Words.{BoardValue, HasNode, Node, Part, MessageValue, is_on_path}
-use Rattle.psci_headline.proofs.Words.{listed, Values, AreRising, part_for, Record, firmware_values}
-use Rattle.psci_headline.proofs.Words.{sent_in, Claim, claim_by}
+use Rattle.psci_headline.proofs.Words.{◌++◌, ◌<◌, ◌∷◌, ◌≡◌, [], ap, AreRising, arith, BoardValue}
+use Rattle.psci_headline.proofs.Words.{Bool, Claim, claim_by, cond, false, firmware_values, HasNode}
+use Rattle.psci_headline.proofs.Words.{inl, inr, is_on_path, List, listed, MessageValue, nat_tests}
+use Rattle.psci_headline.proofs.Words.{Node, None, Option, option_map, Part, part_for, Record, refl}
+use Rattle.psci_headline.proofs.Words.{sent_in, slice_get, Some, suc, true, Values, ℕ}
 use Rattle.psci_world_spec.specs.Histories.{sent}
 use Rattle.psci_headline.specs.Claims.{claims}
 use Rattle.psci_headline.proofs.Claiming.{HasSource, source, with_claim_of}

@@ -1,24 +1,21 @@
 -- What it means that an acknowledgement confirms a claim, and what parts that were applied say.
-use Rattle.std.proofs.Common.{◌≡◌, ℕ, zero, suc, ◌+◌, ◌<◌, ◌≤◌, Bool, true, false, ◌&&◌, ◌==◌, List}
-use Rattle.std.proofs.Common.{[], ◌∷◌, take, Option, None, Some, refl, ap, sym, ◌∙◌, arith}
-use Rattle.std.proofs.Common.{option_and_then}
-use Rattle.std.proofs.lemmas.Bool.Decides.{nat_tests}
-use Rattle.std.specs.Prelude.{nat_lt, slice_get}
-use Rattle.std.proofs.lemmas.Bool.{and_from, and_parts, eq-eqb, eqb-true, le-leb, ltb-true}
 use Rattle.std.proofs.lemmas.List.Sums.{prefix_len_passes}
-use Rattle.std.proofs.lemmas.Option.{get_or_from_slice_get}
-use Rattle.psci_headline.proofs.Words.{BoardValue, height, up, is_path_place, Part, laid}
-use Rattle.psci_headline.proofs.Words.{starts_below, confirms_on, Values, Kind, AckValue}
-use Rattle.psci_headline.proofs.Words.{ArePartsOf, MessageValue, is_kind, slot_of, sent, is_applied}
+use Rattle.psci_headline.proofs.Words.{◌&&◌, ◌+◌, ◌<◌, ◌==◌, ◌∙◌, ◌∷◌, ◌≡◌, ◌≤◌, [], AckValue}
+use Rattle.psci_headline.proofs.Words.{and_from, and_parts, ap, ArePartsOf, arith, BoardValue, Bool}
+use Rattle.psci_headline.proofs.Words.{confirms_on, eq-eqb, eqb-true, false, get_or_from_slice_get}
+use Rattle.psci_headline.proofs.Words.{get_take, height, is_applied, is_kind, is_path_place, Kind}
+use Rattle.psci_headline.proofs.Words.{laid, le-leb, List, ltb-true, MessageValue, nat_lt}
+use Rattle.psci_headline.proofs.Words.{nat_tests, None, Option, option_and_then, Part, refl, sent}
+use Rattle.psci_headline.proofs.Words.{slice_get, slot_of, Some, starts_below, suc, sym, take, true}
+use Rattle.psci_headline.proofs.Words.{up, Values, zero, ℕ}
 use Rattle.psci_ctl_spec.specs.Parts.{applied, is_live}
-use Rattle.psci_ctl_spec.specs.Values as controlled
-use Rattle.psci_ctl_spec.proofs.Front.{get_take}
 use Rattle.psci_fw_laws.specs.psci_fw_spec.Confirmed.{is_made_at}
-use Rattle.psci_ctl_spec.specs.psci_messages.declared.kind.Kind.TheVariants as kinds
 use Rattle.psci_ctl_spec.specs.psci_messages.Message.{is_climbing}
 use Rattle.psci_ctl_spec.specs.psci_messages.OnlyIf.{only_if}
 use Rattle.psci_fw_laws.specs.KnownBelow.{known_below}
 use Rattle.psci_headline.proofs.Taking.{same_kind}
+use Rattle.psci_ctl_spec.specs.Values as controlled
+use Rattle.psci_ctl_spec.specs.psci_messages.declared.kind.Kind.TheVariants as kinds
 
 -- What confirms -------------------------------------------------------------------------------
 

@@ -1,31 +1,26 @@
 -- A part that was applied in this life is one of a Down that was sent in it.
-use Rattle.std.proofs.Common.{arith, ◌≡◌, ℕ, suc, true, List, [], ◌∷◌, ◌++◌, Option, None, Some}
-use Rattle.std.proofs.Common.{refl}
-use Rattle.std.proofs.lemmas.Bool.Decides.{nat_tests}
-use Rattle.std.specs.Prelude.{slice_get}
-use Rattle.std.proofs.lemmas.Bool.{and_parts, eqb-true, false≢true}
-use Rattle.std.proofs.lemmas.Option.{same_Some}
-use Rattle.psci_headline.proofs.Words.{BoardValue, Part, Kind, AckValue, MessageValue, Deepens}
-use Rattle.psci_headline.proofs.Words.{message_effect, is_on_path, listed, Event, Deliver, Wake}
-use Rattle.psci_headline.proofs.Words.{Reset, Record, Said, Acked, control, controller_values}
-use Rattle.psci_headline.proofs.Words.{delivered, sent_in, IsReplied, indexed}
-use Rattle.psci_ctl_spec.specs.psci_messages.declared.kind.Kind.TheVariants as kinds
-use Rattle.psci_ctl_spec.specs.declared.call.CtlCall.TheVariants as asked
-use Rattle.psci_ctl_spec.specs.declared.delivery.Delivery.TheVariants as deliveries
-use Rattle.psci_ctl_spec.specs.declared.reply.CtlReply.TheVariants as replied
+use Rattle.psci_headline.proofs.Words.{◌++◌, ◌∷◌, ◌≡◌, [], Acked, AckValue, and_parts, arith}
+use Rattle.psci_headline.proofs.Words.{BoardValue, control, controller_values, Deepens, Deliver}
+use Rattle.psci_headline.proofs.Words.{delivered, eqb-true, Event, false≢true, indexed, is_on_path}
+use Rattle.psci_headline.proofs.Words.{IsReplied, Kind, List, listed, message_effect, MessageValue}
+use Rattle.psci_headline.proofs.Words.{nat_tests, None, Option, Part, part_from, Record, refl}
+use Rattle.psci_headline.proofs.Words.{Reset, Said, same_Some, sent_in, slice_get, Some, suc}
+use Rattle.psci_headline.proofs.Words.{take_get, true, Wake, ℕ}
 use Rattle.psci_ctl_spec.specs.Effects.{Effect, effect_of}
-use Rattle.psci_ctl_spec.specs.Exchange as controller
-use Rattle.psci_ctl_spec.specs.History as controls
 use Rattle.psci_ctl_spec.specs.Lasting.{Applies, WasApplied, keeps_life}
 use Rattle.psci_ctl_spec.specs.Replies.{delivery_of, reply}
 use Rattle.psci_ctl_spec.specs.Values.{Values}
-use Rattle.psci_ctl_spec.proofs.Front.{take_get}
 use Rattle.psci_fw_laws.specs.Claims.{IsFromMessage}
-use Rattle.psci_fw_laws.proofs.Parts.{part_from}
 use Rattle.psci_world_spec.specs.declared.said.Said.TheVariants.{Kick}
 use Rattle.psci_world_spec.specs.Histories.{controller_history, sent}
 use Rattle.psci_headline.proofs.Deliveries.{present_life}
 use Rattle.psci_headline.proofs.Items.{IsListed, at_number}
+use Rattle.psci_ctl_spec.specs.psci_messages.declared.kind.Kind.TheVariants as kinds
+use Rattle.psci_ctl_spec.specs.declared.call.CtlCall.TheVariants as asked
+use Rattle.psci_ctl_spec.specs.declared.delivery.Delivery.TheVariants as deliveries
+use Rattle.psci_ctl_spec.specs.declared.reply.CtlReply.TheVariants as replied
+use Rattle.psci_ctl_spec.specs.Exchange as controller
+use Rattle.psci_ctl_spec.specs.History as controls
 
 -- A delivery ----------------------------------------------------------------------------------
 

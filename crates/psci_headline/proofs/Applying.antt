@@ -1,21 +1,18 @@
 -- How many parts of an outstanding Down are applied, once live claims below have their depth.
-use Rattle.std.proofs.Common.{◌≡◌, ℕ, suc, ◌+◌, ◌-◌, ◌<◌, ◌≤◌, List, length, Some, arith, subst, ap}
-use Rattle.std.proofs.Common.{sym, ◌∙◌}
-use Rattle.std.proofs.lemmas.Bool.Decides.{nat_tests}
-use Rattle.std.specs.Prelude.{slice_get}
-use Rattle.std.proofs.lemmas.Option.{slice_get_within}
-use Rattle.psci_headline.proofs.Words.{BoardValue, cores, height, up, ChildLaws, PathLaws, Part}
-use Rattle.psci_headline.proofs.Words.{domain_of, applied, MessageValue, PartByPart, Phase, Pending}
-use Rattle.psci_headline.proofs.Words.{IsClaimOn, IsCurrent, HasDeeper, NonePending, known_below}
-use Rattle.psci_headline.proofs.Words.{AreLive, IsLivePart}
+use Rattle.psci_headline.proofs.Words.{◌+◌, ◌-◌, ◌<◌, ◌∙◌, ◌≡◌, ◌≤◌, ap, applied, AreLive, arith}
+use Rattle.psci_headline.proofs.Words.{BoardValue, ChildLaws, cores, domain_of, HasDeeper, height}
+use Rattle.psci_headline.proofs.Words.{IsClaimOn, IsCurrent, IsLivePart, known_below, length, List}
+use Rattle.psci_headline.proofs.Words.{MessageValue, nat_tests, NonePending, Part, PartByPart}
+use Rattle.psci_headline.proofs.Words.{PathLaws, Pending, Phase, slice_get, slice_get_within, Some}
+use Rattle.psci_headline.proofs.Words.{subst, suc, sym, up, ℕ}
 use Rattle.psci_ctl_spec.specs.Values.{Values}
-use Rattle.psci_ctl_spec.specs.psci_messages.declared.kind.Kind.TheVariants as kinds
 use Rattle.psci_headline.proofs.fw_laws.Sums.{known_same}
 use Rattle.psci_headline.proofs.Claimed.{AreDeep, AreFirst, claim_deep}
 use Rattle.psci_headline.proofs.Covering.{AreCovered, OthersDeep, applied_at_least}
 use Rattle.psci_headline.proofs.Unclaimed.{part_claims}
 use Rattle.psci_headline.proofs.Starting.{same_sum}
 use Rattle.psci_headline.proofs.Telling.{live_down}
+use Rattle.psci_ctl_spec.specs.psci_messages.declared.kind.Kind.TheVariants as kinds
 
 -- What is so where every started core has entered and none is pending, and live claims below this
 -- level have their depth.

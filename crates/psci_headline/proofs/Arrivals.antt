@@ -1,21 +1,15 @@
 -- What is so after a started core has entered.
-use Rattle.std.proofs.Common.{arith, ◌≡◌, ℕ, ◌<◌, ◌==◌, cond, List, ◌∷◌, ◌++◌, length, Option, None}
-use Rattle.std.proofs.Common.{Some, option_map, unwrap_or, refl, subst, ap, sym, ◌∙◌}
-use Rattle.std.proofs.lemmas.Bool.Decides.{nat_tests}
-use Rattle.std.proofs.lemmas.Bool.{cond-true, cond-false, eq-eqb, lt-ltb, ne_eqb}
-use Rattle.psci_headline.proofs.Words.{BoardValue, cores, Start, last_start, MessageValue, OfCore}
-use Rattle.psci_headline.proofs.Words.{Act, Outcome, change, enter_effect, enter_outcome, IsLegal}
-use Rattle.psci_headline.proofs.Words.{in_life, listed, Values, IsAllowed, Enter, Started, Record}
-use Rattle.psci_headline.proofs.Words.{Fw, Sent, acks, call, controller_values, entered}
-use Rattle.psci_headline.proofs.Words.{firmware_values, outcome_in, sent_in, IsLegalPast, indexed}
-use Rattle.psci_headline.proofs.Words.{step, place_after, place_said, NoneRefused}
-use Rattle.psci_ctl_spec.specs.psci_messages.declared.kind.Kind.TheVariants as kinds
-use Rattle.psci_headline.specs.psci_fw_spec.declared.call.FwCall.TheVariants as calls
-use Rattle.psci_headline.specs.psci_fw_spec.declared.outcome.Act.TheVariants as acts
-use Rattle.psci_headline.specs.psci_fw_spec.declared.reply.FwReply.TheVariants as replies
+use Rattle.psci_headline.proofs.Words.{◌++◌, ◌<◌, ◌==◌, ◌∙◌, ◌∷◌, ◌≡◌, acks, Act, ap, arith}
+use Rattle.psci_headline.proofs.Words.{BoardValue, call, change, cond, cond-false, cond-true}
+use Rattle.psci_headline.proofs.Words.{controller_values, cores, Enter, enter_effect, entered}
+use Rattle.psci_headline.proofs.Words.{eq-eqb, firmware_values, Fw, in_life, indexed, IsAllowed}
+use Rattle.psci_headline.proofs.Words.{IsLegal, IsLegalPast, last_start, length, List, listed}
+use Rattle.psci_headline.proofs.Words.{lt-ltb, MessageValue, nat_tests, ne_eqb, None, NoneRefused}
+use Rattle.psci_headline.proofs.Words.{OfCore, Option, option_map, Outcome, outcome_in, place_after}
+use Rattle.psci_headline.proofs.Words.{place_said, Record, refl, Sent, sent_in, Some, Start}
+use Rattle.psci_headline.proofs.Words.{Started, step, subst, sym, unwrap_or, Values, ℕ}
+use Rattle.psci_fw_laws.specs.psci_fw_spec.Entering.{enter_outcome}
 use Rattle.psci_headline.specs.psci_fw_spec.Answer.{answer}
-use Rattle.psci_headline.specs.psci_fw_spec.Exchange as firmware
-use Rattle.psci_headline.specs.psci_fw_spec.History as remembers
 use Rattle.psci_headline.specs.psci_world_spec.Histories.{controller_history, firmware_history}
 use Rattle.psci_headline.specs.psci_world_spec.Histories.{sent}
 use Rattle.psci_headline.specs.psci_world_spec.Legal.{legal, sent_as}
@@ -23,6 +17,12 @@ use Rattle.psci_headline.specs.psci_world_spec.Places.{place}
 use Rattle.psci_headline.proofs.world_spec.Answered.{firmware_legal}
 use Rattle.psci_headline.proofs.Agreed.{RunLaws}
 use Rattle.psci_headline.proofs.Finding.{numbered_old}
+use Rattle.psci_ctl_spec.specs.psci_messages.declared.kind.Kind.TheVariants as kinds
+use Rattle.psci_headline.specs.psci_fw_spec.declared.call.FwCall.TheVariants as calls
+use Rattle.psci_headline.specs.psci_fw_spec.declared.outcome.Act.TheVariants as acts
+use Rattle.psci_headline.specs.psci_fw_spec.declared.reply.FwReply.TheVariants as replies
+use Rattle.psci_headline.specs.psci_fw_spec.Exchange as firmware
+use Rattle.psci_headline.specs.psci_fw_spec.History as remembers
 
 -- Effects --------------------------------------------------------------------------------------
 

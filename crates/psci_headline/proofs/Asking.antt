@@ -1,19 +1,17 @@
 -- Each claim of a list was asked for when it was made.
-use Rattle.std.proofs.Common.{◌≡◌, ℕ, zero, suc, ◌+◌, ◌<◌, ◌≤◌, Bool, true, false, cond, List, []}
-use Rattle.std.proofs.Common.{◌∷◌, filter, Some, refl, ap, sym, ◌∙◌, arith}
-use Rattle.std.proofs.lemmas.Bool.Decides.{nat_tests}
-use Rattle.std.specs.Prelude.{nat_le, slice_get}
-use Rattle.std.specs.List.{list_all, range_with_len}
-use Rattle.std.proofs.lemmas.Bool.{and_from, cond_both, cond-true, eq-eqb, eqb-true, le-leb}
-use Rattle.psci_headline.proofs.Words.{BoardValue, HasNode, below, cores, Node, Part, MessageValue}
-use Rattle.psci_headline.proofs.Words.{is_on_path, SuspendMode, start_of_life, Values, part_for}
-use Rattle.psci_headline.proofs.Words.{Record, firmware_values, sent_in, Claim, claim_by}
-use Rattle.psci_headline.proofs.Words.{IsAskedFor}
+use Rattle.psci_headline.proofs.Words.{◌+◌, ◌<◌, ◌∙◌, ◌∷◌, ◌≡◌, ◌≤◌, [], and_from, ap, arith, below}
+use Rattle.psci_headline.proofs.Words.{BoardValue, Bool, Claim, claim_by, cond, cond-true}
+use Rattle.psci_headline.proofs.Words.{cond_both, cores, eq-eqb, eqb-true, false, filter}
+use Rattle.psci_headline.proofs.Words.{firmware_values, HasNode, is_on_path, IsAskedFor, le-leb}
+use Rattle.psci_headline.proofs.Words.{List, list_all, MessageValue, nat_le, nat_tests, Node, Part}
+use Rattle.psci_headline.proofs.Words.{part_for, part_has, range_with_len, Record, refl, sent_in}
+use Rattle.psci_headline.proofs.Words.{slice_get, Some, start_of_life, suc, SuspendMode, sym, true}
+use Rattle.psci_headline.proofs.Words.{Values, zero, ℕ}
 use Rattle.psci_board.specs.Board.{up}
 use Rattle.psci_fw_laws.specs.psci_fw_spec.declared.mode.SuspendMode.TheVariants.{Platform}
 use Rattle.psci_fw_laws.specs.psci_fw_spec.declared.mode.SuspendMode.TheVariants.{OsInitiated}
 use Rattle.psci_fw_laws.specs.psci_fw_spec.Views.{ask}
-use Rattle.psci_fw_laws.proofs.Parts.{HasPart, part_has}
+use Rattle.psci_fw_laws.proofs.Parts.{HasPart}
 use Rattle.psci_headline.specs.Claims.{all_ask, asks_by, claims}
 use Rattle.psci_headline.proofs.Claiming.{by_claim}
 

@@ -1,13 +1,9 @@
 -- What is so once the started cores have entered and each Start was served.
-use Rattle.std.proofs.Common.{arith, ◌≡◌, ℕ, ◌⊎◌, inl, inr, ◌<◌, false, List, Some, refl, subst, ap}
-use Rattle.std.proofs.Common.{sym, ◌∙◌}
-use Rattle.std.proofs.lemmas.Bool.Decides.{nat_tests}
-use Rattle.psci_headline.proofs.Words.{BoardValue, cores, MessageValue, OfCore, in_life, Values}
-use Rattle.psci_headline.proofs.Words.{Enter, Started, Record, controller_values, firmware_values}
-use Rattle.psci_headline.proofs.Words.{sent, IsLegalPast, indexed, place, deliveries, step}
-use Rattle.psci_headline.proofs.Words.{legal_record, entering}
-use Rattle.psci_ctl_spec.specs.Values as controlled
-use Rattle.psci_ctl_spec.specs.psci_messages.declared.kind.Kind.TheVariants as kinds
+use Rattle.psci_headline.proofs.Words.{◌<◌, ◌∙◌, ◌≡◌, ◌⊎◌, ap, arith, BoardValue, controller_values}
+use Rattle.psci_headline.proofs.Words.{cores, deliveries, Enter, entering, false, firmware_values}
+use Rattle.psci_headline.proofs.Words.{in_life, indexed, inl, inr, IsLegalPast, legal_record, List}
+use Rattle.psci_headline.proofs.Words.{MessageValue, nat_tests, OfCore, place, Record, refl, sent}
+use Rattle.psci_headline.proofs.Words.{Some, Started, step, subst, sym, Values, ℕ}
 use Rattle.psci_headline.proofs.fw_laws.Arriving.{found_life}
 use Rattle.psci_headline.proofs.Agreeing.{found_own}
 use Rattle.psci_headline.proofs.Moving.{entry_moves}
@@ -17,6 +13,8 @@ use Rattle.psci_headline.proofs.Arrivals.{same_control, same_numbers}
 use Rattle.psci_headline.proofs.Counting.{AreAdded, one_added}
 use Rattle.psci_headline.proofs.Folding.{IsStep}
 use Rattle.psci_headline.proofs.Standing.{SettleLaws}
+use Rattle.psci_ctl_spec.specs.Values as controlled
+use Rattle.psci_ctl_spec.specs.psci_messages.declared.kind.Kind.TheVariants as kinds
 
 -- The Start of this number was sent.
 pub record IsStartAt (messages : List MessageValue) (k : ℕ) : Type 0 where

@@ -1,21 +1,19 @@
 -- What is told of the domains beside a core's path, as the core stops, enters or is asked on; and
 -- what is then told of all.
-use Rattle.std.proofs.Common.{◌≡◌, ℕ, ◌⊎◌, ◌<◌, inl, inr, Bool, true, false, cond, Option, None}
-use Rattle.std.proofs.Common.{Some, refl, arith, subst, ap, sym, ◌∙◌}
-use Rattle.std.proofs.lemmas.Bool.Decides.{nat_tests}
-use Rattle.std.specs.Prelude.{slice_get}
-use Rattle.std.proofs.lemmas.Bool.{cases_eq}
-use Rattle.psci_headline.proofs.Words.{BoardValue, cores, up, PathLaws, is_path_place, Part, Start}
-use Rattle.psci_headline.proofs.Words.{MessageValue, OfCore, Put, Slot, changed, slot_of, PowerOn}
-use Rattle.psci_headline.proofs.Words.{target, with_arrival, with_pending, in_life, Phase, Away}
-use Rattle.psci_headline.proofs.Words.{Values, KnownLaws, AreConfirming, IsYetToCome, Rest}
-use Rattle.psci_headline.proofs.Words.{with_phase, with_rest, unless_claimed, claimed_or, known_on}
-use Rattle.psci_headline.proofs.Words.{IsConfirmedOr, IsOffOr, IsOutstanding}
-use Rattle.psci_headline.specs.psci_messages.declared.kind.Kind.TheVariants as kinds
+use Rattle.psci_headline.proofs.Words.{◌<◌, ◌∙◌, ◌≡◌, ◌⊎◌, ap, AreConfirming, arith, Away}
+use Rattle.psci_headline.proofs.Words.{BoardValue, Bool, cases_eq, changed, claimed_or, cond, cores}
+use Rattle.psci_headline.proofs.Words.{false, in_life, inl, inr, is_path_place, IsConfirmedOr}
+use Rattle.psci_headline.proofs.Words.{IsOffOr, IsOutstanding, IsYetToCome, known_on, KnownLaws}
+use Rattle.psci_headline.proofs.Words.{MessageValue, nat_tests, None, OfCore, Option, Part}
+use Rattle.psci_headline.proofs.Words.{PathLaws, Phase, PowerOn, Put, refl, Rest, slice_get, Slot}
+use Rattle.psci_headline.proofs.Words.{slot_of, Some, Start, subst, sym, target, true}
+use Rattle.psci_headline.proofs.Words.{unless_claimed, up, Values, with_arrival, with_pending}
+use Rattle.psci_headline.proofs.Words.{with_phase, with_rest, ℕ}
 use Rattle.psci_headline.specs.psci_fw_spec.Changes.{with_claims, with_running}
 use Rattle.psci_headline.proofs.fw_laws.Parts.{updated_here, updated_there}
 use Rattle.psci_headline.proofs.Slots.{clear_there, put_here, put_there}
 use Rattle.psci_headline.proofs.Coming.{not_at, on_path, other_core, sum_beside, yet_still}
+use Rattle.psci_headline.specs.psci_messages.declared.kind.Kind.TheVariants as kinds
 
 -- What is told of the domains beside a core's path, and of the other cores.
 pub record AreBeside (b : BoardValue) (starts : ℕ → ℕ) (v : Values) (c : ℕ) : Type 0 where

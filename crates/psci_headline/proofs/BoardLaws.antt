@@ -1,14 +1,12 @@
 -- What the laws of the crates below say of a board, and so of every legal run on it.
-use Rattle.std.proofs.Common.{arith, ◌≡◌, ℕ, List}
-use Rattle.std.proofs.lemmas.Bool.Decides.{nat_tests}
-use Rattle.psci_headline.proofs.Words.{BoardValue, PathLaws, Part, AckLaws, SumLaws, AreClaims}
-use Rattle.psci_headline.proofs.Words.{PartByPart, sent_messages, Holds, Record, controller_values}
-use Rattle.psci_headline.proofs.Words.{firmware_history, firmware_values, sent, IsLegalPast, place}
-use Rattle.psci_headline.proofs.Words.{Agree}
+use Rattle.psci_headline.proofs.Words.{◌≡◌, AckLaws, Agree, AreClaims, arith, BoardValue}
+use Rattle.psci_headline.proofs.Words.{controller_values, firmware_history, firmware_values, Holds}
+use Rattle.psci_headline.proofs.Words.{IsLegalPast, List, nat_tests, Part, PartByPart, PathLaws}
+use Rattle.psci_headline.proofs.Words.{place, Record, sent, sent_messages, SumLaws, ℕ}
 use Rattle.psci_ctl_spec.specs.Follows.{AreValues}
-use Rattle.psci_ctl_spec.specs.Values as controlled
 use Rattle.psci_headline.proofs.Agreed.{RunLaws}
 use Rattle.psci_headline.proofs.Carried.{IsGiven}
+use Rattle.psci_ctl_spec.specs.Values as controlled
 
 -- What the laws say of a board.
 pub record BoardLaws (b : BoardValue) : Type 0 where

@@ -1,14 +1,11 @@
 -- How many rounds there are until nothing is outstanding, and how often a Down is delivered.
-use Rattle.std.proofs.Common.{◌≡◌, ℕ, zero, suc, inl, inr, ◌+◌, ◌<◌, ◌≤◌, Bool, true, false, cond}
-use Rattle.std.proofs.Common.{List, Option, None, Some, refl, arith, subst, ap, sym, ◌∙◌, ◌||◌}
 use Rattle.std.specs.Prelude.{is_some}
-use Rattle.std.specs.List.{list_any, range_with_len}
-use Rattle.std.proofs.lemmas.Bool.{cases_lt, or_parts}
-use Rattle.std.proofs.lemmas.Option.{slice_get_within}
-use Rattle.psci_headline.proofs.Words.{BoardValue, cores, height, MessageValue, Record}
-use Rattle.psci_headline.proofs.Words.{controller_values, firmware_values, sent, indexed}
-use Rattle.psci_headline.proofs.Words.{deliveries, served, Reached, is_any}
-use Rattle.psci_ctl_spec.specs.psci_messages.declared.kind.Kind.TheVariants as kinds
+use Rattle.psci_headline.proofs.Words.{◌+◌, ◌<◌, ◌||◌, ◌∙◌, ◌≡◌, ◌≤◌, ap, arith, BoardValue, Bool}
+use Rattle.psci_headline.proofs.Words.{cases_lt, cond, controller_values, cores, deliveries, false}
+use Rattle.psci_headline.proofs.Words.{firmware_values, height, indexed, inl, inr, is_any, List}
+use Rattle.psci_headline.proofs.Words.{list_any, MessageValue, None, Option, or_parts}
+use Rattle.psci_headline.proofs.Words.{range_with_len, Reached, Record, refl, sent, served}
+use Rattle.psci_headline.proofs.Words.{slice_get_within, Some, subst, suc, sym, true, zero, ℕ}
 use Rattle.psci_headline.specs.Settling.{is_waiting, round, rounds}
 use Rattle.psci_headline.proofs.Controls.{IsKnown}
 use Rattle.psci_headline.proofs.Downs.{IsLeft, same_down}
@@ -17,6 +14,7 @@ use Rattle.psci_headline.proofs.Folding.{AreDone, each_done}
 use Rattle.psci_headline.proofs.Going.{IsGoing, known_now, out_now}
 use Rattle.psci_headline.proofs.Rounds.{DeepAt, InRound, IsDone, IsTodo, out_at, round_step}
 use Rattle.psci_headline.proofs.Standing.{SettleLaws}
+use Rattle.psci_ctl_spec.specs.psci_messages.declared.kind.Kind.TheVariants as kinds
 
 -- A Down that was delivered in each of so many rounds.
 pub record IsOften (b : BoardValue) (before : List Record) (n : ℕ) (past : List Record)

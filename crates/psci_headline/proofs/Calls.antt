@@ -1,24 +1,22 @@
 -- What waits, after each effect of the firmware's calls, entries and acknowledgements.
-use Rattle.std.proofs.Common.{arith, ◌≡◌, ℕ, ◌<◌, true, false, List, ◌∷◌, ◌++◌, Option, None, Some}
-use Rattle.std.proofs.Common.{subst, ap, sym, ◌∙◌}
-use Rattle.std.proofs.lemmas.Bool.Decides.{nat_tests}
-use Rattle.psci_headline.proofs.Words.{BoardValue, cores, Start, Kind, AckValue, MessageValue}
-use Rattle.psci_headline.proofs.Words.{Clear, changed, is_kind, slot_of, Act, change, with_mode}
-use Rattle.psci_headline.proofs.Words.{target, Effect, GoesOn, SetsMode, AsksOn, Rests, Halts}
-use Rattle.psci_headline.proofs.Words.{Stops, enter_effect, in_life, Phase, Away, Pending}
-use Rattle.psci_headline.proofs.Words.{unless_pending, Values, updated, IsAllowed, AreLive}
-use Rattle.psci_headline.proofs.Words.{WaitingIn}
-use Rattle.psci_ctl_spec.specs.Values as controlled
-use Rattle.psci_ctl_spec.specs.psci_messages.declared.kind.Kind.TheVariants as kinds
-use Rattle.psci_headline.specs.psci_fw_spec.declared.outcome.Act.TheVariants as acts
+use Rattle.psci_headline.proofs.Words.{◌++◌, ◌<◌, ◌∙◌, ◌∷◌, ◌≡◌, AckValue, Act, ap, AreLive, arith}
+use Rattle.psci_headline.proofs.Words.{AsksOn, Away, BoardValue, change, changed, Clear, cores}
+use Rattle.psci_headline.proofs.Words.{Effect, enter_effect, false, GoesOn, Halts, in_life, is_kind}
+use Rattle.psci_headline.proofs.Words.{IsAllowed, Kind, List, MessageValue, nat_tests, None, Option}
+use Rattle.psci_headline.proofs.Words.{Pending, Phase, Rests, SetsMode, slot_of, Some, Start, Stops}
+use Rattle.psci_headline.proofs.Words.{subst, sym, target, true, unless_pending, updated, Values}
+use Rattle.psci_headline.proofs.Words.{WaitingIn, with_mode, ℕ}
 use Rattle.psci_headline.specs.psci_fw_spec.Phases.{Running}
-use Rattle.psci_headline.specs.psci_fw_spec.Said as says
 use Rattle.psci_headline.proofs.fw_laws.Parts.{updated_here}
 use Rattle.psci_headline.proofs.Slots.{system_slot, down_slot}
 use Rattle.psci_headline.proofs.Moving.{CallerLaws, is_call}
 use Rattle.psci_headline.proofs.Pursuing.{waiting_arrival, waiting_asked, waiting_core}
 use Rattle.psci_headline.proofs.Pursuing.{waiting_halt, waiting_phase}
 use Rattle.psci_headline.proofs.Unclaimed.{none_live_running, none_live_started}
+use Rattle.psci_ctl_spec.specs.Values as controlled
+use Rattle.psci_ctl_spec.specs.psci_messages.declared.kind.Kind.TheVariants as kinds
+use Rattle.psci_headline.specs.psci_fw_spec.declared.outcome.Act.TheVariants as acts
+use Rattle.psci_headline.specs.psci_fw_spec.Said as says
 
 -- Slots ----------------------------------------------------------------------------------------
 

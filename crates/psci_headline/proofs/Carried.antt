@@ -1,27 +1,19 @@
 -- What waits, after one call of the power controller or of the firmware.
-use Rattle.std.proofs.Common.{◌≡◌, ℕ, zero, suc, ◌+◌, inl, inr, ◌<◌, ◌≤◌, Bool, true, false, cond}
-use Rattle.std.proofs.Common.{List, ◌∷◌, ◌++◌, Option, Some, refl, arith, subst, ap, sym, ◌∙◌}
-use Rattle.std.proofs.lemmas.Bool.Decides.{nat_tests}
-use Rattle.std.specs.Prelude.{nat_lt, slice_get}
-use Rattle.std.proofs.lemmas.Bool.{cases_eq}
-use Rattle.psci_headline.proofs.Words.{BoardValue, cores, PathLaws, Part, Cause, Start, next_life}
-use Rattle.psci_headline.proofs.Words.{Nothing, Starts, Ends, Begins, message_effect, MayFollow}
-use Rattle.psci_headline.proofs.Words.{AckLaws, SumLaws, ack_by, last_start, may_follow, Kind}
-use Rattle.psci_headline.proofs.Words.{AckValue, AreClaims, MessageValue, PartByPart, Act, change}
-use Rattle.psci_headline.proofs.Words.{with_acknowledgement, Effect, enter_effect, in_life, Values}
-use Rattle.psci_headline.proofs.Words.{IsAllowed, Holds, AreLive, AreOutstanding, Place, IsNamed}
-use Rattle.psci_headline.proofs.Words.{WaitingIn, AreSent}
-use Rattle.psci_ctl_spec.specs.psci_messages.declared.start.Cause.TheVariants as causes
-use Rattle.psci_ctl_spec.specs.Changes as controlling
-use Rattle.psci_ctl_spec.specs.Effects as controlling_effects
-use Rattle.psci_ctl_spec.specs.Values as controlled
-use Rattle.psci_ctl_spec.specs.psci_messages.declared.kind.Kind.TheVariants as kinds
-use Rattle.psci_headline.specs.psci_fw_spec.Said as says
+use Rattle.psci_headline.proofs.Words.{◌++◌, ◌+◌, ◌<◌, ◌∙◌, ◌∷◌, ◌≡◌, ◌≤◌, ack_by, AckLaws}
+use Rattle.psci_headline.proofs.Words.{AckValue, Act, ap, AreClaims, AreLive, AreOutstanding}
+use Rattle.psci_headline.proofs.Words.{AreSent, arith, BoardValue, Bool, cases_eq, Cause, change}
+use Rattle.psci_headline.proofs.Words.{cond, cores, Effect, enter_effect, false, Holds, in_life}
+use Rattle.psci_headline.proofs.Words.{inl, inr, IsAllowed, IsNamed, Kind, last_start, List}
+use Rattle.psci_headline.proofs.Words.{may_follow, MayFollow, message_effect, MessageValue, nat_lt}
+use Rattle.psci_headline.proofs.Words.{nat_tests, next_life, Nothing, Option, Part, PartByPart}
+use Rattle.psci_headline.proofs.Words.{PathLaws, Place, refl, slice_get, Some, Start, Starts, subst}
+use Rattle.psci_headline.proofs.Words.{suc, SumLaws, sym, true, Values, WaitingIn}
+use Rattle.psci_headline.proofs.Words.{with_acknowledgement, zero, ℕ}
+use Rattle.psci_ctl_spec.specs.Effects.{Ends, Begins}
 use Rattle.psci_headline.proofs.fw_laws.Arriving.{found_life}
 use Rattle.psci_headline.proofs.fw_laws.Consequences.{once_down}
 use Rattle.psci_headline.proofs.fw_laws.Living.{live_laws}
 use Rattle.psci_headline.proofs.fw_laws.Sums.{known_le}
-use Rattle.psci_headline.specs.psci_world_spec.declared.place.Place.TheVariants as places
 use Rattle.psci_headline.proofs.Quiet.{in_life_holds}
 use Rattle.psci_headline.proofs.Agreeing.{AreAgreed, found_other, found_own}
 use Rattle.psci_headline.proofs.Moving.{CallerLaws, IsCallOf, call_moves, entry_moves}
@@ -30,6 +22,13 @@ use Rattle.psci_headline.proofs.Calls.{call_waits, entry_waits}
 use Rattle.psci_headline.proofs.Controls.{IsKnown, begun_waits, down_waits, start_told, start_waits}
 use Rattle.psci_headline.proofs.Taking.{waiting_taken}
 use Rattle.psci_headline.proofs.Telling.{own_name}
+use Rattle.psci_ctl_spec.specs.psci_messages.declared.start.Cause.TheVariants as causes
+use Rattle.psci_ctl_spec.specs.Changes as controlling
+use Rattle.psci_ctl_spec.specs.Effects as controlling_effects
+use Rattle.psci_ctl_spec.specs.Values as controlled
+use Rattle.psci_ctl_spec.specs.psci_messages.declared.kind.Kind.TheVariants as kinds
+use Rattle.psci_headline.specs.psci_fw_spec.Said as says
+use Rattle.psci_headline.specs.psci_world_spec.declared.place.Place.TheVariants as places
 
 -- What waits in this life, where there is one.
 abbrev pub WaitsNow : BoardValue → controlled.Values → Values → List MessageValue → List AckValue

@@ -1,20 +1,18 @@
 -- Worked examples are stated so: a run that is safe at every moment, and a moment at which just one
 -- thing is not as it shall be.
-use Rattle.std.proofs.Common.{◌≡◌, ◌++◌, Bool, true, false, ◌&&◌, List, [], ◌∷◌, map, refl}
+use Rattle.std.proofs.Common.{map}
+use Rattle.psci_headline.proofs.Words.{◌&&◌, ◌++◌, ◌∷◌, ◌≡◌, [], Bool, Event, false, is_always_safe}
+use Rattle.psci_headline.proofs.Words.{is_asked, is_each_once, is_each_open, is_each_real}
+use Rattle.psci_headline.proofs.Words.{is_off_down, is_off_stopped, is_one, is_powered, is_safe}
+use Rattle.psci_headline.proofs.Words.{List, Record, refl, Said, true}
 use Rattle.psci_board.proofs.Tables.{Row}
 use Rattle.psci_fw_laws.specs.psci_board.Board.{BoardValue}
-use Rattle.psci_world_spec.specs.declared.event.Event.{Event}
-use Rattle.psci_world_spec.specs.declared.said.Record.{Record}
-use Rattle.psci_world_spec.specs.declared.said.Said.{Said}
 use Rattle.psci_world_spec.specs.Legal.{run_from}
-use Rattle.psci_world_spec.proofs.Scripts as scripts
 use Rattle.psci_headline.specs.Claims.{claims, live_claims}
 use Rattle.psci_headline.specs.Hardware.{was_in_state}
 use Rattle.psci_headline.specs.Moments.{was_powered_down}
 use Rattle.psci_headline.specs.Openings.{openings, taken_up}
-use Rattle.psci_headline.specs.Test.{is_always_safe, is_asked, is_each_once, is_each_open}
-use Rattle.psci_headline.specs.Test.{is_each_real, is_off_down, is_off_stopped, is_one, is_powered}
-use Rattle.psci_headline.specs.Test.{is_safe}
+use Rattle.psci_world_spec.proofs.Scripts as scripts
 
 -- what an example unfolds to compute the tests of a moment
 unfoldable pub computing : Unit {0}

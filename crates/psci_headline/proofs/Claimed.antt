@@ -1,12 +1,10 @@
 -- Live claims that have their depth, level by level.
-use Rattle.std.proofs.Common.{arith, ◌≡◌, ℕ, inl, inr, ◌<◌, false, List, Some, refl, ap, sym, ◌∙◌}
-use Rattle.std.proofs.lemmas.Bool.Decides.{nat_tests}
-use Rattle.std.specs.Prelude.{nat_le, slice_get}
-use Rattle.std.proofs.lemmas.Bool.{and_parts, and_right, cond-false, eqb-false, ltb-true, leb-true}
-use Rattle.std.proofs.lemmas.Bool.{ne_eqb}
-use Rattle.psci_headline.proofs.Words.{BoardValue, HasNode, height, up, Node, Part, first_depth}
-use Rattle.psci_headline.proofs.Words.{starts_below, is_on_path, Down, MessageValue, IsClaimOn}
-use Rattle.psci_headline.proofs.Words.{known_below, IsLivePart, IsFromStart}
+use Rattle.psci_headline.proofs.Words.{◌<◌, ◌∙◌, ◌≡◌, and_parts, and_right, ap, arith, BoardValue}
+use Rattle.psci_headline.proofs.Words.{cond-false, Down, eqb-false, false, first_depth, HasNode}
+use Rattle.psci_headline.proofs.Words.{height, inl, inr, is_on_path, IsClaimOn, IsFromStart}
+use Rattle.psci_headline.proofs.Words.{IsLivePart, known_below, leb-true, List, ltb-true}
+use Rattle.psci_headline.proofs.Words.{MessageValue, nat_le, nat_tests, ne_eqb, Node, Part, refl}
+use Rattle.psci_headline.proofs.Words.{slice_get, Some, starts_below, sym, up, ℕ}
 use Rattle.psci_headline.proofs.fw_laws.Parts.{part_has}
 use Rattle.psci_headline.proofs.Starting.{same_sum}
 

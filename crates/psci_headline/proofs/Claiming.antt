@@ -1,12 +1,12 @@
 -- Where the claims of a list come from: a life's start, or a message that was sent; and back.
-use Rattle.std.proofs.Common.{arith, ◌≡◌, ℕ, zero, suc, inl, Bool, true, false, cond, List, [], ◌∷◌}
-use Rattle.std.proofs.Common.{◌++◌, Option, None, Some, option_map, refl, ap, sym, ◌∙◌, subst}
-use Rattle.std.proofs.lemmas.Bool.Decides.{nat_tests}
-use Rattle.std.specs.Prelude.{option_and_then, slice_get}
-use Rattle.std.proofs.lemmas.Bool.{and_from, eq-eqb, eqb-true, false_from_ne_true, le-leb, lt-ltb}
-use Rattle.psci_headline.proofs.Words.{BoardValue, HasNode, has_node, Node, Part, MessageValue}
-use Rattle.psci_headline.proofs.Words.{is_on_path, is_path_place, listed, Values, IsClaimOn}
-use Rattle.psci_headline.proofs.Words.{part_for, Record, firmware_values, sent_in, Claim, claim_by}
+use Rattle.std.specs.Prelude.{option_and_then}
+use Rattle.psci_headline.proofs.Words.{◌++◌, ◌∙◌, ◌∷◌, ◌≡◌, [], and_from, ap, arith, BoardValue}
+use Rattle.psci_headline.proofs.Words.{Bool, Claim, claim_by, cond, eq-eqb, eqb-true, false}
+use Rattle.psci_headline.proofs.Words.{false_from_ne_true, firmware_values, has_node, HasNode, inl}
+use Rattle.psci_headline.proofs.Words.{is_on_path, is_path_place, IsClaimOn, le-leb, List, listed}
+use Rattle.psci_headline.proofs.Words.{lt-ltb, MessageValue, nat_tests, Node, None, Option}
+use Rattle.psci_headline.proofs.Words.{option_map, Part, part_for, Record, refl, sent_in, slice_get}
+use Rattle.psci_headline.proofs.Words.{Some, subst, suc, sym, true, Values, zero, ℕ}
 use Rattle.psci_fw_laws.proofs.Parts.{claim_new, claim_old}
 use Rattle.psci_world_spec.specs.Histories.{sent}
 use Rattle.psci_headline.specs.Claims.{claim_in, claims}

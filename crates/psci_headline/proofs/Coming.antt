@@ -1,9 +1,8 @@
 -- What has yet to come of a domain, where values change beside it or more cores are started.
-use Rattle.std.proofs.Common.{◌≡◌, ℕ, ◌≤◌, true, false, Option, Some, arith, ap, sym, ◌∙◌}
-use Rattle.std.proofs.lemmas.Bool.Decides.{nat_tests}
-use Rattle.std.proofs.lemmas.Bool.{eqb-false, eqb-true, ne_eqb}
-use Rattle.psci_headline.proofs.Words.{BoardValue, up, PathLaws, is_path_place, MessageValue, Slot}
-use Rattle.psci_headline.proofs.Words.{OfCore, updated, KnownLaws, known_below, IsYetToCome}
+use Rattle.psci_headline.proofs.Words.{◌∙◌, ◌≡◌, ◌≤◌, ap, arith, BoardValue, eqb-false, eqb-true}
+use Rattle.psci_headline.proofs.Words.{false, is_path_place, IsYetToCome, known_below, KnownLaws}
+use Rattle.psci_headline.proofs.Words.{MessageValue, nat_tests, ne_eqb, OfCore, Option, PathLaws}
+use Rattle.psci_headline.proofs.Words.{Slot, Some, sym, true, up, updated, ℕ}
 use Rattle.psci_headline.proofs.fw_laws.Parts.{updated_there}
 
 -- Paths ----------------------------------------------------------------------------------------

@@ -1,19 +1,19 @@
 -- What is told after every legal run.
-use Rattle.std.proofs.Common.{arith, List, [], ◌∷◌, ◌++◌, subst, sym}
-use Rattle.std.proofs.lemmas.Bool.Decides.{nat_tests}
-use Rattle.psci_headline.proofs.Words.{BoardValue, PathLaws, effect_of, Values, Holds, KnownLaws}
-use Rattle.psci_headline.proofs.Words.{Event, Record, Said, acks, call, control, controller_values}
-use Rattle.psci_headline.proofs.Words.{firmware_values, sent, IsLegalPast, Agree, CtlExchange}
-use Rattle.psci_headline.proofs.Words.{Waiting, Confirming}
-use Rattle.psci_headline.specs.psci_ctl_spec.History as controls
-use Rattle.psci_headline.specs.psci_ctl_spec.Values as controlled
-use Rattle.psci_headline.specs.psci_fw_spec.History as remembers
+use Rattle.psci_headline.proofs.Words.{◌++◌, ◌∷◌, [], acks, Agree, arith, BoardValue, call}
+use Rattle.psci_headline.proofs.Words.{Confirming, control, controller_values, CtlExchange, Event}
+use Rattle.psci_headline.proofs.Words.{firmware_values, Holds, IsLegalPast, KnownLaws, List}
+use Rattle.psci_headline.proofs.Words.{nat_tests, PathLaws, Record, Said, sent, subst, sym, Values}
+use Rattle.psci_headline.proofs.Words.{Waiting}
+use Rattle.psci_ctl_spec.specs.Effects.{effect_of}
 use Rattle.psci_headline.specs.psci_world_spec.Histories.{controller_history, firmware_history}
 use Rattle.psci_headline.proofs.world_spec.Answered.{firmware_legal}
 use Rattle.psci_headline.proofs.Agreed.{first_kept}
 use Rattle.psci_headline.proofs.Deliveries.{IsFew, few, values_by}
 use Rattle.psci_headline.proofs.Moves.{FirmwareLaws, moves}
 use Rattle.psci_headline.proofs.Steps.{ConfirmingNow, controlled_by, effect, first_now}
+use Rattle.psci_headline.specs.psci_ctl_spec.History as controls
+use Rattle.psci_headline.specs.psci_ctl_spec.Values as controlled
+use Rattle.psci_headline.specs.psci_fw_spec.History as remembers
 
 -- What the laws below say of a board and of its legal pasts.
 pub record RunLaws (b : BoardValue) : Type 0 where

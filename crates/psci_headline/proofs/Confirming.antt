@@ -1,18 +1,15 @@
 -- What an effect leaves of a domain's confirmed claim: it was confirmed before, or a life has
 -- begun, or an acknowledgement confirms it.
-use Rattle.std.proofs.Common.{◌≡◌, ℕ, ◌⊎◌, inl, inr, Bool, true, false, ◌==◌, cond, Option, None}
-use Rattle.std.proofs.Common.{Some, refl, arith, ap, sym, ◌∙◌}
-use Rattle.std.proofs.lemmas.Bool.Decides.{nat_tests}
-use Rattle.std.specs.Prelude.{slice_get}
-use Rattle.std.proofs.lemmas.Bool.{and_parts, eqb-false}
-use Rattle.psci_headline.proofs.Words.{BoardValue, up, is_path_place, Part, AckValue, change}
-use Rattle.psci_headline.proofs.Words.{confirms_on, target, Effect, AsksOn, Rests, Enters, Parks}
-use Rattle.psci_headline.proofs.Words.{StopsAtOnce, Acknowledges, start_of_life, Arrival, arrived}
-use Rattle.psci_headline.proofs.Words.{Values, updated, KnownLaws, known_below, unless_claimed}
-use Rattle.psci_headline.proofs.Words.{claimed_or}
-use Rattle.psci_ctl_spec.specs.psci_messages.declared.start.Start as starts
+use Rattle.psci_headline.proofs.Words.{◌==◌, ◌∙◌, ◌≡◌, ◌⊎◌, Acknowledges, AckValue, and_parts, ap}
+use Rattle.psci_headline.proofs.Words.{arith, Arrival, arrived, AsksOn, BoardValue, Bool, change}
+use Rattle.psci_headline.proofs.Words.{claimed_or, cond, confirms_on, Effect, Enters, eqb-false}
+use Rattle.psci_headline.proofs.Words.{false, inl, inr, is_path_place, known_below, KnownLaws}
+use Rattle.psci_headline.proofs.Words.{nat_tests, None, Option, Parks, Part, refl, Rests, slice_get}
+use Rattle.psci_headline.proofs.Words.{Some, start_of_life, StopsAtOnce, sym, target, true}
+use Rattle.psci_headline.proofs.Words.{unless_claimed, up, updated, Values, ℕ}
 use Rattle.psci_fw_laws.specs.psci_fw_spec.Lives.{first_confirmed, first_granted}
 use Rattle.psci_headline.proofs.Coming.{sum_beside}
+use Rattle.psci_ctl_spec.specs.psci_messages.declared.start.Start as starts
 
 -- Nothing is changed of a domain.
 pub record Stays (b : BoardValue) (v w : Values) (level place : ℕ) : Type 0 where

@@ -1,20 +1,11 @@
 -- What waits after a wake-up, a reset and a delivery.
-use Rattle.std.proofs.Common.{arith, ◌≡◌, ℕ, List, ◌∷◌, ◌++◌, None, Some, refl, subst, ap, sym, ◌∙◌}
-use Rattle.std.proofs.lemmas.Bool.Decides.{nat_tests}
-use Rattle.std.specs.Prelude.{slice_get}
-use Rattle.psci_headline.proofs.Words.{BoardValue, Cause, MayFollow, ack_by, AckValue, MessageValue}
-use Rattle.psci_headline.proofs.Words.{listed, Wake, Reset, Deliver, Record, Said, ack_in, acks}
-use Rattle.psci_headline.proofs.Words.{controller_history, controller_values, delivered}
-use Rattle.psci_headline.proofs.Words.{firmware_values, sent, sent_in, indexed, place}
-use Rattle.psci_ctl_spec.specs.Changes as controlling
-use Rattle.psci_ctl_spec.specs.Effects as controlling_effects
-use Rattle.psci_ctl_spec.specs.Exchange as controller
-use Rattle.psci_ctl_spec.specs.History as controls
-use Rattle.psci_ctl_spec.specs.Legal as legal_controls
-use Rattle.psci_ctl_spec.specs.Values as controlled
-use Rattle.psci_headline.specs.psci_world_spec.declared.said.Said.TheVariants as said
+use Rattle.psci_headline.proofs.Words.{◌++◌, ◌∙◌, ◌∷◌, ◌≡◌, ack_by, ack_in, acks, AckValue, ap}
+use Rattle.psci_headline.proofs.Words.{arith, BoardValue, Cause, controller_history}
+use Rattle.psci_headline.proofs.Words.{controller_values, Deliver, delivered, firmware_values}
+use Rattle.psci_headline.proofs.Words.{indexed, List, listed, MayFollow, MessageValue, nat_tests}
+use Rattle.psci_headline.proofs.Words.{None, place, Record, refl, Reset, Said, sent, sent_in}
+use Rattle.psci_headline.proofs.Words.{slice_get, Some, subst, sym, values_more, Wake, ℕ}
 use Rattle.psci_headline.specs.psci_world_spec.Legal.{legal}
-use Rattle.psci_ctl_spec.proofs.OneMore.{values_more}
 use Rattle.psci_headline.proofs.Agreed.{RunLaws}
 use Rattle.psci_headline.proofs.Controlling.{after_control}
 use Rattle.psci_headline.proofs.Deliveries.{delivered_by}
@@ -22,6 +13,13 @@ use Rattle.psci_headline.proofs.Items.{at_number}
 use Rattle.psci_headline.proofs.BoardLaws.{Given}
 use Rattle.psci_headline.proofs.Carried.{WaitsNow, acked_waits, started_waits}
 use Rattle.psci_headline.proofs.WaitingNexts.{Now, Next}
+use Rattle.psci_ctl_spec.specs.Changes as controlling
+use Rattle.psci_ctl_spec.specs.Effects as controlling_effects
+use Rattle.psci_ctl_spec.specs.Exchange as controller
+use Rattle.psci_ctl_spec.specs.History as controls
+use Rattle.psci_ctl_spec.specs.Legal as legal_controls
+use Rattle.psci_ctl_spec.specs.Values as controlled
+use Rattle.psci_headline.specs.psci_world_spec.declared.said.Said.TheVariants as said
 
 -- a core was started by a wake-up or a reset
 kicked_next : (b : BoardValue) (past : List Record) (e : controller.CtlExchange) (c : ℕ)

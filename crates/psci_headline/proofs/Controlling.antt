@@ -1,20 +1,17 @@
 -- The power controller's history of a legal run is one of its legal histories.
-use Rattle.std.proofs.Common.{◌≡◌, ℕ, ◌≤◌, List, [], ◌∷◌, ◌++◌, Option, None, Some, arith, refl}
-use Rattle.std.proofs.Common.{subst}
-use Rattle.std.proofs.lemmas.Bool.Decides.{nat_tests}
-use Rattle.std.specs.Prelude.{slice_get}
-use Rattle.psci_headline.proofs.Words.{BoardValue, cores, AckValue, MessageValue, Event, Wake}
-use Rattle.psci_headline.proofs.Words.{Reset, Record, Said, control, controller_values, delivered}
-use Rattle.psci_headline.proofs.Words.{sent, IsReplied, IsLegalPast, legal, indexed}
+use Rattle.psci_headline.proofs.Words.{◌++◌, ◌∷◌, ◌≡◌, ◌≤◌, [], AckValue, arith, BoardValue}
+use Rattle.psci_headline.proofs.Words.{control, controller_answered, controller_values, cores}
+use Rattle.psci_headline.proofs.Words.{delivered, Event, indexed, IsLegalPast, IsReplied, legal}
+use Rattle.psci_headline.proofs.Words.{List, MessageValue, nat_tests, None, Option, Record, refl}
+use Rattle.psci_headline.proofs.Words.{Reset, Said, sent, slice_get, Some, subst, Wake, ℕ}
 use Rattle.psci_board.specs.declared.limits.TheConstants.{MOST_CORES}
-use Rattle.psci_ctl_spec.specs.Exchange as controller
-use Rattle.psci_ctl_spec.specs.Legal as controls
 use Rattle.psci_fw_laws.specs.Messages.{IsSound}
-use Rattle.psci_world_spec.specs.declared.said.Said.TheVariants as said
 use Rattle.psci_world_spec.specs.Histories.{controller_history}
-use Rattle.psci_world_spec.proofs.Answered.{controller_answered}
 use Rattle.psci_headline.proofs.Happening.{happens}
 use Rattle.psci_headline.proofs.Items.{at_number}
+use Rattle.psci_ctl_spec.specs.Exchange as controller
+use Rattle.psci_ctl_spec.specs.Legal as controls
+use Rattle.psci_world_spec.specs.declared.said.Said.TheVariants as said
 
 -- a message that the firmware sends can be sent on its board
 pub sendable : (b : BoardValue) (m : MessageValue) → cores b ≤ MOST_CORES → IsSound b m

@@ -1,28 +1,25 @@
 -- What waits, after each effect of the power controller.
-use Rattle.std.proofs.Common.{◌≡◌, ℕ, zero, suc, ◌+◌, ◌<◌, ◌≤◌, Bool, true, false, ◌==◌, cond, List}
-use Rattle.std.proofs.Common.{[], ◌∷◌, take, Some, refl, arith, subst, ap, sym, ◌∙◌}
-use Rattle.std.proofs.lemmas.Bool.Decides.{nat_tests}
-use Rattle.std.specs.Prelude.{nat_lt, slice_get}
-use Rattle.std.proofs.lemmas.Bool.{and_cases, and_parts, cond-true, eq-eqb, eqb-false, eqb-true}
-use Rattle.std.proofs.lemmas.Bool.{ltb-false}
-use Rattle.std.proofs.lemmas.Option.{none-some, slice_get_within}
-use Rattle.psci_headline.proofs.Words.{BoardValue, cores, height, up, Part, Cause, one_more}
-use Rattle.psci_headline.proofs.Words.{Nothing, Starts, Deepens, AckLaws, SumLaws, applied}
-use Rattle.psci_headline.proofs.Words.{is_stale, ack_of, may_follow, Kind, AckValue, ArePartsOf}
-use Rattle.psci_headline.proofs.Words.{AreClaims, MessageValue, PartByPart, start_of_life, Phase}
-use Rattle.psci_headline.proofs.Words.{Away, Pending, Values, AreRising, known_below, AreLive}
-use Rattle.psci_headline.proofs.Words.{AreWaiting, IsNamed, IsTold, WaitingIn, WasTold, IsFront}
-use Rattle.psci_headline.proofs.Words.{AreSent}
-use Rattle.psci_ctl_spec.specs.psci_messages.declared.start.Cause.TheVariants as causes
+use Rattle.std.proofs.lemmas.Bool.{and_cases, ltb-false}
+use Rattle.psci_headline.proofs.Words.{◌+◌, ◌<◌, ◌==◌, ◌∙◌, ◌∷◌, ◌≡◌, ◌≤◌, [], ack_of, AckLaws}
+use Rattle.psci_headline.proofs.Words.{AckValue, and_parts, ap, applied, AreClaims, AreLive}
+use Rattle.psci_headline.proofs.Words.{ArePartsOf, AreRising, AreSent, AreWaiting, arith, Away}
+use Rattle.psci_headline.proofs.Words.{BoardValue, Bool, Cause, cond, cond-true, cores, Deepens}
+use Rattle.psci_headline.proofs.Words.{eq-eqb, eqb-false, eqb-true, false, height, is_stale}
+use Rattle.psci_headline.proofs.Words.{IsFront, IsNamed, IsTold, Kind, known_below, List}
+use Rattle.psci_headline.proofs.Words.{may_follow, MessageValue, nat_lt, nat_tests, none-some}
+use Rattle.psci_headline.proofs.Words.{Nothing, one_more, Part, PartByPart, Pending, Phase, refl}
+use Rattle.psci_headline.proofs.Words.{slice_get, slice_get_within, Some, start_of_life, Starts}
+use Rattle.psci_headline.proofs.Words.{subst, suc, SumLaws, sym, take, take_get, true, up, Values}
+use Rattle.psci_headline.proofs.Words.{WaitingIn, WasTold, zero, ℕ}
 use Rattle.psci_ctl_spec.specs.Changes.{change}
-use Rattle.psci_ctl_spec.specs.Values as controlled
-use Rattle.psci_ctl_spec.proofs.Front.{take_get}
-use Rattle.psci_ctl_spec.specs.psci_messages.declared.kind.Kind.TheVariants as kinds
 use Rattle.psci_headline.specs.psci_fw_laws.Messages.{IsSent}
 use Rattle.psci_headline.proofs.Deepening.{AreApplied, waiting_deepened}
 use Rattle.psci_headline.proofs.Starting.{same_sum, waiting_started}
 use Rattle.psci_headline.proofs.Taking.{named}
 use Rattle.psci_headline.proofs.Telling.{told_down, told_other}
+use Rattle.psci_ctl_spec.specs.psci_messages.declared.start.Cause.TheVariants as causes
+use Rattle.psci_ctl_spec.specs.Values as controlled
+use Rattle.psci_ctl_spec.specs.psci_messages.declared.kind.Kind.TheVariants as kinds
 
 -- What is known of the firmware's values in the life, and of its messages.
 pub record IsKnown (b : BoardValue) (life : ℕ) (starts : ℕ → ℕ) (v : Values)

@@ -1,21 +1,17 @@
 -- What one effect does to the firmware's life, and to the known start, phase and status of a core.
-use Rattle.std.proofs.Common.{◌≡◌, ℕ, ◌<◌, ◌≤◌, ◌⊎◌, inl, true, Some, refl, arith, ap, sym, ◌∙◌}
-use Rattle.std.proofs.Common.{◌&&◌}
-use Rattle.std.proofs.lemmas.Bool.Decides.{nat_tests}
-use Rattle.std.specs.Prelude.{nat_lt}
-use Rattle.std.proofs.lemmas.Bool.{and_parts, cond_both, ltb-true}
-use Rattle.psci_headline.proofs.Words.{BoardValue, Down, AckValue, is_kind, change, target, Effect}
-use Rattle.psci_headline.proofs.Words.{GoesOn, SetsMode, AsksOn, Rests, Halts, Stops, Enters, Parks}
-use Rattle.psci_headline.proofs.Words.{StopsAtOnce, Acknowledges, in_life, Phase, Away, Pending}
-use Rattle.psci_headline.proofs.Words.{Arrival, arrived, Values, updated, IsAllowed, Nothing}
-use Rattle.psci_headline.proofs.Words.{turns_off}
+use Rattle.psci_headline.proofs.Words.{◌&&◌, ◌<◌, ◌∙◌, ◌≡◌, ◌≤◌, ◌⊎◌, Acknowledges, AckValue}
+use Rattle.psci_headline.proofs.Words.{and_parts, ap, arith, Arrival, arrived, AsksOn, Away}
+use Rattle.psci_headline.proofs.Words.{BoardValue, change, cond_both, Down, Effect, Enters, GoesOn}
+use Rattle.psci_headline.proofs.Words.{Halts, in_life, inl, is_kind, IsAllowed, ltb-true, nat_lt}
+use Rattle.psci_headline.proofs.Words.{nat_tests, Nothing, Parks, Pending, Phase, refl, Rests}
+use Rattle.psci_headline.proofs.Words.{SetsMode, Some, Stops, StopsAtOnce, sym, target, true}
+use Rattle.psci_headline.proofs.Words.{turns_off, updated, updated_at, Values, ℕ}
 use Rattle.psci_fw_laws.specs.psci_fw_spec.Effects.{Nothing}
-use Rattle.psci_ctl_spec.specs.psci_messages.declared.start.Start as starts
-use Rattle.psci_fw_laws.specs.psci_fw_spec.declared.status.Status.TheVariants as statuses
 use Rattle.psci_fw_laws.specs.psci_fw_spec.Phases.{Running, is_away}
 use Rattle.psci_fw_laws.specs.Allowed.{IsEntering}
-use Rattle.psci_fw_laws.proofs.Parts.{updated_at}
 use Rattle.psci_headline.proofs.Taking.{same_kind}
+use Rattle.psci_ctl_spec.specs.psci_messages.declared.start.Start as starts
+use Rattle.psci_fw_laws.specs.psci_fw_spec.declared.status.Status.TheVariants as statuses
 
 -- An effect says that a core is off: an acknowledgement of its Down was taken.
 pub record TurnsOff (v : Values) (c : ℕ) (e : Effect) : Type 0 where

@@ -1,11 +1,9 @@
 -- How often messages are delivered, along the records, and which records are added.
-use Rattle.std.proofs.Common.{◌≡◌, ℕ, ◌+◌, true, ◌==◌, cond, List, [], ◌∷◌, ◌++◌, refl, arith, ap}
-use Rattle.std.proofs.lemmas.Bool.Decides.{nat_tests}
-use Rattle.std.specs.List.{list_all}
-use Rattle.std.proofs.lemmas.Bool.{and_from}
 use Rattle.std.proofs.lemmas.List.{length-append}
 use Rattle.std.proofs.lemmas.List.Elements.{filter-append}
-use Rattle.psci_headline.proofs.Words.{Deliver, Record, deliveries, is_settling}
+use Rattle.psci_headline.proofs.Words.{◌++◌, ◌+◌, ◌==◌, ◌∷◌, ◌≡◌, [], and_from, ap, arith, cond}
+use Rattle.psci_headline.proofs.Words.{Deliver, deliveries, is_settling, List, list_all, nat_tests}
+use Rattle.psci_headline.proofs.Words.{Record, refl, true, ℕ}
 
 -- deliveries of more records
 pub deliveries_more : (k : ℕ) (added past : List Record)

@@ -1,17 +1,15 @@
 -- How many parts of a Down are applied: at least those that are live and covered.
-use Rattle.std.proofs.Common.{◌≡◌, ℕ, zero, suc, ◌+◌, ◌-◌, ◌<◌, ◌≤◌, Bool, true, ◌==◌, cond, List}
-use Rattle.std.proofs.Common.{[], ◌∷◌, length, take, Some, refl, arith, subst, ap, sym, ◌∙◌}
-use Rattle.std.proofs.lemmas.Bool.Decides.{nat_tests}
-use Rattle.std.specs.Prelude.{nat_le, slice_get}
 use Rattle.std.specs.List.{prefix_len}
-use Rattle.std.proofs.lemmas.Bool.{and_from, cases_Bool, cases_eq, cond-true, cond-false, eq-eqb}
-use Rattle.std.proofs.lemmas.Bool.{le-leb}
-use Rattle.psci_headline.proofs.Words.{BoardValue, cores, height, nodes, up, ChildLaws, PathLaws}
-use Rattle.psci_headline.proofs.Words.{Node, Part, domain_of, laid, starts_below, is_applied}
+use Rattle.psci_headline.proofs.Words.{◌+◌, ◌-◌, ◌<◌, ◌==◌, ◌∙◌, ◌∷◌, ◌≡◌, ◌≤◌, [], and_from, ap}
+use Rattle.psci_headline.proofs.Words.{arith, BoardValue, Bool, cases_Bool, cases_eq, ChildLaws}
+use Rattle.psci_headline.proofs.Words.{cond, cond-false, cond-true, cores, domain_of, eq-eqb}
+use Rattle.psci_headline.proofs.Words.{get_take, height, is_applied, laid, le-leb, length, List}
+use Rattle.psci_headline.proofs.Words.{nat_le, nat_tests, Node, nodes, Part, PathLaws, refl}
+use Rattle.psci_headline.proofs.Words.{slice_get, Some, starts_below, subst, suc, sym, take, true}
+use Rattle.psci_headline.proofs.Words.{up, zero, ℕ}
 use Rattle.psci_board.specs.Board.{children, first_child}
 use Rattle.psci_ctl_spec.specs.Parts.{applied, is_covered}
 use Rattle.psci_ctl_spec.specs.Values.{Values}
-use Rattle.psci_ctl_spec.proofs.Front.{get_take}
 use Rattle.psci_headline.proofs.Ranges.{all_in}
 use Rattle.psci_headline.proofs.Deepening.{path_place}
 use Rattle.psci_headline.proofs.Telling.{item_at}

@@ -1,14 +1,12 @@
 -- A domain that is not fully on is as deep as a live claim on it.
-use Rattle.std.proofs.Common.{◌≡◌, ℕ, ◌<◌, ◌⊎◌, Bool, true, false, cond, List, Some, refl, arith}
-use Rattle.std.proofs.Common.{sym, subst}
-use Rattle.std.proofs.lemmas.Bool.Decides.{nat_tests}
-use Rattle.psci_headline.proofs.Words.{BoardValue, Node, is_on_path, Record, controller_history}
-use Rattle.psci_headline.proofs.Words.{controller_values, IsReplied, depth_at, IsApplied, IsFirst}
-use Rattle.psci_headline.proofs.Words.{HasLive}
-use Rattle.psci_ctl_spec.specs.History as controls
+use Rattle.psci_headline.proofs.Words.{◌<◌, ◌≡◌, ◌⊎◌, arith, BoardValue, Bool, cond}
+use Rattle.psci_headline.proofs.Words.{controller_history, controller_values, depth_at, false}
+use Rattle.psci_headline.proofs.Words.{HasLive, is_on_path, IsApplied, IsFirst, IsReplied, List}
+use Rattle.psci_headline.proofs.Words.{nat_tests, Node, Record, refl, Some, subst, sym, true, ℕ}
 use Rattle.psci_headline.proofs.AppliedParts.{was_sent}
 use Rattle.psci_headline.proofs.Claiming.{part_in, start_in}
 use Rattle.psci_headline.proofs.LiveOnes.{has_live}
+use Rattle.psci_ctl_spec.specs.History as controls
 
 -- off the boot path only is a domain down at the life's start
 pub first_off : (t : Bool) (depth : ℕ) → depth ≡ cond t 0 3 → 0 < depth → (t ≡ false) × (depth ≡ 3)

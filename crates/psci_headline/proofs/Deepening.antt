@@ -1,13 +1,9 @@
 -- What waits, after parts of a Down were applied.
-use Rattle.std.proofs.Common.{◌≡◌, ℕ, inl, inr, Bool, true, List, Option, Some, refl, arith, ap}
-use Rattle.std.proofs.Common.{sym, ◌∙◌}
-use Rattle.std.proofs.lemmas.Bool.Decides.{nat_tests}
-use Rattle.std.specs.Prelude.{slice_get}
-use Rattle.std.proofs.lemmas.Bool.{and_parts, eqb-true}
-use Rattle.std.proofs.lemmas.Option.{same_Some}
-use Rattle.psci_headline.proofs.Words.{BoardValue, up, Part, laid, is_on_path, Down, AckValue}
-use Rattle.psci_headline.proofs.Words.{MessageValue, Slot, Phase, AreRising, known_below}
-use Rattle.psci_headline.proofs.Words.{AreWaiting, IsLivePart}
+use Rattle.psci_headline.proofs.Words.{◌∙◌, ◌≡◌, AckValue, and_parts, ap, AreRising, AreWaiting}
+use Rattle.psci_headline.proofs.Words.{arith, BoardValue, Bool, Down, eqb-true, inl, inr}
+use Rattle.psci_headline.proofs.Words.{is_on_path, IsLivePart, known_below, laid, List}
+use Rattle.psci_headline.proofs.Words.{MessageValue, nat_tests, Option, Part, Phase, refl}
+use Rattle.psci_headline.proofs.Words.{same_Some, slice_get, Slot, Some, sym, true, up, ℕ}
 use Rattle.psci_headline.proofs.fw_laws.Consequences.{once}
 use Rattle.psci_headline.proofs.fw_laws.Parts.{part_from}
 use Rattle.psci_headline.proofs.Taking.{named}

@@ -1,26 +1,24 @@
 -- What a legal record leaves of the power controller's values, and the acknowledgement it says.
-use Rattle.std.proofs.Common.{arith, ◌≡◌, ℕ, ◌⊎◌, Bool, true, false, cond, List, [], ◌∷◌, Option}
-use Rattle.std.proofs.Common.{None, Some, refl, ap, sym, ◌∙◌, length}
-use Rattle.std.proofs.lemmas.Bool.Decides.{nat_tests}
-use Rattle.std.proofs.lemmas.Bool.{eqb-true}
-use Rattle.psci_headline.proofs.Words.{BoardValue, message_effect, ack_by, is_this_life}
-use Rattle.psci_headline.proofs.Words.{first_depth, first_starts, FwReply, AckValue, MessageValue}
-use Rattle.psci_headline.proofs.Words.{Event, Deliver, Record, Said, Acked, ack_in, acks, control}
-use Rattle.psci_headline.proofs.Words.{controller_values, sent, said_by, said_of, indexed, legal}
-use Rattle.psci_headline.proofs.Words.{CtlExchange}
-use Rattle.psci_ctl_spec.specs.declared.delivery.Delivery.TheVariants as deliveries
+use Rattle.psci_headline.proofs.Words.{◌∙◌, ◌∷◌, ◌≡◌, ◌⊎◌, [], ack_by, ack_in, Acked, acks}
+use Rattle.psci_headline.proofs.Words.{AckValue, ap, arith, BoardValue, Bool, cond, control}
+use Rattle.psci_headline.proofs.Words.{controller_values, CtlExchange, Deliver, eqb-true, Event}
+use Rattle.psci_headline.proofs.Words.{false, first_depth, first_starts, FwReply, indexed, legal}
+use Rattle.psci_headline.proofs.Words.{length, List, message_effect, MessageValue, nat_tests, None}
+use Rattle.psci_headline.proofs.Words.{Option, Record, refl, Said, said_by, sent, Some, sym, true}
+use Rattle.psci_headline.proofs.Words.{values_more, ℕ}
+use Rattle.psci_ctl_spec.specs.Replies.{is_this_life, delivery_of, reply}
+use Rattle.psci_world_spec.specs.Legal.{said_of}
 use Rattle.psci_ctl_spec.specs.declared.kick.Kick.{Kick}
-use Rattle.psci_ctl_spec.specs.declared.kick.Kick.TheVariants as kicks
-use Rattle.psci_ctl_spec.specs.declared.reply.CtlReply.TheVariants as replied
 use Rattle.psci_ctl_spec.specs.Changes.{after, change}
 use Rattle.psci_ctl_spec.specs.Effects.{effect_of}
 use Rattle.psci_ctl_spec.specs.History.{values_of}
-use Rattle.psci_ctl_spec.specs.Replies.{delivery_of, reply}
 use Rattle.psci_ctl_spec.specs.Values.{Values}
-use Rattle.psci_ctl_spec.proofs.OneMore.{values_more}
-use Rattle.psci_fw_laws.specs.psci_fw_spec.declared.reply.FwReply.TheVariants as replies
 use Rattle.psci_headline.proofs.Controlling.{more_controls}
 use Rattle.psci_headline.proofs.Saying.{of_event}
+use Rattle.psci_ctl_spec.specs.declared.delivery.Delivery.TheVariants as deliveries
+use Rattle.psci_ctl_spec.specs.declared.kick.Kick.TheVariants as kicks
+use Rattle.psci_ctl_spec.specs.declared.reply.CtlReply.TheVariants as replied
+use Rattle.psci_fw_laws.specs.psci_fw_spec.declared.reply.FwReply.TheVariants as replies
 
 -- What a record adds ---------------------------------------------------------------------------
 

@@ -1,19 +1,14 @@
 -- What is so after an outstanding Down was served.
-use Rattle.std.proofs.Common.{◌≡◌, ℕ, inl, inr, ◌+◌, ◌<◌, ◌≤◌, Bool, true, false, ◌==◌, cond, not}
-use Rattle.std.proofs.Common.{List, length, take, None, Some, refl, arith, subst, ap, sym, ◌∙◌}
-use Rattle.std.proofs.lemmas.Bool.Decides.{nat_tests}
-use Rattle.std.specs.Prelude.{slice_get}
-use Rattle.std.proofs.lemmas.Bool.{cases_lt, leb-false, or_parts}
-use Rattle.std.proofs.lemmas.Option.{same_Some}
-use Rattle.psci_headline.proofs.Words.{BoardValue, up, Part, domain_of, Deepens, message_effect}
-use Rattle.psci_headline.proofs.Words.{AckLaws, applied, is_stale, laid, ack_by, MessageValue}
-use Rattle.psci_headline.proofs.Words.{OfCore, is_done, is_kind, Values, Record, controller_values}
-use Rattle.psci_headline.proofs.Words.{firmware_values, sent, indexed, place, deliveries, serving}
-use Rattle.psci_headline.proofs.Words.{IsLivePart, IsFront}
-use Rattle.psci_ctl_spec.specs.Changes as controlling
-use Rattle.psci_ctl_spec.specs.Values as controlled
-use Rattle.psci_ctl_spec.proofs.Front.{is_front, take_get}
-use Rattle.psci_ctl_spec.specs.psci_messages.declared.kind.Kind.TheVariants as kinds
+use Rattle.std.proofs.lemmas.Bool.{leb-false}
+use Rattle.psci_headline.proofs.Words.{◌+◌, ◌<◌, ◌==◌, ◌∙◌, ◌≡◌, ◌≤◌, ack_by, AckLaws, ap, applied}
+use Rattle.psci_headline.proofs.Words.{arith, BoardValue, Bool, cases_lt, cond, controller_values}
+use Rattle.psci_headline.proofs.Words.{Deepens, deliveries, domain_of, false, firmware_values}
+use Rattle.psci_headline.proofs.Words.{indexed, inl, inr, is_done, is_kind, is_stale, IsFront}
+use Rattle.psci_headline.proofs.Words.{IsLivePart, laid, length, List, message_effect, MessageValue}
+use Rattle.psci_headline.proofs.Words.{nat_tests, None, not, OfCore, or_parts, Part, place, Record}
+use Rattle.psci_headline.proofs.Words.{refl, same_Some, sent, serving, slice_get, Some, subst, sym}
+use Rattle.psci_headline.proofs.Words.{take, take_get, true, up, Values, ℕ}
+use Rattle.psci_ctl_spec.proofs.Front.{is_front}
 use Rattle.psci_headline.proofs.fw_laws.Consequences.{once_down}
 use Rattle.psci_headline.proofs.Items.{at_number}
 use Rattle.psci_headline.proofs.Serving.{ack_to}
@@ -27,6 +22,9 @@ use Rattle.psci_headline.proofs.Going.{IsGoing, IsOut, known_now, ready_now}
 use Rattle.psci_headline.proofs.Standing.{IsPast, SettleLaws}
 use Rattle.psci_headline.proofs.Starting.{same_sum}
 use Rattle.psci_headline.proofs.Telling.{item_at, told_down}
+use Rattle.psci_ctl_spec.specs.Changes as controlling
+use Rattle.psci_ctl_spec.specs.Values as controlled
+use Rattle.psci_ctl_spec.specs.psci_messages.declared.kind.Kind.TheVariants as kinds
 
 -- The found message is the outstanding one -----------------------------------------------------
 

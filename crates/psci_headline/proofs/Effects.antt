@@ -1,10 +1,10 @@
 -- What is told after each effect of the firmware's calls, entries and acknowledgements.
-use Rattle.std.proofs.Common.{arith, ◌≡◌, ℕ, inl, inr, ◌<◌, true, List, refl, subst, sym, ◌∙◌}
-use Rattle.std.proofs.lemmas.Bool.Decides.{nat_tests}
-use Rattle.psci_headline.proofs.Words.{BoardValue, PathLaws, Start, MessageValue, change}
-use Rattle.psci_headline.proofs.Words.{with_arrival, Rests, Stops, Enters, Parks, StopsAtOnce}
-use Rattle.psci_headline.proofs.Words.{in_life, Away, Values, IsAllowed, Holds, KnownLaws}
-use Rattle.psci_headline.proofs.Words.{is_system, AreConfirming, Rest, with_phase, with_rest}
+use Rattle.psci_headline.proofs.Words.{◌<◌, ◌∙◌, ◌≡◌, AreConfirming, arith, Away, BoardValue}
+use Rattle.psci_headline.proofs.Words.{change, Enters, Holds, in_life, inl, inr, is_system}
+use Rattle.psci_headline.proofs.Words.{IsAllowed, KnownLaws, List, MessageValue, nat_tests, Parks}
+use Rattle.psci_headline.proofs.Words.{PathLaws, refl, Rest, Rests, Start, Stops, StopsAtOnce}
+use Rattle.psci_headline.proofs.Words.{subst, sym, true, Values, with_arrival, with_phase}
+use Rattle.psci_headline.proofs.Words.{with_rest, ℕ}
 use Rattle.psci_headline.specs.psci_fw_spec.Changes.{with_halt}
 use Rattle.psci_headline.specs.psci_fw_spec.Phases.{Running}
 use Rattle.psci_headline.proofs.fw_laws.Parts.{updated_at}

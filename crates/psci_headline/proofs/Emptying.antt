@@ -1,13 +1,11 @@
 -- What is so after what is outstanding for a core was served.
-use Rattle.std.proofs.Common.{arith, ◌≡◌, ℕ, Bool, true, false, cond, List, Option, None, Some}
-use Rattle.std.proofs.Common.{refl, subst, ap, sym, ◌∙◌, option_and_then}
-use Rattle.std.proofs.lemmas.Bool.Decides.{nat_tests}
-use Rattle.std.proofs.lemmas.Bool.{and_from, cond-true, cond-false, eq-eqb, ne_eqb}
-use Rattle.psci_headline.proofs.Words.{BoardValue, Kind, Used, AckValue, MessageValue, Acknowledge}
-use Rattle.psci_headline.proofs.Words.{OfCore, answers, changed, is_done, slot_of, Values}
-use Rattle.psci_headline.proofs.Words.{is_system, AreOutstanding, Record, controller_values}
-use Rattle.psci_headline.proofs.Words.{firmware_values, sent, IsLegalPast, served, serving}
-use Rattle.psci_headline.proofs.Words.{taken_by, index_of}
+use Rattle.psci_headline.proofs.Words.{◌∙◌, ◌≡◌, Acknowledge, AckValue, and_from, answers, ap}
+use Rattle.psci_headline.proofs.Words.{AreOutstanding, arith, BoardValue, Bool, changed, cond}
+use Rattle.psci_headline.proofs.Words.{cond-false, cond-true, controller_values, eq-eqb, false}
+use Rattle.psci_headline.proofs.Words.{firmware_values, index_of, is_done, is_system, IsLegalPast}
+use Rattle.psci_headline.proofs.Words.{Kind, List, MessageValue, nat_tests, ne_eqb, None, OfCore}
+use Rattle.psci_headline.proofs.Words.{Option, option_and_then, Record, refl, sent, served, serving}
+use Rattle.psci_headline.proofs.Words.{slot_of, Some, subst, sym, taken_by, true, Used, Values, ℕ}
 use Rattle.psci_ctl_spec.specs.psci_messages.declared.taken.Taken.TheVariants.{Old}
 use Rattle.psci_ctl_spec.specs.psci_messages.Slots.{taken}
 use Rattle.psci_headline.proofs.Acknowledging.{acks_message}

@@ -1,32 +1,28 @@
 -- After every legal history each entry has taken up an opening of its own.
-use Rattle.std.proofs.Common.{◌≡◌, ℕ, suc, ◌≤◌, Bool, true, false, ◌==◌, cond, List, [], ◌∷◌, ◌++◌}
-use Rattle.std.proofs.Common.{length, Option, None, Some, option_map, refl, ap, sym, ◌∙◌, subst}
-use Rattle.std.proofs.Common.{arith}
-use Rattle.std.proofs.lemmas.Bool.Decides.{nat_tests}
 use Rattle.std.specs.Option.{option_or}
-use Rattle.std.proofs.lemmas.Bool.{eqb-false, eqb-true}
-use Rattle.psci_headline.proofs.Words.{BoardValue, Start, MessageValue, FwFault, Opening, Act}
-use Rattle.psci_headline.proofs.Words.{Outcome, FwReply, change, reply_or, with_arrival, Effect}
-use Rattle.psci_headline.proofs.Words.{AsksOn, Rests, Enters, Parks, StopsAtOnce, enter_effect}
-use Rattle.psci_headline.proofs.Words.{enter_fault, FwExchange, effect, IsLegal, in_life}
-use Rattle.psci_headline.proofs.Words.{start_of_life, stops, arrived, listed, Values, updated}
-use Rattle.psci_headline.proofs.Words.{IsAllowed, enters_or_resumes_by, Made, TakenUp, OfCall}
-use Rattle.psci_headline.proofs.Words.{OfLife, FwCall, outcome_at, stops_with, AreTakenUp}
-use Rattle.psci_headline.proofs.Words.{EnteredAt, made_at}
-use Rattle.psci_fw_laws.specs.psci_fw_spec.declared.call.FwCall.TheVariants as calls
-use Rattle.psci_fw_laws.specs.psci_fw_spec.declared.outcome.Act.TheVariants as acts
-use Rattle.psci_fw_laws.specs.psci_fw_spec.declared.reply.FwReply.TheVariants as replies
+use Rattle.psci_headline.proofs.Words.{◌++◌, ◌==◌, ◌∙◌, ◌∷◌, ◌≡◌, ◌≤◌, [], Act, ap, AreTakenUp}
+use Rattle.psci_headline.proofs.Words.{arith, arrived, AsksOn, BoardValue, Bool, change, cond}
+use Rattle.psci_headline.proofs.Words.{Effect, effect, effect_of, enter_effect, enter_fault}
+use Rattle.psci_headline.proofs.Words.{EnteredAt, Enters, enters_or_resumes_by, eqb-false, eqb-true}
+use Rattle.psci_headline.proofs.Words.{false, FwCall, FwExchange, FwFault, FwReply, in_life}
+use Rattle.psci_headline.proofs.Words.{IsAllowed, IsLegal, length, List, listed, Made, made_at}
+use Rattle.psci_headline.proofs.Words.{MessageValue, nat_tests, None, OfCall, OfLife, Opening}
+use Rattle.psci_headline.proofs.Words.{Option, option_map, Outcome, outcome_at, Parks, refl}
+use Rattle.psci_headline.proofs.Words.{reply_or, Rests, Some, Start, start_of_life, stops}
+use Rattle.psci_headline.proofs.Words.{stops_with, StopsAtOnce, subst, suc, sym, TakenUp, true}
+use Rattle.psci_headline.proofs.Words.{updated, updated_at, Values, with_arrival, ℕ}
 use Rattle.psci_fw_laws.specs.psci_fw_spec.Answer.{answer}
 use Rattle.psci_fw_laws.specs.psci_fw_spec.CpuOff.{off_message}
-use Rattle.psci_fw_laws.specs.psci_fw_spec.Effects.{effect_of}
 use Rattle.psci_fw_laws.specs.psci_fw_spec.Entering.{enter_outcome}
 use Rattle.psci_fw_laws.specs.psci_fw_spec.History.{life, values_of}
-use Rattle.psci_fw_laws.proofs.Parts.{updated_at}
 use Rattle.psci_headline.specs.Openings.{entered_by, entered_to, made_for_boot, openings, taken_up}
 use Rattle.psci_headline.proofs.Functions.{call_ends}
 use Rattle.psci_headline.proofs.Naming.{AreNamed, made_in, names_target, same_made}
 use Rattle.psci_headline.proofs.TakingUp.{taken_up_by, taking}
 use Rattle.psci_headline.proofs.Waiting.{AreWaiting, begun, called, fewer, none_waiting, one_more}
+use Rattle.psci_fw_laws.specs.psci_fw_spec.declared.call.FwCall.TheVariants as calls
+use Rattle.psci_fw_laws.specs.psci_fw_spec.declared.outcome.Act.TheVariants as acts
+use Rattle.psci_fw_laws.specs.psci_fw_spec.declared.reply.FwReply.TheVariants as replies
 use Rattle.psci_headline.proofs.Waiting as waiting
 
 -- What an answer says of an entry --------------------------------------------------------------

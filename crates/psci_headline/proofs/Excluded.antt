@@ -1,28 +1,20 @@
 -- What fails by computing is excluded: no such world is at rest, has settled, or is told as it is.
-use Rattle.std.proofs.Common.{◌≡◌, ◌++◌, ◌≤◌, ◌<◌, ◌+◌, ℕ, zero, suc, Bool, true, false, ◌==◌, ◌||◌}
-use Rattle.std.proofs.Common.{not, List, [], ◌∷◌, length, filter, Option, None, Some, is_some}
-use Rattle.std.proofs.Common.{nat_le, refl, sym, ap, ◌∙◌, arith, inl, inr}
-use Rattle.std.specs.List.{list_all, list_any, range_with_len}
-use Rattle.std.proofs.lemmas.Bool.{cases_Bool, cases_eq, eq-eqb, le-leb, or_left, or_right}
+use Rattle.std.proofs.Common.{nat_le}
 use Rattle.std.proofs.lemmas.List.Sums.{list_all-from_AllPass}
-use Rattle.psci_board.specs.Board.{BoardValue, HasNode, cores, height, nodes}
-use Rattle.psci_board.specs.declared.node.Node.{Node}
-use Rattle.psci_ctl_spec.specs.psci_messages.declared.kind.Kind.TheVariants.{Down}
-use Rattle.psci_ctl_spec.specs.psci_messages.Message.{MessageValue}
-use Rattle.psci_ctl_spec.specs.psci_messages.Slots.{OfCore, OfSystem, is_kind}
+use Rattle.psci_headline.proofs.Words.{◌++◌, ◌+◌, ◌<◌, ◌==◌, ◌||◌, ◌∙◌, ◌∷◌, ◌≡◌, ◌≤◌, [], ap}
+use Rattle.psci_headline.proofs.Words.{AreAtRest, arith, BoardValue, Bool, cases_Bool, cases_eq}
+use Rattle.psci_headline.proofs.Words.{cores, deliveries, Down, eq-eqb, false, filter, HasNode}
+use Rattle.psci_headline.proofs.Words.{height, hw_code, indexed, inl, inr, is_away, is_kind}
+use Rattle.psci_headline.proofs.Words.{is_off_status, is_some, is_started, IsSettled, IsToldWhole}
+use Rattle.psci_headline.proofs.Words.{le-leb, length, List, list_all, list_any, MessageValue, Node}
+use Rattle.psci_headline.proofs.Words.{nodes, None, not, OfCore, OfSystem, Option, or_left}
+use Rattle.psci_headline.proofs.Words.{or_right, range_with_len, refl, sent, Some, suc, sym, true}
+use Rattle.psci_headline.proofs.Words.{zero, ℕ}
 use Rattle.psci_fw_laws.proofs.Passing.{one_all}
-use Rattle.psci_headline.specs.psci_fw_spec.NodeHwState.{hw_code}
-use Rattle.psci_headline.specs.psci_fw_spec.Phases.{is_away}
-use Rattle.psci_headline.specs.psci_fw_spec.SystemCalls.{is_off_status}
 use Rattle.psci_headline.specs.psci_world_spec.declared.place.Place.{Place}
-use Rattle.psci_headline.specs.psci_world_spec.declared.place.Place.TheVariants as places
 use Rattle.psci_headline.specs.psci_world_spec.declared.said.Record.{Record}
-use Rattle.psci_headline.specs.psci_world_spec.Histories.{controller_values, firmware_values, sent}
-use Rattle.psci_headline.specs.psci_world_spec.Lists.{indexed}
+use Rattle.psci_headline.specs.psci_world_spec.Histories.{controller_values, firmware_values}
 use Rattle.psci_headline.specs.psci_world_spec.Places.{place}
-use Rattle.psci_headline.specs.Complete.{IsToldWhole}
-use Rattle.psci_headline.specs.Drained.{AreAtRest, IsSettled, deliveries}
-use Rattle.psci_headline.specs.Settling.{is_started}
 use Rattle.psci_headline.proofs.CoreSteps.{phase_away}
 use Rattle.psci_headline.proofs.Checking.{each, if_fails}
 use Rattle.psci_headline.proofs.Failing.{Clause, Saying, downs, unsettled, failing, if_some}
@@ -30,8 +22,9 @@ use Rattle.psci_headline.proofs.Failing.{is_agreed, is_down}
 use Rattle.psci_headline.proofs.Finding.{indexed_at}
 use Rattle.psci_headline.proofs.Slept.{status_off}
 use Rattle.psci_headline.proofs.Taking.{same_kind}
-use Rattle.psci_headline.proofs.Untold as untold
 use Rattle.psci_headline.proofs.Untold.{follows, is_gone, is_off, is_told_hw}
+use Rattle.psci_headline.specs.psci_world_spec.declared.place.Place.TheVariants as places
+use Rattle.psci_headline.proofs.Untold as untold
 
 -- Lists -----------------------------------------------------------------------------------------
 

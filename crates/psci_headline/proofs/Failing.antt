@@ -1,20 +1,15 @@
 -- Worked examples are stated so: what is not as it is at rest, or as it is once the world has
 -- settled. Where something is not, `not_at_rest` and `not_settled` exclude it.
-use Rattle.std.specs.Prelude.{◌++◌, ℕ, ◌+◌, Bool, false, ◌==◌, ◌||◌, not, nat_le, List, [], ◌∷◌}
-use Rattle.std.specs.Prelude.{length, filter, take, Option, None, Some, is_some}
-use Rattle.std.specs.List.{list_all, list_any, range_with_len}
-use Rattle.psci_board.specs.Board.{BoardValue, cores, height, nodes}
-use Rattle.psci_ctl_spec.specs.psci_messages.declared.kind.Kind.TheVariants.{Down}
-use Rattle.psci_ctl_spec.specs.psci_messages.Message.{MessageValue}
-use Rattle.psci_ctl_spec.specs.psci_messages.Slots.{OfCore, OfSystem, is_kind}
+use Rattle.std.specs.Prelude.{◌++◌, ℕ, ◌+◌, Bool, false, ◌==◌, ◌||◌, not, List, [], ◌∷◌, length}
+use Rattle.std.specs.Prelude.{filter, take, Option, None, Some, is_some}
+use Rattle.psci_headline.proofs.Words.{BoardValue, cores, deliveries, Down, height, indexed}
+use Rattle.psci_headline.proofs.Words.{is_kind, is_settling, is_started, list_all, list_any}
+use Rattle.psci_headline.proofs.Words.{MessageValue, nat_le, nodes, OfCore, OfSystem}
+use Rattle.psci_headline.proofs.Words.{range_with_len, run_from, sent}
 use Rattle.psci_headline.specs.psci_world_spec.declared.event.Event.{Event}
 use Rattle.psci_headline.specs.psci_world_spec.declared.said.Record.{Record}
-use Rattle.psci_headline.specs.psci_world_spec.Histories.{controller_values, firmware_values, sent}
-use Rattle.psci_headline.specs.psci_world_spec.Legal.{run_from}
-use Rattle.psci_headline.specs.psci_world_spec.Lists.{indexed}
+use Rattle.psci_headline.specs.psci_world_spec.Histories.{controller_values, firmware_values}
 use Rattle.psci_headline.specs.psci_world_spec.Places.{place}
-use Rattle.psci_headline.specs.Drained.{deliveries, is_settling}
-use Rattle.psci_headline.specs.Settling.{is_started}
 use Rattle.psci_headline.proofs.Checking.{Steps, each, if_fails, past_from}
 
 -- At rest -------------------------------------------------------------------------------------

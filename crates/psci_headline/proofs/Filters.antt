@@ -1,7 +1,6 @@
 -- What a filter keeps of a list.
-use Rattle.std.proofs.Common.{◌≡◌, ℕ, zero, suc, Bool, true, false, cond, List, [], ◌∷◌, filter}
-use Rattle.std.proofs.Common.{Some, refl, ap, sym, ◌∙◌}
-use Rattle.std.specs.Prelude.{slice_get}
+use Rattle.psci_headline.proofs.Words.{◌∙◌, ◌∷◌, ◌≡◌, [], ap, Bool, cond, false, filter, List, refl}
+use Rattle.psci_headline.proofs.Words.{slice_get, Some, suc, sym, true, zero, ℕ}
 
 -- An item of a list that passes a test.
 pub record IsKept {X : Type 0} (test : X → Bool) (list : List X) (x : X) : Type 0 where

@@ -1,12 +1,13 @@
 -- The numbers of messages: the newest one, older ones, and how one is found by its name.
-use Rattle.std.proofs.Common.{◌≡◌, ℕ, zero, suc, Bool, true, false, List, [], ◌∷◌, ◌++◌, length}
-use Rattle.std.proofs.Common.{reverse, Some, refl, arith, ap, sym, ◌∙◌, ◌<◌, ◌-◌}
-use Rattle.std.proofs.lemmas.Bool.Decides.{nat_tests}
-use Rattle.std.specs.Prelude.{get_or, slice_get}
-use Rattle.std.proofs.lemmas.Bool.{and_from, and_parts, cond-true, cond-false, eq-eqb, eqb-true}
-use Rattle.std.proofs.lemmas.List.{get_or-reverse, length-reverse, reverse-append}
-use Rattle.std.proofs.lemmas.Option.{get_or_from_slice_get, slice_get-get_or, slice_get_within}
-use Rattle.psci_headline.proofs.Words.{MessageValue, indexed, index_of}
+use Rattle.std.specs.Prelude.{get_or}
+use Rattle.std.proofs.lemmas.List.{reverse-append}
+use Rattle.std.proofs.lemmas.Option.{slice_get-get_or}
+use Rattle.psci_headline.proofs.Words.{◌++◌, ◌-◌, ◌<◌, ◌∙◌, ◌∷◌, ◌≡◌, [], and_from, and_parts, ap}
+use Rattle.psci_headline.proofs.Words.{arith, Bool, cond-false, cond-true, eq-eqb, eqb-true, false}
+use Rattle.psci_headline.proofs.Words.{get_or-reverse, get_or_from_slice_get, index_of, indexed}
+use Rattle.psci_headline.proofs.Words.{length, length-reverse, List, MessageValue, nat_tests, refl}
+use Rattle.psci_headline.proofs.Words.{reverse, slice_get, slice_get_within, Some, suc, sym, true}
+use Rattle.psci_headline.proofs.Words.{zero, ℕ}
 use Rattle.psci_headline.specs.Settling.{has_name}
 use Rattle.psci_headline.proofs.Taking.{same_kind}
 use Rattle.psci_headline.proofs.Telling.{own_kind}

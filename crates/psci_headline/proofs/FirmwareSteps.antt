@@ -1,23 +1,13 @@
 -- What waits after a call, an entry and an acknowledgement that was taken.
-use Rattle.std.proofs.Common.{arith, ◌≡◌, ℕ, ◌<◌, List, ◌++◌, Option, None, Some, option_map, refl}
-use Rattle.std.proofs.Common.{subst, sym}
-use Rattle.std.proofs.lemmas.Bool.Decides.{nat_tests}
-use Rattle.psci_headline.proofs.Words.{request_of, Regs, BoardValue, cores, Start, last_start}
-use Rattle.psci_headline.proofs.Words.{AckValue, MessageValue, Taken, Outcome, change, call_fault}
-use Rattle.psci_headline.proofs.Words.{enter_effect, function_effect, enter_fault, IsLegal, listed}
-use Rattle.psci_headline.proofs.Words.{Values, Call, Enter, Take, Record, Said, ack_in, acks}
-use Rattle.psci_headline.proofs.Words.{controller_values, entered, firmware_history}
-use Rattle.psci_headline.proofs.Words.{firmware_values, outcome_in, sent, sent_in, took, legal}
-use Rattle.psci_headline.proofs.Words.{indexed, place}
-use Rattle.psci_ctl_spec.specs.psci_messages.declared.taken.Taken.TheVariants as takens
-use Rattle.psci_headline.specs.psci_fw_spec.declared.call.FwCall.TheVariants as calls
-use Rattle.psci_headline.specs.psci_fw_spec.declared.reply.FwReply.TheVariants as replies
+use Rattle.psci_headline.proofs.Words.{◌++◌, ◌<◌, ◌≡◌, ack_in, acks, AckValue, arith, BoardValue}
+use Rattle.psci_headline.proofs.Words.{Call, call_fault, change, controller_values, cores, Enter}
+use Rattle.psci_headline.proofs.Words.{enter_effect, enter_fault, entered, firmware_history}
+use Rattle.psci_headline.proofs.Words.{firmware_values, function_effect, indexed, IsLegal}
+use Rattle.psci_headline.proofs.Words.{last_start, legal, List, listed, MessageValue, nat_tests}
+use Rattle.psci_headline.proofs.Words.{None, Option, option_map, Outcome, outcome_in, place, Record}
+use Rattle.psci_headline.proofs.Words.{refl, Regs, request_of, Said, sent, sent_in, Some, Start}
+use Rattle.psci_headline.proofs.Words.{subst, sym, Take, Taken, took, Values, ℕ}
 use Rattle.psci_headline.specs.psci_fw_spec.Answer.{answer}
-use Rattle.psci_headline.specs.psci_fw_spec.Exchange as firmware
-use Rattle.psci_headline.specs.psci_fw_spec.History as remembers
-use Rattle.psci_headline.specs.psci_fw_spec.Said as says
-use Rattle.psci_headline.specs.psci_world_spec.declared.place.Place.TheVariants as places
-use Rattle.psci_headline.specs.psci_world_spec.declared.said.Said.TheVariants as said
 use Rattle.psci_headline.proofs.Agreed.{RunLaws}
 use Rattle.psci_headline.proofs.Happening.{happens}
 use Rattle.psci_headline.proofs.Moving.{function_call}
@@ -27,6 +17,14 @@ use Rattle.psci_headline.proofs.Sending.{after_call}
 use Rattle.psci_headline.proofs.BoardLaws.{Given}
 use Rattle.psci_headline.proofs.Carried.{WaitsNow, called_waits, entering_waits, taking_waits}
 use Rattle.psci_headline.proofs.WaitingNexts.{Now, Next}
+use Rattle.psci_ctl_spec.specs.psci_messages.declared.taken.Taken.TheVariants as takens
+use Rattle.psci_headline.specs.psci_fw_spec.declared.call.FwCall.TheVariants as calls
+use Rattle.psci_headline.specs.psci_fw_spec.declared.reply.FwReply.TheVariants as replies
+use Rattle.psci_headline.specs.psci_fw_spec.Exchange as firmware
+use Rattle.psci_headline.specs.psci_fw_spec.History as remembers
+use Rattle.psci_headline.specs.psci_fw_spec.Said as says
+use Rattle.psci_headline.specs.psci_world_spec.declared.place.Place.TheVariants as places
+use Rattle.psci_headline.specs.psci_world_spec.declared.said.Said.TheVariants as said
 
 -- what a call of a core, and an entry, add to the firmware's history
 abbrev call_entry : ℕ → Regs → Outcome → firmware.FwExchange

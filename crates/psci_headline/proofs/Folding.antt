@@ -1,9 +1,7 @@
 -- What holds after a step of each core in turn.
-use Rattle.std.proofs.Common.{◌≡◌, ℕ, zero, suc, inl, inr, ◌+◌, ◌<◌, ◌≤◌, List, arith, subst, sym}
-use Rattle.std.proofs.lemmas.Bool.Decides.{nat_tests}
-use Rattle.std.specs.List.{range_with_len}
-use Rattle.std.proofs.lemmas.Bool.{cases_lt}
-use Rattle.psci_headline.proofs.Words.{Record, each_core}
+use Rattle.psci_headline.proofs.Words.{◌+◌, ◌<◌, ◌≡◌, ◌≤◌, arith, cases_lt, each_core, inl, inr}
+use Rattle.psci_headline.proofs.Words.{List, nat_tests, range_with_len, Record, subst, suc, sym}
+use Rattle.psci_headline.proofs.Words.{zero, ℕ}
 
 -- What a step of a core does: something that holds stays, what was to be done for the core is done,
 -- and what was to be done or is done for another core stays.

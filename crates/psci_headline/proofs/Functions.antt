@@ -1,12 +1,10 @@
 -- A function returns to its caller or stops it: none is answered as a core that enters.
-use Rattle.std.proofs.Common.{arith, ◌≡◌, ℕ, false, refl, Option}
-use Rattle.std.proofs.lemmas.Bool.Decides.{nat_tests}
-use Rattle.psci_headline.proofs.Words.{request_of, Regs, Request, BoardValue, FwFault, Outcome}
-use Rattle.psci_headline.proofs.Words.{reply_or, call_fault, outcome_of, Values}
-use Rattle.psci_headline.proofs.Words.{enters_or_resumes_by, Smc}
-use Rattle.psci_fw_laws.specs.psci_fw_spec.declared.reply.FwReply.TheVariants as replies
+use Rattle.psci_headline.proofs.Words.{◌≡◌, arith, BoardValue, call_fault, enters_or_resumes_by}
+use Rattle.psci_headline.proofs.Words.{false, function_ends, FwFault, nat_tests, Option, Outcome}
+use Rattle.psci_headline.proofs.Words.{outcome_ends, outcome_of, refl, Regs, reply_or, Request}
+use Rattle.psci_headline.proofs.Words.{request_of, Smc, Values, ℕ}
 use Rattle.psci_fw_laws.specs.psci_fw_spec.Answer.{answer}
-use Rattle.psci_fw_laws.proofs.fw_spec.Endings.{function_ends, outcome_ends}
+use Rattle.psci_fw_laws.specs.psci_fw_spec.declared.reply.FwReply.TheVariants as replies
 
 -- this outcome is no entry
 abbrev Ends : Outcome → Type 0

@@ -1,14 +1,11 @@
 -- What stays so in every round: each started core has entered, and none is pending.
-use Rattle.std.proofs.Common.{arith, ◌≡◌, ℕ, ◌+◌, ◌<◌, true, false, List, Some, subst, ap, sym, ◌∙◌}
-use Rattle.std.proofs.lemmas.Bool.Decides.{nat_tests}
-use Rattle.psci_headline.proofs.Words.{BoardValue, cores, height, up, Part, Kind, ArePartsOf}
-use Rattle.psci_headline.proofs.Words.{AreClaims, MessageValue, OfCore, OfSystem, in_life, Pending}
-use Rattle.psci_headline.proofs.Words.{Values, IsClaimOn, IsCurrent, HasDeeper, NonePending}
-use Rattle.psci_headline.proofs.Words.{is_system, AreOutstanding, Record, acks, controller_values}
-use Rattle.psci_headline.proofs.Words.{firmware_values, sent, IsLegalPast, place, AreWaiting}
-use Rattle.psci_headline.proofs.Words.{AwaitsStart}
-use Rattle.psci_ctl_spec.specs.Values as controlled
-use Rattle.psci_ctl_spec.specs.psci_messages.declared.kind.Kind.TheVariants as kinds
+use Rattle.psci_headline.proofs.Words.{◌+◌, ◌<◌, ◌∙◌, ◌≡◌, acks, ap, AreClaims, AreOutstanding}
+use Rattle.psci_headline.proofs.Words.{ArePartsOf, AreWaiting, arith, AwaitsStart, BoardValue}
+use Rattle.psci_headline.proofs.Words.{controller_values, cores, false, firmware_values, HasDeeper}
+use Rattle.psci_headline.proofs.Words.{height, in_life, is_system, IsClaimOn, IsCurrent}
+use Rattle.psci_headline.proofs.Words.{IsLegalPast, Kind, List, MessageValue, nat_tests}
+use Rattle.psci_headline.proofs.Words.{NonePending, OfCore, OfSystem, Part, Pending, place, Record}
+use Rattle.psci_headline.proofs.Words.{sent, Some, subst, sym, true, up, Values, ℕ}
 use Rattle.psci_headline.proofs.Agreeing.{found_own}
 use Rattle.psci_headline.proofs.Applying.{IsDown, IsReady}
 use Rattle.psci_headline.proofs.Beginning.{HasEntered}
@@ -18,6 +15,8 @@ use Rattle.psci_headline.proofs.Controls.{IsKnown}
 use Rattle.psci_headline.proofs.Counting.{AreAdded}
 use Rattle.psci_headline.proofs.Standing.{AreSettled, IsPast, SettleLaws, settled_life}
 use Rattle.psci_headline.proofs.Starts.{HasBegun}
+use Rattle.psci_ctl_spec.specs.Values as controlled
+use Rattle.psci_ctl_spec.specs.psci_messages.declared.kind.Kind.TheVariants as kinds
 
 -- What is so while Downs are served.
 pub record IsGoing (b : BoardValue) (before : List Record) (life : ℕ) (past : List Record)

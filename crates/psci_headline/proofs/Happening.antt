@@ -1,10 +1,9 @@
 -- What happens to a core happens at its place, and what sends a message is a call or an entry.
-use Rattle.std.proofs.Common.{arith, ◌≡◌, ℕ, ◌<◌, Bool, true, false, None, Some, refl, List, ap}
-use Rattle.std.proofs.Common.{sym, ◌∙◌}
-use Rattle.std.proofs.lemmas.Bool.Decides.{nat_tests}
-use Rattle.psci_headline.proofs.Words.{BoardValue, cores, Start, last_start, Event, Call, Enter}
-use Rattle.psci_headline.proofs.Words.{Wake, Reset, Started, Running, Record, Said, Absent}
-use Rattle.psci_headline.proofs.Words.{controller_values, sent_in, said_by, place, legal, Ignored}
+use Rattle.psci_headline.proofs.Words.{◌<◌, ◌∙◌, ◌≡◌, Absent, ap, arith, BoardValue, Bool, Call}
+use Rattle.psci_headline.proofs.Words.{controller_values, cores, Enter, Event, false, Ignored}
+use Rattle.psci_headline.proofs.Words.{last_start, legal, List, nat_tests, None, place, Record}
+use Rattle.psci_headline.proofs.Words.{refl, Reset, Running, Said, said_by, sent_in, Some, Start}
+use Rattle.psci_headline.proofs.Words.{Started, sym, true, Wake, ℕ}
 use Rattle.psci_ctl_spec.specs.declared.reply.CtlReply.{CtlReply}
 use Rattle.psci_fw_laws.specs.psci_fw_spec.Answer.{answer}
 use Rattle.psci_headline.proofs.Saying.{of_event}

@@ -1,5 +1,5 @@
 -- Runs that several files of worked examples name.
-use Rattle.std.proofs.Common.{◌++◌, ℕ, List, [], ◌∷◌}
+use Rattle.psci_headline.proofs.Words.{◌++◌, ◌∷◌, [], List, run_from, ℕ}
 use Rattle.psci_headline.specs.psci_abi.declared.format.Format.TheVariants.{Extended}
 use Rattle.psci_headline.specs.psci_board.Board.{BoardValue}
 use Rattle.psci_headline.specs.psci_board.declared.node.Node.{Node}
@@ -7,7 +7,6 @@ use Rattle.psci_headline.specs.psci_world_spec.declared.event.Event.{Event}
 use Rattle.psci_headline.specs.psci_world_spec.declared.event.Event.TheVariants.{Deliver, Enter}
 use Rattle.psci_headline.specs.psci_world_spec.declared.event.Event.TheVariants.{Wake}
 use Rattle.psci_headline.specs.psci_world_spec.declared.said.Record.{Record}
-use Rattle.psci_headline.specs.psci_world_spec.Legal.{run_from}
 use Rattle.psci_headline.proofs.world_spec.Scripts.{board, call, on_3, retention, system_reset}
 
 -- two clusters of two cores, in the extended format

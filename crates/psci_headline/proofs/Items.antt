@@ -1,12 +1,9 @@
 -- Items of a list: one of some number, and one behind others.
-use Rattle.std.proofs.Common.{refl, ◌∙◌, sym, ◌-◌, arith, reverse, length, ◌<◌, ◌≡◌, ℕ, zero, suc}
-use Rattle.std.proofs.Common.{List, ◌∷◌, ◌++◌, Option, None, Some}
-use Rattle.std.proofs.lemmas.Bool.Decides.{nat_tests}
-use Rattle.std.specs.Prelude.{slice_get}
-use Rattle.std.proofs.lemmas.List.{get_or-reverse, length-reverse}
-use Rattle.std.proofs.lemmas.Option.{get_or_from_slice_get, slice_get_read, slice_get_within}
-use Rattle.std.proofs.lemmas.Option.{same_Some}
-use Rattle.psci_headline.proofs.Words.{indexed, listed}
+use Rattle.std.proofs.lemmas.Option.{slice_get_read}
+use Rattle.psci_headline.proofs.Words.{◌++◌, ◌-◌, ◌<◌, ◌∙◌, ◌∷◌, ◌≡◌, arith, get_or-reverse}
+use Rattle.psci_headline.proofs.Words.{get_or_from_slice_get, indexed, length, length-reverse, List}
+use Rattle.psci_headline.proofs.Words.{listed, nat_tests, None, Option, refl, reverse, same_Some}
+use Rattle.psci_headline.proofs.Words.{slice_get, slice_get_within, Some, suc, sym, zero, ℕ}
 
 -- An item of a list.
 pub record IsListed {A : Type 0} (items : List A) (x : A) : Type 0 where

@@ -1,10 +1,9 @@
 -- Live claims: those of the list that have the generation of their domain. There is one at most.
-use Rattle.std.proofs.Common.{◌≡◌, ℕ, suc, ◌≤◌, Bool, true, false, ◌==◌, cond, List, [], ◌∷◌}
-use Rattle.std.proofs.Common.{length, filter, Option, None, Some, refl, ap, sym, ◌∙◌, subst, arith}
-use Rattle.std.specs.Prelude.{slice_get}
-use Rattle.std.proofs.lemmas.Bool.{eq-eqb, eqb-true}
-use Rattle.psci_headline.proofs.Words.{BoardValue, Node, Record, controller_values, Claim, claims}
-use Rattle.psci_headline.proofs.Words.{starts_below}
+use Rattle.psci_headline.proofs.Words.{◌==◌, ◌∙◌, ◌∷◌, ◌≡◌, ◌≤◌, [], ap, arith, BoardValue, Bool}
+use Rattle.psci_headline.proofs.Words.{Claim, claims, cond, controller_values, eq-eqb, eqb-true}
+use Rattle.psci_headline.proofs.Words.{false, filter, length, List, Node, None, Option, Record}
+use Rattle.psci_headline.proofs.Words.{refl, slice_get, Some, starts_below, subst, suc, sym, true}
+use Rattle.psci_headline.proofs.Words.{ℕ}
 use Rattle.psci_headline.specs.Claims.{live_claims, live_in}
 use Rattle.psci_headline.proofs.Apart.{AreDistinct}
 use Rattle.psci_headline.proofs.Filters.{is_kept, keeps}

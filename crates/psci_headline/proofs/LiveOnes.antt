@@ -1,11 +1,9 @@
 -- Live claims by their sources: each is of this life, and each claim of it with the sum of
 -- the starts below is live.
-use Rattle.std.proofs.Common.{arith, ◌≡◌, ℕ, List, Option, None, Some, refl, subst}
-use Rattle.std.proofs.lemmas.Bool.Decides.{nat_tests}
-use Rattle.std.specs.Prelude.{slice_get}
-use Rattle.std.proofs.lemmas.Option.{none-some}
-use Rattle.psci_headline.proofs.Words.{BoardValue, Node, starts_below, Claim, claims, live_claims}
-use Rattle.psci_headline.proofs.Words.{Record, controller_values, HasLive}
+use Rattle.psci_headline.proofs.Words.{◌≡◌, arith, BoardValue, Claim, claims, controller_values}
+use Rattle.psci_headline.proofs.Words.{HasLive, List, live_claims, nat_tests, Node, None, none-some}
+use Rattle.psci_headline.proofs.Words.{Option, Record, refl, slice_get, Some, starts_below, subst}
+use Rattle.psci_headline.proofs.Words.{ℕ}
 use Rattle.psci_headline.proofs.Claiming.{IsIn}
 use Rattle.psci_headline.proofs.LiveClaims.{live_is, live_kept, none_live}
 

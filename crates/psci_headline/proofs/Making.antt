@@ -1,8 +1,6 @@
 -- Each acknowledgement was made as its message was delivered.
-use Rattle.std.proofs.Common.{◌≡◌, ℕ, List, [], ◌∷◌, Some, refl, ap}
-use Rattle.std.specs.Prelude.{slice_get}
-use Rattle.psci_headline.proofs.Words.{BoardValue, AckValue, Record, ack_in, sent, IsLegalPast}
-use Rattle.psci_headline.proofs.Words.{WasMade, legal}
+use Rattle.psci_headline.proofs.Words.{◌∷◌, ◌≡◌, [], ack_in, AckValue, ap, BoardValue, IsLegalPast}
+use Rattle.psci_headline.proofs.Words.{legal, List, Record, refl, sent, slice_get, Some, WasMade, ℕ}
 use Rattle.psci_world_spec.specs.Histories.{acks}
 use Rattle.psci_headline.proofs.Deliveries.{new_ack}
 use Rattle.psci_headline.proofs.Items.{of_newest, at_number}

@@ -1,20 +1,18 @@
 -- A message was asked for by the values of its own record.
-use Rattle.std.proofs.Common.{◌≡◌, ℕ, suc, ◌⊎◌, inl, inr, List, [], ◌∷◌, ◌++◌, Option, None, Some}
-use Rattle.std.proofs.Common.{refl, ap, sym, ◌∙◌, subst, arith}
-use Rattle.std.proofs.lemmas.Bool.Decides.{nat_tests}
-use Rattle.std.specs.Prelude.{slice_get}
-use Rattle.psci_headline.proofs.Words.{BoardValue, Part, Down, AckValue, MessageValue, FwExchange}
-use Rattle.psci_headline.proofs.Words.{effect, values_of, listed, AreRising, part_for, Event}
-use Rattle.psci_headline.proofs.Words.{Record, Said, acks, call, controller_values, firmware_values}
-use Rattle.psci_headline.proofs.Words.{sent_in, IsLegalPast, firmware_history, IsAskedFor}
-use Rattle.psci_ctl_spec.specs.Values as controlled
-use Rattle.psci_fw_laws.specs.psci_fw_spec.Said as says
+use Rattle.psci_headline.proofs.Words.{◌++◌, ◌∙◌, ◌∷◌, ◌≡◌, ◌⊎◌, [], acks, AckValue, ap, AreRising}
+use Rattle.psci_headline.proofs.Words.{arith, BoardValue, call, controller_values, Down, effect}
+use Rattle.psci_headline.proofs.Words.{Event, firmware_history, firmware_values, FwExchange, inl}
+use Rattle.psci_headline.proofs.Words.{inr, IsAskedFor, IsLegalPast, List, listed, MessageValue}
+use Rattle.psci_headline.proofs.Words.{nat_tests, None, Option, Part, part_for, part_has, Record}
+use Rattle.psci_headline.proofs.Words.{refl, Said, sent_in, slice_get, Some, subst, suc, sym}
+use Rattle.psci_headline.proofs.Words.{values_of, ℕ}
 use Rattle.psci_fw_laws.specs.psci_fw_spec.Sent.{sent_messages}
 use Rattle.psci_fw_laws.specs.Asked.{WasAsked}
-use Rattle.psci_fw_laws.proofs.Parts.{part_has}
 use Rattle.psci_world_spec.specs.Histories.{sent}
 use Rattle.psci_headline.proofs.Sending.{more_calls}
 use Rattle.psci_headline.proofs.Asking.{WereAsked}
+use Rattle.psci_ctl_spec.specs.Values as controlled
+use Rattle.psci_fw_laws.specs.psci_fw_spec.Said as says
 
 -- Records --------------------------------------------------------------------------------------
 

@@ -1,16 +1,15 @@
 -- What a legal record leaves of the firmware's values.
-use Rattle.std.proofs.Common.{arith, ◌≡◌, ℕ, Bool, true, false, ◌==◌, cond, List, [], ◌∷◌, ◌++◌}
-use Rattle.std.proofs.Common.{Option, None, Some, refl, subst, ap, sym, ◌∙◌}
-use Rattle.std.proofs.lemmas.Bool.Decides.{nat_tests}
-use Rattle.std.specs.Prelude.{nat_lt}
-use Rattle.std.proofs.lemmas.Bool.{and_parts, eqb-true, true≢false}
-use Rattle.psci_headline.proofs.Words.{BoardValue, cores, Start, last_start, Act, change, Effect}
-use Rattle.psci_headline.proofs.Words.{Enters, enter_effect, FwExchange, effect, values_of, IsLegal}
-use Rattle.psci_headline.proofs.Words.{MessageValue, IsAllowed, Event, Call, Enter, Place, Started}
-use Rattle.psci_headline.proofs.Words.{Running, Stopped, Record, Said, Fw, Absent, Sent, acks, call}
-use Rattle.psci_headline.proofs.Words.{controller_values, entered, firmware_values, outcome_in}
-use Rattle.psci_headline.proofs.Words.{if_started, place, enters_or_resumes, enters_or_resumes_by}
-use Rattle.psci_headline.proofs.Words.{Nothing, firmware_history}
+use Rattle.psci_headline.proofs.Words.{◌++◌, ◌==◌, ◌∙◌, ◌∷◌, ◌≡◌, [], Absent, acks, Act, and_parts}
+use Rattle.psci_headline.proofs.Words.{ap, arith, BoardValue, Bool, Call, call, change, cond}
+use Rattle.psci_headline.proofs.Words.{controller_values, cores, Effect, effect, Enter}
+use Rattle.psci_headline.proofs.Words.{enter_effect, entered, Enters, enters_or_resumes}
+use Rattle.psci_headline.proofs.Words.{enters_or_resumes_by, eqb-true, Event, false}
+use Rattle.psci_headline.proofs.Words.{firmware_history, firmware_values, Fw, FwExchange}
+use Rattle.psci_headline.proofs.Words.{if_started, IsAllowed, IsLegal, last_start, List}
+use Rattle.psci_headline.proofs.Words.{MessageValue, nat_lt, nat_tests, None, Nothing, Option}
+use Rattle.psci_headline.proofs.Words.{outcome_in, Place, place, Record, refl, Running, Said, Sent}
+use Rattle.psci_headline.proofs.Words.{Some, Start, Started, Stopped, subst, sym, true, true≢false}
+use Rattle.psci_headline.proofs.Words.{values_of, ℕ}
 use Rattle.psci_fw_laws.specs.psci_fw_spec.Effects.{Nothing}
 use Rattle.psci_world_spec.specs.Legal.{legal, on_board}
 use Rattle.psci_headline.proofs.Sending.{after_call, more_calls}

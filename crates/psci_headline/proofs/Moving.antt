@@ -1,20 +1,18 @@
 -- What calls, entries and acknowledgements leave of known starts and of who runs.
-use Rattle.std.proofs.Common.{arith, ◌≡◌, ℕ, Bool, true, false, cond, Option, None, Some, refl}
-use Rattle.std.proofs.Common.{subst, sym}
-use Rattle.std.proofs.lemmas.Bool.Decides.{nat_tests}
-use Rattle.std.specs.Ordering.{int_eq}
-use Rattle.psci_headline.proofs.Words.{success, Code, Request, BoardValue, Start, MessageValue}
-use Rattle.psci_headline.proofs.Words.{SuspendMode, Act, change, PowerOn, target, with_mode}
-use Rattle.psci_headline.proofs.Words.{with_pending, Effect, GoesOn, SetsMode, AsksOn, Rests, Halts}
-use Rattle.psci_headline.proofs.Words.{Stops, Enters, Parks, StopsAtOnce, Acknowledges}
-use Rattle.psci_headline.proofs.Words.{enter_effect, function_effect, in_life, Phase, Away, Pending}
-use Rattle.psci_headline.proofs.Words.{is_running, unless_pending, Values, updated, IsAllowed}
-use Rattle.psci_headline.proofs.Words.{mode_effect, executes_on, mode_of}
+use Rattle.psci_headline.proofs.Words.{◌≡◌, Acknowledges, Act, arith, AsksOn, Away, BoardValue}
+use Rattle.psci_headline.proofs.Words.{Bool, change, Code, cond, Effect, enter_effect, Enters}
+use Rattle.psci_headline.proofs.Words.{executes_on, false, function_effect, GoesOn, Halts, in_life}
+use Rattle.psci_headline.proofs.Words.{int_eq, is_running, IsAllowed, MessageValue, mode_effect}
+use Rattle.psci_headline.proofs.Words.{mode_of, nat_tests, None, Option, Parks, Pending, Phase}
+use Rattle.psci_headline.proofs.Words.{PowerOn, refl, Request, Rests, SetsMode, Some, Start, Stops}
+use Rattle.psci_headline.proofs.Words.{StopsAtOnce, subst, success, SuspendMode, sym, target, true}
+use Rattle.psci_headline.proofs.Words.{unless_pending, updated, updated_at, updated_here, Values}
+use Rattle.psci_headline.proofs.Words.{with_mode, with_pending, ℕ}
 use Rattle.psci_fw_laws.specs.psci_fw_spec.Effects.{Nothing}
+use Rattle.psci_fw_laws.specs.psci_fw_spec.Phases.{Running}
+use Rattle.psci_fw_laws.proofs.Parts.{updated_there}
 use Rattle.psci_world_spec.specs.psci_abi.declared.request.Request.TheVariants as requests
 use Rattle.psci_fw_laws.specs.psci_fw_spec.declared.outcome.Act.TheVariants as acts
-use Rattle.psci_fw_laws.specs.psci_fw_spec.Phases.{Running}
-use Rattle.psci_fw_laws.proofs.Parts.{updated_at, updated_here, updated_there}
 
 -- What is left where one core did something: its known start, and whether it runs.
 pub record IsMoved (v w : Values) (c n : ℕ) (t : Bool) : Type 0 where

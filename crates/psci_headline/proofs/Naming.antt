@@ -1,16 +1,15 @@
 -- In a legal history an accepted CPU_ON asks on the core that it named.
-use Rattle.std.proofs.Common.{arith, ◌≡◌, ℕ, Option, None, Some, option_map, ap, sym, ◌∙◌}
-use Rattle.std.proofs.lemmas.Bool.Decides.{nat_tests}
-use Rattle.psci_headline.proofs.Words.{request_of, Regs, BoardValue, Core, Start, Used}
-use Rattle.psci_headline.proofs.Words.{MessageValue, Act, FwReply, answer, PowerOn, target, Effect}
-use Rattle.psci_headline.proofs.Words.{AsksOn, Rests, enter_effect, Values, Made, OfCall, FwCall}
-use Rattle.psci_headline.proofs.Words.{made_at}
+use Rattle.psci_headline.proofs.Words.{◌∙◌, ◌≡◌, Act, ap, arith, AsksOn, BoardValue, Core, Effect}
+use Rattle.psci_headline.proofs.Words.{effect_of, enter_effect, FwCall, FwReply, Made, made_at}
+use Rattle.psci_headline.proofs.Words.{MessageValue, nat_tests, None, OfCall, Option, option_map}
+use Rattle.psci_headline.proofs.Words.{PowerOn, Regs, request_of, Rests, Some, Start, sym, target}
+use Rattle.psci_headline.proofs.Words.{Used, Values, ℕ}
+use Rattle.psci_fw_laws.specs.psci_fw_spec.Answer.{answer}
 use Rattle.psci_world_spec.specs.psci_abi.declared.request.Request.TheVariants.{CpuOn}
 use Rattle.psci_board.specs.Board.{core_of}
+use Rattle.psci_headline.specs.Openings.{made_by, core_asked, named_in}
 use Rattle.psci_fw_laws.specs.psci_fw_spec.declared.call.FwCall.TheVariants as calls
 use Rattle.psci_fw_laws.specs.psci_fw_spec.declared.reply.FwReply.TheVariants as replies
-use Rattle.psci_fw_laws.specs.psci_fw_spec.Effects.{effect_of}
-use Rattle.psci_headline.specs.Openings.{made_by, core_asked, named_in}
 
 -- Which core a call named ----------------------------------------------------------------------
 

@@ -1,21 +1,18 @@
 -- What is known after a legal record: cores that go on, and what acknowledgements say.
-use Rattle.std.proofs.Common.{◌≡◌, ℕ, zero, suc, ◌<◌, ◌≤◌, inl, inr, true, List, ◌∷◌, ◌++◌, Option}
-use Rattle.std.proofs.Common.{None, Some, refl, subst, ap, sym, ◌∙◌, arith}
-use Rattle.std.proofs.lemmas.Bool.Decides.{nat_tests}
-use Rattle.std.specs.Prelude.{slice_get}
-use Rattle.psci_headline.proofs.Words.{BoardValue, Away, listed, Values, Down, AckValue, Holds}
-use Rattle.psci_headline.proofs.Words.{Deliver, Record, ack_in, controller_values, firmware_values}
-use Rattle.psci_headline.proofs.Words.{sent, legal, enters_or_resumes, was_powered_down, AreDown}
-use Rattle.psci_headline.proofs.Words.{IsDownBy}
-use Rattle.psci_fw_laws.specs.psci_fw_spec.declared.status.Status.TheVariants as statuses
+use Rattle.psci_headline.proofs.Words.{◌++◌, ◌<◌, ◌∙◌, ◌∷◌, ◌≡◌, ◌≤◌, ack_in, AckValue, ap, AreDown}
+use Rattle.psci_headline.proofs.Words.{arith, Away, BoardValue, controller_values, Deliver, Down}
+use Rattle.psci_headline.proofs.Words.{enters_or_resumes, firmware_values, Holds, inl, inr}
+use Rattle.psci_headline.proofs.Words.{IsDownBy, legal, List, listed, nat_tests, None, Option}
+use Rattle.psci_headline.proofs.Words.{Record, refl, sent, slice_get, Some, subst, suc, sym, true}
+use Rattle.psci_headline.proofs.Words.{updated_here, Values, was_powered_down, zero, ℕ}
 use Rattle.psci_fw_laws.specs.psci_fw_spec.Phases.{Running}
-use Rattle.psci_fw_laws.proofs.Parts.{updated_here}
 use Rattle.psci_world_spec.specs.Histories.{acks, firmware_history}
 use Rattle.psci_headline.proofs.Acknowledging.{CoreLaws, new_is_down}
 use Rattle.psci_headline.proofs.CoreSteps.{IsStep}
 use Rattle.psci_headline.proofs.Deliveries.{IsNew, new_ack}
 use Rattle.psci_headline.proofs.Moves.{Moves}
 use Rattle.psci_headline.proofs.Slept.{slept_still}
+use Rattle.psci_fw_laws.specs.psci_fw_spec.declared.status.Status.TheVariants as statuses
 
 -- What is known after a legal record -----------------------------------------------------------
 

@@ -1,14 +1,12 @@
 -- A core that is reported OFF does not run, and was powered down since it last went on.
-use Rattle.std.proofs.Common.{arith, ◌≡◌, ℕ, ◌<◌, Bool, true, false, ◌==◌, cond, List, Option, None}
-use Rattle.std.proofs.Common.{Some, refl, sym, ◌∙◌}
-use Rattle.std.proofs.lemmas.Bool.Decides.{nat_tests}
-use Rattle.psci_headline.proofs.Words.{BoardValue, cores, Status, Off, AreValues, start_of_life}
-use Rattle.psci_headline.proofs.Words.{Values, Running, Stopped, Record, controller_values}
-use Rattle.psci_headline.proofs.Words.{firmware_values, IsLegalPast, place, Agree, OffIsDown}
-use Rattle.psci_headline.proofs.Words.{agrees}
-use Rattle.psci_fw_laws.specs.psci_fw_spec.Phases as phases
+use Rattle.psci_headline.proofs.Words.{◌<◌, ◌==◌, ◌∙◌, ◌≡◌, Agree, agrees, AreValues, arith}
+use Rattle.psci_headline.proofs.Words.{BoardValue, Bool, cond, controller_values, cores, false}
+use Rattle.psci_headline.proofs.Words.{firmware_values, IsLegalPast, List, nat_tests, None, Off}
+use Rattle.psci_headline.proofs.Words.{OffIsDown, Option, place, Record, refl, Running, Some}
+use Rattle.psci_headline.proofs.Words.{start_of_life, Status, Stopped, sym, true, Values, ℕ}
 use Rattle.psci_headline.proofs.AllDown.{DownLaws, all_down}
 use Rattle.psci_headline.proofs.Slept.{reported}
+use Rattle.psci_fw_laws.specs.psci_fw_spec.Phases as phases
 
 -- at the start of a life no core runs
 none_runs : (t : Bool) → cond t phases.Pending phases.Away ≡ phases.Running → ⊥

@@ -1,12 +1,13 @@
 -- Entries take up openings, each one of its own, where the tests say so.
-use Rattle.std.proofs.Common.{◌≡◌, ◌==◌, ◌&&◌, ◌↔◌, ℕ, zero, suc, true, not, List, [], ◌∷◌, Option}
-use Rattle.std.proofs.Common.{None, Some, slice_get, refl, sym, ap, ◌∙◌, arith, inl, inr}
-use Rattle.std.proofs.lemmas.Bool.Decides.{nat_tests}
-use Rattle.std.specs.List.{list_all}
-use Rattle.std.proofs.lemmas.Bool.{and_from, and_parts, both_ways, eq-eqb, eqb-true, cases_Bool}
-use Rattle.std.proofs.lemmas.Bool.{not-true, not_from_false}
-use Rattle.psci_headline.proofs.Words.{BoardValue, Opening, Record, firmware_history, Fits, Made}
-use Rattle.psci_headline.proofs.Words.{TakenUp, AreTakenUp, taken_up, is_each_once, is_each_open}
+use Rattle.std.proofs.Common.{slice_get}
+use Rattle.std.proofs.lemmas.Bool.{both_ways, not-true}
+use Rattle.psci_headline.proofs.Words.{◌&&◌, ◌==◌, ◌↔◌, ◌∙◌, ◌∷◌, ◌≡◌, [], and_from, and_parts, ap}
+use Rattle.psci_headline.proofs.Words.{AreTakenUp, arith, BoardValue, cases_Bool, eq-eqb, eqb-true}
+use Rattle.psci_headline.proofs.Words.{firmware_history, Fits, inl, inr, is_each_once, is_each_open}
+use Rattle.psci_headline.proofs.Words.{List, list_all, Made, nat_tests, None, not, not_from_false}
+use Rattle.psci_headline.proofs.Words.{Opening, Option, Record, refl, Some, suc, sym, TakenUp, true}
+use Rattle.psci_headline.proofs.Words.{zero, ℕ}
+use Rattle.psci_headline.specs.Openings.{taken_up}
 use Rattle.psci_headline.specs.Test.{are_apart, is_fitting, is_same_made}
 use Rattle.psci_headline.proofs.Ranges.{all_items, each_item}
 

@@ -1,18 +1,16 @@
 -- What a legal outcome sends is what its effect says was sent.
-use Rattle.std.proofs.Common.{arith, ◌≡◌, ℕ, Bool, true, false, cond, refl, Option, None, Some}
-use Rattle.std.proofs.Common.{subst, sym}
-use Rattle.std.proofs.lemmas.Bool.Decides.{nat_tests}
-use Rattle.std.specs.Ordering.{int_eq}
-use Rattle.psci_headline.proofs.Words.{success, Code, Request, BoardValue, Start, MessageValue}
-use Rattle.psci_headline.proofs.Words.{FwFault, SuspendMode, Opening, Outcome, reply_or, outcome_of}
-use Rattle.psci_headline.proofs.Words.{GoesOn, enter_effect, function_effect, Values, mode_effect}
-use Rattle.psci_headline.proofs.Words.{outcome_at, stops_with, mode_of}
-use Rattle.psci_world_spec.specs.psci_abi.declared.request.Request.TheVariants as requests
-use Rattle.psci_fw_laws.specs.psci_fw_spec.declared.reply.FwReply.TheVariants as replies
+use Rattle.psci_headline.proofs.Words.{◌≡◌, arith, BoardValue, Bool, Code, cond, enter_effect}
+use Rattle.psci_headline.proofs.Words.{false, function_effect, function_ends, FwFault, GoesOn}
+use Rattle.psci_headline.proofs.Words.{int_eq, MessageValue, mode_effect, mode_of, nat_tests, None}
+use Rattle.psci_headline.proofs.Words.{Opening, Option, Outcome, outcome_at, outcome_ends}
+use Rattle.psci_headline.proofs.Words.{outcome_of, refl, reply_or, Request, Some, Start, stops_with}
+use Rattle.psci_headline.proofs.Words.{subst, success, SuspendMode, sym, true, Values, ℕ}
 use Rattle.psci_fw_laws.specs.psci_fw_spec.Entering.{enter_outcome}
 use Rattle.psci_fw_laws.specs.psci_fw_spec.Outcomes.{returns}
+use Rattle.psci_fw_laws.proofs.fw_spec.Endings.{starts_with}
+use Rattle.psci_world_spec.specs.psci_abi.declared.request.Request.TheVariants as requests
+use Rattle.psci_fw_laws.specs.psci_fw_spec.declared.reply.FwReply.TheVariants as replies
 use Rattle.psci_fw_laws.specs.psci_fw_spec.Said as says
-use Rattle.psci_fw_laws.proofs.fw_spec.Endings.{function_ends, outcome_ends, starts_with}
 
 -- Functions ------------------------------------------------------------------------------------
 

@@ -1,9 +1,7 @@
 -- An item of a list that passes a test.
-use Rattle.std.proofs.Common.{◌≡◌, ℕ, Bool, true, List, Some, ap, ◌∙◌}
-use Rattle.std.specs.Prelude.{slice_get}
-use Rattle.std.specs.List.{list_any}
 use Rattle.std.proofs.lemmas.List.Folds.{list_any_at}
-use Rattle.std.proofs.lemmas.Option.{get_or_from_slice_get, slice_get_within}
+use Rattle.psci_headline.proofs.Words.{◌∙◌, ◌≡◌, ap, Bool, get_or_from_slice_get, List, list_any}
+use Rattle.psci_headline.proofs.Words.{slice_get, slice_get_within, Some, true, ℕ}
 
 -- an item passes a test
 pub any_passes : {A : Type 0} (test : A → Bool) (xs : List A) (k : ℕ) (x : A)

@@ -1,19 +1,16 @@
 -- What firmware and power controller know of each other, as a core calls or enters, and as an
 -- acknowledgement is taken.
-use Rattle.std.proofs.Common.{◌≡◌, ℕ, ◌<◌, ◌==◌, true, cond, Option, None, Some, refl, unwrap_or}
-use Rattle.std.proofs.Common.{arith}
-use Rattle.std.proofs.lemmas.Bool.Decides.{nat_tests}
-use Rattle.std.proofs.lemmas.Bool.{cases_eq, eqb-false, eqb-true}
-use Rattle.psci_headline.proofs.Words.{BoardValue, cores, Start, last_start, MessageValue, Act}
-use Rattle.psci_headline.proofs.Words.{change, Effect, enter_effect, in_life, Phase, is_running}
-use Rattle.psci_headline.proofs.Words.{Values, IsAllowed, Place, Running, Stopped, AgreeIn}
-use Rattle.psci_headline.proofs.Words.{executes_on, place_after}
-use Rattle.psci_ctl_spec.specs.Values as controlled
-use Rattle.psci_fw_laws.specs.psci_fw_spec.Phases as phases
-use Rattle.psci_fw_laws.proofs.Arriving.{found_life}
+use Rattle.psci_headline.proofs.Words.{◌<◌, ◌==◌, ◌≡◌, Act, AgreeIn, arith, BoardValue, cases_eq}
+use Rattle.psci_headline.proofs.Words.{change, cond, cores, Effect, enter_effect, eqb-false}
+use Rattle.psci_headline.proofs.Words.{eqb-true, executes_on, found_life, in_life, is_running}
+use Rattle.psci_headline.proofs.Words.{IsAllowed, last_start, MessageValue, nat_tests, None, Option}
+use Rattle.psci_headline.proofs.Words.{Phase, Place, place_after, refl, Running, Some, Start}
+use Rattle.psci_headline.proofs.Words.{Stopped, true, unwrap_or, Values, ℕ}
 use Rattle.psci_headline.proofs.Agreeing.{AreAgreed, found_other, found_own}
 use Rattle.psci_headline.proofs.Moving.{CallerLaws, IsCallOf, IsMoved, call_moves, entry_moves}
 use Rattle.psci_headline.proofs.Moving.{runs_on}
+use Rattle.psci_ctl_spec.specs.Values as controlled
+use Rattle.psci_fw_laws.specs.psci_fw_spec.Phases as phases
 
 -- Phases and places ----------------------------------------------------------------------------
 

@@ -1,11 +1,10 @@
 -- What waits, after what the firmware's calls and entries change.
-use Rattle.std.proofs.Common.{◌⊎◌, ◌<◌, ◌++◌, None, ◌≡◌, ℕ, inl, inr, Bool, true, false, List, ◌∷◌}
-use Rattle.std.proofs.Common.{Option, Some, subst, ap, sym, ◌∙◌}
-use Rattle.std.specs.Prelude.{slice_get}
-use Rattle.std.proofs.lemmas.Bool.{cases_eq}
-use Rattle.psci_headline.proofs.Words.{Part, cores, up, listed, AwaitsStart, IsLivePart, BoardValue}
-use Rattle.psci_headline.proofs.Words.{Down, AckValue, MessageValue, Clear, OfCore, OfSystem, Put}
-use Rattle.psci_headline.proofs.Words.{Slot, changed, slot_of, Phase, Pending, updated, AreWaiting}
+use Rattle.psci_headline.proofs.Words.{◌++◌, ◌<◌, ◌∙◌, ◌∷◌, ◌≡◌, ◌⊎◌, AckValue, ap, AreWaiting}
+use Rattle.psci_headline.proofs.Words.{AwaitsStart, BoardValue, Bool, cases_eq, changed, Clear}
+use Rattle.psci_headline.proofs.Words.{cores, Down, false, inl, inr, IsLivePart, List, listed}
+use Rattle.psci_headline.proofs.Words.{MessageValue, None, OfCore, OfSystem, Option, Part, Pending}
+use Rattle.psci_headline.proofs.Words.{Phase, Put, slice_get, Slot, slot_of, Some, subst, sym, true}
+use Rattle.psci_headline.proofs.Words.{up, updated, ℕ}
 use Rattle.psci_ctl_spec.specs.psci_messages.declared.kind.Kind.TheVariants.{Start}
 use Rattle.psci_headline.proofs.fw_laws.Parts.{updated_at, updated_here, updated_there}
 use Rattle.psci_headline.proofs.Items.{listed_later, of_newest}

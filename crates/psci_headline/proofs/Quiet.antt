@@ -1,19 +1,18 @@
 -- Below a domain with a live claim no core executes.
-use Rattle.std.proofs.Common.{◌≡◌, ℕ, ◌<◌, ◌≤◌, true, ◌==◌, List, refl, arith, sym, ◌∙◌, subst}
-use Rattle.std.proofs.lemmas.Bool.Decides.{nat_tests}
-use Rattle.std.proofs.lemmas.Bool.{cond_both, eqb-false, false≢true}
-use Rattle.psci_headline.proofs.Words.{BoardValue, cores, PathLaws, MessageValue, in_life}
-use Rattle.psci_headline.proofs.Words.{start_of_life, sent_messages, Values, IsClaimOn, Holds}
-use Rattle.psci_headline.proofs.Words.{AreLive, Place, Record, controller_values, firmware_history}
-use Rattle.psci_headline.proofs.Words.{firmware_values, sent, place, Agree, AgreeIn, executes}
-use Rattle.psci_headline.proofs.Words.{NoneExecutes}
+use Rattle.psci_headline.proofs.Words.{◌<◌, ◌==◌, ◌∙◌, ◌≡◌, ◌≤◌, Agree, AgreeIn, AreLive, arith}
+use Rattle.psci_headline.proofs.Words.{BoardValue, cond_both, controller_values, cores, eqb-false}
+use Rattle.psci_headline.proofs.Words.{executes, false≢true, firmware_history, firmware_values}
+use Rattle.psci_headline.proofs.Words.{found_life, Holds, in_life, IsClaimOn, List, MessageValue}
+use Rattle.psci_headline.proofs.Words.{nat_tests, NoneExecutes, PathLaws, Place, place, Record}
+use Rattle.psci_headline.proofs.Words.{refl, sent, sent_messages, start_of_life, subst, sym, true}
+use Rattle.psci_headline.proofs.Words.{Values, ℕ}
 use Rattle.psci_ctl_spec.specs.Follows.{AreValues}
-use Rattle.psci_fw_laws.specs.psci_fw_spec.Phases as phases
-use Rattle.psci_fw_laws.proofs.Arriving.{first_holds, found_life}
+use Rattle.psci_fw_laws.proofs.Arriving.{first_holds}
 use Rattle.psci_fw_laws.proofs.Living.{live_laws}
 use Rattle.psci_headline.proofs.Claiming.{source}
 use Rattle.psci_headline.proofs.Starting.{same_sum}
 use Rattle.psci_headline.proofs.LiveOnes.{is_live_one}
+use Rattle.psci_fw_laws.specs.psci_fw_spec.Phases as phases
 
 -- Values in a life ----------------------------------------------------------------------------
 

@@ -1,8 +1,9 @@
 -- What passes at each number of a range, or at each item of a list, and the other way round.
-use Rattle.std.proofs.Common.{◌≡◌, ◌+◌, ◌≤◌, ◌<◌, ◌||◌, ℕ, zero, suc, Bool, true, false, not, List}
-use Rattle.std.proofs.Common.{[], ◌∷◌, slice_get, Some, refl, sym, ap, ◌∙◌, arith, inl, inr}
-use Rattle.std.specs.List.{list_all, range_with_len}
-use Rattle.std.proofs.lemmas.Bool.{and_from, and_parts, cases_eq, true≢false}
+use Rattle.std.proofs.Common.{slice_get}
+use Rattle.psci_headline.proofs.Words.{◌+◌, ◌<◌, ◌||◌, ◌∙◌, ◌∷◌, ◌≡◌, ◌≤◌, [], and_from, and_parts}
+use Rattle.psci_headline.proofs.Words.{ap, arith, Bool, cases_eq, false, inl, inr, List, list_all}
+use Rattle.psci_headline.proofs.Words.{not, range_with_len, refl, Some, suc, sym, true, true≢false}
+use Rattle.psci_headline.proofs.Words.{zero, ℕ}
 
 -- Numbers -------------------------------------------------------------------------------------
 

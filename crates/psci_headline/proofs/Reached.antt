@@ -1,11 +1,8 @@
 -- Where the world settles: the power controller's life goes on there, and is not halting.
-use Rattle.std.proofs.Common.{◌≡◌, ℕ, ◌+◌, false, List, Some, arith}
-use Rattle.std.proofs.lemmas.Bool.Decides.{nat_tests}
-use Rattle.std.proofs.lemmas.Option.{same_Some}
-use Rattle.psci_headline.proofs.Words.{BoardValue, height, MessageValue, Record, sent, IsLegalPast}
-use Rattle.psci_headline.proofs.Words.{indexed, AreAtRest, deliveries, is_halting, begun}
-use Rattle.psci_headline.specs.psci_messages.declared.kind.Kind.TheVariants as kinds
-use Rattle.psci_headline.specs.Settling.{settled}
+use Rattle.psci_headline.proofs.Words.{◌+◌, ◌≡◌, AreAtRest, arith, BoardValue, deliveries, false}
+use Rattle.psci_headline.proofs.Words.{height, indexed, is_halting, IsLegalPast, List, MessageValue}
+use Rattle.psci_headline.proofs.Words.{nat_tests, Record, same_Some, sent, Some, ℕ}
+use Rattle.psci_headline.specs.Settling.{begun, settled}
 use Rattle.psci_headline.proofs.Agreeing.{found_own}
 use Rattle.psci_headline.proofs.Beginning.{IsUnderWay}
 use Rattle.psci_headline.proofs.Bound.{HasRest, IsRound, comes_to_rest}
@@ -15,6 +12,7 @@ use Rattle.psci_headline.proofs.Resting.{at_rest}
 use Rattle.psci_headline.proofs.Standing.{SettleLaws}
 use Rattle.psci_headline.proofs.Starts.{HasBegun, has_begun}
 use Rattle.psci_headline.proofs.Whole.{LifeGoesOn, going_life}
+use Rattle.psci_headline.specs.psci_messages.declared.kind.Kind.TheVariants as kinds
 
 -- no Down was delivered before the first round
 first_count : (b : BoardValue) (before : List Record) (life : ℕ) (past : List Record) (k : ℕ)

@@ -1,14 +1,14 @@
 -- What a record adds to the firmware's history, and what it says.
-use Rattle.std.proofs.Common.{arith, ◌≡◌, ℕ, true, List, [], ◌∷◌, Option, Some, refl}
-use Rattle.std.proofs.lemmas.Bool.Decides.{nat_tests}
-use Rattle.psci_headline.proofs.Words.{request_of, BoardValue, Start, last_start, Act, Effect}
-use Rattle.psci_headline.proofs.Words.{Acknowledges, function_effect, FwExchange, effect, Arrival}
-use Rattle.psci_headline.proofs.Words.{arrived, Taken, AckValue, Event, Call, Enter, Take, Said, Fw}
-use Rattle.psci_headline.proofs.Words.{Sent, call, entered, outcome_in, took, indexed}
-use Rattle.psci_ctl_spec.specs.Values as controlled
+use Rattle.psci_headline.proofs.Words.{◌∷◌, ◌≡◌, [], Acknowledges, AckValue, Act, arith, Arrival}
+use Rattle.psci_headline.proofs.Words.{arrived, BoardValue, Call, call, Effect, effect, Enter}
+use Rattle.psci_headline.proofs.Words.{entered, Event, function_effect, Fw, FwExchange, indexed}
+use Rattle.psci_headline.proofs.Words.{last_start, List, nat_tests, Option, outcome_in, refl}
+use Rattle.psci_headline.proofs.Words.{request_of, Said, Sent, Some, Start, Take, Taken, took, true}
+use Rattle.psci_headline.proofs.Words.{ℕ}
 use Rattle.psci_world_spec.specs.declared.said.Said.TheVariants.{Taken as Took}
 use Rattle.psci_headline.proofs.Moving.{function_call, is_call}
 use Rattle.psci_headline.proofs.Items.{IsListed, at_number}
+use Rattle.psci_ctl_spec.specs.Values as controlled
 
 -- What an effect says -------------------------------------------------------------------------
 

@@ -1,19 +1,18 @@
 -- No core at its place is refused.
-use Rattle.std.proofs.Common.{◌≡◌, ℕ, ◌<◌, ◌≤◌, ◌==◌, Bool, true, false, cond, not, Option, None}
-use Rattle.std.proofs.Common.{Some, refl, arith, subst, ap, sym, ◌∙◌}
-use Rattle.std.proofs.lemmas.Bool.Decides.{nat_tests}
-use Rattle.std.specs.Prelude.{nat_lt}
-use Rattle.std.proofs.lemmas.Bool.{and_left, and_right, cases_eq, cond-false, le-ltb, lt-leb}
-use Rattle.std.proofs.lemmas.Bool.{lt-ltb, ne_eqb, or_from}
-use Rattle.psci_headline.proofs.Words.{BoardValue, cores, Start, last_start, start_shown}
-use Rattle.psci_headline.proofs.Words.{call_fault, enter_fault, in_life, is_running, Values, Place}
-use Rattle.psci_headline.proofs.Words.{Started, Running, Stopped}
+use Rattle.std.proofs.lemmas.Bool.{and_left, le-ltb, lt-leb, or_from}
+use Rattle.psci_headline.proofs.Words.{◌<◌, ◌==◌, ◌∙◌, ◌≡◌, ◌≤◌, and_right, ap, arith, BoardValue}
+use Rattle.psci_headline.proofs.Words.{Bool, call_fault, cases_eq, cond, cond-false, cores}
+use Rattle.psci_headline.proofs.Words.{enter_fault, false, in_life, is_running, last_start, lt-ltb}
+use Rattle.psci_headline.proofs.Words.{nat_lt, nat_tests, ne_eqb, None, not, Option, Place, refl}
+use Rattle.psci_headline.proofs.Words.{Running, Some, Start, Started, Stopped, subst, sym, true}
+use Rattle.psci_headline.proofs.Words.{Values, ℕ}
+use Rattle.psci_ctl_spec.specs.Replies.{start_shown}
+use Rattle.psci_headline.proofs.Agreeing.{AreAgreed, found_own}
+use Rattle.psci_headline.proofs.Placing.{own_life}
 use Rattle.psci_ctl_spec.specs.Follows as controlling
 use Rattle.psci_ctl_spec.specs.Values as controlled
 use Rattle.psci_fw_laws.specs.psci_fw_spec.declared.fault.FwFault.TheVariants as faults
 use Rattle.psci_fw_laws.specs.psci_fw_spec.Phases as phases
-use Rattle.psci_headline.proofs.Agreeing.{AreAgreed, found_own}
-use Rattle.psci_headline.proofs.Placing.{own_life}
 
 -- The life of a core that is not stopped.
 record IsAlive (u : controlled.Values) : Type 0 where

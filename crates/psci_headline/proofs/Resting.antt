@@ -1,19 +1,16 @@
 -- Where nothing is outstanding, firmware and power controller agree on every domain.
-use Rattle.std.proofs.Common.{◌≡◌, ℕ, suc, inl, inr, ◌<◌, List, Option, None, Some, refl, arith}
-use Rattle.std.proofs.Common.{subst, sym, ◌∙◌}
-use Rattle.std.proofs.lemmas.Bool.Decides.{nat_tests}
-use Rattle.std.proofs.lemmas.Bool.{cases_lt}
-use Rattle.std.proofs.lemmas.Option.{none-some}
-use Rattle.psci_headline.proofs.Words.{BoardValue, HasNode, cores, Node, MessageValue, OfSystem}
-use Rattle.psci_headline.proofs.Words.{Values, known_below, Record, controller_values}
-use Rattle.psci_headline.proofs.Words.{firmware_values, sent, AreAtRest}
-use Rattle.psci_ctl_spec.specs.Values as controlled
+use Rattle.psci_headline.proofs.Words.{◌<◌, ◌∙◌, ◌≡◌, AreAtRest, arith, BoardValue, cases_lt}
+use Rattle.psci_headline.proofs.Words.{controller_values, cores, firmware_values, HasNode, inl, inr}
+use Rattle.psci_headline.proofs.Words.{known_below, List, MessageValue, nat_tests, Node, None}
+use Rattle.psci_headline.proofs.Words.{none-some, OfSystem, Option, Record, refl, sent, Some, subst}
+use Rattle.psci_headline.proofs.Words.{suc, sym, Values, ℕ}
 use Rattle.psci_headline.specs.psci_fw_laws.Granted.{AreGranted}
 use Rattle.psci_headline.proofs.fw_laws.Sums.{known_same}
 use Rattle.psci_headline.proofs.Claimed.{claim_deep}
 use Rattle.psci_headline.proofs.Going.{IsGoing, known_now, none_system, waits_now}
 use Rattle.psci_headline.proofs.Rounds.{DeepAt, deep_or_out, out_at}
 use Rattle.psci_headline.proofs.Standing.{SettleLaws}
+use Rattle.psci_ctl_spec.specs.Values as controlled
 
 -- then each live claim has its depth
 all_deep : (b : BoardValue) (before : List Record) (life : ℕ) (past : List Record) (r c : ℕ)

@@ -1,17 +1,17 @@
 -- What a record says that a call returned is what its function answers, in a life.
-use Rattle.std.proofs.Common.{◌≡◌, ℕ, zero, suc, ◌<◌, Bool, true, false, ◌==◌, cond, List, ◌++◌}
-use Rattle.std.proofs.Common.{Option, None, Some, refl, ap, sym, ◌∙◌, arith, not}
-use Rattle.std.proofs.lemmas.Bool.Decides.{nat_tests}
-use Rattle.psci_headline.proofs.Words.{request_of, Code, Regs, Request, BoardValue, FwFault}
-use Rattle.psci_headline.proofs.Words.{Outcome, reply_or, call_fault, IsLegal, stops, Values, Event}
-use Rattle.psci_headline.proofs.Words.{Call, Record, Said, Fw, Sent, acks, call, controller_values}
-use Rattle.psci_headline.proofs.Words.{firmware_history, firmware_values, outcome_in, Smc}
+use Rattle.psci_headline.proofs.Words.{◌++◌, ◌<◌, ◌==◌, ◌∙◌, ◌≡◌, acks, ap, arith, BoardValue, Bool}
+use Rattle.psci_headline.proofs.Words.{Call, call, call_fault, Code, cond, controller_values, Event}
+use Rattle.psci_headline.proofs.Words.{false, firmware_history, firmware_values, Fw, FwFault}
+use Rattle.psci_headline.proofs.Words.{IsLegal, List, nat_tests, None, not, Option, Outcome}
+use Rattle.psci_headline.proofs.Words.{outcome_in, Record, refl, Regs, reply_or, Request}
+use Rattle.psci_headline.proofs.Words.{request_of, Said, Sent, Smc, Some, stops, suc, sym, true}
+use Rattle.psci_headline.proofs.Words.{Values, zero, ℕ}
 use Rattle.psci_fw_laws.specs.psci_fw_spec.declared.fault.FwFault.TheVariants.{NoCore, NoLife}
 use Rattle.psci_fw_laws.specs.psci_fw_spec.declared.fault.FwFault.TheVariants.{NotRunning}
-use Rattle.psci_fw_laws.specs.psci_fw_spec.declared.outcome.Act.TheVariants as acts
-use Rattle.psci_fw_laws.specs.psci_fw_spec.declared.reply.FwReply.TheVariants as replies
 use Rattle.psci_fw_laws.specs.psci_fw_spec.Answer.{answer}
 use Rattle.psci_fw_laws.specs.psci_fw_spec.Calls.{function_outcome, outcome_of}
+use Rattle.psci_fw_laws.specs.psci_fw_spec.declared.outcome.Act.TheVariants as acts
+use Rattle.psci_fw_laws.specs.psci_fw_spec.declared.reply.FwReply.TheVariants as replies
 
 -- A core is answered this code to its request, in a life.
 pub record IsReturned (b : BoardValue) (v : Values) (d : ℕ) (r : Request) (code : Code)

@@ -1,14 +1,11 @@
 -- One round: what is outstanding for each core is served once.
-use Rattle.std.proofs.Common.{◌≡◌, ℕ, suc, ◌⊎◌, inl, inr, ◌+◌, ◌≤◌, Bool, true, false, ◌==◌, cond}
-use Rattle.std.proofs.Common.{List, Option, None, Some, arith, subst, ap, sym, ◌∙◌}
-use Rattle.std.proofs.lemmas.Bool.Decides.{nat_tests}
-use Rattle.std.specs.Prelude.{slice_get}
-use Rattle.std.proofs.lemmas.Bool.{cond-true, cond-false, eq-eqb, ne_eqb}
-use Rattle.std.proofs.lemmas.Option.{none-some, same_Some}
-use Rattle.psci_headline.proofs.Words.{BoardValue, cores, up, Part, MessageValue, OfCore, Record}
-use Rattle.psci_headline.proofs.Words.{controller_values, firmware_values, sent, indexed}
-use Rattle.psci_headline.proofs.Words.{deliveries, served, serving, IsLivePart, is_any}
-use Rattle.psci_ctl_spec.specs.psci_messages.declared.kind.Kind.TheVariants as kinds
+use Rattle.psci_headline.proofs.Words.{◌+◌, ◌==◌, ◌∙◌, ◌≡◌, ◌≤◌, ◌⊎◌, ap, arith, BoardValue, Bool}
+use Rattle.psci_headline.proofs.Words.{cond, cond-false, cond-true, controller_values, cores}
+use Rattle.psci_headline.proofs.Words.{deliveries, eq-eqb, false, firmware_values, indexed, inl}
+use Rattle.psci_headline.proofs.Words.{inr, is_any, IsLivePart, List, MessageValue, nat_tests}
+use Rattle.psci_headline.proofs.Words.{ne_eqb, None, none-some, OfCore, Option, Part, Record}
+use Rattle.psci_headline.proofs.Words.{same_Some, sent, served, serving, slice_get, Some, subst}
+use Rattle.psci_headline.proofs.Words.{suc, sym, true, up, ℕ}
 use Rattle.psci_headline.proofs.fw_laws.Consequences.{once_down}
 use Rattle.psci_headline.proofs.Claimed.{AreDeep}
 use Rattle.psci_headline.proofs.Downs.{IsDownAnswered, IsLeft, down_answered}
@@ -17,6 +14,7 @@ use Rattle.psci_headline.proofs.Finding.{finds, indexed_at}
 use Rattle.psci_headline.proofs.Folding.{IsStep}
 use Rattle.psci_headline.proofs.Going.{IsGoing, known_now, out_now, waits_now}
 use Rattle.psci_headline.proofs.Standing.{SettleLaws}
+use Rattle.psci_ctl_spec.specs.psci_messages.declared.kind.Kind.TheVariants as kinds
 
 -- live parts of a core's Downs below this level have their depth, after these records
 abbrev pub DeepAt : BoardValue → ℕ → ℕ → ℕ → List Record → Type 0

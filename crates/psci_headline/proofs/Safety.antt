@@ -1,6 +1,6 @@
 -- A run is safe at every moment.
-use Rattle.std.proofs.Common.{List, [], ◌∷◌}
-use Rattle.psci_headline.proofs.Words.{BoardValue, Record, IsLegalPast, AlwaysSafe, Safe}
+use Rattle.psci_headline.proofs.Words.{◌∷◌, [], AlwaysSafe, BoardValue, IsLegalPast, List, Record}
+use Rattle.psci_headline.proofs.Words.{Safe}
 
 -- at every moment, where it is so after each legal past
 pub always : (b : BoardValue) → ((past : List Record) → IsLegalPast b past → Safe b past)

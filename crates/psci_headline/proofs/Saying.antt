@@ -1,16 +1,15 @@
 -- What is legal to say of an event, by what it asks.
-use Rattle.std.proofs.Common.{arith, ◌≡◌, ℕ, ◌<◌, cond, Option, Some}
-use Rattle.std.proofs.lemmas.Bool.Decides.{nat_tests}
-use Rattle.std.specs.Prelude.{List, nat_lt}
-use Rattle.std.proofs.lemmas.Bool.{cond_both, ltb-true}
-use Rattle.psci_headline.proofs.Words.{Regs, BoardValue, cores, Start, last_start, AckValue}
-use Rattle.psci_headline.proofs.Words.{MessageValue, Event, Call, Enter, Wake, Reset, Deliver, Take}
-use Rattle.psci_headline.proofs.Words.{Place, Started, Running, Stopped, Record, Said, Absent, acks}
-use Rattle.psci_headline.proofs.Words.{controller_values, sent, deliver, if_running, if_started}
-use Rattle.psci_headline.proofs.Words.{if_stopped, take, indexed, place, Ignored}
+use Rattle.std.specs.Prelude.{List}
+use Rattle.psci_headline.proofs.Words.{◌<◌, ◌≡◌, Absent, acks, AckValue, arith, BoardValue, Call}
+use Rattle.psci_headline.proofs.Words.{cond, cond_both, controller_values, cores, Deliver, Enter}
+use Rattle.psci_headline.proofs.Words.{Event, if_started, Ignored, indexed, last_start, ltb-true}
+use Rattle.psci_headline.proofs.Words.{MessageValue, nat_lt, nat_tests, Option, Place, place}
+use Rattle.psci_headline.proofs.Words.{Record, Regs, Reset, Running, Said, sent, Some, Start}
+use Rattle.psci_headline.proofs.Words.{Started, Stopped, Take, Wake, ℕ}
+use Rattle.psci_world_spec.specs.Legal.{deliver, if_running, if_stopped, take, asked_controller}
+use Rattle.psci_world_spec.specs.Legal.{asked_firmware, legal}
 use Rattle.psci_ctl_spec.specs.declared.call.CtlCall.TheVariants as asked
 use Rattle.psci_fw_laws.specs.psci_fw_spec.declared.call.FwCall.TheVariants as calls
-use Rattle.psci_world_spec.specs.Legal.{asked_controller, asked_firmware, legal}
 
 -- What is so of an event with each answer to it, and with what is said where nothing is asked.
 pub record OfAnswers (b : BoardValue) (past : List Record) (P : Event → Said → Type 0) : Type 0

@@ -1,21 +1,19 @@
 -- The messages of a legal run are those that the firmware's history says were sent.
-use Rattle.std.proofs.Common.{arith, ◌≡◌, ℕ, true, List, [], ◌∷◌, ◌++◌, Option, None, Some, refl}
-use Rattle.std.proofs.Common.{option_map, subst}
-use Rattle.std.proofs.lemmas.Bool.Decides.{nat_tests}
-use Rattle.psci_headline.proofs.Words.{request_of, Regs, BoardValue, Start, last_start, AckValue}
-use Rattle.psci_headline.proofs.Words.{MessageValue, Taken, call_fault, enter_fault, IsLegal}
-use Rattle.psci_headline.proofs.Words.{listed, Event, Call, Enter, Record, Said, acks, call}
-use Rattle.psci_headline.proofs.Words.{controller_values, entered, firmware_values, outcome_in}
-use Rattle.psci_headline.proofs.Words.{sent_in, took, IsLegalPast, legal}
+use Rattle.psci_headline.proofs.Words.{◌++◌, ◌∷◌, ◌≡◌, [], acks, AckValue, arith, BoardValue, Call}
+use Rattle.psci_headline.proofs.Words.{call, call_fault, controller_values, Enter, enter_fault}
+use Rattle.psci_headline.proofs.Words.{entered, Event, firmware_legal, firmware_values, IsLegal}
+use Rattle.psci_headline.proofs.Words.{IsLegalPast, last_start, legal, List, listed, MessageValue}
+use Rattle.psci_headline.proofs.Words.{nat_tests, None, Option, option_map, outcome_in, Record}
+use Rattle.psci_headline.proofs.Words.{refl, Regs, request_of, Said, sent_in, Some, Start, subst}
+use Rattle.psci_headline.proofs.Words.{Taken, took, true, ℕ}
 use Rattle.psci_fw_laws.specs.psci_fw_spec.Answer.{answer}
-use Rattle.psci_fw_laws.specs.psci_fw_spec.Exchange as firmware
-use Rattle.psci_fw_laws.specs.psci_fw_spec.Said as says
 use Rattle.psci_fw_laws.specs.psci_fw_spec.Sent.{sent_messages}
-use Rattle.psci_world_spec.specs.declared.said.Said.TheVariants as said
 use Rattle.psci_world_spec.specs.Histories.{firmware_history, sent}
-use Rattle.psci_world_spec.proofs.Answered.{firmware_legal}
 use Rattle.psci_headline.proofs.Happening.{happens, is_quiet, sends_nothing}
 use Rattle.psci_headline.proofs.Outcomes.{call_sends, enter_sends}
+use Rattle.psci_fw_laws.specs.psci_fw_spec.Exchange as firmware
+use Rattle.psci_fw_laws.specs.psci_fw_spec.Said as says
+use Rattle.psci_world_spec.specs.declared.said.Said.TheVariants as said
 
 -- Records --------------------------------------------------------------------------------------
 

@@ -1,32 +1,30 @@
 -- What is so after a message of this life was delivered and its acknowledgement taken.
-use Rattle.std.proofs.Common.{arith, ◌≡◌, ℕ, ◌+◌, ◌==◌, cond, List, ◌∷◌, ◌++◌, length, Some}
-use Rattle.std.proofs.Common.{unwrap_or, refl, ap, ◌∙◌}
-use Rattle.std.proofs.lemmas.Bool.Decides.{nat_tests}
-use Rattle.std.proofs.lemmas.Bool.{eq-eqb}
-use Rattle.psci_headline.proofs.Words.{BoardValue, message_effect, ack_by, AckValue, MessageValue}
-use Rattle.psci_headline.proofs.Words.{Used, with_acknowledgement, Values, Deliver, Take, Record}
-use Rattle.psci_headline.proofs.Words.{Acked, ack_in, control, controller_values, delivered}
-use Rattle.psci_headline.proofs.Words.{firmware_values, sent_in, IsLegalPast, take, indexed}
-use Rattle.psci_headline.proofs.Words.{place_of_effect, listed, serving, step, taken_by}
-use Rattle.psci_headline.proofs.Words.{legal_record, place_controlled}
+use Rattle.psci_headline.proofs.Words.{◌++◌, ◌+◌, ◌==◌, ◌∙◌, ◌∷◌, ◌≡◌, ack_by, ack_in, Acked}
+use Rattle.psci_headline.proofs.Words.{AckValue, ap, arith, BoardValue, cond, control}
+use Rattle.psci_headline.proofs.Words.{controller_values, Deliver, delivered, eq-eqb}
+use Rattle.psci_headline.proofs.Words.{firmware_values, indexed, IsLegalPast, legal_record, length}
+use Rattle.psci_headline.proofs.Words.{List, listed, message_effect, MessageValue, nat_tests}
+use Rattle.psci_headline.proofs.Words.{place_controlled, place_of_effect, Record, refl, sent_in}
+use Rattle.psci_headline.proofs.Words.{serving, Some, step, Take, taken_by, unwrap_or, Used, Values}
+use Rattle.psci_headline.proofs.Words.{values_more, with_acknowledgement, ℕ}
+use Rattle.psci_world_spec.specs.Legal.{take}
 use Rattle.psci_ctl_spec.specs.Changes.{after}
-use Rattle.psci_ctl_spec.specs.Changes as controlling
 use Rattle.psci_ctl_spec.specs.Effects.{effect_of}
-use Rattle.psci_ctl_spec.specs.Exchange as controller
-use Rattle.psci_ctl_spec.specs.History as controls
 use Rattle.psci_ctl_spec.specs.Replies.{delivery_of, reply}
-use Rattle.psci_ctl_spec.specs.Values as controlled
 use Rattle.psci_headline.specs.psci_fw_spec.Answer.{answer}
 use Rattle.psci_headline.specs.psci_world_spec.declared.said.Said.TheVariants.{Taken as Took}
 use Rattle.psci_headline.specs.psci_world_spec.Histories.{acks, controller_history}
 use Rattle.psci_headline.specs.psci_world_spec.Histories.{firmware_history, sent}
 use Rattle.psci_headline.specs.psci_world_spec.Legal.{legal}
 use Rattle.psci_headline.specs.psci_world_spec.Places.{place}
-use Rattle.psci_ctl_spec.proofs.OneMore.{values_more}
-use Rattle.psci_headline.specs.Drained as drained
 use Rattle.psci_headline.proofs.Agreed.{RunLaws}
 use Rattle.psci_headline.proofs.Counting.{AreAdded, delivered_more, one_added}
 use Rattle.psci_headline.proofs.Finding.{numbered_new}
+use Rattle.psci_ctl_spec.specs.Changes as controlling
+use Rattle.psci_ctl_spec.specs.Exchange as controller
+use Rattle.psci_ctl_spec.specs.History as controls
+use Rattle.psci_ctl_spec.specs.Values as controlled
+use Rattle.psci_headline.specs.Drained as drained
 
 -- A delivery -----------------------------------------------------------------------------------
 

@@ -1,9 +1,9 @@
 -- Unless the world halts it settles.
-use Rattle.std.proofs.Common.{◌≡◌, ℕ, ◌+◌, false, List, ◌++◌, arith, subst, ap, sym, ◌∙◌}
 use Rattle.std.proofs.lemmas.List.Sums.{AllPass-from_list_all}
-use Rattle.psci_headline.proofs.Words.{BoardValue, Record, sent, IsLegalPast, indexed, AreAtRest}
-use Rattle.psci_headline.proofs.Words.{deliveries, is_halting, settled, is_settling, Reached}
-use Rattle.psci_headline.specs.Drained.{IsSettled}
+use Rattle.psci_headline.proofs.Words.{◌++◌, ◌+◌, ◌∙◌, ◌≡◌, ap, AreAtRest, arith, BoardValue}
+use Rattle.psci_headline.proofs.Words.{deliveries, false, indexed, is_halting, is_settling}
+use Rattle.psci_headline.proofs.Words.{IsLegalPast, IsSettled, List, Reached, Record, sent, settled}
+use Rattle.psci_headline.proofs.Words.{subst, sym, ℕ}
 use Rattle.psci_headline.proofs.Bound.{HasRest, IsOften}
 use Rattle.psci_headline.proofs.Counting.{deliveries_more}
 use Rattle.psci_headline.proofs.Going.{IsGoing}

@@ -1,11 +1,10 @@
 -- Cores that were powered down, and have not gone on since.
-use Rattle.std.proofs.Common.{arith, ◌≡◌, ℕ, ◌<◌, true, List, [], ◌∷◌, Some}
-use Rattle.std.proofs.lemmas.Bool.Decides.{nat_tests}
-use Rattle.std.proofs.lemmas.Bool.{and_from, and_parts, eq-eqb, eqb-true, false_from_ne_true}
-use Rattle.std.proofs.lemmas.Bool.{lt-ltb, ltb-true, not_from_false, or_left, or_right}
-use Rattle.psci_headline.proofs.Words.{BoardValue, Status, Off, Record, controller_values}
-use Rattle.psci_headline.proofs.Words.{firmware_values, depth_at, enters_or_resumes}
-use Rattle.psci_headline.proofs.Words.{is_reported_off}
+use Rattle.psci_headline.proofs.Words.{◌<◌, ◌∷◌, ◌≡◌, [], and_from, and_parts, arith, BoardValue}
+use Rattle.psci_headline.proofs.Words.{controller_values, depth_at, enters_or_resumes, eq-eqb}
+use Rattle.psci_headline.proofs.Words.{eqb-true, false_from_ne_true, firmware_values}
+use Rattle.psci_headline.proofs.Words.{is_reported_off, List, lt-ltb, ltb-true, nat_tests}
+use Rattle.psci_headline.proofs.Words.{not_from_false, Off, or_left, or_right, Record, Some, Status}
+use Rattle.psci_headline.proofs.Words.{true, ℕ}
 use Rattle.psci_fw_laws.specs.psci_fw_spec.SystemCalls.{is_off_status}
 use Rattle.psci_headline.specs.Moments.{was_powered_down, is_powered_down}
 

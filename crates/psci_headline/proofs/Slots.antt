@@ -1,9 +1,8 @@
 -- What a change leaves in the slot of a core.
-use Rattle.std.proofs.Common.{arith, false, true, ◌≡◌, ℕ, ◌==◌, Option, None, Some, ap, sym, ◌∙◌}
-use Rattle.std.proofs.lemmas.Bool.Decides.{nat_tests}
-use Rattle.std.proofs.lemmas.Bool.{cond-true, cond-false, eq-eqb, ne_eqb}
-use Rattle.psci_headline.proofs.Words.{is_system, Core, Kind, MessageValue, Clear, OfCore, OfSystem}
-use Rattle.psci_headline.proofs.Words.{Put, Slot, changed, slot_of}
+use Rattle.psci_headline.proofs.Words.{◌==◌, ◌∙◌, ◌≡◌, ap, arith, changed, Clear, cond-false}
+use Rattle.psci_headline.proofs.Words.{cond-true, Core, eq-eqb, false, is_system, Kind}
+use Rattle.psci_headline.proofs.Words.{MessageValue, nat_tests, ne_eqb, None, OfCore, OfSystem}
+use Rattle.psci_headline.proofs.Words.{Option, Put, Slot, slot_of, Some, sym, true, ℕ}
 use Rattle.psci_ctl_spec.specs.psci_messages.declared.kind.Kind.TheVariants as kinds
 
 -- the slot of a message that is sent has it

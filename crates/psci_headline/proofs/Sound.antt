@@ -1,12 +1,12 @@
 -- What the live claims say makes a run safe: no core below a sleeping domain, and no domain deeper
 -- than asked.
-use Rattle.std.proofs.Common.{◌≡◌, ℕ, ◌<◌, true, List, Option, None, Some, refl, arith, ap, sym}
-use Rattle.std.proofs.Common.{◌∙◌}
 use Rattle.std.specs.Prelude.{IsSome}
-use Rattle.std.proofs.lemmas.Bool.{and_from, eq-eqb, false≢true}
-use Rattle.psci_headline.proofs.Words.{BoardValue, HasNode, cores, up, PathLaws, Node, Stopped}
-use Rattle.psci_headline.proofs.Words.{Record, controller_values, place, live_claims, depth_at}
-use Rattle.psci_headline.proofs.Words.{executes, NoDeeperThanAsked, NoneBelowSleeping, NoneExecutes}
+use Rattle.psci_headline.proofs.Words.{◌<◌, ◌∙◌, ◌≡◌, and_from, ap, arith, BoardValue}
+use Rattle.psci_headline.proofs.Words.{controller_values, cores, depth_at, eq-eqb, executes}
+use Rattle.psci_headline.proofs.Words.{false≢true, HasNode, List, live_claims, Node}
+use Rattle.psci_headline.proofs.Words.{NoDeeperThanAsked, None, NoneBelowSleeping, NoneExecutes}
+use Rattle.psci_headline.proofs.Words.{Option, PathLaws, place, Record, refl, Some, Stopped, sym}
+use Rattle.psci_headline.proofs.Words.{true, up, ℕ}
 use Rattle.psci_headline.specs.Live.{AreAsked, AreClaimed}
 use Rattle.psci_headline.proofs.LiveOnes.{is_live_one}
 use Rattle.psci_headline.proofs.Picked.{any_passes}

@@ -1,15 +1,14 @@
 -- A domain that is not fully on is as deep as a live claim on it.
-use Rattle.std.proofs.Common.{◌≡◌, ℕ, ◌⊎◌, inl, inr, ◌<◌, List, Some, refl, sym, ◌∙◌}
-use Rattle.std.proofs.lemmas.Bool.{and_from, le-leb, lt-ltb}
-use Rattle.psci_headline.proofs.Words.{BoardValue, HasNode, Node, is_on_path, Record}
-use Rattle.psci_headline.proofs.Words.{controller_history, controller_values, IsReplied, IsApplied}
-use Rattle.psci_headline.proofs.Words.{IsFirst, IsFromStart}
-use Rattle.psci_ctl_spec.specs.History as controls
+use Rattle.psci_headline.proofs.Words.{◌<◌, ◌∙◌, ◌≡◌, ◌⊎◌, and_from, BoardValue, controller_history}
+use Rattle.psci_headline.proofs.Words.{controller_values, HasNode, inl, inr, is_on_path, IsApplied}
+use Rattle.psci_headline.proofs.Words.{IsFirst, IsFromStart, IsReplied, le-leb, List, lt-ltb, Node}
+use Rattle.psci_headline.proofs.Words.{Record, refl, Some, sym, ℕ}
 use Rattle.psci_headline.proofs.Claiming.{off_path}
 use Rattle.psci_headline.proofs.Deep.{first_off}
 use Rattle.psci_headline.proofs.AppliedParts.{was_sent}
 use Rattle.psci_headline.proofs.Standing.{HasLive}
 use Rattle.psci_headline.proofs.Starting.{same_sum}
+use Rattle.psci_ctl_spec.specs.History as controls
 
 from_applied : (b : BoardValue) (past : List Record) (life level place : ℕ)
     → IsReplied b (controller_history b past) → (controller_values b past).life ≡ Some life

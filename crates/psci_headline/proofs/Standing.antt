@@ -1,15 +1,14 @@
 -- What is known of every legal past, and what follows where no core is started.
-use Rattle.std.proofs.Common.{◌≡◌, ℕ, inl, inr, ◌+◌, ◌<◌, List, Some, arith, ap, sym, ◌∙◌}
-use Rattle.std.proofs.lemmas.Bool.{cases_eq}
-use Rattle.psci_headline.proofs.Words.{BoardValue, HasNode, cores, height, up, ChildLaws, Part}
-use Rattle.psci_headline.proofs.Words.{MessageValue, in_life, Values, IsClaimOn, IsCurrent}
-use Rattle.psci_headline.proofs.Words.{HasDeeper, NonePending, known_below, Started, Record}
-use Rattle.psci_headline.proofs.Words.{controller_values, firmware_values, sent, IsLegalPast, place}
-use Rattle.psci_headline.proofs.Words.{NoneRefused, Waiting}
-use Rattle.psci_ctl_spec.specs.Follows as controlling
+use Rattle.psci_headline.proofs.Words.{◌+◌, ◌<◌, ◌∙◌, ◌≡◌, ap, arith, BoardValue, cases_eq}
+use Rattle.psci_headline.proofs.Words.{ChildLaws, controller_values, cores, firmware_values}
+use Rattle.psci_headline.proofs.Words.{HasDeeper, HasNode, height, in_life, inl, inr, IsClaimOn}
+use Rattle.psci_headline.proofs.Words.{IsCurrent, IsLegalPast, known_below, List, MessageValue}
+use Rattle.psci_headline.proofs.Words.{NonePending, NoneRefused, Part, place, Record, sent, Some}
+use Rattle.psci_headline.proofs.Words.{Started, sym, up, Values, Waiting, ℕ}
 use Rattle.psci_headline.proofs.Agreed.{RunLaws}
 use Rattle.psci_headline.proofs.Agreeing.{found_other, found_own}
 use Rattle.psci_headline.proofs.Carried.{IsGiven}
+use Rattle.psci_ctl_spec.specs.Follows as controlling
 
 -- A live claim of the domain's depth.
 pub record HasLive (b : BoardValue) (past : List Record) (life level place : ℕ) : Type 0 where

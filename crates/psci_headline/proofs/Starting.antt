@@ -1,12 +1,10 @@
 -- What waits, after a core was started.
-use Rattle.std.proofs.Common.{◌≡◌, ℕ, inl, inr, ◌+◌, ◌≤◌, Bool, false, ◌==◌, cond, List, Option}
-use Rattle.std.proofs.Common.{Some, refl, arith, sym, ◌∙◌}
-use Rattle.std.proofs.lemmas.Bool.Decides.{nat_tests}
-use Rattle.std.specs.Prelude.{slice_get}
-use Rattle.std.proofs.lemmas.Bool.{cases_Bool, cases_eq, cond-true, cond-false, eq-eqb, ne_eqb}
-use Rattle.psci_headline.proofs.Words.{BoardValue, height, up, Node, Part, one_more, is_on_path}
-use Rattle.psci_headline.proofs.Words.{AckValue, MessageValue, Slot, Phase, AreWaiting, IsLivePart}
-use Rattle.psci_headline.proofs.Words.{IsTold, known_on}
+use Rattle.psci_headline.proofs.Words.{◌+◌, ◌==◌, ◌∙◌, ◌≡◌, ◌≤◌, AckValue, AreWaiting, arith}
+use Rattle.psci_headline.proofs.Words.{BoardValue, Bool, cases_Bool, cases_eq, cond, cond-false}
+use Rattle.psci_headline.proofs.Words.{cond-true, eq-eqb, false, height, inl, inr, is_on_path}
+use Rattle.psci_headline.proofs.Words.{IsLivePart, IsTold, known_on, List, MessageValue, nat_tests}
+use Rattle.psci_headline.proofs.Words.{ne_eqb, Node, one_more, Option, Part, Phase, refl, slice_get}
+use Rattle.psci_headline.proofs.Words.{Slot, Some, sym, up, ℕ}
 use Rattle.psci_ctl_spec.specs.Changes.{with_path_on}
 use Rattle.psci_ctl_spec.specs.Values.{starts_below}
 use Rattle.psci_headline.specs.psci_fw_laws.KnownBelow.{known_below}

@@ -1,16 +1,12 @@
 -- What is so once each Start that was outstanding was served.
-use Rattle.std.proofs.Common.{◌≡◌, ℕ, ◌⊎◌, inl, inr, ◌+◌, ◌<◌, true, false, ◌==◌, cond, List, None}
-use Rattle.std.proofs.Common.{Some, arith, ap, sym, ◌∙◌}
-use Rattle.std.proofs.lemmas.Bool.Decides.{nat_tests}
-use Rattle.std.proofs.lemmas.Bool.{cases_Bool, cond-true, cond-false, eqb-true, or_left, or_right}
-use Rattle.std.proofs.lemmas.Option.{none-some, same_Some}
-use Rattle.psci_headline.proofs.Words.{BoardValue, cores, message_effect, Kind, AckValue}
-use Rattle.psci_headline.proofs.Words.{MessageValue, OfCore, is_done, Values, AreOutstanding, Enter}
-use Rattle.psci_headline.proofs.Words.{Record, controller_values, firmware_values, sent, indexed}
-use Rattle.psci_headline.proofs.Words.{deliveries, served, serving, step, each_core, entering}
-use Rattle.psci_ctl_spec.specs.Changes as controlling
-use Rattle.psci_ctl_spec.specs.Values as controlled
-use Rattle.psci_ctl_spec.specs.psci_messages.declared.kind.Kind.TheVariants as kinds
+use Rattle.psci_headline.proofs.Words.{◌+◌, ◌<◌, ◌==◌, ◌∙◌, ◌≡◌, ◌⊎◌, AckValue, ap, AreOutstanding}
+use Rattle.psci_headline.proofs.Words.{arith, BoardValue, cases_Bool, cond, cond-false, cond-true}
+use Rattle.psci_headline.proofs.Words.{controller_values, cores, deliveries, each_core, Enter}
+use Rattle.psci_headline.proofs.Words.{entering, eqb-true, false, firmware_values, indexed, inl}
+use Rattle.psci_headline.proofs.Words.{inr, is_done, Kind, List, message_effect, MessageValue}
+use Rattle.psci_headline.proofs.Words.{nat_tests, None, none-some, OfCore, or_left, or_right}
+use Rattle.psci_headline.proofs.Words.{Record, same_Some, sent, served, serving, Some, step, sym}
+use Rattle.psci_headline.proofs.Words.{true, Values, ℕ}
 use Rattle.psci_headline.specs.Settling.{all_cores, begun, is_start}
 use Rattle.psci_headline.proofs.Agreeing.{found_own}
 use Rattle.psci_headline.proofs.Serving.{ack_to}
@@ -21,6 +17,9 @@ use Rattle.psci_headline.proofs.Finding.{HasNumber}
 use Rattle.psci_headline.proofs.Folding.{IsStep, each_done}
 use Rattle.psci_headline.proofs.Standing.{IsPast, SettleLaws, settled_life}
 use Rattle.psci_headline.proofs.Taking.{same_kind}
+use Rattle.psci_ctl_spec.specs.Changes as controlling
+use Rattle.psci_ctl_spec.specs.Values as controlled
+use Rattle.psci_ctl_spec.specs.psci_messages.declared.kind.Kind.TheVariants as kinds
 
 -- A Start is served --------------------------------------------------------------------------
 

@@ -1,9 +1,8 @@
 -- Domains that were in a state at some moment.
-use Rattle.std.proofs.Common.{arith, ◌≡◌, ℕ, true, List, [], ◌∷◌, ◌++◌, Some}
-use Rattle.std.proofs.lemmas.Bool.Decides.{nat_tests}
-use Rattle.std.proofs.lemmas.Bool.{and_from, eq-eqb, or_left, or_right}
-use Rattle.psci_headline.proofs.Words.{BoardValue, Node, starts_below, hw_at, Record}
-use Rattle.psci_headline.proofs.Words.{controller_values, Hw, is_in_state}
+use Rattle.psci_headline.proofs.Words.{◌++◌, ◌∷◌, ◌≡◌, [], and_from, arith, BoardValue}
+use Rattle.psci_headline.proofs.Words.{controller_values, eq-eqb, Hw, hw_at, is_in_state, List}
+use Rattle.psci_headline.proofs.Words.{nat_tests, Node, or_left, or_right, Record, Some}
+use Rattle.psci_headline.proofs.Words.{starts_below, true, ℕ}
 use Rattle.psci_headline.specs.Hardware.{was_in_state}
 
 -- a domain that is so deep now, after so many starts below, in this life

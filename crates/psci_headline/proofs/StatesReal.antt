@@ -1,14 +1,13 @@
 -- The hardware states that are said of domains were real, after every legal past.
-use Rattle.std.proofs.Common.{◌≡◌, ℕ, ◌<◌, inl, inr, Bool, true, false, not, ◌==◌, cond, List, []}
-use Rattle.std.proofs.Common.{◌∷◌, Some, refl, subst, ap, sym, ◌∙◌, arith}
-use Rattle.std.proofs.lemmas.Bool.Decides.{nat_tests}
-use Rattle.std.specs.Prelude.{nat_lt, slice_get}
-use Rattle.std.proofs.lemmas.Bool.{and_parts, and_right, ltb-true, ne_eqb}
-use Rattle.psci_headline.proofs.Words.{BoardValue, HasNode, up, PathLaws, Node, first_depth}
-use Rattle.psci_headline.proofs.Words.{first_starts, On, AreValues, hw_at, hw_code, node_hw, Values}
-use Rattle.psci_headline.proofs.Words.{AckValue, IsAllowed, KnownLaws, WasMade, Record, acks}
-use Rattle.psci_headline.proofs.Words.{controller_values, firmware_values, IsLegalPast}
-use Rattle.psci_headline.proofs.Words.{was_in_state, StatesWereReal, said_hw}
+use Rattle.psci_headline.proofs.Words.{◌<◌, ◌==◌, ◌∙◌, ◌∷◌, ◌≡◌, [], acks, AckValue, and_parts}
+use Rattle.psci_headline.proofs.Words.{and_right, ap, AreValues, arith, BoardValue, Bool, cond}
+use Rattle.psci_headline.proofs.Words.{controller_values, false, firmware_values, first_depth}
+use Rattle.psci_headline.proofs.Words.{first_starts, HasNode, hw_at, inl, inr, IsAllowed}
+use Rattle.psci_headline.proofs.Words.{IsLegalPast, KnownLaws, List, ltb-true, nat_lt, nat_tests}
+use Rattle.psci_headline.proofs.Words.{ne_eqb, Node, node_hw, not, On, PathLaws, Record, refl}
+use Rattle.psci_headline.proofs.Words.{said_hw, slice_get, Some, StatesWereReal, subst, sym, true}
+use Rattle.psci_headline.proofs.Words.{up, Values, was_in_state, WasMade, ℕ}
+use Rattle.psci_fw_laws.specs.psci_fw_spec.NodeHwState.{hw_code}
 use Rattle.psci_ctl_spec.specs.Values.{starts_below}
 use Rattle.psci_fw_laws.specs.KnownBelow.{known_below}
 use Rattle.psci_headline.proofs.Acknowledged.{IsTaken, carried_out}

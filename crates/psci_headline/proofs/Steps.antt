@@ -1,18 +1,13 @@
 -- What is told, after one call of the firmware or of the power controller.
-use Rattle.std.proofs.Common.{◌≡◌, ℕ, inl, inr, ◌+◌, ◌≤◌, Bool, true, false, ◌==◌, cond, List}
-use Rattle.std.proofs.Common.{Option, Some, refl, arith, subst, sym, ◌∙◌}
-use Rattle.std.proofs.lemmas.Bool.Decides.{nat_tests}
-use Rattle.std.specs.Prelude.{slice_get}
-use Rattle.std.proofs.lemmas.Bool.{cases_eq, cond_both}
-use Rattle.psci_headline.proofs.Words.{BoardValue, PathLaws, next_life, one_more, Start, AckValue}
-use Rattle.psci_headline.proofs.Words.{MessageValue, change, with_mode, with_pending, Effect}
-use Rattle.psci_headline.proofs.Words.{GoesOn, SetsMode, AsksOn, Rests, Halts, Stops, Enters, Parks}
-use Rattle.psci_headline.proofs.Words.{StopsAtOnce, Acknowledges, in_life, start_of_life, Values}
-use Rattle.psci_headline.proofs.Words.{IsAllowed, Holds, KnownLaws, WasTold, AreConfirming}
+use Rattle.psci_headline.proofs.Words.{◌+◌, ◌==◌, ◌∙◌, ◌≡◌, ◌≤◌, Acknowledges, AckValue}
+use Rattle.psci_headline.proofs.Words.{AreConfirming, arith, AsksOn, BoardValue, Bool, cases_eq}
+use Rattle.psci_headline.proofs.Words.{change, cond, cond_both, Effect, Enters, false, GoesOn}
+use Rattle.psci_headline.proofs.Words.{Halts, Holds, in_life, inl, inr, IsAllowed, KnownLaws, List}
+use Rattle.psci_headline.proofs.Words.{MessageValue, nat_tests, next_life, one_more, Option, Parks}
+use Rattle.psci_headline.proofs.Words.{PathLaws, refl, Rests, SetsMode, slice_get, Some, Start}
+use Rattle.psci_headline.proofs.Words.{start_of_life, Stops, StopsAtOnce, subst, sym, true, Values}
+use Rattle.psci_headline.proofs.Words.{WasTold, with_mode, with_pending, ℕ}
 use Rattle.psci_headline.specs.psci_fw_spec.Effects.{Nothing}
-use Rattle.psci_headline.specs.psci_ctl_spec.Changes as controlling
-use Rattle.psci_headline.specs.psci_ctl_spec.Effects as controlling_effects
-use Rattle.psci_headline.specs.psci_ctl_spec.Values as controlled
 use Rattle.psci_headline.proofs.fw_laws.Arriving.{found_life}
 use Rattle.psci_headline.proofs.Agreeing.{found_other, found_own}
 use Rattle.psci_headline.proofs.Records.{IsOfRecord}
@@ -20,6 +15,9 @@ use Rattle.psci_headline.proofs.Answered.{answered}
 use Rattle.psci_headline.proofs.Beside.{pends}
 use Rattle.psci_headline.proofs.Coming.{yet_later}
 use Rattle.psci_headline.proofs.Effects.{enters, goes_on, halts, parks, rests, stops, stops_at_once}
+use Rattle.psci_headline.specs.psci_ctl_spec.Changes as controlling
+use Rattle.psci_headline.specs.psci_ctl_spec.Effects as controlling_effects
+use Rattle.psci_headline.specs.psci_ctl_spec.Values as controlled
 
 -- What is told in this life, where there is one.
 abbrev pub ConfirmingNow : BoardValue → controlled.Values → Values → Type 0

@@ -1,14 +1,11 @@
 -- What waits, after an acknowledgement was taken.
-use Rattle.std.proofs.Common.{◌≤◌, ◌≡◌, ℕ, ◌⊎◌, inl, inr, Bool, true, List, Option, None, Some}
-use Rattle.std.proofs.Common.{arith, subst, ap, sym, ◌∙◌}
-use Rattle.std.proofs.lemmas.Bool.Decides.{nat_tests}
-use Rattle.std.specs.Prelude.{slice_get}
-use Rattle.std.proofs.lemmas.Bool.{and_parts, cases_lt, eqb-true, leb-true, or_cases}
-use Rattle.std.proofs.lemmas.Option.{same_Some, slice_get_within}
-use Rattle.psci_headline.proofs.Words.{BoardValue, Part, Kind, Down, AckValue, MessageValue}
-use Rattle.psci_headline.proofs.Words.{Acknowledge, OfCore, Slot, answers, changed, is_done}
-use Rattle.psci_headline.proofs.Words.{is_kind, Phase, AreOutstanding, AreWaiting, IsLivePart}
-use Rattle.psci_headline.proofs.Words.{IsTold, WasTold, AwaitsStart}
+use Rattle.psci_headline.proofs.Words.{◌∙◌, ◌≡◌, ◌≤◌, ◌⊎◌, Acknowledge, AckValue, and_parts}
+use Rattle.psci_headline.proofs.Words.{answers, ap, AreOutstanding, AreWaiting, arith, AwaitsStart}
+use Rattle.psci_headline.proofs.Words.{BoardValue, Bool, cases_lt, changed, Down, eqb-true, inl}
+use Rattle.psci_headline.proofs.Words.{inr, is_done, is_kind, IsLivePart, IsTold, Kind, leb-true}
+use Rattle.psci_headline.proofs.Words.{List, MessageValue, nat_tests, None, OfCore, Option}
+use Rattle.psci_headline.proofs.Words.{or_cases, Part, Phase, same_Some, slice_get}
+use Rattle.psci_headline.proofs.Words.{slice_get_within, Slot, Some, subst, sym, true, WasTold, ℕ}
 use Rattle.psci_headline.proofs.Pursuing.{waiting_moved}
 
 -- Names ----------------------------------------------------------------------------------------

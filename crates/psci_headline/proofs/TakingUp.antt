@@ -1,9 +1,7 @@
 -- An entry takes up the opening that waits for its core.
-use Rattle.std.proofs.Common.{arith, ◌≡◌, ℕ, zero, suc, ◌<◌, List, ◌∷◌, Option, None, Some, refl}
-use Rattle.std.proofs.Common.{ap, sym, ◌∙◌, subst}
-use Rattle.std.proofs.lemmas.Bool.Decides.{nat_tests}
-use Rattle.std.specs.Prelude.{slice_get}
-use Rattle.psci_headline.proofs.Words.{Opening, updated, Fits, Made, TakenUp, EnteredAt, newest}
+use Rattle.psci_headline.proofs.Words.{◌<◌, ◌∙◌, ◌∷◌, ◌≡◌, ap, arith, EnteredAt, Fits, List, Made}
+use Rattle.psci_headline.proofs.Words.{nat_tests, newest, None, Opening, Option, refl, slice_get}
+use Rattle.psci_headline.proofs.Words.{Some, subst, suc, sym, TakenUp, updated, zero, ℕ}
 use Rattle.psci_headline.proofs.Waiting.{AreWaiting, IsBefore, IsFresh, IsWaiting, newest_is}
 use Rattle.psci_headline.proofs.Waiting.{none_left}
 

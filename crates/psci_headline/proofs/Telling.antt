@@ -1,15 +1,12 @@
 -- What a new acknowledgement says, once its message was carried out.
-use Rattle.std.proofs.Common.{◌≡◌, ℕ, zero, suc, ◌+◌, ◌-◌, ◌<◌, ◌≤◌, Bool, true, List, [], ◌∷◌}
-use Rattle.std.proofs.Common.{length, take, Some, refl, arith, subst, ap, sym, ◌∙◌}
-use Rattle.std.proofs.lemmas.Bool.Decides.{nat_tests}
-use Rattle.std.specs.Prelude.{slice_get}
-use Rattle.std.proofs.lemmas.Bool.{and_from, cond-true, eq-eqb, le-leb}
-use Rattle.std.proofs.lemmas.Option.{same_Some, slice_get_within}
-use Rattle.psci_headline.proofs.Words.{ArePartsOf, BoardValue, height, Part, domain_of, AckLaws}
-use Rattle.psci_headline.proofs.Words.{applied, is_stale, laid, ack_of, starts_below, Kind, Down}
-use Rattle.psci_headline.proofs.Words.{MessageValue, answers, is_kind, IsLivePart, IsTold}
+use Rattle.psci_headline.proofs.Words.{◌+◌, ◌-◌, ◌<◌, ◌∙◌, ◌∷◌, ◌≡◌, ◌≤◌, [], ack_of, AckLaws}
+use Rattle.psci_headline.proofs.Words.{and_from, answers, ap, applied, ArePartsOf, arith}
+use Rattle.psci_headline.proofs.Words.{BoardValue, Bool, cond-true, domain_of, Down, eq-eqb}
+use Rattle.psci_headline.proofs.Words.{get_take, height, is_kind, is_stale, IsLivePart, IsTold}
+use Rattle.psci_headline.proofs.Words.{Kind, laid, le-leb, length, List, MessageValue, nat_tests}
+use Rattle.psci_headline.proofs.Words.{Part, refl, same_Some, slice_get, slice_get_within, Some}
+use Rattle.psci_headline.proofs.Words.{starts_below, subst, suc, sym, take, true, zero, ℕ}
 use Rattle.psci_ctl_spec.specs.Values.{Values}
-use Rattle.psci_ctl_spec.proofs.Front.{get_take}
 use Rattle.psci_ctl_spec.specs.psci_messages.declared.kind.Kind.TheVariants.{Start}
 use Rattle.psci_headline.proofs.Starting.{same_sum}
 

@@ -1,20 +1,18 @@
 -- Power and claims at a moment are as they shall be where the tests say so.
-use Rattle.std.proofs.Common.{◌≡◌, ◌+◌, ◌≤◌, ◌<◌, ◌==◌, ◌||◌, ◌&&◌, ◌↔◌, ℕ, Bool, true, not, List}
-use Rattle.std.proofs.Common.{arith, length, is_some}
-use Rattle.std.proofs.lemmas.Bool.Decides.{nat_tests}
-use Rattle.std.specs.List.{list_all, range_with_len}
-use Rattle.std.proofs.lemmas.Bool.{and_from, and_parts, cases_eq, eq-eqb, eqb-true, le-leb}
-use Rattle.std.proofs.lemmas.Bool.{leb-true, or_cases, or_left, or_right}
-use Rattle.psci_headline.proofs.Words.{BoardValue, HasNode, cores, height, nodes, up, Node, Place}
-use Rattle.psci_headline.proofs.Words.{Started, Running, Record, controller_values, place}
-use Rattle.psci_headline.proofs.Words.{live_claims, depth_at, executes, is_reported_off, OffIsDown}
-use Rattle.psci_headline.proofs.Words.{StatesWereReal, NoDeeperThanAsked, NoneBelowSleeping}
-use Rattle.psci_headline.proofs.Words.{is_asked, is_off_down, is_off_stopped, is_one, is_powered}
-use Rattle.psci_headline.proofs.Words.{executes_outside}
+use Rattle.psci_headline.proofs.Words.{◌&&◌, ◌+◌, ◌<◌, ◌==◌, ◌||◌, ◌↔◌, ◌≡◌, ◌≤◌, and_from}
+use Rattle.psci_headline.proofs.Words.{and_parts, arith, BoardValue, Bool, cases_eq}
+use Rattle.psci_headline.proofs.Words.{controller_values, cores, depth_at, eq-eqb, eqb-true}
+use Rattle.psci_headline.proofs.Words.{executes, executes_outside, HasNode, height, is_asked}
+use Rattle.psci_headline.proofs.Words.{is_each_real, is_off_down, is_off_stopped, is_one}
+use Rattle.psci_headline.proofs.Words.{is_powered, is_reported_off, is_some, le-leb, leb-true}
+use Rattle.psci_headline.proofs.Words.{length, List, list_all, live_claims, nat_tests, Node}
+use Rattle.psci_headline.proofs.Words.{NoDeeperThanAsked, nodes, NoneBelowSleeping, not, OffIsDown}
+use Rattle.psci_headline.proofs.Words.{or_cases, or_left, or_right, Place, place, range_with_len}
+use Rattle.psci_headline.proofs.Words.{Record, Running, Started, StatesWereReal, true, up, ℕ}
 use Rattle.psci_headline.specs.Hardware.{is_said_asleep}
 use Rattle.psci_headline.specs.Safe.{OneLiveClaim}
 use Rattle.psci_headline.specs.Test.{at_each_core, at_each_domain, at_each_level, has_one}
-use Rattle.psci_headline.specs.Test.{is_each_real, was_asked, was_real}
+use Rattle.psci_headline.specs.Test.{was_asked, was_real}
 use Rattle.psci_headline.proofs.Ranges.{all_in, each_in, if_holds, where_holds}
 
 -- Everywhere on the board ---------------------------------------------------------------------

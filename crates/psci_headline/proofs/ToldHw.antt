@@ -1,25 +1,23 @@
 -- What NODE_HW_STATE answers with HW_OFF or HW_STANDBY: the domain was so deep at some moment.
-use Rattle.std.proofs.Common.{◌≡◌, ℕ, ◌<◌, ◌≤◌, Bool, true, not, ◌==◌, cond, List, [], ◌∷◌, None}
-use Rattle.std.proofs.Common.{Some, refl, ap, sym, ◌∙◌, subst, arith, pos, inl, inr}
-use Rattle.std.proofs.lemmas.Bool.Decides.{nat_tests}
-use Rattle.std.specs.Prelude.{nat_lt}
-use Rattle.std.specs.Ordering.{int_eq}
-use Rattle.std.proofs.lemmas.Bool.{and_from, and_parts, cases_Bool, lt-ltb, or_left, or_right}
-use Rattle.psci_headline.proofs.Words.{request_of, Code, Request, BoardValue, HasNode, Node}
-use Rattle.psci_headline.proofs.Words.{IsLegal, hw_at, hw_code, node_hw, Values, Event, Call}
-use Rattle.psci_headline.proofs.Words.{Record, Said, Fw, controller_values, firmware_values}
-use Rattle.psci_headline.proofs.Words.{IsLegalPast, StatesWereReal, node_of, Hw, is_in_state}
-use Rattle.psci_headline.proofs.Words.{said_hw}
-use Rattle.psci_world_spec.specs.psci_abi.declared.request.Request.TheVariants as requests
+use Rattle.psci_headline.proofs.Words.{◌<◌, ◌==◌, ◌∙◌, ◌∷◌, ◌≡◌, ◌≤◌, [], and_from, and_parts, ap}
+use Rattle.psci_headline.proofs.Words.{arith, BoardValue, Bool, Call, cases_Bool, Code, cond}
+use Rattle.psci_headline.proofs.Words.{controller_values, Event, firmware_values, Fw, HasNode, Hw}
+use Rattle.psci_headline.proofs.Words.{hw_at, inl, inr, int_eq, is_in_state, IsLegal, IsLegalPast}
+use Rattle.psci_headline.proofs.Words.{List, lt-ltb, nat_lt, nat_tests, Node, node_hw, None, not}
+use Rattle.psci_headline.proofs.Words.{or_left, or_right, pos, Record, refl, Request, request_of}
+use Rattle.psci_headline.proofs.Words.{Said, said_hw, Some, StatesWereReal, subst, sym, true}
+use Rattle.psci_headline.proofs.Words.{Values, ℕ}
+use Rattle.psci_fw_laws.specs.psci_fw_spec.NodeHwState.{hw_code, hw_state_of}
+use Rattle.psci_board.specs.Board.{node_of}
 use Rattle.psci_fw_laws.specs.psci_fw_spec.declared.hw.Hw.TheVariants.{Off, Standby}
-use Rattle.psci_fw_laws.specs.psci_fw_spec.declared.outcome.Act.TheVariants as acts
-use Rattle.psci_fw_laws.specs.psci_fw_spec.NodeHwState.{hw_state_of}
 use Rattle.psci_world_spec.specs.Histories.{firmware_history}
 use Rattle.psci_headline.specs.Hardware.{is_hw, known_starts, was_in_state}
 use Rattle.psci_headline.specs.ToldHw.{WasSoDeep, hw_asked_of, is_off_depth, is_so_deep}
 use Rattle.psci_headline.specs.ToldHw.{is_standby_depth, told_hw, was_so_deep}
 use Rattle.psci_headline.proofs.ToldOff.{named_node, if_so, no_node}
 use Rattle.psci_headline.proofs.Returned.{Extended, IsReturned, returned}
+use Rattle.psci_world_spec.specs.psci_abi.declared.request.Request.TheVariants as requests
+use Rattle.psci_fw_laws.specs.psci_fw_spec.declared.outcome.Act.TheVariants as acts
 
 -- How deep ------------------------------------------------------------------------------------
 

@@ -1,21 +1,16 @@
 -- What AFFINITY_INFO answers with OFF: each core of the domain is reported OFF.
-use Rattle.std.proofs.Common.{◌≡◌, ℕ, zero, suc, ◌+◌, ◌<◌, ◌≤◌, Bool, true, false, ◌==◌, cond, List}
-use Rattle.std.proofs.Common.{◌∷◌, filter, Option, None, Some, refl, ap, sym, ◌∙◌, subst, arith}
-use Rattle.std.proofs.Common.{pos, inl, inr, option_map}
-use Rattle.std.proofs.lemmas.Bool.{cases_Bool, or_parts, and_from, cases_lt, cond-true, eq-eqb}
-use Rattle.std.proofs.lemmas.Bool.{eqb-true, le-leb, leb-true, lt-ltb}
-use Rattle.std.specs.List.{find, list_any, range_with_len}
-use Rattle.std.proofs.lemmas.Bool.Decides.{nat_tests}
-use Rattle.std.specs.Prelude.{nat_le, nat_lt}
-use Rattle.std.specs.Ordering.{int_eq}
-use Rattle.std.proofs.lemmas.Option.{same_Some}
-use Rattle.psci_headline.proofs.Words.{HasNode, request_of, Code, Request, BoardValue, below, cores}
-use Rattle.psci_headline.proofs.Words.{has_node, height, nodes, PathLaws, Node, Status, Off}
-use Rattle.psci_headline.proofs.Words.{IsLegal, Values, Event, Call, Record, Said, Fw}
-use Rattle.psci_headline.proofs.Words.{firmware_values, OffIsDown, AllOff}
-use Rattle.psci_world_spec.specs.psci_abi.declared.request.Request.TheVariants as requests
+use Rattle.std.specs.List.{find}
+use Rattle.psci_headline.proofs.Words.{◌+◌, ◌<◌, ◌==◌, ◌∙◌, ◌∷◌, ◌≡◌, ◌≤◌, AllOff, and_from, ap}
+use Rattle.psci_headline.proofs.Words.{arith, below, BoardValue, Bool, Call, cases_Bool, cases_lt}
+use Rattle.psci_headline.proofs.Words.{Code, cond, cond-true, cores, eq-eqb, eqb-true, Event, false}
+use Rattle.psci_headline.proofs.Words.{filter, firmware_values, Fw, has_node, HasNode, height, inl}
+use Rattle.psci_headline.proofs.Words.{inr, int_eq, IsLegal, le-leb, leb-true, List, list_any}
+use Rattle.psci_headline.proofs.Words.{lt-ltb, nat_le, nat_lt, nat_tests, Node, nodes, None, Off}
+use Rattle.psci_headline.proofs.Words.{OffIsDown, Option, option_map, or_parts, PathLaws, pos}
+use Rattle.psci_headline.proofs.Words.{range_with_len, Record, refl, Request, request_of, Said}
+use Rattle.psci_headline.proofs.Words.{same_Some, Some, Status, subst, suc, sym, true, Values, zero}
+use Rattle.psci_headline.proofs.Words.{ℕ}
 use Rattle.psci_board.specs.Board.{node_of, size_below, up}
-use Rattle.psci_fw_laws.specs.psci_fw_spec.declared.outcome.Act.TheVariants as acts
 use Rattle.psci_fw_laws.specs.psci_fw_spec.declared.status.Status.TheVariants.{On, Pending}
 use Rattle.psci_fw_laws.specs.psci_fw_spec.AffinityInfo.{affinity_of, is_on, is_pending_status}
 use Rattle.psci_fw_laws.specs.psci_fw_spec.AffinityInfo.{node_status, status_code, status_over}
@@ -23,6 +18,8 @@ use Rattle.psci_world_spec.specs.Histories.{firmware_history}
 use Rattle.psci_headline.specs.ToldOff.{asked_of, told_off}
 use Rattle.psci_headline.proofs.Returned.{Extended, IsReturned, returned}
 use Rattle.psci_headline.proofs.Slept.{report}
+use Rattle.psci_world_spec.specs.psci_abi.declared.request.Request.TheVariants as requests
+use Rattle.psci_fw_laws.specs.psci_fw_spec.declared.outcome.Act.TheVariants as acts
 
 -- Lists that no test finds ----------------------------------------------------------------------
 

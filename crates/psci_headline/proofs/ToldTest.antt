@@ -1,12 +1,10 @@
 -- Whether all cores of a domain are off, as a test that computes, and says the same.
-use Rattle.std.proofs.Common.{◌≡◌, ℕ, Bool, true, false, ◌==◌, ◌&&◌, ◌||◌, not, List, ap, sym, ◌∙◌}
-use Rattle.std.proofs.Common.{arith, inl, inr}
-use Rattle.std.proofs.lemmas.Bool.Decides.{nat_tests}
-use Rattle.std.specs.List.{list_all, range_with_len}
-use Rattle.std.proofs.lemmas.Bool.{and_from, and_parts, cases_Bool, eqb-true, eq-eqb, or_cases}
-use Rattle.std.proofs.lemmas.Bool.{or_left, or_right}
-use Rattle.psci_headline.proofs.Words.{BoardValue, cores, up, Node, Record, firmware_values, place}
-use Rattle.psci_headline.proofs.Words.{was_powered_down, executes_outside, AllOff}
+use Rattle.psci_headline.proofs.Words.{◌&&◌, ◌==◌, ◌||◌, ◌∙◌, ◌≡◌, AllOff, and_from, and_parts, ap}
+use Rattle.psci_headline.proofs.Words.{arith, BoardValue, Bool, cases_Bool, cores, eq-eqb, eqb-true}
+use Rattle.psci_headline.proofs.Words.{executes_outside, false, firmware_values, inl, inr, List}
+use Rattle.psci_headline.proofs.Words.{list_all, nat_tests, Node, not, or_cases, or_left, or_right}
+use Rattle.psci_headline.proofs.Words.{place, range_with_len, Record, sym, true, up}
+use Rattle.psci_headline.proofs.Words.{was_powered_down, ℕ}
 use Rattle.psci_headline.proofs.Tested.{not_running, still}
 use Rattle.psci_headline.proofs.Ranges.{all_in, each_in}
 

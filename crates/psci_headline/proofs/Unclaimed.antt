@@ -1,9 +1,7 @@
 -- Cores without a live claim.
-use Rattle.std.proofs.Common.{◌≡◌, ℕ, ◌<◌, List, Some, arith, ap, sym}
-use Rattle.std.proofs.lemmas.Bool.Decides.{nat_tests}
-use Rattle.std.specs.Prelude.{slice_get}
-use Rattle.psci_headline.proofs.Words.{BoardValue, cores, up, Part, Down, MessageValue, Phase}
-use Rattle.psci_headline.proofs.Words.{IsClaimOn, AreLive, IsLivePart}
+use Rattle.psci_headline.proofs.Words.{◌<◌, ◌≡◌, ap, AreLive, arith, BoardValue, cores, Down}
+use Rattle.psci_headline.proofs.Words.{IsClaimOn, IsLivePart, List, MessageValue, nat_tests, Part}
+use Rattle.psci_headline.proofs.Words.{Phase, slice_get, Some, sym, up, ℕ}
 use Rattle.psci_headline.specs.psci_fw_spec.Phases.{Running}
 use Rattle.psci_headline.proofs.fw_laws.Parts.{part_from}
 

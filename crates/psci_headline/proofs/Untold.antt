@@ -1,19 +1,17 @@
 -- Worked examples are stated so: what is not told as it is. Where something is not, `not_told`
 -- excludes that all is told.
 use Rattle.std.specs.Prelude.{◌++◌, ℕ, ◌+◌, Bool, true, false, ◌==◌, List, []}
-use Rattle.std.specs.List.{range_with_len}
+use Rattle.psci_headline.proofs.Words.{hw_code, is_away, is_off_status, range_with_len}
 use Rattle.psci_headline.specs.psci_board.Board.{BoardValue, cores, height, nodes}
-use Rattle.psci_headline.specs.psci_fw_spec.NodeHwState.{hw_at, hw_code, node_hw}
-use Rattle.psci_headline.specs.psci_fw_spec.Phases.{is_away}
-use Rattle.psci_headline.specs.psci_fw_spec.SystemCalls.{is_off_status}
+use Rattle.psci_headline.specs.psci_fw_spec.NodeHwState.{hw_at, node_hw}
 use Rattle.psci_headline.specs.psci_world_spec.declared.event.Event.{Event}
 use Rattle.psci_headline.specs.psci_world_spec.declared.said.Record.{Record}
 use Rattle.psci_headline.specs.psci_world_spec.Histories.{controller_values, firmware_values}
 use Rattle.psci_headline.specs.psci_world_spec.Places.{place}
 use Rattle.psci_headline.specs.Settling.{begun, is_waiting, round, rounds, settled}
-use Rattle.psci_headline.proofs.world_spec.Scripts as scripts
 use Rattle.psci_headline.proofs.Histories.{after, at}
 use Rattle.psci_headline.proofs.Checking.{Steps, each, if_fails, past_from}
+use Rattle.psci_headline.proofs.world_spec.Scripts as scripts
 
 unfoldable pub computing : Unit {0}
 unfolding scripts.computing settled begun round is_waiting rounds

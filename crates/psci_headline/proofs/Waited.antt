@@ -1,9 +1,6 @@
 -- What waits after every legal run.
-use Rattle.std.proofs.Common.{◌≡◌, List, [], ◌∷◌, arith, subst}
-use Rattle.std.proofs.lemmas.Bool.Decides.{nat_tests}
-use Rattle.psci_headline.proofs.Words.{BoardValue, IsLegal, Event, Record, Said, IsLegalPast, legal}
-use Rattle.psci_ctl_spec.specs.Legal as legal_controls
-use Rattle.psci_ctl_spec.specs.History as controls
+use Rattle.psci_headline.proofs.Words.{◌∷◌, ◌≡◌, [], arith, BoardValue, Event, IsLegal, IsLegalPast}
+use Rattle.psci_headline.proofs.Words.{legal, List, nat_tests, Record, Said, subst}
 use Rattle.psci_headline.specs.psci_world_spec.Histories.{acks, controller_history}
 use Rattle.psci_headline.specs.psci_world_spec.Histories.{firmware_history, sent}
 use Rattle.psci_headline.proofs.Agreed.{RunLaws, first_kept}
@@ -16,6 +13,8 @@ use Rattle.psci_headline.proofs.ControllerSteps.{deliver_next, reset_next, wake_
 use Rattle.psci_headline.proofs.Controls.{begun_waits}
 use Rattle.psci_headline.proofs.FirmwareSteps.{call_next, enter_next, take_next}
 use Rattle.psci_headline.proofs.WaitingNexts.{Now, Next}
+use Rattle.psci_ctl_spec.specs.Legal as legal_controls
+use Rattle.psci_ctl_spec.specs.History as controls
 
 event_next : (b : BoardValue) (past : List Record) (event : Event) (s : Said) → RunLaws b
     → Given b past → Now b past → legal_controls.IsLegal b (after_control b past event s)

@@ -1,13 +1,11 @@
 -- Openings that wait for their core, and those that an entry has taken up.
-use Rattle.std.proofs.Common.{◌≡◌, ℕ, suc, ◌<◌, ◌≤◌, ◌==◌, ◌&&◌, List, [], ◌∷◌, Option, None, Some}
-use Rattle.std.proofs.Common.{refl, sym, ◌∙◌, subst, arith}
-use Rattle.std.proofs.lemmas.Bool.Decides.{nat_tests}
-use Rattle.std.specs.Prelude.{slice_get}
-use Rattle.std.proofs.lemmas.Bool.{and_from, and_parts, cond_both, eq-eqb, eqb-true}
-use Rattle.psci_headline.proofs.Words.{BoardValue, Opening, updated, Fits, Made, OfCall, OfLife}
-use Rattle.psci_headline.proofs.Words.{TakenUp, Maker, newest}
+use Rattle.psci_headline.proofs.Words.{◌&&◌, ◌<◌, ◌==◌, ◌∙◌, ◌∷◌, ◌≡◌, ◌≤◌, [], and_from, and_parts}
+use Rattle.psci_headline.proofs.Words.{arith, BoardValue, cond_both, eq-eqb, eqb-true, Fits, List}
+use Rattle.psci_headline.proofs.Words.{Made, nat_tests, newest, None, OfCall, OfLife, Opening}
+use Rattle.psci_headline.proofs.Words.{Option, refl, slice_get, Some, subst, suc, sym, TakenUp}
+use Rattle.psci_headline.proofs.Words.{updated, updated_at, ℕ}
+use Rattle.psci_headline.specs.Openings.{Maker}
 use Rattle.psci_fw_laws.specs.psci_fw_spec.Lives.{first_opening}
-use Rattle.psci_fw_laws.proofs.Parts.{updated_at}
 use Rattle.psci_headline.proofs.Filters.{head_kept, is_kept}
 
 -- The newest opening ---------------------------------------------------------------------------

@@ -1,12 +1,11 @@
 -- What waits after a record, and after one more.
-use Rattle.std.proofs.Common.{List, ◌++◌}
-use Rattle.psci_headline.proofs.Words.{BoardValue, listed, Event, Record, Said, ack_in, acks}
-use Rattle.psci_headline.proofs.Words.{controller_values, firmware_values, sent, sent_in}
-use Rattle.psci_ctl_spec.specs.History as controls
-use Rattle.psci_headline.specs.psci_fw_spec.History as remembers
+use Rattle.psci_headline.proofs.Words.{◌++◌, ack_in, acks, BoardValue, controller_values, Event}
+use Rattle.psci_headline.proofs.Words.{firmware_values, List, listed, Record, Said, sent, sent_in}
 use Rattle.psci_headline.proofs.Controlling.{after_control}
 use Rattle.psci_headline.proofs.Sending.{after_call}
 use Rattle.psci_headline.proofs.Carried.{WaitsNow}
+use Rattle.psci_ctl_spec.specs.History as controls
+use Rattle.psci_headline.specs.psci_fw_spec.History as remembers
 
 -- what waits after these records
 abbrev pub Now : BoardValue → List Record → Type 0

@@ -1,18 +1,14 @@
 -- Where firmware and power controller agree, all is told.
-use Rattle.std.proofs.Common.{◌≡◌, ℕ, inl, inr, ◌<◌, Bool, true, false, cond, List, Some, refl}
-use Rattle.std.proofs.Common.{arith, subst, ap, sym, ◌∙◌}
-use Rattle.std.proofs.lemmas.Bool.Decides.{nat_tests}
-use Rattle.std.proofs.lemmas.Bool.{cases_eq, cases_lt}
-use Rattle.std.proofs.lemmas.Option.{none-some}
-use Rattle.psci_headline.proofs.Words.{BoardValue, HasNode, cores, Node, On, Off, AreValues}
-use Rattle.psci_headline.proofs.Words.{in_life, hw_at, node_hw, Phase, Away, Values, Holds, Record}
-use Rattle.psci_headline.proofs.Words.{controller_values, firmware_values, sent, IsLegalPast}
-use Rattle.psci_headline.proofs.Words.{AreAtRest, is_halting, AreConfirming, IsYetToCome, agrees}
-use Rattle.psci_headline.proofs.Words.{Confirming}
-use Rattle.psci_headline.specs.psci_ctl_spec.Values as controlled
-use Rattle.psci_headline.specs.Complete.{IsToldWhole}
+use Rattle.psci_headline.proofs.Words.{◌<◌, ◌∙◌, ◌≡◌, agrees, ap, AreAtRest, AreConfirming}
+use Rattle.psci_headline.proofs.Words.{AreValues, arith, Away, BoardValue, Bool, cases_eq, cases_lt}
+use Rattle.psci_headline.proofs.Words.{cond, Confirming, controller_values, cores, false}
+use Rattle.psci_headline.proofs.Words.{firmware_values, HasNode, Holds, hw_at, in_life, inl, inr}
+use Rattle.psci_headline.proofs.Words.{is_halting, IsLegalPast, IsToldWhole, IsYetToCome, List}
+use Rattle.psci_headline.proofs.Words.{nat_tests, Node, node_hw, none-some, Off, On, Phase, Record}
+use Rattle.psci_headline.proofs.Words.{refl, sent, Some, subst, sym, true, Values, ℕ}
 use Rattle.psci_headline.proofs.Agreeing.{found_other, found_own}
 use Rattle.psci_headline.proofs.Confirmed.{RunLaws}
+use Rattle.psci_headline.specs.psci_ctl_spec.Values as controlled
 
 -- The life -------------------------------------------------------------------------------------
 

@@ -1,10 +1,9 @@
 -- The affinity word of a core by the numbers of the domains on its path.
-use Rattle.std.proofs.Common.{◌≡◌, ℕ, suc, ◌+◌, ◌*◌, ◌<◌, ◌≤◌, true, false, refl, sym, ◌∙◌, ap}
-use Rattle.std.proofs.Common.{Bool, nat_lt, if◌then◌else◌, unwrap_or, arith, inl, inr}
-use Rattle.std.proofs.lemmas.Bool.{cases_lt}
-use Rattle.std.proofs.lemmas.Bool.Decides.{nat_tests}
-use Rattle.psci_board.specs.Board.{BoardValue, address, child_number, cores, domain_of, height, up}
-use Rattle.psci_board.specs.Laws.{ParentLaws, PathLaws, WordLaws}
+use Rattle.psci_platform.proofs.Words.{◌*◌, ◌+◌, ◌<◌, ◌∙◌, ◌≡◌, ◌≤◌, address, ap, arith, BoardValue}
+use Rattle.psci_platform.proofs.Words.{Bool, cases_lt, cores, domain_of, false, height}
+use Rattle.psci_platform.proofs.Words.{if◌then◌else◌, inl, inr, nat_lt, nat_tests, ParentLaws}
+use Rattle.psci_platform.proofs.Words.{PathLaws, refl, suc, sym, true, unwrap_or, up, WordLaws, ℕ}
+use Rattle.psci_board.specs.Board.{child_number}
 use Rattle.psci_platform.specs.Cores.{field_of}
 
 -- the number of a core's domain of a level, below the fields of the domains above

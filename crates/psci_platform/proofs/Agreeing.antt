@@ -1,31 +1,22 @@
 -- What is told beside a call of a description that has no fault is what the firmware is asked for.
-use Rattle.std.proofs.Common.{◌≡◌, ◌==◌, ℕ, ◌<◌, ◌≤◌, ◌&&◌, ◌||◌, Bool, true, false, not, cond}
-use Rattle.std.proofs.Common.{List, [], ◌∷◌, Option, None, Some, refl, sym, ap, ◌∙◌, arith}
-use Rattle.std.proofs.lemmas.Bool.{eqb-true}
-use Rattle.std.proofs.lemmas.Bool.Decides.{nat_tests}
-use Rattle.std.proofs.lemmas.Option.{none-some, same_Some}
-use Rattle.std.specs.List.{list_all}
-use Rattle.std.specs.Prelude.{Ok, Err, find, nat_le, nat_lt, slice_index}
-use Rattle.psci_abi.specs.declared.request.Request.TheVariants as requests
-use Rattle.psci_board.specs.Board.{BoardValue, height}
-use Rattle.psci_fw_spec.specs.declared.mode.SuspendMode.{SuspendMode}
-use Rattle.psci_state.specs.Ask.{deepest_of, highest_of, is_ask}
-use Rattle.psci_state.specs.PowerState.{ask_of}
-use Rattle.psci_platform.specs.declared.asked.Asked.{Asked}
-use Rattle.psci_platform.specs.declared.asked.Asked.TheVariants as asks
+use Rattle.std.specs.Prelude.{nat_lt}
+use Rattle.psci_platform.proofs.Words.{◌&&◌, ◌<◌, ◌==◌, ◌||◌, ◌∙◌, ◌∷◌, ◌≡◌, ◌≤◌, [], ap, arith}
+use Rattle.psci_platform.proofs.Words.{ask_of, Asked, asked_by, asks_states, BoardValue, Bool}
+use Rattle.psci_platform.proofs.Words.{can_ask, cond, deepest_of, depth_at, depths_of}
+use Rattle.psci_platform.proofs.Words.{DescriptionValue, eqb-true, Err, false, fault_of, find}
+use Rattle.psci_platform.proofs.Words.{first_argument, height, highest_of, is_ask, is_power_state}
+use Rattle.psci_platform.proofs.Words.{is_system, List, list_all, nat_le, nat_tests, None}
+use Rattle.psci_platform.proofs.Words.{none-some, not, Ok, Option, reads, refl, rises, Row}
+use Rattle.psci_platform.proofs.Words.{same_Some, slice_index, Some, states_if, states_of}
+use Rattle.psci_platform.proofs.Words.{SuspendMode, sym, true, word_for, ℕ}
 use Rattle.psci_platform.specs.declared.class.TheConstants.{STATES}
-use Rattle.psci_platform.specs.declared.row.Row.{Row}
-use Rattle.psci_platform.specs.Calls.{asked_by, asks_states, first_argument}
-use Rattle.psci_platform.specs.Described.{DescriptionValue}
-use Rattle.psci_platform.specs.Faults.{are_states, fault_of}
-use Rattle.psci_platform.specs.Faults.{is_power_state, is_running_above, is_system}
-use Rattle.psci_platform.specs.Faults.{never_falls, rises}
-use Rattle.psci_platform.specs.States.{can_ask, depth_at, depths_of, reads, states_if, states_of}
-use Rattle.psci_platform.specs.States.{word_for}
+use Rattle.psci_platform.specs.Faults.{are_states, is_running_above, never_falls}
 use Rattle.psci_platform.proofs.Checked.{Passed, passed}
 use Rattle.psci_platform.proofs.Missing.{no_power_state}
 use Rattle.psci_platform.proofs.OwnStates.{StateLaws}
 use Rattle.psci_platform.proofs.Swapped.{left, right}
+use Rattle.psci_abi.specs.declared.request.Request.TheVariants as requests
+use Rattle.psci_platform.specs.declared.asked.Asked.TheVariants as asks
 
 -- Power states ----------------------------------------------------------------------------------
 

@@ -1,14 +1,11 @@
 -- Depths are an ask exactly where the extended format has a word for them.
-use Rattle.std.proofs.Common.{◌≡◌, ℕ, ◌≤◌, ◌==◌, Bool, true, false, cond, List, length, refl, ◌∙◌}
-use Rattle.std.proofs.Common.{ap, arith}
-use Rattle.std.proofs.lemmas.Bool.Decides.{nat_tests}
 use Rattle.std.specs.Result.{result_ok}
-use Rattle.std.specs.Prelude.{◌↔◌, IsTrue, IfOk, Some, None, Result, Ok, Err, nat_le, slice_index}
-use Rattle.psci_abi.specs.declared.format.Format.{Format}
-use Rattle.psci_abi.specs.declared.format.Format.TheVariants.{Extended}
-use Rattle.psci_state.specs.declared.fault.BadState.{BadState}
-use Rattle.psci_state.specs.Ask.{IsAsk, highest_of, is_ask, is_deep}
-use Rattle.psci_state.specs.PowerState.{ask_of, word_of}
+use Rattle.std.specs.Prelude.{IfOk, Some, None}
+use Rattle.psci_platform.proofs.Words.{◌==◌, ◌↔◌, ◌∙◌, ◌≡◌, ◌≤◌, ap, arith, ask_of, BadState, Bool}
+use Rattle.psci_platform.proofs.Words.{cond, Err, Extended, false, Format, highest_of, is_ask}
+use Rattle.psci_platform.proofs.Words.{IsAsk, IsTrue, length, List, nat_le, nat_tests, Ok, refl}
+use Rattle.psci_platform.proofs.Words.{Result, slice_index, true, word_of, ℕ}
+use Rattle.psci_state.specs.Ask.{is_deep}
 
 pub type_fits : (t : Bool) → cond t 1 0 ≤ 1
 type_fits true = omega arith

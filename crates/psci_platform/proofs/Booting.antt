@@ -1,14 +1,12 @@
 -- The boot core of a description that has no fault: its place, and the firmware's number for it.
-use Rattle.std.proofs.Common.{◌≡◌, ◌==◌, ℕ, zero, suc, ◌<◌, Bool, true, false, ◌||◌, List, []}
-use Rattle.std.proofs.Common.{◌∷◌, length, Option, None, Some, unwrap_or, refl, sym, ap, ◌∙◌, arith}
-use Rattle.std.proofs.lemmas.Bool.{eqb-true}
-use Rattle.std.specs.List.{list_any, list_all, range_with_len}
-use Rattle.std.specs.Prelude.{slice_index, option_map}
-use Rattle.psci_board.specs.Board.{BoardValue, cores}
-use Rattle.psci_platform.specs.Cores.{boot_place, core_named, number_named}
-use Rattle.psci_platform.specs.Described.{DescriptionValue}
-use Rattle.psci_platform.specs.Faults.{fault_of}
-use Rattle.psci_platform.specs.Swaps.{is_swapped, is_symmetric, swap_for}
+use Rattle.std.specs.List.{list_any}
+use Rattle.psci_platform.proofs.Words.{◌<◌, ◌==◌, ◌||◌, ◌∙◌, ◌∷◌, ◌≡◌, [], ap, arith, BoardValue}
+use Rattle.psci_platform.proofs.Words.{Bool, boot_place, core_named, cores, DescriptionValue}
+use Rattle.psci_platform.proofs.Words.{eqb-true, false, fault_of, is_swapped, length, List}
+use Rattle.psci_platform.proofs.Words.{list_all, None, number_named, Option, option_map}
+use Rattle.psci_platform.proofs.Words.{range_with_len, refl, slice_index, Some, suc, swap_for, sym}
+use Rattle.psci_platform.proofs.Words.{true, unwrap_or, zero, ℕ}
+use Rattle.psci_platform.specs.Swaps.{is_symmetric}
 use Rattle.psci_platform.proofs.Checked.{passed, some_count}
 use Rattle.psci_platform.proofs.Named.{core_is_named}
 use Rattle.psci_platform.proofs.Swapped.{left}

@@ -1,22 +1,14 @@
 -- What the firmware is asked for a call, by its function word and its arguments.
-use Rattle.std.proofs.Common.{◌≡◌, ℕ, ◌==◌, ◌||◌, Bool, true, false}
-use Rattle.std.proofs.Common.{if◌then◌else◌, refl, sym, ap, inl, inr, ◌∙◌, ◌⊎◌}
-use Rattle.std.proofs.lemmas.Bool.{eqb-true}
-use Rattle.psci_abi.specs.Calls.{argument, function_of, low_half}
-use Rattle.psci_abi.specs.declared.registers.Regs.{Regs}
-use Rattle.psci_abi.specs.declared.request.Request.{Request}
-use Rattle.psci_board.specs.Board.{BoardValue}
-use Rattle.psci_fw_spec.specs.declared.mode.SuspendMode.{SuspendMode}
-use Rattle.psci_platform.specs.declared.argument.Argument.{Argument}
-use Rattle.psci_platform.specs.declared.argument.Argument.TheVariants.{State, Core, Node}
-use Rattle.psci_platform.specs.declared.argument.Argument.TheVariants.{Function, Reset, System}
-use Rattle.psci_platform.specs.declared.argument.Argument.TheVariants.{Other}
-use Rattle.psci_platform.specs.declared.asked.Asked.{Asked}
+use Rattle.psci_platform.proofs.Words.{◌==◌, ◌||◌, ◌∙◌, ◌≡◌, ◌⊎◌, ap, Argument, argument}
+use Rattle.psci_platform.proofs.Words.{argument_by, Asked, asked_by, BoardValue, Bool}
+use Rattle.psci_platform.proofs.Words.{DescriptionValue, eqb-true, false, first_argument}
+use Rattle.psci_platform.proofs.Words.{function_of, if◌then◌else◌, inl, inr, is_there, low_half}
+use Rattle.psci_platform.proofs.Words.{refl, Regs, regs_by, Request, State, SuspendMode, sym, there}
+use Rattle.psci_platform.proofs.Words.{told_by, true, ℕ}
+use Rattle.psci_platform.specs.declared.argument.Argument.TheVariants.{Core, Node, Function, Reset}
+use Rattle.psci_platform.specs.declared.argument.Argument.TheVariants.{System, Other}
+use Rattle.psci_platform.specs.Calls.{asked_for, regs_asking, regs_for}
 use Rattle.psci_platform.specs.declared.asked.Asked.TheVariants as asks
-use Rattle.psci_platform.specs.Arguments.{argument_by, regs_by, there, told_by}
-use Rattle.psci_platform.specs.Calls.{asked_by, asked_for, first_argument, is_there, regs_asking}
-use Rattle.psci_platform.specs.Calls.{regs_for}
-use Rattle.psci_platform.specs.Described.{DescriptionValue}
 
 -- a call, without its registers
 record Call : Type 0 where

@@ -1,15 +1,13 @@
 -- What holds of a description that has no fault.
-use Rattle.std.proofs.Common.{◌≡◌, ◌==◌, ℕ, Bool, true, false, not, cond, Option, None, Some, refl}
-use Rattle.std.proofs.Common.{length, rules, ◌&&◌, [], ◌∷◌, nat_lt}
-use Rattle.std.proofs.lemmas.Bool.{eqb-true, not-false}
-use Rattle.std.specs.List.{list_all}
-use Rattle.psci_board.specs.Board.{BoardValue, cores, height}
-use Rattle.psci_platform.specs.declared.fault.PlatformFault.{PlatformFault}
+use Rattle.std.proofs.lemmas.Bool.{not-false}
+use Rattle.psci_platform.proofs.Words.{◌&&◌, ◌==◌, ◌∷◌, ◌≡◌, [], BoardValue, Bool, cond, cores}
+use Rattle.psci_platform.proofs.Words.{DescriptionValue, eqb-true, false, has_boot, has_same}
+use Rattle.psci_platform.proofs.Words.{height, is_mpidr, is_power_state, is_system, length}
+use Rattle.psci_platform.proofs.Words.{list_all, nat_lt, None, not, Option, PlatformFault, refl}
+use Rattle.psci_platform.proofs.Words.{rises, rules, Some, true, ℕ}
 use Rattle.psci_platform.specs.declared.fault.PlatformFault.TheVariants.{WrongCount}
-use Rattle.psci_platform.specs.Described.{DescriptionValue}
-use Rattle.psci_platform.specs.Faults.{boot_fault_of, fault_of, has_boot, has_same, has_same_word}
-use Rattle.psci_platform.specs.Faults.{has_type, is_first, is_mpidr, is_power_state, is_row_word}
-use Rattle.psci_platform.specs.Faults.{is_system, most_rows, rises, row_fault_of, state_fault_of}
+use Rattle.psci_platform.specs.Faults.{boot_fault_of, fault_of, has_same_word, has_type, is_first}
+use Rattle.psci_platform.specs.Faults.{is_row_word, most_rows, row_fault_of, state_fault_of}
 
 counted : (n m : ℕ) (rest : Option PlatformFault) (t : Bool) → (n == m) ≡ t
     → cond (not t) (Some WrongCount) rest ≡ None → n ≡ m

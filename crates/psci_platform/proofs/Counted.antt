@@ -1,12 +1,9 @@
 -- Two places of a list with one number are counted twice.
-use Rattle.std.proofs.Common.{◌≡◌, ◌==◌, ℕ, zero, suc, ◌+◌, ◌<◌, ◌≤◌, Bool, true, false, ◌||◌, cond}
-use Rattle.std.proofs.Common.{List, [], ◌∷◌, length, refl, arith}
-use Rattle.std.proofs.lemmas.List.Folds.{list_any_at}
-use Rattle.std.proofs.lemmas.Bool.Decides.{nat_tests}
 use Rattle.std.proofs.lemmas.List.Sums.{sum_by-cons}
-use Rattle.std.specs.List.{count_by}
-use Rattle.std.specs.Prelude.{nat_lt, slice_index}
-use Rattle.psci_platform.specs.Faults.{has_same}
+use Rattle.std.specs.Prelude.{nat_lt}
+use Rattle.psci_platform.proofs.Words.{◌+◌, ◌<◌, ◌==◌, ◌||◌, ◌∷◌, ◌≡◌, ◌≤◌, [], arith, Bool, cond}
+use Rattle.psci_platform.proofs.Words.{count_by, false, has_same, length, List, list_any_at}
+use Rattle.psci_platform.proofs.Words.{nat_tests, refl, slice_index, suc, true, zero, ℕ}
 
 pub counted_cons : (q : ℕ → Bool) (x : ℕ) (xs : List ℕ)
     → count_by q (x ∷ xs) ≡ cond (q x) 1 0 + count_by q xs

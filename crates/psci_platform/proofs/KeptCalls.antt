@@ -1,27 +1,20 @@
 -- What is kept of a core and of a row is what a call of it is to the firmware.
-use Rattle.std.proofs.Common.{◌≡◌, ◌∙◌, ◌⊎◌, ◌==◌, ◌||◌, ◌<◌, ◌^◌, ℕ, Bool, true, false, List}
-use Rattle.std.proofs.Common.{Option, None, Some, ap, arith, inl, inr, refl, sym, subst}
-use Rattle.std.proofs.lemmas.Bool.{eqb-true}
-use Rattle.std.specs.Prelude.{IfSome, Ok}
-use Rattle.psci_abi.specs.Calls.{argument, function_of, low_half}
-use Rattle.psci_abi.specs.declared.registers.Regs.{Regs}
+use Rattle.psci_platform.proofs.Words.{◌<◌, ◌==◌, ◌^◌, ◌||◌, ◌∙◌, ◌≡◌, ◌⊎◌, ap, argument}
+use Rattle.psci_platform.proofs.Words.{argument_by, arith, ask_of, Asked, asked_for, Asks}
+use Rattle.psci_platform.proofs.Words.{asks_states, BoardValue, Bool, core_word, DescriptionValue}
+use Rattle.psci_platform.proofs.Words.{eqb-true, false, function_of, height, IfSome, inl, inr}
+use Rattle.psci_platform.proofs.Words.{is_on, is_suspend, List, low_half, no_state, None, Ok}
+use Rattle.psci_platform.proofs.Words.{Option, refl, Regs, regs_by, regs_for, Some, State}
+use Rattle.psci_platform.proofs.Words.{states_of, subst, SuspendMode, sym, there, told_by, true}
+use Rattle.psci_platform.proofs.Words.{word_for, ℕ}
 use Rattle.psci_abi.specs.declared.request.Request.TheVariants.{CpuOn, CpuSuspend}
-use Rattle.psci_board.specs.Board.{BoardValue, height}
 use Rattle.psci_fw.specs.Read.{IsNoSuspend, IsSuspendOf}
-use Rattle.psci_fw_spec.specs.declared.mode.SuspendMode.{SuspendMode}
-use Rattle.psci_state.specs.PowerState.{ask_of}
-use Rattle.psci_platform.specs.declared.argument.Argument.TheVariants.{Core, State}
-use Rattle.psci_platform.specs.declared.asked.Asked.{Asked}
-use Rattle.psci_platform.specs.declared.asked.Asked.TheVariants as asks
-use Rattle.psci_platform.specs.Arguments.{argument_by, regs_by, there, told_by}
-use Rattle.psci_platform.specs.Calls.{asked_for, asks_states, regs_for}
-use Rattle.psci_platform.specs.Cores.{core_word}
-use Rattle.psci_platform.specs.Described.{DescriptionValue}
-use Rattle.psci_platform.specs.Kept.{Asks, IsOnCall, is_on, is_suspend}
-use Rattle.psci_platform.specs.States.{no_state, states_of, word_for}
+use Rattle.psci_platform.specs.declared.argument.Argument.TheVariants.{Core}
+use Rattle.psci_platform.specs.Kept.{IsOnCall}
 use Rattle.psci_platform.proofs.ByWord.{asked_same, regs_same}
 use Rattle.psci_platform.proofs.Missing.{no_power_state}
 use Rattle.psci_platform.proofs.Requests.{half_of}
+use Rattle.psci_platform.specs.declared.asked.Asked.TheVariants as asks
 
 either : (k a b : ℕ) → (k == a || k == b) ≡ true → (k ≡ a) ⊎ (k ≡ b)
 either k a b e = by (k == a) refl

@@ -31,3 +31,4 @@ mod SwapRows
 pub mod Swapped
 pub mod Swapping
 pub mod Unmoved
+pub mod Words

@@ -1,19 +1,14 @@
 -- Platforms to try the definitions on: boards, MPIDRs and power state words as the device trees of
 -- real machines have them. What a word does, and which functions there are, is chosen so that the
 -- examples differ: firmware of these machines may do otherwise.
-use Rattle.std.proofs.Common.{ℕ, List, [], ◌∷◌, ◌++◌, true, false, replicate}
 use Rattle.std.specs.Prelude.{Option}
-use Rattle.psci_abi.specs.declared.format.Format.{Format}
-use Rattle.psci_abi.specs.declared.format.Format.TheVariants.{Original, Extended}
-use Rattle.psci_board.specs.Board.{BoardValue, up}
+use Rattle.psci_platform.proofs.Words.{◌++◌, ◌∷◌, [], BoardValue, DescriptionValue, Extended, false}
+use Rattle.psci_platform.proofs.Words.{Format, Functions, List, Original, PlatformFault, replicate}
+use Rattle.psci_platform.proofs.Words.{Row, true, ℕ}
+use Rattle.psci_board.specs.Board.{up}
 use Rattle.psci_platform.specs.declared.class.Class.{Class}
-use Rattle.psci_platform.specs.declared.class.Class.TheVariants.{Running, Retention}
-use Rattle.psci_platform.specs.declared.class.Class.TheVariants.{PowerDown}
+use Rattle.psci_platform.specs.declared.class.Class.TheVariants.{Running, Retention, PowerDown}
 use Rattle.psci_platform.specs.Calls.{regs_for}
-use Rattle.psci_platform.specs.Described.{DescriptionValue}
-use Rattle.psci_platform.specs.declared.fault.PlatformFault.{PlatformFault}
-use Rattle.psci_platform.specs.declared.functions.Functions.{Functions}
-use Rattle.psci_platform.specs.declared.row.Row.{Row}
 use Rattle.psci_platform.specs.Faults.{boot_fault_of, fault_of, never_falls, row_fault_of}
 use Rattle.psci_platform.specs.Faults.{state_fault_of}
 use Rattle.psci_platform.specs.Swaps.{is_symmetric, moved}

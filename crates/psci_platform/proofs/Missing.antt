@@ -1,20 +1,12 @@
 -- Words that name nothing.
-use Rattle.std.proofs.Common.{◌≡◌, ℕ, suc, ◌*◌, ◌/◌, ◌^◌, ◌<◌, ◌≤◌, Bool, true, false}
-use Rattle.std.proofs.Common.{subst, Option, None, Some, refl, sym, ◌∙◌, cond, arith}
-use Rattle.std.specs.Prelude.{Err}
-use Rattle.psci_abi.specs.Calls.{request_of}
-use Rattle.psci_abi.specs.declared.registers.Regs.{Regs}
+use Rattle.psci_platform.proofs.Words.{◌*◌, ◌/◌, ◌<◌, ◌^◌, ◌∙◌, ◌≡◌, ◌≤◌, address, arith, ask_of}
+use Rattle.psci_platform.proofs.Words.{BoardValue, Bool, cond, core_of, DescriptionValue, Err}
+use Rattle.psci_platform.proofs.Words.{Extended, false, Format, height, is_there, IsBoard, no_core}
+use Rattle.psci_platform.proofs.Words.{no_state, node_of, None, Option, Original, refl, Regs}
+use Rattle.psci_platform.proofs.Words.{request_of, Some, subst, suc, SuspendMode, sym, true}
+use Rattle.psci_platform.proofs.Words.{WordLaws, ℕ}
 use Rattle.psci_abi.specs.declared.request.Request.TheVariants.{Unknown}
-use Rattle.psci_abi.specs.declared.format.Format.{Format}
-use Rattle.psci_abi.specs.declared.format.Format.TheVariants.{Original, Extended}
-use Rattle.psci_board.specs.Board.{BoardValue, IsBoard, address, core_of, height, node_of}
-use Rattle.psci_board.specs.Laws.{WordLaws}
-use Rattle.psci_fw_spec.specs.declared.mode.SuspendMode.{SuspendMode}
-use Rattle.psci_state.specs.PowerState.{ask_of}
-use Rattle.psci_platform.specs.Calls.{is_there, regs_for}
-use Rattle.psci_platform.specs.Cores.{no_core}
-use Rattle.psci_platform.specs.Described.{DescriptionValue}
-use Rattle.psci_platform.specs.States.{no_state}
+use Rattle.psci_platform.specs.Calls.{regs_for}
 
 -- a function word of 0 is unknown, whatever the other registers
 unknown_if : (t : Bool) (r s : Regs) → t ≡ false

@@ -1,14 +1,10 @@
 -- The MPIDR of a core names this core.
-use Rattle.std.proofs.Common.{◌≡◌, ◌==◌, ℕ, ◌*◌, ◌/◌, ◌^◌, ◌<◌, Bool, true, false, List}
-use Rattle.std.proofs.Common.{length, None, Some, refl, arith}
-use Rattle.std.proofs.lemmas.Bool.Decides.{nat_tests}
 use Rattle.std.proofs.lemmas.List.Sums.{position_or_len_is}
-use Rattle.std.specs.List.{position, position_or_len}
-use Rattle.std.specs.Prelude.{nat_le, nat_lt, slice_index}
-use Rattle.psci_board.specs.Board.{BoardValue, cores, height}
-use Rattle.psci_platform.specs.Cores.{core_named}
-use Rattle.psci_platform.specs.Described.{DescriptionValue}
-use Rattle.psci_platform.specs.Faults.{fault_of, has_same}
+use Rattle.std.specs.Prelude.{nat_lt}
+use Rattle.psci_platform.proofs.Words.{◌*◌, ◌/◌, ◌<◌, ◌==◌, ◌^◌, ◌≡◌, arith, BoardValue, Bool}
+use Rattle.psci_platform.proofs.Words.{core_named, cores, DescriptionValue, false, fault_of}
+use Rattle.psci_platform.proofs.Words.{has_same, height, length, List, nat_le, nat_tests, None}
+use Rattle.psci_platform.proofs.Words.{position, position_or_len, refl, slice_index, Some, true, ℕ}
 use Rattle.psci_platform.proofs.Checked.{passed, some_count}
 use Rattle.psci_platform.proofs.Counted.{differ}
 

@@ -1,23 +1,18 @@
 -- What the names of a level say holds of the cores that are searched by them.
-use Rattle.std.proofs.Common.{◌≡◌, ◌∙◌, ◌+◌, ◌*◌, ◌/◌, ◌^◌, ◌==◌, ◌<◌, ℕ, Bool, true, false}
-use Rattle.std.proofs.Common.{All, Contains, List, [], ◌∷◌, ◌++◌, Option}
-use Rattle.std.proofs.Common.{None, Some, ap, length, refl, subst, sym}
-use Rattle.std.proofs.Common.{arith, if◌then◌else◌, replicate, set, slice_index_or, zero, suc}
-use Rattle.std.proofs.lemmas.Bool.{eqb-true}
-use Rattle.std.proofs.lemmas.Bool.Decides.{nat_tests}
+use Rattle.std.proofs.Common.{Contains, set, slice_index_or}
 use Rattle.std.proofs.lemmas.List.Elements.{All-contains, All-push, All-replicate, All-set}
 use Rattle.std.proofs.lemmas.List.Elements.{All-weaker}
-use Rattle.std.proofs.lemmas.Option.{get_or_from_slice_get, none-some}
-use Rattle.std.proofs.lemmas.Option.{same_Some, slice_get-get_or, slice_get_within}
-use Rattle.std.specs.List.{list_all, position, position_or_len}
-use Rattle.std.specs.Prelude.{IfSome, is_some, nat_le, nat_lt, option_map, slice_get}
-use Rattle.psci_board.specs.Board.{BoardValue, address, cores, height}
-use Rattle.psci_platform.specs.Cores.{core_word, no_core, number_named, word_if}
-use Rattle.psci_platform.specs.Described.{DescriptionValue}
-use Rattle.psci_platform.specs.Names.{AreAmong, AreNames, are_found, HasNames}
-use Rattle.psci_platform.specs.Names.{IsName, name_in, own_name, slot_of}
-use Rattle.psci_platform.specs.Swaps.{swap_for}
-use Rattle.psci_platform.specs.declared.names.Name.{Name}
+use Rattle.std.proofs.lemmas.Option.{get_or_from_slice_get, slice_get-get_or, slice_get_within}
+use Rattle.std.specs.Prelude.{is_some, nat_lt, slice_get}
+use Rattle.psci_platform.proofs.Words.{◌*◌, ◌++◌, ◌+◌, ◌/◌, ◌<◌, ◌==◌, ◌^◌, ◌∙◌, ◌∷◌, ◌≡◌, []}
+use Rattle.psci_platform.proofs.Words.{address, All, ap, AreAmong, AreNames, arith, BoardValue}
+use Rattle.psci_platform.proofs.Words.{Bool, core_word, cores, DescriptionValue, eqb-true, false}
+use Rattle.psci_platform.proofs.Words.{height, IfSome, if◌then◌else◌, IsName, length, List}
+use Rattle.psci_platform.proofs.Words.{list_all, Name, nat_le, nat_tests, no_core, None, none-some}
+use Rattle.psci_platform.proofs.Words.{number_named, Option, option_map, position, position_or_len}
+use Rattle.psci_platform.proofs.Words.{refl, replicate, same_Some, Some, subst, suc, swap_for, sym}
+use Rattle.psci_platform.proofs.Words.{true, word_if, zero, ℕ}
+use Rattle.psci_platform.specs.Names.{are_found, HasNames, name_in, own_name, slot_of}
 use Rattle.psci_platform.specs.declared.names.Table.{Table}
 use Rattle.psci_platform.proofs.Swapped.{left, right}
 

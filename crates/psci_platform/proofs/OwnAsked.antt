@@ -1,27 +1,19 @@
 -- With the identity of a board the depths that the firmware is asked for are told.
-use Rattle.std.proofs.Common.{◌≡◌, ℕ, ◌<◌, ◌≤◌, ◌^◌, map, Option}
-use Rattle.std.proofs.Common.{None, Some, refl, sym, ap, ◌∙◌, arith}
 use Rattle.std.proofs.lemmas.Bool.{leb-true}
-use Rattle.std.specs.List.{range_with_len}
-use Rattle.std.specs.Prelude.{Ok, find, nat_le}
-use Rattle.psci_abi.specs.Calls.{argument, low_half, request_of}
-use Rattle.psci_abi.specs.declared.registers.Regs.{Regs}
-use Rattle.psci_abi.specs.declared.request.Request.{Request}
-use Rattle.psci_abi.specs.declared.request.Request.TheVariants as requests
-use Rattle.psci_board.specs.Board.{BoardValue, height}
-use Rattle.psci_fw_spec.specs.declared.mode.SuspendMode.{SuspendMode}
-use Rattle.psci_state.specs.Ask.{IsAsk, highest_of, is_ask}
-use Rattle.psci_state.specs.PowerState.{ask_of, word_of}
-use Rattle.psci_platform.specs.declared.row.Row.{Row}
-use Rattle.psci_platform.specs.Calls.{asked_by, asked_for, asks_states}
-use Rattle.psci_platform.specs.Identity.{asks_depths, asks_up_to, depths_at, identity, own_asked}
-use Rattle.psci_platform.specs.Identity.{row_asking}
-use Rattle.psci_platform.specs.States.{reads, states_if, states_of}
+use Rattle.psci_platform.proofs.Words.{◌<◌, ◌^◌, ◌∙◌, ◌≡◌, ◌≤◌, ap, argument, arith, ask_of}
+use Rattle.psci_platform.proofs.Words.{asked_by, asks_states, BoardValue, depths_at, find, height}
+use Rattle.psci_platform.proofs.Words.{highest_of, identity, is_ask, IsAsk, low_half, map, nat_le}
+use Rattle.psci_platform.proofs.Words.{None, Ok, Option, range_with_len, reads, refl, Regs, Request}
+use Rattle.psci_platform.proofs.Words.{request_of, Row, row_asking, Some, states_if, states_of}
+use Rattle.psci_platform.proofs.Words.{SuspendMode, sym, word_of, ℕ}
+use Rattle.psci_platform.specs.Calls.{asked_for}
+use Rattle.psci_platform.specs.Identity.{asks_depths, asks_up_to, own_asked}
 use Rattle.psci_platform.proofs.OwnCalls.{Laws, all_there, half_small, word_in}
-use Rattle.psci_platform.proofs.OwnStates.{StateLaws, asks_test, found, none_read}
-use Rattle.psci_platform.proofs.OwnStates.{own_can_ask, read_word}
+use Rattle.psci_platform.proofs.OwnStates.{StateLaws, asks_test, found, none_read, own_can_ask}
+use Rattle.psci_platform.proofs.OwnStates.{read_word}
 use Rattle.psci_platform.proofs.Requests.{request_with, with_first}
 use Rattle.psci_platform.proofs.Swapped.{left, right}
+use Rattle.psci_abi.specs.declared.request.Request.TheVariants as requests
 
 -- what is told of a word, by the row that reads it
 abbrev Told : BoardValue → SuspendMode → ℕ → Option Row → Type 0

@@ -1,22 +1,14 @@
 -- A call of the identity of a board is answered as the firmware answers it.
-use Rattle.std.proofs.Common.{◌≡◌, ℕ, ◌^◌, ◌<◌, true, List, Option, Some, refl, sym, ap}
-use Rattle.std.proofs.Common.{◌∙◌, subst, arith, if◌then◌else◌}
-use Rattle.std.specs.Prelude.{Result}
-use Rattle.psci_abi.specs.Calls.{argument, function_of, low_half, request_of}
-use Rattle.psci_abi.specs.declared.registers.Regs.{Regs}
-use Rattle.psci_abi.specs.declared.request.Request.{Request}
-use Rattle.psci_abi.specs.declared.request.Request.TheVariants as requests
-use Rattle.psci_board.specs.Board.{BoardValue, core_of, node_of}
-use Rattle.psci_board.specs.declared.node.Core.{Core}
-use Rattle.psci_board.specs.declared.node.Node.{Node}
+use Rattle.psci_platform.proofs.Words.{◌<◌, ◌^◌, ◌∙◌, ◌≡◌, ap, argument, arith, BadState}
+use Rattle.psci_platform.proofs.Words.{BoardValue, Core, core_of, core_word, every_function}
+use Rattle.psci_platform.proofs.Words.{first_argument, function_of, identity, if◌then◌else◌}
+use Rattle.psci_platform.proofs.Words.{is_there, List, low_half, Node, node_of, Option, refl, Regs}
+use Rattle.psci_platform.proofs.Words.{Request, request_of, Result, Some, states_of, subst}
+use Rattle.psci_platform.proofs.Words.{SuspendMode, sym, true, word_for, ℕ}
 use Rattle.psci_messages.specs.Message.{MessageValue}
-use Rattle.psci_state.specs.declared.fault.BadState.{BadState}
 use Rattle.psci_fw_spec.specs.declared.call.FwCall.TheVariants.{Smc}
-use Rattle.psci_fw_spec.specs.declared.mode.SuspendMode.{SuspendMode}
 use Rattle.psci_fw_spec.specs.declared.outcome.Act.{Act}
-use Rattle.psci_fw_spec.specs.declared.outcome.Act.TheVariants as acts
 use Rattle.psci_fw_spec.specs.declared.reply.FwReply.{FwReply}
-use Rattle.psci_fw_spec.specs.declared.reply.FwReply.TheVariants as replies
 use Rattle.psci_fw_spec.specs.After.{after, change}
 use Rattle.psci_fw_spec.specs.AffinityInfo.{affinity_of}
 use Rattle.psci_fw_spec.specs.Answer.{answer, reply_or}
@@ -27,13 +19,13 @@ use Rattle.psci_fw_spec.specs.Effects.{Effect, Rests, effect_of, function_effect
 use Rattle.psci_fw_spec.specs.NodeHwState.{hw_state_of}
 use Rattle.psci_fw_spec.specs.Outcomes.{returns, stops}
 use Rattle.psci_fw_spec.specs.Values.{Values}
-use Rattle.psci_platform.specs.Calls.{feature_word, first_argument, is_there, regs_for}
-use Rattle.psci_platform.specs.Cores.{core_word}
-use Rattle.psci_platform.specs.Identity.{every_function, identity}
-use Rattle.psci_platform.specs.States.{states_of, word_for}
+use Rattle.psci_platform.specs.Calls.{feature_word, regs_for}
 use Rattle.psci_platform.proofs.OwnCores.{BoardLaws, core_same, node_same}
 use Rattle.psci_platform.proofs.OwnStates.{StateLaws, state_same}
 use Rattle.psci_platform.proofs.Requests.{half_of, request_with, short, with_first}
+use Rattle.psci_abi.specs.declared.request.Request.TheVariants as requests
+use Rattle.psci_fw_spec.specs.declared.outcome.Act.TheVariants as acts
+use Rattle.psci_fw_spec.specs.declared.reply.FwReply.TheVariants as replies
 
 -- What the proofs stand on.
 pub record Laws (b : BoardValue) : Type 0 where

@@ -1,21 +1,15 @@
 -- An affinity word names the same in the identity of a board.
-use Rattle.std.proofs.Common.{◌≡◌, ℕ, ◌*◌, ◌/◌, ◌^◌, ◌<◌, ◌≤◌, ◌==◌, Bool, true, List}
-use Rattle.std.proofs.Common.{length, map, Option, None, Some, refl, sym, ap, ◌∙◌, arith, inl, inr}
-use Rattle.std.proofs.lemmas.Bool.{cases_lt, eq-eqb, eqb-true, le-leb, lt-leb, lt-ltb}
 use Rattle.std.proofs.lemmas.List.FromFn.{get_or-map-range_with_len, length-map-range_with_len}
-use Rattle.std.proofs.lemmas.List.Quantifiers.{position-Some}
 use Rattle.std.proofs.lemmas.List.Sums.{fails_before_first}
-use Rattle.std.proofs.lemmas.Option.{none-some, same_Some}
-use Rattle.std.specs.List.{position, position_or_len, range_with_len}
-use Rattle.std.specs.Prelude.{option_map, slice_index}
-use Rattle.psci_board.specs.Board.{BoardValue, IsBoard, address, core_of, cores, height, node_of}
-use Rattle.psci_board.specs.Board.{up}
-use Rattle.psci_board.specs.declared.node.Core.{Core}
-use Rattle.psci_board.specs.declared.node.Node.{Node}
-use Rattle.psci_board.specs.Laws.{ParentLaws, PathLaws, SizeLaws, WordLaws}
-use Rattle.psci_platform.specs.Cores.{core_named, core_word, word_if}
-use Rattle.psci_platform.specs.Identity.{identity}
-use Rattle.psci_platform.specs.Swaps.{swap_for}
+use Rattle.psci_platform.proofs.Words.{◌*◌, ◌/◌, ◌<◌, ◌==◌, ◌^◌, ◌∙◌, ◌≡◌, ◌≤◌, address, ap, arith}
+use Rattle.psci_platform.proofs.Words.{BoardValue, Bool, cases_lt, Core, core_named, core_of}
+use Rattle.psci_platform.proofs.Words.{core_word, cores, eq-eqb, eqb-true, height, identity, inl}
+use Rattle.psci_platform.proofs.Words.{inr, IsBoard, le-leb, length, List, lt-leb, lt-ltb, map}
+use Rattle.psci_platform.proofs.Words.{Node, node_of, None, none-some, Option, option_map}
+use Rattle.psci_platform.proofs.Words.{ParentLaws, PathLaws, position, position-Some}
+use Rattle.psci_platform.proofs.Words.{position_or_len, range_with_len, refl, same_Some, SizeLaws}
+use Rattle.psci_platform.proofs.Words.{slice_index, Some, swap_for, sym, true, up, word_if}
+use Rattle.psci_platform.proofs.Words.{WordLaws, ℕ}
 use Rattle.psci_platform.proofs.Missing.{no_node_is_named}
 use Rattle.psci_platform.proofs.Unmoved.{own_place}
 use Rattle.psci_platform.proofs.Unmoved as unmoved

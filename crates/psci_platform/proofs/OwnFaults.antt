@@ -1,24 +1,17 @@
 -- The identity of a board has no fault.
-use Rattle.std.proofs.Common.{◌≡◌, ℕ, zero, suc, ◌+◌, ◌/◌, ◌%◌, ◌^◌, ◌<◌, ◌≤◌, ◌==◌, Bool, true}
-use Rattle.std.proofs.Common.{false, cond, List, [], ◌∷◌, length, map, nat_lt, Option, None, Some}
-use Rattle.std.proofs.Common.{refl, sym, ap}
-use Rattle.std.proofs.Common.{◌∙◌, arith}
-use Rattle.std.proofs.lemmas.Bool.{eq-eqb, eqb-true, le-ltb}
-use Rattle.std.proofs.lemmas.List.Folds.{list_all-map, list_any_at, list_any_none}
-use Rattle.std.proofs.lemmas.Option.{same_Some}
-use Rattle.std.specs.List.{count_by, list_all, range_with_len}
-use Rattle.std.specs.Prelude.{slice_index}
-use Rattle.psci_abi.specs.declared.format.Format.{Format}
-use Rattle.psci_abi.specs.declared.format.Format.TheVariants.{Original, Extended}
-use Rattle.psci_board.specs.Board.{BoardValue, address, core_of, cores, height}
-use Rattle.psci_board.specs.declared.node.Core.{Core}
-use Rattle.psci_state.specs.Ask.{deepest_of}
-use Rattle.psci_platform.specs.Cores.{boot_place, core_named}
-use Rattle.psci_platform.specs.Described.{DescriptionValue}
-use Rattle.psci_platform.specs.Faults.{boot_fault_of, fault_of, has_boot, has_same, is_mpidr}
-use Rattle.psci_platform.specs.Faults.{never_falls, row_fault_of, state_fault_of}
-use Rattle.psci_platform.specs.Identity.{asks_up_to, every_function, identity, own_classes}
-use Rattle.psci_platform.specs.Identity.{row_asking}
+use Rattle.std.proofs.lemmas.List.Folds.{list_all-map, list_any_none}
+use Rattle.psci_platform.proofs.Words.{◌%◌, ◌+◌, ◌/◌, ◌<◌, ◌==◌, ◌^◌, ◌∙◌, ◌∷◌, ◌≡◌, ◌≤◌, []}
+use Rattle.psci_platform.proofs.Words.{address, ap, arith, BoardValue, Bool, boot_place, cond, Core}
+use Rattle.psci_platform.proofs.Words.{core_named, core_of, cores, count_by, deepest_of}
+use Rattle.psci_platform.proofs.Words.{DescriptionValue, eq-eqb, eqb-true, every_function, Extended}
+use Rattle.psci_platform.proofs.Words.{false, Format, has_boot, has_same, height, identity}
+use Rattle.psci_platform.proofs.Words.{is_mpidr, le-ltb, length, List, list_all, list_any_at, map}
+use Rattle.psci_platform.proofs.Words.{nat_lt, None, Option, Original, range_with_len, refl}
+use Rattle.psci_platform.proofs.Words.{row_asking, same_Some, slice_index, Some, suc, sym, true}
+use Rattle.psci_platform.proofs.Words.{zero, ℕ}
+use Rattle.psci_platform.specs.Faults.{boot_fault_of, fault_of, never_falls, row_fault_of}
+use Rattle.psci_platform.specs.Faults.{state_fault_of}
+use Rattle.psci_platform.specs.Identity.{asks_up_to, own_classes}
 use Rattle.psci_platform.proofs.Booting.{place_is}
 use Rattle.psci_platform.proofs.Counted.{counted_cons}
 use Rattle.psci_platform.proofs.Named.{core_is_named}

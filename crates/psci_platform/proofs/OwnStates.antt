@@ -1,25 +1,19 @@
 -- A power state word asks the same in the identity of a board.
-use Rattle.std.proofs.Common.{◌≡◌, ℕ, zero, suc, ◌+◌, ◌-◌, ◌*◌, ◌/◌, ◌%◌, ◌^◌, ◌<◌, ◌≤◌, ◌&&◌, Bool}
-use Rattle.std.proofs.Common.{true}
-use Rattle.std.proofs.Common.{false, List, [], ◌∷◌, length, map, Option, None, Some, refl, sym, ap}
-use Rattle.std.proofs.Common.{◌∙◌, arith, inl, inr}
-use Rattle.std.proofs.lemmas.Bool.{cases_lt, eq-eqb, eqb-true, le-leb}
 use Rattle.std.proofs.lemmas.Nat.{and_mask}
-use Rattle.std.proofs.lemmas.Option.{none-some, same_Some}
 use Rattle.std.specs.Int.Bits.{bit_and}
-use Rattle.std.specs.List.{range_with_len}
-use Rattle.std.specs.Prelude.{◌↔◌, IsTrue, Result, Ok, Err, filter, find, nat_le, slice_index}
-use Rattle.psci_abi.specs.declared.format.Format.{Format}
-use Rattle.psci_board.specs.Board.{BoardValue, height}
-use Rattle.psci_fw_spec.specs.declared.mode.SuspendMode.{SuspendMode}
-use Rattle.psci_fw_spec.specs.declared.mode.SuspendMode.TheVariants.{Platform, OsInitiated}
-use Rattle.psci_state.specs.declared.fault.BadState.{BadState}
-use Rattle.psci_state.specs.Ask.{IsAsk, highest_of, is_ask}
-use Rattle.psci_state.specs.PowerState.{ask_of, word_of}
-use Rattle.psci_platform.specs.declared.row.Row.{Row}
-use Rattle.psci_platform.specs.Identity.{asks_up_to, depths_at, identity, row_asking}
-use Rattle.psci_platform.specs.States.{can_ask, depth_at, depths_of, is_deeper, reads}
-use Rattle.psci_platform.specs.States.{states_if, states_of, word_asking, word_for}
+use Rattle.std.specs.Prelude.{filter}
+use Rattle.psci_platform.proofs.Words.{◌%◌, ◌&&◌, ◌*◌, ◌+◌, ◌-◌, ◌/◌, ◌<◌, ◌^◌, ◌↔◌, ◌∙◌, ◌∷◌, ◌≡◌}
+use Rattle.psci_platform.proofs.Words.{◌≤◌, [], ap, arith, ask_of, BadState, BoardValue, Bool}
+use Rattle.psci_platform.proofs.Words.{can_ask, cases_lt, depth_at, depths_at, depths_of, eq-eqb}
+use Rattle.psci_platform.proofs.Words.{eqb-true, Err, false, find, Format, height, highest_of}
+use Rattle.psci_platform.proofs.Words.{identity, inl, inr, is_ask, IsAsk, IsTrue, le-leb, length}
+use Rattle.psci_platform.proofs.Words.{List, map, nat_le, None, none-some, Ok, Option, OsInitiated}
+use Rattle.psci_platform.proofs.Words.{Platform, range_with_len, reads, refl, Result, Row}
+use Rattle.psci_platform.proofs.Words.{row_asking, same_Some, slice_index, Some, states_if}
+use Rattle.psci_platform.proofs.Words.{states_of, suc, SuspendMode, sym, true, word_for, word_of}
+use Rattle.psci_platform.proofs.Words.{zero, ℕ}
+use Rattle.psci_platform.specs.Identity.{asks_up_to}
+use Rattle.psci_platform.specs.States.{is_deeper, word_asking}
 use Rattle.psci_platform.proofs.Missing.{no_power_state}
 use Rattle.psci_platform.proofs.Swapped.{left}
 

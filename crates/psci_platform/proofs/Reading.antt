@@ -1,23 +1,17 @@
 -- What is found out of a row says what its words are.
-use Rattle.std.proofs.Common.{◌≡◌, ◌∙◌, ℕ, Bool, true, false, List, [], ◌∷◌, Option, None, Some, ap}
-use Rattle.std.proofs.Common.{Bor, find, if◌then◌else◌, map, refl, subst, sym}
-use Rattle.std.proofs.lemmas.Option.{none-some, same_Some}
-use Rattle.psci_abi.specs.declared.format.Format.{Format}
-use Rattle.psci_fw_spec.specs.declared.mode.SuspendMode.{SuspendMode}
-use Rattle.psci_fw_spec.specs.declared.mode.SuspendMode.TheVariants.{Platform, OsInitiated}
-use Rattle.std.specs.Prelude.{IfSome, Result, Ok, Err, is_ok, option_map}
+use Rattle.std.proofs.Common.{Bor, find}
+use Rattle.std.specs.Prelude.{is_ok}
 use Rattle.std.specs.Result.{result_unwrap_or}
-use Rattle.psci_state.specs.Ask.{deepest_of}
-use Rattle.psci_state.specs.declared.fault.BadState.{BadState}
-use Rattle.psci_state.specs.PowerState.{ask_of}
-use Rattle.psci_board.specs.Board.{BoardValue, height}
+use Rattle.psci_platform.proofs.Words.{◌∙◌, ◌∷◌, ◌≡◌, [], ap, ask_of, BadState, BoardValue, Bool}
+use Rattle.psci_platform.proofs.Words.{can_ask, can_ask_by, deepest_of, DescriptionValue, Err}
+use Rattle.psci_platform.proofs.Words.{false, Format, height, IfSome, if◌then◌else◌, List, map}
+use Rattle.psci_platform.proofs.Words.{no_state, None, none-some, Ok, Option, option_map}
+use Rattle.psci_platform.proofs.Words.{OsInitiated, Platform, Reading, reading_of, reads, refl}
+use Rattle.psci_platform.proofs.Words.{Result, Row, same_Some, Some, states_if, states_of, subst}
+use Rattle.psci_platform.proofs.Words.{SuspendMode, sym, true, word_for, ℕ}
 use Rattle.psci_platform.specs.Names.{IsReady}
 use Rattle.psci_platform.specs.declared.ready.Ready.{Ready}
-use Rattle.psci_platform.specs.Described.{DescriptionValue}
-use Rattle.psci_platform.specs.States.{can_ask, can_ask_by, no_state, reading_of, reads, row_of}
-use Rattle.psci_platform.specs.States.{states_if, states_of, word_for}
-use Rattle.psci_platform.specs.declared.readings.Reading.{Reading}
-use Rattle.psci_platform.specs.declared.row.Row.{Row}
+use Rattle.psci_platform.specs.States.{row_of}
 
 -- what is kept of the rows is theirs
 pub rows_of : (d : DescriptionValue) (b : BoardValue) (boot : ℕ) (o : Option (Bor Ready))

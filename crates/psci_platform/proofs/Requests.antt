@@ -1,9 +1,8 @@
 -- Requests that differ in their first argument.
-use Rattle.std.proofs.Common.{◌≡◌, ℕ, ◌<◌, ◌^◌, ◌==◌, ◌||◌, Bool, true, false, if◌then◌else◌}
-use Rattle.std.proofs.Common.{refl, sym, arith, ap, ◌∙◌}
-use Rattle.psci_abi.specs.Calls.{argument, function_of, is_wide, low_half, request_of}
-use Rattle.psci_abi.specs.declared.registers.Regs.{Regs}
-use Rattle.psci_abi.specs.declared.request.Request.{Request}
+use Rattle.psci_platform.proofs.Words.{◌<◌, ◌==◌, ◌^◌, ◌||◌, ◌∙◌, ◌≡◌, ap, argument, arith, Bool}
+use Rattle.psci_platform.proofs.Words.{false, function_of, if◌then◌else◌, low_half, refl, Regs}
+use Rattle.psci_platform.proofs.Words.{Request, request_of, sym, true, ℕ}
+use Rattle.psci_abi.specs.Calls.{is_wide}
 use Rattle.psci_abi.specs.declared.request.Request.TheVariants as requests
 
 -- the same request with this first argument

@@ -1,16 +1,15 @@
 -- A swap that passes its test is a renumbering of the board.
-use Rattle.std.proofs.Common.{◌≡◌, ℕ, zero, suc, ◌+◌, ◌-◌, ◌==◌, ◌<◌, ◌≤◌, ◌&&◌, ◌||◌, nat_lt}
-use Rattle.std.proofs.Common.{Bool, true, false, List, [], ◌∷◌, length, drop, sum, refl, sym, ap}
-use Rattle.std.proofs.Common.{◌∙◌, arith, inl, inr, None}
-use Rattle.std.specs.List.{list_all, range_with_len}
-use Rattle.std.proofs.lemmas.Bool.{and_parts, cases_lt, eqb-true, le-ltb, lt-ltb, ltb-true}
-use Rattle.psci_board.specs.Board.{BoardValue, IsBoard, IsTree, cores, group_of, height, nodes}
-use Rattle.psci_board.specs.Board.{parent, place_above, size_below, up}
-use Rattle.psci_board.specs.declared.node.Node.{Node}
-use Rattle.psci_board.specs.Laws.{PathLaws}
+use Rattle.std.proofs.Common.{drop, sum}
+use Rattle.std.proofs.lemmas.Bool.{and_parts, ltb-true}
+use Rattle.psci_platform.proofs.Words.{◌&&◌, ◌+◌, ◌-◌, ◌<◌, ◌==◌, ◌||◌, ◌∙◌, ◌∷◌, ◌≡◌, ◌≤◌, [], ap}
+use Rattle.psci_platform.proofs.Words.{arith, BoardValue, Bool, cases_lt, cores, eqb-true, false}
+use Rattle.psci_platform.proofs.Words.{goes_along, height, inl, inr, is_swapped, IsBoard}
+use Rattle.psci_platform.proofs.Words.{IsRenumbering, le-ltb, length, List, list_all, lt-ltb}
+use Rattle.psci_platform.proofs.Words.{nat_lt, Node, None, parent, PathLaws, range_with_len, refl}
+use Rattle.psci_platform.proofs.Words.{suc, swap_for, sym, true, zero, ℕ}
+use Rattle.psci_board.specs.Board.{IsTree, group_of, nodes, place_above, size_below, up}
 use Rattle.psci_board.proofs.Groups.{sum-cons}
-use Rattle.psci_fw_laws.specs.Renumbered.{IsRenumbering}
-use Rattle.psci_platform.specs.Swaps.{goes_along, is_swapped, is_symmetric, moved, swap_for}
+use Rattle.psci_platform.specs.Swaps.{is_symmetric, moved}
 
 -- Tests -----------------------------------------------------------------------------------------
 

@@ -1,33 +1,23 @@
 -- What the firmware of a swapped boot core is asked is what it would be asked if core 0 booted, of
 -- the swapped cores and domains.
-use Rattle.std.proofs.Common.{◌≡◌, ℕ, ◌<◌, ◌≤◌, ◌*◌, ◌/◌, ◌^◌, ◌==◌, Bool, true, false, nat_le}
-use Rattle.std.proofs.Common.{List, Option, None, Some, if◌then◌else◌}
-use Rattle.std.proofs.Common.{refl, sym, ap, ◌∙◌, subst, arith}
-use Rattle.std.proofs.Common.{inl, inr, length}
-use Rattle.std.proofs.lemmas.Bool.{cases_lt, lt-leb}
-use Rattle.std.proofs.lemmas.List.Quantifiers.{position-Some}
-use Rattle.std.specs.List.{position}
-use Rattle.std.specs.Prelude.{option_map}
-use Rattle.psci_abi.specs.Calls.{argument, request_of}
-use Rattle.psci_abi.specs.declared.registers.Regs.{Regs}
-use Rattle.psci_abi.specs.declared.request.Request.{Request}
-use Rattle.psci_abi.specs.declared.request.Request.TheVariants as requests
-use Rattle.psci_board.specs.Board.{BoardValue, IsBoard, address, core_of, cores, height, node_of}
-use Rattle.psci_board.specs.Board.{up}
-use Rattle.psci_board.specs.declared.node.Node.{Node}
-use Rattle.psci_board.specs.Laws.{ParentLaws, PathLaws, SizeLaws, WordLaws}
-use Rattle.psci_fw_laws.specs.Renumbered.{AsksBy, IsRenumbering, core_by, node_by}
-use Rattle.psci_fw_spec.specs.declared.mode.SuspendMode.{SuspendMode}
-use Rattle.psci_platform.specs.Calls.{first_argument, is_there, regs_for}
-use Rattle.psci_platform.specs.Cores.{boot_place, core_named, core_word, number_named, word_if}
-use Rattle.psci_platform.specs.Described.{DescriptionValue}
-use Rattle.psci_platform.specs.Faults.{fault_of}
-use Rattle.psci_platform.specs.Swaps.{is_symmetric, swap_for}
+use Rattle.std.proofs.Common.{nat_le}
+use Rattle.psci_platform.proofs.Words.{◌*◌, ◌/◌, ◌<◌, ◌==◌, ◌^◌, ◌∙◌, ◌≡◌, ◌≤◌, address, ap}
+use Rattle.psci_platform.proofs.Words.{argument, arith, BoardValue, Bool, boot_place, cases_lt}
+use Rattle.psci_platform.proofs.Words.{core_named, core_of, core_word, cores, DescriptionValue}
+use Rattle.psci_platform.proofs.Words.{false, fault_of, first_argument, height, if◌then◌else◌, inl}
+use Rattle.psci_platform.proofs.Words.{inr, is_symmetric, is_there, IsBoard, IsRenumbering, length}
+use Rattle.psci_platform.proofs.Words.{List, lt-leb, Node, node_of, None, number_named, Option}
+use Rattle.psci_platform.proofs.Words.{option_map, ParentLaws, PathLaws, position, position-Some}
+use Rattle.psci_platform.proofs.Words.{refl, Regs, Request, request_of, SizeLaws, Some, subst}
+use Rattle.psci_platform.proofs.Words.{SuspendMode, swap_for, sym, true, up, word_if, WordLaws, ℕ}
+use Rattle.psci_fw_laws.specs.Renumbered.{AsksBy, core_by, node_by}
+use Rattle.psci_platform.specs.Calls.{regs_for}
 use Rattle.psci_platform.proofs.Booting.{symmetric}
 use Rattle.psci_platform.proofs.Missing.{no_core_is_named, no_node_is_named}
 use Rattle.psci_platform.proofs.Requests.{request_with, short, with_first}
 use Rattle.psci_platform.proofs.Swapped.{core_inside, renumbers_by_swap}
 use Rattle.psci_platform.proofs.Unmoved.{own_place}
+use Rattle.psci_abi.specs.declared.request.Request.TheVariants as requests
 use Rattle.psci_platform.proofs.Unmoved as unmoved
 
 -- What the proofs stand on: the core at this place boots.

@@ -1,18 +1,17 @@
 -- Where the boot core is core 0, nothing is swapped.
-use Rattle.std.proofs.Common.{◌≡◌, ℕ, zero, suc, ◌==◌, ◌<◌, ◌≤◌, nat_lt, Bool}
-use Rattle.std.proofs.Common.{true, false, if◌then◌else◌, refl, sym, ap, ◌∙◌, arith}
-use Rattle.std.proofs.Common.{inl, inr, Option, None, Some, unwrap_or}
-use Rattle.std.proofs.lemmas.Bool.{cases_eq, cases_lt, eq-eqb, le-ltb, lt-ltb, ne_eqb}
-use Rattle.std.proofs.lemmas.Option.{none-some}
-use Rattle.psci_board.specs.Board.{BoardValue, child, children, cores, domain_of}
-use Rattle.psci_board.specs.Board.{height, parent, up}
-use Rattle.psci_board.specs.declared.node.Node.{Node}
-use Rattle.psci_board.specs.Laws.{ParentLaws, PathLaws, SizeLaws}
+use Rattle.std.proofs.lemmas.Bool.{cases_eq, ne_eqb}
+use Rattle.psci_platform.proofs.Words.{◌<◌, ◌==◌, ◌∙◌, ◌≡◌, ◌≤◌, ap, arith, BoardValue, Bool}
+use Rattle.psci_platform.proofs.Words.{cases_lt, cores, domain_of, eq-eqb, false, goes_along}
+use Rattle.psci_platform.proofs.Words.{height, if◌then◌else◌, inl, inr, is_swapped, le-ltb, lt-ltb}
+use Rattle.psci_platform.proofs.Words.{nat_lt, Node, None, none-some, Option, parent, ParentLaws}
+use Rattle.psci_platform.proofs.Words.{PathLaws, refl, SizeLaws, Some, suc, swap_for, sym, true}
+use Rattle.psci_platform.proofs.Words.{unwrap_or, up, zero, ℕ}
+use Rattle.psci_board.specs.Board.{child, children}
 use Rattle.psci_fw_laws.specs.Renumbered.{swap}
 use Rattle.psci_platform.proofs.Counted.{or_right}
 use Rattle.psci_platform.proofs.Swapped.{all_of}
-use Rattle.psci_platform.specs.Swaps.{goes_along, is_on_path, is_swapped, is_symmetric, moved}
-use Rattle.psci_platform.specs.Swaps.{moved_in, number_of, other_number, swap_for}
+use Rattle.psci_platform.specs.Swaps.{is_on_path, is_symmetric, moved, moved_in, number_of}
+use Rattle.psci_platform.specs.Swaps.{other_number}
 
 -- What the proofs stand on.
 pub record Laws (b : BoardValue) : Type 0 where

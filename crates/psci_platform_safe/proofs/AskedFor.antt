@@ -1,33 +1,26 @@
 -- Sentence 3: a domain that is not fully on is as deep as the cores below it had asked for.
-use Rattle.std.proofs.Common.{◌≡◌, ℕ, zero, suc, ◌<◌, ◌≤◌, ◌==◌, Bool, true, false, cond, List}
-use Rattle.std.proofs.Common.{[], ◌∷◌, ◌++◌, Some, refl, sym, ap, ◌∙◌, subst, arith, inl}
-use Rattle.std.proofs.Common.{inr, ◌⊎◌}
 use Rattle.std.specs.List.{list_all}
-use Rattle.std.specs.Prelude.{nat_le, slice_get}
-use Rattle.std.proofs.lemmas.Bool.{and_from, and_parts, eq-eqb, le-leb, leb-true}
-use Rattle.psci_headline.specs.Live.{AreAsked, AreClaimed}
+use Rattle.std.proofs.lemmas.Bool.{and_from, and_parts}
+use Rattle.psci_platform_safe.proofs.Words.{◌++◌, ◌<◌, ◌==◌, ◌∙◌, ◌∷◌, ◌≡◌, ◌≤◌, ◌⊎◌, [], AllAsk}
+use Rattle.psci_platform_safe.proofs.Words.{ap, AreAsked, AreClaimed, arith, AskFor, BoardValue}
+use Rattle.psci_platform_safe.proofs.Words.{Bool, cond, controller_values, cores, depth_above}
+use Rattle.psci_platform_safe.proofs.Words.{domain_above, eq-eqb, false, firmware_values, height}
+use Rattle.psci_platform_safe.proofs.Words.{inl, inr, IsCore, IsLegalOn, le-leb, leb-true, List}
+use Rattle.psci_platform_safe.proofs.Words.{MessageValue, mode_of, mpidr_of, nat_le, Node, number}
+use Rattle.psci_platform_safe.proofs.Words.{Part, part_for, PlatformValue, Record, refl, sent_in}
+use Rattle.psci_platform_safe.proofs.Words.{slice_get, Some, starts_below, subst, suc, SuspendMode}
+use Rattle.psci_platform_safe.proofs.Words.{sym, true, zero, ℕ}
 use Rattle.psci_headline.proofs.Claiming.{by_claim}
 use Rattle.psci_headline.proofs.fw_laws.Passing.{all_one}
 use Rattle.psci_headline.proofs.LiveOnes.{is_live_one}
-use Rattle.psci_platform.specs.Platforms.{PlatformValue}
 use Rattle.psci_headline.specs.Claims.{Claim, asks_by, claim_by, claims}
-use Rattle.psci_headline.specs.psci_board.Board.{BoardValue, below, cores, height, size_below, up}
-use Rattle.psci_headline.specs.psci_board.declared.node.Node.{Node}
+use Rattle.psci_headline.specs.psci_board.Board.{below, size_below, up}
 use Rattle.psci_headline.specs.psci_board.Paths.{is_on_path}
-use Rattle.psci_headline.specs.psci_messages.declared.part.Part.{Part}
-use Rattle.psci_headline.specs.psci_ctl_spec.Values.{starts_below}
-use Rattle.psci_headline.specs.psci_fw_laws.Claims.{part_for}
-use Rattle.psci_headline.specs.psci_fw_spec.declared.mode.SuspendMode.{SuspendMode}
 use Rattle.psci_headline.specs.psci_fw_spec.declared.mode.SuspendMode.TheVariants.{Platform}
 use Rattle.psci_headline.specs.psci_fw_spec.declared.mode.SuspendMode.TheVariants.{OsInitiated}
 use Rattle.psci_headline.specs.psci_fw_spec.Views.{ask}
-use Rattle.psci_headline.specs.psci_messages.Message.{MessageValue}
-use Rattle.psci_headline.specs.psci_world_spec.declared.said.Record.{Record}
-use Rattle.psci_headline.specs.psci_world_spec.Histories.{controller_values, firmware_values}
-use Rattle.psci_headline.specs.psci_world_spec.Histories.{sent_in}
-use Rattle.psci_platform_safe.specs.Asked.{AllAsk, AskFor, IsAsAsked, depth_above, mode_of}
-use Rattle.psci_platform_safe.specs.Names.{IsCore, domain_above, mpidr_of, number}
-use Rattle.psci_platform_safe.specs.Words.{IsLegalOn, numbered}
+use Rattle.psci_platform_safe.specs.Asked.{IsAsAsked}
+use Rattle.psci_platform_safe.specs.Words.{numbered}
 use Rattle.psci_platform_safe.proofs.Numbers.{Laws, has_above, number_back, number_inside}
 use Rattle.psci_platform_safe.proofs.Told.{record_for}
 

@@ -1,37 +1,26 @@
 -- What a platform was asked where the firmware was asked to open an entry point.
-use Rattle.std.proofs.Common.{◌≡◌, ◌⊎◌, ℕ, ◌+◌, ◌*◌, ◌<◌, ◌≤◌, ◌^◌, Bool, true, false, cond, List}
-use Rattle.std.proofs.Common.{[], Option, None, Some, refl, sym, ap, ◌∙◌, arith, inl, inr}
-use Rattle.std.proofs.Common.{option_map}
-use Rattle.std.specs.Prelude.{Result, Ok, Err, slice_index_or, unwrap_or}
-use Rattle.std.proofs.lemmas.Bool.{cases_Bool, eqb-true}
+use Rattle.std.specs.Prelude.{Ok, Err, slice_index_or}
+use Rattle.psci_platform_safe.proofs.Words.{◌*◌, ◌+◌, ◌<◌, ◌^◌, ◌∙◌, ◌≡◌, ◌≤◌, ◌⊎◌, [], ap}
+use Rattle.psci_platform_safe.proofs.Words.{argument, arith, BadState, Bool, cases_Bool, cond, Core}
+use Rattle.psci_platform_safe.proofs.Words.{core_of, core_word, depth_at, depths_of}
+use Rattle.psci_platform_safe.proofs.Words.{DescriptionValue, eqb-true, false, first_argument}
+use Rattle.psci_platform_safe.proofs.Words.{height, inl, inr, is_there, List, None, number, Opening}
+use Rattle.psci_platform_safe.proofs.Words.{Option, option_map, PlatformValue, refl, Regs, regs_for}
+use Rattle.psci_platform_safe.proofs.Words.{Request, request_of, request_with, rest_named, rest_of}
+use Rattle.psci_platform_safe.proofs.Words.{Result, short, Some, states_of, SuspendMode, sym, true}
+use Rattle.psci_platform_safe.proofs.Words.{unwrap_or, with_first, word_for, ℕ}
 use Rattle.psci_platform.specs.declared.class.Class.{Class}
-use Rattle.psci_platform.specs.declared.class.Class.TheVariants.{Running}
-use Rattle.psci_platform.specs.declared.class.Class.TheVariants.{PowerDown}
-use Rattle.psci_platform.specs.Calls.{first_argument, is_there, regs_for}
-use Rattle.psci_platform.specs.Cores.{core_word}
-use Rattle.psci_platform.specs.Described.{DescriptionValue}
-use Rattle.psci_platform.specs.Platforms.{PlatformValue}
-use Rattle.psci_platform.specs.States.{depth_at, depth_of, depths_of, states_of, word_for}
-use Rattle.psci_platform.proofs.Requests.{request_with, short, with_first}
-use Rattle.psci_headline.specs.psci_abi.Calls.{argument, low_half, request_of}
-use Rattle.psci_headline.specs.psci_abi.declared.registers.Regs.{Regs}
-use Rattle.psci_headline.specs.psci_abi.declared.request.Request.{Request}
-use Rattle.psci_headline.specs.psci_abi.declared.request.Request.TheVariants as requests
+use Rattle.psci_platform.specs.declared.class.Class.TheVariants.{Running, PowerDown}
+use Rattle.psci_platform.specs.States.{depth_of}
+use Rattle.psci_headline.specs.psci_abi.Calls.{low_half}
 use Rattle.psci_headline.specs.psci_abi.declared.format.Format.{Format}
-use Rattle.psci_headline.specs.psci_abi.declared.format.Format.TheVariants.{Extended}
-use Rattle.psci_headline.specs.psci_abi.declared.format.Format.TheVariants.{Original}
-use Rattle.psci_headline.specs.psci_board.Board.{core_of, height}
-use Rattle.psci_headline.specs.psci_board.declared.node.Core.{Core}
-use Rattle.psci_headline.specs.psci_fw_spec.declared.mode.SuspendMode.{SuspendMode}
-use Rattle.psci_headline.specs.psci_fw_spec.declared.opening.Opening.{Opening}
-use Rattle.psci_headline.specs.psci_fw_spec.Effects.{rest_named, rest_of}
+use Rattle.psci_headline.specs.psci_abi.declared.format.Format.TheVariants.{Extended, Original}
 use Rattle.psci_headline.specs.psci_state.Ask.{deepest_of, is_deep}
 use Rattle.psci_headline.specs.psci_state.PowerState.{ask_of, word_of}
-use Rattle.psci_headline.specs.psci_state.declared.fault.BadState.{BadState}
-use Rattle.psci_platform_safe.specs.Names.{number}
 use Rattle.psci_platform_safe.specs.Opened.{IsPowerDown}
 use Rattle.psci_platform_safe.proofs.Numbers.{Laws}
 use Rattle.psci_platform_safe.proofs.Telling.{core_short, told}
+use Rattle.psci_headline.specs.psci_abi.declared.request.Request.TheVariants as requests
 
 -- a function that is not there is called as an unknown one
 abbrev pub AreMissing : PlatformValue → Type 0

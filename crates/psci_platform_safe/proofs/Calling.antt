@@ -1,27 +1,16 @@
 -- What a call that asked a core on, or that stopped its caller, was asked and answered.
-use Rattle.std.proofs.Common.{sym, ◌∙◌}
-use Rattle.std.proofs.Common.{false}
-use Rattle.psci_headline.specs.psci_fw_spec.Effects.{Effect}
-use Rattle.std.proofs.Common.{◌≡◌, ℕ, Bool, true, false, cond, Option, None, Some, refl, ap}
 use Rattle.std.specs.Ordering.{int_eq}
-use Rattle.psci_headline.specs.psci_abi.Codes.{success}
-use Rattle.psci_headline.specs.psci_abi.declared.code.Code.{Code}
-use Rattle.psci_headline.specs.psci_abi.declared.request.Request.{Request}
-use Rattle.psci_headline.specs.psci_abi.declared.request.Request.TheVariants as requests
-use Rattle.psci_headline.specs.psci_board.Board.{BoardValue}
-use Rattle.psci_headline.specs.psci_fw_spec.declared.mode.SuspendMode.{SuspendMode}
-use Rattle.psci_headline.specs.psci_fw_spec.declared.outcome.Act.{Act}
-use Rattle.psci_headline.specs.psci_fw_spec.declared.outcome.Act.TheVariants as acts
-use Rattle.psci_headline.specs.psci_fw_spec.declared.outcome.Outcome.{Outcome}
-use Rattle.psci_headline.specs.psci_fw_spec.Calls.{outcome_of}
-use Rattle.psci_headline.specs.psci_fw_spec.Changes.{PowerOn, Rest}
-use Rattle.psci_headline.specs.psci_fw_spec.Effects.{AsksOn, Rests, function_effect, mode_effect}
-use Rattle.psci_headline.specs.psci_fw_spec.Effects.{GoesOn, rest_of, return_effect, sent_effect}
+use Rattle.psci_platform_safe.proofs.Words.{◌∙◌, ◌≡◌, Act, ap, AsksOn, BoardValue, Bool, Code, cond}
+use Rattle.psci_platform_safe.proofs.Words.{Effect, false, function_effect, GoesOn, MessageValue}
+use Rattle.psci_platform_safe.proofs.Words.{None, Option, Outcome, outcome_of, PowerOn, refl}
+use Rattle.psci_platform_safe.proofs.Words.{Request, Rest, rest_of, Rests, Some, success}
+use Rattle.psci_platform_safe.proofs.Words.{SuspendMode, sym, true, Values, ℕ}
+use Rattle.psci_headline.specs.psci_fw_spec.Effects.{mode_effect, return_effect, sent_effect}
 use Rattle.psci_headline.specs.psci_fw_spec.Effects.{stop_effect}
 use Rattle.psci_headline.specs.psci_fw_spec.SuspendMode.{mode_of}
-use Rattle.psci_headline.specs.psci_fw_spec.Values.{Values}
-use Rattle.psci_headline.specs.psci_messages.Message.{MessageValue}
 use Rattle.psci_headline.proofs.fw_spec.Endings.{function_ends, outcome_ends}
+use Rattle.psci_headline.specs.psci_abi.declared.request.Request.TheVariants as requests
+use Rattle.psci_headline.specs.psci_fw_spec.declared.outcome.Act.TheVariants as acts
 
 -- What opens nothing ----------------------------------------------------------------------------
 

@@ -1,57 +1,35 @@
 -- Sentence 4: each entry at an opening takes up one that waited for its core, or begins a life.
-use Rattle.std.proofs.lemmas.Bool.{eq-eqb}
-use Rattle.std.proofs.Common.{sym, ◌∙◌, true, false, inr}
-use Rattle.psci_platform_safe.proofs.Numbers.{is_core, only_one}
-use Rattle.psci_platform_safe.proofs.Waiting.{first_is}
-use Rattle.std.proofs.Common.{◌≡◌, ◌⊎◌, ℕ, zero, suc, ◌<◌, ◌==◌, ◌||◌, Bool, true, false, cond}
-use Rattle.std.proofs.Common.{List, [], ◌∷◌, Option, None, Some, refl, sym, ap, ◌∙◌, arith, inl}
-use Rattle.std.proofs.Common.{not, option_map}
-use Rattle.std.specs.Prelude.{nat_lt}
-use Rattle.std.proofs.lemmas.Bool.{eq-eqb, eqb-true, ltb-true}
-use Rattle.psci_platform.specs.Platforms.{PlatformValue}
-use Rattle.psci_headline.specs.psci_board.Board.{BoardValue, cores}
-use Rattle.psci_headline.specs.psci_ctl_spec.Replies.{last_start}
-use Rattle.psci_headline.specs.psci_fw_spec.declared.call.FwCall.TheVariants as calls
-use Rattle.psci_headline.specs.psci_fw_spec.declared.fault.FwFault.{FwFault}
-use Rattle.psci_headline.specs.psci_fw_spec.declared.fault.FwFault.TheVariants.{NoCore, NoLife}
+use Rattle.std.proofs.Common.{◌||◌}
+use Rattle.std.proofs.lemmas.Bool.{ltb-true}
+use Rattle.psci_platform_safe.proofs.Words.{◌<◌, ◌==◌, ◌∙◌, ◌∷◌, ◌≡◌, ◌⊎◌, [], Absent, Act, ap}
+use Rattle.psci_platform_safe.proofs.Words.{arith, BoardValue, Bool, boot_opening, change, cond}
+use Rattle.psci_platform_safe.proofs.Words.{controller_values, cores, Enter, eq-eqb, eqb-true}
+use Rattle.psci_platform_safe.proofs.Words.{Event, event_after, false, firmware_values, Fw, FwFault}
+use Rattle.psci_platform_safe.proofs.Words.{if_started, in_life, inl, inr, IsLegalOn, last_start}
+use Rattle.psci_platform_safe.proofs.Words.{life_of, List, nat_lt, NoCore, NoLife, None, not}
+use Rattle.psci_platform_safe.proofs.Words.{number, OneEntryEach, Opening, Option, option_map}
+use Rattle.psci_platform_safe.proofs.Words.{Outcome, Place, place, PlatformValue, Record, refl}
+use Rattle.psci_platform_safe.proofs.Words.{reply_or, said_in_numbers, Sent, sent_in_numbers, Some}
+use Rattle.psci_platform_safe.proofs.Words.{Start, start_of_life, Started, stops, suc, sym, true}
+use Rattle.psci_platform_safe.proofs.Words.{Values, Waits, zero, ℕ}
+use Rattle.psci_platform_safe.proofs.Numbers.{is_core, only_one, is_core, only_one}
+use Rattle.psci_platform_safe.proofs.Waiting.{first_is, first_is}
 use Rattle.psci_headline.specs.psci_fw_spec.declared.fault.FwFault.TheVariants.{OldStart}
-use Rattle.psci_headline.specs.psci_fw_spec.declared.opening.Opening.{Opening}
-use Rattle.psci_headline.specs.psci_fw_spec.declared.outcome.Act.{Act}
-use Rattle.psci_headline.specs.psci_fw_spec.declared.outcome.Act.TheVariants as acts
-use Rattle.psci_headline.specs.psci_fw_spec.declared.outcome.Outcome.{Outcome}
 use Rattle.psci_headline.specs.psci_fw_spec.declared.reply.FwReply.{FwReply}
-use Rattle.psci_headline.specs.psci_fw_spec.declared.reply.FwReply.TheVariants as replies
-use Rattle.psci_headline.specs.psci_fw_spec.After.{change}
-use Rattle.psci_headline.specs.psci_fw_spec.Answer.{answer, reply_or}
+use Rattle.psci_headline.specs.psci_fw_spec.Answer.{answer}
 use Rattle.psci_headline.specs.psci_fw_spec.Changes.{with_arrival}
 use Rattle.psci_headline.specs.psci_fw_spec.CpuOff.{off_message}
 use Rattle.psci_headline.specs.psci_fw_spec.Entering.{enter_fault, enter_outcome, is_old}
 use Rattle.psci_headline.specs.psci_fw_spec.Entering.{outcome_at, resumes}
-use Rattle.psci_headline.specs.psci_fw_spec.Lives.{in_life, start_of_life}
-use Rattle.psci_headline.specs.psci_fw_spec.Outcomes.{stops, stops_with}
-use Rattle.psci_headline.specs.psci_fw_spec.Values.{Values}
-use Rattle.psci_headline.specs.psci_messages.declared.start.Start.{Start}
-use Rattle.psci_headline.specs.psci_world_spec.declared.event.Event.{Event}
-use Rattle.psci_headline.specs.psci_world_spec.declared.event.Event.TheVariants.{Enter}
-use Rattle.psci_headline.specs.psci_world_spec.declared.place.Place.{Place}
-use Rattle.psci_headline.specs.psci_world_spec.declared.place.Place.TheVariants.{Started}
-use Rattle.psci_headline.specs.psci_world_spec.declared.said.Record.{Record}
-use Rattle.psci_headline.specs.psci_world_spec.declared.said.Said.TheVariants.{Absent, Fw}
-use Rattle.psci_headline.specs.psci_world_spec.declared.said.Sent.{Sent}
-use Rattle.psci_headline.specs.psci_world_spec.Histories.{controller_values, firmware_history}
-use Rattle.psci_headline.specs.psci_world_spec.Histories.{firmware_values}
-use Rattle.psci_headline.specs.psci_world_spec.Legal.{if_started, legal, said_of}
-use Rattle.psci_headline.specs.psci_world_spec.Places.{place}
-use Rattle.psci_platform_safe.specs.Asked.{life_of}
-use Rattle.psci_platform_safe.specs.Names.{number}
-use Rattle.psci_platform_safe.specs.Opened.{OneEntryEach, Waits, boot_opening}
-use Rattle.psci_platform_safe.specs.Words.{IsLegalOn, event_after, numbered, said_in_numbers}
-use Rattle.psci_platform_safe.specs.Words.{sent_in_numbers}
+use Rattle.psci_headline.specs.psci_fw_spec.Outcomes.{stops_with}
+use Rattle.psci_headline.specs.psci_world_spec.Histories.{firmware_history}
+use Rattle.psci_headline.specs.psci_world_spec.Legal.{legal, said_of}
+use Rattle.psci_platform_safe.specs.Words.{numbered}
 use Rattle.psci_platform_safe.proofs.Entries.{waiting}
-use Rattle.psci_platform_safe.proofs.Numbers.{is_core, only_one}
-use Rattle.psci_platform_safe.proofs.Records.{OpeningLaws, effect_now, entered_effect}
-use Rattle.psci_platform_safe.proofs.Records.{message_in}
-use Rattle.psci_platform_safe.proofs.Waiting.{first_is}
+use Rattle.psci_platform_safe.proofs.Records.{OpeningLaws, effect_now, entered_effect, message_in}
+use Rattle.psci_headline.specs.psci_fw_spec.declared.call.FwCall.TheVariants as calls
+use Rattle.psci_headline.specs.psci_fw_spec.declared.outcome.Act.TheVariants as acts
+use Rattle.psci_headline.specs.psci_fw_spec.declared.reply.FwReply.TheVariants as replies
 
 -- What is said of an entry ----------------------------------------------------------------------
 

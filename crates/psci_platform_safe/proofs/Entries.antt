@@ -1,49 +1,26 @@
 -- Sentence 4: after each legal history the openings that the firmware keeps wait, and each entry at
 -- an opening takes up one of them, or begins a life.
-use Rattle.std.proofs.Common.{false}
-use Rattle.std.proofs.Common.{◌≡◌, ℕ, ◌<◌, Bool, true, false, cond, List, [], ◌∷◌, ◌++◌, Option}
-use Rattle.std.proofs.Common.{None, Some, refl, sym, ap, ◌∙◌, subst, arith, option_map}
-use Rattle.std.specs.Prelude.{nat_lt}
-use Rattle.psci_platform.specs.Platforms.{PlatformValue}
-use Rattle.psci_headline.specs.psci_abi.declared.registers.Regs.{Regs}
-use Rattle.psci_headline.specs.psci_board.Board.{BoardValue, cores}
-use Rattle.psci_headline.specs.psci_ctl_spec.Replies.{last_start}
-use Rattle.psci_headline.specs.psci_fw_spec.declared.opening.Opening.{Opening}
-use Rattle.psci_headline.specs.psci_fw_spec.declared.outcome.Act.{Act}
-use Rattle.psci_headline.specs.psci_fw_spec.declared.outcome.Act.TheVariants as acts
-use Rattle.psci_headline.specs.psci_fw_spec.After.{change}
-use Rattle.psci_headline.specs.psci_fw_spec.Effects.{Nothing, enter_effect}
-use Rattle.psci_headline.specs.psci_fw_spec.Legal.{IsLegal}
-use Rattle.psci_headline.specs.psci_fw_spec.Said.{arrived}
-use Rattle.psci_headline.specs.psci_messages.declared.start.Start.{Start}
-use Rattle.psci_headline.specs.psci_messages.declared.taken.Taken.{Taken}
-use Rattle.psci_headline.specs.psci_messages.declared.taken.Taken.TheVariants as takens
-use Rattle.psci_headline.specs.psci_messages.Message.{AckValue, MessageValue}
-use Rattle.psci_headline.specs.psci_world_spec.declared.event.Event.{Event}
-use Rattle.psci_headline.specs.psci_world_spec.declared.event.Event.TheVariants.{Call, Enter}
-use Rattle.psci_headline.specs.psci_world_spec.declared.event.Event.TheVariants.{Take}
-use Rattle.psci_headline.specs.psci_world_spec.declared.place.Place.{Place}
-use Rattle.psci_headline.specs.psci_world_spec.declared.place.Place.TheVariants.{Started}
-use Rattle.psci_headline.specs.psci_world_spec.declared.said.Record.{Record}
-use Rattle.psci_headline.specs.psci_world_spec.declared.said.Said.{Said}
-use Rattle.psci_headline.specs.psci_world_spec.declared.said.Said.TheVariants.{Absent, Fw}
+use Rattle.psci_platform_safe.proofs.Words.{◌++◌, ◌<◌, ◌∙◌, ◌∷◌, ◌≡◌, [], Absent, acks, AckValue}
+use Rattle.psci_platform_safe.proofs.Words.{Act, ap, arith, arrived, BoardValue, Bool, Call, call}
+use Rattle.psci_platform_safe.proofs.Words.{change, cond, controller_values, cores, Enter}
+use Rattle.psci_platform_safe.proofs.Words.{enter_effect, Event, event_after, false, firmware_legal}
+use Rattle.psci_platform_safe.proofs.Words.{firmware_values, Fw, if_started, indexed, IsCore}
+use Rattle.psci_platform_safe.proofs.Words.{IsLegal, IsLegalOn, last_start, life_of, List}
+use Rattle.psci_platform_safe.proofs.Words.{MessageValue, nat_lt, None, Nothing, number, Opening}
+use Rattle.psci_platform_safe.proofs.Words.{Option, option_map, Place, place, PlatformValue, Record}
+use Rattle.psci_platform_safe.proofs.Words.{refl, Regs, Said, said_in_numbers, Sent}
+use Rattle.psci_platform_safe.proofs.Words.{sent_in_numbers, Some, Start, Started, subst, sym, Take}
+use Rattle.psci_platform_safe.proofs.Words.{Taken, true, Waits, ℕ}
 use Rattle.psci_headline.specs.psci_world_spec.declared.said.Said.TheVariants.{Taken as Took}
-use Rattle.psci_headline.specs.psci_world_spec.declared.said.Sent.{Sent}
-use Rattle.psci_headline.specs.psci_world_spec.Histories.{acks, call, controller_values}
-use Rattle.psci_headline.specs.psci_world_spec.Histories.{firmware_history, firmware_values}
-use Rattle.psci_headline.specs.psci_world_spec.Legal.{if_started, legal}
-use Rattle.psci_headline.specs.psci_world_spec.Lists.{indexed}
-use Rattle.psci_headline.specs.psci_world_spec.Places.{place}
-use Rattle.psci_headline.proofs.world_spec.Answered.{firmware_legal}
-use Rattle.psci_platform_safe.specs.Asked.{life_of}
-use Rattle.psci_platform_safe.specs.Names.{IsCore, number}
-use Rattle.psci_platform_safe.specs.Opened.{Waits}
-use Rattle.psci_platform_safe.specs.Words.{IsLegalOn, event_after, numbered, said_in_numbers}
-use Rattle.psci_platform_safe.specs.Words.{sent_in_numbers}
+use Rattle.psci_headline.specs.psci_world_spec.Histories.{firmware_history}
+use Rattle.psci_headline.specs.psci_world_spec.Legal.{legal}
+use Rattle.psci_platform_safe.specs.Words.{numbered}
 use Rattle.psci_platform_safe.proofs.Records.{OpeningLaws, effect_in, effect_now, entered_effect}
 use Rattle.psci_platform_safe.proofs.Records.{message_in, opens_on, opens_rest, took_effect}
 use Rattle.psci_platform_safe.proofs.Calling.{opens, opens_none}
 use Rattle.psci_platform_safe.proofs.Waiting.{AreWaiting, leaves, none_one}
+use Rattle.psci_headline.specs.psci_fw_spec.declared.outcome.Act.TheVariants as acts
+use Rattle.psci_headline.specs.psci_messages.declared.taken.Taken.TheVariants as takens
 
 -- Entries open nothing --------------------------------------------------------------------------
 

@@ -1,24 +1,18 @@
 -- A platform and its histories, for worked examples: four cores with MPIDRs in two fields and with
 -- gaps, of which one of the second cluster boots.
-use Rattle.std.proofs.Common.{ℕ, List, [], ◌∷◌, ◌++◌}
+use Rattle.psci_platform_safe.proofs.Words.{◌++◌, ◌∷◌, [], Deliver, DescriptionValue, Enter, Event}
+use Rattle.psci_platform_safe.proofs.Words.{legal_for, List, PlatformValue, Record, Said}
+use Rattle.psci_platform_safe.proofs.Words.{system_reset, Take, ℕ}
 use Rattle.psci_platform.specs.declared.class.Class.TheVariants.{Retention, Standby}
-use Rattle.psci_platform.specs.Described.{DescriptionValue}
-use Rattle.psci_platform.specs.Platforms.{PlatformValue}
 use Rattle.psci_platform.proofs.Machines.{all_functions, calling, checking, describes, down, level}
 use Rattle.psci_platform.proofs.Machines.{retained, row}
 use Rattle.psci_headline.specs.Claims.{claims, live_claims}
 use Rattle.psci_headline.specs.Moments.{was_powered_down}
 use Rattle.psci_headline.specs.Openings.{openings, taken_up}
 use Rattle.psci_headline.specs.ToldHw.{was_so_deep}
-use Rattle.psci_headline.specs.psci_world_spec.declared.event.Event.{Event}
-use Rattle.psci_headline.specs.psci_world_spec.declared.event.Event.TheVariants.{Deliver, Enter}
-use Rattle.psci_headline.specs.psci_world_spec.declared.event.Event.TheVariants.{Take}
-use Rattle.psci_headline.specs.psci_world_spec.declared.said.Record.{Record}
-use Rattle.psci_headline.specs.psci_world_spec.declared.said.Said.{Said}
+use Rattle.psci_headline.proofs.world_spec.Scripts.{board, call, off, tall as tall_board}
+use Rattle.psci_platform_safe.specs.Words.{numbered, run_on}
 use Rattle.psci_headline.proofs.world_spec.Scripts as scripts
-use Rattle.psci_headline.proofs.world_spec.Scripts.{board, call, off, system_reset}
-use Rattle.psci_headline.proofs.world_spec.Scripts.{tall as tall_board}
-use Rattle.psci_platform_safe.specs.Words.{legal_for, numbered, run_on}
 
 -- what an example unfolds to compute what is said on a platform, and the sentences
 unfoldable pub computing : Unit {0}

@@ -28,3 +28,4 @@ mod AskedForRows
 mod StartRows
 mod BrokenRows
 mod DeeperRows
+pub mod Words

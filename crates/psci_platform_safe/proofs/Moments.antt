@@ -1,27 +1,18 @@
 -- For worked examples: the moments of a past at which a message was sent, and the cores that a
 -- platform has, each written out.
-use Rattle.std.proofs.Common.{◌≡◌, ◌==◌, ◌++◌, ◌+◌, ◌<◌, ◌≤◌, ◌⊎◌, ℕ, zero, suc, List, [], ◌∷◌}
-use Rattle.std.proofs.Common.{length, Option, None, Some, inl, inr, refl, subst, arith}
-use Rattle.std.proofs.Common.{false}
-use Rattle.std.specs.Prelude.{slice_index}
-use Rattle.std.proofs.lemmas.Bool.{cases_eq, eq-eqb}
-use Rattle.psci_platform.specs.Platforms.{PlatformValue}
-use Rattle.psci_headline.specs.psci_board.declared.node.Node.{Node}
-use Rattle.psci_headline.specs.psci_messages.declared.part.Part.{Part}
-use Rattle.psci_headline.specs.psci_ctl_spec.Values.{starts_below}
-use Rattle.psci_headline.specs.psci_fw_laws.Claims.{part_for}
-use Rattle.psci_headline.specs.psci_messages.Message.{MessageValue}
-use Rattle.psci_headline.specs.psci_world_spec.declared.said.Record.{Record}
-use Rattle.psci_headline.specs.psci_world_spec.Histories.{controller_values, sent_in}
-use Rattle.psci_platform_safe.specs.Asked.{AllAsk, AskFor, IsFromStart, asks}
-use Rattle.psci_platform_safe.specs.Asked.{depth_above, mode_of}
-use Rattle.psci_platform_safe.specs.Safe.{NoDeeperThanAsked, NoneBelowSleeping, OneLiveClaim}
+use Rattle.std.proofs.lemmas.Bool.{cases_eq}
+use Rattle.psci_platform_safe.proofs.Words.{◌++◌, ◌+◌, ◌<◌, ◌==◌, ◌∷◌, ◌≡◌, ◌≤◌, ◌⊎◌, [], AllAsk}
+use Rattle.psci_platform_safe.proofs.Words.{arith, AskFor, controller_values, depth_above}
+use Rattle.psci_platform_safe.proofs.Words.{domain_above, eq-eqb, false, height, inl, inr, IsCore}
+use Rattle.psci_platform_safe.proofs.Words.{length, List, MessageValue, mode_of, mpidr_of, Node}
+use Rattle.psci_platform_safe.proofs.Words.{NoDeeperThanAsked, None, NoneBelowSleeping, numbered}
+use Rattle.psci_platform_safe.proofs.Words.{OneLiveClaim, Option, Part, part_for, PlatformValue}
+use Rattle.psci_platform_safe.proofs.Words.{Record, refl, said_in_numbers, sent_in, slice_index}
+use Rattle.psci_platform_safe.proofs.Words.{Some, starts_below, subst, suc, zero, ℕ}
+use Rattle.psci_platform_safe.specs.Asked.{IsFromStart, asks}
 use Rattle.psci_platform_safe.specs.Safe.{place_of}
 use Rattle.psci_headline.specs.Claims.{live_claims}
 use Rattle.psci_headline.specs.Moments.{executes}
-use Rattle.psci_headline.specs.psci_board.Board.{height}
-use Rattle.psci_platform_safe.specs.Names.{IsCore, domain_above, mpidr_of}
-use Rattle.psci_platform_safe.specs.Words.{numbered, said_in_numbers}
 use Rattle.psci_platform_safe.proofs.Numbers.{found}
 
 -- Messages ---------------------------------------------------------------------------------------

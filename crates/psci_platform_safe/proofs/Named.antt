@@ -1,13 +1,10 @@
 -- What the laws below say of a platform.
-use Rattle.std.proofs.Common.{◌≡◌, ℕ, ◌<◌, ◌≤◌, length, Option, Some, ap, sym, subst, arith}
-use Rattle.std.specs.Prelude.{option_map, slice_index, unwrap_or}
-use Rattle.psci_platform.specs.Cores.{boot_place, core_named, core_word, number_named}
-use Rattle.psci_platform.specs.Platforms.{IsPlatform, PlatformValue}
-use Rattle.psci_platform.specs.Swaps.{swap_for}
-use Rattle.psci_platform.specs.psci_fw_laws.Renumbered.{IsRenumbering}
-use Rattle.psci_headline.specs.psci_board.Board.{IsBoard, core_of, cores, height, node_of, up}
-use Rattle.psci_headline.specs.psci_board.Laws.{PathLaws, WordLaws}
-use Rattle.psci_platform_safe.specs.Names.{number}
+use Rattle.std.specs.Prelude.{option_map}
+use Rattle.psci_platform_safe.proofs.Words.{◌<◌, ◌≡◌, ◌≤◌, ap, arith, boot_place, core_named}
+use Rattle.psci_platform_safe.proofs.Words.{core_of, core_word, cores, height, IsBoard, IsPlatform}
+use Rattle.psci_platform_safe.proofs.Words.{IsRenumbering, length, node_of, number, number_named}
+use Rattle.psci_platform_safe.proofs.Words.{Option, PathLaws, PlatformValue, slice_index, Some}
+use Rattle.psci_platform_safe.proofs.Words.{subst, swap_for, sym, unwrap_or, up, WordLaws, ℕ}
 use Rattle.psci_platform_safe.proofs.Numbers.{Laws}
 
 -- What the laws say, where the description names the boot core's place.

@@ -1,21 +1,18 @@
 -- The firmware's numbers and the MPIDRs of cores name each other.
-use Rattle.std.proofs.Common.{◌≡◌, ℕ, ◌*◌, ◌/◌, ◌^◌, ◌<◌, ◌≤◌, ◌==◌, Bool, true, false, cond}
-use Rattle.std.proofs.Common.{length, Option, None, Some, refl, sym, ap, ◌∙◌, arith}
-use Rattle.std.specs.Prelude.{nat_le, option_map, slice_index, unwrap_or}
+use Rattle.std.proofs.Common.{◌/◌}
+use Rattle.std.specs.Prelude.{option_map}
 use Rattle.std.specs.List.{position}
-use Rattle.std.proofs.lemmas.Bool.{eqb-true, leb-true}
 use Rattle.std.proofs.lemmas.List.Quantifiers.{position-Some}
-use Rattle.psci_platform.specs.Cores.{core_named, core_word, number_named}
-use Rattle.psci_platform.specs.Platforms.{IsPlatform, PlatformValue}
-use Rattle.psci_platform.specs.Swaps.{swap_for}
-use Rattle.psci_platform.specs.psci_fw_laws.Renumbered.{IsRenumbering}
-use Rattle.psci_platform.proofs.Swapped.{core_inside}
-use Rattle.psci_headline.specs.psci_board.Board.{HasNode, IsBoard, core_of, cores, height}
-use Rattle.psci_headline.specs.psci_board.Board.{node_of, up}
-use Rattle.psci_headline.specs.psci_board.Laws.{PathLaws, WordLaws}
-use Rattle.psci_headline.specs.psci_board.declared.node.Node.{Node}
-use Rattle.psci_platform_safe.specs.Names.{IsAskedOf, IsCore, domain_above, mpidr_of, node_asked}
-use Rattle.psci_platform_safe.specs.Names.{number}
+use Rattle.psci_platform_safe.proofs.Words.{◌*◌, ◌<◌, ◌==◌, ◌^◌, ◌∙◌, ◌≡◌, ◌≤◌, ap, arith, Bool}
+use Rattle.psci_platform_safe.proofs.Words.{cond, core_inside, core_named, core_of, core_word}
+use Rattle.psci_platform_safe.proofs.Words.{cores, domain_above, eqb-true, false, height, IsAskedOf}
+use Rattle.psci_platform_safe.proofs.Words.{IsBoard, IsCore, IsPlatform, IsRenumbering, leb-true}
+use Rattle.psci_platform_safe.proofs.Words.{length, mpidr_of, nat_le, Node, node_of, None, number}
+use Rattle.psci_platform_safe.proofs.Words.{number_named, Option, PathLaws, PlatformValue, refl}
+use Rattle.psci_platform_safe.proofs.Words.{slice_index, Some, swap_for, sym, true, unwrap_or, up}
+use Rattle.psci_platform_safe.proofs.Words.{WordLaws, ℕ}
+use Rattle.psci_headline.specs.psci_board.Board.{HasNode}
+use Rattle.psci_platform_safe.specs.Names.{node_asked}
 
 -- What the proofs stand on: a platform, and the laws of its board and of its names.
 pub record Laws (p : PlatformValue) : Type 0 where

@@ -1,28 +1,17 @@
 -- For worked examples: the records by which an opening that waits may have been made.
-use Rattle.std.proofs.Common.{◌≡◌, ◌∙◌, ◌⊎◌, ◌++◌, ℕ, zero, suc, List, [], ◌∷◌, Option, Some}
-use Rattle.std.proofs.Common.{inl, inr, sym, ap, subst, arith, refl}
-use Rattle.psci_headline.specs.psci_fw_spec.declared.outcome.Act.TheVariants as acts
-use Rattle.psci_headline.specs.psci_world_spec.declared.said.Sent.{Sent}
-use Rattle.psci_headline.specs.psci_world_spec.declared.said.Said.TheVariants.{Fw}
-use Rattle.std.specs.Prelude.{slice_index}
-use Rattle.psci_platform.specs.Platforms.{PlatformValue}
-use Rattle.psci_platform.specs.States.{depth_at, states_of}
-use Rattle.psci_headline.specs.psci_abi.Codes.{success}
-use Rattle.psci_headline.specs.psci_abi.declared.registers.Regs.{Regs}
-use Rattle.psci_headline.specs.psci_fw_spec.declared.mode.SuspendMode.{SuspendMode}
-use Rattle.psci_headline.specs.psci_abi.Calls.{request_of}
-use Rattle.psci_headline.specs.psci_abi.declared.request.Request.{Request}
-use Rattle.psci_headline.specs.psci_abi.declared.request.Request.TheVariants as requests
-use Rattle.psci_headline.specs.psci_fw_spec.declared.opening.Opening.{Opening}
-use Rattle.psci_headline.specs.psci_world_spec.declared.event.Event.{Event}
-use Rattle.psci_headline.specs.psci_world_spec.declared.event.Event.TheVariants.{Call, Deliver}
-use Rattle.psci_headline.specs.psci_world_spec.declared.event.Event.TheVariants.{Enter, Wake}
-use Rattle.psci_headline.specs.psci_world_spec.declared.said.Record.{Record}
-use Rattle.psci_headline.proofs.world_spec.Scripts.{enters, system_reset}
-use Rattle.psci_platform_safe.specs.Asked.{life_of}
-use Rattle.psci_platform_safe.specs.Opened.{ByCpuOn, BySuspend, NoneEnters, OneEntryEach, Opens}
-use Rattle.psci_platform_safe.specs.Opened.{Waits, boot_opening}
+use Rattle.psci_platform_safe.proofs.Words.{◌++◌, ◌∙◌, ◌∷◌, ◌≡◌, ◌⊎◌, [], ap, arith, boot_opening}
+use Rattle.psci_platform_safe.proofs.Words.{Call, Deliver, depth_at, Enter, Event, Fw, inl, inr}
+use Rattle.psci_platform_safe.proofs.Words.{life_of, List, NoneEnters, OneEntryEach, Opening, Opens}
+use Rattle.psci_platform_safe.proofs.Words.{Option, PlatformValue, Record, refl, Regs, Request}
+use Rattle.psci_platform_safe.proofs.Words.{request_of, Sent, slice_index, Some, states_of, subst}
+use Rattle.psci_platform_safe.proofs.Words.{suc, success, SuspendMode, sym, system_reset, Waits}
+use Rattle.psci_platform_safe.proofs.Words.{zero, ℕ}
+use Rattle.psci_headline.specs.psci_world_spec.declared.event.Event.TheVariants.{Wake}
+use Rattle.psci_headline.proofs.world_spec.Scripts.{enters}
+use Rattle.psci_platform_safe.specs.Opened.{ByCpuOn, BySuspend}
 use Rattle.psci_platform_safe.proofs.Histories.{says}
+use Rattle.psci_headline.specs.psci_fw_spec.declared.outcome.Act.TheVariants as acts
+use Rattle.psci_headline.specs.psci_abi.declared.request.Request.TheVariants as requests
 
 -- an opening
 abbrev pub at : ℕ → ℕ → Opening

@@ -1,54 +1,33 @@
 -- What a record of a platform comes down to for the firmware, and what its call opens.
-use Rattle.std.proofs.Common.{◌≡◌, ℕ, ◌<◌, List, [], ◌∷◌, ◌++◌, Option, None, Some, refl, sym, ap}
-use Rattle.std.proofs.Common.{◌∙◌, subst, inl, inr, option_map}
+use Rattle.psci_platform_safe.proofs.Words.{◌++◌, ◌<◌, ◌∙◌, ◌∷◌, ◌≡◌, [], acks, AckValue, Act, ap}
+use Rattle.psci_platform_safe.proofs.Words.{AsksOn, BoardValue, Call, call, change, Code}
+use Rattle.psci_platform_safe.proofs.Words.{controller_values, core_of, cores, Effect, Enter}
+use Rattle.psci_platform_safe.proofs.Words.{enter_effect, Event, event_after, firmware_history}
+use Rattle.psci_platform_safe.proofs.Words.{firmware_values, function_effect, Fw, FwFault, indexed}
+use Rattle.psci_platform_safe.proofs.Words.{inl, inr, IsCore, last_start, List, MessageValue}
+use Rattle.psci_platform_safe.proofs.Words.{mode_of, None, Nothing, number, numbered, Opening}
+use Rattle.psci_platform_safe.proofs.Words.{Opens, Option, option_map, Outcome, outcome_in}
+use Rattle.psci_platform_safe.proofs.Words.{outcome_of, PlatformValue, PowerOn, Record, refl, Regs}
+use Rattle.psci_platform_safe.proofs.Words.{regs_for, reply_or, request_of, Rest, Rests, Said}
+use Rattle.psci_platform_safe.proofs.Words.{said_in_numbers, Sent, sent_in_numbers, Some, Start}
+use Rattle.psci_platform_safe.proofs.Words.{subst, success, sym, Take, Taken, target, Values, ℕ}
 use Rattle.psci_headline.proofs.Naming.{AreNamed}
-use Rattle.psci_platform.specs.Calls.{regs_for}
-use Rattle.psci_platform.specs.Platforms.{PlatformValue}
-use Rattle.psci_headline.specs.psci_abi.Calls.{request_of}
-use Rattle.psci_headline.specs.psci_abi.Codes.{success}
-use Rattle.psci_headline.specs.psci_abi.declared.code.Code.{Code}
-use Rattle.psci_headline.specs.psci_abi.declared.registers.Regs.{Regs}
-use Rattle.psci_headline.specs.psci_abi.declared.request.Request.TheVariants as requests
-use Rattle.psci_headline.specs.psci_board.Board.{BoardValue, core_of, cores}
-use Rattle.psci_headline.specs.psci_ctl_spec.Replies.{last_start}
-use Rattle.psci_headline.specs.psci_fw_spec.declared.call.FwCall.TheVariants as calls
-use Rattle.psci_headline.specs.psci_fw_spec.declared.fault.FwFault.{FwFault}
-use Rattle.psci_headline.specs.psci_fw_spec.declared.opening.Opening.{Opening}
-use Rattle.psci_headline.specs.psci_fw_spec.declared.outcome.Act.{Act}
-use Rattle.psci_headline.specs.psci_fw_spec.declared.outcome.Act.TheVariants as acts
-use Rattle.psci_headline.specs.psci_fw_spec.declared.outcome.Outcome.{Outcome}
-use Rattle.psci_headline.specs.psci_fw_spec.declared.reply.FwReply.TheVariants as replies
-use Rattle.psci_headline.specs.psci_fw_spec.After.{after, change}
-use Rattle.psci_headline.specs.psci_fw_spec.Answer.{answer, reply_or}
-use Rattle.psci_headline.specs.psci_fw_spec.Calls.{call_fault, outcome_of}
-use Rattle.psci_headline.specs.psci_fw_spec.Changes.{PowerOn, Rest, target}
-use Rattle.psci_headline.specs.psci_fw_spec.Effects.{AsksOn, Effect, Nothing, Rests, effect_of}
-use Rattle.psci_headline.specs.psci_fw_spec.Effects.{enter_effect, function_effect}
+use Rattle.psci_headline.specs.psci_fw_spec.After.{after}
+use Rattle.psci_headline.specs.psci_fw_spec.Answer.{answer}
+use Rattle.psci_headline.specs.psci_fw_spec.Calls.{call_fault}
+use Rattle.psci_headline.specs.psci_fw_spec.Effects.{effect_of}
 use Rattle.psci_headline.specs.psci_fw_spec.Exchange.{FwExchange}
 use Rattle.psci_headline.specs.psci_fw_spec.History.{values_of}
-use Rattle.psci_headline.specs.psci_fw_spec.Values.{Values}
-use Rattle.psci_headline.specs.psci_messages.declared.start.Start.{Start}
-use Rattle.psci_headline.specs.psci_messages.declared.taken.Taken.{Taken}
-use Rattle.psci_headline.specs.psci_messages.Message.{AckValue, MessageValue}
-use Rattle.psci_headline.specs.psci_world_spec.declared.event.Event.{Event}
-use Rattle.psci_headline.specs.psci_world_spec.declared.event.Event.TheVariants.{Call, Enter}
-use Rattle.psci_headline.specs.psci_world_spec.declared.event.Event.TheVariants.{Take}
-use Rattle.psci_headline.specs.psci_world_spec.declared.said.Record.{Record}
-use Rattle.psci_headline.specs.psci_world_spec.declared.said.Said.{Said}
-use Rattle.psci_headline.specs.psci_world_spec.declared.said.Said.TheVariants.{Fw, Taken as Took}
-use Rattle.psci_headline.specs.psci_world_spec.declared.said.Sent.{Sent}
-use Rattle.psci_headline.specs.psci_world_spec.Histories.{acks, call, controller_values, entered}
-use Rattle.psci_headline.specs.psci_world_spec.Histories.{firmware_history, firmware_values}
-use Rattle.psci_headline.specs.psci_world_spec.Histories.{outcome_in, took}
-use Rattle.psci_headline.specs.psci_world_spec.Lists.{indexed}
-use Rattle.psci_platform_safe.specs.Asked.{mode_of}
-use Rattle.psci_platform_safe.specs.Names.{IsCore, number}
-use Rattle.psci_platform_safe.specs.Opened.{Opens}
-use Rattle.psci_platform_safe.specs.Words.{event_after, numbered, said_in_numbers, sent_in_numbers}
+use Rattle.psci_headline.specs.psci_world_spec.declared.said.Said.TheVariants.{Taken as Took}
+use Rattle.psci_headline.specs.psci_world_spec.Histories.{entered, took}
 use Rattle.psci_platform_safe.proofs.Backwards.{AreMissing, AreNone, AreRead, on_back, suspend_back}
 use Rattle.psci_platform_safe.proofs.Backwards.{target_number}
 use Rattle.psci_platform_safe.proofs.Calling.{asks_on, rests, succeeds}
 use Rattle.psci_platform_safe.proofs.Numbers.{Laws, is_core, number_inside, only_one}
+use Rattle.psci_headline.specs.psci_abi.declared.request.Request.TheVariants as requests
+use Rattle.psci_headline.specs.psci_fw_spec.declared.call.FwCall.TheVariants as calls
+use Rattle.psci_headline.specs.psci_fw_spec.declared.outcome.Act.TheVariants as acts
+use Rattle.psci_headline.specs.psci_fw_spec.declared.reply.FwReply.TheVariants as replies
 
 -- one more exchange leaves what it leaves of the values before
 abbrev pub HasMore : PlatformValue → Type 0

@@ -1,31 +1,23 @@
 -- To each list of events of a platform there is a legal history.
-use Rattle.std.proofs.Common.{◌≡◌, ℕ, ◌<◌, List, [], ◌∷◌, ◌++◌, map, reverse, Option, None, Some}
-use Rattle.std.proofs.Common.{refl, ap, sym, ◌∙◌, subst, Bool, true, false, cond}
+use Rattle.std.proofs.Common.{map, reverse}
 use Rattle.std.proofs.lemmas.List.{append-nil, append_assoc, reverse-append}
-use Rattle.std.specs.Prelude.{slice_get}
-use Rattle.psci_platform.specs.Platforms.{PlatformValue}
+use Rattle.psci_platform_safe.proofs.Words.{◌++◌, ◌<◌, ◌∙◌, ◌∷◌, ◌≡◌, [], AckValue, ap, BoardValue}
+use Rattle.psci_platform_safe.proofs.Words.{Bool, cond, Core, cores, Event, event_after, false}
+use Rattle.psci_platform_safe.proofs.Words.{firmware_values, Fw, Holds, IsLegalOn, legal_for, List}
+use Rattle.psci_platform_safe.proofs.Words.{listed, MessageValue, mpidr_of, None, number, Option}
+use Rattle.psci_platform_safe.proofs.Words.{PlatformValue, Record, refl, Said, said_in_numbers}
+use Rattle.psci_platform_safe.proofs.Words.{sent_in, slice_get, Some, subst, sym, true, ℕ}
 use Rattle.psci_platform.specs.psci_fw_laws.Renumbered.{core_by}
-use Rattle.psci_headline.specs.psci_board.Board.{BoardValue, cores}
-use Rattle.psci_headline.specs.psci_board.declared.node.Core.{Core}
 use Rattle.psci_headline.specs.psci_ctl_spec.Replies.{ack_by, ack_of, may_follow}
-use Rattle.psci_headline.specs.psci_ctl_spec.Values as controlled
-use Rattle.psci_headline.specs.psci_fw_laws.Kept.{Holds}
-use Rattle.psci_headline.specs.psci_fw_spec.Said.{listed}
 use Rattle.psci_headline.specs.psci_messages.declared.kind.Kind.{Kind}
-use Rattle.psci_headline.specs.psci_messages.declared.kind.Kind.TheVariants as kinds
-use Rattle.psci_headline.specs.psci_messages.Message.{AckValue, MessageValue}
-use Rattle.psci_headline.specs.psci_world_spec.declared.event.Event.{Event}
-use Rattle.psci_headline.specs.psci_world_spec.declared.said.Record.{Record}
-use Rattle.psci_headline.specs.psci_world_spec.declared.said.Said.{Said}
-use Rattle.psci_headline.specs.psci_world_spec.declared.said.Said.TheVariants.{Fw, Acked}
-use Rattle.psci_headline.specs.psci_world_spec.Histories.{ack_in, acks, firmware_values, sent}
-use Rattle.psci_headline.specs.psci_world_spec.Histories.{sent_in}
+use Rattle.psci_headline.specs.psci_world_spec.declared.said.Said.TheVariants.{Acked}
+use Rattle.psci_headline.specs.psci_world_spec.Histories.{ack_in, acks, sent}
 use Rattle.psci_headline.specs.psci_world_spec.Legal.{IsLegalPast, legal, legal_record}
 use Rattle.psci_headline.specs.Acknowledged.{WasMade}
-use Rattle.psci_platform_safe.specs.Names.{mpidr_of, number}
-use Rattle.psci_platform_safe.specs.Words.{IsLegalOn, event_after, legal_for, numbered, run_on}
-use Rattle.psci_platform_safe.specs.Words.{said_for, said_in_numbers}
+use Rattle.psci_platform_safe.specs.Words.{numbered, run_on, said_for}
 use Rattle.psci_platform_safe.proofs.Numbers.{Laws, number_back}
+use Rattle.psci_headline.specs.psci_ctl_spec.Values as controlled
+use Rattle.psci_headline.specs.psci_messages.declared.kind.Kind.TheVariants as kinds
 
 -- Back in numbers -------------------------------------------------------------------------------
 

@@ -1,28 +1,19 @@
 -- A legal history of a platform is safe, by what the laws below say of the firmware and the power
 -- controller behind it.
-use Rattle.std.proofs.Common.{◌≡◌, List, [], ◌∷◌, ◌++◌, Option, Some, ap}
-use Rattle.std.specs.Prelude.{slice_get}
-use Rattle.psci_headline.specs.Live.{AreAsked, AreClaimed}
-use Rattle.psci_headline.specs.ToldHw.{WasSoDeep, is_off_depth, is_standby_depth, told_hw}
-use Rattle.psci_headline.specs.ToldOff.{AllOff, told_off}
-use Rattle.psci_platform.specs.Platforms.{PlatformValue}
+use Rattle.psci_platform_safe.proofs.Words.{◌++◌, ◌∷◌, ◌≡◌, [], AllOff, ap, AreAsked, AreClaimed}
+use Rattle.psci_platform_safe.proofs.Words.{BoardValue, domain_above, firmware_values, Holds}
+use Rattle.psci_platform_safe.proofs.Words.{IsLegalOn, List, listed, MessageValue, Node}
+use Rattle.psci_platform_safe.proofs.Words.{NoDeeperThanAsked, NoneBelowSleeping, number}
+use Rattle.psci_platform_safe.proofs.Words.{OneEntryEach, OneLiveClaim, Option, PlatformValue}
+use Rattle.psci_platform_safe.proofs.Words.{Record, slice_get, Some, told_hw, told_off}
+use Rattle.psci_headline.specs.ToldHw.{WasSoDeep, is_off_depth, is_standby_depth}
 use Rattle.psci_headline.specs.Safe.{AlwaysSafe, Safe}
-use Rattle.psci_headline.specs.psci_board.Board.{BoardValue}
-use Rattle.psci_headline.specs.psci_board.declared.node.Node.{Node}
-use Rattle.psci_headline.specs.psci_fw_laws.Kept.{Holds}
-use Rattle.psci_headline.specs.psci_fw_spec.Said.{listed}
-use Rattle.psci_headline.specs.psci_messages.Message.{MessageValue}
-use Rattle.psci_headline.specs.psci_world_spec.declared.said.Record.{Record}
-use Rattle.psci_headline.specs.psci_world_spec.Histories.{firmware_values, sent}
-use Rattle.psci_platform_safe.specs.Names.{domain_above, number}
-use Rattle.psci_platform_safe.specs.Safe.{AlwaysSafeOn, NoneBelowSleeping, OffIsDown, OneLiveClaim}
-use Rattle.psci_platform_safe.specs.Safe.{NoDeeperThanAsked, SafeOn, StatesWereReal}
-use Rattle.psci_platform_safe.specs.Opened.{OneEntryEach}
-use Rattle.psci_platform_safe.specs.Words.{IsLegalOn, numbered}
+use Rattle.psci_headline.specs.psci_world_spec.Histories.{sent}
+use Rattle.psci_platform_safe.specs.Safe.{AlwaysSafeOn, OffIsDown, SafeOn, StatesWereReal}
+use Rattle.psci_platform_safe.specs.Words.{numbered}
 use Rattle.psci_platform_safe.proofs.AskedFor.{AreSound, as_asked}
 use Rattle.psci_platform_safe.proofs.Numbers.{Laws, has_above, number_inside}
-use Rattle.psci_platform_safe.proofs.Told.{AreUnknown, hw_is_told, off}
-use Rattle.psci_platform_safe.proofs.Told.{record_for}
+use Rattle.psci_platform_safe.proofs.Told.{AreUnknown, hw_is_told, off, record_for}
 
 -- What the laws below say of what is behind a platform.
 pub record Behind (p : PlatformValue) : Type 0 where

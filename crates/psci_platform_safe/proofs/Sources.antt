@@ -1,20 +1,14 @@
 -- Where an opening that waits comes from: it waited before, or a life began, or a call made it.
-use Rattle.std.proofs.Common.{◌≡◌, ℕ, ◌==◌, Bool, true, false, cond, Option, None, Some, refl, sym}
-use Rattle.std.proofs.Common.{ap, ◌∙◌, subst}
 use Rattle.std.specs.Option.{option_or}
-use Rattle.std.proofs.lemmas.Bool.{eqb-true, eq-eqb}
-use Rattle.psci_headline.specs.psci_board.Board.{BoardValue}
-use Rattle.psci_headline.specs.psci_fw_spec.declared.opening.Opening.{Opening}
-use Rattle.psci_headline.specs.psci_fw_spec.After.{change}
-use Rattle.psci_headline.specs.psci_fw_spec.Changes.{PowerOn, Rest, target}
-use Rattle.psci_headline.specs.psci_fw_spec.Effects.{Effect, Nothing, GoesOn, SetsMode, AsksOn}
-use Rattle.psci_headline.specs.psci_fw_spec.Effects.{Rests, Halts, Stops, Enters, Parks}
+use Rattle.psci_platform_safe.proofs.Words.{◌==◌, ◌∙◌, ◌≡◌, ap, arrived, AsksOn, BoardValue, Bool}
+use Rattle.psci_platform_safe.proofs.Words.{change, cond, Effect, eq-eqb, eqb-true, false}
+use Rattle.psci_platform_safe.proofs.Words.{first_opening, GoesOn, in_life, MessageValue, None}
+use Rattle.psci_platform_safe.proofs.Words.{Nothing, Opening, Option, PowerOn, refl, Rest, Rests}
+use Rattle.psci_platform_safe.proofs.Words.{Some, Start, start_of_life, subst, sym, target, true}
+use Rattle.psci_platform_safe.proofs.Words.{Values, ℕ}
+use Rattle.psci_headline.specs.psci_fw_spec.Effects.{SetsMode, Halts, Stops, Enters, Parks}
 use Rattle.psci_headline.specs.psci_fw_spec.Effects.{StopsAtOnce, Acknowledges}
-use Rattle.psci_headline.specs.psci_fw_spec.Lives.{first_opening, in_life, start_of_life}
-use Rattle.psci_headline.specs.psci_fw_spec.Said.{Arrival, arrived}
-use Rattle.psci_headline.specs.psci_fw_spec.Values.{Values}
-use Rattle.psci_headline.specs.psci_messages.declared.start.Start.{Start}
-use Rattle.psci_headline.specs.psci_messages.Message.{MessageValue}
+use Rattle.psci_headline.specs.psci_fw_spec.Said.{Arrival}
 
 -- an effect is no entry of this core
 abbrev pub NotEntered : Effect → ℕ → Type 0

@@ -1,56 +1,35 @@
 -- What a core asks that a word has suspended: the depths of the word's states.
-use Rattle.std.proofs.Common.{◌≡◌, ℕ, zero, suc, ◌≤◌, ◌==◌, Bool, true, false, cond, List, ◌∷◌}
-use Rattle.std.proofs.Common.{◌++◌}
-use Rattle.std.proofs.Common.{Option, None, Some, refl, sym, ap, ◌∙◌, subst, arith, inl, inr, not}
-use Rattle.std.specs.Prelude.{Result, slice_index}
-use Rattle.std.proofs.lemmas.Bool.{cases_Bool, eq-eqb, le-leb}
-use Rattle.psci_platform.specs.Calls.{is_there}
-use Rattle.psci_platform.specs.Described.{DescriptionValue}
-use Rattle.psci_platform.specs.Platforms.{PlatformValue}
-use Rattle.psci_platform.specs.States.{depth_at, depths_of, states_of, word_for}
-use Rattle.psci_headline.specs.psci_abi.Calls.{request_of}
-use Rattle.psci_headline.specs.psci_abi.declared.code.Code.{Code}
-use Rattle.psci_headline.specs.psci_abi.declared.registers.Regs.{Regs}
-use Rattle.psci_headline.specs.psci_abi.declared.request.Request.TheVariants as requests
-use Rattle.psci_headline.specs.psci_board.Board.{BoardValue, IsBoard, height}
-use Rattle.psci_headline.specs.psci_fw_spec.declared.call.FwCall.TheVariants as calls
-use Rattle.psci_headline.specs.psci_fw_spec.declared.fault.FwFault.{FwFault}
-use Rattle.psci_headline.specs.psci_fw_spec.declared.fault.FwFault.TheVariants.{NoCore, NoLife}
+use Rattle.psci_platform_safe.proofs.Words.{◌++◌, ◌==◌, ◌∙◌, ◌∷◌, ◌≡◌, ◌≤◌, acks, ap, arith}
+use Rattle.psci_platform_safe.proofs.Words.{BadState, BoardValue, Bool, Call, call, cases_Bool}
+use Rattle.psci_platform_safe.proofs.Words.{change, Code, cond, controller_values, depth_at}
+use Rattle.psci_platform_safe.proofs.Words.{depths_of, DescriptionValue, eq-eqb, Event, event_after}
+use Rattle.psci_platform_safe.proofs.Words.{false, firmware_legal, firmware_values, function_effect}
+use Rattle.psci_platform_safe.proofs.Words.{Fw, FwFault, height, inl, inr, is_there, IsBoard}
+use Rattle.psci_platform_safe.proofs.Words.{IsLegal, IsLegalOn, le-leb, List, MessageValue, mode_of}
+use Rattle.psci_platform_safe.proofs.Words.{NoCore, NoLife, None, not, number, Option, Outcome}
+use Rattle.psci_platform_safe.proofs.Words.{outcome_in, PlatformValue, Record, refl, Regs, reply_or}
+use Rattle.psci_platform_safe.proofs.Words.{request_of, rest_named, Result, Said, said_in_numbers}
+use Rattle.psci_platform_safe.proofs.Words.{Sent, sent_in_numbers, slice_index, Some, states_of}
+use Rattle.psci_platform_safe.proofs.Words.{stops, subst, suc, sym, true, Values, word_for, zero, ℕ}
 use Rattle.psci_headline.specs.psci_fw_spec.declared.fault.FwFault.TheVariants.{NotRunning}
-use Rattle.psci_headline.specs.psci_fw_spec.declared.outcome.Act.TheVariants as acts
-use Rattle.psci_headline.specs.psci_fw_spec.declared.outcome.Outcome.{Outcome}
-use Rattle.psci_headline.specs.psci_fw_spec.declared.reply.FwReply.TheVariants as replies
-use Rattle.psci_headline.specs.psci_fw_spec.After.{change}
-use Rattle.psci_headline.specs.psci_fw_spec.Answer.{answer, reply_or}
+use Rattle.psci_headline.specs.psci_fw_spec.Answer.{answer}
 use Rattle.psci_headline.specs.psci_fw_spec.Calls.{outcome_of}
 use Rattle.psci_headline.specs.psci_fw_spec.CpuSuspend.{suspend_asked}
-use Rattle.psci_headline.specs.psci_fw_spec.Effects.{function_effect, rest_named}
-use Rattle.psci_headline.specs.psci_fw_spec.Legal.{IsLegal}
-use Rattle.psci_headline.specs.psci_fw_spec.Outcomes.{returns, stops}
-use Rattle.psci_headline.specs.psci_fw_spec.Phases.{Phase, Running, Suspended}
-use Rattle.psci_headline.specs.psci_fw_spec.Phases.{activity_of, is_running, unless_pending}
-use Rattle.psci_headline.specs.psci_fw_spec.Values.{Values}
-use Rattle.psci_headline.specs.psci_messages.Message.{MessageValue}
+use Rattle.psci_headline.specs.psci_fw_spec.Outcomes.{returns}
+use Rattle.psci_headline.specs.psci_fw_spec.Phases.{Phase, Running, Suspended, activity_of}
+use Rattle.psci_headline.specs.psci_fw_spec.Phases.{is_running, unless_pending}
 use Rattle.psci_headline.specs.psci_state.Cores.{asks}
-use Rattle.psci_headline.specs.psci_state.declared.fault.BadState.{BadState}
-use Rattle.psci_headline.specs.psci_world_spec.declared.event.Event.{Event}
-use Rattle.psci_headline.specs.psci_world_spec.declared.event.Event.TheVariants.{Call}
-use Rattle.psci_headline.specs.psci_world_spec.declared.said.Record.{Record}
-use Rattle.psci_headline.specs.psci_world_spec.declared.said.Said.{Said}
-use Rattle.psci_headline.specs.psci_world_spec.declared.said.Said.TheVariants.{Fw}
-use Rattle.psci_headline.specs.psci_world_spec.declared.said.Sent.{Sent}
-use Rattle.psci_headline.specs.psci_world_spec.Histories.{acks, call, controller_values}
-use Rattle.psci_headline.specs.psci_world_spec.Histories.{firmware_history, firmware_values}
-use Rattle.psci_headline.specs.psci_world_spec.Histories.{outcome_in}
-use Rattle.psci_headline.proofs.world_spec.Answered.{firmware_legal}
-use Rattle.psci_platform_safe.specs.Asked.{AsksByWord, mode_of}
-use Rattle.psci_platform_safe.specs.Names.{number}
-use Rattle.psci_platform_safe.specs.Words.{IsLegalOn, event_after, numbered, said_in_numbers}
-use Rattle.psci_platform_safe.specs.Words.{sent_in_numbers}
+use Rattle.psci_headline.specs.psci_world_spec.Histories.{firmware_history}
+use Rattle.psci_platform_safe.specs.Asked.{AsksByWord}
+use Rattle.psci_platform_safe.specs.Words.{numbered}
 use Rattle.psci_platform_safe.proofs.Backwards.{AreMissing, AreNone, AreRead, for_small, half_of}
 use Rattle.psci_platform_safe.proofs.Records.{effect_in, message_in, outcome_is, regs_in}
 use Rattle.psci_platform_safe.proofs.Records.{values_with}
 use Rattle.psci_platform_safe.proofs.Telling.{told}
+use Rattle.psci_headline.specs.psci_abi.declared.request.Request.TheVariants as requests
+use Rattle.psci_headline.specs.psci_fw_spec.declared.call.FwCall.TheVariants as calls
+use Rattle.psci_headline.specs.psci_fw_spec.declared.outcome.Act.TheVariants as acts
+use Rattle.psci_headline.specs.psci_fw_spec.declared.reply.FwReply.TheVariants as replies
 
 -- A core that was stopped -----------------------------------------------------------------------
 

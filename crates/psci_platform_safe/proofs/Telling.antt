@@ -1,19 +1,13 @@
 -- What the firmware is asked for a call that names a core or a domain.
-use Rattle.std.proofs.Common.{◌≡◌, ℕ, ◌<◌, ◌^◌, true, Option, None, Some, refl, ap, ◌∙◌}
-use Rattle.std.proofs.Common.{arith, option_map}
-use Rattle.psci_platform.specs.Calls.{first_argument, is_there, regs_for}
-use Rattle.psci_platform.specs.Cores.{core_word, word_if}
-use Rattle.psci_platform.specs.Platforms.{PlatformValue}
-use Rattle.psci_platform.specs.Swaps.{swap_for}
-use Rattle.psci_platform.proofs.Requests.{request_with, short, with_first}
-use Rattle.psci_platform.proofs.Swapped.{core_inside}
-use Rattle.psci_headline.specs.psci_abi.Calls.{argument, request_of}
-use Rattle.psci_headline.specs.psci_abi.declared.registers.Regs.{Regs}
-use Rattle.psci_headline.specs.psci_abi.declared.request.Request.{Request}
-use Rattle.psci_headline.specs.psci_abi.declared.request.Request.TheVariants as requests
-use Rattle.psci_headline.specs.psci_board.Board.{cores}
-use Rattle.psci_headline.specs.psci_fw_spec.declared.mode.SuspendMode.{SuspendMode}
+use Rattle.psci_platform_safe.proofs.Words.{◌<◌, ◌^◌, ◌∙◌, ◌≡◌, ap, argument, arith, core_inside}
+use Rattle.psci_platform_safe.proofs.Words.{core_word, cores, first_argument, is_there, None}
+use Rattle.psci_platform_safe.proofs.Words.{Option, option_map, PlatformValue, refl, Regs, Request}
+use Rattle.psci_platform_safe.proofs.Words.{request_of, request_with, short, Some, SuspendMode}
+use Rattle.psci_platform_safe.proofs.Words.{swap_for, true, with_first, ℕ}
+use Rattle.psci_platform.specs.Calls.{regs_for}
+use Rattle.psci_platform.specs.Cores.{word_if}
 use Rattle.psci_platform_safe.proofs.Numbers.{Laws, named_inside}
+use Rattle.psci_headline.specs.psci_abi.declared.request.Request.TheVariants as requests
 
 -- What is asked ---------------------------------------------------------------------------------
 

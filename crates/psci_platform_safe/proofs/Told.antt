@@ -1,38 +1,26 @@
 -- Sentences 1 and 5: what AFFINITY_INFO and NODE_HW_STATE told.
 use Rattle.std.proofs.lemmas.Cmp.{int_eq_equiv}
-use Rattle.std.proofs.Common.{int_eq}
-use Rattle.std.proofs.Common.{◌≡◌, ℕ, pos, ◌∷◌, true, false, List, Option, Some, refl, ap, ◌∙◌}
-use Rattle.std.proofs.Common.{subst, inl, inr, option_map}
-use Rattle.std.proofs.lemmas.Bool.{cases_Bool}
-use Rattle.psci_headline.specs.ToldHw.{hw_asked_of, told_hw}
-use Rattle.psci_headline.specs.ToldOff.{AllOff, asked_of, told_off}
+use Rattle.std.proofs.Common.{int_eq, pos}
+use Rattle.psci_platform_safe.proofs.Words.{◌∙◌, ◌∷◌, ◌≡◌, AllOff, ap, Call, cases_Bool, Code}
+use Rattle.psci_platform_safe.proofs.Words.{domain_above, Event, event_after, false, firmware_legal}
+use Rattle.psci_platform_safe.proofs.Words.{firmware_values, Fw, inl, inr, IsAskedOf, IsLegalOn}
+use Rattle.psci_platform_safe.proofs.Words.{List, mode_of, Node, number, Option, option_map}
+use Rattle.psci_platform_safe.proofs.Words.{PlatformValue, Record, refl, Regs, regs_for, Request}
+use Rattle.psci_platform_safe.proofs.Words.{request_of, Said, said_in_numbers, Sent}
+use Rattle.psci_platform_safe.proofs.Words.{sent_in_numbers, Some, subst, told_hw, told_off, true}
+use Rattle.psci_platform_safe.proofs.Words.{ℕ}
+use Rattle.psci_headline.specs.ToldHw.{hw_asked_of}
+use Rattle.psci_headline.specs.ToldOff.{asked_of}
 use Rattle.psci_headline.proofs.Returned.{Extended, returned}
-use Rattle.psci_platform.specs.Calls.{regs_for}
-use Rattle.psci_platform.specs.Platforms.{PlatformValue}
-use Rattle.psci_headline.specs.psci_abi.Calls.{request_of}
 use Rattle.psci_headline.specs.psci_abi.Codes.{not_supported}
-use Rattle.psci_headline.specs.psci_abi.declared.code.Code.{Code}
-use Rattle.psci_headline.specs.psci_abi.declared.registers.Regs.{Regs}
-use Rattle.psci_headline.specs.psci_abi.declared.request.Request.{Request}
-use Rattle.psci_headline.specs.psci_abi.declared.request.Request.TheVariants as requests
-use Rattle.psci_headline.specs.psci_board.declared.node.Node.{Node}
-use Rattle.psci_headline.specs.psci_fw_spec.declared.outcome.Act.TheVariants as acts
 use Rattle.psci_headline.specs.psci_fw_spec.Calls.{function_outcome}
-use Rattle.psci_headline.specs.psci_world_spec.declared.event.Event.{Event}
-use Rattle.psci_headline.specs.psci_world_spec.declared.event.Event.TheVariants.{Call}
-use Rattle.psci_headline.specs.psci_world_spec.declared.said.Record.{Record}
-use Rattle.psci_headline.specs.psci_world_spec.declared.said.Said.{Said}
-use Rattle.psci_headline.specs.psci_world_spec.declared.said.Said.TheVariants.{Fw}
-use Rattle.psci_headline.specs.psci_world_spec.declared.said.Sent.{Sent}
-use Rattle.psci_headline.specs.psci_world_spec.Histories.{firmware_history, firmware_values}
-use Rattle.psci_headline.proofs.world_spec.Answered.{firmware_legal}
-use Rattle.psci_platform_safe.specs.Asked.{mode_of}
-use Rattle.psci_platform_safe.specs.Names.{IsAskedOf, domain_above, number}
+use Rattle.psci_headline.specs.psci_world_spec.Histories.{firmware_history}
 use Rattle.psci_platform_safe.specs.Safe.{Answers, IsOff}
-use Rattle.psci_platform_safe.specs.Words.{IsLegalOn, event_after, numbered, said_in_numbers}
-use Rattle.psci_platform_safe.specs.Words.{sent_in_numbers}
+use Rattle.psci_platform_safe.specs.Words.{numbered}
 use Rattle.psci_platform_safe.proofs.Numbers.{Laws, low_asked, number_inside}
 use Rattle.psci_platform_safe.proofs.Telling.{affinity_told, hw_told}
+use Rattle.psci_headline.specs.psci_abi.declared.request.Request.TheVariants as requests
+use Rattle.psci_headline.specs.psci_fw_spec.declared.outcome.Act.TheVariants as acts
 
 -- the record in the firmware's words for one of the platform
 abbrev pub record_for : PlatformValue → List Record → Record → Record

@@ -1,29 +1,16 @@
 -- Sentence 4: an opening that waits for a core was made for it, by a call's own words or as the
 -- life began, and the core has not entered at an opening since.
-use Rattle.std.proofs.Common.{◌≡◌, ℕ, zero, suc, ◌<◌, ◌==◌, Bool, true, false, cond, List, [], ◌∷◌}
-use Rattle.std.proofs.Common.{Option, None, Some, refl, sym, ap, ◌∙◌, subst, arith, inl, inr}
-use Rattle.std.proofs.lemmas.Bool.{eqb-true}
-use Rattle.psci_platform.specs.Platforms.{PlatformValue}
-use Rattle.psci_headline.specs.psci_fw_spec.declared.opening.Opening.{Opening}
-use Rattle.psci_headline.specs.psci_fw_spec.declared.outcome.Act.TheVariants as acts
-use Rattle.psci_headline.specs.psci_fw_spec.After.{change}
-use Rattle.psci_headline.specs.psci_fw_spec.Changes.{PowerOn, Rest, target}
-use Rattle.psci_headline.specs.psci_fw_spec.Effects.{Effect, AsksOn, Rests}
-use Rattle.psci_headline.specs.psci_fw_spec.Lives.{first_opening}
-use Rattle.psci_headline.specs.psci_fw_spec.Values.{Values}
-use Rattle.psci_headline.specs.psci_messages.Message.{MessageValue}
-use Rattle.psci_headline.specs.psci_world_spec.declared.event.Event.TheVariants.{Enter}
-use Rattle.psci_headline.specs.psci_world_spec.declared.said.Record.{Record}
-use Rattle.psci_headline.specs.psci_world_spec.declared.said.Said.TheVariants.{Fw}
-use Rattle.psci_headline.specs.psci_world_spec.declared.said.Sent.{Sent}
-use Rattle.psci_headline.specs.psci_world_spec.Histories.{firmware_values}
-use Rattle.psci_platform_safe.specs.Asked.{life_of}
-use Rattle.psci_platform_safe.specs.Names.{IsCore, number}
-use Rattle.psci_platform_safe.specs.Opened.{NoneEnters, Opens, Waits, boot_opening}
-use Rattle.psci_platform_safe.specs.Words.{numbered}
+use Rattle.psci_platform_safe.proofs.Words.{◌<◌, ◌==◌, ◌∙◌, ◌∷◌, ◌≡◌, [], ap, arith, AsksOn, Bool}
+use Rattle.psci_platform_safe.proofs.Words.{boot_opening, change, cond, Effect, Enter, eqb-true}
+use Rattle.psci_platform_safe.proofs.Words.{false, firmware_values, first_opening, Fw, inl, inr}
+use Rattle.psci_platform_safe.proofs.Words.{IsCore, life_of, List, MessageValue, None, NoneEnters}
+use Rattle.psci_platform_safe.proofs.Words.{number, numbered, Opening, Opens, Option, PlatformValue}
+use Rattle.psci_platform_safe.proofs.Words.{PowerOn, Record, refl, Rest, Rests, Sent, Some, subst}
+use Rattle.psci_platform_safe.proofs.Words.{suc, sym, target, true, Values, Waits, zero, ℕ}
 use Rattle.psci_platform_safe.proofs.Numbers.{Laws, only_one}
 use Rattle.psci_platform_safe.proofs.Sources.{Asked, Begun, Kept, NotEntered, Rested, Source}
 use Rattle.psci_platform_safe.proofs.Sources.{source}
+use Rattle.psci_headline.specs.psci_fw_spec.declared.outcome.Act.TheVariants as acts
 
 -- each opening that the firmware keeps, in a life, waits
 abbrev pub AreWaiting : PlatformValue → List Record → Type 0

@@ -1,15 +1,9 @@
 -- What some cores ask at least, by how many of them are active and how many are off.
-use Rattle.std.proofs.Common.{◌≡◌, ℕ, zero, suc, ◌+◌, ◌<◌, ◌≤◌, List, [], ◌∷◌, true, false, inl}
-use Rattle.std.proofs.Common.{inr, refl, length, cond, arith, ap}
-use Rattle.std.proofs.Math.ListN.{set}
-use Rattle.std.specs.List.{count_by}
 use Rattle.std.proofs.lemmas.Bool.{cases_Bool}
-use Rattle.std.proofs.lemmas.List.Sums.{sum_by-cons, count_by-le-length}
-use Rattle.psci_tree.specs.Recount.{is_active, is_away, asks}
-use Rattle.psci_state.specs.declared.cores.Activity.{Activity}
-use Rattle.psci_state.specs.declared.cores.Activity.TheVariants.{Away}
-use Rattle.psci_state.specs.declared.cores.CoreState.{CoreState}
-use Rattle.psci_tree.specs.Kept.{low_in}
+use Rattle.psci_tree.proofs.Words.{◌+◌, ◌<◌, ◌∷◌, ◌≡◌, ◌≤◌, [], Activity, ap, arith, asks, Away}
+use Rattle.psci_tree.proofs.Words.{cond, CoreState, count_by, count_by-le-length, false, inl, inr}
+use Rattle.psci_tree.proofs.Words.{is_active, is_away, length, List, low_in, refl, set, suc}
+use Rattle.psci_tree.proofs.Words.{sum_by-cons, true, zero, ℕ}
 use Rattle.psci_tree.proofs.Asks.{asks_none}
 
 asks_all : (s : Activity) (level : ℕ) → is_away s ≡ true → asks s level ≡ 3

@@ -1,14 +1,11 @@
 -- What each core of a tree asks, and what the least ask below a domain says of the levels.
-use Rattle.std.proofs.Common.{◌≡◌, ℕ, zero, suc, ◌+◌, ◌<◌, ◌≤◌, Bool, true, false, cond, leb}
-use Rattle.std.proofs.Common.{List, map, length, get_or, refl, ap, arith}
 use Rattle.std.proofs.lemmas.Bool.{lt-leb, le-leb, leb-true}
+use Rattle.psci_tree.proofs.Words.{◌+◌, ◌<◌, ◌≡◌, ◌≤◌, Active, Activity, ap, arith, ask_at, asks}
+use Rattle.psci_tree.proofs.Words.{Away, below_in, Bool, cond, false, get_or, is_active}
+use Rattle.psci_tree.proofs.Words.{is_active_at, IsActivity, IsDomainTree, leb, length, List, map}
+use Rattle.psci_tree.proofs.Words.{Node, refl, state_at, suc, Suspended, TreeValue, true, zero, ℕ}
 use Rattle.psci_state.specs.Ask.{IsAsk}
-use Rattle.psci_board.specs.declared.node.Node.{Node}
-use Rattle.psci_board.specs.Board.{below_in}
-use Rattle.psci_state.specs.declared.cores.Activity.{Activity}
-use Rattle.psci_state.specs.declared.cores.Activity.TheVariants.{Active, Suspended, Away}
-use Rattle.psci_tree.specs.Recount.{TreeValue, IsDomainTree, IsActivity, asks, ask_at, state_at}
-use Rattle.psci_tree.specs.Recount.{is_active, is_active_at, low}
+use Rattle.psci_tree.specs.Recount.{low}
 use Rattle.psci_tree.proofs.Bounds.{low_each, low_greatest}
 use Rattle.psci_tree.proofs.Below.{least_le}
 

@@ -1,23 +1,15 @@
 -- The equations of the cores below a domain, and of its shape.
-use Rattle.std.proofs.Common.{◌≡◌, ℕ, ◌+◌, ◌-◌, ◌<◌, ◌≤◌, List, [], ◌∷◌, ◌++◌, length}
-use Rattle.std.proofs.Common.{get_or, map, take, drop, replicate, min, arith, refl, ap, ◌∙◌}
-use Rattle.std.proofs.Common.{append-nil, length-append, drop-cons, suc, zero, add-one}
-use Rattle.std.proofs.Math.ListN.{set, length-set}
-use Rattle.std.specs.Vec.{with_item}
-use Rattle.std.specs.List.{flat_map}
-use Rattle.std.proofs.lemmas.List.{set-append_left, set-append_right, take_more}
-use Rattle.std.proofs.lemmas.List.Concat.{flat_map-append}
+use Rattle.std.proofs.lemmas.List.{set-append_left, set-append_right}
 use Rattle.std.proofs.lemmas.List.Folds.{flat_map-map}
-use Rattle.psci_tree.specs.Recount.{least, asks}
-use Rattle.psci_tree.specs.Kept.{low_in}
-use Rattle.psci_tree.specs.declared.kept.Kept.{Kept}
-use Rattle.psci_tree.specs.Domains.{leaves, cores_from, cores_step, cores_in, branches}
-use Rattle.psci_tree.specs.Domains.{child_counts}
-use Rattle.psci_state.specs.declared.cores.CoreState.{CoreState}
-use Rattle.psci_tree.specs.declared.domain.Domain.{Domain}
-use Rattle.psci_tree.specs.declared.domain.Domain.TheOpen.{Domain-F}
-use Rattle.psci_tree.specs.declared.domain.Domain.TheViews.{out-Domain, roll-Domain}
-use Rattle.psci_tree.specs.declared.domain.Domain.TheViews.{out-roll-Domain}
+use Rattle.psci_tree.proofs.Words.{◌++◌, ◌+◌, ◌-◌, ◌<◌, ◌∙◌, ◌∷◌, ◌≡◌, ◌≤◌, [], add-one, ap}
+use Rattle.psci_tree.proofs.Words.{append-nil, arith, asks, branches, child_counts, cores_in}
+use Rattle.psci_tree.proofs.Words.{CoreState, Domain, Domain-F, drop, drop-cons, flat_map}
+use Rattle.psci_tree.proofs.Words.{flat_map-append, get_or, Kept, least, leaves, length}
+use Rattle.psci_tree.proofs.Words.{length-append, length-set, List, low_in, map, min}
+use Rattle.psci_tree.proofs.Words.{out-roll-Domain, refl, replicate, roll-Domain, set, suc, take}
+use Rattle.psci_tree.proofs.Words.{take_more, with_item, zero, ℕ}
+use Rattle.psci_tree.specs.Domains.{cores_from, cores_step}
+use Rattle.psci_tree.specs.declared.domain.Domain.TheViews.{out-Domain}
 use Rattle.psci_tree.specs.declared.domain.Domain.TheFolds.{fold-roll-Domain, fold_out-Domain}
 
 joined : (c : CoreState) (ns : List Domain) → 0 < length ns

@@ -1,15 +1,11 @@
 -- What a minimum and a count say of each core below a domain.
-use Rattle.std.proofs.Common.{◌≡◌, ℕ, zero, suc, ◌+◌, ◌<◌, ◌≤◌, Bool, true, false, cond, ◌==◌, List}
-use Rattle.std.proofs.Common.{[], ◌∷◌, length, get_or, map, filter, refl, ap, sym, ◌∙◌, arith, inl}
-use Rattle.std.proofs.Common.{inr, not}
-use Rattle.std.specs.List.{count_by, range_with_len}
-use Rattle.std.proofs.lemmas.Bool.{cases_eq, eq-eqb, eqb-true}
-use Rattle.psci_board.specs.declared.node.Node.{Node}
-use Rattle.psci_board.specs.Board.{size_below, place_above, below_in}
-use Rattle.std.proofs.lemmas.List.Sums.{get_or-le-sum_by}
+use Rattle.psci_tree.proofs.Words.{◌+◌, ◌<◌, ◌==◌, ◌∙◌, ◌∷◌, ◌≡◌, ◌≤◌, [], ap, arith, ask_at}
+use Rattle.psci_tree.proofs.Words.{below_in, Bool, cases_eq, cond, count_by, eq-eqb, eqb-true}
+use Rattle.psci_tree.proofs.Words.{false, filter, get_or, get_or-le-sum_by, inl, inr, is_active_at}
+use Rattle.psci_tree.proofs.Words.{least, length, List, map, Node, not, place_above, range_with_len}
+use Rattle.psci_tree.proofs.Words.{refl, size_below, suc, sym, TreeValue, true, zero, ℕ}
 use Rattle.psci_tree.proofs.Ranges.{counted_both, ones, sum_same, zeros}
-use Rattle.psci_tree.specs.Recount.{TreeValue, active, ask_at, is_active_at, is_away_at, least, low}
-use Rattle.psci_tree.specs.Recount.{off}
+use Rattle.psci_tree.specs.Recount.{active, is_away_at, low, off}
 
 -- Each number that a filter keeps of a range -------------------------------------------------
 

@@ -1,17 +1,12 @@
 -- Domains put together level by level, from the cores up.
-use Rattle.std.proofs.Common.{◌≡◌, ℕ, suc, ◌≤◌, List, [], ◌∷◌, ◌++◌, length, take, drop, map, sum}
-use Rattle.std.proofs.Common.{replicate, ◌+◌, refl, ap, sym, ◌∙◌, arith, append-nil}
-use Rattle.std.specs.List.{flat_map}
-use Rattle.std.proofs.lemmas.List.{length_push, map-append, replicate_more, take_all, drop_all}
-use Rattle.std.proofs.lemmas.List.Concat.{flat_map-append, flat_map_single}
+use Rattle.std.proofs.lemmas.List.{replicate_more}
 use Rattle.std.proofs.lemmas.List.Sums.{sum_by_push}
-use Rattle.psci_board.specs.Board.{size_below}
-use Rattle.psci_state.specs.declared.cores.CoreState.{CoreState}
-use Rattle.psci_tree.specs.Domains.{leaves, cores_in, branches, child_count, child_counts, HasShape}
-use Rattle.psci_tree.specs.Domains.{IsWhole}
-use Rattle.psci_tree.specs.declared.domain.Domain.{Domain}
-use Rattle.psci_tree.specs.declared.domain.Domain.TheOpen.{Domain-F}
-use Rattle.psci_tree.specs.declared.domain.Domain.TheViews.{roll-Domain}
+use Rattle.psci_tree.proofs.Words.{◌++◌, ◌+◌, ◌∙◌, ◌∷◌, ◌≡◌, ◌≤◌, [], ap, append-nil, arith}
+use Rattle.psci_tree.proofs.Words.{branches, child_count, child_counts, cores_in, CoreState, Domain}
+use Rattle.psci_tree.proofs.Words.{Domain-F, drop, drop_all, flat_map, flat_map-append}
+use Rattle.psci_tree.proofs.Words.{flat_map_single, HasShape, IsWhole, leaves, length, length_push}
+use Rattle.psci_tree.proofs.Words.{List, map, map-append, refl, replicate, roll-Domain, size_below}
+use Rattle.psci_tree.proofs.Words.{suc, sum, sym, take, take_all, ℕ}
 use Rattle.psci_tree.proofs.Below.{children_roll, cores_roll_core}
 
 pub child_count_roll : (x : Domain-F Domain) → child_count (roll-Domain x) ≡ length x.children.items

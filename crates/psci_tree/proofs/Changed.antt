@@ -1,20 +1,14 @@
 -- What is kept of some cores, once one of them came into another state.
-use Rattle.std.proofs.Common.{◌≡◌, ℕ, ◌+◌, ◌-◌, ◌*◌, ◌^◌, ◌<◌, ◌≤◌, List, [], ◌∷◌}
-use Rattle.std.proofs.Common.{Bool, true, false, Some, None, ◌==◌, ◌⊎◌, inl, inr, refl, sym, length}
-use Rattle.std.proofs.Common.{get_or, take, cond, nat_lt, arith, ap, ◌∙◌, length-append}
-use Rattle.std.proofs.Math.ListN.{set, length-set}
-use Rattle.std.specs.Prelude.{unwrap_or}
-use Rattle.std.specs.List.{sum_by}
-use Rattle.std.proofs.lemmas.Bool.{eqb-true, ltb-true}
-use Rattle.std.proofs.lemmas.List.Sums.{sum_by-set, sum_by-append, get_or-le-sum_by}
-use Rattle.std.proofs.lemmas.List.{get_or_default}
-use Rattle.std.proofs.lemmas.List.Concat.{get_or-flat_map}
-use Rattle.psci_tree.specs.Recount.{is_active, is_away, never_started}
-use Rattle.psci_state.specs.declared.cores.CoreState.{CoreState}
-use Rattle.psci_tree.specs.declared.kept.Kept.{Kept}
-use Rattle.psci_tree.specs.declared.domain.Domain.{Domain}
-use Rattle.psci_tree.specs.Domains.{leaves, cores_in, branches, index_by}
-use Rattle.psci_tree.specs.Kept.{Keeps, AreKept, IsPart, recount, kept_exchanged, lows_told}
+use Rattle.std.proofs.Common.{◌*◌, None, ◌⊎◌}
+use Rattle.std.proofs.lemmas.List.Sums.{sum_by-set}
+use Rattle.psci_tree.proofs.Words.{◌+◌, ◌-◌, ◌<◌, ◌==◌, ◌^◌, ◌∙◌, ◌∷◌, ◌≡◌, ◌≤◌, [], ap, AreKept}
+use Rattle.psci_tree.proofs.Words.{arith, Bool, branches, cond, cores_in, CoreState, Domain}
+use Rattle.psci_tree.proofs.Words.{eqb-true, false, get_or, get_or-flat_map, get_or-le-sum_by}
+use Rattle.psci_tree.proofs.Words.{get_or_default, index_by, inl, inr, is_active, is_away, IsPart}
+use Rattle.psci_tree.proofs.Words.{Keeps, Kept, kept_exchanged, leaves, length, length-append}
+use Rattle.psci_tree.proofs.Words.{length-set, List, lows_told, ltb-true, nat_lt, never_started}
+use Rattle.psci_tree.proofs.Words.{recount, refl, set, Some, sum_by, sum_by-append, sym, take, true}
+use Rattle.psci_tree.proofs.Words.{unwrap_or, ℕ}
 use Rattle.psci_tree.proofs.Asked.{active_in, away_in, low_one, low_zero}
 use Rattle.psci_tree.proofs.Below.{cores_of_domain}
 use Rattle.psci_tree.proofs.Ways.{Step, place_inside}

@@ -1,16 +1,13 @@
 -- Rows with 0 on the path of a core, from a level up.
-use Rattle.std.proofs.Common.{◌≡◌, ◌≤◌, ◌<◌, ◌+◌, ◌++◌, ◌∙◌, ℕ, zero, suc, List, [], ◌∷◌, length}
-use Rattle.std.proofs.Common.{take, drop, map, get_or, refl, ap, sym, arith, append-nil, inl, inr}
-use Rattle.std.proofs.Math.ListN.{set, length-set}
 use Rattle.std.proofs.lemmas.Bool.{cases_lt}
-use Rattle.std.proofs.lemmas.List.{length-map, take_all, drop_all}
-use Rattle.psci_board.specs.Board.{HasNodeIn, IsTree, group_of, size_below, place_above}
-use Rattle.psci_tree.specs.declared.way.Way.{Way}
-use Rattle.psci_tree.specs.Changes.{path_cleared, with_path_cleared}
-use Rattle.psci_tree.specs.Recount.{TreeValue, IsDomainTree, confirmed_at, granted_at, level_sizes}
-use Rattle.psci_tree.specs.Way.{IsWayOf, cleared_from}
+use Rattle.psci_tree.proofs.Words.{◌++◌, ◌+◌, ◌<◌, ◌∙◌, ◌∷◌, ◌≡◌, ◌≤◌, [], ap, append-nil, arith}
+use Rattle.psci_tree.proofs.Words.{cleared_from, confirmed_at, drop, drop_all, get_or, granted_at}
+use Rattle.psci_tree.proofs.Words.{group_of, HasNodeIn, inl, inr, inside, IsDomainTree, IsTree}
+use Rattle.psci_tree.proofs.Words.{IsWayOf, length, length-map, length-set, level_sizes, List, map}
+use Rattle.psci_tree.proofs.Words.{path_cleared, place_above, place_above-suc, refl, set}
+use Rattle.psci_tree.proofs.Words.{size_below, suc, sym, take, take_all, TreeValue, Way}
+use Rattle.psci_tree.proofs.Words.{with_path_cleared, zero, ℕ}
 use Rattle.psci_tree.proofs.Granted.{zero_more, parent_is, above_top, length_level_sizes}
-use Rattle.psci_board.proofs.Paths.{inside, place_above-suc}
 
 -- the node of a level on the way to a core
 pub path_node : (levels : List (List ℕ)) (core l : ℕ) (way : Way) → IsTree levels

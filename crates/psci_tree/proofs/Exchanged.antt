@@ -1,23 +1,17 @@
 -- A core below a domain comes into another state: the step down to it, and what the domain keeps.
-use Rattle.std.proofs.Common.{◌≡◌, ℕ, ◌-◌, ◌<◌, List, [], ◌∷◌, length, get_or, ap, sym, ◌∙◌, arith}
-use Rattle.std.proofs.Common.{subst, Some}
-use Rattle.std.proofs.lemmas.List.{get_or_default}
-use Rattle.psci_tree.specs.Domains.{child_counts, leaves, cores_in, branches, index_by, IsWay}
-use Rattle.psci_tree.specs.Kept.{lows_told, AreKept, IsDescent, IsExchange, IsKept, IsPart, Keeps}
-use Rattle.psci_tree.specs.Kept.{kept_exchanged, recount}
+use Rattle.psci_tree.proofs.Words.{◌-◌, ◌<◌, ◌∙◌, ◌∷◌, ◌≡◌, [], ap, AreKept, arith, branches}
+use Rattle.psci_tree.proofs.Words.{child_counts, cores_in, CoreState, Domain, get_or}
+use Rattle.psci_tree.proofs.Words.{get_or_default, index_by, IsKept, IsPart, IsWay, Keeps, Kept}
+use Rattle.psci_tree.proofs.Words.{kept_exchanged, leaves, length, length-set, List, lows_told}
+use Rattle.psci_tree.proofs.Words.{out-Domain, recount, roll-Domain, set, Some, subst, sum_by, sym}
+use Rattle.psci_tree.proofs.Words.{with_item, ℕ}
+use Rattle.psci_tree.specs.Kept.{IsDescent, IsExchange}
 use Rattle.psci_tree.proofs.Below.{cores_roll, widths_with_child, cores_set, cores_le}
 use Rattle.psci_tree.proofs.Below.{cores_of_domain, length_of_domain}
 use Rattle.psci_tree.proofs.Keeping.{Small, keeps_small, kept_at, kept_children, kept_own}
 use Rattle.psci_tree.proofs.Keeping.{kept_roll, kept_set}
 use Rattle.psci_tree.proofs.Changed.{told_right, AreMoved, Was, core_down, part_of, recount_with}
 use Rattle.psci_tree.proofs.Changed.{small_in, sums_moved, was_of}
-use Rattle.std.proofs.Math.ListN.{set, length-set}
-use Rattle.psci_state.specs.declared.cores.CoreState.{CoreState}
-use Rattle.psci_tree.specs.declared.kept.Kept.{Kept}
-use Rattle.psci_tree.specs.declared.domain.Domain.{Domain, out-Domain}
-use Rattle.psci_tree.specs.declared.domain.Domain.TheViews.{roll-Domain}
-use Rattle.std.specs.Vec.{with_item}
-use Rattle.std.specs.List.{sum_by}
 use Rattle.psci_tree.proofs.Ways.{Step, step, place_inside}
 
 -- a domain above the core that comes into another state

@@ -1,15 +1,12 @@
 -- Granted depths after a change, by level and place.
-use Rattle.std.proofs.Common.{◌≡◌, ℕ, zero, suc, ◌<◌, ◌≤◌, Bool, true, false}
-use Rattle.std.proofs.Common.{cond, ◌&&◌, ◌==◌, List, [], ◌∷◌, ◌++◌, length, take, drop}
-use Rattle.std.proofs.Common.{get_or, map, refl, ap, sym, ◌∙◌, arith, inl, inr}
-use Rattle.std.proofs.Math.ListN.{set, length-set}
-use Rattle.std.proofs.lemmas.Bool.{cases_eq, eq-eqb, ne_eqb}
-use Rattle.std.proofs.lemmas.List.{get_or-set_same, get_or-set_other, get_or-replicate}
-use Rattle.std.proofs.lemmas.List.{get_or-map, length-map}
-use Rattle.psci_board.specs.declared.node.Node.{Node}
-use Rattle.psci_board.specs.Board.{group_of, HasNodeIn, size_below, place_above}
-use Rattle.psci_tree.specs.Recount.{TreeValue, granted_at, level_sizes, IsDomainTree}
-use Rattle.psci_tree.specs.Changes.{path_cleared, with_grant, depth_set, rows_with_depth}
+use Rattle.psci_tree.proofs.Words.{◌&&◌, ◌++◌, ◌<◌, ◌==◌, ◌∙◌, ◌∷◌, ◌≡◌, ◌≤◌, [], ap, arith, Bool}
+use Rattle.psci_tree.proofs.Words.{cases_eq, cond, depth_set, drop, eq-eqb, false, get_or}
+use Rattle.psci_tree.proofs.Words.{get_or-map, get_or-replicate, get_or-set_other, get_or-set_same}
+use Rattle.psci_tree.proofs.Words.{granted_at, group_of, HasNodeIn, inl, inr, IsDomainTree, length}
+use Rattle.psci_tree.proofs.Words.{length-map, length-set, level_sizes, List, map, ne_eqb, Node}
+use Rattle.psci_tree.proofs.Words.{path_cleared, place_above, refl, rows_with_depth, set}
+use Rattle.psci_tree.proofs.Words.{size_below, suc, sym, take, TreeValue, true, zero, ℕ}
+use Rattle.psci_tree.specs.Changes.{with_grant}
 
 -- One written place --------------------------------------------------------------------------
 

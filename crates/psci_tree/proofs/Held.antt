@@ -1,20 +1,13 @@
 -- A tree that is held in memory, after one core came into another state.
-use Rattle.std.proofs.Common.{◌≡◌, ℕ, ◌<◌, List, length, get_or, ap, sym, subst, ◌∙◌, arith, inl}
-use Rattle.std.proofs.Common.{inr}
-use Rattle.std.specs.Prelude.{unwrap_or}
-use Rattle.std.proofs.Math.ListN.{set}
-use Rattle.std.proofs.lemmas.Bool.{cases_eq}
-use Rattle.std.proofs.lemmas.List.{get_or-set_same, get_or-set_other, get_or_default, length-set}
-use Rattle.psci_board.specs.Board.{size_below}
+use Rattle.std.proofs.lemmas.List.{length-set}
+use Rattle.psci_tree.proofs.Words.{◌<◌, ◌∙◌, ◌≡◌, ap, arith, cases_eq, child_counts, CoreState}
+use Rattle.psci_tree.proofs.Words.{Domain, get_or, get_or-set_other, get_or-set_same}
+use Rattle.psci_tree.proofs.Words.{get_or_default, inl, inr, IsActivity, IsDomainTree, IsHeld}
+use Rattle.psci_tree.proofs.Words.{IsKept, known_at, leaves, length, List, never_started, set}
+use Rattle.psci_tree.proofs.Words.{size_below, subst, sym, TreeValue, unwrap_or, Way}
+use Rattle.psci_tree.proofs.Words.{with_core_state, ℕ}
 use Rattle.psci_state.specs.declared.cores.Change.{Change}
-use Rattle.psci_state.specs.declared.cores.CoreState.{CoreState}
-use Rattle.psci_tree.specs.declared.domain.Domain.{Domain}
-use Rattle.psci_tree.specs.declared.way.Way.{Way}
-use Rattle.psci_tree.specs.Changes.{core_changed, with_core_state}
-use Rattle.psci_tree.specs.Domains.{leaves, child_counts}
-use Rattle.psci_tree.specs.Inside.{IsHeld}
-use Rattle.psci_tree.specs.Kept.{IsKept}
-use Rattle.psci_tree.specs.Recount.{TreeValue, IsActivity, IsDomainTree, known_at, never_started}
+use Rattle.psci_tree.specs.Changes.{core_changed}
 use Rattle.psci_tree.proofs.Slices.{whole_kept}
 
 core_valid : (t : TreeValue) (core : ℕ) (s : CoreState) → IsDomainTree t

@@ -1,20 +1,13 @@
 -- What domains keep, as domains are joined, taken apart and replaced.
-use Rattle.std.proofs.Common.{◌≡◌, ℕ, zero, suc, ◌+◌, ◌^◌, ◌<◌, ◌≤◌, List, [], ◌∷◌, ◌++◌}
-use Rattle.std.proofs.Common.{length, get_or, take, drop, cond, arith, refl, ap, sym, ◌∙◌, subst}
-use Rattle.std.proofs.Common.{length-append}
-use Rattle.std.proofs.Math.ListN.{set}
-use Rattle.std.specs.List.{All, flat_map, count_by}
-use Rattle.std.proofs.lemmas.List.{take_at, drop_at}
-use Rattle.std.proofs.lemmas.List.Elements.{All-append, All-nil, All-cons, All-take, All-drop}
-use Rattle.std.proofs.lemmas.List.Sums.{sum_by-append, count_by-le-length}
-use Rattle.psci_tree.specs.Recount.{is_active, is_away}
-use Rattle.psci_tree.specs.Domains.{leaves, cores_in, branches, domains_down}
-use Rattle.psci_tree.specs.Kept.{Keeps, IsRecount, AreKept, IsKept, recount, kept_together, low_in}
-use Rattle.psci_state.specs.declared.cores.CoreState.{CoreState}
-use Rattle.psci_tree.specs.declared.kept.Kept.{Kept}
-use Rattle.psci_tree.specs.declared.domain.Domain.{Domain, out-Domain}
-use Rattle.psci_tree.specs.declared.domain.Domain.TheOpen.{Domain-F}
-use Rattle.psci_tree.specs.declared.domain.Domain.TheViews.{roll-Domain, out-roll-Domain}
+use Rattle.std.specs.List.{All}
+use Rattle.std.proofs.lemmas.List.Elements.{All-append, All-nil, All-cons, All-drop}
+use Rattle.psci_tree.proofs.Words.{◌++◌, ◌+◌, ◌<◌, ◌^◌, ◌∙◌, ◌∷◌, ◌≡◌, ◌≤◌, [], All-take, ap}
+use Rattle.psci_tree.proofs.Words.{AreKept, arith, branches, cond, cores_in, CoreState, count_by}
+use Rattle.psci_tree.proofs.Words.{count_by-le-length, Domain, Domain-F, domains_down, drop}
+use Rattle.psci_tree.proofs.Words.{drop_at, flat_map, get_or, is_active, is_away, IsKept, IsRecount}
+use Rattle.psci_tree.proofs.Words.{Keeps, Kept, kept_together, leaves, length, length-append, List}
+use Rattle.psci_tree.proofs.Words.{low_in, out-Domain, out-roll-Domain, recount, refl, roll-Domain}
+use Rattle.psci_tree.proofs.Words.{set, subst, suc, sum_by-append, sym, take, take_at, zero, ℕ}
 use Rattle.psci_tree.proofs.Below.{low-append, cores_roll, cores_roll_core, children_roll}
 use Rattle.psci_tree.proofs.Below.{cores_take}
 

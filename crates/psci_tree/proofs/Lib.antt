@@ -26,3 +26,4 @@ pub mod UnevenRows
 pub mod Upward
 pub mod Valid
 pub mod Ways
+pub mod Words

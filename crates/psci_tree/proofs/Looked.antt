@@ -1,16 +1,12 @@
 -- The values of a tree after each change, by core, and by level and place.
-use Rattle.std.proofs.Common.{◌≡◌, ℕ, zero, suc, ◌<◌, ◌≤◌, Bool, true, false, cond, ◌==◌, ◌&&◌}
-use Rattle.std.proofs.Common.{List, length, ap, ◌∙◌, nat_lt, get_or, replicate, drop, refl, sym}
-use Rattle.std.proofs.Common.{arith, inl, inr}
-use Rattle.std.proofs.lemmas.Bool.{cases_eq, eq-eqb, ne_eqb}
-use Rattle.std.proofs.lemmas.Bool.Decides.{nat_tests}
-use Rattle.std.proofs.lemmas.List.{get_or-set_same, get_or-set_other, length-replicate}
-use Rattle.psci_board.specs.declared.node.Node.{Node}
-use Rattle.psci_board.specs.Board.{size_below, place_above, HasNodeIn}
-use Rattle.psci_state.specs.declared.cores.Activity.{Activity}
-use Rattle.psci_tree.specs.Recount.{TreeValue, state_at, granted_at, never_started, level_sizes}
-use Rattle.psci_tree.specs.Recount.{IsDomainTree, confirmed_at, is_confirmed_at}
-use Rattle.psci_tree.specs.Changes.{with_core_state, with_path_cleared, all_off, still_confirmed}
+use Rattle.psci_tree.proofs.Words.{◌&&◌, ◌<◌, ◌==◌, ◌∙◌, ◌≡◌, ◌≤◌, Activity, all_off, ap, arith}
+use Rattle.psci_tree.proofs.Words.{Bool, cases_eq, cond, confirmed_at, drop, eq-eqb, false, get_or}
+use Rattle.psci_tree.proofs.Words.{get_or-set_other, get_or-set_same, granted_at, HasNodeIn, inl}
+use Rattle.psci_tree.proofs.Words.{inr, IsDomainTree, length, length-replicate, level_sizes, List}
+use Rattle.psci_tree.proofs.Words.{nat_lt, nat_tests, ne_eqb, never_started, Node, place_above}
+use Rattle.psci_tree.proofs.Words.{refl, replicate, size_below, state_at, still_confirmed, suc, sym}
+use Rattle.psci_tree.proofs.Words.{TreeValue, true, with_core_state, with_path_cleared, zero, ℕ}
+use Rattle.psci_tree.specs.Recount.{is_confirmed_at}
 use Rattle.psci_tree.specs.Changes.{with_grant, with_confirmed}
 use Rattle.psci_tree.proofs.Granted.{zero_at, size_of_level, rows_at, depth_at}
 use Rattle.psci_tree.proofs.Valid.{is_domain}

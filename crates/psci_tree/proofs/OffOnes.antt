@@ -1,18 +1,12 @@
 -- Domains that were turned off one after the other, beside what they were.
-use Rattle.std.proofs.Common.{◌≡◌, ℕ, zero, suc, ◌<◌, ◌≤◌, List, [], ◌∷◌, ◌++◌, length, get_or}
-use Rattle.std.proofs.Common.{replicate, cond, min, arith, refl, ap, sym, ◌∙◌, length-append, subst}
-use Rattle.std.proofs.Math.ListN.{set}
-use Rattle.std.specs.List.{flat_map, sum_by, count_by}
-use Rattle.std.proofs.lemmas.List.{length-replicate, replicate-append-replicate}
+use Rattle.std.proofs.lemmas.List.{replicate-append-replicate}
 use Rattle.std.proofs.lemmas.List.Folds.{sum_by-replicate}
-use Rattle.psci_tree.specs.Recount.{never_started, is_active, is_away}
-use Rattle.psci_tree.specs.Domains.{leaves, cores_in, branches, child_counts}
-use Rattle.psci_tree.specs.Kept.{AreKept, IsKept, Keeps, low_in, recount}
-use Rattle.psci_state.specs.declared.cores.CoreState.{CoreState}
-use Rattle.psci_tree.specs.declared.kept.Kept.{Kept}
-use Rattle.psci_tree.specs.declared.domain.Domain.{Domain}
-use Rattle.psci_tree.specs.declared.domain.Domain.TheOpen.{Domain-F}
-use Rattle.psci_tree.specs.declared.domain.Domain.TheViews.{roll-Domain}
+use Rattle.psci_tree.proofs.Words.{◌++◌, ◌<◌, ◌∙◌, ◌∷◌, ◌≡◌, ◌≤◌, [], ap, AreKept, arith, branches}
+use Rattle.psci_tree.proofs.Words.{child_counts, cond, cores_in, CoreState, count_by, Domain}
+use Rattle.psci_tree.proofs.Words.{Domain-F, flat_map, get_or, is_active, is_away, IsKept, Keeps}
+use Rattle.psci_tree.proofs.Words.{Kept, leaves, length, length-append, length-replicate, List}
+use Rattle.psci_tree.proofs.Words.{low_in, min, never_started, recount, refl, replicate}
+use Rattle.psci_tree.proofs.Words.{roll-Domain, set, subst, suc, sum_by, sym, zero, ℕ}
 use Rattle.psci_tree.proofs.Below.{children_roll}
 use Rattle.psci_tree.proofs.Keeping.{kept_nil, kept_cons}
 

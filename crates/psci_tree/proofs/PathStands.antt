@@ -1,22 +1,15 @@
 -- How the domains on a core's path stand.
-use Rattle.std.proofs.Common.{◌≡◌, ℕ, suc, ◌+◌, ◌<◌, ◌≤◌, List, [], length, get_or, ap, sym, ◌∙◌}
-use Rattle.std.proofs.Common.{arith, ◌-◌, drop, subst}
-use Rattle.std.proofs.lemmas.List.{get_or_default, drop_all}
-use Rattle.psci_board.specs.declared.node.Node.{Node}
-use Rattle.psci_board.specs.Board.{BoardValue, HasNodeIn, IsTree, size_below, group_of}
-use Rattle.psci_board.specs.Board.{index_in, place_above}
-use Rattle.psci_board.specs.Laws.{SpanLaws}
-use Rattle.psci_tree.specs.declared.domain.Domain.{Domain, out-Domain}
-use Rattle.psci_tree.specs.Domains.{HasShape, branches, domains_down, leaves}
-use Rattle.psci_tree.specs.Inside.{IsTied}
-use Rattle.psci_tree.specs.Kept.{Keeps}
-use Rattle.psci_tree.specs.Recount.{TreeValue, low, known}
-use Rattle.psci_tree.specs.Standing.{on_path}
+use Rattle.psci_tree.proofs.Words.{◌+◌, ◌-◌, ◌<◌, ◌∙◌, ◌≡◌, ◌≤◌, [], ap, arith, BoardValue}
+use Rattle.psci_tree.proofs.Words.{branches, Domain, domains_down, drop, drop_all, get_or}
+use Rattle.psci_tree.proofs.Words.{get_or_default, group_of, HasNodeIn, HasShape, index_in, IsTied}
+use Rattle.psci_tree.proofs.Words.{IsTree, Keeps, known, leaves, length, List, low, Node, on_path}
+use Rattle.psci_tree.proofs.Words.{out-Domain, place_above, place_above-suc, size_below, SpanLaws}
+use Rattle.psci_tree.proofs.Words.{subst, suc, sym, TreeValue, ℕ}
 use Rattle.psci_tree.proofs.Keeping.{keeps_low}
 use Rattle.psci_tree.proofs.Recounted.{states, low_is, known_is}
 use Rattle.psci_tree.proofs.Slices.{states_at, size_at}
 use Rattle.psci_tree.proofs.Upward.{StepsDown, steps_down, parent_some, number_some}
-use Rattle.psci_board.proofs.Paths.{inside as place_inside, place_above-suc}
+use Rattle.psci_board.proofs.Paths.{inside as place_inside}
 
 -- the domain of a level on a core's path is the child of the one above, of the number on its way
 pub record PathStep (root : Domain) (levels : List (List ℕ)) (core l k : ℕ) : Type 0 where

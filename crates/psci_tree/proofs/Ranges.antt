@@ -1,11 +1,10 @@
 -- Sums over lists of numbers, over ranges, and over what a filter keeps of a range. A count is a
 -- sum of ones.
-use Rattle.std.proofs.Common.{◌≡◌, ℕ, zero, suc, ◌+◌, ◌<◌, ◌≤◌, Bool, true, false, cond, not, List}
-use Rattle.std.proofs.Common.{[], ◌∷◌, length, filter, refl, ap, sym, ◌∙◌, arith, inl, inr}
-use Rattle.std.proofs.Common.{◌==◌, ◌&&◌}
-use Rattle.std.specs.List.{sum_by, count_by, list_all, range_with_len}
-use Rattle.std.proofs.lemmas.Bool.{cases_eq, ne_eqb}
-use Rattle.std.proofs.lemmas.List.Sums.{sum_by-cons}
+use Rattle.std.specs.List.{list_all}
+use Rattle.psci_tree.proofs.Words.{◌&&◌, ◌+◌, ◌<◌, ◌==◌, ◌∙◌, ◌∷◌, ◌≡◌, ◌≤◌, [], ap, arith, Bool}
+use Rattle.psci_tree.proofs.Words.{cases_eq, cond, count_by, false, filter, inl, inr, length, List}
+use Rattle.psci_tree.proofs.Words.{ne_eqb, not, range_with_len, refl, suc, sum_by, sum_by-cons, sym}
+use Rattle.psci_tree.proofs.Words.{true, zero, ℕ}
 
 -- where it is so of each number, it is so of the sums
 pub sums : (f g h : ℕ → ℕ) (xs : List ℕ) → ((k : ℕ) → f k + g k ≡ h k)

@@ -1,15 +1,11 @@
 -- Recounts over the states of the cores below a domain.
-use Rattle.std.proofs.Common.{◌≡◌, ℕ, ◌+◌, ◌<◌, ◌≤◌, List, [], ◌∷◌, map, cond, ap, sym, ◌∙◌}
-use Rattle.std.proofs.Common.{length, arith, true, false, leb}
-use Rattle.std.proofs.lemmas.Bool.Decides.{nat_tests}
-use Rattle.std.specs.List.{sum_by, count_by}
 use Rattle.std.proofs.lemmas.Simd.{map-map}
 use Rattle.std.proofs.lemmas.List.Folds.{fold-map}
-use Rattle.psci_board.specs.declared.node.Node.{Node}
-use Rattle.psci_board.specs.Board.{below_in}
-use Rattle.psci_state.specs.declared.cores.CoreState.{CoreState}
-use Rattle.psci_tree.specs.Recount.{TreeValue, state_at, asks, is_active, is_away}
-use Rattle.psci_tree.specs.Recount.{least, low, known, active, off}
+use Rattle.psci_tree.proofs.Words.{◌+◌, ◌<◌, ◌∙◌, ◌∷◌, ◌≡◌, ◌≤◌, [], ap, arith, asks, below_in}
+use Rattle.psci_tree.proofs.Words.{cond, CoreState, count_by, false, is_active, is_away, least, leb}
+use Rattle.psci_tree.proofs.Words.{length, List, map, nat_tests, Node, state_at, sum_by, sym}
+use Rattle.psci_tree.proofs.Words.{TreeValue, true, ℕ}
+use Rattle.psci_tree.specs.Recount.{low, known, active, off}
 
 abbrev pub states : TreeValue → Node → List CoreState
 states t n = map (λ c. state_at t c) (below_in t.levels n)

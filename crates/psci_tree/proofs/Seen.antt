@@ -1,21 +1,12 @@
 -- The fields of a tree in memory, and the value that it is seen as.
-use Rattle.std.proofs.Common.{◌≡◌, ◌<◌, ◌≤◌, ◌∙◌, arith, ap, sym, subst, map, length, get_or, []}
-use Rattle.std.proofs.Common.{List, ℕ, Vec, Global}
-use Rattle.std.proofs.Math.ListN.{set}
-use Rattle.std.specs.Vec.{with_items}
-use Rattle.std.proofs.lemmas.List.{length-map, with_items_is}
-use Rattle.psci_board.specs.Board.{HasNodeIn, size_below, place_above}
-use Rattle.psci_board.specs.declared.node.Node.{Node}
-use Rattle.psci_tree.specs.declared.depths.Depths.{Depths}
+use Rattle.std.proofs.Common.{Vec, Global}
+use Rattle.psci_tree.proofs.Words.{◌<◌, ◌∙◌, ◌≡◌, ◌≤◌, [], ap, AreWays, arith, confirmed_at}
+use Rattle.psci_tree.proofs.Words.{confirmed_of, depth_set, Depths, get_or, granted_at, granted_of}
+use Rattle.psci_tree.proofs.Words.{HasNodeIn, IsDomainTree, IsHeld, IsWayOf, IsWhole, length}
+use Rattle.psci_tree.proofs.Words.{length-map, List, map, Node, place_above, set, size_below, subst}
+use Rattle.psci_tree.proofs.Words.{sym, the_view, TreeValue, Way, with_items, with_items_is, ℕ}
 use Rattle.psci_tree.specs.declared.tree.Tree.TheInside.{Inside}
-use Rattle.psci_tree.specs.contracts.tree.Tree.{the_view, the_invariant}
-use Rattle.psci_tree.specs.DepthRows.{granted_of, confirmed_of}
-use Rattle.psci_tree.specs.Domains.{IsWhole}
-use Rattle.psci_tree.specs.Recount.{TreeValue, IsDomainTree, granted_at, confirmed_at}
-use Rattle.psci_tree.specs.Changes.{depth_set}
-use Rattle.psci_tree.specs.Inside.{IsHeld}
-use Rattle.psci_tree.specs.Way.{AreWays, IsWayOf}
-use Rattle.psci_tree.specs.declared.way.Way.{Way}
+use Rattle.psci_tree.specs.contracts.tree.Tree.{the_invariant}
 use Rattle.psci_tree.proofs.DepthRows.{DepthRow, depth_row, ReadAt, read_at, depths_written}
 
 -- what holds of the fields, by the value

@@ -1,10 +1,8 @@
 -- Rows of depths, one for each level.
-use Rattle.std.proofs.Common.{◌≡◌, ℕ, zero, suc, ◌+◌, ◌<◌, List, [], ◌∷◌, ◌++◌, length, take, drop}
-use Rattle.std.proofs.Common.{get_or, map, replicate, refl, ap, arith}
-use Rattle.std.proofs.Math.ListN.{set}
 use Rattle.std.proofs.lemmas.List.{map_more}
-use Rattle.psci_tree.specs.declared.depths.Depths.{Depths}
-use Rattle.psci_tree.specs.DepthRows.{filled}
+use Rattle.psci_tree.proofs.Words.{◌++◌, ◌+◌, ◌<◌, ◌∷◌, ◌≡◌, [], ap, arith, Depths, drop, filled}
+use Rattle.psci_tree.proofs.Words.{get_or, length, List, map, refl, replicate, set, suc, take, zero}
+use Rattle.psci_tree.proofs.Words.{ℕ}
 
 -- one more row
 pub rows_more : (ns : List ℕ) (i : ℕ) (depth : Depths) → i < length ns

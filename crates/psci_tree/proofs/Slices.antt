@@ -1,28 +1,18 @@
 -- The domains of one level, and that the cores below one are a slice of all cores.
-use Rattle.std.proofs.Common.{◌≡◌, ℕ, zero, suc, ◌+◌, ◌<◌, ◌≤◌, true, List, []}
-use Rattle.std.proofs.Common.{◌∷◌, ◌++◌, length, take, drop, get_or, map, sum, refl, ap}
-use Rattle.std.proofs.Common.{sym, ◌∙◌, arith, length-append, append-nil, subst}
-use Rattle.std.specs.List.{flat_map, AllPass, range_with_len}
-use Rattle.std.proofs.lemmas.Bool.Decides.{nat_tests}
-use Rattle.std.proofs.lemmas.List.{length-take-le, map-append, map-id, take-map, take-append-drop}
-use Rattle.std.proofs.lemmas.List.{drop_at, take_at, drop_more, drop_all}
-use Rattle.std.proofs.lemmas.List.Concat.{flat_map-append, flat_map_single, length-flat_map}
-use Rattle.std.proofs.lemmas.List.Sums.{sum-map, sum_by-take-le}
-use Rattle.std.proofs.Math.Seq.{take-append-add}
-use Rattle.psci_board.proofs.Levels.{level}
-use Rattle.std.proofs.lemmas.List.Elements.{All-take}
+use Rattle.std.proofs.lemmas.List.{map-id, drop_more}
+use Rattle.std.proofs.lemmas.List.Sums.{sum_by-take-le}
+use Rattle.psci_tree.proofs.Words.{◌++◌, ◌+◌, ◌<◌, ◌∙◌, ◌∷◌, ◌≡◌, ◌≤◌, [], All-take, AllPass, ap}
+use Rattle.psci_tree.proofs.Words.{append-nil, arith, below_in, branches, child_count, child_counts}
+use Rattle.psci_tree.proofs.Words.{cores_in, CoreState, Domain, domains_down, drop, drop_all}
+use Rattle.psci_tree.proofs.Words.{drop_at, first_core, flat_map, flat_map-append, flat_map_single}
+use Rattle.psci_tree.proofs.Words.{get_or, HasNodeIn, HasShape, is_width, IsTree, IsWhole, leaves}
+use Rattle.psci_tree.proofs.Words.{length, length-append, length-flat_map, length-take-le, level}
+use Rattle.psci_tree.proofs.Words.{List, map, map-append, nat_tests, never_started, Node}
+use Rattle.psci_tree.proofs.Words.{range_with_len, refl, size_below, span, SpanLaws, state_at}
+use Rattle.psci_tree.proofs.Words.{subst, suc, sum, sum-cons, sum-map, sym, take, take-append-add}
+use Rattle.psci_tree.proofs.Words.{take-append-drop, take-map, take_at, TreeValue, true, zero, ℕ}
 use Rattle.psci_board.specs.declared.limits.TheConstants.{MOST_CORES}
-use Rattle.psci_board.specs.declared.node.Node.{Node}
-use Rattle.psci_board.specs.Board.{IsTree, HasNodeIn, size_below, is_width}
-use Rattle.psci_board.specs.Board.{below_in, first_core, span}
-use Rattle.psci_board.specs.Laws.{SpanLaws}
-use Rattle.psci_tree.specs.Recount.{TreeValue, state_at, never_started}
-use Rattle.psci_tree.specs.Domains.{leaves, cores_in, branches, child_count}
-use Rattle.psci_tree.specs.Domains.{domains_down, child_counts, HasShape, IsWhole}
-use Rattle.psci_state.specs.declared.cores.CoreState.{CoreState}
-use Rattle.psci_tree.specs.declared.domain.Domain.{Domain}
 use Rattle.psci_tree.proofs.Below.{cores_of_domain, cores_of_core, cores_drop, length_take}
-use Rattle.psci_board.proofs.Groups.{sum-cons}
 
 -- One level down -----------------------------------------------------------------------------
 

@@ -1,16 +1,11 @@
 -- What a sum over the cores below a domain says of each of them.
-use Rattle.std.proofs.Common.{◌≡◌, ℕ, ◌+◌, ◌<◌, cond, ◌==◌, [], ◌∷◌, length, refl, ap, sym, ◌∙◌}
-use Rattle.std.proofs.Common.{arith}
-use Rattle.std.specs.List.{sum_by, range_with_len}
-use Rattle.std.proofs.lemmas.Bool.{eq-eqb, ne_eqb, eqb-true}
-use Rattle.std.proofs.lemmas.List.Sums.{sum_by-cons}
-use Rattle.psci_board.specs.declared.node.Node.{Node}
-use Rattle.psci_board.specs.Board.{size_below, place_above, below_in, span}
-use Rattle.psci_board.specs.Laws.{SpanLaws}
-use Rattle.psci_state.specs.declared.cores.CoreState.{CoreState}
-use Rattle.psci_state.specs.declared.cores.Activity.TheVariants.{Active}
-use Rattle.psci_tree.specs.Recount.{TreeValue, IsDomainTree, known, known_at, state_at}
-use Rattle.psci_tree.specs.Changes.{started, with_core_state, with_path_cleared}
+use Rattle.psci_tree.proofs.Words.{◌+◌, ◌<◌, ◌==◌, ◌∙◌, ◌∷◌, ◌≡◌, [], Active, ap, arith, below_in}
+use Rattle.psci_tree.proofs.Words.{cond, CoreState, eq-eqb, eqb-true, IsDomainTree, known_at}
+use Rattle.psci_tree.proofs.Words.{length, ne_eqb, Node, place_above, range_with_len, refl}
+use Rattle.psci_tree.proofs.Words.{size_below, span, SpanLaws, state_at, sum_by, sum_by-cons, sym}
+use Rattle.psci_tree.proofs.Words.{TreeValue, with_core_state, with_path_cleared, ℕ}
+use Rattle.psci_tree.specs.Recount.{known}
+use Rattle.psci_tree.specs.Changes.{started}
 use Rattle.psci_tree.proofs.Looked.{core_with}
 use Rattle.psci_tree.proofs.Ranges.{sum_same, sum_on}
 

@@ -1,19 +1,15 @@
 -- A domain as a child of the one above it.
-use Rattle.std.proofs.Common.{◌≡◌, ℕ, zero, suc, ◌+◌, ◌-◌, ◌<◌, List, [], ◌∷◌, length, take, drop}
-use Rattle.std.proofs.Common.{get_or, map, sum, ap, sym, refl, subst, ◌∙◌, arith, add-one}
-use Rattle.std.proofs.Common.{drop-cons, Bool, true, false, cond, ◌&&◌, ltb}
-use Rattle.std.specs.Prelude.{Some, None, unwrap_or}
-use Rattle.std.specs.List.{flat_map}
-use Rattle.std.proofs.lemmas.Bool.{ltb-true, lt-ltb}
-use Rattle.std.proofs.lemmas.List.{take-map, length-map, get_or-map, length-drop}
-use Rattle.std.proofs.lemmas.List.Concat.{get_or-flat_map, length-flat_map}
-use Rattle.std.proofs.lemmas.List.Sums.{sum-map}
-use Rattle.psci_board.specs.declared.node.Node.{Node}
-use Rattle.psci_board.specs.Board.{BoardValue, IsTree, HasNodeIn, size_below, group_of, index_in}
+use Rattle.std.proofs.Common.{ltb}
+use Rattle.std.specs.Prelude.{Some, None}
+use Rattle.std.proofs.lemmas.Bool.{lt-ltb}
+use Rattle.psci_tree.proofs.Words.{◌&&◌, ◌+◌, ◌-◌, ◌<◌, ◌∙◌, ◌∷◌, ◌≡◌, [], add-one, ap, arith}
+use Rattle.psci_tree.proofs.Words.{BoardValue, Bool, branches, child_count, cond, Counted, counted}
+use Rattle.psci_tree.proofs.Words.{Domain, domains_down, drop, drop-cons, false, flat_map, get_or}
+use Rattle.psci_tree.proofs.Words.{get_or-flat_map, get_or-map, group_of, HasNodeIn, HasShape}
+use Rattle.psci_tree.proofs.Words.{index_in, IsTree, length, length-drop, length-flat_map}
+use Rattle.psci_tree.proofs.Words.{length-map, List, ltb-true, map, Node, refl, size_below, subst}
+use Rattle.psci_tree.proofs.Words.{suc, sum, sum-map, sym, take, take-map, true, unwrap_or, zero, ℕ}
 use Rattle.psci_board.specs.Board.{height, nodes, parent, child_number}
-use Rattle.psci_tree.specs.Domains.{branches, child_count, domains_down, HasShape}
-use Rattle.psci_tree.specs.declared.domain.Domain.{Domain}
-use Rattle.psci_board.proofs.Groups.{Counted, counted}
 use Rattle.psci_board.proofs.Levels.{IsTree-drop}
 use Rattle.psci_tree.proofs.Valid.{both_tests}
 use Rattle.psci_tree.proofs.Slices.{down_step, widths_are}

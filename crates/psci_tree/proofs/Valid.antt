@@ -1,19 +1,14 @@
 -- What holds of every tree holds after each change, and at the start of a life.
-use Rattle.std.proofs.Common.{◌≡◌, ℕ, zero, suc, ◌+◌, ◌-◌, ◌<◌, ◌≤◌, Bool, true, false}
-use Rattle.std.proofs.Common.{cond, ◌&&◌, ◌==◌, List, [], ◌∷◌, length, get_or, map, replicate}
-use Rattle.std.proofs.Common.{refl, ap, sym, ◌∙◌, arith}
-use Rattle.std.proofs.lemmas.Bool.{eq-eqb, eqb-true}
-use Rattle.std.proofs.lemmas.List.{length-replicate}
-use Rattle.psci_board.specs.declared.node.Node.{Node}
-use Rattle.psci_board.specs.Board.{IsTree, HasNodeIn, size_below, place_above}
-use Rattle.psci_tree.specs.Recount.{TreeValue, IsActivity, IsDomainTree, never_started}
-use Rattle.psci_tree.specs.Recount.{granted_at, level_sizes}
-use Rattle.psci_tree.specs.Changes.{with_path_cleared, with_grant, rows_with_depth, all_off}
-use Rattle.psci_tree.specs.Changes.{MayGrant, still_confirmed, with_confirmed}
-use Rattle.psci_state.specs.declared.cores.CoreState.{CoreState}
-use Rattle.psci_tree.proofs.Granted.{zero_at, zero_lengths, same_up, size_of_level}
-use Rattle.psci_board.proofs.Paths.{inside}
-use Rattle.psci_tree.proofs.Granted.{row_lengths, grant_at, depth_at, rows_at}
+use Rattle.psci_tree.proofs.Words.{◌&&◌, ◌+◌, ◌-◌, ◌<◌, ◌==◌, ◌∙◌, ◌∷◌, ◌≡◌, ◌≤◌, [], all_off, ap}
+use Rattle.psci_tree.proofs.Words.{arith, Bool, cond, CoreState, eq-eqb, eqb-true, false, get_or}
+use Rattle.psci_tree.proofs.Words.{granted_at, HasNodeIn, inside, IsActivity, IsDomainTree, IsTree}
+use Rattle.psci_tree.proofs.Words.{length, length-replicate, level_sizes, List, map, never_started}
+use Rattle.psci_tree.proofs.Words.{Node, place_above, refl, replicate, rows_with_depth, size_below}
+use Rattle.psci_tree.proofs.Words.{still_confirmed, suc, sym, TreeValue, true, with_path_cleared}
+use Rattle.psci_tree.proofs.Words.{zero, ℕ}
+use Rattle.psci_tree.specs.Changes.{with_grant, MayGrant, with_confirmed}
+use Rattle.psci_tree.proofs.Granted.{zero_at, zero_lengths, same_up, size_of_level, row_lengths}
+use Rattle.psci_tree.proofs.Granted.{grant_at, depth_at, rows_at}
 
 -- The path of a core -------------------------------------------------------------------------
 

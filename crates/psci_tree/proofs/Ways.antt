@@ -1,23 +1,18 @@
 -- Ways from a domain down to a core.
-use Rattle.std.proofs.Common.{◌≡◌, ℕ, zero, suc, ◌+◌, ◌<◌, ◌≤◌, true, List, [], ◌∷◌, ◌++◌, length}
-use Rattle.std.proofs.Common.{take, drop, map, sum, get_or, arith, refl, ap, sym, ◌∙◌, subst}
-use Rattle.std.proofs.Common.{append_assoc, length-append}
-use Rattle.std.specs.List.{flat_map, AllPass}
-use Rattle.std.proofs.lemmas.List.{take-append-le, take-map, get_or-map, length-map, drop_all}
-use Rattle.std.proofs.lemmas.List.Concat.{flat_map-append, length-flat_map, get_or-flat_map}
-use Rattle.std.proofs.lemmas.List.Elements.{All-take}
-use Rattle.std.proofs.lemmas.List.Sums.{sum-map, get_or-le-sum_by}
-use Rattle.psci_board.specs.Board.{IsTree, size_below, is_width, group_of, index_in, place_above}
-use Rattle.psci_board.specs.Board.{first_core}
-use Rattle.psci_tree.specs.Domains.{leaves, cores_in, branches, child_count, child_counts, IsWay}
-use Rattle.psci_tree.specs.Domains.{index_by, domains_down, IsWayTo, IsWhole}
-use Rattle.psci_tree.specs.declared.domain.Domain.{Domain}
+use Rattle.std.proofs.lemmas.List.{take-append-le}
+use Rattle.psci_tree.proofs.Words.{◌++◌, ◌+◌, ◌<◌, ◌∙◌, ◌∷◌, ◌≡◌, ◌≤◌, [], All-take, AllPass, ap}
+use Rattle.psci_tree.proofs.Words.{append_assoc, arith, branches, child_count, child_counts}
+use Rattle.psci_tree.proofs.Words.{cores_in, Counted, counted, Domain, domains_down, drop, drop_all}
+use Rattle.psci_tree.proofs.Words.{first_core, flat_map, flat_map-append, get_or, get_or-flat_map}
+use Rattle.psci_tree.proofs.Words.{get_or-le-sum_by, get_or-map, group_of, index_by, index_in}
+use Rattle.psci_tree.proofs.Words.{is_width, IsTree, IsWay, IsWhole, leaves, length, length-append}
+use Rattle.psci_tree.proofs.Words.{length-flat_map, length-map, level, List, map, place_above}
+use Rattle.psci_tree.proofs.Words.{place_above-suc, refl, size_below, subst, suc, sum, sum-cons}
+use Rattle.psci_tree.proofs.Words.{sum-map, sym, take, take-append-add, take-map, true, zero, ℕ}
+use Rattle.psci_tree.specs.Domains.{IsWayTo}
 use Rattle.psci_tree.proofs.Below.{cores_of_core, length_of_domain, length_drop, length_parts}
-use Rattle.psci_board.proofs.Paths.{place_above-suc, inside as place_inside_level}
-use Rattle.psci_board.proofs.Levels.{level}
+use Rattle.psci_board.proofs.Paths.{inside as place_inside_level}
 use Rattle.psci_board.proofs.FirstCores.{first_zero}
-use Rattle.std.proofs.Math.Seq.{take-append-add}
-use Rattle.psci_board.proofs.Groups.{Counted, counted, sum-cons}
 use Rattle.psci_tree.proofs.Slices.{first_len, fans_at, wide_at, size_at, widths_are, down_step}
 use Rattle.psci_tree.proofs.Slices.{cores_down}
 

@@ -1,9 +1,6 @@
-use Rattle.std.proofs.Common.{◌≡◌, ◌<◌, ◌+◌, ◌-◌, ◌*◌, ◌/◌, ◌^◌, ◌∙◌, ℕ, List, [], length, drop}
-use Rattle.std.proofs.Common.{get_or}
-use Rattle.std.proofs.Common.{ap, sym, subst, arith, sum, Some}
-use Rattle.std.specs.Int.{w64, to_le_bytes}
-use Rattle.std.proofs.lemmas.List.{get_or_default}
-use Rattle.psci_board.specs.Level.{index_named, child_in}
+use Rattle.psci_board.proofs.Terms.{◌*◌, ◌+◌, ◌-◌, ◌/◌, ◌<◌, ◌^◌, ◌∙◌, ◌≡◌, [], ap, arith, child_in}
+use Rattle.psci_board.proofs.Terms.{drop, get_or, get_or_default, index_named, length, List, Some}
+use Rattle.psci_board.proofs.Terms.{subst, sum, sym, to_le_bytes, w64, ℕ}
 use Rattle.psci_board.proofs.NamedDown.{none_above, field_step, none_highest, named_highest}
 use Rattle.psci_board.proofs.NamedDown.{inside_step}
 use Rattle.psci_board.proofs.affinity.place_of.Goals as goal

@@ -1,5 +1,4 @@
-use Rattle.std.proofs.Common.{◌≡◌, ◌≤◌, ◌*◌, ◌/◌, ◌^◌, drop, Some}
-use Rattle.psci_board.specs.Level.{index_named}
+use Rattle.psci_board.proofs.Terms.{◌*◌, ◌/◌, ◌^◌, ◌≡◌, ◌≤◌, drop, index_named, Some}
 use Rattle.psci_board.proofs.affinity.place_of.Given as goal
 
 abbrev pub invariant-loop-level : goal.invariant-loop-level

@@ -1,12 +1,7 @@
-use Rattle.std.proofs.Common.{◌≡◌, ◌+◌, ◌*◌, ◌≤◌, ◌<◌, ◌^◌, arith, sym, ◌∙◌, length, get_or, true}
-use Rattle.std.proofs.Common.{false, take}
-use Rattle.std.specs.Char.{is_ascii_digit, digit_value}
-use Rattle.std.specs.List.{prefix_len}
-use Rattle.std.specs.Str.Parse.{digits_value}
-use Rattle.std.proofs.lemmas.Bool.Decides.{nat_tests}
-use Rattle.std.proofs.lemmas.Grind.{common_steps}
-use Rattle.std.proofs.lemmas.Int.Digits.{digits_value_more}
-use Rattle.psci_board.specs.Digits.{value_and_count}
+use Rattle.psci_board.proofs.Terms.{◌*◌, ◌+◌, ◌<◌, ◌^◌, ◌∙◌, ◌≡◌, ◌≤◌, arith, common_steps}
+use Rattle.psci_board.proofs.Terms.{digit_value, digits_value, digits_value_more, false, get_or}
+use Rattle.psci_board.proofs.Terms.{is_ascii_digit, length, nat_tests, prefix_len, sym, take, true}
+use Rattle.psci_board.proofs.Terms.{value_and_count}
 use Rattle.psci_board.proofs.Values.{one_more, no_more, too_large, fits, fits_not}
 use Rattle.psci_board.proofs.digits.decimal.Goals as goal
 

@@ -1,7 +1,5 @@
-use Rattle.std.proofs.Common.{◌≡◌, ◌^◌, ◌<◌, ◌≤◌, take}
-use Rattle.std.specs.Char.{is_ascii_digit}
-use Rattle.std.specs.List.{prefix_len}
-use Rattle.std.specs.Str.Parse.{digits_value}
+use Rattle.psci_board.proofs.Terms.{◌<◌, ◌^◌, ◌≡◌, ◌≤◌, digits_value, is_ascii_digit, prefix_len}
+use Rattle.psci_board.proofs.Terms.{take}
 use Rattle.psci_board.proofs.digits.decimal.Given as goal
 
 abbrev pub invariant-loop-byte : goal.invariant-loop-byte

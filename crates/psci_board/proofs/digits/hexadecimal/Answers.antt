@@ -1,11 +1,6 @@
-use Rattle.std.proofs.Common.{◌≡◌, ◌+◌, ◌*◌, ◌≤◌, ◌<◌, arith, sym, ◌∙◌, length, get_or, take}
-use Rattle.std.specs.Char.{is_ascii_hexdigit, digit_value}
-use Rattle.std.specs.List.{prefix_len}
-use Rattle.std.specs.Str.Parse.{digits_value}
-use Rattle.std.proofs.lemmas.Bool.Decides.{nat_tests}
-use Rattle.std.proofs.lemmas.Grind.{common_steps}
-use Rattle.std.proofs.lemmas.Int.Digits.{digits_value_more}
-use Rattle.psci_board.specs.Digits.{value_and_count}
+use Rattle.psci_board.proofs.Terms.{◌*◌, ◌+◌, ◌<◌, ◌∙◌, ◌≡◌, ◌≤◌, arith, common_steps, digit_value}
+use Rattle.psci_board.proofs.Terms.{digits_value, digits_value_more, get_or, is_ascii_hexdigit}
+use Rattle.psci_board.proofs.Terms.{length, nat_tests, prefix_len, sym, take, value_and_count}
 use Rattle.psci_board.proofs.Values.{one_more, no_more, all_of_them, fifteen_fit, few, too_many}
 use Rattle.psci_board.proofs.Values.{hexadecimal_yes, hexadecimal_no}
 use Rattle.psci_board.proofs.digits.hexadecimal.Goals as goal

@@ -1,7 +1,4 @@
-use Rattle.std.proofs.Common.{◌≡◌, ◌≤◌, take}
-use Rattle.std.specs.Char.{is_ascii_hexdigit}
-use Rattle.std.specs.List.{prefix_len}
-use Rattle.std.specs.Str.Parse.{digits_value}
+use Rattle.psci_board.proofs.Terms.{◌≡◌, ◌≤◌, digits_value, is_ascii_hexdigit, prefix_len, take}
 use Rattle.psci_board.proofs.digits.hexadecimal.Given as goal
 
 abbrev pub invariant-loop-byte : goal.invariant-loop-byte

@@ -1,8 +1,7 @@
-use Rattle.std.proofs.Common.{◌≡◌, ℕ, List, true, ap, refl, sym, ◌∙◌}
-use Rattle.std.specs.Prelude.{codes}
 use Rattle.std.specs.Str.{bytes_eq}
-use Rattle.psci_board.proofs.format_text.format.Goals as goal
+use Rattle.psci_board.proofs.Terms.{◌∙◌, ◌≡◌, ap, codes, List, refl, sym, true, ℕ}
 use Rattle.psci_board.proofs.format_text.format.Goals.{then-is_empty, else-is_empty}
+use Rattle.psci_board.proofs.format_text.format.Goals as goal
 
 pub returns-then-eq : goal.returns-then-eq
 returns-then-eq c =

@@ -1,4 +1,4 @@
-use Rattle.std.proofs.Common.{◌≡◌, take}
+use Rattle.psci_board.proofs.Terms.{◌≡◌, take}
 use Rattle.psci_board.proofs.level.copies.Given as goal
 
 abbrev pub invariant-loop-level : goal.invariant-loop-level

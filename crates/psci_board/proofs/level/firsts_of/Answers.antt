@@ -1,8 +1,6 @@
-use Rattle.std.proofs.Common.{◌≡◌, ℕ, ◌+◌, ◌<◌, ◌++◌, List, [], ◌∷◌, length, take, get_or, sum}
-use Rattle.std.proofs.Common.{arith, inl, inr}
-use Rattle.std.proofs.lemmas.Bool.{cases_lt}
-use Rattle.std.proofs.lemmas.List.{get_or_append_left, get_or_push, length_push}
-use Rattle.std.proofs.lemmas.List.Sums.{sum_by_more}
+use Rattle.psci_board.proofs.Terms.{◌++◌, ◌+◌, ◌<◌, ◌∷◌, ◌≡◌, [], arith, cases_lt, get_or}
+use Rattle.psci_board.proofs.Terms.{get_or_append_left, get_or_push, inl, inr, length, length_push}
+use Rattle.psci_board.proofs.Terms.{List, sum, sum_by_more, take, ℕ}
 use Rattle.psci_board.proofs.level.firsts_of.Goals as goal
 
 -- one more first place, in the list of those of all nodes before

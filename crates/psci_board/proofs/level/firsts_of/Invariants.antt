@@ -1,4 +1,4 @@
-use Rattle.std.proofs.Common.{◌≡◌, ℕ, ◌<◌, length, sum, take, get_or}
+use Rattle.psci_board.proofs.Terms.{◌<◌, ◌≡◌, get_or, length, sum, take, ℕ}
 use Rattle.psci_board.proofs.level.firsts_of.Given as goal
 
 abbrev pub invariant-loop-count : goal.invariant-loop-count

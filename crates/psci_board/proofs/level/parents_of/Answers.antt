@@ -1,6 +1,4 @@
-use Rattle.std.proofs.Common.{ℕ, arith}
-use Rattle.std.proofs.lemmas.List.{length_push, take_all}
-use Rattle.std.proofs.lemmas.List.Sums.{sum_by_more}
+use Rattle.psci_board.proofs.Terms.{arith, length_push, sum_by_more, take_all, ℕ}
 use Rattle.psci_board.proofs.Groups.{one_more_child}
 use Rattle.psci_board.proofs.level.parents_of.Goals as goal
 

@@ -1,5 +1,4 @@
-use Rattle.std.proofs.Common.{◌≡◌, ℕ, ◌+◌, ◌<◌, length, sum, take, get_or}
-use Rattle.psci_board.specs.Board.{group_of}
+use Rattle.psci_board.proofs.Terms.{◌+◌, ◌<◌, ◌≡◌, get_or, group_of, length, sum, take, ℕ}
 use Rattle.psci_board.proofs.level.parents_of.Given as goal
 
 abbrev pub invariant-loop-place : goal.invariant-loop-place

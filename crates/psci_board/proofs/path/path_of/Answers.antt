@@ -1,4 +1,4 @@
-use Rattle.std.proofs.Common.{arith, append_assoc}
+use Rattle.psci_board.proofs.Terms.{append_assoc, arith}
 use Rattle.psci_board.proofs.Groups.{counted}
 use Rattle.psci_board.proofs.Levels.{drop_level}
 use Rattle.psci_board.proofs.path.path_of.Goals as goal

@@ -1,5 +1,4 @@
-use Rattle.std.proofs.Common.{◌≡◌, ◌++◌, ◌<◌, length, drop}
-use Rattle.psci_board.specs.Board.{nodes_up, IsTree, size_below}
+use Rattle.psci_board.proofs.Terms.{◌++◌, ◌<◌, ◌≡◌, drop, IsTree, length, nodes_up, size_below}
 use Rattle.psci_board.proofs.path.path_of.Given as goal
 
 abbrev pub invariant-loop-level : goal.invariant-loop-level

@@ -1,10 +1,8 @@
-use Rattle.std.proofs.Common.{◌≡◌, ◌∷◌, sym, ap, ◌∙◌, refl}
-use Rattle.psci_board.specs.Summary.{with_ranges, ranges_at, no_ranges}
-use Rattle.psci_board.specs.Reading.{range_at, more_at}
-use Rattle.psci_board.specs.Verdict.{range_of}
+use Rattle.psci_board.proofs.Terms.{◌∙◌, ◌∷◌, ◌≡◌, ap, more_at, no_ranges, range_at, range_of, refl}
+use Rattle.psci_board.proofs.Terms.{sym}
+use Rattle.psci_board.specs.Summary.{with_ranges, ranges_at}
 use Rattle.psci_board.proofs.More.{spaced_shortens, more_some, more_none}
-use Rattle.psci_board.proofs.Fronts.{range_shortens}
-use Rattle.psci_board.proofs.Fronts.{value_and_rest_some, value_and_rest_none}
+use Rattle.psci_board.proofs.Fronts.{range_shortens, value_and_rest_some, value_and_rest_none}
 use Rattle.psci_board.proofs.range_text.ranges.Goals as goal
 
 pub returns-in_err-first : goal.returns-in_err-first

@@ -1,6 +1,4 @@
-use Rattle.std.proofs.Common.{◌≡◌, length}
-use Rattle.psci_board.specs.Summary.{with_ranges}
-use Rattle.psci_board.specs.Reading.{range_at, more_at}
+use Rattle.psci_board.proofs.Terms.{◌≡◌, length, more_at, range_at, with_ranges}
 use Rattle.psci_board.proofs.range_text.ranges.Given as goal
 
 abbrev pub invariant-loop-range : goal.invariant-loop-range

@@ -1,4 +1,4 @@
-use Rattle.std.proofs.Common.{length}
+use Rattle.psci_board.proofs.Terms.{length}
 use Rattle.psci_board.proofs.span.+first_core.Given as goal
 
 abbrev pub decreases-first_core : goal.decreases-first_core

@@ -1,4 +1,4 @@
-use Rattle.std.proofs.Common.{rules}
+use Rattle.psci_board.proofs.Terms.{rules}
 use Rattle.psci_board.specs.SummaryVerdict.{fault_in}
 use Rattle.psci_board.proofs.text.fault.Goals as goal
 

@@ -1,4 +1,4 @@
-use Rattle.std.proofs.Common.{sym, ◌∙◌}
+use Rattle.psci_board.proofs.Terms.{◌∙◌, sym}
 use Rattle.psci_board.proofs.KeptText.{kept_text, some, none}
 use Rattle.psci_board.proofs.text.whole_text.Goals as goal
 

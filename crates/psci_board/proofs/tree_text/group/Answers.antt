@@ -1,7 +1,6 @@
-use Rattle.std.proofs.Common.{◌≡◌, ◌∷◌, length, Some, sym, ap, ◌∙◌, arith, refl}
+use Rattle.psci_board.proofs.Terms.{◌∙◌, ◌∷◌, ◌≡◌, ap, arith, length, more_at, number_at, refl}
+use Rattle.psci_board.proofs.Terms.{Some, sym}
 use Rattle.psci_board.specs.Summary.{with_numbers}
-use Rattle.psci_board.specs.ReadWords.{number_at}
-use Rattle.psci_board.specs.Reading.{more_at}
 use Rattle.psci_board.proofs.More.{number_shortens, literal_shortens, spaced_shortens, more_some}
 use Rattle.psci_board.proofs.More.{more_none, list_ended}
 use Rattle.psci_board.proofs.tree_text.group.Goals as goal

@@ -1,7 +1,5 @@
-use Rattle.std.proofs.Common.{◌≡◌, ◌+◌, ◌≤◌, length}
+use Rattle.psci_board.proofs.Terms.{◌+◌, ◌≡◌, ◌≤◌, length, more_at, number_at}
 use Rattle.psci_board.specs.Summary.{with_numbers}
-use Rattle.psci_board.specs.ReadWords.{number_at}
-use Rattle.psci_board.specs.Reading.{more_at}
 use Rattle.psci_board.proofs.tree_text.group.Given as goal
 
 abbrev pub invariant-loop-number : goal.invariant-loop-number

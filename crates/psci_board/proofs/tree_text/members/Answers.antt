@@ -1,6 +1,5 @@
-use Rattle.std.proofs.Common.{◌≡◌, ◌∷◌, sym, ap, ◌∙◌, arith, refl}
+use Rattle.psci_board.proofs.Terms.{◌∙◌, ◌∷◌, ◌≡◌, ap, arith, member_at, more_at, refl, sym}
 use Rattle.psci_board.specs.Summary.{with_members}
-use Rattle.psci_board.specs.Reading.{member_at, more_at}
 use Rattle.psci_board.proofs.More.{member_shortens, spaced_shortens, more_some, more_none}
 use Rattle.psci_board.proofs.More.{list_ended, rest_again, if_kept, list_unopened, list_empty}
 use Rattle.psci_board.proofs.More.{read_some, read_none, spaced_some, spaced_none, unspaced}

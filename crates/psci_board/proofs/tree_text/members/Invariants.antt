@@ -1,6 +1,5 @@
-use Rattle.std.proofs.Common.{◌≡◌, length}
+use Rattle.psci_board.proofs.Terms.{◌≡◌, length, member_at, more_at}
 use Rattle.psci_board.specs.Summary.{with_members}
-use Rattle.psci_board.specs.Reading.{member_at, more_at}
 use Rattle.psci_board.proofs.tree_text.members.Given as goal
 
 abbrev pub invariant-loop-after : goal.invariant-loop-after

@@ -1,5 +1,5 @@
 -- What is kept, by the laws of the crates below.
-use Rattle.psci_board.specs.Board.{BoardValue, IsBoard}
+use Rattle.psci_fw_laws.proofs.Words.{BoardValue, IsBoard}
 use Rattle.psci_fw_laws.proofs.Histories.{HistoryLaws, legal_allowed, legal_holds, sent_more}
 use Rattle.psci_fw_laws.proofs.Lower.{LowerLaws}
 use Rattle.psci_fw_laws.proofs.kept.law_kept.Goals as goal

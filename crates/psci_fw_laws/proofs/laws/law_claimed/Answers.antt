@@ -1,7 +1,5 @@
 -- Claims.
-use Rattle.psci_fw_spec.specs.History.{values_of}
-use Rattle.psci_fw_spec.specs.Sent.{sent_messages}
-use Rattle.psci_fw_spec.specs.Values.{Values}
+use Rattle.psci_fw_laws.proofs.Words.{sent_messages, Values, values_of}
 use Rattle.psci_fw_laws.proofs.Consequences.{once}
 use Rattle.psci_fw_laws.proofs.Older.{claim_older}
 use Rattle.psci_fw_laws.proofs.laws.law_claimed.Goals as goal

@@ -1,6 +1,5 @@
 -- Granted depths.
-use Rattle.psci_fw_spec.specs.History.{values_of}
-use Rattle.psci_fw_spec.specs.Sent.{sent_messages}
+use Rattle.psci_fw_laws.proofs.Words.{sent_messages, values_of}
 use Rattle.psci_fw_laws.proofs.Consequences.{deeper, none_active}
 use Rattle.psci_fw_laws.proofs.Made.{granted_below}
 use Rattle.psci_fw_laws.proofs.laws.law_granted.Goals as goal

@@ -1,6 +1,5 @@
 -- Claims with the sum of all starts below.
-use Rattle.psci_fw_spec.specs.History.{values_of}
-use Rattle.psci_fw_spec.specs.Sent.{sent_messages}
+use Rattle.psci_fw_laws.proofs.Words.{sent_messages, values_of}
 use Rattle.psci_fw_laws.proofs.Living.{live_laws}
 use Rattle.psci_fw_laws.proofs.laws.law_live.Goals as goal
 

@@ -1,6 +1,5 @@
 -- Messages that were sent.
-use Rattle.psci_fw_spec.specs.History.{values_of}
-use Rattle.psci_fw_spec.specs.Sent.{sent_messages}
+use Rattle.psci_fw_laws.proofs.Words.{sent_messages, values_of}
 use Rattle.psci_fw_laws.proofs.Consequences.{once_down}
 use Rattle.psci_fw_laws.proofs.laws.law_messages.Goals as goal
 

@@ -1,6 +1,5 @@
 -- Limits.
-use Rattle.psci_fw_spec.specs.History.{values_of}
-use Rattle.psci_fw_spec.specs.Sent.{sent_messages}
+use Rattle.psci_fw_laws.proofs.Words.{sent_messages, values_of}
 use Rattle.psci_fw_laws.proofs.Consequences.{within}
 use Rattle.psci_fw_laws.proofs.laws.law_numbers.Goals as goal
 

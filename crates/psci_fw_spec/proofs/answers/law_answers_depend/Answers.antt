@@ -1,5 +1,5 @@
 -- What an answer depends on.
-use Rattle.std.proofs.Common.{ap, refl}
+use Rattle.psci_fw_spec.proofs.Words.{ap, refl}
 use Rattle.psci_messages.specs.Slots.{taken}
 use Rattle.psci_fw_spec.proofs.Depending.{affinity_same, enter_same, mode_same, node_hw_same}
 use Rattle.psci_fw_spec.proofs.Depending.{off_same, on_same, reset_same, suspend_same, system_same}

@@ -1,4 +1,4 @@
-use Rattle.psci_board.specs.Board.{BoardValue, IsBoard, height}
+use Rattle.psci_fw_spec.proofs.Words.{BoardValue, height, IsBoard}
 use Rattle.psci_fw_spec.proofs.Answered.{Worded, deepest_is, kept_function}
 use Rattle.psci_fw_spec.proofs.Asked.{known_from}
 use Rattle.psci_fw_spec.proofs.Changing.{kept_acknowledged}

@@ -1,7 +1,4 @@
-use Rattle.psci_board.specs.Board.{BoardValue, IsBoard}
-use Rattle.psci_fw_spec.specs.Changes.{with_arrival}
-use Rattle.psci_fw_spec.specs.Lives.{in_life}
-use Rattle.psci_fw_spec.specs.Phases.{Suspended, Away}
+use Rattle.psci_fw_spec.proofs.Words.{Away, BoardValue, in_life, IsBoard, Suspended, with_arrival}
 use Rattle.psci_fw_spec.proofs.Asked.{IsAsking, known_from, phase_asks}
 use Rattle.psci_fw_spec.proofs.Claimed.{off_claimed, suspended_claimed}
 use Rattle.psci_fw_spec.proofs.Starting.{are_in_life}

@@ -1,13 +1,10 @@
-use Rattle.std.proofs.Common.{◌≤◌, arith, ◌∙◌, ap, length, get_or, ◌≡◌, Some, slice_get}
-use Rattle.std.proofs.lemmas.Option.{slice_get-get_or}
-use Rattle.psci_board.specs.Board.{height, HasNodeIn, up}
-use Rattle.psci_messages.specs.declared.part.Part.{Part}
-use Rattle.psci_tree.specs.Recount.{granted_at, is_confirmed_at}
+use Rattle.psci_fw_state.proofs.Words.{◌∙◌, ◌≡◌, ◌≤◌, ap, arith, get_or, granted_at, HasNodeIn}
+use Rattle.psci_fw_state.proofs.Words.{height, is_confirmed_at, length, Node, Part, slice_get}
+use Rattle.psci_fw_state.proofs.Words.{slice_get-get_or, Some, up}
 use Rattle.psci_fw_state.proofs.Granting.{laid_all, laid_more, may_grant, node_at, on_path}
 use Rattle.psci_fw_state.proofs.Granting.{on_board, unconfirmed_all, unconfirmed_more}
-use Rattle.psci_fw_state.proofs.claim.grant_parts.Goals as goal
 use Rattle.psci_fw_state.proofs.claim.grant_parts.Goals.{In-loop-level}
-use Rattle.psci_board.specs.declared.node.Node.{Node}
+use Rattle.psci_fw_state.proofs.claim.grant_parts.Goals as goal
 
 -- the level that the loop is at, the domain of it on the core's path, and the part that claims it
 low : (c : In-loop-level) → c.loop-level.level ≤ height c.args.board.now

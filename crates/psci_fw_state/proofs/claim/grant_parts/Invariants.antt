@@ -1,6 +1,5 @@
 -- What the parts so far say is granted, and no more.
-use Rattle.std.proofs.Common.{◌≡◌, ℕ}
-use Rattle.psci_tree.specs.Recount.{IsDomainTree, state_at, granted_at, is_confirmed_at}
+use Rattle.psci_fw_state.proofs.Words.{◌≡◌, granted_at, is_confirmed_at, IsDomainTree, state_at, ℕ}
 use Rattle.psci_fw_state.proofs.Granting.{IsLaid, IsUnconfirmed}
 use Rattle.psci_fw_state.proofs.claim.grant_parts.Given as goal
 

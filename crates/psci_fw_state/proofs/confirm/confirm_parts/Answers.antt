@@ -1,17 +1,14 @@
-use Rattle.std.proofs.Common.{◌≡◌, ◌≤◌, ◌<◌, ◌+◌, ◌==◌, ◌&&◌, ℕ, true, cond, nat_lt, arith, ap, sym}
-use Rattle.std.proofs.Common.{◌∙◌, Some, Bool, subst, length, get_or, min}
 use Rattle.std.proofs.Math.Nat.{min-le_left, min-le_right}
-use Rattle.std.proofs.lemmas.Option.{slice_get-get_or}
-use Rattle.psci_board.specs.Board.{HasNodeIn, height, up}
-use Rattle.psci_board.specs.declared.node.Node.{Node}
-use Rattle.psci_messages.specs.declared.part.Part.{Part}
+use Rattle.psci_fw_state.proofs.Words.{◌&&◌, ◌+◌, ◌<◌, ◌==◌, ◌∙◌, ◌≡◌, ◌≤◌, ap, arith, Bool, cond}
+use Rattle.psci_fw_state.proofs.Words.{get_or, granted_at, HasNodeIn, height, is_confirmed_at}
+use Rattle.psci_fw_state.proofs.Words.{is_made_at, length, min, nat_lt, Node, Part}
+use Rattle.psci_fw_state.proofs.Words.{slice_get-get_or, Some, subst, sym, true, up, ℕ}
 use Rattle.psci_tree.specs.Standing.{on_path as path_node}
-use Rattle.psci_tree.specs.Recount.{granted_at, is_confirmed_at, known}
-use Rattle.psci_fw_spec.specs.Confirmed.{is_made_at}
+use Rattle.psci_tree.specs.Recount.{known}
 use Rattle.psci_fw_state.proofs.Confirming.{confirmed_all, confirmed_more, known_stays}
 use Rattle.psci_fw_state.proofs.Granting.{node_at, on_board, on_path}
-use Rattle.psci_fw_state.proofs.confirm.confirm_parts.Goals as goal
 use Rattle.psci_fw_state.proofs.confirm.confirm_parts.Goals.{In-loop-level}
+use Rattle.psci_fw_state.proofs.confirm.confirm_parts.Goals as goal
 
 -- the domain on the core's path of the level that the loop is at
 abbrev here : In-loop-level → Node

@@ -1,9 +1,6 @@
-use Rattle.std.proofs.Common.{◌≡◌, ◌+◌, ◌<◌, ℕ, suc, List, [], map, length, get_or, replicate}
-use Rattle.std.proofs.Common.{arith, ap, sym, ◌∙◌}
-use Rattle.std.proofs.Math.ListN.{set}
-use Rattle.std.proofs.lemmas.List.{get_or-map, length-map, map-set}
-use Rattle.psci_fw_state.specs.declared.counts.StatusCounts.{StatusCounts}
-use Rattle.psci_fw_state.specs.Counts.{no_cores}
+use Rattle.psci_fw_state.proofs.Words.{◌+◌, ◌<◌, ◌∙◌, ◌≡◌, [], ap, arith, get_or, get_or-map}
+use Rattle.psci_fw_state.proofs.Words.{length, length-map, List, map, map-set, no_cores, replicate}
+use Rattle.psci_fw_state.proofs.Words.{set, StatusCounts, suc, sym, ℕ}
 use Rattle.psci_fw_state.proofs.KeptCounts.{blank, cleared_more, cleared_to}
 use Rattle.psci_fw_state.proofs.counts.clear_counts.Goals as goal
 

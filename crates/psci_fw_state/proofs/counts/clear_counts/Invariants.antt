@@ -1,5 +1,5 @@
 -- The levels so far have no count.
-use Rattle.std.proofs.Common.{◌≡◌, map}
+use Rattle.psci_fw_state.proofs.Words.{◌≡◌, map}
 use Rattle.psci_fw_state.proofs.KeptCounts.{cleared_to}
 use Rattle.psci_fw_state.proofs.counts.clear_counts.Given as goal
 

@@ -1,5 +1,4 @@
-use Rattle.std.proofs.Common.{map, arith, ◌∙◌}
-use Rattle.std.proofs.lemmas.List.{length-map}
+use Rattle.psci_fw_state.proofs.Words.{◌∙◌, arith, length-map, map}
 use Rattle.psci_fw_state.proofs.KeptCounts.{none_kept}
 use Rattle.psci_fw_state.proofs.counts.no_counts.Goals as goal
 

@@ -1,7 +1,6 @@
 -- The levels so far have no count.
-use Rattle.std.proofs.Common.{◌≡◌, ℕ, ◌+◌, ◌<◌, length, map, drop, replicate}
-use Rattle.psci_board.specs.Board.{size_below}
-use Rattle.psci_fw_state.specs.Counts.{level_counts, no_cores}
+use Rattle.psci_fw_state.proofs.Words.{◌+◌, ◌<◌, ◌≡◌, drop, length, level_counts, map, no_cores}
+use Rattle.psci_fw_state.proofs.Words.{replicate, size_below, ℕ}
 use Rattle.psci_fw_state.proofs.counts.no_counts.Given as goal
 
 abbrev pub invariant-loop-level : goal.invariant-loop-level

@@ -1,17 +1,10 @@
-use Rattle.std.proofs.Common.{◌≡◌, ℕ, List, arith, ap, map, refl, length, get_or, ◌∙◌, ◌<◌}
-use Rattle.psci_board.specs.declared.node.Node.{Node}
-use Rattle.std.proofs.lemmas.Bool.{eq-eqb, ne_eqb}
-use Rattle.std.proofs.lemmas.List.{get_or_default}
-use Rattle.psci_board.specs.Board.{BoardValue}
+use Rattle.psci_fw_state.proofs.Words.{◌<◌, ◌∙◌, ◌≡◌, ap, arith, BoardValue, CoreRow, eq-eqb}
+use Rattle.psci_fw_state.proofs.Words.{get_or, get_or_default, length, List, map, ne_eqb, Node}
+use Rattle.psci_fw_state.proofs.Words.{off_row, one_core, refl, Status, status_at, updated, ℕ}
 use Rattle.psci_tree.specs.Standing.{on_path as on_path_of}
-use Rattle.psci_fw_spec.specs.declared.status.Status.{Status}
-use Rattle.psci_fw_spec.specs.Values.{updated}
-use Rattle.psci_fw_state.specs.declared.row.CoreRow.{CoreRow}
-use Rattle.psci_fw_state.specs.Counts.{one_core}
-use Rattle.psci_fw_state.specs.Rows.{off_row, status_at}
 use Rattle.psci_fw_state.proofs.KeptCounts.{Turn, turn}
-use Rattle.psci_fw_state.proofs.counts.recount.Goals as goal
 use Rattle.psci_fw_state.proofs.counts.recount.Goals.{In-loop-level}
+use Rattle.psci_fw_state.proofs.counts.recount.Goals as goal
 
 abbrev node_at : ℕ → ℕ → Node
 node_at level place = record { level = level; place = place }

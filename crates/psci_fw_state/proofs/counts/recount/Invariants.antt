@@ -1,7 +1,5 @@
 -- The levels so far are counted anew.
-use Rattle.std.proofs.Common.{map}
-use Rattle.psci_fw_spec.specs.Values.{updated}
-use Rattle.psci_fw_state.specs.Rows.{status_at}
+use Rattle.psci_fw_state.proofs.Words.{map, status_at, updated}
 use Rattle.psci_fw_state.proofs.KeptCounts.{IsCounted}
 use Rattle.psci_fw_state.proofs.counts.recount.Given as goal
 

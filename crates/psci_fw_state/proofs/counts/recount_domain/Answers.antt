@@ -1,9 +1,7 @@
-use Rattle.std.proofs.Common.{◌≡◌, ◌-◌, ◌<◌, ℕ, List, [], map, length, get_or, arith, ap, sym, ◌∙◌}
-use Rattle.std.proofs.Math.ListN.{set}
 use Rattle.std.specs.Vec.{with_item}
-use Rattle.std.proofs.lemmas.List.{get_or-map, get_or_default, map-set}
-use Rattle.psci_fw_state.specs.declared.counts.StatusCounts.{StatusCounts}
-use Rattle.psci_fw_state.specs.Counts.{counts_at, no_cores, recounted}
+use Rattle.psci_fw_state.proofs.Words.{◌-◌, ◌<◌, ◌∙◌, ◌≡◌, [], ap, arith, counts_at, get_or}
+use Rattle.psci_fw_state.proofs.Words.{get_or-map, get_or_default, length, List, map, map-set}
+use Rattle.psci_fw_state.proofs.Words.{no_cores, recounted, set, StatusCounts, sym, ℕ}
 use Rattle.psci_fw_state.proofs.counts.recount_domain.Goals as goal
 
 pub returns : goal.returns

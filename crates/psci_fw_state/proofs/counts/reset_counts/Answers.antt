@@ -1,7 +1,4 @@
-use Rattle.std.proofs.Common.{map}
-use Rattle.psci_fw_spec.specs.declared.status.Status.TheVariants.{Off}
-use Rattle.psci_fw_spec.specs.Values.{updated}
-use Rattle.psci_fw_state.specs.Rows.{status_at}
+use Rattle.psci_fw_state.proofs.Words.{map, Off, status_at, updated}
 use Rattle.psci_fw_state.proofs.Begun.{off_but_boot, some_below}
 use Rattle.psci_fw_state.proofs.KeptCounts.{cleared, same_counts}
 use Rattle.psci_fw_state.proofs.counts.reset_counts.Goals as goal

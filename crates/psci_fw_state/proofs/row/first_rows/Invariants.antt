@@ -1,5 +1,4 @@
-use Rattle.std.proofs.Common.{◌≡◌, ℕ, ◌<◌, length}
-use Rattle.psci_fw_state.specs.Rows.{row_at, first_row}
+use Rattle.psci_fw_state.proofs.Words.{◌<◌, ◌≡◌, first_row, length, row_at, ℕ}
 use Rattle.psci_fw_state.proofs.row.first_rows.Given as goal
 
 abbrev pub invariant-loop-core : goal.invariant-loop-core

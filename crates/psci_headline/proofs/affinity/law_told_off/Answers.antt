@@ -1,6 +1,5 @@
 -- Cores of a domain that AFFINITY_INFO says is OFF.
-use Rattle.std.proofs.Common.{◌∷◌}
-use Rattle.psci_world_spec.proofs.Answered.{firmware_legal}
+use Rattle.psci_headline.proofs.Words.{◌∷◌, firmware_legal}
 use Rattle.psci_headline.proofs.ToldOff.{all_off}
 use Rattle.psci_headline.proofs.affinity.law_told_off.Goals as goal
 

@@ -1,7 +1,6 @@
 -- Hardware states that are said of domains.
-use Rattle.std.proofs.Common.{subst, sym}
-use Rattle.psci_headline.proofs.Words.{Holds, firmware_history, firmware_values}
-use Rattle.psci_world_spec.proofs.Answered.{firmware_legal}
+use Rattle.psci_headline.proofs.Words.{firmware_history, firmware_legal, firmware_values, Holds}
+use Rattle.psci_headline.proofs.Words.{subst, sym}
 use Rattle.psci_headline.proofs.AllDown.{DownLaws}
 use Rattle.psci_headline.proofs.StatesReal.{RealLaws, states_real}
 use Rattle.psci_headline.proofs.hardware.law_states_real.Goals as goal

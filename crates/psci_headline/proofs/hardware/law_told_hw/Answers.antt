@@ -1,7 +1,5 @@
 -- Domains that NODE_HW_STATE says are off or in standby.
-use Rattle.std.proofs.Common.{◌∷◌}
-use Rattle.psci_headline.proofs.Words.{controller_history}
-use Rattle.psci_world_spec.proofs.Answered.{firmware_legal}
+use Rattle.psci_headline.proofs.Words.{◌∷◌, controller_history, firmware_legal}
 use Rattle.psci_headline.proofs.ToldHw.{said_off, said_standby, was_off, was_standby}
 use Rattle.psci_headline.proofs.hardware.law_told_hw.Goals as goal
 

@@ -1,6 +1,5 @@
 -- Claims were asked for.
-use Rattle.std.proofs.Common.{subst, sym}
-use Rattle.psci_headline.proofs.Words.{AreRising, firmware_history}
+use Rattle.psci_headline.proofs.Words.{AreRising, firmware_history, subst, sym}
 use Rattle.psci_headline.proofs.Asking.{asked}
 use Rattle.psci_headline.proofs.Moments.{were_asked}
 use Rattle.psci_headline.proofs.live.law_asked_claims.Goals as goal

@@ -1,6 +1,5 @@
 -- A domain that is not fully on is as deep as a live claim on it.
-use Rattle.psci_headline.proofs.Words.{controller_history}
-use Rattle.psci_world_spec.proofs.Answered.{controller_answered}
+use Rattle.psci_headline.proofs.Words.{controller_answered, controller_history}
 use Rattle.psci_headline.proofs.Deep.{claimed_depth}
 use Rattle.psci_headline.proofs.live.law_claimed_depths.Goals as goal
 

@@ -1,6 +1,5 @@
 -- Claims are apart.
-use Rattle.std.proofs.Common.{subst, sym}
-use Rattle.psci_headline.proofs.Words.{AreRising, firmware_history}
+use Rattle.psci_headline.proofs.Words.{AreRising, firmware_history, subst, sym}
 use Rattle.psci_headline.proofs.Apart.{distinct}
 use Rattle.psci_headline.proofs.live.law_live_claims.Goals as goal
 

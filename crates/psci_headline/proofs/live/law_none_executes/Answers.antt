@@ -1,6 +1,5 @@
 -- Below a domain with a live claim no core executes.
-use Rattle.psci_headline.proofs.Words.{controller_history, firmware_history}
-use Rattle.psci_world_spec.proofs.Answered.{firmware_legal}
+use Rattle.psci_headline.proofs.Words.{controller_history, firmware_history, firmware_legal}
 use Rattle.psci_headline.proofs.Quiet.{none_executes}
 use Rattle.psci_headline.proofs.live.law_none_executes.Goals as goal
 

@@ -1,7 +1,6 @@
 -- Cores that are reported OFF.
-use Rattle.std.proofs.Common.{subst, sym}
-use Rattle.psci_headline.proofs.Words.{Holds, firmware_history, firmware_values}
-use Rattle.psci_world_spec.proofs.Answered.{firmware_legal}
+use Rattle.psci_headline.proofs.Words.{firmware_history, firmware_legal, firmware_values, Holds}
+use Rattle.psci_headline.proofs.Words.{subst, sym}
 use Rattle.psci_headline.proofs.AllDown.{DownLaws}
 use Rattle.psci_headline.proofs.OffIsDown.{off_is_down}
 use Rattle.psci_headline.proofs.powered_down.law_off_is_down.Goals as goal

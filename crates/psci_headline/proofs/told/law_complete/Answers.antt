@@ -1,6 +1,5 @@
 -- Where firmware and power controller agree, all is told.
-use Rattle.std.proofs.Common.{subst, sym}
-use Rattle.psci_headline.proofs.Words.{Holds, firmware_history, firmware_values}
+use Rattle.psci_headline.proofs.Words.{firmware_history, firmware_values, Holds, subst, sym}
 use Rattle.psci_headline.proofs.world_spec.Answered.{firmware_legal}
 use Rattle.psci_headline.proofs.Whole.{whole}
 use Rattle.psci_headline.proofs.told.law_complete.Goals as goal

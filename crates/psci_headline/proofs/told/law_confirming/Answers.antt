@@ -1,6 +1,5 @@
 -- What is told after every legal run.
-use Rattle.std.proofs.Common.{subst, sym}
-use Rattle.psci_headline.proofs.Words.{Holds, firmware_history, firmware_values}
+use Rattle.psci_headline.proofs.Words.{firmware_history, firmware_values, Holds, subst, sym}
 use Rattle.psci_headline.proofs.world_spec.Answered.{firmware_legal}
 use Rattle.psci_headline.proofs.Confirmed.{confirming}
 use Rattle.psci_headline.proofs.told.law_confirming.Goals as goal

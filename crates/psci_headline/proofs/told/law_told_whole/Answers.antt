@@ -1,7 +1,6 @@
 -- Once the world has settled all is told.
-use Rattle.std.proofs.Common.{subst, sym}
 use Rattle.psci_headline.proofs.Words.{controller_history, firmware_history, firmware_values}
-use Rattle.psci_headline.proofs.Words.{settled}
+use Rattle.psci_headline.proofs.Words.{settled, subst, sym}
 use Rattle.psci_headline.proofs.world_spec.Answered.{controller_answered, firmware_legal}
 use Rattle.psci_headline.proofs.BoardLaws.{BoardLaws, is_given}
 use Rattle.psci_headline.proofs.Sources.{live_depth}

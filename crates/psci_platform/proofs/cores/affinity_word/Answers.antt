@@ -1,8 +1,8 @@
 -- The word of a core has the fields of its domains.
-use Rattle.std.proofs.Common.{arith}
 use Rattle.std.proofs.lemmas.Grind.{common_steps}
-use Rattle.psci_platform.proofs.cores.affinity_word.Goals as goal
+use Rattle.psci_platform.proofs.Words.{arith}
 use Rattle.psci_platform.proofs.Addresses.{fields}
+use Rattle.psci_platform.proofs.cores.affinity_word.Goals as goal
 
 pub returns : goal.returns
 returns c =

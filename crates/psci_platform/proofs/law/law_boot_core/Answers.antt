@@ -1,8 +1,6 @@
 -- A boot core that is swapped with core 0 is a renumbering of the board.
 use Rattle.psci_fw_spec.specs.declared.call.FwCall.TheVariants as calls
-use Rattle.psci_platform.specs.Calls.{regs_for}
-use Rattle.psci_platform.specs.Cores.{boot_place}
-use Rattle.psci_platform.specs.Swaps.{swap_for}
+use Rattle.psci_platform.proofs.Words.{boot_place, regs_for, swap_for}
 use Rattle.psci_platform.proofs.Checked.{some_count}
 use Rattle.psci_platform.proofs.Swapping.{calls_by_swap, laws_of}
 use Rattle.psci_platform.proofs.Unmoved.{own_place}

@@ -1,11 +1,11 @@
 -- With the identity of a board the platform is the firmware.
-use Rattle.psci_board.specs.Board.{BoardValue, IsBoard}
+use Rattle.psci_platform.proofs.Words.{BoardValue, IsBoard}
 use Rattle.psci_platform.proofs.OwnAsked.{asked_same}
 use Rattle.psci_platform.proofs.OwnCalls.{Laws, after_same, answer_same}
 use Rattle.psci_platform.proofs.OwnCores.{laws_on}
 use Rattle.psci_platform.proofs.OwnFaults.{faultless, first_boots}
-use Rattle.psci_platform.proofs.law.law_identity.Goals as goal
 use Rattle.psci_platform.proofs.law.law_identity.Goals.{After-law_power_states}
+use Rattle.psci_platform.proofs.law.law_identity.Goals as goal
 
 laws : (c : After-law_power_states) (b : BoardValue) → IsBoard b → Laws b
 laws c b board = record {

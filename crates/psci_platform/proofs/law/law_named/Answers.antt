@@ -1,5 +1,5 @@
 -- An MPIDR names for the firmware what it names on the machine.
-use Rattle.psci_platform.specs.Cores.{boot_place}
+use Rattle.psci_platform.proofs.Words.{boot_place}
 use Rattle.psci_platform.proofs.Checked.{some_count}
 use Rattle.psci_platform.proofs.Swapping.{core_is, laws_of, node_is}
 use Rattle.psci_platform.proofs.law.law_named.Goals as goal

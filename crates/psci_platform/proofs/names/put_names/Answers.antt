@@ -1,8 +1,6 @@
 -- A slot that is written has a name of the list.
-use Rattle.std.proofs.Common.{List, subst, sym}
 use Rattle.std.proofs.lemmas.List.{get_or_default}
-use Rattle.psci_platform.specs.Names.{AreAmong}
-use Rattle.psci_platform.specs.declared.names.Name.{Name}
+use Rattle.psci_platform.proofs.Words.{AreAmong, List, Name, subst, sym}
 use Rattle.psci_platform.proofs.Naming.{one_put}
 use Rattle.psci_platform.proofs.names.put_names.Goals as goal
 

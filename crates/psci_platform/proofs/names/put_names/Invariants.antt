@@ -1,5 +1,5 @@
 -- Each slot has one of the names.
-use Rattle.psci_platform.specs.Names.{AreAmong}
+use Rattle.psci_platform.proofs.Words.{AreAmong}
 use Rattle.psci_platform.proofs.names.put_names.Given as goal
 
 abbrev pub invariant-loop-name : goal.invariant-loop-name

@@ -1,6 +1,5 @@
 -- The word of some depths is read where they are an ask.
-use Rattle.std.proofs.Common.{◌≡◌, ◌∙◌, length, refl, rules}
-use Rattle.psci_state.specs.Ask.{is_ask}
+use Rattle.psci_platform.proofs.Words.{◌∙◌, ◌≡◌, is_ask, length, refl, rules}
 use Rattle.psci_platform.proofs.Asks.{ask_is}
 use Rattle.psci_platform.proofs.states.ask_of.Goals as goal
 

@@ -1,8 +1,6 @@
 -- The cores are looked at one by one.
-use Rattle.std.proofs.Common.{◌≡◌, ◌∙◌, ap, arith, inl, inr, sym}
-use Rattle.std.proofs.lemmas.Bool.{cases_lt}
-use Rattle.psci_board.specs.Board.{cores}
-use Rattle.psci_platform.specs.Swaps.{is_swapped}
+use Rattle.psci_platform.proofs.Words.{◌∙◌, ◌≡◌, ap, arith, cases_lt, cores, inl, inr, is_swapped}
+use Rattle.psci_platform.proofs.Words.{sym}
 use Rattle.psci_platform.proofs.Swapped.{all_of, not_all}
 use Rattle.psci_platform.proofs.swap.are_swapped.Goals as goal
 

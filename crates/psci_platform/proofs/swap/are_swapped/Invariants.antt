@@ -1,5 +1,4 @@
-use Rattle.std.proofs.Common.{◌≡◌, ◌<◌, ℕ, true}
-use Rattle.psci_platform.specs.Swaps.{is_swapped}
+use Rattle.psci_platform.proofs.Words.{◌<◌, ◌≡◌, is_swapped, true, ℕ}
 use Rattle.psci_platform.proofs.swap.are_swapped.Given as goal
 
 -- all cores so far are swapped

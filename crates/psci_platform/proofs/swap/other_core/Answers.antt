@@ -1,7 +1,6 @@
 -- Core 0 stays, and another core stays on the board.
-use Rattle.std.proofs.Common.{◌≡◌, ◌∙◌, ap, arith, sym, ℕ}
-use Rattle.psci_board.specs.declared.node.Node.{Node}
-use Rattle.psci_platform.specs.Swaps.{moved, swap_for}
+use Rattle.psci_platform.proofs.Words.{◌∙◌, ◌≡◌, ap, arith, Node, swap_for, sym, ℕ}
+use Rattle.psci_platform.specs.Swaps.{moved}
 use Rattle.psci_platform.proofs.Swapped.{core_inside}
 use Rattle.psci_platform.proofs.Unmoved.{own_place}
 use Rattle.psci_platform.proofs.swap.other_core.Goals as goal

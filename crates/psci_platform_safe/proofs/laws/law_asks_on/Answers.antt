@@ -1,6 +1,5 @@
 -- A core that a word has suspended asks the depths of the word's states.
-use Rattle.std.proofs.Common.{ap}
-use Rattle.psci_platform.specs.Calls.{asks_states}
+use Rattle.psci_platform_safe.proofs.Words.{ap, asks_states}
 use Rattle.psci_platform_safe.proofs.Records.{effect_now}
 use Rattle.psci_platform_safe.proofs.Suspended.{asks_by_word}
 use Rattle.psci_platform_safe.proofs.laws.law_asks_on.Goals as goal

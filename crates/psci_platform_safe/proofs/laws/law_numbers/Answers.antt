@@ -1,13 +1,8 @@
 -- The firmware's numbers and the MPIDRs of cores name each other.
-use Rattle.psci_platform.specs.Platforms.{IsPlatform, PlatformValue}
-use Rattle.psci_platform.specs.Cores.{boot_place}
-use Rattle.psci_headline.specs.psci_board.Board.{IsBoard}
-use Rattle.psci_platform_safe.proofs.Named.{AtBoot}
-use Rattle.psci_platform_safe.proofs.Numbers.{Laws}
-use Rattle.std.proofs.Common.{◌<◌, ℕ, sym, subst}
-use Rattle.psci_headline.specs.psci_board.Board.{cores}
-use Rattle.psci_platform_safe.proofs.Named.{boot_number, laws_of, some_cores}
-use Rattle.psci_platform_safe.proofs.Numbers.{is_core, mpidr_back, number_back, number_inside}
+use Rattle.psci_platform_safe.proofs.Words.{◌<◌, boot_place, cores, IsBoard, IsPlatform}
+use Rattle.psci_platform_safe.proofs.Words.{PlatformValue, subst, sym, ℕ}
+use Rattle.psci_platform_safe.proofs.Named.{AtBoot, boot_number, laws_of, some_cores}
+use Rattle.psci_platform_safe.proofs.Numbers.{Laws, is_core, mpidr_back, number_back, number_inside}
 use Rattle.psci_platform_safe.proofs.Numbers.{some_core}
 use Rattle.psci_platform_safe.proofs.laws.law_numbers.Goals as goal
 

@@ -1,9 +1,6 @@
 -- Each entry of a platform takes up an opening of its own, or begins a life.
-use Rattle.std.proofs.Common.{◌<◌, ℕ, ap, sym, subst}
-use Rattle.psci_platform.specs.Calls.{asks_states}
-use Rattle.psci_platform.specs.Cores.{boot_place}
-use Rattle.psci_headline.specs.psci_board.Board.{cores}
-use Rattle.psci_headline.specs.psci_fw_spec.Values.{Values}
+use Rattle.psci_platform_safe.proofs.Words.{◌<◌, ap, asks_states, boot_place, cores, subst, sym}
+use Rattle.psci_platform_safe.proofs.Words.{Values, ℕ}
 use Rattle.psci_platform_safe.proofs.Entering.{entries}
 use Rattle.psci_platform_safe.proofs.Named.{AtBoot, boot_number, laws_of, some_cores}
 use Rattle.psci_platform_safe.proofs.Numbers.{is_core}

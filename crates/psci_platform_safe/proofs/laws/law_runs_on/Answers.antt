@@ -1,9 +1,6 @@
 -- To each list of events of a platform there is a legal history.
-use Rattle.std.proofs.Common.{[], sym, subst}
-use Rattle.psci_platform.specs.Cores.{boot_place}
-use Rattle.psci_headline.specs.psci_fw_laws.Kept.{Holds}
-use Rattle.psci_headline.specs.psci_world_spec.Histories.{firmware_history, firmware_values}
-use Rattle.psci_headline.proofs.world_spec.Answered.{firmware_legal}
+use Rattle.psci_platform_safe.proofs.Words.{[], boot_place, firmware_history, firmware_legal}
+use Rattle.psci_platform_safe.proofs.Words.{firmware_values, Holds, subst, sym}
 use Rattle.psci_platform_safe.proofs.Named.{AtBoot, laws_of}
 use Rattle.psci_platform_safe.proofs.Runs.{run_events, stays}
 use Rattle.psci_platform_safe.proofs.laws.law_runs_on.Goals as goal

@@ -1,10 +1,6 @@
 -- A legal history of a platform is safe at every moment.
-use Rattle.std.proofs.Common.{ap, sym, ◌∙◌, subst}
-use Rattle.psci_platform.specs.Calls.{is_there}
-use Rattle.psci_platform.specs.Cores.{boot_place}
-use Rattle.psci_headline.specs.psci_fw_laws.Kept.{Holds}
-use Rattle.psci_headline.specs.psci_world_spec.Histories.{firmware_history, firmware_values}
-use Rattle.psci_headline.proofs.world_spec.Answered.{firmware_legal}
+use Rattle.psci_platform_safe.proofs.Words.{◌∙◌, ap, boot_place, firmware_history, firmware_legal}
+use Rattle.psci_platform_safe.proofs.Words.{firmware_values, Holds, is_there, subst, sym}
 use Rattle.psci_platform_safe.specs.Words.{numbered}
 use Rattle.psci_platform_safe.proofs.Named.{AtBoot, boot_number, laws_of}
 use Rattle.psci_platform_safe.proofs.Safety.{always}

@@ -1,16 +1,10 @@
-use Rattle.std.proofs.Common.{◌≡◌, ◌<◌, ◌≤◌, ◌+◌, ◌∙◌, suc, [], arith, subst, List, ℕ, map, get_or}
-use Rattle.std.proofs.Common.{length, take, drop, ap, sym, sum, replicate}
-use Rattle.std.specs.List.{AllPass}
-use Rattle.std.proofs.lemmas.List.{length-map, take_more, length-replicate, drop_all}
-use Rattle.std.proofs.lemmas.List.Concat.{flat_map_single}
-use Rattle.psci_board.specs.Board.{IsTree, is_width, size_below}
-use Rattle.psci_tree.specs.Domains.{child_count, cores_in}
-use Rattle.psci_tree.specs.declared.domain.Domain.{Domain}
-use Rattle.psci_board.proofs.Levels.{level}
-use Rattle.psci_tree.specs.Recount.{never_started}
+use Rattle.psci_tree.proofs.Words.{◌+◌, ◌<◌, ◌∙◌, ◌≡◌, ◌≤◌, [], AllPass, ap, AreKept, arith}
+use Rattle.psci_tree.proofs.Words.{child_count, cores_in, Domain, drop, drop_all, flat_map_single}
+use Rattle.psci_tree.proofs.Words.{get_or, is_width, IsTree, length, length-map, length-replicate}
+use Rattle.psci_tree.proofs.Words.{level, List, map, never_started, replicate, size_below, subst}
+use Rattle.psci_tree.proofs.Words.{suc, sum, sym, take, take_more, ℕ}
 use Rattle.psci_tree.proofs.Slices.{cores_down}
 use Rattle.psci_tree.proofs.Built.{shaped_more, ends_more, root_whole, root_cores}
-use Rattle.psci_tree.specs.Kept.{AreKept}
 use Rattle.psci_tree.proofs.Keeping.{kept_last}
 use Rattle.psci_tree.proofs.build.build.Goals as goal
 

@@ -1,9 +1,5 @@
-use Rattle.std.proofs.Common.{◌≡◌, length, sum, take, drop, replicate}
-use Rattle.std.specs.List.{flat_map}
-use Rattle.psci_board.specs.Board.{size_below}
-use Rattle.psci_tree.specs.Recount.{never_started}
-use Rattle.psci_tree.specs.Domains.{child_counts, cores_in}
-use Rattle.psci_tree.specs.Kept.{AreKept}
+use Rattle.psci_tree.proofs.Words.{◌≡◌, AreKept, child_counts, cores_in, drop, flat_map, length}
+use Rattle.psci_tree.proofs.Words.{never_started, replicate, size_below, sum, take}
 use Rattle.psci_tree.proofs.Built.{AreShaped}
 use Rattle.psci_tree.proofs.build.build.Given as goal
 

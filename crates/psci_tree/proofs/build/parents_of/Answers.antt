@@ -1,20 +1,16 @@
-use Rattle.std.proofs.Common.{◌≡◌, ◌<◌, ◌≤◌, ◌+◌, ◌∙◌, suc, arith, ap, ℕ, List, [], get_or}
-use Rattle.std.proofs.Common.{length, take, drop, map, sym, append_assoc, ◌++◌, ◌∷◌, subst, rules}
-use Rattle.std.specs.List.{flat_map}
-use Rattle.std.proofs.lemmas.List.{take-append-drop, length-take-le, length-drop, take_more}
-use Rattle.std.proofs.lemmas.List.{take_all}
 use Rattle.std.proofs.lemmas.List.Sums.{sum_by-drop_more}
-use Rattle.psci_board.specs.Board.{children_at, size_below}
-use Rattle.psci_tree.specs.Domains.{branches, child_count, cores_in}
-use Rattle.psci_tree.specs.Kept.{AreKept, Keeps}
-use Rattle.psci_tree.specs.declared.domain.Domain.{Domain}
+use Rattle.psci_tree.proofs.Words.{◌++◌, ◌+◌, ◌<◌, ◌∙◌, ◌∷◌, ◌≡◌, ◌≤◌, [], ap, append_assoc}
+use Rattle.psci_tree.proofs.Words.{AreKept, arith, branches, child_count, cores_in, Domain, drop}
+use Rattle.psci_tree.proofs.Words.{flat_map, get_or, Keeps, length, length-drop, length-take-le}
+use Rattle.psci_tree.proofs.Words.{level, List, map, rules, size_below, subst, suc, sym, take}
+use Rattle.psci_tree.proofs.Words.{take-append-drop, take_all, take_more, ℕ}
+use Rattle.psci_board.specs.Board.{children_at}
 use Rattle.psci_tree.proofs.Below.{length_parts}
 use Rattle.psci_tree.proofs.Built.{children_push, counts_push, none_left}
 use Rattle.psci_tree.proofs.Keeping.{kept_take, kept_drop, kept_push, kept_roll}
-use Rattle.psci_tree.proofs.build.parents_of.Goals as goal
 use Rattle.psci_board.proofs.Groups.{width}
-use Rattle.psci_board.proofs.Levels.{level}
 use Rattle.psci_tree.proofs.build.parents_of.Goals.{In-loop-place, After-children-count}
+use Rattle.psci_tree.proofs.build.parents_of.Goals as goal
 
 -- the place that the loop is at, and how many children it takes
 fits : (c : In-loop-place)

@@ -1,7 +1,5 @@
-use Rattle.std.proofs.Common.{◌≡◌, ◌++◌, ◌<◌, ◌^◌, [], length, map, sum, take, drop, get_or}
-use Rattle.std.specs.List.{flat_map}
-use Rattle.psci_tree.specs.Domains.{branches, child_count, cores_in}
-use Rattle.psci_tree.specs.Kept.{AreKept}
+use Rattle.psci_tree.proofs.Words.{◌++◌, ◌<◌, ◌^◌, ◌≡◌, [], AreKept, branches, child_count}
+use Rattle.psci_tree.proofs.Words.{cores_in, drop, flat_map, get_or, length, map, sum, take}
 use Rattle.psci_tree.proofs.build.parents_of.Given as goal
 
 abbrev pub invariant-loop-place : goal.invariant-loop-place

@@ -1,7 +1,5 @@
-use Rattle.std.proofs.Common.{◌≡◌, ◌∙◌, rules, length, map, sum, ap, sym, subst, refl}
-use Rattle.psci_tree.specs.Recount.{never_started}
-use Rattle.psci_tree.specs.Domains.{child_count, cores_in}
-use Rattle.psci_tree.specs.Kept.{AreKept}
+use Rattle.psci_tree.proofs.Words.{◌∙◌, ◌≡◌, ap, AreKept, child_count, cores_in, length, map}
+use Rattle.psci_tree.proofs.Words.{never_started, refl, rules, subst, sum, sym}
 use Rattle.psci_tree.proofs.Keeping.{kept_push, kept_roll_core}
 use Rattle.psci_tree.proofs.Built.{ends_push, child_count_roll, cores_push}
 use Rattle.psci_tree.proofs.build.row_of_cores.Goals as goal

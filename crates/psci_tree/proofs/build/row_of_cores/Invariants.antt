@@ -1,7 +1,5 @@
-use Rattle.std.proofs.Common.{◌≡◌, length, map, sum, replicate}
-use Rattle.psci_tree.specs.Recount.{never_started}
-use Rattle.psci_tree.specs.Domains.{child_count, cores_in}
-use Rattle.psci_tree.specs.Kept.{AreKept}
+use Rattle.psci_tree.proofs.Words.{◌≡◌, AreKept, child_count, cores_in, length, map, never_started}
+use Rattle.psci_tree.proofs.Words.{replicate, sum}
 use Rattle.psci_tree.proofs.build.row_of_cores.Given as goal
 
 abbrev pub invariant-loop : goal.invariant-loop

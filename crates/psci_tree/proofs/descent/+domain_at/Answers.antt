@@ -1,7 +1,5 @@
-use Rattle.std.proofs.Common.{ℕ, ◌≡◌, ◌<◌, ◌-◌, ◌∙◌, ap, sym, length, get_or, arith}
-use Rattle.std.proofs.lemmas.List.{get_or_default}
-use Rattle.psci_tree.specs.declared.domain.Domain.{Domain, out-Domain}
-use Rattle.psci_tree.specs.Domains.{branches, domains_down}
+use Rattle.psci_tree.proofs.Words.{◌-◌, ◌<◌, ◌∙◌, ◌≡◌, ap, arith, branches, Domain, domains_down}
+use Rattle.psci_tree.proofs.Words.{get_or, get_or_default, length, out-Domain, sym, ℕ}
 use Rattle.psci_tree.proofs.Upward.{StepsDown, steps_down}
 use Rattle.psci_tree.proofs.descent.+domain_at.Goals as goal
 use Rattle.psci_tree.proofs.descent.+domain_at.Goals.{In-Some-Some}

@@ -1,4 +1,4 @@
-use Rattle.std.proofs.Common.{◌-◌, length}
+use Rattle.psci_tree.proofs.Words.{◌-◌, length}
 use Rattle.psci_tree.proofs.descent.+domain_at.Given as goal
 
 abbrev pub decreases-domain_at : goal.decreases-domain_at

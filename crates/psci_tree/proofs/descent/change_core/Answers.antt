@@ -1,9 +1,5 @@
-use Rattle.std.proofs.Common.{◌∙◌, ◌≡◌, ◌∷◌, [], ℕ, List, arith, ap, get_or, subst, sym}
-use Rattle.std.proofs.Math.ListN.{set}
-use Rattle.psci_tree.specs.Domains.{leaves, IsWay, index_by}
-use Rattle.psci_tree.specs.Kept.{Keeps}
-use Rattle.psci_state.specs.declared.cores.CoreState.{CoreState}
-use Rattle.psci_tree.specs.declared.domain.Domain.{Domain}
+use Rattle.psci_tree.proofs.Words.{◌∙◌, ◌∷◌, ◌≡◌, [], ap, arith, CoreState, Domain, get_or}
+use Rattle.psci_tree.proofs.Words.{index_by, IsWay, Keeps, leaves, List, set, subst, sym, ℕ}
 use Rattle.psci_tree.proofs.Slices.{length_cores, size_few}
 use Rattle.psci_tree.proofs.Ways.{system_way}
 use Rattle.psci_tree.proofs.descent.change_core.Goals as goal

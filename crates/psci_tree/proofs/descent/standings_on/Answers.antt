@@ -1,14 +1,10 @@
-use Rattle.std.proofs.Common.{◌≡◌, ◌<◌, ◌≤◌, ◌-◌, ◌+◌, ◌∙◌, ℕ, List, ap, sym, length, get_or}
-use Rattle.std.proofs.Common.{arith, get_or-set_other, get_or-set_same, inl, inr, length-set}
-use Rattle.std.proofs.Math.ListN.{set}
-use Rattle.std.proofs.lemmas.Bool.{cases_eq}
-use Rattle.std.proofs.lemmas.List.{get_or_default, get_or-replicate}
-use Rattle.psci_board.specs.Board.{place_above}
-use Rattle.psci_tree.specs.declared.domain.Domain.{Domain, out-Domain}
-use Rattle.psci_tree.specs.Domains.{branches, domains_down}
+use Rattle.std.proofs.Common.{get_or-set_other, get_or-set_same, length-set}
+use Rattle.psci_tree.proofs.Words.{◌+◌, ◌-◌, ◌<◌, ◌∙◌, ◌≡◌, ◌≤◌, ap, arith, branches, cases_eq}
+use Rattle.psci_tree.proofs.Words.{Domain, domains_down, get_or, get_or-replicate, get_or_default}
+use Rattle.psci_tree.proofs.Words.{inl, inr, length, List, out-Domain, place_above, set, sym, ℕ}
 use Rattle.psci_tree.proofs.PathStands.{PathStep, path_step, at_top}
-use Rattle.psci_tree.proofs.descent.standings_on.Goals as goal
 use Rattle.psci_tree.proofs.descent.standings_on.Goals.{In-loop-step}
+use Rattle.psci_tree.proofs.descent.standings_on.Goals as goal
 
 pub loop-step-init : goal.loop-step-init
 loop-step-init c =

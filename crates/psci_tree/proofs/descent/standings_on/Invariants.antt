@@ -1,10 +1,7 @@
 -- The domain so far is the one on the core's path, so many levels down, and how those from it up
 -- stand is written.
-use Rattle.std.proofs.Common.{◌≡◌, ◌≤◌, ◌+◌, ◌-◌, ℕ, length, get_or}
-use Rattle.psci_board.specs.Board.{place_above}
-use Rattle.psci_tree.specs.declared.domain.Domain.{Domain}
-use Rattle.psci_tree.specs.Domains.{domains_down}
-use Rattle.psci_tree.specs.Standing.{kept_on_path}
+use Rattle.psci_tree.proofs.Words.{◌+◌, ◌-◌, ◌≡◌, ◌≤◌, Domain, domains_down, get_or, kept_on_path}
+use Rattle.psci_tree.proofs.Words.{length, place_above, ℕ}
 use Rattle.psci_tree.proofs.descent.standings_on.Given as goal
 
 abbrev pub invariant-loop-step : goal.invariant-loop-step

@@ -1,4 +1,4 @@
-use Rattle.std.proofs.Common.{List, ℕ, arith}
+use Rattle.psci_tree.proofs.Words.{arith, List, ℕ}
 use Rattle.psci_tree.proofs.Slices.{length_cores, size_few}
 use Rattle.psci_tree.proofs.descent.turn_off.Goals as goal
 

@@ -1,8 +1,5 @@
-use Rattle.std.proofs.Common.{◌+◌, arith, take, subst, sym}
-use Rattle.psci_tree.specs.Domains.{cores_in}
-use Rattle.psci_tree.specs.Kept.{Keeps, kept_together}
-use Rattle.psci_tree.specs.declared.kept.Kept.{Kept}
-use Rattle.psci_tree.specs.declared.domain.Domain.{Domain, out-Domain}
+use Rattle.psci_tree.proofs.Words.{◌+◌, arith, cores_in, Domain, Keeps, Kept, kept_together}
+use Rattle.psci_tree.proofs.Words.{out-Domain, subst, sym, take}
 use Rattle.psci_tree.proofs.Below.{length_parts}
 use Rattle.psci_tree.proofs.Keeping.{kept_next, Small, keeps_small}
 use Rattle.psci_tree.proofs.domain.kept_of.Goals as goal

@@ -1,6 +1,4 @@
-use Rattle.std.proofs.Common.{take}
-use Rattle.psci_tree.specs.Domains.{cores_in}
-use Rattle.psci_tree.specs.Kept.{Keeps}
+use Rattle.psci_tree.proofs.Words.{cores_in, Keeps, take}
 use Rattle.psci_tree.proofs.domain.kept_of.Given as goal
 
 abbrev pub invariant-loop-domain : goal.invariant-loop-domain

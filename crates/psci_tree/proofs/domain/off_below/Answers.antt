@@ -1,9 +1,5 @@
-use Rattle.std.proofs.Common.{◌+◌, ◌∙◌, arith, take, ap, sym}
-use Rattle.std.proofs.lemmas.List.Sums.{count_by-le-length}
-use Rattle.psci_tree.specs.Domains.{cores_in}
-use Rattle.psci_tree.specs.Recount.{is_away}
-use Rattle.psci_tree.specs.declared.domain.Domain.{out-Domain}
-use Rattle.psci_state.specs.declared.cores.CoreState.{CoreState}
+use Rattle.psci_tree.proofs.Words.{◌+◌, ◌∙◌, ap, arith, cores_in, CoreState, count_by-le-length}
+use Rattle.psci_tree.proofs.Words.{is_away, out-Domain, sym, take}
 use Rattle.psci_tree.proofs.Below.{length_parts}
 use Rattle.psci_tree.proofs.Keeping.{off_in_next}
 use Rattle.psci_tree.proofs.domain.off_below.Goals as goal

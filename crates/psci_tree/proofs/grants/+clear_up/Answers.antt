@@ -1,17 +1,11 @@
-use Rattle.std.proofs.Common.{◌≡◌, ◌<◌, ◌≤◌, ◌+◌, ◌∙◌, ℕ, List, [], map, length, get_or, ap, arith}
-use Rattle.std.proofs.Common.{refl}
-use Rattle.std.proofs.Math.ListN.{set}
-use Rattle.std.proofs.lemmas.List.{length-map}
-use Rattle.psci_tree.specs.Recount.{level_sizes}
-use Rattle.psci_tree.specs.declared.depths.Depths.{Depths}
-use Rattle.psci_tree.specs.declared.way.Way.{Way}
-use Rattle.psci_tree.specs.DepthRows.{granted_of, confirmed_of}
-use Rattle.psci_tree.specs.Way.{AreRows, LeadsTo, cleared_from}
+use Rattle.psci_tree.proofs.Words.{◌+◌, ◌<◌, ◌∙◌, ◌≡◌, ◌≤◌, [], ap, arith, cleared_from}
+use Rattle.psci_tree.proofs.Words.{confirmed_of, Depths, get_or, granted_of, length, length-map}
+use Rattle.psci_tree.proofs.Words.{level_sizes, List, map, place_above, refl, set, Way, ℕ}
+use Rattle.psci_tree.specs.Way.{AreRows, LeadsTo}
 use Rattle.psci_tree.proofs.Cleared.{path_node, cleared_step, cleared_top, rows_long}
 use Rattle.psci_tree.proofs.DepthRows.{DepthRow, depth_row, depths_written}
 use Rattle.psci_tree.proofs.Granted.{row_lengths}
 use Rattle.psci_tree.proofs.grants.+clear_up.Goals as goal
-use Rattle.psci_board.specs.Board.{place_above}
 
 -- nothing is granted, and nothing confirmed
 abbrev none : Depths

@@ -1,4 +1,4 @@
-use Rattle.std.proofs.Common.{◌-◌, length}
+use Rattle.psci_tree.proofs.Words.{◌-◌, length}
 use Rattle.psci_tree.proofs.grants.+clear_up.Given as goal
 
 abbrev pub decreases-clear_up : goal.decreases-clear_up

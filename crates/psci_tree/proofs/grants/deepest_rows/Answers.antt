@@ -1,9 +1,7 @@
-use Rattle.std.proofs.Common.{◌≡◌, ◌≤◌, ◌<◌, take, ◌++◌, ◌∷◌, ◌∙◌, arith, ap, sym, ℕ}
-use Rattle.std.proofs.Common.{List, [], length, map, get_or, replicate}
-use Rattle.std.proofs.lemmas.List.{map_push, take_all}
-use Rattle.psci_tree.specs.Recount.{level_sizes}
-use Rattle.psci_tree.specs.declared.depths.Depths.{Depths}
-use Rattle.psci_tree.specs.DepthRows.{granted_of, confirmed_of, filled}
+use Rattle.std.proofs.lemmas.List.{map_push}
+use Rattle.psci_tree.proofs.Words.{◌++◌, ◌<◌, ◌∙◌, ◌∷◌, ◌≡◌, ◌≤◌, [], ap, arith, confirmed_of}
+use Rattle.psci_tree.proofs.Words.{Depths, filled, get_or, granted_of, length, level_sizes, List}
+use Rattle.psci_tree.proofs.Words.{map, replicate, sym, take, take_all, ℕ}
 use Rattle.psci_tree.proofs.DepthRows.{filled_depths}
 use Rattle.psci_tree.proofs.Granted.{size_of_level, length_level_sizes}
 use Rattle.psci_tree.proofs.Shapes.{rows_more}

@@ -1,6 +1,4 @@
-use Rattle.std.proofs.Common.{◌≡◌, take, map}
-use Rattle.psci_tree.specs.Recount.{level_sizes}
-use Rattle.psci_tree.specs.DepthRows.{filled}
+use Rattle.psci_tree.proofs.Words.{◌≡◌, filled, level_sizes, map, take}
 use Rattle.psci_tree.proofs.grants.deepest_rows.Given as goal
 
 abbrev pub invariant-loop-level : goal.invariant-loop-level

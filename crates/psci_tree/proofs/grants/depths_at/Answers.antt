@@ -1,6 +1,5 @@
-use Rattle.std.proofs.Common.{◌≡◌, ◌∙◌, arith, ap, sym, map, length, get_or, ℕ, List, []}
-use Rattle.std.proofs.lemmas.List.{get_or-map, get_or_default}
-use Rattle.psci_tree.specs.declared.depths.Depths.{Depths}
+use Rattle.psci_tree.proofs.Words.{◌∙◌, ◌≡◌, [], ap, arith, Depths, get_or, get_or-map}
+use Rattle.psci_tree.proofs.Words.{get_or_default, length, List, map, sym, ℕ}
 use Rattle.psci_tree.proofs.grants.depths_at.Goals as goal
 
 pub index-requires : goal.index-requires

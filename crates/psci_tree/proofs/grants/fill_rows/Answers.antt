@@ -1,9 +1,6 @@
-use Rattle.std.proofs.Common.{◌≡◌, ◌<◌, ◌+◌, ◌++◌, ◌∙◌, suc, arith, ap, sym, ℕ}
-use Rattle.std.proofs.Common.{List, [], length, map, take, drop, get_or, replicate}
-use Rattle.std.proofs.Math.ListN.{set}
-use Rattle.std.proofs.lemmas.List.{get_or-map, length-map, map-set}
-use Rattle.psci_tree.specs.declared.depths.Depths.{Depths}
-use Rattle.psci_tree.specs.DepthRows.{filled}
+use Rattle.psci_tree.proofs.Words.{◌++◌, ◌+◌, ◌<◌, ◌∙◌, ◌≡◌, [], ap, arith, Depths, drop, filled}
+use Rattle.psci_tree.proofs.Words.{get_or, get_or-map, length, length-map, List, map, map-set}
+use Rattle.psci_tree.proofs.Words.{replicate, set, suc, sym, take, ℕ}
 use Rattle.psci_tree.proofs.Shapes.{filled_more}
 use Rattle.psci_tree.proofs.grants.fill_rows.Goals as goal
 

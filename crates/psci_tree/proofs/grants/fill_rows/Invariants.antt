@@ -1,5 +1,4 @@
-use Rattle.std.proofs.Common.{◌≡◌, ◌++◌, length, take, drop, map}
-use Rattle.psci_tree.specs.DepthRows.{filled}
+use Rattle.psci_tree.proofs.Words.{◌++◌, ◌≡◌, drop, filled, length, map, take}
 use Rattle.psci_tree.proofs.grants.fill_rows.Given as goal
 
 abbrev pub invariant-loop-level : goal.invariant-loop-level

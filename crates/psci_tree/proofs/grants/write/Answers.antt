@@ -1,8 +1,5 @@
-use Rattle.std.proofs.Common.{◌∙◌, arith, ap, sym, map, length, get_or, ℕ, List, []}
-use Rattle.std.proofs.Math.ListN.{set}
-use Rattle.std.specs.Vec.{with_item}
-use Rattle.std.proofs.lemmas.List.{get_or-map, map-set}
-use Rattle.psci_tree.specs.declared.depths.Depths.{Depths}
+use Rattle.psci_tree.proofs.Words.{◌∙◌, [], ap, arith, Depths, get_or, get_or-map, length, List}
+use Rattle.psci_tree.proofs.Words.{map, map-set, set, sym, with_item, ℕ}
 use Rattle.psci_tree.proofs.grants.write.Goals as goal
 
 pub index_mut-requires : goal.index_mut-requires

@@ -1,8 +1,5 @@
-use Rattle.std.proofs.Common.{refl}
-use Rattle.psci_tree.specs.Recount.{known_at}
-use Rattle.psci_tree.specs.Changes.{suspended, turned_off, made_pending}
-use Rattle.psci_tree.specs.Changes.{started, with_core_state, with_confirmed}
-use Rattle.psci_state.specs.declared.cores.Activity.TheVariants.{Active}
+use Rattle.psci_tree.proofs.Words.{Active, known_at, refl, with_core_state}
+use Rattle.psci_tree.specs.Changes.{suspended, turned_off, made_pending, started, with_confirmed}
 use Rattle.psci_tree.proofs.Looked.{confirmed_with, confirmed_grant, confirmed_now}
 use Rattle.psci_tree.proofs.laws.law_confirmed.Goals as goal
 

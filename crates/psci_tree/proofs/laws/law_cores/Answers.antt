@@ -1,7 +1,5 @@
-use Rattle.std.proofs.Common.{refl}
-use Rattle.psci_tree.specs.Recount.{known_at}
+use Rattle.psci_tree.proofs.Words.{Active, Away, known_at, refl, Suspended}
 use Rattle.psci_tree.specs.Changes.{suspended, turned_off, made_pending, started, with_grant}
-use Rattle.psci_state.specs.declared.cores.Activity.TheVariants.{Active, Suspended, Away}
 use Rattle.psci_tree.proofs.Looked.{core_with}
 use Rattle.psci_tree.proofs.laws.law_cores.Goals as goal
 

@@ -1,7 +1,5 @@
-use Rattle.std.proofs.Common.{refl}
-use Rattle.psci_tree.specs.Recount.{known_at}
-use Rattle.psci_tree.specs.Changes.{suspended, turned_off, made_pending, started, with_core_state}
-use Rattle.psci_state.specs.declared.cores.Activity.TheVariants.{Active}
+use Rattle.psci_tree.proofs.Words.{Active, known_at, refl, with_core_state}
+use Rattle.psci_tree.specs.Changes.{suspended, turned_off, made_pending, started}
 use Rattle.psci_tree.proofs.Granted.{grant_at}
 use Rattle.psci_tree.proofs.Looked.{granted_with}
 use Rattle.psci_tree.proofs.laws.law_granted.Goals as goal

@@ -1,4 +1,4 @@
-use Rattle.std.proofs.Common.{refl}
+use Rattle.psci_tree.proofs.Words.{refl}
 use Rattle.psci_tree.specs.Recount.{known}
 use Rattle.psci_tree.proofs.Sums.{known_own, known_same, known_started, known_elsewhere}
 use Rattle.psci_tree.proofs.laws.law_known.Goals as goal

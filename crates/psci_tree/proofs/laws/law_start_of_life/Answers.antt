@@ -1,9 +1,6 @@
-use Rattle.std.proofs.Common.{◌≡◌, ℕ, ◌∙◌, arith, ap, cond, ◌==◌, false}
-use Rattle.psci_board.specs.Board.{place_above}
-use Rattle.psci_tree.specs.Recount.{known_at, never_started}
-use Rattle.psci_tree.specs.Changes.{made_pending, with_core_state, start_of_life, all_off}
-use Rattle.psci_state.specs.declared.cores.Activity.TheVariants.{Active}
-use Rattle.psci_state.specs.declared.cores.CoreState.{CoreState}
+use Rattle.psci_tree.proofs.Words.{◌==◌, ◌∙◌, ◌≡◌, Active, all_off, ap, arith, cond, CoreState}
+use Rattle.psci_tree.proofs.Words.{false, known_at, never_started, place_above, with_core_state, ℕ}
+use Rattle.psci_tree.specs.Changes.{made_pending, start_of_life}
 use Rattle.psci_tree.proofs.Looked.{core_with, core_off, cores_off, granted_with, granted_off}
 use Rattle.psci_tree.proofs.Looked.{confirmed_with, confirmed_off}
 use Rattle.psci_tree.proofs.laws.law_start_of_life.Goals as goal

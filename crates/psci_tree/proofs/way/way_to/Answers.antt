@@ -1,10 +1,8 @@
-use Rattle.std.proofs.Common.{◌≡◌, ◌≢◌, ◌∙◌, ◌+◌, ◌<◌, ℕ, List, [], suc, arith, length, ap, sym}
-use Rattle.std.proofs.Common.{drop, get_or, get_or-set_other, get_or-set_same, below_more}
-use Rattle.std.proofs.Common.{length-set}
-use Rattle.std.specs.Prelude.{unwrap_or}
-use Rattle.psci_board.specs.declared.node.Node.{Node}
-use Rattle.psci_board.specs.Board.{BoardValue, size_below, index_in, place_above, group_of}
-use Rattle.psci_board.proofs.Paths.{inside as place_inside, place_above-suc}
+use Rattle.std.proofs.Common.{get_or-set_other, get_or-set_same, below_more, length-set}
+use Rattle.psci_tree.proofs.Words.{◌+◌, ◌<◌, ◌∙◌, ◌≡◌, ◌≢◌, [], ap, arith, BoardValue, drop, get_or}
+use Rattle.psci_tree.proofs.Words.{group_of, index_in, length, List, Node, place_above}
+use Rattle.psci_tree.proofs.Words.{place_above-suc, size_below, suc, sym, unwrap_or, ℕ}
+use Rattle.psci_board.proofs.Paths.{inside as place_inside}
 use Rattle.psci_tree.proofs.Upward.{parent_some, number_some}
 use Rattle.psci_tree.proofs.way.way_to.Goals as goal
 

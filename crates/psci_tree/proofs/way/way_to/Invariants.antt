@@ -1,5 +1,4 @@
-use Rattle.std.proofs.Common.{◌≡◌, ◌<◌, ℕ, [], length, get_or}
-use Rattle.psci_board.specs.Board.{index_in, place_above}
+use Rattle.psci_tree.proofs.Words.{◌<◌, ◌≡◌, [], get_or, index_in, length, place_above, ℕ}
 use Rattle.psci_tree.proofs.way.way_to.Given as goal
 
 abbrev pub invariant-loop-level : goal.invariant-loop-level

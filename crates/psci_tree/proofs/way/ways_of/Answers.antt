@@ -1,10 +1,7 @@
-use Rattle.std.proofs.Common.{◌≡◌, ◌<◌, ◌+◌, ◌++◌, ◌∷◌, ◌∙◌, [], ℕ, List, length, get_or, ap, sym}
-use Rattle.std.proofs.Common.{subst, arith, inl, inr}
-use Rattle.std.proofs.lemmas.Bool.{cases_eq}
-use Rattle.std.proofs.lemmas.List.{get_or_push, get_or_append_left, length_push}
-use Rattle.psci_board.specs.Board.{size_below}
-use Rattle.psci_tree.specs.declared.way.Way.{Way}
-use Rattle.psci_tree.specs.Way.{IsWayOf}
+use Rattle.std.proofs.lemmas.List.{get_or_push, get_or_append_left}
+use Rattle.psci_tree.proofs.Words.{◌++◌, ◌+◌, ◌<◌, ◌∙◌, ◌∷◌, ◌≡◌, [], ap, arith, cases_eq, get_or}
+use Rattle.psci_tree.proofs.Words.{inl, inr, IsWayOf, length, length_push, List, size_below, subst}
+use Rattle.psci_tree.proofs.Words.{sym, Way, ℕ}
 use Rattle.psci_tree.proofs.way.ways_of.Goals as goal
 
 -- one more way

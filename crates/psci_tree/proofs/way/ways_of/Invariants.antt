@@ -1,6 +1,4 @@
-use Rattle.std.proofs.Common.{◌≡◌, ◌<◌, ℕ, length, get_or}
-use Rattle.psci_tree.specs.declared.way.Way.{Way}
-use Rattle.psci_tree.specs.Way.{IsWayOf}
+use Rattle.psci_tree.proofs.Words.{◌<◌, ◌≡◌, get_or, IsWayOf, length, Way, ℕ}
 use Rattle.psci_tree.proofs.way.ways_of.Given as goal
 
 abbrev pub invariant-loop-number : goal.invariant-loop-number

@@ -1,4 +1,4 @@
-use Rattle.std.proofs.Common.{sym, refl}
+use Rattle.psci_board.proofs.Terms.{refl, sym}
 use Rattle.psci_board.proofs.Readers.{child-none, child-some}
 use Rattle.psci_board.proofs.board.Board.child.Goals as goal
 

@@ -1,4 +1,4 @@
-use Rattle.std.proofs.Common.{sym}
+use Rattle.psci_board.proofs.Terms.{sym}
 use Rattle.psci_board.proofs.Readers.{children-none}
 use Rattle.psci_board.proofs.board.Board.children.Goals as goal
 

@@ -1,4 +1,4 @@
-use Rattle.std.proofs.Common.{rules}
+use Rattle.psci_board.proofs.Terms.{rules}
 use Rattle.psci_board.proofs.board.Board.copy.Goals as goal
 
 pub returns : goal.returns

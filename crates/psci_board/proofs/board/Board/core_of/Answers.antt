@@ -1,7 +1,6 @@
-use Rattle.std.proofs.Common.{◌≡◌, ◌*◌, ◌/◌, ◌^◌, ℕ, List, drop, refl, sym, ap}
-use Rattle.std.proofs.Math.Nat.{div-one}
+use Rattle.psci_board.proofs.Terms.{◌*◌, ◌/◌, ◌^◌, ◌≡◌, ap, div-one, drop, index_named, List, refl}
+use Rattle.psci_board.proofs.Terms.{sym, ℕ}
 use Rattle.psci_board.specs.Board.{core_of}
-use Rattle.psci_board.specs.Level.{index_named}
 use Rattle.psci_board.proofs.Named.{core_inside}
 use Rattle.psci_board.proofs.board.Board.core_of.Goals as goal
 

@@ -1,4 +1,4 @@
-use Rattle.std.proofs.Common.{rules}
+use Rattle.psci_board.proofs.Terms.{rules}
 use Rattle.psci_board.proofs.Spans.{walk}
 use Rattle.psci_board.proofs.board.Board.cores_below.Goals as goal
 

@@ -1,5 +1,4 @@
-use Rattle.std.proofs.Common.{sym, refl, arith, ◌<◌, ◌≤◌}
-use Rattle.psci_board.specs.Board.{height}
+use Rattle.psci_board.proofs.Terms.{◌<◌, ◌≤◌, arith, height, refl, sym}
 use Rattle.psci_board.proofs.Readers.{node_of-above, node_of-within}
 use Rattle.psci_board.proofs.board.Board.node_of.Goals as goal
 

@@ -1,4 +1,4 @@
-use Rattle.std.proofs.Common.{sym, ap, ◌∙◌, Ok}
+use Rattle.psci_board.proofs.Terms.{◌∙◌, ap, Ok, sym}
 use Rattle.psci_board.proofs.Said.{not_of_grammar, good_text, bad_text, no_fault}
 use Rattle.psci_board.proofs.board.Board.read_bytes.Goals as goal
 

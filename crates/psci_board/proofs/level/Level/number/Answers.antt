@@ -1,4 +1,4 @@
-use Rattle.std.proofs.Common.{rules}
+use Rattle.psci_board.proofs.Terms.{rules}
 use Rattle.psci_board.proofs.Groups.{Numbered, numbered}
 use Rattle.psci_board.proofs.level.Level.number.Goals as goal
 

@@ -1,22 +1,17 @@
-use Rattle.std.proofs.Common.{◌≡◌, ◌<◌, true, false, length, sym, subst, arith, ◌∙◌}
-use Rattle.psci_messages.specs.declared.taken.Taken.TheVariants.{Used}
 use Rattle.std.specs.Borrow.{Bor}
 use Rattle.std.specs.Prelude.{Option, Some, option_map}
-use Rattle.psci_messages.specs.Message.{AckValue, MessageValue}
-use Rattle.psci_messages.specs.Slots.{answered, message_in, slot_of, taken}
-use Rattle.psci_messages.specs.Slots.Change.{Acknowledge}
-use Rattle.psci_fw_spec.specs.declared.status.Status.TheVariants as statuses
-use Rattle.psci_fw_spec.specs.Changes.{turns_off}
-use Rattle.psci_fw_state.specs.Rows.{row_at}
-use Rattle.psci_fw_state.specs.Seen.{StateValue, values_in}
-use Rattle.psci_fw_state.proofs.Acked.{answered_used, down_has_slot, off_changed}
-use Rattle.psci_fw_state.proofs.Acked.{IsAcked, acked_by, sent_parts, used_changed}
+use Rattle.psci_fw_state.proofs.Words.{◌<◌, ◌∙◌, ◌≡◌, Acknowledge, AckValue, answered, arith, false}
+use Rattle.psci_fw_state.proofs.Words.{length, message_in, MessageValue, row_at, slot_of}
+use Rattle.psci_fw_state.proofs.Words.{StateValue, subst, sym, taken, the_view, true, turns_off}
+use Rattle.psci_fw_state.proofs.Words.{Used, values_in}
+use Rattle.psci_fw_state.proofs.Acked.{answered_used, down_has_slot, off_changed, IsAcked, acked_by}
+use Rattle.psci_fw_state.proofs.Acked.{sent_parts, used_changed}
 use Rattle.psci_fw_state.proofs.Changed.{row_set}
 use Rattle.psci_fw_state.proofs.Moved.{rows_set}
-use Rattle.psci_fw_state.specs.contracts.state.State.{the_view}
-use Rattle.psci_fw_state.proofs.state.State.acknowledge.Goals as goal
 use Rattle.psci_fw_state.proofs.state.State.acknowledge.Goals.{After-confirm_parts}
 use Rattle.psci_messages.specs.contracts.ack.Ack.{the_view as the_ack}
+use Rattle.psci_fw_spec.specs.declared.status.Status.TheVariants as statuses
+use Rattle.psci_fw_state.proofs.state.State.acknowledge.Goals as goal
 
 -- the message that is acknowledged
 sent : (c : After-confirm_parts) → Some c.in-Some.message.now ≡ answered c.args.ack

@@ -1,12 +1,9 @@
-use Rattle.std.proofs.Common.{◌≡◌, ℕ, Bool, true, false, not, cond, ap, arith, refl, sym, ◌∙◌, ◌≤◌}
-use Rattle.psci_board.specs.Board.{height}
-use Rattle.psci_tree.specs.Recount.{off}
-use Rattle.psci_fw_spec.specs.Phases.{is_away}
-use Rattle.psci_fw_state.specs.Seen.{StateValue, values_in}
+use Rattle.psci_fw_state.proofs.Words.{◌∙◌, ◌≡◌, ◌≤◌, ap, arith, Bool, cond, false, height, is_away}
+use Rattle.psci_fw_state.proofs.Words.{not, off, refl, StateValue, sym, the_view, true, ℕ}
+use Rattle.psci_fw_state.specs.Seen.{values_in}
 use Rattle.psci_fw_state.proofs.AllCores.{away, few_off, others_away}
-use Rattle.psci_fw_state.specs.contracts.state.State.{the_view}
-use Rattle.psci_fw_state.proofs.state.State.are_others_away.Goals as goal
 use mir.Val.{bool_byte}
+use Rattle.psci_fw_state.proofs.state.State.are_others_away.Goals as goal
 
 byte : (b : Bool) → bool_byte b ≡ cond b 1 0
 byte true = refl

@@ -1,12 +1,8 @@
-use Rattle.std.proofs.Common.{◌≡◌, ℕ, ◌+◌, ap, sym, ◌∙◌}
-use Rattle.psci_board.specs.Board.{height}
-use Rattle.psci_fw_state.specs.declared.row.CoreRow.{CoreRow}
-use Rattle.psci_fw_state.specs.declared.counts.StatusCounts.{StatusCounts}
-use Rattle.psci_fw_state.specs.Counts.{counts_below, one_core}
-use Rattle.psci_fw_state.specs.Rows.{row_at, status_at}
-use Rattle.psci_fw_state.specs.Seen.{StateValue, values_in}
+use Rattle.psci_fw_state.proofs.Words.{◌+◌, ◌∙◌, ◌≡◌, ap, CoreRow, counts_below, height, one_core}
+use Rattle.psci_fw_state.proofs.Words.{row_at, StateValue, status_at, StatusCounts, sym, the_view}
+use Rattle.psci_fw_state.proofs.Words.{ℕ}
+use Rattle.psci_fw_state.specs.Seen.{values_in}
 use Rattle.psci_fw_state.proofs.AllCores.{others_off, system}
-use Rattle.psci_fw_state.specs.contracts.state.State.{the_view}
 use Rattle.psci_fw_state.proofs.state.State.are_others_off.Goals as goal
 
 pub returns : goal.returns

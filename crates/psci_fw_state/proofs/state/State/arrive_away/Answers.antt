@@ -1,13 +1,8 @@
-use Rattle.std.proofs.Common.{◌≡◌, None, ap, ◌∙◌, length}
-use Rattle.psci_messages.specs.Slots.Change.{Clear}
-use Rattle.std.proofs.lemmas.List.{length-set}
-use Rattle.psci_tree.specs.Recount.{TreeValue}
-use Rattle.psci_fw_state.specs.Rows.{row_at}
-use Rattle.psci_fw_state.specs.Seen.{StateValue}
+use Rattle.psci_fw_state.proofs.Words.{◌∙◌, ◌≡◌, ap, Clear, length, length-set, None, row_at}
+use Rattle.psci_fw_state.proofs.Words.{StateValue, the_view, TreeValue}
 use Rattle.psci_fw_state.proofs.Changed.{in_rows, row_set}
 use Rattle.psci_fw_state.proofs.Moved.{counts_stay, path_cleared, path_unconfirmed, rows_set}
 use Rattle.psci_fw_state.proofs.Arrived.{stopped_changed}
-use Rattle.psci_fw_state.specs.contracts.state.State.{the_view}
 use Rattle.psci_fw_state.proofs.state.State.arrive_away.Goals as goal
 
 pub returns-clause-after : goal.returns-clause-after

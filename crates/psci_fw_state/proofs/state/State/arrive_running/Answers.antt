@@ -1,11 +1,8 @@
-use Rattle.std.proofs.Common.{◌<◌, None, length}
-use Rattle.psci_messages.specs.Slots.Change.{Clear}
-use Rattle.psci_fw_spec.specs.declared.status.Status.TheVariants as statuses
-use Rattle.psci_fw_state.specs.Seen.{StateValue}
+use Rattle.psci_fw_state.proofs.Words.{◌<◌, Clear, length, None, StateValue, the_view}
 use Rattle.psci_fw_state.proofs.Changed.{in_rows, row_set, within}
 use Rattle.psci_fw_state.proofs.Moved.{path_cleared, path_unconfirmed, rows_set}
 use Rattle.psci_fw_state.proofs.Arrived.{running_changed}
-use Rattle.psci_fw_state.specs.contracts.state.State.{the_view}
+use Rattle.psci_fw_spec.specs.declared.status.Status.TheVariants as statuses
 use Rattle.psci_fw_state.proofs.state.State.arrive_running.Goals as goal
 
 pub returns-clause-after : goal.returns-clause-after

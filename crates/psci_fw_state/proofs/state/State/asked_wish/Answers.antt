@@ -1,7 +1,4 @@
-use Rattle.std.proofs.Common.{ap, sym, ◌∙◌}
-use Rattle.psci_fw_spec.specs.Views.{view}
-use Rattle.psci_fw_state.specs.Seen.{values_in}
-use Rattle.psci_fw_state.specs.Wishes.{asked_wish, wish_unless}
+use Rattle.psci_fw_state.proofs.Words.{◌∙◌, ap, asked_wish, sym, values_in, view, wish_unless}
 use Rattle.psci_fw_state.proofs.state.State.asked_wish.Goals as goal
 
 pub returns-in-Platform : goal.returns-in-Platform

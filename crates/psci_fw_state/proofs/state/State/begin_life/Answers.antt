@@ -1,11 +1,7 @@
-use Rattle.std.proofs.Common.{◌≡◌, ◌<◌, length, sym, ap, ◌∙◌}
-use Rattle.std.proofs.lemmas.List.{with_items_is}
-use Rattle.psci_board.specs.Board.{size_below}
+use Rattle.psci_fw_state.proofs.Words.{◌<◌, ◌∙◌, ◌≡◌, ap, length, size_below, StateValue, sym}
+use Rattle.psci_fw_state.proofs.Words.{the_view, TreeValue, with_items_is}
 use Rattle.psci_messages.specs.Slots.Change.{ClearAll}
-use Rattle.psci_tree.specs.Recount.{TreeValue}
-use Rattle.psci_fw_state.specs.Seen.{StateValue}
 use Rattle.psci_fw_state.proofs.Begun.{at_start, begun, some_below}
-use Rattle.psci_fw_state.specs.contracts.state.State.{the_view}
 use Rattle.psci_fw_state.proofs.state.State.begin_life.Goals as goal
 
 pub returns-clause-after : goal.returns-clause-after

@@ -1,14 +1,10 @@
-use Rattle.std.proofs.Common.{◌≡◌, ◌<◌, ◌∙◌, length, ap, arith}
-use Rattle.psci_messages.specs.declared.kind.Kind.TheVariants as kinds
-use Rattle.psci_messages.specs.Message.{MessageValue}
-use Rattle.psci_messages.specs.Slots.{IsOfCores, slot_of}
-use Rattle.psci_messages.specs.Slots.Change.{Put}
-use Rattle.psci_tree.specs.Recount.{known_at}
+use Rattle.psci_fw_state.proofs.Words.{◌<◌, ◌∙◌, ◌≡◌, ap, arith, IsOfCores, known_at, length}
+use Rattle.psci_fw_state.proofs.Words.{MessageValue, Put, slot_of, StateValue, the_view}
 use Rattle.psci_fw_spec.specs.Outcomes.{message_for}
-use Rattle.psci_fw_state.specs.Seen.{StateValue, values_in}
+use Rattle.psci_fw_state.specs.Seen.{values_in}
 use Rattle.psci_fw_state.proofs.Changed.{in_rows}
 use Rattle.psci_fw_state.proofs.Claimed.{claimed_of}
-use Rattle.psci_fw_state.specs.contracts.state.State.{the_view}
+use Rattle.psci_messages.specs.declared.kind.Kind.TheVariants as kinds
 use Rattle.psci_fw_state.proofs.state.State.claim_parts.Goals as goal
 
 pub returns-clause-after : goal.returns-clause-after

@@ -1,4 +1,4 @@
-use Rattle.std.proofs.Common.{arith, rules}
+use Rattle.psci_fw_state.proofs.Words.{arith, rules}
 use Rattle.psci_fw_state.specs.Seen.{values_in}
 use Rattle.psci_fw_state.proofs.Begun.{granted_shown}
 use Rattle.psci_fw_state.proofs.state.State.granted.Goals as goal

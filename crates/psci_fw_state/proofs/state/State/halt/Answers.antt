@@ -1,11 +1,8 @@
-use Rattle.std.proofs.Common.{◌≡◌, ◌∙◌, ℕ, ap, sym, length, subst}
-use Rattle.psci_board.specs.Board.{cores}
-use Rattle.psci_messages.specs.Message.{MessageValue}
-use Rattle.psci_messages.specs.Slots.{Slot, SlotsValue, IsOfCores, message_in, slot_of, changed}
-use Rattle.psci_messages.specs.Slots.Change.{Put}
+use Rattle.psci_fw_state.proofs.Words.{◌∙◌, ◌≡◌, ap, changed, cores, IsOfCores, length, message_in}
+use Rattle.psci_fw_state.proofs.Words.{MessageValue, Put, Slot, slot_of, SlotsValue, StateValue}
+use Rattle.psci_fw_state.proofs.Words.{subst, sym, the_view, ℕ}
 use Rattle.psci_fw_spec.specs.Changes.{with_halt}
-use Rattle.psci_fw_state.specs.Seen.{StateValue, values_in}
-use Rattle.psci_fw_state.specs.contracts.state.State.{the_view}
+use Rattle.psci_fw_state.specs.Seen.{values_in}
 use Rattle.psci_fw_state.proofs.state.State.halt.Goals as goal
 
 pub returns-clause-after : goal.returns-clause-after

@@ -1,12 +1,9 @@
-use Rattle.std.proofs.Common.{◌≡◌, ℕ, true, ap, arith, sym, subst, ◌∙◌}
-use Rattle.psci_board.specs.Board.{height}
-use Rattle.psci_tree.specs.Recount.{active, off, state_at}
-use Rattle.psci_fw_spec.specs.Invariant.{agrees}
-use Rattle.psci_fw_state.specs.Counts.{counts_below}
-use Rattle.psci_fw_state.specs.Rows.{status_at}
-use Rattle.psci_fw_state.specs.Seen.{StateValue, phase_by, values_in}
+use Rattle.psci_fw_state.proofs.Words.{◌∙◌, ◌≡◌, agrees, ap, arith, counts_below, height, off}
+use Rattle.psci_fw_state.proofs.Words.{phase_by, state_at, StateValue, status_at, subst, sym}
+use Rattle.psci_fw_state.proofs.Words.{the_view, true, ℕ}
+use Rattle.psci_tree.specs.Recount.{active}
+use Rattle.psci_fw_state.specs.Seen.{values_in}
 use Rattle.psci_fw_state.proofs.AllCores.{fits_settled, none_pending, some_pending, system}
-use Rattle.psci_fw_state.specs.contracts.state.State.{the_view}
 use Rattle.psci_fw_state.proofs.state.State.is_some_waiting.Goals as goal
 
 pub overflow_add-settled : goal.overflow_add-settled

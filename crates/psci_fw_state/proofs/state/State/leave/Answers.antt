@@ -1,5 +1,4 @@
-use Rattle.std.proofs.Common.{◌<◌, length, ap}
-use Rattle.psci_fw_state.specs.Seen.{is_pending_phase}
+use Rattle.psci_fw_state.proofs.Words.{◌<◌, ap, is_pending_phase, length}
 use Rattle.psci_fw_state.proofs.Changed.{away_changed, within}
 use Rattle.psci_fw_state.proofs.state.State.leave.Goals as goal
 

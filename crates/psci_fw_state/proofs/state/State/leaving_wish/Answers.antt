@@ -1,7 +1,5 @@
-use Rattle.std.proofs.Common.{ap, sym, ◌∙◌}
+use Rattle.psci_fw_state.proofs.Words.{◌∙◌, ap, sym, values_in, view}
 use Rattle.psci_fw_spec.specs.Claims.{leaving_claims}
-use Rattle.psci_fw_spec.specs.Views.{view}
-use Rattle.psci_fw_state.specs.Seen.{values_in}
 use Rattle.psci_fw_state.proofs.state.State.leaving_wish.Goals as goal
 
 pub returns-in-Platform : goal.returns-in-Platform

@@ -1,9 +1,5 @@
-use Rattle.std.proofs.Common.{◌<◌, ◌≤◌, map, ◌∙◌, ap, arith, inl, inr}
-use Rattle.std.proofs.lemmas.Bool.{cases_lt}
-use Rattle.psci_board.specs.Board.{height, nodes}
-use Rattle.psci_fw_state.specs.declared.row.CoreRow.{CoreRow}
-use Rattle.psci_fw_state.specs.Counts.{counts_at, status_counted}
-use Rattle.psci_fw_state.specs.Rows.{row_at}
+use Rattle.psci_fw_state.proofs.Words.{◌<◌, ◌∙◌, ◌≤◌, ap, arith, cases_lt, CoreRow, counts_at}
+use Rattle.psci_fw_state.proofs.Words.{height, inl, inr, map, nodes, row_at, status_counted}
 use Rattle.psci_fw_state.proofs.NodeStatus.{status_domain, status_leaf, status_none}
 use Rattle.psci_fw_state.proofs.state.State.node_status.Goals as goal
 

@@ -1,6 +1,5 @@
-use Rattle.std.proofs.Common.{◌≡◌, ◌∙◌, ap, subst}
-use Rattle.psci_messages.specs.Claim.{off_claims, own_claims}
-use Rattle.psci_messages.specs.Looked.{view_of}
+use Rattle.psci_fw_state.proofs.Words.{◌∙◌, ◌≡◌, ap, own_claims, subst, view_of}
+use Rattle.psci_messages.specs.Claim.{off_claims}
 use Rattle.psci_messages.specs.View.{PowerView}
 use Rattle.psci_fw_state.proofs.Viewed.{viewed}
 use Rattle.psci_fw_state.proofs.state.State.off_ask.Goals as goal

@@ -1,6 +1,4 @@
-use Rattle.std.proofs.Common.{ap, ◌∙◌}
-use Rattle.psci_messages.specs.LastCore.{refusal, shallow}
-use Rattle.psci_messages.specs.Looked.{view_of}
+use Rattle.psci_fw_state.proofs.Words.{◌∙◌, ap, refusal, shallow, view_of}
 use Rattle.psci_fw_state.proofs.Viewed.{viewed}
 use Rattle.psci_fw_state.proofs.state.State.refusal.Goals as goal
 

@@ -1,4 +1,4 @@
-use Rattle.std.proofs.Common.{◌<◌, length, sym, ◌∙◌}
+use Rattle.psci_fw_state.proofs.Words.{◌<◌, ◌∙◌, length, sym}
 use Rattle.psci_fw_state.proofs.Changed.{away_changed, within}
 use Rattle.psci_fw_state.proofs.state.State.set_away.Goals as goal
 

@@ -1,4 +1,4 @@
-use Rattle.std.proofs.Common.{rules}
+use Rattle.psci_fw_state.proofs.Words.{rules}
 use Rattle.psci_fw_state.specs.Seen.{values_in}
 use Rattle.psci_fw_state.proofs.state.State.set_mode.Goals as goal
 

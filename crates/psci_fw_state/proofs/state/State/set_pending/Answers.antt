@@ -1,15 +1,11 @@
-use Rattle.std.proofs.Common.{◌≡◌, ◌<◌, Some, length, sym, subst, ap, arith, ◌∙◌}
-use Rattle.psci_board.specs.Board.{cores}
-use Rattle.psci_messages.specs.declared.kind.Kind.TheVariants as kinds
-use Rattle.psci_messages.specs.Message.{MessageValue}
-use Rattle.psci_messages.specs.Slots.{IsOfCores, slot_of}
-use Rattle.psci_messages.specs.Slots.Change.{Put}
-use Rattle.psci_fw_spec.specs.declared.status.Status.TheVariants as statuses
-use Rattle.psci_fw_state.specs.Seen.{StateValue}
+use Rattle.psci_fw_state.proofs.Words.{◌<◌, ◌∙◌, ◌≡◌, ap, arith, cores, IsOfCores, length}
+use Rattle.psci_fw_state.proofs.Words.{MessageValue, Put, slot_of, Some, StateValue, subst, sym}
+use Rattle.psci_fw_state.proofs.Words.{the_view}
 use Rattle.psci_fw_state.proofs.Changed.{core_set, in_rows, row_set, within}
 use Rattle.psci_fw_state.proofs.Moved.{path_cleared, path_unconfirmed, pending_of, rows_set}
-use Rattle.psci_fw_state.specs.contracts.state.State.{the_view}
 use Rattle.psci_messages.specs.contracts.message.Message.{the_view as the_message}
+use Rattle.psci_messages.specs.declared.kind.Kind.TheVariants as kinds
+use Rattle.psci_fw_spec.specs.declared.status.Status.TheVariants as statuses
 use Rattle.psci_fw_state.proofs.state.State.set_pending.Goals as goal
 
 pub returns-clause-after : goal.returns-clause-after

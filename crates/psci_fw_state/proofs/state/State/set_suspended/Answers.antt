@@ -1,11 +1,7 @@
-use Rattle.std.proofs.Common.{◌≡◌, ◌<◌, None, Some, length, sym, ap, refl, ◌∙◌}
-use Rattle.std.proofs.lemmas.List.{length-set}
-use Rattle.psci_tree.specs.Recount.{TreeValue}
-use Rattle.psci_fw_state.specs.Rows.{row_at}
-use Rattle.psci_fw_state.specs.Seen.{StateValue}
+use Rattle.psci_fw_state.proofs.Words.{◌<◌, ◌∙◌, ◌≡◌, ap, length, length-set, None, refl, row_at}
+use Rattle.psci_fw_state.proofs.Words.{Some, StateValue, sym, the_view, TreeValue}
 use Rattle.psci_fw_state.proofs.Changed.{in_rows, row_set, same_set, within}
 use Rattle.psci_fw_state.proofs.Moved.{counts_stay, rows_set, suspended_changed}
-use Rattle.psci_fw_state.specs.contracts.state.State.{the_view}
 use Rattle.psci_fw_state.proofs.state.State.set_suspended.Goals as goal
 
 pub returns-then-deep-clause-after : goal.returns-then-deep-clause-after

@@ -1,9 +1,6 @@
-use Rattle.std.proofs.Common.{◌∙◌, ap, sym, Ok, rules}
-use Rattle.psci_board.specs.Board.{BoardValue}
+use Rattle.psci_fw_state.proofs.Words.{◌∙◌, ap, BoardValue, Ok, rules, sym, values_in, view}
+use Rattle.psci_fw_state.proofs.Words.{wished_claims}
 use Rattle.psci_fw_spec.specs.Claims.{suspend_parts}
-use Rattle.psci_fw_spec.specs.Views.{view}
-use Rattle.psci_fw_state.specs.Seen.{values_in}
-use Rattle.psci_fw_state.specs.Wishes.{wished_claims}
 use Rattle.psci_fw_state.proofs.Viewed.{suspend_refused, suspend_wished}
 use Rattle.psci_fw_state.proofs.state.State.suspend.Goals as goal
 

@@ -1,6 +1,4 @@
-use Rattle.std.proofs.Common.{ap, ◌∙◌}
-use Rattle.psci_messages.specs.Looked.{view_of}
-use Rattle.psci_fw_state.specs.Wishes.{wished_claims}
+use Rattle.psci_fw_state.proofs.Words.{◌∙◌, ap, view_of, wished_claims}
 use Rattle.psci_fw_state.proofs.Viewed.{viewed}
 use Rattle.psci_fw_state.proofs.state.State.wished_parts.Goals as goal
 

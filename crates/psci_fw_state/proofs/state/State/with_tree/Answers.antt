@@ -1,5 +1,4 @@
-use Rattle.std.proofs.Common.{◌≡◌, ap, length, sym, ◌∙◌}
-use Rattle.std.proofs.lemmas.List.{with_items_is}
+use Rattle.psci_fw_state.proofs.Words.{◌∙◌, ◌≡◌, ap, length, sym, with_items_is}
 use Rattle.psci_fw_state.proofs.Begun.{at_start, none_in, some_below}
 use Rattle.psci_fw_state.proofs.state.State.with_tree.Goals as goal
 

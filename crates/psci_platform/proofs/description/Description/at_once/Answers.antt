@@ -1,14 +1,7 @@
 -- A call is what its function word and its arguments say.
-use Rattle.std.proofs.Common.{◌≡◌, ◌∙◌, ℕ, ap, sym}
-use Rattle.std.proofs.lemmas.Option.{IfSome_then}
-use Rattle.psci_fw_spec.specs.declared.mode.SuspendMode.{SuspendMode}
-use Rattle.psci_abi.specs.declared.registers.Regs.{Regs}
-use Rattle.psci_platform.specs.declared.argument.Argument.{Argument}
-use Rattle.psci_platform.specs.declared.asked.Asked.{Asked}
-use Rattle.psci_platform.specs.declared.functions.Functions.{Functions}
-use Rattle.psci_platform.specs.Arguments.{argument_by, regs_by, told_by}
-use Rattle.psci_platform.specs.Calls.{asked_for, regs_for}
-use Rattle.psci_platform.specs.Described.{DescriptionValue}
+use Rattle.psci_platform.proofs.Words.{◌∙◌, ◌≡◌, ap, Argument, argument_by, Asked, asked_for}
+use Rattle.psci_platform.proofs.Words.{DescriptionValue, Functions, IfSome_then, Regs, regs_by}
+use Rattle.psci_platform.proofs.Words.{regs_for, SuspendMode, sym, told_by, ℕ}
 use Rattle.psci_platform.proofs.ByWord.{asked_same, regs_same}
 use Rattle.psci_platform.proofs.description.Description.at_once.Goals as goal
 

@@ -1,6 +1,5 @@
 -- Each name so far is that of a core.
-use Rattle.std.proofs.Common.{All}
-use Rattle.psci_platform.specs.Names.{IsName}
+use Rattle.psci_platform.proofs.Words.{All, IsName}
 use Rattle.psci_platform.proofs.description.Description.names.Given as goal
 
 abbrev pub invariant-loop-mpidr : goal.invariant-loop-mpidr

@@ -1,6 +1,6 @@
 -- The rows so far are read.
-use Rattle.std.proofs.Common.{◌≡◌, map, take}
-use Rattle.psci_platform.specs.States.{reading_of}
+use Rattle.std.proofs.Common.{take}
+use Rattle.psci_platform.proofs.Words.{◌≡◌, map, reading_of}
 use Rattle.psci_platform.proofs.description.Description.readings.Given as goal
 
 abbrev pub invariant-loop-row : goal.invariant-loop-row

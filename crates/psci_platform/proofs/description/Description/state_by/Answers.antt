@@ -1,12 +1,10 @@
 -- What was found out of the row that reads a word says what the word is.
-use Rattle.std.proofs.Common.{◌≡◌, Bool, None, Some, false, find, if◌then◌else◌, map, sym, true}
-use Rattle.psci_board.specs.Board.{height}
-use Rattle.psci_platform.specs.States.{can_ask_by, reading_of, reads, states_of}
-use Rattle.psci_platform.specs.declared.readings.Reading.{Reading}
-use Rattle.psci_platform.proofs.Reading.{no_word, rows_of, states_missed, states_read}
-use Rattle.psci_platform.proofs.Reading.{word_found}
-use Rattle.psci_platform.proofs.description.Description.state_by.Goals as goal
+use Rattle.std.proofs.Common.{find}
+use Rattle.psci_platform.proofs.Words.{◌≡◌, Bool, can_ask_by, false, height, if◌then◌else◌, map}
+use Rattle.psci_platform.proofs.Words.{None, Reading, reading_of, reads, Some, states_of, sym, true}
+use Rattle.psci_platform.proofs.Reading.{no_word, rows_of, states_missed, states_read, word_found}
 use Rattle.psci_platform.proofs.description.Description.state_by.Goals.{After-deref}
+use Rattle.psci_platform.proofs.description.Description.state_by.Goals as goal
 
 kept : (c : After-deref) → c.deref.result.now
     ≡ map (reading_of c.args.self.now c.args.board.now.format (height c.args.board.now))

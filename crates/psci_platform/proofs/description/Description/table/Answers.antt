@@ -1,10 +1,9 @@
 -- A table in which all are found has the names.
-use Rattle.std.proofs.Common.{◌≡◌, ◌∙◌, ℕ, List, ap, subst, sym}
 use Rattle.std.proofs.lemmas.List.{with_items_is}
 use Rattle.std.specs.Vec.{with_items}
-use Rattle.psci_platform.specs.Described.{DescriptionValue}
-use Rattle.psci_platform.specs.Names.{AreAmong, are_found}
-use Rattle.psci_platform.specs.declared.names.Name.{Name}
+use Rattle.psci_platform.proofs.Words.{◌∙◌, ◌≡◌, ap, AreAmong, DescriptionValue, List, Name, subst}
+use Rattle.psci_platform.proofs.Words.{sym, ℕ}
+use Rattle.psci_platform.specs.Names.{are_found}
 use Rattle.psci_platform.proofs.Naming.{each_of}
 use Rattle.psci_platform.proofs.description.Description.table.Goals as goal
 

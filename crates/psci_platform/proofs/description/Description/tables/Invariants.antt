@@ -1,6 +1,5 @@
 -- Each table so far is that of its level.
-use Rattle.std.proofs.Common.{◌≡◌, length}
-use Rattle.psci_platform.specs.Names.{AreNames}
+use Rattle.psci_platform.proofs.Words.{◌≡◌, AreNames, length}
 use Rattle.psci_platform.proofs.description.Description.tables.Given as goal
 
 abbrev pub invariant-loop-level : goal.invariant-loop-level

@@ -1,8 +1,6 @@
 -- A call is what its function word and its arguments say.
-use Rattle.std.proofs.Common.{◌∙◌, ℕ, ap}
-use Rattle.psci_platform.specs.declared.functions.Functions.{Functions}
-use Rattle.psci_platform.specs.Arguments.{argument_by, regs_by, told_by}
-use Rattle.psci_platform.specs.Described.{DescriptionValue}
+use Rattle.psci_platform.proofs.Words.{◌∙◌, ap, argument_by, DescriptionValue, Functions, regs_by}
+use Rattle.psci_platform.proofs.Words.{told_by, ℕ}
 use Rattle.psci_platform.proofs.ByWord.{asked_same, regs_same}
 use Rattle.psci_platform.proofs.description.Description.translate_by.Goals as goal
 

@@ -1,7 +1,5 @@
 -- What is found out of a platform is of its description and its board.
-use Rattle.std.proofs.Common.{◌∙◌, ℕ, ap, map}
-use Rattle.psci_abi.specs.declared.format.Format.{Format}
-use Rattle.psci_platform.specs.States.{reading_of}
+use Rattle.psci_platform.proofs.Words.{◌∙◌, ap, Format, map, reading_of, ℕ}
 use Rattle.psci_platform.proofs.platform.Platform.in_order.Goals as goal
 
 pub invariant_of-result : goal.invariant_of-result

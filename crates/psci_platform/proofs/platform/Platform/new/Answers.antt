@@ -1,8 +1,6 @@
 -- A description that has no fault makes a platform.
-use Rattle.std.proofs.Common.{◌≡◌, ◌∙◌, ap, rules}
 use Rattle.std.specs.Prelude.{None}
-use Rattle.psci_platform.specs.Faults.{fault_of}
-use Rattle.psci_platform.specs.Swaps.{is_symmetric}
+use Rattle.psci_platform.proofs.Words.{◌∙◌, ◌≡◌, ap, fault_of, is_symmetric, rules}
 use Rattle.psci_platform.proofs.platform.Platform.new.Goals as goal
 
 pub invariant_of-platform : goal.invariant_of-platform

@@ -1,7 +1,4 @@
-use Rattle.std.proofs.Common.{◌≡◌, ◌∙◌, ℕ, true, ap, sym}
-use Rattle.psci_abi.specs.Calls.{low_half}
-use Rattle.psci_platform.specs.Cores.{core_word}
-use Rattle.psci_platform.specs.Kept.{is_on}
+use Rattle.psci_platform.proofs.Words.{◌∙◌, ◌≡◌, ap, core_word, is_on, low_half, sym, true, ℕ}
 use Rattle.psci_platform.proofs.KeptCalls.{on_asked, on_regs}
 use Rattle.psci_platform.proofs.platform.Platform.on_at_once.Goals as goal
 

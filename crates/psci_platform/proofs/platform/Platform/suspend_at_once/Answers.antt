@@ -1,19 +1,13 @@
-use Rattle.std.proofs.Common.{◌≡◌, ◌∙◌, ◌<◌, ◌^◌, ℕ, Bool, true, false, List, Option, None, Some}
-use Rattle.std.proofs.Common.{ap, find, if◌then◌else◌, sym}
-use Rattle.std.proofs.lemmas.Option.{IfSome_then}
-use Rattle.psci_abi.specs.Calls.{low_half}
-use Rattle.psci_board.specs.Board.{height}
-use Rattle.psci_abi.specs.declared.registers.Regs.{Regs}
-use Rattle.psci_platform.specs.Calls.{asked_for, asks_states, regs_for}
-use Rattle.psci_platform.specs.Kept.{Asks, is_suspend}
-use Rattle.psci_platform.specs.States.{can_ask_by, no_state, reads, states_of, word_for}
-use Rattle.psci_platform.specs.declared.asked.Asked.{Asked}
-use Rattle.psci_platform.specs.declared.readings.Reading.{Reading}
+use Rattle.std.proofs.Common.{find}
+use Rattle.psci_platform.proofs.Words.{◌<◌, ◌^◌, ◌∙◌, ◌≡◌, ap, Asked, asked_for, Asks, asks_states}
+use Rattle.psci_platform.proofs.Words.{Bool, can_ask_by, false, height, IfSome_then, if◌then◌else◌}
+use Rattle.psci_platform.proofs.Words.{is_suspend, List, low_half, no_state, None, Option, Reading}
+use Rattle.psci_platform.proofs.Words.{reads, Regs, regs_for, Some, states_of, sym, true, word_for}
+use Rattle.psci_platform.proofs.Words.{ℕ}
 use Rattle.psci_platform.proofs.KeptCalls.{asks_something, if_all, suspend_asked, suspend_regs}
-use Rattle.psci_platform.proofs.Reading.{ask_found, no_word, states_missed, states_read}
-use Rattle.psci_platform.proofs.Reading.{word_found}
-use Rattle.psci_platform.proofs.platform.Platform.suspend_at_once.Goals as goal
+use Rattle.psci_platform.proofs.Reading.{ask_found, no_word, states_missed, states_read, word_found}
 use Rattle.psci_platform.proofs.platform.Platform.suspend_at_once.Goals.{After-low-2}
+use Rattle.psci_platform.proofs.platform.Platform.suspend_at_once.Goals as goal
 
 suspends : (c : After-low-2) → is_suspend (low_half c.args.regs.x0) ≡ true
 suspends c = sym (c.is_suspend.ensures ∙ ap is_suspend c.low.ensures) ∙ c.if-not-is_suspend.false

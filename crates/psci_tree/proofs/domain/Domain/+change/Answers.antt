@@ -1,11 +1,6 @@
-use Rattle.std.proofs.Common.{◌≡◌, ◌-◌, ℕ, arith, rules, length, ap, get_or}
-use Rattle.std.proofs.Common.{subst, sym}
-use Rattle.std.proofs.Math.ListN.{set}
-use Rattle.psci_tree.specs.Domains.{cores_in, branches, IsWay}
-use Rattle.psci_tree.specs.Kept.{Keeps}
-use Rattle.psci_tree.specs.declared.kept.Kept.{Kept}
-use Rattle.psci_tree.specs.declared.domain.Domain.{Domain}
-use Rattle.psci_tree.specs.declared.domain.Domain.TheViews.{out-Domain, the_lemmas}
+use Rattle.psci_tree.proofs.Words.{◌-◌, ◌≡◌, ap, arith, branches, cores_in, Domain, get_or, IsWay}
+use Rattle.psci_tree.proofs.Words.{Keeps, Kept, length, rules, set, subst, sym, the_lemmas, ℕ}
+use Rattle.psci_tree.specs.declared.domain.Domain.TheViews.{out-Domain}
 use Rattle.psci_tree.proofs.Exchanged.{Through, above_of, child_exchange, child_kept, is_child}
 use Rattle.psci_tree.proofs.Exchanged.{cores_put, keeps_new, kept_put, part_below, shape_put}
 use Rattle.psci_tree.proofs.Exchanged.{small_after, small_below}

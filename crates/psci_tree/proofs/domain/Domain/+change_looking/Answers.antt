@@ -1,11 +1,7 @@
-use Rattle.std.proofs.Common.{◌≡◌, ◌-◌, ℕ, arith, rules, length, ap, get_or, ◌∙◌}
-use Rattle.std.proofs.Common.{subst, sym, [], ◌∷◌}
-use Rattle.std.proofs.Math.ListN.{set}
-use Rattle.psci_state.specs.declared.cores.CoreState.{CoreState}
-use Rattle.psci_tree.specs.Domains.{leaves, cores_in, branches, IsWay, index_by}
-use Rattle.psci_tree.specs.Kept.{AreKept, Keeps}
-use Rattle.psci_tree.specs.declared.domain.Domain.{Domain}
-use Rattle.psci_tree.specs.declared.domain.Domain.TheViews.{out-Domain, the_lemmas}
+use Rattle.psci_tree.proofs.Words.{◌-◌, ◌∙◌, ◌∷◌, ◌≡◌, [], ap, AreKept, arith, branches, cores_in}
+use Rattle.psci_tree.proofs.Words.{CoreState, Domain, get_or, index_by, IsWay, Keeps, leaves}
+use Rattle.psci_tree.proofs.Words.{length, rules, set, subst, sym, the_lemmas, ℕ}
+use Rattle.psci_tree.specs.declared.domain.Domain.TheViews.{out-Domain}
 use Rattle.psci_tree.proofs.Below.{children_roll, cores_of_core, cores_roll_core}
 use Rattle.psci_tree.proofs.Exchanged.{Through, above_of, child_descent, child_kept, is_child}
 use Rattle.psci_tree.proofs.Exchanged.{children_new, cores_put, few_new, kept_put, shape_put}

@@ -1,17 +1,11 @@
-use Rattle.std.proofs.Common.{◌≡◌, ◌≢◌, ◌<◌, ◌≤◌, ◌+◌, ◌∙◌, ◌==◌, ℕ, zero, suc, Bool, true, false}
-use Rattle.std.proofs.Common.{List, length, get_or, replicate, arith, rules, ap, sym, subst}
 use Rattle.std.proofs.Common.{get_or-set_other}
-use Rattle.std.proofs.lemmas.Bool.{eqb-true}
-use Rattle.std.proofs.Math.ListN.{set, length-set}
-use Rattle.std.specs.Vec.{with_item}
-use Rattle.std.specs.List.{count_by}
-use Rattle.std.proofs.lemmas.List.{get_or_default, length-replicate}
-use Rattle.psci_tree.specs.Recount.{is_away, never_started}
-use Rattle.psci_tree.specs.Domains.{leaves, branches, cores_in, child_counts}
-use Rattle.psci_tree.specs.Kept.{AreKept}
-use Rattle.psci_tree.specs.declared.domain.Domain.{Domain}
-use Rattle.psci_tree.specs.declared.domain.Domain.TheOpen.{Domain-F}
-use Rattle.psci_tree.specs.declared.domain.Domain.TheViews.{out-Domain, the_lemmas}
+use Rattle.psci_tree.proofs.Words.{◌+◌, ◌<◌, ◌==◌, ◌∙◌, ◌≡◌, ◌≢◌, ◌≤◌, ap, AreKept, arith, Bool}
+use Rattle.psci_tree.proofs.Words.{branches, child_counts, cores_in, count_by, Domain, Domain-F}
+use Rattle.psci_tree.proofs.Words.{eqb-true, false, get_or, get_or_default, is_away, leaves, length}
+use Rattle.psci_tree.proofs.Words.{length-replicate, length-set, List, never_started, replicate}
+use Rattle.psci_tree.proofs.Words.{rules, set, subst, suc, sym, the_lemmas, true, with_item, zero}
+use Rattle.psci_tree.proofs.Words.{ℕ}
+use Rattle.psci_tree.specs.declared.domain.Domain.TheViews.{out-Domain}
 use Rattle.psci_tree.proofs.Below.{children_roll, cores_le, cores_roll, length_of_domain}
 use Rattle.psci_tree.proofs.Keeping.{kept_roll, kept_roll_core}
 use Rattle.psci_tree.proofs.OffOnes.{AreOffTo, IsOffOne, off_cores, off_kept, off_length, off_more}

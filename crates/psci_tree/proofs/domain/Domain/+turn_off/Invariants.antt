@@ -1,5 +1,5 @@
 -- The children that the loop went over were turned off, and the others are as they were.
-use Rattle.psci_tree.specs.Domains.{branches}
+use Rattle.psci_tree.proofs.Words.{branches}
 use Rattle.psci_tree.proofs.OffOnes.{AreOffTo}
 use Rattle.psci_tree.proofs.domain.Domain.+turn_off.Given as goal
 

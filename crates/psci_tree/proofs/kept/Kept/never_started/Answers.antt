@@ -1,4 +1,4 @@
-use Rattle.std.proofs.Common.{arith}
+use Rattle.psci_tree.proofs.Words.{arith}
 use Rattle.psci_tree.proofs.OffOnes.{kept_never}
 use Rattle.psci_tree.proofs.kept.Kept.never_started.Goals as goal
 

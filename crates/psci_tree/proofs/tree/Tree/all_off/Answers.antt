@@ -1,15 +1,10 @@
-use Rattle.std.proofs.Common.{◌≡◌, ◌∙◌, ap, sym, subst, map, replicate, ℕ, List}
-use Rattle.psci_board.specs.Board.{BoardValue, IsBoard, size_below}
-use Rattle.psci_tree.specs.declared.domain.Domain.{Domain}
-use Rattle.psci_tree.specs.Recount.{TreeValue, IsDomainTree, level_sizes, never_started}
-use Rattle.psci_tree.specs.Changes.{rows_with_depth, all_off}
-use Rattle.psci_tree.specs.declared.depths.Depths.{Depths}
-use Rattle.psci_tree.specs.DepthRows.{granted_of, confirmed_of}
-use Rattle.psci_tree.specs.Domains.{leaves, IsWhole}
-use Rattle.psci_tree.specs.Kept.{IsKept}
+use Rattle.psci_tree.proofs.Words.{◌∙◌, ◌≡◌, all_off, ap, AreWays, BoardValue, confirmed_of, Depths}
+use Rattle.psci_tree.proofs.Words.{Domain, granted_of, IsDomainTree, IsKept, IsWhole, leaves}
+use Rattle.psci_tree.proofs.Words.{level_sizes, List, map, never_started, replicate}
+use Rattle.psci_tree.proofs.Words.{rows_with_depth, size_below, subst, sym, TreeValue, ℕ}
+use Rattle.psci_board.specs.Board.{IsBoard}
 use Rattle.psci_tree.specs.Beside.{AreFull}
 use Rattle.psci_tree.specs.declared.beside.Rows.{Rows}
-use Rattle.psci_tree.specs.Way.{AreWays}
 use Rattle.psci_tree.proofs.Valid.{all_off_valid}
 use Rattle.psci_tree.proofs.tree.Tree.all_off.Goals as goal
 

@@ -1,11 +1,9 @@
-use Rattle.std.proofs.Common.{◌∙◌, arith, ap, sym, map, length, ℕ, List, refl}
-use Rattle.psci_tree.specs.Recount.{TreeValue}
-use Rattle.psci_tree.specs.Changes.{path_cleared}
-use Rattle.psci_tree.specs.DepthRows.{granted_of, confirmed_of}
+use Rattle.psci_tree.proofs.Words.{◌∙◌, ap, arith, confirmed_of, granted_of, length, List, map}
+use Rattle.psci_tree.proofs.Words.{path_cleared, refl, sym, TreeValue, ℕ}
 use Rattle.psci_tree.proofs.Cleared.{none_to_clear}
 use Rattle.psci_tree.proofs.Valid.{path_valid}
-use Rattle.psci_tree.proofs.tree.Tree.clear_path.Goals as goal
 use Rattle.psci_tree.proofs.Seen.{core_seen, way_seen, held_with, held_seen, rows_seen}
+use Rattle.psci_tree.proofs.tree.Tree.clear_path.Goals as goal
 
 pub returns-then-granted-eq0-clause-value : goal.returns-then-granted-eq0-clause-value
 returns-then-granted-eq0-clause-value c =

@@ -1,10 +1,7 @@
-use Rattle.std.proofs.Common.{◌≡◌, ◌∙◌, refl, arith, ap, get_or, ℕ, List, []}
-use Rattle.std.proofs.Math.ListN.{set}
 use Rattle.std.proofs.lemmas.List.{set-get_or}
-use Rattle.psci_board.specs.declared.node.Node.{Node}
-use Rattle.psci_tree.specs.declared.depths.Depths.{Depths}
-use Rattle.psci_tree.specs.Recount.{TreeValue, granted_at}
-use Rattle.psci_tree.specs.Changes.{with_confirmed, depth_set}
+use Rattle.psci_tree.proofs.Words.{◌∙◌, ◌≡◌, [], ap, arith, depth_set, Depths, get_or, granted_at}
+use Rattle.psci_tree.proofs.Words.{List, Node, refl, set, TreeValue, ℕ}
+use Rattle.psci_tree.specs.Changes.{with_confirmed}
 use Rattle.psci_tree.proofs.Seen.{depths_seen, depths_with, held_seen, held_with, place_seen}
 use Rattle.psci_tree.proofs.Valid.{confirmed_valid}
 use Rattle.psci_tree.proofs.tree.Tree.confirm.Goals as goal

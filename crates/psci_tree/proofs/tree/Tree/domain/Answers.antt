@@ -1,10 +1,5 @@
-use Rattle.std.proofs.Common.{◌≡◌, ◌+◌, ◌-◌, ℕ, arith, ap, sym, subst, length}
-use Rattle.psci_board.specs.Board.{HasNodeIn}
-use Rattle.psci_tree.specs.Recount.{TreeValue}
-use Rattle.psci_tree.specs.Inside.{IsTied}
-use Rattle.psci_tree.specs.Kept.{IsRecount}
-use Rattle.psci_tree.specs.declared.domain.Domain.{Domain}
-use Rattle.psci_board.specs.declared.node.Node.{Node}
+use Rattle.psci_tree.proofs.Words.{◌+◌, ◌-◌, ◌≡◌, ap, arith, Domain, HasNodeIn, IsRecount, IsTied}
+use Rattle.psci_tree.proofs.Words.{length, Node, subst, sym, TreeValue, ℕ}
 use Rattle.psci_tree.proofs.Slices.{states_at, size_at}
 use Rattle.psci_tree.proofs.tree.Tree.domain.Goals as goal
 

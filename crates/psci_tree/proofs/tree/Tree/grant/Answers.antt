@@ -1,7 +1,5 @@
-use Rattle.std.proofs.Common.{◌∙◌, arith, ap, cond, ◌==◌, refl, ℕ}
-use Rattle.psci_board.specs.declared.node.Node.{Node}
-use Rattle.psci_tree.specs.declared.depths.Depths.{Depths}
-use Rattle.psci_tree.specs.Recount.{TreeValue, granted_at}
+use Rattle.psci_tree.proofs.Words.{◌==◌, ◌∙◌, ap, arith, cond, Depths, granted_at, Node, refl}
+use Rattle.psci_tree.proofs.Words.{TreeValue, ℕ}
 use Rattle.psci_tree.specs.Changes.{with_grant}
 use Rattle.psci_tree.proofs.Seen.{depths_seen, depths_with, held_seen, held_with, place_seen}
 use Rattle.psci_tree.proofs.Valid.{grant_valid}

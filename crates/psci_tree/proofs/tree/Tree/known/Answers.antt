@@ -1,5 +1,4 @@
-use Rattle.std.proofs.Common.{◌∙◌, ap}
-use Rattle.psci_tree.specs.declared.kept.Kept.{Kept}
+use Rattle.psci_tree.proofs.Words.{◌∙◌, ap, Kept}
 use Rattle.psci_tree.proofs.Recounted.{known_is}
 use Rattle.psci_tree.proofs.tree.Tree.known.Goals as goal
 

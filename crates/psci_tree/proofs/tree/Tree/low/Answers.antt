@@ -1,9 +1,6 @@
-use Rattle.std.proofs.Common.{◌<◌, ◌∙◌, arith, ap, subst, length}
 use Rattle.std.proofs.lemmas.List.FromFn.{length-range_with_len}
-use Rattle.psci_board.specs.Board.{below_in, span}
-use Rattle.psci_board.specs.Laws.{SpanLaws}
-use Rattle.psci_tree.specs.Recount.{TreeValue}
-use Rattle.psci_tree.specs.Inside.{IsTied}
+use Rattle.psci_tree.proofs.Words.{◌<◌, ◌∙◌, ap, arith, below_in, IsTied, length, span, SpanLaws}
+use Rattle.psci_tree.proofs.Words.{subst, TreeValue}
 use Rattle.psci_tree.proofs.Keeping.{keeps_low}
 use Rattle.psci_tree.proofs.Recounted.{low_is, low_above}
 use Rattle.psci_tree.proofs.tree.Tree.low.Goals as goal

@@ -1,7 +1,5 @@
-use Rattle.std.proofs.Common.{◌<◌, ◌∙◌, ap, sym, subst}
-use Rattle.psci_board.specs.Board.{size_below}
-use Rattle.psci_tree.specs.Recount.{TreeValue}
-use Rattle.psci_tree.specs.Changes.{made_pending, start_of_life}
+use Rattle.psci_tree.proofs.Words.{◌<◌, ◌∙◌, ap, made_pending, size_below, subst, sym, TreeValue}
+use Rattle.psci_tree.specs.Changes.{start_of_life}
 use Rattle.psci_tree.proofs.tree.Tree.new.Goals as goal
 
 pub set_pending-requires : goal.set_pending-requires

@@ -1,4 +1,4 @@
-use Rattle.std.proofs.Common.{ap}
+use Rattle.psci_tree.proofs.Words.{ap}
 use Rattle.psci_tree.proofs.Seen.{place_on_way}
 use Rattle.psci_tree.proofs.tree.Tree.on_path.Goals as goal
 

@@ -1,5 +1,5 @@
-use Rattle.std.proofs.Common.{◌∙◌, ap}
-use Rattle.psci_tree.specs.Changes.{start_of_life, made_pending}
+use Rattle.psci_tree.proofs.Words.{◌∙◌, ap, made_pending}
+use Rattle.psci_tree.specs.Changes.{start_of_life}
 use Rattle.psci_tree.proofs.tree.Tree.reset_life.Goals as goal
 
 pub returns-clause-value : goal.returns-clause-value

@@ -1,11 +1,8 @@
-use Rattle.std.proofs.Common.{sym, subst, ap, ◌∙◌}
-use Rattle.std.specs.Prelude.{unwrap_or}
-use Rattle.psci_tree.specs.Changes.{with_core_state}
-use Rattle.psci_tree.specs.Recount.{TreeValue, IsActivity, known_at}
-use Rattle.psci_tree.specs.contracts.tree.Tree.{the_view}
+use Rattle.psci_tree.proofs.Words.{◌∙◌, ap, IsActivity, known_at, subst, sym, the_view, TreeValue}
+use Rattle.psci_tree.proofs.Words.{unwrap_or, with_core_state}
 use Rattle.psci_tree.proofs.Held.{held_core, core_value, state_held}
-use Rattle.psci_tree.proofs.tree.Tree.set_core.Goals as goal
 use Rattle.psci_tree.proofs.Seen.{core_seen, way_seen}
+use Rattle.psci_tree.proofs.tree.Tree.set_core.Goals as goal
 
 pub change_core-requires-clause-lead : goal.change_core-requires-clause-lead
 change_core-requires-clause-lead c = record {

@@ -1,5 +1,5 @@
-use Rattle.std.proofs.Common.{◌∙◌, ap}
-use Rattle.psci_tree.specs.Changes.{made_pending, with_path_cleared}
+use Rattle.psci_tree.proofs.Words.{◌∙◌, ap, with_path_cleared}
+use Rattle.psci_tree.specs.Changes.{made_pending}
 use Rattle.psci_tree.proofs.tree.Tree.set_pending.Goals as goal
 
 pub returns-clause-value : goal.returns-clause-value

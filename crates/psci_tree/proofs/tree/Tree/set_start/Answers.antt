@@ -1,5 +1,5 @@
-use Rattle.std.proofs.Common.{◌∙◌, ap}
-use Rattle.psci_tree.specs.Changes.{started, with_path_cleared}
+use Rattle.psci_tree.proofs.Words.{◌∙◌, ap, with_path_cleared}
+use Rattle.psci_tree.specs.Changes.{started}
 use Rattle.psci_tree.proofs.tree.Tree.set_start.Goals as goal
 
 pub returns-clause-value : goal.returns-clause-value

@@ -1,11 +1,9 @@
-use Rattle.std.proofs.Common.{◌≡◌, ◌≤◌, ◌∙◌, ap, sym, subst, length, get_or, ℕ}
-use Rattle.psci_tree.specs.Recount.{TreeValue, low, known}
-use Rattle.psci_tree.specs.Standing.{kept_on_path, on_path}
-use Rattle.psci_tree.specs.declared.domain.Domain.{Domain}
+use Rattle.psci_tree.proofs.Words.{◌∙◌, ◌≡◌, ◌≤◌, ap, Domain, get_or, kept_on_path, known, length}
+use Rattle.psci_tree.proofs.Words.{low, on_path, subst, sym, TreeValue, ℕ}
 use Rattle.psci_tree.proofs.PathStands.{path_stands}
-use Rattle.psci_tree.proofs.tree.Tree.standings.Goals as goal
 use Rattle.psci_tree.proofs.tree.Tree.standings.Goals.{After-standings_on}
 use Rattle.psci_tree.proofs.Seen.{held_seen, way_seen}
+use Rattle.psci_tree.proofs.tree.Tree.standings.Goals as goal
 
 pub standings_on-requires-clause-way : goal.standings_on-requires-clause-way
 standings_on-requires-clause-way c = way_seen c.self.inside _ c.self.invariant c.self.view_is

@@ -1,21 +1,12 @@
-use Rattle.std.proofs.Common.{◌≡◌, ◌∙◌, arith, ap, sym, subst, map, length, replicate, ℕ, List}
-use Rattle.std.specs.Vec.{with_items}
-use Rattle.std.proofs.lemmas.List.{with_items_is}
-use Rattle.psci_board.specs.Board.{size_below}
-use Rattle.psci_state.specs.declared.cores.CoreState.{CoreState}
-use Rattle.psci_tree.specs.declared.domain.Domain.{Domain}
-use Rattle.psci_tree.specs.Recount.{TreeValue, never_started, level_sizes}
-use Rattle.psci_tree.specs.Changes.{all_off, rows_with_depth}
-use Rattle.psci_tree.specs.declared.depths.Depths.{Depths}
-use Rattle.psci_tree.specs.DepthRows.{granted_of, confirmed_of, filled}
-use Rattle.psci_tree.specs.Domains.{leaves}
-use Rattle.psci_tree.specs.Inside.{IsHeld}
-use Rattle.psci_tree.specs.declared.way.Way.{Way}
+use Rattle.psci_tree.proofs.Words.{◌∙◌, ◌≡◌, all_off, ap, arith, confirmed_of, CoreState, Depths}
+use Rattle.psci_tree.proofs.Words.{Domain, filled, granted_of, IsHeld, leaves, length, level_sizes}
+use Rattle.psci_tree.proofs.Words.{List, map, never_started, replicate, rows_with_depth, size_below}
+use Rattle.psci_tree.proofs.Words.{subst, sym, TreeValue, Way, with_items, with_items_is, ℕ}
 use Rattle.psci_tree.proofs.DepthRows.{depth_lengths, filled_depths}
 use Rattle.psci_tree.proofs.Valid.{all_off_valid}
 use Rattle.psci_tree.proofs.Slices.{whole_kept}
-use Rattle.psci_tree.proofs.tree.Tree.turn_off.Goals as goal
 use Rattle.psci_tree.proofs.Seen.{held_seen}
+use Rattle.psci_tree.proofs.tree.Tree.turn_off.Goals as goal
 
 pub returns-clause-value : goal.returns-clause-value
 returns-clause-value c =
