@@ -1,14 +1,13 @@
 -- What some cores ask at least, by how many of them are active and how many are off.
 use Rattle.std.proofs.lemmas.Bool.{cases_Bool}
-use Rattle.psci_tree.proofs.Words.{◌+◌, ◌<◌, ◌∷◌, ◌≡◌, ◌≤◌, [], Activity, ap, arith, asks, Away}
-use Rattle.psci_tree.proofs.Words.{cond, CoreState, count_by, count_by-le-length, false, inl, inr}
-use Rattle.psci_tree.proofs.Words.{is_active, is_away, length, List, low_in, refl, set, suc}
-use Rattle.psci_tree.proofs.Words.{sum_by-cons, true, zero, ℕ}
+use Rattle.psci_tree.proofs.Words.{◌+◌, ◌<◌, ◌∷◌, ◌≡◌, ◌≤◌, [], Activity, arith, asks, cond}
+use Rattle.psci_tree.proofs.Words.{CoreState, count_by, count_by-le-length, inl, inr, is_active}
+use Rattle.psci_tree.proofs.Words.{is_away, length, List, low_in, refl, set, suc, sum_by-cons, true}
+use Rattle.psci_tree.proofs.Words.{zero, ℕ}
 use Rattle.psci_tree.proofs.Asks.{asks_none}
 
 asks_all : (s : Activity) (level : ℕ) → is_away s ≡ true → asks s level ≡ 3
-asks_all Away level e = refl
-asks_all s level e = absurd (let no : false ≡ true = e in cc)
+asks_all s level e = grind arith
 
 -- how many of the cores are running or pending, and how many off or going off
 abbrev pub active_in : List CoreState → ℕ
@@ -25,58 +24,37 @@ away_cons : (c : CoreState) (cs : List CoreState)
     → away_in (c ∷ cs) ≡ cond (is_away c.activity) 1 0 + away_in cs
 away_cons c cs = sum_by-cons (λ (d : CoreState). cond (is_away d.activity) 1 0) c cs
 
+away_le : (cs : List CoreState) → away_in cs ≤ length cs
+away_le cs = count_by-le-length (λ (c : CoreState). is_away c.activity) cs
+
 -- where one is active, no core asks for less
 pub low_zero : (level : ℕ) (cs : List CoreState) → 0 < active_in cs → low_in level cs ≡ 0
 low_zero level [] h = absurd (omega arith)
-low_zero level (c ∷ cs) h = elim (cases_Bool (is_active c.activity)) [
-  | inl e ↦ omega (arith, asks_none c.activity level e)
-  | inr e ↦
-      let less : cond (is_active c.activity) 1 0 ≡ 0 = ap {B = ℕ} (λ b. cond b 1 0) e in
-      omega (arith, low_zero level cs (omega (arith, h, active_cons c cs, less)))
-]
+low_zero level (c ∷ cs) h = grind (arith, active_cons, asks_none, low_zero level cs)
 
 -- where all are off, they ask for power-down
 low_off : (level : ℕ) (cs : List CoreState) → away_in cs ≡ length cs → low_in level cs ≡ 3
 low_off level [] h = refl
 low_off level (c ∷ cs) h = elim (cases_Bool (is_away c.activity)) [
   | inl e ↦
-      let one : cond (is_away c.activity) 1 0 ≡ 1 = ap {B = ℕ} (λ b. cond b 1 0) e in
-      omega (
-        arith,
-        asks_all c.activity level e,
-        low_off level cs (omega (
-          arith,
-          h,
-          away_cons c cs,
-          one,
-        )),
-      )
+      let one : cond {A = ℕ} (is_away c.activity) 1 0 ≡ 1 = rw e in
+      let rest = low_off level cs (omega (arith, h, away_cons c cs)) in
+      omega (arith, asks_all c.activity level e, rest)
   | inr e ↦
-      let none : cond (is_away c.activity) 1 0 ≡ 0 = ap {B = ℕ} (λ b. cond b 1 0) e in
-      absurd (omega (
-        arith,
-        h,
-        away_cons c cs,
-        none,
-        count_by-le-length (λ (d : CoreState). is_away d.activity) cs,
-      ))
+      let none : cond {A = ℕ} (is_away c.activity) 1 0 ≡ 0 = rw e in
+      absurd (omega (arith, h, away_cons c cs, away_le cs))
 ]
 
 -- the others are as many as those of them that are off, at least
 others : (cs : List CoreState) (j : ℕ) (s : CoreState) → j < length cs
     → away_in (set cs j s) + 1 ≤ length (set cs j s) + away_in (s ∷ [])
 others [] j s h = absurd (omega arith)
-others (c ∷ cs) zero s h = omega (
-  arith,
-  away_cons s cs,
-  away_cons s [],
-  count_by-le-length (λ (d : CoreState). is_away d.activity) cs,
-)
+others (c ∷ cs) zero s h = omega (arith, away_cons, away_le cs)
 others (c ∷ cs) (suc j) s h = omega (
   arith,
   away_cons c (set cs j s),
   others cs j s (omega arith),
-  count_by-le-length (λ (d : CoreState). is_away d.activity) (c ∷ []),
+  away_le (c ∷ []),
   away_cons c [],
 )
 
@@ -89,17 +67,10 @@ low_one level (c ∷ cs) zero s h e =
     omega (arith, low_off level cs (omega (arith, e, away_cons s cs, away_cons s [])))
 low_one level (c ∷ cs) (suc j) s h e = elim (cases_Bool (is_away c.activity)) [
   | inl a ↦
-      let one : cond {A = ℕ} (is_away c.activity) 1 0 ≡ 1 = ap {B = ℕ} (λ b. cond b 1 0) a in
-      let rest : low_in level (set cs j s) ≡ low_in level (s ∷ []) =
-      low_one level cs j s (omega arith) (omega (arith, e, away_cons c (set cs j s), one)) in
+      let one : cond {A = ℕ} (is_away c.activity) 1 0 ≡ 1 = rw a in
+      let rest = low_one level cs j s (omega arith) (omega (arith, e, away_cons c (set cs j s))) in
       omega (arith, asks_all c.activity level a, rest)
   | inr a ↦
-      let none : cond (is_away c.activity) 1 0 ≡ 0 = ap {B = ℕ} (λ b. cond b 1 0) a in
-      absurd (omega (
-        arith,
-        e,
-        away_cons c (set cs j s),
-        none,
-        others cs j s (omega arith),
-      ))
+      let none : cond {A = ℕ} (is_away c.activity) 1 0 ≡ 0 = rw a in
+      absurd (omega (arith, e, away_cons c (set cs j s), others cs j s (omega arith)))
 ]

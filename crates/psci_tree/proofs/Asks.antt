@@ -1,9 +1,9 @@
 -- What each core of a tree asks, and what the least ask below a domain says of the levels.
 use Rattle.std.proofs.lemmas.Bool.{lt-leb, le-leb, leb-true}
-use Rattle.psci_tree.proofs.Words.{◌+◌, ◌<◌, ◌≡◌, ◌≤◌, Active, Activity, ap, arith, ask_at, asks}
-use Rattle.psci_tree.proofs.Words.{Away, below_in, Bool, cond, false, get_or, is_active}
-use Rattle.psci_tree.proofs.Words.{is_active_at, IsActivity, IsDomainTree, leb, length, List, map}
-use Rattle.psci_tree.proofs.Words.{Node, refl, state_at, suc, Suspended, TreeValue, true, zero, ℕ}
+use Rattle.psci_tree.proofs.Words.{◌+◌, ◌<◌, ◌≡◌, ◌≤◌, Activity, ap, arith, ask_at, asks, below_in}
+use Rattle.psci_tree.proofs.Words.{Bool, cond, false, get_or, is_active, is_active_at, IsActivity}
+use Rattle.psci_tree.proofs.Words.{IsDomainTree, leb, length, List, map, Node, refl, state_at, suc}
+use Rattle.psci_tree.proofs.Words.{TreeValue, true, zero, ℕ}
 use Rattle.psci_state.specs.Ask.{IsAsk}
 use Rattle.psci_tree.specs.Recount.{low}
 use Rattle.psci_tree.proofs.Bounds.{low_each, low_greatest}
@@ -18,38 +18,27 @@ depths_le depths a (suc level) =
     omega (arith, ap (λ l. get_or depths l 0) up, a.falls level, depths_le depths a level)
 
 asks_most : (s : Activity) (level : ℕ) → IsActivity s → asks s level ≤ 3
-asks_most Active level a = omega arith
-asks_most (Suspended depths) level a = depths_le depths a level
-asks_most Away level a = omega arith
+asks_most s level a = grind (arith, depths_le)
 
 asks_fall : (s : Activity) (level : ℕ) → IsActivity s → asks s (level + 1) ≤ asks s level
-asks_fall Active level a = omega arith
-asks_fall (Suspended depths) level a = a.falls level
-asks_fall Away level a = omega arith
+asks_fall s level a = grind arith
 
 asks_some : (s : Activity) → IsActivity s → is_active s ≡ false → 1 ≤ asks s 0
-asks_some Active a e = absurd (let no : true ≡ false = e in cc)
-asks_some (Suspended depths) a e = a.least
-asks_some Away a e = omega arith
+asks_some s a e = grind arith
 
 pub asks_none : (s : Activity) (level : ℕ) → is_active s ≡ true → asks s level ≡ 0
-asks_none Active level e = refl
-asks_none s level e = absurd (let no : false ≡ true = e in cc)
+asks_none s level e = grind arith
 
 -- At the levels of the board -----------------------------------------------------------------
 
 cut_le : (b : Bool) (x m : ℕ) → x ≤ m → cond b x 0 ≤ m
-cut_le true x m h = h
-cut_le false x m h = omega arith
+cut_le b x m h = grind arith
 
 cut_fall : (b c : Bool) (x y : ℕ) → (b ≡ true → c ≡ true) → x ≤ y → cond b x 0 ≤ cond c y 0
-cut_fall false c x y h l = omega arith
-cut_fall true true x y h l = l
-cut_fall true false x y h l = absurd (let no : false ≡ true = h refl in cc)
+cut_fall b c x y h l = grind arith
 
 cut_none : (b : Bool) (x : ℕ) → x ≡ 0 → cond b x 0 ≡ 0
-cut_none true x e = e
-cut_none false x e = refl
+cut_none b x e = grind arith
 
 pub ask_most : (t : TreeValue) (c level : ℕ) → IsDomainTree t → ask_at t c level ≤ 3
 ask_most t c level v = cut_le _ _ 3 (asks_most (state_at t c).activity level (v.asks c))

@@ -1,12 +1,12 @@
 -- Rows with 0 on the path of a core, from a level up.
+use Rattle.std.proofs.lemmas.List.{set-get_or, get_or_past}
 use Rattle.std.proofs.lemmas.Bool.{cases_lt}
-use Rattle.psci_tree.proofs.Words.{◌++◌, ◌+◌, ◌<◌, ◌∙◌, ◌∷◌, ◌≡◌, ◌≤◌, [], ap, append-nil, arith}
-use Rattle.psci_tree.proofs.Words.{cleared_from, confirmed_at, drop, drop_all, get_or, granted_at}
-use Rattle.psci_tree.proofs.Words.{group_of, HasNodeIn, inl, inr, inside, IsDomainTree, IsTree}
-use Rattle.psci_tree.proofs.Words.{IsWayOf, length, length-map, length-set, level_sizes, List, map}
-use Rattle.psci_tree.proofs.Words.{path_cleared, place_above, place_above-suc, refl, set}
-use Rattle.psci_tree.proofs.Words.{size_below, suc, sym, take, take_all, TreeValue, Way}
-use Rattle.psci_tree.proofs.Words.{with_path_cleared, zero, ℕ}
+use Rattle.psci_tree.proofs.Words.{◌+◌, ◌<◌, ◌∙◌, ◌∷◌, ◌≡◌, ◌≤◌, [], ap, append-nil, arith}
+use Rattle.psci_tree.proofs.Words.{cleared_from, drop_all, get_or, granted_at, group_of, HasNodeIn}
+use Rattle.psci_tree.proofs.Words.{inl, inr, inside, IsDomainTree, IsTree, IsWayOf, length}
+use Rattle.psci_tree.proofs.Words.{length-map, length-set, level_sizes, List, map, path_cleared}
+use Rattle.psci_tree.proofs.Words.{place_above, place_above-suc, refl, set, size_below, suc, sym}
+use Rattle.psci_tree.proofs.Words.{take_all, TreeValue, Way, with_path_cleared, zero, ℕ}
 use Rattle.psci_tree.proofs.Granted.{zero_more, parent_is, above_top, length_level_sizes}
 
 -- the node of a level on the way to a core
@@ -25,14 +25,9 @@ pub cleared_step : (levels rows : List (List ℕ)) (core l p : ℕ) → l < leng
     ≡ cleared_from levels core l rows
 cleared_step levels rows core l p h i at =
     let q : ℕ = place_above levels l core in
-    let xs : List (List ℕ) = set rows l (set (get_or rows l []) q 0) in
     let next : l + 1 ≡ suc l = omega arith in
-    let up : place_above levels (suc l) core ≡ place_above (drop l levels) 1 q =
-    place_above-suc levels l core h ∙ sym (parent_is levels l q h) in
-    ap (λ x. cleared_from levels core (l + 1) (set rows l (set (get_or rows l []) x 0))) at
-    ∙ ap (λ k. cleared_from levels core k xs) next
-    ∙ ap (λ x. take (suc l) xs ++ path_cleared (drop (suc l) levels) x (drop (suc l) xs)) up
-    ∙ zero_more levels rows l q i
+    rw (at, next, place_above-suc levels l core h, ← (parent_is levels l q h))
+    (zero_more levels rows l q i)
 
 -- the highest level written
 pub cleared_top : (levels rows : List (List ℕ)) (core l p : ℕ) → l ≡ length levels
@@ -43,25 +38,10 @@ cleared_top levels rows core l p top long at =
     let xs : List (List ℕ) = set rows l (set (get_or rows l []) q 0) in
     let past : length xs ≤ suc l =
     omega (arith, length-set rows l (set (get_or rows l []) q 0), top, long) in
-    ap (λ x. set rows l (set (get_or rows l []) x 0)) at
-    ∙ sym (append-nil xs)
-    ∙ ap (λ ys. ys ++ []) (sym (take_all (suc l) xs past))
-    ∙ ap (λ ys. take (suc l) xs ++ path_cleared (drop (suc l) levels)
-    (place_above (drop l levels) 1 q) ys) (sym (drop_all (suc l) xs past))
-    ∙ zero_more levels rows l q (omega (arith, top, long))
+    let more = zero_more levels rows l q (omega (arith, top, long)) in
+    rw at (simp (drop_all (suc l) xs past, take_all (suc l) xs past, append-nil) at more)
 
 -- Nothing to clear ---------------------------------------------------------------------------
-
-none_set : (g : List ℕ) (p : ℕ) → get_or g p 0 ≡ 0 → set g p 0 ≡ g
-none_set [] p e = refl
-none_set (x ∷ g) zero e = ap (λ y. y ∷ g) (sym e)
-none_set (x ∷ g) (suc p) e = ap (λ ys. x ∷ ys) (none_set g p e)
-
-none_past : (rows : List (List ℕ)) (l p : ℕ) → length rows ≤ l
-    → get_or (get_or rows l []) p 0 ≡ 0
-none_past [] l p h = refl
-none_past (g ∷ gs) zero p h = absurd (omega arith)
-none_past (g ∷ gs) (suc l) p h = none_past gs l p (omega arith)
 
 pub rows_long : (levels rows : List (List ℕ)) → map length rows ≡ level_sizes levels
     → length rows ≡ suc (length levels)
@@ -73,12 +53,13 @@ none_cleared : (levels rows : List (List ℕ)) (p : ℕ)
     → path_cleared levels p rows ≡ rows
 none_cleared levels [] p h = refl
 none_cleared [] (g ∷ gs) p h =
-    ap (λ x. x ∷ path_cleared [] p gs) (none_set g p (h 0))
-    ∙ ap (λ xs. g ∷ xs) (none_cleared [] gs p (λ l.
-    ap (λ q. get_or (get_or gs l []) q 0) (above_top l p) ∙ h (suc l)))
+    let here = rw (h 0) at (set-get_or g p 0) in
+    let above = none_cleared [] gs p (λ l. rw above_top (h (suc l))) in
+    cc
 none_cleared (w ∷ ws) (g ∷ gs) p h =
-    ap (λ x. x ∷ path_cleared ws (group_of w p) gs) (none_set g p (h 0))
-    ∙ ap (λ xs. g ∷ xs) (none_cleared ws gs (group_of w p) (λ l. h (suc l)))
+    let here = rw (h 0) at (set-get_or g p 0) in
+    let above = none_cleared ws gs (group_of w p) (λ l. h (suc l)) in
+    cc
 
 -- what is granted to a core bounds what is granted on its path
 none_granted : (t : TreeValue) (core l : ℕ) → IsDomainTree t → core < size_below t.levels
@@ -92,8 +73,8 @@ none_granted t core (suc l) v h e = elim (cases_lt l (length t.levels)) [
       let above = v.nested core l h in_tree in
       let here = rw up at above in
       omega (arith, here, below)
-  | inr past ↦ none_past t.granted (suc l) (place_above t.levels (suc l) core)
-      (omega (arith, past, rows_long t.levels t.granted v.granted))
+  | inr past ↦ rw (get_or_past t.granted (suc l) []
+      (omega (arith, past, rows_long t.levels t.granted v.granted))) refl
 ]
 
 -- a core to which nothing is granted has a path on which nothing is to be taken away
@@ -102,8 +83,8 @@ pub none_to_clear : (t : TreeValue) (core : ℕ) → IsDomainTree t → core < s
 none_to_clear t core v h e =
     let granted : (l : ℕ) → granted_at t l (place_above t.levels l core) ≡ 0 =
     λ l. none_granted t core l v h e in
-    let confirmed : (l : ℕ) → confirmed_at t l (place_above t.levels l core) ≡ 0 =
-    λ l. omega (arith, granted l, v.sure l (place_above t.levels l core)) in
-    ap (λ gs. record t { granted = gs; confirmed = path_cleared t.levels core t.confirmed })
-    (none_cleared t.levels t.granted core granted)
-    ∙ ap (λ cs. record t { confirmed = cs }) (none_cleared t.levels t.confirmed core confirmed)
+    rw (
+      none_cleared t.levels t.granted core granted,
+      none_cleared t.levels t.confirmed core
+          (λ l. omega (arith, granted l, v.sure l (place_above t.levels l core))),
+    )

@@ -1,39 +1,32 @@
 -- Granted depths after a change, by level and place.
+use Rattle.std.proofs.lemmas.Bool.{cases_lt}
+use Rattle.std.proofs.lemmas.List.{set_past, get_or_past}
 use Rattle.psci_tree.proofs.Words.{◌&&◌, ◌++◌, ◌<◌, ◌==◌, ◌∙◌, ◌∷◌, ◌≡◌, ◌≤◌, [], ap, arith, Bool}
-use Rattle.psci_tree.proofs.Words.{cases_eq, cond, depth_set, drop, eq-eqb, false, get_or}
-use Rattle.psci_tree.proofs.Words.{get_or-map, get_or-replicate, get_or-set_other, get_or-set_same}
-use Rattle.psci_tree.proofs.Words.{granted_at, group_of, HasNodeIn, inl, inr, IsDomainTree, length}
-use Rattle.psci_tree.proofs.Words.{length-map, length-set, level_sizes, List, map, ne_eqb, Node}
+use Rattle.psci_tree.proofs.Words.{cases_eq, cond, depth_set, drop, eq-eqb, get_or, get_or-map}
+use Rattle.psci_tree.proofs.Words.{get_or-replicate, get_or-set_other, get_or-set_same, granted_at}
+use Rattle.psci_tree.proofs.Words.{group_of, HasNodeIn, inl, inr, IsDomainTree, length, length-map}
+use Rattle.psci_tree.proofs.Words.{length-set, level_sizes, List, map, nat_tests, ne_eqb, Node}
 use Rattle.psci_tree.proofs.Words.{path_cleared, place_above, refl, rows_with_depth, set}
-use Rattle.psci_tree.proofs.Words.{size_below, suc, sym, take, TreeValue, true, zero, ℕ}
+use Rattle.psci_tree.proofs.Words.{size_below, suc, sym, take, TreeValue, zero, ℕ}
 use Rattle.psci_tree.specs.Changes.{with_grant}
 
 -- One written place --------------------------------------------------------------------------
 
-pub at_set : (g : List ℕ) (i x p : ℕ) → i < length g
-    → get_or (set g i x) p 0 ≡ cond (i == p) x (get_or g p 0)
-at_set g i x p h = elim (cases_eq i p) [
-  | inl e ↦ rw (eq-eqb i p e, ← e) (get_or-set_same g i x 0 h)
-  | inr e ↦ rw (ne_eqb i p e) (get_or-set_other g i p x 0 (λ q. e (sym q)))
+pub at_set : {X : Type 0} (xs : List X) (i : ℕ) (x d : X) (p : ℕ) → i < length xs
+    → get_or (set xs i x) p d ≡ cond (i == p) x (get_or xs p d)
+at_set xs i x d p h = elim (cases_eq i p) [
+  | inl e ↦ rw (eq-eqb i p e, ← e) (get_or-set_same xs i x d h)
+  | inr e ↦ rw (ne_eqb i p e) (get_or-set_other xs i p x d (λ q. e (sym q)))
 ]
 
 zero_either : (b : Bool) → ◌≡◌ {A = ℕ} 0 (cond b 0 0)
-zero_either true = refl
-zero_either false = refl
+zero_either b = grind arith
 
 at_set_zero : (g : List ℕ) (i p : ℕ) → get_or (set g i 0) p 0 ≡ cond (i == p) 0 (get_or g p 0)
-at_set_zero [] i p = zero_either (i == p)
-at_set_zero (x ∷ g) zero zero = refl
-at_set_zero (x ∷ g) zero (suc p) = rw (ne_eqb 0 (suc p) (λ e. absurd (omega arith))) refl
-at_set_zero (x ∷ g) (suc i) zero = rw (ne_eqb (suc i) 0 (λ e. absurd (omega arith))) refl
-at_set_zero (x ∷ g) (suc i) (suc p) =
-    at_set_zero g i p ∙ ap (λ b. cond b 0 (get_or g p 0)) (step i p)
-  where
-    step : (a b : ℕ) → (a == b) ≡ (suc a == suc b)
-    step a b = elim (cases_eq a b) [
-      | inl e ↦ eq-eqb a b e ∙ sym (eq-eqb (suc a) (suc b) (omega arith))
-      | inr e ↦ ne_eqb a b e ∙ sym (ne_eqb (suc a) (suc b) (λ q. e (omega arith)))
-    ]
+at_set_zero g i p = elim (cases_lt i (length g)) [
+  | inl h ↦ at_set g i 0 0 p h
+  | inr h ↦ rw (set_past g i 0 h) (grind (arith, nat_tests, get_or_past))
+]
 
 -- The path of a core -------------------------------------------------------------------------
 
@@ -121,30 +114,31 @@ row_length levels gs l e h =
 
 -- One domain ---------------------------------------------------------------------------------
 
+-- the row of a domain's level
+pub record RowOf (gs : List (List ℕ)) (n : Node) : Type 0 where
+  pub level : n.level < length gs
+  pub place : n.place < length (get_or gs n.level [])
+
+pub row_of : (levels gs : List (List ℕ)) (n : Node) → map length gs ≡ level_sizes levels
+    → HasNodeIn levels n → RowOf gs n
+row_of levels gs n e h = record {
+  level = omega (arith, h.level, length-map gs length, ap length e, length_level_sizes levels);
+  place = omega (arith, h.place, row_length levels gs n.level e h.level);
+}
+
 -- a depth of one domain
 pub depth_at : (levels gs : List (List ℕ)) (n : Node) (depth l p : ℕ)
     → map length gs ≡ level_sizes levels → HasNodeIn levels n
     → get_or (get_or (depth_set gs n depth) l []) p 0
     ≡ cond (n.level == l && n.place == p) depth (get_or (get_or gs l []) p 0)
 depth_at levels gs n depth l p v h =
-    let long : length gs ≡ suc (length levels) =
-    sym (length-map gs length) ∙ ap length v ∙ length_level_sizes levels in
-    let row : length (get_or gs n.level []) ≡ size_below (drop n.level levels) =
-    row_length levels gs n.level v h.level in
-    elim (cases_eq n.level l) [
-      | inl e ↦ rw (
-        eq-eqb n.level l e,
-        ← e,
-        get_or-set_same gs n.level
-            (set (get_or gs n.level []) n.place depth) [] (omega (arith, h.level)),
-      )
-          (at_set (get_or gs n.level []) n.place depth p (omega (arith, h.place)))
-      | inr e ↦ rw (
-        ne_eqb n.level l e,
-        get_or-set_other gs n.level l
-            (set (get_or gs n.level []) n.place depth) [] (λ q. e (sym q)),
-      ) refl
-    ]
+    let at = row_of levels gs n v h in
+    rw (at_set gs n.level (set (get_or gs n.level []) n.place depth) [] l at.level)
+    (elim (cases_eq n.level l) [
+      | inl e ↦ rw (eq-eqb n.level l e, ← e)
+          (at_set (get_or gs n.level []) n.place depth 0 p at.place)
+      | inr e ↦ rw (ne_eqb n.level l e)
+    ])
 
 -- a granted depth of one domain
 pub grant_at : (t : TreeValue) (n : Node) (depth l p : ℕ) → IsDomainTree t → HasNodeIn t.levels n
@@ -160,15 +154,3 @@ pub rows_at : (counts : List ℕ) (l p : ℕ) → p < get_or counts l 0
 rows_at [] l p h = absurd (omega arith)
 rows_at (n ∷ ns) zero p h = get_or-replicate n p 3 0 h
 rows_at (n ∷ ns) (suc l) p h = rows_at ns l p h
-
--- the row of a domain's level
-pub record RowOf (gs : List (List ℕ)) (n : Node) : Type 0 where
-  pub level : n.level < length gs
-  pub place : n.place < length (get_or gs n.level [])
-
-pub row_of : (levels gs : List (List ℕ)) (n : Node) → map length gs ≡ level_sizes levels
-    → HasNodeIn levels n → RowOf gs n
-row_of levels gs n e h = record {
-  level = omega (arith, h.level, length-map gs length, ap length e, length_level_sizes levels);
-  place = omega (arith, h.place, row_length levels gs n.level e h.level);
-}

@@ -4,8 +4,7 @@ use Rattle.psci_tree.proofs.Words.{◌<◌, ◌∙◌, ◌≡◌, ap, arith, cas
 use Rattle.psci_tree.proofs.Words.{Domain, get_or, get_or-set_other, get_or-set_same}
 use Rattle.psci_tree.proofs.Words.{get_or_default, inl, inr, IsActivity, IsDomainTree, IsHeld}
 use Rattle.psci_tree.proofs.Words.{IsKept, known_at, leaves, length, List, never_started, set}
-use Rattle.psci_tree.proofs.Words.{size_below, subst, sym, TreeValue, unwrap_or, Way}
-use Rattle.psci_tree.proofs.Words.{with_core_state, ℕ}
+use Rattle.psci_tree.proofs.Words.{size_below, TreeValue, unwrap_or, Way, with_core_state, ℕ}
 use Rattle.psci_state.specs.declared.cores.Change.{Change}
 use Rattle.psci_tree.specs.Changes.{core_changed}
 use Rattle.psci_tree.proofs.Slices.{whole_kept}
@@ -13,22 +12,16 @@ use Rattle.psci_tree.proofs.Slices.{whole_kept}
 core_valid : (t : TreeValue) (core : ℕ) (s : CoreState) → IsDomainTree t
     → core < size_below t.levels → IsActivity s.activity
     → IsDomainTree (record t { cores = set t.cores core s })
-core_valid t core s v h a = record {
-  tree = v.tree;
-  high = v.high;
-  cores = length-set t.cores core s ∙ v.cores;
-  granted = v.granted;
-  confirmed = v.confirmed;
-  asks = λ k. elim (cases_eq k core) [
-    | inl e ↦
-        let there : core < length t.cores = omega (arith, v.cores) in
-        rw (e, get_or-set_same t.cores core s never_started there) a
-    | inr d ↦ rw (get_or-set_other t.cores core k s never_started d) (v.asks k)
-  ];
-  deepest = v.deepest;
-  nested = v.nested;
-  sure = v.sure;
-}
+core_valid t core s v h a =
+    let cores = length-set t.cores core s ∙ v.cores in
+    let asks : (k : ℕ) → IsActivity (get_or (set t.cores core s) k never_started).activity =
+    λ k. elim (cases_eq k core) [
+      | inl e ↦
+          let there : core < length t.cores = omega (arith, v.cores) in
+          rw (e, get_or-set_same t.cores core s never_started there) a
+      | inr d ↦ rw (get_or-set_other t.cores core k s never_started d) (v.asks k)
+    ] in
+    search
 
 -- what was held is held, with the new state of the core
 pub held_core : (root new : Domain) (cores : List CoreState) (ways : List Way) (t : TreeValue)
@@ -36,16 +29,15 @@ pub held_core : (root new : Domain) (cores : List CoreState) (ways : List Way) (
     → IsActivity s.activity → leaves new ≡ set t.cores core s
     → ((k : ℕ) → child_counts k new ≡ child_counts k root) → IsKept new
     → IsHeld new (set cores core s) ways (record t { cores = leaves new })
-held_core root new cores ways t core s h l a e same kept =
-    subst (λ cs. IsHeld new (set cores core s) ways (record t { cores = cs })) (sym e) (record {
-      tied = record {
-        whole = whole_kept root new t.levels same h.tied.whole;
-        kept = kept;
-        valid = core_valid t core s h.tied.valid l a;
-      };
-      row = ap (λ cs. set cs core s) h.row;
-      lead = h.lead;
-    })
+held_core root new cores ways t core s h l a e same kept = rw e (record {
+  tied = record {
+    whole = whole_kept root new t.levels same h.tied.whole;
+    kept = kept;
+    valid = core_valid t core s h.tied.valid l a;
+  };
+  row = ap (λ cs. set cs core s) h.row;
+  lead = h.lead;
+})
 
 -- the state of a core, as the row of states has it
 pub state_held : (root : Domain) (cores : List CoreState) (ways : List Way) (t : TreeValue)
@@ -63,6 +55,4 @@ pub core_value : (root : Domain) (cores : List CoreState) (ways : List Way) (t :
     → record t { cores = now }
     ≡ with_core_state t core change.activity (unwrap_or change.started (known_at t core))
 core_value root cores ways t core x s change now h l e d n =
-    let was = state_held root cores ways t core x never_started h l e in
-    ap (λ cs. record t { cores = cs })
-    (n ∙ ap (λ y. set t.cores core y) (d ∙ ap (core_changed change) was))
+    rw (n, d, state_held root cores ways t core x never_started h l e)

@@ -1,28 +1,20 @@
 -- The values of a tree after each change, by core, and by level and place.
 use Rattle.psci_tree.proofs.Words.{◌&&◌, ◌<◌, ◌==◌, ◌∙◌, ◌≡◌, ◌≤◌, Activity, all_off, ap, arith}
-use Rattle.psci_tree.proofs.Words.{Bool, cases_eq, cond, confirmed_at, drop, eq-eqb, false, get_or}
-use Rattle.psci_tree.proofs.Words.{get_or-set_other, get_or-set_same, granted_at, HasNodeIn, inl}
-use Rattle.psci_tree.proofs.Words.{inr, IsDomainTree, length, length-replicate, level_sizes, List}
-use Rattle.psci_tree.proofs.Words.{nat_lt, nat_tests, ne_eqb, never_started, Node, place_above}
-use Rattle.psci_tree.proofs.Words.{refl, replicate, size_below, state_at, still_confirmed, suc, sym}
-use Rattle.psci_tree.proofs.Words.{TreeValue, true, with_core_state, with_path_cleared, zero, ℕ}
+use Rattle.psci_tree.proofs.Words.{Bool, cond, confirmed_at, drop, false, get_or, granted_at}
+use Rattle.psci_tree.proofs.Words.{HasNodeIn, IsDomainTree, length, length-replicate, level_sizes}
+use Rattle.psci_tree.proofs.Words.{List, nat_lt, nat_tests, never_started, Node, place_above, refl}
+use Rattle.psci_tree.proofs.Words.{replicate, size_below, state_at, still_confirmed, suc, TreeValue}
+use Rattle.psci_tree.proofs.Words.{true, with_core_state, with_path_cleared, zero, ℕ}
 use Rattle.psci_tree.specs.Recount.{is_confirmed_at}
 use Rattle.psci_tree.specs.Changes.{with_grant, with_confirmed}
-use Rattle.psci_tree.proofs.Granted.{zero_at, size_of_level, rows_at, depth_at}
+use Rattle.psci_tree.proofs.Granted.{zero_at, size_of_level, rows_at, depth_at, at_set}
 use Rattle.psci_tree.proofs.Valid.{is_domain}
 
 -- another state of one core
 pub core_with : (t : TreeValue) (core : ℕ) (activity : Activity) (known c : ℕ)
     → core < length t.cores → state_at (with_core_state t core activity known) c
     ≡ cond (core == c) (record { activity = activity; known = known }) (state_at t c)
-core_with t core activity known c h = elim (cases_eq core c) [
-  | inl e ↦ rw (eq-eqb core c e, ← e)
-      (get_or-set_same t.cores core (record { activity = activity; known = known }) never_started h)
-  | inr e ↦ rw (ne_eqb core c e) (get_or-set_other t.cores core c (record {
-    activity = activity;
-    known = known;
-  }) never_started (λ q. e (sym q)))
-]
+core_with t core activity known c h = at_set t.cores core _ never_started c h
 
 pub granted_with : (t : TreeValue) (core l p : ℕ) → granted_at (with_path_cleared t core) l p
     ≡ cond (place_above t.levels l core == p) 0 (granted_at t l p)
@@ -30,8 +22,7 @@ granted_with t core l p = zero_at t.levels t.granted core l p
 
 -- no longer confirmed, or as before
 none_or_same : (b : Bool) (x : ℕ) → nat_lt 0 (cond b 0 x) ≡ cond b false (nat_lt 0 x)
-none_or_same true x = refl
-none_or_same false x = refl
+none_or_same b x = grind arith
 
 pub confirmed_with : (t : TreeValue) (core l p : ℕ)
     → is_confirmed_at (with_path_cleared t core) l p
@@ -43,21 +34,13 @@ confirmed_with t core l p =
 -- what stays confirmed at a domain, and what was at the others
 kept_if_same : (at same : Bool) (own x : ℕ) → (at ≡ true → own ≡ x)
     → nat_lt 0 (cond at (cond same own 0) x) ≡ cond at (same && nat_lt 0 x) (nat_lt 0 x)
-kept_if_same true true own x e = ap (nat_lt 0) (e refl)
-kept_if_same true false own x e = refl
-kept_if_same false same own x e = refl
+kept_if_same at same own x e = grind arith
 
 -- at the domain itself the granted depth that is read is its own
 own_depth : (t : TreeValue) (n : Node) (depth l p : ℕ) (b : Bool)
     → cond (n.level == l && n.place == p) ((granted_at t n.level n.place == depth) && b) b
     ≡ cond (n.level == l && n.place == p) ((granted_at t l p == depth) && b) b
-own_depth t n depth l p b = elim (cases_eq n.level l) [
-  | inr e ↦ rw (ne_eqb n.level l e) refl
-  | inl e ↦ elim (cases_eq n.place p) [
-    | inr f ↦ rw (eq-eqb n.level l e, ne_eqb n.place p f) refl
-    | inl f ↦ rw (← e, ← f) refl
-  ]
-]
+own_depth t n depth l p b = grind (arith, nat_tests)
 
 pub confirmed_grant : (t : TreeValue) (n : Node) (depth l p : ℕ) → IsDomainTree t
     → HasNodeIn t.levels n → is_confirmed_at (with_grant t n depth) l p
@@ -73,8 +56,7 @@ confirmed_grant t n depth l p v h =
     ∙ own_depth t n depth l p (is_confirmed_at t l p)
 
 some_or_same : (b : Bool) (d x : ℕ) → 1 ≤ d → nat_lt 0 (cond b d x) ≡ cond b true (nat_lt 0 x)
-some_or_same true d x h = grind (arith, nat_tests)
-some_or_same false d x h = refl
+some_or_same b d x h = grind (arith, nat_tests)
 
 pub confirmed_now : (t : TreeValue) (n : Node) (l p : ℕ) → IsDomainTree t
     → HasNodeIn t.levels n → 1 ≤ granted_at t n.level n.place

@@ -14,11 +14,8 @@ pub low_is : (t : TreeValue) (n : Node) (level : ℕ) (cs : List CoreState) → 
     → level ≤ length t.levels → least (map (λ s. asks s.activity level) cs) ≡ low t n level
 unfolding low
 low_is t n level cs e h =
-    let within : true ≡ leb level (length t.levels) = grind (arith, nat_tests) in
-    ap (λ xs. least (map (λ s. asks s.activity level) xs)) e
-    ∙ ap least (map-map (λ s. asks s.activity level) (λ c. state_at t c) (below_in t.levels n))
-    ∙ ap (λ b. least (map (λ c. cond b (asks (state_at t c).activity level) 0)
-    (below_in t.levels n))) within
+    let within : leb level (length t.levels) ≡ true = grind (arith, nat_tests) in
+    rw (e, map-map (λ s. asks s.activity level) (λ c. state_at t c) (below_in t.levels n), within)
 
 none_asked : (xs : List ℕ) → 0 < length xs → least (map (λ c. 0) xs) ≡ 0
 none_asked [] h = absurd (omega arith)
@@ -29,10 +26,8 @@ pub low_above : (t : TreeValue) (n : Node) (level : ℕ) → 0 < length (below_i
     → length t.levels < level → 0 ≡ low t n level
 unfolding low
 low_above t n level some h =
-    let above : false ≡ leb level (length t.levels) = grind (arith, nat_tests) in
-    sym (none_asked (below_in t.levels n) some)
-    ∙ ap (λ b. least (map (λ c. cond b (asks (state_at t c).activity level) 0)
-    (below_in t.levels n))) above
+    let above : leb level (length t.levels) ≡ false = grind (arith, nat_tests) in
+    rw above (sym (none_asked (below_in t.levels n) some))
 
 sum_is : (f : CoreState → ℕ) (t : TreeValue) (n : Node) (cs : List CoreState) → cs ≡ states t n
     → sum_by f cs ≡ sum_by (λ c. f (state_at t c)) (below_in t.levels n)

@@ -19,21 +19,17 @@ use Rattle.psci_tree.proofs.Below.{cores_of_domain, cores_of_core, cores_drop, l
 down_in : (f g : Domain → List Domain) → ((n : Domain) → f n ≡ flat_map branches (g n))
     → (ns : List Domain) → flat_map f ns ≡ flat_map branches (flat_map g ns)
 down_in f g h [] = refl
-down_in f g h (n ∷ ns) = ap (λ x. x ++ flat_map f ns) (h n) ∙ ap (λ x. flat_map branches (g n)
-    ++ x) (down_in f g h ns) ∙ sym (flat_map-append branches (g n) (flat_map g ns))
+down_in f g h (n ∷ ns) = simp (h, down_in f g h ns, flat_map-append)
 
 pub down_step : (k : ℕ) (n : Domain) → domains_down (suc k) n ≡ flat_map branches (domains_down k n)
-down_step zero n =
-    flat_map_single (λ m. m) (branches n) ∙ map-id (branches n) ∙ sym (append-nil (branches n))
+down_step zero n = simp (flat_map_single (λ (m : Domain). m), map-id, append-nil)
 down_step (suc k) n = down_in (domains_down (suc k)) (domains_down k) (down_step k) (branches n)
 
 widths_in : (f : Domain → List ℕ) (g : Domain → List Domain)
     → ((n : Domain) → f n ≡ map child_count (g n))
     → (ns : List Domain) → flat_map f ns ≡ map child_count (flat_map g ns)
 widths_in f g h [] = refl
-widths_in f g h (n ∷ ns) = ap (λ x. x ++ flat_map f ns) (h n)
-    ∙ ap (λ x. map child_count (g n) ++ x) (widths_in f g h ns)
-    ∙ sym (map-append child_count (g n) (flat_map g ns))
+widths_in f g h (n ∷ ns) = simp (h, widths_in f g h ns, map-append)
 
 pub widths_are : (k : ℕ) (n : Domain) → child_counts k n ≡ map child_count (domains_down k n)
 widths_are zero n = refl
@@ -44,36 +40,21 @@ take_down : (p : ℕ) (ns : List Domain)
     ≡ take (sum (take p (map child_count ns))) (flat_map branches ns)
 take_down zero ns = refl
 take_down (suc p) [] = refl
-take_down (suc p) (n ∷ ns) =
-    ap (λ x. branches n ++ x) (take_down p ns)
-    ∙ sym (take-append-add (branches n) (flat_map branches ns) (sum (take p (map child_count ns))))
-    ∙ ap (λ k. take k (branches n ++ flat_map branches ns))
-    (sym (sum-cons (child_count n) (take p (map child_count ns))))
+take_down (suc p) (n ∷ ns) = simp (take_down p ns, sum-cons, take-append-add)
 
 -- domains that have children have the cores of their children
 pub cores_down : (ns : List Domain) → AllPass is_width (map child_count ns)
     → cores_in ns ≡ cores_in (flat_map branches ns)
 cores_down [] h = refl
 cores_down (n ∷ ns) h =
-    let some : 0 < length (branches n) = wide (child_count n) (h 0 0 (omega arith)) in
-    ap (λ x. x ++ cores_in ns) (cores_of_domain n some)
-    ∙ ap (λ x. cores_in (branches n) ++ x) (cores_down ns (λ k d l. h (suc k) d (omega arith)))
-    ∙ sym (flat_map-append leaves (branches n) (flat_map branches ns))
-  where
-    wide : (m : ℕ) → is_width m ≡ true → 0 < m
-    wide m e = grind (arith, nat_tests)
+    let wide : is_width (child_count n) ≡ true = h 0 0 (omega arith) in
+    let some : 0 < length (branches n) = grind (arith, nat_tests) in
+    simp (cores_of_domain n some, cores_down ns (λ k d l. h (suc k) d (omega arith)), flat_map-append)
 
 -- domains without children are one core each
 cores_ends : (ns : List Domain) → sum (map child_count ns) ≡ 0 → length (cores_in ns) ≡ length ns
 cores_ends [] h = refl
-cores_ends (n ∷ ns) h =
-    let parts = sum-cons (child_count n) (map child_count ns) in
-    omega (
-      arith,
-      length-append (leaves n) (cores_in ns),
-      ap length (cores_of_core n (omega arith)),
-      cores_ends ns (omega arith),
-    )
+cores_ends (n ∷ ns) h = grind (arith, sum-cons, length-append, cores_of_core, cores_ends ns)
 
 -- The shape ----------------------------------------------------------------------------------
 

@@ -1,9 +1,9 @@
 -- What a sum over the cores below a domain says of each of them.
 use Rattle.psci_tree.proofs.Words.{◌+◌, ◌<◌, ◌==◌, ◌∙◌, ◌∷◌, ◌≡◌, [], Active, ap, arith, below_in}
-use Rattle.psci_tree.proofs.Words.{cond, CoreState, eq-eqb, eqb-true, IsDomainTree, known_at}
-use Rattle.psci_tree.proofs.Words.{length, ne_eqb, Node, place_above, range_with_len, refl}
-use Rattle.psci_tree.proofs.Words.{size_below, span, SpanLaws, state_at, sum_by, sum_by-cons, sym}
-use Rattle.psci_tree.proofs.Words.{TreeValue, with_core_state, with_path_cleared, ℕ}
+use Rattle.psci_tree.proofs.Words.{CoreState, eq-eqb, eqb-true, IsDomainTree, known_at, length}
+use Rattle.psci_tree.proofs.Words.{ne_eqb, Node, place_above, range_with_len, refl, size_below}
+use Rattle.psci_tree.proofs.Words.{span, SpanLaws, sum_by, sum_by-cons, sym, TreeValue}
+use Rattle.psci_tree.proofs.Words.{with_core_state, with_path_cleared, ℕ}
 use Rattle.psci_tree.specs.Recount.{known}
 use Rattle.psci_tree.specs.Changes.{started}
 use Rattle.psci_tree.proofs.Looked.{core_with}
@@ -37,17 +37,13 @@ known_own t c laws h =
 
 known_other : (t : TreeValue) (core number c : ℕ) → core < length t.cores → (c ≡ core → ⊥)
     → known_at (with_core_state t core Active number) c ≡ known_at t c
-known_other t core number c h e =
-    ap (λ (s : CoreState). s.known) (core_with t core Active number c h
-    ∙ ap (λ b. cond b (record { activity = Active; known = number }) (state_at t c))
-    (ne_eqb core c (λ q. e (sym q))))
+known_other t core number c h e = ap (λ (s : CoreState). s.known)
+    (rw (ne_eqb core c (λ q. e (sym q))) at (core_with t core Active number c h))
 
 known_new : (t : TreeValue) (core number : ℕ) → core < length t.cores
     → known_at (with_core_state t core Active number) core ≡ number
-known_new t core number h =
-    ap (λ (s : CoreState). s.known) (core_with t core Active number core h
-    ∙ ap (λ b. cond b (record { activity = Active; known = number }) (state_at t core))
-    (eq-eqb core core refl))
+known_new t core number h = ap (λ (s : CoreState). s.known)
+    (rw (eq-eqb core core refl) at (core_with t core Active number core h))
 
 -- one start changes the sums of the domains on the core's path by what it changes of the core
 pub known_started : (t : TreeValue) (core number : ℕ) (n : Node) → IsDomainTree t

@@ -4,11 +4,11 @@ use Rattle.std.specs.Prelude.{Some, None}
 use Rattle.std.proofs.lemmas.Bool.{lt-ltb}
 use Rattle.psci_tree.proofs.Words.{◌&&◌, ◌+◌, ◌-◌, ◌<◌, ◌∙◌, ◌∷◌, ◌≡◌, [], add-one, ap, arith}
 use Rattle.psci_tree.proofs.Words.{BoardValue, Bool, branches, child_count, cond, Counted, counted}
-use Rattle.psci_tree.proofs.Words.{Domain, domains_down, drop, drop-cons, false, flat_map, get_or}
+use Rattle.psci_tree.proofs.Words.{Domain, domains_down, drop, drop-cons, flat_map, get_or}
 use Rattle.psci_tree.proofs.Words.{get_or-flat_map, get_or-map, group_of, HasNodeIn, HasShape}
 use Rattle.psci_tree.proofs.Words.{index_in, IsTree, length, length-drop, length-flat_map}
 use Rattle.psci_tree.proofs.Words.{length-map, List, ltb-true, map, Node, refl, size_below, subst}
-use Rattle.psci_tree.proofs.Words.{suc, sum, sum-map, sym, take, take-map, true, unwrap_or, zero, ℕ}
+use Rattle.psci_tree.proofs.Words.{suc, sum, sum-map, sym, take, take-map, true, zero, ℕ}
 use Rattle.psci_board.specs.Board.{height, nodes, parent, child_number}
 use Rattle.psci_board.proofs.Levels.{IsTree-drop}
 use Rattle.psci_tree.proofs.Valid.{both_tests}
@@ -64,8 +64,7 @@ child_at root w ws place t h i = record {
 
 pub some_of : {X : Type 0} (t : Bool) (x y : X) → cond t (Some x) None ≡ Some y
     → (t ≡ true) × (x ≡ y)
-some_of true x y e = (refl, ap (λ o. unwrap_or o x) e)
-some_of false x y e = absurd (cc)
+some_of t x y e = grind arith
 
 below_node : (b : BoardValue) (n : Node)
     → (ltb n.level (height b) && ltb n.place (nodes b n.level)) ≡ true
@@ -124,9 +123,7 @@ steps_down root b n m k t h e f =
 
 both_some : {X : Type 0} (a c : Bool) (x : X) → a ≡ true → c ≡ true
     → cond (a && c) (Some x) None ≡ Some x
-both_some true true x p q = refl
-both_some true false x p q = absurd (let no : false ≡ true = q in cc)
-both_some false c x p q = absurd (let no : false ≡ true = p in cc)
+both_some a c x p q = rw (p, q)
 
 -- each node below the system has a parent, and a number among its siblings
 pub parent_some : (b : BoardValue) (n : Node) → n.level < length b.levels

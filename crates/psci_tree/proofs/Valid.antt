@@ -1,11 +1,11 @@
 -- What holds of every tree holds after each change, and at the start of a life.
 use Rattle.psci_tree.proofs.Words.{◌&&◌, ◌+◌, ◌-◌, ◌<◌, ◌==◌, ◌∙◌, ◌∷◌, ◌≡◌, ◌≤◌, [], all_off, ap}
-use Rattle.psci_tree.proofs.Words.{arith, Bool, cond, CoreState, eq-eqb, eqb-true, false, get_or}
+use Rattle.psci_tree.proofs.Words.{arith, Bool, cond, CoreState, eq-eqb, eqb-true, get_or}
 use Rattle.psci_tree.proofs.Words.{granted_at, HasNodeIn, inside, IsActivity, IsDomainTree, IsTree}
-use Rattle.psci_tree.proofs.Words.{length, length-replicate, level_sizes, List, map, never_started}
-use Rattle.psci_tree.proofs.Words.{Node, place_above, refl, replicate, rows_with_depth, size_below}
-use Rattle.psci_tree.proofs.Words.{still_confirmed, suc, sym, TreeValue, true, with_path_cleared}
-use Rattle.psci_tree.proofs.Words.{zero, ℕ}
+use Rattle.psci_tree.proofs.Words.{length, length-replicate, level_sizes, List, map, nat_tests}
+use Rattle.psci_tree.proofs.Words.{never_started, Node, place_above, refl, replicate}
+use Rattle.psci_tree.proofs.Words.{rows_with_depth, size_below, still_confirmed, suc, sym}
+use Rattle.psci_tree.proofs.Words.{TreeValue, true, with_path_cleared, zero, ℕ}
 use Rattle.psci_tree.specs.Changes.{with_grant, MayGrant, with_confirmed}
 use Rattle.psci_tree.proofs.Granted.{zero_at, zero_lengths, same_up, size_of_level, row_lengths}
 use Rattle.psci_tree.proofs.Granted.{grant_at, depth_at, rows_at}
@@ -13,13 +13,10 @@ use Rattle.psci_tree.proofs.Granted.{grant_at, depth_at, rows_at}
 -- The path of a core -------------------------------------------------------------------------
 
 zero_le : (b : Bool) (x m : ℕ) → x ≤ m → cond b 0 x ≤ m
-zero_le true x m h = omega arith
-zero_le false x m h = h
+zero_le b x m h = grind arith
 
 zero_both : (b c : Bool) (x y : ℕ) → (c ≡ true → b ≡ true) → x ≤ y → cond b 0 x ≤ cond c 0 y
-zero_both true c x y h e = omega arith
-zero_both false false x y h e = e
-zero_both false true x y h e = absurd (let no : false ≡ true = h refl in cc)
+zero_both b c x y h e = grind arith
 
 pub path_valid : (t : TreeValue) (core : ℕ) → IsDomainTree t
     → IsDomainTree (with_path_cleared t core)
@@ -48,19 +45,14 @@ path_valid t core v = record {
 -- A granted depth ----------------------------------------------------------------------------
 
 grant_le : (b : Bool) (depth x m : ℕ) → depth ≤ m → x ≤ m → cond b depth x ≤ m
-grant_le true depth x m h e = h
-grant_le false depth x m h e = e
+grant_le b depth x m h e = grind arith
 
 grant_both : (b c : Bool) (depth x y : ℕ) → (b ≡ true → c ≡ true → ⊥) → (b ≡ true → depth ≤ y)
     → (c ≡ true → x ≤ depth) → x ≤ y → cond b depth x ≤ cond c depth y
-grant_both true true depth x y n f g h = absurd (n refl refl)
-grant_both true false depth x y n f g h = f refl
-grant_both false true depth x y n f g h = g refl
-grant_both false false depth x y n f g h = h
+grant_both b c depth x y n f g h = grind arith
 
 pub both_tests : (a b : Bool) → (a && b) ≡ true → (a ≡ true) × (b ≡ true)
-both_tests true b h = (refl, h)
-both_tests false b h = absurd (cc)
+both_tests a b h = grind arith
 
 pub is_domain : (n : Node) (l p : ℕ) → (n.level == l && n.place == p) ≡ true
     → (n.level ≡ l) × (n.place ≡ p)
@@ -68,8 +60,7 @@ is_domain n l p h = let e = both_tests (n.level == l) (n.place == p) h in
     (eqb-true _ _ e.0, eqb-true _ _ e.1)
 
 confirm_le : (b : Bool) (d x y : ℕ) → (b ≡ true → d ≤ y) → x ≤ y → cond b d x ≤ y
-confirm_le true d x y f h = f refl
-confirm_le false d x y f h = h
+confirm_le b d x y f h = grind arith
 
 pub confirmed_valid : (t : TreeValue) (n : Node) → IsDomainTree t → HasNodeIn t.levels n
     → IsDomainTree (with_confirmed t n)
@@ -92,12 +83,10 @@ confirmed_valid t n v h = record {
 
 still_le : (granted depth confirmed : ℕ) (b : Bool) → b ≡ (granted == depth)
     → confirmed ≤ granted → cond b confirmed 0 ≤ depth
-still_le granted depth confirmed true e h = omega (arith, h, eqb-true granted depth (sym e))
-still_le granted depth confirmed false e h = omega arith
+still_le granted depth confirmed b e h = grind (arith, nat_tests)
 
 both_le : (b : Bool) (c d x y : ℕ) → c ≤ d → x ≤ y → cond b c x ≤ cond b d y
-both_le true c d x y h e = h
-both_le false c d x y h e = e
+both_le b c d x y h e = grind arith
 
 pub grant_valid : (t : TreeValue) (n : Node) (depth : ℕ) → IsDomainTree t → HasNodeIn t.levels n
     → MayGrant t n depth → IsDomainTree (with_grant t n depth)
