@@ -73,3 +73,8 @@ pub low_falls : (t : TreeValue) (n : Node) (level : ℕ) → IsDomainTree t
 low_falls t n level v =
     low_greatest t n level (low t n (level + 1)) (low_most t n (level + 1))
     (λ c h e. omega (arith, low_each t n (level + 1) c h e, ask_falls t c level v))
+
+-- what each core asks, and what is asked below a domain
+pub ruleset asks_laws = (ask_most, ask_falls, ask_some, ask_none, ask_above)
+
+pub ruleset low_laws = (low_each, low_greatest, low_most, low_falls)

@@ -1,13 +1,13 @@
 -- Rows with 0 on the path of a core, from a level up.
 use Rattle.std.proofs.lemmas.List.{set-get_or, get_or_past}
 use Rattle.std.proofs.lemmas.Bool.{cases_lt}
-use Rattle.psci_tree.proofs.Words.{◌+◌, ◌<◌, ◌∙◌, ◌∷◌, ◌≡◌, ◌≤◌, [], ap, append-nil, arith}
-use Rattle.psci_tree.proofs.Words.{cleared_from, drop_all, get_or, granted_at, group_of, HasNodeIn}
-use Rattle.psci_tree.proofs.Words.{inl, inr, inside, IsDomainTree, IsTree, IsWayOf, length}
-use Rattle.psci_tree.proofs.Words.{length-map, length-set, level_sizes, List, map, path_cleared}
-use Rattle.psci_tree.proofs.Words.{place_above, place_above-suc, refl, set, size_below, suc, sym}
-use Rattle.psci_tree.proofs.Words.{take_all, TreeValue, Way, with_path_cleared, zero, ℕ}
-use Rattle.psci_tree.proofs.Granted.{zero_more, parent_is, above_top, length_level_sizes}
+use Rattle.psci_tree.proofs.Words.{◌+◌, ◌<◌, ◌∷◌, ◌≡◌, ◌≤◌, [], append-nil, arith, cleared_from}
+use Rattle.psci_tree.proofs.Words.{drop_all, get_or, granted_at, group_of, HasNodeIn, inl, inr}
+use Rattle.psci_tree.proofs.Words.{inside, IsDomainTree, IsTree, IsWayOf, length, length-set, List}
+use Rattle.psci_tree.proofs.Words.{path_cleared, place_above, place_above-suc, refl, set}
+use Rattle.psci_tree.proofs.Words.{size_below, suc, take_all, TreeValue, Way, with_path_cleared}
+use Rattle.psci_tree.proofs.Words.{zero, ℕ}
+use Rattle.psci_tree.proofs.Granted.{zero_more, parent_is, above_top, rows_long}
 
 -- the node of a level on the way to a core
 pub path_node : (levels : List (List ℕ)) (core l : ℕ) (way : Way) → IsTree levels
@@ -42,11 +42,6 @@ cleared_top levels rows core l p top long at =
     rw at (simp (drop_all (suc l) xs past, take_all (suc l) xs past, append-nil) at more)
 
 -- Nothing to clear ---------------------------------------------------------------------------
-
-pub rows_long : (levels rows : List (List ℕ)) → map length rows ≡ level_sizes levels
-    → length rows ≡ suc (length levels)
-rows_long levels rows v =
-    sym (length-map rows length) ∙ ap length v ∙ length_level_sizes levels
 
 none_cleared : (levels rows : List (List ℕ)) (p : ℕ)
     → ((l : ℕ) → get_or (get_or rows l []) (place_above levels l p) 0 ≡ 0)

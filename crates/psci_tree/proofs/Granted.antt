@@ -40,17 +40,15 @@ pub zero_at : (levels gs : List (List ℕ)) (i l p : ℕ)
     ≡ cond (place_above levels l i == p) 0 (get_or (get_or gs l []) p 0)
 zero_at levels [] i l p = zero_either (place_above levels l i == p)
 zero_at [] (g ∷ gs) i zero p = at_set_zero g i p
-zero_at [] (g ∷ gs) i (suc l) p =
-    zero_at [] gs i l p ∙ ap (λ x. cond (x == p) 0 (get_or (get_or gs l []) p 0)) (above_top l i)
+zero_at [] (g ∷ gs) i (suc l) p = rw above_top at (zero_at [] gs i l p)
 zero_at (w ∷ ws) (g ∷ gs) i zero p = at_set_zero g i p
 zero_at (w ∷ ws) (g ∷ gs) i (suc l) p = zero_at ws gs (group_of w i) l p
 
 pub zero_lengths : (levels gs : List (List ℕ)) (i : ℕ)
     → map length (path_cleared levels i gs) ≡ map length gs
 zero_lengths levels [] i = refl
-zero_lengths [] (g ∷ gs) i = rw (length-set g i 0) (ap (λ xs. length g ∷ xs) (zero_lengths [] gs i))
-zero_lengths (w ∷ ws) (g ∷ gs) i =
-    rw (length-set g i 0) (ap (λ xs. length g ∷ xs) (zero_lengths ws gs (group_of w i)))
+zero_lengths [] (g ∷ gs) i = simp (length-set, zero_lengths [] gs i)
+zero_lengths (w ∷ ws) (g ∷ gs) i = simp (length-set, zero_lengths ws gs (group_of w i))
 
 zero_top : (gs : List (List ℕ)) (l i : ℕ) → l < length gs
     → take (suc l) (set gs l (set (get_or gs l []) i 0)) ++ path_cleared [] i (drop (suc l)
@@ -80,8 +78,8 @@ parent_is (w ∷ ws) (suc l) i h = parent_is ws l i (omega arith)
 pub row_lengths : (gs : List (List ℕ)) (l i x : ℕ)
     → map length (set gs l (set (get_or gs l []) i x)) ≡ map length gs
 row_lengths [] l i x = refl
-row_lengths (g ∷ gs) zero i x = ap (λ n. n ∷ map length gs) (length-set g i x)
-row_lengths (g ∷ gs) (suc l) i x = ap (λ xs. length g ∷ xs) (row_lengths gs l i x)
+row_lengths (g ∷ gs) zero i x = simp length-set
+row_lengths (g ∷ gs) (suc l) i x = simp (row_lengths gs l i x)
 
 -- cores of one domain are of one domain above it
 pub same_up : (levels : List (List ℕ)) (l c d : ℕ) → place_above levels l c ≡ place_above levels l d
@@ -103,14 +101,17 @@ pub length_level_sizes : (levels : List (List ℕ))
 length_level_sizes [] = refl
 length_level_sizes (w ∷ ws) = ap suc (length_level_sizes ws)
 
+pub rows_long : (levels rows : List (List ℕ)) → map length rows ≡ level_sizes levels
+    → length rows ≡ suc (length levels)
+rows_long levels rows v =
+    sym (length-map rows length) ∙ ap length v ∙ length_level_sizes levels
+
 -- how long the row of a level is
 pub row_length : (levels gs : List (List ℕ)) (l : ℕ) → map length gs ≡ level_sizes levels
     → l ≤ length levels → length (get_or gs l []) ≡ size_below (drop l levels)
 row_length levels gs l e h =
-    let long : length gs ≡ suc (length levels) =
-    sym (length-map gs length) ∙ ap length e ∙ length_level_sizes levels in
-    sym (get_or-map length gs l [] 0 (omega arith)) ∙ ap (λ xs. get_or xs l 0) e
-    ∙ size_of_level levels l h
+    sym (get_or-map length gs l [] 0 (omega (arith, rows_long levels gs e)))
+    ∙ ap (λ xs. get_or xs l 0) e ∙ size_of_level levels l h
 
 -- One domain ---------------------------------------------------------------------------------
 
@@ -122,7 +123,7 @@ pub record RowOf (gs : List (List ℕ)) (n : Node) : Type 0 where
 pub row_of : (levels gs : List (List ℕ)) (n : Node) → map length gs ≡ level_sizes levels
     → HasNodeIn levels n → RowOf gs n
 row_of levels gs n e h = record {
-  level = omega (arith, h.level, length-map gs length, ap length e, length_level_sizes levels);
+  level = omega (arith, h.level, rows_long levels gs e);
   place = omega (arith, h.place, row_length levels gs n.level e h.level);
 }
 

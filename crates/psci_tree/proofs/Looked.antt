@@ -68,6 +68,10 @@ confirmed_now t n l p v h some =
     ap (nat_lt 0) (depth_at t.levels t.confirmed n depth l p v.confirmed h)
     ∙ some_or_same (n.level == l && n.place == p) depth (confirmed_at t l p) some
 
+pub ruleset confirmed_laws = (confirmed_with, confirmed_grant, confirmed_now)
+
+-- The start of a life ------------------------------------------------------------------------
+
 pub core_off : (levels : List (List ℕ)) (c : ℕ) → state_at (all_off levels) c ≡ never_started
 core_off levels c = filled (size_below levels) c
   where

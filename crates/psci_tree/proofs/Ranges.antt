@@ -84,7 +84,7 @@ kept : (b : Bool) (f : ℕ → ℕ) (x : ℕ) (xs : List ℕ)
 kept true f x xs = sum_by-cons f x xs
 kept false f x xs = omega arith
 
-filtered : (f : ℕ → ℕ) (test : ℕ → Bool) (xs : List ℕ)
+pub filtered : (f : ℕ → ℕ) (test : ℕ → Bool) (xs : List ℕ)
     → sum_by f (filter test xs) ≡ sum_by (λ c. cond (test c) (f c) 0) xs
 filtered f test [] = refl
 filtered f test (x ∷ xs) = omega (

@@ -67,3 +67,5 @@ known_elsewhere t core number n v h e =
     known_same t (with_path_cleared (with_core_state t core Active number) core) n refl
     (λ c i p. known_other t core number c (omega (arith, v.cores))
     (λ q. e (ap (place_above t.levels n.level) (sym q) ∙ p)))
+
+pub ruleset known_laws = (known_own, known_same, known_started, known_elsewhere)

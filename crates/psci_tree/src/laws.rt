@@ -62,7 +62,7 @@ pub fn law_granted()
 {}
 
 /// Of which domains the granted depth is confirmed after each change.
-#[tactic(auto, using(crate::proofs::Looked::confirmed_with, crate::proofs::Looked::confirmed_grant, crate::proofs::Looked::confirmed_now), unfolding(crate::specs::Changes::suspended, crate::specs::Changes::turned_off, crate::specs::Changes::made_pending, crate::specs::Changes::started, crate::specs::Changes::with_confirmed))]
+#[tactic(auto, using(crate::proofs::Looked::confirmed_laws), unfolding(crate::specs::Changes::suspended, crate::specs::Changes::turned_off, crate::specs::Changes::made_pending, crate::specs::Changes::started, crate::specs::Changes::with_confirmed))]
 pub fn law_confirmed()
     ensures suspended { (t : TreeValue) (core l p : ℕ) (depths : List ℕ)
         → is_confirmed_at (suspended t core depths) l p ≡ is_confirmed_at t l p }
@@ -89,7 +89,7 @@ pub fn law_confirmed()
 
 /// The start of a life: core 0 is pending and every other core off, none was started, and depth 3
 /// is granted to each domain off the path of core 0, and confirmed.
-#[tactic(auto, using(crate::proofs::Looked::core_with, crate::proofs::Looked::core_off, crate::proofs::Looked::cores_off, crate::proofs::Looked::granted_with, crate::proofs::Looked::granted_off, crate::proofs::Looked::confirmed_with, crate::proofs::Looked::confirmed_off), unfolding(crate::specs::Changes::made_pending, crate::specs::Changes::start_of_life))]
+#[tactic(auto, using(crate::proofs::Looked::core_with, crate::proofs::Looked::cores_off), unfolding(crate::specs::Changes::made_pending, crate::specs::Changes::start_of_life))]
 pub fn law_start_of_life()
     ensures cores { (levels : List (List ℕ)) (c : ℕ) → 0 < size_below levels
         → state_at (start_of_life levels) c ≡ (if 0 == c
@@ -104,7 +104,7 @@ pub fn law_start_of_life()
 
 /// What a core of any tree asks: at no level more than at the one below it, and of its own level
 /// something, unless it is active; nothing where it is active, and nothing above the height.
-#[tactic(auto, using(crate::proofs::Asks::ask_most, crate::proofs::Asks::ask_falls, crate::proofs::Asks::ask_some, crate::proofs::Asks::ask_none, crate::proofs::Asks::ask_above))]
+#[tactic(auto, using(crate::proofs::Asks::asks_laws))]
 pub fn law_asks()
     ensures active { (t : TreeValue) (c level : ℕ) → is_active_at t c ≡ true
         → ask_at t c level ≡ 0 }
@@ -119,7 +119,7 @@ pub fn law_asks()
 
 /// The least ask below a domain is at most each ask below it, and no other depth that is so is
 /// greater. It is at most 3, and at no level more than at the one below it.
-#[tactic(auto, using(crate::proofs::Bounds::low_each, crate::proofs::Bounds::low_greatest, crate::proofs::Asks::low_most, crate::proofs::Asks::low_falls))]
+#[tactic(auto, using(crate::proofs::Asks::low_laws))]
 pub fn law_low()
     ensures each { (t : TreeValue) (n : Node) (level c : ℕ) → c < size_below t.levels
         → place_above t.levels n.level c ≡ n.place → low t n level ≤ ask_at t c level }
@@ -135,7 +135,7 @@ pub fn law_low()
 /// The known starts below a domain are summed, each core's own once: the sum of a core is its own,
 /// trees whose cores below have the same known starts have the same sum, and one start changes the
 /// sums on the core's path by what it changes of the core, and no others.
-#[tactic(auto, using(crate::proofs::Sums::known_own, crate::proofs::Sums::known_same, crate::proofs::Sums::known_started, crate::proofs::Sums::known_elsewhere), unfolding(crate::specs::Recount::known))]
+#[tactic(auto, using(crate::proofs::Sums::known_laws), unfolding(crate::specs::Recount::known))]
 pub fn law_known()
     ensures sum { (t : TreeValue) (n : Node)
         → known t n ≡ sum_by (λ c. known_at t c) (below_in t.levels n) }
@@ -157,7 +157,7 @@ pub fn law_known()
 
 /// No core below a domain is active exactly where the count is 0; every core below is off exactly
 /// where the count is that of the cores below.
-#[tactic(auto, using(crate::proofs::Bounds::active_none, crate::proofs::Bounds::none_active, crate::proofs::Bounds::off_all, crate::proofs::Bounds::all_off))]
+#[tactic(auto, using(crate::proofs::Bounds::count_laws))]
 pub fn law_counts()
     ensures active { (t : TreeValue) (n : Node) (c : ℕ) → active t n ≡ 0 → c < size_below t.levels
         → place_above t.levels n.level c ≡ n.place → is_active_at t c ≡ false }

@@ -203,7 +203,7 @@ impl Tree {
     }
 
     /// The granted depth of a domain.
-    #[tactic(auto, using(crate::proofs::Seen::place_seen, crate::proofs::Seen::depths_seen))]
+    #[tactic(auto, using(crate::proofs::Seen::place_seen))]
     pub fn granted(&self, node: Node) -> u8
         requires { HasNodeIn self.now.levels node }
         ensures value { result ≡ granted_at self.now node.level node.place }
@@ -251,7 +251,7 @@ impl Tree {
     }
 
     /// The depth of a domain that is confirmed, or 0.
-    #[tactic(auto, using(crate::proofs::Seen::place_seen, crate::proofs::Seen::depths_seen))]
+    #[tactic(auto, using(crate::proofs::Seen::place_seen))]
     pub(crate) fn confirmed_depth(&self, node: Node) -> u8
         requires { HasNodeIn self.now.levels node }
         ensures { result ≡ confirmed_at self.now node.level node.place }

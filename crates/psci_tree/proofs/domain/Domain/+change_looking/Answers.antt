@@ -75,20 +75,20 @@ kept_of-self-requires-clause-few t c = omega (
 
 pub returns-clause-cores : goal.returns-clause-cores
 returns-clause-cores t c =
-    let here = cores_put c.kept_of-self.result
-    (through t (goal.at.returns-clause-cores t c).After-change_looking) in
+    let here = cores_put (through t (goal.at.returns-clause-cores t c).After-change_looking)
+    c.kept_of-self.result in
     simp the_lemmas (simp the_lemmas at here)
 
 pub returns-clause-shape : goal.returns-clause-shape
 returns-clause-shape t c = λ k.
-    let here = shape_put c.kept_of-self.result
-    (through t (goal.at.returns-clause-shape t c).After-change_looking) k in
+    let here = shape_put (through t (goal.at.returns-clause-shape t c).After-change_looking)
+    c.kept_of-self.result k in
     simp the_lemmas (simp the_lemmas at here)
 
 pub returns-clause-kept : goal.returns-clause-kept
 returns-clause-kept t c =
     let at = goal.at.returns-clause-kept t c in
-    let here = kept_put c.kept_of-self.result (through t at.After-change_looking)
+    let here = kept_put (through t at.After-change_looking) c.kept_of-self.result
     (subst (λ ns. Keeps c.kept_of-self.result (cores_in ns)) (children t at.After-deref)
     c.kept_of-self.ensures) in
     simp the_lemmas (simp the_lemmas at here)
