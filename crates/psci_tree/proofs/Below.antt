@@ -116,9 +116,8 @@ children_roll x = ap (λ (y : Domain-F Domain). y.children.items) (out-roll-Doma
 -- a domain with another child of the same shape has the same shape
 pub widths_with_child : (n : Domain) (i : ℕ) (m : Domain) (v : Kept)
     → ((k : ℕ) → child_counts k m ≡ child_counts k (get_or (branches n) i n)) → (k : ℕ) →
-    child_counts k (roll-Domain (record {
+    child_counts k (roll-Domain (record (out-Domain n) {
       children = with_item (out-Domain n).children i m;
-      core = (out-Domain n).core;
       kept = v;
     })) ≡ child_counts k n
 widths_with_child n i m v each zero = simp (children_roll, length-set)

@@ -70,9 +70,8 @@ pub record Through (own n m : Domain) (l : ℕ) (way : List ℕ) (s : CoreState)
 
 -- with other children and other numbers it is put together anew
 abbrev put : Domain → ℕ → Domain → Kept → Domain
-put own i m k = roll-Domain (record {
+put own i m k = roll-Domain (record (out-Domain own) {
   children = with_item (out-Domain own).children i m;
-  core = (out-Domain own).core;
   kept = k;
 })
 

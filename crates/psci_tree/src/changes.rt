@@ -27,6 +27,7 @@ impl Tree {
     }
 
     /// Grants a depth to a domain. Another one than before is not confirmed.
+    #[tactic(auto, using(crate::proofs::Seen::place_seen))]
     pub fn grant(&mut self, node: Node, depth: u8)
         requires domain { HasNodeIn self.old.levels node }
         requires depth { MayGrant self.old node depth }
@@ -39,6 +40,7 @@ impl Tree {
     }
 
     /// Confirms what was granted to a domain.
+    #[tactic(auto, using(crate::proofs::Seen::place_seen))]
     pub fn confirm(&mut self, node: Node)
         requires domain { HasNodeIn self.old.levels node }
         requires granted { 1 ≤ granted_at self.old node.level node.place }

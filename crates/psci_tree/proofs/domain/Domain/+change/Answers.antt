@@ -5,19 +5,15 @@ use Rattle.psci_tree.proofs.Exchanged.{Through, above_of, child_exchange, child_
 use Rattle.psci_tree.proofs.Exchanged.{cores_put, keeps_new, kept_put, part_below, shape_put}
 use Rattle.psci_tree.proofs.Exchanged.{small_after, small_below}
 use Rattle.psci_tree.proofs.Keeping.{kept_own, kept_roll_core}
-use Rattle.psci_tree.proofs.domain.Domain.+change.Goals as goal
 use Rattle.psci_tree.proofs.domain.Domain.+change.Goals.{After-change}
+use Rattle.psci_tree.proofs.domain.Domain.+change.Goals as goal
 
 pub returns-then-level-eq0-clause-kept : goal.returns-then-level-eq0-clause-kept
 returns-then-level-eq0-clause-kept t c =
     let own : Domain = c.args.self.now in
     let none : length (branches own) ≡ 0 =
     subst (λ j. IsWay j c.args.way.now own) c.if-level-eq0.true c.requires.exchange.descent.leads in
-    let here = kept_roll_core (record {
-      children = (out-Domain own).children;
-      core = c.args.state.now;
-      kept = c.args.after.now;
-    }) none c.requires.exchange.comes in
+    let here = kept_roll_core (record (out-Domain own) { core = c.args.state.now; kept = c.args.after.now }) none c.requires.exchange.comes in
     simp the_lemmas (simp the_lemmas at here)
 
 pub exchanged-kept-requires-clause-was : goal.exchanged-kept-requires-clause-was

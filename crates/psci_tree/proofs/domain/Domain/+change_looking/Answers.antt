@@ -6,19 +6,15 @@ use Rattle.psci_tree.proofs.Below.{children_roll, cores_of_core, cores_roll_core
 use Rattle.psci_tree.proofs.Exchanged.{Through, above_of, child_descent, child_kept, is_child}
 use Rattle.psci_tree.proofs.Exchanged.{children_new, cores_put, few_new, kept_put, shape_put}
 use Rattle.psci_tree.proofs.Keeping.{kept_roll_core}
-use Rattle.psci_tree.proofs.domain.Domain.+change_looking.Goals as goal
 use Rattle.psci_tree.proofs.domain.Domain.+change_looking.Goals.{After-change_looking, After-deref}
+use Rattle.psci_tree.proofs.domain.Domain.+change_looking.Goals as goal
 
 pub returns-then-level-eq0-clause-kept : goal.returns-then-level-eq0-clause-kept
 returns-then-level-eq0-clause-kept t c =
     let own : Domain = c.args.self.now in
     let none : length (branches own) ≡ 0 =
     subst (λ j. IsWay j c.args.way.now own) c.if-level-eq0.true c.requires.descent.leads in
-    let here = kept_roll_core (record {
-      children = (out-Domain own).children;
-      core = c.args.state.now;
-      kept = c.of_core-self.result;
-    }) none c.of_core-self.ensures in
+    let here = kept_roll_core (record (out-Domain own) { core = c.args.state.now; kept = c.of_core-self.result }) none c.of_core-self.ensures in
     simp the_lemmas (simp the_lemmas at here)
 
 pub returns-then-level-eq0-clause-cores : goal.returns-then-level-eq0-clause-cores
@@ -30,11 +26,7 @@ returns-then-level-eq0-clause-cores t c =
     let there : set (leaves own) (index_by c.args.level c.args.way.now own) state ≡ state ∷ [] =
     ap (λ j. set (leaves own) (index_by j c.args.way.now own) state) c.if-level-eq0.true
     ∙ ap (λ cs. set cs 0 state) (cores_of_core own none) in
-    let here = cores_roll_core (record {
-      children = (out-Domain own).children;
-      core = state;
-      kept = c.of_core-self.result;
-    }) none ∙ sym there in
+    let here = cores_roll_core (record (out-Domain own) { core = state; kept = c.of_core-self.result }) none ∙ sym there in
     simp the_lemmas (simp the_lemmas at here)
 
 pub change_looking-requires : goal.change_looking-requires

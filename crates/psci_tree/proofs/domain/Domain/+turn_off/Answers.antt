@@ -10,8 +10,8 @@ use Rattle.psci_tree.proofs.Below.{children_roll, cores_le, cores_roll, length_o
 use Rattle.psci_tree.proofs.Keeping.{kept_roll, kept_roll_core}
 use Rattle.psci_tree.proofs.OffOnes.{AreOffTo, IsOffOne, off_cores, off_kept, off_length, off_more}
 use Rattle.psci_tree.proofs.OffOnes.{never_keeps, off_next, off_widths}
-use Rattle.psci_tree.proofs.domain.Domain.+turn_off.Goals as goal
 use Rattle.psci_tree.proofs.domain.Domain.+turn_off.Goals.{After-index_mut, After-loop-number}
+use Rattle.psci_tree.proofs.domain.Domain.+turn_off.Goals as goal
 
 -- what is not empty has children, and what is empty has none
 some_of_test : (n : ℕ) (b : Bool) → b ≡ (n == 0) → b ≡ false → 0 < n
@@ -29,11 +29,7 @@ returns-then-is_empty-clause-kept t c =
       none_of_test _ _ c.is_empty.ensures c.if-is_empty.true,
       (out-Domain own).children.ok.0,
     ) in
-    let here = kept_roll_core (record {
-      children = (out-Domain own).children;
-      core = never_started;
-      kept = c.never_started-self.result;
-    }) none c.never_started-self.ensures in
+    let here = kept_roll_core (record (out-Domain own) { core = never_started; kept = c.never_started-self.result }) none c.never_started-self.ensures in
     simp the_lemmas (simp the_lemmas at here)
 
 -- the child that the loop is at, and what it was
@@ -90,11 +86,7 @@ loop-number-preserved t c =
       shape = λ k. c.turn_off.ensures.shape k ∙ ap (child_counts k) at.is;
       kept = c.turn_off.ensures.kept;
     } in
-    let half : Domain-F Domain = record {
-      children = with_item (out-Domain c.loop-number.self).children i new;
-      core = (out-Domain c.loop-number.self).core;
-      kept = (out-Domain c.loop-number.self).kept;
-    } in
+    let half : Domain-F Domain = record (out-Domain c.loop-number.self) { children = with_item (out-Domain c.loop-number.self).children i new } in
     let up : suc i ≡ i + 1 = omega arith in
     let more : AreOffTo (i + 1) ns (set ms i new) = subst (λ j. AreOffTo j ns (set ms i new)) up
     (off_more i ns ms new own at.inside c.loop-number.invariant.done one) in
@@ -166,31 +158,19 @@ off_below-requires-clause-few t c =
 pub returns-clause-cores : goal.returns-clause-cores
 returns-clause-cores t c =
     let at = (goal.at.returns-clause-cores t c).After-loop-number in
-    cores_roll (record {
-      children = (out-Domain c.loop-number.self).children;
-      core = (out-Domain c.loop-number.self).core;
-      kept = c.never_started-self-2.result;
-    }) (still_some t at)
+    cores_roll (record (out-Domain c.loop-number.self) { kept = c.never_started-self-2.result }) (still_some t at)
     ∙ cores_off t at
     ∙ ap (λ n. replicate n never_started) (sym (length_of_domain c.args.self.now (some t at)))
 
 pub returns-clause-shape : goal.returns-clause-shape
 returns-clause-shape t c =
-    off_widths c.args.self.now (record {
-      children = (out-Domain c.loop-number.self).children;
-      core = (out-Domain c.loop-number.self).core;
-      kept = c.never_started-self-2.result;
-    }) c.loop-number.number (all t (goal.at.returns-clause-shape t c).After-loop-number)
+    off_widths c.args.self.now (record (out-Domain c.loop-number.self) { kept = c.never_started-self-2.result }) c.loop-number.number (all t (goal.at.returns-clause-shape t c).After-loop-number)
     c.loop-number.invariant.done
 
 pub returns-clause-kept : goal.returns-clause-kept
 returns-clause-kept t c =
     let at = (goal.at.returns-clause-kept t c).After-loop-number in
-    kept_roll (record {
-      children = (out-Domain c.loop-number.self).children;
-      core = (out-Domain c.loop-number.self).core;
-      kept = c.never_started-self-2.result;
-    }) (still_some t at) (never_keeps c.never_started-self-2.result (now t at) c.off_below.result
+    kept_roll (record (out-Domain c.loop-number.self) { kept = c.never_started-self-2.result }) (still_some t at) (never_keeps c.never_started-self-2.result (now t at) c.off_below.result
     (length (cores_in (branches c.args.self.now))) (cores_off t at)
     (c.off_below.ensures ∙ ap (λ ns. count_by (λ s. is_away s.activity) (cores_in ns))
     c.deref.ensures.value) c.never_started-self-2.ensures) (kept_off t at)
