@@ -43,6 +43,7 @@ pub fn decode(bytes: &[u8], board: &Board) -> Result<Frame, FrameFault>
 /// frame: `message_in` and `ack_in` read what the caller wants of it. Compiled into its callers, so
 /// that a kind is never written to memory.
 #[inline(always)]
+#[tactic(auto, using(crate::proofs::Reading::read_laws))]
 pub fn heading_on(bytes: &[u8], board: &Board) -> Result<Heading, FrameFault>
     ensures heading { IfOk result (HasHeading bytes.now) }
     ensures held { IfOk result (λ heading. IsHeldIn heading bytes.now) }
