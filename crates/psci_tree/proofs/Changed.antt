@@ -8,7 +8,7 @@ use Rattle.psci_tree.proofs.Words.{index_by, inl, inr, is_active, is_away, IsPar
 use Rattle.psci_tree.proofs.Words.{kept_exchanged, leaves, length, length-append, length-set, List}
 use Rattle.psci_tree.proofs.Words.{lows_told, ltb-true, nat_lt, never_started, recount, refl, set}
 use Rattle.psci_tree.proofs.Words.{Some, sum_by, sum_by-append, sym, true, ℕ}
-use Rattle.psci_tree.proofs.Asked.{active_in, away_in, low_one, low_zero}
+use Rattle.psci_tree.proofs.Asks.{active_in, away_in, low_one, low_zero}
 use Rattle.psci_tree.proofs.Below.{cores_of_domain}
 use Rattle.psci_tree.proofs.Ways.{Step, place_inside}
 use Rattle.psci_tree.proofs.Keeping.{kept_head, kept_tail, kept_own}

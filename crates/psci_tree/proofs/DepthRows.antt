@@ -1,8 +1,8 @@
--- Rows of depths, each read as one of the two depths of its domains.
+-- Rows of depths, one for each level, each read as one of the two depths of its domains.
 use Rattle.std.proofs.Common.{◌≡◌, ℕ, zero, suc, ◌<◌, List, [], ◌∷◌, length, get_or, map, replicate}
-use Rattle.std.proofs.Common.{refl, ap, sym, ◌∙◌, arith}
+use Rattle.std.proofs.Common.{refl, ap, sym, ◌∙◌, arith, ◌++◌, ◌+◌, drop, take}
 use Rattle.std.proofs.Math.ListN.{set}
-use Rattle.std.proofs.lemmas.List.{get_or-map, length-map, map-set}
+use Rattle.std.proofs.lemmas.List.{get_or-map, length-map, map-set, map_more}
 use Rattle.psci_board.specs.declared.node.Node.{Node}
 use Rattle.psci_board.specs.Board.{HasNodeIn}
 use Rattle.psci_tree.specs.declared.depths.Depths.{Depths}
@@ -75,3 +75,21 @@ read_at rows now n x at same e =
       confirmed = ap (λ d. d.confirmed) is
           ∙ sym (depth_read _ rows n.level n.place x at.level at.place);
     }
+
+-- Rows that are filled ----------------------------------------------------------------------------
+
+-- one more row
+pub rows_more : (ns : List ℕ) (i : ℕ) (depth : Depths) → i < length ns
+    → filled (take (i + 1) ns) depth
+    ≡ filled (take i ns) depth ++ replicate (get_or ns i 0) depth ∷ []
+rows_more ns i depth h = map_more (λ count. replicate count depth) ns i 0 h
+
+-- one more row filled
+pub filled_more : (old : List (List Depths)) (i : ℕ) (depth : Depths) → i < length old
+    → set (filled (map length (take i old)) depth ++ drop i old) i (replicate
+    (length (get_or (filled (map length (take i old)) depth ++ drop i old) i [])) depth)
+    ≡ filled (map length (take (suc i) old)) depth ++ drop (suc i) old
+filled_more [] i depth h = absurd (omega arith)
+filled_more (x ∷ xs) zero depth h = refl
+filled_more (x ∷ xs) (suc i) depth h =
+    ap (λ ys. replicate (length x) depth ∷ ys) (filled_more xs i depth (omega arith))

@@ -1,14 +1,18 @@
 -- The values of a tree after each change, by core, and by level and place.
-use Rattle.psci_tree.proofs.Words.{◌&&◌, ◌<◌, ◌==◌, ◌∙◌, ◌≡◌, ◌≤◌, Activity, all_off, ap, arith}
-use Rattle.psci_tree.proofs.Words.{Bool, cond, confirmed_at, drop, false, get_or, granted_at}
-use Rattle.psci_tree.proofs.Words.{HasNodeIn, IsDomainTree, length, length-replicate, level_sizes}
-use Rattle.psci_tree.proofs.Words.{List, nat_lt, nat_tests, never_started, Node, place_above, refl}
-use Rattle.psci_tree.proofs.Words.{replicate, size_below, state_at, still_confirmed, suc, TreeValue}
-use Rattle.psci_tree.proofs.Words.{true, with_core_state, with_path_cleared, zero, ℕ}
-use Rattle.psci_tree.specs.Recount.{is_confirmed_at}
-use Rattle.psci_tree.specs.Changes.{with_grant, with_confirmed}
+use Rattle.psci_tree.proofs.Words.{◌&&◌, ◌+◌, ◌<◌, ◌==◌, ◌∙◌, ◌∷◌, ◌≡◌, ◌≤◌, [], Active, Activity}
+use Rattle.psci_tree.proofs.Words.{all_off, ap, arith, below_in, Bool, cond, confirmed_at}
+use Rattle.psci_tree.proofs.Words.{CoreState, drop, eq-eqb, eqb-true, false, get_or, granted_at}
+use Rattle.psci_tree.proofs.Words.{HasNodeIn, IsDomainTree, known_at, length, length-replicate}
+use Rattle.psci_tree.proofs.Words.{level_sizes, List, nat_lt, nat_tests, ne_eqb, never_started}
+use Rattle.psci_tree.proofs.Words.{Node, place_above, range_with_len, refl, replicate, size_below}
+use Rattle.psci_tree.proofs.Words.{span, SpanLaws, state_at, still_confirmed, suc, sum_by}
+use Rattle.psci_tree.proofs.Words.{sum_by-cons, sym, TreeValue, true, with_core_state}
+use Rattle.psci_tree.proofs.Words.{with_path_cleared, zero, ℕ}
+use Rattle.psci_tree.specs.Recount.{is_confirmed_at, known}
+use Rattle.psci_tree.specs.Changes.{with_grant, with_confirmed, started}
 use Rattle.psci_tree.proofs.Granted.{zero_at, size_of_level, rows_at, depth_at, at_set}
 use Rattle.psci_tree.proofs.Valid.{is_domain}
+use Rattle.psci_tree.proofs.Ranges.{sum_same, sum_on}
 
 -- another state of one core
 pub core_with : (t : TreeValue) (core : ℕ) (activity : Activity) (known c : ℕ)
@@ -92,3 +96,66 @@ confirmed_off levels l p h i =
 
 pub cores_off : (levels : List (List ℕ)) → length (all_off levels).cores ≡ size_below levels
 cores_off levels = length-replicate (size_below levels) never_started
+
+-- What a sum over the cores below a domain says of each of them -----------------------------------
+
+-- Known starts -------------------------------------------------------------------------------
+
+pub known_same : (t u : TreeValue) (n : Node) → u.levels ≡ t.levels
+    → ((c : ℕ) → c < size_below t.levels → place_above t.levels n.level c ≡ n.place
+    → known_at u c ≡ known_at t c)
+    → known u n ≡ known t n
+unfolding known
+known_same t u n e h =
+    ap (λ ls. sum_by (λ c. known_at u c) (below_in ls n)) e
+    ∙ sum_same (λ c. known_at u c) (λ c. known_at t c)
+    (λ c. place_above t.levels n.level c == n.place) (size_below t.levels)
+    (λ c p s. h c p (eqb-true _ _ s))
+
+-- at level 0 the sum is the core's own known start
+pub known_own : (t : TreeValue) (c : ℕ) → SpanLaws t.levels → c < size_below t.levels
+    → known t (record { level = 0; place = c }) ≡ known_at t c
+unfolding known
+known_own t c laws h =
+    let n : Node = record { level = 0; place = c } in
+    let one : (span t.levels n).count ≡ 1 = omega arith in
+    let alone : below_in t.levels n ≡ c ∷ [] =
+    laws.cores n (record { level = omega arith; place = h })
+    ∙ ap (range_with_len c) one in
+    ap (sum_by (λ d. known_at t d)) alone
+    ∙ omega (arith, sum_by-cons (λ d. known_at t d) c [])
+
+known_other : (t : TreeValue) (core number c : ℕ) → core < length t.cores → (c ≡ core → ⊥)
+    → known_at (with_core_state t core Active number) c ≡ known_at t c
+known_other t core number c h e = ap (λ (s : CoreState). s.known)
+    (rw (ne_eqb core c (λ q. e (sym q))) at (core_with t core Active number c h))
+
+known_new : (t : TreeValue) (core number : ℕ) → core < length t.cores
+    → known_at (with_core_state t core Active number) core ≡ number
+known_new t core number h = ap (λ (s : CoreState). s.known)
+    (rw (eq-eqb core core refl) at (core_with t core Active number core h))
+
+-- one start changes the sums of the domains on the core's path by what it changes of the core
+pub known_started : (t : TreeValue) (core number : ℕ) (n : Node) → IsDomainTree t
+    → core < size_below t.levels → place_above t.levels n.level core ≡ n.place
+    → known (started t core number) n + known_at t core ≡ known t n + number
+unfolding known started
+known_started t core number n v h e =
+    let u : TreeValue = with_core_state t core Active number in
+    let within : core < length t.cores = omega (arith, v.cores) in
+    sum_on (λ c. known_at u c) (λ c. known_at t c)
+    (λ c. place_above t.levels n.level c == n.place) (size_below t.levels) core h
+    (λ c q. known_other t core number c within q) (eq-eqb _ _ e)
+    ∙ ap (λ k. known t n + k) (known_new t core number within)
+
+-- and no others
+pub known_elsewhere : (t : TreeValue) (core number : ℕ) (n : Node) → IsDomainTree t
+    → core < size_below t.levels → (place_above t.levels n.level core ≡ n.place → ⊥)
+    → known (started t core number) n ≡ known t n
+unfolding started
+known_elsewhere t core number n v h e =
+    known_same t (with_path_cleared (with_core_state t core Active number) core) n refl
+    (λ c i p. known_other t core number c (omega (arith, v.cores))
+    (λ q. e (ap (place_above t.levels n.level) (sym q) ∙ p)))
+
+pub ruleset known_laws = (known_own, known_same, known_started, known_elsewhere)

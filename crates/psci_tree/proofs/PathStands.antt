@@ -1,15 +1,61 @@
--- How the domains on a core's path stand.
-use Rattle.psci_tree.proofs.Words.{◌+◌, ◌-◌, ◌<◌, ◌∙◌, ◌≡◌, ◌≤◌, [], add-one, ap, arith, BoardValue}
-use Rattle.psci_tree.proofs.Words.{branches, Domain, domains_down, drop, drop_all, get_or}
-use Rattle.psci_tree.proofs.Words.{get_or_default, HasNodeIn, HasShape, index_in, IsTied, IsTree}
-use Rattle.psci_tree.proofs.Words.{Keeps, known, leaves, length, List, low, Node, on_path}
-use Rattle.psci_tree.proofs.Words.{out-Domain, place_above, place_above-suc, size_below, SpanLaws}
-use Rattle.psci_tree.proofs.Words.{TreeValue, ℕ}
+-- Recounts over the states of the cores below a domain, and how the domains on a path stand.
+use Rattle.std.proofs.lemmas.Simd.{map-map}
+use Rattle.std.proofs.lemmas.List.Folds.{fold-map}
+use Rattle.psci_tree.proofs.Words.{◌+◌, ◌-◌, ◌<◌, ◌∙◌, ◌∷◌, ◌≡◌, ◌≤◌, [], add-one, ap, arith, asks}
+use Rattle.psci_tree.proofs.Words.{below_in, BoardValue, branches, cond, CoreState, count_by}
+use Rattle.psci_tree.proofs.Words.{Domain, domains_down, drop, drop_all, false, get_or}
+use Rattle.psci_tree.proofs.Words.{get_or_default, HasNodeIn, HasShape, index_in, is_active}
+use Rattle.psci_tree.proofs.Words.{is_away, IsTied, IsTree, Keeps, least, leaves, leb, length, List}
+use Rattle.psci_tree.proofs.Words.{map, nat_tests, Node, on_path, out-Domain, place_above}
+use Rattle.psci_tree.proofs.Words.{place_above-suc, size_below, SpanLaws, state_at, sum_by, sym}
+use Rattle.psci_tree.proofs.Words.{TreeValue, true, ℕ}
 use Rattle.psci_tree.proofs.Keeping.{keeps_low}
-use Rattle.psci_tree.proofs.Recounted.{states, low_is, known_is}
 use Rattle.psci_tree.proofs.Slices.{states_at, size_at}
 use Rattle.psci_tree.proofs.Upward.{steps_down, parent_some, number_some}
 use Rattle.psci_board.proofs.Paths.{inside as place_inside}
+use Rattle.psci_tree.specs.Recount.{low, known, active, off}
+
+abbrev pub states : TreeValue → Node → List CoreState
+states t n = map (λ c. state_at t c) (below_in t.levels n)
+
+pub low_is : (t : TreeValue) (n : Node) (level : ℕ) (cs : List CoreState) → cs ≡ states t n
+    → level ≤ length t.levels → least (map (λ s. asks s.activity level) cs) ≡ low t n level
+unfolding low
+low_is t n level cs e h =
+    let within : leb level (length t.levels) ≡ true = grind (arith, nat_tests) in
+    rw (e, map-map (λ s. asks s.activity level) (λ c. state_at t c) (below_in t.levels n), within)
+
+none_asked : (xs : List ℕ) → 0 < length xs → least (map (λ c. 0) xs) ≡ 0
+none_asked [] h = absurd (omega arith)
+none_asked (x ∷ xs) h = omega arith
+
+-- no core asks anything above the height
+pub low_above : (t : TreeValue) (n : Node) (level : ℕ) → 0 < length (below_in t.levels n)
+    → length t.levels < level → 0 ≡ low t n level
+unfolding low
+low_above t n level some h =
+    let above : leb level (length t.levels) ≡ false = grind (arith, nat_tests) in
+    rw above (sym (none_asked (below_in t.levels n) some))
+
+sum_is : (f : CoreState → ℕ) (t : TreeValue) (n : Node) (cs : List CoreState) → cs ≡ states t n
+    → sum_by f cs ≡ sum_by (λ c. f (state_at t c)) (below_in t.levels n)
+sum_is f t n cs e =
+    ap (sum_by f) e ∙ fold-map (λ a x. a + f x) (λ c. state_at t c) 0 (below_in t.levels n)
+
+pub known_is : (t : TreeValue) (n : Node) (cs : List CoreState) → cs ≡ states t n
+    → sum_by (λ s. s.known) cs ≡ known t n
+unfolding known
+known_is t n cs e = sum_is (λ s. s.known) t n cs e
+
+pub active_is : (t : TreeValue) (n : Node) (cs : List CoreState) → cs ≡ states t n
+    → count_by (λ s. is_active s.activity) cs ≡ active t n
+unfolding active
+active_is t n cs e = sum_is (λ s. cond (is_active s.activity) 1 0) t n cs e
+
+pub off_is : (t : TreeValue) (n : Node) (cs : List CoreState) → cs ≡ states t n
+    → count_by (λ s. is_away s.activity) cs ≡ off t n
+unfolding off
+off_is t n cs e = sum_is (λ s. cond (is_away s.activity) 1 0) t n cs e
 
 -- the domain of a level on a core's path is the child of the one above, of the number on its way
 pub record PathStep (root : Domain) (levels : List (List ℕ)) (core l k : ℕ) : Type 0 where

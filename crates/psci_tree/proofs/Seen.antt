@@ -1,13 +1,20 @@
 -- The fields of a tree in memory, and the value that it is seen as.
 use Rattle.std.proofs.Common.{Vec, Global}
-use Rattle.psci_tree.proofs.Words.{◌<◌, ◌∙◌, ◌≡◌, ◌≤◌, [], ap, arith, confirmed_at, confirmed_of}
-use Rattle.psci_tree.proofs.Words.{depth_set, Depths, get_or, granted_at, granted_of, HasNodeIn}
-use Rattle.psci_tree.proofs.Words.{IsDomainTree, IsHeld, IsWayOf, length, length-map, List, map}
-use Rattle.psci_tree.proofs.Words.{Node, place_above, set, size_below, subst, sym, the_view}
-use Rattle.psci_tree.proofs.Words.{TreeValue, Way, with_items, with_items_is, ℕ}
+use Rattle.std.proofs.lemmas.List.{length-set}
+use Rattle.psci_tree.proofs.Words.{◌<◌, ◌∙◌, ◌≡◌, ◌≤◌, [], ap, arith, cases_eq, child_counts}
+use Rattle.psci_tree.proofs.Words.{confirmed_at, confirmed_of, CoreState, depth_set, Depths, Domain}
+use Rattle.psci_tree.proofs.Words.{get_or, get_or-set_other, get_or-set_same, get_or_default}
+use Rattle.psci_tree.proofs.Words.{granted_at, granted_of, HasNodeIn, inl, inr, IsActivity}
+use Rattle.psci_tree.proofs.Words.{IsDomainTree, IsHeld, IsKept, IsWayOf, known_at, leaves, length}
+use Rattle.psci_tree.proofs.Words.{length-map, List, map, never_started, Node, place_above, set}
+use Rattle.psci_tree.proofs.Words.{size_below, subst, sym, the_view, TreeValue, unwrap_or, Way}
+use Rattle.psci_tree.proofs.Words.{with_core_state, with_items, with_items_is, ℕ}
 use Rattle.psci_tree.specs.declared.tree.Tree.TheInside.{Inside}
 use Rattle.psci_tree.specs.contracts.tree.Tree.{the_invariant}
 use Rattle.psci_tree.proofs.DepthRows.{DepthRow, depth_row, ReadAt, read_at, depths_written}
+use Rattle.psci_state.specs.declared.cores.Change.{Change}
+use Rattle.psci_tree.specs.Changes.{core_changed}
+use Rattle.psci_tree.proofs.Slices.{whole_kept}
 
 -- what holds of the fields, by the value
 pub held_seen : (x : Inside) (v : TreeValue) → the_invariant x → the_view x ≡ v
@@ -115,3 +122,53 @@ depths_with x v n ws d is e same written p q =
     rows_seen x v ws _ _ is e
     (rw (written, same, depths_written (λ y. y.granted) (rows_in x.depths.items), p, ← is))
     (rw (written, same, depths_written (λ y. y.confirmed) (rows_in x.depths.items), q, ← is))
+
+-- After one core came into another state ----------------------------------------------------------
+
+core_valid : (t : TreeValue) (core : ℕ) (s : CoreState) → IsDomainTree t
+    → core < size_below t.levels → IsActivity s.activity
+    → IsDomainTree (record t { cores = set t.cores core s })
+core_valid t core s v h a =
+    let cores = length-set t.cores core s ∙ v.cores in
+    let asks : (k : ℕ) → IsActivity (get_or (set t.cores core s) k never_started).activity =
+    λ k. elim (cases_eq k core) [
+      | inl e ↦
+          let there : core < length t.cores = omega (arith, v.cores) in
+          rw (e, get_or-set_same t.cores core s never_started there) a
+      | inr d ↦ rw (get_or-set_other t.cores core k s never_started d) (v.asks k)
+    ] in
+    search
+
+-- what was held is held, with the new state of the core
+pub held_core : (root new : Domain) (cores : List CoreState) (ways : List Way) (t : TreeValue)
+    (core : ℕ) (s : CoreState) → IsHeld root cores ways t → core < size_below t.levels
+    → IsActivity s.activity → leaves new ≡ set t.cores core s
+    → ((k : ℕ) → child_counts k new ≡ child_counts k root) → IsKept new
+    → IsHeld new (set cores core s) ways (record t { cores = leaves new })
+held_core root new cores ways t core s h l a e same kept = rw e (record {
+  tied = record {
+    whole = whole_kept root new t.levels same h.tied.whole;
+    kept = kept;
+    valid = core_valid t core s h.tied.valid l a;
+  };
+  row = ap (λ cs. set cs core s) h.row;
+  lead = h.lead;
+})
+
+-- the state of a core, as the row of states has it
+pub state_held : (root : Domain) (cores : List CoreState) (ways : List Way) (t : TreeValue)
+    (core : ℕ) (x y : CoreState) → IsHeld root cores ways t → core < size_below t.levels
+    → x ≡ get_or cores core x → x ≡ get_or t.cores core y
+state_held root cores ways t core x y h l e =
+    let there : core < length t.cores = omega (arith, h.tied.valid.cores) in
+    e ∙ ap (λ cs. get_or cs core x) h.row ∙ get_or_default t.cores core x y there
+
+-- the value of the tree after the change
+pub core_value : (root : Domain) (cores : List CoreState) (ways : List Way) (t : TreeValue)
+    (core : ℕ) (x s : CoreState) (change : Change) (now : List CoreState)
+    → IsHeld root cores ways t → core < size_below t.levels → x ≡ get_or cores core x
+    → s ≡ core_changed change x → now ≡ set t.cores core s
+    → record t { cores = now }
+    ≡ with_core_state t core change.activity (unwrap_or change.started (known_at t core))
+core_value root cores ways t core x s change now h l e d n =
+    rw (n, d, state_held root cores ways t core x never_started h l e)

@@ -135,7 +135,7 @@ pub fn law_low()
 /// The known starts below a domain are summed, each core's own once: the sum of a core is its own,
 /// trees whose cores below have the same known starts have the same sum, and one start changes the
 /// sums on the core's path by what it changes of the core, and no others.
-#[tactic(auto, using(crate::proofs::Sums::known_laws), unfolding(crate::specs::Recount::known))]
+#[tactic(auto, using(crate::proofs::Looked::known_laws), unfolding(crate::specs::Recount::known))]
 pub fn law_known()
     ensures sum { (t : TreeValue) (n : Node)
         → known t n ≡ sum_by (λ c. known_at t c) (below_in t.levels n) }

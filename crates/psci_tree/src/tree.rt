@@ -128,7 +128,7 @@ impl Tree {
     }
 
     /// The sum of the known starts of the cores below a domain.
-    #[tactic(auto, using(crate::proofs::Recounted::known_is))]
+    #[tactic(auto, using(crate::proofs::PathStands::known_is))]
     pub fn known(&self, node: Node) -> u64
         requires { HasNodeIn self.now.levels node }
         ensures { result ≡ known self.now node }
@@ -137,7 +137,7 @@ impl Tree {
     }
 
     /// How many cores below a domain are running or pending.
-    #[tactic(auto, using(crate::proofs::Recounted::active_is))]
+    #[tactic(auto, using(crate::proofs::PathStands::active_is))]
     pub fn active(&self, node: Node) -> u32
         requires { HasNodeIn self.now.levels node }
         ensures { result ≡ active self.now node }
@@ -146,7 +146,7 @@ impl Tree {
     }
 
     /// How many cores below a domain are off or going off.
-    #[tactic(auto, using(crate::proofs::Recounted::off_is))]
+    #[tactic(auto, using(crate::proofs::PathStands::off_is))]
     pub fn off(&self, node: Node) -> u32
         requires { HasNodeIn self.now.levels node }
         ensures { result ≡ off self.now node }

@@ -2,9 +2,8 @@ use Rattle.psci_tree.proofs.Words.{◌+◌, ◌<◌, ◌∙◌, ◌≡◌, ◌�
 use Rattle.psci_tree.proofs.Words.{confirmed_of, Depths, get_or, granted_of, length, length-map}
 use Rattle.psci_tree.proofs.Words.{level_sizes, List, map, place_above, refl, set, Way, ℕ}
 use Rattle.psci_tree.specs.Way.{AreRows, LeadsTo}
-use Rattle.psci_tree.proofs.Cleared.{path_node, cleared_step, cleared_top}
+use Rattle.psci_tree.proofs.Granted.{path_node, cleared_step, cleared_top, row_lengths, rows_long}
 use Rattle.psci_tree.proofs.DepthRows.{DepthRow, depth_row, depths_written}
-use Rattle.psci_tree.proofs.Granted.{row_lengths, rows_long}
 use Rattle.psci_tree.proofs.grants.+clear_up.Goals as goal
 
 -- nothing is granted, and nothing confirmed

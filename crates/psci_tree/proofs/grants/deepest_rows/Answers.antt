@@ -2,9 +2,8 @@ use Rattle.std.proofs.lemmas.List.{map_push}
 use Rattle.psci_tree.proofs.Words.{◌<◌, ◌∙◌, ◌≡◌, ◌≤◌, ap, arith, Depths, filled, get_or, length}
 use Rattle.psci_tree.proofs.Words.{level_sizes, List, map, replicate, rows_with_depth, sym, take}
 use Rattle.psci_tree.proofs.Words.{take_all, ℕ}
-use Rattle.psci_tree.proofs.DepthRows.{filled_depths}
+use Rattle.psci_tree.proofs.DepthRows.{filled_depths, rows_more}
 use Rattle.psci_tree.proofs.Granted.{size_of_level, length_level_sizes}
-use Rattle.psci_tree.proofs.Shapes.{rows_more}
 use Rattle.psci_tree.proofs.grants.deepest_rows.Goals as goal
 
 pub loop-level-preserved : goal.loop-level-preserved

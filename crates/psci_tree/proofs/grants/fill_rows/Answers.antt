@@ -1,7 +1,7 @@
 use Rattle.psci_tree.proofs.Words.{◌++◌, ◌+◌, ◌<◌, ◌∙◌, ◌≡◌, [], ap, arith, Depths, drop, filled}
 use Rattle.psci_tree.proofs.Words.{get_or, get_or-map, length, length-map, List, map, map-set}
 use Rattle.psci_tree.proofs.Words.{replicate, set, suc, sym, take, ℕ}
-use Rattle.psci_tree.proofs.Shapes.{filled_more}
+use Rattle.psci_tree.proofs.DepthRows.{filled_more}
 use Rattle.psci_tree.proofs.grants.fill_rows.Goals as goal
 
 pub loop-level-preserved : goal.loop-level-preserved

@@ -1,8 +1,7 @@
-use Rattle.psci_tree.proofs.Words.{◌==◌, ◌∙◌, Active, all_off, ap, cond}
-use Rattle.psci_tree.proofs.Words.{false, known_at, place_above, with_core_state, ℕ}
+use Rattle.psci_tree.proofs.Words.{◌==◌, ◌∙◌, Active, all_off, ap, cond, false, known_at}
+use Rattle.psci_tree.proofs.Words.{place_above, with_core_state, ℕ}
 use Rattle.psci_tree.specs.Changes.{made_pending, start_of_life}
-use Rattle.psci_tree.proofs.Looked.{granted_with, granted_off}
-use Rattle.psci_tree.proofs.Looked.{confirmed_with, confirmed_off}
+use Rattle.psci_tree.proofs.Looked.{granted_with, granted_off, confirmed_with, confirmed_off}
 use Rattle.psci_tree.proofs.laws.law_start_of_life.Goals as goal
 
 pub returns-clause-granted : goal.returns-clause-granted

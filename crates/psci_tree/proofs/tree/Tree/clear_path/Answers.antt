@@ -1,5 +1,5 @@
 use Rattle.psci_tree.proofs.Words.{◌∙◌, arith, refl, sym}
-use Rattle.psci_tree.proofs.Cleared.{none_to_clear}
+use Rattle.psci_tree.proofs.Granted.{none_to_clear}
 use Rattle.psci_tree.proofs.Valid.{path_valid}
 use Rattle.psci_tree.proofs.Seen.{core_seen, way_seen, held_with, held_seen, rows_seen}
 use Rattle.psci_tree.proofs.tree.Tree.clear_path.Goals as goal
