@@ -7,11 +7,10 @@ use Rattle.psci_tree.proofs.Words.{BoardValue, Bool, branches, child_count, cond
 use Rattle.psci_tree.proofs.Words.{Domain, domains_down, drop, drop-cons, flat_map, get_or}
 use Rattle.psci_tree.proofs.Words.{get_or-flat_map, get_or-map, group_of, HasNodeIn, HasShape}
 use Rattle.psci_tree.proofs.Words.{index_in, IsTree, length, length-drop, length-flat_map}
-use Rattle.psci_tree.proofs.Words.{length-map, List, ltb-true, map, Node, refl, size_below, suc}
+use Rattle.psci_tree.proofs.Words.{length-map, List, map, nat_tests, Node, refl, size_below, suc}
 use Rattle.psci_tree.proofs.Words.{sum, sum-map, sym, take, take-map, true, zero, ℕ}
 use Rattle.psci_board.specs.Board.{height, nodes, parent, child_number}
 use Rattle.psci_board.proofs.Levels.{IsTree-drop}
-use Rattle.psci_tree.proofs.Valid.{both_tests}
 use Rattle.psci_tree.proofs.Slices.{down_step, widths_are}
 
 -- the domain at a place, as a child
@@ -69,9 +68,7 @@ some_of t x y e = grind arith
 below_node : (b : BoardValue) (n : Node)
     → (ltb n.level (height b) && ltb n.place (nodes b n.level)) ≡ true
     → (n.level < length b.levels) × (n.place < size_below (drop n.level b.levels))
-below_node b n e =
-    let tests = both_tests (ltb n.level (height b)) (ltb n.place (nodes b n.level)) e in
-    (ltb-true _ _ tests.0, ltb-true _ _ tests.1)
+below_node b n e = grind (arith, nat_tests)
 
 shape_drop : (n : Domain) (levels : List (List ℕ)) (l : ℕ) → HasShape n levels
     → HasShape n (drop l levels)

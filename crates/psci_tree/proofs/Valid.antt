@@ -2,13 +2,12 @@
 use Rattle.std.proofs.lemmas.Bool.{cases_lt}
 use Rattle.std.proofs.lemmas.List.{get_or_past}
 use Rattle.psci_tree.proofs.Words.{◌&&◌, ◌+◌, ◌-◌, ◌<◌, ◌==◌, ◌∙◌, ◌∷◌, ◌≡◌, ◌≤◌, [], add-one}
-use Rattle.psci_tree.proofs.Words.{all_off, arith, Bool, CoreState, eqb-true, get_or}
-use Rattle.psci_tree.proofs.Words.{get_or-replicate, granted_at, HasNodeIn, inl, inr, inside}
-use Rattle.psci_tree.proofs.Words.{IsActivity, IsDomainTree, IsTree, length, length-replicate}
-use Rattle.psci_tree.proofs.Words.{level_sizes, List, map, nat_tests, never_started, Node}
-use Rattle.psci_tree.proofs.Words.{place_above, refl, replicate, rows_with_depth, size_below}
-use Rattle.psci_tree.proofs.Words.{still_confirmed, suc, sym, TreeValue, true, with_path_cleared}
-use Rattle.psci_tree.proofs.Words.{zero, ℕ}
+use Rattle.psci_tree.proofs.Words.{all_off, arith, get_or, get_or-replicate, granted_at, HasNodeIn}
+use Rattle.psci_tree.proofs.Words.{inl, inr, inside, IsActivity, IsDomainTree, IsTree, length}
+use Rattle.psci_tree.proofs.Words.{length-replicate, level_sizes, List, map, nat_tests}
+use Rattle.psci_tree.proofs.Words.{never_started, Node, place_above, refl, replicate}
+use Rattle.psci_tree.proofs.Words.{rows_with_depth, size_below, still_confirmed, suc, sym}
+use Rattle.psci_tree.proofs.Words.{TreeValue, true, with_path_cleared, zero, ℕ}
 use Rattle.psci_tree.specs.Changes.{with_grant, MayGrant, with_confirmed}
 use Rattle.psci_tree.proofs.Granted.{zero_at, zero_lengths, same_up, size_of_level, row_lengths}
 use Rattle.psci_tree.proofs.Granted.{grant_at, depth_at, rows_at}
@@ -33,13 +32,9 @@ path_valid t core v = record {
 
 -- A granted depth ----------------------------------------------------------------------------
 
-pub both_tests : (a b : Bool) → (a && b) ≡ true → (a ≡ true) × (b ≡ true)
-both_tests a b h = grind arith
-
 pub is_domain : (n : Node) (l p : ℕ) → (n.level == l && n.place == p) ≡ true
     → (n.level ≡ l) × (n.place ≡ p)
-is_domain n l p h = let e = both_tests (n.level == l) (n.place == p) h in
-    (eqb-true _ _ e.0, eqb-true _ _ e.1)
+is_domain n l p h = grind (arith, nat_tests)
 
 pub confirmed_valid : (t : TreeValue) (n : Node) → IsDomainTree t → HasNodeIn t.levels n
     → IsDomainTree (with_confirmed t n)
@@ -108,19 +103,19 @@ rows_lengths : (counts : List ℕ) → map length (rows_with_depth counts 3) ≡
 rows_lengths [] = refl
 rows_lengths (n ∷ ns) = simp (length-replicate, rows_lengths ns)
 
-pub full_valid : (levels : List (List ℕ)) (cores : List CoreState) → IsTree levels
-    → length levels ≤ 3 → length cores ≡ size_below levels
-    → ((c : ℕ) → IsActivity (get_or cores c never_started).activity) → IsDomainTree (record {
-      levels = levels;
-      cores = cores;
-      granted = rows_with_depth (level_sizes levels) 3;
-      confirmed = rows_with_depth (level_sizes levels) 3;
-    })
-full_valid levels cores t h e a = record {
+pub all_idle : (n c : ℕ)
+    → IsActivity (get_or (replicate n never_started) c never_started).activity
+all_idle zero c = tt
+all_idle (suc n) zero = tt
+all_idle (suc n) (suc c) = all_idle n c
+
+pub all_off_valid : (levels : List (List ℕ)) → IsTree levels → length levels ≤ 3
+    → IsDomainTree (all_off levels)
+all_off_valid levels t h = record {
   tree = t;
   high = h;
-  cores = e;
-  asks = a;
+  cores = length-replicate (size_below levels) never_started;
+  asks = all_idle (size_below levels);
   granted = rows_lengths (level_sizes levels);
   confirmed = rows_lengths (level_sizes levels);
   deepest = λ l p. rows_le (level_sizes levels) l p;
@@ -131,15 +126,3 @@ full_valid levels cores t h e a = record {
       (rows_le (level_sizes levels) (l + 1) (place_above levels (l + 1) c));
   sure = λ l p. omega arith;
 }
-
-pub all_idle : (n c : ℕ)
-    → IsActivity (get_or (replicate n never_started) c never_started).activity
-all_idle zero c = tt
-all_idle (suc n) zero = tt
-all_idle (suc n) (suc c) = all_idle n c
-
-pub all_off_valid : (levels : List (List ℕ)) → IsTree levels → length levels ≤ 3
-    → IsDomainTree (all_off levels)
-all_off_valid levels t h =
-    full_valid levels _ t h (length-replicate (size_below levels) never_started)
-    (all_idle (size_below levels))
