@@ -36,22 +36,13 @@ right_of P xs ys h =
     subst (All P) (drop_at xs ys (length xs) refl) (All-drop P (length xs) (xs ++ ys) h)
 
 pub kept_head : (n : Domain) (ns : List Domain) → AreKept (n ∷ ns) → IsKept n
-kept_head n ns h = record {
-  each = λ k.
-      left_of IsRecount (domains_down k n) (flat_map (domains_down k) ns) (h.each k);
-}
+kept_head n ns h = record { each = λ k. left_of IsRecount (domains_down k n) _ (h.each k) }
 
 pub kept_tail : (n : Domain) (ns : List Domain) → AreKept (n ∷ ns) → AreKept ns
-kept_tail n ns h = record {
-  each = λ k.
-      right_of IsRecount (domains_down k n) (flat_map (domains_down k) ns) (h.each k);
-}
+kept_tail n ns h = record { each = λ k. right_of IsRecount (domains_down k n) _ (h.each k) }
 
 pub kept_cons : (n : Domain) (ns : List Domain) → IsKept n → AreKept ns → AreKept (n ∷ ns)
-kept_cons n ns h l = record {
-  each = λ k.
-      All-append IsRecount (domains_down k n) (flat_map (domains_down k) ns) (h.each k) (l.each k);
-}
+kept_cons n ns h l = record { each = λ k. All-append IsRecount _ _ (h.each k) (l.each k) }
 
 pub kept_nil : AreKept []
 kept_nil = record { each = λ k. All-nil IsRecount }

@@ -1,17 +1,16 @@
 //! What holds of the definitions alone: each law is the contract of a function that does nothing.
 
-ghost use Rattle.std.specs.Prelude.{◌≡◌, ℕ, ◌+◌, ◌<◌, ◌≤◌, ◌==◌, ◌&&◌, true, false};
-ghost use Rattle.std.specs.Prelude.{if◌then◌else◌, List, length, map, take, drop};
+ghost use Rattle.std.specs.Prelude.{◌≡◌, ℕ, ◌+◌, ◌<◌, ◌≤◌, ◌==◌, ◌&&◌, true, false, if◌then◌else◌};
+ghost use Rattle.std.specs.Prelude.{List, length, map, take, drop};
 ghost use Rattle.std.specs.List.{sum_by};
 ghost use Rattle.psci_board.specs.declared.node.Node.{Node};
 ghost use Rattle.psci_board.specs.Board.{HasNodeIn, size_below, place_above, below_in, span};
 ghost use Rattle.psci_state.specs.declared.cores.Activity.TheVariants.{Active, Suspended, Away};
 ghost use Rattle.psci_tree.specs.Recount.{TreeValue, IsDomainTree, active, ask_at, state_at};
 ghost use Rattle.psci_tree.specs.Recount.{granted_at, is_active_at, is_away_at, known, known_at};
-ghost use Rattle.psci_tree.specs.Recount.{is_confirmed_at};
-ghost use Rattle.psci_tree.specs.Recount.{low, never_started, off};
-ghost use Rattle.psci_tree.specs.Changes.{start_of_life, made_pending, started};
-ghost use Rattle.psci_tree.specs.Changes.{suspended, turned_off, with_grant, with_confirmed};
+ghost use Rattle.psci_tree.specs.Recount.{is_confirmed_at, low, never_started, off};
+ghost use Rattle.psci_tree.specs.Changes.{start_of_life, made_pending, started, suspended};
+ghost use Rattle.psci_tree.specs.Changes.{turned_off, with_grant, with_confirmed};
 
 use psci_board::law_spans;
 

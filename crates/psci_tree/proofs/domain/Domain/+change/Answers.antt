@@ -1,5 +1,5 @@
-use Rattle.psci_tree.proofs.Words.{◌-◌, ◌≡◌, ap, arith, branches, cores_in, Domain, get_or, IsWay}
-use Rattle.psci_tree.proofs.Words.{Keeps, Kept, length, rules, set, subst, sym, the_lemmas, ℕ}
+use Rattle.psci_tree.proofs.Words.{◌-◌, ◌≡◌, ap, arith, branches, cores_in, Domain, get_or, Keeps}
+use Rattle.psci_tree.proofs.Words.{Kept, length, rules, set, subst, sym, the_lemmas, ℕ}
 use Rattle.psci_tree.specs.declared.domain.Domain.TheViews.{out-Domain}
 use Rattle.psci_tree.proofs.Exchanged.{Through, above_of, child_exchange, child_kept, is_child}
 use Rattle.psci_tree.proofs.Exchanged.{cores_put, keeps_new, kept_put, part_below, shape_put}
@@ -11,8 +11,7 @@ use Rattle.psci_tree.proofs.domain.Domain.+change.Goals as goal
 pub returns-then-level-eq0-clause-kept : goal.returns-then-level-eq0-clause-kept
 returns-then-level-eq0-clause-kept t c =
     let own : Domain = c.args.self.now in
-    let none : length (branches own) ≡ 0 =
-    subst (λ j. IsWay j c.args.way.now own) c.if-level-eq0.true c.requires.exchange.descent.leads in
+    let none : length (branches own) ≡ 0 = rw c.if-level-eq0.true at c.requires.exchange.descent.leads in
     let here = kept_roll_core (record (out-Domain own) { core = c.args.state.now; kept = c.args.after.now }) none c.requires.exchange.comes in
     simp the_lemmas (simp the_lemmas at here)
 

@@ -1,6 +1,6 @@
 use Rattle.psci_tree.proofs.Words.{◌-◌, ◌∙◌, ◌∷◌, ◌≡◌, [], ap, AreKept, arith, branches, cores_in}
-use Rattle.psci_tree.proofs.Words.{CoreState, Domain, get_or, index_by, IsWay, Keeps, leaves}
-use Rattle.psci_tree.proofs.Words.{length, rules, set, subst, sym, the_lemmas, ℕ}
+use Rattle.psci_tree.proofs.Words.{CoreState, Domain, get_or, index_by, Keeps, leaves, length}
+use Rattle.psci_tree.proofs.Words.{rules, set, subst, sym, the_lemmas, ℕ}
 use Rattle.psci_tree.specs.declared.domain.Domain.TheViews.{out-Domain}
 use Rattle.psci_tree.proofs.Below.{children_roll, cores_of_core, cores_roll_core}
 use Rattle.psci_tree.proofs.Exchanged.{Through, above_of, child_descent, child_kept, is_child}
@@ -12,16 +12,14 @@ use Rattle.psci_tree.proofs.domain.Domain.+change_looking.Goals as goal
 pub returns-then-level-eq0-clause-kept : goal.returns-then-level-eq0-clause-kept
 returns-then-level-eq0-clause-kept t c =
     let own : Domain = c.args.self.now in
-    let none : length (branches own) ≡ 0 =
-    subst (λ j. IsWay j c.args.way.now own) c.if-level-eq0.true c.requires.descent.leads in
+    let none : length (branches own) ≡ 0 = rw c.if-level-eq0.true at c.requires.descent.leads in
     let here = kept_roll_core (record (out-Domain own) { core = c.args.state.now; kept = c.of_core-self.result }) none c.of_core-self.ensures in
     simp the_lemmas (simp the_lemmas at here)
 
 pub returns-then-level-eq0-clause-cores : goal.returns-then-level-eq0-clause-cores
 returns-then-level-eq0-clause-cores t c =
     let own : Domain = c.args.self.now in
-    let none : length (branches own) ≡ 0 =
-    subst (λ j. IsWay j c.args.way.now own) c.if-level-eq0.true c.requires.descent.leads in
+    let none : length (branches own) ≡ 0 = rw c.if-level-eq0.true at c.requires.descent.leads in
     let state : CoreState = c.args.state.now in
     let there : set (leaves own) (index_by c.args.level c.args.way.now own) state ≡ state ∷ [] =
     ap (λ j. set (leaves own) (index_by j c.args.way.now own) state) c.if-level-eq0.true
