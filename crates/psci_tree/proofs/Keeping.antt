@@ -4,7 +4,7 @@ use Rattle.std.proofs.lemmas.List.Elements.{All-append, All-nil, All-cons, All-d
 use Rattle.psci_tree.proofs.Words.{◌++◌, ◌+◌, ◌<◌, ◌^◌, ◌∷◌, ◌≡◌, ◌≤◌, [], All-take, AreKept, arith}
 use Rattle.psci_tree.proofs.Words.{branches, cond, cores_in, CoreState, count_by}
 use Rattle.psci_tree.proofs.Words.{count_by-le-length, Domain, Domain-F, domains_down, drop}
-use Rattle.psci_tree.proofs.Words.{drop_at, flat_map, get_or, is_active, is_away, IsKept, IsRecount}
+use Rattle.psci_tree.proofs.Words.{drop_at, get_or, is_active, is_away, IsKept, IsRecount}
 use Rattle.psci_tree.proofs.Words.{Keeps, Kept, kept_together, leaves, length, length-append, List}
 use Rattle.psci_tree.proofs.Words.{low_in, out-Domain, out-roll-Domain, recount, refl, roll-Domain}
 use Rattle.psci_tree.proofs.Words.{set, subst, suc, sum_by-append, sym, take, take_at, zero, ℕ}

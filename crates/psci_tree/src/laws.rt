@@ -26,7 +26,6 @@ pub fn law_states()
 }
 
 /// The state of each core after each change: that of the named core alone is another one.
-#[tactic(auto, using(crate::proofs::Looked::core_with), unfolding(crate::specs::Changes::suspended, crate::specs::Changes::turned_off, crate::specs::Changes::made_pending, crate::specs::Changes::started, crate::specs::Changes::with_grant))]
 pub fn law_cores()
     ensures suspended { (t : TreeValue) (core c : ℕ) (depths : List ℕ) → core < length t.cores
         → state_at (suspended t core depths) c ≡ (if core == c
@@ -45,7 +44,6 @@ pub fn law_cores()
 {}
 
 /// The granted depth of each domain after each change.
-#[tactic(auto, using(crate::proofs::Granted::grant_at, crate::proofs::Looked::granted_with), unfolding(crate::specs::Changes::suspended, crate::specs::Changes::turned_off, crate::specs::Changes::made_pending, crate::specs::Changes::started))]
 pub fn law_granted()
     ensures suspended { (t : TreeValue) (core l p : ℕ) (depths : List ℕ)
         → granted_at (suspended t core depths) l p ≡ granted_at t l p }
@@ -61,7 +59,6 @@ pub fn law_granted()
 {}
 
 /// Of which domains the granted depth is confirmed after each change.
-#[tactic(auto, using(crate::proofs::Looked::confirmed_laws), unfolding(crate::specs::Changes::suspended, crate::specs::Changes::turned_off, crate::specs::Changes::made_pending, crate::specs::Changes::started, crate::specs::Changes::with_confirmed))]
 pub fn law_confirmed()
     ensures suspended { (t : TreeValue) (core l p : ℕ) (depths : List ℕ)
         → is_confirmed_at (suspended t core depths) l p ≡ is_confirmed_at t l p }
@@ -88,7 +85,6 @@ pub fn law_confirmed()
 
 /// The start of a life: core 0 is pending and every other core off, none was started, and depth 3
 /// is granted to each domain off the path of core 0, and confirmed.
-#[tactic(auto, using(crate::proofs::Looked::core_with, crate::proofs::Looked::cores_off), unfolding(crate::specs::Changes::made_pending, crate::specs::Changes::start_of_life))]
 pub fn law_start_of_life()
     ensures cores { (levels : List (List ℕ)) (c : ℕ) → 0 < size_below levels
         → state_at (start_of_life levels) c ≡ (if 0 == c

@@ -1,8 +1,22 @@
-use Rattle.psci_tree.proofs.Words.{◌==◌, ◌∙◌, Active, all_off, ap, cond, false, known_at}
-use Rattle.psci_tree.proofs.Words.{place_above, with_core_state, ℕ}
+use Rattle.psci_tree.proofs.Words.{◌==◌, ◌∙◌, ◌≡◌, Active, all_off, ap, arith, cond, CoreState}
+use Rattle.psci_tree.proofs.Words.{false, known_at, never_started, place_above, with_core_state, ℕ}
 use Rattle.psci_tree.specs.Changes.{made_pending, start_of_life}
-use Rattle.psci_tree.proofs.Looked.{granted_with, granted_off, confirmed_with, confirmed_off}
+use Rattle.psci_tree.proofs.Looked.{core_with, core_off, cores_off, granted_with, granted_off}
+use Rattle.psci_tree.proofs.Looked.{confirmed_with, confirmed_off}
 use Rattle.psci_tree.proofs.laws.law_start_of_life.Goals as goal
+
+pub returns-clause-cores : goal.returns-clause-cores
+unfolding start_of_life made_pending
+returns-clause-cores c = λ levels d h.
+    let was : known_at (all_off levels) 0 ≡ 0 =
+    ap (λ (s : CoreState). s.known) (core_off levels 0) in
+    core_with (all_off levels) 0 Active (known_at (all_off levels) 0) d
+    (omega (arith, cores_off levels))
+    ∙ ap (λ (s : CoreState). cond (0 == d) (record {
+      activity = Active;
+      known = known_at (all_off levels) 0;
+    }) s) (core_off levels d)
+    ∙ ap (λ (k : ℕ). cond (0 == d) (record { activity = Active; known = k }) never_started) was
 
 pub returns-clause-granted : goal.returns-clause-granted
 unfolding start_of_life made_pending

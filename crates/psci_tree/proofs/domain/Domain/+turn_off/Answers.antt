@@ -1,9 +1,9 @@
 use Rattle.std.proofs.Common.{get_or-set_other}
 use Rattle.psci_tree.proofs.Words.{◌+◌, ◌<◌, ◌∙◌, ◌≡◌, ◌≢◌, ◌≤◌, ap, AreKept, arith, branches}
-use Rattle.psci_tree.proofs.Words.{child_counts, cores_in, count_by, Domain, Domain-F, false}
+use Rattle.psci_tree.proofs.Words.{child_counts, cores_in, count_by, Domain, Domain-F}
 use Rattle.psci_tree.proofs.Words.{get_or, get_or_default, is_away, leaves, length}
 use Rattle.psci_tree.proofs.Words.{length-replicate, length-set, List, nat_tests, never_started}
-use Rattle.psci_tree.proofs.Words.{replicate, rules, set, subst, suc, sym, the_lemmas, true}
+use Rattle.psci_tree.proofs.Words.{replicate, rules, set, subst, suc, sym, the_lemmas}
 use Rattle.psci_tree.proofs.Words.{with_item, ℕ}
 use Rattle.psci_tree.specs.declared.domain.Domain.TheViews.{out-Domain}
 use Rattle.psci_tree.proofs.Below.{children_roll, cores_le, cores_roll, length_of_domain}
@@ -143,19 +143,23 @@ off_below-requires-clause-few t c =
 pub returns-clause-cores : goal.returns-clause-cores
 returns-clause-cores t c =
     let at = (goal.at.returns-clause-cores t c).After-loop-number in
-    cores_roll (record (out-Domain c.loop-number.self) { kept = c.never_started-self-2.result }) (still_some t at)
+    cores_roll (record (out-Domain c.loop-number.self) { kept = c.never_started-self-2.result })
+    (still_some t at)
     ∙ cores_off t at
     ∙ ap (λ n. replicate n never_started) (sym (length_of_domain c.args.self.now (some t at)))
 
 pub returns-clause-shape : goal.returns-clause-shape
 returns-clause-shape t c =
-    off_widths c.args.self.now (record (out-Domain c.loop-number.self) { kept = c.never_started-self-2.result }) c.loop-number.number (all t (goal.at.returns-clause-shape t c).After-loop-number)
+    off_widths c.args.self.now
+    (record (out-Domain c.loop-number.self) { kept = c.never_started-self-2.result })
+    c.loop-number.number (all t (goal.at.returns-clause-shape t c).After-loop-number)
     c.loop-number.invariant.done
 
 pub returns-clause-kept : goal.returns-clause-kept
 returns-clause-kept t c =
     let at = (goal.at.returns-clause-kept t c).After-loop-number in
-    kept_roll (record (out-Domain c.loop-number.self) { kept = c.never_started-self-2.result }) (still_some t at) (never_keeps c.never_started-self-2.result (now t at) c.off_below.result
+    kept_roll (record (out-Domain c.loop-number.self) { kept = c.never_started-self-2.result })
+    (still_some t at) (never_keeps c.never_started-self-2.result (now t at) c.off_below.result
     (length (cores_in (branches c.args.self.now))) (cores_off t at)
     (c.off_below.ensures ∙ ap (λ ns. count_by (λ s. is_away s.activity) (cores_in ns))
     c.deref.ensures.value) c.never_started-self-2.ensures) (kept_off t at)

@@ -1,4 +1,4 @@
-use Rattle.psci_tree.proofs.Words.{◌∙◌, all_off, sym}
+use Rattle.psci_tree.proofs.Words.{◌∙◌, sym}
 use Rattle.psci_tree.proofs.Valid.{all_off_valid}
 use Rattle.psci_tree.proofs.tree.Tree.all_off.Goals as goal
 
