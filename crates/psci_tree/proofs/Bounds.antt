@@ -22,7 +22,9 @@ least_in f test a (suc n) c h i e =
     let first = cons_least (test a) f a (filter test (range_with_len (a + 1) n)) in
     elim (cases_eq a c) [
       | inl s ↦ omega (arith, first.1 (ap test s ∙ e), ap f s)
-      | inr s ↦ omega (arith, first.0, least_in f test (a + 1) n c (omega (arith, s)) (omega arith) e)
+      | inr s ↦
+          let rest = least_in f test (a + 1) n c (omega (arith, s)) (omega arith) e in
+          omega (arith, first.0, rest)
     ]
 
 cons_greatest : (b : Bool) (f : ℕ → ℕ) (a m : ℕ) (xs : List ℕ) → m ≤ least (map f xs)

@@ -71,7 +71,8 @@ pub read_at : (rows now : List (List Depths)) (n : Node) (x : Depths) → DepthR
 read_at rows now n x at same e =
     let is : x ≡ get_or (get_or rows n.level []) n.place x = rw same at (e x) in
     record {
-      granted = ap (λ d. d.granted) is ∙ sym (depth_read _ rows n.level n.place x at.level at.place);
+      granted = ap (λ d. d.granted) is
+          ∙ sym (depth_read _ rows n.level n.place x at.level at.place);
       confirmed = ap (λ d. d.confirmed) is
           ∙ sym (depth_read _ rows n.level n.place x at.level at.place);
     }

@@ -144,7 +144,8 @@ module _ {own n m : Domain} {l : ℕ} {way : List ℕ} {s : CoreState} (t : Thro
     keeps_new {k = k} {ls = ls} x e told =
         let j : ℕ = index_by l way own in
         let moved : AreMoved k (set (leaves own) j s) = rw e (moved_below t.above.kept x) in
-        let asked = told_right (leaves own) j s k _ ls (place_inside l way own x.descent.leads) moved
+        let asked = told_right (leaves own) j s k _ ls
+        (place_inside l way own x.descent.leads) moved
         x.comes told in
         let below = cores_new in
         record {

@@ -50,7 +50,8 @@ cores_down [] h = refl
 cores_down (n ∷ ns) h =
     let wide : is_width (child_count n) ≡ true = h 0 0 (omega arith) in
     let some : 0 < length (branches n) = grind (arith, nat_tests) in
-    simp (cores_of_domain n some, cores_down ns (λ k d l. h (suc k) d (omega arith)), flat_map-append)
+    let rest = cores_down ns (λ k d l. h (suc k) d (omega arith)) in
+    simp (cores_of_domain n some, rest, flat_map-append)
 
 -- domains without children are one core each
 cores_ends : (ns : List Domain) → sum (map child_count ns) ≡ 0 → length (cores_in ns) ≡ length ns

@@ -94,8 +94,9 @@ rows_le : (counts : List ℕ) (l p : ℕ) → get_or (get_or (rows_with_depth co
 rows_le [] l p = omega arith
 rows_le (n ∷ ns) zero p = elim (cases_lt p n) [
   | inl h ↦ rw (get_or-replicate {A = ℕ} n p 3 0 h) (omega arith)
-  | inr h ↦ rw (get_or_past {X = ℕ} (replicate n 3) p 0 (omega (arith, length-replicate {A = ℕ} n 3)))
-      (omega arith)
+  | inr h ↦
+      rw (get_or_past {X = ℕ} (replicate n 3) p 0
+      (omega (arith, length-replicate {A = ℕ} n 3))) (omega arith)
 ]
 rows_le (n ∷ ns) (suc l) p = rows_le ns l p
 

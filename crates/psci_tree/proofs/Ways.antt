@@ -135,7 +135,8 @@ leads_up root levels core ks l k d n t w h to e is lower =
     ) in
     let child : get_or (domains_down (suc k) root) q n ≡ get_or (branches (get_or row p d)) i n =
     rw (down_step k root, ← place) (get_or-flat_map branches row p i d n fits inside_too) in
-    let rest : Leads levels core ks l (get_or (branches n) i n) = rw (← is) at (rw child at lower) in
+    let rest : Leads levels core ks l (get_or (branches n) i n) =
+    rw (← is) at (rw child at lower) in
     record {
       way = (inside, rest.way);
       place = omega (

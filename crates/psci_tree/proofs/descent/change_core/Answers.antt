@@ -29,9 +29,6 @@ change-requires-clause-exchange c =
 pub returns-clause-cores : goal.returns-clause-cores
 returns-clause-cores c =
     let lead = c.requires.lead in
-    c.change.ensures.cores ∙ rw (
-      c.height.ensures.height,
-      (system_way c.args.root.now
-          c.args.board.now.levels c.args.core.number c.args.way.now.numbers lead.tree lead.whole lead.core
-          lead.way.numbers).1,
-    )
+    let down = system_way c.args.root.now c.args.board.now.levels c.args.core.number
+    c.args.way.now.numbers lead.tree lead.whole lead.core lead.way.numbers in
+    c.change.ensures.cores ∙ rw (c.height.ensures.height, down.1)

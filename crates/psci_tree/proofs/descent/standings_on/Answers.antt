@@ -97,7 +97,11 @@ loop-step-preserved c =
       lows = λ k d h i. elim (cases_eq k m) [
         | inl e ↦
             let fits : m < 4 = omega (arith, reach, c.requires.high) in
-            rw (e, get_or-set_same lows m low 0 (omega (arith, fits, c.loop-step.invariant.lows-long)))
+            rw (
+              e,
+              get_or-set_same lows m low 0
+                  (omega (arith, fits, c.loop-step.invariant.lows-long)),
+            )
             (ap (λ x. get_or (out-Domain x).kept.lows m 0) (here m d refl))
         | inr ne ↦
             get_or-set_other lows m k low 0 ne
@@ -106,7 +110,11 @@ loop-step-preserved c =
       known = λ k d h i. elim (cases_eq k m) [
         | inl e ↦
             let fits : m < 4 = omega (arith, reach, c.requires.high) in
-            rw (e, get_or-set_same sums m sum 0 (omega (arith, fits, c.loop-step.invariant.known-long)))
+            rw (
+              e,
+              get_or-set_same sums m sum 0
+                  (omega (arith, fits, c.loop-step.invariant.known-long)),
+            )
             (ap (λ x. (out-Domain x).kept.known) (here m d refl))
         | inr ne ↦
             get_or-set_other sums m k sum 0 ne

@@ -11,8 +11,11 @@ use Rattle.psci_tree.proofs.domain.Domain.+change.Goals as goal
 pub returns-then-level-eq0-clause-kept : goal.returns-then-level-eq0-clause-kept
 returns-then-level-eq0-clause-kept t c =
     let own : Domain = c.args.self.now in
-    let none : length (branches own) ≡ 0 = rw c.if-level-eq0.true at c.requires.exchange.descent.leads in
-    let here = kept_roll_core (record (out-Domain own) { core = c.args.state.now; kept = c.args.after.now }) none c.requires.exchange.comes in
+    let none : length (branches own) ≡ 0 =
+    rw c.if-level-eq0.true at c.requires.exchange.descent.leads in
+    let here = kept_roll_core
+    (record (out-Domain own) { core = c.args.state.now; kept = c.args.after.now }) none
+    c.requires.exchange.comes in
     simp the_lemmas (simp the_lemmas at here)
 
 pub exchanged-kept-requires-clause-was : goal.exchanged-kept-requires-clause-was

@@ -13,7 +13,9 @@ pub returns-then-level-eq0-clause-kept : goal.returns-then-level-eq0-clause-kept
 returns-then-level-eq0-clause-kept t c =
     let own : Domain = c.args.self.now in
     let none : length (branches own) ≡ 0 = rw c.if-level-eq0.true at c.requires.descent.leads in
-    let here = kept_roll_core (record (out-Domain own) { core = c.args.state.now; kept = c.of_core-self.result }) none c.of_core-self.ensures in
+    let here = kept_roll_core
+    (record (out-Domain own) { core = c.args.state.now; kept = c.of_core-self.result }) none
+    c.of_core-self.ensures in
     simp the_lemmas (simp the_lemmas at here)
 
 pub returns-then-level-eq0-clause-cores : goal.returns-then-level-eq0-clause-cores
@@ -24,7 +26,8 @@ returns-then-level-eq0-clause-cores t c =
     let there : set (leaves own) (index_by c.args.level c.args.way.now own) state ≡ state ∷ [] =
     ap (λ j. set (leaves own) (index_by j c.args.way.now own) state) c.if-level-eq0.true
     ∙ ap (λ cs. set cs 0 state) (cores_of_core own none) in
-    let here = cores_roll_core (record (out-Domain own) { core = state; kept = c.of_core-self.result }) none ∙ sym there in
+    let here = cores_roll_core
+    (record (out-Domain own) { core = state; kept = c.of_core-self.result }) none ∙ sym there in
     simp the_lemmas (simp the_lemmas at here)
 
 pub change_looking-requires : goal.change_looking-requires

@@ -18,7 +18,9 @@ returns-then-is_empty-clause-kept t c =
     let own : Domain = c.args.self.now in
     let size = (out-Domain own).children.ok.0 in
     let none : length (branches own) ≡ 0 = grind (arith, nat_tests) in
-    let here = kept_roll_core (record (out-Domain own) { core = never_started; kept = c.never_started-self.result }) none c.never_started-self.ensures in
+    let here = kept_roll_core
+    (record (out-Domain own) { core = never_started; kept = c.never_started-self.result }) none
+    c.never_started-self.ensures in
     simp the_lemmas (simp the_lemmas at here)
 
 -- the child that the loop is at, and what it was
@@ -74,7 +76,9 @@ loop-number-preserved t c =
       shape = λ k. c.turn_off.ensures.shape k ∙ ap (child_counts k) at.is;
       kept = c.turn_off.ensures.kept;
     } in
-    let half : Domain-F Domain = record (out-Domain c.loop-number.self) { children = with_item (out-Domain c.loop-number.self).children i new } in
+    let half : Domain-F Domain = record (out-Domain c.loop-number.self) {
+      children = with_item (out-Domain c.loop-number.self).children i new;
+    } in
     let up : suc i ≡ i + 1 = omega arith in
     let more : AreOffTo (i + 1) ns (set ms i new) = subst (λ j. AreOffTo j ns (set ms i new)) up
     (off_more i ns ms new own at.inside c.loop-number.invariant.done one) in
