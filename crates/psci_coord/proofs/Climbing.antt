@@ -1,6 +1,6 @@
 -- A claim is made going up, one level after another.
 use Rattle.std.proofs.Common.{◌≡◌, ℕ, zero, suc, ◌+◌, ◌-◌, ◌<◌, List, [], ◌∷◌, ◌++◌, length, ◌≢◌}
-use Rattle.std.proofs.Common.{refl, sym, ap, arith, ◌∙◌, append_assoc, append-nil, length-append}
+use Rattle.std.proofs.Common.{refl, arith, append_assoc, append-nil, length-append}
 use Rattle.std.proofs.lemmas.Bool.{lt-ltb}
 use Rattle.psci_board.specs.Board.{BoardValue, height}
 use Rattle.psci_messages.specs.declared.part.Part.{Part}
@@ -41,20 +41,14 @@ pub climbed-more : (b : BoardValue) (v : PowerView) (core : ℕ) (wanted : ℕ �
     → part.generation ≡ generation b v (domain_of b core level) → part.depth ≢ 0
     → IsClimbedTo b v core wanted (level + 1) (parts ++ part ∷ [])
 climbed-more b v core wanted level parts part c h l d g some =
-    let left : ℕ = height b + 1 - (level + 1) in
-    let one : height b + 1 - level ≡ suc left = omega arith in
+    let one : height b + 1 - level ≡ suc (height b + 1 - (level + 1)) = omega arith in
     let gs : ℕ → ℕ = λ m. generation b v (domain_of b core m) in
-    let wished : 0 < wanted level = omega (arith, d, some) in
     let same : record { level = level; depth = wanted level; generation = gs level } ≡ part =
     rw (l, d, g) refl in
-    let next : climb wanted gs level (height b + 1 - level)
-    ≡ part ∷ climb wanted gs (level + 1) left =
-    ap (climb wanted gs level) one ∙ climb-more wanted gs level left wished
-    ∙ ap (λ p. p ∷ climb wanted gs (level + 1) left) same in
+    let next = climb-more wanted gs level (height b + 1 - (level + 1)) (omega (arith, d, some)) in
     record {
       count = omega (arith, length-append parts (part ∷ []), c.count);
-      rest = append_assoc parts (part ∷ []) (climb wanted gs (level + 1) left)
-          ∙ sym (ap (λ xs. parts ++ xs) next) ∙ c.rest;
+      rest = rw append_assoc (rw (one, next, same) at c.rest);
     }
 
 -- all is claimed where nothing more is wanted, and above the system
@@ -63,5 +57,4 @@ pub climbed-ends : (b : BoardValue) (v : PowerView) (core : ℕ) (wanted : ℕ �
     → parts ≡ claims_of b v core wanted
 climbed-ends b v core wanted level parts c none =
     let gs : ℕ → ℕ = λ m. generation b v (domain_of b core m) in
-    sym (ap (λ xs. parts ++ xs) (climb-ends wanted gs level (height b + 1 - level) none)
-    ∙ append-nil parts) ∙ c.rest
+    rw (climb-ends wanted gs level (height b + 1 - level) none, append-nil) at c.rest

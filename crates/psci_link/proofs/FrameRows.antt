@@ -1,6 +1,7 @@
 -- How frames are spelled, and what bytes hold: known frames, and which bytes each field has.
-use Rattle.std.proofs.Common.{◌≡◌, [], ◌∷◌, arith, refl}
+use Rattle.std.proofs.Common.{◌≡◌, ℕ, List, [], ◌∷◌, arith, refl}
 use Rattle.std.specs.Prelude.{Bool, true, false, replicate, slice_set}
+use Rattle.psci_messages.specs.declared.part.Part.{Part}
 use Rattle.psci_messages.specs.declared.kind.Kind.{Kind}
 use Rattle.psci_messages.specs.declared.kind.Kind.TheVariants.{Down, Start, Off, Reset}
 use Rattle.psci_link.specs.declared.frame.Frame.{Frame}
@@ -11,25 +12,35 @@ use Rattle.psci_link.specs.Frame.{IsHeldIn, heading_for}
 use Rattle.psci_link.proofs.FaultRows.{down, acknowledged}
 use Rattle.psci_board.proofs.Tables.{◌⇒◌, Gives}
 
-abbrev down_frame : Frame
-down_frame = Message (record {
-  kind = Down;
-  core = record { number = 3 };
-  life = 1;
-  number = 1;
-  parts = record { level = 0; depth = 3; generation = 1 }
-      ∷ record { level = 1; depth = 3; generation = 1 } ∷ [];
+abbrev part : ℕ → ℕ → ℕ → Part
+part level depth generation = record { level = level; depth = depth; generation = generation }
+
+-- the kind, the core, the life and the number of a message, and its parts
+abbrev sent : Kind → ℕ → ℕ → ℕ → List Part → Frame
+sent kind core life number parts = Message (record {
+  kind = kind;
+  core = record { number = core };
+  life = life;
+  number = number;
+  parts = parts;
 })
 
-abbrev acknowledged_frame : Frame
-acknowledged_frame = Ack (record {
-  kind = Down;
-  core = record { number = 3 };
-  life = 1;
-  number = 1;
-  applied = 2;
-  stale = false;
+-- the same of an acknowledgement, how many parts were applied, and whether it is stale
+abbrev answered : Kind → ℕ → ℕ → ℕ → ℕ → Bool → Frame
+answered kind core life number applied stale = Ack (record {
+  kind = kind;
+  core = record { number = core };
+  life = life;
+  number = number;
+  applied = applied;
+  stale = stale;
 })
+
+abbrev down_frame : Frame
+down_frame = sent Down 3 1 1 (part 0 3 1 ∷ part 1 3 1 ∷ [])
+
+abbrev acknowledged_frame : Frame
+acknowledged_frame = answered Down 3 1 1 2 false
 
 headings_of_frames : Gives heading_for
     (down_frame ⇒ headings.Message Down
@@ -62,65 +73,32 @@ unfolding frame_in
 acknowledged_held = refl
 
 -- life before number, the highest byte first; a stale start
-start_spelled : frame_bytes (Ack (record {
-  kind = Start;
-  core = record { number = 63 };
-  life = 0x0102;
-  number = 0x03040506;
-  applied = 0;
-  stale = true;
-})) ≡ 0x50 ∷ 0x44 ∷ 0x22 ∷ 63 ∷ 0 ∷ 0 ∷ 1 ∷ 2 ∷ 3 ∷ 4 ∷ 5 ∷ 6 ∷ 0 ∷ replicate 40 0
+start_spelled : frame_bytes (answered Start 63 0x0102 0x03040506 0 true)
+    ≡ 0x50 ∷ 0x44 ∷ 0x22 ∷ 63 ∷ 0 ∷ 0 ∷ 1 ∷ 2 ∷ 3 ∷ 4 ∷ 5 ∷ 6 ∷ 0 ∷ replicate 40 0
 unfolding part_fields
 start_spelled = refl
 
 -- the last of 256 cores goes down with its cluster
-last_core_spelled : frame_bytes (Message (record {
-  kind = Down;
-  core = record { number = 255 };
-  life = 1;
-  number = 1;
-  parts = record { level = 0; depth = 3; generation = 1 }
-      ∷ record { level = 1; depth = 3; generation = 1 } ∷ [];
-})) ≡ slice_set down 3 0xff
+last_core_spelled : frame_bytes (sent Down 255 1 1 (part 0 3 1 ∷ part 1 3 1 ∷ []))
+    ≡ slice_set down 3 0xff
 unfolding part_fields
 last_core_spelled = refl
 
 last_core_held : frame_in (headings.Ack Start true)
-    (0x50 ∷ 0x44 ∷ 0x22 ∷ 0xff ∷ replicate 49 0)
-    ≡ Ack (record {
-      kind = Start;
-      core = record { number = 255 };
-      life = 0;
-      number = 0;
-      applied = 0;
-      stale = true;
-    })
+    (0x50 ∷ 0x44 ∷ 0x22 ∷ 0xff ∷ replicate 49 0) ≡ answered Start 255 0 0 0 true
 unfolding frame_in
 last_core_held = refl
 
 -- level, depth and generation, the highest byte first
-part_spelled : part_bytes (record { level = 2; depth = 1; generation = 0x0102030405060708 })
+part_spelled : part_bytes (part 2 1 0x0102030405060708)
     ≡ 2 ∷ 1 ∷ 1 ∷ 2 ∷ 3 ∷ 4 ∷ 5 ∷ 6 ∷ 7 ∷ 8 ∷ []
 part_spelled = refl
 
 abbrev message : Kind → Frame
-message kind = Message (record {
-  kind = kind;
-  core = record { number = 0 };
-  life = 0;
-  number = 0;
-  parts = [];
-})
+message kind = sent kind 0 0 0 []
 
 abbrev answer : Kind → Bool → Frame
-answer kind stale = Ack (record {
-  kind = kind;
-  core = record { number = 0 };
-  life = 0;
-  number = 0;
-  applied = 0;
-  stale = stale;
-})
+answer kind stale = answered kind 0 0 0 0 stale
 
 kind_bytes : Gives kind_byte
     (message Down ⇒ 0x01

@@ -1,25 +1,21 @@
 -- The laws of frames: the spelling of a frame of the board has no fault and holds the frame, and
 -- bytes without a fault are such a spelling.
-use Rattle.std.proofs.Common.{◌≡◌, ◌∙◌, ℕ, ◌^◌, ◌<◌, Bool, List, [], length, Some}
-use Rattle.std.proofs.Common.{None, refl, sym, ap, arith}
+use Rattle.std.proofs.Common.{◌≡◌, ◌∙◌, ℕ, ◌^◌, ◌<◌, List, [], length, Some, None, refl, sym, ap}
+use Rattle.std.proofs.Common.{arith}
 use Rattle.std.specs.Prelude.{◌==◌, slice_index}
 use Rattle.std.proofs.lemmas.Nat.{from_be_bytes-to_be_bytes_4}
 use Rattle.std.proofs.lemmas.Bool.{eqb-true, le-leb}
 use Rattle.std.proofs.lemmas.Option.{none-some}
-use Rattle.psci_board.specs.declared.node.Core.{Core}
 use Rattle.psci_board.specs.Board.{BoardValue, height}
-use Rattle.psci_messages.specs.declared.part.Part.{Part}
-use Rattle.psci_messages.specs.declared.kind.Kind.{Kind}
 use Rattle.psci_link.specs.declared.fault.FrameFault.{FrameFault}
 use Rattle.psci_link.specs.declared.frame.Frame.{Frame}
 use Rattle.psci_link.specs.declared.frame.Frame.TheVariants.{Message, Ack}
 use Rattle.psci_link.specs.declared.heading.Heading.{Heading}
-use Rattle.psci_link.specs.declared.heading.Heading.TheVariants as headings
 use Rattle.psci_messages.specs.Message.{is_climbing, is_falling, most_applied}
 use Rattle.psci_link.specs.Heading.{is_magic, heading_of, HasHeading}
-use Rattle.psci_link.specs.Frame.{frame_bytes, IsFrame, IsOf, is_within, parts_in}
-use Rattle.psci_link.specs.Frame.{word_at, heading_for}
-use Rattle.psci_link.specs.Frame.{part_fields_in, count_in, AreBytes, frame_in, first_fault}
+use Rattle.psci_link.specs.Frame.{frame_bytes, IsFrame, IsOf, is_within, parts_in, word_at}
+use Rattle.psci_link.specs.Frame.{heading_for, part_fields_in, count_in, AreBytes, frame_in}
+use Rattle.psci_link.specs.Frame.{first_fault}
 use Rattle.psci_link.proofs.Headings.{heading_of-byte, is-held, counted}
 use Rattle.psci_link.proofs.Places.{AreBytes-drop, AreBytes-take, four_bytes-fit, generations-fit}
 use Rattle.psci_link.proofs.Places.{length-parts_in, parts-in-places, length-places, unused-places}
@@ -27,6 +23,7 @@ use Rattle.psci_link.proofs.Faults.{HasNoFault, passed, has-no-fault, is-without
 use Rattle.psci_link.proofs.Faults.{first_fault-heading, one-heading, heading-among}
 use Rattle.psci_link.proofs.Written.{frame-written, frame-is-of}
 use Rattle.std.proofs.lemmas.Bool.Decides.{nat_tests}
+use Rattle.psci_link.specs.declared.heading.Heading.TheVariants as headings
 
 pub spelled-heading : (f : Frame) → IsFrame f → HasHeading (frame_bytes f) (heading_for f)
 spelled-heading (Message m) fits = record {
@@ -62,41 +59,17 @@ spelled-sound b (Ack a) fits of = record {
   within = refl;
 }
 
-same-message : (kind : Kind) (core : Core) (life l number n : ℕ) (parts ps : List Part) → life ≡ l
-    → number ≡ n
-    → parts ≡ ps → ◌≡◌ {A = Frame}
-    (Message (record { kind = kind; core = core; life = life; number = number; parts = parts }))
-    (Message (record { kind = kind; core = core; life = l; number = n; parts = ps }))
-same-message kind core life l number n parts ps a b c = cc
-
-same-ack : (kind : Kind) (core : Core) (life l number n applied : ℕ) (stale : Bool) → life ≡ l
-    → number ≡ n
-    → ◌≡◌ {A = Frame}
-    (Ack (record {
-      kind = kind;
-      core = core;
-      life = life;
-      number = number;
-      applied = applied;
-      stale
-          = stale;
-    }))
-    (Ack (record {
-      kind = kind;
-      core = core;
-      life = l;
-      number = n;
-      applied = applied;
-      stale
-          = stale;
-    }))
-same-ack kind core life l number n applied stale a b = cc
-
 pub spelled-held : (f : Frame) → IsFrame f → frame_in (heading_for f) (frame_bytes f) ≡ f
 unfolding frame_in
-spelled-held (Message m) fits =
-    grind (arith, nat_tests, same-message, from_be_bytes-to_be_bytes_4, parts-in-places)
-spelled-held (Ack a) fits = grind (arith, nat_tests, same-ack, from_be_bytes-to_be_bytes_4)
+spelled-held (Message m) fits = rw (
+  from_be_bytes-to_be_bytes_4 m.life fits.life,
+  from_be_bytes-to_be_bytes_4 m.number fits.number,
+  parts-in-places m.parts fits.generations,
+)
+spelled-held (Ack a) fits = rw (
+  from_be_bytes-to_be_bytes_4 a.life fits.life,
+  from_be_bytes-to_be_bytes_4 a.number fits.number,
+)
 
 -- the bytes of a frame of the board have no fault
 pub spelled-faultless : (b : BoardValue) (f : Frame) → IsFrame f → IsOf b f
@@ -173,3 +146,5 @@ frame-read b bytes fits none =
       frame-is-of b bytes third.0 sound,
       frame-written b bytes third.0 fits has sound,
     )
+
+pub ruleset frame_laws = (length-spelling, one-frame, spelled-faultless, frame-read)

@@ -1,6 +1,6 @@
 -- Kind bytes: each says what it was written for, and counts go with parts.
-use Rattle.std.proofs.Common.{◌≡◌, ℕ, ◌+◌, ◌*◌, ◌≤◌, Bool, true, false, List, []}
-use Rattle.std.proofs.Common.{length, Option, Some, refl, sym, arith, subst, inl, inr}
+use Rattle.std.proofs.Common.{◌≡◌, ℕ, ◌+◌, ◌*◌, ◌≤◌, Bool, true, List, [], length, Option, Some}
+use Rattle.std.proofs.Common.{refl, arith}
 use Rattle.std.specs.Prelude.{if◌then◌else◌, nat_le, ◌⊎◌}
 use Rattle.std.proofs.lemmas.Option.{same_Some, none-some, option_and_then_some}
 use Rattle.std.proofs.lemmas.Bool.{and_parts, and_from, eqb-true, leb-true, le-leb}
@@ -10,7 +10,7 @@ use Rattle.psci_messages.specs.declared.kind.Kind.{Kind}
 use Rattle.psci_messages.specs.declared.kind.Kind.TheVariants.{Down, Start, Off, Reset}
 use Rattle.psci_link.specs.declared.heading.Heading.{Heading}
 use Rattle.psci_link.specs.declared.heading.Heading.TheVariants.{Message, Ack}
-use Rattle.psci_messages.specs.Message.{is_climbing, is_falling, ArePartsOf, most_applied}
+use Rattle.psci_messages.specs.Message.{is_climbing, is_falling, ArePartsOf}
 use Rattle.psci_link.specs.Heading.{kind_of, heading_of, heading_with, allows_count, parts_of}
 use Rattle.psci_link.specs.Heading.{IsHeld}
 use Rattle.psci_link.specs.Frame.{kind_code}
@@ -24,8 +24,7 @@ heading_byte (Ack kind stale) = (if stale then 32 else 16) + kind_code kind
 chosen : {A : Type 0} (t : Bool) (x : A) (rest : Option A) (y : A)
     → (if t then Some x else rest) ≡ Some y
     → ((t ≡ true) × (x ≡ y)) ⊎ (rest ≡ Some y)
-chosen true x rest y e = inl (refl, same_Some x y e)
-chosen false x rest y e = inr e
+chosen t x rest y e = grind (arith, same_Some)
 
 kind_of-some : (code : ℕ) (kind : Kind) → kind_of code ≡ Some kind → code ≡ kind_code kind
 kind_of-some code kind e = grind (arith, nat_tests, chosen, eqb-true, none-some)
@@ -41,26 +40,11 @@ heading_of-some byte h e =
 
 -- the byte that is written for this says it
 pub heading_of-byte : (h : Heading) → heading_of (heading_byte h) ≡ Some h
-heading_of-byte (Message Down) = refl
-heading_of-byte (Message Start) = refl
-heading_of-byte (Message Off) = refl
-heading_of-byte (Message Reset) = refl
-heading_of-byte (Ack Down false) = refl
-heading_of-byte (Ack Start false) = refl
-heading_of-byte (Ack Off false) = refl
-heading_of-byte (Ack Reset false) = refl
-heading_of-byte (Ack Down true) = refl
-heading_of-byte (Ack Start true) = refl
-heading_of-byte (Ack Off true) = refl
-heading_of-byte (Ack Reset true) = refl
+heading_of-byte h = grind (arith, nat_tests)
 
 -- no frame has more than four parts
 pub parts_of-few : (h : Heading) (n : ℕ) → allows_count h n ≡ true → parts_of h n ≤ 4
-parts_of-few (Message Down) n e = leb-true n 4 (and_parts (nat_le 1 n) (nat_le n 4) e).1
-parts_of-few (Message Start) n e = grind (arith, nat_tests, leb-true, and_parts)
-parts_of-few (Message Off) n e = grind (arith, nat_tests, leb-true, and_parts)
-parts_of-few (Message Reset) n e = grind (arith, nat_tests, leb-true, and_parts)
-parts_of-few (Ack kind stale) n e = omega arith
+parts_of-few h n e = grind (arith, nat_tests, leb-true, and_parts)
 
 -- what was looked at is what every message and every acknowledgement keeps
 none-left : (n : ℕ) (ps : List Part) → length ps ≡ n → n ≤ 0 → ps ≡ []
@@ -69,18 +53,8 @@ none-left n ps same few = nil_from_length ps (omega arith)
 pub is-held : (h : Heading) (n : ℕ) (ps : List Part) → length ps ≡ parts_of h n
     → allows_count h n ≡ true
     → is_falling 3 ps ≡ true → is_climbing 0 ps ≡ true → IsHeld h n ps
-is-held (Message Down) n ps same allowed falling climbing =
-    let both = and_parts (nat_le 1 n) (nat_le n 4) allowed in
-    let some = leb-true 1 n both.0 in
-    let most = leb-true n 4 both.1 in
-    record { some = omega arith; most = omega arith; levels = climbing; depths = falling }
-is-held (Message Start) n ps same allowed falling climbing =
-    none-left n ps same (leb-true n 0 (and_parts (nat_le 0 n) (nat_le n 0) allowed).1)
-is-held (Message Off) n ps same allowed falling climbing =
-    none-left n ps same (leb-true n 0 (and_parts (nat_le 0 n) (nat_le n 0) allowed).1)
-is-held (Message Reset) n ps same allowed falling climbing =
-    none-left n ps same (leb-true n 0 (and_parts (nat_le 0 n) (nat_le n 0) allowed).1)
-is-held (Ack kind stale) n ps same allowed falling climbing = leb-true n (most_applied kind) allowed
+is-held h n ps same allowed falling climbing =
+    grind (arith, nat_tests, leb-true, and_parts, nil_from_length)
 
 -- the parts of a message go with its count, and hold what is looked at
 pub record Counted (kind : Kind) (ps : List Part) : Type 0 where
@@ -92,8 +66,7 @@ pub record Counted (kind : Kind) (ps : List Part) : Type 0 where
 nothing-counted : (kind : Kind) (ps : List Part) → ps ≡ [] → allows_count (Message kind) 0 ≡ true
     → Counted kind ps
 nothing-counted kind ps none allowed =
-    subst (λ (xs : List Part). Counted kind xs) (sym none)
-    (record { few = omega arith; allowed = allowed; falling = refl; climbing = refl })
+    rw none (record { few = omega arith; allowed = allowed; falling = refl; climbing = refl })
 
 pub counted : (kind : Kind) (ps : List Part) → ArePartsOf kind ps → Counted kind ps
 counted Down ps held = record {

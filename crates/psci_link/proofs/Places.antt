@@ -1,13 +1,13 @@
 -- The parts in their places: reading one more, and that reading and writing undo each other.
-use Rattle.std.proofs.Common.{◌≡◌, ◌∙◌, ℕ, zero, suc, ◌+◌, ◌-◌, ◌*◌, ◌^◌, ◌<◌, ◌≤◌, true, List, []}
-use Rattle.std.proofs.Common.{◌∷◌, ◌++◌, length, take, drop, replicate, refl, sym, ap, arith}
-use Rattle.std.proofs.Common.{append_assoc, drop-drop, take-add, length-drop, length-append}
+use Rattle.std.proofs.Common.{◌≡◌, ℕ, zero, suc, ◌+◌, ◌-◌, ◌*◌, ◌^◌, ◌<◌, ◌≤◌, true, List, [], ◌∷◌}
+use Rattle.std.proofs.Common.{◌++◌, length, take, drop, replicate, refl, ap, arith, append_assoc}
+use Rattle.std.proofs.Common.{drop-drop, take-add, length-drop, length-append, sym, ◌∙◌}
 use Rattle.std.specs.Prelude.{◌==◌}
 use Rattle.std.specs.List.{flat_map, list_all, AllByRecursion}
 use Rattle.std.specs.Int.{w32, w64, from_be_bytes}
 use Rattle.std.proofs.lemmas.Nat.{be_bytes_8, from_be_bytes-to_be_bytes_8}
 use Rattle.std.proofs.lemmas.List.{get_or-drop, length-take-le, take-append-drop, length-replicate}
-use Rattle.std.proofs.lemmas.List.{drop_at}
+use Rattle.std.proofs.lemmas.List.{drop_at, get_or-take, get_or_past, length-take}
 use Rattle.std.proofs.lemmas.Bool.{and_parts, eqb-true}
 use Rattle.psci_messages.specs.declared.part.Part.{Part}
 use Rattle.psci_link.specs.Frame.{AreBytes, part_in, parts_in, part_bytes, part_fields}
@@ -22,24 +22,14 @@ pub parts_in-more : (n : ℕ) (bytes : List ℕ)
     → parts_in (suc n) bytes ≡ parts_in n bytes ++ part_in (drop (10 * n) bytes) ∷ []
 parts_in-more zero bytes = refl
 parts_in-more (suc n) bytes =
-    let further : drop (10 * n) (drop 10 bytes) ≡ drop (10 * suc n) bytes
-    = drop-drop (10 * n) 10 bytes ∙ ap (λ (k : ℕ). drop k bytes) {x = 10 + 10 * n} {y = 10 * suc n}
-    (omega arith) in
-    ap (λ (ps : List Part). part_in bytes ∷ ps) (parts_in-more n (drop 10 bytes)
-    ∙ ap (λ (rest : List ℕ). parts_in n (drop 10 bytes) ++ part_in rest ∷ []) further)
+    let more : 10 * suc n ≡ 10 + 10 * n = omega arith in
+    rw (parts_in-more n (drop 10 bytes), drop-drop (10 * n) 10 bytes, more)
 
 pub AreBytes-drop : (n : ℕ) (bytes : List ℕ) → AreBytes bytes → AreBytes (drop n bytes)
 AreBytes-drop n bytes fits = λ i. rw get_or-drop (fits (n + i))
 
-first-or-later : (b : ℕ) (bytes : List ℕ) → b < 256 → AreBytes bytes → AreBytes (b ∷ bytes)
-first-or-later b bytes first later zero = first
-first-or-later b bytes first later (suc i) = later i
-
 pub AreBytes-take : (n : ℕ) (bytes : List ℕ) → AreBytes bytes → AreBytes (take n bytes)
-AreBytes-take zero bytes fits = λ i. omega arith
-AreBytes-take (suc n) [] fits = λ i. omega arith
-AreBytes-take (suc n) (b ∷ bytes) fits = first-or-later b (take n bytes) (fits 0)
-    (AreBytes-take n bytes (AreBytes-drop 1 (b ∷ bytes) fits))
+AreBytes-take n bytes fits = λ i. grind (arith, get_or-take, get_or_past, length-take, fits i)
 
 -- Numbers of four and of eight bytes.
 pub four_bytes-fit : (bytes : List ℕ) → AreBytes bytes → from_be_bytes w32 bytes < 2 ^ 32
@@ -61,14 +51,12 @@ generations-fit (suc n) bytes fits = (
 -- Reading, then writing: the bytes again.
 part-written : (bytes : List ℕ) → AreBytes bytes → 10 ≤ length bytes
     → part_bytes (part_in bytes) ≡ take 10 bytes
-part-written [] fits long = absurd (omega arith)
-part-written (a ∷ []) fits long = absurd (omega arith)
 part-written (a ∷ b ∷ rest) fits long =
-    let inside : AreBytes (take 8 rest) = AreBytes-take 8 rest
-    (AreBytes-drop 2 (a ∷ b ∷ rest) fits) in
+    let inside = AreBytes-take 8 rest (AreBytes-drop 2 (a ∷ b ∷ rest) fits) in
     let eight : length (take 8 rest) ≡ 8 = length-take-le 8 rest (omega arith) in
     ap (λ (bytes : List ℕ). a ∷ b ∷ bytes) (be_bytes_8 (take 8 rest)
     (from_be_bytes w64 (take 8 rest)) eight inside refl)
+part-written other fits long = absurd (omega arith)
 
 pub parts-written : (n : ℕ) (bytes : List ℕ) → AreBytes bytes → 10 * n ≤ length bytes
     → flat_map part_bytes (parts_in n bytes) ≡ take (10 * n) bytes
@@ -77,11 +65,9 @@ parts-written (suc n) bytes fits long =
     let further : 10 * n ≤ length (drop 10 bytes) = omega (arith, length-drop 10 bytes) in
     let rest = parts-written n (drop 10 bytes) (AreBytes-drop 10 bytes fits) further in
     let first = part-written bytes fits (omega arith) in
-    let together : take (10 + 10 * n) bytes ≡ take 10 bytes ++ take (10 * n) (drop 10 bytes)
-    = take-add 10 (10 * n) bytes in
     ap (λ (xs : List ℕ). xs ++ flat_map part_bytes (parts_in n (drop 10 bytes))) first
-    ∙ ap (λ (xs : List ℕ). take 10 bytes ++ xs) rest
-    ∙ (sym together ∙ ap (λ (k : ℕ). take k bytes) {x = 10 + 10 * n} {y = 10 * suc n} (omega arith))
+    ∙ ap (λ (xs : List ℕ). take 10 bytes ++ xs) rest ∙ sym (take-add 10 (10 * n) bytes)
+    ∙ ap (λ (k : ℕ). take k bytes) {x = 10 + 10 * n} {y = 10 * suc n} (omega arith)
 
 zeros : (bytes : List ℕ) → list_all (λ byte. byte == 0) bytes ≡ true
     → bytes ≡ replicate (length bytes) 0
@@ -110,11 +96,8 @@ pub parts-read : (ps : List Part) (rest : List ℕ) → AllByRecursion (λ p. p.
     → parts_in (length ps) (flat_map part_bytes ps ++ rest) ≡ ps
 parts-read [] rest fits = refl
 parts-read (p ∷ ps) rest fits =
-    let regrouped : flat_map part_bytes (p ∷ ps) ++ rest
-    ≡ part_bytes p ++ (flat_map part_bytes ps ++ rest)
-    = append_assoc (part_bytes p) (flat_map part_bytes ps) rest in
-    ap (parts_in (suc (length ps))) regrouped
-    ∙ rw (part-read p (flat_map part_bytes ps ++ rest) fits.0, parts-read ps rest fits.1) refl
+    ap (parts_in (suc (length ps))) (append_assoc (part_bytes p) (flat_map part_bytes ps) rest)
+    ∙ rw (part-read p (flat_map part_bytes ps ++ rest) fits.0, parts-read ps rest fits.1)
 
 pub parts-in-places : (ps : List Part) → AllByRecursion (λ p. p.generation < 2 ^ 64) ps
     → parts_in (length ps) (part_fields ps) ≡ ps

@@ -6,18 +6,17 @@ use Rattle.psci_board.specs.Board.{BoardValue}
 use Rattle.psci_link.specs.declared.fault.FrameFault.{FrameFault}
 use Rattle.psci_link.specs.declared.frame.Frame.{Frame}
 use Rattle.psci_link.specs.declared.heading.Heading.{Heading}
-use Rattle.psci_link.specs.declared.heading.Heading.TheVariants as headings
 use Rattle.psci_link.specs.Heading.{HasHeading}
 use Rattle.psci_messages.specs.declared.kind.Kind.{Kind}
 use Rattle.psci_link.specs.Frame.{AreBytes, IsFrame, IsHeldIn, IsOf, frame_bytes, frame_in}
-use Rattle.psci_link.specs.Frame.{fault_of_kind, first_fault, heading_for}
-use Rattle.psci_link.specs.Frame.{count_in}
+use Rattle.psci_link.specs.Frame.{fault_of_kind, first_fault, heading_for, count_in}
 use Rattle.psci_link.proofs.Faults.{has-no-fault, first_fault-heading}
-use Rattle.psci_link.proofs.Frames.{heading-spelled, is-read}
+use Rattle.psci_link.proofs.Frames.{heading-spelled, is-read, not-refused}
 use Rattle.psci_link.proofs.Headings.{counted, is-held}
 use Rattle.psci_link.proofs.Places.{length-parts_in}
 use Rattle.psci_link.proofs.Written.{frame-written, frame-is-of}
 use Rattle.std.proofs.lemmas.Bool.Decides.{nat_tests}
+use Rattle.psci_link.specs.declared.heading.Heading.TheVariants as headings
 
 -- what is read is spelled so, and the board's
 pub read-whole : (b : BoardValue) (bytes : List ℕ) (h : Heading) → AreBytes bytes
@@ -52,3 +51,6 @@ of-board b bytes h none = frame-is-of b bytes h (has-no-fault b bytes h none)
 pub few-held : (kind : Kind) (bytes : List ℕ) → IsHeldIn (headings.Message kind) bytes
     → count_in bytes ≤ 4
 few-held kind bytes held = grind (arith, nat_tests, counted, length-parts_in)
+
+-- what a read frame and a refused one are
+pub ruleset read_laws = (first_fault-heading, not-refused, held-in, of-board, spelled-kind)

@@ -8,23 +8,21 @@ use Rattle.std.proofs.lemmas.List.{length-drop, length-take-le}
 use Rattle.std.proofs.lemmas.Bool.{and_parts, eqb-true}
 use Rattle.psci_board.specs.Board.{BoardValue}
 use Rattle.psci_link.specs.declared.heading.Heading.{Heading}
-use Rattle.psci_link.specs.declared.heading.Heading.TheVariants as headings
 use Rattle.psci_link.specs.Heading.{is_magic, HasHeading}
-use Rattle.psci_link.specs.Frame.{kind_code, part_fields, frame_bytes, IsOf, parts_in, word_at}
-use Rattle.psci_link.specs.Frame.{part_fields_in}
-use Rattle.psci_link.specs.Frame.{count_in, AreBytes, frame_in}
-use Rattle.psci_link.proofs.Headings.{heading_byte, heading_of-some, parts_of-few}
+use Rattle.psci_link.specs.Frame.{frame_bytes, IsOf, word_at, part_fields_in, count_in, AreBytes}
+use Rattle.psci_link.specs.Frame.{frame_in}
+use Rattle.psci_link.proofs.Headings.{heading_of-some, parts_of-few}
 use Rattle.psci_link.proofs.Places.{AreBytes-drop, AreBytes-take, length-parts_in, places-written}
 use Rattle.psci_link.proofs.Faults.{HasNoFault}
 use Rattle.std.proofs.lemmas.Bool.Decides.{nat_tests}
+use Rattle.psci_link.specs.declared.heading.Heading.TheVariants as headings
 
 -- the bytes of a frame from their fields
-same-fields : (kind k core count n : ℕ) (lives ls numbers ns parts ps : List ℕ) → kind ≡ k
-    → lives ≡ ls
-    → numbers ≡ ns → count ≡ n → parts ≡ ps
+same-fields : {kind k count n : ℕ} {lives ls numbers ns parts ps : List ℕ} (core : ℕ) → kind ≡ k
+    → lives ≡ ls → numbers ≡ ns → count ≡ n → parts ≡ ps
     → (0x50 ∷ 0x44 ∷ kind ∷ core ∷ lives ++ (numbers ++ count ∷ [])) ++ parts
     ≡ (0x50 ∷ 0x44 ∷ k ∷ core ∷ ls ++ (ns ++ n ∷ [])) ++ ps
-same-fields kind k core count n lives ls numbers ns parts ps a b c d e = cc
+same-fields core a b c d e = cc
 
 -- four bytes of a list, as a number and back
 number-written : (bytes : List ℕ) (start : ℕ) → AreBytes bytes → start + 4 ≤ length bytes
@@ -40,57 +38,33 @@ number-written bytes start fits long =
 frame-fields : (bytes : List ℕ) → is_magic bytes ≡ true → length bytes ≡ 53
     → (0x50 ∷ 0x44 ∷ slice_index bytes 2 ∷ slice_index bytes 3 ∷ slice_range bytes 4 8
     ++ (slice_range bytes 8 12 ++ count_in bytes ∷ [])) ++ part_fields_in bytes ≡ bytes
-frame-fields [] magic whole = absurd (omega (arith, whole))
-frame-fields (a ∷ []) magic whole = absurd (omega (arith, whole))
-frame-fields (a ∷ b ∷ []) magic whole = absurd (omega (arith, whole))
-frame-fields (a ∷ b ∷ c ∷ []) magic whole = absurd (omega (arith, whole))
-frame-fields (a ∷ b ∷ c ∷ d ∷ []) magic whole = absurd (omega (arith, whole))
-frame-fields (a ∷ b ∷ c ∷ d ∷ e ∷ []) magic whole = absurd (omega (arith, whole))
-frame-fields (a ∷ b ∷ c ∷ d ∷ e ∷ f ∷ []) magic whole = absurd (omega (arith, whole))
-frame-fields (a ∷ b ∷ c ∷ d ∷ e ∷ f ∷ g ∷ []) magic whole = absurd (omega (arith, whole))
-frame-fields (a ∷ b ∷ c ∷ d ∷ e ∷ f ∷ g ∷ h ∷ []) magic whole = absurd (omega (arith, whole))
-frame-fields (a ∷ b ∷ c ∷ d ∷ e ∷ f ∷ g ∷ h ∷ i ∷ []) magic whole = absurd (omega (arith, whole))
-frame-fields (a ∷ b ∷ c ∷ d ∷ e ∷ f ∷ g ∷ h ∷ i ∷ j ∷ []) magic whole
-    = absurd (omega (arith, whole))
-frame-fields (a ∷ b ∷ c ∷ d ∷ e ∷ f ∷ g ∷ h ∷ i ∷ j ∷ k ∷ []) magic whole
-    = absurd (omega (arith, whole))
-frame-fields (a ∷ b ∷ c ∷ d ∷ e ∷ f ∷ g ∷ h ∷ i ∷ j ∷ k ∷ l ∷ []) magic whole
-    = absurd (omega (arith, whole))
 frame-fields (a ∷ b ∷ c ∷ d ∷ e ∷ f ∷ g ∷ h ∷ i ∷ j ∷ k ∷ l ∷ m ∷ rest) magic whole =
     grind (arith, nat_tests, and_parts, eqb-true)
+frame-fields other magic whole = absurd (omega (arith, whole))
 
 pub frame-written : (b : BoardValue) (bytes : List ℕ) (h : Heading) → AreBytes bytes
     → HasHeading bytes h → HasNoFault b bytes h → frame_bytes (frame_in h bytes) ≡ bytes
 unfolding frame_in
 frame-written b bytes (headings.Message kind) fits has sound =
-    let n = count_in bytes in
-    let parts = parts_in n (part_fields_in bytes) in
-    let forty : length (part_fields_in bytes) ≡ 40 = omega
-    (arith, length-drop 13 bytes, has.whole) in
-    same-fields (kind_code kind) (slice_index bytes 2) (slice_index bytes 3) (length parts) n
-    (to_be_bytes w32 (word_at bytes 4)) (slice_range bytes 4 8)
-    (to_be_bytes w32 (word_at bytes 8)) (slice_range bytes 8 12) (part_fields parts)
-    (part_fields_in bytes)
+    let forty : length (part_fields_in bytes) ≡ 40 =
+    omega (arith, length-drop 13 bytes, has.whole) in
+    same-fields (slice_index bytes 3)
     (sym (heading_of-some (slice_index bytes 2) (headings.Message kind) has.kind))
     (number-written bytes 4 fits (omega (arith, has.whole)))
     (number-written bytes 8 fits (omega (arith, has.whole)))
-    (length-parts_in n (part_fields_in bytes))
-    (places-written n (part_fields_in bytes) (AreBytes-drop 13 bytes fits) forty
-    (parts_of-few (headings.Message kind) n sound.allowed) sound.unused)
+    (length-parts_in (count_in bytes) (part_fields_in bytes))
+    (places-written (count_in bytes) (part_fields_in bytes) (AreBytes-drop 13 bytes fits) forty
+    (parts_of-few (headings.Message kind) (count_in bytes) sound.allowed) sound.unused)
     ∙ frame-fields bytes has.magic has.whole
 frame-written b bytes (headings.Ack kind stale) fits has sound =
-    let forty : length (part_fields_in bytes) ≡ 40 = omega
-    (arith, length-drop 13 bytes, has.whole) in
-    same-fields (heading_byte (headings.Ack kind stale)) (slice_index bytes 2) (slice_index bytes 3)
-    (count_in bytes) (count_in bytes)
-    (to_be_bytes w32 (word_at bytes 4)) (slice_range bytes 4 8)
-    (to_be_bytes w32 (word_at bytes 8)) (slice_range bytes 8 12) (part_fields [])
-    (part_fields_in bytes)
+    let forty : length (part_fields_in bytes) ≡ 40 =
+    omega (arith, length-drop 13 bytes, has.whole) in
+    same-fields (slice_index bytes 3)
     (sym (heading_of-some (slice_index bytes 2) (headings.Ack kind stale) has.kind))
     (number-written bytes 4 fits (omega (arith, has.whole)))
     (number-written bytes 8 fits (omega (arith, has.whole))) refl
-    (places-written 0 (part_fields_in bytes) (AreBytes-drop 13 bytes fits) forty
-    (omega arith) sound.unused)
+    (places-written 0 (part_fields_in bytes) (AreBytes-drop 13 bytes fits) forty (omega arith)
+    sound.unused)
     ∙ frame-fields bytes has.magic has.whole
 
 pub frame-is-of : (b : BoardValue) (bytes : List ℕ) (h : Heading) → HasNoFault b bytes h

@@ -1,15 +1,13 @@
 //! Reading frames.
 
-ghost use Rattle.std.specs.Prelude.{◌≡◌, ◌≤◌, ◌<◌, ◌+◌, ◌*◌, Ok, Some, None};
-ghost use Rattle.std.specs.Prelude.{MatchResult, IfOk, IfErr};
-ghost use Rattle.std.specs.Prelude.{length, slice_index};
+ghost use Rattle.std.specs.Prelude.{◌≡◌, ◌≤◌, ◌<◌, ◌+◌, ◌*◌, Ok, Some, None, MatchResult, IfOk};
+ghost use Rattle.std.specs.Prelude.{IfErr, length, slice_index};
 ghost use Rattle.psci_link.specs.declared.frame.Frame.TheVariants as frames;
 ghost use Rattle.psci_link.specs.declared.heading.Heading.TheVariants as headings;
 ghost use Rattle.psci_link.specs.Heading.{parts_of, HasHeading};
 ghost use Rattle.psci_board.specs.Board.{BoardValue};
 ghost use Rattle.std.specs.Prelude.{◌==◌, ◌&&◌};
-ghost use Rattle.psci_link.specs.Frame.{frame_bytes, IsFrame, IsOf, parts_in};
-ghost use Rattle.psci_link.specs.Frame.{word_at};
+ghost use Rattle.psci_link.specs.Frame.{frame_bytes, IsFrame, IsOf, parts_in, word_at};
 ghost use Rattle.psci_link.specs.Frame.{part_fields_in, count_in, fault_of_kind, fault_of_parts};
 ghost use Rattle.psci_link.specs.Frame.{IsHeldIn, first_fault, frame_in, heading_for};
 ghost use Rattle.psci_link.specs.Frame.{is_unused_after};
@@ -43,6 +41,7 @@ pub fn decode(bytes: &[u8], board: &Board) -> Result<Frame, FrameFault>
 /// frame: `message_in` and `ack_in` read what the caller wants of it. Compiled into its callers, so
 /// that a kind is never written to memory.
 #[inline(always)]
+#[tactic(auto, using(crate::proofs::Reading::read_laws))]
 pub fn heading_on(bytes: &[u8], board: &Board) -> Result<Heading, FrameFault>
     ensures heading { IfOk result (HasHeading bytes.now) }
     ensures held { IfOk result (λ heading. IsHeldIn heading bytes.now) }

@@ -1,9 +1,8 @@
 -- Two climbs that want the same as far as the first of them goes.
-use Rattle.std.proofs.Common.{◌≡◌, ℕ, zero, suc, ◌+◌, ◌<◌, ◌≤◌, [], refl, ap, sym, ◌∙◌, arith, inl}
-use Rattle.std.proofs.Common.{inr}
+use Rattle.std.proofs.lemmas.Bool.Decides.{nat_tests}
+use Rattle.std.proofs.Common.{◌≡◌, ℕ, zero, suc, ◌+◌, ◌<◌, ◌≤◌, [], refl, sym, ◌∙◌, arith, inl, inr}
 use Rattle.std.specs.Prelude.{slice_index, nat_le, if◌then◌else◌}
-use Rattle.std.proofs.lemmas.Bool.{cases_lt, lt-ltb, le-leb, lt-leb}
-use Rattle.std.proofs.Math.Nat.{eq-zero-or-pos}
+use Rattle.std.proofs.lemmas.Bool.{cases_lt, le-leb, lt-leb}
 use Rattle.psci_board.specs.Board.{BoardValue, height}
 use Rattle.psci_state.specs.Ask.{deepest_of}
 use Rattle.psci_messages.specs.View.{PowerView, domain_of, generation}
@@ -22,13 +21,9 @@ climb-same : (f g gs : ℕ → ℕ) (level count top : ℕ) → level ≤ top + 
 climb-same f g gs level zero top h same end_f end_g = refl
 climb-same f g gs level (suc count) top h same end_f end_g = elim (cases_lt level (top + 1)) [
   | inl below ↦
-      let here = same level (omega arith) (omega arith) in
       let rest = climb-same f g gs (level + 1) count top (omega arith)
       (λ l i j. same l i (omega arith)) (λ i. end_f (omega arith)) (λ i. end_g (omega arith)) in
-      elim (eq-zero-or-pos (g level)) [
-        | inl none ↦ rw (here, none) refl
-        | inr some ↦ rw (here, lt-ltb 0 (g level) some, rest) refl
-      ]
+      rw (same level (omega arith) (omega arith), rest)
   | inr above ↦
       let at : level ≡ top + 1 = omega arith in
       let none_f : f level ≡ 0 = rw at (end_f (omega arith)) in
@@ -39,21 +34,13 @@ climb-same f g gs level (suc count) top h same end_f end_g = elim (cases_lt leve
 -- the deepest ask up to a level
 deepest-at : (top level : ℕ) → level ≤ 3
     → slice_index (deepest_of top) level ≡ (if nat_le level top then 3 else 0)
-deepest-at top zero h = refl
-deepest-at top (suc zero) h = refl
-deepest-at top (suc (suc zero)) h = refl
-deepest-at top (suc (suc (suc zero))) h = refl
-deepest-at top (suc (suc (suc (suc level)))) h = absurd (omega arith)
+deepest-at top level h = grind (arith, nat_tests)
 
 deepest-below : (top level : ℕ) → level ≤ 3 → level ≤ top → slice_index (deepest_of top) level ≡ 3
-deepest-below top level h i =
-    deepest-at top level h
-    ∙ ap (λ t. if t then 3 else 0) (le-leb level top i)
+deepest-below top level h i = rw (deepest-at top level h, le-leb level top i)
 
 deepest-above : (top level : ℕ) → level ≤ 3 → top < level → slice_index (deepest_of top) level ≡ 0
-deepest-above top level h i =
-    deepest-at top level h
-    ∙ ap (λ t. if t then 3 else 0) (lt-leb level top i)
+deepest-above top level h i = rw (deepest-at top level h, lt-leb level top i)
 
 -- a core that asks for power-down as far as all is off asks for what a core that goes off claims
 pub own-off : (b : BoardValue) (v : PowerView) (core top : ℕ) → height b ≤ 3 → top ≤ height b

@@ -1,15 +1,14 @@
 -- How many cores below a domain pass a test, and whether none or all do.
-use Rattle.std.proofs.Common.{◌≡◌, ℕ, ◌+◌, Bool, true, false, ◌==◌, List, length}
-use Rattle.std.proofs.Common.{refl, ap, sym, ◌∙◌, arith, Some}
+use Rattle.std.proofs.Common.{◌≡◌, ℕ, ◌+◌, Bool, true, false, ◌==◌, List, length, refl, ap, sym}
+use Rattle.std.proofs.Common.{◌∙◌, arith, Some}
 use Rattle.std.specs.Prelude.{not}
 use Rattle.std.specs.List.{count_by, list_all}
-use Rattle.std.proofs.lemmas.Bool.{eq-eqb, lt-ltb, le-leb}
+use Rattle.std.proofs.lemmas.Bool.{eq-eqb, lt-ltb, le-leb, ne_eqb}
 use Rattle.psci_board.specs.declared.node.Node.{Node}
 use Rattle.psci_board.specs.declared.span.CoreSpan.{CoreSpan}
 use Rattle.psci_board.specs.Board.{BoardValue, HasNode, up, below, span, cores_below, height, nodes}
 use Rattle.psci_tree.specs.Recount.{TreeValue, active, off}
 use Rattle.psci_tree.proofs.Ranges.{all_counted, counted_both}
-use Rattle.std.proofs.lemmas.Bool.{ne_eqb}
 use Rattle.psci_messages.specs.View.{is_idle, is_all_away}
 use Rattle.psci_messages.specs.Looked.{view_of}
 

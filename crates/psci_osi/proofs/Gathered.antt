@@ -1,6 +1,7 @@
 -- Shallow domains are gathered child by child, and level by level.
-use Rattle.std.proofs.Common.{◌≡◌, ℕ, ◌+◌, ◌-◌, ◌<◌, List, [], ◌∷◌, ◌++◌, refl, ap, sym, ◌∙◌}
-use Rattle.std.proofs.Common.{arith, map, Some, zero, suc, append-nil}
+use Rattle.std.proofs.lemmas.List.{map-id}
+use Rattle.std.proofs.Common.{◌≡◌, ℕ, ◌+◌, ◌-◌, ◌<◌, List, [], ◌∷◌, ◌++◌, refl, ap, sym, ◌∙◌, arith}
+use Rattle.std.proofs.Common.{map, Some, append-nil}
 use Rattle.std.specs.Prelude.{Option, flat_map, slice_index}
 use Rattle.std.specs.List.{range_with_len}
 use Rattle.std.proofs.lemmas.Bool.{lt-ltb}
@@ -34,41 +35,27 @@ first_children-more b n m count h e =
     let here : child b n count ≡ Some (record { level = n.level - 1; place = first + count }) =
     rw (lt-ltb count (children b n) h) refl in
     let same : record { level = n.level - 1; place = first + count } ≡ m = cc (sym here ∙ e) in
-    map-range_with_len_more (λ place. record { level = n.level - 1; place = place }) first count
-    (first + count) refl
-    ∙ ap (λ x. first_children b n count ++ x ∷ []) same
+    rw (← same) (map-range_with_len_more (λ place. record { level = n.level - 1; place = place })
+    first count (first + count) refl)
 
 pub child-refusal-more : (b : BoardValue) (v : PowerView) (depth own : ℕ) (n m : Node) (count : ℕ)
     (fault : Option Osi) → count < children b n → child b n count ≡ Some m
     → fault ≡ refusal b v (granted_less v depth (elsewhere own (first_children b n count)))
     → worse fault (refusal b v (granted_less v depth (elsewhere own (m ∷ []))))
     ≡ refusal b v (granted_less v depth (elsewhere own (first_children b n (count + 1))))
-child-refusal-more b v depth own n m count fault h e so =
-    let before : List Node = first_children b n count in
-    let all : granted_less v depth (elsewhere own (first_children b n (count + 1)))
-    ≡ granted_less v depth (elsewhere own before) ++ granted_less v depth (elsewhere own (m ∷ [])) =
-    ap (λ ns. granted_less v depth (elsewhere own ns)) (first_children-more b n m count h e)
-    ∙ ap (granted_less v depth) (filter-append _ before (m ∷ []))
-    ∙ filter-append _ (elsewhere own before) (elsewhere own (m ∷ [])) in
-    ap (λ f. worse f (refusal b v (granted_less v depth (elsewhere own (m ∷ []))))) so
-    ∙ sym (refusal-append b v (granted_less v depth (elsewhere own before))
-    (granted_less v depth (elsewhere own (m ∷ []))))
-    ∙ ap (refusal b v) (sym all)
+child-refusal-more b v depth own n m count fault h e so = rw (
+  first_children-more b n m count h e,
+  filter-append,
+  filter-append,
+  refusal-append,
+  so,
+)
 
 -- Level by level ---------------------------------------------------------------------------------
 
--- one number more
-range-next : (a n : ℕ) → range_with_len a (suc n) ≡ range_with_len a n ++ (a + n) ∷ []
-range-next a zero = let same : a + 0 ≡ a = omega arith in rw same refl
-range-next a (suc n) =
-    let at : a + suc n ≡ a + 1 + n = omega arith in
-    rw at (ap (λ xs. a ∷ xs) (range-next (a + 1) n))
-
 range-more : (a n next : ℕ) → next ≡ a + n
     → range_with_len a (n + 1) ≡ range_with_len a n ++ next ∷ []
-range-more a n next e =
-    let more : n + 1 ≡ suc n = omega arith in
-    rw (more, e) (range-next a n)
+range-more a n next e = simp map-id at (map-range_with_len_more (λ x. x) a n next (sym e))
 
 -- the shallow domains of an ask at so many levels from 1 up
 abbrev pub shallow_to : BoardValue → PowerView → ℕ → List ℕ → ℕ → List Node
@@ -81,20 +68,16 @@ pub level-refusal-more : (b : BoardValue) (v : PowerView) (core : ℕ) (ask : Li
     ≡ refusal b v (shallow_to b v core ask (level + 1))
 unfolding shallow_at
 level-refusal-more b v core ask level fault so =
-    let here : List Node = granted_less v (own_wish ask (level + 1))
-    (elsewhere (up b level core) (children_of b (domain_of b core (level + 1)))) in
     let below : level + 1 - 1 ≡ level = omega arith in
-    let is : shallow_at b v core ask (level + 1) ≡ here = rw below refl in
-    let numbers : range_with_len 1 (level + 1) ≡ range_with_len 1 level ++ (level + 1) ∷ [] =
-    range-more 1 level (level + 1) (omega arith) in
-    let all : shallow_to b v core ask (level + 1) ≡ shallow_to b v core ask level ++ here =
-    ap (flat_map (shallow_at b v core ask)) numbers
-    ∙ flat_map-append (shallow_at b v core ask) (range_with_len 1 level) ((level + 1) ∷ [])
-    ∙ ap (λ ns. shallow_to b v core ask level ++ ns)
-    (flat_map-cons (shallow_at b v core ask) (level + 1) [] ∙ append-nil _ ∙ is) in
-    ap (λ f. worse f (refusal b v here)) so
-    ∙ sym (refusal-append b v (shallow_to b v core ask level) here)
-    ∙ ap (refusal b v) (sym all)
+    rw (
+      so,
+      range-more 1 level (level + 1) (omega arith),
+      flat_map-append,
+      flat_map-cons,
+      append-nil,
+      refusal-append,
+      below,
+    )
 
 -- the node of a level on a core's path, as the tree says it
 pub tree-at : (b : BoardValue) (ws : List (List ℕ)) (core level : ℕ) (n : Node)
@@ -111,4 +94,4 @@ pub path-refusal-more : (b : BoardValue) (v : PowerView) (core : ℕ) (ask : Lis
     → fault ≡ refusal b v (shallow_to b v core ask level)
     → worse fault here ≡ refusal b v (shallow_to b v core ask (level + 1))
 path-refusal-more b v core ask level fault here own above depth o a d e so =
-    ap (worse fault) (e ∙ rw (o, a, d) refl) ∙ level-refusal-more b v core ask level fault so
+    rw (e, o, a, d) (level-refusal-more b v core ask level fault so)

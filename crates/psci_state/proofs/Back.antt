@@ -1,5 +1,5 @@
 -- The ask of a word gives the word back.
-use Rattle.std.proofs.Common.{◌≡◌, ℕ, zero, suc, ◌+◌, ◌*◌, ◌^◌, ◌<◌, ◌≤◌, Bool, true}
+use Rattle.std.proofs.Common.{◌≡◌, ℕ, ◌+◌, ◌*◌, ◌^◌, ◌<◌, ◌≤◌, Bool, true}
 use Rattle.std.proofs.Common.{◌&&◌, ◌==◌, cond, List, length, subst, arith}
 use Rattle.std.proofs.lemmas.Bool.{and_parts, leb-true, ltb-true, eqb-true}
 use Rattle.std.proofs.lemmas.List.{get_or_past}
@@ -24,12 +24,7 @@ six r s t u v w test = grind (arith, and_parts)
 falling : (ask : List ℕ) → length ask ≡ 4 → slice_index ask 1 ≤ slice_index ask 0
     → slice_index ask 2 ≤ slice_index ask 1 → slice_index ask 3 ≤ slice_index ask 2
     → (level : ℕ) → slice_index ask (level + 1) ≤ slice_index ask level
-falling ask four first second third zero = first
-falling ask four first second third (suc zero) = second
-falling ask four first second third (suc (suc zero)) = third
-falling ask four first second third (suc (suc (suc level))) =
-    let past : length ask ≤ suc (suc (suc level)) + 1 = omega arith in
-    omega (arith, get_or_past ask (suc (suc (suc level)) + 1) 0 past)
+falling ask four first second third level = grind (arith, get_or_past)
 
 -- The test of an ask.
 pub ask-from_test : (ask : List ℕ) → is_ask ask ≡ true → IsAsk ask
@@ -45,6 +40,8 @@ ask-from_test ask test =
       falls = falling ask (eqb-true _ _ parts.0) (leb-true _ _ parts.3) (leb-true _ _ parts.4)
           (leb-true _ _ parts.5);
     }
+
+pub ruleset ask_laws = ask-from_test
 
 -- a state id of 16 bits is that of what it asks
 asked_back : (id : ℕ) → id < 2 ^ 16 → id_of (asked id) ≡ id

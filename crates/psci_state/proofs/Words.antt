@@ -1,4 +1,5 @@
 -- The word of an ask is read as this ask.
+use Rattle.std.proofs.lemmas.Bool.Decides.{nat_tests}
 use Rattle.std.proofs.Common.{◌≡◌, ℕ, ◌+◌, ◌*◌, ◌^◌, ◌<◌, ◌≤◌, Bool, true}
 use Rattle.std.proofs.Common.{◌&&◌, ◌==◌, cond, List, [], ◌∷◌, refl, ap, ◌∙◌, arith}
 use Rattle.std.proofs.lemmas.Bool.{le-leb, lt-ltb, eq-eqb}
@@ -102,9 +103,7 @@ ask-test ask is =
     let first = is.falls 0 in
     let second = is.falls 1 in
     let third = is.falls 2 in
-    both_true (both_true (both_true (both_true (both_true (eq-eqb _ _ is.levels)
-    (le-leb _ _ is.least)) (le-leb _ _ is.most)) (le-leb _ _ first)) (le-leb _ _ second))
-    (le-leb _ _ third)
+    grind (arith, nat_tests)
 
 -- The word of an ask is a power state of every board that is high enough.
 pub word_read : (format : Format) (height : ℕ) (ask : List ℕ) → IsAsk ask

@@ -63,6 +63,7 @@ impl Ask {
     }
 
     /// The ask of a state id.
+    #[tactic(auto, using(crate::proofs::Back::ask_laws))]
     fn of_state_id(id: u32) -> Option<Ask>
         ensures { result ≡ (if is_state_id id then Some (asked id) else None) }
     {

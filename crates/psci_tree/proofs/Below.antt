@@ -4,10 +4,10 @@ use Rattle.std.proofs.lemmas.List.Folds.{flat_map-map}
 use Rattle.psci_tree.proofs.Words.{◌++◌, ◌+◌, ◌-◌, ◌<◌, ◌∙◌, ◌∷◌, ◌≡◌, ◌≤◌, [], add-one, ap}
 use Rattle.psci_tree.proofs.Words.{append-nil, arith, asks, branches, child_counts, cores_in}
 use Rattle.psci_tree.proofs.Words.{CoreState, Domain, Domain-F, drop, drop-cons, flat_map}
-use Rattle.psci_tree.proofs.Words.{flat_map-append, get_or, Kept, least, leaves, length}
-use Rattle.psci_tree.proofs.Words.{length-append, length-set, List, low_in, map, min}
-use Rattle.psci_tree.proofs.Words.{out-roll-Domain, refl, replicate, roll-Domain, set, suc, take}
-use Rattle.psci_tree.proofs.Words.{take_more, with_item, zero, ℕ}
+use Rattle.psci_tree.proofs.Words.{flat_map-append, get_or, get_or-le-sum_by, Kept, least, leaves}
+use Rattle.psci_tree.proofs.Words.{length, length-append, length-flat_map, length-set, List, low_in}
+use Rattle.psci_tree.proofs.Words.{map, min, out-roll-Domain, refl, roll-Domain, set, suc, take}
+use Rattle.psci_tree.proofs.Words.{take-append-drop, take_more, with_item, zero, ℕ}
 use Rattle.psci_tree.specs.Domains.{cores_from, cores_step}
 use Rattle.psci_tree.specs.declared.domain.Domain.TheViews.{out-Domain}
 use Rattle.psci_tree.specs.declared.domain.Domain.TheFolds.{fold-roll-Domain, fold_out-Domain}
@@ -51,41 +51,28 @@ cores_drop ns i d h = rw add-one (ap cores_in (drop-cons ns i d h))
 
 pub cores_take : (ns : List Domain) (i : ℕ) (d : Domain) → i < length ns
     → cores_in (take (i + 1) ns) ≡ cores_in (take i ns) ++ leaves (get_or ns i d)
-cores_take ns i d h =
-    ap cores_in (take_more ns i d h) ∙ flat_map-append leaves (take i ns) (get_or ns i d ∷ [])
-    ∙ ap (λ (x : List CoreState). cores_in (take i ns) ++ x) (append-nil (leaves (get_or ns i d)))
+cores_take ns i d h = simp (take_more ns i d h, flat_map-append, append-nil)
 
 pub length_drop : (ns : List Domain) (i : ℕ) (d : Domain) → i < length ns
     → length (cores_in (drop i ns))
     ≡ length (leaves (get_or ns i d)) + length (cores_in (drop (i + 1) ns))
-length_drop ns i d h = ap length (cores_drop ns i d h)
-    ∙ length-append (leaves (get_or ns i d)) (cores_in (drop (i + 1) ns))
+length_drop ns i d h = simp (cores_drop ns i d h, length-append)
 
 pub length_take : (ns : List Domain) (i : ℕ) (d : Domain) → i < length ns
     → length (cores_in (take (i + 1) ns))
     ≡ length (cores_in (take i ns)) + length (leaves (get_or ns i d))
-length_take ns i d h =
-    ap length (cores_take ns i d h) ∙ length-append (cores_in (take i ns)) (leaves (get_or ns i d))
+length_take ns i d h = simp (cores_take ns i d h, length-append)
 
 -- the cores below the first so many and below the others
 pub length_parts : (ns : List Domain) (k : ℕ)
     → length (cores_in (take k ns)) + length (cores_in (drop k ns)) ≡ length (cores_in ns)
-length_parts ns zero = omega arith
-length_parts [] (suc k) = omega arith
-length_parts (n ∷ ns) (suc k) = omega (
-  arith,
-  length-append (leaves n) (cores_in (take k ns)),
-  length-append (leaves n) (cores_in ns),
-  length_parts ns k,
-)
+length_parts ns k = simp (← length-append, ← flat_map-append, take-append-drop)
 
 -- a domain has no more cores than those beside it together
 pub cores_le : (ns : List Domain) (i : ℕ) (d : Domain) → i < length ns
     → length (leaves (get_or ns i d)) ≤ length (cores_in ns)
-cores_le [] i d h = absurd (omega arith)
-cores_le (n ∷ ns) zero d h = omega (arith, length-append (leaves n) (cores_in ns))
-cores_le (n ∷ ns) (suc i) d h =
-    omega (arith, length-append (leaves n) (cores_in ns), cores_le ns i d (omega arith))
+cores_le ns i d h =
+    omega (arith, length-flat_map leaves ns, get_or-le-sum_by (λ n. length (leaves n)) ns i d h)
 
 -- The least ask ------------------------------------------------------------------------------
 
@@ -126,30 +113,13 @@ flat_map_set f (n ∷ ns) (suc i) d m e = ap (λ (x : List ℕ). f n ++ x) (flat
 pub children_roll : (x : Domain-F Domain) → branches (roll-Domain x) ≡ x.children.items
 children_roll x = ap (λ (y : Domain-F Domain). y.children.items) (out-roll-Domain x)
 
-widths_zero : (x : Domain-F Domain)
-    → child_counts zero (roll-Domain x) ≡ length x.children.items ∷ []
-widths_zero x = ap (λ (ns : List Domain). length ns ∷ []) (children_roll x)
-
-widths_suc : (k : ℕ) (x : Domain-F Domain)
-    → child_counts (suc k) (roll-Domain x) ≡ flat_map (child_counts k) x.children.items
-widths_suc k x = ap (flat_map (child_counts k)) (children_roll x)
-
 -- a domain with another child of the same shape has the same shape
 pub widths_with_child : (n : Domain) (i : ℕ) (m : Domain) (v : Kept)
     → ((k : ℕ) → child_counts k m ≡ child_counts k (get_or (branches n) i n)) → (k : ℕ) →
-    child_counts k (roll-Domain (record {
+    child_counts k (roll-Domain (record (out-Domain n) {
       children = with_item (out-Domain n).children i m;
-      core = (out-Domain n).core;
       kept = v;
     })) ≡ child_counts k n
-widths_with_child n i m v each zero =
-    widths_zero _ ∙ ap (λ (x : ℕ). x ∷ []) (length-set (branches n) i m)
+widths_with_child n i m v each zero = simp (children_roll, length-set)
 widths_with_child n i m v each (suc k) =
-    widths_suc k _ ∙ flat_map_set (child_counts k) (branches n) i n m (each k)
-
--- one more core that is like those before it
-pub set_next : (s : CoreState) (xs : List CoreState) (i : ℕ) → i < length xs
-    → set (replicate i s ++ drop i xs) i s ≡ replicate (suc i) s ++ drop (suc i) xs
-set_next s [] i h = absurd (omega arith)
-set_next s (x ∷ xs) zero h = refl
-set_next s (x ∷ xs) (suc i) h = ap (λ ys. s ∷ ys) (set_next s xs i (omega arith))
+    simp (children_roll, flat_map_set (child_counts k) (branches n) i n m (each k))

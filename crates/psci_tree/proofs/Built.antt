@@ -14,9 +14,7 @@ child_count_roll x = ap length (children_roll x)
 
 pub ends_push : (ns : List Domain) (d : Domain) → sum (map child_count ns) ≡ 0 → child_count d ≡ 0
     → sum (map child_count (ns ++ d ∷ [])) ≡ 0
-ends_push ns d h e =
-    ap sum (map-append child_count ns (d ∷ []))
-    ∙ sum_by_push (λ x. x) (map child_count ns) (child_count d) ∙ omega arith
+ends_push ns d h e = simp (map-append, sum_by_push) (omega arith)
 
 -- these domains have the numbers of children of these levels below them
 abbrev pub AreShaped : List Domain → List (List ℕ) → Type 0
@@ -26,49 +24,41 @@ AreShaped ns (w ∷ ws) = (flat_map (child_counts (length ws)) ns ≡ w) × AreS
 widths_down : (k : ℕ) (ns : List Domain)
     → flat_map (child_counts (suc k)) ns ≡ flat_map (child_counts k) (flat_map branches ns)
 widths_down k [] = refl
-widths_down k (n ∷ ns) = ap (λ x. flat_map (child_counts k) (branches n) ++ x) (widths_down k ns)
-    ∙ sym (flat_map-append (child_counts k) (branches n) (flat_map branches ns))
+widths_down k (n ∷ ns) = simp (widths_down k ns, flat_map-append)
 
 pub shaped_more : (parents ns : List Domain) (done : List (List ℕ)) (w : List ℕ)
     → flat_map branches parents ≡ ns → map child_count parents ≡ w → AreShaped ns done
     → AreShaped parents (done ++ w ∷ [])
 shaped_more parents ns [] w e f h = (flat_map_single child_count parents ∙ f, tt)
 shaped_more parents ns (v ∷ vs) w e f h =
-    let up : length (vs ++ w ∷ []) ≡ suc (length vs) = omega (arith, length_push vs w) in (
-      ap (λ k. flat_map (child_counts k) parents) up ∙ widths_down (length vs) parents
-          ∙ ap (flat_map (child_counts (length vs))) e ∙ h.0,
-      shaped_more parents ns vs w e f h.1,
-    )
+    let up : length (vs ++ w ∷ []) ≡ suc (length vs) = omega (arith, length_push vs w) in
+    (rw (up, widths_down (length vs) parents, e) h.0, shaped_more parents ns vs w e f h.1)
 
 pub ends_more : (parents ns : List Domain) (k j : ℕ) → j ≡ suc k → flat_map branches parents ≡ ns
     → sum (flat_map (child_counts k) ns) ≡ 0 → sum (flat_map (child_counts j) parents) ≡ 0
-ends_more parents ns k j s e h = ap (λ i. sum (flat_map (child_counts i) parents)) s
-    ∙ ap sum (widths_down k parents ∙ ap (flat_map (child_counts k)) e) ∙ h
+ends_more parents ns k j s e h = rw (s, widths_down k parents, e) h
 
 -- one more parent
 pub children_push : (ps : List Domain) (x : Domain-F Domain)
     → flat_map branches (ps ++ roll-Domain x ∷ []) ≡ flat_map branches ps ++ x.children.items
-children_push ps x =
-    flat_map-append branches ps (roll-Domain x ∷ [])
-    ∙ ap (λ ys. flat_map branches ps ++ ys)
-    (append-nil (branches (roll-Domain x)) ∙ children_roll x)
+children_push ps x = simp (flat_map-append, children_roll, append-nil)
 
 pub counts_push : (ps : List Domain) (x : Domain-F Domain)
     → map child_count (ps ++ roll-Domain x ∷ [])
     ≡ map child_count ps ++ length x.children.items ∷ []
-counts_push ps x =
-    map-append child_count ps (roll-Domain x ∷ [])
-    ∙ ap (λ k. map child_count ps ++ k ∷ []) (child_count_roll x)
+counts_push ps x = simp (map-append, child_count_roll)
 
 -- one more core that is off
 pub cores_push : (ns : List Domain) (x : Domain-F Domain) (n : ℕ) (s : CoreState)
     → length x.children.items ≡ 0 → x.core ≡ s → cores_in ns ≡ replicate n s
     → cores_in (ns ++ roll-Domain x ∷ []) ≡ replicate (n + 1) s
-cores_push ns x n s none own h =
-    flat_map-append leaves ns (roll-Domain x ∷ [])
-    ∙ ap (λ ys. cores_in ns ++ ys)
-    (append-nil (leaves (roll-Domain x)) ∙ cores_roll_core x none ∙ ap (λ c. c ∷ []) own)
-    ∙ ap (λ ys. ys ++ s ∷ []) h ∙ replicate_more n s
+cores_push ns x n s none own h = simp (
+  flat_map-append,
+  cores_roll_core x none,
+  own,
+  h,
+  replicate_more,
+)
 
 -- the last level -------------------------------------------------------------------------------
 
@@ -76,9 +66,7 @@ cores_push ns x n s none own h =
 pub none_left : (done rest : List Domain) (w : List ℕ) (i : ℕ) → length w ≤ i
     → sum (drop i w) ≡ length rest → done ≡ done ++ rest
 none_left done [] w i h e = sym (append-nil done)
-none_left done (n ∷ ns) w i h e =
-    let none : sum (drop i w) ≡ 0 = rw (drop_all i w h) refl in
-    absurd (omega arith)
+none_left done (n ∷ ns) w i h e = let none = rw (drop_all i w h) at e in absurd (omega arith)
 
 one_left : (ns rest : List Domain) (root : Domain) → ns ≡ rest ++ root ∷ [] → length ns ≡ 1
     → ns ≡ root ∷ []
@@ -95,8 +83,7 @@ root_alone levels ns rest root k h e n =
 shape_of : (root : Domain) (levels : List (List ℕ)) → AreShaped (root ∷ []) levels
     → HasShape root levels
 shape_of root [] h = tt
-shape_of root (w ∷ ws) h =
-    (sym (append-nil (child_counts (length ws) root)) ∙ h.0, shape_of root ws h.1)
+shape_of root (w ∷ ws) h = (rw append-nil at h.0, shape_of root ws h.1)
 
 -- the one domain of the last level is the whole board
 pub root_whole : (levels : List (List ℕ)) (ns rest : List Domain) (root : Domain) (k : ℕ)
@@ -107,15 +94,11 @@ root_whole levels ns rest root k h e n s m =
     let all : take k levels ≡ levels = take_all k levels (omega arith) in
     record {
       shape = shape_of root levels (rw (alone, all) at s);
-      ends =
-          ap sum (sym (append-nil (child_counts (length levels) root)))
-          ∙ ap (λ xs. sum (flat_map (child_counts (length levels)) xs)) (sym alone)
-          ∙ ap (λ j. sum (flat_map (child_counts j) ns)) (sym h)
-          ∙ m;
+      ends = rw (alone, h, append-nil) at m;
     }
 
 pub root_cores : (levels : List (List ℕ)) (ns rest : List Domain) (root : Domain) (k : ℕ)
     → k ≡ length levels → ns ≡ rest ++ root ∷ [] → length ns ≡ size_below (drop k levels)
     → leaves root ≡ cores_in ns
 root_cores levels ns rest root k h e n =
-    sym (append-nil (leaves root)) ∙ ap cores_in (sym (root_alone levels ns rest root k h e n))
+    rw (root_alone levels ns rest root k h e n) (sym (append-nil (leaves root)))

@@ -1,8 +1,8 @@
--- Rows of depths, each read as one of the two depths of its domains.
+-- Rows of depths, one for each level, each read as one of the two depths of its domains.
 use Rattle.std.proofs.Common.{◌≡◌, ℕ, zero, suc, ◌<◌, List, [], ◌∷◌, length, get_or, map, replicate}
-use Rattle.std.proofs.Common.{refl, ap, sym, ◌∙◌, arith}
+use Rattle.std.proofs.Common.{refl, ap, sym, ◌∙◌, arith, ◌++◌, ◌+◌, drop, take}
 use Rattle.std.proofs.Math.ListN.{set}
-use Rattle.std.proofs.lemmas.List.{get_or-map, length-map, map-set}
+use Rattle.std.proofs.lemmas.List.{get_or-map, length-map, map-set, map_more}
 use Rattle.psci_board.specs.declared.node.Node.{Node}
 use Rattle.psci_board.specs.Board.{HasNodeIn}
 use Rattle.psci_tree.specs.declared.depths.Depths.{Depths}
@@ -31,7 +31,7 @@ depth_read f (r ∷ rs) (suc l) p d h i = depth_read f rs l p d (omega arith) i
 pub depth_lengths : (f : Depths → ℕ) (rows : List (List Depths))
     → map length (map (map f) rows) ≡ map length rows
 depth_lengths f [] = refl
-depth_lengths f (r ∷ rs) = rw (length-map r f) (ap (λ ns. length r ∷ ns) (depth_lengths f rs))
+depth_lengths f (r ∷ rs) = simp (length-map, depth_lengths f rs)
 
 each_mapped : (f : Depths → ℕ) (n : ℕ) (d : Depths) → map f (replicate n d) ≡ replicate n (f d)
 each_mapped f zero d = refl
@@ -41,9 +41,7 @@ each_mapped f (suc n) d = ap (λ xs. f d ∷ xs) (each_mapped f n d)
 pub filled_depths : (f : Depths → ℕ) (counts : List ℕ) (d : Depths)
     → map (map f) (filled counts d) ≡ rows_with_depth counts (f d)
 filled_depths f [] d = refl
-filled_depths f (n ∷ ns) d =
-    ap (λ x. x ∷ map (map f) (filled ns d)) (each_mapped f n d)
-    ∙ ap (λ xs. replicate n (f d) ∷ xs) (filled_depths f ns d)
+filled_depths f (n ∷ ns) d = simp (each_mapped, filled_depths f ns d)
 
 -- the row of a domain's level
 pub record DepthRow (rows : List (List Depths)) (n : Node) : Type 0 where
@@ -71,11 +69,28 @@ pub record ReadAt (rows : List (List Depths)) (n : Node) (x : Depths) : Type 0 w
 pub read_at : (rows now : List (List Depths)) (n : Node) (x : Depths) → DepthRow rows n
     → now ≡ rows → ((d : Depths) → x ≡ get_or (get_or now n.level []) n.place d) → ReadAt rows n x
 read_at rows now n x at same e =
-    let is : x ≡ get_or (get_or rows n.level []) n.place x =
-    e x ∙ ap (λ rs. get_or (get_or rs n.level []) n.place x) same in
+    let is : x ≡ get_or (get_or rows n.level []) n.place x = rw same at (e x) in
     record {
       granted = ap (λ d. d.granted) is
-          ∙ sym (depth_read (λ d. d.granted) rows n.level n.place x at.level at.place);
+          ∙ sym (depth_read _ rows n.level n.place x at.level at.place);
       confirmed = ap (λ d. d.confirmed) is
-          ∙ sym (depth_read (λ d. d.confirmed) rows n.level n.place x at.level at.place);
+          ∙ sym (depth_read _ rows n.level n.place x at.level at.place);
     }
+
+-- Rows that are filled ----------------------------------------------------------------------------
+
+-- one more row
+pub rows_more : (ns : List ℕ) (i : ℕ) (depth : Depths) → i < length ns
+    → filled (take (i + 1) ns) depth
+    ≡ filled (take i ns) depth ++ replicate (get_or ns i 0) depth ∷ []
+rows_more ns i depth h = map_more (λ count. replicate count depth) ns i 0 h
+
+-- one more row filled
+pub filled_more : (old : List (List Depths)) (i : ℕ) (depth : Depths) → i < length old
+    → set (filled (map length (take i old)) depth ++ drop i old) i (replicate
+    (length (get_or (filled (map length (take i old)) depth ++ drop i old) i [])) depth)
+    ≡ filled (map length (take (suc i) old)) depth ++ drop (suc i) old
+filled_more [] i depth h = absurd (omega arith)
+filled_more (x ∷ xs) zero depth h = refl
+filled_more (x ∷ xs) (suc i) depth h =
+    ap (λ ys. replicate (length x) depth ∷ ys) (filled_more xs i depth (omega arith))

@@ -1,39 +1,34 @@
 -- Granted depths after a change, by level and place.
-use Rattle.psci_tree.proofs.Words.{◌&&◌, ◌++◌, ◌<◌, ◌==◌, ◌∙◌, ◌∷◌, ◌≡◌, ◌≤◌, [], ap, arith, Bool}
-use Rattle.psci_tree.proofs.Words.{cases_eq, cond, depth_set, drop, eq-eqb, false, get_or}
-use Rattle.psci_tree.proofs.Words.{get_or-map, get_or-replicate, get_or-set_other, get_or-set_same}
-use Rattle.psci_tree.proofs.Words.{granted_at, group_of, HasNodeIn, inl, inr, IsDomainTree, length}
-use Rattle.psci_tree.proofs.Words.{length-map, length-set, level_sizes, List, map, ne_eqb, Node}
-use Rattle.psci_tree.proofs.Words.{path_cleared, place_above, refl, rows_with_depth, set}
-use Rattle.psci_tree.proofs.Words.{size_below, suc, sym, take, TreeValue, true, zero, ℕ}
+use Rattle.std.proofs.lemmas.Bool.{cases_lt}
+use Rattle.std.proofs.lemmas.List.{set_past, get_or_past, set-get_or}
+use Rattle.psci_tree.proofs.Words.{◌&&◌, ◌++◌, ◌+◌, ◌<◌, ◌==◌, ◌∙◌, ◌∷◌, ◌≡◌, ◌≤◌, [], ap}
+use Rattle.psci_tree.proofs.Words.{append-nil, arith, Bool, cases_eq, cleared_from, cond, depth_set}
+use Rattle.psci_tree.proofs.Words.{drop, drop_all, eq-eqb, get_or, get_or-map, get_or-replicate}
+use Rattle.psci_tree.proofs.Words.{get_or-set_other, get_or-set_same, granted_at, group_of}
+use Rattle.psci_tree.proofs.Words.{HasNodeIn, inl, inr, inside, IsDomainTree, IsTree, IsWayOf}
+use Rattle.psci_tree.proofs.Words.{length, length-map, length-set, level_sizes, List, map}
+use Rattle.psci_tree.proofs.Words.{nat_tests, ne_eqb, Node, path_cleared, place_above}
+use Rattle.psci_tree.proofs.Words.{place_above-suc, refl, rows_with_depth, set, size_below, suc}
+use Rattle.psci_tree.proofs.Words.{sym, take, take_all, TreeValue, Way, with_path_cleared, zero, ℕ}
 use Rattle.psci_tree.specs.Changes.{with_grant}
 
 -- One written place --------------------------------------------------------------------------
 
-pub at_set : (g : List ℕ) (i x p : ℕ) → i < length g
-    → get_or (set g i x) p 0 ≡ cond (i == p) x (get_or g p 0)
-at_set g i x p h = elim (cases_eq i p) [
-  | inl e ↦ rw (eq-eqb i p e, ← e) (get_or-set_same g i x 0 h)
-  | inr e ↦ rw (ne_eqb i p e) (get_or-set_other g i p x 0 (λ q. e (sym q)))
+pub at_set : {X : Type 0} (xs : List X) (i : ℕ) (x d : X) (p : ℕ) → i < length xs
+    → get_or (set xs i x) p d ≡ cond (i == p) x (get_or xs p d)
+at_set xs i x d p h = elim (cases_eq i p) [
+  | inl e ↦ rw (eq-eqb i p e, ← e) (get_or-set_same xs i x d h)
+  | inr e ↦ rw (ne_eqb i p e) (get_or-set_other xs i p x d (λ q. e (sym q)))
 ]
 
 zero_either : (b : Bool) → ◌≡◌ {A = ℕ} 0 (cond b 0 0)
-zero_either true = refl
-zero_either false = refl
+zero_either b = grind arith
 
 at_set_zero : (g : List ℕ) (i p : ℕ) → get_or (set g i 0) p 0 ≡ cond (i == p) 0 (get_or g p 0)
-at_set_zero [] i p = zero_either (i == p)
-at_set_zero (x ∷ g) zero zero = refl
-at_set_zero (x ∷ g) zero (suc p) = rw (ne_eqb 0 (suc p) (λ e. absurd (omega arith))) refl
-at_set_zero (x ∷ g) (suc i) zero = rw (ne_eqb (suc i) 0 (λ e. absurd (omega arith))) refl
-at_set_zero (x ∷ g) (suc i) (suc p) =
-    at_set_zero g i p ∙ ap (λ b. cond b 0 (get_or g p 0)) (step i p)
-  where
-    step : (a b : ℕ) → (a == b) ≡ (suc a == suc b)
-    step a b = elim (cases_eq a b) [
-      | inl e ↦ eq-eqb a b e ∙ sym (eq-eqb (suc a) (suc b) (omega arith))
-      | inr e ↦ ne_eqb a b e ∙ sym (ne_eqb (suc a) (suc b) (λ q. e (omega arith)))
-    ]
+at_set_zero g i p = elim (cases_lt i (length g)) [
+  | inl h ↦ at_set g i 0 0 p h
+  | inr h ↦ rw (set_past g i 0 h) (grind (arith, nat_tests, get_or_past))
+]
 
 -- The path of a core -------------------------------------------------------------------------
 
@@ -47,17 +42,15 @@ pub zero_at : (levels gs : List (List ℕ)) (i l p : ℕ)
     ≡ cond (place_above levels l i == p) 0 (get_or (get_or gs l []) p 0)
 zero_at levels [] i l p = zero_either (place_above levels l i == p)
 zero_at [] (g ∷ gs) i zero p = at_set_zero g i p
-zero_at [] (g ∷ gs) i (suc l) p =
-    zero_at [] gs i l p ∙ ap (λ x. cond (x == p) 0 (get_or (get_or gs l []) p 0)) (above_top l i)
+zero_at [] (g ∷ gs) i (suc l) p = rw above_top at (zero_at [] gs i l p)
 zero_at (w ∷ ws) (g ∷ gs) i zero p = at_set_zero g i p
 zero_at (w ∷ ws) (g ∷ gs) i (suc l) p = zero_at ws gs (group_of w i) l p
 
 pub zero_lengths : (levels gs : List (List ℕ)) (i : ℕ)
     → map length (path_cleared levels i gs) ≡ map length gs
 zero_lengths levels [] i = refl
-zero_lengths [] (g ∷ gs) i = rw (length-set g i 0) (ap (λ xs. length g ∷ xs) (zero_lengths [] gs i))
-zero_lengths (w ∷ ws) (g ∷ gs) i =
-    rw (length-set g i 0) (ap (λ xs. length g ∷ xs) (zero_lengths ws gs (group_of w i)))
+zero_lengths [] (g ∷ gs) i = simp (length-set, zero_lengths [] gs i)
+zero_lengths (w ∷ ws) (g ∷ gs) i = simp (length-set, zero_lengths ws gs (group_of w i))
 
 zero_top : (gs : List (List ℕ)) (l i : ℕ) → l < length gs
     → take (suc l) (set gs l (set (get_or gs l []) i 0)) ++ path_cleared [] i (drop (suc l)
@@ -87,8 +80,8 @@ parent_is (w ∷ ws) (suc l) i h = parent_is ws l i (omega arith)
 pub row_lengths : (gs : List (List ℕ)) (l i x : ℕ)
     → map length (set gs l (set (get_or gs l []) i x)) ≡ map length gs
 row_lengths [] l i x = refl
-row_lengths (g ∷ gs) zero i x = ap (λ n. n ∷ map length gs) (length-set g i x)
-row_lengths (g ∷ gs) (suc l) i x = ap (λ xs. length g ∷ xs) (row_lengths gs l i x)
+row_lengths (g ∷ gs) zero i x = simp length-set
+row_lengths (g ∷ gs) (suc l) i x = simp (row_lengths gs l i x)
 
 -- cores of one domain are of one domain above it
 pub same_up : (levels : List (List ℕ)) (l c d : ℕ) → place_above levels l c ≡ place_above levels l d
@@ -110,16 +103,31 @@ pub length_level_sizes : (levels : List (List ℕ))
 length_level_sizes [] = refl
 length_level_sizes (w ∷ ws) = ap suc (length_level_sizes ws)
 
+pub rows_long : (levels rows : List (List ℕ)) → map length rows ≡ level_sizes levels
+    → length rows ≡ suc (length levels)
+rows_long levels rows v =
+    sym (length-map rows length) ∙ ap length v ∙ length_level_sizes levels
+
 -- how long the row of a level is
 pub row_length : (levels gs : List (List ℕ)) (l : ℕ) → map length gs ≡ level_sizes levels
     → l ≤ length levels → length (get_or gs l []) ≡ size_below (drop l levels)
 row_length levels gs l e h =
-    let long : length gs ≡ suc (length levels) =
-    sym (length-map gs length) ∙ ap length e ∙ length_level_sizes levels in
-    sym (get_or-map length gs l [] 0 (omega arith)) ∙ ap (λ xs. get_or xs l 0) e
-    ∙ size_of_level levels l h
+    sym (get_or-map length gs l [] 0 (omega (arith, rows_long levels gs e)))
+    ∙ ap (λ xs. get_or xs l 0) e ∙ size_of_level levels l h
 
 -- One domain ---------------------------------------------------------------------------------
+
+-- the row of a domain's level
+pub record RowOf (gs : List (List ℕ)) (n : Node) : Type 0 where
+  pub level : n.level < length gs
+  pub place : n.place < length (get_or gs n.level [])
+
+pub row_of : (levels gs : List (List ℕ)) (n : Node) → map length gs ≡ level_sizes levels
+    → HasNodeIn levels n → RowOf gs n
+row_of levels gs n e h = record {
+  level = omega (arith, h.level, rows_long levels gs e);
+  place = omega (arith, h.place, row_length levels gs n.level e h.level);
+}
 
 -- a depth of one domain
 pub depth_at : (levels gs : List (List ℕ)) (n : Node) (depth l p : ℕ)
@@ -127,24 +135,13 @@ pub depth_at : (levels gs : List (List ℕ)) (n : Node) (depth l p : ℕ)
     → get_or (get_or (depth_set gs n depth) l []) p 0
     ≡ cond (n.level == l && n.place == p) depth (get_or (get_or gs l []) p 0)
 depth_at levels gs n depth l p v h =
-    let long : length gs ≡ suc (length levels) =
-    sym (length-map gs length) ∙ ap length v ∙ length_level_sizes levels in
-    let row : length (get_or gs n.level []) ≡ size_below (drop n.level levels) =
-    row_length levels gs n.level v h.level in
-    elim (cases_eq n.level l) [
-      | inl e ↦ rw (
-        eq-eqb n.level l e,
-        ← e,
-        get_or-set_same gs n.level
-            (set (get_or gs n.level []) n.place depth) [] (omega (arith, h.level)),
-      )
-          (at_set (get_or gs n.level []) n.place depth p (omega (arith, h.place)))
-      | inr e ↦ rw (
-        ne_eqb n.level l e,
-        get_or-set_other gs n.level l
-            (set (get_or gs n.level []) n.place depth) [] (λ q. e (sym q)),
-      ) refl
-    ]
+    let at = row_of levels gs n v h in
+    rw (at_set gs n.level (set (get_or gs n.level []) n.place depth) [] l at.level)
+    (elim (cases_eq n.level l) [
+      | inl e ↦ rw (eq-eqb n.level l e, ← e)
+          (at_set (get_or gs n.level []) n.place depth 0 p at.place)
+      | inr e ↦ rw (ne_eqb n.level l e)
+    ])
 
 -- a granted depth of one domain
 pub grant_at : (t : TreeValue) (n : Node) (depth l p : ℕ) → IsDomainTree t → HasNodeIn t.levels n
@@ -161,14 +158,79 @@ rows_at [] l p h = absurd (omega arith)
 rows_at (n ∷ ns) zero p h = get_or-replicate n p 3 0 h
 rows_at (n ∷ ns) (suc l) p h = rows_at ns l p h
 
--- the row of a domain's level
-pub record RowOf (gs : List (List ℕ)) (n : Node) : Type 0 where
-  pub level : n.level < length gs
-  pub place : n.place < length (get_or gs n.level [])
+-- Rows with 0 on the path of a core, from a level up ----------------------------------------------
 
-pub row_of : (levels gs : List (List ℕ)) (n : Node) → map length gs ≡ level_sizes levels
-    → HasNodeIn levels n → RowOf gs n
-row_of levels gs n e h = record {
-  level = omega (arith, h.level, length-map gs length, ap length e, length_level_sizes levels);
-  place = omega (arith, h.place, row_length levels gs n.level e h.level);
+-- the node of a level on the way to a core
+pub path_node : (levels : List (List ℕ)) (core l : ℕ) (way : Way) → IsTree levels
+    → core < size_below levels → IsWayOf levels core way → l ≤ length levels
+    → HasNodeIn levels (record { level = l; place = get_or way.places l 0 })
+path_node levels core l way t h is le = record {
+  level = le;
+  place = omega (arith, is.places l le, inside levels l core t h le);
 }
+
+-- one level written, and those above it
+pub cleared_step : (levels rows : List (List ℕ)) (core l p : ℕ) → l < length levels
+    → l < length rows → p ≡ place_above levels l core
+    → cleared_from levels core (l + 1) (set rows l (set (get_or rows l []) p 0))
+    ≡ cleared_from levels core l rows
+cleared_step levels rows core l p h i at =
+    let q : ℕ = place_above levels l core in
+    let next : l + 1 ≡ suc l = omega arith in
+    rw (at, next, place_above-suc levels l core h, ← (parent_is levels l q h))
+    (zero_more levels rows l q i)
+
+-- the highest level written
+pub cleared_top : (levels rows : List (List ℕ)) (core l p : ℕ) → l ≡ length levels
+    → length rows ≡ suc (length levels) → p ≡ place_above levels l core
+    → set rows l (set (get_or rows l []) p 0) ≡ cleared_from levels core l rows
+cleared_top levels rows core l p top long at =
+    let q : ℕ = place_above levels l core in
+    let xs : List (List ℕ) = set rows l (set (get_or rows l []) q 0) in
+    let past : length xs ≤ suc l =
+    omega (arith, length-set rows l (set (get_or rows l []) q 0), top, long) in
+    let more = zero_more levels rows l q (omega (arith, top, long)) in
+    rw at (simp (drop_all (suc l) xs past, take_all (suc l) xs past, append-nil) at more)
+
+-- Nothing to clear ---------------------------------------------------------------------------
+
+none_cleared : (levels rows : List (List ℕ)) (p : ℕ)
+    → ((l : ℕ) → get_or (get_or rows l []) (place_above levels l p) 0 ≡ 0)
+    → path_cleared levels p rows ≡ rows
+none_cleared levels [] p h = refl
+none_cleared [] (g ∷ gs) p h =
+    let here = rw (h 0) at (set-get_or g p 0) in
+    let above = none_cleared [] gs p (λ l. rw above_top (h (suc l))) in
+    cc
+none_cleared (w ∷ ws) (g ∷ gs) p h =
+    let here = rw (h 0) at (set-get_or g p 0) in
+    let above = none_cleared ws gs (group_of w p) (λ l. h (suc l)) in
+    cc
+
+-- what is granted to a core bounds what is granted on its path
+none_granted : (t : TreeValue) (core l : ℕ) → IsDomainTree t → core < size_below t.levels
+    → granted_at t 0 core ≡ 0 → granted_at t l (place_above t.levels l core) ≡ 0
+none_granted t core zero v h e = e
+none_granted t core (suc l) v h e = elim (cases_lt l (length t.levels)) [
+  | inl in_tree ↦
+      let up : l + 1 ≡ suc l = omega arith in
+      let below : granted_at t l (place_above t.levels l core) ≡ 0 =
+      none_granted t core l v h e in
+      let above = v.nested core l h in_tree in
+      let here = rw up at above in
+      omega (arith, here, below)
+  | inr past ↦ rw (get_or_past t.granted (suc l) []
+      (omega (arith, past, rows_long t.levels t.granted v.granted))) refl
+]
+
+-- a core to which nothing is granted has a path on which nothing is to be taken away
+pub none_to_clear : (t : TreeValue) (core : ℕ) → IsDomainTree t → core < size_below t.levels
+    → granted_at t 0 core ≡ 0 → with_path_cleared t core ≡ t
+none_to_clear t core v h e =
+    let granted : (l : ℕ) → granted_at t l (place_above t.levels l core) ≡ 0 =
+    λ l. none_granted t core l v h e in
+    rw (
+      none_cleared t.levels t.granted core granted,
+      none_cleared t.levels t.confirmed core
+          (λ l. omega (arith, granted l, v.sure l (place_above t.levels l core))),
+    )

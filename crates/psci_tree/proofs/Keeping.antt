@@ -1,10 +1,10 @@
 -- What domains keep, as domains are joined, taken apart and replaced.
 use Rattle.std.specs.List.{All}
 use Rattle.std.proofs.lemmas.List.Elements.{All-append, All-nil, All-cons, All-drop}
-use Rattle.psci_tree.proofs.Words.{◌++◌, ◌+◌, ◌<◌, ◌^◌, ◌∙◌, ◌∷◌, ◌≡◌, ◌≤◌, [], All-take, ap}
-use Rattle.psci_tree.proofs.Words.{AreKept, arith, branches, cond, cores_in, CoreState, count_by}
+use Rattle.psci_tree.proofs.Words.{◌++◌, ◌+◌, ◌<◌, ◌^◌, ◌∷◌, ◌≡◌, ◌≤◌, [], All-take, AreKept, arith}
+use Rattle.psci_tree.proofs.Words.{branches, cond, cores_in, CoreState, count_by}
 use Rattle.psci_tree.proofs.Words.{count_by-le-length, Domain, Domain-F, domains_down, drop}
-use Rattle.psci_tree.proofs.Words.{drop_at, flat_map, get_or, is_active, is_away, IsKept, IsRecount}
+use Rattle.psci_tree.proofs.Words.{drop_at, get_or, is_active, is_away, IsKept, IsRecount}
 use Rattle.psci_tree.proofs.Words.{Keeps, Kept, kept_together, leaves, length, length-append, List}
 use Rattle.psci_tree.proofs.Words.{low_in, out-Domain, out-roll-Domain, recount, refl, roll-Domain}
 use Rattle.psci_tree.proofs.Words.{set, subst, suc, sum_by-append, sym, take, take_at, zero, ℕ}
@@ -16,23 +16,12 @@ use Rattle.psci_tree.proofs.Below.{cores_take}
 -- the recount of two runs of cores is that of the one beside that of the other
 pub recount-append : (xs ys : List CoreState)
     → recount (xs ++ ys) ≡ kept_together (recount xs) (recount ys)
-recount-append xs ys =
-    let known = sum_by-append (λ (c : CoreState). c.known) xs ys in
-    let active = sum_by-append (λ (c : CoreState). cond (is_active c.activity) 1 0) xs ys in
-    let off = sum_by-append (λ (c : CoreState). cond (is_away c.activity) 1 0) xs ys in
-    let cores = length-append xs ys in
-    let low0 = low-append 0 xs ys in
-    let low1 = low-append 1 xs ys in
-    let low2 = low-append 2 xs ys in
-    let low3 = low-append 3 xs ys in
-    cc
+recount-append xs ys = simp (sum_by-append, length-append, low-append)
 
 pub keeps_append : (j k : Kept) (xs ys : List CoreState) → Keeps j xs → Keeps k ys
     → Keeps (kept_together j k) (xs ++ ys)
 keeps_append j k xs ys h l = record {
-  counted = ap (λ (i : Kept). kept_together i k) h.counted ∙ ap
-      (kept_together (recount xs)) l.counted
-      ∙ sym (recount-append xs ys);
+  counted = rw (h.counted, l.counted) (sym (recount-append xs ys));
   small = omega (arith, length-append xs ys, h.small, l.small);
 }
 
@@ -47,22 +36,13 @@ right_of P xs ys h =
     subst (All P) (drop_at xs ys (length xs) refl) (All-drop P (length xs) (xs ++ ys) h)
 
 pub kept_head : (n : Domain) (ns : List Domain) → AreKept (n ∷ ns) → IsKept n
-kept_head n ns h = record {
-  each = λ k.
-      left_of IsRecount (domains_down k n) (flat_map (domains_down k) ns) (h.each k);
-}
+kept_head n ns h = record { each = λ k. left_of IsRecount (domains_down k n) _ (h.each k) }
 
 pub kept_tail : (n : Domain) (ns : List Domain) → AreKept (n ∷ ns) → AreKept ns
-kept_tail n ns h = record {
-  each = λ k.
-      right_of IsRecount (domains_down k n) (flat_map (domains_down k) ns) (h.each k);
-}
+kept_tail n ns h = record { each = λ k. right_of IsRecount (domains_down k n) _ (h.each k) }
 
 pub kept_cons : (n : Domain) (ns : List Domain) → IsKept n → AreKept ns → AreKept (n ∷ ns)
-kept_cons n ns h l = record {
-  each = λ k.
-      All-append IsRecount (domains_down k n) (flat_map (domains_down k) ns) (h.each k) (l.each k);
-}
+kept_cons n ns h l = record { each = λ k. All-append IsRecount _ _ (h.each k) (l.each k) }
 
 pub kept_nil : AreKept []
 kept_nil = record { each = λ k. All-nil IsRecount }
@@ -125,18 +105,13 @@ pub kept_roll : (x : Domain-F Domain) → 0 < length x.children.items
     → Keeps x.kept (cores_in x.children.items) → AreKept x.children.items
     → IsKept (roll-Domain x)
 kept_roll x some h l =
-    let own : IsRecount (roll-Domain x) =
-    subst (λ (y : Domain-F Domain). Keeps y.kept (leaves (roll-Domain x))) (sym (out-roll-Domain x))
-    (subst (Keeps x.kept) (sym (cores_roll x some)) h) in
-    kept_from (roll-Domain x) own (subst AreKept (sym (children_roll x)) l)
+    kept_from _ (rw (out-roll-Domain x, cores_roll x some) h) (rw (children_roll x) l)
 
 pub kept_roll_core : (x : Domain-F Domain) → length x.children.items ≡ 0
     → Keeps x.kept (x.core ∷ []) → IsKept (roll-Domain x)
 kept_roll_core x none h =
-    let own : IsRecount (roll-Domain x) =
-    subst (λ (y : Domain-F Domain). Keeps y.kept (leaves (roll-Domain x))) (sym (out-roll-Domain x))
-    (subst (Keeps x.kept) (sym (cores_roll_core x none)) h) in
-    kept_from (roll-Domain x) own (subst AreKept (sym (children_roll x)) (kept_none _ none))
+    kept_from _ (rw (out-roll-Domain x, cores_roll_core x none) h)
+    (rw (children_roll x) (kept_none _ none))
 
 -- The next child of several ------------------------------------------------------------------
 
@@ -145,11 +120,8 @@ pub kept_next : (ns : List Domain) (i : ℕ) (d : Domain) (k : Kept) → i < len
     → d ≡ get_or ns i d → AreKept ns → Keeps k (cores_in (take i ns))
     → Keeps (kept_together k (out-Domain d).kept) (cores_in (take (i + 1) ns))
 kept_next ns i d k h is l e =
-    let own : Keeps (out-Domain d).kept (leaves d) =
-    subst IsRecount (sym is) (kept_own (get_or ns i d) (kept_at ns i d h l)) in
-    subst (Keeps (kept_together k (out-Domain d).kept))
-    (ap (λ x. cores_in (take i ns) ++ leaves x) is ∙ sym (cores_take ns i d h))
-    (keeps_append k (out-Domain d).kept (cores_in (take i ns)) (leaves d) e own)
+    rw (cores_take ns i d h, ← is) (keeps_append k _ (cores_in (take i ns)) (leaves d) e
+    (rw (← is) at (kept_own _ (kept_at ns i d h l))))
 
 -- so many are off below these domains, and below those before a child
 abbrev pub off_in : List Domain → ℕ
@@ -158,14 +130,9 @@ off_in ns = count_by (λ c. is_away c.activity) (cores_in ns)
 pub off_in_next : (ns : List Domain) (i : ℕ) (d : Domain) → i < length ns → d ≡ get_or ns i d
     → AreKept ns → off_in (take (i + 1) ns) ≡ off_in (take i ns) + (out-Domain d).kept.off
 off_in_next ns i d h is l =
-    let own : Keeps (out-Domain d).kept (leaves d) =
-    subst IsRecount (sym is) (kept_own (get_or ns i d) (kept_at ns i d h l)) in
-    ap (count_by (λ (c : CoreState). is_away c.activity)) (cores_take ns i d h)
-    ∙ sum_by-append (λ (c : CoreState). cond (is_away c.activity) 1 0) (cores_in (take i ns))
-    (leaves (get_or ns i d))
-    ∙ ap (λ x. off_in (take i ns) + count_by (λ (c : CoreState). is_away c.activity) (leaves x))
-    (sym is)
-    ∙ ap (λ x. off_in (take i ns) + x) (sym (ap (λ (j : Kept). j.off) own.counted))
+    let own = rw (← is) at (kept_own _ (kept_at ns i d h l)) in
+    rw (own.counted, cores_take ns i d h, ← is) (sum_by-append (λ (c : CoreState).
+    cond (is_away c.activity) 1 0) (cores_in (take i ns)) (leaves d))
 
 -- what is kept of so few cores is so small
 pub record Small (k : Kept) : Type 0 where
@@ -175,26 +142,16 @@ pub record Small (k : Kept) : Type 0 where
   pub off : k.off < 2 ^ 16
 
 pub keeps_small : (k : Kept) (cs : List CoreState) → Keeps k cs → length cs < 2 ^ 16 → Small k
-keeps_small k cs h few = record {
-  known = omega (arith, h.small);
-  cores = omega (arith, ap (λ (j : Kept). j.cores) h.counted);
-  active = omega (
-    arith,
-    ap (λ (j : Kept). j.active) h.counted,
-    count_by-le-length (λ (c : CoreState). is_active c.activity) cs,
-  );
-  off = omega (
-    arith,
-    ap (λ (j : Kept). j.off) h.counted,
-    count_by-le-length (λ (c : CoreState). is_away c.activity) cs,
-  );
-}
+keeps_small k cs h few =
+    let small = rw h.counted at h.small in
+    rw h.counted (record {
+      known = omega arith;
+      cores = few;
+      active = omega (arith, count_by-le-length (λ (c : CoreState). is_active c.activity) cs);
+      off = omega (arith, count_by-le-length (λ (c : CoreState). is_away c.activity) cs);
+    })
 
 -- the least ask at a level of the board
 pub keeps_low : (k : Kept) (cs : List CoreState) (level : ℕ) → Keeps k cs → level ≤ 3
     → get_or k.lows level 0 ≡ low_in level cs
-keeps_low k cs zero h l = ap (λ (j : Kept). get_or j.lows 0 0) h.counted
-keeps_low k cs (suc zero) h l = ap (λ (j : Kept). get_or j.lows 1 0) h.counted
-keeps_low k cs (suc (suc zero)) h l = ap (λ (j : Kept). get_or j.lows 2 0) h.counted
-keeps_low k cs (suc (suc (suc zero))) h l = ap (λ (j : Kept). get_or j.lows 3 0) h.counted
-keeps_low k cs (suc (suc (suc (suc level)))) h l = absurd (omega arith)
+keeps_low k cs level h l = grind arith

@@ -1,12 +1,12 @@
 -- Domains that were turned off one after the other, beside what they were.
 use Rattle.std.proofs.lemmas.List.{replicate-append-replicate}
 use Rattle.std.proofs.lemmas.List.Folds.{sum_by-replicate}
-use Rattle.psci_tree.proofs.Words.{◌++◌, ◌<◌, ◌∙◌, ◌∷◌, ◌≡◌, ◌≤◌, [], ap, AreKept, arith, branches}
-use Rattle.psci_tree.proofs.Words.{child_counts, cond, cores_in, CoreState, count_by, Domain}
-use Rattle.psci_tree.proofs.Words.{Domain-F, flat_map, get_or, is_active, is_away, IsKept, Keeps}
-use Rattle.psci_tree.proofs.Words.{Kept, leaves, length, length-append, length-replicate, List}
-use Rattle.psci_tree.proofs.Words.{low_in, min, never_started, recount, refl, replicate}
-use Rattle.psci_tree.proofs.Words.{roll-Domain, set, subst, suc, sum_by, sym, zero, ℕ}
+use Rattle.psci_tree.proofs.Words.{◌<◌, ◌∷◌, ◌≡◌, ◌≤◌, [], ap, AreKept, arith, branches}
+use Rattle.psci_tree.proofs.Words.{child_counts, cores_in, count_by, Domain, Domain-F, flat_map}
+use Rattle.psci_tree.proofs.Words.{get_or, is_active, is_away, IsKept, Keeps, Kept, leaves, length}
+use Rattle.psci_tree.proofs.Words.{length-append, length-replicate, List, low_in, never_started}
+use Rattle.psci_tree.proofs.Words.{recount, refl, replicate, roll-Domain, set, subst, suc, sum_by}
+use Rattle.psci_tree.proofs.Words.{sym, zero, ℕ}
 use Rattle.psci_tree.proofs.Below.{children_roll}
 use Rattle.psci_tree.proofs.Keeping.{kept_nil, kept_cons}
 
@@ -54,24 +54,19 @@ off_more (suc i) (n ∷ ns) (x ∷ ms) m d h a o =
 
 pub off_cores : (i : ℕ) (ns ms : List Domain) → length ns ≤ i → AreOffTo i ns ms
     → cores_in ms ≡ replicate (length (cores_in ns)) never_started
-off_cores zero [] ms h a = ap cores_in a
+off_cores zero [] ms h a = rw a
 off_cores zero (n ∷ ns) ms h a = absurd (omega arith)
 off_cores (suc i) [] [] h a = refl
 off_cores (suc i) (n ∷ ns) (m ∷ ms) h a =
-    ap (λ xs. xs ++ cores_in ms) a.0.cores
-    ∙ ap (λ xs. replicate (length (leaves n)) never_started ++ xs)
-    (off_cores i ns ms (omega arith) a.1)
-    ∙ replicate-append-replicate (length (leaves n)) (length (cores_in ns)) never_started
-    ∙ ap (λ k. replicate k never_started) (sym (length-append (leaves n) (cores_in ns)))
+    simp (a.0.cores, off_cores i ns ms (omega arith) a.1, length-append, replicate-append-replicate)
 off_cores (suc i) ns ms h a = absurd a
 
 pub off_shape : (i : ℕ) (ns ms : List Domain) (k : ℕ) → length ns ≤ i → AreOffTo i ns ms
     → flat_map (child_counts k) ms ≡ flat_map (child_counts k) ns
-off_shape zero ns ms k h a = ap (flat_map (child_counts k)) a
+off_shape zero ns ms k h a = rw a
 off_shape (suc i) [] [] k h a = refl
 off_shape (suc i) (n ∷ ns) (m ∷ ms) k h a =
-    ap (λ xs. xs ++ flat_map (child_counts k) ms) (a.0.shape k)
-    ∙ ap (λ xs. child_counts k n ++ xs) (off_shape i ns ms k (omega arith) a.1)
+    simp (a.0.shape k, off_shape i ns ms k (omega arith) a.1)
 off_shape (suc i) ns ms k h a = absurd a
 
 pub off_kept : (i : ℕ) (ns ms : List Domain) → length ns ≤ i → AreOffTo i ns ms → AreKept ms
@@ -86,24 +81,18 @@ off_kept (suc i) ns ms h a = absurd a
 pub off_widths : (n : Domain) (x : Domain-F Domain) (i : ℕ) → length (branches n) ≤ i
     → AreOffTo i (branches n) x.children.items → (k : ℕ)
     → child_counts k (roll-Domain x) ≡ child_counts k n
-off_widths n x i h a zero =
-    ap (λ (ns : List Domain). length ns ∷ []) (children_roll x)
-    ∙ ap (λ (m : ℕ). m ∷ []) (off_length i (branches n) x.children.items a)
-off_widths n x i h a (suc k) =
-    ap (flat_map (child_counts k)) (children_roll x)
-    ∙ off_shape i (branches n) x.children.items k h a
+off_widths n x i h a zero = simp (children_roll, off_length i (branches n) x.children.items a)
+off_widths n x i h a (suc k) = simp (children_roll, off_shape i (branches n) x.children.items k h a)
 
 -- What is kept of them --------------------------------------------------------------------------
 
 low_never : (level n : ℕ) → low_in level (replicate n never_started) ≡ 3
 low_never level zero = refl
-low_never level (suc n) = ap (λ x. min 3 x) (low_never level n)
+low_never level (suc n) = simp (low_never level n)
 
 -- all of them are off
 pub count_never : (n : ℕ) → count_by (λ c. is_away c.activity) (replicate n never_started) ≡ n
-count_never n =
-    sum_by-replicate (λ (c : CoreState). cond (is_away c.activity) 1 0) n never_started
-    ∙ omega arith
+count_never n = simp (sum_by-replicate) (omega arith)
 
 -- what is kept of so many cores that are off and were never started
 pub kept_never : (n : ℕ) → record {
@@ -114,18 +103,11 @@ pub kept_never : (n : ℕ) → record {
   off = n;
 } ≡ recount (replicate n never_started)
 kept_never n =
-    let low0 = low_never 0 n in
-    let low1 = low_never 1 n in
-    let low2 = low_never 2 n in
-    let low3 = low_never 3 n in
     let known : sum_by (λ c. c.known) (replicate n never_started) ≡ 0 =
-    sum_by-replicate (λ (c : CoreState). c.known) n never_started ∙ omega arith in
+    simp sum_by-replicate (omega arith) in
     let active : count_by (λ c. is_active c.activity) (replicate n never_started) ≡ 0 =
-    sum_by-replicate (λ (c : CoreState). cond (is_active c.activity) 1 0) n never_started
-    ∙ omega arith in
-    let off : count_by (λ c. is_away c.activity) (replicate n never_started) ≡ n = count_never n in
-    let cores = length-replicate n never_started in
-    cc
+    simp sum_by-replicate (omega arith) in
+    simp (known, active, count_never, length-replicate, low_never)
 
 -- what is kept of as many cores as are off below domains that were turned off
 pub never_keeps : (k : Kept) (ns : List Domain) (off n : ℕ)
@@ -133,6 +115,5 @@ pub never_keeps : (k : Kept) (ns : List Domain) (off n : ℕ)
     → off ≡ count_by (λ c. is_away c.activity) (cores_in ns)
     → Keeps k (replicate off never_started) → Keeps k (cores_in ns)
 never_keeps k ns off n e c h =
-    let all : off ≡ n =
-    c ∙ ap (count_by (λ (s : CoreState). is_away s.activity)) e ∙ count_never n in
-    subst (Keeps k) (ap (λ m. replicate m never_started) all ∙ sym e) h
+    let all : off ≡ n = rw (c, e) (count_never n) in
+    rw (e, ← all) h

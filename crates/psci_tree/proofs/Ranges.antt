@@ -3,8 +3,8 @@
 use Rattle.std.specs.List.{list_all}
 use Rattle.psci_tree.proofs.Words.{◌&&◌, ◌+◌, ◌<◌, ◌==◌, ◌∙◌, ◌∷◌, ◌≡◌, ◌≤◌, [], ap, arith, Bool}
 use Rattle.psci_tree.proofs.Words.{cases_eq, cond, count_by, false, filter, inl, inr, length, List}
-use Rattle.psci_tree.proofs.Words.{ne_eqb, not, range_with_len, refl, suc, sum_by, sum_by-cons, sym}
-use Rattle.psci_tree.proofs.Words.{true, zero, ℕ}
+use Rattle.psci_tree.proofs.Words.{nat_tests, not, range_with_len, refl, suc, sum_by, sum_by-cons}
+use Rattle.psci_tree.proofs.Words.{sym, true, zero, ℕ}
 
 -- where it is so of each number, it is so of the sums
 pub sums : (f g h : ℕ → ℕ) (xs : List ℕ) → ((k : ℕ) → f k + g k ≡ h k)
@@ -28,8 +28,7 @@ zeros [] = refl
 zeros (x ∷ xs) = omega (arith, sum_by-cons (λ k. 0) x xs, zeros xs)
 
 either : (b : Bool) → cond b 1 0 + cond (not b) 1 0 ≡ 1
-either true = refl
-either false = refl
+either b = grind arith
 
 -- each passes a test, or does not
 pub counted_both : (test : ℕ → Bool) (xs : List ℕ)
@@ -39,19 +38,14 @@ counted_both test xs =
     (λ k. either (test k))
     ∙ ones xs
 
-all_step : (t : Bool) (n : ℕ) (rest : Bool) → rest ≡ (n == 0)
-    → (t && rest) ≡ ((cond (not t) 1 0 + n) == 0)
-all_step true n rest e =
-    let same : n ≡ 0 + n = omega arith in e ∙ ap (λ x. x == 0) same
-all_step false n rest e = sym (ne_eqb (1 + n) 0 (λ z. omega (arith, z)))
+all_step : (t : Bool) (n : ℕ) → (t && (n == 0)) ≡ ((cond (not t) 1 0 + n) == 0)
+all_step t n = grind (arith, nat_tests)
 
 -- all pass where none are counted that do not
 pub all_counted : (p : ℕ → Bool) (xs : List ℕ)
     → list_all p xs ≡ (count_by (λ k. not (p k)) xs == 0)
 all_counted p [] = refl
-all_counted p (x ∷ xs) =
-    all_step (p x) (count_by (λ k. not (p k)) xs) (list_all p xs) (all_counted p xs)
-    ∙ ap (λ n. n == 0) (sym (sum_by-cons (λ k. cond (not (p k)) 1 0) x xs))
+all_counted p (x ∷ xs) = simp (all_counted p xs, sum_by-cons, all_step)
 
 -- Ranges -------------------------------------------------------------------------------------
 
@@ -90,7 +84,7 @@ kept : (b : Bool) (f : ℕ → ℕ) (x : ℕ) (xs : List ℕ)
 kept true f x xs = sum_by-cons f x xs
 kept false f x xs = omega arith
 
-filtered : (f : ℕ → ℕ) (test : ℕ → Bool) (xs : List ℕ)
+pub filtered : (f : ℕ → ℕ) (test : ℕ → Bool) (xs : List ℕ)
     → sum_by f (filter test xs) ≡ sum_by (λ c. cond (test c) (f c) 0) xs
 filtered f test [] = refl
 filtered f test (x ∷ xs) = omega (
@@ -101,8 +95,7 @@ filtered f test (x ∷ xs) = omega (
 )
 
 where_kept : (b : Bool) (x y : ℕ) → (b ≡ true → x ≡ y) → cond b x 0 ≡ cond b y 0
-where_kept true x y h = h refl
-where_kept false x y h = refl
+where_kept b x y h = grind arith
 
 pub sum_same : (f g : ℕ → ℕ) (test : ℕ → Bool) (n : ℕ)
     → ((c : ℕ) → c < n → test c ≡ true → f c ≡ g c)
@@ -130,19 +123,10 @@ pub sum_on : (f g : ℕ → ℕ) (test : ℕ → Bool) (n k : ℕ) → k < n
     → ((c : ℕ) → (c ≡ k → ⊥) → f c ≡ g c) → test k ≡ true
     → sum_by f (filter test (range_with_len 0 n)) + g k
     ≡ sum_by g (filter test (range_with_len 0 n)) + f k
-sum_on f g test n k p h e = omega (
-  arith,
-  sum_once f g test n k p h,
-  ap {B = ℕ} (λ b. cond b (f k) 0) e,
-  ap {B = ℕ} (λ b. cond b (g k) 0) e,
-)
+sum_on f g test n k p h e = rw e at (sum_once f g test n k p h)
 
 pub sum_off : (f g : ℕ → ℕ) (test : ℕ → Bool) (n k : ℕ) → k < n
     → ((c : ℕ) → (c ≡ k → ⊥) → f c ≡ g c) → test k ≡ false
     → sum_by f (filter test (range_with_len 0 n)) ≡ sum_by g (filter test (range_with_len 0 n))
-sum_off f g test n k p h e = omega (
-  arith,
-  sum_once f g test n k p h,
-  ap {B = ℕ} (λ b. cond b (f k) 0) e,
-  ap {B = ℕ} (λ b. cond b (g k) 0) e,
-)
+sum_off f g test n k p h e =
+    let same = rw e at (sum_once f g test n k p h) in omega arith

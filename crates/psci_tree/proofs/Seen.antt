@@ -1,13 +1,20 @@
 -- The fields of a tree in memory, and the value that it is seen as.
 use Rattle.std.proofs.Common.{Vec, Global}
-use Rattle.psci_tree.proofs.Words.{◌<◌, ◌∙◌, ◌≡◌, ◌≤◌, [], ap, AreWays, arith, confirmed_at}
-use Rattle.psci_tree.proofs.Words.{confirmed_of, depth_set, Depths, get_or, granted_at, granted_of}
-use Rattle.psci_tree.proofs.Words.{HasNodeIn, IsDomainTree, IsHeld, IsWayOf, IsWhole, length}
-use Rattle.psci_tree.proofs.Words.{length-map, List, map, Node, place_above, set, size_below, subst}
-use Rattle.psci_tree.proofs.Words.{sym, the_view, TreeValue, Way, with_items, with_items_is, ℕ}
+use Rattle.std.proofs.lemmas.List.{length-set}
+use Rattle.psci_tree.proofs.Words.{◌<◌, ◌∙◌, ◌≡◌, ◌≤◌, [], ap, arith, cases_eq, child_counts}
+use Rattle.psci_tree.proofs.Words.{confirmed_at, confirmed_of, CoreState, depth_set, Depths, Domain}
+use Rattle.psci_tree.proofs.Words.{get_or, get_or-set_other, get_or-set_same, get_or_default}
+use Rattle.psci_tree.proofs.Words.{granted_at, granted_of, HasNodeIn, inl, inr, IsActivity}
+use Rattle.psci_tree.proofs.Words.{IsDomainTree, IsHeld, IsKept, IsWayOf, known_at, leaves, length}
+use Rattle.psci_tree.proofs.Words.{length-map, List, map, never_started, Node, place_above, set}
+use Rattle.psci_tree.proofs.Words.{size_below, subst, sym, the_view, TreeValue, unwrap_or, Way}
+use Rattle.psci_tree.proofs.Words.{with_core_state, with_items, with_items_is, ℕ}
 use Rattle.psci_tree.specs.declared.tree.Tree.TheInside.{Inside}
 use Rattle.psci_tree.specs.contracts.tree.Tree.{the_invariant}
 use Rattle.psci_tree.proofs.DepthRows.{DepthRow, depth_row, ReadAt, read_at, depths_written}
+use Rattle.psci_state.specs.declared.cores.Change.{Change}
+use Rattle.psci_tree.specs.Changes.{core_changed}
+use Rattle.psci_tree.proofs.Slices.{whole_kept}
 
 -- what holds of the fields, by the value
 pub held_seen : (x : Inside) (v : TreeValue) → the_invariant x → the_view x ≡ v
@@ -20,14 +27,10 @@ pub held_with : (x : Inside) (v u w : TreeValue) → the_invariant x → the_vie
     → IsHeld x.root x.cores.items x.ways.items w
 held_with x v u w h is e l s valid =
     let levels : x.board.levels ≡ u.levels = ap (λ (t : TreeValue). t.levels) is ∙ sym l in
-    subst (IsHeld x.root x.cores.items x.ways.items) (sym e) (record {
-      tied = record {
-        whole = subst (IsWhole x.root) levels h.tied.whole;
-        kept = h.tied.kept;
-        valid = valid;
-      };
+    rw e (record {
+      tied = record { whole = rw (← levels) h.tied.whole; kept = h.tied.kept; valid = valid };
       row = h.row ∙ ap (λ (t : TreeValue). t.cores) is ∙ sym s;
-      lead = subst (λ ls. AreWays ls x.ways.items) levels h.lead;
+      lead = rw (← levels) h.lead;
     })
 
 -- the core of the value is one of the board, and the way that is read leads to it
@@ -38,8 +41,7 @@ core_seen x v {core = core} is = subst (λ (t : TreeValue). core < size_below t.
 pub way_seen : (x : Inside) (v : TreeValue) {core : ℕ} {way : Way} → the_invariant x
     → the_view x ≡ v → core < size_below v.levels → way ≡ get_or x.ways.items core way
     → IsWayOf x.board.levels core way
-way_seen x v {core = core} {way = way} h is i e =
-    subst (IsWayOf x.board.levels core) (sym e) (h.lead.each core way (core_seen x v is i))
+way_seen x v {core = core} {way = way} h is i e = rw e (h.lead.each core way (core_seen x v is i))
 
 pub place_on_way : (x : Inside) (v : TreeValue) {core l : ℕ} {way : Way} → the_invariant x
     → the_view x ≡ v → core < size_below v.levels → way ≡ get_or x.ways.items core way
@@ -106,11 +108,7 @@ pub rows_seen : (x : Inside) (v : TreeValue) (ws : List (Vec Depths Global))
     → granted_of (rows_in ws) ≡ gs → confirmed_of (rows_in ws) ≡ fs
     → value_with x (rows_in (with_items x.depths ws).items)
     ≡ record v { granted = gs; confirmed = fs }
-rows_seen x v ws gs fs is e g f =
-    ap (λ us. value_with x (rows_in us)) (with_items_is x.depths ws e)
-    ∙ ap (λ hs. record (the_view x) { granted = hs; confirmed = confirmed_of (rows_in ws) }) g
-    ∙ ap (λ hs. record (the_view x) { granted = gs; confirmed = hs }) f
-    ∙ ap (λ (t : TreeValue). record t { granted = gs; confirmed = fs }) is
+rows_seen x v ws gs fs is e g f = rw (with_items_is x.depths ws e, g, f, ← is)
 
 -- the depths of one domain are written
 pub depths_with : (x : Inside) (v : TreeValue) (n : Node) {vs : List (Vec Depths Global)}
@@ -120,14 +118,57 @@ pub depths_with : (x : Inside) (v : TreeValue) (n : Node) {vs : List (Vec Depths
     → d.granted ≡ g → d.confirmed ≡ f
     → value_with x (rows_in (with_items x.depths ws).items)
     ≡ record v { granted = depth_set v.granted n g; confirmed = depth_set v.confirmed n f }
-depths_with x v n ws d {g = g} {f = f} is e same written p q =
-    let rows : List (List Depths) = rows_in x.depths.items in
-    let now = written
-    ∙ ap (λ us. set (rows_in us) n.level (set (get_or (rows_in us) n.level []) n.place d)) same in
+depths_with x v n ws d is e same written p q =
     rows_seen x v ws _ _ is e
-    (ap granted_of now ∙ depths_written (λ y. y.granted) rows n.level n.place d
-    ∙ ap (depth_set (granted_of rows) n) p
-    ∙ ap (λ (t : TreeValue). depth_set t.granted n g) is)
-    (ap confirmed_of now ∙ depths_written (λ y. y.confirmed) rows n.level n.place d
-    ∙ ap (depth_set (confirmed_of rows) n) q
-    ∙ ap (λ (t : TreeValue). depth_set t.confirmed n f) is)
+    (rw (written, same, depths_written (λ y. y.granted) (rows_in x.depths.items), p, ← is))
+    (rw (written, same, depths_written (λ y. y.confirmed) (rows_in x.depths.items), q, ← is))
+
+-- After one core came into another state ----------------------------------------------------------
+
+core_valid : (t : TreeValue) (core : ℕ) (s : CoreState) → IsDomainTree t
+    → core < size_below t.levels → IsActivity s.activity
+    → IsDomainTree (record t { cores = set t.cores core s })
+core_valid t core s v h a =
+    let cores = length-set t.cores core s ∙ v.cores in
+    let asks : (k : ℕ) → IsActivity (get_or (set t.cores core s) k never_started).activity =
+    λ k. elim (cases_eq k core) [
+      | inl e ↦
+          let there : core < length t.cores = omega (arith, v.cores) in
+          rw (e, get_or-set_same t.cores core s never_started there) a
+      | inr d ↦ rw (get_or-set_other t.cores core k s never_started d) (v.asks k)
+    ] in
+    search
+
+-- what was held is held, with the new state of the core
+pub held_core : (root new : Domain) (cores : List CoreState) (ways : List Way) (t : TreeValue)
+    (core : ℕ) (s : CoreState) → IsHeld root cores ways t → core < size_below t.levels
+    → IsActivity s.activity → leaves new ≡ set t.cores core s
+    → ((k : ℕ) → child_counts k new ≡ child_counts k root) → IsKept new
+    → IsHeld new (set cores core s) ways (record t { cores = leaves new })
+held_core root new cores ways t core s h l a e same kept = rw e (record {
+  tied = record {
+    whole = whole_kept root new t.levels same h.tied.whole;
+    kept = kept;
+    valid = core_valid t core s h.tied.valid l a;
+  };
+  row = ap (λ cs. set cs core s) h.row;
+  lead = h.lead;
+})
+
+-- the state of a core, as the row of states has it
+pub state_held : (root : Domain) (cores : List CoreState) (ways : List Way) (t : TreeValue)
+    (core : ℕ) (x y : CoreState) → IsHeld root cores ways t → core < size_below t.levels
+    → x ≡ get_or cores core x → x ≡ get_or t.cores core y
+state_held root cores ways t core x y h l e =
+    let there : core < length t.cores = omega (arith, h.tied.valid.cores) in
+    e ∙ ap (λ cs. get_or cs core x) h.row ∙ get_or_default t.cores core x y there
+
+-- the value of the tree after the change
+pub core_value : (root : Domain) (cores : List CoreState) (ways : List Way) (t : TreeValue)
+    (core : ℕ) (x s : CoreState) (change : Change) (now : List CoreState)
+    → IsHeld root cores ways t → core < size_below t.levels → x ≡ get_or cores core x
+    → s ≡ core_changed change x → now ≡ set t.cores core s
+    → record t { cores = now }
+    ≡ with_core_state t core change.activity (unwrap_or change.started (known_at t core))
+core_value root cores ways t core x s change now h l e d n =
+    rw (n, d, state_held root cores ways t core x never_started h l e)

@@ -8,9 +8,10 @@ use Rattle.psci_tree.proofs.Words.{drop_at, first_core, flat_map, flat_map-appen
 use Rattle.psci_tree.proofs.Words.{get_or, HasNodeIn, HasShape, is_width, IsTree, IsWhole, leaves}
 use Rattle.psci_tree.proofs.Words.{length, length-append, length-flat_map, length-take-le, level}
 use Rattle.psci_tree.proofs.Words.{List, map, map-append, nat_tests, never_started, Node}
-use Rattle.psci_tree.proofs.Words.{range_with_len, refl, size_below, span, SpanLaws, state_at}
-use Rattle.psci_tree.proofs.Words.{subst, suc, sum, sum-cons, sum-map, sym, take, take-append-add}
-use Rattle.psci_tree.proofs.Words.{take-append-drop, take-map, take_at, TreeValue, true, zero, ℕ}
+use Rattle.psci_tree.proofs.Words.{range_with_len, refl, size_below, span, SpanLaws, state_at, suc}
+use Rattle.psci_tree.proofs.Words.{sum, sum-cons, sum-map, sym, take, take-append-add}
+use Rattle.psci_tree.proofs.Words.{take-append-drop, take-map, take_all, take_at, TreeValue, true}
+use Rattle.psci_tree.proofs.Words.{zero, ℕ}
 use Rattle.psci_board.specs.declared.limits.TheConstants.{MOST_CORES}
 use Rattle.psci_tree.proofs.Below.{cores_of_domain, cores_of_core, cores_drop, length_take}
 
@@ -19,21 +20,17 @@ use Rattle.psci_tree.proofs.Below.{cores_of_domain, cores_of_core, cores_drop, l
 down_in : (f g : Domain → List Domain) → ((n : Domain) → f n ≡ flat_map branches (g n))
     → (ns : List Domain) → flat_map f ns ≡ flat_map branches (flat_map g ns)
 down_in f g h [] = refl
-down_in f g h (n ∷ ns) = ap (λ x. x ++ flat_map f ns) (h n) ∙ ap (λ x. flat_map branches (g n)
-    ++ x) (down_in f g h ns) ∙ sym (flat_map-append branches (g n) (flat_map g ns))
+down_in f g h (n ∷ ns) = simp (h, down_in f g h ns, flat_map-append)
 
 pub down_step : (k : ℕ) (n : Domain) → domains_down (suc k) n ≡ flat_map branches (domains_down k n)
-down_step zero n =
-    flat_map_single (λ m. m) (branches n) ∙ map-id (branches n) ∙ sym (append-nil (branches n))
+down_step zero n = simp (flat_map_single (λ (m : Domain). m), map-id, append-nil)
 down_step (suc k) n = down_in (domains_down (suc k)) (domains_down k) (down_step k) (branches n)
 
 widths_in : (f : Domain → List ℕ) (g : Domain → List Domain)
     → ((n : Domain) → f n ≡ map child_count (g n))
     → (ns : List Domain) → flat_map f ns ≡ map child_count (flat_map g ns)
 widths_in f g h [] = refl
-widths_in f g h (n ∷ ns) = ap (λ x. x ++ flat_map f ns) (h n)
-    ∙ ap (λ x. map child_count (g n) ++ x) (widths_in f g h ns)
-    ∙ sym (map-append child_count (g n) (flat_map g ns))
+widths_in f g h (n ∷ ns) = simp (h, widths_in f g h ns, map-append)
 
 pub widths_are : (k : ℕ) (n : Domain) → child_counts k n ≡ map child_count (domains_down k n)
 widths_are zero n = refl
@@ -44,36 +41,22 @@ take_down : (p : ℕ) (ns : List Domain)
     ≡ take (sum (take p (map child_count ns))) (flat_map branches ns)
 take_down zero ns = refl
 take_down (suc p) [] = refl
-take_down (suc p) (n ∷ ns) =
-    ap (λ x. branches n ++ x) (take_down p ns)
-    ∙ sym (take-append-add (branches n) (flat_map branches ns) (sum (take p (map child_count ns))))
-    ∙ ap (λ k. take k (branches n ++ flat_map branches ns))
-    (sym (sum-cons (child_count n) (take p (map child_count ns))))
+take_down (suc p) (n ∷ ns) = simp (take_down p ns, sum-cons, take-append-add)
 
 -- domains that have children have the cores of their children
 pub cores_down : (ns : List Domain) → AllPass is_width (map child_count ns)
     → cores_in ns ≡ cores_in (flat_map branches ns)
 cores_down [] h = refl
 cores_down (n ∷ ns) h =
-    let some : 0 < length (branches n) = wide (child_count n) (h 0 0 (omega arith)) in
-    ap (λ x. x ++ cores_in ns) (cores_of_domain n some)
-    ∙ ap (λ x. cores_in (branches n) ++ x) (cores_down ns (λ k d l. h (suc k) d (omega arith)))
-    ∙ sym (flat_map-append leaves (branches n) (flat_map branches ns))
-  where
-    wide : (m : ℕ) → is_width m ≡ true → 0 < m
-    wide m e = grind (arith, nat_tests)
+    let wide : is_width (child_count n) ≡ true = h 0 0 (omega arith) in
+    let some : 0 < length (branches n) = grind (arith, nat_tests) in
+    let rest = cores_down ns (λ k d l. h (suc k) d (omega arith)) in
+    simp (cores_of_domain n some, rest, flat_map-append)
 
 -- domains without children are one core each
 cores_ends : (ns : List Domain) → sum (map child_count ns) ≡ 0 → length (cores_in ns) ≡ length ns
 cores_ends [] h = refl
-cores_ends (n ∷ ns) h =
-    let parts = sum-cons (child_count n) (map child_count ns) in
-    omega (
-      arith,
-      length-append (leaves n) (cores_in ns),
-      ap length (cores_of_core n (omega arith)),
-      cores_ends ns (omega arith),
-    )
+cores_ends (n ∷ ns) h = grind (arith, sum-cons, length-append, cores_of_core, cores_ends ns)
 
 -- The shape ----------------------------------------------------------------------------------
 
@@ -87,10 +70,14 @@ pub fans_at : (n : Domain) (levels : List (List ℕ)) (l k : ℕ) → IsWhole n 
     → k + suc l ≡ length levels → map child_count (domains_down k n) ≡ get_or levels l []
 fans_at n levels l k h e = sym (widths_are k n) ∙ shape_at n levels l k h.shape e
 
-pub wide_at : (n : Domain) (levels : List (List ℕ)) (l k : ℕ) → IsTree levels → IsWhole n levels
-    → k + suc l ≡ length levels → AllPass is_width (map child_count (domains_down k n))
-wide_at n levels l k t h e = let P : List ℕ → Type 0 = AllPass is_width in
-    subst P (sym (fans_at n levels l k h e)) (level levels l t (omega arith)).width
+-- the first domains of a level above the cores have the cores of their children
+pub cores_below : (n : Domain) (levels : List (List ℕ)) (l k p : ℕ) → IsTree levels
+    → IsWhole n levels → k + suc l ≡ length levels → cores_in (take p (domains_down k n))
+    ≡ cores_in (flat_map branches (take p (domains_down k n)))
+cores_below n levels l k p t h e =
+    cores_down _ (rw (← (take-map child_count p (domains_down k n)), fans_at n levels l k h e)
+    (All-take (λ x. is_width x ≡ true) p (get_or levels l [])
+    (level levels l t (omega arith)).width))
 
 pub size_drop : (levels : List (List ℕ)) (l : ℕ) → l < length levels
     → size_below (drop l levels) ≡ sum (get_or levels l [])
@@ -100,27 +87,28 @@ size_drop (w ∷ ws) (suc l) h = size_drop ws l (omega arith)
 
 pub size_at : (n : Domain) (levels : List (List ℕ)) (l k : ℕ) → IsWhole n levels
     → k + l ≡ length levels → length (domains_down k n) ≡ size_below (drop l levels)
-size_at n levels l zero h e = ap size_below (sym (drop_all l levels (omega arith)))
+size_at n levels l zero h e = rw (drop_all l levels (omega arith))
 size_at n levels l (suc k) h e =
-    ap length (down_step k n) ∙ length-flat_map branches (domains_down k n)
-    ∙ sym (sum-map child_count (domains_down k n))
-    ∙ ap sum (fans_at n levels l k h (omega arith)) ∙ sym (size_drop levels l (omega arith))
+    let here = length-flat_map branches (domains_down k n) in
+    rw (down_step k n, size_drop levels l (omega arith), ← (fans_at n levels l k h (omega arith)))
+    (here ∙ sym (sum-map child_count (domains_down k n)))
 
 pub cores_all : (n : Domain) (levels : List (List ℕ)) (l k : ℕ) → IsTree levels → IsWhole n levels
     → k + l ≡ length levels → leaves n ≡ cores_in (domains_down k n)
 cores_all n levels l zero t h e = sym (append-nil (leaves n))
 cores_all n levels l (suc k) t h e =
-    cores_all n levels (suc l) k t h (omega arith)
-    ∙ cores_down (domains_down k n) (wide_at n levels l k t h (omega arith))
-    ∙ ap cores_in (sym (down_step k n))
+    let row : List Domain = domains_down k n in
+    let all : take (length row) row ≡ row = take_all (length row) row (omega arith) in
+    let down = rw all at (cores_below n levels l k (length row) t h (omega arith)) in
+    cores_all n levels (suc l) k t h (omega arith) ∙ down ∙ ap cores_in (sym (down_step k n))
 
 pub length_cores : (n : Domain) (levels : List (List ℕ)) → IsTree levels → IsWhole n levels
     → length (leaves n) ≡ size_below levels
 length_cores n levels t h =
-    ap length (cores_all n levels 0 (length levels) t h (omega arith))
-    ∙ cores_ends (domains_down (length levels) n) (ap sum (sym (widths_are (length levels) n))
-    ∙ h.ends)
-    ∙ size_at n levels 0 (length levels) h (omega arith)
+    let k : ℕ = length levels in
+    rw (cores_all n levels 0 k t h (omega arith))
+    (cores_ends (domains_down k n) (rw (← (widths_are k n)) h.ends)
+    ∙ size_at n levels 0 k h (omega arith))
 
 shape_kept : (n m : Domain) (levels : List (List ℕ))
     → ((k : ℕ) → child_counts k m ≡ child_counts k n)
@@ -144,22 +132,14 @@ pub first_len : (n : Domain) (levels : List (List ℕ)) (l k p : ℕ) → IsTree
     → length (cores_in (take p (domains_down k n))) ≡ first_core levels l p
 first_len n levels zero k p t h e b =
     let row : List Domain = domains_down k n in
-    let same : k ≡ length levels = omega arith in
-    let none : sum (map child_count row) ≡ 0 =
-    ap sum (sym (widths_are k n)) ∙ ap (λ j. sum (child_counts j n)) same ∙ h.ends in
-    let few : sum (map child_count (take p row)) ≡ 0 =
-    ap sum (sym (take-map child_count p row))
-    ∙ omega (arith, sum_by-take-le (λ x. x) (map child_count row) p) in
-    cores_ends (take p row) few ∙ length-take-le p row b
+    let same : length levels ≡ k = omega arith in
+    let none : sum (map child_count row) ≡ 0 = rw (same, widths_are k n) at h.ends in
+    let few = sum_by-take-le (λ x. x) (map child_count row) p in
+    cores_ends (take p row) (rw (← (take-map child_count p row)) (omega arith))
+    ∙ length-take-le p row b
 first_len n levels (suc l) k p t h e b =
     let row : List Domain = domains_down k n in
     let at : map child_count row ≡ get_or levels l [] = fans_at n levels l k h e in
-    let wide : AllPass is_width (map child_count (take p row)) =
-    (let P : List ℕ → Type 0 = AllPass is_width in subst P (take-map child_count p row)
-    (All-take (λ x. is_width x ≡ true) p (map child_count row) (wide_at n levels l k t h e))) in
-    let down : flat_map branches (take p row)
-    ≡ take (sum (take p (map child_count row))) (domains_down (suc k) n) =
-    take_down p row ∙ ap (take (sum (take p (map child_count row)))) (sym (down_step k n)) in
     let more : sum (take p (map child_count row)) ≤ length (domains_down (suc k) n) =
     omega (
       arith,
@@ -168,9 +148,9 @@ first_len n levels (suc l) k p t h e b =
       length-flat_map branches row,
       sum-map child_count row,
     ) in
-    ap length (cores_down (take p row) wide ∙ ap cores_in down)
-    ∙ first_len n levels l (suc k) (sum (take p (map child_count row))) t h (omega arith) more
-    ∙ ap (λ x. first_core levels l (sum (take p x))) at
+    rw (cores_below n levels l k p t h e, take_down p row, ← (down_step k n))
+    (first_len n levels l (suc k) (sum (take p (map child_count row))) t h (omega arith) more
+    ∙ ap (λ x. first_core levels l (sum (take p x))) at)
 
 slice_of : (a b c : List CoreState) (i k : ℕ) → length a ≡ i → length b ≡ k
     → take k (drop i (a ++ (b ++ c))) ≡ b
@@ -190,13 +170,10 @@ slice_at n levels at k d t h in' e is =
     omega (arith, here, next, length_take row p d fits) in
     let parts : cores_in row ≡ cores_in (take p row)
     ++ (leaves (get_or row p d) ++ cores_in (drop (p + 1) row)) =
-    ap cores_in (sym (take-append-drop p row)) ∙ flat_map-append leaves (take p row) (drop p row)
-    ∙ ap (λ x. cores_in (take p row) ++ x) (cores_drop row p d fits) in
-    ap leaves is
-    ∙ sym (slice_of (cores_in (take p row)) (leaves (get_or row p d)) (cores_in (drop (p + 1) row))
-    (span levels at).first (span levels at).count here wide)
-    ∙ ap (λ x. take (span levels at).count (drop (span levels at).first x))
-    (sym (cores_all n levels at.level k t h e ∙ parts))
+    rw (← (cores_drop row p d fits), ← flat_map-append, take-append-drop) in
+    ap leaves is ∙ rw (cores_all n levels at.level k t h e, parts)
+    (sym (slice_of (cores_in (take p row)) (leaves (get_or row p d)) (cores_in (drop (p + 1) row))
+    (span levels at).first (span levels at).count here wide))
 
 -- a run of numbers as places of a list
 pick_run : {X : Type 0} (xs : List X) (d : X) (a k : ℕ) → a + k ≤ length xs
@@ -222,9 +199,8 @@ pub states_at : (n : Domain) (t : TreeValue) (at : Node) (k : ℕ) (d : Domain) 
     → k + at.level ≡ length t.levels → d ≡ get_or (domains_down k n) at.place d
     → leaves d ≡ map (λ c. state_at t c) (below_in t.levels at)
 states_at n t at k d laws i h same in' e is =
-    slice_at n t.levels at k d i h in' e is
-    ∙ ap (λ x. take (span t.levels at).count (drop (span t.levels at).first x)) (sym same)
-    ∙ sym (states_slice t at laws (ap length same ∙ length_cores n t.levels i h) in')
+    rw (states_slice t at laws (ap length same ∙ length_cores n t.levels i h) in', same)
+    (slice_at n t.levels at k d i h in' e is)
 
 pub size_few : (levels : List (List ℕ)) → IsTree levels → size_below levels ≤ MOST_CORES
 size_few [] t = omega arith

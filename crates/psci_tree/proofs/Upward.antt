@@ -4,14 +4,13 @@ use Rattle.std.specs.Prelude.{Some, None}
 use Rattle.std.proofs.lemmas.Bool.{lt-ltb}
 use Rattle.psci_tree.proofs.Words.{◌&&◌, ◌+◌, ◌-◌, ◌<◌, ◌∙◌, ◌∷◌, ◌≡◌, [], add-one, ap, arith}
 use Rattle.psci_tree.proofs.Words.{BoardValue, Bool, branches, child_count, cond, Counted, counted}
-use Rattle.psci_tree.proofs.Words.{Domain, domains_down, drop, drop-cons, false, flat_map, get_or}
+use Rattle.psci_tree.proofs.Words.{Domain, domains_down, drop, drop-cons, flat_map, get_or}
 use Rattle.psci_tree.proofs.Words.{get_or-flat_map, get_or-map, group_of, HasNodeIn, HasShape}
 use Rattle.psci_tree.proofs.Words.{index_in, IsTree, length, length-drop, length-flat_map}
-use Rattle.psci_tree.proofs.Words.{length-map, List, ltb-true, map, Node, refl, size_below, subst}
-use Rattle.psci_tree.proofs.Words.{suc, sum, sum-map, sym, take, take-map, true, unwrap_or, zero, ℕ}
+use Rattle.psci_tree.proofs.Words.{length-map, List, map, nat_tests, Node, refl, size_below, suc}
+use Rattle.psci_tree.proofs.Words.{sum, sum-map, sym, take, take-map, true, zero, ℕ}
 use Rattle.psci_board.specs.Board.{height, nodes, parent, child_number}
 use Rattle.psci_board.proofs.Levels.{IsTree-drop}
-use Rattle.psci_tree.proofs.Valid.{both_tests}
 use Rattle.psci_tree.proofs.Slices.{down_step, widths_are}
 
 -- the domain at a place, as a child
@@ -64,15 +63,12 @@ child_at root w ws place t h i = record {
 
 pub some_of : {X : Type 0} (t : Bool) (x y : X) → cond t (Some x) None ≡ Some y
     → (t ≡ true) × (x ≡ y)
-some_of true x y e = (refl, ap (λ o. unwrap_or o x) e)
-some_of false x y e = absurd (cc)
+some_of t x y e = grind arith
 
 below_node : (b : BoardValue) (n : Node)
     → (ltb n.level (height b) && ltb n.place (nodes b n.level)) ≡ true
     → (n.level < length b.levels) × (n.place < size_below (drop n.level b.levels))
-below_node b n e =
-    let tests = both_tests (ltb n.level (height b)) (ltb n.place (nodes b n.level)) e in
-    (ltb-true _ _ tests.0, ltb-true _ _ tests.1)
+below_node b n e = grind (arith, nat_tests)
 
 shape_drop : (n : Domain) (levels : List (List ℕ)) (l : ℕ) → HasShape n levels
     → HasShape n (drop l levels)
@@ -98,35 +94,27 @@ steps_down root b n m k t h e f =
     let levels : List (List ℕ) = b.levels in
     let w : List ℕ = get_or levels n.level [] in
     let ws : List (List ℕ) = drop (suc n.level) levels in
-    let up : Node = record { level = n.level + 1; place = group_of w n.place } in
-    let p = some_of (ltb n.level (height b) && ltb n.place (nodes b n.level)) up m e in
-    let q = some_of (ltb n.level (height b) && ltb n.place (nodes b n.level))
-    (index_in w n.place) k f in
+    let p = some_of (ltb n.level (height b) && ltb n.place (nodes b n.level)) _ m e in
+    let q = some_of (ltb n.level (height b) && ltb n.place (nodes b n.level)) _ k f in
     let in' = below_node b n p.0 in
-    let within : n.level < length levels = in'.0 in
-    let cut : drop n.level levels ≡ w ∷ ws = drop-cons levels n.level [] within in
+    let cut : drop n.level levels ≡ w ∷ ws = drop-cons levels n.level [] in'.0 in
     let c : ChildAt root w ws n.place = child_at root w ws n.place
-    (subst IsTree cut (IsTree-drop n.level levels t))
-    (subst (HasShape root) cut (shape_drop root levels n.level h))
+    (rw cut at (IsTree-drop n.level levels t)) (rw cut at (shape_drop root levels n.level h))
     (omega (arith, in'.1, ap size_below cut)) in
     let rest : length levels - (n.level + 1) ≡ length ws =
     omega (arith, length-drop (suc n.level) levels) in
     let here : length levels - n.level ≡ suc (length ws) = omega (arith, rest) in
-    let step : StepsDown root levels n up (index_in w n.place) = record {
+    rw (← p.1, ← q.1) (record {
       level = refl;
-      fits = within;
-      node = record { level = omega arith; place = rw add-one c.group };
+      fits = in'.0;
+      node = record { level = omega (arith, in'.0); place = rw add-one c.group };
       inside = λ d. rw rest (c.inside d);
       is = λ d d'. rw (rest, here) (c.is d d');
-    } in
-    subst (λ x. StepsDown root levels n m x) q.1
-    (subst (λ x. StepsDown root levels n x (index_in w n.place)) p.1 step)
+    })
 
 both_some : {X : Type 0} (a c : Bool) (x : X) → a ≡ true → c ≡ true
     → cond (a && c) (Some x) None ≡ Some x
-both_some true true x p q = refl
-both_some true false x p q = absurd (let no : false ≡ true = q in cc)
-both_some false c x p q = absurd (let no : false ≡ true = p in cc)
+both_some a c x p q = rw (p, q)
 
 -- each node below the system has a parent, and a number among its siblings
 pub parent_some : (b : BoardValue) (n : Node) → n.level < length b.levels

@@ -1,20 +1,19 @@
 -- Ways from a domain down to a core.
 use Rattle.std.proofs.lemmas.List.{take-append-le}
-use Rattle.psci_tree.proofs.Words.{◌++◌, ◌+◌, ◌<◌, ◌∙◌, ◌∷◌, ◌≡◌, ◌≤◌, [], All-take, AllPass, ap}
-use Rattle.psci_tree.proofs.Words.{append_assoc, arith, branches, child_count, child_counts}
-use Rattle.psci_tree.proofs.Words.{cores_in, Counted, counted, Domain, domains_down, drop, drop_all}
-use Rattle.psci_tree.proofs.Words.{first_core, flat_map, flat_map-append, get_or, get_or-flat_map}
-use Rattle.psci_tree.proofs.Words.{get_or-le-sum_by, get_or-map, group_of, index_by, index_in}
-use Rattle.psci_tree.proofs.Words.{is_width, IsTree, IsWay, IsWhole, leaves, length, length-append}
-use Rattle.psci_tree.proofs.Words.{length-flat_map, length-map, level, List, map, place_above}
-use Rattle.psci_tree.proofs.Words.{place_above-suc, refl, size_below, subst, suc, sum, sum-cons}
-use Rattle.psci_tree.proofs.Words.{sum-map, sym, take, take-append-add, take-map, true, zero, ℕ}
+use Rattle.psci_tree.proofs.Words.{◌++◌, ◌+◌, ◌<◌, ◌∙◌, ◌∷◌, ◌≡◌, ◌≤◌, [], ap, append_assoc, arith}
+use Rattle.psci_tree.proofs.Words.{branches, child_count, child_counts, cores_in, Counted, counted}
+use Rattle.psci_tree.proofs.Words.{Domain, domains_down, drop, drop_all, first_core, flat_map}
+use Rattle.psci_tree.proofs.Words.{flat_map-append, get_or, get_or-flat_map, get_or-le-sum_by}
+use Rattle.psci_tree.proofs.Words.{get_or-map, group_of, index_by, index_in, IsTree, IsWay, IsWhole}
+use Rattle.psci_tree.proofs.Words.{leaves, length, length-append, length-flat_map, length-map}
+use Rattle.psci_tree.proofs.Words.{level, List, map, place_above, place_above-suc, refl, size_below}
+use Rattle.psci_tree.proofs.Words.{subst, suc, sum, sum-cons, sum-map, sym, take, take-append-add}
+use Rattle.psci_tree.proofs.Words.{take-map, zero, ℕ}
 use Rattle.psci_tree.specs.Domains.{IsWayTo}
 use Rattle.psci_tree.proofs.Below.{cores_of_core, length_of_domain, length_drop, length_parts}
 use Rattle.psci_board.proofs.Paths.{inside as place_inside_level}
 use Rattle.psci_board.proofs.FirstCores.{first_zero}
-use Rattle.psci_tree.proofs.Slices.{first_len, fans_at, wide_at, size_at, widths_are, down_step}
-use Rattle.psci_tree.proofs.Slices.{cores_down}
+use Rattle.psci_tree.proofs.Slices.{first_len, fans_at, size_at, widths_are, down_step, cores_below}
 
 -- One step -----------------------------------------------------------------------------------
 
@@ -26,10 +25,8 @@ pub record Step (n : Domain) (l k : ℕ) (way : List ℕ) : Type 0 where
       + index_by k way (get_or (branches n) (get_or way k 0) n)
 
 pub step : (n : Domain) (l k : ℕ) (way : List ℕ) → l ≡ suc k → IsWay l way n → Step n l k way
-step n l k way e h = subst (λ j. IsWay j way n → Step n j k way) (sym e) first h
-  where
-    first : IsWay (suc k) way n → Step n (suc k) k way
-    first i = record { inside = i.0; rest = i.1; place = refl }
+step n l k way e h =
+    rw e (let i = rw e at h in record { inside = i.0; rest = i.1; place = refl })
 
 -- a way ends at one of the cores below
 pub place_inside : (l : ℕ) (way : List ℕ) (n : Domain) → IsWay l way n
@@ -60,11 +57,7 @@ take_in (n ∷ ns) (suc p) k d h i =
     let more : sum (take (suc p) (map child_count (n ∷ ns))) + k
     ≡ length (branches n) + (sum (take p (map child_count ns)) + k) =
     omega (arith, sum-cons (child_count n) (take p (map child_count ns))) in
-    ap (λ j. take j (branches n ++ flat_map branches ns)) more
-    ∙ take-append-add (branches n) (flat_map branches ns) (sum (take p (map child_count ns)) + k)
-    ∙ ap (λ xs. branches n ++ xs) (take_in ns p k d (omega arith) i)
-    ∙ sym (append_assoc (branches n) (flat_map branches (take p ns))
-    (take k (branches (get_or ns p d))))
+    rw (more, take-append-add, take_in ns p k d (omega arith) i, append_assoc)
 
 -- from a domain of this level on a core's path, the way leads to that core
 pub record Leads (levels : List (List ℕ)) (core : ℕ) (ks : List ℕ) (l : ℕ)
@@ -132,10 +125,7 @@ leads_up root levels core ks l k d n t w h to e is lower =
     omega (arith, inside, ap (λ m. length (branches m)) is) in
     let parts : take q (domains_down (suc k) root)
     ≡ flat_map branches (take p row) ++ take i (branches n) =
-    ap (take q) (down_step k root)
-    ∙ ap (λ j. take j (flat_map branches row)) (sym before)
-    ∙ take_in row p i d fits (omega (arith, inside_too))
-    ∙ ap (λ m. flat_map branches (take p row) ++ take i (branches m)) (sym is) in
+    rw (down_step k root, ← before, is) (take_in row p i d fits (omega (arith, inside_too))) in
     let place : length (flat_map branches (take p row)) + i ≡ q = omega (
       arith,
       before,
@@ -143,16 +133,10 @@ leads_up root levels core ks l k d n t w h to e is lower =
       sum-map child_count (take p row),
       ap sum (take-map child_count p row),
     ) in
-    let child : get_or (domains_down (suc k) root) q n ≡ get_or (branches n) i n =
-    ap (λ x. get_or x q n) (down_step k root)
-    ∙ ap (λ j. get_or (flat_map branches row) j n) (sym place)
-    ∙ get_or-flat_map branches row p i d n fits inside_too
-    ∙ ap (λ m. get_or (branches m) i n) (sym is) in
-    let wide : AllPass is_width (map child_count (take p row)) =
-    (let P : List ℕ → Type 0 = AllPass is_width in subst P (take-map child_count p row)
-    (All-take (λ x. is_width x ≡ true) p (map child_count row) (wide_at root levels l k t w e))) in
+    let child : get_or (domains_down (suc k) root) q n ≡ get_or (branches (get_or row p d)) i n =
+    rw (down_step k root, ← place) (get_or-flat_map branches row p i d n fits inside_too) in
     let rest : Leads levels core ks l (get_or (branches n) i n) =
-    subst (Leads levels core ks l) child lower in
+    rw (← is) at (rw child at lower) in
     record {
       way = (inside, rest.way);
       place = omega (
@@ -165,7 +149,7 @@ leads_up root levels core ks l k d n t w h to e is lower =
         ap length
             (flat_map-append leaves (flat_map branches (take p row)) (take i (branches n))),
         length-append (cores_in (flat_map branches (take p row))) (cores_in (take i (branches n))),
-        ap length (cores_down (take p row) wide),
+        ap length (cores_below root levels l k p t w e),
       );
     }
 

@@ -29,7 +29,7 @@ pub use Rattle.psci_board.specs.Board.{index_in, is_width, IsTree, place_above, 
 pub use Rattle.psci_board.specs.Laws.{SpanLaws}
 pub use Rattle.psci_board.specs.declared.node.Node.{Node}
 pub use Rattle.psci_state.specs.declared.cores.Activity.{Activity}
-pub use Rattle.psci_state.specs.declared.cores.Activity.TheVariants.{Active, Away, Suspended}
+pub use Rattle.psci_state.specs.declared.cores.Activity.TheVariants.{Active}
 pub use Rattle.psci_state.specs.declared.cores.CoreState.{CoreState}
 pub use Rattle.psci_tree.specs.Changes.{all_off, depth_set, made_pending, path_cleared}
 pub use Rattle.psci_tree.specs.Changes.{rows_with_depth, still_confirmed, with_core_state}
@@ -45,7 +45,7 @@ pub use Rattle.psci_tree.specs.Recount.{is_active_at, is_away, IsActivity, IsDom
 pub use Rattle.psci_tree.specs.Recount.{known_at, least, level_sizes, low, never_started, state_at}
 pub use Rattle.psci_tree.specs.Recount.{TreeValue}
 pub use Rattle.psci_tree.specs.Standing.{kept_on_path, on_path}
-pub use Rattle.psci_tree.specs.Way.{AreWays, cleared_from, IsWayOf}
+pub use Rattle.psci_tree.specs.Way.{cleared_from, IsWayOf}
 pub use Rattle.psci_tree.specs.contracts.tree.Tree.{the_view}
 pub use Rattle.psci_tree.specs.declared.depths.Depths.{Depths}
 pub use Rattle.psci_tree.specs.declared.domain.Domain.{Domain, out-Domain}

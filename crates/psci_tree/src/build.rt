@@ -1,7 +1,6 @@
 //! A tree of power domains in the shape of a board.
 
-ghost use Rattle.std.specs.Prelude.{◌≡◌, map, length, sum, replicate};
-ghost use Rattle.std.specs.Prelude.{slice_index_or, [], IfOk};
+ghost use Rattle.std.specs.Prelude.{◌≡◌, map, length, sum, replicate, slice_index_or, [], IfOk};
 ghost use Rattle.std.specs.List.{flat_map};
 ghost use Rattle.psci_board.specs.Board.{IsBoard, size_below};
 ghost use Rattle.psci_tree.specs.declared.domain.Domain.{Domain};

@@ -16,6 +16,7 @@ use psci_state::{Activity, Ask, Change, NEVER_STARTED};
 
 impl Tree {
     /// Puts the tree to the start of a life, in place.
+    #[tactic(auto, unfolding(crate::specs::Changes::start_of_life))]
     pub fn reset_life(&mut self)
         ensures value { self.new ≡ start_of_life self.old.levels }
         ensures levels { self.new.levels ≡ self.old.levels }
@@ -26,6 +27,7 @@ impl Tree {
     }
 
     /// Grants a depth to a domain. Another one than before is not confirmed.
+    #[tactic(auto, using(crate::proofs::Seen::place_seen))]
     pub fn grant(&mut self, node: Node, depth: u8)
         requires domain { HasNodeIn self.old.levels node }
         requires depth { MayGrant self.old node depth }
@@ -38,6 +40,7 @@ impl Tree {
     }
 
     /// Confirms what was granted to a domain.
+    #[tactic(auto, using(crate::proofs::Seen::place_seen))]
     pub fn confirm(&mut self, node: Node)
         requires domain { HasNodeIn self.old.levels node }
         requires granted { 1 ≤ granted_at self.old node.level node.place }
@@ -50,6 +53,7 @@ impl Tree {
     }
 
     /// A core is suspended, with this ask.
+    #[tactic(auto, unfolding(crate::specs::Changes::suspended))]
     pub fn set_ask(&mut self, core: Core, ask: Ask)
         requires { core.number < size_below self.old.levels }
         ensures value { self.new ≡ suspended self.old core.number ask }
@@ -60,6 +64,7 @@ impl Tree {
     }
 
     /// A core is off, or going off.
+    #[tactic(auto, unfolding(crate::specs::Changes::turned_off))]
     pub fn set_off(&mut self, core: Core)
         requires { core.number < size_below self.old.levels }
         ensures value { self.new ≡ turned_off self.old core.number }
@@ -70,6 +75,7 @@ impl Tree {
     }
 
     /// A core is pending: nothing is granted or confirmed any more on its path.
+    #[tactic(auto, unfolding(crate::specs::Changes::made_pending))]
     pub fn set_pending(&mut self, core: Core)
         requires { core.number < size_below self.old.levels }
         ensures value { self.new ≡ made_pending self.old core.number }
@@ -82,6 +88,7 @@ impl Tree {
 
     /// A core runs in its start of this number: nothing is granted or confirmed any more on its
     /// path.
+    #[tactic(auto, unfolding(crate::specs::Changes::started))]
     pub fn set_start(&mut self, core: Core, number: u32)
         requires { core.number < size_below self.old.levels }
         ensures value { self.new ≡ started self.old core.number number }

@@ -1,14 +1,13 @@
 //! The way down from the system to a domain, and back up from a core that changes.
 
-ghost use Rattle.std.specs.Prelude.{◌≡◌, ℕ, ◌-◌, ◌<◌, ◌≤◌, length, get_or, replicate};
-ghost use Rattle.std.specs.Prelude.{slice_index, slice_index_or, slice_set};
+ghost use Rattle.std.specs.Prelude.{◌≡◌, ℕ, ◌-◌, ◌<◌, ◌≤◌, length, get_or, replicate, slice_index};
+ghost use Rattle.std.specs.Prelude.{slice_index_or, slice_set};
 ghost use Rattle.psci_board.specs.Board.{HasNode, IsTree, height, place_above, size_below};
 ghost use Rattle.psci_tree.specs.Standing.{kept_on_path};
 ghost use Rattle.psci_tree.specs.declared.domain.Domain.{Domain};
 ghost use Rattle.psci_state.specs.declared.cores.CoreState.{CoreState};
 ghost use Rattle.psci_tree.specs.Recount.{never_started};
-ghost use Rattle.psci_tree.specs.Domains.{HasShape, IsWhole, child_counts, leaves};
-ghost use Rattle.psci_tree.specs.Domains.{domains_down};
+ghost use Rattle.psci_tree.specs.Domains.{HasShape, IsWhole, child_counts, leaves, domains_down};
 ghost use Rattle.psci_tree.specs.Kept.{IsKept};
 ghost use Rattle.psci_tree.specs.Way.{IsWayOf, LeadsDown};
 

@@ -5,8 +5,7 @@ ghost use Rattle.std.specs.List.{count_by};
 ghost use Rattle.psci_tree.specs.declared.domain.Domain.{Domain};
 ghost use Rattle.psci_state.specs.declared.cores.CoreState.{CoreState};
 ghost use Rattle.psci_tree.specs.Recount.{is_away, never_started};
-ghost use Rattle.psci_tree.specs.Domains.{leaves, cores_in, child_counts};
-ghost use Rattle.psci_tree.specs.Domains.{index_by};
+ghost use Rattle.psci_tree.specs.Domains.{leaves, cores_in, child_counts, index_by};
 ghost use Rattle.psci_tree.specs.Kept.{AreKept, IsDescent, IsExchange, IsKept, Keeps};
 
 use crate::kept::Kept;

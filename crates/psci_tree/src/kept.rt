@@ -50,6 +50,7 @@ impl Kept {
     }
 
     /// What is kept of so many cores that are off and were never started.
+    #[tactic(auto, using(crate::proofs::OffOnes::kept_never))]
     pub fn never_started(count: u32) -> Kept
         ensures { Keeps result (replicate count never_started) }
     {

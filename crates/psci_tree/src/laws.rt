@@ -1,22 +1,22 @@
 //! What holds of the definitions alone: each law is the contract of a function that does nothing.
 
-ghost use Rattle.std.specs.Prelude.{◌≡◌, ℕ, ◌+◌, ◌<◌, ◌≤◌, ◌==◌, ◌&&◌, true, false};
-ghost use Rattle.std.specs.Prelude.{if◌then◌else◌, List, length, map, take, drop};
+ghost use Rattle.std.specs.Prelude.{◌≡◌, ℕ, ◌+◌, ◌<◌, ◌≤◌, ◌==◌, ◌&&◌, true, false, if◌then◌else◌};
+ghost use Rattle.std.specs.Prelude.{List, length, map, take, drop};
 ghost use Rattle.std.specs.List.{sum_by};
 ghost use Rattle.psci_board.specs.declared.node.Node.{Node};
 ghost use Rattle.psci_board.specs.Board.{HasNodeIn, size_below, place_above, below_in, span};
 ghost use Rattle.psci_state.specs.declared.cores.Activity.TheVariants.{Active, Suspended, Away};
 ghost use Rattle.psci_tree.specs.Recount.{TreeValue, IsDomainTree, active, ask_at, state_at};
 ghost use Rattle.psci_tree.specs.Recount.{granted_at, is_active_at, is_away_at, known, known_at};
-ghost use Rattle.psci_tree.specs.Recount.{is_confirmed_at};
-ghost use Rattle.psci_tree.specs.Recount.{low, never_started, off};
-ghost use Rattle.psci_tree.specs.Changes.{start_of_life, made_pending, started};
-ghost use Rattle.psci_tree.specs.Changes.{suspended, turned_off, with_grant, with_confirmed};
+ghost use Rattle.psci_tree.specs.Recount.{is_confirmed_at, low, never_started, off};
+ghost use Rattle.psci_tree.specs.Changes.{start_of_life, made_pending, started, suspended};
+ghost use Rattle.psci_tree.specs.Changes.{turned_off, with_grant, with_confirmed};
 
 use psci_board::law_spans;
 
 /// The states of the cores below a domain stand side by side among those of all cores, as the cores
 /// do on the board.
+#[tactic(auto, using(crate::proofs::Slices::states_slice))]
 pub fn law_states()
     ensures { (t : TreeValue) (n : Node) → IsDomainTree t → HasNodeIn t.levels n
         → map (λ c. state_at t c) (below_in t.levels n)
@@ -99,6 +99,7 @@ pub fn law_start_of_life()
 
 /// What a core of any tree asks: at no level more than at the one below it, and of its own level
 /// something, unless it is active; nothing where it is active, and nothing above the height.
+#[tactic(auto, using(crate::proofs::Asks::asks_laws))]
 pub fn law_asks()
     ensures active { (t : TreeValue) (c level : ℕ) → is_active_at t c ≡ true
         → ask_at t c level ≡ 0 }
@@ -113,6 +114,7 @@ pub fn law_asks()
 
 /// The least ask below a domain is at most each ask below it, and no other depth that is so is
 /// greater. It is at most 3, and at no level more than at the one below it.
+#[tactic(auto, using(crate::proofs::Asks::low_laws))]
 pub fn law_low()
     ensures each { (t : TreeValue) (n : Node) (level c : ℕ) → c < size_below t.levels
         → place_above t.levels n.level c ≡ n.place → low t n level ≤ ask_at t c level }
@@ -128,6 +130,7 @@ pub fn law_low()
 /// The known starts below a domain are summed, each core's own once: the sum of a core is its own,
 /// trees whose cores below have the same known starts have the same sum, and one start changes the
 /// sums on the core's path by what it changes of the core, and no others.
+#[tactic(auto, using(crate::proofs::Looked::known_laws), unfolding(crate::specs::Recount::known))]
 pub fn law_known()
     ensures sum { (t : TreeValue) (n : Node)
         → known t n ≡ sum_by (λ c. known_at t c) (below_in t.levels n) }
@@ -149,6 +152,7 @@ pub fn law_known()
 
 /// No core below a domain is active exactly where the count is 0; every core below is off exactly
 /// where the count is that of the cores below.
+#[tactic(auto, using(crate::proofs::Bounds::count_laws))]
 pub fn law_counts()
     ensures active { (t : TreeValue) (n : Node) (c : ℕ) → active t n ≡ 0 → c < size_below t.levels
         → place_above t.levels n.level c ≡ n.place → is_active_at t c ≡ false }

@@ -57,8 +57,7 @@ impl Model for Tree {
     }) };
 }
 
-ghost use Rattle.std.specs.Prelude.{◌≡◌, ℕ, ◌<◌, ◌≤◌, map, length, replicate, IfOk};
-ghost use Rattle.std.specs.Prelude.{slice_index};
+ghost use Rattle.std.specs.Prelude.{◌≡◌, ℕ, ◌<◌, ◌≤◌, map, length, replicate, IfOk, slice_index};
 ghost use Rattle.psci_board.specs.Board.{IsBoard, size_below, HasNodeIn, below_in};
 ghost use Rattle.psci_tree.specs.declared.domain.Domain.{Domain, out-Domain};
 ghost use Rattle.psci_tree.specs.Recount.{IsDomainTree, state_at, known_at, low, known, active};
@@ -128,6 +127,7 @@ impl Tree {
     }
 
     /// The sum of the known starts of the cores below a domain.
+    #[tactic(auto, using(crate::proofs::PathStands::known_is))]
     pub fn known(&self, node: Node) -> u64
         requires { HasNodeIn self.now.levels node }
         ensures { result ≡ known self.now node }
@@ -136,6 +136,7 @@ impl Tree {
     }
 
     /// How many cores below a domain are running or pending.
+    #[tactic(auto, using(crate::proofs::PathStands::active_is))]
     pub fn active(&self, node: Node) -> u32
         requires { HasNodeIn self.now.levels node }
         ensures { result ≡ active self.now node }
@@ -144,6 +145,7 @@ impl Tree {
     }
 
     /// How many cores below a domain are off or going off.
+    #[tactic(auto, using(crate::proofs::PathStands::off_is))]
     pub fn off(&self, node: Node) -> u32
         requires { HasNodeIn self.now.levels node }
         ensures { result ≡ off self.now node }
@@ -166,6 +168,7 @@ impl Tree {
     }
 
     /// The domain of this level on the path of a core.
+    #[tactic(auto, using(crate::proofs::Seen::place_on_way))]
     pub fn on_path(&self, core: Core, level: u32) -> Node
         requires core { core.number < size_below self.now.levels }
         requires level { level ≤ length self.now.levels }
@@ -189,6 +192,7 @@ impl Tree {
     }
 
     /// The place of each domain on the path of a core in its level, by the level.
+    #[tactic(auto, using(crate::proofs::Seen::place_on_way))]
     pub fn places(&self, core: Core) -> [u16; MOST_ON_PATH]
         requires { core.number < size_below self.now.levels }
         ensures { (level : ℕ) → level ≤ length self.now.levels → slice_index result level
@@ -198,6 +202,7 @@ impl Tree {
     }
 
     /// The granted depth of a domain.
+    #[tactic(auto, using(crate::proofs::Seen::place_seen))]
     pub fn granted(&self, node: Node) -> u8
         requires { HasNodeIn self.now.levels node }
         ensures value { result ≡ granted_at self.now node.level node.place }
@@ -245,6 +250,7 @@ impl Tree {
     }
 
     /// The depth of a domain that is confirmed, or 0.
+    #[tactic(auto, using(crate::proofs::Seen::place_seen))]
     pub(crate) fn confirmed_depth(&self, node: Node) -> u8
         requires { HasNodeIn self.now.levels node }
         ensures { result ≡ confirmed_at self.now node.level node.place }

@@ -1,6 +1,6 @@
 -- Each round adds the part of its level, and the climb ends where no depth is wanted.
-use Rattle.std.proofs.Common.{◌∙◌, ◌<◌, ◌≤◌, ℕ, List, length, arith, ap, sym, refl, subst}
-use Rattle.psci_board.specs.Board.{BoardValue, size_below}
+use Rattle.std.proofs.Common.{◌∙◌, ◌≤◌, ℕ, length, arith, ap, sym, refl}
+use Rattle.psci_board.specs.Board.{BoardValue}
 use Rattle.psci_tree.specs.Recount.{TreeValue}
 use Rattle.psci_tree.specs.Standing.{on_path}
 use Rattle.psci_coord.specs.Wish.{wanted}
@@ -16,9 +16,7 @@ loop-level-init c =
     (wanted c.args.board.now (view_of c.args.tree.now) c.args.core.number c.args.wish.now))
 
 pub standings-standings-requires : goal.standings-standings-requires
-standings-standings-requires c =
-    subst (λ (ws : List (List ℕ)). c.args.core.number < size_below ws) (sym c.requires.board)
-    c.requires.core
+standings-standings-requires c = rw c.requires.board c.requires.core
 
 pub loop-level-preserved : goal.loop-level-preserved
 loop-level-preserved c =

@@ -12,17 +12,5 @@ returns c =
     )
     (header_put c.copy_from_slice.new.self c.copy_from_slice-2.new.self
     c.copy_from_slice-3.new.self c.args.header.count
-    (omega (arith, c.copy_from_slice.ensures.len, ap length c.requires))
-    (omega (
-      arith,
-      c.copy_from_slice-2.ensures.len,
-      c.copy_from_slice.ensures.len,
-      ap length c.requires,
-    ))
-    (omega (
-      arith,
-      c.copy_from_slice-3.ensures.len,
-      c.copy_from_slice-2.ensures.len,
-      c.copy_from_slice.ensures.len,
-      ap length c.requires,
-    )))
+    (omega (arith, ap length c.requires)) (omega (arith, ap length c.requires))
+    (omega (arith, ap length c.requires)))

@@ -20,14 +20,13 @@ loop-below-preserved c =
     let children = c.in_ok-row-2.ensures.children in
     let counts : map child_count new ≡ get_or levels at [] = c.in_ok-row-2.ensures.counts in
     let up : at + 1 ≡ suc at = omega arith in
-    let wide : AllPass is_width (map child_count new) = (let P : List ℕ → Type 0 =
-    AllPass is_width in subst P (sym counts) (level levels at tree fits).width) in
+    let wide : AllPass is_width (map child_count new) =
+    rw counts (level levels at tree fits).width in
     record {
       shape = rw (take_more levels at [] fits) (shaped_more new old (take at levels)
           (get_or levels at []) children counts c.loop-below.invariant.shape);
       ends = ends_more new old at (at + 1) up children c.loop-below.invariant.ends;
-      size = rw up (sym (length-map new child_count) ∙ ap length counts
-          ∙ sym (level levels at tree fits).above);
+      size = rw (up, (level levels at tree fits).above, ← counts, length-map);
       kept = c.in_ok-row-2.ensures.kept;
       off = cores_down new wide ∙ ap cores_in children ∙ c.loop-below.invariant.off;
     }

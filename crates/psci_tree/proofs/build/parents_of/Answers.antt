@@ -1,9 +1,9 @@
 use Rattle.std.proofs.lemmas.List.Sums.{sum_by-drop_more}
-use Rattle.psci_tree.proofs.Words.{◌++◌, ◌+◌, ◌<◌, ◌∙◌, ◌∷◌, ◌≡◌, ◌≤◌, [], ap, append_assoc}
-use Rattle.psci_tree.proofs.Words.{AreKept, arith, branches, child_count, cores_in, Domain, drop}
-use Rattle.psci_tree.proofs.Words.{flat_map, get_or, Keeps, length, length-drop, length-take-le}
-use Rattle.psci_tree.proofs.Words.{level, List, map, rules, size_below, subst, suc, sym, take}
-use Rattle.psci_tree.proofs.Words.{take-append-drop, take_all, take_more, ℕ}
+use Rattle.psci_tree.proofs.Words.{◌++◌, ◌+◌, ◌<◌, ◌∙◌, ◌≡◌, ◌≤◌, [], ap, append_assoc, AreKept}
+use Rattle.psci_tree.proofs.Words.{arith, branches, child_count, cores_in, Domain, drop, flat_map}
+use Rattle.psci_tree.proofs.Words.{get_or, length, length-drop, length-take-le, level, List, map}
+use Rattle.psci_tree.proofs.Words.{rules, size_below, subst, suc, sym, take, take-append-drop}
+use Rattle.psci_tree.proofs.Words.{take_all, take_more, ℕ}
 use Rattle.psci_board.specs.Board.{children_at}
 use Rattle.psci_tree.proofs.Below.{length_parts}
 use Rattle.psci_tree.proofs.Built.{children_push, counts_push, none_left}
@@ -79,35 +79,25 @@ loop-place-preserved c =
     let enough : n ≤ length rest = omega (arith, taking, more, c.loop-place.invariant.left) in
     let group : AreKept c.replace-group.result.items =
     subst AreKept (sym taken) (kept_take rest n c.loop-place.invariant.rest) in
-    let some : 0 < length c.replace-group.result.items = omega (
-      arith,
-      ap length taken,
-      length-take-le n rest enough,
-      taking,
-      (width own place
-          (level levels c.args.below c.requires.board.tree c.requires.row.level).width inside).some,
-    ) in
+    let size : length c.replace-group.result.items ≡ get_or own place 0 =
+    ap length taken ∙ length-take-le n rest enough ∙ taking in
+    let some = (width own place
+    (level levels c.args.below c.requires.board.tree c.requires.row.level).width inside).some in
     record {
-      whole =
-          ap (λ xs. flat_map branches xs ++ c.replace-group.new.dest.items)
-          c.in_ok-push.ensures.items
-          ∙ ap (λ xs. xs ++ c.replace-group.new.dest.items) (children_push parents _)
-          ∙ append_assoc (flat_map branches parents) c.replace-group.result.items
-          c.replace-group.new.dest.items
-          ∙ ap (λ xs. flat_map branches parents ++ (xs ++ c.replace-group.new.dest.items)) taken
-          ∙ ap (λ xs. flat_map branches parents ++ (take n rest ++ xs)) left
-          ∙ ap (λ xs. flat_map branches parents ++ xs) (take-append-drop n rest)
-          ∙ c.loop-place.invariant.whole;
-      counts =
-          ap (map child_count) c.in_ok-push.ensures.items ∙ counts_push parents _
-          ∙ ap (λ xs. xs ++ length c.replace-group.result.items ∷ []) c.loop-place.invariant.counts
-          ∙ ap (λ k. take place own ++ k ∷ [])
-          (ap length taken ∙ length-take-le n rest enough ∙ taking)
-          ∙ sym (take_more own place 0 inside);
-      kept = subst AreKept (sym c.in_ok-push.ensures.items) (kept_push parents _
-          c.loop-place.invariant.kept (kept_roll _ some (subst (λ ns. Keeps c.kept_of.result
-          (cores_in ns)) c.deref.ensures.value c.kept_of.ensures) group));
-      rest = subst AreKept (sym left) (kept_drop rest n c.loop-place.invariant.rest);
+      whole = simp (
+        c.in_ok-push.ensures.items,
+        children_push,
+        append_assoc,
+        taken,
+        left,
+        take-append-drop,
+      ) c.loop-place.invariant.whole;
+      counts = rw (c.in_ok-push.ensures.items, counts_push, c.loop-place.invariant.counts, size)
+          (sym (take_more own place 0 inside));
+      kept = rw c.in_ok-push.ensures.items (kept_push parents _ c.loop-place.invariant.kept
+          (kept_roll _ (omega (arith, size, some)) (rw c.deref.ensures.value at c.kept_of.ensures)
+          group));
+      rest = rw left (kept_drop rest n c.loop-place.invariant.rest);
       few = omega (
         arith,
         ap (λ ns. length (cores_in ns)) left,

@@ -1,5 +1,4 @@
-use Rattle.psci_tree.proofs.Words.{◌∙◌, ◌∷◌, ◌≡◌, [], ap, arith, CoreState, Domain, get_or}
-use Rattle.psci_tree.proofs.Words.{index_by, IsWay, Keeps, leaves, List, set, subst, sym, ℕ}
+use Rattle.psci_tree.proofs.Words.{◌∙◌, ◌≡◌, ap, arith, Domain, index_by, List, ℕ}
 use Rattle.psci_tree.proofs.Slices.{length_cores, size_few}
 use Rattle.psci_tree.proofs.Ways.{system_way}
 use Rattle.psci_tree.proofs.descent.change_core.Goals as goal
@@ -16,7 +15,7 @@ change-requires-clause-exchange c =
     record {
       descent = record {
         long = omega (arith, c.height.ensures.height);
-        leads = subst (λ l. IsWay l way root) (sym c.height.ensures.height) down.0;
+        leads = rw c.height.ensures.height down.0;
         few = omega (
           arith,
           length_cores root levels c.requires.lead.tree c.requires.lead.whole,
@@ -24,19 +23,12 @@ change-requires-clause-exchange c =
         );
       };
       comes = c.of_core-kept.ensures;
-      was = λ d.
-          subst (λ (x : CoreState). Keeps c.of_core-was.result (x ∷ []))
-          (c.requires.before d ∙ ap (λ p. get_or (leaves root) p d) (sym place))
-          c.of_core-was.ensures;
+      was = λ d. rw (c.requires.before d, ← place) at c.of_core-was.ensures;
     }
 
 pub returns-clause-cores : goal.returns-clause-cores
 returns-clause-cores c =
-    let root : Domain = c.args.root.now in
-    let levels : List (List ℕ) = c.args.board.now.levels in
-    c.change.ensures.cores
-    ∙ ap (λ l. set (leaves root) (index_by l c.args.way.now.numbers root) c.args.state.now)
-    c.height.ensures.height
-    ∙ ap (λ p. set (leaves root) p c.args.state.now) (system_way root levels
-    c.args.core.number c.args.way.now.numbers c.requires.lead.tree c.requires.lead.whole
-    c.requires.lead.core c.requires.lead.way.numbers).1
+    let lead = c.requires.lead in
+    let down = system_way c.args.root.now c.args.board.now.levels c.args.core.number
+    c.args.way.now.numbers lead.tree lead.whole lead.core lead.way.numbers in
+    c.change.ensures.cores ∙ rw (c.height.ensures.height, down.1)

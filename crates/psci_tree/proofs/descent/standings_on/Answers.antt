@@ -1,7 +1,7 @@
 use Rattle.std.proofs.Common.{get_or-set_other, get_or-set_same, length-set}
 use Rattle.psci_tree.proofs.Words.{◌+◌, ◌-◌, ◌<◌, ◌∙◌, ◌≡◌, ◌≤◌, ap, arith, branches, cases_eq}
 use Rattle.psci_tree.proofs.Words.{Domain, domains_down, get_or, get_or-replicate, get_or_default}
-use Rattle.psci_tree.proofs.Words.{inl, inr, length, List, out-Domain, place_above, set, sym, ℕ}
+use Rattle.psci_tree.proofs.Words.{inl, inr, length, List, out-Domain, place_above, refl, sym, ℕ}
 use Rattle.psci_tree.proofs.PathStands.{PathStep, path_step, at_top}
 use Rattle.psci_tree.proofs.descent.standings_on.Goals.{In-loop-step}
 use Rattle.psci_tree.proofs.descent.standings_on.Goals as goal
@@ -96,21 +96,26 @@ loop-step-preserved c =
       own = λ k d e. here k d (omega (arith, e, reach));
       lows = λ k d h i. elim (cases_eq k m) [
         | inl e ↦
-            ap (λ x. get_or (set lows m low) x 0) e
-            ∙ get_or-set_same lows m low 0
-            (omega (arith, reach, c.loop-step.invariant.lows-long, c.requires.high))
-            ∙ ap (λ x. get_or (out-Domain own).kept.lows x 0) (sym e)
-            ∙ ap (λ x. get_or (out-Domain x).kept.lows k 0) (here k d e)
+            let fits : m < 4 = omega (arith, reach, c.requires.high) in
+            rw (
+              e,
+              get_or-set_same lows m low 0
+                  (omega (arith, fits, c.loop-step.invariant.lows-long)),
+            )
+            (ap (λ x. get_or (out-Domain x).kept.lows m 0) (here m d refl))
         | inr ne ↦
             get_or-set_other lows m k low 0 ne
             ∙ c.loop-step.invariant.lows k d h (omega (arith, i, reach, ne))
       ];
       known = λ k d h i. elim (cases_eq k m) [
         | inl e ↦
-            ap (λ x. get_or (set sums m sum) x 0) e
-            ∙ get_or-set_same sums m sum 0
-            (omega (arith, reach, c.loop-step.invariant.known-long, c.requires.high))
-            ∙ ap (λ x. (out-Domain x).kept.known) (here k d e)
+            let fits : m < 4 = omega (arith, reach, c.requires.high) in
+            rw (
+              e,
+              get_or-set_same sums m sum 0
+                  (omega (arith, fits, c.loop-step.invariant.known-long)),
+            )
+            (ap (λ x. (out-Domain x).kept.known) (here m d refl))
         | inr ne ↦
             get_or-set_other sums m k sum 0 ne
             ∙ c.loop-step.invariant.known k d h (omega (arith, i, reach, ne))

@@ -2,9 +2,8 @@ use Rattle.psci_tree.proofs.Words.{◌+◌, ◌<◌, ◌∙◌, ◌≡◌, ◌�
 use Rattle.psci_tree.proofs.Words.{confirmed_of, Depths, get_or, granted_of, length, length-map}
 use Rattle.psci_tree.proofs.Words.{level_sizes, List, map, place_above, refl, set, Way, ℕ}
 use Rattle.psci_tree.specs.Way.{AreRows, LeadsTo}
-use Rattle.psci_tree.proofs.Cleared.{path_node, cleared_step, cleared_top, rows_long}
+use Rattle.psci_tree.proofs.Granted.{path_node, cleared_step, cleared_top, row_lengths, rows_long}
 use Rattle.psci_tree.proofs.DepthRows.{DepthRow, depth_row, depths_written}
-use Rattle.psci_tree.proofs.Granted.{row_lengths}
 use Rattle.psci_tree.proofs.grants.+clear_up.Goals as goal
 
 -- nothing is granted, and nothing confirmed
@@ -57,10 +56,8 @@ clear_up-requires t c =
         c.requires.lead,
         (
           record {
-            granted = ap (λ rs. map length (granted_of rs)) c.write.ensures
-                ∙ lengths_kept (λ d. d.granted) rows l p none ∙ c.requires.rows.granted;
-            confirmed = ap (λ rs. map length (confirmed_of rs)) c.write.ensures
-                ∙ lengths_kept (λ d. d.confirmed) rows l p none ∙ c.requires.rows.confirmed;
+            granted = rw (c.write.ensures, lengths_kept) c.requires.rows.granted;
+            confirmed = rw (c.write.ensures, lengths_kept) c.requires.rows.confirmed;
           },
           omega (arith, fits),
         ),
@@ -68,29 +65,18 @@ clear_up-requires t c =
     )
 
 -- the rows of either depth, with none at the place of a level on the path, and cleared above it
-up_from : (f : Depths → ℕ) (levels : List (List ℕ)) (rows new : List (List Depths))
-    (core l p : ℕ) → f none ≡ 0 → new ≡ set rows l (set (get_or rows l []) p none)
-    → map length (map (map f) rows) ≡ level_sizes levels → p ≡ place_above levels l core
-    → l < length levels
-    → cleared_from levels core (l + 1) (map (map f) new)
-    ≡ cleared_from levels core l (map (map f) rows)
-up_from f levels rows new core l p zero e long at fits =
-    ap (λ rs. cleared_from levels core (l + 1) (map (map f) rs)) e
-    ∙ ap (cleared_from levels core (l + 1)) (depths_written f rows l p none
-    ∙ ap (λ x. set (map (map f) rows) l (set (get_or (map (map f) rows) l []) p x)) zero)
-    ∙ cleared_step levels (map (map f) rows) core l p fits
-    (omega (arith, fits, rows_long levels (map (map f) rows) long)) at
+module _ (f : Depths → ℕ) (levels : List (List ℕ)) (rows new : List (List Depths))
+    (core l p : ℕ) (zero : f none ≡ 0) (e : new ≡ set rows l (set (get_or rows l []) p none))
+    (long : map length (map (map f) rows) ≡ level_sizes levels)
+    (at : p ≡ place_above levels l core) where
+  up_from : l < length levels → cleared_from levels core (l + 1) (map (map f) new)
+      ≡ cleared_from levels core l (map (map f) rows)
+  up_from fits = rw (e, depths_written, zero) (cleared_step levels (map (map f) rows) core l p fits
+      (omega (arith, fits, rows_long levels (map (map f) rows) long)) at)
 
-at_top : (f : Depths → ℕ) (levels : List (List ℕ)) (rows new : List (List Depths))
-    (core l p : ℕ) → f none ≡ 0 → new ≡ set rows l (set (get_or rows l []) p none)
-    → map length (map (map f) rows) ≡ level_sizes levels → p ≡ place_above levels l core
-    → l ≡ length levels → map (map f) new ≡ cleared_from levels core l (map (map f) rows)
-at_top f levels rows new core l p zero e long at top =
-    ap (map (map f)) e
-    ∙ depths_written f rows l p none
-    ∙ ap (λ x. set (map (map f) rows) l (set (get_or (map (map f) rows) l []) p x)) zero
-    ∙ cleared_top levels (map (map f) rows) core l p top
-    (rows_long levels (map (map f) rows) long) at
+  at_top : l ≡ length levels → map (map f) new ≡ cleared_from levels core l (map (map f) rows)
+  at_top top = rw (e, depths_written, zero) (cleared_top levels (map (map f) rows) core l p top
+      (rows_long levels (map (map f) rows) long) at)
 
 pub returns-then-level-height-clause-granted : goal.returns-then-level-height-clause-granted
 returns-then-level-height-clause-granted t c =

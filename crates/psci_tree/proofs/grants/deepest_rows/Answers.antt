@@ -1,10 +1,9 @@
 use Rattle.std.proofs.lemmas.List.{map_push}
-use Rattle.psci_tree.proofs.Words.{◌++◌, ◌<◌, ◌∙◌, ◌∷◌, ◌≡◌, ◌≤◌, [], ap, arith, confirmed_of}
-use Rattle.psci_tree.proofs.Words.{Depths, filled, get_or, granted_of, length, level_sizes, List}
-use Rattle.psci_tree.proofs.Words.{map, replicate, sym, take, take_all, ℕ}
-use Rattle.psci_tree.proofs.DepthRows.{filled_depths}
+use Rattle.psci_tree.proofs.Words.{◌<◌, ◌∙◌, ◌≡◌, ◌≤◌, ap, arith, Depths, filled, get_or, length}
+use Rattle.psci_tree.proofs.Words.{level_sizes, List, map, replicate, rows_with_depth, sym, take}
+use Rattle.psci_tree.proofs.Words.{take_all, ℕ}
+use Rattle.psci_tree.proofs.DepthRows.{filled_depths, rows_more}
 use Rattle.psci_tree.proofs.Granted.{size_of_level, length_level_sizes}
-use Rattle.psci_tree.proofs.Shapes.{rows_more}
 use Rattle.psci_tree.proofs.grants.deepest_rows.Goals as goal
 
 pub loop-level-preserved : goal.loop-level-preserved
@@ -20,33 +19,26 @@ loop-level-preserved c =
     c.in_ok-vec.ensures.items_if_clones_equal (λ y h. h)
     ∙ ap (λ n. replicate n deepest) (c.nodes.ensures.there fits
     ∙ sym (size_of_level levels at fits)) in
-    ap (map (λ v. v.items)) c.in_ok-push.ensures.items
-    ∙ map_push (λ v. v.items) c.loop-level.rows.items row
-    ∙ ap (λ xs. map (λ v. v.items) c.loop-level.rows.items ++ xs ∷ []) filled
-    ∙ ap (λ xs. xs ++ replicate (get_or sizes at 0) deepest ∷ []) c.loop-level.invariant
-    ∙ sym (rows_more sizes at deepest (omega (arith, length_level_sizes levels)))
+    rw (c.in_ok-push.ensures.items, map_push, filled, c.loop-level.invariant)
+    (sym (rows_more sizes at deepest (omega (arith, length_level_sizes levels))))
 
 -- every row is written where the loop ends
-all_rows : (levels : List (List ℕ)) (rows : List (List Depths)) (n : ℕ)
-    → rows ≡ filled (take n (level_sizes levels)) (record { granted = 3; confirmed = 3 })
-    → length levels < n
-    → rows ≡ filled (level_sizes levels) (record { granted = 3; confirmed = 3 })
-all_rows levels rows n e h =
-    e ∙ ap (λ xs. filled xs (record { granted = 3; confirmed = 3 }))
-    (take_all n (level_sizes levels) (omega (arith, h, length_level_sizes levels)))
+abbrev deepest : Depths
+deepest = record { granted = 3; confirmed = 3 }
+
+all_rows : (f : Depths → ℕ) (levels : List (List ℕ)) (rows : List (List Depths)) (n : ℕ)
+    → rows ≡ filled (take n (level_sizes levels)) deepest → length levels < n
+    → map (map f) rows ≡ rows_with_depth (level_sizes levels) (f deepest)
+all_rows f levels rows n e h =
+    rw (e, take_all n (level_sizes levels) (omega (arith, h, length_level_sizes levels)))
+    (filled_depths f (level_sizes levels) deepest)
 
 pub returns-clause-granted : goal.returns-clause-granted
 returns-clause-granted c =
-    let levels : List (List ℕ) = c.args.board.now.levels in
-    let deepest : Depths = record { granted = 3; confirmed = 3 } in
-    ap granted_of (all_rows levels _ c.loop-level.level c.loop-level.invariant
-    (omega (arith, c.loop-level-test.false, c.height-level-end.ensures.height)))
-    ∙ filled_depths (λ d. d.granted) (level_sizes levels) deepest
+    all_rows (λ d. d.granted) c.args.board.now.levels _ c.loop-level.level c.loop-level.invariant
+    (omega (arith, c.loop-level-test.false, c.height-level-end.ensures.height))
 
 pub returns-clause-confirmed : goal.returns-clause-confirmed
 returns-clause-confirmed c =
-    let levels : List (List ℕ) = c.args.board.now.levels in
-    let deepest : Depths = record { granted = 3; confirmed = 3 } in
-    ap confirmed_of (all_rows levels _ c.loop-level.level c.loop-level.invariant
-    (omega (arith, c.loop-level-test.false, c.height-level-end.ensures.height)))
-    ∙ filled_depths (λ d. d.confirmed) (level_sizes levels) deepest
+    all_rows (λ d. d.confirmed) c.args.board.now.levels _ c.loop-level.level c.loop-level.invariant
+    (omega (arith, c.loop-level-test.false, c.height-level-end.ensures.height))

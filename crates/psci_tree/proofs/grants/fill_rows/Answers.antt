@@ -1,7 +1,6 @@
-use Rattle.psci_tree.proofs.Words.{◌++◌, ◌+◌, ◌<◌, ◌∙◌, ◌≡◌, [], ap, arith, Depths, drop, filled}
-use Rattle.psci_tree.proofs.Words.{get_or, get_or-map, length, length-map, List, map, map-set}
-use Rattle.psci_tree.proofs.Words.{replicate, set, suc, sym, take, ℕ}
-use Rattle.psci_tree.proofs.Shapes.{filled_more}
+use Rattle.psci_tree.proofs.Words.{◌+◌, ◌<◌, ◌∙◌, ◌≡◌, [], ap, arith, Depths, get_or, get_or-map}
+use Rattle.psci_tree.proofs.Words.{length, length-map, List, map, map-set, replicate, suc, sym, ℕ}
+use Rattle.psci_tree.proofs.DepthRows.{filled_more}
 use Rattle.psci_tree.proofs.grants.fill_rows.Goals as goal
 
 pub loop-level-preserved : goal.loop-level-preserved
@@ -20,10 +19,9 @@ loop-level-preserved c =
     c.fill.ensures.items (λ y h. h)
     ∙ ap (λ n. replicate n depth) ((get_or c.loop-level.rows level row).ok.0
     ∙ ap (λ v. length v.items) (sym c.index-rows-level.is) ∙ ap length read) in
-    let at = λ (gs : List (List Depths)).
-    set gs level (replicate (length (get_or gs level [])) depth) in
-    let written : map (λ v. v.items) (set c.loop-level.rows level c.fill.new.self) ≡ at now =
-    map-set (λ v. v.items) c.loop-level.rows level c.fill.new.self
-    ∙ ap (set now level) same in
-    written ∙ ap at c.loop-level.invariant ∙ filled_more old level depth fits
-    ∙ ap (λ l. filled (map length (take l old)) depth ++ drop l old) (sym up)
+    rw (
+      map-set (λ v. v.items) c.loop-level.rows level c.fill.new.self,
+      same,
+      c.loop-level.invariant,
+      up,
+    ) (filled_more old level depth fits)

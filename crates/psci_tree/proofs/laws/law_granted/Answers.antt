@@ -1,26 +1,15 @@
-use Rattle.psci_tree.proofs.Words.{Active, known_at, refl, with_core_state}
+use Rattle.psci_tree.proofs.Words.{arith}
 use Rattle.psci_tree.specs.Changes.{suspended, turned_off, made_pending, started}
 use Rattle.psci_tree.proofs.Granted.{grant_at}
 use Rattle.psci_tree.proofs.Looked.{granted_with}
 use Rattle.psci_tree.proofs.laws.law_granted.Goals as goal
 
-pub returns-clause-suspended : goal.returns-clause-suspended
-unfolding suspended
-returns-clause-suspended c = λ t core l p depths. refl
-
-pub returns-clause-off : goal.returns-clause-off
-unfolding turned_off
-returns-clause-off c = λ t core l p. refl
-
-pub returns-clause-pending : goal.returns-clause-pending
-unfolding made_pending
-returns-clause-pending c =
-    λ t core l p. granted_with (with_core_state t core Active (known_at t core)) core l p
-
-pub returns-clause-started : goal.returns-clause-started
-unfolding started
-returns-clause-started c =
-    λ t core known l p. granted_with (with_core_state t core Active known) core l p
-
-pub returns-clause-grant : goal.returns-clause-grant
-returns-clause-grant c = grant_at
+pub returns : goal.returns
+unfolding suspended turned_off made_pending started
+returns c = record {
+  suspended = grind (arith, grant_at, granted_with);
+  off = grind (arith, grant_at, granted_with);
+  pending = grind (arith, grant_at, granted_with);
+  started = grind (arith, grant_at, granted_with);
+  grant = grind (arith, grant_at, granted_with);
+}

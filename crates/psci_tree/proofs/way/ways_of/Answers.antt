@@ -1,7 +1,6 @@
 use Rattle.std.proofs.lemmas.List.{get_or_push, get_or_append_left}
 use Rattle.psci_tree.proofs.Words.{◌++◌, ◌+◌, ◌<◌, ◌∙◌, ◌∷◌, ◌≡◌, [], ap, arith, cases_eq, get_or}
-use Rattle.psci_tree.proofs.Words.{inl, inr, IsWayOf, length, length_push, List, size_below, subst}
-use Rattle.psci_tree.proofs.Words.{sym, Way, ℕ}
+use Rattle.psci_tree.proofs.Words.{inl, inr, IsWayOf, length, length_push, List, size_below, Way, ℕ}
 use Rattle.psci_tree.proofs.way.ways_of.Goals as goal
 
 -- one more way
@@ -10,16 +9,11 @@ ways_push : (levels : List (List ℕ)) (ways now : List Way) (way : Way) (count 
     → ((core : ℕ) (w : Way) → core < count → IsWayOf levels core (get_or ways core w))
     → (core : ℕ) (w : Way) → core < count + 1 → IsWayOf levels core (get_or now core w)
 ways_push levels ways now way count long e own each core w h = elim (cases_eq core count) [
-  | inl same ↦
-      let read : get_or now core w ≡ way =
-      ap (λ xs. get_or xs core w) e ∙ get_or_push ways way w core (omega (arith, long, same)) in
-      subst (IsWayOf levels core) (sym read) (subst (λ k. IsWayOf levels k way) (sym same) own)
+  | inl same ↦ rw (e, get_or_push ways way w core (omega (arith, long, same)), same) own
   | inr other ↦
       let before : core < count = omega (arith, h, other) in
-      let read : get_or now core w ≡ get_or ways core w =
-      ap (λ xs. get_or xs core w) e
-      ∙ get_or_append_left ways (way ∷ []) w core (omega (arith, before, long)) in
-      subst (IsWayOf levels core) (sym read) (each core w before)
+      rw (e, get_or_append_left ways (way ∷ []) w core (omega (arith, before, long)))
+      (each core w before)
 ]
 
 pub loop-number-preserved : goal.loop-number-preserved

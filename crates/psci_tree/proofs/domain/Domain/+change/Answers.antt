@@ -1,23 +1,21 @@
-use Rattle.psci_tree.proofs.Words.{◌-◌, ◌≡◌, ap, arith, branches, cores_in, Domain, get_or, IsWay}
-use Rattle.psci_tree.proofs.Words.{Keeps, Kept, length, rules, set, subst, sym, the_lemmas, ℕ}
+use Rattle.psci_tree.proofs.Words.{◌-◌, ◌≡◌, ap, arith, branches, cores_in, Domain, get_or, Keeps}
+use Rattle.psci_tree.proofs.Words.{Kept, length, rules, set, subst, sym, the_lemmas, ℕ}
 use Rattle.psci_tree.specs.declared.domain.Domain.TheViews.{out-Domain}
 use Rattle.psci_tree.proofs.Exchanged.{Through, above_of, child_exchange, child_kept, is_child}
 use Rattle.psci_tree.proofs.Exchanged.{cores_put, keeps_new, kept_put, part_below, shape_put}
 use Rattle.psci_tree.proofs.Exchanged.{small_after, small_below}
 use Rattle.psci_tree.proofs.Keeping.{kept_own, kept_roll_core}
-use Rattle.psci_tree.proofs.domain.Domain.+change.Goals as goal
 use Rattle.psci_tree.proofs.domain.Domain.+change.Goals.{After-change}
+use Rattle.psci_tree.proofs.domain.Domain.+change.Goals as goal
 
 pub returns-then-level-eq0-clause-kept : goal.returns-then-level-eq0-clause-kept
 returns-then-level-eq0-clause-kept t c =
     let own : Domain = c.args.self.now in
     let none : length (branches own) ≡ 0 =
-    subst (λ j. IsWay j c.args.way.now own) c.if-level-eq0.true c.requires.exchange.descent.leads in
-    let here = kept_roll_core (record {
-      children = (out-Domain own).children;
-      core = c.args.state.now;
-      kept = c.args.after.now;
-    }) none c.requires.exchange.comes in
+    rw c.if-level-eq0.true at c.requires.exchange.descent.leads in
+    let here = kept_roll_core
+    (record (out-Domain own) { core = c.args.state.now; kept = c.args.after.now }) none
+    c.requires.exchange.comes in
     simp the_lemmas (simp the_lemmas at here)
 
 pub exchanged-kept-requires-clause-was : goal.exchanged-kept-requires-clause-was
@@ -35,21 +33,21 @@ pub exchanged-kept-requires-clause-active : goal.exchanged-kept-requires-clause-
 exchanged-kept-requires-clause-active t c = omega (
   arith,
   (small_below c.requires.kept c.requires.exchange).active,
-  (small_after c.requires.exchange).active,
+  (small_after c.requires.kept c.requires.exchange).active,
 )
 
 pub exchanged-kept-requires-clause-off : goal.exchanged-kept-requires-clause-off
 exchanged-kept-requires-clause-off t c = omega (
   arith,
   (small_below c.requires.kept c.requires.exchange).off,
-  (small_after c.requires.exchange).off,
+  (small_after c.requires.kept c.requires.exchange).off,
 )
 
 pub lows_told-requires-clause-off : goal.lows_told-requires-clause-off
 lows_told-requires-clause-off t c = omega (
   arith,
   (small_below c.requires.kept c.requires.exchange).off,
-  (small_after c.requires.exchange).off,
+  (small_after c.requires.kept c.requires.exchange).off,
   ap (λ (k : Kept). k.off) c.exchanged-kept.ensures,
 )
 
@@ -57,7 +55,7 @@ pub lows_told-requires-clause-cores : goal.lows_told-requires-clause-cores
 lows_told-requires-clause-cores t c = omega (
   arith,
   (small_below c.requires.kept c.requires.exchange).cores,
-  (small_after c.requires.exchange).off,
+  (small_after c.requires.kept c.requires.exchange).off,
   ap (λ (k : Kept). k.cores) c.exchanged-kept.ensures,
 )
 
@@ -85,14 +83,14 @@ through t c =
 
 pub returns-clause-cores : goal.returns-clause-cores
 returns-clause-cores t c =
-    let here = cores_put c.asking-self.result
-    (through t (goal.at.returns-clause-cores t c).After-change) in
+    let here = cores_put (through t (goal.at.returns-clause-cores t c).After-change)
+    c.asking-self.result in
     simp the_lemmas (simp the_lemmas at here)
 
 pub returns-clause-shape : goal.returns-clause-shape
 returns-clause-shape t c = λ k.
-    let here = shape_put c.asking-self.result
-    (through t (goal.at.returns-clause-shape t c).After-change) k in
+    let here = shape_put (through t (goal.at.returns-clause-shape t c).After-change)
+    c.asking-self.result k in
     simp the_lemmas (simp the_lemmas at here)
 
 pub returns-clause-kept : goal.returns-clause-kept
@@ -100,8 +98,8 @@ returns-clause-kept t c =
     let own : Domain = c.args.self.now in
     let new : Through own c.index_mut.result.now c.change.new.self c.args.level c.args.way.now
     c.args.state.now = through t (goal.at.returns-clause-kept t c).After-change in
-    let here = kept_put c.asking-self.result new
+    let here = kept_put new c.asking-self.result
     (subst (λ k. Keeps k (cores_in (set (branches own) (get_or c.args.way.now (c.args.level - 1) 0)
     c.change.new.self))) (sym c.asking-self.ensures)
-    (keeps_new c.requires.exchange new c.exchanged-kept.ensures c.in-Some.ensures)) in
+    (keeps_new new c.requires.exchange c.exchanged-kept.ensures c.in-Some.ensures)) in
     simp the_lemmas (simp the_lemmas at here)

@@ -1,40 +1,33 @@
 use Rattle.psci_tree.proofs.Words.{◌-◌, ◌∙◌, ◌∷◌, ◌≡◌, [], ap, AreKept, arith, branches, cores_in}
-use Rattle.psci_tree.proofs.Words.{CoreState, Domain, get_or, index_by, IsWay, Keeps, leaves}
-use Rattle.psci_tree.proofs.Words.{length, rules, set, subst, sym, the_lemmas, ℕ}
+use Rattle.psci_tree.proofs.Words.{CoreState, Domain, get_or, index_by, Keeps, leaves, length}
+use Rattle.psci_tree.proofs.Words.{rules, set, subst, sym, the_lemmas, ℕ}
 use Rattle.psci_tree.specs.declared.domain.Domain.TheViews.{out-Domain}
 use Rattle.psci_tree.proofs.Below.{children_roll, cores_of_core, cores_roll_core}
 use Rattle.psci_tree.proofs.Exchanged.{Through, above_of, child_descent, child_kept, is_child}
 use Rattle.psci_tree.proofs.Exchanged.{children_new, cores_put, few_new, kept_put, shape_put}
 use Rattle.psci_tree.proofs.Keeping.{kept_roll_core}
-use Rattle.psci_tree.proofs.domain.Domain.+change_looking.Goals as goal
 use Rattle.psci_tree.proofs.domain.Domain.+change_looking.Goals.{After-change_looking, After-deref}
+use Rattle.psci_tree.proofs.domain.Domain.+change_looking.Goals as goal
 
 pub returns-then-level-eq0-clause-kept : goal.returns-then-level-eq0-clause-kept
 returns-then-level-eq0-clause-kept t c =
     let own : Domain = c.args.self.now in
-    let none : length (branches own) ≡ 0 =
-    subst (λ j. IsWay j c.args.way.now own) c.if-level-eq0.true c.requires.descent.leads in
-    let here = kept_roll_core (record {
-      children = (out-Domain own).children;
-      core = c.args.state.now;
-      kept = c.of_core-self.result;
-    }) none c.of_core-self.ensures in
+    let none : length (branches own) ≡ 0 = rw c.if-level-eq0.true at c.requires.descent.leads in
+    let here = kept_roll_core
+    (record (out-Domain own) { core = c.args.state.now; kept = c.of_core-self.result }) none
+    c.of_core-self.ensures in
     simp the_lemmas (simp the_lemmas at here)
 
 pub returns-then-level-eq0-clause-cores : goal.returns-then-level-eq0-clause-cores
 returns-then-level-eq0-clause-cores t c =
     let own : Domain = c.args.self.now in
-    let none : length (branches own) ≡ 0 =
-    subst (λ j. IsWay j c.args.way.now own) c.if-level-eq0.true c.requires.descent.leads in
+    let none : length (branches own) ≡ 0 = rw c.if-level-eq0.true at c.requires.descent.leads in
     let state : CoreState = c.args.state.now in
     let there : set (leaves own) (index_by c.args.level c.args.way.now own) state ≡ state ∷ [] =
     ap (λ j. set (leaves own) (index_by j c.args.way.now own) state) c.if-level-eq0.true
     ∙ ap (λ cs. set cs 0 state) (cores_of_core own none) in
-    let here = cores_roll_core (record {
-      children = (out-Domain own).children;
-      core = state;
-      kept = c.of_core-self.result;
-    }) none ∙ sym there in
+    let here = cores_roll_core
+    (record (out-Domain own) { core = state; kept = c.of_core-self.result }) none ∙ sym there in
     simp the_lemmas (simp the_lemmas at here)
 
 pub change_looking-requires : goal.change_looking-requires
@@ -75,20 +68,20 @@ kept_of-self-requires-clause-few t c = omega (
 
 pub returns-clause-cores : goal.returns-clause-cores
 returns-clause-cores t c =
-    let here = cores_put c.kept_of-self.result
-    (through t (goal.at.returns-clause-cores t c).After-change_looking) in
+    let here = cores_put (through t (goal.at.returns-clause-cores t c).After-change_looking)
+    c.kept_of-self.result in
     simp the_lemmas (simp the_lemmas at here)
 
 pub returns-clause-shape : goal.returns-clause-shape
 returns-clause-shape t c = λ k.
-    let here = shape_put c.kept_of-self.result
-    (through t (goal.at.returns-clause-shape t c).After-change_looking) k in
+    let here = shape_put (through t (goal.at.returns-clause-shape t c).After-change_looking)
+    c.kept_of-self.result k in
     simp the_lemmas (simp the_lemmas at here)
 
 pub returns-clause-kept : goal.returns-clause-kept
 returns-clause-kept t c =
     let at = goal.at.returns-clause-kept t c in
-    let here = kept_put c.kept_of-self.result (through t at.After-change_looking)
+    let here = kept_put (through t at.After-change_looking) c.kept_of-self.result
     (subst (λ ns. Keeps c.kept_of-self.result (cores_in ns)) (children t at.After-deref)
     c.kept_of-self.ensures) in
     simp the_lemmas (simp the_lemmas at here)

@@ -1,39 +1,26 @@
 use Rattle.std.proofs.Common.{get_or-set_other}
-use Rattle.psci_tree.proofs.Words.{◌+◌, ◌<◌, ◌==◌, ◌∙◌, ◌≡◌, ◌≢◌, ◌≤◌, ap, AreKept, arith, Bool}
-use Rattle.psci_tree.proofs.Words.{branches, child_counts, cores_in, count_by, Domain, Domain-F}
-use Rattle.psci_tree.proofs.Words.{eqb-true, false, get_or, get_or_default, is_away, leaves, length}
-use Rattle.psci_tree.proofs.Words.{length-replicate, length-set, List, never_started, replicate}
-use Rattle.psci_tree.proofs.Words.{rules, set, subst, suc, sym, the_lemmas, true, with_item, zero}
-use Rattle.psci_tree.proofs.Words.{ℕ}
+use Rattle.psci_tree.proofs.Words.{◌+◌, ◌<◌, ◌∙◌, ◌≡◌, ◌≢◌, ◌≤◌, ap, AreKept, arith, branches}
+use Rattle.psci_tree.proofs.Words.{child_counts, cores_in, count_by, Domain, Domain-F}
+use Rattle.psci_tree.proofs.Words.{get_or, get_or_default, is_away, leaves, length}
+use Rattle.psci_tree.proofs.Words.{length-replicate, length-set, List, nat_tests, never_started}
+use Rattle.psci_tree.proofs.Words.{replicate, rules, set, subst, suc, sym, the_lemmas}
+use Rattle.psci_tree.proofs.Words.{with_item, ℕ}
 use Rattle.psci_tree.specs.declared.domain.Domain.TheViews.{out-Domain}
 use Rattle.psci_tree.proofs.Below.{children_roll, cores_le, cores_roll, length_of_domain}
 use Rattle.psci_tree.proofs.Keeping.{kept_roll, kept_roll_core}
 use Rattle.psci_tree.proofs.OffOnes.{AreOffTo, IsOffOne, off_cores, off_kept, off_length, off_more}
 use Rattle.psci_tree.proofs.OffOnes.{never_keeps, off_next, off_widths}
-use Rattle.psci_tree.proofs.domain.Domain.+turn_off.Goals as goal
 use Rattle.psci_tree.proofs.domain.Domain.+turn_off.Goals.{After-index_mut, After-loop-number}
-
--- what is not empty has children, and what is empty has none
-some_of_test : (n : ℕ) (b : Bool) → b ≡ (n == 0) → b ≡ false → 0 < n
-some_of_test zero b e f = absurd (let no : true ≡ false = sym e ∙ f in cc)
-some_of_test (suc n) b e f = omega arith
-
-none_of_test : (n : ℕ) (b : Bool) → b ≡ (n == 0) → b ≡ true → n ≡ 0
-none_of_test n b e f = eqb-true n 0 (sym e ∙ f)
+use Rattle.psci_tree.proofs.domain.Domain.+turn_off.Goals as goal
 
 pub returns-then-is_empty-clause-kept : goal.returns-then-is_empty-clause-kept
 returns-then-is_empty-clause-kept t c =
     let own : Domain = c.args.self.now in
-    let none : length (branches own) ≡ 0 = omega (
-      arith,
-      none_of_test _ _ c.is_empty.ensures c.if-is_empty.true,
-      (out-Domain own).children.ok.0,
-    ) in
-    let here = kept_roll_core (record {
-      children = (out-Domain own).children;
-      core = never_started;
-      kept = c.never_started-self.result;
-    }) none c.never_started-self.ensures in
+    let size = (out-Domain own).children.ok.0 in
+    let none : length (branches own) ≡ 0 = grind (arith, nat_tests) in
+    let here = kept_roll_core
+    (record (out-Domain own) { core = never_started; kept = c.never_started-self.result }) none
+    c.never_started-self.ensures in
     simp the_lemmas (simp the_lemmas at here)
 
 -- the child that the loop is at, and what it was
@@ -41,26 +28,25 @@ record At (ns ms : List Domain) (i : ℕ) (child own : Domain) : Type 0 where
   pub inside : i < length ns
   pub is : child ≡ get_or ns i own
 
-at_child : (ns ms : List Domain) (i : ℕ) (child own : Domain) → i < length ms
-    → child ≡ get_or ms i child → AreOffTo i ns ms → At ns ms i child own
-at_child ns ms i child own h e a = record {
-  inside = omega (arith, off_length i ns ms a);
-  is = e ∙ get_or_default ms i child own h ∙ off_next i ns ms own a;
-}
-
 at_number : (t : ℕ) (c : After-index_mut t) → At (branches c.args.self.now)
     (branches c.loop-number.self) c.loop-number.number c.index_mut.result.now c.args.self.now
 at_number t c =
     let own : Domain = c.args.self.now in
     let ms : List Domain = branches c.loop-number.self in
-    at_child (branches own) ms c.loop-number.number c.index_mut.result.now own
-    (omega (
+    let i : ℕ = c.loop-number.number in
+    let long = off_length i (branches own) ms c.loop-number.invariant.done in
+    let inside : i < length ms = omega (
       arith,
       c.loop-number-test.true,
       c.len-number-end.ensures,
-      off_length c.loop-number.number (branches own) ms c.loop-number.invariant.done,
+      long,
       (out-Domain own).children.ok.0,
-    )) c.index_mut.ensures.value c.loop-number.invariant.done
+    ) in
+    record {
+      inside = omega (arith, long, inside);
+      is = c.index_mut.ensures.value ∙ get_or_default ms i c.index_mut.result.now own inside
+          ∙ off_next i (branches own) ms own c.loop-number.invariant.done;
+    }
 
 pub turn_off-requires : goal.turn_off-requires
 turn_off-requires t c =
@@ -90,10 +76,8 @@ loop-number-preserved t c =
       shape = λ k. c.turn_off.ensures.shape k ∙ ap (child_counts k) at.is;
       kept = c.turn_off.ensures.kept;
     } in
-    let half : Domain-F Domain = record {
+    let half : Domain-F Domain = record (out-Domain c.loop-number.self) {
       children = with_item (out-Domain c.loop-number.self).children i new;
-      core = (out-Domain c.loop-number.self).core;
-      kept = (out-Domain c.loop-number.self).kept;
     } in
     let up : suc i ≡ i + 1 = omega arith in
     let more : AreOffTo (i + 1) ns (set ms i new) = subst (λ j. AreOffTo j ns (set ms i new)) up
@@ -123,11 +107,8 @@ all t c = omega (
 )
 
 some : (t : ℕ) (c : After-loop-number t) → 0 < length (branches c.args.self.now)
-some t c = omega (
-  arith,
-  some_of_test _ _ c.is_empty.ensures c.if-is_empty.false,
-  (out-Domain c.args.self.now).children.ok.0,
-)
+some t c =
+    let size = (out-Domain c.args.self.now).children.ok.0 in grind (arith, nat_tests)
 
 cores_off : (t : ℕ) (c : After-loop-number t)
     → cores_in (now t c) ≡ replicate (length (cores_in (branches c.args.self.now))) never_started
@@ -166,31 +147,23 @@ off_below-requires-clause-few t c =
 pub returns-clause-cores : goal.returns-clause-cores
 returns-clause-cores t c =
     let at = (goal.at.returns-clause-cores t c).After-loop-number in
-    cores_roll (record {
-      children = (out-Domain c.loop-number.self).children;
-      core = (out-Domain c.loop-number.self).core;
-      kept = c.never_started-self-2.result;
-    }) (still_some t at)
+    cores_roll (record (out-Domain c.loop-number.self) { kept = c.never_started-self-2.result })
+    (still_some t at)
     ∙ cores_off t at
     ∙ ap (λ n. replicate n never_started) (sym (length_of_domain c.args.self.now (some t at)))
 
 pub returns-clause-shape : goal.returns-clause-shape
 returns-clause-shape t c =
-    off_widths c.args.self.now (record {
-      children = (out-Domain c.loop-number.self).children;
-      core = (out-Domain c.loop-number.self).core;
-      kept = c.never_started-self-2.result;
-    }) c.loop-number.number (all t (goal.at.returns-clause-shape t c).After-loop-number)
+    off_widths c.args.self.now
+    (record (out-Domain c.loop-number.self) { kept = c.never_started-self-2.result })
+    c.loop-number.number (all t (goal.at.returns-clause-shape t c).After-loop-number)
     c.loop-number.invariant.done
 
 pub returns-clause-kept : goal.returns-clause-kept
 returns-clause-kept t c =
     let at = (goal.at.returns-clause-kept t c).After-loop-number in
-    kept_roll (record {
-      children = (out-Domain c.loop-number.self).children;
-      core = (out-Domain c.loop-number.self).core;
-      kept = c.never_started-self-2.result;
-    }) (still_some t at) (never_keeps c.never_started-self-2.result (now t at) c.off_below.result
+    kept_roll (record (out-Domain c.loop-number.self) { kept = c.never_started-self-2.result })
+    (still_some t at) (never_keeps c.never_started-self-2.result (now t at) c.off_below.result
     (length (cores_in (branches c.args.self.now))) (cores_off t at)
     (c.off_below.ensures ∙ ap (λ ns. count_by (λ s. is_away s.activity) (cores_in ns))
     c.deref.ensures.value) c.never_started-self-2.ensures) (kept_off t at)

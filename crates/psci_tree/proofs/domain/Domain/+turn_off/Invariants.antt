@@ -3,9 +3,6 @@ use Rattle.psci_tree.proofs.Words.{branches}
 use Rattle.psci_tree.proofs.OffOnes.{AreOffTo}
 use Rattle.psci_tree.proofs.domain.Domain.+turn_off.Given as goal
 
-abbrev pub decreases-turn_off : goal.decreases-turn_off
-decreases-turn_off l = goal.size-turn_off l
-
 abbrev pub invariant-loop-number : goal.invariant-loop-number
 invariant-loop-number l = record {
   rest : goal.unvisited-loop-number l;

@@ -1,6 +1,5 @@
-use Rattle.psci_tree.proofs.Words.{◌∙◌, ap, arith, confirmed_of, granted_of, length, List, map}
-use Rattle.psci_tree.proofs.Words.{path_cleared, refl, sym, TreeValue, ℕ}
-use Rattle.psci_tree.proofs.Cleared.{none_to_clear}
+use Rattle.psci_tree.proofs.Words.{◌∙◌, arith, refl, sym}
+use Rattle.psci_tree.proofs.Granted.{none_to_clear}
 use Rattle.psci_tree.proofs.Valid.{path_valid}
 use Rattle.psci_tree.proofs.Seen.{core_seen, way_seen, held_with, held_seen, rows_seen}
 use Rattle.psci_tree.proofs.tree.Tree.clear_path.Goals as goal
@@ -12,11 +11,8 @@ returns-then-granted-eq0-clause-value c =
 
 pub clear_up-requires-clause-rows : goal.clear_up-requires-clause-rows
 clear_up-requires-clause-rows c = record {
-  granted = ap (λ xs. map length (granted_of (map (λ v. v.items) xs))) c.deref_mut.ensures.value
-      ∙ c.self.invariant.tied.valid.granted;
-  confirmed = ap (λ xs. map length (confirmed_of (map (λ v. v.items) xs)))
-      c.deref_mut.ensures.value
-      ∙ c.self.invariant.tied.valid.confirmed;
+  granted = rw c.deref_mut.ensures.value c.self.invariant.tied.valid.granted;
+  confirmed = rw c.deref_mut.ensures.value c.self.invariant.tied.valid.confirmed;
 }
 
 pub clear_up-requires-clause-lead : goal.clear_up-requires-clause-lead
@@ -29,17 +25,11 @@ clear_up-requires-clause-lead c = record {
 
 pub returns-clause-value : goal.returns-clause-value
 returns-clause-value c =
-    let core : ℕ = c.args.core.number in
-    let levels : List (List ℕ) = c.self.inside.board.levels in
     let was = c.deref_mut.ensures.value in
     rows_seen c.self.inside c.args.self.now c.clear_up.new.rows _ _ c.self.view_is
     (omega (arith, c.clear_up.auto.rows, c.deref_mut.ensures.len))
-    (c.clear_up.ensures.granted
-    ∙ ap (λ xs. path_cleared levels core (granted_of (map (λ v. v.items) xs))) was
-    ∙ ap (λ (t : TreeValue). path_cleared t.levels core t.granted) c.self.view_is)
-    (c.clear_up.ensures.confirmed
-    ∙ ap (λ xs. path_cleared levels core (confirmed_of (map (λ v. v.items) xs))) was
-    ∙ ap (λ (t : TreeValue). path_cleared t.levels core t.confirmed) c.self.view_is)
+    (rw (c.clear_up.ensures.granted, was, ← c.self.view_is))
+    (rw (c.clear_up.ensures.confirmed, was, ← c.self.view_is))
 
 pub invariant_of-self : goal.invariant_of-self
 invariant_of-self c =

@@ -2,7 +2,7 @@ use Rattle.std.proofs.lemmas.List.{set-get_or}
 use Rattle.psci_tree.proofs.Words.{◌∙◌, ◌≡◌, [], ap, arith, depth_set, Depths, get_or, granted_at}
 use Rattle.psci_tree.proofs.Words.{List, Node, refl, set, TreeValue, ℕ}
 use Rattle.psci_tree.specs.Changes.{with_confirmed}
-use Rattle.psci_tree.proofs.Seen.{depths_seen, depths_with, held_seen, held_with, place_seen}
+use Rattle.psci_tree.proofs.Seen.{depths_seen, depths_with, held_seen, held_with}
 use Rattle.psci_tree.proofs.Valid.{confirmed_valid}
 use Rattle.psci_tree.proofs.tree.Tree.confirm.Goals as goal
 
@@ -12,16 +12,6 @@ same_set : (gs : List (List ℕ)) (n : Node)
 same_set gs n =
     ap (set gs n.level) (set-get_or (get_or gs n.level []) n.place 0)
     ∙ set-get_or gs n.level []
-
-pub depths_at-requires : goal.depths_at-requires
-depths_at-requires c =
-    place_seen c.self.inside _ _ c.self.invariant c.self.view_is c.requires.domain
-    c.deref.ensures.value
-
-pub write-requires : goal.write-requires
-write-requires c =
-    place_seen c.self.inside _ _ c.self.invariant c.self.view_is c.requires.domain
-    c.deref_mut.ensures.value
 
 pub returns-clause-value : goal.returns-clause-value
 unfolding with_confirmed

@@ -1,9 +1,5 @@
-use Rattle.psci_tree.proofs.Seen.{depths_seen, place_seen}
+use Rattle.psci_tree.proofs.Seen.{depths_seen}
 use Rattle.psci_tree.proofs.tree.Tree.confirmed_depth.Goals as goal
-
-pub depths_at-requires : goal.depths_at-requires
-depths_at-requires c =
-    place_seen c.self.inside _ _ c.self.invariant c.self.view_is c.requires c.deref.ensures.value
 
 pub returns : goal.returns
 returns c =

@@ -1,19 +1,9 @@
 use Rattle.psci_tree.proofs.Words.{◌==◌, ◌∙◌, ap, arith, cond, Depths, granted_at, Node, refl}
 use Rattle.psci_tree.proofs.Words.{TreeValue, ℕ}
 use Rattle.psci_tree.specs.Changes.{with_grant}
-use Rattle.psci_tree.proofs.Seen.{depths_seen, depths_with, held_seen, held_with, place_seen}
+use Rattle.psci_tree.proofs.Seen.{depths_seen, depths_with, held_seen, held_with}
 use Rattle.psci_tree.proofs.Valid.{grant_valid}
 use Rattle.psci_tree.proofs.tree.Tree.grant.Goals as goal
-
-pub depths_at-requires : goal.depths_at-requires
-depths_at-requires c =
-    place_seen c.self.inside _ _ c.self.invariant c.self.view_is c.requires.domain
-    c.deref.ensures.value
-
-pub write-requires : goal.write-requires
-write-requires c =
-    place_seen c.self.inside _ _ c.self.invariant c.self.view_is c.requires.domain
-    c.deref_mut.ensures.value
 
 pub returns-clause-value : goal.returns-clause-value
 unfolding with_grant

@@ -2,7 +2,7 @@ use Rattle.std.proofs.lemmas.List.FromFn.{length-range_with_len}
 use Rattle.psci_tree.proofs.Words.{◌<◌, ◌∙◌, ap, arith, below_in, IsTied, length, span, SpanLaws}
 use Rattle.psci_tree.proofs.Words.{subst, TreeValue}
 use Rattle.psci_tree.proofs.Keeping.{keeps_low}
-use Rattle.psci_tree.proofs.Recounted.{low_is, low_above}
+use Rattle.psci_tree.proofs.PathStands.{low_is, low_above}
 use Rattle.psci_tree.proofs.tree.Tree.low.Goals as goal
 
 pub returns-then-level-height : goal.returns-then-level-height

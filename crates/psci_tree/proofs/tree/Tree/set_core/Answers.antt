@@ -1,7 +1,6 @@
 use Rattle.psci_tree.proofs.Words.{◌∙◌, ap, IsActivity, known_at, subst, sym, the_view, TreeValue}
 use Rattle.psci_tree.proofs.Words.{unwrap_or, with_core_state}
-use Rattle.psci_tree.proofs.Held.{held_core, core_value, state_held}
-use Rattle.psci_tree.proofs.Seen.{core_seen, way_seen}
+use Rattle.psci_tree.proofs.Seen.{held_core, core_value, state_held, core_seen, way_seen}
 use Rattle.psci_tree.proofs.tree.Tree.set_core.Goals as goal
 
 pub change_core-requires-clause-lead : goal.change_core-requires-clause-lead

@@ -1,7 +1,6 @@
-use Rattle.psci_tree.proofs.Words.{◌∙◌, ◌≡◌, all_off, ap, arith, confirmed_of, CoreState, Depths}
-use Rattle.psci_tree.proofs.Words.{Domain, filled, granted_of, IsHeld, leaves, length, level_sizes}
-use Rattle.psci_tree.proofs.Words.{List, map, never_started, replicate, rows_with_depth, size_below}
-use Rattle.psci_tree.proofs.Words.{subst, sym, TreeValue, Way, with_items, with_items_is, ℕ}
+use Rattle.psci_tree.proofs.Words.{◌∙◌, ◌≡◌, ap, arith, CoreState, Depths, Domain, IsHeld, length}
+use Rattle.psci_tree.proofs.Words.{level_sizes, List, map, never_started, replicate, subst, sym}
+use Rattle.psci_tree.proofs.Words.{Way, with_items_is, ℕ}
 use Rattle.psci_tree.proofs.DepthRows.{depth_lengths, filled_depths}
 use Rattle.psci_tree.proofs.Valid.{all_off_valid}
 use Rattle.psci_tree.proofs.Slices.{whole_kept}
@@ -10,33 +9,25 @@ use Rattle.psci_tree.proofs.tree.Tree.turn_off.Goals as goal
 
 pub returns-clause-value : goal.returns-clause-value
 returns-clause-value c =
-    let levels : List (List ℕ) = c.self.inside.board.levels in
+    let valid = c.self.invariant.tied.valid in
+    let sizes : List ℕ = level_sizes c.self.inside.board.levels in
+    let deepest : Depths = record { granted = 3; confirmed = 3 } in
+    let was : List (List Depths) = map (λ v. v.items) c.self.inside.depths.items in
+    let lengths : map length was ≡ sizes =
+    sym (depth_lengths (λ d. d.granted) was) ∙ valid.granted in
     let kept = with_items_is c.self.inside.depths c.fill_rows.new.rows
     (omega (arith, c.fill_rows.auto.rows, c.deref_mut.ensures.len)) in
-    let change : List CoreState → List (List ℕ) → List (List ℕ) → TreeValue =
-    λ cs gs fs. record { levels = levels; cores = cs; granted = gs; confirmed = fs } in
-    let sizes : List ℕ = level_sizes levels in
-    let full : List (List ℕ) = rows_with_depth sizes 3 in
-    let deepest : Depths = record { granted = 3; confirmed = 3 } in
-    let states : leaves c.turn_off.new.root ≡ replicate (size_below levels) never_started =
-    c.turn_off.ensures.cores
-    ∙ ap (λ n. replicate n never_started) c.self.invariant.tied.valid.cores in
-    let was : List (List Depths) = map (λ v. v.items) c.self.inside.depths.items in
-    let now : List (List Depths) =
-    map (λ v. v.items) (with_items c.self.inside.depths c.fill_rows.new.rows).items in
-    let lengths : map length was ≡ sizes =
-    sym (depth_lengths (λ d. d.granted) was) ∙ c.self.invariant.tied.valid.granted in
-    let rows : now ≡ filled sizes deepest =
-    ap (map (λ v. v.items)) kept ∙ c.fill_rows.ensures
-    ∙ ap (λ xs. filled (map length (map (λ v. v.items) xs)) deepest) c.deref_mut.ensures.value
-    ∙ ap (λ ns. filled ns deepest) lengths in
-    let granted : granted_of now ≡ full =
-    ap granted_of rows ∙ filled_depths (λ d. d.granted) sizes deepest in
-    let confirmed : confirmed_of now ≡ full =
-    ap confirmed_of rows ∙ filled_depths (λ d. d.confirmed) sizes deepest in
-    let off : change (leaves c.turn_off.new.root) (granted_of now) (confirmed_of now)
-    ≡ all_off levels = cc in
-    off ∙ ap (λ (t : TreeValue). all_off t.levels) c.self.view_is
+    rw (
+      ← c.self.view_is,
+      kept,
+      c.fill_rows.ensures,
+      c.deref_mut.ensures.value,
+      lengths,
+      filled_depths (λ d. d.granted) sizes deepest,
+      filled_depths (λ d. d.confirmed) sizes deepest,
+      c.turn_off.ensures.cores,
+      valid.cores,
+    )
 
 pub invariant_of-self : goal.invariant_of-self
 invariant_of-self c =
