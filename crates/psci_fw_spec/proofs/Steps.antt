@@ -280,12 +280,18 @@ by_values b v (s ∷ ss) =
     let reply = answer b v s.core s.call in
     reply ∷ by_values b (after b s.core s.call reply v) ss
 
--- each of these runs, or one, is answered so, by the history and by the values alike
-pub record AreAnsweredAll (b : BoardValue) (runs : List (List Row)) : Type 0 where
-  pub history : map (λ run. by_history b (map (λ r. r.given) run)) runs
-      ≡ map (map (λ r. r.comes)) runs
-  pub values : map (λ run. by_values b (start_of_life b 0) (map (λ r. r.given) run)) runs
-      ≡ map (map (λ r. r.comes)) runs
+-- each of these runs, on its board, is answered so, by the history and by the values alike
+pub record AreAnsweredOn (runs : List (tables.Row BoardValue (List Row))) : Type 0 where
+  pub history : map (λ run. by_history run.given (map (λ r. r.given) run.comes)) runs
+      ≡ map (λ run. map (λ r. r.comes) run.comes) runs
+  pub values :
+      map (λ run. by_values run.given (start_of_life run.given 0) (map (λ r. r.given) run.comes))
+      runs
+      ≡ map (λ run. map (λ r. r.comes) run.comes) runs
+
+-- the same of runs of one board, and of one run
+abbrev pub AreAnsweredAll : BoardValue → List (List Row) → Type 0
+AreAnsweredAll b runs = AreAnsweredOn (map (λ run. b ⇒ run) runs)
 
 abbrev pub AreAnswered : BoardValue → List Row → Type 0
-AreAnswered b rows = AreAnsweredAll b (rows ∷ [])
+AreAnswered b rows = AreAnsweredOn (b ⇒ rows ∷ [])
