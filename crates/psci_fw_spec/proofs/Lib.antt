@@ -8,7 +8,6 @@ mod Changing
 mod Claimed
 mod ConfirmedRows
 mod Depending
-mod DomainsSay
 mod EffectRows
 pub mod Endings
 mod Entered
@@ -20,7 +19,6 @@ mod HardwareRows
 mod Holding
 mod InvariantRows
 mod LastLifeRows
-mod LeftBy
 mod LegalRows
 mod LivesStories
 mod LopsidedRows
@@ -31,18 +29,13 @@ mod ModeRows
 mod Modes
 mod NamingRows
 mod OneMore
-mod OpeningsSay
 mod OsInitiatedStories
 mod PeersStories
 mod PendingCores
-mod PhasesSay
 mod RefusalRows
 mod SafeStories
 mod SameReplies
-mod Says
-mod SlotsSay
 mod Starting
-mod StatusesSay
 mod Steps
 mod StopValueRows
 mod Stopping

@@ -1,102 +1,62 @@
--- A core is pending exactly where its status is ON_PENDING, after every history.
-use Rattle.psci_fw_spec.proofs.Words.{◌&&◌, ◌==◌, ◌↔◌, ◌∙◌, ◌∷◌, ◌≡◌, [], Acknowledges, AckValue}
-use Rattle.psci_fw_spec.proofs.Words.{and_parts, ap, arrived, AsksOn, begins, BoardValue, Bool}
-use Rattle.psci_fw_spec.proofs.Words.{cond, Down, Effect, effect, Enters, false, first_status}
-use Rattle.psci_fw_spec.proofs.Words.{FwExchange, is_kind, is_pending, life, List, nat_lt, None}
-use Rattle.psci_fw_spec.proofs.Words.{only_if, option_or, Parks, Pending, Phase, phase, phase_left}
-use Rattle.psci_fw_spec.proofs.Words.{refl, says_pending, says_status, Some, Status, status}
-use Rattle.psci_fw_spec.proofs.Words.{StopsAtOnce, subst, sym, target, true, unwrap_or, ℕ}
-use Rattle.psci_fw_spec.specs.History.{is_gone}
-use Rattle.psci_fw_spec.specs.Phases.{is_away}
-use Rattle.psci_fw_spec.proofs.LeftBy.{IsLeft, is_left}
+-- A core is pending exactly where its status is ON_PENDING, after every history; and no outcome
+-- leaves a core pending: what is left is that it runs, is suspended or is away.
+use Rattle.std.proofs.Common.{option_and_then}
+use Rattle.psci_fw_spec.proofs.Words.{◌==◌, ◌↔◌, ◌∷◌, ◌≡◌, [], Act, arith, arrived, Away, begins}
+use Rattle.psci_fw_spec.proofs.Words.{BoardValue, cond, Effect, effect, effect_of, first_status}
+use Rattle.psci_fw_spec.proofs.Words.{function_effect, FwCall, FwExchange, FwReply, is_pending, life}
+use Rattle.psci_fw_spec.proofs.Words.{List, MessageValue, nat_tests, None, only_if, Option, Pending}
+use Rattle.psci_fw_spec.proofs.Words.{Phase, phase, phase_left, Request, says_pending, says_status}
+use Rattle.psci_fw_spec.proofs.Words.{Some, status, unwrap_or, ℕ}
+use Rattle.psci_fw_spec.specs.Said.{Left, left}
 use Rattle.psci_fw_spec.specs.declared.status.Status.TheVariants as statuses
-use Rattle.psci_fw_spec.specs.AffinityInfo as affinity
+use Rattle.psci_fw_spec.specs.AffinityInfo.{is_pending_status}
 
--- What is said of one core --------------------------------------------------------------------
+-- What is left --------------------------------------------------------------------------------
 
--- a status says the same as a test: that the core is pending
-abbrev Agree : Status → Bool → Type 0
-Agree s pending = affinity.is_pending_status s ≡ pending
+-- a phase that an outcome can leave
+abbrev pub IsLeft : Phase → Type 0
+IsLeft Pending = ⊥
+IsLeft p = Unit {0}
 
-first_agree : (t : Bool) → Agree (cond t statuses.Pending statuses.Off) t
-first_agree true = refl
-first_agree false = refl
+-- what an effect left, if it left something
+abbrev IsLeftBy : Option Left → Type 0
+IsLeftBy None = Unit {0}
+IsLeftBy (Some l) = IsLeft l.phase
 
-begun_agree : (t u p : Bool) (s : Status) → Agree s p
-    → Agree (cond t (cond u statuses.Pending statuses.Off) s) (cond t u p)
-begun_agree true u p s e = first_agree u
-begun_agree false u p s e = e
+function_left : (b : BoardValue) (c : ℕ) (r : Request) (act : Act) (m : Option MessageValue)
+    → IsLeftBy (left (function_effect b c r act m))
+function_left b c r act m = grind arith
 
-asked_agree : (t p : Bool) (s : Status) → Agree s p
-    → Agree (unwrap_or (option_or (only_if t (Some statuses.Pending)) None) s)
-    (unwrap_or (option_or (only_if t (Some true)) None) p)
-asked_agree true p s e = refl
-asked_agree false p s e = e
+effect_left : (b : BoardValue) (c : ℕ) (call : FwCall) (reply : FwReply)
+    → IsLeftBy (left (effect_of b c call reply))
+effect_left b c call reply = grind (arith, function_left)
 
-ran_agree : (t p : Bool) (s : Status) → Agree s p
-    → Agree (unwrap_or (option_or (only_if t (Some statuses.On)) None) s)
-    (unwrap_or (only_if t (Some false)) p)
-ran_agree true p s e = refl
-ran_agree false p s e = e
+-- what is left of one core, by an effect or before it
+one_left : (before k : ℕ) (f : Effect) (last : Phase) → IsLeftBy (left f) → IsLeft last
+    → IsLeft (unwrap_or (option_and_then (λ l. only_if (k == l.core) (Some l.phase)) (left f))
+    (cond (begins before (arrived f)) Away last))
+one_left before k f last by is = grind arith
 
-gone_agree : (t p : Bool) (s : Status) → (t ≡ true → p ≡ false) → Agree s p
-    → Agree (unwrap_or (only_if t (Some statuses.Off)) s) p
-gone_agree true p s not_pending e = sym (not_pending refl)
-gone_agree false p s not_pending e = e
+pub is_left : (b : BoardValue) (h : List FwExchange) (k : ℕ) → IsLeft (phase_left b h k)
+is_left b [] k = tt
+is_left b (e ∷ h) k =
+    one_left (life b h) k (effect b e) _ (effect_left b e.core e.call e.reply) (is_left b h k)
 
--- a core that is off or going off is not pending
-away_not_pending : (p : Bool) (last : Phase) → is_away (cond p Pending last) ≡ true → p ≡ false
-away_not_pending true last e = absurd (cc)
-away_not_pending false last e = refl
+-- Pending cores -------------------------------------------------------------------------------
 
--- One more exchange ---------------------------------------------------------------------------
+more_agree : (b : BoardValue) (c : ℕ) (h : List FwExchange) (f : Effect)
+    → is_pending_status (status b h c) ≡ is_pending b h c
+    → is_pending_status (unwrap_or (says_status b c h f)
+    (cond (begins (life b h) (arrived f)) (first_status c) (status b h c)))
+    ≡ unwrap_or (says_pending c h f)
+    (cond (begins (life b h) (arrived f)) (c == 0) (is_pending b h c))
+more_agree b c h f e = grind (arith, nat_tests)
 
-module _ (b : BoardValue) where
-  gone_away : (c : ℕ) (h : List FwExchange) (a : AckValue) → is_gone b c h a ≡ true
-      → is_pending b h c ≡ false
-  gone_away c h a e =
-      let told = is_kind a.kind Down && nat_lt 0 a.applied in
-      let core = and_parts (c == a.core.number) (told && is_away (phase b h c)) e in
-      away_not_pending (is_pending b h c) (phase_left b h c)
-      (and_parts told (is_away (phase b h c)) core.1).1
-
-  more_agree : (c : ℕ) (h : List FwExchange) (f : Effect) → Agree (status b h c) (is_pending b h c)
-      → Agree
-      (unwrap_or (says_status b c h f)
-      (cond (begins (life b h) (arrived f)) (first_status c) (status b h c)))
-      (unwrap_or (says_pending c h f)
-      (cond (begins (life b h) (arrived f)) (c == 0) (is_pending b h c)))
-  more_agree c h (AsksOn core asked) e = asked_agree (c == target asked) _ _ e
-  more_agree c h (Enters core s) e =
-      ran_agree (c == core) _ _
-      (begun_agree (begins (life b h) (arrived (Enters core s))) (c == 0) _ _ e)
-  more_agree c h (Parks core s m) e =
-      begun_agree (begins (life b h) (arrived (Parks core s m))) (c == 0) _ _ e
-  more_agree c h (StopsAtOnce core s) e =
-      begun_agree (begins (life b h) (arrived (StopsAtOnce core s))) (c == 0) _ _ e
-  more_agree c h (Acknowledges a) e =
-      gone_agree (is_gone b c h a) _ _ (gone_away c h a) e
-  more_agree c h f e = e
-
-  agree : (h : List FwExchange) (c : ℕ) → Agree (status b h c) (is_pending b h c)
-  agree [] c = first_agree (c == 0)
-  agree (e ∷ h) c = more_agree c h (effect b e) (agree h c)
-
--- Both ways -----------------------------------------------------------------------------------
-
-pending_status : (s : Status) → affinity.is_pending_status s ≡ true → s ≡ statuses.Pending
-pending_status statuses.Pending e = refl
-pending_status s e = absurd (cc)
-
-pending_phase : (p : Bool) (last : Phase) → IsLeft last → cond p Pending last ≡ Pending → p ≡ true
-pending_phase true last is e = refl
-pending_phase false last is e = absurd (subst IsLeft e is)
+agree : (b : BoardValue) (h : List FwExchange) (c : ℕ)
+    → is_pending_status (status b h c) ≡ is_pending b h c
+agree b [] c = grind arith
+agree b (e ∷ h) c = more_agree b c h (effect b e) (agree b h c)
 
 pub pending_same : (b : BoardValue) (h : List FwExchange) (c : ℕ)
     → (status b h c ≡ statuses.Pending) ↔ (phase b h c ≡ Pending)
-pending_same b h c = (
-  λ e. ap (λ (p : Bool). cond p Pending (phase_left b h c))
-      (sym (agree b h c) ∙ ap affinity.is_pending_status e),
-  λ e. pending_status (status b h c)
-      (agree b h c ∙ pending_phase (is_pending b h c) (phase_left b h c) (is_left b h c) e),
-)
+pending_same b h c = grind (arith, agree b h c, is_left b h c)
