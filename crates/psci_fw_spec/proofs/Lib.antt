@@ -1,6 +1,5 @@
 mod AffinityRows
 mod Answered
-mod Arrivals
 mod Asked
 mod Callers
 mod CallsStories
@@ -23,7 +22,6 @@ mod LegalRows
 mod LivesStories
 mod LopsidedRows
 mod LopsidedValueRows
-mod MessageNames
 mod MessageRows
 mod ModeRows
 mod Modes
@@ -43,7 +41,6 @@ mod SuspendRows
 mod SuspendStories
 mod SystemRows
 mod SystemStories
-mod Targets
 mod Updates
 mod ValueRows
 mod Wishes
