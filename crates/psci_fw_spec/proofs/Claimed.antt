@@ -2,7 +2,7 @@
 use Rattle.std.proofs.Common.{length}
 use Rattle.std.proofs.Math.Nat.{eq-zero-or-pos}
 use Rattle.psci_fw_spec.proofs.Words.{◌+◌, ◌<◌, ◌≡◌, ◌≤◌, ap, AreClaims, arith, Away, BoardValue}
-use Rattle.psci_fw_spec.proofs.Words.{claims_of, cores, inl, inr, IsAsk, IsBoard, least_wish}
+use Rattle.psci_fw_spec.proofs.Words.{claims_of, cores, inl, inr, IsAsk, IsBoard, known, least_wish}
 use Rattle.psci_fw_spec.proofs.Words.{leaving_claims, List, off_wish, Ok, OsInitiated, own_wish}
 use Rattle.psci_fw_spec.proofs.Words.{Part, Phase, Platform, PowerView, slice_get, Some, subst}
 use Rattle.psci_fw_spec.proofs.Words.{suspend_claims, Suspended, SuspendMode, sym, Values}

@@ -1,6 +1,6 @@
 -- What holds of values, by what it is read from: phases, openings and granted depths.
 use Rattle.psci_fw_spec.proofs.Words.{◌≡◌, AreAwake, AreValues, BoardValue, is_expected, is_some}
-use Rattle.psci_fw_spec.proofs.Words.{Phase, subst, sym, Values, ℕ}
+use Rattle.psci_fw_spec.proofs.Words.{known, Phase, phase, subst, sym, Values, ℕ}
 use Rattle.psci_fw_spec.proofs.Asked.{IsLeast, Known, all_off, least_is, off_all, one_least}
 use Rattle.psci_fw_spec.proofs.Granting.{AreBounded, AreGranted}
 

@@ -41,7 +41,6 @@ mod SuspendRows
 mod SuspendStories
 mod SystemRows
 mod SystemStories
-mod Updates
 mod ValueRows
 mod Wishes
 pub mod Words

@@ -1,12 +1,12 @@
 -- That the suspend mode is set leaves values such as the firmware keeps.
 use Rattle.std.specs.List.{list_all, range_with_len}
-use Rattle.psci_fw_spec.proofs.Words.{◌+◌, ◌<◌, ◌==◌, ◌||◌, ◌∙◌, ◌≡◌, ◌≤◌, activity_of, all_others}
-use Rattle.psci_fw_spec.proofs.Words.{and_parts, ap, AreValues, arith, Away, BoardValue, Bool}
-use Rattle.psci_fw_spec.proofs.Words.{cases_eq, change, cond, cores, denied, false, GoesOn, height}
-use Rattle.psci_fw_spec.proofs.Words.{if◌then◌else◌, inl, inr, int_eq, may_set, mode_asked}
-use Rattle.psci_fw_spec.proofs.Words.{mode_effect, ne_eqb, None, Option, OsInitiated, Phase}
-use Rattle.psci_fw_spec.proofs.Words.{Platform, refl, Running, SetsMode, Some, subst, suc, success}
-use Rattle.psci_fw_spec.proofs.Words.{SuspendMode, sym, true, up, Values, zero, ℕ}
+use Rattle.psci_fw_spec.proofs.Words.{◌+◌, ◌<◌, ◌==◌, ◌||◌, ◌∙◌, ◌≡◌, ◌≤◌, all_others, ap}
+use Rattle.psci_fw_spec.proofs.Words.{AreValues, arith, BoardValue, Bool, cases_eq, change, cond}
+use Rattle.psci_fw_spec.proofs.Words.{cores, denied, false, GoesOn, height, if◌then◌else◌, inl, inr}
+use Rattle.psci_fw_spec.proofs.Words.{int_eq, known, may_set, mode_asked, mode_effect, nat_tests}
+use Rattle.psci_fw_spec.proofs.Words.{None, Option, OsInitiated, phase, Platform, refl, Running}
+use Rattle.psci_fw_spec.proofs.Words.{SetsMode, Some, subst, suc, success, SuspendMode, sym, true}
+use Rattle.psci_fw_spec.proofs.Words.{up, Values, zero, ℕ}
 use Rattle.psci_state.specs.Cores.{is_away as is_core_away}
 use Rattle.psci_fw_spec.specs.Changes.{with_mode}
 use Rattle.psci_fw_spec.specs.Phases.{is_away}
@@ -22,24 +22,12 @@ use Rattle.psci_fw_spec.proofs.Wishes.{off_asks}
 each_in : (p : ℕ → Bool) (a n k : ℕ) → list_all p (range_with_len a n) ≡ true → a ≤ k
     → k < a + n → p k ≡ true
 each_in p a zero k e h i = absurd (omega arith)
-each_in p a (suc n) k e h i =
-    let parts = and_parts (p a) (list_all p (range_with_len (a + 1) n)) e in
-    elim (cases_eq a k) [
-      | inl same ↦ ap p (sym same) ∙ parts.0
-      | inr other ↦ each_in p (a + 1) n k parts.1 (omega (arith, other)) (omega arith)
-    ]
+each_in p a (suc n) k e h i = grind (arith, nat_tests, each_in p (a + 1) n k)
 
 other_passes : (b : BoardValue) (c k : ℕ) (test : ℕ → Bool) → all_others b c test ≡ true
     → k < cores b → (k ≡ c → ⊥) → test k ≡ true
 other_passes b c k test e h other =
-    let this : ((k == c) || test k) ≡ true =
-    each_in (λ k. k == c || test k) 0 (cores b) k e (omega arith) (omega arith) in
-    let beside : (k == c) ≡ false = ne_eqb k c other in
-    ap (λ t. t || test k) (sym beside) ∙ this
-
-away_off : (p : Phase) → is_away p ≡ true → is_core_away (activity_of p) ≡ true
-away_off Away e = refl
-away_off p e = absurd (cc e)
+    grind (arith, nat_tests, each_in (λ k. k == c || test k) 0 (cores b) k e)
 
 -- Least asks ----------------------------------------------------------------------------------
 
@@ -50,23 +38,23 @@ least_alone : (b : BoardValue) (v : Values) (c : ℕ) → Known b → c < cores 
     → AreGranted b v.mode v.phase v.granted → (x level : ℕ) → x < cores b → level ≤ height b
     → IsLeast b v.phase x level (v.granted level (up b level x))
 least_alone b v c known on runs others bounds equal x level i h =
-    let asks : (m : ℕ) → asks_at b (v.phase c) m ≡ 0 =
-    λ m. ap (λ (p : Phase). asks_at b p m) runs ∙ asked_running b m in
+    let asks : asks_at b (v.phase c) level ≡ 0 = grind (arith, asked_running b level) in
     elim (cases_eq (up b level x) (up b level c)) [
       | inl meets ↦
           let none : v.granted level (up b level x) ≡ 0 =
           ap (v.granted level) meets
-          ∙ none_granted b v.phase v.granted c level known.paths bounds on (asks 0) h in
+          ∙ none_granted b v.phase v.granted c level known.paths bounds on
+          (grind (arith, asked_running b 0)) h in
           subst (IsLeast b v.phase x level) (sym none) (record {
             most = omega arith;
             below = λ y k at. omega arith;
-            above = λ n k each. omega (arith, each c on (sym meets), asks level);
+            above = λ n k each. omega (arith, each c on (sym meets), asks);
           })
       | inr beside ↦
-          let off : IsAllOff b v.phase x level =
-          λ y k at. away_off (v.phase y)
-          (other_passes b c y (λ z. is_away (v.phase z)) others k
-          (apart b x y c level beside at)) in
+          let off : IsAllOff b v.phase x level = λ y k at. grind (
+            arith,
+            other_passes b c y (λ z. is_away (v.phase z)) others k (apart b x y c level beside at),
+          ) in
           subst (IsLeast b v.phase x level) (sym (equal.away x level i h off)) (record {
             most = omega arith;
             below = λ y k at. off_asks b (v.phase y) level h (off y k at);
@@ -95,11 +83,6 @@ kept_mode b v mode known are least = record {
       });
 }
 
-same_mode : (m n : SuspendMode) → is_mode m n ≡ true → m ≡ n
-same_mode Platform Platform e = refl
-same_mode OsInitiated OsInitiated e = refl
-same_mode m n e = absurd (cc e)
-
 mode_least : (b : BoardValue) (v : Values) (c : ℕ) (mode : SuspendMode) → Known b → c < cores b
     → v.phase c ≡ Running → AreValues b v → may_set b v c mode ≡ true → v.halting ≡ false
     → mode ≡ Platform → (x level : ℕ) → x < cores b → level ≤ height b
@@ -108,10 +91,6 @@ mode_least b v c Platform known on runs are may awake platform =
     least_alone b v c known on runs may (bounded_of b v are)
     (granted_of b v known (are.awake awake))
 mode_least b v c OsInitiated known on runs are may awake platform = absurd (cc platform)
-
-set_kept : (b : BoardValue) (v : Values) (c : ℕ) (mode : SuspendMode) → v.phase c ≡ Running
-    → AreValues b (with_mode mode v) → AreValues b (change b (SetsMode c mode) v)
-set_kept b v c mode runs are = kept_on b (with_mode mode v) c (inr runs) are
 
 -- a caller asked for this mode, if its number is that of one
 pub kept_by_mode : (b : BoardValue) (v : Values) (c : ℕ) (mode : Option SuspendMode) → Known b
@@ -125,11 +104,8 @@ kept_by_mode b v c (Some mode) known on runs are =
     by_tests : (same may : Bool) → is_mode mode v.mode ≡ same → may_set b v c mode ≡ may
         → AreValues b (change b (if int_eq (cond same success (cond may success denied)).0 success.0
         then SetsMode c mode else GoesOn c) v)
-    by_tests true may e f =
-        set_kept b v c mode runs (kept_mode b v mode known are
-        (λ awake platform. (granted_of b v known (are.awake awake)).least
-        (sym (same_mode mode v.mode e) ∙ platform)))
-    by_tests false true e f =
-        set_kept b v c mode runs (kept_mode b v mode known are
-        (mode_least b v c mode known on runs are f))
+    by_tests true may e f = kept_on b (with_mode mode v) c (inr runs) (kept_mode b v mode known are
+        (λ awake platform. (granted_of b v known (are.awake awake)).least (grind arith)))
+    by_tests false true e f = kept_on b (with_mode mode v) c (inr runs) (kept_mode b v mode known
+        are (mode_least b v c mode known on runs are f))
     by_tests false false e f = kept_on b v c (inr runs) are

@@ -4,12 +4,12 @@ use Rattle.std.specs.Prelude.{length, Some}
 use Rattle.std.proofs.lemmas.Bool.{cases_Bool, cases_lt}
 use Rattle.std.proofs.lemmas.Option.{slice_get-get_or, slice_get_past}
 use Rattle.psci_fw_spec.proofs.Words.{◌+◌, ◌<◌, ◌∙◌, ◌≡◌, ◌≤◌, activity_of, ap, arith, Away}
-use Rattle.psci_fw_spec.proofs.Words.{BoardValue, Bool, claimed_or, claims_of, cond, cores}
-use Rattle.psci_fw_spec.proofs.Words.{domain_of, false, height, inl, inr, is_all_away, is_away}
-use Rattle.psci_fw_spec.proofs.Words.{IsAsk, last_core_check, least_wish, List, off_wish, Ok}
-use Rattle.psci_fw_spec.proofs.Words.{OsInitiated, own_wish, Part, Phase, Platform, PowerView, refl}
-use Rattle.psci_fw_spec.proofs.Words.{slice_get, subst, suc, Suspended, SuspendMode, sym, true}
-use Rattle.psci_fw_spec.proofs.Words.{true≢false, up, Values, zero, ℕ}
+use Rattle.psci_fw_spec.proofs.Words.{BoardValue, claimed_or, claims_of, cores, domain_of, height}
+use Rattle.psci_fw_spec.proofs.Words.{inl, inr, is_all_away, is_away, IsAsk, known, last_core_check}
+use Rattle.psci_fw_spec.proofs.Words.{least_wish, List, nat_tests, off_wish, Ok, OsInitiated}
+use Rattle.psci_fw_spec.proofs.Words.{own_wish, Part, Phase, phase, Platform, PowerView, refl}
+use Rattle.psci_fw_spec.proofs.Words.{slice_get, suc, Suspended, SuspendMode, sym, true, up, Values}
+use Rattle.psci_fw_spec.proofs.Words.{zero, ℕ}
 use Rattle.psci_fw_spec.specs.Views.{view}
 use Rattle.psci_fw_spec.proofs.Asked.{IsAllOff, IsAsking, IsLeast, Known, all_off, alone, apart}
 use Rattle.psci_fw_spec.proofs.Asked.{asked-fall, asked-most, asked_away, asked_within, asks_at}
@@ -21,19 +21,9 @@ use Rattle.psci_fw_spec.proofs.Granting.{AreGranted, AreLaid, AreWanted, Changed
 want_none : (b : BoardValue) (want : ℕ → ℕ) (low high : ℕ)
     → ((level : ℕ) → level < height b → want (level + 1) ≤ want level) → want low ≡ 0
     → low ≤ high → high ≤ height b → want high ≡ 0
-want_none b want low zero falls none h i =
-    let same : low ≡ 0 = omega arith in
-    ap want (sym same) ∙ none
-want_none b want low (suc high) falls none h i = elim (cases_lt high low) [
-  | inl all ↦
-      let same : suc high ≡ low = omega arith in
-      ap want same ∙ none
-  | inr more ↦
-      let next : high + 1 ≡ suc high = omega arith in
-      let step = falls high (omega arith) in
-      let less = rw next at step in
-      omega (arith, less, want_none b want low high falls none more (omega arith))
-]
+want_none b want low zero falls none h i = grind arith
+want_none b want low (suc high) falls none h i =
+    grind (arith, falls high, want_none b want low high falls none)
 
 -- a claim leaves what is wanted where that falls with the level, and nothing was granted before
 pub claim_laid : (b : BoardValue) (w : PowerView) (granted : ℕ → ℕ → ℕ) (c : ℕ) (want : ℕ → ℕ)
@@ -62,18 +52,17 @@ least_falls : (b : BoardValue) (phase : ℕ → Phase) (x c level m n : ℕ) →
     → up b (level + 1) x ≡ up b (level + 1) c → IsLeast b phase c (level + 1) m
     → IsLeast b phase x level n → m ≤ n
 least_falls b phase x c level m n known are h meet above below =
-    below.above m above.most (λ y i at.
-    omega (
+    below.above m above.most (λ y i at. grind (
       arith,
-      above.below y i (joined b y x level known.paths at ∙ meet),
+      above.below y i,
+      joined b y x level known.paths at,
       asked-fall b (phase y) level (are y) h,
     ))
 
 -- a core that is off or going off asks for power-down
 pub off_asks : (b : BoardValue) (p : Phase) (level : ℕ) → level ≤ height b
     → is_away (activity_of p) ≡ true → 3 ≤ asks_at b p level
-off_asks b Away level h e = omega (arith, asked_away b level h)
-off_asks b p level h e = absurd (cc e)
+off_asks b p level h e = grind (arith, nat_tests)
 
 pub least_wanted : (b : BoardValue) (mode : SuspendMode) (old : ℕ → Phase) (w : Values)
     (granted : ℕ → ℕ → ℕ) (c : ℕ) → Known b → c < cores b → mode ≡ Platform
@@ -87,28 +76,21 @@ least_wanted b mode old w granted c known on platform changed are g =
       falls = λ level h.
           least_falls b w.phase c c level _ _ known are h refl (is (level + 1)) (is level);
       beside = λ x level h i meet beside.
-          let m : ℕ = want (level + 1) in
-          (g.least platform x level h (omega arith)).above m (is (level + 1)).most (λ y k at.
-          let less : asks_at b (w.phase y) (level + 1) ≤ asks_at b (w.phase y) level =
-          asked-fall b (w.phase y) level (are y) i in
-          let same : asks_at b (w.phase y) level ≡ asks_at b (old y) level =
-          ap (λ (p : Phase). asks_at b p level) (changed y (apart b x y c level beside at)) in
-          omega (
+          (g.least platform x level h (omega arith)).above _ (is (level + 1)).most
+          (λ y k at. grind (
             arith,
-            (is (level + 1)).below y k (joined b y x level known.paths at ∙ meet),
-            less,
-            same,
+            (is (level + 1)).below y k,
+            joined b y x level known.paths at,
+            asked-fall b (w.phase y) level (are y) i,
+            changed y (apart b x y c level beside at),
           ));
-      own =
-          let most : asks_at b (w.phase c) 0 ≤ 3 =
-          asked-most b (w.phase c) 0 (are c) (omega arith) in
-          omega (
-            arith,
-            (is 0).below c on refl,
-            (is 0).above (asks_at b (w.phase c) 0) most
-                (λ x h at. let same : x ≡ c = alone b x c known.paths at in
-                omega (arith, ap (λ y. asks_at b (w.phase y) 0) same)),
-          );
+      own = omega (
+        arith,
+        (is 0).below c on refl,
+        (is 0).above (asks_at b (w.phase c) 0)
+            (asked-most b (w.phase c) 0 (are c) (omega arith))
+            (λ x h at. grind (arith, alone b x c known.paths at)),
+      );
       away = λ level h all. omega (
         arith,
         (is level).most,
@@ -120,9 +102,6 @@ least_wanted b mode old w granted c known on platform changed are g =
 
 -- OS-initiated mode ---------------------------------------------------------------------------
 
-not_platform : (mode : SuspendMode) → mode ≡ OsInitiated → mode ≡ Platform → ⊥
-not_platform mode e f = let clash : Platform ≡ OsInitiated = sym f ∙ e in cc clash
-
 pub own_wanted : (b : BoardValue) (mode : SuspendMode) (v : Values) (new : ℕ → Phase)
     (c : ℕ) (ask : List ℕ) (parts : List Part) → Known b → c < cores b → mode ≡ OsInitiated
     → new c ≡ Suspended ask → IsAsk ask → last_core_check b (view b v) c ask ≡ Ok parts
@@ -132,33 +111,19 @@ own_wanted b mode v new c ask parts known on os left is e = record {
   falls = λ level h. is.falls level;
   beside = λ x level h i meet beside.
       (known.last_core (view b v) c ask on).granted parts e level x h i meet beside;
-  own = sym (ap (λ (p : Phase). asks_at b p 0) left
-      ∙ asked_within b (Suspended ask) 0 (omega arith));
-  away = λ level h all.
-      absurd (true≢false (sym (all c on refl) ∙ ap (λ (p : Phase). is_away (activity_of p)) left));
-  least = λ platform. absurd (not_platform mode os platform);
+  own = grind (arith, nat_tests);
+  away = λ level h all. absurd (grind (arith, all c on refl));
+  least = λ platform. absurd (cc);
 }
 
 off-most : (b : BoardValue) (w : PowerView) (c level : ℕ) → off_wish b w c level ≤ 3
-off-most b w c zero = omega arith
-off-most b w c (suc level) = most (is_all_away b w (domain_of b c (suc level)))
-  where
-    most : (t : Bool) → cond t 3 0 ≤ 3
-    most true = omega arith
-    most false = omega arith
+off-most b w c level = grind arith
 
--- of a domain with every core below off power-down is wanted, and nothing of another one
-off-all : (b : BoardValue) (w : PowerView) (c level : ℕ)
-    → is_all_away b w (domain_of b c level) ≡ true → off_wish b w c level ≡ 3
-off-all b w c zero e = refl
-off-all b w c (suc level) e = rw e refl
-
-off-part : (b : BoardValue) (w : PowerView) (c level : ℕ)
-    → is_all_away b w (domain_of b c (level + 1)) ≡ false → off_wish b w c (level + 1) ≡ 0
-off-part b w c level e =
-    let next : level + 1 ≡ suc level = omega arith in
-    let part = rw next at e in
-    rw (next, part) refl
+off-falls : (b : BoardValue) (w : PowerView) (c level : ℕ)
+    → (is_all_away b w (domain_of b c (level + 1)) ≡ true
+    → is_all_away b w (domain_of b c level) ≡ true)
+    → off_wish b w c (level + 1) ≤ off_wish b w c level
+off-falls b w c level off = grind arith
 
 pub off_wanted : (b : BoardValue) (mode : SuspendMode) (old : ℕ → Phase) (w : Values)
     (granted : ℕ → ℕ → ℕ) (c : ℕ) → Known b → c < cores b → mode ≡ OsInitiated
@@ -166,28 +131,19 @@ pub off_wanted : (b : BoardValue) (mode : SuspendMode) (old : ℕ → Phase) (w 
     → AreWanted b mode w.phase granted c (off_wish b (view b w) c)
 off_wanted b mode old w granted c known on os changed left g = record {
   falls = λ level h.
-      elim (cases_Bool (is_all_away b (view b w) (domain_of b c (level + 1)))) [
-        | inl all ↦
-            let up_off : IsAllOff b w.phase c (level + 1) = all_off b w c (level + 1) known all in
-            let here : off_wish b (view b w) c level ≡ 3 =
-            off-all b (view b w) c level (off_all b w c level known
-            (λ x i at. up_off x i (joined b x c level known.paths at))) in
-            omega (arith, here, off-most b (view b w) c (level + 1))
-        | inr part ↦ omega (arith, off-part b (view b w) c level part)
-      ];
+      off-falls b (view b w) c level (λ all. off_all b w c level known (λ x i at.
+      all_off b w c (level + 1) known all x i (joined b x c level known.paths at)));
   beside = λ x level h i meet beside.
-      elim (cases_Bool (is_all_away b (view b w) (domain_of b c (level + 1)))) [
-        | inl all ↦
-            let up_off : IsAllOff b w.phase c (level + 1) = all_off b w c (level + 1) known all in
-            let down : granted level (up b level x) ≡ 3 =
-            g.away x level h (omega arith) (λ y k at.
-            subst (λ (p : Phase). is_away (activity_of p) ≡ true)
-            (changed y (apart b x y c level beside at))
-            (up_off y k (joined b y x level known.paths at ∙ meet))) in
-            omega (arith, down, off-most b (view b w) c (level + 1))
-        | inr part ↦ omega (arith, off-part b (view b w) c level part)
-      ];
-  own = sym (ap (λ (p : Phase). asks_at b p 0) left ∙ asked_away b 0 (omega arith));
-  away = λ level h all. off-all b (view b w) c level (off_all b w c level known all);
-  least = λ platform. absurd (not_platform mode os platform);
+      let down : is_all_away b (view b w) (domain_of b c (level + 1)) ≡ true
+      → granted level (up b level x) ≡ 3 =
+      λ all. g.away x level h (omega arith) (λ y k at. grind (
+        arith,
+        changed y (apart b x y c level beside at),
+        all_off b w c (level + 1) known all y k,
+        joined b y x level known.paths at,
+      )) in
+      grind (arith, down, off-most b (view b w) c (level + 1));
+  own = grind (arith, nat_tests);
+  away = λ level h all. grind (arith, off_all b w c level known all);
+  least = λ platform. absurd (cc);
 }
