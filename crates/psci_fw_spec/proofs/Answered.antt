@@ -1,13 +1,14 @@
 -- What a function answers a running caller leaves values such as the firmware keeps.
 use Rattle.std.specs.Prelude.{Err, IsTrue}
-use Rattle.psci_fw_spec.proofs.Words.{◌<◌, ◌≡◌, ◌≤◌, [], AreValues, arith, ask_named, BoardValue}
-use Rattle.psci_fw_spec.proofs.Words.{change, Code, Core, cores, deepest_of, Effect, false}
-use Rattle.psci_fw_spec.proofs.Words.{function_effect, function_outcome, GoesOn, height, inr, IsAsk}
-use Rattle.psci_fw_spec.proofs.Words.{IsPhase, List, message_for, mode_of, off_message, Ok, Opening}
-use Rattle.psci_fw_spec.proofs.Words.{outcome_of, Part, PowerOn, refl, Request, rest_named, Rests}
-use Rattle.psci_fw_spec.proofs.Words.{Result, Running, start_outcome, subst, suspend_asked}
-use Rattle.psci_fw_spec.proofs.Words.{suspend_parts, Suspended, sym, system_reset2, system_suspend}
-use Rattle.psci_fw_spec.proofs.Words.{Values, with_pending, ℕ}
+use Rattle.psci_fw_spec.proofs.Words.{◌<◌, ◌≡◌, ◌≤◌, ◌⊎◌, [], AreValues, arith, ask_named, Away}
+use Rattle.psci_fw_spec.proofs.Words.{BoardValue, Bool, change, Code, cond, Core, core_of, cores}
+use Rattle.psci_fw_spec.proofs.Words.{deepest_of, Effect, false, function_effect, function_outcome}
+use Rattle.psci_fw_spec.proofs.Words.{GoesOn, height, inr, is_deep, is_some, IsAsk, IsPhase, List}
+use Rattle.psci_fw_spec.proofs.Words.{message_for, mode_of, None, off_message, Ok, Opening}
+use Rattle.psci_fw_spec.proofs.Words.{outcome_of, Part, Pending, PowerOn, refl, Request, rest_named}
+use Rattle.psci_fw_spec.proofs.Words.{Rests, Result, Running, Some, start_outcome, subst}
+use Rattle.psci_fw_spec.proofs.Words.{suspend_asked, suspend_parts, Suspended, sym, system_reset2}
+use Rattle.psci_fw_spec.proofs.Words.{system_suspend, updated, Values, with_pending, ℕ}
 use Rattle.psci_abi.specs.Codes.{internal_failure}
 use Rattle.psci_state.specs.Ask.{highest_of, is_ask}
 use Rattle.psci_fw_spec.specs.CpuOn.{target_of}
@@ -15,6 +16,7 @@ use Rattle.psci_fw_spec.specs.Effects.{going_off, suspends}
 use Rattle.psci_fw_spec.proofs.Asked.{Known, asked_running, asks_at}
 use Rattle.psci_fw_spec.proofs.Endings.{outcome_ends, reset2_ends, suspend_ends, system_ends}
 use Rattle.psci_fw_spec.proofs.Changing.{kept_halting, kept_leaving, kept_on, kept_pending}
+use Rattle.psci_fw_spec.proofs.Holding.{ran_asks, ran_left}
 use Rattle.psci_fw_spec.proofs.Modes.{kept_by_mode}
 use Rattle.psci_fw_spec.proofs.Stopping.{held_of, kept_resting, off_held, suspend_held}
 use Rattle.psci_abi.specs.declared.request.Request.TheVariants as requests
@@ -38,6 +40,9 @@ goes_on b v c is = kept_on b v c (inr is.runs) is.are
 
 -- Suspending ----------------------------------------------------------------------------------
 
+opens_where_deep : (o : Opening) (t : Bool) → is_some (cond t (Some o) None) ≡ t
+opens_where_deep o t = grind arith
+
 rests_kept : (b : BoardValue) (v : Values) (c : ℕ) (o : Opening) (ask : List ℕ)
     (parts : List Part) → IsCalling b v c → IsPhase b (Suspended ask)
     → suspend_parts b v c ask ≡ Ok parts
@@ -45,7 +50,7 @@ rests_kept : (b : BoardValue) (v : Values) (c : ℕ) (o : Opening) (ask : List �
 rests_kept b v c o ask parts is asks e =
     kept_resting b v c (suspends o ask) (message_for v kinds.Down c parts) is.known is.runs
     is.awake is.are refl asks
-    (grind arith)
+    (opens_where_deep o (is_deep ask))
     (suspend_held b v c ask parts is.known is.on is.runs asks.0 is.are.phase
     (held_of b v is.known is.are is.awake) e)
 
@@ -86,11 +91,20 @@ suspend_all_kept b v c entry_point context is asks =
 
 -- CPU_ON --------------------------------------------------------------------------------------
 
+core_asked : (b : BoardValue) (v : Values) (word entry_point : ℕ) (t : Core)
+    → target_of b v word entry_point ≡ Ok t → core_of b word ≡ Some t
+unfolding target_of
+core_asked b v word entry_point t e = grind arith
+
 -- the target of a CPU_ON that is accepted is a core of the board
 target_within : (b : BoardValue) (v : Values) (word entry_point : ℕ) (t : Core) → Known b
     → target_of b v word entry_point ≡ Ok t → t.number < cores b
-unfolding target_of
-target_within b v word entry_point t known e = known.words.core word t (grind arith)
+target_within b v word entry_point t known e = known.words.core word t (core_asked b v word entry_point t e)
+
+-- the caller runs on, unless it asked itself on
+runs_on : (v : Values) (c t : ℕ) → v.phase c ≡ Running
+    → (updated v.phase t Pending c ≡ Pending) ⊎ (updated v.phase t Pending c ≡ Running)
+runs_on v c t runs = grind arith
 
 on_kept : (b : BoardValue) (v : Values) (c word entry_point context : ℕ)
     (t : Result Core Code) → IsCalling b v c → target_of b v word entry_point ≡ t
@@ -102,7 +116,7 @@ on_kept b v c word entry_point context (Ok t) is e =
       message = message_for v kinds.Start t.number [];
       opening = record { address = entry_point; context = context };
     } in
-    kept_on b (with_pending b asked v) c (grind arith)
+    kept_on b (with_pending b asked v) c (runs_on v c t.number is.runs)
     (kept_pending b v asked is.known (target_within b v word entry_point t is.known e) is.are)
 
 -- SYSTEM_RESET2 -------------------------------------------------------------------------------
@@ -124,9 +138,9 @@ off_kept : (b : BoardValue) (v : Values) (c : ℕ) → IsCalling b v c
     → Kept b v (Rests c going_off (off_message b v c))
 off_kept b v c is =
     kept_resting b v c going_off (off_message b v c) is.known is.runs is.awake is.are refl tt refl
-    (off_held b v v.phase c is.known is.on (grind arith)
+    (off_held b v v.phase c is.known is.on (ran_left (v.phase c) Away is.runs)
     (λ x other. refl) is.are.phase
-    (grind (arith, asked_running b 0))
+    (ran_asks b (v.phase c) is.runs)
     (held_of b v is.known is.are is.awake))
 
 -- what the words of a power state ask

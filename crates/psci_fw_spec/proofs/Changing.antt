@@ -1,17 +1,20 @@
 -- Changes that claim nothing leave values such as the firmware keeps.
-use Rattle.psci_fw_spec.proofs.Words.{◌<◌, ◌≡◌, ◌≤◌, ◌⊎◌, AckValue, activity_of, agrees, AreAwake}
-use Rattle.psci_fw_spec.proofs.Words.{AreValues, arith, Away, BoardValue, cleared, cores, false}
-use Rattle.psci_fw_spec.proofs.Words.{in_life, is_expected, is_some, IsPhase, known, MessageValue}
-use Rattle.psci_fw_spec.proofs.Words.{nat_tests, Pending, Phase, phase, PowerOn, refl, Running}
-use Rattle.psci_fw_spec.proofs.Words.{Start, Status, status, subst, sym, target, true, true≢false}
-use Rattle.psci_fw_spec.proofs.Words.{updated, Values, with_arrival, with_pending, with_phase, ℕ}
+use Rattle.psci_fw_spec.proofs.Words.{◌<◌, ◌∙◌, ◌≡◌, ◌≤◌, ◌⊎◌, AckValue, activity_of, agrees, ap}
+use Rattle.psci_fw_spec.proofs.Words.{AreAwake, AreValues, arith, Away, BoardValue, cleared, cores}
+use Rattle.psci_fw_spec.proofs.Words.{false, in_life, is_away, is_expected, is_some, IsPhase, known}
+use Rattle.psci_fw_spec.proofs.Words.{MessageValue, nat_tests, None, Pending, Phase, phase, PowerOn}
+use Rattle.psci_fw_spec.proofs.Words.{refl, Running, Some, Start, status, subst, sym, target, true}
+use Rattle.psci_fw_spec.proofs.Words.{true≢false, updated, Values, with_arrival, with_pending}
+use Rattle.psci_fw_spec.proofs.Words.{with_phase, ℕ}
 use Rattle.psci_state.specs.declared.cores.Activity.TheVariants.{Active}
 use Rattle.psci_fw_spec.specs.Changes.{with_acknowledgement, with_halt, with_running}
 use Rattle.psci_fw_spec.specs.Views.{view}
-use Rattle.psci_fw_spec.proofs.Asked.{Known, asked_running, asks_at}
+use Rattle.psci_fw_spec.proofs.Asked.{Known, asks_at}
 use Rattle.psci_fw_spec.proofs.Granting.{AreBounded, ChangedAt, bounded_cleared, bounded_left}
 use Rattle.psci_fw_spec.proofs.Granting.{granted_cleared}
-use Rattle.psci_fw_spec.proofs.Holding.{awake_from, bounded_of, granted_of, same_phases}
+use Rattle.psci_fw_spec.proofs.Holding.{awake_from, both_updated, bounded_of, granted_of}
+use Rattle.psci_fw_spec.proofs.Holding.{left_else, ran_asks, same_phases, updated_at, updated_each}
+use Rattle.psci_fw_spec.proofs.Holding.{updated_else}
 use Rattle.psci_fw_spec.specs.declared.status.Status.TheVariants as statuses
 
 -- that a running or pending core goes on changes nothing
@@ -21,6 +24,10 @@ kept_on b w c on are =
     same_phases b w (with_phase c Running w).phase (λ k. grind (arith, nat_tests)) are
 
 -- Cores that come to be pending or to run -----------------------------------------------------
+
+active_asks : (b : BoardValue) (p : Phase) (level : ℕ) → activity_of p ≡ Active
+    → asks_at b p level ≡ 0
+active_asks b p level e = grind arith
 
 -- the path of a core is cleared, which is pending or runs then
 kept_cleared : (b : BoardValue) (v w : Values) (t : ℕ) (p : Phase) → Known b → t < cores b
@@ -36,7 +43,8 @@ kept_cleared : (b : BoardValue) (v w : Values) (t : ℕ) (p : Phase) → Known b
     })
 kept_cleared b v w t p known on are active knows agree is opens =
     let new : ℕ → Phase = updated v.phase t p in
-    let changed : ChangedAt v.phase new t = λ x other. grind (arith, nat_tests) in
+    let here : activity_of (new t) ≡ Active = ap activity_of (updated_at v.phase t p) ∙ active in
+    let changed : ChangedAt v.phase new t = updated_else v.phase t p in
     let bounded : AreBounded b new (cleared b t v.granted) =
     bounded_cleared b v.phase new v.granted t known.paths changed (bounded_of b v are) in
     record {
@@ -47,7 +55,7 @@ kept_cleared b v w t p known on are active knows agree is opens =
       asked = bounded.asked;
       awake = λ e. awake_from b _ known (opens (are.awake e))
           (granted_cleared b v.mode v.phase new v.granted t known.paths on changed
-          (λ level. grind (arith, nat_tests)) (grind (arith, nat_tests))
+          (λ level. active_asks b (new t) level here) (ap is_away here)
           (granted_of b v known (are.awake e)));
     }
 
@@ -55,23 +63,26 @@ pub kept_pending : (b : BoardValue) (v : Values) (asked : PowerOn) → Known b
     → target asked < cores b → AreValues b v → AreValues b (with_pending b asked v)
 kept_pending b v asked known on are =
     kept_cleared b v (with_pending b asked v) (target asked) Pending known on are refl are.known
-    (λ k. grind (arith, are.agree k)) (λ k. grind (arith, are.phase k))
-    (λ awake k. grind (arith, awake.opening k))
+    (both_updated (λ s p. agrees s p ≡ true) v.status v.phase (target asked) statuses.Pending
+    Pending refl are.agree)
+    (updated_each (λ k. IsPhase b) v.phase (target asked) Pending tt are.phase)
+    (λ awake. both_updated (λ o p. is_some o ≡ is_expected p) v.opening v.phase (target asked)
+    (Some asked.opening) Pending refl awake.opening)
 
 -- a core goes on that has entered
 pub kept_entering : (b : BoardValue) (v : Values) (c : ℕ) (s : Start) → Known b → c < cores b
     → s.number ≤ b.starts → AreValues b (in_life b s.life v)
     → AreValues b (with_running c (with_arrival b c s v))
 kept_entering b v c s known on within are =
-    kept_cleared b (in_life b s.life v) (with_running c (with_arrival b c s v)) c Running known on
-    are refl (λ k. grind (arith, are.known k)) (λ k. grind (arith, are.agree k))
-    (λ k. grind (arith, are.phase k)) (λ awake k. grind (arith, awake.opening k))
+    let f : Values = in_life b s.life v in
+    kept_cleared b f (with_running c (with_arrival b c s v)) c Running known on are refl
+    (updated_each (λ k n. n ≤ b.starts) f.known c s.number within are.known)
+    (both_updated (λ t p. agrees t p ≡ true) f.status f.phase c statuses.On Running refl are.agree)
+    (updated_each (λ k. IsPhase b) f.phase c Running tt are.phase)
+    (λ awake. both_updated (λ o p. is_some o ≡ is_expected p) f.opening f.phase c None Running refl
+    awake.opening)
 
 -- Cores that stop -----------------------------------------------------------------------------
-
--- a core that runs is ON
-pub on_where_runs : (s : Status) (p : Phase) → agrees s p ≡ true → p ≡ Running → s ≡ statuses.On
-on_where_runs s p e f = grind arith
 
 pub agree_away : (v : Values) (c : ℕ) → ((k : ℕ) → agrees (v.status k) (v.phase k) ≡ true)
     → (k : ℕ) → agrees (v.status k) ((with_phase c Away v).phase k) ≡ true
@@ -103,7 +114,7 @@ pub kept_halting : (b : BoardValue) (v : Values) (c : ℕ) (m : MessageValue) �
 kept_halting b v c m known runs are =
     kept_ended b v (with_halt m (with_phase c Away v)) c are are.known
     (bounded_left b v.phase (with_phase c Away v).phase v.granted c known.paths
-    (λ x other. grind (arith, nat_tests)) (grind (arith, asked_running b 0)) (bounded_of b v are))
+    (left_else v c Away) (ran_asks b (v.phase c) runs) (bounded_of b v are))
 
 pub kept_leaving : (b : BoardValue) (v : Values) (c : ℕ) → Known b → v.phase c ≡ Running
     → v.halting ≡ true → AreValues b v → AreValues b (with_phase c Away v)
@@ -111,8 +122,7 @@ kept_leaving b v c known runs halting are = subst (AreValues b)
     (λ i. record (with_phase c Away v) { halting = sym halting i })
     (kept_ended b v (with_phase c Away v) c are are.known
     (bounded_left b v.phase (with_phase c Away v).phase v.granted c known.paths
-    (λ x other. grind (arith, nat_tests)) (grind (arith, asked_running b 0))
-    (bounded_of b v are)))
+    (left_else v c Away) (ran_asks b (v.phase c) runs) (bounded_of b v are)))
 
 -- a core stops that has entered in a halting life
 pub kept_ceasing : (b : BoardValue) (v : Values) (c : ℕ) (s : Start) → Known b
@@ -123,9 +133,10 @@ kept_ceasing b v c s known within halting are =
     let f : Values = in_life b s.life v in
     let w : Values = with_phase c Away (with_arrival b c s v) in
     subst (AreValues b) (λ i. record w { halting = sym halting i })
-    (kept_ended b f w c are (λ k. grind (arith, are.known k))
+    (kept_ended b f w c are
+    (updated_each (λ k n. n ≤ b.starts) f.known c s.number within are.known)
     (bounded_cleared b f.phase w.phase f.granted c known.paths
-    (λ x other. grind (arith, nat_tests)) (bounded_of b f are)))
+    (left_else (with_arrival b c s v) c Away) (bounded_of b f are)))
 
 -- Acknowledgements ----------------------------------------------------------------------------
 

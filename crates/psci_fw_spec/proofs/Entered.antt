@@ -19,6 +19,7 @@ use Rattle.psci_fw_spec.specs.Taking.{taken_by}
 use Rattle.psci_fw_spec.proofs.Answered.{Worded, kept_function}
 use Rattle.psci_fw_spec.proofs.Asked.{Known, asked_running, asks_at}
 use Rattle.psci_fw_spec.proofs.Changing.{kept_acknowledged, kept_ceasing, kept_entering}
+use Rattle.psci_fw_spec.proofs.Holding.{parked_left, ran_asks, updated_at, updated_else}
 use Rattle.psci_fw_spec.proofs.Starting.{are_first, are_in_life}
 use Rattle.psci_fw_spec.proofs.Stopping.{arrived_held, kept_parking, off_held}
 use Rattle.psci_fw_spec.specs.declared.fault.FwFault.TheVariants as faults
@@ -42,8 +43,10 @@ parks_kept b v c s known on within awake none are =
     let f : Values = in_life b s.life v in
     let w : Values = with_arrival b c s v in
     kept_parking b v c s (off_message b w c) known within awake none are
-    (off_held b w (updated f.phase c Running) c known on (grind (arith, (are.awake awake).opening c))
-    (λ x other. grind (arith, nat_tests)) are.phase (grind (arith, nat_tests))
+    (off_held b w (updated f.phase c Running) c known on
+    (parked_left (f.phase c) (f.opening c) ((are.awake awake).opening c) none)
+    (λ x other. sym (updated_else f.phase c Running x other)) are.phase
+    (ran_asks b _ (updated_at f.phase c Running))
     (arrived_held b v c s known on awake are))
 
 -- an entry stops at once, goes on, or parks

@@ -1,9 +1,10 @@
 -- What a core claims that stops is granted, and leaves values such as the firmware keeps.
-use Rattle.psci_fw_spec.proofs.Words.{◌<◌, ◌≡◌, ◌≤◌, agrees, AreValues, arith, Away, BoardValue}
-use Rattle.psci_fw_spec.proofs.Words.{claims_of, cleared, cores, false, granted_with, in_life}
-use Rattle.psci_fw_spec.proofs.Words.{is_expected, is_some, IsAsk, IsPhase, known, least_wish}
-use Rattle.psci_fw_spec.proofs.Words.{leaving_claims, List, MessageValue, nat_tests, None, off_wish}
-use Rattle.psci_fw_spec.proofs.Words.{Ok, OsInitiated, own_wish, Part, Phase, phase, Platform}
+use Rattle.psci_fw_spec.proofs.Words.{◌<◌, ◌∙◌, ◌≡◌, ◌≤◌, activity_of, agrees, ap, AreValues, arith}
+use Rattle.psci_fw_spec.proofs.Words.{Away, BoardValue, claims_of, cleared, cores, false}
+use Rattle.psci_fw_spec.proofs.Words.{granted_with, in_life, is_away, is_expected, is_some, IsAsk}
+use Rattle.psci_fw_spec.proofs.Words.{IsPhase, known, least_wish, leaving_claims, List}
+use Rattle.psci_fw_spec.proofs.Words.{MessageValue, None, off_wish, Ok, Opening, Option, option_or}
+use Rattle.psci_fw_spec.proofs.Words.{OsInitiated, own_wish, Part, Phase, phase, Platform}
 use Rattle.psci_fw_spec.proofs.Words.{PowerView, refl, Running, Start, subst, suspend_claims}
 use Rattle.psci_fw_spec.proofs.Words.{Suspended, SuspendMode, sym, true, unless_pending, updated}
 use Rattle.psci_fw_spec.proofs.Words.{Values, view, with_arrival, with_phase, ℕ}
@@ -14,7 +15,9 @@ use Rattle.psci_fw_spec.proofs.Changing.{agree_away, phase_away}
 use Rattle.psci_fw_spec.proofs.Granting.{AreBounded, AreGranted, AreWanted, ChangedAt}
 use Rattle.psci_fw_spec.proofs.Granting.{bounded_cleared, granted_cleared, granted_laid}
 use Rattle.psci_fw_spec.proofs.Granting.{nested_laid, none_granted}
-use Rattle.psci_fw_spec.proofs.Holding.{awake_from, bounded_of, granted_of}
+use Rattle.psci_fw_spec.proofs.Holding.{awake_from, both_updated, bounded_of, granted_of, left_asks}
+use Rattle.psci_fw_spec.proofs.Holding.{left_at, left_else, parked_left, ran_asks, ran_left}
+use Rattle.psci_fw_spec.proofs.Holding.{updated_at, updated_each, updated_else}
 use Rattle.psci_fw_spec.proofs.Wishes.{claim_laid, least_wanted, off_wanted, own_wanted}
 use Rattle.psci_fw_spec.specs.declared.status.Status.TheVariants as statuses
 
@@ -84,8 +87,8 @@ pub off_held : (b : BoardValue) (v : Values) (old : ℕ → Phase) (c : ℕ) →
 unfolding off_parts
 off_held b v old c known on left changed are none held =
     leaving_held b v.mode old (with_phase c Away v) v.granted c known on
-    (λ x other. grind (arith, nat_tests, changed x other))
-    (λ y. grind (arith, phase_asks b (v.phase y) (are y))) (grind (arith, nat_tests)) none held
+    (λ x other. left_else v c Away x other ∙ changed x other) (left_asks b v c Away left tt are)
+    (left_at v c Away left) none held
 
 -- a core is suspended
 suspended_held : (b : BoardValue) (v : Values) (c : ℕ) (ask : List ℕ) (parts : List Part)
@@ -97,16 +100,17 @@ suspended_held b v c ask parts Platform known on runs is are held e =
     let w : Values = with_phase c (Suspended ask) v in
     let same : claims_of b (view b w) c (least_wish b (view b w) c) ≡ parts = cc e in
     subst (λ ps. AreHeld b Platform w.phase (granted_with b c ps v.granted)) same
-    (least_held b v.phase w v.granted c known on (λ x other. grind (arith, nat_tests))
-    (λ y. grind (arith, is, phase_asks b (v.phase y) (are y))) (grind (arith, asked_running b 0))
-    held)
+    (least_held b v.phase w v.granted c known on (left_else v c (Suspended ask))
+    (left_asks b v c (Suspended ask) (ran_left (v.phase c) (Suspended ask) runs) is are)
+    (ran_asks b (v.phase c) runs) held)
 suspended_held b v c ask parts OsInitiated known on runs is are held e =
     let w : Values = with_phase c (Suspended ask) v in
     subst (λ ps. AreHeld b OsInitiated w.phase (granted_with b c ps v.granted))
     (sym ((known.last_core (view b v) c ask on).parts parts e))
     (held_laid b OsInitiated v.phase w.phase (view b v) v.granted c (own_wish ask) known on
-    (λ x other. grind (arith, nat_tests)) (grind (arith, asked_running b 0)) held
-    (own_wanted b OsInitiated v w.phase c ask parts known on refl (grind (arith, nat_tests)) is e))
+    (left_else v c (Suspended ask)) (ran_asks b (v.phase c) runs) held
+    (own_wanted b OsInitiated v w.phase c ask parts known on refl
+    (left_at v c (Suspended ask) (ran_left (v.phase c) (Suspended ask) runs)) is e))
 
 pub suspend_held : (b : BoardValue) (v : Values) (c : ℕ) (ask : List ℕ) (parts : List Part)
     → Known b → c < cores b → v.phase c ≡ Running → IsAsk ask
@@ -119,6 +123,17 @@ suspend_held b v c ask parts known on runs is are held e =
 
 -- Values --------------------------------------------------------------------------------------
 
+-- what a function leaves of a caller that it stops, whose opening was none
+rest_agrees : (v : Values) (c : ℕ) (rest : Rest) → v.phase c ≡ Running
+    → agrees (v.status c) (v.phase c) ≡ true → agrees statuses.On rest.phase ≡ true
+    → agrees (v.status c) (unless_pending (v.phase c) rest.phase) ≡ true
+rest_agrees v c rest runs e agree = grind arith
+
+rest_opens : (o : Option Opening) (p : Phase) (rest : Rest) → p ≡ Running
+    → is_some o ≡ is_expected p → is_some rest.opening ≡ is_expected rest.phase
+    → is_some (option_or rest.opening o) ≡ is_expected (unless_pending p rest.phase)
+rest_opens o p rest runs e opens = grind arith
+
 -- a function stopped its caller, which is suspended or goes off
 pub kept_resting : (b : BoardValue) (v : Values) (c : ℕ) (rest : Rest) (m : MessageValue)
     → Known b → v.phase c ≡ Running → v.halting ≡ false → AreValues b v
@@ -129,12 +144,18 @@ pub kept_resting : (b : BoardValue) (v : Values) (c : ℕ) (rest : Rest) (m : Me
     → AreValues b (with_claims b m (with_rest c rest v))
 kept_resting b v c rest m known runs awake are agree is opens held = record {
   known = are.known;
-  agree = λ k. grind (arith, nat_tests, are.agree k);
-  phase = λ k. grind (arith, nat_tests, are.phase k);
+  agree = updated_each (λ k p. agrees (v.status k) p ≡ true) v.phase c _
+      (rest_agrees v c rest runs (are.agree c) agree) are.agree;
+  phase = updated_each (λ k. IsPhase b) v.phase c _
+      (subst (IsPhase b) (sym (ran_left (v.phase c) rest.phase runs)) is) are.phase;
   nested = held.bounds.nested;
   asked = held.bounds.asked;
-  awake = λ e. awake_from b (with_claims b m (with_rest c rest v)) known
-      (λ k. grind (arith, nat_tests, (are.awake e).opening k)) held.equal;
+  awake = λ e.
+      let opening = (are.awake e).opening in
+      awake_from b (with_claims b m (with_rest c rest v)) known
+      (both_updated (λ o p. is_some o ≡ is_expected p) v.opening v.phase c _ _
+      (rest_opens (v.opening c) (v.phase c) rest runs (opening c) opens) opening)
+      held.equal;
 }
 
 -- a core entered, found nothing to do, and parks
@@ -144,15 +165,20 @@ pub kept_parking : (b : BoardValue) (v : Values) (c : ℕ) (s : Start) (m : Mess
     → AreHeld b (in_life b s.life v).mode (with_phase c Away (with_arrival b c s v)).phase
     (granted_with b m.core.number m.parts (cleared b c (in_life b s.life v).granted))
     → AreValues b (with_claims b m (with_phase c Away (with_arrival b c s v)))
-kept_parking b v c s m known within awake none are held = record {
-  known = λ k. grind (arith, are.known k);
-  agree = agree_away (with_arrival b c s v) c are.agree;
-  phase = phase_away b (with_arrival b c s v) c are.phase;
-  nested = held.bounds.nested;
-  asked = held.bounds.asked;
-  awake = λ e. awake_from b (with_claims b m (with_phase c Away (with_arrival b c s v))) known
-      (λ k. grind (arith, nat_tests, (are.awake awake).opening k)) held.equal;
-}
+kept_parking b v c s m known within awake none are held =
+    let f : Values = in_life b s.life v in
+    let opening = (are.awake awake).opening in
+    record {
+      known = updated_each (λ k n. n ≤ b.starts) f.known c s.number within are.known;
+      agree = agree_away (with_arrival b c s v) c are.agree;
+      phase = phase_away b (with_arrival b c s v) c are.phase;
+      nested = held.bounds.nested;
+      asked = held.bounds.asked;
+      awake = λ e. awake_from b (with_claims b m (with_phase c Away (with_arrival b c s v))) known
+          (both_updated (λ o p. is_some o ≡ is_expected p) f.opening f.phase c None _
+          (sym (ap is_expected (parked_left (f.phase c) (f.opening c) (opening c) none))) opening)
+          held.equal;
+    }
 
 -- what is held after an arrival, as if the core ran
 pub arrived_held : (b : BoardValue) (v : Values) (c : ℕ) (s : Start) → Known b → c < cores b
@@ -162,10 +188,12 @@ pub arrived_held : (b : BoardValue) (v : Values) (c : ℕ) (s : Start) → Known
 arrived_held b v c s known on awake are =
     let f : Values = in_life b s.life v in
     let new : ℕ → Phase = updated f.phase c Running in
-    let changed : ChangedAt f.phase new c = λ x other. grind (arith, nat_tests) in
+    let here : new c ≡ Running = updated_at f.phase c Running in
+    let changed : ChangedAt f.phase new c = updated_else f.phase c Running in
     record {
       bounds = bounded_cleared b f.phase new f.granted c known.paths changed (bounded_of b f are);
       equal = granted_cleared b f.mode f.phase new f.granted c known.paths on changed
-          (λ level. grind (arith, nat_tests)) (grind (arith, nat_tests))
+          (λ level. ap (λ (p : Phase). asks_at b p level) here ∙ asked_running b level)
+          (ap (λ (p : Phase). is_away (activity_of p)) here)
           (granted_of b f known (are.awake awake));
     }

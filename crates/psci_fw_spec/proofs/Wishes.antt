@@ -4,12 +4,12 @@ use Rattle.std.specs.Prelude.{length, Some}
 use Rattle.std.proofs.lemmas.Bool.{cases_Bool, cases_lt}
 use Rattle.std.proofs.lemmas.Option.{slice_get-get_or, slice_get_past}
 use Rattle.psci_fw_spec.proofs.Words.{◌+◌, ◌<◌, ◌∙◌, ◌≡◌, ◌≤◌, activity_of, ap, arith, Away}
-use Rattle.psci_fw_spec.proofs.Words.{BoardValue, claimed_or, claims_of, cores, domain_of, height}
-use Rattle.psci_fw_spec.proofs.Words.{inl, inr, is_all_away, is_away, IsAsk, known, last_core_check}
-use Rattle.psci_fw_spec.proofs.Words.{least_wish, List, nat_tests, off_wish, Ok, OsInitiated}
-use Rattle.psci_fw_spec.proofs.Words.{own_wish, Part, Phase, phase, Platform, PowerView, refl}
-use Rattle.psci_fw_spec.proofs.Words.{slice_get, suc, Suspended, SuspendMode, sym, true, up, Values}
-use Rattle.psci_fw_spec.proofs.Words.{zero, ℕ}
+use Rattle.psci_fw_spec.proofs.Words.{BoardValue, claimed_or, claims_of, cores, domain_of, false}
+use Rattle.psci_fw_spec.proofs.Words.{height, inl, inr, is_all_away, is_away, IsAsk, known}
+use Rattle.psci_fw_spec.proofs.Words.{last_core_check, least_wish, List, nat_tests, off_wish, Ok}
+use Rattle.psci_fw_spec.proofs.Words.{OsInitiated, own_wish, Part, Phase, phase, Platform}
+use Rattle.psci_fw_spec.proofs.Words.{PowerView, refl, slice_get, suc, Suspended, SuspendMode, sym}
+use Rattle.psci_fw_spec.proofs.Words.{true, true≢false, up, Values, zero, ℕ}
 use Rattle.psci_fw_spec.specs.Views.{view}
 use Rattle.psci_fw_spec.proofs.Asked.{IsAllOff, IsAsking, IsLeast, Known, all_off, alone, apart}
 use Rattle.psci_fw_spec.proofs.Asked.{asked-fall, asked-most, asked_away, asked_within, asks_at}
@@ -102,6 +102,9 @@ least_wanted b mode old w granted c known on platform changed are g =
 
 -- OS-initiated mode ---------------------------------------------------------------------------
 
+not_platform : (mode : SuspendMode) → mode ≡ OsInitiated → mode ≡ Platform → ⊥
+not_platform mode e f = cc
+
 pub own_wanted : (b : BoardValue) (mode : SuspendMode) (v : Values) (new : ℕ → Phase)
     (c : ℕ) (ask : List ℕ) (parts : List Part) → Known b → c < cores b → mode ≡ OsInitiated
     → new c ≡ Suspended ask → IsAsk ask → last_core_check b (view b v) c ask ≡ Ok parts
@@ -111,19 +114,27 @@ own_wanted b mode v new c ask parts known on os left is e = record {
   falls = λ level h. is.falls level;
   beside = λ x level h i meet beside.
       (known.last_core (view b v) c ask on).granted parts e level x h i meet beside;
-  own = grind (arith, nat_tests);
-  away = λ level h all. absurd (grind (arith, all c on refl));
-  least = λ platform. absurd (cc);
+  own = sym (ap (λ (p : Phase). asks_at b p 0) left
+      ∙ asked_within b (Suspended ask) 0 (omega arith));
+  away = λ level h all.
+      absurd (true≢false (sym (all c on refl) ∙ ap (λ (p : Phase). is_away (activity_of p)) left));
+  least = λ platform. absurd (not_platform mode os platform);
 }
-
-off-most : (b : BoardValue) (w : PowerView) (c level : ℕ) → off_wish b w c level ≤ 3
-off-most b w c level = grind arith
 
 off-falls : (b : BoardValue) (w : PowerView) (c level : ℕ)
     → (is_all_away b w (domain_of b c (level + 1)) ≡ true
     → is_all_away b w (domain_of b c level) ≡ true)
     → off_wish b w c (level + 1) ≤ off_wish b w c level
 off-falls b w c level off = grind arith
+
+off-all : (b : BoardValue) (w : PowerView) (c level : ℕ)
+    → is_all_away b w (domain_of b c level) ≡ true → off_wish b w c level ≡ 3
+off-all b w c level e = grind arith
+
+off-beside : (b : BoardValue) (w : PowerView) (c level depth : ℕ)
+    → (is_all_away b w (domain_of b c (level + 1)) ≡ true → depth ≡ 3)
+    → off_wish b w c (level + 1) ≤ depth
+off-beside b w c level depth down = grind arith
 
 pub off_wanted : (b : BoardValue) (mode : SuspendMode) (old : ℕ → Phase) (w : Values)
     (granted : ℕ → ℕ → ℕ) (c : ℕ) → Known b → c < cores b → mode ≡ OsInitiated
@@ -142,8 +153,8 @@ off_wanted b mode old w granted c known on os changed left g = record {
         all_off b w c (level + 1) known all y k,
         joined b y x level known.paths at,
       )) in
-      grind (arith, down, off-most b (view b w) c (level + 1));
-  own = grind (arith, nat_tests);
-  away = λ level h all. grind (arith, off_all b w c level known all);
-  least = λ platform. absurd (cc);
+      off-beside b (view b w) c level _ down;
+  own = sym (ap (λ (p : Phase). asks_at b p 0) left ∙ asked_away b 0 (omega arith));
+  away = λ level h all. off-all b (view b w) c level (off_all b w c level known all);
+  least = λ platform. absurd (not_platform mode os platform);
 }

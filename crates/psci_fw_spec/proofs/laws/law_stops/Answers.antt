@@ -1,7 +1,7 @@
-use Rattle.psci_fw_spec.proofs.Words.{arith, Away, BoardValue, in_life, IsBoard, nat_tests}
-use Rattle.psci_fw_spec.proofs.Words.{Suspended, with_arrival}
-use Rattle.psci_fw_spec.proofs.Asked.{Known, phase_asks}
+use Rattle.psci_fw_spec.proofs.Words.{Away, BoardValue, IsBoard, Suspended, with_arrival}
+use Rattle.psci_fw_spec.proofs.Asked.{Known}
 use Rattle.psci_fw_spec.proofs.Claimed.{off_claimed, suspended_claimed}
+use Rattle.psci_fw_spec.proofs.Holding.{left_asks, left_at, parked_left, ran_left}
 use Rattle.psci_fw_spec.proofs.Starting.{are_in_life}
 use Rattle.psci_fw_spec.proofs.laws.law_stops.Goals as goal
 
@@ -20,16 +20,18 @@ returns g =
       g.law_parts.ensures.claim,
     ) in
     record {
-      off = λ b v c board on are runs. off_claimed b v c board (known b board) on
-          (λ y. grind (arith, nat_tests, phase_asks b (v.phase y) (are.phase y)))
-          (grind (arith, nat_tests));
+      off = λ b v c board on are runs.
+          let left = ran_left (v.phase c) Away runs in
+          off_claimed b v c board (known b board) on (left_asks b v c Away left tt are.phase)
+          (left_at v c Away left);
       parks = λ b v c s board on are awake none.
+          let w = with_arrival b c s v in
           let held = are_in_life b s.life v (known b board) are in
-          off_claimed b (with_arrival b c s v) c board (known b board) on
-          (λ y. grind (arith, phase_asks b ((in_life b s.life v).phase y) (held.phase y)))
-          (grind (arith, nat_tests, (held.awake awake).opening c));
+          let left = parked_left (w.phase c) _ ((held.awake awake).opening c) none in
+          off_claimed b w c board (known b board) on (left_asks b w c Away left tt held.phase)
+          (left_at w c Away left);
       suspended = λ b v c ask parts board on are runs is e.
+          let left = ran_left (v.phase c) (Suspended ask) runs in
           suspended_claimed b v c ask parts board (known b board) on
-          (λ y. grind (arith, is, phase_asks b (v.phase y) (are.phase y)))
-          (grind (arith, nat_tests)) is e;
+          (left_asks b v c (Suspended ask) left is are.phase) (left_at v c (Suspended ask) left) is e;
     }
