@@ -8,8 +8,8 @@ use Rattle.psci_fw_spec.proofs.Words.{BoardValue, claimed_or, claims_of, cores, 
 use Rattle.psci_fw_spec.proofs.Words.{height, inl, inr, is_all_away, is_away, IsAsk, known}
 use Rattle.psci_fw_spec.proofs.Words.{last_core_check, least_wish, List, nat_tests, off_wish, Ok}
 use Rattle.psci_fw_spec.proofs.Words.{OsInitiated, own_wish, Part, Phase, phase, Platform}
-use Rattle.psci_fw_spec.proofs.Words.{PowerView, refl, slice_get, suc, Suspended, SuspendMode, sym}
-use Rattle.psci_fw_spec.proofs.Words.{true, true≢false, up, Values, zero, ℕ}
+use Rattle.psci_fw_spec.proofs.Words.{PowerView, refl, slice_get, subst, suc, Suspended}
+use Rattle.psci_fw_spec.proofs.Words.{SuspendMode, sym, true, true≢false, up, Values, zero, ℕ}
 use Rattle.psci_fw_spec.specs.Views.{view}
 use Rattle.psci_fw_spec.proofs.Asked.{IsAllOff, IsAsking, IsLeast, Known, all_off, alone, apart}
 use Rattle.psci_fw_spec.proofs.Asked.{asked-fall, asked-most, asked_away, asked_within, asks_at}
@@ -52,10 +52,9 @@ least_falls : (b : BoardValue) (phase : ℕ → Phase) (x c level m n : ℕ) →
     → up b (level + 1) x ≡ up b (level + 1) c → IsLeast b phase c (level + 1) m
     → IsLeast b phase x level n → m ≤ n
 least_falls b phase x c level m n known are h meet above below =
-    below.above m above.most (λ y i at. grind (
+    below.above m above.most (λ y i at. omega (
       arith,
-      above.below y i,
-      joined b y x level known.paths at,
+      above.below y i (joined b y x level known.paths at ∙ meet),
       asked-fall b (phase y) level (are y) h,
     ))
 
@@ -77,19 +76,21 @@ least_wanted b mode old w granted c known on platform changed are g =
           least_falls b w.phase c c level _ _ known are h refl (is (level + 1)) (is level);
       beside = λ x level h i meet beside.
           (g.least platform x level h (omega arith)).above _ (is (level + 1)).most
-          (λ y k at. grind (
+          (λ y k at. omega (
             arith,
-            (is (level + 1)).below y k,
-            joined b y x level known.paths at,
+            (is (level + 1)).below y k (joined b y x level known.paths at ∙ meet),
             asked-fall b (w.phase y) level (are y) i,
-            changed y (apart b x y c level beside at),
+            ap (λ (p : Phase). asks_at b p level) (changed y (apart b x y c level beside at)),
           ));
       own = omega (
         arith,
         (is 0).below c on refl,
         (is 0).above (asks_at b (w.phase c) 0)
             (asked-most b (w.phase c) 0 (are c) (omega arith))
-            (λ x h at. grind (arith, alone b x c known.paths at)),
+            (λ x h at. omega (
+              arith,
+              ap (λ y. asks_at b (w.phase y) 0) (alone b x c known.paths at),
+            )),
       );
       away = λ level h all. omega (
         arith,
@@ -147,12 +148,10 @@ off_wanted b mode old w granted c known on os changed left g = record {
   beside = λ x level h i meet beside.
       let down : is_all_away b (view b w) (domain_of b c (level + 1)) ≡ true
       → granted level (up b level x) ≡ 3 =
-      λ all. g.away x level h (omega arith) (λ y k at. grind (
-        arith,
-        changed y (apart b x y c level beside at),
-        all_off b w c (level + 1) known all y k,
-        joined b y x level known.paths at,
-      )) in
+      λ all. g.away x level h (omega arith) (λ y k at.
+      subst (λ (p : Phase). is_away (activity_of p) ≡ true)
+      (changed y (apart b x y c level beside at))
+      (all_off b w c (level + 1) known all y k (joined b y x level known.paths at ∙ meet))) in
       off-beside b (view b w) c level _ down;
   own = sym (ap (λ (p : Phase). asks_at b p 0) left ∙ asked_away b 0 (omega arith));
   away = λ level h all. off-all b (view b w) c level (off_all b w c level known all);
