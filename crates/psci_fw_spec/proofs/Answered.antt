@@ -1,5 +1,5 @@
 -- What a function answers a running caller leaves values such as the firmware keeps.
-use Rattle.std.specs.Prelude.{Err, IsTrue}
+use Rattle.std.specs.Prelude.{Err}
 use Rattle.psci_fw_spec.proofs.Words.{◌<◌, ◌≡◌, ◌≤◌, ◌⊎◌, [], AreValues, arith, ask_named, Away}
 use Rattle.psci_fw_spec.proofs.Words.{BoardValue, Bool, change, Code, cond, Core, core_of, cores}
 use Rattle.psci_fw_spec.proofs.Words.{deepest_of, Effect, false, function_effect, function_outcome}
@@ -9,19 +9,17 @@ use Rattle.psci_fw_spec.proofs.Words.{outcome_of, Part, Pending, PowerOn, refl, 
 use Rattle.psci_fw_spec.proofs.Words.{Rests, Result, Running, Some, start_outcome, subst}
 use Rattle.psci_fw_spec.proofs.Words.{suspend_asked, suspend_parts, Suspended, sym, system_reset2}
 use Rattle.psci_fw_spec.proofs.Words.{system_suspend, updated, Values, with_pending, ℕ}
-use Rattle.psci_abi.specs.Codes.{internal_failure}
-use Rattle.psci_state.specs.Ask.{highest_of, is_ask}
+use Rattle.psci_state.specs.Ask.{highest_of}
 use Rattle.psci_fw_spec.specs.CpuOn.{target_of}
 use Rattle.psci_fw_spec.specs.Effects.{going_off, suspends}
-use Rattle.psci_fw_spec.proofs.Asked.{Known, asked_running, asks_at}
+use Rattle.psci_fw_spec.proofs.Asked.{Known}
 use Rattle.psci_fw_spec.proofs.Endings.{outcome_ends, reset2_ends, suspend_ends, system_ends}
-use Rattle.psci_fw_spec.proofs.Changing.{kept_halting, kept_leaving, kept_on, kept_pending}
-use Rattle.psci_fw_spec.proofs.Holding.{ran_asks, ran_left}
-use Rattle.psci_fw_spec.proofs.Modes.{kept_by_mode}
+use Rattle.psci_fw_spec.proofs.Changing.{kept_by_mode, kept_halting, kept_leaving, kept_on}
+use Rattle.psci_fw_spec.proofs.Changing.{kept_pending}
+use Rattle.psci_fw_spec.proofs.Granting.{ran_asks, ran_left}
 use Rattle.psci_fw_spec.proofs.Stopping.{held_of, kept_resting, off_held, suspend_held}
 use Rattle.psci_abi.specs.declared.request.Request.TheVariants as requests
 use Rattle.psci_messages.specs.declared.kind.Kind.TheVariants as kinds
-use Rattle.psci_fw_spec.specs.declared.status.Status.TheVariants as statuses
 
 -- a running caller, in a life that is not halting
 pub record IsCalling (b : BoardValue) (v : Values) (c : ℕ) : Type 0 where

@@ -3,7 +3,7 @@
 use Rattle.psci_fw_spec.proofs.Words.{◌<◌, ◌≡◌, Act, AreValues, arith, AsksOn, Away, BoardValue}
 use Rattle.psci_fw_spec.proofs.Words.{change, core_of, cores, Effect, effect_of, Enter, executes_on}
 use Rattle.psci_fw_spec.proofs.Words.{function_effect, FwReply, GoesOn, life, MessageValue}
-use Rattle.psci_fw_spec.proofs.Words.{nat_tests, None, Off, Option, Out, Outcome, phase, PowerOn}
+use Rattle.psci_fw_spec.proofs.Words.{nat_tests, None, Off, Option, Out, Outcome, PowerOn}
 use Rattle.psci_fw_spec.proofs.Words.{refl, Regs, Request, request_of, Running, Smc, Some, Start}
 use Rattle.psci_fw_spec.proofs.Words.{start_of_life, target, true, Values, with_pending, ℕ}
 use Rattle.psci_fw_spec.specs.After.{after}

@@ -1,20 +1,30 @@
--- Changes that claim nothing leave values such as the firmware keeps.
-use Rattle.psci_fw_spec.proofs.Words.{◌<◌, ◌∙◌, ◌≡◌, ◌≤◌, ◌⊎◌, AckValue, activity_of, agrees, ap}
-use Rattle.psci_fw_spec.proofs.Words.{AreAwake, AreValues, arith, Away, BoardValue, cleared, cores}
-use Rattle.psci_fw_spec.proofs.Words.{false, in_life, is_away, is_expected, is_some, IsPhase, known}
-use Rattle.psci_fw_spec.proofs.Words.{MessageValue, nat_tests, None, Pending, Phase, phase, PowerOn}
-use Rattle.psci_fw_spec.proofs.Words.{refl, Running, Some, Start, status, subst, sym, target, true}
-use Rattle.psci_fw_spec.proofs.Words.{true≢false, updated, Values, with_arrival, with_pending}
-use Rattle.psci_fw_spec.proofs.Words.{with_phase, ℕ}
+-- Changes that claim nothing leave values such as the firmware keeps, and so does that the suspend
+-- mode is set.
+use Rattle.std.specs.List.{list_all, range_with_len}
+use Rattle.psci_fw_spec.proofs.Words.{◌+◌, ◌<◌, ◌==◌, ◌||◌, ◌∙◌, ◌≡◌, ◌≤◌, ◌⊎◌, AckValue}
+use Rattle.psci_fw_spec.proofs.Words.{activity_of, agrees, all_others, ap, AreAwake, AreValues}
+use Rattle.psci_fw_spec.proofs.Words.{arith, Away, BoardValue, Bool, cases_eq, change, cleared}
+use Rattle.psci_fw_spec.proofs.Words.{cond, cores, denied, false, GoesOn, height, if◌then◌else◌}
+use Rattle.psci_fw_spec.proofs.Words.{in_life, inl, inr, int_eq, is_expected, is_some}
+use Rattle.psci_fw_spec.proofs.Words.{IsPhase, known, may_set, MessageValue, mode_asked}
+use Rattle.psci_fw_spec.proofs.Words.{mode_effect, nat_tests, None, Option, OsInitiated, Pending}
+use Rattle.psci_fw_spec.proofs.Words.{Phase, Platform, PowerOn, refl, Running, SetsMode}
+use Rattle.psci_fw_spec.proofs.Words.{Some, Start, subst, suc, success, SuspendMode, sym}
+use Rattle.psci_fw_spec.proofs.Words.{target, true, true≢false, up, updated, Values, with_arrival}
+use Rattle.psci_fw_spec.proofs.Words.{with_pending, with_phase, zero, ℕ}
 use Rattle.psci_state.specs.declared.cores.Activity.TheVariants.{Active}
-use Rattle.psci_fw_spec.specs.Changes.{with_acknowledgement, with_halt, with_running}
+use Rattle.psci_fw_spec.specs.Changes.{with_acknowledgement, with_halt, with_mode, with_running}
 use Rattle.psci_fw_spec.specs.Views.{view}
-use Rattle.psci_fw_spec.proofs.Asked.{Known, asks_at}
-use Rattle.psci_fw_spec.proofs.Granting.{AreBounded, ChangedAt, bounded_cleared, bounded_left}
-use Rattle.psci_fw_spec.proofs.Granting.{granted_cleared}
-use Rattle.psci_fw_spec.proofs.Holding.{awake_from, both_updated, bounded_of, granted_of}
-use Rattle.psci_fw_spec.proofs.Holding.{left_else, ran_asks, same_phases, updated_at, updated_each}
-use Rattle.psci_fw_spec.proofs.Holding.{updated_else}
+use Rattle.psci_fw_spec.proofs.Asked.{apart, asked_running, asks_at, IsAllOff, IsLeast, Known}
+use Rattle.psci_fw_spec.proofs.Granting.{AreBounded, AreGranted, awake_from, both_updated}
+use Rattle.psci_fw_spec.proofs.Granting.{bounded_cleared, bounded_left, bounded_of, ChangedAt}
+use Rattle.psci_fw_spec.proofs.Granting.{granted_cleared, granted_of, left_else, none_granted}
+use Rattle.psci_fw_spec.proofs.Granting.{ran_asks, same_phases, updated_at, updated_each}
+use Rattle.psci_fw_spec.proofs.Granting.{updated_else}
+use Rattle.psci_state.specs.Cores.{is_away as is_core_away}
+use Rattle.psci_fw_spec.specs.Phases.{is_away}
+use Rattle.psci_fw_spec.specs.SuspendMode.{is_mode}
+use Rattle.psci_fw_spec.proofs.Wishes.{off_asks}
 use Rattle.psci_fw_spec.specs.declared.status.Status.TheVariants as statuses
 
 -- that a running or pending core goes on changes nothing
@@ -55,7 +65,7 @@ kept_cleared b v w t p known on are active knows agree is opens =
       asked = bounded.asked;
       awake = λ e. awake_from b _ known (opens (are.awake e))
           (granted_cleared b v.mode v.phase new v.granted t known.paths on changed
-          (λ level. active_asks b (new t) level here) (ap is_away here)
+          (λ level. active_asks b (new t) level here) (ap is_core_away here)
           (granted_of b v known (are.awake e)));
     }
 
@@ -69,6 +79,11 @@ kept_pending b v asked known on are =
     (λ awake. both_updated (λ o p. is_some o ≡ is_expected p) v.opening v.phase (target asked)
     (Some asked.opening) Pending refl awake.opening)
 
+pub known_arrived : (b : BoardValue) (f : Values) (c : ℕ) (s : Start) → s.number ≤ b.starts
+    → AreValues b f → (k : ℕ) → updated f.known c s.number k ≤ b.starts
+known_arrived b f c s within are =
+    updated_each (λ k n. n ≤ b.starts) f.known c s.number within are.known
+
 -- a core goes on that has entered
 pub kept_entering : (b : BoardValue) (v : Values) (c : ℕ) (s : Start) → Known b → c < cores b
     → s.number ≤ b.starts → AreValues b (in_life b s.life v)
@@ -76,7 +91,7 @@ pub kept_entering : (b : BoardValue) (v : Values) (c : ℕ) (s : Start) → Know
 kept_entering b v c s known on within are =
     let f : Values = in_life b s.life v in
     kept_cleared b f (with_running c (with_arrival b c s v)) c Running known on are refl
-    (updated_each (λ k n. n ≤ b.starts) f.known c s.number within are.known)
+    (known_arrived b f c s within are)
     (both_updated (λ t p. agrees t p ≡ true) f.status f.phase c statuses.On Running refl are.agree)
     (updated_each (λ k. IsPhase b) f.phase c Running tt are.phase)
     (λ awake. both_updated (λ o p. is_some o ≡ is_expected p) f.opening f.phase c None Running refl
@@ -134,7 +149,7 @@ kept_ceasing b v c s known within halting are =
     let w : Values = with_phase c Away (with_arrival b c s v) in
     subst (AreValues b) (λ i. record w { halting = sym halting i })
     (kept_ended b f w c are
-    (updated_each (λ k n. n ≤ b.starts) f.known c s.number within are.known)
+    (known_arrived b f c s within are)
     (bounded_cleared b f.phase w.phase f.granted c known.paths
     (left_else (with_arrival b c s v) c Away) (bounded_of b f are)))
 
@@ -156,3 +171,98 @@ kept_acknowledged b v a are = record {
     least = w.least;
   };
 }
+
+-- Modes ---------------------------------------------------------------------------------------
+
+-- The other cores -----------------------------------------------------------------------------
+
+each_in : (p : ℕ → Bool) (a n k : ℕ) → list_all p (range_with_len a n) ≡ true → a ≤ k
+    → k < a + n → p k ≡ true
+each_in p a zero k e h i = absurd (omega arith)
+each_in p a (suc n) k e h i = grind (arith, nat_tests, each_in p (a + 1) n k)
+
+other_passes : (b : BoardValue) (c k : ℕ) (test : ℕ → Bool) → all_others b c test ≡ true
+    → k < cores b → (k ≡ c → ⊥) → test k ≡ true
+other_passes b c k test e h other =
+    grind (arith, nat_tests, each_in (λ k. k == c || test k) 0 (cores b) k e)
+
+-- Least asks ----------------------------------------------------------------------------------
+
+-- with all others away, a domain above the running core was granted nothing, and each other one
+-- power-down
+least_alone : (b : BoardValue) (v : Values) (c : ℕ) → Known b → c < cores b → v.phase c ≡ Running
+    → all_others b c (λ k. is_away (v.phase k)) ≡ true → AreBounded b v.phase v.granted
+    → AreGranted b v.mode v.phase v.granted → (x level : ℕ) → x < cores b → level ≤ height b
+    → IsLeast b v.phase x level (v.granted level (up b level x))
+least_alone b v c known on runs others bounds equal x level i h =
+    let asks : asks_at b (v.phase c) level ≡ 0 = grind (arith, asked_running b level) in
+    elim (cases_eq (up b level x) (up b level c)) [
+      | inl meets ↦
+          let none : v.granted level (up b level x) ≡ 0 =
+          ap (v.granted level) meets
+          ∙ none_granted b v.phase v.granted c level known.paths bounds on
+          (grind (arith, asked_running b 0)) h in
+          subst (IsLeast b v.phase x level) (sym none) (record {
+            most = omega arith;
+            below = λ y k at. omega arith;
+            above = λ n k each. omega (arith, each c on (sym meets), asks);
+          })
+      | inr beside ↦
+          let off : IsAllOff b v.phase x level = λ y k at. grind (
+            arith,
+            other_passes b c y (λ z. is_away (v.phase z)) others k (apart b x y c level beside at),
+          ) in
+          subst (IsLeast b v.phase x level) (sym (equal.away x level i h off)) (record {
+            most = omega arith;
+            below = λ y k at. off_asks b (v.phase y) level h (off y k at);
+            above = λ n k each. k;
+          })
+    ]
+
+-- Modes ---------------------------------------------------------------------------------------
+
+pub kept_mode : (b : BoardValue) (v : Values) (mode : SuspendMode) → Known b → AreValues b v
+    → (v.halting ≡ false → mode ≡ Platform → (c level : ℕ) → c < cores b → level ≤ height b
+    → IsLeast b v.phase c level (v.granted level (up b level c)))
+    → AreValues b (with_mode mode v)
+kept_mode b v mode known are least = record {
+  known = are.known;
+  agree = are.agree;
+  phase = are.phase;
+  nested = are.nested;
+  asked = are.asked;
+  awake = λ e.
+      let g : AreGranted b v.mode v.phase v.granted = granted_of b v known (are.awake e) in
+      awake_from b (with_mode mode v) known (are.awake e).opening (record {
+        own = g.own;
+        away = g.away;
+        least = least e;
+      });
+}
+
+mode_least : (b : BoardValue) (v : Values) (c : ℕ) (mode : SuspendMode) → Known b → c < cores b
+    → v.phase c ≡ Running → AreValues b v → may_set b v c mode ≡ true → v.halting ≡ false
+    → mode ≡ Platform → (x level : ℕ) → x < cores b → level ≤ height b
+    → IsLeast b v.phase x level (v.granted level (up b level x))
+mode_least b v c Platform known on runs are may awake platform =
+    least_alone b v c known on runs may (bounded_of b v are)
+    (granted_of b v known (are.awake awake))
+mode_least b v c OsInitiated known on runs are may awake platform = absurd (cc platform)
+
+-- a caller asked for this mode, if its number is that of one
+pub kept_by_mode : (b : BoardValue) (v : Values) (c : ℕ) (mode : Option SuspendMode) → Known b
+    → c < cores b → v.phase c ≡ Running → AreValues b v
+    → AreValues b (change b (if int_eq (mode_asked b v c mode).0 success.0 then mode_effect c mode
+    else GoesOn c) v)
+kept_by_mode b v c None known on runs are = kept_on b v c (inr runs) are
+kept_by_mode b v c (Some mode) known on runs are =
+    by_tests (is_mode mode v.mode) (may_set b v c mode) refl refl
+  where
+    by_tests : (same may : Bool) → is_mode mode v.mode ≡ same → may_set b v c mode ≡ may
+        → AreValues b (change b (if int_eq (cond same success (cond may success denied)).0 success.0
+        then SetsMode c mode else GoesOn c) v)
+    by_tests true may e f = kept_on b (with_mode mode v) c (inr runs) (kept_mode b v mode known are
+        (λ awake platform. (granted_of b v known (are.awake awake)).least (grind arith)))
+    by_tests false true e f = kept_on b (with_mode mode v) c (inr runs) (kept_mode b v mode known
+        are (mode_least b v c mode known on runs are f))
+    by_tests false false e f = kept_on b v c (inr runs) are

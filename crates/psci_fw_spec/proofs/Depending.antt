@@ -5,21 +5,14 @@ use Rattle.psci_fw_spec.proofs.Words.{leaving_claims, life, List, may_set, messa
 use Rattle.psci_fw_spec.proofs.Words.{OsInitiated, phase, Platform, refl, Some, Start, status}
 use Rattle.psci_fw_spec.proofs.Words.{stops_with, suspend_claims, SuspendMode, Values, with_phase}
 use Rattle.psci_fw_spec.proofs.Words.{ℕ}
-use Rattle.psci_board.specs.Board.{node_of}
-use Rattle.psci_board.specs.declared.node.Node.{Node}
 use Rattle.psci_messages.specs.Claim.{claims_of}
 use Rattle.psci_messages.specs.View.{generation, is_all_away, least_ask}
-use Rattle.psci_fw_spec.specs.declared.status.Status.TheVariants.{On, Pending}
-use Rattle.psci_fw_spec.specs.AffinityInfo.{affinity_of}
 use Rattle.psci_fw_spec.specs.Claims.{off_parts, suspend_parts}
 use Rattle.psci_fw_spec.specs.CpuOn.{target_of}
-use Rattle.psci_fw_spec.specs.Entering.{enter_outcome, is_wake}
-use Rattle.psci_fw_spec.specs.Phases.{is_resumable}
-use Rattle.psci_fw_spec.specs.NodeHwState.{hw_state_of}
+use Rattle.psci_fw_spec.specs.Entering.{enter_outcome}
 use Rattle.psci_fw_spec.specs.Views.{view}
 use Rattle.psci_abi.specs.declared.request.Request.TheVariants as requests
 use Rattle.psci_messages.specs.declared.kind.Kind.TheVariants as kinds
-use Rattle.psci_fw_spec.specs.declared.outcome.Act.TheVariants as acts
 
 -- One function --------------------------------------------------------------------------------
 

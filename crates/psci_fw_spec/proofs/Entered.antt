@@ -1,30 +1,116 @@
--- What a core is answered that enters leaves values such as the firmware keeps, and so does every
--- answer.
-use Rattle.std.proofs.lemmas.Bool.{ltb-false, ltb-true}
-use Rattle.psci_fw_spec.proofs.Words.{◌<◌, ◌∙◌, ◌∷◌, ◌≡◌, ◌≤◌, [], ap, AreValues, arith, BoardValue}
-use Rattle.psci_fw_spec.proofs.Words.{call_fault, change, cores, deepest_of, Effect, effect_of}
-use Rattle.psci_fw_spec.proofs.Words.{Enter, enter_effect, Enters, false, Fault, FwCall, FwExchange}
-use Rattle.psci_fw_spec.proofs.Words.{FwFault, FwReply, height, in_life, IsLegal, IsPhase, known}
-use Rattle.psci_fw_spec.proofs.Words.{List, nat_tests, None, off_message, Option, Out, Outcome}
-use Rattle.psci_fw_spec.proofs.Words.{outcome_of, Parks, reply_or, request_of, Running, Smc, Start}
-use Rattle.psci_fw_spec.proofs.Words.{start_of_life, StopsAtOnce, subst, Suspended, sym, Take, true}
-use Rattle.psci_fw_spec.proofs.Words.{updated, Values, with_arrival, ℕ}
-use Rattle.psci_messages.specs.declared.taken.Taken.{Taken}
+-- What holds of the values at the start of a life; and what a core is answered that enters leaves
+-- values such as the firmware keeps, and so does every answer.
+use Rattle.psci_fw_spec.proofs.Words.{◌+◌, ◌<◌, ◌==◌, ◌∙◌, ◌∷◌, ◌≡◌, ◌≤◌, [], ap, AreValues, arith}
+use Rattle.psci_fw_spec.proofs.Words.{Away, BoardValue, call_fault, cases_eq, change, cond, cores}
+use Rattle.psci_fw_spec.proofs.Words.{deepest_of, Effect, effect_of, Enter, enter_effect, Enters}
+use Rattle.psci_fw_spec.proofs.Words.{false, Fault, first_granted, FwCall, FwExchange, FwFault}
+use Rattle.psci_fw_spec.proofs.Words.{FwReply, height, in_life, inl, inr, IsLegal, IsPhase, known}
+use Rattle.psci_fw_spec.proofs.Words.{life, List, nat_tests, None, off_message, Option, Out}
+use Rattle.psci_fw_spec.proofs.Words.{Outcome, outcome_of, Parks, reply_or, request_of}
+use Rattle.psci_fw_spec.proofs.Words.{Running, Smc, Start, start_of_life, StopsAtOnce, subst}
+use Rattle.psci_fw_spec.proofs.Words.{Suspended, sym, Take, true, true≢false, up, updated, Values}
+use Rattle.psci_fw_spec.proofs.Words.{with_arrival, ℕ}
+use Rattle.psci_fw_spec.specs.Lives.{first_phase}
+use Rattle.psci_fw_spec.proofs.Asked.{alone, asked_away, asked_running, asks_at, IsLeast, joined}
+use Rattle.psci_fw_spec.proofs.Asked.{Known}
+use Rattle.psci_fw_spec.proofs.Granting.{AreGranted, awake_from, parked_left, ran_asks, updated_at}
+use Rattle.psci_fw_spec.proofs.Granting.{updated_else}
 use Rattle.psci_fw_spec.specs.After.{after}
 use Rattle.psci_fw_spec.specs.Answer.{answer}
-use Rattle.psci_fw_spec.specs.Entering.{enter_fault, enter_outcome, is_old}
+use Rattle.psci_fw_spec.specs.Entering.{enter_fault, enter_outcome}
 use Rattle.psci_fw_spec.specs.History.{values_of}
-use Rattle.psci_fw_spec.specs.Phases.{is_running}
-use Rattle.psci_fw_spec.specs.Taking.{taken_by}
-use Rattle.psci_fw_spec.proofs.Answered.{Worded, kept_function}
-use Rattle.psci_fw_spec.proofs.Asked.{Known, asked_running, asks_at}
+use Rattle.psci_fw_spec.proofs.Answered.{kept_function, Worded}
 use Rattle.psci_fw_spec.proofs.Changing.{kept_acknowledged, kept_ceasing, kept_entering}
-use Rattle.psci_fw_spec.proofs.Holding.{parked_left, ran_asks, updated_at, updated_else}
-use Rattle.psci_fw_spec.proofs.Starting.{are_first, are_in_life}
 use Rattle.psci_fw_spec.proofs.Stopping.{arrived_held, kept_parking, off_held}
-use Rattle.psci_fw_spec.specs.declared.fault.FwFault.TheVariants as faults
-use Rattle.psci_fw_spec.specs.declared.outcome.Act.TheVariants as acts
-use Rattle.psci_fw_spec.specs.declared.reply.FwReply.TheVariants as replies
+
+-- The start of a life -------------------------------------------------------------------------
+
+-- Cores ---------------------------------------------------------------------------------------
+
+first_away : (c : ℕ) → (c ≡ 0 → ⊥) → first_phase c ≡ Away
+first_away c other = grind (arith, nat_tests)
+
+-- Granted depths ------------------------------------------------------------------------------
+
+-- nothing on the boot path, power-down elsewhere
+first_at : (b : BoardValue) (c level : ℕ) → Known b → c < cores b → level ≤ height b
+    → first_granted b level (up b level c) ≡ cond (up b level c == up b level 0) 0 3
+first_at b c level known on h =
+    grind (arith, nat_tests, known.paths.inside c level on h)
+
+on_path : (b : BoardValue) (c level : ℕ) → Known b → c < cores b → level ≤ height b
+    → up b level c ≡ up b level 0 → first_granted b level (up b level c) ≡ 0
+on_path b c level known on h at = grind (arith, nat_tests, first_at b c level known on h)
+
+off_path : (b : BoardValue) (c level : ℕ) → Known b → c < cores b → level ≤ height b
+    → (up b level c ≡ up b level 0 → ⊥) → first_granted b level (up b level c) ≡ 3
+off_path b c level known on h beside = grind (arith, nat_tests, first_at b c level known on h)
+
+first_nested : (b : BoardValue) (c level : ℕ) → Known b → c < cores b → level < height b
+    → first_granted b (level + 1) (up b (level + 1) c) ≤ first_granted b level (up b level c)
+first_nested b c level known on h = grind (
+  arith,
+  nat_tests,
+  first_at b c level known on,
+  first_at b c (level + 1) known on,
+  joined b c 0 level known.paths,
+)
+
+first_own : (b : BoardValue) (c : ℕ) → Known b → c < cores b
+    → first_granted b 0 c ≡ asks_at b (first_phase c) 0
+first_own b c known on = grind (
+  arith,
+  nat_tests,
+  first_at b c 0 known on,
+  known.paths.core c,
+  alone b c 0 known.paths,
+)
+
+first_least : (b : BoardValue) (c level : ℕ) → Known b → c < cores b → level ≤ height b
+    → IsLeast b first_phase c level (first_granted b level (up b level c))
+first_least b c level known on h = elim (cases_eq (up b level c) (up b level 0)) [
+  | inl meets ↦ subst (IsLeast b first_phase c level)
+      (sym (on_path b c level known on h meets)) (record {
+        most = omega arith;
+        below = λ x k at. omega arith;
+        above = λ n k each. omega (arith, each 0 (omega arith) (sym meets), asked_running b level);
+      })
+  | inr beside ↦ subst (IsLeast b first_phase c level)
+      (sym (off_path b c level known on h beside)) (record {
+        most = omega arith;
+        below = λ x k at.
+            omega (
+              arith,
+              ap (λ p. asks_at b p level) (first_away x (λ same. beside (cc))),
+              asked_away b level h,
+            );
+        above = λ n k each. k;
+      })
+]
+
+first_granted_so : (b : BoardValue) (life : ℕ) → Known b → let v = start_of_life b life in
+    AreGranted b v.mode v.phase v.granted
+first_granted_so b life known = record {
+  own = λ c on. first_own b c known on;
+  away = λ c level on h all. off_path b c level known on h
+      (λ meets. true≢false (sym (all 0 (omega arith) (sym meets))));
+  least = λ m c level on h. first_least b c level known on h;
+}
+
+pub are_first : (b : BoardValue) (life : ℕ) → Known b → AreValues b (start_of_life b life)
+are_first b life known = record {
+  known = λ c. omega arith;
+  agree = λ c. grind arith;
+  phase = λ c. grind arith;
+  nested = λ c level on h. first_nested b c level known on h;
+  asked = λ c on. omega (arith, first_own b c known on);
+  awake = λ awake. awake_from b (start_of_life b life) known (λ c. grind arith)
+      (first_granted_so b life known);
+}
+
+pub are_in_life : (b : BoardValue) (life : ℕ) (v : Values) → Known b → AreValues b v
+    → AreValues b (in_life b life v)
+are_in_life b life v known are = grind (arith, are_first b life known)
 
 -- Who may enter -------------------------------------------------------------------------------
 

@@ -1,12 +1,15 @@
--- Granted depths, as phases change: a path is cleared, or a core that stops claims.
-use Rattle.std.proofs.lemmas.Bool.{eqb-false}
-use Rattle.psci_fw_spec.proofs.Words.{◌+◌, ◌<◌, ◌∙◌, ◌≡◌, ◌≤◌, activity_of, arith, BoardValue}
-use Rattle.psci_fw_spec.proofs.Words.{cases_eq, claimed_or, cleared, cores, false, granted_with}
-use Rattle.psci_fw_spec.proofs.Words.{height, inl, inr, is_away, List, nat_tests, Part, PathLaws}
-use Rattle.psci_fw_spec.proofs.Words.{Phase, phase, Platform, slice_get, subst, suc, SuspendMode}
-use Rattle.psci_fw_spec.proofs.Words.{sym, up, zero, ℕ}
-use Rattle.psci_fw_spec.proofs.Asked.{IsAllOff, IsLeast, apart, asks_at, joined, least_at}
-use Rattle.psci_fw_spec.proofs.Asked.{least_beside}
+-- Granted depths, as phases change: a path is cleared, or a core that stops claims. And what holds of
+-- values, by what it is read from, and of values of which one core's were updated.
+use Rattle.psci_fw_spec.proofs.Words.{◌+◌, ◌<◌, ◌∙◌, ◌≡◌, ◌≤◌, activity_of, AreAwake, AreValues}
+use Rattle.psci_fw_spec.proofs.Words.{arith, Away, BoardValue, cases_eq, claimed_or, cleared, cores}
+use Rattle.psci_fw_spec.proofs.Words.{false, granted_with, height, inl, inr, is_away, is_expected}
+use Rattle.psci_fw_spec.proofs.Words.{is_some, IsPhase, known, List, nat_tests, None, Opening}
+use Rattle.psci_fw_spec.proofs.Words.{Option, Part, PathLaws, Phase, phase, Platform, Running}
+use Rattle.psci_fw_spec.proofs.Words.{slice_get, subst, suc, SuspendMode, sym, unless_pending, up}
+use Rattle.psci_fw_spec.proofs.Words.{updated, Values, with_phase, zero, ℕ}
+use Rattle.psci_fw_spec.proofs.Asked.{all_off, apart, asks_at, IsAllOff, IsAsking, IsLeast, joined}
+use Rattle.psci_fw_spec.proofs.Asked.{Known, least_at, least_beside, least_is, off_all, one_least}
+use Rattle.psci_fw_spec.proofs.Asked.{phase_asks}
 
 -- no phase but this core's has changed
 abbrev pub ChangedAt : (ℕ → Phase) → (ℕ → Phase) → ℕ → Type 0
@@ -168,3 +171,80 @@ granted_laid b mode old new granted c parts want paths changed is w g = record {
         (beside_least b old new c x level _ changed (g.least m x level h i) beside)
   ];
 }
+
+-- Values --------------------------------------------------------------------------------------
+
+pub bounded_of : (b : BoardValue) (v : Values) → AreValues b v → AreBounded b v.phase v.granted
+bounded_of b v are = record { nested = are.nested; asked = are.asked }
+
+pub granted_of : (b : BoardValue) (v : Values) → Known b → AreAwake b v
+    → AreGranted b v.mode v.phase v.granted
+granted_of b v known awake = record {
+  own = awake.own;
+  away = λ c level on h all. awake.away c level on h (off_all b v c level known all);
+  least = λ m c level on h. subst (IsLeast b v.phase c level)
+      (sym (awake.least m c level on h)) (least_is b v c level known);
+}
+
+pub awake_from : (b : BoardValue) (v : Values) → Known b
+    → ((c : ℕ) → is_some (v.opening c) ≡ is_expected (v.phase c))
+    → AreGranted b v.mode v.phase v.granted → AreAwake b v
+awake_from b v known opening g = record {
+  opening = opening;
+  own = g.own;
+  away = λ c level on h e. g.away c level on h (all_off b v c level known e);
+  least = λ m c level on h. one_least b v.phase c level _ _ (g.least m c level on h)
+      (least_is b v c level known);
+}
+
+-- phases that are the same at each core
+pub same_phases : (b : BoardValue) (v : Values) (phase : ℕ → Phase)
+    → ((k : ℕ) → v.phase k ≡ phase k) → AreValues b v → AreValues b (record v { phase = phase })
+same_phases b v phase same are =
+    subst (AreValues b) (λ i. record v { phase = λ k. same k i }) are
+
+-- One core's values updated --------------------------------------------------------------------
+
+pub updated_at : {A : Type 0} (f : ℕ → A) (c : ℕ) (x : A) → updated f c x c ≡ x
+updated_at f c x = grind (arith, nat_tests)
+
+pub updated_else : {A : Type 0} (f : ℕ → A) (c : ℕ) (x : A) (k : ℕ) → (k ≡ c → ⊥)
+    → updated f c x k ≡ f k
+updated_else f c x k other = grind (arith, nat_tests)
+
+-- what holds of the new value and of each old one holds of each value
+pub updated_each : {A : Type 0} (P : ℕ → A → Type 0) (f : ℕ → A) (c : ℕ) (x : A) → P c x
+    → ((k : ℕ) → P k (f k)) → (k : ℕ) → P k (updated f c x k)
+updated_each P f c x new old k = grind (arith, nat_tests)
+
+-- the same of two functions, each updated at one core
+pub both_updated : {A B : Type 0} (P : A → B → Type 0) (f : ℕ → A) (g : ℕ → B) (c : ℕ) (x : A)
+    (y : B) → P x y → ((k : ℕ) → P (f k) (g k)) → (k : ℕ)
+    → P (updated f c x k) (updated g c y k)
+both_updated P f g c x y new old k = grind arith
+
+-- a call leaves its core's phase, unless the core is pending
+pub left_at : (v : Values) (c : ℕ) (left : Phase) → unless_pending (v.phase c) left ≡ left
+    → (with_phase c left v).phase c ≡ left
+left_at v c left e = grind (arith, nat_tests)
+
+pub left_else : (v : Values) (c : ℕ) (left : Phase)
+    → ChangedAt v.phase (with_phase c left v).phase c
+left_else v c left x other = grind (arith, nat_tests)
+
+pub left_asks : (b : BoardValue) (v : Values) (c : ℕ) (left : Phase)
+    → unless_pending (v.phase c) left ≡ left → IsAsking left → ((y : ℕ) → IsPhase b (v.phase y))
+    → (y : ℕ) → IsAsking ((with_phase c left v).phase y)
+left_asks b v c left e asks is y = grind (arith, phase_asks b (v.phase y) (is y))
+
+-- a core that ran is left as the call leaves it, and asked nothing
+pub ran_left : (p left : Phase) → p ≡ Running → unless_pending p left ≡ left
+ran_left p left runs = grind arith
+
+pub ran_asks : (b : BoardValue) (p : Phase) → p ≡ Running → asks_at b p 0 ≡ 0
+ran_asks b p runs = grind arith
+
+-- a core that nothing waits for is away once it stops
+pub parked_left : (p : Phase) (o : Option Opening) → is_some o ≡ is_expected p → o ≡ None
+    → unless_pending p Away ≡ Away
+parked_left p o e none = grind arith

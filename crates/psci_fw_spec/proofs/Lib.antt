@@ -4,7 +4,6 @@ mod Asked
 mod Callers
 mod CallsStories
 mod Changing
-mod Claimed
 mod ConfirmedRows
 mod Depending
 mod EffectRows
@@ -15,7 +14,6 @@ mod ExamplesStories
 mod FormatRows
 mod Granting
 mod HardwareRows
-mod Holding
 mod InvariantRows
 mod LastLifeRows
 mod LegalRows
@@ -24,16 +22,12 @@ mod LopsidedRows
 mod LopsidedValueRows
 mod MessageRows
 mod ModeRows
-mod Modes
 mod NamingRows
 mod OneMore
 mod OsInitiatedStories
 mod PeersStories
-mod PendingCores
 mod RefusalRows
 mod SafeStories
-mod SameReplies
-mod Starting
 mod Steps
 mod StopValueRows
 mod Stopping

@@ -4,20 +4,19 @@ use Rattle.psci_fw_spec.proofs.Words.{Away, BoardValue, claims_of, cleared, core
 use Rattle.psci_fw_spec.proofs.Words.{granted_with, in_life, is_away, is_expected, is_some, IsAsk}
 use Rattle.psci_fw_spec.proofs.Words.{IsPhase, known, least_wish, leaving_claims, List}
 use Rattle.psci_fw_spec.proofs.Words.{MessageValue, None, off_wish, Ok, Opening, Option, option_or}
-use Rattle.psci_fw_spec.proofs.Words.{OsInitiated, own_wish, Part, Phase, phase, Platform}
+use Rattle.psci_fw_spec.proofs.Words.{OsInitiated, own_wish, Part, Phase, Platform}
 use Rattle.psci_fw_spec.proofs.Words.{PowerView, refl, Running, Start, subst, suspend_claims}
 use Rattle.psci_fw_spec.proofs.Words.{Suspended, SuspendMode, sym, true, unless_pending, updated}
 use Rattle.psci_fw_spec.proofs.Words.{Values, view, with_arrival, with_phase, ℕ}
 use Rattle.psci_fw_spec.specs.Changes.{Rest, with_claims, with_rest}
 use Rattle.psci_fw_spec.specs.Claims.{off_parts, suspend_parts}
-use Rattle.psci_fw_spec.proofs.Asked.{IsAsking, Known, asked_running, asks_at, phase_asks}
-use Rattle.psci_fw_spec.proofs.Changing.{agree_away, phase_away}
-use Rattle.psci_fw_spec.proofs.Granting.{AreBounded, AreGranted, AreWanted, ChangedAt}
-use Rattle.psci_fw_spec.proofs.Granting.{bounded_cleared, granted_cleared, granted_laid}
-use Rattle.psci_fw_spec.proofs.Granting.{nested_laid, none_granted}
-use Rattle.psci_fw_spec.proofs.Holding.{awake_from, both_updated, bounded_of, granted_of, left_asks}
-use Rattle.psci_fw_spec.proofs.Holding.{left_at, left_else, parked_left, ran_asks, ran_left}
-use Rattle.psci_fw_spec.proofs.Holding.{updated_at, updated_each, updated_else}
+use Rattle.psci_fw_spec.proofs.Asked.{IsAsking, Known, asked_running, asks_at}
+use Rattle.psci_fw_spec.proofs.Changing.{agree_away, known_arrived, phase_away}
+use Rattle.psci_fw_spec.proofs.Granting.{AreBounded, AreGranted, AreWanted, awake_from}
+use Rattle.psci_fw_spec.proofs.Granting.{both_updated, bounded_cleared, bounded_of, ChangedAt}
+use Rattle.psci_fw_spec.proofs.Granting.{granted_cleared, granted_laid, granted_of, left_asks}
+use Rattle.psci_fw_spec.proofs.Granting.{left_at, left_else, nested_laid, none_granted, parked_left}
+use Rattle.psci_fw_spec.proofs.Granting.{ran_asks, ran_left, updated_at, updated_each, updated_else}
 use Rattle.psci_fw_spec.proofs.Wishes.{claim_laid, least_wanted, off_wanted, own_wanted}
 use Rattle.psci_fw_spec.specs.declared.status.Status.TheVariants as statuses
 
@@ -169,7 +168,7 @@ kept_parking b v c s m known within awake none are held =
     let f : Values = in_life b s.life v in
     let opening = (are.awake awake).opening in
     record {
-      known = updated_each (λ k n. n ≤ b.starts) f.known c s.number within are.known;
+      known = known_arrived b f c s within are;
       agree = agree_away (with_arrival b c s v) c are.agree;
       phase = phase_away b (with_arrival b c s v) c are.phase;
       nested = held.bounds.nested;

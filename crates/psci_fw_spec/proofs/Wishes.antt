@@ -1,20 +1,23 @@
--- Each way to stop wants what a stop may want of the domains on its core's path.
-use Rattle.std.proofs.Common.{get_or}
-use Rattle.std.specs.Prelude.{length, Some}
-use Rattle.std.proofs.lemmas.Bool.{cases_Bool, cases_lt}
+-- Each way to stop wants what a stop may want of the domains on its core's path, and what a core
+-- that stops sends is a claim.
+use Rattle.std.proofs.Common.{get_or, length}
+use Rattle.std.proofs.lemmas.Bool.{cases_lt}
 use Rattle.std.proofs.lemmas.Option.{slice_get-get_or, slice_get_past}
-use Rattle.psci_fw_spec.proofs.Words.{◌+◌, ◌<◌, ◌∙◌, ◌≡◌, ◌≤◌, activity_of, ap, arith, Away}
-use Rattle.psci_fw_spec.proofs.Words.{BoardValue, claimed_or, claims_of, cores, domain_of, false}
-use Rattle.psci_fw_spec.proofs.Words.{height, inl, inr, is_all_away, is_away, IsAsk, known}
-use Rattle.psci_fw_spec.proofs.Words.{last_core_check, least_wish, List, nat_tests, off_wish, Ok}
-use Rattle.psci_fw_spec.proofs.Words.{OsInitiated, own_wish, Part, Phase, phase, Platform}
-use Rattle.psci_fw_spec.proofs.Words.{PowerView, refl, slice_get, subst, suc, Suspended}
-use Rattle.psci_fw_spec.proofs.Words.{SuspendMode, sym, true, true≢false, up, Values, zero, ℕ}
+use Rattle.std.proofs.Math.Nat.{eq-zero-or-pos}
+use Rattle.psci_fw_spec.proofs.Words.{◌+◌, ◌<◌, ◌∙◌, ◌≡◌, ◌≤◌, activity_of, ap, AreClaims, arith}
+use Rattle.psci_fw_spec.proofs.Words.{Away, BoardValue, claimed_or, claims_of, cores, domain_of}
+use Rattle.psci_fw_spec.proofs.Words.{height, inl, inr, is_all_away, is_away, IsAsk, IsBoard}
+use Rattle.psci_fw_spec.proofs.Words.{known, last_core_check, least_wish, leaving_claims, List}
+use Rattle.psci_fw_spec.proofs.Words.{nat_tests, off_wish, Ok, OsInitiated, own_wish, Part, Phase}
+use Rattle.psci_fw_spec.proofs.Words.{phase, Platform, PowerView, refl, slice_get, Some, subst, suc}
+use Rattle.psci_fw_spec.proofs.Words.{suspend_claims, Suspended, SuspendMode, sym, true, true≢false}
+use Rattle.psci_fw_spec.proofs.Words.{up, Values, with_phase, zero, ℕ}
 use Rattle.psci_fw_spec.specs.Views.{view}
-use Rattle.psci_fw_spec.proofs.Asked.{IsAllOff, IsAsking, IsLeast, Known, all_off, alone, apart}
-use Rattle.psci_fw_spec.proofs.Asked.{asked-fall, asked-most, asked_away, asked_within, asks_at}
-use Rattle.psci_fw_spec.proofs.Asked.{joined, least_is, off_all}
+use Rattle.psci_fw_spec.proofs.Asked.{all_off, alone, apart, asked-fall, asked-most, asked_away}
+use Rattle.psci_fw_spec.proofs.Asked.{asked_within, asks_at, IsAsking, IsLeast, joined}
+use Rattle.psci_fw_spec.proofs.Asked.{Known, least_is, off_all}
 use Rattle.psci_fw_spec.proofs.Granting.{AreGranted, AreLaid, AreWanted, ChangedAt}
+use Rattle.psci_fw_spec.specs.Claims.{off_parts, suspend_parts}
 
 -- Parts ---------------------------------------------------------------------------------------
 
@@ -157,3 +160,95 @@ off_wanted b mode old w granted c known on os changed left g = record {
   away = λ level h all. off-all b (view b w) c level (off_all b w c level known all);
   least = λ platform. absurd (not_platform mode os platform);
 }
+
+-- Claims --------------------------------------------------------------------------------------
+
+-- a claim of which the core itself is asked something, with depths of 3 at most that fall
+wanted_claim : (b : BoardValue) (w : PowerView) (c : ℕ) (want : ℕ → ℕ) → IsBoard b → Known b
+    → 0 < want 0
+    → ((level : ℕ) (p : Part) → slice_get (claims_of b w c want) level ≡ Some p → p.depth ≤ 3)
+    → ((level : ℕ) (p q : Part) → slice_get (claims_of b w c want) level ≡ Some p
+    → slice_get (claims_of b w c want) (level + 1) ≡ Some q → q.depth ≤ p.depth)
+    → AreClaims (claims_of b w c want)
+wanted_claim b w c want board known some most falls =
+    let parts : List Part = claims_of b w c want in
+    let laws = known.claims w c want in
+    let first : 0 < length parts =
+    elim (eq-zero-or-pos (length parts)) [
+      | inl none ↦
+          let ends : want (length parts) ≡ 0 = laws.ends (omega (arith, none)) in
+          let never = rw none at ends in
+          absurd (omega (arith, never, some))
+      | inr first ↦ first
+    ] in
+    known.parts parts (record {
+      some = first;
+      most = omega (arith, laws.few, board.high);
+      level = λ k p e. laws.level k p e;
+      least = λ k p e. laws.some k p e;
+      deepest = λ k p e. most k p e;
+      falls = λ k p q e f. falls k p q e f;
+    })
+
+-- in platform-coordinated mode
+least_claim : (b : BoardValue) (w : Values) (c : ℕ) → IsBoard b → Known b → c < cores b
+    → ((y : ℕ) → IsAsking (w.phase y)) → 0 < asks_at b (w.phase c) 0
+    → AreClaims (claims_of b (view b w) c (least_wish b (view b w) c))
+unfolding view
+least_claim b w c board known on are some =
+    let laws = known.platform (view b w) c on in
+    wanted_claim b (view b w) c (least_wish b (view b w) c) board known
+    ((least_is b w c 0 known).above 1 (omega arith) (λ x h at.
+    subst (λ (y : ℕ). 0 < asks_at b (w.phase y) 0) (sym (alone b x c known.paths at)) some))
+    laws.most (laws.falls (record {
+      falls = λ x level h i. asked-fall b (w.phase x) level (are x) i;
+    }))
+
+-- of a core that is off or going off
+leaving_claimed : (b : BoardValue) (w : Values) (c : ℕ) (mode : SuspendMode) → IsBoard b → Known b
+    → c < cores b → ((y : ℕ) → IsAsking (w.phase y)) → w.phase c ≡ Away
+    → AreClaims (leaving_claims b (view b w) c mode)
+leaving_claimed b w c Platform board known on are away =
+    least_claim b w c board known on are
+    (omega (arith, ap (λ (p : Phase). asks_at b p 0) away, asked_away b 0 (omega arith)))
+leaving_claimed b w c OsInitiated board known on are away =
+    let laws = known.off (view b w) c in
+    wanted_claim b (view b w) c (off_wish b (view b w) c) board known (omega arith)
+    (λ level p e. omega (arith, laws.deep level p e))
+    (λ level p q e f. omega (arith, laws.deep level p e, laws.deep (level + 1) q f))
+
+pub off_claimed : (b : BoardValue) (v : Values) (c : ℕ) → IsBoard b → Known b → c < cores b
+    → ((y : ℕ) → IsAsking ((with_phase c Away v).phase y)) → (with_phase c Away v).phase c ≡ Away
+    → AreClaims (off_parts b v c)
+unfolding off_parts
+off_claimed b v c board known on are away =
+    leaving_claimed b (with_phase c Away v) c v.mode board known on are away
+
+-- of a core that is suspended
+suspend_claimed : (b : BoardValue) (v : Values) (c : ℕ) (ask : List ℕ) (parts : List Part)
+    (mode : SuspendMode) → IsBoard b → Known b → c < cores b
+    → ((y : ℕ) → IsAsking ((with_phase c (Suspended ask) v).phase y))
+    → (with_phase c (Suspended ask) v).phase c ≡ Suspended ask → IsAsk ask
+    → suspend_claims b v c ask mode ≡ Ok parts → AreClaims parts
+suspend_claimed b v c ask parts Platform board known on are left is e =
+    let w : Values = with_phase c (Suspended ask) v in
+    let same : claims_of b (view b w) c (least_wish b (view b w) c) ≡ parts = cc e in
+    subst AreClaims same (least_claim b w c board known on are (omega (
+      arith,
+      is.least,
+      ap (λ (p : Phase). asks_at b p 0) left,
+      asked_within b (Suspended ask) 0 (omega arith),
+    )))
+suspend_claimed b v c ask parts OsInitiated board known on are left is e =
+    let laws = known.own (view b v) c ask is in
+    subst AreClaims (sym ((known.last_core (view b v) c ask on).parts parts e))
+    (wanted_claim b (view b v) c (own_wish ask) board known is.least laws.most laws.falls)
+
+pub suspended_claimed : (b : BoardValue) (v : Values) (c : ℕ) (ask : List ℕ) (parts : List Part)
+    → IsBoard b → Known b → c < cores b
+    → ((y : ℕ) → IsAsking ((with_phase c (Suspended ask) v).phase y))
+    → (with_phase c (Suspended ask) v).phase c ≡ Suspended ask → IsAsk ask
+    → suspend_parts b v c ask ≡ Ok parts → AreClaims parts
+unfolding suspend_parts
+suspended_claimed b v c ask parts board known on are left is e =
+    suspend_claimed b v c ask parts v.mode board known on are left is e

@@ -2,8 +2,7 @@ use Rattle.psci_fw_spec.proofs.Words.{BoardValue, height, IsBoard}
 use Rattle.psci_fw_spec.proofs.Answered.{Worded, deepest_is, kept_function}
 use Rattle.psci_fw_spec.proofs.Asked.{Known}
 use Rattle.psci_fw_spec.proofs.Changing.{kept_acknowledged}
-use Rattle.psci_fw_spec.proofs.Entered.{kept_answer, kept_enter, kept_legal}
-use Rattle.psci_fw_spec.proofs.Starting.{are_first}
+use Rattle.psci_fw_spec.proofs.Entered.{are_first, kept_answer, kept_enter, kept_legal}
 use Rattle.psci_fw_spec.proofs.laws.law_invariant.Goals as goal
 
 pub returns : goal.returns

@@ -1,5 +1,5 @@
 -- A history is legal where its test says so.
-use Rattle.psci_fw_spec.proofs.SameReplies.{legal_same}
+use Rattle.psci_fw_spec.proofs.OneMore.{legal_same}
 use Rattle.psci_fw_spec.proofs.laws.law_legal.Goals as goal
 
 pub returns : goal.returns

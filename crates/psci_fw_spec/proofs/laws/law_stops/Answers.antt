@@ -1,8 +1,8 @@
 use Rattle.psci_fw_spec.proofs.Words.{Away, BoardValue, IsBoard, Suspended, with_arrival}
 use Rattle.psci_fw_spec.proofs.Asked.{Known}
-use Rattle.psci_fw_spec.proofs.Claimed.{off_claimed, suspended_claimed}
-use Rattle.psci_fw_spec.proofs.Holding.{left_asks, left_at, parked_left, ran_left}
-use Rattle.psci_fw_spec.proofs.Starting.{are_in_life}
+use Rattle.psci_fw_spec.proofs.Wishes.{off_claimed, suspended_claimed}
+use Rattle.psci_fw_spec.proofs.Granting.{left_asks, left_at, parked_left, ran_left}
+use Rattle.psci_fw_spec.proofs.Entered.{are_in_life}
 use Rattle.psci_fw_spec.proofs.laws.law_stops.Goals as goal
 
 pub returns : goal.returns
