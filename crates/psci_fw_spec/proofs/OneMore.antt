@@ -1,6 +1,6 @@
--- A history with one more exchange says the values that its effect leaves, field by field; a core is
--- pending exactly where its status is ON_PENDING; and replies are the same, and a history is legal,
--- where the test says so.
+-- A history with one more exchange says the values that its effect leaves, field by field; a core
+-- is pending exactly where its status is ON_PENDING; and replies are the same, and a history is
+-- legal, where the test says so.
 use Rattle.std.proofs.Common.{◌++◌, option_and_then}
 use Rattle.std.proofs.lemmas.Bool.Decides.{Decides-int_eq}
 use Rattle.psci_fw_spec.proofs.Words.{◌==◌, ◌↔◌, ◌∷◌, ◌≡◌, [], Act, arith, arrived, Away, begins}

@@ -33,5 +33,6 @@ returns g =
       suspended = λ b v c ask parts board on are runs is e.
           let left = ran_left (v.phase c) (Suspended ask) runs in
           suspended_claimed b v c ask parts board (known b board) on
-          (left_asks b v c (Suspended ask) left is are.phase) (left_at v c (Suspended ask) left) is e;
+          (left_asks b v c (Suspended ask) left is are.phase)
+          (left_at v c (Suspended ask) left) is e;
     }
