@@ -1,5 +1,5 @@
--- What a running caller is answered, and what that leaves of it; whom an accepted CPU_ON asked on; a
--- core that enters and goes on, and the first start of all; and what messages name.
+-- What a running caller is answered, and what that leaves of it; whom an accepted CPU_ON asked on;
+-- a core that enters and goes on, and the first start of all; and what messages name.
 use Rattle.psci_fw_spec.proofs.Words.{◌<◌, ◌≡◌, Act, AreValues, arith, AsksOn, Away, BoardValue}
 use Rattle.psci_fw_spec.proofs.Words.{change, core_of, cores, Effect, effect_of, Enter, executes_on}
 use Rattle.psci_fw_spec.proofs.Words.{function_effect, FwReply, GoesOn, life, MessageValue}

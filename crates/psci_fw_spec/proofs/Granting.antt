@@ -1,5 +1,5 @@
--- Granted depths, as phases change: a path is cleared, or a core that stops claims. And what holds of
--- values, by what it is read from, and of values of which one core's were updated.
+-- Granted depths, as phases change: a path is cleared, or a core that stops claims. And what holds
+-- of values, by what it is read from, and of values of which one core's were updated.
 use Rattle.psci_fw_spec.proofs.Words.{◌+◌, ◌<◌, ◌∙◌, ◌≡◌, ◌≤◌, activity_of, AreAwake, AreValues}
 use Rattle.psci_fw_spec.proofs.Words.{arith, Away, BoardValue, cases_eq, claimed_or, cleared, cores}
 use Rattle.psci_fw_spec.proofs.Words.{false, granted_with, height, inl, inr, is_away, is_expected}
