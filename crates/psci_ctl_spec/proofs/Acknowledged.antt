@@ -1,40 +1,28 @@
 -- What the acknowledgement of a Down says of its parts.
-use Rattle.std.proofs.Common.{◌≡◌, ℕ, zero, suc, Bool, true, false, List, [], ◌∷◌, drop}
-use Rattle.std.proofs.Common.{Some, refl, ap, sym, ◌∙◌}
-use Rattle.std.specs.Prelude.{not, slice_get}
+use Rattle.std.proofs.Common.{◌∙◌, ◌∷◌, ◌≡◌, [], arith, drop, false, List, refl, Some}
+use Rattle.std.proofs.Common.{suc, sym, true, zero, ℕ}
+use Rattle.std.specs.Prelude.{slice_get}
 use Rattle.std.proofs.lemmas.Bool.{eq-eqb, eqb-true, true≢false}
 use Rattle.std.proofs.lemmas.List.Sums.{prefix_len-le-length}
-use Rattle.std.proofs.lemmas.Option.{none-some, same_Some}
-use Rattle.psci_board.specs.Board.{BoardValue}
+use Rattle.psci_board.specs.Board.{BoardValue, domain_of}
 use Rattle.psci_messages.specs.declared.part.Part.{Part}
-use Rattle.psci_board.specs.Board.{domain_of}
 use Rattle.psci_ctl_spec.specs.Laws.{AckLaws}
 use Rattle.psci_ctl_spec.specs.Parts.{applied, begins_stale, is_applied, is_live, is_stale}
-use Rattle.psci_ctl_spec.specs.Values.{Values, starts_below}
-
-not_true : (t : Bool) → not t ≡ true → t ≡ false
-not_true true e = absurd (true≢false (sym e))
-not_true false e = refl
-
-not_false : (t : Bool) → not t ≡ false → t ≡ true
-not_false true e = refl
-not_false false e = absurd (true≢false e)
+use Rattle.psci_ctl_spec.specs.Values.{starts_below, Values}
 
 late_at : (b : BoardValue) (v : Values) (c n : ℕ) (ps : List Part)
     → begins_stale b v c (drop n ps) ≡ true
     → (p : Part) × (slice_get ps n ≡ Some p) × (is_live b v c p ≡ false)
-late_at b v c zero [] e = absurd (true≢false (sym e))
-late_at b v c (suc n) [] e = absurd (true≢false (sym e))
-late_at b v c zero (p ∷ ps) e = (p, refl, not_true (is_live b v c p) e)
+late_at b v c zero [] e = absurd (cc e)
+late_at b v c (suc n) [] e = absurd (cc e)
+late_at b v c zero (p ∷ ps) e = (p, refl, grind arith)
 late_at b v c (suc n) (p ∷ ps) e = late_at b v c n ps e
 
 live_at : (b : BoardValue) (v : Values) (c n : ℕ) (ps : List Part) (p : Part)
     → begins_stale b v c (drop n ps) ≡ false → slice_get ps n ≡ Some p
     → is_live b v c p ≡ true
-live_at b v c zero [] p e at = absurd (none-some p at)
-live_at b v c (suc n) [] p e at = absurd (none-some p at)
-live_at b v c zero (q ∷ ps) p e at =
-    ap (is_live b v c) (sym (same_Some q p at)) ∙ not_false (is_live b v c q) e
+live_at b v c n [] p e at = absurd (grind arith)
+live_at b v c zero (q ∷ ps) p e at = grind arith
 live_at b v c (suc n) (q ∷ ps) p e at = live_at b v c n ps p e at
 
 pub ack_laws : (b : BoardValue) (v : Values) (c : ℕ) (ps : List Part) → AckLaws b v c ps

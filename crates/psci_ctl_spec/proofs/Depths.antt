@@ -21,8 +21,7 @@ use Rattle.psci_ctl_spec.specs.Legal.{IsLegal}
 use Rattle.psci_ctl_spec.specs.Values.{first_starts, starts_below}
 use Rattle.psci_board.specs.Paths.{is_on_path}
 use Rattle.psci_ctl_spec.proofs.Follows.{follows}
-use Rattle.psci_ctl_spec.proofs.Paths.{path_place}
-use Rattle.psci_ctl_spec.proofs.Sums.{starts_more, starts_none}
+use Rattle.psci_ctl_spec.proofs.Sums.{path_place, starts_more, starts_none}
 
 abbrev node : ℕ → ℕ → Node
 node l p = record { level = l; place = p }

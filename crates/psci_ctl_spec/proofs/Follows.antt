@@ -1,45 +1,36 @@
 -- What the one reply brings about may follow the values, and leaves values as they are kept.
-use Rattle.std.proofs.Common.{◌≡◌, ℕ, ◌+◌, ◌<◌, ◌≤◌, Bool, true, false, cond, ◌==◌}
-use Rattle.std.proofs.Common.{List, length, Option, Some, None, refl, ap}
-use Rattle.std.specs.Prelude.{nat_lt}
-use Rattle.std.proofs.lemmas.Bool.{and_parts, eqb-true, ltb-true}
+use Rattle.std.proofs.Common.{◌+◌, ◌<◌, ◌≡◌, ◌≤◌, arith, Bool, cond, false, length, List}
+use Rattle.std.proofs.Common.{Option, refl, Some, true, ℕ}
+use Rattle.std.proofs.lemmas.Bool.{ltb-true}
+use Rattle.std.proofs.lemmas.Bool.Decides.{nat_tests}
 use Rattle.psci_board.specs.Board.{BoardValue, cores, height}
 use Rattle.psci_board.specs.Laws.{ChildLaws}
 use Rattle.psci_messages.specs.declared.part.Part.{Part}
-use Rattle.psci_messages.specs.Message.{ArePartsOf, AreClaims, MessageValue, PartByPart}
+use Rattle.psci_messages.specs.Message.{AreClaims, ArePartsOf, MessageValue, PartByPart}
 use Rattle.psci_messages.specs.declared.kind.Kind.{Kind}
-use Rattle.psci_messages.specs.declared.kind.Kind.TheVariants as kinds
 use Rattle.psci_ctl_spec.specs.declared.call.CtlCall.{CtlCall}
-use Rattle.psci_ctl_spec.specs.declared.call.CtlCall.TheVariants as calls
-use Rattle.psci_ctl_spec.specs.declared.delivery.Delivery.TheVariants as deliveries
-use Rattle.psci_ctl_spec.specs.declared.reply.CtlReply.TheVariants as replies
 use Rattle.psci_messages.specs.declared.start.Cause.{Cause}
-use Rattle.psci_messages.specs.declared.start.Cause.TheVariants as causes
-use Rattle.psci_ctl_spec.specs.Effects.{Ends, Begins, effect_of, kick_effect, message_effect}
-use Rattle.psci_ctl_spec.specs.Follows.{HasLife, MayFollow}
+use Rattle.psci_ctl_spec.specs.Effects.{effect_of, kick_effect, message_effect}
+use Rattle.psci_ctl_spec.specs.Follows.{MayFollow}
 use Rattle.psci_ctl_spec.specs.Legal.{IsCall, IsSendable}
-use Rattle.psci_ctl_spec.specs.Replies.{ack_by, ack_of, delivery_of, is_this_life, kick_if}
+use Rattle.psci_ctl_spec.specs.Replies.{ack_by, delivery_of, is_this_life, kick_if}
 use Rattle.psci_ctl_spec.specs.Replies.{may_follow, may_start, reply, reset_of, wake_of}
 use Rattle.psci_ctl_spec.specs.Values.{Values}
 use Rattle.psci_ctl_spec.proofs.Front.{is_front}
+use Rattle.psci_messages.specs.declared.kind.Kind.TheVariants as kinds
+use Rattle.psci_ctl_spec.specs.declared.call.CtlCall.TheVariants as calls
+use Rattle.psci_ctl_spec.specs.declared.delivery.Delivery.TheVariants as deliveries
+use Rattle.psci_ctl_spec.specs.declared.reply.CtlReply.TheVariants as replies
+use Rattle.psci_messages.specs.declared.start.Cause.TheVariants as causes
 
--- a Start that is carried out starts its core; one that is not does nothing
-start_effect : (b : BoardValue) (v : Values) (m : MessageValue) (t : Bool)
-    → may_follow b v m.core.number m.number ≡ t → m.core.number < cores b → HasLife v
-    → MayFollow b v (message_effect b m
-    (cond t (ack_of m 1 false) (ack_of m 0 true)) kinds.Start)
-start_effect b v m true e inside life = (
-  inside,
-  ltb-true _ _ (and_parts (v.starts m.core.number == m.number) _ e).1,
-  life,
-)
-start_effect b v m false e inside life = tt
+start_follows : (b : BoardValue) (v : Values) (m : MessageValue) → v.life ≡ Some m.life
+    → m.core.number < cores b
+    → MayFollow b v (message_effect b m (ack_by b v m kinds.Start) kinds.Start)
+start_follows b v m life inside = grind (arith, nat_tests)
 
--- a Reset begins a life, unless it is the last one
-reset_effect : (b : BoardValue) (v : Values) (m : MessageValue) (t : Bool)
-    → nat_lt m.life b.lives ≡ t → v.life ≡ Some m.life → MayFollow b v (cond t Begins Ends)
-reset_effect b v m true e life = (m.life, life, ltb-true _ _ e)
-reset_effect b v m false e life = (m.life, life)
+reset_follows : (b : BoardValue) (v : Values) (m : MessageValue) → v.life ≡ Some m.life
+    → MayFollow b v (message_effect b m (ack_by b v m kinds.Reset) kinds.Reset)
+reset_follows b v m life = grind (arith, nat_tests)
 
 -- a message of this life
 carried_out : (b : BoardValue) (v : Values) (m : MessageValue) (k : Kind) → ChildLaws b
@@ -49,14 +40,12 @@ carried_out : (b : BoardValue) (v : Values) (m : MessageValue) (k : Kind) → Ch
 carried_out b v m kinds.Down children laws life inside few parts =
     (is_front b v m.core.number m.parts children inside few (laws m.parts parts), (m.life, life))
 carried_out b v m kinds.Start children laws life inside few parts =
-    start_effect b v m (may_follow b v m.core.number m.number) refl inside (m.life, life)
+    start_follows b v m life inside
 carried_out b v m kinds.Off children laws life inside few parts = (m.life, life)
-carried_out b v m kinds.Reset children laws life inside few parts =
-    reset_effect b v m (nat_lt m.life b.lives) refl life
+carried_out b v m kinds.Reset children laws life inside few parts = reset_follows b v m life
 
 present : (o : Option ℕ) (l : ℕ) → is_this_life o l ≡ true → o ≡ Some l
-present None l e = absurd (let no : false ≡ true = e in cc)
-present (Some k) l e = ap Some (eqb-true k l e)
+present o l e = grind (arith, nat_tests)
 
 delivered : (b : BoardValue) (v : Values) (m : MessageValue) (t : Bool)
     → is_this_life v.life m.life ≡ t → ChildLaws b
@@ -69,12 +58,10 @@ delivered b v m true e children laws sendable =
     sendable.board.levels sendable.message.parts
 delivered b v m false e children laws sendable = tt
 
-kicked : (b : BoardValue) (v : Values) (c : ℕ) (cause : Cause) (t : Bool) (o : Option ℕ)
-    → v.life ≡ o → (t ≡ true → v.starts c < b.starts) → c < cores b
-    → MayFollow b v (kick_effect c cause (kick_if t o v c cause))
-kicked b v c cause true None e more inside = tt
-kicked b v c cause true (Some l) e more inside = (inside, more refl, (l, e))
-kicked b v c cause false o e more inside = tt
+kicked : (b : BoardValue) (v : Values) (c : ℕ) (cause : Cause) (t : Bool)
+    → (t ≡ true → v.starts c < b.starts) → c < cores b
+    → MayFollow b v (kick_effect c cause (kick_if t v.life v c cause))
+kicked b v c cause t more inside = grind arith
 
 pub follows : (b : BoardValue) (v : Values) (call : CtlCall) → ChildLaws b
     → ((ps : List Part) → AreClaims ps → PartByPart ps) → IsCall b call
@@ -83,8 +70,7 @@ unfolding effect_of reply delivery_of wake_of reset_of
 follows b v (calls.Deliver m) children laws is =
     delivered b v m (is_this_life v.life m.life) refl children laws is
 follows b v (calls.Wake core halted) children laws is =
-    kicked b v core.number causes.Wake (may_follow b v core.number halted) v.life refl
-    (λ e. ltb-true _ _ (and_parts (v.starts core.number == halted) _ e).1) is
+    kicked b v core.number causes.Wake (may_follow b v core.number halted)
+    (λ e. grind (arith, nat_tests)) is
 follows b v (calls.Reset core) children laws is =
-    kicked b v core.number causes.Reset (may_start b v core.number) v.life refl
-    (λ e. ltb-true _ _ e) is
+    kicked b v core.number causes.Reset (may_start b v core.number) (λ e. ltb-true _ _ e) is

@@ -1,105 +1,67 @@
 -- What the effect of the one reply leaves are values as they are kept.
-use Rattle.std.proofs.Common.{◌≡◌, ℕ, ◌+◌, ◌<◌, ◌≤◌, Bool, true, false, cond, ◌==◌}
-use Rattle.std.proofs.Common.{List, [], ◌∷◌, Option, Some, None, refl, ap, sym, ◌∙◌, subst, arith}
-use Rattle.std.specs.Prelude.{slice_get}
-use Rattle.std.proofs.lemmas.Bool.{eqb-true}
-use Rattle.std.proofs.lemmas.Option.{none-some, same_Some}
+use Rattle.std.proofs.Common.{◌<◌, ◌∙◌, ◌∷◌, ◌≡◌, ◌≤◌, [], ap, arith}
+use Rattle.std.proofs.Common.{List, None, Some, subst, sym, ℕ}
+use Rattle.std.proofs.lemmas.Bool.Decides.{nat_tests}
 use Rattle.psci_board.specs.Board.{BoardValue, IsBoard}
 use Rattle.psci_board.specs.Laws.{ChildLaws}
 use Rattle.psci_messages.specs.declared.part.Part.{Part}
 use Rattle.psci_messages.specs.Message.{AreClaims, PartByPart}
 use Rattle.psci_ctl_spec.specs.declared.call.CtlCall.{CtlCall}
-use Rattle.psci_ctl_spec.specs.Changes.{after, change, next_life}
-use Rattle.psci_ctl_spec.specs.Effects.{Effect, Nothing, Starts, Deepens, Ends, Begins, effect_of}
+use Rattle.psci_ctl_spec.specs.Changes.{after, change}
+use Rattle.psci_ctl_spec.specs.Effects.{Effect, effect_of}
 use Rattle.psci_ctl_spec.specs.Exchange.{CtlExchange}
 use Rattle.psci_ctl_spec.specs.Follows.{AreValues, MayFollow}
 use Rattle.psci_ctl_spec.specs.History.{values_of}
 use Rattle.psci_ctl_spec.specs.Legal.{IsCall, IsLegal}
 use Rattle.psci_ctl_spec.specs.Replies.{reply}
-use Rattle.psci_ctl_spec.specs.Values.{Values, start_of_life}
-use Rattle.psci_ctl_spec.specs.Parts.{depth_or}
-use Rattle.psci_board.specs.Paths.{is_on_path}
+use Rattle.psci_ctl_spec.specs.Values.{start_of_life, Values}
 use Rattle.psci_ctl_spec.proofs.Follows.{follows}
 use Rattle.psci_ctl_spec.proofs.OneMore.{first_values, values_more}
 
-one_few : (t : Bool) (most : ℕ) → 0 < most → cond t 1 0 ≤ most
-one_few true most h = omega arith
-one_few false most h = omega arith
-
-depth_few : (t : Bool) (x y : ℕ) → x ≤ 3 → y ≤ 3 → cond t x y ≤ 3
-depth_few true x y p q = p
-depth_few false x y p q = q
-
 pub first_kept : (b : BoardValue) → IsBoard b → AreValues b (start_of_life b)
 first_kept b board = record {
-  starts = λ c. one_few (c == 0) b.starts board.some_starts;
-  none = λ e. absurd (none-some 1 (sym e));
+  starts = λ c. grind (arith, board.some_starts);
+  none = λ e. absurd (cc);
   boot = λ l e. omega arith;
-  first = λ l e. omega (arith, same_Some 1 l e);
-  last = λ l e. omega (arith, same_Some 1 l e, board.some_lives);
-  deepest = λ l p. depth_few (is_on_path b 0 l p) 0 3 (omega arith) (omega arith);
+  first = λ l e. grind arith;
+  last = λ l e. grind (arith, board.some_lives);
+  deepest = λ l p. grind arith;
 }
 
--- a start: one more start of one core, of which there were fewer than the limit
-more_few : (t : Bool) (n most : ℕ) → n ≤ most → (t ≡ true → n < most) → cond t (n + 1) n ≤ most
-more_few true n most h here = omega (arith, here refl)
-more_few false n most h here = h
+-- what an effect leaves that may follow
+module _ (b : BoardValue) (v : Values) (e : Effect) where
+  starts_kept : 0 < b.starts → AreValues b v → MayFollow b v e → (k : ℕ)
+      → (change b e v).starts k ≤ b.starts
+  starts_kept some are may k = grind (arith, nat_tests, are.starts k)
 
-more_some : (t : Bool) (n : ℕ) → 0 < n → 0 < cond t (n + 1) n
-more_some true n h = omega arith
-more_some false n h = h
+  none_kept : AreValues b v → MayFollow b v e → (change b e v).life ≡ None → (k : ℕ)
+      → (change b e v).starts k ≡ 0
+  none_kept are may none k = grind (arith, are.none)
 
-part_few : (o : Option Part) (old : ℕ) → ((p : Part) → o ≡ Some p → p.depth ≤ 3) → old ≤ 3
-    → depth_or o old ≤ 3
-part_few None old h q = q
-part_few (Some p) old h q = h p refl
+  boot_kept : AreValues b v → MayFollow b v e → (l : ℕ) → (change b e v).life ≡ Some l
+      → 0 < (change b e v).starts 0
+  boot_kept are may l at = grind (arith, are.boot)
 
-next_some : (o : Option ℕ) (l k : ℕ) → o ≡ Some l → next_life o ≡ Some k → k ≡ l + 1
-next_some None l k e f = absurd (none-some l e)
-next_some (Some j) l k e f = omega (arith, same_Some j l e, same_Some (j + 1) k f)
+  first_life_kept : AreValues b v → MayFollow b v e → (l : ℕ) → (change b e v).life ≡ Some l
+      → 0 < l
+  first_life_kept are may l at = grind (arith, are.first)
 
-next_none : (o : Option ℕ) (l : ℕ) → o ≡ Some l → next_life o ≡ None → ⊥
-next_none None l e f = none-some l e
-next_none (Some j) l e f = none-some (j + 1) (sym f)
+  last_kept : AreValues b v → MayFollow b v e → (l : ℕ) → (change b e v).life ≡ Some l
+      → l ≤ b.lives
+  last_kept are may l at = grind (arith, are.last)
+
+  deepest_kept : AreValues b v → MayFollow b v e → (l p : ℕ) → (change b e v).depth l p ≤ 3
+  deepest_kept are may l p = grind (arith, are.deepest l p)
 
 pub change_kept : (b : BoardValue) (v : Values) (e : Effect) → IsBoard b → AreValues b v
     → MayFollow b v e → AreValues b (change b e v)
-change_kept b v Nothing board are may = are
-change_kept b v (Starts c cause) board are may = record {
-  starts = λ k. more_few (k == c) (v.starts k) b.starts (are.starts k)
-      (λ t. subst (λ i. v.starts i < b.starts) (sym (eqb-true k c t)) may.1);
-  none = λ e. absurd (none-some may.2.0 (sym e ∙ may.2.1));
-  boot = λ l e. more_some (0 == c) (v.starts 0) (are.boot l e);
-  first = are.first;
-  last = are.last;
-  deepest = λ l p. depth_few (is_on_path b c l p) 0 (v.depth l p) (omega arith) (are.deepest l p);
-}
-change_kept b v (Deepens c ps) board are may = record {
-  starts = are.starts;
-  none = are.none;
-  boot = are.boot;
-  first = are.first;
-  last = are.last;
-  deepest = λ l p. depth_few (is_on_path b c l p) (depth_or (slice_get ps l) (v.depth l p))
-      (v.depth l p)
-      (part_few (slice_get ps l) (v.depth l p) (λ q e. may.0.deepest l q e) (are.deepest l p))
-      (are.deepest l p);
-}
-change_kept b v Ends board are may = record {
-  starts = λ k. omega arith;
-  none = λ e k. refl;
-  boot = λ l e. absurd (none-some l e);
-  first = λ l e. absurd (none-some l e);
-  last = λ l e. absurd (none-some l e);
-  deepest = are.deepest;
-}
-change_kept b v Begins board are may = record {
-  starts = λ c. one_few (c == 0) b.starts board.some_starts;
-  none = λ e. absurd (next_none v.life may.0 may.1 e);
-  boot = λ l e. omega arith;
-  first = λ l e. omega (arith, next_some v.life may.0 l may.1 e);
-  last = λ l e. omega (arith, next_some v.life may.0 l may.1 e, may.2);
-  deepest = λ l p. depth_few (is_on_path b 0 l p) 0 3 (omega arith) (omega arith);
+change_kept b v e board are may = record {
+  starts = λ k. starts_kept b v e board.some_starts are may k;
+  none = λ none k. none_kept b v e are may none k;
+  boot = λ l at. boot_kept b v e are may l at;
+  first = λ l at. first_life_kept b v e are may l at;
+  last = λ l at. last_kept b v e are may l at;
+  deepest = λ l p. deepest_kept b v e are may l p;
 }
 
 pub reply_kept : (b : BoardValue) (v : Values) (call : CtlCall) → IsBoard b → ChildLaws b

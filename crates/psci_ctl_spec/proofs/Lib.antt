@@ -7,11 +7,8 @@ pub mod Kept
 mod LegalRows
 pub mod Nested
 pub mod OneMore
-pub mod OneReply
 pub mod Past
-pub mod Paths
 mod ScriptRows
-pub mod StartLaws
 pub mod Steps
 pub mod Sums
 mod ValueRows

@@ -1,14 +1,14 @@
 -- No domain is deeper than the domain below it, as long as none is made shallower but by a start.
-use Rattle.std.proofs.Common.{◌≡◌, ℕ, suc, ◌<◌, ◌≤◌, Bool, true, false, cond, List, [], ◌∷◌}
-use Rattle.std.proofs.Common.{Option, Some, refl, ap, sym, subst, arith, inl, inr}
+use Rattle.std.proofs.Common.{◌<◌, ◌∷◌, ◌≡◌, ◌≤◌, [], ap, arith, Bool, cond, false, List}
+use Rattle.std.proofs.Common.{Option, refl, Some, subst, suc, sym, true, ℕ}
 use Rattle.std.specs.Prelude.{slice_get}
-use Rattle.std.proofs.lemmas.Bool.{cases_Bool}
-use Rattle.psci_board.specs.Board.{BoardValue, cores, height, up}
+use Rattle.std.proofs.lemmas.Bool.Decides.{nat_tests}
+use Rattle.psci_board.specs.Board.{BoardValue, height, up}
 use Rattle.psci_board.specs.Laws.{ChildLaws, PathLaws}
 use Rattle.psci_messages.specs.declared.part.Part.{Part}
 use Rattle.psci_messages.specs.Message.{AreClaims, PartByPart}
 use Rattle.psci_ctl_spec.specs.Changes.{after, change}
-use Rattle.psci_ctl_spec.specs.Effects.{Effect, Nothing, Starts, Deepens, Ends, Begins, effect_of}
+use Rattle.psci_ctl_spec.specs.Effects.{Begins, Deepens, Effect, effect_of, Ends, Nothing, Starts}
 use Rattle.psci_ctl_spec.specs.Exchange.{CtlExchange}
 use Rattle.psci_ctl_spec.specs.Follows.{IsFront, MayFollow}
 use Rattle.psci_ctl_spec.specs.History.{depth, values_of}
@@ -19,31 +19,28 @@ use Rattle.psci_ctl_spec.specs.Values.{Values}
 use Rattle.psci_board.specs.Paths.{is_on_path}
 use Rattle.psci_ctl_spec.proofs.Follows.{follows}
 use Rattle.psci_ctl_spec.proofs.OneMore.{values_more}
-use Rattle.psci_ctl_spec.proofs.Paths.{off_path, path_place}
+use Rattle.psci_ctl_spec.proofs.Sums.{off_path, path_place}
 
 -- A path that a domain is off, its children are off too
 child_off : (b : BoardValue) (c x k : ℕ) → PathLaws b → k < height b
     → is_on_path b c (suc k) (up b (suc k) x) ≡ false
     → is_on_path b c k (up b k x) ≡ false
-child_off b c x k laws low off = elim (cases_Bool (is_on_path b c k (up b k x))) [
-  | inl on ↦ absurd (off_path b c (suc k) (up b (suc k) x) off (omega arith)
-      (laws.joined c x k (path_place b c k (up b k x) on)))
-  | inr e ↦ e
-]
+child_off b c x k laws low off =
+    grind (arith, nat_tests, laws.joined c x k, off_path b c (suc k) (up b (suc k) x) off)
+
+cut_falls : (b : BoardValue) (c x k : ℕ) (d : ℕ → ℕ → ℕ)
+    → (is_on_path b c (suc k) (up b (suc k) x) ≡ false → is_on_path b c k (up b k x) ≡ false)
+    → d (suc k) (up b (suc k) x) ≤ d k (up b k x)
+    → cond (is_on_path b c (suc k) (up b (suc k) x)) 0 (d (suc k) (up b (suc k) x))
+    ≤ cond (is_on_path b c k (up b k x)) 0 (d k (up b k x))
+cut_falls b c x k d off falls = grind arith
 
 -- where a path is cut out of depths that are nested
 cut_nested : (b : BoardValue) (c : ℕ) (d : ℕ → ℕ → ℕ) → PathLaws b → IsNested b d
     → IsNested b (λ l p. cond (is_on_path b c l p) 0 (d l p))
 cut_nested b c d laws is = record {
-  falls = λ x k inside low. elim (cases_Bool (is_on_path b c (suc k) (up b (suc k) x))) [
-    | inl on ↦ omega (arith, ap (λ t. cond t 0 (d (suc k) (up b (suc k) x))) on)
-    | inr off ↦ omega (
-      arith,
-      ap (λ t. cond t 0 (d (suc k) (up b (suc k) x))) off,
-      ap (λ t. cond t 0 (d k (up b k x))) (child_off b c x k laws low off),
-      is.falls x k inside low,
-    )
-  ];
+  falls = λ x k inside low.
+      cut_falls b c x k d (child_off b c x k laws low) (is.falls x k inside low);
 }
 
 whole_nested : (b : BoardValue) (n : ℕ) → IsNested b (λ l p. n)
@@ -51,41 +48,34 @@ whole_nested b n = record { falls = λ x k inside low. omega arith }
 
 -- where parts are laid on a path
 module _ (b : BoardValue) (c : ℕ) (ps : List Part) (d : ℕ → ℕ → ℕ) where
-  abbrev lay : Bool → Option Part → ℕ → ℕ
-  lay t o old = cond t (depth_or o old) old
+  deeper : (l x : ℕ) → ((p : Part) → slice_get ps l ≡ Some p → d l (up b l c) ≤ p.depth)
+      → d l (up b l x) ≤ laid b c ps d l (up b l x)
+  deeper l x deep = grind (arith, deep, path_place b c l (up b l x))
 
-  deeper : (l x : ℕ) (t : Bool) (o : Option Part) → is_on_path b c l (up b l x) ≡ t
-      → slice_get ps l ≡ o
-      → ((p : Part) → slice_get ps l ≡ Some p → d l (up b l c) ≤ p.depth)
-      → d l (up b l x) ≤ lay t o (d l (up b l x))
-  deeper l x true (Some p) on at deep =
-      omega (arith, deep p at, ap (d l) (path_place b c l (up b l x) on))
-  deeper l x t o on at deep = omega arith
-
-  parent_laid : (k x : ℕ) (t : Bool) (o : Option Part) → PathLaws b → IsNested b d
-      → x < cores b → k < height b
-      → is_on_path b c (suc k) (up b (suc k) x) ≡ t → slice_get ps (suc k) ≡ o
+  parent_laid : (k x : ℕ) → d (suc k) (up b (suc k) x) ≤ d k (up b k x)
       → ((p : Part) → slice_get ps (suc k) ≡ Some p → up b (suc k) x ≡ up b (suc k) c
       → p.depth ≤ laid b c ps d k (up b k x))
-      → (d k (up b k x) ≤ laid b c ps d k (up b k x))
-      → lay t o (d (suc k) (up b (suc k) x)) ≤ laid b c ps d k (up b k x)
-  parent_laid k x true (Some p) laws is inside low on at covered deep =
-      covered p at (sym (path_place b c (suc k) (up b (suc k) x) on))
-  parent_laid k x t o laws is inside low on at covered deep =
-      omega (arith, is.falls x k inside low, deep)
+      → d k (up b k x) ≤ laid b c ps d k (up b k x)
+      → laid b c ps d (suc k) (up b (suc k) x) ≤ laid b c ps d k (up b k x)
+  parent_laid k x falls covered deep = by_parts (is_on_path b c (suc k) (up b (suc k) x))
+      (slice_get ps (suc k)) refl refl
+    where
+      by_parts : (t : Bool) (o : Option Part) → is_on_path b c (suc k) (up b (suc k) x) ≡ t
+          → slice_get ps (suc k) ≡ o
+          → cond t (depth_or o (d (suc k) (up b (suc k) x))) (d (suc k) (up b (suc k) x))
+          ≤ laid b c ps d k (up b k x)
+      by_parts true (Some p) on at = covered p at (sym (path_place b c (suc k) _ on))
+      by_parts t o on at = omega (arith, falls, deep)
 
   laid_nested : (v : Values) → PathLaws b → IsNested b d → IsFront b v c ps
       → v.depth ≡ d
       → ((l : ℕ) (p : Part) → slice_get ps l ≡ Some p → l ≤ height b → d l (up b l c) ≤ p.depth)
       → IsNested b (laid b c ps d)
   laid_nested v laws is front same deep = record {
-    falls = λ x k inside low.
-        parent_laid k x (is_on_path b c (suc k) (up b (suc k) x)) (slice_get ps (suc k)) laws is
-        inside low refl refl
+    falls = λ x k inside low. parent_laid k x (is.falls x k inside low)
         (λ p at s. subst (λ f. p.depth ≤ laid b c ps f k (up b k x)) same
         (front.covered k x p at inside s))
-        (deeper k x (is_on_path b c k (up b k x)) (slice_get ps k) refl refl
-        (λ p at. deep k p at (omega arith)));
+        (deeper k x (λ p at. deep k p at (omega arith)));
   }
 
 pub change_nested : (b : BoardValue) (v : Values) (f : Effect) → PathLaws b → IsNested b v.depth

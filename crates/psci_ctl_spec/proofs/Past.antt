@@ -1,11 +1,10 @@
 -- A part that was live and is no more is never live again.
-use Rattle.std.proofs.Common.{◌≡◌, ℕ, ◌+◌, ◌<◌, ◌≤◌, Bool, true, false, cond, ◌==◌, List, [], ◌∷◌}
-use Rattle.std.proofs.Common.{◌++◌, Option, Some, None, option_map, sym, subst, arith}
-use Rattle.std.proofs.Common.{inl, inr, ◌⊎◌}
-use Rattle.std.proofs.lemmas.Option.{none-some, same_Some}
+use Rattle.std.proofs.Common.{◌++◌, ◌<◌, ◌∷◌, ◌≡◌, ◌≤◌, ◌⊎◌, [], arith}
+use Rattle.std.proofs.Common.{inl, inr, List, None, Option, Some}
+use Rattle.std.proofs.Common.{ℕ}
 use Rattle.psci_board.specs.Board.{BoardValue}
 use Rattle.psci_board.specs.declared.node.Node.{Node}
-use Rattle.psci_ctl_spec.specs.Effects.{Effect, Starts, Ends, Begins}
+use Rattle.psci_ctl_spec.specs.Effects.{Effect}
 use Rattle.psci_ctl_spec.specs.Exchange.{CtlExchange}
 use Rattle.psci_ctl_spec.specs.History.{effect_in, life, life_by, starts, starts_by}
 use Rattle.psci_ctl_spec.specs.Lasting.{IsLive}
@@ -18,10 +17,7 @@ IsOver None was = Unit {0}
 IsOver (Some l) was = was < l
 
 over_stays : (f : Effect) (o : Option ℕ) (was : ℕ) → IsOver o was → IsOver (life_by f o) was
-over_stays Ends o was h = tt
-over_stays Begins None was h = tt
-over_stays Begins (Some l) was h = omega (arith, h)
-over_stays f o was h = h
+over_stays f o was h = grind arith
 
 over_later : (b : BoardValue) (es h : List CtlExchange) (was : ℕ) → IsOver (life b h) was
     → IsOver (life b (es ++ h)) was
@@ -30,16 +26,11 @@ over_later b (e ∷ es) h was over =
     over_stays (effect_in b e) (life b (es ++ h)) was (over_later b es h was over)
 
 over_not : (o : Option ℕ) (was : ℕ) → IsOver o was → o ≡ Some was → ⊥
-over_not None was h e = none-some was e
-over_not (Some l) was h e = omega (arith, h, same_Some l was e)
+over_not o was h e = grind arith
 
 -- in a life starts only grow
 record IsLater (now then_ : ℕ → ℕ) : Type 0 where
   grown : (k : ℕ) → then_ k ≤ now k
-
-grows_by : (t : Bool) (n m : ℕ) → n ≤ m → n ≤ cond t (m + 1) m
-grows_by true n m h = omega arith
-grows_by false n m h = h
 
 -- either the life is over, or it goes on and no core has fewer starts
 abbrev Later : BoardValue → List CtlExchange → List CtlExchange → ℕ → Type 0
@@ -50,12 +41,7 @@ one_later : (b : BoardValue) (f : Effect) (o : Option ℕ) (s t : ℕ → ℕ) (
     → IsLater s t
     → IsOver (life_by f o) was
     ⊎ ((life_by f o ≡ Some was) × IsLater (λ k. starts_by k f (s k)) t)
-one_later b (Starts c cause) o s t was e later =
-    inr (e, record { grown = λ k. grows_by (k == c) (t k) (s k) (later.grown k) })
-one_later b Ends o s t was e later = inl tt
-one_later b Begins o s t was e later =
-    inl (subst (λ p. IsOver (option_map (λ l. l + 1) p) was) (sym e) (omega arith))
-one_later b f o s t was e later = inr (e, later)
+one_later b f o s t was e later = grind (arith, later.grown)
 
 later : (b : BoardValue) (es h : List CtlExchange) (was : ℕ) → life b h ≡ Some was
     → Later b (es ++ h) h was

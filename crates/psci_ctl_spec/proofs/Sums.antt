@@ -1,15 +1,32 @@
--- The sum of the starts below a domain.
-use Rattle.std.proofs.Common.{◌≡◌, ℕ, zero, suc, ◌+◌, ◌*◌, ◌<◌, ◌≤◌, Bool, true, false, cond}
-use Rattle.std.proofs.Common.{◌==◌, List, ◌∷◌, filter, refl, ap, sym, ◌∙◌, arith, inl, inr}
-use Rattle.std.specs.List.{sum_by, range_with_len}
-use Rattle.std.proofs.lemmas.Bool.{cases_eq, eq-eqb, ne_eqb, eqb-true}
+-- The sum of the starts below a domain, which domains are on the path of a core, and what a start of
+-- a core changes of depths and generations.
+use Rattle.std.proofs.Common.{◌*◌, ◌+◌, ◌<◌, ◌==◌, ◌∙◌, ◌∷◌, ◌≡◌, ◌≤◌, add-zero, ap, arith, Bool}
+use Rattle.std.proofs.Common.{cond, false, filter, inl, inr, List, refl, suc, sym, true, zero, ℕ}
+use Rattle.std.proofs.lemmas.Bool.{cases_eq, eq-eqb, eqb-true, ne_eqb}
+use Rattle.std.proofs.lemmas.Bool.Decides.{nat_tests}
+use Rattle.std.specs.List.{range_with_len, sum_by}
 use Rattle.std.proofs.lemmas.List.Sums.{sum_by-cons}
-use Rattle.psci_board.specs.declared.node.Node.{Node}
 use Rattle.psci_board.specs.Board.{BoardValue, cores, height, place_above, up}
-use Rattle.psci_ctl_spec.specs.Changes.{one_more}
-use Rattle.psci_ctl_spec.specs.Values.{starts_below}
 use Rattle.psci_board.specs.Paths.{is_on_path}
-use Rattle.psci_ctl_spec.proofs.Paths.{off_path, path_place}
+use Rattle.psci_board.specs.declared.node.Node.{Node}
+use Rattle.psci_ctl_spec.specs.Changes.{one_more}
+use Rattle.psci_ctl_spec.specs.Values.{starts_below, Values}
+use Rattle.psci_messages.specs.declared.start.Cause.{Cause}
+use Rattle.psci_ctl_spec.specs.Laws.{StartLaws, SumLaws}
+
+-- Paths ---------------------------------------------------------------------------------------
+
+pub on_path : (b : BoardValue) (c level place : ℕ) → level ≤ height b → up b level c ≡ place
+    → is_on_path b c level place ≡ true
+on_path b c level place low e = grind (arith, nat_tests)
+
+pub path_place : (b : BoardValue) (c level place : ℕ) → is_on_path b c level place ≡ true
+    → up b level c ≡ place
+path_place b c level place e = grind (arith, nat_tests)
+
+pub off_path : (b : BoardValue) (c level place : ℕ) → is_on_path b c level place ≡ false
+    → level ≤ height b → up b level c ≡ place → ⊥
+off_path b c level place e low s = grind (arith, nat_tests)
 
 -- Sums over the numbers that a filter keeps of a range ---------------------------------------
 
@@ -18,8 +35,7 @@ kept test a n = filter test (range_with_len a n)
 
 kept_le : (f g : ℕ → ℕ) (b : Bool) (a : ℕ) (xs : List ℕ) → f a ≤ g a
     → sum_by f xs ≤ sum_by g xs → sum_by f (cond b (a ∷ xs) xs) ≤ sum_by g (cond b (a ∷ xs) xs)
-kept_le f g true a xs h e = omega (arith, sum_by-cons f a xs, sum_by-cons g a xs, h, e)
-kept_le f g false a xs h e = e
+kept_le f g b a xs h e = grind (arith, sum_by-cons f a xs, sum_by-cons g a xs)
 
 pub sum_le : (f g : ℕ → ℕ) (test : ℕ → Bool) (a n : ℕ) → ((c : ℕ) → f c ≤ g c)
     → sum_by f (kept test a n) ≤ sum_by g (kept test a n)
@@ -29,8 +45,7 @@ sum_le f g test a (suc n) h =
 
 kept_most : (f : ℕ → ℕ) (b : Bool) (a n most : ℕ) (xs : List ℕ) → f a ≤ most
     → sum_by f xs ≤ n * most → sum_by f (cond b (a ∷ xs) xs) ≤ suc n * most
-kept_most f true a n most xs h e = omega (arith, sum_by-cons f a xs, h, e)
-kept_most f false a n most xs h e = omega (arith, h, e)
+kept_most f b a n most xs h e = grind (arith, sum_by-cons f a xs)
 
 sum_most : (f : ℕ → ℕ) (most : ℕ) (test : ℕ → Bool) (a n : ℕ) → ((c : ℕ) → f c ≤ most)
     → sum_by f (kept test a n) ≤ n * most
@@ -40,8 +55,7 @@ sum_most f most test a (suc n) h =
 
 kept_same : (f g : ℕ → ℕ) (b : Bool) (a : ℕ) (xs : List ℕ) → (b ≡ true → f a ≡ g a)
     → sum_by f xs ≡ sum_by g xs → sum_by f (cond b (a ∷ xs) xs) ≡ sum_by g (cond b (a ∷ xs) xs)
-kept_same f g true a xs h e = omega (arith, sum_by-cons f a xs, sum_by-cons g a xs, h refl, e)
-kept_same f g false a xs h e = e
+kept_same f g b a xs h e = grind (arith, sum_by-cons f a xs, sum_by-cons g a xs)
 
 pub sum_same : (f g : ℕ → ℕ) (test : ℕ → Bool) (a n : ℕ)
     → ((c : ℕ) → a ≤ c → test c ≡ true → f c ≡ g c)
@@ -54,14 +68,13 @@ sum_same f g test a (suc n) h =
 kept_once : (f g : ℕ → ℕ) (b : Bool) (a : ℕ) (xs : List ℕ) → b ≡ true
     → sum_by f xs ≡ sum_by g xs
     → sum_by f (cond b (a ∷ xs) xs) + g a ≡ sum_by g (cond b (a ∷ xs) xs) + f a
-kept_once f g true a xs h e = omega (arith, sum_by-cons f a xs, sum_by-cons g a xs, e)
-kept_once f g false a xs h e = absurd (let no : false ≡ true = h in cc)
+kept_once f g b a xs h e = grind (arith, sum_by-cons f a xs, sum_by-cons g a xs)
 
 kept_beside : (f g : ℕ → ℕ) (b : Bool) (a x y : ℕ) (xs : List ℕ) → f a ≡ g a
     → sum_by f xs + x ≡ sum_by g xs + y
     → sum_by f (cond b (a ∷ xs) xs) + x ≡ sum_by g (cond b (a ∷ xs) xs) + y
-kept_beside f g true a x y xs h e = omega (arith, sum_by-cons f a xs, sum_by-cons g a xs, h, e)
-kept_beside f g false a x y xs h e = e
+kept_beside f g b a x y xs h e =
+    grind (arith, sum_by-cons f a xs, sum_by-cons g a xs)
 
 -- where two numbers differ at one place alone, so do the sums
 sum_once : (f g : ℕ → ℕ) (test : ℕ → Bool) (a n k : ℕ) → a ≤ k → k < a + n → test k ≡ true
@@ -99,15 +112,14 @@ unfolding starts_below
 starts_few b starts most h n = sum_most starts most (is_below b n.level n.place) 0 (cores b) h
 
 one_here : (starts : ℕ → ℕ) (c : ℕ) → one_more starts c c ≡ starts c + 1
-one_here starts c = rw (eq-eqb c c refl) refl
+one_here starts c = grind (arith, nat_tests)
 
 one_there : (starts : ℕ → ℕ) (c k : ℕ) → (k ≡ c → ⊥) → one_more starts c k ≡ starts k
-one_there starts c k e = rw (ne_eqb k c e) refl
+one_there starts c k e = grind (arith, nat_tests)
 
 on_or_off : (s t g : ℕ) (x : Bool) → (x ≡ true → s ≡ t + g) → (x ≡ false → s ≡ t)
     → s ≡ t + cond x g 0
-on_or_off s t g true here apart = here refl
-on_or_off s t g false here apart = omega (arith, apart refl)
+on_or_off s t g x here apart = grind arith
 
 pub starts_more : (b : BoardValue) (starts : ℕ → ℕ) (c level place : ℕ) → c < cores b
     → level ≤ height b
@@ -154,3 +166,30 @@ pub starts_own : (b : BoardValue) (starts : ℕ → ℕ) (c : ℕ) → c < cores
     → starts_below b starts (record { level = 0; place = c }) ≡ starts c
 unfolding starts_below
 starts_own b starts c inside = only_own starts 0 (cores b) c (omega arith) (omega arith)
+
+-- Laws ----------------------------------------------------------------------------------------
+
+pub sum_laws : (b : BoardValue) → SumLaws b
+sum_laws b = record {
+  none = starts_none b;
+  own = starts_own b;
+  more = starts_more b;
+  grows = starts_grow b;
+  few = starts_few b;
+}
+
+pub start_laws : (b : BoardValue) (v : Values) (c : ℕ) (cause : Cause) → c < cores b
+    → StartLaws b v c cause
+start_laws b v c cause inside = record {
+  runs = λ l low.
+      ap (λ t. cond t 0 (v.depth l (up b l c))) (on_path b c l (up b l c) low refl);
+  counts = λ l low.
+      starts_more b v.starts c l (up b l c) inside low
+      ∙ ap (λ t. starts_below b v.starts (record { level = l; place = up b l c }) + cond t 1 0)
+      (on_path b c l (up b l c) low refl);
+  depth = λ l p e. ap (λ t. cond t 0 (v.depth l p)) e;
+  generation = λ l p low e.
+      starts_more b v.starts c l p inside low
+      ∙ ap (λ t. starts_below b v.starts (record { level = l; place = p }) + cond t 1 0) e
+      ∙ add-zero (starts_below b v.starts (record { level = l; place = p }));
+}

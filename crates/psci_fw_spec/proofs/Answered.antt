@@ -1,29 +1,25 @@
 -- What a function answers a running caller leaves values such as the firmware keeps.
-use Rattle.std.specs.Prelude.{Err, IsTrue}
-use Rattle.psci_fw_spec.proofs.Words.{◌<◌, ◌==◌, ◌↔◌, ◌∙◌, ◌≡◌, ◌≤◌, ◌⊎◌, [], ap, AreValues, arith}
-use Rattle.psci_fw_spec.proofs.Words.{ask_named, Away, BoardValue, Bool, change, Code, cond, Core}
-use Rattle.psci_fw_spec.proofs.Words.{core_of, cores, deepest_of, Effect, false, function_effect}
-use Rattle.psci_fw_spec.proofs.Words.{function_outcome, GoesOn, height, inl, inr, invalid_address}
-use Rattle.psci_fw_spec.proofs.Words.{is_deep, is_some, IsAsk, IsPhase, List, may_enter}
-use Rattle.psci_fw_spec.proofs.Words.{message_for, mode_of, None, off_message, off_target, Ok}
-use Rattle.psci_fw_spec.proofs.Words.{Opening, Option, outcome_of, Part, Pending, Phase, PowerOn}
-use Rattle.psci_fw_spec.proofs.Words.{refl, Request, rest_named, Rests, Result, Running, Some}
-use Rattle.psci_fw_spec.proofs.Words.{start_outcome, Status, subst, suc, suspend_asked}
-use Rattle.psci_fw_spec.proofs.Words.{suspend_parts, Suspended, sym, system_reset2, system_suspend}
-use Rattle.psci_fw_spec.proofs.Words.{target_among, true, updated, Values, with_pending, zero, ℕ}
-use Rattle.psci_abi.specs.Codes.{internal_failure}
-use Rattle.psci_state.specs.Ask.{highest_of, is_ask}
+use Rattle.std.specs.Prelude.{Err}
+use Rattle.psci_fw_spec.proofs.Words.{◌<◌, ◌≡◌, ◌≤◌, ◌⊎◌, [], AreValues, arith, ask_named, Away}
+use Rattle.psci_fw_spec.proofs.Words.{BoardValue, Bool, change, Code, cond, Core, core_of, cores}
+use Rattle.psci_fw_spec.proofs.Words.{deepest_of, Effect, false, function_effect, function_outcome}
+use Rattle.psci_fw_spec.proofs.Words.{GoesOn, height, inr, is_deep, is_some, IsAsk, IsPhase, List}
+use Rattle.psci_fw_spec.proofs.Words.{message_for, mode_of, None, off_message, Ok, Opening}
+use Rattle.psci_fw_spec.proofs.Words.{outcome_of, Part, Pending, PowerOn, refl, Request, rest_named}
+use Rattle.psci_fw_spec.proofs.Words.{Rests, Result, Running, Some, start_outcome, subst}
+use Rattle.psci_fw_spec.proofs.Words.{suspend_asked, suspend_parts, Suspended, sym, system_reset2}
+use Rattle.psci_fw_spec.proofs.Words.{system_suspend, updated, Values, with_pending, ℕ}
+use Rattle.psci_state.specs.Ask.{highest_of}
 use Rattle.psci_fw_spec.specs.CpuOn.{target_of}
 use Rattle.psci_fw_spec.specs.Effects.{going_off, suspends}
-use Rattle.psci_fw_spec.proofs.Asked.{Known, asked_running, asks_at}
+use Rattle.psci_fw_spec.proofs.Asked.{Known}
 use Rattle.psci_fw_spec.proofs.Endings.{outcome_ends, reset2_ends, suspend_ends, system_ends}
-use Rattle.psci_fw_spec.proofs.Changing.{kept_halting, kept_leaving, kept_on, kept_pending}
-use Rattle.psci_fw_spec.proofs.Modes.{kept_by_mode}
+use Rattle.psci_fw_spec.proofs.Changing.{kept_by_mode, kept_halting, kept_leaving, kept_on}
+use Rattle.psci_fw_spec.proofs.Changing.{kept_pending}
+use Rattle.psci_fw_spec.proofs.Granting.{ran_asks, ran_left}
 use Rattle.psci_fw_spec.proofs.Stopping.{held_of, kept_resting, off_held, suspend_held}
-use Rattle.psci_fw_spec.proofs.Updates.{ran_left}
 use Rattle.psci_abi.specs.declared.request.Request.TheVariants as requests
 use Rattle.psci_messages.specs.declared.kind.Kind.TheVariants as kinds
-use Rattle.psci_fw_spec.specs.declared.status.Status.TheVariants as statuses
 
 -- a running caller, in a life that is not halting
 pub record IsCalling (b : BoardValue) (v : Values) (c : ℕ) : Type 0 where
@@ -43,8 +39,7 @@ goes_on b v c is = kept_on b v c (inr is.runs) is.are
 -- Suspending ----------------------------------------------------------------------------------
 
 opens_where_deep : (o : Opening) (t : Bool) → is_some (cond t (Some o) None) ≡ t
-opens_where_deep o true = refl
-opens_where_deep o false = refl
+opens_where_deep o t = grind arith
 
 rests_kept : (b : BoardValue) (v : Values) (c : ℕ) (o : Opening) (ask : List ℕ)
     (parts : List Part) → IsCalling b v c → IsPhase b (Suspended ask)
@@ -76,13 +71,8 @@ suspend_kept b v c state entry_point context is asks =
     opening = record { address = entry_point; context = context }
 
 -- power-down of all levels is an ask of each board
-pub deepest_is : (h : ℕ) → h ≤ 3 → ((depths : List ℕ) → IsTrue (is_ask depths) ↔ IsAsk depths)
-    → IsAsk (deepest_of h) × (highest_of (deepest_of h) ≤ h)
-deepest_is zero i test = ((test (deepest_of 0)).0 refl, omega arith)
-deepest_is (suc zero) i test = ((test (deepest_of 1)).0 refl, omega arith)
-deepest_is (suc (suc zero)) i test = ((test (deepest_of 2)).0 refl, omega arith)
-deepest_is (suc (suc (suc zero))) i test = ((test (deepest_of 3)).0 refl, omega arith)
-deepest_is (suc (suc (suc (suc h)))) i test = absurd (omega arith)
+pub deepest_is : (h : ℕ) → h ≤ 3 → IsAsk (deepest_of h) × (highest_of (deepest_of h) ≤ h)
+deepest_is h i = grind arith
 
 suspend_all_kept : (b : BoardValue) (v : Values) (c entry_point context : ℕ) → IsCalling b v c
     → IsPhase b (Suspended (deepest_of (height b)))
@@ -99,42 +89,20 @@ suspend_all_kept b v c entry_point context is asks =
 
 -- CPU_ON --------------------------------------------------------------------------------------
 
-off_within : (b : BoardValue) (v : Values) (core t : Core) (s : Status)
-    → off_target b v core s ≡ Ok t → core ≡ t
-off_within b v core t statuses.Off e = by_test (v.known core.number == b.starts) e
-  where
-    by_test : (spent : Bool) → cond spent (Err internal_failure) (Ok core) ≡ Ok t → core ≡ t
-    by_test true e = absurd (cc e)
-    by_test false e = cc e
-off_within b v core t s e = absurd (cc e)
-
-among_within : (b : BoardValue) (v : Values) (entry_point : ℕ) (o : Option Core) (t : Core)
-    → target_among b v entry_point o ≡ Ok t → o ≡ Some t
-among_within b v entry_point None t e = absurd (cc e)
-among_within b v entry_point (Some core) t e = by_test (may_enter b entry_point) e
-  where
-    by_test : (may : Bool)
-        → cond may (off_target b v core (v.status core.number)) (Err invalid_address) ≡ Ok t
-        → ◌≡◌ {A = Option Core} (Some core) (Some t)
-    by_test true e = ap Some (off_within b v core t (v.status core.number) e)
-    by_test false e = absurd (cc e)
+core_asked : (b : BoardValue) (v : Values) (word entry_point : ℕ) (t : Core)
+    → target_of b v word entry_point ≡ Ok t → core_of b word ≡ Some t
+unfolding target_of
+core_asked b v word entry_point t e = grind arith
 
 -- the target of a CPU_ON that is accepted is a core of the board
 target_within : (b : BoardValue) (v : Values) (word entry_point : ℕ) (t : Core) → Known b
     → target_of b v word entry_point ≡ Ok t → t.number < cores b
-unfolding target_of
-target_within b v word entry_point t known e =
-    known.words.core word t (among_within b v entry_point (core_of b word) t e)
+target_within b v word entry_point t known e = known.words.core word t (core_asked b v word entry_point t e)
 
 -- the caller runs on, unless it asked itself on
 runs_on : (v : Values) (c t : ℕ) → v.phase c ≡ Running
     → (updated v.phase t Pending c ≡ Pending) ⊎ (updated v.phase t Pending c ≡ Running)
-runs_on v c t runs = by_test (c == t)
-  where
-    by_test : (itself : Bool) → (cond itself Pending (v.phase c) ≡ Pending)
-        ⊎ (cond itself Pending (v.phase c) ≡ Running)
-    by_test true = inl refl
-    by_test false = inr runs
+runs_on v c t runs = grind arith
 
 on_kept : (b : BoardValue) (v : Values) (c word entry_point context : ℕ)
     (t : Result Core Code) → IsCalling b v c → target_of b v word entry_point ≡ t
@@ -170,7 +138,7 @@ off_kept b v c is =
     kept_resting b v c going_off (off_message b v c) is.known is.runs is.awake is.are refl tt refl
     (off_held b v v.phase c is.known is.on (ran_left (v.phase c) Away is.runs)
     (λ x other. refl) is.are.phase
-    (ap (λ (p : Phase). asks_at b p 0) is.runs ∙ asked_running b 0)
+    (ran_asks b (v.phase c) is.runs)
     (held_of b v is.known is.are is.awake))
 
 -- what the words of a power state ask

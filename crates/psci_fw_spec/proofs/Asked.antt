@@ -1,11 +1,10 @@
 -- What cores ask of the domains on their paths, by their phases.
 use Rattle.std.specs.Prelude.{slice_index}
-use Rattle.psci_fw_spec.proofs.Words.{◌+◌, ◌<◌, ◌∙◌, ◌≡◌, ◌≤◌, activity_of, ap, AreClaims, arith}
-use Rattle.psci_fw_spec.proofs.Words.{Away, BoardValue, Bool, cond, cores, domain_of, false, height}
-use Rattle.psci_fw_spec.proofs.Words.{if◌then◌else◌, is_all_away, is_away, IsAsk, IsBoard, IsPhase}
-use Rattle.psci_fw_spec.proofs.Words.{le-leb, least_ask, List, nat_le, Part, PathLaws, Pending}
-use Rattle.psci_fw_spec.proofs.Words.{Phase, PowerView, refl, Running, subst, suc, Suspended, sym}
-use Rattle.psci_fw_spec.proofs.Words.{true, up, Values, zero, ℕ}
+use Rattle.psci_fw_spec.proofs.Words.{◌+◌, ◌<◌, ◌≡◌, ◌≤◌, activity_of, AreClaims, arith, Away}
+use Rattle.psci_fw_spec.proofs.Words.{BoardValue, cores, domain_of, height, if◌then◌else◌}
+use Rattle.psci_fw_spec.proofs.Words.{is_all_away, is_away, IsAsk, IsPhase, known, least_ask, List}
+use Rattle.psci_fw_spec.proofs.Words.{nat_le, nat_tests, Part, PathLaws, Phase, phase, PowerView}
+use Rattle.psci_fw_spec.proofs.Words.{Running, suc, true, up, Values, zero, ℕ}
 use Rattle.psci_board.specs.Laws.{WordLaws}
 use Rattle.psci_messages.specs.Laws.{BelowLaws, ClaimLaws, PlatformLaws, OwnLaws, OffLaws}
 use Rattle.psci_messages.specs.Laws.{LastCoreLaws}
@@ -26,48 +25,21 @@ pub record Known (b : BoardValue) : Type 0 where
       → LastCoreLaws b v core ask
   pub parts : (ps : List Part) → PartByPart ps → AreClaims ps
 
-pub known_from : (b : BoardValue) → IsBoard b → ((b : BoardValue) → IsBoard b → PathLaws b)
-    → ((b : BoardValue) → IsBoard b → WordLaws b)
-    → ((b : BoardValue) (v : PowerView) (core level : ℕ) → BelowLaws b v core level)
-    → ((b : BoardValue) (v : PowerView) (core : ℕ) (wanted : ℕ → ℕ) → ClaimLaws b v core wanted)
-    → ((b : BoardValue) (v : PowerView) (core : ℕ) → IsBoard b → core < cores b
-    → PlatformLaws b v core)
-    → ((b : BoardValue) (v : PowerView) (core : ℕ) (ask : List ℕ) → IsAsk ask
-    → OwnLaws b v core ask)
-    → ((b : BoardValue) (v : PowerView) (core : ℕ) → OffLaws b v core)
-    → ((b : BoardValue) (v : PowerView) (core : ℕ) (ask : List ℕ) → IsBoard b → core < cores b
-    → LastCoreLaws b v core ask)
-    → ((ps : List Part) → PartByPart ps → AreClaims ps)
-    → Known b
-known_from b board paths words below claims platform own off last_core parts = record {
-  paths = paths b board;
-  words = words b board;
-  below = below b;
-  claims = claims b;
-  platform = λ v core on. platform b v core board on;
-  own = own b;
-  off = off b;
-  last_core = λ v core ask on. last_core b v core ask board on;
-  parts = parts;
-}
-
 -- Paths ---------------------------------------------------------------------------------------
 
 -- the paths of two cores that meet at a level are one at the next level
 pub joined : (b : BoardValue) (x y level : ℕ) → PathLaws b → up b level x ≡ up b level y
     → up b (level + 1) x ≡ up b (level + 1) y
-joined b x y level paths at =
-    let next : level + 1 ≡ suc level = omega arith in
-    rw next (paths.joined x y level at)
+joined b x y level paths at = grind (arith, paths.joined x y level at)
 
 -- a core beside another one's domain is another core
 pub apart : (b : BoardValue) (x y c level : ℕ) → (up b level x ≡ up b level c → ⊥)
     → up b level y ≡ up b level x → y ≡ c → ⊥
-apart b x y c level beside at same = beside (sym at ∙ ap (up b level) same)
+apart b x y c level beside at same = beside (cc)
 
 -- cores with one place on level 0 are one core
 pub alone : (b : BoardValue) (x y : ℕ) → PathLaws b → up b 0 x ≡ up b 0 y → x ≡ y
-alone b x y paths at = sym (paths.core x) ∙ at ∙ paths.core y
+alone b x y paths at = grind (arith, paths.core x, paths.core y)
 
 -- Asks ----------------------------------------------------------------------------------------
 
@@ -77,62 +49,36 @@ asks_at b phase level = if nat_le level (height b) then asks (activity_of phase)
 
 pub asked_within : (b : BoardValue) (phase : Phase) (level : ℕ) → level ≤ height b
     → asks_at b phase level ≡ asks (activity_of phase) level
-asked_within b phase level h = rw (le-leb level (height b) h) refl
+asked_within b phase level h = grind (arith, nat_tests)
 
 -- a core that runs or is pending asks nothing
 pub asked_running : (b : BoardValue) (level : ℕ) → asks_at b Running level ≡ 0
-asked_running b level = both (nat_le level (height b)) 0
-  where
-    both : (t : Bool) (n : ℕ) → cond t n n ≡ n
-    both true n = refl
-    both false n = refl
-
-pub asked_pending : (b : BoardValue) (level : ℕ) → asks_at b Pending level ≡ 0
-asked_pending b level = asked_running b level
+asked_running b level = grind arith
 
 -- a core that is away asks for power-down
 pub asked_away : (b : BoardValue) (level : ℕ) → level ≤ height b → asks_at b Away level ≡ 3
-asked_away b level h = asked_within b Away level h
+asked_away b level h = grind (arith, nat_tests)
 
 -- what a core of this phase asks of all levels
 abbrev pub IsAsking : Phase → Type 0
 IsAsking phase = IsActivity (activity_of phase)
 
 pub phase_asks : (b : BoardValue) (phase : Phase) → IsPhase b phase → IsAsking phase
-phase_asks b (Suspended ask) is = is.0
-phase_asks b p is = tt
+phase_asks b p is = grind arith
 
-asks-most : (phase : Phase) (level : ℕ) → IsAsking phase → asks (activity_of phase) level ≤ 3
-asks-most (Suspended ask) level is = most level
-  where
-    most : (m : ℕ) → slice_index ask m ≤ 3
-    most zero = is.most
-    most (suc m) =
-        let next : m + 1 ≡ suc m = omega arith in
-        let step = is.falls m in
-        let falls = rw next at step in
-        omega (arith, falls, most m)
-asks-most p level is = omega arith
+ask-most : (ask : List ℕ) (m : ℕ) → IsAsk ask → slice_index ask m ≤ 3
+ask-most ask zero is = is.most
+ask-most ask (suc m) is = grind (arith, is.falls m, ask-most ask m is)
 
 -- no core asks for more than power-down
 pub asked-most : (b : BoardValue) (phase : Phase) (level : ℕ) → IsAsking phase
     → level ≤ height b → asks_at b phase level ≤ 3
-asked-most b phase level is h = rw (asked_within b phase level h) (asks-most phase level is)
-
-asks-fall : (phase : Phase) (level : ℕ) → IsAsking phase
-    → asks (activity_of phase) (level + 1) ≤ asks (activity_of phase) level
-asks-fall (Suspended ask) level is = is.falls level
-asks-fall p level is = omega arith
+asked-most b phase level is h = grind (arith, nat_tests, ask-most)
 
 -- what a core asks never grows upwards
 pub asked-fall : (b : BoardValue) (phase : Phase) (level : ℕ) → IsAsking phase
     → level < height b → asks_at b phase (level + 1) ≤ asks_at b phase level
-asked-fall b phase level is h =
-    let above : asks_at b phase (level + 1) ≡ asks (activity_of phase) (level + 1) =
-    asked_within b phase (level + 1) (omega arith) in
-    let below : asks_at b phase level ≡ asks (activity_of phase) level =
-    asked_within b phase level (omega arith) in
-    omega (arith, above, below, asks-fall phase level is)
+asked-fall b phase level is h = grind (arith, nat_tests)
 
 -- Below a domain ------------------------------------------------------------------------------
 
@@ -157,22 +103,13 @@ one_least b phase c level m n i j =
 -- the same over another core's path that meets there
 pub least_at : (b : BoardValue) (phase : ℕ → Phase) (c x level m : ℕ)
     → up b level x ≡ up b level c → IsLeast b phase c level m → IsLeast b phase x level m
-least_at b phase c x level m at i = record {
-  most = i.most;
-  below = λ y h e. i.below y h (e ∙ at);
-  above = λ n h each. i.above n h (λ y k e. each y k (e ∙ sym at));
-}
+least_at b phase c x level m at i = grind arith
 
 -- no phase below the domain has changed
 pub least_beside : (b : BoardValue) (old new : ℕ → Phase) (c level m : ℕ)
     → ((x : ℕ) → x < cores b → up b level x ≡ up b level c → new x ≡ old x)
     → IsLeast b old c level m → IsLeast b new c level m
-least_beside b old new c level m same i = record {
-  most = i.most;
-  below = λ x h e. subst (λ (p : Phase). m ≤ asks_at b p level) (sym (same x h e)) (i.below x h e);
-  above = λ n h each. i.above n h (λ x k e.
-      subst (λ (p : Phase). n ≤ asks_at b p level) (same x k e) (each x k e));
-}
+least_beside b old new c level m same i = grind arith
 
 pub least_is : (b : BoardValue) (v : Values) (c level : ℕ) → Known b
     → IsLeast b v.phase c level (least_ask b (view b v) (domain_of b c level))

@@ -1,161 +1,138 @@
--- What a running caller is answered, and what that leaves of it.
-use Rattle.psci_fw_spec.proofs.Words.{◌<◌, ◌==◌, ◌∙◌, ◌≡◌, Act, ap, AreValues, arith, AsksOn, Away}
-use Rattle.psci_fw_spec.proofs.Words.{BoardValue, Bool, change, Code, cond, cores, Effect, eqb-true}
-use Rattle.psci_fw_spec.proofs.Words.{executes_on, false, Fault, function_effect, FwReply, GoesOn}
-use Rattle.psci_fw_spec.proofs.Words.{int_eq, MessageValue, mode_effect, mode_of, nat_lt, nat_tests}
-use Rattle.psci_fw_spec.proofs.Words.{None, Off, Option, Out, outcome_of, Phase, PowerOn, refl}
-use Rattle.psci_fw_spec.proofs.Words.{Regs, Request, request_of, return_effect, Running}
-use Rattle.psci_fw_spec.proofs.Words.{sent_effect, SetsMode, Smc, Some, stop_effect, success}
-use Rattle.psci_fw_spec.proofs.Words.{SuspendMode, sym, Taken, target, true, unless_pending, Values}
-use Rattle.psci_fw_spec.proofs.Words.{with_pending, ℕ}
+-- What a running caller is answered, and what that leaves of it; whom an accepted CPU_ON asked on;
+-- a core that enters and goes on, and the first start of all; and what messages name.
+use Rattle.psci_fw_spec.proofs.Words.{◌<◌, ◌≡◌, Act, AreValues, arith, AsksOn, Away, BoardValue}
+use Rattle.psci_fw_spec.proofs.Words.{change, core_of, cores, Effect, effect_of, Enter, executes_on}
+use Rattle.psci_fw_spec.proofs.Words.{function_effect, FwReply, GoesOn, life, MessageValue}
+use Rattle.psci_fw_spec.proofs.Words.{nat_tests, None, Off, Option, Out, Outcome, PowerOn}
+use Rattle.psci_fw_spec.proofs.Words.{refl, Regs, Request, request_of, Running, Smc, Some, Start}
+use Rattle.psci_fw_spec.proofs.Words.{start_of_life, target, true, Values, with_pending, ℕ}
 use Rattle.psci_fw_spec.specs.After.{after}
 use Rattle.psci_fw_spec.specs.Answer.{answer}
-use Rattle.psci_fw_spec.proofs.Targets.{Asks, asks_outcome, off_away}
+use Rattle.psci_fw_spec.specs.Calls.{outcome_of}
+use Rattle.psci_fw_spec.specs.CpuOn.{target_of}
+use Rattle.psci_fw_spec.specs.Entering.{enter_outcome}
+use Rattle.psci_fw_spec.specs.Named.{IsNamed}
 use Rattle.psci_abi.specs.declared.request.Request.TheVariants as requests
 use Rattle.psci_fw_spec.specs.declared.outcome.Act.TheVariants as acts
-use Rattle.psci_fw_spec.specs.Phases as phases
+use Rattle.psci_messages.specs.declared.kind.Kind.TheVariants as kinds
 
--- The answer ----------------------------------------------------------------------------------
+-- CPU_ONs that are accepted -------------------------------------------------------------------
 
-pub answered : (b : BoardValue) (v : Values) (c : ℕ) (regs : Regs) → c < cores b → 0 < v.life
-    → v.phase c ≡ Running
-    → answer b v c (Smc regs) ≡ Out (outcome_of b v c (request_of regs))
-unfolding answer
-answered b v c regs on begun runs =
-    let there : nat_lt c (cores b) ≡ true = grind (arith, nat_tests) in
-    let life : (v.life == 0) ≡ false = grind (arith, nat_tests) in
-    rw (there, life, runs) refl
+-- A CPU_ON that was accepted: what was asked, and that its target was off.
+pub record WasAsked (b : BoardValue) (v : Values) (r : Request) (asked : PowerOn) : Type 0 where
+  pub word : ℕ
+  pub request : r ≡ requests.CpuOn word asked.opening.address asked.opening.context
+  pub core : core_of b word ≡ Some asked.message.core
+  pub off : v.status (target asked) ≡ Off
 
--- Going on ------------------------------------------------------------------------------------
+-- a request that is no CPU_ON
+abbrev IsOther : Request → Type 0
+IsOther (requests.CpuOn word entry context) = ⊥
+IsOther r = Unit {0}
 
-same_phase : (v : Values) (c k : ℕ) (t : Bool) → (k == c) ≡ t → v.phase c ≡ Running
-    → cond t (unless_pending (v.phase c) Running) (v.phase k) ≡ v.phase k
-same_phase v c k true e runs =
-    ap (λ (x : Phase). unless_pending x Running) runs
-    ∙ sym (ap v.phase (eqb-true k c e) ∙ runs)
-same_phase v c k false e runs = refl
+-- where an effect asks a core on, that one was away
+abbrev AsksAway : Values → Effect → Type 0
+AsksAway v (AsksOn c asked) = v.phase (target asked) ≡ Away
+AsksAway v f = Unit {0}
 
-pub goes_on_same : (b : BoardValue) (v : Values) (c : ℕ) → v.phase c ≡ Running
-    → change b (GoesOn c) v ≡ v
-goes_on_same b v c runs =
-    λ i. record v { phase = λ k. same_phase v c k (k == c) refl runs i }
-
-pending_phase : (v : Values) (c x k : ℕ) (t d : Bool) → (k == c) ≡ t → (k == x) ≡ d
-    → v.phase c ≡ Running
-    → cond t (unless_pending (cond (c == x) phases.Pending (v.phase c)) Running)
-    (cond d phases.Pending (v.phase k))
-    ≡ cond d phases.Pending (v.phase k)
-pending_phase v c x k false d e f runs = refl
-pending_phase v c x k true true e f runs =
-    let itself : (c == x) ≡ true = ap (λ (y : ℕ). y == x) (sym (eqb-true k c e)) ∙ f in
-    rw itself refl
-pending_phase v c x k true false e f runs =
-    let other : (c == x) ≡ false = ap (λ (y : ℕ). y == x) (sym (eqb-true k c e)) ∙ f in
-    rw other (same_phase v c k true e runs)
-
-pub asks_on_same : (b : BoardValue) (v : Values) (c : ℕ) (asked : PowerOn)
-    → v.phase c ≡ Running → change b (AsksOn c asked) v ≡ with_pending b asked v
-asks_on_same b v c asked runs = λ i. record (with_pending b asked v) {
-  phase = λ k. pending_phase v c (target asked) k (k == c) (k == target asked) refl refl runs i;
-}
-
--- Running on ----------------------------------------------------------------------------------
-
-other_runs : (b : BoardValue) (v : Values) (c x : ℕ) (t : Bool) → (c == x) ≡ t → AreValues b v
-    → v.phase x ≡ Away → v.phase c ≡ Running
-    → cond t phases.Pending (v.phase c) ≡ Running
-other_runs b v c x true e are away runs =
-    let clash : Running ≡ Away = sym runs ∙ ap v.phase (eqb-true c x e) ∙ away in
-    absurd (cc)
-other_runs b v c x false e are away runs = runs
-
--- what a function comes down to of a caller that runs, among values that the firmware keeps
-module _ (b : BoardValue) (v : Values) (c : ℕ) (runs : v.phase c ≡ Running) where
-  abbrev RunsOn : Effect → Type 0
-  RunsOn f = (change b f v).phase c ≡ Running
-
-  goes_on_runs : RunsOn (GoesOn c)
-  goes_on_runs = ap (λ (x : Values). x.phase c) (goes_on_same b v c runs) ∙ runs
-
-  sets_mode_runs : (m : SuspendMode) → RunsOn (SetsMode c m)
-  sets_mode_runs m = goes_on_runs
-
-  asks_on_runs : (asked : PowerOn) → AreValues b v → v.status (target asked) ≡ Off
-      → RunsOn (AsksOn c asked)
-  asks_on_runs asked are off =
-      ap (λ (x : Values). x.phase c) (asks_on_same b v c asked runs)
-      ∙ other_runs b v c (target asked) (c == target asked) refl are
-      (off_away b v (target asked) are off) runs
-
-  mode_runs : (m : Option SuspendMode) (t : Bool) → RunsOn (cond t (mode_effect c m) (GoesOn c))
-  mode_runs None true = goes_on_runs
-  mode_runs (Some m) true = sets_mode_runs m
-  mode_runs m false = goes_on_runs
-
-  return_runs : (r : Request) (code : Code) → RunsOn (return_effect c r code)
-  return_runs (requests.SetSuspendMode number) code =
-      mode_runs (mode_of number) (int_eq code.0 success.0)
-  return_runs r code = goes_on_runs
-
-  sent_runs : (r : Request) (m : MessageValue) → AreValues b v → Asks b v r (sent_effect c r m)
-      → RunsOn (sent_effect c r m)
-  sent_runs (requests.CpuOn word entry context) m are was =
-      asks_on_runs
-      (record { message = m; opening = record { address = entry; context = context } }) are was.off
-  sent_runs r m are was = goes_on_runs
-
-  function_runs : (r : Request) (act : Act) (m : Option MessageValue) → AreValues b v
-      → Asks b v r (function_effect b c r act m) → executes_on act ≡ true
-      → RunsOn (function_effect b c r act m)
-  function_runs r acts.Stop m are was goes = absurd (cc)
-  function_runs r (acts.Return code) (Some m) are was goes = sent_runs r m are was
-  function_runs r (acts.Return code) None are was goes = return_runs r code
-  function_runs r act m are was goes = goes_on_runs
-
-pub runs_on : (b : BoardValue) (v : Values) (c : ℕ) (regs : Regs) → AreValues b v
-    → v.phase c ≡ Running → let o = outcome_of b v c (request_of regs) in
-    executes_on o.act ≡ true → (after b c (Smc regs) (Out o) v).phase c ≡ Running
-unfolding after
-runs_on b v c regs are runs goes =
-    let r = request_of regs in
-    let o = outcome_of b v c r in
-    function_runs b v c runs r o.act o.message are (asks_outcome b v c r) goes
-
--- Lives ---------------------------------------------------------------------------------------
-
--- what a function comes down to leaves the life
 module _ (b : BoardValue) (v : Values) (c : ℕ) where
-  abbrev Stays : Effect → Type 0
-  Stays f = (change b f v).life ≡ v.life
+  other_asks_none : (r : Request) (act : Act) (m : Option MessageValue) (caller : ℕ)
+      (asked : PowerOn) → IsOther r → function_effect b c r act m ≡ AsksOn caller asked → ⊥
+  other_asks_none r act m caller asked other e = grind arith
 
-  stop_stays : (r : Request) (m : MessageValue) → Stays (stop_effect b c r m)
-  stop_stays requests.SystemOff m = refl
-  stop_stays r m = refl
+  asked_by : (caller : ℕ) (r : Request) (asked : PowerOn) → let o = outcome_of b v c r in
+      function_effect b c r o.act o.message ≡ AsksOn caller asked → WasAsked b v r asked
+  unfolding outcome_of target_of
+  asked_by caller (requests.CpuOn word entry context) asked e =
+      record { word = word; request = grind arith; core = grind arith; off = grind arith }
+  asked_by caller r asked e =
+      let o = outcome_of b v c r in
+      absurd (other_asks_none r o.act o.message caller asked tt e)
 
-  mode_stays : (m : Option SuspendMode) (t : Bool) → Stays (cond t (mode_effect c m) (GoesOn c))
-  mode_stays None true = refl
-  mode_stays (Some m) true = refl
-  mode_stays m false = refl
+  pub was_asked : (caller : ℕ) (regs : Regs) (asked : PowerOn)
+      → effect_of b c (Smc regs) (answer b v c (Smc regs)) ≡ AsksOn caller asked
+      → WasAsked b v (request_of regs) asked
+  unfolding answer
+  was_asked caller regs asked e = asked_by caller (request_of regs) asked (grind arith)
 
-  return_stays : (r : Request) (code : Code) → Stays (return_effect c r code)
-  return_stays (requests.SetSuspendMode number) code =
-      mode_stays (mode_of number) (int_eq code.0 success.0)
-  return_stays r code = refl
+  -- Running callers -----------------------------------------------------------------------------
 
-  sent_stays : (r : Request) (m : MessageValue) → Stays (sent_effect c r m)
-  sent_stays (requests.CpuOn word entry context) m = refl
-  sent_stays r m = refl
+  pub answered : (regs : Regs) → c < cores b → 0 < v.life → v.phase c ≡ Running
+      → answer b v c (Smc regs) ≡ Out (outcome_of b v c (request_of regs))
+  unfolding answer
+  answered regs on begun runs = grind (arith, nat_tests)
 
-  function_stays : (r : Request) (act : Act) (m : Option MessageValue)
-      → Stays (function_effect b c r act m)
-  function_stays r acts.Stop (Some m) = stop_stays r m
-  function_stays r acts.Stop None = refl
-  function_stays r (acts.Return code) (Some m) = sent_stays r m
-  function_stays r (acts.Return code) None = return_stays r code
-  function_stays r act m = refl
+  same_phase : (k : ℕ) → v.phase c ≡ Running → (change b (GoesOn c) v).phase k ≡ v.phase k
+  same_phase k runs = grind (arith, nat_tests)
+
+  pub goes_on_same : v.phase c ≡ Running → change b (GoesOn c) v ≡ v
+  goes_on_same runs = λ i. record v { phase = λ k. same_phase k runs i }
+
+  pending_phase : (asked : PowerOn) (k : ℕ) → v.phase c ≡ Running
+      → (change b (AsksOn c asked) v).phase k ≡ (with_pending b asked v).phase k
+  pending_phase asked k runs = grind (arith, nat_tests)
+
+  pub asks_on_same : (asked : PowerOn) → v.phase c ≡ Running
+      → change b (AsksOn c asked) v ≡ with_pending b asked v
+  asks_on_same asked runs =
+      λ i. record (with_pending b asked v) { phase = λ k. pending_phase asked k runs i }
+
+  away_by : AreValues b v → (r : Request) (f : Effect) → let o = outcome_of b v c r in
+      function_effect b c r o.act o.message ≡ f → AsksAway v f
+  away_by are r (AsksOn caller asked) e =
+      grind (arith, are.agree (target asked), asked_by caller r asked e)
+  away_by are r f e = tt
+
+  runs_by : (r : Request) (act : Act) (m : Option MessageValue) → v.phase c ≡ Running
+      → executes_on act ≡ true → AsksAway v (function_effect b c r act m)
+      → (change b (function_effect b c r act m) v).phase c ≡ Running
+  runs_by r act m runs goes away = grind (arith, nat_tests)
+
+  pub runs_on : (regs : Regs) → AreValues b v → v.phase c ≡ Running
+      → let o = outcome_of b v c (request_of regs) in
+      executes_on o.act ≡ true → (after b c (Smc regs) (Out o) v).phase c ≡ Running
+  unfolding after
+  runs_on regs are runs goes =
+      let r = request_of regs in
+      let o = outcome_of b v c r in
+      runs_by r o.act o.message runs goes (away_by are r _ refl)
+
+  life_stays : (r : Request) (act : Act) (m : Option MessageValue)
+      → (change b (function_effect b c r act m) v).life ≡ v.life
+  life_stays r act m = grind arith
 
   pub same_life : (regs : Regs) (reply : FwReply) → (after b c (Smc regs) reply v).life ≡ v.life
   unfolding after
-  same_life regs (Out o) = function_stays (request_of regs) o.act o.message
-  same_life regs (Taken t) = refl
-  same_life regs (Fault f) = refl
+  same_life regs reply = grind (arith, life_stays)
+
+  -- Entries -------------------------------------------------------------------------------------
+
+  pub enters_runs : (s : Start) (o : Outcome) → executes_on o.act ≡ true
+      → (after b c (Enter s) (Out o) v).phase c ≡ Running
+  unfolding after
+  enters_runs s o goes = grind (arith, nat_tests)
+
+  pub enters_life : (s : Start) (o : Outcome) → (after b c (Enter s) (Out o) v).life ≡ s.life
+  unfolding after
+  enters_life s o = grind (arith, nat_tests)
+
+  -- Messages ------------------------------------------------------------------------------------
+
+  pub named : (r : Request) (m : MessageValue) → (outcome_of b v c r).message ≡ Some m
+      → IsNamed b v c r m
+  unfolding outcome_of target_of
+  named (requests.CpuSuspend state entry context) m e = grind arith
+  named (requests.CpuOn word entry context) m e = grind arith
+  named (requests.SystemSuspend entry context) m e = grind arith
+  named r m e = grind arith
+
+  pub park_named : (s : Start) (m : MessageValue) → (enter_outcome b v c s).message ≡ Some m
+      → (m.kind ≡ kinds.Down) × (m.core.number ≡ c) × (m.life ≡ s.life) × (m.number ≡ s.number)
+  unfolding enter_outcome
+  park_named s m e = grind (arith, nat_tests)
+
+pub first_answer : (b : BoardValue) (s : Start) → 0 < cores b → 0 < b.starts → 0 < b.lives
+    → s.life ≡ 1 → s.number ≡ 1 → answer b (start_of_life b 0) 0 (Enter s)
+    ≡ Out (record { act = acts.Enter b.boot 0; message = None })
+unfolding answer enter_outcome
+first_answer b s some starts lives life number = grind (arith, nat_tests)

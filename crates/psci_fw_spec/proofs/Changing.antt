@@ -1,126 +1,83 @@
--- Changes that claim nothing leave values such as the firmware keeps.
-use Rattle.psci_fw_spec.proofs.Words.{◌&&◌, ◌<◌, ◌∙◌, ◌≡◌, ◌≤◌, ◌⊎◌, AckValue, activity_of, agrees}
-use Rattle.psci_fw_spec.proofs.Words.{ap, AreAwake, AreValues, Away, BoardValue, Bool, cond, cores}
-use Rattle.psci_fw_spec.proofs.Words.{Down, in_life, inl, inr, is_expected, is_kind, is_some}
-use Rattle.psci_fw_spec.proofs.Words.{IsPhase, MessageValue, nat_lt, None, Pending, Phase, PowerOn}
-use Rattle.psci_fw_spec.proofs.Words.{refl, Running, Some, Start, Status, sym, target, true}
-use Rattle.psci_fw_spec.proofs.Words.{true≢false, unless_pending, updated, Values, with_arrival}
-use Rattle.psci_fw_spec.proofs.Words.{with_pending, with_phase, ℕ}
-use Rattle.psci_state.specs.Cores.{is_away as is_core_away}
-use Rattle.psci_fw_spec.specs.Changes.{turns_off, with_acknowledgement, with_halt, with_running}
-use Rattle.psci_fw_spec.specs.Phases.{is_away}
+-- Changes that claim nothing leave values such as the firmware keeps, and so does that the suspend
+-- mode is set.
+use Rattle.std.specs.List.{list_all, range_with_len}
+use Rattle.psci_fw_spec.proofs.Words.{◌+◌, ◌<◌, ◌==◌, ◌||◌, ◌∙◌, ◌≡◌, ◌≤◌, ◌⊎◌, AckValue}
+use Rattle.psci_fw_spec.proofs.Words.{activity_of, agrees, all_others, ap, AreAwake, AreValues}
+use Rattle.psci_fw_spec.proofs.Words.{arith, Away, BoardValue, Bool, cases_eq, change, cleared}
+use Rattle.psci_fw_spec.proofs.Words.{cond, cores, denied, false, GoesOn, height, if◌then◌else◌}
+use Rattle.psci_fw_spec.proofs.Words.{in_life, inl, inr, int_eq, is_expected, is_some}
+use Rattle.psci_fw_spec.proofs.Words.{IsPhase, known, may_set, MessageValue, mode_asked}
+use Rattle.psci_fw_spec.proofs.Words.{mode_effect, nat_tests, None, Option, OsInitiated, Pending}
+use Rattle.psci_fw_spec.proofs.Words.{Phase, Platform, PowerOn, refl, Running, SetsMode}
+use Rattle.psci_fw_spec.proofs.Words.{Some, Start, subst, suc, success, SuspendMode, sym}
+use Rattle.psci_fw_spec.proofs.Words.{target, true, true≢false, up, updated, Values, with_arrival}
+use Rattle.psci_fw_spec.proofs.Words.{with_pending, with_phase, zero, ℕ}
+use Rattle.psci_state.specs.declared.cores.Activity.TheVariants.{Active}
+use Rattle.psci_fw_spec.specs.Changes.{with_acknowledgement, with_halt, with_mode, with_running}
 use Rattle.psci_fw_spec.specs.Views.{view}
-use Rattle.psci_fw_spec.proofs.Asked.{Known, asked_pending, asked_running, asks_at}
-use Rattle.psci_fw_spec.proofs.Granting.{AreBounded, ChangedAt, bounded_cleared, bounded_left}
-use Rattle.psci_fw_spec.proofs.Granting.{granted_cleared}
-use Rattle.psci_fw_spec.proofs.Holding.{awake_from, bounded_of, granted_of, same_phases}
-use Rattle.psci_fw_spec.proofs.Updates.{both_updated, left_else, updated_at, updated_each}
-use Rattle.psci_fw_spec.proofs.Updates.{updated_else}
+use Rattle.psci_fw_spec.proofs.Asked.{apart, asked_running, asks_at, IsAllOff, IsLeast, Known}
+use Rattle.psci_fw_spec.proofs.Granting.{AreBounded, AreGranted, awake_from, both_updated}
+use Rattle.psci_fw_spec.proofs.Granting.{bounded_cleared, bounded_left, bounded_of, ChangedAt}
+use Rattle.psci_fw_spec.proofs.Granting.{granted_cleared, granted_of, left_else, none_granted}
+use Rattle.psci_fw_spec.proofs.Granting.{ran_asks, same_phases, updated_at, updated_each}
+use Rattle.psci_fw_spec.proofs.Granting.{updated_else}
+use Rattle.psci_state.specs.Cores.{is_away as is_core_away}
+use Rattle.psci_fw_spec.specs.Phases.{is_away}
+use Rattle.psci_fw_spec.specs.SuspendMode.{is_mode}
+use Rattle.psci_fw_spec.proofs.Wishes.{off_asks}
 use Rattle.psci_fw_spec.specs.declared.status.Status.TheVariants as statuses
-
--- Going on ------------------------------------------------------------------------------------
-
-stays_on : (p : Phase) → (p ≡ Pending) ⊎ (p ≡ Running) → p ≡ unless_pending p Running
-stays_on p (inl e) = e ∙ sym (ap (λ (q : Phase). unless_pending q Running) e)
-stays_on p (inr e) = e ∙ sym (ap (λ (q : Phase). unless_pending q Running) e)
 
 -- that a running or pending core goes on changes nothing
 pub kept_on : (b : BoardValue) (w : Values) (c : ℕ) → (w.phase c ≡ Pending) ⊎ (w.phase c ≡ Running)
     → AreValues b w → AreValues b (with_phase c Running w)
-kept_on b w c on are = same_phases b w (with_phase c Running w).phase
-    (updated_each (λ k p. w.phase k ≡ p) w.phase c (unless_pending (w.phase c) Running)
-    (stays_on (w.phase c) on) (λ k. refl)) are
+kept_on b w c on are =
+    same_phases b w (with_phase c Running w).phase (λ k. grind (arith, nat_tests)) are
 
--- Asking on -----------------------------------------------------------------------------------
+-- Cores that come to be pending or to run -----------------------------------------------------
+
+active_asks : (b : BoardValue) (p : Phase) (level : ℕ) → activity_of p ≡ Active
+    → asks_at b p level ≡ 0
+active_asks b p level e = grind arith
+
+-- the path of a core is cleared, which is pending or runs then
+kept_cleared : (b : BoardValue) (v w : Values) (t : ℕ) (p : Phase) → Known b → t < cores b
+    → AreValues b v → activity_of p ≡ Active → ((k : ℕ) → w.known k ≤ b.starts)
+    → ((k : ℕ) → agrees (w.status k) (updated v.phase t p k) ≡ true)
+    → ((k : ℕ) → IsPhase b (updated v.phase t p k))
+    → (AreAwake b v → (k : ℕ) → is_some (w.opening k) ≡ is_expected (updated v.phase t p k))
+    → AreValues b (record w {
+      halting = v.halting;
+      mode = v.mode;
+      phase = updated v.phase t p;
+      granted = cleared b t v.granted;
+    })
+kept_cleared b v w t p known on are active knows agree is opens =
+    let new : ℕ → Phase = updated v.phase t p in
+    let here : activity_of (new t) ≡ Active = ap activity_of (updated_at v.phase t p) ∙ active in
+    let changed : ChangedAt v.phase new t = updated_else v.phase t p in
+    let bounded : AreBounded b new (cleared b t v.granted) =
+    bounded_cleared b v.phase new v.granted t known.paths changed (bounded_of b v are) in
+    record {
+      known = knows;
+      agree = agree;
+      phase = is;
+      nested = bounded.nested;
+      asked = bounded.asked;
+      awake = λ e. awake_from b _ known (opens (are.awake e))
+          (granted_cleared b v.mode v.phase new v.granted t known.paths on changed
+          (λ level. active_asks b (new t) level here) (ap is_core_away here)
+          (granted_of b v known (are.awake e)));
+    }
 
 pub kept_pending : (b : BoardValue) (v : Values) (asked : PowerOn) → Known b
     → target asked < cores b → AreValues b v → AreValues b (with_pending b asked v)
 kept_pending b v asked known on are =
-    let t : ℕ = target asked in
-    let new : ℕ → Phase = updated v.phase t Pending in
-    let here : new t ≡ Pending = updated_at v.phase t Pending in
-    let changed : ChangedAt v.phase new t = λ x other. updated_else v.phase t Pending x other in
-    let bounded : AreBounded b new (with_pending b asked v).granted =
-    bounded_cleared b v.phase new v.granted t known.paths changed (bounded_of b v are) in
-    record {
-      known = are.known;
-      agree = both_updated (λ s p. agrees s p ≡ true) v.status v.phase t statuses.Pending Pending
-          refl are.agree;
-      phase = updated_each (λ k p. IsPhase b p) v.phase t Pending tt are.phase;
-      nested = bounded.nested;
-      asked = bounded.asked;
-      awake = λ e. awake_from b (with_pending b asked v) known
-          (both_updated (λ o p. is_some o ≡ is_expected p) v.opening v.phase t
-          (Some asked.opening) Pending refl (are.awake e).opening)
-          (granted_cleared b v.mode v.phase new v.granted t known.paths on changed
-          (λ level. ap (λ (p : Phase). asks_at b p level) here ∙ asked_pending b level)
-          (ap (λ (p : Phase). is_core_away (activity_of p)) here)
-          (granted_of b v known (are.awake e)));
-    }
-
--- Leaving in a halting life -------------------------------------------------------------------
-
--- a core that runs is ON
-pub on_where_runs : (s : Status) (p : Phase) → agrees s p ≡ true → p ≡ Running → s ≡ statuses.On
-on_where_runs statuses.On p e f = refl
-on_where_runs s p e f = absurd (cc (sym (ap (agrees s) f) ∙ e))
-
--- a core that stops is away, or pending still
-pub away_agrees : (s : Status) (p : Phase) → agrees s p ≡ true
-    → agrees s (unless_pending p Away) ≡ true
-away_agrees s Pending e = e
-away_agrees statuses.Pending p e = absurd (cc e)
-away_agrees s p e = refl
-
-pub agree_away : (v : Values) (c : ℕ) → ((k : ℕ) → agrees (v.status k) (v.phase k) ≡ true)
-    → (k : ℕ) → agrees (v.status k) ((with_phase c Away v).phase k) ≡ true
-agree_away v c agree = updated_each (λ k p. agrees (v.status k) p ≡ true) v.phase c
-    (unless_pending (v.phase c) Away) (away_agrees (v.status c) (v.phase c) (agree c)) agree
-
-away_is : (b : BoardValue) (p : Phase) → IsPhase b p → IsPhase b (unless_pending p Away)
-away_is b Pending is = tt
-away_is b p is = tt
-
-pub phase_away : (b : BoardValue) (v : Values) (c : ℕ) → ((k : ℕ) → IsPhase b (v.phase k))
-    → (k : ℕ) → IsPhase b ((with_phase c Away v).phase k)
-phase_away b v c is = updated_each (λ k p. IsPhase b p) v.phase c
-    (unless_pending (v.phase c) Away) (away_is b (v.phase c) (is c)) is
-
--- nothing is asked of the core that leaves
-bounded_away : (b : BoardValue) (v : Values) (c : ℕ) → Known b → v.phase c ≡ Running
-    → AreValues b v → AreBounded b (with_phase c Away v).phase v.granted
-bounded_away b v c known runs are =
-    bounded_left b v.phase (with_phase c Away v).phase v.granted c known.paths
-    (left_else v c Away) (ap (λ (p : Phase). asks_at b p 0) runs ∙ asked_running b 0)
-    (bounded_of b v are)
-
-pub kept_leaving : (b : BoardValue) (v : Values) (c : ℕ) → Known b → v.phase c ≡ Running
-    → v.halting ≡ true → AreValues b v → AreValues b (with_phase c Away v)
-kept_leaving b v c known runs halting are =
-    let bounded = bounded_away b v c known runs are in
-    record {
-      known = are.known;
-      agree = agree_away v c are.agree;
-      phase = phase_away b v c are.phase;
-      nested = bounded.nested;
-      asked = bounded.asked;
-      awake = λ e. absurd (true≢false (sym halting ∙ e));
-    }
-
-pub kept_halting : (b : BoardValue) (v : Values) (c : ℕ) (m : MessageValue) → Known b
-    → v.phase c ≡ Running → AreValues b v → AreValues b (with_halt m (with_phase c Away v))
-kept_halting b v c m known runs are =
-    let bounded = bounded_away b v c known runs are in
-    record {
-      known = are.known;
-      agree = agree_away v c are.agree;
-      phase = phase_away b v c are.phase;
-      nested = bounded.nested;
-      asked = bounded.asked;
-      awake = λ e. absurd (true≢false e);
-    }
-
--- Arrivals ------------------------------------------------------------------------------------
+    kept_cleared b v (with_pending b asked v) (target asked) Pending known on are refl are.known
+    (both_updated (λ s p. agrees s p ≡ true) v.status v.phase (target asked) statuses.Pending
+    Pending refl are.agree)
+    (updated_each (λ k. IsPhase b) v.phase (target asked) Pending tt are.phase)
+    (λ awake. both_updated (λ o p. is_some o ≡ is_expected p) v.opening v.phase (target asked)
+    (Some asked.opening) Pending refl awake.opening)
 
 pub known_arrived : (b : BoardValue) (f : Values) (c : ℕ) (s : Start) → s.number ≤ b.starts
     → AreValues b f → (k : ℕ) → updated f.known c s.number k ≤ b.starts
@@ -133,27 +90,54 @@ pub kept_entering : (b : BoardValue) (v : Values) (c : ℕ) (s : Start) → Know
     → AreValues b (with_running c (with_arrival b c s v))
 kept_entering b v c s known on within are =
     let f : Values = in_life b s.life v in
-    let new : ℕ → Phase = updated f.phase c Running in
-    let here : new c ≡ Running = updated_at f.phase c Running in
-    let changed : ChangedAt f.phase new c = λ x other. updated_else f.phase c Running x other in
-    let w : Values = with_running c (with_arrival b c s v) in
-    let bounded : AreBounded b new w.granted =
-    bounded_cleared b f.phase new f.granted c known.paths changed (bounded_of b f are) in
-    record {
-      known = known_arrived b f c s within are;
-      agree = both_updated (λ t p. agrees t p ≡ true) f.status f.phase c statuses.On Running
-          refl are.agree;
-      phase = updated_each (λ k p. IsPhase b p) f.phase c Running tt are.phase;
-      nested = bounded.nested;
-      asked = bounded.asked;
-      awake = λ e. awake_from b w known
-          (both_updated (λ o p. is_some o ≡ is_expected p) f.opening f.phase c None Running refl
-          (are.awake e).opening)
-          (granted_cleared b f.mode f.phase new f.granted c known.paths on changed
-          (λ level. ap (λ (p : Phase). asks_at b p level) here ∙ asked_running b level)
-          (ap (λ (p : Phase). is_core_away (activity_of p)) here)
-          (granted_of b f known (are.awake e)));
-    }
+    kept_cleared b f (with_running c (with_arrival b c s v)) c Running known on are refl
+    (known_arrived b f c s within are)
+    (both_updated (λ t p. agrees t p ≡ true) f.status f.phase c statuses.On Running refl are.agree)
+    (updated_each (λ k. IsPhase b) f.phase c Running tt are.phase)
+    (λ awake. both_updated (λ o p. is_some o ≡ is_expected p) f.opening f.phase c None Running refl
+    awake.opening)
+
+-- Cores that stop -----------------------------------------------------------------------------
+
+pub agree_away : (v : Values) (c : ℕ) → ((k : ℕ) → agrees (v.status k) (v.phase k) ≡ true)
+    → (k : ℕ) → agrees (v.status k) ((with_phase c Away v).phase k) ≡ true
+agree_away v c agree k = grind (arith, nat_tests, agree c, agree k)
+
+pub phase_away : (b : BoardValue) (v : Values) (c : ℕ) → ((k : ℕ) → IsPhase b (v.phase k))
+    → (k : ℕ) → IsPhase b ((with_phase c Away v).phase k)
+phase_away b v c is k = grind (arith, nat_tests, is c, is k)
+
+-- a core stops in a halting life, where these starts are known and this is granted
+kept_ended : (b : BoardValue) (v w : Values) (c : ℕ) → AreValues b v
+    → ((k : ℕ) → w.known k ≤ b.starts) → AreBounded b (with_phase c Away v).phase w.granted
+    → AreValues b (record w {
+      halting = true;
+      status = v.status;
+      phase = (with_phase c Away v).phase;
+    })
+kept_ended b v w c are knows bounded = record {
+  known = knows;
+  agree = agree_away v c are.agree;
+  phase = phase_away b v c are.phase;
+  nested = bounded.nested;
+  asked = bounded.asked;
+  awake = λ e. absurd (true≢false e);
+}
+
+pub kept_halting : (b : BoardValue) (v : Values) (c : ℕ) (m : MessageValue) → Known b
+    → v.phase c ≡ Running → AreValues b v → AreValues b (with_halt m (with_phase c Away v))
+kept_halting b v c m known runs are =
+    kept_ended b v (with_halt m (with_phase c Away v)) c are are.known
+    (bounded_left b v.phase (with_phase c Away v).phase v.granted c known.paths
+    (left_else v c Away) (ran_asks b (v.phase c) runs) (bounded_of b v are))
+
+pub kept_leaving : (b : BoardValue) (v : Values) (c : ℕ) → Known b → v.phase c ≡ Running
+    → v.halting ≡ true → AreValues b v → AreValues b (with_phase c Away v)
+kept_leaving b v c known runs halting are = subst (AreValues b)
+    (λ i. record (with_phase c Away v) { halting = sym halting i })
+    (kept_ended b v (with_phase c Away v) c are are.known
+    (bounded_left b v.phase (with_phase c Away v).phase v.granted c known.paths
+    (left_else v c Away) (ran_asks b (v.phase c) runs) (bounded_of b v are)))
 
 -- a core stops that has entered in a halting life
 pub kept_ceasing : (b : BoardValue) (v : Values) (c : ℕ) (s : Start) → Known b
@@ -163,35 +147,20 @@ pub kept_ceasing : (b : BoardValue) (v : Values) (c : ℕ) (s : Start) → Known
 kept_ceasing b v c s known within halting are =
     let f : Values = in_life b s.life v in
     let w : Values = with_phase c Away (with_arrival b c s v) in
-    let bounded : AreBounded b w.phase w.granted =
-    bounded_cleared b f.phase w.phase f.granted c known.paths
-    (left_else (with_arrival b c s v) c Away) (bounded_of b f are) in
-    record {
-      known = known_arrived b f c s within are;
-      agree = agree_away (with_arrival b c s v) c are.agree;
-      phase = phase_away b (with_arrival b c s v) c are.phase;
-      nested = bounded.nested;
-      asked = bounded.asked;
-      awake = λ e. absurd (true≢false (sym halting ∙ e));
-    }
+    subst (AreValues b) (λ i. record w { halting = sym halting i })
+    (kept_ended b f w c are
+    (known_arrived b f c s within are)
+    (bounded_cleared b f.phase w.phase f.granted c known.paths
+    (left_else (with_arrival b c s v) c Away) (bounded_of b f are)))
 
 -- Acknowledgements ----------------------------------------------------------------------------
-
--- an acknowledgement turns off only a core that is away
-off_agrees : (t : Bool) (s : Status) (p : Phase) → agrees s p ≡ true
-    → agrees (cond (t && is_away p) statuses.Off s) p ≡ true
-off_agrees true s Away e = refl
-off_agrees t s p e = e
 
 pub kept_acknowledged : (b : BoardValue) (v : Values) (a : AckValue) → AreValues b v
     → AreValues b (with_acknowledgement b a v)
 unfolding view
 kept_acknowledged b v a are = record {
   known = are.known;
-  agree = updated_each (λ k s. agrees s (v.phase k) ≡ true) v.status a.core.number
-      (cond (turns_off v a) statuses.Off (v.status a.core.number))
-      (off_agrees (is_kind a.kind Down && nat_lt 0 a.applied) (v.status a.core.number)
-      (v.phase a.core.number) (are.agree a.core.number)) are.agree;
+  agree = λ k. grind (arith, nat_tests, are.agree k);
   phase = are.phase;
   nested = are.nested;
   asked = are.asked;
@@ -202,3 +171,98 @@ kept_acknowledged b v a are = record {
     least = w.least;
   };
 }
+
+-- Modes ---------------------------------------------------------------------------------------
+
+-- The other cores -----------------------------------------------------------------------------
+
+each_in : (p : ℕ → Bool) (a n k : ℕ) → list_all p (range_with_len a n) ≡ true → a ≤ k
+    → k < a + n → p k ≡ true
+each_in p a zero k e h i = absurd (omega arith)
+each_in p a (suc n) k e h i = grind (arith, nat_tests, each_in p (a + 1) n k)
+
+other_passes : (b : BoardValue) (c k : ℕ) (test : ℕ → Bool) → all_others b c test ≡ true
+    → k < cores b → (k ≡ c → ⊥) → test k ≡ true
+other_passes b c k test e h other =
+    grind (arith, nat_tests, each_in (λ k. k == c || test k) 0 (cores b) k e)
+
+-- Least asks ----------------------------------------------------------------------------------
+
+-- with all others away, a domain above the running core was granted nothing, and each other one
+-- power-down
+least_alone : (b : BoardValue) (v : Values) (c : ℕ) → Known b → c < cores b → v.phase c ≡ Running
+    → all_others b c (λ k. is_away (v.phase k)) ≡ true → AreBounded b v.phase v.granted
+    → AreGranted b v.mode v.phase v.granted → (x level : ℕ) → x < cores b → level ≤ height b
+    → IsLeast b v.phase x level (v.granted level (up b level x))
+least_alone b v c known on runs others bounds equal x level i h =
+    let asks : asks_at b (v.phase c) level ≡ 0 = grind (arith, asked_running b level) in
+    elim (cases_eq (up b level x) (up b level c)) [
+      | inl meets ↦
+          let none : v.granted level (up b level x) ≡ 0 =
+          ap (v.granted level) meets
+          ∙ none_granted b v.phase v.granted c level known.paths bounds on
+          (grind (arith, asked_running b 0)) h in
+          subst (IsLeast b v.phase x level) (sym none) (record {
+            most = omega arith;
+            below = λ y k at. omega arith;
+            above = λ n k each. omega (arith, each c on (sym meets), asks);
+          })
+      | inr beside ↦
+          let off : IsAllOff b v.phase x level = λ y k at. grind (
+            arith,
+            other_passes b c y (λ z. is_away (v.phase z)) others k (apart b x y c level beside at),
+          ) in
+          subst (IsLeast b v.phase x level) (sym (equal.away x level i h off)) (record {
+            most = omega arith;
+            below = λ y k at. off_asks b (v.phase y) level h (off y k at);
+            above = λ n k each. k;
+          })
+    ]
+
+-- Modes ---------------------------------------------------------------------------------------
+
+pub kept_mode : (b : BoardValue) (v : Values) (mode : SuspendMode) → Known b → AreValues b v
+    → (v.halting ≡ false → mode ≡ Platform → (c level : ℕ) → c < cores b → level ≤ height b
+    → IsLeast b v.phase c level (v.granted level (up b level c)))
+    → AreValues b (with_mode mode v)
+kept_mode b v mode known are least = record {
+  known = are.known;
+  agree = are.agree;
+  phase = are.phase;
+  nested = are.nested;
+  asked = are.asked;
+  awake = λ e.
+      let g : AreGranted b v.mode v.phase v.granted = granted_of b v known (are.awake e) in
+      awake_from b (with_mode mode v) known (are.awake e).opening (record {
+        own = g.own;
+        away = g.away;
+        least = least e;
+      });
+}
+
+mode_least : (b : BoardValue) (v : Values) (c : ℕ) (mode : SuspendMode) → Known b → c < cores b
+    → v.phase c ≡ Running → AreValues b v → may_set b v c mode ≡ true → v.halting ≡ false
+    → mode ≡ Platform → (x level : ℕ) → x < cores b → level ≤ height b
+    → IsLeast b v.phase x level (v.granted level (up b level x))
+mode_least b v c Platform known on runs are may awake platform =
+    least_alone b v c known on runs may (bounded_of b v are)
+    (granted_of b v known (are.awake awake))
+mode_least b v c OsInitiated known on runs are may awake platform = absurd (cc platform)
+
+-- a caller asked for this mode, if its number is that of one
+pub kept_by_mode : (b : BoardValue) (v : Values) (c : ℕ) (mode : Option SuspendMode) → Known b
+    → c < cores b → v.phase c ≡ Running → AreValues b v
+    → AreValues b (change b (if int_eq (mode_asked b v c mode).0 success.0 then mode_effect c mode
+    else GoesOn c) v)
+kept_by_mode b v c None known on runs are = kept_on b v c (inr runs) are
+kept_by_mode b v c (Some mode) known on runs are =
+    by_tests (is_mode mode v.mode) (may_set b v c mode) refl refl
+  where
+    by_tests : (same may : Bool) → is_mode mode v.mode ≡ same → may_set b v c mode ≡ may
+        → AreValues b (change b (if int_eq (cond same success (cond may success denied)).0 success.0
+        then SetsMode c mode else GoesOn c) v)
+    by_tests true may e f = kept_on b (with_mode mode v) c (inr runs) (kept_mode b v mode known are
+        (λ awake platform. (granted_of b v known (are.awake awake)).least (grind arith)))
+    by_tests false true e f = kept_on b (with_mode mode v) c (inr runs) (kept_mode b v mode known
+        are (mode_least b v c mode known on runs are f))
+    by_tests false false e f = kept_on b v c (inr runs) are

@@ -6,7 +6,7 @@ use Rattle.psci_board.specs.Board.{BoardValue}
 use Rattle.psci_messages.specs.declared.kind.Kind.TheVariants as kinds
 use Rattle.psci_fw_spec.specs.Lives.{first_confirmed}
 use Rattle.psci_fw_spec.specs.Values.{Values}
-use Rattle.psci_fw_spec.proofs.Lopsided.{lopsided}
+use Rattle.psci_fw_spec.proofs.LopsidedRows.{lopsided}
 use Rattle.psci_fw_spec.proofs.Steps.{Step, board, boot, computing, enter_boot, enter_on}
 use Rattle.psci_fw_spec.proofs.Steps.{enter_wake, history_of, off, on, on_3, one_core}
 use Rattle.psci_fw_spec.proofs.Steps.{part, set_mode, starts, stops, suspend, system_reset}

@@ -1,158 +1,183 @@
--- What a core is answered that enters leaves values such as the firmware keeps, and so does every
--- answer.
-use Rattle.std.proofs.lemmas.Bool.{ltb-false, ltb-true}
-use Rattle.psci_fw_spec.proofs.Words.{◌&&◌, ◌<◌, ◌==◌, ◌||◌, ◌∙◌, ◌∷◌, ◌≡◌, ◌≤◌, [], ap, AreValues}
-use Rattle.psci_fw_spec.proofs.Words.{BoardValue, Bool, call_fault, change, cond, cores, deepest_of}
-use Rattle.psci_fw_spec.proofs.Words.{effect_of, Enter, enter_effect, false, FwCall, FwExchange}
-use Rattle.psci_fw_spec.proofs.Words.{FwFault, height, in_life, IsLegal, IsPhase, List, nat_le}
-use Rattle.psci_fw_spec.proofs.Words.{nat_lt, None, not, off_message, Old, Opening, Option, Outcome}
-use Rattle.psci_fw_spec.proofs.Words.{outcome_at, outcome_of, Parks, Phase, refl, reply_or}
-use Rattle.psci_fw_spec.proofs.Words.{request_of, resumes, Running, Smc, Some, Start, start_of_life}
-use Rattle.psci_fw_spec.proofs.Words.{stops, stops_with, subst, Suspended, sym, Take, true, updated}
-use Rattle.psci_fw_spec.proofs.Words.{Used, Values, with_arrival, ℕ}
-use Rattle.psci_messages.specs.declared.taken.Taken.{Taken}
+-- What holds of the values at the start of a life; and what a core is answered that enters leaves
+-- values such as the firmware keeps, and so does every answer.
+use Rattle.psci_fw_spec.proofs.Words.{◌+◌, ◌<◌, ◌==◌, ◌∙◌, ◌∷◌, ◌≡◌, ◌≤◌, [], ap, AreValues, arith}
+use Rattle.psci_fw_spec.proofs.Words.{Away, BoardValue, call_fault, cases_eq, change, cond, cores}
+use Rattle.psci_fw_spec.proofs.Words.{deepest_of, Effect, effect_of, Enter, enter_effect, Enters}
+use Rattle.psci_fw_spec.proofs.Words.{false, Fault, first_granted, FwCall, FwExchange, FwFault}
+use Rattle.psci_fw_spec.proofs.Words.{FwReply, height, in_life, inl, inr, IsLegal, IsPhase, known}
+use Rattle.psci_fw_spec.proofs.Words.{life, List, nat_tests, None, off_message, Option, Out}
+use Rattle.psci_fw_spec.proofs.Words.{Outcome, outcome_of, Parks, reply_or, request_of}
+use Rattle.psci_fw_spec.proofs.Words.{Running, Smc, Start, start_of_life, StopsAtOnce, subst}
+use Rattle.psci_fw_spec.proofs.Words.{Suspended, sym, Take, true, true≢false, up, updated, Values}
+use Rattle.psci_fw_spec.proofs.Words.{with_arrival, ℕ}
+use Rattle.psci_fw_spec.specs.Lives.{first_phase}
+use Rattle.psci_fw_spec.proofs.Asked.{alone, asked_away, asked_running, asks_at, IsLeast, joined}
+use Rattle.psci_fw_spec.proofs.Asked.{Known}
+use Rattle.psci_fw_spec.proofs.Granting.{AreGranted, awake_from, parked_left, ran_asks, updated_at}
+use Rattle.psci_fw_spec.proofs.Granting.{updated_else}
 use Rattle.psci_fw_spec.specs.After.{after}
 use Rattle.psci_fw_spec.specs.Answer.{answer}
-use Rattle.psci_fw_spec.specs.Entering.{enter_fault, enter_outcome, is_old}
+use Rattle.psci_fw_spec.specs.Entering.{enter_fault, enter_outcome}
 use Rattle.psci_fw_spec.specs.History.{values_of}
-use Rattle.psci_fw_spec.specs.Phases.{is_running}
-use Rattle.psci_fw_spec.specs.Taking.{taken_by}
-use Rattle.psci_fw_spec.proofs.Answered.{Worded, kept_function}
-use Rattle.psci_fw_spec.proofs.Asked.{Known, asked_running, asks_at}
+use Rattle.psci_fw_spec.proofs.Answered.{kept_function, Worded}
 use Rattle.psci_fw_spec.proofs.Changing.{kept_acknowledged, kept_ceasing, kept_entering}
-use Rattle.psci_fw_spec.proofs.Starting.{are_first, are_in_life}
 use Rattle.psci_fw_spec.proofs.Stopping.{arrived_held, kept_parking, off_held}
-use Rattle.psci_fw_spec.proofs.Updates.{parked_left, updated_at, updated_else}
-use Rattle.psci_fw_spec.specs.declared.fault.FwFault.TheVariants as faults
-use Rattle.psci_fw_spec.specs.declared.outcome.Act.TheVariants as acts
-use Rattle.psci_fw_spec.specs.declared.reply.FwReply.TheVariants as replies
+
+-- The start of a life -------------------------------------------------------------------------
+
+-- Cores ---------------------------------------------------------------------------------------
+
+first_away : (c : ℕ) → (c ≡ 0 → ⊥) → first_phase c ≡ Away
+first_away c other = grind (arith, nat_tests)
+
+-- Granted depths ------------------------------------------------------------------------------
+
+-- nothing on the boot path, power-down elsewhere
+first_at : (b : BoardValue) (c level : ℕ) → Known b → c < cores b → level ≤ height b
+    → first_granted b level (up b level c) ≡ cond (up b level c == up b level 0) 0 3
+first_at b c level known on h =
+    grind (arith, nat_tests, known.paths.inside c level on h)
+
+on_path : (b : BoardValue) (c level : ℕ) → Known b → c < cores b → level ≤ height b
+    → up b level c ≡ up b level 0 → first_granted b level (up b level c) ≡ 0
+on_path b c level known on h at = grind (arith, nat_tests, first_at b c level known on h)
+
+off_path : (b : BoardValue) (c level : ℕ) → Known b → c < cores b → level ≤ height b
+    → (up b level c ≡ up b level 0 → ⊥) → first_granted b level (up b level c) ≡ 3
+off_path b c level known on h beside = grind (arith, nat_tests, first_at b c level known on h)
+
+first_nested : (b : BoardValue) (c level : ℕ) → Known b → c < cores b → level < height b
+    → first_granted b (level + 1) (up b (level + 1) c) ≤ first_granted b level (up b level c)
+first_nested b c level known on h = grind (
+  arith,
+  nat_tests,
+  first_at b c level known on,
+  first_at b c (level + 1) known on,
+  joined b c 0 level known.paths,
+)
+
+first_own : (b : BoardValue) (c : ℕ) → Known b → c < cores b
+    → first_granted b 0 c ≡ asks_at b (first_phase c) 0
+first_own b c known on = grind (
+  arith,
+  nat_tests,
+  first_at b c 0 known on,
+  known.paths.core c,
+  alone b c 0 known.paths,
+)
+
+first_least : (b : BoardValue) (c level : ℕ) → Known b → c < cores b → level ≤ height b
+    → IsLeast b first_phase c level (first_granted b level (up b level c))
+first_least b c level known on h = elim (cases_eq (up b level c) (up b level 0)) [
+  | inl meets ↦ subst (IsLeast b first_phase c level)
+      (sym (on_path b c level known on h meets)) (record {
+        most = omega arith;
+        below = λ x k at. omega arith;
+        above = λ n k each. omega (arith, each 0 (omega arith) (sym meets), asked_running b level);
+      })
+  | inr beside ↦ subst (IsLeast b first_phase c level)
+      (sym (off_path b c level known on h beside)) (record {
+        most = omega arith;
+        below = λ x k at.
+            omega (
+              arith,
+              ap (λ p. asks_at b p level) (first_away x (λ same. beside (cc))),
+              asked_away b level h,
+            );
+        above = λ n k each. k;
+      })
+]
+
+first_granted_so : (b : BoardValue) (life : ℕ) → Known b → let v = start_of_life b life in
+    AreGranted b v.mode v.phase v.granted
+first_granted_so b life known = record {
+  own = λ c on. first_own b c known on;
+  away = λ c level on h all. off_path b c level known on h
+      (λ meets. true≢false (sym (all 0 (omega arith) (sym meets))));
+  least = λ m c level on h. first_least b c level known on h;
+}
+
+pub are_first : (b : BoardValue) (life : ℕ) → Known b → AreValues b (start_of_life b life)
+are_first b life known = record {
+  known = λ c. omega arith;
+  agree = λ c. grind arith;
+  phase = λ c. grind arith;
+  nested = λ c level on h. first_nested b c level known on h;
+  asked = λ c on. omega (arith, first_own b c known on);
+  awake = λ awake. awake_from b (start_of_life b life) known (λ c. grind arith)
+      (first_granted_so b life known);
+}
+
+pub are_in_life : (b : BoardValue) (life : ℕ) (v : Values) → Known b → AreValues b v
+    → AreValues b (in_life b life v)
+are_in_life b life v known are = grind (arith, are_first b life known)
 
 -- Who may enter -------------------------------------------------------------------------------
 
--- a core that enters is there, and its start is not old
-there : (on : Bool) (lifeless old : Bool)
-    → cond (not on) (Some faults.NoCore) (cond lifeless (Some faults.NoLife)
-    (cond old (Some faults.OldStart) None))
-    ≡ None
-    → (on ≡ true) × (old ≡ false)
-there true false false e = (refl, refl)
-there on lifeless old e = absurd (cc e)
-
--- a start that is not old has a number within the limit
-within : (late none above again : Bool) → (late || (none || (above || again))) ≡ false
-    → above ≡ false
-within false false false again e = refl
-within late none above again e = absurd (cc e)
-
--- a core that may enter
-record MayEnter (b : BoardValue) (c : ℕ) (s : Start) : Type 0 where
-  on : c < cores b
-  number : s.number ≤ b.starts
-
-may_enter_by : (b : BoardValue) (v : Values) (c : ℕ) (s : Start) → enter_fault b v c s ≡ None
-    → MayEnter b c s
-may_enter_by b v c s e =
-    let both = there (nat_lt c (cores b)) (s.life == 0 || nat_lt b.lives s.life) (is_old b v c s) e
-    in
-    record {
-      on = ltb-true c (cores b) both.0;
-      number = ltb-false b.starts s.number (within (nat_lt s.life v.life) (s.number == 0)
-          (nat_lt b.starts s.number) (s.life == v.life && nat_le s.number (v.known c)) both.1);
-    }
+may_enter : (b : BoardValue) (v : Values) (c : ℕ) (s : Start) → enter_fault b v c s ≡ None
+    → (c < cores b) × (s.number ≤ b.starts)
+may_enter b v c s e = grind (arith, nat_tests)
 
 -- Entries -------------------------------------------------------------------------------------
 
-parks_kept : (b : BoardValue) (v : Values) (c : ℕ) (s : Start) → Known b → MayEnter b c s
+parks_kept : (b : BoardValue) (v : Values) (c : ℕ) (s : Start) → Known b → c < cores b
+    → s.number ≤ b.starts
     → (in_life b s.life v).halting ≡ false → (in_life b s.life v).opening c ≡ None
     → AreValues b (in_life b s.life v)
     → AreValues b (change b (Parks c s (off_message b (with_arrival b c s v) c)) v)
-parks_kept b v c s known may awake none are =
+parks_kept b v c s known on within awake none are =
     let f : Values = in_life b s.life v in
     let w : Values = with_arrival b c s v in
-    let old : ℕ → Phase = updated f.phase c Running in
-    let left = parked_left (f.phase c) (f.opening c) ((are.awake awake).opening c) none in
-    kept_parking b v c s (off_message b w c) known may.number awake none are
-    (off_held b w old c known may.on left
+    kept_parking b v c s (off_message b w c) known within awake none are
+    (off_held b w (updated f.phase c Running) c known on
+    (parked_left (f.phase c) (f.opening c) ((are.awake awake).opening c) none)
     (λ x other. sym (updated_else f.phase c Running x other)) are.phase
-    (ap (λ (p : Phase). asks_at b p 0) (updated_at f.phase c Running) ∙ asked_running b 0)
-    (arrived_held b v c s known may.on awake are))
+    (ran_asks b _ (updated_at f.phase c Running))
+    (arrived_held b v c s known on awake are))
 
-opening_kept : (b : BoardValue) (v : Values) (c : ℕ) (s : Start) (o : Option Opening) → Known b
-    → MayEnter b c s → (in_life b s.life v).halting ≡ false
-    → (in_life b s.life v).opening c ≡ o → AreValues b (in_life b s.life v)
-    → let p : Outcome = outcome_at b (in_life b s.life v) (with_arrival b c s v) c s o in
-    AreValues b (change b (enter_effect c s p.act p.message) v)
-opening_kept b v c s (Some o) known may awake e are =
-    kept_entering b v c s known may.on may.number are
-opening_kept b v c s None known may awake e are = by_test (resumes (in_life b s.life v) c s)
-  where
-    by_test : (again : Bool) → let p : Outcome = cond again
-        (record { act = acts.Resume; message = None })
-        (stops_with (off_message b (with_arrival b c s v) c)) in
-        AreValues b (change b (enter_effect c s p.act p.message) v)
-    by_test true = kept_entering b v c s known may.on may.number are
-    by_test false = parks_kept b v c s known may awake e are
+-- an entry stops at once, goes on, or parks
+enter_ends : (P : Effect → Type 0) (b : BoardValue) (v : Values) (c : ℕ) (s : Start)
+    → ((in_life b s.life v).halting ≡ true → P (StopsAtOnce c s)) → P (Enters c s)
+    → ((in_life b s.life v).halting ≡ false → (in_life b s.life v).opening c ≡ None
+    → P (Parks c s (off_message b (with_arrival b c s v) c)))
+    → let o = enter_outcome b v c s in P (enter_effect c s o.act o.message)
+unfolding enter_outcome
+enter_ends P b v c s stopped enters parks = grind arith
 
 pub kept_enter : (b : BoardValue) (v : Values) (c : ℕ) (s : Start) → Known b → AreValues b v
     → enter_fault b v c s ≡ None → let o = enter_outcome b v c s in
     AreValues b (change b (enter_effect c s o.act o.message) v)
-unfolding enter_outcome
-kept_enter b v c s known are e = by_test (in_life b s.life v).halting refl
-  where
-    found : AreValues b (in_life b s.life v)
-    found = are_in_life b s.life v known are
-
-    may : MayEnter b c s
-    may = may_enter_by b v c s e
-
-    by_test : (halting : Bool) → (in_life b s.life v).halting ≡ halting
-        → let o : Outcome = cond halting stops (outcome_at b (in_life b s.life v)
-        (with_arrival b c s v) c s ((in_life b s.life v).opening c)) in
-        AreValues b (change b (enter_effect c s o.act o.message) v)
-    by_test true halts = kept_ceasing b v c s known may.number halts found
-    by_test false awake =
-        opening_kept b v c s ((in_life b s.life v).opening c) known may awake refl found
+kept_enter b v c s known are e =
+    let may = may_enter b v c s e in
+    let found = are_in_life b s.life v known are in
+    enter_ends (λ f. AreValues b (change b f v)) b v c s
+    (λ halts. kept_ceasing b v c s known may.1 halts found)
+    (kept_entering b v c s known may.0 may.1 found)
+    (λ awake none. parks_kept b v c s known may.0 may.1 awake none found)
 
 -- All calls -----------------------------------------------------------------------------------
 
-running_phase : (p : Phase) → is_running p ≡ true → p ≡ Running
-running_phase Running e = refl
-running_phase p e = absurd (cc e)
+may_call : (b : BoardValue) (v : Values) (c : ℕ) → call_fault b v c ≡ None
+    → (c < cores b) × (v.phase c ≡ Running)
+may_call b v c e = grind (arith, nat_tests)
 
-calls : (on lifeless runs : Bool)
-    → cond (not on) (Some faults.NoCore) (cond lifeless (Some faults.NoLife)
-    (cond runs None (Some faults.NotRunning)))
-    ≡ None
-    → (on ≡ true) × (runs ≡ true)
-calls true false true e = (refl, refl)
-calls on lifeless runs e = absurd (cc e)
+reply_ends : (P : FwReply → Type 0) (f : Option FwFault) (o : Outcome)
+    → ((x : FwFault) → P (Fault x)) → (f ≡ None → P (Out o)) → P (reply_or f o)
+reply_ends P f o refused answered = grind arith
 
 pub kept_answer : (b : BoardValue) (v : Values) (c : ℕ) (call : FwCall) → Known b → AreValues b v
     → Worded b → IsPhase b (Suspended (deepest_of (height b)))
     → AreValues b (after b c call (answer b v c call) v)
 unfolding after answer
-kept_answer b v c (Smc regs) known are asks all = by_fault (call_fault b v c) refl
-  where
-    by_fault : (f : Option FwFault) → call_fault b v c ≡ f
-        → AreValues b (change b (effect_of b c (Smc regs)
-        (reply_or f (outcome_of b v c (request_of regs)))) v)
-    by_fault (Some f) e = are
-    by_fault None e =
-        let both = calls (nat_lt c (cores b)) (v.life == 0) (is_running (v.phase c)) e in
-        kept_function b v c (request_of regs) known (ltb-true c (cores b) both.0) are
-        (running_phase (v.phase c) both.1) asks all
-kept_answer b v c (Enter s) known are asks all = by_fault (enter_fault b v c s) refl
-  where
-    by_fault : (f : Option FwFault) → enter_fault b v c s ≡ f
-        → AreValues b (change b (effect_of b c (Enter s) (reply_or f (enter_outcome b v c s))) v)
-    by_fault (Some f) e = are
-    by_fault None e = kept_enter b v c s known are e
-kept_answer b v c (Take a) known are asks all = by_taken (taken_by v a)
-  where
-    by_taken : (t : Taken)
-        → AreValues b (change b (effect_of b c (Take a) (replies.Taken t)) v)
-    by_taken Used = kept_acknowledged b v a are
-    by_taken Old = are
+kept_answer b v c (Smc regs) known are asks all =
+    reply_ends (λ r. AreValues b (change b (effect_of b c (Smc regs) r) v)) (call_fault b v c)
+    (outcome_of b v c (request_of regs)) (λ x. are) (λ e.
+    let may = may_call b v c e in
+    kept_function b v c (request_of regs) known may.0 are may.1 asks all)
+kept_answer b v c (Enter s) known are asks all =
+    reply_ends (λ r. AreValues b (change b (effect_of b c (Enter s) r) v)) (enter_fault b v c s)
+    (enter_outcome b v c s) (λ x. are) (kept_enter b v c s known are)
+kept_answer b v c (Take a) known are asks all = grind (arith, kept_acknowledged b v a are)
 
 -- Histories -----------------------------------------------------------------------------------
 

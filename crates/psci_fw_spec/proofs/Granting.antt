@@ -1,18 +1,15 @@
--- Granted depths, as phases change: a path is cleared, or a core that stops claims.
-use Rattle.std.proofs.lemmas.Bool.{eqb-false}
-use Rattle.psci_fw_spec.proofs.Words.{◌+◌, ◌<◌, ◌==◌, ◌∙◌, ◌≡◌, ◌≤◌, activity_of, ap, arith}
-use Rattle.psci_fw_spec.proofs.Words.{BoardValue, Bool, cases_eq, claimed_or, cleared, cond, cores}
-use Rattle.psci_fw_spec.proofs.Words.{eqb-true, false, granted_with, height, inl, inr, is_away}
-use Rattle.psci_fw_spec.proofs.Words.{List, Part, PathLaws, Phase, Platform, refl, slice_get, subst}
-use Rattle.psci_fw_spec.proofs.Words.{suc, SuspendMode, sym, true, true≢false, up, zero, ℕ}
-use Rattle.psci_fw_spec.proofs.Asked.{IsAllOff, IsLeast, apart, asks_at, joined, least_at}
-use Rattle.psci_fw_spec.proofs.Asked.{least_beside}
-
--- a choice has what each of its values has
-pub chosen : {A : Type 0} (P : A → Type 0) (t : Bool) (x y : A) → (t ≡ true → P x)
-    → (t ≡ false → P y) → P (cond t x y)
-chosen P true x y f g = f refl
-chosen P false x y f g = g refl
+-- Granted depths, as phases change: a path is cleared, or a core that stops claims. And what holds
+-- of values, by what it is read from, and of values of which one core's were updated.
+use Rattle.psci_fw_spec.proofs.Words.{◌+◌, ◌<◌, ◌∙◌, ◌≡◌, ◌≤◌, activity_of, AreAwake, AreValues}
+use Rattle.psci_fw_spec.proofs.Words.{arith, Away, BoardValue, cases_eq, claimed_or, cleared, cores}
+use Rattle.psci_fw_spec.proofs.Words.{false, granted_with, height, inl, inr, is_away, is_expected}
+use Rattle.psci_fw_spec.proofs.Words.{is_some, IsPhase, known, List, nat_tests, None, Opening}
+use Rattle.psci_fw_spec.proofs.Words.{Option, Part, PathLaws, Phase, phase, Platform, Running}
+use Rattle.psci_fw_spec.proofs.Words.{slice_get, subst, suc, SuspendMode, sym, unless_pending, up}
+use Rattle.psci_fw_spec.proofs.Words.{updated, Values, with_phase, zero, ℕ}
+use Rattle.psci_fw_spec.proofs.Asked.{all_off, apart, asks_at, IsAllOff, IsAsking, IsLeast, joined}
+use Rattle.psci_fw_spec.proofs.Asked.{Known, least_at, least_beside, least_is, off_all, one_least}
+use Rattle.psci_fw_spec.proofs.Asked.{phase_asks}
 
 -- no phase but this core's has changed
 abbrev pub ChangedAt : (ℕ → Phase) → (ℕ → Phase) → ℕ → Type 0
@@ -31,13 +28,12 @@ pub none_granted : (b : BoardValue) (phase : ℕ → Phase) (granted : ℕ → �
     → PathLaws b → AreBounded b phase granted → c < cores b → asks_at b (phase c) 0 ≡ 0
     → level ≤ height b → granted level (up b level c) ≡ 0
 none_granted b phase granted c zero paths bounded h none i =
-    let own : granted 0 (up b 0 c) ≡ granted 0 c = ap (granted 0) (paths.core c) in
-    omega (arith, own, bounded.asked c h, none)
-none_granted b phase granted c (suc level) paths bounded h none i =
-    let next : level + 1 ≡ suc level = omega arith in
-    let step = bounded.nested c level h (omega arith) in
-    let nested = rw next at step in
-    omega (arith, nested, none_granted b phase granted c level paths bounded h none (omega arith))
+    grind (arith, paths.core c, bounded.asked c h)
+none_granted b phase granted c (suc level) paths bounded h none i = grind (
+  arith,
+  bounded.nested c level h,
+  none_granted b phase granted c level paths bounded h none,
+)
 
 -- the path of a core is cleared, whatever its phase becomes
 pub bounded_cleared : (b : BoardValue) (old new : ℕ → Phase) (granted : ℕ → ℕ → ℕ) (c : ℕ)
@@ -45,21 +41,8 @@ pub bounded_cleared : (b : BoardValue) (old new : ℕ → Phase) (granted : ℕ 
     → AreBounded b new (cleared b c granted)
 bounded_cleared b old new granted c paths changed g = record {
   nested = λ x level h i.
-      chosen (λ d. cleared b c granted (level + 1) (up b (level + 1) x) ≤ d)
-      (up b level x == up b level c) 0 (granted level (up b level x))
-      (λ e.
-      let meet : up b (level + 1) x ≡ up b (level + 1) c =
-      joined b x c level paths (eqb-true _ _ e) in
-      chosen (λ d. d ≤ 0) (up b (level + 1) x == up b (level + 1) c) 0
-      (granted (level + 1) (up b (level + 1) x)) (λ t. omega arith)
-      (λ t. absurd (eqb-false _ _ t meet)))
-      (λ e. chosen (λ d. d ≤ granted level (up b level x))
-      (up b (level + 1) x == up b (level + 1) c) 0 (granted (level + 1) (up b (level + 1) x))
-      (λ t. omega arith) (λ t. g.nested x level h i));
-  asked = λ x h. chosen (λ d. d ≤ asks_at b (new x) 0) (x == up b 0 c) 0 (granted 0 x)
-      (λ e. omega arith)
-      (λ e. subst (λ (p : Phase). granted 0 x ≤ asks_at b p 0)
-      (sym (changed x (λ same. eqb-false _ _ e (same ∙ sym (paths.core c))))) (g.asked x h));
+      grind (arith, nat_tests, joined b x c level paths, g.nested x level h i);
+  asked = λ x h. grind (arith, nat_tests, g.asked x h, changed x, paths.core c);
 }
 
 -- a core that asked nothing of itself may come to ask anything
@@ -68,13 +51,7 @@ pub bounded_left : (b : BoardValue) (old new : ℕ → Phase) (granted : ℕ →
     → AreBounded b new granted
 bounded_left b old new granted c paths changed none g = record {
   nested = g.nested;
-  asked = λ x h. elim (cases_eq x c) [
-    | inl same ↦
-        let nothing : asks_at b (old x) 0 ≡ 0 = ap (λ y. asks_at b (old y) 0) same ∙ none in
-        omega (arith, g.asked x h, nothing)
-    | inr other ↦ subst (λ (p : Phase). granted 0 x ≤ asks_at b p 0) (sym (changed x other))
-        (g.asked x h)
-  ];
+  asked = λ x h. grind (arith, g.asked x h, changed x);
 }
 
 -- Equations -----------------------------------------------------------------------------------
@@ -88,12 +65,19 @@ pub record AreGranted (b : BoardValue) (mode : SuspendMode) (phase : ℕ → Pha
   pub least : mode ≡ Platform → (c level : ℕ) → c < cores b → level ≤ height b
       → IsLeast b phase c level (granted level (up b level c))
 
--- all off below a domain without the core, before its phase changed
-off_beside : (b : BoardValue) (old new : ℕ → Phase) (c x level : ℕ) → ChangedAt old new c
-    → (up b level x ≡ up b level c → ⊥) → IsAllOff b new x level → IsAllOff b old x level
-off_beside b old new c x level changed beside all = λ y h at.
-    subst (λ (p : Phase). is_away (activity_of p) ≡ true)
-    (changed y (apart b x y c level beside at)) (all y h at)
+-- beside the path of the core that changed power-down is granted as before
+away_beside : (b : BoardValue) (mode : SuspendMode) (old new : ℕ → Phase) (granted : ℕ → ℕ → ℕ)
+    (c x level : ℕ) → ChangedAt old new c → AreGranted b mode old granted → x < cores b
+    → level ≤ height b → IsAllOff b new x level → (up b level x ≡ up b level c → ⊥)
+    → granted level (up b level x) ≡ 3
+away_beside b mode old new granted c x level changed g h i all beside = g.away x level h i
+    (λ y k at. grind (arith, changed y (apart b x y c level beside at), all y k at))
+
+-- and so is the least ask, in platform-coordinated mode
+beside_least : (b : BoardValue) (old new : ℕ → Phase) (c x level m : ℕ) → ChangedAt old new c
+    → IsLeast b old x level m → (up b level x ≡ up b level c → ⊥) → IsLeast b new x level m
+beside_least b old new c x level m changed is beside =
+    least_beside b old new x level m (λ y k at. changed y (apart b x y c level beside at)) is
 
 -- a core that is on, and asks nothing, has its path cleared
 pub granted_cleared : (b : BoardValue) (mode : SuspendMode) (old new : ℕ → Phase)
@@ -101,25 +85,21 @@ pub granted_cleared : (b : BoardValue) (mode : SuspendMode) (old new : ℕ → P
     → ((level : ℕ) → asks_at b (new c) level ≡ 0) → is_away (activity_of (new c)) ≡ false
     → AreGranted b mode old granted → AreGranted b mode new (cleared b c granted)
 granted_cleared b mode old new granted c paths on changed none active g = record {
-  own = λ x h. chosen (λ d. d ≡ asks_at b (new x) 0) (x == up b 0 c) 0 (granted 0 x)
-      (λ e.
-      let same : x ≡ c = eqb-true _ _ e ∙ paths.core c in
-      sym (ap (λ y. asks_at b (new y) 0) same ∙ none 0))
-      (λ e. g.own x h ∙ sym (ap (λ (p : Phase). asks_at b p 0)
-      (changed x (λ same. eqb-false _ _ e (same ∙ sym (paths.core c))))));
-  away = λ x level h i all. chosen (λ d. d ≡ 3) (up b level x == up b level c) 0
-      (granted level (up b level x))
-      (λ e. absurd (true≢false (sym (all c on (sym (eqb-true _ _ e))) ∙ active)))
-      (λ e. g.away x level h i (off_beside b old new c x level changed (eqb-false _ _ e) all));
-  least = λ m x level h i. chosen (IsLeast b new x level) (up b level x == up b level c) 0
-      (granted level (up b level x))
-      (λ e. record {
+  own = λ x h. grind (arith, nat_tests, g.own x h, changed x, paths.core c, none 0);
+  away = λ x level h i all. grind (
+    arith,
+    nat_tests,
+    all c on,
+    away_beside b mode old new granted c x level changed g h i all,
+  );
+  least = λ m x level h i.
+      let here : up b level x ≡ up b level c → IsLeast b new x level 0 = λ at. record {
         most = omega arith;
-        below = λ y k at. omega arith;
-        above = λ n k each. subst (λ d. n ≤ d) (none level) (each c on (sym (eqb-true _ _ e)));
-      })
-      (λ e. least_beside b old new x level _
-      (λ y k at. changed y (apart b x y c level (eqb-false _ _ e) at)) (g.least m x level h i));
+        below = λ y k e. omega arith;
+        above = λ n k each. omega (arith, each c on (sym at), none level);
+      } in
+      let beside = beside_least b old new c x level _ changed (g.least m x level h i) in
+      grind (arith, nat_tests, here, beside);
 }
 
 -- Claims --------------------------------------------------------------------------------------
@@ -143,12 +123,16 @@ AreLaid b granted c parts want =
     (level : ℕ) → level ≤ height b
     → claimed_or (slice_get parts level) (granted level (up b level c)) ≡ want level
 
--- the depth at a place that is on the path
-laid_at : (b : BoardValue) (granted : ℕ → ℕ → ℕ) (c : ℕ) (parts : List Part) (want : ℕ → ℕ)
-    (level place : ℕ) → AreLaid b granted c parts want → level ≤ height b
-    → place ≡ up b level c → claimed_or (slice_get parts level) (granted level place) ≡ want level
-laid_at b granted c parts want level place is i at =
-    ap (λ y. claimed_or (slice_get parts level) (granted level y)) at ∙ is level i
+-- what is granted to the domains of a level, on the path and beside it
+with_at : (b : BoardValue) (granted : ℕ → ℕ → ℕ) (c : ℕ) (parts : List Part) (want : ℕ → ℕ)
+    (level x : ℕ) → AreLaid b granted c parts want → level ≤ height b
+    → up b level x ≡ up b level c → granted_with b c parts granted level (up b level x) ≡ want level
+with_at b granted c parts want level x is i at = grind (arith, nat_tests, is level i)
+
+with_else : (b : BoardValue) (granted : ℕ → ℕ → ℕ) (c : ℕ) (parts : List Part) (level x : ℕ)
+    → (up b level x ≡ up b level c → ⊥)
+    → granted_with b c parts granted level (up b level x) ≡ granted level (up b level x)
+with_else b granted c parts level x beside = grind (arith, nat_tests)
 
 pub nested_laid : (b : BoardValue) (mode : SuspendMode) (old new : ℕ → Phase)
     (granted : ℕ → ℕ → ℕ) (c : ℕ) (parts : List Part) (want : ℕ → ℕ) → PathLaws b
@@ -156,30 +140,16 @@ pub nested_laid : (b : BoardValue) (mode : SuspendMode) (old new : ℕ → Phase
     → AreBounded b old granted → (x level : ℕ) → x < cores b → level < height b
     → granted_with b c parts granted (level + 1) (up b (level + 1) x)
     ≤ granted_with b c parts granted level (up b level x)
-nested_laid b mode old new granted c parts want paths is w g = λ x level h i.
-    chosen (λ d. d ≤ granted_with b c parts granted level (up b level x))
-    (up b (level + 1) x == up b (level + 1) c)
-    (claimed_or (slice_get parts (level + 1)) (granted (level + 1) (up b (level + 1) x)))
-    (granted (level + 1) (up b (level + 1) x))
-    (λ e.
-    let above : claimed_or (slice_get parts (level + 1)) (granted (level + 1) (up b (level + 1) x))
-    ≡ want (level + 1) =
-    laid_at b granted c parts want (level + 1) _ is (omega arith) (eqb-true _ _ e) in
-    chosen (λ d. claimed_or (slice_get parts (level + 1))
-    (granted (level + 1) (up b (level + 1) x)) ≤ d) (up b level x == up b level c)
-    (claimed_or (slice_get parts level) (granted level (up b level x)))
-    (granted level (up b level x))
-    (λ t.
-    let below : claimed_or (slice_get parts level) (granted level (up b level x)) ≡ want level =
-    laid_at b granted c parts want level _ is (omega arith) (eqb-true _ _ t) in
-    omega (arith, above, below, w.falls level i))
-    (λ t. omega (arith, above, w.beside x level h i (eqb-true _ _ e) (eqb-false _ _ t))))
-    (λ e. chosen (λ d. granted (level + 1) (up b (level + 1) x) ≤ d)
-    (up b level x == up b level c)
-    (claimed_or (slice_get parts level) (granted level (up b level x)))
-    (granted level (up b level x))
-    (λ t. absurd (eqb-false _ _ e (joined b x c level paths (eqb-true _ _ t))))
-    (λ t. g.nested x level h i))
+nested_laid b mode old new granted c parts want paths is w g x level h i = grind (
+  arith,
+  nat_tests,
+  is level,
+  is (level + 1),
+  w.falls level i,
+  w.beside x level h i,
+  joined b x c level paths,
+  g.nested x level h i,
+)
 
 pub granted_laid : (b : BoardValue) (mode : SuspendMode) (old new : ℕ → Phase)
     (granted : ℕ → ℕ → ℕ) (c : ℕ) (parts : List Part) (want : ℕ → ℕ) → PathLaws b
@@ -187,26 +157,94 @@ pub granted_laid : (b : BoardValue) (mode : SuspendMode) (old new : ℕ → Phas
     → AreWanted b mode new granted c want → AreGranted b mode old granted
     → AreGranted b mode new (granted_with b c parts granted)
 granted_laid b mode old new granted c parts want paths changed is w g = record {
-  own = λ x h. chosen (λ d. d ≡ asks_at b (new x) 0) (x == up b 0 c)
-      (claimed_or (slice_get parts 0) (granted 0 x)) (granted 0 x)
-      (λ e.
-      let same : c ≡ x = sym (eqb-true _ _ e ∙ paths.core c) in
-      laid_at b granted c parts want 0 x is (omega arith) (eqb-true _ _ e) ∙ w.own
-      ∙ ap (λ y. asks_at b (new y) 0) same)
-      (λ e. g.own x h ∙ sym (ap (λ (p : Phase). asks_at b p 0)
-      (changed x (λ same. eqb-false _ _ e (same ∙ sym (paths.core c))))));
-  away = λ x level h i all. chosen (λ d. d ≡ 3) (up b level x == up b level c)
-      (claimed_or (slice_get parts level) (granted level (up b level x)))
-      (granted level (up b level x))
-      (λ e. laid_at b granted c parts want level _ is i (eqb-true _ _ e)
-      ∙ w.away level i (λ y k at. all y k (at ∙ sym (eqb-true _ _ e))))
-      (λ e. g.away x level h i (off_beside b old new c x level changed (eqb-false _ _ e) all));
-  least = λ m x level h i. chosen (IsLeast b new x level) (up b level x == up b level c)
-      (claimed_or (slice_get parts level) (granted level (up b level x)))
-      (granted level (up b level x))
-      (λ e. subst (IsLeast b new x level)
-      (sym (laid_at b granted c parts want level _ is i (eqb-true _ _ e)))
-      (least_at b new c x level (want level) (eqb-true _ _ e) (w.least m level i)))
-      (λ e. least_beside b old new x level _
-      (λ y k at. changed y (apart b x y c level (eqb-false _ _ e) at)) (g.least m x level h i));
+  own = λ x h. grind (arith, nat_tests, is 0, w.own, g.own x h, changed x, paths.core c);
+  away = λ x level h i all. elim (cases_eq (up b level x) (up b level c)) [
+    | inl at ↦ with_at b granted c parts want level x is i at
+        ∙ w.away level i (λ y k e. all y k (cc))
+    | inr beside ↦ with_else b granted c parts level x beside
+        ∙ away_beside b mode old new granted c x level changed g h i all beside
+  ];
+  least = λ m x level h i. elim (cases_eq (up b level x) (up b level c)) [
+    | inl at ↦ subst (IsLeast b new x level) (sym (with_at b granted c parts want level x is i at))
+        (least_at b new c x level _ at (w.least m level i))
+    | inr beside ↦ subst (IsLeast b new x level) (sym (with_else b granted c parts level x beside))
+        (beside_least b old new c x level _ changed (g.least m x level h i) beside)
+  ];
 }
+
+-- Values --------------------------------------------------------------------------------------
+
+pub bounded_of : (b : BoardValue) (v : Values) → AreValues b v → AreBounded b v.phase v.granted
+bounded_of b v are = record { nested = are.nested; asked = are.asked }
+
+pub granted_of : (b : BoardValue) (v : Values) → Known b → AreAwake b v
+    → AreGranted b v.mode v.phase v.granted
+granted_of b v known awake = record {
+  own = awake.own;
+  away = λ c level on h all. awake.away c level on h (off_all b v c level known all);
+  least = λ m c level on h. subst (IsLeast b v.phase c level)
+      (sym (awake.least m c level on h)) (least_is b v c level known);
+}
+
+pub awake_from : (b : BoardValue) (v : Values) → Known b
+    → ((c : ℕ) → is_some (v.opening c) ≡ is_expected (v.phase c))
+    → AreGranted b v.mode v.phase v.granted → AreAwake b v
+awake_from b v known opening g = record {
+  opening = opening;
+  own = g.own;
+  away = λ c level on h e. g.away c level on h (all_off b v c level known e);
+  least = λ m c level on h. one_least b v.phase c level _ _ (g.least m c level on h)
+      (least_is b v c level known);
+}
+
+-- phases that are the same at each core
+pub same_phases : (b : BoardValue) (v : Values) (phase : ℕ → Phase)
+    → ((k : ℕ) → v.phase k ≡ phase k) → AreValues b v → AreValues b (record v { phase = phase })
+same_phases b v phase same are =
+    subst (AreValues b) (λ i. record v { phase = λ k. same k i }) are
+
+-- One core's values updated --------------------------------------------------------------------
+
+pub updated_at : {A : Type 0} (f : ℕ → A) (c : ℕ) (x : A) → updated f c x c ≡ x
+updated_at f c x = grind (arith, nat_tests)
+
+pub updated_else : {A : Type 0} (f : ℕ → A) (c : ℕ) (x : A) (k : ℕ) → (k ≡ c → ⊥)
+    → updated f c x k ≡ f k
+updated_else f c x k other = grind (arith, nat_tests)
+
+-- what holds of the new value and of each old one holds of each value
+pub updated_each : {A : Type 0} (P : ℕ → A → Type 0) (f : ℕ → A) (c : ℕ) (x : A) → P c x
+    → ((k : ℕ) → P k (f k)) → (k : ℕ) → P k (updated f c x k)
+updated_each P f c x new old k = grind (arith, nat_tests)
+
+-- the same of two functions, each updated at one core
+pub both_updated : {A B : Type 0} (P : A → B → Type 0) (f : ℕ → A) (g : ℕ → B) (c : ℕ) (x : A)
+    (y : B) → P x y → ((k : ℕ) → P (f k) (g k)) → (k : ℕ)
+    → P (updated f c x k) (updated g c y k)
+both_updated P f g c x y new old k = grind arith
+
+-- a call leaves its core's phase, unless the core is pending
+pub left_at : (v : Values) (c : ℕ) (left : Phase) → unless_pending (v.phase c) left ≡ left
+    → (with_phase c left v).phase c ≡ left
+left_at v c left e = grind (arith, nat_tests)
+
+pub left_else : (v : Values) (c : ℕ) (left : Phase)
+    → ChangedAt v.phase (with_phase c left v).phase c
+left_else v c left x other = grind (arith, nat_tests)
+
+pub left_asks : (b : BoardValue) (v : Values) (c : ℕ) (left : Phase)
+    → unless_pending (v.phase c) left ≡ left → IsAsking left → ((y : ℕ) → IsPhase b (v.phase y))
+    → (y : ℕ) → IsAsking ((with_phase c left v).phase y)
+left_asks b v c left e asks is y = grind (arith, phase_asks b (v.phase y) (is y))
+
+-- a core that ran is left as the call leaves it, and asked nothing
+pub ran_left : (p left : Phase) → p ≡ Running → unless_pending p left ≡ left
+ran_left p left runs = grind arith
+
+pub ran_asks : (b : BoardValue) (p : Phase) → p ≡ Running → asks_at b p 0 ≡ 0
+ran_asks b p runs = grind arith
+
+-- a core that nothing waits for is away once it stops
+pub parked_left : (p : Phase) (o : Option Opening) → is_some o ≡ is_expected p → o ≡ None
+    → unless_pending p Away ≡ Away
+parked_left p o e none = grind arith

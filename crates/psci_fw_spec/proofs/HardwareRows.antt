@@ -2,11 +2,11 @@
 -- ones.
 use Rattle.std.proofs.Common.{◌∷◌, ℕ, [], false, refl}
 use Rattle.psci_messages.specs.declared.kind.Kind.TheVariants as kinds
-use Rattle.psci_fw_spec.proofs.Lopsided.{lopsided, once_3_runs}
-use Rattle.psci_fw_spec.proofs.Steps.{◌⇒◌, AreAnswered, AreAnsweredAll, Step, board, boot, boots}
+use Rattle.psci_fw_spec.proofs.LopsidedRows.{lopsided, once_3_runs}
+use Rattle.psci_fw_spec.proofs.Steps.{◌⇒◌, AreAnswered, AreAnsweredOn, board, boot, boots}
 use Rattle.psci_fw_spec.proofs.Steps.{computing, enter_boot, enter_on, enter_reset, enter_wake}
 use Rattle.psci_fw_spec.proofs.Steps.{error, goes_on_3, goes_to, off, old, on, on_3, on_by}
-use Rattle.psci_fw_spec.proofs.Steps.{one_core, part, resumes, set_mode, smc, starts, stops}
+use Rattle.psci_fw_spec.proofs.Steps.{one_core, part, resumes, set_mode, smc, starts, Step, stops}
 use Rattle.psci_fw_spec.proofs.Steps.{suspend, take, take_down, take_stale, tall, used, value}
 
 -- NODE_HW_STATE by a core: affinity word, level
@@ -15,10 +15,10 @@ hw c target level = smc c 0xc400000d target level 0
 
 -- Acknowledged, or not ------------------------------------------------------------------------
 
--- a Down that is acknowledged in part at three levels, in life 2, asked by core 3: each level is
--- off from the acknowledgement of its part on, and the system stays on
-in_part_at_three_levels : AreAnswered lopsided
-    (enter_boot 0 2 1 ⇒ boots
+acknowledged_or_not : AreAnsweredOn
+    -- a Down that is acknowledged in part at three levels, in life 2, asked by core 3: each level
+    -- is off from the acknowledgement of its part on, and the system stays on
+    (lopsided ⇒ (enter_boot 0 2 1 ⇒ boots
     ∷ hw 0 0x10000 0 ⇒ value 1
     ∷ hw 0 0x10000 1 ⇒ value 1
     ∷ hw 0 0x10000 2 ⇒ value 1
@@ -43,19 +43,15 @@ in_part_at_three_levels : AreAnswered lopsided
     ∷ hw 3 0 3 ⇒ value 0
     ∷ hw 3 0x10000 0 ⇒ value 0
     ∷ hw 3 0x100 0 ⇒ value 1 ∷ [])
-unfolding computing
-in_part_at_three_levels = record { history = refl; values = refl }
-
-more_or_other_parts : AreAnsweredAll board
     -- more parts than the Down has
-    (once_3_runs 1
+    ∷ board ⇒ once_3_runs 1
     (suspend 3 0x2 0 0 ⇒ stops 3 1 1 (part 0 2 1 ∷ [])
     ∷ take_down 3 1 1 3 ⇒ used
     ∷ hw 0 0x101 0 ⇒ value 2
     ∷ hw 0 0x100 1 ⇒ value 0
     ∷ hw 0 0 2 ⇒ value 0 ∷ [])
     -- an acknowledgement of another life, number, core or kind
-    ∷ (enter_boot 0 2 1 ⇒ boots
+    ∷ board ⇒ (enter_boot 0 2 1 ⇒ boots
     ∷ on_3 ⇒ starts 3 2 0
     ∷ enter_on 3 2 2 ⇒ goes_on_3
     ∷ off 3 ⇒ stops 3 2 2 (part 0 3 2 ∷ part 1 3 2 ∷ [])
@@ -67,14 +63,10 @@ more_or_other_parts : AreAnsweredAll board
     ∷ hw 0 0x100 1 ⇒ value 0
     ∷ take_down 3 2 2 2 ⇒ used
     ∷ hw 0 0x101 0 ⇒ value 1
-    ∷ hw 0 0x100 1 ⇒ value 1 ∷ []) ∷ [])
-unfolding computing
-more_or_other_parts = record { history = refl; values = refl }
-
--- retention in OS-initiated mode, in the last life: the acknowledgement of an earlier start is old,
--- before the core has stopped again and afterwards
-old_in_the_last_life : AreAnswered board
-    (enter_boot 0 3 1 ⇒ boots
+    ∷ hw 0 0x100 1 ⇒ value 1 ∷ [])
+    -- retention in OS-initiated mode, in the last life: the acknowledgement of an earlier start is
+    -- old, before the core has stopped again and afterwards
+    ∷ board ⇒ (enter_boot 0 3 1 ⇒ boots
     ∷ set_mode 0 1 ⇒ value 0
     ∷ on 0x100 0x40002000 1 ⇒ starts 2 3 0
     ∷ enter_on 2 3 1 ⇒ goes_to 0x40002000 1
@@ -92,12 +84,8 @@ old_in_the_last_life : AreAnswered board
     ∷ hw 0 0x100 1 ⇒ value 2
     ∷ hw 0 0x101 0 ⇒ value 1
     ∷ hw 0 0 2 ⇒ value 0 ∷ [])
-unfolding computing
-old_in_the_last_life = record { history = refl; values = refl }
-
--- an acknowledgement of one core's Down says nothing of another core, which asked the same
-beside_its_path : AreAnswered board
-    (boot ⇒ boots
+    -- an acknowledgement of one core's Down says nothing of another core, which asked the same
+    ∷ board ⇒ (boot ⇒ boots
     ∷ on 0x1 0x40005000 0 ⇒ starts 1 1 0
     ∷ enter_on 1 1 1 ⇒ goes_to 0x40005000 0
     ∷ on 0x100 0x40002000 0 ⇒ starts 2 1 0
@@ -110,22 +98,22 @@ beside_its_path : AreAnswered board
     ∷ hw 0 0x100 1 ⇒ value 0
     ∷ take_down 2 1 1 2 ⇒ used
     ∷ hw 0 0x100 1 ⇒ value 2
-    ∷ hw 0 0 1 ⇒ value 0 ∷ [])
+    ∷ hw 0 0 1 ⇒ value 0 ∷ []) ∷ [])
 unfolding computing
-beside_its_path = record { history = refl; values = refl }
+acknowledged_or_not = record { history = refl; values = refl }
 
 -- Asked on, woken, replaced -------------------------------------------------------------------
 
-asked_on_woken_replaced : AreAnsweredAll board
+asked_on_woken_replaced : AreAnsweredOn
     -- stale without parts
-    (once_3_runs 1
+    (board ⇒ once_3_runs 1
     (off 3 ⇒ stops 3 1 1 (part 0 3 1 ∷ part 1 3 1 ∷ [])
     ∷ take_stale 3 1 1 0 ⇒ used
     ∷ hw 0 0x101 0 ⇒ value 0
     ∷ take_down 3 1 1 2 ⇒ old
     ∷ hw 0 0x101 0 ⇒ value 0 ∷ [])
     -- applied and asked on
-    ∷ once_3_runs 1
+    ∷ board ⇒ once_3_runs 1
     (off 3 ⇒ stops 3 1 1 (part 0 3 1 ∷ part 1 3 1 ∷ [])
     ∷ on 0x100 0x40002000 0 ⇒ starts 2 1 0
     ∷ take_down 3 1 1 2 ⇒ used
@@ -133,7 +121,7 @@ asked_on_woken_replaced : AreAnsweredAll board
     ∷ hw 0 0x100 1 ⇒ value 0 ∷ [])
     -- the cluster was claimed anew, by core 2: the acknowledgement of the claim before says nothing
     -- of it, though of core 3
-    ∷ once_3_runs 1
+    ∷ board ⇒ once_3_runs 1
     (off 3 ⇒ stops 3 1 1 (part 0 3 1 ∷ part 1 3 1 ∷ [])
     ∷ on 0x100 0x40002000 0 ⇒ starts 2 1 0
     ∷ enter_on 2 1 1 ⇒ goes_to 0x40002000 0
@@ -148,7 +136,7 @@ asked_on_woken_replaced : AreAnsweredAll board
     ∷ hw 0 0x100 1 ⇒ value 1 ∷ [])
     -- a Down that a later one of its core replaced, when it was woken and parked: the first is old,
     -- and what had been confirmed is not any more
-    ∷ once_3_runs 1
+    ∷ board ⇒ once_3_runs 1
     (off 3 ⇒ stops 3 1 1 (part 0 3 1 ∷ part 1 3 1 ∷ [])
     ∷ take_down 3 1 1 1 ⇒ used
     ∷ hw 0 0x101 0 ⇒ value 1
@@ -161,21 +149,17 @@ asked_on_woken_replaced : AreAnsweredAll board
     ∷ hw 0 0x101 0 ⇒ value 1
     ∷ hw 0 0x100 1 ⇒ value 1 ∷ [])
     -- one that a Start replaced
-    ∷ once_3_runs 1
+    ∷ board ⇒ once_3_runs 1
     (off 3 ⇒ stops 3 1 1 (part 0 3 1 ∷ part 1 3 1 ∷ [])
     ∷ take_down 3 1 1 1 ⇒ used
     ∷ on_3 ⇒ starts 3 1 1
     ∷ take_down 3 1 1 2 ⇒ old
     ∷ take kinds.Start 3 1 1 1 false ⇒ used
     ∷ hw 0 0x101 0 ⇒ value 0
-    ∷ hw 0 0x100 1 ⇒ value 0 ∷ []) ∷ [])
-unfolding computing
-asked_on_woken_replaced = record { history = refl; values = refl }
-
--- standby and retention of a core and its cluster, in platform-coordinated mode, on a tall board:
--- core 2 asks about core 3 and is told until core 3 has entered again
-standby_and_retention : AreAnswered tall
-    (boot ⇒ boots
+    ∷ hw 0 0x100 1 ⇒ value 0 ∷ [])
+    -- standby and retention of a core and its cluster, in platform-coordinated mode, on a tall
+    -- board: core 2 asks about core 3 and is told until core 3 has entered again
+    ∷ tall ⇒ (boot ⇒ boots
     ∷ on 0x10000 0x40002000 1 ⇒ starts 2 1 0
     ∷ enter_on 2 1 1 ⇒ goes_to 0x40002000 1
     ∷ on_by 2 0x10100 0x40001000 7 ⇒ starts 3 1 0
@@ -194,9 +178,9 @@ standby_and_retention : AreAnswered tall
     ∷ take_down 3 1 2 2 ⇒ used
     ∷ hw 0 0x10100 0 ⇒ value 1
     ∷ hw 0 0x10100 1 ⇒ value 2
-    ∷ hw 2 0x10000 0 ⇒ value 0 ∷ [])
+    ∷ hw 2 0x10000 0 ⇒ value 0 ∷ []) ∷ [])
 unfolding computing
-standby_and_retention = record { history = refl; values = refl }
+asked_on_woken_replaced = record { history = refl; values = refl }
 
 -- Lives ---------------------------------------------------------------------------------------
 

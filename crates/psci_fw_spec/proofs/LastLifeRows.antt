@@ -2,18 +2,19 @@
 -- and below it, and on a board of one level; and claims on three levels by the least ask.
 use Rattle.std.proofs.Common.{◌∷◌, [], false, refl}
 use Rattle.psci_messages.specs.declared.kind.Kind.TheVariants.{Off, Reset}
-use Rattle.psci_fw_spec.proofs.Lopsided.{affinity_by, features_by, lopsided, migrate_info_type}
-use Rattle.psci_fw_spec.proofs.Steps.{◌⇒◌, AreAnswered, boots, computing, enter_boot, enter_on}
-use Rattle.psci_fw_spec.proofs.Steps.{enter_reset, enter_wake, error, goes_to, off, old, on, on_by}
-use Rattle.psci_fw_spec.proofs.Steps.{one_cluster, part, resumes, set_mode, starts, stops, stops_by}
-use Rattle.psci_fw_spec.proofs.Steps.{stops_still, suspend, system_off, system_reset, system_reset2}
+use Rattle.psci_fw_spec.proofs.LopsidedRows.{affinity_by, features_by, lopsided, migrate_info_type}
+use Rattle.psci_fw_spec.proofs.Steps.{◌⇒◌, AreAnswered, AreAnsweredAll, AreAnsweredOn, boots}
+use Rattle.psci_fw_spec.proofs.Steps.{computing, enter_boot, enter_on, enter_reset, enter_wake}
+use Rattle.psci_fw_spec.proofs.Steps.{error, goes_to, off, old, on, on_by, one_cluster, part}
+use Rattle.psci_fw_spec.proofs.Steps.{resumes, set_mode, starts, stops, stops_by, stops_still}
+use Rattle.psci_fw_spec.proofs.Steps.{suspend, system_off, system_reset, system_reset2}
 use Rattle.psci_fw_spec.proofs.Steps.{system_suspend, take, take_down, used, value, version}
 
 -- The start limit -----------------------------------------------------------------------------
 
--- core 3 is at the limit and core 0 is not, and later on both are: each is answered by its own
-own_start_limit : AreAnswered (record lopsided { starts = 2 })
-    (enter_boot 0 3 1 ⇒ boots
+own_start_limit : AreAnsweredOn
+    -- core 3 is at the limit and core 0 is not, and later on both are: each is answered by its own
+    ((record lopsided { starts = 2 }) ⇒ (enter_boot 0 3 1 ⇒ boots
     ∷ on 0x10000 0x40006000 2 ⇒ starts 3 3 0
     ∷ enter_on 3 3 2 ⇒ goes_to 0x40006000 2
     ∷ suspend 3 0x1 0 0 ⇒ value 0
@@ -30,12 +31,8 @@ own_start_limit : AreAnswered (record lopsided { starts = 2 })
     ∷ enter_on 1 3 1 ⇒ stops_still
     ∷ take Reset 0 3 2 1 false ⇒ old
     ∷ take Reset 3 3 2 1 false ⇒ used ∷ [])
-unfolding computing
-own_start_limit = record { history = refl; values = refl }
-
--- core 0 is at the limit and core 1 is not: SYSTEM_SUSPEND and CPU_SUSPEND of core 1
-limit_of_another_core : AreAnswered (record one_cluster { starts = 2 })
-    (enter_boot 0 3 2 ⇒ boots
+    -- core 0 is at the limit and core 1 is not: SYSTEM_SUSPEND and CPU_SUSPEND of core 1
+    ∷ (record one_cluster { starts = 2 }) ⇒ (enter_boot 0 3 2 ⇒ boots
     ∷ on 0x1 0x40005000 4 ⇒ starts 1 3 0
     ∷ enter_on 1 3 1 ⇒ goes_to 0x40005000 4
     ∷ off 0 ⇒ stops 0 3 2 (part 0 3 2 ∷ [])
@@ -45,15 +42,15 @@ limit_of_another_core : AreAnswered (record one_cluster { starts = 2 })
     ∷ enter_wake 1 3 2 ⇒ goes_to 0x40000200 9
     ∷ system_suspend 1 0x40000200 9 ⇒ error 3
     ∷ suspend 1 0x1 0 0 ⇒ value 0
-    ∷ system_reset2 1 0 0 ⇒ stops_by Reset 1 3 2 [] ∷ [])
+    ∷ system_reset2 1 0 0 ⇒ stops_by Reset 1 3 2 [] ∷ []) ∷ [])
 unfolding computing
-limit_of_another_core = record { history = refl; values = refl }
+own_start_limit = record { history = refl; values = refl }
 
 -- One level -----------------------------------------------------------------------------------
 
--- each function by core 1 of a board of one level, in OS-initiated mode
-one_level_by_the_os : AreAnswered one_cluster
-    (enter_boot 0 3 1 ⇒ boots
+one_level : AreAnsweredAll one_cluster
+    -- each function by core 1 of a board of one level, in OS-initiated mode
+    ((enter_boot 0 3 1 ⇒ boots
     ∷ on 0x1 0x40005000 4 ⇒ starts 1 3 0
     ∷ enter_on 1 3 1 ⇒ goes_to 0x40005000 4
     ∷ set_mode 1 1 ⇒ value 0
@@ -70,12 +67,8 @@ one_level_by_the_os : AreAnswered one_cluster
     ∷ enter_wake 1 3 2 ⇒ goes_to 0x40003000 4
     ∷ system_reset2 1 4 0 ⇒ error 2
     ∷ system_off 1 ⇒ stops_by Off 1 3 2 [] ∷ [])
-unfolding computing
-one_level_by_the_os = record { history = refl; values = refl }
-
--- cores 1 and 2 go off and park, the last of them with the cluster
-one_level_off : AreAnswered one_cluster
-    (enter_boot 0 3 1 ⇒ boots
+    -- cores 1 and 2 go off and park, the last of them with the cluster
+    ∷ (enter_boot 0 3 1 ⇒ boots
     ∷ set_mode 0 1 ⇒ value 0
     ∷ on 0x2 0x40001000 7 ⇒ starts 2 3 0
     ∷ enter_on 2 3 1 ⇒ goes_to 0x40001000 7
@@ -88,9 +81,9 @@ one_level_off : AreAnswered one_cluster
     ∷ on_by 1 0x2 0x40001000 8 ⇒ starts 2 3 1
     ∷ off 1 ⇒ stops 1 3 2 (part 0 3 2 ∷ [])
     ∷ enter_wake 2 3 2 ⇒ goes_to 0x40001000 8
-    ∷ enter_reset 2 3 3 ⇒ stops 2 3 3 (part 0 3 3 ∷ part 1 3 6 ∷ []) ∷ [])
+    ∷ enter_reset 2 3 3 ⇒ stops 2 3 3 (part 0 3 3 ∷ part 1 3 6 ∷ []) ∷ []) ∷ [])
 unfolding computing
-one_level_off = record { history = refl; values = refl }
+one_level = record { history = refl; values = refl }
 
 -- Three levels in platform-coordinated mode ---------------------------------------------------
 

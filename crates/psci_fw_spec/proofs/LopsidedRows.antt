@@ -1,21 +1,44 @@
 -- Worked examples: calls by cores 2 and 3 of an uneven board of three levels, in life 2 and in
--- OS-initiated mode.
-use Rattle.std.proofs.Common.{◌∷◌, [], false, refl}
-use Rattle.psci_messages.specs.declared.kind.Kind.TheVariants.{Off, Reset, Start}
-use Rattle.psci_fw_spec.specs.declared.fault.FwFault.TheVariants.{NoCore, OldStart}
-use Rattle.psci_fw_spec.proofs.Lopsided.{affinity_by, features_by, lopsided, migrate_info_type}
-use Rattle.psci_fw_spec.proofs.Steps.{◌⇒◌, AreAnswered, boots, computing, enter_boot, enter_on}
-use Rattle.psci_fw_spec.proofs.Steps.{enter_reset, enter_wake, error, goes_to, off, old, on, on_by}
-use Rattle.psci_fw_spec.proofs.Steps.{part, refused, resumes, set_mode, smc, starts, stops}
+-- OS-initiated mode; and what examples need that go along the axes, as plain calls by any core.
+use Rattle.std.proofs.Common.{◌∷◌, [], false, List, refl, ℕ}
+use Rattle.psci_board.specs.Board.{BoardValue}
+use Rattle.psci_fw_spec.proofs.Steps.{◌⇒◌, AreAnswered, AreAnsweredAll, board, boot, boots}
+use Rattle.psci_fw_spec.proofs.Steps.{computing, enter_boot, enter_on, enter_reset, enter_wake}
+use Rattle.psci_fw_spec.proofs.Steps.{error, goes_on_3, goes_to, off, old, on, on_3, on_by, part}
+use Rattle.psci_fw_spec.proofs.Steps.{refused, resumes, Row, set_mode, smc, starts, Step, stops}
 use Rattle.psci_fw_spec.proofs.Steps.{stops_by, stops_still, suspend, system_off, system_reset}
 use Rattle.psci_fw_spec.proofs.Steps.{system_reset2, system_suspend, take, take_down, take_stale}
 use Rattle.psci_fw_spec.proofs.Steps.{used, value, version}
+use Rattle.psci_messages.specs.declared.kind.Kind.TheVariants.{Off, Reset, Start}
+use Rattle.psci_fw_spec.specs.declared.fault.FwFault.TheVariants.{NoCore, OldStart}
+
+-- a group of a cluster of two cores and a cluster of one, and a group of one core: 0x000, 0x001;
+-- 0x100; 0x10000
+abbrev pub lopsided : BoardValue
+lopsided = record board { levels = (2 ∷ 1 ∷ 1 ∷ []) ∷ (2 ∷ 1 ∷ []) ∷ (2 ∷ []) ∷ [] }
+
+-- AFFINITY_INFO by a core: affinity word, level
+abbrev pub affinity_by : ℕ → ℕ → ℕ → Step
+affinity_by c target level = smc c 0xc4000004 target level 0
+
+-- PSCI_FEATURES and MIGRATE_INFO_TYPE by a core
+abbrev pub features_by : ℕ → ℕ → Step
+features_by c word = smc c 0x8400000a word 0 0
+
+abbrev pub migrate_info_type : ℕ → Step
+migrate_info_type c = smc c 0x84000006 0 0 0
+
+-- core 3 was asked on, and has entered by this start; and then these
+abbrev pub once_3_runs : ℕ → List Row → List Row
+once_3_runs start rows =
+    boot ⇒ boots ∷ on_3 ⇒ starts 3 1 0 ∷ enter_on 3 1 start ⇒ goes_on_3 ∷ rows
 
 -- Functions that only answer, and modes -------------------------------------------------------
 
--- core 2 sets the mode while core 0 runs, and back while core 0 goes off; then it resets the system
-plain_calls : AreAnswered lopsided
-    (enter_boot 0 2 1 ⇒ boots
+plain_calls : AreAnsweredAll lopsided
+    -- core 2 sets the mode while core 0 runs, and back while core 0 goes off; then it resets the
+    -- system
+    ((enter_boot 0 2 1 ⇒ boots
     ∷ on 0x100 0x40002000 1 ⇒ starts 2 2 0
     ∷ set_mode 0 1 ⇒ error 3
     ∷ enter_on 2 2 3 ⇒ goes_to 0x40002000 1
@@ -32,12 +55,8 @@ plain_calls : AreAnswered lopsided
     ∷ set_mode 2 0 ⇒ value 0
     ∷ system_reset2 2 1 0 ⇒ error 2
     ∷ system_reset2 2 0 0 ⇒ stops_by Reset 2 2 3 [] ∷ [])
-unfolding computing
-plain_calls = record { history = refl; values = refl }
-
--- core 3 sets no mode while core 0 is suspended, light or deep
-modes_beside_the_boot_core : AreAnswered lopsided
-    (enter_boot 0 2 1 ⇒ boots
+    -- core 3 sets no mode while core 0 is suspended, light or deep
+    ∷ (enter_boot 0 2 1 ⇒ boots
     ∷ on 0x10000 0x40006000 2 ⇒ starts 3 2 0
     ∷ enter_on 3 2 2 ⇒ goes_to 0x40006000 2
     ∷ suspend 0 0x1 0 0 ⇒ stops 0 2 1 (part 0 1 1 ∷ [])
@@ -45,15 +64,15 @@ modes_beside_the_boot_core : AreAnswered lopsided
     ∷ enter_wake 0 2 2 ⇒ resumes
     ∷ set_mode 3 1 ⇒ value 0
     ∷ suspend 0 0x00010003 0x40000100 5 ⇒ stops 0 2 2 (part 0 3 2 ∷ [])
-    ∷ set_mode 3 0 ⇒ error 3 ∷ [])
+    ∷ set_mode 3 0 ⇒ error 3 ∷ []) ∷ [])
 unfolding computing
-modes_beside_the_boot_core = record { history = refl; values = refl }
+plain_calls = record { history = refl; values = refl }
 
 -- CPU_ON and AFFINITY_INFO ---------------------------------------------------------------------
 
--- of a core that runs, that is pending, of the caller itself, and of no core
-asked_beside_running : AreAnswered lopsided
-    (enter_boot 0 2 1 ⇒ boots
+asked_beside_others : AreAnsweredAll lopsided
+    -- of a core that runs, that is pending, of the caller itself, and of no core
+    ((enter_boot 0 2 1 ⇒ boots
     ∷ on 0x100 0x40002000 1 ⇒ starts 2 2 0
     ∷ enter_on 2 2 1 ⇒ goes_to 0x40002000 1
     ∷ set_mode 2 1 ⇒ value 0
@@ -70,12 +89,8 @@ asked_beside_running : AreAnswered lopsided
     ∷ affinity_by 2 0x20000 2 ⇒ error 2
     ∷ affinity_by 2 0x0 4 ⇒ error 2
     ∷ enter_on 1 2 1 ⇒ goes_to 0x40005000 8 ∷ [])
-unfolding computing
-asked_beside_running = record { history = refl; values = refl }
-
--- of a core that was suspended light and deep, that goes off, and that is off
-asked_beside_sleeping : AreAnswered lopsided
-    (enter_boot 0 2 1 ⇒ boots
+    -- of a core that was suspended light and deep, that goes off, and that is off
+    ∷ (enter_boot 0 2 1 ⇒ boots
     ∷ on 0x100 0x40002000 1 ⇒ starts 2 2 0
     ∷ enter_on 2 2 1 ⇒ goes_to 0x40002000 1
     ∷ set_mode 2 1 ⇒ value 0
@@ -96,16 +111,16 @@ asked_beside_sleeping : AreAnswered lopsided
     ∷ affinity_by 2 0x0 1 ⇒ value 2
     ∷ enter_on 0 2 4 ⇒ goes_to 0x40001000 6
     ∷ system_reset 2 ⇒ stops_by Reset 2 2 1 []
-    ∷ migrate_info_type 0 ⇒ stops_still ∷ [])
+    ∷ migrate_info_type 0 ⇒ stops_still ∷ []) ∷ [])
 unfolding computing
-asked_beside_sleeping = record { history = refl; values = refl }
+asked_beside_others = record { history = refl; values = refl }
 
 -- CPU_SUSPEND ---------------------------------------------------------------------------------
 
--- beside a core that runs, beside one that was suspended light, and beside one that is pending; in
--- standby, retention and power-down, of the core and of domains above it
-suspended_beside_others : AreAnswered lopsided
-    (enter_boot 0 2 1 ⇒ boots
+suspended_beside_others : AreAnsweredAll lopsided
+    -- beside a core that runs, beside one that was suspended light, and beside one that is pending;
+    -- in standby, retention and power-down, of the core and of domains above it
+    ((enter_boot 0 2 1 ⇒ boots
     ∷ on 0x100 0x40002000 1 ⇒ starts 2 2 0
     ∷ enter_on 2 2 1 ⇒ goes_to 0x40002000 1
     ∷ set_mode 2 1 ⇒ value 0
@@ -122,12 +137,8 @@ suspended_beside_others : AreAnswered lopsided
     ∷ suspend 2 0x02000222 0 0 ⇒ error 3
     ∷ suspend 2 0x01000022 0 0 ⇒ stops 2 2 4 (part 0 2 4 ∷ part 1 2 4 ∷ [])
     ∷ enter_wake 2 2 5 ⇒ resumes ∷ [])
-unfolding computing
-suspended_beside_others = record { history = refl; values = refl }
-
--- beside a core that goes off, and one that is off: as the last core, up to the system
-suspended_last : AreAnswered lopsided
-    (enter_boot 0 2 1 ⇒ boots
+    -- beside a core that goes off, and one that is off: as the last core, up to the system
+    ∷ (enter_boot 0 2 1 ⇒ boots
     ∷ on 0x10000 0x40006000 2 ⇒ starts 3 2 0
     ∷ enter_on 3 2 2 ⇒ goes_to 0x40006000 2
     ∷ set_mode 3 1 ⇒ value 0
@@ -142,9 +153,9 @@ suspended_last : AreAnswered lopsided
     stops 3 2 3 (part 0 3 3 ∷ part 1 3 3 ∷ part 2 3 3 ∷ part 3 3 4 ∷ [])
     ∷ enter_reset 3 2 9 ⇒ goes_to 0x40007000 3
     ∷ system_off 3 ⇒ stops_by Off 3 2 9 []
-    ∷ enter_wake 2 2 5 ⇒ stops_still ∷ [])
+    ∷ enter_wake 2 2 5 ⇒ stops_still ∷ []) ∷ [])
 unfolding computing
-suspended_last = record { history = refl; values = refl }
+suspended_beside_others = record { history = refl; values = refl }
 
 -- CPU_OFF -------------------------------------------------------------------------------------
 
@@ -168,9 +179,9 @@ off_beside_sleeping = record { history = refl; values = refl }
 
 -- SYSTEM_SUSPEND ------------------------------------------------------------------------------
 
--- beside a core that runs, was suspended light and deep, goes off
-system_suspended_beside : AreAnswered lopsided
-    (enter_boot 0 2 1 ⇒ boots
+system_suspended_beside : AreAnsweredAll lopsided
+    -- beside a core that runs, was suspended light and deep, goes off
+    ((enter_boot 0 2 1 ⇒ boots
     ∷ on 0x10000 0x40006000 2 ⇒ starts 3 2 0
     ∷ enter_on 3 2 2 ⇒ goes_to 0x40006000 2
     ∷ set_mode 3 1 ⇒ value 0
@@ -188,12 +199,8 @@ system_suspended_beside : AreAnswered lopsided
     ∷ system_suspend 3 0x40000200 9 ⇒
     stops 3 2 2 (part 0 3 2 ∷ part 1 3 2 ∷ part 2 3 2 ∷ part 3 3 5 ∷ [])
     ∷ enter_wake 3 2 3 ⇒ goes_to 0x40000200 9 ∷ [])
-unfolding computing
-system_suspended_beside = record { history = refl; values = refl }
-
--- beside a core that is pending, in its own group
-system_suspended_beside_pending : AreAnswered lopsided
-    (enter_boot 0 2 1 ⇒ boots
+    -- beside a core that is pending, in its own group
+    ∷ (enter_boot 0 2 1 ⇒ boots
     ∷ on 0x100 0x40002000 1 ⇒ starts 2 2 0
     ∷ enter_on 2 2 1 ⇒ goes_to 0x40002000 1
     ∷ set_mode 2 1 ⇒ value 0
@@ -206,9 +213,9 @@ system_suspended_beside_pending : AreAnswered lopsided
     ∷ take_down 1 2 1 2 ⇒ used
     ∷ system_suspend 2 0x40000200 9 ⇒
     stops 2 2 1 (part 0 3 1 ∷ part 1 3 1 ∷ part 2 3 3 ∷ part 3 3 3 ∷ [])
-    ∷ enter_wake 2 2 2 ⇒ goes_to 0x40000200 9 ∷ [])
+    ∷ enter_wake 2 2 2 ⇒ goes_to 0x40000200 9 ∷ []) ∷ [])
 unfolding computing
-system_suspended_beside_pending = record { history = refl; values = refl }
+system_suspended_beside = record { history = refl; values = refl }
 
 -- Entries -------------------------------------------------------------------------------------
 

@@ -10,7 +10,7 @@ use Rattle.psci_fw_spec.specs.declared.status.Status.TheVariants as statuses
 use Rattle.psci_fw_spec.specs.AffinityInfo.{node_status}
 use Rattle.psci_fw_spec.specs.Phases.{Away, Running, Suspended}
 use Rattle.psci_fw_spec.specs.Phases as phases
-use Rattle.psci_fw_spec.proofs.Lopsided.{lopsided}
+use Rattle.psci_fw_spec.proofs.LopsidedRows.{lopsided}
 use Rattle.psci_fw_spec.proofs.Steps.{Step, computing, enter_boot, enter_on, enter_reset}
 use Rattle.psci_fw_spec.proofs.Steps.{enter_wake, message, off, on, on_by, part, set_mode, suspend}
 use Rattle.psci_fw_spec.proofs.Steps.{system_off, system_suspend, take_down, version}

@@ -3,8 +3,8 @@ use Rattle.std.proofs.Common.{◌∷◌, [], refl}
 use Rattle.psci_messages.specs.declared.kind.Kind.TheVariants.{Off}
 use Rattle.psci_fw_spec.specs.declared.fault.FwFault.TheVariants.{NoCore, NoLife, NotRunning}
 use Rattle.psci_fw_spec.specs.declared.fault.FwFault.TheVariants.{OldStart}
-use Rattle.psci_fw_spec.proofs.Lopsided.{once_3_runs}
-use Rattle.psci_fw_spec.proofs.Steps.{◌⇒◌, AreAnswered, AreAnsweredAll, affinity, board, boot}
+use Rattle.psci_fw_spec.proofs.LopsidedRows.{once_3_runs}
+use Rattle.psci_fw_spec.proofs.Steps.{◌⇒◌, affinity, AreAnsweredAll, AreAnsweredOn, board, boot}
 use Rattle.psci_fw_spec.proofs.Steps.{boots, computing, enter_boot, enter_on, enter_reset}
 use Rattle.psci_fw_spec.proofs.Steps.{enter_wake, goes_on_3, limited, off, on_3, part, refused}
 use Rattle.psci_fw_spec.proofs.Steps.{resumes, starts, stops, stops_by, stops_still, suspend}
@@ -49,15 +49,15 @@ calls_refused = record { history = refl; values = refl }
 
 -- Entries -------------------------------------------------------------------------------------
 
-entries_refused : AreAnsweredAll board
+entries_refused : AreAnsweredOn
     -- a core that the board does not have does not enter, whatever its start
-    ((enter_wake 4 0 1 ⇒ refused NoCore
+    (board ⇒ (enter_wake 4 0 1 ⇒ refused NoCore
     ∷ enter_wake 4 1 0 ⇒ refused NoCore
     ∷ enter_wake 4 1 1 ⇒ refused NoCore
     ∷ enter_wake 3 0 1 ⇒ refused NoLife ∷ [])
     -- starts are counted from 1 to the limit, in a later life too; a start that is refused begins
     -- no life
-    ∷ (boot ⇒ boots
+    ∷ board ⇒ (boot ⇒ boots
     ∷ enter_wake 3 1 0 ⇒ refused OldStart
     ∷ enter_wake 3 1 1001 ⇒ refused OldStart
     ∷ enter_wake 3 2 0 ⇒ refused OldStart
@@ -66,7 +66,7 @@ entries_refused : AreAnsweredAll board
     ∷ off 0 ⇒ stops 0 1 1 (part 0 3 1 ∷ part 1 3 1 ∷ part 2 3 1001 ∷ []) ∷ [])
     -- a start is over where it is no later than the known start of its core; those of other cores
     -- do not count
-    ∷ (boot ⇒ boots
+    ∷ board ⇒ (boot ⇒ boots
     ∷ enter_boot 0 1 1 ⇒ refused OldStart
     ∷ on_3 ⇒ starts 3 1 0
     ∷ enter_reset 3 1 3 ⇒ goes_on_3
@@ -76,47 +76,35 @@ entries_refused : AreAnsweredAll board
     ∷ enter_wake 3 1 4 ⇒ stops 3 1 4 (part 0 3 4 ∷ part 1 3 4 ∷ []) ∷ [])
     -- a start of an earlier life is over, whatever its number; in a new life the starts are counted
     -- anew
-    ∷ (boot ⇒ boots
+    ∷ board ⇒ (boot ⇒ boots
     ∷ enter_boot 0 2 1 ⇒ boots
     ∷ enter_wake 0 1 2 ⇒ refused OldStart
     ∷ enter_wake 3 1 1000 ⇒ refused OldStart
     ∷ enter_wake 3 2 1 ⇒ stops 3 2 1 (part 0 3 1 ∷ part 1 3 1 ∷ []) ∷ [])
     -- an entry that is refused leaves its core pending, and its opening unused
-    ∷ (boot ⇒ boots
+    ∷ board ⇒ (boot ⇒ boots
     ∷ on_3 ⇒ starts 3 1 0
     ∷ enter_on 3 4 1 ⇒ refused NoLife
     ∷ enter_on 3 1 1001 ⇒ refused OldStart
     ∷ affinity 0x101 0 ⇒ value 2
-    ∷ enter_on 3 1 1 ⇒ goes_on_3 ∷ []) ∷ [])
-unfolding computing
-entries_refused = record { history = refl; values = refl }
-
--- lives are counted from 1 to the limit; that there is no such life comes before that the start
--- is over or cannot be
-no_life_enters : AreAnswered board
-    (boot ⇒ boots
+    ∷ enter_on 3 1 1 ⇒ goes_on_3 ∷ [])
+    -- lives are counted from 1 to the limit; that there is no such life comes before that the start
+    -- is over or cannot be
+    ∷ board ⇒ (boot ⇒ boots
     ∷ enter_wake 3 0 1 ⇒ refused NoLife
     ∷ enter_wake 3 0 1001 ⇒ refused NoLife
     ∷ enter_wake 3 4 1 ⇒ refused NoLife
     ∷ enter_wake 3 4 0 ⇒ refused NoLife
     ∷ enter_boot 0 3 1 ⇒ boots ∷ [])
-unfolding computing
-no_life_enters = record { history = refl; values = refl }
-
--- the least limits of a board
-least_limits : AreAnswered (limited 1 1)
-    (boot ⇒ boots
+    -- the least limits of a board
+    ∷ limited 1 1 ⇒ (boot ⇒ boots
     ∷ enter_wake 0 1 2 ⇒ refused OldStart
     ∷ enter_boot 0 2 1 ⇒ refused NoLife
     ∷ enter_wake 3 1 1 ⇒ stops 3 1 1 (part 0 3 1 ∷ part 1 3 1 ∷ []) ∷ [])
-unfolding computing
-least_limits = record { history = refl; values = refl }
-
--- the greatest limits of a board
-greatest_limits : AreAnswered (limited 4294967295 65535)
-    (enter_boot 0 65536 1 ⇒ refused NoLife
+    -- the greatest limits of a board
+    ∷ limited 4294967295 65535 ⇒ (enter_boot 0 65536 1 ⇒ refused NoLife
     ∷ enter_boot 0 65535 4294967296 ⇒ refused OldStart
     ∷ enter_boot 0 65535 4294967295 ⇒ boots
-    ∷ enter_wake 0 65535 4294967295 ⇒ refused OldStart ∷ [])
+    ∷ enter_wake 0 65535 4294967295 ⇒ refused OldStart ∷ []) ∷ [])
 unfolding computing
-greatest_limits = record { history = refl; values = refl }
+entries_refused = record { history = refl; values = refl }

@@ -1,21 +1,14 @@
 -- Worked examples are stated so: the calls of some cores in turn, and beside each its reply.
 use Rattle.std.proofs.Common.{pos, negsuc, map, reverse}
-use Rattle.psci_fw_spec.proofs.Words.{◌∷◌, ◌≡◌, [], BoardValue, Bool, Enter, false}
-use Rattle.psci_fw_spec.proofs.Words.{Fault, FwCall, FwExchange, FwFault, FwReply}
-use Rattle.psci_fw_spec.proofs.Words.{Kind, legal_reply, List}
+use Rattle.psci_fw_spec.proofs.Words.{◌∷◌, ◌≡◌, [], BoardValue, Bool, Enter, false, Fault, FwCall}
+use Rattle.psci_fw_spec.proofs.Words.{FwExchange, FwFault, FwReply, Kind, legal_reply, List}
 use Rattle.psci_fw_spec.proofs.Words.{MessageValue, None, Out, Part, Smc, Some, start_of_life, suc}
-use Rattle.psci_fw_spec.proofs.Words.{Take, Taken, true, Values, zero, ℕ}
-use Rattle.psci_fw_spec.proofs.Words.{ℤ}
-use Rattle.psci_board.specs.Board.{up}
-use Rattle.psci_fw_spec.specs.Claims.{suspend_parts}
-use Rattle.psci_fw_spec.specs.Views.{view}
-use Rattle.psci_messages.specs.Claim.{claims_of}
-use Rattle.psci_messages.specs.LastCore.{last_core_check}
-use Rattle.psci_messages.specs.View.{is_all_away, least_ask}
+use Rattle.psci_fw_spec.proofs.Words.{Take, Taken, true, Values, zero, ℕ, ℤ}
 use Rattle.psci_abi.specs.declared.format.Format.TheVariants.{Original}
-use Rattle.psci_board.specs.Board.{core_of, node_of}
-use Rattle.psci_messages.specs.LastCore.{refusal, shallow, shallow_at}
-use Rattle.psci_messages.specs.View.{generation, is_idle}
+use Rattle.psci_board.specs.Board.{core_of, node_of, up}
+use Rattle.psci_messages.specs.Claim.{claims_of}
+use Rattle.psci_messages.specs.LastCore.{last_core_check, refusal, shallow, shallow_at}
+use Rattle.psci_messages.specs.View.{generation, is_all_away, is_idle, least_ask}
 use Rattle.psci_messages.specs.Outstanding.{changes_since, last_message, outstanding}
 use Rattle.psci_messages.specs.declared.start.Cause.{Cause}
 use Rattle.psci_messages.specs.declared.start.Cause.TheVariants.{Boot, On, Wake, Reset}
@@ -23,12 +16,13 @@ use Rattle.psci_fw_spec.specs.AffinityInfo.{node_status}
 use Rattle.psci_fw_spec.specs.After.{after}
 use Rattle.psci_fw_spec.specs.Answer.{answer}
 use Rattle.psci_fw_spec.specs.Calls.{outcome_of}
-use Rattle.psci_fw_spec.specs.Claims.{off_parts}
+use Rattle.psci_fw_spec.specs.Claims.{off_parts, suspend_parts}
 use Rattle.psci_fw_spec.specs.CpuOn.{target_of}
 use Rattle.psci_fw_spec.specs.Entering.{enter_outcome}
 use Rattle.psci_fw_spec.specs.History.{values_of}
 use Rattle.psci_fw_spec.specs.Sent.{sent_messages}
 use Rattle.psci_fw_spec.specs.Statuses.{statuses}
+use Rattle.psci_fw_spec.specs.Views.{view}
 pub use Rattle.psci_board.proofs.Tables.{◌⇒◌}
 use Rattle.psci_board.proofs.Tables as tables
 use Rattle.psci_messages.specs.declared.kind.Kind.TheVariants as kinds
@@ -286,12 +280,18 @@ by_values b v (s ∷ ss) =
     let reply = answer b v s.core s.call in
     reply ∷ by_values b (after b s.core s.call reply v) ss
 
--- each of these runs, or one, is answered so, by the history and by the values alike
-pub record AreAnsweredAll (b : BoardValue) (runs : List (List Row)) : Type 0 where
-  pub history : map (λ run. by_history b (map (λ r. r.given) run)) runs
-      ≡ map (map (λ r. r.comes)) runs
-  pub values : map (λ run. by_values b (start_of_life b 0) (map (λ r. r.given) run)) runs
-      ≡ map (map (λ r. r.comes)) runs
+-- each of these runs, on its board, is answered so, by the history and by the values alike
+pub record AreAnsweredOn (runs : List (tables.Row BoardValue (List Row))) : Type 0 where
+  pub history : map (λ run. by_history run.given (map (λ r. r.given) run.comes)) runs
+      ≡ map (λ run. map (λ r. r.comes) run.comes) runs
+  pub values :
+      map (λ run. by_values run.given (start_of_life run.given 0) (map (λ r. r.given) run.comes))
+      runs
+      ≡ map (λ run. map (λ r. r.comes) run.comes) runs
+
+-- the same of runs of one board, and of one run
+abbrev pub AreAnsweredAll : BoardValue → List (List Row) → Type 0
+AreAnsweredAll b runs = AreAnsweredOn (map (λ run. b ⇒ run) runs)
 
 abbrev pub AreAnswered : BoardValue → List Row → Type 0
-AreAnswered b rows = AreAnsweredAll b (rows ∷ [])
+AreAnswered b rows = AreAnsweredOn (b ⇒ rows ∷ [])

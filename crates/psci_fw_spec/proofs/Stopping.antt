@@ -2,22 +2,21 @@
 use Rattle.psci_fw_spec.proofs.Words.{◌<◌, ◌∙◌, ◌≡◌, ◌≤◌, activity_of, agrees, ap, AreValues, arith}
 use Rattle.psci_fw_spec.proofs.Words.{Away, BoardValue, claims_of, cleared, cores, false}
 use Rattle.psci_fw_spec.proofs.Words.{granted_with, in_life, is_away, is_expected, is_some, IsAsk}
-use Rattle.psci_fw_spec.proofs.Words.{IsPhase, least_wish, leaving_claims, List, MessageValue, None}
-use Rattle.psci_fw_spec.proofs.Words.{off_wish, Ok, Opening, Option, option_or, OsInitiated}
-use Rattle.psci_fw_spec.proofs.Words.{own_wish, Part, Phase, Platform, PowerView, refl, Running}
-use Rattle.psci_fw_spec.proofs.Words.{Some, Start, subst, suspend_claims, Suspended, SuspendMode}
-use Rattle.psci_fw_spec.proofs.Words.{sym, true, unless_pending, updated, Values, view}
-use Rattle.psci_fw_spec.proofs.Words.{with_arrival, with_phase, ℕ}
+use Rattle.psci_fw_spec.proofs.Words.{IsPhase, known, least_wish, leaving_claims, List}
+use Rattle.psci_fw_spec.proofs.Words.{MessageValue, None, off_wish, Ok, Opening, Option, option_or}
+use Rattle.psci_fw_spec.proofs.Words.{OsInitiated, own_wish, Part, Phase, Platform}
+use Rattle.psci_fw_spec.proofs.Words.{PowerView, refl, Running, Start, subst, suspend_claims}
+use Rattle.psci_fw_spec.proofs.Words.{Suspended, SuspendMode, sym, true, unless_pending, updated}
+use Rattle.psci_fw_spec.proofs.Words.{Values, view, with_arrival, with_phase, ℕ}
 use Rattle.psci_fw_spec.specs.Changes.{Rest, with_claims, with_rest}
 use Rattle.psci_fw_spec.specs.Claims.{off_parts, suspend_parts}
-use Rattle.psci_fw_spec.proofs.Asked.{IsAsking, Known, asked_running, asks_at, phase_asks}
-use Rattle.psci_fw_spec.proofs.Changing.{agree_away, known_arrived, on_where_runs, phase_away}
-use Rattle.psci_fw_spec.proofs.Granting.{AreBounded, AreGranted, AreWanted, ChangedAt}
-use Rattle.psci_fw_spec.proofs.Granting.{bounded_cleared, granted_cleared, granted_laid}
-use Rattle.psci_fw_spec.proofs.Granting.{nested_laid, none_granted}
-use Rattle.psci_fw_spec.proofs.Holding.{awake_from, bounded_of, granted_of}
-use Rattle.psci_fw_spec.proofs.Updates.{both_updated, left_at, left_each, left_else, parked_left}
-use Rattle.psci_fw_spec.proofs.Updates.{ran_left, updated_at, updated_each, updated_else}
+use Rattle.psci_fw_spec.proofs.Asked.{IsAsking, Known, asked_running, asks_at}
+use Rattle.psci_fw_spec.proofs.Changing.{agree_away, known_arrived, phase_away}
+use Rattle.psci_fw_spec.proofs.Granting.{AreBounded, AreGranted, AreWanted, awake_from}
+use Rattle.psci_fw_spec.proofs.Granting.{both_updated, bounded_cleared, bounded_of, ChangedAt}
+use Rattle.psci_fw_spec.proofs.Granting.{granted_cleared, granted_laid, granted_of, left_asks}
+use Rattle.psci_fw_spec.proofs.Granting.{left_at, left_else, nested_laid, none_granted, parked_left}
+use Rattle.psci_fw_spec.proofs.Granting.{ran_asks, ran_left, updated_at, updated_each, updated_else}
 use Rattle.psci_fw_spec.proofs.Wishes.{claim_laid, least_wanted, off_wanted, own_wanted}
 use Rattle.psci_fw_spec.specs.declared.status.Status.TheVariants as statuses
 
@@ -55,6 +54,17 @@ held_laid b mode old new w granted c want known on changed none held wants =
       equal = g;
     }
 
+-- what is claimed by the least asks, in platform-coordinated mode
+least_held : (b : BoardValue) (old : ℕ → Phase) (w : Values) (granted : ℕ → ℕ → ℕ) (c : ℕ)
+    → Known b → c < cores b → ChangedAt old w.phase c → ((y : ℕ) → IsAsking (w.phase y))
+    → asks_at b (old c) 0 ≡ 0 → AreHeld b Platform old granted
+    → AreHeld b Platform w.phase
+    (granted_with b c (claims_of b (view b w) c (least_wish b (view b w) c)) granted)
+least_held b old w granted c known on changed asking none held =
+    held_laid b Platform old w.phase (view b w) granted c (least_wish b (view b w) c) known on
+    changed none held
+    (least_wanted b Platform old w granted c known on refl changed asking held.equal)
+
 -- a core goes off
 leaving_held : (b : BoardValue) (mode : SuspendMode) (old : ℕ → Phase) (w : Values)
     (granted : ℕ → ℕ → ℕ) (c : ℕ) → Known b → c < cores b → ChangedAt old w.phase c
@@ -62,9 +72,7 @@ leaving_held : (b : BoardValue) (mode : SuspendMode) (old : ℕ → Phase) (w : 
     → AreHeld b mode old granted
     → AreHeld b mode w.phase (granted_with b c (leaving_claims b (view b w) c mode) granted)
 leaving_held b Platform old w granted c known on changed asking away none held =
-    held_laid b Platform old w.phase (view b w) granted c (least_wish b (view b w) c) known on
-    changed none held
-    (least_wanted b Platform old w granted c known on refl changed asking held.equal)
+    least_held b old w granted c known on changed asking none held
 leaving_held b OsInitiated old w granted c known on changed asking away none held =
     held_laid b OsInitiated old w.phase (view b w) granted c (off_wish b (view b w) c) known on
     changed none held
@@ -77,11 +85,9 @@ pub off_held : (b : BoardValue) (v : Values) (old : ℕ → Phase) (c : ℕ) →
     → AreHeld b v.mode (with_phase c Away v).phase (granted_with b c (off_parts b v c) v.granted)
 unfolding off_parts
 off_held b v old c known on left changed are none held =
-    let w : Values = with_phase c Away v in
-    leaving_held b v.mode old w v.granted c known on
-    (λ x other. left_else v c Away x other ∙ changed x other)
-    (left_each IsAsking v c Away Away left tt (λ y. phase_asks b (v.phase y) (are y)))
-    (left_at v c Away Away left) none held
+    leaving_held b v.mode old (with_phase c Away v) v.granted c known on
+    (λ x other. left_else v c Away x other ∙ changed x other) (left_asks b v c Away left tt are)
+    (left_at v c Away left) none held
 
 -- a core is suspended
 suspended_held : (b : BoardValue) (v : Values) (c : ℕ) (ask : List ℕ) (parts : List Part)
@@ -90,30 +96,20 @@ suspended_held : (b : BoardValue) (v : Values) (c : ℕ) (ask : List ℕ) (parts
     → suspend_claims b v c ask mode ≡ Ok parts
     → AreHeld b mode (with_phase c (Suspended ask) v).phase (granted_with b c parts v.granted)
 suspended_held b v c ask parts Platform known on runs is are held e =
-    let left = ran_left (v.phase c) (Suspended ask) runs in
     let w : Values = with_phase c (Suspended ask) v in
     let same : claims_of b (view b w) c (least_wish b (view b w) c) ≡ parts = cc e in
-    let none : asks_at b (v.phase c) 0 ≡ 0 =
-    ap (λ (p : Phase). asks_at b p 0) runs ∙ asked_running b 0 in
-    let asking = left_each IsAsking v c (Suspended ask) (Suspended ask) left is
-    (λ y. phase_asks b (v.phase y) (are y)) in
     subst (λ ps. AreHeld b Platform w.phase (granted_with b c ps v.granted)) same
-    (held_laid b Platform v.phase w.phase (view b w) v.granted c (least_wish b (view b w) c) known
-    on (left_else v c (Suspended ask)) none held
-    (least_wanted b Platform v.phase w v.granted c known on refl (left_else v c (Suspended ask))
-    asking held.equal))
+    (least_held b v.phase w v.granted c known on (left_else v c (Suspended ask))
+    (left_asks b v c (Suspended ask) (ran_left (v.phase c) (Suspended ask) runs) is are)
+    (ran_asks b (v.phase c) runs) held)
 suspended_held b v c ask parts OsInitiated known on runs is are held e =
-    let left = ran_left (v.phase c) (Suspended ask) runs in
     let w : Values = with_phase c (Suspended ask) v in
-    let same : parts ≡ claims_of b (view b v) c (own_wish ask) =
-    (known.last_core (view b v) c ask on).parts parts e in
-    let none : asks_at b (v.phase c) 0 ≡ 0 =
-    ap (λ (p : Phase). asks_at b p 0) runs ∙ asked_running b 0 in
-    subst (λ ps. AreHeld b OsInitiated w.phase (granted_with b c ps v.granted)) (sym same)
+    subst (λ ps. AreHeld b OsInitiated w.phase (granted_with b c ps v.granted))
+    (sym ((known.last_core (view b v) c ask on).parts parts e))
     (held_laid b OsInitiated v.phase w.phase (view b v) v.granted c (own_wish ask) known on
-    (left_else v c (Suspended ask)) none held
+    (left_else v c (Suspended ask)) (ran_asks b (v.phase c) runs) held
     (own_wanted b OsInitiated v w.phase c ask parts known on refl
-    (left_at v c (Suspended ask) (Suspended ask) left) is e))
+    (left_at v c (Suspended ask) (ran_left (v.phase c) (Suspended ask) runs)) is e))
 
 pub suspend_held : (b : BoardValue) (v : Values) (c : ℕ) (ask : List ℕ) (parts : List Part)
     → Known b → c < cores b → v.phase c ≡ Running → IsAsk ask
@@ -126,14 +122,16 @@ suspend_held b v c ask parts known on runs is are held e =
 
 -- Values --------------------------------------------------------------------------------------
 
-none_waits : (o : Option Opening) (p : Phase) → is_some o ≡ is_expected p → p ≡ Running
-    → is_some o ≡ false
-none_waits o p e runs = e ∙ ap is_expected runs
+-- what a function leaves of a caller that it stops, whose opening was none
+rest_agrees : (v : Values) (c : ℕ) (rest : Rest) → v.phase c ≡ Running
+    → agrees (v.status c) (v.phase c) ≡ true → agrees statuses.On rest.phase ≡ true
+    → agrees (v.status c) (unless_pending (v.phase c) rest.phase) ≡ true
+rest_agrees v c rest runs e agree = grind arith
 
-own_or : (o other : Option Opening) → is_some other ≡ false
-    → is_some (option_or o other) ≡ is_some o
-own_or None other e = e
-own_or (Some x) other e = refl
+rest_opens : (o : Option Opening) (p : Phase) (rest : Rest) → p ≡ Running
+    → is_some o ≡ is_expected p → is_some rest.opening ≡ is_expected rest.phase
+    → is_some (option_or rest.opening o) ≡ is_expected (unless_pending p rest.phase)
+rest_opens o p rest runs e opens = grind arith
 
 -- a function stopped its caller, which is suspended or goes off
 pub kept_resting : (b : BoardValue) (v : Values) (c : ℕ) (rest : Rest) (m : MessageValue)
@@ -143,27 +141,21 @@ pub kept_resting : (b : BoardValue) (v : Values) (c : ℕ) (rest : Rest) (m : Me
     → AreHeld b v.mode (with_phase c rest.phase v).phase
     (granted_with b m.core.number m.parts v.granted)
     → AreValues b (with_claims b m (with_rest c rest v))
-kept_resting b v c rest m known runs awake are agree is opens held =
-    let left = ran_left (v.phase c) rest.phase runs in
-    let on : v.status c ≡ statuses.On = on_where_runs (v.status c) (v.phase c) (are.agree c) runs in
-    let waits : is_some (v.opening c) ≡ false =
-    none_waits (v.opening c) (v.phase c) ((are.awake awake).opening c) runs in
-    record {
-      known = are.known;
-      agree = updated_each (λ k p. agrees (v.status k) p ≡ true) v.phase c
-          (unless_pending (v.phase c) rest.phase)
-          (subst (λ p. agrees (v.status c) p ≡ true) (sym left)
-          (ap (λ s. agrees s rest.phase) on ∙ agree)) are.agree;
-      phase = left_each (IsPhase b) v c rest.phase rest.phase left is are.phase;
-      nested = held.bounds.nested;
-      asked = held.bounds.asked;
-      awake = λ e. awake_from b (with_claims b m (with_rest c rest v)) known
-          (both_updated (λ o p. is_some o ≡ is_expected p) v.opening v.phase c
-          (option_or rest.opening (v.opening c)) (unless_pending (v.phase c) rest.phase)
-          (own_or rest.opening (v.opening c) waits ∙ opens ∙ sym (ap is_expected left))
-          (are.awake e).opening)
-          held.equal;
-    }
+kept_resting b v c rest m known runs awake are agree is opens held = record {
+  known = are.known;
+  agree = updated_each (λ k p. agrees (v.status k) p ≡ true) v.phase c _
+      (rest_agrees v c rest runs (are.agree c) agree) are.agree;
+  phase = updated_each (λ k. IsPhase b) v.phase c _
+      (subst (IsPhase b) (sym (ran_left (v.phase c) rest.phase runs)) is) are.phase;
+  nested = held.bounds.nested;
+  asked = held.bounds.asked;
+  awake = λ e.
+      let opening = (are.awake e).opening in
+      awake_from b (with_claims b m (with_rest c rest v)) known
+      (both_updated (λ o p. is_some o ≡ is_expected p) v.opening v.phase c _ _
+      (rest_opens (v.opening c) (v.phase c) rest runs (opening c) opens) opening)
+      held.equal;
+}
 
 -- a core entered, found nothing to do, and parks
 pub kept_parking : (b : BoardValue) (v : Values) (c : ℕ) (s : Start) (m : MessageValue) → Known b
@@ -174,8 +166,7 @@ pub kept_parking : (b : BoardValue) (v : Values) (c : ℕ) (s : Start) (m : Mess
     → AreValues b (with_claims b m (with_phase c Away (with_arrival b c s v)))
 kept_parking b v c s m known within awake none are held =
     let f : Values = in_life b s.life v in
-    let opens = (are.awake awake).opening in
-    let left = parked_left (f.phase c) (f.opening c) (opens c) none in
+    let opening = (are.awake awake).opening in
     record {
       known = known_arrived b f c s within are;
       agree = agree_away (with_arrival b c s v) c are.agree;
@@ -183,8 +174,8 @@ kept_parking b v c s m known within awake none are held =
       nested = held.bounds.nested;
       asked = held.bounds.asked;
       awake = λ e. awake_from b (with_claims b m (with_phase c Away (with_arrival b c s v))) known
-          (both_updated (λ o p. is_some o ≡ is_expected p) f.opening f.phase c None
-          (unless_pending (f.phase c) Away) (sym (ap is_expected left)) opens)
+          (both_updated (λ o p. is_some o ≡ is_expected p) f.opening f.phase c None _
+          (sym (ap is_expected (parked_left (f.phase c) (f.opening c) (opening c) none))) opening)
           held.equal;
     }
 
@@ -197,7 +188,7 @@ arrived_held b v c s known on awake are =
     let f : Values = in_life b s.life v in
     let new : ℕ → Phase = updated f.phase c Running in
     let here : new c ≡ Running = updated_at f.phase c Running in
-    let changed : ChangedAt f.phase new c = λ x other. updated_else f.phase c Running x other in
+    let changed : ChangedAt f.phase new c = updated_else f.phase c Running in
     record {
       bounds = bounded_cleared b f.phase new f.granted c known.paths changed (bounded_of b f are);
       equal = granted_cleared b f.mode f.phase new f.granted c known.paths on changed

@@ -1,9 +1,9 @@
 -- Worked examples: cores that are suspended and cores that go off in platform-coordinated mode.
 use Rattle.std.proofs.Common.{◌∷◌, [], refl}
-use Rattle.psci_fw_spec.proofs.Steps.{◌⇒◌, AreAnswered, board, boot, boots, computing, enter_on}
-use Rattle.psci_fw_spec.proofs.Steps.{enter_wake, error, goes_on_3, goes_to, off, on, on_3}
-use Rattle.psci_fw_spec.proofs.Steps.{one_cluster, one_core, part, resumes, smc, starts, stops}
-use Rattle.psci_fw_spec.proofs.Steps.{suspend, tall, uneven}
+use Rattle.psci_fw_spec.proofs.Steps.{◌⇒◌, AreAnswered, AreAnsweredOn, board, boot, boots}
+use Rattle.psci_fw_spec.proofs.Steps.{computing, enter_on, enter_wake, error, goes_on_3, goes_to}
+use Rattle.psci_fw_spec.proofs.Steps.{off, on, on_3, one_cluster, one_core, part, resumes, smc}
+use Rattle.psci_fw_spec.proofs.Steps.{starts, stops, suspend, tall, uneven}
 
 -- Openings ------------------------------------------------------------------------------------
 
@@ -20,10 +20,10 @@ narrow_word = record { history = refl; values = refl }
 
 -- Claims --------------------------------------------------------------------------------------
 
--- a core claims no more of its cluster than it asks itself, and nothing where the other core asks
--- nothing of it
-least_of_two : AreAnswered board
-    (boot ⇒ boots
+least_asks : AreAnsweredOn
+    -- a core claims no more of its cluster than it asks itself, and nothing where the other core
+    -- asks nothing of it
+    (board ⇒ (boot ⇒ boots
     ∷ on 0x100 0x40002000 0 ⇒ starts 2 1 0
     ∷ on_3 ⇒ starts 3 1 0
     ∷ enter_on 2 1 1 ⇒ goes_to 0x40002000 0
@@ -34,12 +34,8 @@ least_of_two : AreAnswered board
     ∷ suspend 3 0x00010003 0x40004000 2 ⇒ stops 3 1 5 (part 0 3 5 ∷ [])
     ∷ enter_wake 2 1 2 ⇒ goes_to 0x40003000 1
     ∷ suspend 2 0x01010033 0x40003000 1 ⇒ stops 2 1 2 (part 0 3 2 ∷ []) ∷ [])
-unfolding computing
-least_of_two = record { history = refl; values = refl }
-
--- an uneven board: the cluster of three goes down with the last of them
-cluster_of_three : AreAnswered uneven
-    (boot ⇒ boots
+    -- an uneven board: the cluster of three goes down with the last of them
+    ∷ uneven ⇒ (boot ⇒ boots
     ∷ on 0x100 0x40002000 0 ⇒ starts 1 1 0
     ∷ on 0x102 0x40001000 7 ⇒ starts 3 1 0
     ∷ enter_on 1 1 2 ⇒ goes_to 0x40002000 0
@@ -47,48 +43,36 @@ cluster_of_three : AreAnswered uneven
     ∷ suspend 1 0x01010033 0x40003000 0 ⇒ stops 1 1 2 (part 0 3 2 ∷ [])
     ∷ suspend 3 0x01010023 0x40004000 0 ⇒ stops 3 1 1 (part 0 3 1 ∷ part 1 2 3 ∷ [])
     ∷ suspend 0 0x02010222 0x40000100 0 ⇒ error 2
-    ∷ suspend 0 0x02000222 0 0 ⇒ stops 0 1 1 (part 0 2 1 ∷ part 1 2 1 ∷ []) ∷ [])
+    ∷ suspend 0 0x02000222 0 0 ⇒ stops 0 1 1 (part 0 2 1 ∷ part 1 2 1 ∷ []) ∷ []) ∷ [])
 unfolding computing
-cluster_of_three = record { history = refl; values = refl }
+least_asks = record { history = refl; values = refl }
 
 -- Cores that go off ---------------------------------------------------------------------------
 
--- a running core keeps its cluster up
-running_core_in_cluster : AreAnswered board
-    (boot ⇒ boots
+last_cores_off : AreAnsweredOn
+    -- a running core keeps its cluster up
+    (board ⇒ (boot ⇒ boots
     ∷ on 0x001 0x40005000 0 ⇒ starts 1 1 0
     ∷ enter_on 1 1 1 ⇒ goes_to 0x40005000 0
     ∷ off 0 ⇒ stops 0 1 1 (part 0 3 1 ∷ [])
     ∷ off 1 ⇒ stops 1 1 1 (part 0 3 1 ∷ part 1 3 2 ∷ part 2 3 2 ∷ []) ∷ [])
-unfolding computing
-running_core_in_cluster = record { history = refl; values = refl }
-
--- one cluster: it goes down with its last core, one of the three was never on
-last_of_one_cluster : AreAnswered one_cluster
-    (boot ⇒ boots
+    -- one cluster: it goes down with its last core, one of the three was never on
+    ∷ one_cluster ⇒ (boot ⇒ boots
     ∷ on 0x2 0x40001000 7 ⇒ starts 2 1 0
     ∷ enter_on 2 1 4 ⇒ goes_to 0x40001000 7
     ∷ off 0 ⇒ stops 0 1 1 (part 0 3 1 ∷ [])
     ∷ off 2 ⇒ stops 2 1 4 (part 0 3 4 ∷ part 1 3 5 ∷ []) ∷ [])
-unfolding computing
-last_of_one_cluster = record { history = refl; values = refl }
-
--- three levels above the cores: a group goes down with its last cluster, and the system with it
-last_of_a_tall_board : AreAnswered tall
-    (boot ⇒ boots
+    -- three levels above the cores: a group goes down with its last cluster, and the system with it
+    ∷ tall ⇒ (boot ⇒ boots
     ∷ on 0x100 0x40001000 7 ⇒ starts 1 1 0
     ∷ enter_on 1 1 2 ⇒ goes_to 0x40001000 7
     ∷ off 0 ⇒ stops 0 1 1 (part 0 3 1 ∷ part 1 3 1 ∷ [])
     ∷ off 1 ⇒ stops 1 1 2 (part 0 3 2 ∷ part 1 3 2 ∷ part 2 3 3 ∷ part 3 3 3 ∷ []) ∷ [])
-unfolding computing
-last_of_a_tall_board = record { history = refl; values = refl }
-
--- an uneven board: each cluster goes down with its only running core
-last_of_an_uneven_board : AreAnswered uneven
-    (boot ⇒ boots
+    -- an uneven board: each cluster goes down with its only running core
+    ∷ uneven ⇒ (boot ⇒ boots
     ∷ on 0x102 0x40001000 7 ⇒ starts 3 1 0
     ∷ enter_on 3 1 4 ⇒ goes_on_3
     ∷ off 3 ⇒ stops 3 1 4 (part 0 3 4 ∷ part 1 3 4 ∷ [])
-    ∷ off 0 ⇒ stops 0 1 1 (part 0 3 1 ∷ part 1 3 1 ∷ part 2 3 5 ∷ []) ∷ [])
+    ∷ off 0 ⇒ stops 0 1 1 (part 0 3 1 ∷ part 1 3 1 ∷ part 2 3 5 ∷ []) ∷ []) ∷ [])
 unfolding computing
-last_of_an_uneven_board = record { history = refl; values = refl }
+last_cores_off = record { history = refl; values = refl }

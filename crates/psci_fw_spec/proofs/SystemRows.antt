@@ -2,8 +2,8 @@
 -- life.
 use Rattle.std.proofs.Common.{◌∷◌, [], false, refl, true}
 use Rattle.psci_messages.specs.declared.kind.Kind.TheVariants.{Off, Reset, Start}
-use Rattle.psci_fw_spec.proofs.Lopsided.{once_3_runs}
-use Rattle.psci_fw_spec.proofs.Steps.{◌⇒◌, affinity, AreAnswered, AreAnsweredAll, board, boot}
+use Rattle.psci_fw_spec.proofs.LopsidedRows.{once_3_runs}
+use Rattle.psci_fw_spec.proofs.Steps.{◌⇒◌, affinity, AreAnsweredAll, AreAnsweredOn, board, boot}
 use Rattle.psci_fw_spec.proofs.Steps.{boots, computing, enter_boot, enter_on, enter_reset}
 use Rattle.psci_fw_spec.proofs.Steps.{enter_wake, error, goes_on_3, goes_to, off, old, on, on_3}
 use Rattle.psci_fw_spec.proofs.Steps.{one_cluster, part, refused, set_mode, smc, starts, stops}
@@ -29,9 +29,9 @@ system_calls = record { history = refl; values = refl }
 
 -- SYSTEM_RESET2: types ------------------------------------------------------------------------
 
--- types of a vendor and reserved types are refused, and the caller goes on; type 0 resets
-types_of_reset : AreAnswered board
-    (boot ⇒ boots
+types_of_reset : AreAnsweredAll board
+    -- types of a vendor and reserved types are refused, and the caller goes on; type 0 resets
+    ((boot ⇒ boots
     ∷ on_3 ⇒ starts 3 1 0
     ∷ affinity 0x101 0 ⇒ value 2
     ∷ enter_on 3 1 1 ⇒ goes_on_3
@@ -42,12 +42,8 @@ types_of_reset : AreAnswered board
     ∷ take Reset 3 1 1 1 false ⇒ used
     ∷ enter_boot 0 2 1 ⇒ boots
     ∷ affinity 0x101 0 ⇒ value 1 ∷ [])
-unfolding computing
-types_of_reset = record { history = refl; values = refl }
-
-other_types : AreAnsweredAll board
     -- the ends of the types, and each bit by itself
-    ((boot ⇒ boots
+    ∷ (boot ⇒ boots
     ∷ system_reset2 0 0xffffffff 0 ⇒ error 2
     ∷ system_reset2 0 0x7fffffff 0 ⇒ error 2
     ∷ system_reset2 0 0x80000001 0 ⇒ error 2
@@ -65,36 +61,34 @@ other_types : AreAnsweredAll board
     ∷ system_reset2 3 0 0 ⇒ refused NotRunning
     ∷ version 0 ⇒ value 65537 ∷ []) ∷ [])
 unfolding computing
-other_types = record { history = refl; values = refl }
+types_of_reset = record { history = refl; values = refl }
 
 -- SYSTEM_RESET2: callers ----------------------------------------------------------------------
 
-last_core_of_a_tall_board_resets : AreAnswered tall
-    (boot ⇒ boots
+callers_of_reset : AreAnsweredOn
+    -- the last core of a tall board
+    (tall ⇒ (boot ⇒ boots
     ∷ on 0x10100 0x40001000 7 ⇒ starts 3 1 0
     ∷ enter_on 3 1 6 ⇒ goes_on_3
     ∷ system_reset2 3 1 0 ⇒ error 2
     ∷ system_reset2 3 0 0 ⇒ stops_by Reset 3 1 6 []
     ∷ version 0 ⇒ stops_still ∷ [])
-unfolding computing
-last_core_of_a_tall_board_resets = record { history = refl; values = refl }
-
-core_of_an_uneven_board_resets : AreAnswered uneven
-    (boot ⇒ boots
+    -- a core of an uneven board
+    ∷ uneven ⇒ (boot ⇒ boots
     ∷ on 0x101 0x40001000 7 ⇒ starts 2 1 0
     ∷ enter_on 2 1 4 ⇒ goes_to 0x40001000 7
     ∷ system_reset2 2 0 0 ⇒ stops_by Reset 2 1 4 []
     ∷ take Reset 0 1 4 1 false ⇒ old
-    ∷ take Reset 2 1 4 1 false ⇒ used ∷ [])
+    ∷ take Reset 2 1 4 1 false ⇒ used ∷ []) ∷ [])
 unfolding computing
-core_of_an_uneven_board_resets = record { history = refl; values = refl }
+callers_of_reset = record { history = refl; values = refl }
 
 -- SYSTEM_RESET2: neighbours, modes and limits -------------------------------------------------
 
--- beside a core that is pending, one that is suspended and one that goes off; what is outstanding
--- for them stays
-beside_resting_cores : AreAnswered board
-    (boot ⇒ boots
+reset_beside_others : AreAnsweredOn
+    -- beside a core that is pending, one that is suspended and one that goes off; what is
+    -- outstanding for them stays
+    (board ⇒ (boot ⇒ boots
     ∷ on_3 ⇒ starts 3 1 0
     ∷ on 0x001 0x40005000 0 ⇒ starts 1 1 0
     ∷ on 0x100 0x40006000 0 ⇒ starts 2 1 0
@@ -107,27 +101,23 @@ beside_resting_cores : AreAnswered board
     ∷ take_down 1 1 1 1 ⇒ used
     ∷ enter_on 3 1 1 ⇒ stops_still
     ∷ enter_wake 1 1 2 ⇒ stops_still ∷ [])
-unfolding computing
-beside_resting_cores = record { history = refl; values = refl }
-
--- in OS-initiated mode
-reset2_in_os_mode : AreAnswered one_cluster
-    (boot ⇒ boots
+    -- in OS-initiated mode
+    ∷ one_cluster ⇒ (boot ⇒ boots
     ∷ set_mode 0 1 ⇒ value 0
     ∷ on 0x2 0x40001000 7 ⇒ starts 2 1 0
     ∷ enter_on 2 1 2 ⇒ goes_to 0x40001000 7
     ∷ system_reset2 2 0x80000000 0 ⇒ error 2
     ∷ system_reset2 0 1 0 ⇒ error 2
     ∷ system_reset2 2 0 0 ⇒ stops_by Reset 2 1 2 []
-    ∷ set_mode 0 0 ⇒ stops_still ∷ [])
+    ∷ set_mode 0 0 ⇒ stops_still ∷ []) ∷ [])
 unfolding computing
-reset2_in_os_mode = record { history = refl; values = refl }
+reset_beside_others = record { history = refl; values = refl }
 
 -- A halting life ------------------------------------------------------------------------------
 
--- in a halting life it stops its caller, whatever its type, and sends nothing
-reset2_in_a_halting_life : AreAnswered one_cluster
-    (boot ⇒ boots
+halting_life : AreAnsweredOn
+    -- in a halting life it stops its caller, whatever its type, and sends nothing
+    (one_cluster ⇒ (boot ⇒ boots
     ∷ on 0x1 0x40005000 0 ⇒ starts 1 1 0
     ∷ on 0x2 0x40001000 7 ⇒ starts 2 1 0
     ∷ enter_on 1 1 1 ⇒ goes_to 0x40005000 0
@@ -137,12 +127,8 @@ reset2_in_a_halting_life : AreAnswered one_cluster
     ∷ system_reset2 2 0 0 ⇒ stops_still
     ∷ take Reset 2 1 1 1 false ⇒ old
     ∷ take Off 0 1 1 1 false ⇒ used ∷ [])
-unfolding computing
-reset2_in_a_halting_life = record { history = refl; values = refl }
-
--- a core stops whatever it calls: CPU_OFF, and SYSTEM_OFF, which sends nothing then
-functions_of_a_halting_life : AreAnswered one_cluster
-    (boot ⇒ boots
+    -- a core stops whatever it calls: CPU_OFF, and SYSTEM_OFF, which sends nothing then
+    ∷ one_cluster ⇒ (boot ⇒ boots
     ∷ on 0x1 0x40005000 0 ⇒ starts 1 1 0
     ∷ on 0x2 0x40001000 7 ⇒ starts 2 1 0
     ∷ enter_on 1 1 1 ⇒ goes_to 0x40005000 0
@@ -152,12 +138,8 @@ functions_of_a_halting_life : AreAnswered one_cluster
     ∷ system_off 2 ⇒ stops_still
     ∷ take Reset 0 1 1 1 false ⇒ used
     ∷ take Off 2 1 1 1 false ⇒ old ∷ [])
-unfolding computing
-functions_of_a_halting_life = record { history = refl; values = refl }
-
-cores_of_a_halting_life : AreAnsweredAll board
     -- a pending core stops as well, and a core that was suspended; their starts are over then
-    ((boot ⇒ boots
+    ∷ board ⇒ (boot ⇒ boots
     ∷ on_3 ⇒ starts 3 1 0
     ∷ on 0x001 0x40005000 0 ⇒ starts 1 1 0
     ∷ enter_on 1 1 1 ⇒ goes_to 0x40005000 0
@@ -172,7 +154,7 @@ cores_of_a_halting_life : AreAnsweredAll board
     ∷ take Off 0 1 1 1 false ⇒ old ∷ [])
     -- an entry ends what is outstanding for its core; what is for the system stays until it is
     -- acknowledged
-    ∷ once_3_runs 1
+    ∷ board ⇒ once_3_runs 1
     (off 3 ⇒ stops 3 1 1 (part 0 3 1 ∷ part 1 3 1 ∷ [])
     ∷ on 0x001 0x40005000 0 ⇒ starts 1 1 0
     ∷ system_reset 0 ⇒ stops_by Reset 0 1 1 []
@@ -184,4 +166,4 @@ cores_of_a_halting_life : AreAnsweredAll board
     ∷ take Reset 0 1 1 0 true ⇒ used
     ∷ take Reset 0 1 1 1 false ⇒ old ∷ []) ∷ [])
 unfolding computing
-cores_of_a_halting_life = record { history = refl; values = refl }
+halting_life = record { history = refl; values = refl }

@@ -1,19 +1,18 @@
 -- The words of std and of definitions that proofs here speak in.
-pub use Rattle.std.proofs.Common.{◌&&◌, ◌+◌, ◌<◌, ◌==◌, ◌||◌, ◌↔◌, ◌∙◌, ◌∷◌, ◌≡◌, ◌≤◌, ◌⊎◌, [], ap}
-pub use Rattle.std.proofs.Common.{arith, Bool, cond, Err, false, inl, inr, List, nat_le, nat_lt}
-pub use Rattle.std.proofs.Common.{None, not, Ok, Option, option_map, refl, Some, subst, suc, sym}
-pub use Rattle.std.proofs.Common.{true, true≢false, unwrap_or, zero, ℕ, ℤ}
-pub use Rattle.std.proofs.lemmas.Bool.{and_parts, cases_eq, eq-eqb, eqb-true, le-leb, ne_eqb}
+pub use Rattle.std.proofs.Common.{◌+◌, ◌<◌, ◌==◌, ◌||◌, ◌↔◌, ◌∙◌, ◌∷◌, ◌≡◌, ◌≤◌, ◌⊎◌, [], ap, arith}
+pub use Rattle.std.proofs.Common.{Bool, cond, false, inl, inr, List, nat_le, None, Ok, Option, refl}
+pub use Rattle.std.proofs.Common.{Some, subst, suc, sym, true, true≢false, unwrap_or, zero, ℕ, ℤ}
+pub use Rattle.std.proofs.lemmas.Bool.{cases_eq}
 pub use Rattle.std.proofs.lemmas.Bool.Decides.{nat_tests}
 pub use Rattle.std.specs.Option.{option_or}
 pub use Rattle.std.specs.Ordering.{int_eq}
 pub use Rattle.std.specs.Prelude.{if◌then◌else◌, is_some, Result, slice_get}
 pub use Rattle.psci_abi.specs.Calls.{request_of}
-pub use Rattle.psci_abi.specs.Codes.{denied, invalid_address, invalid_parameters, success}
+pub use Rattle.psci_abi.specs.Codes.{denied, success}
 pub use Rattle.psci_abi.specs.declared.code.Code.{Code}
 pub use Rattle.psci_abi.specs.declared.registers.Regs.{Regs}
 pub use Rattle.psci_abi.specs.declared.request.Request.{Request}
-pub use Rattle.psci_board.specs.Board.{BoardValue, core_of, cores, height, IsBoard, may_enter, up}
+pub use Rattle.psci_board.specs.Board.{BoardValue, core_of, cores, height, IsBoard, up}
 pub use Rattle.psci_board.specs.Laws.{PathLaws}
 pub use Rattle.psci_board.specs.declared.node.Core.{Core}
 pub use Rattle.psci_fw_spec.specs.After.{change}
@@ -22,13 +21,11 @@ pub use Rattle.psci_fw_spec.specs.Calls.{call_fault, function_outcome, outcome_o
 pub use Rattle.psci_fw_spec.specs.Changes.{PowerOn, target, with_arrival, with_pending, with_phase}
 pub use Rattle.psci_fw_spec.specs.Claims.{leaving_claims, suspend_claims, suspend_parts}
 pub use Rattle.psci_fw_spec.specs.CpuOff.{off_message}
-pub use Rattle.psci_fw_spec.specs.CpuOn.{off_target, start_outcome, target_among, target_of}
-pub use Rattle.psci_fw_spec.specs.CpuSuspend.{ask_named, suspend_answer, suspend_asked}
-pub use Rattle.psci_fw_spec.specs.Effects.{Acknowledges, AsksOn, Effect, effect_of, enter_effect}
-pub use Rattle.psci_fw_spec.specs.Effects.{Enters, function_effect, GoesOn, Halts, mode_effect}
-pub use Rattle.psci_fw_spec.specs.Effects.{Parks, rest_named, Rests, return_effect, sent_effect}
-pub use Rattle.psci_fw_spec.specs.Effects.{SetsMode, stop_effect, StopsAtOnce}
-pub use Rattle.psci_fw_spec.specs.Entering.{outcome_at, resumes}
+pub use Rattle.psci_fw_spec.specs.CpuOn.{start_outcome}
+pub use Rattle.psci_fw_spec.specs.CpuSuspend.{ask_named, suspend_asked}
+pub use Rattle.psci_fw_spec.specs.Effects.{AsksOn, Effect, effect_of, enter_effect, Enters}
+pub use Rattle.psci_fw_spec.specs.Effects.{function_effect, GoesOn, mode_effect, Parks, rest_named}
+pub use Rattle.psci_fw_spec.specs.Effects.{Rests, SetsMode, StopsAtOnce}
 pub use Rattle.psci_fw_spec.specs.Exchange.{effect, FwExchange}
 pub use Rattle.psci_fw_spec.specs.History.{begins, changes, is_pending, known, life, phase}
 pub use Rattle.psci_fw_spec.specs.History.{phase_left, says_pending, says_status, status}
@@ -55,20 +52,15 @@ pub use Rattle.psci_fw_spec.specs.declared.outcome.Act.{Act}
 pub use Rattle.psci_fw_spec.specs.declared.outcome.Outcome.{Outcome}
 pub use Rattle.psci_fw_spec.specs.declared.reply.FwReply.{FwReply}
 pub use Rattle.psci_fw_spec.specs.declared.reply.FwReply.TheVariants.{Fault, Out, Taken}
-pub use Rattle.psci_fw_spec.specs.declared.status.Status.{Status}
 pub use Rattle.psci_fw_spec.specs.declared.status.Status.TheVariants.{Off}
 pub use Rattle.psci_messages.specs.Claim.{claims_of, least_wish, off_wish, own_wish}
 pub use Rattle.psci_messages.specs.LastCore.{last_core_check}
 pub use Rattle.psci_messages.specs.Message.{AckValue, AreClaims, MessageValue}
 pub use Rattle.psci_messages.specs.OnlyIf.{only_if}
-pub use Rattle.psci_messages.specs.Slots.{is_kind}
 pub use Rattle.psci_messages.specs.View.{domain_of, is_all_away, least_ask, PowerView}
 pub use Rattle.psci_messages.specs.declared.kind.Kind.{Kind}
-pub use Rattle.psci_messages.specs.declared.kind.Kind.TheVariants.{Down}
-pub use Rattle.psci_messages.specs.declared.osi.Osi.{Osi}
 pub use Rattle.psci_messages.specs.declared.part.Part.{Part}
 pub use Rattle.psci_messages.specs.declared.start.Start.{Start}
-pub use Rattle.psci_messages.specs.declared.taken.Taken.TheVariants.{Old, Used}
 pub use Rattle.psci_state.specs.Ask.{deepest_of, is_deep, IsAsk}
 pub use Rattle.psci_state.specs.Cores.{is_away}
 pub use Rattle.psci_state.specs.declared.fault.BadState.{BadState}

@@ -1,8 +1,6 @@
 pub mod Answered
 mod CallsStories
 mod ExamplesStories
-mod HardwareRows
-mod HistoryRows
 mod LivesStories
 mod OsInitiatedStories
 mod PeersStories

@@ -1,4 +1,4 @@
-use Rattle.psci_ctl_spec.proofs.OneReply.{one_history, some_history}
+use Rattle.psci_ctl_spec.proofs.OneMore.{one_history, some_history}
 use Rattle.psci_ctl_spec.proofs.laws.law_one_reply.Goals as goal
 
 pub returns : goal.returns

@@ -1,4 +1,4 @@
-use Rattle.psci_ctl_spec.proofs.StartLaws.{start_laws}
+use Rattle.psci_ctl_spec.proofs.Sums.{start_laws}
 use Rattle.psci_ctl_spec.proofs.laws.law_start.Goals as goal
 
 pub returns : goal.returns

@@ -1,4 +1,4 @@
-use Rattle.psci_ctl_spec.proofs.StartLaws.{sum_laws}
+use Rattle.psci_ctl_spec.proofs.Sums.{sum_laws}
 use Rattle.psci_ctl_spec.proofs.laws.law_sums.Goals as goal
 
 pub returns : goal.returns

@@ -1,20 +1,27 @@
 use Rattle.psci_fw_spec.proofs.Words.{BoardValue, height, IsBoard}
 use Rattle.psci_fw_spec.proofs.Answered.{Worded, deepest_is, kept_function}
-use Rattle.psci_fw_spec.proofs.Asked.{known_from}
+use Rattle.psci_fw_spec.proofs.Asked.{Known}
 use Rattle.psci_fw_spec.proofs.Changing.{kept_acknowledged}
-use Rattle.psci_fw_spec.proofs.Entered.{kept_answer, kept_enter, kept_legal}
-use Rattle.psci_fw_spec.proofs.Starting.{are_first}
+use Rattle.psci_fw_spec.proofs.Entered.{are_first, kept_answer, kept_enter, kept_legal}
 use Rattle.psci_fw_spec.proofs.laws.law_invariant.Goals as goal
 
 pub returns : goal.returns
 returns g =
-    let known = λ (b : BoardValue) (board : IsBoard b). known_from b board g.law_paths.ensures
-    g.law_words.ensures g.law_below.ensures g.law_claims.ensures g.law_platform.ensures
-    g.law_own.ensures g.law_off.ensures g.law_last_core.ensures g.law_parts.ensures.claim in
+    let known : (b : BoardValue) → IsBoard b → Known b = λ b board. search (
+      board,
+      g.law_paths.ensures,
+      g.law_words.ensures,
+      g.law_below.ensures,
+      g.law_claims.ensures,
+      g.law_platform.ensures,
+      g.law_own.ensures,
+      g.law_off.ensures,
+      g.law_last_core.ensures,
+      g.law_parts.ensures.claim,
+    ) in
     let asks : (b : BoardValue) → Worded b =
     λ b. g.law_power_states.ensures.shape b.format (height b) in
-    let all = λ (b : BoardValue) (board : IsBoard b).
-    deepest_is (height b) board.high g.law_power_states.ensures.test in
+    let all = λ (b : BoardValue) (board : IsBoard b). deepest_is (height b) board.high in
     record {
       first = λ b life board. are_first b life (known b board);
       function = λ b v c r board on are runs.

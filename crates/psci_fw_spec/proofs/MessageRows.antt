@@ -1,11 +1,18 @@
--- Worked examples: what becomes of acknowledgements.
-use Rattle.std.proofs.Common.{◌∷◌, [], false, refl, true}
-use Rattle.psci_messages.specs.declared.kind.Kind.TheVariants.{Off, Reset, Start}
-use Rattle.psci_fw_spec.proofs.Lopsided.{once_3_runs}
-use Rattle.psci_fw_spec.proofs.Steps.{◌⇒◌, AreAnsweredAll, affinity, board, boot, boots, computing}
-use Rattle.psci_fw_spec.proofs.Steps.{enter_boot, enter_on, enter_wake, goes_on_3, goes_to, off}
-use Rattle.psci_fw_spec.proofs.Steps.{old, on, on_3, part, starts, stops, suspend, take, take_down}
-use Rattle.psci_fw_spec.proofs.Steps.{take_stale, used, value}
+-- Worked examples: what becomes of acknowledgements; and what the message of a function names, and
+-- messages that name something else.
+use Rattle.std.proofs.Common.{◌∷◌, ◌≡◌, [], false, refl, Some, true, ℕ}
+use Rattle.psci_messages.specs.declared.kind.Kind.TheVariants.{Down, Off, Reset, Start}
+use Rattle.psci_fw_spec.proofs.LopsidedRows.{once_3_runs}
+use Rattle.psci_fw_spec.proofs.Steps.{◌⇒◌, affinity, AreAnsweredAll, board, boot, boots, computing}
+use Rattle.psci_fw_spec.proofs.Steps.{enter_boot, enter_on, enter_wake, goes_on_3, goes_to, message}
+use Rattle.psci_fw_spec.proofs.Steps.{off, old, on, on_3, part, starts, stops, suspend, take}
+use Rattle.psci_fw_spec.proofs.Steps.{take_down, take_stale, used, value}
+use Rattle.psci_abi.specs.declared.request.Request.TheVariants.{CpuOff, CpuOn}
+use Rattle.psci_board.specs.Board.{core_of}
+use Rattle.psci_board.specs.declared.node.Core.{Core}
+use Rattle.psci_messages.specs.Message.{MessageValue}
+use Rattle.psci_fw_spec.specs.Lives.{start_of_life}
+use Rattle.psci_fw_spec.specs.Named.{IsNamed}
 
 -- Cores that go off ---------------------------------------------------------------------------
 
@@ -107,3 +114,37 @@ starts_acknowledged : AreAnsweredAll board
     ∷ affinity 0x101 0 ⇒ value 2 ∷ []) ∷ [])
 unfolding computing
 starts_acknowledged = record { history = refl; values = refl }
+
+-- Messages ------------------------------------------------------------------------------------
+
+abbrev core : ℕ → Core
+core n = record { number = n }
+
+-- what is named by a CPU_OFF of core 2, and by its CPU_ON of core 3, in life 3; no core has entered
+-- in it
+abbrev NamedOff : MessageValue → Type 0
+NamedOff m = IsNamed board (start_of_life board 3) 2 CpuOff m
+
+abbrev NamedOn : MessageValue → Type 0
+NamedOn m = IsNamed board (start_of_life board 3) 2 (CpuOn 0x101 0x40001000 7) m
+
+down_is_named : NamedOff (message Down 2 3 0 [])
+down_is_named = record { kind = refl; core = refl; life = refl; number = refl }
+
+-- another kind, core, life and number
+others_not_named : (NamedOff (message Off 2 3 0 []) → ⊥) × (NamedOff (message Down 0 3 0 []) → ⊥)
+    × (NamedOff (message Down 2 1 0 []) → ⊥) × (NamedOff (message Down 2 3 1 []) → ⊥)
+others_not_named = (
+  λ n. absurd (cc n.kind),
+  λ n. let e : Some (core 2) ≡ Some (core 0) = n.core in absurd (cc),
+  λ n. absurd (cc n.life),
+  λ n. absurd (cc n.number),
+)
+
+-- a CPU_ON names its target and not its caller
+target_named : NamedOn (message Start 3 3 0 []) × (NamedOn (message Start 2 3 0 []) → ⊥)
+unfolding core_of
+target_named = (
+  record { kind = refl; core = refl; life = refl; number = refl },
+  λ n. let e : Some (core 3) ≡ Some (core 2) = n.core in absurd (cc),
+)
