@@ -12,31 +12,32 @@ use Rattle.psci_fw_spec.specs.declared.reply.FwReply.TheVariants as replies
 
 -- Answers ---------------------------------------------------------------------------------------
 
-call_fault-by : (b : BoardValue) (s : ℕ → ℕ → ℕ) (v : Values) (c : ℕ) → Renumbers b s
-    → call_fault b (values_by s v) (s 0 c) ≡ call_fault b v c
-call_fault-by b s v c is = rw (is.inside 0 c, is.back 0 c)
+module _ {b : BoardValue} {s : ℕ → ℕ → ℕ} (is : Renumbers b s) where
+  call_fault-by : (v : Values) (c : ℕ) → call_fault b (values_by s v) (s 0 c) ≡ call_fault b v c
+  call_fault-by v c = rw (is.inside 0 c, is.back 0 c)
 
-reply_or-by : (s : ℕ → ℕ → ℕ) (fault : Option FwFault) (o : Outcome)
-    → reply_or fault (outcome_by s o) ≡ reply_by s (reply_or fault o)
-reply_or-by s None o = refl
-reply_or-by s (Some fault) o = refl
+  reply_or-by : (fault : Option FwFault) (o : Outcome)
+      → reply_or fault (outcome_by s o) ≡ reply_by s (reply_or fault o)
+  reply_or-by None o = refl
+  reply_or-by (Some fault) o = refl
 
--- the same refusal, and the same outcome of the other number
-replied-by : (s : ℕ → ℕ → ℕ) (f g : Option FwFault) (o p : Outcome) → f ≡ g → o ≡ outcome_by s p
-    → reply_or f o ≡ reply_by s (reply_or g p)
-replied-by s f g o p same e = rw (same, e) (reply_or-by s g p)
+  -- the same refusal, and the same outcome of the other number
+  replied-by : (f g : Option FwFault) (o p : Outcome) → f ≡ g → o ≡ outcome_by s p
+      → reply_or f o ≡ reply_by s (reply_or g p)
+  replied-by f g o p same e = rw (same, e) (reply_or-by g p)
 
-pub answer-by : (b : BoardValue) (s : ℕ → ℕ → ℕ) (v : Values) (c : ℕ) (call other : FwCall)
-    → Renumbers b s → CallsBy b s call other → SparesBoot s v.life call
-    → answer b (values_by s v) (s 0 c) other ≡ reply_by s (answer b v c call)
-unfolding answer
-answer-by b s v c (Smc regs) (Smc r) is calls spares =
-    replied-by s _ _ _ _ (call_fault-by b s v c is)
-    (outcome_of-by b s v c (request_of regs) (request_of r) is calls)
-answer-by b s v c (Smc regs) other is calls spares = absurd calls
-answer-by b s v c (Enter start) other is calls spares =
-    rw calls (replied-by s _ _ _ _ (enter_fault-by b s v c start is)
-    (enter_outcome-by b s v c start is (finds-by b s start v is spares)))
-answer-by b s v c (Take a) other is calls spares =
-    rw (calls, at_slot-by s v a (is.back 0))
-    (ap replies.Taken (taken-by s a (v.outstanding (slot_of a.kind a.core)) (is.back 0)))
+  pub answer-by : (v : Values) (c : ℕ) (call other : FwCall) → CallsBy b s call other
+      → SparesBoot s v.life call
+      → answer b (values_by s v) (s 0 c) other ≡ reply_by s (answer b v c call)
+  unfolding answer
+  answer-by v c (Smc regs) (Smc r) calls spares =
+      replied-by _ _ _ _ (call_fault-by v c)
+      (outcome_of-by is v c (request_of regs) (request_of r) calls)
+  answer-by v c (Smc regs) other calls spares = absurd calls
+  answer-by v c (Enter start) other calls spares =
+      rw calls
+      (replied-by _ _ _ _ (enter_fault-by is v c start)
+      (enter_outcome-by is v c start (finds-by is start v spares)))
+  answer-by v c (Take a) other calls spares =
+      rw (calls, at_slot-by is v a)
+      (ap replies.Taken (taken-by is a (v.outstanding (slot_of a.kind a.core))))

@@ -18,72 +18,69 @@ view_by s w = record {
 
 -- What is counted below a domain ----------------------------------------------------------------
 
-least_ask-by : (b : BoardValue) (s : ℕ → ℕ → ℕ) (w : PowerView) (n : Node) → Renumbers b s
-    → least_ask b (view_by s w) (node_by s n) ≡ least_ask b w n
-unfolding least_ask
-least_ask-by b s w n is = least-below b s n (λ c. w.ask c n.level) is
+module _ {b : BoardValue} {s : ℕ → ℕ → ℕ} (is : Renumbers b s) where
+  least_ask-by : (w : PowerView) (n : Node)
+      → least_ask b (view_by s w) (node_by s n) ≡ least_ask b w n
+  unfolding least_ask
+  least_ask-by w n = least-below is n (λ c. w.ask c n.level)
 
-generation-by : (b : BoardValue) (s : ℕ → ℕ → ℕ) (w : PowerView) (n : Node) → Renumbers b s
-    → generation b (view_by s w) (node_by s n) ≡ generation b w n
-unfolding generation
-generation-by b s w n is = sum-below b s n w.known is
+  generation-by : (w : PowerView) (n : Node)
+      → generation b (view_by s w) (node_by s n) ≡ generation b w n
+  unfolding generation
+  generation-by w n = sum-below is n w.known
 
-is_all_away-by : (b : BoardValue) (s : ℕ → ℕ → ℕ) (w : PowerView) (n : Node) → Renumbers b s
-    → is_all_away b (view_by s w) (node_by s n) ≡ is_all_away b w n
-unfolding is_all_away
-is_all_away-by b s w n is = all-below b s n w.is_away is
+  is_all_away-by : (w : PowerView) (n : Node)
+      → is_all_away b (view_by s w) (node_by s n) ≡ is_all_away b w n
+  unfolding is_all_away
+  is_all_away-by w n = all-below is n w.is_away
 
-pub is_idle-by : (b : BoardValue) (s : ℕ → ℕ → ℕ) (w : PowerView) (n : Node) → Renumbers b s
-    → is_idle b (view_by s w) (node_by s n) ≡ is_idle b w n
-unfolding is_idle
-is_idle-by b s w n is = all-below b s n (λ c. not (w.is_active c)) is
+  pub is_idle-by : (w : PowerView) (n : Node)
+      → is_idle b (view_by s w) (node_by s n) ≡ is_idle b w n
+  unfolding is_idle
+  is_idle-by w n = all-below is n (λ c. not (w.is_active c))
 
--- the domain of the other core
-domain-by : (b : BoardValue) (s : ℕ → ℕ → ℕ) (c level : ℕ) → Renumbers b s
-    → domain_of b (s 0 c) level ≡ node_by s (domain_of b c level)
-domain-by b s c level is = rw (is.above level c)
+  -- the domain of the other core
+  domain-by : (c level : ℕ) → domain_of b (s 0 c) level ≡ node_by s (domain_of b c level)
+  domain-by c level = rw (is.above level c)
 
--- Claims ----------------------------------------------------------------------------------------
+  -- Claims ----------------------------------------------------------------------------------------
 
--- what a core wants of its domains does not depend on its number, so its claim does not
-claims_of-by : (b : BoardValue) (s : ℕ → ℕ → ℕ) (w : PowerView) (c : ℕ) (f g : ℕ → ℕ)
-    → Renumbers b s → ((level : ℕ) → f level ≡ g level)
-    → claims_of b (view_by s w) (s 0 c) f ≡ claims_of b w c g
-unfolding claims_of
-claims_of-by b s w c f g is same =
-    let wanted : f ≡ g = λ i. λ level. same level i in
-    let sums : (λ level. generation b (view_by s w) (domain_of b (s 0 c) level))
-    ≡ (λ level. generation b w (domain_of b c level)) = λ i. λ level.
-    (ap (generation b (view_by s w)) (domain-by b s c level is)
-    ∙ generation-by b s w (domain_of b c level) is) i in
-    ap (λ (h : ℕ → ℕ). climb h
-    (λ level. generation b (view_by s w) (domain_of b (s 0 c) level)) 0 (height b + 1)) wanted
-    ∙ ap (λ (h : ℕ → ℕ). climb g h 0 (height b + 1)) sums
+  -- what a core wants of its domains does not depend on its number, so its claim does not
+  claims_of-by : (w : PowerView) (c : ℕ) (f g : ℕ → ℕ) → ((level : ℕ) → f level ≡ g level)
+      → claims_of b (view_by s w) (s 0 c) f ≡ claims_of b w c g
+  unfolding claims_of
+  claims_of-by w c f g same =
+      let wanted : f ≡ g = λ i. λ level. same level i in
+      let sums : (λ level. generation b (view_by s w) (domain_of b (s 0 c) level))
+      ≡ (λ level. generation b w (domain_of b c level)) = λ i. λ level.
+      (ap (generation b (view_by s w)) (domain-by c level)
+      ∙ generation-by w (domain_of b c level)) i in
+      ap (λ (h : ℕ → ℕ). climb h (λ level. generation b (view_by s w) (domain_of b (s 0 c) level)) 0
+      (height b + 1)) wanted
+      ∙ ap (λ (h : ℕ → ℕ). climb g h 0 (height b + 1)) sums
 
-least_wish-by : (b : BoardValue) (s : ℕ → ℕ → ℕ) (w : PowerView) (c level : ℕ) → Renumbers b s
-    → least_wish b (view_by s w) (s 0 c) level ≡ least_wish b w c level
-least_wish-by b s w c level is =
-    rw (domain-by b s c level is) (least_ask-by b s w (domain_of b c level) is)
+  least_wish-by : (w : PowerView) (c level : ℕ)
+      → least_wish b (view_by s w) (s 0 c) level ≡ least_wish b w c level
+  least_wish-by w c level = rw (domain-by c level) (least_ask-by w (domain_of b c level))
 
-off_wish-by : (b : BoardValue) (s : ℕ → ℕ → ℕ) (w : PowerView) (c level : ℕ) → Renumbers b s
-    → off_wish b (view_by s w) (s 0 c) level ≡ off_wish b w c level
-off_wish-by b s w c zero is = refl
-off_wish-by b s w c (suc level) is =
-    rw (domain-by b s c (suc level) is, is_all_away-by b s w (domain_of b c (suc level)) is)
+  off_wish-by : (w : PowerView) (c level : ℕ)
+      → off_wish b (view_by s w) (s 0 c) level ≡ off_wish b w c level
+  off_wish-by w c zero = refl
+  off_wish-by w c (suc level) =
+      rw (domain-by c (suc level), is_all_away-by w (domain_of b c (suc level)))
 
-pub platform_claims-by : (b : BoardValue) (s : ℕ → ℕ → ℕ) (w : PowerView) (c : ℕ) → Renumbers b s
-    → platform_claims b (view_by s w) (s 0 c) ≡ platform_claims b w c
-platform_claims-by b s w c is =
-    claims_of-by b s w c (least_wish b (view_by s w) (s 0 c)) (least_wish b w c) is
-    (λ level. least_wish-by b s w c level is)
+  pub platform_claims-by : (w : PowerView) (c : ℕ)
+      → platform_claims b (view_by s w) (s 0 c) ≡ platform_claims b w c
+  platform_claims-by w c =
+      claims_of-by w c (least_wish b (view_by s w) (s 0 c)) (least_wish b w c)
+      (λ level. least_wish-by w c level)
 
-pub own_claims-by : (b : BoardValue) (s : ℕ → ℕ → ℕ) (w : PowerView) (c : ℕ) (ask : List ℕ)
-    → Renumbers b s → own_claims b (view_by s w) (s 0 c) ask ≡ own_claims b w c ask
-own_claims-by b s w c ask is =
-    claims_of-by b s w c (own_wish ask) (own_wish ask) is (λ level. refl)
+  pub own_claims-by : (w : PowerView) (c : ℕ) (ask : List ℕ)
+      → own_claims b (view_by s w) (s 0 c) ask ≡ own_claims b w c ask
+  own_claims-by w c ask = claims_of-by w c (own_wish ask) (own_wish ask) (λ level. refl)
 
-pub off_claims-by : (b : BoardValue) (s : ℕ → ℕ → ℕ) (w : PowerView) (c : ℕ) → Renumbers b s
-    → off_claims b (view_by s w) (s 0 c) ≡ off_claims b w c
-off_claims-by b s w c is =
-    claims_of-by b s w c (off_wish b (view_by s w) (s 0 c)) (off_wish b w c) is
-    (λ level. off_wish-by b s w c level is)
+  pub off_claims-by : (w : PowerView) (c : ℕ)
+      → off_claims b (view_by s w) (s 0 c) ≡ off_claims b w c
+  off_claims-by w c =
+      claims_of-by w c (off_wish b (view_by s w) (s 0 c)) (off_wish b w c)
+      (λ level. off_wish-by w c level)

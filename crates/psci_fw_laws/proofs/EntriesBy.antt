@@ -15,98 +15,92 @@ use Rattle.psci_fw_spec.specs.Phases as phases
 
 -- The start of a life ---------------------------------------------------------------------------
 
--- where the boot core has its own number, no other core has it
-is_boot-by : (s : ℕ → ℕ → ℕ) (c : ℕ) → ((k : ℕ) → s 0 (s 0 k) ≡ k) → s 0 0 ≡ 0
-    → (s 0 c == 0) ≡ (c == 0)
-is_boot-by s c back boot = grind (arith, back c)
+module _ {b : BoardValue} {s : ℕ → ℕ → ℕ} (is : Renumbers b s) where
+  -- where the boot core has its own number, no other core has it
+  is_boot-by : (c : ℕ) → s 0 0 ≡ 0 → (s 0 c == 0) ≡ (c == 0)
+  is_boot-by c boot = grind (arith, is.back 0 c)
 
--- and its path has the same places
-boot_path-by : (b : BoardValue) (s : ℕ → ℕ → ℕ) (level place : ℕ) → Renumbers b s → s 0 0 ≡ 0
-    → is_path_place b 0 level (s level place) ≡ is_path_place b 0 level place
-boot_path-by b s level place is boot =
-    let own : up b level 0 ≡ s level (up b level 0) =
-    ap (up b level) (sym boot) ∙ is.above level 0 in
-    grind (arith, is.back level place)
+  -- and its path has the same places
+  boot_path-by : (level place : ℕ) → s 0 0 ≡ 0
+      → is_path_place b 0 level (s level place) ≡ is_path_place b 0 level place
+  boot_path-by level place boot =
+      let own : up b level 0 ≡ s level (up b level 0) =
+      ap (up b level) (sym boot) ∙ is.above level 0 in
+      grind (arith, is.back level place)
 
-first_confirmed-by : (b : BoardValue) (s : ℕ → ℕ → ℕ) (level place : ℕ) → Renumbers b s → s 0 0 ≡ 0
-    → (has_node b (record { level = level; place = s level place })
-    && not (is_path_place b 0 level (s level place)))
-    ≡ (has_node b (record { level = level; place = place })
-    && not (is_path_place b 0 level place))
-first_confirmed-by b s level place is boot =
-    rw (has_node-by b s level place is, boot_path-by b s level place is boot)
+  first_confirmed-by : (level place : ℕ) → s 0 0 ≡ 0
+      →
+      (has_node b (record { level = level; place = s level place }) && not
+      (is_path_place b 0 level (s level place)))
+      ≡
+      (has_node b (record { level = level; place = place }) && not (is_path_place b 0 level place))
+  first_confirmed-by level place boot =
+      rw (has_node-by is level place, boot_path-by level place boot)
 
-pub start_of_life-by : (b : BoardValue) (s : ℕ → ℕ → ℕ) (life : ℕ) → Renumbers b s → s 0 0 ≡ 0
-    → values_by s (start_of_life b life) ≡ start_of_life b life
-start_of_life-by b s life is boot = λ i. record (start_of_life b life) {
-  status = λ c. ap (λ (t : Bool). if t then statuses.Pending else statuses.Off)
-      (is_boot-by s c (is.back 0) boot) i;
-  phase = λ c. ap (λ (t : Bool). if t then phases.Pending else phases.Away)
-      (is_boot-by s c (is.back 0) boot) i;
-  opening = λ c. ap (λ (t : Bool). let o : Option Opening =
-      if t then Some (record { address = b.boot; context = 0 }) else None in o)
-      (is_boot-by s c (is.back 0) boot) i;
-  granted = λ level place. ap (λ (t : Bool). if t then 3 else 0)
-      (first_confirmed-by b s level place is boot) i;
-  confirmed = λ level place. first_confirmed-by b s level place is boot i;
-}
+  pub start_of_life-by : (life : ℕ) → s 0 0 ≡ 0
+      → values_by s (start_of_life b life) ≡ start_of_life b life
+  start_of_life-by life boot = λ i. record (start_of_life b life) {
+    status = λ c. ap (λ (t : Bool). if t then statuses.Pending else statuses.Off)
+        (is_boot-by c boot) i;
+    phase = λ c. ap (λ (t : Bool). if t then phases.Pending else phases.Away)
+        (is_boot-by c boot) i;
+    opening = λ c. ap (λ (t : Bool). let o : Option Opening =
+        if t then Some (record { address = b.boot; context = 0 }) else None in o)
+        (is_boot-by c boot) i;
+    granted = λ level place. ap (λ (t : Bool). if t then 3 else 0)
+        (first_confirmed-by level place boot) i;
+    confirmed = λ level place. first_confirmed-by level place boot i;
+  }
 
-found-by : (b : BoardValue) (s : ℕ → ℕ → ℕ) (life : ℕ) (v : Values) (t : Bool) → Renumbers b s
-    → s 0 0 ≡ 0
-    → (if t then values_by s v else start_of_life b life)
-    ≡ values_by s (if t then v else start_of_life b life)
-found-by b s life v true is boot = refl
-found-by b s life v false is boot = sym (start_of_life-by b s life is boot)
+  found-by : (life : ℕ) (v : Values) (t : Bool) → s 0 0 ≡ 0
+      → (if t then values_by s v else start_of_life b life)
+      ≡ values_by s (if t then v else start_of_life b life)
+  found-by life v true boot = refl
+  found-by life v false boot = sym (start_of_life-by life boot)
 
--- a core finds the values of the other numbers, where the boot core keeps its own or no life begins
-pub finds-by : (b : BoardValue) (s : ℕ → ℕ → ℕ) (start : Start) (v : Values) → Renumbers b s
-    → (start.life ≡ v.life) ⊎ (s 0 0 ≡ 0) → FindsBy b s start v
-finds-by b s start v is spares = search (arith, eq-eqb, found-by)
+  -- a core finds the values of the other numbers, where the boot core keeps its own or no life begins
+  pub finds-by : (start : Start) (v : Values) → (start.life ≡ v.life) ⊎ (s 0 0 ≡ 0)
+      → FindsBy b s start v
+  finds-by start v spares = search (arith, eq-eqb, found-by)
 
--- Answers ---------------------------------------------------------------------------------------
+  -- Answers ---------------------------------------------------------------------------------------
 
-pub enter_fault-by : (b : BoardValue) (s : ℕ → ℕ → ℕ) (v : Values) (c : ℕ) (start : Start)
-    → Renumbers b s
-    → enter_fault b (values_by s v) (s 0 c) start ≡ enter_fault b v c start
-enter_fault-by b s v c start is = rw (is.inside 0 c, is.back 0 c)
+  pub enter_fault-by : (v : Values) (c : ℕ) (start : Start)
+      → enter_fault b (values_by s v) (s 0 c) start ≡ enter_fault b v c start
+  enter_fault-by v c start = rw (is.inside 0 c, is.back 0 c)
 
-resumes-by : (b : BoardValue) (s : ℕ → ℕ → ℕ) (v : Values) (c : ℕ) (start : Start) → Renumbers b s
-    → resumes (values_by s v) (s 0 c) start ≡ resumes v c start
-resumes-by b s v c start is = rw (is.back 0 c)
+  resumes-by : (v : Values) (c : ℕ) (start : Start)
+      → resumes (values_by s v) (s 0 c) start ≡ resumes v c start
+  resumes-by v c start = rw (is.back 0 c)
 
-without_opening-by : (b : BoardValue) (s : ℕ → ℕ → ℕ) (found arrived : Values) (c : ℕ)
-    (start : Start) → Renumbers b s
-    → without_opening b (values_by s found) (values_by s arrived) (s 0 c) start
-    ≡ outcome_by s (without_opening b found arrived c start)
-without_opening-by b s found arrived c start is = search (arith, resumes-by, chosen, cpu_off-by)
+  without_opening-by : (found arrived : Values) (c : ℕ) (start : Start)
+      → without_opening b (values_by s found) (values_by s arrived) (s 0 c) start
+      ≡ outcome_by s (without_opening b found arrived c start)
+  without_opening-by found arrived c start = search (arith, resumes-by, chosen, cpu_off-by)
 
-outcome_at-by : (b : BoardValue) (s : ℕ → ℕ → ℕ) (found arrived : Values) (c : ℕ) (start : Start)
-    (o : Option Opening) → Renumbers b s
-    → outcome_at b (values_by s found) (values_by s arrived) (s 0 c) start o
-    ≡ outcome_by s (outcome_at b found arrived c start o)
-outcome_at-by b s found arrived c start (Some o) is = refl
-outcome_at-by b s found arrived c start None is =
-    without_opening-by b s found arrived c start is
+  outcome_at-by : (found arrived : Values) (c : ℕ) (start : Start) (o : Option Opening)
+      → outcome_at b (values_by s found) (values_by s arrived) (s 0 c) start o
+      ≡ outcome_by s (outcome_at b found arrived c start o)
+  outcome_at-by found arrived c start (Some o) = refl
+  outcome_at-by found arrived c start None = without_opening-by found arrived c start
 
--- what a core is answered that found and left these values
-answered-by : (b : BoardValue) (s : ℕ → ℕ → ℕ) (found arrived : Values) (c : ℕ) (start : Start)
-    → Renumbers b s
-    → (if found.halting then stops
-    else outcome_at b (values_by s found) (values_by s arrived) (s 0 c) start
-    (found.opening (s 0 (s 0 c))))
-    ≡ outcome_by s (if found.halting then stops
-    else outcome_at b found arrived c start (found.opening c))
-answered-by b s found arrived c start is = search (arith, chosen, outcome_at-by)
+  -- what a core is answered that found and left these values
+  answered-by : (found arrived : Values) (c : ℕ) (start : Start)
+      →
+      (if found.halting then stops else outcome_at b (values_by s found) (values_by s arrived)
+      (s 0 c) start (found.opening (s 0 (s 0 c))))
+      ≡ outcome_by s
+      (if found.halting then stops else outcome_at b found arrived c start (found.opening c))
+  answered-by found arrived c start = search (arith, chosen, outcome_at-by)
 
-pub enter_outcome-by : (b : BoardValue) (s : ℕ → ℕ → ℕ) (v : Values) (c : ℕ) (start : Start)
-    → Renumbers b s → FindsBy b s start v
-    → enter_outcome b (values_by s v) (s 0 c) start ≡ outcome_by s (enter_outcome b v c start)
-unfolding enter_outcome
-enter_outcome-by b s v c start is finds =
-    ap (λ (found : Values). if found.halting then stops
-    else outcome_at b found (with_arrival b (s 0 c) start (values_by s v)) (s 0 c) start
-    (found.opening (s 0 c))) finds
-    ∙ (ap (λ (arrived : Values). if (in_life b start.life v).halting then stops
-    else outcome_at b (values_by s (in_life b start.life v)) arrived (s 0 c) start
-    ((in_life b start.life v).opening (s 0 (s 0 c)))) (with_arrival-by b s c start v is finds)
-    ∙ answered-by b s (in_life b start.life v) (with_arrival b c start v) c start is)
+  pub enter_outcome-by : (v : Values) (c : ℕ) (start : Start) → FindsBy b s start v
+      → enter_outcome b (values_by s v) (s 0 c) start ≡ outcome_by s (enter_outcome b v c start)
+  unfolding enter_outcome
+  enter_outcome-by v c start finds =
+      ap (λ (found : Values). if found.halting then stops
+      else outcome_at b found (with_arrival b (s 0 c) start (values_by s v)) (s 0 c) start
+      (found.opening (s 0 c))) finds
+      ∙ (ap (λ (arrived : Values). if (in_life b start.life v).halting then stops
+      else outcome_at b (values_by s (in_life b start.life v)) arrived (s 0 c) start
+      ((in_life b start.life v).opening (s 0 (s 0 c)))) (with_arrival-by is c start v finds)
+      ∙ answered-by (in_life b start.life v) (with_arrival b c start v) c start)

@@ -41,21 +41,19 @@ after_effect b v messages (AsksOn c asked) laws allowed holds =
     (asks_on b v messages asked allowed.plain allowed.kind allowed.room holds)
 after_effect b v messages (Rests c rest m) laws allowed holds =
     let none : NoneCurrent b v.life v.known messages c =
-    none_running b v.life v.halting v.known v.phase messages c holds.messages holds.quiet
-    allowed.calls.core allowed.calls.runs in
+    none_running messages holds.messages c holds.quiet allowed.calls.core allowed.calls.runs in
     claims b (with_rest c rest v) messages m allowed.claim
     (subst (NoneCurrent b v.life v.known messages) (sym allowed.core) none)
     (rests b v messages c rest.phase laws.paths laws.spans allowed.calls.core allowed.calls.runs
     allowed.stops allowed.waits holds)
 after_effect b v messages (Halts c m) laws allowed holds =
     halts b (with_phase c Away v) messages m (assumption allowed.plain) allowed.system
-    (rests b v messages c Away laws.paths laws.spans allowed.calls.core allowed.calls.runs
-    (λ e. cc) (λ e. cc) holds)
+    (rests b v messages c Away laws.paths laws.spans allowed.calls.core allowed.calls.runs (λ e. cc)
+    (λ e. cc) holds)
 after_effect b v messages (Stops c) laws allowed holds =
     rests b v messages c Away laws.paths laws.spans allowed.calls.core allowed.calls.runs (λ e. cc)
     (λ e. cc) holds
-after_effect b v messages (Enters c s) laws allowed holds =
-    search (runs, arrived_new, arrives)
+after_effect b v messages (Enters c s) laws allowed holds = search (runs, arrived_new, arrives)
 after_effect b v messages (Parks c s m) laws allowed holds =
     let new = arrived_new b v messages c s allowed.enters holds in
     let w : Values = with_arrival b c s v in
@@ -72,12 +70,11 @@ start_holds : (b : BoardValue) → Holds b (start_of_life b 0) []
 start_holds b = record {
   lives = omega arith;
   messages = λ k m at. absurd (cc);
-  apart = apart_none b;
-  quiet = quiet_life b 0 (λ c. 0) [];
-  grants = granted_life b 0 first_phase []
-      (λ level place p f. let no = f.at in absurd (cc));
+  apart = apart_none;
+  quiet = quiet_life (λ c. 0);
+  grants = granted_life (λ level place p f. let no = f.at in absurd (cc));
   entered = λ c e. first_not_on c;
-  slots = outstanding_none 0 (λ c. 0) first_phase [];
+  slots = outstanding_none;
 }
 
 -- what the laws of psci_fw_spec say of histories
@@ -89,8 +86,7 @@ pub record HistoryLaws (b : BoardValue) : Type 0 where
 
 -- the effect of a legal reply is allowed
 pub legal_allowed : (b : BoardValue) (e : FwExchange) (h : List FwExchange) → LowerLaws b
-    → HistoryLaws b
-    → Holds b (values_of b h) (sent_messages b h) → IsLegal b (e ∷ h)
+    → HistoryLaws b → Holds b (values_of b h) (sent_messages b h) → IsLegal b (e ∷ h)
     → IsAllowed b (values_of b h) (effect b e)
 unfolding after
 legal_allowed b e h laws said holds legal =
@@ -111,8 +107,7 @@ by_answer : (b : BoardValue) (v : Values) (messages : List MessageValue) (c : �
     → LowerLaws b → AreValues b v → Holds b v messages
     → let e = effect_of b c call (answer b v c call) in
     AreValues b (change b e v) → Holds b (change b e v) (listed (sent e) ++ messages)
-by_answer b v messages c call laws are holds then =
-    search (after_effect, answer_allowed, ready)
+by_answer b v messages c call laws are holds then = search (after_effect, answer_allowed, ready)
 
 by_entry : (b : BoardValue) (v w : Values) (messages : List MessageValue) (c : ℕ) (call : FwCall)
     (reply : FwReply) → LowerLaws b → AreValues b v → AreValues b w → Holds b v messages
@@ -124,8 +119,8 @@ by_entry b v w messages c call reply laws are then holds e f =
     subst (λ x. Holds b x (listed (sent (effect_of b c call reply)) ++ messages)) (sym f)
     (subst (λ r. AreValues b (change b (effect_of b c call r) v)
     → Holds b (change b (effect_of b c call r) v)
-    (listed (sent (effect_of b c call r)) ++ messages))
-    (sym e) (by_answer b v messages c call laws are holds) g)
+    (listed (sent (effect_of b c call r)) ++ messages)) (sym e)
+    (by_answer b v messages c call laws are holds) g)
 
 pub legal_holds : (b : BoardValue) (h : List FwExchange) → LowerLaws b → HistoryLaws b → IsLegal b h
     → Holds b (values_of b h) (sent_messages b h)

@@ -21,40 +21,39 @@ spares s life (Smc regs) boot = tt
 spares s life (Enter start) boot = inr boot
 spares s life (Take a) boot = tt
 
--- an exchange more, of cores whose values were renumbered
-exchanged : (b : BoardValue) (s : ℕ → ℕ → ℕ) (v w : Values) (e f : FwExchange) → Renumbers b s
-    → s 0 0 ≡ 0 → ExchangedBy b s e f → w ≡ values_by s v
-    → after b f.core f.call f.reply w ≡ values_by s (after b e.core e.call e.reply v)
-exchanged b s v w e f is boot told same =
-    rw (told.core, told.reply, same)
-    (after-by b s v e.core e.call f.call e.reply is told.call (spares s v.life e.call boot))
+module _ {b : BoardValue} {s : ℕ → ℕ → ℕ} (is : Renumbers b s) where
+  -- an exchange more, of cores whose values were renumbered
+  exchanged : (v w : Values) (e f : FwExchange) → s 0 0 ≡ 0 → ExchangedBy b s e f
+      → w ≡ values_by s v
+      → after b f.core f.call f.reply w ≡ values_by s (after b e.core e.call e.reply v)
+  exchanged v w e f boot told same =
+      rw (told.core, told.reply, same)
+      (after-by is v e.core e.call f.call e.reply told.call (spares s v.life e.call boot))
 
-pub values_of-by : (b : BoardValue) (s : ℕ → ℕ → ℕ) (h g : List FwExchange) → Tied b
-    → Renumbers b s → s 0 0 ≡ 0 → HappenedBy b s h g
-    → values_of b g ≡ values_by s (values_of b h)
-values_of-by b s [] [] tied is boot told =
-    tied.first ∙ (sym (start_of_life-by b s 0 is boot) ∙ ap (values_by s) (sym tied.first))
-values_of-by b s (e ∷ h) (f ∷ g) tied is boot told =
-    tied.more f g
-    ∙ (exchanged b s (values_of b h) (values_of b g) e f is boot told.0
-    (values_of-by b s h g tied is boot told.1)
-    ∙ ap (values_by s) (sym (tied.more e h)))
-values_of-by b s h g tied is boot told = absurd told
+  pub values_of-by : (h g : List FwExchange) → Tied b → s 0 0 ≡ 0 → HappenedBy b s h g
+      → values_of b g ≡ values_by s (values_of b h)
+  values_of-by [] [] tied boot told =
+      tied.first ∙ (sym (start_of_life-by is 0 boot) ∙ ap (values_by s) (sym tied.first))
+  values_of-by (e ∷ h) (f ∷ g) tied boot told =
+      tied.more f g
+      ∙
+      (exchanged (values_of b h) (values_of b g) e f boot told.0 (values_of-by h g tied boot told.1)
+      ∙ ap (values_by s) (sym (tied.more e h)))
+  values_of-by h g tied boot told = absurd told
 
--- the other reply is right where the first one is
-reply-by : (b : BoardValue) (s : ℕ → ℕ → ℕ) (v w : Values) (e f : FwExchange) → Renumbers b s
-    → s 0 0 ≡ 0 → ExchangedBy b s e f → w ≡ values_by s v → e.reply ≡ answer b v e.core e.call
-    → f.reply ≡ answer b w f.core f.call
-reply-by b s v w e f is boot told same right =
-    rw (told.reply, right, told.core, same)
-    (sym (answer-by b s v e.core e.call f.call is told.call (spares s v.life e.call boot)))
+  -- the other reply is right where the first one is
+  reply-by : (v w : Values) (e f : FwExchange) → s 0 0 ≡ 0 → ExchangedBy b s e f → w ≡ values_by s v
+      → e.reply ≡ answer b v e.core e.call → f.reply ≡ answer b w f.core f.call
+  reply-by v w e f boot told same right =
+      rw (told.reply, right, told.core, same)
+      (sym (answer-by is v e.core e.call f.call told.call (spares s v.life e.call boot)))
 
-pub legal-by : (b : BoardValue) (s : ℕ → ℕ → ℕ) (h g : List FwExchange) → Tied b
-    → Renumbers b s → s 0 0 ≡ 0 → HappenedBy b s h g → IsLegal b h → IsLegal b g
-legal-by b s [] [] tied is boot told legal = tt
-legal-by b s (e ∷ h) (f ∷ g) tied is boot told legal = (
-  reply-by b s (values_of b h) (values_of b g) e f is boot told.0
-      (values_of-by b s h g tied is boot told.1) legal.0,
-  legal-by b s h g tied is boot told.1 legal.1,
-)
-legal-by b s h g tied is boot told legal = absurd told
+  pub legal-by : (h g : List FwExchange) → Tied b → s 0 0 ≡ 0 → HappenedBy b s h g → IsLegal b h
+      → IsLegal b g
+  legal-by [] [] tied boot told legal = tt
+  legal-by (e ∷ h) (f ∷ g) tied boot told legal = (
+    reply-by (values_of b h) (values_of b g) e f boot told.0 (values_of-by h g tied boot told.1)
+        legal.0,
+    legal-by h g tied boot told.1 legal.1,
+  )
+  legal-by h g tied boot told legal = absurd told

@@ -60,74 +60,70 @@ shallow_at-any b w f c ask level under e = grind (arith, any-filter, any-map)
 abbrev pub AgreeBy : (ℕ → ℕ → ℕ) → (Node → Bool) → (Node → Bool) → Type 0
 AgreeBy s f g = (n : Node) → f n ≡ g (node_by s n)
 
--- each test says of a domain what the other one says of its other place
-beside-by : (b : BoardValue) (s : ℕ → ℕ → ℕ) (w : PowerView) (f g : Node → Bool)
-    (c level depth k : ℕ) → Renumbers b s → AgreeBy s f g
-    → is_beside (view_by s w) f level (up b level (s 0 c)) depth k
-    ≡ is_beside w g level (up b level c) depth (s level k)
-beside-by b s w f g c level depth k is agree =
-    let n : Node = record { level = level; place = k } in
-    let own : (k == up b level (s 0 c)) ≡ (s level k == up b level c) =
-    grind (arith, is.above level c, is.back level k, is.back level (up b level c)) in
-    rw (own, agree n)
+module _ {b : BoardValue} {s : ℕ → ℕ → ℕ} (is : Renumbers b s) where
+  -- each test says of a domain what the other one says of its other place
+  beside-by : (w : PowerView) (f g : Node → Bool) (c level depth k : ℕ) → AgreeBy s f g
+      → is_beside (view_by s w) f level (up b level (s 0 c)) depth k
+      ≡ is_beside w g level (up b level c) depth (s level k)
+  beside-by w f g c level depth k agree =
+      let n : Node = record { level = level; place = k } in
+      let own : (k == up b level (s 0 c)) ≡ (s level k == up b level c) =
+      grind (arith, is.above level c, is.back level k, is.back level (up b level c)) in
+      rw (own, agree n)
 
-any-at : (b : BoardValue) (s : ℕ → ℕ → ℕ) (w : PowerView) (f g : Node → Bool) (c : ℕ)
-    (ask : List ℕ) (level : ℕ) → Renumbers b s → AgreeBy s f g
-    → list_any f (shallow_at b (view_by s w) (s 0 c) ask level)
-    ≡ list_any g (shallow_at b w c ask level)
-any-at b s w f g c ask zero is agree =
-    shallow_at-any b (view_by s w) f (s 0 c) ask 0 0 refl
-    ∙ sym (shallow_at-any b w g c ask 0 0 refl)
-any-at b s w f g c ask (suc level) is agree =
-    let d : ℕ = own_wish ask (suc level) in
-    let p : ℕ = up b (suc level) c in
-    let under : suc level - 1 ≡ level = omega arith in
-    let test : ℕ → Bool = is_beside w g level (up b level c) d in
-    let others : List ℕ = range_with_len (first_child b (suc level) (s (suc level) p))
-    (children_at b (suc level) (s (suc level) p)) in
-    let own : List ℕ =
-    range_with_len (first_child b (suc level) p) (children_at b (suc level) p) in
-    let same : is_beside (view_by s w) f level (up b level (s 0 c)) d
-    ≡ (λ k. test (s level k)) = λ i. λ k.
-    beside-by b s w f g c level d k is agree i in
-    shallow_at-any b (view_by s w) f (s 0 c) ask (suc level) level under
-    ∙ (ap (λ (q : ℕ). list_any (is_beside (view_by s w) f level (up b level (s 0 c)) d)
-    (range_with_len (first_child b (suc level) q) (children_at b (suc level) q)))
-    (is.above (suc level) c)
-    ∙ (ap (λ (t : ℕ → Bool). list_any t others) same
-    ∙ (list_any-fold (λ k. test (s level k)) others
-    ∙ (is.children (ors test) false level p (ors-commutes test)
-    ∙ (sym (list_any-fold test own)
-    ∙ sym (shallow_at-any b w g c ask (suc level) level under))))))
+  any-at : (w : PowerView) (f g : Node → Bool) (c : ℕ) (ask : List ℕ) (level : ℕ) → AgreeBy s f g
+      → list_any f (shallow_at b (view_by s w) (s 0 c) ask level)
+      ≡ list_any g (shallow_at b w c ask level)
+  any-at w f g c ask zero agree =
+      shallow_at-any b (view_by s w) f (s 0 c) ask 0 0 refl
+      ∙ sym (shallow_at-any b w g c ask 0 0 refl)
+  any-at w f g c ask (suc level) agree =
+      let d : ℕ = own_wish ask (suc level) in
+      let p : ℕ = up b (suc level) c in
+      let under : suc level - 1 ≡ level = omega arith in
+      let test : ℕ → Bool = is_beside w g level (up b level c) d in
+      let others : List ℕ = range_with_len (first_child b (suc level) (s (suc level) p))
+      (children_at b (suc level) (s (suc level) p)) in
+      let own : List ℕ =
+      range_with_len (first_child b (suc level) p) (children_at b (suc level) p) in
+      let same : is_beside (view_by s w) f level (up b level (s 0 c)) d
+      ≡ (λ k. test (s level k)) = λ i. λ k.
+      beside-by w f g c level d k agree i in
+      shallow_at-any b (view_by s w) f (s 0 c) ask (suc level) level under
+      ∙ (ap (λ (q : ℕ). list_any (is_beside (view_by s w) f level (up b level (s 0 c)) d)
+      (range_with_len (first_child b (suc level) q) (children_at b (suc level) q)))
+      (is.above (suc level) c)
+      ∙ (ap (λ (t : ℕ → Bool). list_any t others) same
+      ∙ (list_any-fold (λ k. test (s level k)) others
+      ∙ (is.children (ors test) false level p (ors-commutes test)
+      ∙ (sym (list_any-fold test own)
+      ∙ sym (shallow_at-any b w g c ask (suc level) level under))))))
 
--- a test over all shallow domains
-any-shallow : (b : BoardValue) (s : ℕ → ℕ → ℕ) (w : PowerView) (f g : Node → Bool) (c : ℕ)
-    (ask : List ℕ) → Renumbers b s → AgreeBy s f g
-    → list_any f (shallow b (view_by s w) (s 0 c) ask) ≡ list_any g (shallow b w c ask)
-unfolding shallow
-any-shallow b s w f g c ask is agree =
-    let same : (λ level. list_any f (shallow_at b (view_by s w) (s 0 c) ask level))
-    ≡ (λ level. list_any g (shallow_at b w c ask level)) = λ i. λ level.
-    any-at b s w f g c ask level is agree i in
-    any-flat_map f (shallow_at b (view_by s w) (s 0 c) ask) (range_with_len 1 (height b))
-    ∙ (ap (λ (t : ℕ → Bool). list_any t (range_with_len 1 (height b))) same
-    ∙ sym (any-flat_map g (shallow_at b w c ask) (range_with_len 1 (height b))))
+  -- a test over all shallow domains
+  any-shallow : (w : PowerView) (f g : Node → Bool) (c : ℕ) (ask : List ℕ) → AgreeBy s f g
+      → list_any f (shallow b (view_by s w) (s 0 c) ask) ≡ list_any g (shallow b w c ask)
+  unfolding shallow
+  any-shallow w f g c ask agree =
+      let same : (λ level. list_any f (shallow_at b (view_by s w) (s 0 c) ask level))
+      ≡ (λ level. list_any g (shallow_at b w c ask level)) = λ i. λ level.
+      any-at w f g c ask level agree i in
+      any-flat_map f (shallow_at b (view_by s w) (s 0 c) ask) (range_with_len 1 (height b))
+      ∙ (ap (λ (t : ℕ → Bool). list_any t (range_with_len 1 (height b))) same
+      ∙ sym (any-flat_map g (shallow_at b w c ask) (range_with_len 1 (height b))))
 
--- The check -------------------------------------------------------------------------------------
+  -- The check -------------------------------------------------------------------------------------
 
-idle-agrees : (b : BoardValue) (s : ℕ → ℕ → ℕ) (w : PowerView) → Renumbers b s
-    → AgreeBy s (is_idle b (view_by s w)) (is_idle b w)
-idle-agrees b s w is = λ n.
-    ap (is_idle b (view_by s w)) (sym (node_back b s n is)) ∙ is_idle-by b s w (node_by s n) is
+  idle-agrees : (w : PowerView) → AgreeBy s (is_idle b (view_by s w)) (is_idle b w)
+  idle-agrees w = λ n.
+      ap (is_idle b (view_by s w)) (sym (node_back is n)) ∙ is_idle-by is w (node_by s n)
 
-refusal-by : (b : BoardValue) (s : ℕ → ℕ → ℕ) (w : PowerView) (c : ℕ) (ask : List ℕ) → Renumbers b s
-    → refusal b (view_by s w) (shallow b (view_by s w) (s 0 c) ask)
-    ≡ refusal b w (shallow b w c ask)
-unfolding refusal
-refusal-by b s w c ask is = grind (arith, some-any, any-shallow, idle-agrees)
+  refusal-by : (w : PowerView) (c : ℕ) (ask : List ℕ)
+      → refusal b (view_by s w) (shallow b (view_by s w) (s 0 c) ask)
+      ≡ refusal b w (shallow b w c ask)
+  unfolding refusal
+  refusal-by w c ask = grind (arith, some-any, any-shallow, idle-agrees)
 
-pub last_core_check-by : (b : BoardValue) (s : ℕ → ℕ → ℕ) (w : PowerView) (c : ℕ) (ask : List ℕ)
-    → Renumbers b s
-    → last_core_check b (view_by s w) (s 0 c) ask ≡ last_core_check b w c ask
-unfolding last_core_check
-last_core_check-by b s w c ask is = grind (arith, refusal-by, own_claims-by)
+  pub last_core_check-by : (w : PowerView) (c : ℕ) (ask : List ℕ)
+      → last_core_check b (view_by s w) (s 0 c) ask ≡ last_core_check b w c ask
+  unfolding last_core_check
+  last_core_check-by w c ask = grind (arith, refusal-by, own_claims-by)

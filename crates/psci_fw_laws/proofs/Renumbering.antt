@@ -34,58 +34,56 @@ pub record Renumbers (b : BoardValue) (s : ℕ → ℕ → ℕ) : Type 1 where
 pub same_test : (a b c d : ℕ) → (a ≡ b → c ≡ d) → (c ≡ d → a ≡ b) → (a == b) ≡ (c == d)
 same_test a b c d f g = grind (arith, f, g)
 
--- a number is the other number of a core where its own other number is the core's
-pub other_test : (s : ℕ → ℕ → ℕ) (k c : ℕ) → ((j : ℕ) → s 0 (s 0 j) ≡ j)
-    → (k == s 0 c) ≡ (s 0 k == c)
-other_test s k c back = grind (arith, back k, back c)
+module _ {b : BoardValue} {s : ℕ → ℕ → ℕ} (is : Renumbers b s) where
+  -- a number is the other number of a core where its own other number is the core's
+  pub other_test : (k c : ℕ) → (k == s 0 c) ≡ (s 0 k == c)
+  other_test k c = grind (arith, is.back 0 k, is.back 0 c)
 
-pub place_test : (b : BoardValue) (s : ℕ → ℕ → ℕ) (level place c : ℕ) → Renumbers b s
-    → (up b level c == s level place) ≡ (up b level (s 0 c) == place)
-place_test b s level place c is =
-    grind (arith, is.above level c, is.back level place, is.back level (up b level c))
+  pub place_test : (level place c : ℕ)
+      → (up b level c == s level place) ≡ (up b level (s 0 c) == place)
+  place_test level place c =
+      grind (arith, is.above level c, is.back level place, is.back level (up b level c))
 
-pub node_back : (b : BoardValue) (s : ℕ → ℕ → ℕ) (n : Node) → Renumbers b s
-    → node_by s (node_by s n) ≡ n
-node_back b s n is = λ i. record { level = n.level; place = is.back n.level n.place i }
+  pub node_back : (n : Node) → node_by s (node_by s n) ≡ n
+  node_back n = λ i. record { level = n.level; place = is.back n.level n.place i }
 
--- Counts ----------------------------------------------------------------------------------------
+  -- Counts ----------------------------------------------------------------------------------------
 
-below-fold : {R : Type 0} (b : BoardValue) (s : ℕ → ℕ → ℕ) (n : Node) (g : ℕ → R → R) (z : R)
-    → Renumbers b s → Commutes g
-    → fold (λ k r. g (s 0 k) r) z (below b (node_by s n)) ≡ fold g z (below b n)
-unfolding up
-below-fold b s n g z is c =
-    let p : ℕ → Bool = λ k. up b n.level k == n.place in
-    let q : ℕ → Bool = λ k. up b n.level k == s n.level n.place in
-    let same : q ≡ (λ k. p (s 0 k)) = λ i. λ k. place_test b s n.level n.place k is i in
-    fold-filter q (λ k r. g (s 0 k) r) z (range_with_len 0 (cores b))
-    ∙ (ap (λ (t : ℕ → Bool). fold (passing t (λ k r. g (s 0 k) r)) z (range_with_len 0 (cores b)))
-    same
-    ∙ (is.all (passing p g) z (passing-commutes p g c)
-    ∙ sym (fold-filter p g z (range_with_len 0 (cores b)))))
+  below-fold : {R : Type 0} (n : Node) (g : ℕ → R → R) (z : R) → Commutes g
+      → fold (λ k r. g (s 0 k) r) z (below b (node_by s n)) ≡ fold g z (below b n)
+  unfolding up
+  below-fold n g z c =
+      let p : ℕ → Bool = λ k. up b n.level k == n.place in
+      let q : ℕ → Bool = λ k. up b n.level k == s n.level n.place in
+      let same : q ≡ (λ k. p (s 0 k)) = λ i. λ k. place_test n.level n.place k i in
+      fold-filter q (λ k r. g (s 0 k) r) z (range_with_len 0 (cores b))
+      ∙ (ap (λ (t : ℕ → Bool). fold (passing t (λ k r. g (s 0 k) r)) z (range_with_len 0 (cores b)))
+      same
+      ∙ (is.all (passing p g) z (passing-commutes p g c)
+      ∙ sym (fold-filter p g z (range_with_len 0 (cores b)))))
 
-pub sum-below : (b : BoardValue) (s : ℕ → ℕ → ℕ) (n : Node) (f : ℕ → ℕ) → Renumbers b s
-    → sum_by (λ k. f (s 0 k)) (below b (node_by s n)) ≡ sum_by f (below b n)
-sum-below b s n f is = grind (arith, sum_by-fold, below-fold, adds-commutes)
+  pub sum-below : (n : Node) (f : ℕ → ℕ)
+      → sum_by (λ k. f (s 0 k)) (below b (node_by s n)) ≡ sum_by f (below b n)
+  sum-below n f = grind (arith, sum_by-fold, below-fold, adds-commutes)
 
-pub least-below : (b : BoardValue) (s : ℕ → ℕ → ℕ) (n : Node) (f : ℕ → ℕ) → Renumbers b s
-    → least (map (λ k. f (s 0 k)) (below b (node_by s n))) ≡ least (map f (below b n))
-least-below b s n f is = search (arith, least-fold, below-fold, lessens-commutes)
+  pub least-below : (n : Node) (f : ℕ → ℕ)
+      → least (map (λ k. f (s 0 k)) (below b (node_by s n))) ≡ least (map f (below b n))
+  least-below n f = search (arith, least-fold, below-fold, lessens-commutes)
 
-pub all-below : (b : BoardValue) (s : ℕ → ℕ → ℕ) (n : Node) (f : ℕ → Bool) → Renumbers b s
-    → list_all (λ k. f (s 0 k)) (below b (node_by s n)) ≡ list_all f (below b n)
-all-below b s n f is = search (arith, list_all-fold, below-fold, ands-commutes)
+  pub all-below : (n : Node) (f : ℕ → Bool)
+      → list_all (λ k. f (s 0 k)) (below b (node_by s n)) ≡ list_all f (below b n)
+  all-below n f = search (arith, list_all-fold, below-fold, ands-commutes)
 
-pub any-below : (b : BoardValue) (s : ℕ → ℕ → ℕ) (n : Node) (f : ℕ → Bool) → Renumbers b s
-    → list_any (λ k. f (s 0 k)) (below b (node_by s n)) ≡ list_any f (below b n)
-any-below b s n f is = search (arith, list_any-fold, below-fold, ors-commutes)
+  pub any-below : (n : Node) (f : ℕ → Bool)
+      → list_any (λ k. f (s 0 k)) (below b (node_by s n)) ≡ list_any f (below b n)
+  any-below n f = search (arith, list_any-fold, below-fold, ors-commutes)
 
-pub all-cores : (b : BoardValue) (s : ℕ → ℕ → ℕ) (f : ℕ → Bool) → Renumbers b s
-    → list_all (λ k. f (s 0 k)) (range_with_len 0 (cores b))
-    ≡ list_all f (range_with_len 0 (cores b))
-all-cores b s f is = search (arith, list_all-fold, ands-commutes)
+  pub all-cores : (f : ℕ → Bool)
+      → list_all (λ k. f (s 0 k)) (range_with_len 0 (cores b))
+      ≡ list_all f (range_with_len 0 (cores b))
+  all-cores f = search (arith, list_all-fold, ands-commutes)
 
-pub any-cores : (b : BoardValue) (s : ℕ → ℕ → ℕ) (f : ℕ → Bool) → Renumbers b s
-    → list_any (λ k. f (s 0 k)) (range_with_len 0 (cores b))
-    ≡ list_any f (range_with_len 0 (cores b))
-any-cores b s f is = search (arith, list_any-fold, ors-commutes)
+  pub any-cores : (f : ℕ → Bool)
+      → list_any (λ k. f (s 0 k)) (range_with_len 0 (cores b))
+      ≡ list_any f (range_with_len 0 (cores b))
+  any-cores f = search (arith, list_any-fold, ors-commutes)

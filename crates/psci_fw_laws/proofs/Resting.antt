@@ -34,14 +34,12 @@ no_down b v sent c k m p paths spans on runs holds at life core number kind part
         on = ap (up b 0) (sym core);
         part = part;
       });
-    }))
-    (first ∙ number ∙ sym own) c on refl runs
+    })) (first ∙ number ∙ sym own) c on refl runs
 
 -- a core that runs stops
 pub rests : (b : BoardValue) (v : Values) (sent : List MessageValue) (c : ℕ) (left : Phase)
-    → PathLaws b → SpanLaws b.levels → c < cores b → v.phase c ≡ Running
-    → (left ≡ Running → ⊥) → (left ≡ Pending → ⊥) → Holds b v sent
-    → Holds b (with_phase c left v) sent
+    → PathLaws b → SpanLaws b.levels → c < cores b → v.phase c ≡ Running → (left ≡ Running → ⊥)
+    → (left ≡ Pending → ⊥) → Holds b v sent → Holds b (with_phase c left v) sent
 rests b v sent c left paths spans on runs not_running not_pending holds =
     let new : Phase = unless_pending (v.phase c) left in
     let is : new ≡ left = ap (λ p. unless_pending p left) runs in
@@ -49,27 +47,21 @@ rests b v sent c left paths spans on runs not_running not_pending holds =
     λ e. let no : Running ≡ Pending = sym runs ∙ e in absurd (cc) in
     record {
       lives = holds.lives;
-      messages = sent_phase b v.life v.halting v.known v.phase sent c new
-          (λ k m at life core number. record {
-            pending = λ s. absurd (waits (ap v.phase (sym core)
-                ∙ ((holds.messages k m at).present life).pending s
-                (number ∙ ap v.known (sym core))));
-            asked = λ d n p part. absurd (no_down b v sent c k m p paths spans on runs holds at life
-                core number d part);
-          })
-          holds.messages;
+      messages = sent_phase sent holds.messages c new (λ k m at life core number. record {
+        pending = λ s. absurd (waits (ap v.phase (sym core)
+            ∙ ((holds.messages k m at).present life).pending s
+            (number ∙ ap v.known (sym core))));
+        asked = λ d n p part. absurd (no_down b v sent c k m p paths spans on runs holds at life
+            core number d part);
+      });
       apart = holds.apart;
-      quiet = quiet_phase b v.life v.known v.phase sent c new
-          (λ e. absurd (not_running (sym is ∙ e))) holds.quiet;
-      grants = granted_phase b v.life v.known v.phase v.granted sent c new
-          (λ e. absurd (waits e)) holds.grants;
+      quiet = quiet_phase v.known holds.quiet c new (λ e. absurd (not_running (sym is ∙ e)));
+      grants = granted_phase holds.grants c new (λ e. absurd (waits e));
       entered = holds.entered;
-      slots = outstanding_phase v.life v.known v.phase sent v.outstanding c new
-          (λ m e. (
-            λ s. absurd (waits ((holds.slots.core c m e).start s)),
-            λ d n. not_pending (sym is ∙ n),
-          ))
-          holds.slots;
+      slots = outstanding_phase holds.slots c new (λ m e. (
+        λ s. absurd (waits ((holds.slots.core c m e).start s)),
+        λ d n. not_pending (sym is ∙ n),
+      ));
     }
 
 no_system : (k : Kind) → k ≡ Down → is_system k ≡ true → ⊥
@@ -100,26 +92,22 @@ claims b v sent m new none holds =
     omega (arith, new.sound.entered new.kind, new.number) in
     record {
       lives = holds.lives;
-      messages = sent_new b v.life v.halting v.known v.phase sent m (is_sent b v m new)
-          holds.messages;
-      apart = apart_new b sent m (above_down b v.life v.known sent m.core.number m new.sound.core
-          entered down none) holds.apart;
-      quiet = quiet_new b v.life v.known v.phase sent m new.quiet holds.quiet;
-      grants = granted_claim b v.life v.known v.phase v.granted sent m.core.number m new.kind down
-          none holds.grants;
+      messages = sent_new sent holds.messages m (is_sent b v m new);
+      apart = apart_new (above_down new.sound.core entered down none) holds.apart;
+      quiet = quiet_new v.known holds.quiet m new.quiet;
+      grants = granted_claim holds.grants m.core.number m new.kind down none;
       entered = holds.entered;
-      slots = outstanding_put v.life v.known v.phase (m ∷ sent) v.outstanding m
+      slots = outstanding_put (outstanding_sent holds.slots m) m
           (subst (λ k. AreAt v.life v.known v.phase (m ∷ sent) (slot_of k m.core) (Some m))
           (sym new.kind) (λ n e.
           let same : m ≡ n = cc in
-          subst (λ (x : MessageValue). IsOfCore v.life v.known v.phase (m ∷ sent)
-          m.core.number x) same (record {
+          subst (λ (x : MessageValue). IsOfCore v.life v.known v.phase (m ∷ sent) m.core.number x)
+          same (record {
             listed = record { index = 0; at = refl; present = new.present };
             core = refl;
             number = new.number;
             kind = ap is_system new.kind;
             start = λ s. let no : Down ≡ Start = sym new.kind ∙ s in absurd (cc);
             down = λ d. new.rests;
-          })))
-          (outstanding_sent v.life v.known v.phase sent v.outstanding m holds.slots);
+          })));
     }

@@ -1,13 +1,13 @@
 -- Outstanding messages of renumbered cores.
 use Rattle.psci_fw_laws.proofs.Words.{◌&&◌, ◌==◌, ◌≡◌, Acknowledge, acknowledgement_by, AckValue}
-use Rattle.psci_fw_laws.proofs.Words.{answers, ap, arith, Bool, changed, Clear, Core, core_by, Down}
+use Rattle.psci_fw_laws.proofs.Words.{answers, ap, arith, BoardValue, Bool, changed, Clear, Core, core_by, Down}
 use Rattle.psci_fw_laws.proofs.Words.{false, if◌then◌else◌, is_slot, Kind, left_by, message_by}
 use Rattle.psci_fw_laws.proofs.Words.{MessageValue, None, OfCore, OfSystem, Option, option_map, Put}
 use Rattle.psci_fw_laws.proofs.Words.{refl, Slot, slot_of, Some, sym, taken, true, Values}
 use Rattle.psci_fw_laws.proofs.Words.{values_by, with_slots, ℕ}
 use Rattle.psci_messages.specs.Slots.{Change, ClearAll, is_done}
 use Rattle.psci_fw_laws.specs.Renumbered.{slot_by}
-use Rattle.psci_fw_laws.proofs.Renumbering.{other_test}
+use Rattle.psci_fw_laws.proofs.Renumbering.{other_test, Renumbers}
 
 -- the same change, of the other number
 abbrev pub change_by : (ℕ → ℕ → ℕ) → Change → Change
@@ -21,66 +21,61 @@ slot_of-by : (s : ℕ → ℕ → ℕ) (kind : Kind) (core : Core)
 slot_of-by s Down core = refl
 slot_of-by s kind core = refl
 
-is_slot-by : (s : ℕ → ℕ → ℕ) (t u : Slot) → ((k : ℕ) → s 0 (s 0 k) ≡ k)
-    → is_slot (slot_by s t) u ≡ is_slot t (slot_by s u)
-is_slot-by s (OfCore c) (OfCore d) back = sym (other_test s c d back)
-is_slot-by s (OfCore c) OfSystem back = refl
-is_slot-by s OfSystem (OfCore d) back = refl
-is_slot-by s OfSystem OfSystem back = refl
+module _ {b : BoardValue} {s : ℕ → ℕ → ℕ} (is : Renumbers b s) where
+  is_slot-by : (t u : Slot) → is_slot (slot_by s t) u ≡ is_slot t (slot_by s u)
+  is_slot-by (OfCore c) (OfCore d) = sym (other_test is c d)
+  is_slot-by (OfCore c) OfSystem = refl
+  is_slot-by OfSystem (OfCore d) = refl
+  is_slot-by OfSystem OfSystem = refl
 
-slot_back : (s : ℕ → ℕ → ℕ) (t : Slot) → ((k : ℕ) → s 0 (s 0 k) ≡ k) → slot_by s (slot_by s t) ≡ t
-slot_back s (OfCore c) back = ap OfCore (back c)
-slot_back s OfSystem back = refl
+  slot_back : (t : Slot) → slot_by s (slot_by s t) ≡ t
+  slot_back (OfCore c) = ap OfCore (is.back 0 c)
+  slot_back OfSystem = refl
 
--- the slot of a message, and of its core's other number
-is_of-by : (s : ℕ → ℕ → ℕ) (kind : Kind) (core : Core) (slot : Slot) → ((k : ℕ) → s 0 (s 0 k) ≡ k)
-    → is_slot (slot_of kind (core_by s core)) slot ≡ is_slot (slot_of kind core) (slot_by s slot)
-is_of-by s kind core slot back =
-    rw (slot_of-by s kind core) (is_slot-by s (slot_of kind core) slot back)
+  -- the slot of a message, and of its core's other number
+  is_of-by : (kind : Kind) (core : Core) (slot : Slot)
+      → is_slot (slot_of kind (core_by s core)) slot ≡ is_slot (slot_of kind core) (slot_by s slot)
+  is_of-by kind core slot = rw (slot_of-by s kind core) (is_slot-by (slot_of kind core) slot)
 
-pub answers-by : (s : ℕ → ℕ → ℕ) (a : AckValue) (m : MessageValue) → ((k : ℕ) → s 0 (s 0 k) ≡ k)
-    → answers (acknowledgement_by s a) (message_by s m) ≡ answers a m
-answers-by s a m back =
-    let same : (s 0 a.core.number == s 0 m.core.number) ≡ (a.core.number == m.core.number) =
-    grind (arith, back a.core.number, back m.core.number) in
-    rw same
+  pub answers-by : (a : AckValue) (m : MessageValue)
+      → answers (acknowledgement_by s a) (message_by s m) ≡ answers a m
+  answers-by a m =
+      let same : (s 0 a.core.number == s 0 m.core.number) ≡ (a.core.number == m.core.number) =
+      grind (arith, is.back 0 a.core.number, is.back 0 m.core.number) in
+      rw same
 
-if-map : (s : ℕ → ℕ → ℕ) (t : Bool) (o p : Option MessageValue)
-    → (if t then option_map (message_by s) o else option_map (message_by s) p)
-    ≡ option_map (message_by s) (if t then o else p)
-if-map s true o p = refl
-if-map s false o p = refl
+  if-map : (t : Bool) (o p : Option MessageValue)
+      → (if t then option_map (message_by s) o else option_map (message_by s) p)
+      ≡ option_map (message_by s) (if t then o else p)
+  if-map true o p = refl
+  if-map false o p = refl
 
-left_by-by : (s : ℕ → ℕ → ℕ) (a : AckValue) (o : Option MessageValue) → ((k : ℕ) → s 0 (s 0 k) ≡ k)
-    → left_by (acknowledgement_by s a) (option_map (message_by s) o)
-    ≡ option_map (message_by s) (left_by a o)
-left_by-by s a None back = refl
-left_by-by s a (Some m) back =
-    rw (answers-by s a m back) (if-map s (answers a m && is_done a m) None (Some m))
+  left_by-by : (a : AckValue) (o : Option MessageValue)
+      → left_by (acknowledgement_by s a) (option_map (message_by s) o)
+      ≡ option_map (message_by s) (left_by a o)
+  left_by-by a None = refl
+  left_by-by a (Some m) = rw (answers-by a m) (if-map (answers a m && is_done a m) None (Some m))
 
-pub taken-by : (s : ℕ → ℕ → ℕ) (a : AckValue) (o : Option MessageValue)
-    → ((k : ℕ) → s 0 (s 0 k) ≡ k)
-    → taken (acknowledgement_by s a) (option_map (message_by s) o) ≡ taken a o
-taken-by s a None back = refl
-taken-by s a (Some m) back = rw (answers-by s a m back)
+  pub taken-by : (a : AckValue) (o : Option MessageValue)
+      → taken (acknowledgement_by s a) (option_map (message_by s) o) ≡ taken a o
+  taken-by a None = refl
+  taken-by a (Some m) = rw (answers-by a m)
 
--- what is in the slot of an acknowledgement
-pub at_slot-by : (s : ℕ → ℕ → ℕ) (v : Values) (a : AckValue) → ((k : ℕ) → s 0 (s 0 k) ≡ k)
-    → (values_by s v).outstanding (slot_of a.kind (core_by s a.core))
-    ≡ option_map (message_by s) (v.outstanding (slot_of a.kind a.core))
-at_slot-by s v a back =
-    rw (slot_of-by s a.kind a.core, slot_back s (slot_of a.kind a.core) back)
+  -- what is in the slot of an acknowledgement
+  pub at_slot-by : (v : Values) (a : AckValue)
+      → (values_by s v).outstanding (slot_of a.kind (core_by s a.core))
+      ≡ option_map (message_by s) (v.outstanding (slot_of a.kind a.core))
+  at_slot-by v a = rw (slot_of-by s a.kind a.core, slot_back (slot_of a.kind a.core))
 
--- what a change leaves in a slot
-changed-by : (s : ℕ → ℕ → ℕ) (slot : Slot) (change : Change) (o : Option MessageValue)
-    → ((k : ℕ) → s 0 (s 0 k) ≡ k)
-    → changed slot (change_by s change) (option_map (message_by s) o)
-    ≡ option_map (message_by s) (changed (slot_by s slot) change o)
-changed-by s slot (Put m) o back = grind (arith, is_of-by, if-map)
-changed-by s slot (Clear core) o back = grind (arith, is_slot-by, core, if-map)
-changed-by s slot ClearAll o back = refl
-changed-by s slot (Acknowledge a) o back = grind (arith, is_of-by, left_by-by, if-map)
+  -- what a change leaves in a slot
+  changed-by : (slot : Slot) (change : Change) (o : Option MessageValue)
+      → changed slot (change_by s change) (option_map (message_by s) o)
+      ≡ option_map (message_by s) (changed (slot_by s slot) change o)
+  changed-by slot (Put m) o = grind (arith, is_of-by, if-map)
+  changed-by slot (Clear core) o = grind (arith, is_slot-by, core, if-map)
+  changed-by slot ClearAll o = refl
+  changed-by slot (Acknowledge a) o = grind (arith, is_of-by, left_by-by, if-map)
 
-pub with_slots-by : (s : ℕ → ℕ → ℕ) (change : Change) (v : Values) → ((k : ℕ) → s 0 (s 0 k) ≡ k)
-    → with_slots (change_by s change) (values_by s v) ≡ values_by s (with_slots change v)
-with_slots-by s change v back = grind (arith, changed-by)
+  pub with_slots-by : (change : Change) (v : Values)
+      → with_slots (change_by s change) (values_by s v) ≡ values_by s (with_slots change v)
+  with_slots-by change v = grind (arith, changed-by)

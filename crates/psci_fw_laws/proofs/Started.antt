@@ -44,8 +44,7 @@ plain_sound b v m plain room = record {
 
 plain_sent : (b : BoardValue) (v : Values) (m : MessageValue) (halting : Bool) (phase : ℕ → Phase)
     → IsPlain b v m → (m.kind ≡ Start → m.number < b.starts)
-    → (is_system m.kind ≡ true → halting ≡ true)
-    → (m.kind ≡ Start → phase m.core.number ≡ Pending)
+    → (is_system m.kind ≡ true → halting ≡ true) → (m.kind ≡ Start → phase m.core.number ≡ Pending)
     → IsSent b v.life halting v.known phase m
 plain_sent b v m halting phase plain room halts pending = record {
   sound = plain_sound b v m plain room;
@@ -63,9 +62,8 @@ plain_sent b v m halting phase plain room halts pending = record {
 -- Asked on ------------------------------------------------------------------------------------
 
 pub asks_on : (b : BoardValue) (v : Values) (sent : List MessageValue) (asked : PowerOn)
-    → IsPlain b v asked.message → asked.message.kind ≡ Start
-    → asked.message.number < b.starts → Holds b v sent
-    → Holds b (with_pending b asked v) (asked.message ∷ sent)
+    → IsPlain b v asked.message → asked.message.kind ≡ Start → asked.message.number < b.starts
+    → Holds b v sent → Holds b (with_pending b asked v) (asked.message ∷ sent)
 asks_on b v sent asked plain kind room holds =
     let m : MessageValue = asked.message in
     let t : ℕ = m.core.number in
@@ -73,34 +71,28 @@ asks_on b v sent asked plain kind room holds =
     let other : is_system m.kind ≡ false = ap is_system kind in
     record {
       lives = holds.lives;
-      messages = sent_new b v.life v.halting v.known phase sent m
-          (plain_sent b v m v.halting phase plain (λ s. room)
-          (λ s. let no : false ≡ true = sym other ∙ s in absurd (cc))
-          (λ s. updated_here v.phase t Pending))
-          (sent_phase b v.life v.halting v.known v.phase sent t Pending
-          (λ k n at life core number. record {
+      messages = sent_new sent
+          (sent_phase sent holds.messages t Pending (λ k n at life core number. record {
             pending = λ s. refl;
             asked = λ d rests. absurd (rests refl);
-          })
-          holds.messages);
-      apart = apart_new b sent m (above_other b sent m plain.other) holds.apart;
-      quiet = quiet_other b v.life v.known phase sent m plain.other
-          (quiet_phase b v.life v.known v.phase sent t Pending (λ e. absurd (cc)) holds.quiet);
-      grants = granted_other b v.life v.known phase _ sent m plain.other
-          (granted_pending b v.life v.known v.phase v.granted sent t plain.core holds.grants);
+          })) m (plain_sent b v m v.halting phase plain (λ s. room)
+          (λ s. let no : false ≡ true = sym other ∙ s in absurd (cc))
+          (λ s. updated_here v.phase t Pending));
+      apart = apart_new (above_other plain.other) holds.apart;
+      quiet = quiet_other v.known (quiet_phase v.known holds.quiet t Pending (λ e. absurd (cc))) m
+          plain.other;
+      grants = granted_other (granted_pending holds.grants t plain.core) m plain.other;
       entered = λ x e. updated_at (λ s. is_on s ≡ false) v.status t statuses.Pending x (λ s. refl)
           (λ s. holds.entered x e);
-      slots = outstanding_asked v.life v.known v.phase (m ∷ sent) v.outstanding t m
-          (ap (λ k. slot_of k m.core) kind)
-          (record {
+      slots = outstanding_asked (outstanding_sent holds.slots m) t m
+          (ap (λ k. slot_of k m.core) kind) (record {
             listed = record { index = 0; at = refl; present = plain.present };
             core = refl;
             number = plain.number;
             kind = other;
             start = λ s. updated_here v.phase t Pending;
             down = λ d. absurd (not_down m.kind plain.other d);
-          })
-          (outstanding_sent v.life v.known v.phase sent v.outstanding m holds.slots);
+          });
     }
 
 -- Halting -------------------------------------------------------------------------------------
@@ -119,27 +111,24 @@ system_start : (k : Kind) → is_system k ≡ true → k ≡ Start → ⊥
 system_start k e s = grind arith
 
 pub halts : (b : BoardValue) (v : Values) (sent : List MessageValue) (m : MessageValue)
-    → IsPlain b v m → is_system m.kind ≡ true → Holds b v sent
-    → Holds b (with_halt m v) (m ∷ sent)
+    → IsPlain b v m → is_system m.kind ≡ true → Holds b v sent → Holds b (with_halt m v) (m ∷ sent)
 halts b v sent m plain system holds = record {
   lives = holds.lives;
-  messages = sent_new b v.life true v.known v.phase sent m
+  messages = sent_new sent (sent_halting sent holds.messages) m
       (plain_sent b v m true v.phase plain (λ s. absurd (system_start m.kind system s))
-      (λ s. refl) (λ s. absurd (system_start m.kind system s)))
-      (sent_halting b v.life v.halting v.known v.phase sent holds.messages);
-  apart = apart_new b sent m (above_other b sent m plain.other) holds.apart;
-  quiet = quiet_other b v.life v.known v.phase sent m plain.other holds.quiet;
-  grants = granted_other b v.life v.known v.phase v.granted sent m plain.other holds.grants;
+      (λ s. refl) (λ s. absurd (system_start m.kind system s)));
+  apart = apart_new (above_other plain.other) holds.apart;
+  quiet = quiet_other v.known holds.quiet m plain.other;
+  grants = granted_other holds.grants m plain.other;
   entered = holds.entered;
-  slots = outstanding_put v.life v.known v.phase (m ∷ sent) v.outstanding m
+  slots = outstanding_put (outstanding_sent holds.slots m) m
       (subst (λ s. AreAt v.life v.known v.phase (m ∷ sent) s (Some m))
       (sym (system_slot m.kind m.core system)) (λ n e.
       let same : m ≡ n = cc in (
         subst (IsOfLife v.life (m ∷ sent)) same
             (record { index = 0; at = refl; present = plain.present }),
         ap (λ (x : MessageValue). is_system x.kind) (sym same) ∙ system,
-      )))
-      (outstanding_sent v.life v.known v.phase sent v.outstanding m holds.slots);
+      )));
 }
 
 -- Acknowledgements ----------------------------------------------------------------------------
@@ -156,7 +145,6 @@ takes b v sent a holds = record {
       (cond (turns_off v a) statuses.Off (v.status a.core.number)) x
       (λ here. cond_both (turns_off v a) statuses.Off (v.status a.core.number)
       (λ s. is_on s ≡ false) (λ t. refl)
-      (λ t. holds.entered a.core.number (ap v.known (sym here) ∙ e)))
-      (λ there. holds.entered x e);
-  slots = outstanding_taken v.life v.known v.phase sent v.outstanding a holds.slots;
+      (λ t. holds.entered a.core.number (ap v.known (sym here) ∙ e))) (λ there. holds.entered x e);
+  slots = outstanding_taken holds.slots a;
 }

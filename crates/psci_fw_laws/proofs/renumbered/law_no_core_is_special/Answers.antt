@@ -8,30 +8,26 @@ use Rattle.psci_fw_laws.proofs.renumbered.law_no_core_is_special.Goals as goal
 
 pub returns-clause-functions : goal.returns-clause-functions
 returns-clause-functions c = λ b s v k r q board is asks.
-    outcome_of-by b s v k r q
-    (renumbers b s (c.law_paths.ensures b board) (c.law_children.ensures b board) is) asks
+    outcome_of-by (renumbers b s (c.law_paths.ensures b board) (c.law_children.ensures b board) is) v k r q asks
 
 pub returns-clause-answers : goal.returns-clause-answers
 returns-clause-answers c = λ b s v k call other board is calls spares.
-    answer-by b s v k call other
-    (renumbers b s (c.law_paths.ensures b board) (c.law_children.ensures b board) is) calls spares
+    answer-by (renumbers b s (c.law_paths.ensures b board) (c.law_children.ensures b board) is) v k call other calls spares
 
 pub returns-clause-after : goal.returns-clause-after
 returns-clause-after c = λ b s v k call other reply board is calls spares.
-    after-by b s v k call other reply
-    (renumbers b s (c.law_paths.ensures b board) (c.law_children.ensures b board) is) calls spares
+    after-by (renumbers b s (c.law_paths.ensures b board) (c.law_children.ensures b board) is) v k call other reply calls spares
 
 pub returns-clause-values : goal.returns-clause-values
 returns-clause-values c = λ b s h g board is boot told.
-    values_of-by b s h g (record {
+    values_of-by (renumbers b s (c.law_paths.ensures b board) (c.law_children.ensures b board) is) h g (record {
       first = c.law_values.ensures.first b;
       more = c.law_values.ensures.more b;
-    }) (renumbers b s (c.law_paths.ensures b board) (c.law_children.ensures b board) is) boot told
+    }) boot told
 
 pub returns-clause-legal : goal.returns-clause-legal
 returns-clause-legal c = λ b s h g board is boot told legal.
-    legal-by b s h g (record {
+    legal-by (renumbers b s (c.law_paths.ensures b board) (c.law_children.ensures b board) is) h g (record {
       first = c.law_values.ensures.first b;
       more = c.law_values.ensures.more b;
-    }) (renumbers b s (c.law_paths.ensures b board) (c.law_children.ensures b board) is) boot told
-    legal
+    }) boot told legal
