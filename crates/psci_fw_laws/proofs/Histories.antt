@@ -94,8 +94,8 @@ legal_allowed b e h laws said holds legal =
     let then = subst (AreValues b) (said.more e h) (said.legal (e ∷ h) legal) in
     let moved = subst (λ r. AreValues b (change b (effect_of b e.core e.call r) v)) legal.0 then in
     subst (λ r. IsAllowed b v (effect_of b e.core e.call r)) (sym legal.0)
-    (answer_allowed b v e.core e.call laws
-    (ready b v (sent_messages b h) (said.legal h legal.1) holds) moved)
+    (answer_allowed laws (ready b v (sent_messages b h) (said.legal h legal.1) holds) e.core e.call
+    moved)
 
 -- what an exchange adds to the messages
 pub sent_more : (b : BoardValue) (e : FwExchange) (h : List FwExchange)

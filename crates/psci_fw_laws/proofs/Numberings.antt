@@ -21,11 +21,29 @@ node_moved b s level k is h =
 abbrev is_child : BoardValue → ℕ → ℕ → ℕ → Bool
 is_child b level p k = is_within (first_child b (suc level) p) (children_at b (suc level) p) k
 
--- a core's node is a child of its node of the next level, and of no other
-child_of_core : (b : BoardValue) (level p c : ℕ) → ChildLaws b → c < cores b → level < height b
-    → is_child b level p (up b level c) ≡ (up b (suc level) c == p)
-child_of_core b level p c child h i =
-    grind (arith, cases_eq, is_within-true, eq-eqb, is_within-false, ne_eqb)
+module _ {b : BoardValue} (child : ChildLaws b) where
+  -- a core's node is a child of its node of the next level, and of no other
+  child_of_core : (level p c : ℕ) → c < cores b → level < height b
+      → is_child b level p (up b level c) ≡ (up b (suc level) c == p)
+  child_of_core level p c h i =
+      grind (arith, cases_eq, is_within-true, eq-eqb, is_within-false, ne_eqb)
+
+  -- children are nodes of the board
+  pub child_inside : (level p k : ℕ) → level < height b → first_child b (suc level) p ≤ k
+      → k < first_child b (suc level) p + children_at b (suc level) p → k < nodes b level
+  child_inside level p k h low high =
+      let far : k - first_child b (suc level) p < children_at b (suc level) p = omega arith in
+      omega (arith, child.inside level p (k - first_child b (suc level) p) h far)
+
+  children-fold : {R : Type 0} (g : ℕ → R → R) (z : R) (level p : ℕ) → level < height b
+      → fold g z (range_with_len (first_child b (suc level) p) (children_at b (suc level) p))
+      ≡ fold (within (first_child b (suc level) p) (children_at b (suc level) p) g) z
+      (range_with_len 0 (nodes b level))
+  children-fold g z level p h = grind (arith, fold-window, child_inside)
+
+-- above the system there are no children
+childless : (b : BoardValue) (level p : ℕ) → height b ≤ level → children_at b (suc level) p ≡ 0
+childless b level p h = ap (λ (w : List ℕ). get_or w p 0) (get_or_past b.levels level [] h)
 
 -- a child of the other place is the other place of a child
 child_moved : (b : BoardValue) (s : ℕ → ℕ → ℕ) (level p k : ℕ) → IsRenumbering b s → PathLaws b
@@ -45,25 +63,10 @@ child_moved b s level p k is paths child h i =
     (λ e. sym (is.back (suc level) (up b (suc level) c))
     ∙ ap (s (suc level)) (sym (is.above (suc level) c) ∙ e)) in
     ap (is_child b level (s (suc level) p)) (sym at)
-    ∙ (child_of_core b level (s (suc level) p) c child some.1 h
+    ∙ (child_of_core child level (s (suc level) p) c some.1 h
     ∙ (parents
-    ∙ (sym (child_of_core b level p (s 0 c) child moved h)
+    ∙ (sym (child_of_core child level p (s 0 c) moved h)
     ∙ ap (is_child b level p) other)))
-
--- children are nodes of the board
-pub child_inside : (b : BoardValue) (level p k : ℕ) → ChildLaws b → level < height b
-    → first_child b (suc level) p ≤ k
-    → k < first_child b (suc level) p + children_at b (suc level) p → k < nodes b level
-child_inside b level p k child h low high =
-    let far : k - first_child b (suc level) p < children_at b (suc level) p = omega arith in
-    omega (arith, child.inside level p (k - first_child b (suc level) p) h far)
-
-children-fold : {R : Type 0} (b : BoardValue) (g : ℕ → R → R) (z : R) (level p : ℕ)
-    → ChildLaws b → level < height b
-    → fold g z (range_with_len (first_child b (suc level) p) (children_at b (suc level) p))
-    ≡ fold (within (first_child b (suc level) p) (children_at b (suc level) p) g) z
-    (range_with_len 0 (nodes b level))
-children-fold b g z level p child h = grind (arith, fold-window, child_inside)
 
 within-commutes : {R : Type 0} (g : ℕ → R → R) (a n : ℕ) → Commutes g → Commutes (within a n g)
 within-commutes g a n c = passing-commutes (is_within a n) g c
@@ -78,18 +81,14 @@ children-by b s g z level p is paths child c h =
     let a : ℕ = first_child b (suc level) p in
     let n : ℕ = children_at b (suc level) p in
     let q : ℕ = s (suc level) p in
-    children-fold b (λ k r. g (s level k) r) z level q child h
+    children-fold child (λ k r. g (s level k) r) z level q h
     ∙ (alike (within (first_child b (suc level) q) (children_at b (suc level) q)
     (λ k r. g (s level k) r)) (λ k r. within a n g (s level k) r) z 0 (nodes b level)
     (λ k r i j. ap (λ (t : Bool). if t then g (s level k) r else r)
     (child_moved b s level p k is paths child h (omega arith)))
     ∙ (fold-other (s level) (within a n g) z (nodes b level) (within-commutes g a n c)
     (is.back level) (λ k i. node_moved b s level k is i)
-    ∙ sym (children-fold b g z level p child h)))
-
--- above the system there are no children
-childless : (b : BoardValue) (level p : ℕ) → height b ≤ level → children_at b (suc level) p ≡ 0
-childless b level p h = ap (λ (w : List ℕ). get_or w p 0) (get_or_past b.levels level [] h)
+    ∙ sym (children-fold child g z level p h)))
 
 pub renumbers : (b : BoardValue) (s : ℕ → ℕ → ℕ) → PathLaws b → ChildLaws b
     → IsRenumbering b s → Renumbers b s

@@ -13,17 +13,18 @@ outcome_effect b c r o = function_effect b c r o.act o.message
 
 -- Functions that return ------------------------------------------------------------------------
 
-mode_allowed : (b : BoardValue) (v : Values) (c number : ℕ) (t : Bool) → IsCalling b v c
-    → Allows b v (cond t (mode_effect c (mode_of number)) (GoesOn c))
-mode_allowed b v c number true calls are = by_mode (mode_of number)
-  where
-    by_mode : (o : _) → IsAllowed b v (mode_effect c o)
-    by_mode None = calls
-    by_mode (Some mode) = calls
-mode_allowed b v c number false calls are = calls
+module _ {b : BoardValue} {v : Values} {c : ℕ} (calls : IsCalling b v c) where
+  mode_allowed : (number : ℕ) (t : Bool)
+      → Allows b v (cond t (mode_effect c (mode_of number)) (GoesOn c))
+  mode_allowed number true are = by_mode (mode_of number)
+    where
+      by_mode : (o : _) → IsAllowed b v (mode_effect c o)
+      by_mode None = calls
+      by_mode (Some mode) = calls
+  mode_allowed number false are = calls
 
-pub returned : (b : BoardValue) (v : Values) (c : ℕ) (r : Request) (code : Code) → IsCalling b v c
-    → Allows b v (function_effect b c r (acts.Return code) None)
-returned b v c (requests.SetSuspendMode number) code calls are =
-    mode_allowed b v c number (int_eq code.0 success.0) calls are
-returned b v c r code calls are = calls
+  pub returned : (r : Request) (code : Code)
+      → Allows b v (function_effect b c r (acts.Return code) None)
+  returned (requests.SetSuspendMode number) code are =
+      mode_allowed number (int_eq code.0 success.0) are
+  returned r code are = calls

@@ -48,37 +48,38 @@ target_is b v word entry_point t (Some k) named e =
 target_found : (b : BoardValue) (v : Values) (word entry_point : ℕ) (t : Core)
     → target_of b v word entry_point ≡ Ok t → IsTarget b v word t
 unfolding target_of
-target_found b v word entry_point t e =
-    target_is b v word entry_point t (core_of b word) refl e
+target_found b v word entry_point t e = target_is b v word entry_point t (core_of b word) refl e
 
 off_is_away : (s : Status) (p : Phase) → agrees s p ≡ true → s ≡ statuses.Off → p ≡ Away
 off_is_away statuses.Off Away e f = refl
 off_is_away s p e f = absurd (cc)
 
-pub on_allowed : (b : BoardValue) (v : Values) (c word entry_point context : ℕ)
-    (r : Result Core Code) → LowerLaws b → IsReady b v → IsCalling b v c → v.halting ≡ false
-    → target_of b v word entry_point ≡ r
-    → Allows b v (outcome_effect b c (requests.CpuOn word entry_point context) (start_outcome v r))
-on_allowed b v c word entry_point context (Err code) laws ready calls awake e are =
-    returned b v c (requests.CpuOn word entry_point context) code calls are
-on_allowed b v c word entry_point context (Ok t) laws ready calls awake e are =
-    let target = target_found b v word entry_point t e in
-    let limit = ready.values.known t.number in
-    record {
-      calls = calls;
-      awake = awake;
-      off = target.off;
-      away = off_is_away (v.status t.number) (v.phase t.number) (ready.values.agree t.number)
-          target.off;
-      plain = record {
-        life = calls.begun;
-        present = refl;
-        core = laws.words.core word t target.named;
-        number = refl;
-        limit = limit;
-        parts = refl;
-        other = refl;
-      };
-      kind = refl;
-      room = omega (arith, limit, eqb-false _ _ target.room);
-    }
+module _ {b : BoardValue} {v : Values} {c : ℕ} (laws : LowerLaws b) (ready : IsReady b v)
+    (calls : IsCalling b v c) (awake : v.halting ≡ false) where
+  pub on_allowed : (word entry_point context : ℕ) (r : Result Core Code)
+      → target_of b v word entry_point ≡ r
+      → Allows b v
+      (outcome_effect b c (requests.CpuOn word entry_point context) (start_outcome v r))
+  on_allowed word entry_point context (Err code) e are =
+      returned calls (requests.CpuOn word entry_point context) code are
+  on_allowed word entry_point context (Ok t) e are =
+      let target = target_found b v word entry_point t e in
+      let limit = ready.values.known t.number in
+      record {
+        calls = calls;
+        awake = awake;
+        off = target.off;
+        away = off_is_away (v.status t.number) (v.phase t.number) (ready.values.agree t.number)
+            target.off;
+        plain = record {
+          life = calls.begun;
+          present = refl;
+          core = laws.words.core word t target.named;
+          number = refl;
+          limit = limit;
+          parts = refl;
+          other = refl;
+        };
+        kind = refl;
+        room = omega (arith, limit, eqb-false _ _ target.room);
+      }
