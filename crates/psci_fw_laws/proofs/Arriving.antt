@@ -9,10 +9,10 @@ use Rattle.psci_fw_laws.proofs.Words.{with_running, ℕ}
 use Rattle.psci_fw_spec.specs.Lives.{first_status}
 use Rattle.psci_fw_laws.proofs.Claiming.{quiet_arrival, quiet_life, quiet_phase}
 use Rattle.psci_fw_laws.proofs.Granting.{granted_arrival, granted_life, granted_phase}
-use Rattle.psci_fw_laws.proofs.Older.{NoneCurrent, none_arrived}
+use Rattle.psci_fw_laws.proofs.Claiming.{NoneCurrent, none_arrived}
 use Rattle.psci_fw_laws.proofs.Parts.{part_has, updated_at, updated_here}
 use Rattle.psci_fw_laws.proofs.Sending.{sent_arrival, sent_life, sent_phase}
-use Rattle.psci_fw_laws.proofs.Slots.{outstanding_arrival, outstanding_none, outstanding_phase}
+use Rattle.psci_fw_laws.proofs.Sending.{outstanding_arrival, outstanding_none, outstanding_phase}
 use Rattle.psci_fw_spec.specs.declared.status.Status.TheVariants as statuses
 
 -- The start of a life -------------------------------------------------------------------------

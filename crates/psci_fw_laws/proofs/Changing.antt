@@ -1,24 +1,99 @@
--- What happens to the values of renumbered cores.
+-- What happens to outstanding messages and to the values of renumbered cores.
+use Rattle.psci_fw_laws.proofs.Words.{◌&&◌, ◌==◌, ◌≡◌, Acknowledge, acknowledgement_by, AckValue}
+use Rattle.psci_fw_laws.proofs.Words.{answers, ap, arith, BoardValue, Bool, changed, Clear, Core}
+use Rattle.psci_fw_laws.proofs.Words.{core_by, Down, false, if◌then◌else◌, is_slot, Kind, left_by}
+use Rattle.psci_fw_laws.proofs.Words.{message_by, MessageValue, None, OfCore, OfSystem, Option}
+use Rattle.psci_fw_laws.proofs.Words.{option_map, Put, refl, Slot, slot_of, Some, sym, taken, true}
+use Rattle.psci_fw_laws.proofs.Words.{Values, values_by, with_slots, ℕ, ◌∙◌, below, claimed_or}
+use Rattle.psci_fw_laws.proofs.Words.{cleared, confirms_on, granted_with, in_life, is_away, is_kind}
+use Rattle.psci_fw_laws.proofs.Words.{is_made_at, is_path_place, nat_lt, Node, node_by, Part, Phase}
+use Rattle.psci_fw_laws.proofs.Words.{PowerOn, Rest, Start, sum_by, turns_off, up, updated}
+use Rattle.psci_fw_laws.proofs.Words.{with_acknowledgement, with_arrival, with_claims, with_halt}
+use Rattle.psci_fw_laws.proofs.Words.{with_pending, with_rest, with_running}
+use Rattle.psci_messages.specs.Slots.{Change, ClearAll, is_done}
+use Rattle.psci_fw_laws.specs.Renumbered.{slot_by}
+use Rattle.psci_fw_laws.proofs.Numberings.{other_test, Renumbers, node_back, sum-below}
 use Rattle.std.proofs.Common.{slice_get}
 use Rattle.std.specs.Option.{option_or}
-use Rattle.psci_fw_laws.proofs.Words.{◌&&◌, ◌∙◌, ◌≡◌, Acknowledge, acknowledgement_by, AckValue, ap}
-use Rattle.psci_fw_laws.proofs.Words.{arith, below, BoardValue, Bool, claimed_or, Clear, cleared}
-use Rattle.psci_fw_laws.proofs.Words.{confirms_on, Down, false, granted_with, if◌then◌else◌}
-use Rattle.psci_fw_laws.proofs.Words.{in_life, is_away, is_kind, is_made_at, is_path_place}
-use Rattle.psci_fw_laws.proofs.Words.{message_by, MessageValue, nat_lt, Node, node_by, None, Option}
-use Rattle.psci_fw_laws.proofs.Words.{option_map, Part, Phase, PowerOn, Put, refl, Rest, slot_of}
-use Rattle.psci_fw_laws.proofs.Words.{Some, Start, sum_by, sym, true, turns_off, up, updated}
-use Rattle.psci_fw_laws.proofs.Words.{Values, values_by, with_acknowledgement, with_arrival}
-use Rattle.psci_fw_laws.proofs.Words.{with_claims, with_halt, with_pending, with_rest, with_running}
-use Rattle.psci_fw_laws.proofs.Words.{with_slots, ℕ}
 use Rattle.psci_fw_spec.specs.Changes.{target, with_sent}
 use Rattle.psci_fw_spec.specs.Confirmed.{applied_part, claimed_anew, confirms, unconfirmed}
 use Rattle.psci_fw_spec.specs.Confirmed.{unless_claimed}
-use Rattle.psci_fw_laws.proofs.Renumbering.{Renumbers, node_back, sum-below}
-use Rattle.psci_fw_laws.proofs.SlotsBy.{at_slot-by, with_slots-by}
 use Rattle.psci_fw_laws.proofs.StoppingBy.{updated-by, with_phase-by}
 use Rattle.psci_fw_spec.specs.declared.status.Status.TheVariants as statuses
 use Rattle.psci_fw_spec.specs.Phases as phases
+
+-- Outstanding messages ----------------------------------------------------------------------------
+
+-- the same change, of the other number
+abbrev pub change_by : (ℕ → ℕ → ℕ) → Change → Change
+change_by s (Put m) = Put (message_by s m)
+change_by s (Clear core) = Clear (core_by s core)
+change_by s ClearAll = ClearAll
+change_by s (Acknowledge a) = Acknowledge (acknowledgement_by s a)
+
+slot_of-by : (s : ℕ → ℕ → ℕ) (kind : Kind) (core : Core)
+    → slot_of kind (core_by s core) ≡ slot_by s (slot_of kind core)
+slot_of-by s Down core = refl
+slot_of-by s kind core = refl
+
+module _ {b : BoardValue} {s : ℕ → ℕ → ℕ} (is : Renumbers b s) where
+  is_slot-by : (t u : Slot) → is_slot (slot_by s t) u ≡ is_slot t (slot_by s u)
+  is_slot-by (OfCore c) (OfCore d) = sym (other_test is c d)
+  is_slot-by (OfCore c) OfSystem = refl
+  is_slot-by OfSystem (OfCore d) = refl
+  is_slot-by OfSystem OfSystem = refl
+
+  slot_back : (t : Slot) → slot_by s (slot_by s t) ≡ t
+  slot_back (OfCore c) = ap OfCore (is.back 0 c)
+  slot_back OfSystem = refl
+
+  -- the slot of a message, and of its core's other number
+  is_of-by : (kind : Kind) (core : Core) (slot : Slot)
+      → is_slot (slot_of kind (core_by s core)) slot ≡ is_slot (slot_of kind core) (slot_by s slot)
+  is_of-by kind core slot = rw (slot_of-by s kind core) (is_slot-by (slot_of kind core) slot)
+
+  pub answers-by : (a : AckValue) (m : MessageValue)
+      → answers (acknowledgement_by s a) (message_by s m) ≡ answers a m
+  answers-by a m =
+      let same : (s 0 a.core.number == s 0 m.core.number) ≡ (a.core.number == m.core.number) =
+      grind (arith, is.back 0 a.core.number, is.back 0 m.core.number) in
+      rw same
+
+  if-map : (t : Bool) (o p : Option MessageValue)
+      → (if t then option_map (message_by s) o else option_map (message_by s) p)
+      ≡ option_map (message_by s) (if t then o else p)
+  if-map true o p = refl
+  if-map false o p = refl
+
+  left_by-by : (a : AckValue) (o : Option MessageValue)
+      → left_by (acknowledgement_by s a) (option_map (message_by s) o)
+      ≡ option_map (message_by s) (left_by a o)
+  left_by-by a None = refl
+  left_by-by a (Some m) = rw (answers-by a m) (if-map (answers a m && is_done a m) None (Some m))
+
+  pub taken-by : (a : AckValue) (o : Option MessageValue)
+      → taken (acknowledgement_by s a) (option_map (message_by s) o) ≡ taken a o
+  taken-by a None = refl
+  taken-by a (Some m) = rw (answers-by a m)
+
+  -- what is in the slot of an acknowledgement
+  pub at_slot-by : (v : Values) (a : AckValue)
+      → (values_by s v).outstanding (slot_of a.kind (core_by s a.core))
+      ≡ option_map (message_by s) (v.outstanding (slot_of a.kind a.core))
+  at_slot-by v a = rw (slot_of-by s a.kind a.core, slot_back (slot_of a.kind a.core))
+
+  -- what a change leaves in a slot
+  changed-by : (slot : Slot) (change : Change) (o : Option MessageValue)
+      → changed slot (change_by s change) (option_map (message_by s) o)
+      ≡ option_map (message_by s) (changed (slot_by s slot) change o)
+  changed-by slot (Put m) o = grind (arith, is_of-by, if-map)
+  changed-by slot (Clear core) o = grind (arith, is_slot-by, core, if-map)
+  changed-by slot ClearAll o = refl
+  changed-by slot (Acknowledge a) o = grind (arith, is_of-by, left_by-by, if-map)
+
+  pub with_slots-by : (change : Change) (v : Values)
+      → with_slots (change_by s change) (values_by s v) ≡ values_by s (with_slots change v)
+  with_slots-by change v = grind (arith, changed-by)
 
 -- the same start of another core, of the other number
 abbrev pub power_on_by : (ℕ → ℕ → ℕ) → PowerOn → PowerOn

@@ -18,7 +18,7 @@ use Rattle.psci_fw_spec.specs.psci_abi.declared.registers.Regs.{Regs}
 use Rattle.psci_fw_spec.specs.Answer.{answer}
 use Rattle.psci_fw_spec.specs.Entering.{enter_outcome, is_old}
 use Rattle.psci_fw_spec.specs.Phases.{is_running}
-use Rattle.psci_fw_laws.proofs.Allowing.{Allows, IsReady}
+use Rattle.psci_fw_laws.proofs.Lower.{Allows, IsReady}
 use Rattle.psci_fw_laws.proofs.Arriving.{found_life}
 use Rattle.psci_fw_laws.proofs.Functions.{call_allowed}
 use Rattle.psci_fw_laws.proofs.Lower.{LowerLaws}

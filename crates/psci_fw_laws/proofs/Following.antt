@@ -1,4 +1,4 @@
--- What is kept after the calls of renumbered cores.
+-- What is kept after the calls of renumbered cores, and histories told of them.
 use Rattle.psci_fw_laws.proofs.Words.{◌∙◌, ◌≡◌, acknowledgement_by, Acknowledges, Act, ap, AsksBy}
 use Rattle.psci_fw_laws.proofs.Words.{AsksOn, Away, BoardValue, Bool, CallsBy, change, Effect}
 use Rattle.psci_fw_laws.proofs.Words.{effect_of, Enter, enter_effect, Enters, false, Fault}
@@ -9,7 +9,8 @@ use Rattle.psci_fw_laws.proofs.Words.{reply_by, request_of, Rests, Running, Sets
 use Rattle.psci_fw_laws.proofs.Words.{SparesBoot, Start, Stops, StopsAtOnce, success, SuspendMode}
 use Rattle.psci_fw_laws.proofs.Words.{Take, true, Values, values_by, with_arrival, with_claims}
 use Rattle.psci_fw_laws.proofs.Words.{with_halt, with_mode, with_pending, with_phase, with_rest}
-use Rattle.psci_fw_laws.proofs.Words.{with_running, ℕ}
+use Rattle.psci_fw_laws.proofs.Words.{with_running, ℕ, ◌∷◌, [], answer, FwExchange, inr, IsLegal}
+use Rattle.psci_fw_laws.proofs.Words.{List, start_of_life, sym, values_of}
 use Rattle.psci_abi.specs.declared.code.Code.{Code}
 use Rattle.psci_abi.specs.declared.request.Request.{Request}
 use Rattle.psci_messages.specs.declared.taken.Taken.TheVariants.{Used}
@@ -18,9 +19,10 @@ use Rattle.psci_fw_spec.specs.Effects.{return_effect, sent_effect, stop_effect}
 use Rattle.psci_fw_laws.proofs.Changing.{FindsBy, power_on_by, with_acknowledgement-by}
 use Rattle.psci_fw_laws.proofs.Changing.{with_arrival-by, with_claims-by, with_halt-by}
 use Rattle.psci_fw_laws.proofs.Changing.{with_pending-by, with_rest-by, with_running-by}
-use Rattle.psci_fw_laws.proofs.EntriesBy.{finds-by}
-use Rattle.psci_fw_laws.proofs.Renumbering.{Renumbers}
+use Rattle.psci_fw_laws.proofs.Calling.{finds-by, answer-by, start_of_life-by}
+use Rattle.psci_fw_laws.proofs.Numberings.{Renumbers}
 use Rattle.psci_fw_laws.proofs.StoppingBy.{with_phase-by}
+use Rattle.psci_fw_laws.specs.Renumbered.{ExchangedBy, HappenedBy}
 use Rattle.psci_abi.specs.declared.request.Request.TheVariants as requests
 use Rattle.psci_fw_spec.specs.declared.outcome.Act.TheVariants as acts
 use Rattle.psci_fw_spec.specs.declared.reply.FwReply.TheVariants as replies
@@ -182,3 +184,54 @@ module _ {b : BoardValue} {s : ℕ → ℕ → ℕ} (is : Renumbers b s) where
   after-by v c call other reply calls spares =
       rw (effect_of-by c call other reply calls)
       (change-by v (effect_of b c call reply) (finds-after v c call reply spares))
+
+-- Histories ---------------------------------------------------------------------------------------
+
+-- What a history says of the values, and what an exchange more leaves.
+pub record Tied (b : BoardValue) : Type 0 where
+  pub first : values_of b [] ≡ start_of_life b 0
+  pub more : (e : FwExchange) (h : List FwExchange)
+      → values_of b (e ∷ h) ≡ after b e.core e.call e.reply (values_of b h)
+
+-- where the boot core keeps its number every call may begin a life
+spares : (s : ℕ → ℕ → ℕ) (life : ℕ) (call : FwCall) → s 0 0 ≡ 0 → SparesBoot s life call
+spares s life (Smc regs) boot = tt
+spares s life (Enter start) boot = inr boot
+spares s life (Take a) boot = tt
+
+module _ {b : BoardValue} {s : ℕ → ℕ → ℕ} (is : Renumbers b s) where
+  -- an exchange more, of cores whose values were renumbered
+  exchanged : (v w : Values) (e f : FwExchange) → s 0 0 ≡ 0 → ExchangedBy b s e f
+      → w ≡ values_by s v
+      → after b f.core f.call f.reply w ≡ values_by s (after b e.core e.call e.reply v)
+  exchanged v w e f boot told same =
+      rw (told.core, told.reply, same)
+      (after-by is v e.core e.call f.call e.reply told.call (spares s v.life e.call boot))
+
+  pub values_of-by : (h g : List FwExchange) → Tied b → s 0 0 ≡ 0 → HappenedBy b s h g
+      → values_of b g ≡ values_by s (values_of b h)
+  values_of-by [] [] tied boot told =
+      tied.first ∙ (sym (start_of_life-by is 0 boot) ∙ ap (values_by s) (sym tied.first))
+  values_of-by (e ∷ h) (f ∷ g) tied boot told =
+      tied.more f g
+      ∙
+      (exchanged (values_of b h) (values_of b g) e f boot told.0 (values_of-by h g tied boot told.1)
+      ∙ ap (values_by s) (sym (tied.more e h)))
+  values_of-by h g tied boot told = absurd told
+
+  -- the other reply is right where the first one is
+  reply-by : (v w : Values) (e f : FwExchange) → s 0 0 ≡ 0 → ExchangedBy b s e f → w ≡ values_by s v
+      → e.reply ≡ answer b v e.core e.call → f.reply ≡ answer b w f.core f.call
+  reply-by v w e f boot told same right =
+      rw (told.reply, right, told.core, same)
+      (sym (answer-by is v e.core e.call f.call told.call (spares s v.life e.call boot)))
+
+  pub legal-by : (h g : List FwExchange) → Tied b → s 0 0 ≡ 0 → HappenedBy b s h g → IsLegal b h
+      → IsLegal b g
+  legal-by [] [] tied boot told legal = tt
+  legal-by (e ∷ h) (f ∷ g) tied boot told legal = (
+    reply-by (values_of b h) (values_of b g) e f boot told.0 (values_of-by h g tied boot told.1)
+        legal.0,
+    legal-by h g tied boot told.1 legal.1,
+  )
+  legal-by h g tied boot told legal = absurd told

@@ -10,7 +10,7 @@ use Rattle.psci_fw_laws.proofs.Words.{Some, sym, true, up, updated, ℕ}
 use Rattle.psci_fw_spec.specs.Lives.{first_granted}
 use Rattle.psci_fw_laws.specs.Granted.{AreGranted, HasCurrent}
 use Rattle.psci_fw_laws.proofs.Claiming.{IsNewDown}
-use Rattle.psci_fw_laws.proofs.Older.{NoneCurrent, known_beside, none_arrived}
+use Rattle.psci_fw_laws.proofs.Claiming.{NoneCurrent, known_beside, none_arrived}
 use Rattle.psci_fw_laws.proofs.Parts.{claim_before, claim_more, claim_new, claim_old, part_from}
 use Rattle.psci_fw_laws.proofs.Parts.{part_has, updated_at, updated_here, updated_there}
 use Rattle.psci_fw_laws.proofs.Sums.{known_none}

@@ -1,24 +1,32 @@
--- After every legal history the firmware keeps what it keeps.
-use Rattle.psci_fw_laws.proofs.Words.{◌++◌, ◌∷◌, ◌≡◌, [], Acknowledges, answer, AreValues, arith}
-use Rattle.psci_fw_laws.proofs.Words.{AsksOn, Away, BoardValue, change, Effect, effect, effect_of}
-use Rattle.psci_fw_laws.proofs.Words.{Enters, first_phase, FwCall, FwExchange, FwReply, GoesOn}
-use Rattle.psci_fw_laws.proofs.Words.{Halts, Holds, IsAllowed, IsLegal, List, listed, MessageValue}
+-- What is kept over histories, that each Down was asked for when it was sent, and the entry that
+-- begins a life, whatever was kept before it.
+use Rattle.psci_fw_laws.proofs.Words.{◌++◌, ◌∷◌, ◌≡◌, [], Acknowledges, AreValues, arith, AsksOn}
+use Rattle.psci_fw_laws.proofs.Words.{Away, BoardValue, change, Effect, effect, effect_of, Enters}
+use Rattle.psci_fw_laws.proofs.Words.{first_phase, FwCall, FwExchange, FwReply, GoesOn, Halts}
+use Rattle.psci_fw_laws.proofs.Words.{Holds, IsAllowed, IsLegal, List, listed, MessageValue}
 use Rattle.psci_fw_laws.proofs.Words.{Nothing, Parks, refl, Rests, sent, SetsMode, start_of_life}
 use Rattle.psci_fw_laws.proofs.Words.{Stops, StopsAtOnce, subst, sym, Values, values_of}
-use Rattle.psci_fw_laws.proofs.Words.{with_arrival, with_mode, with_phase, with_rest, ℕ}
+use Rattle.psci_fw_laws.proofs.Words.{with_arrival, with_mode, with_phase, with_rest, ℕ, ◌∙◌, ap}
+use Rattle.psci_fw_laws.proofs.Words.{Down, None, Option, slice_get, Some, suc, zero, ◌<◌, ◌==◌}
+use Rattle.psci_fw_laws.proofs.Words.{Act, Enter, enter_effect, false, Out, Outcome, Start}
+use Rattle.psci_fw_laws.proofs.Words.{with_claims, with_running}
 use Rattle.psci_fw_spec.specs.After.{after}
 use Rattle.psci_fw_spec.specs.Sent.{sent_messages}
-use Rattle.psci_fw_laws.proofs.Allowing.{IsReady}
+use Rattle.psci_fw_laws.proofs.Lower.{IsReady, LowerLaws}
 use Rattle.psci_fw_laws.proofs.Arriving.{arrived_new, arrives, first_not_on, runs, stays}
 use Rattle.psci_fw_laws.proofs.Claiming.{apart_none, quiet_life}
 use Rattle.psci_fw_laws.proofs.Consequences.{entered}
 use Rattle.psci_fw_laws.proofs.Entries.{answer_allowed}
 use Rattle.psci_fw_laws.proofs.Granting.{granted_life}
-use Rattle.psci_fw_laws.proofs.Lower.{LowerLaws}
-use Rattle.psci_fw_laws.proofs.Older.{NoneCurrent, none_running}
-use Rattle.psci_fw_laws.proofs.Resting.{claims, rests}
-use Rattle.psci_fw_laws.proofs.Slots.{outstanding_none}
-use Rattle.psci_fw_laws.proofs.Started.{asks_on, halts, takes}
+use Rattle.psci_fw_laws.proofs.Claiming.{NoneCurrent, none_running}
+use Rattle.psci_fw_laws.proofs.Started.{claims, rests}
+use Rattle.psci_fw_laws.proofs.Sending.{outstanding_none}
+use Rattle.psci_fw_laws.proofs.Started.{asks_on, halts, takes, not_down}
+use Rattle.psci_fw_laws.specs.Asked.{IsAskedFor, WasAsked}
+use Rattle.std.specs.Prelude.{nat_lt}
+use Rattle.psci_fw_spec.specs.Answer.{answer}
+use Rattle.psci_fw_spec.specs.Entering.{enter_outcome}
+use Rattle.psci_fw_spec.specs.declared.outcome.Act.TheVariants as acts
 
 -- One change ----------------------------------------------------------------------------------
 
@@ -130,3 +138,107 @@ legal_holds b (e ∷ h) laws said legal =
     by_entry b (values_of b h) (values_of b (e ∷ h)) (sent_messages b h) e.core e.call e.reply laws
     (said.legal h legal.1) (said.legal (e ∷ h) legal) (legal_holds b h laws said legal.1) legal.0
     (said.more e h)
+
+-- Each Down was asked for when it was sent --------------------------------------------------------
+
+-- an effect that sends a Down leaves values by which it was asked for
+fair_after : (b : BoardValue) (v : Values) (e : Effect) (m : MessageValue) → IsAllowed b v e
+    → sent e ≡ Some m → m.kind ≡ Down → IsAskedFor b (change b e v) m
+fair_after b v (AsksOn c asked) m allowed e down =
+    let same : asked.message ≡ m = cc in
+    absurd (not_down asked.message.kind allowed.plain.other
+    (ap (λ (x : MessageValue). x.kind) same ∙ down))
+fair_after b v (Rests c rest n) m allowed e down =
+    let same : n ≡ m = cc in
+    subst (IsAskedFor b (change b (Rests c rest n) v)) same (assumption allowed.claim.fair)
+fair_after b v (Halts c n) m allowed e down =
+    let same : n ≡ m = cc in
+    absurd (not_down n.kind allowed.plain.other (ap (λ (x : MessageValue). x.kind) same ∙ down))
+fair_after b v (Parks c s n) m allowed e down =
+    let same : n ≡ m = cc in
+    subst (IsAskedFor b (change b (Parks c s n) v)) same (assumption allowed.claim.fair)
+fair_after b v effect m allowed e down = absurd (cc)
+
+earlier : (b : BoardValue) (e : FwExchange) (h : List FwExchange) (m : MessageValue)
+    → WasAsked b h m → WasAsked b (e ∷ h) m
+earlier b e h m was = record {
+  since = e ∷ was.since;
+  entry = was.entry;
+  before = was.before;
+  parts = ap (λ xs. e ∷ xs) was.parts;
+  legal = was.legal;
+  sent = was.sent;
+  asked = was.asked;
+}
+
+-- What is known of one more exchange.
+pub record IsStep (b : BoardValue) (e : FwExchange) (h : List FwExchange) : Type 0 where
+  pub allowed : IsAllowed b (values_of b h) (effect b e)
+  pub values : values_of b (e ∷ h) ≡ change b (effect b e) (values_of b h)
+  pub messages : sent_messages b (e ∷ h) ≡ listed (sent (effect b e)) ++ sent_messages b h
+
+by_sent : (b : BoardValue) (e : FwExchange) (h : List FwExchange) (k : ℕ) (m : MessageValue)
+    (o : Option MessageValue) → IsStep b e h → IsLegal b (e ∷ h) → sent (effect b e) ≡ o
+    → slice_get (listed o ++ sent_messages b h) k ≡ Some m → m.kind ≡ Down
+    → ((j : ℕ) → slice_get (sent_messages b h) j ≡ Some m → WasAsked b h m) → WasAsked b (e ∷ h) m
+by_sent b e h k m None step legal is at down before = earlier b e h m (before k at)
+by_sent b e h (suc k) m (Some n) step legal is at down before = earlier b e h m (before k at)
+by_sent b e h zero m (Some n) step legal is at down before =
+    let same : n ≡ m = cc in
+    let now : sent (effect b e) ≡ Some m = is ∙ ap (λ x. Some x) same in
+    record {
+      since = [];
+      entry = e;
+      before = h;
+      parts = refl;
+      legal = legal;
+      sent = now;
+      asked = subst (λ w. IsAskedFor b w m) (sym step.values)
+          (fair_after b (values_of b h) (effect b e) m step.allowed now down);
+    }
+
+none_sent : (b : BoardValue) (k : ℕ) (m : MessageValue)
+    → slice_get (sent_messages b []) k ≡ Some m → ⊥
+unfolding sent_messages
+none_sent b k m at = absurd (cc)
+
+pub was_asked : (b : BoardValue) (h : List FwExchange)
+    → ((e : FwExchange) (g : List FwExchange) → IsLegal b (e ∷ g) → IsStep b e g) → IsLegal b h →
+    (k : ℕ)
+    (m : MessageValue) → slice_get (sent_messages b h) k ≡ Some m → m.kind ≡ Down → WasAsked b h m
+was_asked b [] steps legal k m at down = absurd (none_sent b k m at)
+was_asked b (e ∷ h) steps legal k m at down =
+    let step = steps e h legal in
+    by_sent b e h k m (sent (effect b e)) step legal refl
+    (ap (λ ms. slice_get ms k) (sym step.messages) ∙ at) down
+    (λ j i. was_asked b h steps legal.1 j m i down)
+
+-- The entry that begins a life --------------------------------------------------------------------
+
+-- a later life is another one, and no earlier one
+another : (life later : ℕ) → life < later → (later == life) ≡ false
+another life later e = grind arith
+
+no_earlier : (life later : ℕ) → life < later → nat_lt later life ≡ false
+no_earlier life later e = grind arith
+
+pub answered : (b : BoardValue) (v : Values) (c : ℕ) (s : Start) → v.life < s.life
+    → answer b v c (Enter s) ≡ answer b (start_of_life b 0) c (Enter s)
+unfolding answer enter_outcome
+answered b v c s e = grind (arith, another, no_earlier)
+
+arrived : (b : BoardValue) (v : Values) (c : ℕ) (s : Start) → v.life < s.life
+    → with_arrival b c s v ≡ with_arrival b c s (start_of_life b 0)
+arrived b v c s e = rw (another v.life s.life e, another 0 s.life (omega (arith, e))) refl
+
+left : (b : BoardValue) (v : Values) (c : ℕ) (s : Start) (act : Act) (m : Option MessageValue)
+    → with_arrival b c s v ≡ with_arrival b c s (start_of_life b 0)
+    → change b (enter_effect c s act m) v ≡ change b (enter_effect c s act m) (start_of_life b 0)
+left b v c s acts.Stop (Some m) e = ap (λ w. with_claims b m (with_phase c Away w)) e
+left b v c s acts.Stop None e = ap (with_phase c Away) e
+left b v c s act m e = ap (with_running c) e
+
+pub left_after : (b : BoardValue) (v : Values) (c : ℕ) (s : Start) (o : Outcome) → v.life < s.life
+    → after b c (Enter s) (Out o) v ≡ after b c (Enter s) (Out o) (start_of_life b 0)
+unfolding after
+left_after b v c s o e = left b v c s o.act o.message (arrived b v c s e)

@@ -4,7 +4,7 @@ use Rattle.psci_fw_laws.proofs.Words.{known_below, List, MessageValue, Part, Pat
 use Rattle.psci_fw_laws.proofs.Words.{Values, ℕ}
 use Rattle.psci_fw_laws.specs.Live.{AreLive}
 use Rattle.psci_fw_laws.proofs.Consequences.{equal_each}
-use Rattle.psci_fw_laws.proofs.Older.{claim_older}
+use Rattle.psci_fw_laws.proofs.Claiming.{claim_older}
 use Rattle.psci_fw_laws.proofs.Sums.{known_gap, known_le}
 
 live_current : (b : BoardValue) (v : Values) (messages : List MessageValue) (starts : ℕ → ℕ)

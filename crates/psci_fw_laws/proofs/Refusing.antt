@@ -13,7 +13,7 @@ use Rattle.psci_messages.specs.View.{is_idle}
 use Rattle.psci_messages.specs.declared.osi.Osi.TheVariants.{Denied, Invalid}
 use Rattle.psci_fw_laws.specs.Beside.{AreAwake, HasSleeper, IsInTheWay, NobodyAwake}
 use Rattle.psci_fw_laws.proofs.Passing.{all_one, any_one, one_all, one_any}
-use Rattle.psci_fw_laws.proofs.LastCore.{any-flat_map, is_beside, shallow_at-any, some-any}
+use Rattle.psci_fw_laws.proofs.Claims.{any-flat_map, is_beside, shallow_at-any, some-any}
 
 -- Domains in the way ----------------------------------------------------------------------------
 
@@ -38,8 +38,8 @@ module _ (b : BoardValue) (v : PowerView) (caller : ℕ) (ask : List ℕ) (paths
       let first = subst (λ p. first_child b (suc level) p ≤ up b level c) way.joined
       (kids.first c level way.core way.low) in
       let last = subst
-      (λ p. up b level c < first_child b (suc level) p + children_at b (suc level) p)
-      way.joined (kids.last c level way.core way.low) in
+      (λ p. up b level c < first_child b (suc level) p + children_at b (suc level) p) way.joined
+      (kids.last c level way.core way.low) in
       let test = and_from _ _ (ap not (ne_eqb (up b level c) (up b level caller) way.apart))
       (and_from _ _ (lt-ltb _ _ way.less) at) in
       any-flat_map f (shallow_at b v caller ask) (range_with_len 1 (height b))
@@ -101,8 +101,7 @@ module _ (b : BoardValue) (v : PowerView) (caller : ℕ) (ask : List ℕ) (paths
 -- Awake and asleep ------------------------------------------------------------------------------
 
 idle_nobody : (b : BoardValue) (v : PowerView) (level c : ℕ)
-    → is_idle b v (record { level = level; place = up b level c }) ≡ true
-    → NobodyAwake b v level c
+    → is_idle b v (record { level = level; place = up b level c }) ≡ true → NobodyAwake b v level c
 unfolding is_idle up
 idle_nobody b v level c e x on at =
     still (v.is_active x)

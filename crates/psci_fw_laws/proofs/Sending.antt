@@ -1,11 +1,15 @@
--- What is said of each message stays so.
+-- What is said of each message stays so, and what is outstanding, after each change.
 use Rattle.psci_fw_laws.proofs.Words.{◌<◌, ◌∙◌, ◌∷◌, ◌≡◌, ◌≤◌, activity_of, ap, AreSent, arith}
 use Rattle.psci_fw_laws.proofs.Words.{asks, BoardValue, Bool, Down, IsSent, List, MessageValue}
 use Rattle.psci_fw_laws.proofs.Words.{Part, PathLaws, Pending, Phase, slice_get, Some, suc, true}
-use Rattle.psci_fw_laws.proofs.Words.{up, updated, zero, ℕ}
+use Rattle.psci_fw_laws.proofs.Words.{up, updated, zero, ℕ, ◌==◌, Acknowledge, AckValue, changed}
+use Rattle.psci_fw_laws.proofs.Words.{Clear, cond_both, eqb-false, eqb-true, false, is_slot}
+use Rattle.psci_fw_laws.proofs.Words.{is_system, IsOfCore, IsOfLife, left_by, None, OfCore}
+use Rattle.psci_fw_laws.proofs.Words.{OfSystem, Option, Put, refl, Slot, slot_of, subst, sym}
 use Rattle.psci_messages.specs.declared.kind.Kind.TheVariants.{Start}
-use Rattle.psci_fw_laws.proofs.Parts.{updated_at}
+use Rattle.psci_fw_laws.proofs.Parts.{updated_at, updated_there}
 use Rattle.psci_fw_laws.proofs.Sums.{known_gap, known_le}
+use Rattle.psci_fw_laws.specs.Outstanding.{AreOutstanding}
 
 -- What a message with the known start of its core as its number says of another phase of the core.
 pub record IsFit (phase : Phase) (m : MessageValue) : Type 0 where
@@ -101,3 +105,152 @@ module _ {b : BoardValue} {life : ℕ} {halting : Bool} {known : ℕ → ℕ} {p
               asked = λ d i. p.asked d (old i);
             };
       }
+
+-- What is outstanding -----------------------------------------------------------------------------
+
+of_life_more : {life : ℕ} {sent : List MessageValue} {n : MessageValue} (m : MessageValue)
+    → IsOfLife life sent n → IsOfLife life (m ∷ sent) n
+of_life_more m is = record { index = suc is.index; at = is.at; present = is.present }
+
+slot_is : (s t : Slot) → is_slot s t ≡ true → s ≡ t
+slot_is (OfCore c) (OfCore d) e = ap OfCore (eqb-true c d e)
+slot_is OfSystem OfSystem e = refl
+slot_is s t e = absurd (cc)
+
+-- nothing is outstanding
+pub outstanding_none : {life : ℕ} {known : ℕ → ℕ} {phase : ℕ → Phase} {sent : List MessageValue}
+    → AreOutstanding life known phase sent (λ slot. None)
+outstanding_none = record {
+  core = λ c m e. absurd (cc);
+  system = λ m e. absurd (cc);
+  halts = λ m e. absurd (cc);
+}
+
+-- what a core's slot may hold in place of what it holds
+abbrev pub AreAt : ℕ → (ℕ → ℕ) → (ℕ → Phase) → List MessageValue → Slot → Option MessageValue
+    → Type 0
+AreAt life known phase sent (OfCore c) o =
+    (m : MessageValue) → o ≡ Some m → IsOfCore life known phase sent c m
+AreAt life known phase sent OfSystem o =
+    (m : MessageValue) → o ≡ Some m → IsOfLife life sent m × (is_system m.kind ≡ true)
+
+are_all : {life : ℕ} {known : ℕ → ℕ} {phase : ℕ → Phase} {sent : List MessageValue}
+    {outstanding : Slot → Option MessageValue}
+    → ((slot : Slot) → AreAt life known phase sent slot (outstanding slot))
+    → AreOutstanding life known phase sent outstanding
+are_all all = record {
+  core = λ c. all (OfCore c);
+  system = λ m e. (all OfSystem m e).0;
+  halts = λ m e. (all OfSystem m e).1;
+}
+
+module _ {life : ℕ} {known : ℕ → ℕ} {phase : ℕ → Phase} {sent : List MessageValue}
+    {outstanding : Slot → Option MessageValue}
+    (are : AreOutstanding life known phase sent outstanding) where
+  -- one more message was sent, and is not outstanding yet
+  pub outstanding_sent : (m : MessageValue) → AreOutstanding life known phase (m ∷ sent) outstanding
+  outstanding_sent m = record {
+    core = λ c n e. let is = are.core c n e in assumption (is, of_life_more m is.listed);
+    system = λ n e. of_life_more m (are.system n e);
+    halts = are.halts;
+  }
+
+  -- one core is of another phase, which fits what is outstanding for it
+  pub outstanding_phase : (c : ℕ) (new : Phase)
+      → ((m : MessageValue) → outstanding (OfCore c) ≡ Some m
+      → (m.kind ≡ Start → new ≡ Pending) × (m.kind ≡ Down → new ≡ Pending → ⊥))
+      → AreOutstanding life known (updated phase c new) sent outstanding
+  outstanding_phase c new fits = record {
+    core = λ x m e.
+        let is = are.core x m e in
+        let fit = updated_at
+        (λ y. (m.kind ≡ Start → y ≡ Pending) × (m.kind ≡ Down → y ≡ Pending → ⊥)) phase c new x
+        (λ here. fits m (ap (λ y. outstanding (OfCore y)) (sym here) ∙ e))
+        (λ there. (is.start, is.down)) in
+        assumption (is, fit);
+    system = are.system;
+    halts = are.halts;
+  }
+
+  are_at : (slot : Slot) → AreAt life known phase sent slot (outstanding slot)
+  are_at (OfCore c) = are.core c
+  are_at OfSystem = λ m e. (are.system m e, are.halts m e)
+
+  -- a message that was sent is outstanding
+  pub outstanding_put : (m : MessageValue)
+      → AreAt life known phase sent (slot_of m.kind m.core) (Some m)
+      → AreOutstanding life known phase sent (λ slot. changed slot (Put m) (outstanding slot))
+  outstanding_put m is = are_all
+      (λ slot. cond_both (is_slot (slot_of m.kind m.core) slot) (Some m) (outstanding slot)
+      (AreAt life known phase sent slot)
+      (λ here. subst (λ s. AreAt life known phase sent s (Some m)) (slot_is _ _ here) is)
+      (λ there. are_at slot))
+
+  -- a Start was sent for a core, which is pending now
+  pub outstanding_asked : (c : ℕ) (m : MessageValue)
+      → slot_of m.kind m.core ≡ OfCore c → IsOfCore life known (updated phase c Pending) sent c m
+      → AreOutstanding life known (updated phase c Pending) sent
+      (λ slot. changed slot (Put m) (outstanding slot))
+  outstanding_asked c m slot_is_c is = are_all
+      (λ slot. cond_both (is_slot (slot_of m.kind m.core) slot) (Some m) (outstanding slot)
+      (AreAt life known new sent slot)
+      (λ here. subst (λ s. AreAt life known new sent s (Some m)) (sym slot_is_c ∙ slot_is _ _ here)
+      at_c) (λ there. beside slot (ap (λ s. is_slot s slot) (sym slot_is_c) ∙ there)))
+    where
+      new : ℕ → Phase
+      new = updated phase c Pending
+
+      at_c : AreAt life known new sent (OfCore c) (Some m)
+      at_c = λ n e. let same : m ≡ n = cc in subst (IsOfCore life known new sent c) same is
+
+      beside : (slot : Slot) → is_slot (OfCore c) slot ≡ false
+          → AreAt life known new sent slot (outstanding slot)
+      beside (OfCore x) there = λ n e.
+          let old = are.core x n e in
+          let other : x ≡ c → ⊥ = λ s. eqb-false c x there (sym s) in
+          let same : new x ≡ phase x = updated_there phase c Pending x other in
+          record {
+            listed = old.listed;
+            core = old.core;
+            number = old.number;
+            kind = old.kind;
+            start = λ s. same ∙ old.start s;
+            down = λ d i. old.down d (sym same ∙ i);
+          }
+      beside OfSystem there = are_at OfSystem
+
+  at_none : (slot : Slot) → AreAt life known phase sent slot None
+  at_none (OfCore c) = λ m e. absurd (cc)
+  at_none OfSystem = λ m e. absurd (cc)
+
+  at_left : (slot : Slot) (a : AckValue) (o : Option MessageValue)
+      → AreAt life known phase sent slot o → AreAt life known phase sent slot (left_by a o)
+  at_left slot a None is = is
+  at_left slot a (Some m) is =
+      cond_both _ None (Some m) (AreAt life known phase sent slot) (λ e. at_none slot) (λ e. is)
+
+  -- an acknowledgement was taken
+  pub outstanding_taken : (a : AckValue)
+      → AreOutstanding life known phase sent
+      (λ slot. changed slot (Acknowledge a) (outstanding slot))
+  outstanding_taken a = are_all
+      (λ slot. cond_both (is_slot (slot_of a.kind a.core) slot) (left_by a (outstanding slot))
+      (outstanding slot) (AreAt life known phase sent slot)
+      (λ here. at_left slot a (outstanding slot) (are_at slot)) (λ there. are_at slot))
+
+  -- a core has entered: nothing is outstanding for it
+  pub outstanding_arrival : (c n : ℕ)
+      → AreOutstanding life (updated known c n) phase sent
+      (λ slot. changed slot (Clear (record { number = c })) (outstanding slot))
+  outstanding_arrival c n = are_all at
+    where
+      at : (slot : Slot) → AreAt life (updated known c n) phase sent slot
+          (changed slot (Clear (record { number = c })) (outstanding slot))
+      at (OfCore x) = λ m. cond_both (c == x) None (outstanding (OfCore x))
+          (λ o. o ≡ Some m → IsOfCore life (updated known c n) phase sent x m)
+          (λ here e. absurd (cc))
+          (λ there e.
+          let is = are.core x m e in
+          let other : x ≡ c → ⊥ = λ s. eqb-false c x there (sym s) in
+          assumption (is, is.number ∙ sym (updated_there known c n x other)))
+      at OfSystem = are_at OfSystem

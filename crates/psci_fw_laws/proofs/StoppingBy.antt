@@ -1,4 +1,4 @@
--- Functions that may stop their caller, of renumbered cores.
+-- Functions of renumbered cores: those that may stop their caller, and those that return.
 use Rattle.std.proofs.Common.{Result}
 use Rattle.psci_fw_laws.proofs.Words.{◌&&◌, ◌==◌, ◌||◌, ◌∙◌, ◌≡◌, [], ap, ask_named, Away}
 use Rattle.psci_fw_laws.proofs.Words.{BoardValue, Bool, cores, Err, false, height, if◌then◌else◌}
@@ -8,9 +8,12 @@ use Rattle.psci_fw_laws.proofs.Words.{Outcome, outcome_by, Part, Phase, Platform
 use Rattle.psci_fw_laws.proofs.Words.{range_with_len, refl, returns, stops_with, success}
 use Rattle.psci_fw_laws.proofs.Words.{suspend_asked, suspend_claims, Suspended, SuspendMode}
 use Rattle.psci_fw_laws.proofs.Words.{system_reset2, system_suspend, true, unless_pending, updated}
-use Rattle.psci_fw_laws.proofs.Words.{Values, values_by, with_phase, ℕ}
+use Rattle.psci_fw_laws.proofs.Words.{Values, values_by, with_phase, ℕ, arith, below, Core, core_by}
+use Rattle.psci_fw_laws.proofs.Words.{core_of, has_node, is_away, is_on, ne_eqb, Node, node_by}
+use Rattle.psci_fw_laws.proofs.Words.{None, off_target, Option, option_map, Some, start_outcome}
+use Rattle.psci_fw_laws.proofs.Words.{Status, suc, target_among, zero}
 use Rattle.psci_abi.specs.declared.code.Code.{Code}
-use Rattle.psci_abi.specs.Codes.{denied, invalid_parameters}
+use Rattle.psci_abi.specs.Codes.{denied, invalid_parameters, internal_failure}
 use Rattle.psci_messages.specs.declared.osi.Osi.{Osi}
 use Rattle.psci_fw_spec.specs.psci_messages.psci_state.Ask.{deepest_of, is_deep}
 use Rattle.psci_fw_spec.specs.psci_messages.psci_state.declared.fault.BadState.{BadState}
@@ -20,9 +23,18 @@ use Rattle.psci_fw_spec.specs.CpuSuspend.{cpu_suspend, suspend_answer}
 use Rattle.psci_fw_spec.specs.SystemCalls.{all_others, is_off_status, system_message}
 use Rattle.psci_fw_spec.specs.Views.{view}
 use Rattle.psci_fw_laws.proofs.Claims.{off_claims-by, platform_claims-by, view_by}
-use Rattle.psci_fw_laws.proofs.LastCore.{last_core_check-by}
-use Rattle.psci_fw_laws.proofs.Renumbering.{all-cores, other_test, Renumbers}
+use Rattle.psci_fw_laws.proofs.Claims.{last_core_check-by}
+use Rattle.psci_fw_laws.proofs.Numberings.{all-cores, other_test, Renumbers, any-below, any-cores}
+use Rattle.psci_fw_spec.specs.AffinityInfo.{affinity_of, is_pending_status, node_status}
+use Rattle.psci_fw_spec.specs.AffinityInfo.{status_over}
+use Rattle.psci_fw_spec.specs.CpuOn.{cpu_on, target_of}
+use Rattle.psci_fw_spec.specs.NodeHwState.{hw_state_of}
+use Rattle.psci_fw_spec.specs.Phases.{is_suspended_or_pending}
+use Rattle.psci_fw_spec.specs.SuspendMode.{may_set, mode_asked}
 use Rattle.psci_messages.specs.declared.kind.Kind.TheVariants as kinds
+use Rattle.psci_fw_spec.specs.declared.status.Status.TheVariants as statuses
+
+-- Stopping ----------------------------------------------------------------------------------------
 
 -- Values ----------------------------------------------------------------------------------------
 
@@ -167,3 +179,109 @@ module _ {b : BoardValue} {s : ℕ → ℕ → ℕ} (is : Renumbers b s) where
   system_reset2-by v c reset_type =
       chosen (reset_type == 0) _ (returns invalid_parameters) _ (returns invalid_parameters)
       (system_message-by v kinds.Reset c) refl
+
+-- Returning ---------------------------------------------------------------------------------------
+
+-- AFFINITY_INFO ---------------------------------------------------------------------------------
+
+module _ {b : BoardValue} {s : ℕ → ℕ → ℕ} (is : Renumbers b s) where
+  pub has_node-by : (level place : ℕ)
+      → has_node b (record { level = level; place = s level place })
+      ≡ has_node b (record { level = level; place = place })
+  has_node-by level place = rw (is.inside level place)
+
+  status_over-by : (status : ℕ → Status) (n : Node)
+      → status_over (λ k. status (s 0 k)) (below b (node_by s n)) ≡ status_over status (below b n)
+  status_over-by status n =
+      rw (
+        any-below is n (λ k. is_on (status k)),
+        any-below is n (λ k. is_pending_status (status k)),
+      ) refl
+
+  status_at-by : (status : ℕ → Status) (level place : ℕ)
+      →
+      (if level == 0 then status (s 0 (s level place)) else status_over (λ k. status (s 0 k))
+      (below b (record { level = level; place = s level place })))
+      ≡
+      (if level == 0 then status place else status_over status
+      (below b (record { level = level; place = place })))
+  status_at-by status zero place = ap status (is.back 0 place)
+  status_at-by status (suc level) place =
+      let above : (suc level == 0) ≡ false = ne_eqb (suc level) 0 (λ e. omega arith) in
+      rw above (status_over-by status (record { level = suc level; place = place }))
+
+  node_status-by : (status : ℕ → Status) (n : Node)
+      → node_status b (λ k. status (s 0 k)) (node_by s n) ≡ node_status b status n
+  unfolding node_status
+  node_status-by status n = rw (has_node-by n.level n.place, status_at-by status n.level n.place)
+
+  affinity_of-by : (v : Values) (o : Option Node)
+      → affinity_of b (values_by s v) (option_map (node_by s) o) ≡ affinity_of b v o
+  affinity_of-by v None = refl
+  affinity_of-by v (Some n) = rw (node_status-by v.status n)
+
+  pub affinity-by : (v : Values) (o p : Option Node) → p ≡ option_map (node_by s) o
+      → returns (affinity_of b (values_by s v) p) ≡ outcome_by s (returns (affinity_of b v o))
+  affinity-by v o p e = rw (e, affinity_of-by v o)
+
+  -- NODE_HW_STATE ---------------------------------------------------------------------------------
+
+  hw_state_of-by : (v : Values) (o : Option Node)
+      → hw_state_of (values_by s v) (option_map (node_by s) o) ≡ hw_state_of v o
+  hw_state_of-by v None = refl
+  hw_state_of-by v (Some n) = rw (is.back n.level n.place)
+
+  pub hw_state-by : (v : Values) (o p : Option Node) → p ≡ option_map (node_by s) o
+      → returns (hw_state_of (values_by s v) p) ≡ outcome_by s (returns (hw_state_of v o))
+  hw_state-by v o p e = rw (e, hw_state_of-by v o)
+
+  -- CPU_ON ----------------------------------------------------------------------------------------
+
+  at_limit-by : (v : Values) (t : Core) (limit : Bool)
+      → start_outcome (values_by s v) (if limit then Err internal_failure else Ok (core_by s t))
+      ≡ outcome_by s (start_outcome v (if limit then Err internal_failure else Ok t))
+  at_limit-by v t true = refl
+  at_limit-by v t false = rw (message_for-by is v kinds.Start t.number [])
+
+  off_target-by : (v : Values) (t : Core) (status : Status)
+      → start_outcome (values_by s v) (off_target b (values_by s v) (core_by s t) status)
+      ≡ outcome_by s (start_outcome v (off_target b v t status))
+  off_target-by v t statuses.On = refl
+  off_target-by v t statuses.Pending = refl
+  off_target-by v t statuses.Off =
+      rw (is.back 0 t.number) (at_limit-by v t (v.known t.number == b.starts))
+
+  may_start-by : (v : Values) (t : Core) (may : Bool)
+      → start_outcome (values_by s v)
+      (if may then off_target b (values_by s v) (core_by s t) (v.status (s 0 (s 0 t.number))) else
+      Err invalid_address)
+      ≡ outcome_by s
+      (start_outcome v (if may then off_target b v t (v.status t.number) else Err invalid_address))
+  may_start-by v t true = rw (is.back 0 t.number) (off_target-by v t (v.status t.number))
+  may_start-by v t false = refl
+
+  target-by : (v : Values) (entry_point : ℕ) (o : Option Core)
+      → start_outcome (values_by s v)
+      (target_among b (values_by s v) entry_point (option_map (core_by s) o))
+      ≡ outcome_by s (start_outcome v (target_among b v entry_point o))
+  target-by v entry_point None = refl
+  target-by v entry_point (Some t) = may_start-by v t (may_enter b entry_point)
+
+  pub cpu_on-by : (v : Values) (target word entry_point : ℕ)
+      → core_of b word ≡ option_map (core_by s) (core_of b target)
+      → cpu_on b (values_by s v) word entry_point ≡ outcome_by s (cpu_on b v target entry_point)
+  unfolding target_of
+  cpu_on-by v target word entry_point e = rw e (target-by v entry_point (core_of b target))
+
+  -- PSCI_SET_SUSPEND_MODE -------------------------------------------------------------------------
+
+  may_set-by : (v : Values) (c : ℕ) (mode : SuspendMode)
+      → may_set b (values_by s v) (s 0 c) mode ≡ may_set b v c mode
+  may_set-by v c Platform = all_others-by is c (λ k. is_away (v.phase k))
+  may_set-by v c OsInitiated = ap not (any-cores is (λ k. is_suspended_or_pending (v.phase k)))
+
+  pub mode_asked-by : (v : Values) (c : ℕ) (mode : Option SuspendMode)
+      → returns (mode_asked b (values_by s v) (s 0 c) mode)
+      ≡ outcome_by s (returns (mode_asked b v c mode))
+  mode_asked-by v c None = refl
+  mode_asked-by v c (Some mode) = rw (may_set-by v c mode) refl

@@ -1,19 +1,56 @@
--- To swap two clusters with as many cores is a renumbering of the board.
+-- To swap two cores of one cluster, or two clusters with as many cores, is a renumbering of the board.
+use Rattle.psci_fw_laws.proofs.Words.{◌∙◌, ◌≡◌, ap, arith, BoardValue, IsRenumbering, lt-ltb}
+use Rattle.psci_fw_laws.proofs.Words.{nat_lt, nodes, PathLaws, refl, suc, swap, sym, zero, ℕ, ◌+◌}
+use Rattle.psci_fw_laws.proofs.Words.{◌-◌, ◌<◌, ◌∷◌, ◌≤◌, ◌⊎◌, [], cases_lt, ChildLaws, children_at}
+use Rattle.psci_fw_laws.proofs.Words.{cores, false, first_child, height, inl, inr, IsBoard, length}
+use Rattle.psci_fw_laws.proofs.Words.{List, Node, Option, same_Some, subst, true}
+use Rattle.psci_fw_laws.specs.Renumbered.{AreSiblings, swap_cores, AreTwins, core_beside}
+use Rattle.psci_fw_laws.specs.Renumbered.{is_in_cluster, swap_clusters}
+use Rattle.psci_fw_laws.proofs.Folds.{swap-back, cases_within, swap-first, swap-other, swap-second}
 use Rattle.std.proofs.Common.{sum, drop}
 use Rattle.std.proofs.lemmas.Bool.{le-ltb}
-use Rattle.psci_fw_laws.proofs.Words.{◌+◌, ◌-◌, ◌<◌, ◌∙◌, ◌∷◌, ◌≡◌, ◌≤◌, ◌⊎◌, [], ap, arith}
-use Rattle.psci_fw_laws.proofs.Words.{BoardValue, cases_lt, ChildLaws, children_at, cores, false}
-use Rattle.psci_fw_laws.proofs.Words.{first_child, height, inl, inr, IsBoard, IsRenumbering, length}
-use Rattle.psci_fw_laws.proofs.Words.{List, lt-ltb, nat_lt, Node, nodes, Option, PathLaws, refl}
-use Rattle.psci_fw_laws.proofs.Words.{same_Some, subst, suc, swap, sym, true, zero, ℕ}
 use Rattle.psci_board.specs.Board.{IsTree, group_of, parent, place_above, size_below, up}
 use Rattle.psci_board.specs.Laws.{ParentLaws}
 use Rattle.psci_board.proofs.Groups.{sum-cons}
-use Rattle.psci_fw_laws.specs.Renumbered.{AreTwins, core_beside, is_in_cluster, swap_clusters}
-use Rattle.psci_fw_laws.proofs.Folds.{cases_within, swap-back, swap-first, swap-other, swap-second}
 use Rattle.psci_fw_laws.proofs.Involutions.{is_within-false}
 use Rattle.psci_fw_laws.proofs.Numberings.{child_inside}
-use Rattle.psci_fw_laws.proofs.Siblings.{alike_both}
+
+-- Siblings ----------------------------------------------------------------------------------------
+
+-- a function that says the same of both says the same of each core and its other number
+pub alike_both : {A : Type 0} (f : ℕ → A) (x y c : ℕ) → f x ≡ f y → f (swap x y c) ≡ f c
+alike_both f x y c e = grind arith
+
+-- cores of one cluster are below the same domains from there up
+meeting : (b : BoardValue) (x y level : ℕ) → PathLaws b → up b 1 x ≡ up b 1 y
+    → up b (suc level) x ≡ up b (suc level) y
+meeting b x y zero laws e = e
+meeting b x y (suc level) laws e = laws.joined x y (suc level) (meeting b x y level laws e)
+
+nodes_swapped : (b : BoardValue) (x y level place : ℕ) → AreSiblings b x y
+    → nat_lt (swap_cores x y level place) (nodes b level) ≡ nat_lt place (nodes b level)
+nodes_swapped b x y zero place two = grind (arith, alike_both, nat_lt, lt-ltb)
+nodes_swapped b x y (suc level) place two = refl
+
+swapped_back : (x y level place : ℕ) → swap_cores x y level (swap_cores x y level place) ≡ place
+swapped_back x y zero place = swap-back x y place
+swapped_back x y (suc level) place = refl
+
+swapped_up : (b : BoardValue) (x y level c : ℕ) → PathLaws b → AreSiblings b x y
+    → up b level (swap x y c) ≡ swap_cores x y level (up b level c)
+swapped_up b x y zero c paths two = paths.core (swap x y c) ∙ ap (swap x y) (sym (paths.core c))
+swapped_up b x y (suc level) c paths two =
+    alike_both (up b (suc level)) x y c (meeting b x y level paths two.cluster)
+
+pub siblings : (b : BoardValue) (x y : ℕ) → PathLaws b → AreSiblings b x y
+    → IsRenumbering b (swap_cores x y)
+siblings b x y paths two = record {
+  back = λ level place. swapped_back x y level place;
+  inside = λ level place. nodes_swapped b x y level place two;
+  above = λ level c. swapped_up b x y level c paths two;
+}
+
+-- Twins -------------------------------------------------------------------------------------------
 
 -- What the proofs stand on.
 record Laws (b : BoardValue) : Type 0 where

@@ -1,7 +1,7 @@
 -- Claims.
 use Rattle.psci_fw_laws.proofs.Words.{sent_messages}
 use Rattle.psci_fw_laws.proofs.Consequences.{once}
-use Rattle.psci_fw_laws.proofs.Older.{claim_older}
+use Rattle.psci_fw_laws.proofs.Claiming.{claim_older}
 use Rattle.psci_fw_laws.proofs.laws.law_claimed.Goals as goal
 
 pub returns-clause-apart : goal.returns-clause-apart

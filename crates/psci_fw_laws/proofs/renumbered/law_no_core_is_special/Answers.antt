@@ -1,8 +1,8 @@
 -- Each call of renumbered cores, and what is kept after it.
 use Rattle.psci_fw_laws.proofs.Calling.{answer-by}
 use Rattle.psci_fw_laws.proofs.Following.{after-by}
-use Rattle.psci_fw_laws.proofs.FunctionsBy.{outcome_of-by}
-use Rattle.psci_fw_laws.proofs.HistoriesBy.{legal-by, values_of-by}
+use Rattle.psci_fw_laws.proofs.Calling.{outcome_of-by}
+use Rattle.psci_fw_laws.proofs.Following.{legal-by, values_of-by}
 use Rattle.psci_fw_laws.proofs.Numberings.{renumbers}
 use Rattle.psci_fw_laws.proofs.renumbered.law_no_core_is_special.Goals as goal
 
