@@ -107,38 +107,12 @@ deeper b v sent c level p by_part are holds on high claim current rests =
 
 -- Entries -------------------------------------------------------------------------------------
 
-on_where_suspended : (s : Status) (ask : List ℕ) → agrees s (Suspended ask) ≡ true
-    → is_on s ≡ true
-on_where_suspended statuses.On ask e = refl
-on_where_suspended s ask e = absurd (cc)
-
-on_where_runs : (s : Status) → agrees s Running ≡ true → is_on s ≡ true
-on_where_runs statuses.On e = refl
-on_where_runs s e = absurd (cc)
-
-known_where_on : (n : ℕ) (s : Status) → (n ≡ 0 → is_on s ≡ false) → is_on s ≡ true → 0 < n
-known_where_on n s none on =
-    let other : n ≡ 0 → ⊥ = λ e. grind (arith, none e) in
-    omega (arith, other)
-
-away_or_pending : (s : Status) (p : Phase) → agrees s p ≡ true → is_on s ≡ false
-    → (p ≡ Away) ⊎ (p ≡ Pending)
-away_or_pending s Away e f = inl refl
-away_or_pending s Pending e f = inr refl
-away_or_pending s Running e f =
-    let no : true ≡ false = sym (on_where_runs s e) ∙ f in absurd (cc)
-away_or_pending s (Suspended ask) e f =
-    let no : true ≡ false = sym (on_where_suspended s ask e) ∙ f in absurd (cc)
-
 pub entered : (b : BoardValue) (v : Values) (sent : List MessageValue) → AreValues b v
     → Holds b v sent → AreEntered v.known v.status v.phase
 entered b v sent are holds = record {
-  runs = λ c e. known_where_on (v.known c) (v.status c) (holds.entered c)
-      (on_where_runs (v.status c) (subst (λ p. agrees (v.status c) p ≡ true) e (are.agree c)));
-  suspended = λ c ask e. known_where_on (v.known c) (v.status c) (holds.entered c)
-      (on_where_suspended (v.status c) ask
-      (subst (λ p. agrees (v.status c) p ≡ true) e (are.agree c)));
-  away = λ c e. away_or_pending (v.status c) (v.phase c) (are.agree c) (holds.entered c e);
+  runs = λ c e. grind (arith, are.agree c, holds.entered c);
+  suspended = λ c ask e. grind (arith, are.agree c, holds.entered c);
+  away = λ c e. grind (arith, are.agree c, holds.entered c);
   not_on = holds.entered;
 }
 

@@ -1,7 +1,7 @@
 -- What a call, an entry or an acknowledgement is answered is allowed.
 use Rattle.std.proofs.Common.{is_some}
 use Rattle.std.specs.Prelude.{nat_le, nat_lt}
-use Rattle.std.proofs.lemmas.Bool.{ltb-false, or_parts, not-false}
+use Rattle.psci_fw_laws.proofs.Words.{nat_tests}
 use Rattle.psci_fw_laws.proofs.Words.{◌&&◌, ◌<◌, ◌==◌, ◌||◌, ◌∙◌, ◌≡◌, ◌≤◌, AckValue, activity_of}
 use Rattle.psci_fw_laws.proofs.Words.{answers, ap, AreValues, arith, asks, Away, BoardValue, Bool}
 use Rattle.psci_fw_laws.proofs.Words.{call_fault, cond, cond_both, cores, effect_of, Enter}
@@ -31,70 +31,12 @@ use Rattle.psci_fw_spec.specs.declared.reply.FwReply.TheVariants as replies
 
 -- Calls ---------------------------------------------------------------------------------------
 
--- Why a call is not refused.
-record IsPassed (absent lifeless runs : Bool) : Type 0 where
-  pub core : absent ≡ false
-  pub life : lifeless ≡ false
-  pub running : runs ≡ true
-
-passed : (absent lifeless runs : Bool)
-    → cond absent (Some faults.NoCore)
-    (cond lifeless (Some faults.NoLife) (cond runs None (Some faults.NotRunning)))
-    ≡ None → IsPassed absent lifeless runs
-passed false false true e = record { core = refl; life = refl; running = refl }
-passed absent lifeless runs e = absurd (cc)
-
-running_phase : (p : Phase) → is_running p ≡ true → p ≡ Running
-running_phase Running e = refl
-running_phase p e = absurd (cc)
-
 calling : (b : BoardValue) (v : Values) (c : ℕ) → call_fault b v c ≡ None → IsCalling b v c
-calling b v c e =
-    let p = passed (not (nat_lt c (cores b))) (v.life == 0) (is_running (v.phase c)) e in
-    let life = eqb-false v.life 0 p.life in
-    record {
-      core = ltb-true c (cores b) (not-false (nat_lt c (cores b)) p.core);
-      begun = omega (arith, life);
-      runs = running_phase (v.phase c) p.running;
-    }
-
--- Why a start is not refused.
-record IsFresh (absent lifeless old : Bool) : Type 0 where
-  pub core : absent ≡ false
-  pub life : lifeless ≡ false
-  pub start : old ≡ false
-
-fresh : (absent lifeless old : Bool)
-    → cond absent (Some faults.NoCore)
-    (cond lifeless (Some faults.NoLife) (cond old (Some faults.OldStart) None))
-    ≡ None → IsFresh absent lifeless old
-fresh false false false e = record { core = refl; life = refl; start = refl }
-fresh absent lifeless old e = absurd (cc)
-
-later : (v : Values) (c : ℕ) (s : Start) → (s.life == v.life && nat_le s.number (v.known c)) ≡ false
-    → s.life ≡ v.life → v.known c < s.number
-later v c s e same = grind arith
+calling b v c e = search (arith, nat_tests)
 
 entering : (b : BoardValue) (v : Values) (c : ℕ) (s : Start) → enter_fault b v c s ≡ None
     → IsEntering b v c s
-entering b v c s e =
-    let p = fresh (not (nat_lt c (cores b))) (s.life == 0 || nat_lt b.lives s.life) (is_old b v c s)
-    e in
-    let lives = or_parts (s.life == 0) (nat_lt b.lives s.life) p.life in
-    let old = or_parts (nat_lt s.life v.life) _ p.start in
-    let zero = or_parts (s.number == 0) _ old.1 in
-    let above = or_parts (nat_lt b.starts s.number) _ zero.1 in
-    let some_life = eqb-false s.life 0 lives.0 in
-    let some_number = eqb-false s.number 0 zero.0 in
-    record {
-      core = ltb-true c (cores b) (not-false (nat_lt c (cores b)) p.core);
-      begun = omega (arith, some_life);
-      lives = ltb-false b.lives s.life lives.1;
-      life = ltb-false s.life v.life old.0;
-      some = omega (arith, some_number);
-      most = ltb-false b.starts s.number above.0;
-      later = later v c s above.1;
-    }
+entering b v c s e = search (arith, nat_tests)
 
 -- a core without an opening is not pending
 not_pending : (b : BoardValue) (v : Values) (c : ℕ) → AreValues b v → v.halting ≡ false

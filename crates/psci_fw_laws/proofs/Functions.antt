@@ -1,4 +1,5 @@
 -- What a function is answered is allowed: one that stops its caller, CPU_ON, and all others.
+use Rattle.psci_fw_laws.proofs.Words.{nat_tests}
 use Rattle.psci_fw_laws.proofs.Words.{◌∙◌, ◌≡◌, ◌≤◌, activity_of, ap, AreValues, ask_named, asks}
 use Rattle.psci_fw_laws.proofs.Words.{BoardValue, change, false, height, IsAsk, IsCalling, List}
 use Rattle.psci_fw_laws.proofs.Words.{message_for, off_message, off_parts, Ok, Opening, Part}
@@ -126,36 +127,10 @@ record IsTarget (b : BoardValue) (v : Values) (word : ℕ) (t : Core) : Type 0 w
   pub off : v.status t.number ≡ statuses.Off
   pub room : (v.known t.number == b.starts) ≡ false
 
-target_if : (b : BoardValue) (v : Values) (word : ℕ) (code : Code) (k t : Core) (full : Bool)
-    → core_of b word ≡ Some k → v.status k.number ≡ statuses.Off
-    → (v.known k.number == b.starts) ≡ full
-    → cond full (Err code) (Ok k) ≡ Ok t → IsTarget b v word t
-target_if b v word code k t true named off room e = absurd (cc)
-target_if b v word code k t false named off room e = search arith
-
-target_by : (b : BoardValue) (v : Values) (word : ℕ) (k t : Core) (s : Status)
-    → core_of b word ≡ Some k → v.status k.number ≡ s → off_target b v k s ≡ Ok t
-    → IsTarget b v word t
-target_by b v word k t statuses.Off named is e =
-    target_if b v word _ k t (v.known k.number == b.starts) named is refl e
-target_by b v word k t s named is e = absurd (cc)
-
-target_may : (b : BoardValue) (v : Values) (word : ℕ) (k t : Core) (code : Code) (may : Bool)
-    → core_of b word ≡ Some k
-    → cond may (off_target b v k (v.status k.number)) (Err code) ≡ Ok t → IsTarget b v word t
-target_may b v word k t code true named e = target_by b v word k t (v.status k.number) named refl e
-target_may b v word k t code false named e = absurd (cc)
-
-target_is : (b : BoardValue) (v : Values) (word entry_point : ℕ) (t : Core) (o : Option Core)
-    → core_of b word ≡ o → target_among b v entry_point o ≡ Ok t → IsTarget b v word t
-target_is b v word entry_point t None named e = absurd (cc)
-target_is b v word entry_point t (Some k) named e =
-    target_may b v word k t _ (may_enter b entry_point) named e
-
 target_found : (b : BoardValue) (v : Values) (word entry_point : ℕ) (t : Core)
     → target_of b v word entry_point ≡ Ok t → IsTarget b v word t
 unfolding target_of
-target_found b v word entry_point t e = target_is b v word entry_point t (core_of b word) refl e
+target_found b v word entry_point t e = search (arith, nat_tests)
 
 off_is_away : (s : Status) (p : Phase) → agrees s p ≡ true → s ≡ statuses.Off → p ≡ Away
 off_is_away statuses.Off Away e f = refl

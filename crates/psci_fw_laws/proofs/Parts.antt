@@ -1,6 +1,7 @@
 -- Which messages claim something of a domain.
+use Rattle.psci_fw_laws.proofs.Words.{nat_tests}
 use Rattle.psci_fw_laws.proofs.Words.{◌&&◌, ◌==◌, ◌∷◌, ◌≡◌, ◌⊎◌, and_from, and_parts, ap}
-use Rattle.psci_fw_laws.proofs.Words.{BoardValue, Bool, cond, cond_both, Down, eq-eqb, eqb-false}
+use Rattle.psci_fw_laws.proofs.Words.{BoardValue, Bool, arith, cond_both, Down, eqb-false}
 use Rattle.psci_fw_laws.proofs.Words.{eqb-true, false, inl, inr, is_kind, IsClaimOn, IsFromMessage}
 use Rattle.psci_fw_laws.proofs.Words.{Kind, List, MessageValue, None, Option, Part, part_for, refl}
 use Rattle.psci_fw_laws.proofs.Words.{slice_get, Some, subst, suc, true, up, updated, zero, ℕ}
@@ -33,33 +34,13 @@ pub record HasPart (b : BoardValue) (life level place : ℕ) (m : MessageValue) 
   pub on : place ≡ up b level m.core.number
   pub part : slice_get m.parts level ≡ Some p
 
-some_if : (t : Bool) (o : Option Part) (p : Part) → cond t o None ≡ Some p
-    → (t ≡ true) × (o ≡ Some p)
-some_if true o p e = (refl, e)
-some_if false o p e = absurd (cc)
-
 pub part_has : (b : BoardValue) (life level place : ℕ) (m : MessageValue) (p : Part)
     → part_for b life level place m ≡ Some p → HasPart b life level place m p
-part_has b life level place m p e =
-    let both =
-    some_if (is_kind m.kind Down && (m.life == life && (place == up b level m.core.number)))
-    (slice_get m.parts level) p e in
-    let kind = and_parts (is_kind m.kind Down) _ both.0 in
-    let rest = and_parts (m.life == life) _ kind.1 in
-    record {
-      kind = kind_is m.kind kind.0;
-      present = eqb-true _ _ rest.0;
-      on = eqb-true _ _ rest.1;
-      part = both.1;
-    }
+part_has b life level place m p e = search (arith, nat_tests, kind_is)
 
 pub part_from : (b : BoardValue) (life level place : ℕ) (m : MessageValue) (p : Part)
     → HasPart b life level place m p → part_for b life level place m ≡ Some p
-part_from b life level place m p h =
-    let kind : is_kind m.kind Down ≡ true = ap (λ k. is_kind k Down) h.kind in
-    let test : (is_kind m.kind Down && (m.life == life && (place == up b level m.core.number)))
-    ≡ true = and_from _ _ kind (and_from _ _ (eq-eqb _ _ h.present) (eq-eqb _ _ h.on)) in
-    rw (test) h.part
+part_from b life level place m p h = grind (arith, nat_tests)
 
 -- Claims --------------------------------------------------------------------------------------
 

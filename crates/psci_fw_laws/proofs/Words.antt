@@ -6,6 +6,7 @@ pub use Rattle.std.proofs.Common.{subst, suc, sym, true, zero, ℕ}
 pub use Rattle.std.proofs.lemmas.Bool.{and_from, and_parts, cases_Bool, cases_eq, cases_lt}
 pub use Rattle.std.proofs.lemmas.Bool.{cond-true, cond_both, eq-eqb, eqb-false, eqb-true, lt-ltb}
 pub use Rattle.std.proofs.lemmas.Bool.{ltb-true, ne_eqb, or_left, or_right}
+pub use Rattle.std.proofs.lemmas.Bool.Decides.{nat_tests}
 pub use Rattle.std.proofs.lemmas.List.Sums.{sum_by-cons}
 pub use Rattle.std.proofs.lemmas.Option.{same_Some}
 pub use Rattle.std.specs.List.{list_all, list_any, range_with_len, sum_by}
