@@ -1,24 +1,23 @@
 -- What renumbered cores are answered, whatever the call.
-use Rattle.psci_fw_laws.proofs.Words.{◌&&◌, ◌==◌, ◌∙◌, ◌≡◌, ◌⊎◌, ap, arith, BoardValue, Bool}
-use Rattle.psci_fw_laws.proofs.Words.{enter_fault, eq-eqb, false, has_node, if◌then◌else◌, in_life}
-use Rattle.psci_fw_laws.proofs.Words.{is_path_place, None, not, Opening, Option, outcome_at}
-use Rattle.psci_fw_laws.proofs.Words.{outcome_by, refl, resumes, Some, Start, start_of_life, stops}
-use Rattle.psci_fw_laws.proofs.Words.{sym, true, up, Values, values_by, with_arrival, ℕ, AsksBy}
-use Rattle.psci_fw_laws.proofs.Words.{function_outcome, mode_of, node_of, call_fault, CallsBy}
-use Rattle.psci_fw_laws.proofs.Words.{Enter, Fault, FwCall, FwFault, Out, Outcome, reply_by}
-use Rattle.psci_fw_laws.proofs.Words.{reply_or, request_of, slot_of, Smc, SparesBoot, Take}
+use Rattle.psci_fw_laws.proofs.Words.{nat_tests, ◌&&◌, ◌==◌, ◌∙◌, ◌≡◌, ◌⊎◌, ap, arith, BoardValue}
+use Rattle.psci_fw_laws.proofs.Words.{Bool, enter_fault, eq-eqb, false, has_node, if◌then◌else◌}
+use Rattle.psci_fw_laws.proofs.Words.{in_life, is_path_place, None, not, Opening, Option}
+use Rattle.psci_fw_laws.proofs.Words.{outcome_at, outcome_by, refl, resumes, Some, Start}
+use Rattle.psci_fw_laws.proofs.Words.{start_of_life, stops, sym, true, up, Values, values_by}
+use Rattle.psci_fw_laws.proofs.Words.{with_arrival, ℕ, AsksBy, function_outcome, mode_of, node_of}
+use Rattle.psci_fw_laws.proofs.Words.{call_fault, CallsBy, Enter, Fault, FwCall, FwFault, Out}
+use Rattle.psci_fw_laws.proofs.Words.{Outcome, reply_by, reply_or, request_of, slot_of, Smc}
+use Rattle.psci_fw_laws.proofs.Words.{SparesBoot, Take}
 use Rattle.psci_fw_spec.specs.Entering.{enter_outcome, without_opening}
 use Rattle.psci_fw_spec.specs.Phases.{is_resumable}
-use Rattle.psci_fw_laws.proofs.Changing.{FindsBy, with_arrival-by}
+use Rattle.psci_fw_laws.proofs.Changing.{FindsBy, with_arrival-by, at_slot-by, taken-by}
 use Rattle.psci_fw_laws.proofs.Numberings.{Renumbers}
 use Rattle.psci_fw_laws.proofs.StoppingBy.{has_node-by, affinity-by, cpu_on-by, hw_state-by}
-use Rattle.psci_fw_laws.proofs.StoppingBy.{mode_asked-by}
-use Rattle.psci_fw_laws.proofs.StoppingBy.{chosen, cpu_off-by, cpu_suspend-by, system_message-by}
-use Rattle.psci_fw_laws.proofs.StoppingBy.{system_reset2-by, system_suspend-by}
+use Rattle.psci_fw_laws.proofs.StoppingBy.{mode_asked-by, chosen, cpu_off-by, cpu_suspend-by}
+use Rattle.psci_fw_laws.proofs.StoppingBy.{system_message-by, system_reset2-by, system_suspend-by}
 use Rattle.psci_abi.specs.declared.request.Request.{Request}
 use Rattle.psci_fw_spec.specs.Calls.{outcome_of}
 use Rattle.psci_fw_spec.specs.Answer.{answer}
-use Rattle.psci_fw_laws.proofs.Changing.{at_slot-by, taken-by}
 use Rattle.psci_fw_spec.specs.declared.status.Status.TheVariants as statuses
 use Rattle.psci_fw_spec.specs.Phases as phases
 use Rattle.psci_abi.specs.declared.request.Request.TheVariants as requests
@@ -35,10 +34,7 @@ module _ {b : BoardValue} {s : ℕ → ℕ → ℕ} (is : Renumbers b s) where
   -- and its path has the same places
   boot_path-by : (level place : ℕ) → s 0 0 ≡ 0
       → is_path_place b 0 level (s level place) ≡ is_path_place b 0 level place
-  boot_path-by level place boot =
-      let own : up b level 0 ≡ s level (up b level 0) =
-      ap (up b level) (sym boot) ∙ is.above level 0 in
-      grind (arith, is.back level place)
+  boot_path-by level place boot = grind (arith, nat_tests)
 
   first_confirmed-by : (level place : ℕ) → s 0 0 ≡ 0
       →
@@ -51,18 +47,7 @@ module _ {b : BoardValue} {s : ℕ → ℕ → ℕ} (is : Renumbers b s) where
 
   pub start_of_life-by : (life : ℕ) → s 0 0 ≡ 0
       → values_by s (start_of_life b life) ≡ start_of_life b life
-  start_of_life-by life boot = λ i. record (start_of_life b life) {
-    status = λ c. ap (λ (t : Bool). if t then statuses.Pending else statuses.Off)
-        (is_boot-by c boot) i;
-    phase = λ c. ap (λ (t : Bool). if t then phases.Pending else phases.Away)
-        (is_boot-by c boot) i;
-    opening = λ c. ap (λ (t : Bool). let o : Option Opening =
-        if t then Some (record { address = b.boot; context = 0 }) else None in o)
-        (is_boot-by c boot) i;
-    granted = λ level place. ap (λ (t : Bool). if t then 3 else 0)
-        (first_confirmed-by level place boot) i;
-    confirmed = λ level place. first_confirmed-by level place boot i;
-  }
+  start_of_life-by life boot = grind (arith, nat_tests, is_boot-by, first_confirmed-by)
 
   found-by : (life : ℕ) (v : Values) (t : Bool) → s 0 0 ≡ 0
       → (if t then values_by s v else start_of_life b life)

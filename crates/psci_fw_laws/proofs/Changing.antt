@@ -1,15 +1,15 @@
 -- What happens to outstanding messages and to the values of renumbered cores.
-use Rattle.psci_fw_laws.proofs.Words.{◌&&◌, ◌==◌, ◌≡◌, Acknowledge, acknowledgement_by, AckValue}
-use Rattle.psci_fw_laws.proofs.Words.{answers, ap, arith, BoardValue, Bool, changed, Clear, Core}
-use Rattle.psci_fw_laws.proofs.Words.{core_by, Down, false, if◌then◌else◌, is_slot, Kind, left_by}
-use Rattle.psci_fw_laws.proofs.Words.{message_by, MessageValue, None, OfCore, OfSystem, Option}
-use Rattle.psci_fw_laws.proofs.Words.{option_map, Put, refl, Slot, slot_of, Some, sym, taken, true}
-use Rattle.psci_fw_laws.proofs.Words.{Values, values_by, with_slots, ℕ, ◌∙◌, below, claimed_or}
-use Rattle.psci_fw_laws.proofs.Words.{cleared, confirms_on, granted_with, in_life, is_away, is_kind}
-use Rattle.psci_fw_laws.proofs.Words.{is_made_at, is_path_place, nat_lt, Node, node_by, Part, Phase}
-use Rattle.psci_fw_laws.proofs.Words.{PowerOn, Rest, Start, sum_by, turns_off, up, updated}
-use Rattle.psci_fw_laws.proofs.Words.{with_acknowledgement, with_arrival, with_claims, with_halt}
-use Rattle.psci_fw_laws.proofs.Words.{with_pending, with_rest, with_running}
+use Rattle.psci_fw_laws.proofs.Words.{nat_tests, ◌&&◌, ◌==◌, ◌≡◌, Acknowledge, acknowledgement_by}
+use Rattle.psci_fw_laws.proofs.Words.{AckValue, answers, ap, arith, BoardValue, Bool, changed}
+use Rattle.psci_fw_laws.proofs.Words.{Clear, Core, core_by, Down, false, if◌then◌else◌, is_slot}
+use Rattle.psci_fw_laws.proofs.Words.{Kind, left_by, message_by, MessageValue, None, OfCore}
+use Rattle.psci_fw_laws.proofs.Words.{OfSystem, Option, option_map, Put, refl, Slot, slot_of, Some}
+use Rattle.psci_fw_laws.proofs.Words.{sym, taken, true, Values, values_by, with_slots, ℕ, ◌∙◌}
+use Rattle.psci_fw_laws.proofs.Words.{below, claimed_or, cleared, confirms_on, granted_with}
+use Rattle.psci_fw_laws.proofs.Words.{in_life, is_away, is_kind, is_made_at, is_path_place, nat_lt}
+use Rattle.psci_fw_laws.proofs.Words.{Node, node_by, Part, Phase, PowerOn, Rest, Start, sum_by}
+use Rattle.psci_fw_laws.proofs.Words.{turns_off, up, updated, with_acknowledgement, with_arrival}
+use Rattle.psci_fw_laws.proofs.Words.{with_claims, with_halt, with_pending, with_rest, with_running}
 use Rattle.psci_messages.specs.Slots.{Change, ClearAll, is_done}
 use Rattle.psci_fw_laws.specs.Renumbered.{slot_by}
 use Rattle.psci_fw_laws.proofs.Numberings.{other_test, Renumbers, node_back, sum-below}
@@ -38,10 +38,7 @@ slot_of-by s kind core = refl
 
 module _ {b : BoardValue} {s : ℕ → ℕ → ℕ} (is : Renumbers b s) where
   is_slot-by : (t u : Slot) → is_slot (slot_by s t) u ≡ is_slot t (slot_by s u)
-  is_slot-by (OfCore c) (OfCore d) = sym (other_test is c d)
-  is_slot-by (OfCore c) OfSystem = refl
-  is_slot-by OfSystem (OfCore d) = refl
-  is_slot-by OfSystem OfSystem = refl
+  is_slot-by x0 x1 = grind (arith, nat_tests, other_test)
 
   slot_back : (t : Slot) → slot_by s (slot_by s t) ≡ t
   slot_back (OfCore c) = ap OfCore (is.back 0 c)
@@ -54,10 +51,7 @@ module _ {b : BoardValue} {s : ℕ → ℕ → ℕ} (is : Renumbers b s) where
 
   pub answers-by : (a : AckValue) (m : MessageValue)
       → answers (acknowledgement_by s a) (message_by s m) ≡ answers a m
-  answers-by a m =
-      let same : (s 0 a.core.number == s 0 m.core.number) ≡ (a.core.number == m.core.number) =
-      grind (arith, is.back 0 a.core.number, is.back 0 m.core.number) in
-      rw same
+  answers-by a m = grind (arith, nat_tests)
 
   if-map : (t : Bool) (o p : Option MessageValue)
       → (if t then option_map (message_by s) o else option_map (message_by s) p)
@@ -86,10 +80,7 @@ module _ {b : BoardValue} {s : ℕ → ℕ → ℕ} (is : Renumbers b s) where
   changed-by : (slot : Slot) (change : Change) (o : Option MessageValue)
       → changed slot (change_by s change) (option_map (message_by s) o)
       ≡ option_map (message_by s) (changed (slot_by s slot) change o)
-  changed-by slot (Put m) o = grind (arith, is_of-by, if-map)
-  changed-by slot (Clear core) o = grind (arith, is_slot-by, core, if-map)
-  changed-by slot ClearAll o = refl
-  changed-by slot (Acknowledge a) o = grind (arith, is_of-by, left_by-by, if-map)
+  changed-by slot x1 o = grind (arith, nat_tests, is_slot-by, is_of-by, if-map, left_by-by)
 
   pub with_slots-by : (change : Change) (v : Values)
       → with_slots (change_by s change) (values_by s v) ≡ values_by s (with_slots change v)
@@ -142,21 +133,7 @@ module _ {b : BoardValue} {s : ℕ → ℕ → ℕ} (is : Renumbers b s) where
 
   pub with_claims-by : (m : MessageValue) (v : Values)
       → with_claims b (message_by s m) (values_by s v) ≡ values_by s (with_claims b m v)
-  with_claims-by m v =
-      let c : ℕ = m.core.number in
-      let claimed : Values = record v {
-        granted = granted_with b c m.parts v.granted;
-        confirmed = claimed_anew b c m.parts v.confirmed;
-      } in
-      ap (with_sent (message_by s m)) (λ i. record (values_by s v) {
-        granted = λ level place. on_path-by c level place
-            (claimed_or (slice_get m.parts level) (v.granted level (s level place)))
-            (v.granted level (s level place)) i;
-        confirmed = λ level place. on_path-by c level place
-            (unless_claimed (slice_get m.parts level) (v.confirmed level (s level place)))
-            (v.confirmed level (s level place)) i;
-      })
-      ∙ with_slots-by is (Put m) claimed
+  with_claims-by m v = grind (arith, nat_tests, with_slots-by, on_path-by)
 
   pub with_halt-by : (m : MessageValue) (v : Values)
       → with_halt (message_by s m) (values_by s v) ≡ values_by s (with_halt m v)
@@ -164,24 +141,7 @@ module _ {b : BoardValue} {s : ℕ → ℕ → ℕ} (is : Renumbers b s) where
 
   pub with_pending-by : (asked : PowerOn) (v : Values)
       → with_pending b (power_on_by s asked) (values_by s v) ≡ values_by s (with_pending b asked v)
-  with_pending-by asked v =
-      let c : ℕ = target asked in
-      let pending : Values = record v {
-        status = updated v.status c statuses.Pending;
-        phase = updated v.phase c phases.Pending;
-        opening = updated v.opening c (Some asked.opening);
-        granted = cleared b c v.granted;
-        confirmed = unconfirmed b c v.confirmed;
-      } in
-      ap (with_sent (message_by s asked.message)) (λ i. record (values_by s v) {
-        status = updated-by is v.status c statuses.Pending i;
-        phase = updated-by is v.phase c phases.Pending i;
-        opening = updated-by is v.opening c (Some asked.opening) i;
-        granted = λ level place. on_path-by c level place 0 (v.granted level (s level place)) i;
-        confirmed = λ level place. on_path-by c level place false
-            (v.confirmed level (s level place)) i;
-      })
-      ∙ with_slots-by is (Put asked.message) pending
+  with_pending-by asked v = grind (arith, nat_tests, updated-by, with_slots-by, on_path-by)
 
   -- Entries ---------------------------------------------------------------------------------------
 
@@ -210,10 +170,7 @@ module _ {b : BoardValue} {s : ℕ → ℕ → ℕ} (is : Renumbers b s) where
 
   pub with_running-by : (c : ℕ) (v : Values)
       → with_running (s 0 c) (values_by s v) ≡ values_by s (with_running c v)
-  with_running-by c v = λ i. record (values_by s v) {
-    status = updated-by is v.status c statuses.On i;
-    phase = updated-by is v.phase c phases.Running i;
-  }
+  with_running-by c v = grind (arith, nat_tests, updated-by)
 
   -- Acknowledgements ------------------------------------------------------------------------------
 
@@ -258,12 +215,7 @@ module _ {b : BoardValue} {s : ℕ → ℕ → ℕ} (is : Renumbers b s) where
       ≡
       (λ k. updated v.status a.core.number
       (if turns_off v a then statuses.Off else v.status a.core.number) (s 0 k))
-  acknowledged_status-by a v =
-      let c : ℕ = a.core.number in
-      ap (λ (k : ℕ). updated (λ j. v.status (s 0 j)) (s 0 c)
-      (if (is_kind a.kind Down && nat_lt 0 a.applied) && is_away (v.phase k) then statuses.Off
-      else v.status k)) (is.back 0 c)
-      ∙ updated-by is v.status c (if turns_off v a then statuses.Off else v.status c)
+  acknowledged_status-by a v = grind (arith, nat_tests, updated-by)
 
   pub with_acknowledgement-by : (a : AckValue) (v : Values)
       → with_acknowledgement b (acknowledgement_by s a) (values_by s v)

@@ -1,11 +1,11 @@
 -- No claim is above the known starts below its domain; claims of one domain stay apart, and below a
 -- current one no core runs.
-use Rattle.psci_fw_laws.proofs.Words.{◌<◌, ◌≡◌, ◌≤◌, ap, AreQuiet, AreSent, arith, BoardValue, Bool}
-use Rattle.psci_fw_laws.proofs.Words.{cores, inl, inr, IsClaimOn, IsFromMessage, known_below, List}
-use Rattle.psci_fw_laws.proofs.Words.{MessageValue, Part, Phase, Running, subst, sym, up, updated}
-use Rattle.psci_fw_laws.proofs.Words.{ℕ, ◌∙◌, ◌∷◌, [], AreRising, cases_eq, Down, false}
-use Rattle.psci_fw_laws.proofs.Words.{first_phase, is_kind, known_on, part_for, refl, slice_get}
-use Rattle.psci_fw_laws.proofs.Words.{Some, suc, zero}
+use Rattle.psci_fw_laws.proofs.Words.{nat_tests, ◌<◌, ◌≡◌, ◌≤◌, ap, AreQuiet, AreSent, arith}
+use Rattle.psci_fw_laws.proofs.Words.{BoardValue, Bool, cores, inl, inr, IsClaimOn, IsFromMessage}
+use Rattle.psci_fw_laws.proofs.Words.{known_below, List, MessageValue, Part, Phase, Running, subst}
+use Rattle.psci_fw_laws.proofs.Words.{sym, up, updated, ℕ, ◌∙◌, ◌∷◌, [], AreRising, cases_eq, Down}
+use Rattle.psci_fw_laws.proofs.Words.{false, first_phase, is_kind, known_on, part_for, refl}
+use Rattle.psci_fw_laws.proofs.Words.{slice_get, Some, suc, zero}
 use Rattle.psci_fw_laws.proofs.Parts.{part_has, updated_at, updated_here, updated_there, claim_more}
 use Rattle.psci_fw_laws.proofs.Parts.{no_part}
 use Rattle.psci_fw_laws.proofs.Sums.{known_less, known_same}
@@ -107,18 +107,12 @@ apart_new {b} {sent} {m} above are =
     record { later = apart_later b sent m above are; start = apart_start b sent m above are }
 
 pub apart_none : {b : BoardValue} → AreRising b []
-apart_none = record {
-  later = λ life level place j k m n p q h i. absurd (cc);
-  start = λ life level place k m p i. absurd (cc);
-}
+apart_none = grind (arith, nat_tests)
 
 -- a message that is no Down
 pub above_other : {b : BoardValue} {sent : List MessageValue} {m : MessageValue}
     → is_kind m.kind Down ≡ false → IsAbove b sent m
-above_other {b} {m = m} other = record {
-  later = λ life level place p q e f. absurd (no_part b life level place p m other e);
-  start = λ life level place p e. absurd (no_part b life level place p m other e);
-}
+above_other {b} {m = m} other = grind (arith, nat_tests, no_part)
 
 -- a new Down of a core on whose path no claim is current
 pub above_down : {b : BoardValue} {life : ℕ} {known : ℕ → ℕ} {sent : List MessageValue} {c : ℕ}

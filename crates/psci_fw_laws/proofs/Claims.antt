@@ -1,10 +1,10 @@
 -- Claims of renumbered cores, and the last-core check.
-use Rattle.psci_fw_laws.proofs.Words.{◌+◌, ◌∙◌, ◌≡◌, ap, BoardValue, domain_of, height, least_wish}
-use Rattle.psci_fw_laws.proofs.Words.{List, Node, node_by, not, off_wish, own_claims, own_wish}
-use Rattle.psci_fw_laws.proofs.Words.{platform_claims, PowerView, refl, suc, zero, ℕ, ◌&&◌, ◌-◌}
-use Rattle.psci_fw_laws.proofs.Words.{◌==◌, ◌||◌, ◌∷◌, [], arith, Bool, cases_Bool, children_at}
-use Rattle.psci_fw_laws.proofs.Words.{false, filter, first_child, inl, inr, length, list_any}
-use Rattle.psci_fw_laws.proofs.Words.{lt-ltb, map, nat_lt, range_with_len, sym, true, up}
+use Rattle.psci_fw_laws.proofs.Words.{nat_tests, ◌+◌, ◌∙◌, ◌≡◌, ap, BoardValue, domain_of, height}
+use Rattle.psci_fw_laws.proofs.Words.{least_wish, List, Node, node_by, not, off_wish, own_claims}
+use Rattle.psci_fw_laws.proofs.Words.{own_wish, platform_claims, PowerView, refl, suc, zero, ℕ}
+use Rattle.psci_fw_laws.proofs.Words.{◌&&◌, ◌-◌, ◌==◌, ◌||◌, ◌∷◌, [], arith, Bool, cases_Bool}
+use Rattle.psci_fw_laws.proofs.Words.{children_at, false, filter, first_child, inl, inr, length}
+use Rattle.psci_fw_laws.proofs.Words.{list_any, lt-ltb, map, nat_lt, range_with_len, sym, true, up}
 use Rattle.psci_messages.specs.Claim.{climb, claims_of, off_claims}
 use Rattle.psci_messages.specs.View.{generation, is_all_away, is_idle, least_ask}
 use Rattle.psci_fw_laws.proofs.Numberings.{Renumbers, all-below, least-below, sum-below, node_back}
@@ -100,10 +100,7 @@ module _ {b : BoardValue} {s : ℕ → ℕ → ℕ} (is : Renumbers b s) where
 any-filter : {X : Type 0} (f p : X → Bool) (xs : List X)
     → list_any f (filter p xs) ≡ list_any (λ x. p x && f x) xs
 any-filter f p [] = refl
-any-filter f p (x ∷ xs) = elim (cases_Bool (p x)) [
-  | inl t ↦ rw (t, any-filter f p xs)
-  | inr t ↦ rw (t, any-filter f p xs)
-]
+any-filter f p (x ∷ xs) = grind (arith, nat_tests, cases_Bool, any-filter f p xs)
 
 any-map : {X : Type 0} (f : X → Bool) (h : ℕ → X) (ks : List ℕ)
     → list_any f (map h ks) ≡ list_any (λ k. f (h k)) ks
@@ -114,9 +111,7 @@ pub any-flat_map : {X : Type 0} (f : X → Bool) (h : ℕ → List X) (ks : List
     → list_any f (flat_map h ks) ≡ list_any (λ k. list_any f (h k)) ks
 any-flat_map f h [] = refl
 any-flat_map f h (k ∷ ks) =
-    ap (list_any f) (flat_map-cons h k ks)
-    ∙ (list_any-append f (h k) (flat_map h ks)
-    ∙ ap (λ (r : Bool). list_any f (h k) || r) (any-flat_map f h ks))
+    grind (arith, nat_tests, flat_map-cons, list_any-append, any-flat_map f h ks)
 
 pub some-any : {X : Type 0} (xs : List X) → nat_lt 0 (length xs) ≡ list_any (λ x. true) xs
 some-any [] = refl
@@ -147,11 +142,7 @@ module _ {b : BoardValue} {s : ℕ → ℕ → ℕ} (is : Renumbers b s) where
   beside-by : (w : PowerView) (f g : Node → Bool) (c level depth k : ℕ) → AgreeBy s f g
       → is_beside (view_by s w) f level (up b level (s 0 c)) depth k
       ≡ is_beside w g level (up b level c) depth (s level k)
-  beside-by w f g c level depth k agree =
-      let n : Node = record { level = level; place = k } in
-      let own : (k == up b level (s 0 c)) ≡ (s level k == up b level c) =
-      grind (arith, is.above level c, is.back level k, is.back level (up b level c)) in
-      rw (own, agree n)
+  beside-by w f g c level depth k agree = grind (arith, nat_tests)
 
   any-at : (w : PowerView) (f g : Node → Bool) (c : ℕ) (ask : List ℕ) (level : ℕ) → AgreeBy s f g
       → list_any f (shallow_at b (view_by s w) (s 0 c) ask level)

@@ -1,11 +1,10 @@
 -- What an acknowledgement confirms, exactly, and what NODE_HW_STATE says then.
-use Rattle.psci_fw_laws.proofs.Words.{nat_tests}
-use Rattle.psci_fw_laws.proofs.Words.{◌&&◌, ◌<◌, ◌==◌, ◌∙◌, ◌≡◌, ◌⊎◌, AckValue, and_from, and_parts}
-use Rattle.psci_fw_laws.proofs.Words.{ap, arith, below, BoardValue, Bool, cond, confirms_on, Down}
-use Rattle.psci_fw_laws.proofs.Words.{eq-eqb, eqb-true, false, inl, inr, is_kind, is_made_at}
-use Rattle.psci_fw_laws.proofs.Words.{lt-ltb, ltb-true, MessageValue, Node, None, Option, Part}
-use Rattle.psci_fw_laws.proofs.Words.{refl, slice_get, slot_of, Some, suc, sum_by, sym, true, up}
-use Rattle.psci_fw_laws.proofs.Words.{Values, with_acknowledgement, zero, ℕ}
+use Rattle.psci_fw_laws.proofs.Words.{nat_tests, ◌&&◌, ◌<◌, ◌==◌, ◌∙◌, ◌≡◌, ◌⊎◌, AckValue, and_from}
+use Rattle.psci_fw_laws.proofs.Words.{and_parts, ap, arith, below, BoardValue, Bool, cond}
+use Rattle.psci_fw_laws.proofs.Words.{confirms_on, Down, eq-eqb, eqb-true, false, inl, inr, is_kind}
+use Rattle.psci_fw_laws.proofs.Words.{is_made_at, lt-ltb, ltb-true, MessageValue, Node, None}
+use Rattle.psci_fw_laws.proofs.Words.{Option, Part, refl, slice_get, slot_of, Some, suc, sum_by}
+use Rattle.psci_fw_laws.proofs.Words.{sym, true, up, Values, with_acknowledgement, zero, ℕ}
 use Rattle.psci_messages.specs.OnlyIf.{only_if}
 use Rattle.psci_fw_spec.specs.NodeHwState.{hw_at, node_hw}
 use Rattle.psci_fw_spec.specs.declared.hw.Hw.{Hw}

@@ -1,11 +1,11 @@
 -- What follows from what is kept.
-use Rattle.psci_fw_laws.proofs.Words.{◌+◌, ◌<◌, ◌∙◌, ◌∷◌, ◌≡◌, ◌≤◌, ◌⊎◌, [], activity_of, agrees}
-use Rattle.psci_fw_laws.proofs.Words.{ap, AreClaims, ArePartsOf, AreRising, AreValues, arith, ask}
-use Rattle.psci_fw_laws.proofs.Words.{asks, Away, BoardValue, cores, Down, false, height, Holds}
-use Rattle.psci_fw_laws.proofs.Words.{inl, inr, is_on, IsClaimOn, IsCurrent, Kind, length, List}
-use Rattle.psci_fw_laws.proofs.Words.{MessageValue, Node, Part, part_for, PartByPart, PathLaws}
-use Rattle.psci_fw_laws.proofs.Words.{Pending, Phase, refl, Running, slice_get, Some, SpanLaws}
-use Rattle.psci_fw_laws.proofs.Words.{Status, subst, Suspended, sym, true, up, Values, ℕ}
+use Rattle.psci_fw_laws.proofs.Words.{nat_tests, ◌+◌, ◌<◌, ◌∙◌, ◌∷◌, ◌≡◌, ◌≤◌, ◌⊎◌, [], activity_of}
+use Rattle.psci_fw_laws.proofs.Words.{agrees, ap, AreClaims, ArePartsOf, AreRising, AreValues}
+use Rattle.psci_fw_laws.proofs.Words.{arith, ask, asks, Away, BoardValue, cores, Down, false}
+use Rattle.psci_fw_laws.proofs.Words.{height, Holds, inl, inr, is_on, IsClaimOn, IsCurrent, Kind}
+use Rattle.psci_fw_laws.proofs.Words.{length, List, MessageValue, Node, Part, part_for, PartByPart}
+use Rattle.psci_fw_laws.proofs.Words.{PathLaws, Pending, Phase, refl, Running, slice_get, Some}
+use Rattle.psci_fw_laws.proofs.Words.{SpanLaws, Status, subst, Suspended, sym, true, up, Values, ℕ}
 use Rattle.psci_messages.specs.View.{generation}
 use Rattle.psci_fw_spec.specs.Views.{view}
 use Rattle.psci_fw_laws.specs.Entered.{AreEntered}
@@ -62,10 +62,7 @@ once_down b v sent holds j k m n at_j at_k kind_m kind_n core life number =
 -- Granted depths ------------------------------------------------------------------------------
 
 asks_nothing : (p : Phase) → (p ≡ Running) ⊎ (p ≡ Pending) → asks (activity_of p) 0 ≡ 0
-asks_nothing p e = elim e [
-  | inl runs ↦ ap (λ x. asks (activity_of x) 0) runs
-  | inr waits ↦ ap (λ x. asks (activity_of x) 0) waits
-]
+asks_nothing p e = grind (arith, nat_tests)
 
 pub none_active : (b : BoardValue) (v : Values) (c level : ℕ) → PathLaws b → AreValues b v
     → c < cores b → level ≤ height b → 0 < v.granted level (up b level c)
@@ -109,12 +106,7 @@ deeper b v sent c level p by_part are holds on high claim current rests =
 
 pub entered : (b : BoardValue) (v : Values) (sent : List MessageValue) → AreValues b v
     → Holds b v sent → AreEntered v.known v.status v.phase
-entered b v sent are holds = record {
-  runs = λ c e. grind (arith, are.agree c, holds.entered c);
-  suspended = λ c ask e. grind (arith, are.agree c, holds.entered c);
-  away = λ c e. grind (arith, are.agree c, holds.entered c);
-  not_on = holds.entered;
-}
+entered b v sent are holds = grind (arith, nat_tests)
 
 -- Limits --------------------------------------------------------------------------------------
 
@@ -144,13 +136,5 @@ equal_each b f g level place c le same on at =
     grind (arith, known_less b f g level place c le on at)
 
 pub known_laws : (b : BoardValue) → PathLaws b → SpanLaws b.levels → KnownLaws b
-known_laws b paths spans = record {
-  le = known_le b;
-  less = known_less b;
-  each = equal_each b;
-  same = known_same b;
-  own = λ f c on. known_own b f c spans on;
-  rises = λ f c level. known_rises b f c level paths;
-  gap = λ f g c level h. known_gap b f g c level paths h;
-  most = known_most b;
-}
+known_laws b paths spans =
+    grind (arith, nat_tests, known_gap, known_le, known_less, known_most, known_own, known_rises, known_same, equal_each)

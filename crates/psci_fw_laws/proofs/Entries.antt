@@ -1,27 +1,25 @@
 -- What a call, an entry or an acknowledgement is answered is allowed.
 use Rattle.std.proofs.Common.{is_some}
 use Rattle.std.specs.Prelude.{nat_le, nat_lt}
-use Rattle.psci_fw_laws.proofs.Words.{nat_tests}
-use Rattle.psci_fw_laws.proofs.Words.{◌&&◌, ◌<◌, ◌==◌, ◌||◌, ◌∙◌, ◌≡◌, ◌≤◌, AckValue, activity_of}
-use Rattle.psci_fw_laws.proofs.Words.{answers, ap, AreValues, arith, asks, Away, BoardValue, Bool}
-use Rattle.psci_fw_laws.proofs.Words.{call_fault, cond, cond_both, cores, effect_of, Enter}
-use Rattle.psci_fw_laws.proofs.Words.{enter_effect, enter_fault, eqb-false, false, FwCall, FwFault}
-use Rattle.psci_fw_laws.proofs.Words.{in_life, IsCalling, IsEntering, ltb-true, MessageValue, None}
-use Rattle.psci_fw_laws.proofs.Words.{not, off_message, off_parts, Opening, Option, or_left}
-use Rattle.psci_fw_laws.proofs.Words.{or_right, Outcome, outcome_at, outcome_of, Parks, Pending}
-use Rattle.psci_fw_laws.proofs.Words.{Phase, refl, reply_or, resumes, Running, slot_of, Smc, Some}
-use Rattle.psci_fw_laws.proofs.Words.{Start, start_of_life, stops, stops_with, subst, sym, Take}
-use Rattle.psci_fw_laws.proofs.Words.{taken, true, unless_pending, Values, with_arrival, with_phase}
-use Rattle.psci_fw_laws.proofs.Words.{ℕ}
+use Rattle.psci_fw_laws.proofs.Words.{nat_tests, ◌&&◌, ◌<◌, ◌==◌, ◌||◌, ◌∙◌, ◌≡◌, ◌≤◌, AckValue}
+use Rattle.psci_fw_laws.proofs.Words.{activity_of, answers, ap, AreValues, arith, asks, Away}
+use Rattle.psci_fw_laws.proofs.Words.{BoardValue, Bool, call_fault, cond, cond_both, cores}
+use Rattle.psci_fw_laws.proofs.Words.{effect_of, Enter, enter_effect, enter_fault, eqb-false, false}
+use Rattle.psci_fw_laws.proofs.Words.{FwCall, FwFault, in_life, IsCalling, IsEntering, ltb-true}
+use Rattle.psci_fw_laws.proofs.Words.{MessageValue, None, not, off_message, off_parts, Opening}
+use Rattle.psci_fw_laws.proofs.Words.{Option, or_left, or_right, Outcome, outcome_at, outcome_of}
+use Rattle.psci_fw_laws.proofs.Words.{Parks, Pending, Phase, refl, reply_or, resumes, Running}
+use Rattle.psci_fw_laws.proofs.Words.{slot_of, Smc, Some, Start, start_of_life, stops, stops_with}
+use Rattle.psci_fw_laws.proofs.Words.{subst, sym, Take, taken, true, unless_pending, Values}
+use Rattle.psci_fw_laws.proofs.Words.{with_arrival, with_phase, ℕ}
 use Rattle.psci_fw_spec.specs.psci_abi.Calls.{request_of}
 use Rattle.psci_fw_spec.specs.psci_abi.declared.registers.Regs.{Regs}
 use Rattle.psci_fw_spec.specs.Answer.{answer}
 use Rattle.psci_fw_spec.specs.Entering.{enter_outcome, is_old}
 use Rattle.psci_fw_spec.specs.Phases.{is_running}
-use Rattle.psci_fw_laws.proofs.Lower.{Allows, IsReady}
+use Rattle.psci_fw_laws.proofs.Lower.{Allows, IsReady, LowerLaws}
 use Rattle.psci_fw_laws.proofs.Arriving.{found_life}
 use Rattle.psci_fw_laws.proofs.Functions.{call_allowed}
-use Rattle.psci_fw_laws.proofs.Lower.{LowerLaws}
 use Rattle.psci_fw_laws.proofs.Made.{new_claim, off_made}
 use Rattle.psci_fw_laws.proofs.Parts.{updated_here}
 use Rattle.psci_messages.specs.declared.taken.Taken.TheVariants as takens
@@ -91,11 +89,8 @@ module _ {b : BoardValue} {v : Values} (laws : LowerLaws b) (ready : IsReady b v
       stays_away p ne = refl
 
   arrival_allowed : (c : ℕ) (s : Start) (o : Option Opening) → IsEntering b v c s → (in_life b s.life v).halting ≡ false → (in_life b s.life v).opening c ≡ o → let found = in_life b s.life v in let outcome = outcome_at b found (with_arrival b c s v) c s o in Allows b v (enter_effect c s outcome.act outcome.message)
-  arrival_allowed c s (Some o) enters awake e = λ are. record {
-    enters = enters;
-    awake = awake;
-    asked = or_left _ (resumes (in_life b s.life v) c s) (ap is_some e);
-  }
+  arrival_allowed c s (Some o) enters awake e =
+      grind (arith, nat_tests, or_left, or_right, parks_allowed)
   arrival_allowed c s None enters awake e =
       by_test (resumes (in_life b s.life v) c s) refl
     where

@@ -1,10 +1,10 @@
 -- A fold over numbers does not depend on the order of two of them, if its steps commute; and what is
 -- counted over numbers is such a fold.
-use Rattle.psci_fw_laws.proofs.Words.{◌+◌, ◌<◌, ◌==◌, ◌∙◌, ◌∷◌, ◌≡◌, ◌≤◌, ◌⊎◌, [], ap, arith, Bool}
-use Rattle.psci_fw_laws.proofs.Words.{cases_eq, if◌then◌else◌, inl, inr, List, range_with_len, refl}
-use Rattle.psci_fw_laws.proofs.Words.{subst, suc, swap, sym, zero, ℕ, ◌&&◌, ◌||◌, cases_Bool, false}
-use Rattle.psci_fw_laws.proofs.Words.{filter, least, list_all, list_any, map, sum_by, sum_by-cons}
-use Rattle.psci_fw_laws.proofs.Words.{true}
+use Rattle.psci_fw_laws.proofs.Words.{nat_tests, ◌+◌, ◌<◌, ◌==◌, ◌∙◌, ◌∷◌, ◌≡◌, ◌≤◌, ◌⊎◌, [], ap}
+use Rattle.psci_fw_laws.proofs.Words.{arith, Bool, cases_eq, if◌then◌else◌, inl, inr, List}
+use Rattle.psci_fw_laws.proofs.Words.{range_with_len, refl, subst, suc, swap, sym, zero, ℕ, ◌&&◌}
+use Rattle.psci_fw_laws.proofs.Words.{◌||◌, cases_Bool, false, filter, least, list_all, list_any}
+use Rattle.psci_fw_laws.proofs.Words.{map, sum_by, sum_by-cons, true}
 use Rattle.std.proofs.Common.{min}
 
 -- a right fold
@@ -45,14 +45,8 @@ pull-first g z a n = grind (arith, alike, without-other, without-it)
 pull : {R : Type 0} (g : ℕ → R → R) (z : R) (a n x : ℕ) → Commutes g → a ≤ x → x < a + n
     → fold g z (range_with_len a n) ≡ g x (fold (without x g) z (range_with_len a n))
 pull g z a zero x c h i = absurd (omega arith)
-pull g z a (suc n) x c h i = elim (cases_eq a x) [
-  | inl same ↦ subst (λ (y : ℕ). fold g z (range_with_len a (suc n))
-      ≡ g y (fold (without y g) z (range_with_len a (suc n)))) same (pull-first g z a n)
-  | inr other ↦
-      let rest = pull g z (a + 1) n x c (omega arith) (omega arith) in
-      let keep = without-other g x a (fold (without x g) z (range_with_len (a + 1) n)) other in
-      ap (g a) rest ∙ c a x _ ∙ ap (g x) (sym keep)
-]
+pull g z a (suc n) x c h i =
+    grind (arith, nat_tests, cases_eq, fold, without, without-other, pull-first, pull g z (a + 1) n x c)
 
 -- Swapping --------------------------------------------------------------------------------------
 
@@ -151,10 +145,7 @@ passing-commutes p g c = λ i j r. passing-two g i j r (p i) (p j) c
 pub fold-filter : {R : Type 0} (p : ℕ → Bool) (g : ℕ → R → R) (z : R) (ks : List ℕ)
     → fold g z (filter p ks) ≡ fold (passing p g) z ks
 fold-filter p g z [] = refl
-fold-filter p g z (k ∷ ks) = elim (cases_Bool (p k)) [
-  | inl t ↦ rw t (ap (g k) (fold-filter p g z ks))
-  | inr t ↦ rw t (fold-filter p g z ks)
-]
+fold-filter p g z (k ∷ ks) = grind (arith, nat_tests, cases_Bool, fold-filter p g z ks)
 
 -- Counts ----------------------------------------------------------------------------------------
 

@@ -1,16 +1,15 @@
 -- What a function is answered is allowed: one that stops its caller, CPU_ON, and all others.
-use Rattle.psci_fw_laws.proofs.Words.{nat_tests}
-use Rattle.psci_fw_laws.proofs.Words.{◌∙◌, ◌≡◌, ◌≤◌, activity_of, ap, AreValues, ask_named, asks}
-use Rattle.psci_fw_laws.proofs.Words.{BoardValue, change, false, height, IsAsk, IsCalling, List}
-use Rattle.psci_fw_laws.proofs.Words.{message_for, off_message, off_parts, Ok, Opening, Part}
-use Rattle.psci_fw_laws.proofs.Words.{Pending, refl, Request, Rest, Rests, Running, slice_get, Some}
-use Rattle.psci_fw_laws.proofs.Words.{subst, suspend_asked, suspend_parts, Suspended, sym}
-use Rattle.psci_fw_laws.proofs.Words.{system_suspend, unless_pending, updated, Values, with_rest, ℕ}
-use Rattle.psci_fw_laws.proofs.Words.{◌==◌, agrees, arith, Away, Bool, Code, cond, Core, core_of}
-use Rattle.psci_fw_laws.proofs.Words.{eqb-false, Err, may_enter, None, off_target, Option, Phase}
-use Rattle.psci_fw_laws.proofs.Words.{start_outcome, Status, target_among, true, []}
-use Rattle.psci_fw_laws.proofs.Words.{function_outcome, Halts, is_system, IsAllowed, Kind}
-use Rattle.psci_fw_laws.proofs.Words.{outcome_of, system_reset2}
+use Rattle.psci_fw_laws.proofs.Words.{nat_tests, ◌∙◌, ◌≡◌, ◌≤◌, activity_of, ap, AreValues}
+use Rattle.psci_fw_laws.proofs.Words.{ask_named, asks, BoardValue, change, false, height, IsAsk}
+use Rattle.psci_fw_laws.proofs.Words.{IsCalling, List, message_for, off_message, off_parts, Ok}
+use Rattle.psci_fw_laws.proofs.Words.{Opening, Part, Pending, refl, Request, Rest, Rests, Running}
+use Rattle.psci_fw_laws.proofs.Words.{slice_get, Some, subst, suspend_asked, suspend_parts}
+use Rattle.psci_fw_laws.proofs.Words.{Suspended, sym, system_suspend, unless_pending, updated}
+use Rattle.psci_fw_laws.proofs.Words.{Values, with_rest, ℕ, ◌==◌, agrees, arith, Away, Bool, Code}
+use Rattle.psci_fw_laws.proofs.Words.{cond, Core, core_of, eqb-false, Err, may_enter, None}
+use Rattle.psci_fw_laws.proofs.Words.{off_target, Option, Phase, start_outcome, Status}
+use Rattle.psci_fw_laws.proofs.Words.{target_among, true, [], function_outcome, Halts, is_system}
+use Rattle.psci_fw_laws.proofs.Words.{IsAllowed, Kind, outcome_of, system_reset2}
 use Rattle.psci_messages.specs.psci_state.Ask.{deepest_of}
 use Rattle.psci_fw_spec.specs.Effects.{going_off, rest_named, suspends}
 use Rattle.psci_fw_spec.specs.Invariant.{IsPhase}
@@ -172,20 +171,7 @@ module _ {b : BoardValue} {v : Values} {c : ℕ} (laws : LowerLaws b) (ready : I
     (calls : IsCalling b v c) (awake : v.halting ≡ false) where
   halt_allowed : (kind : Kind) → is_system kind ≡ true
       → IsAllowed b v (Halts c (message_for v kind c []))
-  halt_allowed kind system = record {
-    calls = calls;
-    awake = awake;
-    plain = record {
-      life = calls.begun;
-      present = refl;
-      core = calls.core;
-      number = refl;
-      limit = ready.values.known c;
-      parts = refl;
-      other = system_other kind system;
-    };
-    system = system;
-  }
+  halt_allowed kind system = search (arith, nat_tests, system_other)
 
   -- SYSTEM_RESET2 halts by type 0, and returns by every other
   reset2_allowed : (reset_type cookie : ℕ)

@@ -1,16 +1,15 @@
 -- What is granted is what current claims say, after each change.
 use Rattle.std.proofs.lemmas.Bool.{not-true, not_from_false}
-use Rattle.psci_fw_laws.proofs.Words.{◌&&◌, ◌<◌, ◌==◌, ◌∙◌, ◌∷◌, ◌≡◌, and_from, and_parts, ap}
-use Rattle.psci_fw_laws.proofs.Words.{AreSent, arith, BoardValue, Bool, cases_eq, claimed_or}
-use Rattle.psci_fw_laws.proofs.Words.{cleared, cond, cond-true, cond_both, cores, Down, eqb-false}
-use Rattle.psci_fw_laws.proofs.Words.{eqb-true, false, granted_with, has_node, inl, inr, is_kind}
-use Rattle.psci_fw_laws.proofs.Words.{is_path_place, IsFromMessage, known_below, List, MessageValue}
-use Rattle.psci_fw_laws.proofs.Words.{None, not, Option, Part, Pending, Phase, refl, slice_get}
-use Rattle.psci_fw_laws.proofs.Words.{Some, sym, true, up, updated, ℕ}
+use Rattle.psci_fw_laws.proofs.Words.{nat_tests, ◌&&◌, ◌<◌, ◌==◌, ◌∙◌, ◌∷◌, ◌≡◌, and_from}
+use Rattle.psci_fw_laws.proofs.Words.{and_parts, ap, AreSent, arith, BoardValue, Bool, cases_eq}
+use Rattle.psci_fw_laws.proofs.Words.{claimed_or, cleared, cond, cond-true, cond_both, cores, Down}
+use Rattle.psci_fw_laws.proofs.Words.{eqb-false, eqb-true, false, granted_with, has_node, inl, inr}
+use Rattle.psci_fw_laws.proofs.Words.{is_kind, is_path_place, IsFromMessage, known_below, List}
+use Rattle.psci_fw_laws.proofs.Words.{MessageValue, None, not, Option, Part, Pending, Phase, refl}
+use Rattle.psci_fw_laws.proofs.Words.{slice_get, Some, sym, true, up, updated, ℕ}
 use Rattle.psci_fw_spec.specs.Lives.{first_granted}
 use Rattle.psci_fw_laws.specs.Granted.{AreGranted, HasCurrent}
-use Rattle.psci_fw_laws.proofs.Claiming.{IsNewDown}
-use Rattle.psci_fw_laws.proofs.Claiming.{NoneCurrent, known_beside, none_arrived}
+use Rattle.psci_fw_laws.proofs.Claiming.{IsNewDown, NoneCurrent, known_beside, none_arrived}
 use Rattle.psci_fw_laws.proofs.Parts.{claim_before, claim_more, claim_new, claim_old, part_from}
 use Rattle.psci_fw_laws.proofs.Parts.{part_has, updated_at, updated_here, updated_there}
 use Rattle.psci_fw_laws.proofs.Sums.{known_none}
@@ -26,12 +25,7 @@ on_path P place at x y here there =
 current_more : {b : BoardValue} {life : ℕ} {known : ℕ → ℕ} {level place depth : ℕ}
     {sent : List MessageValue} (m : MessageValue) → HasCurrent b life known level place depth sent
     → HasCurrent b life known level place depth (m ∷ sent)
-current_more {b} {life} {level} {place} {sent} m has = record {
-  part = has.part;
-  claim = claim_old b life level place has.part m sent has.claim;
-  current = has.current;
-  deep = has.deep;
-}
+current_more {b} {life} {level} {place} {sent} m has = grind (arith, nat_tests, claim_old)
 
 module _ {b : BoardValue} {life : ℕ} {known : ℕ → ℕ} {phase : ℕ → Phase} {granted : ℕ → ℕ → ℕ}
     {sent : List MessageValue} (are : AreGranted b life known phase granted sent) where

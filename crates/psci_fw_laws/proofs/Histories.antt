@@ -1,9 +1,9 @@
 -- What is kept over histories, that each Down was asked for when it was sent, and the entry that
 -- begins a life, whatever was kept before it.
-use Rattle.psci_fw_laws.proofs.Words.{◌++◌, ◌∷◌, ◌≡◌, [], Acknowledges, AreValues, arith, AsksOn}
-use Rattle.psci_fw_laws.proofs.Words.{Away, BoardValue, change, Effect, effect, effect_of, Enters}
-use Rattle.psci_fw_laws.proofs.Words.{first_phase, FwCall, FwExchange, FwReply, GoesOn, Halts}
-use Rattle.psci_fw_laws.proofs.Words.{Holds, IsAllowed, IsLegal, List, listed, MessageValue}
+use Rattle.psci_fw_laws.proofs.Words.{nat_tests, ◌++◌, ◌∷◌, ◌≡◌, [], Acknowledges, AreValues, arith}
+use Rattle.psci_fw_laws.proofs.Words.{AsksOn, Away, BoardValue, change, Effect, effect, effect_of}
+use Rattle.psci_fw_laws.proofs.Words.{Enters, first_phase, FwCall, FwExchange, FwReply, GoesOn}
+use Rattle.psci_fw_laws.proofs.Words.{Halts, Holds, IsAllowed, IsLegal, List, listed, MessageValue}
 use Rattle.psci_fw_laws.proofs.Words.{Nothing, Parks, refl, Rests, sent, SetsMode, start_of_life}
 use Rattle.psci_fw_laws.proofs.Words.{Stops, StopsAtOnce, subst, sym, Values, values_of}
 use Rattle.psci_fw_laws.proofs.Words.{with_arrival, with_mode, with_phase, with_rest, ℕ, ◌∙◌, ap}
@@ -14,14 +14,12 @@ use Rattle.psci_fw_spec.specs.After.{after}
 use Rattle.psci_fw_spec.specs.Sent.{sent_messages}
 use Rattle.psci_fw_laws.proofs.Lower.{IsReady, LowerLaws}
 use Rattle.psci_fw_laws.proofs.Arriving.{arrived_new, arrives, first_not_on, runs, stays}
-use Rattle.psci_fw_laws.proofs.Claiming.{apart_none, quiet_life}
+use Rattle.psci_fw_laws.proofs.Claiming.{apart_none, quiet_life, NoneCurrent, none_running}
 use Rattle.psci_fw_laws.proofs.Consequences.{entered}
 use Rattle.psci_fw_laws.proofs.Entries.{answer_allowed}
 use Rattle.psci_fw_laws.proofs.Granting.{granted_life}
-use Rattle.psci_fw_laws.proofs.Claiming.{NoneCurrent, none_running}
-use Rattle.psci_fw_laws.proofs.Started.{claims, rests}
+use Rattle.psci_fw_laws.proofs.Started.{claims, rests, asks_on, halts, takes, not_down}
 use Rattle.psci_fw_laws.proofs.Sending.{outstanding_none}
-use Rattle.psci_fw_laws.proofs.Started.{asks_on, halts, takes, not_down}
 use Rattle.psci_fw_laws.specs.Asked.{IsAskedFor, WasAsked}
 use Rattle.std.specs.Prelude.{nat_lt}
 use Rattle.psci_fw_spec.specs.Answer.{answer}
@@ -75,15 +73,8 @@ after_effect b v messages (Acknowledges a) laws allowed holds = takes b v messag
 -- Histories -----------------------------------------------------------------------------------
 
 start_holds : (b : BoardValue) → Holds b (start_of_life b 0) []
-start_holds b = record {
-  lives = omega arith;
-  messages = λ k m at. absurd (cc);
-  apart = apart_none;
-  quiet = quiet_life (λ c. 0);
-  grants = granted_life (λ level place p f. let no = f.at in absurd (cc));
-  entered = λ c e. first_not_on c;
-  slots = outstanding_none;
-}
+start_holds b =
+    grind (arith, nat_tests, first_not_on, apart_none, quiet_life, entered, granted_life, outstanding_none)
 
 -- what the laws of psci_fw_spec say of histories
 pub record HistoryLaws (b : BoardValue) : Type 0 where
@@ -144,20 +135,7 @@ legal_holds b (e ∷ h) laws said legal =
 -- an effect that sends a Down leaves values by which it was asked for
 fair_after : (b : BoardValue) (v : Values) (e : Effect) (m : MessageValue) → IsAllowed b v e
     → sent e ≡ Some m → m.kind ≡ Down → IsAskedFor b (change b e v) m
-fair_after b v (AsksOn c asked) m allowed e down =
-    let same : asked.message ≡ m = cc in
-    absurd (not_down asked.message.kind allowed.plain.other
-    (ap (λ (x : MessageValue). x.kind) same ∙ down))
-fair_after b v (Rests c rest n) m allowed e down =
-    let same : n ≡ m = cc in
-    subst (IsAskedFor b (change b (Rests c rest n) v)) same (assumption allowed.claim.fair)
-fair_after b v (Halts c n) m allowed e down =
-    let same : n ≡ m = cc in
-    absurd (not_down n.kind allowed.plain.other (ap (λ (x : MessageValue). x.kind) same ∙ down))
-fair_after b v (Parks c s n) m allowed e down =
-    let same : n ≡ m = cc in
-    subst (IsAskedFor b (change b (Parks c s n) v)) same (assumption allowed.claim.fair)
-fair_after b v effect m allowed e down = absurd (cc)
+fair_after b v effect m allowed e down = grind (arith, nat_tests, not_down)
 
 earlier : (b : BoardValue) (e : FwExchange) (h : List FwExchange) (m : MessageValue)
     → WasAsked b h m → WasAsked b (e ∷ h) m
@@ -208,10 +186,7 @@ pub was_asked : (b : BoardValue) (h : List FwExchange)
     (m : MessageValue) → slice_get (sent_messages b h) k ≡ Some m → m.kind ≡ Down → WasAsked b h m
 was_asked b [] steps legal k m at down = absurd (none_sent b k m at)
 was_asked b (e ∷ h) steps legal k m at down =
-    let step = steps e h legal in
-    by_sent b e h k m (sent (effect b e)) step legal refl
-    (ap (λ ms. slice_get ms k) (sym step.messages) ∙ at) down
-    (λ j i. was_asked b h steps legal.1 j m i down)
+    grind (arith, nat_tests, by_sent, none_sent, was_asked b h steps legal.1)
 
 -- The entry that begins a life --------------------------------------------------------------------
 

@@ -25,14 +25,11 @@ pub mod Parts
 pub mod Passing
 pub mod Refusing
 pub mod RenumberedRows
-mod RenumberedValueRows
 pub mod Sending
-mod SentRows
 pub mod Started
 pub mod StoppingBy
 pub mod Sums
 mod SwapRows
-mod SwapValueRows
 pub mod Twins
 pub mod ValueRows
 pub mod Words

@@ -1,6 +1,6 @@
 -- What a renumbering keeps: what is counted below a domain and over all cores, what is folded over
 -- the children of a node; and that each request asks of the renumbered cores what some other asks.
-use Rattle.psci_fw_laws.proofs.Words.{◌==◌, ◌∙◌, ◌≡◌, ap, arith, below, BoardValue, Bool}
+use Rattle.psci_fw_laws.proofs.Words.{nat_tests, ◌==◌, ◌∙◌, ◌≡◌, ap, arith, below, BoardValue, Bool}
 use Rattle.psci_fw_laws.proofs.Words.{children_at, cores, first_child, least, list_all, list_any}
 use Rattle.psci_fw_laws.proofs.Words.{map, nat_lt, Node, node_by, nodes, range_with_len, suc}
 use Rattle.psci_fw_laws.proofs.Words.{sum_by, sym, ℕ, ◌+◌, ◌-◌, ◌<◌, ◌≤◌, [], cases_eq, cases_lt}
@@ -202,10 +202,7 @@ place_inside b s level place is h = grind (arith, ltb-true, lt-ltb)
 
 node_inside : (b : BoardValue) (s : ℕ → ℕ → ℕ) (n : Node) → Renumbers b s → HasNode b n
     → HasNode b (node_by s n)
-node_inside b s n is h = record {
-  level = h.level;
-  place = place_inside b s n.level n.place is h.place;
-}
+node_inside b s n is h = grind (arith, nat_tests, place_inside)
 
 -- some word names the other place of a node
 abbrev Names : BoardValue → (ℕ → ℕ → ℕ) → ℕ → ℕ → Type 0
@@ -228,10 +225,7 @@ core_from_node : (o : Option Core) (place : ℕ)
     → option_map (λ (c : Core). let n : Node = record { level = 0; place = c.number } in n) o
     ≡ Some (record { level = 0; place = place })
     → o ≡ Some (record { number = place })
-core_from_node None place e = absurd (none-some _ e)
-core_from_node (Some c) place e =
-    ap (λ (n : Node). let core : Option Core = Some (record { number = n.place }) in core)
-    (same_Some _ _ e)
+core_from_node x0 place e = grind (arith, nat_tests, same_Some, none-some)
 
 core_named : (b : BoardValue) (s : ℕ → ℕ → ℕ) (target : ℕ) (o : Option Core) → Renumbers b s
     → WordLaws b → core_of b target ≡ o

@@ -1,9 +1,8 @@
 -- Which messages claim something of a domain.
-use Rattle.psci_fw_laws.proofs.Words.{nat_tests}
-use Rattle.psci_fw_laws.proofs.Words.{◌&&◌, ◌==◌, ◌∷◌, ◌≡◌, ◌⊎◌, and_from, and_parts, ap}
-use Rattle.psci_fw_laws.proofs.Words.{BoardValue, Bool, arith, cond_both, Down, eqb-false}
-use Rattle.psci_fw_laws.proofs.Words.{eqb-true, false, inl, inr, is_kind, IsClaimOn, IsFromMessage}
-use Rattle.psci_fw_laws.proofs.Words.{Kind, List, MessageValue, None, Option, Part, part_for, refl}
+use Rattle.psci_fw_laws.proofs.Words.{nat_tests, ◌&&◌, ◌==◌, ◌∷◌, ◌≡◌, ◌⊎◌, and_from, and_parts, ap}
+use Rattle.psci_fw_laws.proofs.Words.{BoardValue, Bool, arith, cond_both, Down, eqb-false, eqb-true}
+use Rattle.psci_fw_laws.proofs.Words.{false, inl, inr, is_kind, IsClaimOn, IsFromMessage, Kind}
+use Rattle.psci_fw_laws.proofs.Words.{List, MessageValue, None, Option, Part, part_for, refl}
 use Rattle.psci_fw_laws.proofs.Words.{slice_get, Some, subst, suc, true, up, updated, zero, ℕ}
 
 -- A function updated at one core ---------------------------------------------------------------
@@ -63,36 +62,19 @@ from_more : (b : BoardValue) (life level place : ℕ) (p : Part) (m n : MessageV
     (sent : List MessageValue) (k : ℕ) → slice_get (m ∷ sent) k ≡ Some n
     → part_for b life level place n ≡ Some p
     → (part_for b life level place m ≡ Some p) ⊎ IsFromMessage b life level place p sent
-from_more b life level place p m n sent zero at e =
-    let same : n ≡ m = cc in
-    inl (subst (λ x. part_for b life level place x ≡ Some p) same e)
-from_more b life level place p m n sent (suc k) at e =
-    inr (record { index = k; message = n; at = at; part = e })
+from_more b life level place p m n sent x8 at e = grind (arith, nat_tests)
 
 pub claim_more : (b : BoardValue) (life level place : ℕ) (p : Part) (m : MessageValue)
     (sent : List MessageValue) → IsClaimOn b life level place p (m ∷ sent)
     → (part_for b life level place m ≡ Some p) ⊎ IsClaimOn b life level place p sent
-claim_more b life level place p m sent claim = elim claim [
-  | inl s ↦ inr (inl s)
-  | inr f ↦ elim (from_more b life level place p m f.message sent f.index f.at f.part) [
-    | inl here ↦ inl here
-    | inr old ↦ inr (inr old)
-  ]
-]
+claim_more b life level place p m sent claim = grind (arith, nat_tests, from_more)
 
 -- a message that is no Down claims nothing
 pub no_part : (b : BoardValue) (life level place : ℕ) (p : Part) (m : MessageValue)
     → is_kind m.kind Down ≡ false → part_for b life level place m ≡ Some p → ⊥
-no_part b life level place p m other e =
-    let kind = (part_has b life level place m p e).kind in
-    let down : is_kind m.kind Down ≡ true = ap (λ k. is_kind k Down) kind in
-    absurd (cc)
+no_part b life level place p m other e = grind (arith, nat_tests, part_has)
 
 pub claim_before : (b : BoardValue) (life level place : ℕ) (p : Part) (m : MessageValue)
     (sent : List MessageValue) → is_kind m.kind Down ≡ false
     → IsClaimOn b life level place p (m ∷ sent) → IsClaimOn b life level place p sent
-claim_before b life level place p m sent other claim =
-    elim (claim_more b life level place p m sent claim) [
-      | inl here ↦ absurd (no_part b life level place p m other here)
-      | inr old ↦ old
-    ]
+claim_before b life level place p m sent other claim = grind (arith, nat_tests, claim_more, no_part)

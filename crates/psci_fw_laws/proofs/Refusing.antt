@@ -1,12 +1,12 @@
 -- Why an OS-initiated request is refused, exactly.
 use Rattle.std.specs.Prelude.{nat_lt}
-use Rattle.psci_fw_laws.proofs.Words.{◌+◌, ◌-◌, ◌<◌, ◌==◌, ◌∙◌, ◌≡◌, ◌≤◌, and_from, and_parts, ap}
-use Rattle.psci_fw_laws.proofs.Words.{arith, BoardValue, Bool, cases_Bool, ChildLaws, children_at}
-use Rattle.psci_fw_laws.proofs.Words.{cond, cores, eq-eqb, eqb-true, Err, false, first_child}
-use Rattle.psci_fw_laws.proofs.Words.{height, inl, inr, length, List, list_any, lt-ltb, ltb-true}
-use Rattle.psci_fw_laws.proofs.Words.{ne_eqb, Node, nodes, None, not, Ok, own_claims, own_wish}
-use Rattle.psci_fw_laws.proofs.Words.{Part, PathLaws, PowerView, range_with_len, refl, slice_index}
-use Rattle.psci_fw_laws.proofs.Words.{Some, subst, suc, sym, true, zero, ℕ}
+use Rattle.psci_fw_laws.proofs.Words.{nat_tests, ◌+◌, ◌-◌, ◌<◌, ◌==◌, ◌∙◌, ◌≡◌, ◌≤◌, and_from}
+use Rattle.psci_fw_laws.proofs.Words.{and_parts, ap, arith, BoardValue, Bool, cases_Bool, ChildLaws}
+use Rattle.psci_fw_laws.proofs.Words.{children_at, cond, cores, eq-eqb, eqb-true, Err, false}
+use Rattle.psci_fw_laws.proofs.Words.{first_child, height, inl, inr, length, List, list_any, lt-ltb}
+use Rattle.psci_fw_laws.proofs.Words.{ltb-true, ne_eqb, Node, nodes, None, not, Ok, own_claims}
+use Rattle.psci_fw_laws.proofs.Words.{own_wish, Part, PathLaws, PowerView, range_with_len, refl}
+use Rattle.psci_fw_laws.proofs.Words.{slice_index, Some, subst, suc, sym, true, zero, ℕ}
 use Rattle.psci_board.specs.Board.{up}
 use Rattle.psci_messages.specs.LastCore.{answer_by, last_core_check, refusal, shallow, shallow_at}
 use Rattle.psci_messages.specs.View.{is_idle}
@@ -151,12 +151,7 @@ answered b v caller ask asleep way e f = rw (e, f) refl
 module _ (b : BoardValue) (v : PowerView) (caller : ℕ) (ask : List ℕ) (paths : PathLaws b)
     (kids : ChildLaws b) where
   sleeper : HasWay b v caller ask (is_idle b v) → HasSleeper b v caller ask
-  sleeper has = record {
-    level = has.level;
-    core = has.core;
-    way = has.way;
-    asleep = idle_nobody b v has.level has.core has.at;
-  }
+  sleeper has = grind (arith, nat_tests, idle_nobody)
 
   none_asleep : (HasSleeper b v caller ask → ⊥) → is_asleep b v caller ask ≡ false
   none_asleep none = grind (arith, cases_Bool, any_way, paths, sleeper)

@@ -1,10 +1,10 @@
 -- What is said of each message stays so, and what is outstanding, after each change.
-use Rattle.psci_fw_laws.proofs.Words.{◌<◌, ◌∙◌, ◌∷◌, ◌≡◌, ◌≤◌, activity_of, ap, AreSent, arith}
-use Rattle.psci_fw_laws.proofs.Words.{asks, BoardValue, Bool, Down, IsSent, List, MessageValue}
-use Rattle.psci_fw_laws.proofs.Words.{Part, PathLaws, Pending, Phase, slice_get, Some, suc, true}
-use Rattle.psci_fw_laws.proofs.Words.{up, updated, zero, ℕ, ◌==◌, Acknowledge, AckValue, changed}
-use Rattle.psci_fw_laws.proofs.Words.{Clear, cond_both, eqb-false, eqb-true, false, is_slot}
-use Rattle.psci_fw_laws.proofs.Words.{is_system, IsOfCore, IsOfLife, left_by, None, OfCore}
+use Rattle.psci_fw_laws.proofs.Words.{nat_tests, ◌<◌, ◌∙◌, ◌∷◌, ◌≡◌, ◌≤◌, activity_of, ap, AreSent}
+use Rattle.psci_fw_laws.proofs.Words.{arith, asks, BoardValue, Bool, Down, IsSent, List}
+use Rattle.psci_fw_laws.proofs.Words.{MessageValue, Part, PathLaws, Pending, Phase, slice_get, Some}
+use Rattle.psci_fw_laws.proofs.Words.{suc, true, up, updated, zero, ℕ, ◌==◌, Acknowledge, AckValue}
+use Rattle.psci_fw_laws.proofs.Words.{changed, Clear, cond_both, eqb-false, eqb-true, false}
+use Rattle.psci_fw_laws.proofs.Words.{is_slot, is_system, IsOfCore, IsOfLife, left_by, None, OfCore}
 use Rattle.psci_fw_laws.proofs.Words.{OfSystem, Option, Put, refl, Slot, slot_of, subst, sym}
 use Rattle.psci_messages.specs.declared.kind.Kind.TheVariants.{Start}
 use Rattle.psci_fw_laws.proofs.Parts.{updated_at, updated_there}
@@ -120,11 +120,7 @@ slot_is s t e = absurd (cc)
 -- nothing is outstanding
 pub outstanding_none : {life : ℕ} {known : ℕ → ℕ} {phase : ℕ → Phase} {sent : List MessageValue}
     → AreOutstanding life known phase sent (λ slot. None)
-outstanding_none = record {
-  core = λ c m e. absurd (cc);
-  system = λ m e. absurd (cc);
-  halts = λ m e. absurd (cc);
-}
+outstanding_none = grind (arith, nat_tests)
 
 -- what a core's slot may hold in place of what it holds
 abbrev pub AreAt : ℕ → (ℕ → ℕ) → (ℕ → Phase) → List MessageValue → Slot → Option MessageValue
@@ -180,11 +176,7 @@ module _ {life : ℕ} {known : ℕ → ℕ} {phase : ℕ → Phase} {sent : List
   pub outstanding_put : (m : MessageValue)
       → AreAt life known phase sent (slot_of m.kind m.core) (Some m)
       → AreOutstanding life known phase sent (λ slot. changed slot (Put m) (outstanding slot))
-  outstanding_put m is = are_all
-      (λ slot. cond_both (is_slot (slot_of m.kind m.core) slot) (Some m) (outstanding slot)
-      (AreAt life known phase sent slot)
-      (λ here. subst (λ s. AreAt life known phase sent s (Some m)) (slot_is _ _ here) is)
-      (λ there. are_at slot))
+  outstanding_put m is = grind (arith, nat_tests, slot_is, AreAt, are_all, are_at)
 
   -- a Start was sent for a core, which is pending now
   pub outstanding_asked : (c : ℕ) (m : MessageValue)
@@ -233,10 +225,7 @@ module _ {life : ℕ} {known : ℕ → ℕ} {phase : ℕ → Phase} {sent : List
   pub outstanding_taken : (a : AckValue)
       → AreOutstanding life known phase sent
       (λ slot. changed slot (Acknowledge a) (outstanding slot))
-  outstanding_taken a = are_all
-      (λ slot. cond_both (is_slot (slot_of a.kind a.core) slot) (left_by a (outstanding slot))
-      (outstanding slot) (AreAt life known phase sent slot)
-      (λ here. at_left slot a (outstanding slot) (are_at slot)) (λ there. are_at slot))
+  outstanding_taken a = grind (arith, nat_tests, AreAt, are_all, are_at, at_left)
 
   -- a core has entered: nothing is outstanding for it
   pub outstanding_arrival : (c n : ℕ)

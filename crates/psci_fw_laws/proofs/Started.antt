@@ -1,13 +1,13 @@
 -- A core that runs stops and sends what it claims; a core is asked on, the system is asked to go
 -- off, an acknowledgement is taken.
-use Rattle.psci_fw_laws.proofs.Words.{◌+◌, ◌<◌, ◌∙◌, ◌∷◌, ◌≡◌, ap, arith, BoardValue, cores, Down}
-use Rattle.psci_fw_laws.proofs.Words.{Holds, inr, is_system, IsNewClaim, IsOfCore, IsSent, Kind}
-use Rattle.psci_fw_laws.proofs.Words.{known_below, List, MessageValue, Part, PathLaws, Pending}
-use Rattle.psci_fw_laws.proofs.Words.{Phase, refl, Running, slice_get, slot_of, Some, SpanLaws}
-use Rattle.psci_fw_laws.proofs.Words.{subst, sym, true, unless_pending, up, Values, with_claims}
-use Rattle.psci_fw_laws.proofs.Words.{with_phase, ℕ, [], AckValue, ArePartsOf, Bool, cond}
-use Rattle.psci_fw_laws.proofs.Words.{cond_both, false, is_kind, is_on, IsOfLife, OfSystem, PowerOn}
-use Rattle.psci_fw_laws.proofs.Words.{turns_off, updated, with_acknowledgement, with_halt}
+use Rattle.psci_fw_laws.proofs.Words.{nat_tests, ◌+◌, ◌<◌, ◌∙◌, ◌∷◌, ◌≡◌, ap, arith, BoardValue}
+use Rattle.psci_fw_laws.proofs.Words.{cores, Down, Holds, inr, is_system, IsNewClaim, IsOfCore}
+use Rattle.psci_fw_laws.proofs.Words.{IsSent, Kind, known_below, List, MessageValue, Part, PathLaws}
+use Rattle.psci_fw_laws.proofs.Words.{Pending, Phase, refl, Running, slice_get, slot_of, Some}
+use Rattle.psci_fw_laws.proofs.Words.{SpanLaws, subst, sym, true, unless_pending, up, Values}
+use Rattle.psci_fw_laws.proofs.Words.{with_claims, with_phase, ℕ, [], AckValue, ArePartsOf, Bool}
+use Rattle.psci_fw_laws.proofs.Words.{cond, cond_both, false, is_kind, is_on, IsOfLife, OfSystem}
+use Rattle.psci_fw_laws.proofs.Words.{PowerOn, turns_off, updated, with_acknowledgement, with_halt}
 use Rattle.psci_fw_laws.proofs.Words.{with_pending}
 use Rattle.psci_messages.specs.declared.kind.Kind.TheVariants.{Start, Off, Reset}
 use Rattle.psci_fw_laws.proofs.Claiming.{IsNewDown, above_down, apart_new, quiet_new, quiet_phase}
@@ -79,18 +79,7 @@ no_system k e s = grind arith
 
 is_sent : (b : BoardValue) (v : Values) (m : MessageValue)
     → IsNewClaim b v m → IsSent b v.life v.halting v.known v.phase m
-is_sent b v m new = record {
-  sound = new.sound;
-  begun = omega (arith, new.present);
-  present = λ e. record {
-    number = omega (arith, new.number);
-    older = λ l p i. omega (arith, new.current l p i);
-    lacking = λ l p q i j. omega (arith, new.current l p i, new.current (l + 1) q j);
-    halts = λ s. absurd (no_system m.kind new.kind s);
-    pending = λ s n. let no : Down ≡ Start = sym new.kind ∙ s in absurd (cc);
-    asked = λ d n i. new.asked;
-  };
-}
+is_sent b v m new = grind (arith, nat_tests, no_system)
 
 pub claims : (b : BoardValue) (v : Values) (sent : List MessageValue) (m : MessageValue)
     → IsNewClaim b v m → NoneCurrent b v.life v.known sent m.core.number → Holds b v sent
@@ -134,35 +123,14 @@ plain_parts k ps e i = i
 
 pub plain_sound : (b : BoardValue) (v : Values) (m : MessageValue) → IsPlain b v m
     → (m.kind ≡ Start → m.number < b.starts) → IsSound b m
-plain_sound b v m plain room = record {
-  life = omega (arith, plain.life, plain.present);
-  core = plain.core;
-  parts = plain_parts m.kind m.parts plain.other plain.parts;
-  few = let none = ap (λ xs. Rattle.std.specs.Prelude.length xs) plain.parts in omega arith;
-  number = omega (arith, plain.number, plain.limit);
-  room = room;
-  entered = λ d. absurd (not_down m.kind plain.other d);
-  first = λ p i. absurd (no_parts m.parts 0 p plain.parts i);
-  most = λ l p i. absurd (no_parts m.parts l p plain.parts i);
-  rises = λ l p q i. absurd (no_parts m.parts l p plain.parts i);
-}
+plain_sound b v m plain room = grind (arith, nat_tests, no_parts, not_down, plain_parts)
 
 plain_sent : (b : BoardValue) (v : Values) (m : MessageValue) (halting : Bool) (phase : ℕ → Phase)
     → IsPlain b v m → (m.kind ≡ Start → m.number < b.starts)
     → (is_system m.kind ≡ true → halting ≡ true) → (m.kind ≡ Start → phase m.core.number ≡ Pending)
     → IsSent b v.life halting v.known phase m
-plain_sent b v m halting phase plain room halts pending = record {
-  sound = plain_sound b v m plain room;
-  begun = omega (arith, plain.present);
-  present = λ e. record {
-    number = omega (arith, plain.number);
-    older = λ l p i. absurd (no_parts m.parts l p plain.parts i);
-    lacking = λ l p q i. absurd (no_parts m.parts l p plain.parts i);
-    halts = halts;
-    pending = λ s n. pending s;
-    asked = λ d. absurd (not_down m.kind plain.other d);
-  };
-}
+plain_sent b v m halting phase plain room halts pending =
+    grind (arith, nat_tests, no_parts, not_down, plain_sound)
 
 -- Asked on ------------------------------------------------------------------------------------
 

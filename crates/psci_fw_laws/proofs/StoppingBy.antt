@@ -1,11 +1,11 @@
 -- Functions of renumbered cores: those that may stop their caller, and those that return.
 use Rattle.std.proofs.Common.{Result}
-use Rattle.psci_fw_laws.proofs.Words.{◌&&◌, ◌==◌, ◌||◌, ◌∙◌, ◌≡◌, [], ap, ask_named, Away}
-use Rattle.psci_fw_laws.proofs.Words.{BoardValue, Bool, cores, Err, false, height, if◌then◌else◌}
-use Rattle.psci_fw_laws.proofs.Words.{invalid_address, Kind, leaving_claims, List, list_all}
-use Rattle.psci_fw_laws.proofs.Words.{may_enter, message_by, message_for, not, Ok, OsInitiated}
-use Rattle.psci_fw_laws.proofs.Words.{Outcome, outcome_by, Part, Phase, Platform, PowerView}
-use Rattle.psci_fw_laws.proofs.Words.{range_with_len, refl, returns, stops_with, success}
+use Rattle.psci_fw_laws.proofs.Words.{nat_tests, ◌&&◌, ◌==◌, ◌||◌, ◌∙◌, ◌≡◌, [], ap, ask_named}
+use Rattle.psci_fw_laws.proofs.Words.{Away, BoardValue, Bool, cores, Err, false, height}
+use Rattle.psci_fw_laws.proofs.Words.{if◌then◌else◌, invalid_address, Kind, leaving_claims, List}
+use Rattle.psci_fw_laws.proofs.Words.{list_all, may_enter, message_by, message_for, not, Ok}
+use Rattle.psci_fw_laws.proofs.Words.{OsInitiated, Outcome, outcome_by, Part, Phase, Platform}
+use Rattle.psci_fw_laws.proofs.Words.{PowerView, range_with_len, refl, returns, stops_with, success}
 use Rattle.psci_fw_laws.proofs.Words.{suspend_asked, suspend_claims, Suspended, SuspendMode}
 use Rattle.psci_fw_laws.proofs.Words.{system_reset2, system_suspend, true, unless_pending, updated}
 use Rattle.psci_fw_laws.proofs.Words.{Values, values_by, with_phase, ℕ, arith, below, Core, core_by}
@@ -103,13 +103,7 @@ module _ {b : BoardValue} {s : ℕ → ℕ → ℕ} (is : Renumbers b s) where
 
   pub message_for-by : (v : Values) (kind : Kind) (c : ℕ) (parts : List Part)
       → message_for (values_by s v) kind (s 0 c) parts ≡ message_by s (message_for v kind c parts)
-  message_for-by v kind c parts = λ i. record {
-    kind = kind;
-    core = record { number = s 0 c };
-    life = v.life;
-    number = v.known (is.back 0 c i);
-    parts = parts;
-  }
+  message_for-by v kind c parts = grind (arith, nat_tests)
 
   pub stops_with-by : (v : Values) (kind : Kind) (c : ℕ) (parts others : List Part) → parts ≡ others
       → stops_with (message_for (values_by s v) kind (s 0 c) parts)
@@ -140,11 +134,7 @@ module _ {b : BoardValue} {s : ℕ → ℕ → ℕ} (is : Renumbers b s) where
   suspend_asked-by : (v : Values) (c entry_point : ℕ) (asked : Result (List ℕ) BadState)
       → suspend_asked b (values_by s v) (s 0 c) entry_point asked
       ≡ outcome_by s (suspend_asked b v c entry_point asked)
-  suspend_asked-by v c entry_point (Err bad) = refl
-  suspend_asked-by v c entry_point (Ok ask) =
-      let t : Bool = is_deep ask && not (may_enter b entry_point) in
-      refused-by t t invalid_address _ _ refl
-      (refused-by _ _ success _ _ (limit-by v c) (suspended-by v c ask))
+  suspend_asked-by v c entry_point x3 = grind (arith, nat_tests, refused-by, suspended-by, limit-by)
 
   pub cpu_suspend-by : (v : Values) (c state entry_point : ℕ)
       → cpu_suspend b (values_by s v) (s 0 c) state entry_point
@@ -246,10 +236,7 @@ module _ {b : BoardValue} {s : ℕ → ℕ → ℕ} (is : Renumbers b s) where
   off_target-by : (v : Values) (t : Core) (status : Status)
       → start_outcome (values_by s v) (off_target b (values_by s v) (core_by s t) status)
       ≡ outcome_by s (start_outcome v (off_target b v t status))
-  off_target-by v t statuses.On = refl
-  off_target-by v t statuses.Pending = refl
-  off_target-by v t statuses.Off =
-      rw (is.back 0 t.number) (at_limit-by v t (v.known t.number == b.starts))
+  off_target-by v t x2 = grind (arith, nat_tests, at_limit-by)
 
   may_start-by : (v : Values) (t : Core) (may : Bool)
       → start_outcome (values_by s v)

@@ -1,9 +1,9 @@
 -- To swap two cores of one cluster, or two clusters with as many cores, is a renumbering of the board.
-use Rattle.psci_fw_laws.proofs.Words.{◌∙◌, ◌≡◌, ap, arith, BoardValue, IsRenumbering, lt-ltb}
-use Rattle.psci_fw_laws.proofs.Words.{nat_lt, nodes, PathLaws, refl, suc, swap, sym, zero, ℕ, ◌+◌}
-use Rattle.psci_fw_laws.proofs.Words.{◌-◌, ◌<◌, ◌∷◌, ◌≤◌, ◌⊎◌, [], cases_lt, ChildLaws, children_at}
-use Rattle.psci_fw_laws.proofs.Words.{cores, false, first_child, height, inl, inr, IsBoard, length}
-use Rattle.psci_fw_laws.proofs.Words.{List, Node, Option, same_Some, subst, true}
+use Rattle.psci_fw_laws.proofs.Words.{nat_tests, ◌∙◌, ◌≡◌, ap, arith, BoardValue, IsRenumbering}
+use Rattle.psci_fw_laws.proofs.Words.{lt-ltb, nat_lt, nodes, PathLaws, refl, suc, swap, sym, zero}
+use Rattle.psci_fw_laws.proofs.Words.{ℕ, ◌+◌, ◌-◌, ◌<◌, ◌∷◌, ◌≤◌, ◌⊎◌, [], cases_lt, ChildLaws}
+use Rattle.psci_fw_laws.proofs.Words.{children_at, cores, false, first_child, height, inl, inr}
+use Rattle.psci_fw_laws.proofs.Words.{IsBoard, length, List, Node, Option, same_Some, subst, true}
 use Rattle.psci_fw_laws.specs.Renumbered.{AreSiblings, swap_cores, AreTwins, core_beside}
 use Rattle.psci_fw_laws.specs.Renumbered.{is_in_cluster, swap_clusters}
 use Rattle.psci_fw_laws.proofs.Folds.{swap-back, cases_within, swap-first, swap-other, swap-second}
@@ -44,11 +44,7 @@ swapped_up b x y (suc level) c paths two =
 
 pub siblings : (b : BoardValue) (x y : ℕ) → PathLaws b → AreSiblings b x y
     → IsRenumbering b (swap_cores x y)
-siblings b x y paths two = record {
-  back = λ level place. swapped_back x y level place;
-  inside = λ level place. nodes_swapped b x y level place two;
-  above = λ level c. swapped_up b x y level c paths two;
-}
+siblings b x y paths two = grind (arith, nat_tests, nodes_swapped, swapped_back, swapped_up)
 
 -- Twins -------------------------------------------------------------------------------------------
 
@@ -68,10 +64,7 @@ record In (b : BoardValue) (p c : ℕ) : Type 0 where
   high : c < first_child b 1 p + children_at b 1 p
 
 cases_in : (b : BoardValue) (p c : ℕ) → In b p c ⊎ (In b p c → ⊥)
-cases_in b p c = elim (cases_within (first_child b 1 p) (children_at b 1 p) c) [
-  | inl h ↦ inl (search arith)
-  | inr out ↦ inr (λ h. out h.low h.high)
-]
+cases_in b p c = grind (arith, nat_tests, cases_within)
 
 is_in : (b : BoardValue) (p c : ℕ) → In b p c → is_in_cluster b p c ≡ true
 is_in b p c h = grind arith
@@ -112,14 +105,8 @@ moves_second {b} {p} {q} {c} same out h e =
 
 moves : (b : BoardValue) (p q c : ℕ) → children_at b 1 p ≡ children_at b 1 q
     → Moves b p q c (swap_clusters b p q 0 c)
-moves b p q c same = elim (cases_in b p c) [
-  | inl h ↦ moves_first same h (moved_first b p q c h)
-  | inr out ↦ elim (cases_in b q c) [
-    | inl h ↦ moves_second same out h
-        (moved_second b p q c out h)
-    | inr far ↦ Stays out far (moved_none b p q c out far)
-  ]
-]
+moves b p q c same =
+    grind (arith, nat_tests, cases_in, moved_first, moved_second, moved_none, moves_first, moves_second)
 
 -- the parent of the cluster of this place
 abbrev parent_at : BoardValue → ℕ → Option Node
@@ -128,19 +115,11 @@ parent_at b place = parent b (record { level = 1; place = place })
 -- past the last core there is no cluster
 group_past : (w : List ℕ) (i : ℕ) → sum w ≤ i → length w ≤ group_of w i
 group_past [] i h = omega arith
-group_past (n ∷ ns) i h =
-    let all : sum (n ∷ ns) ≡ n + sum ns = sum-cons n ns in
-    let rest : length ns ≤ group_of ns (i - n) = group_past ns (i - n) (omega arith) in
-    let over : nat_lt i n ≡ false = le-ltb i n (omega arith) in
-    rw over (omega arith)
+group_past (n ∷ ns) i h = grind (arith, nat_tests, le-ltb, sum-cons, group_past ns (i - n))
 
 cluster_past : (levels : List (List ℕ)) (c : ℕ) → IsTree levels → 0 < length levels
     → size_below levels ≤ c → size_below (drop 1 levels) ≤ place_above levels 1 c
-cluster_past [] c tree low h = absurd (omega arith)
-cluster_past (w ∷ ws) c tree low h =
-    let rest : length w ≤ group_of w c = group_past w c h in
-    let many : length w ≡ size_below ws = tree.0 in
-    omega arith
+cluster_past x0 c tree low h = grind (arith, nat_tests, group_past)
 
 module _ {b : BoardValue} (laws : Laws b) where
   inside : {p c : ℕ} → In b p c → c < cores b
@@ -156,17 +135,7 @@ module _ {b : BoardValue} (laws : Laws b) where
   up_past {c} h = cluster_past b.levels c laws.tree laws.low h
 
   up_out : (p c : ℕ) → p < nodes b 1 → (In b p c → ⊥) → up b 1 c ≡ p → ⊥
-  up_out p c some out e = elim (cases_lt c (cores b)) [
-    | inl h ↦
-        let here : up b 0 c ≡ c = laws.paths.core c in
-        let low : first_child b 1 p ≤ up b 0 c = rw (← e) (laws.child.first c 0 h laws.low) in
-        let high : up b 0 c < first_child b 1 p + children_at b 1 p =
-        rw (← e) (laws.child.last c 0 h laws.low) in
-        out (record { low = omega arith; high = omega arith })
-    | inr h ↦
-        let past : nodes b 1 ≤ up b 1 c = up_past h in
-        absurd (omega arith)
-  ]
+  up_out p c some out e = grind (arith, nat_tests, cases_lt, up_past)
 
   -- The other numbers -----------------------------------------------------------------------------
 
@@ -204,37 +173,18 @@ module _ {b : BoardValue} (laws : Laws b) where
 
   inside_by : (p q level place : ℕ) → AreTwins b p q
       → nat_lt (swap_clusters b p q level place) (nodes b level) ≡ nat_lt place (nodes b level)
-  inside_by p q zero place two = inside_from (moves b p q place two.cores)
-  inside_by p q (suc zero) place two =
-      alike_both (λ k. nat_lt k (nodes b 1)) p q place
-      (lt-ltb p (nodes b 1) two.first ∙ sym (lt-ltb q (nodes b 1) two.second))
-  inside_by p q (suc (suc level)) place two = refl
+  inside_by p q x2 place two = grind (arith, nat_tests, lt-ltb, alike_both, moves, inside_from)
 
   -- the clusters have each other's place
   clusters_from : {p q c d : ℕ} → AreTwins b p q → Moves b p q c d → up b 1 d ≡ swap p q (up b 1 c)
-  clusters_from {p} {q} {c} two (First h i e) =
-      up_in i ∙ sym (ap (swap p q) (up_in h) ∙ swap-first p q)
-  clusters_from {p} {q} {c} two (Second out h i e) =
-      up_in i ∙ sym (ap (swap p q) (up_in h) ∙ swap-second p q)
-  clusters_from {p} {q} {c} two (Stays out far e) =
-      ap (up b 1) e ∙ sym (swap-other p q (up b 1 c) (up_out p c two.first out)
-      (up_out q c two.second far))
+  clusters_from {p} {q} {c} two x4 =
+      grind (arith, nat_tests, swap-first, swap-other, swap-second, up_in, up_out)
 
   -- cores whose clusters have one parent are below one domain of level 2
   parents_meet : {x y : ℕ} → x < cores b → y < cores b
       → parent b (record { level = 1; place = up b 1 x })
       ≡ parent b (record { level = 1; place = up b 1 y }) → up b 2 x ≡ up b 2 y
-  parents_meet {x} {y} h i e = elim (cases_lt 1 (height b)) [
-    | inl tall ↦
-        ap (λ (n : Node). n.place) (same_Some _ _
-        (sym (laws.parents.path x 1 h tall) ∙ (e ∙ laws.parents.path y 1 i tall)))
-    | inr short ↦
-        let low : 0 < height b = laws.low in
-        let one : height b ≡ 1 = omega arith in
-        let top : (k : ℕ) → k < cores b → up b 1 k ≡ 0 = λ k j.
-        ap (λ (l : ℕ). up b l k) (sym one) ∙ laws.paths.system k j in
-        laws.paths.joined x y 1 (top x h ∙ sym (top y i))
-  ]
+  parents_meet {x} {y} h i e = grind (arith, nat_tests, cases_lt, same_Some)
 
   above_from : {p q c d : ℕ} (level : ℕ) → AreTwins b p q → Moves b p q c d
       → up b (suc (suc level)) d ≡ up b (suc (suc level)) c
@@ -259,15 +209,4 @@ module _ {b : BoardValue} (laws : Laws b) where
 pub twins : (b : BoardValue) (p q : ℕ) → IsBoard b → PathLaws b → ChildLaws b → ParentLaws b
     → AreTwins b p q → IsRenumbering b (swap_clusters b p q)
 twins b p q board paths child parents two =
-    let laws : Laws b = record {
-      tree = board.tree;
-      low = board.low;
-      paths = paths;
-      child = child;
-      parents = parents;
-    } in
-    record {
-      back = λ level place. back_by laws p q level place two.cores;
-      inside = λ level place. inside_by laws p q level place two;
-      above = λ level c. above_by laws p q level c two;
-    }
+    grind (arith, nat_tests, inside, back_by, inside_by, above_by)
