@@ -1,8 +1,8 @@
 -- What renumbered cores are answered, whatever the call.
-use Rattle.psci_fw_laws.proofs.Words.{nat_tests, ◌&&◌, ◌==◌, ◌∙◌, ◌≡◌, ◌⊎◌, ap, arith, BoardValue}
-use Rattle.psci_fw_laws.proofs.Words.{Bool, enter_fault, eq-eqb, false, has_node, if◌then◌else◌}
-use Rattle.psci_fw_laws.proofs.Words.{in_life, is_path_place, None, not, Opening, Option}
-use Rattle.psci_fw_laws.proofs.Words.{outcome_at, outcome_by, refl, resumes, Some, Start}
+use Rattle.psci_fw_laws.proofs.Words.{ask_named, nat_tests, ◌&&◌, ◌==◌, ◌∙◌, ◌≡◌, ◌⊎◌, ap, arith}
+use Rattle.psci_fw_laws.proofs.Words.{BoardValue, Bool, enter_fault, eq-eqb, false, has_node}
+use Rattle.psci_fw_laws.proofs.Words.{if◌then◌else◌, in_life, is_path_place, None, not, Opening}
+use Rattle.psci_fw_laws.proofs.Words.{Option, outcome_at, outcome_by, refl, resumes, Some, Start}
 use Rattle.psci_fw_laws.proofs.Words.{start_of_life, stops, sym, true, up, Values, values_by}
 use Rattle.psci_fw_laws.proofs.Words.{with_arrival, ℕ, AsksBy, function_outcome, mode_of, node_of}
 use Rattle.psci_fw_laws.proofs.Words.{call_fault, CallsBy, Enter, Fault, FwCall, FwFault, Out}
@@ -13,7 +13,7 @@ use Rattle.psci_fw_spec.specs.Phases.{is_resumable}
 use Rattle.psci_fw_laws.proofs.Changing.{FindsBy, with_arrival-by, at_slot-by, taken-by}
 use Rattle.psci_fw_laws.proofs.Numberings.{Renumbers}
 use Rattle.psci_fw_laws.proofs.StoppingBy.{has_node-by, affinity-by, cpu_on-by, hw_state-by}
-use Rattle.psci_fw_laws.proofs.StoppingBy.{mode_asked-by, chosen, cpu_off-by, cpu_suspend-by}
+use Rattle.psci_fw_laws.proofs.StoppingBy.{mode_asked-by, chosen, cpu_off-by, suspend_asked-by}
 use Rattle.psci_fw_laws.proofs.StoppingBy.{system_message-by, system_reset2-by, system_suspend-by}
 use Rattle.psci_abi.specs.declared.request.Request.{Request}
 use Rattle.psci_fw_spec.specs.Calls.{outcome_of}
@@ -27,10 +27,6 @@ use Rattle.psci_fw_spec.specs.declared.reply.FwReply.TheVariants as replies
 -- The start of a life ---------------------------------------------------------------------------
 
 module _ {b : BoardValue} {s : ℕ → ℕ → ℕ} (is : Renumbers b s) where
-  -- where the boot core has its own number, no other core has it
-  is_boot-by : (c : ℕ) → s 0 0 ≡ 0 → (s 0 c == 0) ≡ (c == 0)
-  is_boot-by c boot = grind (arith, is.back 0 c)
-
   -- and its path has the same places
   boot_path-by : (level place : ℕ) → s 0 0 ≡ 0
       → is_path_place b 0 level (s level place) ≡ is_path_place b 0 level place
@@ -42,12 +38,11 @@ module _ {b : BoardValue} {s : ℕ → ℕ → ℕ} (is : Renumbers b s) where
       (is_path_place b 0 level (s level place)))
       ≡
       (has_node b (record { level = level; place = place }) && not (is_path_place b 0 level place))
-  first_confirmed-by level place boot =
-      rw (has_node-by is level place, boot_path-by level place boot)
+  first_confirmed-by level place boot = grind (arith, nat_tests, has_node-by, boot_path-by)
 
   pub start_of_life-by : (life : ℕ) → s 0 0 ≡ 0
       → values_by s (start_of_life b life) ≡ start_of_life b life
-  start_of_life-by life boot = grind (arith, nat_tests, is_boot-by, first_confirmed-by)
+  start_of_life-by life boot = grind (arith, nat_tests, first_confirmed-by)
 
   found-by : (life : ℕ) (v : Values) (t : Bool) → s 0 0 ≡ 0
       → (if t then values_by s v else start_of_life b life)
@@ -66,20 +61,15 @@ module _ {b : BoardValue} {s : ℕ → ℕ → ℕ} (is : Renumbers b s) where
       → enter_fault b (values_by s v) (s 0 c) start ≡ enter_fault b v c start
   enter_fault-by v c start = rw (is.inside 0 c, is.back 0 c)
 
-  resumes-by : (v : Values) (c : ℕ) (start : Start)
-      → resumes (values_by s v) (s 0 c) start ≡ resumes v c start
-  resumes-by v c start = rw (is.back 0 c)
-
   without_opening-by : (found arrived : Values) (c : ℕ) (start : Start)
       → without_opening b (values_by s found) (values_by s arrived) (s 0 c) start
       ≡ outcome_by s (without_opening b found arrived c start)
-  without_opening-by found arrived c start = search (arith, resumes-by, chosen, cpu_off-by)
+  without_opening-by found arrived c start = search (arith, chosen, cpu_off-by)
 
   outcome_at-by : (found arrived : Values) (c : ℕ) (start : Start) (o : Option Opening)
       → outcome_at b (values_by s found) (values_by s arrived) (s 0 c) start o
       ≡ outcome_by s (outcome_at b found arrived c start o)
-  outcome_at-by found arrived c start (Some o) = refl
-  outcome_at-by found arrived c start None = without_opening-by found arrived c start
+  outcome_at-by found arrived c start x4 = grind (arith, nat_tests, without_opening-by)
 
   -- what a core is answered that found and left these values
   answered-by : (found arrived : Values) (c : ℕ) (start : Start)
@@ -114,7 +104,7 @@ module _ {b : BoardValue} {s : ℕ → ℕ → ℕ} (is : Renumbers b s) where
   function-by v c (requests.NodeHwState level target) q asks =
       rw asks.2 (hw_state-by is v (node_of b target level) (node_of b asks.0 level) asks.1)
   function-by v c (requests.CpuSuspend state entry_point context) q asks =
-      rw asks (cpu_suspend-by is v c state entry_point)
+      rw asks (suspend_asked-by is v c entry_point (ask_named b state))
   function-by v c requests.CpuOff q asks = rw asks (cpu_off-by is v c)
   function-by v c requests.SystemOff q asks = rw asks (system_message-by is v kinds.Off c)
   function-by v c requests.SystemReset q asks = rw asks (system_message-by is v kinds.Reset c)
@@ -140,8 +130,7 @@ module _ {b : BoardValue} {s : ℕ → ℕ → ℕ} (is : Renumbers b s) where
 
   reply_or-by : (fault : Option FwFault) (o : Outcome)
       → reply_or fault (outcome_by s o) ≡ reply_by s (reply_or fault o)
-  reply_or-by None o = refl
-  reply_or-by (Some fault) o = refl
+  reply_or-by x0 o = grind (arith, nat_tests)
 
   -- the same refusal, and the same outcome of the other number
   replied-by : (f g : Option FwFault) (o p : Outcome) → f ≡ g → o ≡ outcome_by s p

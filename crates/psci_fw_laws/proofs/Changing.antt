@@ -33,21 +33,14 @@ change_by s (Acknowledge a) = Acknowledge (acknowledgement_by s a)
 
 slot_of-by : (s : ℕ → ℕ → ℕ) (kind : Kind) (core : Core)
     → slot_of kind (core_by s core) ≡ slot_by s (slot_of kind core)
-slot_of-by s Down core = refl
-slot_of-by s kind core = refl
+slot_of-by s kind core = grind (arith, nat_tests)
 
 module _ {b : BoardValue} {s : ℕ → ℕ → ℕ} (is : Renumbers b s) where
   is_slot-by : (t u : Slot) → is_slot (slot_by s t) u ≡ is_slot t (slot_by s u)
   is_slot-by x0 x1 = grind (arith, nat_tests, other_test)
 
   slot_back : (t : Slot) → slot_by s (slot_by s t) ≡ t
-  slot_back (OfCore c) = ap OfCore (is.back 0 c)
-  slot_back OfSystem = refl
-
-  -- the slot of a message, and of its core's other number
-  is_of-by : (kind : Kind) (core : Core) (slot : Slot)
-      → is_slot (slot_of kind (core_by s core)) slot ≡ is_slot (slot_of kind core) (slot_by s slot)
-  is_of-by kind core slot = rw (slot_of-by s kind core) (is_slot-by (slot_of kind core) slot)
+  slot_back x0 = grind (arith, nat_tests)
 
   pub answers-by : (a : AckValue) (m : MessageValue)
       → answers (acknowledgement_by s a) (message_by s m) ≡ answers a m
@@ -56,19 +49,16 @@ module _ {b : BoardValue} {s : ℕ → ℕ → ℕ} (is : Renumbers b s) where
   if-map : (t : Bool) (o p : Option MessageValue)
       → (if t then option_map (message_by s) o else option_map (message_by s) p)
       ≡ option_map (message_by s) (if t then o else p)
-  if-map true o p = refl
-  if-map false o p = refl
+  if-map x0 o p = grind (arith, nat_tests)
 
   left_by-by : (a : AckValue) (o : Option MessageValue)
       → left_by (acknowledgement_by s a) (option_map (message_by s) o)
       ≡ option_map (message_by s) (left_by a o)
-  left_by-by a None = refl
-  left_by-by a (Some m) = rw (answers-by a m) (if-map (answers a m && is_done a m) None (Some m))
+  left_by-by a x1 = grind (arith, nat_tests, answers-by, if-map)
 
   pub taken-by : (a : AckValue) (o : Option MessageValue)
       → taken (acknowledgement_by s a) (option_map (message_by s) o) ≡ taken a o
-  taken-by a None = refl
-  taken-by a (Some m) = rw (answers-by a m)
+  taken-by a x1 = grind (arith, nat_tests, answers-by)
 
   -- what is in the slot of an acknowledgement
   pub at_slot-by : (v : Values) (a : AckValue)
@@ -80,7 +70,7 @@ module _ {b : BoardValue} {s : ℕ → ℕ → ℕ} (is : Renumbers b s) where
   changed-by : (slot : Slot) (change : Change) (o : Option MessageValue)
       → changed slot (change_by s change) (option_map (message_by s) o)
       ≡ option_map (message_by s) (changed (slot_by s slot) change o)
-  changed-by slot x1 o = grind (arith, nat_tests, is_slot-by, is_of-by, if-map, left_by-by)
+  changed-by slot x1 o = grind (arith, nat_tests, is_slot-by, if-map, left_by-by)
 
   pub with_slots-by : (change : Change) (v : Values)
       → with_slots (change_by s change) (values_by s v) ≡ values_by s (with_slots change v)
@@ -109,8 +99,7 @@ module _ {b : BoardValue} {s : ℕ → ℕ → ℕ} (is : Renumbers b s) where
   -- a place is on the path of the other core where its other place is on the path of the core
   path-by : (c level place : ℕ)
       → is_path_place b (s 0 c) level place ≡ is_path_place b c level (s level place)
-  path-by c level place =
-      grind (arith, is.above level c, is.back level place, is.back level (up b level c))
+  path-by c level place = grind (arith, nat_tests)
 
   -- a choice on the path of a core
   on_path-by : {A : Type 0} (c level place : ℕ) (x y : A)
@@ -177,8 +166,7 @@ module _ {b : BoardValue} {s : ℕ → ℕ → ℕ} (is : Renumbers b s) where
   applied_part-by : (a : AckValue) (level : ℕ) (sent : Option MessageValue)
       → applied_part (acknowledgement_by s a) level (option_map (message_by s) sent)
       ≡ applied_part a level sent
-  applied_part-by a level None = refl
-  applied_part-by a level (Some m) = refl
+  applied_part-by a level x2 = grind (arith, nat_tests)
 
   -- the known starts below a domain, and below its other place
   known_below-by : (known : ℕ → ℕ) (n : Node)

@@ -32,20 +32,10 @@ module _ {b : BoardValue} {s : ℕ → ℕ → ℕ} (is : Renumbers b s) where
   unfolding least_ask
   least_ask-by w n = least-below is n (λ c. w.ask c n.level)
 
-  generation-by : (w : PowerView) (n : Node)
-      → generation b (view_by s w) (node_by s n) ≡ generation b w n
-  unfolding generation
-  generation-by w n = sum-below is n w.known
-
   is_all_away-by : (w : PowerView) (n : Node)
       → is_all_away b (view_by s w) (node_by s n) ≡ is_all_away b w n
   unfolding is_all_away
   is_all_away-by w n = all-below is n w.is_away
-
-  pub is_idle-by : (w : PowerView) (n : Node)
-      → is_idle b (view_by s w) (node_by s n) ≡ is_idle b w n
-  unfolding is_idle
-  is_idle-by w n = all-below is n (λ c. not (w.is_active c))
 
   -- the domain of the other core
   domain-by : (c level : ℕ) → domain_of b (s 0 c) level ≡ node_by s (domain_of b c level)
@@ -56,20 +46,16 @@ module _ {b : BoardValue} {s : ℕ → ℕ → ℕ} (is : Renumbers b s) where
   -- what a core wants of its domains does not depend on its number, so its claim does not
   claims_of-by : (w : PowerView) (c : ℕ) (f g : ℕ → ℕ) → ((level : ℕ) → f level ≡ g level)
       → claims_of b (view_by s w) (s 0 c) f ≡ claims_of b w c g
-  unfolding claims_of
+  unfolding claims_of generation
   claims_of-by w c f g same =
       let wanted : f ≡ g = λ i. λ level. same level i in
       let sums : (λ level. generation b (view_by s w) (domain_of b (s 0 c) level))
       ≡ (λ level. generation b w (domain_of b c level)) = λ i. λ level.
       (ap (generation b (view_by s w)) (domain-by c level)
-      ∙ generation-by w (domain_of b c level)) i in
+      ∙ sum-below is (domain_of b c level) w.known) i in
       ap (λ (h : ℕ → ℕ). climb h (λ level. generation b (view_by s w) (domain_of b (s 0 c) level)) 0
       (height b + 1)) wanted
       ∙ ap (λ (h : ℕ → ℕ). climb g h 0 (height b + 1)) sums
-
-  least_wish-by : (w : PowerView) (c level : ℕ)
-      → least_wish b (view_by s w) (s 0 c) level ≡ least_wish b w c level
-  least_wish-by w c level = rw (domain-by c level) (least_ask-by w (domain_of b c level))
 
   off_wish-by : (w : PowerView) (c level : ℕ)
       → off_wish b (view_by s w) (s 0 c) level ≡ off_wish b w c level
@@ -80,8 +66,8 @@ module _ {b : BoardValue} {s : ℕ → ℕ → ℕ} (is : Renumbers b s) where
   pub platform_claims-by : (w : PowerView) (c : ℕ)
       → platform_claims b (view_by s w) (s 0 c) ≡ platform_claims b w c
   platform_claims-by w c =
-      claims_of-by w c (least_wish b (view_by s w) (s 0 c)) (least_wish b w c)
-      (λ level. least_wish-by w c level)
+      claims_of-by w c (least_wish b (view_by s w) (s 0 c)) (least_wish b w c) (λ level.
+      rw (domain-by c level) (least_ask-by w (domain_of b c level)))
 
   pub own_claims-by : (w : PowerView) (c : ℕ) (ask : List ℕ)
       → own_claims b (view_by s w) (s 0 c) ask ≡ own_claims b w c ask
@@ -89,9 +75,7 @@ module _ {b : BoardValue} {s : ℕ → ℕ → ℕ} (is : Renumbers b s) where
 
   pub off_claims-by : (w : PowerView) (c : ℕ)
       → off_claims b (view_by s w) (s 0 c) ≡ off_claims b w c
-  off_claims-by w c =
-      claims_of-by w c (off_wish b (view_by s w) (s 0 c)) (off_wish b w c)
-      (λ level. off_wish-by w c level)
+  off_claims-by w c = grind (arith, nat_tests, view_by, claims_of-by, off_wish-by)
 
 -- The last-core check -----------------------------------------------------------------------------
 
@@ -187,16 +171,11 @@ module _ {b : BoardValue} {s : ℕ → ℕ → ℕ} (is : Renumbers b s) where
   -- The check -------------------------------------------------------------------------------------
 
   idle-agrees : (w : PowerView) → AgreeBy s (is_idle b (view_by s w)) (is_idle b w)
-  idle-agrees w = λ n.
-      ap (is_idle b (view_by s w)) (sym (node_back is n)) ∙ is_idle-by is w (node_by s n)
-
-  refusal-by : (w : PowerView) (c : ℕ) (ask : List ℕ)
-      → refusal b (view_by s w) (shallow b (view_by s w) (s 0 c) ask)
-      ≡ refusal b w (shallow b w c ask)
-  unfolding refusal
-  refusal-by w c ask = grind (arith, some-any, any-shallow, idle-agrees)
+  unfolding is_idle
+  idle-agrees w = λ n. ap (is_idle b (view_by s w)) (sym (node_back is n))
+      ∙ all-below is (node_by s n) (λ c. not (w.is_active c))
 
   pub last_core_check-by : (w : PowerView) (c : ℕ) (ask : List ℕ)
       → last_core_check b (view_by s w) (s 0 c) ask ≡ last_core_check b w c ask
-  unfolding last_core_check
-  last_core_check-by w c ask = grind (arith, refusal-by, own_claims-by)
+  unfolding last_core_check refusal
+  last_core_check-by w c ask = grind (arith, own_claims-by, some-any, any-shallow, idle-agrees)

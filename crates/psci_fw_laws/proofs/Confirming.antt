@@ -18,16 +18,13 @@ module _ (b : BoardValue) (v : Values) (a : AckValue) (level place : ℕ) where
   carried_by : confirms_on b v a level place ≡ true → IsCarriedOut b v a level place
   carried_by e = search (arith, nat_tests, kind_is)
 
-  by_carried : IsCarriedOut b v a level place → confirms_on b v a level place ≡ true
-  by_carried is = grind (arith, level, and_from, lt-ltb, eq-eqb)
-
   pub confirmed_only : (with_acknowledgement b a v).confirmed level place ≡ true
       → (v.confirmed level place ≡ true) ⊎ IsCarriedOut b v a level place
   confirmed_only e = grind (arith, level, carried_by)
 
   pub confirmed_where : (v.confirmed level place ≡ true) ⊎ IsCarriedOut b v a level place
       → (with_acknowledgement b a v).confirmed level place ≡ true
-  confirmed_where how = grind (arith, level, by_carried)
+  confirmed_where how = grind (arith, level, and_from, lt-ltb, eq-eqb)
 
 -- What is said --------------------------------------------------------------------------------
 

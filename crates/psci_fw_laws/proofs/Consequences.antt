@@ -131,9 +131,7 @@ pub equal_each : (b : BoardValue) (f g : ℕ → ℕ) (level place c : ℕ)
     → ((x : ℕ) → x < cores b → up b level x ≡ place → f x ≤ g x)
     → known_below b f level place ≡ known_below b g level place → c < cores b
     → up b level c ≡ place → f c ≡ g c
-equal_each b f g level place c le same on at =
-    let below = le c on at in
-    grind (arith, known_less b f g level place c le on at)
+equal_each b f g level place c le same on at = grind (arith, nat_tests, known_less)
 
 pub known_laws : (b : BoardValue) → PathLaws b → SpanLaws b.levels → KnownLaws b
 known_laws b paths spans =

@@ -44,8 +44,7 @@ not_pending b v c are awake none waits = grind (arith, waits)
 module _ {b : BoardValue} {v : Values} (laws : LowerLaws b) (ready : IsReady b v) where
   smc_allowed : (c : ℕ) (regs : Regs) (f : Option FwFault) → call_fault b v c ≡ f
       → Allows b v (effect_of b c (Smc regs) (reply_or f (outcome_of b v c (request_of regs))))
-  smc_allowed c regs (Some f) e = λ are. tt
-  smc_allowed c regs None e = call_allowed b v c (request_of regs) laws ready (calling b v c e)
+  smc_allowed c regs x2 e = grind (arith, nat_tests, call_allowed, calling)
 
   -- Entries -------------------------------------------------------------------------------------
 
@@ -109,30 +108,24 @@ module _ {b : BoardValue} {v : Values} (laws : LowerLaws b) (ready : IsReady b v
       by_test false r = parks_allowed c s enters awake e
 
   outcome_allowed : (c : ℕ) (s : Start) (t : Bool) → IsEntering b v c s → (in_life b s.life v).halting ≡ t → let found = in_life b s.life v in let outcome = cond t stops (outcome_at b found (with_arrival b c s v) c s (found.opening c)) in Allows b v (enter_effect c s outcome.act outcome.message)
-  outcome_allowed c s true enters e = λ are. record { enters = enters; halting = e }
-  outcome_allowed c s false enters e =
-      arrival_allowed c s ((in_life b s.life v).opening c) enters e refl
+  outcome_allowed c s x2 enters e = grind (arith, nat_tests, arrival_allowed)
 
   enter_allowed : (c : ℕ) (s : Start) (f : Option FwFault) → enter_fault b v c s ≡ f
       → Allows b v (effect_of b c (Enter s) (reply_or f (enter_outcome b v c s)))
   unfolding enter_outcome
-  enter_allowed c s (Some f) e = λ are. tt
-  enter_allowed c s None e =
-      outcome_allowed c s (in_life b s.life v).halting (entering b v c s e) refl
+  enter_allowed c s x2 e = grind (arith, nat_tests, entering, outcome_allowed)
 
   -- Acknowledgements ----------------------------------------------------------------------------
 
   taken_if : (c : ℕ) (a : AckValue) (m : MessageValue) (t : Bool)
       → v.outstanding (slot_of a.kind a.core) ≡ Some m → answers a m ≡ t
       → Allows b v (effect_of b c (Take a) (replies.Taken (cond t takens.Used takens.Old)))
-  taken_if c a m true at e = λ are. record { message = m; at = at; answers = e }
-  taken_if c a m false at e = λ are. tt
+  taken_if c a m x3 at e = grind (arith, nat_tests)
 
   take_allowed : (c : ℕ) (a : AckValue) (o : Option MessageValue)
       → v.outstanding (slot_of a.kind a.core) ≡ o
       → Allows b v (effect_of b c (Take a) (replies.Taken (taken a o)))
-  take_allowed c a None at = λ are. tt
-  take_allowed c a (Some m) at = taken_if c a m (answers a m) at refl
+  take_allowed c a x2 at = grind (arith, nat_tests, taken_if)
 
   -- All calls -----------------------------------------------------------------------------------
 

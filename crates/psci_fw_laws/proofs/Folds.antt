@@ -33,20 +33,12 @@ without-other : {R : Type 0} (g : ℕ → R → R) (x k : ℕ) (r : R) → (k �
     → without x g k r ≡ g k r
 without-other g x k r d = grind arith
 
-without-it : {R : Type 0} (g : ℕ → R → R) (x : ℕ) (r : R) → without x g x r ≡ r
-without-it g x r = grind arith
-
--- the first number comes first
-pull-first : {R : Type 0} (g : ℕ → R → R) (z : R) (a n : ℕ)
-    → fold g z (range_with_len a (suc n)) ≡ g a (fold (without a g) z (range_with_len a (suc n)))
-pull-first g z a n = grind (arith, alike, without-other, without-it)
-
 -- a number that is gone over may come first
 pull : {R : Type 0} (g : ℕ → R → R) (z : R) (a n x : ℕ) → Commutes g → a ≤ x → x < a + n
     → fold g z (range_with_len a n) ≡ g x (fold (without x g) z (range_with_len a n))
 pull g z a zero x c h i = absurd (omega arith)
 pull g z a (suc n) x c h i =
-    grind (arith, nat_tests, cases_eq, fold, without, without-other, pull-first, pull g z (a + 1) n x c)
+    grind (arith, nat_tests, cases_eq, fold, without, without-other, pull g z (a + 1) n x c, alike)
 
 -- Swapping --------------------------------------------------------------------------------------
 
@@ -75,15 +67,12 @@ without-two : {R : Type 0} (g : ℕ → R → R) (x i j : ℕ) (r : R) (p q : Bo
     → (j == x) ≡ q → Commutes g → without x g i (without x g j r) ≡ without x g j (without x g i r)
 without-two g x i j r p q e f c = grind (arith, c i j r)
 
-without-commutes : {R : Type 0} (g : ℕ → R → R) (x : ℕ) → Commutes g → Commutes (without x g)
-without-commutes g x c = λ i j r. without-two g x i j r (i == x) (j == x) refl refl c
-
 -- both numbers may come first
 pull-two : {R : Type 0} (g : ℕ → R → R) (z : R) (a n x y : ℕ) → Commutes g → (y ≡ x → ⊥)
     → a ≤ x → x < a + n → a ≤ y → y < a + n
     → fold g z (range_with_len a n)
     ≡ g x (g y (fold (without y (without x g)) z (range_with_len a n)))
-pull-two g z a n x y c d h i j k = grind (arith, pull, without-commutes, without-other)
+pull-two g z a n x y c d h i j k = grind (arith, pull, without-other)
 
 without-both : {R : Type 0} (g : ℕ → R → R) (x y k : ℕ) (r : R) (p q : Bool) → (k == x) ≡ p
     → (k == y) ≡ q → without y (without x (swapped x y g)) k r ≡ without y (without x g) k r
@@ -111,12 +100,6 @@ swapped-inside g z a n x y c h i j k = elim (cases_eq y x) [
       ∙ sym (pull-two g z a n x y c d h i j k)))))
 ]
 
--- a fold over numbers with neither
-swapped-outside : {R : Type 0} (g : ℕ → R → R) (z : R) (a n x y : ℕ)
-    → ((k : ℕ) → a ≤ k → k < a + n → k ≡ x → ⊥) → ((k : ℕ) → a ≤ k → k < a + n → k ≡ y → ⊥)
-    → fold (swapped x y g) z (range_with_len a n) ≡ fold g z (range_with_len a n)
-swapped-outside g z a n x y d e = grind (arith, alike, swap-other)
-
 pub cases_within : (a n x : ℕ) → ((a ≤ x) × (x < a + n)) ⊎ (a ≤ x → x < a + n → ⊥)
 cases_within a n x = grind arith
 
@@ -124,7 +107,7 @@ cases_within a n x = grind arith
 pub swapped-fold : {R : Type 0} (g : ℕ → R → R) (z : R) (a n x y : ℕ) → Commutes g
     → (a ≤ x → x < a + n → (a ≤ y) × (y < a + n)) → (a ≤ y → y < a + n → (a ≤ x) × (x < a + n))
     → fold (swapped x y g) z (range_with_len a n) ≡ fold g z (range_with_len a n)
-swapped-fold g z a n x y c f s = grind (arith, cases_within, swapped-inside, swapped-outside)
+swapped-fold g z a n x y c f s = grind (arith, cases_within, swapped-inside, alike, swap-other)
 
 -- Steps -----------------------------------------------------------------------------------------
 

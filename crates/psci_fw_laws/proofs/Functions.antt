@@ -80,8 +80,8 @@ module _ {b : BoardValue} {v : Values} {c : ℕ} (laws : LowerLaws b) (ready : I
   rests_allowed o ask parts made =
       stopped (suspends o ask) parts (λ s. cc) (λ s. cc)
       (λ are. laws.suspended v c ask parts calls.core ready.values calls.runs
-      (asked o ask parts calls.runs are) made) (suspend_made b v c ask parts laws calls.core made)
-      (suspend_own b v c ask parts laws calls.core calls.runs made)
+      (asked o ask parts calls.runs are) made) (suspend_made laws calls.core v ask parts made)
+      (suspend_own laws calls.core v ask parts calls.runs made)
 
   -- a core asks for a power state
   pub suspend_allowed : (state entry_point context : ℕ)
@@ -132,8 +132,7 @@ unfolding target_of
 target_found b v word entry_point t e = search (arith, nat_tests)
 
 off_is_away : (s : Status) (p : Phase) → agrees s p ≡ true → s ≡ statuses.Off → p ≡ Away
-off_is_away statuses.Off Away e f = refl
-off_is_away s p e f = absurd (cc)
+off_is_away s p e f = grind (arith, nat_tests)
 
 module _ {b : BoardValue} {v : Values} {c : ℕ} (laws : LowerLaws b) (ready : IsReady b v)
     (calls : IsCalling b v c) (awake : v.halting ≡ false) where

@@ -30,8 +30,7 @@ use Rattle.psci_fw_spec.specs.declared.outcome.Act.TheVariants as acts
 
 ready : (b : BoardValue) (v : Values) (messages : List MessageValue) → AreValues b v
     → Holds b v messages → IsReady b v
-ready b v messages are holds =
-    record { values = are; entered = (entered b v messages are holds).runs }
+ready b v messages are holds = grind (arith, nat_tests, entered)
 
 after_effect : (b : BoardValue) (v : Values) (messages : List MessageValue) (e : Effect)
     → LowerLaws b → IsAllowed b v e → Holds b v messages
@@ -194,13 +193,10 @@ was_asked b (e ∷ h) steps legal k m at down =
 another : (life later : ℕ) → life < later → (later == life) ≡ false
 another life later e = grind arith
 
-no_earlier : (life later : ℕ) → life < later → nat_lt later life ≡ false
-no_earlier life later e = grind arith
-
 pub answered : (b : BoardValue) (v : Values) (c : ℕ) (s : Start) → v.life < s.life
     → answer b v c (Enter s) ≡ answer b (start_of_life b 0) c (Enter s)
 unfolding answer enter_outcome
-answered b v c s e = grind (arith, another, no_earlier)
+answered b v c s e = grind (arith, another)
 
 arrived : (b : BoardValue) (v : Values) (c : ℕ) (s : Start) → v.life < s.life
     → with_arrival b c s v ≡ with_arrival b c s (start_of_life b 0)
@@ -209,9 +205,7 @@ arrived b v c s e = rw (another v.life s.life e, another 0 s.life (omega (arith,
 left : (b : BoardValue) (v : Values) (c : ℕ) (s : Start) (act : Act) (m : Option MessageValue)
     → with_arrival b c s v ≡ with_arrival b c s (start_of_life b 0)
     → change b (enter_effect c s act m) v ≡ change b (enter_effect c s act m) (start_of_life b 0)
-left b v c s acts.Stop (Some m) e = ap (λ w. with_claims b m (with_phase c Away w)) e
-left b v c s acts.Stop None e = ap (with_phase c Away) e
-left b v c s act m e = ap (with_running c) e
+left b v c s act m e = grind (arith, nat_tests)
 
 pub left_after : (b : BoardValue) (v : Values) (c : ℕ) (s : Start) (o : Outcome) → v.life < s.life
     → after b c (Enter s) (Out o) v ≡ after b c (Enter s) (Out o) (start_of_life b 0)

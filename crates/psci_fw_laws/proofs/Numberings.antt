@@ -53,8 +53,7 @@ module _ {b : BoardValue} {s : ℕ → ℕ → ℕ} (is : Renumbers b s) where
 
   pub place_test : (level place c : ℕ)
       → (up b level c == s level place) ≡ (up b level (s 0 c) == place)
-  place_test level place c =
-      grind (arith, is.above level c, is.back level place, is.back level (up b level c))
+  place_test level place c = grind (arith, nat_tests)
 
   pub node_back : (n : Node) → node_by s (node_by s n) ≡ n
   node_back n = λ i. record { level = n.level; place = is.back n.level n.place i }
@@ -104,8 +103,7 @@ module _ {b : BoardValue} {s : ℕ → ℕ → ℕ} (is : Renumbers b s) where
 
 node_moved : (b : BoardValue) (s : ℕ → ℕ → ℕ) (level k : ℕ) → IsRenumbering b s
     → k < nodes b level → s level k < nodes b level
-node_moved b s level k is h =
-    ltb-true (s level k) (nodes b level) (is.inside level k ∙ lt-ltb k (nodes b level) h)
+node_moved b s level k is h = grind (arith, nat_tests, lt-ltb, ltb-true)
 
 -- whether a place is that of a child of this place
 abbrev is_child : BoardValue → ℕ → ℕ → ℕ → Bool

@@ -9,8 +9,7 @@ use Rattle.psci_fw_laws.proofs.Words.{slice_get, Some, subst, suc, true, up, upd
 
 pub updated_at : {A : Type 0} (P : A → Type 0) (f : ℕ → A) (c : ℕ) (x : A) (k : ℕ)
     → (k ≡ c → P x) → ((k ≡ c → ⊥) → P (f k)) → P (updated f c x k)
-updated_at P f c x k here there =
-    cond_both (k == c) x (f k) P (λ e. here (eqb-true k c e)) (λ e. there (eqb-false k c e))
+updated_at x0 f c x k here there = grind (arith, nat_tests, eqb-false, eqb-true)
 
 pub updated_here : {A : Type 0} (f : ℕ → A) (c : ℕ) (x : A) → updated f c x c ≡ x
 updated_here f c x = updated_at (λ y. y ≡ x) f c x c (λ e. refl) (λ e. absurd (e refl))
@@ -22,8 +21,7 @@ updated_there f c x k ne = updated_at (λ y. y ≡ f k) f c x k (λ e. absurd (n
 -- Parts ---------------------------------------------------------------------------------------
 
 pub kind_is : (k : Kind) → is_kind k Down ≡ true → k ≡ Down
-kind_is Down e = refl
-kind_is k e = absurd (cc)
+kind_is k e = grind (arith, nat_tests)
 
 -- What it means that a message has a part for a domain.
 pub record HasPart (b : BoardValue) (life level place : ℕ) (m : MessageValue) (p : Part)
@@ -47,8 +45,7 @@ part_from b life level place m p h = grind (arith, nat_tests)
 pub claim_new : (b : BoardValue) (life level place : ℕ) (p : Part) (m : MessageValue)
     (sent : List MessageValue) → part_for b life level place m ≡ Some p
     → IsClaimOn b life level place p (m ∷ sent)
-claim_new b life level place p m sent e =
-    inr (record { index = 0; message = m; at = refl; part = e })
+claim_new b life level place p m sent e = grind (arith, nat_tests)
 
 pub claim_old : (b : BoardValue) (life level place : ℕ) (p : Part) (m : MessageValue)
     (sent : List MessageValue) → IsClaimOn b life level place p sent

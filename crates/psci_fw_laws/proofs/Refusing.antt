@@ -122,15 +122,12 @@ nobody_idle b v level c nobody = grind (arith, one_all, nobody, eqb-true)
 invalid_by : (idle some : Bool) (parts : List Part)
     → answer_by (cond idle (Some Invalid) (cond some (Some Denied) None)) parts ≡ Err Invalid
     → idle ≡ true
-invalid_by true some parts e = refl
-invalid_by false true parts e = absurd (cc)
-invalid_by false some parts e = absurd (cc)
+invalid_by x0 some parts e = grind (arith, nat_tests)
 
 denied_by : (idle some : Bool) (parts : List Part)
     → answer_by (cond idle (Some Invalid) (cond some (Some Denied) None)) parts ≡ Err Denied
     → (idle ≡ false) × (some ≡ true)
-denied_by false true parts e = (refl, refl)
-denied_by idle some parts e = absurd (cc)
+denied_by idle some parts e = grind (arith, nat_tests)
 
 -- whether nobody is awake below some domain in the way; whether something is in the way
 abbrev is_asleep : BoardValue → PowerView → ℕ → List ℕ → Bool

@@ -113,9 +113,7 @@ of_life_more : {life : ℕ} {sent : List MessageValue} {n : MessageValue} (m : M
 of_life_more m is = record { index = suc is.index; at = is.at; present = is.present }
 
 slot_is : (s t : Slot) → is_slot s t ≡ true → s ≡ t
-slot_is (OfCore c) (OfCore d) e = ap OfCore (eqb-true c d e)
-slot_is OfSystem OfSystem e = refl
-slot_is s t e = absurd (cc)
+slot_is s t e = grind (arith, nat_tests, eqb-true)
 
 -- nothing is outstanding
 pub outstanding_none : {life : ℕ} {known : ℕ → ℕ} {phase : ℕ → Phase} {sent : List MessageValue}
@@ -212,14 +210,11 @@ module _ {life : ℕ} {known : ℕ → ℕ} {phase : ℕ → Phase} {sent : List
       beside OfSystem there = are_at OfSystem
 
   at_none : (slot : Slot) → AreAt life known phase sent slot None
-  at_none (OfCore c) = λ m e. absurd (cc)
-  at_none OfSystem = λ m e. absurd (cc)
+  at_none x0 = grind (arith, nat_tests)
 
   at_left : (slot : Slot) (a : AckValue) (o : Option MessageValue)
       → AreAt life known phase sent slot o → AreAt life known phase sent slot (left_by a o)
-  at_left slot a None is = is
-  at_left slot a (Some m) is =
-      cond_both _ None (Some m) (AreAt life known phase sent slot) (λ e. at_none slot) (λ e. is)
+  at_left slot a x2 is = grind (arith, nat_tests, AreAt, at_none)
 
   -- an acknowledgement was taken
   pub outstanding_taken : (a : AckValue)

@@ -117,20 +117,12 @@ no_parts ps k p e i = grind arith
 pub not_down : (k : Kind) → is_kind k Down ≡ false → k ≡ Down → ⊥
 not_down k e s = grind arith
 
-plain_parts : (k : Kind) (ps : List Part) → is_kind k Down ≡ false → ps ≡ [] → ArePartsOf k ps
-plain_parts Down ps e i = absurd (cc)
-plain_parts k ps e i = i
-
-pub plain_sound : (b : BoardValue) (v : Values) (m : MessageValue) → IsPlain b v m
-    → (m.kind ≡ Start → m.number < b.starts) → IsSound b m
-plain_sound b v m plain room = grind (arith, nat_tests, no_parts, not_down, plain_parts)
-
 plain_sent : (b : BoardValue) (v : Values) (m : MessageValue) (halting : Bool) (phase : ℕ → Phase)
     → IsPlain b v m → (m.kind ≡ Start → m.number < b.starts)
     → (is_system m.kind ≡ true → halting ≡ true) → (m.kind ≡ Start → phase m.core.number ≡ Pending)
     → IsSent b v.life halting v.known phase m
 plain_sent b v m halting phase plain room halts pending =
-    grind (arith, nat_tests, no_parts, not_down, plain_sound)
+    grind (arith, nat_tests, no_parts, not_down)
 
 -- Asked on ------------------------------------------------------------------------------------
 
@@ -172,13 +164,10 @@ asks_on b v sent asked plain kind room holds =
 
 system_slot : (k : Kind) (c : Rattle.psci_board.specs.declared.node.Core.Core)
     → is_system k ≡ true → slot_of k c ≡ OfSystem
-system_slot Off c e = refl
-system_slot Reset c e = refl
-system_slot k c e = absurd (cc)
+system_slot k c e = grind (arith, nat_tests)
 
 pub system_other : (k : Kind) → is_system k ≡ true → is_kind k Down ≡ false
-system_other Down e = absurd (cc)
-system_other k e = refl
+system_other k e = grind (arith, nat_tests)
 
 system_start : (k : Kind) → is_system k ≡ true → k ≡ Start → ⊥
 system_start k e s = grind arith

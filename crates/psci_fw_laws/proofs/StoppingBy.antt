@@ -41,8 +41,7 @@ use Rattle.psci_fw_spec.specs.declared.status.Status.TheVariants as statuses
 module _ {b : BoardValue} {s : ℕ → ℕ → ℕ} (is : Renumbers b s) where
   pub updated-by : {A : Type 0} (f : ℕ → A) (c : ℕ) (x : A)
       → updated (λ k. f (s 0 k)) (s 0 c) x ≡ (λ k. updated f c x (s 0 k))
-  updated-by f c x = λ i. λ k.
-      ap (λ (t : Bool). if t then x else f (s 0 k)) (other_test is k c) i
+  updated-by f c x = grind (arith, nat_tests, other_test)
 
   phases-by : (c : ℕ) (left : Phase) (v : Values)
       → updated (λ k. v.phase (s 0 k)) (s 0 c) (unless_pending (v.phase (s 0 (s 0 c))) left)
@@ -59,8 +58,7 @@ module _ {b : BoardValue} {s : ℕ → ℕ → ℕ} (is : Renumbers b s) where
 
   leaving_claims-by : (w : PowerView) (c : ℕ) (mode : SuspendMode)
       → leaving_claims b (view_by s w) (s 0 c) mode ≡ leaving_claims b w c mode
-  leaving_claims-by w c Platform = platform_claims-by is w c
-  leaving_claims-by w c OsInitiated = off_claims-by is w c
+  leaving_claims-by w c x2 = grind (arith, nat_tests, off_claims-by, platform_claims-by)
 
   view-by : (v : Values) → view b (values_by s v) ≡ view_by s (view b v)
   unfolding view
@@ -92,14 +90,12 @@ module _ {b : BoardValue} {s : ℕ → ℕ → ℕ} (is : Renumbers b s) where
 
   pub chosen : (t : Bool) (o p q r : Outcome) → o ≡ outcome_by s q → p ≡ outcome_by s r
       → (if t then o else p) ≡ outcome_by s (if t then q else r)
-  chosen true o p q r first second = first
-  chosen false o p q r first second = second
+  chosen x0 o p q r first second = grind (arith, nat_tests)
 
   -- a refusal by the same test
   refused-by : (u t : Bool) (code : Code) (p r : Outcome) → u ≡ t → p ≡ outcome_by s r
       → (if u then returns code else p) ≡ outcome_by s (if t then returns code else r)
-  refused-by u t code p r same second =
-      rw same (chosen t (returns code) p (returns code) r refl second)
+  refused-by u t code p r same second = grind (arith, nat_tests, chosen)
 
   pub message_for-by : (v : Values) (kind : Kind) (c : ℕ) (parts : List Part)
       → message_for (values_by s v) kind (s 0 c) parts ≡ message_by s (message_for v kind c parts)
@@ -108,8 +104,7 @@ module _ {b : BoardValue} {s : ℕ → ℕ → ℕ} (is : Renumbers b s) where
   pub stops_with-by : (v : Values) (kind : Kind) (c : ℕ) (parts others : List Part) → parts ≡ others
       → stops_with (message_for (values_by s v) kind (s 0 c) parts)
       ≡ outcome_by s (stops_with (message_for v kind c others))
-  stops_with-by v kind c parts others same =
-      rw same (ap stops_with (message_for-by v kind c others))
+  stops_with-by v kind c parts others same = grind (arith, nat_tests, message_for-by)
 
   pub cpu_off-by : (v : Values) (c : ℕ)
       → cpu_off b (values_by s v) (s 0 c) ≡ outcome_by s (cpu_off b v c)
@@ -117,29 +112,22 @@ module _ {b : BoardValue} {s : ℕ → ℕ → ℕ} (is : Renumbers b s) where
 
   suspend_answer-by : (v : Values) (c : ℕ) (r : Result (List Part) Osi)
       → suspend_answer (values_by s v) (s 0 c) r ≡ outcome_by s (suspend_answer v c r)
-  suspend_answer-by v c (Err reason) = refl
-  suspend_answer-by v c (Ok parts) = stops_with-by v kinds.Down c parts parts refl
+  suspend_answer-by v c x2 = grind (arith, nat_tests, stops_with-by)
 
   -- the same claim, or the same reason
   suspended-by : (v : Values) (c : ℕ) (ask : List ℕ)
       → suspend_answer (values_by s v) (s 0 c) (suspend_parts b (values_by s v) (s 0 c) ask)
       ≡ outcome_by s (suspend_answer v c (suspend_parts b v c ask))
-  suspended-by v c ask =
-      rw (suspend_parts-by v c ask) (suspend_answer-by v c (suspend_parts b v c ask))
+  suspended-by v c ask = grind (arith, nat_tests, suspend_parts-by, suspend_answer-by)
 
   -- the core has the known start of its other number
   limit-by : (v : Values) (c : ℕ) → (v.known (s 0 (s 0 c)) == b.starts) ≡ (v.known c == b.starts)
   limit-by v c = rw (is.back 0 c)
 
-  suspend_asked-by : (v : Values) (c entry_point : ℕ) (asked : Result (List ℕ) BadState)
+  pub suspend_asked-by : (v : Values) (c entry_point : ℕ) (asked : Result (List ℕ) BadState)
       → suspend_asked b (values_by s v) (s 0 c) entry_point asked
       ≡ outcome_by s (suspend_asked b v c entry_point asked)
   suspend_asked-by v c entry_point x3 = grind (arith, nat_tests, refused-by, suspended-by, limit-by)
-
-  pub cpu_suspend-by : (v : Values) (c state entry_point : ℕ)
-      → cpu_suspend b (values_by s v) (s 0 c) state entry_point
-      ≡ outcome_by s (cpu_suspend b v c state entry_point)
-  cpu_suspend-by v c state entry_point = suspend_asked-by v c entry_point (ask_named b state)
 
   -- a test over the other cores
   pub all_others-by : (c : ℕ) (test : ℕ → Bool)
@@ -166,9 +154,7 @@ module _ {b : BoardValue} {s : ℕ → ℕ → ℕ} (is : Renumbers b s) where
   pub system_reset2-by : (v : Values) (c reset_type : ℕ)
       → system_reset2 (values_by s v) (s 0 c) reset_type
       ≡ outcome_by s (system_reset2 v c reset_type)
-  system_reset2-by v c reset_type =
-      chosen (reset_type == 0) _ (returns invalid_parameters) _ (returns invalid_parameters)
-      (system_message-by v kinds.Reset c) refl
+  system_reset2-by v c reset_type = grind (arith, nat_tests, chosen, system_message-by)
 
 -- Returning ---------------------------------------------------------------------------------------
 
@@ -218,8 +204,7 @@ module _ {b : BoardValue} {s : ℕ → ℕ → ℕ} (is : Renumbers b s) where
 
   hw_state_of-by : (v : Values) (o : Option Node)
       → hw_state_of (values_by s v) (option_map (node_by s) o) ≡ hw_state_of v o
-  hw_state_of-by v None = refl
-  hw_state_of-by v (Some n) = rw (is.back n.level n.place)
+  hw_state_of-by v x1 = grind (arith, nat_tests)
 
   pub hw_state-by : (v : Values) (o p : Option Node) → p ≡ option_map (node_by s) o
       → returns (hw_state_of (values_by s v) p) ≡ outcome_by s (returns (hw_state_of v o))
@@ -227,16 +212,10 @@ module _ {b : BoardValue} {s : ℕ → ℕ → ℕ} (is : Renumbers b s) where
 
   -- CPU_ON ----------------------------------------------------------------------------------------
 
-  at_limit-by : (v : Values) (t : Core) (limit : Bool)
-      → start_outcome (values_by s v) (if limit then Err internal_failure else Ok (core_by s t))
-      ≡ outcome_by s (start_outcome v (if limit then Err internal_failure else Ok t))
-  at_limit-by v t true = refl
-  at_limit-by v t false = rw (message_for-by is v kinds.Start t.number [])
-
   off_target-by : (v : Values) (t : Core) (status : Status)
       → start_outcome (values_by s v) (off_target b (values_by s v) (core_by s t) status)
       ≡ outcome_by s (start_outcome v (off_target b v t status))
-  off_target-by v t x2 = grind (arith, nat_tests, at_limit-by)
+  off_target-by v t x2 = grind (arith, nat_tests)
 
   may_start-by : (v : Values) (t : Core) (may : Bool)
       → start_outcome (values_by s v)
@@ -244,15 +223,13 @@ module _ {b : BoardValue} {s : ℕ → ℕ → ℕ} (is : Renumbers b s) where
       Err invalid_address)
       ≡ outcome_by s
       (start_outcome v (if may then off_target b v t (v.status t.number) else Err invalid_address))
-  may_start-by v t true = rw (is.back 0 t.number) (off_target-by v t (v.status t.number))
-  may_start-by v t false = refl
+  may_start-by v t x2 = grind (arith, nat_tests, off_target-by)
 
   target-by : (v : Values) (entry_point : ℕ) (o : Option Core)
       → start_outcome (values_by s v)
       (target_among b (values_by s v) entry_point (option_map (core_by s) o))
       ≡ outcome_by s (start_outcome v (target_among b v entry_point o))
-  target-by v entry_point None = refl
-  target-by v entry_point (Some t) = may_start-by v t (may_enter b entry_point)
+  target-by v entry_point x2 = grind (arith, nat_tests, may_start-by)
 
   pub cpu_on-by : (v : Values) (target word entry_point : ℕ)
       → core_of b word ≡ option_map (core_by s) (core_of b target)
@@ -270,5 +247,4 @@ module _ {b : BoardValue} {s : ℕ → ℕ → ℕ} (is : Renumbers b s) where
   pub mode_asked-by : (v : Values) (c : ℕ) (mode : Option SuspendMode)
       → returns (mode_asked b (values_by s v) (s 0 c) mode)
       ≡ outcome_by s (returns (mode_asked b v c mode))
-  mode_asked-by v c None = refl
-  mode_asked-by v c (Some mode) = rw (may_set-by v c mode) refl
+  mode_asked-by v c x2 = grind (arith, nat_tests, may_set-by)

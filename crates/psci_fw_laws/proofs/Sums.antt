@@ -40,8 +40,7 @@ kept_gap f g s t a (suc n) h i = grind (arith, nat_tests, kept-more, kept_gap f 
 
 kept_none : (test : ℕ → Bool) (a n : ℕ) → kept (λ c. 0) test a n ≡ 0
 kept_none test a zero = refl
-kept_none test a (suc n) =
-    let rest = kept_none test (a + 1) n in grind (arith, kept-more (λ c. 0) test a n)
+kept_none test a (suc n) = grind (arith, nat_tests, kept-more, kept_none test (a + 1) n)
 
 kept_most : (f : ℕ → ℕ) (test : ℕ → Bool) (a n most : ℕ) → ((c : ℕ) → f c ≤ most)
     → kept f test a n ≤ n * most
@@ -56,8 +55,7 @@ pub known_le : (b : BoardValue) (f g : ℕ → ℕ) (level place : ℕ)
     → ((c : ℕ) → c < cores b → up b level c ≡ place → f c ≤ g c)
     → known_below b f level place ≤ known_below b g level place
 unfolding known_below up
-known_le b f g level place h =
-    kept_le f g _ 0 (cores b) (λ c p q t. h c (omega arith) (eqb-true _ _ t))
+known_le b f g level place h = grind (arith, nat_tests, eqb-true, kept_le)
 
 pub known_less : (b : BoardValue) (f g : ℕ → ℕ) (level place k : ℕ)
     → ((c : ℕ) → c < cores b → up b level c ≡ place → f c ≤ g c)

@@ -27,24 +27,13 @@ meeting : (b : BoardValue) (x y level : ℕ) → PathLaws b → up b 1 x ≡ up 
 meeting b x y zero laws e = e
 meeting b x y (suc level) laws e = laws.joined x y (suc level) (meeting b x y level laws e)
 
-nodes_swapped : (b : BoardValue) (x y level place : ℕ) → AreSiblings b x y
-    → nat_lt (swap_cores x y level place) (nodes b level) ≡ nat_lt place (nodes b level)
-nodes_swapped b x y zero place two = grind (arith, alike_both, nat_lt, lt-ltb)
-nodes_swapped b x y (suc level) place two = refl
-
-swapped_back : (x y level place : ℕ) → swap_cores x y level (swap_cores x y level place) ≡ place
-swapped_back x y zero place = swap-back x y place
-swapped_back x y (suc level) place = refl
-
 swapped_up : (b : BoardValue) (x y level c : ℕ) → PathLaws b → AreSiblings b x y
     → up b level (swap x y c) ≡ swap_cores x y level (up b level c)
-swapped_up b x y zero c paths two = paths.core (swap x y c) ∙ ap (swap x y) (sym (paths.core c))
-swapped_up b x y (suc level) c paths two =
-    alike_both (up b (suc level)) x y c (meeting b x y level paths two.cluster)
+swapped_up b x y x3 c paths two = grind (arith, nat_tests, alike_both, meeting)
 
 pub siblings : (b : BoardValue) (x y : ℕ) → PathLaws b → AreSiblings b x y
     → IsRenumbering b (swap_cores x y)
-siblings b x y paths two = grind (arith, nat_tests, nodes_swapped, swapped_back, swapped_up)
+siblings b x y paths two = grind (arith, nat_tests, swapped_up, alike_both, nat_lt, lt-ltb)
 
 -- Twins -------------------------------------------------------------------------------------------
 
@@ -94,19 +83,9 @@ data Moves (b : BoardValue) (p q c d : ℕ) : Type 0 where
   Second : (In b p c → ⊥) → In b q c → In b p d → d ≡ core_beside b q p c → Moves b p q c d
   Stays : (In b p c → ⊥) → (In b q c → ⊥) → d ≡ c → Moves b p q c d
 
-moves_first : {b : BoardValue} {p q c d : ℕ} → children_at b 1 p ≡ children_at b 1 q → In b p c
-    → d ≡ core_beside b p q c → Moves b p q c d
-moves_first {b} {p} {q} {c} same h e = First h (subst (In b q) (sym e) (beside_in b p q c same h)) e
-
-moves_second : {b : BoardValue} {p q c d : ℕ} → children_at b 1 p ≡ children_at b 1 q
-    → (In b p c → ⊥) → In b q c → d ≡ core_beside b q p c → Moves b p q c d
-moves_second {b} {p} {q} {c} same out h e =
-    Second out h (subst (In b p) (sym e) (beside_in b q p c (sym same) h)) e
-
 moves : (b : BoardValue) (p q c : ℕ) → children_at b 1 p ≡ children_at b 1 q
     → Moves b p q c (swap_clusters b p q 0 c)
-moves b p q c same =
-    grind (arith, nat_tests, cases_in, moved_first, moved_second, moved_none, moves_first, moves_second)
+moves b p q c same = grind (arith, nat_tests, cases_in, moved_first, moved_second, moved_none)
 
 -- the parent of the cluster of this place
 abbrev parent_at : BoardValue → ℕ → Option Node
@@ -134,9 +113,6 @@ module _ {b : BoardValue} (laws : Laws b) where
   unfolding up
   up_past {c} h = cluster_past b.levels c laws.tree laws.low h
 
-  up_out : (p c : ℕ) → p < nodes b 1 → (In b p c → ⊥) → up b 1 c ≡ p → ⊥
-  up_out p c some out e = grind (arith, nat_tests, cases_lt, up_past)
-
   -- The other numbers -----------------------------------------------------------------------------
 
   -- twice is not at all
@@ -159,9 +135,7 @@ module _ {b : BoardValue} (laws : Laws b) where
 
   back_by : (p q level place : ℕ) → children_at b 1 p ≡ children_at b 1 q
       → swap_clusters b p q level (swap_clusters b p q level place) ≡ place
-  back_by p q zero place same = back_from (moves b p q place same)
-  back_by p q (suc zero) place same = swap-back p q place
-  back_by p q (suc (suc level)) place same = refl
+  back_by p q x2 place same = grind (arith, nat_tests, swap-back, moves, back_from)
 
   -- a core of the board stays one
   inside_from : {p q c d : ℕ} → Moves b p q c d → nat_lt d (cores b) ≡ nat_lt c (cores b)
@@ -171,14 +145,10 @@ module _ {b : BoardValue} (laws : Laws b) where
       lt-ltb d (cores b) (inside i) ∙ sym (lt-ltb c (cores b) (inside h))
   inside_from {c = c} {d} (Stays out far e) = ap (λ (k : ℕ). nat_lt k (cores b)) e
 
-  inside_by : (p q level place : ℕ) → AreTwins b p q
-      → nat_lt (swap_clusters b p q level place) (nodes b level) ≡ nat_lt place (nodes b level)
-  inside_by p q x2 place two = grind (arith, nat_tests, lt-ltb, alike_both, moves, inside_from)
-
   -- the clusters have each other's place
   clusters_from : {p q c d : ℕ} → AreTwins b p q → Moves b p q c d → up b 1 d ≡ swap p q (up b 1 c)
   clusters_from {p} {q} {c} two x4 =
-      grind (arith, nat_tests, swap-first, swap-other, swap-second, up_in, up_out)
+      grind (arith, nat_tests, swap-first, swap-other, swap-second, up_in, cases_lt, up_past)
 
   -- cores whose clusters have one parent are below one domain of level 2
   parents_meet : {x y : ℕ} → x < cores b → y < cores b
@@ -209,4 +179,4 @@ module _ {b : BoardValue} (laws : Laws b) where
 pub twins : (b : BoardValue) (p q : ℕ) → IsBoard b → PathLaws b → ChildLaws b → ParentLaws b
     → AreTwins b p q → IsRenumbering b (swap_clusters b p q)
 twins b p q board paths child parents two =
-    grind (arith, nat_tests, inside, back_by, inside_by, above_by)
+    grind (arith, nat_tests, inside, back_by, above_by, lt-ltb, alike_both, moves, inside_from)
