@@ -1,18 +1,17 @@
 -- A core enters: what it finds, what its arrival leaves, and what it does then.
 use Rattle.psci_fw_laws.proofs.Words.{◌<◌, ◌==◌, ◌∙◌, ◌≡◌, ◌≤◌, ap, AreRising, AreSent, arith}
 use Rattle.psci_fw_laws.proofs.Words.{BoardValue, Bool, cond-true, cond_both, eq-eqb, eqb-false}
-use Rattle.psci_fw_laws.proofs.Words.{eqb-true, false, first_phase, Holds, in_life, is_on}
-use Rattle.psci_fw_laws.proofs.Words.{IsEntering, List, MessageValue, None, OfCore, PathLaws, Phase}
-use Rattle.psci_fw_laws.proofs.Words.{refl, Running, slice_get, Some, Start, start_of_life, sym}
-use Rattle.psci_fw_laws.proofs.Words.{unless_pending, updated, Values, with_arrival, with_phase}
-use Rattle.psci_fw_laws.proofs.Words.{with_running, ℕ}
+use Rattle.psci_fw_laws.proofs.Words.{eqb-true, false, Holds, in_life, is_on, IsEntering, List}
+use Rattle.psci_fw_laws.proofs.Words.{MessageValue, None, OfCore, PathLaws, Phase, refl, Running}
+use Rattle.psci_fw_laws.proofs.Words.{slice_get, Some, Start, start_of_life, sym, unless_pending}
+use Rattle.psci_fw_laws.proofs.Words.{updated, Values, with_arrival, with_phase, with_running, ℕ}
 use Rattle.psci_fw_spec.specs.Lives.{first_status}
-use Rattle.psci_fw_laws.proofs.Claiming.{quiet_arrival, quiet_life, quiet_phase}
+use Rattle.psci_fw_laws.proofs.Claiming.{quiet_arrival, quiet_life, quiet_phase, NoneCurrent}
+use Rattle.psci_fw_laws.proofs.Claiming.{none_arrived}
 use Rattle.psci_fw_laws.proofs.Granting.{granted_arrival, granted_life, granted_phase}
-use Rattle.psci_fw_laws.proofs.Claiming.{NoneCurrent, none_arrived}
 use Rattle.psci_fw_laws.proofs.Parts.{part_has, updated_at, updated_here}
-use Rattle.psci_fw_laws.proofs.Sending.{sent_arrival, sent_life, sent_phase}
-use Rattle.psci_fw_laws.proofs.Sending.{outstanding_arrival, outstanding_none, outstanding_phase}
+use Rattle.psci_fw_laws.proofs.Sending.{sent_arrival, sent_life, sent_phase, outstanding_arrival}
+use Rattle.psci_fw_laws.proofs.Sending.{outstanding_none, outstanding_phase}
 use Rattle.psci_fw_spec.specs.declared.status.Status.TheVariants as statuses
 
 -- The start of a life -------------------------------------------------------------------------

@@ -1,15 +1,13 @@
 -- What renumbered cores are answered, whatever the call.
-use Rattle.psci_fw_laws.proofs.Words.{ask_named, nat_tests, ◌&&◌, ◌==◌, ◌∙◌, ◌≡◌, ◌⊎◌, ap, arith}
+use Rattle.psci_fw_laws.proofs.Words.{ask_named, nat_tests, ◌&&◌, ◌∙◌, ◌≡◌, ◌⊎◌, ap, arith}
 use Rattle.psci_fw_laws.proofs.Words.{BoardValue, Bool, enter_fault, eq-eqb, false, has_node}
-use Rattle.psci_fw_laws.proofs.Words.{if◌then◌else◌, in_life, is_path_place, None, not, Opening}
-use Rattle.psci_fw_laws.proofs.Words.{Option, outcome_at, outcome_by, refl, resumes, Some, Start}
-use Rattle.psci_fw_laws.proofs.Words.{start_of_life, stops, sym, true, up, Values, values_by}
-use Rattle.psci_fw_laws.proofs.Words.{with_arrival, ℕ, AsksBy, function_outcome, mode_of, node_of}
-use Rattle.psci_fw_laws.proofs.Words.{call_fault, CallsBy, Enter, Fault, FwCall, FwFault, Out}
-use Rattle.psci_fw_laws.proofs.Words.{Outcome, reply_by, reply_or, request_of, slot_of, Smc}
-use Rattle.psci_fw_laws.proofs.Words.{SparesBoot, Take}
+use Rattle.psci_fw_laws.proofs.Words.{if◌then◌else◌, in_life, is_path_place, not, Opening, Option}
+use Rattle.psci_fw_laws.proofs.Words.{outcome_at, outcome_by, refl, Start, start_of_life, stops}
+use Rattle.psci_fw_laws.proofs.Words.{sym, true, Values, values_by, with_arrival, ℕ, AsksBy}
+use Rattle.psci_fw_laws.proofs.Words.{function_outcome, mode_of, node_of, call_fault, CallsBy}
+use Rattle.psci_fw_laws.proofs.Words.{Enter, FwCall, FwFault, Outcome, reply_by, reply_or}
+use Rattle.psci_fw_laws.proofs.Words.{request_of, slot_of, Smc, SparesBoot, Take}
 use Rattle.psci_fw_spec.specs.Entering.{enter_outcome, without_opening}
-use Rattle.psci_fw_spec.specs.Phases.{is_resumable}
 use Rattle.psci_fw_laws.proofs.Changing.{FindsBy, with_arrival-by, at_slot-by, taken-by}
 use Rattle.psci_fw_laws.proofs.Numberings.{Renumbers}
 use Rattle.psci_fw_laws.proofs.StoppingBy.{has_node-by, affinity-by, cpu_on-by, hw_state-by}
@@ -18,8 +16,6 @@ use Rattle.psci_fw_laws.proofs.StoppingBy.{system_message-by, system_reset2-by, 
 use Rattle.psci_abi.specs.declared.request.Request.{Request}
 use Rattle.psci_fw_spec.specs.Calls.{outcome_of}
 use Rattle.psci_fw_spec.specs.Answer.{answer}
-use Rattle.psci_fw_spec.specs.declared.status.Status.TheVariants as statuses
-use Rattle.psci_fw_spec.specs.Phases as phases
 use Rattle.psci_abi.specs.declared.request.Request.TheVariants as requests
 use Rattle.psci_messages.specs.declared.kind.Kind.TheVariants as kinds
 use Rattle.psci_fw_spec.specs.declared.reply.FwReply.TheVariants as replies

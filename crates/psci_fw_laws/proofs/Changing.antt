@@ -1,26 +1,21 @@
 -- What happens to outstanding messages and to the values of renumbered cores.
-use Rattle.psci_fw_laws.proofs.Words.{nat_tests, ◌&&◌, ◌==◌, ◌≡◌, Acknowledge, acknowledgement_by}
+use Rattle.psci_fw_laws.proofs.Words.{nat_tests, ◌&&◌, ◌≡◌, Acknowledge, acknowledgement_by}
 use Rattle.psci_fw_laws.proofs.Words.{AckValue, answers, ap, arith, BoardValue, Bool, changed}
-use Rattle.psci_fw_laws.proofs.Words.{Clear, Core, core_by, Down, false, if◌then◌else◌, is_slot}
-use Rattle.psci_fw_laws.proofs.Words.{Kind, left_by, message_by, MessageValue, None, OfCore}
-use Rattle.psci_fw_laws.proofs.Words.{OfSystem, Option, option_map, Put, refl, Slot, slot_of, Some}
-use Rattle.psci_fw_laws.proofs.Words.{sym, taken, true, Values, values_by, with_slots, ℕ, ◌∙◌}
-use Rattle.psci_fw_laws.proofs.Words.{below, claimed_or, cleared, confirms_on, granted_with}
-use Rattle.psci_fw_laws.proofs.Words.{in_life, is_away, is_kind, is_made_at, is_path_place, nat_lt}
-use Rattle.psci_fw_laws.proofs.Words.{Node, node_by, Part, Phase, PowerOn, Rest, Start, sum_by}
-use Rattle.psci_fw_laws.proofs.Words.{turns_off, up, updated, with_acknowledgement, with_arrival}
-use Rattle.psci_fw_laws.proofs.Words.{with_claims, with_halt, with_pending, with_rest, with_running}
-use Rattle.psci_messages.specs.Slots.{Change, ClearAll, is_done}
+use Rattle.psci_fw_laws.proofs.Words.{Clear, Core, core_by, false, if◌then◌else◌, is_slot, Kind}
+use Rattle.psci_fw_laws.proofs.Words.{left_by, message_by, MessageValue, None, Option, option_map}
+use Rattle.psci_fw_laws.proofs.Words.{Put, Slot, slot_of, sym, taken, true, Values, values_by}
+use Rattle.psci_fw_laws.proofs.Words.{with_slots, ℕ, ◌∙◌, below, cleared, confirms_on, in_life}
+use Rattle.psci_fw_laws.proofs.Words.{is_made_at, is_path_place, nat_lt, Node, node_by, Part}
+use Rattle.psci_fw_laws.proofs.Words.{PowerOn, Rest, Start, sum_by, turns_off, updated}
+use Rattle.psci_fw_laws.proofs.Words.{with_acknowledgement, with_arrival, with_claims, with_halt}
+use Rattle.psci_fw_laws.proofs.Words.{with_pending, with_rest, with_running}
+use Rattle.psci_messages.specs.Slots.{Change, ClearAll}
 use Rattle.psci_fw_laws.specs.Renumbered.{slot_by}
 use Rattle.psci_fw_laws.proofs.Numberings.{other_test, Renumbers, node_back, sum-below}
-use Rattle.std.proofs.Common.{slice_get}
 use Rattle.std.specs.Option.{option_or}
-use Rattle.psci_fw_spec.specs.Changes.{target, with_sent}
-use Rattle.psci_fw_spec.specs.Confirmed.{applied_part, claimed_anew, confirms, unconfirmed}
-use Rattle.psci_fw_spec.specs.Confirmed.{unless_claimed}
+use Rattle.psci_fw_spec.specs.Confirmed.{applied_part, confirms, unconfirmed}
 use Rattle.psci_fw_laws.proofs.StoppingBy.{updated-by, with_phase-by}
 use Rattle.psci_fw_spec.specs.declared.status.Status.TheVariants as statuses
-use Rattle.psci_fw_spec.specs.Phases as phases
 
 -- Outstanding messages ----------------------------------------------------------------------------
 

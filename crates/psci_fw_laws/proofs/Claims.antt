@@ -3,7 +3,7 @@ use Rattle.psci_fw_laws.proofs.Words.{nat_tests, ◌+◌, ◌∙◌, ◌≡◌, 
 use Rattle.psci_fw_laws.proofs.Words.{least_wish, List, Node, node_by, not, off_wish, own_claims}
 use Rattle.psci_fw_laws.proofs.Words.{own_wish, platform_claims, PowerView, refl, suc, zero, ℕ}
 use Rattle.psci_fw_laws.proofs.Words.{◌&&◌, ◌-◌, ◌==◌, ◌||◌, ◌∷◌, [], arith, Bool, cases_Bool}
-use Rattle.psci_fw_laws.proofs.Words.{children_at, false, filter, first_child, inl, inr, length}
+use Rattle.psci_fw_laws.proofs.Words.{children_at, false, filter, first_child, length}
 use Rattle.psci_fw_laws.proofs.Words.{list_any, lt-ltb, map, nat_lt, range_with_len, sym, true, up}
 use Rattle.psci_messages.specs.Claim.{climb, claims_of, off_claims}
 use Rattle.psci_messages.specs.View.{generation, is_all_away, is_idle, least_ask}

@@ -1,13 +1,8 @@
 -- What an acknowledgement confirms, exactly, and what NODE_HW_STATE says then.
-use Rattle.psci_fw_laws.proofs.Words.{nat_tests, ◌&&◌, ◌<◌, ◌==◌, ◌∙◌, ◌≡◌, ◌⊎◌, AckValue, and_from}
-use Rattle.psci_fw_laws.proofs.Words.{and_parts, ap, arith, below, BoardValue, Bool, cond}
-use Rattle.psci_fw_laws.proofs.Words.{confirms_on, Down, eq-eqb, eqb-true, false, inl, inr, is_kind}
-use Rattle.psci_fw_laws.proofs.Words.{is_made_at, lt-ltb, ltb-true, MessageValue, Node, None}
-use Rattle.psci_fw_laws.proofs.Words.{Option, Part, refl, slice_get, slot_of, Some, suc, sum_by}
-use Rattle.psci_fw_laws.proofs.Words.{sym, true, up, Values, with_acknowledgement, zero, ℕ}
-use Rattle.psci_messages.specs.OnlyIf.{only_if}
-use Rattle.psci_fw_spec.specs.NodeHwState.{hw_at, node_hw}
-use Rattle.psci_fw_spec.specs.declared.hw.Hw.{Hw}
+use Rattle.psci_fw_laws.proofs.Words.{nat_tests, ◌<◌, ◌≡◌, ◌⊎◌, AckValue, and_from, arith}
+use Rattle.psci_fw_laws.proofs.Words.{BoardValue, confirms_on, eq-eqb, false, lt-ltb, Node, true}
+use Rattle.psci_fw_laws.proofs.Words.{Values, with_acknowledgement, ℕ}
+use Rattle.psci_fw_spec.specs.NodeHwState.{node_hw}
 use Rattle.psci_fw_spec.specs.declared.hw.Hw.TheVariants.{Off, On, Standby}
 use Rattle.psci_fw_laws.specs.CarriedOut.{IsCarriedOut}
 use Rattle.psci_fw_laws.proofs.Parts.{kind_is}

@@ -1,11 +1,10 @@
 -- What follows from what is kept.
 use Rattle.psci_fw_laws.proofs.Words.{nat_tests, ◌+◌, ◌<◌, ◌∙◌, ◌∷◌, ◌≡◌, ◌≤◌, ◌⊎◌, [], activity_of}
-use Rattle.psci_fw_laws.proofs.Words.{agrees, ap, AreClaims, ArePartsOf, AreRising, AreValues}
-use Rattle.psci_fw_laws.proofs.Words.{arith, ask, asks, Away, BoardValue, cores, Down, false}
-use Rattle.psci_fw_laws.proofs.Words.{height, Holds, inl, inr, is_on, IsClaimOn, IsCurrent, Kind}
-use Rattle.psci_fw_laws.proofs.Words.{length, List, MessageValue, Node, Part, part_for, PartByPart}
-use Rattle.psci_fw_laws.proofs.Words.{PathLaws, Pending, Phase, refl, Running, slice_get, Some}
-use Rattle.psci_fw_laws.proofs.Words.{SpanLaws, Status, subst, Suspended, sym, true, up, Values, ℕ}
+use Rattle.psci_fw_laws.proofs.Words.{ap, AreClaims, ArePartsOf, AreRising, AreValues, arith, asks}
+use Rattle.psci_fw_laws.proofs.Words.{BoardValue, cores, Down, height, Holds, inl, inr, IsClaimOn}
+use Rattle.psci_fw_laws.proofs.Words.{IsCurrent, Kind, length, List, MessageValue, Node, Part}
+use Rattle.psci_fw_laws.proofs.Words.{part_for, PartByPart, PathLaws, Pending, Phase, refl, Running}
+use Rattle.psci_fw_laws.proofs.Words.{slice_get, Some, SpanLaws, subst, sym, up, Values, ℕ}
 use Rattle.psci_messages.specs.View.{generation}
 use Rattle.psci_fw_spec.specs.Views.{view}
 use Rattle.psci_fw_laws.specs.Entered.{AreEntered}
@@ -16,7 +15,6 @@ use Rattle.psci_fw_laws.proofs.Made.{ask_own, granted_below}
 use Rattle.psci_fw_laws.proofs.Parts.{part_from, part_has}
 use Rattle.psci_fw_laws.proofs.Sums.{known_gap, known_le, known_less, known_most, known_own}
 use Rattle.psci_fw_laws.proofs.Sums.{known_rises, known_same}
-use Rattle.psci_fw_spec.specs.declared.status.Status.TheVariants as statuses
 
 -- Claims --------------------------------------------------------------------------------------
 

@@ -1,29 +1,25 @@
 -- What a call, an entry or an acknowledgement is answered is allowed.
 use Rattle.std.proofs.Common.{is_some}
-use Rattle.std.specs.Prelude.{nat_le, nat_lt}
-use Rattle.psci_fw_laws.proofs.Words.{nat_tests, ◌&&◌, ◌<◌, ◌==◌, ◌||◌, ◌∙◌, ◌≡◌, ◌≤◌, AckValue}
-use Rattle.psci_fw_laws.proofs.Words.{activity_of, answers, ap, AreValues, arith, asks, Away}
-use Rattle.psci_fw_laws.proofs.Words.{BoardValue, Bool, call_fault, cond, cond_both, cores}
-use Rattle.psci_fw_laws.proofs.Words.{effect_of, Enter, enter_effect, enter_fault, eqb-false, false}
-use Rattle.psci_fw_laws.proofs.Words.{FwCall, FwFault, in_life, IsCalling, IsEntering, ltb-true}
-use Rattle.psci_fw_laws.proofs.Words.{MessageValue, None, not, off_message, off_parts, Opening}
-use Rattle.psci_fw_laws.proofs.Words.{Option, or_left, or_right, Outcome, outcome_at, outcome_of}
-use Rattle.psci_fw_laws.proofs.Words.{Parks, Pending, Phase, refl, reply_or, resumes, Running}
+use Rattle.psci_fw_laws.proofs.Words.{nat_tests, ◌==◌, ◌∙◌, ◌≡◌, ◌≤◌, AckValue, activity_of}
+use Rattle.psci_fw_laws.proofs.Words.{answers, AreValues, arith, asks, Away, BoardValue, Bool}
+use Rattle.psci_fw_laws.proofs.Words.{call_fault, cond, cond_both, effect_of, Enter, enter_effect}
+use Rattle.psci_fw_laws.proofs.Words.{enter_fault, false, FwCall, FwFault, in_life, IsCalling}
+use Rattle.psci_fw_laws.proofs.Words.{IsEntering, MessageValue, None, off_message, off_parts}
+use Rattle.psci_fw_laws.proofs.Words.{Opening, Option, or_left, or_right, Outcome, outcome_at}
+use Rattle.psci_fw_laws.proofs.Words.{outcome_of, Parks, Pending, Phase, refl, reply_or, resumes}
 use Rattle.psci_fw_laws.proofs.Words.{slot_of, Smc, Some, Start, start_of_life, stops, stops_with}
 use Rattle.psci_fw_laws.proofs.Words.{subst, sym, Take, taken, true, unless_pending, Values}
 use Rattle.psci_fw_laws.proofs.Words.{with_arrival, with_phase, ℕ}
 use Rattle.psci_fw_spec.specs.psci_abi.Calls.{request_of}
 use Rattle.psci_fw_spec.specs.psci_abi.declared.registers.Regs.{Regs}
 use Rattle.psci_fw_spec.specs.Answer.{answer}
-use Rattle.psci_fw_spec.specs.Entering.{enter_outcome, is_old}
-use Rattle.psci_fw_spec.specs.Phases.{is_running}
+use Rattle.psci_fw_spec.specs.Entering.{enter_outcome}
 use Rattle.psci_fw_laws.proofs.Lower.{Allows, IsReady, LowerLaws}
 use Rattle.psci_fw_laws.proofs.Arriving.{found_life}
 use Rattle.psci_fw_laws.proofs.Functions.{call_allowed}
 use Rattle.psci_fw_laws.proofs.Made.{new_claim, off_made}
 use Rattle.psci_fw_laws.proofs.Parts.{updated_here}
 use Rattle.psci_messages.specs.declared.taken.Taken.TheVariants as takens
-use Rattle.psci_fw_spec.specs.declared.fault.FwFault.TheVariants as faults
 use Rattle.psci_fw_spec.specs.declared.outcome.Act.TheVariants as acts
 use Rattle.psci_fw_spec.specs.declared.reply.FwReply.TheVariants as replies
 

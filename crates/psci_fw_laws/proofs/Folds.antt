@@ -2,7 +2,7 @@
 -- counted over numbers is such a fold.
 use Rattle.psci_fw_laws.proofs.Words.{nat_tests, ◌+◌, ◌<◌, ◌==◌, ◌∙◌, ◌∷◌, ◌≡◌, ◌≤◌, ◌⊎◌, [], ap}
 use Rattle.psci_fw_laws.proofs.Words.{arith, Bool, cases_eq, if◌then◌else◌, inl, inr, List}
-use Rattle.psci_fw_laws.proofs.Words.{range_with_len, refl, subst, suc, swap, sym, zero, ℕ, ◌&&◌}
+use Rattle.psci_fw_laws.proofs.Words.{range_with_len, refl, suc, swap, sym, zero, ℕ, ◌&&◌}
 use Rattle.psci_fw_laws.proofs.Words.{◌||◌, cases_Bool, false, filter, least, list_all, list_any}
 use Rattle.psci_fw_laws.proofs.Words.{map, sum_by, sum_by-cons, true}
 use Rattle.std.proofs.Common.{min}

@@ -1,7 +1,7 @@
 -- What is kept after the calls of renumbered cores, and histories told of them.
 use Rattle.psci_fw_laws.proofs.Words.{◌∙◌, ◌≡◌, acknowledgement_by, Acknowledges, Act, ap, AsksBy}
 use Rattle.psci_fw_laws.proofs.Words.{AsksOn, Away, BoardValue, Bool, CallsBy, change, Effect}
-use Rattle.psci_fw_laws.proofs.Words.{effect_of, Enter, enter_effect, Enters, false, Fault}
+use Rattle.psci_fw_laws.proofs.Words.{effect_of, Enter, enter_effect, Enters, false}
 use Rattle.psci_fw_laws.proofs.Words.{function_effect, FwCall, FwReply, GoesOn, Halts}
 use Rattle.psci_fw_laws.proofs.Words.{if◌then◌else◌, int_eq, message_by, MessageValue, mode_effect}
 use Rattle.psci_fw_laws.proofs.Words.{mode_of, None, Nothing, Option, option_map, Out, Parks, refl}

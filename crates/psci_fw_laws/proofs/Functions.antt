@@ -5,11 +5,10 @@ use Rattle.psci_fw_laws.proofs.Words.{IsCalling, List, message_for, off_message,
 use Rattle.psci_fw_laws.proofs.Words.{Opening, Part, Pending, refl, Request, Rest, Rests, Running}
 use Rattle.psci_fw_laws.proofs.Words.{slice_get, Some, subst, suspend_asked, suspend_parts}
 use Rattle.psci_fw_laws.proofs.Words.{Suspended, sym, system_suspend, unless_pending, updated}
-use Rattle.psci_fw_laws.proofs.Words.{Values, with_rest, ℕ, ◌==◌, agrees, arith, Away, Bool, Code}
-use Rattle.psci_fw_laws.proofs.Words.{cond, Core, core_of, eqb-false, Err, may_enter, None}
-use Rattle.psci_fw_laws.proofs.Words.{off_target, Option, Phase, start_outcome, Status}
-use Rattle.psci_fw_laws.proofs.Words.{target_among, true, [], function_outcome, Halts, is_system}
-use Rattle.psci_fw_laws.proofs.Words.{IsAllowed, Kind, outcome_of, system_reset2}
+use Rattle.psci_fw_laws.proofs.Words.{Values, with_rest, ℕ, ◌==◌, agrees, arith, Away, Code, Core}
+use Rattle.psci_fw_laws.proofs.Words.{core_of, eqb-false, Err, Phase, start_outcome, Status, true}
+use Rattle.psci_fw_laws.proofs.Words.{[], function_outcome, Halts, is_system, IsAllowed, Kind}
+use Rattle.psci_fw_laws.proofs.Words.{outcome_of, system_reset2}
 use Rattle.psci_messages.specs.psci_state.Ask.{deepest_of}
 use Rattle.psci_fw_spec.specs.Effects.{going_off, rest_named, suspends}
 use Rattle.psci_fw_spec.specs.Invariant.{IsPhase}

@@ -2,14 +2,13 @@
 -- begins a life, whatever was kept before it.
 use Rattle.psci_fw_laws.proofs.Words.{nat_tests, ◌++◌, ◌∷◌, ◌≡◌, [], Acknowledges, AreValues, arith}
 use Rattle.psci_fw_laws.proofs.Words.{AsksOn, Away, BoardValue, change, Effect, effect, effect_of}
-use Rattle.psci_fw_laws.proofs.Words.{Enters, first_phase, FwCall, FwExchange, FwReply, GoesOn}
+use Rattle.psci_fw_laws.proofs.Words.{Enters, FwCall, FwExchange, FwReply, GoesOn}
 use Rattle.psci_fw_laws.proofs.Words.{Halts, Holds, IsAllowed, IsLegal, List, listed, MessageValue}
 use Rattle.psci_fw_laws.proofs.Words.{Nothing, Parks, refl, Rests, sent, SetsMode, start_of_life}
 use Rattle.psci_fw_laws.proofs.Words.{Stops, StopsAtOnce, subst, sym, Values, values_of}
 use Rattle.psci_fw_laws.proofs.Words.{with_arrival, with_mode, with_phase, with_rest, ℕ, ◌∙◌, ap}
 use Rattle.psci_fw_laws.proofs.Words.{Down, None, Option, slice_get, Some, suc, zero, ◌<◌, ◌==◌}
 use Rattle.psci_fw_laws.proofs.Words.{Act, Enter, enter_effect, false, Out, Outcome, Start}
-use Rattle.psci_fw_laws.proofs.Words.{with_claims, with_running}
 use Rattle.psci_fw_spec.specs.After.{after}
 use Rattle.psci_fw_spec.specs.Sent.{sent_messages}
 use Rattle.psci_fw_laws.proofs.Lower.{IsReady, LowerLaws}
@@ -21,10 +20,8 @@ use Rattle.psci_fw_laws.proofs.Granting.{granted_life}
 use Rattle.psci_fw_laws.proofs.Started.{claims, rests, asks_on, halts, takes, not_down}
 use Rattle.psci_fw_laws.proofs.Sending.{outstanding_none}
 use Rattle.psci_fw_laws.specs.Asked.{IsAskedFor, WasAsked}
-use Rattle.std.specs.Prelude.{nat_lt}
 use Rattle.psci_fw_spec.specs.Answer.{answer}
 use Rattle.psci_fw_spec.specs.Entering.{enter_outcome}
-use Rattle.psci_fw_spec.specs.declared.outcome.Act.TheVariants as acts
 
 -- One change ----------------------------------------------------------------------------------
 

@@ -3,14 +3,13 @@ use Rattle.std.proofs.lemmas.Bool.{le-leb}
 use Rattle.std.proofs.lemmas.Option.{slice_get_within}
 use Rattle.psci_fw_laws.proofs.Words.{nat_tests, ◌+◌, ◌<◌, ◌∙◌, ◌≡◌, ◌≤◌, activity_of, ap}
 use Rattle.psci_fw_laws.proofs.Words.{AreClaims, AreValues, arith, ask, asks, Away, BoardValue}
-use Rattle.psci_fw_laws.proofs.Words.{ClaimLaws, cond-true, cond_both, cores, domain_of, Down}
-use Rattle.psci_fw_laws.proofs.Words.{eq-eqb, false, height, IsNewClaim, known_on, least_wish}
-use Rattle.psci_fw_laws.proofs.Words.{leaving_claims, length, List, message_for, MessageValue}
-use Rattle.psci_fw_laws.proofs.Words.{off_wish, Ok, OsInitiated, own_wish, Part, PathLaws, Pending}
-use Rattle.psci_fw_laws.proofs.Words.{Platform, platform_claims, refl, Running, slice_get}
-use Rattle.psci_fw_laws.proofs.Words.{slice_index, Some, subst, suc, suspend_claims, Suspended}
-use Rattle.psci_fw_laws.proofs.Words.{SuspendMode, sym, unless_pending, up, Values, with_claims}
-use Rattle.psci_fw_laws.proofs.Words.{with_phase, zero, ℕ}
+use Rattle.psci_fw_laws.proofs.Words.{ClaimLaws, cond-true, cond_both, cores, Down, eq-eqb, false}
+use Rattle.psci_fw_laws.proofs.Words.{height, IsNewClaim, known_on, least_wish, leaving_claims}
+use Rattle.psci_fw_laws.proofs.Words.{length, List, message_for, MessageValue, off_wish, Ok}
+use Rattle.psci_fw_laws.proofs.Words.{OsInitiated, own_wish, Part, PathLaws, Pending, Platform}
+use Rattle.psci_fw_laws.proofs.Words.{platform_claims, refl, Running, slice_get, slice_index, Some}
+use Rattle.psci_fw_laws.proofs.Words.{subst, suc, suspend_claims, Suspended, SuspendMode, sym}
+use Rattle.psci_fw_laws.proofs.Words.{unless_pending, up, Values, with_claims, with_phase, zero, ℕ}
 use Rattle.psci_messages.specs.Claim.{claims_of}
 use Rattle.psci_messages.specs.View.{generation}
 use Rattle.psci_fw_spec.specs.Claims.{off_parts, suspend_parts}

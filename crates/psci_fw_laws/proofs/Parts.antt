@@ -1,9 +1,8 @@
 -- Which messages claim something of a domain.
-use Rattle.psci_fw_laws.proofs.Words.{nat_tests, ◌&&◌, ◌==◌, ◌∷◌, ◌≡◌, ◌⊎◌, and_from, and_parts, ap}
-use Rattle.psci_fw_laws.proofs.Words.{BoardValue, Bool, arith, cond_both, Down, eqb-false, eqb-true}
-use Rattle.psci_fw_laws.proofs.Words.{false, inl, inr, is_kind, IsClaimOn, IsFromMessage, Kind}
-use Rattle.psci_fw_laws.proofs.Words.{List, MessageValue, None, Option, Part, part_for, refl}
-use Rattle.psci_fw_laws.proofs.Words.{slice_get, Some, subst, suc, true, up, updated, zero, ℕ}
+use Rattle.psci_fw_laws.proofs.Words.{nat_tests, ◌∷◌, ◌≡◌, ◌⊎◌, BoardValue, arith, Down, eqb-false}
+use Rattle.psci_fw_laws.proofs.Words.{eqb-true, false, inl, inr, is_kind, IsClaimOn, IsFromMessage}
+use Rattle.psci_fw_laws.proofs.Words.{Kind, List, MessageValue, Part, part_for, refl, slice_get}
+use Rattle.psci_fw_laws.proofs.Words.{Some, suc, true, up, updated, ℕ}
 
 -- A function updated at one core ---------------------------------------------------------------
 

@@ -1,8 +1,6 @@
 -- Tests over numbers in a row: one that passes somewhere, and one that passes everywhere.
-use Rattle.psci_fw_laws.proofs.Words.{◌+◌, ◌<◌, ◌∙◌, ◌≡◌, ◌≤◌, and_from, and_parts, ap, arith, Bool}
-use Rattle.psci_fw_laws.proofs.Words.{cases_Bool, cases_eq, false, filter, inl, inr, list_all}
-use Rattle.psci_fw_laws.proofs.Words.{list_any, or_left, or_right, range_with_len, refl, suc, sym}
-use Rattle.psci_fw_laws.proofs.Words.{true, zero, ℕ}
+use Rattle.psci_fw_laws.proofs.Words.{◌+◌, ◌<◌, ◌≡◌, ◌≤◌, arith, Bool, filter, list_all, list_any}
+use Rattle.psci_fw_laws.proofs.Words.{range_with_len, refl, suc, true, zero, ℕ}
 
 -- A number in this row that passes a test.
 pub record HasOne (p : ℕ → Bool) (a count : ℕ) : Type 0 where

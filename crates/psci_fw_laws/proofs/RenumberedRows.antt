@@ -1,16 +1,13 @@
 -- Worked examples of boards at height 3, of messages, replies, calls and values of the other
 -- numbers, in life 2, and of what is no renumbering and no such call.
 use Rattle.std.proofs.Common.{◌≡◌, ◌==◌, ℕ, zero, suc, true, false, [], ◌∷◌, None, Some}
-use Rattle.std.proofs.Common.{if◌then◌else◌, refl, arith, inl, inr, ◌+◌, ◌*◌, ◌&&◌, ◌||◌, Option}
-use Rattle.std.proofs.Common.{map}
+use Rattle.std.proofs.Common.{if◌then◌else◌, refl, arith, inl, inr, ◌&&◌, ◌||◌, Option, map}
 use Rattle.psci_abi.specs.declared.registers.Regs.{Regs}
 use Rattle.psci_abi.specs.declared.request.Request.TheVariants.{AffinityInfo, CpuOff, CpuOn}
 use Rattle.psci_abi.specs.declared.request.Request.TheVariants.{SetSuspendMode, Version}
 use Rattle.psci_board.specs.Board.{BoardValue, core_of, up}
-use Rattle.psci_messages.specs.Message.{AckValue, MessageValue}
+use Rattle.psci_messages.specs.Message.{MessageValue}
 use Rattle.psci_messages.specs.Slots.{OfCore, OfSystem, Slot}
-use Rattle.psci_messages.specs.declared.start.Start.{Start}
-use Rattle.psci_messages.specs.declared.start.Cause.TheVariants.{Wake}
 use Rattle.psci_messages.specs.declared.taken.Taken.TheVariants.{Old, Used}
 use Rattle.psci_fw_spec.specs.declared.call.FwCall.TheVariants.{Enter, Smc, Take}
 use Rattle.psci_fw_spec.specs.declared.fault.FwFault.TheVariants.{OldStart}

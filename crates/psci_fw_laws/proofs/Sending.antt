@@ -5,7 +5,7 @@ use Rattle.psci_fw_laws.proofs.Words.{MessageValue, Part, PathLaws, Pending, Pha
 use Rattle.psci_fw_laws.proofs.Words.{suc, true, up, updated, zero, ℕ, ◌==◌, Acknowledge, AckValue}
 use Rattle.psci_fw_laws.proofs.Words.{changed, Clear, cond_both, eqb-false, eqb-true, false}
 use Rattle.psci_fw_laws.proofs.Words.{is_slot, is_system, IsOfCore, IsOfLife, left_by, None, OfCore}
-use Rattle.psci_fw_laws.proofs.Words.{OfSystem, Option, Put, refl, Slot, slot_of, subst, sym}
+use Rattle.psci_fw_laws.proofs.Words.{OfSystem, Option, Put, Slot, slot_of, subst, sym}
 use Rattle.psci_messages.specs.declared.kind.Kind.TheVariants.{Start}
 use Rattle.psci_fw_laws.proofs.Parts.{updated_at, updated_there}
 use Rattle.psci_fw_laws.proofs.Sums.{known_gap, known_le}

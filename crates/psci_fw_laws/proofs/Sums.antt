@@ -2,7 +2,7 @@
 use Rattle.std.proofs.Common.{◌*◌}
 use Rattle.psci_fw_laws.proofs.Words.{nat_tests, ◌+◌, ◌<◌, ◌∙◌, ◌∷◌, ◌≡◌, ◌≤◌, [], ap, arith, below}
 use Rattle.psci_fw_laws.proofs.Words.{BoardValue, Bool, cases_Bool, cases_eq, cond, cores, eq-eqb}
-use Rattle.psci_fw_laws.proofs.Words.{eqb-true, filter, inl, inr, PathLaws, range_with_len, refl}
+use Rattle.psci_fw_laws.proofs.Words.{eqb-true, filter, PathLaws, range_with_len, refl}
 use Rattle.psci_fw_laws.proofs.Words.{SpanLaws, suc, sum_by, sum_by-cons, true, zero, ℕ}
 use Rattle.psci_board.specs.Board.{span, up}
 use Rattle.psci_fw_laws.specs.KnownBelow.{known_below}

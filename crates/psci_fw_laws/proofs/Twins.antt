@@ -3,7 +3,7 @@ use Rattle.psci_fw_laws.proofs.Words.{nat_tests, ◌∙◌, ◌≡◌, ap, arith
 use Rattle.psci_fw_laws.proofs.Words.{lt-ltb, nat_lt, nodes, PathLaws, refl, suc, swap, sym, zero}
 use Rattle.psci_fw_laws.proofs.Words.{ℕ, ◌+◌, ◌-◌, ◌<◌, ◌∷◌, ◌≤◌, ◌⊎◌, [], cases_lt, ChildLaws}
 use Rattle.psci_fw_laws.proofs.Words.{children_at, cores, false, first_child, height, inl, inr}
-use Rattle.psci_fw_laws.proofs.Words.{IsBoard, length, List, Node, Option, same_Some, subst, true}
+use Rattle.psci_fw_laws.proofs.Words.{IsBoard, length, List, Node, Option, same_Some, true}
 use Rattle.psci_fw_laws.specs.Renumbered.{AreSiblings, swap_cores, AreTwins, core_beside}
 use Rattle.psci_fw_laws.specs.Renumbered.{is_in_cluster, swap_clusters}
 use Rattle.psci_fw_laws.proofs.Folds.{swap-back, cases_within, swap-first, swap-other, swap-second}

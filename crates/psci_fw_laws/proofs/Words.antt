@@ -72,7 +72,7 @@ pub use Rattle.psci_fw_spec.specs.declared.opening.Opening.{Opening}
 pub use Rattle.psci_fw_spec.specs.declared.outcome.Act.{Act}
 pub use Rattle.psci_fw_spec.specs.declared.outcome.Outcome.{Outcome}
 pub use Rattle.psci_fw_spec.specs.declared.reply.FwReply.{FwReply}
-pub use Rattle.psci_fw_spec.specs.declared.reply.FwReply.TheVariants.{Fault, Out}
+pub use Rattle.psci_fw_spec.specs.declared.reply.FwReply.TheVariants.{Out}
 pub use Rattle.psci_fw_spec.specs.declared.status.Status.{Status}
 pub use Rattle.psci_fw_spec.specs.psci_abi.declared.code.Code.{Code}
 pub use Rattle.psci_fw_spec.specs.psci_abi.declared.request.Request.{Request}
