@@ -46,7 +46,8 @@ module _ {b : BoardValue} {s : ℕ → ℕ → ℕ} (is : Renumbers b s) where
   found-by life v true boot = refl
   found-by life v false boot = sym (start_of_life-by life boot)
 
-  -- a core finds the values of the other numbers, where the boot core keeps its own or no life begins
+  -- a core finds the values of the other numbers, where the boot core keeps its own or no life
+  -- begins
   pub finds-by : (start : Start) (v : Values) → (start.life ≡ v.life) ⊎ (s 0 0 ≡ 0)
       → FindsBy b s start v
   finds-by start v spares = search (arith, eq-eqb, found-by)
@@ -65,7 +66,7 @@ module _ {b : BoardValue} {s : ℕ → ℕ → ℕ} (is : Renumbers b s) where
   outcome_at-by : (found arrived : Values) (c : ℕ) (start : Start) (o : Option Opening)
       → outcome_at b (values_by s found) (values_by s arrived) (s 0 c) start o
       ≡ outcome_by s (outcome_at b found arrived c start o)
-  outcome_at-by found arrived c start x4 = grind (arith, nat_tests, without_opening-by)
+  outcome_at-by found arrived c start o = grind (arith, nat_tests, without_opening-by)
 
   -- what a core is answered that found and left these values
   answered-by : (found arrived : Values) (c : ℕ) (start : Start)
@@ -126,7 +127,7 @@ module _ {b : BoardValue} {s : ℕ → ℕ → ℕ} (is : Renumbers b s) where
 
   reply_or-by : (fault : Option FwFault) (o : Outcome)
       → reply_or fault (outcome_by s o) ≡ reply_by s (reply_or fault o)
-  reply_or-by x0 o = grind (arith, nat_tests)
+  reply_or-by fault o = grind (arith, nat_tests)
 
   -- the same refusal, and the same outcome of the other number
   replied-by : (f g : Option FwFault) (o p : Outcome) → f ≡ g → o ≡ outcome_by s p

@@ -32,10 +32,10 @@ slot_of-by s kind core = grind (arith, nat_tests)
 
 module _ {b : BoardValue} {s : ℕ → ℕ → ℕ} (is : Renumbers b s) where
   is_slot-by : (t u : Slot) → is_slot (slot_by s t) u ≡ is_slot t (slot_by s u)
-  is_slot-by x0 x1 = grind (arith, nat_tests, other_test)
+  is_slot-by t u = grind (arith, nat_tests, other_test)
 
   slot_back : (t : Slot) → slot_by s (slot_by s t) ≡ t
-  slot_back x0 = grind (arith, nat_tests)
+  slot_back t = grind (arith, nat_tests)
 
   pub answers-by : (a : AckValue) (m : MessageValue)
       → answers (acknowledgement_by s a) (message_by s m) ≡ answers a m
@@ -44,16 +44,16 @@ module _ {b : BoardValue} {s : ℕ → ℕ → ℕ} (is : Renumbers b s) where
   if-map : (t : Bool) (o p : Option MessageValue)
       → (if t then option_map (message_by s) o else option_map (message_by s) p)
       ≡ option_map (message_by s) (if t then o else p)
-  if-map x0 o p = grind (arith, nat_tests)
+  if-map t o p = grind (arith, nat_tests)
 
   left_by-by : (a : AckValue) (o : Option MessageValue)
       → left_by (acknowledgement_by s a) (option_map (message_by s) o)
       ≡ option_map (message_by s) (left_by a o)
-  left_by-by a x1 = grind (arith, nat_tests, answers-by, if-map)
+  left_by-by a o = grind (arith, nat_tests, answers-by, if-map)
 
   pub taken-by : (a : AckValue) (o : Option MessageValue)
       → taken (acknowledgement_by s a) (option_map (message_by s) o) ≡ taken a o
-  taken-by a x1 = grind (arith, nat_tests, answers-by)
+  taken-by a o = grind (arith, nat_tests, answers-by)
 
   -- what is in the slot of an acknowledgement
   pub at_slot-by : (v : Values) (a : AckValue)
@@ -65,7 +65,7 @@ module _ {b : BoardValue} {s : ℕ → ℕ → ℕ} (is : Renumbers b s) where
   changed-by : (slot : Slot) (change : Change) (o : Option MessageValue)
       → changed slot (change_by s change) (option_map (message_by s) o)
       ≡ option_map (message_by s) (changed (slot_by s slot) change o)
-  changed-by slot x1 o = grind (arith, nat_tests, is_slot-by, if-map, left_by-by)
+  changed-by slot change o = grind (arith, nat_tests, is_slot-by, if-map, left_by-by)
 
   pub with_slots-by : (change : Change) (v : Values)
       → with_slots (change_by s change) (values_by s v) ≡ values_by s (with_slots change v)
@@ -161,7 +161,7 @@ module _ {b : BoardValue} {s : ℕ → ℕ → ℕ} (is : Renumbers b s) where
   applied_part-by : (a : AckValue) (level : ℕ) (sent : Option MessageValue)
       → applied_part (acknowledgement_by s a) level (option_map (message_by s) sent)
       ≡ applied_part a level sent
-  applied_part-by a level x2 = grind (arith, nat_tests)
+  applied_part-by a level sent = grind (arith, nat_tests)
 
   -- the known starts below a domain, and below its other place
   known_below-by : (known : ℕ → ℕ) (n : Node)

@@ -97,7 +97,7 @@ apart_later b sent x above are life level place (suc j) (suc k) m n p q h i g e 
 apart_start : (b : BoardValue) (sent : List MessageValue) (x : MessageValue) → IsAbove b sent x
     → AreRising b sent → (life level place k : ℕ) (m : MessageValue) (p : Part)
     → slice_get (x ∷ sent) k ≡ Some m → part_for b life level place m ≡ Some p → 0 < p.generation
-apart_start b sent x above are life level place x8 m p i e = grind (arith, nat_tests)
+apart_start b sent x above are life level place k m p i e = grind (arith, nat_tests)
 
 pub apart_new : {b : BoardValue} {sent : List MessageValue} {m : MessageValue} → IsAbove b sent m
     → AreRising b sent → AreRising b (m ∷ sent)

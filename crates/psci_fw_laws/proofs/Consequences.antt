@@ -132,5 +132,13 @@ pub equal_each : (b : BoardValue) (f g : ℕ → ℕ) (level place c : ℕ)
 equal_each b f g level place c le same on at = grind (arith, nat_tests, known_less)
 
 pub known_laws : (b : BoardValue) → PathLaws b → SpanLaws b.levels → KnownLaws b
-known_laws b paths spans =
-    grind (arith, nat_tests, known_gap, known_le, known_less, known_most, known_own, known_rises, known_same, equal_each)
+known_laws b paths spans = record {
+  le = known_le b;
+  less = known_less b;
+  each = equal_each b;
+  same = known_same b;
+  own = λ f c on. known_own b f c spans on;
+  rises = λ f c level. known_rises b f c level paths;
+  gap = λ f g c level h. known_gap b f g c level paths h;
+  most = known_most b;
+}

@@ -40,7 +40,7 @@ not_pending b v c are awake none waits = grind (arith, waits)
 module _ {b : BoardValue} {v : Values} (laws : LowerLaws b) (ready : IsReady b v) where
   smc_allowed : (c : ℕ) (regs : Regs) (f : Option FwFault) → call_fault b v c ≡ f
       → Allows b v (effect_of b c (Smc regs) (reply_or f (outcome_of b v c (request_of regs))))
-  smc_allowed c regs x2 e = grind (arith, nat_tests, call_allowed, calling)
+  smc_allowed c regs f e = grind (arith, nat_tests, call_allowed, calling)
 
   -- Entries -------------------------------------------------------------------------------------
 
@@ -83,7 +83,11 @@ module _ {b : BoardValue} {v : Values} (laws : LowerLaws b) (ready : IsReady b v
       stays_away Pending ne = absurd (ne refl)
       stays_away p ne = refl
 
-  arrival_allowed : (c : ℕ) (s : Start) (o : Option Opening) → IsEntering b v c s → (in_life b s.life v).halting ≡ false → (in_life b s.life v).opening c ≡ o → let found = in_life b s.life v in let outcome = outcome_at b found (with_arrival b c s v) c s o in Allows b v (enter_effect c s outcome.act outcome.message)
+  arrival_allowed : (c : ℕ) (s : Start) (o : Option Opening) → IsEntering b v c s
+      → (in_life b s.life v).halting ≡ false → (in_life b s.life v).opening c ≡ o
+      → let found = in_life b s.life v in
+      let outcome = outcome_at b found (with_arrival b c s v) c s o in
+      Allows b v (enter_effect c s outcome.act outcome.message)
   arrival_allowed c s (Some o) enters awake e =
       grind (arith, nat_tests, or_left, or_right, parks_allowed)
   arrival_allowed c s None enters awake e =
@@ -103,25 +107,29 @@ module _ {b : BoardValue} {v : Values} (laws : LowerLaws b) (ready : IsReady b v
       }
       by_test false r = parks_allowed c s enters awake e
 
-  outcome_allowed : (c : ℕ) (s : Start) (t : Bool) → IsEntering b v c s → (in_life b s.life v).halting ≡ t → let found = in_life b s.life v in let outcome = cond t stops (outcome_at b found (with_arrival b c s v) c s (found.opening c)) in Allows b v (enter_effect c s outcome.act outcome.message)
-  outcome_allowed c s x2 enters e = grind (arith, nat_tests, arrival_allowed)
+  outcome_allowed : (c : ℕ) (s : Start) (t : Bool) → IsEntering b v c s
+      → (in_life b s.life v).halting ≡ t → let found = in_life b s.life v in
+      let outcome =
+      cond t stops (outcome_at b found (with_arrival b c s v) c s (found.opening c)) in
+      Allows b v (enter_effect c s outcome.act outcome.message)
+  outcome_allowed c s t enters e = grind (arith, nat_tests, arrival_allowed)
 
   enter_allowed : (c : ℕ) (s : Start) (f : Option FwFault) → enter_fault b v c s ≡ f
       → Allows b v (effect_of b c (Enter s) (reply_or f (enter_outcome b v c s)))
   unfolding enter_outcome
-  enter_allowed c s x2 e = grind (arith, nat_tests, entering, outcome_allowed)
+  enter_allowed c s f e = grind (arith, nat_tests, entering, outcome_allowed)
 
   -- Acknowledgements ----------------------------------------------------------------------------
 
   taken_if : (c : ℕ) (a : AckValue) (m : MessageValue) (t : Bool)
       → v.outstanding (slot_of a.kind a.core) ≡ Some m → answers a m ≡ t
       → Allows b v (effect_of b c (Take a) (replies.Taken (cond t takens.Used takens.Old)))
-  taken_if c a m x3 at e = grind (arith, nat_tests)
+  taken_if c a m t at e = grind (arith, nat_tests)
 
   take_allowed : (c : ℕ) (a : AckValue) (o : Option MessageValue)
       → v.outstanding (slot_of a.kind a.core) ≡ o
       → Allows b v (effect_of b c (Take a) (replies.Taken (taken a o)))
-  take_allowed c a x2 at = grind (arith, nat_tests, taken_if)
+  take_allowed c a o at = grind (arith, nat_tests, taken_if)
 
   -- All calls -----------------------------------------------------------------------------------
 

@@ -1,5 +1,5 @@
--- A fold over numbers does not depend on the order of two of them, if its steps commute; and what is
--- counted over numbers is such a fold.
+-- A fold over numbers does not depend on the order of two of them, if its steps commute; and what
+-- is counted over numbers is such a fold.
 use Rattle.psci_fw_laws.proofs.Words.{nat_tests, ◌+◌, ◌<◌, ◌==◌, ◌∙◌, ◌∷◌, ◌≡◌, ◌≤◌, ◌⊎◌, [], ap}
 use Rattle.psci_fw_laws.proofs.Words.{arith, Bool, cases_eq, if◌then◌else◌, inl, inr, List}
 use Rattle.psci_fw_laws.proofs.Words.{range_with_len, refl, suc, swap, sym, zero, ℕ, ◌&&◌}

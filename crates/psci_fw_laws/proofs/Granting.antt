@@ -17,7 +17,7 @@ use Rattle.psci_fw_laws.proofs.Sums.{known_none}
 -- what holds of a depth on a path and off it
 pub on_path : (P : ℕ → Type 0) (place at x y : ℕ) → (place ≡ at → P x) → ((place ≡ at → ⊥) → P y)
     → P (cond (place == at) x y)
-on_path x0 place at x y here there = grind (arith, nat_tests, eqb-false, eqb-true)
+on_path P place at x y here there = grind (arith, nat_tests, eqb-false, eqb-true)
 
 -- a claim stays one once more was sent
 current_more : {b : BoardValue} {life : ℕ} {known : ℕ → ℕ} {level place depth : ℕ}

@@ -70,7 +70,7 @@ after_effect b v messages (Acknowledges a) laws allowed holds = takes b v messag
 
 start_holds : (b : BoardValue) → Holds b (start_of_life b 0) []
 start_holds b =
-    grind (arith, nat_tests, first_not_on, apart_none, quiet_life, entered, granted_life, outstanding_none)
+    grind (arith, first_not_on, apart_none, quiet_life, granted_life, outstanding_none)
 
 -- what the laws of psci_fw_spec say of histories
 pub record HistoryLaws (b : BoardValue) : Type 0 where

@@ -223,7 +223,7 @@ core_from_node : (o : Option Core) (place : ℕ)
     → option_map (λ (c : Core). let n : Node = record { level = 0; place = c.number } in n) o
     ≡ Some (record { level = 0; place = place })
     → o ≡ Some (record { number = place })
-core_from_node x0 place e = grind (arith, nat_tests, same_Some, none-some)
+core_from_node o place e = grind (arith, nat_tests, same_Some, none-some)
 
 core_named : (b : BoardValue) (s : ℕ → ℕ → ℕ) (target : ℕ) (o : Option Core) → Renumbers b s
     → WordLaws b → core_of b target ≡ o

@@ -8,7 +8,7 @@ use Rattle.psci_fw_laws.proofs.Words.{Some, suc, true, up, updated, ℕ}
 
 pub updated_at : {A : Type 0} (P : A → Type 0) (f : ℕ → A) (c : ℕ) (x : A) (k : ℕ)
     → (k ≡ c → P x) → ((k ≡ c → ⊥) → P (f k)) → P (updated f c x k)
-updated_at x0 f c x k here there = grind (arith, nat_tests, eqb-false, eqb-true)
+updated_at P f c x k here there = grind (arith, nat_tests, eqb-false, eqb-true)
 
 pub updated_here : {A : Type 0} (f : ℕ → A) (c : ℕ) (x : A) → updated f c x c ≡ x
 updated_here f c x = updated_at (λ y. y ≡ x) f c x c (λ e. refl) (λ e. absurd (e refl))
@@ -58,7 +58,7 @@ from_more : (b : BoardValue) (life level place : ℕ) (p : Part) (m n : MessageV
     (sent : List MessageValue) (k : ℕ) → slice_get (m ∷ sent) k ≡ Some n
     → part_for b life level place n ≡ Some p
     → (part_for b life level place m ≡ Some p) ⊎ IsFromMessage b life level place p sent
-from_more b life level place p m n sent x8 at e = grind (arith, nat_tests)
+from_more b life level place p m n sent k at e = grind (arith, nat_tests)
 
 pub claim_more : (b : BoardValue) (life level place : ℕ) (p : Part) (m : MessageValue)
     (sent : List MessageValue) → IsClaimOn b life level place p (m ∷ sent)

@@ -122,7 +122,7 @@ nobody_idle b v level c nobody = grind (arith, one_all, nobody, eqb-true)
 invalid_by : (idle some : Bool) (parts : List Part)
     → answer_by (cond idle (Some Invalid) (cond some (Some Denied) None)) parts ≡ Err Invalid
     → idle ≡ true
-invalid_by x0 some parts e = grind (arith, nat_tests)
+invalid_by idle some parts e = grind (arith, nat_tests)
 
 denied_by : (idle some : Bool) (parts : List Part)
     → answer_by (cond idle (Some Invalid) (cond some (Some Denied) None)) parts ≡ Err Denied

@@ -57,7 +57,7 @@ module _ {b : BoardValue} {s : ℕ → ℕ → ℕ} (is : Renumbers b s) where
 
   leaving_claims-by : (w : PowerView) (c : ℕ) (mode : SuspendMode)
       → leaving_claims b (view_by s w) (s 0 c) mode ≡ leaving_claims b w c mode
-  leaving_claims-by w c x2 = grind (arith, nat_tests, off_claims-by, platform_claims-by)
+  leaving_claims-by w c mode = grind (arith, nat_tests, off_claims-by, platform_claims-by)
 
   view-by : (v : Values) → view b (values_by s v) ≡ view_by s (view b v)
   unfolding view
@@ -89,7 +89,7 @@ module _ {b : BoardValue} {s : ℕ → ℕ → ℕ} (is : Renumbers b s) where
 
   pub chosen : (t : Bool) (o p q r : Outcome) → o ≡ outcome_by s q → p ≡ outcome_by s r
       → (if t then o else p) ≡ outcome_by s (if t then q else r)
-  chosen x0 o p q r first second = grind (arith, nat_tests)
+  chosen t o p q r first second = grind (arith, nat_tests)
 
   -- a refusal by the same test
   refused-by : (u t : Bool) (code : Code) (p r : Outcome) → u ≡ t → p ≡ outcome_by s r
@@ -111,7 +111,7 @@ module _ {b : BoardValue} {s : ℕ → ℕ → ℕ} (is : Renumbers b s) where
 
   suspend_answer-by : (v : Values) (c : ℕ) (r : Result (List Part) Osi)
       → suspend_answer (values_by s v) (s 0 c) r ≡ outcome_by s (suspend_answer v c r)
-  suspend_answer-by v c x2 = grind (arith, nat_tests, stops_with-by)
+  suspend_answer-by v c r = grind (arith, nat_tests, stops_with-by)
 
   -- the same claim, or the same reason
   suspended-by : (v : Values) (c : ℕ) (ask : List ℕ)
@@ -126,7 +126,8 @@ module _ {b : BoardValue} {s : ℕ → ℕ → ℕ} (is : Renumbers b s) where
   pub suspend_asked-by : (v : Values) (c entry_point : ℕ) (asked : Result (List ℕ) BadState)
       → suspend_asked b (values_by s v) (s 0 c) entry_point asked
       ≡ outcome_by s (suspend_asked b v c entry_point asked)
-  suspend_asked-by v c entry_point x3 = grind (arith, nat_tests, refused-by, suspended-by, limit-by)
+  suspend_asked-by v c entry_point asked =
+      grind (arith, nat_tests, refused-by, suspended-by, limit-by)
 
   -- a test over the other cores
   pub all_others-by : (c : ℕ) (test : ℕ → Bool)
@@ -203,7 +204,7 @@ module _ {b : BoardValue} {s : ℕ → ℕ → ℕ} (is : Renumbers b s) where
 
   hw_state_of-by : (v : Values) (o : Option Node)
       → hw_state_of (values_by s v) (option_map (node_by s) o) ≡ hw_state_of v o
-  hw_state_of-by v x1 = grind (arith, nat_tests)
+  hw_state_of-by v o = grind (arith, nat_tests)
 
   pub hw_state-by : (v : Values) (o p : Option Node) → p ≡ option_map (node_by s) o
       → returns (hw_state_of (values_by s v) p) ≡ outcome_by s (returns (hw_state_of v o))
@@ -214,7 +215,7 @@ module _ {b : BoardValue} {s : ℕ → ℕ → ℕ} (is : Renumbers b s) where
   off_target-by : (v : Values) (t : Core) (status : Status)
       → start_outcome (values_by s v) (off_target b (values_by s v) (core_by s t) status)
       ≡ outcome_by s (start_outcome v (off_target b v t status))
-  off_target-by v t x2 = grind (arith, nat_tests)
+  off_target-by v t status = grind (arith, nat_tests)
 
   may_start-by : (v : Values) (t : Core) (may : Bool)
       → start_outcome (values_by s v)
@@ -222,13 +223,13 @@ module _ {b : BoardValue} {s : ℕ → ℕ → ℕ} (is : Renumbers b s) where
       Err invalid_address)
       ≡ outcome_by s
       (start_outcome v (if may then off_target b v t (v.status t.number) else Err invalid_address))
-  may_start-by v t x2 = grind (arith, nat_tests, off_target-by)
+  may_start-by v t may = grind (arith, nat_tests, off_target-by)
 
   target-by : (v : Values) (entry_point : ℕ) (o : Option Core)
       → start_outcome (values_by s v)
       (target_among b (values_by s v) entry_point (option_map (core_by s) o))
       ≡ outcome_by s (start_outcome v (target_among b v entry_point o))
-  target-by v entry_point x2 = grind (arith, nat_tests, may_start-by)
+  target-by v entry_point o = grind (arith, nat_tests, may_start-by)
 
   pub cpu_on-by : (v : Values) (target word entry_point : ℕ)
       → core_of b word ≡ option_map (core_by s) (core_of b target)
@@ -246,4 +247,4 @@ module _ {b : BoardValue} {s : ℕ → ℕ → ℕ} (is : Renumbers b s) where
   pub mode_asked-by : (v : Values) (c : ℕ) (mode : Option SuspendMode)
       → returns (mode_asked b (values_by s v) (s 0 c) mode)
       ≡ outcome_by s (returns (mode_asked b v c mode))
-  mode_asked-by v c x2 = grind (arith, nat_tests, may_set-by)
+  mode_asked-by v c mode = grind (arith, nat_tests, may_set-by)

@@ -1,4 +1,5 @@
--- To swap two cores of one cluster, or two clusters with as many cores, is a renumbering of the board.
+-- To swap two cores of one cluster, or two clusters with as many cores, is a renumbering of the
+-- board.
 use Rattle.psci_fw_laws.proofs.Words.{nat_tests, ◌∙◌, ◌≡◌, ap, arith, BoardValue, IsRenumbering}
 use Rattle.psci_fw_laws.proofs.Words.{lt-ltb, nat_lt, nodes, PathLaws, refl, suc, swap, sym, zero}
 use Rattle.psci_fw_laws.proofs.Words.{ℕ, ◌+◌, ◌-◌, ◌<◌, ◌∷◌, ◌≤◌, ◌⊎◌, [], cases_lt, ChildLaws}
@@ -29,7 +30,7 @@ meeting b x y (suc level) laws e = laws.joined x y (suc level) (meeting b x y le
 
 swapped_up : (b : BoardValue) (x y level c : ℕ) → PathLaws b → AreSiblings b x y
     → up b level (swap x y c) ≡ swap_cores x y level (up b level c)
-swapped_up b x y x3 c paths two = grind (arith, nat_tests, alike_both, meeting)
+swapped_up b x y level c paths two = grind (arith, nat_tests, alike_both, meeting)
 
 pub siblings : (b : BoardValue) (x y : ℕ) → PathLaws b → AreSiblings b x y
     → IsRenumbering b (swap_cores x y)
@@ -98,7 +99,7 @@ group_past (n ∷ ns) i h = grind (arith, nat_tests, le-ltb, sum-cons, group_pas
 
 cluster_past : (levels : List (List ℕ)) (c : ℕ) → IsTree levels → 0 < length levels
     → size_below levels ≤ c → size_below (drop 1 levels) ≤ place_above levels 1 c
-cluster_past x0 c tree low h = grind (arith, nat_tests, group_past)
+cluster_past levels c tree low h = grind (arith, nat_tests, group_past)
 
 module _ {b : BoardValue} (laws : Laws b) where
   inside : {p c : ℕ} → In b p c → c < cores b
@@ -135,7 +136,7 @@ module _ {b : BoardValue} (laws : Laws b) where
 
   back_by : (p q level place : ℕ) → children_at b 1 p ≡ children_at b 1 q
       → swap_clusters b p q level (swap_clusters b p q level place) ≡ place
-  back_by p q x2 place same = grind (arith, nat_tests, swap-back, moves, back_from)
+  back_by p q level place same = grind (arith, nat_tests, swap-back, moves, back_from)
 
   -- a core of the board stays one
   inside_from : {p q c d : ℕ} → Moves b p q c d → nat_lt d (cores b) ≡ nat_lt c (cores b)
@@ -147,7 +148,7 @@ module _ {b : BoardValue} (laws : Laws b) where
 
   -- the clusters have each other's place
   clusters_from : {p q c d : ℕ} → AreTwins b p q → Moves b p q c d → up b 1 d ≡ swap p q (up b 1 c)
-  clusters_from {p} {q} {c} two x4 =
+  clusters_from {p} {q} {c} two moved =
       grind (arith, nat_tests, swap-first, swap-other, swap-second, up_in, cases_lt, up_past)
 
   -- cores whose clusters have one parent are below one domain of level 2
