@@ -23,18 +23,13 @@ use Rattle.psci_fw_spec.specs.declared.reply.FwReply.TheVariants as replies
 -- The start of a life ---------------------------------------------------------------------------
 
 module _ {b : BoardValue} {s : ℕ → ℕ → ℕ} (is : Renumbers b s) where
-  -- and its path has the same places
-  boot_path-by : (level place : ℕ) → s 0 0 ≡ 0
-      → is_path_place b 0 level (s level place) ≡ is_path_place b 0 level place
-  boot_path-by level place boot = grind (arith, nat_tests)
-
   first_confirmed-by : (level place : ℕ) → s 0 0 ≡ 0
       →
       (has_node b (record { level = level; place = s level place }) && not
       (is_path_place b 0 level (s level place)))
       ≡
       (has_node b (record { level = level; place = place }) && not (is_path_place b 0 level place))
-  first_confirmed-by level place boot = grind (arith, nat_tests, has_node-by, boot_path-by)
+  first_confirmed-by level place boot = grind (arith, nat_tests, has_node-by)
 
   pub start_of_life-by : (life : ℕ) → s 0 0 ≡ 0
       → values_by s (start_of_life b life) ≡ start_of_life b life
@@ -63,11 +58,6 @@ module _ {b : BoardValue} {s : ℕ → ℕ → ℕ} (is : Renumbers b s) where
       ≡ outcome_by s (without_opening b found arrived c start)
   without_opening-by found arrived c start = search (arith, chosen, cpu_off-by)
 
-  outcome_at-by : (found arrived : Values) (c : ℕ) (start : Start) (o : Option Opening)
-      → outcome_at b (values_by s found) (values_by s arrived) (s 0 c) start o
-      ≡ outcome_by s (outcome_at b found arrived c start o)
-  outcome_at-by found arrived c start o = grind (arith, nat_tests, without_opening-by)
-
   -- what a core is answered that found and left these values
   answered-by : (found arrived : Values) (c : ℕ) (start : Start)
       →
@@ -75,7 +65,7 @@ module _ {b : BoardValue} {s : ℕ → ℕ → ℕ} (is : Renumbers b s) where
       (s 0 c) start (found.opening (s 0 (s 0 c))))
       ≡ outcome_by s
       (if found.halting then stops else outcome_at b found arrived c start (found.opening c))
-  answered-by found arrived c start = search (arith, chosen, outcome_at-by)
+  answered-by found arrived c start = search (arith, chosen, nat_tests, without_opening-by)
 
   pub enter_outcome-by : (v : Values) (c : ℕ) (start : Start) → FindsBy b s start v
       → enter_outcome b (values_by s v) (s 0 c) start ≡ outcome_by s (enter_outcome b v c start)

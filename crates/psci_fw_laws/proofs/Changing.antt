@@ -31,9 +31,6 @@ slot_of-by : (s : ℕ → ℕ → ℕ) (kind : Kind) (core : Core)
 slot_of-by s kind core = grind (arith, nat_tests)
 
 module _ {b : BoardValue} {s : ℕ → ℕ → ℕ} (is : Renumbers b s) where
-  is_slot-by : (t u : Slot) → is_slot (slot_by s t) u ≡ is_slot t (slot_by s u)
-  is_slot-by t u = grind (arith, nat_tests, other_test)
-
   slot_back : (t : Slot) → slot_by s (slot_by s t) ≡ t
   slot_back t = grind (arith, nat_tests)
 
@@ -65,7 +62,7 @@ module _ {b : BoardValue} {s : ℕ → ℕ → ℕ} (is : Renumbers b s) where
   changed-by : (slot : Slot) (change : Change) (o : Option MessageValue)
       → changed slot (change_by s change) (option_map (message_by s) o)
       ≡ option_map (message_by s) (changed (slot_by s slot) change o)
-  changed-by slot change o = grind (arith, nat_tests, is_slot-by, if-map, left_by-by)
+  changed-by slot change o = grind (arith, nat_tests, if-map, left_by-by, other_test)
 
   pub with_slots-by : (change : Change) (v : Values)
       → with_slots (change_by s change) (values_by s v) ≡ values_by s (with_slots change v)

@@ -94,14 +94,9 @@ apart_later b sent x above are life level place zero (suc k) m n p q h i j e f =
 apart_later b sent x above are life level place (suc j) (suc k) m n p q h i g e f =
     are.later life level place j k m n p q (omega arith) i g e f
 
-apart_start : (b : BoardValue) (sent : List MessageValue) (x : MessageValue) → IsAbove b sent x
-    → AreRising b sent → (life level place k : ℕ) (m : MessageValue) (p : Part)
-    → slice_get (x ∷ sent) k ≡ Some m → part_for b life level place m ≡ Some p → 0 < p.generation
-apart_start b sent x above are life level place k m p i e = grind (arith, nat_tests)
-
 pub apart_new : {b : BoardValue} {sent : List MessageValue} {m : MessageValue} → IsAbove b sent m
     → AreRising b sent → AreRising b (m ∷ sent)
-apart_new {b} {sent} {m} above are = grind (arith, nat_tests, apart_later, apart_start)
+apart_new {b} {sent} {m} above are = grind (arith, nat_tests, apart_later)
 
 pub apart_none : {b : BoardValue} → AreRising b []
 apart_none = grind (arith, nat_tests)

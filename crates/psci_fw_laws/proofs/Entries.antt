@@ -107,29 +107,17 @@ module _ {b : BoardValue} {v : Values} (laws : LowerLaws b) (ready : IsReady b v
       }
       by_test false r = parks_allowed c s enters awake e
 
-  outcome_allowed : (c : ℕ) (s : Start) (t : Bool) → IsEntering b v c s
-      → (in_life b s.life v).halting ≡ t → let found = in_life b s.life v in
-      let outcome =
-      cond t stops (outcome_at b found (with_arrival b c s v) c s (found.opening c)) in
-      Allows b v (enter_effect c s outcome.act outcome.message)
-  outcome_allowed c s t enters e = grind (arith, nat_tests, arrival_allowed)
-
   enter_allowed : (c : ℕ) (s : Start) (f : Option FwFault) → enter_fault b v c s ≡ f
       → Allows b v (effect_of b c (Enter s) (reply_or f (enter_outcome b v c s)))
   unfolding enter_outcome
-  enter_allowed c s f e = grind (arith, nat_tests, entering, outcome_allowed)
+  enter_allowed c s f e = grind (arith, nat_tests, entering, arrival_allowed)
 
   -- Acknowledgements ----------------------------------------------------------------------------
-
-  taken_if : (c : ℕ) (a : AckValue) (m : MessageValue) (t : Bool)
-      → v.outstanding (slot_of a.kind a.core) ≡ Some m → answers a m ≡ t
-      → Allows b v (effect_of b c (Take a) (replies.Taken (cond t takens.Used takens.Old)))
-  taken_if c a m t at e = grind (arith, nat_tests)
 
   take_allowed : (c : ℕ) (a : AckValue) (o : Option MessageValue)
       → v.outstanding (slot_of a.kind a.core) ≡ o
       → Allows b v (effect_of b c (Take a) (replies.Taken (taken a o)))
-  take_allowed c a o at = grind (arith, nat_tests, taken_if)
+  take_allowed c a o at = grind (arith, nat_tests)
 
   -- All calls -----------------------------------------------------------------------------------
 

@@ -63,10 +63,6 @@ swap-same x y k e = grind arith
 abbrev pub swapped : {R : Type 0} → ℕ → ℕ → (ℕ → R → R) → ℕ → R → R
 swapped x y g k r = g (swap x y k) r
 
-without-two : {R : Type 0} (g : ℕ → R → R) (x i j : ℕ) (r : R) (p q : Bool) → (i == x) ≡ p
-    → (j == x) ≡ q → Commutes g → without x g i (without x g j r) ≡ without x g j (without x g i r)
-without-two g x i j r p q e f c = grind (arith, c i j r)
-
 -- both numbers may come first
 pull-two : {R : Type 0} (g : ℕ → R → R) (z : R) (a n x y : ℕ) → Commutes g → (y ≡ x → ⊥)
     → a ≤ x → x < a + n → a ≤ y → y < a + n

@@ -209,12 +209,9 @@ module _ {life : ℕ} {known : ℕ → ℕ} {phase : ℕ → Phase} {sent : List
           }
       beside OfSystem there = are_at OfSystem
 
-  at_none : (slot : Slot) → AreAt life known phase sent slot None
-  at_none slot = grind (arith, nat_tests)
-
   at_left : (slot : Slot) (a : AckValue) (o : Option MessageValue)
       → AreAt life known phase sent slot o → AreAt life known phase sent slot (left_by a o)
-  at_left slot a o is = grind (arith, nat_tests, AreAt, at_none)
+  at_left slot a o is = grind (arith, nat_tests, AreAt)
 
   -- an acknowledgement was taken
   pub outstanding_taken : (a : AckValue)

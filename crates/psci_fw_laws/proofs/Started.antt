@@ -110,9 +110,6 @@ claims b v sent m new none holds =
           })));
     }
 
-no_parts : (ps : List Part) (k : ℕ) (p : Part) → ps ≡ [] → slice_get ps k ≡ Some p → ⊥
-no_parts ps k p e i = grind arith
-
 pub not_down : (k : Kind) → is_kind k Down ≡ false → k ≡ Down → ⊥
 not_down k e s = grind arith
 
@@ -120,8 +117,7 @@ plain_sent : (b : BoardValue) (v : Values) (m : MessageValue) (halting : Bool) (
     → IsPlain b v m → (m.kind ≡ Start → m.number < b.starts)
     → (is_system m.kind ≡ true → halting ≡ true) → (m.kind ≡ Start → phase m.core.number ≡ Pending)
     → IsSent b v.life halting v.known phase m
-plain_sent b v m halting phase plain room halts pending =
-    grind (arith, nat_tests, no_parts, not_down)
+plain_sent b v m halting phase plain room halts pending = grind (arith, nat_tests, not_down)
 
 -- Asked on ------------------------------------------------------------------------------------
 

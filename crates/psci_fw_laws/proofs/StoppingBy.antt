@@ -96,28 +96,20 @@ module _ {b : BoardValue} {s : ℕ → ℕ → ℕ} (is : Renumbers b s) where
       → (if u then returns code else p) ≡ outcome_by s (if t then returns code else r)
   refused-by u t code p r same second = grind (arith, nat_tests, chosen)
 
-  pub message_for-by : (v : Values) (kind : Kind) (c : ℕ) (parts : List Part)
-      → message_for (values_by s v) kind (s 0 c) parts ≡ message_by s (message_for v kind c parts)
-  message_for-by v kind c parts = grind (arith, nat_tests)
-
   pub stops_with-by : (v : Values) (kind : Kind) (c : ℕ) (parts others : List Part) → parts ≡ others
       → stops_with (message_for (values_by s v) kind (s 0 c) parts)
       ≡ outcome_by s (stops_with (message_for v kind c others))
-  stops_with-by v kind c parts others same = grind (arith, nat_tests, message_for-by)
+  stops_with-by v kind c parts others same = grind (arith, nat_tests)
 
   pub cpu_off-by : (v : Values) (c : ℕ)
       → cpu_off b (values_by s v) (s 0 c) ≡ outcome_by s (cpu_off b v c)
   cpu_off-by v c = stops_with-by v kinds.Down c _ _ (off_parts-by v c)
 
-  suspend_answer-by : (v : Values) (c : ℕ) (r : Result (List Part) Osi)
-      → suspend_answer (values_by s v) (s 0 c) r ≡ outcome_by s (suspend_answer v c r)
-  suspend_answer-by v c r = grind (arith, nat_tests, stops_with-by)
-
   -- the same claim, or the same reason
   suspended-by : (v : Values) (c : ℕ) (ask : List ℕ)
       → suspend_answer (values_by s v) (s 0 c) (suspend_parts b (values_by s v) (s 0 c) ask)
       ≡ outcome_by s (suspend_answer v c (suspend_parts b v c ask))
-  suspended-by v c ask = grind (arith, nat_tests, suspend_parts-by, suspend_answer-by)
+  suspended-by v c ask = grind (arith, nat_tests, suspend_parts-by, stops_with-by)
 
   -- the core has the known start of its other number
   limit-by : (v : Values) (c : ℕ) → (v.known (s 0 (s 0 c)) == b.starts) ≡ (v.known c == b.starts)
@@ -212,24 +204,11 @@ module _ {b : BoardValue} {s : ℕ → ℕ → ℕ} (is : Renumbers b s) where
 
   -- CPU_ON ----------------------------------------------------------------------------------------
 
-  off_target-by : (v : Values) (t : Core) (status : Status)
-      → start_outcome (values_by s v) (off_target b (values_by s v) (core_by s t) status)
-      ≡ outcome_by s (start_outcome v (off_target b v t status))
-  off_target-by v t status = grind (arith, nat_tests)
-
-  may_start-by : (v : Values) (t : Core) (may : Bool)
-      → start_outcome (values_by s v)
-      (if may then off_target b (values_by s v) (core_by s t) (v.status (s 0 (s 0 t.number))) else
-      Err invalid_address)
-      ≡ outcome_by s
-      (start_outcome v (if may then off_target b v t (v.status t.number) else Err invalid_address))
-  may_start-by v t may = grind (arith, nat_tests, off_target-by)
-
   target-by : (v : Values) (entry_point : ℕ) (o : Option Core)
       → start_outcome (values_by s v)
       (target_among b (values_by s v) entry_point (option_map (core_by s) o))
       ≡ outcome_by s (start_outcome v (target_among b v entry_point o))
-  target-by v entry_point o = grind (arith, nat_tests, may_start-by)
+  target-by v entry_point o = grind (arith, nat_tests)
 
   pub cpu_on-by : (v : Values) (target word entry_point : ℕ)
       → core_of b word ≡ option_map (core_by s) (core_of b target)

@@ -28,13 +28,9 @@ meeting : (b : BoardValue) (x y level : ℕ) → PathLaws b → up b 1 x ≡ up 
 meeting b x y zero laws e = e
 meeting b x y (suc level) laws e = laws.joined x y (suc level) (meeting b x y level laws e)
 
-swapped_up : (b : BoardValue) (x y level c : ℕ) → PathLaws b → AreSiblings b x y
-    → up b level (swap x y c) ≡ swap_cores x y level (up b level c)
-swapped_up b x y level c paths two = grind (arith, nat_tests, alike_both, meeting)
-
 pub siblings : (b : BoardValue) (x y : ℕ) → PathLaws b → AreSiblings b x y
     → IsRenumbering b (swap_cores x y)
-siblings b x y paths two = grind (arith, nat_tests, swapped_up, alike_both, nat_lt, lt-ltb)
+siblings b x y paths two = grind (arith, nat_tests, alike_both, nat_lt, lt-ltb, meeting)
 
 -- Twins -------------------------------------------------------------------------------------------
 
@@ -61,10 +57,6 @@ is_in b p c h = grind arith
 
 is_out : (b : BoardValue) (p c : ℕ) → (In b p c → ⊥) → is_in_cluster b p c ≡ false
 is_out b p c out = grind (arith, is_within-false (first_child b 1 p) (children_at b 1 p) c)
-
-beside_in : (b : BoardValue) (p q c : ℕ) → children_at b 1 p ≡ children_at b 1 q → In b p c
-    → In b q (core_beside b p q c)
-beside_in b p q c same h = omega arith
 
 moved_first : (b : BoardValue) (p q c : ℕ) → In b p c
     → swap_clusters b p q 0 c ≡ core_beside b p q c
@@ -134,10 +126,6 @@ module _ {b : BoardValue} (laws : Laws b) where
   back_from {p} {q} {c} (Stays out far e) =
       ap (swap_clusters b p q 0) e ∙ moved_none b p q c out far
 
-  back_by : (p q level place : ℕ) → children_at b 1 p ≡ children_at b 1 q
-      → swap_clusters b p q level (swap_clusters b p q level place) ≡ place
-  back_by p q level place same = grind (arith, nat_tests, swap-back, moves, back_from)
-
   -- a core of the board stays one
   inside_from : {p q c d : ℕ} → Moves b p q c d → nat_lt d (cores b) ≡ nat_lt c (cores b)
   inside_from {c = c} {d} (First h i e) =
@@ -180,4 +168,4 @@ module _ {b : BoardValue} (laws : Laws b) where
 pub twins : (b : BoardValue) (p q : ℕ) → IsBoard b → PathLaws b → ChildLaws b → ParentLaws b
     → AreTwins b p q → IsRenumbering b (swap_clusters b p q)
 twins b p q board paths child parents two =
-    grind (arith, nat_tests, inside, back_by, above_by, lt-ltb, alike_both, moves, inside_from)
+    grind (arith, nat_tests, inside, above_by, lt-ltb, alike_both, moves, inside_from, swap-back, back_from)
