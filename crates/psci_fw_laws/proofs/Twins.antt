@@ -168,4 +168,4 @@ module _ {b : BoardValue} (laws : Laws b) where
 pub twins : (b : BoardValue) (p q : ℕ) → IsBoard b → PathLaws b → ChildLaws b → ParentLaws b
     → AreTwins b p q → IsRenumbering b (swap_clusters b p q)
 twins b p q board paths child parents two =
-    grind (arith, nat_tests, inside, above_by, lt-ltb, alike_both, moves, inside_from, swap-back, back_from)
+    grind (arith, inside, above_by, lt-ltb, alike_both, moves, inside_from, swap-back, back_from)
