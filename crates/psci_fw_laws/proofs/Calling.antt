@@ -1,7 +1,7 @@
 -- What renumbered cores are answered, whatever the call.
 use Rattle.psci_fw_laws.proofs.Words.{ask_named, nat_tests, ◌&&◌, ◌∙◌, ◌≡◌, ◌⊎◌, ap, arith}
 use Rattle.psci_fw_laws.proofs.Words.{BoardValue, Bool, enter_fault, eq-eqb, false, has_node}
-use Rattle.psci_fw_laws.proofs.Words.{if◌then◌else◌, in_life, is_path_place, not, Opening, Option}
+use Rattle.psci_fw_laws.proofs.Words.{if◌then◌else◌, in_life, is_path_place, not, Option}
 use Rattle.psci_fw_laws.proofs.Words.{outcome_at, outcome_by, refl, Start, start_of_life, stops}
 use Rattle.psci_fw_laws.proofs.Words.{sym, true, Values, values_by, with_arrival, ℕ, AsksBy}
 use Rattle.psci_fw_laws.proofs.Words.{function_outcome, mode_of, node_of, call_fault, CallsBy}

@@ -1,7 +1,7 @@
 -- What happens to outstanding messages and to the values of renumbered cores.
 use Rattle.psci_fw_laws.proofs.Words.{nat_tests, ◌&&◌, ◌≡◌, Acknowledge, acknowledgement_by}
 use Rattle.psci_fw_laws.proofs.Words.{AckValue, answers, ap, arith, BoardValue, Bool, changed}
-use Rattle.psci_fw_laws.proofs.Words.{Clear, Core, core_by, false, if◌then◌else◌, is_slot, Kind}
+use Rattle.psci_fw_laws.proofs.Words.{Clear, Core, core_by, false, if◌then◌else◌, Kind}
 use Rattle.psci_fw_laws.proofs.Words.{left_by, message_by, MessageValue, None, Option, option_map}
 use Rattle.psci_fw_laws.proofs.Words.{Put, Slot, slot_of, sym, taken, true, Values, values_by}
 use Rattle.psci_fw_laws.proofs.Words.{with_slots, ℕ, ◌∙◌, below, cleared, confirms_on, in_life}

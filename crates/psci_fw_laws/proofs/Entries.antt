@@ -1,13 +1,13 @@
 -- What a call, an entry or an acknowledgement is answered is allowed.
 use Rattle.std.proofs.Common.{is_some}
 use Rattle.psci_fw_laws.proofs.Words.{nat_tests, ◌==◌, ◌∙◌, ◌≡◌, ◌≤◌, AckValue, activity_of}
-use Rattle.psci_fw_laws.proofs.Words.{answers, AreValues, arith, asks, Away, BoardValue, Bool}
+use Rattle.psci_fw_laws.proofs.Words.{AreValues, arith, asks, Away, BoardValue, Bool}
 use Rattle.psci_fw_laws.proofs.Words.{call_fault, cond, cond_both, effect_of, Enter, enter_effect}
 use Rattle.psci_fw_laws.proofs.Words.{enter_fault, false, FwCall, FwFault, in_life, IsCalling}
 use Rattle.psci_fw_laws.proofs.Words.{IsEntering, MessageValue, None, off_message, off_parts}
 use Rattle.psci_fw_laws.proofs.Words.{Opening, Option, or_left, or_right, Outcome, outcome_at}
 use Rattle.psci_fw_laws.proofs.Words.{outcome_of, Parks, Pending, Phase, refl, reply_or, resumes}
-use Rattle.psci_fw_laws.proofs.Words.{slot_of, Smc, Some, Start, start_of_life, stops, stops_with}
+use Rattle.psci_fw_laws.proofs.Words.{slot_of, Smc, Some, Start, start_of_life, stops_with}
 use Rattle.psci_fw_laws.proofs.Words.{subst, sym, Take, taken, true, unless_pending, Values}
 use Rattle.psci_fw_laws.proofs.Words.{with_arrival, with_phase, ℕ}
 use Rattle.psci_fw_spec.specs.psci_abi.Calls.{request_of}
@@ -19,7 +19,6 @@ use Rattle.psci_fw_laws.proofs.Arriving.{found_life}
 use Rattle.psci_fw_laws.proofs.Functions.{call_allowed}
 use Rattle.psci_fw_laws.proofs.Made.{new_claim, off_made}
 use Rattle.psci_fw_laws.proofs.Parts.{updated_here}
-use Rattle.psci_messages.specs.declared.taken.Taken.TheVariants as takens
 use Rattle.psci_fw_spec.specs.declared.outcome.Act.TheVariants as acts
 use Rattle.psci_fw_spec.specs.declared.reply.FwReply.TheVariants as replies
 

@@ -5,7 +5,7 @@ use Rattle.psci_fw_laws.proofs.Words.{cores, Down, Holds, inr, is_system, IsNewC
 use Rattle.psci_fw_laws.proofs.Words.{IsSent, Kind, known_below, List, MessageValue, Part, PathLaws}
 use Rattle.psci_fw_laws.proofs.Words.{Pending, Phase, refl, Running, slice_get, slot_of, Some}
 use Rattle.psci_fw_laws.proofs.Words.{SpanLaws, subst, sym, true, unless_pending, up, Values}
-use Rattle.psci_fw_laws.proofs.Words.{with_claims, with_phase, ℕ, [], AckValue, Bool}
+use Rattle.psci_fw_laws.proofs.Words.{with_claims, with_phase, ℕ, AckValue, Bool}
 use Rattle.psci_fw_laws.proofs.Words.{cond, cond_both, false, is_kind, is_on, IsOfLife, OfSystem}
 use Rattle.psci_fw_laws.proofs.Words.{PowerOn, turns_off, updated, with_acknowledgement, with_halt}
 use Rattle.psci_fw_laws.proofs.Words.{with_pending}

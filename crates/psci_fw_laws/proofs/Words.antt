@@ -42,7 +42,7 @@ pub use Rattle.psci_fw_spec.specs.Changes.{with_rest, with_running, with_slots}
 pub use Rattle.psci_fw_spec.specs.Claims.{leaving_claims, off_parts, suspend_claims, suspend_parts}
 pub use Rattle.psci_fw_spec.specs.Confirmed.{is_made_at}
 pub use Rattle.psci_fw_spec.specs.CpuOff.{off_message}
-pub use Rattle.psci_fw_spec.specs.CpuOn.{off_target, start_outcome, target_among}
+pub use Rattle.psci_fw_spec.specs.CpuOn.{start_outcome, target_among}
 pub use Rattle.psci_fw_spec.specs.CpuSuspend.{ask_named, suspend_asked}
 pub use Rattle.psci_fw_spec.specs.Effects.{Acknowledges, AsksOn, Effect, effect_of, enter_effect}
 pub use Rattle.psci_fw_spec.specs.Effects.{Enters, function_effect, GoesOn, Halts, mode_effect}

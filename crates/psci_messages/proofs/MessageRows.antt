@@ -1,7 +1,7 @@
 -- Parts of a Down whose levels climb by one and whose depths fall, and some that do not; how much
 -- of each message can be applied; and parts in memory, at the first of four places, with zeros at
 -- the others.
-use Rattle.std.proofs.Common.{ℕ, true, false, List, [], ◌∷◌, refl, ◌≡◌, ◌≤◌, ap, arith}
+use Rattle.std.proofs.Common.{ℕ, true, false, List, [], ◌∷◌, refl, ◌≡◌, arith}
 use Rattle.psci_messages.specs.declared.part.Part.{Part}
 use Rattle.psci_messages.specs.declared.kind.Kind.TheVariants.{Down, Start, Off, Reset}
 use Rattle.psci_messages.specs.Message.{ArePartsOf, is_climbing, is_falling, most_applied}
