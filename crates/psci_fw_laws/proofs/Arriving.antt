@@ -1,18 +1,17 @@
 -- A core enters: what it finds, what its arrival leaves, and what it does then.
 use Rattle.psci_fw_laws.proofs.Words.{◌<◌, ◌==◌, ◌∙◌, ◌≡◌, ◌≤◌, ap, AreRising, AreSent, arith}
 use Rattle.psci_fw_laws.proofs.Words.{BoardValue, Bool, cond-true, cond_both, eq-eqb, eqb-false}
-use Rattle.psci_fw_laws.proofs.Words.{eqb-true, false, first_phase, Holds, in_life, is_on}
-use Rattle.psci_fw_laws.proofs.Words.{IsEntering, List, MessageValue, None, OfCore, PathLaws, Phase}
-use Rattle.psci_fw_laws.proofs.Words.{refl, Running, slice_get, Some, Start, start_of_life, sym}
-use Rattle.psci_fw_laws.proofs.Words.{unless_pending, updated, Values, with_arrival, with_phase}
-use Rattle.psci_fw_laws.proofs.Words.{with_running, ℕ}
+use Rattle.psci_fw_laws.proofs.Words.{eqb-true, false, Holds, in_life, is_on, IsEntering, List}
+use Rattle.psci_fw_laws.proofs.Words.{MessageValue, None, OfCore, PathLaws, Phase, refl, Running}
+use Rattle.psci_fw_laws.proofs.Words.{slice_get, Some, Start, start_of_life, sym, unless_pending}
+use Rattle.psci_fw_laws.proofs.Words.{updated, Values, with_arrival, with_phase, with_running, ℕ}
 use Rattle.psci_fw_spec.specs.Lives.{first_status}
-use Rattle.psci_fw_laws.proofs.Claiming.{quiet_arrival, quiet_life, quiet_phase}
+use Rattle.psci_fw_laws.proofs.Claiming.{quiet_arrival, quiet_life, quiet_phase, NoneCurrent}
+use Rattle.psci_fw_laws.proofs.Claiming.{none_arrived}
 use Rattle.psci_fw_laws.proofs.Granting.{granted_arrival, granted_life, granted_phase}
-use Rattle.psci_fw_laws.proofs.Older.{NoneCurrent, none_arrived}
 use Rattle.psci_fw_laws.proofs.Parts.{part_has, updated_at, updated_here}
-use Rattle.psci_fw_laws.proofs.Sending.{sent_arrival, sent_life, sent_phase}
-use Rattle.psci_fw_laws.proofs.Slots.{outstanding_arrival, outstanding_none, outstanding_phase}
+use Rattle.psci_fw_laws.proofs.Sending.{sent_arrival, sent_life, sent_phase, outstanding_arrival}
+use Rattle.psci_fw_laws.proofs.Sending.{outstanding_none, outstanding_phase}
 use Rattle.psci_fw_spec.specs.declared.status.Status.TheVariants as statuses
 
 -- The start of a life -------------------------------------------------------------------------
@@ -25,23 +24,21 @@ pub first_holds : (b : BoardValue) (life : ℕ) (halting : Bool) (known : ℕ �
     → AreSent b life halting known phase sent → Holds b (start_of_life b later) sent
 first_holds b life halting known phase sent later most h apart are = record {
   lives = most;
-  messages = sent_life b life halting known phase sent later false (λ c. 0) first_phase h are;
+  messages = sent_life sent are h;
   apart = apart;
-  quiet = quiet_life b later (λ c. 0) sent;
-  grants = granted_life b later first_phase sent
-      (λ level place p f.
+  quiet = quiet_life (λ c. 0);
+  grants = granted_life (λ level place p f.
       let has = part_has b later level place f.message p f.part in
       omega (arith, (are f.index f.message f.at).begun, has.present));
   entered = λ c e. first_not_on c;
-  slots = outstanding_none later (λ c. 0) first_phase sent;
+  slots = outstanding_none;
 }
 
 -- what a core finds
 pub found_holds : (b : BoardValue) (v : Values) (sent : List MessageValue) (c : ℕ) (s : Start)
     → IsEntering b v c s → Holds b v sent → Holds b (in_life b s.life v) sent
 found_holds b v sent c s enters holds =
-    cond_both (s.life == v.life) v (start_of_life b s.life) (λ w. Holds b w sent)
-    (λ e. holds)
+    cond_both (s.life == v.life) v (start_of_life b s.life) (λ w. Holds b w sent) (λ e. holds)
     (λ e.
     let other = eqb-false s.life v.life e in
     first_holds b v.life v.halting v.known v.phase sent s.life enters.lives
@@ -64,16 +61,13 @@ arrives b v sent c s paths enters holds =
     let later = found_later b v c s enters in
     record {
       lives = found.lives;
-      messages = sent_arrival b w.life w.halting w.known w.phase sent c s.number paths later
-          found.messages;
+      messages = sent_arrival sent found.messages c s.number paths later;
       apart = found.apart;
-      quiet = quiet_arrival b w.life w.halting w.known w.phase sent c s.number found.messages
-          enters.core later found.quiet;
-      grants = granted_arrival b w.life w.halting w.known w.phase w.granted sent c s.number
-          found.messages enters.core later found.grants;
+      quiet = quiet_arrival w.known found.quiet c s.number found.messages enters.core later;
+      grants = granted_arrival found.grants c s.number found.messages enters.core later;
       entered = λ x. updated_at (λ k. k ≡ 0 → is_on (w.status x) ≡ false) w.known c s.number x
           (λ here e. absurd (omega (arith, enters.some, e))) (λ there. found.entered x);
-      slots = outstanding_arrival w.life w.known w.phase sent w.outstanding c s.number found.slots;
+      slots = outstanding_arrival found.slots c s.number;
     }
 
 -- What is so of a core that has just entered.
@@ -93,8 +87,7 @@ arrived_new b v sent c s enters holds =
     let now : updated w.known c s.number c ≡ s.number = updated_here w.known c s.number in
     record {
       known = omega (arith, now, enters.some);
-      none = none_arrived b w.life w.halting w.known w.phase sent c s.number found.messages
-          enters.core later;
+      none = none_arrived sent found.messages c s.number enters.core later;
       numbers = λ k m at life core.
           let number = ((found.messages k m at).present life).number in
           omega (arith, number, ap w.known core, now, later);
@@ -105,20 +98,17 @@ arrived_new b v sent c s enters holds =
 
 -- a core that has just entered is of another phase
 new_phase : (b : BoardValue) (v : Values) (sent : List MessageValue) (c : ℕ) (left : Phase)
-    → IsNew b v sent c → Holds b v sent
-    → Holds b (record v { phase = updated v.phase c left }) sent
+    → IsNew b v sent c → Holds b v sent → Holds b (record v { phase = updated v.phase c left }) sent
 new_phase b v sent c left new holds = record {
   lives = holds.lives;
-  messages = sent_phase b v.life v.halting v.known v.phase sent c left
-      (λ k m at life core number. absurd (omega (arith, new.numbers k m at life core, number)))
-      holds.messages;
+  messages = sent_phase sent holds.messages c left
+      (λ k m at life core number. absurd (omega (arith, new.numbers k m at life core, number)));
   apart = holds.apart;
-  quiet = quiet_phase b v.life v.known v.phase sent c left (λ e. new.none) holds.quiet;
-  grants = granted_phase b v.life v.known v.phase v.granted sent c left (λ e n. new.none)
-      holds.grants;
+  quiet = quiet_phase v.known holds.quiet c left (λ e. new.none);
+  grants = granted_phase holds.grants c left (λ e n. new.none);
   entered = holds.entered;
-  slots = outstanding_phase v.life v.known v.phase sent v.outstanding c left
-      (λ m e. let no : None ≡ Some m = sym new.slot ∙ e in absurd (cc)) holds.slots;
+  slots = outstanding_phase holds.slots c left
+      (λ m e. let no : None ≡ Some m = sym new.slot ∙ e in absurd (cc));
 }
 
 pub runs : (b : BoardValue) (v : Values) (sent : List MessageValue) (c : ℕ) → IsNew b v sent c

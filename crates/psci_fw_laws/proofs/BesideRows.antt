@@ -1,7 +1,6 @@
 -- Worked examples: what is in the way of a request of core 0, of two clusters of two cores, and
 -- what is not.
-use Rattle.std.proofs.Common.{◌≡◌, ◌==◌, ℕ, zero, suc, true, false, List, [], ◌∷◌}
-use Rattle.std.proofs.Common.{refl, arith}
+use Rattle.std.proofs.Common.{◌≡◌, ◌==◌, ℕ, zero, suc, true, false, List, [], ◌∷◌, refl, arith}
 use Rattle.std.proofs.lemmas.Bool.{ne_eqb}
 use Rattle.psci_board.specs.Board.{BoardValue, up}
 use Rattle.psci_messages.specs.View.{PowerView}

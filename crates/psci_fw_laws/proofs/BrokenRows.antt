@@ -1,12 +1,12 @@
 -- Worked examples: what is outstanding, who has entered, the limits and messages, each clause with
 -- a state that breaks it.
-use Rattle.std.proofs.Common.{◌≡◌, ◌+◌, ℕ, true, false, [], ◌∷◌, Option, None, Some, refl}
-use Rattle.std.proofs.Common.{arith}
+use Rattle.std.proofs.Common.{◌≡◌, ◌+◌, ℕ, true, false, [], ◌∷◌, Option, None, Some, refl, arith}
+use Rattle.std.proofs.Common.{List}
 use Rattle.psci_messages.specs.declared.kind.Kind.TheVariants.{Down, Start, Off}
 use Rattle.psci_messages.specs.Message.{MessageValue}
 use Rattle.psci_messages.specs.Slots.{Slot, OfCore, OfSystem}
 use Rattle.psci_fw_spec.specs.declared.status.Status.TheVariants.{On}
-use Rattle.psci_fw_spec.specs.Phases.{Away, Pending, Running, Suspended}
+use Rattle.psci_fw_spec.specs.Phases.{Away, Pending, Running, Suspended, Phase}
 use Rattle.psci_board.specs.Board.{up}
 use Rattle.psci_fw_laws.specs.Claims.{part_for}
 use Rattle.psci_fw_laws.specs.Entered.{AreEntered}
@@ -15,9 +15,7 @@ use Rattle.psci_fw_laws.specs.Messages.{IsOfThisLife, IsSound}
 use Rattle.psci_fw_laws.specs.Outstanding.{AreOutstanding, IsOfCore, IsOfLife}
 use Rattle.psci_fw_laws.specs.Within.{AreWithin}
 use Rattle.psci_abi.proofs.Tables.{◌⇒◌, Gives}
-use Rattle.std.proofs.Common.{List}
 use Rattle.psci_messages.specs.declared.part.Part.{Part}
-use Rattle.psci_fw_spec.specs.Phases.{Phase}
 use Rattle.psci_fw_laws.proofs.Calls.{board, message, part}
 
 -- the Down of core 3 that has entered once, and went off with its cluster

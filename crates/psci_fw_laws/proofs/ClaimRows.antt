@@ -1,6 +1,7 @@
--- Worked examples: which claims there are, and which of them are current.
-use Rattle.std.proofs.Common.{◌≡◌, ℕ, ◌+◌, inl, inr, List, [], ◌∷◌, true, false, None, Some}
-use Rattle.std.proofs.Common.{refl, ap, arith}
+-- Worked examples: which claims there are, and which of them are current; a message that was never
+-- sent so, and depths that no claim granted.
+use Rattle.std.proofs.Common.{◌≡◌, ℕ, ◌+◌, inl, inr, List, [], ◌∷◌, true, false, None, Some, refl}
+use Rattle.std.proofs.Common.{ap, arith, Option, ◌≤◌}
 use Rattle.psci_board.specs.Board.{core_of, up}
 use Rattle.psci_messages.specs.Claim.{claims_of}
 use Rattle.psci_messages.specs.View.{generation, least_ask}
@@ -19,10 +20,11 @@ use Rattle.psci_fw_spec.specs.Sent.{sent_messages}
 use Rattle.psci_fw_spec.specs.Views.{view}
 use Rattle.psci_fw_laws.specs.Claims.{AreRising, IsClaimOn, IsCurrent, IsFromStart, part_for}
 use Rattle.psci_fw_laws.specs.KnownBelow.{known_below}
-use Rattle.psci_fw_laws.proofs.Calls.{board, enter, history_of, message, off, on_3, part}
-use Rattle.psci_fw_laws.proofs.Calls.{take}
+use Rattle.psci_fw_laws.proofs.Calls.{board, enter, history_of, message, off, on_3, part, take}
 use Rattle.psci_abi.proofs.Tables.{◌⇒◌, Gives}
-use Rattle.std.proofs.Common.{Option}
+use Rattle.psci_fw_spec.specs.Phases.{Away}
+use Rattle.psci_fw_laws.specs.Granted.{AreGranted, HasDeeper}
+use Rattle.psci_fw_laws.specs.Messages.{IsSent}
 
 -- Parts for a domain --------------------------------------------------------------------------
 
@@ -151,3 +153,41 @@ not_rising = (
   λ are. omega (arith, are.later 2 1 1 0 1 _ _ _ _ (omega arith) refl refl refl refl),
   λ are. omega (arith, are.start 2 1 1 0 _ _ refl refl),
 )
+
+-- What was not sent or granted --------------------------------------------------------------------
+
+-- a Down of core 3 in life 2, with its first start as its number
+abbrev down_in_life_2 : MessageValue
+down_in_life_2 = message Down 3 2 1 (part 0 3 1 ∷ [])
+
+-- the firmware is in life 1
+sent_in_a_later_life : IsSent board 1 false (λ c. 1) (λ c. Away) down_in_life_2 → ⊥
+sent_in_a_later_life h = let begun : 2 ≤ 1 = h.begun in absurd (omega (arith, begun))
+
+-- the boot core, which the start of a life does not claim, is in standby, and nothing was sent
+unclaimed : (p : Part) → IsClaimOn board 1 0 0 p [] → ⊥
+unfolding up
+unclaimed p (inl start) = let off : true ≡ false = start.off_path in absurd (cc)
+unclaimed p (inr sent) = let at : None ≡ Some sent.message = sent.at in absurd (cc)
+
+granted_by_no_claim : AreGranted board 1 (λ c. 1) (λ c. Away) (λ level place. 1) [] → ⊥
+granted_by_no_claim h =
+    let some = h.claimed 0 0 (omega arith) in unclaimed some.part some.claim
+
+-- core 3 is claimed by the start of the life, for power-down: as deep as that, and not deeper
+as_deep_as_the_start : HasDeeper board 1 (λ c. 0) 0 3 3 []
+unfolding up known_below
+as_deep_as_the_start = record {
+  part = part 0 3 0;
+  claim = inl (record { node = refl; off_path = refl; is = refl });
+  current = refl;
+  deep = omega arith;
+}
+
+none_so_deep : (p : Part) → IsClaimOn board 1 0 3 p [] → 4 ≤ p.depth → ⊥
+none_so_deep p (inl start) deep =
+    let three : p.depth ≡ 3 = ap (λ (q : Part). q.depth) start.is in omega (arith, deep, three)
+none_so_deep p (inr sent) deep = let at : None ≡ Some sent.message = sent.at in absurd (cc)
+
+deeper_than_the_start : HasDeeper board 1 (λ c. 0) 0 3 4 [] → ⊥
+deeper_than_the_start h = none_so_deep h.part h.claim h.deep

@@ -1,13 +1,66 @@
--- Claims of one domain stay apart, and below a current one no core runs.
-use Rattle.psci_fw_laws.proofs.Words.{◌<◌, ◌∙◌, ◌∷◌, ◌≡◌, [], ap, AreQuiet, AreRising, AreSent}
-use Rattle.psci_fw_laws.proofs.Words.{arith, BoardValue, Bool, cases_eq, cores, Down, false}
-use Rattle.psci_fw_laws.proofs.Words.{first_phase, inl, inr, is_kind, IsFromMessage, known_below}
-use Rattle.psci_fw_laws.proofs.Words.{known_on, List, MessageValue, Part, part_for, Phase, refl}
-use Rattle.psci_fw_laws.proofs.Words.{Running, slice_get, Some, subst, suc, sym, up, updated, zero}
-use Rattle.psci_fw_laws.proofs.Words.{ℕ}
-use Rattle.psci_fw_laws.proofs.Older.{NoneCurrent, known_beside, none_arrived}
-use Rattle.psci_fw_laws.proofs.Parts.{claim_more, no_part, part_has, updated_at}
-use Rattle.psci_fw_laws.proofs.Sums.{known_less}
+-- No claim is above the known starts below its domain; claims of one domain stay apart, and below a
+-- current one no core runs.
+use Rattle.psci_fw_laws.proofs.Words.{nat_tests, ◌<◌, ◌≡◌, ◌≤◌, ap, AreQuiet, AreSent, arith}
+use Rattle.psci_fw_laws.proofs.Words.{BoardValue, Bool, cores, inl, inr, IsClaimOn, IsFromMessage}
+use Rattle.psci_fw_laws.proofs.Words.{known_below, List, MessageValue, Part, Phase, Running, subst}
+use Rattle.psci_fw_laws.proofs.Words.{sym, up, updated, ℕ, ◌∙◌, ◌∷◌, [], AreRising, cases_eq, Down}
+use Rattle.psci_fw_laws.proofs.Words.{false, first_phase, is_kind, known_on, part_for, refl}
+use Rattle.psci_fw_laws.proofs.Words.{slice_get, Some, suc, zero}
+use Rattle.psci_fw_laws.proofs.Parts.{part_has, updated_at, updated_here, updated_there, claim_more}
+use Rattle.psci_fw_laws.proofs.Parts.{no_part}
+use Rattle.psci_fw_laws.proofs.Sums.{known_less, known_same}
+
+-- No claim is above the known starts --------------------------------------------------------------
+
+-- no claim on the path of a core is current
+abbrev pub NoneCurrent : BoardValue → ℕ → (ℕ → ℕ) → List MessageValue → ℕ → Type 0
+NoneCurrent b life known sent c =
+    (level place : ℕ) (p : Part) → place ≡ up b level c → IsClaimOn b life level place p sent
+    → p.generation < known_below b known level place
+
+module _ {b : BoardValue} {life : ℕ} {halting : Bool} {known : ℕ → ℕ} {phase : ℕ → Phase}
+    (sent : List MessageValue) (are : AreSent b life halting known phase sent) where
+  from_older : {level place : ℕ} {p : Part} → IsFromMessage b life level place p sent
+      → p.generation ≤ known_below b known level place
+  from_older {level} {place} {p} f =
+      let has = part_has b life level place f.message p f.part in
+      let present = (are f.index f.message f.at).present has.present in
+      subst (λ x. p.generation ≤ known_below b known level x) (sym has.on)
+      (present.older level p has.part)
+
+  pub claim_older : {level place : ℕ} {p : Part} → IsClaimOn b life level place p sent
+      → p.generation ≤ known_below b known level place
+  claim_older {p = p} claim = elim claim [
+    | inl s ↦ let zero : p.generation ≡ 0 = ap (λ (q : Part). q.generation) s.is in omega arith
+    | inr f ↦ from_older f
+  ]
+
+  -- on the path of a core that runs none is
+  pub none_running : (c : ℕ) → AreQuiet b life known phase sent → c < cores b → phase c ≡ Running
+      → NoneCurrent b life known sent c
+  none_running c quiet on runs level place p at claim =
+      let low = claim_older claim in
+      let other : p.generation ≡ known_below b known level place → ⊥ =
+      λ e. quiet level place p claim e c on (sym at) runs in
+      omega (arith, low, other)
+
+  -- nor on that of a core that has entered by a later start
+  pub none_arrived : (c n : ℕ) → c < cores b → known c < n
+      → NoneCurrent b life (updated known c n) sent c
+  none_arrived c n on later level place p at claim =
+      let low = claim_older claim in
+      let here : known c < updated known c n c = omega (arith, updated_here known c n) in
+      let more : known_below b known level place < known_below b (updated known c n) level place =
+      known_less b known (updated known c n) level place c
+      (λ k i e. updated_at (λ x. known k ≤ x) known c n k (λ s. omega (arith, ap known s))
+      (λ s. omega arith)) on (sym at) here in
+      omega arith
+
+-- off its path nothing is known anew
+pub known_beside : (b : BoardValue) (known : ℕ → ℕ) (c n level place : ℕ)
+    → (place ≡ up b level c → ⊥)
+    → known_below b (updated known c n) level place ≡ known_below b known level place
+known_beside b known c n level place off = grind (arith, known_same, updated_there)
 
 -- A Down of a core, made beside these known starts.
 pub record IsNewDown (b : BoardValue) (life : ℕ) (known : ℕ → ℕ) (c : ℕ) (m : MessageValue)
@@ -36,43 +89,28 @@ apart_later b sent x above are life level place (suc j) zero m n p q h i g e f =
     absurd (omega arith)
 apart_later b sent x above are life level place zero (suc k) m n p q h i j e f =
     let same : m ≡ x = cc in
-    above.later life level place p q
-    (subst (λ y. part_for b life level place y ≡ Some p) same e)
+    above.later life level place p q (subst (λ y. part_for b life level place y ≡ Some p) same e)
     (record { index = k; message = n; at = j; part = f })
 apart_later b sent x above are life level place (suc j) (suc k) m n p q h i g e f =
     are.later life level place j k m n p q (omega arith) i g e f
 
-apart_start : (b : BoardValue) (sent : List MessageValue) (x : MessageValue) → IsAbove b sent x
-    → AreRising b sent → (life level place k : ℕ) (m : MessageValue) (p : Part)
-    → slice_get (x ∷ sent) k ≡ Some m → part_for b life level place m ≡ Some p → 0 < p.generation
-apart_start b sent x above are life level place zero m p i e = grind arith
-apart_start b sent x above are life level place (suc k) m p i e =
-    are.start life level place k m p i e
+pub apart_new : {b : BoardValue} {sent : List MessageValue} {m : MessageValue} → IsAbove b sent m
+    → AreRising b sent → AreRising b (m ∷ sent)
+apart_new {b} {sent} {m} above are = grind (arith, nat_tests, apart_later)
 
-pub apart_new : (b : BoardValue) (sent : List MessageValue) (m : MessageValue)
-    → IsAbove b sent m → AreRising b sent → AreRising b (m ∷ sent)
-apart_new b sent m above are =
-    record { later = apart_later b sent m above are; start = apart_start b sent m above are }
-
-pub apart_none : (b : BoardValue) → AreRising b []
-apart_none b = record {
-  later = λ life level place j k m n p q h i. absurd (cc);
-  start = λ life level place k m p i. absurd (cc);
-}
+pub apart_none : {b : BoardValue} → AreRising b []
+apart_none = grind (arith, nat_tests)
 
 -- a message that is no Down
-pub above_other : (b : BoardValue) (sent : List MessageValue) (m : MessageValue)
+pub above_other : {b : BoardValue} {sent : List MessageValue} {m : MessageValue}
     → is_kind m.kind Down ≡ false → IsAbove b sent m
-above_other b sent m other = record {
-  later = λ life level place p q e f. absurd (no_part b life level place p m other e);
-  start = λ life level place p e. absurd (no_part b life level place p m other e);
-}
+above_other {b} {m = m} other = grind (arith, nat_tests, no_part)
 
 -- a new Down of a core on whose path no claim is current
-pub above_down : (b : BoardValue) (life : ℕ) (known : ℕ → ℕ) (sent : List MessageValue) (c : ℕ)
-    (m : MessageValue) → c < cores b → 0 < known c → IsNewDown b life known c m
+pub above_down : {b : BoardValue} {life : ℕ} {known : ℕ → ℕ} {sent : List MessageValue} {c : ℕ}
+    {m : MessageValue} → c < cores b → 0 < known c → IsNewDown b life known c m
     → NoneCurrent b life known sent c → IsAbove b sent m
-above_down b life known sent c m on entered new none = record {
+above_down {b} {life} {known} {sent} {c} {m} on entered new none = record {
   later = λ l level place p q e f.
       let has = part_has b l level place m p e in
       let here : place ≡ up b level c = has.on ∙ ap (up b level) new.core in
@@ -92,54 +130,48 @@ above_down b life known sent c m on entered new none = record {
 
 -- Quiet ---------------------------------------------------------------------------------------
 
--- one more message
-pub quiet_new : (b : BoardValue) (life : ℕ) (known : ℕ → ℕ) (phase : ℕ → Phase)
-    (sent : List MessageValue) (m : MessageValue)
-    → ((level place : ℕ) (p : Part) → part_for b life level place m ≡ Some p
-    → (c : ℕ) → c < cores b → up b level c ≡ place → phase c ≡ Running → ⊥)
-    → AreQuiet b life known phase sent → AreQuiet b life known phase (m ∷ sent)
-quiet_new b life known phase sent m here quiet level place p claim =
-    elim (claim_more b life level place p m sent claim) [
-      | inl new ↦ λ e. here level place p new
-      | inr old ↦ quiet level place p old
-    ]
+module _ {b : BoardValue} {life : ℕ} (known : ℕ → ℕ) {phase : ℕ → Phase} {sent : List MessageValue}
+    (quiet : AreQuiet b life known phase sent) where
+  -- one more message
+  pub quiet_new : (m : MessageValue)
+      → ((level place : ℕ) (p : Part) → part_for b life level place m ≡ Some p → (c : ℕ)
+      → c < cores b → up b level c ≡ place → phase c ≡ Running → ⊥)
+      → AreQuiet b life known phase (m ∷ sent)
+  quiet_new m here level place p claim =
+      elim (claim_more b life level place p m sent claim) [
+        | inl new ↦ λ e. here level place p new
+        | inr old ↦ quiet level place p old
+      ]
 
-pub quiet_other : (b : BoardValue) (life : ℕ) (known : ℕ → ℕ) (phase : ℕ → Phase)
-    (sent : List MessageValue) (m : MessageValue) → is_kind m.kind Down ≡ false
-    → AreQuiet b life known phase sent → AreQuiet b life known phase (m ∷ sent)
-quiet_other b life known phase sent m other = search (arith, quiet_new, no_part)
+  pub quiet_other : (m : MessageValue) → is_kind m.kind Down ≡ false
+      → AreQuiet b life known phase (m ∷ sent)
+  quiet_other m other = search (arith, quiet_new, no_part)
 
--- one core is of another phase: it does not run, or no claim on its path is current
-pub quiet_phase : (b : BoardValue) (life : ℕ) (known : ℕ → ℕ) (phase : ℕ → Phase)
-    (sent : List MessageValue) (c : ℕ) (new : Phase)
-    → (new ≡ Running → NoneCurrent b life known sent c)
-    → AreQuiet b life known phase sent → AreQuiet b life known (updated phase c new) sent
-quiet_phase b life known phase sent c new none quiet level place p claim current x on at =
-    updated_at (λ y. y ≡ Running → ⊥) phase c new x
-    (λ here runs.
-    let low = none runs level place p (sym at ∙ ap (up b level) here) claim in
-    omega (arith, low, current))
-    (λ there. quiet level place p claim current x on at)
+  -- one core is of another phase: it does not run, or no claim on its path is current
+  pub quiet_phase : (c : ℕ) (new : Phase) → (new ≡ Running → NoneCurrent b life known sent c)
+      → AreQuiet b life known (updated phase c new) sent
+  quiet_phase c new none level place p claim current x on at =
+      updated_at (λ y. y ≡ Running → ⊥) phase c new x
+      (λ here runs.
+      let low = none runs level place p (sym at ∙ ap (up b level) here) claim in
+      omega (arith, low, current)) (λ there. quiet level place p claim current x on at)
 
--- a core has entered by a later start
-pub quiet_arrival : (b : BoardValue) (life : ℕ) (halting : Bool) (known : ℕ → ℕ)
-    (phase : ℕ → Phase) (sent : List MessageValue) (c n : ℕ)
-    → AreSent b life halting known phase sent → c < cores b → known c < n
-    → AreQuiet b life known phase sent → AreQuiet b life (updated known c n) phase sent
-quiet_arrival b life halting known phase sent c n are on later quiet level place p claim current =
-    elim (cases_eq place (up b level c)) [
-      | inl here ↦
-          let low = none_arrived b life halting known phase sent c n are on later level place p here
-          claim in
-          absurd (omega (arith, low, current))
-      | inr there ↦
-          let same = known_beside b known c n level place there in
-          quiet level place p claim (current ∙ same)
-    ]
+  -- a core has entered by a later start
+  pub quiet_arrival : {halting : Bool} (c n : ℕ) → AreSent b life halting known phase sent
+      → c < cores b → known c < n → AreQuiet b life (updated known c n) phase sent
+  quiet_arrival c n are on later level place p claim current =
+      elim (cases_eq place (up b level c)) [
+        | inl here ↦
+            let low = none_arrived _ are c n on later level place p here claim in
+            absurd (omega (arith, low, current))
+        | inr there ↦
+            let same = known_beside b known c n level place there in
+            quiet level place p claim (current ∙ same)
+      ]
 
 first_rests : (c : ℕ) → first_phase c ≡ Running → ⊥
 first_rests c = grind (arith, updated_at)
 
-pub quiet_life : (b : BoardValue) (life : ℕ) (known : ℕ → ℕ) (sent : List MessageValue)
+pub quiet_life : {b : BoardValue} {life : ℕ} (known : ℕ → ℕ) {sent : List MessageValue}
     → AreQuiet b life known first_phase sent
-quiet_life b life known sent level place p claim current c on at = first_rests c
+quiet_life known level place p claim current c on at = first_rests c

@@ -1,11 +1,10 @@
 -- What follows from what is kept.
-use Rattle.psci_fw_laws.proofs.Words.{◌+◌, ◌<◌, ◌∙◌, ◌∷◌, ◌≡◌, ◌≤◌, ◌⊎◌, [], activity_of, agrees}
-use Rattle.psci_fw_laws.proofs.Words.{ap, AreClaims, ArePartsOf, AreRising, AreValues, arith, ask}
-use Rattle.psci_fw_laws.proofs.Words.{asks, Away, BoardValue, cores, Down, false, height, Holds}
-use Rattle.psci_fw_laws.proofs.Words.{inl, inr, is_on, IsClaimOn, IsCurrent, Kind, length, List}
-use Rattle.psci_fw_laws.proofs.Words.{MessageValue, Node, Part, part_for, PartByPart, PathLaws}
-use Rattle.psci_fw_laws.proofs.Words.{Pending, Phase, refl, Running, slice_get, Some, SpanLaws}
-use Rattle.psci_fw_laws.proofs.Words.{Status, subst, Suspended, sym, true, up, Values, ℕ}
+use Rattle.psci_fw_laws.proofs.Words.{nat_tests, ◌+◌, ◌<◌, ◌∙◌, ◌∷◌, ◌≡◌, ◌≤◌, ◌⊎◌, [], activity_of}
+use Rattle.psci_fw_laws.proofs.Words.{ap, AreClaims, ArePartsOf, AreRising, AreValues, arith, asks}
+use Rattle.psci_fw_laws.proofs.Words.{BoardValue, cores, Down, height, Holds, inl, inr, IsClaimOn}
+use Rattle.psci_fw_laws.proofs.Words.{IsCurrent, Kind, length, List, MessageValue, Node, Part}
+use Rattle.psci_fw_laws.proofs.Words.{part_for, PartByPart, PathLaws, Pending, Phase, refl, Running}
+use Rattle.psci_fw_laws.proofs.Words.{slice_get, Some, SpanLaws, subst, sym, up, Values, ℕ}
 use Rattle.psci_messages.specs.View.{generation}
 use Rattle.psci_fw_spec.specs.Views.{view}
 use Rattle.psci_fw_laws.specs.Entered.{AreEntered}
@@ -16,7 +15,6 @@ use Rattle.psci_fw_laws.proofs.Made.{ask_own, granted_below}
 use Rattle.psci_fw_laws.proofs.Parts.{part_from, part_has}
 use Rattle.psci_fw_laws.proofs.Sums.{known_gap, known_le, known_less, known_most, known_own}
 use Rattle.psci_fw_laws.proofs.Sums.{known_rises, known_same}
-use Rattle.psci_fw_spec.specs.declared.status.Status.TheVariants as statuses
 
 -- Claims --------------------------------------------------------------------------------------
 
@@ -62,10 +60,7 @@ once_down b v sent holds j k m n at_j at_k kind_m kind_n core life number =
 -- Granted depths ------------------------------------------------------------------------------
 
 asks_nothing : (p : Phase) → (p ≡ Running) ⊎ (p ≡ Pending) → asks (activity_of p) 0 ≡ 0
-asks_nothing p e = elim e [
-  | inl runs ↦ ap (λ x. asks (activity_of x) 0) runs
-  | inr waits ↦ ap (λ x. asks (activity_of x) 0) waits
-]
+asks_nothing p e = grind (arith, nat_tests)
 
 pub none_active : (b : BoardValue) (v : Values) (c level : ℕ) → PathLaws b → AreValues b v
     → c < cores b → level ≤ height b → 0 < v.granted level (up b level c)
@@ -107,40 +102,9 @@ deeper b v sent c level p by_part are holds on high claim current rests =
 
 -- Entries -------------------------------------------------------------------------------------
 
-on_where_suspended : (s : Status) (ask : List ℕ) → agrees s (Suspended ask) ≡ true
-    → is_on s ≡ true
-on_where_suspended statuses.On ask e = refl
-on_where_suspended s ask e = absurd (cc)
-
-on_where_runs : (s : Status) → agrees s Running ≡ true → is_on s ≡ true
-on_where_runs statuses.On e = refl
-on_where_runs s e = absurd (cc)
-
-known_where_on : (n : ℕ) (s : Status) → (n ≡ 0 → is_on s ≡ false) → is_on s ≡ true → 0 < n
-known_where_on n s none on =
-    let other : n ≡ 0 → ⊥ = λ e. grind (arith, none e) in
-    omega (arith, other)
-
-away_or_pending : (s : Status) (p : Phase) → agrees s p ≡ true → is_on s ≡ false
-    → (p ≡ Away) ⊎ (p ≡ Pending)
-away_or_pending s Away e f = inl refl
-away_or_pending s Pending e f = inr refl
-away_or_pending s Running e f =
-    let no : true ≡ false = sym (on_where_runs s e) ∙ f in absurd (cc)
-away_or_pending s (Suspended ask) e f =
-    let no : true ≡ false = sym (on_where_suspended s ask e) ∙ f in absurd (cc)
-
 pub entered : (b : BoardValue) (v : Values) (sent : List MessageValue) → AreValues b v
     → Holds b v sent → AreEntered v.known v.status v.phase
-entered b v sent are holds = record {
-  runs = λ c e. known_where_on (v.known c) (v.status c) (holds.entered c)
-      (on_where_runs (v.status c) (subst (λ p. agrees (v.status c) p ≡ true) e (are.agree c)));
-  suspended = λ c ask e. known_where_on (v.known c) (v.status c) (holds.entered c)
-      (on_where_suspended (v.status c) ask
-      (subst (λ p. agrees (v.status c) p ≡ true) e (are.agree c)));
-  away = λ c e. away_or_pending (v.status c) (v.phase c) (are.agree c) (holds.entered c e);
-  not_on = holds.entered;
-}
+entered b v sent are holds = grind (arith, nat_tests)
 
 -- Limits --------------------------------------------------------------------------------------
 
@@ -165,9 +129,7 @@ pub equal_each : (b : BoardValue) (f g : ℕ → ℕ) (level place c : ℕ)
     → ((x : ℕ) → x < cores b → up b level x ≡ place → f x ≤ g x)
     → known_below b f level place ≡ known_below b g level place → c < cores b
     → up b level c ≡ place → f c ≡ g c
-equal_each b f g level place c le same on at =
-    let below = le c on at in
-    grind (arith, known_less b f g level place c le on at)
+equal_each b f g level place c le same on at = grind (arith, nat_tests, known_less)
 
 pub known_laws : (b : BoardValue) → PathLaws b → SpanLaws b.levels → KnownLaws b
 known_laws b paths spans = record {

@@ -1,226 +1,127 @@
 -- What a call, an entry or an acknowledgement is answered is allowed.
 use Rattle.std.proofs.Common.{is_some}
-use Rattle.std.specs.Prelude.{nat_le, nat_lt}
-use Rattle.std.proofs.lemmas.Bool.{ltb-false, or_parts, not-false}
-use Rattle.psci_fw_laws.proofs.Words.{◌&&◌, ◌<◌, ◌==◌, ◌||◌, ◌∙◌, ◌≡◌, ◌≤◌, AckValue, activity_of}
-use Rattle.psci_fw_laws.proofs.Words.{answers, ap, AreValues, arith, asks, Away, BoardValue, Bool}
-use Rattle.psci_fw_laws.proofs.Words.{call_fault, cond, cond_both, cores, effect_of, Enter}
-use Rattle.psci_fw_laws.proofs.Words.{enter_effect, enter_fault, eqb-false, false, FwCall, FwFault}
-use Rattle.psci_fw_laws.proofs.Words.{in_life, IsCalling, IsEntering, ltb-true, MessageValue, None}
-use Rattle.psci_fw_laws.proofs.Words.{not, off_message, off_parts, Opening, Option, or_left}
-use Rattle.psci_fw_laws.proofs.Words.{or_right, Outcome, outcome_at, outcome_of, Parks, Pending}
-use Rattle.psci_fw_laws.proofs.Words.{Phase, refl, reply_or, resumes, Running, slot_of, Smc, Some}
-use Rattle.psci_fw_laws.proofs.Words.{Start, start_of_life, stops, stops_with, subst, sym, Take}
-use Rattle.psci_fw_laws.proofs.Words.{taken, true, unless_pending, Values, with_arrival, with_phase}
-use Rattle.psci_fw_laws.proofs.Words.{ℕ}
+use Rattle.psci_fw_laws.proofs.Words.{nat_tests, ◌==◌, ◌∙◌, ◌≡◌, ◌≤◌, AckValue, activity_of}
+use Rattle.psci_fw_laws.proofs.Words.{AreValues, arith, asks, Away, BoardValue, Bool}
+use Rattle.psci_fw_laws.proofs.Words.{call_fault, cond, cond_both, effect_of, Enter, enter_effect}
+use Rattle.psci_fw_laws.proofs.Words.{enter_fault, false, FwCall, FwFault, in_life, IsCalling}
+use Rattle.psci_fw_laws.proofs.Words.{IsEntering, MessageValue, None, off_message, off_parts}
+use Rattle.psci_fw_laws.proofs.Words.{Opening, Option, or_left, or_right, Outcome, outcome_at}
+use Rattle.psci_fw_laws.proofs.Words.{outcome_of, Parks, Pending, Phase, refl, reply_or, resumes}
+use Rattle.psci_fw_laws.proofs.Words.{slot_of, Smc, Some, Start, start_of_life, stops_with}
+use Rattle.psci_fw_laws.proofs.Words.{subst, sym, Take, taken, true, unless_pending, Values}
+use Rattle.psci_fw_laws.proofs.Words.{with_arrival, with_phase, ℕ}
 use Rattle.psci_fw_spec.specs.psci_abi.Calls.{request_of}
 use Rattle.psci_fw_spec.specs.psci_abi.declared.registers.Regs.{Regs}
 use Rattle.psci_fw_spec.specs.Answer.{answer}
-use Rattle.psci_fw_spec.specs.Entering.{enter_outcome, is_old}
-use Rattle.psci_fw_spec.specs.Phases.{is_running}
-use Rattle.psci_fw_laws.proofs.Allowing.{Allows, IsReady}
+use Rattle.psci_fw_spec.specs.Entering.{enter_outcome}
+use Rattle.psci_fw_laws.proofs.Lower.{Allows, IsReady, LowerLaws}
 use Rattle.psci_fw_laws.proofs.Arriving.{found_life}
 use Rattle.psci_fw_laws.proofs.Functions.{call_allowed}
-use Rattle.psci_fw_laws.proofs.Lower.{LowerLaws}
 use Rattle.psci_fw_laws.proofs.Made.{new_claim, off_made}
 use Rattle.psci_fw_laws.proofs.Parts.{updated_here}
-use Rattle.psci_messages.specs.declared.taken.Taken.TheVariants as takens
-use Rattle.psci_fw_spec.specs.declared.fault.FwFault.TheVariants as faults
 use Rattle.psci_fw_spec.specs.declared.outcome.Act.TheVariants as acts
 use Rattle.psci_fw_spec.specs.declared.reply.FwReply.TheVariants as replies
 
 -- Calls ---------------------------------------------------------------------------------------
 
--- Why a call is not refused.
-record IsPassed (absent lifeless runs : Bool) : Type 0 where
-  pub core : absent ≡ false
-  pub life : lifeless ≡ false
-  pub running : runs ≡ true
-
-passed : (absent lifeless runs : Bool)
-    → cond absent (Some faults.NoCore) (cond lifeless (Some faults.NoLife)
-    (cond runs None (Some faults.NotRunning)))
-    ≡ None
-    → IsPassed absent lifeless runs
-passed false false true e = record { core = refl; life = refl; running = refl }
-passed absent lifeless runs e = absurd (cc)
-
-running_phase : (p : Phase) → is_running p ≡ true → p ≡ Running
-running_phase Running e = refl
-running_phase p e = absurd (cc)
-
 calling : (b : BoardValue) (v : Values) (c : ℕ) → call_fault b v c ≡ None → IsCalling b v c
-calling b v c e =
-    let p = passed (not (nat_lt c (cores b))) (v.life == 0) (is_running (v.phase c)) e in
-    let life = eqb-false v.life 0 p.life in
-    record {
-      core = ltb-true c (cores b) (not-false (nat_lt c (cores b)) p.core);
-      begun = omega (arith, life);
-      runs = running_phase (v.phase c) p.running;
-    }
-
-smc_allowed : (b : BoardValue) (v : Values) (c : ℕ) (regs : Regs) (f : Option FwFault)
-    → LowerLaws b → IsReady b v → call_fault b v c ≡ f
-    → Allows b v (effect_of b c (Smc regs) (reply_or f (outcome_of b v c (request_of regs))))
-smc_allowed b v c regs (Some f) laws ready e = λ are. tt
-smc_allowed b v c regs None laws ready e =
-    call_allowed b v c (request_of regs) laws ready (calling b v c e)
-
--- Entries -------------------------------------------------------------------------------------
-
--- Why a start is not refused.
-record IsFresh (absent lifeless old : Bool) : Type 0 where
-  pub core : absent ≡ false
-  pub life : lifeless ≡ false
-  pub start : old ≡ false
-
-fresh : (absent lifeless old : Bool)
-    → cond absent (Some faults.NoCore) (cond lifeless (Some faults.NoLife)
-    (cond old (Some faults.OldStart) None))
-    ≡ None
-    → IsFresh absent lifeless old
-fresh false false false e = record { core = refl; life = refl; start = refl }
-fresh absent lifeless old e = absurd (cc)
-
-later : (v : Values) (c : ℕ) (s : Start)
-    → (s.life == v.life && nat_le s.number (v.known c)) ≡ false → s.life ≡ v.life
-    → v.known c < s.number
-later v c s e same = grind arith
+calling b v c e = search (arith, nat_tests)
 
 entering : (b : BoardValue) (v : Values) (c : ℕ) (s : Start) → enter_fault b v c s ≡ None
     → IsEntering b v c s
-entering b v c s e =
-    let p = fresh (not (nat_lt c (cores b))) (s.life == 0 || nat_lt b.lives s.life) (is_old b v c s)
-    e in
-    let lives = or_parts (s.life == 0) (nat_lt b.lives s.life) p.life in
-    let old = or_parts (nat_lt s.life v.life) _ p.start in
-    let zero = or_parts (s.number == 0) _ old.1 in
-    let above = or_parts (nat_lt b.starts s.number) _ zero.1 in
-    let some_life = eqb-false s.life 0 lives.0 in
-    let some_number = eqb-false s.number 0 zero.0 in
-    record {
-      core = ltb-true c (cores b) (not-false (nat_lt c (cores b)) p.core);
-      begun = omega (arith, some_life);
-      lives = ltb-false b.lives s.life lives.1;
-      life = ltb-false s.life v.life old.0;
-      some = omega (arith, some_number);
-      most = ltb-false b.starts s.number above.0;
-      later = later v c s above.1;
-    }
-
--- what a core finds are values such as the firmware keeps
-found_values : (b : BoardValue) (v : Values) (life : ℕ) → LowerLaws b → AreValues b v
-    → AreValues b (in_life b life v)
-found_values b v life laws are =
-    cond_both (life == v.life) v (start_of_life b life) (AreValues b) (λ e. are)
-    (λ e. laws.first life)
+entering b v c s e = search (arith, nat_tests)
 
 -- a core without an opening is not pending
 not_pending : (b : BoardValue) (v : Values) (c : ℕ) → AreValues b v → v.halting ≡ false
     → v.opening c ≡ None → v.phase c ≡ Pending → ⊥
 not_pending b v c are awake none waits = grind (arith, waits)
 
-parks_allowed : (b : BoardValue) (v : Values) (c : ℕ) (s : Start) → LowerLaws b → IsReady b v
-    → IsEntering b v c s → (in_life b s.life v).halting ≡ false
-    → (in_life b s.life v).opening c ≡ None
-    → Allows b v (Parks c s (off_message b (with_arrival b c s v) c))
-parks_allowed b v c s laws ready enters awake none are =
-    let found : Values = in_life b s.life v in
-    let arrived : Values = with_arrival b c s v in
-    let w : Values = with_phase c Away arrived in
-    let values : AreValues b found = found_values b v s.life laws ready.values in
-    let waits : found.phase c ≡ Pending → ⊥ = not_pending b found c values awake none in
-    let known : w.known c ≡ s.number = updated_here found.known c s.number in
-    let left : w.phase c ≡ unless_pending (found.phase c) Away =
-    updated_here found.phase c (unless_pending (found.phase c) Away) in
-    let stays : w.phase c ≡ Away =
-    left ∙ stays_away (found.phase c) waits in
-    let claim = laws.parks v c s enters.core ready.values awake none in
-    record {
-      enters = enters;
-      awake = awake;
-      none = none;
-      core = refl;
-      claim = new_claim b w c (off_parts b arrived c) laws enters.core
-          (omega (arith, found_life b v s.life, enters.begun)) (omega (arith, known, enters.some))
-          (omega (arith, known, enters.most)) awake
-          (λ e. let no : Away ≡ Pending = sym stays ∙ e in absurd (cc)) claim
-          (off_made b arrived c laws)
-          (λ level p e. subst (λ x. p.depth ≤ asks (activity_of x) level) (sym stays)
-          ((laws.parts (off_parts b arrived c) claim).deepest level p e)) are;
-    }
-  where
-    stays_away : (p : Phase) → (p ≡ Pending → ⊥) → unless_pending p Away ≡ Away
-    stays_away Pending ne = absurd (ne refl)
-    stays_away p ne = refl
+module _ {b : BoardValue} {v : Values} (laws : LowerLaws b) (ready : IsReady b v) where
+  smc_allowed : (c : ℕ) (regs : Regs) (f : Option FwFault) → call_fault b v c ≡ f
+      → Allows b v (effect_of b c (Smc regs) (reply_or f (outcome_of b v c (request_of regs))))
+  smc_allowed c regs f e = grind (arith, nat_tests, call_allowed, calling)
 
-arrival_allowed : (b : BoardValue) (v : Values) (c : ℕ) (s : Start) (o : Option Opening)
-    → LowerLaws b → IsReady b v → IsEntering b v c s → (in_life b s.life v).halting ≡ false
-    → (in_life b s.life v).opening c ≡ o → let found = in_life b s.life v in
-    let outcome = outcome_at b found (with_arrival b c s v) c s o in
-    Allows b v (enter_effect c s outcome.act outcome.message)
-arrival_allowed b v c s (Some o) laws ready enters awake e = λ are. record {
-  enters = enters;
-  awake = awake;
-  asked = or_left _ (resumes (in_life b s.life v) c s) (ap is_some e);
-}
-arrival_allowed b v c s None laws ready enters awake e =
-    by_test (resumes (in_life b s.life v) c s) refl
-  where
-    outcome : Bool → Outcome
-    outcome t = cond t
-        (record { act = acts.Resume; message = None })
-        (stops_with (off_message b (with_arrival b c s v) c))
+  -- Entries -------------------------------------------------------------------------------------
 
-    by_test : (t : Bool) → resumes (in_life b s.life v) c s ≡ t
-        → Allows b v (enter_effect c s (outcome t).act (outcome t).message)
-    by_test true r = λ are. record {
-      enters = enters;
-      awake = awake;
-      asked = or_right (is_some ((in_life b s.life v).opening c)) _ r;
-    }
-    by_test false r = parks_allowed b v c s laws ready enters awake e
+  -- what a core finds are values such as the firmware keeps
+  found_values : (life : ℕ) → AreValues b v → AreValues b (in_life b life v)
+  found_values life are =
+      cond_both (life == v.life) v (start_of_life b life) (AreValues b) (λ e. are)
+      (λ e. laws.first life)
 
-outcome_allowed : (b : BoardValue) (v : Values) (c : ℕ) (s : Start) (t : Bool) → LowerLaws b
-    → IsReady b v → IsEntering b v c s → (in_life b s.life v).halting ≡ t
-    → let found = in_life b s.life v in
-    let outcome = cond t stops (outcome_at b found (with_arrival b c s v) c s (found.opening c)) in
-    Allows b v (enter_effect c s outcome.act outcome.message)
-outcome_allowed b v c s true laws ready enters e =
-    λ are. record { enters = enters; halting = e }
-outcome_allowed b v c s false laws ready enters e =
-    arrival_allowed b v c s ((in_life b s.life v).opening c) laws ready enters e refl
+  parks_allowed : (c : ℕ) (s : Start) → IsEntering b v c s → (in_life b s.life v).halting ≡ false
+      → (in_life b s.life v).opening c ≡ None
+      → Allows b v (Parks c s (off_message b (with_arrival b c s v) c))
+  parks_allowed c s enters awake none are =
+      let found : Values = in_life b s.life v in
+      let arrived : Values = with_arrival b c s v in
+      let w : Values = with_phase c Away arrived in
+      let values : AreValues b found = found_values s.life ready.values in
+      let waits : found.phase c ≡ Pending → ⊥ = not_pending b found c values awake none in
+      let known : w.known c ≡ s.number = updated_here found.known c s.number in
+      let left : w.phase c ≡ unless_pending (found.phase c) Away =
+      updated_here found.phase c (unless_pending (found.phase c) Away) in
+      let stays : w.phase c ≡ Away =
+      left ∙ stays_away (found.phase c) waits in
+      let claim = laws.parks v c s enters.core ready.values awake none in
+      record {
+        enters = enters;
+        awake = awake;
+        none = none;
+        core = refl;
+        claim = new_claim b w c (off_parts b arrived c) laws enters.core
+            (omega (arith, found_life b v s.life, enters.begun)) (omega (arith, known, enters.some))
+            (omega (arith, known, enters.most)) awake
+            (λ e. let no : Away ≡ Pending = sym stays ∙ e in absurd (cc)) claim
+            (off_made b arrived c laws)
+            (λ level p e. subst (λ x. p.depth ≤ asks (activity_of x) level) (sym stays)
+            ((laws.parts (off_parts b arrived c) claim).deepest level p e)) are;
+      }
+    where
+      stays_away : (p : Phase) → (p ≡ Pending → ⊥) → unless_pending p Away ≡ Away
+      stays_away Pending ne = absurd (ne refl)
+      stays_away p ne = refl
 
-enter_allowed : (b : BoardValue) (v : Values) (c : ℕ) (s : Start) (f : Option FwFault)
-    → LowerLaws b → IsReady b v → enter_fault b v c s ≡ f
-    → Allows b v (effect_of b c (Enter s) (reply_or f (enter_outcome b v c s)))
-unfolding enter_outcome
-enter_allowed b v c s (Some f) laws ready e = λ are. tt
-enter_allowed b v c s None laws ready e =
-    outcome_allowed b v c s (in_life b s.life v).halting laws ready (entering b v c s e) refl
+  arrival_allowed : (c : ℕ) (s : Start) (o : Option Opening) → IsEntering b v c s
+      → (in_life b s.life v).halting ≡ false → (in_life b s.life v).opening c ≡ o
+      → let found = in_life b s.life v in
+      let outcome = outcome_at b found (with_arrival b c s v) c s o in
+      Allows b v (enter_effect c s outcome.act outcome.message)
+  arrival_allowed c s (Some o) enters awake e =
+      grind (arith, nat_tests, or_left, or_right, parks_allowed)
+  arrival_allowed c s None enters awake e =
+      by_test (resumes (in_life b s.life v) c s) refl
+    where
+      outcome : Bool → Outcome
+      outcome t = cond t
+          (record { act = acts.Resume; message = None })
+          (stops_with (off_message b (with_arrival b c s v) c))
 
--- Acknowledgements ----------------------------------------------------------------------------
+      by_test : (t : Bool) → resumes (in_life b s.life v) c s ≡ t
+          → Allows b v (enter_effect c s (outcome t).act (outcome t).message)
+      by_test true r = λ are. record {
+        enters = enters;
+        awake = awake;
+        asked = or_right (is_some ((in_life b s.life v).opening c)) _ r;
+      }
+      by_test false r = parks_allowed c s enters awake e
 
-taken_if : (b : BoardValue) (v : Values) (c : ℕ) (a : AckValue) (m : MessageValue) (t : Bool)
-    → v.outstanding (slot_of a.kind a.core) ≡ Some m → answers a m ≡ t
-    → Allows b v (effect_of b c (Take a) (replies.Taken (cond t takens.Used takens.Old)))
-taken_if b v c a m true at e = λ are. record { message = m; at = at; answers = e }
-taken_if b v c a m false at e = λ are. tt
+  enter_allowed : (c : ℕ) (s : Start) (f : Option FwFault) → enter_fault b v c s ≡ f
+      → Allows b v (effect_of b c (Enter s) (reply_or f (enter_outcome b v c s)))
+  unfolding enter_outcome
+  enter_allowed c s f e = grind (arith, nat_tests, entering, arrival_allowed)
 
-take_allowed : (b : BoardValue) (v : Values) (c : ℕ) (a : AckValue) (o : Option MessageValue)
-    → v.outstanding (slot_of a.kind a.core) ≡ o
-    → Allows b v (effect_of b c (Take a) (replies.Taken (taken a o)))
-take_allowed b v c a None at = λ are. tt
-take_allowed b v c a (Some m) at = taken_if b v c a m (answers a m) at refl
+  -- Acknowledgements ----------------------------------------------------------------------------
 
--- All calls -----------------------------------------------------------------------------------
+  take_allowed : (c : ℕ) (a : AckValue) (o : Option MessageValue)
+      → v.outstanding (slot_of a.kind a.core) ≡ o
+      → Allows b v (effect_of b c (Take a) (replies.Taken (taken a o)))
+  take_allowed c a o at = grind (arith, nat_tests)
 
-pub answer_allowed : (b : BoardValue) (v : Values) (c : ℕ) (call : FwCall) → LowerLaws b
-    → IsReady b v → Allows b v (effect_of b c call (answer b v c call))
-unfolding answer
-answer_allowed b v c (Smc regs) laws ready =
-    smc_allowed b v c regs (call_fault b v c) laws ready refl
-answer_allowed b v c (Enter s) laws ready =
-    enter_allowed b v c s (enter_fault b v c s) laws ready refl
-answer_allowed b v c (Take a) laws ready =
-    take_allowed b v c a (v.outstanding (slot_of a.kind a.core)) refl
+  -- All calls -----------------------------------------------------------------------------------
+
+  pub answer_allowed : (c : ℕ) (call : FwCall) → Allows b v (effect_of b c call (answer b v c call))
+  unfolding answer
+  answer_allowed c (Smc regs) = smc_allowed c regs (call_fault b v c) refl
+  answer_allowed c (Enter s) = enter_allowed c s (enter_fault b v c s) refl
+  answer_allowed c (Take a) = take_allowed c a (v.outstanding (slot_of a.kind a.core)) refl

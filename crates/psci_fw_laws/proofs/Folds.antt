@@ -1,7 +1,11 @@
--- A fold over numbers does not depend on the order of two of them, if its steps commute.
-use Rattle.psci_fw_laws.proofs.Words.{◌+◌, ◌<◌, ◌==◌, ◌∙◌, ◌∷◌, ◌≡◌, ◌≤◌, ◌⊎◌, [], ap, arith, Bool}
-use Rattle.psci_fw_laws.proofs.Words.{cases_eq, if◌then◌else◌, inl, inr, List, range_with_len, refl}
-use Rattle.psci_fw_laws.proofs.Words.{subst, suc, swap, sym, zero, ℕ}
+-- A fold over numbers does not depend on the order of two of them, if its steps commute; and what
+-- is counted over numbers is such a fold.
+use Rattle.psci_fw_laws.proofs.Words.{nat_tests, ◌+◌, ◌<◌, ◌==◌, ◌∙◌, ◌∷◌, ◌≡◌, ◌≤◌, ◌⊎◌, [], ap}
+use Rattle.psci_fw_laws.proofs.Words.{arith, Bool, cases_eq, if◌then◌else◌, inl, inr, List}
+use Rattle.psci_fw_laws.proofs.Words.{range_with_len, refl, suc, swap, sym, zero, ℕ, ◌&&◌}
+use Rattle.psci_fw_laws.proofs.Words.{◌||◌, cases_Bool, false, filter, least, list_all, list_any}
+use Rattle.psci_fw_laws.proofs.Words.{map, sum_by, sum_by-cons, true}
+use Rattle.std.proofs.Common.{min}
 
 -- a right fold
 abbrev pub fold : {R : Type 0} → (ℕ → R → R) → R → List ℕ → R
@@ -29,26 +33,12 @@ without-other : {R : Type 0} (g : ℕ → R → R) (x k : ℕ) (r : R) → (k �
     → without x g k r ≡ g k r
 without-other g x k r d = grind arith
 
-without-it : {R : Type 0} (g : ℕ → R → R) (x : ℕ) (r : R) → without x g x r ≡ r
-without-it g x r = grind arith
-
--- the first number comes first
-pull-first : {R : Type 0} (g : ℕ → R → R) (z : R) (a n : ℕ)
-    → fold g z (range_with_len a (suc n)) ≡ g a (fold (without a g) z (range_with_len a (suc n)))
-pull-first g z a n = grind (arith, alike, without-other, without-it)
-
 -- a number that is gone over may come first
 pull : {R : Type 0} (g : ℕ → R → R) (z : R) (a n x : ℕ) → Commutes g → a ≤ x → x < a + n
     → fold g z (range_with_len a n) ≡ g x (fold (without x g) z (range_with_len a n))
 pull g z a zero x c h i = absurd (omega arith)
-pull g z a (suc n) x c h i = elim (cases_eq a x) [
-  | inl same ↦ subst (λ (y : ℕ). fold g z (range_with_len a (suc n))
-      ≡ g y (fold (without y g) z (range_with_len a (suc n)))) same (pull-first g z a n)
-  | inr other ↦
-      let rest = pull g z (a + 1) n x c (omega arith) (omega arith) in
-      let keep = without-other g x a (fold (without x g) z (range_with_len (a + 1) n)) other in
-      ap (g a) rest ∙ c a x _ ∙ ap (g x) (sym keep)
-]
+pull g z a (suc n) x c h i =
+    grind (arith, nat_tests, cases_eq, fold, without, without-other, pull g z (a + 1) n x c, alike)
 
 -- Swapping --------------------------------------------------------------------------------------
 
@@ -73,20 +63,12 @@ swap-same x y k e = grind arith
 abbrev pub swapped : {R : Type 0} → ℕ → ℕ → (ℕ → R → R) → ℕ → R → R
 swapped x y g k r = g (swap x y k) r
 
-without-two : {R : Type 0} (g : ℕ → R → R) (x i j : ℕ) (r : R) (p q : Bool)
-    → (i == x) ≡ p → (j == x) ≡ q → Commutes g
-    → without x g i (without x g j r) ≡ without x g j (without x g i r)
-without-two g x i j r p q e f c = grind (arith, c i j r)
-
-without-commutes : {R : Type 0} (g : ℕ → R → R) (x : ℕ) → Commutes g → Commutes (without x g)
-without-commutes g x c = λ i j r. without-two g x i j r (i == x) (j == x) refl refl c
-
 -- both numbers may come first
 pull-two : {R : Type 0} (g : ℕ → R → R) (z : R) (a n x y : ℕ) → Commutes g → (y ≡ x → ⊥)
     → a ≤ x → x < a + n → a ≤ y → y < a + n
     → fold g z (range_with_len a n)
     ≡ g x (g y (fold (without y (without x g)) z (range_with_len a n)))
-pull-two g z a n x y c d h i j k = grind (arith, pull, without-commutes, without-other)
+pull-two g z a n x y c d h i j k = grind (arith, pull, without-other)
 
 without-both : {R : Type 0} (g : ℕ → R → R) (x y k : ℕ) (r : R) (p q : Bool) → (k == x) ≡ p
     → (k == y) ≡ q → without y (without x (swapped x y g)) k r ≡ without y (without x g) k r
@@ -114,12 +96,6 @@ swapped-inside g z a n x y c h i j k = elim (cases_eq y x) [
       ∙ sym (pull-two g z a n x y c d h i j k)))))
 ]
 
--- a fold over numbers with neither
-swapped-outside : {R : Type 0} (g : ℕ → R → R) (z : R) (a n x y : ℕ)
-    → ((k : ℕ) → a ≤ k → k < a + n → k ≡ x → ⊥) → ((k : ℕ) → a ≤ k → k < a + n → k ≡ y → ⊥)
-    → fold (swapped x y g) z (range_with_len a n) ≡ fold g z (range_with_len a n)
-swapped-outside g z a n x y d e = grind (arith, alike, swap-other)
-
 pub cases_within : (a n x : ℕ) → ((a ≤ x) × (x < a + n)) ⊎ (a ≤ x → x < a + n → ⊥)
 cases_within a n x = grind arith
 
@@ -127,4 +103,73 @@ cases_within a n x = grind arith
 pub swapped-fold : {R : Type 0} (g : ℕ → R → R) (z : R) (a n x y : ℕ) → Commutes g
     → (a ≤ x → x < a + n → (a ≤ y) × (y < a + n)) → (a ≤ y → y < a + n → (a ≤ x) × (x < a + n))
     → fold (swapped x y g) z (range_with_len a n) ≡ fold g z (range_with_len a n)
-swapped-fold g z a n x y c f s = grind (arith, cases_within, swapped-inside, swapped-outside)
+swapped-fold g z a n x y c f s = grind (arith, cases_within, swapped-inside, alike, swap-other)
+
+-- Steps -----------------------------------------------------------------------------------------
+
+-- a step at the numbers that pass a test
+abbrev pub passing : {R : Type 0} → (ℕ → Bool) → (ℕ → R → R) → ℕ → R → R
+passing p g k r = if p k then g k r else r
+
+passing-two : {R : Type 0} (g : ℕ → R → R) (i j : ℕ) (r : R) (p q : Bool) → Commutes g
+    → (if p then g i (if q then g j r else r) else (if q then g j r else r))
+    ≡ (if q then g j (if p then g i r else r) else (if p then g i r else r))
+passing-two g i j r p q c = grind (arith, c i j r)
+
+pub passing-commutes : {R : Type 0} (p : ℕ → Bool) (g : ℕ → R → R) → Commutes g
+    → Commutes (passing p g)
+passing-commutes p g c = λ i j r. passing-two g i j r (p i) (p j) c
+
+-- a fold over the numbers that pass
+pub fold-filter : {R : Type 0} (p : ℕ → Bool) (g : ℕ → R → R) (z : R) (ks : List ℕ)
+    → fold g z (filter p ks) ≡ fold (passing p g) z ks
+fold-filter p g z [] = refl
+fold-filter p g z (k ∷ ks) = grind (arith, nat_tests, cases_Bool, fold-filter p g z ks)
+
+-- Counts ----------------------------------------------------------------------------------------
+
+abbrev pub adds : (ℕ → ℕ) → ℕ → ℕ → ℕ
+adds f k r = f k + r
+
+abbrev pub lessens : (ℕ → ℕ) → ℕ → ℕ → ℕ
+lessens f k r = min (f k) r
+
+abbrev pub ands : (ℕ → Bool) → ℕ → Bool → Bool
+ands f k r = f k && r
+
+abbrev pub ors : (ℕ → Bool) → ℕ → Bool → Bool
+ors f k r = f k || r
+
+pub adds-commutes : (f : ℕ → ℕ) → Commutes (adds f)
+adds-commutes f = λ i j r. omega arith
+
+pub lessens-commutes : (f : ℕ → ℕ) → Commutes (lessens f)
+lessens-commutes f = λ i j r. omega arith
+
+and-swap : (x y r : Bool) → (x && (y && r)) ≡ (y && (x && r))
+and-swap x y r = grind arith
+
+or-swap : (x y r : Bool) → (x || (y || r)) ≡ (y || (x || r))
+or-swap x y r = grind arith
+
+pub ands-commutes : (f : ℕ → Bool) → Commutes (ands f)
+ands-commutes f = λ i j r. and-swap (f i) (f j) r
+
+pub ors-commutes : (f : ℕ → Bool) → Commutes (ors f)
+ors-commutes f = λ i j r. or-swap (f i) (f j) r
+
+pub sum_by-fold : (f : ℕ → ℕ) (ks : List ℕ) → sum_by f ks ≡ fold (adds f) 0 ks
+sum_by-fold f [] = refl
+sum_by-fold f (k ∷ ks) = sum_by-cons f k ks ∙ ap (λ (r : ℕ). f k + r) (sum_by-fold f ks)
+
+pub least-fold : (f : ℕ → ℕ) (ks : List ℕ) → least (map f ks) ≡ fold (lessens f) 3 ks
+least-fold f [] = refl
+least-fold f (k ∷ ks) = ap (min (f k)) (least-fold f ks)
+
+pub list_all-fold : (f : ℕ → Bool) (ks : List ℕ) → list_all f ks ≡ fold (ands f) true ks
+list_all-fold f [] = refl
+list_all-fold f (k ∷ ks) = ap (λ (r : Bool). f k && r) (list_all-fold f ks)
+
+pub list_any-fold : (f : ℕ → Bool) (ks : List ℕ) → list_any f ks ≡ fold (ors f) false ks
+list_any-fold f [] = refl
+list_any-fold f (k ∷ ks) = ap (λ (r : Bool). f k || r) (list_any-fold f ks)

@@ -1,7 +1,7 @@
 -- A fold over numbers whose steps commute is the same over their other numbers.
 use Rattle.std.proofs.Common.{nat_le}
-use Rattle.psci_fw_laws.proofs.Words.{◌&&◌, ◌+◌, ◌<◌, ◌∙◌, ◌≡◌, ◌≤◌, ap, arith, Bool, cases_eq}
-use Rattle.psci_fw_laws.proofs.Words.{cases_lt, false, if◌then◌else◌, inl, inr, nat_lt}
+use Rattle.psci_fw_laws.proofs.Words.{nat_tests, ◌&&◌, ◌+◌, ◌<◌, ◌∙◌, ◌≡◌, ◌≤◌, ap, arith, Bool}
+use Rattle.psci_fw_laws.proofs.Words.{cases_eq, cases_lt, false, if◌then◌else◌, inl, inr, nat_lt}
 use Rattle.psci_fw_laws.proofs.Words.{range_with_len, refl, suc, swap, sym, true, zero, ℕ}
 use Rattle.psci_fw_laws.proofs.Folds.{Commutes, alike, fold, swapped-fold}
 
@@ -35,13 +35,7 @@ unmoved s n k d other = grind arith
 -- one number more, whose other number came before: the two are swapped first
 sooner : (s : ℕ → ℕ) (n k : ℕ) → ((j : ℕ) → s (s j) ≡ j) → s n ≤ n
     → so_far s (suc n) k ≡ so_far s n (swap n (s n) k)
-sooner s n k back under = elim (cases_eq k n) [
-  | inl e ↦ grind (arith, ap s e, own s n back under)
-  | inr d ↦ elim (cases_eq k (s n)) [
-    | inl e ↦ grind (arith, ap s e, back n)
-    | inr f ↦ grind (arith, unmoved s n k d (λ e. f (sym (back k) ∙ ap s e)))
-  ]
-]
+sooner s n k back under = grind (arith, nat_tests, cases_eq, own, unmoved)
 
 -- a fold over the other numbers, so far
 fold-so_far : {R : Type 0} (s : ℕ → ℕ) (g : ℕ → R → R) (z : R) (m n : ℕ) → Commutes g

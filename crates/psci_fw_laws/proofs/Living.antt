@@ -4,7 +4,7 @@ use Rattle.psci_fw_laws.proofs.Words.{known_below, List, MessageValue, Part, Pat
 use Rattle.psci_fw_laws.proofs.Words.{Values, ℕ}
 use Rattle.psci_fw_laws.specs.Live.{AreLive}
 use Rattle.psci_fw_laws.proofs.Consequences.{equal_each}
-use Rattle.psci_fw_laws.proofs.Older.{claim_older}
+use Rattle.psci_fw_laws.proofs.Claiming.{claim_older}
 use Rattle.psci_fw_laws.proofs.Sums.{known_gap, known_le}
 
 live_current : (b : BoardValue) (v : Values) (messages : List MessageValue) (starts : ℕ → ℕ)
@@ -12,8 +12,7 @@ live_current : (b : BoardValue) (v : Values) (messages : List MessageValue) (sta
     → IsClaimOn b v.life level place p messages
     → p.generation ≡ known_below b starts level place → IsCurrent b v.known level place p
 live_current b v messages starts holds le level place p claim e =
-    let low =
-    claim_older b v.life v.halting v.known v.phase messages level place p holds.messages claim in
+    let low = claim_older messages holds.messages claim in
     let sum = known_le b v.known starts level place (λ c i at. le c) in
     omega (arith, low, sum, e)
 

@@ -1,9 +1,9 @@
 -- What a core that stops sends.
 use Rattle.std.proofs.lemmas.Bool.{le-leb}
 use Rattle.std.proofs.lemmas.Option.{slice_get_within}
-use Rattle.psci_fw_laws.proofs.Words.{◌+◌, ◌<◌, ◌∙◌, ◌≡◌, ◌≤◌, activity_of, ap, AreClaims}
-use Rattle.psci_fw_laws.proofs.Words.{AreValues, arith, ask, asks, Away, BoardValue, ClaimLaws}
-use Rattle.psci_fw_laws.proofs.Words.{cond-true, cond_both, cores, domain_of, Down, eq-eqb, false}
+use Rattle.psci_fw_laws.proofs.Words.{nat_tests, ◌+◌, ◌<◌, ◌∙◌, ◌≡◌, ◌≤◌, activity_of, ap}
+use Rattle.psci_fw_laws.proofs.Words.{AreClaims, AreValues, arith, ask, asks, Away, BoardValue}
+use Rattle.psci_fw_laws.proofs.Words.{ClaimLaws, cond-true, cond_both, cores, Down, eq-eqb, false}
 use Rattle.psci_fw_laws.proofs.Words.{height, IsNewClaim, known_on, least_wish, leaving_claims}
 use Rattle.psci_fw_laws.proofs.Words.{length, List, message_for, MessageValue, off_wish, Ok}
 use Rattle.psci_fw_laws.proofs.Words.{OsInitiated, own_wish, Part, PathLaws, Pending, Platform}
@@ -25,21 +25,14 @@ pub record AreMade (b : BoardValue) (known : ℕ → ℕ) (c : ℕ) (parts : Lis
   pub current : (level : ℕ) (p : Part) → slice_get parts level ≡ Some p
       → p.generation ≡ known_on b known c level
 
-view_known : (b : BoardValue) (v : Values) (c level : ℕ)
-    → generation b (view b v) (domain_of b c level) ≡ known_on b v.known c level
-unfolding generation view known_below
-view_known b v c level = refl
-
 view_ask : (b : BoardValue) (v : Values) (c level : ℕ) → (view b v).ask c level ≡ ask b v c level
 unfolding view
 view_ask b v c level = refl
 
 claim_made : (b : BoardValue) (v : Values) (c : ℕ) (wanted : ℕ → ℕ)
     → ClaimLaws b (view b v) c wanted → AreMade b v.known c (claims_of b (view b v) c wanted)
-claim_made b v c wanted laws = record {
-  few = laws.few;
-  current = λ level p e. laws.generation level p e ∙ view_known b v c level;
-}
+unfolding generation view known_below
+claim_made b v c wanted laws = grind (arith, nat_tests)
 
 leaving_made : (b : BoardValue) (v : Values) (c : ℕ) (mode : SuspendMode) → LowerLaws b
     → AreMade b v.known c (leaving_claims b (view b v) c mode)
@@ -58,57 +51,52 @@ pub off_made : (b : BoardValue) (v : Values) (c : ℕ) → LowerLaws b
 unfolding off_parts
 off_made b v c laws = leaving_made b (with_phase c Away v) c v.mode laws
 
-suspend_made_by : (b : BoardValue) (v : Values) (c : ℕ) (ask : List ℕ) (parts : List Part)
-    (mode : SuspendMode) → LowerLaws b → c < cores b
-    → suspend_claims b v c ask mode ≡ Ok parts → AreMade b v.known c parts
-suspend_made_by b v c ask parts Platform laws on e =
-    let w : Values = with_phase c (Suspended ask) v in
-    let same : claims_of b (view b w) c (least_wish b (view b w) c) ≡ parts = cc in
-    subst (AreMade b v.known c) same
-    (claim_made b w c (least_wish b (view b w) c) (laws.claims (view b w) c _))
-suspend_made_by b v c ask parts OsInitiated laws on e =
-    let same : parts ≡ claims_of b (view b v) c (own_wish ask) =
-    (laws.last_core (view b v) c ask on).parts parts e in
-    subst (AreMade b v.known c) (sym same)
-    (claim_made b v c (own_wish ask) (laws.claims (view b v) c _))
+module _ {b : BoardValue} {c : ℕ} (laws : LowerLaws b) (on : c < cores b) (v : Values)
+    (ask : List ℕ) (parts : List Part) where
+  suspend_made_by : (mode : SuspendMode) → suspend_claims b v c ask mode ≡ Ok parts
+      → AreMade b v.known c parts
+  suspend_made_by Platform e =
+      let w : Values = with_phase c (Suspended ask) v in
+      let same : claims_of b (view b w) c (least_wish b (view b w) c) ≡ parts = cc in
+      subst (AreMade b v.known c) same
+      (claim_made b w c (least_wish b (view b w) c) (laws.claims (view b w) c _))
+  suspend_made_by OsInitiated e =
+      rw ((laws.last_core (view b v) c ask on).parts parts e)
+      (claim_made b v c (own_wish ask) (laws.claims (view b v) c _))
 
--- of a core that is suspended
-pub suspend_made : (b : BoardValue) (v : Values) (c : ℕ) (ask : List ℕ) (parts : List Part)
-    → LowerLaws b → c < cores b → suspend_parts b v c ask ≡ Ok parts → AreMade b v.known c parts
-unfolding suspend_parts
-suspend_made b v c ask parts laws on e = suspend_made_by b v c ask parts v.mode laws on e
+  -- of a core that is suspended
+  pub suspend_made : suspend_parts b v c ask ≡ Ok parts → AreMade b v.known c parts
+  unfolding suspend_parts
+  suspend_made e = suspend_made_by v.mode e
 
--- no part is deeper than what its sender asks of the domain
-suspend_own_by : (b : BoardValue) (v : Values) (c : ℕ) (ask : List ℕ) (parts : List Part)
-    (mode : SuspendMode) → LowerLaws b → c < cores b → v.phase c ≡ Running
-    → suspend_claims b v c ask mode ≡ Ok parts → (level : ℕ) (p : Part)
-    → slice_get parts level ≡ Some p → p.depth ≤ slice_index ask level
-unfolding view
-suspend_own_by b v c ask parts Platform laws on runs e level p part =
-    let w : Values = with_phase c (Suspended ask) v in
-    let same : parts ≡ platform_claims b (view b w) c = cc in
-    let at = ap (λ ps. slice_get ps level) (sym same) ∙ part in
-    let low = (laws.platform (view b w) c on).asked level c p at on refl in
-    let left : w.phase c ≡ Suspended ask =
-    updated_here v.phase c (unless_pending (v.phase c) (Suspended ask))
-    ∙ ap (λ x. unless_pending x (Suspended ask)) runs in
-    let most = ask_most b w c level in
-    let asked : asks (activity_of (w.phase c)) level ≡ slice_index ask level =
-    ap (λ x. asks (activity_of x) level) left in
-    omega (arith, low, most, asked)
-suspend_own_by b v c ask parts OsInitiated laws on runs e level p part =
-    let same : parts ≡ claims_of b (view b v) c (own_wish ask) =
-    (laws.last_core (view b v) c ask on).parts parts e in
-    let at = ap (λ ps. slice_get ps level) (sym same) ∙ part in
-    let deep = (laws.claims (view b v) c (own_wish ask)).depth level p at in
-    omega (arith, deep)
+  -- no part is deeper than what its sender asks of the domain
+  suspend_own_by : (mode : SuspendMode) → v.phase c ≡ Running
+      → suspend_claims b v c ask mode ≡ Ok parts → (level : ℕ) (p : Part)
+      → slice_get parts level ≡ Some p → p.depth ≤ slice_index ask level
+  unfolding view
+  suspend_own_by Platform runs e level p part =
+      let w : Values = with_phase c (Suspended ask) v in
+      let same : parts ≡ platform_claims b (view b w) c = cc in
+      let at = ap (λ ps. slice_get ps level) (sym same) ∙ part in
+      let low = (laws.platform (view b w) c on).asked level c p at on refl in
+      let left : w.phase c ≡ Suspended ask =
+      updated_here v.phase c (unless_pending (v.phase c) (Suspended ask))
+      ∙ ap (λ x. unless_pending x (Suspended ask)) runs in
+      let most = ask_most b w c level in
+      let asked : asks (activity_of (w.phase c)) level ≡ slice_index ask level =
+      ap (λ x. asks (activity_of x) level) left in
+      omega (arith, low, most, asked)
+  suspend_own_by OsInitiated runs e level p part =
+      let same : parts ≡ claims_of b (view b v) c (own_wish ask) =
+      (laws.last_core (view b v) c ask on).parts parts e in
+      let at = ap (λ ps. slice_get ps level) (sym same) ∙ part in
+      let deep = (laws.claims (view b v) c (own_wish ask)).depth level p at in
+      omega (arith, deep)
 
-pub suspend_own : (b : BoardValue) (v : Values) (c : ℕ) (ask : List ℕ) (parts : List Part)
-    → LowerLaws b → c < cores b → v.phase c ≡ Running → suspend_parts b v c ask ≡ Ok parts
-    → (level : ℕ) (p : Part) → slice_get parts level ≡ Some p → p.depth ≤ slice_index ask level
-unfolding suspend_parts
-suspend_own b v c ask parts laws on runs e =
-    suspend_own_by b v c ask parts v.mode laws on runs e
+  pub suspend_own : v.phase c ≡ Running → suspend_parts b v c ask ≡ Ok parts → (level : ℕ)
+      (p : Part) → slice_get parts level ≡ Some p → p.depth ≤ slice_index ask level
+  unfolding suspend_parts
+  suspend_own runs e = suspend_own_by v.mode runs e
 
 -- The Down that is made of them ---------------------------------------------------------------
 

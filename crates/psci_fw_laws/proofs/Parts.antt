@@ -1,16 +1,14 @@
 -- Which messages claim something of a domain.
-use Rattle.psci_fw_laws.proofs.Words.{◌&&◌, ◌==◌, ◌∷◌, ◌≡◌, ◌⊎◌, and_from, and_parts, ap}
-use Rattle.psci_fw_laws.proofs.Words.{BoardValue, Bool, cond, cond_both, Down, eq-eqb, eqb-false}
+use Rattle.psci_fw_laws.proofs.Words.{nat_tests, ◌∷◌, ◌≡◌, ◌⊎◌, BoardValue, arith, Down, eqb-false}
 use Rattle.psci_fw_laws.proofs.Words.{eqb-true, false, inl, inr, is_kind, IsClaimOn, IsFromMessage}
-use Rattle.psci_fw_laws.proofs.Words.{Kind, List, MessageValue, None, Option, Part, part_for, refl}
-use Rattle.psci_fw_laws.proofs.Words.{slice_get, Some, subst, suc, true, up, updated, zero, ℕ}
+use Rattle.psci_fw_laws.proofs.Words.{Kind, List, MessageValue, Part, part_for, refl, slice_get}
+use Rattle.psci_fw_laws.proofs.Words.{Some, suc, true, up, updated, ℕ}
 
 -- A function updated at one core ---------------------------------------------------------------
 
 pub updated_at : {A : Type 0} (P : A → Type 0) (f : ℕ → A) (c : ℕ) (x : A) (k : ℕ)
     → (k ≡ c → P x) → ((k ≡ c → ⊥) → P (f k)) → P (updated f c x k)
-updated_at P f c x k here there =
-    cond_both (k == c) x (f k) P (λ e. here (eqb-true k c e)) (λ e. there (eqb-false k c e))
+updated_at P f c x k here there = grind (arith, nat_tests, eqb-false, eqb-true)
 
 pub updated_here : {A : Type 0} (f : ℕ → A) (c : ℕ) (x : A) → updated f c x c ≡ x
 updated_here f c x = updated_at (λ y. y ≡ x) f c x c (λ e. refl) (λ e. absurd (e refl))
@@ -22,8 +20,7 @@ updated_there f c x k ne = updated_at (λ y. y ≡ f k) f c x k (λ e. absurd (n
 -- Parts ---------------------------------------------------------------------------------------
 
 pub kind_is : (k : Kind) → is_kind k Down ≡ true → k ≡ Down
-kind_is Down e = refl
-kind_is k e = absurd (cc)
+kind_is k e = grind (arith, nat_tests)
 
 -- What it means that a message has a part for a domain.
 pub record HasPart (b : BoardValue) (life level place : ℕ) (m : MessageValue) (p : Part)
@@ -33,33 +30,13 @@ pub record HasPart (b : BoardValue) (life level place : ℕ) (m : MessageValue) 
   pub on : place ≡ up b level m.core.number
   pub part : slice_get m.parts level ≡ Some p
 
-some_if : (t : Bool) (o : Option Part) (p : Part) → cond t o None ≡ Some p
-    → (t ≡ true) × (o ≡ Some p)
-some_if true o p e = (refl, e)
-some_if false o p e = absurd (cc)
-
 pub part_has : (b : BoardValue) (life level place : ℕ) (m : MessageValue) (p : Part)
     → part_for b life level place m ≡ Some p → HasPart b life level place m p
-part_has b life level place m p e =
-    let both =
-    some_if (is_kind m.kind Down && (m.life == life && (place == up b level m.core.number)))
-    (slice_get m.parts level) p e in
-    let kind = and_parts (is_kind m.kind Down) _ both.0 in
-    let rest = and_parts (m.life == life) _ kind.1 in
-    record {
-      kind = kind_is m.kind kind.0;
-      present = eqb-true _ _ rest.0;
-      on = eqb-true _ _ rest.1;
-      part = both.1;
-    }
+part_has b life level place m p e = search (arith, nat_tests, kind_is)
 
 pub part_from : (b : BoardValue) (life level place : ℕ) (m : MessageValue) (p : Part)
     → HasPart b life level place m p → part_for b life level place m ≡ Some p
-part_from b life level place m p h =
-    let kind : is_kind m.kind Down ≡ true = ap (λ k. is_kind k Down) h.kind in
-    let test : (is_kind m.kind Down && (m.life == life && (place == up b level m.core.number)))
-    ≡ true = and_from _ _ kind (and_from _ _ (eq-eqb _ _ h.present) (eq-eqb _ _ h.on)) in
-    rw (test) h.part
+part_from b life level place m p h = grind (arith, nat_tests)
 
 -- Claims --------------------------------------------------------------------------------------
 
@@ -67,8 +44,7 @@ part_from b life level place m p h =
 pub claim_new : (b : BoardValue) (life level place : ℕ) (p : Part) (m : MessageValue)
     (sent : List MessageValue) → part_for b life level place m ≡ Some p
     → IsClaimOn b life level place p (m ∷ sent)
-claim_new b life level place p m sent e =
-    inr (record { index = 0; message = m; at = refl; part = e })
+claim_new b life level place p m sent e = grind (arith, nat_tests)
 
 pub claim_old : (b : BoardValue) (life level place : ℕ) (p : Part) (m : MessageValue)
     (sent : List MessageValue) → IsClaimOn b life level place p sent
@@ -82,36 +58,19 @@ from_more : (b : BoardValue) (life level place : ℕ) (p : Part) (m n : MessageV
     (sent : List MessageValue) (k : ℕ) → slice_get (m ∷ sent) k ≡ Some n
     → part_for b life level place n ≡ Some p
     → (part_for b life level place m ≡ Some p) ⊎ IsFromMessage b life level place p sent
-from_more b life level place p m n sent zero at e =
-    let same : n ≡ m = cc in
-    inl (subst (λ x. part_for b life level place x ≡ Some p) same e)
-from_more b life level place p m n sent (suc k) at e =
-    inr (record { index = k; message = n; at = at; part = e })
+from_more b life level place p m n sent k at e = grind (arith, nat_tests)
 
 pub claim_more : (b : BoardValue) (life level place : ℕ) (p : Part) (m : MessageValue)
     (sent : List MessageValue) → IsClaimOn b life level place p (m ∷ sent)
     → (part_for b life level place m ≡ Some p) ⊎ IsClaimOn b life level place p sent
-claim_more b life level place p m sent claim = elim claim [
-  | inl s ↦ inr (inl s)
-  | inr f ↦ elim (from_more b life level place p m f.message sent f.index f.at f.part) [
-    | inl here ↦ inl here
-    | inr old ↦ inr (inr old)
-  ]
-]
+claim_more b life level place p m sent claim = grind (arith, nat_tests, from_more)
 
 -- a message that is no Down claims nothing
 pub no_part : (b : BoardValue) (life level place : ℕ) (p : Part) (m : MessageValue)
     → is_kind m.kind Down ≡ false → part_for b life level place m ≡ Some p → ⊥
-no_part b life level place p m other e =
-    let kind = (part_has b life level place m p e).kind in
-    let down : is_kind m.kind Down ≡ true = ap (λ k. is_kind k Down) kind in
-    absurd (cc)
+no_part b life level place p m other e = grind (arith, nat_tests, part_has)
 
 pub claim_before : (b : BoardValue) (life level place : ℕ) (p : Part) (m : MessageValue)
     (sent : List MessageValue) → is_kind m.kind Down ≡ false
     → IsClaimOn b life level place p (m ∷ sent) → IsClaimOn b life level place p sent
-claim_before b life level place p m sent other claim =
-    elim (claim_more b life level place p m sent claim) [
-      | inl here ↦ absurd (no_part b life level place p m other here)
-      | inr old ↦ old
-    ]
+claim_before b life level place p m sent other claim = grind (arith, nat_tests, claim_more, no_part)

@@ -1,19 +1,19 @@
 -- Why an OS-initiated request is refused, exactly.
 use Rattle.std.specs.Prelude.{nat_lt}
-use Rattle.psci_fw_laws.proofs.Words.{◌+◌, ◌-◌, ◌<◌, ◌==◌, ◌∙◌, ◌≡◌, ◌≤◌, and_from, and_parts, ap}
-use Rattle.psci_fw_laws.proofs.Words.{arith, BoardValue, Bool, cases_Bool, ChildLaws, children_at}
-use Rattle.psci_fw_laws.proofs.Words.{cond, cores, eq-eqb, eqb-true, Err, false, first_child}
-use Rattle.psci_fw_laws.proofs.Words.{height, inl, inr, length, List, list_any, lt-ltb, ltb-true}
-use Rattle.psci_fw_laws.proofs.Words.{ne_eqb, Node, nodes, None, not, Ok, own_claims, own_wish}
-use Rattle.psci_fw_laws.proofs.Words.{Part, PathLaws, PowerView, range_with_len, refl, slice_index}
-use Rattle.psci_fw_laws.proofs.Words.{Some, subst, suc, sym, true, zero, ℕ}
+use Rattle.psci_fw_laws.proofs.Words.{nat_tests, ◌+◌, ◌-◌, ◌<◌, ◌==◌, ◌∙◌, ◌≡◌, ◌≤◌, and_from}
+use Rattle.psci_fw_laws.proofs.Words.{and_parts, ap, arith, BoardValue, Bool, cases_Bool, ChildLaws}
+use Rattle.psci_fw_laws.proofs.Words.{children_at, cond, cores, eq-eqb, eqb-true, Err, false}
+use Rattle.psci_fw_laws.proofs.Words.{first_child, height, inl, inr, length, List, list_any, lt-ltb}
+use Rattle.psci_fw_laws.proofs.Words.{ltb-true, ne_eqb, Node, nodes, None, not, Ok, own_claims}
+use Rattle.psci_fw_laws.proofs.Words.{own_wish, Part, PathLaws, PowerView, range_with_len, refl}
+use Rattle.psci_fw_laws.proofs.Words.{slice_index, Some, subst, suc, sym, true, zero, ℕ}
 use Rattle.psci_board.specs.Board.{up}
 use Rattle.psci_messages.specs.LastCore.{answer_by, last_core_check, refusal, shallow, shallow_at}
 use Rattle.psci_messages.specs.View.{is_idle}
 use Rattle.psci_messages.specs.declared.osi.Osi.TheVariants.{Denied, Invalid}
 use Rattle.psci_fw_laws.specs.Beside.{AreAwake, HasSleeper, IsInTheWay, NobodyAwake}
 use Rattle.psci_fw_laws.proofs.Passing.{all_one, any_one, one_all, one_any}
-use Rattle.psci_fw_laws.proofs.LastCore.{any-flat_map, is_beside, shallow_at-any, some-any}
+use Rattle.psci_fw_laws.proofs.Claims.{any-flat_map, is_beside, shallow_at-any, some-any}
 
 -- Domains in the way ----------------------------------------------------------------------------
 
@@ -38,8 +38,8 @@ module _ (b : BoardValue) (v : PowerView) (caller : ℕ) (ask : List ℕ) (paths
       let first = subst (λ p. first_child b (suc level) p ≤ up b level c) way.joined
       (kids.first c level way.core way.low) in
       let last = subst
-      (λ p. up b level c < first_child b (suc level) p + children_at b (suc level) p)
-      way.joined (kids.last c level way.core way.low) in
+      (λ p. up b level c < first_child b (suc level) p + children_at b (suc level) p) way.joined
+      (kids.last c level way.core way.low) in
       let test = and_from _ _ (ap not (ne_eqb (up b level c) (up b level caller) way.apart))
       (and_from _ _ (lt-ltb _ _ way.less) at) in
       any-flat_map f (shallow_at b v caller ask) (range_with_len 1 (height b))
@@ -101,8 +101,7 @@ module _ (b : BoardValue) (v : PowerView) (caller : ℕ) (ask : List ℕ) (paths
 -- Awake and asleep ------------------------------------------------------------------------------
 
 idle_nobody : (b : BoardValue) (v : PowerView) (level c : ℕ)
-    → is_idle b v (record { level = level; place = up b level c }) ≡ true
-    → NobodyAwake b v level c
+    → is_idle b v (record { level = level; place = up b level c }) ≡ true → NobodyAwake b v level c
 unfolding is_idle up
 idle_nobody b v level c e x on at =
     still (v.is_active x)
@@ -123,15 +122,12 @@ nobody_idle b v level c nobody = grind (arith, one_all, nobody, eqb-true)
 invalid_by : (idle some : Bool) (parts : List Part)
     → answer_by (cond idle (Some Invalid) (cond some (Some Denied) None)) parts ≡ Err Invalid
     → idle ≡ true
-invalid_by true some parts e = refl
-invalid_by false true parts e = absurd (cc)
-invalid_by false some parts e = absurd (cc)
+invalid_by idle some parts e = grind (arith, nat_tests)
 
 denied_by : (idle some : Bool) (parts : List Part)
     → answer_by (cond idle (Some Invalid) (cond some (Some Denied) None)) parts ≡ Err Denied
     → (idle ≡ false) × (some ≡ true)
-denied_by false true parts e = (refl, refl)
-denied_by idle some parts e = absurd (cc)
+denied_by idle some parts e = grind (arith, nat_tests)
 
 -- whether nobody is awake below some domain in the way; whether something is in the way
 abbrev is_asleep : BoardValue → PowerView → ℕ → List ℕ → Bool
@@ -152,12 +148,7 @@ answered b v caller ask asleep way e f = rw (e, f) refl
 module _ (b : BoardValue) (v : PowerView) (caller : ℕ) (ask : List ℕ) (paths : PathLaws b)
     (kids : ChildLaws b) where
   sleeper : HasWay b v caller ask (is_idle b v) → HasSleeper b v caller ask
-  sleeper has = record {
-    level = has.level;
-    core = has.core;
-    way = has.way;
-    asleep = idle_nobody b v has.level has.core has.at;
-  }
+  sleeper has = grind (arith, nat_tests, idle_nobody)
 
   none_asleep : (HasSleeper b v caller ask → ⊥) → is_asleep b v caller ask ≡ false
   none_asleep none = grind (arith, cases_Bool, any_way, paths, sleeper)

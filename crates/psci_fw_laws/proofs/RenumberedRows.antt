@@ -1,30 +1,32 @@
--- Worked examples of boards at height 3, of messages, replies and calls of the other numbers, in
--- life 2, and of what is no renumbering and no such call.
-use Rattle.std.proofs.Common.{◌≡◌, ◌==◌, ℕ, zero, suc, true, false}
-use Rattle.std.proofs.Common.{[], ◌∷◌, None, Some, if◌then◌else◌, refl, arith}
-use Rattle.std.proofs.Common.{inl, inr}
+-- Worked examples of boards at height 3, of messages, replies, calls and values of the other
+-- numbers, in life 2, and of what is no renumbering and no such call.
+use Rattle.std.proofs.Common.{◌≡◌, ◌==◌, ℕ, zero, suc, true, false, [], ◌∷◌, None, Some}
+use Rattle.std.proofs.Common.{if◌then◌else◌, refl, arith, inl, inr, ◌&&◌, ◌||◌, Option, map}
 use Rattle.psci_abi.specs.declared.registers.Regs.{Regs}
 use Rattle.psci_abi.specs.declared.request.Request.TheVariants.{AffinityInfo, CpuOff, CpuOn}
 use Rattle.psci_abi.specs.declared.request.Request.TheVariants.{SetSuspendMode, Version}
 use Rattle.psci_board.specs.Board.{BoardValue, core_of, up}
-use Rattle.psci_messages.specs.Message.{AckValue, MessageValue}
-use Rattle.psci_messages.specs.Slots.{OfCore, OfSystem}
-use Rattle.psci_messages.specs.declared.kind.Kind.TheVariants as kinds
-use Rattle.psci_messages.specs.declared.start.Start.{Start}
-use Rattle.psci_messages.specs.declared.start.Cause.TheVariants.{Wake}
+use Rattle.psci_messages.specs.Message.{MessageValue}
+use Rattle.psci_messages.specs.Slots.{OfCore, OfSystem, Slot}
 use Rattle.psci_messages.specs.declared.taken.Taken.TheVariants.{Old, Used}
 use Rattle.psci_fw_spec.specs.declared.call.FwCall.TheVariants.{Enter, Smc, Take}
 use Rattle.psci_fw_spec.specs.declared.fault.FwFault.TheVariants.{OldStart}
-use Rattle.psci_fw_spec.specs.declared.outcome.Act.TheVariants as acts
 use Rattle.psci_fw_spec.specs.declared.reply.FwReply.TheVariants.{Fault, Out, Taken}
 use Rattle.psci_fw_laws.specs.Renumbered.{AreSiblings, AreTwins, AsksBy, CallsBy, IsRenumbering}
 use Rattle.psci_fw_laws.specs.Renumbered.{SparesBoot, acknowledgement_by, message_by, node_by}
 use Rattle.psci_fw_laws.specs.Renumbered.{outcome_by, reply_by, slot_by, swap_clusters, swap_cores}
+use Rattle.psci_fw_laws.specs.Renumbered.{values_by}
 use Rattle.psci_abi.proofs.Tables.{◌⇒◌, Gives}
 use Rattle.psci_fw_spec.specs.declared.reply.FwReply.{FwReply}
 use Rattle.psci_fw_spec.specs.declared.outcome.Outcome.{Outcome}
 use Rattle.psci_fw_spec.specs.declared.outcome.Act.{Act}
-use Rattle.psci_fw_laws.proofs.SwapRows.{clusters, one_level, two_levels}
+use Rattle.psci_fw_laws.proofs.SwapRows.{ack, clusters, kept, one_level, start, two_levels}
+use Rattle.psci_fw_spec.specs.declared.mode.SuspendMode.TheVariants.{OsInitiated}
+use Rattle.psci_fw_spec.specs.Values.{Values}
+use Rattle.psci_messages.specs.declared.kind.Kind.TheVariants as kinds
+use Rattle.psci_fw_spec.specs.declared.outcome.Act.TheVariants as acts
+use Rattle.psci_fw_spec.specs.declared.status.Status.TheVariants as statuses
+use Rattle.psci_fw_spec.specs.Phases as phases
 
 -- Boards ------------------------------------------------------------------------------------------
 
@@ -73,7 +75,7 @@ no_renumberings = (
 abbrev pub s : ℕ → ℕ → ℕ
 s = swap_cores 1 3
 
--- a Down of the core and its cluster in life 2, and its acknowledgement
+-- a Down of the core and its cluster in life 2
 abbrev pub down : ℕ → MessageValue
 down c = record {
   kind = kinds.Down;
@@ -82,16 +84,6 @@ down c = record {
   number = 5;
   parts = record { level = 0; depth = 3; generation = 5 }
       ∷ record { level = 1; depth = 2; generation = 9 } ∷ [];
-}
-
-abbrev acknowledged : ℕ → AckValue
-acknowledged c = record {
-  kind = kinds.Down;
-  core = record { number = c };
-  life = 2;
-  number = 5;
-  applied = 1;
-  stale = true;
 }
 
 -- the system goes off, by this core
@@ -114,7 +106,7 @@ messages_moved : Gives (message_by s)
     (down 3 ⇒ down 1 ∷ system_off 1 ⇒ system_off 3 ∷ down 2 ⇒ down 2 ∷ [])
 messages_moved = refl
 
-acknowledgement_moved : acknowledgement_by s (acknowledged 3) ≡ acknowledged 1
+acknowledgement_moved : acknowledgement_by s (ack 3) ≡ ack 1
 acknowledgement_moved = refl
 
 each_slot : Gives (slot_by (swap_clusters clusters 0 1))
@@ -141,22 +133,19 @@ outcomes_stay = refl
 
 -- Calls -------------------------------------------------------------------------------------------
 
-abbrev start : ℕ → Start
-start number = record { life = 2; number = number; cause = Wake }
-
 abbrev registers : ℕ → ℕ → Regs
 registers word target = record { x0 = word; x1 = target; x2 = 0x40001000; x3 = 7 }
 
 calls_moved :
     -- CPU_ON of core 1 asks what CPU_ON of core 3 asked
     CallsBy two_levels s (Smc (registers 0xc4000003 0x102)) (Smc (registers 0xc4000003 0x100))
-    × CallsBy two_levels s (Take (acknowledged 3)) (Take (acknowledged 1))
+    × CallsBy two_levels s (Take (ack 3)) (Take (ack 1))
     × CallsBy two_levels s (Enter (start 3)) (Enter (start 3))
 unfolding core_of
 calls_moved = ((0x100, refl, refl), refl, refl)
 
 -- of the same core, by another start, and an entry in place of a call
-other_calls : (CallsBy two_levels s (Take (acknowledged 3)) (Take (acknowledged 3)) → ⊥)
+other_calls : (CallsBy two_levels s (Take (ack 3)) (Take (ack 3)) → ⊥)
     × (CallsBy two_levels s (Enter (start 1)) (Enter (start 3)) → ⊥)
     × (CallsBy two_levels s (Smc (registers 0x84000002 0)) (Enter (start 1)) → ⊥)
 other_calls = search arith
@@ -173,10 +162,51 @@ other_requests = search arith
 -- it is not; an acknowledgement
 sparing : SparesBoot (swap_cores 0 1) 2 (Enter (start 3))
     × SparesBoot s 1 (Enter (start 1))
-    × SparesBoot (swap_cores 0 1) 1 (Take (acknowledged 0))
+    × SparesBoot (swap_cores 0 1) 1 (Take (ack 0))
 sparing = (inl refl, inr refl, tt)
 
 -- another boot core begins a life, and an entry in a life that is over
 not_sparing : (SparesBoot (swap_cores 0 1) 1 (Enter (start 1)) → ⊥)
     × (SparesBoot (swap_cores 0 1) 3 (Enter (start 1)) → ⊥)
 not_sparing = search arith
+
+-- Values, of a halting life 2 ---------------------------------------------------------------------
+
+abbrev waiting : Slot → Option MessageValue
+waiting (OfCore c) = if c == 1 then Some (down 1) else None
+waiting OfSystem = Some (system_off 3)
+
+-- a halting life 2 in OS-initiated mode, in which core 1 is suspended in retention
+abbrev values : Values
+values = record kept {
+  status = λ c. if c == 1 then statuses.On else statuses.Off;
+  phase = λ c. if c == 1 then phases.Suspended (2 ∷ []) else phases.Away;
+  opening = λ c. if c == 1 then Some (record { address = 64; context = 9 }) else None;
+  confirmed = λ level place. (level == 0 && place == 1) || (level == 1 && place == 0);
+  outstanding = waiting;
+}
+
+abbrev moved : Values
+moved = values_by s values
+
+-- each message is in the slot of its core's other number, and says that number
+values_moved : (moved.life ≡ 2) × (moved.halting ≡ true) × (moved.mode ≡ OsInitiated)
+    × (map moved.known (0 ∷ 1 ∷ 2 ∷ 3 ∷ []) ≡ 10 ∷ 13 ∷ 12 ∷ 11 ∷ [])
+    × (map moved.status (1 ∷ 2 ∷ 3 ∷ []) ≡ statuses.Off ∷ statuses.Off ∷ statuses.On ∷ [])
+    × (map moved.phase (1 ∷ 2 ∷ 3 ∷ [])
+    ≡ phases.Away ∷ phases.Away ∷ phases.Suspended (2 ∷ []) ∷ [])
+    × (map moved.opening (1 ∷ 2 ∷ 3 ∷ [])
+    ≡ None ∷ None ∷ Some (record { address = 64; context = 9 }) ∷ [])
+    × (map moved.outstanding (OfCore 1 ∷ OfCore 3 ∷ OfSystem ∷ [])
+    ≡ None ∷ Some (down 3) ∷ Some (system_off 1) ∷ [])
+values_moved = (refl, refl, refl, refl, refl, refl, refl, refl)
+
+-- with two clusters swapped
+abbrev turned : Values
+turned = values_by (swap_clusters clusters 0 1) values
+
+domains_moved : (map (turned.granted 0) (0 ∷ 1 ∷ 2 ∷ 3 ∷ 4 ∷ []) ≡ 2 ∷ 3 ∷ 0 ∷ 1 ∷ 4 ∷ [])
+    × (map (turned.granted 1) (0 ∷ 1 ∷ 2 ∷ []) ≡ 11 ∷ 10 ∷ 12 ∷ []) × (turned.granted 2 0 ≡ 20)
+    × (map (turned.confirmed 0) (0 ∷ 1 ∷ 2 ∷ 3 ∷ []) ≡ false ∷ false ∷ false ∷ true ∷ [])
+    × (map (turned.confirmed 1) (0 ∷ 1 ∷ 2 ∷ []) ≡ false ∷ true ∷ false ∷ [])
+domains_moved = (refl, refl, refl, refl, refl)

@@ -1,8 +1,8 @@
 -- Sums over the cores below a domain.
 use Rattle.std.proofs.Common.{◌*◌}
-use Rattle.psci_fw_laws.proofs.Words.{◌+◌, ◌<◌, ◌∙◌, ◌∷◌, ◌≡◌, ◌≤◌, [], ap, arith, below}
+use Rattle.psci_fw_laws.proofs.Words.{nat_tests, ◌+◌, ◌<◌, ◌∙◌, ◌∷◌, ◌≡◌, ◌≤◌, [], ap, arith, below}
 use Rattle.psci_fw_laws.proofs.Words.{BoardValue, Bool, cases_Bool, cases_eq, cond, cores, eq-eqb}
-use Rattle.psci_fw_laws.proofs.Words.{eqb-true, filter, inl, inr, PathLaws, range_with_len, refl}
+use Rattle.psci_fw_laws.proofs.Words.{eqb-true, filter, PathLaws, range_with_len, refl}
 use Rattle.psci_fw_laws.proofs.Words.{SpanLaws, suc, sum_by, sum_by-cons, true, zero, ℕ}
 use Rattle.psci_board.specs.Board.{span, up}
 use Rattle.psci_fw_laws.specs.KnownBelow.{known_below}
@@ -21,10 +21,7 @@ kept_le : (f g : ℕ → ℕ) (test : ℕ → Bool) (a n : ℕ)
     → ((c : ℕ) → a ≤ c → c < a + n → test c ≡ true → f c ≤ g c)
     → kept f test a n ≤ kept g test a n
 kept_le f g test a zero h = omega arith
-kept_le f g test a (suc n) h =
-    let rest = kept_le f g test (a + 1) n (λ c p q. h c (omega arith) (omega arith)) in
-    let here = h a (omega arith) (omega arith) in
-    grind (arith, kept-more f test a n, kept-more g test a n)
+kept_le f g test a (suc n) h = grind (arith, nat_tests, kept-more, kept_le f g test (a + 1) n)
 
 kept_less : (f g : ℕ → ℕ) (test : ℕ → Bool) (a n k : ℕ)
     → ((c : ℕ) → a ≤ c → c < a + n → test c ≡ true → f c ≤ g c)
@@ -32,38 +29,18 @@ kept_less : (f g : ℕ → ℕ) (test : ℕ → Bool) (a n k : ℕ)
     → kept f test a n < kept g test a n
 kept_less f g test a zero k h i j t less = absurd (omega arith)
 kept_less f g test a (suc n) k h i j t less =
-    let rest = λ (c : ℕ) (p : a + 1 ≤ c) (q : c < a + 1 + n). h c (omega arith) (omega arith) in
-    let here = h a (omega arith) (omega arith) in
-    elim (cases_eq a k) [
-      | inl s ↦
-          let low = kept_le f g test (a + 1) n rest in
-          grind (arith, kept-more f test a n, kept-more g test a n)
-      | inr s ↦
-          let below = kept_less f g test (a + 1) n k rest (omega (arith, s)) (omega arith) t less in
-          grind (arith, kept-more f test a n, kept-more g test a n)
-    ]
+    grind (arith, nat_tests, cases_eq, kept-more, kept_le, kept_less f g test (a + 1) n k)
 
 -- over more numbers what two functions differ by is no less
 kept_gap : (f g : ℕ → ℕ) (s t : ℕ → Bool) (a n : ℕ) → ((c : ℕ) → s c ≡ true → t c ≡ true)
     → ((c : ℕ) → f c ≤ g c)
     → kept g s a n + kept f t a n ≤ kept f s a n + kept g t a n
 kept_gap f g s t a zero h i = omega arith
-kept_gap f g s t a (suc n) h i =
-    let rest = kept_gap f g s t (a + 1) n h i in
-    grind (
-      arith,
-      h a,
-      i a,
-      kept-more f s a n,
-      kept-more g s a n,
-      kept-more f t a n,
-      kept-more g t a n,
-    )
+kept_gap f g s t a (suc n) h i = grind (arith, nat_tests, kept-more, kept_gap f g s t (a + 1) n h i)
 
 kept_none : (test : ℕ → Bool) (a n : ℕ) → kept (λ c. 0) test a n ≡ 0
 kept_none test a zero = refl
-kept_none test a (suc n) =
-    let rest = kept_none test (a + 1) n in grind (arith, kept-more (λ c. 0) test a n)
+kept_none test a (suc n) = grind (arith, nat_tests, kept-more, kept_none test (a + 1) n)
 
 kept_most : (f : ℕ → ℕ) (test : ℕ → Bool) (a n most : ℕ) → ((c : ℕ) → f c ≤ most)
     → kept f test a n ≤ n * most
@@ -78,8 +55,7 @@ pub known_le : (b : BoardValue) (f g : ℕ → ℕ) (level place : ℕ)
     → ((c : ℕ) → c < cores b → up b level c ≡ place → f c ≤ g c)
     → known_below b f level place ≤ known_below b g level place
 unfolding known_below up
-known_le b f g level place h =
-    kept_le f g _ 0 (cores b) (λ c p q t. h c (omega arith) (eqb-true _ _ t))
+known_le b f g level place h = grind (arith, nat_tests, eqb-true, kept_le)
 
 pub known_less : (b : BoardValue) (f g : ℕ → ℕ) (level place k : ℕ)
     → ((c : ℕ) → c < cores b → up b level c ≡ place → f c ≤ g c)

@@ -1,5 +1,5 @@
 -- Worked examples: granted depths, pending cores, what is outstanding, and limits.
-use Rattle.std.proofs.Common.{◌≡◌, List, [], ◌∷◌, true, None, Some, refl}
+use Rattle.std.proofs.Common.{◌≡◌, List, [], ◌∷◌, true, None, Some, refl, ℕ, Option}
 use Rattle.psci_board.specs.Board.{core_of, up}
 use Rattle.psci_messages.specs.Claim.{claims_of}
 use Rattle.psci_messages.specs.LastCore.{last_core_check, refusal, shallow, shallow_at}
@@ -8,8 +8,7 @@ use Rattle.psci_fw_spec.specs.Claims.{off_parts, suspend_parts}
 use Rattle.psci_fw_spec.specs.Views.{ask, view}
 use Rattle.psci_messages.specs.declared.kind.Kind.TheVariants.{Down, Start, Off}
 use Rattle.psci_messages.specs.Outstanding.{changes_since, last_message, outstanding}
-use Rattle.psci_messages.specs.Slots.{OfCore, OfSystem}
-use Rattle.psci_fw_spec.specs.declared.status.Status.TheVariants as statuses
+use Rattle.psci_messages.specs.Slots.{OfCore, OfSystem, Slot}
 use Rattle.psci_fw_spec.specs.Answer.{answer}
 use Rattle.psci_fw_spec.specs.Calls.{outcome_of}
 use Rattle.psci_fw_spec.specs.CpuOn.{target_of}
@@ -19,12 +18,10 @@ use Rattle.psci_fw_spec.specs.Phases.{Pending, Away}
 use Rattle.psci_fw_spec.specs.Values.{Values}
 use Rattle.psci_fw_laws.specs.KnownBelow.{known_below}
 use Rattle.psci_abi.proofs.Tables.{◌⇒◌, Gives}
-use Rattle.std.proofs.Common.{ℕ, Option}
 use Rattle.psci_messages.specs.Message.{MessageValue}
-use Rattle.psci_messages.specs.Slots.{Slot}
 use Rattle.psci_fw_laws.proofs.Calls.{Step, board, enter, history_of, message, off, on_3, part, smc}
-use Rattle.psci_fw_laws.proofs.Calls.{take}
-use Rattle.psci_fw_laws.proofs.Calls.{suspend}
+use Rattle.psci_fw_laws.proofs.Calls.{take, suspend}
+use Rattle.psci_fw_spec.specs.declared.status.Status.TheVariants as statuses
 
 -- the values after these calls
 abbrev after_calls : List Step → Values

@@ -6,6 +6,7 @@ pub use Rattle.std.proofs.Common.{subst, suc, sym, true, zero, ℕ}
 pub use Rattle.std.proofs.lemmas.Bool.{and_from, and_parts, cases_Bool, cases_eq, cases_lt}
 pub use Rattle.std.proofs.lemmas.Bool.{cond-true, cond_both, eq-eqb, eqb-false, eqb-true, lt-ltb}
 pub use Rattle.std.proofs.lemmas.Bool.{ltb-true, ne_eqb, or_left, or_right}
+pub use Rattle.std.proofs.lemmas.Bool.Decides.{nat_tests}
 pub use Rattle.std.proofs.lemmas.List.Sums.{sum_by-cons}
 pub use Rattle.std.proofs.lemmas.Option.{same_Some}
 pub use Rattle.std.specs.List.{list_all, list_any, range_with_len, sum_by}
@@ -41,7 +42,7 @@ pub use Rattle.psci_fw_spec.specs.Changes.{with_rest, with_running, with_slots}
 pub use Rattle.psci_fw_spec.specs.Claims.{leaving_claims, off_parts, suspend_claims, suspend_parts}
 pub use Rattle.psci_fw_spec.specs.Confirmed.{is_made_at}
 pub use Rattle.psci_fw_spec.specs.CpuOff.{off_message}
-pub use Rattle.psci_fw_spec.specs.CpuOn.{off_target, start_outcome, target_among}
+pub use Rattle.psci_fw_spec.specs.CpuOn.{start_outcome, target_among}
 pub use Rattle.psci_fw_spec.specs.CpuSuspend.{ask_named, suspend_asked}
 pub use Rattle.psci_fw_spec.specs.Effects.{Acknowledges, AsksOn, Effect, effect_of, enter_effect}
 pub use Rattle.psci_fw_spec.specs.Effects.{Enters, function_effect, GoesOn, Halts, mode_effect}
@@ -71,7 +72,7 @@ pub use Rattle.psci_fw_spec.specs.declared.opening.Opening.{Opening}
 pub use Rattle.psci_fw_spec.specs.declared.outcome.Act.{Act}
 pub use Rattle.psci_fw_spec.specs.declared.outcome.Outcome.{Outcome}
 pub use Rattle.psci_fw_spec.specs.declared.reply.FwReply.{FwReply}
-pub use Rattle.psci_fw_spec.specs.declared.reply.FwReply.TheVariants.{Fault, Out}
+pub use Rattle.psci_fw_spec.specs.declared.reply.FwReply.TheVariants.{Out}
 pub use Rattle.psci_fw_spec.specs.declared.status.Status.{Status}
 pub use Rattle.psci_fw_spec.specs.psci_abi.declared.code.Code.{Code}
 pub use Rattle.psci_fw_spec.specs.psci_abi.declared.request.Request.{Request}

@@ -1,11 +1,10 @@
 -- What an OS-initiated request that is accepted says of the cores beside the caller.
 use Rattle.std.proofs.Common.{◌≡◌, ℕ, zero, suc, ◌+◌, ◌-◌, ◌<◌, ◌≤◌, Bool, true, false, ◌==◌, List}
-use Rattle.std.proofs.Common.{[], ◌++◌, length, map, filter, refl, ap, sym, ◌∙◌, arith, inl}
-use Rattle.std.proofs.Common.{inr, None, Some, Ok}
+use Rattle.std.proofs.Common.{[], ◌++◌, length, map, filter, refl, ap, sym, ◌∙◌, arith, inl, inr}
+use Rattle.std.proofs.Common.{None, Some, Ok}
 use Rattle.std.specs.Prelude.{Option, not, nat_lt, flat_map, slice_index}
 use Rattle.std.specs.List.{range_with_len}
-use Rattle.std.proofs.lemmas.Bool.{cases_eq, ltb-false}
-use Rattle.std.proofs.lemmas.Bool.{eqb-true, false_from_ne_true}
+use Rattle.std.proofs.lemmas.Bool.{cases_eq, ltb-false, eqb-true, false_from_ne_true}
 use Rattle.std.proofs.lemmas.Bool.Decides.{nat_tests}
 use Rattle.std.proofs.lemmas.List.{nil_from_length, length-append}
 use Rattle.std.proofs.lemmas.List.Concat.{flat_map-cons}

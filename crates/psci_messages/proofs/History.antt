@@ -1,26 +1,97 @@
--- The slots hold what the history says, looked at backwards.
-use Rattle.std.proofs.Common.{◌≡◌, ◌∙◌, ℕ, Bool, true, false, List, [], ◌∷◌, length, Option, Some}
-use Rattle.std.proofs.Common.{None, refl, sym, ap, subst, inl, inr}
-use Rattle.std.specs.Prelude.{if◌then◌else◌, ◌&&◌, ◌||◌, is_none, option_and_then}
+-- Slots by look-up: what each change leaves in each slot, and that the slots hold what the history
+-- says, looked at backwards.
+use Rattle.std.proofs.Common.{◌≡◌, ℕ, zero, suc, ◌≤◌, true, List, [], ◌∷◌, length, get_or}
+use Rattle.std.proofs.Common.{replicate, Option, Some, None, refl, sym, ap, arith, length-set, ◌∙◌}
+use Rattle.std.proofs.Common.{Bool, false, subst, inl, inr}
+use Rattle.std.specs.Prelude.{if◌then◌else◌, slice_set, ◌&&◌, ◌||◌, is_none, option_and_then}
+use Rattle.std.proofs.lemmas.Bool.{eqb-true, eq-eqb, ne_eqb, true≢false, and_parts, cases_Bool}
+use Rattle.std.proofs.lemmas.Bool.{false_from_ne_true, and_left}
+use Rattle.std.proofs.lemmas.List.{get_or-set_other, get_or_past, length-replicate}
+use Rattle.psci_messages.specs.Message.{MessageValue, AckValue}
+use Rattle.psci_messages.specs.Slots.{SlotsValue, Slot, slot_of, is_slot, message_in, with_message}
+use Rattle.psci_messages.specs.Slots.{left_by, Change, after_change, changed, IsOfCores, is_kind}
+use Rattle.psci_messages.specs.Slots.{answers, is_done, after_all}
+use Rattle.psci_messages.specs.Slots.Slot.{OfCore, OfSystem}
+use Rattle.psci_messages.specs.Slots.Change.{Put, Clear, ClearAll, Acknowledge}
+use Rattle.psci_messages.specs.Outstanding.{IsChange, sent_by, last_message, changes_since}
+use Rattle.psci_messages.specs.Outstanding.{ends_message, outstanding, AreChanges}
+use Rattle.std.proofs.lemmas.Bool.Decides.{nat_tests}
 use Rattle.std.specs.List.{list_any}
-use Rattle.std.proofs.lemmas.Bool.{and_parts, eqb-true, cases_Bool, false_from_ne_true, true≢false}
-use Rattle.std.proofs.Common.{arith}
-use Rattle.std.proofs.lemmas.Bool.{and_left}
-use Rattle.std.proofs.lemmas.List.{length-replicate}
 use Rattle.std.proofs.lemmas.Option.{same_Some, none-some, option_and_then_some}
 use Rattle.psci_board.specs.declared.node.Core.{Core}
 use Rattle.psci_messages.specs.declared.kind.Kind.{Kind}
 use Rattle.psci_messages.specs.declared.kind.Kind.TheVariants.{Down, Start, Off, Reset}
-use Rattle.psci_messages.specs.Message.{MessageValue, AckValue}
-use Rattle.psci_messages.specs.Slots.{Slot, slot_of, is_slot, is_kind, answers, is_done, message_in}
-use Rattle.psci_messages.specs.Slots.{left_by, Change, after_all, changed}
-use Rattle.psci_messages.specs.Slots.Slot.{OfCore, OfSystem}
-use Rattle.psci_messages.specs.Slots.Change.{Put, Clear, ClearAll, Acknowledge}
-use Rattle.psci_messages.specs.Outstanding.{sent_by, last_message, changes_since, ends_message}
-use Rattle.psci_messages.specs.Outstanding.{outstanding}
-use Rattle.psci_messages.specs.Outstanding.{IsChange, AreChanges}
-use Rattle.psci_messages.proofs.LookUps.{look-replicate, length-after, look-after}
-use Rattle.std.proofs.lemmas.Bool.Decides.{nat_tests}
+
+-- What each change leaves -------------------------------------------------------------------------
+
+look-set : (xs : List (Option MessageValue)) (c : ℕ) (o : Option MessageValue)
+    → (length xs ≤ c → o ≡ None)
+    → get_or (slice_set xs c o) c None ≡ o
+look-set [] c o past = sym (past (omega arith))
+look-set (x ∷ xs) zero o past = refl
+look-set (x ∷ xs) (suc c) o past = look-set xs c o (λ h. past (omega (arith, h)))
+
+pub look-replicate : (n c : ℕ) → get_or (replicate {A = Option MessageValue} n None) c None ≡ None
+look-replicate zero c = refl
+look-replicate (suc n) zero = refl
+look-replicate (suc n) (suc c) = look-replicate n c
+
+abbrev IsKept : SlotsValue → Slot → Option MessageValue → Type 0
+IsKept s (OfCore c) o = length s.cores ≤ c → o ≡ None
+IsKept s OfSystem o = Unit {0}
+
+look-with : (s : SlotsValue) (t slot : Slot) (o : Option MessageValue) → IsKept s t o
+    → message_in (with_message s t o) slot ≡ (if is_slot t slot then o else message_in s slot)
+look-with s (OfCore c) (OfCore d) o kept =
+    grind (arith, nat_tests, eq-eqb, look-set, ne_eqb, get_or-set_other)
+look-with s (OfCore c) OfSystem o kept = refl
+look-with s OfSystem (OfCore d) o kept = refl
+look-with s OfSystem OfSystem o kept = refl
+
+length-with : (s : SlotsValue) (slot : Slot) (o : Option MessageValue)
+    → length (with_message s slot o).cores ≡ length s.cores
+length-with s (OfCore c) o = length-set s.cores c o
+length-with s OfSystem o = refl
+
+pub length-after : (s : SlotsValue) (change : Change)
+    → length (after_change s change).cores ≡ length s.cores
+length-after s (Put m) = length-with s (slot_of m.kind m.core) (Some m)
+length-after s (Clear core) = length-with s (OfCore core.number) None
+length-after s ClearAll = length-replicate (length s.cores) None
+length-after s (Acknowledge a) =
+    length-with s (slot_of a.kind a.core) (left_by a (message_in s (slot_of a.kind a.core)))
+
+kept-of : (s : SlotsValue) (slot : Slot) (o : Option MessageValue)
+    → IsOfCores (length s.cores) slot → IsKept s slot o
+kept-of s (OfCore c) o inside = λ past. absurd (omega (arith, inside, past))
+kept-of s OfSystem o inside = tt
+
+none-kept : (s : SlotsValue) (slot : Slot) → IsKept s slot None
+none-kept s (OfCore c) = λ past. refl
+none-kept s OfSystem = tt
+
+left-kept : (s : SlotsValue) (slot : Slot) (a : AckValue)
+    → IsKept s slot (left_by a (message_in s slot))
+left-kept s (OfCore c) a = λ past. ap (left_by a) (get_or_past s.cores c None past)
+left-kept s OfSystem a = tt
+
+same-slot : (t slot : Slot) → is_slot t slot ≡ true → t ≡ slot
+same-slot (OfCore c) (OfCore d) e = ap OfCore (eqb-true c d e)
+same-slot (OfCore c) OfSystem e = absurd (true≢false (sym e))
+same-slot OfSystem (OfCore d) e = absurd (true≢false (sym e))
+same-slot OfSystem OfSystem e = refl
+
+pub look-after : (s : SlotsValue) (change : Change) → IsChange (length s.cores) change
+    → (slot : Slot)
+    → message_in (after_change s change) slot ≡ changed slot change (message_in s slot)
+look-after s (Put m) inside slot = grind (arith, nat_tests, look-with, kept-of)
+look-after s (Clear core) inside slot = look-with s (OfCore core.number) slot None
+    (none-kept s (OfCore core.number))
+look-after s ClearAll inside (OfCore c) = look-replicate (length s.cores) c
+look-after s ClearAll inside OfSystem = refl
+look-after s (Acknowledge a) inside slot = grind (arith, nat_tests, look-with, left-kept, same-slot)
+
+-- What the history says ---------------------------------------------------------------------------
 
 same-kind : (k l : Kind) → is_kind k l ≡ true → k ≡ l
 same-kind Down Down e = refl

@@ -1,10 +1,12 @@
 -- Parts of a Down whose levels climb by one and whose depths fall, and some that do not; how much
--- of each message can be applied.
-use Rattle.std.proofs.Common.{ℕ, true, false, List, [], ◌∷◌, refl}
+-- of each message can be applied; and parts in memory, at the first of four places, with zeros at
+-- the others.
+use Rattle.std.proofs.Common.{ℕ, true, false, List, [], ◌∷◌, refl, ◌≡◌, arith}
 use Rattle.psci_messages.specs.declared.part.Part.{Part}
 use Rattle.psci_messages.specs.declared.kind.Kind.TheVariants.{Down, Start, Off, Reset}
 use Rattle.psci_messages.specs.Message.{ArePartsOf, is_climbing, is_falling, most_applied}
 use Rattle.psci_board.proofs.Tables.{◌⇒◌, Gives}
+use Rattle.psci_messages.specs.Places.{AreAtPlaces, places_of, unused}
 
 abbrev part : ℕ → ℕ → Part
 part level depth = record { level = level; depth = depth; generation = 7 }
@@ -38,14 +40,8 @@ falling : Gives (is_falling 3)
 falling = refl
 
 -- only a Down has parts
-start_has_no_parts : ArePartsOf Start []
-start_has_no_parts = refl
-
-off_has_no_parts : ArePartsOf Off []
-off_has_no_parts = refl
-
-reset_has_no_parts : ArePartsOf Reset []
-reset_has_no_parts = refl
+others_have_no_parts : ArePartsOf Start [] × ArePartsOf Off [] × ArePartsOf Reset []
+others_have_no_parts = (refl, refl, refl)
 
 most : Gives most_applied
     -- a Down has up to four parts, one for each level; another message is carried out or is not
@@ -54,3 +50,50 @@ most : Gives most_applied
     ∷ Off ⇒ 1
     ∷ Reset ⇒ 1 ∷ [])
 most = refl
+
+-- a place that holds zeros
+abbrev zeros : Part
+zeros = record { level = 0; depth = 0; generation = 0 }
+
+-- a core, its cluster, its group and the system, each with a generation of its own
+abbrev core : Part
+core = record { level = 0; depth = 3; generation = 7 }
+
+abbrev cluster : Part
+cluster = record { level = 1; depth = 3; generation = 12 }
+
+abbrev group : Part
+group = record { level = 2; depth = 2; generation = 20 }
+
+abbrev system : Part
+system = record { level = 3; depth = 1; generation = 31 }
+
+-- Places ------------------------------------------------------------------------------------------
+
+unused_is_zeros : unused ≡ zeros
+unused_is_zeros = refl
+
+places : Gives places_of
+    ([] ⇒ (zeros ∷ zeros ∷ zeros ∷ zeros ∷ [])
+    ∷ (core ∷ []) ⇒ (core ∷ zeros ∷ zeros ∷ zeros ∷ [])
+    ∷ (core ∷ cluster ∷ group ∷ []) ⇒ (core ∷ cluster ∷ group ∷ zeros ∷ [])
+    ∷ (core ∷ cluster ∷ group ∷ system ∷ []) ⇒ (core ∷ cluster ∷ group ∷ system ∷ [])
+    -- for a fifth there is no place
+    ∷ (core ∷ cluster ∷ group ∷ system ∷ core ∷ []) ⇒ (core ∷ cluster ∷ group ∷ system ∷ []) ∷ [])
+places = refl
+
+-- So many are there -------------------------------------------------------------------------------
+
+there : AreAtPlaces 0 (zeros ∷ zeros ∷ zeros ∷ zeros ∷ [])
+    × AreAtPlaces 2 (core ∷ cluster ∷ zeros ∷ zeros ∷ [])
+    -- a part may hold zeros, too
+    × AreAtPlaces 1 (zeros ∷ zeros ∷ zeros ∷ zeros ∷ [])
+    × AreAtPlaces 4 (core ∷ cluster ∷ group ∷ system ∷ [])
+there = search arith
+
+not_there : (AreAtPlaces 5 (core ∷ cluster ∷ group ∷ system ∷ core ∷ []) → ⊥)
+    × (AreAtPlaces 5 (core ∷ cluster ∷ group ∷ system ∷ []) → ⊥)
+    -- one is counted, and another one lies behind it; three places alone
+    × (AreAtPlaces 1 (core ∷ cluster ∷ zeros ∷ zeros ∷ []) → ⊥)
+    × (AreAtPlaces 1 (core ∷ zeros ∷ zeros ∷ []) → ⊥)
+not_there = search arith

@@ -1,7 +1,6 @@
--- What holds of the claims of OS-initiated mode.
-use Rattle.std.proofs.Common.{◌≡◌, ℕ, zero, suc, ◌+◌, ◌<◌, ◌≤◌, Bool, true, false, List}
-use Rattle.std.proofs.Common.{length, filter, refl, ◌∙◌, arith, inl, inr, true≢false}
-use Rattle.std.proofs.Common.{get_or, Some}
+-- What is counted over the cores below a domain, and what holds of the claims of OS-initiated mode.
+use Rattle.std.proofs.Common.{◌≡◌, ℕ, zero, suc, ◌+◌, ◌<◌, ◌≤◌, Bool, true, false, List, length}
+use Rattle.std.proofs.Common.{filter, refl, ◌∙◌, arith, inl, inr, true≢false, get_or, Some}
 use Rattle.std.specs.Prelude.{slice_index, slice_get}
 use Rattle.std.specs.List.{list_all, range_with_len}
 use Rattle.std.proofs.lemmas.Bool.{cases_eq, cases_lt, eq-eqb, eqb-true}
@@ -12,8 +11,9 @@ use Rattle.psci_state.specs.Ask.{IsAsk}
 use Rattle.psci_messages.specs.declared.part.Part.{Part}
 use Rattle.psci_messages.specs.View.{PowerView, domain_of, is_all_away}
 use Rattle.psci_messages.specs.Claim.{own_claims, own_wish, off_claims, off_wish}
-use Rattle.psci_messages.specs.Laws.{OwnLaws, OffLaws}
-use Rattle.psci_messages.proofs.ClaimLaws.{claim_laws}
+use Rattle.psci_messages.specs.Laws.{OwnLaws, OffLaws, BelowLaws}
+use Rattle.psci_messages.proofs.ClaimLaws.{claim_laws, least_ask-most, least_ask-below}
+use Rattle.psci_messages.proofs.ClaimLaws.{least_ask-above}
 use Rattle.std.proofs.lemmas.Bool.Decides.{nat_tests}
 
 -- All and some of the cores below ----------------------------------------------------------------
@@ -123,3 +123,19 @@ own_laws b v core ask is =
       most = λ l p e. omega (arith, laws.depth l p e, asks-fall ask 0 l is (omega arith), is.most);
       falls = λ l p q e f. omega (arith, laws.depth l p e, laws.depth (l + 1) q f, is.falls l);
     }
+
+-- The cores below a domain ------------------------------------------------------------------------
+
+all_off : (b : BoardValue) (v : PowerView) (core level : ℕ)
+    → ((c : ℕ) → c < cores b → up b level c ≡ up b level core → v.is_away c ≡ true)
+    → is_all_away b v (domain_of b core level) ≡ true
+all_off b v core level each = grind (arith, nat_tests, some_on-below)
+
+pub below_laws : (b : BoardValue) (v : PowerView) (core level : ℕ) → BelowLaws b v core level
+below_laws b v core level = record {
+  most = least_ask-most b v core level;
+  below = λ c h at. least_ask-below b v core level c h at;
+  above = λ depth h each. least_ask-above b v core level depth h each;
+  off = λ e c h at. all_off-below b v core level c e h at;
+  all = all_off b v core level;
+}

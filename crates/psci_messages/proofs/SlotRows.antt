@@ -1,5 +1,6 @@
 -- Which message is outstanding after known changes, the last first, and when an acknowledgement is
--- used: each way to end a message and the way beside it that does not, and each field of its name.
+-- used: each way to end a message and the way beside it that does not, and each field of its name;
+-- acknowledgements of each kind of message of which nothing was applied, that are stale, or both.
 use Rattle.std.proofs.Common.{ℕ, Bool, true, false, List, [], ◌∷◌, refl}
 use Rattle.std.specs.Prelude.{Option, Some, None}
 use Rattle.psci_messages.specs.declared.part.Part.{Part}
@@ -7,7 +8,7 @@ use Rattle.psci_messages.specs.declared.kind.Kind.{Kind}
 use Rattle.psci_messages.specs.declared.kind.Kind.TheVariants.{Down, Start, Off, Reset}
 use Rattle.psci_messages.specs.declared.taken.Taken.TheVariants.{Used, Old}
 use Rattle.psci_messages.specs.Message.{MessageValue, AckValue}
-use Rattle.psci_messages.specs.Slots.{taken, answered, message_at, Change}
+use Rattle.psci_messages.specs.Slots.{taken, answered, message_at, Change, Slot}
 use Rattle.psci_messages.specs.Slots.Slot.{OfCore, OfSystem}
 use Rattle.psci_messages.specs.Slots.Change.{Put, Clear, ClearAll, Acknowledge}
 use Rattle.psci_messages.specs.Outstanding.{last_message, changes_since, outstanding}
@@ -94,6 +95,44 @@ of_core_1 : Gives (outstanding (OfCore 1))
     ∷ (enters 0 ∷ acked Down 1 2 5 1 false ∷ acked Down 1 2 5 2 false ∷ Put down ∷ []) ⇒ None ∷ [])
 unfolding outstanding last_message changes_since
 of_core_1 = refl
+
+-- a message of core 2 of this kind, with two parts if it is a Down
+abbrev sent : Kind → MessageValue
+sent Down = message Down 2 5 both
+sent kind = message kind 2 5 []
+
+abbrev slot : Kind → Slot
+slot Down = OfCore 2
+slot Start = OfCore 2
+slot kind = OfSystem
+
+-- what is outstanding once this was acknowledged of it
+abbrev left : Kind → ℕ → Bool → Option MessageValue
+left kind applied stale =
+    outstanding (slot kind) (acked kind 2 2 5 applied stale ∷ Put (sent kind) ∷ [])
+
+outstanding_downs : Gives (λ answer. answer)
+    -- a Down stays outstanding while a part is left, unless it is stale
+    (left Down 0 false ⇒ Some (sent Down)
+    ∷ left Down 0 true ⇒ None
+    ∷ left Down 1 true ⇒ None
+    ∷ left Down 2 true ⇒ None ∷ [])
+unfolding outstanding last_message changes_since
+outstanding_downs = refl
+
+others_are_done : Gives (λ answer. answer)
+    -- each other message is done, whatever is said of it
+    (left Start 0 false ⇒ None
+    ∷ left Start 0 true ⇒ None
+    ∷ left Start 1 true ⇒ None
+    ∷ left Off 0 false ⇒ None
+    ∷ left Off 0 true ⇒ None
+    ∷ left Off 1 true ⇒ None
+    ∷ left Reset 0 false ⇒ None
+    ∷ left Reset 0 true ⇒ None
+    ∷ left Reset 1 true ⇒ None ∷ [])
+unfolding outstanding last_message changes_since
+others_are_done = refl
 
 of_others : Gives (λ answer. answer)
     (outstanding (OfCore 0) (Put down ∷ []) ⇒ None

@@ -26,6 +26,7 @@ pub fn law_claims()
 
 /// In platform-coordinated mode no part is deeper than what any core below its domain asks, and the
 /// claim goes as far up as that allows.
+#[tactic(auto, using(crate::proofs::ClaimLaws::platform_laws))]
 pub fn law_platform()
     ensures { (b : BoardValue) (v : PowerView) (core : ℕ) → IsBoard b → core < cores b
         → PlatformLaws b v core }
@@ -35,6 +36,7 @@ pub fn law_platform()
 
 /// What a core itself asks is claimed of each level of which it asks something, and no depth grows
 /// upwards.
+#[tactic(auto, using(crate::proofs::OsiLaws::own_laws))]
 pub fn law_own()
     ensures { (b : BoardValue) (v : PowerView) (core : ℕ) (ask : List ℕ) → IsAsk ask
         → OwnLaws b v core ask }
@@ -42,6 +44,7 @@ pub fn law_own()
 
 /// A core that goes off in OS-initiated mode claims power-down, of itself and of exactly those
 /// domains on its path where every core below is off or going off.
+#[tactic(auto, using(crate::proofs::OsiLaws::off_laws))]
 pub fn law_off()
     ensures { (b : BoardValue) (v : PowerView) (core : ℕ) → OffLaws b v core }
 {}
@@ -49,6 +52,7 @@ pub fn law_off()
 /// An OS-initiated request that is accepted asks no more of a domain than each other core below it
 /// asks of itself, provided that no domain is granted more than the one below it on a path, nor
 /// than a core below asks of itself.
+#[tactic(auto, using(crate::proofs::Accepted::last_core_laws))]
 pub fn law_last_core()
     ensures { (b : BoardValue) (v : PowerView) (core : ℕ) (ask : List ℕ) → IsBoard b
         → core < cores b → LastCoreLaws b v core ask }

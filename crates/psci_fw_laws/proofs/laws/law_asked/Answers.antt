@@ -1,5 +1,5 @@
 -- Each Down was asked for.
-use Rattle.psci_fw_laws.proofs.Moments.{was_asked}
+use Rattle.psci_fw_laws.proofs.Histories.{was_asked}
 use Rattle.psci_fw_laws.proofs.laws.law_asked.Goals as goal
 
 pub returns : goal.returns

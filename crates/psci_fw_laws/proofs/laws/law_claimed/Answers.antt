@@ -1,7 +1,7 @@
 -- Claims.
-use Rattle.psci_fw_laws.proofs.Words.{sent_messages, Values, values_of}
+use Rattle.psci_fw_laws.proofs.Words.{sent_messages}
 use Rattle.psci_fw_laws.proofs.Consequences.{once}
-use Rattle.psci_fw_laws.proofs.Older.{claim_older}
+use Rattle.psci_fw_laws.proofs.Claiming.{claim_older}
 use Rattle.psci_fw_laws.proofs.laws.law_claimed.Goals as goal
 
 pub returns-clause-apart : goal.returns-clause-apart
@@ -12,10 +12,8 @@ returns-clause-once c = λ b h board legal.
     once b (sent_messages b h) (c.law_kept.ensures.kept b h board legal).apart
 
 pub returns-clause-older : goal.returns-clause-older
-returns-clause-older c = λ b h board legal level place p claim.
-    let v : Values = values_of b h in
-    claim_older b v.life v.halting v.known v.phase (sent_messages b h) level place p
-    (c.law_kept.ensures.kept b h board legal).messages claim
+returns-clause-older c = λ b h board legal level place p.
+    claim_older (sent_messages b h) (c.law_kept.ensures.kept b h board legal).messages
 
 pub returns-clause-quiet : goal.returns-clause-quiet
 returns-clause-quiet c = λ b h board legal. (c.law_kept.ensures.kept b h board legal).quiet

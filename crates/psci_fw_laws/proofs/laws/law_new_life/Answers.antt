@@ -1,5 +1,5 @@
 -- The entry that begins a life.
-use Rattle.psci_fw_laws.proofs.NewLife.{answered, left_after}
+use Rattle.psci_fw_laws.proofs.Histories.{answered, left_after}
 use Rattle.psci_fw_laws.proofs.laws.law_new_life.Goals as goal
 
 pub returns-clause-answer : goal.returns-clause-answer

@@ -1,7 +1,7 @@
 -- What is asked of renumbered cores, and which cores may be renumbered.
 use Rattle.psci_fw_laws.proofs.Numberings.{renumbers}
-use Rattle.psci_fw_laws.proofs.Siblings.{siblings}
-use Rattle.psci_fw_laws.proofs.Told.{told}
+use Rattle.psci_fw_laws.proofs.Twins.{siblings}
+use Rattle.psci_fw_laws.proofs.Numberings.{told}
 use Rattle.psci_fw_laws.proofs.Twins.{twins}
 use Rattle.psci_fw_laws.proofs.renumbered.law_renumberings.Goals as goal
 

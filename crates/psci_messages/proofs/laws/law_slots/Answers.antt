@@ -1,10 +1,6 @@
 -- Each clause is a law of slots.
 use Rattle.psci_messages.proofs.History.{look-after_all, outstanding-own, outstanding-step}
-use Rattle.psci_messages.proofs.LookUps.{look-after}
 use Rattle.psci_messages.proofs.laws.law_slots.Goals as goal
-
-pub returns-clause-changed : goal.returns-clause-changed
-returns-clause-changed c = look-after
 
 pub returns-clause-outstanding : goal.returns-clause-outstanding
 returns-clause-outstanding c = look-after_all
