@@ -3,7 +3,7 @@ use Rattle.psci_platform.proofs.Words.{◌==◌, ◌||◌, ◌∙◌, ◌≡◌,
 use Rattle.psci_platform.proofs.Words.{argument_by, Asked, asked_by, BoardValue, Bool}
 use Rattle.psci_platform.proofs.Words.{DescriptionValue, eqb-true, false, first_argument}
 use Rattle.psci_platform.proofs.Words.{function_of, if◌then◌else◌, inl, inr, is_there, low_half}
-use Rattle.psci_platform.proofs.Words.{refl, Regs, regs_by, Request, State, SuspendMode, sym, there}
+use Rattle.psci_platform.proofs.Words.{Functions, refl, Regs, regs_by, Request, State, SuspendMode, sym, there}
 use Rattle.psci_platform.proofs.Words.{told_by, true, ℕ}
 use Rattle.psci_platform.specs.declared.argument.Argument.TheVariants.{Core, Node, Function, Reset}
 use Rattle.psci_platform.specs.declared.argument.Argument.TheVariants.{System, Other}
@@ -88,23 +88,20 @@ asked_same d b mode regs =
 
 -- Everywhere -----------------------------------------------------------------------------------
 
--- PSCI_VERSION and MIGRATE_INFO_TYPE
+-- PSCI_VERSION and MIGRATE_INFO_TYPE name nothing
+nothing_named : (f : Functions) (w : ℕ) → (w ≡ 0x84000000) ⊎ (w ≡ 0x84000006)
+    → argument_by f w ≡ Other
+nothing_named f w (inl e) = ap (argument_by f) e
+nothing_named f w (inr e) = ap (argument_by f) e
+
 pub regs_everywhere : (d : DescriptionValue) (b : BoardValue) (boot : ℕ) (mode : SuspendMode)
     (regs : Regs) (w : ℕ) → w ≡ low_half regs.x0 → (w ≡ 0x84000000) ⊎ (w ≡ 0x84000006)
     → regs_for d b boot mode regs ≡ regs
 regs_everywhere d b boot mode regs w is which =
-    let by : ℕ → Regs = λ k. regs_by d b boot mode regs (argument_by d.functions k) in
-    sym (regs_same d b boot mode regs) ∙ ap by (sym is) ∙ elim which [
-      | inl e ↦ ap by e
-      | inr e ↦ ap by e
-    ]
+    cc (regs_same d b boot mode regs, nothing_named d.functions w which)
 
 pub asked_everywhere : (d : DescriptionValue) (b : BoardValue) (mode : SuspendMode)
     (regs : Regs) (w : ℕ) → w ≡ low_half regs.x0 → (w ≡ 0x84000000) ⊎ (w ≡ 0x84000006)
     → asked_for d mode regs ≡ asks.Nothing
 asked_everywhere d b mode regs w is which =
-    let by : ℕ → Asked = λ k. told_by d mode regs (argument_by d.functions k) in
-    sym (asked_same d b mode regs) ∙ ap by (sym is) ∙ elim which [
-      | inl e ↦ ap by e
-      | inr e ↦ ap by e
-    ]
+    cc (asked_same d b mode regs, nothing_named d.functions w which)

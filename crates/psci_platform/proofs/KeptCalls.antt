@@ -1,8 +1,9 @@
 -- What is kept of a core and of a row is what a call of it is to the firmware.
+use Rattle.std.proofs.lemmas.Bool.{cases_eq, ne_eqb}
 use Rattle.psci_platform.proofs.Words.{◌<◌, ◌==◌, ◌^◌, ◌||◌, ◌∙◌, ◌≡◌, ◌⊎◌, ap, argument}
 use Rattle.psci_platform.proofs.Words.{argument_by, arith, ask_of, Asked, asked_for, Asks}
 use Rattle.psci_platform.proofs.Words.{asks_states, BoardValue, Bool, core_word, DescriptionValue}
-use Rattle.psci_platform.proofs.Words.{eqb-true, false, function_of, height, IfSome, inl, inr}
+use Rattle.psci_platform.proofs.Words.{Functions, nat_tests, eqb-true, false, function_of, height, IfSome, inl, inr}
 use Rattle.psci_platform.proofs.Words.{is_on, is_suspend, List, low_half, no_state, None, Ok}
 use Rattle.psci_platform.proofs.Words.{Option, refl, Regs, regs_by, regs_for, Some, State}
 use Rattle.psci_platform.proofs.Words.{states_of, subst, SuspendMode, sym, there, told_by, true}
@@ -17,57 +18,47 @@ use Rattle.psci_platform.proofs.Requests.{half_of}
 use Rattle.psci_platform.specs.declared.asked.Asked.TheVariants as asks
 
 either : (k a b : ℕ) → (k == a || k == b) ≡ true → (k ≡ a) ⊎ (k ≡ b)
-either k a b e = by (k == a) refl
-  where
-    by : (t : Bool) → (k == a) ≡ t → (k ≡ a) ⊎ (k ≡ b)
-    by true f = inl (eqb-true k a f)
-    by false f = inr (eqb-true k b (rw f at e))
+either k a b e = elim (cases_eq k a) [
+  | inl same ↦ inl same
+  | inr other ↦ inr (eqb-true k b (rw (ne_eqb k a other) at e))
+]
 
 -- CPU_ON ----------------------------------------------------------------------------------------
 
-on_by : (d : DescriptionValue) (k : ℕ) → (k ≡ 0x84000003) ⊎ (k ≡ 0xC4000003)
-    → d.functions.cpu_on ≡ true → argument_by d.functions k ≡ Core
-on_by d k (inl e) h = ap (argument_by d.functions) e ∙ ap (λ (t : Bool). there t Core) h
-on_by d k (inr e) h = ap (argument_by d.functions) e ∙ ap (λ (t : Bool). there t Core) h
-
-on_named : (k x y z : ℕ) → (k ≡ 0x84000003) ⊎ (k ≡ 0xC4000003) → function_of k x y z ≡ CpuOn x y z
-on_named k x y z (inl e) = ap (λ (n : ℕ). function_of n x y z) e
-on_named k x y z (inr e) = ap (λ (n : ℕ). function_of n x y z) e
+on_by : (f : Functions) (k : ℕ) → is_on k ≡ true → f.cpu_on ≡ true → argument_by f k ≡ Core
+on_by f k on h = elim (either k 0x84000003 0xC4000003 on) [
+  | inl e ↦ rw (e, h) refl
+  | inr e ↦ rw (e, h) refl
+]
 
 pub on_regs : (d : DescriptionValue) (b : BoardValue) (boot : ℕ) (mode : SuspendMode)
     (regs : Regs) (word : ℕ) → is_on (low_half regs.x0) ≡ true → d.functions.cpu_on ≡ true
     → word ≡ core_word d b boot (argument regs regs.x1) 0
     → record regs { x1 = word } ≡ regs_for d b boot mode regs
 on_regs d b boot mode regs word on h is =
-    let by = on_by d (low_half regs.x0) (either (low_half regs.x0) 0x84000003 0xC4000003 on) h in
-    ap (λ (w : ℕ). record regs { x1 = w }) is
-    ∙ sym (ap (regs_by d b boot mode regs) by) ∙ regs_same d b boot mode regs
+    cc (on_by d.functions (low_half regs.x0) on h, regs_same d b boot mode regs)
 
 pub on_asked : (d : DescriptionValue) (b : BoardValue) (mode : SuspendMode) (regs : Regs)
     → is_on (low_half regs.x0) ≡ true → d.functions.cpu_on ≡ true
     → asked_for d mode regs ≡ asks.Nothing
 on_asked d b mode regs on h =
-    let by = on_by d (low_half regs.x0) (either (low_half regs.x0) 0x84000003 0xC4000003 on) h in
-    sym (asked_same d b mode regs) ∙ ap (told_by d mode regs) by
-
-pub on_call : (regs : Regs) (word : ℕ) → is_on (low_half regs.x0) ≡ true
-    → IsOnCall (record regs { x1 = word })
-on_call regs word on = record {
-  request = on_named (low_half regs.x0) (argument regs word) (argument regs regs.x2)
-      (argument regs regs.x3) (either (low_half regs.x0) 0x84000003 0xC4000003 on);
-}
+    cc (on_by d.functions (low_half regs.x0) on h, asked_same d b mode regs)
 
 -- CPU_SUSPEND -----------------------------------------------------------------------------------
 
-suspend_by : (d : DescriptionValue) (k : ℕ) → (k ≡ 0x84000001) ⊎ (k ≡ 0xC4000001)
-    → d.functions.cpu_suspend ≡ true → argument_by d.functions k ≡ State
-suspend_by d k (inl e) h = ap (argument_by d.functions) e ∙ ap (λ (t : Bool). there t State) h
-suspend_by d k (inr e) h = ap (argument_by d.functions) e ∙ ap (λ (t : Bool). there t State) h
+suspend_by : (f : Functions) (k : ℕ) → is_suspend k ≡ true → f.cpu_suspend ≡ true
+    → argument_by f k ≡ State
+suspend_by f k on h = elim (either k 0x84000001 0xC4000001 on) [
+  | inl e ↦ rw (e, h) refl
+  | inr e ↦ rw (e, h) refl
+]
 
-suspend_named : (k x y z : ℕ) → (k ≡ 0x84000001) ⊎ (k ≡ 0xC4000001)
+suspend_named : (k x y z : ℕ) → is_suspend k ≡ true
     → function_of k x y z ≡ CpuSuspend (low_half x) y z
-suspend_named k x y z (inl e) = ap (λ (n : ℕ). function_of n x y z) e
-suspend_named k x y z (inr e) = ap (λ (n : ℕ). function_of n x y z) e
+suspend_named k x y z on = elim (either k 0x84000001 0xC4000001 on) [
+  | inl e ↦ rw e refl
+  | inr e ↦ rw e refl
+]
 
 abbrev Words : DescriptionValue → SuspendMode → Regs → Option (List ℕ)
 Words d mode regs = states_of d mode (low_half (argument regs regs.x1))
@@ -77,50 +68,25 @@ pub suspend_regs : (d : DescriptionValue) (b : BoardValue) (boot : ℕ) (mode : 
     → d.functions.cpu_suspend ≡ true → word ≡ word_for d b.format (Words d mode regs)
     → r ≡ record regs { x1 = word } → r ≡ regs_for d b boot mode regs
 suspend_regs d b boot mode regs r word on h is e =
-    let by = suspend_by d (low_half regs.x0)
-    (either (low_half regs.x0) 0x84000001 0xC4000001 on) h in
-    e ∙ ap (λ (w : ℕ). record regs { x1 = w }) is
-    ∙ sym (ap (regs_by d b boot mode regs) by) ∙ regs_same d b boot mode regs
+    cc (suspend_by d.functions (low_half regs.x0) on h, regs_same d b boot mode regs)
 
 pub suspend_asked : (d : DescriptionValue) (b : BoardValue) (mode : SuspendMode) (regs : Regs)
     (states : Option (List ℕ)) (a : Asked) → is_suspend (low_half regs.x0) ≡ true
     → d.functions.cpu_suspend ≡ true → states ≡ Words d mode regs
     → a ≡ asks_states states → a ≡ asked_for d mode regs
 suspend_asked d b mode regs states a on h is e =
-    let by = suspend_by d (low_half regs.x0)
-    (either (low_half regs.x0) 0x84000001 0xC4000001 on) h in
-    e ∙ ap asks_states is ∙ sym (ap (told_by d mode regs) by) ∙ asked_same d b mode regs
-
-suspend_of : (b : BoardValue) (regs : Regs) (word : ℕ) (ask : List ℕ)
-    → is_suspend (low_half regs.x0) ≡ true → word < 2 ^ 32
-    → ask_of b.format (height b) word ≡ Ok ask → IsSuspendOf b (record regs { x1 = word }) ask
-suspend_of b regs word ask on small is = record {
-  request = suspend_named (low_half regs.x0) (argument regs word) (argument regs regs.x2)
-      (argument regs regs.x3) (either (low_half regs.x0) 0x84000001 0xC4000001 on);
-  asked = ap (ask_of b.format (height b)) (half_of regs word small) ∙ is;
-}
-
-no_suspend : (b : BoardValue) (regs : Regs) → is_suspend (low_half regs.x0) ≡ true
-    → IsNoSuspend b (record regs { x1 = no_state })
-no_suspend b regs on = record {
-  request = suspend_named (low_half regs.x0) (argument regs no_state) (argument regs regs.x2)
-      (argument regs regs.x3) (either (low_half regs.x0) 0x84000001 0xC4000001 on);
-  none = ap (ask_of b.format (height b)) (half_of regs no_state (omega arith))
-      ∙ no_power_state b.format (height b);
-}
+    cc (suspend_by d.functions (low_half regs.x0) on h, asked_same d b mode regs)
 
 pub asks_something : (b : BoardValue) (regs r : Regs) (word : ℕ) (o : Option (List ℕ))
     (ask : List ℕ) → is_suspend (low_half regs.x0) ≡ true → word < 2 ^ 32
     → ask_of b.format (height b) word ≡ Ok ask → r ≡ record regs { x1 = word } → o ≡ Some ask
     → Asks b r o
 asks_something b regs r word o ask on small is e f =
-    subst (λ (x : Option (List ℕ)). Asks b r x) (sym f)
-    (subst (λ (x : Regs). IsSuspendOf b x ask) (sym e) (suspend_of b regs word ask on small is))
-
-pub asks_none : (b : BoardValue) (regs r : Regs) → is_suspend (low_half regs.x0) ≡ true
-    → r ≡ record regs { x1 = no_state } → Asks b r None
-asks_none b regs r on e =
-    λ other. subst (λ (x : Regs). IsNoSuspend other x) (sym e) (no_suspend other regs on)
+    rw (f, e) (record {
+      request = suspend_named (low_half regs.x0) (argument regs word) (argument regs regs.x2)
+          (argument regs regs.x3) on;
+      asked = ap (ask_of b.format (height b)) (half_of regs word small) ∙ is;
+    })
 
 pub if_all : {A : Type 0} (o : Option A) (P Q R S T : A → Type 0) → IfSome o P → IfSome o Q
     → IfSome o R → IfSome o S → ((x : A) → P x → Q x → R x → S x → T x) → IfSome o T

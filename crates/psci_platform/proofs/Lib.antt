@@ -1,13 +1,11 @@
 pub mod Addresses
 pub mod Agreeing
 pub mod Asks
-pub mod Booting
 pub mod ByWord
 mod CallAxisRows
 mod CallRows
 pub mod Checked
 mod CoreRows
-pub mod Counted
 mod FaultAxisRows
 mod FaultOrderRows
 mod FaultRows
@@ -18,7 +16,6 @@ pub mod Missing
 mod NameRows
 pub mod Named
 pub mod Naming
-pub mod OwnAsked
 pub mod OwnCalls
 pub mod OwnCores
 pub mod OwnFaults

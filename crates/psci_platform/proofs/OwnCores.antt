@@ -5,28 +5,14 @@ use Rattle.psci_platform.proofs.Words.{◌*◌, ◌/◌, ◌<◌, ◌==◌, ◌^
 use Rattle.psci_platform.proofs.Words.{BoardValue, Bool, cases_lt, Core, core_named, core_of}
 use Rattle.psci_platform.proofs.Words.{core_word, cores, eq-eqb, eqb-true, height, identity, inl}
 use Rattle.psci_platform.proofs.Words.{inr, IsBoard, le-leb, length, List, lt-leb, lt-ltb, map}
-use Rattle.psci_platform.proofs.Words.{Node, node_of, None, none-some, Option, option_map}
+use Rattle.psci_platform.proofs.Words.{nat_tests, Node, node_of, None, none-some, Option, option_map}
 use Rattle.psci_platform.proofs.Words.{ParentLaws, PathLaws, position, position-Some}
 use Rattle.psci_platform.proofs.Words.{position_or_len, range_with_len, refl, same_Some, SizeLaws}
 use Rattle.psci_platform.proofs.Words.{slice_index, Some, swap_for, sym, true, up, word_if}
 use Rattle.psci_platform.proofs.Words.{WordLaws, ℕ}
-use Rattle.psci_platform.proofs.Missing.{no_node_is_named}
-use Rattle.psci_platform.proofs.Unmoved.{own_place}
-use Rattle.psci_platform.proofs.Unmoved as unmoved
-
--- What the proofs stand on.
-pub record BoardLaws (b : BoardValue) : Type 0 where
-  pub board : IsBoard b
-  pub tree : unmoved.Laws b
-  pub words : WordLaws b
-
-pub laws_on : (b : BoardValue) → IsBoard b → SizeLaws b → PathLaws b → ParentLaws b → WordLaws b
-    → BoardLaws b
-laws_on b board sizes paths parents words = record {
-  board = board;
-  tree = record { sizes = sizes; paths = paths; parents = parents };
-  words = words;
-}
+use Rattle.psci_platform.proofs.Named.{found}
+use Rattle.psci_platform.proofs.Swapping.{Laws, node_is, word_short}
+use Rattle.psci_platform.proofs.Unmoved.{BoardLaws, boots_first, own_place}
 
 -- the affinity words of the cores
 abbrev pub own_words : BoardValue → List ℕ
@@ -41,14 +27,7 @@ own_word b c inside = get_or-map-range_with_len (address b 0) 0 (cores b) c c 0 
 -- nothing passes where nothing is found
 none_at : (p : ℕ → Bool) (xs : List ℕ) (k : ℕ) → position p xs ≡ None → k < length xs
     → p (slice_index xs k) ≡ true → ⊥
-none_at p xs k none below passes = elim (cases_lt (position_or_len p xs) (length xs)) [
-  | inl h ↦
-      none-some (position_or_len p xs)
-      (sym (rw (lt-ltb (position_or_len p xs) (length xs) h) at none))
-  | inr h ↦
-      let fails = fails_before_first p xs k 0 (omega (arith, h, below)) in
-      cc
-]
+none_at p xs k none below passes = grind (arith, nat_tests, fails_before_first p xs k 0)
 
 -- the fields of a core at a level and above are those of its domain
 own_fields : (b : BoardValue) (c l : ℕ) → BoardLaws b → c < cores b → l ≤ height b
@@ -83,73 +62,43 @@ none_named b word l (Some n) laws none e =
     (ap (agrees l word) (own_word b core.0 core.1) ∙ passes))
 
 -- a core that has the fields of a word: the word names its domain
-some_named : (b : BoardValue) (word l c : ℕ) → BoardLaws b → l ≤ height b
-    → position (agrees l word) (own_words b) ≡ Some c
-    → (c < cores b) × (node_of b word l ≡ node_of b (address b 0 c) l)
-some_named b word l c laws low e =
-    let at = position-Some (agrees l word) (own_words b) c 0 e in
-    let inside : c < cores b = omega (arith, own_count b, at.0) in
-    let passes : agrees l word (address b 0 c) ≡ true =
-    ap (agrees l word) (sym (own_word b c inside)) ∙ at.1 in
-    let same : address b 0 c / 2 ^ (8 * l) ≡ word / 2 ^ (8 * l) = eqb-true _ _ passes in
-    let n : Node = record { level = l; place = up b l c } in
-    let named : node_of b word l ≡ Some n =
-    laws.words.named word n
-    (record { level = low; place = laws.tree.paths.inside c l inside low })
-    (own_fields b c l laws inside low ∙ same) in
-    (inside, named ∙ sym (laws.words.path c l inside low))
+named_own : (b : BoardValue) (word l : ℕ) (o : Option ℕ) → BoardLaws b
+    → core_named (identity b) b word l ≡ o
+    → node_of b word l ≡ option_map (λ c. record { level = l; place = up b l c }) o
+named_own b word l None laws none = none_named b word l (node_of b word l) laws none refl
+named_own b word l (Some c) laws e =
+    let at = found (identity b) b word l c e in
+    let inside : c < cores b = omega (arith, own_count b, at.inside) in
+    laws.words.named word (record { level = l; place = up b l c })
+    (record { level = at.low; place = laws.tree.paths.inside c l inside at.low })
+    (own_fields b c l laws inside at.low
+    ∙ ap (λ (x : ℕ). x / 2 ^ (8 * l)) (sym (own_word b c inside)) ∙ at.fields)
 
--- the word for a core, where core 0 boots
-abbrev plain : BoardValue → Option ℕ → ℕ
-plain b o = word_if b (option_map (swap_for b 0 0) o)
-
--- a word of 32 bits that names the same node
-abbrev Same : BoardValue → ℕ → ℕ → ℕ → Type 0
-Same b l w word = (w < 2 ^ 32) × (node_of b w l ≡ node_of b word l)
-
-same_none : (b : BoardValue) (word l : ℕ) → BoardLaws b
-    → core_named (identity b) b word l ≡ None → Same b l (plain b None) word
-same_none b word l laws none = (
-  omega arith,
-  no_node_is_named b laws.board laws.words l
-      ∙ sym (none_named b word l (node_of b word l) laws none refl),
-)
-
-same_some : (b : BoardValue) (word l c : ℕ) → BoardLaws b → l ≤ height b
-    → position (agrees l word) (own_words b) ≡ Some c → Same b l (plain b (Some c)) word
-same_some b word l c laws low e =
-    let named = some_named b word l c laws low e in
-    let is : plain b (Some c) ≡ address b 0 c = ap (address b 0) (own_place b 0 c laws.tree) in (
-      omega (arith, is, laws.words.short c named.0),
-      ap (λ (w : ℕ). node_of b w l) is ∙ sym named.1,
-    )
-
-same_at : (b : BoardValue) (word l : ℕ) (o : Option ℕ) → BoardLaws b → l ≤ height b
-    → position (agrees l word) (own_words b) ≡ o → Same b l (plain b o) word
-same_at b word l (Some c) laws low e = same_some b word l c laws low e
-same_at b word l None laws low e =
-    same_none b word l laws (rw (le-leb l (height b) low) e)
+none_moved : (b : BoardValue) (o : Option ℕ) → BoardLaws b → option_map (swap_for b 0 0) o ≡ o
+none_moved b None laws = refl
+none_moved b (Some c) laws = rw (own_place b 0 c laws.tree) refl
 
 -- the word that the firmware is asked with for a word has 32 bits and names the same node
 pub node_same : (b : BoardValue) (word l : ℕ) → BoardLaws b
-    → Same b l (core_word (identity b) b 0 word l) word
-node_same b word l laws = elim (cases_lt (height b) l) [
-  | inl high ↦
-      let none : core_named (identity b) b word l ≡ None =
-      rw (lt-leb l (height b) high) refl in
-      rw none (same_none b word l laws none)
-  | inr low ↦
-      rw (le-leb l (height b) low)
-      (same_at b word l (position (agrees l word) (own_words b)) laws low refl)
-]
+    → (core_word (identity b) b 0 word l < 2 ^ 32)
+    × (node_of b (core_word (identity b) b 0 word l) l ≡ node_of b word l)
+node_same b word l laws =
+    let own : Laws (identity b) b 0 =
+    record { on = laws; is = boots_first b laws.tree; count = own_count b } in (
+      word_short (identity b) b 0 own word l,
+      node_is (identity b) b 0 own word l
+          ∙ ap (option_map (λ c. record { level = l; place = up b l c }))
+          (none_moved b (core_named (identity b) b word l) laws)
+          ∙ sym (named_own b word l (core_named (identity b) b word l) laws refl),
+    )
 
 -- the node of a core tells which it is
 one_core : (o p : Option Core)
     → ◌≡◌ {A = Option Node} (option_map (λ c. record { level = 0; place = c.number }) o)
     (option_map (λ c. record { level = 0; place = c.number }) p) → o ≡ p
 one_core None None e = refl
-one_core None (Some d) e = absurd (none-some (record { level = 0; place = d.number }) e)
-one_core (Some c) None e = absurd (none-some (record { level = 0; place = c.number }) (sym e))
+one_core None (Some d) e = absurd (none-some _ e)
+one_core (Some c) None e = absurd (none-some _ (sym e))
 one_core (Some c) (Some d) e =
     ap (λ (n : Node). let core : Option Core = Some (record { number = n.place }) in core)
     (same_Some _ _ e)

@@ -1,4 +1,5 @@
 -- The identity of a board has no fault.
+use Rattle.std.proofs.lemmas.Bool.{cases_eq, ne_eqb}
 use Rattle.std.proofs.lemmas.List.Folds.{list_all-map, list_any_none}
 use Rattle.psci_platform.proofs.Words.{◌%◌, ◌+◌, ◌/◌, ◌<◌, ◌==◌, ◌^◌, ◌∙◌, ◌∷◌, ◌≡◌, ◌≤◌, []}
 use Rattle.psci_platform.proofs.Words.{address, ap, arith, BoardValue, Bool, boot_place, cond, Core}
@@ -6,17 +7,16 @@ use Rattle.psci_platform.proofs.Words.{core_named, core_of, cores, count_by, dee
 use Rattle.psci_platform.proofs.Words.{DescriptionValue, eq-eqb, eqb-true, every_function, Extended}
 use Rattle.psci_platform.proofs.Words.{false, Format, has_boot, has_same, height, identity}
 use Rattle.psci_platform.proofs.Words.{is_mpidr, le-ltb, length, List, list_all, list_any_at, map}
-use Rattle.psci_platform.proofs.Words.{nat_lt, None, Option, Original, range_with_len, refl}
+use Rattle.psci_platform.proofs.Words.{inl, inr, nat_tests, nat_lt, None, Option, Original, range_with_len, refl}
 use Rattle.psci_platform.proofs.Words.{row_asking, same_Some, slice_index, Some, suc, sym, true}
 use Rattle.psci_platform.proofs.Words.{zero, ℕ}
 use Rattle.psci_platform.specs.Faults.{boot_fault_of, fault_of, never_falls, row_fault_of}
 use Rattle.psci_platform.specs.Faults.{state_fault_of}
 use Rattle.psci_platform.specs.Identity.{asks_up_to, own_classes}
-use Rattle.psci_platform.proofs.Booting.{place_is}
-use Rattle.psci_platform.proofs.Counted.{counted_cons}
-use Rattle.psci_platform.proofs.Named.{core_is_named}
-use Rattle.psci_platform.proofs.OwnCores.{BoardLaws, own_count, own_word, own_words}
+use Rattle.psci_platform.proofs.Named.{core_is_named, counted_cons, place_is}
+use Rattle.psci_platform.proofs.OwnCores.{own_count, own_word, own_words}
 use Rattle.psci_platform.proofs.Swapped.{all_of}
+use Rattle.psci_platform.proofs.Unmoved.{BoardLaws}
 
 -- Rows and what follows them --------------------------------------------------------------------
 
@@ -49,11 +49,7 @@ rows_fine mpidrs b format (x ∷ y ∷ z ∷ w ∷ more) low high = absurd (omeg
 -- MPIDRs ----------------------------------------------------------------------------------------
 
 is_short : (x : ℕ) → x < 2 ^ 24 → is_mpidr x ≡ true
-is_short x small =
-    let high : (x / 2 ^ 40 == 0) ≡ true = eq-eqb (x / 2 ^ 40) 0 (omega (arith, small)) in
-    let middle : (x / 2 ^ 24 % 2 ^ 8 == 0) ≡ true =
-    eq-eqb (x / 2 ^ 24 % 2 ^ 8) 0 (omega (arith, small)) in
-    rw (high, middle) refl
+is_short x small = grind (arith, nat_tests)
 
 are_short : (b : BoardValue) → BoardLaws b → list_all is_mpidr (own_words b) ≡ true
 are_short b laws =
@@ -66,53 +62,35 @@ never : (f : ℕ → ℕ) (x n a : ℕ) → ((i : ℕ) → a ≤ i → i < a + n
     → count_by (λ y. y == x) (map f (range_with_len a n)) ≡ 0
 never f x zero a apart = refl
 never f x (suc n) a apart =
-    let none : cond {A = ℕ} (f a == x) 1 0 ≡ 0 =
-    ap (λ (t : Bool). cond {A = ℕ} t 1 0) (apart a (omega arith) (omega arith)) in
-    omega (
+    grind (
       arith,
-      none,
+      apart a (omega arith) (omega arith),
       counted_cons (λ y. y == x) (f a) (map f (range_with_len (a + 1) n)),
       never f x n (a + 1) (λ i low high. apart i (omega (arith, low)) (omega (arith, high))),
     )
-
-unequal : (x y : ℕ) (t : Bool) → (x == y) ≡ t → (x ≡ y → ⊥) → (x == y) ≡ false
-unequal x y true e apart = absurd (apart (eqb-true x y e))
-unequal x y false e apart = e
 
 -- different places have different words
 abbrev Differ : (ℕ → ℕ) → ℕ → Type 0
 Differ f most = (i j : ℕ) → i < most → j < most → f i ≡ f j → i ≡ j
 
-once_by : (f : ℕ → ℕ) (most x n a : ℕ) (t : Bool) → (f a == x) ≡ t → Differ f most
-    → a + suc n ≤ most → count_by (λ y. y == x) (map f (range_with_len (a + 1) n)) ≤ 1
-    → count_by (λ y. y == x) (map f (range_with_len a (suc n))) ≤ 1
-once_by f most x n a true e differ inside rest =
-    let is : f a ≡ x = eqb-true (f a) x e in
-    let one : cond {A = ℕ} (f a == x) 1 0 ≡ 1 = ap (λ (t : Bool). cond {A = ℕ} t 1 0) e in
-    omega (
-      arith,
-      one,
-      counted_cons (λ y. y == x) (f a) (map f (range_with_len (a + 1) n)),
-      never f x n (a + 1) (λ i low high. unequal (f i) x (f i == x) refl (λ same.
-          let at =
-          differ i a (omega (arith, high, inside)) (omega (arith, inside)) (same ∙ sym is) in
-          absurd (omega (arith, at, low)))),
-    )
-once_by f most x n a false e differ inside rest =
-    let none : cond {A = ℕ} (f a == x) 1 0 ≡ 0 = ap (λ (t : Bool). cond {A = ℕ} t 1 0) e in
-    omega (
-      arith,
-      none,
-      counted_cons (λ y. y == x) (f a) (map f (range_with_len (a + 1) n)),
-      rest,
-    )
-
 once : (f : ℕ → ℕ) (most x n a : ℕ) → Differ f most → a + n ≤ most
     → count_by (λ y. y == x) (map f (range_with_len a n)) ≤ 1
 once f most x zero a differ inside = omega arith
 once f most x (suc n) a differ inside =
-    once_by f most x n a (f a == x) refl differ inside
-    (once f most x n (a + 1) differ (omega (arith, inside)))
+    let count = counted_cons (λ y. y == x) (f a) (map f (range_with_len (a + 1) n)) in
+    elim (cases_eq (f a) x) [
+      | inl is ↦
+          grind (
+            arith,
+            nat_tests,
+            count,
+            never f x n (a + 1) (λ i low high. ne_eqb (f i) x (λ same.
+                let at : i ≡ a = differ i a (omega arith) (omega arith) (same ∙ sym is) in
+                absurd (omega (arith, at, low)))),
+          )
+      | inr other ↦
+          grind (arith, nat_tests, count, once f most x n (a + 1) differ (omega (arith, inside)))
+    ]
 
 one_number : (i j : ℕ)
     → ◌≡◌ {A = Option Core} (Some (record { number = i })) (Some (record { number = j })) → i ≡ j
@@ -135,26 +113,23 @@ own_once b laws =
 first_word : (b : BoardValue) → BoardLaws b → slice_index (own_words b) 0 ≡ address b 0 0
 first_word b laws = own_word b 0 (laws.tree.sizes.some 0)
 
-has_first : (b : BoardValue) → BoardLaws b → has_boot (own_words b) (address b 0 0) ≡ true
-has_first b laws =
-    list_any_at (λ x. x == address b 0 0) (own_words b) 0 0
-    (omega (arith, own_count b, laws.tree.sizes.some 0))
-    (eq-eqb (slice_index (own_words b) 0) (address b 0 0) (first_word b laws))
-
 pub faultless : (b : BoardValue) → BoardLaws b
     → fault_of (identity b) b (address b 0 0) ≡ None
 unfolding fault_of boot_fault_of never_falls
 faultless b laws =
-    let count : (length (own_words b) == cores b) ≡ true =
-    eq-eqb (length (own_words b)) (cores b) (own_count b) in
-    let fields = are_short b laws in
-    let same = own_once b laws in
-    let there = has_first b laws in
     let first : (slice_index (own_words b) 0 == address b 0 0) ≡ true =
-    eq-eqb (slice_index (own_words b) 0) (address b 0 0) (first_word b laws) in
-    let high : nat_lt (height b) (height b) ≡ false = le-ltb (height b) (height b) (omega arith) in
-    rw (count, fields, same, there, first, high)
-    (rows_fine (own_words b) b b.format b.levels laws.board.low laws.board.high)
+    eq-eqb _ _ (first_word b laws) in
+    let there : has_boot (own_words b) (address b 0 0) ≡ true =
+    list_any_at (λ x. x == address b 0 0) (own_words b) 0 0
+    (omega (arith, own_count b, laws.tree.sizes.some 0)) first in
+    rw (
+      eq-eqb (length (own_words b)) (cores b) (own_count b),
+      are_short b laws,
+      own_once b laws,
+      there,
+      first,
+      le-ltb (height b) (height b) (omega arith),
+    ) (rows_fine (own_words b) b b.format b.levels laws.board.low laws.board.high)
 
 pub first_boots : (b : BoardValue) → BoardLaws b
     → boot_place (identity b) b (address b 0 0) ≡ 0
