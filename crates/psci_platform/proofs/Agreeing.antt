@@ -1,21 +1,18 @@
 -- What is told beside a call of a description that has no fault is what the firmware is asked for.
 use Rattle.std.proofs.lemmas.Bool.{and_parts}
 use Rattle.std.specs.Prelude.{nat_lt}
-use Rattle.psci_platform.proofs.Words.{◌&&◌, ◌<◌, ◌==◌, ◌||◌, ◌∙◌, ◌∷◌, ◌≡◌, ◌≤◌, [], ap, arith}
-use Rattle.psci_platform.proofs.Words.{ask_of, Asked, asked_by, asks_states, BoardValue, Bool}
-use Rattle.psci_platform.proofs.Words.{can_ask, cond, deepest_of, depth_at, depths_of}
-use Rattle.psci_platform.proofs.Words.{DescriptionValue, eqb-true, Err, false, fault_of, find}
-use Rattle.psci_platform.proofs.Words.{first_argument, height, highest_of, is_ask, is_power_state}
-use Rattle.psci_platform.proofs.Words.{is_system, List, list_all, nat_le, nat_tests, None}
-use Rattle.psci_platform.proofs.Words.{none-some, not, Ok, Option, reads, refl, rises, Row}
-use Rattle.psci_platform.proofs.Words.{same_Some, slice_index, Some, states_if, states_of}
-use Rattle.psci_platform.proofs.Words.{SuspendMode, sym, true, word_for, ℕ}
-use Rattle.psci_platform.specs.declared.class.TheConstants.{STATES}
-use Rattle.psci_platform.specs.Faults.{are_states, is_running_above, never_falls}
+use Rattle.psci_platform.proofs.Words.{◌==◌, ◌||◌, ◌∙◌, ◌∷◌, ◌≡◌, ◌≤◌, [], ap, arith, ask_of}
+use Rattle.psci_platform.proofs.Words.{asked_by, asks_states, BoardValue, Bool, can_ask, cond}
+use Rattle.psci_platform.proofs.Words.{deepest_of, depth_at, depths_of, DescriptionValue, Err}
+use Rattle.psci_platform.proofs.Words.{false, fault_of, find, first_argument, height, highest_of}
+use Rattle.psci_platform.proofs.Words.{is_ask, is_power_state, List, list_all, nat_le, nat_tests}
+use Rattle.psci_platform.proofs.Words.{None, none-some, Ok, Option, reads, refl, rises, Row, Some}
+use Rattle.psci_platform.proofs.Words.{states_if, states_of, SuspendMode, true, word_for, ℕ}
+use Rattle.psci_platform.specs.Faults.{are_states, is_running_above}
 use Rattle.psci_platform.proofs.Checked.{Passed, passed}
 use Rattle.psci_platform.proofs.Missing.{no_power_state}
 use Rattle.psci_platform.proofs.OwnStates.{StateLaws}
-use Rattle.psci_platform.proofs.Swapped.{left, right}
+use Rattle.psci_platform.proofs.Swapped.{right}
 use Rattle.psci_abi.specs.declared.request.Request.TheVariants as requests
 use Rattle.psci_platform.specs.declared.asked.Asked.TheVariants as asks
 

@@ -1,10 +1,10 @@
 -- Depths are an ask exactly where the extended format has a word for them.
 use Rattle.std.specs.Result.{result_ok}
 use Rattle.std.specs.Prelude.{IfOk, Some, None}
-use Rattle.psci_platform.proofs.Words.{◌==◌, ◌↔◌, ◌∙◌, ◌≡◌, ◌≤◌, ap, arith, ask_of, BadState, Bool}
-use Rattle.psci_platform.proofs.Words.{cond, Err, Extended, false, Format, highest_of, is_ask}
-use Rattle.psci_platform.proofs.Words.{IsAsk, IsTrue, length, List, nat_le, nat_tests, Ok, refl}
-use Rattle.psci_platform.proofs.Words.{sym, Result, slice_index, true, word_of, ℕ}
+use Rattle.psci_platform.proofs.Words.{◌↔◌, ◌∙◌, ◌≡◌, ◌≤◌, ap, arith, ask_of, BadState, Bool, cond}
+use Rattle.psci_platform.proofs.Words.{Err, Extended, false, Format, highest_of, is_ask, IsAsk}
+use Rattle.psci_platform.proofs.Words.{IsTrue, length, List, Ok, refl, Result, slice_index, sym}
+use Rattle.psci_platform.proofs.Words.{true, word_of, ℕ}
 use Rattle.psci_state.specs.Ask.{is_deep}
 use Rattle.psci_platform.proofs.OwnStates.{four, most}
 

@@ -1,10 +1,10 @@
 -- What the firmware is asked for a call, by its function word and its arguments.
-use Rattle.psci_platform.proofs.Words.{◌==◌, ◌||◌, ◌∙◌, ◌≡◌, ◌⊎◌, ap, Argument, argument}
-use Rattle.psci_platform.proofs.Words.{argument_by, Asked, asked_by, BoardValue, Bool}
-use Rattle.psci_platform.proofs.Words.{DescriptionValue, eqb-true, false, first_argument}
-use Rattle.psci_platform.proofs.Words.{function_of, if◌then◌else◌, inl, inr, is_there, low_half}
-use Rattle.psci_platform.proofs.Words.{Functions, refl, Regs, regs_by, Request, State, SuspendMode, sym, there}
-use Rattle.psci_platform.proofs.Words.{told_by, true, ℕ}
+use Rattle.psci_platform.proofs.Words.{◌==◌, ◌||◌, ◌≡◌, ◌⊎◌, ap, Argument, argument, argument_by}
+use Rattle.psci_platform.proofs.Words.{Asked, asked_by, BoardValue, Bool, DescriptionValue}
+use Rattle.psci_platform.proofs.Words.{eqb-true, false, first_argument, function_of, Functions}
+use Rattle.psci_platform.proofs.Words.{if◌then◌else◌, inl, inr, is_there, low_half, refl, Regs}
+use Rattle.psci_platform.proofs.Words.{regs_by, Request, State, SuspendMode, sym, there, told_by}
+use Rattle.psci_platform.proofs.Words.{true, ℕ}
 use Rattle.psci_platform.specs.declared.argument.Argument.TheVariants.{Core, Node, Function, Reset}
 use Rattle.psci_platform.specs.declared.argument.Argument.TheVariants.{System, Other}
 use Rattle.psci_platform.specs.Calls.{asked_for, regs_asking, regs_for}

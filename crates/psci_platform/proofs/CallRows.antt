@@ -8,12 +8,9 @@ use Rattle.psci_platform.specs.declared.asked.Asked.{Asked}
 use Rattle.psci_platform.specs.declared.asked.Asked.TheVariants as asks
 use Rattle.psci_platform.specs.Calls.{asked_for, regs_for}
 use Rattle.psci_platform.specs.Described.{DescriptionValue}
-use Rattle.psci_platform.proofs.Machines.{calling}
-use Rattle.psci_platform.proofs.Machines.{all_functions, hamoa, hamoa_board, mt8365, mt8370}
-use Rattle.psci_platform.proofs.Machines.{mt8370_board}
-use Rattle.psci_platform.proofs.Machines.{rk3399, rk3399_board}
+use Rattle.psci_platform.proofs.Machines.{calling, all_functions, hamoa, hamoa_board, mt8365}
+use Rattle.psci_platform.proofs.Machines.{mt8370, mt8370_board, rk3399, rk3399_board, itself}
 use Rattle.psci_abi.proofs.Tables.{◌⇒◌, Gives}
-use Rattle.psci_platform.proofs.Machines.{itself}
 
 -- registers x0 to x3
 abbrev regs : ℕ → ℕ → ℕ → ℕ → Regs

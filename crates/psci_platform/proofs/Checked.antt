@@ -4,7 +4,7 @@ use Rattle.psci_platform.proofs.Words.{◌&&◌, ◌==◌, ◌∷◌, ◌≡◌,
 use Rattle.psci_platform.proofs.Words.{DescriptionValue, eqb-true, false, has_boot, has_same}
 use Rattle.psci_platform.proofs.Words.{height, is_mpidr, is_power_state, is_system, length}
 use Rattle.psci_platform.proofs.Words.{list_all, nat_lt, None, not, Option, PlatformFault, refl}
-use Rattle.psci_platform.proofs.Words.{rises, rules, Some, true, ℕ}
+use Rattle.psci_platform.proofs.Words.{rises, Some, true, ℕ}
 use Rattle.psci_platform.specs.Faults.{boot_fault_of, fault_of, has_same_word, has_type, is_first}
 use Rattle.psci_platform.specs.Faults.{is_row_word, most_rows, row_fault_of, state_fault_of}
 

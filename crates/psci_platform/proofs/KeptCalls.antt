@@ -1,19 +1,15 @@
 -- What is kept of a core and of a row is what a call of it is to the firmware.
 use Rattle.std.proofs.lemmas.Bool.{cases_eq, ne_eqb}
 use Rattle.psci_platform.proofs.Words.{◌<◌, ◌==◌, ◌^◌, ◌||◌, ◌∙◌, ◌≡◌, ◌⊎◌, ap, argument}
-use Rattle.psci_platform.proofs.Words.{argument_by, arith, ask_of, Asked, asked_for, Asks}
-use Rattle.psci_platform.proofs.Words.{asks_states, BoardValue, Bool, core_word, DescriptionValue}
-use Rattle.psci_platform.proofs.Words.{Functions, nat_tests, eqb-true, false, function_of, height, IfSome, inl, inr}
-use Rattle.psci_platform.proofs.Words.{is_on, is_suspend, List, low_half, no_state, None, Ok}
-use Rattle.psci_platform.proofs.Words.{Option, refl, Regs, regs_by, regs_for, Some, State}
-use Rattle.psci_platform.proofs.Words.{states_of, subst, SuspendMode, sym, there, told_by, true}
+use Rattle.psci_platform.proofs.Words.{argument_by, ask_of, Asked, asked_for, Asks, asks_states}
+use Rattle.psci_platform.proofs.Words.{BoardValue, core_word, DescriptionValue, eqb-true}
+use Rattle.psci_platform.proofs.Words.{function_of, Functions, height, IfSome, inl, inr, is_on}
+use Rattle.psci_platform.proofs.Words.{is_suspend, List, low_half, None, Ok, Option, refl, Regs}
+use Rattle.psci_platform.proofs.Words.{regs_for, Some, State, states_of, SuspendMode, true}
 use Rattle.psci_platform.proofs.Words.{word_for, ℕ}
-use Rattle.psci_abi.specs.declared.request.Request.TheVariants.{CpuOn, CpuSuspend}
-use Rattle.psci_fw.specs.Read.{IsNoSuspend, IsSuspendOf}
+use Rattle.psci_abi.specs.declared.request.Request.TheVariants.{CpuSuspend}
 use Rattle.psci_platform.specs.declared.argument.Argument.TheVariants.{Core}
-use Rattle.psci_platform.specs.Kept.{IsOnCall}
 use Rattle.psci_platform.proofs.ByWord.{asked_same, regs_same}
-use Rattle.psci_platform.proofs.Missing.{no_power_state}
 use Rattle.psci_platform.proofs.Requests.{half_of}
 use Rattle.psci_platform.specs.declared.asked.Asked.TheVariants as asks
 

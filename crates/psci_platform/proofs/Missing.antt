@@ -1,10 +1,9 @@
 -- Words that name nothing.
 use Rattle.psci_platform.proofs.Words.{◌*◌, ◌/◌, ◌<◌, ◌^◌, ◌∙◌, ◌≡◌, ◌≤◌, address, arith, ask_of}
-use Rattle.psci_platform.proofs.Words.{BoardValue, Bool, cond, core_of, DescriptionValue, Err}
-use Rattle.psci_platform.proofs.Words.{Extended, false, Format, height, is_there, IsBoard, no_core}
-use Rattle.psci_platform.proofs.Words.{no_state, node_of, None, Option, Original, refl, Regs}
-use Rattle.psci_platform.proofs.Words.{request_of, Some, subst, suc, SuspendMode, sym, true}
-use Rattle.psci_platform.proofs.Words.{WordLaws, ℕ}
+use Rattle.psci_platform.proofs.Words.{BoardValue, core_of, DescriptionValue, Err, Extended, false}
+use Rattle.psci_platform.proofs.Words.{Format, height, is_there, IsBoard, no_core, no_state}
+use Rattle.psci_platform.proofs.Words.{node_of, None, Option, Original, refl, Regs, request_of}
+use Rattle.psci_platform.proofs.Words.{Some, subst, suc, SuspendMode, sym, WordLaws, ℕ}
 use Rattle.psci_abi.specs.declared.request.Request.TheVariants.{Unknown}
 use Rattle.psci_platform.specs.Calls.{regs_for}
 

@@ -5,12 +5,12 @@ use Rattle.std.proofs.lemmas.List.{get_or_default}
 use Rattle.std.proofs.lemmas.List.Folds.{Any-from_list_any}
 use Rattle.std.proofs.lemmas.List.Sums.{position_or_len_is, sum_by-cons}
 use Rattle.psci_platform.proofs.Words.{◌*◌, ◌+◌, ◌/◌, ◌<◌, ◌==◌, ◌^◌, ◌∙◌, ◌∷◌, ◌≡◌, ◌≤◌, [], ap}
-use Rattle.psci_platform.proofs.Words.{arith, BoardValue, Bool, boot_place, cond, core_named}
-use Rattle.psci_platform.proofs.Words.{cores, count_by, DescriptionValue, eqb-true, false, fault_of}
+use Rattle.psci_platform.proofs.Words.{arith, BoardValue, Bool, boot_place, cond, core_named, cores}
+use Rattle.psci_platform.proofs.Words.{count_by, DescriptionValue, eqb-true, false, fault_of}
 use Rattle.psci_platform.proofs.Words.{has_same, height, inl, inr, length, List, list_any_at}
-use Rattle.psci_platform.proofs.Words.{nat_le, nat_lt, nat_tests, None, number_named, Option}
-use Rattle.psci_platform.proofs.Words.{none-some, position-Some, position, position_or_len, refl, slice_index, Some, suc}
-use Rattle.psci_platform.proofs.Words.{swap_for, sym, true, unwrap_or, zero, ℕ}
+use Rattle.psci_platform.proofs.Words.{nat_le, nat_lt, nat_tests, None, none-some, number_named}
+use Rattle.psci_platform.proofs.Words.{Option, position-Some, position_or_len, refl, slice_index}
+use Rattle.psci_platform.proofs.Words.{Some, suc, swap_for, true, unwrap_or, zero, ℕ}
 use Rattle.psci_platform.specs.Swaps.{is_symmetric}
 use Rattle.psci_platform.proofs.Checked.{passed}
 use Rattle.psci_platform.proofs.Swapped.{left}

@@ -9,7 +9,8 @@ use Rattle.psci_platform.proofs.Words.{◌*◌, ◌/◌, ◌<◌, ◌==◌, ◌^
 use Rattle.psci_platform.proofs.Words.{AreNames, arith, BoardValue, core_word, cores}
 use Rattle.psci_platform.proofs.Words.{DescriptionValue, IfSome, IsName, length, List, Name}
 use Rattle.psci_platform.proofs.Words.{nat_tests, no_core, None, number_named, Option}
-use Rattle.psci_platform.proofs.Words.{position_or_len, replicate, Some, subst, sym, true, word_if, ℕ}
+use Rattle.psci_platform.proofs.Words.{position_or_len, replicate, Some, subst, sym, true, word_if}
+use Rattle.psci_platform.proofs.Words.{ℕ}
 use Rattle.psci_platform.specs.Names.{are_found, HasNames, name_in, own_name, slot_of}
 use Rattle.psci_platform.specs.declared.names.Table.{Table}
 

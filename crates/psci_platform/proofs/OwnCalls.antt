@@ -1,26 +1,22 @@
 -- A call of the identity of a board is answered as the firmware answers it, and what is told beside
 -- are the depths that the firmware is asked for.
 use Rattle.std.specs.Result.{result_ok}
-use Rattle.psci_platform.proofs.Words.{asked_by, asks_states, ask_of, Err, height, Ok}
-use Rattle.psci_platform.proofs.Words.{◌<◌, ◌^◌, ◌∙◌, ◌≡◌, ap, argument, arith, BadState}
-use Rattle.psci_platform.proofs.Words.{BoardValue, Core, core_of, core_word, every_function}
-use Rattle.psci_platform.proofs.Words.{first_argument, function_of, identity, if◌then◌else◌}
-use Rattle.psci_platform.proofs.Words.{is_there, List, low_half, Node, node_of, Option, refl, Regs}
-use Rattle.psci_platform.proofs.Words.{Request, request_of, Result, Some, states_of, subst}
+use Rattle.psci_platform.proofs.Words.{◌<◌, ◌^◌, ◌∙◌, ◌≡◌, ap, argument, arith, ask_of, asked_by}
+use Rattle.psci_platform.proofs.Words.{asks_states, BadState, BoardValue, core_of, core_word, Err}
+use Rattle.psci_platform.proofs.Words.{every_function, first_argument, function_of, height}
+use Rattle.psci_platform.proofs.Words.{identity, is_there, List, low_half, node_of, Ok, Option}
+use Rattle.psci_platform.proofs.Words.{refl, Regs, Request, request_of, Result, states_of, subst}
 use Rattle.psci_platform.proofs.Words.{SuspendMode, sym, true, word_for, ℕ}
 use Rattle.psci_messages.specs.Message.{MessageValue}
 use Rattle.psci_fw_spec.specs.declared.call.FwCall.TheVariants.{Smc}
 use Rattle.psci_fw_spec.specs.declared.outcome.Act.{Act}
 use Rattle.psci_fw_spec.specs.declared.reply.FwReply.{FwReply}
 use Rattle.psci_fw_spec.specs.After.{after, change}
-use Rattle.psci_fw_spec.specs.AffinityInfo.{affinity_of}
 use Rattle.psci_fw_spec.specs.Answer.{answer, reply_or}
 use Rattle.psci_fw_spec.specs.Calls.{call_fault, outcome_of}
-use Rattle.psci_fw_spec.specs.CpuOn.{start_outcome, target_among, target_of}
-use Rattle.psci_fw_spec.specs.CpuSuspend.{ask_named, suspend_asked}
-use Rattle.psci_fw_spec.specs.Effects.{Effect, Rests, effect_of, function_effect, rest_named}
-use Rattle.psci_fw_spec.specs.NodeHwState.{hw_state_of}
-use Rattle.psci_fw_spec.specs.Outcomes.{returns, stops}
+use Rattle.psci_fw_spec.specs.CpuOn.{target_of}
+use Rattle.psci_fw_spec.specs.CpuSuspend.{ask_named}
+use Rattle.psci_fw_spec.specs.Effects.{Effect, effect_of, function_effect}
 use Rattle.psci_fw_spec.specs.Values.{Values}
 use Rattle.psci_platform.specs.Calls.{asked_for, feature_word, regs_for}
 use Rattle.psci_platform.specs.Identity.{asks_depths, own_asked}

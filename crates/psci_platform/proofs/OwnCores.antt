@@ -2,17 +2,14 @@
 use Rattle.std.proofs.lemmas.List.FromFn.{get_or-map-range_with_len, length-map-range_with_len}
 use Rattle.std.proofs.lemmas.List.Sums.{fails_before_first}
 use Rattle.psci_platform.proofs.Words.{◌*◌, ◌/◌, ◌<◌, ◌==◌, ◌^◌, ◌∙◌, ◌≡◌, ◌≤◌, address, ap, arith}
-use Rattle.psci_platform.proofs.Words.{BoardValue, Bool, cases_lt, Core, core_named, core_of}
-use Rattle.psci_platform.proofs.Words.{core_word, cores, eq-eqb, eqb-true, height, identity, inl}
-use Rattle.psci_platform.proofs.Words.{inr, IsBoard, le-leb, length, List, lt-leb, lt-ltb, map}
-use Rattle.psci_platform.proofs.Words.{nat_tests, Node, node_of, None, none-some, Option, option_map}
-use Rattle.psci_platform.proofs.Words.{ParentLaws, PathLaws, position, position-Some}
-use Rattle.psci_platform.proofs.Words.{position_or_len, range_with_len, refl, same_Some, SizeLaws}
-use Rattle.psci_platform.proofs.Words.{slice_index, Some, swap_for, sym, true, up, word_if}
-use Rattle.psci_platform.proofs.Words.{WordLaws, ℕ}
+use Rattle.psci_platform.proofs.Words.{BoardValue, Bool, Core, core_named, core_of, core_word}
+use Rattle.psci_platform.proofs.Words.{cores, eq-eqb, height, identity, le-leb, length, List, map}
+use Rattle.psci_platform.proofs.Words.{nat_tests, Node, node_of, None, none-some, Option}
+use Rattle.psci_platform.proofs.Words.{option_map, position, range_with_len, refl, same_Some}
+use Rattle.psci_platform.proofs.Words.{slice_index, Some, swap_for, sym, true, up, ℕ}
 use Rattle.psci_platform.proofs.Named.{found}
-use Rattle.psci_platform.proofs.Swapping.{Laws, node_is, word_short}
-use Rattle.psci_platform.proofs.Unmoved.{BoardLaws, boots_first, own_place}
+use Rattle.psci_platform.proofs.Swapping.{at_zero, node_is, word_short}
+use Rattle.psci_platform.proofs.Unmoved.{BoardLaws, own_place}
 
 -- the affinity words of the cores
 abbrev pub own_words : BoardValue → List ℕ
@@ -83,8 +80,7 @@ pub node_same : (b : BoardValue) (word l : ℕ) → BoardLaws b
     → (core_word (identity b) b 0 word l < 2 ^ 32)
     × (node_of b (core_word (identity b) b 0 word l) l ≡ node_of b word l)
 node_same b word l laws =
-    let own : Laws (identity b) b 0 =
-    record { on = laws; is = boots_first b laws.tree; count = own_count b } in (
+    let own = at_zero (identity b) b laws (own_count b) in (
       word_short (identity b) b 0 own word l,
       node_is (identity b) b 0 own word l
           ∙ ap (option_map (λ c. record { level = l; place = up b l c }))

@@ -1,15 +1,14 @@
 -- The identity of a board has no fault.
 use Rattle.std.proofs.lemmas.Bool.{cases_eq, ne_eqb}
 use Rattle.std.proofs.lemmas.List.Folds.{list_all-map, list_any_none}
-use Rattle.psci_platform.proofs.Words.{◌%◌, ◌+◌, ◌/◌, ◌<◌, ◌==◌, ◌^◌, ◌∙◌, ◌∷◌, ◌≡◌, ◌≤◌, []}
-use Rattle.psci_platform.proofs.Words.{address, ap, arith, BoardValue, Bool, boot_place, cond, Core}
-use Rattle.psci_platform.proofs.Words.{core_named, core_of, cores, count_by, deepest_of}
-use Rattle.psci_platform.proofs.Words.{DescriptionValue, eq-eqb, eqb-true, every_function, Extended}
-use Rattle.psci_platform.proofs.Words.{false, Format, has_boot, has_same, height, identity}
-use Rattle.psci_platform.proofs.Words.{is_mpidr, le-ltb, length, List, list_all, list_any_at, map}
-use Rattle.psci_platform.proofs.Words.{inl, inr, nat_tests, nat_lt, None, Option, Original, range_with_len, refl}
-use Rattle.psci_platform.proofs.Words.{row_asking, same_Some, slice_index, Some, suc, sym, true}
-use Rattle.psci_platform.proofs.Words.{zero, ℕ}
+use Rattle.psci_platform.proofs.Words.{◌+◌, ◌<◌, ◌==◌, ◌^◌, ◌∙◌, ◌∷◌, ◌≡◌, ◌≤◌, [], address, ap}
+use Rattle.psci_platform.proofs.Words.{arith, BoardValue, boot_place, Core, core_named, core_of}
+use Rattle.psci_platform.proofs.Words.{cores, count_by, deepest_of, DescriptionValue, eq-eqb}
+use Rattle.psci_platform.proofs.Words.{every_function, Extended, false, Format, has_boot, has_same}
+use Rattle.psci_platform.proofs.Words.{height, identity, inl, inr, is_mpidr, le-ltb, length, List}
+use Rattle.psci_platform.proofs.Words.{list_all, list_any_at, map, nat_lt, nat_tests, None, Option}
+use Rattle.psci_platform.proofs.Words.{Original, range_with_len, refl, row_asking, same_Some}
+use Rattle.psci_platform.proofs.Words.{slice_index, Some, suc, sym, true, zero, ℕ}
 use Rattle.psci_platform.specs.Faults.{boot_fault_of, fault_of, never_falls, row_fault_of}
 use Rattle.psci_platform.specs.Faults.{state_fault_of}
 use Rattle.psci_platform.specs.Identity.{asks_up_to, own_classes}

@@ -6,16 +6,14 @@ use Rattle.std.proofs.lemmas.Nat.{and_mask}
 use Rattle.std.specs.Prelude.{filter}
 use Rattle.std.specs.Result.{result_ok}
 use Rattle.psci_platform.proofs.Words.{◌%◌, ◌&&◌, ◌*◌, ◌+◌, ◌-◌, ◌/◌, ◌<◌, ◌==◌, ◌^◌, ◌↔◌, ◌∙◌, ◌∷◌}
-use Rattle.psci_platform.proofs.Words.{◌≡◌}
-use Rattle.psci_platform.proofs.Words.{◌≤◌, [], ap, arith, ask_of, BadState, BoardValue, Bool}
-use Rattle.psci_platform.proofs.Words.{can_ask, cases_lt, depth_at, depths_at, depths_of, eq-eqb}
-use Rattle.psci_platform.proofs.Words.{eqb-true, Err, false, find, Format, height, highest_of}
-use Rattle.psci_platform.proofs.Words.{identity, inl, inr, is_ask, IsAsk, IsTrue, le-leb, length}
-use Rattle.psci_platform.proofs.Words.{List, map, nat_le, None, none-some, Ok, Option, OsInitiated}
-use Rattle.psci_platform.proofs.Words.{Platform, range_with_len, reads, refl, Result, Row}
-use Rattle.psci_platform.proofs.Words.{row_asking, same_Some, slice_index, Some, states_if}
-use Rattle.psci_platform.proofs.Words.{states_of, suc, SuspendMode, sym, true, word_for, word_of}
-use Rattle.psci_platform.proofs.Words.{zero, ℕ}
+use Rattle.psci_platform.proofs.Words.{◌≡◌, ◌≤◌, [], ap, arith, ask_of, BadState, BoardValue, Bool}
+use Rattle.psci_platform.proofs.Words.{can_ask, depth_at, depths_at, depths_of, eq-eqb, eqb-true}
+use Rattle.psci_platform.proofs.Words.{Err, false, find, Format, height, highest_of, identity, inl}
+use Rattle.psci_platform.proofs.Words.{inr, is_ask, IsAsk, IsTrue, le-leb, length, List, map}
+use Rattle.psci_platform.proofs.Words.{nat_le, None, none-some, Ok, Option, OsInitiated, Platform}
+use Rattle.psci_platform.proofs.Words.{range_with_len, reads, refl, Result, Row, row_asking}
+use Rattle.psci_platform.proofs.Words.{same_Some, slice_index, Some, states_if, states_of, suc}
+use Rattle.psci_platform.proofs.Words.{SuspendMode, sym, true, word_for, word_of, zero, ℕ}
 use Rattle.psci_platform.specs.Identity.{asks_up_to}
 use Rattle.psci_platform.specs.States.{is_deeper, word_asking}
 use Rattle.psci_platform.proofs.Missing.{no_power_state}

@@ -3,12 +3,12 @@ use Rattle.std.proofs.Common.{drop, sum}
 use Rattle.std.proofs.lemmas.Bool.{and_parts, cases_Bool, cases_eq, ltb-true}
 use Rattle.std.proofs.lemmas.List.Folds.{list_all_at}
 use Rattle.std.proofs.lemmas.List.FromFn.{get_or-range_with_len, length-range_with_len}
-use Rattle.psci_platform.proofs.Words.{◌&&◌, ◌+◌, ◌-◌, ◌<◌, ◌==◌, ◌||◌, ◌∙◌, ◌∷◌, ◌≡◌, ◌≤◌, [], ap}
-use Rattle.psci_platform.proofs.Words.{arith, BoardValue, Bool, cases_lt, cores, eqb-true, false}
+use Rattle.psci_platform.proofs.Words.{◌&&◌, ◌+◌, ◌-◌, ◌<◌, ◌∙◌, ◌∷◌, ◌≡◌, ◌≤◌, [], ap, arith}
+use Rattle.psci_platform.proofs.Words.{BoardValue, Bool, cases_lt, cores, eqb-true, false}
 use Rattle.psci_platform.proofs.Words.{goes_along, height, inl, inr, is_swapped, IsBoard}
 use Rattle.psci_platform.proofs.Words.{IsRenumbering, le-ltb, length, List, list_all, lt-ltb}
-use Rattle.psci_platform.proofs.Words.{nat_lt, Node, None, parent, PathLaws, range_with_len, refl}
-use Rattle.psci_platform.proofs.Words.{nat_tests, subst, suc, swap_for, sym, true, zero, ℕ}
+use Rattle.psci_platform.proofs.Words.{nat_lt, nat_tests, Node, None, parent, PathLaws}
+use Rattle.psci_platform.proofs.Words.{range_with_len, refl, suc, swap_for, sym, true, zero, ℕ}
 use Rattle.psci_board.specs.Board.{IsTree, group_of, nodes, place_above, size_below, up}
 use Rattle.psci_board.proofs.Groups.{sum-cons}
 use Rattle.psci_platform.specs.Swaps.{is_symmetric, moved}

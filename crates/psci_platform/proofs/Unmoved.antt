@@ -1,12 +1,11 @@
 -- Where the boot core is core 0, nothing is swapped.
-use Rattle.psci_platform.proofs.Words.{◌<◌, ◌==◌, ◌∙◌, ◌≡◌, ◌≤◌, ap, arith, BoardValue, Bool}
-use Rattle.psci_platform.proofs.Words.{cases_lt, cores, domain_of, eq-eqb, false, goes_along}
-use Rattle.psci_platform.proofs.Words.{height, if◌then◌else◌, inl, inr, is_swapped, le-ltb, lt-ltb}
-use Rattle.psci_platform.proofs.Words.{nat_lt, Node, None, none-some, Option, parent, ParentLaws}
-use Rattle.psci_platform.proofs.Words.{IsBoard, nat_tests, WordLaws}
-use Rattle.psci_platform.proofs.Words.{PathLaws, refl, SizeLaws, Some, suc, swap_for, sym, true}
-use Rattle.psci_platform.proofs.Words.{unwrap_or, up, zero, ℕ}
-use Rattle.psci_board.specs.Board.{child, children}
+use Rattle.psci_platform.proofs.Words.{◌<◌, ◌∙◌, ◌≡◌, ◌≤◌, ap, arith, BoardValue, Bool, cases_lt}
+use Rattle.psci_platform.proofs.Words.{cores, domain_of, eq-eqb, goes_along, height, if◌then◌else◌}
+use Rattle.psci_platform.proofs.Words.{inl, inr, is_swapped, IsBoard, le-ltb, lt-ltb, nat_tests}
+use Rattle.psci_platform.proofs.Words.{Node, None, Option, parent, ParentLaws, PathLaws, refl}
+use Rattle.psci_platform.proofs.Words.{SizeLaws, Some, suc, swap_for, true, unwrap_or, up, WordLaws}
+use Rattle.psci_platform.proofs.Words.{zero, ℕ}
+use Rattle.psci_board.specs.Board.{child}
 use Rattle.psci_fw_laws.specs.Renumbered.{swap}
 use Rattle.psci_platform.proofs.Swapped.{all_of}
 use Rattle.psci_platform.specs.Swaps.{is_on_path, is_symmetric, moved, moved_in, number_of}

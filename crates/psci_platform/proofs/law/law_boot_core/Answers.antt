@@ -16,11 +16,12 @@ returns c =
       renumbering = λ d b boot board none.
           renumbering d b (boot_place d b boot) (laws_of d b boot (laws b board) none);
       calls = λ d b boot mode regs board none.
-          calls_by_swap d b (boot_place d b boot) mode regs (laws_of d b boot (laws b board) none);
+          calls_by_swap d b (boot_place d b boot) mode regs (laws b board)
+          (laws_of d b boot (laws b board) none);
       answers = λ d b boot v core regs board none.
           let place = boot_place d b boot in
           let own = laws_of d b boot (laws b board) none in
           c.law_no_core_is_special.ensures.answers b (swap_for b place) v core
           (calls.Smc (regs_for d b 0 v.mode regs)) (calls.Smc (regs_for d b place v.mode regs)) board
-          (renumbering d b place own) (calls_by_swap d b place v.mode regs own) tt;
+          (renumbering d b place own) (calls_by_swap d b place v.mode regs (laws b board) own) tt;
     }
