@@ -4,15 +4,14 @@ use Rattle.psci_platform_safe.proofs.Words.{◌*◌, ◌+◌, ◌<◌, ◌^◌, 
 use Rattle.psci_platform_safe.proofs.Words.{argument, arith, BadState, Bool, cases_Bool, cond, Core}
 use Rattle.psci_platform_safe.proofs.Words.{core_of, core_word, depth_at, depths_of}
 use Rattle.psci_platform_safe.proofs.Words.{DescriptionValue, eqb-true, false, first_argument}
-use Rattle.psci_platform_safe.proofs.Words.{height, inl, inr, is_there, List, None, number, Opening}
-use Rattle.psci_platform_safe.proofs.Words.{Option, option_map, PlatformValue, refl, Regs, regs_for}
-use Rattle.psci_platform_safe.proofs.Words.{Request, request_of, request_with, rest_named, rest_of}
-use Rattle.psci_platform_safe.proofs.Words.{Result, short, Some, states_of, SuspendMode, sym, true}
-use Rattle.psci_platform_safe.proofs.Words.{unwrap_or, with_first, word_for, ℕ}
+use Rattle.psci_platform_safe.proofs.Words.{half_of, height, inl, inr, is_there, List, None, number}
+use Rattle.psci_platform_safe.proofs.Words.{Opening, Option, option_map, PlatformValue, refl, Regs}
+use Rattle.psci_platform_safe.proofs.Words.{regs_for, Request, request_of, request_with, rest_named}
+use Rattle.psci_platform_safe.proofs.Words.{rest_of, Result, short, Some, states_of, SuspendMode}
+use Rattle.psci_platform_safe.proofs.Words.{sym, true, unwrap_or, with_first, word_for, ℕ}
 use Rattle.psci_platform.specs.declared.class.Class.{Class}
 use Rattle.psci_platform.specs.declared.class.Class.TheVariants.{Running, PowerDown}
 use Rattle.psci_platform.specs.States.{depth_of}
-use Rattle.psci_headline.specs.psci_abi.Calls.{low_half}
 use Rattle.psci_headline.specs.psci_abi.declared.format.Format.{Format}
 use Rattle.psci_headline.specs.psci_abi.declared.format.Format.TheVariants.{Extended, Original}
 use Rattle.psci_headline.specs.psci_state.Ask.{deepest_of, is_deep}
@@ -168,10 +167,6 @@ suspend_if p mode regs word a x o (Some states) read none is e at =
       is ∙ ap (λ (q : Opening). requests.CpuSuspend word q.address q.context) both.1,
       record { states = states; row = e; deep = eqb-true _ _ both.0 },
     )
-
--- a word of 32 bits is passed whole
-pub half_of : (regs : Regs) (w : ℕ) → w < 2 ^ 32 → low_half (argument regs w) ≡ w
-half_of regs w small = ap low_half (short regs w small) ∙ omega (arith, small)
 
 -- the address of a SYSTEM_SUSPEND is its first argument
 system_first : (regs : Regs) (a x : ℕ) → request_of regs ≡ requests.SystemSuspend a x

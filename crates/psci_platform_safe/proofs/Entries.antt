@@ -1,22 +1,21 @@
 -- Sentence 4: after each legal history the openings that the firmware keeps wait, and each entry at
 -- an opening takes up one of them, or begins a life.
-use Rattle.psci_platform_safe.proofs.Words.{◌++◌, ◌<◌, ◌∙◌, ◌∷◌, ◌≡◌, [], Absent, acks, AckValue}
-use Rattle.psci_platform_safe.proofs.Words.{Act, ap, arith, arrived, BoardValue, Bool, Call, call}
-use Rattle.psci_platform_safe.proofs.Words.{change, cond, controller_values, cores, Enter}
-use Rattle.psci_platform_safe.proofs.Words.{enter_effect, Event, event_after, false, firmware_legal}
-use Rattle.psci_platform_safe.proofs.Words.{firmware_values, Fw, if_started, indexed, IsCore}
-use Rattle.psci_platform_safe.proofs.Words.{IsLegal, IsLegalOn, last_start, life_of, List}
+use Rattle.psci_platform_safe.proofs.Words.{◌<◌, ◌∙◌, ◌∷◌, ◌≡◌, [], Absent, acks, AckValue, Act, ap}
+use Rattle.psci_platform_safe.proofs.Words.{arith, arrived, BoardValue, Bool, Call, change, cond}
+use Rattle.psci_platform_safe.proofs.Words.{controller_values, cores, Enter, enter_effect, Event}
+use Rattle.psci_platform_safe.proofs.Words.{event_after, false, firmware_values, Fw, if_started}
+use Rattle.psci_platform_safe.proofs.Words.{indexed, IsCore, IsLegalOn, last_start, life_of, List}
 use Rattle.psci_platform_safe.proofs.Words.{MessageValue, nat_lt, None, Nothing, number, Opening}
 use Rattle.psci_platform_safe.proofs.Words.{Option, option_map, Place, place, PlatformValue, Record}
 use Rattle.psci_platform_safe.proofs.Words.{refl, Regs, Said, said_in_numbers, Sent}
-use Rattle.psci_platform_safe.proofs.Words.{sent_in_numbers, Some, Start, Started, subst, sym, Take}
-use Rattle.psci_platform_safe.proofs.Words.{Taken, true, Waits, ℕ}
+use Rattle.psci_platform_safe.proofs.Words.{sent_in_numbers, Some, Start, Started, sym, Take, Taken}
+use Rattle.psci_platform_safe.proofs.Words.{true, Waits, ℕ}
 use Rattle.psci_headline.specs.psci_world_spec.declared.said.Said.TheVariants.{Taken as Took}
 use Rattle.psci_headline.specs.psci_world_spec.Histories.{firmware_history}
 use Rattle.psci_headline.specs.psci_world_spec.Legal.{legal}
 use Rattle.psci_platform_safe.specs.Words.{numbered}
 use Rattle.psci_platform_safe.proofs.Records.{OpeningLaws, effect_in, effect_now, entered_effect}
-use Rattle.psci_platform_safe.proofs.Records.{message_in, opens_on, opens_rest, took_effect}
+use Rattle.psci_platform_safe.proofs.Records.{legal_record, message_in, opens_on, opens_rest, took_effect}
 use Rattle.psci_platform_safe.proofs.Calling.{opens, opens_none}
 use Rattle.psci_platform_safe.proofs.Waiting.{AreWaiting, leaves, none_one}
 use Rattle.psci_headline.specs.psci_fw_spec.declared.outcome.Act.TheVariants as acts
@@ -67,23 +66,10 @@ module _ (p : PlatformValue) (r : Record) (older : List Record) (laws : OpeningL
   unfolding numbered firmware_history
   now_is event said e s = grind (arith, effect_now)
 
-  answered : (m : ℕ) (regs : Regs) (act : Act) (own : Option Sent) → r.event ≡ Call m regs
-      → r.said ≡ Fw act own
-      → IsLegal p.board (call (controller_values p.board w) (acks w)
-      (event_after p w (Call m regs)) (said_in_numbers p (Fw act own))
-      ++ firmware_history p.board w)
-  unfolding numbered firmware_history
-  answered m regs act own e s =
-      subst (λ (x : Said). IsLegal p.board (call (controller_values p.board w) (acks w)
-      (event_after p w (Call m regs)) (said_in_numbers p x) ++ firmware_history p.board w)) s
-      (subst (λ (x : Event). IsLegal p.board (call (controller_values p.board w) (acks w)
-      (event_after p w x) (said_in_numbers p r.said) ++ firmware_history p.board w)) e
-      (firmware_legal p.board (numbered p (r ∷ older)) valid))
-
   by_call : (m : ℕ) (regs : Regs) (act : Act) (own : Option Sent) → r.event ≡ Call m regs
       → r.said ≡ Fw act own → Waits p (r ∷ older) mpidr o
   by_call m regs act own e s =
-      let reply = (answered m regs act own e s).0 in
+      let reply = (legal_record p r older (Call m regs) (Fw act own) valid e s).0 in
       leaves p r older laws.names laws.core laws.boot before
       (effect_in p older (Call m regs) (Fw act own))
       (now_is (Call m regs) (Fw act own) e s) mpidr o is at some

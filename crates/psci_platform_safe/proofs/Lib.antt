@@ -1,6 +1,5 @@
 -- In the order of the argument.
 pub mod Numbers
-pub mod Named
 pub mod Telling
 pub mod Told
 pub mod AskedFor
