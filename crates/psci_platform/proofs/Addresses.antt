@@ -66,5 +66,6 @@ module _ (b : BoardValue) (parents : ParentLaws b) (paths : PathLaws b) (words :
   pub fields : height b ≤ 3
       → address b 0 c ≡ field_of b c 0 + 256 * field_of b c 1 + 65536 * field_of b c 2
   fields high =
-      let core : rest 0 ≡ address b 0 c = rest_is 0 (omega arith) ∙ ap (address b 0) (paths.core c) in
+      let core : rest 0 ≡ address b 0 c =
+      rest_is 0 (omega arith) ∙ ap (address b 0) (paths.core c) in
       omega (arith, core, one_up 0, one_up 1, one_up 2, rest_above 3 high)

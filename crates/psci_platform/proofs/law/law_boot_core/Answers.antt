@@ -22,6 +22,7 @@ returns c =
           let place = boot_place d b boot in
           let own = laws_of d b boot (laws b board) none in
           c.law_no_core_is_special.ensures.answers b (swap_for b place) v core
-          (calls.Smc (regs_for d b 0 v.mode regs)) (calls.Smc (regs_for d b place v.mode regs)) board
-          (renumbering d b place own) (calls_by_swap d b place v.mode regs (laws b board) own) tt;
+          (calls.Smc (regs_for d b 0 v.mode regs)) (calls.Smc (regs_for d b place v.mode regs))
+          board (renumbering d b place own)
+          (calls_by_swap d b place v.mode regs (laws b board) own) tt;
     }
