@@ -2,10 +2,9 @@
 -- controller behind it.
 use Rattle.psci_platform_safe.proofs.Words.{◌++◌, ◌∷◌, ◌≡◌, [], AllOff, ap, AreAsked, AreClaimed}
 use Rattle.psci_platform_safe.proofs.Words.{BoardValue, domain_above, firmware_values, Holds}
-use Rattle.psci_platform_safe.proofs.Words.{IsLegalOn, List, listed, MessageValue, Node}
-use Rattle.psci_platform_safe.proofs.Words.{NoDeeperThanAsked, NoneBelowSleeping, number}
-use Rattle.psci_platform_safe.proofs.Words.{OneEntryEach, OneLiveClaim, Option, PlatformValue}
-use Rattle.psci_platform_safe.proofs.Words.{Record, slice_get, Some, told_hw, told_off}
+use Rattle.psci_platform_safe.proofs.Words.{IsLegalOn, List, listed, MessageValue, Node, number}
+use Rattle.psci_platform_safe.proofs.Words.{OneEntryEach, Option, PlatformValue, Record, slice_get}
+use Rattle.psci_platform_safe.proofs.Words.{Some, told_hw, told_off}
 use Rattle.psci_headline.specs.ToldHw.{WasSoDeep, is_off_depth, is_standby_depth}
 use Rattle.psci_headline.specs.Safe.{AlwaysSafe, Safe}
 use Rattle.psci_headline.specs.psci_world_spec.Histories.{sent}

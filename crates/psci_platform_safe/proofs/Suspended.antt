@@ -21,10 +21,9 @@ use Rattle.psci_headline.specs.psci_state.Cores.{asks}
 use Rattle.psci_headline.specs.psci_world_spec.Histories.{firmware_history}
 use Rattle.psci_platform_safe.specs.Asked.{AsksByWord}
 use Rattle.psci_platform_safe.specs.Words.{numbered}
-use Rattle.psci_platform_safe.proofs.Backwards.{AreMissing, AreNone, AreRead, for_small}
-use Rattle.psci_platform_safe.proofs.Records.{effect_in, legal_record, message_in, outcome_is, regs_in}
-use Rattle.psci_platform_safe.proofs.Records.{values_with}
-use Rattle.psci_platform_safe.proofs.Telling.{told}
+use Rattle.psci_platform_safe.proofs.Backwards.{AreMissing, AreNone, AreRead, for_small, told}
+use Rattle.psci_platform_safe.proofs.Records.{effect_in, legal_record, message_in, outcome_is}
+use Rattle.psci_platform_safe.proofs.Records.{regs_in, values_with}
 use Rattle.psci_headline.specs.psci_abi.declared.request.Request.TheVariants as requests
 use Rattle.psci_headline.specs.psci_fw_spec.declared.call.FwCall.TheVariants as calls
 use Rattle.psci_headline.specs.psci_fw_spec.declared.outcome.Act.TheVariants as acts
@@ -35,10 +34,7 @@ use Rattle.psci_headline.specs.psci_fw_spec.declared.reply.FwReply.TheVariants a
 -- an outcome that stops its caller and sends something is none that returns, or of a halting life
 no_stop : (o : Outcome) (m : MessageValue) (t : Bool) (code : Code) → o.act ≡ acts.Stop
     → o.message ≡ Some m → o ≡ cond t stops (returns code) → ⊥
-no_stop o m true code act message e =
-    let no : Some m ≡ None = sym message ∙ ap (λ (x : Outcome). x.message) e in absurd (cc)
-no_stop o m false code act message e =
-    let no : acts.Stop ≡ acts.Return code = sym act ∙ ap (λ (x : Outcome). x.act) e in absurd (cc)
+no_stop o m t code act message e = grind arith
 
 running : (ph : Phase) → is_running ph ≡ true → ph ≡ Running
 running Running e = refl
