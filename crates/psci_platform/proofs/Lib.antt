@@ -1,6 +1,5 @@
 pub mod Addresses
 pub mod Agreeing
-pub mod Asks
 pub mod ByWord
 mod CallAxisRows
 mod CallRows
@@ -10,7 +9,6 @@ mod FaultAxisRows
 mod FaultOrderRows
 mod FaultRows
 mod IdentityRows
-pub mod KeptCalls
 pub mod Machines
 pub mod Missing
 mod NameRows
@@ -18,7 +16,6 @@ pub mod Named
 pub mod Naming
 pub mod OwnCalls
 pub mod OwnCores
-pub mod OwnFaults
 pub mod OwnStates
 pub mod Reading
 pub mod Requests

@@ -1,22 +1,25 @@
--- A power state word asks the same in the identity of a board.
+-- A power state word asks the same in the identity of a board; depths are an ask exactly where the
+-- extended format has a word for them.
 use Rattle.std.proofs.Common.{add-one, get_or}
 use Rattle.std.proofs.lemmas.Bool.{and_parts, cases_Bool, leb-true}
 use Rattle.std.proofs.lemmas.List.FromFn.{get_or-map-range_with_len}
 use Rattle.std.proofs.lemmas.Nat.{and_mask}
-use Rattle.std.specs.Prelude.{filter}
+use Rattle.std.specs.Prelude.{filter, IfOk, Some, None}
 use Rattle.std.specs.Result.{result_ok}
 use Rattle.psci_platform.proofs.Words.{◌%◌, ◌&&◌, ◌*◌, ◌+◌, ◌-◌, ◌/◌, ◌<◌, ◌==◌, ◌^◌, ◌↔◌, ◌∙◌, ◌∷◌}
 use Rattle.psci_platform.proofs.Words.{◌≡◌, ◌≤◌, [], ap, arith, ask_of, BadState, BoardValue, Bool}
-use Rattle.psci_platform.proofs.Words.{can_ask, depth_at, depths_at, depths_of, eq-eqb, eqb-true}
-use Rattle.psci_platform.proofs.Words.{Err, false, find, Format, height, highest_of, identity, inl}
-use Rattle.psci_platform.proofs.Words.{inr, is_ask, IsAsk, IsTrue, le-leb, length, List, map}
-use Rattle.psci_platform.proofs.Words.{nat_le, None, none-some, Ok, Option, OsInitiated, Platform}
-use Rattle.psci_platform.proofs.Words.{range_with_len, reads, refl, Result, Row, row_asking}
-use Rattle.psci_platform.proofs.Words.{same_Some, slice_index, Some, states_if, states_of, suc}
-use Rattle.psci_platform.proofs.Words.{SuspendMode, sym, true, word_for, word_of, zero, ℕ}
+use Rattle.psci_platform.proofs.Words.{can_ask, cond, depth_at, depths_at, depths_of, eq-eqb}
+use Rattle.psci_platform.proofs.Words.{eqb-true, Err, Extended, false, find, Format, height}
+use Rattle.psci_platform.proofs.Words.{highest_of, identity, inl, inr, is_ask, IsAsk, IsTrue}
+use Rattle.psci_platform.proofs.Words.{le-leb, length, List, map, nat_le, None, none-some, Ok}
+use Rattle.psci_platform.proofs.Words.{Option, OsInitiated, Platform, range_with_len, reads, refl}
+use Rattle.psci_platform.proofs.Words.{Result, Row, row_asking, same_Some, slice_index, Some}
+use Rattle.psci_platform.proofs.Words.{states_if, states_of, suc, SuspendMode, sym, true, word_for}
+use Rattle.psci_platform.proofs.Words.{word_of, zero, ℕ}
 use Rattle.psci_platform.specs.Identity.{asks_up_to}
 use Rattle.psci_platform.specs.States.{is_deeper, word_asking}
 use Rattle.psci_platform.proofs.Missing.{no_power_state}
+use Rattle.psci_state.specs.Ask.{is_deep}
 
 -- What the proofs stand on: the laws of power state words.
 pub record StateLaws : Type 0 where
@@ -193,3 +196,51 @@ pub state_same : (b : BoardValue) (mode : SuspendMode) (word : ℕ) → StateLaw
 state_same b mode word laws small =
     rw (states_are b mode word laws small)
     (same_by b word (ask_of b.format (height b) word) laws small refl)
+
+-- Words of the extended format --------------------------------------------------------------------
+
+type_fits : (t : Bool) → cond t 1 0 ≤ 1
+type_fits t = grind arith
+
+level_fits : (r s t : Bool) → cond r 3 (cond s 2 (cond t 1 0)) ≤ 3
+level_fits r s t = grind arith
+
+-- depths that have the word of an ask are the ask
+decided : (depths ask : List ℕ) → length depths ≡ 4 → ((level : ℕ) → slice_index depths level ≤ 3)
+    → IsAsk ask → word_of Extended ask ≡ word_of Extended depths → depths ≡ ask
+decided depths ask size low is same =
+    let e : (slice_index depths 0 ≡ slice_index ask 0) × (slice_index depths 1 ≡ slice_index ask 1)
+    × (slice_index depths 2 ≡ slice_index ask 2) × (slice_index depths 3 ≡ slice_index ask 3) =
+    omega (
+      arith,
+      same,
+      low 0,
+      low 1,
+      low 2,
+      low 3,
+      most ask is 0,
+      most ask is 1,
+      most ask is 2,
+      most ask is 3,
+      type_fits (is_deep ask),
+      type_fits (is_deep depths),
+    ) in
+    sym (four depths size) ∙ rw (e.0, e.1, e.2, e.3) (four ask is.levels)
+
+-- so what is read of the word of some depths is these depths, where they are an ask
+pub ask_is : ((depths : List ℕ) → IsTrue (is_ask depths) ↔ IsAsk depths)
+    → ((format : Format) (height : ℕ) (ask : List ℕ) → IsAsk ask → highest_of ask ≤ height
+    → ask_of format height (word_of format ask) ≡ Ok ask)
+    → (depths : List ℕ) → length depths ≡ 4 → ((level : ℕ) → slice_index depths level ≤ 3)
+    → (word : ℕ) → word ≡ word_of Extended depths
+    → (r : Result (List ℕ) BadState) → r ≡ ask_of Extended 3 word
+    → IfOk r (λ ask. IsAsk ask) → IfOk r (λ ask. word_of Extended ask ≡ word)
+    → (t : Bool) → is_ask depths ≡ t → result_ok r ≡ cond t (Some depths) None
+ask_is test written depths size low word same r value shape back true e =
+    ap result_ok (value ∙ ap (ask_of Extended 3) same
+    ∙ written Extended 3 depths ((test depths).0 e) (level_fits _ _ _))
+ask_is test written depths size low word same (Err bad) value shape back false e = refl
+ask_is test written depths size low word same (Ok ask) value shape back false e =
+    let yes : is_ask depths ≡ true =
+    ap is_ask (decided depths ask size low shape (back ∙ same)) ∙ (test ask).1 shape in
+    cc

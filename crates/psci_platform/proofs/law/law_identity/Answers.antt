@@ -1,7 +1,7 @@
 -- With the identity of a board the platform is the firmware.
 use Rattle.psci_platform.proofs.Words.{BoardValue, IsBoard}
 use Rattle.psci_platform.proofs.OwnCalls.{Laws, after_same, answer_same, asked_same}
-use Rattle.psci_platform.proofs.OwnFaults.{faultless, first_boots}
+use Rattle.psci_platform.proofs.OwnCores.{faultless, first_boots}
 use Rattle.psci_platform.proofs.Unmoved.{laws_on}
 use Rattle.psci_platform.proofs.law.law_identity.Goals as goal
 
