@@ -1,6 +1,6 @@
 -- What the firmware is asked along the axes: in the other format, in the other mode, and where
 -- another core boots than the first one.
-use Rattle.std.proofs.Common.{◌≡◌, ◌∙◌, ℕ, [], ◌∷◌, ap, refl}
+use Rattle.std.proofs.Common.{◌≡◌, ◌∙◌, [], ◌∷◌, ap, refl}
 use Rattle.psci_abi.specs.declared.registers.Regs.{Regs}
 use Rattle.psci_fw.specs.Seen.{seen}
 use Rattle.psci_fw_spec.specs.declared.mode.SuspendMode.{SuspendMode}
@@ -9,13 +9,9 @@ use Rattle.psci_platform.specs.Calls.{regs_for}
 use Rattle.psci_platform.specs.Cores.{boot_place}
 use Rattle.psci_platform.specs.Described.{DescriptionValue}
 use Rattle.psci_platform.specs.Platforms.{PlatformFirmwareValue, PlatformValue, called}
-use Rattle.psci_platform.proofs.Machines.{all_functions, calling, mt8365, pine64_board}
+use Rattle.psci_platform.proofs.Machines.{all_functions, calling, mt8365, pine64_board, regs}
 use Rattle.psci_platform.proofs.Machines.{rk3399, rk3399_board, sda660, sda660_board}
 use Rattle.psci_abi.proofs.Tables.{◌⇒◌, Gives}
-
--- registers x0 to x3
-abbrev regs : ℕ → ℕ → ℕ → ℕ → Regs
-regs x0 x1 x2 x3 = record { x0 = x0; x1 = x1; x2 = x2; x3 = x3 }
 
 -- SDA660 in the order of its MPIDRs with every function: the core with MPIDR 0x100 boots
 abbrev by_mpidr : DescriptionValue

@@ -4,22 +4,9 @@ use Rattle.psci_platform.proofs.Words.{◌&&◌, ◌==◌, ◌∷◌, ◌≡◌,
 use Rattle.psci_platform.proofs.Words.{DescriptionValue, eqb-true, false, has_boot, has_same}
 use Rattle.psci_platform.proofs.Words.{height, is_mpidr, is_power_state, is_system, length}
 use Rattle.psci_platform.proofs.Words.{list_all, nat_lt, None, not, Option, PlatformFault, refl}
-use Rattle.psci_platform.proofs.Words.{rises, rules, Some, true, ℕ}
-use Rattle.psci_platform.specs.declared.fault.PlatformFault.TheVariants.{WrongCount}
+use Rattle.psci_platform.proofs.Words.{rises, Some, true, ℕ}
 use Rattle.psci_platform.specs.Faults.{boot_fault_of, fault_of, has_same_word, has_type, is_first}
 use Rattle.psci_platform.specs.Faults.{is_row_word, most_rows, row_fault_of, state_fault_of}
-
-counted : (n m : ℕ) (rest : Option PlatformFault) (t : Bool) → (n == m) ≡ t
-    → cond (not t) (Some WrongCount) rest ≡ None → n ≡ m
-counted n m rest true e none = eqb-true n m e
-counted n m rest false e none = search rules
-
--- there is one MPIDR for each core
-pub some_count : (d : DescriptionValue) (b : BoardValue) (boot : ℕ) → fault_of d b boot ≡ None
-    → length d.mpidrs ≡ cores b
-unfolding fault_of
-some_count d b boot none =
-    counted (length d.mpidrs) (cores b) _ (length d.mpidrs == cores b) refl none
 
 -- where nothing is said, what stands first is right, and nothing is said of the rest
 past : (t : Bool) (fault : PlatformFault) (rest : Option PlatformFault)
@@ -29,6 +16,7 @@ past false fault rest none = (refl, none)
 
 -- what each test of a description without a fault says
 pub record Passed (d : DescriptionValue) (b : BoardValue) (boot : ℕ) : Type 0 where
+  pub count : length d.mpidrs ≡ cores b
   pub same : has_same d.mpidrs ≡ false
   pub there : has_boot d.mpidrs boot ≡ true
   pub first : is_first d b boot ≡ true
@@ -55,6 +43,7 @@ passed d b boot none =
     let states = past (not (list_all (is_power_state d) d.rows)) _ _ types.1 in
     let system = past (d.functions.system_suspend && not (is_system d (height b))) _ _ states.1 in
     record {
+      count = eqb-true _ _ (not-false _ count.0);
       same = same.0;
       there = not-false _ there.0;
       first = not-false _ first.0;
@@ -63,3 +52,8 @@ passed d b boot none =
       states = not-false _ states.0;
       system = system.0;
     }
+
+-- there is one MPIDR for each core
+pub some_count : (d : DescriptionValue) (b : BoardValue) (boot : ℕ) → fault_of d b boot ≡ None
+    → length d.mpidrs ≡ cores b
+some_count d b boot none = (passed d b boot none).count

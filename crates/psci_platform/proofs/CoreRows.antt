@@ -3,12 +3,10 @@ use Rattle.std.proofs.Common.{◌≡◌, [], ◌∷◌, refl}
 use Rattle.std.specs.Prelude.{None}
 use Rattle.psci_board.specs.Board.{core_of, node_of}
 use Rattle.psci_platform.specs.Cores.{core_word, no_core}
-use Rattle.psci_platform.proofs.Machines.{calling}
-use Rattle.psci_platform.proofs.Machines.{hamoa, hamoa_board, hip07, hip07_board, mt8370}
-use Rattle.psci_platform.proofs.Machines.{mt8370_board}
-use Rattle.psci_platform.proofs.Machines.{rk3399, rk3399_board, sda660, sda660_board}
-use Rattle.psci_abi.proofs.Tables.{◌⇒◌, Gives}
+use Rattle.psci_platform.proofs.Machines.{calling, hamoa, hamoa_board, hip07, hip07_board, mt8370}
+use Rattle.psci_platform.proofs.Machines.{mt8370_board, rk3399, rk3399_board, sda660, sda660_board}
 use Rattle.psci_platform.proofs.Machines.{itself}
+use Rattle.psci_abi.proofs.Tables.{◌⇒◌, Gives}
 
 -- the word of the board for a word of a machine, where its first core boots
 words_of_cores : Gives itself

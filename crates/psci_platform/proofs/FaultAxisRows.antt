@@ -11,10 +11,9 @@ use Rattle.psci_platform.specs.declared.fault.PlatformFault.TheVariants as fault
 use Rattle.psci_platform.specs.declared.row.Row.{Row}
 use Rattle.psci_platform.specs.Described.{DescriptionValue}
 use Rattle.psci_platform.specs.Faults.{fault_of, is_mpidr, is_row_word}
-use Rattle.psci_platform.proofs.Machines.{all_functions, checking, down, fault, hip07}
-use Rattle.psci_platform.proofs.Machines.{hip07_board, level, pine64, pine64_board, rk3399, row}
+use Rattle.psci_platform.proofs.Machines.{all_functions, checking, down, fault, hip07, hip07_board}
+use Rattle.psci_platform.proofs.Machines.{level, pine64, pine64_board, rk3399, row, itself}
 use Rattle.psci_abi.proofs.Tables.{◌⇒◌, Gives}
-use Rattle.psci_platform.proofs.Machines.{itself}
 
 -- Bits ------------------------------------------------------------------------------------------
 

@@ -5,9 +5,8 @@ use Rattle.psci_platform.specs.declared.class.Class.TheVariants.{PowerDown}
 use Rattle.psci_platform.specs.declared.fault.PlatformFault.TheVariants as faults
 use Rattle.psci_platform.specs.Described.{DescriptionValue}
 use Rattle.psci_platform.specs.Faults.{fault_of}
-use Rattle.psci_platform.proofs.Machines.{checking, fault}
-use Rattle.psci_platform.proofs.Machines.{all_functions, down}
-use Rattle.psci_platform.proofs.Machines.{rk3399, rk3399_board, row}
+use Rattle.psci_platform.proofs.Machines.{checking, fault, all_functions, down, rk3399}
+use Rattle.psci_platform.proofs.Machines.{rk3399_board, row}
 use Rattle.psci_abi.proofs.Tables.{◌⇒◌, Gives}
 
 abbrev lacks : DescriptionValue

@@ -12,14 +12,12 @@ use Rattle.psci_platform.specs.declared.fault.PlatformFault.TheVariants as fault
 use Rattle.psci_platform.specs.declared.row.Row.{Row}
 use Rattle.psci_platform.specs.Described.{DescriptionValue}
 use Rattle.psci_platform.specs.Faults.{fault_of}
-use Rattle.psci_platform.proofs.Machines.{checking, fault}
-use Rattle.psci_platform.proofs.Machines.{all_functions, down, hamoa, hamoa_board, hip07}
-use Rattle.psci_platform.proofs.Machines.{hip07_board}
-use Rattle.psci_platform.proofs.Machines.{imx8mm, level, mt8365, mt8370, mt8370_board, pine64}
-use Rattle.psci_platform.proofs.Machines.{pine64_board, retained, rk3399, rk3399_board, row, sda660}
-use Rattle.psci_platform.proofs.Machines.{sda660_board, tegra186, tegra186_board}
+use Rattle.psci_platform.proofs.Machines.{checking, fault, all_functions, down, hamoa, hamoa_board}
+use Rattle.psci_platform.proofs.Machines.{hip07, hip07_board, imx8mm, level, mt8365, mt8370}
+use Rattle.psci_platform.proofs.Machines.{mt8370_board, pine64, pine64_board, retained, rk3399}
+use Rattle.psci_platform.proofs.Machines.{rk3399_board, row, sda660, sda660_board, tegra186}
+use Rattle.psci_platform.proofs.Machines.{tegra186_board, itself}
 use Rattle.psci_abi.proofs.Tables.{◌⇒◌, Gives}
-use Rattle.psci_platform.proofs.Machines.{itself}
 
 -- Real machines have none -----------------------------------------------------------------------
 

@@ -3,8 +3,7 @@ use Rattle.std.proofs.Common.{◌≡◌, ℕ, List, [], ◌∷◌, refl, map, le
 use Rattle.psci_abi.specs.Calls.{request_of}
 use Rattle.psci_abi.specs.declared.registers.Regs.{Regs}
 use Rattle.psci_abi.specs.declared.request.Request.{Request}
-use Rattle.psci_abi.specs.declared.request.Request.TheVariants.{CpuOn, CpuSuspend}
-use Rattle.psci_abi.specs.declared.request.Request.TheVariants.{SystemSuspend}
+use Rattle.psci_abi.specs.declared.request.Request.TheVariants.{CpuOn, CpuSuspend, SystemSuspend}
 use Rattle.psci_abi.specs.declared.format.Format.{Format}
 use Rattle.psci_abi.specs.declared.format.Format.TheVariants.{Original, Extended}
 use Rattle.psci_board.specs.Board.{BoardValue}
@@ -13,7 +12,7 @@ use Rattle.psci_platform.specs.declared.asked.Asked.TheVariants.{Nothing, States
 use Rattle.psci_platform.specs.Calls.{regs_for}
 use Rattle.psci_platform.specs.Described.{DescriptionValue}
 use Rattle.psci_platform.specs.Identity.{asks_up_to, depths_at, identity, own_asked}
-use Rattle.psci_platform.proofs.Machines.{board, calling, row}
+use Rattle.psci_platform.proofs.Machines.{board, calling, row, regs}
 use Rattle.psci_abi.proofs.Tables.{◌⇒◌, Gives}
 
 -- What an identity has --------------------------------------------------------------------------
@@ -49,10 +48,6 @@ affinity_words : (identity small).mpidrs ≡ 0 ∷ 1 ∷ 0x100 ∷ 0x101 ∷ []
 affinity_words = refl
 
 -- What the firmware is asked --------------------------------------------------------------------
-
--- registers x0 to x3
-abbrev regs : ℕ → ℕ → ℕ → ℕ → Regs
-regs x0 x1 x2 x3 = record { x0 = x0; x1 = x1; x2 = x2; x3 = x3 }
 
 -- the request that the firmware reads
 abbrev asked : DescriptionValue → Regs → Request

@@ -1,27 +1,21 @@
 pub mod Addresses
 pub mod Agreeing
-pub mod Asks
-pub mod Booting
 pub mod ByWord
 mod CallAxisRows
 mod CallRows
 pub mod Checked
 mod CoreRows
-pub mod Counted
 mod FaultAxisRows
 mod FaultOrderRows
 mod FaultRows
 mod IdentityRows
-pub mod KeptCalls
 pub mod Machines
 pub mod Missing
 mod NameRows
 pub mod Named
 pub mod Naming
-pub mod OwnAsked
 pub mod OwnCalls
 pub mod OwnCores
-pub mod OwnFaults
 pub mod OwnStates
 pub mod Reading
 pub mod Requests

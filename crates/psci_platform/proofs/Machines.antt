@@ -5,6 +5,7 @@ use Rattle.std.specs.Prelude.{Option}
 use Rattle.psci_platform.proofs.Words.{◌++◌, ◌∷◌, [], BoardValue, DescriptionValue, Extended, false}
 use Rattle.psci_platform.proofs.Words.{Format, Functions, List, Original, PlatformFault, replicate}
 use Rattle.psci_platform.proofs.Words.{Row, true, ℕ}
+use Rattle.psci_abi.specs.declared.registers.Regs.{Regs}
 use Rattle.psci_board.specs.Board.{up}
 use Rattle.psci_platform.specs.declared.class.Class.{Class}
 use Rattle.psci_platform.specs.declared.class.Class.TheVariants.{Running, Retention, PowerDown}
@@ -26,6 +27,10 @@ calling = tt
 -- what a table says of things that are each written out
 abbrev pub itself : {A : Type 0} → A → A
 itself a = a
+
+-- registers x0 to x3
+abbrev pub regs : ℕ → ℕ → ℕ → ℕ → Regs
+regs x0 x1 x2 x3 = record { x0 = x0; x1 = x1; x2 = x2; x3 = x3 }
 
 -- a board of these levels and this format
 abbrev pub board : List (List ℕ) → Format → BoardValue

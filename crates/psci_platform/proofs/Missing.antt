@@ -1,25 +1,17 @@
 -- Words that name nothing.
 use Rattle.psci_platform.proofs.Words.{◌*◌, ◌/◌, ◌<◌, ◌^◌, ◌∙◌, ◌≡◌, ◌≤◌, address, arith, ask_of}
-use Rattle.psci_platform.proofs.Words.{BoardValue, Bool, cond, core_of, DescriptionValue, Err}
-use Rattle.psci_platform.proofs.Words.{Extended, false, Format, height, is_there, IsBoard, no_core}
-use Rattle.psci_platform.proofs.Words.{no_state, node_of, None, Option, Original, refl, Regs}
-use Rattle.psci_platform.proofs.Words.{request_of, Some, subst, suc, SuspendMode, sym, true}
-use Rattle.psci_platform.proofs.Words.{WordLaws, ℕ}
+use Rattle.psci_platform.proofs.Words.{BoardValue, core_of, DescriptionValue, Err, Extended, false}
+use Rattle.psci_platform.proofs.Words.{Format, height, is_there, IsBoard, no_core, no_state}
+use Rattle.psci_platform.proofs.Words.{node_of, None, Option, Original, refl, Regs, request_of}
+use Rattle.psci_platform.proofs.Words.{Some, subst, suc, SuspendMode, sym, WordLaws, ℕ}
 use Rattle.psci_abi.specs.declared.request.Request.TheVariants.{Unknown}
 use Rattle.psci_platform.specs.Calls.{regs_for}
-
--- a function word of 0 is unknown, whatever the other registers
-unknown_if : (t : Bool) (r s : Regs) → t ≡ false
-    → request_of (cond t r (record s { x0 = 0 })) ≡ Unknown
-unknown_if true r s e = cc
-unknown_if false r s e = refl
 
 pub no_function_is_known : (d : DescriptionValue) (b : BoardValue) (boot : ℕ)
     (mode : SuspendMode) (regs : Regs) → is_there d.functions (request_of regs) ≡ false
     → request_of (regs_for d b boot mode regs) ≡ Unknown
 unfolding regs_for
-no_function_is_known d b boot mode regs e =
-    unknown_if (is_there d.functions (request_of regs)) _ regs e
+no_function_is_known d b boot mode regs e = rw e refl
 
 pub no_power_state : (format : Format) (height : ℕ)
     → ask_of format height no_state ≡ Err (record {})

@@ -1,27 +1,28 @@
--- A call of the identity of a board is answered as the firmware answers it.
-use Rattle.psci_platform.proofs.Words.{◌<◌, ◌^◌, ◌∙◌, ◌≡◌, ap, argument, arith, BadState}
-use Rattle.psci_platform.proofs.Words.{BoardValue, Core, core_of, core_word, every_function}
-use Rattle.psci_platform.proofs.Words.{first_argument, function_of, identity, if◌then◌else◌}
-use Rattle.psci_platform.proofs.Words.{is_there, List, low_half, Node, node_of, Option, refl, Regs}
-use Rattle.psci_platform.proofs.Words.{Request, request_of, Result, Some, states_of, subst}
+-- A call of the identity of a board is answered as the firmware answers it, and what is told beside
+-- are the depths that the firmware is asked for.
+use Rattle.std.specs.Result.{result_ok}
+use Rattle.psci_platform.proofs.Words.{◌<◌, ◌^◌, ◌∙◌, ◌≡◌, ap, argument, arith, ask_of, asked_by}
+use Rattle.psci_platform.proofs.Words.{asks_states, BadState, BoardValue, core_of, core_word, Err}
+use Rattle.psci_platform.proofs.Words.{every_function, first_argument, function_of, height}
+use Rattle.psci_platform.proofs.Words.{identity, is_there, List, low_half, node_of, Ok, Option}
+use Rattle.psci_platform.proofs.Words.{refl, Regs, Request, request_of, Result, states_of, subst}
 use Rattle.psci_platform.proofs.Words.{SuspendMode, sym, true, word_for, ℕ}
 use Rattle.psci_messages.specs.Message.{MessageValue}
 use Rattle.psci_fw_spec.specs.declared.call.FwCall.TheVariants.{Smc}
 use Rattle.psci_fw_spec.specs.declared.outcome.Act.{Act}
 use Rattle.psci_fw_spec.specs.declared.reply.FwReply.{FwReply}
 use Rattle.psci_fw_spec.specs.After.{after, change}
-use Rattle.psci_fw_spec.specs.AffinityInfo.{affinity_of}
 use Rattle.psci_fw_spec.specs.Answer.{answer, reply_or}
 use Rattle.psci_fw_spec.specs.Calls.{call_fault, outcome_of}
-use Rattle.psci_fw_spec.specs.CpuOn.{start_outcome, target_among, target_of}
-use Rattle.psci_fw_spec.specs.CpuSuspend.{ask_named, suspend_asked}
-use Rattle.psci_fw_spec.specs.Effects.{Effect, Rests, effect_of, function_effect, rest_named}
-use Rattle.psci_fw_spec.specs.NodeHwState.{hw_state_of}
-use Rattle.psci_fw_spec.specs.Outcomes.{returns, stops}
+use Rattle.psci_fw_spec.specs.CpuOn.{target_of}
+use Rattle.psci_fw_spec.specs.CpuSuspend.{ask_named}
+use Rattle.psci_fw_spec.specs.Effects.{Effect, effect_of, function_effect}
 use Rattle.psci_fw_spec.specs.Values.{Values}
-use Rattle.psci_platform.specs.Calls.{feature_word, regs_for}
-use Rattle.psci_platform.proofs.OwnCores.{BoardLaws, core_same, node_same}
-use Rattle.psci_platform.proofs.OwnStates.{StateLaws, state_same}
+use Rattle.psci_platform.specs.Calls.{asked_for, feature_word, regs_for}
+use Rattle.psci_platform.specs.Identity.{asks_depths, own_asked}
+use Rattle.psci_platform.proofs.OwnCores.{core_same, node_same}
+use Rattle.psci_platform.proofs.OwnStates.{StateLaws, state_same, states_are}
+use Rattle.psci_platform.proofs.Unmoved.{BoardLaws}
 use Rattle.psci_platform.proofs.Requests.{half_of, request_with, short, with_first}
 use Rattle.psci_abi.specs.declared.request.Request.TheVariants as requests
 use Rattle.psci_fw_spec.specs.declared.outcome.Act.TheVariants as acts
@@ -50,28 +51,33 @@ abbrev told : BoardValue → SuspendMode → Regs → Request → Request
 told b mode regs r = with_first (argument regs (first_argument (identity b) b 0 mode regs.x1 r)) r
 
 -- the word of a request
-abbrev pub word_in : Request → ℕ
+abbrev word_in : Request → ℕ
 word_in (requests.CpuSuspend state entry_point context) = state
 word_in (requests.Features word) = word
 word_in (requests.SystemReset2 reset_type cookie) = reset_type
 word_in r = 0
 
-pub half_small : (x : ℕ) → low_half x < 2 ^ 32
-half_small x = omega arith
-
 -- every function is there
-pub all_there : (r : Request) → is_there every_function r ≡ true
+all_there : (r : Request) → is_there every_function r ≡ true
 all_there requests.Version = refl
 all_there r = refl
 
 feature_same : (b : BoardValue) (word : ℕ) → feature_word (identity b) word ≡ word
 feature_same b word = rw (all_there (function_of word 0 0 0)) refl
 
+-- a domain is named alike
+node_alike : (b : BoardValue) (regs : Regs) (target level : ℕ) → Laws b
+    → node_of b (argument regs (core_word (identity b) b 0 target level)) level
+    ≡ node_of b target level
+node_alike b regs target level laws =
+    let w = core_word (identity b) b 0 target level in
+    let same = node_same b target level laws.tree in
+    ap (λ (x : ℕ). node_of b x level) (short regs w same.0) ∙ same.1
+
 alike_at : (b : BoardValue) (mode : SuspendMode) (regs : Regs) (r : Request) → Laws b
     → with_first (argument regs regs.x1) r ≡ r → Alike b r (told b mode regs r)
 alike_at b mode regs (requests.CpuSuspend state e c) laws own =
-    let is : low_half (argument regs regs.x1) ≡ state = ap word_in own in
-    let small : state < 2 ^ 32 = omega (arith, is, half_small (argument regs regs.x1)) in
+    let small : state < 2 ^ 32 = omega (arith, ap word_in own) in
     let w = word_for (identity b) b.format (states_of (identity b) mode state) in
     let same = state_same b mode state laws.states small in
     (low_half (argument regs w), ap (ask_named b) (half_of regs w same.0) ∙ same.1, refl)
@@ -80,23 +86,15 @@ alike_at b mode regs (requests.CpuOn target e c) laws own =
     let same = node_same b target 0 laws.tree in
     (argument regs w, ap (core_of b) (short regs w same.0) ∙ core_same b target laws.tree, refl)
 alike_at b mode regs (requests.AffinityInfo level target) laws own =
-    let w = core_word (identity b) b 0 target level in
-    let same = node_same b target level laws.tree in
-    (argument regs w, ap (λ (x : ℕ). node_of b x level) (short regs w same.0) ∙ same.1, refl)
+    (_, node_alike b regs target level laws, refl)
 alike_at b mode regs (requests.Features word) laws own =
-    let is : low_half (argument regs regs.x1) ≡ word = ap word_in own in
-    let small : word < 2 ^ 32 = omega (arith, is, half_small (argument regs regs.x1)) in
-    let w = first_argument (identity b) b 0 mode regs.x1 (requests.Features word) in
-    let same : w ≡ word = feature_same b word in
-    ap (λ (x : ℕ). requests.Features (low_half (argument regs x))) same
+    let small : word < 2 ^ 32 = omega (arith, ap word_in own) in
+    ap (λ (x : ℕ). requests.Features (low_half (argument regs x))) (feature_same b word)
     ∙ ap requests.Features (half_of regs word small)
 alike_at b mode regs (requests.NodeHwState level target) laws own =
-    let w = core_word (identity b) b 0 target level in
-    let same = node_same b target level laws.tree in
-    (argument regs w, ap (λ (x : ℕ). node_of b x level) (short regs w same.0) ∙ same.1, refl)
+    (_, node_alike b regs target level laws, refl)
 alike_at b mode regs (requests.SystemReset2 t c) laws own =
-    let is : low_half (argument regs regs.x1) ≡ t = ap word_in own in
-    let small : t < 2 ^ 32 = omega (arith, is, half_small (argument regs regs.x1)) in
+    let small : t < 2 ^ 32 = omega (arith, ap word_in own) in
     ap (λ (x : ℕ). requests.SystemReset2 x c) (half_of regs t small)
 alike_at b mode regs r laws own = own
 
@@ -116,20 +114,10 @@ call_alike b mode regs laws =
 outcome_alike : (b : BoardValue) (v : Values) (c : ℕ) (r q : Request) → Alike b r q
     → outcome_of b v c q ≡ outcome_of b v c r
 unfolding outcome_of target_of
-outcome_alike b v c (requests.CpuSuspend state e x) q same =
-    ap (outcome_of b v c) same.2
-    ∙ ap (λ (a : Result (List ℕ) BadState). if v.halting then stops else suspend_asked b v c e a)
-    same.1
-outcome_alike b v c (requests.CpuOn target e x) q same =
-    ap (outcome_of b v c) same.2
-    ∙ ap (λ (o : Option Core). if v.halting then stops
-    else start_outcome v (target_among b v e o)) same.1
-outcome_alike b v c (requests.AffinityInfo level target) q same =
-    ap (outcome_of b v c) same.2
-    ∙ ap (λ (o : Option Node). if v.halting then stops else returns (affinity_of b v o)) same.1
-outcome_alike b v c (requests.NodeHwState level target) q same =
-    ap (outcome_of b v c) same.2
-    ∙ ap (λ (o : Option Node). if v.halting then stops else returns (hw_state_of v o)) same.1
+outcome_alike b v c (requests.CpuSuspend state e x) q same = rw (same.2, same.1)
+outcome_alike b v c (requests.CpuOn target e x) q same = rw (same.2, same.1)
+outcome_alike b v c (requests.AffinityInfo level target) q same = rw (same.2, same.1)
+outcome_alike b v c (requests.NodeHwState level target) q same = rw (same.2, same.1)
 outcome_alike b v c r q same = ap (outcome_of b v c) same
 
 pub answer_same : (b : BoardValue) (v : Values) (c : ℕ) (regs : Regs) → Laws b
@@ -143,52 +131,13 @@ answer_same b v c regs laws =
 -- What is kept ----------------------------------------------------------------------------------
 
 -- a function that ended so comes down to the same
-suspend_effect : (b : BoardValue) (c w state e x : ℕ) (act : Act) (sent : Option MessageValue)
-    → ask_named b w ≡ ask_named b state
-    → function_effect b c (requests.CpuSuspend w e x) act sent
-    ≡ function_effect b c (requests.CpuSuspend state e x) act sent
-suspend_effect b c w state e x acts.Stop (Some m) same =
-    ap (λ (a : Result (List ℕ) BadState).
-    Rests c (rest_named (record { address = e; context = x }) a) m) same
-suspend_effect b c w state e x (acts.Return code) (Some m) same = refl
-suspend_effect b c w state e x act sent same = refl
-
-on_effect : (b : BoardValue) (c w target e x : ℕ) (act : Act) (sent : Option MessageValue)
-    → function_effect b c (requests.CpuOn w e x) act sent
-    ≡ function_effect b c (requests.CpuOn target e x) act sent
-on_effect b c w target e x acts.Stop (Some m) = refl
-on_effect b c w target e x (acts.Return code) (Some m) = refl
-on_effect b c w target e x act sent = refl
-
-info_effect : (b : BoardValue) (c w target level : ℕ) (act : Act) (sent : Option MessageValue)
-    → function_effect b c (requests.AffinityInfo level w) act sent
-    ≡ function_effect b c (requests.AffinityInfo level target) act sent
-info_effect b c w target level acts.Stop (Some m) = refl
-info_effect b c w target level (acts.Return code) (Some m) = refl
-info_effect b c w target level act sent = refl
-
-hw_effect : (b : BoardValue) (c w target level : ℕ) (act : Act) (sent : Option MessageValue)
-    → function_effect b c (requests.NodeHwState level w) act sent
-    ≡ function_effect b c (requests.NodeHwState level target) act sent
-hw_effect b c w target level acts.Stop (Some m) = refl
-hw_effect b c w target level (acts.Return code) (Some m) = refl
-hw_effect b c w target level act sent = refl
-
 effect_alike : (b : BoardValue) (c : ℕ) (r q : Request) (act : Act) (sent : Option MessageValue)
     → Alike b r q → function_effect b c q act sent ≡ function_effect b c r act sent
-effect_alike b c (requests.CpuSuspend state e x) q act sent same =
-    ap (λ (p : Request). function_effect b c p act sent) same.2
-    ∙ suspend_effect b c same.0 state e x act sent same.1
-effect_alike b c (requests.CpuOn target e x) q act sent same =
-    ap (λ (p : Request). function_effect b c p act sent) same.2
-    ∙ on_effect b c same.0 target e x act sent
-effect_alike b c (requests.AffinityInfo level target) q act sent same =
-    ap (λ (p : Request). function_effect b c p act sent) same.2
-    ∙ info_effect b c same.0 target level act sent
-effect_alike b c (requests.NodeHwState level target) q act sent same =
-    ap (λ (p : Request). function_effect b c p act sent) same.2
-    ∙ hw_effect b c same.0 target level act sent
-effect_alike b c r q act sent same = ap (λ (p : Request). function_effect b c p act sent) same
+effect_alike b c (requests.CpuSuspend state e x) q act sent same = rw same.2 (grind arith)
+effect_alike b c (requests.CpuOn target e x) q act sent same = rw same.2 (grind arith)
+effect_alike b c (requests.AffinityInfo level target) q act sent same = rw same.2 (grind arith)
+effect_alike b c (requests.NodeHwState level target) q act sent same = rw same.2 (grind arith)
+effect_alike b c r q act sent same = rw same refl
 
 effect_same : (b : BoardValue) (c : ℕ) (regs other : Regs) (reply : FwReply)
     → Alike b (request_of regs) (request_of other)
@@ -206,3 +155,25 @@ unfolding after
 after_same b c regs mode reply v laws =
     ap (λ (e : Effect). change b e v)
     (effect_same b c regs (regs_for (identity b) b 0 mode regs) reply (call_alike b mode regs laws))
+
+-- What is told beside ---------------------------------------------------------------------------
+
+-- the depths that the firmware is asked for, if it is asked for some
+depths_told : (r : Result (List ℕ) BadState) → asks_states (result_ok r) ≡ asks_depths r
+depths_told (Ok ask) = refl
+depths_told (Err bad) = refl
+
+asked_at : (b : BoardValue) (mode : SuspendMode) (regs : Regs) (r : Request) → Laws b
+    → with_first (argument regs regs.x1) r ≡ r → asked_by (identity b) mode r ≡ own_asked b r
+asked_at b mode regs (requests.CpuSuspend state e c) laws own =
+    let small : state < 2 ^ 32 = omega (arith, ap word_in own) in
+    ap asks_states (states_are b mode state laws.states small)
+    ∙ depths_told (ask_of b.format (height b) state)
+asked_at b mode regs r laws own = refl
+
+pub asked_same : (b : BoardValue) (mode : SuspendMode) (regs : Regs) → Laws b
+    → asked_for (identity b) mode regs ≡ own_asked b (request_of regs)
+unfolding asked_for
+asked_same b mode regs laws =
+    let r = request_of regs in
+    rw (all_there r) (asked_at b mode regs r laws (sym (request_with regs regs.x1)))

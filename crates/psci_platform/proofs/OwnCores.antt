@@ -1,32 +1,25 @@
--- An affinity word names the same in the identity of a board.
+-- An affinity word names the same in the identity of a board, which has no fault.
 use Rattle.std.proofs.lemmas.List.FromFn.{get_or-map-range_with_len, length-map-range_with_len}
 use Rattle.std.proofs.lemmas.List.Sums.{fails_before_first}
-use Rattle.psci_platform.proofs.Words.{◌*◌, ◌/◌, ◌<◌, ◌==◌, ◌^◌, ◌∙◌, ◌≡◌, ◌≤◌, address, ap, arith}
-use Rattle.psci_platform.proofs.Words.{BoardValue, Bool, cases_lt, Core, core_named, core_of}
-use Rattle.psci_platform.proofs.Words.{core_word, cores, eq-eqb, eqb-true, height, identity, inl}
-use Rattle.psci_platform.proofs.Words.{inr, IsBoard, le-leb, length, List, lt-leb, lt-ltb, map}
-use Rattle.psci_platform.proofs.Words.{Node, node_of, None, none-some, Option, option_map}
-use Rattle.psci_platform.proofs.Words.{ParentLaws, PathLaws, position, position-Some}
-use Rattle.psci_platform.proofs.Words.{position_or_len, range_with_len, refl, same_Some, SizeLaws}
-use Rattle.psci_platform.proofs.Words.{slice_index, Some, swap_for, sym, true, up, word_if}
-use Rattle.psci_platform.proofs.Words.{WordLaws, ℕ}
-use Rattle.psci_platform.proofs.Missing.{no_node_is_named}
-use Rattle.psci_platform.proofs.Unmoved.{own_place}
-use Rattle.psci_platform.proofs.Unmoved as unmoved
-
--- What the proofs stand on.
-pub record BoardLaws (b : BoardValue) : Type 0 where
-  pub board : IsBoard b
-  pub tree : unmoved.Laws b
-  pub words : WordLaws b
-
-pub laws_on : (b : BoardValue) → IsBoard b → SizeLaws b → PathLaws b → ParentLaws b → WordLaws b
-    → BoardLaws b
-laws_on b board sizes paths parents words = record {
-  board = board;
-  tree = record { sizes = sizes; paths = paths; parents = parents };
-  words = words;
-}
+use Rattle.psci_platform.proofs.Words.{◌*◌, ◌+◌, ◌/◌, ◌<◌, ◌==◌, ◌^◌, ◌∙◌, ◌∷◌, ◌≡◌, ◌≤◌, []}
+use Rattle.psci_platform.proofs.Words.{address, ap, arith, BoardValue, Bool, boot_place, Core}
+use Rattle.psci_platform.proofs.Words.{core_named, core_of, core_word, cores, count_by, deepest_of}
+use Rattle.psci_platform.proofs.Words.{DescriptionValue, eq-eqb, every_function, Extended, false}
+use Rattle.psci_platform.proofs.Words.{Format, has_boot, has_same, height, identity, inl, inr}
+use Rattle.psci_platform.proofs.Words.{is_mpidr, le-leb, le-ltb, length, List, list_all}
+use Rattle.psci_platform.proofs.Words.{list_any_at, map, nat_lt, nat_tests, Node, node_of, None}
+use Rattle.psci_platform.proofs.Words.{none-some, Option, option_map, Original, position}
+use Rattle.psci_platform.proofs.Words.{range_with_len, refl, row_asking, same_Some, slice_index}
+use Rattle.psci_platform.proofs.Words.{Some, suc, swap_for, sym, true, up, zero, ℕ}
+use Rattle.psci_platform.proofs.Named.{found, core_is_named, counted_cons, place_is}
+use Rattle.psci_platform.proofs.Swapping.{at_zero, node_is, word_short}
+use Rattle.psci_platform.proofs.Unmoved.{BoardLaws, own_place}
+use Rattle.std.proofs.lemmas.Bool.{cases_eq, ne_eqb}
+use Rattle.std.proofs.lemmas.List.Folds.{list_all-map, list_any_none}
+use Rattle.psci_platform.specs.Faults.{boot_fault_of, fault_of, never_falls, row_fault_of}
+use Rattle.psci_platform.specs.Faults.{state_fault_of}
+use Rattle.psci_platform.specs.Identity.{asks_up_to, own_classes}
+use Rattle.psci_platform.proofs.Swapped.{all_of}
 
 -- the affinity words of the cores
 abbrev pub own_words : BoardValue → List ℕ
@@ -41,14 +34,7 @@ own_word b c inside = get_or-map-range_with_len (address b 0) 0 (cores b) c c 0 
 -- nothing passes where nothing is found
 none_at : (p : ℕ → Bool) (xs : List ℕ) (k : ℕ) → position p xs ≡ None → k < length xs
     → p (slice_index xs k) ≡ true → ⊥
-none_at p xs k none below passes = elim (cases_lt (position_or_len p xs) (length xs)) [
-  | inl h ↦
-      none-some (position_or_len p xs)
-      (sym (rw (lt-ltb (position_or_len p xs) (length xs) h) at none))
-  | inr h ↦
-      let fails = fails_before_first p xs k 0 (omega (arith, h, below)) in
-      cc
-]
+none_at p xs k none below passes = grind (arith, nat_tests, fails_before_first p xs k 0)
 
 -- the fields of a core at a level and above are those of its domain
 own_fields : (b : BoardValue) (c l : ℕ) → BoardLaws b → c < cores b → l ≤ height b
@@ -83,73 +69,42 @@ none_named b word l (Some n) laws none e =
     (ap (agrees l word) (own_word b core.0 core.1) ∙ passes))
 
 -- a core that has the fields of a word: the word names its domain
-some_named : (b : BoardValue) (word l c : ℕ) → BoardLaws b → l ≤ height b
-    → position (agrees l word) (own_words b) ≡ Some c
-    → (c < cores b) × (node_of b word l ≡ node_of b (address b 0 c) l)
-some_named b word l c laws low e =
-    let at = position-Some (agrees l word) (own_words b) c 0 e in
-    let inside : c < cores b = omega (arith, own_count b, at.0) in
-    let passes : agrees l word (address b 0 c) ≡ true =
-    ap (agrees l word) (sym (own_word b c inside)) ∙ at.1 in
-    let same : address b 0 c / 2 ^ (8 * l) ≡ word / 2 ^ (8 * l) = eqb-true _ _ passes in
-    let n : Node = record { level = l; place = up b l c } in
-    let named : node_of b word l ≡ Some n =
-    laws.words.named word n
-    (record { level = low; place = laws.tree.paths.inside c l inside low })
-    (own_fields b c l laws inside low ∙ same) in
-    (inside, named ∙ sym (laws.words.path c l inside low))
+named_own : (b : BoardValue) (word l : ℕ) (o : Option ℕ) → BoardLaws b
+    → core_named (identity b) b word l ≡ o
+    → node_of b word l ≡ option_map (λ c. record { level = l; place = up b l c }) o
+named_own b word l None laws none = none_named b word l (node_of b word l) laws none refl
+named_own b word l (Some c) laws e =
+    let at = found (identity b) b word l c e in
+    let inside : c < cores b = omega (arith, own_count b, at.inside) in
+    laws.words.named word (record { level = l; place = up b l c })
+    (record { level = at.low; place = laws.tree.paths.inside c l inside at.low })
+    (own_fields b c l laws inside at.low
+    ∙ ap (λ (x : ℕ). x / 2 ^ (8 * l)) (sym (own_word b c inside)) ∙ at.fields)
 
--- the word for a core, where core 0 boots
-abbrev plain : BoardValue → Option ℕ → ℕ
-plain b o = word_if b (option_map (swap_for b 0 0) o)
-
--- a word of 32 bits that names the same node
-abbrev Same : BoardValue → ℕ → ℕ → ℕ → Type 0
-Same b l w word = (w < 2 ^ 32) × (node_of b w l ≡ node_of b word l)
-
-same_none : (b : BoardValue) (word l : ℕ) → BoardLaws b
-    → core_named (identity b) b word l ≡ None → Same b l (plain b None) word
-same_none b word l laws none = (
-  omega arith,
-  no_node_is_named b laws.board laws.words l
-      ∙ sym (none_named b word l (node_of b word l) laws none refl),
-)
-
-same_some : (b : BoardValue) (word l c : ℕ) → BoardLaws b → l ≤ height b
-    → position (agrees l word) (own_words b) ≡ Some c → Same b l (plain b (Some c)) word
-same_some b word l c laws low e =
-    let named = some_named b word l c laws low e in
-    let is : plain b (Some c) ≡ address b 0 c = ap (address b 0) (own_place b 0 c laws.tree) in (
-      omega (arith, is, laws.words.short c named.0),
-      ap (λ (w : ℕ). node_of b w l) is ∙ sym named.1,
-    )
-
-same_at : (b : BoardValue) (word l : ℕ) (o : Option ℕ) → BoardLaws b → l ≤ height b
-    → position (agrees l word) (own_words b) ≡ o → Same b l (plain b o) word
-same_at b word l (Some c) laws low e = same_some b word l c laws low e
-same_at b word l None laws low e =
-    same_none b word l laws (rw (le-leb l (height b) low) e)
+none_moved : (b : BoardValue) (o : Option ℕ) → BoardLaws b → option_map (swap_for b 0 0) o ≡ o
+none_moved b None laws = refl
+none_moved b (Some c) laws = rw (own_place b 0 c laws.tree) refl
 
 -- the word that the firmware is asked with for a word has 32 bits and names the same node
 pub node_same : (b : BoardValue) (word l : ℕ) → BoardLaws b
-    → Same b l (core_word (identity b) b 0 word l) word
-node_same b word l laws = elim (cases_lt (height b) l) [
-  | inl high ↦
-      let none : core_named (identity b) b word l ≡ None =
-      rw (lt-leb l (height b) high) refl in
-      rw none (same_none b word l laws none)
-  | inr low ↦
-      rw (le-leb l (height b) low)
-      (same_at b word l (position (agrees l word) (own_words b)) laws low refl)
-]
+    → (core_word (identity b) b 0 word l < 2 ^ 32)
+    × (node_of b (core_word (identity b) b 0 word l) l ≡ node_of b word l)
+node_same b word l laws =
+    let own = at_zero (identity b) b laws (own_count b) in (
+      word_short (identity b) b 0 own word l,
+      node_is (identity b) b 0 own word l
+          ∙ ap (option_map (λ c. record { level = l; place = up b l c }))
+          (none_moved b (core_named (identity b) b word l) laws)
+          ∙ sym (named_own b word l (core_named (identity b) b word l) laws refl),
+    )
 
 -- the node of a core tells which it is
 one_core : (o p : Option Core)
     → ◌≡◌ {A = Option Node} (option_map (λ c. record { level = 0; place = c.number }) o)
     (option_map (λ c. record { level = 0; place = c.number }) p) → o ≡ p
 one_core None None e = refl
-one_core None (Some d) e = absurd (none-some (record { level = 0; place = d.number }) e)
-one_core (Some c) None e = absurd (none-some (record { level = 0; place = c.number }) (sym e))
+one_core None (Some d) e = absurd (none-some _ e)
+one_core (Some c) None e = absurd (none-some _ (sym e))
 one_core (Some c) (Some d) e =
     ap (λ (n : Node). let core : Option Core = Some (record { number = n.place }) in core)
     (same_Some _ _ e)
@@ -160,3 +115,125 @@ core_same b word laws =
     one_core (core_of b (core_word (identity b) b 0 word 0)) (core_of b word)
     (sym (laws.words.core_node (core_word (identity b) b 0 word 0))
     ∙ ((node_same b word 0 laws).1 ∙ laws.words.core_node word))
+
+-- No fault ----------------------------------------------------------------------------------------
+
+-- Rows and what follows them --------------------------------------------------------------------
+
+-- the identity of a board of this format and height, whatever the MPIDRs
+abbrev own : List ℕ → Format → ℕ → DescriptionValue
+own mpidrs format height = record {
+  mpidrs = mpidrs;
+  levels = height;
+  classes = own_classes ∷ own_classes ∷ own_classes ∷ own_classes ∷ [];
+  rows = map (row_asking format) (asks_up_to height);
+  system = deepest_of height;
+  functions = every_function;
+  resets = [];
+}
+
+rows_fine : (mpidrs : List ℕ) (b : BoardValue) (format : Format) (levels : List (List ℕ))
+    → 0 < length levels → length levels ≤ 3
+    → row_fault_of (own mpidrs format (length levels))
+    (record b { levels = levels; format = format }) ≡ None
+unfolding row_fault_of state_fault_of asks_up_to
+rows_fine mpidrs b format [] low high = absurd (omega (arith, low))
+rows_fine mpidrs b Original (x ∷ []) low high = refl
+rows_fine mpidrs b Extended (x ∷ []) low high = refl
+rows_fine mpidrs b Original (x ∷ y ∷ []) low high = refl
+rows_fine mpidrs b Extended (x ∷ y ∷ []) low high = refl
+rows_fine mpidrs b Original (x ∷ y ∷ z ∷ []) low high = refl
+rows_fine mpidrs b Extended (x ∷ y ∷ z ∷ []) low high = refl
+rows_fine mpidrs b format (x ∷ y ∷ z ∷ w ∷ more) low high = absurd (omega (arith, high))
+
+-- MPIDRs ----------------------------------------------------------------------------------------
+
+is_short : (x : ℕ) → x < 2 ^ 24 → is_mpidr x ≡ true
+is_short x small = grind (arith, nat_tests)
+
+are_short : (b : BoardValue) → BoardLaws b → list_all is_mpidr (own_words b) ≡ true
+are_short b laws =
+    list_all-map is_mpidr (address b 0) (range_with_len 0 (cores b))
+    ∙ all_of (λ c. is_mpidr (address b 0 c)) 0 (cores b)
+    (λ c low high. is_short (address b 0 c) (laws.words.short c (omega (arith, high))))
+
+-- a number that f does not give is counted nowhere
+never : (f : ℕ → ℕ) (x n a : ℕ) → ((i : ℕ) → a ≤ i → i < a + n → (f i == x) ≡ false)
+    → count_by (λ y. y == x) (map f (range_with_len a n)) ≡ 0
+never f x zero a apart = refl
+never f x (suc n) a apart =
+    grind (
+      arith,
+      apart a (omega arith) (omega arith),
+      counted_cons (λ y. y == x) (f a) (map f (range_with_len (a + 1) n)),
+      never f x n (a + 1) (λ i low high. apart i (omega (arith, low)) (omega (arith, high))),
+    )
+
+-- different places have different words
+abbrev Differ : (ℕ → ℕ) → ℕ → Type 0
+Differ f most = (i j : ℕ) → i < most → j < most → f i ≡ f j → i ≡ j
+
+once : (f : ℕ → ℕ) (most x n a : ℕ) → Differ f most → a + n ≤ most
+    → count_by (λ y. y == x) (map f (range_with_len a n)) ≤ 1
+once f most x zero a differ inside = omega arith
+once f most x (suc n) a differ inside =
+    let count = counted_cons (λ y. y == x) (f a) (map f (range_with_len (a + 1) n)) in
+    elim (cases_eq (f a) x) [
+      | inl is ↦
+          grind (
+            arith,
+            nat_tests,
+            count,
+            never f x n (a + 1) (λ i low high. ne_eqb (f i) x (λ same.
+                let at : i ≡ a = differ i a (omega arith) (omega arith) (same ∙ sym is) in
+                absurd (omega (arith, at, low)))),
+          )
+      | inr other ↦
+          grind (arith, nat_tests, count, once f most x n (a + 1) differ (omega (arith, inside)))
+    ]
+
+one_number : (i j : ℕ)
+    → ◌≡◌ {A = Option Core} (Some (record { number = i })) (Some (record { number = j })) → i ≡ j
+one_number i j e = ap (λ (c : Core). c.number) (same_Some _ _ e)
+
+own_differ : (b : BoardValue) → BoardLaws b → Differ (address b 0) (cores b)
+own_differ b laws i j low high same =
+    let here = laws.words.core_named i low in
+    let there = laws.words.core_named j high in
+    one_number i j (sym here ∙ (ap (core_of b) same ∙ there))
+
+own_once : (b : BoardValue) → BoardLaws b → has_same (own_words b) ≡ false
+own_once b laws =
+    list_any_none (λ x. nat_lt 1 (count_by (λ y. y == x) (own_words b))) (own_words b)
+    (λ k d inside. le-ltb 1 _
+    (once (address b 0) (cores b) _ (cores b) 0 (own_differ b laws) (omega arith)))
+
+-- The whole -------------------------------------------------------------------------------------
+
+first_word : (b : BoardValue) → BoardLaws b → slice_index (own_words b) 0 ≡ address b 0 0
+first_word b laws = own_word b 0 (laws.tree.sizes.some 0)
+
+pub faultless : (b : BoardValue) → BoardLaws b
+    → fault_of (identity b) b (address b 0 0) ≡ None
+unfolding fault_of boot_fault_of never_falls
+faultless b laws =
+    let first : (slice_index (own_words b) 0 == address b 0 0) ≡ true =
+    eq-eqb _ _ (first_word b laws) in
+    let there : has_boot (own_words b) (address b 0 0) ≡ true =
+    list_any_at (λ x. x == address b 0 0) (own_words b) 0 0
+    (omega (arith, own_count b, laws.tree.sizes.some 0)) first in
+    rw (
+      eq-eqb (length (own_words b)) (cores b) (own_count b),
+      are_short b laws,
+      own_once b laws,
+      there,
+      first,
+      le-ltb (height b) (height b) (omega arith),
+    ) (rows_fine (own_words b) b b.format b.levels laws.board.low laws.board.high)
+
+pub first_boots : (b : BoardValue) → BoardLaws b
+    → boot_place (identity b) b (address b 0 0) ≡ 0
+first_boots b laws =
+    place_is (identity b) b (address b 0 0) 0
+    (ap (λ (m : ℕ). core_named (identity b) b m 0) (sym (first_word b laws))
+    ∙ core_is_named (identity b) b (address b 0 0) 0 (faultless b laws) (laws.tree.sizes.some 0))

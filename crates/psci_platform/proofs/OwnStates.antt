@@ -1,21 +1,25 @@
--- A power state word asks the same in the identity of a board.
+-- A power state word asks the same in the identity of a board; depths are an ask exactly where the
+-- extended format has a word for them.
+use Rattle.std.proofs.Common.{add-one, get_or}
+use Rattle.std.proofs.lemmas.Bool.{and_parts, cases_Bool, leb-true}
+use Rattle.std.proofs.lemmas.List.FromFn.{get_or-map-range_with_len}
 use Rattle.std.proofs.lemmas.Nat.{and_mask}
-use Rattle.std.specs.Int.Bits.{bit_and}
-use Rattle.std.specs.Prelude.{filter}
-use Rattle.psci_platform.proofs.Words.{◌%◌, ◌&&◌, ◌*◌, ◌+◌, ◌-◌, ◌/◌, ◌<◌, ◌^◌, ◌↔◌, ◌∙◌, ◌∷◌, ◌≡◌}
-use Rattle.psci_platform.proofs.Words.{◌≤◌, [], ap, arith, ask_of, BadState, BoardValue, Bool}
-use Rattle.psci_platform.proofs.Words.{can_ask, cases_lt, depth_at, depths_at, depths_of, eq-eqb}
-use Rattle.psci_platform.proofs.Words.{eqb-true, Err, false, find, Format, height, highest_of}
-use Rattle.psci_platform.proofs.Words.{identity, inl, inr, is_ask, IsAsk, IsTrue, le-leb, length}
-use Rattle.psci_platform.proofs.Words.{List, map, nat_le, None, none-some, Ok, Option, OsInitiated}
-use Rattle.psci_platform.proofs.Words.{Platform, range_with_len, reads, refl, Result, Row}
-use Rattle.psci_platform.proofs.Words.{row_asking, same_Some, slice_index, Some, states_if}
-use Rattle.psci_platform.proofs.Words.{states_of, suc, SuspendMode, sym, true, word_for, word_of}
-use Rattle.psci_platform.proofs.Words.{zero, ℕ}
+use Rattle.std.specs.Prelude.{filter, IfOk, Some, None}
+use Rattle.std.specs.Result.{result_ok}
+use Rattle.psci_platform.proofs.Words.{◌%◌, ◌&&◌, ◌*◌, ◌+◌, ◌-◌, ◌/◌, ◌<◌, ◌==◌, ◌^◌, ◌↔◌, ◌∙◌, ◌∷◌}
+use Rattle.psci_platform.proofs.Words.{◌≡◌, ◌≤◌, [], ap, arith, ask_of, BadState, BoardValue, Bool}
+use Rattle.psci_platform.proofs.Words.{can_ask, cond, depth_at, depths_at, depths_of, eq-eqb}
+use Rattle.psci_platform.proofs.Words.{eqb-true, Err, Extended, false, find, Format, height}
+use Rattle.psci_platform.proofs.Words.{highest_of, identity, inl, inr, is_ask, IsAsk, IsTrue}
+use Rattle.psci_platform.proofs.Words.{le-leb, length, List, map, nat_le, None, none-some, Ok}
+use Rattle.psci_platform.proofs.Words.{Option, OsInitiated, Platform, range_with_len, reads, refl}
+use Rattle.psci_platform.proofs.Words.{Result, Row, row_asking, same_Some, slice_index, Some}
+use Rattle.psci_platform.proofs.Words.{states_if, states_of, suc, SuspendMode, sym, true, word_for}
+use Rattle.psci_platform.proofs.Words.{word_of, zero, ℕ}
 use Rattle.psci_platform.specs.Identity.{asks_up_to}
 use Rattle.psci_platform.specs.States.{is_deeper, word_asking}
 use Rattle.psci_platform.proofs.Missing.{no_power_state}
-use Rattle.psci_platform.proofs.Swapped.{left}
+use Rattle.psci_state.specs.Ask.{is_deep}
 
 -- What the proofs stand on: the laws of power state words.
 pub record StateLaws : Type 0 where
@@ -30,58 +34,31 @@ pub record StateLaws : Type 0 where
 -- Rows of asks ----------------------------------------------------------------------------------
 
 -- an ask whose row passes a test
-pub record Found (p : Row → Bool) (f : List ℕ → Row) (q : List ℕ → Bool) (row : Row) : Type 0 where
-  pub ask : List ℕ
-  pub is : f ask ≡ row
-  pub asked : q ask ≡ true
-  pub passes : p (f ask) ≡ true
+record Found (p : Row → Bool) (f : List ℕ → Row) (q : List ℕ → Bool) (row : Row) : Type 0 where
+  ask : List ℕ
+  is : f ask ≡ row
+  asked : q ask ≡ true
+  passes : p (f ask) ≡ true
 
-found_by : (p : Row → Bool) (f : List ℕ → Row) (q : List ℕ → Bool) (x : List ℕ)
-    (xs : List (List ℕ)) (row : Row) (s t : Bool) → q x ≡ s → p (f x) ≡ t
-    → find p (map f (filter q (x ∷ xs))) ≡ Some row
-    → (find p (map f (filter q xs)) ≡ Some row → Found p f q row) → Found p f q row
-found_by p f q x xs row false t e g found later = later (rw e at found)
-found_by p f q x xs row true false e g found later = later (rw (e, g) at found)
-found_by p f q x xs row true true e g found later =
-    let same : f x ≡ row = same_Some _ _ (rw (e, g) at found) in
-    record { ask = x; is = same; asked = e; passes = g }
-
-pub found : (p : Row → Bool) (f : List ℕ → Row) (q : List ℕ → Bool) (xs : List (List ℕ)) (row : Row)
+found : (p : Row → Bool) (f : List ℕ → Row) (q : List ℕ → Bool) (xs : List (List ℕ)) (row : Row)
     → find p (map f (filter q xs)) ≡ Some row → Found p f q row
 found p f q [] row e = absurd (none-some row e)
-found p f q (x ∷ xs) row e =
-    found_by p f q x xs row (q x) (p (f x)) refl refl e (found p f q xs row)
-
-missed_by : (p : Row → Bool) (f : List ℕ → Row) (q : List ℕ → Bool) (n a i : ℕ) (s t : Bool)
-    → q (depths_at a) ≡ s → p (f (depths_at a)) ≡ t
-    → find p (map f (filter q (map depths_at (range_with_len a (suc n))))) ≡ None
-    → a ≤ i → q (depths_at i) ≡ true → p (f (depths_at i)) ≡ true
-    → (find p (map f (filter q (map depths_at (range_with_len (a + 1) n)))) ≡ None → a + 1 ≤ i → ⊥)
-    → ⊥
-missed_by p f q n a i false t e g none low asked passes later = elim (cases_lt a i) [
-  | inl below ↦ later (rw e at none) (omega (arith, below))
-  | inr above ↦
-      let same : i ≡ a = omega (arith, low, above) in
-      let no : q (depths_at a) ≡ true = rw same at asked in
-      cc
+found p f q (x ∷ xs) row e = elim (cases_Bool (q x)) [
+  | inl t ↦ elim (cases_Bool (p (f x))) [
+    | inl g ↦
+        record { ask = x; is = same_Some _ _ (rw (t, g) at e); asked = t; passes = g }
+    | inr g ↦ found p f q xs row (rw (t, g) at e)
+  ]
+  | inr t ↦ found p f q xs row (rw t at e)
 ]
-missed_by p f q n a i true false e g none low asked passes later = elim (cases_lt a i) [
-  | inl below ↦ later (rw (e, g) at none) (omega (arith, below))
-  | inr above ↦
-      let same : i ≡ a = omega (arith, low, above) in
-      let no : p (f (depths_at a)) ≡ true = rw same at passes in
-      cc
-]
-missed_by p f q n a i true true e g none low asked passes later =
-    absurd (none-some (f (depths_at a)) (sym (rw (e, g) at none)))
 
-missed : (p : Row → Bool) (f : List ℕ → Row) (q : List ℕ → Bool) (n a i : ℕ)
-    → find p (map f (filter q (map depths_at (range_with_len a n)))) ≡ None
-    → a ≤ i → i < a + n → q (depths_at i) ≡ true → p (f (depths_at i)) ≡ true → ⊥
-missed p f q zero a i none low high asked passes = absurd (omega (arith, low, high))
-missed p f q (suc n) a i none low high asked passes =
-    missed_by p f q n a i (q (depths_at a)) (p (f (depths_at a))) refl refl none low asked passes
-    (λ rest more. missed p f q n (a + 1) i rest more (omega (arith, high)) asked passes)
+missed : (p : Row → Bool) (f : List ℕ → Row) (q : List ℕ → Bool) (xs : List (List ℕ)) (k : ℕ)
+    → find p (map f (filter q xs)) ≡ None → k < length xs → q (get_or xs k []) ≡ true
+    → p (f (get_or xs k [])) ≡ true → ⊥
+missed p f q [] k none below asked passes = absurd (omega (arith, below))
+missed p f q (x ∷ xs) zero none below asked passes =
+    none-some (f x) (sym (rw (asked, passes) at none))
+missed p f q (x ∷ xs) (suc k) none below asked passes = grind (arith, missed p f q xs k)
 
 -- Asks and numbers ------------------------------------------------------------------------------
 
@@ -89,7 +66,7 @@ abbrev number : List ℕ → ℕ
 number ask =
     slice_index ask 0 + 4 * slice_index ask 1 + 16 * slice_index ask 2 + 64 * slice_index ask 3
 
-four : (xs : List ℕ) → length xs ≡ 4
+pub four : (xs : List ℕ) → length xs ≡ 4
     → slice_index xs 0 ∷ slice_index xs 1 ∷ slice_index xs 2 ∷ slice_index xs 3 ∷ [] ≡ xs
 four (a ∷ b ∷ c ∷ d ∷ []) e = refl
 four xs e = absurd (omega (arith, e))
@@ -104,16 +81,18 @@ digits a b c d a_most b_most c_most d_most =
     let e3 : n / 64 % 4 ≡ d = omega (arith, a_most, b_most, c_most, d_most) in
     rw (e0, e1, e2, e3) refl
 
+-- no depth of an ask is greater than that of its core
+pub most : (ask : List ℕ) → IsAsk ask → (level : ℕ) → slice_index ask level ≤ 3
+most ask is zero = is.most
+most ask is (suc level) = omega (arith, rw add-one at (is.falls level), most ask is level)
+
 number_is : (ask : List ℕ) → IsAsk ask → (number ask < 256) × (depths_at (number ask) ≡ ask)
 number_is ask is =
-    let a = is.most in
-    let b = is.falls 0 in
-    let c = is.falls 1 in
-    let d = is.falls 2 in (
-      omega (arith, a, b, c, d),
-      digits _ _ _ _ (omega (arith, a)) (omega (arith, a, b)) (omega (arith, a, b, c))
-          (omega (arith, a, b, c, d)) ∙ four ask is.levels,
-    )
+    let a = most ask is 0 in
+    let b = most ask is 1 in
+    let c = most ask is 2 in
+    let d = most ask is 3 in
+    (omega (arith, a, b, c, d), digits _ _ _ _ a b c d ∙ four ask is.levels)
 
 -- What an identity asks -------------------------------------------------------------------------
 
@@ -126,110 +105,142 @@ own_depth b level n low most = (refl, refl)
 
 own_depths : (b : BoardValue) (ask : List ℕ) → IsAsk ask → depths_of (identity b) ask ≡ ask
 own_depths b ask is =
-    let a = is.most in
-    let c = is.falls 0 in
-    let d = is.falls 1 in
-    let e = is.falls 2 in
-    let e0 = (own_depth b 0 (slice_index ask 0) (omega arith) (omega (arith, a))).0 in
-    let e1 = (own_depth b 1 (slice_index ask 1) (omega arith) (omega (arith, a, c))).0 in
-    let e2 = (own_depth b 2 (slice_index ask 2) (omega arith) (omega (arith, a, c, d))).0 in
-    let e3 = (own_depth b 3 (slice_index ask 3) (omega arith) (omega (arith, a, c, d, e))).0 in
+    let e0 = (own_depth b 0 (slice_index ask 0) (omega arith) (most ask is 0)).0 in
+    let e1 = (own_depth b 1 (slice_index ask 1) (omega arith) (most ask is 1)).0 in
+    let e2 = (own_depth b 2 (slice_index ask 2) (omega arith) (most ask is 2)).0 in
+    let e3 = (own_depth b 3 (slice_index ask 3) (omega arith) (most ask is 3)).0 in
     rw (e0, e1, e2, e3) (four ask is.levels)
 
-pub own_can_ask : (b : BoardValue) (mode : SuspendMode) (ask : List ℕ) → IsAsk ask
+own_can_ask : (b : BoardValue) (mode : SuspendMode) (ask : List ℕ) → IsAsk ask
     → can_ask (identity b) mode ask ≡ true
 own_can_ask b OsInitiated ask is = refl
 own_can_ask b Platform ask is =
-    let a = is.most in
-    let c = is.falls 0 in
-    let d = is.falls 1 in
-    let e = is.falls 2 in
-    let e1 = (own_depth b 1 (slice_index ask 1) (omega arith) (omega (arith, a, c))).1 in
-    let e2 = (own_depth b 2 (slice_index ask 2) (omega arith) (omega (arith, a, c, d))).1 in
-    let e3 = (own_depth b 3 (slice_index ask 3) (omega arith) (omega (arith, a, c, d, e))).1 in
+    let e1 = (own_depth b 1 (slice_index ask 1) (omega arith) (most ask is 1)).1 in
+    let e2 = (own_depth b 2 (slice_index ask 2) (omega arith) (most ask is 2)).1 in
+    let e3 = (own_depth b 3 (slice_index ask 3) (omega arith) (most ask is 3)).1 in
     rw (e1, e2, e3) refl
 
 -- What a word asks ------------------------------------------------------------------------------
 
-abbrev pub asks_test : List ℕ → ℕ → Bool
+abbrev asks_test : List ℕ → ℕ → Bool
 asks_test ask height = is_ask ask && nat_le (highest_of ask) height
 
--- a word that has the row of an ask is the word of this ask
-pub read_word : (word : ℕ) (format : Format) (ask : List ℕ) → word < 2 ^ 32
-    → reads word (row_asking format ask) ≡ true → word ≡ word_of format ask
-read_word word format ask small e =
-    let same = eqb-true (bit_and word (2 ^ 32 - 1)) (word_of format ask) e in
-    omega (arith, same, and_mask word 32, small)
+-- a word is that of an ask exactly where the row of the ask reads it
+reads_own : (word : ℕ) (format : Format) (ask : List ℕ) → word < 2 ^ 32
+    → reads word (row_asking format ask) ≡ (word == word_of format ask)
+reads_own word format ask small = grind (arith, and_mask word 32)
 
--- a test that holds of an ask
-is_test : StateLaws → (ask : List ℕ) → IsAsk ask → is_ask ask ≡ true
-is_test laws ask is = (laws.test ask).1 is
+module _ (b : BoardValue) (mode : SuspendMode) (word : ℕ) (laws : StateLaws)
+    (small : word < 2 ^ 32) where
+  -- the row that reads a word is that of what it asks
+  read_by : (o : Option Row) (r : Result (List ℕ) BadState)
+      → find (reads word) (identity b).rows ≡ o → ask_of b.format (height b) word ≡ r
+      → states_if (identity b) mode o ≡ result_ok r
+  unfolding asks_up_to
+  read_by None (Err bad) none e = refl
+  read_by None (Ok ask) none e =
+      let shape = laws.shape b.format (height b) word ask e in
+      let at = number_is ask shape.0 in
+      let is : word ≡ word_of b.format ask =
+      sym (laws.read b.format (height b) word ask small e) in
+      let asked : asks_test ask (height b) ≡ true =
+      rw ((laws.test ask).1 shape.0, le-leb (highest_of ask) (height b) shape.1) refl in
+      let passes : reads word (row_asking b.format ask) ≡ true =
+      reads_own word b.format ask small ∙ eq-eqb _ _ is in
+      let own : get_or (map depths_at (range_with_len 0 256)) (number ask) [] ≡ ask =
+      get_or-map-range_with_len depths_at 0 256 (number ask) (number ask) [] at.0 (omega arith)
+      ∙ at.1 in
+      absurd (missed (reads word) (row_asking b.format) (λ x. asks_test x (height b))
+      (map depths_at (range_with_len 0 256)) (number ask) none (omega (arith, at.0))
+      (ap (λ (x : List ℕ). asks_test x (height b)) own ∙ asked)
+      (ap (λ (x : List ℕ). reads word (row_asking b.format x)) own ∙ passes))
+  read_by (Some row) r some e =
+      let f = found (reads word) (row_asking b.format) (λ x. asks_test x (height b))
+      (map depths_at (range_with_len 0 256)) row some in
+      let test = and_parts (is_ask f.ask) (nat_le (highest_of f.ask) (height b)) f.asked in
+      let is : IsAsk f.ask = (laws.test f.ask).0 test.0 in
+      let word_is : word ≡ word_of b.format f.ask =
+      eqb-true _ _ (sym (reads_own word b.format f.ask small) ∙ f.passes) in
+      let read : r ≡ Ok f.ask =
+      sym e ∙ ap (ask_of b.format (height b)) word_is
+      ∙ laws.written b.format (height b) f.ask is (leb-true _ _ test.1) in
+      ap (λ (x : Row). states_if (identity b) mode (Some x)) (sym f.is)
+      ∙ rw (own_can_ask b mode f.ask is, read) refl
 
-told_word : (b : BoardValue) (mode : SuspendMode) (ask : List ℕ) → StateLaws → IsAsk ask
-    → word_for (identity b) b.format (states_if (identity b) mode
-    (Some (row_asking b.format ask))) ≡ word_of b.format ask
-told_word b mode ask laws is =
-    let can = own_can_ask b mode ask is in
-    let depths = own_depths b ask is in
-    let test = is_test laws ask is in
-    rw can (ap (word_asking b.format) depths ∙ rw test refl)
+  -- so its states are the depths that the firmware reads in it
+  pub states_are : states_of (identity b) mode word
+      ≡ result_ok (ask_of b.format (height b) word)
+  states_are =
+      read_by (find (reads word) (identity b).rows) (ask_of b.format (height b) word) refl refl
 
--- the word that the firmware is asked with for a word: it asks the same
-abbrev told : BoardValue → SuspendMode → Option Row → ℕ
-told b mode o = word_for (identity b) b.format (states_if (identity b) mode o)
-
+-- a word of 32 bits that asks the same
 abbrev Same : BoardValue → ℕ → ℕ → Type 0
 Same b w word = (w < 2 ^ 32)
     × (ask_of b.format (height b) w ≡ ask_of b.format (height b) word)
 
-same_words : (b : BoardValue) (w word : ℕ) → word < 2 ^ 32 → w ≡ word → Same b w word
-same_words b w word small e = (omega (arith, e, small), ap (ask_of b.format (height b)) e)
+same_by : (b : BoardValue) (word : ℕ) (r : Result (List ℕ) BadState) → StateLaws → word < 2 ^ 32
+    → ask_of b.format (height b) word ≡ r
+    → Same b (word_for (identity b) b.format (result_ok r)) word
+same_by b word (Err bad) laws small e =
+    (omega arith, no_power_state b.format (height b) ∙ sym e)
+same_by b word (Ok ask) laws small e =
+    let is : IsAsk ask = (laws.shape b.format (height b) word ask e).0 in
+    let own : word_for (identity b) b.format (Some ask) ≡ word =
+    ap (word_asking b.format) (own_depths b ask is)
+    ∙ rw ((laws.test ask).1 is) (laws.read b.format (height b) word ask small e) in
+    (omega (arith, own, small), ap (ask_of b.format (height b)) own)
 
-pub none_read : (b : BoardValue) (mode : SuspendMode) (word : ℕ) (r : Result (List ℕ) BadState)
-    → StateLaws → word < 2 ^ 32 → find (reads word) (identity b).rows ≡ None
-    → ask_of b.format (height b) word ≡ r → r ≡ Err (record {})
-unfolding asks_up_to
-none_read b mode word (Err bad) laws small none e = refl
-none_read b mode word (Ok ask) laws small none e =
-    let shape = laws.shape b.format (height b) word ask e in
-    let at = number_is ask shape.0 in
-    let is : word_of b.format ask ≡ word = laws.read b.format (height b) word ask small e in
-    let test = is_test laws ask shape.0 in
-    let low = le-leb (highest_of ask) (height b) shape.1 in
-    let asked : asks_test ask (height b) ≡ true = rw (test, low) refl in
-    let bits = and_mask word 32 in
-    let passes : reads word (row_asking b.format ask) ≡ true =
-    eq-eqb (bit_and word (2 ^ 32 - 1)) (word_of b.format ask) (omega (arith, bits, is, small)) in
-    absurd (missed (reads word) (row_asking b.format) (λ x. asks_test x (height b)) 256 0
-    (number ask) none (omega arith) (omega (arith, at.0))
-    (ap (λ (x : List ℕ). asks_test x (height b)) at.1 ∙ asked)
-    (ap (λ (x : List ℕ). reads word (row_asking b.format x)) at.1 ∙ passes))
-
-some_read : (b : BoardValue) (mode : SuspendMode) (word : ℕ) (row : Row) → StateLaws
-    → word < 2 ^ 32 → find (reads word) (identity b).rows ≡ Some row
-    → Same b (told b mode (Some row)) word
-unfolding asks_up_to
-some_read b mode word row laws small e =
-    let f = found (reads word) (row_asking b.format) (λ x. asks_test x (height b))
-    (map depths_at (range_with_len 0 256)) row e in
-    let is : IsAsk f.ask =
-    (laws.test f.ask).0 (left (is_ask f.ask) (nat_le (highest_of f.ask) (height b)) f.asked) in
-    let word_is : word ≡ word_of b.format f.ask = read_word word b.format f.ask small f.passes in
-    same_words b (told b mode (Some row)) word small
-    (ap (λ (r : Row). told b mode (Some r)) (sym f.is)
-    ∙ (told_word b mode f.ask laws is ∙ sym word_is))
-
-either : (b : BoardValue) (mode : SuspendMode) (word : ℕ) (o : Option Row) → StateLaws
-    → word < 2 ^ 32 → find (reads word) (identity b).rows ≡ o → Same b (told b mode o) word
-either b mode word (Some row) laws small e = some_read b mode word row laws small e
-either b mode word None laws small e = (
-  omega arith,
-  no_power_state b.format (height b)
-      ∙ sym (none_read b mode word (ask_of b.format (height b) word) laws small e refl),
-)
-
--- the word that the firmware is asked with for a word has 32 bits and asks the same
+-- the word that the firmware is asked with for a word asks the same
 pub state_same : (b : BoardValue) (mode : SuspendMode) (word : ℕ) → StateLaws → word < 2 ^ 32
     → Same b (word_for (identity b) b.format (states_of (identity b) mode word)) word
 state_same b mode word laws small =
-    either b mode word (find (reads word) (identity b).rows) laws small refl
+    rw (states_are b mode word laws small)
+    (same_by b word (ask_of b.format (height b) word) laws small refl)
+
+-- Words of the extended format --------------------------------------------------------------------
+
+type_fits : (t : Bool) → cond t 1 0 ≤ 1
+type_fits t = grind arith
+
+level_fits : (r s t : Bool) → cond r 3 (cond s 2 (cond t 1 0)) ≤ 3
+level_fits r s t = grind arith
+
+-- depths that have the word of an ask are the ask
+decided : (depths ask : List ℕ) → length depths ≡ 4 → ((level : ℕ) → slice_index depths level ≤ 3)
+    → IsAsk ask → word_of Extended ask ≡ word_of Extended depths → depths ≡ ask
+decided depths ask size low is same =
+    let e : (slice_index depths 0 ≡ slice_index ask 0) × (slice_index depths 1 ≡ slice_index ask 1)
+    × (slice_index depths 2 ≡ slice_index ask 2) × (slice_index depths 3 ≡ slice_index ask 3) =
+    omega (
+      arith,
+      same,
+      low 0,
+      low 1,
+      low 2,
+      low 3,
+      most ask is 0,
+      most ask is 1,
+      most ask is 2,
+      most ask is 3,
+      type_fits (is_deep ask),
+      type_fits (is_deep depths),
+    ) in
+    sym (four depths size) ∙ rw (e.0, e.1, e.2, e.3) (four ask is.levels)
+
+-- so what is read of the word of some depths is these depths, where they are an ask
+pub ask_is : ((depths : List ℕ) → IsTrue (is_ask depths) ↔ IsAsk depths)
+    → ((format : Format) (height : ℕ) (ask : List ℕ) → IsAsk ask → highest_of ask ≤ height
+    → ask_of format height (word_of format ask) ≡ Ok ask)
+    → (depths : List ℕ) → length depths ≡ 4 → ((level : ℕ) → slice_index depths level ≤ 3)
+    → (word : ℕ) → word ≡ word_of Extended depths
+    → (r : Result (List ℕ) BadState) → r ≡ ask_of Extended 3 word
+    → IfOk r (λ ask. IsAsk ask) → IfOk r (λ ask. word_of Extended ask ≡ word)
+    → (t : Bool) → is_ask depths ≡ t → result_ok r ≡ cond t (Some depths) None
+ask_is test written depths size low word same r value shape back true e =
+    ap result_ok (value ∙ ap (ask_of Extended 3) same
+    ∙ written Extended 3 depths ((test depths).0 e) (level_fits _ _ _))
+ask_is test written depths size low word same (Err bad) value shape back false e = refl
+ask_is test written depths size low word same (Ok ask) value shape back false e =
+    let yes : is_ask depths ≡ true =
+    ap is_ask (decided depths ask size low shape (back ∙ same)) ∙ (test ask).1 shape in
+    cc

@@ -49,8 +49,7 @@ request_with regs w =
 
 -- an argument of 32 bits is passed whole by both conventions
 short_if : (t : Bool) (w : ℕ) → w < 2 ^ 32 → (if t then w else low_half w) ≡ w
-short_if true w h = refl
-short_if false w h = omega (arith, h)
+short_if t w h = grind arith
 
 pub short : (regs : Regs) (w : ℕ) → w < 2 ^ 32 → argument regs w ≡ w
 short regs w h = short_if (is_wide regs) w h

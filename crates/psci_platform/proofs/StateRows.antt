@@ -5,16 +5,13 @@ use Rattle.psci_abi.specs.declared.format.Format.{Format}
 use Rattle.psci_abi.specs.declared.format.Format.TheVariants.{Original, Extended}
 use Rattle.psci_fw_spec.specs.declared.mode.SuspendMode.{SuspendMode}
 use Rattle.psci_fw_spec.specs.declared.mode.SuspendMode.TheVariants.{Platform, OsInitiated}
-use Rattle.psci_platform.specs.States.{depth_of, depth_at, depths_of, states_of, word_for}
-use Rattle.psci_platform.specs.States.{no_state}
+use Rattle.psci_platform.specs.States.{depth_of, depth_at, depths_of, states_of, word_for, no_state}
 use Rattle.psci_platform.specs.declared.class.Class.TheVariants.{Running, Standby, Retention}
 use Rattle.psci_platform.specs.declared.class.Class.TheVariants.{PowerDown}
 use Rattle.psci_platform.specs.Described.{DescriptionValue}
 use Rattle.psci_platform.proofs.Machines.{describes, down, hamoa, imx8mm, level, mt8365, pine64}
-use Rattle.psci_platform.proofs.Machines.{rk3399}
-use Rattle.psci_platform.proofs.Machines.{retained, row, sda660, tegra186}
+use Rattle.psci_platform.proofs.Machines.{rk3399, retained, row, sda660, tegra186, itself}
 use Rattle.psci_abi.proofs.Tables.{◌⇒◌, Gives}
-use Rattle.psci_platform.proofs.Machines.{itself}
 
 -- the word of the board for a word of a machine
 abbrev told : DescriptionValue → Format → SuspendMode → ℕ → ℕ

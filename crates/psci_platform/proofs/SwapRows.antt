@@ -12,9 +12,8 @@ use Rattle.psci_platform.specs.Described.{DescriptionValue}
 use Rattle.psci_platform.specs.Faults.{fault_of}
 use Rattle.psci_platform.specs.Swaps.{is_symmetric, swap_for}
 use Rattle.psci_platform.proofs.Machines.{board, calling, checking, describes, hip07_board}
-use Rattle.psci_platform.proofs.Machines.{rk3399_board, sda660_board}
+use Rattle.psci_platform.proofs.Machines.{rk3399_board, sda660_board, itself}
 use Rattle.psci_abi.proofs.Tables.{◌⇒◌, Gives}
-use Rattle.psci_platform.proofs.Machines.{itself}
 
 -- Which cores are swapped -----------------------------------------------------------------------
 

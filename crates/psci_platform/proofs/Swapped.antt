@@ -1,12 +1,14 @@
 -- A swap that passes its test is a renumbering of the board.
 use Rattle.std.proofs.Common.{drop, sum}
-use Rattle.std.proofs.lemmas.Bool.{and_parts, ltb-true}
-use Rattle.psci_platform.proofs.Words.{◌&&◌, ◌+◌, ◌-◌, ◌<◌, ◌==◌, ◌||◌, ◌∙◌, ◌∷◌, ◌≡◌, ◌≤◌, [], ap}
-use Rattle.psci_platform.proofs.Words.{arith, BoardValue, Bool, cases_lt, cores, eqb-true, false}
+use Rattle.std.proofs.lemmas.Bool.{and_parts, cases_Bool, cases_eq, ltb-true}
+use Rattle.std.proofs.lemmas.List.Folds.{list_all_at}
+use Rattle.std.proofs.lemmas.List.FromFn.{get_or-range_with_len, length-range_with_len}
+use Rattle.psci_platform.proofs.Words.{◌&&◌, ◌+◌, ◌-◌, ◌<◌, ◌∙◌, ◌∷◌, ◌≡◌, ◌≤◌, [], ap, arith}
+use Rattle.psci_platform.proofs.Words.{BoardValue, Bool, cases_lt, cores, eqb-true, false}
 use Rattle.psci_platform.proofs.Words.{goes_along, height, inl, inr, is_swapped, IsBoard}
 use Rattle.psci_platform.proofs.Words.{IsRenumbering, le-ltb, length, List, list_all, lt-ltb}
-use Rattle.psci_platform.proofs.Words.{nat_lt, Node, None, parent, PathLaws, range_with_len, refl}
-use Rattle.psci_platform.proofs.Words.{suc, swap_for, sym, true, zero, ℕ}
+use Rattle.psci_platform.proofs.Words.{nat_lt, nat_tests, Node, None, parent, PathLaws}
+use Rattle.psci_platform.proofs.Words.{range_with_len, refl, suc, swap_for, sym, true, zero, ℕ}
 use Rattle.psci_board.specs.Board.{IsTree, group_of, nodes, place_above, size_below, up}
 use Rattle.psci_board.proofs.Groups.{sum-cons}
 use Rattle.psci_platform.specs.Swaps.{is_symmetric, moved}
@@ -19,14 +21,6 @@ left s t e = (and_parts s t e).0
 pub right : (s t : Bool) → (s && t) ≡ true → t ≡ true
 right s t e = (and_parts s t e).1
 
-none_right : (s t : Bool) → t ≡ false → (s && t) ≡ false
-none_right true t e = e
-none_right false t e = refl
-
-second : (s t : Bool) → s ≡ false → (s || t) ≡ true → t ≡ true
-second true t never e = absurd (cc)
-second false t never e = e
-
 pub all_of : (p : ℕ → Bool) (a n : ℕ) → ((k : ℕ) → a ≤ k → k < a + n → p k ≡ true)
     → list_all p (range_with_len a n) ≡ true
 all_of p a zero each = refl
@@ -34,27 +28,17 @@ all_of p a (suc n) each =
     rw (each a (omega arith) (omega arith))
     (all_of p (a + 1) n (λ k low high. each k (omega (arith, low)) (omega (arith, high))))
 
-pub not_all : (p : ℕ → Bool) (a n k : ℕ) → a ≤ k → k < a + n → p k ≡ false
-    → list_all p (range_with_len a n) ≡ false
-not_all p a zero k low high e = absurd (omega arith)
-not_all p a (suc n) k low high e = elim (cases_lt a k) [
-  | inl more ↦
-      none_right (p a) (list_all p (range_with_len (a + 1) n))
-      (not_all p (a + 1) n k (omega arith) (omega arith) e)
-  | inr here ↦
-      let same : k ≡ a = omega arith in
-      rw (ap p (sym same) ∙ e) refl
-]
+pub not_all : (p : ℕ → Bool) (n k : ℕ) → k < n → p k ≡ false
+    → list_all p (range_with_len 0 n) ≡ false
+not_all p n k below e =
+    list_all_at p (range_with_len 0 n) k 0 (omega (arith, below, length-range_with_len 0 n))
+    (ap p (get_or-range_with_len 0 n k 0 below ∙ omega arith) ∙ e)
 
-pub all_at : (p : ℕ → Bool) (a n k : ℕ) → list_all p (range_with_len a n) ≡ true → a ≤ k
-    → k < a + n → p k ≡ true
-all_at p a zero k e low high = absurd (omega arith)
-all_at p a (suc n) k e low high = elim (cases_lt a k) [
-  | inl more ↦
-      all_at p (a + 1) n k (right (p a) _ e) (omega arith) (omega arith)
-  | inr here ↦
-      let same : k ≡ a = omega arith in
-      rw same (left (p a) (list_all p (range_with_len (a + 1) n)) e)
+pub all_at : (p : ℕ → Bool) (n k : ℕ) → list_all p (range_with_len 0 n) ≡ true → k < n
+    → p k ≡ true
+all_at p n k e below = elim (cases_Bool (p k)) [
+  | inl passes ↦ passes
+  | inr fails ↦ let no = not_all p n k below fails in absurd (cc)
 ]
 
 -- Outside of the tree ---------------------------------------------------------------------------
@@ -67,22 +51,17 @@ stays b boot n e = rw e refl
 stays_high : (b : BoardValue) (boot level place : ℕ) → height b ≤ level
     → swap_for b boot level place ≡ place
 stays_high b boot level place h =
-    let none : parent b (record { level = level; place = place }) ≡ None =
-    rw (le-ltb level (height b) h) refl in
-    ap (λ (n : Node). n.place) (stays b boot (record { level = level; place = place }) none)
-
-no_parent : (b : BoardValue) (level place : ℕ) → nodes b level ≤ place
-    → parent b (record { level = level; place = place }) ≡ None
-no_parent b level place h = elim (cases_lt level (height b)) [
-  | inl i ↦ rw (lt-ltb level (height b) i, le-ltb place (nodes b level) h) refl
-  | inr i ↦ rw (le-ltb level (height b) i) refl
-]
+    ap (λ (n : Node). n.place) (stays b boot (record { level = level; place = place })
+    (rw (le-ltb level (height b) h) refl))
 
 stays_past : (b : BoardValue) (boot level place : ℕ) → nodes b level ≤ place
     → swap_for b boot level place ≡ place
-stays_past b boot level place h =
-    ap (λ (n : Node). n.place)
-    (stays b boot (record { level = level; place = place }) (no_parent b level place h))
+stays_past b boot level place h = elim (cases_lt level (height b)) [
+  | inl i ↦
+      ap (λ (n : Node). n.place) (stays b boot (record { level = level; place = place })
+      (rw (lt-ltb level (height b) i, le-ltb place (nodes b level) h) refl))
+  | inr i ↦ stays_high b boot level place i
+]
 
 -- past the last core there is no domain
 group_past : (w : List ℕ) (i : ℕ) → sum w ≤ i → length w ≤ group_of w i
@@ -119,29 +98,23 @@ record Swapped (b : BoardValue) (boot c : ℕ) : Type 0 where
 
 swapped : (b : BoardValue) (boot c : ℕ) → is_swapped b boot c ≡ true → Swapped b boot c
 swapped b boot c e =
-    let there : Bool = nat_lt (swap_for b boot 0 c) (cores b) in
-    let again : Bool = swap_for b boot 0 (swap_for b boot 0 c) == c in
-    let third : Bool = goes_along b boot c 3 && true in
-    let high : Bool = goes_along b boot c 2 && third in
-    let all : Bool = goes_along b boot c 1 && high in
-    let rest : (again && all) ≡ true = right there (again && all) e in
-    let alongs : all ≡ true = right again all rest in
-    let above : high ≡ true = right (goes_along b boot c 1) high alongs in
+    let there = and_parts _ _ e in
+    let again = and_parts _ _ there.1 in
+    let one = and_parts (goes_along b boot c 1) _ again.1 in
+    let two = and_parts (goes_along b boot c 2) _ one.1 in
     record {
-      inside = ltb-true (swap_for b boot 0 c) (cores b) (left there (again && all) e);
-      back = eqb-true (swap_for b boot 0 (swap_for b boot 0 c)) c (left again all rest);
-      first = left (goes_along b boot c 1) high alongs;
-      second = left (goes_along b boot c 2) third above;
-      third = left (goes_along b boot c 3) true (right (goes_along b boot c 2) third above);
+      inside = ltb-true _ _ there.0;
+      back = eqb-true _ _ again.0;
+      first = one.0;
+      second = two.0;
+      third = left _ true two.1;
     }
 
 swapped_core : (b : BoardValue) (boot c : ℕ) → is_symmetric b boot ≡ true → c < cores b
     → Swapped b boot c
 unfolding is_symmetric
 swapped_core b boot c e h =
-    swapped b boot c
-    (all_at (is_swapped b boot) 0 (cores b) c (right (swap_for b boot 0 boot == 0) _ e)
-    (omega arith) (omega arith))
+    swapped b boot c (all_at (is_swapped b boot) (cores b) c (right _ _ e) h)
 
 pub core_inside : (b : BoardValue) (boot c : ℕ) → is_symmetric b boot ≡ true → c < cores b
     → swap_for b boot 0 c < cores b
@@ -149,9 +122,7 @@ core_inside b boot c e h = (swapped_core b boot c e h).inside
 
 goes : (b : BoardValue) (boot c level : ℕ) → level ≤ height b → goes_along b boot c level ≡ true
     → up b level (swap_for b boot 0 c) ≡ swap_for b boot level (up b level c)
-goes b boot c level h e =
-    eqb-true (up b level (swap_for b boot 0 c)) (swap_for b boot level (up b level c))
-    (second (nat_lt (height b) level) _ (le-ltb (height b) level h) e)
+goes b boot c level h e = grind (arith, nat_tests)
 
 along : (b : BoardValue) (boot c level : ℕ) → PathLaws b → Swapped b boot c → level ≤ height b
     → level ≤ 3 → up b level (swap_for b boot 0 c) ≡ swap_for b boot level (up b level c)
@@ -203,69 +174,53 @@ moves b boot level place laws h i =
 
 back : (b : BoardValue) (boot level place : ℕ) → Laws b boot
     → swap_for b boot level (swap_for b boot level place) ≡ place
-back b boot level place laws = elim (cases_lt (height b) level) [
-  | inl h ↦
-      let stay = stays_high b boot level place (omega (arith, h)) in
-      ap (swap_for b boot level) stay ∙ stay
-  | inr h ↦ elim (cases_lt place (nodes b level)) [
-    | inl i ↦ (moves b boot level place laws h i).back
-    | inr i ↦
-        let stay = stays_past b boot level place i in
-        ap (swap_for b boot level) stay ∙ stay
-  ]
-]
+back b boot level place laws =
+    grind (
+      arith,
+      cases_lt (height b) level,
+      cases_lt place (nodes b level),
+      stays_high b boot level place,
+      stays_past b boot level place,
+      moves b boot level place laws,
+    )
 
 inside : (b : BoardValue) (boot level place : ℕ) → Laws b boot
     → nat_lt (swap_for b boot level place) (nodes b level) ≡ nat_lt place (nodes b level)
-inside b boot level place laws = elim (cases_lt (height b) level) [
-  | inl h ↦
-      ap (λ (k : ℕ). nat_lt k (nodes b level)) (stays_high b boot level place (omega (arith, h)))
-  | inr h ↦ elim (cases_lt place (nodes b level)) [
-    | inl i ↦
-        lt-ltb (swap_for b boot level place) (nodes b level)
-        (moves b boot level place laws h i).inside
-        ∙ sym (lt-ltb place (nodes b level) i)
-    | inr i ↦ ap (λ (k : ℕ). nat_lt k (nodes b level)) (stays_past b boot level place i)
-  ]
-]
+inside b boot level place laws =
+    grind (
+      arith,
+      nat_tests,
+      cases_lt (height b) level,
+      stays_high b boot level place,
+      stays_past b boot level place,
+      moves b boot level place laws,
+    )
 
 -- from the system up cores have one domain
-system_up : (b : BoardValue) (x y k : ℕ) → PathLaws b → x < cores b → y < cores b
-    → (level : ℕ) → level ≡ k + height b → up b level x ≡ up b level y
-system_up b x y zero paths h i level e =
-    let at : level ≡ height b = omega (arith, e) in
-    ap (λ (l : ℕ). up b l x) at
-    ∙ (paths.system x h ∙ (sym (paths.system y i) ∙ ap (λ (l : ℕ). up b l y) (sym at)))
-system_up b x y (suc k) paths h i level e =
-    let at : level ≡ suc (k + height b) = omega (arith, e) in
-    ap (λ (l : ℕ). up b l x) at
-    ∙ (paths.joined x y (k + height b) (system_up b x y k paths h i (k + height b) refl)
-    ∙ ap (λ (l : ℕ). up b l y) (sym at))
-
 above_system : (b : BoardValue) (x y level : ℕ) → PathLaws b → x < cores b → y < cores b
     → height b ≤ level → up b level x ≡ up b level y
-above_system b x y level paths h i high =
-    system_up b x y (level - height b) paths h i level (omega (arith, high))
+above_system b x y zero paths h i high =
+    let e : height b ≡ 0 = omega arith in rw e at (paths.system x h ∙ sym (paths.system y i))
+above_system b x y (suc level) paths h i high = elim (cases_eq (height b) (suc level)) [
+  | inl same ↦ rw same at (paths.system x h ∙ sym (paths.system y i))
+  | inr other ↦ paths.joined x y level (above_system b x y level paths h i (omega arith))
+]
 
 above : (b : BoardValue) (boot level c : ℕ) → Laws b boot
     → up b level (swap_for b boot 0 c) ≡ swap_for b boot level (up b level c)
-above b boot level c laws = elim (cases_lt (height b) level) [
-  | inl high ↦ elim (cases_lt c (cores b)) [
-    | inl h ↦
-        above_system b (swap_for b boot 0 c) c level laws.paths
-        (swapped_core b boot c laws.is h).inside h (omega (arith, high))
-        ∙ sym (stays_high b boot level (up b level c) (omega (arith, high)))
-    | inr h ↦
-        ap (up b level) (stays_past b boot 0 c h)
-        ∙ sym (stays_high b boot level (up b level c) (omega (arith, high)))
-  ]
-  | inr low ↦ elim (cases_lt c (cores b)) [
-    | inl h ↦ moved_up b boot c level laws h low
-    | inr h ↦
-        ap (up b level) (stays_past b boot 0 c h)
-        ∙ sym (stays_past b boot level (up b level c) (up_past b level c laws.board low h))
-  ]
-]
+above b boot level c laws =
+    grind (
+      arith,
+      cases_lt (height b) level,
+      cases_lt c (cores b),
+      above_system b (swap_for b boot 0 c) c level laws.paths,
+      swapped_core b boot c laws.is,
+      stays_high b boot level (up b level c),
+      stays_past b boot level (up b level c),
+      stays_past b boot 0 c,
+      up_past b level c laws.board,
+      moved_up b boot c level laws,
+    )
 
 pub renumbers_by_swap : (b : BoardValue) (boot : ℕ) → IsBoard b → PathLaws b
     → is_symmetric b boot ≡ true → IsRenumbering b (swap_for b boot)

@@ -1,14 +1,12 @@
 -- Where the boot core is core 0, nothing is swapped.
-use Rattle.std.proofs.lemmas.Bool.{cases_eq, ne_eqb}
-use Rattle.psci_platform.proofs.Words.{◌<◌, ◌==◌, ◌∙◌, ◌≡◌, ◌≤◌, ap, arith, BoardValue, Bool}
-use Rattle.psci_platform.proofs.Words.{cases_lt, cores, domain_of, eq-eqb, false, goes_along}
-use Rattle.psci_platform.proofs.Words.{height, if◌then◌else◌, inl, inr, is_swapped, le-ltb, lt-ltb}
-use Rattle.psci_platform.proofs.Words.{nat_lt, Node, None, none-some, Option, parent, ParentLaws}
-use Rattle.psci_platform.proofs.Words.{PathLaws, refl, SizeLaws, Some, suc, swap_for, sym, true}
-use Rattle.psci_platform.proofs.Words.{unwrap_or, up, zero, ℕ}
-use Rattle.psci_board.specs.Board.{child, children}
+use Rattle.psci_platform.proofs.Words.{◌<◌, ◌∙◌, ◌≡◌, ◌≤◌, ap, arith, BoardValue, Bool, cases_lt}
+use Rattle.psci_platform.proofs.Words.{cores, domain_of, eq-eqb, goes_along, height, if◌then◌else◌}
+use Rattle.psci_platform.proofs.Words.{inl, inr, is_swapped, IsBoard, le-ltb, lt-ltb, nat_tests}
+use Rattle.psci_platform.proofs.Words.{Node, None, Option, parent, ParentLaws, PathLaws, refl}
+use Rattle.psci_platform.proofs.Words.{SizeLaws, Some, suc, swap_for, true, unwrap_or, up, WordLaws}
+use Rattle.psci_platform.proofs.Words.{zero, ℕ}
+use Rattle.psci_board.specs.Board.{child}
 use Rattle.psci_fw_laws.specs.Renumbered.{swap}
-use Rattle.psci_platform.proofs.Counted.{or_right}
 use Rattle.psci_platform.proofs.Swapped.{all_of}
 use Rattle.psci_platform.specs.Swaps.{is_on_path, is_symmetric, moved, moved_in, number_of}
 use Rattle.psci_platform.specs.Swaps.{other_number}
@@ -19,6 +17,19 @@ pub record Laws (b : BoardValue) : Type 0 where
   pub paths : PathLaws b
   pub parents : ParentLaws b
 
+pub record BoardLaws (b : BoardValue) : Type 0 where
+  pub board : IsBoard b
+  pub tree : Laws b
+  pub words : WordLaws b
+
+pub laws_on : (b : BoardValue) → IsBoard b → SizeLaws b → PathLaws b → ParentLaws b → WordLaws b
+    → BoardLaws b
+laws_on b board sizes paths parents words = record {
+  board = board;
+  tree = record { sizes = sizes; paths = paths; parents = parents };
+  words = words;
+}
+
 up_first : (b : BoardValue) (l : ℕ) → Laws b → l ≤ height b → up b l 0 ≡ 0
 up_first b l laws h =
     let n : Node = record { level = l; place = 0 } in
@@ -27,19 +38,9 @@ up_first b l laws h =
     let less : up b l 0 ≤ up b l found.0 = laws.paths.ordered 0 found.0 l (omega arith) in
     omega (arith, at, less)
 
--- the place of a node, where there is one
-abbrev place_in : Option Node → ℕ
-place_in None = 0
-place_in (Some n) = n.place
-
 -- a child of this place has no greater number
 child_place : (b : BoardValue) (n m : Node) (k : ℕ) → child b n k ≡ Some m → k ≤ m.place
-child_place b n m k e = elim (cases_lt k (children b n)) [
-  | inl h ↦
-      let is = ap place_in (rw (lt-ltb k (children b n) h) at e) in
-      omega (arith, is)
-  | inr h ↦ absurd (none-some m (rw (le-ltb k (children b n) h) at e))
-]
+child_place b n m k e = grind (arith, nat_tests)
 
 -- the first node of a level is the first of its siblings
 first_number : (b : BoardValue) (l : ℕ) → Laws b → number_of b (domain_of b 0 l) ≡ 0
@@ -56,21 +57,12 @@ first_number b l laws = elim (cases_lt l (height b)) [
   | inr h ↦ rw (le-ltb l (height b) h) refl
 ]
 
-swap_none : (m : ℕ) → swap 0 0 m ≡ m
-swap_none m = elim (cases_eq m 0) [
-  | inl e ↦ rw (eq-eqb m 0 e) (sym e)
-  | inr d ↦ rw (ne_eqb m 0 d) refl
-]
-
-if_same : (t : Bool) (x y : ℕ) → x ≡ y → (if t then x else y) ≡ y
-if_same true x y e = e
-if_same false x y e = refl
+swap_none : (t : Bool) (m : ℕ) → (if t then swap 0 0 m else m) ≡ m
+swap_none t m = grind (arith, nat_tests)
 
 own_number : (b : BoardValue) (above n : Node) → Laws b → other_number b 0 above n ≡ number_of b n
 own_number b above n laws =
-    if_same (is_on_path b 0 above) _ (number_of b n)
-    (ap (λ (x : ℕ). swap 0 x (number_of b n)) (first_number b n.level laws)
-    ∙ swap_none (number_of b n))
+    rw (first_number b n.level laws) (swap_none (is_on_path b 0 above) (number_of b n))
 
 own_child : (b : BoardValue) (above n : Node) → Laws b → parent b n ≡ Some above
     → child b above (number_of b n) ≡ Some n
@@ -86,10 +78,7 @@ own_in b (suc levels) n None laws e = rw e refl
 own_in b (suc levels) n (Some above) laws e =
     let same : moved_in b 0 levels above ≡ above =
     own_in b levels above (parent b above) laws refl in
-    let there : child b (moved_in b 0 levels above) (other_number b 0 above n) ≡ Some n =
-    ap (λ (m : Node). child b m (other_number b 0 above n)) same
-    ∙ (ap (child b above) (own_number b above n laws) ∙ own_child b above n laws e) in
-    rw e (rw there refl)
+    rw (e, same, own_number b above n laws, own_child b above n laws e) refl
 
 pub own : (b : BoardValue) (n : Node) → Laws b → moved b 0 n ≡ n
 unfolding moved
@@ -103,23 +92,23 @@ own_place b level place laws =
 
 goes : (b : BoardValue) (c level : ℕ) → Laws b → goes_along b 0 c level ≡ true
 goes b c level laws =
-    or_right (nat_lt (height b) level) _
-    (eq-eqb (up b level (swap_for b 0 0 c)) (swap_for b 0 level (up b level c))
-    (ap (up b level) (own_place b 0 c laws) ∙ sym (own_place b level (up b level c) laws)))
+    rw (own_place b 0 c laws, own_place b level (up b level c) laws) (grind (arith, nat_tests))
 
 stays : (b : BoardValue) (c : ℕ) → Laws b → c < cores b → is_swapped b 0 c ≡ true
 stays b c laws h =
     let is : swap_for b 0 0 c ≡ c = own_place b 0 c laws in
-    let inside : nat_lt (swap_for b 0 0 c) (cores b) ≡ true =
-    ap (λ (k : ℕ). nat_lt k (cores b)) is ∙ lt-ltb c (cores b) h in
-    let back : (swap_for b 0 0 (swap_for b 0 0 c) == c) ≡ true =
-    eq-eqb (swap_for b 0 0 (swap_for b 0 0 c)) c (ap (swap_for b 0 0) is ∙ is) in
-    rw (inside, back, goes b c 1 laws, goes b c 2 laws, goes b c 3 laws) refl
+    rw (
+      goes b c 1 laws,
+      goes b c 2 laws,
+      goes b c 3 laws,
+      is,
+      is,
+      lt-ltb c (cores b) h,
+      eq-eqb c c refl,
+    ) refl
 
 pub boots_first : (b : BoardValue) → Laws b → is_symmetric b 0 ≡ true
 unfolding is_symmetric
 boots_first b laws =
-    let first : (swap_for b 0 0 0 == 0) ≡ true =
-    eq-eqb (swap_for b 0 0 0) 0 (own_place b 0 0 laws) in
-    rw first (all_of (is_swapped b 0) 0 (cores b) (λ k low high.
+    rw (eq-eqb _ 0 (own_place b 0 0 laws)) (all_of (is_swapped b 0) 0 (cores b) (λ k low high.
     stays b k laws (omega (arith, high))))

@@ -4,7 +4,7 @@ pub use Rattle.std.proofs.Common.{◌∷◌, ◌≡◌, ◌≤◌, ◌⊎◌, []
 pub use Rattle.std.proofs.Common.{if◌then◌else◌, inl, inr, length, List, map, nat_lt, None, not}
 pub use Rattle.std.proofs.Common.{Option, refl, replicate, rules, Some, subst, suc, sym, true}
 pub use Rattle.std.proofs.Common.{unwrap_or, zero, ℕ}
-pub use Rattle.std.proofs.lemmas.Bool.{cases_lt, eq-eqb, eqb-true, le-leb, le-ltb, lt-leb, lt-ltb}
+pub use Rattle.std.proofs.lemmas.Bool.{cases_lt, eq-eqb, eqb-true, le-leb, le-ltb, lt-ltb}
 pub use Rattle.std.proofs.lemmas.Bool.Decides.{nat_tests}
 pub use Rattle.std.proofs.lemmas.List.Folds.{list_any_at}
 pub use Rattle.std.proofs.lemmas.List.Quantifiers.{position-Some}

@@ -1,14 +1,20 @@
 -- Worked examples: Downs for which cores had asked, at each level, in both modes, in life 2 and in
 -- a life that is halting.
-use Rattle.std.proofs.Common.{◌≤◌, ◌++◌, ℕ, List, [], ◌∷◌, inl, inr, refl, arith}
+use Rattle.std.proofs.Common.{◌≤◌, ◌++◌, ℕ, List, [], ◌∷◌, inl, inr, refl, arith, ◌≡◌, Some}
+use Rattle.psci_headline.specs.psci_ctl_spec.Values.{starts_below}
+use Rattle.psci_headline.specs.psci_fw_laws.Claims.{part_for}
+use Rattle.psci_headline.specs.psci_world_spec.Histories.{controller_values, sent_in}
+use Rattle.psci_headline.specs.psci_world_spec.declared.said.Record.{Record}
+use Rattle.psci_platform.specs.Platforms.{PlatformValue}
+use Rattle.psci_platform_safe.specs.Asked.{AskFor, mode_of, WasAskedFor}
+use Rattle.psci_platform_safe.specs.Names.{domain_above, mpidr_of}
+use Rattle.psci_platform_safe.specs.Words.{numbered, said_in_numbers, run_on}
 use Rattle.psci_headline.specs.psci_messages.declared.part.Part.{Part}
 use Rattle.psci_headline.specs.psci_messages.declared.kind.Kind.TheVariants.{Down}
 use Rattle.psci_headline.specs.psci_messages.Message.{MessageValue}
 use Rattle.psci_headline.specs.psci_world_spec.declared.event.Event.{Event}
 use Rattle.psci_headline.specs.psci_world_spec.declared.event.Event.TheVariants.{Deliver, Enter}
 use Rattle.psci_headline.proofs.world_spec.Scripts.{call, off, part, system_off}
-use Rattle.psci_platform_safe.specs.Asked.{WasAskedFor}
-use Rattle.psci_platform_safe.specs.Words.{run_on}
 use Rattle.psci_platform_safe.proofs.Histories.{computing, life_2, on_1, suspend, tall, tall_on}
 use Rattle.psci_platform_safe.proofs.Histories.{told, two}
 use Rattle.psci_platform_safe.proofs.Moments.{all_ask}
@@ -23,6 +29,29 @@ down core life parts = record {
   parts = parts;
 }
 
+-- a Down was asked for: sent by a record after those before it, with others later
+was_asked : (p : PlatformValue) (later before : List Record) (r : Record) (mpidr level life : ℕ)
+    (m : MessageValue) (one : Part) → sent_in (said_in_numbers p r.said) ≡ Some m
+    → part_for p.board life level (domain_above p mpidr level).place m ≡ Some one
+    → one.generation ≡ starts_below p.board
+    (controller_values p.board (numbered p (later ++ (r ∷ before)))).starts
+    (domain_above p mpidr level)
+    → AskFor (mode_of p (r ∷ before)) p (r ∷ before) (mpidr_of p m.core.number) mpidr level
+    one.depth → WasAskedFor p (later ++ (r ∷ before)) mpidr level life one.depth
+was_asked p later before r mpidr level life m one sent has live asked = record {
+  later = later;
+  r = r;
+  before = before;
+  split = refl;
+  message = m;
+  sent = sent;
+  part = one;
+  has = has;
+  deep = refl;
+  live = live;
+  asked = asked;
+}
+
 -- the far core asks for its group, or for standby
 abbrev group_down : List Event
 group_down = tall_on ++ suspend 0x10100 0x02010223 ∷ []
@@ -35,22 +64,14 @@ core_in_standby = tall_on ++ suspend 0x10100 0x00000001 ∷ []
 -- a group, by both its cores, of which one is off
 group_was_asked : WasAskedFor tall (run_on tall [] (group_down ++ Deliver 1 ∷ [])) 0x10000 2 1 3
 unfolding computing
-group_was_asked = record {
-  later = told tall (run_on tall [] (group_down)) (Deliver 1) ∷ [];
-  r = told tall (run_on tall [] tall_on) (suspend 0x10100 0x02010223);
-  before = run_on tall [] tall_on;
-  split = refl;
-  message = down 3 1 (part 0 3 1 ∷ part 1 3 1 ∷ part 2 3 1 ∷ []);
-  sent = refl;
-  part = part 2 3 1;
-  has = refl;
-  deep = refl;
-  live = refl;
-  asked =
-      let yes : 3 ≤ 3 = omega arith in
-      all_ask tall (run_on tall [] group_down) 0x10000 2 3 2
-      (inr yes, (inr yes, (inl refl, (inl refl, tt))));
-}
+group_was_asked =
+    was_asked tall (told tall (run_on tall [] (group_down)) (Deliver 1) ∷ [])
+    (run_on tall [] tall_on)
+    (told tall (run_on tall [] tall_on) (suspend 0x10100 0x02010223)) 0x10000 2 1
+    (down 3 1 (part 0 3 1 ∷ part 1 3 1 ∷ part 2 3 1 ∷ [])) (part 2 3 1) refl refl refl
+    (let yes : 3 ≤ 3 = omega arith in
+    all_ask tall (run_on tall [] group_down) 0x10000 2 3 2
+    (inr yes, (inr yes, (inl refl, (inl refl, tt)))))
 
 abbrev boot_on : List Event
 boot_on = Enter 0x100 ∷ []
@@ -61,43 +82,27 @@ system_retained = boot_on ++ suspend 0x100 0x03001112 ∷ []
 -- the system, in retention, by the boot core, beside which all are off
 system_was_asked : WasAskedFor tall (run_on tall [] (system_retained ++ Deliver 0 ∷ [])) 0x300 3 1 2
 unfolding computing
-system_was_asked = record {
-  later = told tall (run_on tall [] (system_retained)) (Deliver 0) ∷ [];
-  r = told tall (run_on tall [] boot_on) (suspend 0x100 0x03001112);
-  before = run_on tall [] boot_on;
-  split = refl;
-  message = down 0 1 (part 0 2 1 ∷ part 1 2 1 ∷ part 2 2 1 ∷ part 3 2 1 ∷ []);
-  sent = refl;
-  part = part 3 2 1;
-  has = refl;
-  deep = refl;
-  live = refl;
-  asked =
-      let yes : 2 ≤ 3 = omega arith in
-      let own : 2 ≤ 2 = omega arith in
-      all_ask tall (run_on tall [] system_retained) 0x300 3 2 3
-      (inr yes, (inr yes, (inr yes, (inr own, tt))));
-}
+system_was_asked =
+    was_asked tall (told tall (run_on tall [] (system_retained)) (Deliver 0) ∷ [])
+    (run_on tall [] boot_on)
+    (told tall (run_on tall [] boot_on) (suspend 0x100 0x03001112)) 0x300 3 1
+    (down 0 1 (part 0 2 1 ∷ part 1 2 1 ∷ part 2 2 1 ∷ part 3 2 1 ∷ [])) (part 3 2 1) refl refl refl
+    (let yes : 2 ≤ 3 = omega arith in
+    let own : 2 ≤ 2 = omega arith in
+    all_ask tall (run_on tall [] system_retained) 0x300 3 2 3
+    (inr yes, (inr yes, (inr yes, (inr own, tt)))))
 
 -- a core, in standby
 core_was_asked : WasAskedFor tall (run_on tall [] (core_in_standby ++ Deliver 1 ∷ [])) 0x10100 0 1 1
 unfolding computing
-core_was_asked = record {
-  later = told tall (run_on tall [] (core_in_standby)) (Deliver 1) ∷ [];
-  r = told tall (run_on tall [] tall_on) (suspend 0x10100 0x00000001);
-  before = run_on tall [] tall_on;
-  split = refl;
-  message = down 3 1 (part 0 1 1 ∷ []);
-  sent = refl;
-  part = part 0 1 1;
-  has = refl;
-  deep = refl;
-  live = refl;
-  asked =
-      let yes : 1 ≤ 1 = omega arith in
-      all_ask tall (run_on tall [] core_in_standby) 0x10100 0 1 0
-      (inr yes, (inl refl, (inl refl, (inl refl, tt))));
-}
+core_was_asked =
+    was_asked tall (told tall (run_on tall [] (core_in_standby)) (Deliver 1) ∷ [])
+    (run_on tall [] tall_on)
+    (told tall (run_on tall [] tall_on) (suspend 0x10100 0x00000001)) 0x10100 0 1
+    (down 3 1 (part 0 1 1 ∷ [])) (part 0 1 1) refl refl refl
+    (let yes : 1 ≤ 1 = omega arith in
+    all_ask tall (run_on tall [] core_in_standby) 0x10100 0 1 0
+    (inr yes, (inl refl, (inl refl, (inl refl, tt)))))
 
 -- In OS-initiated mode ---------------------------------------------------------------------------
 
@@ -113,24 +118,16 @@ group_down_by_the_system = on_by_the_system ++ suspend 0x10100 0x02010113 ∷ []
 group_was_asked_by_its_last_core : WasAskedFor tall
     (run_on tall [] (group_down_by_the_system ++ Deliver 1 ∷ [])) 0x10000 2 1 2
 unfolding computing
-group_was_asked_by_its_last_core = record {
-  later = told tall (run_on tall [] (group_down_by_the_system)) (Deliver 1) ∷ [];
-  r = told tall (run_on tall [] on_by_the_system) (suspend 0x10100 0x02010113);
-  before = run_on tall [] on_by_the_system;
-  split = refl;
-  message = down 3 1 (part 0 3 1 ∷ part 1 2 1 ∷ part 2 2 1 ∷ []);
-  sent = refl;
-  part = part 2 2 1;
-  has = refl;
-  deep = refl;
-  live = refl;
-  asked = (
-    (let own : 2 ≤ 2 = omega arith in own),
-    let yes : 2 ≤ 3 = omega arith in
-        all_ask tall (run_on tall [] group_down_by_the_system) 0x10000 2 2 0
-        (inr yes, (inr yes, (inl refl, (inl refl, tt)))),
-  );
-}
+group_was_asked_by_its_last_core =
+    was_asked tall (told tall (run_on tall [] (group_down_by_the_system)) (Deliver 1) ∷ [])
+    (run_on tall [] on_by_the_system)
+    (told tall (run_on tall [] on_by_the_system) (suspend 0x10100 0x02010113)) 0x10000 2 1
+    (down 3 1 (part 0 3 1 ∷ part 1 2 1 ∷ part 2 2 1 ∷ [])) (part 2 2 1) refl refl refl (
+      (let own : 2 ≤ 2 = omega arith in own),
+      let yes : 2 ≤ 3 = omega arith in
+          all_ask tall (run_on tall [] group_down_by_the_system) 0x10000 2 2 0
+          (inr yes, (inr yes, (inl refl, (inl refl, tt)))),
+    )
 
 -- Lives ------------------------------------------------------------------------------------------
 
@@ -144,41 +141,25 @@ off_in_life_2 = on_in_life_2 ++ off 1 ∷ []
 cluster_was_asked_in_life_2 : WasAskedFor two
     (run_on two [] (off_in_life_2 ++ Deliver 2 ∷ [])) 0 1 2 3
 unfolding computing
-cluster_was_asked_in_life_2 = record {
-  later = told two (run_on two [] (off_in_life_2)) (Deliver 2) ∷ [];
-  r = told two (run_on two [] on_in_life_2) (off 1);
-  before = run_on two [] on_in_life_2;
-  split = refl;
-  message = down 3 2 (part 0 3 1 ∷ part 1 3 1 ∷ []);
-  sent = refl;
-  part = part 1 3 1;
-  has = refl;
-  deep = refl;
-  live = refl;
-  asked =
-      let yes : 3 ≤ 3 = omega arith in
-      all_ask two (run_on two [] off_in_life_2) 0 1 3 1
-      (inr yes, (inr yes, (inl refl, (inl refl, tt))));
-}
+cluster_was_asked_in_life_2 =
+    was_asked two (told two (run_on two [] (off_in_life_2)) (Deliver 2) ∷ [])
+    (run_on two [] on_in_life_2)
+    (told two (run_on two [] on_in_life_2) (off 1)) 0 1 2
+    (down 3 2 (part 0 3 1 ∷ part 1 3 1 ∷ [])) (part 1 3 1) refl refl refl
+    (let yes : 3 ≤ 3 = omega arith in
+    all_ask two (run_on two [] off_in_life_2) 0 1 3 1
+    (inr yes, (inr yes, (inl refl, (inl refl, tt)))))
 
 -- a group whose Down is carried out once the life is halting
 group_was_asked_before_halting : WasAskedFor tall
     (run_on tall [] (group_down ++ system_off 0x100 ∷ Deliver 1 ∷ [])) 0x10100 2 1 3
 unfolding computing
-group_was_asked_before_halting = record {
-  later = told tall (run_on tall [] (group_down ++ system_off 0x100 ∷ [])) (Deliver 1) ∷ told tall
-      (run_on tall [] (group_down)) (system_off 0x100) ∷ [];
-  r = told tall (run_on tall [] tall_on) (suspend 0x10100 0x02010223);
-  before = run_on tall [] tall_on;
-  split = refl;
-  message = down 3 1 (part 0 3 1 ∷ part 1 3 1 ∷ part 2 3 1 ∷ []);
-  sent = refl;
-  part = part 2 3 1;
-  has = refl;
-  deep = refl;
-  live = refl;
-  asked =
-      let yes : 3 ≤ 3 = omega arith in
-      all_ask tall (run_on tall [] group_down) 0x10100 2 3 2
-      (inr yes, (inr yes, (inl refl, (inl refl, tt))));
-}
+group_was_asked_before_halting =
+    was_asked tall
+    (told tall (run_on tall [] (group_down ++ system_off 0x100 ∷ [])) (Deliver 1)
+    ∷ told tall (run_on tall [] (group_down)) (system_off 0x100) ∷ []) (run_on tall [] tall_on)
+    (told tall (run_on tall [] tall_on) (suspend 0x10100 0x02010223)) 0x10100 2 1
+    (down 3 1 (part 0 3 1 ∷ part 1 3 1 ∷ part 2 3 1 ∷ [])) (part 2 3 1) refl refl refl
+    (let yes : 3 ≤ 3 = omega arith in
+    all_ask tall (run_on tall [] group_down) 0x10100 2 3 2
+    (inr yes, (inr yes, (inl refl, (inl refl, tt)))))

@@ -7,8 +7,7 @@ use Rattle.psci_headline.proofs.world_spec.Scripts.{off}
 use Rattle.psci_headline.proofs.Tables.{◌⇒◌, Gives}
 use Rattle.psci_platform_safe.specs.Asked.{AllAsk, AskFor, asks, depth_above}
 use Rattle.psci_platform_safe.proofs.Histories.{after, computing, core_1_on, on_by_the_system}
-use Rattle.psci_platform_safe.proofs.Histories.{suspend}
-use Rattle.psci_platform_safe.proofs.Histories.{two}
+use Rattle.psci_platform_safe.proofs.Histories.{suspend, two}
 
 -- what a core asks of itself, its cluster and the system after these events
 abbrev asks_after : ℕ × List Event → List ℕ

@@ -1,26 +1,76 @@
--- What a platform was asked where the firmware was asked to open an entry point.
-use Rattle.std.specs.Prelude.{Ok, Err, slice_index_or}
+-- What the firmware is asked for a call that names a core or a domain, and what a platform was
+-- asked where the firmware was asked to open an entry point.
 use Rattle.psci_platform_safe.proofs.Words.{◌*◌, ◌+◌, ◌<◌, ◌^◌, ◌∙◌, ◌≡◌, ◌≤◌, ◌⊎◌, [], ap}
 use Rattle.psci_platform_safe.proofs.Words.{argument, arith, BadState, Bool, cases_Bool, cond, Core}
-use Rattle.psci_platform_safe.proofs.Words.{core_of, core_word, depth_at, depths_of}
-use Rattle.psci_platform_safe.proofs.Words.{DescriptionValue, eqb-true, false, first_argument}
-use Rattle.psci_platform_safe.proofs.Words.{height, inl, inr, is_there, List, None, number, Opening}
-use Rattle.psci_platform_safe.proofs.Words.{Option, option_map, PlatformValue, refl, Regs, regs_for}
-use Rattle.psci_platform_safe.proofs.Words.{Request, request_of, request_with, rest_named, rest_of}
-use Rattle.psci_platform_safe.proofs.Words.{Result, short, Some, states_of, SuspendMode, sym, true}
-use Rattle.psci_platform_safe.proofs.Words.{unwrap_or, with_first, word_for, ℕ}
+use Rattle.psci_platform_safe.proofs.Words.{core_inside, core_of, core_word, cores, depth_at}
+use Rattle.psci_platform_safe.proofs.Words.{depths_of, DescriptionValue, eqb-true, false}
+use Rattle.psci_platform_safe.proofs.Words.{first_argument, half_of, height, inl, inr, is_there}
+use Rattle.psci_platform_safe.proofs.Words.{List, None, number, Opening, Option, option_map}
+use Rattle.psci_platform_safe.proofs.Words.{PlatformValue, refl, Regs, regs_for, Request}
+use Rattle.psci_platform_safe.proofs.Words.{request_of, request_with, rest_named, rest_of, Result}
+use Rattle.psci_platform_safe.proofs.Words.{short, Some, states_of, SuspendMode, swap_for, sym}
+use Rattle.psci_platform_safe.proofs.Words.{true, unwrap_or, with_first, word_for, ℕ}
+use Rattle.psci_platform.specs.Calls.{regs_for}
+use Rattle.psci_platform.specs.Cores.{word_if}
+use Rattle.psci_platform_safe.proofs.Numbers.{Laws, named_inside}
+use Rattle.psci_headline.specs.psci_abi.declared.request.Request.TheVariants as requests
+use Rattle.std.specs.Prelude.{Ok, Err, slice_index_or}
 use Rattle.psci_platform.specs.declared.class.Class.{Class}
 use Rattle.psci_platform.specs.declared.class.Class.TheVariants.{Running, PowerDown}
 use Rattle.psci_platform.specs.States.{depth_of}
-use Rattle.psci_headline.specs.psci_abi.Calls.{low_half}
 use Rattle.psci_headline.specs.psci_abi.declared.format.Format.{Format}
 use Rattle.psci_headline.specs.psci_abi.declared.format.Format.TheVariants.{Extended, Original}
 use Rattle.psci_headline.specs.psci_state.Ask.{deepest_of, is_deep}
 use Rattle.psci_headline.specs.psci_state.PowerState.{ask_of, word_of}
 use Rattle.psci_platform_safe.specs.Opened.{IsPowerDown}
-use Rattle.psci_platform_safe.proofs.Numbers.{Laws}
-use Rattle.psci_platform_safe.proofs.Telling.{core_short, told}
-use Rattle.psci_headline.specs.psci_abi.declared.request.Request.TheVariants as requests
+
+-- What is asked ---------------------------------------------------------------------------------
+
+-- the word of the board for a core has no more than 32 bits
+word_short : (p : PlatformValue) (o : Option ℕ) → Laws p
+    → ((c : ℕ) → o ≡ Some c → c < cores p.board) → word_if p.board o < 2 ^ 32
+word_short p None laws inside = omega arith
+word_short p (Some c) laws inside = omega (arith, laws.words.short c (inside c refl))
+
+inside_if : (p : PlatformValue) (o : Option ℕ) (c : ℕ) → Laws p
+    → ((place : ℕ) → o ≡ Some place → place < cores p.board)
+    → option_map (swap_for p.board p.place 0) o ≡ Some c → c < cores p.board
+inside_if p None c laws inside e = absurd (cc)
+inside_if p (Some place) c laws inside e = grind (arith, core_inside)
+
+pub core_short : (p : PlatformValue) (word level : ℕ) → Laws p
+    → core_word p.description p.board p.place word level < 2 ^ 32
+core_short p word level laws = grind (arith, word_short, inside_if, named_inside)
+
+-- the request of the firmware for one of the platform that is there
+pub told : (p : PlatformValue) (mode : SuspendMode) (regs : Regs) (r : Request)
+    → request_of regs ≡ r → is_there p.description.functions r ≡ true
+    → request_of (regs_for p.description p.board p.place mode regs)
+    ≡ with_first (argument regs (first_argument p.description p.board p.place mode regs.x1 r)) r
+unfolding regs_for
+told p mode regs r e there = grind (arith, request_with)
+
+-- a request that names a core or a domain asks of the board's word for it
+pub affinity_told : (p : PlatformValue) (mode : SuspendMode) (regs : Regs) (word level : ℕ)
+    → Laws p → request_of regs ≡ requests.AffinityInfo level word
+    → request_of (regs_for p.description p.board p.place mode regs)
+    ≡ requests.AffinityInfo level (core_word p.description p.board p.place word level)
+affinity_told p mode regs word level laws e =
+    told p mode regs (requests.AffinityInfo level word) e refl
+    ∙ ap (λ (w : ℕ). requests.AffinityInfo level w)
+    (short regs (core_word p.description p.board p.place word level)
+    (core_short p word level laws))
+
+pub hw_told : (p : PlatformValue) (mode : SuspendMode) (regs : Regs) (word level : ℕ)
+    → Laws p → request_of regs ≡ requests.NodeHwState level word
+    → p.description.functions.node_hw_state ≡ true
+    → request_of (regs_for p.description p.board p.place mode regs)
+    ≡ requests.NodeHwState level (core_word p.description p.board p.place word level)
+hw_told p mode regs word level laws e there =
+    told p mode regs (requests.NodeHwState level word) e there
+    ∙ ap (λ (w : ℕ). requests.NodeHwState level w)
+    (short regs (core_word p.description p.board p.place word level)
+    (core_short p word level laws))
 
 -- a function that is not there is called as an unknown one
 abbrev pub AreMissing : PlatformValue → Type 0
@@ -168,10 +218,6 @@ suspend_if p mode regs word a x o (Some states) read none is e at =
       is ∙ ap (λ (q : Opening). requests.CpuSuspend word q.address q.context) both.1,
       record { states = states; row = e; deep = eqb-true _ _ both.0 },
     )
-
--- a word of 32 bits is passed whole
-pub half_of : (regs : Regs) (w : ℕ) → w < 2 ^ 32 → low_half (argument regs w) ≡ w
-half_of regs w small = ap low_half (short regs w small) ∙ omega (arith, small)
 
 -- the address of a SYSTEM_SUSPEND is its first argument
 system_first : (regs : Regs) (a x : ℕ) → request_of regs ≡ requests.SystemSuspend a x

@@ -9,24 +9,20 @@ use Rattle.psci_headline.specs.psci_fw_spec.declared.opening.Opening.{Opening}
 use Rattle.psci_headline.specs.psci_fw_spec.declared.outcome.Act.TheVariants as acts
 use Rattle.psci_headline.specs.psci_messages.declared.kind.Kind.TheVariants.{Down}
 use Rattle.psci_headline.specs.psci_world_spec.declared.event.Event.TheVariants.{Call, Deliver}
-use Rattle.psci_headline.specs.psci_world_spec.declared.event.Event.TheVariants.{Enter}
-use Rattle.psci_headline.specs.psci_world_spec.declared.event.Event.TheVariants.{Wake}
+use Rattle.psci_headline.specs.psci_world_spec.declared.event.Event.TheVariants.{Enter, Wake}
 use Rattle.psci_headline.specs.psci_world_spec.declared.said.Record.{Record}
 use Rattle.psci_headline.specs.psci_world_spec.declared.said.Said.TheVariants.{Fw}
 use Rattle.psci_headline.specs.psci_world_spec.declared.said.Sent.{Sent}
 use Rattle.psci_headline.proofs.world_spec.Scripts.{acked, call, enters, goes_down, off, part}
-use Rattle.psci_headline.proofs.world_spec.Scripts.{resumes}
-use Rattle.psci_headline.proofs.world_spec.Scripts.{sends, stops, system_off, value}
+use Rattle.psci_headline.proofs.world_spec.Scripts.{resumes, sends, stops, system_off, value}
 use Rattle.psci_headline.specs.Openings.{Made, OfCall, TakenUp}
 use Rattle.psci_platform_safe.specs.Names.{IsAskedOf}
 use Rattle.psci_platform_safe.specs.Opened.{OneEntryEach}
 use Rattle.psci_platform_safe.specs.Safe.{Answers, NoneBelowSleeping, OffIsDown, OneLiveClaim}
-use Rattle.psci_platform_safe.specs.Safe.{SafeOn}
-use Rattle.psci_platform_safe.specs.Safe.{StatesWereReal}
+use Rattle.psci_platform_safe.specs.Safe.{SafeOn, StatesWereReal}
 use Rattle.psci_platform_safe.proofs.Histories.{after, computing, core_1_off, core_1_on}
-use Rattle.psci_platform_safe.proofs.Histories.{on_by_the_system}
-use Rattle.psci_platform_safe.proofs.Histories.{on_in_life_2, says, state_of, status_of, suspend}
-use Rattle.psci_platform_safe.proofs.Histories.{tall, tall_after, tall_on, two}
+use Rattle.psci_platform_safe.proofs.Histories.{on_by_the_system, on_in_life_2, says, state_of}
+use Rattle.psci_platform_safe.proofs.Histories.{status_of, suspend, tall, tall_after, tall_on, two}
 
 -- a call that was answered with a number
 answers : {caller code : ℕ} {regs : Regs} {sent : Option Sent} {request : Request}

@@ -1,8 +1,6 @@
 -- Worked examples: histories that break sentence 3, in which a domain is deeper than the cores
 -- below it had asked for, and what does not excuse it.
-use Rattle.std.proofs.Common.{false}
-use Rattle.std.proofs.Common.{◌++◌, List, [], ◌∷◌, arith}
-use Rattle.std.proofs.Common.{refl}
+use Rattle.std.proofs.Common.{false, ◌++◌, List, [], ◌∷◌, arith, refl}
 use Rattle.psci_headline.specs.psci_messages.declared.kind.Kind.TheVariants.{Down}
 use Rattle.psci_headline.specs.psci_world_spec.declared.event.Event.TheVariants.{Deliver, Enter}
 use Rattle.psci_headline.specs.psci_world_spec.declared.event.Event.TheVariants.{Wake}

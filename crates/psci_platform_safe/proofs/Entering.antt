@@ -1,21 +1,18 @@
 -- Sentence 4: each entry at an opening takes up one that waited for its core, or begins a life.
 use Rattle.std.proofs.Common.{◌||◌}
-use Rattle.std.proofs.lemmas.Bool.{ltb-true}
-use Rattle.psci_platform_safe.proofs.Words.{◌<◌, ◌==◌, ◌∙◌, ◌∷◌, ◌≡◌, ◌⊎◌, [], Absent, Act, ap}
-use Rattle.psci_platform_safe.proofs.Words.{arith, BoardValue, Bool, boot_opening, change, cond}
-use Rattle.psci_platform_safe.proofs.Words.{controller_values, cores, Enter, eq-eqb, eqb-true}
-use Rattle.psci_platform_safe.proofs.Words.{Event, event_after, false, firmware_values, Fw, FwFault}
-use Rattle.psci_platform_safe.proofs.Words.{if_started, in_life, inl, inr, IsLegalOn, last_start}
-use Rattle.psci_platform_safe.proofs.Words.{life_of, List, nat_lt, NoCore, NoLife, None, not}
-use Rattle.psci_platform_safe.proofs.Words.{number, OneEntryEach, Opening, Option, option_map}
-use Rattle.psci_platform_safe.proofs.Words.{Outcome, Place, place, PlatformValue, Record, refl}
-use Rattle.psci_platform_safe.proofs.Words.{reply_or, said_in_numbers, Sent, sent_in_numbers, Some}
-use Rattle.psci_platform_safe.proofs.Words.{Start, start_of_life, Started, stops, suc, sym, true}
-use Rattle.psci_platform_safe.proofs.Words.{Values, Waits, zero, ℕ}
+use Rattle.psci_platform_safe.proofs.Words.{◌<◌, ◌==◌, ◌∙◌, ◌∷◌, ◌≡◌, ◌⊎◌, [], Act, ap, arith}
+use Rattle.psci_platform_safe.proofs.Words.{BoardValue, Bool, boot_opening, change, cond, cores}
+use Rattle.psci_platform_safe.proofs.Words.{Enter, eq-eqb, eqb-true, Event, event_after, false}
+use Rattle.psci_platform_safe.proofs.Words.{firmware_values, Fw, FwFault, in_life, inl, inr}
+use Rattle.psci_platform_safe.proofs.Words.{IsLegalOn, life_of, List, nat_lt, NoCore, NoLife, None}
+use Rattle.psci_platform_safe.proofs.Words.{not, number, OneEntryEach, Opening, Option, option_map}
+use Rattle.psci_platform_safe.proofs.Words.{Outcome, PlatformValue, Record, refl, reply_or}
+use Rattle.psci_platform_safe.proofs.Words.{said_in_numbers, Sent, sent_in_numbers, Some, Start}
+use Rattle.psci_platform_safe.proofs.Words.{start_of_life, stops, suc, sym, true, Values, Waits}
+use Rattle.psci_platform_safe.proofs.Words.{zero, ℕ}
 use Rattle.psci_platform_safe.proofs.Numbers.{is_core, only_one, is_core, only_one}
 use Rattle.psci_platform_safe.proofs.Waiting.{first_is, first_is}
 use Rattle.psci_headline.specs.psci_fw_spec.declared.fault.FwFault.TheVariants.{OldStart}
-use Rattle.psci_headline.specs.psci_fw_spec.declared.reply.FwReply.{FwReply}
 use Rattle.psci_headline.specs.psci_fw_spec.Answer.{answer}
 use Rattle.psci_headline.specs.psci_fw_spec.Changes.{with_arrival}
 use Rattle.psci_headline.specs.psci_fw_spec.CpuOff.{off_message}
@@ -23,60 +20,13 @@ use Rattle.psci_headline.specs.psci_fw_spec.Entering.{enter_fault, enter_outcome
 use Rattle.psci_headline.specs.psci_fw_spec.Entering.{outcome_at, resumes}
 use Rattle.psci_headline.specs.psci_fw_spec.Outcomes.{stops_with}
 use Rattle.psci_headline.specs.psci_world_spec.Histories.{firmware_history}
-use Rattle.psci_headline.specs.psci_world_spec.Legal.{legal, said_of}
+use Rattle.psci_headline.specs.psci_world_spec.Legal.{legal}
 use Rattle.psci_platform_safe.specs.Words.{numbered}
-use Rattle.psci_platform_safe.proofs.Entries.{waiting}
+use Rattle.psci_platform_safe.proofs.Entries.{HasEntered, has_entered, waiting}
 use Rattle.psci_platform_safe.proofs.Records.{OpeningLaws, effect_now, entered_effect, message_in}
 use Rattle.psci_headline.specs.psci_fw_spec.declared.call.FwCall.TheVariants as calls
 use Rattle.psci_headline.specs.psci_fw_spec.declared.outcome.Act.TheVariants as acts
 use Rattle.psci_headline.specs.psci_fw_spec.declared.reply.FwReply.TheVariants as replies
-
--- What is said of an entry ----------------------------------------------------------------------
-
--- A core entered that was started, and the firmware answered this act.
-record HasEntered (b : BoardValue) (past : List Record) (c : ℕ) (act : Act) : Type 0 where
-  start : Start
-  last : last_start (controller_values b past) c ≡ Some start
-  inside : c < cores b
-  out : Outcome
-  reply : answer b (firmware_values b past) c (calls.Enter start) ≡ replies.Out out
-  does : out.act ≡ act
-
-by_reply : (b : BoardValue) (past : List Record) (c n : ℕ) (act : Act) (own : Option Sent)
-    (start : Start) (reply : FwReply) → last_start (controller_values b past) c ≡ Some start
-    → c < cores b → answer b (firmware_values b past) c (calls.Enter start) ≡ reply
-    → Fw act own ≡ said_of n reply → HasEntered b past c act
-by_reply b past c n act own start (replies.Out o) last inside is e = record {
-  start = start;
-  last = last;
-  inside = inside;
-  out = o;
-  reply = is;
-  does = let same : act ≡ o.act = cc in sym same;
-}
-by_reply b past c n act own start reply last inside is e = absurd (cc)
-
-by_place : (b : BoardValue) (past : List Record) (c : ℕ) (act : Act) (own : Option Sent)
-    (p : Place) (start : Option Start) → last_start (controller_values b past) c ≡ start
-    → c < cores b → Fw act own ≡ if_started b past c p start → HasEntered b past c act
-by_place b past c act own Started (Some s) last inside e =
-    by_reply b past c _ act own s (answer b (firmware_values b past) c (calls.Enter s)) last inside
-    refl e
-by_place b past c act own p start last inside e = absurd (cc)
-
-by_board : (b : BoardValue) (past : List Record) (c : ℕ) (act : Act) (own : Option Sent) (t : Bool)
-    → nat_lt c (cores b) ≡ t
-    → Fw act own ≡ cond t (if_started b past c (place b past c)
-    (last_start (controller_values b past) c)) Absent → HasEntered b past c act
-by_board b past c act own true inside e =
-    by_place b past c act own (place b past c) (last_start (controller_values b past) c) refl
-    (ltb-true c (cores b) inside) e
-by_board b past c act own false inside e = absurd (cc)
-
-has_entered : (b : BoardValue) (past : List Record) (c : ℕ) (act : Act) (own : Option Sent)
-    → Fw act own ≡ legal b past (Enter c) → HasEntered b past c act
-unfolding legal
-has_entered b past c act own e = by_board b past c act own (nat_lt c (cores b)) refl e
 
 -- Where it enters -------------------------------------------------------------------------------
 

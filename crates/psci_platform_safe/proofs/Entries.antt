@@ -1,26 +1,31 @@
 -- Sentence 4: after each legal history the openings that the firmware keeps wait, and each entry at
 -- an opening takes up one of them, or begins a life.
-use Rattle.psci_platform_safe.proofs.Words.{◌++◌, ◌<◌, ◌∙◌, ◌∷◌, ◌≡◌, [], Absent, acks, AckValue}
-use Rattle.psci_platform_safe.proofs.Words.{Act, ap, arith, arrived, BoardValue, Bool, Call, call}
-use Rattle.psci_platform_safe.proofs.Words.{change, cond, controller_values, cores, Enter}
-use Rattle.psci_platform_safe.proofs.Words.{enter_effect, Event, event_after, false, firmware_legal}
-use Rattle.psci_platform_safe.proofs.Words.{firmware_values, Fw, if_started, indexed, IsCore}
-use Rattle.psci_platform_safe.proofs.Words.{IsLegal, IsLegalOn, last_start, life_of, List}
+use Rattle.psci_platform_safe.proofs.Words.{◌<◌, ◌∙◌, ◌∷◌, ◌≡◌, [], Absent, acks, AckValue, Act, ap}
+use Rattle.psci_platform_safe.proofs.Words.{arith, arrived, BoardValue, Bool, Call, change, cond}
+use Rattle.psci_platform_safe.proofs.Words.{controller_values, cores, Enter, enter_effect, Event}
+use Rattle.psci_platform_safe.proofs.Words.{event_after, false, firmware_values, Fw, if_started}
+use Rattle.psci_platform_safe.proofs.Words.{indexed, IsCore, IsLegalOn, last_start, life_of, List}
 use Rattle.psci_platform_safe.proofs.Words.{MessageValue, nat_lt, None, Nothing, number, Opening}
-use Rattle.psci_platform_safe.proofs.Words.{Option, option_map, Place, place, PlatformValue, Record}
-use Rattle.psci_platform_safe.proofs.Words.{refl, Regs, Said, said_in_numbers, Sent}
-use Rattle.psci_platform_safe.proofs.Words.{sent_in_numbers, Some, Start, Started, subst, sym, Take}
-use Rattle.psci_platform_safe.proofs.Words.{Taken, true, Waits, ℕ}
+use Rattle.psci_platform_safe.proofs.Words.{Option, option_map, Outcome, Place, place}
+use Rattle.psci_platform_safe.proofs.Words.{PlatformValue, Record, refl, Regs, Said}
+use Rattle.psci_platform_safe.proofs.Words.{said_in_numbers, Sent, sent_in_numbers, Some, Start}
+use Rattle.psci_platform_safe.proofs.Words.{Started, sym, Take, Taken, true, Waits, ℕ}
 use Rattle.psci_headline.specs.psci_world_spec.declared.said.Said.TheVariants.{Taken as Took}
 use Rattle.psci_headline.specs.psci_world_spec.Histories.{firmware_history}
-use Rattle.psci_headline.specs.psci_world_spec.Legal.{legal}
+use Rattle.psci_headline.specs.psci_world_spec.Legal.{legal, said_of}
 use Rattle.psci_platform_safe.specs.Words.{numbered}
 use Rattle.psci_platform_safe.proofs.Records.{OpeningLaws, effect_in, effect_now, entered_effect}
-use Rattle.psci_platform_safe.proofs.Records.{message_in, opens_on, opens_rest, took_effect}
+use Rattle.psci_platform_safe.proofs.Records.{legal_record, message_in, opens_on, opens_rest}
+use Rattle.psci_platform_safe.proofs.Records.{took_effect}
 use Rattle.psci_platform_safe.proofs.Calling.{opens, opens_none}
 use Rattle.psci_platform_safe.proofs.Waiting.{AreWaiting, leaves, none_one}
 use Rattle.psci_headline.specs.psci_fw_spec.declared.outcome.Act.TheVariants as acts
 use Rattle.psci_headline.specs.psci_messages.declared.taken.Taken.TheVariants as takens
+use Rattle.std.proofs.lemmas.Bool.{ltb-true}
+use Rattle.psci_headline.specs.psci_fw_spec.declared.reply.FwReply.{FwReply}
+use Rattle.psci_headline.specs.psci_fw_spec.Answer.{answer}
+use Rattle.psci_headline.specs.psci_fw_spec.declared.call.FwCall.TheVariants as calls
+use Rattle.psci_headline.specs.psci_fw_spec.declared.reply.FwReply.TheVariants as replies
 
 -- Entries open nothing --------------------------------------------------------------------------
 
@@ -39,17 +44,52 @@ took_opens : (b : BoardValue) (a : Option AckValue) (t : Taken)
 took_opens b (Some a) takens.Used = refl
 took_opens b a t = refl
 
--- a core without a start does not enter
-no_start : (b : BoardValue) (past : List Record) (c : ℕ) (p : Place) (act : Act)
-    (own : Option Sent) → Fw act own ≡ if_started b past c p None → ⊥
-no_start b past c Started act own e = absurd (cc)
-no_start b past c p act own e = absurd (cc)
+-- What is said of an entry ----------------------------------------------------------------------
 
-no_start_if : (b : BoardValue) (past : List Record) (c : ℕ) (t : Bool) (act : Act)
-    (own : Option Sent) → Fw act own ≡ cond t (if_started b past c (place b past c) None) Absent
-    → ⊥
-no_start_if b past c true act own e = no_start b past c (place b past c) act own e
-no_start_if b past c false act own e = absurd (cc)
+-- A core entered that was started, and the firmware answered this act.
+pub record HasEntered (b : BoardValue) (past : List Record) (c : ℕ) (act : Act) : Type 0 where
+  pub start : Start
+  pub last : last_start (controller_values b past) c ≡ Some start
+  pub inside : c < cores b
+  pub out : Outcome
+  pub reply : answer b (firmware_values b past) c (calls.Enter start) ≡ replies.Out out
+  pub does : out.act ≡ act
+
+by_reply : (b : BoardValue) (past : List Record) (c n : ℕ) (act : Act) (own : Option Sent)
+    (start : Start) (reply : FwReply) → last_start (controller_values b past) c ≡ Some start
+    → c < cores b → answer b (firmware_values b past) c (calls.Enter start) ≡ reply
+    → Fw act own ≡ said_of n reply → HasEntered b past c act
+by_reply b past c n act own start (replies.Out o) last inside is e = record {
+  start = start;
+  last = last;
+  inside = inside;
+  out = o;
+  reply = is;
+  does = let same : act ≡ o.act = cc in sym same;
+}
+by_reply b past c n act own start reply last inside is e = absurd (cc)
+
+by_place : (b : BoardValue) (past : List Record) (c : ℕ) (act : Act) (own : Option Sent)
+    (p : Place) (start : Option Start) → last_start (controller_values b past) c ≡ start
+    → c < cores b → Fw act own ≡ if_started b past c p start → HasEntered b past c act
+by_place b past c act own Started (Some s) last inside e =
+    by_reply b past c _ act own s (answer b (firmware_values b past) c (calls.Enter s)) last inside
+    refl e
+by_place b past c act own p start last inside e = absurd (cc)
+
+by_board : (b : BoardValue) (past : List Record) (c : ℕ) (act : Act) (own : Option Sent) (t : Bool)
+    → nat_lt c (cores b) ≡ t
+    → Fw act own ≡ cond t (if_started b past c (place b past c)
+    (last_start (controller_values b past) c)) Absent → HasEntered b past c act
+by_board b past c act own true inside e =
+    by_place b past c act own (place b past c) (last_start (controller_values b past) c) refl
+    (ltb-true c (cores b) inside) e
+by_board b past c act own false inside e = absurd (cc)
+
+pub has_entered : (b : BoardValue) (past : List Record) (c : ℕ) (act : Act) (own : Option Sent)
+    → Fw act own ≡ legal b past (Enter c) → HasEntered b past c act
+unfolding legal
+has_entered b past c act own e = by_board b past c act own (nat_lt c (cores b)) refl e
 
 -- What waits ------------------------------------------------------------------------------------
 
@@ -67,23 +107,10 @@ module _ (p : PlatformValue) (r : Record) (older : List Record) (laws : OpeningL
   unfolding numbered firmware_history
   now_is event said e s = grind (arith, effect_now)
 
-  answered : (m : ℕ) (regs : Regs) (act : Act) (own : Option Sent) → r.event ≡ Call m regs
-      → r.said ≡ Fw act own
-      → IsLegal p.board (call (controller_values p.board w) (acks w)
-      (event_after p w (Call m regs)) (said_in_numbers p (Fw act own))
-      ++ firmware_history p.board w)
-  unfolding numbered firmware_history
-  answered m regs act own e s =
-      subst (λ (x : Said). IsLegal p.board (call (controller_values p.board w) (acks w)
-      (event_after p w (Call m regs)) (said_in_numbers p x) ++ firmware_history p.board w)) s
-      (subst (λ (x : Event). IsLegal p.board (call (controller_values p.board w) (acks w)
-      (event_after p w x) (said_in_numbers p r.said) ++ firmware_history p.board w)) e
-      (firmware_legal p.board (numbered p (r ∷ older)) valid))
-
   by_call : (m : ℕ) (regs : Regs) (act : Act) (own : Option Sent) → r.event ≡ Call m regs
       → r.said ≡ Fw act own → Waits p (r ∷ older) mpidr o
   by_call m regs act own e s =
-      let reply = (answered m regs act own e s).0 in
+      let reply = (legal_record p r older (Call m regs) (Fw act own) valid e s).0 in
       leaves p r older laws.names laws.core laws.boot before
       (effect_in p older (Call m regs) (Fw act own))
       (now_is (Call m regs) (Fw act own) e s) mpidr o is at some
@@ -100,14 +127,11 @@ module _ (p : PlatformValue) (r : Record) (older : List Record) (laws : OpeningL
       (firmware_values p.board w) → Waits p (r ∷ older) mpidr o
   unfolding numbered legal
   by_start m act own None last e s now =
-      let said : Fw act (option_map (sent_in_numbers p) own)
-      ≡ legal p.board w (Enter (number p m)) =
-      ap (said_in_numbers p) (sym s) ∙ valid.0
-      ∙ ap (λ (x : Event). legal p.board w (event_after p w x)) e in
-      absurd (no_start_if p.board w (number p m) (nat_lt (number p m) (cores p.board)) act
-      (option_map (sent_in_numbers p) own)
-      (said ∙ ap (λ (x : Option Start). cond (nat_lt (number p m) (cores p.board))
-      (if_started p.board w (number p m) (place p.board w (number p m)) x) Absent) last))
+      let is = has_entered p.board w (number p m) act (option_map (sent_in_numbers p) own)
+      (ap (said_in_numbers p) (sym s) ∙ valid.0
+      ∙ ap (λ (x : Event). legal p.board w (event_after p w x)) e) in
+      let no : None ≡ Some is.start = sym last ∙ is.last in
+      absurd (cc)
   by_start m act own (Some start) last e s now =
       leaves p r older laws.names laws.core laws.boot before
       (enter_effect (number p m) start act (message_in p own)) now mpidr o is at some

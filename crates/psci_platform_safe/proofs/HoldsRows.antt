@@ -10,9 +10,8 @@ use Rattle.psci_platform_safe.specs.Names.{domain_above}
 use Rattle.psci_platform_safe.specs.Safe.{IsOff, NoneBelowSleeping, OneLiveClaim}
 use Rattle.psci_platform_safe.specs.Words.{numbered}
 use Rattle.psci_platform_safe.proofs.Histories.{after, computing, core_1_off, core_1_on}
-use Rattle.psci_platform_safe.proofs.Histories.{on_by_the_system}
-use Rattle.psci_platform_safe.proofs.Histories.{on_in_life_2, suspend, tall, tall_after, tall_on}
-use Rattle.psci_platform_safe.proofs.Histories.{two}
+use Rattle.psci_platform_safe.proofs.Histories.{on_by_the_system, on_in_life_2, suspend, tall}
+use Rattle.psci_platform_safe.proofs.Histories.{tall_after, tall_on, two}
 use Rattle.psci_platform_safe.proofs.Moments.{claims_are, cores_are}
 
 -- the group of the far core is off, and the system is in retention

@@ -1,6 +1,5 @@
 -- Worked examples: a platform, what is said on it in its own words, and what is behind that.
-use Rattle.std.proofs.Common.{◌≡◌, ◌++◌, ℕ, List, [], ◌∷◌, map, reverse, false}
-use Rattle.std.proofs.Common.{None, refl, arith}
+use Rattle.std.proofs.Common.{◌≡◌, ◌++◌, ℕ, List, [], ◌∷◌, map, reverse, false, None, refl, arith}
 use Rattle.psci_platform.specs.Platforms.{IsPlatform}
 use Rattle.psci_headline.specs.psci_messages.declared.kind.Kind.TheVariants.{Down, Start}
 use Rattle.psci_headline.specs.psci_world_spec.declared.event.Event.{Event}

@@ -1,13 +1,10 @@
 -- In the order of the argument.
 pub mod Numbers
-pub mod Named
-pub mod Telling
 pub mod Told
 pub mod AskedFor
 pub mod Safety
 pub mod Runs
 pub mod Calling
-pub mod Sources
 pub mod Backwards
 pub mod Waiting
 pub mod Records

@@ -3,17 +3,16 @@
 use Rattle.std.proofs.lemmas.Bool.{cases_eq}
 use Rattle.psci_platform_safe.proofs.Words.{◌++◌, ◌+◌, ◌<◌, ◌==◌, ◌∷◌, ◌≡◌, ◌≤◌, ◌⊎◌, [], AllAsk}
 use Rattle.psci_platform_safe.proofs.Words.{arith, AskFor, controller_values, depth_above}
-use Rattle.psci_platform_safe.proofs.Words.{domain_above, eq-eqb, false, height, inl, inr, IsCore}
-use Rattle.psci_platform_safe.proofs.Words.{length, List, MessageValue, mode_of, mpidr_of, Node}
-use Rattle.psci_platform_safe.proofs.Words.{NoDeeperThanAsked, None, NoneBelowSleeping, numbered}
-use Rattle.psci_platform_safe.proofs.Words.{OneLiveClaim, Option, Part, part_for, PlatformValue}
-use Rattle.psci_platform_safe.proofs.Words.{Record, refl, said_in_numbers, sent_in, slice_index}
-use Rattle.psci_platform_safe.proofs.Words.{Some, starts_below, subst, suc, zero, ℕ}
+use Rattle.psci_platform_safe.proofs.Words.{domain_above, eq-eqb, false, found, height, inl, inr}
+use Rattle.psci_platform_safe.proofs.Words.{IsCore, length, List, MessageValue, mode_of, mpidr_of}
+use Rattle.psci_platform_safe.proofs.Words.{Node, NoDeeperThanAsked, None, NoneBelowSleeping}
+use Rattle.psci_platform_safe.proofs.Words.{numbered, OneLiveClaim, Option, Part, part_for}
+use Rattle.psci_platform_safe.proofs.Words.{PlatformValue, Record, refl, said_in_numbers, sent_in}
+use Rattle.psci_platform_safe.proofs.Words.{slice_index, Some, starts_below, subst, suc, zero, ℕ}
 use Rattle.psci_platform_safe.specs.Asked.{IsFromStart, asks}
 use Rattle.psci_platform_safe.specs.Safe.{place_of}
 use Rattle.psci_headline.specs.Claims.{live_claims}
 use Rattle.psci_headline.specs.Moments.{executes}
-use Rattle.psci_platform_safe.proofs.Numbers.{found}
 
 -- Messages ---------------------------------------------------------------------------------------
 
@@ -104,7 +103,7 @@ of_place P (m ∷ ms) (suc place) inside all =
 pub of_core : (p : PlatformValue) (P : ℕ → Type 0) (mpidr : ℕ) → IsCore p mpidr
     → OfEach P p.description.mpidrs → P mpidr
 of_core p P mpidr is all =
-    let at = found p mpidr 0 is.0 is.1 in
+    let at = found p.description p.board mpidr 0 is.0 is.1 in
     let same : slice_index p.description.mpidrs is.0 ≡ mpidr =
     (let fields = at.fields in omega (arith, fields)) in
     subst P same (of_place P p.description.mpidrs is.0 at.inside all)

@@ -1,17 +1,16 @@
 -- The firmware's numbers and the MPIDRs of cores name each other.
-use Rattle.std.proofs.Common.{◌/◌}
 use Rattle.std.specs.Prelude.{option_map}
-use Rattle.std.specs.List.{position}
-use Rattle.std.proofs.lemmas.List.Quantifiers.{position-Some}
-use Rattle.psci_platform_safe.proofs.Words.{◌*◌, ◌<◌, ◌==◌, ◌^◌, ◌∙◌, ◌≡◌, ◌≤◌, ap, arith, Bool}
-use Rattle.psci_platform_safe.proofs.Words.{cond, core_inside, core_named, core_of, core_word}
-use Rattle.psci_platform_safe.proofs.Words.{cores, domain_above, eqb-true, false, height, IsAskedOf}
-use Rattle.psci_platform_safe.proofs.Words.{IsBoard, IsCore, IsPlatform, IsRenumbering, leb-true}
-use Rattle.psci_platform_safe.proofs.Words.{length, mpidr_of, nat_le, Node, node_of, None, number}
-use Rattle.psci_platform_safe.proofs.Words.{number_named, Option, PathLaws, PlatformValue, refl}
-use Rattle.psci_platform_safe.proofs.Words.{slice_index, Some, swap_for, sym, true, unwrap_or, up}
+use Rattle.psci_platform_safe.proofs.Words.{◌<◌, ◌∙◌, ◌≡◌, ◌≤◌, ap, arith, boot_place, core_inside}
+use Rattle.psci_platform_safe.proofs.Words.{core_named, core_of, core_word, cores, domain_above}
+use Rattle.psci_platform_safe.proofs.Words.{found, height, IsAskedOf, IsBoard, IsCore, IsPlatform}
+use Rattle.psci_platform_safe.proofs.Words.{IsRenumbering, length, mpidr_of, Node, node_of, None}
+use Rattle.psci_platform_safe.proofs.Words.{number, number_named, Option, PathLaws, PlatformValue}
+use Rattle.psci_platform_safe.proofs.Words.{refl, slice_index, Some, swap_for, sym, unwrap_or, up}
 use Rattle.psci_platform_safe.proofs.Words.{WordLaws, ℕ}
 use Rattle.psci_headline.specs.psci_board.Board.{HasNode}
+use Rattle.psci_platform.proofs.Checked.{some_count}
+use Rattle.psci_platform.proofs.Named.{core_is_named}
+use Rattle.psci_platform.proofs.Swapping.{core_is, node_is, renumbering, Laws as Names}
 use Rattle.psci_platform_safe.specs.Names.{node_asked}
 
 -- What the proofs stand on: a platform, and the laws of its board and of its names.
@@ -34,30 +33,10 @@ pub record Laws (p : PlatformValue) : Type 0 where
 
 -- What is named --------------------------------------------------------------------------------
 
--- A core of the tree that a word names at a level has the word's fields from the level up.
-pub record Found (p : PlatformValue) (word level place : ℕ) : Type 0 where
-  pub low : level ≤ height p.board
-  pub inside : place < length p.description.mpidrs
-  pub fields : slice_index p.description.mpidrs place / 2 ^ (8 * level) ≡ word / 2 ^ (8 * level)
-
-found_if : (p : PlatformValue) (word level place : ℕ) (t : Bool)
-    → nat_le level (height p.board) ≡ t
-    → cond t (position (λ m. m / 2 ^ (8 * level) == word / 2 ^ (8 * level)) p.description.mpidrs)
-    None ≡ Some place → Found p word level place
-found_if p word level place true low e =
-    let at = position-Some (λ m. m / 2 ^ (8 * level) == word / 2 ^ (8 * level))
-    p.description.mpidrs place 0 e in
-    record { low = leb-true _ _ low; inside = at.0; fields = eqb-true _ _ at.1 }
-found_if p word level place false low e = absurd (cc)
-
-pub found : (p : PlatformValue) (word level place : ℕ)
-    → core_named p.description p.board word level ≡ Some place → Found p word level place
-found p word level place e = found_if p word level place (nat_le level (height p.board)) refl e
-
 pub named_inside : (p : PlatformValue) (word level place : ℕ) → Laws p
     → core_named p.description p.board word level ≡ Some place → place < cores p.board
 named_inside p word level place laws e =
-    omega (arith, (found p word level place e).inside, laws.count)
+    omega (arith, (found p.description p.board word level place e).inside, laws.count)
 
 -- Numbers --------------------------------------------------------------------------------------
 
@@ -76,7 +55,7 @@ number_inside p mpidr laws is = grind (arith, found, number_at, core_inside)
 pub mpidr_back : (p : PlatformValue) (mpidr : ℕ) → Laws p → IsCore p mpidr
     → mpidr_of p (number p mpidr) ≡ mpidr
 mpidr_back p mpidr laws is =
-    let at = found p mpidr 0 is.0 is.1 in
+    let at = found p.description p.board mpidr 0 is.0 is.1 in
     ap (λ (c : ℕ). slice_index p.description.mpidrs (swap_for p.board p.place 0 c))
     (number_at p mpidr is.0 is.1)
     ∙ ap (slice_index p.description.mpidrs) (laws.renumbering.back 0 is.0)
@@ -130,8 +109,42 @@ asked_low : (p : PlatformValue) (word level : ℕ) (n : Node) (o : Option ℕ)
     → core_named p.description p.board word level ≡ o → node_if p level o ≡ Some n
     → level ≤ height p.board
 asked_low p word level n None e at = absurd (cc)
-asked_low p word level n (Some place) e at = (found p word level place e).low
+asked_low p word level n (Some place) e at = (found p.description p.board word level place e).low
 
 pub low_asked : (p : PlatformValue) (word level mpidr : ℕ) → IsAskedOf p word level mpidr
     → level ≤ height p.board
 low_asked p word level mpidr asked = grind (arith, asked_low)
+
+-- The laws ------------------------------------------------------------------------------------
+
+pub laws_of : (p : PlatformValue) → IsBoard p.board → IsPlatform p → PathLaws p.board
+    → WordLaws p.board → Laws p
+laws_of p board is paths words =
+    let count = some_count p.description p.board p.boot is.faultless in
+    let names : Names p.description p.board p.place = record {
+      board = board;
+      paths = paths;
+      words = words;
+      is = is.symmetric;
+      count = count;
+    } in
+    record {
+      board = board;
+      is = is;
+      paths = paths;
+      words = words;
+      renumbering = renumbering p.description p.board p.place names;
+      count = count;
+      core = λ c. core_is_named p.description p.board p.boot c is.faultless;
+      core_of = core_is p.description p.board p.place names;
+      node_of = λ word level low. node_is p.description p.board p.place names word level;
+    }
+
+-- the boot core has number 0
+pub boot_number : (p : PlatformValue) → IsPlatform p → number_named p.description p.board
+    (boot_place p.description p.board p.boot) p.boot 0 ≡ Some 0 → number p p.boot ≡ 0
+boot_number p is zero =
+    ap (λ (o : Option ℕ). unwrap_or o (cores p.board)) (rw (sym is.place) at zero)
+
+pub some_cores : (p : PlatformValue) → IsPlatform p → 0 < cores p.board
+some_cores p is = omega (arith, is.inside)

@@ -10,6 +10,7 @@ use Rattle.psci_headline.specs.psci_world_spec.declared.event.Event.TheVariants.
 use Rattle.psci_headline.proofs.world_spec.Scripts.{enters}
 use Rattle.psci_platform_safe.specs.Opened.{ByCpuOn, BySuspend}
 use Rattle.psci_platform_safe.proofs.Histories.{says}
+use Rattle.psci_platform_safe.proofs.Waiting.{none_one}
 use Rattle.psci_headline.specs.psci_fw_spec.declared.outcome.Act.TheVariants as acts
 use Rattle.psci_headline.specs.psci_abi.declared.request.Request.TheVariants as requests
 
@@ -22,39 +23,37 @@ abbrev pub woken : List Event
 woken = Enter 0x200 ∷ system_reset 0x200 ∷ Deliver 0 ∷ Wake 1 ∷ []
 
 -- What has to hold of the records up to one, so that an opening that the last of them made waits.
-abbrev pub OfBoot : PlatformValue → List Record → ℕ → Opening → List Record → Type 0
-OfBoot p past mpidr o before =
-    (mpidr ≡ p.boot) × (o ≡ boot_opening p) × (life_of p before ≡ life_of p past → ⊥)
+module _ (p : PlatformValue) (past : List Record) (mpidr : ℕ) (o : Opening) where
+  abbrev pub OfBoot : List Record → Type 0
+  OfBoot before = (mpidr ≡ p.boot) × (o ≡ boot_opening p) × (life_of p before ≡ life_of p past → ⊥)
 
-abbrev pub Made : PlatformValue → List Record → ℕ → Opening → List Record → Type 0
-Made p past mpidr o [] = OfBoot p past mpidr o []
-Made p past mpidr o (r ∷ older) =
-    (Opens p older r mpidr o × (life_of p (r ∷ older) ≡ life_of p past))
-    ⊎ OfBoot p past mpidr o (r ∷ older)
+  abbrev pub Made : List Record → Type 0
+  Made [] = OfBoot []
+  Made (r ∷ older) =
+      (Opens p older r mpidr o × (life_of p (r ∷ older) ≡ life_of p past)) ⊎ OfBoot (r ∷ older)
 
-abbrev pub ByRecord : PlatformValue → List Record → ℕ → Opening → List Record → Type 0
-ByRecord p past mpidr o before =
-    (r : Record) × (older : List Record) × (before ≡ r ∷ older) × Opens p older r mpidr o
-    × (life_of p before ≡ life_of p past)
+  abbrev pub ByRecord : List Record → Type 0
+  ByRecord before =
+      (r : Record) × (older : List Record) × (before ≡ r ∷ older) × Opens p older r mpidr o
+      × (life_of p before ≡ life_of p past)
 
-opened : (p : PlatformValue) (past : List Record) (mpidr : ℕ) (o : Opening) (x r : Record)
-    (xs older : List Record) → x ∷ xs ≡ r ∷ older → Opens p older r mpidr o → Opens p xs x mpidr o
-opened p past mpidr o x r xs older e is =
-    let first : r ≡ x = cc in
-    let rest : older ≡ xs = cc in
-    subst (λ (y : Record). Opens p xs y mpidr o) first
-    (subst (λ (ys : List Record). Opens p ys r mpidr o) rest is)
+  opened : (x r : Record) (xs older : List Record) → x ∷ xs ≡ r ∷ older
+      → Opens p older r mpidr o → Opens p xs x mpidr o
+  opened x r xs older e is =
+      let first : r ≡ x = cc in
+      let rest : older ≡ xs = cc in
+      subst (λ (y : Record). Opens p xs y mpidr o) first
+      (subst (λ (ys : List Record). Opens p ys r mpidr o) rest is)
 
-made : (p : PlatformValue) (past : List Record) (mpidr : ℕ) (o : Opening) (before : List Record)
-    → ByRecord p past mpidr o before ⊎ OfBoot p past mpidr o before → Made p past mpidr o before
-made p past mpidr o [] by = elim by [
-  | inl is ↦ let no = is.2 in absurd (cc)
-  | inr is ↦ is
-]
-made p past mpidr o (x ∷ xs) by = elim by [
-  | inl is ↦ inl (opened p past mpidr o x is.0 xs is.1 is.2 is.3, is.4)
-  | inr is ↦ inr is
-]
+  made : (before : List Record) → ByRecord before ⊎ OfBoot before → Made before
+  made [] by = elim by [
+    | inl is ↦ let no = is.2 in absurd (cc)
+    | inr is ↦ is
+  ]
+  made (x ∷ xs) by = elim by [
+    | inl is ↦ inl (opened x is.0 xs is.1 is.2 is.3, is.4)
+    | inr is ↦ inr is
+  ]
 
 -- Openings that wait -----------------------------------------------------------------------------
 
@@ -98,9 +97,7 @@ waits_now p mpidr o r older opens = record {
 }
 
 pub none_enters : (mpidr : ℕ) (x : Record) → (x.event ≡ Enter mpidr → ⊥) → NoneEnters mpidr (x ∷ [])
-none_enters mpidr x none zero r o sent found event said =
-    let same : x ≡ r = cc in none (ap (λ (y : Record). y.event) same ∙ event)
-none_enters mpidr x none (suc k) r o sent found event said = absurd (cc)
+none_enters mpidr x none = none_one mpidr x (λ o sent event said. none event)
 
 -- also after one more record, in which the core does not enter
 pub waits_since : (p : PlatformValue) (mpidr : ℕ) (o : Opening) (x r : Record) (older : List Record)
@@ -144,61 +141,56 @@ never_opens p r older mpidr o none by = elim by [
   ]
 ]
 
--- A record made no opening for a core: it opens nothing or is of another life, and it is not what
--- the boot core entered after in this life.
-abbrev pub NotMade : PlatformValue → List Record → ℕ → Record → List Record → Type 0
-NotMade p past mpidr r older =
-    ((opener_in r.event ≡ 0) ⊎ (life_of p (r ∷ older) ≡ life_of p past → ⊥))
-    × ((mpidr ≡ p.boot → ⊥) ⊎ (life_of p (r ∷ older) ≡ life_of p past))
+module _ (p : PlatformValue) (past : List Record) (mpidr : ℕ) (o : Opening) where
+  -- A record made no opening for a core: it opens nothing or is of another life, and it is not what
+  -- the boot core entered after in this life.
+  abbrev pub NotMade : Record → List Record → Type 0
+  NotMade r older =
+      ((opener_in r.event ≡ 0) ⊎ (life_of p (r ∷ older) ≡ life_of p past → ⊥))
+      × ((mpidr ≡ p.boot → ⊥) ⊎ (life_of p (r ∷ older) ≡ life_of p past))
 
-not_made : (p : PlatformValue) (past : List Record) (mpidr : ℕ) (o : Opening) (r : Record)
-    (older : List Record) → NotMade p past mpidr r older → Made p past mpidr o (r ∷ older) → ⊥
-not_made p past mpidr o r older none m = elim m [
-  | inl by ↦ elim none.0 [
-    | inl never ↦ never_opens p r older mpidr o never by.0
-    | inr other ↦ other by.1
+  not_made : (r : Record) (older : List Record) → NotMade r older
+      → Made p past mpidr o (r ∷ older) → ⊥
+  not_made r older none m = elim m [
+    | inl by ↦ elim none.0 [
+      | inl never ↦ never_opens p r older mpidr o never by.0
+      | inr other ↦ other by.1
+    ]
+    | inr by ↦ elim none.1 [
+      | inl other ↦ other by.0
+      | inr same ↦ by.2 same
+    ]
   ]
-  | inr by ↦ elim none.1 [
-    | inl other ↦ other by.0
-    | inr same ↦ by.2 same
-  ]
-]
 
--- Where no record made an opening, up to the one by which a core entered at it: which is the one
--- that so many came after, or there is none.
-abbrev pub NoneMade : PlatformValue → List Record → ℕ → Opening → ℕ → List Record → Type 0
-NoneMade p past mpidr o k [] = Made p past mpidr o [] → ⊥
-NoneMade p past mpidr o zero (r ∷ older) =
-    NotMade p past mpidr r older × (r.event ≡ Enter mpidr) × (sent : Option Sent)
-    × (r.said ≡ Fw (acts.Enter o.address o.context) sent)
-NoneMade p past mpidr o (suc k) (r ∷ older) =
-    NotMade p past mpidr r older × NoneMade p past mpidr o k older
+  -- Where no record made an opening, up to the one by which a core entered at it: which is the one
+  -- that so many came after, or there is none.
+  abbrev pub NoneMade : ℕ → List Record → Type 0
+  NoneMade k [] = Made p past mpidr o [] → ⊥
+  NoneMade zero (r ∷ older) =
+      NotMade r older × (r.event ≡ Enter mpidr) × (sent : Option Sent)
+      × (r.said ≡ Fw (acts.Enter o.address o.context) sent)
+  NoneMade (suc k) (r ∷ older) = NotMade r older × NoneMade k older
 
-first_made : (p : PlatformValue) (past : List Record) (mpidr : ℕ) (o : Opening) (k : ℕ)
-    (rest : List Record) → NoneMade p past mpidr o k rest → Made p past mpidr o rest → ⊥
-first_made p past mpidr o k [] none = none
-first_made p past mpidr o zero (r ∷ older) none = not_made p past mpidr o r older none.0
-first_made p past mpidr o (suc k) (r ∷ older) none = not_made p past mpidr o r older none.0
+  first_made : (k : ℕ) (rest : List Record) → NoneMade k rest → Made p past mpidr o rest → ⊥
+  first_made k [] none = none
+  first_made zero (r ∷ older) none = not_made r older none.0
+  first_made (suc k) (r ∷ older) none = not_made r older none.0
 
-none_before : (p : PlatformValue) (past : List Record) (mpidr : ℕ) (o : Opening) (k : ℕ)
-    (since before : List Record) → NoneMade p past mpidr o k (since ++ before)
-    → NoneEnters mpidr since → Made p past mpidr o before → ⊥
-none_before p past mpidr o k [] before none unused m =
-    first_made p past mpidr o k before none m
-none_before p past mpidr o zero (r ∷ since) before none unused m =
-    unused 0 r o none.2 refl none.1 none.3
-none_before p past mpidr o (suc k) (r ∷ since) before none unused m =
-    none_before p past mpidr o k since before none.1 (λ j. unused (suc j)) m
+  none_before : (k : ℕ) (since before : List Record) → NoneMade k (since ++ before)
+      → NoneEnters mpidr since → Made p past mpidr o before → ⊥
+  none_before k [] before none unused m = first_made k before none m
+  none_before zero (r ∷ since) before none unused m = unused 0 r o none.2 refl none.1 none.3
+  none_before (suc k) (r ∷ since) before none unused m =
+      none_before k since before none.1 (λ j. unused (suc j)) m
 
--- such an opening does not wait
-pub never_waits : (p : PlatformValue) (past : List Record) (mpidr : ℕ) (o : Opening) (k : ℕ)
-    → NoneMade p past mpidr o k past → Waits p past mpidr o → ⊥
-never_waits p past mpidr o k none w = grind (arith, none_before, made)
+  -- such an opening does not wait
+  pub never_waits : (k : ℕ) → NoneMade k past → Waits p past mpidr o → ⊥
+  never_waits k none w = grind (arith, none_before, made)
 
--- so an entry at it breaks sentence 4, if it begins no life
-pub never_enters : (p : PlatformValue) (past : List Record) (mpidr : ℕ) (o : Opening) (k : ℕ)
-    → NoneMade p past mpidr o k past
-    → ((mpidr ≡ p.boot) × (o ≡ boot_opening p)
-    × (life_of p past ≡ life_of p (says past (Enter mpidr) (enters o.address o.context)) → ⊥) → ⊥)
-    → OneEntryEach p (says past (Enter mpidr) (enters o.address o.context)) → ⊥
-never_enters p past mpidr o k none other one = grind (arith, never_waits)
+  -- so an entry at it breaks sentence 4, if it begins no life
+  pub never_enters : (k : ℕ) → NoneMade k past
+      → ((mpidr ≡ p.boot) × (o ≡ boot_opening p)
+      × (life_of p past ≡ life_of p (says past (Enter mpidr) (enters o.address o.context)) → ⊥)
+      → ⊥)
+      → OneEntryEach p (says past (Enter mpidr) (enters o.address o.context)) → ⊥
+  never_enters k none other one = grind (arith, never_waits)

@@ -2,16 +2,18 @@
 use Rattle.psci_platform_safe.proofs.Words.{◌++◌, ◌<◌, ◌∙◌, ◌∷◌, ◌≡◌, [], acks, AckValue, Act, ap}
 use Rattle.psci_platform_safe.proofs.Words.{AsksOn, BoardValue, Call, call, change, Code}
 use Rattle.psci_platform_safe.proofs.Words.{controller_values, core_of, cores, Effect, Enter}
-use Rattle.psci_platform_safe.proofs.Words.{enter_effect, Event, event_after, firmware_history}
+use Rattle.psci_platform_safe.proofs.Words.{enter_effect, Event, event_after, firmware_legal}
 use Rattle.psci_platform_safe.proofs.Words.{firmware_values, function_effect, Fw, FwFault, indexed}
-use Rattle.psci_platform_safe.proofs.Words.{inl, inr, IsCore, last_start, List, MessageValue}
-use Rattle.psci_platform_safe.proofs.Words.{mode_of, None, Nothing, number, numbered, Opening}
+use Rattle.psci_platform_safe.proofs.Words.{inl, inr, IsCore, IsLegal, IsLegalOn, last_start, List}
+use Rattle.psci_platform_safe.proofs.Words.{MessageValue, mode_of, None, Nothing, number, Opening}
 use Rattle.psci_platform_safe.proofs.Words.{Opens, Option, option_map, Outcome, outcome_in}
 use Rattle.psci_platform_safe.proofs.Words.{outcome_of, PlatformValue, PowerOn, Record, refl, Regs}
 use Rattle.psci_platform_safe.proofs.Words.{regs_for, reply_or, request_of, Rest, Rests, Said}
 use Rattle.psci_platform_safe.proofs.Words.{said_in_numbers, Sent, sent_in_numbers, Some, Start}
 use Rattle.psci_platform_safe.proofs.Words.{subst, success, sym, Take, Taken, target, Values, ℕ}
 use Rattle.psci_headline.proofs.Naming.{AreNamed}
+use Rattle.psci_headline.specs.psci_world_spec.Histories.{firmware_history, entered, took}
+use Rattle.psci_platform_safe.specs.Words.{numbered}
 use Rattle.psci_headline.specs.psci_fw_spec.After.{after}
 use Rattle.psci_headline.specs.psci_fw_spec.Answer.{answer}
 use Rattle.psci_headline.specs.psci_fw_spec.Calls.{call_fault}
@@ -19,7 +21,6 @@ use Rattle.psci_headline.specs.psci_fw_spec.Effects.{effect_of}
 use Rattle.psci_headline.specs.psci_fw_spec.Exchange.{FwExchange}
 use Rattle.psci_headline.specs.psci_fw_spec.History.{values_of}
 use Rattle.psci_headline.specs.psci_world_spec.declared.said.Said.TheVariants.{Taken as Took}
-use Rattle.psci_headline.specs.psci_world_spec.Histories.{entered, took}
 use Rattle.psci_platform_safe.proofs.Backwards.{AreMissing, AreNone, AreRead, on_back, suspend_back}
 use Rattle.psci_platform_safe.proofs.Backwards.{target_number}
 use Rattle.psci_platform_safe.proofs.Calling.{asks_on, rests, succeeds}
@@ -113,6 +114,21 @@ effect_now p older (Enter m) (Fw act own) laws =
 effect_now p older (Take k) (Took t) laws =
     took_now p older (indexed (acks (numbered p older)) k) t laws
 effect_now p older event said laws = refl
+
+-- a record that is legal is a legal call of the firmware, by what its event and its answer are
+pub legal_record : (p : PlatformValue) (r : Record) (older : List Record) (event : Event)
+    (said : Said) → IsLegalOn p (r ∷ older) → r.event ≡ event → r.said ≡ said
+    → IsLegal p.board (call (controller_values p.board (numbered p older))
+    (acks (numbered p older)) (event_after p (numbered p older) event) (said_in_numbers p said)
+    ++ firmware_history p.board (numbered p older))
+unfolding numbered firmware_history
+legal_record p r older event said valid e s =
+    let w = numbered p older in
+    subst (λ (x : Said). IsLegal p.board (call (controller_values p.board w) (acks w)
+    (event_after p w event) (said_in_numbers p x) ++ firmware_history p.board w)) s
+    (subst (λ (x : Event). IsLegal p.board (call (controller_values p.board w) (acks w)
+    (event_after p w x) (said_in_numbers p r.said) ++ firmware_history p.board w)) e
+    (firmware_legal p.board (numbered p (r ∷ older)) valid))
 
 -- What a call opens -----------------------------------------------------------------------------
 

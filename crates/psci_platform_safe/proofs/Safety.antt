@@ -2,10 +2,9 @@
 -- controller behind it.
 use Rattle.psci_platform_safe.proofs.Words.{◌++◌, ◌∷◌, ◌≡◌, [], AllOff, ap, AreAsked, AreClaimed}
 use Rattle.psci_platform_safe.proofs.Words.{BoardValue, domain_above, firmware_values, Holds}
-use Rattle.psci_platform_safe.proofs.Words.{IsLegalOn, List, listed, MessageValue, Node}
-use Rattle.psci_platform_safe.proofs.Words.{NoDeeperThanAsked, NoneBelowSleeping, number}
-use Rattle.psci_platform_safe.proofs.Words.{OneEntryEach, OneLiveClaim, Option, PlatformValue}
-use Rattle.psci_platform_safe.proofs.Words.{Record, slice_get, Some, told_hw, told_off}
+use Rattle.psci_platform_safe.proofs.Words.{IsLegalOn, List, listed, MessageValue, Node, number}
+use Rattle.psci_platform_safe.proofs.Words.{OneEntryEach, Option, PlatformValue, Record, slice_get}
+use Rattle.psci_platform_safe.proofs.Words.{Some, told_hw, told_off}
 use Rattle.psci_headline.specs.ToldHw.{WasSoDeep, is_off_depth, is_standby_depth}
 use Rattle.psci_headline.specs.Safe.{AlwaysSafe, Safe}
 use Rattle.psci_headline.specs.psci_world_spec.Histories.{sent}
@@ -47,29 +46,11 @@ sound p laws past r m legal e =
     ap (λ (o : Option MessageValue). slice_get (listed o ++ sent (numbered p past)) 0) e in
     ((laws.holds (r ∷ past) legal).messages 0 m at).sound.core
 
-none_below : (p : PlatformValue) (past : List Record) → Behind p → IsLegalOn p past
-    → NoneBelowSleeping p past
-none_below p past laws legal mpidr level is low executing =
-    (safe_now p.board (numbered p past) (laws.safe past legal)).powered (number p mpidr) level
-    (number_inside p mpidr laws.names is) low executing
-
 off_is_down : (p : PlatformValue) (past : List Record) → Behind p → IsLegalOn p past
     → OffIsDown p past
 off_is_down p [] laws legal = tt
 off_is_down p (r ∷ past) laws legal = λ word level mpidr a asked.
     off p r past word level mpidr laws.names (λ n. laws.told_off r past n legal) a asked
-
-one_live : (p : PlatformValue) (past : List Record) → Behind p → IsLegalOn p past
-    → OneLiveClaim p past
-one_live p past laws legal mpidr level is low =
-    (safe_now p.board (numbered p past) (laws.safe past legal)).one (domain_above p mpidr level)
-    (has_above p mpidr level laws.names is low)
-
-no_deeper : (p : PlatformValue) (past : List Record) → Behind p → IsLegalOn p past
-    → NoDeeperThanAsked p past
-no_deeper p past laws legal mpidr level life is low present some =
-    as_asked p past mpidr level life laws.names laws.boot (laws.claimed past legal)
-    (laws.asked past legal) (sound p laws) legal is low present some
 
 states_real : (p : PlatformValue) (past : List Record) → Behind p → IsLegalOn p past
     → StatesWereReal p past
@@ -83,15 +64,21 @@ states_real p (r ∷ past) laws legal = λ word level mpidr asked. (
 
 pub safe_on : (p : PlatformValue) (past : List Record) → Behind p → IsLegalOn p past
     → SafeOn p past
-safe_on p past laws legal = record {
-  powered = none_below p past laws legal;
-  off = off_is_down p past laws legal;
-  one = one_live p past laws legal;
-  asked = no_deeper p past laws legal;
-  entries = laws.entries past legal;
-  taken = (safe_now p.board (numbered p past) (laws.safe past legal)).entries;
-  states = states_real p past laws legal;
-}
+safe_on p past laws legal =
+    let now = safe_now p.board (numbered p past) (laws.safe past legal) in
+    record {
+      powered = λ mpidr level is low executing.
+          now.powered (number p mpidr) level (number_inside p mpidr laws.names is) low executing;
+      off = off_is_down p past laws legal;
+      one = λ mpidr level is low.
+          now.one (domain_above p mpidr level) (has_above p mpidr level laws.names is low);
+      asked = λ mpidr level life is low present some.
+          as_asked p past mpidr level life laws.names laws.boot (laws.claimed past legal)
+          (laws.asked past legal) (sound p laws) legal is low present some;
+      entries = laws.entries past legal;
+      taken = now.entries;
+      states = states_real p past laws legal;
+    }
 
 pub always : (p : PlatformValue) (past : List Record) → Behind p → IsLegalOn p past
     → AlwaysSafeOn p past

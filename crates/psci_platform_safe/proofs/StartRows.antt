@@ -6,8 +6,7 @@ use Rattle.psci_headline.specs.psci_world_spec.declared.event.Event.TheVariants.
 use Rattle.psci_platform_safe.specs.Asked.{AsksByWord, IsFromStart, asks}
 use Rattle.psci_platform_safe.specs.Words.{run_on}
 use Rattle.psci_platform_safe.proofs.Histories.{after, computing, core_1_on, life_2, suspend, tall}
-use Rattle.psci_platform_safe.proofs.Histories.{tall_after}
-use Rattle.psci_platform_safe.proofs.Histories.{tall_on, told, two}
+use Rattle.psci_platform_safe.proofs.Histories.{tall_after, tall_on, told, two}
 use Rattle.psci_platform_safe.proofs.Moments.{apart, of_level}
 
 -- The start of a life ----------------------------------------------------------------------------

@@ -1,16 +1,15 @@
 -- What a core asks that a word has suspended: the depths of the word's states.
-use Rattle.psci_platform_safe.proofs.Words.{◌++◌, ◌==◌, ◌∙◌, ◌∷◌, ◌≡◌, ◌≤◌, acks, ap, arith}
-use Rattle.psci_platform_safe.proofs.Words.{BadState, BoardValue, Bool, Call, call, cases_Bool}
-use Rattle.psci_platform_safe.proofs.Words.{change, Code, cond, controller_values, depth_at}
-use Rattle.psci_platform_safe.proofs.Words.{depths_of, DescriptionValue, eq-eqb, Event, event_after}
-use Rattle.psci_platform_safe.proofs.Words.{false, firmware_legal, firmware_values, function_effect}
-use Rattle.psci_platform_safe.proofs.Words.{Fw, FwFault, height, inl, inr, is_there, IsBoard}
-use Rattle.psci_platform_safe.proofs.Words.{IsLegal, IsLegalOn, le-leb, List, MessageValue, mode_of}
-use Rattle.psci_platform_safe.proofs.Words.{NoCore, NoLife, None, not, number, Option, Outcome}
-use Rattle.psci_platform_safe.proofs.Words.{outcome_in, PlatformValue, Record, refl, Regs, reply_or}
-use Rattle.psci_platform_safe.proofs.Words.{request_of, rest_named, Result, Said, said_in_numbers}
-use Rattle.psci_platform_safe.proofs.Words.{Sent, sent_in_numbers, slice_index, Some, states_of}
-use Rattle.psci_platform_safe.proofs.Words.{stops, subst, suc, sym, true, Values, word_for, zero, ℕ}
+use Rattle.psci_platform_safe.proofs.Words.{◌==◌, ◌∙◌, ◌∷◌, ◌≡◌, ◌≤◌, ap, arith, BadState}
+use Rattle.psci_platform_safe.proofs.Words.{BoardValue, Bool, Call, cases_Bool, change, Code, cond}
+use Rattle.psci_platform_safe.proofs.Words.{depth_at, depths_of, DescriptionValue, eq-eqb, Event}
+use Rattle.psci_platform_safe.proofs.Words.{false, firmware_values, function_effect, Fw, FwFault}
+use Rattle.psci_platform_safe.proofs.Words.{half_of, height, inl, inr, is_there, IsBoard, IsLegalOn}
+use Rattle.psci_platform_safe.proofs.Words.{le-leb, List, MessageValue, mode_of, NoCore, NoLife}
+use Rattle.psci_platform_safe.proofs.Words.{None, not, number, Option, Outcome, outcome_in}
+use Rattle.psci_platform_safe.proofs.Words.{PlatformValue, Record, refl, Regs, reply_or, request_of}
+use Rattle.psci_platform_safe.proofs.Words.{rest_named, Result, Said, Sent, sent_in_numbers}
+use Rattle.psci_platform_safe.proofs.Words.{slice_index, Some, states_of, stops, suc, sym, true}
+use Rattle.psci_platform_safe.proofs.Words.{Values, word_for, zero, ℕ}
 use Rattle.psci_headline.specs.psci_fw_spec.declared.fault.FwFault.TheVariants.{NotRunning}
 use Rattle.psci_headline.specs.psci_fw_spec.Answer.{answer}
 use Rattle.psci_headline.specs.psci_fw_spec.Calls.{outcome_of}
@@ -22,10 +21,9 @@ use Rattle.psci_headline.specs.psci_state.Cores.{asks}
 use Rattle.psci_headline.specs.psci_world_spec.Histories.{firmware_history}
 use Rattle.psci_platform_safe.specs.Asked.{AsksByWord}
 use Rattle.psci_platform_safe.specs.Words.{numbered}
-use Rattle.psci_platform_safe.proofs.Backwards.{AreMissing, AreNone, AreRead, for_small, half_of}
-use Rattle.psci_platform_safe.proofs.Records.{effect_in, message_in, outcome_is, regs_in}
-use Rattle.psci_platform_safe.proofs.Records.{values_with}
-use Rattle.psci_platform_safe.proofs.Telling.{told}
+use Rattle.psci_platform_safe.proofs.Backwards.{AreMissing, AreNone, AreRead, for_small, told}
+use Rattle.psci_platform_safe.proofs.Records.{effect_in, legal_record, message_in, outcome_is}
+use Rattle.psci_platform_safe.proofs.Records.{regs_in, values_with}
 use Rattle.psci_headline.specs.psci_abi.declared.request.Request.TheVariants as requests
 use Rattle.psci_headline.specs.psci_fw_spec.declared.call.FwCall.TheVariants as calls
 use Rattle.psci_headline.specs.psci_fw_spec.declared.outcome.Act.TheVariants as acts
@@ -36,10 +34,7 @@ use Rattle.psci_headline.specs.psci_fw_spec.declared.reply.FwReply.TheVariants a
 -- an outcome that stops its caller and sends something is none that returns, or of a halting life
 no_stop : (o : Outcome) (m : MessageValue) (t : Bool) (code : Code) → o.act ≡ acts.Stop
     → o.message ≡ Some m → o ≡ cond t stops (returns code) → ⊥
-no_stop o m true code act message e =
-    let no : Some m ≡ None = sym message ∙ ap (λ (x : Outcome). x.message) e in absurd (cc)
-no_stop o m false code act message e =
-    let no : acts.Stop ≡ acts.Return code = sym act ∙ ap (λ (x : Outcome). x.act) e in absurd (cc)
+no_stop o m t code act message e = grind arith
 
 running : (ph : Phase) → is_running ph ≡ true → ph ≡ Running
 running Running e = refl
@@ -103,19 +98,8 @@ module _ (p : PlatformValue) (r : Record) (older : List Record) (regs : Regs)
   asks_word =
       word_for p.description p.board.format (states_of p.description (mode_of p older) word)
 
-  history : IsLegal p.board (call (controller_values p.board w) (acks w)
-      (event_after p w (Call mpidr regs)) (said_in_numbers p (Fw acts.Stop (Some sent)))
-      ++ firmware_history p.board w)
-  unfolding numbered firmware_history
-  history =
-      subst (λ (x : Said). IsLegal p.board (call (controller_values p.board w) (acks w)
-      (event_after p w (Call mpidr regs)) (said_in_numbers p x) ++ firmware_history p.board w)) said
-      (subst (λ (x : Event). IsLegal p.board (call (controller_values p.board w) (acks w)
-      (event_after p w x) (said_in_numbers p r.said) ++ firmware_history p.board w)) event
-      (firmware_legal p.board (numbered p (r ∷ older)) valid))
-
   replied : replies.Out own ≡ answer p.board v c (calls.Smc (regs_in p older regs))
-  replied = history.0
+  replied = (legal_record p r older (Call mpidr regs) (Fw acts.Stop (Some sent)) valid event said).0
 
   out : own ≡ outcome_of p.board v c (request_of (regs_in p older regs))
   out = outcome_is p.board v c (regs_in p older regs) own replied

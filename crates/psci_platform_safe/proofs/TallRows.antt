@@ -1,7 +1,6 @@
 -- Worked examples: what is said on a platform of three levels, whose MPIDRs fall and of which the
 -- last core boots; what its cores ask there, and how deep its domains are.
-use Rattle.std.proofs.Common.{◌≡◌, ◌++◌, ℕ, false, List, [], ◌∷◌, length, map, reverse}
-use Rattle.std.proofs.Common.{refl, arith}
+use Rattle.std.proofs.Common.{◌≡◌, ◌++◌, ℕ, false, List, [], ◌∷◌, length, map, reverse, refl, arith}
 use Rattle.psci_platform.specs.Platforms.{IsPlatform}
 use Rattle.psci_headline.specs.Claims.{live_claims}
 use Rattle.psci_headline.specs.psci_messages.declared.kind.Kind.TheVariants.{Down, Off, Reset}

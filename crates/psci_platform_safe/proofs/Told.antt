@@ -18,7 +18,7 @@ use Rattle.psci_headline.specs.psci_world_spec.Histories.{firmware_history}
 use Rattle.psci_platform_safe.specs.Safe.{Answers, IsOff}
 use Rattle.psci_platform_safe.specs.Words.{numbered}
 use Rattle.psci_platform_safe.proofs.Numbers.{Laws, low_asked, number_inside}
-use Rattle.psci_platform_safe.proofs.Telling.{affinity_told, hw_told}
+use Rattle.psci_platform_safe.proofs.Backwards.{affinity_told, hw_told}
 use Rattle.psci_headline.specs.psci_abi.declared.request.Request.TheVariants as requests
 use Rattle.psci_headline.specs.psci_fw_spec.declared.outcome.Act.TheVariants as acts
 

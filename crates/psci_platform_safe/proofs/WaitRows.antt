@@ -2,8 +2,7 @@
 -- halting, such as do not, and entries that break sentence 4.
 use Rattle.std.proofs.Common.{◌++◌, [], ◌∷◌, None, inl, inr, refl, arith}
 use Rattle.psci_headline.specs.psci_world_spec.declared.event.Event.TheVariants.{Deliver, Enter}
-use Rattle.psci_headline.proofs.world_spec.Scripts.{call, enters}
-use Rattle.psci_headline.proofs.world_spec.Scripts.{system_off, system_reset}
+use Rattle.psci_headline.proofs.world_spec.Scripts.{call, enters, system_off, system_reset}
 use Rattle.psci_platform_safe.specs.Opened.{OneEntryEach, Waits}
 use Rattle.psci_platform_safe.proofs.Histories.{after, computing, core_1_on, on_1, on_by_the_system}
 use Rattle.psci_platform_safe.proofs.Histories.{says, suspend, tall, tall_after, tall_on, told, two}

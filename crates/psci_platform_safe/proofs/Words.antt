@@ -61,7 +61,8 @@ pub use Rattle.psci_headline.specs.psci_world_spec.declared.said.Record.{Record}
 pub use Rattle.psci_headline.specs.psci_world_spec.declared.said.Said.{Said}
 pub use Rattle.psci_headline.specs.psci_world_spec.declared.said.Said.TheVariants.{Absent, Fw}
 pub use Rattle.psci_headline.specs.psci_world_spec.declared.said.Sent.{Sent}
-pub use Rattle.psci_platform.proofs.Requests.{request_with, short, with_first}
+pub use Rattle.psci_platform.proofs.Requests.{half_of, request_with, short, with_first}
+pub use Rattle.psci_platform.proofs.Named.{found}
 pub use Rattle.psci_platform.proofs.Swapped.{core_inside}
 pub use Rattle.psci_platform.specs.Calls.{asks_states, first_argument, is_there, regs_for}
 pub use Rattle.psci_platform.specs.Cores.{boot_place, core_named, core_word, number_named}

@@ -1,6 +1,6 @@
 -- The word of some depths is read where they are an ask.
 use Rattle.psci_platform.proofs.Words.{◌∙◌, ◌≡◌, is_ask, length, refl, rules}
-use Rattle.psci_platform.proofs.Asks.{ask_is}
+use Rattle.psci_platform.proofs.OwnStates.{ask_is}
 use Rattle.psci_platform.proofs.states.ask_of.Goals as goal
 
 pub returns : goal.returns

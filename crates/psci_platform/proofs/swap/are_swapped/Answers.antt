@@ -7,7 +7,7 @@ use Rattle.psci_platform.proofs.swap.are_swapped.Goals as goal
 pub returns-then-not-is_swapped : goal.returns-then-not-is_swapped
 returns-then-not-is_swapped c =
     let b = c.args.board.now in
-    sym (not_all (is_swapped b c.args.boot.number) 0 (cores b) c.loop-number.number (omega arith)
+    sym (not_all (is_swapped b c.args.boot.number) (cores b) c.loop-number.number
     (omega (arith, c.loop-number-test.true, c.cores-number-end.ensures.cores))
     (sym c.is_swapped.ensures ∙ c.if-not-is_swapped.true))
 

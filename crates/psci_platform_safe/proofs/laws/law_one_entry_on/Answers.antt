@@ -1,26 +1,16 @@
 -- Each entry of a platform takes up an opening of its own, or begins a life.
-use Rattle.psci_platform_safe.proofs.Words.{◌<◌, ap, asks_states, boot_place, cores, subst, sym}
-use Rattle.psci_platform_safe.proofs.Words.{Values, ℕ}
+use Rattle.psci_platform_safe.proofs.Words.{◌<◌, ap, asks_states, cores, subst, sym, Values, ℕ}
 use Rattle.psci_platform_safe.proofs.Entering.{entries}
-use Rattle.psci_platform_safe.proofs.Named.{AtBoot, boot_number, laws_of, some_cores}
-use Rattle.psci_platform_safe.proofs.Numbers.{is_core}
+use Rattle.psci_platform_safe.proofs.Numbers.{boot_number, is_core, laws_of, some_cores}
 use Rattle.psci_platform_safe.proofs.laws.law_one_entry_on.Goals as goal
 
 pub returns : goal.returns
 returns c = λ p past board is legal.
     let d = p.description in
     let b = p.board in
-    let at : AtBoot p (boot_place d b p.boot) = record {
-      renumbering = c.law_boot_core.ensures.renumbering d b p.boot board is.faultless;
-      core_of = λ mpidr. c.law_named.ensures.core d b p.boot mpidr board is.faultless;
-      node_of = λ word level. c.law_named.ensures.node d b p.boot word level board is.faultless;
-      boot = c.law_mpidrs.ensures.boot d b p.boot board is.faultless;
-    } in
-    let zero = boot_number p is at in
+    let zero = boot_number p is (c.law_mpidrs.ensures.boot d b p.boot board is.faultless) in
     entries p past (record {
-      names = laws_of p board is (c.law_paths.ensures b board) (c.law_words.ensures b board)
-          (c.law_mpidrs.ensures.count d b p.boot is.faultless)
-          (λ k. c.law_mpidrs.ensures.core d b p.boot k is.faultless) at;
+      names = laws_of p board is (c.law_paths.ensures b board) (c.law_words.ensures b board);
       core = is_core p p.boot (subst (λ (k : ℕ). k < cores b) (sym zero) (some_cores p is));
       boot = zero;
       missing = λ mode regs none. c.law_missing.ensures.function d b p.place mode regs none;

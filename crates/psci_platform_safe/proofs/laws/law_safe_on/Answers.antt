@@ -1,8 +1,8 @@
 -- A legal history of a platform is safe at every moment.
-use Rattle.psci_platform_safe.proofs.Words.{◌∙◌, ap, boot_place, firmware_history, firmware_legal}
+use Rattle.psci_platform_safe.proofs.Words.{◌∙◌, ap, firmware_history, firmware_legal}
 use Rattle.psci_platform_safe.proofs.Words.{firmware_values, Holds, is_there, subst, sym}
 use Rattle.psci_platform_safe.specs.Words.{numbered}
-use Rattle.psci_platform_safe.proofs.Named.{AtBoot, boot_number, laws_of}
+use Rattle.psci_platform_safe.proofs.Numbers.{boot_number, laws_of}
 use Rattle.psci_platform_safe.proofs.Safety.{always}
 use Rattle.psci_platform_safe.proofs.Told.{record_for}
 use Rattle.psci_platform_safe.proofs.laws.law_safe_on.Goals as goal
@@ -12,17 +12,9 @@ unfolding numbered
 returns c = λ p past board is legal.
     let d = p.description in
     let b = p.board in
-    let at : AtBoot p (boot_place d b p.boot) = record {
-      renumbering = c.law_boot_core.ensures.renumbering d b p.boot board is.faultless;
-      core_of = λ mpidr. c.law_named.ensures.core d b p.boot mpidr board is.faultless;
-      node_of = λ word level. c.law_named.ensures.node d b p.boot word level board is.faultless;
-      boot = c.law_mpidrs.ensures.boot d b p.boot board is.faultless;
-    } in
     always p past (record {
-      names = laws_of p board is (c.law_paths.ensures b board) (c.law_words.ensures b board)
-          (c.law_mpidrs.ensures.count d b p.boot is.faultless)
-          (λ k. c.law_mpidrs.ensures.core d b p.boot k is.faultless) at;
-      boot = boot_number p is at;
+      names = laws_of p board is (c.law_paths.ensures b board) (c.law_words.ensures b board);
+      boot = boot_number p is (c.law_mpidrs.ensures.boot d b p.boot board is.faultless);
       missing = λ mode regs word level e none.
           c.law_missing.ensures.function d b p.place mode regs (ap (is_there d.functions) e ∙ none);
       safe = λ before valid. c.law_safe.ensures b (numbered p before) board valid;

@@ -1,5 +1,5 @@
 use Rattle.psci_platform.proofs.Words.{◌∙◌, ◌≡◌, ap, core_word, is_on, low_half, sym, true, ℕ}
-use Rattle.psci_platform.proofs.KeptCalls.{on_asked, on_regs}
+use Rattle.psci_platform.proofs.ByWord.{on_asked, on_regs}
 use Rattle.psci_platform.proofs.platform.Platform.on_at_once.Goals as goal
 
 pub returns-clause-regs : goal.returns-clause-regs

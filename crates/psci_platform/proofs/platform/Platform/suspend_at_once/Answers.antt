@@ -4,7 +4,7 @@ use Rattle.psci_platform.proofs.Words.{Bool, can_ask_by, false, height, IfSome_t
 use Rattle.psci_platform.proofs.Words.{is_suspend, List, low_half, no_state, None, Option, Reading}
 use Rattle.psci_platform.proofs.Words.{reads, Regs, regs_for, Some, states_of, sym, true, word_for}
 use Rattle.psci_platform.proofs.Words.{ℕ}
-use Rattle.psci_platform.proofs.KeptCalls.{asks_something, if_all, suspend_asked, suspend_regs}
+use Rattle.psci_platform.proofs.ByWord.{asks_something, if_all, suspend_asked, suspend_regs}
 use Rattle.psci_platform.proofs.Reading.{ask_found, no_word, states_missed, states_read, word_found}
 use Rattle.psci_platform.proofs.platform.Platform.suspend_at_once.Goals.{After-low-2}
 use Rattle.psci_platform.proofs.platform.Platform.suspend_at_once.Goals as goal
