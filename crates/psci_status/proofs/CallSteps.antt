@@ -256,7 +256,8 @@ module _ {f : FirmwareValue} (f' : FirmwareValue) {table : TableId} {rows : List
   same_life : (seen f').life ≡ (seen f).life
   same_life = rw left (life f.board (seen f) c regs (replies.Out o))
 
-  pub smc_polled : {table' : TableId} {rows' : List (List Status)} → More → f'.board ≡ f.board → table' ≡ table
+  pub smc_polled : {table' : TableId} {rows' : List (List Status)} → More
+      → f'.board ≡ f.board → table' ≡ table
       → ((core : ℕ) → core < n
       → row rows' core ≡ written_then (seen f').life (seen f') core (row rows core))
       → IsPolled f' table' rows' n

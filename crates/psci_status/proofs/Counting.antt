@@ -1,6 +1,6 @@
 -- What a status weighs, and so how many statuses a core can have had: a status is weighed by the
--- life and the known start that it came with. What a call does to a core leaves its status, or gives
--- it one that weighs more; and each status that is added weighs more than the last one.
+-- life and the known start that it came with. What a call does to a core leaves its status, or
+-- gives it one that weighs more; and each status that is added weighs more than the last one.
 use Rattle.std.proofs.Common.{◌≡◌, ◌≢◌, inl, inr, ℕ, ◌+◌, ◌*◌, ◌<◌, ◌≤◌, List, [], ◌∷◌, length}
 use Rattle.std.proofs.Common.{Bool, true, false, refl, sym, ap, subst, arith}
 use Rattle.std.specs.Prelude.{◌⊎◌, ◌==◌, ◌&&◌, not, if◌then◌else◌}

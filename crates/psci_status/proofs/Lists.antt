@@ -119,7 +119,8 @@ words_set (x ∷ xs) (w ∷ ws) (suc c) r y all same q (suc d) h = words_set xs 
 -- the serial of the next item
 pub word_length : (log : List Status) (r : ℕ) → IsWord log r → r / 4 + 1 ≡ length log
 word_length [] r h = absurd h
-word_length (s ∷ ss) r h = let e : r ≡ 4 * length ss + status_code s = h in omega (arith, code_small)
+word_length (s ∷ ss) r h =
+    let e : r ≡ 4 * length ss + status_code s = h in omega (arith, code_small)
 
 -- the word that the writer stores after this one
 pub next_word : (log : List Status) (r k : ℕ) (s : Status) (new : ℕ) → r / 4 + 1 ≡ length log

@@ -122,7 +122,8 @@ added_nothing b v v' written count c call reply adds past wide is core small oth
     let next : v' ≡ values_of b (e ∷ h) = valued b v v' c call reply h adds past.values is in
     let life_is : life b (e ∷ h) ≡ life b h = rw (next, past.values) at same in
     let begun : life b (e ∷ h) ≢ 0 = rw next at some in
-    let stays : v'.status core ≡ status b h core = rw next (status_stays b e h core life_is other) in
+    let stays : v'.status core ≡ status b h core =
+    rw next (status_stays b e h core life_is other) in
     rw (stays, past.written core (rw wide at small)) (added_last b h core (rw life_is at begun))
 
 -- the history with the call is a past of what it left

@@ -15,7 +15,8 @@ use Rattle.psci_status.specs.declared.rule.View.{View}
 use Rattle.psci_status.specs.Rule.{begins, nobody, note_of, informed, Fits, Kept, Looked, Loaded}
 use Rattle.psci_status.specs.Rule.{Stored}
 use Rattle.psci_status.proofs.Lists.{gain_within, gains_within, item_begins, item_stands, longer}
-use Rattle.psci_status.proofs.Lists.{newest_within, row_newest, row_set_all, within_rises, words_set}
+use Rattle.psci_status.proofs.Lists.{newest_within, row_newest, row_set_all, within_rises}
+use Rattle.psci_status.proofs.Lists.{words_set}
 
 -- the seats
 

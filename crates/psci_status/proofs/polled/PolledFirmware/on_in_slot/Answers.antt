@@ -4,20 +4,23 @@ use Rattle.psci_status.proofs.polled.PolledFirmware.on_in_slot.Goals as goal
 pub write_one-requires-clause-others : goal.write_one-requires-clause-others
 write_one-requires-clause-others c =
     let left = c.on_in_slot-reaction.ensures in
-    smc_stays c.on_in_slot-reaction.new.self c.args.core.number c.args.regs c.law_caller.ensures.life c.self.invariant
+    smc_stays c.on_in_slot-reaction.new.self c.args.core.number c.args.regs
+    c.law_caller.ensures.life c.self.invariant
     left.answer left.after c.law_values.ensures.more left.slot c.asked_in-asked.ensures
 
 pub invariant_of-self : goal.invariant_of-self
 invariant_of-self c =
     let left = c.on_in_slot-reaction.ensures in
-    smc_polled c.on_in_slot-reaction.new.self c.args.core.number c.args.regs c.law_caller.ensures.life c.self.invariant
+    smc_polled c.on_in_slot-reaction.new.self c.args.core.number c.args.regs
+    c.law_caller.ensures.life c.self.invariant
     left.answer left.after c.law_values.ensures.more left.board c.write_one.ensures.table
     c.write_one.ensures.log
 
 pub returns-clause-next : goal.returns-clause-next
 returns-clause-next c =
     let left = c.on_in_slot-reaction.ensures in
-    smc_next c.on_in_slot-reaction.new.self c.args.core.number c.args.regs c.law_caller.ensures.life c.self.invariant
+    smc_next c.on_in_slot-reaction.new.self c.args.core.number c.args.regs
+    c.law_caller.ensures.life c.self.invariant
     left.answer left.after c.self.view_is left.board c.write_one.ensures.table
     c.write_one.ensures.log
 

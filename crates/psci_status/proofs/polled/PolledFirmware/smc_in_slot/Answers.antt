@@ -5,25 +5,28 @@ use Rattle.psci_status.proofs.polled.PolledFirmware.smc_in_slot.Goals as goal
 pub returns-in_err-reaction-clause-next : goal.returns-in_err-reaction-clause-next
 returns-in_err-reaction-clause-next c =
     let e = c.in_err-reaction.ensures in
-    next_still c.smc_in_slot.new.self c.args.core.number (calls.Smc c.args.regs) c.self.invariant c.self.view_is
-    e.answer e.after e.refused
+    next_still c.smc_in_slot.new.self c.args.core.number (calls.Smc c.args.regs) c.self.invariant
+    c.self.view_is e.answer e.after e.refused
 
 pub write_one-requires-clause-others : goal.write_one-requires-clause-others
 write_one-requires-clause-others c =
     let left = c.in_ok-reaction.ensures in
-    smc_stays c.smc_in_slot.new.self c.args.core.number c.args.regs c.law_caller.ensures.life c.self.invariant
+    smc_stays c.smc_in_slot.new.self c.args.core.number c.args.regs
+    c.law_caller.ensures.life c.self.invariant
     left.answer left.after c.law_values.ensures.more left.slot c.asked_in-asked.ensures
 
 pub invariant_of-self-2 : goal.invariant_of-self-2
 invariant_of-self-2 c =
     let left = c.in_ok-reaction.ensures in
-    smc_polled c.smc_in_slot.new.self c.args.core.number c.args.regs c.law_caller.ensures.life c.self.invariant
+    smc_polled c.smc_in_slot.new.self c.args.core.number c.args.regs
+    c.law_caller.ensures.life c.self.invariant
     left.answer left.after c.law_values.ensures.more left.board c.write_one.ensures.table
     c.write_one.ensures.log
 
 pub returns-clause-next : goal.returns-clause-next
 returns-clause-next c =
     let left = c.in_ok-reaction.ensures in
-    smc_next c.smc_in_slot.new.self c.args.core.number c.args.regs c.law_caller.ensures.life c.self.invariant
+    smc_next c.smc_in_slot.new.self c.args.core.number c.args.regs
+    c.law_caller.ensures.life c.self.invariant
     left.answer left.after c.self.view_is left.board c.write_one.ensures.table
     c.write_one.ensures.log
