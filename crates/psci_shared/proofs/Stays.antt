@@ -17,7 +17,7 @@ use Rattle.psci_status.specs.Naming.{is_named, names}
 use Rattle.psci_status.specs.Writing.{written_then}
 use Rattle.psci_status.proofs.Last.{added_last}
 use Rattle.psci_status.proofs.Past.{names_enter, names_smc, names_take}
-use Rattle.psci_status.proofs.Staying.{status_stays}
+use Rattle.psci_status.proofs.Last.{status_stays}
 use Rattle.psci_status.specs.Lists.{row}
 use Rattle.psci_shared.specs.Entries.{FwEntry}
 use Rattle.psci_shared.specs.Books.{exchange_of, history_of}

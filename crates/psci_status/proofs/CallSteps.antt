@@ -1,34 +1,54 @@
 -- What the calls of a polled firmware have to show, over plain values.
-use Rattle.std.proofs.Common.{◌≡◌, ◌≢◌, ℕ, ◌<◌, List, false, refl, sym, ap, ◌∙◌, subst, replicate}
-use Rattle.std.proofs.Common.{[], ◌∷◌, ◌+◌, ◌*◌, ◌^◌, ◌≤◌, length, Option, zero, suc, arith}
+use Rattle.std.proofs.Common.{◌≡◌, ◌≢◌, ℕ, ◌<◌, List, Bool, true, false, refl, sym, ap, ◌∙◌, subst}
+use Rattle.std.proofs.Common.{replicate, [], ◌∷◌, ◌+◌, ◌*◌, ◌^◌, ◌≤◌, length, Option, None, Some}
+use Rattle.std.proofs.Common.{arith}
+use Rattle.std.specs.Prelude.{◌==◌, if◌then◌else◌, option_map, Result, Ok, Err}
+use Rattle.std.proofs.lemmas.List.{get_or-replicate}
 use Rattle.std.proofs.lemmas.Nat.{mul-le}
 use Rattle.atomic_table.specs.Seated.{TableId}
+use Rattle.psci_abi.specs.Calls.{request_of}
+use Rattle.psci_abi.specs.declared.code.Code.{Code}
+use Rattle.psci_abi.specs.declared.registers.Regs.{Regs}
+use Rattle.psci_abi.specs.declared.request.Request.{Request}
+use Rattle.psci_abi.specs.declared.request.Request.TheVariants as requests
 use Rattle.psci_board.specs.Board.{BoardValue, IsBoard, cores}
 use Rattle.psci_board.specs.declared.node.Core.{Core}
-use Rattle.psci_fw.specs.Seen.{FirmwareValue, seen}
-use Rattle.psci_messages.specs.Message.{AckValue}
+use Rattle.psci_messages.specs.declared.kind.Kind.{Kind}
+use Rattle.psci_messages.specs.declared.kind.Kind.TheVariants as kinds
 use Rattle.psci_messages.specs.declared.taken.Taken.{Taken}
 use Rattle.psci_messages.specs.declared.taken.Taken.TheVariants.{Used, Old}
+use Rattle.psci_messages.specs.Message.{AckValue, MessageValue}
+use Rattle.psci_messages.specs.Slots.{slot_of}
+use Rattle.psci_fw.specs.Reactions.{number_of, slot_number}
+use Rattle.psci_fw.specs.Seen.{FirmwareValue, seen}
 use Rattle.psci_fw_spec.specs.declared.call.FwCall.{FwCall}
-use Rattle.psci_fw_spec.specs.declared.call.FwCall.TheVariants.{Take}
+use Rattle.psci_fw_spec.specs.declared.call.FwCall.TheVariants.{Smc, Take}
+use Rattle.psci_fw_spec.specs.declared.fault.FwFault.{FwFault}
+use Rattle.psci_fw_spec.specs.declared.outcome.Act.{Act}
+use Rattle.psci_fw_spec.specs.declared.outcome.Act.TheVariants as acts
+use Rattle.psci_fw_spec.specs.declared.outcome.Outcome.{Outcome}
 use Rattle.psci_fw_spec.specs.declared.reply.FwReply.{FwReply}
 use Rattle.psci_fw_spec.specs.declared.reply.FwReply.TheVariants as replies
 use Rattle.psci_fw_spec.specs.declared.status.Status.{Status}
 use Rattle.psci_fw_spec.specs.declared.status.Status.TheVariants.{Off}
 use Rattle.psci_fw_spec.specs.After.{after}
-use Rattle.psci_fw_spec.specs.Answer.{answer}
-use Rattle.psci_fw_spec.specs.Effects.{effect_of}
+use Rattle.psci_fw_spec.specs.Answer.{answer, reply_or}
+use Rattle.psci_fw_spec.specs.Calls.{call_fault, outcome_of}
+use Rattle.psci_fw_spec.specs.CpuOn.{start_outcome, target_of}
+use Rattle.psci_fw_spec.specs.Effects.{effect_of, function_effect, sent_effect}
 use Rattle.psci_fw_spec.specs.Exchange.{FwExchange}
 use Rattle.psci_fw_spec.specs.History.{values_of}
 use Rattle.psci_fw_spec.specs.Legal.{IsLegal}
 use Rattle.psci_fw_spec.specs.Lives.{start_of_life}
+use Rattle.psci_fw_spec.specs.Outcomes.{stops}
 use Rattle.psci_fw_spec.specs.Statuses.{added, statuses}
 use Rattle.psci_fw_spec.specs.Values.{Values}
 use Rattle.psci_status.specs.Lists.{row}
-use Rattle.psci_status.specs.Naming.{is_named, names}
-use Rattle.psci_status.specs.Polled.{IsNext, IsPast, IsPolled, PolledView}
+use Rattle.psci_status.specs.Naming.{is_named, names, slot_beside}
+use Rattle.psci_status.specs.Polled.{IsNext, IsPast, IsPolled, IsWrittenFrom, PolledView}
 use Rattle.psci_status.specs.Writing.{most_statuses, written_then}
-use Rattle.psci_status.proofs.Past.{More, added_nothing, nothing_more, past_more}
+use Rattle.psci_status.proofs.Past.{More, added_nothing, names_return, names_stop, nothing_more}
+use Rattle.psci_status.proofs.Past.{past_more}
 
 -- before any call
 pub first_statuses : (b : BoardValue) (core : ℕ) → statuses b [] core ≡ Off ∷ []
@@ -36,9 +56,7 @@ unfolding statuses
 first_statuses b core = refl
 
 pub row_same : (n c : ℕ) → c < n → row (replicate n (Off ∷ [])) c ≡ Off ∷ []
-row_same zero c h = absurd (omega arith)
-row_same (suc n) zero h = refl
-row_same (suc n) (suc c) h = row_same n c (omega arith)
+row_same n c h = get_or-replicate n c (Off ∷ []) [] h
 
 pub polled_first : (b : BoardValue) (f : FirmwareValue) (table : TableId)
     (rows : List (List Status)) (n : ℕ) → values_of b [] ≡ start_of_life b 0 → IsBoard b
@@ -46,24 +64,99 @@ pub polled_first : (b : BoardValue) (f : FirmwareValue) (table : TableId)
     → table.words ≡ cores b → n ≡ cores b → IsPolled f table rows n
 polled_first b f table rows n first board is fresh wrote words count =
     record {
-      board = subst IsBoard (sym is) board;
-      past = subst (λ (x : BoardValue). IsPast x (seen f) rows) (sym is) past;
+      board = rw is board;
+      past = subst (λ (x : BoardValue). IsPast x (seen f) rows) (sym is) (record {
+        history = [];
+        legal = tt;
+        values = fresh ∙ sym first;
+        written = λ core small. rw (wrote, row_same (cores b) core small, first_statuses) refl;
+      });
       words = words ∙ ap cores (sym is);
       count = count ∙ ap cores (sym is);
     }
-  where
-    past : IsPast b (seen f) rows
-    past = record {
-      history = [];
-      legal = tt;
-      values = fresh ∙ sym first;
-      written = λ core small. ap (λ (l : List (List Status)). row l core) wrote
-          ∙ row_same (cores b) core small ∙ sym (first_statuses b core);
-    }
 
--- a call that leaves the life
-pub life_left : (v w x : Values) → w ≡ x → x.life ≡ v.life → w.life ≡ v.life
-life_left v w x is same = ap (λ (y : Values). y.life) is ∙ same
+-- so little was written of each core that its word counts it
+pub few_rows : {f : FirmwareValue} {table : TableId} {rows : List (List Status)} {n : ℕ}
+    → ((b : BoardValue) (h : List FwExchange) (core : ℕ) → IsBoard b → IsLegal b h
+    → length (statuses b h core) ≤ most_statuses b)
+    → IsPolled f table rows n → (core : ℕ) → core < n → length (row rows core) < 2 ^ 60
+few_rows {f} few p core small =
+    let b = f.board in
+    let lives : b.lives + 1 ≤ 65536 = omega (arith, p.board.lives) in
+    let starts : 3 * b.starts + 8 ≤ 3 * 2 ^ 32 + 8 = omega (arith, p.board.starts) in
+    rw (p.past.written core (rw p.count at small))
+    (omega (
+      arith,
+      mul-le (b.lives + 1) (3 * b.starts + 8) 65536 (3 * 2 ^ 32 + 8) lives starts,
+      few b p.past.history core p.board p.past.legal,
+    ))
+
+-- Whom a CPU_ON names -----------------------------------------------------------------------------
+
+-- what it sends is a Start, which stands in the slot of its core: so the slot of what was sent
+-- beside a return code names whom the call names
+abbrev sent_message : FwReply → Option MessageValue
+sent_message (replies.Out o) = o.message
+sent_message reply = None
+
+abbrev sent_kind : Option MessageValue → Kind
+sent_kind None = kinds.Start
+sent_kind (Some m) = m.kind
+
+start_sent : (fault : Option FwFault) (halting : Bool) (v : Values) (found : Result Core Code)
+    (m : MessageValue)
+    → Some m ≡ sent_message (reply_or fault (if halting then stops else start_outcome v found))
+    → m.kind ≡ kinds.Start
+start_sent (Some fault) halting v found m e = ap sent_kind e
+start_sent None true v found m e = ap sent_kind e
+start_sent None false v (Err code) m e = ap sent_kind e
+start_sent None false v (Ok target) m e = ap sent_kind e
+
+slot_of_start : (b : BoardValue) (m : MessageValue) → m.kind ≡ kinds.Start
+    → slot_number b m ≡ m.core.number
+slot_of_start b m e = ap (λ (k : Kind). number_of b (slot_of k m.core)) e
+
+-- a function that returns and sends something names whom it sent it for, if it names a core
+module _ (b b' : BoardValue) (v : Values) (c core : ℕ) (code : Code) (m : MessageValue) where
+  names_on : (target entry context : ℕ)
+      → replies.Out (record { act = acts.Return code; message = Some m })
+      ≡ reply_or (call_fault b v c) (outcome_of b v c (requests.CpuOn target entry context))
+      → (core == slot_number b' m) ≡ false → (core == m.core.number) ≡ false
+  unfolding outcome_of
+  names_on target entry context is other =
+      let kind = start_sent (call_fault b v c) v.halting v (target_of b v target entry) m
+      (ap sent_message is) in
+      ap (λ (n : ℕ). core == n) (sym (slot_of_start b' m kind)) ∙ other
+
+  names_sent : (r : Request) → replies.Out (record { act = acts.Return code; message = Some m })
+      ≡ reply_or (call_fault b v c) (outcome_of b v c r)
+      → (core == slot_number b' m) ≡ false → names (sent_effect c r m) core ≡ false
+  names_sent (requests.CpuOn target entry_point context) is other =
+      names_on target entry_point context is other
+  names_sent r is other = refl
+
+names_function : (b b' : BoardValue) (v : Values) (c core : ℕ) (r : Request) (act : Act)
+    (m : Option MessageValue) → replies.Out (record { act = act; message = m })
+    ≡ reply_or (call_fault b v c) (outcome_of b v c r)
+    → is_named (slot_beside act (option_map (slot_number b') m)) core ≡ false
+    → names (function_effect b c r act m) core ≡ false
+names_function b b' v c core r acts.Stop (Some m) is other = names_stop b c core r m
+names_function b b' v c core r (acts.Return code) (Some m) is other =
+    names_sent b b' v c core code m r is other
+names_function b b' v c core r (acts.Return code) None is other = names_return c core r code
+names_function b b' v c core r act m is other = refl
+
+pub names_by_slot : (b b' : BoardValue) (v : Values) (c core : ℕ) (regs : Regs) (o : Outcome)
+    (slot : Option ℕ) → replies.Out o ≡ answer b v c (Smc regs)
+    → slot ≡ option_map (slot_number b') o.message
+    → is_named (slot_beside o.act slot) core ≡ false
+    → names (effect_of b c (Smc regs) (replies.Out o)) core ≡ false
+unfolding answer
+names_by_slot b b' v c core regs o slot is there other =
+    names_function b b' v c core (request_of regs) o.act o.message is
+    (subst (λ (s : Option ℕ). is_named (slot_beside o.act s) core ≡ false) there other)
+
+-- After a call ------------------------------------------------------------------------------------
 
 pub life_taken : (b : BoardValue) (c : ℕ) (a : AckValue) (taken : Taken) (v : Values)
     → (after b c (Take a) (replies.Taken taken) v).life ≡ v.life
@@ -71,125 +164,119 @@ unfolding after
 life_taken b c a Used v = refl
 life_taken b c a Old v = refl
 
--- after a call
-pub polled_next : (f f' : FirmwareValue) (table table' : TableId) (rows rows' : List (List Status))
-    (n c before : ℕ) (call : FwCall) (reply : FwReply) → More → IsPolled f table rows n
-    → reply ≡ answer f.board (seen f) c call → seen f' ≡ after f.board c call reply (seen f)
-    → f'.board ≡ f.board → table' ≡ table → before ≡ (seen f).life
-    → ((core : ℕ) → core < n
-    → row rows' core ≡ written_then before (seen f') core (row rows core))
-    → IsPolled f' table' rows' n
-polled_next f f' table table' rows rows' n c before call reply more p answered is same kept was
-    wrote =
-    record {
-      board = subst IsBoard (sym same) p.board;
-      past = subst (λ (x : BoardValue). IsPast x (seen f') rows') (sym same)
-          (past_more f.board (seen f) (seen f') rows rows' n c call reply more p.past p.count
-          answered is (subst (λ (l : ℕ). (core : ℕ) → core < n
-          → row rows' core ≡ written_then l (seen f') core (row rows core)) was wrote));
-      words = ap (λ (t : TableId). t.words) kept ∙ p.words ∙ ap cores (sym same);
-      count = p.count ∙ ap cores (sym same);
-    }
+module _ {f : FirmwareValue} (f' : FirmwareValue) {table : TableId} {rows : List (List Status)}
+    {n : ℕ} (c : ℕ) (call : FwCall) where
+  pub polled_next : {reply : FwReply} {table' : TableId} {rows' : List (List Status)} {before : ℕ}
+      → More → IsPolled f table rows n
+      → reply ≡ answer f.board (seen f) c call → seen f' ≡ after f.board c call reply (seen f)
+      → f'.board ≡ f.board → table' ≡ table → before ≡ (seen f).life
+      → ((core : ℕ) → core < n
+      → row rows' core ≡ written_then before (seen f') core (row rows core))
+      → IsPolled f' table' rows' n
+  polled_next {reply} {rows' = rows'} more p answered left same kept was wrote =
+      record {
+        board = rw same p.board;
+        past = subst (λ (x : BoardValue). IsPast x (seen f') rows') (sym same)
+            (past_more f.board (seen f) (seen f') rows rows' n c call reply more p.past p.count
+            answered left (subst (λ (l : ℕ). (core : ℕ) → core < n
+            → row rows' core ≡ written_then l (seen f') core (row rows core)) was wrote));
+        words = ap (λ (t : TableId). t.words) kept ∙ p.words ∙ ap cores (sym same);
+        count = p.count ∙ ap cores (sym same);
+      }
 
--- whose status does not change
-pub others_stay : (f f' : FirmwareValue) (table : TableId) (rows : List (List Status))
-    (n c before : ℕ) (call : FwCall) (reply : FwReply) (changed : Option Core) → More
-    → IsPolled f table rows n → seen f' ≡ after f.board c call reply (seen f)
-    → before ≡ (seen f).life
-    → ((core : ℕ) → is_named changed core ≡ false → names (effect_of f.board c call reply) core
-    ≡ false)
-    → (core : ℕ) → core < n → is_named changed core ≡ false → (seen f').life ≡ before
-    → (seen f').life ≢ 0 → added ((seen f').status core) (row rows core) ≡ row rows core
-others_stay f f' table rows n c before call reply changed more p is was named core small other same
-    some =
-    added_nothing f.board (seen f) (seen f') rows n c call reply more p.past p.count is core small
-    (named core other) (same ∙ was) some
+  -- whose status does not change
+  pub others_stay : (reply : FwReply) {before : ℕ} (changed : Option Core) → More
+      → IsPolled f table rows n
+      → seen f' ≡ after f.board c call reply (seen f) → before ≡ (seen f).life
+      → ((core : ℕ) → is_named changed core ≡ false
+      → names (effect_of f.board c call reply) core ≡ false)
+      → (core : ℕ) → core < n → is_named changed core ≡ false → (seen f').life ≡ before
+      → (seen f').life ≢ 0 → added ((seen f').status core) (row rows core) ≡ row rows core
+  others_stay reply changed more p left was named core small other same some =
+      added_nothing f.board (seen f) (seen f') rows n c call reply more p.past p.count left core
+      small (named core other) (same ∙ was) some
 
--- a refused call
-pub written_still : (p : PolledView) (f f' : FirmwareValue) (table : TableId)
-    (rows : List (List Status)) (n : ℕ) → IsPolled f table rows n
-    → record { firmware = f; table = table; written = rows } ≡ p → f' ≡ f
-    → (core : ℕ) → core < cores p.firmware.board
-    → row rows core ≡ written_then (seen p.firmware).life (seen f') core (row p.written core)
-written_still p f f' table rows n is was same =
-    subst (λ (x : PolledView). (core : ℕ) → core < cores x.firmware.board
-    → row rows core ≡ written_then (seen x.firmware).life (seen f') core (row x.written core)) was
-    (subst (λ (g : FirmwareValue). (core : ℕ) → core < cores f.board
-    → row rows core ≡ written_then (seen f).life (seen g) core (row rows core)) (sym same)
-    (nothing_more f.board (seen f) rows is.past))
+  -- what a call leaves
+  pub next_left : {reply : FwReply} {table' : TableId} {rows' : List (List Status)}
+      {p : PolledView} {before : ℕ} → IsPolled f table rows n
+      → record { firmware = f; table = table; written = rows } ≡ p
+      → reply ≡ answer f.board (seen f) c call → seen f' ≡ after f.board c call reply (seen f)
+      → f'.board ≡ f.board → table' ≡ table → before ≡ (seen f).life
+      → ((core : ℕ) → core < n
+      → row rows' core ≡ written_then before (seen f') core (row rows core))
+      → IsNext p c call (record { firmware = f'; table = table'; written = rows' })
+  next_left {reply} {table'} {rows'} is view answered left same kept was wrote =
+      subst (λ (x : PolledView). IsNext x c call
+      (record { firmware = f'; table = table'; written = rows' })) view
+      (record {
+        board = same;
+        values = left ∙ ap (λ (r : FwReply). after f.board c call r (seen f)) answered;
+        table = kept;
+        written = λ core small.
+            subst (λ (l : ℕ). row rows' core ≡ written_then l (seen f') core (row rows core)) was
+            (wrote core (rw is.count small));
+      })
 
--- a call that leaves the life
-pub written_on : (p : PolledView) (f f' : FirmwareValue) (table : TableId)
-    (rows rows' : List (List Status)) (n : ℕ) → IsPolled f table rows n
-    → record { firmware = f; table = table; written = rows } ≡ p → (seen f').life ≡ (seen f).life
-    → ((core : ℕ) → core < n
-    → row rows' core ≡ written_then (seen f').life (seen f') core (row rows core))
-    → (core : ℕ) → core < cores p.firmware.board
-    → row rows' core ≡ written_then (seen p.firmware).life (seen f') core (row p.written core)
-written_on p f f' table rows rows' n is was same wrote =
-    subst (λ (x : PolledView). (core : ℕ) → core < cores x.firmware.board
-    → row rows' core ≡ written_then (seen x.firmware).life (seen f') core (row x.written core)) was
-    (λ core small. subst
-    (λ (l : ℕ). row rows' core ≡ written_then l (seen f') core (row rows core)) same
-    (wrote core (subst (λ (m : ℕ). core < m) (sym is.count) small)))
+  -- a refused call
+  pub next_still : {reply : FwReply} {p : PolledView} → IsPolled f table rows n
+      → record { firmware = f; table = table; written = rows } ≡ p
+      → reply ≡ answer f.board (seen f) c call → seen f' ≡ after f.board c call reply (seen f)
+      → f' ≡ f → IsNext p c call (record { firmware = f'; table = table; written = rows })
+  next_still is view answered left same =
+      subst (λ (x : PolledView). IsNext x c call
+      (record { firmware = f'; table = table; written = rows })) view
+      (record {
+        board = ap (λ (g : FirmwareValue). g.board) same;
+        values = left ∙ ap (λ (r : FwReply). after f.board c call r (seen f)) answered;
+        table = refl;
+        written = subst (λ (g : FirmwareValue). (core : ℕ) → core < cores f.board
+            → row rows core ≡ written_then (seen f).life (seen g) core (row rows core)) (sym same)
+            (nothing_more f.board (seen f) rows is.past);
+      })
 
--- so little was written of each core that its word counts it
-pub few_rows : (f : FirmwareValue) (table : TableId) (rows : List (List Status)) (n : ℕ)
-    → ((b : BoardValue) (h : List FwExchange) (core : ℕ) → IsBoard b → IsLegal b h
-    → length (statuses b h core) ≤ most_statuses b)
-    → IsPolled f table rows n → (core : ℕ) → core < n → length (row rows core) < 2 ^ 60
-few_rows f table rows n few p core small =
-    let b = f.board in
-    let inside : core < cores b = subst (λ (m : ℕ). core < m) p.count small in
-    let same : length (row rows core) ≡ length (statuses b p.past.history core) =
-    ap length (p.past.written core inside) in
-    let most : length (statuses b p.past.history core) ≤ most_statuses b =
-    few b p.past.history core p.board p.past.legal in
-    let lives : b.lives + 1 ≤ 65536 = omega (arith, p.board.lives) in
-    let starts : 3 * b.starts + 8 ≤ 3 * 2 ^ 32 + 8 = omega (arith, p.board.starts) in
-    omega (
-      arith,
-      mul-le (b.lives + 1) (3 * b.starts + 8) 65536 (3 * 2 ^ 32 + 8) lives starts,
-      same,
-      most,
-    )
+-- a call that changes nothing has nothing to write
+pub still_written : {f : FirmwareValue} {table : TableId} {rows : List (List Status)} {n : ℕ}
+    {p : PolledView} → IsPolled f table rows n
+    → record { firmware = f; table = table; written = rows } ≡ p → IsWrittenFrom p p
+still_written {f} {rows = rows} is view =
+    subst (λ (x : PolledView). IsWrittenFrom x x) view
+    (nothing_more f.board (seen f) rows is.past)
 
--- What a call leaves -----------------------------------------------------------------------------
+-- A call that leaves the life ---------------------------------------------------------------------
 
-pub next_left : (p : PolledView) (f f' : FirmwareValue) (table table' : TableId)
-    (rows rows' : List (List Status)) (n c before : ℕ) (call : FwCall) (reply : FwReply)
-    → IsPolled f table rows n → record { firmware = f; table = table; written = rows } ≡ p
-    → reply ≡ answer f.board (seen f) c call → seen f' ≡ after f.board c call reply (seen f)
-    → f'.board ≡ f.board → table' ≡ table → before ≡ (seen f).life
-    → ((core : ℕ) → core < n
-    → row rows' core ≡ written_then before (seen f') core (row rows core))
-    → IsNext p c call (record { firmware = f'; table = table'; written = rows' })
-next_left p f f' table table' rows rows' n c before call reply is view answered left same kept was
-    wrote =
-    subst (λ (x : PolledView). IsNext x c call
-    (record { firmware = f'; table = table'; written = rows' })) view
-    (record {
-      board = same;
-      values = left ∙ ap (λ (r : FwReply). after f.board c call r (seen f)) answered;
-      table = kept;
-      written = λ core small.
-          subst (λ (l : ℕ). row rows' core ≡ written_then l (seen f') core (row rows core)) was
-          (wrote core (subst (λ (m : ℕ). core < m) (sym is.count) small));
-    })
+-- what the firmware's laws say of the life after a call
+abbrev pub LeavesLife : Type 0
+LeavesLife = (b : BoardValue) (v : Values) (c : ℕ) (regs : Regs) (reply : FwReply)
+    → (after b c (Smc regs) reply v).life ≡ v.life
 
--- a refused call
-pub next_still : (p : PolledView) (f f' : FirmwareValue) (table : TableId)
-    (rows : List (List Status)) (n c : ℕ) (call : FwCall) (reply : FwReply)
-    → IsPolled f table rows n → record { firmware = f; table = table; written = rows } ≡ p
-    → reply ≡ answer f.board (seen f) c call → seen f' ≡ after f.board c call reply (seen f)
-    → f' ≡ f → IsNext p c call (record { firmware = f'; table = table; written = rows })
-next_still p f f' table rows n c call reply is view answered left same =
-    subst (λ (x : PolledView). IsNext x c call
-    (record { firmware = f'; table = table; written = rows })) view
-    (record {
-      board = ap (λ (g : FirmwareValue). g.board) same;
-      values = left ∙ ap (λ (r : FwReply). after f.board c call r (seen f)) answered;
-      table = refl;
-      written = written_still (record { firmware = f; table = table; written = rows }) f f' table
-          rows n is refl same;
-    })
+module _ {f : FirmwareValue} (f' : FirmwareValue) {table : TableId} {rows : List (List Status)}
+    {n : ℕ} (c : ℕ) (regs : Regs) {o : Outcome} (life : LeavesLife) (is : IsPolled f table rows n)
+    (answered : replies.Out o ≡ answer f.board (seen f) c (Smc regs))
+    (left : seen f' ≡ after f.board c (Smc regs) (replies.Out o) (seen f)) where
+  same_life : (seen f').life ≡ (seen f).life
+  same_life = rw left (life f.board (seen f) c regs (replies.Out o))
+
+  pub smc_polled : {table' : TableId} {rows' : List (List Status)} → More
+      → f'.board ≡ f.board → table' ≡ table
+      → ((core : ℕ) → core < n
+      → row rows' core ≡ written_then (seen f').life (seen f') core (row rows core))
+      → IsPolled f' table' rows' n
+  smc_polled more same kept = polled_next f' c (Smc regs) more is answered left same kept
+      same_life
+
+  pub smc_next : {table' : TableId} {rows' : List (List Status)} {p : PolledView}
+      → record { firmware = f; table = table; written = rows } ≡ p
+      → f'.board ≡ f.board → table' ≡ table
+      → ((core : ℕ) → core < n
+      → row rows' core ≡ written_then (seen f').life (seen f') core (row rows core))
+      → IsNext p c (Smc regs) (record { firmware = f'; table = table'; written = rows' })
+  smc_next view same kept = next_left f' c (Smc regs) is view answered left same kept same_life
+
+  pub smc_stays : {slot : Option ℕ} {asked : Option Core} → More
+      → slot ≡ option_map (slot_number f'.board) o.message → asked ≡ slot_beside o.act slot
+      → (core : ℕ) → core < n → is_named asked core ≡ false → (seen f').life ≢ 0
+      → added ((seen f').status core) (row rows core) ≡ row rows core
+  smc_stays {slot} {asked} more there beside core small other =
+      others_stay f' c (Smc regs) (replies.Out o) asked more is left same_life
+      (λ k not. names_by_slot f.board f'.board (seen f) c k regs o slot answered there
+      (rw beside at not)) core small other refl

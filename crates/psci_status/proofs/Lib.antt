@@ -11,9 +11,6 @@ mod PollRows
 mod PolledRows
 pub mod RuleRows
 mod SeatRows
-pub mod Slots
-pub mod Staying
 pub mod StepRows
 pub mod Steps
-pub mod Weighing
 mod WritingRows

@@ -1,9 +1,9 @@
 -- Lists of what was written and seen.
-use Rattle.std.proofs.Common.{◌≡◌, ◌≢◌, inl, inr, ℕ, zero, suc, ◌+◌, ◌*◌, ◌/◌, ◌%◌, ◌<◌}
+use Rattle.std.proofs.Common.{◌≡◌, inl, inr, ℕ, zero, suc, ◌+◌, ◌*◌, ◌/◌, ◌%◌, ◌<◌, ◌≤◌}
 use Rattle.std.proofs.Common.{List, [], ◌∷◌, length, map, Bool, true, false}
-use Rattle.std.proofs.Common.{refl, sym, ap, ◌∙◌, subst, ⊎_elim, arith}
+use Rattle.std.proofs.Common.{refl, ap, ◌∙◌, arith}
 use Rattle.std.specs.Prelude.{slice_index, slice_set, nat_lt, if◌then◌else◌}
-use Rattle.std.proofs.lemmas.Bool.Decides.{nat_tests}
+use Rattle.std.proofs.lemmas.Bool.{cond_both, ltb-false, ltb-true}
 use Rattle.psci_fw_spec.specs.declared.status.Status.{Status}
 use Rattle.psci_fw_spec.specs.declared.status.Status.TheVariants.{On, Off, Pending}
 use Rattle.psci_fw_spec.specs.AffinityInfo.{status_code}
@@ -18,43 +18,25 @@ longer x log (i ∷ is) h = (inr h.0, h.1, longer x log is h.2)
 
 stands_below : (log : List Status) (i : Item) → Stands log i → i.0 < length log
 stands_below [] i h = absurd h
-stands_below (x ∷ xs) i h =
-    ⊎_elim
-    (λ (a : (i.0 ≡ length xs) × (i.1 ≡ x)). let e : i.0 ≡ length xs = a.0 in omega arith)
-    (λ (b : Stands xs i). let k : i.0 < length xs = stands_below xs i b in omega arith)
-    h
-
-is_less : (a b : ℕ) → nat_lt a b ≡ true → a < b
-is_less a b e = grind (arith, nat_tests)
-
-is_not_less : (a b : ℕ) → nat_lt a b ≡ false → a < b → ⊥
-is_not_less a b e h = grind (arith, nat_tests)
-
-gain_within_if : (log : List Status) (i j : Item) (js : List Item) (b : Bool) → nat_lt j.0 i.0 ≡ b
-    → Stands log i → Within log (j ∷ js) → Within log (if b then i ∷ j ∷ js else j ∷ js)
-gain_within_if log i j js true e s h = (s, is_less j.0 i.0 e, h)
-gain_within_if log i j js false e s h = h
+stands_below (x ∷ xs) i (inl here) = let e : i.0 ≡ length xs = here.0 in omega arith
+stands_below (x ∷ xs) i (inr there) = let k = stands_below xs i there in omega (arith, k)
 
 pub gain_within : (log : List Status) (i : Item) (xs : List Item) → Stands log i → Within log xs
     → Within log (gain i xs)
 gain_within log i [] s h = (s, tt, tt)
-gain_within log i (j ∷ js) s h = gain_within_if log i j js (nat_lt j.0 i.0) refl s h
-
-gain_begins_if : (x : Status) (log : List Status) (j : Item) (js : List Item) (b : Bool)
-    → nat_lt j.0 (length log) ≡ b → Stands (x ∷ log) j
-    → Begins (length log, x) (if b then (length log, x) ∷ j ∷ js else j ∷ js)
-gain_begins_if x log j js true e s = (j ∷ js, refl)
-gain_begins_if x log j js false e s =
-    ⊎_elim
-    (λ (a : (j.0 ≡ length log) × (j.1 ≡ x)). let same : j ≡ (length log, x) =
-    (λ k. (a.0 k, a.1 k)) in (js, ap (λ (p : Item). p ∷ js) same))
-    (λ (b : Stands log j). absurd (is_not_less j.0 (length log) e (stands_below log j b)))
-    s
+gain_within log i (j ∷ js) s h =
+    cond_both (nat_lt j.0 i.0) _ _ (Within log) (λ e. (s, ltb-true j.0 i.0 e, h)) (λ e. h)
 
 pub gain_begins : (x : Status) (log : List Status) (xs : List Item) → Within (x ∷ log) xs
     → Begins (length log, x) (gain (length log, x) xs)
 gain_begins x log [] h = ([], refl)
-gain_begins x log (j ∷ js) h = gain_begins_if x log j js (nat_lt j.0 (length log)) refl h.0
+gain_begins x log (j ∷ js) h =
+    cond_both (nat_lt j.0 (length log)) _ _ (Begins (length log, x)) (λ e. (j ∷ js, refl))
+    (λ e. last h.0 (ltb-false j.0 (length log) e))
+  where
+    last : Stands (x ∷ log) j → length log ≤ j.0 → Begins (length log, x) (j ∷ js)
+    last (inl same) e = (js, λ k. (same.0 k, same.1 k) ∷ js)
+    last (inr older) e = let low = stands_below log j older in absurd (omega (arith, low))
 
 pub newest_within : (log : List Status) → Within log (newest log)
 newest_within [] = tt
@@ -78,29 +60,20 @@ code_small Pending = omega arith
 -- the item of a word with this serial and status
 pub item_at : (r n : ℕ) (s : Status) → r ≡ 4 * n + status_code s → item_of r ≡ (n, s)
 item_at r n s e =
-    let small : status_code s < 3 = code_small s in
+    let small = code_small s in
     let a : r / 4 ≡ n = omega arith in
     let b : r % 4 ≡ status_code s = omega arith in
     (λ k. (a k, (ap status_of b ∙ status_of_code s) k))
 
--- what was written, where a word holds its last item
-pub item_is : (log : List Status) (r : ℕ) → IsWord log r → (s : Status) × (ss : List Status)
-    × (log ≡ s ∷ ss) × (item_of r ≡ (length ss, s))
-item_is [] r h = absurd h
-item_is (s ∷ ss) r h = (s, ss, refl, item_at r (length ss) s h)
-
 pub item_stands : (log : List Status) (r : ℕ) → IsWord log r → Stands log (item_of r)
-item_stands log r h =
-    let d = item_is log r h in
-    subst (λ (l : List Status). Stands l (item_of r)) (sym d.2)
-    (subst (λ (p : Item). Stands (d.0 ∷ d.1) p) (sym d.3) (inl (refl, refl)))
+item_stands [] r h = absurd h
+item_stands (s ∷ ss) r h =
+    let e = item_at r (length ss) s h in inl (ap (λ (i : Item). i.0) e, ap (λ (i : Item). i.1) e)
 
 pub item_begins : (log : List Status) (r : ℕ) (xs : List Item) → IsWord log r → Within log xs
     → Begins (item_of r) (gain (item_of r) xs)
-item_begins log r xs h k =
-    let d = item_is log r h in
-    subst (λ (p : Item). Begins p (gain p xs)) (sym d.3)
-    (gain_begins d.0 d.1 xs (subst (λ (l : List Status). Within l xs) d.2 k))
+item_begins [] r xs h k = absurd h
+item_begins (s ∷ ss) r xs h k = rw (item_at r (length ss) s h) (gain_begins s ss xs k)
 
 pub within_rises : (log : List Status) (xs : List Item) → Within log xs → Rises xs
 within_rises log [] h = tt
@@ -116,12 +89,6 @@ row_set_all Q (x ∷ xs) zero y all q (suc d) = all (suc d)
 row_set_all Q (x ∷ xs) (suc c) y all q zero = all zero
 row_set_all Q (x ∷ xs) (suc c) y all q (suc d) = row_set_all (λ k. Q (suc k)) xs c y
     (λ k. all (suc k)) q d
-
-pub row_set_here : {A : Type 0} (xs : List (List A)) (c : ℕ) (y : List A) → c < length xs
-    → row (slice_set xs c y) c ≡ y
-row_set_here [] c y h = absurd (omega arith)
-row_set_here (x ∷ xs) zero y h = refl
-row_set_here (x ∷ xs) (suc c) y h = row_set_here xs c y (omega arith)
 
 pub row_newest : (log : List (List Status)) (d : ℕ) → row (map newest log) d ≡ newest (row log d)
 row_newest [] d = refl
@@ -149,17 +116,11 @@ words_set (x ∷ xs) (w ∷ ws) (suc c) r y all same q zero h = all zero h
 words_set (x ∷ xs) (w ∷ ws) (suc c) r y all same q (suc d) h = words_set xs ws c r y
     (λ k l. all (suc k) (omega arith)) (omega arith) q d (omega arith)
 
-pub set_same : (ws : List ℕ) (c : ℕ) → slice_set ws c (slice_index ws c) ≡ ws
-set_same [] c = refl
-set_same (w ∷ ws) zero = refl
-set_same (w ∷ ws) (suc c) = ap (λ (l : List ℕ). w ∷ l) (set_same ws c)
-
 -- the serial of the next item
 pub word_length : (log : List Status) (r : ℕ) → IsWord log r → r / 4 + 1 ≡ length log
 word_length [] r h = absurd h
 word_length (s ∷ ss) r h =
-    let e : r ≡ 4 * length ss + status_code s = h in
-    omega (arith, code_small s)
+    let e : r ≡ 4 * length ss + status_code s = h in omega (arith, code_small)
 
 -- the word that the writer stores after this one
 pub next_word : (log : List Status) (r k : ℕ) (s : Status) (new : ℕ) → r / 4 + 1 ≡ length log
@@ -167,10 +128,9 @@ pub next_word : (log : List Status) (r k : ℕ) (s : Status) (new : ℕ) → r /
     × (status_of (new % 4) ≡ s)
 next_word log r k s new len code e =
     let at : new ≡ 4 * length log + status_code s = omega arith in
-    let is : status_of (new % 4) ≡ s = ap (λ (i : Item). i.1) (item_at new (length log) s at) in
-    (subst (λ (t : Status). new ≡ 4 * length log + status_code t) (sym is) at, is)
+    let is = ap (λ (i : Item). i.1) (item_at new (length log) s at) in (rw is at, is)
 
-pub length-gains : (xs ns : List (List Item)) → length (gains xs ns) ≡ length xs
+length-gains : (xs ns : List (List Item)) → length (gains xs ns) ≡ length xs
 length-gains [] ns = refl
 length-gains (x ∷ xs) [] = refl
 length-gains (x ∷ xs) (n ∷ ns) = ap suc (length-gains xs ns)
@@ -179,14 +139,6 @@ pub length-informed_seen : (b : Bool) (seen note : List (List Item))
     → length (if b then seen else gains seen note) ≡ length seen
 length-informed_seen true seen note = refl
 length-informed_seen false seen note = length-gains seen note
-
-pub row_set_else : (xs : List (List Status)) (c d : ℕ) (y : List Status) → d ≢ c
-    → row (slice_set xs c y) d ≡ row xs d
-row_set_else [] c d y n = refl
-row_set_else (x ∷ xs) zero zero y n = absurd (n refl)
-row_set_else (x ∷ xs) zero (suc d) y n = refl
-row_set_else (x ∷ xs) (suc c) zero y n = refl
-row_set_else (x ∷ xs) (suc c) (suc d) y n = row_set_else xs c d y (λ e. n (ap suc e))
 
 -- what the writer was told stands in its log, so what it tells is the last that is seen
 last_of : (L : ℕ → List Status) (a b : List (List Item)) → ((d : ℕ) → Within (L d) (row a d))
@@ -202,8 +154,7 @@ last_of L (x ∷ xs) (n ∷ ns) f g zero h = last_here (L zero) n x (f zero) (g 
     last_here : (l : List Status) (m s : List Item) → Within l s → m ≡ newest l
         → IsLast l (gain_from m s)
     last_here [] m s k e = tt
-    last_here (y ∷ ys) m s k e = subst (λ (p : List Item). Begins (length ys, y) (gain_from p s))
-        (sym e) (gain_begins y ys s k)
+    last_here (y ∷ ys) m s k e = rw e (gain_begins y ys s k)
 last_of L (x ∷ xs) (n ∷ ns) f g (suc d) h = last_of (λ k. L (suc k)) xs ns (λ k. f (suc k))
     (λ k. g (suc k)) d (omega arith)
 
@@ -216,11 +167,4 @@ pub met_within : (log : List (List Status)) (a : List (List Item))
     → ((d : ℕ) → Within (row log d) (row a d)) → (d : ℕ)
     → Within (row log d) (row (gains a (map newest log)) d)
 met_within log a f = gains_within (λ d. row log d) a (map newest log) f
-    (λ d. subst (λ (l : List Item). Within (row log d) l) (sym (row_newest log d))
-    (newest_within (row log d)))
-
-pub word_is : (log : List Status) (r : ℕ) → IsWord log r → (rest : List Status)
-    × (log ≡ status_of (r % 4) ∷ rest)
-word_is log r h =
-    let d = item_is log r h in
-    (d.1, d.2 ∙ ap (λ (i : Item). i.1 ∷ d.1) (sym d.3))
+    (λ d. rw (row_newest log d) (newest_within (row log d)))

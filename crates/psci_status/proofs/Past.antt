@@ -1,8 +1,9 @@
 -- A call goes on from a past: what it leaves, and what it then has to write.
-use Rattle.std.proofs.Common.{◌≡◌, ◌≢◌, ℕ, ◌<◌, List, ◌∷◌, Bool, true, false, refl, sym, ap, ◌∙◌}
-use Rattle.std.proofs.Common.{subst, Option, None, Some}
-use Rattle.std.specs.Prelude.{◌==◌, not, if◌then◌else◌}
+use Rattle.std.proofs.Common.{◌≡◌, ◌≢◌, ℕ, ◌<◌, List, ◌∷◌, false, refl, sym, ap, ◌∙◌}
+use Rattle.std.proofs.Common.{Option, None, Some}
+use Rattle.std.specs.Prelude.{◌==◌}
 use Rattle.std.specs.Ordering.{int_eq}
+use Rattle.std.proofs.lemmas.Bool.{cond_both, eqb-false}
 use Rattle.psci_abi.specs.Calls.{request_of}
 use Rattle.psci_abi.specs.Codes.{success}
 use Rattle.psci_abi.specs.declared.code.Code.{Code}
@@ -25,7 +26,7 @@ use Rattle.psci_fw_spec.specs.declared.reply.FwReply.TheVariants as replies
 use Rattle.psci_fw_spec.specs.declared.status.Status.{Status}
 use Rattle.psci_fw_spec.specs.After.{after}
 use Rattle.psci_fw_spec.specs.Answer.{answer}
-use Rattle.psci_fw_spec.specs.Effects.{GoesOn, effect_of, enter_effect, function_effect}
+use Rattle.psci_fw_spec.specs.Effects.{Effect, effect_of, enter_effect, function_effect}
 use Rattle.psci_fw_spec.specs.Effects.{mode_effect, return_effect, sent_effect, stop_effect}
 use Rattle.psci_fw_spec.specs.Exchange.{FwExchange}
 use Rattle.psci_fw_spec.specs.History.{life, status, values_of}
@@ -35,9 +36,8 @@ use Rattle.psci_fw_spec.specs.Values.{Values}
 use Rattle.psci_status.specs.Lists.{row}
 use Rattle.psci_status.specs.Naming.{asked_by, is_named, names, sent_beside}
 use Rattle.psci_status.specs.Polled.{IsPast}
-use Rattle.psci_status.specs.Writing.{one_more, written_then}
-use Rattle.psci_status.proofs.Last.{added_last, statuses_more}
-use Rattle.psci_status.proofs.Staying.{same_life, status_stays}
+use Rattle.psci_status.specs.Writing.{written_then}
+use Rattle.psci_status.proofs.Last.{added_last, same_code, status_stays, statuses_more}
 
 -- Whom a call names ---------------------------------------------------------------------------
 
@@ -45,16 +45,12 @@ names_mode : (c core : ℕ) (mode : Option SuspendMode) → names (mode_effect c
 names_mode c core None = refl
 names_mode c core (Some mode) = refl
 
-names_set : (c core number : ℕ) (t : Bool)
-    → names (if t then mode_effect c (mode_of number) else GoesOn c) core ≡ false
-names_set c core number true = names_mode c core (mode_of number)
-names_set c core number false = refl
-
 -- a function that returns, and sends nothing
 pub names_return : (c core : ℕ) (r : Request) (code : Code)
     → names (return_effect c r code) core ≡ false
 names_return c core (requests.SetSuspendMode mode) code =
-    names_set c core mode (int_eq code.0 success.0)
+    cond_both (int_eq code.0 success.0) _ _ (λ (e : Effect). names e core ≡ false)
+    (λ set. names_mode c core (mode_of mode)) (λ other. refl)
 names_return c core r code = refl
 
 -- a function that stops its caller
@@ -110,8 +106,7 @@ valued : (b : BoardValue) (v v' : Values) (c : ℕ) (call : FwCall) (reply : FwR
     (h : List FwExchange) → More → v ≡ values_of b h → v' ≡ after b c call reply v
     → v' ≡ values_of b (record { core = c; call = call; reply = reply } ∷ h)
 valued b v v' c call reply h adds was is =
-    is ∙ ap (λ (u : Values). after b c call reply u) was
-    ∙ sym (adds b (record { core = c; call = call; reply = reply }) h)
+    let next = adds b (record { core = c; call = call; reply = reply }) h in rw (is, was, next) refl
 
 -- where the life stays, the status of a core that is not named adds nothing
 pub added_nothing : (b : BoardValue) (v v' : Values) (written : List (List Status)) (count c : ℕ)
@@ -125,17 +120,11 @@ added_nothing b v v' written count c call reply adds past wide is core small oth
     let h = past.history in
     let e : FwExchange = record { core = c; call = call; reply = reply } in
     let next : v' ≡ values_of b (e ∷ h) = valued b v v' c call reply h adds past.values is in
-    let life_is : life b (e ∷ h) ≡ life b h = sym (ap (λ (u : Values). u.life) next) ∙ same
-    ∙ ap (λ (u : Values). u.life) past.values in
-    let begun : life b h ≢ 0 = λ (z : life b h ≡ 0).
-    some (ap (λ (u : Values). u.life) next ∙ life_is ∙ z) in
+    let life_is : life b (e ∷ h) ≡ life b h = rw (next, past.values) at same in
+    let begun : life b (e ∷ h) ≢ 0 = rw next at some in
     let stays : v'.status core ≡ status b h core =
-    ap (λ (u : Values). u.status core) next ∙ status_stays b e h core life_is other in
-    let was : row written core ≡ statuses b h core =
-    past.written core (subst (λ (n : ℕ). core < n) wide small) in
-    ap (λ (s : Status). added s (row written core)) stays
-    ∙ ap (λ (ss : List Status). added (status b h core) ss) was
-    ∙ added_last b h core begun ∙ sym was
+    rw next (status_stays b e h core life_is other) in
+    rw (stays, past.written core (rw wide at small)) (added_last b h core (rw life_is at begun))
 
 -- the history with the call is a past of what it left
 pub past_more : (b : BoardValue) (v v' : Values) (written written' : List (List Status))
@@ -145,55 +134,27 @@ pub past_more : (b : BoardValue) (v v' : Values) (written written' : List (List 
     → row written' core ≡ written_then v.life v' core (row written core))
     → IsPast b v' written'
 unfolding values_of
-past_more b v v' written written' count c call reply adds past wide answered is wrote = record {
-  history = e ∷ h;
-  legal = (answered ∙ ap (λ (u : Values). answer b u c call) past.values, past.legal);
-  values = next;
-  written = told;
-}
-  where
-    h : List FwExchange
-    h = past.history
-
-    e : FwExchange
-    e = record { core = c; call = call; reply = reply }
-
-    next : v' ≡ values_of b (e ∷ h)
-    next = valued b v v' c call reply h adds past.values is
-
-    told : (core : ℕ) → core < cores b → row written' core ≡ statuses b (e ∷ h) core
-    told core small =
-        wrote core (subst (λ (n : ℕ). core < n) (sym wide) small)
-        ∙ ap (λ (ss : List Status). written_then v.life v' core ss) (past.written core small)
-        ∙ ap (λ (u : Values). written_then u.life v' core (statuses b h core)) past.values
-        ∙ ap (λ (u : Values). written_then (life b h) u core (statuses b h core)) next
-        ∙ statuses_more b e h core
+past_more b v v' written written' count c call reply adds past wide answered is wrote =
+    let h = past.history in
+    let e : FwExchange = record { core = c; call = call; reply = reply } in
+    let next : v' ≡ values_of b (e ∷ h) = valued b v v' c call reply h adds past.values is in
+    record {
+      history = e ∷ h;
+      legal = (answered ∙ ap (λ (u : Values). answer b u c call) past.values, past.legal);
+      values = next;
+      written = λ core small.
+          rw (past.values, next, past.written core small) at (wrote core (rw wide small))
+          ∙ statuses_more b e h core;
+    }
 
 -- a call that changes no value has nothing to write
 pub nothing_more : (b : BoardValue) (v : Values) (written : List (List Status)) → IsPast b v written
     → (core : ℕ) → core < cores b
     → row written core ≡ written_then v.life v core (row written core)
 unfolding values_of
-nothing_more b v written past core small = by_life (v.life == 0) refl
-  where
-    h : List FwExchange
-    h = past.history
-
-    some : (v.life == 0) ≡ false → life b h ≢ 0
-    some is z =
-        let e : (v.life == 0) ≡ true =
-        ap (λ (l : ℕ). l == 0) (ap (λ (u : Values). u.life) past.values ∙ z) in cc
-
-    told : (v.life == 0) ≡ false → added (v.status core) (row written core) ≡ row written core
-    told is =
-        ap (λ (u : Values). added (u.status core) (row written core)) past.values
-        ∙ ap (λ (ss : List Status). added (status b h core) ss) (past.written core small)
-        ∙ added_last b h core (some is) ∙ sym (past.written core small)
-
-    by_life : (t : Bool) → (v.life == 0) ≡ t → row written core
-        ≡ (if t then row written core
-        else one_more (not (v.life == v.life)) core (v.status core) (row written core))
-    by_life true is = refl
-    by_life false is =
-        sym (ap (λ (x : Bool). one_more x core (v.status core) (row written core))
-        (same_life v.life) ∙ told is)
+nothing_more b v written past core small =
+    let h = past.history in
+    rw (past.values, past.written core small, same_code (life b h))
+    (cond_both (life b h == 0) (statuses b h core) (added (status b h core) (statuses b h core))
+    (λ (ss : List Status). statuses b h core ≡ ss) (λ none. refl)
+    (λ some. sym (added_last b h core (eqb-false (life b h) 0 some))))

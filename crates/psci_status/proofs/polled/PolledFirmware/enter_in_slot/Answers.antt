@@ -9,38 +9,29 @@ use Rattle.psci_status.proofs.polled.PolledFirmware.enter_in_slot.Goals as goal
 
 pub returns-in_err-reaction-clause-next : goal.returns-in_err-reaction-clause-next
 returns-in_err-reaction-clause-next c =
-    next_still c.args.self.now c.self.inside.firmware c.enter_in_slot.new.self _ _
-    c.self.inside.cores c.args.core.number (calls.Enter c.args.start)
-    _ c.self.invariant c.self.view_is
-    c.in_err-reaction.ensures.answer c.in_err-reaction.ensures.after
-    c.in_err-reaction.ensures.refused
+    let e = c.in_err-reaction.ensures in
+    next_still c.enter_in_slot.new.self c.args.core.number (calls.Enter c.args.start)
+    c.self.invariant c.self.view_is e.answer e.after e.refused
 
 pub write_changed-requires-clause-others : goal.write_changed-requires-clause-others
 write_changed-requires-clause-others c =
-    others_stay c.self.inside.firmware c.enter_in_slot.new.self _ _ c.self.inside.cores
-    c.args.core.number c.life_of-before.result (calls.Enter c.args.start)
-    (replies.Out (outcome_in c.enter_in_slot.new.self.board (seen c.enter_in_slot.new.self)
-    c.in_ok-reaction.reaction)) (Some c.args.core) c.law_values.ensures.more c.self.invariant
-    c.in_ok-reaction.ensures.after c.life_of-before.ensures
-    (λ core other. names_enter c.self.inside.firmware.board c.args.core.number core c.args.start
-    (outcome_in c.enter_in_slot.new.self.board (seen c.enter_in_slot.new.self)
-    c.in_ok-reaction.reaction) other)
+    let f = c.enter_in_slot.new.self in
+    let o = outcome_in f.board (seen f) c.in_ok-reaction.reaction in
+    others_stay f c.args.core.number (calls.Enter c.args.start) (replies.Out o) (Some c.args.core)
+    c.law_values.ensures.more c.self.invariant c.in_ok-reaction.ensures.after
+    c.life_of-before.ensures (λ core other. names_enter c.self.inside.firmware.board
+    c.args.core.number core c.args.start o other)
 
 pub invariant_of-self-2 : goal.invariant_of-self-2
 invariant_of-self-2 c =
-    polled_next c.self.inside.firmware c.enter_in_slot.new.self _ _ _ _ c.self.inside.cores
-    c.args.core.number c.life_of-before.result (calls.Enter c.args.start)
-    (replies.Out (outcome_in c.enter_in_slot.new.self.board (seen c.enter_in_slot.new.self)
-    c.in_ok-reaction.reaction)) c.law_values.ensures.more c.self.invariant
-    c.in_ok-reaction.ensures.answer c.in_ok-reaction.ensures.after c.in_ok-reaction.ensures.board
+    let left = c.in_ok-reaction.ensures in
+    polled_next c.enter_in_slot.new.self c.args.core.number (calls.Enter c.args.start)
+    c.law_values.ensures.more c.self.invariant left.answer left.after left.board
     c.write_changed.ensures.table c.life_of-before.ensures c.write_changed.ensures.log
 
 pub returns-clause-next : goal.returns-clause-next
 returns-clause-next c =
-    let f = c.enter_in_slot.new.self in
-    next_left c.args.self.now c.self.inside.firmware f _ _ _ _ c.self.inside.cores
-    c.args.core.number c.life_of-before.result (calls.Enter c.args.start)
-    (replies.Out (outcome_in f.board (seen f) c.in_ok-reaction.reaction)) c.self.invariant
-    c.self.view_is c.in_ok-reaction.ensures.answer c.in_ok-reaction.ensures.after
-    c.in_ok-reaction.ensures.board c.write_changed.ensures.table c.life_of-before.ensures
-    c.write_changed.ensures.log
+    let left = c.in_ok-reaction.ensures in
+    next_left c.enter_in_slot.new.self c.args.core.number (calls.Enter c.args.start)
+    c.self.invariant c.self.view_is left.answer left.after left.board
+    c.write_changed.ensures.table c.life_of-before.ensures c.write_changed.ensures.log

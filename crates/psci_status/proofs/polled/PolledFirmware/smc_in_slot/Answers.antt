@@ -1,57 +1,32 @@
-use Rattle.std.proofs.Common.{◌≡◌, Option, false, refl, subst}
-use Rattle.psci_status.proofs.Slots.{names_by_slot}
-use Rattle.psci_status.proofs.CallSteps.{life_left, next_left, next_still, others_stay, polled_next}
-use Rattle.psci_board.specs.declared.node.Core.{Core}
-use Rattle.psci_status.specs.Naming.{is_named}
-use Rattle.psci_fw.specs.Reactions.{outcome_in}
-use Rattle.psci_fw.specs.Seen.{seen}
+use Rattle.psci_status.proofs.CallSteps.{next_still, smc_next, smc_polled, smc_stays}
 use Rattle.psci_fw_spec.specs.declared.call.FwCall.TheVariants as calls
-use Rattle.psci_fw_spec.specs.declared.reply.FwReply.TheVariants as replies
 use Rattle.psci_status.proofs.polled.PolledFirmware.smc_in_slot.Goals as goal
 
 pub returns-in_err-reaction-clause-next : goal.returns-in_err-reaction-clause-next
 returns-in_err-reaction-clause-next c =
-    next_still c.args.self.now c.self.inside.firmware c.smc_in_slot.new.self _ _
-    c.self.inside.cores c.args.core.number (calls.Smc c.args.regs)
-    _ c.self.invariant c.self.view_is
-    c.in_err-reaction.ensures.answer c.in_err-reaction.ensures.after
-    c.in_err-reaction.ensures.refused
+    let e = c.in_err-reaction.ensures in
+    next_still c.smc_in_slot.new.self c.args.core.number (calls.Smc c.args.regs) c.self.invariant
+    c.self.view_is e.answer e.after e.refused
 
 pub write_one-requires-clause-others : goal.write_one-requires-clause-others
-write_one-requires-clause-others c core small other some =
-    let f = c.smc_in_slot.new.self in
-    let o = outcome_in f.board (seen f) c.in_ok-reaction.reaction in
-    others_stay c.self.inside.firmware f _ _ c.self.inside.cores c.args.core.number (seen f).life
-    (calls.Smc c.args.regs) (replies.Out o) c.asked_in-asked.result c.law_values.ensures.more
-    c.self.invariant c.in_ok-reaction.ensures.after
-    (life_left (seen c.self.inside.firmware) (seen f) _ c.in_ok-reaction.ensures.after
-    (c.law_caller.ensures.life _ _ _ _ _))
-    (λ k not. names_by_slot c.self.inside.firmware.board f.board (seen c.self.inside.firmware)
-    c.args.core.number k c.args.regs o c.in_ok-reaction.reaction.slot
-    c.in_ok-reaction.ensures.answer c.in_ok-reaction.ensures.slot
-    (subst (λ (found : Option Core). is_named found k ≡ false) c.asked_in-asked.ensures not))
-    core small other refl some
+write_one-requires-clause-others c =
+    let left = c.in_ok-reaction.ensures in
+    smc_stays c.smc_in_slot.new.self c.args.core.number c.args.regs
+    c.law_caller.ensures.life c.self.invariant
+    left.answer left.after c.law_values.ensures.more left.slot c.asked_in-asked.ensures
 
 pub invariant_of-self-2 : goal.invariant_of-self-2
 invariant_of-self-2 c =
-    let f = c.smc_in_slot.new.self in
-    polled_next c.self.inside.firmware f _ _ _ _ c.self.inside.cores c.args.core.number
-    (seen f).life (calls.Smc c.args.regs)
-    (replies.Out (outcome_in f.board (seen f) c.in_ok-reaction.reaction))
-    c.law_values.ensures.more c.self.invariant c.in_ok-reaction.ensures.answer
-    c.in_ok-reaction.ensures.after c.in_ok-reaction.ensures.board c.write_one.ensures.table
-    (life_left (seen c.self.inside.firmware) (seen f) _ c.in_ok-reaction.ensures.after
-    (c.law_caller.ensures.life _ _ _ _ _))
+    let left = c.in_ok-reaction.ensures in
+    smc_polled c.smc_in_slot.new.self c.args.core.number c.args.regs
+    c.law_caller.ensures.life c.self.invariant
+    left.answer left.after c.law_values.ensures.more left.board c.write_one.ensures.table
     c.write_one.ensures.log
 
 pub returns-clause-next : goal.returns-clause-next
 returns-clause-next c =
-    let f = c.smc_in_slot.new.self in
-    next_left c.args.self.now c.self.inside.firmware f _ _ _ _ c.self.inside.cores
-    c.args.core.number (seen f).life (calls.Smc c.args.regs)
-    (replies.Out (outcome_in f.board (seen f) c.in_ok-reaction.reaction)) c.self.invariant
-    c.self.view_is c.in_ok-reaction.ensures.answer c.in_ok-reaction.ensures.after
-    c.in_ok-reaction.ensures.board c.write_one.ensures.table
-    (life_left (seen c.self.inside.firmware) (seen f) _ c.in_ok-reaction.ensures.after
-    (c.law_caller.ensures.life _ _ _ _ _))
+    let left = c.in_ok-reaction.ensures in
+    smc_next c.smc_in_slot.new.self c.args.core.number c.args.regs
+    c.law_caller.ensures.life c.self.invariant
+    left.answer left.after c.self.view_is left.board c.write_one.ensures.table
     c.write_one.ensures.log

@@ -2,7 +2,7 @@ use Rattle.std.proofs.Common.{◌≡◌, length, sym, ap, ◌∙◌, arith}
 use Rattle.atomic_table.specs.Table.{Me}
 use Rattle.psci_status.specs.declared.rule.View.{View}
 use Rattle.psci_status.proofs.Lists.{length-informed_seen}
-use Rattle.psci_status.proofs.Steps.{informs, looks_as, notes}
+use Rattle.psci_status.proofs.Steps.{informs, looks, notes}
 use Rattle.psci_status.proofs.seats.StatusWords.trade.Goals as goal
 
 pub split_seat-note-requires : goal.split_seat-note-requires
@@ -21,13 +21,10 @@ join_seat-requires c =
 
 pub load-found-requires : goal.load-found-requires
 load-found-requires c =
-    let w = c.args.writer.now in
     let j = c.join_seat.ensures in (
       j.0 ∙ c.requires.tables.writer,
       c.args.self.now.some,
-      looks_as _ _ _ _ _
-          (ap (λ (m : Me (Unit {0}) View). m.1) j.2 ∙ w.empty)
-          (ap (λ (m : Me (Unit {0}) View). m.0.writer) j.2 ∙ w.writes)
+      looks _ _ _ _ _ (ap (λ (m : Me (Unit {0}) View). m.0.writer) j.2 ∙ c.args.writer.now.writes)
           (omega (arith, c.args.self.now.cores, c.args.self.now.some)),
     )
 
