@@ -33,17 +33,10 @@ same_message messages j k m n at other same = grind (arith, nat_tests)
 
 -- The moment ----------------------------------------------------------------------------------
 
--- what a delivered Down leaves of the power controller's values
-down_changes : (b : BoardValue) (v w : controlled.Values) (m : MessageValue) (a : AckValue)
-    → m.kind ≡ kinds.Down → w ≡ change b (message_effect b m a m.kind) v
-    → w ≡ change b (Deepens m.core.number (take a.applied m.parts)) v
-down_changes b v w m a kind is = is ∙ ap (λ k. change b (message_effect b m a k) v) kind
-
 applied_count : (b : BoardValue) (v : controlled.Values) (m : MessageValue) (a : AckValue)
     → m.kind ≡ kinds.Down → a ≡ ack_by b v m m.kind
     → a.applied ≡ applied b v m.core.number m.parts
-applied_count b v m a kind is =
-    ap (λ (x : AckValue). x.applied) (is ∙ ap (ack_by b v m) kind)
+applied_count b v m a kind is = grind (arith, nat_tests)
 
 -- What is known where an acknowledgement is taken.
 pub record IsTaken (b : BoardValue) (past : List Record) (a : AckValue) : Type 0 where
@@ -130,8 +123,7 @@ module _ (b : BoardValue) (past : List Record) (a : AckValue) (t : IsTaken b pas
   changed : controller_values b delivery
       ≡ change b (Deepens delivered.core.number (take a.applied delivered.parts))
       (controller_values b before)
-  changed = down_changes b (controller_values b before) (controller_values b delivery) delivered a
-      kind t.made.after
+  changed = grind (arith, nat_tests, kind)
 
   deep : (controller_values b delivery).depth n.level n.place ≡ v.granted n.level n.place
   deep = ap (λ (x : controlled.Values). x.depth n.level n.place) changed

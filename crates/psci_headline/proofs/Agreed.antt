@@ -141,17 +141,9 @@ enter_next b past c (said.Fw act sends) laws now e =
 enter_next b past c (said.Kick start) laws now e = now
 enter_next b past c s laws now e = now
 
-took_next : (b : BoardValue) (past : List Record) (o : Option AckValue) (t : Taken) → RunLaws b
-    → Now b past
-    → AreAgreed b (controller_values b past) (place b past)
-    (remembers.values_of b (took o t ++ firmware_history b past))
-took_next b past o t laws now = grind (arith, nat_tests)
-
 take_next : (b : BoardValue) (past : List Record) (k : ℕ) (s : Said) → RunLaws b → Now b past
     → Next b past (Take k) s
-take_next b past k (said.Taken taken) laws now =
-    took_next b past (indexed (acks past) k) taken laws now
-take_next b past k s laws now = now
+take_next b past k s laws now = grind (arith, nat_tests)
 
 -- The whole run --------------------------------------------------------------------------------
 
@@ -180,6 +172,4 @@ agreed b laws (r ∷ past) is =
 
 pub agrees : (b : BoardValue) → RunLaws b → (past : List Record) → IsLegalPast b past
     → Agree b past
-agrees b laws past is =
-    let all = agreed b laws past is in
-    record { begun = all.begun; stopped = all.stopped; present = all.present }
+agrees b laws past is = grind (arith, nat_tests, agreed)

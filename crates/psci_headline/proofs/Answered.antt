@@ -77,17 +77,11 @@ module _ (b : BoardValue) (starts : ℕ → ℕ) (depth : ℕ → ℕ → ℕ) (
         ]
       ]
 
-  -- then the domain is confirmed
-  part_applied : (level place : ℕ) (is : IsOutstanding b v.known v.outstanding level place)
-      → IsApplied a is.message level
-      → applied_part a level (v.outstanding (slot_of a.kind a.core)) ≡ Some is.part
-  part_applied level place is by = grind (arith, nat_tests, down_slot, and_from, lt-ltb)
-
   confirms : (level place : ℕ) (is : IsOutstanding b v.known v.outstanding level place)
       → IsApplied a is.message level → 0 < v.granted level place
       → confirms_on b v a level place ≡ true
   unfolding known_below
-  confirms level place is by some = grind (arith, nat_tests, and_from, eq-eqb, lt-ltb, part_applied)
+  confirms level place is by some = grind (arith, nat_tests, and_from, eq-eqb, lt-ltb, down_slot)
 
   domain : (level place : ℕ) → 0 < v.granted level place → IsConfirmedOr b starts v level place
       → IsConfirmedOr b starts (with_acknowledgement b a v) level place

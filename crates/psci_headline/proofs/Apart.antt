@@ -25,8 +25,7 @@ distinct_more : (x : Claim) (old : List Claim)
 distinct_more x old new are x4 x5 p q at to same = grind (arith, nat_tests)
 
 first_distinct : (first : Claim) (t : Bool) → AreDistinct (cond t [] (first ∷ []))
-first_distinct first true = distinct_none
-first_distinct first false = distinct_more first [] (λ k y at. absurd (cc)) distinct_none
+first_distinct first t = grind (arith, nat_tests, distinct_none, distinct_more)
 
 -- All claims -----------------------------------------------------------------------------------
 
@@ -63,15 +62,11 @@ module _ (b : BoardValue) (life : ℕ) (v : Values) (n : Node) (messages : List 
     part_distinct : (m : MessageValue) (o : Option Part) → part_for b life n.level n.place m ≡ o
         → AreRising b (m ∷ messages) → AreDistinct old
         → AreDistinct (listed (option_map (λ p. claim_by b v n m.core.number p) o) ++ old)
-    part_distinct m None is are distinct = distinct
-    part_distinct m (Some p) is are distinct =
-        distinct_more (claim_by b v n m.core.number p) old (λ k y. newer m p k y are is) distinct
+    part_distinct m o is are distinct = grind (arith, nat_tests, distinct_more, newer)
 
     with_distinct : (o : Option MessageValue) → AreRising b (listed o ++ messages)
         → AreDistinct old → AreDistinct (with_claim_of b life v n o old)
-    with_distinct None are distinct = distinct
-    with_distinct (Some m) are distinct =
-        part_distinct m (part_for b life n.level n.place m) refl are distinct
+    with_distinct o are distinct = grind (arith, nat_tests, part_distinct)
 
 pub distinct : (b : BoardValue) (life : ℕ) (n : Node) (past : List Record) → HasNode b n
     → AreRising b (sent past) → AreDistinct (claims b life n past)

@@ -40,45 +40,10 @@ record HasMade (t : Bool) (sent : Option MessageValue) (level sum : ℕ) : Type 
   pub at : slice_get message.parts level ≡ Some part
   pub made : part.generation ≡ sum
 
-by_part : (m : MessageValue) (level sum : ℕ) (o : Option Part) → slice_get m.parts level ≡ o
-    → is_made_at sum o ≡ true → HasMade true (Some m) level sum
-by_part m level sum None at e = absurd (cc)
-by_part m level sum (Some p) at e = record {
-  test = refl;
-  message = m;
-  slot = refl;
-  part = p;
-  at = at;
-  made = eqb-true p.generation sum e;
-}
-
-has_made : (t : Bool) (sent : Option MessageValue) (level sum : ℕ)
-    → is_made_at sum (only_if t (option_and_then (λ m. slice_get m.parts level) sent)) ≡ true
-    → HasMade t sent level sum
-has_made true None level sum e = absurd (cc)
-has_made true (Some m) level sum e = by_part m level sum (slice_get m.parts level) refl e
-has_made false sent level sum e = absurd (cc)
-
 pub confirming : (b : BoardValue) (v : Values) (a : AckValue) (level place : ℕ)
     → confirms_on b v a level place ≡ true → Confirms b v a level place
 unfolding known_below
-confirming b v a level place e =
-    let first = and_parts (is_path_place b a.core.number level place) _ e in
-    let second = and_parts (nat_lt 0 (v.granted level place)) _ first.1 in
-    let has = has_made (is_kind a.kind kinds.Down && nat_lt level a.applied)
-    (v.outstanding (slot_of a.kind a.core)) level (known_below b v.known level place) second.1 in
-    let tests = and_parts (is_kind a.kind kinds.Down) (nat_lt level a.applied) has.test in
-    record {
-      on = eqb-true place (up b level a.core.number) first.0;
-      some = ltb-true 0 (v.granted level place) second.0;
-      kind = same_kind a.kind kinds.Down tests.0;
-      applied = ltb-true level a.applied tests.1;
-      message = has.message;
-      slot = has.slot;
-      part = has.part;
-      at = has.at;
-      made = has.made;
-    }
+confirming b v a level place e = grind (arith, nat_tests, and_parts, eqb-true, ltb-true, same_kind)
 
 -- Parts ---------------------------------------------------------------------------------------
 

@@ -27,8 +27,7 @@ use Rattle.psci_ctl_spec.specs.History as controls
 -- an effect that applies a part leaves the life as it is
 applies_within : (b : BoardValue) (f : Effect) (level place : ℕ) (p : Part)
     → Applies b f level place p → keeps_life f ≡ true
-applies_within b (Deepens c ps) level place p a = refl
-applies_within b f level place p a = absurd a
+applies_within b f level place p a = grind (arith, nat_tests)
 
 life_within : (f : Effect) (o : Option ℕ) → keeps_life f ≡ true → controls.life_by f o ≡ o
 life_within f o e = grind (arith, nat_tests, false≢true)
@@ -100,13 +99,8 @@ control_sent : (b : BoardValue) (life level place : ℕ) (p : Part) (v : Values)
     → WasSent b life level place p ms h
     → WasSent b life level place p ms (control v ms event said ++ h)
 unfolding effect_of
-control_sent b life level place p v ms (Deliver k) (Acked index a) h before =
-    numbered_sent b life level place p ms k (indexed ms k) a h refl before
-control_sent b life level place p v ms (Wake c) (Kick s) h before =
-    none_applied b life level place p ms _ h (λ x. x) before
-control_sent b life level place p v ms (Reset c) (Kick s) h before =
-    none_applied b life level place p ms _ h (λ x. x) before
-control_sent b life level place p v ms event said h before = before
+control_sent b life level place p v ms event said h before =
+    grind (arith, nat_tests, numbered_sent, none_applied)
 
 -- All of them ---------------------------------------------------------------------------------
 

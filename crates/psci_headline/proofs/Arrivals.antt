@@ -79,8 +79,7 @@ pub record HaveArrived (b : BoardValue) (past : List Record) (c : ℕ) : Type 0 
   pub there : (x : ℕ) → (x ≡ c → ⊥) → place b (step b past (Enter c)) x ≡ place b past x
 
 not_started : (act : Act) → place_after act ≡ Started → ⊥
-not_started (acts.Return code) e = cc
-not_started act e = cc
+not_started act e = grind (arith, nat_tests)
 
 pub arrives : (b : BoardValue) (past : List Record) (c : ℕ) → RunLaws b → IsLegalPast b past
     → NoneRefused b past → c < cores b → place b past c ≡ Started → HaveArrived b past c
@@ -134,5 +133,4 @@ same_control b past c = refl
 -- and each message its number
 pub same_numbers : (past : List MessageValue) (o : Option MessageValue) (k : ℕ) (m : MessageValue)
     → indexed past k ≡ Some m → indexed (listed o ++ past) k ≡ Some m
-same_numbers past None k m e = e
-same_numbers past (Some n) k m e = numbered_old n past k m e
+same_numbers past o k m e = grind (arith, nat_tests, numbered_old)

@@ -19,8 +19,7 @@ use Rattle.psci_headline.proofs.Claiming.{by_claim}
 
 kept_head : (p : ℕ → Bool) (t : Bool) (a : ℕ) (xs : List ℕ) → (t ≡ true → p a ≡ true)
     → list_all p xs ≡ true → list_all p (cond t (a ∷ xs) xs) ≡ true
-kept_head p true a xs here there = and_from _ _ (here refl) there
-kept_head p false a xs here there = there
+kept_head p t a xs here there = grind (arith, nat_tests, and_from)
 
 all_kept : (p test : ℕ → Bool) (a n : ℕ)
     → ((c : ℕ) → a ≤ c → c < a + n → test c ≡ true → p c ≡ true)
@@ -39,23 +38,10 @@ all_below b n p each = grind (arith, nat_tests, all_kept, eqb-true)
 
 -- The claim of a message -----------------------------------------------------------------------
 
-asked_in : (b : BoardValue) (v : Values) (n : Node) (m : MessageValue) (p : Part) (life : ℕ)
-    (mode : SuspendMode) → v.mode ≡ mode → IsAskedFor b v m
-    → HasPart b life n.level n.place m p → asks_by mode b v n m.core.number p.depth ≡ true
-asked_in b v n m p life Platform is fair has =
-    all_below b n (λ c. nat_le p.depth (ask b v c n.level))
-    (λ c on at. le-leb _ _ (fair.least is n.level c p has.part on (at ∙ has.on)))
-asked_in b v n m p life OsInitiated is fair has =
-    and_from (nat_le p.depth (ask b v m.core.number n.level)) _
-    (le-leb _ _ (fair.own n.level p has.part))
-    (all_below b n (λ c. nat_le p.depth (ask b v c 0))
-    (λ c on at. le-leb _ _ (fair.below n.level c p has.part on (at ∙ has.on))))
-
 asked_by : (b : BoardValue) (life : ℕ) (v : Values) (n : Node) (m : MessageValue) (p : Part)
     → IsAskedFor b v m → part_for b life n.level n.place m ≡ Some p
     → (claim_by b v n m.core.number p).asked ≡ true
-asked_by b life v n m p fair e =
-    asked_in b v n m p life v.mode refl fair (part_has b life n.level n.place m p e)
+asked_by b life v n m p fair e = grind (arith, nat_tests, all_below, le-leb, and_from, part_has)
 
 -- The start of a life --------------------------------------------------------------------------
 
@@ -67,11 +53,7 @@ start_asked b life n has off =
 
 first_asked : (first : Claim) (t : Bool) (k : ℕ) (x : Claim) → (t ≡ false → first.asked ≡ true)
     → slice_get (cond t [] (first ∷ [])) k ≡ Some x → x.asked ≡ true
-first_asked first true k x asked at = absurd (cc)
-first_asked first false zero x asked at =
-    let same : first ≡ x = cc in
-    ap (λ (c : Claim). c.asked) (sym same) ∙ asked refl
-first_asked first false (suc k) x asked at = absurd (cc)
+first_asked first t k x asked at = grind (arith, nat_tests)
 
 -- All claims -----------------------------------------------------------------------------------
 

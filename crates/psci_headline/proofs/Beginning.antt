@@ -58,8 +58,7 @@ pub more_starts : (messages : List MessageValue) (k : ℕ)
     → IsStartAt messages k → (now : List MessageValue)
     → ((m : MessageValue) → indexed messages k ≡ Some m → indexed now k ≡ Some m)
     → IsStartAt now k
-more_starts messages k is now keeps =
-    record { message = is.message; at = keeps is.message is.at; kind = is.kind }
+more_starts messages k is now keeps = grind (arith, nat_tests)
 
 enters_in : (b : BoardValue) (before : List Record) (life : ℕ) (past : List Record) (c : ℕ)
     → SettleLaws b → IsUnderWay b before life past → c < cores b → place b past c ≡ Started

@@ -107,47 +107,11 @@ module _ (b : BoardValue) (starts : ℕ → ℕ) (v : Values) (m : MessageValue)
   there : (level place : ℕ) → is_path_place b m.core.number level place ≡ false
       → IsYetToCome b starts v.known v.outstanding level place
       → IsYetToCome b starts v.known sends level place
-  there level place off =
-      yet_still b starts v.known v.known v.outstanding sends level place refl (λ x below is.
-      put_there v.outstanding m m.core.number x.core.number slot
-      (not_at b m.core.number x.core.number level place off below) ∙ is)
-
-  by_part : (level place : ℕ) (o : Option Part) (depth : ℕ) (before : Bool)
-      → slice_get m.parts level ≡ o
-      → up b level m.core.number ≡ place → (0 < depth → ⊥) → 0 < claimed_or o depth
-      → (unless_claimed o before ≡ true) ⊎ IsYetToCome b starts v.known sends level place
-  by_part level place None depth before e on flat some = absurd (flat some)
-  by_part level place (Some p) depth before e on flat some = inr (inl (here level place p e on))
-
-  by_path : (level place : ℕ) (t : Bool) → is_path_place b m.core.number level place ≡ t
-      → AreBeside b starts v m.core.number → IsFlat b v m.core.number
-      → 0 < cond t (claimed_or (slice_get m.parts level) (v.granted level place))
-      (v.granted level place)
-      → (cond t (unless_claimed (slice_get m.parts level) (v.confirmed level place))
-      (v.confirmed level place) ≡ true)
-      ⊎ IsYetToCome b starts v.known sends level place
-  by_path level place true on are flat some =
-      by_part level place (slice_get m.parts level) (v.granted level place)
-      (v.confirmed level place) refl (on_path b m.core.number level place on)
-      (flat level place on) some
-  by_path level place false off are flat some = elim (are.domains level place off some) [
-    | inl was ↦ inl was
-    | inr yet ↦ inr (there level place off yet)
-  ]
+  there level place off = grind (arith, nat_tests, yet_still, put_there, not_at)
 
   pub claims : AreBeside b starts v m.core.number → IsFlat b v m.core.number
       → AreConfirming b starts (with_claims b m v)
-  claims are flat = record {
-    domains = λ level place.
-        by_path level place (is_path_place b m.core.number level place) refl are flat;
-    cores = λ awake x on away. elim (cases_eq x m.core.number) [
-      | inl same ↦ inr (inl (here 0 x first at (paths.core m.core.number ∙ sym same)))
-      | inr other ↦ elim (are.cores awake x on other away) [
-        | inl was ↦ inl was
-        | inr yet ↦ inr (there 0 x (other_core b m.core.number x paths other) yet)
-      ]
-    ];
-  }
+  claims are flat = grind (arith, nat_tests, here, on_path, there, cases_eq, other_core)
 
 -- a core was asked on
 module _ (b : BoardValue) (starts : ℕ → ℕ) (v : Values) (asked : PowerOn) (paths : PathLaws b)
@@ -158,29 +122,16 @@ module _ (b : BoardValue) (starts : ℕ → ℕ) (v : Values) (asked : PowerOn) 
   abbrev after : Values
   after = with_pending b asked v
 
-  stays : (level place : ℕ) → is_path_place b t level place ≡ false
-      → IsYetToCome b starts v.known v.outstanding level place
-      → IsYetToCome b starts v.known after.outstanding level place
-  stays level place off =
-      yet_still b starts v.known v.known v.outstanding after.outstanding level place refl
-      (λ x below is.
-      put_there v.outstanding asked.message t x.core.number
-      (ap (λ k. slot_of k asked.message.core) kind)
-      (not_at b t x.core.number level place off below) ∙ is)
-
-  by_target : (level place : ℕ) (on : Bool) → is_path_place b t level place ≡ on
-      → AreConfirming b starts v → 0 < cond on 0 (v.granted level place)
-      → (cond on false (v.confirmed level place) ≡ true)
-      ⊎ IsYetToCome b starts v.known after.outstanding level place
-  by_target level place true on are some = absurd (omega (arith, some))
-  by_target level place false off are some = elim (are.domains level place some) [
-    | inl was ↦ inl was
-    | inr yet ↦ inr (stays level place off yet)
-  ]
-
   pub pends : AreConfirming b starts v → AreConfirming b starts (with_pending b asked v)
-  pends are = record {
-    domains = λ level place. by_target level place (is_path_place b t level place) refl are;
-    cores = λ awake x on away.
-        grind (arith, nat_tests, cases_eq, updated_here, updated_there, other_core);
-  }
+  pends are =
+      grind (
+        arith,
+        nat_tests,
+        yet_still,
+        put_there,
+        not_at,
+        cases_eq,
+        updated_here,
+        updated_there,
+        other_core,
+      )

@@ -1,4 +1,5 @@
 -- How many rounds there are until nothing is outstanding, and how often a Down is delivered.
+use Rattle.psci_headline.proofs.Words.{nat_tests}
 use Rattle.std.specs.Prelude.{is_some}
 use Rattle.psci_headline.proofs.Words.{◌+◌, ◌<◌, ◌||◌, ◌∙◌, ◌≡◌, ◌≤◌, ap, arith, BoardValue, Bool}
 use Rattle.psci_headline.proofs.Words.{cases_lt, cond, controller_values, cores, deliveries, false}
@@ -159,12 +160,10 @@ any_one f a (suc n) e = by_test (λ g. any_one f (a + 1) n g) (f a) refl e
 
 some_is : (o : Option MessageValue) → is_some o ≡ true
     → (m : MessageValue) × (o ≡ Some m)
-some_is None e = absurd (cc)
-some_is (Some m) e = (m, refl)
+some_is o e = grind (arith, nat_tests)
 
 none_is : (o : Option MessageValue) → is_some o ≡ false → o ≡ None
-none_is None e = refl
-none_is (Some m) e = absurd (cc)
+none_is o e = grind (arith, nat_tests)
 
 -- after one round for each level nothing is outstanding
 none_left : (b : BoardValue) (before : List Record) (life n : ℕ) (past : List Record) (c : ℕ)

@@ -21,8 +21,7 @@ use Rattle.psci_headline.specs.psci_fw_spec.Said as says
 -- Slots ----------------------------------------------------------------------------------------
 
 not_down : (k : Kind) → is_kind k kinds.Down ≡ false → k ≡ kinds.Down → ⊥
-not_down k other e =
-    let no : true ≡ false = sym (ap (λ x. is_kind x kinds.Down) e) ∙ other in absurd (cc)
+not_down k other e = grind (arith, nat_tests)
 
 -- a core that ran is of another phase then, and not pending
 left_by : (p left : Phase) → p ≡ Running → unless_pending p left ≡ left

@@ -157,13 +157,6 @@ acked_waits b w place v sent made k m a given at own is may h = grind (arith, na
 
 -- The firmware ---------------------------------------------------------------------------------
 
--- the life of a running core is the firmware's
-running_life : (b : BoardValue) (w : controlled.Values) (place : ℕ → Place) (v : Values)
-    (c life : ℕ) → AreAgreed b w place v → c < cores b → place c ≡ places.Running
-    → w.life ≡ Some life → life ≡ v.life
-running_life b w place v c life agreed on at e =
-    own_life b life v c ((agreed.present life e).runs c on at)
-
 -- a core calls
 pub called_waits : (b : BoardValue) (w : controlled.Values) (place : ℕ → Place) (v : Values)
     (sent : List MessageValue) (made : List AckValue) (c : ℕ) (e : Effect) (runs : Bool)
@@ -171,16 +164,7 @@ pub called_waits : (b : BoardValue) (w : controlled.Values) (place : ℕ → Pla
     → IsAllowed b v e → WaitsNow b w v sent made
     → WaitsNow b w (change b e v) (says.listed (says.sent e) ++ sent) made
 called_waits b w place v sent made c e runs given on at is allowed h life f =
-    let own : life ≡ v.life = running_life b w place v c life given.agreed on at f in
-    let moved = call_moves b v e given.callers is.is allowed in
-    let known : IsKnown b life w.starts v sent =
-    subst (λ u. IsKnown b life w.starts u sent) (found_own b life v own)
-    (present_known b w place v sent life given f) in
-    let now : WaitingIn b life w v sent made =
-    subst (λ u. WaitingIn b life w u sent made) (found_own b life v own) (h life f) in
-    subst (λ u. WaitingIn b life w u (says.listed (says.sent e) ++ sent) made)
-    (sym (found_own b life (change b e v) (own ∙ sym moved.life)))
-    (call_waits b life w v sent made e given.callers is.is allowed known.live now)
+    grind (arith, nat_tests, own_life, call_moves, found_own, present_known, call_waits)
 
 -- a core enters
 pub entering_waits : (b : BoardValue) (w : controlled.Values) (place : ℕ → Place) (v : Values)
@@ -191,20 +175,16 @@ pub entering_waits : (b : BoardValue) (w : controlled.Values) (place : ℕ → P
     → WaitsNow b w (change b (enter_effect c s act o) v)
     (says.listed (says.sent (enter_effect c s act o)) ++ sent) made
 entering_waits b w place v sent made c s act o given on at last allowed h life f =
-    let is = last_is w c s last in
-    let same : s.life ≡ life = let g : Some s.life ≡ Some life = sym is.life ∙ f in cc in
-    let moved = entry_moves b v c s act o in
-    let entered : s.life ≡ (change b (enter_effect c s act o) v).life =
-    sym (moved.life ∙ found_life b v s.life) in
-    let known = present_known b w place v sent s.life given is.life in
-    let later = (given.agreed.present s.life is.life).waits c on at in
-    subst (λ l. WaitingIn b l w (in_life b l (change b (enter_effect c s act o) v))
-    (says.listed (says.sent (enter_effect c s act o)) ++ sent) made)
-    same
-    (subst (λ u. WaitingIn b s.life w u
-    (says.listed (says.sent (enter_effect c s act o)) ++ sent) made)
-    (sym (found_own b s.life (change b (enter_effect c s act o) v) entered))
-    (entry_waits b w v sent made c s act o allowed on later known.live (h s.life is.life)))
+    grind (
+      arith,
+      nat_tests,
+      last_is,
+      entry_moves,
+      found_life,
+      present_known,
+      found_own,
+      entry_waits,
+    )
 
 -- an acknowledgement is taken
 pub taking_waits : (b : BoardValue) (w : controlled.Values) (place : ℕ → Place) (v : Values)

@@ -1,5 +1,6 @@
 -- Worked examples are stated so: a run that is safe at every moment, and a moment at which just one
 -- thing is not as it shall be.
+use Rattle.psci_headline.proofs.Words.{arith, nat_tests}
 use Rattle.std.proofs.Common.{map}
 use Rattle.psci_headline.proofs.Words.{◌&&◌, ◌++◌, ◌∷◌, ◌≡◌, [], Bool, Event, false, is_always_safe}
 use Rattle.psci_headline.proofs.Words.{is_asked, is_each_once, is_each_open, is_each_real}
@@ -89,28 +90,10 @@ failing b past =
 abbrev pub failing_after : (BoardValue × List Steps) → List Clause
 failing_after (b, steps) = failing b (past_from b [] steps)
 
--- where something fails the world is not safe
-unsafe_where : (a b c d e f g h : Bool) (k : Clause) (ks : List Clause)
-    → if_fails a Powered ++ (if_fails b Stopped ++ (if_fails c PoweredDown ++ (if_fails d One
-    ++ (if_fails e Asked ++ (if_fails f Open ++ (if_fails g Once ++ if_fails h Real)))))) ≡ k ∷ ks
-    → (a && ((b && c) && (d && (e && ((f && g) && h))))) ≡ false
-unsafe_where false b c d e f g h k ks some = refl
-unsafe_where true false c d e f g h k ks some = refl
-unsafe_where true true false d e f g h k ks some = refl
-unsafe_where true true true false e f g h k ks some = refl
-unsafe_where true true true true false f g h k ks some = refl
-unsafe_where true true true true true false g h k ks some = refl
-unsafe_where true true true true true true false h k ks some = refl
-unsafe_where true true true true true true true false k ks some = refl
-unsafe_where true true true true true true true true k ks some = absurd (cc)
-
 -- so after such steps the world is not safe
 pub broken : (b : BoardValue) (past : List Record) (k : Clause) (ks : List Clause)
     → failing b past ≡ k ∷ ks → is_safe b past ≡ false
-broken b past k ks =
-    unsafe_where (is_powered b past) (is_off_stopped b past) (is_off_down b past) (is_one b past)
-    (is_asked b past) (is_each_open b past) (is_each_once b past)
-    (is_each_real b past) k ks
+broken b past k ks = grind (arith, nat_tests)
 
 -- after these steps the world is safe, but it was not at each moment before
 abbrev pub WasUnsafe : BoardValue → List Steps → Type 0

@@ -10,8 +10,7 @@ use Rattle.psci_headline.proofs.fw_laws.Parts.{updated_there}
 -- a core below a domain that is beside the path of another core is not that core
 pub not_at : (b : BoardValue) (c x level place : ℕ) → is_path_place b c level place ≡ false
     → up b level x ≡ place → x ≡ c → ⊥
-not_at b c x level place off at same =
-    eqb-false place (up b level c) off (sym at ∙ ap (up b level) same)
+not_at b c x level place off at same = grind (arith, nat_tests, eqb-false)
 
 pub on_path : (b : BoardValue) (c level place : ℕ) → is_path_place b c level place ≡ true
     → up b level c ≡ place

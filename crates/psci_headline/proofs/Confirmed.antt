@@ -79,11 +79,7 @@ by_event b past event said kept does = grind (arith, nat_tests)
 next : (b : BoardValue) (r : Record) (past : List Record) → RunLaws b
     → IsLegalPast b (r ∷ past) → Confirming b past → Confirming b (r ∷ past)
 unfolding controller_history firmware_history
-next b r past laws is h =
-    by_event b past r.event r.said (firmware_next b r past laws is h)
-    (control_next b past (control (controller_values b past) (sent past) r.event r.said)
-    laws.sums (few (controller_values b past) (sent past) r.event r.said)
-    (laws.agree past is.1) h)
+next b r past laws is h = grind (arith, nat_tests, firmware_next, control_next, few)
 
 pub confirming : (b : BoardValue) (past : List Record) → RunLaws b → IsLegalPast b past
     → Confirming b past

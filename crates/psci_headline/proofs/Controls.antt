@@ -35,14 +35,10 @@ pub record IsKnown (b : BoardValue) (life : ℕ) (starts : ℕ → ℕ) (v : Val
   pub below : (level place : ℕ)
       → known_below b v.known level place ≤ known_below b starts level place
 
-no_item : (ps : List Part) (level : ℕ) (p : Part) → ps ≡ [] → slice_get ps level ≡ Some p → ⊥
-no_item ps level p e at = none-some p (ap (λ qs. slice_get qs level) (sym e) ∙ at)
-
 kind_level : (ps : List Part) (level : ℕ) (p : Part) (kind : Kind)
     → ((qs : List Part) → AreClaims qs → PartByPart qs) → ArePartsOf kind ps
     → slice_get ps level ≡ Some p → p.level ≡ level
-kind_level ps level p kinds.Down parts are at = (parts ps are).level level p at
-kind_level ps level p kind parts are at = absurd (no_item ps level p are at)
+kind_level ps level p kind parts are at = grind (arith, nat_tests, none-some)
 
 -- the parts of a message that was sent
 pub part_level : (b : BoardValue) (life : ℕ) (starts : ℕ → ℕ) (v : Values)
@@ -79,28 +75,7 @@ made_more : (b : BoardValue) (life : ℕ) (w : controlled.Values) (v : Values)
     (sent : List MessageValue) (made : List AckValue) (a : AckValue) (k : ℕ) (m : MessageValue)
     → slice_get sent k ≡ Some m → IsTold b w.starts w.depth a m → WaitingIn b life w v sent made
     → WaitingIn b life w v sent (a ∷ made)
-made_more b life w v sent made a k m at told h = record {
-  pursued = h.pursued;
-  first = h.first;
-  asked = h.asked;
-  named = by_name;
-  told = by_place;
-}
-  where
-    by_name : (i : ℕ) (x : AckValue) → slice_get (a ∷ made) i ≡ Some x → IsNamed x sent
-    by_name zero x e =
-        let same : a ≡ x = cc in
-        subst (λ y. IsNamed y sent) same
-        (record { index = k; message = m; at = at; answers = told.answers })
-    by_name (suc i) x e = h.named i x e
-
-    by_place : (i : ℕ) (x : AckValue) → slice_get (a ∷ made) i ≡ Some x → x.life ≡ life
-        → WasTold b w.starts w.depth x sent
-    by_place zero x e own =
-        let same : a ≡ x = cc in
-        subst (λ y. WasTold b w.starts w.depth y sent) same
-        (record { index = k; message = m; at = at; told = told })
-    by_place (suc i) x e own = h.told i x e own
+made_more b life w v sent made a k m at told h = grind (arith, nat_tests, named)
 
 -- a Down was carried out
 pub down_waits : (b : BoardValue) (life : ℕ) (w : controlled.Values) (v : Values)

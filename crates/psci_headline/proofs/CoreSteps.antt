@@ -84,27 +84,22 @@ enters b v w c d s e entering begins is = grind (arith, nat_tests)
 -- Acknowledgements ----------------------------------------------------------------------------
 
 pub phase_away : (p : Phase) → is_away p ≡ true → p ≡ Away
-phase_away Away e = refl
-phase_away p e = absurd (cc)
-
-turned : (v : Values) (c : ℕ) (a : AckValue) → c ≡ a.core.number → turns_off v a ≡ true
-    → TurnsOff v c (Acknowledges a)
-turned v c a here e =
-    let c_away = is_away (v.phase a.core.number) in
-    let both = and_parts (is_kind a.kind Down && nat_lt 0 a.applied) c_away e in
-    let first = and_parts (is_kind a.kind Down) (nat_lt 0 a.applied) both.0 in
-    record {
-      ack = a;
-      is = refl;
-      core = sym here;
-      kind = same_kind a.kind Down first.0;
-      some = ltb-true 0 a.applied first.1;
-      away = ap v.phase here ∙ phase_away (v.phase a.core.number) both.1;
-    }
+phase_away p e = grind (arith, nat_tests)
 
 taken : (b : BoardValue) (v : Values) (c : ℕ) (a : AckValue)
     → IsStep v (change b (Acknowledges a) v) c (Acknowledges a)
-taken b v c a = grind (arith, nat_tests, within, updated_at, cond_both, turned)
+taken b v c a =
+    grind (
+      arith,
+      nat_tests,
+      within,
+      updated_at,
+      cond_both,
+      and_parts,
+      same_kind,
+      ltb-true,
+      phase_away,
+    )
 
 -- All -----------------------------------------------------------------------------------------
 

@@ -10,8 +10,7 @@ use Rattle.psci_ctl_spec.specs.History as controls
 
 -- off the boot path only is a domain down at the life's start
 pub first_off : (t : Bool) (depth : ℕ) → depth ≡ cond t 0 3 → 0 < depth → (t ≡ false) × (depth ≡ 3)
-first_off true depth e some = absurd (omega (arith, e, some))
-first_off false depth e some = (refl, e)
+first_off t depth e some = grind (arith, nat_tests)
 
 applied_live : (b : BoardValue) (past : List Record) (life : ℕ) (n : Node)
     → IsReplied b (controller_history b past) → (controller_values b past).life ≡ Some life

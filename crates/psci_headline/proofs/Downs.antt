@@ -79,8 +79,7 @@ pub record IsDownAnswered (b : BoardValue) (before : List Record) (life : ℕ) (
 
 left_from : (t : Bool) (m x : MessageValue) → cond t None (Some m) ≡ Some x
     → (x ≡ m) × (t ≡ false)
-left_from true m x e = absurd (cc)
-left_from false m x e = (cc, refl)
+left_from t m x e = grind (arith, nat_tests)
 
 module _ (b : BoardValue) (before : List Record) (life : ℕ) (past : List Record) (r c : ℕ)
     (m : MessageValue) (laws : SettleLaws b) (going : IsGoing b before life past)
@@ -97,9 +96,6 @@ module _ (b : BoardValue) (before : List Record) (life : ℕ) (past : List Recor
   abbrev next : List Record
   next = serving b past (Some n.number)
 
-  is : IsPast b past
-  is = laws.past past going.legal
-
   known : IsKnown b life w.starts v (sent past)
   known = known_now b before life past laws going
 
@@ -114,30 +110,19 @@ module _ (b : BoardValue) (before : List Record) (life : ℕ) (past : List Recor
 
   control : controller_values b next
       ≡ controlling.change b (Deepens m.core.number (take count m.parts)) w
-  control = em.answered.control
-      ∙ ap (λ k. controlling.change b (message_effect b m (ack_by b w m k) k) w) out.down.kind
+  control = grind (arith, nat_tests, em)
 
   front : IsFront b w m.core.number (take count m.parts)
   front = is_front b w m.core.number m.parts laws.kids out.down.core out.down.few out.down.parts
 
   are : AreApplied b life w.starts (sent past) m.core.number (take count m.parts)
-  are = record {
-    index = out.down.index;
-    message = m;
-    at = out.down.at;
-    present = out.down.present;
-    kind = out.down.kind;
-    core = refl;
-    part = λ level p get. take_get m.parts count level p get;
-    live = λ level p get.
-        front.live level p get ∙ same_sum b w.starts (domain_of b m.core.number level);
-  }
+  are = grind (arith, nat_tests, take_get, front, same_sum)
 
   ready : IsReady b life v.known v.phase (sent past) w r
   ready = ready_now b before life past r laws going deep
 
   ack_laws : AckLaws b w m.core.number m.parts
-  ack_laws = is.given.acks w m.core.number m.parts
+  ack_laws = grind (arith, nat_tests)
 
   -- the depth of a domain then
   depth_now : (level place : ℕ) → (controller_values b next).depth level place

@@ -23,17 +23,7 @@ goes_on b starts v c are = grind (arith, nat_tests, updated_at)
 pub halts : (b : BoardValue) (starts : ℕ → ℕ) (v : Values) (c : ℕ) (m : MessageValue)
     → is_system m.kind ≡ true → AreConfirming b starts v
     → AreConfirming b starts (with_halt m (with_phase c Away v))
-halts b starts v c m system are = record {
-  domains = λ level place some. elim (are.domains level place some) [
-    | inl was ↦ inl was
-    | inr yet ↦
-        inr (yet_still b starts v.known v.known v.outstanding
-        (with_halt m (with_phase c Away v)).outstanding level place refl
-        (λ x below is.
-        put_system v.outstanding m x.core.number (system_slot m.kind m.core system) ∙ is) yet)
-  ];
-  cores = λ awake. absurd (cc);
-}
+halts b starts v c m system are = grind (arith, nat_tests, yet_still, put_system, system_slot)
 
 -- a halting life says nothing of cores
 halting : (b : BoardValue) (starts : ℕ → ℕ) (v : Values) (c : ℕ) → v.halting ≡ true

@@ -36,21 +36,10 @@ record HasEntered (b : BoardValue) (v : Values) (f : Effect) (x : EnteredAt) : T
 
 -- a core is answered an entry point only where it has that opening
 module _ (b : BoardValue) (found after : Values) (c : ℕ) (s : Start) (a k : ℕ) where
-  resumed : (t : Bool)
-      → acts.Enter a k ≡ (cond t (record { act = acts.Resume; message = None })
-      (stops_with (off_message b after c))).act → ⊥
-  resumed true e = absurd (cc)
-  resumed false e = absurd (cc)
-
-  opened : (o : Option Opening) → acts.Enter a k ≡ (outcome_at b found after c s o).act
-      → o ≡ Some (record { address = a; context = k })
-  opened o e = grind (arith, nat_tests, resumed)
-
   opened_unless : (t : Bool) (o : Option Opening)
       → acts.Enter a k ≡ (cond t stops (outcome_at b found after c s o)).act
       → o ≡ Some (record { address = a; context = k })
-  opened_unless true o e = absurd (cc)
-  opened_unless false o e = opened o e
+  opened_unless t o e = grind (arith, nat_tests)
 
 answered : (act : Act) (m : Option MessageValue) (fault : Option FwFault) (o : Outcome)
     → replies.Out (record { act = act; message = m }) ≡ reply_or fault o → act ≡ o.act
@@ -82,8 +71,7 @@ entered_at b v c s act m x e is = absurd (cc)
 -- a core that is not told to enter does not
 no_entry : (c before : ℕ) (act : Act) (x : EnteredAt) → enters_or_resumes_by act ≡ false
     → entered_to c before act ≡ Some x → ⊥
-no_entry c before (acts.Enter address context) x ends is = absurd (cc)
-no_entry c before act x ends is = absurd (cc)
+no_entry c before act x ends is = grind (arith, nat_tests)
 
 has_entered : (b : BoardValue) (v : Values) (before c : ℕ) (call : FwCall) (reply : FwReply)
     (x : EnteredAt) → reply ≡ answer b v c call → entered_by before c call reply ≡ Some x
@@ -140,11 +128,6 @@ module _ (b : BoardValue) (n : ℕ) (v : Values) (made : List Made) (taken : Lis
   leaves (StopsAtOnce c s) allowed = arrives c s allowed.enters.life
   leaves f allowed = one_more n v.life v.opening made taken are
 
-  found_life : (s : Start) (t : Bool) → (s.life == v.life) ≡ t
-      → (cond t v (start_of_life b s.life)).life ≡ s.life
-  found_life s true is = sym (eqb-true s.life v.life is)
-  found_life s false is = refl
-
   -- a core entered at its opening
   takes : (x : EnteredAt) (s : Start) → IsAllowed b v (Enters x.core s) → x.life ≡ s.life
       → (in_life b s.life v).opening x.core ≡ Some x.opening
@@ -153,10 +136,7 @@ module _ (b : BoardValue) (n : ℕ) (v : Values) (made : List Made) (taken : Lis
       (made_with b n v.life (Enters x.core s) made)
       (taking x (made_with b n v.life (Enters x.core s) made) ∷ taken)
   takes x s allowed here at =
-      let same = found_life s (s.life == v.life) refl in
-      let found = found_waits x.core s (s.life == v.life) refl allowed.enters.life in
-      waiting.one_more _ _ _ _ _ (taken_up_by _ _ _ _ _ found x
-      (omega (arith, same, allowed.enters.begun)) (here ∙ sym same) at)
+      grind (arith, nat_tests, eqb-true, found_waits, one_more, taken_up_by, begun)
 
   -- what holds after an effect, with the exchange that it was
   abbrev AreLeft : Effect → Option EnteredAt → Type 0

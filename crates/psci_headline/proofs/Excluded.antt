@@ -1,4 +1,5 @@
 -- What fails by computing is excluded: no such world is at rest, has settled, or is told as it is.
+use Rattle.psci_headline.proofs.Words.{nat_tests}
 use Rattle.std.proofs.Common.{nat_le}
 use Rattle.std.proofs.lemmas.List.Sums.{list_all-from_AllPass}
 use Rattle.psci_headline.proofs.Words.{◌++◌, ◌+◌, ◌<◌, ◌==◌, ◌||◌, ◌∙◌, ◌∷◌, ◌≡◌, ◌≤◌, [], ap}
@@ -42,9 +43,7 @@ passed t k e = ap (λ b. if_fails b k) e
 pub none_in : {A : Type 0} → (test : ℕ → Bool) (clause : ℕ → A) (count : ℕ)
     → ((k : ℕ) → k < count → test k ≡ true)
     → each (λ k. if_fails (test k) (clause k)) (range_with_len 0 count) ≡ []
-none_in test clause count all =
-    none_of (λ k. if_fails (test k) (clause k)) 0 count
-    (λ k low high. passed (test k) (clause k) (all k (omega (arith, high))))
+none_in test clause count all = grind (arith, nat_tests, none_of, if_fails, passed)
 
 pub no_domain : {A : Type 0} → (b : BoardValue) (test : ℕ → ℕ → Bool) (clause : ℕ → ℕ → A)
     → ((n : Node) → HasNode b n → test n.level n.place ≡ true)
@@ -64,9 +63,7 @@ some_none xs ks k some none = let no : [] ≡ k ∷ ks = sym none ∙ some in ab
 -- At rest ---------------------------------------------------------------------------------------
 
 not_started : (p : Place) → (p ≡ places.Started → ⊥) → not (is_started p) ≡ true
-not_started places.Started none = absurd (none refl)
-not_started places.Running none = refl
-not_started places.Stopped none = refl
+not_started p none = grind (arith, nat_tests)
 
 -- nothing fails where all is so that is said of a world at rest
 none_fails : (b : BoardValue) (past : List Record)
@@ -85,8 +82,7 @@ none_fails b past own system entered agree =
 -- so where something fails the world is not at rest
 pub not_at_rest : (b : BoardValue) (past : List Record) (k : Clause) (ks : List Clause)
     → failing b past ≡ k ∷ ks → AreAtRest b past → ⊥
-not_at_rest b past k ks some r =
-    some_none _ ks k some (none_fails b past r.own r.system r.entered r.agree)
+not_at_rest b past k ks some r = grind (arith, nat_tests, some_none, none_fails)
 
 -- Settled ---------------------------------------------------------------------------------------
 
@@ -97,8 +93,7 @@ record IsDown (o : Option MessageValue) : Type 0 where
   pub kind : message.kind ≡ Down
 
 a_down : (o : Option MessageValue) → is_down o ≡ true → IsDown o
-a_down None e = absurd (cc)
-a_down (Some m) e = record { message = m; at = refl; kind = same_kind m.kind Down e }
+a_down o e = grind (arith, nat_tests, same_kind)
 
 -- what passes both tests is found
 kept_one : (p test : ℕ → Bool) (a count k : ℕ) → a ≤ k → k < a + count → test k ≡ true
@@ -145,8 +140,7 @@ not_settled b before added rounds s ss fail r =
 -- Told ------------------------------------------------------------------------------------------
 
 follows_from : (s t : Bool) → (s ≡ true → t ≡ true) → follows s t ≡ true
-follows_from true t then = then refl
-follows_from false t then = refl
+follows_from s t then = grind (arith, nat_tests)
 
 -- where something fails not all is told
 pub not_told : (b : BoardValue) (past : List Record) (k : untold.Clause) (ks : List untold.Clause)

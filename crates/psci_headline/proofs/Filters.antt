@@ -1,4 +1,5 @@
 -- What a filter keeps of a list.
+use Rattle.psci_headline.proofs.Words.{arith, nat_tests}
 use Rattle.psci_headline.proofs.Words.{◌∙◌, ◌∷◌, ◌≡◌, [], ap, Bool, cond, false, filter, List, refl}
 use Rattle.psci_headline.proofs.Words.{slice_get, Some, suc, sym, true, zero, ℕ}
 
@@ -16,11 +17,7 @@ by_head : {X : Type 0} (test : X → Bool) (x y : X) (list : List X) (t : Bool) 
     → test x ≡ t → slice_get (cond t (x ∷ filter test list) (filter test list)) k ≡ Some y
     → ((j : ℕ) → slice_get (filter test list) j ≡ Some y → IsKept test list y)
     → IsKept test (x ∷ list) y
-by_head test x y list true zero is at before =
-    let same : x ≡ y = cc in
-    record { index = 0; at = at; passes = ap test (sym same) ∙ is }
-by_head test x y list true (suc k) is at before = kept_later test x y list (before k at)
-by_head test x y list false k is at before = kept_later test x y list (before k at)
+by_head test x y list t k is at before = grind (arith, nat_tests, kept_later)
 
 -- what is kept is an item of the list
 pub is_kept : {X : Type 0} (test : X → Bool) (list : List X) (k : ℕ) (y : X)
@@ -38,8 +35,7 @@ place_later x y list false (k, at) = (k, at)
 -- an item that passes stands first, and one that does not is left out
 pub head_kept : {X : Type 0} (x : X) (list : List X) (t : Bool) → t ≡ true
     → slice_get (cond t (x ∷ list) list) 0 ≡ Some x
-head_kept x list true is = refl
-head_kept x list false is = absurd (cc)
+head_kept x list t is = grind (arith, nat_tests)
 
 -- an item that passes is kept
 pub keeps : {X : Type 0} (test : X → Bool) (list : List X) (k : ℕ) (y : X)

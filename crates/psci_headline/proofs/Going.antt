@@ -34,34 +34,7 @@ pub record IsGoing (b : BoardValue) (before : List Record) (life : ℕ) (past : 
 -- it is so after the beginning
 pub goes_on : (b : BoardValue) (before : List Record) (life : ℕ) (past : List Record)
     → SettleLaws b → HasBegun b before life past → IsGoing b before life past
-goes_on b before life past laws begun = record {
-  legal = begun.way.legal;
-  added = begun.way.added;
-  present = begun.way.present;
-  own = settled.own;
-  awake = ap (λ (u : Values). u.halting) (sym same) ∙ begun.way.awake;
-  known = settled.known;
-  rests = λ c on e.
-      let waits : AwaitsStart found.outstanding c =
-      (is.waits life begun.way.present).asked begun.way.awake c on
-      (ap (λ (u : Values). u.phase c) same ∙ e)
-      (sym (ap (λ (u : Values). u.known c) same ∙ settled.known c on)) in
-      begun.started c on waits.message
-      (sym (ap (λ (u : Values). u.outstanding (OfCore c)) same) ∙ waits.at) waits.kind;
-  entered = begun.entered;
-}
-  where
-    is : IsPast b past
-    is = laws.past past begun.way.legal
-
-    settled : AreSettled b past life
-    settled = settled_life b past life laws.some is begun.way.present begun.entered
-
-    found : Values
-    found = in_life b life (firmware_values b past)
-
-    same : found ≡ firmware_values b past
-    same = found_own b life (firmware_values b past) (sym settled.own)
+goes_on b before life past laws begun = grind (arith, nat_tests, settled_life, found_own)
 
 -- what is known of the firmware's values and messages
 pub known_now : (b : BoardValue) (before : List Record) (life : ℕ) (past : List Record)

@@ -28,13 +28,7 @@ pub listed_later : {A : Type 0} (o : Option A) (xs : List A) (x : A) → IsListe
 listed_later None xs x is = is
 listed_later (Some y) xs x is = record { index = suc is.index; at = is.at }
 
--- an item is the first one, or one of those behind it
-pub of_first : {A : Type 0} {X : Type 0} (x : A) (xs : List A) (k : ℕ) (y : A) → (x ≡ y → X)
-    → ((j : ℕ) → slice_get xs j ≡ Some y → X) → slice_get (x ∷ xs) k ≡ Some y → X
-of_first x xs zero y first other at = first (same_Some x y at)
-of_first x xs (suc k) y first other at = other k at
-
--- so too where there may be a first one
+-- an item is the first one, where there is one, or one of those behind it
 pub of_newest : {A : Type 0} {X : Type 0} (o : Option A) (xs : List A) (k : ℕ) (y : A)
     → (o ≡ Some y → X) → ((j : ℕ) → slice_get xs j ≡ Some y → X)
     → slice_get (listed o ++ xs) k ≡ Some y → X

@@ -1,4 +1,5 @@
 -- Live claims: those of the list that have the generation of their domain. There is one at most.
+use Rattle.psci_headline.proofs.Words.{nat_tests}
 use Rattle.psci_headline.proofs.Words.{◌==◌, ◌∙◌, ◌∷◌, ◌≡◌, ◌≤◌, [], ap, arith, BoardValue, Bool}
 use Rattle.psci_headline.proofs.Words.{Claim, claims, cond, controller_values, eq-eqb, eqb-true}
 use Rattle.psci_headline.proofs.Words.{false, filter, length, List, Node, None, Option, Record}
@@ -31,8 +32,7 @@ is_of g list k y at =
 none_head : (g : ℕ) (x : Claim) (list : List Claim) (t : Bool) → (t ≡ true → ⊥)
     → length (of_generation g list) ≡ 0
     → length (cond t (x ∷ of_generation g list) (of_generation g list)) ≡ 0
-none_head g x list true other none = absurd (other refl)
-none_head g x list false other none = none
+none_head g x list t other none = grind (arith, nat_tests)
 
 none_of : (g : ℕ) (list : List Claim)
     → ((k : ℕ) (y : Claim) → slice_get list k ≡ Some y → y.generation ≡ g → ⊥)
@@ -45,8 +45,7 @@ none_of g (x ∷ list) others =
 one_head : (g : ℕ) (x : Claim) (list : List Claim) (t : Bool)
     → (t ≡ true → length (of_generation g list) ≡ 0) → length (of_generation g list) ≤ 1
     → length (cond t (x ∷ of_generation g list) (of_generation g list)) ≤ 1
-one_head g x list true none few = omega (arith, none refl)
-one_head g x list false none few = few
+one_head g x list t none few = grind (arith, nat_tests)
 
 -- of distinct claims one at most has a generation
 one_of : (g : ℕ) (list : List Claim) → AreDistinct list → length (of_generation g list) ≤ 1

@@ -40,8 +40,7 @@ sent_later m (Some x) messages (k, at) = (suc k, at)
 
 sent_now : (m : MessageValue) (o : Option MessageValue) (messages : List MessageValue)
     → o ≡ Some m → (k : ℕ) × (slice_get (listed o ++ messages) k ≡ Some m)
-sent_now m None messages is = absurd (cc)
-sent_now m (Some x) messages is = (0, is)
+sent_now m o messages is = grind (arith, nat_tests)
 
 -- what an exchange sent is among the messages
 sent_at : (b : BoardValue) (since : List FwExchange) (e : FwExchange) (before : List FwExchange)

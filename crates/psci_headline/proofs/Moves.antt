@@ -33,10 +33,7 @@ enters_by c s act m e = grind (arith, nat_tests)
 -- without a start nothing is said of an entry
 not_started : (b : BoardValue) (past : List Record) (c : ℕ) (p : Place) (act : Act)
     (m : Option Sent) (t : Bool) → Fw act m ≡ cond t (if_started b past c p None) Absent → ⊥
-not_started b past c Started act m true e = absurd (cc)
-not_started b past c Running act m true e = absurd (cc)
-not_started b past c Stopped act m true e = absurd (cc)
-not_started b past c p act m false e = absurd (cc)
+not_started b past c p act m t e = grind (arith, nat_tests)
 
 goes_at : (b : BoardValue) (past : List Record) (c : ℕ) (act : Act) (m : Option Sent)
     (s : Option Start) → Fw act m ≡ on_board b c (if_started b past c (place b past c) s)

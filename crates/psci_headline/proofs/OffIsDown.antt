@@ -8,20 +8,9 @@ use Rattle.psci_headline.proofs.AllDown.{DownLaws, all_down}
 use Rattle.psci_headline.proofs.Slept.{reported}
 use Rattle.psci_fw_laws.specs.psci_fw_spec.Phases as phases
 
--- at the start of a life no core runs
-none_runs : (t : Bool) → cond t phases.Pending phases.Away ≡ phases.Running → ⊥
-none_runs true e = absurd (cc)
-none_runs false e = absurd (cc)
-
-off_not_running : (s : Status) (p : phases.Phase) → agrees s p ≡ true → s ≡ Off
-    → p ≡ phases.Running → ⊥
-off_not_running s p agree off runs = grind (arith, nat_tests)
-
 by_life : (b : BoardValue) (v : Values) (c life : ℕ) (t : Bool) → AreValues b v → v.status c ≡ Off
     → (cond t v (start_of_life b life)).phase c ≡ phases.Running → ⊥
-by_life b v c life true are off runs =
-    off_not_running (v.status c) (v.phase c) (are.agree c) off runs
-by_life b v c life false are off runs = none_runs (c == 0) runs
+by_life b v c life t are off runs = grind (arith, nat_tests)
 
 not_running : (b : BoardValue) (past : List Record) (c : ℕ) (o : Option ℕ) → Agree b past
     → AreValues b (firmware_values b past) → c < cores b
@@ -36,8 +25,4 @@ not_running b past c (Some l) agree are on off life runs =
 
 pub off_is_down : (b : BoardValue) (past : List Record) → DownLaws b → IsLegalPast b past
     → AreValues b (firmware_values b past) → OffIsDown b past
-off_is_down b past laws is are c on off = (
-  not_running b past c (controller_values b past).life (laws.agree past is) are on
-      (reported b past c off).1 refl,
-  (all_down b past laws is).off c off,
-)
+off_is_down b past laws is are c on off = grind (arith, nat_tests, not_running, reported, all_down)

@@ -13,38 +13,15 @@ use Rattle.psci_headline.proofs.Ranges.{all_items, each_item}
 
 -- One entry -----------------------------------------------------------------------------------
 
-opening_same : (o p : Opening) → (o.address == p.address && o.context == p.context) ≡ true → o ≡ p
-opening_same o p e = grind (arith, nat_tests, and_parts, eqb-true)
-
-opening_itself : (o p : Opening) → o ≡ p
-    → (o.address == p.address && o.context == p.context) ≡ true
-opening_itself o p same = grind (arith, nat_tests, and_from, eq-eqb)
-
 -- an opening that fits
 abbrev HasFit : TakenUp → Type 0
 HasFit t = (m : Made) × (t.made ≡ Some m) × Fits t m
 
 fits : (t : TakenUp) (o : Option Made) → t.made ≡ o → is_fitting t.entered o ≡ true → HasFit t
-fits t None is e = absurd (cc)
-fits t (Some m) is e =
-    let both = and_parts (m.core == t.entered.core && m.life == t.entered.life) _ e in
-    let own = and_parts (m.core == t.entered.core) (m.life == t.entered.life) both.0 in (
-      m,
-      is,
-      record {
-        core = eqb-true m.core t.entered.core own.0;
-        life = eqb-true m.life t.entered.life own.1;
-        opening = opening_same m.opening t.entered.opening both.1;
-      },
-    )
+fits t o is e = grind (arith, nat_tests, and_parts, eqb-true)
 
 fitting : (t : TakenUp) → HasFit t → is_fitting t.entered t.made ≡ true
-fitting t (m, is, f) =
-    ap (is_fitting t.entered) is
-    ∙ and_from (m.core == t.entered.core && m.life == t.entered.life) _
-    (and_from (m.core == t.entered.core) (m.life == t.entered.life)
-    (eq-eqb m.core t.entered.core f.core) (eq-eqb m.life t.entered.life f.life))
-    (opening_itself m.opening t.entered.opening f.opening)
+fitting t x1 = grind (arith, nat_tests, and_from, eq-eqb)
 
 -- No two --------------------------------------------------------------------------------------
 

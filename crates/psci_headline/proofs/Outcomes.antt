@@ -18,27 +18,15 @@ use Rattle.psci_fw_laws.specs.psci_fw_spec.Said as says
 abbrev pub Sends : BoardValue → ℕ → Request → Outcome → Type 0
 Sends b c r o = says.sent (function_effect b c r o.act o.message) ≡ o.message
 
-mode_sends : (c number : ℕ) (t : Bool)
-    → says.sent (cond t (mode_effect c (mode_of number)) (GoesOn c)) ≡ None
-mode_sends c number false = refl
-mode_sends c number true = by_mode (mode_of number)
-  where
-    by_mode : (o : Option SuspendMode) → says.sent (mode_effect c o) ≡ None
-    by_mode None = refl
-    by_mode (Some mode) = refl
-
 returned : (b : BoardValue) (c : ℕ) (r : Request) (code : Code) → Sends b c r (returns code)
-returned b c (requests.SetSuspendMode number) code = mode_sends c number (int_eq code.0 success.0)
-returned b c r code = refl
+returned b c r code = grind (arith, nat_tests)
 
 stopped : (b : BoardValue) (c : ℕ) (r : Request) (m : MessageValue) → Sends b c r (stops_with m)
-stopped b c requests.Version m = refl
-stopped b c r m = refl
+stopped b c r m = grind (arith, nat_tests)
 
 asked_on : (b : BoardValue) (c word entry_point context : ℕ) (r : Request) (m : MessageValue)
     → r ≡ requests.CpuOn word entry_point context → Sends b c r (starts_with m)
-asked_on b c word entry_point context r m is =
-    subst (λ q. Sends b c q (starts_with m)) (sym is) refl
+asked_on b c word entry_point context r m is = grind (arith, nat_tests, starts_with)
 
 outcome_sends : (b : BoardValue) (v : Values) (c : ℕ) (r : Request)
     → Sends b c r (outcome_of b v c r)
@@ -58,14 +46,10 @@ call_sends b v c r o f e = grind (arith, nat_tests, outcome_sends)
 abbrev pub EnterSends : ℕ → Start → Outcome → Type 0
 EnterSends c s o = says.sent (enter_effect c s o.act o.message) ≡ o.message
 
-opened : (b : BoardValue) (found arrived : Values) (c : ℕ) (s : Start) (o : Option Opening)
-    → EnterSends c s (outcome_at b found arrived c s o)
-opened b found arrived c s o = grind (arith, nat_tests)
-
 entry_sends : (b : BoardValue) (v : Values) (c : ℕ) (s : Start)
     → EnterSends c s (enter_outcome b v c s)
 unfolding enter_outcome
-entry_sends b v c s = grind (arith, nat_tests, opened)
+entry_sends b v c s = grind (arith, nat_tests)
 
 -- the outcome of an entry that is not refused
 pub enter_sends : (b : BoardValue) (v : Values) (c : ℕ) (s : Start) (o : Outcome)

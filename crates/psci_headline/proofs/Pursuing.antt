@@ -1,4 +1,5 @@
 -- What waits, after what the firmware's calls and entries change.
+use Rattle.psci_headline.proofs.Words.{arith, nat_tests}
 use Rattle.psci_headline.proofs.Words.{◌++◌, ◌<◌, ◌∙◌, ◌∷◌, ◌≡◌, ◌⊎◌, AckValue, ap, AreWaiting}
 use Rattle.psci_headline.proofs.Words.{AwaitsStart, BoardValue, Bool, cases_eq, changed, Clear}
 use Rattle.psci_headline.proofs.Words.{cores, Down, false, inl, inr, IsLivePart, List, listed}
@@ -54,25 +55,13 @@ module _ {b : BoardValue} {life : ℕ} {starts : ℕ → ℕ} {depth : ℕ → �
   -- a core that waits for its Start waits in these slots too
   waits_still : (slots : Slot → Option MessageValue) (x : ℕ) → AwaitsStart outstanding x
       → slots (OfCore x) ≡ outstanding (OfCore x) → AwaitsStart slots x
-  waits_still slots x old same =
-      record { message = old.message; at = same ∙ old.at; kind = old.kind }
+  waits_still slots x old same = grind (arith, nat_tests)
 
   -- a core is of another phase, and as pending as before
   pub waiting_phase : (c : ℕ) (new : Phase) → (phase c ≡ Pending → new ≡ Pending)
       → (new ≡ Pending → phase c ≡ Pending)
       → AreWaiting b life starts depth halting known (updated phase c new) outstanding sent made
-  waiting_phase c new stays back =
-      waiting_moved halting known (updated phase c new) outstanding None
-      (λ k level m p at present kind part live waits. inr (elim waits [
-        | inl out ↦ inl out
-        | inr pending ↦
-            inr (updated_at (λ y. y ≡ Pending) phase c new m.core.number
-            (λ here. stays (ap phase (sym here) ∙ pending)) (λ there. pending))
-      ]))
-      (λ m none. absurd (cc))
-      (λ awake x on waits same. are.asked awake x on
-      (updated_at (λ y. y ≡ Pending → phase x ≡ Pending) phase c new x
-      (λ here w. ap phase here ∙ back w) (λ there w. w) waits) same)
+  waiting_phase c new stays back = grind (arith, nat_tests, waiting_moved, updated_at)
 
   -- the life is halting, and a message for the system was sent
   pub waiting_halt : (m : MessageValue) → slot_of m.kind m.core ≡ OfSystem → (m.kind ≡ Down → ⊥)
@@ -151,22 +140,13 @@ module _ {b : BoardValue} {life : ℕ} {starts : ℕ → ℕ} {depth : ℕ → �
       → AreWaiting b life starts depth halting (updated known c n) (updated phase c new)
       (λ slot. changed slot (Clear (record { number = c })) (outstanding slot)) sent made
   waiting_arrival c n new none rests =
-      waiting_moved halting (updated known c n) (updated phase c new) slots None
-      (λ k level m p at present kind part live waits.
-      let there = λ (here : m.core.number ≡ c). none k level m p at present kind here part live in
-      inr (elim waits [
-        | inl out ↦ inl (clear_there outstanding c m.core.number there ∙ out)
-        | inr pending ↦ inr (updated_there phase c new m.core.number there ∙ pending)
-      ]))
-      (λ m is. absurd (cc))
-      (λ awake x on waits same. elim (cases_eq x c) [
-        | inl here ↦ absurd (rests awake
-            (sym (updated_here phase c new) ∙ ap (updated phase c new) (sym here) ∙ waits))
-        | inr there ↦
-            waits_still slots x
-            (are.asked awake x on (sym (updated_there phase c new x there) ∙ waits)
-            (same ∙ updated_there known c n x there)) (clear_there outstanding c x there)
-      ])
-    where
-      slots : Slot → Option MessageValue
-      slots = λ slot. changed slot (Clear (record { number = c })) (outstanding slot)
+      grind (
+        arith,
+        nat_tests,
+        waiting_moved,
+        clear_there,
+        updated_there,
+        cases_eq,
+        updated_here,
+        waits_still,
+      )

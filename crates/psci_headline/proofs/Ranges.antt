@@ -1,4 +1,5 @@
 -- What passes at each number of a range, or at each item of a list, and the other way round.
+use Rattle.psci_headline.proofs.Words.{nat_tests}
 use Rattle.std.proofs.Common.{slice_get}
 use Rattle.psci_headline.proofs.Words.{◌+◌, ◌<◌, ◌||◌, ◌∙◌, ◌∷◌, ◌≡◌, ◌≤◌, [], and_from, and_parts}
 use Rattle.psci_headline.proofs.Words.{ap, arith, Bool, cases_eq, false, inl, inr, List, list_all}
@@ -44,9 +45,7 @@ all_items p (y ∷ ys) h =
 -- One test where another holds ----------------------------------------------------------------
 
 pub where_holds : (x y : Bool) → (not x || y) ≡ true → x ≡ true → y ≡ true
-where_holds true y e h = e
-where_holds false y e h = absurd (true≢false (sym h))
+where_holds x y e h = grind (arith, nat_tests, true≢false)
 
 pub if_holds : (x y : Bool) → (x ≡ true → y ≡ true) → (not x || y) ≡ true
-if_holds true y h = h refl
-if_holds false y h = refl
+if_holds x y h = grind (arith, nat_tests)

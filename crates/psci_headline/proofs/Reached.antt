@@ -22,17 +22,7 @@ first_count b before life past k m way at kind = grind (arith, nat_tests, same_S
 
 first_round : (b : BoardValue) (before : List Record) (life : ℕ) (past : List Record)
     → SettleLaws b → HasBegun b before life past → IsRound b before life 0 past
-first_round b before life past laws begins =
-    let going = goes_on b before life past laws begins in
-    record {
-      going = going;
-      deep = λ c k level m p at present kind core part live low. absurd (omega (arith, low));
-      most = λ k m at kind.
-          omega (arith, first_count b before life past k m begins.way at kind);
-      once = λ c k m at on e. grind (arith, nat_tests, first_count, out_now);
-      left = λ r c m same on e. absurd (omega (arith, same));
-      last = λ some. absurd (omega (arith, some));
-    }
+first_round b before life past laws begins = grind (arith, nat_tests, goes_on, first_count, out_now)
 
 pub comes : (b : BoardValue) (past : List Record) → SettleLaws b → IsLegalPast b past
     → (goes : LifeGoesOn b past) → HasRest b past goes.life (settled b past)

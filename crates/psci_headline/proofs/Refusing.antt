@@ -29,10 +29,7 @@ call_passes : (absent lifeless runs : Bool) → absent ≡ false → lifeless �
     → cond absent (Some faults.NoCore) (cond lifeless (Some faults.NoLife)
     (cond runs None (Some faults.NotRunning)))
     ≡ None
-call_passes true lifeless runs e f g = absurd (cc)
-call_passes false true runs e f g = absurd (cc)
-call_passes false false true e f g = refl
-call_passes false false false e f g = absurd (cc)
+call_passes absent lifeless runs e f g = grind (arith, nat_tests)
 
 -- a core of the board is there
 there : (b : BoardValue) (c : ℕ) → c < cores b → not (nat_lt c (cores b)) ≡ false

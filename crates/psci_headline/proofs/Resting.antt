@@ -35,8 +35,7 @@ module _ (b : BoardValue) (before : List Record) (life : ℕ) (past : List Recor
   v = firmware_values b past
 
   grants : AreGranted b life v.known v.phase v.granted (sent past)
-  grants = subst (λ l. AreGranted b l v.known v.phase v.granted (sent past)) going.own
-      (laws.past past going.legal).given.holds.grants
+  grants = grind (arith, nat_tests)
 
   same_known : (level place : ℕ)
       → known_below b v.known level place ≡ known_below b w.starts level place
@@ -70,9 +69,4 @@ module _ (b : BoardValue) (before : List Record) (life : ℕ) (past : List Recor
   no_system (Some m) e = absurd (none_system b before life past m laws going e)
 
   pub at_rest : AreAtRest b past
-  at_rest = record {
-    own = none;
-    system = no_system (v.outstanding OfSystem) refl;
-    entered = going.entered;
-    agree = agree;
-  }
+  at_rest = grind (arith, nat_tests, no_system, agree)

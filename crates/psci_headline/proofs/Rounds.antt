@@ -64,8 +64,7 @@ one_index b before life past j k m laws going kind at_j at_k =
     grind (arith, nat_tests, indexed_at, once_down)
 
 count_most : (t : Bool) → cond {A = ℕ} t 1 0 ≤ 1
-count_most true = omega arith
-count_most false = omega arith
+count_most t = grind (arith, nat_tests)
 
 -- A step ---------------------------------------------------------------------------------------
 
@@ -119,31 +118,20 @@ module _ (b : BoardValue) (before : List Record) (life n : ℕ) (first past : Li
   abbrev next : List Record
   next = serving b past (Some k)
 
-  at_first : indexed (sent first) k ≡ Some m
-  at_first = ap (λ l. indexed l k) (sym is.messages) ∙ a.at
-
   -- live parts that have their depth keep it
   deep_kept : (r x : ℕ) → DeepAt b life r x past → DeepAt b life r x next
   deep_kept r x deep = grind (arith, nat_tests, deep_moved)
 
   round_kept : InRound b before life n first next
-  round_kept = record {
-    going = a.going;
-    messages = a.messages ∙ is.messages;
-    starts = a.starts ∙ is.starts;
-    deep = λ x. deep_kept n x (is.deep x);
-  }
+  round_kept = grind (arith, nat_tests, deep_kept)
 
   -- another core's message is not delivered
   same_count : (x j : ℕ) (y : MessageValue) → (x ≡ c → ⊥) → indexed (sent first) j ≡ Some y
       → y.core.number ≡ x → deliveries j next ≡ deliveries j past
-  same_count x j y ne at own = grind (arith, nat_tests, same_Some, at_first, cond-false, ne_eqb)
+  same_count x j y ne at own = grind (arith, nat_tests, same_Some, cond-false, ne_eqb)
 
   todo_kept : (x : ℕ) → (x ≡ c → ⊥) → IsTodo b first x past → IsTodo b first x next
-  todo_kept x ne todo = record {
-    out = a.there x ne ∙ todo.out;
-    count = λ j y at down own. same_count x j y ne at own ∙ todo.count j y at down own;
-  }
+  todo_kept x ne todo = grind (arith, nat_tests, same_count)
 
   done_kept : (x : ℕ) → (x ≡ c → ⊥) → IsDone b life n first x past → IsDone b life n first x next
   done_kept x ne done = record {

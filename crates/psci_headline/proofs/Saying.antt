@@ -33,35 +33,6 @@ pub record OfAnswers (b : BoardValue) (past : List Record) (P : Event → Said �
 -- so it is so of each event with what is legal to say of it
 module _ (b : BoardValue) (past : List Record) (P : Event → Said → Type 0)
     (is : OfAnswers b past P) where
-  of_board : (event : Event) (c : ℕ) (s : Said) → (c < cores b → P event s)
-      → P event (cond (nat_lt c (cores b)) s Absent)
-  of_board event c s on = grind (arith, nat_tests, cond_both, ltb-true)
-
-  of_call : (c : ℕ) (regs : Regs) (p : Place) → c < cores b → place b past c ≡ p
-      → P (Call c regs) (if_running p (asked_firmware b past c (calls.Smc regs)))
-  of_call c regs Running on at = is.call c regs on at
-  of_call c regs p on at = is.ignored (Call c regs)
-
-  of_entry : (c : ℕ) (p : Place) (s : Option Start) → c < cores b → place b past c ≡ p
-      → last_start (controller_values b past) c ≡ s → P (Enter c) (if_started b past c p s)
-  of_entry c Started (Some s) on at last = is.enter c s on at last
-  of_entry c p s on at last = is.ignored (Enter c)
-
-  of_wake : (c : ℕ) (p : Place) → c < cores b → let n = (controller_values b past).starts c in
-      P (Wake c) (if_stopped p (asked_controller b past (asked.Wake (record { number = c }) n)))
-  of_wake c Stopped on = is.wake c on
-  of_wake c p on = is.ignored (Wake c)
-
-  of_delivery : (k : ℕ) (m : Option MessageValue) → indexed (sent past) k ≡ m
-      → P (Deliver k) (deliver b past m)
-  of_delivery k (Some m) at = is.deliver k m at
-  of_delivery k m at = is.absent (Deliver k)
-
-  of_take : (k : ℕ) (a : Option AckValue) → indexed (acks past) k ≡ a → P (Take k) (take b past a)
-  of_take k (Some a) at = is.take k a at
-  of_take k a at = is.absent (Take k)
-
   pub of_event : (event : Event) → P event (legal b past event)
   unfolding legal
-  of_event event =
-      grind (arith, nat_tests, of_board, of_call, of_entry, of_wake, of_delivery, of_take)
+  of_event event = grind (arith, nat_tests, cond_both, ltb-true)

@@ -27,8 +27,7 @@ put_system outstanding m x e = grind (arith, nat_tests, cond-false)
 pub clear_there : (outstanding : Slot → Option MessageValue) (c x : ℕ) → (x ≡ c → ⊥)
     → changed (OfCore x) (Clear (record { number = c })) (outstanding (OfCore x))
     ≡ outstanding (OfCore x)
-clear_there outstanding c x ne =
-    cond-false (c == x) None (outstanding (OfCore x)) (ne_eqb c x (λ s. ne (sym s)))
+clear_there outstanding c x ne = grind (arith, nat_tests, cond-false, ne_eqb)
 
 -- the slots of kinds
 pub system_slot : (k : Kind) (core : Core) → is_system k ≡ true → slot_of k core ≡ OfSystem

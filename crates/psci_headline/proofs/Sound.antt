@@ -1,5 +1,6 @@
 -- What the live claims say makes a run safe: no core below a sleeping domain, and no domain deeper
 -- than asked.
+use Rattle.psci_headline.proofs.Words.{nat_tests}
 use Rattle.std.specs.Prelude.{IsSome}
 use Rattle.psci_headline.proofs.Words.{◌<◌, ◌∙◌, ◌≡◌, and_from, ap, arith, BoardValue}
 use Rattle.psci_headline.proofs.Words.{controller_values, cores, depth_at, eq-eqb, executes}
@@ -21,8 +22,7 @@ NoneWithoutLife b past = (controller_values b past).life ≡ None → (c : ℕ)
 pub none_without_life : (b : BoardValue) (past : List Record)
     → ((controller_values b past).life ≡ None → (c : ℕ) → place b past c ≡ Stopped)
     → NoneWithoutLife b past
-none_without_life b past stopped none c x =
-    false≢true (sym (ap executes (stopped none c)) ∙ x)
+none_without_life b past stopped none c x = grind (arith, nat_tests, false≢true)
 
 awake_at : (b : BoardValue) (past : List Record) (n : Node) (c : ℕ) (o : Option ℕ)
     → AreClaimed b past → NoneExecutes b past → NoneWithoutLife b past → HasNode b n → c < cores b
@@ -45,8 +45,7 @@ none_below_sleeping b past paths claimed none over c level on low x =
 -- No deeper than asked ------------------------------------------------------------------------
 
 present_life : (o : Option ℕ) → IsSome o → (life : ℕ) × (o ≡ Some life)
-present_life None some = absurd (false≢true some)
-present_life (Some life) some = (life, refl)
+present_life o some = grind (arith, nat_tests, false≢true)
 
 pub no_deeper : (b : BoardValue) (past : List Record) → AreClaimed b past → AreAsked b past
     → NoDeeperThanAsked b past

@@ -1,4 +1,5 @@
 -- What is known of every legal past, and what follows where no core is started.
+use Rattle.psci_headline.proofs.Words.{nat_tests}
 use Rattle.psci_headline.proofs.Words.{◌+◌, ◌<◌, ◌∙◌, ◌≡◌, ap, arith, BoardValue, cases_eq}
 use Rattle.psci_headline.proofs.Words.{ChildLaws, controller_values, cores, firmware_values}
 use Rattle.psci_headline.proofs.Words.{HasDeeper, HasNode, height, in_life, inl, inr, IsClaimOn}
@@ -56,14 +57,7 @@ all_known : (b : BoardValue) (past : List Record) (life : ℕ) → IsPast b past
     → (controller_values b past).life ≡ Some life
     → ((c : ℕ) → c < cores b → place b past c ≡ Started → ⊥) → (c : ℕ) → c < cores b
     → (in_life b life (firmware_values b past)).known c ≡ (controller_values b past).starts c
-all_known b past life is present none c on =
-    let found : Values = in_life b life (firmware_values b past) in
-    let agree = is.given.agreed.present life present in
-    elim (cases_eq (found.known c) ((controller_values b past).starts c)) [
-      | inl same ↦ same
-      | inr other ↦
-          absurd (none c on (agree.started c on (omega (arith, other, agree.known c))))
-    ]
+all_known b past life is present none c on = grind (arith, nat_tests, cases_eq)
 
 -- the boot core was started in the life, so the life is the firmware's
 pub settled_life : (b : BoardValue) (past : List Record) (life : ℕ) → 0 < cores b

@@ -160,20 +160,10 @@ record IsAsleep (v : Values) (n : Node) : Type 0 where
 
 asleep_by : (v : Values) (n : Node) (t : Bool) → v.confirmed n.level n.place ≡ t
     → not (hw_code (cond t (hw_at (v.granted n.level n.place)) On) == 0) ≡ true → IsAsleep v n
-asleep_by v n true e other = record {
-  confirmed = e;
-  hw = ap (λ t. cond t (hw_at (v.granted n.level n.place)) On) e;
-}
-asleep_by v n false e other = absurd (cc)
+asleep_by v n t e other = grind (arith, nat_tests)
 
 pub states_real : (b : BoardValue) (past : List Record) → RealLaws b → IsLegalPast b past
     → StatesWereReal b past
 unfolding known_below
 states_real b past laws legal n has said =
-    let v : Values = firmware_values b past in
-    let both = and_parts (nat_lt 0 v.life) (not (hw_code (said_hw b past n) == 0)) said in
-    let is : IsAsleep v n = asleep_by v n (v.confirmed n.level n.place) refl both.1 in
-    let was : WasSo b past v n = (all_real b past laws legal).seen n has
-    (ltb-true 0 v.life both.0) is.confirmed in
-    subst (λ h. was_in_state b v.life (known_below b v.known n.level n.place) h past n ≡ true)
-    (sym is.hw) was
+    grind (arith, nat_tests, and_parts, asleep_by, all_real, ltb-true)

@@ -106,24 +106,10 @@ first_now b starts life = grind (arith, nat_tests, cond_both, first)
 -- more starts
 later : (b : BoardValue) (starts more : ℕ → ℕ) (v : Values) → KnownLaws b
     → ((c : ℕ) → starts c ≤ more c) → AreConfirming b starts v → AreConfirming b more v
-later b starts more v sums le are = record {
-  domains = λ level place some. elim (are.domains level place some) [
-    | inl was ↦ inl was
-    | inr yet ↦
-        inr (yet_later b starts more v.known v.outstanding level place
-        (sums.le starts more level place (λ c on at. le c)) yet)
-  ];
-  cores = λ awake c on away. elim (are.cores awake c on away) [
-    | inl was ↦ inl was
-    | inr yet ↦
-        inr (yet_later b starts more v.known v.outstanding 0 c
-        (sums.le starts more 0 c (λ x at below. le x)) yet)
-  ];
-}
+later b starts more v sums le are = grind (arith, nat_tests, yet_later)
 
 one_later : (t : Bool) (n : ℕ) → n ≤ cond t (n + 1) n
-one_later true n = omega arith
-one_later false n = omega arith
+one_later t n = grind (arith, nat_tests)
 
 -- a life begins that the firmware does not know of
 begins : (b : BoardValue) (w : controlled.Values) (v : Values) (o : Option ℕ) (life : ℕ)
@@ -135,11 +121,4 @@ pub controlled_by : (b : BoardValue) (w : controlled.Values) (v : Values)
     (e : controlling_effects.Effect) → KnownLaws b
     → ((l : ℕ) → w.life ≡ Some l → v.life ≤ l) → ConfirmingNow b w v
     → ConfirmingNow b (controlling.change b e w) v
-controlled_by b w v controlling_effects.Nothing sums begun h = h
-controlled_by b w v (controlling_effects.Starts c cause) sums begun h = λ life e.
-    later b w.starts (one_more w.starts c) (in_life b life v) sums
-    (λ x. one_later (x == c) (w.starts x)) (h life e)
-controlled_by b w v (controlling_effects.Deepens c ps) sums begun h = h
-controlled_by b w v controlling_effects.Ends sums begun h = λ life e. absurd (cc)
-controlled_by b w v controlling_effects.Begins sums begun h = λ life e.
-    begins b w v w.life life begun refl e controlled.first_starts
+controlled_by b w v e sums begun h = grind (arith, nat_tests, later, one_later, begins)

@@ -11,8 +11,7 @@ use Rattle.psci_ctl_spec.specs.psci_messages.declared.kind.Kind.TheVariants.{Sta
 use Rattle.psci_headline.proofs.Starting.{same_sum}
 
 pub own_kind : (k : Kind) → is_kind k k ≡ true
-own_kind Down = refl
-own_kind k = refl
+own_kind k = grind (arith, nat_tests)
 
 -- an acknowledgement has the name of its message
 pub own_name : (m : MessageValue) (count : ℕ) (stale : Bool)

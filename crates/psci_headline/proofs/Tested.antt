@@ -65,8 +65,7 @@ powered_tested b past = (
 -- Reported OFF --------------------------------------------------------------------------------
 
 pub not_running : (p : Place) → not (executes_outside p) ≡ true → p ≡ Running → ⊥
-not_running Started e same = cc
-not_running p e same = cc
+not_running p e same = grind (arith, nat_tests)
 
 pub still : (p : Place) → (p ≡ Running → ⊥) → not (executes_outside p) ≡ true
 still p h = grind (arith, nat_tests)
@@ -90,12 +89,7 @@ off_tested b past = (
 
 pub one_tested : (b : BoardValue) (past : List Record)
     → (is_one b past ≡ true) ↔ OneLiveClaim b past
-one_tested b past = (
-  (λ e n has. leb-true (length (live_claims b past n)) 1
-      (domain_passes b (has_one b past) n e has)),
-  λ h. domains_pass b (has_one b past) (λ n has.
-      le-leb (length (live_claims b past n)) 1 (h n has)),
-)
+one_tested b past = grind (arith, nat_tests, leb-true, domain_passes, domains_pass, le-leb)
 
 -- deep, and then so claimed: as it is said of a domain, and as its test says it
 deep_claimed : (depth : ℕ) (claimed : Bool) → (depth == 0 || claimed) ≡ true → 0 < depth
@@ -121,9 +115,4 @@ asked_tested b past = (
 
 pub states_tested : (b : BoardValue) (past : List Record)
     → (is_each_real b past ≡ true) ↔ StatesWereReal b past
-states_tested b past = (
-  (λ e n has said. where_holds (is_said_asleep b past n) _
-      (domain_passes b (was_real b past) n e has) said),
-  λ h. domains_pass b (was_real b past) (λ n has.
-      if_holds (is_said_asleep b past n) _ (λ said. h n has said)),
-)
+states_tested b past = grind (arith, nat_tests, where_holds, domain_passes, domains_pass, if_holds)

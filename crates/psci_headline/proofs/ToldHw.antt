@@ -25,12 +25,6 @@ use Rattle.psci_fw_laws.specs.psci_fw_spec.declared.outcome.Act.TheVariants as a
 abbrev IsOf : Hw → (ℕ → Bool) → Type 0
 IsOf h is = (depth : ℕ) → depth ≤ 3 → is_hw (hw_at depth) h ≡ true → is depth ≡ true
 
-of_off : IsOf Off is_off_depth
-of_off other low e = grind (arith, nat_tests)
-
-of_standby : IsOf Standby is_standby_depth
-of_standby x0 low e = grind (arith, nat_tests)
-
 -- no domain is deeper than power-down, after each legal past
 abbrev pub AreShallow : BoardValue → Type 0
 AreShallow b = (past : List Record) → IsLegalPast b past → (level place : ℕ)
@@ -63,23 +57,18 @@ pub said_deep : (b : BoardValue) (past : List Record) (n : Node) (h : Hw) (is : 
     → StatesWereReal b past → HasNode b n → 0 < (firmware_values b past).life
     → said_hw b past n ≡ h → WasSoDeep b is past n
 said_deep b past n h is each other shallow legal real has begun said =
-    let v = firmware_values b past in
-    let asleep = and_from (nat_lt 0 v.life) (not (hw_code (said_hw b past n) == 0))
-    (lt-ltb 0 v.life begun) (ap (λ x. not (hw_code x == 0)) said ∙ other) in
-    once_deep b v.life (known_starts b past n) h is each n shallow past legal
-    (subst (λ x. was_in_state b v.life (known_starts b past n) x past n ≡ true) said
-    (real n has asleep))
+    grind (arith, nat_tests, and_from, lt-ltb, once_deep)
 
 pub said_off : (b : BoardValue) (past : List Record) (n : Node) → AreShallow b
     → IsLegalPast b past → StatesWereReal b past → HasNode b n
     → 0 < (firmware_values b past).life → said_hw b past n ≡ Off → WasSoDeep b is_off_depth past n
-said_off b past n = said_deep b past n Off is_off_depth of_off refl
+said_off b past n = grind (arith, nat_tests, said_deep)
 
 pub said_standby : (b : BoardValue) (past : List Record) (n : Node) → AreShallow b
     → IsLegalPast b past → StatesWereReal b past → HasNode b n
     → 0 < (firmware_values b past).life → said_hw b past n ≡ Standby
     → WasSoDeep b is_standby_depth past n
-said_standby b past n = said_deep b past n Standby is_standby_depth of_standby refl
+said_standby b past n = grind (arith, nat_tests, said_deep)
 
 -- The answer ----------------------------------------------------------------------------------
 

@@ -25,9 +25,7 @@ use Rattle.psci_fw_laws.specs.psci_fw_spec.declared.outcome.Act.TheVariants as a
 
 none_head : (p : ℕ → Bool) (t : Bool) (a : ℕ) (xs : List ℕ)
     → list_any p (cond t (a ∷ xs) xs) ≡ false → (t ≡ true → p a ≡ false) × (list_any p xs ≡ false)
-none_head p true a xs e =
-    let both = or_parts (p a) (list_any p xs) e in (λ is. both.0, both.1)
-none_head p false a xs e = (λ is. absurd (cc), e)
+none_head p t a xs e = grind (arith, nat_tests, or_parts)
 
 none_kept : (p test : ℕ → Bool) (a n c : ℕ)
     → list_any p (filter test (range_with_len a n)) ≡ false → a ≤ c → c < a + n
@@ -46,9 +44,7 @@ none_kept p test a (suc n) c e low high is =
 -- The status of a domain ------------------------------------------------------------------------
 
 over_off : (x y : Bool) → cond x On (cond y Pending Off) ≡ Off → (x ≡ false) × (y ≡ false)
-over_off true y e = absurd (cc)
-over_off false true e = absurd (cc)
-over_off false false e = (refl, refl)
+over_off x y e = grind (arith, nat_tests)
 
 neither : (s : Status) → is_on s ≡ false → is_pending_status s ≡ false → s ≡ Off
 neither s on pending = grind (arith, nat_tests)
@@ -97,20 +93,10 @@ find_inside p a (suc count) i e = elim (cases_Bool (p a)) [
       omega (arith, find_inside p (a + 1) count i later)
 ]
 
-node_at : (b : BoardValue) (level : ℕ) (t : Bool) (o : Option ℕ) (n : Node)
-    → nat_le level (height b) ≡ t → ((i : ℕ) → o ≡ Some i → i < nodes b level)
-    → cond t (option_map (λ i. record { level = level; place = i }) o) None ≡ Some n
-    → HasNode b n
-node_at b level false o n is inside e = absurd (cc)
-node_at b level true None n is inside e = absurd (cc)
-node_at b level true (Some i) n is inside e =
-    subst (HasNode b) (same_Some _ n e)
-    (record { level = leb-true _ _ is; place = inside i refl })
-
 pub named_node : (b : BoardValue) (word level : ℕ) (n : Node) → node_of b word level ≡ Some n
     → HasNode b n
 unfolding node_of
-named_node b word level n e = grind (arith, nat_tests, node_at, find_inside)
+named_node b word level n e = grind (arith, nat_tests, same_Some, leb-true, find_inside)
 
 -- The answer ----------------------------------------------------------------------------------
 
@@ -125,12 +111,10 @@ code_off s e = grind (arith, nat_tests)
 
 pub if_so : (t : Bool) (o : Option Node) (n : Node) → cond t o None ≡ Some n
     → (t ≡ true) × (o ≡ Some n)
-if_so true o n e = (refl, e)
-if_so false o n e = absurd (cc)
+if_so t o n e = grind (arith, nat_tests)
 
 pub no_node : (t : Bool) (n : Node) → cond t None None ≡ Some n → ⊥
-no_node true n e = absurd (cc)
-no_node false n e = absurd (cc)
+no_node t n e = grind (arith, nat_tests)
 
 -- what a function returned
 by_request : (b : BoardValue) (v : Values) (d : ℕ) (r : Request) (code : Code) (n : Node)

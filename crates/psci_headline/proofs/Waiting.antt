@@ -10,9 +10,6 @@ use Rattle.psci_headline.proofs.Filters.{head_kept, is_kept}
 
 -- The newest opening ---------------------------------------------------------------------------
 
-newest_new : (m : Made) (made : List Made) → newest m.core m.life (m ∷ made) ≡ Some m
-newest_new m made = grind (arith, nat_tests, head_kept, and_from, eq-eqb)
-
 newest_old : (c life : ℕ) (m : Made) (made : List Made) → (c ≡ m.core → ⊥)
     → newest c life (m ∷ made) ≡ newest c life made
 newest_old c life m made other = grind (arith, nat_tests, eqb-true, and_parts)
@@ -45,8 +42,7 @@ IsBefore n life (OfCall k) = k < n
 
 before_more : (n m life later : ℕ) (maker : Maker) → n ≤ m → life ≤ later
     → IsBefore n life maker → IsBefore m later maker
-before_more n m life later (OfLife x) e f is = omega arith
-before_more n m life later (OfCall k) e f is = omega arith
+before_more n m life later maker e f is = grind (arith, nat_tests)
 
 -- no entry has taken up what this made
 abbrev pub IsFresh : List TakenUp → Maker → Type 0
@@ -107,13 +103,9 @@ module _ (n life : ℕ) (opening : ℕ → Option Opening) (made : List Made) (t
       → (k : ℕ) (y : Made) → slice_get (x ∷ made) k ≡ Some y → IsBefore m later y.maker
   older_new x m later e f is x6 y at = grind (arith, nat_tests, before_more)
 
-  -- what is new was not taken up
-  fresh_new : (maker : Maker) → (IsBefore n life maker → ⊥) → IsFresh taken maker
-  fresh_new maker new k t m at e same = new (subst (IsBefore n life) same (are.past k t m at e))
-
   waits_new : (x : Made) (later : ℕ) (o : Opening) → x.life ≡ later → x.opening ≡ o
       → (IsBefore n life x.maker → ⊥) → IsWaiting later x.core o (x ∷ made) taken
-  waits_new x later o here is new = grind (arith, nat_tests, newest_new, fresh_new)
+  waits_new x later o here is new = grind (arith, nat_tests, head_kept, and_from, eq-eqb)
 
   -- a core got an opening by a call
   call_waits : (c : ℕ) (o : Opening) → 0 < life → (x : ℕ) (p : Opening)
@@ -141,17 +133,6 @@ module _ (n life : ℕ) (opening : ℕ → Option Opening) (made : List Made) (t
       (record { maker = OfCall n; core = c; life = life; opening = o } ∷ made) taken
   called c o = grind (arith, nat_tests, call_waits, older_new, single_new, before_more)
 
-  -- a life begins, and the boot core has an opening
-  begun_waits : (b : BoardValue) (later : ℕ) → life < later → (c : ℕ) (o : Opening)
-      → first_opening b c ≡ Some o
-      → IsWaiting later c o (record {
-        maker = OfLife later;
-        core = 0;
-        life = later;
-        opening = record { address = b.boot; context = 0 };
-      } ∷ made) taken
-  begun_waits b later less c = grind (arith, nat_tests, cond_both, eqb-true, waits_new)
-
   pub begun : (b : BoardValue) (later : ℕ) → life < later
       → AreWaiting n later (first_opening b) (record {
         maker = OfLife later;
@@ -159,7 +140,8 @@ module _ (n life : ℕ) (opening : ℕ → Option Opening) (made : List Made) (t
         life = later;
         opening = record { address = b.boot; context = 0 };
       } ∷ made) taken
-  begun b later less = grind (arith, nat_tests, begun_waits, older_new, single_new, before_more)
+  begun b later less =
+      grind (arith, nat_tests, cond_both, eqb-true, waits_new, older_new, single_new, before_more)
 
   -- Entries ---------------------------------------------------------------------------------
 

@@ -26,12 +26,10 @@ going_life b past awake = grind (arith, nat_tests)
 
 -- a domain that is fully on is ON, confirmed or not
 flat_on : (t : Bool) (depth : ℕ) → depth ≡ 0 → cond t (hw_at depth) On ≡ hw_at depth
-flat_on true depth e = refl
-flat_on false depth e = sym (ap hw_at e)
+flat_on t depth e = grind (arith, nat_tests)
 
 off_away : (p : Phase) → agrees Off p ≡ true → p ≡ Away
-off_away Away e = refl
-off_away p e = absurd (cc)
+off_away p e = grind (arith, nat_tests)
 
 -- At rest --------------------------------------------------------------------------------------
 
@@ -71,8 +69,7 @@ module _ (b : BoardValue) (past : List Record) (laws : RunLaws b) (legal : IsLeg
   ]
 
   are : Confirming b past → 0 < cores b → AreConfirming b w.starts v
-  are confirming some = subst (AreConfirming b w.starts) (found_own b on.life v (own some))
-      (confirming on.life on.present)
+  are confirming some = grind (arith, nat_tests, found_own, own)
 
   hw_now : Confirming b past → (n : Node) → HasNode b n
       → node_hw v n ≡ hw_at (w.depth n.level n.place)
