@@ -92,14 +92,12 @@ was_down b r past c true next are test begun off =
       | inr turns ↦ turned_off b r past c next are turns
     ])
 was_down b r past c false next are test begun off =
-    let v : Values = firmware_values b past in
     let w : Values = firmware_values b (r ∷ past) in
-    let other = eqb-false w.life v.life test in
-    let s = next.step c in
-    let starts = s.begins other in
-    let present = next.moves.says.starts starts.arrival starts.is in
+    let other = eqb-false w.life (firmware_values b past).life test in
+    let starts = (next.step c).begins other in
+    let present = (next.moves.says.starts starts.arrival starts.is).life in
     are.fresh w.life c (present ∙ ap (λ x. Some x) starts.new) (λ e. other (sym e))
-    (s.boot other off)
+    ((next.step c).boot other off)
 
 off_next : (b : BoardValue) (r : Record) (past : List Record) (c : ℕ) → IsNext b r past
     → AreDown b past → is_reported_off b (r ∷ past) c ≡ true

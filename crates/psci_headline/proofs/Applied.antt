@@ -51,13 +51,8 @@ confirming b v a level place e = grind (arith, nat_tests, and_parts, eqb-true, l
 climbs : (low : ℕ) (ps : List Part) (k : ℕ) (p : Part) → is_climbing low ps ≡ true
     → slice_get ps k ≡ Some p → p.level ≡ low + k
 climbs low [] k p e at = absurd (cc)
-climbs low (q ∷ ps) zero p e at =
-    let both = and_parts (q.level == low) (is_climbing (low + 1) ps) e in
-    let same : q ≡ p = cc in
-    sym (ap (λ (x : Part). x.level) same) ∙ eqb-true q.level low both.0 ∙ omega arith
-climbs low (q ∷ ps) (suc k) p e at =
-    let both = and_parts (q.level == low) (is_climbing (low + 1) ps) e in
-    climbs (low + 1) ps k p both.1 at ∙ omega arith
+climbs low (q ∷ ps) zero p e at = grind (arith, nat_tests, and_parts, eqb-true)
+climbs low (q ∷ ps) (suc k) p e at = grind (arith, nat_tests, and_parts, climbs (low + 1) ps k p)
 
 pub levels : (k : Kind) (ps : List Part) (level : ℕ) (p : Part) → k ≡ kinds.Down → ArePartsOf k ps
     → slice_get ps level ≡ Some p → p.level ≡ level

@@ -116,6 +116,4 @@ pub was_sent : (b : BoardValue) (past : List Record) (life level place : ℕ) (p
 unfolding sent controller_history
 was_sent b [] life level place p is now was = absurd was
 was_sent b (r ∷ past) life level place p is now was =
-    sent_later b life level place p (sent_in r.said) (sent past)
-    (control_sent b life level place p (controller_values b past) (sent past) r.event r.said
-    (controller_history b past) (was_sent b past life level place p) is now was)
+    grind (arith, nat_tests, sent_later, control_sent, was_sent b past life level place p)

@@ -25,10 +25,7 @@ all_kept : (p test : ℕ → Bool) (a n : ℕ)
     → ((c : ℕ) → a ≤ c → c < a + n → test c ≡ true → p c ≡ true)
     → list_all p (filter test (range_with_len a n)) ≡ true
 all_kept p test a zero each = refl
-all_kept p test a (suc n) each =
-    kept_head p (test a) a (filter test (range_with_len (a + 1) n))
-    (each a (omega arith) (omega arith))
-    (all_kept p test (a + 1) n (λ c low high. each c (omega arith) (omega arith)))
+all_kept p test a (suc n) each = grind (arith, nat_tests, kept_head, all_kept p test (a + 1) n)
 
 all_below : (b : BoardValue) (n : Node) (p : ℕ → Bool)
     → ((c : ℕ) → c < cores b → up b n.level c ≡ n.place → p c ≡ true)
@@ -69,11 +66,6 @@ pub asked : (b : BoardValue) (life : ℕ) (n : Node) (past : List Record) (k : �
     → HasNode b n → WereAsked b past → slice_get (claims b life n past) k ≡ Some x
     → x.asked ≡ true
 unfolding claims
-asked b life n [] k x has were at =
-    first_asked _ (is_on_path b 0 n.level n.place) k x (start_asked b life n has) at
+asked b life n [] k x has were at = grind (arith, nat_tests, first_asked, start_asked)
 asked b life n (r ∷ past) k x has were at =
-    by_claim b life (firmware_values b (r ∷ past)) n (λ c. c.asked ≡ true) (claims b life n past)
-    (sent_in r.said) k x
-    (λ m p is e. asked_by b life (firmware_values b (r ∷ past)) n m p
-    (were.0 m life n.level n.place p is e) e)
-    (λ j e. asked b life n past j x has were.1 e) at
+    grind (arith, nat_tests, by_claim, asked_by, asked b life n past)

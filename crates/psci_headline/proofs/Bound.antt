@@ -127,12 +127,7 @@ any_none : (f : ℕ → Bool) (a n c : ℕ) → list_any f (range_with_len a n) 
     → c < a + n → f c ≡ false
 any_none f a zero c e low high = absurd (omega (arith, low, high))
 any_none f a (suc n) c e low high =
-    let both = or_parts (f a) (list_any f (range_with_len (a + 1) n)) e in
-    elim (cases_lt a c) [
-      | inl later ↦ any_none f (a + 1) n c both.1 (omega (arith, later)) (omega (arith, high))
-      | inr here ↦
-          let same : c ≡ a = omega (arith, here, low) in ap f same ∙ both.0
-    ]
+    grind (arith, nat_tests, or_parts, cases_lt, any_none f (a + 1) n c)
 
 -- A number of a range that passes a test.
 record HasOne (f : ℕ → Bool) (a n : ℕ) : Type 0 where
@@ -143,20 +138,7 @@ record HasOne (f : ℕ → Bool) (a n : ℕ) : Type 0 where
 
 any_one : (f : ℕ → Bool) (a n : ℕ) → list_any f (range_with_len a n) ≡ true → HasOne f a n
 any_one f a zero e = absurd (cc)
-any_one f a (suc n) e = by_test (λ g. any_one f (a + 1) n g) (f a) refl e
-  where
-    by_test : (list_any f (range_with_len (a + 1) n) ≡ true → HasOne f (a + 1) n) → (t : Bool)
-        → f a ≡ t → (t || list_any f (range_with_len (a + 1) n)) ≡ true → HasOne f a (suc n)
-    by_test rest true g h =
-        record { one = a; low = omega arith; high = omega arith; passes = g }
-    by_test rest false g h =
-        let later = rest h in
-        record {
-          one = later.one;
-          low = omega (arith, later.low);
-          high = omega (arith, later.high);
-          passes = later.passes;
-        }
+any_one f a (suc n) e = grind (arith, nat_tests, any_one f (a + 1) n)
 
 some_is : (o : Option MessageValue) → is_some o ≡ true
     → (m : MessageValue) × (o ≡ Some m)

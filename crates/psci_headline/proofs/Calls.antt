@@ -41,11 +41,8 @@ pub call_waits : (b : BoardValue) (life : ℕ) (w : controlled.Values) (v : Valu
     → is_call e ≡ true → IsAllowed b v e → AreLive b life v.known v.phase sent w.starts
     → WaitingIn b life w v sent made
     → WaitingIn b life w (change b e v) (says.listed (says.sent e) ++ sent) made
-call_waits b life w v sent made (GoesOn c) laws is allowed live h =
-    subst (λ u. WaitingIn b life w u sent made) (sym (laws.goes_on v c allowed.runs)) h
-call_waits b life w v sent made (SetsMode c mode) laws is allowed live h =
-    subst (λ u. WaitingIn b life w u sent made)
-    (sym (laws.goes_on (with_mode mode v) c allowed.runs)) h
+call_waits b life w v sent made (GoesOn c) laws is allowed live h = grind (arith, nat_tests)
+call_waits b life w v sent made (SetsMode c mode) laws is allowed live h = grind (arith, nat_tests)
 call_waits b life w v sent made (AsksOn c asked) laws is allowed live h =
     subst (λ u. WaitingIn b life w u (asked.message ∷ sent) made)
     (sym (laws.asks_on v c asked allowed.calls.runs))
@@ -61,8 +58,7 @@ call_waits b life w v sent made (Rests c rest m) laws is allowed live h =
 call_waits b life w v sent made (Halts c m) laws is allowed live h =
     waiting_halt (rested b life w v sent made c Away allowed.calls.runs (λ e. cc) h) m
     (system_slot m.kind m.core allowed.system) (not_down m.kind allowed.plain.other)
-call_waits b life w v sent made (Stops c) laws is allowed live h =
-    rested b life w v sent made c Away allowed.calls.runs (λ e. cc) h
+call_waits b life w v sent made (Stops c) laws is allowed live h = grind (arith, nat_tests, rested)
 call_waits b life w v sent made e laws is allowed live h = absurd (cc)
 
 -- Entries --------------------------------------------------------------------------------------

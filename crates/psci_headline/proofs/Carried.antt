@@ -7,6 +7,7 @@ use Rattle.psci_headline.proofs.Words.{inl, inr, IsAllowed, IsNamed, Kind, last_
 use Rattle.psci_headline.proofs.Words.{may_follow, MayFollow, message_effect, MessageValue, nat_lt}
 use Rattle.psci_headline.proofs.Words.{nat_tests, next_life, Nothing, Option, Part, PartByPart}
 use Rattle.psci_headline.proofs.Words.{PathLaws, Place, refl, slice_get, Some, Start, Starts, subst}
+use Rattle.psci_headline.proofs.Words.{Acknowledges, Enters, None, Parks, StopsAtOnce}
 use Rattle.psci_headline.proofs.Words.{suc, SumLaws, sym, true, Values, WaitingIn}
 use Rattle.psci_headline.proofs.Words.{with_acknowledgement, zero, ℕ}
 use Rattle.psci_ctl_spec.specs.Effects.{Ends, Begins}
@@ -16,8 +17,11 @@ use Rattle.psci_headline.proofs.fw_laws.Living.{live_laws}
 use Rattle.psci_headline.proofs.fw_laws.Sums.{known_le}
 use Rattle.psci_headline.proofs.Quiet.{in_life_holds}
 use Rattle.psci_headline.proofs.Agreeing.{AreAgreed, found_other, found_own}
-use Rattle.psci_headline.proofs.Moving.{CallerLaws, IsCallOf, call_moves, entry_moves}
-use Rattle.psci_headline.proofs.Placing.{last_is, own_life}
+use Rattle.psci_headline.proofs.Moving.{CallerLaws, call_moves, entry_moves, is_call}
+use Rattle.psci_headline.proofs.Placing.{IsLast}
+use Rattle.psci_headline.proofs.Pursuing.{waiting_other}
+use Rattle.psci_headline.proofs.Records.{IsOfRecord}
+use Rattle.psci_fw_laws.specs.Allowed.{IsEntering}
 use Rattle.psci_headline.proofs.Calls.{call_waits, entry_waits}
 use Rattle.psci_headline.proofs.Controls.{IsKnown, begun_waits, down_waits, start_told, start_waits}
 use Rattle.psci_headline.proofs.Taking.{waiting_taken}
@@ -28,7 +32,8 @@ use Rattle.psci_ctl_spec.specs.Effects as controlling_effects
 use Rattle.psci_ctl_spec.specs.Values as controlled
 use Rattle.psci_ctl_spec.specs.psci_messages.declared.kind.Kind.TheVariants as kinds
 use Rattle.psci_headline.specs.psci_fw_spec.Said as says
-use Rattle.psci_headline.specs.psci_world_spec.declared.place.Place.TheVariants as places
+use Rattle.psci_fw_laws.specs.psci_fw_spec.Effects as effects
+use Rattle.psci_fw_laws.specs.psci_fw_spec.declared.outcome.Act.TheVariants as acts
 
 -- What waits in this life, where there is one.
 abbrev pub WaitsNow : BoardValue → controlled.Values → Values → List MessageValue → List AckValue
@@ -157,51 +162,88 @@ acked_waits b w place v sent made k m a given at own is may h = grind (arith, na
 
 -- The firmware ---------------------------------------------------------------------------------
 
--- a core calls
-pub called_waits : (b : BoardValue) (w : controlled.Values) (place : ℕ → Place) (v : Values)
-    (sent : List MessageValue) (made : List AckValue) (c : ℕ) (e : Effect) (runs : Bool)
-    → IsGiven b w place v sent → c < cores b → place c ≡ places.Running → IsCallOf e c runs
-    → IsAllowed b v e → WaitsNow b w v sent made
-    → WaitsNow b w (change b e v) (says.listed (says.sent e) ++ sent) made
-called_waits b w place v sent made c e runs given on at is allowed h life f =
-    grind (arith, nat_tests, own_life, call_moves, found_own, present_known, call_waits)
+-- a message that a call sends is of the firmware's life
+sent_life : (b : BoardValue) (v : Values) (e : Effect) (m : MessageValue) → is_call e ≡ true
+    → IsAllowed b v e → says.sent e ≡ Some m → m.life ≡ v.life
+sent_life b v e m is allowed sends = grind (arith, nat_tests)
 
--- a core enters
-pub entering_waits : (b : BoardValue) (w : controlled.Values) (place : ℕ → Place) (v : Values)
-    (sent : List MessageValue) (made : List AckValue) (c : ℕ) (s : Start) (act : Act)
-    (o : Option MessageValue) → IsGiven b w place v sent → c < cores b
-    → place c ≡ places.Started → last_start w c ≡ Some s
-    → IsAllowed b v (enter_effect c s act o) → WaitsNow b w v sent made
-    → WaitsNow b w (change b (enter_effect c s act o) v)
-    (says.listed (says.sent (enter_effect c s act o)) ++ sent) made
-entering_waits b w place v sent made c s act o given on at last allowed h life f =
-    grind (
-      arith,
-      nat_tests,
-      last_is,
-      entry_moves,
-      found_life,
-      present_known,
-      found_own,
-      entry_waits,
-    )
+-- a core that enters by its last start was started since the start that the firmware knows
+entry_later : (b : BoardValue) (w : controlled.Values) (v : Values) (c : ℕ) (s : Start)
+    → IsEntering b v c s → IsLast w c s → (in_life b s.life v).known c < w.starts c
+entry_later b w v c s enters last = grind (arith, nat_tests, cases_eq, found_own, found_other)
 
--- an acknowledgement is taken
-pub taking_waits : (b : BoardValue) (w : controlled.Values) (place : ℕ → Place) (v : Values)
-    (sent : List MessageValue) (made : List AckValue) (a : AckValue) (i : ℕ)
-    → IsGiven b w place v sent → slice_get made i ≡ Some a → WaitsNow b w v sent made
-    → WaitsNow b w (with_acknowledgement b a v) sent made
-taking_waits b w place v sent made a i given at h life f = elim (cases_eq life v.life) [
-  | inl own ↦
-      let now : WaitingIn b life w v sent made =
-      subst (λ u. WaitingIn b life w u sent made) (found_own b life v own) (h life f) in
-      let slots = subst (λ l. AreOutstanding l v.known v.phase sent v.outstanding) (sym own)
-      given.holds.slots in
-      subst (λ u. WaitingIn b life w u sent made)
-      (sym (found_own b life (with_acknowledgement b a v) own))
-      (waiting_taken a i at (once_down b v sent given.holds) slots now)
-  | inr other ↦
-      subst (λ u. WaitingIn b life w u sent made)
-      (sym (found_other b life (with_acknowledgement b a v) other))
-      (subst (λ u. WaitingIn b life w u sent made) (found_other b life v other) (h life f))
-]
+module _ (b : BoardValue) (w : controlled.Values) (place : ℕ → Place) (v : Values)
+    (sent : List MessageValue) (made : List AckValue) (given : IsGiven b w place v sent)
+    (h : WaitsNow b w v sent made) where
+  -- a core calls in the power controller's life
+  called_own : (e : Effect) (life : ℕ) → w.life ≡ Some life → life ≡ v.life → is_call e ≡ true
+      → IsAllowed b v e
+      → WaitingIn b life w (in_life b life (change b e v)) (says.listed (says.sent e) ++ sent) made
+  called_own e life f own is allowed =
+      grind (arith, nat_tests, call_moves, found_own, present_known, call_waits)
+
+  -- and in another one
+  called_other : (e : Effect) (life : ℕ) → w.life ≡ Some life → (life ≡ v.life → ⊥)
+      → is_call e ≡ true → IsAllowed b v e
+      → WaitingIn b life w (in_life b life (change b e v)) (says.listed (says.sent e) ++ sent) made
+  called_other e life f other is allowed =
+      let moved = call_moves b v e given.callers is allowed in
+      subst (λ u. WaitingIn b life w u (says.listed (says.sent e) ++ sent) made)
+      (sym (found_other b life (change b e v) (λ same. other (same ∙ moved.life))))
+      (waiting_other (subst (λ u. WaitingIn b life w u sent made) (found_other b life v other)
+      (h life f)) (says.sent e)
+      (λ m sends own. other (sym own ∙ sent_life b v e m is allowed sends)))
+
+  -- a core enters
+  entering_waits : (c : ℕ) (s : Start) (act : Act) (o : Option MessageValue) → IsEntering b v c s
+      → IsLast w c s → IsAllowed b v (enter_effect c s act o)
+      → WaitsNow b w (change b (enter_effect c s act o) v)
+      (says.listed (says.sent (enter_effect c s act o)) ++ sent) made
+  entering_waits c s act o enters last allowed life f =
+      grind (
+        arith,
+        nat_tests,
+        entry_moves,
+        found_life,
+        present_known,
+        found_own,
+        entry_waits,
+        entry_later,
+      )
+
+  -- an acknowledgement is taken
+  taking_waits : (a : AckValue) (i : ℕ) → slice_get made i ≡ Some a
+      → WaitsNow b w (with_acknowledgement b a v) sent made
+  taking_waits a i at life f = elim (cases_eq life v.life) [
+    | inl own ↦
+        let now : WaitingIn b life w v sent made =
+        subst (λ u. WaitingIn b life w u sent made) (found_own b life v own) (h life f) in
+        let slots = subst (λ l. AreOutstanding l v.known v.phase sent v.outstanding) (sym own)
+        given.holds.slots in
+        subst (λ u. WaitingIn b life w u sent made)
+        (sym (found_own b life (with_acknowledgement b a v) own))
+        (waiting_taken a i at (once_down b v sent given.holds) slots now)
+    | inr other ↦
+        subst (λ u. WaitingIn b life w u sent made)
+        (sym (found_other b life (with_acknowledgement b a v) other))
+        (subst (λ u. WaitingIn b life w u sent made) (found_other b life v other) (h life f))
+  ]
+
+  pub effect_waits : (e : Effect) → IsAllowed b v e → IsOfRecord w made e
+      → WaitsNow b w (change b e v) (says.listed (says.sent e) ++ sent) made
+  effect_waits effects.Nothing allowed of = h
+  effect_waits (Enters c s) allowed of =
+      entering_waits c s acts.Resume None allowed.enters
+      (of.starts (record { core = c; start = s }) refl) allowed
+  effect_waits (Parks c s m) allowed of =
+      entering_waits c s acts.Stop (Some m) allowed.enters
+      (of.starts (record { core = c; start = s }) refl) allowed
+  effect_waits (StopsAtOnce c s) allowed of =
+      entering_waits c s acts.Stop None allowed.enters
+      (of.starts (record { core = c; start = s }) refl) allowed
+  effect_waits (Acknowledges a) allowed of =
+      let at = of.takes a refl in taking_waits a at.index at.at
+  effect_waits e allowed of = λ life f. elim (cases_eq life v.life) [
+    | inl own ↦ called_own e life f own refl allowed
+    | inr other ↦ called_other e life f other refl allowed
+  ]

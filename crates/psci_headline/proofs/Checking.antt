@@ -1,7 +1,7 @@
 -- Worked examples are stated so: a run that is safe at every moment, and a moment at which just one
 -- thing is not as it shall be.
 use Rattle.psci_headline.proofs.Words.{arith, nat_tests}
-use Rattle.std.proofs.Common.{map}
+use Rattle.std.proofs.Common.{◌<◌, arith, map, suc, zero, ℕ}
 use Rattle.psci_headline.proofs.Words.{◌&&◌, ◌++◌, ◌∷◌, ◌≡◌, [], Bool, Event, false, is_always_safe}
 use Rattle.psci_headline.proofs.Words.{is_asked, is_each_once, is_each_open, is_each_real}
 use Rattle.psci_headline.proofs.Words.{is_off_down, is_off_stopped, is_one, is_powered, is_safe}
@@ -43,6 +43,14 @@ BreakAll ks b x = record { given = (b, x); comes = ks }
 abbrev pub each : {A B : Type 0} → (A → List B) → List A → List B
 each of [] = []
 each of (x ∷ xs) = of x ++ each of xs
+
+-- what is so of each of four cores is so of every core of a board of four
+pub by_core : (P : ℕ → Type 0) → P 0 → P 1 → P 2 → P 3 → (c : ℕ) → c < 4 → P c
+by_core P p q r s zero on = p
+by_core P p q r s (suc zero) on = q
+by_core P p q r s (suc (suc zero)) on = r
+by_core P p q r s (suc (suc (suc zero))) on = s
+by_core P p q r s (suc (suc (suc (suc c)))) on = absurd (omega (arith, on))
 
 -- Unsafe moments ------------------------------------------------------------------------------
 

@@ -81,14 +81,9 @@ pub source : (b : BoardValue) (life : ℕ) (n : Node) (past : List Record) (k : 
     → HasNode b n → slice_get (claims b life n past) k ≡ Some x
     → HasSource b life n (sent past) x
 unfolding claims sent
-source b life n [] k x has at =
-    first_source b life n _ k x (is_on_path b 0 n.level n.place) has refl refl refl at
+source b life n [] k x has at = grind (arith, nat_tests, first_source)
 source b life n (r ∷ past) k x has at =
-    let o = sent_in r.said in
-    by_claim b life (firmware_values b (r ∷ past)) n (HasSource b life n (listed o ++ sent past))
-    (claims b life n past) o k x
-    (λ m p is e. source_new b life (firmware_values b (r ∷ past)) n (sent past) o m p is e)
-    (λ j e. source_old b life n (sent past) o x (source b life n past j x has e)) at
+    grind (arith, nat_tests, by_claim, source_new, source_old, source b life n past)
 
 -- And back -------------------------------------------------------------------------------------
 
@@ -159,8 +154,7 @@ first_in first false deep old off =
 pub start_in : (b : BoardValue) (life : ℕ) (n : Node) (past : List Record)
     → is_on_path b 0 n.level n.place ≡ false → IsIn (claims b life n past) 3 0
 unfolding claims
-start_in b life n [] off =
-    first_in _ (is_on_path b 0 n.level n.place) refl refl off
+start_in b life n [] off = grind (arith, nat_tests, first_in)
 start_in b life n (r ∷ past) off =
     in_old b life (firmware_values b (r ∷ past)) n 3 0 (claims b life n past) (sent_in r.said)
     (start_in b life n past off)

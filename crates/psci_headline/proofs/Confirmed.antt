@@ -48,11 +48,7 @@ control_next : (b : BoardValue) (past : List Record) (es : List CtlExchange) →
     → ConfirmingNow b (controls.values_of b (es ++ controller_history b past))
     (firmware_values b past)
 control_next b past [] sums is agree h = h
-control_next b past (e ∷ []) sums is agree h =
-    subst (λ w. ConfirmingNow b w (firmware_values b past))
-    (sym (values_by b e (controller_history b past)))
-    (controlled_by b (controller_values b past) (firmware_values b past)
-    (effect_of b e.call e.reply) sums agree.begun h)
+control_next b past (e ∷ []) sums is agree h = grind (arith, nat_tests, values_by, controlled_by)
 control_next b past (e ∷ f ∷ es) sums is agree h = absurd is
 
 -- Both -----------------------------------------------------------------------------------------
@@ -83,7 +79,5 @@ next b r past laws is h = grind (arith, nat_tests, firmware_next, control_next, 
 
 pub confirming : (b : BoardValue) (past : List Record) → RunLaws b → IsLegalPast b past
     → Confirming b past
-confirming b [] laws is =
-    subst (ConfirmingNow b (controller_values b [])) (sym (first_kept b))
-    (λ life e. first_now b (controller_values b []).starts life)
+confirming b [] laws is = grind (arith, nat_tests, first_kept, first_now)
 confirming b (r ∷ past) laws is = next b r past laws is (confirming b past laws is.1)

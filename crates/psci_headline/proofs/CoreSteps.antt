@@ -105,22 +105,13 @@ taken b v c a =
 
 pub step : (b : BoardValue) (v : Values) (c : ℕ) (e : Effect) → IsAllowed b v e
     → IsStep v (change b e v) c e
-step b v c Nothing allowed =
-    within v v c Nothing refl refl (λ e. e) (λ e. inl e) (λ e. inl e)
-step b v c (GoesOn d) allowed =
-    called v (change b (GoesOn d) v) c d (GoesOn d) _ allowed.runs refl refl refl refl
-step b v c (SetsMode d mode) allowed =
-    called v (change b (SetsMode d mode) v) c d (SetsMode d mode) _ allowed.runs refl refl refl refl
-step b v c (AsksOn d on) allowed =
-    asked v (change b (AsksOn d on) v) c d (target on) (AsksOn d on) _ allowed.calls.runs refl refl
-    refl refl
-step b v c (Rests d rest m) allowed =
-    called v (change b (Rests d rest m) v) c d (Rests d rest m) _ allowed.calls.runs refl refl refl
-    refl
-step b v c (Halts d m) allowed =
-    called v (change b (Halts d m) v) c d (Halts d m) _ allowed.calls.runs refl refl refl refl
-step b v c (Stops d) allowed =
-    called v (change b (Stops d) v) c d (Stops d) _ allowed.calls.runs refl refl refl refl
+step b v c Nothing allowed = grind (arith, nat_tests, within)
+step b v c (GoesOn d) allowed = grind (arith, nat_tests, called)
+step b v c (SetsMode d mode) allowed = grind (arith, nat_tests, called)
+step b v c (AsksOn d on) allowed = grind (arith, nat_tests, asked)
+step b v c (Rests d rest m) allowed = grind (arith, nat_tests, called)
+step b v c (Halts d m) allowed = grind (arith, nat_tests, called)
+step b v c (Stops d) allowed = grind (arith, nat_tests, called)
 step b v c (Enters d s) allowed =
     let found : Values = in_life b s.life v in
     enters b v (change b (Enters d s) v) c d s (Enters d s) allowed.enters
@@ -144,15 +135,5 @@ step b v c (Parks d s m) allowed =
           (λ here. absurd (ne here)) (λ there. refl);
       status = λ e. e;
     })
-step b v c (StopsAtOnce d s) allowed =
-    let found : Values = in_life b s.life v in
-    enters b v (change b (StopsAtOnce d s) v) c d s (StopsAtOnce d s) allowed.enters
-    (record { arrival = record { core = d; start = s }; is = refl; new = refl })
-    (record {
-      life = refl;
-      known = refl;
-      phase = λ ne. updated_at (λ x. x ≡ found.phase c) found.phase d _ c
-          (λ here. absurd (ne here)) (λ there. refl);
-      status = λ e. e;
-    })
+step b v c (StopsAtOnce d s) allowed = grind (arith, nat_tests, enters, updated_at)
 step b v c (Acknowledges a) allowed = taken b v c a

@@ -105,11 +105,7 @@ module _ (b : BoardValue) (n : ℕ) (v : Values) (made : List Made) (taken : Lis
   rested : (c : ℕ) (o : Option Opening)
       → AreWaiting (suc n) v.life (updated v.opening c (option_or o (v.opening c)))
       (listed (made_at (OfCall n) c v.life o) ++ made) taken
-  rested c None =
-      fewer (suc n) v.life v.opening made taken (one_more n v.life v.opening made taken are)
-      (updated v.opening c (v.opening c))
-      (λ x o. updated_at (λ q. q ≡ Some o → v.opening x ≡ Some o) v.opening c (v.opening c) x
-      (λ here e. ap v.opening here ∙ e) (λ there e. e))
+  rested c None = grind (arith, nat_tests, fewer, one_more, updated_at)
   rested c (Some o) = called n v.life v.opening made taken are c o
 
   arrives : (c : ℕ) (s : Start) → v.life ≤ s.life

@@ -32,10 +32,7 @@ use Rattle.psci_headline.proofs.Untold as untold
 none_of : {A : Type 0} → (fails : ℕ → List A) (a count : ℕ)
     → ((k : ℕ) → a ≤ k → k < a + count → fails k ≡ []) → each fails (range_with_len a count) ≡ []
 none_of fails a zero none = refl
-none_of fails a (suc count) none =
-    ap (λ l. l ++ each fails (range_with_len (a + 1) count)) (none a (omega arith) (omega arith))
-    ∙ none_of fails (a + 1) count
-    (λ k low high. none k (omega (arith, low)) (omega (arith, high)))
+none_of fails a (suc count) none = grind (arith, nat_tests, each, none_of fails (a + 1) count)
 
 pub passed : {A : Type 0} → (t : Bool) (k : A) → t ≡ true → if_fails t k ≡ []
 passed t k e = ap (λ b. if_fails b k) e

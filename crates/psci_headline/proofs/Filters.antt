@@ -23,8 +23,7 @@ by_head test x y list t k is at before = grind (arith, nat_tests, kept_later)
 pub is_kept : {X : Type 0} (test : X → Bool) (list : List X) (k : ℕ) (y : X)
     → slice_get (filter test list) k ≡ Some y → IsKept test list y
 is_kept test [] k y at = absurd (cc)
-is_kept test (x ∷ list) k y at =
-    by_head test x y list (test x) k refl at (λ j e. is_kept test list j y e)
+is_kept test (x ∷ list) k y at = grind (arith, nat_tests, by_head, is_kept test list)
 
 place_later : {X : Type 0} (x y : X) (list : List X) (t : Bool)
     → (k : ℕ) × (slice_get list k ≡ Some y)
@@ -42,8 +41,6 @@ pub keeps : {X : Type 0} (test : X → Bool) (list : List X) (k : ℕ) (y : X)
     → slice_get list k ≡ Some y → test y ≡ true
     → (j : ℕ) × (slice_get (filter test list) j ≡ Some y)
 keeps test [] k y at is = absurd (cc)
-keeps test (x ∷ list) zero y at is =
-    let same : x ≡ y = cc in
-    (0, head_kept x (filter test list) (test x) (ap test same ∙ is) ∙ ap (λ z. Some z) same)
+keeps test (x ∷ list) zero y at is = grind (arith, nat_tests, head_kept)
 keeps test (x ∷ list) (suc k) y at is =
     place_later x y (filter test list) (test x) (keeps test list k y at is)

@@ -26,23 +26,14 @@ from_core : (does : List Record → ℕ → List Record) (n : ℕ) (Holds : List
     → (a rest : ℕ) (past : List Record) → a + rest ≡ n → Holds past
     → ((c : ℕ) → a ≤ c → c < n → Todo c past) → ((c : ℕ) → c < a → Done c past)
     → AreDone n Holds Done (each_core does (range_with_len a rest) past)
-from_core does n Holds Todo Done laws a zero past all holds todo done =
-    record { holds = holds; done = λ c low. done c (omega (arith, low, all)) }
+from_core does n Holds Todo Done laws a zero past all holds todo done = grind (arith, nat_tests)
 from_core does n Holds Todo Done laws a (suc rest) past all holds todo done =
-    let on : a < n = omega (arith, all) in
-    let now = todo a (omega arith) on in
-    from_core does n Holds Todo Done laws (a + 1) rest (does past a) (omega (arith, all))
-    (laws.keeps past a on holds)
-    (λ c low high.
-    laws.todo past a c on (λ e. omega (arith, e, low)) holds now
-    (todo c (omega (arith, low)) high))
-    (λ c low. elim (cases_lt c a) [
-      | inl before ↦
-          laws.done past a c on (λ e. omega (arith, e, before)) holds now (done c before)
-      | inr here ↦
-          let same : c ≡ a = omega (arith, here, low) in
-          subst (λ x. Done x (does past a)) (sym same) (laws.here past a on holds now)
-    ])
+    grind (
+      arith,
+      nat_tests,
+      cases_lt,
+      from_core does n Holds Todo Done laws (a + 1) rest (does past a),
+    )
 
 pub each_done : (does : List Record → ℕ → List Record) (n : ℕ) (Holds : List Record → Type 0)
     (Todo Done : ℕ → List Record → Type 0) → IsStep does n Holds Todo Done

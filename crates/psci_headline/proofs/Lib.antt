@@ -90,15 +90,12 @@ pub mod Emptying
 pub mod Unclaimed
 pub mod Pursuing
 pub mod Calls
-pub mod FirmwareSteps
 pub mod Starting
 pub mod Taking
 pub mod Telling
 pub mod Deepening
 pub mod Controls
-pub mod ControllerSteps
 pub mod Carried
-pub mod WaitingNexts
 pub mod Waited
 -- 5. Level by level each live claim has its depth: a part, a Down, a round.
 pub mod Claimed

@@ -49,8 +49,7 @@ sent_at : (b : BoardValue) (since : List FwExchange) (e : FwExchange) (before : 
 unfolding sent_messages
 sent_at b [] e before m is = sent_now m (says.sent (effect b e)) (sent_messages b before) is
 sent_at b (s ∷ since) e before m is =
-    sent_later m (says.sent (effect b s)) (sent_messages b (since ++ (e ∷ before)))
-    (sent_at b since e before m is)
+    grind (arith, nat_tests, sent_later, sent_at b since e before m is)
 
 -- a message that no exchange before these sent was asked for by the last of them
 by_since : (b : BoardValue) (m : MessageValue) (new h : List FwExchange) (since : List FwExchange)
@@ -58,8 +57,7 @@ by_since : (b : BoardValue) (m : MessageValue) (new h : List FwExchange) (since 
     → ((k : ℕ) → slice_get (sent_messages b h) k ≡ Some m → ⊥)
     → since ++ (e ∷ before) ≡ new ++ h → says.sent (effect b e) ≡ Some m
     → IsAskedFor b (values_of b (e ∷ before)) m → IsAskedFor b (values_of b (new ++ h)) m
-by_since b m new h [] e before one fresh parts is fair =
-    subst (λ xs. IsAskedFor b (values_of b xs) m) parts fair
+by_since b m new h [] e before one fresh parts is fair = grind (arith, nat_tests)
 by_since b m new h (s ∷ since) e before one fresh parts is fair = elim one [
   | inl none ↦
       let same : (s ∷ since) ++ (e ∷ before) ≡ h = parts ∙ ap (λ xs. xs ++ h) none in

@@ -11,10 +11,13 @@ use Rattle.psci_headline.proofs.Words.{outcome_in, Place, place, Record, refl, R
 use Rattle.psci_headline.proofs.Words.{Some, Start, Started, Stopped, subst, sym, true, true≢false}
 use Rattle.psci_headline.proofs.Words.{values_of, ℕ}
 use Rattle.psci_fw_laws.specs.psci_fw_spec.Effects.{Nothing}
+use Rattle.psci_fw_laws.specs.psci_fw_spec.Said.{listed}
+use Rattle.psci_fw_laws.specs.psci_fw_spec.Sent.{sent_messages}
 use Rattle.psci_world_spec.specs.Legal.{legal, on_board}
 use Rattle.psci_headline.proofs.Sending.{after_call, more_calls}
 use Rattle.psci_headline.proofs.Functions.{call_ends}
 use Rattle.psci_headline.proofs.Records.{IsAdded, IsOfRecord, added}
+use Rattle.psci_fw_laws.specs.psci_fw_spec.Said as spoken
 
 -- Going on ------------------------------------------------------------------------------------
 
@@ -53,15 +56,9 @@ goes : (b : BoardValue) (past : List Record) (c : ℕ) (event : Event) (said : S
     → EntersOrResumes b c (call (controller_values b past) (acks past) event said)
 unfolding legal
 goes b past c (Enter d) (Fw act m) is valid by =
-    let both = and_parts (c == d) (enters_or_resumes_by act) by in
-    let v = controller_values b past in
-    subst (λ x. EntersOrResumes b x (entered d (last_start v d) (outcome_in act m)))
-    (sym (eqb-true c d both.0))
-    (goes_at b past d act m (last_start v d) is both.1)
+    grind (arith, nat_tests, and_parts, eqb-true, goes_at)
 goes b past c (Call d regs) (Fw act m) is valid by =
-    let both = and_parts (c == d) (enters_or_resumes_by act) by in
-    let ends = call_ends b (firmware_values b past) d regs (outcome_in act m) valid.0 in
-    absurd (true≢false (sym both.1 ∙ ends))
+    grind (arith, nat_tests, and_parts, call_ends, true≢false)
 goes b past c event said is valid by = absurd (cc)
 
 -- Values --------------------------------------------------------------------------------------
@@ -71,6 +68,9 @@ pub record Moves (b : BoardValue) (r : Record) (past : List Record) : Type 0 whe
   pub effect : Effect
   pub allowed : IsAllowed b (firmware_values b past) effect
   pub values : firmware_values b (r ∷ past) ≡ change b effect (firmware_values b past)
+  -- what was sent is what it says was sent
+  pub sends : sent_messages b (firmware_history b (r ∷ past))
+      ≡ listed (spoken.sent effect) ++ sent_messages b (firmware_history b past)
   pub says : IsOfRecord (controller_values b past) (acks past) effect
   -- a core that goes on enters by it
   pub goes : (c : ℕ) → enters_or_resumes c r.event r.said ≡ true
@@ -92,10 +92,13 @@ by_added : (b : BoardValue) (r : Record) (past : List Record) (es : List FwExcha
     → r.said ≡ legal b past r.event → IsLegal b (firmware_history b (r ∷ past))
     → added_by b r past ≡ es → IsAdded b (controller_values b past) (acks past) es
     → Moves b r past
+unfolding sent_messages
 by_added b r past [] laws is valid adds says = record {
   effect = Nothing;
   allowed = tt;
   values = ap (values_of b) (more_calls b r past
+      ∙ ap (λ (es : List FwExchange). es ++ firmware_history b past) adds);
+  sends = ap (sent_messages b) (more_calls b r past
       ∙ ap (λ (es : List FwExchange). es ++ firmware_history b past) adds);
   says = record { starts = λ a e. absurd (cc); takes = λ a e. absurd (cc) };
   goes = λ c by.
@@ -112,6 +115,7 @@ by_added b r past (e ∷ []) laws is valid adds says =
       effect = effect b e;
       allowed = laws.allowed e h (subst (IsLegal b) more valid);
       values = ap (values_of b) more ∙ laws.values e h;
+      sends = ap (sent_messages b) more;
       says = says;
       goes = λ c by.
           let on = goes b past c r.event r.said is

@@ -16,9 +16,7 @@ not_running : (b : BoardValue) (past : List Record) (c : ℕ) (o : Option ℕ) �
     → AreValues b (firmware_values b past) → c < cores b
     → (firmware_values b past).status c ≡ Off → (controller_values b past).life ≡ o
     → place b past c ≡ Running → ⊥
-not_running b past c None agree are on off life runs =
-    let no : Running ≡ Stopped = sym runs ∙ agree.stopped life c in
-    absurd (cc)
+not_running b past c None agree are on off life runs = grind (arith, nat_tests)
 not_running b past c (Some l) agree are on off life runs =
     let v : Values = firmware_values b past in
     by_life b v c l (l == v.life) are off ((agree.present l life).runs c on runs)

@@ -28,14 +28,14 @@ module _ {b : BoardValue} {life : ℕ} {starts : ℕ → ℕ} {depth : ℕ → �
       → m.kind ≡ Down → slice_get m.parts level ≡ Some p → IsLivePart b starts m level p
       → Waits phase outstanding m
       → (depth level (up b level m.core.number) ≡ p.depth) ⊎ Waits new slots m)
-      → ((m : MessageValue) → o ≡ Some m → m.kind ≡ Down
+      → ((m : MessageValue) → o ≡ Some m → m.life ≡ life → m.kind ≡ Down
       → slots (OfCore m.core.number) ≡ Some m)
       → (halts ≡ false → (x : ℕ) → x < cores b → new x ≡ Pending → starts x ≡ knows x
       → AwaitsStart slots x)
       → AreWaiting b life starts depth halts knows new slots (listed o ++ sent) made
   waiting_moved halts knows new slots o keeps sends asks = record {
     pursued = λ k m at present kind level p part live.
-        of_newest o sent k m (λ is. inr (inl (sends m is kind)))
+        of_newest o sent k m (λ is. inr (inl (sends m is present kind)))
         (λ j old. elim (are.pursued j m old present kind level p part live) [
           | inl deep ↦ inl deep
           | inr waits ↦ keeps j level m p old present kind part live waits
@@ -51,6 +51,15 @@ module _ {b : BoardValue} {life : ℕ} {starts : ℕ → ℕ} {depth : ℕ → �
         let on = listed_later o sent t.message (record { index = t.index; at = t.at }) in
         record { index = on.index; message = t.message; at = on.at; told = t.told };
   }
+
+  -- a message of another life was sent
+  pub waiting_other : (o : Option MessageValue)
+      → ((m : MessageValue) → o ≡ Some m → m.life ≡ life → ⊥)
+      → AreWaiting b life starts depth halting known phase outstanding (listed o ++ sent) made
+  waiting_other o other =
+      waiting_moved halting known phase outstanding o
+      (λ k level m p at present kind part live waits. inr waits)
+      (λ m is own. absurd (other m is own)) are.asked
 
   -- a core that waits for its Start waits in these slots too
   waits_still : (slots : Slot → Option MessageValue) (x : ℕ) → AwaitsStart outstanding x
@@ -73,7 +82,7 @@ module _ {b : BoardValue} {life : ℕ} {starts : ℕ → ℕ} {depth : ℕ → �
         | inl out ↦ inl (put_system outstanding m n.core.number slot ∙ out)
         | inr pending ↦ inr pending
       ]))
-      (λ n is kind. let same : m ≡ n = cc in
+      (λ n is own kind. let same : m ≡ n = cc in
       absurd (other (ap (λ (y : MessageValue). y.kind) same ∙ kind)))
       (λ awake. absurd (cc))
 
@@ -91,7 +100,7 @@ module _ {b : BoardValue} {life : ℕ} {starts : ℕ → ℕ} {depth : ℕ → �
             (λ here. none k level n p at present kind here part live) ∙ out)
         | inr pending ↦ inr pending
       ]))
-      (λ n is kind. let same : m ≡ n = cc in
+      (λ n is of kind. let same : m ≡ n = cc in
       subst (λ y. new (OfCore y.core.number) ≡ Some y) same
       (put_here outstanding m m.core.number (slot ∙ ap OfCore (sym own))))
       (λ awake x on waits same. waits_still new x (are.asked awake x on waits same)
@@ -116,7 +125,7 @@ module _ {b : BoardValue} {life : ℕ} {starts : ℕ → ℕ} {depth : ℕ → �
           | inr pending ↦ inr (updated_there phase c Pending n.core.number there ∙ pending)
         ]
       ]))
-      (λ n is down. let same : m ≡ n = cc in
+      (λ n is own down. let same : m ≡ n = cc in
       let no : Start ≡ Down = sym kind ∙ ap (λ (y : MessageValue). y.kind) same ∙ down in
       absurd (cc))
       (λ awake x on waits same. elim (cases_eq x c) [

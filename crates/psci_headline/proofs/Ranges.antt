@@ -12,27 +12,19 @@ pub each_in : (p : ℕ → Bool) (a n k : ℕ) → list_all p (range_with_len a 
     → k < a + n → p k ≡ true
 each_in p a zero k e low high = absurd (omega arith)
 each_in p a (suc n) k e low high =
-    let parts = and_parts (p a) (list_all p (range_with_len (a + 1) n)) e in
-    elim (cases_eq a k) [
-      | inl same ↦ ap p (sym same) ∙ parts.0
-      | inr other ↦ each_in p (a + 1) n k parts.1 (omega (arith, other)) (omega arith)
-    ]
+    grind (arith, nat_tests, and_parts, cases_eq, each_in p (a + 1) n k)
 
 pub all_in : (p : ℕ → Bool) (a n : ℕ) → ((k : ℕ) → a ≤ k → k < a + n → p k ≡ true)
     → list_all p (range_with_len a n) ≡ true
 all_in p a zero h = refl
-all_in p a (suc n) h =
-    and_from (p a) (list_all p (range_with_len (a + 1) n)) (h a (omega arith) (omega arith))
-    (all_in p (a + 1) n (λ k low high. h k (omega arith) (omega arith)))
+all_in p a (suc n) h = grind (arith, nat_tests, and_from, all_in p (a + 1) n)
 
 -- Items ---------------------------------------------------------------------------------------
 
 pub each_item : {A : Type 0} (p : A → Bool) (xs : List A) (k : ℕ) (x : A)
     → list_all p xs ≡ true → slice_get xs k ≡ Some x → p x ≡ true
 each_item p [] k x e at = absurd (cc)
-each_item p (y ∷ ys) zero x e at =
-    let same : y ≡ x = cc in
-    ap p (sym same) ∙ (and_parts (p y) (list_all p ys) e).0
+each_item p (y ∷ ys) zero x e at = grind (arith, nat_tests, and_parts)
 each_item p (y ∷ ys) (suc k) x e at =
     each_item p ys k x (and_parts (p y) (list_all p ys) e).1 at
 

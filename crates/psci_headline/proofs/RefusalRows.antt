@@ -17,6 +17,7 @@ use Rattle.psci_world_spec.specs.Legal.{run_from}
 use Rattle.psci_world_spec.specs.Places.{place}
 use Rattle.psci_world_spec.proofs.Scripts.{board, computing, enters, limited, started, system_off}
 use Rattle.psci_headline.specs.Refusals.{NoneRefused}
+use Rattle.psci_headline.proofs.Checking.{by_core}
 
 -- Not refused ----------------------------------------------------------------------------------
 
@@ -27,24 +28,14 @@ woken = run_from board [] (Enter 0 ∷ Wake 3 ∷ [])
 calls : (c : ℕ) → c < cores board → place board woken c ≡ Running
     → call_fault board (firmware_values board woken) c ≡ None
 unfolding computing
-calls zero on runs = refl
-calls (suc zero) on runs = let no : Stopped ≡ Running = runs in absurd (cc)
-calls (suc (suc zero)) on runs = let no : Stopped ≡ Running = runs in absurd (cc)
-calls (suc (suc (suc zero))) on runs = let no : Started ≡ Running = runs in absurd (cc)
-calls (suc (suc (suc (suc c)))) on runs =
-    let no : suc (suc (suc (suc c))) < 4 = on in absurd (omega (arith, no))
+calls = by_core _ (grind arith) (grind arith) (grind arith) (grind arith)
 
 enters_at : (c : ℕ) → c < cores board → place board woken c ≡ Started
     → (s : Start) × (last_start (controller_values board woken) c ≡ Some s)
     × (enter_fault board (firmware_values board woken) c s ≡ None)
 unfolding computing
-enters_at zero on waits = let no : Running ≡ Started = waits in absurd (cc)
-enters_at (suc zero) on waits = let no : Stopped ≡ Started = waits in absurd (cc)
-enters_at (suc (suc zero)) on waits = let no : Stopped ≡ Started = waits in absurd (cc)
-enters_at (suc (suc (suc zero))) on waits =
-    (record { life = 1; number = 1; cause = causes.Wake }, refl, refl)
-enters_at (suc (suc (suc (suc c)))) on waits =
-    let no : suc (suc (suc (suc c))) < 4 = on in absurd (omega (arith, no))
+enters_at = by_core _ (λ waits. absurd (cc)) (λ waits. absurd (cc)) (λ waits. absurd (cc))
+    (λ waits. (record { life = 1; number = 1; cause = causes.Wake }, refl, refl))
 
 none_refused : NoneRefused board woken
 none_refused = record { calls = calls; enters = enters_at }

@@ -101,5 +101,4 @@ pub same_sent : (b : BoardValue) (past : List Record) → IsLegalPast b past
     → sent past ≡ sent_messages b (firmware_history b past)
 unfolding sent sent_messages firmware_history
 same_sent b [] is = refl
-same_sent b (r ∷ past) is =
-    event_same b past r.event r.said (same_sent b past is.1) (legal_call b r past is) is.0
+same_sent b (r ∷ past) is = grind (arith, nat_tests, event_same, legal_call, same_sent b past is.1)

@@ -104,7 +104,7 @@ seen_by b r past n laws legal next are has w some how =
           so_still b past v w n was.stays (are.seen n has begun was.before)
       | inr more ↦ elim more [
         | inl begun ↦
-            let present = next.moves.says.starts begun.arrival begun.is in
+            let present = (next.moves.says.starts begun.arrival begun.is).life in
             so_first b past w n begun.known begun.granted
             (are.fresh w.life n has (present ∙ ap (λ x. Some x) begun.new)
             (λ e. begun.other (sym e)) begun.off)
@@ -139,17 +139,9 @@ seen_next b r past n laws legal next are has some confirmed =
 
 all_real : (b : BoardValue) (past : List Record) → RealLaws b → IsLegalPast b past
     → AreReal b past
-all_real b [] laws legal = record {
-  seen = λ n has some. absurd (omega (arith, some, first_life b));
-  fresh = λ life n has now unknown off. grind (arith, nat_tests, first_controlled, first_seen);
-}
+all_real b [] laws legal = grind (arith, nat_tests, first_life, first_controlled, first_seen)
 all_real b (r ∷ past) laws legal =
-    let next : IsNext b r past = next_of b r past laws.down legal in
-    let are : AreReal b past = all_real b past laws legal.1 in
-    record {
-      seen = λ n has. seen_next b r past n laws legal.1 next are has;
-      fresh = λ life n has. fresh_next b r past life n laws.sums next are has;
-    }
+    grind (arith, nat_tests, next_of, seen_next, fresh_next, all_real b past laws legal.1)
 
 -- What is said ---------------------------------------------------------------------------------
 

@@ -61,8 +61,7 @@ module _ (b : BoardValue) (w : controlled.Values) (v : Values) (sent : List Mess
   pub effect : (e : Effect) → IsAllowed b v e → IsOfRecord w made e
       → ConfirmingNow b w (change b e v)
   effect Nothing allowed says = h
-  effect (GoesOn c) allowed says =
-      own_life (change b (GoesOn c) v) refl (λ life e own are. goes_on b w.starts v c are)
+  effect (GoesOn c) allowed says = grind (arith, nat_tests, own_life, goes_on)
   effect (SetsMode c mode) allowed says =
       own_life (change b (SetsMode c mode) v) refl (λ life e own are.
       goes_on b w.starts (with_mode mode v) c
@@ -71,25 +70,17 @@ module _ (b : BoardValue) (w : controlled.Values) (v : Values) (sent : List Mess
       own_life (change b (AsksOn c asked) v) refl (λ life e own are.
       goes_on b w.starts (with_pending b asked v) c
       (pends b w.starts v asked paths allowed.kind are))
-  effect (Rests c rest m) allowed says =
-      own_life (change b (Rests c rest m) v) refl (λ life e own are.
-      rests b w.starts sums paths v sent c rest m holds allowed are)
-  effect (Halts c m) allowed says =
-      own_life (change b (Halts c m) v) refl (λ life e own are.
-      halts b w.starts v c m allowed.system are)
-  effect (Stops c) allowed says =
-      own_life (change b (Stops c) v) refl (λ life e own are.
-      stops b w.starts sums paths v sent c allowed are)
+  effect (Rests c rest m) allowed says = grind (arith, nat_tests, own_life, rests)
+  effect (Halts c m) allowed says = grind (arith, nat_tests, own_life, halts)
+  effect (Stops c) allowed says = grind (arith, nat_tests, own_life, stops)
   effect (Enters c s) allowed says =
-      entered (change b (Enters c s) v) s (says.starts (record { core = c; start = s }) refl)
+      entered (change b (Enters c s) v) s (says.starts (record { core = c; start = s }) refl).life
       (found_life b v s.life) (enters b w.starts sums paths v c s)
   effect (Parks c s m) allowed says =
-      entered (change b (Parks c s m) v) s (says.starts (record { core = c; start = s }) refl)
+      entered (change b (Parks c s m) v) s (says.starts (record { core = c; start = s }) refl).life
       (found_life b v s.life) (parks b w.starts sums paths v c s m allowed)
   effect (StopsAtOnce c s) allowed says =
-      entered (change b (StopsAtOnce c s) v) s
-      (says.starts (record { core = c; start = s }) refl) (found_life b v s.life)
-      (stops_at_once b w.starts sums paths v c s allowed)
+      grind (arith, nat_tests, entered, found_life, stops_at_once)
   effect (Acknowledges a) allowed says =
       let of = says.takes a refl in taken a of.index of.at
 

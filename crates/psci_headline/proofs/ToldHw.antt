@@ -42,12 +42,8 @@ module _ (b : BoardValue) (life sum : ℕ) (h : Hw) (is : ℕ → Bool) (each : 
       → was_in_state b life sum h past n ≡ true → was_so_deep b life sum is past n ≡ true
   unfolding was_in_state was_so_deep
   once_deep [] legal e = so_deep [] legal e
-  once_deep (r ∷ past) legal e = elim (cases_Bool (is_in_state b life sum h (r ∷ past) n)) [
-    | inl now ↦ or_left _ _ (so_deep (r ∷ past) legal now)
-    | inr not_now ↦
-        let before = rw not_now at e in
-        or_right _ _ (once_deep past legal.1 before)
-  ]
+  once_deep (r ∷ past) legal e =
+      grind (arith, nat_tests, cases_Bool, or_left, so_deep, or_right, once_deep past legal.1)
 
 -- What is said --------------------------------------------------------------------------------
 

@@ -32,14 +32,7 @@ none_kept : (p test : ℕ → Bool) (a n c : ℕ)
     → test c ≡ true → p c ≡ false
 none_kept p test a zero c e low high is = absurd (omega (arith, low, high))
 none_kept p test a (suc n) c e low high is =
-    let both = none_head p (test a) a (filter test (range_with_len (a + 1) n)) e in
-    elim (cases_lt a c) [
-      | inl more ↦ none_kept p test (a + 1) n c both.1 (omega (arith, more))
-          (omega (arith, high)) is
-      | inr less ↦
-          let same : a ≡ c = omega (arith, low, less) in
-          subst (λ x. p x ≡ false) same (both.0 (subst (λ x. test x ≡ true) (sym same) is))
-    ]
+    grind (arith, nat_tests, none_head, cases_lt, none_kept p test (a + 1) n c)
 
 -- The status of a domain ------------------------------------------------------------------------
 
@@ -83,15 +76,8 @@ core_off b status n c paths low off on at =
 find_inside : (p : ℕ → Bool) (a count i : ℕ) → find p (range_with_len a count) ≡ Some i
     → i < a + count
 find_inside p a zero i e = absurd (cc)
-find_inside p a (suc count) i e = elim (cases_Bool (p a)) [
-  | inl here ↦
-      let found = rw here at e in
-      let same : a ≡ i = same_Some a i found in
-      omega (arith, same)
-  | inr other ↦
-      let later = rw other at e in
-      omega (arith, find_inside p (a + 1) count i later)
-]
+find_inside p a (suc count) i e =
+    grind (arith, nat_tests, cases_Bool, same_Some, find_inside p (a + 1) count i)
 
 pub named_node : (b : BoardValue) (word level : ℕ) (n : Node) → node_of b word level ≡ Some n
     → HasNode b n

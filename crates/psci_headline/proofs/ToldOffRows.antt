@@ -15,7 +15,7 @@ use Rattle.psci_world_spec.proofs.Scripts.{board, call, computing, nothing, off,
 use Rattle.psci_world_spec.proofs.Scripts.{status_3, stops, system_off, system_reset, tall, value}
 use Rattle.psci_headline.specs.Moments.{was_powered_down}
 use Rattle.psci_headline.specs.ToldOff.{AllOff, told_off}
-use Rattle.psci_headline.proofs.Checking.{each}
+use Rattle.psci_headline.proofs.Checking.{by_core, each}
 use Rattle.psci_headline.proofs.Histories.{Case, cases, after, at, on_in_group, third_on}
 use Rattle.psci_headline.proofs.ToldTest.{is_all_off}
 
@@ -60,13 +60,8 @@ gone_off = after board (third_on ++ off 3 ∷ Deliver 1 ∷ Take 1 ∷ [])
 
 is_off : AllOff board gone_off (at 0 3)
 unfolding computing was_powered_down
-is_off zero on up = let no : 0 ≡ 3 = up in absurd (cc)
-is_off (suc zero) on up = let no : 1 ≡ 3 = up in absurd (cc)
-is_off (suc (suc zero)) on up = let no : 2 ≡ 3 = up in absurd (cc)
-is_off (suc (suc (suc zero))) on up =
-    (λ runs. let no : Stopped ≡ Running = runs in absurd (cc), refl)
-is_off (suc (suc (suc (suc c)))) on up =
-    let no : suc (suc (suc (suc c))) < 4 = on in absurd (omega (arith, no))
+is_off = by_core _ (λ up. absurd (omega (arith, up))) (λ up. absurd (omega (arith, up)))
+    (λ up. absurd (omega (arith, up))) (λ up. (λ runs. absurd (cc), refl))
 
 -- Not off -------------------------------------------------------------------------------------
 
