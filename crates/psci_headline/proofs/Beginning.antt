@@ -63,51 +63,43 @@ more_starts messages k is now keeps = grind (arith, nat_tests)
 enters_in : (b : BoardValue) (before : List Record) (life : ℕ) (past : List Record) (c : ℕ)
     → SettleLaws b → IsUnderWay b before life past → c < cores b → place b past c ≡ Started
     → IsIn b before life past c
-enters_in b before life past c laws way on at = record {
-  way = record {
-    legal = (refl, way.legal);
-    added = one_added before past (legal_record b past (Enter c)) refl way.added;
-    present = ap (λ (w : controlled.Values). w.life) (same_control b past c) ∙ way.present;
-    awake = ap (λ (u : Values). u.halting) (found_own b life w (sym own)) ∙ halting ∙ way.awake;
-    count = λ j. elim (way.count j) [
-      | inl same ↦ inl same
-      | inr start ↦
-          inr (more_starts (sent past) j start (sent (step b past (Enter c)))
-          (λ m e. ap (λ l. indexed l j) is.sent ∙ same_numbers (sent past) is.message j m e))
-    ];
-  };
-  own = own;
-  slots = λ x m e start.
-      subst (λ l. (in_life b l v).outstanding (OfCore x) ≡ Some m) same
-      (entry_slots b v c is.start is.act is.message x m is.allowed
-      (sym (ap (λ (u : Values). u.outstanding (OfCore x)) is.firmware) ∙ e) start);
-  here = is.here;
-  there = λ x ne old e. old (sym (is.there x ne) ∙ e);
-}
-  where
-    v : Values
-    v = firmware_values b past
-
-    w : Values
-    w = firmware_values b (step b past (Enter c))
-
-    is : HaveArrived b past c
-    is = arrives b past c laws.runs way.legal (laws.past past way.legal).free on at
-
-    same : is.start.life ≡ life
-    same =
-        let f : Some is.start.life ≡ Some life =
-        sym (last_is (controller_values b past) c is.start is.last).life ∙ way.present in cc
-
-    own : w.life ≡ life
-    own = ap (λ (u : Values). u.life) is.firmware
-        ∙ (entry_moves b v c is.start is.act is.message).life
-        ∙ found_life b v is.start.life ∙ same
-
-    halting : w.halting ≡ (in_life b life v).halting
-    halting = ap (λ (u : Values). u.halting) is.firmware
-        ∙ entry_halting b v c is.start is.act is.message
-        ∙ ap (λ l. (in_life b l v).halting) same
+enters_in b before life past c laws way on at =
+    let v : Values = firmware_values b past in
+    let w : Values = firmware_values b (step b past (Enter c)) in
+    let is : HaveArrived b past c =
+    arrives b past c laws.runs way.legal (laws.past past way.legal).free on at in
+    let same : is.start.life ≡ life =
+    let f : Some is.start.life ≡ Some life =
+    sym (last_is (controller_values b past) c is.start is.last).life ∙ way.present in cc in
+    let own : w.life ≡ life =
+    ap (λ (u : Values). u.life) is.firmware
+    ∙ (entry_moves b v c is.start is.act is.message).life
+    ∙ found_life b v is.start.life ∙ same in
+    let halting : w.halting ≡ (in_life b life v).halting =
+    ap (λ (u : Values). u.halting) is.firmware
+    ∙ entry_halting b v c is.start is.act is.message
+    ∙ ap (λ l. (in_life b l v).halting) same in
+    record {
+      way = record {
+        legal = (refl, way.legal);
+        added = one_added before past (legal_record b past (Enter c)) refl way.added;
+        present = ap (λ (w : controlled.Values). w.life) (same_control b past c) ∙ way.present;
+        awake = ap (λ (u : Values). u.halting) (found_own b life w (sym own)) ∙ halting ∙ way.awake;
+        count = λ j. elim (way.count j) [
+          | inl same ↦ inl same
+          | inr start ↦
+              inr (more_starts (sent past) j start (sent (step b past (Enter c)))
+              (λ m e. ap (λ l. indexed l j) is.sent ∙ same_numbers (sent past) is.message j m e))
+        ];
+      };
+      own = own;
+      slots = λ x m e start.
+          subst (λ l. (in_life b l v).outstanding (OfCore x) ≡ Some m) same
+          (entry_slots b v c is.start is.act is.message x m is.allowed
+          (sym (ap (λ (u : Values). u.outstanding (OfCore x)) is.firmware) ∙ e) start);
+      here = is.here;
+      there = λ x ne old e. old (sym (is.there x ne) ∙ e);
+    }
 
 -- what becomes of the records where a core enters, if it is started
 entering_case : (b : BoardValue) (past : List Record) (c : ℕ) (P : List Record → Type 0)

@@ -40,33 +40,30 @@ rested b starts v c rest are = grind (arith, nat_tests, updated_there)
 pub arrived : (b : BoardValue) (starts : ℕ → ℕ) (v : Values) (c : ℕ) (s : Start)
     → KnownLaws b → PathLaws b → AreConfirming b starts (in_life b s.life v)
     → AreBeside b starts (with_arrival b c s v) c
-arrived b starts v c s laws paths are = record {
-  domains = λ level place off some.
-      elim (are.domains level place
-      (subst (λ d. 0 < d) (ap (λ t. cond t 0 (found.granted level place)) off) some)) [
-        | inl was ↦
-            inl (ap (λ t. cond t false (found.confirmed level place)) off ∙ was)
-        | inr yet ↦ inr (still level place off yet)
+arrived b starts v c s laws paths are =
+    let found : Values = in_life b s.life v in
+    let still : (level place : ℕ) → is_path_place b c level place ≡ false
+    → IsYetToCome b starts found.known found.outstanding level place
+    → IsYetToCome b starts (with_arrival b c s v).known (with_arrival b c s v).outstanding
+    level place =
+    λ level place off. yet_still b starts found.known (with_arrival b c s v).known found.outstanding
+    (with_arrival b c s v).outstanding level place
+    (sum_beside b found.known c s.number level place laws off)
+    (λ m at is. clear_there found.outstanding c m.core.number
+    (not_at b c m.core.number level place off at) ∙ is) in
+    record {
+      domains = λ level place off some.
+          elim (are.domains level place
+          (subst (λ d. 0 < d) (ap (λ t. cond t 0 (found.granted level place)) off) some)) [
+            | inl was ↦
+                inl (ap (λ t. cond t false (found.confirmed level place)) off ∙ was)
+            | inr yet ↦ inr (still level place off yet)
+          ];
+      cores = λ awake x on other away. elim (are.cores awake x on away) [
+        | inl was ↦ inl was
+        | inr yet ↦ inr (still 0 x (other_core b c x paths other) yet)
       ];
-  cores = λ awake x on other away. elim (are.cores awake x on away) [
-    | inl was ↦ inl was
-    | inr yet ↦ inr (still 0 x (other_core b c x paths other) yet)
-  ];
-}
-  where
-    found : Values
-    found = in_life b s.life v
-
-    still : (level place : ℕ) → is_path_place b c level place ≡ false
-        → IsYetToCome b starts found.known found.outstanding level place
-        → IsYetToCome b starts (with_arrival b c s v).known (with_arrival b c s v).outstanding
-        level place
-    still level place off =
-        yet_still b starts found.known (with_arrival b c s v).known found.outstanding
-        (with_arrival b c s v).outstanding level place
-        (sum_beside b found.known c s.number level place laws off)
-        (λ m at is. clear_there found.outstanding c m.core.number
-        (not_at b c m.core.number level place off at) ∙ is)
+    }
 
 pub arrived_flat : (b : BoardValue) (v : Values) (c : ℕ) (s : Start)
     → IsFlat b (with_arrival b c s v) c

@@ -51,38 +51,29 @@ pub empties : (b : BoardValue) (past : List Record) (c : ℕ) (m : MessageValue)
     → (controller_values b past).life ≡ Some m.life
     → (firmware_values b past).outstanding (OfCore c) ≡ Some m → m.core.number ≡ c
     → is_system m.kind ≡ false → IsEmptying b past c n.number m n.message
-empties b past c m laws is n present at core kind = record {
-  answered = both;
-  kind = name.kind ∙ sym n.name.kind;
-  there = λ x ne.
-      ap (λ (u : Values). u.outstanding (OfCore x)) both.firmware
-      ∙ left_there a c x (v.outstanding (OfCore x)) slot ne;
-  here = ap (λ (u : Values). u.outstanding (OfCore c)) both.firmware
-      ∙ ap (changed (OfCore c) (Acknowledge a)) at ∙ left_here a c m slot mine;
-}
-  where
-    v : Values
-    v = firmware_values b past
-
-    a : AckValue
-    a = ack_to b past n.message
-
-    name : HasName a n.message
-    name = acks_message b (controller_values b past) n.message n.message.kind
-
-    mine : answers a m ≡ true
-    mine = named_answers a m n.message name n.name
-
-    slot : slot_of a.kind a.core ≡ OfCore c
-    slot = core_slot a.kind a.core (ap is_system (name.kind ∙ sym n.name.kind) ∙ kind)
-        ∙ ap OfCore (name.core ∙ sym n.name.core ∙ core)
-
-    used : taken_by v a ≡ Used
-    used = ap (λ s. taken a (v.outstanding s)) slot ∙ ap (taken a) at
-        ∙ cond-true (answers a m) Used Old mine
-
-    both : AreAnswered b past n.number n.message
-    both = answered_so b past n.number n.message laws is n.at (present ∙ ap Some n.name.life) used
+empties b past c m laws is n present at core kind =
+    let v : Values = firmware_values b past in
+    let a : AckValue = ack_to b past n.message in
+    let name : HasName a n.message =
+    acks_message b (controller_values b past) n.message n.message.kind in
+    let mine : answers a m ≡ true = named_answers a m n.message name n.name in
+    let slot : slot_of a.kind a.core ≡ OfCore c =
+    core_slot a.kind a.core (ap is_system (name.kind ∙ sym n.name.kind) ∙ kind)
+    ∙ ap OfCore (name.core ∙ sym n.name.core ∙ core) in
+    let used : taken_by v a ≡ Used =
+    ap (λ s. taken a (v.outstanding s)) slot ∙ ap (taken a) at
+    ∙ cond-true (answers a m) Used Old mine in
+    let both : AreAnswered b past n.number n.message =
+    answered_so b past n.number n.message laws is n.at (present ∙ ap Some n.name.life) used in
+    record {
+      answered = both;
+      kind = name.kind ∙ sym n.name.kind;
+      there = λ x ne.
+          ap (λ (u : Values). u.outstanding (OfCore x)) both.firmware
+          ∙ left_there a c x (v.outstanding (OfCore x)) slot ne;
+      here = ap (λ (u : Values). u.outstanding (OfCore c)) both.firmware
+          ∙ ap (changed (OfCore c) (Acknowledge a)) at ∙ left_here a c m slot mine;
+    }
 
 -- A step ---------------------------------------------------------------------------------------
 

@@ -64,26 +64,23 @@ pub ready_now : (b : BoardValue) (before : List Record) (life : ℕ) (past : Lis
     → let w = controller_values b past in let v = firmware_values b past in
     ((c : ℕ) → AreDeep b life w.starts w.depth (sent past) r c)
     → IsReady b life v.known v.phase (sent past) w r
-ready_now b before life past r laws going deep = record {
-  paths = is.given.paths;
-  kids = laws.kids;
-  live = (known_now b before life past laws going).live;
-  all = going.known;
-  rests = going.rests;
-  first = (waits_now b before life past laws going).first;
-  deep = deep;
-  deeper = subst (λ l. (c level : ℕ) (p : Part) → c < cores b → level < height b
-      → IsClaimOn b l (level + 1) (up b (level + 1) c) p (sent past)
-      → IsCurrent b v.known (level + 1) (up b (level + 1) c) p
-      → NonePending b v.phase (level + 1) (up b (level + 1) c)
-      → HasDeeper b l v.known level (up b level c) p.depth (sent past)) going.own is.deeper;
-}
-  where
-    is : IsPast b past
-    is = laws.past past going.legal
-
-    v : Values
-    v = firmware_values b past
+ready_now b before life past r laws going deep =
+    let is : IsPast b past = laws.past past going.legal in
+    let v : Values = firmware_values b past in
+    record {
+      paths = is.given.paths;
+      kids = laws.kids;
+      live = (known_now b before life past laws going).live;
+      all = going.known;
+      rests = going.rests;
+      first = (waits_now b before life past laws going).first;
+      deep = deep;
+      deeper = subst (λ l. (c level : ℕ) (p : Part) → c < cores b → level < height b
+          → IsClaimOn b l (level + 1) (up b (level + 1) c) p (sent past)
+          → IsCurrent b v.known (level + 1) (up b (level + 1) c) p
+          → NonePending b v.phase (level + 1) (up b (level + 1) c)
+          → HasDeeper b l v.known level (up b level c) p.depth (sent past)) going.own is.deeper;
+    }
 
 -- Outstanding ----------------------------------------------------------------------------------
 

@@ -39,48 +39,34 @@ goes_running b r past c next by = grind (arith, nat_tests, updated_here)
 still_down : (b : BoardValue) (r : Record) (past : List Record) (a : AckValue) → IsNext b r past
     → IsDownBy b past (firmware_values b past) a
     → IsDownBy b (r ∷ past) (firmware_values b (r ∷ past)) a
-still_down b r past a next was = record {
-  begun = omega (arith, was.begun, s.life);
-  number = λ life. omega (arith, was.number (before life), s.known (same life));
-  rests = λ life number now.
-      was.rests (before life) (old life number) (s.runs (same life) (unknown life number) now);
-  slept = λ life number now.
-      elim (s.away (same life) (unknown life number) now) [
-        | inl away ↦
-            slept_still b w.life r past c
-            (subst (λ l. was_powered_down b l past c ≡ true) (sym (same life))
-            (was.slept (before life) (old life number) away))
-            (λ goes. absurd (not_both now (goes_running b r past c next goes).0))
-        | inr ran ↦ absurd (was.rests (before life) (old life number) ran)
-      ];
-}
-  where
-    v : Values
-    v = firmware_values b past
-
-    w : Values
-    w = firmware_values b (r ∷ past)
-
-    c : ℕ
-    c = a.core.number
-
-    s : IsStep v w c next.moves.effect
-    s = next.step c
-
-    same : a.life ≡ w.life → w.life ≡ v.life
-    same life = omega (arith, was.begun, s.life)
-
-    before : a.life ≡ w.life → a.life ≡ v.life
-    before life = life ∙ same life
-
-    old : a.life ≡ w.life → a.number ≡ w.known c → a.number ≡ v.known c
-    old life number = omega (arith, was.number (before life), s.known (same life))
-
-    unknown : a.life ≡ w.life → a.number ≡ w.known c → w.known c ≡ v.known c
-    unknown life number = sym number ∙ old life number
-
-    not_both : w.phase c ≡ Away → w.phase c ≡ Running → ⊥
-    not_both away runs = let no : Away ≡ Running = sym away ∙ runs in absurd (cc)
+still_down b r past a next was =
+    let v : Values = firmware_values b past in
+    let w : Values = firmware_values b (r ∷ past) in
+    let c : ℕ = a.core.number in
+    let s : IsStep v w c next.moves.effect = next.step c in
+    let same : a.life ≡ w.life → w.life ≡ v.life = λ life. omega (arith, was.begun, s.life) in
+    let before : a.life ≡ w.life → a.life ≡ v.life = λ life. life ∙ same life in
+    let old : a.life ≡ w.life → a.number ≡ w.known c → a.number ≡ v.known c =
+    λ life number. omega (arith, was.number (before life), s.known (same life)) in
+    let unknown : a.life ≡ w.life → a.number ≡ w.known c → w.known c ≡ v.known c =
+    λ life number. sym number ∙ old life number in
+    let not_both : w.phase c ≡ Away → w.phase c ≡ Running → ⊥ =
+    λ away runs. let no : Away ≡ Running = sym away ∙ runs in absurd (cc) in
+    record {
+      begun = omega (arith, was.begun, s.life);
+      number = λ life. omega (arith, was.number (before life), s.known (same life));
+      rests = λ life number now.
+          was.rests (before life) (old life number) (s.runs (same life) (unknown life number) now);
+      slept = λ life number now.
+          elim (s.away (same life) (unknown life number) now) [
+            | inl away ↦
+                slept_still b w.life r past c
+                (subst (λ l. was_powered_down b l past c ≡ true) (sym (same life))
+                (was.slept (before life) (old life number) away))
+                (λ goes. absurd (not_both now (goes_running b r past c next goes).0))
+            | inr ran ↦ absurd (was.rests (before life) (old life number) ran)
+          ];
+    }
 
 pub acks_more : (r : Record) (past : List Record)
     → acks (r ∷ past) ≡ listed (ack_in r.said) ++ acks past

@@ -53,30 +53,24 @@ delivered_so : (b : BoardValue) (past : List Record) (k : ℕ) (m : MessageValue
     → indexed (sent past) k ≡ Some m → (controller_values b past).life ≡ Some m.life
     → AreDelivered b past k m
 unfolding controller_history firmware_history sent acks place after effect_of
-delivered_so b past k m laws at present = record {
-  control = ap (λ s. controls.values_of b (control w (sent past) (Deliver k) s ++ h)) said
-      ∙ ap (λ o. controls.values_of b (delivered o a ++ h)) at
-      ∙ values_more b _ h;
-  firmware = refl;
-  sent = ap (λ s. listed (sent_in s) ++ sent past) said;
-  acks = ap (λ s. listed (ack_in s) ++ acks past) said;
-  place = λ x.
-      ap (λ s. unwrap_or (place_controlled b x (control w (sent past) (Deliver k) s))
-      (place b past x)) said
-      ∙ ap (λ o. unwrap_or (place_controlled b x (delivered o a)) (place b past x)) at;
-}
-  where
-    w : controlled.Values
-    w = controller_values b past
-
-    h : List controller.CtlExchange
-    h = controller_history b past
-
-    a : AckValue
-    a = ack_to b past m
-
-    said : legal b past (Deliver k) ≡ Acked (length (acks past)) a
-    said = delivery_said b past k m at present
+delivered_so b past k m laws at present =
+    let w : controlled.Values = controller_values b past in
+    let h : List controller.CtlExchange = controller_history b past in
+    let a : AckValue = ack_to b past m in
+    let said : legal b past (Deliver k) ≡ Acked (length (acks past)) a =
+    delivery_said b past k m at present in
+    record {
+      control = ap (λ s. controls.values_of b (control w (sent past) (Deliver k) s ++ h)) said
+          ∙ ap (λ o. controls.values_of b (delivered o a ++ h)) at
+          ∙ values_more b _ h;
+      firmware = refl;
+      sent = ap (λ s. listed (sent_in s) ++ sent past) said;
+      acks = ap (λ s. listed (ack_in s) ++ acks past) said;
+      place = λ x.
+          ap (λ s. unwrap_or (place_controlled b x (control w (sent past) (Deliver k) s))
+          (place b past x)) said
+          ∙ ap (λ o. unwrap_or (place_controlled b x (delivered o a)) (place b past x)) at;
+    }
 
 -- An acknowledgement ---------------------------------------------------------------------------
 
@@ -123,31 +117,22 @@ pub answered_so : (b : BoardValue) (past : List Record) (k : ℕ) (m : MessageVa
     → IsLegalPast b past → indexed (sent past) k ≡ Some m
     → (controller_values b past).life ≡ Some m.life
     → taken_by (firmware_values b past) (ack_to b past m) ≡ Used → AreAnswered b past k m
-answered_so b past k m laws is at present used = record {
-  legal = (refl, (refl, is));
-  added = λ before are. grind (arith, nat_tests, one_added);
-  control = two.control ∙ one.control;
-  firmware = two.firmware ∙ ap (with_acknowledgement b a) one.firmware;
-  sent = two.sent ∙ one.sent;
-  place = λ x. two.place x ∙ one.place x;
-  count = λ j. delivered_more j k (legal_record b past (Deliver k)) past refl;
-}
-  where
-    next : List Record
-    next = step b past (Deliver k)
-
-    n : ℕ
-    n = length (acks past)
-
-    a : AckValue
-    a = ack_to b past m
-
-    one : AreDelivered b past k m
-    one = delivered_so b past k m laws at present
-
-    made : indexed (acks next) n ≡ Some a
-    made = ap (λ (l : List AckValue). indexed l n) one.acks ∙ numbered_new a (acks past)
-
-    two : AreTaken b next n a
-    two = taken_so b next n a laws made
-        (ap (λ (v : Values). taken_by v a) one.firmware ∙ used)
+answered_so b past k m laws is at present used =
+    let next : List Record = step b past (Deliver k) in
+    let n : ℕ = length (acks past) in
+    let a : AckValue = ack_to b past m in
+    let one : AreDelivered b past k m = delivered_so b past k m laws at present in
+    let made : indexed (acks next) n ≡ Some a =
+    ap (λ (l : List AckValue). indexed l n) one.acks ∙ numbered_new a (acks past) in
+    let two : AreTaken b next n a =
+    taken_so b next n a laws made
+    (ap (λ (v : Values). taken_by v a) one.firmware ∙ used) in
+    record {
+      legal = (refl, (refl, is));
+      added = λ before are. grind (arith, nat_tests, one_added);
+      control = two.control ∙ one.control;
+      firmware = two.firmware ∙ ap (with_acknowledgement b a) one.firmware;
+      sent = two.sent ∙ one.sent;
+      place = λ x. two.place x ∙ one.place x;
+      count = λ j. delivered_more j k (legal_record b past (Deliver k)) past refl;
+    }

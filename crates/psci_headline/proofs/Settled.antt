@@ -22,41 +22,35 @@ pub record HasSettled (b : BoardValue) (before : List Record) (reached : Reached
 
 settled_at : (b : BoardValue) (before : List Record) (life : ℕ) (reached : Reached)
     → SettleLaws b → HasRest b before life reached → HasSettled b before reached
-settled_at b before life reached laws rest = record {
-  added = added;
-  is = is;
-  settled = record {
-    legal = subst (IsLegalPast b) is going.legal;
-    events = AllPass-from_list_all (λ r. is_settling r.event) added going.added.events;
-    rest = subst (AreAtRest b) is
-        (at_rest b before life reached.past laws going rest.none);
-    few = rest.few;
-    most = λ k m at kind.
-        let low = rest.is.most k m (ap (λ rs. indexed (sent rs) k) is ∙ at) kind in
-        omega (arith, low, times k);
-    some = λ some.
-        let often : IsOften b before reached.rounds reached.past = rest.is.last some in
-        record {
-          number = often.number;
-          message = often.message;
-          at = ap (λ rs. indexed (sent rs) often.number) (sym is) ∙ often.at;
-          kind = often.kind;
-          times = omega (arith, often.times, times often.number);
-        };
-  };
-}
-  where
-    going : IsGoing b before life reached.past
-    going = rest.is.going
-
-    added : List Record
-    added = going.added.records
-
-    is : reached.past ≡ added ++ before
-    is = going.added.is
-
-    times : (k : ℕ) → deliveries k reached.past ≡ deliveries k added + deliveries k before
-    times k = ap (deliveries k) is ∙ deliveries_more k added before
+settled_at b before life reached laws rest =
+    let going : IsGoing b before life reached.past = rest.is.going in
+    let added : List Record = going.added.records in
+    let is : reached.past ≡ added ++ before = going.added.is in
+    let times : (k : ℕ) → deliveries k reached.past ≡ deliveries k added + deliveries k before =
+    λ k. ap (deliveries k) is ∙ deliveries_more k added before in
+    record {
+      added = added;
+      is = is;
+      settled = record {
+        legal = subst (IsLegalPast b) is going.legal;
+        events = AllPass-from_list_all (λ r. is_settling r.event) added going.added.events;
+        rest = subst (AreAtRest b) is
+            (at_rest b before life reached.past laws going rest.none);
+        few = rest.few;
+        most = λ k m at kind.
+            let low = rest.is.most k m (ap (λ rs. indexed (sent rs) k) is ∙ at) kind in
+            omega (arith, low, times k);
+        some = λ some.
+            let often : IsOften b before reached.rounds reached.past = rest.is.last some in
+            record {
+              number = often.number;
+              message = often.message;
+              at = ap (λ rs. indexed (sent rs) often.number) (sym is) ∙ often.at;
+              kind = often.kind;
+              times = omega (arith, often.times, times often.number);
+            };
+      };
+    }
 
 pub settles : (b : BoardValue) (past : List Record) → SettleLaws b → IsLegalPast b past
     → is_halting b past ≡ false → HasSettled b past (settled b past)
