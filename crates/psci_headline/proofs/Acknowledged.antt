@@ -2,10 +2,10 @@
 use Rattle.psci_headline.proofs.Words.{◌++◌, ◌<◌, ◌∙◌, ◌∷◌, ◌≡◌, [], ack_by, AckValue, ap, applied}
 use Rattle.psci_headline.proofs.Words.{AreValues, arith, BoardValue, confirms_on, controller_values}
 use Rattle.psci_headline.proofs.Words.{Deepens, firmware_values, HasNode, Holds, hw_at, inr}
-use Rattle.psci_headline.proofs.Words.{IsAwaited, known_below, List, message_effect, MessageValue}
-use Rattle.psci_headline.proofs.Words.{nat_tests, Node, NonePending, OfCore, part_from, PathLaws}
-use Rattle.psci_headline.proofs.Words.{Record, sent_in, slice_get, slot_of, Some, starts_below}
-use Rattle.psci_headline.proofs.Words.{subst, sym, take, true, up, Values, was_in_state, WasMade, ℕ}
+use Rattle.psci_headline.proofs.Words.{IsAwaited, known_below, List, MessageValue, nat_tests, Node}
+use Rattle.psci_headline.proofs.Words.{NonePending, OfCore, part_from, PathLaws, Record, sent_in}
+use Rattle.psci_headline.proofs.Words.{slice_get, slot_of, Some, starts_below, subst, sym, take}
+use Rattle.psci_headline.proofs.Words.{true, up, Values, was_in_state, WasMade, ℕ}
 use Rattle.psci_ctl_spec.specs.Changes.{change}
 use Rattle.psci_fw_laws.proofs.Consequences.{none_active, once_down}
 use Rattle.psci_world_spec.specs.Histories.{sent}
@@ -82,14 +82,7 @@ module _ (b : BoardValue) (past : List Record) (a : AckValue) (t : IsTaken b pas
       let one : m ≡ by.message = cc (sym awaits.at ∙ by.slot) in
       let name = named a m awaits.answers in
       let of_core = t.holds.slots.core a.core.number by.message slot in
-      same_message (sent past) was_sent.index of_core.listed.index delivered by.message was_sent.at
-      of_core.listed.at
-      (once_down b v (sent past) t.holds was_sent.index of_core.listed.index delivered by.message
-      was_sent.at of_core.listed.at kind (sym (ap (λ (x : MessageValue). x.kind) one)
-      ∙ sym name.kind ∙ by.kind)
-      (sym of.core ∙ sym of_core.core)
-      (sym of.life ∙ name.life ∙ ap (λ (x : MessageValue). x.life) one)
-      (sym of.number ∙ name.number ∙ ap (λ (x : MessageValue). x.number) one))
+      grind (arith, nat_tests, same_message, was_sent, once_down, kind, of)
 
   part_at : slice_get delivered.parts n.level ≡ Some by.part
   part_at = ap (λ (x : MessageValue). slice_get x.parts n.level) same ∙ by.at

@@ -49,10 +49,8 @@ sender_rests b v messages a m laws holds d life number runs =
     let core : a.core.number ≡ c = d.ack.core in
     let claim = part_from b v.life 0 (up b 0 c) m p
     (record { kind = d.kind; present = present; on = refl; part = d.first.at }) in
-    let sum : known_below b v.known 0 (up b 0 c) ≡ v.known c =
-    ap (known_below b v.known 0) (laws.own c) ∙ laws.known v.known c sound.core in
-    let current : p.generation ≡ known_below b v.known 0 (up b 0 c) =
-    sound.first p d.first.at ∙ sym d.ack.number ∙ number ∙ ap v.known core ∙ sym sum in
+    let sum : known_below b v.known 0 (up b 0 c) ≡ v.known c = grind (arith, nat_tests) in
+    let current : p.generation ≡ known_below b v.known 0 (up b 0 c) = grind (arith, nat_tests) in
     holds.quiet 0 (up b 0 c) p
     (inr (record { index = d.index; message = m; at = d.at; part = claim })) current c sound.core
     refl (ap v.phase (sym core) ∙ runs)
@@ -80,9 +78,4 @@ new_is_down b r past a laws holds new kind some =
     let d : IsOfDown (sent past) a m = grind (arith, nat_tests, first_part) in
     let deep = now_deep b (controller_values b past) (controller_values b (r ∷ past)) m a
     a.core.number d.first.item laws down (sym of.core) new.values d.first.at some in
-    record {
-      begun = omega (arith, of.life, sent_one.begun);
-      number = λ life. grind (arith, nat_tests);
-      rests = sender_rests b v (sent past) a m laws holds d;
-      slept = λ life number away. grind (arith, nat_tests, slept_now, asleep_from);
-    }
+    grind (arith, nat_tests, sender_rests, slept_now, asleep_from)

@@ -1,13 +1,13 @@
 -- Firmware and power controller agree after every legal run.
-use Rattle.psci_headline.proofs.Words.{◌++◌, ◌∷◌, ◌≡◌, [], acks, AckValue, Agree, arith, BoardValue}
-use Rattle.psci_headline.proofs.Words.{Call, change, control, controller_values, Deliver, delivered}
+use Rattle.psci_headline.proofs.Words.{◌++◌, ◌∷◌, ◌≡◌, [], AckValue, Agree, arith, BoardValue, Call}
+use Rattle.psci_headline.proofs.Words.{change, control, controller_values, Deliver, delivered}
 use Rattle.psci_headline.proofs.Words.{effect, Enter, entered, Event, firmware_values}
 use Rattle.psci_headline.proofs.Words.{function_effect, indexed, IsAllowed, IsLegal, IsLegalPast}
 use Rattle.psci_headline.proofs.Words.{last_start, legal, List, MayFollow, MessageValue, nat_tests}
 use Rattle.psci_headline.proofs.Words.{None, Option, option_map, outcome_in, Place}
 use Rattle.psci_headline.proofs.Words.{place_controlled, place_said, Record, refl, Regs, request_of}
 use Rattle.psci_headline.proofs.Words.{Reset, Said, sent, Some, Start, start_of_life, subst, sym}
-use Rattle.psci_headline.proofs.Words.{Take, Taken, took, unwrap_or, Values, values_more, Wake, ℕ}
+use Rattle.psci_headline.proofs.Words.{Take, unwrap_or, Values, values_more, Wake, ℕ}
 use Rattle.psci_ctl_spec.specs.Replies.{reply}
 use Rattle.psci_ctl_spec.specs.declared.call.CtlCall.{CtlCall}
 use Rattle.psci_world_spec.specs.Histories.{controller_history, firmware_history}

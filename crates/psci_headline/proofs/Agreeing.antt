@@ -1,9 +1,8 @@
 -- What firmware and power controller know of each other, as a life begins, and as the controller
 -- goes on.
-use Rattle.psci_headline.proofs.Words.{◌+◌, ◌==◌, ◌∙◌, ◌≡◌, ◌≤◌, AgreeIn, ap, arith, BoardValue}
-use Rattle.psci_headline.proofs.Words.{cond-false, cond-true, eq-eqb, first_starts, in_life}
-use Rattle.psci_headline.proofs.Words.{MayFollow, nat_tests, ne_eqb, next_life, None, Option, Place}
-use Rattle.psci_headline.proofs.Words.{place_of_effect, Some, start_of_life, Stopped, sym}
+use Rattle.psci_headline.proofs.Words.{◌≡◌, ◌≤◌, AgreeIn, arith, BoardValue, cond-false, cond-true}
+use Rattle.psci_headline.proofs.Words.{eq-eqb, first_starts, in_life, MayFollow, nat_tests, ne_eqb}
+use Rattle.psci_headline.proofs.Words.{None, Place, place_of_effect, Some, start_of_life, Stopped}
 use Rattle.psci_headline.proofs.Words.{unwrap_or, Values, ℕ}
 use Rattle.psci_ctl_spec.specs.Changes.{change}
 use Rattle.psci_ctl_spec.specs.Effects.{Effect}

@@ -1,9 +1,8 @@
 -- Worked examples: what the firmware and the power controller know of each other in two runs, and
 -- records and values of which just one thing is not so.
-use Rattle.std.proofs.Common.{◌≡◌, ◌≤◌, ◌<◌, ℕ, zero, suc, pos, Bool, true, false, cond, ◌==◌}
-use Rattle.std.proofs.Common.{◌+◌, List, [], ◌∷◌, None, Some, unwrap_or, refl, arith, subst}
+use Rattle.std.proofs.Common.{◌≡◌, ◌≤◌, ◌<◌, pos, Bool, cond, ◌==◌, ◌+◌, List, [], ◌∷◌, None, Some}
+use Rattle.std.proofs.Common.{unwrap_or, refl, arith, subst}
 use Rattle.std.proofs.lemmas.Option.{same_Some}
-use Rattle.psci_board.specs.Board.{cores}
 use Rattle.psci_ctl_spec.specs.psci_messages.declared.start.Cause.TheVariants as causes
 use Rattle.psci_ctl_spec.specs.psci_messages.OnlyIf.{only_if}
 use Rattle.psci_fw_laws.specs.psci_fw_spec.Lives.{in_life, start_of_life}
@@ -15,10 +14,9 @@ use Rattle.psci_world_spec.specs.declared.said.Record.{Record}
 use Rattle.psci_world_spec.specs.Histories.{controller_values, firmware_values}
 use Rattle.psci_world_spec.specs.Legal.{run_from}
 use Rattle.psci_world_spec.specs.Places.{place}
-use Rattle.psci_world_spec.proofs.Scripts.{board, call, computing}
-use Rattle.psci_world_spec.proofs.Scripts.{nothing, on_3, retention, returns}
-use Rattle.psci_world_spec.proofs.Scripts.{started, stops}
-use Rattle.psci_world_spec.proofs.Scripts.{system_off, system_reset, version}
+use Rattle.psci_world_spec.proofs.Scripts.{board, call, computing, nothing, on_3, retention}
+use Rattle.psci_world_spec.proofs.Scripts.{returns, started, stops, system_off, system_reset}
+use Rattle.psci_world_spec.proofs.Scripts.{version}
 use Rattle.psci_headline.specs.Agreement.{Agree, AgreeIn}
 use Rattle.psci_headline.proofs.Checking.{by_core}
 

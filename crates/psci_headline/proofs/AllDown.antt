@@ -15,10 +15,8 @@ use Rattle.psci_headline.proofs.Deliveries.{life_before}
 use Rattle.psci_headline.proofs.Nexts.{IsNext, acks_more, by_ack, goes_running}
 use Rattle.psci_headline.proofs.Moves.{FirmwareLaws, Moves, moves}
 use Rattle.psci_headline.proofs.Slept.{asleep_from, report, reported, slept_now, slept_still}
-use Rattle.psci_ctl_spec.specs.History as controls
 use Rattle.psci_ctl_spec.specs.Values as controlled
 use Rattle.psci_fw_laws.specs.psci_fw_spec.declared.status.Status.TheVariants as statuses
-use Rattle.psci_fw_laws.specs.psci_fw_spec.History as remembers
 
 -- Lives that the firmware does not know of -----------------------------------------------------
 

@@ -1,9 +1,8 @@
 -- The world is safe at a moment, and at every moment, where the tests say so.
-use Rattle.psci_headline.proofs.Words.{arith, nat_tests}
 use Rattle.psci_headline.proofs.Words.{◌&&◌, ◌↔◌, ◌∷◌, ◌≡◌, [], AlwaysSafe, and_from, and_parts}
-use Rattle.psci_headline.proofs.Words.{BoardValue, is_always_safe, is_asked, is_each_once}
+use Rattle.psci_headline.proofs.Words.{arith, BoardValue, is_always_safe, is_asked, is_each_once}
 use Rattle.psci_headline.proofs.Words.{is_each_open, is_off_down, is_off_stopped, is_one}
-use Rattle.psci_headline.proofs.Words.{is_powered, is_safe, List, Record, Safe, true}
+use Rattle.psci_headline.proofs.Words.{is_powered, is_safe, List, nat_tests, Record, Safe, true}
 use Rattle.psci_headline.proofs.Once.{entries_tested}
 use Rattle.psci_headline.proofs.Tested.{asked_tested, off_tested, one_tested, powered_tested}
 use Rattle.psci_headline.proofs.Tested.{states_tested}

@@ -4,9 +4,9 @@ use Rattle.psci_headline.proofs.Words.{AreConfirming, arith, Away, BoardValue, B
 use Rattle.psci_headline.proofs.Words.{changed, cond, cond_both, confirms_on, eq-eqb, Holds, inl}
 use Rattle.psci_headline.proofs.Words.{inr, IsConfirmedOr, IsOffOr, IsOutstanding, IsTold}
 use Rattle.psci_headline.proofs.Words.{IsYetToCome, List, lt-ltb, MessageValue, nat_tests, Off}
-use Rattle.psci_headline.proofs.Words.{Option, PathLaws, refl, Slot, slot_of, Some, Status, sym}
-use Rattle.psci_headline.proofs.Words.{true, turns_off, Values, WasTold, with_acknowledgement, ℕ}
-use Rattle.psci_headline.specs.psci_fw_spec.Confirmed.{applied_part}
+use Rattle.psci_headline.proofs.Words.{Option, PathLaws, refl, Slot, Status, sym, true, Values}
+use Rattle.psci_headline.proofs.Words.{WasTold, with_acknowledgement, ℕ}
+use Rattle.psci_headline.specs.psci_fw_spec.Changes.{turns_off}
 use Rattle.psci_headline.specs.psci_fw_laws.KnownBelow.{known_below}
 use Rattle.psci_headline.proofs.fw_laws.Consequences.{once_down}
 use Rattle.psci_headline.proofs.fw_laws.Parts.{updated_at}
@@ -45,9 +45,7 @@ module _ (b : BoardValue) (starts : ℕ → ℕ) (depth : ℕ → ℕ → ℕ) (
       let m : MessageValue = is.message in
       let of = t.holds.slots.core m.core.number m is.at in
       let mine = named a m emptied.answers in
-      let told : IsTold b starts depth a m =
-      told_of is.kind emptied sent of.listed.index (once_down b v sent t.holds)
-      (t.told (mine.life ∙ of.listed.present)) of.listed.at in
+      let told : IsTold b starts depth a m = grind (arith, nat_tests, told_of, once_down) in
       none_left is.kind emptied told level is.part high is.listed
       (is.current ∙ same ∙ ap (known_below b starts level) (sym is.on))
 

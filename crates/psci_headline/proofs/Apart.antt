@@ -1,9 +1,9 @@
 -- Different claims on one domain in one life have different generations.
 use Rattle.psci_headline.proofs.Words.{◌++◌, ◌<◌, ◌∷◌, ◌≡◌, [], ap, AreRising, arith, BoardValue}
-use Rattle.psci_headline.proofs.Words.{Bool, Claim, claim_by, cond, false, firmware_values, HasNode}
-use Rattle.psci_headline.proofs.Words.{inl, inr, is_on_path, List, listed, MessageValue, nat_tests}
-use Rattle.psci_headline.proofs.Words.{Node, None, Option, option_map, Part, part_for, Record, refl}
-use Rattle.psci_headline.proofs.Words.{sent_in, slice_get, Some, suc, true, Values, ℕ}
+use Rattle.psci_headline.proofs.Words.{Bool, Claim, claim_by, cond, firmware_values, HasNode, inl}
+use Rattle.psci_headline.proofs.Words.{inr, is_on_path, List, listed, MessageValue, nat_tests, Node}
+use Rattle.psci_headline.proofs.Words.{None, Option, option_map, Part, part_for, Record, refl}
+use Rattle.psci_headline.proofs.Words.{sent_in, slice_get, Some, suc, Values, ℕ}
 use Rattle.psci_world_spec.specs.Histories.{sent}
 use Rattle.psci_headline.specs.Claims.{claims}
 use Rattle.psci_headline.proofs.Claiming.{HasSource, source, with_claim_of}

@@ -1,17 +1,14 @@
 -- What it means that an acknowledgement confirms a claim, and what parts that were applied say.
 use Rattle.std.proofs.lemmas.List.Sums.{prefix_len_passes}
-use Rattle.psci_headline.proofs.Words.{◌&&◌, ◌+◌, ◌<◌, ◌==◌, ◌∙◌, ◌∷◌, ◌≡◌, ◌≤◌, [], AckValue}
-use Rattle.psci_headline.proofs.Words.{and_from, and_parts, ap, ArePartsOf, arith, BoardValue, Bool}
-use Rattle.psci_headline.proofs.Words.{confirms_on, eq-eqb, eqb-true, false, get_or_from_slice_get}
-use Rattle.psci_headline.proofs.Words.{get_take, height, is_applied, is_kind, is_path_place, Kind}
-use Rattle.psci_headline.proofs.Words.{laid, le-leb, List, ltb-true, MessageValue, nat_lt}
-use Rattle.psci_headline.proofs.Words.{nat_tests, None, Option, option_and_then, Part, refl, sent}
+use Rattle.psci_headline.proofs.Words.{◌+◌, ◌<◌, ◌∙◌, ◌∷◌, ◌≡◌, ◌≤◌, [], AckValue, and_from}
+use Rattle.psci_headline.proofs.Words.{and_parts, ap, ArePartsOf, arith, BoardValue, Bool}
+use Rattle.psci_headline.proofs.Words.{confirms_on, eq-eqb, eqb-true, get_or_from_slice_get}
+use Rattle.psci_headline.proofs.Words.{get_take, height, is_applied, Kind, laid, le-leb, List}
+use Rattle.psci_headline.proofs.Words.{ltb-true, MessageValue, nat_tests, Option, Part, sent}
 use Rattle.psci_headline.proofs.Words.{slice_get, slot_of, Some, starts_below, suc, sym, take, true}
 use Rattle.psci_headline.proofs.Words.{up, Values, zero, ℕ}
 use Rattle.psci_ctl_spec.specs.Parts.{applied, is_live}
-use Rattle.psci_fw_laws.specs.psci_fw_spec.Confirmed.{is_made_at}
 use Rattle.psci_ctl_spec.specs.psci_messages.Message.{is_climbing}
-use Rattle.psci_ctl_spec.specs.psci_messages.OnlyIf.{only_if}
 use Rattle.psci_fw_laws.specs.KnownBelow.{known_below}
 use Rattle.psci_headline.proofs.Taking.{same_kind}
 use Rattle.psci_ctl_spec.specs.Values as controlled

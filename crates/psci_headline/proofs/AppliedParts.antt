@@ -1,17 +1,15 @@
 -- A part that was applied in this life is one of a Down that was sent in it.
-use Rattle.psci_headline.proofs.Words.{◌++◌, ◌∷◌, ◌≡◌, [], Acked, AckValue, and_parts, arith}
-use Rattle.psci_headline.proofs.Words.{BoardValue, control, controller_values, Deepens, Deliver}
-use Rattle.psci_headline.proofs.Words.{delivered, eqb-true, Event, false≢true, indexed, is_on_path}
-use Rattle.psci_headline.proofs.Words.{IsReplied, Kind, List, listed, message_effect, MessageValue}
-use Rattle.psci_headline.proofs.Words.{nat_tests, None, Option, Part, part_from, Record, refl}
-use Rattle.psci_headline.proofs.Words.{Reset, Said, same_Some, sent_in, slice_get, Some, suc}
-use Rattle.psci_headline.proofs.Words.{take_get, true, Wake, ℕ}
+use Rattle.psci_headline.proofs.Words.{◌++◌, ◌∷◌, ◌≡◌, [], AckValue, and_parts, arith, BoardValue}
+use Rattle.psci_headline.proofs.Words.{control, Deliver, delivered, eqb-true, Event, false≢true}
+use Rattle.psci_headline.proofs.Words.{indexed, is_on_path, IsReplied, Kind, List, listed}
+use Rattle.psci_headline.proofs.Words.{message_effect, MessageValue, nat_tests, None, Option, Part}
+use Rattle.psci_headline.proofs.Words.{part_from, Record, Said, same_Some, slice_get, Some, suc}
+use Rattle.psci_headline.proofs.Words.{take_get, true, ℕ}
 use Rattle.psci_ctl_spec.specs.Effects.{Effect, effect_of}
 use Rattle.psci_ctl_spec.specs.Lasting.{Applies, WasApplied, keeps_life}
 use Rattle.psci_ctl_spec.specs.Replies.{delivery_of, reply}
 use Rattle.psci_ctl_spec.specs.Values.{Values}
 use Rattle.psci_fw_laws.specs.Claims.{IsFromMessage}
-use Rattle.psci_world_spec.specs.declared.said.Said.TheVariants.{Kick}
 use Rattle.psci_world_spec.specs.Histories.{controller_history, sent}
 use Rattle.psci_headline.proofs.Deliveries.{present_life}
 use Rattle.psci_headline.proofs.Items.{IsListed, at_number}

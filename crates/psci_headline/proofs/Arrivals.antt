@@ -8,18 +8,17 @@ use Rattle.psci_headline.proofs.Words.{lt-ltb, MessageValue, nat_tests, ne_eqb, 
 use Rattle.psci_headline.proofs.Words.{OfCore, Option, option_map, Outcome, outcome_in, place_after}
 use Rattle.psci_headline.proofs.Words.{place_said, Record, refl, Sent, sent_in, Some, Start}
 use Rattle.psci_headline.proofs.Words.{Started, step, subst, sym, unwrap_or, Values, ℕ}
+use Rattle.psci_headline.specs.psci_world_spec.Legal.{sent_as, legal}
 use Rattle.psci_fw_laws.specs.psci_fw_spec.Entering.{enter_outcome}
 use Rattle.psci_headline.specs.psci_fw_spec.Answer.{answer}
 use Rattle.psci_headline.specs.psci_world_spec.Histories.{controller_history, firmware_history}
 use Rattle.psci_headline.specs.psci_world_spec.Histories.{sent}
-use Rattle.psci_headline.specs.psci_world_spec.Legal.{legal, sent_as}
 use Rattle.psci_headline.specs.psci_world_spec.Places.{place}
 use Rattle.psci_headline.proofs.world_spec.Answered.{firmware_legal}
 use Rattle.psci_headline.proofs.Agreed.{RunLaws}
 use Rattle.psci_headline.proofs.Finding.{numbered_old}
 use Rattle.psci_ctl_spec.specs.psci_messages.declared.kind.Kind.TheVariants as kinds
 use Rattle.psci_headline.specs.psci_fw_spec.declared.call.FwCall.TheVariants as calls
-use Rattle.psci_headline.specs.psci_fw_spec.declared.outcome.Act.TheVariants as acts
 use Rattle.psci_headline.specs.psci_fw_spec.declared.reply.FwReply.TheVariants as replies
 use Rattle.psci_headline.specs.psci_fw_spec.Exchange as firmware
 use Rattle.psci_headline.specs.psci_fw_spec.History as remembers
@@ -96,8 +95,7 @@ arrives b past c laws is free on at = record {
   here = λ e. not_started out.act
       (sym (ap (λ o. unwrap_or o (place b past c)) (cond-true (c == c) _ None (eq-eqb c c refl)))
       ∙ sym (said_place c) ∙ e);
-  there = λ x ne. said_place x
-      ∙ ap (λ o. unwrap_or o (place b past x)) (cond-false (x == c) _ None (ne_eqb x c ne));
+  there = λ x ne. grind (arith, nat_tests, said_place, cond-false, ne_eqb);
 }
   where
     out : HasOutcome b past c

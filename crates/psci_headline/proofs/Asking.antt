@@ -1,18 +1,13 @@
 -- Each claim of a list was asked for when it was made.
-use Rattle.psci_headline.proofs.Words.{◌+◌, ◌<◌, ◌∙◌, ◌∷◌, ◌≡◌, ◌≤◌, [], and_from, ap, arith, below}
+use Rattle.psci_headline.proofs.Words.{◌+◌, ◌<◌, ◌∷◌, ◌≡◌, ◌≤◌, [], and_from, arith, below}
 use Rattle.psci_headline.proofs.Words.{BoardValue, Bool, Claim, claim_by, cond, cond-true}
 use Rattle.psci_headline.proofs.Words.{cond_both, cores, eq-eqb, eqb-true, false, filter}
 use Rattle.psci_headline.proofs.Words.{firmware_values, HasNode, is_on_path, IsAskedFor, le-leb}
-use Rattle.psci_headline.proofs.Words.{List, list_all, MessageValue, nat_le, nat_tests, Node, Part}
+use Rattle.psci_headline.proofs.Words.{List, list_all, MessageValue, nat_tests, Node, Part}
 use Rattle.psci_headline.proofs.Words.{part_for, part_has, range_with_len, Record, refl, sent_in}
-use Rattle.psci_headline.proofs.Words.{slice_get, Some, start_of_life, suc, SuspendMode, sym, true}
-use Rattle.psci_headline.proofs.Words.{Values, zero, ℕ}
+use Rattle.psci_headline.proofs.Words.{slice_get, Some, start_of_life, suc, true, Values, zero, ℕ}
 use Rattle.psci_board.specs.Board.{up}
-use Rattle.psci_fw_laws.specs.psci_fw_spec.declared.mode.SuspendMode.TheVariants.{Platform}
-use Rattle.psci_fw_laws.specs.psci_fw_spec.declared.mode.SuspendMode.TheVariants.{OsInitiated}
-use Rattle.psci_fw_laws.specs.psci_fw_spec.Views.{ask}
-use Rattle.psci_fw_laws.proofs.Parts.{HasPart}
-use Rattle.psci_headline.specs.Claims.{all_ask, asks_by, claims}
+use Rattle.psci_headline.specs.Claims.{all_ask, claims}
 use Rattle.psci_headline.proofs.Claiming.{by_claim}
 
 -- All cores below a domain ---------------------------------------------------------------------

@@ -1,9 +1,9 @@
 -- What is so once the started cores have entered and each Start was served.
 use Rattle.psci_headline.proofs.Words.{◌<◌, ◌∙◌, ◌≡◌, ◌⊎◌, ap, arith, BoardValue, controller_values}
 use Rattle.psci_headline.proofs.Words.{cores, deliveries, Enter, entering, false, firmware_values}
-use Rattle.psci_headline.proofs.Words.{in_life, indexed, inl, inr, IsLegalPast, legal_record, List}
-use Rattle.psci_headline.proofs.Words.{MessageValue, nat_tests, OfCore, place, Record, refl, sent}
-use Rattle.psci_headline.proofs.Words.{Some, Started, step, subst, sym, Values, ℕ}
+use Rattle.psci_headline.proofs.Words.{in_life, indexed, IsLegalPast, List, MessageValue, nat_tests}
+use Rattle.psci_headline.proofs.Words.{OfCore, place, Record, sent, Some, Started, step, subst, sym}
+use Rattle.psci_headline.proofs.Words.{Values, ℕ}
 use Rattle.psci_headline.proofs.fw_laws.Arriving.{found_life}
 use Rattle.psci_headline.proofs.Agreeing.{found_own}
 use Rattle.psci_headline.proofs.Moving.{entry_moves}
@@ -13,7 +13,6 @@ use Rattle.psci_headline.proofs.Arrivals.{same_control, same_numbers}
 use Rattle.psci_headline.proofs.Counting.{AreAdded, one_added}
 use Rattle.psci_headline.proofs.Folding.{IsStep}
 use Rattle.psci_headline.proofs.Standing.{SettleLaws}
-use Rattle.psci_ctl_spec.specs.Values as controlled
 use Rattle.psci_ctl_spec.specs.psci_messages.declared.kind.Kind.TheVariants as kinds
 
 -- The Start of this number was sent.
@@ -66,32 +65,16 @@ enters_in : (b : BoardValue) (before : List Record) (life : ℕ) (past : List Re
 enters_in b before life past c laws way on at =
     let v : Values = firmware_values b past in
     let w : Values = firmware_values b (step b past (Enter c)) in
-    let is : HaveArrived b past c =
-    arrives b past c laws.runs way.legal (laws.past past way.legal).free on at in
-    let same : is.start.life ≡ life =
-    let f : Some is.start.life ≡ Some life =
-    sym (last_is (controller_values b past) c is.start is.last).life ∙ way.present in cc in
+    let is : HaveArrived b past c = grind (arith, nat_tests, arrives) in
+    let same : is.start.life ≡ life = grind (arith, nat_tests, last_is) in
     let own : w.life ≡ life =
     ap (λ (u : Values). u.life) is.firmware
     ∙ (entry_moves b v c is.start is.act is.message).life
     ∙ found_life b v is.start.life ∙ same in
     let halting : w.halting ≡ (in_life b life v).halting =
-    ap (λ (u : Values). u.halting) is.firmware
-    ∙ entry_halting b v c is.start is.act is.message
-    ∙ ap (λ l. (in_life b l v).halting) same in
+    grind (arith, nat_tests, entry_halting) in
     record {
-      way = record {
-        legal = (refl, way.legal);
-        added = one_added before past (legal_record b past (Enter c)) refl way.added;
-        present = ap (λ (w : controlled.Values). w.life) (same_control b past c) ∙ way.present;
-        awake = ap (λ (u : Values). u.halting) (found_own b life w (sym own)) ∙ halting ∙ way.awake;
-        count = λ j. elim (way.count j) [
-          | inl same ↦ inl same
-          | inr start ↦
-              inr (more_starts (sent past) j start (sent (step b past (Enter c)))
-              (λ m e. ap (λ l. indexed l j) is.sent ∙ same_numbers (sent past) is.message j m e))
-        ];
-      };
+      way = grind (arith, nat_tests, one_added, same_control, found_own, more_starts, same_numbers);
       own = own;
       slots = λ x m e start.
           subst (λ l. (in_life b l v).outstanding (OfCore x) ≡ Some m) same

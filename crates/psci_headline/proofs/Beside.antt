@@ -1,14 +1,13 @@
 -- What is told of the domains beside a core's path, as the core stops, enters or is asked on; and
 -- what is then told of all.
-use Rattle.psci_headline.proofs.Words.{◌<◌, ◌∙◌, ◌≡◌, ◌⊎◌, ap, AreConfirming, arith, Away}
-use Rattle.psci_headline.proofs.Words.{BoardValue, Bool, cases_eq, changed, claimed_or, cond, cores}
-use Rattle.psci_headline.proofs.Words.{false, in_life, inl, inr, is_path_place, IsConfirmedOr}
-use Rattle.psci_headline.proofs.Words.{IsOffOr, IsOutstanding, IsYetToCome, known_on, KnownLaws}
-use Rattle.psci_headline.proofs.Words.{MessageValue, nat_tests, None, OfCore, Option, Part}
-use Rattle.psci_headline.proofs.Words.{PathLaws, Phase, PowerOn, Put, refl, Rest, slice_get, Slot}
-use Rattle.psci_headline.proofs.Words.{slot_of, Some, Start, subst, sym, target, true}
-use Rattle.psci_headline.proofs.Words.{unless_claimed, up, Values, with_arrival, with_pending}
-use Rattle.psci_headline.proofs.Words.{with_phase, with_rest, ℕ}
+use Rattle.psci_headline.proofs.Words.{◌<◌, ◌∙◌, ◌≡◌, ap, AreConfirming, arith, Away, BoardValue}
+use Rattle.psci_headline.proofs.Words.{cases_eq, changed, cond, cores, false, in_life, inl, inr}
+use Rattle.psci_headline.proofs.Words.{is_path_place, IsConfirmedOr, IsOffOr, IsOutstanding}
+use Rattle.psci_headline.proofs.Words.{IsYetToCome, known_on, KnownLaws, MessageValue, nat_tests}
+use Rattle.psci_headline.proofs.Words.{OfCore, Option, Part, PathLaws, Phase, PowerOn, Put, Rest}
+use Rattle.psci_headline.proofs.Words.{slice_get, Slot, slot_of, Some, Start, subst, target, true}
+use Rattle.psci_headline.proofs.Words.{up, Values, with_arrival, with_pending, with_phase}
+use Rattle.psci_headline.proofs.Words.{with_rest, ℕ}
 use Rattle.psci_headline.specs.psci_fw_spec.Changes.{with_claims, with_running}
 use Rattle.psci_headline.proofs.fw_laws.Parts.{updated_here, updated_there}
 use Rattle.psci_headline.proofs.Slots.{clear_there, put_here, put_there}

@@ -1,10 +1,9 @@
 -- How many rounds there are until nothing is outstanding, and how often a Down is delivered.
-use Rattle.psci_headline.proofs.Words.{nat_tests}
 use Rattle.std.specs.Prelude.{is_some}
-use Rattle.psci_headline.proofs.Words.{◌+◌, ◌<◌, ◌||◌, ◌∙◌, ◌≡◌, ◌≤◌, ap, arith, BoardValue, Bool}
+use Rattle.psci_headline.proofs.Words.{◌+◌, ◌<◌, ◌∙◌, ◌≡◌, ◌≤◌, ap, arith, BoardValue, Bool}
 use Rattle.psci_headline.proofs.Words.{cases_lt, cond, controller_values, cores, deliveries, false}
-use Rattle.psci_headline.proofs.Words.{firmware_values, height, indexed, inl, inr, is_any, List}
-use Rattle.psci_headline.proofs.Words.{list_any, MessageValue, None, Option, or_parts}
+use Rattle.psci_headline.proofs.Words.{firmware_values, height, indexed, is_any, List, list_any}
+use Rattle.psci_headline.proofs.Words.{MessageValue, nat_tests, None, Option, or_parts}
 use Rattle.psci_headline.proofs.Words.{range_with_len, Reached, Record, refl, sent, served}
 use Rattle.psci_headline.proofs.Words.{slice_get_within, Some, subst, suc, sym, true, zero, ℕ}
 use Rattle.psci_headline.specs.Settling.{is_waiting, round, rounds}

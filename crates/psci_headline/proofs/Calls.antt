@@ -5,7 +5,7 @@ use Rattle.psci_headline.proofs.Words.{Effect, enter_effect, false, GoesOn, Halt
 use Rattle.psci_headline.proofs.Words.{IsAllowed, Kind, List, MessageValue, nat_tests, None, Option}
 use Rattle.psci_headline.proofs.Words.{Pending, Phase, Rests, SetsMode, slot_of, Some, Start, Stops}
 use Rattle.psci_headline.proofs.Words.{subst, sym, target, true, unless_pending, updated, Values}
-use Rattle.psci_headline.proofs.Words.{WaitingIn, with_mode, ℕ}
+use Rattle.psci_headline.proofs.Words.{WaitingIn, ℕ}
 use Rattle.psci_headline.specs.psci_fw_spec.Phases.{Running}
 use Rattle.psci_headline.proofs.fw_laws.Parts.{updated_here}
 use Rattle.psci_headline.proofs.Slots.{system_slot, down_slot}

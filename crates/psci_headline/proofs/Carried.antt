@@ -1,15 +1,14 @@
 -- What waits, after one call of the power controller or of the firmware.
 use Rattle.psci_headline.proofs.Words.{◌++◌, ◌+◌, ◌<◌, ◌∙◌, ◌∷◌, ◌≡◌, ◌≤◌, ack_by, AckLaws}
-use Rattle.psci_headline.proofs.Words.{AckValue, Act, ap, AreClaims, AreLive, AreOutstanding}
+use Rattle.psci_headline.proofs.Words.{Acknowledges, AckValue, Act, AreClaims, AreOutstanding}
 use Rattle.psci_headline.proofs.Words.{AreSent, arith, BoardValue, Bool, cases_eq, Cause, change}
-use Rattle.psci_headline.proofs.Words.{cond, cores, Effect, enter_effect, false, Holds, in_life}
-use Rattle.psci_headline.proofs.Words.{inl, inr, IsAllowed, IsNamed, Kind, last_start, List}
-use Rattle.psci_headline.proofs.Words.{may_follow, MayFollow, message_effect, MessageValue, nat_lt}
-use Rattle.psci_headline.proofs.Words.{nat_tests, next_life, Nothing, Option, Part, PartByPart}
-use Rattle.psci_headline.proofs.Words.{PathLaws, Place, refl, slice_get, Some, Start, Starts, subst}
-use Rattle.psci_headline.proofs.Words.{Acknowledges, Enters, None, Parks, StopsAtOnce}
-use Rattle.psci_headline.proofs.Words.{suc, SumLaws, sym, true, Values, WaitingIn}
-use Rattle.psci_headline.proofs.Words.{with_acknowledgement, zero, ℕ}
+use Rattle.psci_headline.proofs.Words.{cond, cores, Effect, enter_effect, Enters, false, Holds}
+use Rattle.psci_headline.proofs.Words.{in_life, inl, inr, IsAllowed, IsEntering, IsNamed, Kind}
+use Rattle.psci_headline.proofs.Words.{List, may_follow, MayFollow, message_effect, MessageValue}
+use Rattle.psci_headline.proofs.Words.{nat_lt, nat_tests, None, Nothing, Option, Parks, Part}
+use Rattle.psci_headline.proofs.Words.{PartByPart, PathLaws, Place, refl, slice_get, Some, Start}
+use Rattle.psci_headline.proofs.Words.{Starts, StopsAtOnce, subst, suc, SumLaws, sym, true, Values}
+use Rattle.psci_headline.proofs.Words.{WaitingIn, with_acknowledgement, zero, ℕ}
 use Rattle.psci_ctl_spec.specs.Effects.{Ends, Begins}
 use Rattle.psci_headline.proofs.fw_laws.Arriving.{found_life}
 use Rattle.psci_headline.proofs.fw_laws.Consequences.{once_down}
@@ -21,7 +20,6 @@ use Rattle.psci_headline.proofs.Moving.{CallerLaws, call_moves, entry_moves, is_
 use Rattle.psci_headline.proofs.Placing.{IsLast}
 use Rattle.psci_headline.proofs.Pursuing.{waiting_other}
 use Rattle.psci_headline.proofs.Records.{IsOfRecord}
-use Rattle.psci_fw_laws.specs.Allowed.{IsEntering}
 use Rattle.psci_headline.proofs.Calls.{call_waits, entry_waits}
 use Rattle.psci_headline.proofs.Controls.{IsKnown, begun_waits, down_waits, start_told, start_waits}
 use Rattle.psci_headline.proofs.Taking.{waiting_taken}
@@ -75,11 +73,9 @@ present_known b w place v sent life given e =
       messages = subst (λ l. AreSent b l found.halting found.known found.phase sent) own
           holds.messages;
       apart = holds.apart;
-      live = subst (λ l. AreLive b l found.known found.phase sent w.starts) own
-          (live_laws b found sent w.starts given.paths holds le);
+      live = grind (arith, nat_tests, live_laws);
       le = le;
-      below = λ level place_now.
-          known_le b found.known w.starts level place_now (λ c i t. le c);
+      below = λ level place_now. grind (arith, nat_tests, known_le);
     }
 
 -- The power controller -------------------------------------------------------------------------
@@ -133,8 +129,7 @@ acked_kind b w place v sent made k m kinds.Reset given at own is may h =
         (ack_by b w m kinds.Reset ∷ made)
     by_test false = λ life e. absurd (cc)
     by_test true = λ life e.
-        let next : m.life + 1 ≡ life =
-        let f : Some (m.life + 1) ≡ Some life = ap next_life (sym own) ∙ e in cc in
+        let next : m.life + 1 ≡ life = grind (arith, nat_tests) in
         let low = given.agreed.begun m.life own in
         let other : life ≡ v.life → ⊥ = λ s. omega (arith, next, low, s) in
         subst (λ u. WaitingIn b life (controlling.change b Begins w) u sent
@@ -188,11 +183,7 @@ module _ (b : BoardValue) (w : controlled.Values) (place : ℕ → Place) (v : V
       → WaitingIn b life w (in_life b life (change b e v)) (says.listed (says.sent e) ++ sent) made
   called_other e life f other is allowed =
       let moved = call_moves b v e given.callers is allowed in
-      subst (λ u. WaitingIn b life w u (says.listed (says.sent e) ++ sent) made)
-      (sym (found_other b life (change b e v) (λ same. other (same ∙ moved.life))))
-      (waiting_other (subst (λ u. WaitingIn b life w u sent made) (found_other b life v other)
-      (h life f)) (says.sent e)
-      (λ m sends own. other (sym own ∙ sent_life b v e m is allowed sends)))
+      grind (arith, nat_tests, found_other, waiting_other, sent_life)
 
   -- a core enters
   entering_waits : (c : ℕ) (s : Start) (act : Act) (o : Option MessageValue) → IsEntering b v c s

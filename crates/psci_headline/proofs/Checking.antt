@@ -1,11 +1,11 @@
 -- Worked examples are stated so: a run that is safe at every moment, and a moment at which just one
 -- thing is not as it shall be.
-use Rattle.psci_headline.proofs.Words.{arith, nat_tests}
-use Rattle.std.proofs.Common.{◌<◌, arith, map, suc, zero, ℕ}
-use Rattle.psci_headline.proofs.Words.{◌&&◌, ◌++◌, ◌∷◌, ◌≡◌, [], Bool, Event, false, is_always_safe}
-use Rattle.psci_headline.proofs.Words.{is_asked, is_each_once, is_each_open, is_each_real}
-use Rattle.psci_headline.proofs.Words.{is_off_down, is_off_stopped, is_one, is_powered, is_safe}
-use Rattle.psci_headline.proofs.Words.{List, Record, refl, Said, true}
+use Rattle.std.proofs.Common.{map}
+use Rattle.psci_headline.proofs.Words.{◌++◌, ◌<◌, ◌∷◌, ◌≡◌, [], arith, Bool, Event, false}
+use Rattle.psci_headline.proofs.Words.{is_always_safe, is_asked, is_each_once, is_each_open}
+use Rattle.psci_headline.proofs.Words.{is_each_real, is_off_down, is_off_stopped, is_one}
+use Rattle.psci_headline.proofs.Words.{is_powered, is_safe, List, nat_tests, Record, Said, suc}
+use Rattle.psci_headline.proofs.Words.{true, zero, ℕ}
 use Rattle.psci_board.proofs.Tables.{Row}
 use Rattle.psci_fw_laws.specs.psci_board.Board.{BoardValue}
 use Rattle.psci_world_spec.specs.Legal.{run_from}

@@ -1,6 +1,6 @@
 -- What has yet to come of a domain, where values change beside it or more cores are started.
-use Rattle.psci_headline.proofs.Words.{◌∙◌, ◌≡◌, ◌≤◌, ap, arith, BoardValue, eqb-false, eqb-true}
-use Rattle.psci_headline.proofs.Words.{false, is_path_place, IsYetToCome, known_below, KnownLaws}
+use Rattle.psci_headline.proofs.Words.{◌∙◌, ◌≡◌, ◌≤◌, arith, BoardValue, eqb-false, eqb-true, false}
+use Rattle.psci_headline.proofs.Words.{is_path_place, IsYetToCome, known_below, KnownLaws}
 use Rattle.psci_headline.proofs.Words.{MessageValue, nat_tests, ne_eqb, OfCore, Option, PathLaws}
 use Rattle.psci_headline.proofs.Words.{Slot, Some, sym, true, up, updated, ℕ}
 use Rattle.psci_headline.proofs.fw_laws.Parts.{updated_there}

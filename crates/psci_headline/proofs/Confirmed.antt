@@ -2,9 +2,7 @@
 use Rattle.psci_headline.proofs.Words.{◌++◌, ◌∷◌, [], acks, Agree, arith, BoardValue, call}
 use Rattle.psci_headline.proofs.Words.{Confirming, control, controller_values, CtlExchange, Event}
 use Rattle.psci_headline.proofs.Words.{firmware_values, Holds, IsLegalPast, KnownLaws, List}
-use Rattle.psci_headline.proofs.Words.{nat_tests, PathLaws, Record, Said, sent, subst, sym, Values}
-use Rattle.psci_headline.proofs.Words.{Waiting}
-use Rattle.psci_ctl_spec.specs.Effects.{effect_of}
+use Rattle.psci_headline.proofs.Words.{nat_tests, PathLaws, Record, Said, sent, Values, Waiting}
 use Rattle.psci_headline.specs.psci_world_spec.Histories.{controller_history, firmware_history}
 use Rattle.psci_headline.proofs.world_spec.Answered.{firmware_legal}
 use Rattle.psci_headline.proofs.Agreed.{first_kept}
@@ -35,10 +33,7 @@ firmware_next b r past laws is h =
     let m = moves b r past laws.firmware is.0 (firmware_legal b (r ∷ past) is) in
     let w : controlled.Values = controller_values b past in
     let v : Values = firmware_values b past in
-    subst (ConfirmingNow b w) (sym m.values)
-    (effect b w v (sent past) (acks past) laws.sums laws.paths (laws.holds past is.1)
-    (λ life e. ((laws.agree past is.1).present life e).known)
-    (λ life e. (laws.waits past is.1 life e).told) h m.effect m.allowed m.says)
+    grind (arith, nat_tests, effect)
 
 -- The power controller -------------------------------------------------------------------------
 

@@ -1,13 +1,12 @@
 -- What an effect leaves of a domain's confirmed claim: it was confirmed before, or a life has
 -- begun, or an acknowledgement confirms it.
-use Rattle.psci_headline.proofs.Words.{◌==◌, ◌∙◌, ◌≡◌, ◌⊎◌, Acknowledges, AckValue, and_parts, ap}
-use Rattle.psci_headline.proofs.Words.{arith, Arrival, arrived, AsksOn, BoardValue, Bool, change}
-use Rattle.psci_headline.proofs.Words.{claimed_or, cond, confirms_on, Effect, Enters, eqb-false}
-use Rattle.psci_headline.proofs.Words.{false, inl, inr, is_path_place, known_below, KnownLaws}
-use Rattle.psci_headline.proofs.Words.{nat_tests, None, Option, Parks, Part, refl, Rests, slice_get}
-use Rattle.psci_headline.proofs.Words.{Some, start_of_life, StopsAtOnce, sym, target, true}
-use Rattle.psci_headline.proofs.Words.{unless_claimed, up, updated, Values, ℕ}
-use Rattle.psci_fw_laws.specs.psci_fw_spec.Lives.{first_confirmed, first_granted}
+use Rattle.psci_headline.proofs.Words.{◌==◌, ◌≡◌, ◌⊎◌, Acknowledges, AckValue, and_parts, arith}
+use Rattle.psci_headline.proofs.Words.{Arrival, arrived, BoardValue, Bool, change, cond}
+use Rattle.psci_headline.proofs.Words.{confirms_on, Effect, eqb-false, false, is_path_place}
+use Rattle.psci_headline.proofs.Words.{known_below, KnownLaws, nat_tests, Option, Part, Some}
+use Rattle.psci_headline.proofs.Words.{start_of_life, true, up, updated, Values, ℕ}
+use Rattle.psci_headline.specs.psci_fw_spec.Paths.{claimed_or}
+use Rattle.psci_headline.specs.psci_fw_spec.Confirmed.{unless_claimed}
 use Rattle.psci_headline.proofs.Coming.{sum_beside}
 use Rattle.psci_ctl_spec.specs.psci_messages.declared.start.Start as starts
 

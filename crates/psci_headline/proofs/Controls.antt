@@ -1,16 +1,15 @@
 -- What waits, after each effect of the power controller.
 use Rattle.std.proofs.lemmas.Bool.{and_cases, ltb-false}
-use Rattle.psci_headline.proofs.Words.{◌+◌, ◌<◌, ◌==◌, ◌∙◌, ◌∷◌, ◌≡◌, ◌≤◌, [], ack_of, AckLaws}
-use Rattle.psci_headline.proofs.Words.{AckValue, and_parts, ap, applied, AreClaims, AreLive}
-use Rattle.psci_headline.proofs.Words.{ArePartsOf, AreRising, AreSent, AreWaiting, arith, Away}
-use Rattle.psci_headline.proofs.Words.{BoardValue, Bool, Cause, cond, cond-true, cores, Deepens}
-use Rattle.psci_headline.proofs.Words.{eq-eqb, eqb-false, eqb-true, false, height, is_stale}
-use Rattle.psci_headline.proofs.Words.{IsFront, IsNamed, IsTold, Kind, known_below, List}
-use Rattle.psci_headline.proofs.Words.{may_follow, MessageValue, nat_lt, nat_tests, none-some}
-use Rattle.psci_headline.proofs.Words.{Nothing, one_more, Part, PartByPart, Pending, Phase, refl}
-use Rattle.psci_headline.proofs.Words.{slice_get, slice_get_within, Some, start_of_life, Starts}
-use Rattle.psci_headline.proofs.Words.{subst, suc, SumLaws, sym, take, take_get, true, up, Values}
-use Rattle.psci_headline.proofs.Words.{WaitingIn, WasTold, zero, ℕ}
+use Rattle.psci_headline.proofs.Words.{◌+◌, ◌<◌, ◌==◌, ◌∙◌, ◌∷◌, ◌≡◌, ◌≤◌, ack_of, AckLaws}
+use Rattle.psci_headline.proofs.Words.{AckValue, and_parts, applied, AreClaims, AreLive, ArePartsOf}
+use Rattle.psci_headline.proofs.Words.{AreRising, AreSent, AreWaiting, arith, Away, BoardValue}
+use Rattle.psci_headline.proofs.Words.{Bool, Cause, cond, cond-true, cores, Deepens, eq-eqb}
+use Rattle.psci_headline.proofs.Words.{eqb-false, eqb-true, false, height, is_stale, IsFront}
+use Rattle.psci_headline.proofs.Words.{IsNamed, IsTold, Kind, known_below, List, may_follow}
+use Rattle.psci_headline.proofs.Words.{MessageValue, nat_lt, nat_tests, none-some, Nothing}
+use Rattle.psci_headline.proofs.Words.{one_more, Part, PartByPart, Pending, Phase, refl, slice_get}
+use Rattle.psci_headline.proofs.Words.{slice_get_within, Some, start_of_life, Starts, SumLaws, sym}
+use Rattle.psci_headline.proofs.Words.{take, take_get, true, up, Values, WaitingIn, ℕ}
 use Rattle.psci_ctl_spec.specs.Changes.{change}
 use Rattle.psci_headline.specs.psci_fw_laws.Messages.{IsSent}
 use Rattle.psci_headline.proofs.Deepening.{AreApplied, waiting_deepened}
@@ -47,10 +46,7 @@ pub part_level : (b : BoardValue) (life : ℕ) (starts : ℕ → ℕ) (v : Value
     → (p.level ≡ level) × (level ≤ height b)
 part_level b life starts v sent known k level m p at part =
     let sound = (known.messages k m at).sound in
-    let within = slice_get_within m.parts level p part in (
-      kind_level m.parts level p m.kind known.parts sound.parts part,
-      omega (arith, within, sound.few),
-    )
+    grind (arith, nat_tests, slice_get_within, kind_level)
 
 -- A core is started ----------------------------------------------------------------------------
 
@@ -130,9 +126,7 @@ start_told b life w v sent made k m false known at present kind may h =
     let room = is.sound.room kind in
     let later : m.number < w.starts c =
     grind (arith, nat_tests, and_cases, eqb-false, ltb-false) in
-    made_more b life w v sent made (ack_of m 0 true) k m at
-    (told_other b w.starts w.depth m 0 true
-    (λ e. let no : kinds.Start ≡ kinds.Down = sym kind ∙ e in absurd (cc)) (λ e. later)) h
+    grind (arith, nat_tests, made_more, told_other)
 
 -- A life begins --------------------------------------------------------------------------------
 

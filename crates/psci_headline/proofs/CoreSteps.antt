@@ -1,14 +1,12 @@
 -- What one effect does to the firmware's life, and to the known start, phase and status of a core.
-use Rattle.psci_headline.proofs.Words.{◌&&◌, ◌<◌, ◌∙◌, ◌≡◌, ◌≤◌, ◌⊎◌, Acknowledges, AckValue}
-use Rattle.psci_headline.proofs.Words.{and_parts, ap, arith, Arrival, arrived, AsksOn, Away}
-use Rattle.psci_headline.proofs.Words.{BoardValue, change, cond_both, Down, Effect, Enters, GoesOn}
-use Rattle.psci_headline.proofs.Words.{Halts, in_life, inl, is_kind, IsAllowed, ltb-true, nat_lt}
-use Rattle.psci_headline.proofs.Words.{nat_tests, Nothing, Parks, Pending, Phase, refl, Rests}
-use Rattle.psci_headline.proofs.Words.{SetsMode, Some, Stops, StopsAtOnce, sym, target, true}
-use Rattle.psci_headline.proofs.Words.{turns_off, updated, updated_at, Values, ℕ}
+use Rattle.psci_headline.proofs.Words.{◌<◌, ◌≡◌, ◌≤◌, ◌⊎◌, Acknowledges, AckValue, and_parts, arith}
+use Rattle.psci_headline.proofs.Words.{Arrival, arrived, AsksOn, Away, BoardValue, change}
+use Rattle.psci_headline.proofs.Words.{cond_both, Down, Effect, Enters, GoesOn, Halts, in_life}
+use Rattle.psci_headline.proofs.Words.{IsAllowed, IsEntering, ltb-true, nat_tests, Nothing, Parks}
+use Rattle.psci_headline.proofs.Words.{Pending, Phase, refl, Rests, SetsMode, Some, Stops}
+use Rattle.psci_headline.proofs.Words.{StopsAtOnce, true, updated, updated_at, Values, ℕ}
 use Rattle.psci_fw_laws.specs.psci_fw_spec.Effects.{Nothing}
 use Rattle.psci_fw_laws.specs.psci_fw_spec.Phases.{Running, is_away}
-use Rattle.psci_fw_laws.specs.Allowed.{IsEntering}
 use Rattle.psci_headline.proofs.Taking.{same_kind}
 use Rattle.psci_ctl_spec.specs.psci_messages.declared.start.Start as starts
 use Rattle.psci_fw_laws.specs.psci_fw_spec.declared.status.Status.TheVariants as statuses
@@ -119,10 +117,8 @@ step b v c (Enters d s) allowed =
     (record {
       life = refl;
       known = refl;
-      phase = λ ne. updated_at (λ x. x ≡ found.phase c) found.phase d Running c
-          (λ here. absurd (ne here)) (λ there. refl);
-      status = updated_at (λ x. x ≡ statuses.Off → found.status c ≡ statuses.Off) found.status d
-          statuses.On c (λ here e. absurd (cc)) (λ there e. e);
+      phase = λ ne. grind (arith, nat_tests, updated_at);
+      status = grind (arith, nat_tests, updated_at);
     })
 step b v c (Parks d s m) allowed =
     let found : Values = in_life b s.life v in
@@ -131,8 +127,7 @@ step b v c (Parks d s m) allowed =
     (record {
       life = refl;
       known = refl;
-      phase = λ ne. updated_at (λ x. x ≡ found.phase c) found.phase d _ c
-          (λ here. absurd (ne here)) (λ there. refl);
+      phase = λ ne. grind (arith, nat_tests, updated_at);
       status = λ e. e;
     })
 step b v c (StopsAtOnce d s) allowed = grind (arith, nat_tests, enters, updated_at)

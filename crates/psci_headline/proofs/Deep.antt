@@ -2,7 +2,7 @@
 use Rattle.psci_headline.proofs.Words.{◌<◌, ◌≡◌, ◌⊎◌, arith, BoardValue, Bool, cond}
 use Rattle.psci_headline.proofs.Words.{controller_history, controller_values, depth_at, false}
 use Rattle.psci_headline.proofs.Words.{HasLive, is_on_path, IsApplied, IsFirst, IsReplied, List}
-use Rattle.psci_headline.proofs.Words.{nat_tests, Node, Record, refl, Some, subst, sym, true, ℕ}
+use Rattle.psci_headline.proofs.Words.{nat_tests, Node, Record, Some, subst, sym, ℕ}
 use Rattle.psci_headline.proofs.AppliedParts.{was_sent}
 use Rattle.psci_headline.proofs.Claiming.{part_in, start_in}
 use Rattle.psci_headline.proofs.LiveOnes.{has_live}

@@ -46,8 +46,7 @@ pub keeps : (b : BoardValue) (life : ℕ) (starts : ℕ → ℕ) (depth : ℕ �
 keeps b life starts depth sent c ps apart are k level m p at present kind part live deep =
     laid_by b c ps depth level place p.depth deep (λ q on get.
     let n : MessageValue = are.message in
-    let here : place ≡ up b level n.core.number =
-    path_place b c level place on ∙ ap (up b level) (sym are.core) in
+    let here : place ≡ up b level n.core.number = grind (arith, nat_tests, path_place, place) in
     let sum : q.generation ≡ p.generation = grind (arith, nat_tests) in
     let one : are.index ≡ k = once b sent apart life level place are.index k n m q p are.at at
     (part_from b life level place n q (record {

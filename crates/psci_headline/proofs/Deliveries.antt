@@ -16,9 +16,7 @@ use Rattle.psci_ctl_spec.specs.Values.{Values}
 use Rattle.psci_headline.proofs.Controlling.{more_controls}
 use Rattle.psci_headline.proofs.Saying.{of_event}
 use Rattle.psci_ctl_spec.specs.declared.delivery.Delivery.TheVariants as deliveries
-use Rattle.psci_ctl_spec.specs.declared.kick.Kick.TheVariants as kicks
 use Rattle.psci_ctl_spec.specs.declared.reply.CtlReply.TheVariants as replied
-use Rattle.psci_fw_laws.specs.psci_fw_spec.declared.reply.FwReply.TheVariants as replies
 
 -- What a record adds ---------------------------------------------------------------------------
 

@@ -1,10 +1,9 @@
 -- What is told after each effect of the firmware's calls, entries and acknowledgements.
-use Rattle.psci_headline.proofs.Words.{◌<◌, ◌∙◌, ◌≡◌, AreConfirming, arith, Away, BoardValue}
-use Rattle.psci_headline.proofs.Words.{change, Enters, Holds, in_life, inl, inr, is_system}
-use Rattle.psci_headline.proofs.Words.{IsAllowed, KnownLaws, List, MessageValue, nat_tests, Parks}
-use Rattle.psci_headline.proofs.Words.{PathLaws, refl, Rest, Rests, Start, Stops, StopsAtOnce}
-use Rattle.psci_headline.proofs.Words.{subst, sym, true, Values, with_arrival, with_phase}
-use Rattle.psci_headline.proofs.Words.{with_rest, ℕ}
+use Rattle.psci_headline.proofs.Words.{◌<◌, ◌≡◌, AreConfirming, arith, Away, BoardValue, change}
+use Rattle.psci_headline.proofs.Words.{Enters, Holds, in_life, is_system, IsAllowed, KnownLaws}
+use Rattle.psci_headline.proofs.Words.{List, MessageValue, nat_tests, Parks, PathLaws, Rest, Rests}
+use Rattle.psci_headline.proofs.Words.{Start, Stops, StopsAtOnce, subst, sym, true, Values}
+use Rattle.psci_headline.proofs.Words.{with_arrival, with_phase, with_rest, ℕ}
 use Rattle.psci_headline.specs.psci_fw_spec.Changes.{with_halt}
 use Rattle.psci_headline.specs.psci_fw_spec.Phases.{Running}
 use Rattle.psci_headline.proofs.fw_laws.Parts.{updated_at}

@@ -1,13 +1,12 @@
 -- What is so after what is outstanding for a core was served.
+use Rattle.std.proofs.Common.{option_and_then}
 use Rattle.psci_headline.proofs.Words.{◌∙◌, ◌≡◌, Acknowledge, AckValue, and_from, answers, ap}
 use Rattle.psci_headline.proofs.Words.{AreOutstanding, arith, BoardValue, Bool, changed, cond}
 use Rattle.psci_headline.proofs.Words.{cond-false, cond-true, controller_values, eq-eqb, false}
 use Rattle.psci_headline.proofs.Words.{firmware_values, index_of, is_done, is_system, IsLegalPast}
 use Rattle.psci_headline.proofs.Words.{Kind, List, MessageValue, nat_tests, ne_eqb, None, OfCore}
-use Rattle.psci_headline.proofs.Words.{Option, option_and_then, Record, refl, sent, served, serving}
-use Rattle.psci_headline.proofs.Words.{slot_of, Some, subst, sym, taken_by, true, Used, Values, ℕ}
-use Rattle.psci_ctl_spec.specs.psci_messages.declared.taken.Taken.TheVariants.{Old}
-use Rattle.psci_ctl_spec.specs.psci_messages.Slots.{taken}
+use Rattle.psci_headline.proofs.Words.{Option, Record, refl, sent, served, serving, slot_of, Some}
+use Rattle.psci_headline.proofs.Words.{subst, sym, taken_by, true, Used, Values, ℕ}
 use Rattle.psci_headline.proofs.Acknowledging.{acks_message}
 use Rattle.psci_headline.proofs.Slots.{core_slot}
 use Rattle.psci_headline.proofs.Agreed.{RunLaws}
@@ -54,26 +53,13 @@ pub empties : (b : BoardValue) (past : List Record) (c : ℕ) (m : MessageValue)
 empties b past c m laws is n present at core kind =
     let v : Values = firmware_values b past in
     let a : AckValue = ack_to b past n.message in
-    let name : HasName a n.message =
-    acks_message b (controller_values b past) n.message n.message.kind in
+    let name : HasName a n.message = grind (arith, nat_tests, acks_message) in
     let mine : answers a m ≡ true = named_answers a m n.message name n.name in
-    let slot : slot_of a.kind a.core ≡ OfCore c =
-    core_slot a.kind a.core (ap is_system (name.kind ∙ sym n.name.kind) ∙ kind)
-    ∙ ap OfCore (name.core ∙ sym n.name.core ∙ core) in
-    let used : taken_by v a ≡ Used =
-    ap (λ s. taken a (v.outstanding s)) slot ∙ ap (taken a) at
-    ∙ cond-true (answers a m) Used Old mine in
+    let slot : slot_of a.kind a.core ≡ OfCore c = grind (arith, nat_tests, core_slot) in
+    let used : taken_by v a ≡ Used = grind (arith, nat_tests, cond-true) in
     let both : AreAnswered b past n.number n.message =
     answered_so b past n.number n.message laws is n.at (present ∙ ap Some n.name.life) used in
-    record {
-      answered = both;
-      kind = name.kind ∙ sym n.name.kind;
-      there = λ x ne.
-          ap (λ (u : Values). u.outstanding (OfCore x)) both.firmware
-          ∙ left_there a c x (v.outstanding (OfCore x)) slot ne;
-      here = ap (λ (u : Values). u.outstanding (OfCore c)) both.firmware
-          ∙ ap (changed (OfCore c) (Acknowledge a)) at ∙ left_here a c m slot mine;
-    }
+    grind (arith, nat_tests, left_there, left_here)
 
 -- A step ---------------------------------------------------------------------------------------
 

@@ -1,19 +1,18 @@
 -- After every legal history each entry has taken up an opening of its own.
 use Rattle.std.specs.Option.{option_or}
-use Rattle.psci_headline.proofs.Words.{◌++◌, ◌==◌, ◌∙◌, ◌∷◌, ◌≡◌, ◌≤◌, [], Act, ap, AreTakenUp}
-use Rattle.psci_headline.proofs.Words.{arith, arrived, AsksOn, BoardValue, Bool, change, cond}
-use Rattle.psci_headline.proofs.Words.{Effect, effect, effect_of, enter_effect, enter_fault}
-use Rattle.psci_headline.proofs.Words.{EnteredAt, Enters, enters_or_resumes_by, eqb-false, eqb-true}
-use Rattle.psci_headline.proofs.Words.{false, FwCall, FwExchange, FwFault, FwReply, in_life}
-use Rattle.psci_headline.proofs.Words.{IsAllowed, IsLegal, length, List, listed, Made, made_at}
-use Rattle.psci_headline.proofs.Words.{MessageValue, nat_tests, None, OfCall, OfLife, Opening}
-use Rattle.psci_headline.proofs.Words.{Option, option_map, Outcome, outcome_at, Parks, refl}
-use Rattle.psci_headline.proofs.Words.{reply_or, Rests, Some, Start, start_of_life, stops}
-use Rattle.psci_headline.proofs.Words.{stops_with, StopsAtOnce, subst, suc, sym, TakenUp, true}
-use Rattle.psci_headline.proofs.Words.{updated, updated_at, Values, with_arrival, ℕ}
+use Rattle.psci_headline.proofs.Words.{◌++◌, ◌==◌, ◌∷◌, ◌≡◌, ◌≤◌, [], Act, AreTakenUp, arith}
+use Rattle.psci_headline.proofs.Words.{arrived, AsksOn, BoardValue, Bool, change, cond, Effect}
+use Rattle.psci_headline.proofs.Words.{effect, effect_of, enter_effect, enter_fault, EnteredAt}
+use Rattle.psci_headline.proofs.Words.{Enters, enters_or_resumes_by, eqb-false, eqb-true, false}
+use Rattle.psci_headline.proofs.Words.{FwCall, FwExchange, FwFault, FwReply, in_life, IsAllowed}
+use Rattle.psci_headline.proofs.Words.{IsLegal, length, List, listed, Made, made_at, MessageValue}
+use Rattle.psci_headline.proofs.Words.{nat_tests, None, OfCall, OfLife, Opening, Option, option_map}
+use Rattle.psci_headline.proofs.Words.{Outcome, Parks, refl, reply_or, Rests, Some, Start}
+use Rattle.psci_headline.proofs.Words.{start_of_life, StopsAtOnce, subst, suc, sym, TakenUp}
+use Rattle.psci_headline.proofs.Words.{updated, updated_at, Values, ℕ}
+use Rattle.psci_fw_laws.specs.psci_fw_spec.Entering.{outcome_at, enter_outcome}
+use Rattle.psci_fw_laws.specs.psci_fw_spec.Outcomes.{stops}
 use Rattle.psci_fw_laws.specs.psci_fw_spec.Answer.{answer}
-use Rattle.psci_fw_laws.specs.psci_fw_spec.CpuOff.{off_message}
-use Rattle.psci_fw_laws.specs.psci_fw_spec.Entering.{enter_outcome}
 use Rattle.psci_fw_laws.specs.psci_fw_spec.History.{life, values_of}
 use Rattle.psci_headline.specs.Openings.{entered_by, entered_to, made_for_boot, openings, taken_up}
 use Rattle.psci_headline.proofs.Functions.{call_ends}
@@ -63,8 +62,7 @@ entered_at b v c s (acts.Enter a k) m x e is =
       start = s;
       is = refl;
       of_life = refl;
-      opening = opened_unless b found (with_arrival b c s v) c s a k found.halting (found.opening c)
-          act;
+      opening = grind (arith, nat_tests, opened_unless);
     })
 entered_at b v c s act m x e is = absurd (cc)
 

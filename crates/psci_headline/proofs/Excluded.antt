@@ -1,13 +1,12 @@
 -- What fails by computing is excluded: no such world is at rest, has settled, or is told as it is.
-use Rattle.psci_headline.proofs.Words.{nat_tests}
 use Rattle.std.proofs.Common.{nat_le}
 use Rattle.std.proofs.lemmas.List.Sums.{list_all-from_AllPass}
 use Rattle.psci_headline.proofs.Words.{◌++◌, ◌+◌, ◌<◌, ◌==◌, ◌||◌, ◌∙◌, ◌∷◌, ◌≡◌, ◌≤◌, [], ap}
 use Rattle.psci_headline.proofs.Words.{AreAtRest, arith, BoardValue, Bool, cases_Bool, cases_eq}
-use Rattle.psci_headline.proofs.Words.{cores, deliveries, Down, eq-eqb, false, filter, HasNode}
-use Rattle.psci_headline.proofs.Words.{height, hw_code, indexed, inl, inr, is_away, is_kind}
-use Rattle.psci_headline.proofs.Words.{is_off_status, is_some, is_started, IsSettled, IsToldWhole}
-use Rattle.psci_headline.proofs.Words.{le-leb, length, List, list_all, list_any, MessageValue, Node}
+use Rattle.psci_headline.proofs.Words.{cores, deliveries, Down, eq-eqb, filter, HasNode, height}
+use Rattle.psci_headline.proofs.Words.{hw_code, indexed, inl, inr, is_away, is_kind, is_off_status}
+use Rattle.psci_headline.proofs.Words.{is_some, is_started, IsSettled, IsToldWhole, le-leb, length}
+use Rattle.psci_headline.proofs.Words.{List, list_all, list_any, MessageValue, nat_tests, Node}
 use Rattle.psci_headline.proofs.Words.{nodes, None, not, OfCore, OfSystem, Option, or_left}
 use Rattle.psci_headline.proofs.Words.{or_right, range_with_len, refl, sent, Some, suc, sym, true}
 use Rattle.psci_headline.proofs.Words.{zero, ℕ}
@@ -115,9 +114,7 @@ not_settled b before added rounds s ss fail r =
     let past : List Record = added ++ before in
     let tests : ℕ → Bool = λ k. is_down (indexed (sent past) k) in
     let most : list_all (λ k. nat_le (deliveries k added) rounds) (downs past) ≡ true =
-    one_all (λ k. nat_le (deliveries k added) rounds) tests 0 (length (sent past))
-    (λ k low high down. let m = a_down (indexed (sent past) k) down in
-    le-leb _ _ (r.most k m.message m.at m.kind)) in
+    grind (arith, nat_tests, one_all, a_down, le-leb) in
     let some : (rounds == 0 || list_any (λ k. deliveries k added == rounds) (downs past)) ≡ true =
     elim (cases_eq rounds 0) [
       | inl none ↦ or_left _ _ (eq-eqb _ _ none)

@@ -1,7 +1,6 @@
 -- What a filter keeps of a list.
-use Rattle.psci_headline.proofs.Words.{arith, nat_tests}
-use Rattle.psci_headline.proofs.Words.{◌∙◌, ◌∷◌, ◌≡◌, [], ap, Bool, cond, false, filter, List, refl}
-use Rattle.psci_headline.proofs.Words.{slice_get, Some, suc, sym, true, zero, ℕ}
+use Rattle.psci_headline.proofs.Words.{◌∷◌, ◌≡◌, [], arith, Bool, cond, false, filter, List}
+use Rattle.psci_headline.proofs.Words.{nat_tests, slice_get, Some, suc, true, zero, ℕ}
 
 -- An item of a list that passes a test.
 pub record IsKept {X : Type 0} (test : X → Bool) (list : List X) (x : X) : Type 0 where

@@ -1,7 +1,6 @@
 -- What holds after a step of each core in turn.
-use Rattle.psci_headline.proofs.Words.{◌+◌, ◌<◌, ◌≡◌, ◌≤◌, arith, cases_lt, each_core, inl, inr}
-use Rattle.psci_headline.proofs.Words.{List, nat_tests, range_with_len, Record, subst, suc, sym}
-use Rattle.psci_headline.proofs.Words.{zero, ℕ}
+use Rattle.psci_headline.proofs.Words.{◌+◌, ◌<◌, ◌≡◌, ◌≤◌, arith, cases_lt, each_core, List}
+use Rattle.psci_headline.proofs.Words.{nat_tests, range_with_len, Record, suc, zero, ℕ}
 
 -- What a step of a core does: something that holds stays, what was to be done for the core is done,
 -- and what was to be done or is done for another core stays.

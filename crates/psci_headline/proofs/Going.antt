@@ -1,11 +1,10 @@
 -- What stays so in every round: each started core has entered, and none is pending.
-use Rattle.psci_headline.proofs.Words.{◌+◌, ◌<◌, ◌∙◌, ◌≡◌, acks, ap, AreClaims, AreOutstanding}
-use Rattle.psci_headline.proofs.Words.{ArePartsOf, AreWaiting, arith, AwaitsStart, BoardValue}
-use Rattle.psci_headline.proofs.Words.{controller_values, cores, false, firmware_values, HasDeeper}
-use Rattle.psci_headline.proofs.Words.{height, in_life, is_system, IsClaimOn, IsCurrent}
-use Rattle.psci_headline.proofs.Words.{IsLegalPast, Kind, List, MessageValue, nat_tests}
-use Rattle.psci_headline.proofs.Words.{NonePending, OfCore, OfSystem, Part, Pending, place, Record}
-use Rattle.psci_headline.proofs.Words.{sent, Some, subst, sym, true, up, Values, ℕ}
+use Rattle.psci_headline.proofs.Words.{◌+◌, ◌<◌, ◌∙◌, ◌≡◌, acks, AreClaims, AreOutstanding}
+use Rattle.psci_headline.proofs.Words.{ArePartsOf, AreWaiting, arith, BoardValue, controller_values}
+use Rattle.psci_headline.proofs.Words.{cores, false, firmware_values, HasDeeper, height, is_system}
+use Rattle.psci_headline.proofs.Words.{IsClaimOn, IsCurrent, IsLegalPast, Kind, List, MessageValue}
+use Rattle.psci_headline.proofs.Words.{nat_tests, NonePending, OfCore, OfSystem, Part, Pending}
+use Rattle.psci_headline.proofs.Words.{place, Record, sent, Some, subst, sym, true, up, Values, ℕ}
 use Rattle.psci_headline.proofs.Agreeing.{found_own}
 use Rattle.psci_headline.proofs.Applying.{IsDown, IsReady}
 use Rattle.psci_headline.proofs.Beginning.{HasEntered}
@@ -13,7 +12,7 @@ use Rattle.psci_headline.proofs.Carried.{present_known}
 use Rattle.psci_headline.proofs.Claimed.{AreDeep}
 use Rattle.psci_headline.proofs.Controls.{IsKnown}
 use Rattle.psci_headline.proofs.Counting.{AreAdded}
-use Rattle.psci_headline.proofs.Standing.{AreSettled, IsPast, SettleLaws, settled_life}
+use Rattle.psci_headline.proofs.Standing.{IsPast, SettleLaws, settled_life}
 use Rattle.psci_headline.proofs.Starts.{HasBegun}
 use Rattle.psci_ctl_spec.specs.Values as controlled
 use Rattle.psci_ctl_spec.specs.psci_messages.declared.kind.Kind.TheVariants as kinds
@@ -110,11 +109,7 @@ out_now b before life past c m laws going at =
     let on : c < cores b = subst (λ x. x < cores b) slot.core sound.core in
     let kind : m.kind ≡ kinds.Down = grind (arith, nat_tests, core_kind) in
     let claim : AreClaims m.parts = subst (λ k. ArePartsOf k m.parts) kind sound.parts in
-    record {
-      down = grind (arith, nat_tests);
-      core = slot.core;
-      system = slot.kind;
-    }
+    grind (arith, nat_tests)
 
 -- nothing is outstanding for the system
 pub none_system : (b : BoardValue) (before : List Record) (life : ℕ) (past : List Record)

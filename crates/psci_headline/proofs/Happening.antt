@@ -43,8 +43,7 @@ happens b past event s e some =
       absent = λ x no. absurd (cc);
       ignored = λ x no. absurd (cc);
       call = λ c regs on at is. record { core = on; place = at };
-      enter = λ c start on at last is.
-          record { core = on; place = at; start = start; last = last };
+      enter = λ c start on at last is. grind (arith, nat_tests);
       wake = λ c on is. on;
       reset = λ c on is. on;
       deliver = λ k m at is. tt;

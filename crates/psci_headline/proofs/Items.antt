@@ -1,9 +1,9 @@
 -- Items of a list: one of some number, and one behind others.
 use Rattle.std.proofs.lemmas.Option.{slice_get_read}
-use Rattle.psci_headline.proofs.Words.{◌++◌, ◌-◌, ◌<◌, ◌∙◌, ◌∷◌, ◌≡◌, arith, get_or-reverse}
+use Rattle.psci_headline.proofs.Words.{◌++◌, ◌-◌, ◌<◌, ◌∙◌, ◌≡◌, arith, get_or-reverse}
 use Rattle.psci_headline.proofs.Words.{get_or_from_slice_get, indexed, length, length-reverse, List}
-use Rattle.psci_headline.proofs.Words.{listed, nat_tests, None, Option, refl, reverse, same_Some}
-use Rattle.psci_headline.proofs.Words.{slice_get, slice_get_within, Some, suc, sym, zero, ℕ}
+use Rattle.psci_headline.proofs.Words.{listed, nat_tests, None, Option, refl, reverse, slice_get}
+use Rattle.psci_headline.proofs.Words.{slice_get_within, Some, suc, sym, ℕ}
 
 -- An item of a list.
 pub record IsListed {A : Type 0} (items : List A) (x : A) : Type 0 where

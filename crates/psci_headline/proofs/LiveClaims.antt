@@ -1,8 +1,7 @@
 -- Live claims: those of the list that have the generation of their domain. There is one at most.
-use Rattle.psci_headline.proofs.Words.{nat_tests}
 use Rattle.psci_headline.proofs.Words.{◌==◌, ◌∙◌, ◌∷◌, ◌≡◌, ◌≤◌, [], ap, arith, BoardValue, Bool}
 use Rattle.psci_headline.proofs.Words.{Claim, claims, cond, controller_values, eq-eqb, eqb-true}
-use Rattle.psci_headline.proofs.Words.{false, filter, length, List, Node, None, Option, Record}
+use Rattle.psci_headline.proofs.Words.{filter, length, List, nat_tests, Node, None, Option, Record}
 use Rattle.psci_headline.proofs.Words.{refl, slice_get, Some, starts_below, subst, suc, sym, true}
 use Rattle.psci_headline.proofs.Words.{ℕ}
 use Rattle.psci_headline.specs.Claims.{live_claims, live_in}

@@ -1,7 +1,7 @@
 -- Each acknowledgement was made as its message was delivered.
-use Rattle.psci_headline.proofs.Words.{arith, nat_tests}
-use Rattle.psci_headline.proofs.Words.{◌∷◌, ◌≡◌, [], ack_in, AckValue, ap, BoardValue, IsLegalPast}
-use Rattle.psci_headline.proofs.Words.{legal, List, Record, refl, sent, slice_get, Some, WasMade, ℕ}
+use Rattle.psci_headline.proofs.Words.{◌∷◌, ◌≡◌, [], ack_in, AckValue, ap, arith, BoardValue}
+use Rattle.psci_headline.proofs.Words.{IsLegalPast, legal, List, nat_tests, Record, refl, sent}
+use Rattle.psci_headline.proofs.Words.{slice_get, Some, WasMade, ℕ}
 use Rattle.psci_world_spec.specs.Histories.{acks}
 use Rattle.psci_headline.proofs.Deliveries.{new_ack}
 use Rattle.psci_headline.proofs.Items.{of_newest, at_number}

@@ -1,19 +1,16 @@
 -- What a legal record leaves of the firmware's values.
-use Rattle.psci_headline.proofs.Words.{◌++◌, ◌==◌, ◌∙◌, ◌∷◌, ◌≡◌, [], Absent, acks, Act, and_parts}
-use Rattle.psci_headline.proofs.Words.{ap, arith, BoardValue, Bool, Call, call, change, cond}
+use Rattle.psci_headline.proofs.Words.{◌++◌, ◌∙◌, ◌∷◌, ◌≡◌, [], Absent, acks, Act, and_parts, ap}
+use Rattle.psci_headline.proofs.Words.{arith, BoardValue, Bool, Call, call, change, cond}
 use Rattle.psci_headline.proofs.Words.{controller_values, cores, Effect, effect, Enter}
 use Rattle.psci_headline.proofs.Words.{enter_effect, entered, Enters, enters_or_resumes}
-use Rattle.psci_headline.proofs.Words.{enters_or_resumes_by, eqb-true, Event, false}
-use Rattle.psci_headline.proofs.Words.{firmware_history, firmware_values, Fw, FwExchange}
-use Rattle.psci_headline.proofs.Words.{if_started, IsAllowed, IsLegal, last_start, List}
-use Rattle.psci_headline.proofs.Words.{MessageValue, nat_lt, nat_tests, None, Nothing, Option}
-use Rattle.psci_headline.proofs.Words.{outcome_in, Place, place, Record, refl, Running, Said, Sent}
-use Rattle.psci_headline.proofs.Words.{Some, Start, Started, Stopped, subst, sym, true, true≢false}
-use Rattle.psci_headline.proofs.Words.{values_of, ℕ}
+use Rattle.psci_headline.proofs.Words.{enters_or_resumes_by, eqb-true, Event, firmware_history}
+use Rattle.psci_headline.proofs.Words.{firmware_values, Fw, FwExchange, IsAllowed, IsLegal, List}
+use Rattle.psci_headline.proofs.Words.{listed, MessageValue, nat_lt, nat_tests, None, Nothing}
+use Rattle.psci_headline.proofs.Words.{Option, outcome_in, Place, place, Record, refl, Said, Sent}
+use Rattle.psci_headline.proofs.Words.{Some, Start, subst, sym, true, true≢false, values_of, ℕ}
+use Rattle.psci_world_spec.specs.Legal.{if_started, legal, on_board}
 use Rattle.psci_fw_laws.specs.psci_fw_spec.Effects.{Nothing}
-use Rattle.psci_fw_laws.specs.psci_fw_spec.Said.{listed}
 use Rattle.psci_fw_laws.specs.psci_fw_spec.Sent.{sent_messages}
-use Rattle.psci_world_spec.specs.Legal.{legal, on_board}
 use Rattle.psci_headline.proofs.Sending.{after_call, more_calls}
 use Rattle.psci_headline.proofs.Functions.{call_ends}
 use Rattle.psci_headline.proofs.Records.{IsAdded, IsOfRecord, added}
@@ -96,10 +93,8 @@ unfolding sent_messages
 by_added b r past [] laws is valid adds says = record {
   effect = Nothing;
   allowed = tt;
-  values = ap (values_of b) (more_calls b r past
-      ∙ ap (λ (es : List FwExchange). es ++ firmware_history b past) adds);
-  sends = ap (sent_messages b) (more_calls b r past
-      ∙ ap (λ (es : List FwExchange). es ++ firmware_history b past) adds);
+  values = grind (arith, nat_tests, more_calls);
+  sends = grind (arith, nat_tests, more_calls);
   says = record { starts = λ a e. absurd (cc); takes = λ a e. absurd (cc) };
   goes = λ c by.
       let on = goes b past c r.event r.said is (subst (IsLegal b) (more_calls b r past) valid)
@@ -109,8 +104,7 @@ by_added b r past [] laws is valid adds says = record {
 }
 by_added b r past (e ∷ []) laws is valid adds says =
     let h = firmware_history b past in
-    let more : firmware_history b (r ∷ past) ≡ e ∷ h =
-    more_calls b r past ∙ ap (λ (es : List FwExchange). es ++ h) adds in
+    let more : firmware_history b (r ∷ past) ≡ e ∷ h = grind (arith, nat_tests, more_calls) in
     record {
       effect = effect b e;
       allowed = laws.allowed e h (subst (IsLegal b) more valid);

@@ -1,18 +1,14 @@
 -- What calls, entries and acknowledgements leave of known starts and of who runs.
-use Rattle.psci_headline.proofs.Words.{◌≡◌, Acknowledges, Act, arith, AsksOn, Away, BoardValue}
-use Rattle.psci_headline.proofs.Words.{Bool, change, Code, cond, Effect, enter_effect, Enters}
-use Rattle.psci_headline.proofs.Words.{executes_on, false, function_effect, GoesOn, Halts, in_life}
-use Rattle.psci_headline.proofs.Words.{int_eq, is_running, IsAllowed, MessageValue, mode_effect}
-use Rattle.psci_headline.proofs.Words.{mode_of, nat_tests, None, Option, Parks, Pending, Phase}
-use Rattle.psci_headline.proofs.Words.{PowerOn, refl, Request, Rests, SetsMode, Some, Start, Stops}
-use Rattle.psci_headline.proofs.Words.{StopsAtOnce, subst, success, SuspendMode, sym, target, true}
-use Rattle.psci_headline.proofs.Words.{unless_pending, updated, updated_at, updated_here, Values}
-use Rattle.psci_headline.proofs.Words.{with_mode, with_pending, ℕ}
+use Rattle.psci_headline.proofs.Words.{◌≡◌, Acknowledges, Act, arith, AsksOn, BoardValue, Bool}
+use Rattle.psci_headline.proofs.Words.{change, Effect, enter_effect, Enters, executes_on, false}
+use Rattle.psci_headline.proofs.Words.{function_effect, GoesOn, Halts, in_life, is_running}
+use Rattle.psci_headline.proofs.Words.{IsAllowed, MessageValue, nat_tests, Option, Parks, Phase}
+use Rattle.psci_headline.proofs.Words.{PowerOn, refl, Request, Rests, SetsMode, Start, Stops}
+use Rattle.psci_headline.proofs.Words.{StopsAtOnce, true, unless_pending, updated, updated_at}
+use Rattle.psci_headline.proofs.Words.{updated_here, Values, with_pending, ℕ}
 use Rattle.psci_fw_laws.specs.psci_fw_spec.Effects.{Nothing}
 use Rattle.psci_fw_laws.specs.psci_fw_spec.Phases.{Running}
 use Rattle.psci_fw_laws.proofs.Parts.{updated_there}
-use Rattle.psci_world_spec.specs.psci_abi.declared.request.Request.TheVariants as requests
-use Rattle.psci_fw_laws.specs.psci_fw_spec.declared.outcome.Act.TheVariants as acts
 
 -- What is left where one core did something: its known start, and whether it runs.
 pub record IsMoved (v w : Values) (c n : ℕ) (t : Bool) : Type 0 where

@@ -1,15 +1,12 @@
 -- In a legal history an accepted CPU_ON asks on the core that it named.
-use Rattle.psci_headline.proofs.Words.{◌∙◌, ◌≡◌, Act, ap, arith, AsksOn, BoardValue, Core, Effect}
-use Rattle.psci_headline.proofs.Words.{effect_of, enter_effect, FwCall, FwReply, Made, made_at}
-use Rattle.psci_headline.proofs.Words.{MessageValue, nat_tests, None, OfCall, Option, option_map}
-use Rattle.psci_headline.proofs.Words.{PowerOn, Regs, request_of, Rests, Some, Start, sym, target}
-use Rattle.psci_headline.proofs.Words.{Used, Values, ℕ}
+use Rattle.psci_headline.proofs.Words.{◌≡◌, arith, AsksOn, BoardValue, Effect, effect_of, FwCall}
+use Rattle.psci_headline.proofs.Words.{FwReply, Made, made_at, nat_tests, None, OfCall, Option}
+use Rattle.psci_headline.proofs.Words.{PowerOn, Regs, request_of, Rests, Some, target, Values, ℕ}
 use Rattle.psci_fw_laws.specs.psci_fw_spec.Answer.{answer}
 use Rattle.psci_world_spec.specs.psci_abi.declared.request.Request.TheVariants.{CpuOn}
 use Rattle.psci_board.specs.Board.{core_of}
-use Rattle.psci_headline.specs.Openings.{made_by, core_asked, named_in}
+use Rattle.psci_headline.specs.Openings.{made_by, core_asked}
 use Rattle.psci_fw_laws.specs.psci_fw_spec.declared.call.FwCall.TheVariants as calls
-use Rattle.psci_fw_laws.specs.psci_fw_spec.declared.reply.FwReply.TheVariants as replies
 
 -- Which core a call named ----------------------------------------------------------------------
 

@@ -1,10 +1,10 @@
 -- What is known after a legal record: cores that go on, and what acknowledgements say.
 use Rattle.psci_headline.proofs.Words.{◌++◌, ◌<◌, ◌∙◌, ◌∷◌, ◌≡◌, ◌≤◌, ack_in, AckValue, ap, AreDown}
 use Rattle.psci_headline.proofs.Words.{arith, Away, BoardValue, controller_values, Deliver, Down}
-use Rattle.psci_headline.proofs.Words.{enters_or_resumes, firmware_values, Holds, inl, inr}
-use Rattle.psci_headline.proofs.Words.{IsDownBy, legal, List, listed, nat_tests, None, Option}
-use Rattle.psci_headline.proofs.Words.{Record, refl, sent, slice_get, Some, subst, suc, sym, true}
-use Rattle.psci_headline.proofs.Words.{updated_here, Values, was_powered_down, zero, ℕ}
+use Rattle.psci_headline.proofs.Words.{enters_or_resumes, firmware_values, Holds, IsDownBy, legal}
+use Rattle.psci_headline.proofs.Words.{List, listed, nat_tests, None, Option, Record, refl, sent}
+use Rattle.psci_headline.proofs.Words.{slice_get, Some, subst, suc, sym, true, updated_here, Values}
+use Rattle.psci_headline.proofs.Words.{zero, ℕ}
 use Rattle.psci_fw_laws.specs.psci_fw_spec.Phases.{Running}
 use Rattle.psci_world_spec.specs.Histories.{acks, firmware_history}
 use Rattle.psci_headline.proofs.Acknowledging.{CoreLaws, new_is_down}
@@ -50,23 +50,8 @@ still_down b r past a next was =
     λ life number. omega (arith, was.number (before life), s.known (same life)) in
     let unknown : a.life ≡ w.life → a.number ≡ w.known c → w.known c ≡ v.known c =
     λ life number. sym number ∙ old life number in
-    let not_both : w.phase c ≡ Away → w.phase c ≡ Running → ⊥ =
-    λ away runs. let no : Away ≡ Running = sym away ∙ runs in absurd (cc) in
-    record {
-      begun = omega (arith, was.begun, s.life);
-      number = λ life. omega (arith, was.number (before life), s.known (same life));
-      rests = λ life number now.
-          was.rests (before life) (old life number) (s.runs (same life) (unknown life number) now);
-      slept = λ life number now.
-          elim (s.away (same life) (unknown life number) now) [
-            | inl away ↦
-                slept_still b w.life r past c
-                (subst (λ l. was_powered_down b l past c ≡ true) (sym (same life))
-                (was.slept (before life) (old life number) away))
-                (λ goes. absurd (not_both now (goes_running b r past c next goes).0))
-            | inr ran ↦ absurd (was.rests (before life) (old life number) ran)
-          ];
-    }
+    let not_both : w.phase c ≡ Away → w.phase c ≡ Running → ⊥ = grind (arith, nat_tests) in
+    grind (arith, nat_tests, slept_still, goes_running)
 
 pub acks_more : (r : Record) (past : List Record)
     → acks (r ∷ past) ≡ listed (ack_in r.said) ++ acks past

@@ -1,9 +1,8 @@
 -- A core that is reported OFF does not run, and was powered down since it last went on.
-use Rattle.psci_headline.proofs.Words.{◌<◌, ◌==◌, ◌∙◌, ◌≡◌, Agree, agrees, AreValues, arith}
-use Rattle.psci_headline.proofs.Words.{BoardValue, Bool, cond, controller_values, cores, false}
-use Rattle.psci_headline.proofs.Words.{firmware_values, IsLegalPast, List, nat_tests, None, Off}
-use Rattle.psci_headline.proofs.Words.{OffIsDown, Option, place, Record, refl, Running, Some}
-use Rattle.psci_headline.proofs.Words.{start_of_life, Status, Stopped, sym, true, Values, ℕ}
+use Rattle.psci_headline.proofs.Words.{◌<◌, ◌==◌, ◌≡◌, Agree, AreValues, arith, BoardValue, Bool}
+use Rattle.psci_headline.proofs.Words.{cond, controller_values, cores, firmware_values, IsLegalPast}
+use Rattle.psci_headline.proofs.Words.{List, nat_tests, None, Off, OffIsDown, Option, place, Record}
+use Rattle.psci_headline.proofs.Words.{Running, Some, start_of_life, Values, ℕ}
 use Rattle.psci_headline.proofs.AllDown.{DownLaws, all_down}
 use Rattle.psci_headline.proofs.Slept.{reported}
 use Rattle.psci_fw_laws.specs.psci_fw_spec.Phases as phases

@@ -1,12 +1,10 @@
 -- What a legal outcome sends is what its effect says was sent.
-use Rattle.psci_headline.proofs.Words.{◌≡◌, arith, BoardValue, Bool, Code, cond, enter_effect}
-use Rattle.psci_headline.proofs.Words.{false, function_effect, function_ends, FwFault, GoesOn}
-use Rattle.psci_headline.proofs.Words.{int_eq, MessageValue, mode_effect, mode_of, nat_tests, None}
-use Rattle.psci_headline.proofs.Words.{Opening, Option, Outcome, outcome_at, outcome_ends}
-use Rattle.psci_headline.proofs.Words.{outcome_of, refl, reply_or, Request, Some, Start, stops_with}
-use Rattle.psci_headline.proofs.Words.{subst, success, SuspendMode, sym, true, Values, ℕ}
+use Rattle.psci_headline.proofs.Words.{◌≡◌, arith, BoardValue, Code, enter_effect, function_effect}
+use Rattle.psci_headline.proofs.Words.{function_ends, FwFault, MessageValue, nat_tests, Option}
+use Rattle.psci_headline.proofs.Words.{Outcome, outcome_ends, outcome_of, refl, reply_or, Request}
+use Rattle.psci_headline.proofs.Words.{Start, Values, ℕ}
+use Rattle.psci_fw_laws.specs.psci_fw_spec.Outcomes.{stops_with, returns}
 use Rattle.psci_fw_laws.specs.psci_fw_spec.Entering.{enter_outcome}
-use Rattle.psci_fw_laws.specs.psci_fw_spec.Outcomes.{returns}
 use Rattle.psci_fw_laws.proofs.fw_spec.Endings.{starts_with}
 use Rattle.psci_world_spec.specs.psci_abi.declared.request.Request.TheVariants as requests
 use Rattle.psci_fw_laws.specs.psci_fw_spec.declared.reply.FwReply.TheVariants as replies

@@ -2,10 +2,9 @@
 -- acknowledgement is taken.
 use Rattle.psci_headline.proofs.Words.{◌<◌, ◌==◌, ◌≡◌, Act, AgreeIn, arith, BoardValue, cases_eq}
 use Rattle.psci_headline.proofs.Words.{change, cond, cores, Effect, enter_effect, eqb-false}
-use Rattle.psci_headline.proofs.Words.{eqb-true, executes_on, found_life, in_life, is_running}
-use Rattle.psci_headline.proofs.Words.{IsAllowed, last_start, MessageValue, nat_tests, None, Option}
-use Rattle.psci_headline.proofs.Words.{Phase, Place, place_after, refl, Running, Some, Start}
-use Rattle.psci_headline.proofs.Words.{Stopped, true, unwrap_or, Values, ℕ}
+use Rattle.psci_headline.proofs.Words.{eqb-true, executes_on, found_life, in_life, IsAllowed}
+use Rattle.psci_headline.proofs.Words.{last_start, MessageValue, nat_tests, None, Option, Place}
+use Rattle.psci_headline.proofs.Words.{place_after, Running, Some, Start, unwrap_or, Values, ℕ}
 use Rattle.psci_headline.proofs.Agreeing.{AreAgreed, found_other, found_own}
 use Rattle.psci_headline.proofs.Moving.{CallerLaws, IsCallOf, IsMoved, call_moves, entry_moves}
 use Rattle.psci_headline.proofs.Moving.{runs_on}

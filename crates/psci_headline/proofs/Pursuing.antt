@@ -1,11 +1,10 @@
 -- What waits, after what the firmware's calls and entries change.
-use Rattle.psci_headline.proofs.Words.{arith, nat_tests}
 use Rattle.psci_headline.proofs.Words.{◌++◌, ◌<◌, ◌∙◌, ◌∷◌, ◌≡◌, ◌⊎◌, AckValue, ap, AreWaiting}
-use Rattle.psci_headline.proofs.Words.{AwaitsStart, BoardValue, Bool, cases_eq, changed, Clear}
-use Rattle.psci_headline.proofs.Words.{cores, Down, false, inl, inr, IsLivePart, List, listed}
-use Rattle.psci_headline.proofs.Words.{MessageValue, None, OfCore, OfSystem, Option, Part, Pending}
-use Rattle.psci_headline.proofs.Words.{Phase, Put, slice_get, Slot, slot_of, Some, subst, sym, true}
-use Rattle.psci_headline.proofs.Words.{up, updated, ℕ}
+use Rattle.psci_headline.proofs.Words.{arith, AwaitsStart, BoardValue, Bool, cases_eq, changed}
+use Rattle.psci_headline.proofs.Words.{Clear, cores, Down, false, inl, inr, IsLivePart, List}
+use Rattle.psci_headline.proofs.Words.{listed, MessageValue, nat_tests, OfCore, OfSystem, Option}
+use Rattle.psci_headline.proofs.Words.{Part, Pending, Phase, Put, slice_get, Slot, slot_of, Some}
+use Rattle.psci_headline.proofs.Words.{subst, sym, true, up, updated, ℕ}
 use Rattle.psci_ctl_spec.specs.psci_messages.declared.kind.Kind.TheVariants.{Start}
 use Rattle.psci_headline.proofs.fw_laws.Parts.{updated_at, updated_here, updated_there}
 use Rattle.psci_headline.proofs.Items.{listed_later, of_newest}
@@ -34,12 +33,7 @@ module _ {b : BoardValue} {life : ℕ} {starts : ℕ → ℕ} {depth : ℕ → �
       → AwaitsStart slots x)
       → AreWaiting b life starts depth halts knows new slots (listed o ++ sent) made
   waiting_moved halts knows new slots o keeps sends asks = record {
-    pursued = λ k m at present kind level p part live.
-        of_newest o sent k m (λ is. inr (inl (sends m is present kind)))
-        (λ j old. elim (are.pursued j m old present kind level p part live) [
-          | inl deep ↦ inl deep
-          | inr waits ↦ keeps j level m p old present kind part live waits
-        ]) at;
+    pursued = λ k m at present kind level p part live. grind (arith, nat_tests, of_newest);
     first = are.first;
     asked = asks;
     named = λ k a at.

@@ -1,10 +1,8 @@
 -- What passes at each number of a range, or at each item of a list, and the other way round.
-use Rattle.psci_headline.proofs.Words.{nat_tests}
 use Rattle.std.proofs.Common.{slice_get}
-use Rattle.psci_headline.proofs.Words.{◌+◌, ◌<◌, ◌||◌, ◌∙◌, ◌∷◌, ◌≡◌, ◌≤◌, [], and_from, and_parts}
-use Rattle.psci_headline.proofs.Words.{ap, arith, Bool, cases_eq, false, inl, inr, List, list_all}
-use Rattle.psci_headline.proofs.Words.{not, range_with_len, refl, Some, suc, sym, true, true≢false}
-use Rattle.psci_headline.proofs.Words.{zero, ℕ}
+use Rattle.psci_headline.proofs.Words.{◌+◌, ◌<◌, ◌||◌, ◌∷◌, ◌≡◌, ◌≤◌, [], and_from, and_parts}
+use Rattle.psci_headline.proofs.Words.{arith, Bool, cases_eq, List, list_all, nat_tests, not}
+use Rattle.psci_headline.proofs.Words.{range_with_len, refl, Some, suc, true, true≢false, zero, ℕ}
 
 -- Numbers -------------------------------------------------------------------------------------
 

@@ -1,10 +1,9 @@
 -- What a record adds to the firmware's history, and what it says.
 use Rattle.psci_headline.proofs.Words.{◌∷◌, ◌≡◌, [], Acknowledges, AckValue, Act, arith, Arrival}
 use Rattle.psci_headline.proofs.Words.{arrived, BoardValue, Call, call, Effect, effect, Enter}
-use Rattle.psci_headline.proofs.Words.{entered, Event, function_effect, Fw, FwExchange, indexed}
-use Rattle.psci_headline.proofs.Words.{last_start, List, nat_tests, Option, outcome_in, refl}
-use Rattle.psci_headline.proofs.Words.{request_of, Said, Sent, Some, Start, Take, Taken, took, true}
-use Rattle.psci_headline.proofs.Words.{ℕ}
+use Rattle.psci_headline.proofs.Words.{entered, Event, Fw, FwExchange, indexed, last_start, List}
+use Rattle.psci_headline.proofs.Words.{nat_tests, Option, outcome_in, refl, Said, Sent, Some, Start}
+use Rattle.psci_headline.proofs.Words.{Take, Taken, took, true, ℕ}
 use Rattle.psci_world_spec.specs.declared.said.Said.TheVariants.{Taken as Took}
 use Rattle.psci_headline.proofs.Moving.{function_call, is_call}
 use Rattle.psci_headline.proofs.Placing.{IsLast, last_is}

@@ -1,11 +1,10 @@
 -- What a record says that a call returned is what its function answers, in a life.
-use Rattle.psci_headline.proofs.Words.{◌++◌, ◌<◌, ◌==◌, ◌∙◌, ◌≡◌, acks, ap, arith, BoardValue, Bool}
-use Rattle.psci_headline.proofs.Words.{Call, call, call_fault, Code, cond, controller_values, Event}
-use Rattle.psci_headline.proofs.Words.{false, firmware_history, firmware_values, Fw, FwFault}
-use Rattle.psci_headline.proofs.Words.{IsLegal, List, nat_tests, None, not, Option, Outcome}
-use Rattle.psci_headline.proofs.Words.{outcome_in, Record, refl, Regs, reply_or, Request}
-use Rattle.psci_headline.proofs.Words.{request_of, Said, Sent, Smc, Some, stops, suc, sym, true}
-use Rattle.psci_headline.proofs.Words.{Values, zero, ℕ}
+use Rattle.psci_headline.proofs.Words.{◌++◌, ◌<◌, ◌==◌, ◌≡◌, acks, arith, BoardValue, Bool, Call}
+use Rattle.psci_headline.proofs.Words.{call, call_fault, Code, cond, controller_values, Event}
+use Rattle.psci_headline.proofs.Words.{firmware_history, firmware_values, Fw, FwFault, IsLegal}
+use Rattle.psci_headline.proofs.Words.{List, nat_tests, None, not, Option, Outcome, outcome_in}
+use Rattle.psci_headline.proofs.Words.{Record, refl, Regs, reply_or, Request, request_of, Said}
+use Rattle.psci_headline.proofs.Words.{Sent, Smc, Some, Values, ℕ}
 use Rattle.psci_fw_laws.specs.psci_fw_spec.declared.fault.FwFault.TheVariants.{NoCore, NoLife}
 use Rattle.psci_fw_laws.specs.psci_fw_spec.declared.fault.FwFault.TheVariants.{NotRunning}
 use Rattle.psci_fw_laws.specs.psci_fw_spec.Answer.{answer}

@@ -1,11 +1,11 @@
 -- One round: what is outstanding for each core is served once.
 use Rattle.psci_headline.proofs.Words.{◌+◌, ◌==◌, ◌∙◌, ◌≡◌, ◌≤◌, ◌⊎◌, ap, arith, BoardValue, Bool}
 use Rattle.psci_headline.proofs.Words.{cond, cond-false, cond-true, controller_values, cores}
-use Rattle.psci_headline.proofs.Words.{deliveries, eq-eqb, false, firmware_values, indexed, inl}
-use Rattle.psci_headline.proofs.Words.{inr, is_any, IsLivePart, List, MessageValue, nat_tests}
-use Rattle.psci_headline.proofs.Words.{ne_eqb, None, none-some, OfCore, Option, Part, Record}
-use Rattle.psci_headline.proofs.Words.{same_Some, sent, served, serving, slice_get, Some, subst}
-use Rattle.psci_headline.proofs.Words.{suc, sym, true, up, ℕ}
+use Rattle.psci_headline.proofs.Words.{deliveries, eq-eqb, firmware_values, indexed, inl, inr}
+use Rattle.psci_headline.proofs.Words.{is_any, IsLivePart, List, MessageValue, nat_tests, ne_eqb}
+use Rattle.psci_headline.proofs.Words.{None, none-some, OfCore, Option, Part, Record, same_Some}
+use Rattle.psci_headline.proofs.Words.{sent, served, serving, slice_get, Some, subst, suc, sym, up}
+use Rattle.psci_headline.proofs.Words.{ℕ}
 use Rattle.psci_headline.proofs.fw_laws.Consequences.{once_down}
 use Rattle.psci_headline.proofs.Claimed.{AreDeep}
 use Rattle.psci_headline.proofs.Downs.{IsDownAnswered, IsLeft, down_answered}
@@ -139,8 +139,7 @@ module _ (b : BoardValue) (before : List Record) (life n : ℕ) (first past : Li
     left = λ y e.
         let old = done.left y (sym (a.there x ne) ∙ e) in
         (old.0, subst (λ s. IsLeft b s y n) (sym a.starts) old.1);
-    most = λ j y at down own.
-        omega (arith, done.most j y at down own, same_count x j y ne at own);
+    most = λ j y at down own. grind (arith, nat_tests, same_count);
     once = λ j y at down own e. same_count x j y ne at own ∙ done.once j y at down own e;
   }
 
@@ -165,8 +164,7 @@ module _ (b : BoardValue) (before : List Record) (life n : ℕ) (first past : Li
   done_here now = record {
     deep = deep_here;
     left = λ y e. grind (arith, nat_tests);
-    most = λ j y at down own.
-        omega (arith, a.count j, count_most (j == k), now.count j y at down own);
+    most = λ j y at down own. grind (arith, nat_tests, count_most);
     once = λ j y at down own e.
         let same : y ≡ m = same_Some y m (sym e ∙ sym now.out ∙ out) in
         let equal : j ≡ k = one_index b before life past j k m laws is.going kind

@@ -1,13 +1,11 @@
 -- What is legal to say of an event, by what it asks.
 use Rattle.std.specs.Prelude.{List}
 use Rattle.psci_headline.proofs.Words.{◌<◌, ◌≡◌, Absent, acks, AckValue, arith, BoardValue, Call}
-use Rattle.psci_headline.proofs.Words.{cond, cond_both, controller_values, cores, Deliver, Enter}
-use Rattle.psci_headline.proofs.Words.{Event, if_started, Ignored, indexed, last_start, ltb-true}
-use Rattle.psci_headline.proofs.Words.{MessageValue, nat_lt, nat_tests, Option, Place, place}
-use Rattle.psci_headline.proofs.Words.{Record, Regs, Reset, Running, Said, sent, Some, Start}
-use Rattle.psci_headline.proofs.Words.{Started, Stopped, Take, Wake, ℕ}
-use Rattle.psci_world_spec.specs.Legal.{deliver, if_running, if_stopped, take, asked_controller}
-use Rattle.psci_world_spec.specs.Legal.{asked_firmware, legal}
+use Rattle.psci_headline.proofs.Words.{cond_both, controller_values, cores, Deliver, Enter, Event}
+use Rattle.psci_headline.proofs.Words.{Ignored, indexed, last_start, ltb-true, MessageValue}
+use Rattle.psci_headline.proofs.Words.{nat_tests, place, Record, Regs, Reset, Running, Said, sent}
+use Rattle.psci_headline.proofs.Words.{Some, Start, Started, Take, Wake, ℕ}
+use Rattle.psci_world_spec.specs.Legal.{deliver, take, asked_controller, asked_firmware, legal}
 use Rattle.psci_ctl_spec.specs.declared.call.CtlCall.TheVariants as asked
 use Rattle.psci_fw_laws.specs.psci_fw_spec.declared.call.FwCall.TheVariants as calls
 

@@ -1,12 +1,10 @@
 -- What is so after a message of this life was delivered and its acknowledgement taken.
-use Rattle.psci_headline.proofs.Words.{◌++◌, ◌+◌, ◌==◌, ◌∙◌, ◌∷◌, ◌≡◌, ack_by, ack_in, Acked}
-use Rattle.psci_headline.proofs.Words.{AckValue, ap, arith, BoardValue, cond, control}
-use Rattle.psci_headline.proofs.Words.{controller_values, Deliver, delivered, eq-eqb}
-use Rattle.psci_headline.proofs.Words.{firmware_values, indexed, IsLegalPast, legal_record, length}
-use Rattle.psci_headline.proofs.Words.{List, listed, message_effect, MessageValue, nat_tests}
-use Rattle.psci_headline.proofs.Words.{place_controlled, place_of_effect, Record, refl, sent_in}
-use Rattle.psci_headline.proofs.Words.{serving, Some, step, Take, taken_by, unwrap_or, Used, Values}
-use Rattle.psci_headline.proofs.Words.{values_more, with_acknowledgement, ℕ}
+use Rattle.psci_headline.proofs.Words.{◌+◌, ◌==◌, ◌∙◌, ◌∷◌, ◌≡◌, ack_by, Acked, AckValue, ap, arith}
+use Rattle.psci_headline.proofs.Words.{BoardValue, cond, control, controller_values, Deliver}
+use Rattle.psci_headline.proofs.Words.{eq-eqb, firmware_values, indexed, IsLegalPast, length, List}
+use Rattle.psci_headline.proofs.Words.{message_effect, MessageValue, nat_tests, place_of_effect}
+use Rattle.psci_headline.proofs.Words.{Record, serving, Some, step, Take, taken_by, unwrap_or, Used}
+use Rattle.psci_headline.proofs.Words.{Values, values_more, with_acknowledgement, ℕ}
 use Rattle.psci_world_spec.specs.Legal.{take}
 use Rattle.psci_ctl_spec.specs.Changes.{after}
 use Rattle.psci_ctl_spec.specs.Effects.{effect_of}
@@ -22,7 +20,6 @@ use Rattle.psci_headline.proofs.Counting.{AreAdded, delivered_more, one_added}
 use Rattle.psci_headline.proofs.Finding.{numbered_new}
 use Rattle.psci_ctl_spec.specs.Changes as controlling
 use Rattle.psci_ctl_spec.specs.Exchange as controller
-use Rattle.psci_ctl_spec.specs.History as controls
 use Rattle.psci_ctl_spec.specs.Values as controlled
 use Rattle.psci_headline.specs.Drained as drained
 
@@ -59,18 +56,7 @@ delivered_so b past k m laws at present =
     let a : AckValue = ack_to b past m in
     let said : legal b past (Deliver k) ≡ Acked (length (acks past)) a =
     delivery_said b past k m at present in
-    record {
-      control = ap (λ s. controls.values_of b (control w (sent past) (Deliver k) s ++ h)) said
-          ∙ ap (λ o. controls.values_of b (delivered o a ++ h)) at
-          ∙ values_more b _ h;
-      firmware = refl;
-      sent = ap (λ s. listed (sent_in s) ++ sent past) said;
-      acks = ap (λ s. listed (ack_in s) ++ acks past) said;
-      place = λ x.
-          ap (λ s. unwrap_or (place_controlled b x (control w (sent past) (Deliver k) s))
-          (place b past x)) said
-          ∙ ap (λ o. unwrap_or (place_controlled b x (delivered o a)) (place b past x)) at;
-    }
+    grind (arith, nat_tests, values_more)
 
 -- An acknowledgement ---------------------------------------------------------------------------
 
@@ -122,17 +108,8 @@ answered_so b past k m laws is at present used =
     let n : ℕ = length (acks past) in
     let a : AckValue = ack_to b past m in
     let one : AreDelivered b past k m = delivered_so b past k m laws at present in
-    let made : indexed (acks next) n ≡ Some a =
-    ap (λ (l : List AckValue). indexed l n) one.acks ∙ numbered_new a (acks past) in
+    let made : indexed (acks next) n ≡ Some a = grind (arith, nat_tests, numbered_new) in
     let two : AreTaken b next n a =
     taken_so b next n a laws made
     (ap (λ (v : Values). taken_by v a) one.firmware ∙ used) in
-    record {
-      legal = (refl, (refl, is));
-      added = λ before are. grind (arith, nat_tests, one_added);
-      control = two.control ∙ one.control;
-      firmware = two.firmware ∙ ap (with_acknowledgement b a) one.firmware;
-      sent = two.sent ∙ one.sent;
-      place = λ x. two.place x ∙ one.place x;
-      count = λ j. delivered_more j k (legal_record b past (Deliver k)) past refl;
-    }
+    grind (arith, nat_tests, one_added, delivered_more)

@@ -4,7 +4,7 @@ use Rattle.psci_headline.proofs.Words.{◌++◌, ◌+◌, ◌∙◌, ◌≡◌, 
 use Rattle.psci_headline.proofs.Words.{deliveries, false, indexed, is_halting, is_settling}
 use Rattle.psci_headline.proofs.Words.{IsLegalPast, IsSettled, List, Reached, Record, sent, settled}
 use Rattle.psci_headline.proofs.Words.{subst, sym, ℕ}
-use Rattle.psci_headline.proofs.Bound.{HasRest, IsOften}
+use Rattle.psci_headline.proofs.Bound.{IsOften, HasRest}
 use Rattle.psci_headline.proofs.Counting.{deliveries_more}
 use Rattle.psci_headline.proofs.Going.{IsGoing}
 use Rattle.psci_headline.proofs.Reached.{comes}

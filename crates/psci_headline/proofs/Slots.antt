@@ -1,8 +1,9 @@
 -- What a change leaves in the slot of a core.
-use Rattle.psci_headline.proofs.Words.{◌==◌, ◌∙◌, ◌≡◌, ap, arith, changed, Clear, cond-false}
-use Rattle.psci_headline.proofs.Words.{cond-true, Core, eq-eqb, false, is_system, Kind}
-use Rattle.psci_headline.proofs.Words.{MessageValue, nat_tests, ne_eqb, None, OfCore, OfSystem}
-use Rattle.psci_headline.proofs.Words.{Option, Put, Slot, slot_of, Some, sym, true, ℕ}
+use Rattle.psci_headline.proofs.Words.{◌∙◌, ◌≡◌, ap, arith, changed, Clear, cond-false, cond-true}
+use Rattle.psci_headline.proofs.Words.{eq-eqb, false, is_system, Kind, MessageValue, nat_tests}
+use Rattle.psci_headline.proofs.Words.{ne_eqb, OfCore, OfSystem, Option, Put, Slot, slot_of, Some}
+use Rattle.psci_headline.proofs.Words.{true, ℕ}
+use Rattle.psci_board.specs.declared.node.Core.{Core}
 use Rattle.psci_ctl_spec.specs.psci_messages.declared.kind.Kind.TheVariants as kinds
 
 -- the slot of a message that is sent has it

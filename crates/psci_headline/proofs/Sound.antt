@@ -1,13 +1,11 @@
 -- What the live claims say makes a run safe: no core below a sleeping domain, and no domain deeper
 -- than asked.
-use Rattle.psci_headline.proofs.Words.{nat_tests}
 use Rattle.std.specs.Prelude.{IsSome}
-use Rattle.psci_headline.proofs.Words.{◌<◌, ◌∙◌, ◌≡◌, and_from, ap, arith, BoardValue}
-use Rattle.psci_headline.proofs.Words.{controller_values, cores, depth_at, eq-eqb, executes}
-use Rattle.psci_headline.proofs.Words.{false≢true, HasNode, List, live_claims, Node}
-use Rattle.psci_headline.proofs.Words.{NoDeeperThanAsked, None, NoneBelowSleeping, NoneExecutes}
-use Rattle.psci_headline.proofs.Words.{Option, PathLaws, place, Record, refl, Some, Stopped, sym}
-use Rattle.psci_headline.proofs.Words.{true, up, ℕ}
+use Rattle.psci_headline.proofs.Words.{◌<◌, ◌≡◌, and_from, arith, BoardValue, controller_values}
+use Rattle.psci_headline.proofs.Words.{cores, depth_at, eq-eqb, executes, false≢true, HasNode, List}
+use Rattle.psci_headline.proofs.Words.{nat_tests, Node, NoDeeperThanAsked, None, NoneBelowSleeping}
+use Rattle.psci_headline.proofs.Words.{NoneExecutes, Option, PathLaws, place, Record, refl, Some}
+use Rattle.psci_headline.proofs.Words.{Stopped, true, up, ℕ}
 use Rattle.psci_headline.specs.Live.{AreAsked, AreClaimed}
 use Rattle.psci_headline.proofs.LiveOnes.{is_live_one}
 use Rattle.psci_headline.proofs.Picked.{any_passes}
@@ -53,6 +51,4 @@ no_deeper b past claimed asked n has some deep =
     let life = present_life (controller_values b past).life some in
     let live = claimed life.0 n has life.1 deep in
     let one = is_live_one b past n live.index live.claim live.at in
-    any_passes _ (live_claims b past n) live.index live.claim live.at
-    (and_from _ _ (eq-eqb live.claim.depth (depth_at b past n.level n.place) live.deep)
-    (asked one.life n one.index live.claim has one.at))
+    grind (arith, nat_tests, any_passes, and_from, eq-eqb)

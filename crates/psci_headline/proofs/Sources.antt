@@ -1,9 +1,8 @@
 -- A domain that is not fully on is as deep as a live claim on it.
-use Rattle.psci_headline.proofs.Words.{arith, nat_tests}
-use Rattle.psci_headline.proofs.Words.{◌<◌, ◌∙◌, ◌≡◌, ◌⊎◌, and_from, BoardValue, controller_history}
-use Rattle.psci_headline.proofs.Words.{controller_values, HasNode, inl, inr, is_on_path, IsApplied}
-use Rattle.psci_headline.proofs.Words.{IsFirst, IsFromStart, IsReplied, le-leb, List, lt-ltb, Node}
-use Rattle.psci_headline.proofs.Words.{Record, refl, Some, sym, ℕ}
+use Rattle.psci_headline.proofs.Words.{◌<◌, ◌∙◌, ◌≡◌, ◌⊎◌, and_from, arith, BoardValue}
+use Rattle.psci_headline.proofs.Words.{controller_history, controller_values, HasNode, inl}
+use Rattle.psci_headline.proofs.Words.{is_on_path, IsApplied, IsFirst, IsFromStart, IsReplied}
+use Rattle.psci_headline.proofs.Words.{le-leb, List, lt-ltb, nat_tests, Node, Record, Some, sym, ℕ}
 use Rattle.psci_headline.proofs.Claiming.{off_path}
 use Rattle.psci_headline.proofs.Deep.{first_off}
 use Rattle.psci_headline.proofs.AppliedParts.{was_sent}
@@ -27,11 +26,7 @@ from_first b past life level place has some f =
     let off = first_off (is_on_path b 0 level place) ((controller_values b past).depth level place)
     f.depth some in
     let from : IsFromStart b level place (record { level = level; depth = 3; generation = 0 }) =
-    record {
-      node = and_from _ _ (le-leb _ _ has.level) (lt-ltb _ _ has.place);
-      off_path = off_path b n 0 has off.0;
-      is = refl;
-    } in
+    grind (arith, nat_tests, and_from, le-leb, lt-ltb, off_path) in
     record {
       part = record { level = level; depth = 3; generation = 0 };
       claim = inl from;

@@ -1,11 +1,10 @@
 -- What is known of every legal past, and what follows where no core is started.
-use Rattle.psci_headline.proofs.Words.{nat_tests}
 use Rattle.psci_headline.proofs.Words.{◌+◌, ◌<◌, ◌∙◌, ◌≡◌, ap, arith, BoardValue, cases_eq}
 use Rattle.psci_headline.proofs.Words.{ChildLaws, controller_values, cores, firmware_values}
 use Rattle.psci_headline.proofs.Words.{HasDeeper, HasNode, height, in_life, inl, inr, IsClaimOn}
 use Rattle.psci_headline.proofs.Words.{IsCurrent, IsLegalPast, known_below, List, MessageValue}
-use Rattle.psci_headline.proofs.Words.{NonePending, NoneRefused, Part, place, Record, sent, Some}
-use Rattle.psci_headline.proofs.Words.{Started, sym, up, Values, Waiting, ℕ}
+use Rattle.psci_headline.proofs.Words.{nat_tests, NonePending, NoneRefused, Part, place, Record}
+use Rattle.psci_headline.proofs.Words.{sent, Some, Started, sym, up, Values, Waiting, ℕ}
 use Rattle.psci_headline.proofs.Agreed.{RunLaws}
 use Rattle.psci_headline.proofs.Agreeing.{found_other, found_own}
 use Rattle.psci_headline.proofs.Carried.{IsGiven}
@@ -78,8 +77,7 @@ settled_life b past life some is present none = record {
       | inl same ↦ same
       | inr other ↦
           let boot = is.values.boot life present in
-          let zero : (in_life b life v).known 0 ≡ 0 =
-          ap (λ (u : Values). u.known 0) (found_other b life v other) in
+          let zero : (in_life b life v).known 0 ≡ 0 = grind (arith, nat_tests, found_other, v) in
           let one = all_known b past life is present none 0 some in
           absurd (omega (arith, boot, zero, one))
     ]

@@ -48,14 +48,7 @@ beside b starts c level m p counts low older live =
     let now = same_sum b (one_more starts c) n in
     let before = same_sum b starts n in
     let more = counts level place low in
-    elim (cases_Bool (is_on_path b c level place)) [
-      | inl on ↦
-          let one = cond-true {A = ℕ} (is_on_path b c level place) 1 0 on in
-          absurd (omega (arith, live, now, before, more, one, older))
-      | inr off ↦
-          let none = cond-false {A = ℕ} (is_on_path b c level place) 1 0 off in
-          record { off = off; live = omega (arith, live, now, before, more, none) }
-    ]
+    grind (arith, nat_tests, cases_Bool, cond-true, cond-false)
 
 -- Started --------------------------------------------------------------------------------------
 

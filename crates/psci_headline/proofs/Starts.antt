@@ -61,19 +61,14 @@ start_answered b before life past c m laws both at start n = record {
     record {
       legal = em.answered.legal;
       added = em.answered.added before way.added;
-      present = ap (λ (w : controlled.Values). w.life) em.answered.control
-          ∙ start_life b (controller_values b past) n.message a n.message.kind
-          (sym n.name.kind ∙ kind) ∙ way.present;
-      awake = ap (λ (u : Values). u.halting) (found_own b life next (sym own))
-          ∙ ap (λ (u : Values). u.halting) em.answered.firmware
-          ∙ ap (λ (u : Values). u.halting) (sym (found_own b life v (sym both.1))) ∙ way.awake;
+      present = grind (arith, nat_tests, em, start_life, a, kind, way, present);
+      awake = grind (arith, nat_tests, found_own, next, own, em, v, way);
       count = λ j. by_test j (cases_Bool (j == n.number)) (em.answered.count j);
     },
     own,
   );
   there = em.there;
-  here = em.here ∙ cond-true (is_done a m) None (Some m)
-      (start_done a m (em.kind ∙ kind));
+  here = grind (arith, nat_tests, em, cond-true, a, start_done, kind);
 }
   where
     way : IsUnderWay b before life past

@@ -1,12 +1,11 @@
 -- The hardware states that are said of domains were real, after every legal past.
 use Rattle.psci_headline.proofs.Words.{◌<◌, ◌==◌, ◌∙◌, ◌∷◌, ◌≡◌, [], acks, AckValue, and_parts}
 use Rattle.psci_headline.proofs.Words.{and_right, ap, AreValues, arith, BoardValue, Bool, cond}
-use Rattle.psci_headline.proofs.Words.{controller_values, false, firmware_values, first_depth}
-use Rattle.psci_headline.proofs.Words.{first_starts, HasNode, hw_at, inl, inr, IsAllowed}
-use Rattle.psci_headline.proofs.Words.{IsLegalPast, KnownLaws, List, ltb-true, nat_lt, nat_tests}
-use Rattle.psci_headline.proofs.Words.{ne_eqb, Node, node_hw, not, On, PathLaws, Record, refl}
-use Rattle.psci_headline.proofs.Words.{said_hw, slice_get, Some, StatesWereReal, subst, sym, true}
-use Rattle.psci_headline.proofs.Words.{up, Values, was_in_state, WasMade, ℕ}
+use Rattle.psci_headline.proofs.Words.{controller_values, firmware_values, first_depth}
+use Rattle.psci_headline.proofs.Words.{first_starts, HasNode, hw_at, inl, inr, IsLegalPast}
+use Rattle.psci_headline.proofs.Words.{KnownLaws, List, ltb-true, nat_tests, ne_eqb, Node, node_hw}
+use Rattle.psci_headline.proofs.Words.{not, On, PathLaws, Record, slice_get, Some, StatesWereReal}
+use Rattle.psci_headline.proofs.Words.{subst, sym, true, up, Values, was_in_state, WasMade, ℕ}
 use Rattle.psci_fw_laws.specs.psci_fw_spec.NodeHwState.{hw_code}
 use Rattle.psci_ctl_spec.specs.Values.{starts_below}
 use Rattle.psci_fw_laws.specs.KnownBelow.{known_below}
@@ -110,13 +109,7 @@ seen_by b r past n laws legal next are has w some how =
             (λ e. begun.other (sym e)) begun.off)
         | inr taken ↦
             let made = next.moves.says.takes taken.ack taken.is in
-            let t : IsTaken b past taken.ack = record {
-              paths = laws.paths;
-              holds = next.holds;
-              values = laws.values past legal;
-              made = laws.made past legal made.index taken.ack made.at;
-              awaited = subst (IsAllowed b v) taken.is next.moves.allowed;
-            } in
+            let t : IsTaken b past taken.ack = grind (arith, nat_tests) in
             so_still b past v w n taken.stays (carried_out b past taken.ack t n has taken.by)
       ]
     ]

@@ -1,12 +1,12 @@
 -- What is told, after one call of the firmware or of the power controller.
-use Rattle.psci_headline.proofs.Words.{◌+◌, ◌==◌, ◌∙◌, ◌≡◌, ◌≤◌, Acknowledges, AckValue}
-use Rattle.psci_headline.proofs.Words.{AreConfirming, arith, AsksOn, BoardValue, Bool, cases_eq}
-use Rattle.psci_headline.proofs.Words.{change, cond, cond_both, Effect, Enters, false, GoesOn}
-use Rattle.psci_headline.proofs.Words.{Halts, Holds, in_life, inl, inr, IsAllowed, KnownLaws, List}
-use Rattle.psci_headline.proofs.Words.{MessageValue, nat_tests, next_life, one_more, Option, Parks}
-use Rattle.psci_headline.proofs.Words.{PathLaws, refl, Rests, SetsMode, slice_get, Some, Start}
-use Rattle.psci_headline.proofs.Words.{start_of_life, Stops, StopsAtOnce, subst, sym, true, Values}
-use Rattle.psci_headline.proofs.Words.{WasTold, with_mode, with_pending, ℕ}
+use Rattle.psci_headline.proofs.Words.{◌+◌, ◌∙◌, ◌≡◌, ◌≤◌, Acknowledges, AckValue, AreConfirming}
+use Rattle.psci_headline.proofs.Words.{arith, AsksOn, BoardValue, Bool, cases_eq, change, cond}
+use Rattle.psci_headline.proofs.Words.{cond_both, Effect, Enters, GoesOn, Halts, Holds, in_life}
+use Rattle.psci_headline.proofs.Words.{IsAllowed, KnownLaws, List, MessageValue, nat_tests}
+use Rattle.psci_headline.proofs.Words.{next_life, Option, Parks, PathLaws, refl, Rests, SetsMode}
+use Rattle.psci_headline.proofs.Words.{slice_get, Some, Start, start_of_life, Stops, StopsAtOnce}
+use Rattle.psci_headline.proofs.Words.{subst, sym, Values, WasTold, with_pending, ℕ}
+use Rattle.psci_headline.specs.psci_fw_spec.Changes.{with_mode}
 use Rattle.psci_headline.specs.psci_fw_spec.Effects.{Nothing}
 use Rattle.psci_headline.proofs.fw_laws.Arriving.{found_life}
 use Rattle.psci_headline.proofs.Agreeing.{found_other, found_own}

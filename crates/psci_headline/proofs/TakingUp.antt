@@ -1,7 +1,7 @@
 -- An entry takes up the opening that waits for its core.
 use Rattle.psci_headline.proofs.Words.{◌<◌, ◌∙◌, ◌∷◌, ◌≡◌, ap, arith, EnteredAt, Fits, List, Made}
 use Rattle.psci_headline.proofs.Words.{nat_tests, newest, None, Opening, Option, refl, slice_get}
-use Rattle.psci_headline.proofs.Words.{Some, subst, suc, sym, TakenUp, updated, zero, ℕ}
+use Rattle.psci_headline.proofs.Words.{Some, suc, sym, TakenUp, updated, zero, ℕ}
 use Rattle.psci_headline.proofs.Waiting.{AreWaiting, IsBefore, IsFresh, IsWaiting, newest_is}
 use Rattle.psci_headline.proofs.Waiting.{none_left}
 
@@ -60,15 +60,7 @@ module _ (n life : ℕ) (opening : ℕ → Option Opening) (made : List Made) (t
   now_each zero t at =
       let same : taking x made ≡ t = cc in
       let is = newest_is x.core x.life made waited.last waited.is in
-      subst IsTaken same (
-        waited.last,
-        waited.is,
-        record {
-          core = is.of_core;
-          life = is.of_life;
-          opening = waited.opening;
-        },
-      )
+      grind (arith, nat_tests, waited)
   now_each (suc k) t at = are.each k t at
 
   now_once : (j k : ℕ) (t u : TakenUp) (m l : Made) → slice_get (taking x made ∷ taken) j ≡ Some t

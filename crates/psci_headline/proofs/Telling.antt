@@ -54,8 +54,7 @@ pub live_down : (b : BoardValue) (starts : ℕ → ℕ) (m : MessageValue) → I
 live_down b starts m below zero level p q at_p at_q live = grind (arith, nat_tests, same_Some)
 live_down b starts m below (suc gap) level p q at_p at_q live =
     let next : level + suc gap ≡ (level + 1) + gap = omega arith in
-    let high : level + 1 < length m.parts =
-    let within = slice_get_within m.parts (level + suc gap) q at_q in omega (arith, within) in
+    let high : level + 1 < length m.parts = grind (arith, nat_tests, slice_get_within) in
     let mid = item_at m.parts (level + 1) high in
     below level p mid.item at_p mid.at
     (live_down b starts m below gap (level + 1) mid.item q mid.at

@@ -4,15 +4,13 @@ use Rattle.psci_headline.proofs.Words.{and_parts, arith, BoardValue, Bool, cases
 use Rattle.psci_headline.proofs.Words.{controller_values, cores, depth_at, eq-eqb, eqb-true}
 use Rattle.psci_headline.proofs.Words.{executes, executes_outside, HasNode, height, is_asked}
 use Rattle.psci_headline.proofs.Words.{is_each_real, is_off_down, is_off_stopped, is_one}
-use Rattle.psci_headline.proofs.Words.{is_powered, is_reported_off, is_some, le-leb, leb-true}
-use Rattle.psci_headline.proofs.Words.{length, List, list_all, live_claims, nat_tests, Node}
-use Rattle.psci_headline.proofs.Words.{NoDeeperThanAsked, nodes, NoneBelowSleeping, not, OffIsDown}
-use Rattle.psci_headline.proofs.Words.{or_cases, or_left, or_right, Place, place, range_with_len}
-use Rattle.psci_headline.proofs.Words.{Record, Running, Started, StatesWereReal, true, up, ℕ}
-use Rattle.psci_headline.specs.Hardware.{is_said_asleep}
+use Rattle.psci_headline.proofs.Words.{is_powered, is_reported_off, is_some, le-leb, leb-true, List}
+use Rattle.psci_headline.proofs.Words.{list_all, nat_tests, Node, NoDeeperThanAsked, nodes}
+use Rattle.psci_headline.proofs.Words.{NoneBelowSleeping, not, OffIsDown, or_cases, or_left}
+use Rattle.psci_headline.proofs.Words.{or_right, Place, place, range_with_len, Record, Running}
+use Rattle.psci_headline.proofs.Words.{StatesWereReal, true, up, ℕ}
 use Rattle.psci_headline.specs.Safe.{OneLiveClaim}
-use Rattle.psci_headline.specs.Test.{at_each_core, at_each_domain, at_each_level, has_one}
-use Rattle.psci_headline.specs.Test.{was_asked, was_real}
+use Rattle.psci_headline.specs.Test.{at_each_core, at_each_domain, at_each_level, was_asked}
 use Rattle.psci_headline.proofs.Ranges.{all_in, each_in, if_holds, where_holds}
 
 -- Everywhere on the board ---------------------------------------------------------------------

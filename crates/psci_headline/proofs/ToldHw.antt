@@ -2,16 +2,15 @@
 use Rattle.psci_headline.proofs.Words.{◌<◌, ◌==◌, ◌∙◌, ◌∷◌, ◌≡◌, ◌≤◌, [], and_from, and_parts, ap}
 use Rattle.psci_headline.proofs.Words.{arith, BoardValue, Bool, Call, cases_Bool, Code, cond}
 use Rattle.psci_headline.proofs.Words.{controller_values, Event, firmware_values, Fw, HasNode, Hw}
-use Rattle.psci_headline.proofs.Words.{hw_at, inl, inr, int_eq, is_in_state, IsLegal, IsLegalPast}
-use Rattle.psci_headline.proofs.Words.{List, lt-ltb, nat_lt, nat_tests, Node, node_hw, None, not}
-use Rattle.psci_headline.proofs.Words.{or_left, or_right, pos, Record, refl, Request, request_of}
-use Rattle.psci_headline.proofs.Words.{Said, said_hw, Some, StatesWereReal, subst, sym, true}
-use Rattle.psci_headline.proofs.Words.{Values, ℕ}
+use Rattle.psci_headline.proofs.Words.{hw_at, int_eq, is_in_state, IsLegal, IsLegalPast, List}
+use Rattle.psci_headline.proofs.Words.{lt-ltb, nat_tests, Node, node_hw, None, not, or_left}
+use Rattle.psci_headline.proofs.Words.{or_right, pos, Record, Request, request_of, Said, Some}
+use Rattle.psci_headline.proofs.Words.{StatesWereReal, sym, true, Values, ℕ}
+use Rattle.psci_headline.specs.Hardware.{said_hw, is_hw, was_in_state}
 use Rattle.psci_fw_laws.specs.psci_fw_spec.NodeHwState.{hw_code, hw_state_of}
 use Rattle.psci_board.specs.Board.{node_of}
 use Rattle.psci_fw_laws.specs.psci_fw_spec.declared.hw.Hw.TheVariants.{Off, Standby}
 use Rattle.psci_world_spec.specs.Histories.{firmware_history}
-use Rattle.psci_headline.specs.Hardware.{is_hw, known_starts, was_in_state}
 use Rattle.psci_headline.specs.ToldHw.{WasSoDeep, hw_asked_of, is_off_depth, is_so_deep}
 use Rattle.psci_headline.specs.ToldHw.{is_standby_depth, told_hw, was_so_deep}
 use Rattle.psci_headline.proofs.ToldOff.{named_node, if_so, no_node}

@@ -3,13 +3,12 @@ use Rattle.std.specs.List.{find}
 use Rattle.psci_headline.proofs.Words.{◌+◌, ◌<◌, ◌==◌, ◌∙◌, ◌∷◌, ◌≡◌, ◌≤◌, AllOff, and_from, ap}
 use Rattle.psci_headline.proofs.Words.{arith, below, BoardValue, Bool, Call, cases_Bool, cases_lt}
 use Rattle.psci_headline.proofs.Words.{Code, cond, cond-true, cores, eq-eqb, eqb-true, Event, false}
-use Rattle.psci_headline.proofs.Words.{filter, firmware_values, Fw, has_node, HasNode, height, inl}
-use Rattle.psci_headline.proofs.Words.{inr, int_eq, IsLegal, le-leb, leb-true, List, list_any}
-use Rattle.psci_headline.proofs.Words.{lt-ltb, nat_le, nat_lt, nat_tests, Node, nodes, None, Off}
-use Rattle.psci_headline.proofs.Words.{OffIsDown, Option, option_map, or_parts, PathLaws, pos}
-use Rattle.psci_headline.proofs.Words.{range_with_len, Record, refl, Request, request_of, Said}
-use Rattle.psci_headline.proofs.Words.{same_Some, Some, Status, subst, suc, sym, true, Values, zero}
-use Rattle.psci_headline.proofs.Words.{ℕ}
+use Rattle.psci_headline.proofs.Words.{filter, firmware_values, Fw, has_node, HasNode, height}
+use Rattle.psci_headline.proofs.Words.{int_eq, IsLegal, le-leb, leb-true, List, list_any, lt-ltb}
+use Rattle.psci_headline.proofs.Words.{nat_le, nat_lt, nat_tests, Node, nodes, None, Off, OffIsDown}
+use Rattle.psci_headline.proofs.Words.{Option, or_parts, PathLaws, pos, range_with_len, Record}
+use Rattle.psci_headline.proofs.Words.{refl, Request, request_of, Said, same_Some, Some, Status}
+use Rattle.psci_headline.proofs.Words.{subst, suc, sym, true, Values, zero, ℕ}
 use Rattle.psci_board.specs.Board.{node_of, size_below, up}
 use Rattle.psci_fw_laws.specs.psci_fw_spec.declared.status.Status.TheVariants.{On, Pending}
 use Rattle.psci_fw_laws.specs.psci_fw_spec.AffinityInfo.{affinity_of, is_on, is_pending_status}
@@ -114,8 +113,7 @@ by_request b v d (requests.AffinityInfo level word) code n is told =
     record {
       begun = is.begun;
       low = (named_node b word level n both.1).level;
-      off = code_off (node_status b v.status n)
-          (ap (λ (x : Code). int_eq x.0 (pos 1)) (sym named) ∙ both.0);
+      off = grind (arith, nat_tests, code_off);
     }
 by_request b v d r code n is told = absurd (no_node (int_eq code.0 (pos 1)) n told)
 

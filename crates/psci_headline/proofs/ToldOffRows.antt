@@ -1,11 +1,10 @@
 -- Worked examples: what a record says is OFF, domains of which all cores are off, and domains of
 -- which one is not.
-use Rattle.std.proofs.Common.{◌++◌, ◌≡◌, ◌<◌, ℕ, zero, suc, Bool, true, false, List, [], ◌∷◌}
-use Rattle.std.proofs.Common.{Option, None, Some, refl, arith}
+use Rattle.std.proofs.Common.{◌++◌, ◌≡◌, ℕ, Bool, true, false, List, [], ◌∷◌, Option, None, Some}
+use Rattle.std.proofs.Common.{refl, arith}
 use Rattle.psci_board.specs.Board.{BoardValue}
 use Rattle.psci_board.specs.declared.node.Node.{Node}
 use Rattle.psci_board.proofs.Tables.{◌⇒◌, Gives, Row}
-use Rattle.psci_world_spec.specs.declared.place.Place.TheVariants.{Running, Stopped}
 use Rattle.psci_world_spec.specs.declared.event.Event.{Event}
 use Rattle.psci_world_spec.specs.declared.event.Event.TheVariants.{Deliver, Enter, Take}
 use Rattle.psci_world_spec.specs.declared.said.Record.{Record}

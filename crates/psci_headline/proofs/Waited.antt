@@ -1,8 +1,8 @@
 -- What waits after every legal run.
 use Rattle.psci_headline.proofs.Words.{◌++◌, ◌∙◌, ◌∷◌, ◌≡◌, [], ack_in, AckValue, ap, arith}
-use Rattle.psci_headline.proofs.Words.{BoardValue, change, controller_values, Event, firmware_values}
-use Rattle.psci_headline.proofs.Words.{IsLegalPast, List, listed, MayFollow, message_effect}
-use Rattle.psci_headline.proofs.Words.{MessageValue, nat_tests, None, Option, place, Record, refl}
+use Rattle.psci_headline.proofs.Words.{BoardValue, change, controller_values, Event}
+use Rattle.psci_headline.proofs.Words.{firmware_values, IsLegalPast, List, listed, MayFollow}
+use Rattle.psci_headline.proofs.Words.{message_effect, nat_tests, None, Option, place, Record, refl}
 use Rattle.psci_headline.proofs.Words.{Reset, Said, sent_in, Some, subst, sym, Values, Wake}
 use Rattle.psci_ctl_spec.specs.Effects.{effect_of}
 use Rattle.psci_headline.specs.psci_world_spec.Histories.{acks, controller_history}
@@ -101,10 +101,7 @@ module _ (b : BoardValue) (laws : BoardLaws b) (r : Record) (past : List Record)
       let new = new_ack b r past a is.0 e in
       let d = new.made in
       let at = at_number (sent past) d.number d.message d.at in
-      subst (λ u. WaitsNow b u v (sent past) (a ∷ acks past))
-      (sym new.values ∙ ap (controls.values_of b) (more_controls b r past))
-      (acked_waits b w (place b past) v (sent past) (acks past) at.index d.message a given at.at
-      d.life d.ack (may_follow a new) now)
+      grind (arith, nat_tests, more_controls, acked_waits, given, may_follow)
 
   -- an event asks one of both, and leaves the other as it was
   by_event : (event : Event) (s : Said)

@@ -26,12 +26,7 @@ pub newest_is : (c life : ℕ) (made : List Made) (m : Made) → newest c life m
 newest_is c life made m e =
     let is = is_kept (λ (x : Made). x.core == c && x.life == life) made 0 m e in
     let both = and_parts (m.core == c) _ is.passes in
-    record {
-      index = is.index;
-      at = is.at;
-      of_core = eqb-true _ _ both.0;
-      of_life = eqb-true _ _ both.1;
-    }
+    grind (arith, nat_tests, eqb-true)
 
 -- What holds -----------------------------------------------------------------------------------
 

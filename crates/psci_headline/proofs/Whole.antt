@@ -1,11 +1,12 @@
 -- Where firmware and power controller agree, all is told.
-use Rattle.psci_headline.proofs.Words.{◌<◌, ◌∙◌, ◌≡◌, agrees, ap, AreAtRest, AreConfirming}
-use Rattle.psci_headline.proofs.Words.{AreValues, arith, Away, BoardValue, Bool, cases_eq, cases_lt}
-use Rattle.psci_headline.proofs.Words.{cond, Confirming, controller_values, cores, false}
-use Rattle.psci_headline.proofs.Words.{firmware_values, HasNode, Holds, hw_at, in_life, inl, inr}
-use Rattle.psci_headline.proofs.Words.{is_halting, IsLegalPast, IsToldWhole, IsYetToCome, List}
-use Rattle.psci_headline.proofs.Words.{nat_tests, Node, node_hw, none-some, Off, On, Phase, Record}
-use Rattle.psci_headline.proofs.Words.{refl, sent, Some, subst, sym, true, Values, ℕ}
+use Rattle.psci_headline.proofs.Words.{◌<◌, ◌∙◌, ◌≡◌, ap, AreAtRest, AreConfirming, AreValues}
+use Rattle.psci_headline.proofs.Words.{arith, Away, BoardValue, Bool, cases_eq, cases_lt, cond}
+use Rattle.psci_headline.proofs.Words.{Confirming, controller_values, cores, false, firmware_values}
+use Rattle.psci_headline.proofs.Words.{HasNode, Holds, hw_at, in_life, inl, inr, is_halting}
+use Rattle.psci_headline.proofs.Words.{IsLegalPast, IsToldWhole, IsYetToCome, List, nat_tests, Node}
+use Rattle.psci_headline.proofs.Words.{node_hw, none-some, Off, On, Phase, Record, sent, Some, sym}
+use Rattle.psci_headline.proofs.Words.{true, Values, ℕ}
+use Rattle.psci_fw_laws.specs.psci_fw_spec.Invariant.{agrees}
 use Rattle.psci_headline.proofs.Agreeing.{found_other, found_own}
 use Rattle.psci_headline.proofs.Confirmed.{RunLaws}
 use Rattle.psci_headline.specs.psci_ctl_spec.Values as controlled
@@ -76,18 +77,7 @@ module _ (b : BoardValue) (past : List Record) (laws : RunLaws b) (legal : IsLeg
   hw_now confirming n has =
       let below = laws.paths.some_core n has in
       let some : 0 < cores b = omega (arith, below.1) in
-      elim (cases_lt 0 (v.granted n.level n.place)) [
-        | inl granted ↦ elim ((are confirming some).domains n.level n.place granted) [
-          | inl confirmed ↦
-              ap (λ t. cond t (hw_at (v.granted n.level n.place)) On) confirmed
-              ∙ ap hw_at (rest.agree n has)
-          | inr yet ↦ absurd (none_yet some n.level n.place yet)
-        ]
-        | inr low ↦
-            flat_on (v.confirmed n.level n.place) (v.granted n.level n.place)
-            (omega (arith, low))
-            ∙ ap hw_at (rest.agree n has)
-      ]
+      grind (arith, nat_tests, cases_lt, are, none_yet, flat_on)
 
   off_now : Confirming b past → (c : ℕ) → c < cores b → v.phase c ≡ Away → v.status c ≡ Off
   off_now confirming c at away =

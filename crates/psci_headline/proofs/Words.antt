@@ -1,9 +1,8 @@
 -- The words of std and of definitions that proofs here speak in.
 pub use Rattle.std.proofs.Common.{◌&&◌, ◌++◌, ◌+◌, ◌-◌, ◌<◌, ◌==◌, ◌||◌, ◌↔◌, ◌∙◌, ◌∷◌, ◌≡◌, ◌≤◌}
 pub use Rattle.std.proofs.Common.{◌⊎◌, [], ap, arith, Bool, cond, false, filter, inl, inr, is_some}
-pub use Rattle.std.proofs.Common.{length, List, None, not, Option, option_and_then, option_map, pos}
-pub use Rattle.std.proofs.Common.{refl, reverse, Some, subst, suc, sym, take, true, unwrap_or, zero}
-pub use Rattle.std.proofs.Common.{ℕ}
+pub use Rattle.std.proofs.Common.{length, List, None, not, Option, option_map, pos, refl, reverse}
+pub use Rattle.std.proofs.Common.{Some, subst, suc, sym, take, true, unwrap_or, zero, ℕ}
 pub use Rattle.std.proofs.lemmas.Bool.{and_from, and_parts, and_right, cases_Bool, cases_eq}
 pub use Rattle.std.proofs.lemmas.Bool.{cases_lt, cond-false, cond-true, cond_both, eq-eqb}
 pub use Rattle.std.proofs.lemmas.Bool.{eqb-false, eqb-true, false_from_ne_true, false≢true, le-leb}
@@ -20,7 +19,6 @@ pub use Rattle.psci_board.specs.Board.{below, BoardValue, cores, domain_of, has_
 pub use Rattle.psci_board.specs.Board.{height, nodes, up}
 pub use Rattle.psci_board.specs.Laws.{ChildLaws, PathLaws}
 pub use Rattle.psci_board.specs.Paths.{is_on_path, is_path_place}
-pub use Rattle.psci_board.specs.declared.node.Core.{Core}
 pub use Rattle.psci_board.specs.declared.node.Node.{Node}
 pub use Rattle.psci_ctl_spec.proofs.Front.{get_take, take_get}
 pub use Rattle.psci_ctl_spec.proofs.OneMore.{values_more}
@@ -47,7 +45,7 @@ pub use Rattle.psci_ctl_spec.specs.psci_messages.declared.taken.Taken.TheVariant
 pub use Rattle.psci_fw_laws.proofs.Arriving.{found_life}
 pub use Rattle.psci_fw_laws.proofs.Parts.{part_from, part_has, updated_at, updated_here}
 pub use Rattle.psci_fw_laws.proofs.fw_spec.Endings.{function_ends, outcome_ends}
-pub use Rattle.psci_fw_laws.specs.Allowed.{IsAllowed, IsAwaited}
+pub use Rattle.psci_fw_laws.specs.Allowed.{IsAllowed, IsAwaited, IsEntering}
 pub use Rattle.psci_fw_laws.specs.Asked.{IsAskedFor}
 pub use Rattle.psci_fw_laws.specs.Claims.{AreRising, part_for}
 pub use Rattle.psci_fw_laws.specs.psci_fw_spec.After.{change}
@@ -56,27 +54,24 @@ pub use Rattle.psci_fw_laws.specs.psci_fw_spec.Calls.{call_fault, outcome_of}
 pub use Rattle.psci_fw_laws.specs.psci_fw_spec.Changes.{confirms_on, PowerOn, target}
 pub use Rattle.psci_fw_laws.specs.psci_fw_spec.Effects.{Acknowledges, AsksOn, Effect, effect_of}
 pub use Rattle.psci_fw_laws.specs.psci_fw_spec.Effects.{enter_effect, Enters, function_effect}
-pub use Rattle.psci_fw_laws.specs.psci_fw_spec.Effects.{GoesOn, mode_effect, Parks, Rests}
-pub use Rattle.psci_fw_laws.specs.psci_fw_spec.Effects.{StopsAtOnce}
-pub use Rattle.psci_fw_laws.specs.psci_fw_spec.Entering.{enter_fault, outcome_at}
+pub use Rattle.psci_fw_laws.specs.psci_fw_spec.Effects.{GoesOn, Parks, Rests, StopsAtOnce}
+pub use Rattle.psci_fw_laws.specs.psci_fw_spec.Entering.{enter_fault}
 pub use Rattle.psci_fw_laws.specs.psci_fw_spec.Exchange.{effect, FwExchange}
 pub use Rattle.psci_fw_laws.specs.psci_fw_spec.History.{values_of}
-pub use Rattle.psci_fw_laws.specs.psci_fw_spec.Invariant.{agrees, AreValues}
+pub use Rattle.psci_fw_laws.specs.psci_fw_spec.Invariant.{AreValues}
 pub use Rattle.psci_fw_laws.specs.psci_fw_spec.Legal.{IsLegal}
 pub use Rattle.psci_fw_laws.specs.psci_fw_spec.Lives.{start_of_life}
 pub use Rattle.psci_fw_laws.specs.psci_fw_spec.NodeHwState.{hw_at, node_hw}
-pub use Rattle.psci_fw_laws.specs.psci_fw_spec.Outcomes.{executes_on, stops, stops_with}
+pub use Rattle.psci_fw_laws.specs.psci_fw_spec.Outcomes.{executes_on}
 pub use Rattle.psci_fw_laws.specs.psci_fw_spec.Phases.{is_running}
 pub use Rattle.psci_fw_laws.specs.psci_fw_spec.Said.{Arrival, arrived, listed}
 pub use Rattle.psci_fw_laws.specs.psci_fw_spec.Sent.{sent_messages}
-pub use Rattle.psci_fw_laws.specs.psci_fw_spec.SuspendMode.{mode_of}
 pub use Rattle.psci_fw_laws.specs.psci_fw_spec.Values.{updated, Values}
 pub use Rattle.psci_fw_laws.specs.psci_fw_spec.declared.call.FwCall.{FwCall}
 pub use Rattle.psci_fw_laws.specs.psci_fw_spec.declared.call.FwCall.TheVariants.{Smc}
 pub use Rattle.psci_fw_laws.specs.psci_fw_spec.declared.fault.FwFault.{FwFault}
 pub use Rattle.psci_fw_laws.specs.psci_fw_spec.declared.hw.Hw.{Hw}
 pub use Rattle.psci_fw_laws.specs.psci_fw_spec.declared.hw.Hw.TheVariants.{On}
-pub use Rattle.psci_fw_laws.specs.psci_fw_spec.declared.mode.SuspendMode.{SuspendMode}
 pub use Rattle.psci_fw_laws.specs.psci_fw_spec.declared.opening.Opening.{Opening}
 pub use Rattle.psci_fw_laws.specs.psci_fw_spec.declared.outcome.Act.{Act}
 pub use Rattle.psci_fw_laws.specs.psci_fw_spec.declared.outcome.Outcome.{Outcome}
@@ -89,7 +84,7 @@ pub use Rattle.psci_headline.specs.Complete.{IsToldWhole}
 pub use Rattle.psci_headline.specs.Confirming.{AreConfirming, Confirming, IsConfirmedOr, IsOffOr}
 pub use Rattle.psci_headline.specs.Confirming.{IsOutstanding, IsYetToCome}
 pub use Rattle.psci_headline.specs.Drained.{AreAtRest, deliveries, is_settling, IsSettled}
-pub use Rattle.psci_headline.specs.Hardware.{is_in_state, said_hw, was_in_state}
+pub use Rattle.psci_headline.specs.Hardware.{is_in_state, was_in_state}
 pub use Rattle.psci_headline.specs.Live.{HasLive, NoneExecutes}
 pub use Rattle.psci_headline.specs.Moments.{depth_at, enters_or_resumes, enters_or_resumes_by}
 pub use Rattle.psci_headline.specs.Moments.{executes, is_reported_off, was_powered_down}
@@ -115,14 +110,11 @@ pub use Rattle.psci_headline.specs.psci_fw_laws.KnownBelow.{known_below, KnownLa
 pub use Rattle.psci_headline.specs.psci_fw_laws.Live.{AreLive}
 pub use Rattle.psci_headline.specs.psci_fw_laws.Messages.{AreSent, is_system, known_on}
 pub use Rattle.psci_headline.specs.psci_fw_laws.Outstanding.{AreOutstanding}
-pub use Rattle.psci_headline.specs.psci_fw_spec.Changes.{Rest, turns_off, with_acknowledgement}
-pub use Rattle.psci_headline.specs.psci_fw_spec.Changes.{with_arrival, with_mode, with_pending}
-pub use Rattle.psci_headline.specs.psci_fw_spec.Changes.{with_phase, with_rest}
-pub use Rattle.psci_headline.specs.psci_fw_spec.Confirmed.{unless_claimed}
+pub use Rattle.psci_headline.specs.psci_fw_spec.Changes.{Rest, with_acknowledgement, with_arrival}
+pub use Rattle.psci_headline.specs.psci_fw_spec.Changes.{with_pending, with_phase, with_rest}
 pub use Rattle.psci_headline.specs.psci_fw_spec.Effects.{Halts, SetsMode, Stops}
 pub use Rattle.psci_headline.specs.psci_fw_spec.Lives.{in_life}
 pub use Rattle.psci_headline.specs.psci_fw_spec.NodeHwState.{hw_code}
-pub use Rattle.psci_headline.specs.psci_fw_spec.Paths.{claimed_or}
 pub use Rattle.psci_headline.specs.psci_fw_spec.Phases.{Away, is_away, Pending, Phase}
 pub use Rattle.psci_headline.specs.psci_fw_spec.Phases.{unless_pending}
 pub use Rattle.psci_headline.specs.psci_fw_spec.SystemCalls.{is_off_status}
@@ -137,7 +129,7 @@ pub use Rattle.psci_world_spec.specs.Histories.{acks, call, control, controller_
 pub use Rattle.psci_world_spec.specs.Histories.{controller_values, delivered, entered}
 pub use Rattle.psci_world_spec.specs.Histories.{firmware_history, firmware_values, outcome_in}
 pub use Rattle.psci_world_spec.specs.Histories.{sent_in, took}
-pub use Rattle.psci_world_spec.specs.Legal.{if_started, IsReplied, legal, said_by}
+pub use Rattle.psci_world_spec.specs.Legal.{IsReplied, legal, said_by}
 pub use Rattle.psci_world_spec.specs.Places.{place, place_controlled, place_said}
 pub use Rattle.psci_world_spec.specs.declared.event.Event.{Event}
 pub use Rattle.psci_world_spec.specs.declared.event.Event.TheVariants.{Call, Deliver, Enter, Reset}
@@ -149,7 +141,6 @@ pub use Rattle.psci_world_spec.specs.declared.said.Said.{Said}
 pub use Rattle.psci_world_spec.specs.declared.said.Said.TheVariants.{Absent, Acked, Fw, Ignored}
 pub use Rattle.psci_world_spec.specs.declared.said.Sent.{Sent}
 pub use Rattle.psci_world_spec.specs.psci_abi.Calls.{request_of}
-pub use Rattle.psci_world_spec.specs.psci_abi.Codes.{success}
 pub use Rattle.psci_world_spec.specs.psci_abi.declared.code.Code.{Code}
 pub use Rattle.psci_world_spec.specs.psci_abi.declared.registers.Regs.{Regs}
 pub use Rattle.psci_world_spec.specs.psci_abi.declared.request.Request.{Request}
