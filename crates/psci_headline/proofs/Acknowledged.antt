@@ -11,7 +11,7 @@ use Rattle.psci_fw_laws.proofs.Consequences.{none_active, once_down}
 use Rattle.psci_world_spec.specs.Histories.{sent}
 use Rattle.psci_headline.proofs.Items.{listed_later, IsListed}
 use Rattle.psci_headline.proofs.Taking.{HasName, named}
-use Rattle.psci_headline.proofs.Acknowledging.{acks_message}
+use Rattle.psci_headline.proofs.Nexts.{acks_message}
 use Rattle.psci_headline.proofs.Applied.{confirming, levels, applied_live, laid_at, Confirms}
 use Rattle.psci_headline.proofs.States.{seen_now, seen_since}
 use Rattle.psci_ctl_spec.specs.Values as controlled

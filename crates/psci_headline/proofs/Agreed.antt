@@ -13,11 +13,10 @@ use Rattle.psci_ctl_spec.specs.declared.call.CtlCall.{CtlCall}
 use Rattle.psci_world_spec.specs.Histories.{controller_history, firmware_history}
 use Rattle.psci_world_spec.specs.Places.{place}
 use Rattle.psci_headline.proofs.Agreeing.{AreAgreed, at_start, control_agrees}
-use Rattle.psci_headline.proofs.Controlling.{after_control, more_controls}
+use Rattle.psci_headline.proofs.Sending.{after_control, more_controls, after_call, legal_call}
 use Rattle.psci_headline.proofs.Happening.{happens}
 use Rattle.psci_headline.proofs.Moving.{CallerLaws, function_call}
 use Rattle.psci_headline.proofs.Placing.{acted, call_agrees, enter_agrees}
-use Rattle.psci_headline.proofs.Sending.{after_call, legal_call}
 use Rattle.psci_ctl_spec.specs.Changes as controlling
 use Rattle.psci_ctl_spec.specs.Effects as controlling_effects
 use Rattle.psci_ctl_spec.specs.Exchange as controller

@@ -1,22 +1,23 @@
--- Cores that are reported OFF were powered down, after every legal past.
+-- Cores that are reported OFF do not run, and were powered down, after every legal past.
 use Rattle.psci_headline.proofs.Words.{◌<◌, ◌==◌, ◌∙◌, ◌∷◌, ◌≡◌, [], ack_in, AckValue, Agree}
-use Rattle.psci_headline.proofs.Words.{and_right, ap, AreDown, arith, BoardValue, Bool}
-use Rattle.psci_headline.proofs.Words.{controller_values, Down, eqb-false, eqb-true, false}
-use Rattle.psci_headline.proofs.Words.{firmware_legal, firmware_values, Holds, inl, inr}
+use Rattle.psci_headline.proofs.Words.{and_right, ap, AreDown, AreValues, arith, BoardValue, Bool}
+use Rattle.psci_headline.proofs.Words.{cond, controller_values, cores, Down, eqb-false, eqb-true}
+use Rattle.psci_headline.proofs.Words.{false, firmware_legal, firmware_values, Holds, inl, inr}
 use Rattle.psci_headline.proofs.Words.{is_reported_off, IsAllowed, IsAwaited, IsLegalPast, List}
-use Rattle.psci_headline.proofs.Words.{MessageValue, nat_tests, ne_eqb, OfCore, Record, refl, sent}
-use Rattle.psci_headline.proofs.Words.{slice_get, Some, subst, sym, true, Values, was_powered_down}
-use Rattle.psci_headline.proofs.Words.{ℕ}
+use Rattle.psci_headline.proofs.Words.{MessageValue, nat_tests, ne_eqb, None, OfCore, Off}
+use Rattle.psci_headline.proofs.Words.{OffIsDown, Option, place, Record, refl, Running, sent}
+use Rattle.psci_headline.proofs.Words.{slice_get, Some, start_of_life, subst, sym, true, Values}
+use Rattle.psci_headline.proofs.Words.{was_powered_down, ℕ}
 use Rattle.psci_world_spec.specs.Histories.{acks, controller_history, firmware_history}
 use Rattle.psci_headline.proofs.Taking.{named}
-use Rattle.psci_headline.proofs.Acknowledging.{CoreLaws}
+use Rattle.psci_headline.proofs.Nexts.{CoreLaws, IsNext, acks_more, by_ack, goes_running}
 use Rattle.psci_headline.proofs.CoreSteps.{IsStep, TurnsOff, step}
 use Rattle.psci_headline.proofs.Deliveries.{life_before}
-use Rattle.psci_headline.proofs.Nexts.{IsNext, acks_more, by_ack, goes_running}
 use Rattle.psci_headline.proofs.Moves.{FirmwareLaws, Moves, moves}
 use Rattle.psci_headline.proofs.Slept.{asleep_from, report, reported, slept_now, slept_still}
 use Rattle.psci_ctl_spec.specs.Values as controlled
 use Rattle.psci_fw_laws.specs.psci_fw_spec.declared.status.Status.TheVariants as statuses
+use Rattle.psci_fw_laws.specs.psci_fw_spec.Phases as phases
 
 -- Lives that the firmware does not know of -----------------------------------------------------
 
@@ -165,3 +166,22 @@ all_down b (r ∷ past) laws is =
           (ap (λ xs. slice_get xs k) (sym (acks_more r past)) ∙ at);
       fresh = λ life c. fresh_next b r past life c laws.cores next are;
     }
+
+-- Reported OFF ---------------------------------------------------------------------------------
+
+by_life : (b : BoardValue) (v : Values) (c life : ℕ) (t : Bool) → AreValues b v → v.status c ≡ Off
+    → (cond t v (start_of_life b life)).phase c ≡ phases.Running → ⊥
+by_life b v c life t are off runs = grind (arith, nat_tests)
+
+not_running : (b : BoardValue) (past : List Record) (c : ℕ) (o : Option ℕ) → Agree b past
+    → AreValues b (firmware_values b past) → c < cores b
+    → (firmware_values b past).status c ≡ Off → (controller_values b past).life ≡ o
+    → place b past c ≡ Running → ⊥
+not_running b past c None agree are on off life runs = grind (arith, nat_tests)
+not_running b past c (Some l) agree are on off life runs =
+    let v : Values = firmware_values b past in
+    by_life b v c l (l == v.life) are off ((agree.present l life).runs c on runs)
+
+pub off_is_down : (b : BoardValue) (past : List Record) → DownLaws b → IsLegalPast b past
+    → AreValues b (firmware_values b past) → OffIsDown b past
+off_is_down b past laws is are c on off = grind (arith, nat_tests, not_running, reported, all_down)

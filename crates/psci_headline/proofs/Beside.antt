@@ -1,18 +1,58 @@
--- What is told of the domains beside a core's path, as the core stops, enters or is asked on; and
--- what is then told of all.
-use Rattle.psci_headline.proofs.Words.{◌<◌, ◌∙◌, ◌≡◌, ap, AreConfirming, arith, Away, BoardValue}
-use Rattle.psci_headline.proofs.Words.{cases_eq, changed, cond, cores, false, in_life, inl, inr}
-use Rattle.psci_headline.proofs.Words.{is_path_place, IsConfirmedOr, IsOffOr, IsOutstanding}
-use Rattle.psci_headline.proofs.Words.{IsYetToCome, known_on, KnownLaws, MessageValue, nat_tests}
-use Rattle.psci_headline.proofs.Words.{OfCore, Option, Part, PathLaws, Phase, PowerOn, Put, Rest}
-use Rattle.psci_headline.proofs.Words.{slice_get, Slot, slot_of, Some, Start, subst, target, true}
-use Rattle.psci_headline.proofs.Words.{up, Values, with_arrival, with_pending, with_phase}
-use Rattle.psci_headline.proofs.Words.{with_rest, ℕ}
+-- What has yet to come of a domain, and what is told of the domains beside a core's path, as the core
+-- stops, enters or is asked on; and what is then told of all.
+use Rattle.psci_headline.proofs.Words.{◌<◌, ◌∙◌, ◌≡◌, ◌≤◌, ap, AreConfirming, arith, Away}
+use Rattle.psci_headline.proofs.Words.{BoardValue, cases_eq, changed, cond, cores, eqb-false}
+use Rattle.psci_headline.proofs.Words.{eqb-true, false, in_life, inl, inr, is_path_place}
+use Rattle.psci_headline.proofs.Words.{IsConfirmedOr, IsOffOr, IsOutstanding, IsYetToCome}
+use Rattle.psci_headline.proofs.Words.{known_below, known_on, KnownLaws, MessageValue, nat_tests}
+use Rattle.psci_headline.proofs.Words.{ne_eqb, OfCore, Option, Part, PathLaws, Phase, PowerOn, Put}
+use Rattle.psci_headline.proofs.Words.{Rest, slice_get, Slot, slot_of, Some, Start, subst, sym}
+use Rattle.psci_headline.proofs.Words.{target, true, up, updated, Values, with_arrival}
+use Rattle.psci_headline.proofs.Words.{with_pending, with_phase, with_rest, ℕ}
 use Rattle.psci_headline.specs.psci_fw_spec.Changes.{with_claims, with_running}
-use Rattle.psci_headline.proofs.fw_laws.Parts.{updated_here, updated_there}
+use Rattle.psci_headline.proofs.fw_laws.Parts.{updated_there, updated_here}
 use Rattle.psci_headline.proofs.Slots.{clear_there, put_here, put_there}
-use Rattle.psci_headline.proofs.Coming.{not_at, on_path, other_core, sum_beside, yet_still}
 use Rattle.psci_headline.specs.psci_messages.declared.kind.Kind.TheVariants as kinds
+
+-- What has yet to come -------------------------------------------------------------------------
+
+-- Paths ----------------------------------------------------------------------------------------
+
+-- a core below a domain that is beside the path of another core is not that core
+pub not_at : (b : BoardValue) (c x level place : ℕ) → is_path_place b c level place ≡ false
+    → up b level x ≡ place → x ≡ c → ⊥
+not_at b c x level place off at same = grind (arith, nat_tests, eqb-false)
+
+pub on_path : (b : BoardValue) (c level place : ℕ) → is_path_place b c level place ≡ true
+    → up b level c ≡ place
+on_path b c level place on = sym (eqb-true place (up b level c) on)
+
+-- a core is beside the path of each other core
+pub other_core : (b : BoardValue) (c x : ℕ) → PathLaws b → (x ≡ c → ⊥)
+    → is_path_place b c 0 x ≡ false
+other_core b c x paths other = ne_eqb x (up b 0 c) (λ e. other (e ∙ paths.core c))
+
+-- one core's start counts for no domain beside its path
+pub sum_beside : (b : BoardValue) (f : ℕ → ℕ) (c number level place : ℕ) → KnownLaws b
+    → is_path_place b c level place ≡ false
+    → known_below b (updated f c number) level place ≡ known_below b f level place
+sum_beside b f c number level place laws off = grind (arith, nat_tests, updated_there, not_at)
+
+-- What has yet to come -------------------------------------------------------------------------
+
+-- the sum of the known starts is as it was, and what is outstanding for a core below stays
+pub yet_still : (b : BoardValue) (starts before now : ℕ → ℕ) (was is : Slot → Option MessageValue)
+    (level place : ℕ) → known_below b now level place ≡ known_below b before level place
+    → ((m : MessageValue) → up b level m.core.number ≡ place
+    → was (OfCore m.core.number) ≡ Some m → is (OfCore m.core.number) ≡ Some m)
+    → IsYetToCome b starts before was level place → IsYetToCome b starts now is level place
+yet_still b starts before now was is level place sum stays yet = grind (arith, nat_tests)
+
+-- there are more starts
+pub yet_later : (b : BoardValue) (starts later known : ℕ → ℕ) (out : Slot → Option MessageValue)
+    (level place : ℕ) → known_below b starts level place ≤ known_below b later level place
+    → IsYetToCome b starts known out level place → IsYetToCome b later known out level place
+yet_later b starts later known out level place le yet = grind (arith, nat_tests)
 
 -- What is told of the domains beside a core's path, and of the other cores.
 pub record AreBeside (b : BoardValue) (starts : ℕ → ℕ) (v : Values) (c : ℕ) : Type 0 where

@@ -19,7 +19,7 @@ use Rattle.psci_headline.proofs.Agreeing.{AreAgreed, found_other, found_own}
 use Rattle.psci_headline.proofs.Moving.{CallerLaws, call_moves, entry_moves, is_call}
 use Rattle.psci_headline.proofs.Placing.{IsLast}
 use Rattle.psci_headline.proofs.Pursuing.{waiting_other}
-use Rattle.psci_headline.proofs.Records.{IsOfRecord}
+use Rattle.psci_headline.proofs.Moves.{IsOfRecord}
 use Rattle.psci_headline.proofs.Calls.{call_waits, entry_waits}
 use Rattle.psci_headline.proofs.Controls.{IsKnown, begun_waits, down_waits, start_told, start_waits}
 use Rattle.psci_headline.proofs.Taking.{waiting_taken}

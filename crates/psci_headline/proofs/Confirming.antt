@@ -7,7 +7,7 @@ use Rattle.psci_headline.proofs.Words.{known_below, KnownLaws, nat_tests, Option
 use Rattle.psci_headline.proofs.Words.{start_of_life, true, up, updated, Values, ℕ}
 use Rattle.psci_headline.specs.psci_fw_spec.Paths.{claimed_or}
 use Rattle.psci_headline.specs.psci_fw_spec.Confirmed.{unless_claimed}
-use Rattle.psci_headline.proofs.Coming.{sum_beside}
+use Rattle.psci_headline.proofs.Beside.{sum_beside}
 use Rattle.psci_ctl_spec.specs.psci_messages.declared.start.Start as starts
 
 -- Nothing is changed of a domain.

@@ -13,8 +13,8 @@ use Rattle.psci_ctl_spec.specs.Changes.{after, change}
 use Rattle.psci_ctl_spec.specs.Effects.{effect_of}
 use Rattle.psci_ctl_spec.specs.History.{values_of}
 use Rattle.psci_ctl_spec.specs.Values.{Values}
-use Rattle.psci_headline.proofs.Controlling.{more_controls}
-use Rattle.psci_headline.proofs.Saying.{of_event}
+use Rattle.psci_headline.proofs.Sending.{more_controls}
+use Rattle.psci_headline.proofs.Happening.{of_event}
 use Rattle.psci_ctl_spec.specs.declared.delivery.Delivery.TheVariants as deliveries
 use Rattle.psci_ctl_spec.specs.declared.reply.CtlReply.TheVariants as replied
 

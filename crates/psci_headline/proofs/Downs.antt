@@ -10,12 +10,11 @@ use Rattle.std.proofs.lemmas.Bool.{leb-false}
 use Rattle.psci_ctl_spec.proofs.Front.{is_front}
 use Rattle.psci_headline.proofs.fw_laws.Consequences.{once_down}
 use Rattle.psci_headline.proofs.Items.{at_number}
-use Rattle.psci_headline.proofs.Serving.{ack_to}
+use Rattle.psci_headline.proofs.Serving.{ack_to, IsEmptying, empties}
 use Rattle.psci_headline.proofs.Applying.{IsReady, part_applied}
 use Rattle.psci_headline.proofs.Claimed.{AreDeep}
 use Rattle.psci_headline.proofs.Controls.{IsKnown, part_level}
 use Rattle.psci_headline.proofs.Deepening.{AreApplied, keeps}
-use Rattle.psci_headline.proofs.Emptying.{IsEmptying, empties}
 use Rattle.psci_headline.proofs.Finding.{HasNumber}
 use Rattle.psci_headline.proofs.Going.{IsGoing, IsOut, known_now, ready_now}
 use Rattle.psci_headline.proofs.Standing.{SettleLaws}

@@ -10,8 +10,7 @@ use Rattle.psci_headline.proofs.fw_laws.Parts.{updated_at}
 use Rattle.psci_headline.proofs.Slots.{system_slot, put_system}
 use Rattle.psci_headline.proofs.Telling.{first_part}
 use Rattle.psci_headline.proofs.Beside.{AreBeside, IsFlat, all_domains, arrived, arrived_flat}
-use Rattle.psci_headline.proofs.Beside.{claims, phased, rested, runs}
-use Rattle.psci_headline.proofs.Coming.{on_path, yet_still}
+use Rattle.psci_headline.proofs.Beside.{claims, phased, rested, runs, on_path, yet_still}
 
 -- A core goes on or halts ----------------------------------------------------------------------
 

@@ -17,8 +17,8 @@ use Rattle.psci_fw_laws.specs.psci_fw_spec.History.{life, values_of}
 use Rattle.psci_headline.specs.Openings.{entered_by, entered_to, made_for_boot, openings, taken_up}
 use Rattle.psci_headline.proofs.Functions.{call_ends}
 use Rattle.psci_headline.proofs.Naming.{AreNamed, made_in, names_target, same_made}
-use Rattle.psci_headline.proofs.TakingUp.{taken_up_by, taking}
-use Rattle.psci_headline.proofs.Waiting.{AreWaiting, begun, called, fewer, none_waiting, one_more}
+use Rattle.psci_headline.proofs.Waiting.{taken_up_by, taking, AreWaiting, begun, called, fewer}
+use Rattle.psci_headline.proofs.Waiting.{none_waiting, one_more}
 use Rattle.psci_fw_laws.specs.psci_fw_spec.declared.call.FwCall.TheVariants as calls
 use Rattle.psci_fw_laws.specs.psci_fw_spec.declared.outcome.Act.TheVariants as acts
 use Rattle.psci_fw_laws.specs.psci_fw_spec.declared.reply.FwReply.TheVariants as replies

@@ -9,7 +9,7 @@ use Rattle.psci_headline.proofs.Words.{ℕ}
 use Rattle.psci_headline.proofs.fw_laws.Consequences.{once_down}
 use Rattle.psci_headline.proofs.Claimed.{AreDeep}
 use Rattle.psci_headline.proofs.Downs.{IsDownAnswered, IsLeft, down_answered}
-use Rattle.psci_headline.proofs.Emptying.{answer_case}
+use Rattle.psci_headline.proofs.Serving.{answer_case}
 use Rattle.psci_headline.proofs.Finding.{finds, indexed_at}
 use Rattle.psci_headline.proofs.Folding.{IsStep}
 use Rattle.psci_headline.proofs.Going.{IsGoing, known_now, out_now, waits_now}

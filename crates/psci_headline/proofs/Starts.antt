@@ -9,10 +9,9 @@ use Rattle.psci_headline.proofs.Words.{Record, same_Some, sent, served, serving,
 use Rattle.psci_headline.proofs.Words.{true, Values, ℕ}
 use Rattle.psci_headline.specs.Settling.{all_cores, begun, is_start}
 use Rattle.psci_headline.proofs.Agreeing.{found_own}
-use Rattle.psci_headline.proofs.Serving.{ack_to}
+use Rattle.psci_headline.proofs.Serving.{ack_to, IsEmptying, answer_case, empties, found}
 use Rattle.psci_headline.proofs.Beginning.{HasEntered, HasNoStart, IsIn, IsStartAt, IsUnderWay}
 use Rattle.psci_headline.proofs.Beginning.{enter_step, more_starts}
-use Rattle.psci_headline.proofs.Emptying.{IsEmptying, answer_case, empties, found}
 use Rattle.psci_headline.proofs.Finding.{HasNumber}
 use Rattle.psci_headline.proofs.Folding.{IsStep, each_done}
 use Rattle.psci_headline.proofs.Standing.{IsPast, SettleLaws, settled_life}

@@ -10,11 +10,10 @@ use Rattle.psci_headline.specs.psci_world_spec.Histories.{firmware_history, sent
 use Rattle.psci_headline.specs.psci_world_spec.Legal.{legal}
 use Rattle.psci_headline.proofs.world_spec.Answered.{firmware_legal}
 use Rattle.psci_headline.proofs.Agreed.{first_kept}
-use Rattle.psci_headline.proofs.Controlling.{after_control, more_controls}
+use Rattle.psci_headline.proofs.Sending.{after_control, more_controls, after_call}
 use Rattle.psci_headline.proofs.Happening.{happens}
 use Rattle.psci_headline.proofs.Items.{at_number}
 use Rattle.psci_headline.proofs.Deliveries.{IsNew, new_ack, values_by}
-use Rattle.psci_headline.proofs.Sending.{after_call}
 use Rattle.psci_headline.proofs.BoardLaws.{BoardLaws, Given, is_given}
 use Rattle.psci_headline.proofs.Carried.{WaitsNow, acked_waits, effect_waits, started_waits}
 use Rattle.psci_headline.proofs.Controls.{begun_waits}

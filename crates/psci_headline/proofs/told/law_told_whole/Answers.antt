@@ -5,7 +5,7 @@ use Rattle.psci_headline.proofs.world_spec.Answered.{controller_answered, firmwa
 use Rattle.psci_headline.proofs.BoardLaws.{BoardLaws, is_given}
 use Rattle.psci_headline.proofs.Sources.{live_depth}
 use Rattle.psci_headline.proofs.Standing.{IsDeeper}
-use Rattle.psci_headline.proofs.Reached.{reached}
+use Rattle.psci_headline.proofs.Settled.{reached}
 use Rattle.psci_headline.proofs.told.law_told_whole.Goals as goal
 
 pub returns : goal.returns
