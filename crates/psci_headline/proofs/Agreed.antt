@@ -4,14 +4,14 @@ use Rattle.psci_headline.proofs.Words.{change, control, controller_values, Deliv
 use Rattle.psci_headline.proofs.Words.{effect, Enter, entered, Event, firmware_values}
 use Rattle.psci_headline.proofs.Words.{function_effect, indexed, IsAllowed, IsLegal, IsLegalPast}
 use Rattle.psci_headline.proofs.Words.{last_start, legal, List, MayFollow, MessageValue, nat_tests}
-use Rattle.psci_headline.proofs.Words.{None, Option, option_map, outcome_in, Place}
-use Rattle.psci_headline.proofs.Words.{place_controlled, place_said, Record, refl, Regs, request_of}
-use Rattle.psci_headline.proofs.Words.{Reset, Said, sent, Some, Start, start_of_life, subst, sym}
-use Rattle.psci_headline.proofs.Words.{Take, unwrap_or, Values, values_more, Wake, ℕ}
+use Rattle.psci_headline.proofs.Words.{None, Option, option_map, outcome_in, Place, place_said}
+use Rattle.psci_headline.proofs.Words.{Record, refl, Regs, request_of, Reset, Said, sent, Some}
+use Rattle.psci_headline.proofs.Words.{Start, start_of_life, subst, sym, Take, unwrap_or, Values}
+use Rattle.psci_headline.proofs.Words.{values_more, Wake, ℕ}
+use Rattle.psci_world_spec.specs.Places.{place_controlled, place}
 use Rattle.psci_ctl_spec.specs.Replies.{reply}
 use Rattle.psci_ctl_spec.specs.declared.call.CtlCall.{CtlCall}
 use Rattle.psci_world_spec.specs.Histories.{controller_history, firmware_history}
-use Rattle.psci_world_spec.specs.Places.{place}
 use Rattle.psci_headline.proofs.Agreeing.{AreAgreed, at_start, control_agrees}
 use Rattle.psci_headline.proofs.Sending.{after_control, more_controls, after_call, legal_call}
 use Rattle.psci_headline.proofs.Happening.{happens}
@@ -131,12 +131,7 @@ enter_next b past c (said.Fw act sends) laws now e =
         → AreAgreed b (controller_values b past) (acted (place b past) c act)
         (remembers.values_of b
         (entered c o (outcome_in act sends) ++ firmware_history b past))
-    by_start None s f g = absurd (cc)
-    by_start (Some start) s f g =
-        subst (AreAgreed b (controller_values b past) (acted (place b past) c act))
-        (sym (laws.change _ (firmware_history b past)))
-        (enter_agrees b (controller_values b past) (place b past) (firmware_values b past) c start
-        act (option_map (λ s. s.message) sends) f now)
+    by_start o s f g = grind (arith, nat_tests, acted, enter_agrees)
 enter_next b past c (said.Kick start) laws now e = now
 enter_next b past c s laws now e = now
 

@@ -30,16 +30,8 @@ fresh_next : (b : BoardValue) (r : Record) (past : List Record) (life c : ℕ) �
     → was_powered_down b life (r ∷ past) c ≡ true
 fresh_next b r past life c laws next are now unknown other =
     elim (life_before b r past life now) [
-      | inl before ↦
-          let low = (next.step c).life in
-          let high = next.begun life now in
-          slept_still b life r past c
-          (are.fresh life c before (λ e. unknown (omega (arith, low, high, e))) other)
-          (λ goes. unknown)
-      | inr first ↦
-          slept_now b life (r ∷ past) c
-          (asleep_from b life (r ∷ past) c now
-          (ap (λ (f : ℕ → ℕ → ℕ). f 0 c) first.depth ∙ first_deep b c laws other))
+      | inl before ↦ grind (arith, nat_tests, step, slept_still)
+      | inr first ↦ grind (arith, nat_tests, slept_now, asleep_from, first_deep)
     ]
 
 -- Reports --------------------------------------------------------------------------------------

@@ -1,19 +1,20 @@
--- Each claim of a list was asked for when it was made: its message was, by the values of its record.
+-- Each claim of a list was asked for when it was made: its message was, by the values of its
+-- record.
 use Rattle.psci_headline.proofs.Words.{◌++◌, ◌+◌, ◌<◌, ◌∙◌, ◌∷◌, ◌≡◌, ◌≤◌, ◌⊎◌, [], acks, AckValue}
 use Rattle.psci_headline.proofs.Words.{and_from, ap, AreRising, arith, below, BoardValue, Bool}
 use Rattle.psci_headline.proofs.Words.{call, Claim, claim_by, cond, cond-true, cond_both}
 use Rattle.psci_headline.proofs.Words.{controller_values, cores, Down, effect, eq-eqb, eqb-true}
 use Rattle.psci_headline.proofs.Words.{Event, false, filter, firmware_history, firmware_values}
-use Rattle.psci_headline.proofs.Words.{FwExchange, HasNode, inl, inr, is_on_path, IsAskedFor}
-use Rattle.psci_headline.proofs.Words.{IsLegalPast, le-leb, List, list_all, listed, MessageValue}
-use Rattle.psci_headline.proofs.Words.{nat_tests, Node, None, Option, Part, part_for, part_has}
-use Rattle.psci_headline.proofs.Words.{range_with_len, Record, refl, Said, sent_in, slice_get, Some}
-use Rattle.psci_headline.proofs.Words.{start_of_life, subst, suc, sym, true, Values, values_of}
-use Rattle.psci_headline.proofs.Words.{zero, ℕ}
+use Rattle.psci_headline.proofs.Words.{FwExchange, HasNode, inl, inr, is_on_path, IsLegalPast}
+use Rattle.psci_headline.proofs.Words.{le-leb, List, list_all, listed, MessageValue, nat_tests}
+use Rattle.psci_headline.proofs.Words.{Node, None, Option, Part, part_for, range_with_len, Record}
+use Rattle.psci_headline.proofs.Words.{refl, Said, sent_in, slice_get, Some, start_of_life, subst}
+use Rattle.psci_headline.proofs.Words.{suc, sym, true, Values, values_of, zero, ℕ}
+use Rattle.psci_fw_laws.specs.Asked.{IsAskedFor, WasAsked}
+use Rattle.psci_fw_laws.proofs.Parts.{part_has}
 use Rattle.psci_board.specs.Board.{up}
 use Rattle.psci_headline.specs.Claims.{all_ask, claims}
 use Rattle.psci_fw_laws.specs.psci_fw_spec.Sent.{sent_messages}
-use Rattle.psci_fw_laws.specs.Asked.{WasAsked}
 use Rattle.psci_world_spec.specs.Histories.{sent}
 use Rattle.psci_headline.proofs.Claiming.{by_claim}
 use Rattle.psci_headline.proofs.Sending.{more_calls}

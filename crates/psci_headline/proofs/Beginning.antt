@@ -1,14 +1,13 @@
 -- What is so after a started core has entered, and once all have and each Start was served.
-use Rattle.psci_headline.proofs.Words.{◌++◌, ◌<◌, ◌==◌, ◌∙◌, ◌∷◌, ◌≡◌, ◌⊎◌, acks, Act, ap, arith}
+use Rattle.psci_headline.proofs.Words.{◌++◌, ◌<◌, ◌==◌, ◌∙◌, ◌∷◌, ◌≡◌, ◌⊎◌, Act, ap, arith}
 use Rattle.psci_headline.proofs.Words.{BoardValue, call, change, cond, cond-false, cond-true}
 use Rattle.psci_headline.proofs.Words.{controller_values, cores, deliveries, Enter, enter_effect}
-use Rattle.psci_headline.proofs.Words.{entered, entering, eq-eqb, false, firmware_values, Fw}
-use Rattle.psci_headline.proofs.Words.{in_life, indexed, IsAllowed, IsLegal, IsLegalPast}
-use Rattle.psci_headline.proofs.Words.{last_start, length, List, listed, lt-ltb, MessageValue}
-use Rattle.psci_headline.proofs.Words.{nat_tests, ne_eqb, None, NoneRefused, OfCore, Option}
-use Rattle.psci_headline.proofs.Words.{option_map, Outcome, outcome_in, place_after, place_said}
-use Rattle.psci_headline.proofs.Words.{Record, refl, Sent, sent_in, Some, Start, Started, step}
-use Rattle.psci_headline.proofs.Words.{subst, sym, unwrap_or, Values, ℕ}
+use Rattle.psci_headline.proofs.Words.{entering, eq-eqb, false, firmware_values, Fw, in_life}
+use Rattle.psci_headline.proofs.Words.{indexed, IsAllowed, IsLegal, IsLegalPast, last_start, length}
+use Rattle.psci_headline.proofs.Words.{List, listed, lt-ltb, MessageValue, nat_tests, ne_eqb, None}
+use Rattle.psci_headline.proofs.Words.{NoneRefused, OfCore, Option, option_map, Outcome, outcome_in}
+use Rattle.psci_headline.proofs.Words.{place_after, place_said, Record, refl, Sent, sent_in, Some}
+use Rattle.psci_headline.proofs.Words.{Start, Started, step, subst, sym, unwrap_or, Values, ℕ}
 use Rattle.psci_headline.specs.psci_world_spec.Legal.{sent_as, legal}
 use Rattle.psci_fw_laws.specs.psci_fw_spec.Entering.{enter_outcome}
 use Rattle.psci_headline.specs.psci_fw_spec.Answer.{answer}
@@ -123,8 +122,7 @@ arrives b past c laws is free on at = record {
     }
 
     more : firmware_history b (step b past (Enter c)) ≡ entry ∷ h
-    more = ap (λ s. call (controller_values b past) (acks past) (Enter c) s ++ h) out.said
-        ∙ ap (λ o. entered c o (outcome_in out.act out.sends) ++ h) out.last
+    more = grind (arith, nat_tests, h, out)
 
     said_place : (x : ℕ) → place b (step b past (Enter c)) x
         ≡ unwrap_or (cond (x == c) (Some (place_after out.act)) None) (place b past x)

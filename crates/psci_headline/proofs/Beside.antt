@@ -1,5 +1,5 @@
--- What has yet to come of a domain, and what is told of the domains beside a core's path, as the core
--- stops, enters or is asked on; and what is then told of all.
+-- What has yet to come of a domain, and what is told of the domains beside a core's path, as the
+-- core stops, enters or is asked on; and what is then told of all.
 use Rattle.psci_headline.proofs.Words.{◌<◌, ◌∙◌, ◌≡◌, ◌≤◌, ap, AreConfirming, arith, Away}
 use Rattle.psci_headline.proofs.Words.{BoardValue, cases_eq, changed, cond, cores, eqb-false}
 use Rattle.psci_headline.proofs.Words.{eqb-true, false, in_life, inl, inr, is_path_place}

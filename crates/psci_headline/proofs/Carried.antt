@@ -5,11 +5,11 @@ use Rattle.psci_headline.proofs.Words.{AreSent, arith, BoardValue, Bool, cases_e
 use Rattle.psci_headline.proofs.Words.{cond, cores, Effect, enter_effect, Enters, false, Holds}
 use Rattle.psci_headline.proofs.Words.{in_life, inl, inr, IsAllowed, IsEntering, IsNamed, Kind}
 use Rattle.psci_headline.proofs.Words.{List, may_follow, MayFollow, message_effect, MessageValue}
-use Rattle.psci_headline.proofs.Words.{nat_lt, nat_tests, None, Nothing, Option, Parks, Part}
-use Rattle.psci_headline.proofs.Words.{PartByPart, PathLaws, Place, refl, slice_get, Some, Start}
-use Rattle.psci_headline.proofs.Words.{Starts, StopsAtOnce, subst, suc, SumLaws, sym, true, Values}
+use Rattle.psci_headline.proofs.Words.{nat_lt, nat_tests, None, Option, Parks, Part, PartByPart}
+use Rattle.psci_headline.proofs.Words.{PathLaws, Place, refl, slice_get, Some, Start, Starts}
+use Rattle.psci_headline.proofs.Words.{StopsAtOnce, subst, suc, SumLaws, sym, true, Values}
 use Rattle.psci_headline.proofs.Words.{WaitingIn, with_acknowledgement, zero, ℕ}
-use Rattle.psci_ctl_spec.specs.Effects.{Ends, Begins}
+use Rattle.psci_ctl_spec.specs.Effects.{Nothing, Ends, Begins}
 use Rattle.psci_headline.proofs.fw_laws.Arriving.{found_life}
 use Rattle.psci_headline.proofs.fw_laws.Consequences.{once_down}
 use Rattle.psci_headline.proofs.fw_laws.Living.{live_laws}
@@ -111,8 +111,7 @@ acked_kind b w place v sent made k m kinds.Start given at own is may h = by_test
 
     same_life : (s : Bool) → (controlling.change b (cond s Nothing
         (Starts m.core.number causes.On)) w).life ≡ w.life
-    same_life true = refl
-    same_life false = refl
+    same_life s = grind (arith, nat_tests)
 
     by_test : WaitsNow b (controlling.change b effect w) v sent (ack_by b w m kinds.Start ∷ made)
     by_test life e =
@@ -157,16 +156,6 @@ acked_waits b w place v sent made k m a given at own is may h = grind (arith, na
 
 -- The firmware ---------------------------------------------------------------------------------
 
--- a message that a call sends is of the firmware's life
-sent_life : (b : BoardValue) (v : Values) (e : Effect) (m : MessageValue) → is_call e ≡ true
-    → IsAllowed b v e → says.sent e ≡ Some m → m.life ≡ v.life
-sent_life b v e m is allowed sends = grind (arith, nat_tests)
-
--- a core that enters by its last start was started since the start that the firmware knows
-entry_later : (b : BoardValue) (w : controlled.Values) (v : Values) (c : ℕ) (s : Start)
-    → IsEntering b v c s → IsLast w c s → (in_life b s.life v).known c < w.starts c
-entry_later b w v c s enters last = grind (arith, nat_tests, cases_eq, found_own, found_other)
-
 module _ (b : BoardValue) (w : controlled.Values) (place : ℕ → Place) (v : Values)
     (sent : List MessageValue) (made : List AckValue) (given : IsGiven b w place v sent)
     (h : WaitsNow b w v sent made) where
@@ -182,8 +171,7 @@ module _ (b : BoardValue) (w : controlled.Values) (place : ℕ → Place) (v : V
       → is_call e ≡ true → IsAllowed b v e
       → WaitingIn b life w (in_life b life (change b e v)) (says.listed (says.sent e) ++ sent) made
   called_other e life f other is allowed =
-      let moved = call_moves b v e given.callers is allowed in
-      grind (arith, nat_tests, found_other, waiting_other, sent_life)
+      grind (arith, nat_tests, call_moves, found_other, waiting_other)
 
   -- a core enters
   entering_waits : (c : ℕ) (s : Start) (act : Act) (o : Option MessageValue) → IsEntering b v c s
@@ -199,7 +187,8 @@ module _ (b : BoardValue) (w : controlled.Values) (place : ℕ → Place) (v : V
         present_known,
         found_own,
         entry_waits,
-        entry_later,
+        cases_eq,
+        found_other,
       )
 
   -- an acknowledgement is taken
@@ -214,10 +203,7 @@ module _ (b : BoardValue) (w : controlled.Values) (place : ℕ → Place) (v : V
         subst (λ u. WaitingIn b life w u sent made)
         (sym (found_own b life (with_acknowledgement b a v) own))
         (waiting_taken a i at (once_down b v sent given.holds) slots now)
-    | inr other ↦
-        subst (λ u. WaitingIn b life w u sent made)
-        (sym (found_other b life (with_acknowledgement b a v) other))
-        (subst (λ u. WaitingIn b life w u sent made) (found_other b life v other) (h life f))
+    | inr other ↦ grind (arith, nat_tests, found_other)
   ]
 
   pub effect_waits : (e : Effect) → IsAllowed b v e → IsOfRecord w made e

@@ -4,8 +4,7 @@ use Rattle.std.proofs.Common.{map}
 use Rattle.psci_headline.proofs.Words.{◌++◌, ◌<◌, ◌∷◌, ◌≡◌, [], arith, Bool, Event, false}
 use Rattle.psci_headline.proofs.Words.{is_always_safe, is_asked, is_each_once, is_each_open}
 use Rattle.psci_headline.proofs.Words.{is_each_real, is_off_down, is_off_stopped, is_one}
-use Rattle.psci_headline.proofs.Words.{is_powered, is_safe, List, nat_tests, Record, Said, suc}
-use Rattle.psci_headline.proofs.Words.{true, zero, ℕ}
+use Rattle.psci_headline.proofs.Words.{is_powered, is_safe, List, nat_tests, Record, Said, true, ℕ}
 use Rattle.psci_board.proofs.Tables.{Row}
 use Rattle.psci_fw_laws.specs.psci_board.Board.{BoardValue}
 use Rattle.psci_world_spec.specs.Legal.{run_from}
@@ -46,11 +45,7 @@ each of (x ∷ xs) = of x ++ each of xs
 
 -- what is so of each of four cores is so of every core of a board of four
 pub by_core : (P : ℕ → Type 0) → P 0 → P 1 → P 2 → P 3 → (c : ℕ) → c < 4 → P c
-by_core P p q r s zero on = p
-by_core P p q r s (suc zero) on = q
-by_core P p q r s (suc (suc zero)) on = r
-by_core P p q r s (suc (suc (suc zero))) on = s
-by_core P p q r s (suc (suc (suc (suc c)))) on = absurd (omega (arith, on))
+by_core P p q r s c on = grind (arith, nat_tests)
 
 -- Unsafe moments ------------------------------------------------------------------------------
 

@@ -1,14 +1,16 @@
--- What is told, after one call of the firmware or of the power controller, and after every legal run.
+-- What is told, after one call of the firmware or of the power controller, and after every legal
+-- run.
 use Rattle.psci_headline.proofs.Words.{◌++◌, ◌+◌, ◌∙◌, ◌∷◌, ◌≡◌, ◌≤◌, [], Acknowledges, acks}
 use Rattle.psci_headline.proofs.Words.{AckValue, Agree, AreConfirming, arith, AsksOn, BoardValue}
 use Rattle.psci_headline.proofs.Words.{Bool, call, cases_eq, change, cond, cond_both, Confirming}
 use Rattle.psci_headline.proofs.Words.{control, controller_values, CtlExchange, Effect, Enters}
 use Rattle.psci_headline.proofs.Words.{Event, firmware_values, GoesOn, Halts, Holds, in_life}
 use Rattle.psci_headline.proofs.Words.{IsAllowed, IsLegalPast, KnownLaws, List, MessageValue}
-use Rattle.psci_headline.proofs.Words.{nat_tests, next_life, Option, Parks, PathLaws, Record, refl}
-use Rattle.psci_headline.proofs.Words.{Rests, Said, sent, SetsMode, slice_get, Some, Start}
-use Rattle.psci_headline.proofs.Words.{start_of_life, Stops, StopsAtOnce, subst, sym, Values}
-use Rattle.psci_headline.proofs.Words.{Waiting, WasTold, with_pending, ℕ}
+use Rattle.psci_headline.proofs.Words.{nat_tests, Option, Parks, PathLaws, Record, refl, Rests}
+use Rattle.psci_headline.proofs.Words.{Said, sent, SetsMode, slice_get, Some, Start, start_of_life}
+use Rattle.psci_headline.proofs.Words.{Stops, StopsAtOnce, subst, sym, Values, Waiting, WasTold}
+use Rattle.psci_headline.proofs.Words.{with_pending, ℕ}
+use Rattle.psci_ctl_spec.specs.Changes.{next_life}
 use Rattle.psci_headline.specs.psci_fw_spec.Changes.{with_mode}
 use Rattle.psci_headline.specs.psci_fw_spec.Effects.{Nothing}
 use Rattle.psci_headline.specs.psci_world_spec.Histories.{controller_history, firmware_history}

@@ -6,10 +6,11 @@ use Rattle.psci_headline.proofs.Words.{AreRising, AreSent, AreWaiting, arith, Aw
 use Rattle.psci_headline.proofs.Words.{Bool, Cause, cond, cond-true, cores, Deepens, eq-eqb}
 use Rattle.psci_headline.proofs.Words.{eqb-false, eqb-true, false, height, is_stale, IsFront}
 use Rattle.psci_headline.proofs.Words.{IsNamed, IsTold, Kind, known_below, List, may_follow}
-use Rattle.psci_headline.proofs.Words.{MessageValue, nat_lt, nat_tests, none-some, Nothing}
-use Rattle.psci_headline.proofs.Words.{one_more, Part, PartByPart, Pending, Phase, refl, slice_get}
+use Rattle.psci_headline.proofs.Words.{MessageValue, nat_lt, nat_tests, none-some, one_more, Part}
+use Rattle.psci_headline.proofs.Words.{PartByPart, Pending, Phase, refl, slice_get}
 use Rattle.psci_headline.proofs.Words.{slice_get_within, Some, start_of_life, Starts, SumLaws, sym}
 use Rattle.psci_headline.proofs.Words.{take, take_get, true, up, Values, WaitingIn, ℕ}
+use Rattle.psci_ctl_spec.specs.Effects.{Nothing}
 use Rattle.psci_ctl_spec.specs.Changes.{change}
 use Rattle.psci_headline.specs.psci_fw_laws.Messages.{IsSent}
 use Rattle.psci_headline.proofs.Deepening.{AreApplied, waiting_deepened}

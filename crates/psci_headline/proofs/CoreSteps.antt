@@ -5,7 +5,7 @@ use Rattle.psci_headline.proofs.Words.{cond_both, Down, Effect, Enters, GoesOn, 
 use Rattle.psci_headline.proofs.Words.{IsAllowed, IsEntering, ltb-true, nat_tests, Nothing, Parks}
 use Rattle.psci_headline.proofs.Words.{Pending, Phase, refl, Rests, SetsMode, Some, Stops}
 use Rattle.psci_headline.proofs.Words.{StopsAtOnce, true, updated, updated_at, Values, ℕ}
-use Rattle.psci_fw_laws.specs.psci_fw_spec.Effects.{Nothing}
+use Rattle.psci_ctl_spec.specs.Effects.{Nothing}
 use Rattle.psci_fw_laws.specs.psci_fw_spec.Phases.{Running, is_away}
 use Rattle.psci_headline.proofs.Taking.{same_kind}
 use Rattle.psci_ctl_spec.specs.psci_messages.declared.start.Start as starts

@@ -1,4 +1,5 @@
 -- What is so after an outstanding Down was served.
+use Rattle.std.proofs.lemmas.Bool.{leb-false}
 use Rattle.psci_headline.proofs.Words.{◌+◌, ◌<◌, ◌==◌, ◌∙◌, ◌≡◌, ◌≤◌, ack_by, AckLaws, ap, applied}
 use Rattle.psci_headline.proofs.Words.{arith, BoardValue, Bool, cases_lt, cond, controller_values}
 use Rattle.psci_headline.proofs.Words.{Deepens, deliveries, false, firmware_values, indexed, inl}
@@ -6,7 +7,6 @@ use Rattle.psci_headline.proofs.Words.{inr, is_done, is_kind, is_stale, IsFront,
 use Rattle.psci_headline.proofs.Words.{length, List, MessageValue, nat_tests, None, not, OfCore}
 use Rattle.psci_headline.proofs.Words.{or_parts, Part, place, Record, same_Some, sent, serving}
 use Rattle.psci_headline.proofs.Words.{slice_get, Some, subst, sym, take, take_get, up, Values, ℕ}
-use Rattle.std.proofs.lemmas.Bool.{leb-false}
 use Rattle.psci_ctl_spec.proofs.Front.{is_front}
 use Rattle.psci_headline.proofs.fw_laws.Consequences.{once_down}
 use Rattle.psci_headline.proofs.Items.{at_number}

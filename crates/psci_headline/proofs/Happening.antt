@@ -1,12 +1,13 @@
--- What is legal to say of an event, by what it asks. So what happens to a core happens at its place,
--- and what sends a message is a call or an entry.
+-- What is legal to say of an event, by what it asks. So what happens to a core happens at its
+-- place, and what sends a message is a call or an entry.
 use Rattle.std.specs.Prelude.{List}
 use Rattle.psci_headline.proofs.Words.{◌<◌, ◌∙◌, ◌≡◌, Absent, acks, AckValue, ap, arith, BoardValue}
 use Rattle.psci_headline.proofs.Words.{Bool, Call, cond_both, controller_values, cores, Deliver}
-use Rattle.psci_headline.proofs.Words.{Enter, Event, false, Ignored, indexed, last_start, ltb-true}
+use Rattle.psci_headline.proofs.Words.{Enter, Event, false, indexed, last_start, ltb-true}
 use Rattle.psci_headline.proofs.Words.{MessageValue, nat_tests, None, place, Record, refl, Regs}
 use Rattle.psci_headline.proofs.Words.{Reset, Running, Said, said_by, sent, sent_in, Some, Start}
 use Rattle.psci_headline.proofs.Words.{Started, sym, Take, true, Wake, ℕ}
+use Rattle.psci_world_spec.specs.declared.said.Said.TheVariants.{Ignored}
 use Rattle.psci_world_spec.specs.Legal.{deliver, take, asked_controller, asked_firmware, legal}
 use Rattle.psci_ctl_spec.specs.declared.reply.CtlReply.{CtlReply}
 use Rattle.psci_fw_laws.specs.psci_fw_spec.Answer.{answer}

@@ -36,7 +36,6 @@ pub mod Nexts
 mod Once
 mod OpeningRows
 pub mod Outcomes
-pub mod Picked
 pub mod Placing
 mod PowerRows
 pub mod Quiet
@@ -45,7 +44,6 @@ mod RefusalRows
 pub mod Refusing
 pub mod Returned
 mod SafeRows
-pub mod Safety
 pub mod Sending
 pub mod Slept
 pub mod Sound
@@ -56,7 +54,6 @@ pub mod ToldHw
 mod ToldHwRows
 pub mod ToldOff
 mod ToldOffRows
-pub mod ToldTest
 pub mod Waiting
 pub mod Words
 -- In the order of the argument of docs/SETTLING.md.

@@ -1,5 +1,5 @@
--- Different claims on one domain in one life have different generations, so there is one live claim
--- at most: of this life, with the sum of the starts below.
+-- Different claims on one domain in one life have different generations, so there is one live
+-- claim at most: of this life, with the sum of the starts below.
 use Rattle.psci_headline.proofs.Words.{◌++◌, ◌<◌, ◌==◌, ◌∙◌, ◌∷◌, ◌≡◌, ◌≤◌, [], ap, AreRising}
 use Rattle.psci_headline.proofs.Words.{arith, BoardValue, Bool, Claim, claim_by, cond}
 use Rattle.psci_headline.proofs.Words.{controller_values, eq-eqb, eqb-true, filter, firmware_values}
@@ -19,9 +19,6 @@ abbrev pub AreDistinct : List Claim → Type 0
 AreDistinct list = (j k : ℕ) (p q : Claim) → slice_get list j ≡ Some p → slice_get list k ≡ Some q
     → p.generation ≡ q.generation → j ≡ k
 
-distinct_none : AreDistinct []
-distinct_none j k p q at to same = absurd (cc)
-
 -- one more claim, of another generation than the older ones
 distinct_more : (x : Claim) (old : List Claim)
     → ((k : ℕ) (y : Claim) → slice_get old k ≡ Some y → y.generation ≡ x.generation → ⊥)
@@ -29,7 +26,7 @@ distinct_more : (x : Claim) (old : List Claim)
 distinct_more x old new are x4 x5 p q at to same = grind (arith, nat_tests)
 
 first_distinct : (first : Claim) (t : Bool) → AreDistinct (cond t [] (first ∷ []))
-first_distinct first t = grind (arith, nat_tests, distinct_none, distinct_more)
+first_distinct first t = grind (arith, nat_tests, distinct_more)
 
 -- All claims -----------------------------------------------------------------------------------
 
@@ -54,9 +51,7 @@ module _ (b : BoardValue) (life : ℕ) (v : Values) (n : Node) (messages : List 
         let s = sources k y at in
         let some : 0 < p.generation = are.start life n.level n.place 0 m p refl e in
         elim s.from [
-          | inl start ↦
-              let none = ap (λ (x : Part). x.generation) start.is in
-              omega (arith, some, none, s.generation, same)
+          | inl start ↦ grind (arith, nat_tests)
           | inr f ↦
               let less = are.later life n.level n.place 0 (suc f.index) m f.message p s.part
               (omega arith) refl f.at e f.part in

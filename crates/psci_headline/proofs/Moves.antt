@@ -7,12 +7,11 @@ use Rattle.psci_headline.proofs.Words.{enter_effect, entered, Enters, enters_or_
 use Rattle.psci_headline.proofs.Words.{enters_or_resumes_by, eqb-true, Event, firmware_history}
 use Rattle.psci_headline.proofs.Words.{firmware_values, Fw, FwExchange, indexed, IsAllowed, IsLegal}
 use Rattle.psci_headline.proofs.Words.{last_start, List, listed, MessageValue, nat_lt, nat_tests}
-use Rattle.psci_headline.proofs.Words.{None, Option, outcome_in, Place, place, Record, refl, Said}
-use Rattle.psci_headline.proofs.Words.{Sent, Some, Start, subst, sym, Take, Taken, took, true}
-use Rattle.psci_headline.proofs.Words.{true≢false, values_of, ℕ}
+use Rattle.psci_headline.proofs.Words.{None, Nothing, Option, outcome_in, Place, place, Record}
+use Rattle.psci_headline.proofs.Words.{refl, Said, Sent, Some, Start, subst, sym, Take, Taken, took}
+use Rattle.psci_headline.proofs.Words.{true, true≢false, values_of, ℕ}
 use Rattle.psci_world_spec.specs.declared.said.Said.TheVariants.{Taken as Took}
 use Rattle.psci_world_spec.specs.Legal.{if_started, legal, on_board}
-use Rattle.psci_fw_laws.specs.psci_fw_spec.Effects.{Nothing}
 use Rattle.psci_fw_laws.specs.psci_fw_spec.Sent.{sent_messages}
 use Rattle.psci_headline.proofs.Moving.{function_call, is_call}
 use Rattle.psci_headline.proofs.Placing.{IsLast, last_is}

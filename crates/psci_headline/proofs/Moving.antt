@@ -1,13 +1,12 @@
 -- What calls, entries and acknowledgements leave of known starts and of who runs.
 use Rattle.psci_headline.proofs.Words.{◌≡◌, Acknowledges, Act, arith, AsksOn, BoardValue, Bool}
 use Rattle.psci_headline.proofs.Words.{change, Effect, enter_effect, Enters, executes_on, false}
-use Rattle.psci_headline.proofs.Words.{function_effect, GoesOn, Halts, in_life, is_running}
-use Rattle.psci_headline.proofs.Words.{IsAllowed, MessageValue, nat_tests, Option, Parks, Phase}
-use Rattle.psci_headline.proofs.Words.{PowerOn, refl, Request, Rests, SetsMode, Start, Stops}
-use Rattle.psci_headline.proofs.Words.{StopsAtOnce, true, unless_pending, updated, updated_at}
-use Rattle.psci_headline.proofs.Words.{updated_here, Values, with_pending, ℕ}
-use Rattle.psci_fw_laws.specs.psci_fw_spec.Effects.{Nothing}
-use Rattle.psci_fw_laws.specs.psci_fw_spec.Phases.{Running}
+use Rattle.psci_headline.proofs.Words.{function_effect, GoesOn, Halts, in_life, IsAllowed}
+use Rattle.psci_headline.proofs.Words.{MessageValue, nat_tests, Nothing, Option, Parks, Phase}
+use Rattle.psci_headline.proofs.Words.{PowerOn, Request, Rests, SetsMode, Start, Stops, StopsAtOnce}
+use Rattle.psci_headline.proofs.Words.{true, unless_pending, updated_at, updated_here, Values}
+use Rattle.psci_headline.proofs.Words.{with_pending, ℕ}
+use Rattle.psci_fw_laws.specs.psci_fw_spec.Phases.{is_running, Running}
 use Rattle.psci_fw_laws.proofs.Parts.{updated_there}
 
 -- What is left where one core did something: its known start, and whether it runs.
@@ -57,26 +56,12 @@ pub record IsCallOf (e : Effect) (c : ℕ) (t : Bool) : Type 0 where
   pub core : caller e ≡ c
   pub runs : runs_on e ≡ t
 
-goes : (c : ℕ) → IsCallOf (GoesOn c) c true
-goes c = record { is = refl; core = refl; runs = refl }
-
 -- what a function comes down to is of its caller, which goes on where the outcome says so
 pub function_call : (b : BoardValue) (c : ℕ) (r : Request) (act : Act) (o : Option MessageValue)
     → IsCallOf (function_effect b c r act o) c (executes_on act)
-function_call b c r act o = grind (arith, nat_tests, goes)
+function_call b c r act o = grind (arith, nat_tests)
 
 -- What is left ---------------------------------------------------------------------------------
-
--- where nothing but other fields was changed
-still : (v w : Values) (c : ℕ) → w.life ≡ v.life → w.known ≡ v.known
-    → ((x : ℕ) → is_running (w.phase x) ≡ is_running (v.phase x)) → v.phase c ≡ Running
-    → IsMoved v w c (v.known c) true
-still v w c life known phase runs = grind (arith, nat_tests)
-
--- where one core's phase was changed
-put : (v w : Values) (c : ℕ) (p : Phase) (runs : Bool) → w.life ≡ v.life → w.known ≡ v.known
-    → w.phase ≡ updated v.phase c p → is_running p ≡ runs → IsMoved v w c (v.known c) runs
-put v w c p runs life known phase is = grind (arith, nat_tests, updated_here, updated_there)
 
 -- a phase that is not Running stays so where a pending core stays pending
 rests : (p left : Phase) → (left ≡ Running → ⊥) → is_running (unless_pending p left) ≡ false
@@ -91,20 +76,14 @@ pub record CallerLaws (b : BoardValue) : Type 0 where
 -- the effect of a call
 pub call_moves : (b : BoardValue) (v : Values) (e : Effect) → CallerLaws b → is_call e ≡ true
     → IsAllowed b v e → IsMoved v (change b e v) (caller e) (v.known (caller e)) (runs_on e)
-call_moves b v e laws is allowed = grind (arith, nat_tests, still, updated_at, put, rests)
+call_moves b v e laws is allowed =
+    grind (arith, nat_tests, updated_at, updated_here, updated_there, rests)
 
 -- Entries --------------------------------------------------------------------------------------
-
--- a core entered, and its phase was changed
-arrived : (found w : Values) (c number : ℕ) (p : Phase) (runs : Bool) → w.life ≡ found.life
-    → w.known ≡ updated found.known c number → w.phase ≡ updated found.phase c p
-    → is_running p ≡ runs → IsMoved found w c number runs
-arrived found w c number p runs life known phase is =
-    grind (arith, nat_tests, updated_here, updated_there)
 
 -- the effect of an entry
 pub entry_moves : (b : BoardValue) (v : Values) (c : ℕ) (s : Start) (act : Act)
     (o : Option MessageValue)
     → IsMoved (in_life b s.life v) (change b (enter_effect c s act o) v) c s.number
     (executes_on act)
-entry_moves b v c s act o = grind (arith, nat_tests, arrived, rests)
+entry_moves b v c s act o = grind (arith, nat_tests, updated_here, updated_there, rests)

@@ -1,13 +1,13 @@
--- What is known after a legal record: cores that go on, and what new and older acknowledgements say of
--- their cores.
+-- What is known after a legal record: cores that go on, and what new and older acknowledgements
+-- say of their cores.
 use Rattle.psci_headline.proofs.Words.{◌++◌, ◌<◌, ◌∙◌, ◌∷◌, ◌≡◌, ◌≤◌, ack_by, ack_in, AckValue, ap}
 use Rattle.psci_headline.proofs.Words.{AreDown, arith, Away, BoardValue, cond_both}
 use Rattle.psci_headline.proofs.Words.{controller_values, cores, Deliver, Down, enters_or_resumes}
-use Rattle.psci_headline.proofs.Words.{firmware_values, Holds, inr, IsDownBy, Kind, known_below}
-use Rattle.psci_headline.proofs.Words.{legal, List, listed, message_effect, MessageValue, nat_tests}
-use Rattle.psci_headline.proofs.Words.{None, Option, Part, part_from, Record, refl, sent, slice_get}
-use Rattle.psci_headline.proofs.Words.{Some, subst, suc, sym, true, up, updated_here, Values, zero}
-use Rattle.psci_headline.proofs.Words.{ℕ}
+use Rattle.psci_headline.proofs.Words.{firmware_values, Holds, inr, Kind, known_below, legal, List}
+use Rattle.psci_headline.proofs.Words.{listed, message_effect, MessageValue, nat_tests, None}
+use Rattle.psci_headline.proofs.Words.{Option, Part, part_from, Record, refl, sent, slice_get, Some}
+use Rattle.psci_headline.proofs.Words.{subst, suc, sym, true, up, updated_here, Values, zero, ℕ}
+use Rattle.psci_headline.specs.PoweredDown.{IsDownBy}
 use Rattle.psci_ctl_spec.specs.Changes.{change}
 use Rattle.psci_fw_laws.specs.psci_fw_spec.Phases.{Running}
 use Rattle.psci_world_spec.specs.Histories.{acks, firmware_history}

@@ -50,10 +50,7 @@ module _ {b : BoardValue} {life : ℕ} {starts : ℕ → ℕ} {depth : ℕ → �
   pub waiting_other : (o : Option MessageValue)
       → ((m : MessageValue) → o ≡ Some m → m.life ≡ life → ⊥)
       → AreWaiting b life starts depth halting known phase outstanding (listed o ++ sent) made
-  waiting_other o other =
-      waiting_moved halting known phase outstanding o
-      (λ k level m p at present kind part live waits. inr waits)
-      (λ m is own. absurd (other m is own)) are.asked
+  waiting_other o other = grind (arith, nat_tests, waiting_moved)
 
   -- a core that waits for its Start waits in these slots too
   waits_still : (slots : Slot → Option MessageValue) (x : ℕ) → AwaitsStart outstanding x
@@ -89,9 +86,7 @@ module _ {b : BoardValue} {life : ℕ} {starts : ℕ → ℕ} {depth : ℕ → �
   waiting_core m c slot own none rests =
       waiting_moved halting known phase new (Some m)
       (λ k level n p at present kind part live waits. inr (elim waits [
-        | inl out ↦
-            inl (put_there outstanding m c n.core.number slot
-            (λ here. none k level n p at present kind here part live) ∙ out)
+        | inl out ↦ grind (arith, nat_tests, put_there)
         | inr pending ↦ inr pending
       ]))
       (λ n is of kind. let same : m ≡ n = cc in
@@ -128,10 +123,7 @@ module _ {b : BoardValue} {life : ℕ} {starts : ℕ → ℕ} {depth : ℕ → �
           at = subst (λ y. now (OfCore y) ≡ Some m) (sym here) (put_here outstanding m c slot);
           kind = kind;
         }
-        | inr there ↦
-            waits_still now x
-            (are.asked awake x on (sym (updated_there phase c Pending x there) ∙ waits) same)
-            (put_there outstanding m c x slot there)
+        | inr there ↦ grind (arith, nat_tests, waits_still, now, updated_there, put_there)
       ])
     where
       now : Slot → Option MessageValue

@@ -150,14 +150,7 @@ module _ (b : BoardValue) (before : List Record) (life n : ℕ) (first past : Li
       elim (deep_or_out b before life past c j level y p laws is.going at present down own part
       live) [
         | inl deep ↦ a.kept j level y p at present down part live deep
-        | inr waits ↦
-            let same : m ≡ y = same_Some m y (sym out ∙ waits) in
-            subst (λ (z : MessageValue). (controller_values b next).depth level
-            (up b level z.core.number) ≡ p.depth) same
-            (a.here level p
-            (ap (λ (z : MessageValue). slice_get z.parts level) same ∙ part)
-            (subst (λ z. IsLivePart b (controller_values b past).starts z level p) (sym same) live)
-            (omega (arith, low)))
+        | inr waits ↦ grind (arith, nat_tests, same_Some)
       ])
 
   done_here : IsTodo b first c past → IsDone b life n first c next

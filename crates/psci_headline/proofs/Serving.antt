@@ -1,5 +1,5 @@
--- What is so after a message of this life was delivered and its acknowledgement taken, and so after
--- what is outstanding for a core was served.
+-- What is so after a message of this life was delivered and its acknowledgement taken, and so
+-- after what is outstanding for a core was served.
 use Rattle.std.proofs.Common.{option_and_then}
 use Rattle.psci_headline.proofs.Words.{◌+◌, ◌==◌, ◌∙◌, ◌∷◌, ◌≡◌, ack_by, Acked, Acknowledge}
 use Rattle.psci_headline.proofs.Words.{AckValue, and_from, answers, ap, AreOutstanding, arith}
@@ -9,8 +9,10 @@ use Rattle.psci_headline.proofs.Words.{firmware_values, index_of, indexed, is_do
 use Rattle.psci_headline.proofs.Words.{IsLegalPast, Kind, length, List, message_effect}
 use Rattle.psci_headline.proofs.Words.{MessageValue, nat_tests, ne_eqb, None, OfCore, Option}
 use Rattle.psci_headline.proofs.Words.{place_of_effect, Record, refl, served, serving, slot_of}
-use Rattle.psci_headline.proofs.Words.{Some, step, subst, sym, Take, taken_by, true, unwrap_or}
-use Rattle.psci_headline.proofs.Words.{Used, Values, values_more, with_acknowledgement, ℕ}
+use Rattle.psci_headline.proofs.Words.{Some, step, subst, sym, Take, true, unwrap_or, Values}
+use Rattle.psci_headline.proofs.Words.{values_more, with_acknowledgement, ℕ}
+use Rattle.psci_headline.specs.psci_fw_spec.Taking.{taken_by}
+use Rattle.psci_ctl_spec.specs.psci_messages.declared.taken.Taken.TheVariants.{Used}
 use Rattle.psci_world_spec.specs.Legal.{take}
 use Rattle.psci_ctl_spec.specs.Changes.{after}
 use Rattle.psci_ctl_spec.specs.Effects.{effect_of}
@@ -204,5 +206,4 @@ answer_case b which past c P finds none other some =
     by_slot : (o : Option MessageValue) → (firmware_values b past).outstanding (OfCore c) ≡ o
         → P (serving b past (option_and_then
         (λ m. cond (which m.kind) (index_of m (sent past)) None) o))
-    by_slot None e = none e
-    by_slot (Some m) e = by_test m e (which m.kind) refl
+    by_slot o e = grind (arith, nat_tests, by_test)

@@ -22,7 +22,6 @@ use Rattle.psci_headline.proofs.Counting.{none_added, deliveries_more}
 use Rattle.psci_headline.proofs.Starts.{HasBegun, has_begun}
 use Rattle.psci_headline.proofs.Whole.{LifeGoesOn, going_life}
 use Rattle.psci_ctl_spec.specs.Values as controlled
-use Rattle.psci_headline.specs.psci_messages.declared.kind.Kind.TheVariants as kinds
 
 -- At rest --------------------------------------------------------------------------------------
 
@@ -87,15 +86,9 @@ module _ (b : BoardValue) (before : List Record) (life : ℕ) (past : List Recor
 
 -- Reached --------------------------------------------------------------------------------------
 
--- no Down was delivered before the first round
-first_count : (b : BoardValue) (before : List Record) (life : ℕ) (past : List Record) (k : ℕ)
-    (m : MessageValue) → IsUnderWay b before life past → indexed (sent past) k ≡ Some m
-    → m.kind ≡ kinds.Down → deliveries k past ≡ deliveries k before
-first_count b before life past k m way at kind = grind (arith, nat_tests, same_Some)
-
 first_round : (b : BoardValue) (before : List Record) (life : ℕ) (past : List Record)
     → SettleLaws b → HasBegun b before life past → IsRound b before life 0 past
-first_round b before life past laws begins = grind (arith, nat_tests, goes_on, first_count, out_now)
+first_round b before life past laws begins = grind (arith, nat_tests, goes_on, same_Some, out_now)
 
 pub comes : (b : BoardValue) (past : List Record) → SettleLaws b → IsLegalPast b past
     → (goes : LifeGoesOn b past) → HasRest b past goes.life (settled b past)

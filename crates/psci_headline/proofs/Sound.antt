@@ -1,14 +1,23 @@
 -- What the live claims say makes a run safe: no core below a sleeping domain, and no domain deeper
--- than asked.
+-- than asked; and a run is safe at every moment.
+use Rattle.std.proofs.lemmas.List.Folds.{list_any_at}
 use Rattle.std.specs.Prelude.{IsSome}
-use Rattle.psci_headline.proofs.Words.{◌<◌, ◌≡◌, and_from, arith, BoardValue, controller_values}
-use Rattle.psci_headline.proofs.Words.{cores, depth_at, eq-eqb, executes, false≢true, HasNode, List}
-use Rattle.psci_headline.proofs.Words.{nat_tests, Node, NoDeeperThanAsked, None, NoneBelowSleeping}
-use Rattle.psci_headline.proofs.Words.{NoneExecutes, Option, PathLaws, place, Record, refl, Some}
-use Rattle.psci_headline.proofs.Words.{Stopped, true, up, ℕ}
+use Rattle.psci_headline.proofs.Words.{◌<◌, ◌∙◌, ◌∷◌, ◌≡◌, [], AlwaysSafe, and_from, ap, arith}
+use Rattle.psci_headline.proofs.Words.{BoardValue, Bool, controller_values, cores, depth_at, eq-eqb}
+use Rattle.psci_headline.proofs.Words.{executes, false≢true, get_or_from_slice_get, HasNode}
+use Rattle.psci_headline.proofs.Words.{IsLegalPast, List, list_any, nat_tests, Node}
+use Rattle.psci_headline.proofs.Words.{NoDeeperThanAsked, None, NoneBelowSleeping, NoneExecutes}
+use Rattle.psci_headline.proofs.Words.{Option, PathLaws, place, Record, refl, Safe, slice_get}
+use Rattle.psci_headline.proofs.Words.{slice_get_within, Some, Stopped, true, up, ℕ}
 use Rattle.psci_headline.specs.Live.{AreAsked, AreClaimed}
 use Rattle.psci_headline.proofs.LiveOnes.{is_live_one}
-use Rattle.psci_headline.proofs.Picked.{any_passes}
+
+-- an item passes a test
+pub any_passes : {A : Type 0} (test : A → Bool) (xs : List A) (k : ℕ) (x : A)
+    → slice_get xs k ≡ Some x → test x ≡ true → list_any test xs ≡ true
+any_passes test xs k x at pass =
+    list_any_at test xs k x (slice_get_within xs k x at)
+    (ap test (get_or_from_slice_get xs k x x at) ∙ pass)
 
 -- No core below a sleeping domain -------------------------------------------------------------
 
@@ -52,3 +61,11 @@ no_deeper b past claimed asked n has some deep =
     let live = claimed life.0 n has life.1 deep in
     let one = is_live_one b past n live.index live.claim live.at in
     grind (arith, nat_tests, any_passes, and_from, eq-eqb)
+
+-- Every moment ---------------------------------------------------------------------------------
+
+-- at every moment, where it is so after each legal past
+pub always : (b : BoardValue) → ((past : List Record) → IsLegalPast b past → Safe b past)
+    → (past : List Record) → IsLegalPast b past → AlwaysSafe b past
+always b safe [] legal = safe [] legal
+always b safe (r ∷ past) legal = (safe (r ∷ past) legal, always b safe past legal.1)

@@ -1,10 +1,10 @@
 -- What waits, after a core was started.
-use Rattle.psci_headline.proofs.Words.{◌+◌, ◌==◌, ◌∙◌, ◌≡◌, ◌≤◌, AckValue, AreWaiting, arith}
-use Rattle.psci_headline.proofs.Words.{BoardValue, Bool, cases_Bool, cases_eq, cond, cond-false}
-use Rattle.psci_headline.proofs.Words.{cond-true, eq-eqb, false, height, inl, inr, is_on_path}
-use Rattle.psci_headline.proofs.Words.{IsLivePart, IsTold, known_on, List, MessageValue, nat_tests}
-use Rattle.psci_headline.proofs.Words.{ne_eqb, Node, one_more, Option, Part, Phase, refl, slice_get}
-use Rattle.psci_headline.proofs.Words.{Slot, Some, sym, up, ℕ}
+use Rattle.psci_headline.proofs.Words.{◌+◌, ◌∙◌, ◌≡◌, ◌≤◌, AckValue, AreWaiting, arith, BoardValue}
+use Rattle.psci_headline.proofs.Words.{Bool, cases_Bool, cases_eq, cond, cond-false, cond-true}
+use Rattle.psci_headline.proofs.Words.{eq-eqb, false, height, inl, inr, is_on_path, IsLivePart}
+use Rattle.psci_headline.proofs.Words.{IsTold, known_on, List, MessageValue, nat_tests, ne_eqb}
+use Rattle.psci_headline.proofs.Words.{Node, one_more, Option, Part, Phase, refl, slice_get, Slot}
+use Rattle.psci_headline.proofs.Words.{Some, sym, up, ℕ}
 use Rattle.psci_ctl_spec.specs.Changes.{with_path_on}
 use Rattle.psci_ctl_spec.specs.Values.{starts_below}
 use Rattle.psci_headline.specs.psci_fw_laws.KnownBelow.{known_below}
@@ -89,13 +89,8 @@ waiting_started b life starts depth halting known phase outstanding sent made c 
   where
     grown : (x : ℕ) → starts x ≤ one_more starts c x
     grown x = elim (cases_eq x c) [
-      | inl here ↦
-          let more : one_more starts c x ≡ starts x + 1 =
-          cond-true (x == c) (starts x + 1) (starts x) (eq-eqb x c here) in omega (arith, more)
-      | inr there ↦
-          let still : one_more starts c x ≡ starts x =
-          cond-false (x == c) (starts x + 1) (starts x) (ne_eqb x c there) in
-          omega (arith, still)
+      | inl here ↦ grind (arith, nat_tests, cond-true, eq-eqb)
+      | inr there ↦ grind (arith, nat_tests, cond-false, ne_eqb)
     ]
 
     still_told : (a : AckValue) (i : ℕ) (m : MessageValue) → slice_get sent i ≡ Some m

@@ -2,11 +2,11 @@
 use Rattle.psci_headline.proofs.Words.{◌+◌, ◌<◌, ◌==◌, ◌∙◌, ◌≡◌, ◌⊎◌, AckValue, ap, AreOutstanding}
 use Rattle.psci_headline.proofs.Words.{arith, BoardValue, cases_Bool, cond, cond-false, cond-true}
 use Rattle.psci_headline.proofs.Words.{controller_values, cores, deliveries, each_core, Enter}
-use Rattle.psci_headline.proofs.Words.{entering, eqb-true, false, firmware_values, indexed, inl}
-use Rattle.psci_headline.proofs.Words.{inr, is_done, Kind, List, message_effect, MessageValue}
-use Rattle.psci_headline.proofs.Words.{nat_tests, None, none-some, OfCore, or_left, or_right}
-use Rattle.psci_headline.proofs.Words.{Record, same_Some, sent, served, serving, Some, step, sym}
-use Rattle.psci_headline.proofs.Words.{true, Values, ℕ}
+use Rattle.psci_headline.proofs.Words.{entering, eqb-true, false, firmware_values, inl, inr}
+use Rattle.psci_headline.proofs.Words.{is_done, Kind, List, message_effect, MessageValue, nat_tests}
+use Rattle.psci_headline.proofs.Words.{None, none-some, OfCore, or_left, or_right, Record}
+use Rattle.psci_headline.proofs.Words.{same_Some, sent, served, serving, Some, step, sym, true}
+use Rattle.psci_headline.proofs.Words.{Values, ℕ}
 use Rattle.psci_headline.specs.Settling.{all_cores, begun, is_start}
 use Rattle.psci_headline.proofs.Agreeing.{found_own}
 use Rattle.psci_headline.proofs.Serving.{ack_to, IsEmptying, answer_case, empties, found}
@@ -103,11 +103,7 @@ start_answered b before life past c m laws both at start n = record {
     now = sent (serving b past (Some n.number))
 
     at_start : (j : ℕ) → j ≡ n.number → IsStartAt now j
-    at_start j e = record {
-      message = n.message;
-      at = ap (λ l. indexed l j) em.answered.sent ∙ ap (indexed (sent past)) e ∙ n.at;
-      kind = sym n.name.kind ∙ kind;
-    }
+    at_start j e = grind (arith, nat_tests, em, kind)
 
     by_test : (j : ℕ) → ((j == n.number) ≡ true) ⊎ ((j == n.number) ≡ false)
         → deliveries j (serving b past (Some n.number))
@@ -116,12 +112,8 @@ start_answered b before life past c m laws both at start n = record {
         ⊎ IsStartAt now j
     by_test j (inl e) more = inr (at_start j (eqb-true j n.number e))
     by_test j (inr e) more = elim (way.count j) [
-      | inl same ↦
-          let none : cond {A = ℕ} (j == n.number) 1 0 ≡ 0 = cond-false (j == n.number) 1 0 e in
-          inl (omega (arith, more, none, same))
-      | inr old ↦
-          inr (more_starts (sent past) j old now
-          (λ x f. ap (λ l. indexed l j) em.answered.sent ∙ f))
+      | inl same ↦ grind (arith, nat_tests, cond-false)
+      | inr old ↦ grind (arith, nat_tests, more_starts, now, em)
     ]
 
 -- All Starts -----------------------------------------------------------------------------------
@@ -160,10 +152,7 @@ start_step b before life laws = record {
   where
     finds : (past : List Record) (c : ℕ) → IsOwnWay b before life past → (m : MessageValue)
         → (firmware_values b past).outstanding (OfCore c) ≡ Some m → HasNumber m (sent past)
-    finds past c holds m at =
-        let v : Values = firmware_values b past in
-        found v.life v.known v (sent past) c m
-        (slots_of b past (laws.past past holds.0.legal)) at
+    finds past c holds m at = grind (arith, nat_tests, found, slots_of)
 
 -- The beginning --------------------------------------------------------------------------------
 

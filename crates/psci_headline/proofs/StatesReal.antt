@@ -70,11 +70,7 @@ fresh_next : (b : BoardValue) (r : Record) (past : List Record) (life : ℕ) (n 
     → was_in_state b life 0 (hw_at 3) (r ∷ past) n ≡ true
 fresh_next b r past life n laws next are has now unknown off =
     elim (life_before b r past life now) [
-      | inl before ↦
-          let low = (next.step 0).life in
-          let high = next.begun life now in
-          seen_later b life 0 (hw_at 3) r past n
-          (are.fresh life n has before (λ e. unknown (omega (arith, low, high, e))) off)
+      | inl before ↦ grind (arith, nat_tests, seen_later)
       | inr first ↦ first_seen b (r ∷ past) life n laws now first off
     ]
 
@@ -98,9 +94,7 @@ seen_by : (b : BoardValue) (r : Record) (past : List Record) (n : Node) → Real
 seen_by b r past n laws legal next are has w some how =
     let v : Values = firmware_values b past in
     elim how [
-      | inl was ↦
-          let begun : 0 < v.life = subst (λ l. 0 < l) was.stays.life some in
-          so_still b past v w n was.stays (are.seen n has begun was.before)
+      | inl was ↦ grind (arith, nat_tests, so_still)
       | inr more ↦ elim more [
         | inl begun ↦
             let present = (next.moves.says.starts begun.arrival begun.is).life in

@@ -1,14 +1,17 @@
--- What AFFINITY_INFO answers with OFF: each core of the domain is reported OFF.
+-- What AFFINITY_INFO answers with OFF: each core of the domain is reported OFF. And whether all
+-- cores of a domain are off, as a test that computes, and says the same.
 use Rattle.std.specs.List.{find}
-use Rattle.psci_headline.proofs.Words.{◌+◌, ◌<◌, ◌==◌, ◌∙◌, ◌∷◌, ◌≡◌, ◌≤◌, AllOff, and_from, ap}
-use Rattle.psci_headline.proofs.Words.{arith, below, BoardValue, Bool, Call, cases_Bool, cases_lt}
-use Rattle.psci_headline.proofs.Words.{Code, cond, cond-true, cores, eq-eqb, eqb-true, Event, false}
-use Rattle.psci_headline.proofs.Words.{filter, firmware_values, Fw, has_node, HasNode, height}
-use Rattle.psci_headline.proofs.Words.{int_eq, IsLegal, le-leb, leb-true, List, list_any, lt-ltb}
-use Rattle.psci_headline.proofs.Words.{nat_le, nat_lt, nat_tests, Node, nodes, None, Off, OffIsDown}
-use Rattle.psci_headline.proofs.Words.{Option, or_parts, PathLaws, pos, range_with_len, Record}
-use Rattle.psci_headline.proofs.Words.{refl, Request, request_of, Said, same_Some, Some, Status}
-use Rattle.psci_headline.proofs.Words.{subst, suc, sym, true, Values, zero, ℕ}
+use Rattle.psci_headline.proofs.Words.{◌&&◌, ◌+◌, ◌<◌, ◌==◌, ◌||◌, ◌∙◌, ◌∷◌, ◌≡◌, ◌≤◌, AllOff}
+use Rattle.psci_headline.proofs.Words.{and_from, and_parts, ap, arith, below, BoardValue, Bool}
+use Rattle.psci_headline.proofs.Words.{Call, cases_Bool, cases_lt, Code, cond, cond-true, cores}
+use Rattle.psci_headline.proofs.Words.{eq-eqb, eqb-true, Event, executes_outside, false, filter}
+use Rattle.psci_headline.proofs.Words.{firmware_values, Fw, has_node, HasNode, height, int_eq}
+use Rattle.psci_headline.proofs.Words.{IsLegal, le-leb, leb-true, List, list_all, list_any, lt-ltb}
+use Rattle.psci_headline.proofs.Words.{nat_tests, Node, None, not, Off, OffIsDown, Option, or_cases}
+use Rattle.psci_headline.proofs.Words.{or_left, or_parts, or_right, PathLaws, place, pos}
+use Rattle.psci_headline.proofs.Words.{range_with_len, Record, refl, Request, request_of, Said}
+use Rattle.psci_headline.proofs.Words.{same_Some, Some, Status, subst, suc, sym, true, Values}
+use Rattle.psci_headline.proofs.Words.{was_powered_down, zero, ℕ}
 use Rattle.psci_board.specs.Board.{node_of, size_below, up}
 use Rattle.psci_fw_laws.specs.psci_fw_spec.declared.status.Status.TheVariants.{On, Pending}
 use Rattle.psci_fw_laws.specs.psci_fw_spec.AffinityInfo.{affinity_of, is_on, is_pending_status}
@@ -17,6 +20,8 @@ use Rattle.psci_world_spec.specs.Histories.{firmware_history}
 use Rattle.psci_headline.specs.ToldOff.{asked_of, told_off}
 use Rattle.psci_headline.proofs.Returned.{Extended, IsReturned, returned}
 use Rattle.psci_headline.proofs.Slept.{report}
+use Rattle.psci_headline.proofs.Tested.{not_running, still}
+use Rattle.psci_headline.proofs.Ranges.{all_in, each_in}
 use Rattle.psci_world_spec.specs.psci_abi.declared.request.Request.TheVariants as requests
 use Rattle.psci_fw_laws.specs.psci_fw_spec.declared.outcome.Act.TheVariants as acts
 
@@ -50,9 +55,7 @@ core_off b status n c paths low off on at =
     by_level (n.level == 0) refl (sym (cond-true (has_node b n) _ _ has) ∙ off)
   where
     has : has_node b n ≡ true
-    has = and_from (nat_le n.level (height b)) (nat_lt n.place (nodes b n.level))
-        (le-leb _ _ low)
-        (lt-ltb _ _ (subst (λ x. x < nodes b n.level) at (paths.inside c n.level on low)))
+    has = grind (arith, nat_tests, and_from, le-leb, lt-ltb)
 
     by_level : (z : Bool) → (n.level == 0) ≡ z
         → cond z (status n.place) (status_over status (below b n)) ≡ Off → status c ≡ Off
@@ -138,3 +141,28 @@ all_off b r past n paths valid down told c on at =
     let is = told_by b r past n valid told in
     down c on (report b past c is.begun
     (core_off b (firmware_values b past).status n c paths is.low is.off on at))
+
+-- As a test that computes ----------------------------------------------------------------------
+
+-- a core is below no such domain, or does not run and was powered down since it last went on
+abbrev pub is_off_in : BoardValue → List Record → Node → ℕ → Bool
+is_off_in b past n c = not (up b n.level c == n.place)
+    || (not (executes_outside (place b past c))
+    && was_powered_down b (firmware_values b past).life past c)
+
+-- each core is
+abbrev pub is_all_off : BoardValue → List Record → Node → Bool
+is_all_off b past n = list_all (is_off_in b past n) (range_with_len 0 (cores b))
+
+-- the test passes where all are off
+pub tested_off : (b : BoardValue) (past : List Record) (n : Node) → is_all_off b past n ≡ true
+    → AllOff b past n
+tested_off b past n e c on at =
+    let test = each_in (is_off_in b past n) 0 (cores b) c e (omega arith) (omega (arith, on)) in
+    grind (arith, nat_tests, or_cases, eq-eqb, and_parts, not_running)
+
+-- and nowhere else
+pub off_tested : (b : BoardValue) (past : List Record) (n : Node) → AllOff b past n
+    → is_all_off b past n ≡ true
+off_tested b past n all =
+    grind (arith, nat_tests, all_in, cases_Bool, eqb-true, or_right, and_from, still, or_left)

@@ -16,7 +16,7 @@ use Rattle.psci_headline.specs.Moments.{was_powered_down}
 use Rattle.psci_headline.specs.ToldOff.{AllOff, told_off}
 use Rattle.psci_headline.proofs.Checking.{by_core, each}
 use Rattle.psci_headline.proofs.Histories.{Case, cases, after, at, on_in_group, third_on}
-use Rattle.psci_headline.proofs.ToldTest.{is_all_off}
+use Rattle.psci_headline.proofs.ToldOff.{is_all_off}
 
 -- a core asks for the status of a word at a level
 abbrev status_of : ℕ → ℕ → ℕ → Event

@@ -59,20 +59,13 @@ module _ (b : BoardValue) (laws : BoardLaws b) (r : Record) (past : List Record)
 
   -- the firmware is in its values after the record, the power controller in those before
   firmware_next : WaitsNow b w (firmware_values b (r ∷ past)) (sent (r ∷ past)) (acks past)
-  firmware_next =
-      subst (λ u. WaitsNow b w u (sent (r ∷ past)) (acks past)) (sym moved.values)
-      (subst (λ s. WaitsNow b w (change b moved.effect v) s (acks past)) (sym sent_now)
-      (effect_waits b w (place b past) v (sent past) (acks past) given now moved.effect moved.allowed
-      moved.says))
+  firmware_next = grind (arith, nat_tests, moved, sent_now, effect_waits, given)
 
   -- what the power controller replied to a message follows
   may_follow : (a : AckValue) (new : IsNew b r past a) → let m = new.made.message in
       MayFollow b w (message_effect b m a m.kind)
   unfolding effect_of
-  may_follow a new =
-      let follows = laws.runs.follows in
-      let legal_now = laws.runs.controls (r ∷ past) is in
-      grind (arith, nat_tests, more_controls)
+  may_follow a new = grind (arith, nat_tests, more_controls)
 
   -- a core was started by a wake-up or a reset, or nothing was asked
   kicked : (event : Event) (s : Said) → s ≡ legal b past event → ack_in s ≡ None

@@ -1,11 +1,11 @@
 -- Where firmware and power controller agree, all is told.
-use Rattle.psci_headline.proofs.Words.{◌<◌, ◌∙◌, ◌≡◌, ap, AreAtRest, AreConfirming, AreValues}
-use Rattle.psci_headline.proofs.Words.{arith, Away, BoardValue, Bool, cases_eq, cases_lt, cond}
-use Rattle.psci_headline.proofs.Words.{Confirming, controller_values, cores, false, firmware_values}
-use Rattle.psci_headline.proofs.Words.{HasNode, Holds, hw_at, in_life, inl, inr, is_halting}
-use Rattle.psci_headline.proofs.Words.{IsLegalPast, IsToldWhole, IsYetToCome, List, nat_tests, Node}
-use Rattle.psci_headline.proofs.Words.{node_hw, none-some, Off, On, Phase, Record, sent, Some, sym}
-use Rattle.psci_headline.proofs.Words.{true, Values, ℕ}
+use Rattle.psci_headline.proofs.Words.{◌<◌, ◌∙◌, ◌≡◌, AreAtRest, AreConfirming, AreValues, arith}
+use Rattle.psci_headline.proofs.Words.{Away, BoardValue, Bool, cases_eq, cases_lt, cond, Confirming}
+use Rattle.psci_headline.proofs.Words.{controller_values, cores, false, firmware_values, HasNode}
+use Rattle.psci_headline.proofs.Words.{Holds, hw_at, in_life, inl, inr, is_halting, IsLegalPast}
+use Rattle.psci_headline.proofs.Words.{IsToldWhole, IsYetToCome, List, nat_tests, Node, node_hw}
+use Rattle.psci_headline.proofs.Words.{none-some, Off, On, Phase, Record, sent, Some, sym, true}
+use Rattle.psci_headline.proofs.Words.{Values, ℕ}
 use Rattle.psci_fw_laws.specs.psci_fw_spec.Invariant.{agrees}
 use Rattle.psci_headline.proofs.Agreeing.{found_other, found_own}
 use Rattle.psci_headline.proofs.Confirmed.{RunLaws}
@@ -62,11 +62,7 @@ module _ (b : BoardValue) (past : List Record) (laws : RunLaws b) (legal : IsLeg
         let listed = (holds.slots.core is.message.core.number is.message is.at).listed in
         let core = (holds.messages listed.index is.message listed.at).sound.core in
         none-some is.message (sym (rest.own is.message.core.number core) ∙ is.at)
-    | inr more ↦
-        let same = found_own b on.life v (own some) in
-        let sum = laws.sums.same v.known w.starts level place (λ c at below.
-        ap (λ (u : Values). u.known c) (sym same) ∙ all_known c at) in
-        omega (arith, more, sum)
+    | inr more ↦ grind (arith, nat_tests, found_own, own, all_known)
   ]
 
   are : Confirming b past → 0 < cores b → AreConfirming b w.starts v

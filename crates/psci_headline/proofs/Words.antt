@@ -22,8 +22,8 @@ pub use Rattle.psci_board.specs.Paths.{is_on_path, is_path_place}
 pub use Rattle.psci_board.specs.declared.node.Node.{Node}
 pub use Rattle.psci_ctl_spec.proofs.Front.{get_take, take_get}
 pub use Rattle.psci_ctl_spec.proofs.OneMore.{values_more}
-pub use Rattle.psci_ctl_spec.specs.Changes.{next_life, one_more}
-pub use Rattle.psci_ctl_spec.specs.Effects.{Deepens, message_effect, Nothing, Starts}
+pub use Rattle.psci_ctl_spec.specs.Changes.{one_more}
+pub use Rattle.psci_ctl_spec.specs.Effects.{Deepens, message_effect, Starts}
 pub use Rattle.psci_ctl_spec.specs.Follows.{IsFront, MayFollow}
 pub use Rattle.psci_ctl_spec.specs.Lasting.{IsApplied, IsFirst}
 pub use Rattle.psci_ctl_spec.specs.Laws.{AckLaws, SumLaws}
@@ -41,12 +41,10 @@ pub use Rattle.psci_ctl_spec.specs.psci_messages.declared.part.Part.{Part}
 pub use Rattle.psci_ctl_spec.specs.psci_messages.declared.start.Cause.{Cause}
 pub use Rattle.psci_ctl_spec.specs.psci_messages.declared.start.Start.{Start}
 pub use Rattle.psci_ctl_spec.specs.psci_messages.declared.taken.Taken.{Taken}
-pub use Rattle.psci_ctl_spec.specs.psci_messages.declared.taken.Taken.TheVariants.{Used}
 pub use Rattle.psci_fw_laws.proofs.Arriving.{found_life}
-pub use Rattle.psci_fw_laws.proofs.Parts.{part_from, part_has, updated_at, updated_here}
+pub use Rattle.psci_fw_laws.proofs.Parts.{part_from, updated_at, updated_here}
 pub use Rattle.psci_fw_laws.proofs.fw_spec.Endings.{function_ends, outcome_ends}
 pub use Rattle.psci_fw_laws.specs.Allowed.{IsAllowed, IsAwaited, IsEntering}
-pub use Rattle.psci_fw_laws.specs.Asked.{IsAskedFor}
 pub use Rattle.psci_fw_laws.specs.Claims.{AreRising, part_for}
 pub use Rattle.psci_fw_laws.specs.psci_fw_spec.After.{change}
 pub use Rattle.psci_fw_laws.specs.psci_fw_spec.Answer.{reply_or}
@@ -54,7 +52,7 @@ pub use Rattle.psci_fw_laws.specs.psci_fw_spec.Calls.{call_fault, outcome_of}
 pub use Rattle.psci_fw_laws.specs.psci_fw_spec.Changes.{confirms_on, PowerOn, target}
 pub use Rattle.psci_fw_laws.specs.psci_fw_spec.Effects.{Acknowledges, AsksOn, Effect, effect_of}
 pub use Rattle.psci_fw_laws.specs.psci_fw_spec.Effects.{enter_effect, Enters, function_effect}
-pub use Rattle.psci_fw_laws.specs.psci_fw_spec.Effects.{GoesOn, Parks, Rests, StopsAtOnce}
+pub use Rattle.psci_fw_laws.specs.psci_fw_spec.Effects.{GoesOn, Nothing, Parks, Rests, StopsAtOnce}
 pub use Rattle.psci_fw_laws.specs.psci_fw_spec.Entering.{enter_fault}
 pub use Rattle.psci_fw_laws.specs.psci_fw_spec.Exchange.{effect, FwExchange}
 pub use Rattle.psci_fw_laws.specs.psci_fw_spec.History.{values_of}
@@ -63,7 +61,6 @@ pub use Rattle.psci_fw_laws.specs.psci_fw_spec.Legal.{IsLegal}
 pub use Rattle.psci_fw_laws.specs.psci_fw_spec.Lives.{start_of_life}
 pub use Rattle.psci_fw_laws.specs.psci_fw_spec.NodeHwState.{hw_at, node_hw}
 pub use Rattle.psci_fw_laws.specs.psci_fw_spec.Outcomes.{executes_on}
-pub use Rattle.psci_fw_laws.specs.psci_fw_spec.Phases.{is_running}
 pub use Rattle.psci_fw_laws.specs.psci_fw_spec.Said.{Arrival, arrived, listed}
 pub use Rattle.psci_fw_laws.specs.psci_fw_spec.Sent.{sent_messages}
 pub use Rattle.psci_fw_laws.specs.psci_fw_spec.Values.{updated, Values}
@@ -79,7 +76,7 @@ pub use Rattle.psci_fw_laws.specs.psci_fw_spec.declared.reply.FwReply.{FwReply}
 pub use Rattle.psci_fw_laws.specs.psci_fw_spec.declared.status.Status.{Status}
 pub use Rattle.psci_headline.specs.Acknowledged.{WasMade}
 pub use Rattle.psci_headline.specs.Agreement.{Agree, AgreeIn}
-pub use Rattle.psci_headline.specs.Claims.{Claim, claim_by, claims, live_claims}
+pub use Rattle.psci_headline.specs.Claims.{Claim, claim_by}
 pub use Rattle.psci_headline.specs.Complete.{IsToldWhole}
 pub use Rattle.psci_headline.specs.Confirming.{AreConfirming, Confirming, IsConfirmedOr, IsOffOr}
 pub use Rattle.psci_headline.specs.Confirming.{IsOutstanding, IsYetToCome}
@@ -88,14 +85,14 @@ pub use Rattle.psci_headline.specs.Hardware.{is_in_state, was_in_state}
 pub use Rattle.psci_headline.specs.Live.{HasLive, NoneExecutes}
 pub use Rattle.psci_headline.specs.Moments.{depth_at, enters_or_resumes, enters_or_resumes_by}
 pub use Rattle.psci_headline.specs.Moments.{executes, is_reported_off, was_powered_down}
-pub use Rattle.psci_headline.specs.Openings.{AreTakenUp, EnteredAt, Fits, Made, made_at, newest}
-pub use Rattle.psci_headline.specs.Openings.{OfCall, OfLife, TakenUp}
-pub use Rattle.psci_headline.specs.PoweredDown.{AreDown, IsDownBy}
+pub use Rattle.psci_headline.specs.Openings.{AreTakenUp, EnteredAt, Fits, Made, made_at, OfCall}
+pub use Rattle.psci_headline.specs.Openings.{OfLife, TakenUp}
+pub use Rattle.psci_headline.specs.PoweredDown.{AreDown}
 pub use Rattle.psci_headline.specs.Refusals.{NoneRefused}
 pub use Rattle.psci_headline.specs.Safe.{AlwaysSafe, NoDeeperThanAsked, NoneBelowSleeping}
 pub use Rattle.psci_headline.specs.Safe.{OffIsDown, Safe, StatesWereReal}
 pub use Rattle.psci_headline.specs.Settling.{each_core, entering, index_of, is_any, is_halting}
-pub use Rattle.psci_headline.specs.Settling.{is_started, Reached, served, serving, settled, step}
+pub use Rattle.psci_headline.specs.Settling.{is_started, Reached, served, serving, step}
 pub use Rattle.psci_headline.specs.Test.{executes_outside, is_always_safe, is_asked, is_each_once}
 pub use Rattle.psci_headline.specs.Test.{is_each_open, is_each_real, is_off_down, is_off_stopped}
 pub use Rattle.psci_headline.specs.Test.{is_one, is_powered, is_safe}
@@ -118,10 +115,9 @@ pub use Rattle.psci_headline.specs.psci_fw_spec.NodeHwState.{hw_code}
 pub use Rattle.psci_headline.specs.psci_fw_spec.Phases.{Away, is_away, Pending, Phase}
 pub use Rattle.psci_headline.specs.psci_fw_spec.Phases.{unless_pending}
 pub use Rattle.psci_headline.specs.psci_fw_spec.SystemCalls.{is_off_status}
-pub use Rattle.psci_headline.specs.psci_fw_spec.Taking.{taken_by}
 pub use Rattle.psci_headline.specs.psci_fw_spec.declared.status.Status.TheVariants.{Off}
 pub use Rattle.psci_headline.specs.psci_world_spec.Histories.{ack_in, sent}
-pub use Rattle.psci_headline.specs.psci_world_spec.Legal.{IsLegalPast, legal_record, run_from}
+pub use Rattle.psci_headline.specs.psci_world_spec.Legal.{IsLegalPast, run_from}
 pub use Rattle.psci_headline.specs.psci_world_spec.Lists.{indexed}
 pub use Rattle.psci_headline.specs.psci_world_spec.Places.{place_after, place_of_effect}
 pub use Rattle.psci_world_spec.proofs.Answered.{controller_answered, firmware_legal}
@@ -130,7 +126,7 @@ pub use Rattle.psci_world_spec.specs.Histories.{controller_values, delivered, en
 pub use Rattle.psci_world_spec.specs.Histories.{firmware_history, firmware_values, outcome_in}
 pub use Rattle.psci_world_spec.specs.Histories.{sent_in, took}
 pub use Rattle.psci_world_spec.specs.Legal.{IsReplied, legal, said_by}
-pub use Rattle.psci_world_spec.specs.Places.{place, place_controlled, place_said}
+pub use Rattle.psci_world_spec.specs.Places.{place, place_said}
 pub use Rattle.psci_world_spec.specs.declared.event.Event.{Event}
 pub use Rattle.psci_world_spec.specs.declared.event.Event.TheVariants.{Call, Deliver, Enter, Reset}
 pub use Rattle.psci_world_spec.specs.declared.event.Event.TheVariants.{Take, Wake}
@@ -138,7 +134,7 @@ pub use Rattle.psci_world_spec.specs.declared.place.Place.{Place}
 pub use Rattle.psci_world_spec.specs.declared.place.Place.TheVariants.{Running, Started, Stopped}
 pub use Rattle.psci_world_spec.specs.declared.said.Record.{Record}
 pub use Rattle.psci_world_spec.specs.declared.said.Said.{Said}
-pub use Rattle.psci_world_spec.specs.declared.said.Said.TheVariants.{Absent, Acked, Fw, Ignored}
+pub use Rattle.psci_world_spec.specs.declared.said.Said.TheVariants.{Absent, Acked, Fw}
 pub use Rattle.psci_world_spec.specs.declared.said.Sent.{Sent}
 pub use Rattle.psci_world_spec.specs.psci_abi.Calls.{request_of}
 pub use Rattle.psci_world_spec.specs.psci_abi.declared.code.Code.{Code}

@@ -1,6 +1,7 @@
 -- Once the world has settled all is told.
-use Rattle.psci_headline.proofs.Words.{controller_history, firmware_history, firmware_values}
-use Rattle.psci_headline.proofs.Words.{settled, subst, sym}
+use Rattle.psci_headline.proofs.Words.{controller_history, firmware_history, firmware_values, subst}
+use Rattle.psci_headline.proofs.Words.{sym}
+use Rattle.psci_headline.specs.Settling.{settled}
 use Rattle.psci_headline.proofs.world_spec.Answered.{controller_answered, firmware_legal}
 use Rattle.psci_headline.proofs.BoardLaws.{BoardLaws, is_given}
 use Rattle.psci_headline.proofs.Sources.{live_depth}
