@@ -88,10 +88,7 @@ waiting_started b life starts depth halting known phase outstanding sent made c 
     }
   where
     grown : (x : ℕ) → starts x ≤ one_more starts c x
-    grown x = elim (cases_eq x c) [
-      | inl here ↦ grind (arith, nat_tests, cond-true, eq-eqb)
-      | inr there ↦ grind (arith, nat_tests, cond-false, ne_eqb)
-    ]
+    grown x = grind (arith, nat_tests, cases_eq, cond-true, eq-eqb, cond-false, ne_eqb)
 
     still_told : (a : AckValue) (i : ℕ) (m : MessageValue) → slice_get sent i ≡ Some m
         → m.life ≡ life → IsTold b starts depth a m

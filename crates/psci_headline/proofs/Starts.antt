@@ -2,11 +2,10 @@
 use Rattle.psci_headline.proofs.Words.{◌+◌, ◌<◌, ◌==◌, ◌∙◌, ◌≡◌, ◌⊎◌, AckValue, ap, AreOutstanding}
 use Rattle.psci_headline.proofs.Words.{arith, BoardValue, cases_Bool, cond, cond-false, cond-true}
 use Rattle.psci_headline.proofs.Words.{controller_values, cores, deliveries, each_core, Enter}
-use Rattle.psci_headline.proofs.Words.{entering, eqb-true, false, firmware_values, inl, inr}
-use Rattle.psci_headline.proofs.Words.{is_done, Kind, List, message_effect, MessageValue, nat_tests}
-use Rattle.psci_headline.proofs.Words.{None, none-some, OfCore, or_left, or_right, Record}
-use Rattle.psci_headline.proofs.Words.{same_Some, sent, served, serving, Some, step, sym, true}
-use Rattle.psci_headline.proofs.Words.{Values, ℕ}
+use Rattle.psci_headline.proofs.Words.{entering, eqb-true, false, firmware_values, is_done, Kind}
+use Rattle.psci_headline.proofs.Words.{List, message_effect, MessageValue, nat_tests, None}
+use Rattle.psci_headline.proofs.Words.{none-some, OfCore, or_left, or_right, Record, same_Some}
+use Rattle.psci_headline.proofs.Words.{sent, served, serving, Some, step, sym, true, Values, ℕ}
 use Rattle.psci_headline.specs.Settling.{all_cores, begun, is_start}
 use Rattle.psci_headline.proofs.Agreeing.{found_own}
 use Rattle.psci_headline.proofs.Serving.{ack_to, IsEmptying, answer_case, empties, found}
@@ -110,11 +109,8 @@ start_answered b before life past c m laws both at start n = record {
         ≡ cond (j == n.number) 1 0 + deliveries j past
         → (deliveries j (serving b past (Some n.number)) ≡ deliveries j before)
         ⊎ IsStartAt now j
-    by_test j (inl e) more = inr (at_start j (eqb-true j n.number e))
-    by_test j (inr e) more = elim (way.count j) [
-      | inl same ↦ grind (arith, nat_tests, cond-false)
-      | inr old ↦ grind (arith, nat_tests, more_starts, now, em)
-    ]
+    by_test j test more =
+        grind (arith, nat_tests, at_start, eqb-true, way, cond-false, more_starts, now, em)
 
 -- All Starts -----------------------------------------------------------------------------------
 
