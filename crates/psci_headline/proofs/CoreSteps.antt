@@ -111,24 +111,12 @@ step b v c (Rests d rest m) allowed = grind (arith, nat_tests, called)
 step b v c (Halts d m) allowed = grind (arith, nat_tests, called)
 step b v c (Stops d) allowed = grind (arith, nat_tests, called)
 step b v c (Enters d s) allowed =
-    let found : Values = in_life b s.life v in
     enters b v (change b (Enters d s) v) c d s (Enters d s) allowed.enters
     (record { arrival = record { core = d; start = s }; is = refl; new = refl })
-    (record {
-      life = refl;
-      known = refl;
-      phase = λ ne. grind (arith, nat_tests, updated_at);
-      status = grind (arith, nat_tests, updated_at);
-    })
+    (grind (arith, nat_tests, updated_at))
 step b v c (Parks d s m) allowed =
-    let found : Values = in_life b s.life v in
     enters b v (change b (Parks d s m) v) c d s (Parks d s m) allowed.enters
     (record { arrival = record { core = d; start = s }; is = refl; new = refl })
-    (record {
-      life = refl;
-      known = refl;
-      phase = λ ne. grind (arith, nat_tests, updated_at);
-      status = λ e. e;
-    })
+    (grind (arith, nat_tests, updated_at))
 step b v c (StopsAtOnce d s) allowed = grind (arith, nat_tests, enters, updated_at)
 step b v c (Acknowledges a) allowed = taken b v c a
