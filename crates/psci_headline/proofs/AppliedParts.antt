@@ -1,6 +1,6 @@
 -- A part that was applied in this life is one of a Down that was sent in it.
 use Rattle.psci_headline.proofs.Words.{◌++◌, ◌∷◌, ◌≡◌, [], AckValue, and_parts, arith, BoardValue}
-use Rattle.psci_headline.proofs.Words.{control, Deliver, delivered, eqb-true, Event, false≢true}
+use Rattle.psci_headline.proofs.Words.{control, delivered, eqb-true, Event, false≢true}
 use Rattle.psci_headline.proofs.Words.{indexed, is_on_path, IsReplied, Kind, List, listed}
 use Rattle.psci_headline.proofs.Words.{message_effect, MessageValue, nat_tests, None, Option, Part}
 use Rattle.psci_headline.proofs.Words.{part_from, Record, Said, same_Some, slice_get, Some, suc}

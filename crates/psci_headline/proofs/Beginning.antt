@@ -1,6 +1,6 @@
 -- What is so after a started core has entered, and once all have and each Start was served.
 use Rattle.psci_headline.proofs.Words.{◌++◌, ◌<◌, ◌==◌, ◌∙◌, ◌∷◌, ◌≡◌, ◌⊎◌, Act, ap, arith}
-use Rattle.psci_headline.proofs.Words.{BoardValue, call, change, cond, cond-false, cond-true}
+use Rattle.psci_headline.proofs.Words.{BoardValue, change, cond, cond-false, cond-true}
 use Rattle.psci_headline.proofs.Words.{controller_values, cores, deliveries, Enter, enter_effect}
 use Rattle.psci_headline.proofs.Words.{entering, eq-eqb, false, firmware_values, Fw, in_life}
 use Rattle.psci_headline.proofs.Words.{indexed, IsAllowed, IsLegal, IsLegalPast, last_start, length}

@@ -8,7 +8,7 @@ use Rattle.psci_headline.proofs.Words.{MessageValue, nat_tests, None, place, Rec
 use Rattle.psci_headline.proofs.Words.{Reset, Running, Said, said_by, sent, sent_in, Some, Start}
 use Rattle.psci_headline.proofs.Words.{Started, sym, Take, true, Wake, ℕ}
 use Rattle.psci_world_spec.specs.declared.said.Said.TheVariants.{Ignored}
-use Rattle.psci_world_spec.specs.Legal.{deliver, take, asked_controller, asked_firmware, legal}
+use Rattle.psci_world_spec.specs.Legal.{asked_controller, asked_firmware, legal}
 use Rattle.psci_ctl_spec.specs.declared.reply.CtlReply.{CtlReply}
 use Rattle.psci_fw_laws.specs.psci_fw_spec.Answer.{answer}
 use Rattle.psci_ctl_spec.specs.declared.call.CtlCall.TheVariants as asked

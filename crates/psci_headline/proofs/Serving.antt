@@ -4,7 +4,7 @@ use Rattle.std.proofs.Common.{option_and_then}
 use Rattle.psci_headline.proofs.Words.{◌+◌, ◌==◌, ◌∙◌, ◌∷◌, ◌≡◌, ack_by, Acked, Acknowledge}
 use Rattle.psci_headline.proofs.Words.{AckValue, and_from, answers, ap, AreOutstanding, arith}
 use Rattle.psci_headline.proofs.Words.{BoardValue, Bool, changed, cond, cond-false, cond-true}
-use Rattle.psci_headline.proofs.Words.{control, controller_values, Deliver, eq-eqb, false}
+use Rattle.psci_headline.proofs.Words.{controller_values, Deliver, eq-eqb, false}
 use Rattle.psci_headline.proofs.Words.{firmware_values, index_of, indexed, is_done, is_system}
 use Rattle.psci_headline.proofs.Words.{IsLegalPast, Kind, length, List, message_effect}
 use Rattle.psci_headline.proofs.Words.{MessageValue, nat_tests, ne_eqb, None, OfCore, Option}

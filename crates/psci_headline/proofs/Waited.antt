@@ -1,6 +1,6 @@
 -- What waits after every legal run.
 use Rattle.psci_headline.proofs.Words.{◌++◌, ◌∙◌, ◌∷◌, ◌≡◌, [], ack_in, AckValue, ap, arith}
-use Rattle.psci_headline.proofs.Words.{BoardValue, change, controller_values, Event}
+use Rattle.psci_headline.proofs.Words.{BoardValue, controller_values, Event}
 use Rattle.psci_headline.proofs.Words.{firmware_values, IsLegalPast, List, listed, MayFollow}
 use Rattle.psci_headline.proofs.Words.{message_effect, nat_tests, None, Option, place, Record, refl}
 use Rattle.psci_headline.proofs.Words.{Reset, Said, sent_in, Some, subst, sym, Values, Wake}
