@@ -4,9 +4,9 @@ use Rattle.psci_headline.proofs.Words.{◌+◌, ◌<◌, ◌∙◌, ◌∷◌, �
 use Rattle.psci_headline.proofs.Words.{and_parts, ap, ArePartsOf, arith, BoardValue, Bool}
 use Rattle.psci_headline.proofs.Words.{confirms_on, eq-eqb, eqb-true, get_or_from_slice_get}
 use Rattle.psci_headline.proofs.Words.{get_take, height, is_applied, Kind, laid, le-leb, List}
-use Rattle.psci_headline.proofs.Words.{ltb-true, MessageValue, nat_tests, Option, Part}
-use Rattle.psci_headline.proofs.Words.{slice_get, slot_of, Some, starts_below, suc, sym, take, true}
-use Rattle.psci_headline.proofs.Words.{up, Values, zero, ℕ}
+use Rattle.psci_headline.proofs.Words.{ltb-true, MessageValue, nat_tests, Option, Part, slice_get}
+use Rattle.psci_headline.proofs.Words.{slot_of, Some, starts_below, suc, sym, take, true, up}
+use Rattle.psci_headline.proofs.Words.{Values, zero, ℕ}
 use Rattle.psci_ctl_spec.specs.Parts.{applied, is_live}
 use Rattle.psci_ctl_spec.specs.psci_messages.Message.{is_climbing}
 use Rattle.psci_fw_laws.specs.KnownBelow.{known_below}

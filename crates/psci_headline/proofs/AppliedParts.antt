@@ -1,10 +1,10 @@
 -- A part that was applied in this life is one of a Down that was sent in it.
 use Rattle.psci_headline.proofs.Words.{◌++◌, ◌∷◌, ◌≡◌, [], AckValue, and_parts, arith, BoardValue}
-use Rattle.psci_headline.proofs.Words.{control, delivered, eqb-true, Event, false≢true}
-use Rattle.psci_headline.proofs.Words.{indexed, is_on_path, IsReplied, Kind, List, listed}
-use Rattle.psci_headline.proofs.Words.{message_effect, MessageValue, nat_tests, None, Option, Part}
-use Rattle.psci_headline.proofs.Words.{part_from, Record, Said, same_Some, slice_get, Some, suc}
-use Rattle.psci_headline.proofs.Words.{take_get, true, ℕ}
+use Rattle.psci_headline.proofs.Words.{control, delivered, eqb-true, Event, false≢true, indexed}
+use Rattle.psci_headline.proofs.Words.{is_on_path, IsReplied, Kind, List, listed, message_effect}
+use Rattle.psci_headline.proofs.Words.{MessageValue, nat_tests, None, Option, Part, part_from}
+use Rattle.psci_headline.proofs.Words.{Record, Said, same_Some, slice_get, Some, suc, take_get}
+use Rattle.psci_headline.proofs.Words.{true, ℕ}
 use Rattle.psci_ctl_spec.specs.Effects.{Effect, effect_of}
 use Rattle.psci_ctl_spec.specs.Lasting.{Applies, WasApplied, keeps_life}
 use Rattle.psci_ctl_spec.specs.Replies.{delivery_of, reply}

@@ -99,9 +99,7 @@ arrives b past c laws is free on at = record {
   allowed = laws.allowed entry h (subst (IsLegal b) more
       (firmware_legal b (step b past (Enter c)) (refl, is)));
   sent = ap (λ s. listed (sent_in s) ++ sent past) out.said;
-  here = λ e. not_started out.act
-      (sym (ap (λ o. unwrap_or o (place b past c)) (cond-true (c == c) _ None (eq-eqb c c refl)))
-      ∙ sym (said_place c) ∙ e);
+  here = λ e. grind (arith, nat_tests, not_started, out, cond-true, eq-eqb, said_place);
   there = λ x ne. grind (arith, nat_tests, said_place, cond-false, ne_eqb);
 }
   where
@@ -193,10 +191,7 @@ enters_in b before life past c laws way on at =
     let w : Values = firmware_values b (step b past (Enter c)) in
     let is : HaveArrived b past c = grind (arith, nat_tests, arrives) in
     let same : is.start.life ≡ life = grind (arith, nat_tests, last_is) in
-    let own : w.life ≡ life =
-    ap (λ (u : Values). u.life) is.firmware
-    ∙ (entry_moves b v c is.start is.act is.message).life
-    ∙ found_life b v is.start.life ∙ same in
+    let own : w.life ≡ life = grind (arith, nat_tests, entry_moves, found_life) in
     let halting : w.halting ≡ (in_life b life v).halting =
     grind (arith, nat_tests, entry_halting) in
     record {

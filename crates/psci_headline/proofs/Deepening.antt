@@ -85,8 +85,7 @@ waiting_deepened b life starts depth halting known phase outstanding sent made c
       first = λ n on none.
           laid_by b c ps depth n.level n.place _ (are.first n on none) (λ p here get.
           let m : MessageValue = applied.message in
-          let place : n.place ≡ up b n.level m.core.number =
-          path_place b c n.level n.place here ∙ ap (up b n.level) (sym applied.core) in
+          let place : n.place ≡ up b n.level m.core.number = grind (arith, nat_tests, path_place) in
           let some = apart.start life n.level n.place applied.index m p applied.at
           (part_from b life n.level n.place m p (record {
             kind = applied.kind;

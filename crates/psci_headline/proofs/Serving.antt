@@ -4,13 +4,12 @@ use Rattle.std.proofs.Common.{option_and_then}
 use Rattle.psci_headline.proofs.Words.{◌+◌, ◌==◌, ◌∙◌, ◌∷◌, ◌≡◌, ack_by, Acked, Acknowledge}
 use Rattle.psci_headline.proofs.Words.{AckValue, and_from, answers, ap, AreOutstanding, arith}
 use Rattle.psci_headline.proofs.Words.{BoardValue, Bool, changed, cond, cond-false, cond-true}
-use Rattle.psci_headline.proofs.Words.{controller_values, Deliver, eq-eqb, false}
-use Rattle.psci_headline.proofs.Words.{firmware_values, index_of, indexed, is_done, is_system}
-use Rattle.psci_headline.proofs.Words.{IsLegalPast, Kind, length, List, message_effect}
-use Rattle.psci_headline.proofs.Words.{MessageValue, nat_tests, ne_eqb, None, OfCore, Option}
-use Rattle.psci_headline.proofs.Words.{place_of_effect, Record, refl, served, serving, slot_of}
-use Rattle.psci_headline.proofs.Words.{Some, step, subst, sym, Take, true, unwrap_or, Values}
-use Rattle.psci_headline.proofs.Words.{values_more, with_acknowledgement, ℕ}
+use Rattle.psci_headline.proofs.Words.{controller_values, Deliver, eq-eqb, false, firmware_values}
+use Rattle.psci_headline.proofs.Words.{index_of, indexed, is_done, is_system, IsLegalPast, Kind}
+use Rattle.psci_headline.proofs.Words.{length, List, message_effect, MessageValue, nat_tests}
+use Rattle.psci_headline.proofs.Words.{ne_eqb, None, OfCore, Option, place_of_effect, Record, refl}
+use Rattle.psci_headline.proofs.Words.{served, serving, slot_of, Some, step, subst, sym, Take, true}
+use Rattle.psci_headline.proofs.Words.{unwrap_or, Values, values_more, with_acknowledgement, ℕ}
 use Rattle.psci_headline.specs.psci_fw_spec.Taking.{taken_by}
 use Rattle.psci_ctl_spec.specs.psci_messages.declared.taken.Taken.TheVariants.{Used}
 use Rattle.psci_world_spec.specs.Legal.{take}

@@ -3,11 +3,11 @@
 use Rattle.std.proofs.lemmas.List.Sums.{AllPass-from_list_all}
 use Rattle.psci_headline.proofs.Words.{◌++◌, ◌+◌, ◌<◌, ◌∙◌, ◌≡◌, ap, AreAtRest, arith, BoardValue}
 use Rattle.psci_headline.proofs.Words.{cases_lt, controller_values, cores, deliveries, false}
-use Rattle.psci_headline.proofs.Words.{firmware_values, HasNode, height, indexed, inl, inr}
-use Rattle.psci_headline.proofs.Words.{is_halting, is_settling, IsLegalPast, IsSettled, known_below}
-use Rattle.psci_headline.proofs.Words.{List, MessageValue, nat_tests, Node, None, none-some}
-use Rattle.psci_headline.proofs.Words.{OfSystem, Option, Reached, Record, refl, same_Some, sent}
-use Rattle.psci_headline.proofs.Words.{Some, subst, suc, sym, Values, ℕ}
+use Rattle.psci_headline.proofs.Words.{firmware_values, HasNode, height, inl, inr, is_halting}
+use Rattle.psci_headline.proofs.Words.{is_settling, IsLegalPast, IsSettled, known_below, List}
+use Rattle.psci_headline.proofs.Words.{MessageValue, nat_tests, Node, None, none-some, OfSystem}
+use Rattle.psci_headline.proofs.Words.{Option, Reached, Record, refl, same_Some, sent, Some, subst}
+use Rattle.psci_headline.proofs.Words.{suc, sym, Values, ℕ}
 use Rattle.psci_headline.specs.psci_fw_laws.Granted.{AreGranted}
 use Rattle.psci_headline.specs.Settling.{begun, settled}
 use Rattle.psci_headline.proofs.fw_laws.Sums.{known_same}
@@ -17,7 +17,7 @@ use Rattle.psci_headline.proofs.Rounds.{DeepAt, deep_or_out, out_at}
 use Rattle.psci_headline.proofs.Standing.{SettleLaws}
 use Rattle.psci_headline.proofs.Agreeing.{found_own}
 use Rattle.psci_headline.proofs.Beginning.{IsUnderWay}
-use Rattle.psci_headline.proofs.Bound.{HasRest, IsRound, comes_to_rest, IsOften}
+use Rattle.psci_headline.proofs.Bound.{HasRest, IsRound, comes_to_rest}
 use Rattle.psci_headline.proofs.Counting.{none_added, deliveries_more}
 use Rattle.psci_headline.proofs.Starts.{HasBegun, has_begun}
 use Rattle.psci_headline.proofs.Whole.{LifeGoesOn, going_life}
@@ -144,18 +144,8 @@ settled_at b before life reached laws rest =
         rest = subst (AreAtRest b) is
             (at_rest b before life reached.past laws going rest.none);
         few = rest.few;
-        most = λ k m at kind.
-            let low = rest.is.most k m (ap (λ rs. indexed (sent rs) k) is ∙ at) kind in
-            omega (arith, low, times k);
-        some = λ some.
-            let often : IsOften b before reached.rounds reached.past = rest.is.last some in
-            record {
-              number = often.number;
-              message = often.message;
-              at = ap (λ rs. indexed (sent rs) often.number) (sym is) ∙ often.at;
-              kind = often.kind;
-              times = omega (arith, often.times, times often.number);
-            };
+        most = λ k m at kind. grind (arith, nat_tests);
+        some = λ some. grind (arith, nat_tests, reached);
       };
     }
 

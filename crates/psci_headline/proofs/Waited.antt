@@ -1,9 +1,9 @@
 -- What waits after every legal run.
 use Rattle.psci_headline.proofs.Words.{◌++◌, ◌∙◌, ◌∷◌, ◌≡◌, [], ack_in, AckValue, ap, arith}
-use Rattle.psci_headline.proofs.Words.{BoardValue, controller_values, Event}
-use Rattle.psci_headline.proofs.Words.{firmware_values, IsLegalPast, List, listed, MayFollow}
-use Rattle.psci_headline.proofs.Words.{message_effect, nat_tests, None, Option, place, Record, refl}
-use Rattle.psci_headline.proofs.Words.{Reset, Said, sent_in, Some, subst, sym, Values, Wake}
+use Rattle.psci_headline.proofs.Words.{BoardValue, controller_values, Event, firmware_values}
+use Rattle.psci_headline.proofs.Words.{IsLegalPast, List, listed, MayFollow, message_effect}
+use Rattle.psci_headline.proofs.Words.{nat_tests, None, Option, place, Record, refl, Reset, Said}
+use Rattle.psci_headline.proofs.Words.{sent_in, Some, subst, sym, Values, Wake}
 use Rattle.psci_ctl_spec.specs.Effects.{effect_of}
 use Rattle.psci_headline.specs.psci_world_spec.Histories.{acks, controller_history}
 use Rattle.psci_headline.specs.psci_world_spec.Histories.{firmware_history, sent}
