@@ -69,12 +69,27 @@ source_new : (b : BoardValue) (life : ℕ) (v : Values) (n : Node) (messages : L
     (o : Option MessageValue) (m : MessageValue) (p : Part) → o ≡ Some m
     → part_for b life n.level n.place m ≡ Some p
     → HasSource b life n (listed o ++ messages) (claim_by b v n m.core.number p)
-source_new b life v n messages o m p is e = grind (arith, nat_tests, claim_new)
+source_new b life v n messages None m p is e = absurd (cc)
+source_new b life v n messages (Some x) m p is e =
+    let same : x ≡ m = cc in
+    record {
+      part = p;
+      from = claim_new b life n.level n.place p x messages
+          (subst (λ y. part_for b life n.level n.place y ≡ Some p) (sym same) e);
+      depth = refl;
+      generation = refl;
+    }
 
 source_old : (b : BoardValue) (life : ℕ) (n : Node) (messages : List MessageValue)
     (o : Option MessageValue) (x : Claim) → HasSource b life n messages x
     → HasSource b life n (listed o ++ messages) x
-source_old b life n messages o x s = grind (arith, nat_tests, claim_old)
+source_old b life n messages None x s = s
+source_old b life n messages (Some m) x s = record {
+  part = s.part;
+  from = claim_old b life n.level n.place s.part m messages s.from;
+  depth = s.depth;
+  generation = s.generation;
+}
 
 -- each claim of the list is a claim by the messages that were sent, or by the life's start
 pub source : (b : BoardValue) (life : ℕ) (n : Node) (past : List Record) (k : ℕ) (x : Claim)
@@ -83,7 +98,11 @@ pub source : (b : BoardValue) (life : ℕ) (n : Node) (past : List Record) (k : 
 unfolding claims sent
 source b life n [] k x has at = grind (arith, nat_tests, first_source)
 source b life n (r ∷ past) k x has at =
-    grind (arith, nat_tests, by_claim, source_new, source_old, source b life n past)
+    let o = sent_in r.said in
+    by_claim b life (firmware_values b (r ∷ past)) n (HasSource b life n (listed o ++ sent past))
+    (claims b life n past) o k x
+    (λ m p is e. source_new b life (firmware_values b (r ∷ past)) n (sent past) o m p is e)
+    (λ j e. source_old b life n (sent past) o x (source b life n past j x has e)) at
 
 -- And back -------------------------------------------------------------------------------------
 
@@ -131,7 +150,13 @@ in_sent : (b : BoardValue) (life : ℕ) (v : Values) (n : Node) (messages : List
     → slice_get (listed o ++ messages) k ≡ Some m → part_for b life n.level n.place m ≡ Some p
     → ((j : ℕ) → slice_get messages j ≡ Some m → IsIn old p.depth p.generation)
     → IsIn (with_claim_of b life v n o old) p.depth p.generation
-in_sent b life v n messages old o k m p at e before = grind (arith, nat_tests, in_new, in_old)
+in_sent b life v n messages old None k m p at e before = before k at
+in_sent b life v n messages old (Some x) zero m p at e before =
+    let same : m ≡ x = cc in
+    let is = subst (λ y. part_for b life n.level n.place y ≡ Some p) same e in
+    in_new b life v n old x (part_for b life n.level n.place x) p refl is
+in_sent b life v n messages old (Some x) (suc k) m p at e before =
+    in_old b life v n p.depth p.generation old (Some x) (before k at)
 
 -- the part that a message has for a domain is in the list
 pub part_in : (b : BoardValue) (life : ℕ) (n : Node) (past : List Record) (k : ℕ)

@@ -10,6 +10,7 @@ use Rattle.psci_headline.proofs.Words.{nat_tests, Option, Parks, PathLaws, Recor
 use Rattle.psci_headline.proofs.Words.{Said, sent, SetsMode, slice_get, Some, Start, start_of_life}
 use Rattle.psci_headline.proofs.Words.{Stops, StopsAtOnce, subst, sym, Values, Waiting, WasTold}
 use Rattle.psci_headline.proofs.Words.{with_pending, ℕ}
+use Rattle.psci_headline.proofs.Words.{◌==◌, inl, inr, one_more}
 use Rattle.psci_ctl_spec.specs.Changes.{next_life}
 use Rattle.psci_headline.specs.psci_fw_spec.Changes.{with_mode}
 use Rattle.psci_headline.specs.psci_fw_spec.Effects.{Nothing}
@@ -80,9 +81,13 @@ module _ (b : BoardValue) (w : controlled.Values) (v : Values) (sent : List Mess
       own_life (change b (AsksOn c asked) v) refl (λ life e own are.
       goes_on b w.starts (with_pending b asked v) c
       (pends b w.starts v asked paths allowed.kind are))
-  effect (Rests c rest m) allowed says = grind (arith, nat_tests, own_life, rests)
+  effect (Rests c rest m) allowed says =
+      own_life (change b (Rests c rest m) v) refl (λ life e own are.
+      rests b w.starts sums paths v sent c rest m holds allowed are)
   effect (Halts c m) allowed says = grind (arith, nat_tests, own_life, halts)
-  effect (Stops c) allowed says = grind (arith, nat_tests, own_life, stops)
+  effect (Stops c) allowed says =
+      own_life (change b (Stops c) v) refl (λ life e own are.
+      stops b w.starts sums paths v sent c allowed are)
   effect (Enters c s) allowed says =
       entered (change b (Enters c s) v) s (says.starts (record { core = c; start = s }) refl).life
       (found_life b v s.life) (enters b w.starts sums paths v c s)
@@ -107,7 +112,20 @@ first_now b starts life = grind (arith, nat_tests, cond_both, first)
 -- more starts
 later : (b : BoardValue) (starts more : ℕ → ℕ) (v : Values) → KnownLaws b
     → ((c : ℕ) → starts c ≤ more c) → AreConfirming b starts v → AreConfirming b more v
-later b starts more v sums le are = grind (arith, nat_tests, yet_later)
+later b starts more v sums le are = record {
+  domains = λ level place some. elim (are.domains level place some) [
+    | inl was ↦ inl was
+    | inr yet ↦
+        inr (yet_later b starts more v.known v.outstanding level place
+        (sums.le starts more level place (λ c on at. le c)) yet)
+  ];
+  cores = λ awake c on away. elim (are.cores awake c on away) [
+    | inl was ↦ inl was
+    | inr yet ↦
+        inr (yet_later b starts more v.known v.outstanding 0 c
+        (sums.le starts more 0 c (λ x at below. le x)) yet)
+  ];
+}
 
 one_later : (t : Bool) (n : ℕ) → n ≤ cond t (n + 1) n
 one_later t n = grind (arith, nat_tests)
@@ -122,7 +140,13 @@ pub controlled_by : (b : BoardValue) (w : controlled.Values) (v : Values)
     (e : controlling_effects.Effect) → KnownLaws b
     → ((l : ℕ) → w.life ≡ Some l → v.life ≤ l) → ConfirmingNow b w v
     → ConfirmingNow b (controlling.change b e w) v
-controlled_by b w v e sums begun h = grind (arith, nat_tests, later, one_later, begins)
+controlled_by b w v (controlling_effects.Starts c cause) sums begun h = λ life e.
+    later b w.starts (one_more w.starts c) (in_life b life v) sums
+    (λ x. one_later (x == c) (w.starts x)) (h life e)
+controlled_by b w v controlling_effects.Ends sums begun h = λ life e. absurd (cc)
+controlled_by b w v controlling_effects.Begins sums begun h = λ life e.
+    begins b w v w.life life begun refl e controlled.first_starts
+controlled_by b w v e sums begun h = h
 
 -- After every legal run ------------------------------------------------------------------------
 
