@@ -2,16 +2,16 @@
 use Rattle.psci_headline.proofs.Words.{◌++◌, ◌<◌, ◌∙◌, ◌∷◌, ◌≡◌, [], ack_by, AckValue, ap, applied}
 use Rattle.psci_headline.proofs.Words.{AreValues, arith, BoardValue, confirms_on, controller_values}
 use Rattle.psci_headline.proofs.Words.{Deepens, firmware_values, HasNode, Holds, hw_at, inr}
-use Rattle.psci_headline.proofs.Words.{IsAwaited, known_below, List, message_effect, MessageValue}
-use Rattle.psci_headline.proofs.Words.{nat_tests, Node, NonePending, OfCore, part_from, PathLaws}
-use Rattle.psci_headline.proofs.Words.{Record, sent_in, slice_get, slot_of, Some, starts_below}
-use Rattle.psci_headline.proofs.Words.{subst, sym, take, true, up, Values, was_in_state, WasMade, ℕ}
+use Rattle.psci_headline.proofs.Words.{IsAwaited, known_below, List, MessageValue, nat_tests, Node}
+use Rattle.psci_headline.proofs.Words.{NonePending, OfCore, part_from, PathLaws, Record, sent_in}
+use Rattle.psci_headline.proofs.Words.{slice_get, slot_of, Some, starts_below, subst, sym, take}
+use Rattle.psci_headline.proofs.Words.{true, up, Values, was_in_state, WasMade, ℕ}
 use Rattle.psci_ctl_spec.specs.Changes.{change}
 use Rattle.psci_fw_laws.proofs.Consequences.{none_active, once_down}
 use Rattle.psci_world_spec.specs.Histories.{sent}
 use Rattle.psci_headline.proofs.Items.{listed_later, IsListed}
 use Rattle.psci_headline.proofs.Taking.{HasName, named}
-use Rattle.psci_headline.proofs.Acknowledging.{acks_message}
+use Rattle.psci_headline.proofs.Nexts.{acks_message}
 use Rattle.psci_headline.proofs.Applied.{confirming, levels, applied_live, laid_at, Confirms}
 use Rattle.psci_headline.proofs.States.{seen_now, seen_since}
 use Rattle.psci_ctl_spec.specs.Values as controlled
@@ -33,17 +33,10 @@ same_message messages j k m n at other same = grind (arith, nat_tests)
 
 -- The moment ----------------------------------------------------------------------------------
 
--- what a delivered Down leaves of the power controller's values
-down_changes : (b : BoardValue) (v w : controlled.Values) (m : MessageValue) (a : AckValue)
-    → m.kind ≡ kinds.Down → w ≡ change b (message_effect b m a m.kind) v
-    → w ≡ change b (Deepens m.core.number (take a.applied m.parts)) v
-down_changes b v w m a kind is = is ∙ ap (λ k. change b (message_effect b m a k) v) kind
-
 applied_count : (b : BoardValue) (v : controlled.Values) (m : MessageValue) (a : AckValue)
     → m.kind ≡ kinds.Down → a ≡ ack_by b v m m.kind
     → a.applied ≡ applied b v m.core.number m.parts
-applied_count b v m a kind is =
-    ap (λ (x : AckValue). x.applied) (is ∙ ap (ack_by b v m) kind)
+applied_count b v m a kind is = grind (arith, nat_tests)
 
 -- What is known where an acknowledgement is taken.
 pub record IsTaken (b : BoardValue) (past : List Record) (a : AckValue) : Type 0 where
@@ -89,14 +82,7 @@ module _ (b : BoardValue) (past : List Record) (a : AckValue) (t : IsTaken b pas
       let one : m ≡ by.message = cc (sym awaits.at ∙ by.slot) in
       let name = named a m awaits.answers in
       let of_core = t.holds.slots.core a.core.number by.message slot in
-      same_message (sent past) was_sent.index of_core.listed.index delivered by.message was_sent.at
-      of_core.listed.at
-      (once_down b v (sent past) t.holds was_sent.index of_core.listed.index delivered by.message
-      was_sent.at of_core.listed.at kind (sym (ap (λ (x : MessageValue). x.kind) one)
-      ∙ sym name.kind ∙ by.kind)
-      (sym of.core ∙ sym of_core.core)
-      (sym of.life ∙ name.life ∙ ap (λ (x : MessageValue). x.life) one)
-      (sym of.number ∙ name.number ∙ ap (λ (x : MessageValue). x.number) one))
+      grind (arith, nat_tests, same_message, was_sent, once_down, kind, of)
 
   part_at : slice_get delivered.parts n.level ≡ Some by.part
   part_at = ap (λ (x : MessageValue). slice_get x.parts n.level) same ∙ by.at
@@ -130,8 +116,7 @@ module _ (b : BoardValue) (past : List Record) (a : AckValue) (t : IsTaken b pas
   changed : controller_values b delivery
       ≡ change b (Deepens delivered.core.number (take a.applied delivered.parts))
       (controller_values b before)
-  changed = down_changes b (controller_values b before) (controller_values b delivery) delivered a
-      kind t.made.after
+  changed = grind (arith, nat_tests, kind)
 
   deep : (controller_values b delivery).depth n.level n.place ≡ v.granted n.level n.place
   deep = ap (λ (x : controlled.Values). x.depth n.level n.place) changed

@@ -1,23 +1,22 @@
 -- Firmware and power controller agree after every legal run.
-use Rattle.psci_headline.proofs.Words.{◌++◌, ◌∷◌, ◌≡◌, [], acks, AckValue, Agree, arith, BoardValue}
-use Rattle.psci_headline.proofs.Words.{Call, change, control, controller_values, Deliver, delivered}
+use Rattle.psci_headline.proofs.Words.{◌++◌, ◌∷◌, ◌≡◌, [], AckValue, Agree, arith, BoardValue, Call}
+use Rattle.psci_headline.proofs.Words.{change, control, controller_values, Deliver, delivered}
 use Rattle.psci_headline.proofs.Words.{effect, Enter, entered, Event, firmware_values}
 use Rattle.psci_headline.proofs.Words.{function_effect, indexed, IsAllowed, IsLegal, IsLegalPast}
 use Rattle.psci_headline.proofs.Words.{last_start, legal, List, MayFollow, MessageValue, nat_tests}
-use Rattle.psci_headline.proofs.Words.{None, Option, option_map, outcome_in, Place}
-use Rattle.psci_headline.proofs.Words.{place_controlled, place_said, Record, refl, Regs, request_of}
-use Rattle.psci_headline.proofs.Words.{Reset, Said, sent, Some, Start, start_of_life, subst, sym}
-use Rattle.psci_headline.proofs.Words.{Take, Taken, took, unwrap_or, Values, values_more, Wake, ℕ}
+use Rattle.psci_headline.proofs.Words.{None, Option, option_map, outcome_in, Place, place_said}
+use Rattle.psci_headline.proofs.Words.{Record, refl, Regs, request_of, Reset, Said, sent, Some}
+use Rattle.psci_headline.proofs.Words.{Start, start_of_life, subst, sym, Take, unwrap_or, Values}
+use Rattle.psci_headline.proofs.Words.{values_more, Wake, ℕ}
+use Rattle.psci_world_spec.specs.Places.{place_controlled, place}
 use Rattle.psci_ctl_spec.specs.Replies.{reply}
 use Rattle.psci_ctl_spec.specs.declared.call.CtlCall.{CtlCall}
 use Rattle.psci_world_spec.specs.Histories.{controller_history, firmware_history}
-use Rattle.psci_world_spec.specs.Places.{place}
 use Rattle.psci_headline.proofs.Agreeing.{AreAgreed, at_start, control_agrees}
-use Rattle.psci_headline.proofs.Controlling.{after_control, more_controls}
+use Rattle.psci_headline.proofs.Sending.{after_control, more_controls, after_call, legal_call}
 use Rattle.psci_headline.proofs.Happening.{happens}
 use Rattle.psci_headline.proofs.Moving.{CallerLaws, function_call}
 use Rattle.psci_headline.proofs.Placing.{acted, call_agrees, enter_agrees}
-use Rattle.psci_headline.proofs.Sending.{after_call, legal_call}
 use Rattle.psci_ctl_spec.specs.Changes as controlling
 use Rattle.psci_ctl_spec.specs.Effects as controlling_effects
 use Rattle.psci_ctl_spec.specs.Exchange as controller
@@ -132,26 +131,13 @@ enter_next b past c (said.Fw act sends) laws now e =
         → AreAgreed b (controller_values b past) (acted (place b past) c act)
         (remembers.values_of b
         (entered c o (outcome_in act sends) ++ firmware_history b past))
-    by_start None s f g = absurd (cc)
-    by_start (Some start) s f g =
-        subst (AreAgreed b (controller_values b past) (acted (place b past) c act))
-        (sym (laws.change _ (firmware_history b past)))
-        (enter_agrees b (controller_values b past) (place b past) (firmware_values b past) c start
-        act (option_map (λ s. s.message) sends) f now)
+    by_start o s f g = grind (arith, nat_tests, acted, enter_agrees)
 enter_next b past c (said.Kick start) laws now e = now
 enter_next b past c s laws now e = now
 
-took_next : (b : BoardValue) (past : List Record) (o : Option AckValue) (t : Taken) → RunLaws b
-    → Now b past
-    → AreAgreed b (controller_values b past) (place b past)
-    (remembers.values_of b (took o t ++ firmware_history b past))
-took_next b past o t laws now = grind (arith, nat_tests)
-
 take_next : (b : BoardValue) (past : List Record) (k : ℕ) (s : Said) → RunLaws b → Now b past
     → Next b past (Take k) s
-take_next b past k (said.Taken taken) laws now =
-    took_next b past (indexed (acks past) k) taken laws now
-take_next b past k s laws now = now
+take_next b past k s laws now = grind (arith, nat_tests)
 
 -- The whole run --------------------------------------------------------------------------------
 
@@ -180,6 +166,4 @@ agreed b laws (r ∷ past) is =
 
 pub agrees : (b : BoardValue) → RunLaws b → (past : List Record) → IsLegalPast b past
     → Agree b past
-agrees b laws past is =
-    let all = agreed b laws past is in
-    record { begun = all.begun; stopped = all.stopped; present = all.present }
+agrees b laws past is = grind (arith, nat_tests, agreed)

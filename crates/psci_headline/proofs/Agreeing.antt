@@ -1,9 +1,8 @@
 -- What firmware and power controller know of each other, as a life begins, and as the controller
 -- goes on.
-use Rattle.psci_headline.proofs.Words.{◌+◌, ◌==◌, ◌∙◌, ◌≡◌, ◌≤◌, AgreeIn, ap, arith, BoardValue}
-use Rattle.psci_headline.proofs.Words.{cond-false, cond-true, eq-eqb, first_starts, in_life}
-use Rattle.psci_headline.proofs.Words.{MayFollow, nat_tests, ne_eqb, next_life, None, Option, Place}
-use Rattle.psci_headline.proofs.Words.{place_of_effect, Some, start_of_life, Stopped, sym}
+use Rattle.psci_headline.proofs.Words.{◌≡◌, ◌≤◌, AgreeIn, arith, BoardValue, cond-false, cond-true}
+use Rattle.psci_headline.proofs.Words.{eq-eqb, first_starts, in_life, MayFollow, nat_tests, ne_eqb}
+use Rattle.psci_headline.proofs.Words.{None, Place, place_of_effect, Some, start_of_life, Stopped}
 use Rattle.psci_headline.proofs.Words.{unwrap_or, Values, ℕ}
 use Rattle.psci_ctl_spec.specs.Changes.{change}
 use Rattle.psci_ctl_spec.specs.Effects.{Effect}
@@ -25,22 +24,16 @@ at_start b life = grind (arith, nat_tests)
 
 -- what a core finds in the firmware's own life, and in another one
 pub found_own : (b : BoardValue) (life : ℕ) (v : Values) → life ≡ v.life → in_life b life v ≡ v
-found_own b life v e =
-    cond-true (life == v.life) v (start_of_life b life) (eq-eqb life v.life e)
+found_own b life v e = grind (arith, nat_tests, cond-true, eq-eqb)
 
 pub found_other : (b : BoardValue) (life : ℕ) (v : Values) → (life ≡ v.life → ⊥)
     → in_life b life v ≡ start_of_life b life
-found_other b life v ne =
-    cond-false (life == v.life) v (start_of_life b life) (ne_eqb life v.life ne)
+found_other b life v ne = grind (arith, nat_tests, cond-false, ne_eqb)
 
 -- The power controller -------------------------------------------------------------------------
-
-next_is : (o : Option ℕ) (l life : ℕ) → o ≡ Some l → next_life o ≡ Some life → life ≡ l + 1
-next_is o l life e f =
-    let g : Some (l + 1) ≡ Some life = ap next_life (sym e) ∙ f in cc
 
 -- the power controller's effect
 pub control_agrees : (b : BoardValue) (w : controlled.Values) (place : ℕ → Place) (v : Values)
     (e : Effect) → MayFollow b w e → AreAgreed b w place v
     → AreAgreed b (change b e w) (λ x. unwrap_or (place_of_effect x e) (place x)) v
-control_agrees b w place v e may h = grind (arith, nat_tests, next_is)
+control_agrees b w place v e may h = grind (arith, nat_tests)

@@ -1,32 +1,24 @@
 -- Worked examples: what the firmware and the power controller know of each other in two runs, and
 -- records and values of which just one thing is not so.
-use Rattle.std.proofs.Common.{◌≡◌, ◌≤◌, ◌<◌, ℕ, zero, suc, pos, Bool, true, false, cond, ◌==◌}
-use Rattle.std.proofs.Common.{◌+◌, List, [], ◌∷◌, None, Some, unwrap_or, refl, arith, subst}
+use Rattle.std.proofs.Common.{◌≡◌, ◌≤◌, ◌<◌, pos, Bool, cond, ◌==◌, ◌+◌, List, [], ◌∷◌, None, Some}
+use Rattle.std.proofs.Common.{unwrap_or, refl, arith, subst}
 use Rattle.std.proofs.lemmas.Option.{same_Some}
-use Rattle.psci_board.specs.Board.{cores}
 use Rattle.psci_ctl_spec.specs.psci_messages.declared.start.Cause.TheVariants as causes
 use Rattle.psci_ctl_spec.specs.psci_messages.OnlyIf.{only_if}
 use Rattle.psci_fw_laws.specs.psci_fw_spec.Lives.{in_life, start_of_life}
 use Rattle.psci_fw_laws.specs.psci_fw_spec.Phases as phases
 use Rattle.psci_fw_laws.specs.psci_fw_spec.Values.{updated}
 use Rattle.psci_world_spec.specs.declared.event.Event.TheVariants.{Enter, Wake, Deliver}
-use Rattle.psci_world_spec.specs.declared.place.Place.TheVariants.{Started, Running, Stopped}
+use Rattle.psci_world_spec.specs.declared.place.Place.TheVariants.{Started, Stopped}
 use Rattle.psci_world_spec.specs.declared.said.Record.{Record}
 use Rattle.psci_world_spec.specs.Histories.{controller_values, firmware_values}
 use Rattle.psci_world_spec.specs.Legal.{run_from}
 use Rattle.psci_world_spec.specs.Places.{place}
-use Rattle.psci_world_spec.proofs.Scripts.{board, call, computing}
-use Rattle.psci_world_spec.proofs.Scripts.{nothing, on_3, retention, returns}
-use Rattle.psci_world_spec.proofs.Scripts.{started, stops}
-use Rattle.psci_world_spec.proofs.Scripts.{system_off, system_reset, version}
+use Rattle.psci_world_spec.proofs.Scripts.{board, call, computing, nothing, on_3, retention}
+use Rattle.psci_world_spec.proofs.Scripts.{returns, started, stops, system_off, system_reset}
+use Rattle.psci_world_spec.proofs.Scripts.{version}
 use Rattle.psci_headline.specs.Agreement.{Agree, AgreeIn}
-
--- the board has four cores
-no_core : (c : ℕ) → suc (suc (suc (suc c))) < 4 → ⊥
-no_core c on = omega (arith, on)
-
-not_less : (n : ℕ) → n < n → ⊥
-not_less n less = omega (arith, less)
+use Rattle.psci_headline.proofs.Checking.{by_core}
 
 -- In a first life ------------------------------------------------------------------------------
 
@@ -40,14 +32,7 @@ no_more : (first third fourth : Bool)
     → unwrap_or (only_if third (Some 1)) (unwrap_or (only_if first (Some 1)) 0)
     ≤ cond fourth (cond third (cond first 1 0 + 1) (cond first 1 0) + 1)
     (cond third (cond first 1 0 + 1) (cond first 1 0))
-no_more true true true = omega arith
-no_more true true false = omega arith
-no_more true false true = omega arith
-no_more true false false = omega arith
-no_more false true true = omega arith
-no_more false true false = omega arith
-no_more false false true = omega arith
-no_more false false false = omega arith
+no_more first third fourth = grind arith
 
 in_the_first_life : Agree board woken
 unfolding computing
@@ -59,49 +44,12 @@ in_the_first_life = record {
       (same_Some 1 life is)
       (record {
         known = λ c. no_more (c == 0) (c == 2) (c == 3);
-        waits = waits;
-        started = is_started;
-        runs = runs;
-        rests = rests;
+        waits = by_core _ (grind arith) (grind arith) (grind arith) (grind arith);
+        started = by_core _ (grind arith) (grind arith) (grind arith) (grind arith);
+        runs = by_core _ (grind arith) (grind arith) (grind arith) (grind arith);
+        rests = by_core _ (grind arith) (grind arith) (grind arith) (grind arith);
       });
 }
-  where
-    waits : (c : ℕ) → c < cores board → place board woken c ≡ Started
-        → (in_life board 1 (firmware_values board woken)).known c
-        < (controller_values board woken).starts c
-    waits zero on is = let no : Running ≡ Started = is in absurd (cc)
-    waits (suc zero) on is = let no : Stopped ≡ Started = is in absurd (cc)
-    waits (suc (suc zero)) on is = let no : Stopped ≡ Started = is in absurd (cc)
-    waits (suc (suc (suc zero))) on is = let yes : 0 < 1 = omega arith in yes
-    waits (suc (suc (suc (suc c)))) on is = absurd (no_core c on)
-
-    is_started : (c : ℕ) → c < cores board
-        → (in_life board 1 (firmware_values board woken)).known c
-        < (controller_values board woken).starts c
-        → place board woken c ≡ Started
-    is_started zero on less = absurd (not_less 1 less)
-    is_started (suc zero) on less = absurd (not_less 0 less)
-    is_started (suc (suc zero)) on less = absurd (not_less 1 less)
-    is_started (suc (suc (suc zero))) on less = refl
-    is_started (suc (suc (suc (suc c)))) on less = absurd (no_core c on)
-
-    runs : (c : ℕ) → c < cores board → place board woken c ≡ Running
-        → (in_life board 1 (firmware_values board woken)).phase c ≡ phases.Running
-    runs zero on is = refl
-    runs (suc zero) on is = let no : Stopped ≡ Running = is in absurd (cc)
-    runs (suc (suc zero)) on is = let no : Stopped ≡ Running = is in absurd (cc)
-    runs (suc (suc (suc zero))) on is = let no : Started ≡ Running = is in absurd (cc)
-    runs (suc (suc (suc (suc c)))) on is = absurd (no_core c on)
-
-    rests : (c : ℕ) → c < cores board → place board woken c ≡ Stopped
-        → (in_life board 1 (firmware_values board woken)).phase c ≡ phases.Running → ⊥
-    rests zero on is running = let no : Running ≡ Stopped = is in absurd (cc)
-    rests (suc zero) on is running =
-        let no : phases.Pending ≡ phases.Running = running in absurd (cc)
-    rests (suc (suc zero)) on is running =
-        let no : phases.Suspended _ ≡ phases.Running = running in absurd (cc)
-    rests (suc (suc (suc zero))) on is running = let no : Started ≡ Stopped = is in absurd (cc)
-    rests (suc (suc (suc (suc c)))) on is running = absurd (no_core c on)
 
 -- In a life that the firmware does not know of --------------------------------------------------
 
@@ -119,50 +67,12 @@ in_the_next_life = record {
       (same_Some 2 life is)
       (record {
         known = λ c. omega arith;
-        waits = waits;
-        started = is_started;
-        runs = runs;
-        rests = rests;
+        waits = by_core _ (grind arith) (grind arith) (grind arith) (grind arith);
+        started = by_core _ (grind arith) (grind arith) (grind arith) (grind arith);
+        runs = by_core _ (grind arith) (grind arith) (grind arith) (grind arith);
+        rests = by_core _ (grind arith) (grind arith) (grind arith) (grind arith);
       });
 }
-  where
-    waits : (c : ℕ) → c < cores board → place board reset c ≡ Started
-        → (in_life board 2 (firmware_values board reset)).known c
-        < (controller_values board reset).starts c
-    waits zero on is = let yes : 0 < 1 = omega arith in yes
-    waits (suc zero) on is = let no : Stopped ≡ Started = is in absurd (cc)
-    waits (suc (suc zero)) on is = let no : Stopped ≡ Started = is in absurd (cc)
-    waits (suc (suc (suc zero))) on is = let no : Stopped ≡ Started = is in absurd (cc)
-    waits (suc (suc (suc (suc c)))) on is = absurd (no_core c on)
-
-    is_started : (c : ℕ) → c < cores board
-        → (in_life board 2 (firmware_values board reset)).known c
-        < (controller_values board reset).starts c
-        → place board reset c ≡ Started
-    is_started zero on less = refl
-    is_started (suc zero) on less = absurd (not_less 0 less)
-    is_started (suc (suc zero)) on less = absurd (not_less 0 less)
-    is_started (suc (suc (suc zero))) on less = absurd (not_less 0 less)
-    is_started (suc (suc (suc (suc c)))) on less = absurd (no_core c on)
-
-    runs : (c : ℕ) → c < cores board → place board reset c ≡ Running
-        → (in_life board 2 (firmware_values board reset)).phase c ≡ phases.Running
-    runs zero on is = let no : Started ≡ Running = is in absurd (cc)
-    runs (suc zero) on is = let no : Stopped ≡ Running = is in absurd (cc)
-    runs (suc (suc zero)) on is = let no : Stopped ≡ Running = is in absurd (cc)
-    runs (suc (suc (suc zero))) on is = let no : Stopped ≡ Running = is in absurd (cc)
-    runs (suc (suc (suc (suc c)))) on is = absurd (no_core c on)
-
-    rests : (c : ℕ) → c < cores board → place board reset c ≡ Stopped
-        → (in_life board 2 (firmware_values board reset)).phase c ≡ phases.Running → ⊥
-    rests zero on is running = let no : Started ≡ Stopped = is in absurd (cc)
-    rests (suc zero) on is running =
-        let no : phases.Away ≡ phases.Running = running in absurd (cc)
-    rests (suc (suc zero)) on is running =
-        let no : phases.Away ≡ phases.Running = running in absurd (cc)
-    rests (suc (suc (suc zero))) on is running =
-        let no : phases.Away ≡ phases.Running = running in absurd (cc)
-    rests (suc (suc (suc (suc c)))) on is running = absurd (no_core c on)
 
 -- Records ---------------------------------------------------------------------------------------
 

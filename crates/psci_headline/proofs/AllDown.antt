@@ -1,24 +1,23 @@
--- Cores that are reported OFF were powered down, after every legal past.
+-- Cores that are reported OFF do not run, and were powered down, after every legal past.
 use Rattle.psci_headline.proofs.Words.{◌<◌, ◌==◌, ◌∙◌, ◌∷◌, ◌≡◌, [], ack_in, AckValue, Agree}
-use Rattle.psci_headline.proofs.Words.{and_right, ap, AreDown, arith, BoardValue, Bool}
-use Rattle.psci_headline.proofs.Words.{controller_values, Down, eqb-false, eqb-true, false}
-use Rattle.psci_headline.proofs.Words.{firmware_legal, firmware_values, Holds, inl, inr}
+use Rattle.psci_headline.proofs.Words.{and_right, ap, AreDown, AreValues, arith, BoardValue, Bool}
+use Rattle.psci_headline.proofs.Words.{cond, controller_values, cores, Down, eqb-false, eqb-true}
+use Rattle.psci_headline.proofs.Words.{false, firmware_legal, firmware_values, Holds, inl, inr}
 use Rattle.psci_headline.proofs.Words.{is_reported_off, IsAllowed, IsAwaited, IsLegalPast, List}
-use Rattle.psci_headline.proofs.Words.{MessageValue, nat_tests, ne_eqb, OfCore, Record, refl, sent}
-use Rattle.psci_headline.proofs.Words.{slice_get, Some, subst, sym, true, Values, was_powered_down}
-use Rattle.psci_headline.proofs.Words.{ℕ}
+use Rattle.psci_headline.proofs.Words.{MessageValue, nat_tests, ne_eqb, None, OfCore, Off}
+use Rattle.psci_headline.proofs.Words.{OffIsDown, Option, place, Record, refl, Running, sent}
+use Rattle.psci_headline.proofs.Words.{slice_get, Some, start_of_life, subst, sym, true, Values}
+use Rattle.psci_headline.proofs.Words.{was_powered_down, ℕ}
 use Rattle.psci_world_spec.specs.Histories.{acks, controller_history, firmware_history}
 use Rattle.psci_headline.proofs.Taking.{named}
-use Rattle.psci_headline.proofs.Acknowledging.{CoreLaws}
+use Rattle.psci_headline.proofs.Nexts.{CoreLaws, IsNext, acks_more, by_ack, goes_running}
 use Rattle.psci_headline.proofs.CoreSteps.{IsStep, TurnsOff, step}
 use Rattle.psci_headline.proofs.Deliveries.{life_before}
-use Rattle.psci_headline.proofs.Nexts.{IsNext, acks_more, by_ack, goes_running}
 use Rattle.psci_headline.proofs.Moves.{FirmwareLaws, Moves, moves}
 use Rattle.psci_headline.proofs.Slept.{asleep_from, report, reported, slept_now, slept_still}
-use Rattle.psci_ctl_spec.specs.History as controls
 use Rattle.psci_ctl_spec.specs.Values as controlled
 use Rattle.psci_fw_laws.specs.psci_fw_spec.declared.status.Status.TheVariants as statuses
-use Rattle.psci_fw_laws.specs.psci_fw_spec.History as remembers
+use Rattle.psci_fw_laws.specs.psci_fw_spec.Phases as phases
 
 -- Lives that the firmware does not know of -----------------------------------------------------
 
@@ -31,16 +30,8 @@ fresh_next : (b : BoardValue) (r : Record) (past : List Record) (life c : ℕ) �
     → was_powered_down b life (r ∷ past) c ≡ true
 fresh_next b r past life c laws next are now unknown other =
     elim (life_before b r past life now) [
-      | inl before ↦
-          let low = (next.step c).life in
-          let high = next.begun life now in
-          slept_still b life r past c
-          (are.fresh life c before (λ e. unknown (omega (arith, low, high, e))) other)
-          (λ goes. unknown)
-      | inr first ↦
-          slept_now b life (r ∷ past) c
-          (asleep_from b life (r ∷ past) c now
-          (ap (λ (f : ℕ → ℕ → ℕ). f 0 c) first.depth ∙ first_deep b c laws other))
+      | inl before ↦ grind (arith, nat_tests, step, slept_still)
+      | inr first ↦ grind (arith, nat_tests, slept_now, asleep_from, first_deep)
     ]
 
 -- Reports --------------------------------------------------------------------------------------
@@ -92,14 +83,12 @@ was_down b r past c true next are test begun off =
       | inr turns ↦ turned_off b r past c next are turns
     ])
 was_down b r past c false next are test begun off =
-    let v : Values = firmware_values b past in
     let w : Values = firmware_values b (r ∷ past) in
-    let other = eqb-false w.life v.life test in
-    let s = next.step c in
-    let starts = s.begins other in
-    let present = next.moves.says.starts starts.arrival starts.is in
+    let other = eqb-false w.life (firmware_values b past).life test in
+    let starts = (next.step c).begins other in
+    let present = (next.moves.says.starts starts.arrival starts.is).life in
     are.fresh w.life c (present ∙ ap (λ x. Some x) starts.new) (λ e. other (sym e))
-    (s.boot other off)
+    ((next.step c).boot other off)
 
 off_next : (b : BoardValue) (r : Record) (past : List Record) (c : ℕ) → IsNext b r past
     → AreDown b past → is_reported_off b (r ∷ past) c ≡ true
@@ -169,3 +158,22 @@ all_down b (r ∷ past) laws is =
           (ap (λ xs. slice_get xs k) (sym (acks_more r past)) ∙ at);
       fresh = λ life c. fresh_next b r past life c laws.cores next are;
     }
+
+-- Reported OFF ---------------------------------------------------------------------------------
+
+by_life : (b : BoardValue) (v : Values) (c life : ℕ) (t : Bool) → AreValues b v → v.status c ≡ Off
+    → (cond t v (start_of_life b life)).phase c ≡ phases.Running → ⊥
+by_life b v c life t are off runs = grind (arith, nat_tests)
+
+not_running : (b : BoardValue) (past : List Record) (c : ℕ) (o : Option ℕ) → Agree b past
+    → AreValues b (firmware_values b past) → c < cores b
+    → (firmware_values b past).status c ≡ Off → (controller_values b past).life ≡ o
+    → place b past c ≡ Running → ⊥
+not_running b past c None agree are on off life runs = grind (arith, nat_tests)
+not_running b past c (Some l) agree are on off life runs =
+    let v : Values = firmware_values b past in
+    by_life b v c l (l == v.life) are off ((agree.present l life).runs c on runs)
+
+pub off_is_down : (b : BoardValue) (past : List Record) → DownLaws b → IsLegalPast b past
+    → AreValues b (firmware_values b past) → OffIsDown b past
+off_is_down b past laws is are c on off = grind (arith, nat_tests, not_running, reported, all_down)

@@ -1,8 +1,8 @@
 -- The world is safe at a moment, and at every moment, where the tests say so.
 use Rattle.psci_headline.proofs.Words.{◌&&◌, ◌↔◌, ◌∷◌, ◌≡◌, [], AlwaysSafe, and_from, and_parts}
-use Rattle.psci_headline.proofs.Words.{BoardValue, is_always_safe, is_asked, is_each_once}
+use Rattle.psci_headline.proofs.Words.{arith, BoardValue, is_always_safe, is_asked, is_each_once}
 use Rattle.psci_headline.proofs.Words.{is_each_open, is_off_down, is_off_stopped, is_one}
-use Rattle.psci_headline.proofs.Words.{is_powered, is_safe, List, Record, Safe, true}
+use Rattle.psci_headline.proofs.Words.{is_powered, is_safe, List, nat_tests, Record, Safe, true}
 use Rattle.psci_headline.proofs.Once.{entries_tested}
 use Rattle.psci_headline.proofs.Tested.{asked_tested, off_tested, one_tested, powered_tested}
 use Rattle.psci_headline.proofs.Tested.{states_tested}
@@ -18,19 +18,17 @@ safe_tested b past s =
 
 pub tested_safe : (b : BoardValue) (past : List Record) → is_safe b past ≡ true → Safe b past
 tested_safe b past e =
-    let first = and_parts (is_powered b past) _ e in
-    let second = and_parts (is_off_stopped b past && is_off_down b past) _ first.1 in
-    let third = and_parts (is_one b past) _ second.1 in
-    let fourth = and_parts (is_asked b past) _ third.1 in
-    let fifth = and_parts (is_each_open b past && is_each_once b past) _ fourth.1 in
-    record {
-      powered = (powered_tested b past).0 first.0;
-      off = (off_tested b past).0 second.0;
-      one = (one_tested b past).0 third.0;
-      asked = (asked_tested b past).0 fourth.0;
-      entries = (entries_tested b past).0 fifth.0;
-      states = (states_tested b past).0 fifth.1;
-    }
+    grind (
+      arith,
+      nat_tests,
+      and_parts,
+      powered_tested,
+      off_tested,
+      one_tested,
+      asked_tested,
+      entries_tested,
+      states_tested,
+    )
 
 pub always_tested : (b : BoardValue) (past : List Record)
     → (is_always_safe b past ≡ true) ↔ AlwaysSafe b past

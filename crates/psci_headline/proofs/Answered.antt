@@ -4,9 +4,8 @@ use Rattle.psci_headline.proofs.Words.{AreConfirming, arith, Away, BoardValue, B
 use Rattle.psci_headline.proofs.Words.{changed, cond, cond_both, confirms_on, eq-eqb, Holds, inl}
 use Rattle.psci_headline.proofs.Words.{inr, IsConfirmedOr, IsOffOr, IsOutstanding, IsTold}
 use Rattle.psci_headline.proofs.Words.{IsYetToCome, List, lt-ltb, MessageValue, nat_tests, Off}
-use Rattle.psci_headline.proofs.Words.{Option, PathLaws, refl, Slot, slot_of, Some, Status, sym}
-use Rattle.psci_headline.proofs.Words.{true, turns_off, Values, WasTold, with_acknowledgement, ℕ}
-use Rattle.psci_headline.specs.psci_fw_spec.Confirmed.{applied_part}
+use Rattle.psci_headline.proofs.Words.{Option, PathLaws, refl, Slot, sym, true, Values, WasTold}
+use Rattle.psci_headline.proofs.Words.{with_acknowledgement, ℕ}
 use Rattle.psci_headline.specs.psci_fw_laws.KnownBelow.{known_below}
 use Rattle.psci_headline.proofs.fw_laws.Consequences.{once_down}
 use Rattle.psci_headline.proofs.fw_laws.Parts.{updated_at}
@@ -45,9 +44,7 @@ module _ (b : BoardValue) (starts : ℕ → ℕ) (depth : ℕ → ℕ → ℕ) (
       let m : MessageValue = is.message in
       let of = t.holds.slots.core m.core.number m is.at in
       let mine = named a m emptied.answers in
-      let told : IsTold b starts depth a m =
-      told_of is.kind emptied sent of.listed.index (once_down b v sent t.holds)
-      (t.told (mine.life ∙ of.listed.present)) of.listed.at in
+      let told : IsTold b starts depth a m = grind (arith, nat_tests, told_of, once_down) in
       none_left is.kind emptied told level is.part high is.listed
       (is.current ∙ same ∙ ap (known_below b starts level) (sym is.on))
 
@@ -56,38 +53,18 @@ module _ (b : BoardValue) (starts : ℕ → ℕ) (depth : ℕ → ℕ → ℕ) (
       → IsYetToCome b starts v.known left level place ⊎ IsApplied a is.message level
   after_taken level place is =
       elim (still_or v.outstanding a is.message.core.number is.message is.at) [
-        | inl still ↦
-            inl (inl (record {
-              message = is.message;
-              kind = is.kind;
-              at = still;
-              on = is.on;
-              part = is.part;
-              listed = is.listed;
-              current = is.current;
-            }))
+        | inl still ↦ grind (arith, nat_tests)
         | inr emptied ↦ elim (cases_lt level a.applied) [
           | inl low ↦ inr (record { name = named a is.message emptied.answers; low = low })
-          | inr high ↦
-              inl (inr (omega (
-                arith,
-                t.below level place,
-                not_live level place is emptied high,
-              )))
+          | inr high ↦ grind (arith, nat_tests, not_live)
         ]
       ]
-
-  -- then the domain is confirmed
-  part_applied : (level place : ℕ) (is : IsOutstanding b v.known v.outstanding level place)
-      → IsApplied a is.message level
-      → applied_part a level (v.outstanding (slot_of a.kind a.core)) ≡ Some is.part
-  part_applied level place is by = grind (arith, nat_tests, down_slot, and_from, lt-ltb)
 
   confirms : (level place : ℕ) (is : IsOutstanding b v.known v.outstanding level place)
       → IsApplied a is.message level → 0 < v.granted level place
       → confirms_on b v a level place ≡ true
   unfolding known_below
-  confirms level place is by some = grind (arith, nat_tests, and_from, eq-eqb, lt-ltb, part_applied)
+  confirms level place is by some = grind (arith, nat_tests, and_from, eq-eqb, lt-ltb, down_slot)
 
   domain : (level place : ℕ) → 0 < v.granted level place → IsConfirmedOr b starts v level place
       → IsConfirmedOr b starts (with_acknowledgement b a v) level place
@@ -112,11 +89,7 @@ module _ (b : BoardValue) (starts : ℕ → ℕ) (depth : ℕ → ℕ → ℕ) (
   core_off : (c : ℕ) → v.phase c ≡ Away → IsOffOr b starts v c
       → IsOffOr b starts (with_acknowledgement b a v) c
   core_off c away old = elim old [
-    | inl was ↦
-        inl (updated_at (λ (s : Status). s ≡ Off) v.status a.core.number
-        (cond (turns_off v a) Off (v.status a.core.number)) c
-        (λ here. kept (turns_off v a) Off (v.status a.core.number) (ap v.status (sym here) ∙ was))
-        (λ there. was))
+    | inl was ↦ grind (arith, nat_tests, updated_at, kept)
     | inr yet ↦ elim yet [
       | inl is ↦ elim (after_taken 0 c is) [
         | inl still ↦ inr still
@@ -127,7 +100,4 @@ module _ (b : BoardValue) (starts : ℕ → ℕ) (depth : ℕ → ℕ → ℕ) (
   ]
 
   pub answered : AreConfirming b starts v → AreConfirming b starts (with_acknowledgement b a v)
-  answered are = record {
-    domains = λ level place some. domain level place some (are.domains level place some);
-    cores = λ awake c on away. core_off c away (are.cores awake c on away);
-  }
+  answered are = grind (arith, domain, core_off)

@@ -1,17 +1,15 @@
 -- A part that was applied in this life is one of a Down that was sent in it.
-use Rattle.psci_headline.proofs.Words.{◌++◌, ◌∷◌, ◌≡◌, [], Acked, AckValue, and_parts, arith}
-use Rattle.psci_headline.proofs.Words.{BoardValue, control, controller_values, Deepens, Deliver}
-use Rattle.psci_headline.proofs.Words.{delivered, eqb-true, Event, false≢true, indexed, is_on_path}
-use Rattle.psci_headline.proofs.Words.{IsReplied, Kind, List, listed, message_effect, MessageValue}
-use Rattle.psci_headline.proofs.Words.{nat_tests, None, Option, Part, part_from, Record, refl}
-use Rattle.psci_headline.proofs.Words.{Reset, Said, same_Some, sent_in, slice_get, Some, suc}
-use Rattle.psci_headline.proofs.Words.{take_get, true, Wake, ℕ}
+use Rattle.psci_headline.proofs.Words.{◌++◌, ◌∷◌, ◌≡◌, [], AckValue, and_parts, arith, BoardValue}
+use Rattle.psci_headline.proofs.Words.{control, delivered, eqb-true, Event, false≢true, indexed}
+use Rattle.psci_headline.proofs.Words.{is_on_path, IsReplied, Kind, List, listed, message_effect}
+use Rattle.psci_headline.proofs.Words.{MessageValue, nat_tests, None, Option, Part, part_from}
+use Rattle.psci_headline.proofs.Words.{Record, Said, same_Some, slice_get, Some, suc, take_get}
+use Rattle.psci_headline.proofs.Words.{true, ℕ}
 use Rattle.psci_ctl_spec.specs.Effects.{Effect, effect_of}
 use Rattle.psci_ctl_spec.specs.Lasting.{Applies, WasApplied, keeps_life}
 use Rattle.psci_ctl_spec.specs.Replies.{delivery_of, reply}
 use Rattle.psci_ctl_spec.specs.Values.{Values}
 use Rattle.psci_fw_laws.specs.Claims.{IsFromMessage}
-use Rattle.psci_world_spec.specs.declared.said.Said.TheVariants.{Kick}
 use Rattle.psci_world_spec.specs.Histories.{controller_history, sent}
 use Rattle.psci_headline.proofs.Deliveries.{present_life}
 use Rattle.psci_headline.proofs.Items.{IsListed, at_number}
@@ -27,8 +25,7 @@ use Rattle.psci_ctl_spec.specs.History as controls
 -- an effect that applies a part leaves the life as it is
 applies_within : (b : BoardValue) (f : Effect) (level place : ℕ) (p : Part)
     → Applies b f level place p → keeps_life f ≡ true
-applies_within b (Deepens c ps) level place p a = refl
-applies_within b f level place p a = absurd a
+applies_within b f level place p a = grind (arith, nat_tests)
 
 life_within : (f : Effect) (o : Option ℕ) → keeps_life f ≡ true → controls.life_by f o ≡ o
 life_within f o e = grind (arith, nat_tests, false≢true)
@@ -100,13 +97,8 @@ control_sent : (b : BoardValue) (life level place : ℕ) (p : Part) (v : Values)
     → WasSent b life level place p ms h
     → WasSent b life level place p ms (control v ms event said ++ h)
 unfolding effect_of
-control_sent b life level place p v ms (Deliver k) (Acked index a) h before =
-    numbered_sent b life level place p ms k (indexed ms k) a h refl before
-control_sent b life level place p v ms (Wake c) (Kick s) h before =
-    none_applied b life level place p ms _ h (λ x. x) before
-control_sent b life level place p v ms (Reset c) (Kick s) h before =
-    none_applied b life level place p ms _ h (λ x. x) before
-control_sent b life level place p v ms event said h before = before
+control_sent b life level place p v ms event said h before =
+    grind (arith, nat_tests, numbered_sent, none_applied)
 
 -- All of them ---------------------------------------------------------------------------------
 
@@ -122,6 +114,4 @@ pub was_sent : (b : BoardValue) (past : List Record) (life level place : ℕ) (p
 unfolding sent controller_history
 was_sent b [] life level place p is now was = absurd was
 was_sent b (r ∷ past) life level place p is now was =
-    sent_later b life level place p (sent_in r.said) (sent past)
-    (control_sent b life level place p (controller_values b past) (sent past) r.event r.said
-    (controller_history b past) (was_sent b past life level place p) is now was)
+    grind (arith, nat_tests, sent_later, control_sent, was_sent b past life level place p)

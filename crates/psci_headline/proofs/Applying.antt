@@ -68,8 +68,7 @@ others_deep b life known phase sent w r k m p is down low part live x on joined 
     let more : suc k ≡ k + 1 = omega arith in
     let within = slice_get_within m.parts (suc k) p part in
     let claim : IsClaimOn b life (suc k) (up b (suc k) x) p sent =
-    subst (λ i. IsClaimOn b life (suc k) i p sent) (sym joined)
-    (part_claims b life sent down.index (suc k) m p down.at down.present down.kind part) in
+    grind (arith, nat_tests, part_claims) in
     let now : p.generation ≡ known_below b w.starts (suc k) (up b (suc k) x) =
     live ∙ ap (known_below b w.starts (suc k)) (sym joined) in
     child_deep b life known phase sent w r x k p is on (omega (arith, within, down.few)) low

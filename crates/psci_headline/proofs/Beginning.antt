@@ -1,20 +1,143 @@
--- What is so once the started cores have entered and each Start was served.
-use Rattle.psci_headline.proofs.Words.{◌<◌, ◌∙◌, ◌≡◌, ◌⊎◌, ap, arith, BoardValue, controller_values}
-use Rattle.psci_headline.proofs.Words.{cores, deliveries, Enter, entering, false, firmware_values}
-use Rattle.psci_headline.proofs.Words.{in_life, indexed, inl, inr, IsLegalPast, legal_record, List}
-use Rattle.psci_headline.proofs.Words.{MessageValue, nat_tests, OfCore, place, Record, refl, sent}
-use Rattle.psci_headline.proofs.Words.{Some, Started, step, subst, sym, Values, ℕ}
+-- What is so after a started core has entered, and once all have and each Start was served.
+use Rattle.psci_headline.proofs.Words.{◌++◌, ◌<◌, ◌==◌, ◌∙◌, ◌∷◌, ◌≡◌, ◌⊎◌, Act, ap, arith}
+use Rattle.psci_headline.proofs.Words.{BoardValue, change, cond, cond-false, cond-true}
+use Rattle.psci_headline.proofs.Words.{controller_values, cores, deliveries, Enter, enter_effect}
+use Rattle.psci_headline.proofs.Words.{entering, eq-eqb, false, firmware_values, Fw, in_life}
+use Rattle.psci_headline.proofs.Words.{indexed, IsAllowed, IsLegal, IsLegalPast, last_start, length}
+use Rattle.psci_headline.proofs.Words.{List, listed, lt-ltb, MessageValue, nat_tests, ne_eqb, None}
+use Rattle.psci_headline.proofs.Words.{NoneRefused, OfCore, Option, option_map, Outcome, outcome_in}
+use Rattle.psci_headline.proofs.Words.{place_after, place_said, Record, refl, Sent, sent_in, Some}
+use Rattle.psci_headline.proofs.Words.{Start, Started, step, subst, sym, unwrap_or, Values, ℕ}
+use Rattle.psci_headline.specs.psci_world_spec.Legal.{sent_as, legal}
+use Rattle.psci_fw_laws.specs.psci_fw_spec.Entering.{enter_outcome}
+use Rattle.psci_headline.specs.psci_fw_spec.Answer.{answer}
+use Rattle.psci_headline.specs.psci_world_spec.Histories.{controller_history, firmware_history}
+use Rattle.psci_headline.specs.psci_world_spec.Histories.{sent}
+use Rattle.psci_headline.specs.psci_world_spec.Places.{place}
+use Rattle.psci_headline.proofs.world_spec.Answered.{firmware_legal}
+use Rattle.psci_headline.proofs.Agreed.{RunLaws}
+use Rattle.psci_headline.proofs.Finding.{numbered_old}
 use Rattle.psci_headline.proofs.fw_laws.Arriving.{found_life}
 use Rattle.psci_headline.proofs.Agreeing.{found_own}
 use Rattle.psci_headline.proofs.Moving.{entry_moves}
 use Rattle.psci_headline.proofs.Placing.{last_is}
-use Rattle.psci_headline.proofs.Arrivals.{HaveArrived, arrives, entry_halting, entry_slots}
-use Rattle.psci_headline.proofs.Arrivals.{same_control, same_numbers}
 use Rattle.psci_headline.proofs.Counting.{AreAdded, one_added}
 use Rattle.psci_headline.proofs.Folding.{IsStep}
 use Rattle.psci_headline.proofs.Standing.{SettleLaws}
-use Rattle.psci_ctl_spec.specs.Values as controlled
 use Rattle.psci_ctl_spec.specs.psci_messages.declared.kind.Kind.TheVariants as kinds
+use Rattle.psci_headline.specs.psci_fw_spec.declared.call.FwCall.TheVariants as calls
+use Rattle.psci_headline.specs.psci_fw_spec.declared.reply.FwReply.TheVariants as replies
+use Rattle.psci_headline.specs.psci_fw_spec.Exchange as firmware
+use Rattle.psci_headline.specs.psci_fw_spec.History as remembers
+
+-- Effects --------------------------------------------------------------------------------------
+
+-- an entry leaves the life halting, or not, as the core found it
+pub entry_halting : (b : BoardValue) (v : Values) (c : ℕ) (s : Start) (act : Act)
+    (o : Option MessageValue)
+    → (change b (enter_effect c s act o) v).halting ≡ (in_life b s.life v).halting
+entry_halting b v c s act o = grind (arith, nat_tests)
+
+-- and leaves no Start outstanding that was not
+pub entry_slots : (b : BoardValue) (v : Values) (c : ℕ) (s : Start) (act : Act)
+    (o : Option MessageValue) (x : ℕ) (m : MessageValue) → IsAllowed b v (enter_effect c s act o)
+    → (change b (enter_effect c s act o) v).outstanding (OfCore x) ≡ Some m
+    → m.kind ≡ kinds.Start → (in_life b s.life v).outstanding (OfCore x) ≡ Some m
+entry_slots b v c s act o x m allowed e start = grind (arith, nat_tests)
+
+-- The record -----------------------------------------------------------------------------------
+
+-- What is said of an entry of a started core.
+record HasOutcome (b : BoardValue) (past : List Record) (c : ℕ) : Type 0 where
+  pub start : Start
+  pub last : last_start (controller_values b past) c ≡ Some start
+  pub act : Act
+  pub sends : Option Sent
+  pub said : legal b past (Enter c) ≡ Fw act sends
+
+has_outcome : (b : BoardValue) (past : List Record) (c : ℕ) → NoneRefused b past → c < cores b
+    → place b past c ≡ Started → HasOutcome b past c
+unfolding legal answer
+has_outcome b past c free on at =
+    let may = free.enters c on at in
+    let start : Start = may.0 in
+    let v : Values = firmware_values b past in
+    let o : Outcome = enter_outcome b v c start in
+    record {
+      start = start;
+      last = may.1;
+      act = o.act;
+      sends = sent_as (length (sent past)) o.message;
+      said = grind (arith, nat_tests, cond-true, lt-ltb);
+    }
+
+-- What is so after an entry of a started core.
+pub record HaveArrived (b : BoardValue) (past : List Record) (c : ℕ) : Type 0 where
+  pub start : Start
+  pub last : last_start (controller_values b past) c ≡ Some start
+  pub act : Act
+  pub message : Option MessageValue
+  pub firmware : firmware_values b (step b past (Enter c))
+      ≡ change b (enter_effect c start act message) (firmware_values b past)
+  pub allowed : IsAllowed b (firmware_values b past) (enter_effect c start act message)
+  pub sent : sent (step b past (Enter c)) ≡ listed message ++ sent past
+  pub here : place b (step b past (Enter c)) c ≡ Started → ⊥
+  pub there : (x : ℕ) → (x ≡ c → ⊥) → place b (step b past (Enter c)) x ≡ place b past x
+
+not_started : (act : Act) → place_after act ≡ Started → ⊥
+not_started act e = grind (arith, nat_tests)
+
+pub arrives : (b : BoardValue) (past : List Record) (c : ℕ) → RunLaws b → IsLegalPast b past
+    → NoneRefused b past → c < cores b → place b past c ≡ Started → HaveArrived b past c
+unfolding firmware_history sent place
+arrives b past c laws is free on at = record {
+  start = out.start;
+  last = out.last;
+  act = out.act;
+  message = message;
+  firmware = ap (remembers.values_of b) more ∙ laws.change entry h;
+  allowed = laws.allowed entry h (subst (IsLegal b) more
+      (firmware_legal b (step b past (Enter c)) (refl, is)));
+  sent = ap (λ s. listed (sent_in s) ++ sent past) out.said;
+  here = λ e. grind (arith, nat_tests, not_started, out, cond-true, eq-eqb, said_place);
+  there = λ x ne. grind (arith, nat_tests, said_place, cond-false, ne_eqb);
+}
+  where
+    out : HasOutcome b past c
+    out = has_outcome b past c free on at
+
+    h : List firmware.FwExchange
+    h = firmware_history b past
+
+    message : Option MessageValue
+    message = option_map (λ s. s.message) out.sends
+
+    entry : firmware.FwExchange
+    entry = record {
+      core = c;
+      call = calls.Enter out.start;
+      reply = replies.Out (outcome_in out.act out.sends);
+    }
+
+    more : firmware_history b (step b past (Enter c)) ≡ entry ∷ h
+    more = grind (arith, nat_tests, h, out)
+
+    said_place : (x : ℕ) → place b (step b past (Enter c)) x
+        ≡ unwrap_or (cond (x == c) (Some (place_after out.act)) None) (place b past x)
+    said_place x = ap (λ s. unwrap_or (place_said x (Enter c) s) (place b past x)) out.said
+
+-- an entry leaves the controller as it is
+pub same_control : (b : BoardValue) (past : List Record) (c : ℕ)
+    → controller_values b (step b past (Enter c)) ≡ controller_values b past
+unfolding controller_history
+same_control b past c = refl
+
+-- and each message its number
+pub same_numbers : (past : List MessageValue) (o : Option MessageValue) (k : ℕ) (m : MessageValue)
+    → indexed past k ≡ Some m → indexed (listed o ++ past) k ≡ Some m
+same_numbers past o k m e = grind (arith, nat_tests, numbered_old)
+
+-- The beginning --------------------------------------------------------------------------------
 
 -- The Start of this number was sent.
 pub record IsStartAt (messages : List MessageValue) (k : ℕ) : Type 0 where
@@ -58,57 +181,29 @@ pub more_starts : (messages : List MessageValue) (k : ℕ)
     → IsStartAt messages k → (now : List MessageValue)
     → ((m : MessageValue) → indexed messages k ≡ Some m → indexed now k ≡ Some m)
     → IsStartAt now k
-more_starts messages k is now keeps =
-    record { message = is.message; at = keeps is.message is.at; kind = is.kind }
+more_starts messages k is now keeps = grind (arith, nat_tests)
 
 enters_in : (b : BoardValue) (before : List Record) (life : ℕ) (past : List Record) (c : ℕ)
     → SettleLaws b → IsUnderWay b before life past → c < cores b → place b past c ≡ Started
     → IsIn b before life past c
-enters_in b before life past c laws way on at = record {
-  way = record {
-    legal = (refl, way.legal);
-    added = one_added before past (legal_record b past (Enter c)) refl way.added;
-    present = ap (λ (w : controlled.Values). w.life) (same_control b past c) ∙ way.present;
-    awake = ap (λ (u : Values). u.halting) (found_own b life w (sym own)) ∙ halting ∙ way.awake;
-    count = λ j. elim (way.count j) [
-      | inl same ↦ inl same
-      | inr start ↦
-          inr (more_starts (sent past) j start (sent (step b past (Enter c)))
-          (λ m e. ap (λ l. indexed l j) is.sent ∙ same_numbers (sent past) is.message j m e))
-    ];
-  };
-  own = own;
-  slots = λ x m e start.
-      subst (λ l. (in_life b l v).outstanding (OfCore x) ≡ Some m) same
-      (entry_slots b v c is.start is.act is.message x m is.allowed
-      (sym (ap (λ (u : Values). u.outstanding (OfCore x)) is.firmware) ∙ e) start);
-  here = is.here;
-  there = λ x ne old e. old (sym (is.there x ne) ∙ e);
-}
-  where
-    v : Values
-    v = firmware_values b past
-
-    w : Values
-    w = firmware_values b (step b past (Enter c))
-
-    is : HaveArrived b past c
-    is = arrives b past c laws.runs way.legal (laws.past past way.legal).free on at
-
-    same : is.start.life ≡ life
-    same =
-        let f : Some is.start.life ≡ Some life =
-        sym (last_is (controller_values b past) c is.start is.last).life ∙ way.present in cc
-
-    own : w.life ≡ life
-    own = ap (λ (u : Values). u.life) is.firmware
-        ∙ (entry_moves b v c is.start is.act is.message).life
-        ∙ found_life b v is.start.life ∙ same
-
-    halting : w.halting ≡ (in_life b life v).halting
-    halting = ap (λ (u : Values). u.halting) is.firmware
-        ∙ entry_halting b v c is.start is.act is.message
-        ∙ ap (λ l. (in_life b l v).halting) same
+enters_in b before life past c laws way on at =
+    let v : Values = firmware_values b past in
+    let w : Values = firmware_values b (step b past (Enter c)) in
+    let is : HaveArrived b past c = grind (arith, nat_tests, arrives) in
+    let same : is.start.life ≡ life = grind (arith, nat_tests, last_is) in
+    let own : w.life ≡ life = grind (arith, nat_tests, entry_moves, found_life) in
+    let halting : w.halting ≡ (in_life b life v).halting =
+    grind (arith, nat_tests, entry_halting) in
+    record {
+      way = grind (arith, nat_tests, one_added, same_control, found_own, more_starts, same_numbers);
+      own = own;
+      slots = λ x m e start.
+          subst (λ l. (in_life b l v).outstanding (OfCore x) ≡ Some m) same
+          (entry_slots b v c is.start is.act is.message x m is.allowed
+          (sym (ap (λ (u : Values). u.outstanding (OfCore x)) is.firmware) ∙ e) start);
+      here = is.here;
+      there = λ x ne old e. old (sym (is.there x ne) ∙ e);
+    }
 
 -- what becomes of the records where a core enters, if it is started
 entering_case : (b : BoardValue) (past : List Record) (c : ℕ) (P : List Record → Type 0)

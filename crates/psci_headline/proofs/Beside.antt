@@ -1,19 +1,58 @@
--- What is told of the domains beside a core's path, as the core stops, enters or is asked on; and
--- what is then told of all.
-use Rattle.psci_headline.proofs.Words.{◌<◌, ◌∙◌, ◌≡◌, ◌⊎◌, ap, AreConfirming, arith, Away}
-use Rattle.psci_headline.proofs.Words.{BoardValue, Bool, cases_eq, changed, claimed_or, cond, cores}
-use Rattle.psci_headline.proofs.Words.{false, in_life, inl, inr, is_path_place, IsConfirmedOr}
-use Rattle.psci_headline.proofs.Words.{IsOffOr, IsOutstanding, IsYetToCome, known_on, KnownLaws}
-use Rattle.psci_headline.proofs.Words.{MessageValue, nat_tests, None, OfCore, Option, Part}
-use Rattle.psci_headline.proofs.Words.{PathLaws, Phase, PowerOn, Put, refl, Rest, slice_get, Slot}
-use Rattle.psci_headline.proofs.Words.{slot_of, Some, Start, subst, sym, target, true}
-use Rattle.psci_headline.proofs.Words.{unless_claimed, up, Values, with_arrival, with_pending}
-use Rattle.psci_headline.proofs.Words.{with_phase, with_rest, ℕ}
+-- What has yet to come of a domain, and what is told of the domains beside a core's path, as the
+-- core stops, enters or is asked on; and what is then told of all.
+use Rattle.psci_headline.proofs.Words.{◌<◌, ◌∙◌, ◌≡◌, ◌≤◌, ap, AreConfirming, arith, Away}
+use Rattle.psci_headline.proofs.Words.{BoardValue, cases_eq, changed, cond, cores, eqb-false}
+use Rattle.psci_headline.proofs.Words.{eqb-true, false, in_life, inl, inr, is_path_place}
+use Rattle.psci_headline.proofs.Words.{IsConfirmedOr, IsOffOr, IsOutstanding, IsYetToCome}
+use Rattle.psci_headline.proofs.Words.{known_below, known_on, KnownLaws, MessageValue, nat_tests}
+use Rattle.psci_headline.proofs.Words.{ne_eqb, OfCore, Option, Part, PathLaws, Phase, PowerOn, Put}
+use Rattle.psci_headline.proofs.Words.{Rest, slice_get, Slot, slot_of, Some, Start, subst, sym}
+use Rattle.psci_headline.proofs.Words.{target, true, up, updated, Values, with_arrival}
+use Rattle.psci_headline.proofs.Words.{with_pending, with_phase, with_rest, ℕ}
 use Rattle.psci_headline.specs.psci_fw_spec.Changes.{with_claims, with_running}
-use Rattle.psci_headline.proofs.fw_laws.Parts.{updated_here, updated_there}
+use Rattle.psci_headline.proofs.fw_laws.Parts.{updated_there, updated_here}
 use Rattle.psci_headline.proofs.Slots.{clear_there, put_here, put_there}
-use Rattle.psci_headline.proofs.Coming.{not_at, on_path, other_core, sum_beside, yet_still}
 use Rattle.psci_headline.specs.psci_messages.declared.kind.Kind.TheVariants as kinds
+
+-- What has yet to come -------------------------------------------------------------------------
+
+-- Paths ----------------------------------------------------------------------------------------
+
+-- a core below a domain that is beside the path of another core is not that core
+pub not_at : (b : BoardValue) (c x level place : ℕ) → is_path_place b c level place ≡ false
+    → up b level x ≡ place → x ≡ c → ⊥
+not_at b c x level place off at same = grind (arith, nat_tests, eqb-false)
+
+pub on_path : (b : BoardValue) (c level place : ℕ) → is_path_place b c level place ≡ true
+    → up b level c ≡ place
+on_path b c level place on = sym (eqb-true place (up b level c) on)
+
+-- a core is beside the path of each other core
+pub other_core : (b : BoardValue) (c x : ℕ) → PathLaws b → (x ≡ c → ⊥)
+    → is_path_place b c 0 x ≡ false
+other_core b c x paths other = ne_eqb x (up b 0 c) (λ e. other (e ∙ paths.core c))
+
+-- one core's start counts for no domain beside its path
+pub sum_beside : (b : BoardValue) (f : ℕ → ℕ) (c number level place : ℕ) → KnownLaws b
+    → is_path_place b c level place ≡ false
+    → known_below b (updated f c number) level place ≡ known_below b f level place
+sum_beside b f c number level place laws off = grind (arith, nat_tests, updated_there, not_at)
+
+-- What has yet to come -------------------------------------------------------------------------
+
+-- the sum of the known starts is as it was, and what is outstanding for a core below stays
+pub yet_still : (b : BoardValue) (starts before now : ℕ → ℕ) (was is : Slot → Option MessageValue)
+    (level place : ℕ) → known_below b now level place ≡ known_below b before level place
+    → ((m : MessageValue) → up b level m.core.number ≡ place
+    → was (OfCore m.core.number) ≡ Some m → is (OfCore m.core.number) ≡ Some m)
+    → IsYetToCome b starts before was level place → IsYetToCome b starts now is level place
+yet_still b starts before now was is level place sum stays yet = grind (arith, nat_tests)
+
+-- there are more starts
+pub yet_later : (b : BoardValue) (starts later known : ℕ → ℕ) (out : Slot → Option MessageValue)
+    (level place : ℕ) → known_below b starts level place ≤ known_below b later level place
+    → IsYetToCome b starts known out level place → IsYetToCome b later known out level place
+yet_later b starts later known out level place le yet = grind (arith, nat_tests)
 
 -- What is told of the domains beside a core's path, and of the other cores.
 pub record AreBeside (b : BoardValue) (starts : ℕ → ℕ) (v : Values) (c : ℕ) : Type 0 where
@@ -40,33 +79,30 @@ rested b starts v c rest are = grind (arith, nat_tests, updated_there)
 pub arrived : (b : BoardValue) (starts : ℕ → ℕ) (v : Values) (c : ℕ) (s : Start)
     → KnownLaws b → PathLaws b → AreConfirming b starts (in_life b s.life v)
     → AreBeside b starts (with_arrival b c s v) c
-arrived b starts v c s laws paths are = record {
-  domains = λ level place off some.
-      elim (are.domains level place
-      (subst (λ d. 0 < d) (ap (λ t. cond t 0 (found.granted level place)) off) some)) [
-        | inl was ↦
-            inl (ap (λ t. cond t false (found.confirmed level place)) off ∙ was)
-        | inr yet ↦ inr (still level place off yet)
+arrived b starts v c s laws paths are =
+    let found : Values = in_life b s.life v in
+    let still : (level place : ℕ) → is_path_place b c level place ≡ false
+    → IsYetToCome b starts found.known found.outstanding level place
+    → IsYetToCome b starts (with_arrival b c s v).known (with_arrival b c s v).outstanding
+    level place =
+    λ level place off. yet_still b starts found.known (with_arrival b c s v).known found.outstanding
+    (with_arrival b c s v).outstanding level place
+    (sum_beside b found.known c s.number level place laws off)
+    (λ m at is. clear_there found.outstanding c m.core.number
+    (not_at b c m.core.number level place off at) ∙ is) in
+    record {
+      domains = λ level place off some.
+          elim (are.domains level place
+          (subst (λ d. 0 < d) (ap (λ t. cond t 0 (found.granted level place)) off) some)) [
+            | inl was ↦
+                inl (ap (λ t. cond t false (found.confirmed level place)) off ∙ was)
+            | inr yet ↦ inr (still level place off yet)
+          ];
+      cores = λ awake x on other away. elim (are.cores awake x on away) [
+        | inl was ↦ inl was
+        | inr yet ↦ inr (still 0 x (other_core b c x paths other) yet)
       ];
-  cores = λ awake x on other away. elim (are.cores awake x on away) [
-    | inl was ↦ inl was
-    | inr yet ↦ inr (still 0 x (other_core b c x paths other) yet)
-  ];
-}
-  where
-    found : Values
-    found = in_life b s.life v
-
-    still : (level place : ℕ) → is_path_place b c level place ≡ false
-        → IsYetToCome b starts found.known found.outstanding level place
-        → IsYetToCome b starts (with_arrival b c s v).known (with_arrival b c s v).outstanding
-        level place
-    still level place off =
-        yet_still b starts found.known (with_arrival b c s v).known found.outstanding
-        (with_arrival b c s v).outstanding level place
-        (sum_beside b found.known c s.number level place laws off)
-        (λ m at is. clear_there found.outstanding c m.core.number
-        (not_at b c m.core.number level place off at) ∙ is)
+    }
 
 pub arrived_flat : (b : BoardValue) (v : Values) (c : ℕ) (s : Start)
     → IsFlat b (with_arrival b c s v) c
@@ -107,47 +143,11 @@ module _ (b : BoardValue) (starts : ℕ → ℕ) (v : Values) (m : MessageValue)
   there : (level place : ℕ) → is_path_place b m.core.number level place ≡ false
       → IsYetToCome b starts v.known v.outstanding level place
       → IsYetToCome b starts v.known sends level place
-  there level place off =
-      yet_still b starts v.known v.known v.outstanding sends level place refl (λ x below is.
-      put_there v.outstanding m m.core.number x.core.number slot
-      (not_at b m.core.number x.core.number level place off below) ∙ is)
-
-  by_part : (level place : ℕ) (o : Option Part) (depth : ℕ) (before : Bool)
-      → slice_get m.parts level ≡ o
-      → up b level m.core.number ≡ place → (0 < depth → ⊥) → 0 < claimed_or o depth
-      → (unless_claimed o before ≡ true) ⊎ IsYetToCome b starts v.known sends level place
-  by_part level place None depth before e on flat some = absurd (flat some)
-  by_part level place (Some p) depth before e on flat some = inr (inl (here level place p e on))
-
-  by_path : (level place : ℕ) (t : Bool) → is_path_place b m.core.number level place ≡ t
-      → AreBeside b starts v m.core.number → IsFlat b v m.core.number
-      → 0 < cond t (claimed_or (slice_get m.parts level) (v.granted level place))
-      (v.granted level place)
-      → (cond t (unless_claimed (slice_get m.parts level) (v.confirmed level place))
-      (v.confirmed level place) ≡ true)
-      ⊎ IsYetToCome b starts v.known sends level place
-  by_path level place true on are flat some =
-      by_part level place (slice_get m.parts level) (v.granted level place)
-      (v.confirmed level place) refl (on_path b m.core.number level place on)
-      (flat level place on) some
-  by_path level place false off are flat some = elim (are.domains level place off some) [
-    | inl was ↦ inl was
-    | inr yet ↦ inr (there level place off yet)
-  ]
+  there level place off = grind (arith, nat_tests, yet_still, put_there, not_at)
 
   pub claims : AreBeside b starts v m.core.number → IsFlat b v m.core.number
       → AreConfirming b starts (with_claims b m v)
-  claims are flat = record {
-    domains = λ level place.
-        by_path level place (is_path_place b m.core.number level place) refl are flat;
-    cores = λ awake x on away. elim (cases_eq x m.core.number) [
-      | inl same ↦ inr (inl (here 0 x first at (paths.core m.core.number ∙ sym same)))
-      | inr other ↦ elim (are.cores awake x on other away) [
-        | inl was ↦ inl was
-        | inr yet ↦ inr (there 0 x (other_core b m.core.number x paths other) yet)
-      ]
-    ];
-  }
+  claims are flat = grind (arith, nat_tests, here, on_path, there, cases_eq, other_core)
 
 -- a core was asked on
 module _ (b : BoardValue) (starts : ℕ → ℕ) (v : Values) (asked : PowerOn) (paths : PathLaws b)
@@ -158,29 +158,16 @@ module _ (b : BoardValue) (starts : ℕ → ℕ) (v : Values) (asked : PowerOn) 
   abbrev after : Values
   after = with_pending b asked v
 
-  stays : (level place : ℕ) → is_path_place b t level place ≡ false
-      → IsYetToCome b starts v.known v.outstanding level place
-      → IsYetToCome b starts v.known after.outstanding level place
-  stays level place off =
-      yet_still b starts v.known v.known v.outstanding after.outstanding level place refl
-      (λ x below is.
-      put_there v.outstanding asked.message t x.core.number
-      (ap (λ k. slot_of k asked.message.core) kind)
-      (not_at b t x.core.number level place off below) ∙ is)
-
-  by_target : (level place : ℕ) (on : Bool) → is_path_place b t level place ≡ on
-      → AreConfirming b starts v → 0 < cond on 0 (v.granted level place)
-      → (cond on false (v.confirmed level place) ≡ true)
-      ⊎ IsYetToCome b starts v.known after.outstanding level place
-  by_target level place true on are some = absurd (omega (arith, some))
-  by_target level place false off are some = elim (are.domains level place some) [
-    | inl was ↦ inl was
-    | inr yet ↦ inr (stays level place off yet)
-  ]
-
   pub pends : AreConfirming b starts v → AreConfirming b starts (with_pending b asked v)
-  pends are = record {
-    domains = λ level place. by_target level place (is_path_place b t level place) refl are;
-    cores = λ awake x on away.
-        grind (arith, nat_tests, cases_eq, updated_here, updated_there, other_core);
-  }
+  pends are =
+      grind (
+        arith,
+        nat_tests,
+        yet_still,
+        put_there,
+        not_at,
+        cases_eq,
+        updated_here,
+        updated_there,
+        other_core,
+      )

@@ -1,9 +1,9 @@
 -- How many rounds there are until nothing is outstanding, and how often a Down is delivered.
 use Rattle.std.specs.Prelude.{is_some}
-use Rattle.psci_headline.proofs.Words.{◌+◌, ◌<◌, ◌||◌, ◌∙◌, ◌≡◌, ◌≤◌, ap, arith, BoardValue, Bool}
+use Rattle.psci_headline.proofs.Words.{◌+◌, ◌<◌, ◌∙◌, ◌≡◌, ◌≤◌, ap, arith, BoardValue, Bool}
 use Rattle.psci_headline.proofs.Words.{cases_lt, cond, controller_values, cores, deliveries, false}
-use Rattle.psci_headline.proofs.Words.{firmware_values, height, indexed, inl, inr, is_any, List}
-use Rattle.psci_headline.proofs.Words.{list_any, MessageValue, None, Option, or_parts}
+use Rattle.psci_headline.proofs.Words.{firmware_values, height, indexed, is_any, List, list_any}
+use Rattle.psci_headline.proofs.Words.{MessageValue, nat_tests, None, Option, or_parts}
 use Rattle.psci_headline.proofs.Words.{range_with_len, Reached, Record, refl, sent, served}
 use Rattle.psci_headline.proofs.Words.{slice_get_within, Some, subst, suc, sym, true, zero, ℕ}
 use Rattle.psci_headline.specs.Settling.{is_waiting, round, rounds}
@@ -126,12 +126,7 @@ any_none : (f : ℕ → Bool) (a n c : ℕ) → list_any f (range_with_len a n) 
     → c < a + n → f c ≡ false
 any_none f a zero c e low high = absurd (omega (arith, low, high))
 any_none f a (suc n) c e low high =
-    let both = or_parts (f a) (list_any f (range_with_len (a + 1) n)) e in
-    elim (cases_lt a c) [
-      | inl later ↦ any_none f (a + 1) n c both.1 (omega (arith, later)) (omega (arith, high))
-      | inr here ↦
-          let same : c ≡ a = omega (arith, here, low) in ap f same ∙ both.0
-    ]
+    grind (arith, nat_tests, or_parts, cases_lt, any_none f (a + 1) n c)
 
 -- A number of a range that passes a test.
 record HasOne (f : ℕ → Bool) (a n : ℕ) : Type 0 where
@@ -142,29 +137,14 @@ record HasOne (f : ℕ → Bool) (a n : ℕ) : Type 0 where
 
 any_one : (f : ℕ → Bool) (a n : ℕ) → list_any f (range_with_len a n) ≡ true → HasOne f a n
 any_one f a zero e = absurd (cc)
-any_one f a (suc n) e = by_test (λ g. any_one f (a + 1) n g) (f a) refl e
-  where
-    by_test : (list_any f (range_with_len (a + 1) n) ≡ true → HasOne f (a + 1) n) → (t : Bool)
-        → f a ≡ t → (t || list_any f (range_with_len (a + 1) n)) ≡ true → HasOne f a (suc n)
-    by_test rest true g h =
-        record { one = a; low = omega arith; high = omega arith; passes = g }
-    by_test rest false g h =
-        let later = rest h in
-        record {
-          one = later.one;
-          low = omega (arith, later.low);
-          high = omega (arith, later.high);
-          passes = later.passes;
-        }
+any_one f a (suc n) e = grind (arith, nat_tests, any_one f (a + 1) n)
 
 some_is : (o : Option MessageValue) → is_some o ≡ true
     → (m : MessageValue) × (o ≡ Some m)
-some_is None e = absurd (cc)
-some_is (Some m) e = (m, refl)
+some_is o e = grind (arith, nat_tests)
 
 none_is : (o : Option MessageValue) → is_some o ≡ false → o ≡ None
-none_is None e = refl
-none_is (Some m) e = absurd (cc)
+none_is o e = grind (arith, nat_tests)
 
 -- after one round for each level nothing is outstanding
 none_left : (b : BoardValue) (before : List Record) (life n : ℕ) (past : List Record) (c : ℕ)

@@ -5,7 +5,7 @@ use Rattle.psci_headline.proofs.Words.{Effect, enter_effect, false, GoesOn, Halt
 use Rattle.psci_headline.proofs.Words.{IsAllowed, Kind, List, MessageValue, nat_tests, None, Option}
 use Rattle.psci_headline.proofs.Words.{Pending, Phase, Rests, SetsMode, slot_of, Some, Start, Stops}
 use Rattle.psci_headline.proofs.Words.{subst, sym, target, true, unless_pending, updated, Values}
-use Rattle.psci_headline.proofs.Words.{WaitingIn, with_mode, ℕ}
+use Rattle.psci_headline.proofs.Words.{WaitingIn, ℕ}
 use Rattle.psci_headline.specs.psci_fw_spec.Phases.{Running}
 use Rattle.psci_headline.proofs.fw_laws.Parts.{updated_here}
 use Rattle.psci_headline.proofs.Slots.{system_slot, down_slot}
@@ -21,8 +21,7 @@ use Rattle.psci_headline.specs.psci_fw_spec.Said as says
 -- Slots ----------------------------------------------------------------------------------------
 
 not_down : (k : Kind) → is_kind k kinds.Down ≡ false → k ≡ kinds.Down → ⊥
-not_down k other e =
-    let no : true ≡ false = sym (ap (λ x. is_kind x kinds.Down) e) ∙ other in absurd (cc)
+not_down k other e = grind (arith, nat_tests)
 
 -- a core that ran is of another phase then, and not pending
 left_by : (p left : Phase) → p ≡ Running → unless_pending p left ≡ left
@@ -42,11 +41,8 @@ pub call_waits : (b : BoardValue) (life : ℕ) (w : controlled.Values) (v : Valu
     → is_call e ≡ true → IsAllowed b v e → AreLive b life v.known v.phase sent w.starts
     → WaitingIn b life w v sent made
     → WaitingIn b life w (change b e v) (says.listed (says.sent e) ++ sent) made
-call_waits b life w v sent made (GoesOn c) laws is allowed live h =
-    subst (λ u. WaitingIn b life w u sent made) (sym (laws.goes_on v c allowed.runs)) h
-call_waits b life w v sent made (SetsMode c mode) laws is allowed live h =
-    subst (λ u. WaitingIn b life w u sent made)
-    (sym (laws.goes_on (with_mode mode v) c allowed.runs)) h
+call_waits b life w v sent made (GoesOn c) laws is allowed live h = grind (arith, nat_tests)
+call_waits b life w v sent made (SetsMode c mode) laws is allowed live h = grind (arith, nat_tests)
 call_waits b life w v sent made (AsksOn c asked) laws is allowed live h =
     subst (λ u. WaitingIn b life w u (asked.message ∷ sent) made)
     (sym (laws.asks_on v c asked allowed.calls.runs))
@@ -62,8 +58,7 @@ call_waits b life w v sent made (Rests c rest m) laws is allowed live h =
 call_waits b life w v sent made (Halts c m) laws is allowed live h =
     waiting_halt (rested b life w v sent made c Away allowed.calls.runs (λ e. cc) h) m
     (system_slot m.kind m.core allowed.system) (not_down m.kind allowed.plain.other)
-call_waits b life w v sent made (Stops c) laws is allowed live h =
-    rested b life w v sent made c Away allowed.calls.runs (λ e. cc) h
+call_waits b life w v sent made (Stops c) laws is allowed live h = grind (arith, nat_tests, rested)
 call_waits b life w v sent made e laws is allowed live h = absurd (cc)
 
 -- Entries --------------------------------------------------------------------------------------

@@ -1,23 +1,25 @@
 -- What waits, after one call of the power controller or of the firmware.
 use Rattle.psci_headline.proofs.Words.{◌++◌, ◌+◌, ◌<◌, ◌∙◌, ◌∷◌, ◌≡◌, ◌≤◌, ack_by, AckLaws}
-use Rattle.psci_headline.proofs.Words.{AckValue, Act, ap, AreClaims, AreLive, AreOutstanding}
+use Rattle.psci_headline.proofs.Words.{Acknowledges, AckValue, Act, AreClaims, AreOutstanding}
 use Rattle.psci_headline.proofs.Words.{AreSent, arith, BoardValue, Bool, cases_eq, Cause, change}
-use Rattle.psci_headline.proofs.Words.{cond, cores, Effect, enter_effect, false, Holds, in_life}
-use Rattle.psci_headline.proofs.Words.{inl, inr, IsAllowed, IsNamed, Kind, last_start, List}
-use Rattle.psci_headline.proofs.Words.{may_follow, MayFollow, message_effect, MessageValue, nat_lt}
-use Rattle.psci_headline.proofs.Words.{nat_tests, next_life, Nothing, Option, Part, PartByPart}
-use Rattle.psci_headline.proofs.Words.{PathLaws, Place, refl, slice_get, Some, Start, Starts, subst}
-use Rattle.psci_headline.proofs.Words.{suc, SumLaws, sym, true, Values, WaitingIn}
-use Rattle.psci_headline.proofs.Words.{with_acknowledgement, zero, ℕ}
-use Rattle.psci_ctl_spec.specs.Effects.{Ends, Begins}
+use Rattle.psci_headline.proofs.Words.{cond, cores, Effect, enter_effect, Enters, false, Holds}
+use Rattle.psci_headline.proofs.Words.{in_life, inl, inr, IsAllowed, IsEntering, IsNamed, Kind}
+use Rattle.psci_headline.proofs.Words.{List, may_follow, MayFollow, message_effect, MessageValue}
+use Rattle.psci_headline.proofs.Words.{nat_lt, nat_tests, None, Option, Parks, Part, PartByPart}
+use Rattle.psci_headline.proofs.Words.{PathLaws, Place, refl, slice_get, Some, Start, Starts}
+use Rattle.psci_headline.proofs.Words.{StopsAtOnce, subst, suc, SumLaws, sym, true, Values}
+use Rattle.psci_headline.proofs.Words.{WaitingIn, with_acknowledgement, zero, ℕ}
+use Rattle.psci_ctl_spec.specs.Effects.{Nothing, Ends, Begins}
 use Rattle.psci_headline.proofs.fw_laws.Arriving.{found_life}
 use Rattle.psci_headline.proofs.fw_laws.Consequences.{once_down}
 use Rattle.psci_headline.proofs.fw_laws.Living.{live_laws}
 use Rattle.psci_headline.proofs.fw_laws.Sums.{known_le}
 use Rattle.psci_headline.proofs.Quiet.{in_life_holds}
 use Rattle.psci_headline.proofs.Agreeing.{AreAgreed, found_other, found_own}
-use Rattle.psci_headline.proofs.Moving.{CallerLaws, IsCallOf, call_moves, entry_moves}
-use Rattle.psci_headline.proofs.Placing.{last_is, own_life}
+use Rattle.psci_headline.proofs.Moving.{CallerLaws, call_moves, entry_moves, is_call}
+use Rattle.psci_headline.proofs.Placing.{IsLast}
+use Rattle.psci_headline.proofs.Pursuing.{waiting_other}
+use Rattle.psci_headline.proofs.Moves.{IsOfRecord}
 use Rattle.psci_headline.proofs.Calls.{call_waits, entry_waits}
 use Rattle.psci_headline.proofs.Controls.{IsKnown, begun_waits, down_waits, start_told, start_waits}
 use Rattle.psci_headline.proofs.Taking.{waiting_taken}
@@ -28,7 +30,8 @@ use Rattle.psci_ctl_spec.specs.Effects as controlling_effects
 use Rattle.psci_ctl_spec.specs.Values as controlled
 use Rattle.psci_ctl_spec.specs.psci_messages.declared.kind.Kind.TheVariants as kinds
 use Rattle.psci_headline.specs.psci_fw_spec.Said as says
-use Rattle.psci_headline.specs.psci_world_spec.declared.place.Place.TheVariants as places
+use Rattle.psci_fw_laws.specs.psci_fw_spec.Effects as effects
+use Rattle.psci_fw_laws.specs.psci_fw_spec.declared.outcome.Act.TheVariants as acts
 
 -- What waits in this life, where there is one.
 abbrev pub WaitsNow : BoardValue → controlled.Values → Values → List MessageValue → List AckValue
@@ -70,11 +73,9 @@ present_known b w place v sent life given e =
       messages = subst (λ l. AreSent b l found.halting found.known found.phase sent) own
           holds.messages;
       apart = holds.apart;
-      live = subst (λ l. AreLive b l found.known found.phase sent w.starts) own
-          (live_laws b found sent w.starts given.paths holds le);
+      live = grind (arith, nat_tests, live_laws);
       le = le;
-      below = λ level place_now.
-          known_le b found.known w.starts level place_now (λ c i t. le c);
+      below = λ level place_now. grind (arith, nat_tests, known_le);
     }
 
 -- The power controller -------------------------------------------------------------------------
@@ -110,8 +111,7 @@ acked_kind b w place v sent made k m kinds.Start given at own is may h = by_test
 
     same_life : (s : Bool) → (controlling.change b (cond s Nothing
         (Starts m.core.number causes.On)) w).life ≡ w.life
-    same_life true = refl
-    same_life false = refl
+    same_life s = grind (arith, nat_tests)
 
     by_test : WaitsNow b (controlling.change b effect w) v sent (ack_by b w m kinds.Start ∷ made)
     by_test life e =
@@ -128,8 +128,7 @@ acked_kind b w place v sent made k m kinds.Reset given at own is may h =
         (ack_by b w m kinds.Reset ∷ made)
     by_test false = λ life e. absurd (cc)
     by_test true = λ life e.
-        let next : m.life + 1 ≡ life =
-        let f : Some (m.life + 1) ≡ Some life = ap next_life (sym own) ∙ e in cc in
+        let next : m.life + 1 ≡ life = grind (arith, nat_tests) in
         let low = given.agreed.begun m.life own in
         let other : life ≡ v.life → ⊥ = λ s. omega (arith, next, low, s) in
         subst (λ u. WaitingIn b life (controlling.change b Begins w) u sent
@@ -157,71 +156,71 @@ acked_waits b w place v sent made k m a given at own is may h = grind (arith, na
 
 -- The firmware ---------------------------------------------------------------------------------
 
--- the life of a running core is the firmware's
-running_life : (b : BoardValue) (w : controlled.Values) (place : ℕ → Place) (v : Values)
-    (c life : ℕ) → AreAgreed b w place v → c < cores b → place c ≡ places.Running
-    → w.life ≡ Some life → life ≡ v.life
-running_life b w place v c life agreed on at e =
-    own_life b life v c ((agreed.present life e).runs c on at)
+module _ (b : BoardValue) (w : controlled.Values) (place : ℕ → Place) (v : Values)
+    (sent : List MessageValue) (made : List AckValue) (given : IsGiven b w place v sent)
+    (h : WaitsNow b w v sent made) where
+  -- a core calls in the power controller's life
+  called_own : (e : Effect) (life : ℕ) → w.life ≡ Some life → life ≡ v.life → is_call e ≡ true
+      → IsAllowed b v e
+      → WaitingIn b life w (in_life b life (change b e v)) (says.listed (says.sent e) ++ sent) made
+  called_own e life f own is allowed =
+      grind (arith, nat_tests, call_moves, found_own, present_known, call_waits)
 
--- a core calls
-pub called_waits : (b : BoardValue) (w : controlled.Values) (place : ℕ → Place) (v : Values)
-    (sent : List MessageValue) (made : List AckValue) (c : ℕ) (e : Effect) (runs : Bool)
-    → IsGiven b w place v sent → c < cores b → place c ≡ places.Running → IsCallOf e c runs
-    → IsAllowed b v e → WaitsNow b w v sent made
-    → WaitsNow b w (change b e v) (says.listed (says.sent e) ++ sent) made
-called_waits b w place v sent made c e runs given on at is allowed h life f =
-    let own : life ≡ v.life = running_life b w place v c life given.agreed on at f in
-    let moved = call_moves b v e given.callers is.is allowed in
-    let known : IsKnown b life w.starts v sent =
-    subst (λ u. IsKnown b life w.starts u sent) (found_own b life v own)
-    (present_known b w place v sent life given f) in
-    let now : WaitingIn b life w v sent made =
-    subst (λ u. WaitingIn b life w u sent made) (found_own b life v own) (h life f) in
-    subst (λ u. WaitingIn b life w u (says.listed (says.sent e) ++ sent) made)
-    (sym (found_own b life (change b e v) (own ∙ sym moved.life)))
-    (call_waits b life w v sent made e given.callers is.is allowed known.live now)
+  -- and in another one
+  called_other : (e : Effect) (life : ℕ) → w.life ≡ Some life → (life ≡ v.life → ⊥)
+      → is_call e ≡ true → IsAllowed b v e
+      → WaitingIn b life w (in_life b life (change b e v)) (says.listed (says.sent e) ++ sent) made
+  called_other e life f other is allowed =
+      grind (arith, nat_tests, call_moves, found_other, waiting_other)
 
--- a core enters
-pub entering_waits : (b : BoardValue) (w : controlled.Values) (place : ℕ → Place) (v : Values)
-    (sent : List MessageValue) (made : List AckValue) (c : ℕ) (s : Start) (act : Act)
-    (o : Option MessageValue) → IsGiven b w place v sent → c < cores b
-    → place c ≡ places.Started → last_start w c ≡ Some s
-    → IsAllowed b v (enter_effect c s act o) → WaitsNow b w v sent made
-    → WaitsNow b w (change b (enter_effect c s act o) v)
-    (says.listed (says.sent (enter_effect c s act o)) ++ sent) made
-entering_waits b w place v sent made c s act o given on at last allowed h life f =
-    let is = last_is w c s last in
-    let same : s.life ≡ life = let g : Some s.life ≡ Some life = sym is.life ∙ f in cc in
-    let moved = entry_moves b v c s act o in
-    let entered : s.life ≡ (change b (enter_effect c s act o) v).life =
-    sym (moved.life ∙ found_life b v s.life) in
-    let known = present_known b w place v sent s.life given is.life in
-    let later = (given.agreed.present s.life is.life).waits c on at in
-    subst (λ l. WaitingIn b l w (in_life b l (change b (enter_effect c s act o) v))
-    (says.listed (says.sent (enter_effect c s act o)) ++ sent) made)
-    same
-    (subst (λ u. WaitingIn b s.life w u
-    (says.listed (says.sent (enter_effect c s act o)) ++ sent) made)
-    (sym (found_own b s.life (change b (enter_effect c s act o) v) entered))
-    (entry_waits b w v sent made c s act o allowed on later known.live (h s.life is.life)))
+  -- a core enters
+  entering_waits : (c : ℕ) (s : Start) (act : Act) (o : Option MessageValue) → IsEntering b v c s
+      → IsLast w c s → IsAllowed b v (enter_effect c s act o)
+      → WaitsNow b w (change b (enter_effect c s act o) v)
+      (says.listed (says.sent (enter_effect c s act o)) ++ sent) made
+  entering_waits c s act o enters last allowed life f =
+      grind (
+        arith,
+        nat_tests,
+        entry_moves,
+        found_life,
+        present_known,
+        found_own,
+        entry_waits,
+        cases_eq,
+        found_other,
+      )
 
--- an acknowledgement is taken
-pub taking_waits : (b : BoardValue) (w : controlled.Values) (place : ℕ → Place) (v : Values)
-    (sent : List MessageValue) (made : List AckValue) (a : AckValue) (i : ℕ)
-    → IsGiven b w place v sent → slice_get made i ≡ Some a → WaitsNow b w v sent made
-    → WaitsNow b w (with_acknowledgement b a v) sent made
-taking_waits b w place v sent made a i given at h life f = elim (cases_eq life v.life) [
-  | inl own ↦
-      let now : WaitingIn b life w v sent made =
-      subst (λ u. WaitingIn b life w u sent made) (found_own b life v own) (h life f) in
-      let slots = subst (λ l. AreOutstanding l v.known v.phase sent v.outstanding) (sym own)
-      given.holds.slots in
-      subst (λ u. WaitingIn b life w u sent made)
-      (sym (found_own b life (with_acknowledgement b a v) own))
-      (waiting_taken a i at (once_down b v sent given.holds) slots now)
-  | inr other ↦
-      subst (λ u. WaitingIn b life w u sent made)
-      (sym (found_other b life (with_acknowledgement b a v) other))
-      (subst (λ u. WaitingIn b life w u sent made) (found_other b life v other) (h life f))
-]
+  -- an acknowledgement is taken
+  taking_waits : (a : AckValue) (i : ℕ) → slice_get made i ≡ Some a
+      → WaitsNow b w (with_acknowledgement b a v) sent made
+  taking_waits a i at life f = elim (cases_eq life v.life) [
+    | inl own ↦
+        let now : WaitingIn b life w v sent made =
+        subst (λ u. WaitingIn b life w u sent made) (found_own b life v own) (h life f) in
+        let slots = subst (λ l. AreOutstanding l v.known v.phase sent v.outstanding) (sym own)
+        given.holds.slots in
+        subst (λ u. WaitingIn b life w u sent made)
+        (sym (found_own b life (with_acknowledgement b a v) own))
+        (waiting_taken a i at (once_down b v sent given.holds) slots now)
+    | inr other ↦ grind (arith, nat_tests, found_other)
+  ]
+
+  pub effect_waits : (e : Effect) → IsAllowed b v e → IsOfRecord w made e
+      → WaitsNow b w (change b e v) (says.listed (says.sent e) ++ sent) made
+  effect_waits effects.Nothing allowed of = h
+  effect_waits (Enters c s) allowed of =
+      entering_waits c s acts.Resume None allowed.enters
+      (of.starts (record { core = c; start = s }) refl) allowed
+  effect_waits (Parks c s m) allowed of =
+      entering_waits c s acts.Stop (Some m) allowed.enters
+      (of.starts (record { core = c; start = s }) refl) allowed
+  effect_waits (StopsAtOnce c s) allowed of =
+      entering_waits c s acts.Stop None allowed.enters
+      (of.starts (record { core = c; start = s }) refl) allowed
+  effect_waits (Acknowledges a) allowed of =
+      let at = of.takes a refl in taking_waits a at.index at.at
+  effect_waits e allowed of = λ life f. elim (cases_eq life v.life) [
+    | inl own ↦ called_own e life f own refl allowed
+    | inr other ↦ called_other e life f other refl allowed
+  ]

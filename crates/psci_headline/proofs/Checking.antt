@@ -1,10 +1,10 @@
 -- Worked examples are stated so: a run that is safe at every moment, and a moment at which just one
 -- thing is not as it shall be.
 use Rattle.std.proofs.Common.{map}
-use Rattle.psci_headline.proofs.Words.{◌&&◌, ◌++◌, ◌∷◌, ◌≡◌, [], Bool, Event, false, is_always_safe}
-use Rattle.psci_headline.proofs.Words.{is_asked, is_each_once, is_each_open, is_each_real}
-use Rattle.psci_headline.proofs.Words.{is_off_down, is_off_stopped, is_one, is_powered, is_safe}
-use Rattle.psci_headline.proofs.Words.{List, Record, refl, Said, true}
+use Rattle.psci_headline.proofs.Words.{◌++◌, ◌<◌, ◌∷◌, ◌≡◌, [], arith, Bool, Event, false}
+use Rattle.psci_headline.proofs.Words.{is_always_safe, is_asked, is_each_once, is_each_open}
+use Rattle.psci_headline.proofs.Words.{is_each_real, is_off_down, is_off_stopped, is_one}
+use Rattle.psci_headline.proofs.Words.{is_powered, is_safe, List, nat_tests, Record, Said, true, ℕ}
 use Rattle.psci_board.proofs.Tables.{Row}
 use Rattle.psci_fw_laws.specs.psci_board.Board.{BoardValue}
 use Rattle.psci_world_spec.specs.Legal.{run_from}
@@ -42,6 +42,10 @@ BreakAll ks b x = record { given = (b, x); comes = ks }
 abbrev pub each : {A B : Type 0} → (A → List B) → List A → List B
 each of [] = []
 each of (x ∷ xs) = of x ++ each of xs
+
+-- what is so of each of four cores is so of every core of a board of four
+pub by_core : (P : ℕ → Type 0) → P 0 → P 1 → P 2 → P 3 → (c : ℕ) → c < 4 → P c
+by_core P p q r s c on = grind (arith, nat_tests)
 
 -- Unsafe moments ------------------------------------------------------------------------------
 
@@ -89,28 +93,10 @@ failing b past =
 abbrev pub failing_after : (BoardValue × List Steps) → List Clause
 failing_after (b, steps) = failing b (past_from b [] steps)
 
--- where something fails the world is not safe
-unsafe_where : (a b c d e f g h : Bool) (k : Clause) (ks : List Clause)
-    → if_fails a Powered ++ (if_fails b Stopped ++ (if_fails c PoweredDown ++ (if_fails d One
-    ++ (if_fails e Asked ++ (if_fails f Open ++ (if_fails g Once ++ if_fails h Real)))))) ≡ k ∷ ks
-    → (a && ((b && c) && (d && (e && ((f && g) && h))))) ≡ false
-unsafe_where false b c d e f g h k ks some = refl
-unsafe_where true false c d e f g h k ks some = refl
-unsafe_where true true false d e f g h k ks some = refl
-unsafe_where true true true false e f g h k ks some = refl
-unsafe_where true true true true false f g h k ks some = refl
-unsafe_where true true true true true false g h k ks some = refl
-unsafe_where true true true true true true false h k ks some = refl
-unsafe_where true true true true true true true false k ks some = refl
-unsafe_where true true true true true true true true k ks some = absurd (cc)
-
 -- so after such steps the world is not safe
 pub broken : (b : BoardValue) (past : List Record) (k : Clause) (ks : List Clause)
     → failing b past ≡ k ∷ ks → is_safe b past ≡ false
-broken b past k ks =
-    unsafe_where (is_powered b past) (is_off_stopped b past) (is_off_down b past) (is_one b past)
-    (is_asked b past) (is_each_open b past) (is_each_once b past)
-    (is_each_real b past) k ks
+broken b past k ks = grind (arith, nat_tests)
 
 -- after these steps the world is safe, but it was not at each moment before
 abbrev pub WasUnsafe : BoardValue → List Steps → Type 0

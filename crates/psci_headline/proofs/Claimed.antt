@@ -3,7 +3,7 @@ use Rattle.psci_headline.proofs.Words.{◌<◌, ◌∙◌, ◌≡◌, and_parts,
 use Rattle.psci_headline.proofs.Words.{cond-false, Down, eqb-false, false, first_depth, HasNode}
 use Rattle.psci_headline.proofs.Words.{height, inl, inr, is_on_path, IsClaimOn, IsFromStart}
 use Rattle.psci_headline.proofs.Words.{IsLivePart, known_below, leb-true, List, ltb-true}
-use Rattle.psci_headline.proofs.Words.{MessageValue, nat_le, nat_tests, ne_eqb, Node, Part, refl}
+use Rattle.psci_headline.proofs.Words.{MessageValue, nat_le, nat_tests, ne_eqb, Node, Part}
 use Rattle.psci_headline.proofs.Words.{slice_get, Some, starts_below, sym, up, ℕ}
 use Rattle.psci_headline.proofs.fw_laws.Parts.{part_has}
 use Rattle.psci_headline.proofs.Starting.{same_sum}
@@ -41,9 +41,5 @@ pub claim_deep : (b : BoardValue) (life : ℕ) (starts : ℕ → ℕ) (depth : �
     → p.generation ≡ known_below b starts level place → level < r → depth level place ≡ p.depth
 claim_deep b life starts depth sent r level place p first deep claim live low = elim claim [
   | inl from ↦ from_start b starts depth level place p first from live
-  | inr from ↦
-      let has = part_has b life level place from.message p from.part in
-      ap (depth level) has.on
-      ∙ deep from.message.core.number from.index level from.message p from.at has.present has.kind
-      refl has.part (live ∙ ap (known_below b starts level) has.on) low
+  | inr from ↦ grind (arith, nat_tests, part_has)
 ]

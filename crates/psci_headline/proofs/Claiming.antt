@@ -96,8 +96,7 @@ pub source : (b : BoardValue) (life : ℕ) (n : Node) (past : List Record) (k : 
     → HasNode b n → slice_get (claims b life n past) k ≡ Some x
     → HasSource b life n (sent past) x
 unfolding claims sent
-source b life n [] k x has at =
-    first_source b life n _ k x (is_on_path b 0 n.level n.place) has refl refl refl at
+source b life n [] k x has at = grind (arith, nat_tests, first_source)
 source b life n (r ∷ past) k x has at =
     let o = sent_in r.said in
     by_claim b life (firmware_values b (r ∷ past)) n (HasSource b life n (listed o ++ sent past))
@@ -123,8 +122,7 @@ in_more x list depth generation is =
 in_part : (b : BoardValue) (v : Values) (n : Node) (c depth generation : ℕ) (old : List Claim)
     (o : Option Part) → IsIn old depth generation
     → IsIn (listed (option_map (λ p. claim_by b v n c p) o) ++ old) depth generation
-in_part b v n c depth generation old None is = is
-in_part b v n c depth generation old (Some p) is = in_more _ old depth generation is
+in_part b v n c depth generation old o is = grind (arith, nat_tests, in_more)
 
 in_old : (b : BoardValue) (life : ℕ) (v : Values) (n : Node) (depth generation : ℕ)
     (old : List Claim) (o : Option MessageValue) → IsIn old depth generation
@@ -181,8 +179,7 @@ first_in first false deep old off =
 pub start_in : (b : BoardValue) (life : ℕ) (n : Node) (past : List Record)
     → is_on_path b 0 n.level n.place ≡ false → IsIn (claims b life n past) 3 0
 unfolding claims
-start_in b life n [] off =
-    first_in _ (is_on_path b 0 n.level n.place) refl refl off
+start_in b life n [] off = grind (arith, nat_tests, first_in)
 start_in b life n (r ∷ past) off =
     in_old b life (firmware_values b (r ∷ past)) n 3 0 (claims b life n past) (sent_in r.said)
     (start_in b life n past off)

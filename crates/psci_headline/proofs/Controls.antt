@@ -1,16 +1,16 @@
 -- What waits, after each effect of the power controller.
 use Rattle.std.proofs.lemmas.Bool.{and_cases, ltb-false}
-use Rattle.psci_headline.proofs.Words.{◌+◌, ◌<◌, ◌==◌, ◌∙◌, ◌∷◌, ◌≡◌, ◌≤◌, [], ack_of, AckLaws}
-use Rattle.psci_headline.proofs.Words.{AckValue, and_parts, ap, applied, AreClaims, AreLive}
-use Rattle.psci_headline.proofs.Words.{ArePartsOf, AreRising, AreSent, AreWaiting, arith, Away}
-use Rattle.psci_headline.proofs.Words.{BoardValue, Bool, Cause, cond, cond-true, cores, Deepens}
-use Rattle.psci_headline.proofs.Words.{eq-eqb, eqb-false, eqb-true, false, height, is_stale}
-use Rattle.psci_headline.proofs.Words.{IsFront, IsNamed, IsTold, Kind, known_below, List}
-use Rattle.psci_headline.proofs.Words.{may_follow, MessageValue, nat_lt, nat_tests, none-some}
-use Rattle.psci_headline.proofs.Words.{Nothing, one_more, Part, PartByPart, Pending, Phase, refl}
-use Rattle.psci_headline.proofs.Words.{slice_get, slice_get_within, Some, start_of_life, Starts}
-use Rattle.psci_headline.proofs.Words.{subst, suc, SumLaws, sym, take, take_get, true, up, Values}
-use Rattle.psci_headline.proofs.Words.{WaitingIn, WasTold, zero, ℕ}
+use Rattle.psci_headline.proofs.Words.{◌+◌, ◌<◌, ◌==◌, ◌∙◌, ◌∷◌, ◌≡◌, ◌≤◌, ack_of, AckLaws}
+use Rattle.psci_headline.proofs.Words.{AckValue, and_parts, applied, AreClaims, AreLive, ArePartsOf}
+use Rattle.psci_headline.proofs.Words.{AreRising, AreSent, AreWaiting, arith, Away, BoardValue}
+use Rattle.psci_headline.proofs.Words.{Bool, Cause, cond, cond-true, cores, Deepens, eq-eqb}
+use Rattle.psci_headline.proofs.Words.{eqb-false, eqb-true, false, height, is_stale, IsFront}
+use Rattle.psci_headline.proofs.Words.{IsNamed, IsTold, Kind, known_below, List, may_follow}
+use Rattle.psci_headline.proofs.Words.{MessageValue, nat_lt, nat_tests, none-some, one_more, Part}
+use Rattle.psci_headline.proofs.Words.{PartByPart, Pending, Phase, refl, slice_get}
+use Rattle.psci_headline.proofs.Words.{slice_get_within, Some, start_of_life, Starts, SumLaws, sym}
+use Rattle.psci_headline.proofs.Words.{take, take_get, true, up, Values, WaitingIn, ℕ}
+use Rattle.psci_ctl_spec.specs.Effects.{Nothing}
 use Rattle.psci_ctl_spec.specs.Changes.{change}
 use Rattle.psci_headline.specs.psci_fw_laws.Messages.{IsSent}
 use Rattle.psci_headline.proofs.Deepening.{AreApplied, waiting_deepened}
@@ -35,14 +35,10 @@ pub record IsKnown (b : BoardValue) (life : ℕ) (starts : ℕ → ℕ) (v : Val
   pub below : (level place : ℕ)
       → known_below b v.known level place ≤ known_below b starts level place
 
-no_item : (ps : List Part) (level : ℕ) (p : Part) → ps ≡ [] → slice_get ps level ≡ Some p → ⊥
-no_item ps level p e at = none-some p (ap (λ qs. slice_get qs level) (sym e) ∙ at)
-
 kind_level : (ps : List Part) (level : ℕ) (p : Part) (kind : Kind)
     → ((qs : List Part) → AreClaims qs → PartByPart qs) → ArePartsOf kind ps
     → slice_get ps level ≡ Some p → p.level ≡ level
-kind_level ps level p kinds.Down parts are at = (parts ps are).level level p at
-kind_level ps level p kind parts are at = absurd (no_item ps level p are at)
+kind_level ps level p kind parts are at = grind (arith, nat_tests, none-some)
 
 -- the parts of a message that was sent
 pub part_level : (b : BoardValue) (life : ℕ) (starts : ℕ → ℕ) (v : Values)
@@ -51,10 +47,7 @@ pub part_level : (b : BoardValue) (life : ℕ) (starts : ℕ → ℕ) (v : Value
     → (p.level ≡ level) × (level ≤ height b)
 part_level b life starts v sent known k level m p at part =
     let sound = (known.messages k m at).sound in
-    let within = slice_get_within m.parts level p part in (
-      kind_level m.parts level p m.kind known.parts sound.parts part,
-      omega (arith, within, sound.few),
-    )
+    grind (arith, nat_tests, slice_get_within, kind_level)
 
 -- A core is started ----------------------------------------------------------------------------
 
@@ -79,28 +72,7 @@ made_more : (b : BoardValue) (life : ℕ) (w : controlled.Values) (v : Values)
     (sent : List MessageValue) (made : List AckValue) (a : AckValue) (k : ℕ) (m : MessageValue)
     → slice_get sent k ≡ Some m → IsTold b w.starts w.depth a m → WaitingIn b life w v sent made
     → WaitingIn b life w v sent (a ∷ made)
-made_more b life w v sent made a k m at told h = record {
-  pursued = h.pursued;
-  first = h.first;
-  asked = h.asked;
-  named = by_name;
-  told = by_place;
-}
-  where
-    by_name : (i : ℕ) (x : AckValue) → slice_get (a ∷ made) i ≡ Some x → IsNamed x sent
-    by_name zero x e =
-        let same : a ≡ x = cc in
-        subst (λ y. IsNamed y sent) same
-        (record { index = k; message = m; at = at; answers = told.answers })
-    by_name (suc i) x e = h.named i x e
-
-    by_place : (i : ℕ) (x : AckValue) → slice_get (a ∷ made) i ≡ Some x → x.life ≡ life
-        → WasTold b w.starts w.depth x sent
-    by_place zero x e own =
-        let same : a ≡ x = cc in
-        subst (λ y. WasTold b w.starts w.depth y sent) same
-        (record { index = k; message = m; at = at; told = told })
-    by_place (suc i) x e own = h.told i x e own
+made_more b life w v sent made a k m at told h = grind (arith, nat_tests, named)
 
 -- a Down was carried out
 pub down_waits : (b : BoardValue) (life : ℕ) (w : controlled.Values) (v : Values)
@@ -155,9 +127,7 @@ start_told b life w v sent made k m false known at present kind may h =
     let room = is.sound.room kind in
     let later : m.number < w.starts c =
     grind (arith, nat_tests, and_cases, eqb-false, ltb-false) in
-    made_more b life w v sent made (ack_of m 0 true) k m at
-    (told_other b w.starts w.depth m 0 true
-    (λ e. let no : kinds.Start ≡ kinds.Down = sym kind ∙ e in absurd (cc)) (λ e. later)) h
+    grind (arith, nat_tests, made_more, told_other)
 
 -- A life begins --------------------------------------------------------------------------------
 

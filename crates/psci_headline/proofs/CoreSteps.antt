@@ -1,14 +1,12 @@
 -- What one effect does to the firmware's life, and to the known start, phase and status of a core.
-use Rattle.psci_headline.proofs.Words.{◌&&◌, ◌<◌, ◌∙◌, ◌≡◌, ◌≤◌, ◌⊎◌, Acknowledges, AckValue}
-use Rattle.psci_headline.proofs.Words.{and_parts, ap, arith, Arrival, arrived, AsksOn, Away}
-use Rattle.psci_headline.proofs.Words.{BoardValue, change, cond_both, Down, Effect, Enters, GoesOn}
-use Rattle.psci_headline.proofs.Words.{Halts, in_life, inl, is_kind, IsAllowed, ltb-true, nat_lt}
-use Rattle.psci_headline.proofs.Words.{nat_tests, Nothing, Parks, Pending, Phase, refl, Rests}
-use Rattle.psci_headline.proofs.Words.{SetsMode, Some, Stops, StopsAtOnce, sym, target, true}
-use Rattle.psci_headline.proofs.Words.{turns_off, updated, updated_at, Values, ℕ}
-use Rattle.psci_fw_laws.specs.psci_fw_spec.Effects.{Nothing}
+use Rattle.psci_headline.proofs.Words.{◌<◌, ◌≡◌, ◌≤◌, ◌⊎◌, Acknowledges, AckValue, and_parts, arith}
+use Rattle.psci_headline.proofs.Words.{Arrival, arrived, AsksOn, Away, BoardValue, change}
+use Rattle.psci_headline.proofs.Words.{cond_both, Down, Effect, Enters, GoesOn, Halts, in_life}
+use Rattle.psci_headline.proofs.Words.{IsAllowed, IsEntering, ltb-true, nat_tests, Nothing, Parks}
+use Rattle.psci_headline.proofs.Words.{Pending, Phase, refl, Rests, SetsMode, Some, Stops}
+use Rattle.psci_headline.proofs.Words.{StopsAtOnce, true, updated, updated_at, Values, ℕ}
+use Rattle.psci_ctl_spec.specs.Effects.{Nothing}
 use Rattle.psci_fw_laws.specs.psci_fw_spec.Phases.{Running, is_away}
-use Rattle.psci_fw_laws.specs.Allowed.{IsEntering}
 use Rattle.psci_headline.proofs.Taking.{same_kind}
 use Rattle.psci_ctl_spec.specs.psci_messages.declared.start.Start as starts
 use Rattle.psci_fw_laws.specs.psci_fw_spec.declared.status.Status.TheVariants as statuses
@@ -84,80 +82,41 @@ enters b v w c d s e entering begins is = grind (arith, nat_tests)
 -- Acknowledgements ----------------------------------------------------------------------------
 
 pub phase_away : (p : Phase) → is_away p ≡ true → p ≡ Away
-phase_away Away e = refl
-phase_away p e = absurd (cc)
-
-turned : (v : Values) (c : ℕ) (a : AckValue) → c ≡ a.core.number → turns_off v a ≡ true
-    → TurnsOff v c (Acknowledges a)
-turned v c a here e =
-    let c_away = is_away (v.phase a.core.number) in
-    let both = and_parts (is_kind a.kind Down && nat_lt 0 a.applied) c_away e in
-    let first = and_parts (is_kind a.kind Down) (nat_lt 0 a.applied) both.0 in
-    record {
-      ack = a;
-      is = refl;
-      core = sym here;
-      kind = same_kind a.kind Down first.0;
-      some = ltb-true 0 a.applied first.1;
-      away = ap v.phase here ∙ phase_away (v.phase a.core.number) both.1;
-    }
+phase_away p e = grind (arith, nat_tests)
 
 taken : (b : BoardValue) (v : Values) (c : ℕ) (a : AckValue)
     → IsStep v (change b (Acknowledges a) v) c (Acknowledges a)
-taken b v c a = grind (arith, nat_tests, within, updated_at, cond_both, turned)
+taken b v c a =
+    grind (
+      arith,
+      nat_tests,
+      within,
+      updated_at,
+      cond_both,
+      and_parts,
+      same_kind,
+      ltb-true,
+      phase_away,
+    )
 
 -- All -----------------------------------------------------------------------------------------
 
 pub step : (b : BoardValue) (v : Values) (c : ℕ) (e : Effect) → IsAllowed b v e
     → IsStep v (change b e v) c e
-step b v c Nothing allowed =
-    within v v c Nothing refl refl (λ e. e) (λ e. inl e) (λ e. inl e)
-step b v c (GoesOn d) allowed =
-    called v (change b (GoesOn d) v) c d (GoesOn d) _ allowed.runs refl refl refl refl
-step b v c (SetsMode d mode) allowed =
-    called v (change b (SetsMode d mode) v) c d (SetsMode d mode) _ allowed.runs refl refl refl refl
-step b v c (AsksOn d on) allowed =
-    asked v (change b (AsksOn d on) v) c d (target on) (AsksOn d on) _ allowed.calls.runs refl refl
-    refl refl
-step b v c (Rests d rest m) allowed =
-    called v (change b (Rests d rest m) v) c d (Rests d rest m) _ allowed.calls.runs refl refl refl
-    refl
-step b v c (Halts d m) allowed =
-    called v (change b (Halts d m) v) c d (Halts d m) _ allowed.calls.runs refl refl refl refl
-step b v c (Stops d) allowed =
-    called v (change b (Stops d) v) c d (Stops d) _ allowed.calls.runs refl refl refl refl
+step b v c Nothing allowed = grind (arith, nat_tests, within)
+step b v c (GoesOn d) allowed = grind (arith, nat_tests, called)
+step b v c (SetsMode d mode) allowed = grind (arith, nat_tests, called)
+step b v c (AsksOn d on) allowed = grind (arith, nat_tests, asked)
+step b v c (Rests d rest m) allowed = grind (arith, nat_tests, called)
+step b v c (Halts d m) allowed = grind (arith, nat_tests, called)
+step b v c (Stops d) allowed = grind (arith, nat_tests, called)
 step b v c (Enters d s) allowed =
-    let found : Values = in_life b s.life v in
     enters b v (change b (Enters d s) v) c d s (Enters d s) allowed.enters
     (record { arrival = record { core = d; start = s }; is = refl; new = refl })
-    (record {
-      life = refl;
-      known = refl;
-      phase = λ ne. updated_at (λ x. x ≡ found.phase c) found.phase d Running c
-          (λ here. absurd (ne here)) (λ there. refl);
-      status = updated_at (λ x. x ≡ statuses.Off → found.status c ≡ statuses.Off) found.status d
-          statuses.On c (λ here e. absurd (cc)) (λ there e. e);
-    })
+    (grind (arith, nat_tests, updated_at))
 step b v c (Parks d s m) allowed =
-    let found : Values = in_life b s.life v in
     enters b v (change b (Parks d s m) v) c d s (Parks d s m) allowed.enters
     (record { arrival = record { core = d; start = s }; is = refl; new = refl })
-    (record {
-      life = refl;
-      known = refl;
-      phase = λ ne. updated_at (λ x. x ≡ found.phase c) found.phase d _ c
-          (λ here. absurd (ne here)) (λ there. refl);
-      status = λ e. e;
-    })
-step b v c (StopsAtOnce d s) allowed =
-    let found : Values = in_life b s.life v in
-    enters b v (change b (StopsAtOnce d s) v) c d s (StopsAtOnce d s) allowed.enters
-    (record { arrival = record { core = d; start = s }; is = refl; new = refl })
-    (record {
-      life = refl;
-      known = refl;
-      phase = λ ne. updated_at (λ x. x ≡ found.phase c) found.phase d _ c
-          (λ here. absurd (ne here)) (λ there. refl);
-      status = λ e. e;
-    })
+    (grind (arith, nat_tests, updated_at))
+step b v c (StopsAtOnce d s) allowed = grind (arith, nat_tests, enters, updated_at)
 step b v c (Acknowledges a) allowed = taken b v c a

@@ -57,13 +57,7 @@ child_core b c level i paths kids on high low top =
     let node : Node = record { level = level; place = i } in
     let has = paths.some_core node
     (record { level = omega arith; place = subst (λ j. j < nodes b level) flat inside }) in
-    record {
-      core = has.0;
-      on = has.1;
-      at = has.2;
-      joined = kids.parent has.0 level (up b (suc level) c) has.1 high
-          (omega (arith, low, has.2)) (omega (arith, top, has.2));
-    }
+    grind (arith, nat_tests)
 
 -- the depth below, once the lower parts were applied
 below_deep : (b : BoardValue) (v : Values) (c level : ℕ) (ps : List Part) (p q : Part)

@@ -2,7 +2,7 @@
 use Rattle.psci_headline.proofs.Words.{◌<◌, ◌≡◌, ◌⊎◌, arith, BoardValue, Bool, cond}
 use Rattle.psci_headline.proofs.Words.{controller_history, controller_values, depth_at, false}
 use Rattle.psci_headline.proofs.Words.{HasLive, is_on_path, IsApplied, IsFirst, IsReplied, List}
-use Rattle.psci_headline.proofs.Words.{nat_tests, Node, Record, refl, Some, subst, sym, true, ℕ}
+use Rattle.psci_headline.proofs.Words.{nat_tests, Node, Record, Some, subst, sym, ℕ}
 use Rattle.psci_headline.proofs.AppliedParts.{was_sent}
 use Rattle.psci_headline.proofs.Claiming.{part_in, start_in}
 use Rattle.psci_headline.proofs.LiveOnes.{has_live}
@@ -10,8 +10,7 @@ use Rattle.psci_ctl_spec.specs.History as controls
 
 -- off the boot path only is a domain down at the life's start
 pub first_off : (t : Bool) (depth : ℕ) → depth ≡ cond t 0 3 → 0 < depth → (t ≡ false) × (depth ≡ 3)
-first_off true depth e some = absurd (omega (arith, e, some))
-first_off false depth e some = (refl, e)
+first_off t depth e some = grind (arith, nat_tests)
 
 applied_live : (b : BoardValue) (past : List Record) (life : ℕ) (n : Node)
     → IsReplied b (controller_history b past) → (controller_values b past).life ≡ Some life

@@ -46,8 +46,7 @@ pub keeps : (b : BoardValue) (life : ℕ) (starts : ℕ → ℕ) (depth : ℕ �
 keeps b life starts depth sent c ps apart are k level m p at present kind part live deep =
     laid_by b c ps depth level place p.depth deep (λ q on get.
     let n : MessageValue = are.message in
-    let here : place ≡ up b level n.core.number =
-    path_place b c level place on ∙ ap (up b level) (sym are.core) in
+    let here : place ≡ up b level n.core.number = grind (arith, nat_tests, path_place, place) in
     let sum : q.generation ≡ p.generation = grind (arith, nat_tests) in
     let one : are.index ≡ k = once b sent apart life level place are.index k n m q p are.at at
     (part_from b life level place n q (record {
@@ -86,8 +85,7 @@ waiting_deepened b life starts depth halting known phase outstanding sent made c
       first = λ n on none.
           laid_by b c ps depth n.level n.place _ (are.first n on none) (λ p here get.
           let m : MessageValue = applied.message in
-          let place : n.place ≡ up b n.level m.core.number =
-          path_place b c n.level n.place here ∙ ap (up b n.level) (sym applied.core) in
+          let place : n.place ≡ up b n.level m.core.number = grind (arith, nat_tests, path_place) in
           let some = apart.start life n.level n.place applied.index m p applied.at
           (part_from b life n.level n.place m p (record {
             kind = applied.kind;

@@ -13,12 +13,10 @@ use Rattle.psci_ctl_spec.specs.Changes.{after, change}
 use Rattle.psci_ctl_spec.specs.Effects.{effect_of}
 use Rattle.psci_ctl_spec.specs.History.{values_of}
 use Rattle.psci_ctl_spec.specs.Values.{Values}
-use Rattle.psci_headline.proofs.Controlling.{more_controls}
-use Rattle.psci_headline.proofs.Saying.{of_event}
+use Rattle.psci_headline.proofs.Sending.{more_controls}
+use Rattle.psci_headline.proofs.Happening.{of_event}
 use Rattle.psci_ctl_spec.specs.declared.delivery.Delivery.TheVariants as deliveries
-use Rattle.psci_ctl_spec.specs.declared.kick.Kick.TheVariants as kicks
 use Rattle.psci_ctl_spec.specs.declared.reply.CtlReply.TheVariants as replied
-use Rattle.psci_fw_laws.specs.psci_fw_spec.declared.reply.FwReply.TheVariants as replies
 
 -- What a record adds ---------------------------------------------------------------------------
 
@@ -44,21 +42,12 @@ pub record IsFirst (b : BoardValue) (v : Values) : Type 0 where
   pub depth : v.depth ≡ first_depth b
   pub starts : v.starts ≡ first_starts
 
-by_control : (b : BoardValue) (r : Record) (past : List Record) (life : ℕ) (es : List CtlExchange)
-    → control (controller_values b past) (sent past) r.event r.said ≡ es → IsFew es
-    → (controller_values b (r ∷ past)).life ≡ Some life
-    → ((controller_values b past).life ≡ Some life)
-    ⊎ IsFirst b (controller_values b (r ∷ past))
-by_control b r past life es adds is e = grind (arith, nat_tests, more_controls, values_by)
-
 -- after a record the life is the one before, or it begins
 pub life_before : (b : BoardValue) (r : Record) (past : List Record) (life : ℕ)
     → (controller_values b (r ∷ past)).life ≡ Some life
     → ((controller_values b past).life ≡ Some life)
     ⊎ IsFirst b (controller_values b (r ∷ past))
-life_before b r past life =
-    by_control b r past life (control (controller_values b past) (sent past) r.event r.said) refl
-    (few (controller_values b past) (sent past) r.event r.said)
+life_before b r past life = grind (arith, nat_tests, more_controls, values_by, few)
 
 -- Acknowledgements -----------------------------------------------------------------------------
 
@@ -74,18 +63,15 @@ pub record IsDelivered (b : BoardValue) (past : List Record) (happened : Event) 
   pub said : says ≡ Acked (length (acks past)) a
 
 pub present_life : (life : Option ℕ) (l : ℕ) → is_this_life life l ≡ true → life ≡ Some l
-present_life None l e = absurd (cc)
-present_life (Some life) l e = ap Some (eqb-true life l e)
+present_life life l e = grind (arith, nat_tests, eqb-true)
 
 -- the firmware says no acknowledgement
 none_said : {X : Type 0} (n : ℕ) (r : FwReply) (a : AckValue) → ack_in (said_of n r) ≡ Some a → X
-none_said n (replies.Out o) a e = absurd (cc)
-none_said n r a e = absurd (cc)
+none_said n r a e = grind (arith, nat_tests)
 
 none_kicked : {X : Type 0} (n : ℕ) (k : Kick) (a : AckValue)
     → ack_in (said_by n (replied.Kick k)) ≡ Some a → X
-none_kicked n (kicks.Started s) a e = absurd (cc)
-none_kicked n kicks.Ignored a e = absurd (cc)
+none_kicked n k a e = grind (arith, nat_tests)
 
 applied_if : (b : BoardValue) (past : List Record) (k : ℕ) (m : MessageValue) (a : AckValue)
     (t : Bool) → indexed (sent past) k ≡ Some m
@@ -93,16 +79,7 @@ applied_if : (b : BoardValue) (past : List Record) (k : ℕ) (m : MessageValue) 
     → let said = said_by (length (acks past)) (replied.Delivery (cond t
     (deliveries.Applied (ack_by b (controller_values b past) m m.kind)) deliveries.Ignored)) in
     ack_in said ≡ Some a → IsDelivered b past (Deliver k) said a
-applied_if b past k m a true at present e = record {
-  number = k;
-  event = refl;
-  message = m;
-  at = at;
-  life = present_life (controller_values b past).life m.life present;
-  ack = cc;
-  said = cc;
-}
-applied_if b past k m a false at present e = absurd (cc)
+applied_if b past k m a t at present e = grind (arith, nat_tests, present_life)
 
 pub delivered_by : (b : BoardValue) (past : List Record) (event : Event) (a : AckValue)
     → ack_in (legal b past event) ≡ Some a → IsDelivered b past event (legal b past event) a

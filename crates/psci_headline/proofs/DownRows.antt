@@ -1,14 +1,12 @@
 -- Worked examples: records after which just one thing is not so that is said of cores that are
 -- powered down.
-use Rattle.std.proofs.Common.{◌≡◌, ◌≤◌, ◌<◌, ◌==◌, ◌||◌, ℕ, zero, suc, Bool, true, false, cond}
-use Rattle.std.proofs.Common.{List, [], ◌∷◌, None, Some, slice_get, refl, arith, sym, subst}
+use Rattle.std.proofs.Common.{◌≡◌, ◌≤◌, ℕ, true, false, List, [], ◌∷◌, refl, arith}
 use Rattle.std.proofs.lemmas.Bool.{ne_eqb}
 use Rattle.std.proofs.lemmas.Option.{same_Some}
+use Rattle.std.proofs.lemmas.Bool.Decides.{nat_tests}
 use Rattle.psci_ctl_spec.specs.psci_messages.declared.kind.Kind.TheVariants.{Down}
 use Rattle.psci_ctl_spec.specs.psci_messages.Message.{AckValue}
-use Rattle.psci_fw_laws.specs.psci_fw_spec.Phases.{Running, Suspended, Away}
-use Rattle.psci_world_spec.specs.declared.event.Event.TheVariants.{Deliver, Enter}
-use Rattle.psci_world_spec.specs.declared.event.Event.TheVariants.{Take}
+use Rattle.psci_world_spec.specs.declared.event.Event.TheVariants.{Deliver, Enter, Take}
 use Rattle.psci_world_spec.specs.declared.said.Record.{Record}
 use Rattle.psci_world_spec.specs.Histories.{firmware_values}
 use Rattle.psci_world_spec.specs.Legal.{run_from}
@@ -105,12 +103,7 @@ of_a_core_in_retention : IsDownBy board
     (run_from board two_run (retention 3 ∷ Deliver 1 ∷ Take 1 ∷ []))
     (firmware_values board (run_from board two_run (retention 3 ∷ Deliver 1 ∷ Take 1 ∷ []))) ack_3
 unfolding computing was_powered_down
-of_a_core_in_retention = record {
-  begun = let yes : 1 ≤ 1 = omega arith in yes;
-  number = λ life. let yes : 1 ≤ 1 = omega arith in yes;
-  rests = λ life number runs. let no : Suspended _ ≡ Running = runs in absurd (cc);
-  slept = λ life number away. let no : Suspended _ ≡ Away = away in absurd (cc);
-}
+of_a_core_in_retention = grind (arith, nat_tests)
 
 -- before any entry: an acknowledgement of which nothing was applied says nothing, and each core but
 -- the boot core is powered down
@@ -120,27 +113,6 @@ nothing_applied = record ack_3 { applied = 0; stale = true }
 abbrev before_any_entry : List Record
 before_any_entry = record { event = Deliver 9; said = acked 0 Down 3 1 1 0 true } ∷ []
 
-deep_or : (t rest : Bool) → t ≡ false → ((cond t 0 3 == 3) || rest) ≡ true
-deep_or false rest e = refl
-deep_or true rest e = absurd (cc)
-
-not_positive : 0 < 0 → ⊥
-not_positive less = omega (arith, less)
-
 nothing_entered : AreDown board before_any_entry
 unfolding computing was_powered_down
-nothing_entered = record {
-  off = λ c is. let no : false ≡ true = is in absurd (cc);
-  acked = λ k a at down some. absurd (acked_at k a at some);
-  fresh = λ life c now unknown other.
-      subst (λ l. was_powered_down board l before_any_entry c ≡ true) (same_Some 1 life now)
-      (deep_or (0 == c) _ (ne_eqb 0 c (λ e. other (sym e))));
-}
-  where
-    acked_at : (k : ℕ) (a : AckValue) → slice_get (nothing_applied ∷ []) k ≡ Some a
-        → 0 < a.applied → ⊥
-    acked_at zero a at some =
-        let one : Some nothing_applied ≡ Some a = at in
-        let same : nothing_applied ≡ a = cc in
-        not_positive (subst (λ (x : AckValue). 0 < x.applied) (sym same) some)
-    acked_at (suc k) a at some = let no : None ≡ Some a = at in absurd (cc)
+nothing_entered = grind (arith, nat_tests, same_Some, ne_eqb)

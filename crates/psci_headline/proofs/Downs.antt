@@ -2,24 +2,22 @@
 use Rattle.std.proofs.lemmas.Bool.{leb-false}
 use Rattle.psci_headline.proofs.Words.{◌+◌, ◌<◌, ◌==◌, ◌∙◌, ◌≡◌, ◌≤◌, ack_by, AckLaws, ap, applied}
 use Rattle.psci_headline.proofs.Words.{arith, BoardValue, Bool, cases_lt, cond, controller_values}
-use Rattle.psci_headline.proofs.Words.{Deepens, deliveries, domain_of, false, firmware_values}
-use Rattle.psci_headline.proofs.Words.{indexed, inl, inr, is_done, is_kind, is_stale, IsFront}
-use Rattle.psci_headline.proofs.Words.{IsLivePart, laid, length, List, message_effect, MessageValue}
-use Rattle.psci_headline.proofs.Words.{nat_tests, None, not, OfCore, or_parts, Part, place, Record}
-use Rattle.psci_headline.proofs.Words.{refl, same_Some, sent, serving, slice_get, Some, subst, sym}
-use Rattle.psci_headline.proofs.Words.{take, take_get, true, up, Values, ℕ}
+use Rattle.psci_headline.proofs.Words.{Deepens, deliveries, false, firmware_values, indexed, inl}
+use Rattle.psci_headline.proofs.Words.{inr, is_done, is_kind, is_stale, IsFront, IsLivePart, laid}
+use Rattle.psci_headline.proofs.Words.{length, List, MessageValue, nat_tests, None, not, OfCore}
+use Rattle.psci_headline.proofs.Words.{or_parts, Part, place, Record, same_Some, sent, serving}
+use Rattle.psci_headline.proofs.Words.{slice_get, Some, subst, sym, take, take_get, up, Values, ℕ}
 use Rattle.psci_ctl_spec.proofs.Front.{is_front}
 use Rattle.psci_headline.proofs.fw_laws.Consequences.{once_down}
 use Rattle.psci_headline.proofs.Items.{at_number}
-use Rattle.psci_headline.proofs.Serving.{ack_to}
+use Rattle.psci_headline.proofs.Serving.{ack_to, IsEmptying, empties}
 use Rattle.psci_headline.proofs.Applying.{IsReady, part_applied}
 use Rattle.psci_headline.proofs.Claimed.{AreDeep}
 use Rattle.psci_headline.proofs.Controls.{IsKnown, part_level}
 use Rattle.psci_headline.proofs.Deepening.{AreApplied, keeps}
-use Rattle.psci_headline.proofs.Emptying.{IsEmptying, empties}
 use Rattle.psci_headline.proofs.Finding.{HasNumber}
 use Rattle.psci_headline.proofs.Going.{IsGoing, IsOut, known_now, ready_now}
-use Rattle.psci_headline.proofs.Standing.{IsPast, SettleLaws}
+use Rattle.psci_headline.proofs.Standing.{SettleLaws}
 use Rattle.psci_headline.proofs.Starting.{same_sum}
 use Rattle.psci_headline.proofs.Telling.{item_at, told_down}
 use Rattle.psci_ctl_spec.specs.Changes as controlling
@@ -79,8 +77,7 @@ pub record IsDownAnswered (b : BoardValue) (before : List Record) (life : ℕ) (
 
 left_from : (t : Bool) (m x : MessageValue) → cond t None (Some m) ≡ Some x
     → (x ≡ m) × (t ≡ false)
-left_from true m x e = absurd (cc)
-left_from false m x e = (cc, refl)
+left_from t m x e = grind (arith, nat_tests)
 
 module _ (b : BoardValue) (before : List Record) (life : ℕ) (past : List Record) (r c : ℕ)
     (m : MessageValue) (laws : SettleLaws b) (going : IsGoing b before life past)
@@ -97,9 +94,6 @@ module _ (b : BoardValue) (before : List Record) (life : ℕ) (past : List Recor
   abbrev next : List Record
   next = serving b past (Some n.number)
 
-  is : IsPast b past
-  is = laws.past past going.legal
-
   known : IsKnown b life w.starts v (sent past)
   known = known_now b before life past laws going
 
@@ -114,30 +108,19 @@ module _ (b : BoardValue) (before : List Record) (life : ℕ) (past : List Recor
 
   control : controller_values b next
       ≡ controlling.change b (Deepens m.core.number (take count m.parts)) w
-  control = em.answered.control
-      ∙ ap (λ k. controlling.change b (message_effect b m (ack_by b w m k) k) w) out.down.kind
+  control = grind (arith, nat_tests, em)
 
   front : IsFront b w m.core.number (take count m.parts)
   front = is_front b w m.core.number m.parts laws.kids out.down.core out.down.few out.down.parts
 
   are : AreApplied b life w.starts (sent past) m.core.number (take count m.parts)
-  are = record {
-    index = out.down.index;
-    message = m;
-    at = out.down.at;
-    present = out.down.present;
-    kind = out.down.kind;
-    core = refl;
-    part = λ level p get. take_get m.parts count level p get;
-    live = λ level p get.
-        front.live level p get ∙ same_sum b w.starts (domain_of b m.core.number level);
-  }
+  are = grind (arith, nat_tests, take_get, front, same_sum)
 
   ready : IsReady b life v.known v.phase (sent past) w r
   ready = ready_now b before life past r laws going deep
 
   ack_laws : AckLaws b w m.core.number m.parts
-  ack_laws = is.given.acks w m.core.number m.parts
+  ack_laws = grind (arith, nat_tests)
 
   -- the depth of a domain then
   depth_now : (level place : ℕ) → (controller_values b next).depth level place
@@ -150,8 +133,7 @@ module _ (b : BoardValue) (before : List Record) (life : ℕ) (past : List Recor
   -- the part of the first level that is left
   part_left : is_done (ack_to b past m) m ≡ false → IsLeft b w.starts m r
   part_left e =
-      let done : is_done (ack_by b w m kinds.Down) m ≡ false =
-      ap (λ k. is_done (ack_by b w m k) m) (sym out.down.kind) ∙ e in
+      let done : is_done (ack_by b w m kinds.Down) m ≡ false = grind (arith, nat_tests) in
       let parts = or_parts (is_stale b w m.core.number m.parts) _ done in
       let rest = or_parts (not (is_kind m.kind kinds.Down)) _ parts.1 in
       let few : count < length m.parts = leb-false (length m.parts) count rest.1 in
@@ -181,11 +163,8 @@ module _ (b : BoardValue) (before : List Record) (life : ℕ) (past : List Recor
       present = ap (λ (u : controlled.Values). u.life) control ∙ going.present;
       own = ap (λ (u : Values). u.life) em.answered.firmware ∙ going.own;
       awake = ap (λ (u : Values). u.halting) em.answered.firmware ∙ going.awake;
-      known = λ x on.
-          ap (λ (u : Values). u.known x) em.answered.firmware ∙ going.known x on
-          ∙ ap (λ (u : controlled.Values). u.starts x) (sym control);
-      rests = λ x on e.
-          going.rests x on (ap (λ (u : Values). u.phase x) (sym em.answered.firmware) ∙ e);
+      known = λ x on. grind (arith, nat_tests, known, em, control);
+      rests = λ x on e. grind (arith, nat_tests, em);
       entered = λ x on e. going.entered x on (sym (place_now x) ∙ e);
     };
     messages = em.answered.sent;
@@ -205,9 +184,7 @@ module _ (b : BoardValue) (before : List Record) (life : ℕ) (past : List Recor
         known.live.below out.down.index l m q s out.down.at out.down.present get_q get_s alive)
         ack_laws).applied out.down.kind level p more part live;
     there = em.there;
-    left = λ x e.
-        let from = left_from (is_done (ack_to b past m) m) m x (sym em.here ∙ e) in
-        (from.0, part_left from.1);
+    left = λ x e. grind (arith, nat_tests, left_from, ack_to, em, part_left);
     at = n.at ∙ ap Some
         (same_down b before life past c m laws going out n);
     count = em.answered.count;

@@ -1,18 +1,16 @@
 -- What is told after each effect of the firmware's calls, entries and acknowledgements.
-use Rattle.psci_headline.proofs.Words.{◌<◌, ◌∙◌, ◌≡◌, AreConfirming, arith, Away, BoardValue}
-use Rattle.psci_headline.proofs.Words.{change, Enters, Holds, in_life, inl, inr, is_system}
-use Rattle.psci_headline.proofs.Words.{IsAllowed, KnownLaws, List, MessageValue, nat_tests, Parks}
-use Rattle.psci_headline.proofs.Words.{PathLaws, refl, Rest, Rests, Start, Stops, StopsAtOnce}
-use Rattle.psci_headline.proofs.Words.{subst, sym, true, Values, with_arrival, with_phase}
-use Rattle.psci_headline.proofs.Words.{with_rest, ℕ}
+use Rattle.psci_headline.proofs.Words.{◌<◌, ◌≡◌, AreConfirming, arith, Away, BoardValue, change}
+use Rattle.psci_headline.proofs.Words.{Enters, Holds, in_life, is_system, IsAllowed, KnownLaws}
+use Rattle.psci_headline.proofs.Words.{List, MessageValue, nat_tests, Parks, PathLaws, Rest, Rests}
+use Rattle.psci_headline.proofs.Words.{Start, Stops, StopsAtOnce, subst, sym, true, Values}
+use Rattle.psci_headline.proofs.Words.{with_arrival, with_phase, with_rest, ℕ}
 use Rattle.psci_headline.specs.psci_fw_spec.Changes.{with_halt}
 use Rattle.psci_headline.specs.psci_fw_spec.Phases.{Running}
 use Rattle.psci_headline.proofs.fw_laws.Parts.{updated_at}
 use Rattle.psci_headline.proofs.Slots.{system_slot, put_system}
 use Rattle.psci_headline.proofs.Telling.{first_part}
 use Rattle.psci_headline.proofs.Beside.{AreBeside, IsFlat, all_domains, arrived, arrived_flat}
-use Rattle.psci_headline.proofs.Beside.{claims, phased, rested, runs}
-use Rattle.psci_headline.proofs.Coming.{on_path, yet_still}
+use Rattle.psci_headline.proofs.Beside.{claims, phased, rested, runs, on_path, yet_still}
 
 -- A core goes on or halts ----------------------------------------------------------------------
 
@@ -23,17 +21,7 @@ goes_on b starts v c are = grind (arith, nat_tests, updated_at)
 pub halts : (b : BoardValue) (starts : ℕ → ℕ) (v : Values) (c : ℕ) (m : MessageValue)
     → is_system m.kind ≡ true → AreConfirming b starts v
     → AreConfirming b starts (with_halt m (with_phase c Away v))
-halts b starts v c m system are = record {
-  domains = λ level place some. elim (are.domains level place some) [
-    | inl was ↦ inl was
-    | inr yet ↦
-        inr (yet_still b starts v.known v.known v.outstanding
-        (with_halt m (with_phase c Away v)).outstanding level place refl
-        (λ x below is.
-        put_system v.outstanding m x.core.number (system_slot m.kind m.core system) ∙ is) yet)
-  ];
-  cores = λ awake. absurd (cc);
-}
+halts b starts v c m system are = grind (arith, nat_tests, yet_still, put_system, system_slot)
 
 -- a halting life says nothing of cores
 halting : (b : BoardValue) (starts : ℕ → ℕ) (v : Values) (c : ℕ) → v.halting ≡ true

@@ -1,25 +1,24 @@
 -- After every legal history each entry has taken up an opening of its own.
 use Rattle.std.specs.Option.{option_or}
-use Rattle.psci_headline.proofs.Words.{◌++◌, ◌==◌, ◌∙◌, ◌∷◌, ◌≡◌, ◌≤◌, [], Act, ap, AreTakenUp}
-use Rattle.psci_headline.proofs.Words.{arith, arrived, AsksOn, BoardValue, Bool, change, cond}
-use Rattle.psci_headline.proofs.Words.{Effect, effect, effect_of, enter_effect, enter_fault}
-use Rattle.psci_headline.proofs.Words.{EnteredAt, Enters, enters_or_resumes_by, eqb-false, eqb-true}
-use Rattle.psci_headline.proofs.Words.{false, FwCall, FwExchange, FwFault, FwReply, in_life}
-use Rattle.psci_headline.proofs.Words.{IsAllowed, IsLegal, length, List, listed, Made, made_at}
-use Rattle.psci_headline.proofs.Words.{MessageValue, nat_tests, None, OfCall, OfLife, Opening}
-use Rattle.psci_headline.proofs.Words.{Option, option_map, Outcome, outcome_at, Parks, refl}
-use Rattle.psci_headline.proofs.Words.{reply_or, Rests, Some, Start, start_of_life, stops}
-use Rattle.psci_headline.proofs.Words.{stops_with, StopsAtOnce, subst, suc, sym, TakenUp, true}
-use Rattle.psci_headline.proofs.Words.{updated, updated_at, Values, with_arrival, ℕ}
+use Rattle.psci_headline.proofs.Words.{◌++◌, ◌==◌, ◌∷◌, ◌≡◌, ◌≤◌, [], Act, AreTakenUp, arith}
+use Rattle.psci_headline.proofs.Words.{arrived, AsksOn, BoardValue, Bool, change, cond, Effect}
+use Rattle.psci_headline.proofs.Words.{effect, effect_of, enter_effect, enter_fault, EnteredAt}
+use Rattle.psci_headline.proofs.Words.{Enters, enters_or_resumes_by, eqb-false, eqb-true, false}
+use Rattle.psci_headline.proofs.Words.{FwCall, FwExchange, FwFault, FwReply, in_life, IsAllowed}
+use Rattle.psci_headline.proofs.Words.{IsLegal, length, List, listed, Made, made_at, MessageValue}
+use Rattle.psci_headline.proofs.Words.{nat_tests, None, OfCall, OfLife, Opening, Option, option_map}
+use Rattle.psci_headline.proofs.Words.{Outcome, Parks, refl, reply_or, Rests, Some, Start}
+use Rattle.psci_headline.proofs.Words.{start_of_life, StopsAtOnce, subst, suc, sym, TakenUp}
+use Rattle.psci_headline.proofs.Words.{updated, updated_at, Values, ℕ}
+use Rattle.psci_fw_laws.specs.psci_fw_spec.Entering.{outcome_at, enter_outcome}
+use Rattle.psci_fw_laws.specs.psci_fw_spec.Outcomes.{stops}
 use Rattle.psci_fw_laws.specs.psci_fw_spec.Answer.{answer}
-use Rattle.psci_fw_laws.specs.psci_fw_spec.CpuOff.{off_message}
-use Rattle.psci_fw_laws.specs.psci_fw_spec.Entering.{enter_outcome}
 use Rattle.psci_fw_laws.specs.psci_fw_spec.History.{life, values_of}
 use Rattle.psci_headline.specs.Openings.{entered_by, entered_to, made_for_boot, openings, taken_up}
 use Rattle.psci_headline.proofs.Functions.{call_ends}
 use Rattle.psci_headline.proofs.Naming.{AreNamed, made_in, names_target, same_made}
-use Rattle.psci_headline.proofs.TakingUp.{taken_up_by, taking}
-use Rattle.psci_headline.proofs.Waiting.{AreWaiting, begun, called, fewer, none_waiting, one_more}
+use Rattle.psci_headline.proofs.Waiting.{taken_up_by, taking, AreWaiting, begun, called, fewer}
+use Rattle.psci_headline.proofs.Waiting.{none_waiting, one_more}
 use Rattle.psci_fw_laws.specs.psci_fw_spec.declared.call.FwCall.TheVariants as calls
 use Rattle.psci_fw_laws.specs.psci_fw_spec.declared.outcome.Act.TheVariants as acts
 use Rattle.psci_fw_laws.specs.psci_fw_spec.declared.reply.FwReply.TheVariants as replies
@@ -36,21 +35,10 @@ record HasEntered (b : BoardValue) (v : Values) (f : Effect) (x : EnteredAt) : T
 
 -- a core is answered an entry point only where it has that opening
 module _ (b : BoardValue) (found after : Values) (c : ℕ) (s : Start) (a k : ℕ) where
-  resumed : (t : Bool)
-      → acts.Enter a k ≡ (cond t (record { act = acts.Resume; message = None })
-      (stops_with (off_message b after c))).act → ⊥
-  resumed true e = absurd (cc)
-  resumed false e = absurd (cc)
-
-  opened : (o : Option Opening) → acts.Enter a k ≡ (outcome_at b found after c s o).act
-      → o ≡ Some (record { address = a; context = k })
-  opened o e = grind (arith, nat_tests, resumed)
-
   opened_unless : (t : Bool) (o : Option Opening)
       → acts.Enter a k ≡ (cond t stops (outcome_at b found after c s o)).act
       → o ≡ Some (record { address = a; context = k })
-  opened_unless true o e = absurd (cc)
-  opened_unless false o e = opened o e
+  opened_unless t o e = grind (arith, nat_tests)
 
 answered : (act : Act) (m : Option MessageValue) (fault : Option FwFault) (o : Outcome)
     → replies.Out (record { act = act; message = m }) ≡ reply_or fault o → act ≡ o.act
@@ -74,16 +62,14 @@ entered_at b v c s (acts.Enter a k) m x e is =
       start = s;
       is = refl;
       of_life = refl;
-      opening = opened_unless b found (with_arrival b c s v) c s a k found.halting (found.opening c)
-          act;
+      opening = grind (arith, nat_tests, opened_unless);
     })
 entered_at b v c s act m x e is = absurd (cc)
 
 -- a core that is not told to enter does not
 no_entry : (c before : ℕ) (act : Act) (x : EnteredAt) → enters_or_resumes_by act ≡ false
     → entered_to c before act ≡ Some x → ⊥
-no_entry c before (acts.Enter address context) x ends is = absurd (cc)
-no_entry c before act x ends is = absurd (cc)
+no_entry c before act x ends is = grind (arith, nat_tests)
 
 has_entered : (b : BoardValue) (v : Values) (before c : ℕ) (call : FwCall) (reply : FwReply)
     (x : EnteredAt) → reply ≡ answer b v c call → entered_by before c call reply ≡ Some x
@@ -117,11 +103,7 @@ module _ (b : BoardValue) (n : ℕ) (v : Values) (made : List Made) (taken : Lis
   rested : (c : ℕ) (o : Option Opening)
       → AreWaiting (suc n) v.life (updated v.opening c (option_or o (v.opening c)))
       (listed (made_at (OfCall n) c v.life o) ++ made) taken
-  rested c None =
-      fewer (suc n) v.life v.opening made taken (one_more n v.life v.opening made taken are)
-      (updated v.opening c (v.opening c))
-      (λ x o. updated_at (λ q. q ≡ Some o → v.opening x ≡ Some o) v.opening c (v.opening c) x
-      (λ here e. ap v.opening here ∙ e) (λ there e. e))
+  rested c None = grind (arith, nat_tests, fewer, one_more, updated_at)
   rested c (Some o) = called n v.life v.opening made taken are c o
 
   arrives : (c : ℕ) (s : Start) → v.life ≤ s.life
@@ -140,11 +122,6 @@ module _ (b : BoardValue) (n : ℕ) (v : Values) (made : List Made) (taken : Lis
   leaves (StopsAtOnce c s) allowed = arrives c s allowed.enters.life
   leaves f allowed = one_more n v.life v.opening made taken are
 
-  found_life : (s : Start) (t : Bool) → (s.life == v.life) ≡ t
-      → (cond t v (start_of_life b s.life)).life ≡ s.life
-  found_life s true is = sym (eqb-true s.life v.life is)
-  found_life s false is = refl
-
   -- a core entered at its opening
   takes : (x : EnteredAt) (s : Start) → IsAllowed b v (Enters x.core s) → x.life ≡ s.life
       → (in_life b s.life v).opening x.core ≡ Some x.opening
@@ -153,10 +130,7 @@ module _ (b : BoardValue) (n : ℕ) (v : Values) (made : List Made) (taken : Lis
       (made_with b n v.life (Enters x.core s) made)
       (taking x (made_with b n v.life (Enters x.core s) made) ∷ taken)
   takes x s allowed here at =
-      let same = found_life s (s.life == v.life) refl in
-      let found = found_waits x.core s (s.life == v.life) refl allowed.enters.life in
-      waiting.one_more _ _ _ _ _ (taken_up_by _ _ _ _ _ found x
-      (omega (arith, same, allowed.enters.begun)) (here ∙ sym same) at)
+      grind (arith, nat_tests, eqb-true, found_waits, one_more, taken_up_by, begun)
 
   -- what holds after an effect, with the exchange that it was
   abbrev AreLeft : Effect → Option EnteredAt → Type 0

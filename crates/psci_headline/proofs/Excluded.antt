@@ -3,10 +3,10 @@ use Rattle.std.proofs.Common.{nat_le}
 use Rattle.std.proofs.lemmas.List.Sums.{list_all-from_AllPass}
 use Rattle.psci_headline.proofs.Words.{◌++◌, ◌+◌, ◌<◌, ◌==◌, ◌||◌, ◌∙◌, ◌∷◌, ◌≡◌, ◌≤◌, [], ap}
 use Rattle.psci_headline.proofs.Words.{AreAtRest, arith, BoardValue, Bool, cases_Bool, cases_eq}
-use Rattle.psci_headline.proofs.Words.{cores, deliveries, Down, eq-eqb, false, filter, HasNode}
-use Rattle.psci_headline.proofs.Words.{height, hw_code, indexed, inl, inr, is_away, is_kind}
-use Rattle.psci_headline.proofs.Words.{is_off_status, is_some, is_started, IsSettled, IsToldWhole}
-use Rattle.psci_headline.proofs.Words.{le-leb, length, List, list_all, list_any, MessageValue, Node}
+use Rattle.psci_headline.proofs.Words.{cores, deliveries, Down, eq-eqb, filter, HasNode, height}
+use Rattle.psci_headline.proofs.Words.{hw_code, indexed, inl, inr, is_away, is_kind, is_off_status}
+use Rattle.psci_headline.proofs.Words.{is_some, is_started, IsSettled, IsToldWhole, le-leb, length}
+use Rattle.psci_headline.proofs.Words.{List, list_all, list_any, MessageValue, nat_tests, Node}
 use Rattle.psci_headline.proofs.Words.{nodes, None, not, OfCore, OfSystem, Option, or_left}
 use Rattle.psci_headline.proofs.Words.{or_right, range_with_len, refl, sent, Some, suc, sym, true}
 use Rattle.psci_headline.proofs.Words.{zero, ℕ}
@@ -31,10 +31,7 @@ use Rattle.psci_headline.proofs.Untold as untold
 none_of : {A : Type 0} → (fails : ℕ → List A) (a count : ℕ)
     → ((k : ℕ) → a ≤ k → k < a + count → fails k ≡ []) → each fails (range_with_len a count) ≡ []
 none_of fails a zero none = refl
-none_of fails a (suc count) none =
-    ap (λ l. l ++ each fails (range_with_len (a + 1) count)) (none a (omega arith) (omega arith))
-    ∙ none_of fails (a + 1) count
-    (λ k low high. none k (omega (arith, low)) (omega (arith, high)))
+none_of fails a (suc count) none = grind (arith, nat_tests, each, none_of fails (a + 1) count)
 
 pub passed : {A : Type 0} → (t : Bool) (k : A) → t ≡ true → if_fails t k ≡ []
 passed t k e = ap (λ b. if_fails b k) e
@@ -42,9 +39,7 @@ passed t k e = ap (λ b. if_fails b k) e
 pub none_in : {A : Type 0} → (test : ℕ → Bool) (clause : ℕ → A) (count : ℕ)
     → ((k : ℕ) → k < count → test k ≡ true)
     → each (λ k. if_fails (test k) (clause k)) (range_with_len 0 count) ≡ []
-none_in test clause count all =
-    none_of (λ k. if_fails (test k) (clause k)) 0 count
-    (λ k low high. passed (test k) (clause k) (all k (omega (arith, high))))
+none_in test clause count all = grind (arith, nat_tests, none_of, if_fails, passed)
 
 pub no_domain : {A : Type 0} → (b : BoardValue) (test : ℕ → ℕ → Bool) (clause : ℕ → ℕ → A)
     → ((n : Node) → HasNode b n → test n.level n.place ≡ true)
@@ -64,9 +59,7 @@ some_none xs ks k some none = let no : [] ≡ k ∷ ks = sym none ∙ some in ab
 -- At rest ---------------------------------------------------------------------------------------
 
 not_started : (p : Place) → (p ≡ places.Started → ⊥) → not (is_started p) ≡ true
-not_started places.Started none = absurd (none refl)
-not_started places.Running none = refl
-not_started places.Stopped none = refl
+not_started p none = grind (arith, nat_tests)
 
 -- nothing fails where all is so that is said of a world at rest
 none_fails : (b : BoardValue) (past : List Record)
@@ -85,8 +78,7 @@ none_fails b past own system entered agree =
 -- so where something fails the world is not at rest
 pub not_at_rest : (b : BoardValue) (past : List Record) (k : Clause) (ks : List Clause)
     → failing b past ≡ k ∷ ks → AreAtRest b past → ⊥
-not_at_rest b past k ks some r =
-    some_none _ ks k some (none_fails b past r.own r.system r.entered r.agree)
+not_at_rest b past k ks some r = grind (arith, nat_tests, some_none, none_fails)
 
 -- Settled ---------------------------------------------------------------------------------------
 
@@ -97,8 +89,7 @@ record IsDown (o : Option MessageValue) : Type 0 where
   pub kind : message.kind ≡ Down
 
 a_down : (o : Option MessageValue) → is_down o ≡ true → IsDown o
-a_down None e = absurd (cc)
-a_down (Some m) e = record { message = m; at = refl; kind = same_kind m.kind Down e }
+a_down o e = grind (arith, nat_tests, same_kind)
 
 -- what passes both tests is found
 kept_one : (p test : ℕ → Bool) (a count k : ℕ) → a ≤ k → k < a + count → test k ≡ true
@@ -123,9 +114,7 @@ not_settled b before added rounds s ss fail r =
     let past : List Record = added ++ before in
     let tests : ℕ → Bool = λ k. is_down (indexed (sent past) k) in
     let most : list_all (λ k. nat_le (deliveries k added) rounds) (downs past) ≡ true =
-    one_all (λ k. nat_le (deliveries k added) rounds) tests 0 (length (sent past))
-    (λ k low high down. let m = a_down (indexed (sent past) k) down in
-    le-leb _ _ (r.most k m.message m.at m.kind)) in
+    grind (arith, nat_tests, one_all, a_down, le-leb) in
     let some : (rounds == 0 || list_any (λ k. deliveries k added == rounds) (downs past)) ≡ true =
     elim (cases_eq rounds 0) [
       | inl none ↦ or_left _ _ (eq-eqb _ _ none)
@@ -145,8 +134,7 @@ not_settled b before added rounds s ss fail r =
 -- Told ------------------------------------------------------------------------------------------
 
 follows_from : (s t : Bool) → (s ≡ true → t ≡ true) → follows s t ≡ true
-follows_from true t then = then refl
-follows_from false t then = refl
+follows_from s t then = grind (arith, nat_tests)
 
 -- where something fails not all is told
 pub not_told : (b : BoardValue) (past : List Record) (k : untold.Clause) (ks : List untold.Clause)

@@ -42,8 +42,7 @@ numbered_old x xs k y e =
 pub indexed_at : {A : Type 0} → (xs : List A) (k : ℕ) (y : A) → indexed xs k ≡ Some y
     → (k < length xs) × (slice_get xs (length xs - 1 - k) ≡ Some y)
 indexed_at xs k y e =
-    let within : k < length xs =
-    omega (arith, slice_get_within (reverse xs) k y e, length-reverse xs) in
+    let within : k < length xs = grind (arith, nat_tests, slice_get_within, length-reverse) in
     let j : ℕ = length xs - 1 - k in
     let inside : j < length xs = omega (arith, within) in
     let here : get_or xs j y ≡ y =

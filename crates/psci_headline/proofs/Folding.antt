@@ -1,7 +1,6 @@
 -- What holds after a step of each core in turn.
-use Rattle.psci_headline.proofs.Words.{◌+◌, ◌<◌, ◌≡◌, ◌≤◌, arith, cases_lt, each_core, inl, inr}
-use Rattle.psci_headline.proofs.Words.{List, nat_tests, range_with_len, Record, subst, suc, sym}
-use Rattle.psci_headline.proofs.Words.{zero, ℕ}
+use Rattle.psci_headline.proofs.Words.{◌+◌, ◌<◌, ◌≡◌, ◌≤◌, arith, cases_lt, each_core, List}
+use Rattle.psci_headline.proofs.Words.{nat_tests, range_with_len, Record, suc, zero, ℕ}
 
 -- What a step of a core does: something that holds stays, what was to be done for the core is done,
 -- and what was to be done or is done for another core stays.
@@ -26,23 +25,14 @@ from_core : (does : List Record → ℕ → List Record) (n : ℕ) (Holds : List
     → (a rest : ℕ) (past : List Record) → a + rest ≡ n → Holds past
     → ((c : ℕ) → a ≤ c → c < n → Todo c past) → ((c : ℕ) → c < a → Done c past)
     → AreDone n Holds Done (each_core does (range_with_len a rest) past)
-from_core does n Holds Todo Done laws a zero past all holds todo done =
-    record { holds = holds; done = λ c low. done c (omega (arith, low, all)) }
+from_core does n Holds Todo Done laws a zero past all holds todo done = grind (arith, nat_tests)
 from_core does n Holds Todo Done laws a (suc rest) past all holds todo done =
-    let on : a < n = omega (arith, all) in
-    let now = todo a (omega arith) on in
-    from_core does n Holds Todo Done laws (a + 1) rest (does past a) (omega (arith, all))
-    (laws.keeps past a on holds)
-    (λ c low high.
-    laws.todo past a c on (λ e. omega (arith, e, low)) holds now
-    (todo c (omega (arith, low)) high))
-    (λ c low. elim (cases_lt c a) [
-      | inl before ↦
-          laws.done past a c on (λ e. omega (arith, e, before)) holds now (done c before)
-      | inr here ↦
-          let same : c ≡ a = omega (arith, here, low) in
-          subst (λ x. Done x (does past a)) (sym same) (laws.here past a on holds now)
-    ])
+    grind (
+      arith,
+      nat_tests,
+      cases_lt,
+      from_core does n Holds Todo Done laws (a + 1) rest (does past a),
+    )
 
 pub each_done : (does : List Record → ℕ → List Record) (n : ℕ) (Holds : List Record → Type 0)
     (Todo Done : ℕ → List Record → Type 0) → IsStep does n Holds Todo Done

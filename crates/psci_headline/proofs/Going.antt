@@ -1,11 +1,10 @@
 -- What stays so in every round: each started core has entered, and none is pending.
-use Rattle.psci_headline.proofs.Words.{◌+◌, ◌<◌, ◌∙◌, ◌≡◌, acks, ap, AreClaims, AreOutstanding}
-use Rattle.psci_headline.proofs.Words.{ArePartsOf, AreWaiting, arith, AwaitsStart, BoardValue}
-use Rattle.psci_headline.proofs.Words.{controller_values, cores, false, firmware_values, HasDeeper}
-use Rattle.psci_headline.proofs.Words.{height, in_life, is_system, IsClaimOn, IsCurrent}
-use Rattle.psci_headline.proofs.Words.{IsLegalPast, Kind, List, MessageValue, nat_tests}
-use Rattle.psci_headline.proofs.Words.{NonePending, OfCore, OfSystem, Part, Pending, place, Record}
-use Rattle.psci_headline.proofs.Words.{sent, Some, subst, sym, true, up, Values, ℕ}
+use Rattle.psci_headline.proofs.Words.{◌+◌, ◌<◌, ◌∙◌, ◌≡◌, acks, AreClaims, AreOutstanding}
+use Rattle.psci_headline.proofs.Words.{ArePartsOf, AreWaiting, arith, BoardValue, controller_values}
+use Rattle.psci_headline.proofs.Words.{cores, false, firmware_values, HasDeeper, height, is_system}
+use Rattle.psci_headline.proofs.Words.{IsClaimOn, IsCurrent, IsLegalPast, Kind, List, MessageValue}
+use Rattle.psci_headline.proofs.Words.{nat_tests, NonePending, OfCore, OfSystem, Part, Pending}
+use Rattle.psci_headline.proofs.Words.{place, Record, sent, Some, subst, sym, true, up, Values, ℕ}
 use Rattle.psci_headline.proofs.Agreeing.{found_own}
 use Rattle.psci_headline.proofs.Applying.{IsDown, IsReady}
 use Rattle.psci_headline.proofs.Beginning.{HasEntered}
@@ -13,7 +12,7 @@ use Rattle.psci_headline.proofs.Carried.{present_known}
 use Rattle.psci_headline.proofs.Claimed.{AreDeep}
 use Rattle.psci_headline.proofs.Controls.{IsKnown}
 use Rattle.psci_headline.proofs.Counting.{AreAdded}
-use Rattle.psci_headline.proofs.Standing.{AreSettled, IsPast, SettleLaws, settled_life}
+use Rattle.psci_headline.proofs.Standing.{IsPast, SettleLaws, settled_life}
 use Rattle.psci_headline.proofs.Starts.{HasBegun}
 use Rattle.psci_ctl_spec.specs.Values as controlled
 use Rattle.psci_ctl_spec.specs.psci_messages.declared.kind.Kind.TheVariants as kinds
@@ -34,34 +33,7 @@ pub record IsGoing (b : BoardValue) (before : List Record) (life : ℕ) (past : 
 -- it is so after the beginning
 pub goes_on : (b : BoardValue) (before : List Record) (life : ℕ) (past : List Record)
     → SettleLaws b → HasBegun b before life past → IsGoing b before life past
-goes_on b before life past laws begun = record {
-  legal = begun.way.legal;
-  added = begun.way.added;
-  present = begun.way.present;
-  own = settled.own;
-  awake = ap (λ (u : Values). u.halting) (sym same) ∙ begun.way.awake;
-  known = settled.known;
-  rests = λ c on e.
-      let waits : AwaitsStart found.outstanding c =
-      (is.waits life begun.way.present).asked begun.way.awake c on
-      (ap (λ (u : Values). u.phase c) same ∙ e)
-      (sym (ap (λ (u : Values). u.known c) same ∙ settled.known c on)) in
-      begun.started c on waits.message
-      (sym (ap (λ (u : Values). u.outstanding (OfCore c)) same) ∙ waits.at) waits.kind;
-  entered = begun.entered;
-}
-  where
-    is : IsPast b past
-    is = laws.past past begun.way.legal
-
-    settled : AreSettled b past life
-    settled = settled_life b past life laws.some is begun.way.present begun.entered
-
-    found : Values
-    found = in_life b life (firmware_values b past)
-
-    same : found ≡ firmware_values b past
-    same = found_own b life (firmware_values b past) (sym settled.own)
+goes_on b before life past laws begun = grind (arith, nat_tests, settled_life, found_own)
 
 -- what is known of the firmware's values and messages
 pub known_now : (b : BoardValue) (before : List Record) (life : ℕ) (past : List Record)
@@ -91,26 +63,23 @@ pub ready_now : (b : BoardValue) (before : List Record) (life : ℕ) (past : Lis
     → let w = controller_values b past in let v = firmware_values b past in
     ((c : ℕ) → AreDeep b life w.starts w.depth (sent past) r c)
     → IsReady b life v.known v.phase (sent past) w r
-ready_now b before life past r laws going deep = record {
-  paths = is.given.paths;
-  kids = laws.kids;
-  live = (known_now b before life past laws going).live;
-  all = going.known;
-  rests = going.rests;
-  first = (waits_now b before life past laws going).first;
-  deep = deep;
-  deeper = subst (λ l. (c level : ℕ) (p : Part) → c < cores b → level < height b
-      → IsClaimOn b l (level + 1) (up b (level + 1) c) p (sent past)
-      → IsCurrent b v.known (level + 1) (up b (level + 1) c) p
-      → NonePending b v.phase (level + 1) (up b (level + 1) c)
-      → HasDeeper b l v.known level (up b level c) p.depth (sent past)) going.own is.deeper;
-}
-  where
-    is : IsPast b past
-    is = laws.past past going.legal
-
-    v : Values
-    v = firmware_values b past
+ready_now b before life past r laws going deep =
+    let is : IsPast b past = laws.past past going.legal in
+    let v : Values = firmware_values b past in
+    record {
+      paths = is.given.paths;
+      kids = laws.kids;
+      live = (known_now b before life past laws going).live;
+      all = going.known;
+      rests = going.rests;
+      first = (waits_now b before life past laws going).first;
+      deep = deep;
+      deeper = subst (λ l. (c level : ℕ) (p : Part) → c < cores b → level < height b
+          → IsClaimOn b l (level + 1) (up b (level + 1) c) p (sent past)
+          → IsCurrent b v.known (level + 1) (up b (level + 1) c) p
+          → NonePending b v.phase (level + 1) (up b (level + 1) c)
+          → HasDeeper b l v.known level (up b level c) p.depth (sent past)) going.own is.deeper;
+    }
 
 -- Outstanding ----------------------------------------------------------------------------------
 
@@ -140,11 +109,7 @@ out_now b before life past c m laws going at =
     let on : c < cores b = subst (λ x. x < cores b) slot.core sound.core in
     let kind : m.kind ≡ kinds.Down = grind (arith, nat_tests, core_kind) in
     let claim : AreClaims m.parts = subst (λ k. ArePartsOf k m.parts) kind sound.parts in
-    record {
-      down = grind (arith, nat_tests);
-      core = slot.core;
-      system = slot.kind;
-    }
+    grind (arith, nat_tests)
 
 -- nothing is outstanding for the system
 pub none_system : (b : BoardValue) (before : List Record) (life : ℕ) (past : List Record)

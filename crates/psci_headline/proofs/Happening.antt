@@ -1,12 +1,46 @@
--- What happens to a core happens at its place, and what sends a message is a call or an entry.
-use Rattle.psci_headline.proofs.Words.{◌<◌, ◌∙◌, ◌≡◌, Absent, ap, arith, BoardValue, Bool, Call}
-use Rattle.psci_headline.proofs.Words.{controller_values, cores, Enter, Event, false, Ignored}
-use Rattle.psci_headline.proofs.Words.{last_start, legal, List, nat_tests, None, place, Record}
-use Rattle.psci_headline.proofs.Words.{refl, Reset, Running, Said, said_by, sent_in, Some, Start}
-use Rattle.psci_headline.proofs.Words.{Started, sym, true, Wake, ℕ}
+-- What is legal to say of an event, by what it asks. So what happens to a core happens at its
+-- place, and what sends a message is a call or an entry.
+use Rattle.std.specs.Prelude.{List}
+use Rattle.psci_headline.proofs.Words.{◌<◌, ◌∙◌, ◌≡◌, Absent, acks, AckValue, ap, arith, BoardValue}
+use Rattle.psci_headline.proofs.Words.{Bool, Call, cond_both, controller_values, cores, Deliver}
+use Rattle.psci_headline.proofs.Words.{Enter, Event, false, indexed, last_start, ltb-true}
+use Rattle.psci_headline.proofs.Words.{MessageValue, nat_tests, None, place, Record, refl, Regs}
+use Rattle.psci_headline.proofs.Words.{Reset, Running, Said, said_by, sent, sent_in, Some, Start}
+use Rattle.psci_headline.proofs.Words.{Started, sym, Take, true, Wake, ℕ}
+use Rattle.psci_world_spec.specs.declared.said.Said.TheVariants.{Ignored}
+use Rattle.psci_world_spec.specs.Legal.{asked_controller, asked_firmware, legal}
 use Rattle.psci_ctl_spec.specs.declared.reply.CtlReply.{CtlReply}
 use Rattle.psci_fw_laws.specs.psci_fw_spec.Answer.{answer}
-use Rattle.psci_headline.proofs.Saying.{of_event}
+use Rattle.psci_ctl_spec.specs.declared.call.CtlCall.TheVariants as asked
+use Rattle.psci_fw_laws.specs.psci_fw_spec.declared.call.FwCall.TheVariants as calls
+
+-- What is legal to say -------------------------------------------------------------------------
+
+-- What is so of an event with each answer to it, and with what is said where nothing is asked.
+pub record OfAnswers (b : BoardValue) (past : List Record) (P : Event → Said → Type 0) : Type 0
+  where
+    pub absent : (event : Event) → P event Absent
+    pub ignored : (event : Event) → P event Ignored
+    pub call : (c : ℕ) (regs : Regs) → c < cores b → place b past c ≡ Running
+        → P (Call c regs) (asked_firmware b past c (calls.Smc regs))
+    pub enter : (c : ℕ) (s : Start) → c < cores b → place b past c ≡ Started
+        → last_start (controller_values b past) c ≡ Some s
+        → P (Enter c) (asked_firmware b past c (calls.Enter s))
+    pub wake : (c : ℕ) → c < cores b → let n = (controller_values b past).starts c in
+        P (Wake c) (asked_controller b past (asked.Wake (record { number = c }) n))
+    pub reset : (c : ℕ) → c < cores b
+        → P (Reset c) (asked_controller b past (asked.Reset (record { number = c })))
+    pub deliver : (k : ℕ) (m : MessageValue) → indexed (sent past) k ≡ Some m
+        → P (Deliver k) (asked_controller b past (asked.Deliver m))
+    pub take : (k : ℕ) (a : AckValue) → indexed (acks past) k ≡ Some a
+        → P (Take k) (asked_firmware b past 0 (calls.Take a))
+
+-- so it is so of each event with what is legal to say of it
+module _ (b : BoardValue) (past : List Record) (P : Event → Said → Type 0)
+    (is : OfAnswers b past P) where
+  pub of_event : (event : Event) → P event (legal b past event)
+  unfolding legal
+  of_event event = grind (arith, nat_tests, cond_both, ltb-true)
 
 -- Places ---------------------------------------------------------------------------------------
 
@@ -43,8 +77,7 @@ happens b past event s e some =
       absent = λ x no. absurd (cc);
       ignored = λ x no. absurd (cc);
       call = λ c regs on at is. record { core = on; place = at };
-      enter = λ c start on at last is.
-          record { core = on; place = at; start = start; last = last };
+      enter = λ c start on at last is. grind (arith, nat_tests);
       wake = λ c on is. on;
       reset = λ c on is. on;
       deliver = λ k m at is. tt;

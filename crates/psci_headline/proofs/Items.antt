@@ -1,9 +1,9 @@
 -- Items of a list: one of some number, and one behind others.
 use Rattle.std.proofs.lemmas.Option.{slice_get_read}
-use Rattle.psci_headline.proofs.Words.{◌++◌, ◌-◌, ◌<◌, ◌∙◌, ◌∷◌, ◌≡◌, arith, get_or-reverse}
+use Rattle.psci_headline.proofs.Words.{◌++◌, ◌-◌, ◌<◌, ◌∙◌, ◌≡◌, arith, get_or-reverse}
 use Rattle.psci_headline.proofs.Words.{get_or_from_slice_get, indexed, length, length-reverse, List}
-use Rattle.psci_headline.proofs.Words.{listed, nat_tests, None, Option, refl, reverse, same_Some}
-use Rattle.psci_headline.proofs.Words.{slice_get, slice_get_within, Some, suc, sym, zero, ℕ}
+use Rattle.psci_headline.proofs.Words.{listed, nat_tests, None, Option, refl, reverse, slice_get}
+use Rattle.psci_headline.proofs.Words.{slice_get_within, Some, suc, sym, ℕ}
 
 -- An item of a list.
 pub record IsListed {A : Type 0} (items : List A) (x : A) : Type 0 where
@@ -28,13 +28,7 @@ pub listed_later : {A : Type 0} (o : Option A) (xs : List A) (x : A) → IsListe
 listed_later None xs x is = is
 listed_later (Some y) xs x is = record { index = suc is.index; at = is.at }
 
--- an item is the first one, or one of those behind it
-pub of_first : {A : Type 0} {X : Type 0} (x : A) (xs : List A) (k : ℕ) (y : A) → (x ≡ y → X)
-    → ((j : ℕ) → slice_get xs j ≡ Some y → X) → slice_get (x ∷ xs) k ≡ Some y → X
-of_first x xs zero y first other at = first (same_Some x y at)
-of_first x xs (suc k) y first other at = other k at
-
--- so too where there may be a first one
+-- an item is the first one, where there is one, or one of those behind it
 pub of_newest : {A : Type 0} {X : Type 0} (o : Option A) (xs : List A) (k : ℕ) (y : A)
     → (o ≡ Some y → X) → ((j : ℕ) → slice_get xs j ≡ Some y → X)
     → slice_get (listed o ++ xs) k ≡ Some y → X

@@ -1,11 +1,9 @@
 pub mod Acknowledged
-pub mod Acknowledging
 pub mod Agreed
 pub mod Agreeing
 mod AgreementRows
 pub mod AllDown
 pub mod AllTested
-pub mod Apart
 pub mod Applied
 pub mod AppliedParts
 pub mod Asking
@@ -13,7 +11,6 @@ mod Checking
 mod ClaimRows
 pub mod Claiming
 pub mod Confirming
-pub mod Controlling
 pub mod CoreSteps
 pub mod Deep
 pub mod Deliveries
@@ -27,45 +24,36 @@ mod HardwareRows
 mod Histories
 mod LevelsRows
 pub mod Items
-pub mod LiveClaims
 pub mod LiveOnes
 mod LiveRows
 mod LivesRows
 mod MadeRows
 pub mod Making
-pub mod Moments
 pub mod Moves
 pub mod Moving
 pub mod Naming
 pub mod Nexts
-pub mod OffIsDown
 mod Once
 mod OpeningRows
 pub mod Outcomes
-pub mod Picked
 pub mod Placing
 mod PowerRows
 pub mod Quiet
 mod Ranges
-pub mod Records
 mod RefusalRows
 pub mod Refusing
 pub mod Returned
 mod SafeRows
-pub mod Safety
-pub mod Saying
 pub mod Sending
 pub mod Slept
 pub mod Sound
 pub mod States
 pub mod StatesReal
-pub mod TakingUp
 mod Tested
 pub mod ToldHw
 mod ToldHwRows
 pub mod ToldOff
 mod ToldOffRows
-pub mod ToldTest
 pub mod Waiting
 pub mod Words
 -- In the order of the argument of docs/SETTLING.md.
@@ -77,7 +65,6 @@ pub mod Finding
 pub mod Folding
 pub mod Slots
 -- 1. After the beginning both sides count the same starts.
-pub mod Arrivals
 pub mod Standing
 -- 2. No core is pending then: all that is outstanding are Downs.
 pub mod Beginning
@@ -85,20 +72,16 @@ pub mod Starts
 pub mod Going
 -- 3. From here on nothing is started and nothing is sent.
 pub mod Serving
-pub mod Emptying
 -- 4. No live claim is forgotten: by the firmware, by the power controller, after every run.
 pub mod Unclaimed
 pub mod Pursuing
 pub mod Calls
-pub mod FirmwareSteps
 pub mod Starting
 pub mod Taking
 pub mod Telling
 pub mod Deepening
 pub mod Controls
-pub mod ControllerSteps
 pub mod Carried
-pub mod WaitingNexts
 pub mod Waited
 -- 5. Level by level each live claim has its depth: a part, a Down, a round.
 pub mod Claimed
@@ -110,7 +93,6 @@ pub mod Rounds
 pub mod Bound
 -- 7. Where nothing is outstanding both sides agree.
 pub mod Sources
-pub mod Resting
 -- All steps together; worked examples, and records that break each clause alone.
 pub mod Settled
 mod Excluded
@@ -122,14 +104,11 @@ mod SettleRows
 mod WaitingRows
 -- What is told once both sides agree.
 -- In the order of the argument of docs/SETTLING.md.
-pub mod Coming
 pub mod Beside
 pub mod Answered
 pub mod Effects
-pub mod Steps
 pub mod Confirmed
 pub mod Whole
-pub mod Reached
 -- Worked examples.
 pub mod Untold
 mod ConfirmingRows

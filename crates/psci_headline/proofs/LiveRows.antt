@@ -1,8 +1,7 @@
 -- Worked examples: records after which just one thing is not so that is said of live claims.
-use Rattle.std.proofs.Common.{◌≡◌, ◌≤◌, ◌<◌, ℕ, zero, suc, pos, true, false, List, [], ◌∷◌, None}
-use Rattle.std.proofs.Common.{Some, refl, arith, slice_get, ap, sym, ◌∙◌}
-use Rattle.std.specs.Prelude.{drop}
-use Rattle.psci_board.specs.Board.{size_below}
+use Rattle.std.proofs.Common.{◌≡◌, ℕ, pos, true, false, List, [], ◌∷◌, None, Some, refl, arith}
+use Rattle.std.proofs.Common.{slice_get}
+use Rattle.std.proofs.lemmas.Bool.Decides.{nat_tests}
 use Rattle.psci_ctl_spec.specs.psci_messages.declared.kind.Kind.TheVariants.{Down}
 use Rattle.psci_world_spec.specs.declared.event.Event.TheVariants.{Deliver, Enter, Wake}
 use Rattle.psci_world_spec.specs.declared.said.Record.{Record}
@@ -80,12 +79,7 @@ deep_by_another = past (off 3 ⇒ goes_down 1 3 1 1 (part 0 3 1 ∷ [])
 
 -- a list of one claim of depth 3 has none of depth 2
 one_of_three : (k : ℕ) (c d : Claim) → slice_get (c ∷ []) k ≡ Some d → c.depth ≡ 3 → d.depth ≡ 2 → ⊥
-one_of_three zero c d at three two =
-    let some : Some c ≡ Some d = at in
-    let same : c ≡ d = cc in
-    let no : 3 ≡ 2 = sym three ∙ (ap (λ (x : Claim). x.depth) same ∙ two) in
-    absurd (omega (arith, no))
-one_of_three (suc k) c d at three two = let no : None ≡ Some d = at in absurd (cc)
+one_of_three k c d at three two = grind (arith, nat_tests)
 
 core_not_claimed : AreClaimed board deep_by_another → ⊥
 unfolding computing claims live_claims
@@ -131,20 +125,7 @@ resumed = run_from one_core [] (Enter 0 ∷ retention 0 ∷ Deliver 0 ∷ Wake 0
 
 runs_below_an_old_claim : NoneExecutes one_core resumed
 unfolding computing claims live_claims
-runs_below_an_old_claim n c k p has on up at runs =
-    none_on n.level n.place has.level has.place at
-  where
-    none_on : (level place : ℕ) → level ≤ 1 → place < size_below (drop level one_core.levels)
-        → slice_get (live_claims one_core resumed (record { level = level; place = place })) k
-        ≡ Some p → ⊥
-    none_on zero zero low inside at = none_at_all k p at
-    none_on (suc zero) zero low inside at = none_at_all k p at
-    none_on zero (suc place) low inside at =
-        let no : suc place < 1 = inside in absurd (omega (arith, no))
-    none_on (suc zero) (suc place) low inside at =
-        let no : suc place < 1 = inside in absurd (omega (arith, no))
-    none_on (suc (suc level)) place low inside at =
-        let no : suc (suc level) ≤ 1 = low in absurd (omega (arith, no))
+runs_below_an_old_claim n c k p has on up at runs = grind (arith, nat_tests, none_at_all)
 
 -- In a later life -------------------------------------------------------------------------------
 

@@ -1,7 +1,7 @@
 -- Worked examples: how acknowledgements were made, and acknowledgements of which just one thing is
 -- not so.
-use Rattle.std.proofs.Common.{◌≡◌, ◌++◌, ℕ, Bool, true, false, List, [], ◌∷◌, length, Option}
-use Rattle.std.proofs.Common.{None, Some, refl, ap, sym, ◌∙◌, subst}
+use Rattle.std.proofs.Common.{◌≡◌, ◌++◌, ℕ, Bool, true, false, List, [], ◌∷◌, length, Option, None}
+use Rattle.std.proofs.Common.{Some, refl, ap, sym, ◌∙◌, subst}
 use Rattle.psci_ctl_spec.specs.declared.call.CtlCall.TheVariants as asked
 use Rattle.psci_ctl_spec.specs.declared.delivery.Delivery.TheVariants as deliveries
 use Rattle.psci_ctl_spec.specs.declared.reply.CtlReply.TheVariants as replied

@@ -1,6 +1,7 @@
 -- Each acknowledgement was made as its message was delivered.
-use Rattle.psci_headline.proofs.Words.{◌∷◌, ◌≡◌, [], ack_in, AckValue, ap, BoardValue, IsLegalPast}
-use Rattle.psci_headline.proofs.Words.{legal, List, Record, refl, sent, slice_get, Some, WasMade, ℕ}
+use Rattle.psci_headline.proofs.Words.{◌∷◌, ◌≡◌, [], ack_in, AckValue, ap, arith, BoardValue}
+use Rattle.psci_headline.proofs.Words.{IsLegalPast, legal, List, nat_tests, Record, refl, sent}
+use Rattle.psci_headline.proofs.Words.{slice_get, Some, WasMade, ℕ}
 use Rattle.psci_world_spec.specs.Histories.{acks}
 use Rattle.psci_headline.proofs.Deliveries.{new_ack}
 use Rattle.psci_headline.proofs.Items.{of_newest, at_number}
@@ -55,5 +56,4 @@ pub was_made : (b : BoardValue) (past : List Record) → IsLegalPast b past → 
 unfolding acks
 was_made b [] is k a e = absurd (cc)
 was_made b (r ∷ past) is k a e =
-    of_newest (ack_in r.said) (acks past) k a (new_made b r past a is.1 is.0)
-    (λ j at. made_before b r past a (was_made b past is.1 j a at)) e
+    grind (arith, nat_tests, of_newest, new_made, made_before, was_made b past is.1)

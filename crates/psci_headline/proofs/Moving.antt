@@ -1,18 +1,13 @@
 -- What calls, entries and acknowledgements leave of known starts and of who runs.
-use Rattle.psci_headline.proofs.Words.{◌≡◌, Acknowledges, Act, arith, AsksOn, Away, BoardValue}
-use Rattle.psci_headline.proofs.Words.{Bool, change, Code, cond, Effect, enter_effect, Enters}
-use Rattle.psci_headline.proofs.Words.{executes_on, false, function_effect, GoesOn, Halts, in_life}
-use Rattle.psci_headline.proofs.Words.{int_eq, is_running, IsAllowed, MessageValue, mode_effect}
-use Rattle.psci_headline.proofs.Words.{mode_of, nat_tests, None, Option, Parks, Pending, Phase}
-use Rattle.psci_headline.proofs.Words.{PowerOn, refl, Request, Rests, SetsMode, Some, Start, Stops}
-use Rattle.psci_headline.proofs.Words.{StopsAtOnce, subst, success, SuspendMode, sym, target, true}
-use Rattle.psci_headline.proofs.Words.{unless_pending, updated, updated_at, updated_here, Values}
-use Rattle.psci_headline.proofs.Words.{with_mode, with_pending, ℕ}
-use Rattle.psci_fw_laws.specs.psci_fw_spec.Effects.{Nothing}
-use Rattle.psci_fw_laws.specs.psci_fw_spec.Phases.{Running}
+use Rattle.psci_headline.proofs.Words.{◌≡◌, Acknowledges, Act, arith, AsksOn, BoardValue, Bool}
+use Rattle.psci_headline.proofs.Words.{change, Effect, enter_effect, Enters, executes_on, false}
+use Rattle.psci_headline.proofs.Words.{function_effect, GoesOn, Halts, in_life, IsAllowed}
+use Rattle.psci_headline.proofs.Words.{MessageValue, nat_tests, Nothing, Option, Parks, Phase}
+use Rattle.psci_headline.proofs.Words.{PowerOn, Request, Rests, SetsMode, Start, Stops, StopsAtOnce}
+use Rattle.psci_headline.proofs.Words.{true, unless_pending, updated_at, updated_here, Values}
+use Rattle.psci_headline.proofs.Words.{with_pending, ℕ}
+use Rattle.psci_fw_laws.specs.psci_fw_spec.Phases.{is_running, Running}
 use Rattle.psci_fw_laws.proofs.Parts.{updated_there}
-use Rattle.psci_world_spec.specs.psci_abi.declared.request.Request.TheVariants as requests
-use Rattle.psci_fw_laws.specs.psci_fw_spec.declared.outcome.Act.TheVariants as acts
 
 -- What is left where one core did something: its known start, and whether it runs.
 pub record IsMoved (v w : Values) (c n : ℕ) (t : Bool) : Type 0 where
@@ -61,64 +56,16 @@ pub record IsCallOf (e : Effect) (c : ℕ) (t : Bool) : Type 0 where
   pub core : caller e ≡ c
   pub runs : runs_on e ≡ t
 
-goes : (c : ℕ) → IsCallOf (GoesOn c) c true
-goes c = record { is = refl; core = refl; runs = refl }
-
-mode_call : (c number : ℕ) (t : Bool)
-    → IsCallOf (cond t (mode_effect c (mode_of number)) (GoesOn c)) c true
-mode_call c number false = goes c
-mode_call c number true = by_mode (mode_of number)
-  where
-    by_mode : (o : Option SuspendMode) → IsCallOf (mode_effect c o) c true
-    by_mode None = goes c
-    by_mode (Some mode) = record { is = refl; core = refl; runs = refl }
-
-return_call : (b : BoardValue) (c : ℕ) (r : Request) (code : Code)
-    → IsCallOf (function_effect b c r (acts.Return code) None) c true
-return_call b c (requests.SetSuspendMode number) code =
-    mode_call c number (int_eq code.0 success.0)
-return_call b c r code = goes c
-
-sent_call : (b : BoardValue) (c : ℕ) (r : Request) (code : Code) (m : MessageValue)
-    → IsCallOf (function_effect b c r (acts.Return code) (Some m)) c true
-sent_call b c r code m = grind (arith, nat_tests, goes)
-
-stop_call : (b : BoardValue) (c : ℕ) (r : Request) (m : MessageValue)
-    → IsCallOf (function_effect b c r acts.Stop (Some m)) c false
-stop_call b c requests.Version m = record { is = refl; core = refl; runs = refl }
-stop_call b c r m = record { is = refl; core = refl; runs = refl }
-
 -- what a function comes down to is of its caller, which goes on where the outcome says so
 pub function_call : (b : BoardValue) (c : ℕ) (r : Request) (act : Act) (o : Option MessageValue)
     → IsCallOf (function_effect b c r act o) c (executes_on act)
-function_call b c r (acts.Return code) None = return_call b c r code
-function_call b c r (acts.Return code) (Some m) = sent_call b c r code m
-function_call b c r acts.Stop None = record { is = refl; core = refl; runs = refl }
-function_call b c r acts.Stop (Some m) = stop_call b c r m
-function_call b c r (acts.Enter address context) o = goes c
-function_call b c r acts.Resume o = goes c
+function_call b c r act o = grind (arith, nat_tests)
 
 -- What is left ---------------------------------------------------------------------------------
-
--- where nothing but other fields was changed
-still : (v w : Values) (c : ℕ) → w.life ≡ v.life → w.known ≡ v.known
-    → ((x : ℕ) → is_running (w.phase x) ≡ is_running (v.phase x)) → v.phase c ≡ Running
-    → IsMoved v w c (v.known c) true
-still v w c life known phase runs = grind (arith, nat_tests)
-
--- where one core's phase was changed
-put : (v w : Values) (c : ℕ) (p : Phase) (runs : Bool) → w.life ≡ v.life → w.known ≡ v.known
-    → w.phase ≡ updated v.phase c p → is_running p ≡ runs → IsMoved v w c (v.known c) runs
-put v w c p runs life known phase is = grind (arith, nat_tests, updated_here, updated_there)
 
 -- a phase that is not Running stays so where a pending core stays pending
 rests : (p left : Phase) → (left ≡ Running → ⊥) → is_running (unless_pending p left) ≡ false
 rests p left ne = grind (arith, nat_tests)
-
--- the target of an accepted CPU_ON did not run, and does not yet
-pending : (v : Values) (asked : PowerOn) → v.phase (target asked) ≡ Away → (x : ℕ)
-    → is_running (updated v.phase (target asked) Pending x) ≡ is_running (v.phase x)
-pending v asked away x = grind (arith, nat_tests, updated_at)
 
 -- what the laws of psci_fw_spec say of callers that run on
 pub record CallerLaws (b : BoardValue) : Type 0 where
@@ -129,49 +76,14 @@ pub record CallerLaws (b : BoardValue) : Type 0 where
 -- the effect of a call
 pub call_moves : (b : BoardValue) (v : Values) (e : Effect) → CallerLaws b → is_call e ≡ true
     → IsAllowed b v e → IsMoved v (change b e v) (caller e) (v.known (caller e)) (runs_on e)
-call_moves b v (GoesOn c) laws is allowed =
-    subst (λ w. IsMoved v w c (v.known c) true) (sym (laws.goes_on v c allowed.runs))
-    (still v v c refl refl (λ x. refl) allowed.runs)
-call_moves b v (SetsMode c mode) laws is allowed =
-    subst (λ w. IsMoved v w c (v.known c) true)
-    (sym (laws.goes_on (with_mode mode v) c allowed.runs))
-    (still v (with_mode mode v) c refl refl (λ x. refl) allowed.runs)
-call_moves b v (AsksOn c asked) laws is allowed =
-    subst (λ w. IsMoved v w c (v.known c) true) (sym (laws.asks_on v c asked allowed.calls.runs))
-    (still v (with_pending b asked v) c refl refl (pending v asked allowed.away)
-    allowed.calls.runs)
-call_moves b v (Rests c rest m) laws is allowed =
-    put v (change b (Rests c rest m) v) c (unless_pending (v.phase c) rest.phase) false refl refl
-    refl (rests (v.phase c) rest.phase allowed.stops)
-call_moves b v (Halts c m) laws is allowed =
-    put v (change b (Halts c m) v) c (unless_pending (v.phase c) Away) false refl refl refl
-    (rests (v.phase c) Away (λ e. cc))
-call_moves b v (Stops c) laws is allowed =
-    put v (change b (Stops c) v) c (unless_pending (v.phase c) Away) false refl refl refl
-    (rests (v.phase c) Away (λ e. cc))
-call_moves b v e laws is allowed = absurd (cc)
+call_moves b v e laws is allowed =
+    grind (arith, nat_tests, updated_at, updated_here, updated_there, rests)
 
 -- Entries --------------------------------------------------------------------------------------
-
--- a core entered, and its phase was changed
-arrived : (found w : Values) (c number : ℕ) (p : Phase) (runs : Bool) → w.life ≡ found.life
-    → w.known ≡ updated found.known c number → w.phase ≡ updated found.phase c p
-    → is_running p ≡ runs → IsMoved found w c number runs
-arrived found w c number p runs life known phase is =
-    grind (arith, nat_tests, updated_here, updated_there)
-
-goes_in : (b : BoardValue) (v : Values) (c : ℕ) (s : Start)
-    → IsMoved (in_life b s.life v) (change b (Enters c s) v) c s.number true
-goes_in b v c s = grind (arith, nat_tests, arrived)
-
-stops_in : (b : BoardValue) (v : Values) (c : ℕ) (s : Start) (o : Option MessageValue)
-    → IsMoved (in_life b s.life v) (change b (enter_effect c s acts.Stop o) v) c s.number false
-stops_in b v c s o = grind (arith, nat_tests, arrived, rests)
 
 -- the effect of an entry
 pub entry_moves : (b : BoardValue) (v : Values) (c : ℕ) (s : Start) (act : Act)
     (o : Option MessageValue)
     → IsMoved (in_life b s.life v) (change b (enter_effect c s act o) v) c s.number
     (executes_on act)
-entry_moves b v c s acts.Stop o = stops_in b v c s o
-entry_moves b v c s act o = goes_in b v c s
+entry_moves b v c s act o = grind (arith, nat_tests, updated_here, updated_there, rests)

@@ -1,15 +1,12 @@
 -- In a legal history an accepted CPU_ON asks on the core that it named.
-use Rattle.psci_headline.proofs.Words.{◌∙◌, ◌≡◌, Act, ap, arith, AsksOn, BoardValue, Core, Effect}
-use Rattle.psci_headline.proofs.Words.{effect_of, enter_effect, FwCall, FwReply, Made, made_at}
-use Rattle.psci_headline.proofs.Words.{MessageValue, nat_tests, None, OfCall, Option, option_map}
-use Rattle.psci_headline.proofs.Words.{PowerOn, Regs, request_of, Rests, Some, Start, sym, target}
-use Rattle.psci_headline.proofs.Words.{Used, Values, ℕ}
+use Rattle.psci_headline.proofs.Words.{◌≡◌, arith, AsksOn, BoardValue, Effect, effect_of, FwCall}
+use Rattle.psci_headline.proofs.Words.{FwReply, Made, made_at, nat_tests, None, OfCall, Option}
+use Rattle.psci_headline.proofs.Words.{PowerOn, Regs, request_of, Rests, Some, target, Values, ℕ}
 use Rattle.psci_fw_laws.specs.psci_fw_spec.Answer.{answer}
 use Rattle.psci_world_spec.specs.psci_abi.declared.request.Request.TheVariants.{CpuOn}
 use Rattle.psci_board.specs.Board.{core_of}
-use Rattle.psci_headline.specs.Openings.{made_by, core_asked, named_in}
+use Rattle.psci_headline.specs.Openings.{made_by, core_asked}
 use Rattle.psci_fw_laws.specs.psci_fw_spec.declared.call.FwCall.TheVariants as calls
-use Rattle.psci_fw_laws.specs.psci_fw_spec.declared.reply.FwReply.TheVariants as replies
 
 -- Which core a call named ----------------------------------------------------------------------
 
@@ -25,19 +22,9 @@ abbrev pub NamesTarget : BoardValue → FwCall → Effect → Type 0
 NamesTarget b call f = (caller : ℕ) (asked : PowerOn) → f ≡ AsksOn caller asked
     → core_asked b call ≡ Some (target asked)
 
-enters_none : (c : ℕ) (s : Start) (act : Act) (m : Option MessageValue) (caller : ℕ)
-    (asked : PowerOn) → enter_effect c s act m ≡ AsksOn caller asked → ⊥
-enters_none c s act m caller asked e = grind (arith, nat_tests)
-
 pub names_target : (b : BoardValue) (v : Values) (c : ℕ) (call : FwCall) (reply : FwReply)
     → AreNamed b → reply ≡ answer b v c call → NamesTarget b call (effect_of b c call reply)
-names_target b v c (calls.Smc regs) reply law e caller asked is =
-    let by = law v c caller regs asked (ap (effect_of b c (calls.Smc regs)) (sym e) ∙ is) in
-    ap (named_in b) by.2 ∙ ap (option_map (λ (x : Core). x.number)) by.1
-names_target b v c (calls.Enter s) (replies.Out o) law e caller asked is =
-    absurd (enters_none c s o.act o.message caller asked is)
-names_target b v c (calls.Take a) (replies.Taken Used) law e caller asked is = absurd (cc)
-names_target b v c call reply law e caller asked is = absurd (cc)
+names_target b v c call reply law e caller asked is = grind (arith, nat_tests)
 
 -- What a call made -----------------------------------------------------------------------------
 

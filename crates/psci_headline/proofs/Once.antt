@@ -1,50 +1,26 @@
 -- Entries take up openings, each one of its own, where the tests say so.
 use Rattle.std.proofs.Common.{slice_get}
 use Rattle.std.proofs.lemmas.Bool.{both_ways, not-true}
-use Rattle.psci_headline.proofs.Words.{◌&&◌, ◌==◌, ◌↔◌, ◌∙◌, ◌∷◌, ◌≡◌, [], and_from, and_parts, ap}
+use Rattle.psci_headline.proofs.Words.{◌&&◌, ◌↔◌, ◌∙◌, ◌∷◌, ◌≡◌, [], and_from, and_parts, ap}
 use Rattle.psci_headline.proofs.Words.{AreTakenUp, arith, BoardValue, cases_Bool, eq-eqb, eqb-true}
 use Rattle.psci_headline.proofs.Words.{firmware_history, Fits, inl, inr, is_each_once, is_each_open}
-use Rattle.psci_headline.proofs.Words.{List, list_all, Made, nat_tests, None, not, not_from_false}
-use Rattle.psci_headline.proofs.Words.{Opening, Option, Record, refl, Some, suc, sym, TakenUp, true}
-use Rattle.psci_headline.proofs.Words.{zero, ℕ}
+use Rattle.psci_headline.proofs.Words.{List, list_all, Made, nat_tests, not, not_from_false, Option}
+use Rattle.psci_headline.proofs.Words.{Record, refl, Some, suc, sym, TakenUp, true, zero, ℕ}
 use Rattle.psci_headline.specs.Openings.{taken_up}
 use Rattle.psci_headline.specs.Test.{are_apart, is_fitting, is_same_made}
 use Rattle.psci_headline.proofs.Ranges.{all_items, each_item}
 
 -- One entry -----------------------------------------------------------------------------------
 
-opening_same : (o p : Opening) → (o.address == p.address && o.context == p.context) ≡ true → o ≡ p
-opening_same o p e = grind (arith, nat_tests, and_parts, eqb-true)
-
-opening_itself : (o p : Opening) → o ≡ p
-    → (o.address == p.address && o.context == p.context) ≡ true
-opening_itself o p same = grind (arith, nat_tests, and_from, eq-eqb)
-
 -- an opening that fits
 abbrev HasFit : TakenUp → Type 0
 HasFit t = (m : Made) × (t.made ≡ Some m) × Fits t m
 
 fits : (t : TakenUp) (o : Option Made) → t.made ≡ o → is_fitting t.entered o ≡ true → HasFit t
-fits t None is e = absurd (cc)
-fits t (Some m) is e =
-    let both = and_parts (m.core == t.entered.core && m.life == t.entered.life) _ e in
-    let own = and_parts (m.core == t.entered.core) (m.life == t.entered.life) both.0 in (
-      m,
-      is,
-      record {
-        core = eqb-true m.core t.entered.core own.0;
-        life = eqb-true m.life t.entered.life own.1;
-        opening = opening_same m.opening t.entered.opening both.1;
-      },
-    )
+fits t o is e = grind (arith, nat_tests, and_parts, eqb-true)
 
 fitting : (t : TakenUp) → HasFit t → is_fitting t.entered t.made ≡ true
-fitting t (m, is, f) =
-    ap (is_fitting t.entered) is
-    ∙ and_from (m.core == t.entered.core && m.life == t.entered.life) _
-    (and_from (m.core == t.entered.core) (m.life == t.entered.life)
-    (eq-eqb m.core t.entered.core f.core) (eq-eqb m.life t.entered.life f.life))
-    (opening_itself m.opening t.entered.opening f.opening)
+fitting t x1 = grind (arith, nat_tests, and_from, eq-eqb)
 
 -- No two --------------------------------------------------------------------------------------
 
@@ -108,8 +84,7 @@ pub entries_tested : (b : BoardValue) (past : List Record)
     ↔ AreTakenUp b (firmware_history b past)
 entries_tested b past = (
   (λ e. let both = and_parts (is_each_open b past) (is_each_once b past) e in record {
-    each = λ k t at. fits t t.made refl
-        (each_item (λ t. is_fitting t.entered t.made) (ups b past) k t both.0 at);
+    each = λ k t at. grind (arith, nat_tests, fits, each_item);
     once = once (ups b past) both.1;
   }),
   λ h. and_from (is_each_open b past) (is_each_once b past)

@@ -1,12 +1,10 @@
 -- What a legal outcome sends is what its effect says was sent.
-use Rattle.psci_headline.proofs.Words.{◌≡◌, arith, BoardValue, Bool, Code, cond, enter_effect}
-use Rattle.psci_headline.proofs.Words.{false, function_effect, function_ends, FwFault, GoesOn}
-use Rattle.psci_headline.proofs.Words.{int_eq, MessageValue, mode_effect, mode_of, nat_tests, None}
-use Rattle.psci_headline.proofs.Words.{Opening, Option, Outcome, outcome_at, outcome_ends}
-use Rattle.psci_headline.proofs.Words.{outcome_of, refl, reply_or, Request, Some, Start, stops_with}
-use Rattle.psci_headline.proofs.Words.{subst, success, SuspendMode, sym, true, Values, ℕ}
+use Rattle.psci_headline.proofs.Words.{◌≡◌, arith, BoardValue, Code, enter_effect, function_effect}
+use Rattle.psci_headline.proofs.Words.{function_ends, FwFault, MessageValue, nat_tests, Option}
+use Rattle.psci_headline.proofs.Words.{Outcome, outcome_ends, outcome_of, refl, reply_or, Request}
+use Rattle.psci_headline.proofs.Words.{Start, Values, ℕ}
+use Rattle.psci_fw_laws.specs.psci_fw_spec.Outcomes.{stops_with, returns}
 use Rattle.psci_fw_laws.specs.psci_fw_spec.Entering.{enter_outcome}
-use Rattle.psci_fw_laws.specs.psci_fw_spec.Outcomes.{returns}
 use Rattle.psci_fw_laws.proofs.fw_spec.Endings.{starts_with}
 use Rattle.psci_world_spec.specs.psci_abi.declared.request.Request.TheVariants as requests
 use Rattle.psci_fw_laws.specs.psci_fw_spec.declared.reply.FwReply.TheVariants as replies
@@ -18,27 +16,15 @@ use Rattle.psci_fw_laws.specs.psci_fw_spec.Said as says
 abbrev pub Sends : BoardValue → ℕ → Request → Outcome → Type 0
 Sends b c r o = says.sent (function_effect b c r o.act o.message) ≡ o.message
 
-mode_sends : (c number : ℕ) (t : Bool)
-    → says.sent (cond t (mode_effect c (mode_of number)) (GoesOn c)) ≡ None
-mode_sends c number false = refl
-mode_sends c number true = by_mode (mode_of number)
-  where
-    by_mode : (o : Option SuspendMode) → says.sent (mode_effect c o) ≡ None
-    by_mode None = refl
-    by_mode (Some mode) = refl
-
 returned : (b : BoardValue) (c : ℕ) (r : Request) (code : Code) → Sends b c r (returns code)
-returned b c (requests.SetSuspendMode number) code = mode_sends c number (int_eq code.0 success.0)
-returned b c r code = refl
+returned b c r code = grind (arith, nat_tests)
 
 stopped : (b : BoardValue) (c : ℕ) (r : Request) (m : MessageValue) → Sends b c r (stops_with m)
-stopped b c requests.Version m = refl
-stopped b c r m = refl
+stopped b c r m = grind (arith, nat_tests)
 
 asked_on : (b : BoardValue) (c word entry_point context : ℕ) (r : Request) (m : MessageValue)
     → r ≡ requests.CpuOn word entry_point context → Sends b c r (starts_with m)
-asked_on b c word entry_point context r m is =
-    subst (λ q. Sends b c q (starts_with m)) (sym is) refl
+asked_on b c word entry_point context r m is = grind (arith, nat_tests, starts_with)
 
 outcome_sends : (b : BoardValue) (v : Values) (c : ℕ) (r : Request)
     → Sends b c r (outcome_of b v c r)
@@ -58,14 +44,10 @@ call_sends b v c r o f e = grind (arith, nat_tests, outcome_sends)
 abbrev pub EnterSends : ℕ → Start → Outcome → Type 0
 EnterSends c s o = says.sent (enter_effect c s o.act o.message) ≡ o.message
 
-opened : (b : BoardValue) (found arrived : Values) (c : ℕ) (s : Start) (o : Option Opening)
-    → EnterSends c s (outcome_at b found arrived c s o)
-opened b found arrived c s o = grind (arith, nat_tests)
-
 entry_sends : (b : BoardValue) (v : Values) (c : ℕ) (s : Start)
     → EnterSends c s (enter_outcome b v c s)
 unfolding enter_outcome
-entry_sends b v c s = grind (arith, nat_tests, opened)
+entry_sends b v c s = grind (arith, nat_tests)
 
 -- the outcome of an entry that is not refused
 pub enter_sends : (b : BoardValue) (v : Values) (c : ℕ) (s : Start) (o : Outcome)

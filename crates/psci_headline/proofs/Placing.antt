@@ -2,10 +2,9 @@
 -- acknowledgement is taken.
 use Rattle.psci_headline.proofs.Words.{◌<◌, ◌==◌, ◌≡◌, Act, AgreeIn, arith, BoardValue, cases_eq}
 use Rattle.psci_headline.proofs.Words.{change, cond, cores, Effect, enter_effect, eqb-false}
-use Rattle.psci_headline.proofs.Words.{eqb-true, executes_on, found_life, in_life, is_running}
-use Rattle.psci_headline.proofs.Words.{IsAllowed, last_start, MessageValue, nat_tests, None, Option}
-use Rattle.psci_headline.proofs.Words.{Phase, Place, place_after, refl, Running, Some, Start}
-use Rattle.psci_headline.proofs.Words.{Stopped, true, unwrap_or, Values, ℕ}
+use Rattle.psci_headline.proofs.Words.{eqb-true, executes_on, found_life, in_life, IsAllowed}
+use Rattle.psci_headline.proofs.Words.{last_start, MessageValue, nat_tests, None, Option, Place}
+use Rattle.psci_headline.proofs.Words.{place_after, Running, Some, Start, unwrap_or, Values, ℕ}
 use Rattle.psci_headline.proofs.Agreeing.{AreAgreed, found_other, found_own}
 use Rattle.psci_headline.proofs.Moving.{CallerLaws, IsCallOf, IsMoved, call_moves, entry_moves}
 use Rattle.psci_headline.proofs.Moving.{runs_on}
@@ -13,10 +12,6 @@ use Rattle.psci_ctl_spec.specs.Values as controlled
 use Rattle.psci_fw_laws.specs.psci_fw_spec.Phases as phases
 
 -- Phases and places ----------------------------------------------------------------------------
-
-running : (p : Phase) → is_running p ≡ true → p ≡ phases.Running
-running phases.Running e = refl
-running p e = absurd (cc)
 
 -- the places after an act of a core
 abbrev pub acted : (ℕ → Place) → ℕ → Act → ℕ → Place
@@ -28,8 +23,7 @@ acted place c act x = unwrap_or (cond (x == c) (Some (place_after act)) None) (p
 moved : (b : BoardValue) (starts : ℕ → ℕ) (place : ℕ → Place) (v w : Values) (c : ℕ) (act : Act)
     → AgreeIn b starts place v → IsMoved v w c (starts c) (executes_on act)
     → AgreeIn b starts (acted place c act) w
-moved b starts place v w c act h m =
-    grind (arith, nat_tests, cases_eq, running, eqb-true, eqb-false)
+moved b starts place v w c act h m = grind (arith, nat_tests, cases_eq, eqb-true, eqb-false)
 
 -- Calls ----------------------------------------------------------------------------------------
 
@@ -38,28 +32,12 @@ pub own_life : (b : BoardValue) (life : ℕ) (v : Values) (c : ℕ)
     → (in_life b life v).phase c ≡ phases.Running → life ≡ v.life
 own_life b life v c runs = grind (arith, nat_tests, cases_eq, found_other)
 
--- what a running core's call leaves
-called_in : (b : BoardValue) (starts : ℕ → ℕ) (place : ℕ → Place) (v w : Values) (c life : ℕ)
-    (act : Act) → c < cores b → place c ≡ Running → IsMoved v w c (v.known c) (executes_on act)
-    → AgreeIn b starts place (in_life b life v)
-    → AgreeIn b starts (acted place c act) (in_life b life w)
-called_in b starts place v w c life act on at m h =
-    grind (arith, nat_tests, own_life, found_own, cases_eq, moved)
-
 pub call_agrees : (b : BoardValue) (u : controlled.Values) (place : ℕ → Place) (v : Values)
     (c : ℕ) (act : Act) (e : Effect) → CallerLaws b → c < cores b → place c ≡ Running
     → IsCallOf e c (executes_on act) → IsAllowed b v e → AreAgreed b u place v
     → AreAgreed b u (acted place c act) (change b e v)
 call_agrees b u place v c act e laws on at is allowed h =
-    let w : Values = change b e v in
-    let m : IsMoved v w c (v.known c) (executes_on act) =
-    grind (arith, nat_tests, runs_on, call_moves) in
-    record {
-      begun = λ life f. omega (arith, h.begun life f, m.life);
-      stopped = λ f. let stops : place c ≡ Stopped = h.stopped f c in absurd (cc);
-      present = λ life f.
-          called_in b u.starts place v w c life act on at m (h.present life f);
-    }
+    grind (arith, nat_tests, runs_on, call_moves, own_life, found_own, cases_eq, moved)
 
 -- Entries --------------------------------------------------------------------------------------
 

@@ -1,10 +1,10 @@
 -- What waits, after what the firmware's calls and entries change.
 use Rattle.psci_headline.proofs.Words.{◌++◌, ◌<◌, ◌∙◌, ◌∷◌, ◌≡◌, ◌⊎◌, AckValue, ap, AreWaiting}
-use Rattle.psci_headline.proofs.Words.{AwaitsStart, BoardValue, Bool, cases_eq, changed, Clear}
-use Rattle.psci_headline.proofs.Words.{cores, Down, false, inl, inr, IsLivePart, List, listed}
-use Rattle.psci_headline.proofs.Words.{MessageValue, None, OfCore, OfSystem, Option, Part, Pending}
-use Rattle.psci_headline.proofs.Words.{Phase, Put, slice_get, Slot, slot_of, Some, subst, sym, true}
-use Rattle.psci_headline.proofs.Words.{up, updated, ℕ}
+use Rattle.psci_headline.proofs.Words.{arith, AwaitsStart, BoardValue, Bool, cases_eq, changed}
+use Rattle.psci_headline.proofs.Words.{Clear, cores, Down, false, inl, inr, IsLivePart, List}
+use Rattle.psci_headline.proofs.Words.{listed, MessageValue, nat_tests, OfCore, OfSystem, Option}
+use Rattle.psci_headline.proofs.Words.{Part, Pending, Phase, Put, slice_get, Slot, slot_of, Some}
+use Rattle.psci_headline.proofs.Words.{subst, sym, true, up, updated, ℕ}
 use Rattle.psci_ctl_spec.specs.psci_messages.declared.kind.Kind.TheVariants.{Start}
 use Rattle.psci_headline.proofs.fw_laws.Parts.{updated_at, updated_here, updated_there}
 use Rattle.psci_headline.proofs.Items.{listed_later, of_newest}
@@ -27,18 +27,13 @@ module _ {b : BoardValue} {life : ℕ} {starts : ℕ → ℕ} {depth : ℕ → �
       → m.kind ≡ Down → slice_get m.parts level ≡ Some p → IsLivePart b starts m level p
       → Waits phase outstanding m
       → (depth level (up b level m.core.number) ≡ p.depth) ⊎ Waits new slots m)
-      → ((m : MessageValue) → o ≡ Some m → m.kind ≡ Down
+      → ((m : MessageValue) → o ≡ Some m → m.life ≡ life → m.kind ≡ Down
       → slots (OfCore m.core.number) ≡ Some m)
       → (halts ≡ false → (x : ℕ) → x < cores b → new x ≡ Pending → starts x ≡ knows x
       → AwaitsStart slots x)
       → AreWaiting b life starts depth halts knows new slots (listed o ++ sent) made
   waiting_moved halts knows new slots o keeps sends asks = record {
-    pursued = λ k m at present kind level p part live.
-        of_newest o sent k m (λ is. inr (inl (sends m is kind)))
-        (λ j old. elim (are.pursued j m old present kind level p part live) [
-          | inl deep ↦ inl deep
-          | inr waits ↦ keeps j level m p old present kind part live waits
-        ]) at;
+    pursued = λ k m at present kind level p part live. grind (arith, nat_tests, of_newest);
     first = are.first;
     asked = asks;
     named = λ k a at.
@@ -51,28 +46,22 @@ module _ {b : BoardValue} {life : ℕ} {starts : ℕ → ℕ} {depth : ℕ → �
         record { index = on.index; message = t.message; at = on.at; told = t.told };
   }
 
+  -- a message of another life was sent
+  pub waiting_other : (o : Option MessageValue)
+      → ((m : MessageValue) → o ≡ Some m → m.life ≡ life → ⊥)
+      → AreWaiting b life starts depth halting known phase outstanding (listed o ++ sent) made
+  waiting_other o other = grind (arith, nat_tests, waiting_moved)
+
   -- a core that waits for its Start waits in these slots too
   waits_still : (slots : Slot → Option MessageValue) (x : ℕ) → AwaitsStart outstanding x
       → slots (OfCore x) ≡ outstanding (OfCore x) → AwaitsStart slots x
-  waits_still slots x old same =
-      record { message = old.message; at = same ∙ old.at; kind = old.kind }
+  waits_still slots x old same = grind (arith, nat_tests)
 
   -- a core is of another phase, and as pending as before
   pub waiting_phase : (c : ℕ) (new : Phase) → (phase c ≡ Pending → new ≡ Pending)
       → (new ≡ Pending → phase c ≡ Pending)
       → AreWaiting b life starts depth halting known (updated phase c new) outstanding sent made
-  waiting_phase c new stays back =
-      waiting_moved halting known (updated phase c new) outstanding None
-      (λ k level m p at present kind part live waits. inr (elim waits [
-        | inl out ↦ inl out
-        | inr pending ↦
-            inr (updated_at (λ y. y ≡ Pending) phase c new m.core.number
-            (λ here. stays (ap phase (sym here) ∙ pending)) (λ there. pending))
-      ]))
-      (λ m none. absurd (cc))
-      (λ awake x on waits same. are.asked awake x on
-      (updated_at (λ y. y ≡ Pending → phase x ≡ Pending) phase c new x
-      (λ here w. ap phase here ∙ back w) (λ there w. w) waits) same)
+  waiting_phase c new stays back = grind (arith, nat_tests, waiting_moved, updated_at)
 
   -- the life is halting, and a message for the system was sent
   pub waiting_halt : (m : MessageValue) → slot_of m.kind m.core ≡ OfSystem → (m.kind ≡ Down → ⊥)
@@ -84,7 +73,7 @@ module _ {b : BoardValue} {life : ℕ} {starts : ℕ → ℕ} {depth : ℕ → �
         | inl out ↦ inl (put_system outstanding m n.core.number slot ∙ out)
         | inr pending ↦ inr pending
       ]))
-      (λ n is kind. let same : m ≡ n = cc in
+      (λ n is own kind. let same : m ≡ n = cc in
       absurd (other (ap (λ (y : MessageValue). y.kind) same ∙ kind)))
       (λ awake. absurd (cc))
 
@@ -97,12 +86,10 @@ module _ {b : BoardValue} {life : ℕ} {starts : ℕ → ℕ} {depth : ℕ → �
   waiting_core m c slot own none rests =
       waiting_moved halting known phase new (Some m)
       (λ k level n p at present kind part live waits. inr (elim waits [
-        | inl out ↦
-            inl (put_there outstanding m c n.core.number slot
-            (λ here. none k level n p at present kind here part live) ∙ out)
+        | inl out ↦ grind (arith, nat_tests, put_there)
         | inr pending ↦ inr pending
       ]))
-      (λ n is kind. let same : m ≡ n = cc in
+      (λ n is of kind. let same : m ≡ n = cc in
       subst (λ y. new (OfCore y.core.number) ≡ Some y) same
       (put_here outstanding m m.core.number (slot ∙ ap OfCore (sym own))))
       (λ awake x on waits same. waits_still new x (are.asked awake x on waits same)
@@ -127,7 +114,7 @@ module _ {b : BoardValue} {life : ℕ} {starts : ℕ → ℕ} {depth : ℕ → �
           | inr pending ↦ inr (updated_there phase c Pending n.core.number there ∙ pending)
         ]
       ]))
-      (λ n is down. let same : m ≡ n = cc in
+      (λ n is own down. let same : m ≡ n = cc in
       let no : Start ≡ Down = sym kind ∙ ap (λ (y : MessageValue). y.kind) same ∙ down in
       absurd (cc))
       (λ awake x on waits same. elim (cases_eq x c) [
@@ -136,10 +123,7 @@ module _ {b : BoardValue} {life : ℕ} {starts : ℕ → ℕ} {depth : ℕ → �
           at = subst (λ y. now (OfCore y) ≡ Some m) (sym here) (put_here outstanding m c slot);
           kind = kind;
         }
-        | inr there ↦
-            waits_still now x
-            (are.asked awake x on (sym (updated_there phase c Pending x there) ∙ waits) same)
-            (put_there outstanding m c x slot there)
+        | inr there ↦ grind (arith, nat_tests, waits_still, now, updated_there, put_there)
       ])
     where
       now : Slot → Option MessageValue
@@ -151,22 +135,13 @@ module _ {b : BoardValue} {life : ℕ} {starts : ℕ → ℕ} {depth : ℕ → �
       → AreWaiting b life starts depth halting (updated known c n) (updated phase c new)
       (λ slot. changed slot (Clear (record { number = c })) (outstanding slot)) sent made
   waiting_arrival c n new none rests =
-      waiting_moved halting (updated known c n) (updated phase c new) slots None
-      (λ k level m p at present kind part live waits.
-      let there = λ (here : m.core.number ≡ c). none k level m p at present kind here part live in
-      inr (elim waits [
-        | inl out ↦ inl (clear_there outstanding c m.core.number there ∙ out)
-        | inr pending ↦ inr (updated_there phase c new m.core.number there ∙ pending)
-      ]))
-      (λ m is. absurd (cc))
-      (λ awake x on waits same. elim (cases_eq x c) [
-        | inl here ↦ absurd (rests awake
-            (sym (updated_here phase c new) ∙ ap (updated phase c new) (sym here) ∙ waits))
-        | inr there ↦
-            waits_still slots x
-            (are.asked awake x on (sym (updated_there phase c new x there) ∙ waits)
-            (same ∙ updated_there known c n x there)) (clear_there outstanding c x there)
-      ])
-    where
-      slots : Slot → Option MessageValue
-      slots = λ slot. changed slot (Clear (record { number = c })) (outstanding slot)
+      grind (
+        arith,
+        nat_tests,
+        waiting_moved,
+        clear_there,
+        updated_there,
+        cases_eq,
+        updated_here,
+        waits_still,
+      )

@@ -1,9 +1,8 @@
 -- What passes at each number of a range, or at each item of a list, and the other way round.
 use Rattle.std.proofs.Common.{slice_get}
-use Rattle.psci_headline.proofs.Words.{◌+◌, ◌<◌, ◌||◌, ◌∙◌, ◌∷◌, ◌≡◌, ◌≤◌, [], and_from, and_parts}
-use Rattle.psci_headline.proofs.Words.{ap, arith, Bool, cases_eq, false, inl, inr, List, list_all}
-use Rattle.psci_headline.proofs.Words.{not, range_with_len, refl, Some, suc, sym, true, true≢false}
-use Rattle.psci_headline.proofs.Words.{zero, ℕ}
+use Rattle.psci_headline.proofs.Words.{◌+◌, ◌<◌, ◌||◌, ◌∷◌, ◌≡◌, ◌≤◌, [], and_from, and_parts}
+use Rattle.psci_headline.proofs.Words.{arith, Bool, cases_eq, List, list_all, nat_tests, not}
+use Rattle.psci_headline.proofs.Words.{range_with_len, refl, Some, suc, true, true≢false, zero, ℕ}
 
 -- Numbers -------------------------------------------------------------------------------------
 
@@ -11,27 +10,19 @@ pub each_in : (p : ℕ → Bool) (a n k : ℕ) → list_all p (range_with_len a 
     → k < a + n → p k ≡ true
 each_in p a zero k e low high = absurd (omega arith)
 each_in p a (suc n) k e low high =
-    let parts = and_parts (p a) (list_all p (range_with_len (a + 1) n)) e in
-    elim (cases_eq a k) [
-      | inl same ↦ ap p (sym same) ∙ parts.0
-      | inr other ↦ each_in p (a + 1) n k parts.1 (omega (arith, other)) (omega arith)
-    ]
+    grind (arith, nat_tests, and_parts, cases_eq, each_in p (a + 1) n k)
 
 pub all_in : (p : ℕ → Bool) (a n : ℕ) → ((k : ℕ) → a ≤ k → k < a + n → p k ≡ true)
     → list_all p (range_with_len a n) ≡ true
 all_in p a zero h = refl
-all_in p a (suc n) h =
-    and_from (p a) (list_all p (range_with_len (a + 1) n)) (h a (omega arith) (omega arith))
-    (all_in p (a + 1) n (λ k low high. h k (omega arith) (omega arith)))
+all_in p a (suc n) h = grind (arith, nat_tests, and_from, all_in p (a + 1) n)
 
 -- Items ---------------------------------------------------------------------------------------
 
 pub each_item : {A : Type 0} (p : A → Bool) (xs : List A) (k : ℕ) (x : A)
     → list_all p xs ≡ true → slice_get xs k ≡ Some x → p x ≡ true
 each_item p [] k x e at = absurd (cc)
-each_item p (y ∷ ys) zero x e at =
-    let same : y ≡ x = cc in
-    ap p (sym same) ∙ (and_parts (p y) (list_all p ys) e).0
+each_item p (y ∷ ys) zero x e at = grind (arith, nat_tests, and_parts)
 each_item p (y ∷ ys) (suc k) x e at =
     each_item p ys k x (and_parts (p y) (list_all p ys) e).1 at
 
@@ -44,9 +35,7 @@ all_items p (y ∷ ys) h =
 -- One test where another holds ----------------------------------------------------------------
 
 pub where_holds : (x y : Bool) → (not x || y) ≡ true → x ≡ true → y ≡ true
-where_holds true y e h = e
-where_holds false y e h = absurd (true≢false (sym h))
+where_holds x y e h = grind (arith, nat_tests, true≢false)
 
 pub if_holds : (x y : Bool) → (x ≡ true → y ≡ true) → (not x || y) ≡ true
-if_holds true y h = h refl
-if_holds false y h = refl
+if_holds x y h = grind (arith, nat_tests)

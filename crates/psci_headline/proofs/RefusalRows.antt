@@ -1,22 +1,23 @@
 -- Worked examples: a run in which no core at its place is refused, and records after which one is.
-use Rattle.std.proofs.Common.{◌≡◌, ◌<◌, ℕ, zero, suc, List, [], ◌∷◌, None, Some, refl}
-use Rattle.std.proofs.Common.{arith, ap, ◌∙◌}
+use Rattle.std.proofs.Common.{◌≡◌, ◌<◌, ℕ, List, [], ◌∷◌, None, Some, refl, arith}
 use Rattle.std.proofs.lemmas.Option.{same_Some}
+use Rattle.std.proofs.lemmas.Bool.Decides.{nat_tests}
 use Rattle.psci_board.specs.Board.{cores}
 use Rattle.psci_ctl_spec.specs.psci_messages.declared.start.Cause.TheVariants as causes
 use Rattle.psci_ctl_spec.specs.psci_messages.declared.start.Start.{Start}
 use Rattle.psci_ctl_spec.specs.Replies.{last_start}
-use Rattle.psci_fw_laws.specs.psci_fw_spec.declared.fault.FwFault.TheVariants.{NoLife, NotRunning}
+use Rattle.psci_fw_laws.specs.psci_fw_spec.declared.fault.FwFault.TheVariants.{NotRunning}
 use Rattle.psci_fw_laws.specs.psci_fw_spec.Calls.{call_fault}
 use Rattle.psci_fw_laws.specs.psci_fw_spec.Entering.{enter_fault}
 use Rattle.psci_world_spec.specs.declared.event.Event.TheVariants.{Enter, Wake, Deliver}
-use Rattle.psci_world_spec.specs.declared.place.Place.TheVariants.{Started, Running, Stopped}
+use Rattle.psci_world_spec.specs.declared.place.Place.TheVariants.{Started, Running}
 use Rattle.psci_world_spec.specs.declared.said.Record.{Record}
 use Rattle.psci_world_spec.specs.Histories.{controller_values, firmware_values}
 use Rattle.psci_world_spec.specs.Legal.{run_from}
 use Rattle.psci_world_spec.specs.Places.{place}
 use Rattle.psci_world_spec.proofs.Scripts.{board, computing, enters, limited, started, system_off}
 use Rattle.psci_headline.specs.Refusals.{NoneRefused}
+use Rattle.psci_headline.proofs.Checking.{by_core}
 
 -- Not refused ----------------------------------------------------------------------------------
 
@@ -27,24 +28,14 @@ woken = run_from board [] (Enter 0 ∷ Wake 3 ∷ [])
 calls : (c : ℕ) → c < cores board → place board woken c ≡ Running
     → call_fault board (firmware_values board woken) c ≡ None
 unfolding computing
-calls zero on runs = refl
-calls (suc zero) on runs = let no : Stopped ≡ Running = runs in absurd (cc)
-calls (suc (suc zero)) on runs = let no : Stopped ≡ Running = runs in absurd (cc)
-calls (suc (suc (suc zero))) on runs = let no : Started ≡ Running = runs in absurd (cc)
-calls (suc (suc (suc (suc c)))) on runs =
-    let no : suc (suc (suc (suc c))) < 4 = on in absurd (omega (arith, no))
+calls = by_core _ (grind arith) (grind arith) (grind arith) (grind arith)
 
 enters_at : (c : ℕ) → c < cores board → place board woken c ≡ Started
     → (s : Start) × (last_start (controller_values board woken) c ≡ Some s)
     × (enter_fault board (firmware_values board woken) c s ≡ None)
 unfolding computing
-enters_at zero on waits = let no : Running ≡ Started = waits in absurd (cc)
-enters_at (suc zero) on waits = let no : Stopped ≡ Started = waits in absurd (cc)
-enters_at (suc (suc zero)) on waits = let no : Stopped ≡ Started = waits in absurd (cc)
-enters_at (suc (suc (suc zero))) on waits =
-    (record { life = 1; number = 1; cause = causes.Wake }, refl, refl)
-enters_at (suc (suc (suc (suc c)))) on waits =
-    let no : suc (suc (suc (suc c))) < 4 = on in absurd (omega (arith, no))
+enters_at = by_core _ (λ waits. absurd (cc)) (λ waits. absurd (cc)) (λ waits. absurd (cc))
+    (λ waits. (record { life = 1; number = 1; cause = causes.Wake }, refl, refl))
 
 none_refused : NoneRefused board woken
 none_refused = record { calls = calls; enters = enters_at }
@@ -69,11 +60,4 @@ no_start h =
 -- where the board has no lives the first start is refused
 refused_entry : NoneRefused (limited 1000 0) [] → ⊥
 unfolding computing
-refused_entry h =
-    let enter = h.enters 0 (omega arith) refl in
-    let same : Some (record { life = 1; number = 1; cause = causes.Boot }) ≡ Some enter.0 =
-    enter.1 in
-    let no : Some NoLife ≡ None =
-    ap (enter_fault (limited 1000 0) (firmware_values (limited 1000 0) []) 0)
-    (same_Some _ enter.0 same) ∙ enter.2 in
-    absurd (cc)
+refused_entry h = grind (arith, nat_tests, same_Some)

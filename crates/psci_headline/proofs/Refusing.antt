@@ -2,10 +2,9 @@
 use Rattle.std.proofs.lemmas.Bool.{and_left, le-ltb, lt-leb, or_from}
 use Rattle.psci_headline.proofs.Words.{◌<◌, ◌==◌, ◌∙◌, ◌≡◌, ◌≤◌, and_right, ap, arith, BoardValue}
 use Rattle.psci_headline.proofs.Words.{Bool, call_fault, cases_eq, cond, cond-false, cores}
-use Rattle.psci_headline.proofs.Words.{enter_fault, false, in_life, is_running, last_start, lt-ltb}
-use Rattle.psci_headline.proofs.Words.{nat_lt, nat_tests, ne_eqb, None, not, Option, Place, refl}
-use Rattle.psci_headline.proofs.Words.{Running, Some, Start, Started, Stopped, subst, sym, true}
-use Rattle.psci_headline.proofs.Words.{Values, ℕ}
+use Rattle.psci_headline.proofs.Words.{enter_fault, false, in_life, last_start, lt-ltb, nat_lt}
+use Rattle.psci_headline.proofs.Words.{nat_tests, ne_eqb, None, not, Option, Place, Running, Some}
+use Rattle.psci_headline.proofs.Words.{Start, Started, Stopped, subst, true, Values, ℕ}
 use Rattle.psci_ctl_spec.specs.Replies.{start_shown}
 use Rattle.psci_headline.proofs.Agreeing.{AreAgreed, found_own}
 use Rattle.psci_headline.proofs.Placing.{own_life}
@@ -29,10 +28,7 @@ call_passes : (absent lifeless runs : Bool) → absent ≡ false → lifeless �
     → cond absent (Some faults.NoCore) (cond lifeless (Some faults.NoLife)
     (cond runs None (Some faults.NotRunning)))
     ≡ None
-call_passes true lifeless runs e f g = absurd (cc)
-call_passes false true runs e f g = absurd (cc)
-call_passes false false true e f g = refl
-call_passes false false false e f g = absurd (cc)
+call_passes absent lifeless runs e f g = grind (arith, nat_tests)
 
 -- a core of the board is there
 there : (b : BoardValue) (c : ℕ) → c < cores b → not (nat_lt c (cores b)) ≡ false
@@ -42,15 +38,11 @@ pub call_passed : (b : BoardValue) (u : controlled.Values) (place : ℕ → Plac
     (c : ℕ) → controlling.AreValues b u → AreAgreed b u place v → c < cores b
     → place c ≡ Running → call_fault b v c ≡ None
 call_passed b u place v c are h on at =
-    let is : IsAlive u = alive b u place v c h
-    (λ e. let no : Running ≡ Stopped = sym at ∙ e in cc) in
-    let runs : (in_life b is.life v).phase c ≡ phases.Running =
-    (h.present is.life is.is).runs c on at in
+    let is : IsAlive u = grind (arith, nat_tests, alive) in
+    let runs : (in_life b is.life v).phase c ≡ phases.Running = grind (arith, nat_tests) in
     let own : is.life ≡ v.life = own_life b is.life v c runs in
     let now : v.phase c ≡ phases.Running = grind (arith, nat_tests, found_own) in
-    call_passes (not (nat_lt c (cores b))) (v.life == 0) (is_running (v.phase c)) (there b c on)
-    (ne_eqb v.life 0 (λ e. omega (arith, e, own, are.first is.life is.is)))
-    (ap is_running now)
+    grind (arith, nat_tests, call_passes, there, ne_eqb)
 
 -- Entries --------------------------------------------------------------------------------------
 
@@ -73,10 +65,8 @@ pub enter_passed : (b : BoardValue) (u : controlled.Values) (place : ℕ → Pla
     → place c ≡ Started
     → (s : Start) × (last_start u c ≡ Some s) × (enter_fault b v c s ≡ None)
 enter_passed b u place v c are h on at =
-    let is : IsAlive u = alive b u place v c h
-    (λ e. let no : Started ≡ Stopped = sym at ∙ e in cc) in
-    let waits : (in_life b is.life v).known c < u.starts c =
-    (h.present is.life is.is).waits c on at in
+    let is : IsAlive u = grind (arith, nat_tests, alive) in
+    let waits : (in_life b is.life v).known c < u.starts c = grind (arith, nat_tests) in
     let s : Start = record { life = is.life; number = u.starts c; cause = u.cause c } in
     let last : last_start u c ≡ Some s =
     ap (λ (o : Option ℕ). start_shown o (u.starts c) (u.cause c)) is.is

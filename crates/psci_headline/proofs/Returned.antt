@@ -1,11 +1,10 @@
 -- What a record says that a call returned is what its function answers, in a life.
-use Rattle.psci_headline.proofs.Words.{◌++◌, ◌<◌, ◌==◌, ◌∙◌, ◌≡◌, acks, ap, arith, BoardValue, Bool}
-use Rattle.psci_headline.proofs.Words.{Call, call, call_fault, Code, cond, controller_values, Event}
-use Rattle.psci_headline.proofs.Words.{false, firmware_history, firmware_values, Fw, FwFault}
-use Rattle.psci_headline.proofs.Words.{IsLegal, List, nat_tests, None, not, Option, Outcome}
-use Rattle.psci_headline.proofs.Words.{outcome_in, Record, refl, Regs, reply_or, Request}
-use Rattle.psci_headline.proofs.Words.{request_of, Said, Sent, Smc, Some, stops, suc, sym, true}
-use Rattle.psci_headline.proofs.Words.{Values, zero, ℕ}
+use Rattle.psci_headline.proofs.Words.{◌++◌, ◌<◌, ◌==◌, ◌≡◌, acks, arith, BoardValue, Bool, Call}
+use Rattle.psci_headline.proofs.Words.{call, call_fault, Code, cond, controller_values, Event}
+use Rattle.psci_headline.proofs.Words.{firmware_history, firmware_values, Fw, FwFault, IsLegal}
+use Rattle.psci_headline.proofs.Words.{List, nat_tests, None, not, Option, Outcome, outcome_in}
+use Rattle.psci_headline.proofs.Words.{Record, refl, Regs, reply_or, Request, request_of, Said}
+use Rattle.psci_headline.proofs.Words.{Sent, Smc, Some, Values, ℕ}
 use Rattle.psci_fw_laws.specs.psci_fw_spec.declared.fault.FwFault.TheVariants.{NoCore, NoLife}
 use Rattle.psci_fw_laws.specs.psci_fw_spec.declared.fault.FwFault.TheVariants.{NotRunning}
 use Rattle.psci_fw_laws.specs.psci_fw_spec.Answer.{answer}
@@ -19,28 +18,16 @@ pub record IsReturned (b : BoardValue) (v : Values) (d : ℕ) (r : Request) (cod
   pub begun : 0 < v.life
   pub by : acts.Return code ≡ (function_outcome b v d r).act
 
-by_halting : (b : BoardValue) (v : Values) (d : ℕ) (r : Request) (code : Code) (o : Outcome)
-    (t : Bool) → 0 < v.life → o.act ≡ acts.Return code
-    → o ≡ cond t stops (function_outcome b v d r) → IsReturned b v d r code
-by_halting b v d r code o true begun act is =
-    let no : acts.Return code ≡ acts.Stop = sym act ∙ ap (λ (x : Outcome). x.act) is in
-    absurd (cc)
-by_halting b v d r code o false begun act is =
-    record { begun = begun; by = sym act ∙ ap (λ (x : Outcome). x.act) is }
-
 by_outcome : (b : BoardValue) (v : Values) (d : ℕ) (r : Request) (code : Code) (o : Outcome)
     → 0 < v.life → o.act ≡ acts.Return code → o ≡ outcome_of b v d r → IsReturned b v d r code
 unfolding outcome_of
-by_outcome b v d r code o begun act is = by_halting b v d r code o v.halting begun act is
+by_outcome b v d r code o begun act is = grind (arith, nat_tests)
 
 -- a call that is no fault is made in a life
 some_life : (life : ℕ) (s t u : Bool) → (life == 0) ≡ t
     → cond (not s) (Some NoCore) (cond t (Some NoLife) (cond u None (Some NotRunning))) ≡ None
     → 0 < life
-some_life zero false t u is e = absurd (cc)
-some_life zero true true u is e = absurd (cc)
-some_life zero true false u is e = let no : true ≡ false = is in absurd (cc)
-some_life (suc life) s t u is e = omega arith
+some_life life s t u is e = grind (arith, nat_tests)
 
 by_fault : (b : BoardValue) (v : Values) (d : ℕ) (r : Request) (code : Code) (o : Outcome)
     (f : Option FwFault) → call_fault b v d ≡ f → o.act ≡ acts.Return code
@@ -51,8 +38,7 @@ by_answer : (b : BoardValue) (v : Values) (d : ℕ) (regs : Regs) (code : Code) 
     → o.act ≡ acts.Return code → replies.Out o ≡ answer b v d (Smc regs)
     → IsReturned b v d (request_of regs) code
 unfolding answer
-by_answer b v d regs code o act e =
-    by_fault b v d (request_of regs) code o (call_fault b v d) refl act e
+by_answer b v d regs code o act e = grind (arith, nat_tests, by_fault)
 
 -- the history after a record, whose event says this
 abbrev pub Extended : BoardValue → List Record → Event → Said → Type 0

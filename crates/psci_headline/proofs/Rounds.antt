@@ -1,15 +1,15 @@
 -- One round: what is outstanding for each core is served once.
 use Rattle.psci_headline.proofs.Words.{◌+◌, ◌==◌, ◌∙◌, ◌≡◌, ◌≤◌, ◌⊎◌, ap, arith, BoardValue, Bool}
 use Rattle.psci_headline.proofs.Words.{cond, cond-false, cond-true, controller_values, cores}
-use Rattle.psci_headline.proofs.Words.{deliveries, eq-eqb, false, firmware_values, indexed, inl}
-use Rattle.psci_headline.proofs.Words.{inr, is_any, IsLivePart, List, MessageValue, nat_tests}
-use Rattle.psci_headline.proofs.Words.{ne_eqb, None, none-some, OfCore, Option, Part, Record}
-use Rattle.psci_headline.proofs.Words.{same_Some, sent, served, serving, slice_get, Some, subst}
-use Rattle.psci_headline.proofs.Words.{suc, sym, true, up, ℕ}
+use Rattle.psci_headline.proofs.Words.{deliveries, eq-eqb, firmware_values, indexed, inl, inr}
+use Rattle.psci_headline.proofs.Words.{is_any, IsLivePart, List, MessageValue, nat_tests, ne_eqb}
+use Rattle.psci_headline.proofs.Words.{None, none-some, OfCore, Option, Part, Record, same_Some}
+use Rattle.psci_headline.proofs.Words.{sent, served, serving, slice_get, Some, subst, suc, sym, up}
+use Rattle.psci_headline.proofs.Words.{ℕ}
 use Rattle.psci_headline.proofs.fw_laws.Consequences.{once_down}
 use Rattle.psci_headline.proofs.Claimed.{AreDeep}
 use Rattle.psci_headline.proofs.Downs.{IsDownAnswered, IsLeft, down_answered}
-use Rattle.psci_headline.proofs.Emptying.{answer_case}
+use Rattle.psci_headline.proofs.Serving.{answer_case}
 use Rattle.psci_headline.proofs.Finding.{finds, indexed_at}
 use Rattle.psci_headline.proofs.Folding.{IsStep}
 use Rattle.psci_headline.proofs.Going.{IsGoing, known_now, out_now, waits_now}
@@ -64,8 +64,7 @@ one_index b before life past j k m laws going kind at_j at_k =
     grind (arith, nat_tests, indexed_at, once_down)
 
 count_most : (t : Bool) → cond {A = ℕ} t 1 0 ≤ 1
-count_most true = omega arith
-count_most false = omega arith
+count_most t = grind (arith, nat_tests)
 
 -- A step ---------------------------------------------------------------------------------------
 
@@ -119,31 +118,20 @@ module _ (b : BoardValue) (before : List Record) (life n : ℕ) (first past : Li
   abbrev next : List Record
   next = serving b past (Some k)
 
-  at_first : indexed (sent first) k ≡ Some m
-  at_first = ap (λ l. indexed l k) (sym is.messages) ∙ a.at
-
   -- live parts that have their depth keep it
   deep_kept : (r x : ℕ) → DeepAt b life r x past → DeepAt b life r x next
   deep_kept r x deep = grind (arith, nat_tests, deep_moved)
 
   round_kept : InRound b before life n first next
-  round_kept = record {
-    going = a.going;
-    messages = a.messages ∙ is.messages;
-    starts = a.starts ∙ is.starts;
-    deep = λ x. deep_kept n x (is.deep x);
-  }
+  round_kept = grind (arith, nat_tests, deep_kept)
 
   -- another core's message is not delivered
   same_count : (x j : ℕ) (y : MessageValue) → (x ≡ c → ⊥) → indexed (sent first) j ≡ Some y
       → y.core.number ≡ x → deliveries j next ≡ deliveries j past
-  same_count x j y ne at own = grind (arith, nat_tests, same_Some, at_first, cond-false, ne_eqb)
+  same_count x j y ne at own = grind (arith, nat_tests, same_Some, cond-false, ne_eqb)
 
   todo_kept : (x : ℕ) → (x ≡ c → ⊥) → IsTodo b first x past → IsTodo b first x next
-  todo_kept x ne todo = record {
-    out = a.there x ne ∙ todo.out;
-    count = λ j y at down own. same_count x j y ne at own ∙ todo.count j y at down own;
-  }
+  todo_kept x ne todo = grind (arith, nat_tests, same_count)
 
   done_kept : (x : ℕ) → (x ≡ c → ⊥) → IsDone b life n first x past → IsDone b life n first x next
   done_kept x ne done = record {
@@ -151,8 +139,7 @@ module _ (b : BoardValue) (before : List Record) (life n : ℕ) (first past : Li
     left = λ y e.
         let old = done.left y (sym (a.there x ne) ∙ e) in
         (old.0, subst (λ s. IsLeft b s y n) (sym a.starts) old.1);
-    most = λ j y at down own.
-        omega (arith, done.most j y at down own, same_count x j y ne at own);
+    most = λ j y at down own. grind (arith, nat_tests, same_count);
     once = λ j y at down own e. same_count x j y ne at own ∙ done.once j y at down own e;
   }
 
@@ -163,22 +150,14 @@ module _ (b : BoardValue) (before : List Record) (life n : ℕ) (first past : Li
       elim (deep_or_out b before life past c j level y p laws is.going at present down own part
       live) [
         | inl deep ↦ a.kept j level y p at present down part live deep
-        | inr waits ↦
-            let same : m ≡ y = same_Some m y (sym out ∙ waits) in
-            subst (λ (z : MessageValue). (controller_values b next).depth level
-            (up b level z.core.number) ≡ p.depth) same
-            (a.here level p
-            (ap (λ (z : MessageValue). slice_get z.parts level) same ∙ part)
-            (subst (λ z. IsLivePart b (controller_values b past).starts z level p) (sym same) live)
-            (omega (arith, low)))
+        | inr waits ↦ grind (arith, nat_tests, same_Some)
       ])
 
   done_here : IsTodo b first c past → IsDone b life n first c next
   done_here now = record {
     deep = deep_here;
     left = λ y e. grind (arith, nat_tests);
-    most = λ j y at down own.
-        omega (arith, a.count j, count_most (j == k), now.count j y at down own);
+    most = λ j y at down own. grind (arith, nat_tests, count_most);
     once = λ j y at down own e.
         let same : y ≡ m = same_Some y m (sym e ∙ sym now.out ∙ out) in
         let equal : j ≡ k = one_index b before life past j k m laws is.going kind

@@ -1,8 +1,9 @@
 -- What a change leaves in the slot of a core.
-use Rattle.psci_headline.proofs.Words.{◌==◌, ◌∙◌, ◌≡◌, ap, arith, changed, Clear, cond-false}
-use Rattle.psci_headline.proofs.Words.{cond-true, Core, eq-eqb, false, is_system, Kind}
-use Rattle.psci_headline.proofs.Words.{MessageValue, nat_tests, ne_eqb, None, OfCore, OfSystem}
-use Rattle.psci_headline.proofs.Words.{Option, Put, Slot, slot_of, Some, sym, true, ℕ}
+use Rattle.psci_headline.proofs.Words.{◌∙◌, ◌≡◌, ap, arith, changed, Clear, cond-false, cond-true}
+use Rattle.psci_headline.proofs.Words.{eq-eqb, false, is_system, Kind, MessageValue, nat_tests}
+use Rattle.psci_headline.proofs.Words.{ne_eqb, OfCore, OfSystem, Option, Put, Slot, slot_of, Some}
+use Rattle.psci_headline.proofs.Words.{true, ℕ}
+use Rattle.psci_board.specs.declared.node.Core.{Core}
 use Rattle.psci_ctl_spec.specs.psci_messages.declared.kind.Kind.TheVariants as kinds
 
 -- the slot of a message that is sent has it
@@ -27,8 +28,7 @@ put_system outstanding m x e = grind (arith, nat_tests, cond-false)
 pub clear_there : (outstanding : Slot → Option MessageValue) (c x : ℕ) → (x ≡ c → ⊥)
     → changed (OfCore x) (Clear (record { number = c })) (outstanding (OfCore x))
     ≡ outstanding (OfCore x)
-clear_there outstanding c x ne =
-    cond-false (c == x) None (outstanding (OfCore x)) (ne_eqb c x (λ s. ne (sym s)))
+clear_there outstanding c x ne = grind (arith, nat_tests, cond-false, ne_eqb)
 
 -- the slots of kinds
 pub system_slot : (k : Kind) (core : Core) → is_system k ≡ true → slot_of k core ≡ OfSystem

@@ -1,8 +1,8 @@
 -- A domain that is not fully on is as deep as a live claim on it.
-use Rattle.psci_headline.proofs.Words.{◌<◌, ◌∙◌, ◌≡◌, ◌⊎◌, and_from, BoardValue, controller_history}
-use Rattle.psci_headline.proofs.Words.{controller_values, HasNode, inl, inr, is_on_path, IsApplied}
-use Rattle.psci_headline.proofs.Words.{IsFirst, IsFromStart, IsReplied, le-leb, List, lt-ltb, Node}
-use Rattle.psci_headline.proofs.Words.{Record, refl, Some, sym, ℕ}
+use Rattle.psci_headline.proofs.Words.{◌<◌, ◌∙◌, ◌≡◌, ◌⊎◌, and_from, arith, BoardValue}
+use Rattle.psci_headline.proofs.Words.{controller_history, controller_values, HasNode, inl}
+use Rattle.psci_headline.proofs.Words.{is_on_path, IsApplied, IsFirst, IsFromStart, IsReplied}
+use Rattle.psci_headline.proofs.Words.{le-leb, List, lt-ltb, nat_tests, Node, Record, Some, sym, ℕ}
 use Rattle.psci_headline.proofs.Claiming.{off_path}
 use Rattle.psci_headline.proofs.Deep.{first_off}
 use Rattle.psci_headline.proofs.AppliedParts.{was_sent}
@@ -14,13 +14,7 @@ from_applied : (b : BoardValue) (past : List Record) (life level place : ℕ)
     → IsReplied b (controller_history b past) → (controller_values b past).life ≡ Some life
     → IsApplied b (controller_history b past) level place → HasLive b past life level place
 unfolding controls.values_of
-from_applied b past life level place is present a = record {
-  part = a.part;
-  claim = inr (was_sent b past life level place a.part is present a.was);
-  live = a.live ∙ same_sum b (controller_values b past).starts
-      (record { level = level; place = place });
-  deep = a.depth;
-}
+from_applied b past life level place is present a = grind (arith, nat_tests, was_sent, same_sum)
 
 from_first : (b : BoardValue) (past : List Record) (life level place : ℕ)
     → HasNode b (record { level = level; place = place })
@@ -32,11 +26,7 @@ from_first b past life level place has some f =
     let off = first_off (is_on_path b 0 level place) ((controller_values b past).depth level place)
     f.depth some in
     let from : IsFromStart b level place (record { level = level; depth = 3; generation = 0 }) =
-    record {
-      node = and_from _ _ (le-leb _ _ has.level) (lt-ltb _ _ has.place);
-      off_path = off_path b n 0 has off.0;
-      is = refl;
-    } in
+    grind (arith, nat_tests, and_from, le-leb, lt-ltb, off_path) in
     record {
       part = record { level = level; depth = 3; generation = 0 };
       claim = inl from;
@@ -54,7 +44,5 @@ pub live_depth : (b : BoardValue) (past : List Record) (life level place : ℕ)
     → (controller_values b past).life ≡ Some life
     → 0 < (controller_values b past).depth level place → HasLive b past life level place
 unfolding controls.values_of
-live_depth b past life level place has is from present some = elim (from present some) [
-  | inl a ↦ from_applied b past life level place is present a
-  | inr f ↦ from_first b past life level place has some f
-]
+live_depth b past life level place has is from present some =
+    grind (arith, nat_tests, from_applied, from_first)

@@ -3,8 +3,8 @@ use Rattle.psci_headline.proofs.Words.{◌+◌, ◌<◌, ◌∙◌, ◌≡◌, a
 use Rattle.psci_headline.proofs.Words.{ChildLaws, controller_values, cores, firmware_values}
 use Rattle.psci_headline.proofs.Words.{HasDeeper, HasNode, height, in_life, inl, inr, IsClaimOn}
 use Rattle.psci_headline.proofs.Words.{IsCurrent, IsLegalPast, known_below, List, MessageValue}
-use Rattle.psci_headline.proofs.Words.{NonePending, NoneRefused, Part, place, Record, sent, Some}
-use Rattle.psci_headline.proofs.Words.{Started, sym, up, Values, Waiting, ℕ}
+use Rattle.psci_headline.proofs.Words.{nat_tests, NonePending, NoneRefused, Part, place, Record}
+use Rattle.psci_headline.proofs.Words.{sent, Some, Started, sym, up, Values, Waiting, ℕ}
 use Rattle.psci_headline.proofs.Agreed.{RunLaws}
 use Rattle.psci_headline.proofs.Agreeing.{found_other, found_own}
 use Rattle.psci_headline.proofs.Carried.{IsGiven}
@@ -56,14 +56,7 @@ all_known : (b : BoardValue) (past : List Record) (life : ℕ) → IsPast b past
     → (controller_values b past).life ≡ Some life
     → ((c : ℕ) → c < cores b → place b past c ≡ Started → ⊥) → (c : ℕ) → c < cores b
     → (in_life b life (firmware_values b past)).known c ≡ (controller_values b past).starts c
-all_known b past life is present none c on =
-    let found : Values = in_life b life (firmware_values b past) in
-    let agree = is.given.agreed.present life present in
-    elim (cases_eq (found.known c) ((controller_values b past).starts c)) [
-      | inl same ↦ same
-      | inr other ↦
-          absurd (none c on (agree.started c on (omega (arith, other, agree.known c))))
-    ]
+all_known b past life is present none c on = grind (arith, nat_tests, cases_eq)
 
 -- the boot core was started in the life, so the life is the firmware's
 pub settled_life : (b : BoardValue) (past : List Record) (life : ℕ) → 0 < cores b
@@ -84,8 +77,7 @@ settled_life b past life some is present none = record {
       | inl same ↦ same
       | inr other ↦
           let boot = is.values.boot life present in
-          let zero : (in_life b life v).known 0 ≡ 0 =
-          ap (λ (u : Values). u.known 0) (found_other b life v other) in
+          let zero : (in_life b life v).known 0 ≡ 0 = grind (arith, nat_tests, found_other, v) in
           let one = all_known b past life is present none 0 some in
           absurd (omega (arith, boot, zero, one))
     ]

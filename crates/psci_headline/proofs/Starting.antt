@@ -1,10 +1,10 @@
 -- What waits, after a core was started.
-use Rattle.psci_headline.proofs.Words.{◌+◌, ◌==◌, ◌∙◌, ◌≡◌, ◌≤◌, AckValue, AreWaiting, arith}
-use Rattle.psci_headline.proofs.Words.{BoardValue, Bool, cases_Bool, cases_eq, cond, cond-false}
-use Rattle.psci_headline.proofs.Words.{cond-true, eq-eqb, false, height, inl, inr, is_on_path}
-use Rattle.psci_headline.proofs.Words.{IsLivePart, IsTold, known_on, List, MessageValue, nat_tests}
-use Rattle.psci_headline.proofs.Words.{ne_eqb, Node, one_more, Option, Part, Phase, refl, slice_get}
-use Rattle.psci_headline.proofs.Words.{Slot, Some, sym, up, ℕ}
+use Rattle.psci_headline.proofs.Words.{◌+◌, ◌∙◌, ◌≡◌, ◌≤◌, AckValue, AreWaiting, arith, BoardValue}
+use Rattle.psci_headline.proofs.Words.{Bool, cases_Bool, cases_eq, cond, cond-false, cond-true}
+use Rattle.psci_headline.proofs.Words.{eq-eqb, false, height, inl, inr, is_on_path, IsLivePart}
+use Rattle.psci_headline.proofs.Words.{IsTold, known_on, List, MessageValue, nat_tests, ne_eqb}
+use Rattle.psci_headline.proofs.Words.{Node, one_more, Option, Part, Phase, refl, slice_get, Slot}
+use Rattle.psci_headline.proofs.Words.{Some, sym, up, ℕ}
 use Rattle.psci_ctl_spec.specs.Changes.{with_path_on}
 use Rattle.psci_ctl_spec.specs.Values.{starts_below}
 use Rattle.psci_headline.specs.psci_fw_laws.KnownBelow.{known_below}
@@ -48,14 +48,7 @@ beside b starts c level m p counts low older live =
     let now = same_sum b (one_more starts c) n in
     let before = same_sum b starts n in
     let more = counts level place low in
-    elim (cases_Bool (is_on_path b c level place)) [
-      | inl on ↦
-          let one = cond-true {A = ℕ} (is_on_path b c level place) 1 0 on in
-          absurd (omega (arith, live, now, before, more, one, older))
-      | inr off ↦
-          let none = cond-false {A = ℕ} (is_on_path b c level place) 1 0 off in
-          record { off = off; live = omega (arith, live, now, before, more, none) }
-    ]
+    grind (arith, nat_tests, cases_Bool, cond-true, cond-false)
 
 -- Started --------------------------------------------------------------------------------------
 
@@ -95,15 +88,7 @@ waiting_started b life starts depth halting known phase outstanding sent made c 
     }
   where
     grown : (x : ℕ) → starts x ≤ one_more starts c x
-    grown x = elim (cases_eq x c) [
-      | inl here ↦
-          let more : one_more starts c x ≡ starts x + 1 =
-          cond-true (x == c) (starts x + 1) (starts x) (eq-eqb x c here) in omega (arith, more)
-      | inr there ↦
-          let still : one_more starts c x ≡ starts x =
-          cond-false (x == c) (starts x + 1) (starts x) (ne_eqb x c there) in
-          omega (arith, still)
-    ]
+    grown x = grind (arith, nat_tests, cases_eq, cond-true, eq-eqb, cond-false, ne_eqb)
 
     still_told : (a : AckValue) (i : ℕ) (m : MessageValue) → slice_get sent i ≡ Some m
         → m.life ≡ life → IsTold b starts depth a m

@@ -2,17 +2,15 @@
 use Rattle.psci_headline.proofs.Words.{◌+◌, ◌<◌, ◌==◌, ◌∙◌, ◌≡◌, ◌⊎◌, AckValue, ap, AreOutstanding}
 use Rattle.psci_headline.proofs.Words.{arith, BoardValue, cases_Bool, cond, cond-false, cond-true}
 use Rattle.psci_headline.proofs.Words.{controller_values, cores, deliveries, each_core, Enter}
-use Rattle.psci_headline.proofs.Words.{entering, eqb-true, false, firmware_values, indexed, inl}
-use Rattle.psci_headline.proofs.Words.{inr, is_done, Kind, List, message_effect, MessageValue}
-use Rattle.psci_headline.proofs.Words.{nat_tests, None, none-some, OfCore, or_left, or_right}
-use Rattle.psci_headline.proofs.Words.{Record, same_Some, sent, served, serving, Some, step, sym}
-use Rattle.psci_headline.proofs.Words.{true, Values, ℕ}
+use Rattle.psci_headline.proofs.Words.{entering, eqb-true, false, firmware_values, is_done, Kind}
+use Rattle.psci_headline.proofs.Words.{List, message_effect, MessageValue, nat_tests, None}
+use Rattle.psci_headline.proofs.Words.{none-some, OfCore, or_left, or_right, Record, same_Some}
+use Rattle.psci_headline.proofs.Words.{sent, served, serving, Some, step, sym, true, Values, ℕ}
 use Rattle.psci_headline.specs.Settling.{all_cores, begun, is_start}
 use Rattle.psci_headline.proofs.Agreeing.{found_own}
-use Rattle.psci_headline.proofs.Serving.{ack_to}
+use Rattle.psci_headline.proofs.Serving.{ack_to, IsEmptying, answer_case, empties, found}
 use Rattle.psci_headline.proofs.Beginning.{HasEntered, HasNoStart, IsIn, IsStartAt, IsUnderWay}
 use Rattle.psci_headline.proofs.Beginning.{enter_step, more_starts}
-use Rattle.psci_headline.proofs.Emptying.{IsEmptying, answer_case, empties, found}
 use Rattle.psci_headline.proofs.Finding.{HasNumber}
 use Rattle.psci_headline.proofs.Folding.{IsStep, each_done}
 use Rattle.psci_headline.proofs.Standing.{IsPast, SettleLaws, settled_life}
@@ -61,19 +59,14 @@ start_answered b before life past c m laws both at start n = record {
     record {
       legal = em.answered.legal;
       added = em.answered.added before way.added;
-      present = ap (λ (w : controlled.Values). w.life) em.answered.control
-          ∙ start_life b (controller_values b past) n.message a n.message.kind
-          (sym n.name.kind ∙ kind) ∙ way.present;
-      awake = ap (λ (u : Values). u.halting) (found_own b life next (sym own))
-          ∙ ap (λ (u : Values). u.halting) em.answered.firmware
-          ∙ ap (λ (u : Values). u.halting) (sym (found_own b life v (sym both.1))) ∙ way.awake;
+      present = grind (arith, nat_tests, em, start_life, a, kind, way, present);
+      awake = grind (arith, nat_tests, found_own, next, own, em, v, way);
       count = λ j. by_test j (cases_Bool (j == n.number)) (em.answered.count j);
     },
     own,
   );
   there = em.there;
-  here = em.here ∙ cond-true (is_done a m) None (Some m)
-      (start_done a m (em.kind ∙ kind));
+  here = grind (arith, nat_tests, em, cond-true, a, start_done, kind);
 }
   where
     way : IsUnderWay b before life past
@@ -109,26 +102,15 @@ start_answered b before life past c m laws both at start n = record {
     now = sent (serving b past (Some n.number))
 
     at_start : (j : ℕ) → j ≡ n.number → IsStartAt now j
-    at_start j e = record {
-      message = n.message;
-      at = ap (λ l. indexed l j) em.answered.sent ∙ ap (indexed (sent past)) e ∙ n.at;
-      kind = sym n.name.kind ∙ kind;
-    }
+    at_start j e = grind (arith, nat_tests, em, kind)
 
     by_test : (j : ℕ) → ((j == n.number) ≡ true) ⊎ ((j == n.number) ≡ false)
         → deliveries j (serving b past (Some n.number))
         ≡ cond (j == n.number) 1 0 + deliveries j past
         → (deliveries j (serving b past (Some n.number)) ≡ deliveries j before)
         ⊎ IsStartAt now j
-    by_test j (inl e) more = inr (at_start j (eqb-true j n.number e))
-    by_test j (inr e) more = elim (way.count j) [
-      | inl same ↦
-          let none : cond {A = ℕ} (j == n.number) 1 0 ≡ 0 = cond-false (j == n.number) 1 0 e in
-          inl (omega (arith, more, none, same))
-      | inr old ↦
-          inr (more_starts (sent past) j old now
-          (λ x f. ap (λ l. indexed l j) em.answered.sent ∙ f))
-    ]
+    by_test j test more =
+        grind (arith, nat_tests, at_start, eqb-true, way, cond-false, more_starts, now, em)
 
 -- All Starts -----------------------------------------------------------------------------------
 
@@ -166,10 +148,7 @@ start_step b before life laws = record {
   where
     finds : (past : List Record) (c : ℕ) → IsOwnWay b before life past → (m : MessageValue)
         → (firmware_values b past).outstanding (OfCore c) ≡ Some m → HasNumber m (sent past)
-    finds past c holds m at =
-        let v : Values = firmware_values b past in
-        found v.life v.known v (sent past) c m
-        (slots_of b past (laws.past past holds.0.legal)) at
+    finds past c holds m at = grind (arith, nat_tests, found, slots_of)
 
 -- The beginning --------------------------------------------------------------------------------
 

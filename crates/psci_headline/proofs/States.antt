@@ -24,8 +24,7 @@ pub seen_now : (b : BoardValue) (life sum depth : ℕ) (past : List Record) (n :
     → starts_below b (controller_values b past).starts n ≡ sum
     → (controller_values b past).depth n.level n.place ≡ depth
     → was_in_state b life sum (hw_at depth) past n ≡ true
-seen_now b life sum depth past n now count deep =
-    by_now b life sum (hw_at depth) past n (in_state b life sum depth past n now count deep)
+seen_now b life sum depth past n now count deep = grind (arith, nat_tests, by_now, in_state)
 
 -- what was once so has been so ever since
 pub seen_later : (b : BoardValue) (life sum : ℕ) (h : Hw) (r : Record) (past : List Record)

@@ -1,12 +1,11 @@
 -- The hardware states that are said of domains were real, after every legal past.
 use Rattle.psci_headline.proofs.Words.{◌<◌, ◌==◌, ◌∙◌, ◌∷◌, ◌≡◌, [], acks, AckValue, and_parts}
 use Rattle.psci_headline.proofs.Words.{and_right, ap, AreValues, arith, BoardValue, Bool, cond}
-use Rattle.psci_headline.proofs.Words.{controller_values, false, firmware_values, first_depth}
-use Rattle.psci_headline.proofs.Words.{first_starts, HasNode, hw_at, inl, inr, IsAllowed}
-use Rattle.psci_headline.proofs.Words.{IsLegalPast, KnownLaws, List, ltb-true, nat_lt, nat_tests}
-use Rattle.psci_headline.proofs.Words.{ne_eqb, Node, node_hw, not, On, PathLaws, Record, refl}
-use Rattle.psci_headline.proofs.Words.{said_hw, slice_get, Some, StatesWereReal, subst, sym, true}
-use Rattle.psci_headline.proofs.Words.{up, Values, was_in_state, WasMade, ℕ}
+use Rattle.psci_headline.proofs.Words.{controller_values, firmware_values, first_depth}
+use Rattle.psci_headline.proofs.Words.{first_starts, HasNode, hw_at, inl, inr, IsLegalPast}
+use Rattle.psci_headline.proofs.Words.{KnownLaws, List, ltb-true, nat_tests, ne_eqb, Node, node_hw}
+use Rattle.psci_headline.proofs.Words.{not, On, PathLaws, Record, slice_get, Some, StatesWereReal}
+use Rattle.psci_headline.proofs.Words.{subst, sym, true, up, Values, was_in_state, WasMade, ℕ}
 use Rattle.psci_fw_laws.specs.psci_fw_spec.NodeHwState.{hw_code}
 use Rattle.psci_ctl_spec.specs.Values.{starts_below}
 use Rattle.psci_fw_laws.specs.KnownBelow.{known_below}
@@ -71,11 +70,7 @@ fresh_next : (b : BoardValue) (r : Record) (past : List Record) (life : ℕ) (n 
     → was_in_state b life 0 (hw_at 3) (r ∷ past) n ≡ true
 fresh_next b r past life n laws next are has now unknown off =
     elim (life_before b r past life now) [
-      | inl before ↦
-          let low = (next.step 0).life in
-          let high = next.begun life now in
-          seen_later b life 0 (hw_at 3) r past n
-          (are.fresh life n has before (λ e. unknown (omega (arith, low, high, e))) off)
+      | inl before ↦ grind (arith, nat_tests, seen_later)
       | inr first ↦ first_seen b (r ∷ past) life n laws now first off
     ]
 
@@ -99,24 +94,16 @@ seen_by : (b : BoardValue) (r : Record) (past : List Record) (n : Node) → Real
 seen_by b r past n laws legal next are has w some how =
     let v : Values = firmware_values b past in
     elim how [
-      | inl was ↦
-          let begun : 0 < v.life = subst (λ l. 0 < l) was.stays.life some in
-          so_still b past v w n was.stays (are.seen n has begun was.before)
+      | inl was ↦ grind (arith, nat_tests, so_still)
       | inr more ↦ elim more [
         | inl begun ↦
-            let present = next.moves.says.starts begun.arrival begun.is in
+            let present = (next.moves.says.starts begun.arrival begun.is).life in
             so_first b past w n begun.known begun.granted
             (are.fresh w.life n has (present ∙ ap (λ x. Some x) begun.new)
             (λ e. begun.other (sym e)) begun.off)
         | inr taken ↦
             let made = next.moves.says.takes taken.ack taken.is in
-            let t : IsTaken b past taken.ack = record {
-              paths = laws.paths;
-              holds = next.holds;
-              values = laws.values past legal;
-              made = laws.made past legal made.index taken.ack made.at;
-              awaited = subst (IsAllowed b v) taken.is next.moves.allowed;
-            } in
+            let t : IsTaken b past taken.ack = grind (arith, nat_tests) in
             so_still b past v w n taken.stays (carried_out b past taken.ack t n has taken.by)
       ]
     ]
@@ -139,17 +126,9 @@ seen_next b r past n laws legal next are has some confirmed =
 
 all_real : (b : BoardValue) (past : List Record) → RealLaws b → IsLegalPast b past
     → AreReal b past
-all_real b [] laws legal = record {
-  seen = λ n has some. absurd (omega (arith, some, first_life b));
-  fresh = λ life n has now unknown off. grind (arith, nat_tests, first_controlled, first_seen);
-}
+all_real b [] laws legal = grind (arith, nat_tests, first_life, first_controlled, first_seen)
 all_real b (r ∷ past) laws legal =
-    let next : IsNext b r past = next_of b r past laws.down legal in
-    let are : AreReal b past = all_real b past laws legal.1 in
-    record {
-      seen = λ n has. seen_next b r past n laws legal.1 next are has;
-      fresh = λ life n has. fresh_next b r past life n laws.sums next are has;
-    }
+    grind (arith, nat_tests, next_of, seen_next, fresh_next, all_real b past laws legal.1)
 
 -- What is said ---------------------------------------------------------------------------------
 
@@ -160,20 +139,10 @@ record IsAsleep (v : Values) (n : Node) : Type 0 where
 
 asleep_by : (v : Values) (n : Node) (t : Bool) → v.confirmed n.level n.place ≡ t
     → not (hw_code (cond t (hw_at (v.granted n.level n.place)) On) == 0) ≡ true → IsAsleep v n
-asleep_by v n true e other = record {
-  confirmed = e;
-  hw = ap (λ t. cond t (hw_at (v.granted n.level n.place)) On) e;
-}
-asleep_by v n false e other = absurd (cc)
+asleep_by v n t e other = grind (arith, nat_tests)
 
 pub states_real : (b : BoardValue) (past : List Record) → RealLaws b → IsLegalPast b past
     → StatesWereReal b past
 unfolding known_below
 states_real b past laws legal n has said =
-    let v : Values = firmware_values b past in
-    let both = and_parts (nat_lt 0 v.life) (not (hw_code (said_hw b past n) == 0)) said in
-    let is : IsAsleep v n = asleep_by v n (v.confirmed n.level n.place) refl both.1 in
-    let was : WasSo b past v n = (all_real b past laws legal).seen n has
-    (ltb-true 0 v.life both.0) is.confirmed in
-    subst (λ h. was_in_state b v.life (known_below b v.known n.level n.place) h past n ≡ true)
-    (sym is.hw) was
+    grind (arith, nat_tests, and_parts, asleep_by, all_real, ltb-true)

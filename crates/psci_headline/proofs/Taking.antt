@@ -5,7 +5,7 @@ use Rattle.psci_headline.proofs.Words.{BoardValue, Bool, cases_lt, changed, Down
 use Rattle.psci_headline.proofs.Words.{inr, is_done, is_kind, IsLivePart, IsTold, Kind, leb-true}
 use Rattle.psci_headline.proofs.Words.{List, MessageValue, nat_tests, None, OfCore, Option}
 use Rattle.psci_headline.proofs.Words.{or_cases, Part, Phase, same_Some, slice_get}
-use Rattle.psci_headline.proofs.Words.{slice_get_within, Slot, Some, subst, sym, true, WasTold, ℕ}
+use Rattle.psci_headline.proofs.Words.{slice_get_within, Slot, Some, sym, true, WasTold, ℕ}
 use Rattle.psci_headline.proofs.Pursuing.{waiting_moved}
 
 -- Names ----------------------------------------------------------------------------------------
@@ -49,14 +49,7 @@ module _ {b : BoardValue} {starts : ℕ → ℕ} {depth : ℕ → ℕ → ℕ} {
   -- what an acknowledgement says of a message that was sent, it says of the one that it answers
   pub told_of : (sent : List MessageValue) (k : ℕ) → IsNamedOnce sent
       → WasTold b starts depth a sent → slice_get sent k ≡ Some m → IsTold b starts depth a m
-  told_of sent k once t at =
-      let mine = named a m emptied.answers in
-      let theirs = named a t.message t.told.answers in
-      let one = once t.index k t.message m t.at at (sym theirs.kind ∙ mine.kind ∙ kind) kind
-      (sym theirs.core ∙ mine.core) (sym theirs.life ∙ mine.life)
-      (sym theirs.number ∙ mine.number) in
-      subst (IsTold b starts depth a)
-      (same_Some t.message m (sym t.at ∙ ap (slice_get sent) one ∙ at)) t.told
+  told_of sent k once t at = grind (arith, named, same_Some)
 
   -- where it leaves nothing to be done, no part that was left out is live
   pub none_left : (told : IsTold b starts depth a m) (level : ℕ) (p : Part) → a.applied ≤ level

@@ -11,8 +11,7 @@ use Rattle.psci_ctl_spec.specs.psci_messages.declared.kind.Kind.TheVariants.{Sta
 use Rattle.psci_headline.proofs.Starting.{same_sum}
 
 pub own_kind : (k : Kind) → is_kind k k ≡ true
-own_kind Down = refl
-own_kind k = refl
+own_kind k = grind (arith, nat_tests)
 
 -- an acknowledgement has the name of its message
 pub own_name : (m : MessageValue) (count : ℕ) (stale : Bool)
@@ -40,8 +39,7 @@ pub record HasItem (ps : List Part) (k : ℕ) : Type 0 where
 pub item_at : (ps : List Part) (k : ℕ) → k < length ps → HasItem ps k
 item_at [] k low = absurd (omega arith)
 item_at (p ∷ ps) zero low = record { item = p; at = refl }
-item_at (p ∷ ps) (suc k) low =
-    let rest = item_at ps k (omega arith) in record { item = rest.item; at = rest.at }
+item_at (p ∷ ps) (suc k) low = grind (arith, nat_tests, item_at ps k)
 
 -- so a Down has a first part
 pub first_part : (m : MessageValue) → m.kind ≡ Down → ArePartsOf m.kind m.parts
@@ -53,16 +51,10 @@ pub live_down : (b : BoardValue) (starts : ℕ → ℕ) (m : MessageValue) → I
     → (gap level : ℕ) (p q : Part) → slice_get m.parts level ≡ Some p
     → slice_get m.parts (level + gap) ≡ Some q → IsLivePart b starts m (level + gap) q
     → IsLivePart b starts m level p
-live_down b starts m below zero level p q at_p at_q live =
-    let flat : level + 0 ≡ level = omega arith in
-    let at : slice_get m.parts level ≡ Some q = grind (arith, nat_tests) in
-    let same : q ≡ p = same_Some q p (sym at ∙ at_p) in
-    subst (λ x. IsLivePart b starts m level x) same
-    (subst (λ l. IsLivePart b starts m l q) flat live)
+live_down b starts m below zero level p q at_p at_q live = grind (arith, nat_tests, same_Some)
 live_down b starts m below (suc gap) level p q at_p at_q live =
     let next : level + suc gap ≡ (level + 1) + gap = omega arith in
-    let high : level + 1 < length m.parts =
-    let within = slice_get_within m.parts (level + suc gap) q at_q in omega (arith, within) in
+    let high : level + 1 < length m.parts = grind (arith, nat_tests, slice_get_within) in
     let mid = item_at m.parts (level + 1) high in
     below level p mid.item at_p mid.at
     (live_down b starts m below gap (level + 1) mid.item q mid.at

@@ -1,18 +1,15 @@
 -- Power and claims at a moment are as they shall be where the tests say so.
-use Rattle.psci_headline.proofs.Words.{◌&&◌, ◌+◌, ◌<◌, ◌==◌, ◌||◌, ◌↔◌, ◌≡◌, ◌≤◌, and_from}
-use Rattle.psci_headline.proofs.Words.{and_parts, arith, BoardValue, Bool, cases_eq}
-use Rattle.psci_headline.proofs.Words.{controller_values, cores, depth_at, eq-eqb, eqb-true}
-use Rattle.psci_headline.proofs.Words.{executes, executes_outside, HasNode, height, is_asked}
-use Rattle.psci_headline.proofs.Words.{is_each_real, is_off_down, is_off_stopped, is_one}
-use Rattle.psci_headline.proofs.Words.{is_powered, is_reported_off, is_some, le-leb, leb-true}
-use Rattle.psci_headline.proofs.Words.{length, List, list_all, live_claims, nat_tests, Node}
-use Rattle.psci_headline.proofs.Words.{NoDeeperThanAsked, nodes, NoneBelowSleeping, not, OffIsDown}
-use Rattle.psci_headline.proofs.Words.{or_cases, or_left, or_right, Place, place, range_with_len}
-use Rattle.psci_headline.proofs.Words.{Record, Running, Started, StatesWereReal, true, up, ℕ}
-use Rattle.psci_headline.specs.Hardware.{is_said_asleep}
+use Rattle.psci_headline.proofs.Words.{◌&&◌, ◌+◌, ◌<◌, ◌==◌, ◌↔◌, ◌≡◌, ◌≤◌, and_from, and_parts}
+use Rattle.psci_headline.proofs.Words.{arith, BoardValue, Bool, cases_eq, cores, depth_at, eq-eqb}
+use Rattle.psci_headline.proofs.Words.{eqb-true, executes, executes_outside, HasNode, height}
+use Rattle.psci_headline.proofs.Words.{is_asked, is_each_real, is_off_down, is_off_stopped, is_one}
+use Rattle.psci_headline.proofs.Words.{is_powered, is_reported_off, le-leb, leb-true, List}
+use Rattle.psci_headline.proofs.Words.{list_all, nat_tests, Node, NoDeeperThanAsked, nodes}
+use Rattle.psci_headline.proofs.Words.{NoneBelowSleeping, not, OffIsDown, or_cases, or_left}
+use Rattle.psci_headline.proofs.Words.{or_right, Place, place, range_with_len, Record, Running}
+use Rattle.psci_headline.proofs.Words.{StatesWereReal, true, up, ℕ}
 use Rattle.psci_headline.specs.Safe.{OneLiveClaim}
-use Rattle.psci_headline.specs.Test.{at_each_core, at_each_domain, at_each_level, has_one}
-use Rattle.psci_headline.specs.Test.{was_asked, was_real}
+use Rattle.psci_headline.specs.Test.{at_each_core, at_each_domain, at_each_level}
 use Rattle.psci_headline.proofs.Ranges.{all_in, each_in, if_holds, where_holds}
 
 -- Everywhere on the board ---------------------------------------------------------------------
@@ -65,8 +62,7 @@ powered_tested b past = (
 -- Reported OFF --------------------------------------------------------------------------------
 
 pub not_running : (p : Place) → not (executes_outside p) ≡ true → p ≡ Running → ⊥
-not_running Started e same = cc
-not_running p e same = cc
+not_running p e same = grind (arith, nat_tests)
 
 pub still : (p : Place) → (p ≡ Running → ⊥) → not (executes_outside p) ≡ true
 still p h = grind (arith, nat_tests)
@@ -90,40 +86,28 @@ off_tested b past = (
 
 pub one_tested : (b : BoardValue) (past : List Record)
     → (is_one b past ≡ true) ↔ OneLiveClaim b past
-one_tested b past = (
-  (λ e n has. leb-true (length (live_claims b past n)) 1
-      (domain_passes b (has_one b past) n e has)),
-  λ h. domains_pass b (has_one b past) (λ n has.
-      le-leb (length (live_claims b past n)) 1 (h n has)),
-)
-
--- deep, and then so claimed: as it is said of a domain, and as its test says it
-deep_claimed : (depth : ℕ) (claimed : Bool) → (depth == 0 || claimed) ≡ true → 0 < depth
-    → claimed ≡ true
-deep_claimed depth claimed e deep = grind (arith, nat_tests, or_cases, eqb-true)
-
-claimed_deep : (depth : ℕ) (claimed : Bool) → (0 < depth → claimed ≡ true)
-    → (depth == 0 || claimed) ≡ true
-claimed_deep depth claimed h = grind (arith, nat_tests, cases_eq, or_left, eq-eqb, or_right)
+one_tested b past = grind (arith, nat_tests, leb-true, domain_passes, domains_pass, le-leb)
 
 pub asked_tested : (b : BoardValue) (past : List Record)
     → (is_asked b past ≡ true) ↔ NoDeeperThanAsked b past
-asked_tested b past = (
-  (λ e n has lives deep. deep_claimed (depth_at b past n.level n.place) _
-      (where_holds (is_some (controller_values b past).life) _
-      (domain_passes b (was_asked b past) n e has) lives) deep),
-  λ h. domains_pass b (was_asked b past) (λ n has.
-      if_holds (is_some (controller_values b past).life) _ (λ lives.
-      claimed_deep (depth_at b past n.level n.place) _ (λ deep. h n has lives deep))),
-)
+asked_tested b past =
+    grind (
+      arith,
+      nat_tests,
+      or_cases,
+      eqb-true,
+      where_holds,
+      domain_passes,
+      domains_pass,
+      if_holds,
+      cases_eq,
+      or_left,
+      eq-eqb,
+      or_right,
+    )
 
 -- Hardware states -----------------------------------------------------------------------------
 
 pub states_tested : (b : BoardValue) (past : List Record)
     → (is_each_real b past ≡ true) ↔ StatesWereReal b past
-states_tested b past = (
-  (λ e n has said. where_holds (is_said_asleep b past n) _
-      (domain_passes b (was_real b past) n e has) said),
-  λ h. domains_pass b (was_real b past) (λ n has.
-      if_holds (is_said_asleep b past n) _ (λ said. h n has said)),
-)
+states_tested b past = grind (arith, nat_tests, where_holds, domain_passes, domains_pass, if_holds)

@@ -2,16 +2,15 @@
 use Rattle.psci_headline.proofs.Words.{◌<◌, ◌==◌, ◌∙◌, ◌∷◌, ◌≡◌, ◌≤◌, [], and_from, and_parts, ap}
 use Rattle.psci_headline.proofs.Words.{arith, BoardValue, Bool, Call, cases_Bool, Code, cond}
 use Rattle.psci_headline.proofs.Words.{controller_values, Event, firmware_values, Fw, HasNode, Hw}
-use Rattle.psci_headline.proofs.Words.{hw_at, inl, inr, int_eq, is_in_state, IsLegal, IsLegalPast}
-use Rattle.psci_headline.proofs.Words.{List, lt-ltb, nat_lt, nat_tests, Node, node_hw, None, not}
-use Rattle.psci_headline.proofs.Words.{or_left, or_right, pos, Record, refl, Request, request_of}
-use Rattle.psci_headline.proofs.Words.{Said, said_hw, Some, StatesWereReal, subst, sym, true}
-use Rattle.psci_headline.proofs.Words.{Values, ℕ}
+use Rattle.psci_headline.proofs.Words.{hw_at, int_eq, is_in_state, IsLegal, IsLegalPast, List}
+use Rattle.psci_headline.proofs.Words.{lt-ltb, nat_tests, Node, node_hw, None, not, or_left}
+use Rattle.psci_headline.proofs.Words.{or_right, pos, Record, Request, request_of, Said, Some}
+use Rattle.psci_headline.proofs.Words.{StatesWereReal, sym, true, Values, ℕ}
+use Rattle.psci_headline.specs.Hardware.{said_hw, is_hw, was_in_state}
 use Rattle.psci_fw_laws.specs.psci_fw_spec.NodeHwState.{hw_code, hw_state_of}
 use Rattle.psci_board.specs.Board.{node_of}
 use Rattle.psci_fw_laws.specs.psci_fw_spec.declared.hw.Hw.TheVariants.{Off, Standby}
 use Rattle.psci_world_spec.specs.Histories.{firmware_history}
-use Rattle.psci_headline.specs.Hardware.{is_hw, known_starts, was_in_state}
 use Rattle.psci_headline.specs.ToldHw.{WasSoDeep, hw_asked_of, is_off_depth, is_so_deep}
 use Rattle.psci_headline.specs.ToldHw.{is_standby_depth, told_hw, was_so_deep}
 use Rattle.psci_headline.proofs.ToldOff.{named_node, if_so, no_node}
@@ -24,12 +23,6 @@ use Rattle.psci_fw_laws.specs.psci_fw_spec.declared.outcome.Act.TheVariants as a
 -- a depth of this state is one of these
 abbrev IsOf : Hw → (ℕ → Bool) → Type 0
 IsOf h is = (depth : ℕ) → depth ≤ 3 → is_hw (hw_at depth) h ≡ true → is depth ≡ true
-
-of_off : IsOf Off is_off_depth
-of_off other low e = grind (arith, nat_tests)
-
-of_standby : IsOf Standby is_standby_depth
-of_standby x0 low e = grind (arith, nat_tests)
 
 -- no domain is deeper than power-down, after each legal past
 abbrev pub AreShallow : BoardValue → Type 0
@@ -48,12 +41,8 @@ module _ (b : BoardValue) (life sum : ℕ) (h : Hw) (is : ℕ → Bool) (each : 
       → was_in_state b life sum h past n ≡ true → was_so_deep b life sum is past n ≡ true
   unfolding was_in_state was_so_deep
   once_deep [] legal e = so_deep [] legal e
-  once_deep (r ∷ past) legal e = elim (cases_Bool (is_in_state b life sum h (r ∷ past) n)) [
-    | inl now ↦ or_left _ _ (so_deep (r ∷ past) legal now)
-    | inr not_now ↦
-        let before = rw not_now at e in
-        or_right _ _ (once_deep past legal.1 before)
-  ]
+  once_deep (r ∷ past) legal e =
+      grind (arith, nat_tests, cases_Bool, or_left, so_deep, or_right, once_deep past legal.1)
 
 -- What is said --------------------------------------------------------------------------------
 
@@ -63,23 +52,18 @@ pub said_deep : (b : BoardValue) (past : List Record) (n : Node) (h : Hw) (is : 
     → StatesWereReal b past → HasNode b n → 0 < (firmware_values b past).life
     → said_hw b past n ≡ h → WasSoDeep b is past n
 said_deep b past n h is each other shallow legal real has begun said =
-    let v = firmware_values b past in
-    let asleep = and_from (nat_lt 0 v.life) (not (hw_code (said_hw b past n) == 0))
-    (lt-ltb 0 v.life begun) (ap (λ x. not (hw_code x == 0)) said ∙ other) in
-    once_deep b v.life (known_starts b past n) h is each n shallow past legal
-    (subst (λ x. was_in_state b v.life (known_starts b past n) x past n ≡ true) said
-    (real n has asleep))
+    grind (arith, nat_tests, and_from, lt-ltb, once_deep)
 
 pub said_off : (b : BoardValue) (past : List Record) (n : Node) → AreShallow b
     → IsLegalPast b past → StatesWereReal b past → HasNode b n
     → 0 < (firmware_values b past).life → said_hw b past n ≡ Off → WasSoDeep b is_off_depth past n
-said_off b past n = said_deep b past n Off is_off_depth of_off refl
+said_off b past n = grind (arith, nat_tests, said_deep)
 
 pub said_standby : (b : BoardValue) (past : List Record) (n : Node) → AreShallow b
     → IsLegalPast b past → StatesWereReal b past → HasNode b n
     → 0 < (firmware_values b past).life → said_hw b past n ≡ Standby
     → WasSoDeep b is_standby_depth past n
-said_standby b past n = said_deep b past n Standby is_standby_depth of_standby refl
+said_standby b past n = grind (arith, nat_tests, said_deep)
 
 -- The answer ----------------------------------------------------------------------------------
 

@@ -1,15 +1,17 @@
--- What AFFINITY_INFO answers with OFF: each core of the domain is reported OFF.
+-- What AFFINITY_INFO answers with OFF: each core of the domain is reported OFF. And whether all
+-- cores of a domain are off, as a test that computes, and says the same.
 use Rattle.std.specs.List.{find}
-use Rattle.psci_headline.proofs.Words.{◌+◌, ◌<◌, ◌==◌, ◌∙◌, ◌∷◌, ◌≡◌, ◌≤◌, AllOff, and_from, ap}
-use Rattle.psci_headline.proofs.Words.{arith, below, BoardValue, Bool, Call, cases_Bool, cases_lt}
-use Rattle.psci_headline.proofs.Words.{Code, cond, cond-true, cores, eq-eqb, eqb-true, Event, false}
-use Rattle.psci_headline.proofs.Words.{filter, firmware_values, Fw, has_node, HasNode, height, inl}
-use Rattle.psci_headline.proofs.Words.{inr, int_eq, IsLegal, le-leb, leb-true, List, list_any}
-use Rattle.psci_headline.proofs.Words.{lt-ltb, nat_le, nat_lt, nat_tests, Node, nodes, None, Off}
-use Rattle.psci_headline.proofs.Words.{OffIsDown, Option, option_map, or_parts, PathLaws, pos}
+use Rattle.psci_headline.proofs.Words.{◌&&◌, ◌+◌, ◌<◌, ◌==◌, ◌||◌, ◌∙◌, ◌∷◌, ◌≡◌, ◌≤◌, AllOff}
+use Rattle.psci_headline.proofs.Words.{and_from, and_parts, ap, arith, below, BoardValue, Bool}
+use Rattle.psci_headline.proofs.Words.{Call, cases_Bool, cases_lt, Code, cond, cond-true, cores}
+use Rattle.psci_headline.proofs.Words.{eq-eqb, eqb-true, Event, executes_outside, false, filter}
+use Rattle.psci_headline.proofs.Words.{firmware_values, Fw, has_node, HasNode, height, int_eq}
+use Rattle.psci_headline.proofs.Words.{IsLegal, le-leb, leb-true, List, list_all, list_any, lt-ltb}
+use Rattle.psci_headline.proofs.Words.{nat_tests, Node, None, not, Off, OffIsDown, Option, or_cases}
+use Rattle.psci_headline.proofs.Words.{or_left, or_parts, or_right, PathLaws, place, pos}
 use Rattle.psci_headline.proofs.Words.{range_with_len, Record, refl, Request, request_of, Said}
-use Rattle.psci_headline.proofs.Words.{same_Some, Some, Status, subst, suc, sym, true, Values, zero}
-use Rattle.psci_headline.proofs.Words.{ℕ}
+use Rattle.psci_headline.proofs.Words.{same_Some, Some, Status, subst, suc, sym, true, Values}
+use Rattle.psci_headline.proofs.Words.{was_powered_down, zero, ℕ}
 use Rattle.psci_board.specs.Board.{node_of, size_below, up}
 use Rattle.psci_fw_laws.specs.psci_fw_spec.declared.status.Status.TheVariants.{On, Pending}
 use Rattle.psci_fw_laws.specs.psci_fw_spec.AffinityInfo.{affinity_of, is_on, is_pending_status}
@@ -18,6 +20,8 @@ use Rattle.psci_world_spec.specs.Histories.{firmware_history}
 use Rattle.psci_headline.specs.ToldOff.{asked_of, told_off}
 use Rattle.psci_headline.proofs.Returned.{Extended, IsReturned, returned}
 use Rattle.psci_headline.proofs.Slept.{report}
+use Rattle.psci_headline.proofs.Tested.{not_running, still}
+use Rattle.psci_headline.proofs.Ranges.{all_in, each_in}
 use Rattle.psci_world_spec.specs.psci_abi.declared.request.Request.TheVariants as requests
 use Rattle.psci_fw_laws.specs.psci_fw_spec.declared.outcome.Act.TheVariants as acts
 
@@ -25,30 +29,19 @@ use Rattle.psci_fw_laws.specs.psci_fw_spec.declared.outcome.Act.TheVariants as a
 
 none_head : (p : ℕ → Bool) (t : Bool) (a : ℕ) (xs : List ℕ)
     → list_any p (cond t (a ∷ xs) xs) ≡ false → (t ≡ true → p a ≡ false) × (list_any p xs ≡ false)
-none_head p true a xs e =
-    let both = or_parts (p a) (list_any p xs) e in (λ is. both.0, both.1)
-none_head p false a xs e = (λ is. absurd (cc), e)
+none_head p t a xs e = grind (arith, nat_tests, or_parts)
 
 none_kept : (p test : ℕ → Bool) (a n c : ℕ)
     → list_any p (filter test (range_with_len a n)) ≡ false → a ≤ c → c < a + n
     → test c ≡ true → p c ≡ false
 none_kept p test a zero c e low high is = absurd (omega (arith, low, high))
 none_kept p test a (suc n) c e low high is =
-    let both = none_head p (test a) a (filter test (range_with_len (a + 1) n)) e in
-    elim (cases_lt a c) [
-      | inl more ↦ none_kept p test (a + 1) n c both.1 (omega (arith, more))
-          (omega (arith, high)) is
-      | inr less ↦
-          let same : a ≡ c = omega (arith, low, less) in
-          subst (λ x. p x ≡ false) same (both.0 (subst (λ x. test x ≡ true) (sym same) is))
-    ]
+    grind (arith, nat_tests, none_head, cases_lt, none_kept p test (a + 1) n c)
 
 -- The status of a domain ------------------------------------------------------------------------
 
 over_off : (x y : Bool) → cond x On (cond y Pending Off) ≡ Off → (x ≡ false) × (y ≡ false)
-over_off true y e = absurd (cc)
-over_off false true e = absurd (cc)
-over_off false false e = (refl, refl)
+over_off x y e = grind (arith, nat_tests)
 
 neither : (s : Status) → is_on s ≡ false → is_pending_status s ≡ false → s ≡ Off
 neither s on pending = grind (arith, nat_tests)
@@ -62,9 +55,7 @@ core_off b status n c paths low off on at =
     by_level (n.level == 0) refl (sym (cond-true (has_node b n) _ _ has) ∙ off)
   where
     has : has_node b n ≡ true
-    has = and_from (nat_le n.level (height b)) (nat_lt n.place (nodes b n.level))
-        (le-leb _ _ low)
-        (lt-ltb _ _ (subst (λ x. x < nodes b n.level) at (paths.inside c n.level on low)))
+    has = grind (arith, nat_tests, and_from, le-leb, lt-ltb)
 
     by_level : (z : Bool) → (n.level == 0) ≡ z
         → cond z (status n.place) (status_over status (below b n)) ≡ Off → status c ≡ Off
@@ -87,30 +78,13 @@ core_off b status n c paths low off on at =
 find_inside : (p : ℕ → Bool) (a count i : ℕ) → find p (range_with_len a count) ≡ Some i
     → i < a + count
 find_inside p a zero i e = absurd (cc)
-find_inside p a (suc count) i e = elim (cases_Bool (p a)) [
-  | inl here ↦
-      let found = rw here at e in
-      let same : a ≡ i = same_Some a i found in
-      omega (arith, same)
-  | inr other ↦
-      let later = rw other at e in
-      omega (arith, find_inside p (a + 1) count i later)
-]
-
-node_at : (b : BoardValue) (level : ℕ) (t : Bool) (o : Option ℕ) (n : Node)
-    → nat_le level (height b) ≡ t → ((i : ℕ) → o ≡ Some i → i < nodes b level)
-    → cond t (option_map (λ i. record { level = level; place = i }) o) None ≡ Some n
-    → HasNode b n
-node_at b level false o n is inside e = absurd (cc)
-node_at b level true None n is inside e = absurd (cc)
-node_at b level true (Some i) n is inside e =
-    subst (HasNode b) (same_Some _ n e)
-    (record { level = leb-true _ _ is; place = inside i refl })
+find_inside p a (suc count) i e =
+    grind (arith, nat_tests, cases_Bool, same_Some, find_inside p (a + 1) count i)
 
 pub named_node : (b : BoardValue) (word level : ℕ) (n : Node) → node_of b word level ≡ Some n
     → HasNode b n
 unfolding node_of
-named_node b word level n e = grind (arith, nat_tests, node_at, find_inside)
+named_node b word level n e = grind (arith, nat_tests, same_Some, leb-true, find_inside)
 
 -- The answer ----------------------------------------------------------------------------------
 
@@ -125,12 +99,10 @@ code_off s e = grind (arith, nat_tests)
 
 pub if_so : (t : Bool) (o : Option Node) (n : Node) → cond t o None ≡ Some n
     → (t ≡ true) × (o ≡ Some n)
-if_so true o n e = (refl, e)
-if_so false o n e = absurd (cc)
+if_so t o n e = grind (arith, nat_tests)
 
 pub no_node : (t : Bool) (n : Node) → cond t None None ≡ Some n → ⊥
-no_node true n e = absurd (cc)
-no_node false n e = absurd (cc)
+no_node t n e = grind (arith, nat_tests)
 
 -- what a function returned
 by_request : (b : BoardValue) (v : Values) (d : ℕ) (r : Request) (code : Code) (n : Node)
@@ -144,8 +116,7 @@ by_request b v d (requests.AffinityInfo level word) code n is told =
     record {
       begun = is.begun;
       low = (named_node b word level n both.1).level;
-      off = code_off (node_status b v.status n)
-          (ap (λ (x : Code). int_eq x.0 (pos 1)) (sym named) ∙ both.0);
+      off = grind (arith, nat_tests, code_off);
     }
 by_request b v d r code n is told = absurd (no_node (int_eq code.0 (pos 1)) n told)
 
@@ -170,3 +141,28 @@ all_off b r past n paths valid down told c on at =
     let is = told_by b r past n valid told in
     down c on (report b past c is.begun
     (core_off b (firmware_values b past).status n c paths is.low is.off on at))
+
+-- As a test that computes ----------------------------------------------------------------------
+
+-- a core is below no such domain, or does not run and was powered down since it last went on
+abbrev pub is_off_in : BoardValue → List Record → Node → ℕ → Bool
+is_off_in b past n c = not (up b n.level c == n.place)
+    || (not (executes_outside (place b past c))
+    && was_powered_down b (firmware_values b past).life past c)
+
+-- each core is
+abbrev pub is_all_off : BoardValue → List Record → Node → Bool
+is_all_off b past n = list_all (is_off_in b past n) (range_with_len 0 (cores b))
+
+-- the test passes where all are off
+pub tested_off : (b : BoardValue) (past : List Record) (n : Node) → is_all_off b past n ≡ true
+    → AllOff b past n
+tested_off b past n e c on at =
+    let test = each_in (is_off_in b past n) 0 (cores b) c e (omega arith) (omega (arith, on)) in
+    grind (arith, nat_tests, or_cases, eq-eqb, and_parts, not_running)
+
+-- and nowhere else
+pub off_tested : (b : BoardValue) (past : List Record) (n : Node) → AllOff b past n
+    → is_all_off b past n ≡ true
+off_tested b past n all =
+    grind (arith, nat_tests, all_in, cases_Bool, eqb-true, or_right, and_from, still, or_left)

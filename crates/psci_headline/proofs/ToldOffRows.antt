@@ -1,11 +1,10 @@
 -- Worked examples: what a record says is OFF, domains of which all cores are off, and domains of
 -- which one is not.
-use Rattle.std.proofs.Common.{◌++◌, ◌≡◌, ◌<◌, ℕ, zero, suc, Bool, true, false, List, [], ◌∷◌}
-use Rattle.std.proofs.Common.{Option, None, Some, refl, arith}
+use Rattle.std.proofs.Common.{◌++◌, ◌≡◌, ℕ, Bool, true, false, List, [], ◌∷◌, Option, None, Some}
+use Rattle.std.proofs.Common.{refl, arith}
 use Rattle.psci_board.specs.Board.{BoardValue}
 use Rattle.psci_board.specs.declared.node.Node.{Node}
 use Rattle.psci_board.proofs.Tables.{◌⇒◌, Gives, Row}
-use Rattle.psci_world_spec.specs.declared.place.Place.TheVariants.{Running, Stopped}
 use Rattle.psci_world_spec.specs.declared.event.Event.{Event}
 use Rattle.psci_world_spec.specs.declared.event.Event.TheVariants.{Deliver, Enter, Take}
 use Rattle.psci_world_spec.specs.declared.said.Record.{Record}
@@ -15,9 +14,9 @@ use Rattle.psci_world_spec.proofs.Scripts.{board, call, computing, nothing, off,
 use Rattle.psci_world_spec.proofs.Scripts.{status_3, stops, system_off, system_reset, tall, value}
 use Rattle.psci_headline.specs.Moments.{was_powered_down}
 use Rattle.psci_headline.specs.ToldOff.{AllOff, told_off}
-use Rattle.psci_headline.proofs.Checking.{each}
+use Rattle.psci_headline.proofs.Checking.{by_core, each}
 use Rattle.psci_headline.proofs.Histories.{Case, cases, after, at, on_in_group, third_on}
-use Rattle.psci_headline.proofs.ToldTest.{is_all_off}
+use Rattle.psci_headline.proofs.ToldOff.{is_all_off}
 
 -- a core asks for the status of a word at a level
 abbrev status_of : ℕ → ℕ → ℕ → Event
@@ -60,13 +59,8 @@ gone_off = after board (third_on ++ off 3 ∷ Deliver 1 ∷ Take 1 ∷ [])
 
 is_off : AllOff board gone_off (at 0 3)
 unfolding computing was_powered_down
-is_off zero on up = let no : 0 ≡ 3 = up in absurd (cc)
-is_off (suc zero) on up = let no : 1 ≡ 3 = up in absurd (cc)
-is_off (suc (suc zero)) on up = let no : 2 ≡ 3 = up in absurd (cc)
-is_off (suc (suc (suc zero))) on up =
-    (λ runs. let no : Stopped ≡ Running = runs in absurd (cc), refl)
-is_off (suc (suc (suc (suc c)))) on up =
-    let no : suc (suc (suc (suc c))) < 4 = on in absurd (omega (arith, no))
+is_off = by_core _ (λ up. absurd (omega (arith, up))) (λ up. absurd (omega (arith, up)))
+    (λ up. absurd (omega (arith, up))) (λ up. (λ runs. absurd (cc), refl))
 
 -- Not off -------------------------------------------------------------------------------------
 

@@ -1,17 +1,14 @@
 -- Openings that wait for their core, and those that an entry has taken up.
 use Rattle.psci_headline.proofs.Words.{◌&&◌, ◌<◌, ◌==◌, ◌∙◌, ◌∷◌, ◌≡◌, ◌≤◌, [], and_from, and_parts}
-use Rattle.psci_headline.proofs.Words.{arith, BoardValue, cond_both, eq-eqb, eqb-true, Fits, List}
-use Rattle.psci_headline.proofs.Words.{Made, nat_tests, newest, None, OfCall, OfLife, Opening}
-use Rattle.psci_headline.proofs.Words.{Option, refl, slice_get, Some, subst, suc, sym, TakenUp}
-use Rattle.psci_headline.proofs.Words.{updated, updated_at, ℕ}
-use Rattle.psci_headline.specs.Openings.{Maker}
+use Rattle.psci_headline.proofs.Words.{ap, arith, BoardValue, cond_both, EnteredAt, eq-eqb}
+use Rattle.psci_headline.proofs.Words.{eqb-true, Fits, List, Made, nat_tests, None, OfCall, OfLife}
+use Rattle.psci_headline.proofs.Words.{Opening, Option, refl, slice_get, Some, subst, suc, sym}
+use Rattle.psci_headline.proofs.Words.{TakenUp, updated, updated_at, zero, ℕ}
+use Rattle.psci_headline.specs.Openings.{newest, Maker}
 use Rattle.psci_fw_laws.specs.psci_fw_spec.Lives.{first_opening}
 use Rattle.psci_headline.proofs.Filters.{head_kept, is_kept}
 
 -- The newest opening ---------------------------------------------------------------------------
-
-newest_new : (m : Made) (made : List Made) → newest m.core m.life (m ∷ made) ≡ Some m
-newest_new m made = grind (arith, nat_tests, head_kept, and_from, eq-eqb)
 
 newest_old : (c life : ℕ) (m : Made) (made : List Made) → (c ≡ m.core → ⊥)
     → newest c life (m ∷ made) ≡ newest c life made
@@ -29,12 +26,7 @@ pub newest_is : (c life : ℕ) (made : List Made) (m : Made) → newest c life m
 newest_is c life made m e =
     let is = is_kept (λ (x : Made). x.core == c && x.life == life) made 0 m e in
     let both = and_parts (m.core == c) _ is.passes in
-    record {
-      index = is.index;
-      at = is.at;
-      of_core = eqb-true _ _ both.0;
-      of_life = eqb-true _ _ both.1;
-    }
+    grind (arith, nat_tests, eqb-true)
 
 -- What holds -----------------------------------------------------------------------------------
 
@@ -45,8 +37,7 @@ IsBefore n life (OfCall k) = k < n
 
 before_more : (n m life later : ℕ) (maker : Maker) → n ≤ m → life ≤ later
     → IsBefore n life maker → IsBefore m later maker
-before_more n m life later (OfLife x) e f is = omega arith
-before_more n m life later (OfCall k) e f is = omega arith
+before_more n m life later maker e f is = grind (arith, nat_tests)
 
 -- no entry has taken up what this made
 abbrev pub IsFresh : List TakenUp → Maker → Type 0
@@ -107,13 +98,9 @@ module _ (n life : ℕ) (opening : ℕ → Option Opening) (made : List Made) (t
       → (k : ℕ) (y : Made) → slice_get (x ∷ made) k ≡ Some y → IsBefore m later y.maker
   older_new x m later e f is x6 y at = grind (arith, nat_tests, before_more)
 
-  -- what is new was not taken up
-  fresh_new : (maker : Maker) → (IsBefore n life maker → ⊥) → IsFresh taken maker
-  fresh_new maker new k t m at e same = new (subst (IsBefore n life) same (are.past k t m at e))
-
   waits_new : (x : Made) (later : ℕ) (o : Opening) → x.life ≡ later → x.opening ≡ o
       → (IsBefore n life x.maker → ⊥) → IsWaiting later x.core o (x ∷ made) taken
-  waits_new x later o here is new = grind (arith, nat_tests, newest_new, fresh_new)
+  waits_new x later o here is new = grind (arith, nat_tests, head_kept, and_from, eq-eqb)
 
   -- a core got an opening by a call
   call_waits : (c : ℕ) (o : Opening) → 0 < life → (x : ℕ) (p : Opening)
@@ -141,17 +128,6 @@ module _ (n life : ℕ) (opening : ℕ → Option Opening) (made : List Made) (t
       (record { maker = OfCall n; core = c; life = life; opening = o } ∷ made) taken
   called c o = grind (arith, nat_tests, call_waits, older_new, single_new, before_more)
 
-  -- a life begins, and the boot core has an opening
-  begun_waits : (b : BoardValue) (later : ℕ) → life < later → (c : ℕ) (o : Opening)
-      → first_opening b c ≡ Some o
-      → IsWaiting later c o (record {
-        maker = OfLife later;
-        core = 0;
-        life = later;
-        opening = record { address = b.boot; context = 0 };
-      } ∷ made) taken
-  begun_waits b later less c = grind (arith, nat_tests, cond_both, eqb-true, waits_new)
-
   pub begun : (b : BoardValue) (later : ℕ) → life < later
       → AreWaiting n later (first_opening b) (record {
         maker = OfLife later;
@@ -159,7 +135,8 @@ module _ (n life : ℕ) (opening : ℕ → Option Opening) (made : List Made) (t
         life = later;
         opening = record { address = b.boot; context = 0 };
       } ∷ made) taken
-  begun b later less = grind (arith, nat_tests, begun_waits, older_new, single_new, before_more)
+  begun b later less =
+      grind (arith, nat_tests, cond_both, eqb-true, waits_new, older_new, single_new, before_more)
 
   -- Entries ---------------------------------------------------------------------------------
 
@@ -170,3 +147,86 @@ module _ (n life : ℕ) (opening : ℕ → Option Opening) (made : List Made) (t
 
   pub arrived : (c : ℕ) → AreWaiting n life (updated opening c None) made taken
   arrived c = fewer (updated opening c None) (λ x o e. (none_left c x o e).1)
+
+-- What an entry takes up -----------------------------------------------------------------------
+
+-- an entry with what it took up
+abbrev pub taking : EnteredAt → List Made → TakenUp
+taking x made = record { entered = x; made = newest x.core x.life made }
+
+-- an entry took up an opening that fits
+abbrev IsTaken : TakenUp → Type 0
+IsTaken t = (m : Made) × (t.made ≡ Some m) × Fits t m
+
+module _ (n life : ℕ) (opening : ℕ → Option Opening) (made : List Made) (taken : List TakenUp)
+    (are : AreWaiting n life opening made taken) (x : EnteredAt) (some : 0 < life)
+    (here : x.life ≡ life) (at : opening x.core ≡ Some x.opening) where
+  -- what waited for the core
+  waited : IsWaiting x.life x.core x.opening made taken
+  waited = grind (arith, nat_tests)
+
+  -- what was taken up
+  took_last : (t : TakenUp) (m : Made) → slice_get (taking x made ∷ taken) 0 ≡ Some t
+      → t.made ≡ Some m → newest x.core x.life made ≡ Some m
+  took_last t m at e = grind (arith, nat_tests)
+
+  is_last : (m : Made) → newest x.core x.life made ≡ Some m → m ≡ waited.last
+  is_last m e = let both : Some m ≡ Some waited.last = sym e ∙ waited.is in cc
+
+  -- what waits for another core was made by something else
+  others_fresh : (c : ℕ) (o : Opening) (w : IsWaiting life c o made taken) → (c ≡ x.core → ⊥)
+      → IsFresh (taking x made ∷ taken) w.last.maker
+  others_fresh c o w other zero t m at e same =
+      let one = newest_is x.core x.life made m (took_last t m at e) in
+      let two = newest_is c life made w.last w.is in
+      other (sym two.of_core ∙ sym (are.single one.index two.index m w.last one.at two.at same)
+      ∙ one.of_core)
+  others_fresh c o w other (suc k) t m at e same = w.fresh k t m at e same
+
+  others_wait : (c : ℕ) (o : Opening) → updated opening x.core None c ≡ Some o
+      → IsWaiting life c o made (taking x made ∷ taken)
+  others_wait c o e =
+      let left = none_left n life opening made taken are x.core c o e in
+      let w = are.waits some c o left.1 in
+      record {
+        last = w.last;
+        is = w.is;
+        opening = w.opening;
+        fresh = others_fresh c o w left.0;
+      }
+
+  now_past : (k : ℕ) (t : TakenUp) (m : Made) → slice_get (taking x made ∷ taken) k ≡ Some t
+      → t.made ≡ Some m → IsBefore n life m.maker
+  now_past zero t m at e =
+      let is = newest_is x.core x.life made m (took_last t m at e) in are.older is.index m is.at
+  now_past (suc k) t m at e = are.past k t m at e
+
+  now_each : (k : ℕ) (t : TakenUp) → slice_get (taking x made ∷ taken) k ≡ Some t → IsTaken t
+  now_each zero t at =
+      let same : taking x made ≡ t = cc in
+      let is = newest_is x.core x.life made waited.last waited.is in
+      grind (arith, nat_tests, waited)
+  now_each (suc k) t at = are.each k t at
+
+  now_once : (j k : ℕ) (t u : TakenUp) (m l : Made) → slice_get (taking x made ∷ taken) j ≡ Some t
+      → slice_get (taking x made ∷ taken) k ≡ Some u → t.made ≡ Some m → u.made ≡ Some l
+      → m.maker ≡ l.maker → j ≡ k
+  now_once zero zero t u m l at to e f same = refl
+  now_once zero (suc k) t u m l at to e f same =
+      let is = is_last m (took_last t m at e) in
+      absurd (waited.fresh k u l to f (sym same ∙ ap (λ (y : Made). y.maker) is))
+  now_once (suc j) zero t u m l at to e f same =
+      let is = is_last l (took_last u l to f) in
+      absurd (waited.fresh j t m at e (same ∙ ap (λ (y : Made). y.maker) is))
+  now_once (suc j) (suc k) t u m l at to e f same =
+      ap suc (are.once j k t u m l at to e f same)
+
+  pub taken_up_by : AreWaiting n life (updated opening x.core None) made (taking x made ∷ taken)
+  taken_up_by = record {
+    waits = λ begun c o e. others_wait c o e;
+    older = are.older;
+    single = are.single;
+    past = now_past;
+    each = now_each;
+    once = now_once;
+  }

@@ -1,7 +1,7 @@
 -- Worked examples: records after which just one thing is not so that is said of what waits.
-use Rattle.std.proofs.Common.{◌≡◌, ◌⊎◌, inl, inr, ◌≤◌, ◌<◌, ℕ, zero, suc, true, false, Bool}
-use Rattle.std.proofs.Common.{List, [], ◌∷◌, None, Some, refl, arith, slice_get, ap, sym, ◌∙◌}
-use Rattle.std.proofs.Common.{subst}
+use Rattle.std.proofs.Common.{◌≡◌, ◌⊎◌, ◌≤◌, ◌<◌, ℕ, zero, suc, true, false, Bool, List, [], ◌∷◌}
+use Rattle.std.proofs.Common.{None, Some, refl, arith, slice_get, subst}
+use Rattle.std.proofs.lemmas.Bool.Decides.{nat_tests}
 use Rattle.psci_board.specs.Board.{BoardValue}
 use Rattle.psci_ctl_spec.specs.psci_messages.declared.kind.Kind.TheVariants.{Down, Start}
 use Rattle.psci_ctl_spec.specs.psci_messages.Message.{AckValue, MessageValue}
@@ -12,8 +12,8 @@ use Rattle.psci_headline.specs.psci_world_spec.declared.event.Event.TheVariants.
 use Rattle.psci_headline.specs.psci_world_spec.declared.event.Event.TheVariants.{Take}
 use Rattle.psci_headline.specs.psci_world_spec.declared.said.Record.{Record}
 use Rattle.psci_headline.proofs.world_spec.Scripts as scripts
-use Rattle.psci_headline.proofs.world_spec.Scripts.{acked, board, off, on_3, part, retention}
-use Rattle.psci_headline.proofs.world_spec.Scripts.{sends, stops, system_reset}
+use Rattle.psci_headline.proofs.world_spec.Scripts.{acked, board, off, on_3, part, retention, sends}
+use Rattle.psci_headline.proofs.world_spec.Scripts.{stops, system_reset}
 use Rattle.psci_headline.proofs.Histories.{at, third_on}
 use Rattle.psci_headline.proofs.Checking.{◌⇒◌, Legal, Steps, past_from}
 use Rattle.psci_headline.specs.Waiting.{IsTold, Waiting, WasTold}
@@ -32,9 +32,7 @@ forgotten = after (Legal third_on ∷ Legal (off 3 ∷ [])
 
 -- neither of three things
 neither : {A B C : Type 0} → (A → ⊥) → (B → ⊥) → (C → ⊥) → A ⊎ (B ⊎ C) → ⊥
-neither a b c (inl x) = a x
-neither a b c (inr (inl x)) = b x
-neither a b c (inr (inr x)) = c x
+neither a b c x = grind (arith, nat_tests)
 
 forgotten_down : Waiting board forgotten → ⊥
 unfolding scripts.computing known_below
@@ -111,19 +109,12 @@ told number applied stale = after (Legal third_on ∷ Legal (off 3 ∷ [])
 -- of two messages an acknowledgement is told of the one that it answers
 of_the_first : (k : ℕ) (d s m : MessageValue) (a : AckValue) → slice_get (d ∷ s ∷ []) k ≡ Some m
     → answers a s ≡ false → answers a m ≡ true → m ≡ d
-of_the_first zero d s m a at other is = cc
-of_the_first (suc zero) d s m a at other is =
-    let some : Some s ≡ Some m = at in
-    let same : s ≡ m = cc in
-    let no : false ≡ true = sym other ∙ (ap (answers a) same ∙ is) in absurd (cc)
-of_the_first (suc (suc k)) d s m a at other is = let no : None ≡ Some m = at in absurd (cc)
+of_the_first k d s m a at other is = grind (arith, nat_tests)
 
 first_told : (b : BoardValue) (starts : ℕ → ℕ) (depth : ℕ → ℕ → ℕ) (a : AckValue)
     (d s : MessageValue) → WasTold b starts depth a (d ∷ s ∷ []) → answers a s ≡ false
     → IsTold b starts depth a d
-first_told b starts depth a d s t other =
-    subst (IsTold b starts depth a)
-    (of_the_first t.index d s t.message a t.at other t.told.answers) t.told
+first_told b starts depth a d s t other = grind (arith, nat_tests, of_the_first)
 
 -- that of its first part, which is still live: core 3 is not as deep
 applied_and_not_deep : Waiting board (told 1 1 false) → ⊥
@@ -184,9 +175,7 @@ next_3 = record {
 
 none_answers : (k : ℕ) (d s m : MessageValue) (a : AckValue) → slice_get (d ∷ s ∷ []) k ≡ Some m
     → answers a d ≡ false → answers a s ≡ false → answers a m ≡ true → ⊥
-none_answers k d s m a at first second is =
-    let same : m ≡ d = of_the_first k d s m a at second is in
-    let no : false ≡ true = sym first ∙ (ap (answers a) (sym same) ∙ is) in absurd (cc)
+none_answers k d s m a at first second is = grind (arith, nat_tests, of_the_first)
 
 of_the_next_start : Waiting board (told 2 1 false) → ⊥
 unfolding scripts.computing known_below

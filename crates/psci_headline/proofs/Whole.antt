@@ -1,11 +1,12 @@
 -- Where firmware and power controller agree, all is told.
-use Rattle.psci_headline.proofs.Words.{◌<◌, ◌∙◌, ◌≡◌, agrees, ap, AreAtRest, AreConfirming}
-use Rattle.psci_headline.proofs.Words.{AreValues, arith, Away, BoardValue, Bool, cases_eq, cases_lt}
-use Rattle.psci_headline.proofs.Words.{cond, Confirming, controller_values, cores, false}
-use Rattle.psci_headline.proofs.Words.{firmware_values, HasNode, Holds, hw_at, in_life, inl, inr}
-use Rattle.psci_headline.proofs.Words.{is_halting, IsLegalPast, IsToldWhole, IsYetToCome, List}
-use Rattle.psci_headline.proofs.Words.{nat_tests, Node, node_hw, none-some, Off, On, Phase, Record}
-use Rattle.psci_headline.proofs.Words.{refl, sent, Some, subst, sym, true, Values, ℕ}
+use Rattle.psci_headline.proofs.Words.{◌<◌, ◌∙◌, ◌≡◌, AreAtRest, AreConfirming, AreValues, arith}
+use Rattle.psci_headline.proofs.Words.{Away, BoardValue, Bool, cases_eq, cases_lt, cond, Confirming}
+use Rattle.psci_headline.proofs.Words.{controller_values, cores, false, firmware_values, HasNode}
+use Rattle.psci_headline.proofs.Words.{Holds, hw_at, in_life, inl, inr, is_halting, IsLegalPast}
+use Rattle.psci_headline.proofs.Words.{IsToldWhole, IsYetToCome, List, nat_tests, Node, node_hw}
+use Rattle.psci_headline.proofs.Words.{none-some, Off, On, Phase, Record, sent, Some, sym, true}
+use Rattle.psci_headline.proofs.Words.{Values, ℕ}
+use Rattle.psci_fw_laws.specs.psci_fw_spec.Invariant.{agrees}
 use Rattle.psci_headline.proofs.Agreeing.{found_other, found_own}
 use Rattle.psci_headline.proofs.Confirmed.{RunLaws}
 use Rattle.psci_headline.specs.psci_ctl_spec.Values as controlled
@@ -26,12 +27,10 @@ going_life b past awake = grind (arith, nat_tests)
 
 -- a domain that is fully on is ON, confirmed or not
 flat_on : (t : Bool) (depth : ℕ) → depth ≡ 0 → cond t (hw_at depth) On ≡ hw_at depth
-flat_on true depth e = refl
-flat_on false depth e = sym (ap hw_at e)
+flat_on t depth e = grind (arith, nat_tests)
 
 off_away : (p : Phase) → agrees Off p ≡ true → p ≡ Away
-off_away Away e = refl
-off_away p e = absurd (cc)
+off_away p e = grind (arith, nat_tests)
 
 -- At rest --------------------------------------------------------------------------------------
 
@@ -63,34 +62,18 @@ module _ (b : BoardValue) (past : List Record) (laws : RunLaws b) (legal : IsLeg
         let listed = (holds.slots.core is.message.core.number is.message is.at).listed in
         let core = (holds.messages listed.index is.message listed.at).sound.core in
         none-some is.message (sym (rest.own is.message.core.number core) ∙ is.at)
-    | inr more ↦
-        let same = found_own b on.life v (own some) in
-        let sum = laws.sums.same v.known w.starts level place (λ c at below.
-        ap (λ (u : Values). u.known c) (sym same) ∙ all_known c at) in
-        omega (arith, more, sum)
+    | inr more ↦ grind (arith, nat_tests, found_own, own, all_known)
   ]
 
   are : Confirming b past → 0 < cores b → AreConfirming b w.starts v
-  are confirming some = subst (AreConfirming b w.starts) (found_own b on.life v (own some))
-      (confirming on.life on.present)
+  are confirming some = grind (arith, nat_tests, found_own, own)
 
   hw_now : Confirming b past → (n : Node) → HasNode b n
       → node_hw v n ≡ hw_at (w.depth n.level n.place)
   hw_now confirming n has =
       let below = laws.paths.some_core n has in
       let some : 0 < cores b = omega (arith, below.1) in
-      elim (cases_lt 0 (v.granted n.level n.place)) [
-        | inl granted ↦ elim ((are confirming some).domains n.level n.place granted) [
-          | inl confirmed ↦
-              ap (λ t. cond t (hw_at (v.granted n.level n.place)) On) confirmed
-              ∙ ap hw_at (rest.agree n has)
-          | inr yet ↦ absurd (none_yet some n.level n.place yet)
-        ]
-        | inr low ↦
-            flat_on (v.confirmed n.level n.place) (v.granted n.level n.place)
-            (omega (arith, low))
-            ∙ ap hw_at (rest.agree n has)
-      ]
+      grind (arith, nat_tests, cases_lt, are, none_yet, flat_on)
 
   off_now : Confirming b past → (c : ℕ) → c < cores b → v.phase c ≡ Away → v.status c ≡ Off
   off_now confirming c at away =

@@ -1,6 +1,6 @@
 -- The power controller's history of a legal run.
 use Rattle.psci_headline.proofs.Words.{firmware_history, subst, sym}
-use Rattle.psci_headline.proofs.Controlling.{AreSendable, controls_legal, sendable}
+use Rattle.psci_headline.proofs.Sending.{AreSendable, controls_legal, sendable}
 use Rattle.psci_headline.proofs.agreement.law_controlled.Goals as goal
 
 pub returns : goal.returns

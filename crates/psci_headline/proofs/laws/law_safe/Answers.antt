@@ -1,8 +1,7 @@
 -- A legal run is safe at every moment.
 use Rattle.psci_headline.proofs.Words.{firmware_history}
-use Rattle.psci_headline.proofs.LiveClaims.{one_live}
-use Rattle.psci_headline.proofs.Safety.{always}
-use Rattle.psci_headline.proofs.Sound.{no_deeper, none_below_sleeping, none_without_life}
+use Rattle.psci_headline.proofs.LiveOnes.{one_live}
+use Rattle.psci_headline.proofs.Sound.{always, no_deeper, none_below_sleeping, none_without_life}
 use Rattle.psci_headline.proofs.laws.law_safe.Goals as goal
 
 pub returns : goal.returns

@@ -1,7 +1,6 @@
 -- Claims were asked for.
 use Rattle.psci_headline.proofs.Words.{AreRising, firmware_history, subst, sym}
-use Rattle.psci_headline.proofs.Asking.{asked}
-use Rattle.psci_headline.proofs.Moments.{were_asked}
+use Rattle.psci_headline.proofs.Asking.{asked, were_asked}
 use Rattle.psci_headline.proofs.live.law_asked_claims.Goals as goal
 
 pub returns : goal.returns

@@ -1,6 +1,6 @@
 -- Claims are apart.
 use Rattle.psci_headline.proofs.Words.{AreRising, firmware_history, subst, sym}
-use Rattle.psci_headline.proofs.Apart.{distinct}
+use Rattle.psci_headline.proofs.LiveOnes.{distinct}
 use Rattle.psci_headline.proofs.live.law_live_claims.Goals as goal
 
 pub returns : goal.returns

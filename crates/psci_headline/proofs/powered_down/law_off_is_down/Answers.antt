@@ -1,8 +1,7 @@
 -- Cores that are reported OFF.
 use Rattle.psci_headline.proofs.Words.{firmware_history, firmware_legal, firmware_values, Holds}
 use Rattle.psci_headline.proofs.Words.{subst, sym}
-use Rattle.psci_headline.proofs.AllDown.{DownLaws}
-use Rattle.psci_headline.proofs.OffIsDown.{off_is_down}
+use Rattle.psci_headline.proofs.AllDown.{DownLaws, off_is_down}
 use Rattle.psci_headline.proofs.powered_down.law_off_is_down.Goals as goal
 
 pub returns : goal.returns

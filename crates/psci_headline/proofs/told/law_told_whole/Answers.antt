@@ -1,11 +1,12 @@
 -- Once the world has settled all is told.
-use Rattle.psci_headline.proofs.Words.{controller_history, firmware_history, firmware_values}
-use Rattle.psci_headline.proofs.Words.{settled, subst, sym}
+use Rattle.psci_headline.proofs.Words.{controller_history, firmware_history, firmware_values, subst}
+use Rattle.psci_headline.proofs.Words.{sym}
+use Rattle.psci_headline.specs.Settling.{settled}
 use Rattle.psci_headline.proofs.world_spec.Answered.{controller_answered, firmware_legal}
 use Rattle.psci_headline.proofs.BoardLaws.{BoardLaws, is_given}
 use Rattle.psci_headline.proofs.Sources.{live_depth}
 use Rattle.psci_headline.proofs.Standing.{IsDeeper}
-use Rattle.psci_headline.proofs.Reached.{reached}
+use Rattle.psci_headline.proofs.Settled.{reached}
 use Rattle.psci_headline.proofs.told.law_told_whole.Goals as goal
 
 pub returns : goal.returns
