@@ -113,8 +113,5 @@ pub called : (b : BoardValue) (v w : Values) (c : ℕ) (regs : Regs) (r : Reques
     → w ≡ after b c (Smc regs) (answer b v c (Smc regs)) v
 unfolding answer after
 called b v w c regs r o fault read is left =
-    left ∙ ap (λ (x : Outcome). change b (function_effect b c r x.act x.message) v) is
-    ∙ ap (λ (x : Request). change b (function_effect b c x (outcome_of b v c x).act
-    (outcome_of b v c x).message) v) read
-    ∙ sym (ap (λ (f : Option FwFault). change b (effect_of b c (Smc regs)
-    (reply_or f (outcome_of b v c (request_of regs)))) v) fault)
+    rw (left, is, read) (sym (ap (λ (f : Option FwFault). change b (effect_of b c (Smc regs)
+    (reply_or f (outcome_of b v c (request_of regs)))) v) fault))

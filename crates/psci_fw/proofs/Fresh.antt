@@ -39,8 +39,7 @@ begun_by b life false e = refl
 pub begun_fresh : (b : BoardValue) (v : Values) (life : ℕ) → v.life ≡ 0 → IsFresh b v
     → record v { life = life } ≡ in_life b life v
 begun_fresh b v life e fresh =
-    subst (λ (x : Values). record x { life = life } ≡ in_life b life x) (sym (fresh.same e))
-    (begun_by b life (life == 0) refl)
+    rw (fresh.same e) (begun_by b life (life == 0) refl)
 
 -- In a life -------------------------------------------------------------------------------------
 

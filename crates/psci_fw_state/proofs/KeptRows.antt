@@ -25,7 +25,7 @@ use Rattle.psci_fw_state.specs.Rows.{AreFirst, first_row, off_row, row_at, statu
 use Rattle.psci_fw_state.specs.Seen.{IsState, StateValue, is_pending_phase, message_shown}
 use Rattle.psci_fw_state.specs.Seen.{phase_by, stopped, values_in}
 
-abbrev board : BoardValue
+abbrev pub board : BoardValue
 board = record {
   levels = (2 ∷ 2 ∷ []) ∷ (2 ∷ []) ∷ [];
   ranges = record { start = 0; end = 64 } ∷ [];

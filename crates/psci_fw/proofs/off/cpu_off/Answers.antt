@@ -13,9 +13,8 @@ send_down-requires c =
     let same = leaving_off board _ v _ core _ c.leave.ensures.board c.leave.ensures.after
     c.leaving_wish-wish.ensures in
     record {
-      inside = subst (λ (b : BoardValue). core < cores b) (sym c.leave.ensures.board)
-          c.requires.inside;
-      claims = subst AreClaims (sym same) (c.law_stops.ensures.off board v core c.requires.board
+      inside = rw c.leave.ensures.board c.requires.inside;
+      claims = rw same (c.law_stops.ensures.off board v core c.requires.board
           c.requires.inside c.requires.values c.requires.running);
       may = left_may board _ v _ core _ _ c.leave.ensures.board c.leave.ensures.after same
           (c.law_may_claim.ensures.off board v core c.requires.board c.requires.inside

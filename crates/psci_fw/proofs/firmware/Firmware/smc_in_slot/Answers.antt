@@ -1,8 +1,7 @@
-use Rattle.std.proofs.Common.{◌≡◌, ◌∙◌, None, refl, rules, subst, sym}
+use Rattle.std.proofs.Common.{◌≡◌, ◌∙◌, None, refl, subst, sym}
 use Rattle.psci_abi.specs.Calls.{request_of}
 use Rattle.psci_board.specs.Board.{BoardValue, IsBoard}
 use Rattle.psci_fw_spec.specs.declared.call.FwCall.TheVariants.{Smc}
-use Rattle.psci_fw_spec.specs.Answer.{answer}
 use Rattle.psci_fw_spec.specs.Calls.{call_fault}
 use Rattle.psci_fw_spec.specs.Invariant.{AreValues}
 use Rattle.psci_fw_state.specs.Seen.{StateValue, values_in}
@@ -10,14 +9,6 @@ use Rattle.psci_fw.specs.Reactions.{outcome_in}
 use Rattle.psci_fw.specs.Seen.{IsFirmware, IsFresh}
 use Rattle.psci_fw.proofs.Called.{called}
 use Rattle.psci_fw.proofs.firmware.Firmware.smc_in_slot.Goals as goal
-
-pub returns-in_err-check_caller-clause-answer : goal.returns-in_err-check_caller-clause-answer
-unfolding answer
-returns-in_err-check_caller-clause-answer g c = search rules
-
-pub returns-clause-answer : goal.returns-clause-answer
-unfolding answer
-returns-clause-answer g c = search rules
 
 pub invariant_of-self : goal.invariant_of-self
 invariant_of-self g c =
@@ -31,8 +22,7 @@ invariant_of-self g c =
     let left = c.dispatch.ensures.after in
     let before : IsFirmware s = subst IsFirmware (sym c.deref_mut.ensures.value) c.self.invariant in
     let fault : call_fault b v core ≡ None =
-    subst (λ (x : StateValue). call_fault x.board (values_in x) core ≡ None)
-    (c.deref.ensures ∙ sym c.deref_mut.ensures.value) c.in_ok-check_caller.ensures in
+    rw (c.deref.ensures ∙ sym c.deref_mut.ensures.value) at c.in_ok-check_caller.ensures in
     record {
       board = subst IsBoard at before.board;
       values = subst (λ (x : BoardValue). AreValues x w) at (subst (AreValues b)

@@ -13,15 +13,12 @@ returns-clause-after c =
     let s : StateValue = the_view c.self.inside in
     let m : MessageValue = the_message c.message.inside in
     let there : m.core.number < cores c.args.self.now.board =
-    subst (λ (n : MessageValue). n.core.number < cores c.args.self.now.board)
-    (sym c.message.view_is)
-    c.requires.inside in
+    rw (← c.message.view_is) at c.requires.inside in
     let inside : m.core.number < length s.tree.cores =
     within _ _ _ c.self.view_is c.self.invariant there in
     let row_inside : m.core.number < length s.rows =
     in_rows _ _ _ c.self.view_is c.self.invariant there in
-    let start : m.kind ≡ kinds.Start =
-    ap (λ (n : MessageValue). n.kind) c.message.view_is ∙ c.requires.start in
+    let start : m.kind ≡ kinds.Start = rw (← c.message.view_is) at c.requires.start in
     let slot_inside : m.core.number < length s.slots.cores =
     omega (arith, c.self.invariant.rows, c.self.invariant.slots) in
     let has_slot : IsOfCores (length s.slots.cores) (slot_of m.kind m.core) =
