@@ -101,17 +101,13 @@ pub run_more : (b : BoardValue) (c k : ℕ) (old now new : List (List DomainRow)
 run_more b c k old now new row low before is written l p = elim (cases_eq l k) [
   | inl e ↦ elim (cases_eq p (up b k c)) [
     | inl f ↦ written l p
-        ∙ ap (λ t. cond t row (domain_at now l p))
-        (both_true l k p (up b k c) e f)
-        ∙ is
-        ∙ ap path_on_once (before k (up b k c) ∙ not_yet b c k old k (up b k c) (omega arith)
-        ∙ ap (domain_at old k) (sym f) ∙ ap (λ m. domain_at old m p) (sym e))
+        ∙ (rw (both_true l k p (up b k c) e f, e, f) (is
+        ∙ ap path_on_once (before k (up b k c) ∙ not_yet b c k old k (up b k c) (omega arith))))
         ∙ sym (reached b c (k + 1) old l p true (omega (arith, e))
         (ap (λ m. is_on_path b c m p) e ∙ path_test b c k p low ∙ eq-eqb (up b k c) p (sym f)))
     | inr f ↦ written l p
-        ∙ ap (λ t. cond t row (domain_at now l p))
-        (both_false l k p (up b k c) e f)
-        ∙ before l p ∙ not_yet b c k old l p (omega (arith, e))
+        ∙ (rw (both_false l k p (up b k c) e f) (before l p ∙ not_yet b c k old l p
+        (omega (arith, e))))
         ∙ sym (reached b c (k + 1) old l p false (omega (arith, e))
         (ap (λ m. is_on_path b c m p) e ∙ path_test b c k p low
         ∙ ne_eqb (up b k c) p (λ q. f (sym q))))

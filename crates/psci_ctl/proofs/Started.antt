@@ -32,13 +32,8 @@ row_starts cs c k cause h =
     let row : CoreRow = started_row cs c cause in
     ap (λ (r : CoreRow). r.starts) (core_set cs c k row h)
     ∙ elim (cases_eq k c) [
-      | inl e ↦ ap (λ t. (cond t row (core_row cs k)).starts) (eq-eqb k c e)
-          ∙ ap (λ m. (core_row cs m).starts + 1) (sym e)
-          ∙ sym (ap (λ t. cond t ((core_row cs k).starts + 1) (core_row cs k).starts)
-          (eq-eqb k c e))
-      | inr e ↦ ap (λ t. (cond t row (core_row cs k)).starts) (ne_eqb k c e)
-          ∙ sym (ap (λ t. cond t ((core_row cs k).starts + 1) (core_row cs k).starts)
-          (ne_eqb k c e))
+      | inl e ↦ rw (eq-eqb k c e, e) refl
+      | inr e ↦ rw (ne_eqb k c e) refl
     ]
 
 row_cause : (cs : List CoreRow) (c k : ℕ) (cause : Cause) → c < length cs
@@ -69,8 +64,7 @@ pub started_values : (b : BoardValue) (cs : List CoreRow) (old new : List (List 
     → values_in life (set cs c (started_row cs c cause)) new
     ≡ with_start b c cause (values_in life cs old)
 started_values b cs old new c cause h rows life =
-    same_values (values_in life (set cs c (started_row cs c cause)) new)
-    (with_start b c cause (values_in life cs old)) refl
+    same_values _ _ refl
     (λ k. row_starts cs c k cause h) (λ k. row_cause cs c k cause h)
     (λ l p. ap (λ (d : DomainRow). d.depth) (rows l p ∙ run_whole b c old l p)
     ∙ depth_either (is_on_path b c l p) (domain_at old l p))
@@ -125,9 +119,6 @@ pub begun_values : (b : BoardValue) (n : ℕ) (ds : List (List DomainRow)) (life
     → with_start b 0 causes.Boot (values_in life (replicate n off_core) ds)
     ≡ record (start_of_life b) { life = life }
 begun_values b n ds life off =
-    same_values (with_start b 0 causes.Boot (values_in life (replicate n off_core) ds))
-    (record (start_of_life b) { life = life }) refl
-    (λ k. ap (λ (r : CoreRow). cond (k == 0) (r.starts + 1) r.starts) (off_core_row n k))
-    (λ k. ap (λ (r : CoreRow). cond (k == 0) causes.Boot r.cause) (off_core_row n k)
-    ∙ boot_cause (k == 0))
-    (λ l p. ap (λ (d : DomainRow). cond (is_on_path b 0 l p) 0 d.depth) (off l p))
+    same_values _ _ refl
+    (λ k. rw (off_core_row n k) refl) (λ k. rw (off_core_row n k) (boot_cause (k == 0)))
+    (λ l p. rw (off l p) refl)
