@@ -1,8 +1,7 @@
 -- The values in the rows after a start of a core, and after the beginning of a life.
 use Rattle.std.proofs.Common.{◌≡◌, ℕ, ◌+◌, ◌<◌, ◌≤◌, ◌^◌, Bool, true, false, cond, ◌==◌, List}
-use Rattle.std.proofs.Common.{length, replicate, Option, refl, ap, sym, ◌∙◌, arith, inl, inr}
+use Rattle.std.proofs.Common.{length, replicate, Option, refl, ap, sym, ◌∙◌, arith}
 use Rattle.std.proofs.Math.ListN.{set}
-use Rattle.std.proofs.lemmas.Bool.{cases_eq, eq-eqb, ne_eqb}
 use Rattle.psci_board.specs.declared.limits.TheConstants.{MOST_CORES}
 use Rattle.psci_board.specs.declared.node.Node.{Node}
 use Rattle.psci_board.specs.Board.{BoardValue, cores, height}
@@ -10,7 +9,7 @@ use Rattle.psci_messages.specs.declared.start.Cause.{Cause}
 use Rattle.psci_messages.specs.declared.start.Cause.TheVariants as causes
 use Rattle.psci_ctl_spec.specs.Changes.{one_more, with_cause, with_start}
 use Rattle.psci_ctl_spec.specs.Laws.{SumLaws}
-use Rattle.psci_ctl_spec.specs.Values.{Values, start_of_life, starts_below}
+use Rattle.psci_ctl_spec.specs.Values.{start_of_life, starts_below}
 use Rattle.psci_board.specs.Paths.{is_on_path}
 use Rattle.psci_ctl_spec.proofs.OneMore.{same_values}
 use Rattle.psci_ctl.specs.declared.row.CoreRow.{CoreRow}
@@ -29,24 +28,13 @@ row_starts : (cs : List CoreRow) (c k : ℕ) (cause : Cause) → c < length cs
     → (core_row (set cs c (started_row cs c cause)) k).starts
     ≡ one_more (λ m. (core_row cs m).starts) c k
 row_starts cs c k cause h =
-    let row : CoreRow = started_row cs c cause in
-    ap (λ (r : CoreRow). r.starts) (core_set cs c k row h)
-    ∙ elim (cases_eq k c) [
-      | inl e ↦ rw (eq-eqb k c e, e) refl
-      | inr e ↦ rw (ne_eqb k c e) refl
-    ]
+    grind (arith, core_set cs c k (started_row cs c cause) h)
 
 row_cause : (cs : List CoreRow) (c k : ℕ) (cause : Cause) → c < length cs
     → (core_row (set cs c (started_row cs c cause)) k).cause
     ≡ with_cause (λ m. (core_row cs m).cause) c cause k
 row_cause cs c k cause h =
-    ap (λ (r : CoreRow). r.cause) (core_set cs c k (started_row cs c cause) h)
-    ∙ either (k == c)
-  where
-    either : (t : Bool) → (cond t (started_row cs c cause) (core_row cs k)).cause
-        ≡ cond t cause (core_row cs k).cause
-    either true = refl
-    either false = refl
+    grind (arith, core_set cs c k (started_row cs c cause) h)
 
 depth_either : (t : Bool) (d : DomainRow) → (cond t (path_on_once d) d).depth ≡ cond t 0 d.depth
 depth_either true d = refl

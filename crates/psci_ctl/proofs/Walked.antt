@@ -5,9 +5,8 @@ use Rattle.std.proofs.lemmas.Bool.{cases_eq}
 use Rattle.std.proofs.lemmas.Option.{slice_get-get_or}
 use Rattle.std.proofs.lemmas.List.{get_or_default}
 use Rattle.psci_board.specs.declared.node.Node.{Node}
-use Rattle.psci_board.specs.Board.{height}
+use Rattle.psci_board.specs.Board.{height, domain_of}
 use Rattle.psci_messages.specs.declared.part.Part.{Part}
-use Rattle.psci_board.specs.Board.{domain_of}
 use Rattle.psci_messages.specs.Message.{PartByPart}
 use Rattle.psci_ctl_spec.specs.Parts.{applied, is_applied, is_covered, is_live, is_stale, laid}
 use Rattle.psci_ctl_spec.specs.Values.{Values, starts_below}

@@ -1,4 +1,4 @@
-use Rattle.std.proofs.Common.{◌≡◌, ◌+◌, ◌<◌, length, Some, ap, ◌∙◌, arith, refl}
+use Rattle.std.proofs.Common.{◌≡◌, ◌+◌, ◌<◌, Some, ap, ◌∙◌, arith, refl}
 use Rattle.std.proofs.lemmas.List.{with_items_is}
 use Rattle.psci_ctl.specs.Rows.{values_in}
 use Rattle.psci_ctl.specs.Seen.{ControllerValue}
@@ -8,16 +8,12 @@ use Rattle.psci_ctl.proofs.controller.Controller.reset_system.Goals as goal
 pub invariant_of-self : goal.invariant_of-self
 invariant_of-self c =
     let b = c.self.inside.board in
-    let full_cs : length c.begin_life.new.rows ≡ c.self.inside.cores.len =
-    c.begin_life.auto.rows ∙ c.deref_mut.ensures.len in
-    let full_ds : length c.begin_life.new.levels ≡ c.self.inside.domains.len =
-    c.begin_life.auto.levels ∙ c.deref_mut-2.ensures.len in
     let here : c.self.inside.life ≡ Some c.args.life =
     ap (λ (v : ControllerValue). v.life) c.self.view_is ∙ c.requires in
     let low : c.args.life < b.lives = omega (arith, c.life_limit.ensures) in
     rw (
-      with_items_is c.self.inside.cores _ full_cs,
-      with_items_is c.self.inside.domains _ full_ds,
+      with_items_is c.self.inside.cores _ (c.begin_life.auto.rows ∙ c.deref_mut.ensures.len),
+      with_items_is c.self.inside.domains _ (c.begin_life.auto.levels ∙ c.deref_mut-2.ensures.len),
     )
     (begun_kept b (c.args.life + 1) _ _ c.self.invariant.board
     (next_kept b
@@ -28,17 +24,13 @@ invariant_of-self c =
 pub returns-clause-left : goal.returns-clause-left
 returns-clause-left c =
     let b = c.self.inside.board in
-    let full_cs : length c.begin_life.new.rows ≡ c.self.inside.cores.len =
-    c.begin_life.auto.rows ∙ c.deref_mut.ensures.len in
-    let full_ds : length c.begin_life.new.levels ≡ c.self.inside.domains.len =
-    c.begin_life.auto.levels ∙ c.deref_mut-2.ensures.len in
     let here : c.self.inside.life ≡ Some c.args.life =
     ap (λ (v : ControllerValue). v.life) c.self.view_is ∙ c.requires in
     let low : c.args.life < b.lives = omega (arith, c.life_limit.ensures) in
     rw (
       ← c.self.view_is,
-      with_items_is c.self.inside.cores _ full_cs,
-      with_items_is c.self.inside.domains _ full_ds,
+      with_items_is c.self.inside.cores _ (c.begin_life.auto.rows ∙ c.deref_mut.ensures.len),
+      with_items_is c.self.inside.domains _ (c.begin_life.auto.levels ∙ c.deref_mut-2.ensures.len),
     )
     (record {
       board = refl;

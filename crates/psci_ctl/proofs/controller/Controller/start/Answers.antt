@@ -1,4 +1,4 @@
-use Rattle.std.proofs.Common.{◌≡◌, ℕ, ◌+◌, List, length, ap, ◌∙◌, refl}
+use Rattle.std.proofs.Common.{◌≡◌, ℕ, ◌+◌, List, ap, ◌∙◌, refl}
 use Rattle.std.proofs.lemmas.List.{with_items_is}
 use Rattle.psci_ctl_spec.specs.Values.{Values}
 use Rattle.psci_ctl.specs.declared.row.CoreRow.{CoreRow}
@@ -12,12 +12,8 @@ invariant_of-self c =
     let b = c.self.inside.board in
     let cs = c.self.inside.cores in
     let ds = c.self.inside.domains in
-    let full_cs : length c.start_core.new.rows ≡ cs.len =
-    c.start_core.auto.rows ∙ c.deref_mut.ensures.len in
-    let full_ds : length c.start_core.new.levels ≡ ds.len =
-    c.start_core.auto.levels ∙ c.deref_mut-2.ensures.len in
     let same : whole b c.self.inside.life cs.items ds.items ≡ c.args.self.now = c.self.view_is in
-    rw (with_items_is cs _ full_cs, with_items_is ds _ full_ds)
+    rw (with_items_is cs _ (c.start_core.auto.rows ∙ c.deref_mut.ensures.len), with_items_is ds _ (c.start_core.auto.levels ∙ c.deref_mut-2.ensures.len))
     (started_kept b c.self.inside.life c.args.life c.args.core.number c.args.cause cs.items _
     ds.items _ c.law_limits.ensures.change c.self.invariant
     (ap (λ (v : ControllerValue). v.life) same ∙ c.requires.life)
@@ -38,14 +34,10 @@ start_core-requires-clause-rows c =
 
 pub returns-clause-left : goal.returns-clause-left
 returns-clause-left c =
-    let full_cs : length c.start_core.new.rows ≡ c.self.inside.cores.len =
-    c.start_core.auto.rows ∙ c.deref_mut.ensures.len in
-    let full_ds : length c.start_core.new.levels ≡ c.self.inside.domains.len =
-    c.start_core.auto.levels ∙ c.deref_mut-2.ensures.len in
     rw (
       ← c.self.view_is,
-      with_items_is c.self.inside.cores _ full_cs,
-      with_items_is c.self.inside.domains _ full_ds,
+      with_items_is c.self.inside.cores _ (c.start_core.auto.rows ∙ c.deref_mut.ensures.len),
+      with_items_is c.self.inside.domains _ (c.start_core.auto.levels ∙ c.deref_mut-2.ensures.len),
     )
     (record {
       board = refl;
@@ -57,12 +49,10 @@ pub returns-clause-start : goal.returns-clause-start
 returns-clause-start c =
     let core : ℕ = c.args.core.number in
     let life = c.self.inside.life in
-    let full_cs : length c.start_core.new.rows ≡ c.self.inside.cores.len =
-    c.start_core.auto.rows ∙ c.deref_mut.ensures.len in
     let number : c.starts.result ≡ (core_row c.self.inside.cores.items core).starts + 1 =
     c.starts.ensures
     ∙ ap (λ (xs : List CoreRow). (core_row xs core).starts)
-    (with_items_is c.self.inside.cores _ full_cs)
+    (with_items_is c.self.inside.cores _ (c.start_core.auto.rows ∙ c.deref_mut.ensures.len))
     ∙ ap (λ (v : Values). v.starts core) (c.start_core.ensures.values life)
     ∙ next_number c.self.inside.board
     (values_in life c.deref_mut.result.now c.deref_mut-2.result.now) core c.args.cause
