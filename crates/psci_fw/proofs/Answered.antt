@@ -1,6 +1,6 @@
 -- What a core is answered that stops or enters, and what is left.
 use Rattle.std.proofs.Common.{◌≡◌, ℕ, ◌<◌, ◌==◌, Bool, true, false, cond, not, nat_lt, List, None}
-use Rattle.std.proofs.Common.{Some, Option, Ok, Err, Result, ◌&&◌, refl, sym, subst, ◌∙◌, ap, arith}
+use Rattle.std.proofs.Common.{Some, Option, Ok, Err, Result, ◌&&◌, refl, sym, ◌∙◌, ap, arith}
 use Rattle.std.specs.Option.{option_or}
 use Rattle.psci_abi.specs.declared.request.Request.TheVariants as requests
 use Rattle.psci_board.specs.Board.{BoardValue, cores, may_enter}
@@ -8,7 +8,6 @@ use Rattle.psci_messages.specs.declared.osi.Osi.{Osi}
 use Rattle.psci_messages.specs.declared.part.Part.{Part}
 use Rattle.psci_messages.specs.declared.kind.Kind.TheVariants.{Down}
 use Rattle.psci_state.specs.Ask.{is_deep}
-use Rattle.psci_state.specs.declared.fault.BadState.{BadState}
 use Rattle.psci_fw_spec.specs.declared.fault.FwFault.TheVariants.{NoCore}
 use Rattle.psci_fw_spec.specs.declared.opening.Opening.{Opening}
 use Rattle.psci_fw_spec.specs.declared.outcome.Act.{Act}
@@ -19,12 +18,12 @@ use Rattle.psci_fw_spec.specs.After.{change}
 use Rattle.psci_fw_spec.specs.Changes.{with_arrival, with_claims, with_phase, with_rest}
 use Rattle.psci_fw_spec.specs.Claims.{leaving_claims, off_parts, suspend_parts}
 use Rattle.psci_fw_spec.specs.CpuOff.{off_message}
-use Rattle.psci_fw_spec.specs.CpuSuspend.{ask_named, suspend_answer, suspend_asked}
-use Rattle.psci_fw_spec.specs.Effects.{function_effect, going_off, rest_named, suspends}
+use Rattle.psci_fw_spec.specs.CpuSuspend.{ask_named, suspend_answer}
+use Rattle.psci_fw_spec.specs.Effects.{function_effect, going_off, suspends}
 use Rattle.psci_fw_spec.specs.Entering.{enter_fault, enter_outcome, outcome_at, resumes}
 use Rattle.psci_fw_spec.specs.Lives.{in_life, start_of_life}
 use Rattle.psci_fw_spec.specs.Outcomes.{message_for, stops, stops_with}
-use Rattle.psci_fw_spec.specs.Phases.{Away, Phase, Running, unless_pending}
+use Rattle.psci_fw_spec.specs.Phases.{Away, Running, unless_pending}
 use Rattle.psci_fw_spec.specs.Values.{Values}
 use Rattle.psci_fw_spec.specs.Views.{view}
 use Rattle.psci_fw.specs.Calls.{FunctionAnswered}

@@ -1,17 +1,14 @@
 -- A call that is carried out leaves a firmware.
-use Rattle.std.proofs.Common.{◌≡◌, ◌∙◌, ◌<◌, ℕ, true, nat_lt, Option, None}
-use Rattle.std.proofs.Common.{ap, not, subst, sym}
+use Rattle.std.proofs.Common.{◌≡◌, ◌<◌, ℕ, true, nat_lt, None, not}
 use Rattle.psci_abi.specs.Calls.{request_of}
 use Rattle.psci_abi.specs.declared.registers.Regs.{Regs}
-use Rattle.psci_board.specs.Board.{BoardValue, IsBoard, cores}
+use Rattle.psci_board.specs.Board.{BoardValue, cores}
 use Rattle.psci_fw_spec.specs.declared.call.FwCall.TheVariants.{Smc}
-use Rattle.psci_fw_spec.specs.declared.fault.FwFault.{FwFault}
 use Rattle.psci_fw_spec.specs.declared.fault.FwFault.TheVariants.{NoCore}
 use Rattle.psci_fw_spec.specs.declared.outcome.Outcome.{Outcome}
-use Rattle.psci_fw_spec.specs.declared.reply.FwReply.{FwReply}
 use Rattle.psci_fw_spec.specs.declared.reply.FwReply.TheVariants.{Out}
 use Rattle.psci_fw_spec.specs.After.{after, change}
-use Rattle.psci_fw_spec.specs.Answer.{answer, reply_or}
+use Rattle.psci_fw_spec.specs.Answer.{answer}
 use Rattle.psci_fw_spec.specs.Calls.{call_fault, outcome_of}
 use Rattle.psci_fw_spec.specs.Effects.{function_effect}
 use Rattle.psci_fw_spec.specs.Invariant.{AreValues}

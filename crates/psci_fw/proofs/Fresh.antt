@@ -1,7 +1,6 @@
 -- A firmware that no core has entered, which is as at the start of a life.
-use Rattle.std.proofs.Common.{◌≡◌, ◌==◌, ◌<◌, ℕ, Bool, true, false, cond, nat_lt}
-use Rattle.std.proofs.Common.{None, refl, sym, subst, ap, arith, ◌∙◌}
-use Rattle.std.proofs.Common.{not, ◌||◌}
+use Rattle.std.proofs.Common.{◌≡◌, ◌==◌, ◌<◌, ℕ, Bool, true, false, cond, nat_lt, None, refl, sym}
+use Rattle.std.proofs.Common.{ap, arith, ◌∙◌, not, ◌||◌}
 use Rattle.std.proofs.lemmas.Bool.{eqb-true}
 use Rattle.psci_abi.specs.Calls.{request_of}
 use Rattle.psci_abi.specs.declared.registers.Regs.{Regs}

@@ -1,6 +1,6 @@
 -- Worked examples of where the message stands that is sent.
-use Rattle.std.proofs.Common.{◌≡◌, ℕ, ◌==◌, [], ◌∷◌, Option, None, Some, Ok, Err, refl, ap}
-use Rattle.std.proofs.Common.{map, arith}
+use Rattle.std.proofs.Common.{◌≡◌, ℕ, ◌==◌, [], ◌∷◌, Option, None, Some, Ok, Err, refl, ap, map}
+use Rattle.std.proofs.Common.{arith}
 use Rattle.std.specs.Prelude.{if◌then◌else◌}
 use Rattle.psci_fw_spec.specs.declared.fault.FwFault.TheVariants.{NoLife}
 use Rattle.psci_fw_spec.specs.declared.outcome.Act.TheVariants.{Stop}

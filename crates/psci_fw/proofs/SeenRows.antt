@@ -1,7 +1,7 @@
 -- Worked examples of what is read of a firmware, of the way on of a core that enters, and of what a
 -- suspended core leaves.
-use Rattle.std.proofs.Common.{◌≡◌, ℕ, ◌<◌, [], ◌∷◌, map, true, false, None, Some}
-use Rattle.std.proofs.Common.{refl, ap, arith, sym, Bool, Option, ◌==◌, pos}
+use Rattle.std.proofs.Common.{◌≡◌, ℕ, ◌<◌, [], ◌∷◌, map, true, false, None, Some, refl, ap, arith}
+use Rattle.std.proofs.Common.{sym, Bool, Option, ◌==◌, pos}
 use Rattle.std.specs.Ordering.{int_eq}
 use Rattle.std.specs.Prelude.{if◌then◌else◌}
 use Rattle.psci_abi.specs.declared.code.Code.{Code}

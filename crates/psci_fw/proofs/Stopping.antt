@@ -1,8 +1,8 @@
 -- The claims of cores that stop may be granted: nothing is granted on their paths, and what the
 -- values then grant falls upwards.
 use Rattle.std.proofs.Common.{◌≡◌, ℕ, zero, suc, ◌+◌, ◌<◌, ◌≤◌, ◌==◌, ◌&&◌, Bool, true, false, cond}
-use Rattle.std.proofs.Common.{not, List, length, None, Some, Ok, refl, subst, ◌∙◌, ap, arith}
-use Rattle.std.proofs.Common.{add-one, nat_le}
+use Rattle.std.proofs.Common.{not, List, length, None, Some, Ok, refl, ◌∙◌, ap, arith, add-one}
+use Rattle.std.proofs.Common.{nat_le}
 use Rattle.psci_abi.specs.declared.request.Request.{Request}
 use Rattle.psci_abi.specs.declared.request.Request.TheVariants as requests
 use Rattle.psci_board.specs.Board.{BoardValue, cores, height, may_enter, up}
@@ -15,7 +15,7 @@ use Rattle.psci_messages.specs.declared.kind.Kind.TheVariants.{Down}
 use Rattle.psci_state.specs.Ask.{deepest_of, is_deep}
 use Rattle.psci_fw_spec.specs.declared.mode.SuspendMode.{SuspendMode}
 use Rattle.psci_fw_spec.specs.declared.mode.SuspendMode.TheVariants.{Platform, OsInitiated}
-use Rattle.psci_fw_spec.specs.declared.outcome.Act.TheVariants.{Resume, Stop}
+use Rattle.psci_fw_spec.specs.declared.outcome.Act.TheVariants.{Stop}
 use Rattle.psci_fw_spec.specs.declared.outcome.Outcome.{Outcome}
 use Rattle.psci_messages.specs.declared.start.Start.{Start}
 use Rattle.psci_fw_spec.specs.After.{change}
@@ -23,12 +23,12 @@ use Rattle.psci_fw_spec.specs.Calls.{function_outcome, outcome_of}
 use Rattle.psci_fw_spec.specs.Changes.{Rest, with_arrival, with_phase}
 use Rattle.psci_fw_spec.specs.Claims.{leaving_claims, off_parts, suspend_claims, suspend_parts}
 use Rattle.psci_fw_spec.specs.CpuOff.{off_message}
-use Rattle.psci_fw_spec.specs.CpuSuspend.{ask_named, suspend_answer, suspend_asked}
-use Rattle.psci_fw_spec.specs.Effects.{Effect, Rests, enter_effect, function_effect}
-use Rattle.psci_fw_spec.specs.Entering.{enter_outcome, outcome_at, resumes}
+use Rattle.psci_fw_spec.specs.CpuSuspend.{ask_named, suspend_answer}
+use Rattle.psci_fw_spec.specs.Effects.{Rests, enter_effect, function_effect}
+use Rattle.psci_fw_spec.specs.Entering.{enter_outcome, resumes}
 use Rattle.psci_fw_spec.specs.Invariant.{AreValues}
 use Rattle.psci_fw_spec.specs.Lives.{in_life}
-use Rattle.psci_fw_spec.specs.Outcomes.{message_for, stops, stops_with}
+use Rattle.psci_fw_spec.specs.Outcomes.{message_for, stops_with}
 use Rattle.psci_fw_spec.specs.Paths.{cleared, granted_with}
 use Rattle.psci_fw_spec.specs.Phases.{Running, Suspended, activity_of}
 use Rattle.psci_fw_spec.specs.SystemCalls.{all_others, is_off_status}

@@ -76,7 +76,7 @@ impl Firmware {
     /// The same call, whose message stays in its slot. It is compiled once for each `A`: so a
     /// caller with an `A` of its own has it compiled in place, and reads what came of it where it
     /// is found.
-    #[tactic(auto, unfolding(psci_fw_spec::specs::After::after, psci_fw_spec::specs::Answer::answer))]
+    #[tactic(auto, unfolding(psci_fw_spec::specs::After::after))]
     pub fn smc_in_slot<A>(&mut self, core: Core, regs: Regs) -> Result<Reaction, FwFault>
         ensures answer { reply_in self.new.board (seen self.new) result
             ≡ answer self.old.board (seen self.old) core.number (calls.Smc regs) }
@@ -115,7 +115,7 @@ impl Firmware {
 
     /// The same entry, whose message stays in its slot. It is compiled once for each `A`, as a call
     /// is.
-    #[tactic(auto, unfolding(psci_fw_spec::specs::After::after, psci_fw_spec::specs::Answer::answer))]
+    #[tactic(auto, unfolding(psci_fw_spec::specs::After::after))]
     pub fn enter_in_slot<A>(&mut self, core: Core, start: Start) -> Result<Reaction, FwFault>
         ensures answer { reply_in self.new.board (seen self.new) result
             ≡ answer self.old.board (seen self.old) core.number (calls.Enter start) }
@@ -147,7 +147,7 @@ impl Firmware {
 
     /// Takes an acknowledgement of the power controller: used where its message is outstanding,
     /// else old, and nothing changes.
-    #[tactic(auto, unfolding(psci_fw_spec::specs::After::after, psci_fw_spec::specs::Answer::answer))]
+    #[tactic(auto, unfolding(psci_fw_spec::specs::After::after))]
     pub fn take(&mut self, ack: Ack) -> Taken
         ensures answer { (c : ℕ) → replies.Taken result
             ≡ answer self.old.board (seen self.old) c (calls.Take ack) }

@@ -1,9 +1,9 @@
 -- An acknowledgement is taken: what the values in the state are then.
 use Rattle.std.proofs.Common.{slice_index_or}
 use Rattle.psci_fw_state.proofs.Words.{◌<◌, ◌∙◌, ◌≡◌, Acknowledge, AckValue, Activity, and_parts}
-use Rattle.psci_fw_state.proofs.Words.{answered, ap, applied_part, Bool, cases_lt, changed, cond}
-use Rattle.psci_fw_state.proofs.Words.{confirms_on, CoreRow, CoreState, false, get_or_past}
-use Rattle.psci_fw_state.proofs.Words.{granted_at, inl, inr, is_away, is_confirmed_at, known_at, ℕ}
+use Rattle.psci_fw_state.proofs.Words.{answered, ap, applied_part, arith, Bool, cases_lt, changed}
+use Rattle.psci_fw_state.proofs.Words.{cond, confirms_on, CoreRow, false, get_or_past, granted_at}
+use Rattle.psci_fw_state.proofs.Words.{inl, inr, is_away, is_confirmed_at, known_at, ℕ}
 use Rattle.psci_fw_state.proofs.Words.{is_last_claim, length, List, message_in, MessageValue, None}
 use Rattle.psci_fw_state.proofs.Words.{Option, Part, phase_by, refl, row_at, slice_get, Slot}
 use Rattle.psci_fw_state.proofs.Words.{slot_of, SlotsValue, Some, state_at, StateValue, Status}
@@ -15,10 +15,9 @@ use Rattle.psci_messages.specs.declared.taken.Taken.TheVariants.{Old}
 use Rattle.psci_messages.specs.Slots.{answers, is_kind}
 use Rattle.psci_fw_spec.specs.Changes.{with_acknowledgement}
 use Rattle.psci_fw_state.specs.Seen.{values_in}
-use Rattle.psci_fw_state.proofs.Changed.{core_changed, off_is_away, updated_same}
+use Rattle.psci_fw_state.proofs.Changed.{core_changed, updated_same}
 use Rattle.psci_fw_state.proofs.Confirming.{claims_confirmed}
 use Rattle.psci_fw_spec.specs.declared.status.Status.TheVariants as statuses
-use Rattle.psci_state.specs.declared.cores.Activity.TheVariants as activities
 
 -- Slots -----------------------------------------------------------------------------------------
 
@@ -54,11 +53,7 @@ answered_used a (Some n) m e = by_answer (answers a n) n m e
 
 away_phase : (s t : Status) (a : Activity) → is_away (phase_by s a) ≡ true
     → phase_by t a ≡ phase_by s a
-away_phase statuses.On t activities.Active e = cc
-away_phase s t activities.Active e = cc
-away_phase statuses.On t (activities.Suspended ask) e = cc
-away_phase s t (activities.Suspended ask) e = cc
-away_phase s t activities.Away e = off_is_away t ∙ sym (off_is_away s)
+away_phase s t a e = grind arith
 
 -- the tree after an acknowledgement: the claims that it says were carried out are confirmed
 pub record IsAcked (s : StateValue) (u : TreeValue) (a : AckValue) : Type 0 where

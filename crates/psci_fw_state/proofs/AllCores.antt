@@ -3,17 +3,16 @@ use Rattle.std.proofs.Common.{◌^◌}
 use Rattle.std.proofs.lemmas.List.{drop_all}
 use Rattle.psci_fw_state.proofs.Words.{◌+◌, ◌<◌, ◌==◌, ◌∙◌, ◌≡◌, ◌≤◌, Activity, agrees, ap, arith}
 use Rattle.psci_fw_state.proofs.Words.{below_in, Bool, cond, CoreRow, cores, CoreState, count_by}
-use Rattle.psci_fw_state.proofs.Words.{drop, get_or_past, HasNodeIn, height, is_active, is_away}
-use Rattle.psci_fw_state.proofs.Words.{is_off_status, is_on, is_pending_status}
-use Rattle.psci_fw_state.proofs.Words.{is_suspended_or_pending, IsState, length}
-use Rattle.psci_fw_state.proofs.Words.{length-range_with_len, List, list_any, lt-ltb, ltb}
+use Rattle.psci_fw_state.proofs.Words.{drop, get_or_past, height, is_active, is_away, is_off_status}
+use Rattle.psci_fw_state.proofs.Words.{is_on, is_pending_status, is_suspended_or_pending, IsState}
+use Rattle.psci_fw_state.proofs.Words.{length, length-range_with_len, List, list_any, lt-ltb, ltb}
 use Rattle.psci_fw_state.proofs.Words.{never_started, Node, not, off_row, one_core, phase_by}
 use Rattle.psci_fw_state.proofs.Words.{range_with_len, refl, size_below, size_few, state_at}
 use Rattle.psci_fw_state.proofs.Words.{StateValue, status_at, StatusCounts, sum_by, sym, true, ℕ}
 use Rattle.psci_fw_state.proofs.Words.{◌||◌, ◌∷◌, [], cases_lt, eq-eqb, false, inl, inr, ne_eqb}
 use Rattle.psci_fw_state.proofs.Words.{Status, sum_by-cons}
 use Rattle.psci_fw_spec.specs.SystemCalls.{all_others}
-use Rattle.psci_tree.specs.Recount.{is_away as is_gone, active, is_active_at, is_away_at, off}
+use Rattle.psci_tree.specs.Recount.{is_away as is_gone, active, off}
 use Rattle.psci_board.specs.declared.span.CoreSpan.{CoreSpan}
 use Rattle.psci_board.specs.Laws.{SpanLaws}
 use Rattle.psci_fw_state.specs.Counts.{counts_below}
@@ -21,8 +20,6 @@ use Rattle.psci_tree.proofs.Ranges.{counted_both, ones, sums, all_counted, range
 use Rattle.psci_fw_state.proofs.NodeStatus.{some_counted}
 use Rattle.psci_state.specs.declared.cores.Activity.TheVariants as activities
 use Rattle.std.specs.List.{list_all}
-use Rattle.psci_fw_state.proofs.Changed.{off_is_away, suspended_is}
-use Rattle.psci_fw_spec.specs.declared.status.Status.TheVariants as statuses
 
 -- All cores but one ------------------------------------------------------------------------------
 

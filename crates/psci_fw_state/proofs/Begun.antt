@@ -11,8 +11,8 @@ use Rattle.psci_fw_state.proofs.Words.{leb-true, length, length-replicate, List,
 use Rattle.psci_fw_state.proofs.Words.{message_in, MessageValue, never_started, nodes, None, not}
 use Rattle.psci_fw_state.proofs.Words.{off_row, Option, phase_by, place_above, Platform, refl}
 use Rattle.psci_fw_state.proofs.Words.{row_at, size_below, Slot, SlotsValue, state_at, StateValue}
-use Rattle.psci_fw_state.proofs.Words.{status_at, StatusCounts, subst, sum_by-cons, sym, TreeValue}
-use Rattle.psci_fw_state.proofs.Words.{true, updated, Values, ℕ, get_or, length-map, map}
+use Rattle.psci_fw_state.proofs.Words.{status_at, StatusCounts, sum_by-cons, sym, TreeValue, true}
+use Rattle.psci_fw_state.proofs.Words.{updated, Values, ℕ, get_or, length-map, map}
 use Rattle.psci_board.specs.Board.{IsBoard, is_width, up}
 use Rattle.psci_messages.specs.Slots.{no_messages}
 use Rattle.psci_messages.specs.Slots.Slot.{OfCore, OfSystem}
@@ -23,7 +23,6 @@ use Rattle.psci_fw_state.specs.Seen.{values_in}
 use Rattle.psci_fw_state.proofs.Changed.{eqb_swap}
 use Rattle.psci_state.specs.declared.cores.Activity.TheVariants as activities
 use Rattle.psci_fw_spec.specs.declared.status.Status.TheVariants as statuses
-use Rattle.psci_fw_spec.specs.Phases as phases
 use Rattle.psci_tree.specs.Recount.{level_sizes}
 use Rattle.psci_tree.proofs.Granted.{length_level_sizes, row_length}
 
@@ -79,14 +78,7 @@ each_first b rows is first k = elim (cases_lt k (cores b)) [
 -- every core is OFF, once the boot core is
 pub off_but_boot : (b : BoardValue) (rows : List CoreRow) → IsBoard b → AreFirst b rows → (k : ℕ)
     → updated (status_at rows) 0 statuses.Off k ≡ statuses.Off
-off_but_boot b rows is first k = by (k == 0) refl
-  where
-    by : (t : Bool) → (k == 0) ≡ t → updated (status_at rows) 0 statuses.Off k ≡ statuses.Off
-    by true e = rw e refl
-    by false e =
-        let status : status_at rows k ≡ first_status k =
-        ap (λ (r : CoreRow). r.status) (each_first b rows is first k) in
-        let first_off : first_status k ≡ statuses.Off = rw e refl in rw e (status ∙ first_off)
+off_but_boot b rows is first k = grind (arith, each_first b rows is first k)
 
 -- The values ------------------------------------------------------------------------------------
 

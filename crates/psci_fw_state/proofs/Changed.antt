@@ -1,18 +1,16 @@
 -- What the values in a state say once the state of one core, or its row, is another one.
 use Rattle.std.proofs.lemmas.Bool.{cases_eq}
 use Rattle.psci_fw_state.proofs.Words.{◌<◌, ◌==◌, ◌∙◌, ◌≡◌, ap, arith, BoardValue, Bool, changed}
-use Rattle.psci_fw_state.proofs.Words.{Clear, cleared, cond, CoreRow, cores, CoreState, eq-eqb}
-use Rattle.psci_fw_state.proofs.Words.{eqb-true, false, get_or-set_other, get_or-set_same}
-use Rattle.psci_fw_state.proofs.Words.{granted_at, inl, inr, is_confirmed_at, is_pending_phase}
-use Rattle.psci_fw_state.proofs.Words.{IsState, known_at, length, List, message_in, MessageValue}
-use Rattle.psci_fw_state.proofs.Words.{ne_eqb, None, off_row, Option, Phase, phase_by, refl, row_at}
-use Rattle.psci_fw_state.proofs.Words.{set, size_below, Slot, SlotsValue, Start, state_at}
-use Rattle.psci_fw_state.proofs.Words.{StateValue, Status, status_at, StatusCounts, sym, TreeValue}
-use Rattle.psci_fw_state.proofs.Words.{true, unconfirmed, unless_pending, updated, Values}
-use Rattle.psci_fw_state.proofs.Words.{with_phase, ℕ}
+use Rattle.psci_fw_state.proofs.Words.{Clear, cleared, cond, CoreRow, cores, CoreState, false}
+use Rattle.psci_fw_state.proofs.Words.{get_or-set_other, get_or-set_same, granted_at}
+use Rattle.psci_fw_state.proofs.Words.{is_confirmed_at, is_pending_phase, IsState, known_at, length}
+use Rattle.psci_fw_state.proofs.Words.{List, message_in, MessageValue, None, Option, Phase}
+use Rattle.psci_fw_state.proofs.Words.{phase_by, refl, row_at, set, size_below, Slot, SlotsValue}
+use Rattle.psci_fw_state.proofs.Words.{Start, state_at, StateValue, Status, status_at, StatusCounts}
+use Rattle.psci_fw_state.proofs.Words.{sym, TreeValue, true, unconfirmed, unless_pending, updated}
+use Rattle.psci_fw_state.proofs.Words.{Values, with_phase, ℕ}
 use Rattle.psci_fw_state.specs.Seen.{values_in}
 use Rattle.psci_state.specs.declared.cores.Activity.TheVariants as activities
-use Rattle.psci_fw_spec.specs.declared.status.Status.TheVariants as statuses
 use Rattle.psci_fw_spec.specs.Phases as phases
 
 -- One core --------------------------------------------------------------------------------------
@@ -23,11 +21,7 @@ eqb_swap x y = grind arith
 -- an update to what was there
 pub updated_same : {A : Type 0} (f : ℕ → A) (c : ℕ) (x : A) → x ≡ f c → (k : ℕ)
     → updated f c x k ≡ f k
-updated_same f c x e k = by (k == c) refl
-  where
-    by : (t : Bool) → (k == c) ≡ t → cond t x (f k) ≡ f k
-    by true at = let here : k ≡ c = eqb-true k c at in rw here e
-    by false at = refl
+updated_same f c x e k = grind arith
 
 -- the state of a core in the tree, by the tree's law
 pub core_set : (t u : TreeValue) (c : ℕ) (x : CoreState)
@@ -38,10 +32,7 @@ core_set t u c x law k = law k ∙ ap (λ (a : Bool). cond a x (state_at t k)) (
 -- the row of a core that is there
 pub row_set : (rows : List CoreRow) (c : ℕ) (r : CoreRow) → c < length rows → (k : ℕ)
     → row_at (set rows c r) k ≡ updated (row_at rows) c r k
-row_set rows c r inside k = elim (cases_eq k c) [
-  | inl e ↦ rw (eq-eqb k c e, e) (get_or-set_same rows c r off_row inside)
-  | inr n ↦ rw (ne_eqb k c n) (get_or-set_other rows c k r off_row n)
-]
+row_set rows c r inside k = grind (arith, get_or-set_same, get_or-set_other, cases_eq k c)
 
 both : {A B C : Type 0} (f : A → B → C) (t : Bool) (a a' : A) (b b' : B)
     → f (cond t a a') (cond t b b') ≡ cond t (f a b) (f a' b')

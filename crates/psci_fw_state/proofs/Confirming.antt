@@ -1,8 +1,8 @@
 -- Claims are confirmed one after another, from the core up.
 use Rattle.psci_fw_state.proofs.Words.{◌&&◌, ◌+◌, ◌==◌, ◌∙◌, ◌≡◌, ◌≤◌, AckValue, ap, applied_part}
 use Rattle.psci_fw_state.proofs.Words.{arith, below_in, BoardValue, Bool, cases_lt, cond}
-use Rattle.psci_fw_state.proofs.Words.{confirms_on, cores, eq-eqb, eqb-true, false, granted_at, height, inl}
-use Rattle.psci_fw_state.proofs.Words.{inr, is_confirmed_at, is_last_claim, is_made_at}
+use Rattle.psci_fw_state.proofs.Words.{confirms_on, cores, eq-eqb, eqb-true, false, granted_at}
+use Rattle.psci_fw_state.proofs.Words.{height, inl, inr, is_confirmed_at, is_last_claim, is_made_at}
 use Rattle.psci_fw_state.proofs.Words.{IsDomainTree, known_at, length, List, message_in, min}
 use Rattle.psci_fw_state.proofs.Words.{nat_lt, ne_eqb, Node, None, Option, Part, refl, slice_get}
 use Rattle.psci_fw_state.proofs.Words.{slice_get_past, slot_of, state_at, StateValue, sum_by, sym}

@@ -1,11 +1,12 @@
 -- Parts are granted one after another, from the core up.
 use Rattle.std.proofs.Common.{add-one}
 use Rattle.psci_fw_state.proofs.Words.{◌&&◌, ◌+◌, ◌-◌, ◌<◌, ◌==◌, ◌∙◌, ◌≡◌, ◌≤◌, ap, arith}
-use Rattle.psci_fw_state.proofs.Words.{BoardValue, Bool, claimed_anew, cond, cores, drop, eq-eqb}
-use Rattle.psci_fw_state.proofs.Words.{eqb-true, ne_eqb, false, granted_at, granted_with, HasNodeIn, height}
-use Rattle.psci_fw_state.proofs.Words.{is_confirmed_at, length, List, Node, Option, Part, PathLaws}
-use Rattle.psci_fw_state.proofs.Words.{place_above, refl, size_below, slice_get, slice_get_past}
-use Rattle.psci_fw_state.proofs.Words.{Some, subst, sym, TreeValue, true, ℕ, cases_lt, inl, inr}
+use Rattle.psci_fw_state.proofs.Words.{BoardValue, Bool, claimed_anew, cond, cores, eq-eqb}
+use Rattle.psci_fw_state.proofs.Words.{eqb-true, ne_eqb, false, granted_at, granted_with, HasNodeIn}
+use Rattle.psci_fw_state.proofs.Words.{height, is_confirmed_at, length, List, Node, Option, Part}
+use Rattle.psci_fw_state.proofs.Words.{PathLaws, place_above, refl, size_below, slice_get}
+use Rattle.psci_fw_state.proofs.Words.{slice_get_past, Some, sym, TreeValue, true, ℕ, cases_lt, inl}
+use Rattle.psci_fw_state.proofs.Words.{inr}
 use Rattle.psci_board.specs.Board.{up}
 use Rattle.psci_messages.specs.Message.{PartByPart}
 use Rattle.psci_tree.specs.Changes.{MayGrant}

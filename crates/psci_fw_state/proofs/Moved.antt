@@ -5,22 +5,22 @@ use Rattle.std.proofs.lemmas.Bool.{cases_eq}
 use Rattle.std.specs.Option.{option_or}
 use Rattle.std.specs.Vec.{with_items}
 use Rattle.psci_fw_state.proofs.Words.{◌<◌, ◌==◌, ◌∙◌, ◌≡◌, Activity, ap, AreCounts, arith}
-use Rattle.psci_fw_state.proofs.Words.{BoardValue, Bool, changed, claimed_anew, Clear, cleared, cond}
-use Rattle.psci_fw_state.proofs.Words.{CoreRow, false, get_or-set_other, get_or-set_same}
-use Rattle.psci_fw_state.proofs.Words.{granted_at, granted_with, in_life, inl, inr}
-use Rattle.psci_fw_state.proofs.Words.{is_confirmed_at, is_pending_phase, IsState, known_at, length}
-use Rattle.psci_fw_state.proofs.Words.{length-set, List, message_in, MessageValue, None, off_row}
-use Rattle.psci_fw_state.proofs.Words.{Opening, Option, Phase, phase_by, place_above, Put, refl}
-use Rattle.psci_fw_state.proofs.Words.{row_at, set, Slot, SlotsValue, Some, Start, state_at}
-use Rattle.psci_fw_state.proofs.Words.{StateValue, Status, status_at, StatusCounts, suspends, sym}
-use Rattle.psci_fw_state.proofs.Words.{TreeValue, true, unconfirmed, unless_pending, updated}
-use Rattle.psci_fw_state.proofs.Words.{Values, with_items_is, with_phase, with_rest, ℕ}
+use Rattle.psci_fw_state.proofs.Words.{BoardValue, Bool, changed, claimed_anew, Clear, cleared}
+use Rattle.psci_fw_state.proofs.Words.{cond, CoreRow, false, get_or-set_other, get_or-set_same}
+use Rattle.psci_fw_state.proofs.Words.{granted_at, granted_with, inl, inr, is_confirmed_at}
+use Rattle.psci_fw_state.proofs.Words.{is_pending_phase, IsState, known_at, length, length-set}
+use Rattle.psci_fw_state.proofs.Words.{List, message_in, MessageValue, None, off_row, Opening}
+use Rattle.psci_fw_state.proofs.Words.{Option, Phase, phase_by, place_above, Put, refl, row_at, set}
+use Rattle.psci_fw_state.proofs.Words.{Slot, SlotsValue, Some, Start, state_at, StateValue, Status}
+use Rattle.psci_fw_state.proofs.Words.{status_at, StatusCounts, suspends, sym, TreeValue, true}
+use Rattle.psci_fw_state.proofs.Words.{unconfirmed, unless_pending, updated, Values, with_items_is}
+use Rattle.psci_fw_state.proofs.Words.{with_phase, with_rest, ℕ}
 use Rattle.psci_board.specs.Board.{up}
 use Rattle.psci_state.specs.Ask.{is_deep}
 use Rattle.psci_fw_spec.specs.Changes.{with_arrival, with_claims, with_pending, with_running}
 use Rattle.psci_fw_state.specs.Seen.{stopped, values_in}
-use Rattle.psci_fw_state.proofs.Changed.{arrived, core_changed, core_set, eqb_swap}
-use Rattle.psci_fw_state.proofs.Changed.{left_not_pending, off_is_away, suspended_is, updated_same}
+use Rattle.psci_fw_state.proofs.Changed.{arrived, core_changed, core_set, eqb_swap, suspended_is}
+use Rattle.psci_fw_state.proofs.Changed.{updated_same}
 use Rattle.psci_fw_state.proofs.KeptCounts.{same_counts}
 use Rattle.psci_state.specs.declared.cores.Activity.TheVariants as activities
 use Rattle.psci_fw_spec.specs.declared.status.Status.TheVariants as statuses

@@ -2,12 +2,9 @@
 use Rattle.std.proofs.Common.{◌≡◌, List, [], ◌∷◌, ◌++◌, reverse, refl, ap, sym, ◌∙◌}
 use Rattle.std.proofs.lemmas.List.{reverse-reverse}
 use Rattle.psci_fw.specs.psci_board.Board.{BoardValue}
-use Rattle.psci_ctl.specs.Seen.{seen as seen_controller}
 use Rattle.psci_ctl.specs.psci_ctl_spec.Changes as changes
 use Rattle.psci_ctl.specs.psci_ctl_spec.Exchange as controls
 use Rattle.psci_ctl.specs.psci_ctl_spec.History as controlled
-use Rattle.psci_ctl.specs.psci_ctl_spec.Values as controlled_values
-use Rattle.psci_fw.specs.Seen.{seen as seen_firmware}
 use Rattle.psci_fw.specs.psci_fw_spec.After.{after}
 use Rattle.psci_fw.specs.psci_fw_spec.Exchange as answers
 use Rattle.psci_fw.specs.psci_fw_spec.History as kept
@@ -16,11 +13,10 @@ use Rattle.psci_world_spec.specs.declared.event.Event.{Event}
 use Rattle.psci_world_spec.specs.declared.said.Record.{Record}
 use Rattle.psci_world_spec.specs.declared.said.Said.{Said}
 use Rattle.psci_world_spec.specs.Histories.{acks, call, control, controller_history}
-use Rattle.psci_world_spec.specs.Histories.{controller_values, firmware_history}
-use Rattle.psci_world_spec.specs.Histories.{sent}
+use Rattle.psci_world_spec.specs.Histories.{controller_values, firmware_history, sent}
 use Rattle.psci_world_spec.specs.Places.{place}
-use Rattle.psci_machine.specs.Next.{IsNext, controlled_after, kept_after, place_next}
-use Rattle.psci_machine.specs.Seen.{IsAfter, MachineValue, machine_board, place_in}
+use Rattle.psci_machine.specs.Next.{IsNext, controlled_after, kept_after}
+use Rattle.psci_machine.specs.Seen.{IsAfter, MachineValue}
 
 -- What histories say of one exchange more, by the laws of the crates below.
 pub record HistoryLaws (b : BoardValue) : Type 0 where

@@ -1,6 +1,6 @@
 -- What a wake-up or a reset of a core says and leaves, and a message that is delivered.
-use Rattle.std.proofs.Common.{◌≡◌, ℕ, ◌<◌, ◌==◌, Bool, true, false, List, Option, None}
-use Rattle.std.proofs.Common.{Some, cond, reverse, refl, ap, sym, ◌∙◌, subst}
+use Rattle.std.proofs.Common.{◌≡◌, ℕ, ◌<◌, ◌==◌, Bool, true, false, List, Option, None, Some, cond}
+use Rattle.std.proofs.Common.{reverse, refl, ap, sym, ◌∙◌, subst}
 use Rattle.std.specs.Prelude.{is_some, nat_lt, slice_get, unwrap_or}
 use Rattle.std.proofs.lemmas.List.{reverse-reverse}
 use Rattle.psci_fw.specs.psci_board.Board.{BoardValue, cores}
@@ -25,12 +25,11 @@ use Rattle.psci_world_spec.specs.declared.event.Event.TheVariants.{Wake, Reset, 
 use Rattle.psci_world_spec.specs.declared.place.Place.{Place}
 use Rattle.psci_world_spec.specs.declared.place.Place.TheVariants.{Started, Stopped}
 use Rattle.psci_world_spec.specs.declared.said.Said.{Said}
-use Rattle.psci_world_spec.specs.declared.said.Said.TheVariants.{Absent, Acked}
-use Rattle.psci_world_spec.specs.Histories.{delivered}
+use Rattle.psci_world_spec.specs.declared.said.Said.TheVariants.{Acked}
 use Rattle.psci_world_spec.specs.Legal.{if_stopped, on_board, said_by}
 use Rattle.psci_world_spec.specs.Lists.{indexed}
-use Rattle.psci_world_spec.specs.Places.{place_of_effect, place_controlled}
-use Rattle.psci_machine.specs.Next.{IsNext, controlled_after, place_kicked}
+use Rattle.psci_world_spec.specs.Places.{place_of_effect}
+use Rattle.psci_machine.specs.Next.{IsNext, place_kicked}
 use Rattle.psci_machine.specs.Seen.{MachineValue, machine_board, place_in}
 
 -- Wake-ups and resets --------------------------------------------------------------------------

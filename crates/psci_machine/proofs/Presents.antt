@@ -73,7 +73,8 @@ happens old new event said messages reserved made reserved_acks says after lent 
     let sends = lent ∙ same ∙ is.messages in
     let makes = lent_acks ∙ same_acks ∙ is.acks in
     let right = says b past is.machine sends makes in
-    rw (← right) (next_present b past old new event said is right (after b past is.machine sends makes)
+    rw (← right) (next_present b past old new event said is right
+    (after b past is.machine sends makes)
     (more ∙ ap (λ (l : List MessageValue). l ++ listed (sent_in said)) same)
     (more_acks ∙ ap (λ (l : List AckValue). l ++ listed (ack_in said)) same_acks))
 

@@ -1,6 +1,3 @@
-use Rattle.std.proofs.Common.{◌<◌, sym, subst}
-use Rattle.psci_board.specs.Board.{BoardValue, cores}
-use Rattle.psci_messages.specs.Message.{AreClaims}
 use Rattle.psci_fw_state.specs.Seen.{values_in}
 use Rattle.psci_fw.proofs.Answered.{leaving_off, left_may, off_answered}
 use Rattle.psci_fw.proofs.off.cpu_off.Goals as goal

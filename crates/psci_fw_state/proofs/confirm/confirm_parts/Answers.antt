@@ -1,7 +1,7 @@
-use Rattle.psci_fw_state.proofs.Words.{◌&&◌, ◌+◌, ◌<◌, ◌==◌, ◌∙◌, ◌≡◌, ◌≤◌, ap, arith, Bool, cond}
+use Rattle.psci_fw_state.proofs.Words.{◌&&◌, ◌<◌, ◌==◌, ◌∙◌, ◌≡◌, ◌≤◌, ap, arith, Bool, cond}
 use Rattle.psci_fw_state.proofs.Words.{get_or, granted_at, HasNodeIn, height, is_confirmed_at}
-use Rattle.psci_fw_state.proofs.Words.{is_made_at, length, min, nat_lt, Node, Part}
-use Rattle.psci_fw_state.proofs.Words.{slice_get-get_or, Some, subst, sym, true, up, ℕ}
+use Rattle.psci_fw_state.proofs.Words.{is_made_at, length, nat_lt, Node, Part, slice_get-get_or}
+use Rattle.psci_fw_state.proofs.Words.{Some, subst, sym, true, up, ℕ}
 use Rattle.psci_tree.specs.Standing.{on_path as path_node}
 use Rattle.psci_tree.specs.Recount.{known}
 use Rattle.psci_fw_state.proofs.Confirming.{confirmed_all, confirmed_more, known_stays}
@@ -81,4 +81,5 @@ pub returns-clause-confirmed : goal.returns-clause-confirmed
 returns-clause-confirmed c = λ l p.
     confirmed_all c.args.board.now c.args.core.number c.args.parts.now c.args.tree.now
     c.loop-level.tree c.loop-level.level c.requires.tree.tree c.requires.tree.levels
-    (omega (arith, c.loop-level-test.false, c.min-most.ensures, c.height.ensures.height)) c.loop-level.invariant l p
+    (omega (arith, c.loop-level-test.false, c.min-most.ensures, c.height.ensures.height))
+    c.loop-level.invariant l p

@@ -10,7 +10,8 @@ invariant_of-result c =
     let is : IsBoard b = subst IsBoard c.board.view_is c.board.invariant in
     rw (
       with_items_is c.in_ok-cores.cores _ (c.begin_life.auto.rows ∙ c.deref_mut.ensures.len),
-      with_items_is c.in_ok-domains.domains _ (c.begin_life.auto.levels ∙ c.deref_mut-2.ensures.len),
+      with_items_is c.in_ok-domains.domains _
+          (c.begin_life.auto.levels ∙ c.deref_mut-2.ensures.len),
     )
     (begun_kept b 1 _ _ is (c.law_limits.ensures.first b is) c.begin_life.ensures.rows
     c.begin_life.ensures.values)
@@ -19,7 +20,8 @@ pub returns-clause-values : goal.returns-clause-values
 returns-clause-values c =
     rw (
       with_items_is c.in_ok-cores.cores _ (c.begin_life.auto.rows ∙ c.deref_mut.ensures.len),
-      with_items_is c.in_ok-domains.domains _ (c.begin_life.auto.levels ∙ c.deref_mut-2.ensures.len),
+      with_items_is c.in_ok-domains.domains _
+          (c.begin_life.auto.levels ∙ c.deref_mut-2.ensures.len),
       ← (c.in_ok-board.ensures {u = tt}),
     )
     (c.begin_life.ensures.values (Some 1))

@@ -13,7 +13,10 @@ invariant_of-self c =
     let cs = c.self.inside.cores in
     let ds = c.self.inside.domains in
     let same : whole b c.self.inside.life cs.items ds.items ≡ c.args.self.now = c.self.view_is in
-    rw (with_items_is cs _ (c.start_core.auto.rows ∙ c.deref_mut.ensures.len), with_items_is ds _ (c.start_core.auto.levels ∙ c.deref_mut-2.ensures.len))
+    rw (
+      with_items_is cs _ (c.start_core.auto.rows ∙ c.deref_mut.ensures.len),
+      with_items_is ds _ (c.start_core.auto.levels ∙ c.deref_mut-2.ensures.len),
+    )
     (started_kept b c.self.inside.life c.args.life c.args.core.number c.args.cause cs.items _
     ds.items _ c.law_limits.ensures.change c.self.invariant
     (ap (λ (v : ControllerValue). v.life) same ∙ c.requires.life)

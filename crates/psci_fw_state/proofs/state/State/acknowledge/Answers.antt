@@ -1,8 +1,7 @@
 use Rattle.std.specs.Prelude.{Some}
 use Rattle.psci_fw_state.proofs.Words.{◌<◌, ◌∙◌, ◌≡◌, Acknowledge, AckValue, answered, arith, false}
-use Rattle.psci_fw_state.proofs.Words.{length, message_in, MessageValue, refl, row_at, slot_of}
-use Rattle.psci_fw_state.proofs.Words.{StateValue, subst, sym, taken, the_view, true, turns_off}
-use Rattle.psci_fw_state.proofs.Words.{Used, values_in}
+use Rattle.psci_fw_state.proofs.Words.{length, message_in, refl, row_at, slot_of, StateValue, subst}
+use Rattle.psci_fw_state.proofs.Words.{sym, taken, the_view, true, turns_off, Used, values_in}
 use Rattle.psci_fw_state.proofs.Acked.{acked_by, acked_changed, answered_used, down_has_slot}
 use Rattle.psci_fw_state.proofs.Acked.{IsAcked, sent_parts}
 use Rattle.psci_fw_state.proofs.Changed.{row_set, updated_same}

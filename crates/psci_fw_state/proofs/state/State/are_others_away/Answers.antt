@@ -1,5 +1,5 @@
-use Rattle.psci_fw_state.proofs.Words.{◌∙◌, ◌≡◌, ◌≤◌, ap, arith, Bool, cond, false, height, is_away}
-use Rattle.psci_fw_state.proofs.Words.{not, off, refl, StateValue, sym, the_view, true, ℕ}
+use Rattle.psci_fw_state.proofs.Words.{◌∙◌, ◌≡◌, ◌≤◌, ap, arith, Bool, cond, false, is_away, not}
+use Rattle.psci_fw_state.proofs.Words.{refl, StateValue, the_view, true, ℕ}
 use Rattle.psci_fw_state.specs.Seen.{values_in}
 use Rattle.psci_fw_state.proofs.AllCores.{away, few_off, others_away}
 use mir.Val.{bool_byte}

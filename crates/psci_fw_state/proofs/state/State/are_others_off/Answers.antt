@@ -1,5 +1,4 @@
-use Rattle.psci_fw_state.proofs.Words.{◌+◌, ◌∙◌, ◌≡◌, ap, CoreRow, counts_below, height, one_core}
-use Rattle.psci_fw_state.proofs.Words.{row_at, StateValue, status_at, StatusCounts, sym, the_view}
+use Rattle.psci_fw_state.proofs.Words.{◌≡◌, counts_below, one_core, StateValue, status_at, the_view}
 use Rattle.psci_fw_state.proofs.Words.{ℕ}
 use Rattle.psci_fw_state.specs.Seen.{values_in}
 use Rattle.psci_fw_state.proofs.AllCores.{others_off, system}

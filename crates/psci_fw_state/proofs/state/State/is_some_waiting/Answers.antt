@@ -1,9 +1,7 @@
-use Rattle.psci_fw_state.proofs.Words.{◌∙◌, ◌≡◌, agrees, ap, arith, counts_below, height, off}
-use Rattle.psci_fw_state.proofs.Words.{phase_by, state_at, StateValue, status_at, subst, sym}
-use Rattle.psci_fw_state.proofs.Words.{the_view, true, ℕ}
+use Rattle.psci_fw_state.proofs.Words.{◌∙◌, arith, off, StateValue, the_view, true}
 use Rattle.psci_tree.specs.Recount.{active}
 use Rattle.psci_fw_state.specs.Seen.{values_in}
-use Rattle.psci_fw_state.proofs.AllCores.{fits_settled, none_pending, some_pending, system}
+use Rattle.psci_fw_state.proofs.AllCores.{fits_settled, none_pending, some_pending}
 use Rattle.psci_fw_state.proofs.state.State.is_some_waiting.Goals as goal
 
 pub overflow_add-settled : goal.overflow_add-settled

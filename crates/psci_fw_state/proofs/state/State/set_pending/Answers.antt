@@ -1,6 +1,5 @@
-use Rattle.psci_fw_state.proofs.Words.{◌<◌, ◌∙◌, ◌≡◌, ap, arith, cores, IsOfCores, length}
-use Rattle.psci_fw_state.proofs.Words.{MessageValue, Put, slot_of, Some, StateValue, subst, sym}
-use Rattle.psci_fw_state.proofs.Words.{the_view}
+use Rattle.psci_fw_state.proofs.Words.{◌<◌, ◌≡◌, arith, cores, IsOfCores, length, MessageValue, Put}
+use Rattle.psci_fw_state.proofs.Words.{slot_of, Some, StateValue, the_view}
 use Rattle.psci_fw_state.proofs.Changed.{core_set, in_rows, row_set, within}
 use Rattle.psci_fw_state.proofs.Moved.{path_cleared, path_unconfirmed, pending_of, rows_set}
 use Rattle.psci_messages.specs.contracts.message.Message.{the_view as the_message}
