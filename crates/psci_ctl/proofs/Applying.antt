@@ -7,9 +7,8 @@ use Rattle.std.proofs.lemmas.Bool.{cases_eq, cases_lt, eq-eqb, ne_eqb, le-leb}
 use Rattle.std.proofs.lemmas.List.{drop_all}
 use Rattle.std.proofs.lemmas.List.Sums.{prefix_len_is, prefix_len-le-length}
 use Rattle.std.proofs.lemmas.Option.{slice_get-get_or}
-use Rattle.psci_board.specs.Board.{BoardValue, height, up}
+use Rattle.psci_board.specs.Board.{BoardValue, height, up, domain_of}
 use Rattle.psci_messages.specs.declared.part.Part.{Part}
-use Rattle.psci_board.specs.Board.{domain_of}
 use Rattle.psci_ctl_spec.specs.Parts.{applied, begins_stale, depth_or, is_applied, is_covered}
 use Rattle.psci_ctl_spec.specs.Parts.{is_live, is_stale, laid}
 use Rattle.psci_ctl_spec.specs.Values.{Values}

@@ -1,8 +1,7 @@
 -- What a power controller keeps after each change is such as one keeps.
-use Rattle.std.proofs.Common.{◌≡◌, ℕ, ◌+◌, ◌<◌, ◌≤◌, List, length, Option, Some}
-use Rattle.std.proofs.Common.{sym, ◌∙◌, subst, ap, cond, refl}
+use Rattle.std.proofs.Common.{◌≡◌, ℕ, ◌+◌, ◌<◌, ◌≤◌, List, length, Option, Some, sym, ◌∙◌, subst}
+use Rattle.std.proofs.Common.{ap, cond, refl, Bool, true, false, ◌==◌, ◌&&◌, [], get_or}
 use Rattle.std.specs.Prelude.{nat_lt}
-use Rattle.std.proofs.Common.{Bool, true, false, ◌==◌, ◌&&◌, [], get_or}
 use Rattle.std.proofs.lemmas.Bool.{and_parts, eq-eqb, eqb-true, lt-ltb}
 use Rattle.psci_board.specs.Board.{BoardValue, IsBoard, cores}
 use Rattle.psci_messages.specs.declared.start.Cause.{Cause}

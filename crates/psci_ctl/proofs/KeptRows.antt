@@ -1,7 +1,7 @@
 -- Worked examples of what the power controller keeps, row by row. Two clusters of two cores; core 3
 -- was started twice, by a wake-up, and its cluster is in retention.
-use Rattle.std.proofs.Common.{◌≡◌, ℕ, ◌+◌, ◌*◌, ◌<◌, ◌^◌, List, [], ◌∷◌, map}
-use Rattle.std.proofs.Common.{Some, true, false, refl, ap, arith}
+use Rattle.std.proofs.Common.{◌≡◌, ℕ, ◌+◌, ◌*◌, List, [], ◌∷◌, map, Some, true, false, refl, ap}
+use Rattle.std.proofs.Common.{arith}
 use Rattle.psci_board.proofs.Tables.{◌⇒◌, Gives}
 use Rattle.psci_board.specs.Board.{BoardValue, up}
 use Rattle.psci_board.specs.declared.node.Node.{Node}

@@ -1,10 +1,9 @@
 -- Rows by look-up: what a written row leaves of each.
 use Rattle.std.proofs.Common.{◌≡◌, ℕ, zero, suc, ◌+◌, ◌<◌, ◌≤◌, Bool, true, false, cond, ◌&&◌, ◌==◌}
-use Rattle.std.proofs.Common.{List, [], ◌∷◌, length, get_or, replicate, refl, ap, sym, ◌∙◌}
-use Rattle.std.proofs.Common.{arith, inl, inr}
+use Rattle.std.proofs.Common.{List, [], ◌∷◌, length, get_or, replicate, refl, ap, sym, ◌∙◌, arith}
+use Rattle.std.proofs.Common.{inl, inr}
 use Rattle.std.proofs.Math.ListN.{set, length-set}
 use Rattle.std.proofs.lemmas.Bool.{cases_eq, cases_lt, eq-eqb, ne_eqb, lt-ltb, le-ltb, le-leb}
-use Rattle.std.proofs.lemmas.Bool.{lt-leb}
 use Rattle.std.proofs.lemmas.List.{get_or-set_same, get_or-set_other}
 use Rattle.psci_board.specs.Board.{BoardValue, height, up}
 use Rattle.psci_board.specs.Paths.{is_on_path}
@@ -19,10 +18,7 @@ set_row ds l p row = set ds l (set (get_or ds l []) p row)
 
 at_set : (rs : List DomainRow) (p q : ℕ) (row : DomainRow) → p < length rs
     → get_or (set rs p row) q off_domain ≡ cond (q == p) row (get_or rs q off_domain)
-at_set rs p q row h = elim (cases_eq q p) [
-  | inl e ↦ rw (eq-eqb q p e, e) (get_or-set_same rs p row off_domain h)
-  | inr e ↦ rw (ne_eqb q p e) (get_or-set_other rs p q row off_domain e)
-]
+at_set rs p q row h = grind (arith, get_or-set_same, get_or-set_other, cases_eq q p)
 
 pub domain_set : (ds : List (List DomainRow)) (l p m q : ℕ) (row : DomainRow) → l < length ds
     → p < length (get_or ds l [])
@@ -51,10 +47,7 @@ shape_set b ds l p row shape = record {
 
 pub core_set : (cs : List CoreRow) (c k : ℕ) (row : CoreRow) → c < length cs
     → core_row (set cs c row) k ≡ with_core cs c row k
-core_set cs c k row h = elim (cases_eq k c) [
-  | inl e ↦ rw (eq-eqb k c e, e) (get_or-set_same cs c row off_core h)
-  | inr e ↦ rw (ne_eqb k c e) (get_or-set_other cs c k row off_core e)
-]
+core_set cs c k row h = grind (arith, get_or-set_same, get_or-set_other, cases_eq k c)
 
 -- Powered down -------------------------------------------------------------------------------
 
@@ -101,17 +94,13 @@ pub run_more : (b : BoardValue) (c k : ℕ) (old now new : List (List DomainRow)
 run_more b c k old now new row low before is written l p = elim (cases_eq l k) [
   | inl e ↦ elim (cases_eq p (up b k c)) [
     | inl f ↦ written l p
-        ∙ ap (λ t. cond t row (domain_at now l p))
-        (both_true l k p (up b k c) e f)
-        ∙ is
-        ∙ ap path_on_once (before k (up b k c) ∙ not_yet b c k old k (up b k c) (omega arith)
-        ∙ ap (domain_at old k) (sym f) ∙ ap (λ m. domain_at old m p) (sym e))
+        ∙ (rw (both_true l k p (up b k c) e f, e, f) (is
+        ∙ ap path_on_once (before k (up b k c) ∙ not_yet b c k old k (up b k c) (omega arith))))
         ∙ sym (reached b c (k + 1) old l p true (omega (arith, e))
         (ap (λ m. is_on_path b c m p) e ∙ path_test b c k p low ∙ eq-eqb (up b k c) p (sym f)))
     | inr f ↦ written l p
-        ∙ ap (λ t. cond t row (domain_at now l p))
-        (both_false l k p (up b k c) e f)
-        ∙ before l p ∙ not_yet b c k old l p (omega (arith, e))
+        ∙ (rw (both_false l k p (up b k c) e f) (before l p ∙ not_yet b c k old l p
+        (omega (arith, e))))
         ∙ sym (reached b c (k + 1) old l p false (omega (arith, e))
         (ap (λ m. is_on_path b c m p) e ∙ path_test b c k p low
         ∙ ne_eqb (up b k c) p (λ q. f (sym q))))
@@ -131,9 +120,4 @@ run_more b c k old now new row low before is written l p = elim (cases_eq l k) [
 pub run_whole : (b : BoardValue) (c : ℕ) (old : List (List DomainRow)) (l p : ℕ)
     → path_on_below b c old (height b + 1) l p
     ≡ cond (is_on_path b c l p) (path_on_once (domain_at old l p)) (domain_at old l p)
-run_whole b c old l p = elim (cases_lt l (height b + 1)) [
-  | inl h ↦ reached b c (height b + 1) old l p (is_on_path b c l p) h refl
-  | inr h ↦ not_yet b c (height b + 1) old l p h
-      ∙ ap (λ s. cond (s && up b l c == p) (path_on_once (domain_at old l p)) (domain_at old l p))
-      (sym (lt-leb l (height b) (omega arith)))
-]
+run_whole b c old l p = grind arith

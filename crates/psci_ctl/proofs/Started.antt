@@ -1,8 +1,7 @@
 -- The values in the rows after a start of a core, and after the beginning of a life.
 use Rattle.std.proofs.Common.{◌≡◌, ℕ, ◌+◌, ◌<◌, ◌≤◌, ◌^◌, Bool, true, false, cond, ◌==◌, List}
-use Rattle.std.proofs.Common.{length, replicate, Option, refl, ap, sym, ◌∙◌, arith, inl, inr}
+use Rattle.std.proofs.Common.{length, replicate, Option, refl, ap, sym, ◌∙◌, arith}
 use Rattle.std.proofs.Math.ListN.{set}
-use Rattle.std.proofs.lemmas.Bool.{cases_eq, eq-eqb, ne_eqb}
 use Rattle.psci_board.specs.declared.limits.TheConstants.{MOST_CORES}
 use Rattle.psci_board.specs.declared.node.Node.{Node}
 use Rattle.psci_board.specs.Board.{BoardValue, cores, height}
@@ -10,7 +9,7 @@ use Rattle.psci_messages.specs.declared.start.Cause.{Cause}
 use Rattle.psci_messages.specs.declared.start.Cause.TheVariants as causes
 use Rattle.psci_ctl_spec.specs.Changes.{one_more, with_cause, with_start}
 use Rattle.psci_ctl_spec.specs.Laws.{SumLaws}
-use Rattle.psci_ctl_spec.specs.Values.{Values, start_of_life, starts_below}
+use Rattle.psci_ctl_spec.specs.Values.{start_of_life, starts_below}
 use Rattle.psci_board.specs.Paths.{is_on_path}
 use Rattle.psci_ctl_spec.proofs.OneMore.{same_values}
 use Rattle.psci_ctl.specs.declared.row.CoreRow.{CoreRow}
@@ -29,29 +28,13 @@ row_starts : (cs : List CoreRow) (c k : ℕ) (cause : Cause) → c < length cs
     → (core_row (set cs c (started_row cs c cause)) k).starts
     ≡ one_more (λ m. (core_row cs m).starts) c k
 row_starts cs c k cause h =
-    let row : CoreRow = started_row cs c cause in
-    ap (λ (r : CoreRow). r.starts) (core_set cs c k row h)
-    ∙ elim (cases_eq k c) [
-      | inl e ↦ ap (λ t. (cond t row (core_row cs k)).starts) (eq-eqb k c e)
-          ∙ ap (λ m. (core_row cs m).starts + 1) (sym e)
-          ∙ sym (ap (λ t. cond t ((core_row cs k).starts + 1) (core_row cs k).starts)
-          (eq-eqb k c e))
-      | inr e ↦ ap (λ t. (cond t row (core_row cs k)).starts) (ne_eqb k c e)
-          ∙ sym (ap (λ t. cond t ((core_row cs k).starts + 1) (core_row cs k).starts)
-          (ne_eqb k c e))
-    ]
+    grind (arith, core_set cs c k (started_row cs c cause) h)
 
 row_cause : (cs : List CoreRow) (c k : ℕ) (cause : Cause) → c < length cs
     → (core_row (set cs c (started_row cs c cause)) k).cause
     ≡ with_cause (λ m. (core_row cs m).cause) c cause k
 row_cause cs c k cause h =
-    ap (λ (r : CoreRow). r.cause) (core_set cs c k (started_row cs c cause) h)
-    ∙ either (k == c)
-  where
-    either : (t : Bool) → (cond t (started_row cs c cause) (core_row cs k)).cause
-        ≡ cond t cause (core_row cs k).cause
-    either true = refl
-    either false = refl
+    grind (arith, core_set cs c k (started_row cs c cause) h)
 
 depth_either : (t : Bool) (d : DomainRow) → (cond t (path_on_once d) d).depth ≡ cond t 0 d.depth
 depth_either true d = refl
@@ -69,8 +52,7 @@ pub started_values : (b : BoardValue) (cs : List CoreRow) (old new : List (List 
     → values_in life (set cs c (started_row cs c cause)) new
     ≡ with_start b c cause (values_in life cs old)
 started_values b cs old new c cause h rows life =
-    same_values (values_in life (set cs c (started_row cs c cause)) new)
-    (with_start b c cause (values_in life cs old)) refl
+    same_values _ _ refl
     (λ k. row_starts cs c k cause h) (λ k. row_cause cs c k cause h)
     (λ l p. ap (λ (d : DomainRow). d.depth) (rows l p ∙ run_whole b c old l p)
     ∙ depth_either (is_on_path b c l p) (domain_at old l p))
@@ -125,9 +107,6 @@ pub begun_values : (b : BoardValue) (n : ℕ) (ds : List (List DomainRow)) (life
     → with_start b 0 causes.Boot (values_in life (replicate n off_core) ds)
     ≡ record (start_of_life b) { life = life }
 begun_values b n ds life off =
-    same_values (with_start b 0 causes.Boot (values_in life (replicate n off_core) ds))
-    (record (start_of_life b) { life = life }) refl
-    (λ k. ap (λ (r : CoreRow). cond (k == 0) (r.starts + 1) r.starts) (off_core_row n k))
-    (λ k. ap (λ (r : CoreRow). cond (k == 0) causes.Boot r.cause) (off_core_row n k)
-    ∙ boot_cause (k == 0))
-    (λ l p. ap (λ (d : DomainRow). cond (is_on_path b 0 l p) 0 d.depth) (off l p))
+    same_values _ _ refl
+    (λ k. rw (off_core_row n k) refl) (λ k. rw (off_core_row n k) (boot_cause (k == 0)))
+    (λ l p. rw (off l p) refl)

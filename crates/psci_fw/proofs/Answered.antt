@@ -1,6 +1,6 @@
 -- What a core is answered that stops or enters, and what is left.
 use Rattle.std.proofs.Common.{◌≡◌, ℕ, ◌<◌, ◌==◌, Bool, true, false, cond, not, nat_lt, List, None}
-use Rattle.std.proofs.Common.{Some, Option, Ok, Err, Result, ◌&&◌, refl, sym, subst, ◌∙◌, ap, arith}
+use Rattle.std.proofs.Common.{Some, Option, Ok, Err, Result, ◌&&◌, refl, sym, ◌∙◌, ap, arith}
 use Rattle.std.specs.Option.{option_or}
 use Rattle.psci_abi.specs.declared.request.Request.TheVariants as requests
 use Rattle.psci_board.specs.Board.{BoardValue, cores, may_enter}
@@ -8,7 +8,6 @@ use Rattle.psci_messages.specs.declared.osi.Osi.{Osi}
 use Rattle.psci_messages.specs.declared.part.Part.{Part}
 use Rattle.psci_messages.specs.declared.kind.Kind.TheVariants.{Down}
 use Rattle.psci_state.specs.Ask.{is_deep}
-use Rattle.psci_state.specs.declared.fault.BadState.{BadState}
 use Rattle.psci_fw_spec.specs.declared.fault.FwFault.TheVariants.{NoCore}
 use Rattle.psci_fw_spec.specs.declared.opening.Opening.{Opening}
 use Rattle.psci_fw_spec.specs.declared.outcome.Act.{Act}
@@ -19,12 +18,12 @@ use Rattle.psci_fw_spec.specs.After.{change}
 use Rattle.psci_fw_spec.specs.Changes.{with_arrival, with_claims, with_phase, with_rest}
 use Rattle.psci_fw_spec.specs.Claims.{leaving_claims, off_parts, suspend_parts}
 use Rattle.psci_fw_spec.specs.CpuOff.{off_message}
-use Rattle.psci_fw_spec.specs.CpuSuspend.{ask_named, suspend_answer, suspend_asked}
-use Rattle.psci_fw_spec.specs.Effects.{function_effect, going_off, rest_named, suspends}
+use Rattle.psci_fw_spec.specs.CpuSuspend.{ask_named, suspend_answer}
+use Rattle.psci_fw_spec.specs.Effects.{function_effect, going_off, suspends}
 use Rattle.psci_fw_spec.specs.Entering.{enter_fault, enter_outcome, outcome_at, resumes}
 use Rattle.psci_fw_spec.specs.Lives.{in_life, start_of_life}
 use Rattle.psci_fw_spec.specs.Outcomes.{message_for, stops, stops_with}
-use Rattle.psci_fw_spec.specs.Phases.{Away, Phase, Running, unless_pending}
+use Rattle.psci_fw_spec.specs.Phases.{Away, Running, unless_pending}
 use Rattle.psci_fw_spec.specs.Values.{Values}
 use Rattle.psci_fw_spec.specs.Views.{view}
 use Rattle.psci_fw.specs.Calls.{FunctionAnswered}
@@ -32,7 +31,7 @@ use Rattle.psci_fw.specs.Suspending.{left_by_suspend}
 use Rattle.psci_fw.specs.Ways.{way_by, way_on}
 use Rattle.psci_fw.proofs.Refused.{is_there, passed}
 use Rattle.psci_fw_state.specs.Claims.{MayClaim}
-use Rattle.psci_fw_state.proofs.Equal.{arrived, same_values, updated_same}
+use Rattle.psci_fw_state.proofs.Changed.{arrived, updated_same}
 
 -- Stopping --------------------------------------------------------------------------------------
 
@@ -42,38 +41,23 @@ pub leaving_off : (b now : BoardValue) (v w : Values) (c : ℕ) (parts : List Pa
     → parts ≡ off_parts b v c
 unfolding off_parts
 leaving_off b now v w c parts at e is =
-    is ∙ ap (λ (x : BoardValue). leaving_claims x (view x w) c w.mode) at
-    ∙ ap (λ (x : Values). leaving_claims b (view b x) c x.mode) e
+    rw (is, at, e) refl
 
 pub left_may : (b now : BoardValue) (v w : Values) (c : ℕ) (parts whole : List Part) → now ≡ b
     → w ≡ with_phase c Away v → parts ≡ whole → MayClaim b c whole v.granted
     → MayClaim now c parts w.granted
-left_may b now v w c parts whole at e same may =
-    subst (λ (x : BoardValue). MayClaim x c parts w.granted) (sym at)
-    (subst (λ (x : Values). MayClaim b c parts x.granted) (sym e)
-    (subst (λ (ps : List Part). MayClaim b c ps v.granted) (sym same) may))
+left_may b now v w c parts whole at e same may = rw (at, e, same) may
 
 -- what is answered to a core that stops so
 pub parked : (b : BoardValue) (v w : Values) (c : ℕ) (o : Outcome) (parts : List Part)
     → w ≡ with_phase c Away v → parts ≡ off_parts b v c
     → o ≡ stops_with (message_for w Down c parts) → o ≡ stops_with (off_message b v c)
-parked b v w c o parts e same is =
-    is ∙ ap (λ (x : Values). stops_with (message_for x Down c parts)) e
-    ∙ ap (λ (ps : List Part). stops_with (message_for v Down c ps)) same
+parked b v w c o parts e same is = rw (is, e, same) refl
 
 rest_away : (v : Values) (c : ℕ) → with_rest c going_off v ≡ with_phase c Away v
-rest_away v c = same_values _ _ (record {
-  life = refl;
-  halting = refl;
-  mode = refl;
-  known = λ k. refl;
-  status = λ k. refl;
-  phase = λ k. refl;
-  opening = updated_same v.opening c (option_or None (v.opening c)) refl;
-  granted = λ l p. refl;
-  confirmed = λ l p. refl;
-  outstanding = λ slot. refl;
-})
+rest_away v c = λ i. record (with_phase c Away v) {
+  opening = λ k. updated_same v.opening c (option_or None (v.opening c)) refl k i;
+}
 
 pub off_answered : (b now : BoardValue) (v w u : Values) (c : ℕ) (o : Outcome)
     (parts : List Part) → now ≡ b → w ≡ with_phase c Away v
@@ -86,33 +70,16 @@ off_answered b now v w u c o parts at e is answer left =
     let stopped = parked b v w c o parts e same answer in
     record {
       answer = stopped;
-      after = left
-          ∙ ap (λ (x : BoardValue). with_claims x (message_for w Down c parts) w) at
-          ∙ ap (λ (x : Values). with_claims b (message_for x Down c parts) x) e
-          ∙ ap (λ (ps : List Part). with_claims b (message_for v Down c ps) (with_phase c Away v))
-          same
-          ∙ ap (with_claims b (off_message b v c)) (sym (rest_away v c))
-          ∙ ap (λ (x : Outcome). change b (function_effect b c requests.CpuOff x.act x.message) v)
-          (sym stopped);
+      after = rw (left, at, e, same, stopped)
+          (ap (with_claims b (off_message b v c)) (sym (rest_away v c)));
     }
 
 -- Suspended -------------------------------------------------------------------------------------
 
 -- a running core that goes on changes nothing
 pub goes_on : (v : Values) (c : ℕ) → v.phase c ≡ Running → v ≡ with_phase c Running v
-goes_on v c e = same_values _ _ (record {
-  life = refl;
-  halting = refl;
-  mode = refl;
-  known = λ k. refl;
-  status = λ k. refl;
-  phase = λ k.
-      sym (updated_same v.phase c (unless_pending (v.phase c) Running)
-      (ap (λ (p : Phase). unless_pending p Running) e ∙ sym e) k);
-  opening = λ k. refl;
-  granted = λ l p. refl;
-  confirmed = λ l p. refl;
-  outstanding = λ slot. refl;
+goes_on v c e = sym (λ i. record v {
+  phase = λ k. updated_same v.phase c (unless_pending (v.phase c) Running) (rw e refl) k i;
 })
 
 module _ (b : BoardValue) (v : Values) (c word : ℕ) (opening : Opening) (ask : List ℕ)
@@ -121,10 +88,7 @@ module _ (b : BoardValue) (v : Values) (c word : ℕ) (opening : Opening) (ask :
       → left_by_suspend b v c (suspends opening ask) (suspend_answer v c x).message
       ≡ change b (function_effect b c (requests.CpuSuspend word opening.address opening.context)
       (suspend_answer v c x).act (suspend_answer v c x).message) v
-  slept_after (Ok parts) =
-      ap (λ (n : Result (List ℕ) BadState).
-      with_claims b (message_for v Down c parts) (with_rest c (rest_named opening n) v))
-      (sym named)
+  slept_after (Ok parts) = rw named refl
   slept_after (Err reason) = goes_on v c running
 
   pub suspended_answered : (o : Outcome) (w : Values)
@@ -134,15 +98,9 @@ module _ (b : BoardValue) (v : Values) (c word : ℕ) (opening : Opening) (ask :
       → FunctionAnswered b v c (requests.CpuSuspend word opening.address opening.context) o w
   suspended_answered o w may low is left =
       let other : (v.known c == b.starts) ≡ false = grind arith in
-      let asked : suspend_asked b v c opening.address (Ok ask)
-      ≡ suspend_answer v c (suspend_parts b v c ask) = rw (may, other) refl in
       record {
-        answer = is ∙ sym (ap (suspend_asked b v c opening.address) named ∙ asked);
-        after = left ∙ ap
-            (λ (x : Outcome). left_by_suspend b v c (suspends opening ask) x.message) is
-            ∙ slept_after (suspend_parts b v c ask)
-            ∙ ap (λ (x : Outcome). change b (function_effect b c
-            (requests.CpuSuspend word opening.address opening.context) x.act x.message) v) (sym is);
+        answer = rw (is, named, may, other) refl;
+        after = rw (left, is) (slept_after (suspend_parts b v c ask));
       }
 
 -- Entering --------------------------------------------------------------------------------------
@@ -158,16 +116,13 @@ in_life_again b life v = by (life == v.life) refl
 
 arrival_again : (b : BoardValue) (v w : Values) (c : ℕ) (s : Start) → w ≡ in_life b s.life v
     → with_arrival b c s w ≡ with_arrival b c s v
-arrival_again b v w c s e =
-    ap (λ (x : Values). arrived b c s (in_life b s.life x)) e
-    ∙ ap (arrived b c s) (in_life_again b s.life v)
+arrival_again b v w c s e = rw e (ap (arrived b c s) (in_life_again b s.life v))
 
 pub arrived_away : (b now : BoardValue) (v w u : Values) (c : ℕ) (s : Start) → now ≡ b
     → w ≡ in_life b s.life v → u ≡ with_phase c Away (with_arrival now c s w)
     → u ≡ with_phase c Away (with_arrival b c s v)
 arrived_away b now v w u c s at e is =
-    is ∙ ap (λ (x : BoardValue). with_phase c Away (with_arrival x c s w)) at
-    ∙ ap (with_phase c Away) (arrival_again b v w c s e)
+    rw (is, at) (ap (with_phase c Away) (arrival_again b v w c s e))
 
 pub fault_inside : (b : BoardValue) (v : Values) (c : ℕ) (s : Start)
     → enter_fault b v c s ≡ None → c < cores b
@@ -176,10 +131,7 @@ fault_inside b v c s e = is_there c (cores b) (passed (not (nat_lt c (cores b)))
 pub halted_outcome : (b : BoardValue) (v : Values) (c : ℕ) (s : Start)
     → (in_life b s.life v).halting ≡ true → stops ≡ enter_outcome b v c s
 unfolding enter_outcome
-halted_outcome b v c s e =
-    let found = in_life b s.life v in
-    sym (ap (λ (t : Bool).
-    cond t stops (outcome_at b found (with_arrival b c s v) c s (found.opening c))) e)
+halted_outcome b v c s e = rw e refl
 
 -- Where a core goes on --------------------------------------------------------------------------
 
@@ -205,24 +157,16 @@ way_outcome b v c s act awake e =
     ∙ sym (ap (λ (t : Bool).
     cond t stops (outcome_at b found (with_arrival b c s v) c s (found.opening c))) awake)
 
-opening_by : (found : Values) (c : ℕ) (s : Start) (o : Option Opening)
-    → way_by found c s o ≡ None → o ≡ None
-opening_by found c s (Some o) e = cc
-opening_by found c s None e = refl
-
-pub no_opening : (found : Values) (c : ℕ) (s : Start) → way_on found c s ≡ None
-    → found.opening c ≡ None
-no_opening found c s e = opening_by found c s (found.opening c) e
-
-resume_by : (found : Values) (c : ℕ) (s : Start) (o : Option Opening) → way_by found c s o ≡ None
-    → resumes found c s ≡ false
-resume_by found c s (Some o) e = cc
-resume_by found c s None e = by (resumes found c s) e
+no_way_by : (found : Values) (c : ℕ) (s : Start) (o : Option Opening) → way_by found c s o ≡ None
+    → (o ≡ None) × (resumes found c s ≡ false)
+no_way_by found c s (Some o) e = cc
+no_way_by found c s None e = (refl, by (resumes found c s) e)
   where
     by : (t : Bool) → ◌≡◌ {A = Option Act} (cond t (Some Resume) None) None → t ≡ false
     by true f = cc
     by false f = refl
 
-pub no_resume : (found : Values) (c : ℕ) (s : Start) → way_on found c s ≡ None
-    → resumes found c s ≡ false
-no_resume found c s e = resume_by found c s (found.opening c) e
+-- a core that has no way on has no opening, and does not resume
+pub no_way : (found : Values) (c : ℕ) (s : Start) → way_on found c s ≡ None
+    → (found.opening c ≡ None) × (resumes found c s ≡ false)
+no_way found c s e = no_way_by found c s (found.opening c) e

@@ -1,8 +1,7 @@
 -- What a call leaves that is not refused.
 use Rattle.std.proofs.Common.{◌≡◌, ◌∙◌, ◌==◌, ℕ, Bool, true, false, cond, nat_lt, Option, None}
-use Rattle.std.proofs.Common.{Some, IfSome, ap, refl, sym}
+use Rattle.std.proofs.Common.{Some, IfSome, ap, refl, sym, not}
 use Rattle.std.proofs.lemmas.Option.{same_Some}
-use Rattle.std.proofs.Common.{not}
 use Rattle.psci_abi.specs.Calls.{argument, low_half, request_of}
 use Rattle.psci_abi.specs.Codes.{invalid_parameters}
 use Rattle.psci_abi.specs.declared.code.Code.{Code}
@@ -22,7 +21,7 @@ use Rattle.psci_fw_spec.specs.Calls.{call_fault, function_outcome, outcome_of}
 use Rattle.psci_fw_spec.specs.CpuSuspend.{suspend_asked}
 use Rattle.psci_fw_spec.specs.Effects.{effect_of, function_effect}
 use Rattle.psci_fw_spec.specs.Outcomes.{returns, stops}
-use Rattle.psci_fw_spec.specs.Phases.{Running, Phase}
+use Rattle.psci_fw_spec.specs.Phases.{Running, Phase, is_running}
 use Rattle.psci_fw_spec.specs.Values.{Values}
 use Rattle.psci_fw.specs.Asking.{code_asked, may_call}
 use Rattle.psci_fw.specs.Calls.{FunctionAnswered, IsReturned}
@@ -30,7 +29,6 @@ use Rattle.psci_fw.specs.Read.{IsNoSuspend}
 use Rattle.psci_fw.specs.Seen.{FirmwareValue, seen}
 use Rattle.psci_fw.proofs.Answered.{goes_on}
 use Rattle.psci_fw.proofs.Refused.{passed}
-use Rattle.psci_fw_spec.specs.Phases.{is_running}
 
 -- a call that only asks something
 pub returned : (f : FirmwareValue) (c : ℕ) (regs : Regs) (r : Request) (code : Code)
@@ -113,8 +111,5 @@ pub called : (b : BoardValue) (v w : Values) (c : ℕ) (regs : Regs) (r : Reques
     → w ≡ after b c (Smc regs) (answer b v c (Smc regs)) v
 unfolding answer after
 called b v w c regs r o fault read is left =
-    left ∙ ap (λ (x : Outcome). change b (function_effect b c r x.act x.message) v) is
-    ∙ ap (λ (x : Request). change b (function_effect b c x (outcome_of b v c x).act
-    (outcome_of b v c x).message) v) read
-    ∙ sym (ap (λ (f : Option FwFault). change b (effect_of b c (Smc regs)
-    (reply_or f (outcome_of b v c (request_of regs)))) v) fault)
+    rw (left, is, read) (sym (ap (λ (f : Option FwFault). change b (effect_of b c (Smc regs)
+    (reply_or f (outcome_of b v c (request_of regs)))) v) fault))

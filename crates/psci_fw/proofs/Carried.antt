@@ -1,17 +1,14 @@
 -- A call that is carried out leaves a firmware.
-use Rattle.std.proofs.Common.{◌≡◌, ◌∙◌, ◌<◌, ℕ, true, nat_lt, Option, None}
-use Rattle.std.proofs.Common.{ap, not, subst, sym}
+use Rattle.std.proofs.Common.{◌≡◌, ◌<◌, ℕ, true, nat_lt, None, not}
 use Rattle.psci_abi.specs.Calls.{request_of}
 use Rattle.psci_abi.specs.declared.registers.Regs.{Regs}
-use Rattle.psci_board.specs.Board.{BoardValue, IsBoard, cores}
+use Rattle.psci_board.specs.Board.{BoardValue, cores}
 use Rattle.psci_fw_spec.specs.declared.call.FwCall.TheVariants.{Smc}
-use Rattle.psci_fw_spec.specs.declared.fault.FwFault.{FwFault}
 use Rattle.psci_fw_spec.specs.declared.fault.FwFault.TheVariants.{NoCore}
 use Rattle.psci_fw_spec.specs.declared.outcome.Outcome.{Outcome}
-use Rattle.psci_fw_spec.specs.declared.reply.FwReply.{FwReply}
 use Rattle.psci_fw_spec.specs.declared.reply.FwReply.TheVariants.{Out}
 use Rattle.psci_fw_spec.specs.After.{after, change}
-use Rattle.psci_fw_spec.specs.Answer.{answer, reply_or}
+use Rattle.psci_fw_spec.specs.Answer.{answer}
 use Rattle.psci_fw_spec.specs.Calls.{call_fault, outcome_of}
 use Rattle.psci_fw_spec.specs.Effects.{function_effect}
 use Rattle.psci_fw_spec.specs.Invariant.{AreValues}
@@ -40,11 +37,7 @@ module _ (f g : FirmwareValue) (c : ℕ) (regs : Regs) (o : Outcome) (may : may_
     (is : o ≡ outcome_of f.board (seen f) c (request_of regs)) where
   pub answered : Out o ≡ answer f.board (seen f) c (Smc regs)
   unfolding answer
-  answered =
-      let (fault, _) = carried_out f c may in
-      ap Out is
-      ∙ sym (ap (λ (x : Option FwFault).
-      reply_or x (outcome_of f.board (seen f) c (request_of regs))) fault)
+  answered = let (fault, _) = carried_out f c may in rw (is, fault)
 
   module _ (left : seen g ≡ change f.board (function_effect f.board c (request_of regs) o.act
       o.message) (seen f)) where
@@ -58,31 +51,25 @@ module _ (f g : FirmwareValue) (c : ℕ) (regs : Regs) (o : Outcome) (may : may_
         → IsFresh f.board (change f.board (function_effect f.board c (request_of regs) o.act
         o.message) (seen f)) → IsFirmware g
     firmware_left at before values fresh = record {
-      board = subst IsBoard (sym at) before.board;
-      values = subst (λ (x : BoardValue). AreValues x (seen g)) (sym at)
-          (subst (AreValues f.board)
-          (sym (carried ∙ ap (λ (x : FwReply). after f.board c (Smc regs) x (seen f)) answered))
-          values);
-      fresh = subst (λ (x : BoardValue). IsFresh x (seen g)) (sym at)
-          (subst (IsFresh f.board) (sym left) fresh);
+      board = rw at before.board;
+      values = rw (carried, answered, at) values;
+      fresh = rw (left, at) fresh;
     }
 
 -- the same of the firmware that this one is
 pub may_seen : {f now : FirmwareValue} (c : ℕ) → f ≡ now → may_call now c ≡ true
     → may_call f c ≡ true
-may_seen c is may = subst (λ (x : FirmwareValue). may_call x c ≡ true) (sym is) may
+may_seen c is may = rw is may
 
 pub answered_seen : (f now : FirmwareValue) (c : ℕ) (regs : Regs) (o : Outcome) → f ≡ now
     → may_call now c ≡ true → o ≡ outcome_of f.board (seen f) c (request_of regs)
     → Out o ≡ answer now.board (seen now) c (Smc regs)
 answered_seen f now c regs o is may e =
-    subst (λ (x : FirmwareValue). Out o ≡ answer x.board (seen x) c (Smc regs)) is
-    (answered f f c regs o (may_seen c is may) e)
+    rw (← is) (answered f f c regs o (may_seen c is may) e)
 
 pub carried_seen : (f now g : FirmwareValue) (c : ℕ) (regs : Regs) (o : Outcome) → f ≡ now
     → may_call now c ≡ true → o ≡ outcome_of f.board (seen f) c (request_of regs)
     → seen g ≡ change f.board (function_effect f.board c (request_of regs) o.act o.message) (seen f)
     → seen g ≡ after now.board c (Smc regs) (Out o) (seen now)
 carried_seen f now g c regs o is may e left =
-    subst (λ (x : FirmwareValue). seen g ≡ after x.board c (Smc regs) (Out o) (seen x)) is
-    (carried f g c regs o (may_seen c is may) e left)
+    rw (← is) (carried f g c regs o (may_seen c is may) e left)

@@ -1,7 +1,6 @@
 -- A firmware that no core has entered, which is as at the start of a life.
-use Rattle.std.proofs.Common.{◌≡◌, ◌==◌, ◌<◌, ℕ, Bool, true, false, cond, nat_lt}
-use Rattle.std.proofs.Common.{None, refl, sym, subst, ap, arith, ◌∙◌}
-use Rattle.std.proofs.Common.{not, ◌||◌}
+use Rattle.std.proofs.Common.{◌≡◌, ◌==◌, ◌<◌, ℕ, Bool, true, false, cond, nat_lt, None, refl, sym}
+use Rattle.std.proofs.Common.{ap, arith, ◌∙◌, not, ◌||◌}
 use Rattle.std.proofs.lemmas.Bool.{eqb-true}
 use Rattle.psci_abi.specs.Calls.{request_of}
 use Rattle.psci_abi.specs.declared.registers.Regs.{Regs}
@@ -39,8 +38,7 @@ begun_by b life false e = refl
 pub begun_fresh : (b : BoardValue) (v : Values) (life : ℕ) → v.life ≡ 0 → IsFresh b v
     → record v { life = life } ≡ in_life b life v
 begun_fresh b v life e fresh =
-    subst (λ (x : Values). record x { life = life } ≡ in_life b life x) (sym (fresh.same e))
-    (begun_by b life (life == 0) refl)
+    rw (fresh.same e) (begun_by b life (life == 0) refl)
 
 -- In a life -------------------------------------------------------------------------------------
 

@@ -1,9 +1,7 @@
 -- Worked examples of where the message stands that is sent.
-use Rattle.std.proofs.Common.{◌≡◌, ℕ, ◌==◌, [], ◌∷◌, Option, None, Some, Ok, Err, refl, ap}
-use Rattle.std.proofs.Common.{map, arith}
+use Rattle.std.proofs.Common.{◌≡◌, ℕ, ◌==◌, [], ◌∷◌, Option, None, Some, Ok, Err, refl, ap, map}
+use Rattle.std.proofs.Common.{arith}
 use Rattle.std.specs.Prelude.{if◌then◌else◌}
-use Rattle.psci_board.specs.Board.{BoardValue}
-use Rattle.psci_fw_spec.specs.psci_abi.declared.format.Format.TheVariants.{Original}
 use Rattle.psci_fw_spec.specs.declared.fault.FwFault.TheVariants.{NoLife}
 use Rattle.psci_fw_spec.specs.declared.outcome.Act.TheVariants.{Stop}
 use Rattle.psci_fw_spec.specs.declared.reply.FwReply.TheVariants.{Out, Fault}
@@ -15,25 +13,15 @@ use Rattle.psci_messages.specs.Message.{MessageValue}
 use Rattle.psci_messages.specs.Slots.{Slot}
 use Rattle.psci_messages.specs.Slots.Slot.{OfCore, OfSystem}
 use Rattle.psci_fw.specs.declared.reaction.Reaction.{Reaction}
+use Rattle.psci_fw_state.proofs.KeptRows.{board}
 use Rattle.psci_fw.specs.Reactions.{IsInItsSlot, outcome_in, reply_in, sent_from, slot_number}
-
--- a board of four cores
-abbrev board : BoardValue
-board = record {
-  levels = (2 ∷ 2 ∷ []) ∷ (2 ∷ []) ∷ [];
-  ranges = record { start = 0; end = 64 } ∷ [];
-  boot = 32;
-  starts = 9;
-  lives = 3;
-  format = Original;
-}
 
 abbrev message : Kind → ℕ → MessageValue
 message kind core =
     record { kind = kind; core = record { number = core }; life = 2; number = 4; parts = [] }
 
--- core 3 has sent a Down, core 1 a Reset of the system, and in the slot of core 0 stands what is
--- not its own
+-- on a board of four cores, core 3 has sent a Down, core 1 a Reset of the system, and in the slot
+-- of core 0 stands what is not its own
 abbrev waiting : Slot → Option MessageValue
 waiting (OfCore c) = if c == 3 then Some (message Down 3)
     else (if c == 0 then Some (message Start 2) else None)

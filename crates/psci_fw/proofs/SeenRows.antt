@@ -1,15 +1,14 @@
 -- Worked examples of what is read of a firmware, of the way on of a core that enters, and of what a
 -- suspended core leaves.
-use Rattle.std.proofs.Common.{◌≡◌, ℕ, ◌<◌, [], ◌∷◌, map, true, false, None, Some}
-use Rattle.std.proofs.Common.{refl, ap, arith, sym, Bool, Option, ◌==◌, pos}
+use Rattle.std.proofs.Common.{◌≡◌, ℕ, ◌<◌, [], ◌∷◌, map, true, false, None, Some, refl, ap, arith}
+use Rattle.std.proofs.Common.{sym, Bool, Option, ◌==◌, pos}
 use Rattle.std.specs.Ordering.{int_eq}
 use Rattle.std.specs.Prelude.{if◌then◌else◌}
 use Rattle.psci_abi.specs.declared.code.Code.{Code}
 use Rattle.psci_abi.specs.declared.registers.Regs.{Regs}
-use Rattle.psci_board.specs.Board.{BoardValue, up}
+use Rattle.psci_board.specs.Board.{up}
 use Rattle.psci_board.specs.declared.node.Node.{Node}
 use Rattle.psci_board.proofs.Tables.{◌⇒◌, Gives}
-use Rattle.psci_fw_spec.specs.psci_abi.declared.format.Format.TheVariants.{Original}
 use Rattle.psci_state.specs.declared.cores.Activity.TheVariants as activities
 use Rattle.psci_fw_spec.specs.declared.fault.FwFault.TheVariants as faults
 use Rattle.psci_fw_spec.specs.declared.hw.Hw.TheVariants as hardware
@@ -38,17 +37,8 @@ use Rattle.psci_fw.specs.Halts.{IsOfSystem}
 use Rattle.psci_fw.specs.Seen.{FirmwareValue, IsFresh, hw_shown, life_shown, status_shown}
 use Rattle.psci_fw.specs.Suspending.{left_by_suspend}
 use Rattle.psci_fw.specs.Ways.{way_by, way_on}
+use Rattle.psci_fw_state.proofs.KeptRows.{board}
 use Rattle.psci_fw.proofs.Answered.{goes_on}
-
-abbrev board : BoardValue
-board = record {
-  levels = (2 ∷ 2 ∷ []) ∷ (2 ∷ []) ∷ [];
-  ranges = record { start = 0; end = 64 } ∷ [];
-  boot = 32;
-  starts = 9;
-  lives = 3;
-  format = Original;
-}
 
 -- in this life core 0 runs, core 1 is asked on, and the second cluster is in standby
 abbrev firmware : ℕ → FirmwareValue
@@ -58,7 +48,7 @@ firmware life = record {
   halting = false;
   mode = OsInitiated;
   tree = record {
-    levels = (2 ∷ 2 ∷ []) ∷ (2 ∷ []) ∷ [];
+    levels = board.levels;
     cores =
         record { activity = activities.Active; known = 1 }
         ∷ record { activity = activities.Active; known = 0 }

@@ -1,8 +1,8 @@
 -- The claims of cores that stop may be granted: nothing is granted on their paths, and what the
 -- values then grant falls upwards.
 use Rattle.std.proofs.Common.{◌≡◌, ℕ, zero, suc, ◌+◌, ◌<◌, ◌≤◌, ◌==◌, ◌&&◌, Bool, true, false, cond}
-use Rattle.std.proofs.Common.{not, List, length, None, Some, Ok, refl, subst, ◌∙◌, ap, arith}
-use Rattle.std.proofs.Common.{add-one, nat_le}
+use Rattle.std.proofs.Common.{not, List, length, None, Some, Ok, refl, ◌∙◌, ap, arith, add-one}
+use Rattle.std.proofs.Common.{nat_le}
 use Rattle.psci_abi.specs.declared.request.Request.{Request}
 use Rattle.psci_abi.specs.declared.request.Request.TheVariants as requests
 use Rattle.psci_board.specs.Board.{BoardValue, cores, height, may_enter, up}
@@ -15,7 +15,7 @@ use Rattle.psci_messages.specs.declared.kind.Kind.TheVariants.{Down}
 use Rattle.psci_state.specs.Ask.{deepest_of, is_deep}
 use Rattle.psci_fw_spec.specs.declared.mode.SuspendMode.{SuspendMode}
 use Rattle.psci_fw_spec.specs.declared.mode.SuspendMode.TheVariants.{Platform, OsInitiated}
-use Rattle.psci_fw_spec.specs.declared.outcome.Act.TheVariants.{Resume, Stop}
+use Rattle.psci_fw_spec.specs.declared.outcome.Act.TheVariants.{Stop}
 use Rattle.psci_fw_spec.specs.declared.outcome.Outcome.{Outcome}
 use Rattle.psci_messages.specs.declared.start.Start.{Start}
 use Rattle.psci_fw_spec.specs.After.{change}
@@ -23,12 +23,12 @@ use Rattle.psci_fw_spec.specs.Calls.{function_outcome, outcome_of}
 use Rattle.psci_fw_spec.specs.Changes.{Rest, with_arrival, with_phase}
 use Rattle.psci_fw_spec.specs.Claims.{leaving_claims, off_parts, suspend_claims, suspend_parts}
 use Rattle.psci_fw_spec.specs.CpuOff.{off_message}
-use Rattle.psci_fw_spec.specs.CpuSuspend.{ask_named, suspend_answer, suspend_asked}
-use Rattle.psci_fw_spec.specs.Effects.{Effect, Rests, enter_effect, function_effect}
-use Rattle.psci_fw_spec.specs.Entering.{enter_outcome, outcome_at, resumes}
+use Rattle.psci_fw_spec.specs.CpuSuspend.{ask_named, suspend_answer}
+use Rattle.psci_fw_spec.specs.Effects.{Rests, enter_effect, function_effect}
+use Rattle.psci_fw_spec.specs.Entering.{enter_outcome, resumes}
 use Rattle.psci_fw_spec.specs.Invariant.{AreValues}
 use Rattle.psci_fw_spec.specs.Lives.{in_life}
-use Rattle.psci_fw_spec.specs.Outcomes.{message_for, stops, stops_with}
+use Rattle.psci_fw_spec.specs.Outcomes.{message_for, stops_with}
 use Rattle.psci_fw_spec.specs.Paths.{cleared, granted_with}
 use Rattle.psci_fw_spec.specs.Phases.{Running, Suspended, activity_of}
 use Rattle.psci_fw_spec.specs.SystemCalls.{all_others, is_off_status}
@@ -104,11 +104,7 @@ pub nested_after : (b : BoardValue) (v : Values) (c : ℕ) (r : Request) (o : Ou
     → (core level : ℕ) → core < cores b → level < height b
     → granted_with b c parts v.granted (level + 1) (up b (level + 1) core)
     ≤ granted_with b c parts v.granted level (up b level core)
-nested_after b v c r o rest parts are is effect =
-    let by_outcome = subst (λ (x : Outcome).
-    AreValues b (change b (function_effect b c r x.act x.message) v)) is are in
-    let by_effect = subst (λ (e : Effect). AreValues b (change b e v)) effect by_outcome in
-    by_effect.nested
+nested_after b v c r o rest parts are is effect = (rw (is, effect) at are).nested
 
 -- Outcomes --------------------------------------------------------------------------------------
 
@@ -131,14 +127,9 @@ pub suspend_outcome : (b : BoardValue) (v : Values) (c word entry context : ℕ)
     → outcome_of b v c (requests.CpuSuspend word entry context)
     ≡ stops_with (message_for v Down c parts)
 suspend_outcome b v c word entry context asked parts e named may low is =
+    let other = other_number (v.known c) b.starts low in
     awake_outcome b v c (requests.CpuSuspend word entry context) e
-    ∙ ap (suspend_asked b v c entry) named
-    ∙ asked_outcome
-  where
-    asked_outcome : suspend_asked b v c entry (Ok asked) ≡ stops_with (message_for v Down c parts)
-    asked_outcome =
-        let other = other_number (v.known c) b.starts low in
-        rw (may, other) (ap (suspend_answer v c) is)
+    ∙ (rw (named, may, other) (ap (suspend_answer v c) is))
 
 pub system_outcome : (b : BoardValue) (v : Values) (c entry context : ℕ) (parts : List Part)
     → v.halting ≡ false → may_enter b entry ≡ true
@@ -159,13 +150,7 @@ pub park_outcome : (b : BoardValue) (v : Values) (c : ℕ) (s : Start)
     → enter_outcome b v c s ≡ stops_with (off_message b (with_arrival b c s v) c)
 unfolding enter_outcome
 park_outcome b v c s awake none parks =
-    let found = in_life b s.life v in
-    let arrived = with_arrival b c s v in
-    ap (λ (t : Bool). cond t stops (outcome_at b found arrived c s (found.opening c))) awake
-    ∙ ap (outcome_at b found arrived c s) none
-    ∙ ap (λ (t : Bool).
-    cond t (record { act = Resume; message = None }) (stops_with (off_message b arrived c)))
-    parks
+    rw (awake, none, parks) refl
 
 pub nested_parked : (b : BoardValue) (v : Values) (c : ℕ) (s : Start) (o : Outcome)
     → AreValues b (change b (enter_effect c s o.act o.message) v)
@@ -175,7 +160,4 @@ pub nested_parked : (b : BoardValue) (v : Values) (c : ℕ) (s : Start) (o : Out
     (level + 1) (up b (level + 1) core)
     ≤ granted_with b c (off_parts b (with_arrival b c s v) c) (with_arrival b c s v).granted level
     (up b level core)
-nested_parked b v c s o are is =
-    let parked = subst (λ (x : Outcome).
-    AreValues b (change b (enter_effect c s x.act x.message) v)) is are in
-    parked.nested
+nested_parked b v c s o are is = (rw is at are).nested

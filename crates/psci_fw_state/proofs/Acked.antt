@@ -1,34 +1,29 @@
 -- An acknowledgement is taken: what the values in the state are then.
 use Rattle.std.proofs.Common.{slice_index_or}
 use Rattle.psci_fw_state.proofs.Words.{◌<◌, ◌∙◌, ◌≡◌, Acknowledge, AckValue, Activity, and_parts}
-use Rattle.psci_fw_state.proofs.Words.{answered, ap, applied_part, Bool, cases_lt, changed, cond}
-use Rattle.psci_fw_state.proofs.Words.{confirms_on, CoreRow, CoreState, false, get_or_past}
-use Rattle.psci_fw_state.proofs.Words.{granted_at, inl, inr, is_away, is_confirmed_at}
+use Rattle.psci_fw_state.proofs.Words.{answered, ap, applied_part, arith, Bool, cases_lt, changed}
+use Rattle.psci_fw_state.proofs.Words.{cond, confirms_on, CoreRow, false, get_or_past, granted_at}
+use Rattle.psci_fw_state.proofs.Words.{inl, inr, is_away, is_confirmed_at, known_at, ℕ}
 use Rattle.psci_fw_state.proofs.Words.{is_last_claim, length, List, message_in, MessageValue, None}
 use Rattle.psci_fw_state.proofs.Words.{Option, Part, phase_by, refl, row_at, slice_get, Slot}
 use Rattle.psci_fw_state.proofs.Words.{slot_of, SlotsValue, Some, state_at, StateValue, Status}
 use Rattle.psci_fw_state.proofs.Words.{StatusCounts, sym, taken, TreeValue, true, turns_off}
-use Rattle.psci_fw_state.proofs.Words.{updated, Used, Values, ℕ}
+use Rattle.psci_fw_state.proofs.Words.{updated, Used, Values}
 use Rattle.psci_messages.specs.declared.kind.Kind.{Kind}
-use Rattle.psci_messages.specs.declared.kind.Kind.TheVariants.{Down, Start, Off, Reset}
+use Rattle.psci_messages.specs.declared.kind.Kind.TheVariants.{Down}
 use Rattle.psci_messages.specs.declared.taken.Taken.TheVariants.{Old}
 use Rattle.psci_messages.specs.Slots.{answers, is_kind}
 use Rattle.psci_fw_spec.specs.Changes.{with_acknowledgement}
 use Rattle.psci_fw_state.specs.Seen.{values_in}
-use Rattle.psci_fw_state.proofs.Changed.{Set, ap_set, both_set, off_is_away, stays, updated_is}
+use Rattle.psci_fw_state.proofs.Changed.{core_changed, updated_same}
 use Rattle.psci_fw_state.proofs.Confirming.{claims_confirmed}
-use Rattle.psci_fw_state.proofs.Equal.{same_values, updated_same}
 use Rattle.psci_fw_spec.specs.declared.status.Status.TheVariants as statuses
-use Rattle.psci_state.specs.declared.cores.Activity.TheVariants as activities
 
 -- Slots -----------------------------------------------------------------------------------------
 
 -- a Down that is used is of a core that has a slot
 down_at : (a : AckValue) (s : SlotsValue) (kind : Kind) → is_kind kind Down ≡ true
     → taken a (message_in s (slot_of kind a.core)) ≡ Used → a.core.number < length s.cores
-down_at a s Start d e = cc
-down_at a s Off d e = cc
-down_at a s Reset d e = cc
 down_at a s Down d e = elim (cases_lt a.core.number (length s.cores)) [
   | inl h ↦ h
   | inr h ↦
@@ -36,42 +31,29 @@ down_at a s Down d e = elim (cases_lt a.core.number (length s.cores)) [
       get_or_past s.cores a.core.number None h in
       let old : taken a None ≡ Used = rw past at e in cc
 ]
+down_at a s kind d e = cc
 
 pub down_has_slot : (a : AckValue) (s : SlotsValue) (v : Values) → turns_off v a ≡ true
     → taken a (message_in s (slot_of a.kind a.core)) ≡ Used → a.core.number < length s.cores
 down_has_slot a s v off used =
     down_at a s a.kind (and_parts _ _ (and_parts _ _ off).0).0 used
 
-by_answer : (t : Bool) (n m : MessageValue) → Some m ≡ cond t (Some n) None → Some n ≡ Some m
-by_answer true n m e = sym e
+by_answer : (t : Bool) (n m : MessageValue) → Some m ≡ cond t (Some n) None
+    → (Some n ≡ Some m) × (cond t Used Old ≡ Used)
+by_answer true n m e = (sym e, refl)
 by_answer false n m e = cc
 
--- what was sent where an acknowledgement is of an outstanding message
-pub answered_is : (a : AckValue) (o : Option MessageValue) (m : MessageValue)
-    → Some m ≡ answered a o → o ≡ Some m
-answered_is a None m e = cc
-answered_is a (Some n) m e = by_answer (answers a n) n m e
-
-used_by_answer : (t : Bool) (n m : MessageValue) → Some m ≡ cond t (Some n) None
-    → cond t Used Old ≡ Used
-used_by_answer true n m e = refl
-used_by_answer false n m e = cc
-
--- such an acknowledgement is used
+-- what was sent where an acknowledgement is of an outstanding message, and that it is used
 pub answered_used : (a : AckValue) (o : Option MessageValue) (m : MessageValue)
-    → Some m ≡ answered a o → taken a o ≡ Used
+    → Some m ≡ answered a o → (o ≡ Some m) × (taken a o ≡ Used)
 answered_used a None m e = cc
-answered_used a (Some n) m e = used_by_answer (answers a n) n m e
+answered_used a (Some n) m e = by_answer (answers a n) n m e
 
 -- Values ----------------------------------------------------------------------------------------
 
 away_phase : (s t : Status) (a : Activity) → is_away (phase_by s a) ≡ true
     → phase_by t a ≡ phase_by s a
-away_phase statuses.On t activities.Active e = cc
-away_phase s t activities.Active e = cc
-away_phase statuses.On t (activities.Suspended ask) e = cc
-away_phase s t (activities.Suspended ask) e = cc
-away_phase s t activities.Away e = off_is_away t ∙ sym (off_is_away s)
+away_phase s t a e = grind arith
 
 -- the tree after an acknowledgement: the claims that it says were carried out are confirmed
 pub record IsAcked (s : StateValue) (u : TreeValue) (a : AckValue) : Type 0 where
@@ -105,80 +87,38 @@ pub sent_parts : (s : SlotsValue) (a ack : AckValue) (parts : List Part) (m : Me
     → (level : ℕ) → slice_get parts level
     ≡ applied_part a level (message_in s (slot_of a.kind a.core))
 sent_parts s a ack parts m f sent law level =
-    rw f (law level ∙ ap (applied_part ack level) (sym (answered_is ack _ m sent)))
+    rw f (law level ∙ ap (applied_part ack level) (sym (answered_used ack _ m sent).0))
 
-state_same : (s : StateValue) (u : TreeValue) (a : AckValue) → IsAcked s u a
-    → Set (state_at s.tree) (state_at u) a.core.number (state_at s.tree a.core.number)
-state_same s u a is = record { here = is.cores a.core.number; else = λ k n. is.cores k }
+goes_off : (s : Status) (a : Activity) (t : Bool) → (t ≡ true → is_away (phase_by s a) ≡ true)
+    → phase_by (cond t statuses.Off s) a ≡ phase_by s a
+goes_off s a true away = away_phase s statuses.Off a (away refl)
+goes_off s a false away = refl
 
--- the core of a used acknowledgement is off
-pub off_changed : (s now : StateValue) (u : TreeValue) (rows : List CoreRow)
-    (counts : List (List StatusCounts)) (slots : SlotsValue) (a : AckValue) → s ≡ now
-    → turns_off (values_in now) a ≡ true → IsAcked s u a
-    → Set (row_at s.rows) (row_at rows) a.core.number (record {
-      status = statuses.Off;
+-- a used acknowledgement, which turns its core off or not
+pub acked_changed : (s now : StateValue) (u : TreeValue) (rows : List CoreRow)
+    (counts : List (List StatusCounts)) (slots : SlotsValue) (a : AckValue) (t : Bool) → s ≡ now
+    → turns_off (values_in now) a ≡ t → IsAcked s u a
+    → ((k : ℕ) → row_at rows k ≡ updated (row_at s.rows) a.core.number (record {
+      status = cond t statuses.Off (row_at s.rows a.core.number).status;
       opening = (row_at s.rows a.core.number).opening;
-    })
+    }) k)
     → ((slot : Slot) → message_in slots slot
     ≡ changed slot (Acknowledge a) (message_in s.slots slot))
     → values_in (record s { tree = u; rows = rows; counts = counts; slots = slots })
     ≡ with_acknowledgement now.board a (values_in now)
 unfolding values_in
-off_changed s now u rows counts slots a e off acked row left =
-    let goes : turns_off (values_in s) a ≡ true = rw e off in
-    let away : is_away ((values_in s).phase a.core.number) ≡ true = (and_parts _ _ goes).1 in
-    let now : values_in (record s { tree = u; rows = rows; counts = counts; slots = slots })
-    ≡ with_acknowledgement s.board a (values_in s) = same_values _ _ (record {
-      life = refl;
-      halting = refl;
-      mode = refl;
-      known = λ k. ap (λ (x : CoreState). x.known) (acked.cores k);
-      status = λ k.
-          updated_is (λ k. (row_at s.rows k).status) (λ k. (row_at rows k).status) a.core.number _
-          (ap_set (λ (r : CoreRow). r.status) _ _ _ _ row) k
-          ∙ ap (λ (t : Bool). updated (values_in s).status a.core.number
-          (cond t statuses.Off ((values_in s).status a.core.number)) k) (sym goes);
-      phase = stays (values_in s).phase
-          (values_in (record s { tree = u; rows = rows; counts = counts; slots = slots })).phase
-          a.core.number _
-          (both_set (λ (r : CoreRow) (x : CoreState). phase_by r.status x.activity) (row_at s.rows)
-          (row_at rows) (state_at s.tree) (state_at u) a.core.number _ _ row
-          (state_same s u a acked))
-          (away_phase (row_at s.rows a.core.number).status statuses.Off
-          (state_at s.tree a.core.number).activity away);
-      opening = stays (λ k. (row_at s.rows k).opening) (λ k. (row_at rows k).opening)
-          a.core.number _ (ap_set (λ (r : CoreRow). r.opening) _ _ _ _ row) refl;
-      granted = acked.granted;
-      confirmed = acked.confirmed;
-      outstanding = left;
-    }) in
-    rw (← e) now
-
--- a used acknowledgement that turns no core off
-pub used_changed : (s now : StateValue) (u : TreeValue) (slots : SlotsValue) (a : AckValue)
-    → s ≡ now → turns_off (values_in now) a ≡ false → IsAcked s u a
-    → ((slot : Slot) → message_in slots slot
-    ≡ changed slot (Acknowledge a) (message_in s.slots slot))
-    → values_in (record s { tree = u; slots = slots })
-    ≡ with_acknowledgement now.board a (values_in now)
-unfolding values_in
-used_changed s now u slots a e off acked left =
-    let stays_on : turns_off (values_in s) a ≡ false = rw e off in
-    let now : values_in (record s { tree = u; slots = slots })
-    ≡ with_acknowledgement s.board a (values_in s) = same_values _ _ (record {
-      life = refl;
-      halting = refl;
-      mode = refl;
-      known = λ k. ap (λ (x : CoreState). x.known) (acked.cores k);
-      status = λ k.
-          sym (updated_same (values_in s).status a.core.number
-          (cond (turns_off (values_in s) a) statuses.Off ((values_in s).status a.core.number))
-          (rw stays_on refl) k);
-      phase = λ k.
-          ap (λ (x : CoreState). phase_by (row_at s.rows k).status x.activity) (acked.cores k);
-      opening = λ k. refl;
-      granted = acked.granted;
-      confirmed = acked.confirmed;
-      outstanding = left;
-    }) in
-    rw (← e) now
+acked_changed s now u rows counts slots a t e off acked row left =
+    let goes : turns_off (values_in s) a ≡ t = rw e off in
+    let c : ℕ = a.core.number in
+    rw (← e) (core_changed s u rows counts slots c (state_at s.tree c) _ _ _ _
+    (λ k. acked.cores k ∙ sym (updated_same (state_at s.tree) c _ refl k)) row acked.granted
+    acked.confirmed left
+    ∙ (λ i. record (with_acknowledgement s.board a (values_in s)) {
+      known = λ k. updated_same (known_at s.tree) c _ refl k i;
+      status = updated (values_in s).status c
+          (cond (sym goes i) statuses.Off (row_at s.rows c).status);
+      phase = λ k. updated_same (values_in s).phase c _
+          (goes_off (row_at s.rows c).status (state_at s.tree c).activity t
+          (λ q. (and_parts _ _ (goes ∙ q)).1)) k i;
+      opening = λ k. updated_same (values_in s).opening c _ refl k i;
+    }))

@@ -11,8 +11,8 @@ use Rattle.psci_fw_state.proofs.Words.{leb-true, length, length-replicate, List,
 use Rattle.psci_fw_state.proofs.Words.{message_in, MessageValue, never_started, nodes, None, not}
 use Rattle.psci_fw_state.proofs.Words.{off_row, Option, phase_by, place_above, Platform, refl}
 use Rattle.psci_fw_state.proofs.Words.{row_at, size_below, Slot, SlotsValue, state_at, StateValue}
-use Rattle.psci_fw_state.proofs.Words.{status_at, StatusCounts, subst, sum_by-cons, sym, TreeValue}
-use Rattle.psci_fw_state.proofs.Words.{true, updated, Values, ℕ}
+use Rattle.psci_fw_state.proofs.Words.{status_at, StatusCounts, sum_by-cons, sym, TreeValue, true}
+use Rattle.psci_fw_state.proofs.Words.{updated, Values, ℕ, get_or, length-map, map}
 use Rattle.psci_board.specs.Board.{IsBoard, is_width, up}
 use Rattle.psci_messages.specs.Slots.{no_messages}
 use Rattle.psci_messages.specs.Slots.Slot.{OfCore, OfSystem}
@@ -20,11 +20,35 @@ use Rattle.psci_fw_spec.specs.Lives.{first_confirmed, first_granted, first_phase
 use Rattle.psci_fw_spec.specs.Lives.{start_of_life}
 use Rattle.psci_fw_state.specs.Rows.{AreFirst}
 use Rattle.psci_fw_state.specs.Seen.{values_in}
-use Rattle.psci_fw_state.proofs.Equal.{same_values}
-use Rattle.psci_fw_state.proofs.Beyond.{confirmed_beyond, granted_beyond}
+use Rattle.psci_fw_state.proofs.Changed.{eqb_swap}
 use Rattle.psci_state.specs.declared.cores.Activity.TheVariants as activities
 use Rattle.psci_fw_spec.specs.declared.status.Status.TheVariants as statuses
-use Rattle.psci_fw_spec.specs.Phases as phases
+use Rattle.psci_tree.specs.Recount.{level_sizes}
+use Rattle.psci_tree.proofs.Granted.{length_level_sizes, row_length}
+
+-- Domains that are not there ------------------------------------------------------------------
+
+off_board : (levels gs : List (List ℕ)) (l p : ℕ) → map length gs ≡ level_sizes levels
+    → (l ≤ length levels → p < size_below (drop l levels) → ⊥)
+    → get_or (get_or gs l []) p 0 ≡ 0
+off_board levels gs l p e n = elim (cases_lt (length levels) l) [
+  | inl h ↦
+      let none : get_or gs l [] ≡ [] = get_or_past gs l []
+      (omega (arith, length-map gs length, ap length e, length_level_sizes levels)) in
+      rw none refl
+  | inr h ↦ elim (cases_lt p (size_below (drop l levels))) [
+    | inl k ↦ absurd (n h k)
+    | inr k ↦ get_or_past (get_or gs l []) p 0 (omega (arith, row_length levels gs l e h))
+  ]
+]
+
+pub granted_beyond : (t : TreeValue) (l p : ℕ) → IsDomainTree t
+    → (l ≤ length t.levels → p < size_below (drop l t.levels) → ⊥) → granted_at t l p ≡ 0
+granted_beyond t l p is n = off_board t.levels t.granted l p is.granted n
+
+pub confirmed_beyond : (t : TreeValue) (l p : ℕ) → IsDomainTree t
+    → (l ≤ length t.levels → p < size_below (drop l t.levels) → ⊥) → is_confirmed_at t l p ≡ false
+confirmed_beyond t l p is n = ap (ltb 0) (off_board t.levels t.confirmed l p is.confirmed n)
 
 -- Every board has a core ------------------------------------------------------------------------
 
@@ -54,43 +78,19 @@ each_first b rows is first k = elim (cases_lt k (cores b)) [
 -- every core is OFF, once the boot core is
 pub off_but_boot : (b : BoardValue) (rows : List CoreRow) → IsBoard b → AreFirst b rows → (k : ℕ)
     → updated (status_at rows) 0 statuses.Off k ≡ statuses.Off
-off_but_boot b rows is first k = by (k == 0) refl
-  where
-    by : (t : Bool) → (k == 0) ≡ t → updated (status_at rows) 0 statuses.Off k ≡ statuses.Off
-    by true e = rw e refl
-    by false e =
-        let status : status_at rows k ≡ first_status k =
-        ap (λ (r : CoreRow). r.status) (each_first b rows is first k) in
-        let first_off : first_status k ≡ statuses.Off = rw e refl in rw e (status ∙ first_off)
+off_but_boot b rows is first k = grind (arith, each_first b rows is first k)
 
 -- The values ------------------------------------------------------------------------------------
-
-eqb_swap : (x y : ℕ) → (x == y) ≡ (y == x)
-eqb_swap x y = grind arith
 
 -- the state of a core at the start of a life
 abbrev first_core : ℕ → CoreState
 first_core c = cond (0 == c) (record { activity = activities.Active; known = 0 }) never_started
 
 first_known : (c : ℕ) → (first_core c).known ≡ 0
-first_known c = by (0 == c) refl
-  where
-    by : (t : Bool) → (0 == c) ≡ t → (cond t (record {
-      activity = activities.Active;
-      known = 0;
-    }) never_started).known ≡ 0
-    by true e = refl
-    by false e = refl
+first_known c = grind arith
 
 first_is : (c : ℕ) → phase_by (first_status c) (first_core c).activity ≡ first_phase c
-first_is c = rw (eqb_swap 0 c) (by (c == 0) refl)
-  where
-    by : (t : Bool) → (c == 0) ≡ t
-        → phase_by (cond t statuses.Pending statuses.Off)
-        (cond t (record { activity = activities.Active; known = 0 }) never_started).activity
-        ≡ cond t phases.Pending phases.Away
-    by true e = refl
-    by false e = refl
+first_is c = grind arith
 
 -- what is said of each domain at the start of a life: one thing on the boot core's path, another
 -- beside it, and the first of what is not there
@@ -121,8 +121,7 @@ first_said b l p x on off none law = by (leb l (height b)) (ltb p (nodes b l)) r
 not_there : (b : BoardValue) (u : TreeValue) (l p : ℕ) → u.levels ≡ b.levels
     → (l ≤ height b → p < nodes b l → ⊥)
     → l ≤ length u.levels → p < size_below (drop l u.levels) → ⊥
-not_there b u l p e n =
-    subst (λ (ws : List (List ℕ)). l ≤ length ws → p < size_below (drop l ws) → ⊥) (sym e) n
+not_there b u l p e n = rw e n
 
 granted_first : (b : BoardValue) (u : TreeValue) (l p : ℕ) → IsDomainTree u → u.levels ≡ b.levels
     → (l ≤ height b → p < nodes b l
@@ -170,21 +169,18 @@ pub at_start : (b kept : BoardValue) (life : ℕ) (u : TreeValue) (rows : List C
 unfolding values_in
 at_start b kept life u rows counts slots is tree levels cores_are granted confirmed first empty =
     let each : (k : ℕ) → row_at rows k ≡ first_row b k = each_first b rows is first in
-    same_values _ _ (record {
-      life = refl;
-      halting = refl;
-      mode = refl;
-      known = λ c. ap (λ (x : CoreState). x.known) (cores_are c) ∙ first_known c;
-      status = λ c. ap (λ (r : CoreRow). r.status) (each c);
+    λ i. record (start_of_life b life) {
+      known = λ c. (ap (λ (x : CoreState). x.known) (cores_are c) ∙ first_known c) i;
+      status = λ c. (each c i).status;
       phase = λ c.
-          ap (λ (r : CoreRow). phase_by r.status (state_at u c).activity) (each c)
+          (ap (λ (r : CoreRow). phase_by r.status (state_at u c).activity) (each c)
           ∙ ap (λ (x : CoreState). phase_by (first_status c) x.activity) (cores_are c)
-          ∙ first_is c;
-      opening = λ c. ap (λ (r : CoreRow). r.opening) (each c);
-      granted = λ l p. granted_first b u l p tree levels (granted l p);
-      confirmed = λ l p. confirmed_first b u l p tree levels (confirmed l p);
-      outstanding = empty;
-    })
+          ∙ first_is c) i;
+      opening = λ c. (each c i).opening;
+      granted = λ l p. granted_first b u l p tree levels (granted l p) i;
+      confirmed = λ l p. confirmed_first b u l p tree levels (confirmed l p) i;
+      outstanding = λ slot. empty slot i;
+    }
 
 -- at first no slot holds a message
 pub none_in : (n : ℕ) (slot : Slot) → message_in (no_messages n) slot ≡ None
@@ -207,12 +203,10 @@ pub granted_shown : (s now : StateValue) (l p : ℕ) → s ≡ now → IsState s
     → (l ≤ height s.board → p < nodes s.board l → ⊥) → 0 ≡ (values_in now).granted l p
 unfolding values_in
 granted_shown s now l p e is n =
-    sym (granted_beyond s.tree l p is.tree (not_there s.board s.tree l p is.levels n))
-    ∙ ap (λ (x : StateValue). granted_at x.tree l p) e
+    rw (← e) (sym (granted_beyond s.tree l p is.tree (not_there s.board s.tree l p is.levels n)))
 
 pub confirmed_shown : (s now : StateValue) (l p : ℕ) → s ≡ now → IsState s
     → (l ≤ height s.board → p < nodes s.board l → ⊥) → false ≡ (values_in now).confirmed l p
 unfolding values_in
 confirmed_shown s now l p e is n =
-    sym (confirmed_beyond s.tree l p is.tree (not_there s.board s.tree l p is.levels n))
-    ∙ ap (λ (x : StateValue). is_confirmed_at x.tree l p) e
+    rw (← e) (sym (confirmed_beyond s.tree l p is.tree (not_there s.board s.tree l p is.levels n)))

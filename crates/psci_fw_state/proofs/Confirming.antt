@@ -1,18 +1,18 @@
 -- Claims are confirmed one after another, from the core up.
-use Rattle.std.proofs.Math.Nat.{min-eq_left, min-eq_right}
 use Rattle.psci_fw_state.proofs.Words.{◌&&◌, ◌+◌, ◌==◌, ◌∙◌, ◌≡◌, ◌≤◌, AckValue, ap, applied_part}
 use Rattle.psci_fw_state.proofs.Words.{arith, below_in, BoardValue, Bool, cases_lt, cond}
-use Rattle.psci_fw_state.proofs.Words.{confirms_on, cores, eqb-true, false, granted_at, height, inl}
-use Rattle.psci_fw_state.proofs.Words.{inr, is_confirmed_at, is_last_claim, is_made_at}
+use Rattle.psci_fw_state.proofs.Words.{confirms_on, cores, eq-eqb, eqb-true, false, granted_at}
+use Rattle.psci_fw_state.proofs.Words.{height, inl, inr, is_confirmed_at, is_last_claim, is_made_at}
 use Rattle.psci_fw_state.proofs.Words.{IsDomainTree, known_at, length, List, message_in, min}
-use Rattle.psci_fw_state.proofs.Words.{nat_lt, Node, None, Option, Part, refl, slice_get}
+use Rattle.psci_fw_state.proofs.Words.{nat_lt, ne_eqb, Node, None, Option, Part, refl, slice_get}
 use Rattle.psci_fw_state.proofs.Words.{slice_get_past, slot_of, state_at, StateValue, sum_by, sym}
 use Rattle.psci_fw_state.proofs.Words.{TreeValue, true, up, ℕ}
 use Rattle.psci_board.specs.Board.{below}
 use Rattle.psci_tree.specs.Recount.{known}
 use Rattle.psci_fw_state.specs.Seen.{values_in}
-use Rattle.psci_fw_state.proofs.Beyond.{granted_beyond}
-use Rattle.psci_fw_state.proofs.LevelByLevel.{IsDone, all_levels, level_more}
+use Rattle.psci_fw_state.proofs.Begun.{granted_beyond}
+use Rattle.psci_fw_state.proofs.Changed.{eqb_swap}
+use Rattle.psci_fw_state.proofs.Granting.{IsDone, all_levels, level_more}
 
 -- what the parts confirm
 abbrev last_claims : BoardValue → ℕ → List Part → TreeValue → ℕ → ℕ → Bool
@@ -56,10 +56,7 @@ module _ (b : BoardValue) (c : ℕ) (parts : List Part) (t u w : TreeValue) (n :
     (cores : (k : ℕ) → state_at w k ≡ state_at u k) (levels : w.levels ≡ u.levels)
     (tree : IsDomainTree w) where
   other : (l p : ℕ) → (n ≡ l → ⊥) → is_confirmed_at w l p ≡ is_confirmed_at u l p
-  other l p ne = let no : (n == l) ≡ false = apart in law l p ∙ (rw no refl)
-    where
-      apart : (n == l) ≡ false
-      apart = grind arith
+  other l p ne = law l p ∙ (rw (ne_eqb n l ne) refl)
 
   sums : known u (record { level = n; place = up b n c })
       ≡ sum_by (known_at t) (below b (record { level = n; place = up b n c }))
@@ -69,12 +66,10 @@ module _ (b : BoardValue) (c : ℕ) (parts : List Part) (t u w : TreeValue) (n :
       ≡ cond (is_last_claim b t c parts n p) true (is_confirmed_at t n p)
   here p true e =
       let at : p ≡ up b n c = eqb-true p (up b n c) e in
-      let same : (n == n) ≡ true = grind arith in
-      let own : (up b n c == up b n c) ≡ true = grind arith in
       rw at (law n (up b n c)
       ∙ (rw (
-        same,
-        own,
+        eq-eqb n n refl,
+        eq-eqb (up b n c) (up b n c) refl,
         so_far.granted n (up b n c),
         sums,
         is,
@@ -83,12 +78,8 @@ module _ (b : BoardValue) (c : ℕ) (parts : List Part) (t u w : TreeValue) (n :
       )
       refl))
   here p false e =
-      let swapped : (up b n c == p) ≡ false = turned in
-      let same : (n == n) ≡ true = grind arith in
-      rw e (law n p ∙ (rw (same, swapped) (so_far.done.high n p (omega arith))))
-    where
-      turned : (up b n c == p) ≡ false
-      turned = grind (arith, e)
+      rw e (law n p ∙ (rw (eq-eqb n n refl, eqb_swap (up b n c) p, e)
+      (so_far.done.high n p (omega arith))))
 
   pub confirmed_more : IsConfirmed b c parts t w (n + 1)
   confirmed_more = record {
@@ -134,14 +125,7 @@ confirmed_all b c parts t u n is board end so_far =
     off l p false = refl
 
     short : (l : ℕ) → n ≤ l → l ≤ height b → length parts ≤ l
-    short l h low = elim (cases_lt (length parts) (height b + 1)) [
-      | inl few ↦
-          let least : min (length parts) (height b + 1) ≡ length parts =
-          min-eq_left (omega arith) in omega (arith, least, end, h)
-      | inr many ↦
-          let least : min (length parts) (height b + 1) ≡ height b + 1 = min-eq_right many in
-          absurd (omega (arith, least, end, h, low))
-    ]
+    short l h low = omega (arith, end)
 
 -- the values say the same
 pub claims_confirmed : (s : StateValue) (a : AckValue) (parts : List Part)

@@ -1,7 +1,7 @@
 -- Worked examples of what is counted of the cores below a power domain: boards of height 1, 2 and
 -- 3, even and uneven.
-use Rattle.std.proofs.Common.{◌≡◌, ℕ, zero, suc, ◌<◌, ◌≤◌, List, [], ◌∷◌, length, drop}
-use Rattle.std.proofs.Common.{get_or, refl, ap, arith}
+use Rattle.std.proofs.Common.{◌≡◌, ℕ, zero, suc, ◌<◌, ◌≤◌, List, [], ◌∷◌, length, drop, get_or}
+use Rattle.std.proofs.Common.{refl, ap, arith}
 use Rattle.psci_board.specs.declared.node.Node.{Node}
 use Rattle.psci_board.specs.Board.{size_below}
 use Rattle.psci_board.proofs.Tables.{◌⇒◌, Gives}
@@ -9,8 +9,8 @@ use Rattle.psci_fw_spec.specs.declared.status.Status.{Status}
 use Rattle.psci_fw_spec.specs.declared.status.Status.TheVariants.{On, Off, Pending}
 use Rattle.psci_fw_state.specs.declared.counts.StatusCounts.{StatusCounts}
 use Rattle.psci_fw_state.specs.Counts.{AreCounts, HasDomains, MayRecount, counts_at, counts_below}
-use Rattle.psci_fw_state.specs.Counts.{level_counts, no_cores, one_core, recounted}
-use Rattle.psci_fw_state.specs.Counts.{status_counted, with_counts}
+use Rattle.psci_fw_state.specs.Counts.{level_counts, no_cores, one_core, recounted, status_counted}
+use Rattle.psci_fw_state.specs.Counts.{with_counts}
 
 -- so many ON, and so many ON_PENDING
 abbrev count : ℕ → ℕ → StatusCounts

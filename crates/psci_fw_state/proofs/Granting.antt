@@ -1,11 +1,12 @@
 -- Parts are granted one after another, from the core up.
 use Rattle.std.proofs.Common.{add-one}
 use Rattle.psci_fw_state.proofs.Words.{◌&&◌, ◌+◌, ◌-◌, ◌<◌, ◌==◌, ◌∙◌, ◌≡◌, ◌≤◌, ap, arith}
-use Rattle.psci_fw_state.proofs.Words.{BoardValue, Bool, claimed_anew, cond, cores, drop, eqb-true}
-use Rattle.psci_fw_state.proofs.Words.{false, granted_at, granted_with, HasNodeIn, height}
-use Rattle.psci_fw_state.proofs.Words.{is_confirmed_at, length, List, Node, Option, Part, PathLaws}
-use Rattle.psci_fw_state.proofs.Words.{place_above, refl, size_below, slice_get, slice_get_past}
-use Rattle.psci_fw_state.proofs.Words.{Some, subst, sym, TreeValue, true, ℕ}
+use Rattle.psci_fw_state.proofs.Words.{BoardValue, Bool, claimed_anew, cond, cores, eq-eqb}
+use Rattle.psci_fw_state.proofs.Words.{eqb-true, ne_eqb, false, granted_at, granted_with, HasNodeIn}
+use Rattle.psci_fw_state.proofs.Words.{height, is_confirmed_at, length, List, Node, Option, Part}
+use Rattle.psci_fw_state.proofs.Words.{PathLaws, place_above, refl, size_below, slice_get}
+use Rattle.psci_fw_state.proofs.Words.{slice_get_past, Some, sym, TreeValue, true, ℕ, cases_lt, inl}
+use Rattle.psci_fw_state.proofs.Words.{inr}
 use Rattle.psci_board.specs.Board.{up}
 use Rattle.psci_messages.specs.Message.{PartByPart}
 use Rattle.psci_tree.specs.Changes.{MayGrant}
@@ -13,14 +14,47 @@ use Rattle.psci_tree.specs.Standing.{on_path as on_path_of}
 use Rattle.psci_fw_spec.specs.Confirmed.{unless_claimed}
 use Rattle.psci_fw_spec.specs.Paths.{claimed_or}
 use Rattle.psci_fw_state.specs.Claims.{MayClaim}
-use Rattle.psci_fw_state.proofs.LevelByLevel.{IsDone, all_levels, level_more, other_level}
+use Rattle.psci_fw_state.proofs.Changed.{eqb_swap}
+
+-- Level by level ------------------------------------------------------------------------------
+
+-- below this level it is what it is to be, and from it up what it was
+pub record IsDone {X : Type 0} (old new now : ℕ → ℕ → X) (n : ℕ) : Type 0 where
+  pub low : (l p : ℕ) → l < n → now l p ≡ new l p
+  pub high : (l p : ℕ) → n ≤ l → now l p ≡ old l p
+
+-- one level more
+pub level_more : {X : Type 0} (old new now next : ℕ → ℕ → X) (n : ℕ)
+    → ((l p : ℕ) → (n ≡ l → ⊥) → next l p ≡ now l p) → ((p : ℕ) → next n p ≡ new n p)
+    → IsDone old new now n → IsDone old new next (n + 1)
+level_more old new now next n other here so_far = record {
+  low = λ l p h. elim (cases_lt l n) [
+    | inl k ↦ other l p (λ e. absurd (omega arith)) ∙ so_far.low l p k
+    | inr k ↦ let same : l ≡ n = omega arith in rw same (here p)
+  ];
+  high = λ l p h. other l p (λ e. absurd (omega arith)) ∙ so_far.high l p (omega arith);
+}
+
+-- where no more is to come, all is done
+pub all_levels : {X : Type 0} (old new now : ℕ → ℕ → X) (n : ℕ)
+    → ((l p : ℕ) → n ≤ l → new l p ≡ old l p) → IsDone old new now n
+    → (l p : ℕ) → now l p ≡ new l p
+all_levels old new now n past done l p = elim (cases_lt l n) [
+  | inl h ↦ done.low l p h
+  | inr h ↦ done.high l p h ∙ sym (past l p h)
+]
+
+-- a change of one domain leaves the other levels
+pub other_level : {X : Type 0} (x next now : ℕ → ℕ → X) (n k : ℕ)
+    → ((l p : ℕ) → next l p ≡ cond ((n == l) && (k == p)) (x l p) (now l p))
+    → (l p : ℕ) → (n ≡ l → ⊥) → next l p ≡ now l p
+other_level x next now n k law l p ne = law l p ∙ (rw (ne_eqb n l ne) refl)
+
+-- Granted -------------------------------------------------------------------------------------
 
 -- below this level the tree grants what the parts say, and from it up what it granted before
 abbrev pub IsLaid : BoardValue → ℕ → List Part → (ℕ → ℕ → ℕ) → TreeValue → ℕ → Type 0
 IsLaid b c parts before t n = IsDone before (granted_with b c parts before) (granted_at t) n
-
-eqb_swap : (x y : ℕ) → (x == y) ≡ (y == x)
-eqb_swap x y = grind arith
 
 -- the node of this level and place
 abbrev pub node_at : ℕ → ℕ → Node
@@ -38,8 +72,7 @@ pub on_path : (b : BoardValue) (ws : List (List ℕ)) (core level : ℕ) → Pat
     → HasNodeIn ws (record { level = level; place = up b level core })
 on_path b ws core level laws e inside h = record {
   level = omega (arith, ap length e);
-  place = subst (λ (vs : List (List ℕ)). up b level core < size_below (drop level vs)) (sym e)
-      (laws.inside core level inside h);
+  place = rw e (laws.inside core level inside h);
 }
 
 -- what the parts grant on the path, and beside it
@@ -86,17 +119,12 @@ module _ (b : BoardValue) (c : ℕ) (parts : List Part) (before : ℕ → ℕ �
       → is_confirmed_at u n p ≡ claimed_anew b c parts before n p
   this_level p true e =
       let at : p ≡ up b n c = eqb-true p (up b n c) e in
-      let same : (n == n) ≡ true = grind arith in
-      let own : (up b n c == up b n c) ≡ true = grind arith in
-      let new : (0 == part.depth) ≡ false = changed in
-      rw at (law n (up b n c) ∙ (rw (same, own, free, new, is) refl))
-    where
-      changed : (0 == part.depth) ≡ false
-      changed = grind arith
+      let own = eq-eqb (up b n c) (up b n c) refl in
+      let new = ne_eqb 0 part.depth (λ z. absurd (omega (arith, z))) in
+      rw at (law n (up b n c) ∙ (rw (eq-eqb n n refl, own, free, new, is) refl))
   this_level p false e =
-      let same : (n == n) ≡ true = grind arith in
       let no : (up b n c == p) ≡ false = eqb_swap (up b n c) p ∙ e in
-      rw e (law n p ∙ (rw (same, no) (so_far.high n p (omega arith))))
+      rw e (law n p ∙ (rw (eq-eqb n n refl, no) (so_far.high n p (omega arith))))
 
   pub unconfirmed_more : IsUnconfirmed b c parts before u (n + 1)
   unconfirmed_more =
@@ -115,9 +143,7 @@ unconfirmed_all b c parts before t n long =
   where
     beyond : (l p : ℕ) (on : Bool) → n ≤ l
         → cond on (unless_claimed (slice_get parts l) (before l p)) (before l p) ≡ before l p
-    beyond l p true h =
-        ap (λ (o : Option Part). unless_claimed o (before l p))
-        (slice_get_past parts l (omega arith))
+    beyond l p true h = rw (slice_get_past parts l (omega arith)) refl
     beyond l p false h = refl
 
 -- the next part may be granted
@@ -132,7 +158,7 @@ module _ (b : BoardValue) (c : ℕ) (parts : List Part) (before : ℕ → ℕ �
   child : (core : ℕ) → core < size_below t.levels → 0 < n → place_above t.levels n core ≡ up b n c
       → part.depth ≤ granted_at t (n - 1) (place_above t.levels (n - 1) core)
   child core h some e =
-      let there : core < cores b = subst (λ (ws : List (List ℕ)). core < size_below ws) levels h in
+      let there : core < cores b = rw levels at h in
       let on : up b n core ≡ up b n c = sym (to_up n core) ∙ e in
       let back : n - 1 + 1 ≡ n = omega arith in
       let step = may.nested core (n - 1) there (omega arith) in
@@ -171,6 +197,5 @@ laid_all b c parts before t n long =
   where
     beyond : (l p : ℕ) (on : Bool) → n ≤ l
         → cond on (claimed_or (slice_get parts l) (before l p)) (before l p) ≡ before l p
-    beyond l p true h =
-        ap (λ (o : Option Part). claimed_or o (before l p)) (slice_get_past parts l (omega arith))
+    beyond l p true h = rw (slice_get_past parts l (omega arith)) refl
     beyond l p false h = refl

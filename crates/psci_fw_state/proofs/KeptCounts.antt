@@ -33,9 +33,8 @@ module _ (kept : List (List StatusCounts)) (l p : ℕ) (k : StatusCounts) (low :
     height = length-set kept (l - 1) (set (level_counts kept l) p k) ∙ shape.height;
     domains = λ m some top. elim (cases_eq m l) [
       | inl e ↦
-          ap (λ x. length (level_counts after x)) e ∙ ap length this_level
-          ∙ length-set (level_counts kept l) p k
-          ∙ ap (λ x. length (level_counts kept x)) (sym e) ∙ shape.domains m some top
+          rw e (ap length this_level ∙ length-set (level_counts kept l) p k
+          ∙ shape.domains l low (omega (arith, e, top)))
       | inr n ↦ ap length (other_level m some n) ∙ shape.domains m some top
     ];
   }

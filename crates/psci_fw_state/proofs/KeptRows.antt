@@ -22,10 +22,10 @@ use Rattle.psci_fw_state.specs.Claims.{MayClaim}
 use Rattle.psci_fw_state.specs.Confirming.{is_last_claim}
 use Rattle.psci_fw_state.specs.Counts.{counts_below}
 use Rattle.psci_fw_state.specs.Rows.{AreFirst, first_row, off_row, row_at, status_at}
-use Rattle.psci_fw_state.specs.Seen.{IsState, StateValue, is_pending_phase, message_shown}
-use Rattle.psci_fw_state.specs.Seen.{phase_by, stopped, values_in}
+use Rattle.psci_fw_state.specs.Seen.{IsState, StateValue, is_pending_phase, message_shown, phase_by}
+use Rattle.psci_fw_state.specs.Seen.{stopped, values_in}
 
-abbrev board : BoardValue
+abbrev pub board : BoardValue
 board = record {
   levels = (2 ∷ 2 ∷ []) ∷ (2 ∷ []) ∷ [];
   ranges = record { start = 0; end = 64 } ∷ [];

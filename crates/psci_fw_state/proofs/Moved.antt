@@ -1,22 +1,26 @@
--- A core is suspended, or asked on: what the values in the state are then.
+-- A core is suspended, asked on or arrives, or a Down was sent: what the values in the state are
+-- then.
 use Rattle.std.proofs.Common.{Vec}
+use Rattle.std.proofs.lemmas.Bool.{cases_eq}
 use Rattle.std.specs.Option.{option_or}
 use Rattle.std.specs.Vec.{with_items}
-use Rattle.psci_fw_state.proofs.Words.{◌<◌, ◌==◌, ◌∙◌, ◌≡◌, ap, AreCounts, arith, BoardValue, Bool}
-use Rattle.psci_fw_state.proofs.Words.{changed, cleared, cond, CoreRow, CoreState, false}
-use Rattle.psci_fw_state.proofs.Words.{granted_at, is_confirmed_at, IsState, known_at, length}
-use Rattle.psci_fw_state.proofs.Words.{length-set, List, message_in, MessageValue, None, Opening}
+use Rattle.psci_fw_state.proofs.Words.{◌<◌, ◌==◌, ◌∙◌, ◌≡◌, Activity, ap, AreCounts, arith}
+use Rattle.psci_fw_state.proofs.Words.{BoardValue, Bool, changed, claimed_anew, Clear, cleared}
+use Rattle.psci_fw_state.proofs.Words.{cond, CoreRow, false, get_or-set_other, get_or-set_same}
+use Rattle.psci_fw_state.proofs.Words.{granted_at, granted_with, inl, inr, is_confirmed_at}
+use Rattle.psci_fw_state.proofs.Words.{is_pending_phase, IsState, known_at, length, length-set}
+use Rattle.psci_fw_state.proofs.Words.{List, message_in, MessageValue, None, off_row, Opening}
 use Rattle.psci_fw_state.proofs.Words.{Option, Phase, phase_by, place_above, Put, refl, row_at, set}
-use Rattle.psci_fw_state.proofs.Words.{Slot, SlotsValue, Some, state_at, StateValue, status_at}
-use Rattle.psci_fw_state.proofs.Words.{StatusCounts, suspends, sym, TreeValue, unconfirmed}
-use Rattle.psci_fw_state.proofs.Words.{unless_pending, updated, with_items_is, with_rest, ℕ}
+use Rattle.psci_fw_state.proofs.Words.{Slot, SlotsValue, Some, Start, state_at, StateValue, Status}
+use Rattle.psci_fw_state.proofs.Words.{status_at, StatusCounts, suspends, sym, TreeValue, true}
+use Rattle.psci_fw_state.proofs.Words.{unconfirmed, unless_pending, updated, Values, with_items_is}
+use Rattle.psci_fw_state.proofs.Words.{with_phase, with_rest, ℕ}
 use Rattle.psci_board.specs.Board.{up}
 use Rattle.psci_state.specs.Ask.{is_deep}
-use Rattle.psci_fw_spec.specs.Changes.{with_pending}
-use Rattle.psci_fw_state.specs.Seen.{values_in}
-use Rattle.psci_fw_state.proofs.Changed.{Set, ap_set, both_set, core_set, row_set, stays}
-use Rattle.psci_fw_state.proofs.Changed.{suspended_is, updated_is}
-use Rattle.psci_fw_state.proofs.Equal.{same_values}
+use Rattle.psci_fw_spec.specs.Changes.{with_arrival, with_claims, with_pending, with_running}
+use Rattle.psci_fw_state.specs.Seen.{stopped, values_in}
+use Rattle.psci_fw_state.proofs.Changed.{arrived, core_changed, core_set, eqb_swap, suspended_is}
+use Rattle.psci_fw_state.proofs.Changed.{updated_same}
 use Rattle.psci_fw_state.proofs.KeptCounts.{same_counts}
 use Rattle.psci_state.specs.declared.cores.Activity.TheVariants as activities
 use Rattle.psci_fw_spec.specs.declared.status.Status.TheVariants as statuses
@@ -36,11 +40,11 @@ pub counts_stay : (levels : List (List ℕ)) (rows new : List CoreRow) (c : ℕ)
     → new ≡ set rows c (record { status = r.status; opening = o })
     → AreCounts levels (status_at rows) kept → AreCounts levels (status_at new) kept
 counts_stay levels rows new c r o kept inside is e are =
-    let put : CoreRow = record { status = r.status; opening = o } in
-    rw e (same_counts levels (status_at rows) (status_at (set rows c put)) kept are
-    (stays (status_at rows) (status_at (set rows c put)) c _
-    (ap_set (λ (x : CoreRow). x.status) _ _ _ _ (row_set rows c put inside))
-    (ap (λ (x : CoreRow). x.status) is)))
+    rw e (same_counts levels (status_at rows) _ kept are (λ k. elim (cases_eq k c) [
+      | inl at ↦ rw at (ap (λ (q : CoreRow). q.status) (get_or-set_same rows c _ off_row inside)
+          ∙ ap (λ (q : CoreRow). q.status) is)
+      | inr n ↦ ap (λ (q : CoreRow). q.status) (get_or-set_other rows c k _ off_row n)
+    ]))
 
 -- Suspended -------------------------------------------------------------------------------------
 
@@ -50,10 +54,10 @@ pub suspended_changed : (s now : StateValue) (u : TreeValue) (rows : List CoreRo
     → ((k : ℕ) → state_at u k
     ≡ cond (c == k) (record { activity = activities.Suspended ask; known = known_at s.tree c })
     (state_at s.tree k))
-    → Set (row_at s.rows) (row_at rows) c (record {
+    → ((k : ℕ) → row_at rows k ≡ updated (row_at s.rows) c (record {
       status = (row_at s.rows c).status;
       opening = option_or o (row_at s.rows c).opening;
-    })
+    }) k)
     → ((l p : ℕ) → granted_at u l p ≡ granted_at s.tree l p)
     → ((l p : ℕ) → is_confirmed_at u l p ≡ is_confirmed_at s.tree l p)
     → cond (is_deep ask) (Some opening) None ≡ o
@@ -61,46 +65,25 @@ pub suspended_changed : (s now : StateValue) (u : TreeValue) (rows : List CoreRo
     ≡ with_rest c (suspends opening ask) (values_in now)
 unfolding values_in
 suspended_changed s now u rows c ask opening o e running at row granted confirmed is =
-    let own : Set (state_at s.tree) (state_at u) c _ = core_set s.tree u c _ at in
     let runs : (values_in s).phase c ≡ phases.Running = rw e running in
-    let left : values_in (record s { tree = u; rows = rows })
-    ≡ with_rest c (record { phase = phases.Suspended ask; opening = o }) (values_in s) =
-    same_values _ _ (record {
-      life = refl;
-      halting = refl;
-      mode = refl;
-      known = stays (known_at s.tree) (known_at u) c _
-          (ap_set (λ (x : CoreState). x.known) _ _ _ _ own) refl;
-      status = stays (λ k. (row_at s.rows k).status) (λ k. (row_at rows k).status) c _
-          (ap_set (λ (r : CoreRow). r.status) _ _ _ _ row) refl;
-      phase = λ k.
-          updated_is (values_in s).phase (values_in (record s { tree = u; rows = rows })).phase c _
-          (both_set (λ (r : CoreRow) (x : CoreState). phase_by r.status x.activity) (row_at s.rows)
-          (row_at rows) (state_at s.tree) (state_at u) c _ _ row own) k
-          ∙ ap (λ (p : Phase). updated (values_in s).phase c p k)
-          (suspended_is (row_at s.rows c).status ask
-          ∙ sym (ap (λ (p : Phase). unless_pending p (phases.Suspended ask)) runs));
-      opening = updated_is (λ k. (row_at s.rows k).opening) (λ k. (row_at rows k).opening) c _
-          (ap_set (λ (r : CoreRow). r.opening) _ _ _ _ row);
-      granted = granted;
-      confirmed = confirmed;
-      outstanding = λ slot. refl;
-    }) in
-    rw (← e, is) left
+    rw (← e, is) (core_changed s u rows s.counts s.slots c _ _ _ _ _ (core_set s.tree u c _ at) row
+    granted confirmed (λ slot. refl)
+    ∙ (λ i. record (with_rest c (record { phase = phases.Suspended ask; opening = o })
+    (values_in s)) {
+      known = λ k. updated_same (known_at s.tree) c _ refl k i;
+      status = λ k. updated_same (status_at s.rows) c _ refl k i;
+      phase = updated (values_in s).phase c ((suspended_is (row_at s.rows c).status ask
+          ∙ sym (ap (λ (p : Phase). unless_pending p (phases.Suspended ask)) runs)) i);
+    }))
 
 -- Paths -----------------------------------------------------------------------------------------
-
-eqb_swap : (x y : ℕ) → (x == y) ≡ (y == x)
-eqb_swap x y = grind arith
 
 -- nothing is said of the domains on the path of a core, as the tree says it and as the values do
 on_path : {X : Type 0} (s : StateValue) (v : ℕ → ℕ → X) (x none : X) (c l p : ℕ) → IsState s
     → x ≡ cond (place_above s.tree.levels l c == p) none (v l p)
     → x ≡ cond (p == place_above s.board.levels l c) none (v l p)
 on_path s v x none c l p is law =
-    law
-    ∙ ap (λ (ws : List (List ℕ)). cond (place_above ws l c == p) none (v l p)) is.levels
-    ∙ ap (λ (t : Bool). cond t none (v l p)) (eqb_swap (place_above s.board.levels l c) p)
+    rw (is.levels, eqb_swap (place_above s.board.levels l c) p) at law
 
 pub path_cleared : (s : StateValue) (u : TreeValue) (c : ℕ) → IsState s
     → ((l p : ℕ) → granted_at u l p
@@ -117,18 +100,79 @@ unfolding up
 path_unconfirmed s u c is law l p =
     on_path s (is_confirmed_at s.tree) _ false c l p is (law l p)
 
+-- Arrived ---------------------------------------------------------------------------------------
+
+arrives : (b : BoardValue) (c : ℕ) (s : Start) (v : Values) → v.life ≡ s.life
+    → with_arrival b c s v ≡ arrived b c s v
+arrives b c s v e = let same : (s.life == v.life) ≡ true = grind arith in rw same refl
+
+-- the phase of a core that stops, by whether it was pending
+stopped_phase : (s : Status) (a : Activity) (pending : Bool)
+    → is_pending_phase (phase_by s a) ≡ pending
+    → phase_by s (stopped pending) ≡ unless_pending (phase_by s a) phases.Away
+stopped_phase s a pending e = grind arith
+
+pub running_changed : (s now : StateValue) (u : TreeValue) (rows : List CoreRow)
+    (counts : List (List StatusCounts)) (slots : SlotsValue) (c : ℕ) (start : Start) → s ≡ now
+    → (values_in now).life ≡ start.life
+    → ((k : ℕ) → state_at u k
+    ≡ cond (c == k) (record { activity = activities.Active; known = start.number })
+    (state_at s.tree k))
+    → ((k : ℕ) → row_at rows k
+    ≡ updated (row_at s.rows) c (record { status = statuses.On; opening = None }) k)
+    → ((l p : ℕ) → granted_at u l p ≡ cleared s.board c (granted_at s.tree) l p)
+    → ((l p : ℕ) → is_confirmed_at u l p ≡ unconfirmed s.board c (is_confirmed_at s.tree) l p)
+    → ((slot : Slot) → message_in slots slot
+    ≡ changed slot (Clear (record { number = c })) (message_in s.slots slot))
+    → values_in (record s { tree = u; rows = rows; counts = counts; slots = slots })
+    ≡ with_running c (with_arrival now.board c start (values_in now))
+unfolding values_in
+running_changed s now u rows counts slots c start e life at row granted confirmed empty =
+    let lives : (values_in s).life ≡ start.life = rw e life in
+    rw (← e) (core_changed s u rows counts slots c _ _ _ _ _ (core_set s.tree u c _ at) row granted
+    confirmed empty ∙ ap (with_running c) (sym (arrives s.board c start (values_in s) lives)))
+
+pub stopped_changed : (s now : StateValue) (u : TreeValue) (rows : List CoreRow)
+    (slots : SlotsValue) (c : ℕ) (start : Start) (pending : Bool) → s ≡ now
+    → (values_in now).life ≡ start.life → pending ≡ is_pending_phase ((values_in now).phase c)
+    → ((k : ℕ) → state_at u k
+    ≡ cond (c == k) (record { activity = stopped pending; known = start.number })
+    (state_at s.tree k))
+    → ((k : ℕ) → row_at rows k ≡ updated (row_at s.rows) c (record {
+      status = (row_at s.rows c).status;
+      opening = None;
+    }) k)
+    → ((l p : ℕ) → granted_at u l p ≡ cleared s.board c (granted_at s.tree) l p)
+    → ((l p : ℕ) → is_confirmed_at u l p ≡ unconfirmed s.board c (is_confirmed_at s.tree) l p)
+    → ((slot : Slot) → message_in slots slot
+    ≡ changed slot (Clear (record { number = c })) (message_in s.slots slot))
+    → values_in (record s { tree = u; rows = rows; slots = slots })
+    ≡ with_phase c phases.Away (with_arrival now.board c start (values_in now))
+unfolding values_in
+stopped_changed s now u rows slots c start pending e life was at row granted confirmed empty =
+    let lives : (values_in s).life ≡ start.life = rw e life in
+    let so : is_pending_phase ((values_in s).phase c) ≡ pending = rw e (sym was) in
+    rw (← e) (core_changed s u rows s.counts slots c _ _ _ _ _ (core_set s.tree u c _ at) row
+    granted confirmed empty
+    ∙ (λ i. record (with_phase c phases.Away (arrived s.board c start (values_in s))) {
+      status = λ k. updated_same (status_at s.rows) c _ refl k i;
+      phase = updated (values_in s).phase c (stopped_phase (row_at s.rows c).status
+          (state_at s.tree c).activity pending so i);
+    })
+    ∙ ap (with_phase c phases.Away) (sym (arrives s.board c start (values_in s) lives)))
+
 -- Asked on --------------------------------------------------------------------------------------
 
 pub pending_of : (b : BoardValue) (s : StateValue) (u : TreeValue) (rows : List CoreRow)
     (counts : List (List StatusCounts)) (slots : SlotsValue) (m : MessageValue) (o : Opening)
-    → Set (state_at s.tree) (state_at u) m.core.number (record {
+    → ((k : ℕ) → state_at u k ≡ updated (state_at s.tree) m.core.number (record {
       activity = activities.Active;
       known = known_at s.tree m.core.number;
-    })
-    → Set (row_at s.rows) (row_at rows) m.core.number (record {
+    }) k)
+    → ((k : ℕ) → row_at rows k ≡ updated (row_at s.rows) m.core.number (record {
       status = statuses.Pending;
       opening = Some o;
-    })
+    }) k)
     → ((l p : ℕ) → granted_at u l p ≡ cleared b m.core.number (granted_at s.tree) l p)
     → ((l p : ℕ) → is_confirmed_at u l p
     ≡ unconfirmed b m.core.number (is_confirmed_at s.tree) l p)
@@ -136,22 +180,28 @@ pub pending_of : (b : BoardValue) (s : StateValue) (u : TreeValue) (rows : List 
     → values_in (record s { tree = u; rows = rows; counts = counts; slots = slots })
     ≡ with_pending b (record { message = m; opening = o }) (values_in s)
 unfolding values_in
-pending_of b s u rows counts slots m o at row granted confirmed sent = same_values _ _ (record {
-  life = refl;
-  halting = refl;
-  mode = refl;
-  known = stays (known_at s.tree) (known_at u) m.core.number _
-      (ap_set (λ (x : CoreState). x.known) _ _ _ _ at) refl;
-  status = updated_is (λ k. (row_at s.rows k).status) (λ k. (row_at rows k).status) m.core.number _
-      (ap_set (λ (r : CoreRow). r.status) _ _ _ _ row);
-  phase = updated_is (values_in s).phase
-      (values_in (record s { tree = u; rows = rows; counts = counts; slots = slots })).phase
-      m.core.number _
-      (both_set (λ (r : CoreRow) (x : CoreState). phase_by r.status x.activity) (row_at s.rows)
-      (row_at rows) (state_at s.tree) (state_at u) m.core.number _ _ row at);
-  opening = updated_is (λ k. (row_at s.rows k).opening) (λ k. (row_at rows k).opening)
-      m.core.number _ (ap_set (λ (r : CoreRow). r.opening) _ _ _ _ row);
-  granted = granted;
-  confirmed = confirmed;
-  outstanding = sent;
-})
+pending_of b s u rows counts slots m o at row granted confirmed sent =
+    core_changed s u rows counts slots m.core.number _ _ _ _ _ at row granted confirmed sent
+    ∙ (λ i. record (with_pending b (record { message = m; opening = o }) (values_in s)) {
+      known = λ k. updated_same (known_at s.tree) m.core.number _ refl k i;
+    })
+
+-- A Down was sent -------------------------------------------------------------------------------
+
+pub claimed_of : (s : StateValue) (u : TreeValue) (slots : SlotsValue) (m : MessageValue)
+    → ((k : ℕ) → state_at u k ≡ state_at s.tree k)
+    → ((l p : ℕ) → granted_at u l p
+    ≡ granted_with s.board m.core.number m.parts (granted_at s.tree) l p)
+    → ((l p : ℕ) → is_confirmed_at u l p
+    ≡ claimed_anew s.board m.core.number m.parts (is_confirmed_at s.tree) l p)
+    → ((slot : Slot) → message_in slots slot ≡ changed slot (Put m) (message_in s.slots slot))
+    → values_in (record s { tree = u; slots = slots }) ≡ with_claims s.board m (values_in s)
+unfolding values_in
+claimed_of s u slots m cores granted confirmed sent = λ i. record (with_claims s.board m
+    (values_in s)) {
+      known = λ k. (cores k i).known;
+      phase = λ k. phase_by (row_at s.rows k).status (cores k i).activity;
+      granted = λ l p. granted l p i;
+      confirmed = λ l p. confirmed l p i;
+      outstanding = λ slot. sent slot i;
+    }

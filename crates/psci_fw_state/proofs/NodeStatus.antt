@@ -3,10 +3,9 @@ use Rattle.std.proofs.lemmas.Bool.{and_from, le-leb, ltb-false}
 use Rattle.psci_fw_state.proofs.Words.{◌+◌, ◌<◌, ◌==◌, ◌||◌, ◌∙◌, ◌∷◌, ◌≡◌, ◌≤◌, [], ap, arith}
 use Rattle.psci_fw_state.proofs.Words.{below_in, BoardValue, Bool, cond, cores, count_by, counts_at}
 use Rattle.psci_fw_state.proofs.Words.{eq-eqb, false, get_or_past, height, is_on, is_pending_status}
-use Rattle.psci_fw_state.proofs.Words.{IsState, leb, leb-true, length, List, list_any, lt-ltb, ltb}
-use Rattle.psci_fw_state.proofs.Words.{ltb-true, ne_eqb, Node, nodes, Off, off_row, refl, row_at}
-use Rattle.psci_fw_state.proofs.Words.{StateValue, Status, status_at, status_counted, sum_by-cons}
-use Rattle.psci_fw_state.proofs.Words.{true, ℕ}
+use Rattle.psci_fw_state.proofs.Words.{IsState, leb, length, List, list_any, lt-ltb, ltb, ne_eqb}
+use Rattle.psci_fw_state.proofs.Words.{Node, nodes, Off, off_row, refl, row_at, StateValue, Status}
+use Rattle.psci_fw_state.proofs.Words.{status_at, status_counted, sum_by-cons, true, ℕ}
 use Rattle.psci_board.specs.Board.{has_node}
 use Rattle.psci_fw_spec.specs.AffinityInfo.{node_status, status_over}
 use Rattle.psci_fw_state.specs.Counts.{counts_below}
@@ -15,9 +14,7 @@ use Rattle.psci_fw_state.specs.Seen.{values_in}
 -- Counted or looked for -------------------------------------------------------------------------
 
 some_more : (t : Bool) (n : ℕ) (any : Bool) → ltb 0 n ≡ any → ltb 0 (cond t 1 0 + n) ≡ (t || any)
-some_more true n any e = lt-ltb 0 (1 + n) (omega arith)
-some_more false n any e =
-    let same : 0 + n ≡ n = omega arith in ap (ltb 0) same ∙ e
+some_more t n any e = grind arith
 
 -- one is there where more than none are counted
 pub some_counted : (passes : ℕ → Bool) (cs : List ℕ) → ltb 0 (count_by passes cs)
@@ -63,14 +60,7 @@ status_domain s now n same is above low inside =
 pub status_none : (b : BoardValue) (status : ℕ → Status) (n : Node)
     → (n.level ≤ height b → n.place < nodes b n.level → ⊥) → Off ≡ node_status b status n
 unfolding node_status
-status_none b status n none =
-    by (leb n.level (height b)) (ltb n.place (nodes b n.level)) refl refl
-  where
-    by : (x y : Bool) → leb n.level (height b) ≡ x → ltb n.place (nodes b n.level) ≡ y
-        → Off ≡ node_status b status n
-    by false y e f = rw e refl
-    by true false e f = rw (e, f) refl
-    by true true e f = absurd (none (leb-true _ _ e) (ltb-true _ _ f))
+status_none b status n none = grind (arith, none)
 
 -- a core's status is in its row; one that the board does not have is OFF
 pub status_leaf : (s now : StateValue) (n : Node) → s ≡ now → IsState s → n.level ≡ 0

@@ -1,10 +1,10 @@
 -- What claims are made from is what the tree holds.
 use Rattle.std.proofs.Common.{Err}
 use Rattle.std.specs.Prelude.{nat_le, if◌then◌else◌, Option}
-use Rattle.psci_fw_state.proofs.Words.{◌≡◌, Activity, asked_wish, BoardValue, is_active, IsState}
-use Rattle.psci_fw_state.proofs.Words.{length, List, None, Ok, Opening, own_claims, Part, phase_by}
-use Rattle.psci_fw_state.proofs.Words.{Platform, refl, refusal, row_at, shallow, Some, state_at}
-use Rattle.psci_fw_state.proofs.Words.{StateValue, Status, suspends, sym, Values, view_of}
+use Rattle.psci_fw_state.proofs.Words.{◌≡◌, Activity, arith, asked_wish, BoardValue, is_active}
+use Rattle.psci_fw_state.proofs.Words.{IsState, length, List, None, Ok, Opening, own_claims, Part}
+use Rattle.psci_fw_state.proofs.Words.{phase_by, Platform, refl, refusal, row_at, shallow, Some}
+use Rattle.psci_fw_state.proofs.Words.{state_at, StateValue, Status, suspends, sym, Values, view_of}
 use Rattle.psci_fw_state.proofs.Words.{wish_unless, wished_claims, with_rest, ℕ}
 use Rattle.psci_messages.specs.declared.osi.Osi.{Osi}
 use Rattle.psci_messages.specs.Claim.{claims_of}
@@ -19,19 +19,9 @@ use Rattle.psci_fw_spec.specs.Claims.{suspend_claims}
 use Rattle.psci_fw_spec.specs.Phases.{activity_of}
 use Rattle.psci_fw_spec.specs.Views.{view}
 use Rattle.psci_fw_state.specs.Seen.{values_in}
-use Rattle.psci_state.specs.declared.cores.Activity.TheVariants as activities
-use Rattle.psci_fw_spec.specs.declared.status.Status.TheVariants as statuses
 
 back : (s : Status) (a : Activity) → activity_of (phase_by s a) ≡ a
-back statuses.On activities.Active = refl
-back statuses.Off activities.Active = refl
-back statuses.Pending activities.Active = refl
-back statuses.On (activities.Suspended ask) = refl
-back statuses.Off (activities.Suspended ask) = refl
-back statuses.Pending (activities.Suspended ask) = refl
-back statuses.On activities.Away = refl
-back statuses.Off activities.Away = refl
-back statuses.Pending activities.Away = refl
+back s a = grind arith
 
 pub viewed : (s : StateValue) → IsState s → view_of s.tree ≡ view s.board (values_in s)
 unfolding view values_in

@@ -11,10 +11,8 @@ use Rattle.psci_fw.specs.psci_messages.declared.start.Start.{Start}
 use Rattle.psci_ctl.specs.psci_ctl_spec.Replies.{last_start, reply}
 use Rattle.psci_ctl.specs.psci_ctl_spec.Values as controlled
 use Rattle.psci_fw.specs.Seen.{seen as seen_firmware}
-use Rattle.psci_fw.specs.psci_fw_spec.declared.call.FwCall.{FwCall}
 use Rattle.psci_fw.specs.psci_fw_spec.declared.call.FwCall.TheVariants as calls
 use Rattle.psci_fw.specs.psci_fw_spec.Answer.{answer}
-use Rattle.psci_fw.specs.psci_fw_spec.Values as kept
 use Rattle.psci_fw.specs.psci_messages.Message.{AckValue, MessageValue}
 use Rattle.psci_world_spec.specs.declared.event.Event.TheVariants.{Call, Enter, Wake, Reset}
 use Rattle.psci_world_spec.specs.declared.event.Event.TheVariants.{Deliver, Take}
@@ -42,31 +40,13 @@ same_there : (b : BoardValue) (c : ℕ) (x y : Said) → (c < cores b → x ≡ 
     → on_board b c x ≡ on_board b c y
 same_there b c x y same = board_test (nat_lt c (cores b)) x y (λ t. same (ltb-true _ _ t))
 
--- the firmware's answer, by a machine's values
-answer_same : (b : BoardValue) (past : List Record) (m : MachineValue) (c : ℕ) (asks : FwCall)
-    → IsAfter b past m
-    → answer (machine_board m) (seen_firmware m.firmware) c asks
-    ≡ answer b (firmware_values b past) c asks
-answer_same b past m c asks is =
-    ap (λ (x : BoardValue). answer x (seen_firmware m.firmware) c asks) is.board
-    ∙ ap (λ (x : kept.Values). answer b x c asks) is.firmware
-
-entering_same : (b : BoardValue) (past : List Record) (c n : ℕ) (p : Place) (s : Option Start)
-    → n ≡ length (sent past)
-    → if_entering p s (λ start. said_of n
+entering_same : (b : BoardValue) (past : List Record) (c : ℕ) (p : Place) (s : Option Start)
+    → if_entering p s (λ start. said_of (length (sent past))
     (answer b (firmware_values b past) c (calls.Enter start))) ≡ if_started b past c p s
-entering_same b past c n Started (Some start) count =
-    ap (λ (k : ℕ). said_of k (answer b (firmware_values b past) c (calls.Enter start))) count
-entering_same b past c n Started None count = refl
-entering_same b past c n Running (Some start) count = refl
-entering_same b past c n Running None count = refl
-entering_same b past c n Stopped (Some start) count = refl
-entering_same b past c n Stopped None count = refl
-
--- a list is looked at in the same way from its other end
-same_number : {A : Type 0} → (xs ys : List A) (k : ℕ) → xs ≡ reverse ys
-    → slice_get xs k ≡ indexed ys k
-same_number xs ys k e = ap (λ l. slice_get l k) e
+entering_same b past c Started (Some start) = refl
+entering_same b past c Started None = refl
+entering_same b past c Running s = refl
+entering_same b past c Stopped s = refl
 
 -- Events ---------------------------------------------------------------------------------------
 
@@ -77,16 +57,7 @@ pub call_legal : (b : BoardValue) (past : List Record) (m : MachineValue) (c n :
     ≡ legal b past (Call c regs)
 unfolding legal
 call_legal b past m c n regs is count =
-    ap (λ (x : BoardValue). on_board x c (if_running (place_in m.places c)
-    (said_of n (answer (machine_board m) (seen_firmware m.firmware) c (calls.Smc regs))))) is.board
-    ∙ same_there b c _ _ (λ inside.
-    ap (λ (p : Place). if_running p
-    (said_of n (answer (machine_board m) (seen_firmware m.firmware) c (calls.Smc regs))))
-    (is.places c inside)
-    ∙ ap (λ (k : ℕ). if_running (place b past c)
-    (said_of k (answer (machine_board m) (seen_firmware m.firmware) c (calls.Smc regs)))) count
-    ∙ ap (λ r. if_running (place b past c) (said_of (length (sent past)) r))
-    (answer_same b past m c (calls.Smc regs) is))
+    rw (is.firmware, count, is.board) (same_there b c _ _ (λ inside. rw (is.places c inside) refl))
 
 pub enter_legal : (b : BoardValue) (past : List Record) (m : MachineValue) (c n : ℕ)
     → IsAfter b past m → n ≡ length (sent past)
@@ -96,20 +67,11 @@ pub enter_legal : (b : BoardValue) (past : List Record) (m : MachineValue) (c n 
     ≡ legal b past (Enter c)
 unfolding legal
 enter_legal b past m c n is count =
-    ap (λ (x : BoardValue). on_board x c (if_entering (place_in m.places c)
-    (last_start (seen_controller m.controller) c) (λ start. said_of n
-    (answer x (seen_firmware m.firmware) c (calls.Enter start))))) is.board
-    ∙ same_there b c _ _ (λ inside.
-    ap (λ (p : Place). if_entering p
-    (last_start (seen_controller m.controller) c) (λ start. said_of n
-    (answer b (seen_firmware m.firmware) c (calls.Enter start)))) (is.places c inside)
-    ∙ ap (λ (v : controlled.Values). if_entering (place b past c)
-    (last_start v c) (λ start. said_of n
-    (answer b (seen_firmware m.firmware) c (calls.Enter start)))) is.controller
-    ∙ ap (λ (v : kept.Values). if_entering (place b past c)
-    (last_start (controller_values b past) c) (λ start. said_of n
-    (answer b v c (calls.Enter start)))) is.firmware
-    ∙ entering_same b past c n (place b past c) (last_start (controller_values b past) c) count)
+    rw (is.firmware, count, is.board) (same_there b c _ _ (λ inside. rw (is.places c inside)
+    (ap (λ (v : controlled.Values). if_entering (place b past c) (last_start v c)
+    (λ start. said_of (length (sent past))
+    (answer b (firmware_values b past) c (calls.Enter start)))) is.controller
+    ∙ entering_same b past c (place b past c) (last_start (controller_values b past) c))))
 
 pub wake_legal : (b : BoardValue) (past : List Record) (m : MachineValue) (c : ℕ)
     → IsAfter b past m
@@ -119,17 +81,9 @@ pub wake_legal : (b : BoardValue) (past : List Record) (m : MachineValue) (c : �
     ≡ legal b past (Wake c)
 unfolding legal
 wake_legal b past m c is =
-    ap (λ (x : BoardValue). on_board x c (if_stopped (place_in m.places c)
-    (said_by (length (acks past)) (reply x (seen_controller m.controller)
-    (asked.Wake (record { number = c }) ((seen_controller m.controller).starts c)))))) is.board
-    ∙ same_there b c _ _ (λ inside.
-    ap (λ (p : Place). if_stopped p
-    (said_by (length (acks past)) (reply b (seen_controller m.controller)
-    (asked.Wake (record { number = c }) ((seen_controller m.controller).starts c)))))
-    (is.places c inside)
-    ∙ ap (λ (v : controlled.Values). if_stopped (place b past c)
-    (said_by (length (acks past)) (reply b v
-    (asked.Wake (record { number = c }) (v.starts c))))) is.controller)
+    rw is.board (same_there b c _ _ (λ inside. rw (is.places c inside)
+    (ap (λ (v : controlled.Values). if_stopped (place b past c) (said_by (length (acks past))
+    (reply b v (asked.Wake (record { number = c }) (v.starts c))))) is.controller)))
 
 pub reset_legal : (b : BoardValue) (past : List Record) (m : MachineValue) (c : ℕ)
     → IsAfter b past m
@@ -137,19 +91,13 @@ pub reset_legal : (b : BoardValue) (past : List Record) (m : MachineValue) (c : 
     (reply (machine_board m) (seen_controller m.controller) (asked.Reset (record { number = c }))))
     ≡ legal b past (Reset c)
 unfolding legal
-reset_legal b past m c is =
-    ap (λ (x : BoardValue). on_board x c (said_by (length (acks past))
-    (reply x (seen_controller m.controller) (asked.Reset (record { number = c }))))) is.board
-    ∙ ap (λ (v : controlled.Values). on_board b c (said_by (length (acks past))
-    (reply b v (asked.Reset (record { number = c }))))) is.controller
+reset_legal b past m c is = rw (is.board, is.controller) refl
 
-deliver_any : (b : BoardValue) (past : List Record) (n : ℕ) (message : Option MessageValue)
-    → n ≡ length (acks past)
-    → if_there message (λ m. said_by n (reply b (controller_values b past) (asked.Deliver m)))
-    ≡ deliver b past message
-deliver_any b past n None count = refl
-deliver_any b past n (Some m) count =
-    ap (λ (k : ℕ). said_by k (reply b (controller_values b past) (asked.Deliver m))) count
+deliver_any : (b : BoardValue) (past : List Record) (message : Option MessageValue)
+    → if_there message (λ m. said_by (length (acks past))
+    (reply b (controller_values b past) (asked.Deliver m))) ≡ deliver b past message
+deliver_any b past None = refl
+deliver_any b past (Some m) = refl
 
 pub deliver_legal : (b : BoardValue) (past : List Record) (m : MachineValue)
     (messages : List MessageValue) (k n : ℕ) → IsAfter b past m
@@ -159,14 +107,7 @@ pub deliver_legal : (b : BoardValue) (past : List Record) (m : MachineValue)
     ≡ legal b past (Deliver k)
 unfolding legal
 deliver_legal b past m messages k n is sends count =
-    ap (λ (y : BoardValue). if_there (slice_get messages k) (λ x. said_by n
-    (reply y (seen_controller m.controller) (asked.Deliver x)))) is.board
-    ∙ ap (λ (v : controlled.Values). if_there (slice_get messages k) (λ x. said_by n
-    (reply b v (asked.Deliver x)))) is.controller
-    ∙ ap (λ (o : Option MessageValue). if_there o (λ x. said_by n
-    (reply b (controller_values b past) (asked.Deliver x))))
-    (same_number messages (sent past) k sends)
-    ∙ deliver_any b past n (indexed (sent past) k) count
+    rw (is.board, is.controller, sends, count) (deliver_any b past (indexed (sent past) k))
 
 take_any : (b : BoardValue) (past : List Record) (ack : Option AckValue)
     → if_there ack (λ a. said_of (length (sent past))
@@ -181,10 +122,4 @@ pub take_legal : (b : BoardValue) (past : List Record) (m : MachineValue)
     ≡ legal b past (Take k)
 unfolding legal
 take_legal b past m made k is makes =
-    ap (λ (y : BoardValue). if_there (slice_get made k) (λ a. said_of (length (sent past))
-    (answer y (seen_firmware m.firmware) 0 (calls.Take a)))) is.board
-    ∙ ap (λ (v : kept.Values). if_there (slice_get made k) (λ a. said_of (length (sent past))
-    (answer b v 0 (calls.Take a)))) is.firmware
-    ∙ ap (λ (o : Option AckValue). if_there o (λ a. said_of (length (sent past))
-    (answer b (firmware_values b past) 0 (calls.Take a)))) (same_number made (acks past) k makes)
-    ∙ take_any b past (indexed (acks past) k)
+    rw (is.firmware, makes, is.board) (take_any b past (indexed (acks past) k))

@@ -1,6 +1,6 @@
 -- What a wake-up or a reset of a core says and leaves, and a message that is delivered.
-use Rattle.std.proofs.Common.{◌≡◌, ℕ, ◌<◌, ◌==◌, Bool, true, false, List, Option, None}
-use Rattle.std.proofs.Common.{Some, cond, reverse, refl, ap, sym, ◌∙◌, subst}
+use Rattle.std.proofs.Common.{◌≡◌, ℕ, ◌<◌, ◌==◌, Bool, true, false, List, Option, None, Some, cond}
+use Rattle.std.proofs.Common.{reverse, refl, ap, sym, ◌∙◌, subst}
 use Rattle.std.specs.Prelude.{is_some, nat_lt, slice_get, unwrap_or}
 use Rattle.std.proofs.lemmas.List.{reverse-reverse}
 use Rattle.psci_fw.specs.psci_board.Board.{BoardValue, cores}
@@ -25,12 +25,11 @@ use Rattle.psci_world_spec.specs.declared.event.Event.TheVariants.{Wake, Reset, 
 use Rattle.psci_world_spec.specs.declared.place.Place.{Place}
 use Rattle.psci_world_spec.specs.declared.place.Place.TheVariants.{Started, Stopped}
 use Rattle.psci_world_spec.specs.declared.said.Said.{Said}
-use Rattle.psci_world_spec.specs.declared.said.Said.TheVariants.{Absent, Acked}
-use Rattle.psci_world_spec.specs.Histories.{delivered}
+use Rattle.psci_world_spec.specs.declared.said.Said.TheVariants.{Acked}
 use Rattle.psci_world_spec.specs.Legal.{if_stopped, on_board, said_by}
 use Rattle.psci_world_spec.specs.Lists.{indexed}
-use Rattle.psci_world_spec.specs.Places.{place_of_effect, place_controlled}
-use Rattle.psci_machine.specs.Next.{IsNext, controlled_after, place_kicked}
+use Rattle.psci_world_spec.specs.Places.{place_of_effect}
+use Rattle.psci_machine.specs.Next.{IsNext, place_kicked}
 use Rattle.psci_machine.specs.Seen.{MachineValue, machine_board, place_in}
 
 -- Wake-ups and resets --------------------------------------------------------------------------
@@ -59,14 +58,14 @@ pub wake_next : (messages : List MessageValue) (made : List AckValue) (old new :
     → IsNext messages made old (Wake number) said new
 unfolding effect_of
 wake_next messages made old new number (kicks.Started start) said e is =
-    subst (λ (s : Said). IsNext messages made old (Wake number) s new) (sym e) (record {
+    rw e (record {
       board = is.board;
       firmware = is.firmware;
       controller = is.after;
       places = λ c inside. is.places c ∙ started_place (c == number) (place_in old.places c);
     })
 wake_next messages made old new number kicks.Ignored said e is =
-    subst (λ (s : Said). IsNext messages made old (Wake number) s new) (sym e) (record {
+    rw e (record {
       board = is.board;
       firmware = is.firmware;
       controller = is.ignored refl;
@@ -79,14 +78,14 @@ pub reset_next : (messages : List MessageValue) (made : List AckValue) (old new 
     → IsNext messages made old (Reset number) said new
 unfolding effect_of
 reset_next messages made old new number (kicks.Started start) said e is =
-    subst (λ (s : Said). IsNext messages made old (Reset number) s new) (sym e) (record {
+    rw e (record {
       board = is.board;
       firmware = is.firmware;
       controller = is.after;
       places = λ c inside. is.places c ∙ started_place (c == number) (place_in old.places c);
     })
 reset_next messages made old new number kicks.Ignored said e is =
-    subst (λ (s : Said). IsNext messages made old (Reset number) s new) (sym e) (record {
+    rw e (record {
       board = is.board;
       firmware = is.firmware;
       controller = is.ignored refl;
@@ -111,12 +110,9 @@ kicked_by old new fw ctl mid places call called at number kick e same named here
     subst (λ (o : MachineValue). IsKicked call number kick o new) e (record {
       board = ap (λ (f : FirmwareValue). f.board) kept;
       firmware = ap firmware.seen kept;
-      after = ap seen put ∙ is
-          ∙ ap (λ (b : BoardValue). after b called (replies.Kick kick) (seen ctl)) same
-          ∙ ap (λ (x : CtlCall). after fw.board x (replies.Kick kick) (seen ctl)) named;
-      ignored = λ none. ap seen put ∙ ap seen (ignored none);
-      places = λ c. goes c
-          ∙ ap (λ (x : ℕ). place_kicked x kick c (place_in places c)) here;
+      after = rw put (rw (same, named) at is);
+      ignored = λ none. ap seen (put ∙ ignored none);
+      places = λ c. rw here at (goes c);
     })
 
 -- a core that was found is the one of this number, and the board has it
@@ -135,18 +131,7 @@ found b number core o e is = found_by (nat_lt number (cores b)) number core (sym
 pub wake_asked : (v : Values) (number halted : ℕ) (core : Core)
     → record { number = number } ≡ core → halted ≡ v.starts core.number
     → calls.Wake core halted ≡ calls.Wake (record { number = number }) (v.starts number)
-wake_asked v number halted core e is =
-    ap (calls.Wake core) is
-    ∙ ap (λ (x : Core). calls.Wake x (v.starts x.number)) (sym e)
-
--- this is said of a core that is there
-pub said_there : (b : BoardValue) (c : ℕ) (x : Said) → nat_lt c (cores b) ≡ true
-    → x ≡ on_board b c x
-said_there b c x there = ap (λ (t : Bool). cond t x Absent) (sym there)
-
--- this is said of a core that is stopped
-pub said_stopped : (p : Place) (x : Said) → p ≡ Stopped → x ≡ if_stopped p x
-said_stopped p x e = ap (λ (q : Place). if_stopped q x) (sym e)
+wake_asked v number halted core e is = rw (is, ← e) refl
 
 -- what a wake-up of a stopped core is answered, by the machine's own values
 pub woken : (old : MachineValue) (fw : FirmwareValue) (ctl : ControllerValue)
@@ -159,16 +144,8 @@ pub woken : (old : MachineValue) (fw : FirmwareValue) (ctl : ControllerValue)
     (reply (machine_board old) (seen old.controller)
     (calls.Wake (record { number = number }) ((seen old.controller).starts number)))))
 woken old fw ctl places number n halted core e same there named is stops =
-    let says : MachineValue → Said = λ m. said_by n (reply (machine_board m) (seen m.controller)
-    (calls.Wake (record { number = number }) ((seen m.controller).starts number))) in
-    let here : place_in old.places number ≡ Stopped =
-    ap (λ (x : Core). place_in old.places x.number) named ∙ stops in
-    ap (λ (b : BoardValue). said_by n (reply b (seen ctl) (calls.Wake core halted))) same
-    ∙ ap (λ (x : CtlCall). said_by n (reply fw.board (seen ctl) x))
-    (wake_asked (seen ctl) number halted core named is)
-    ∙ ap says e ∙ said_stopped (place_in old.places number) (says old) here
-    ∙ said_there (machine_board old) number
-    (if_stopped (place_in old.places number) (says old)) there
+    let here : place_in old.places number ≡ Stopped = rw (← named) at stops in
+    rw (there, here, ← e, is, ← named, same) refl
 
 -- what a reset of a core is answered, by the machine's own values
 pub reset_said : (old : MachineValue) (fw : FirmwareValue) (ctl : ControllerValue)
@@ -179,11 +156,7 @@ pub reset_said : (old : MachineValue) (fw : FirmwareValue) (ctl : ControllerValu
     ≡ on_board (machine_board old) number (said_by n
     (reply (machine_board old) (seen old.controller) (calls.Reset (record { number = number }))))
 reset_said old fw ctl places number n core e same there named =
-    let says : MachineValue → Said = λ m. said_by n (reply (machine_board m) (seen m.controller)
-    (calls.Reset (record { number = number }))) in
-    ap (λ (b : BoardValue). said_by n (reply b (seen ctl) (calls.Reset core))) same
-    ∙ ap (λ (x : Core). said_by n (reply fw.board (seen ctl) (calls.Reset x))) (sym named)
-    ∙ ap says e ∙ said_there (machine_board old) number (says old) there
+    rw (there, ← e, ← named, same) refl
 
 -- Messages -------------------------------------------------------------------------------------
 
@@ -204,18 +177,13 @@ pub delivery_next : (messages : List MessageValue) (made : List AckValue)
     → IsNext messages made old (Deliver k) (Acked index ack) new
 unfolding effect_of
 delivery_next messages made old new k index message ack at is =
-    let b = machine_board old in
-    let v = seen old.controller in
     let sent : indexed (reverse messages) k ≡ Some message =
     ap (λ (l : List MessageValue). slice_get l k) (reverse-reverse messages) ∙ at in
     record {
       board = is.board;
       firmware = is.firmware;
-      controller = is.after
-          ∙ ap (λ (o : Option MessageValue). controlled_after b (delivered o ack) v) (sym sent);
-      places = λ c inside. is.places c inside
-          ∙ ap (λ (o : Option MessageValue).
-          unwrap_or (place_controlled b c (delivered o ack)) (place_in old.places c)) (sym sent);
+      controller = rw sent is.after;
+      places = λ c inside. rw sent (is.places c inside);
     }
 
 -- a machine's parts, when the power controller got a message and the places were noted
@@ -232,9 +200,7 @@ delivered_by old new fw ctl mid places message ack e same is goes kept put =
     subst (λ (o : MachineValue). IsDelivered message ack o new) e (record {
       board = ap (λ (f : FirmwareValue). f.board) kept;
       firmware = ap firmware.seen kept;
-      after = ap seen put ∙ is
-          ∙ ap (λ (b : BoardValue). after b (calls.Deliver message)
-          (replies.Delivery (deliveries.Applied ack)) (seen ctl)) same;
+      after = rw put (rw same at is);
       places = goes;
     })
 

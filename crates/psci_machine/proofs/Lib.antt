@@ -1,4 +1,3 @@
-mod Booked
 mod Events
 mod Following
 mod Kicks

@@ -1,6 +1,6 @@
 -- Worked examples: what is said of an event by the values before it, and what it leaves.
-use Rattle.std.proofs.Common.{◌≡◌, ◌<◌, ℕ, List, [], ◌∷◌, None, Option, Some}
-use Rattle.std.proofs.Common.{refl, arith, ap, sym, subst, ◌∙◌, ◌+◌, pos}
+use Rattle.std.proofs.Common.{◌≡◌, ◌<◌, ℕ, List, [], ◌∷◌, None, Option, Some, refl, arith, ap, sym}
+use Rattle.std.proofs.Common.{subst, ◌∙◌, ◌+◌, pos}
 use Rattle.std.proofs.lemmas.Bool.{eqb-false}
 use Rattle.psci_world_spec.proofs.Tables.{◌⇒◌, Gives}
 use Rattle.psci_fw.specs.psci_board.Board.{BoardValue, cores}

@@ -1,9 +1,8 @@
 -- Worked examples: presents of which just one thing is not so that holds after some records.
-use Rattle.std.proofs.Common.{◌≡◌, ℕ, List, [], ◌∷◌, length}
-use Rattle.std.proofs.Common.{arith, ap, refl, sym, ◌∙◌}
+use Rattle.std.proofs.Common.{◌≡◌, ℕ, List, [], ◌∷◌, length, ap, refl, sym, ◌∙◌}
 use Rattle.std.proofs.lemmas.Bool.{eqb-false}
 use Rattle.psci_fw.specs.psci_board.Board.{cores}
-use Rattle.psci_fw.specs.psci_messages.Message.{AckValue, MessageValue}
+use Rattle.psci_fw.specs.psci_messages.Message.{MessageValue}
 use Rattle.psci_machine.specs.Seen.{machine_board}
 use Rattle.psci_world_spec.specs.declared.event.Event.TheVariants.{Deliver, Enter}
 use Rattle.psci_world_spec.specs.declared.said.Record.{Record}

@@ -1,7 +1,8 @@
--- A new present, and one after an event more.
+-- A new present, and one after an event more. Each message of a legal past is one of the board,
+-- since the firmware's history says that it was sent.
 use Rattle.std.proofs.Common.{◌≡◌, List, [], ◌∷◌, ◌++◌, Option, None, Some, reverse, refl, ap, sym}
-use Rattle.std.proofs.Common.{◌∙◌, subst}
-use Rattle.std.proofs.lemmas.List.{reverse-append}
+use Rattle.std.proofs.Common.{◌∙◌, subst, ℕ, ◌-◌, ◌<◌, length, arith, get_or}
+use Rattle.std.proofs.lemmas.List.{reverse-append, get_or-reverse, length-reverse}
 use Rattle.psci_fw.specs.psci_board.Board.{BoardValue}
 use Rattle.psci_fw.specs.psci_fw_spec.Said.{listed}
 use Rattle.psci_fw.specs.psci_messages.Message.{AckValue, MessageValue}
@@ -12,6 +13,10 @@ use Rattle.psci_world_spec.specs.Histories.{ack_in, acks, sent, sent_in}
 use Rattle.psci_world_spec.specs.Legal.{legal, legal_record}
 use Rattle.psci_machine.specs.Seen.{IsAfter, machine_board}
 use Rattle.psci_machine.specs.Present.{HasPast, IsPresent, PresentValue}
+use Rattle.std.specs.Prelude.{slice_get}
+use Rattle.std.proofs.lemmas.Option.{get_or_from_slice_get, slice_get-get_or, slice_get_within}
+use Rattle.psci_ctl.specs.psci_ctl_spec.Legal.{IsOfBoard}
+use Rattle.psci_headline.specs.psci_fw_laws.Messages.{IsSound}
 
 pub first_present : (b : BoardValue) (p : PresentValue) → IsAfter b [] p.machine
     → p.messages ≡ [] → p.acks ≡ [] → IsPresent b [] p
@@ -68,8 +73,8 @@ happens old new event said messages reserved made reserved_acks says after lent 
     let sends = lent ∙ same ∙ is.messages in
     let makes = lent_acks ∙ same_acks ∙ is.acks in
     let right = says b past is.machine sends makes in
-    subst (λ (s : Said). IsPresent b (record { event = event; said = s } ∷ past) new) right
-    (next_present b past old new event said is right (after b past is.machine sends makes)
+    rw (← right) (next_present b past old new event said is right
+    (after b past is.machine sends makes)
     (more ∙ ap (λ (l : List MessageValue). l ++ listed (sent_in said)) same)
     (more_acks ∙ ap (λ (l : List AckValue). l ++ listed (ack_in said)) same_acks))
 
@@ -85,3 +90,30 @@ has_past old new event next h =
       is = subst (λ (x : BoardValue). IsPresent x (legal_record b h.past event ∷ h.past) new)
           (sym is.machine.board) is;
     }
+
+-- Messages -------------------------------------------------------------------------------------
+
+-- an item of a list from its other end is one of the list
+from_the_end : (xs : List MessageValue) (k : ℕ) (x : MessageValue)
+    → slice_get (reverse xs) k ≡ Some x → (j : ℕ) × (slice_get xs j ≡ Some x)
+from_the_end xs k x e =
+    let inside : k < length (reverse xs) = slice_get_within (reverse xs) k x e in
+    let small : k < length xs = omega (arith, inside, length-reverse xs) in
+    let less : length xs - 1 - k < length xs = omega (arith, small) in
+    let is : get_or (reverse xs) k x ≡ x = get_or_from_slice_get (reverse xs) k x x e in (
+      length xs - 1 - k,
+      slice_get-get_or xs (length xs - 1 - k) x less
+          ∙ ap (λ (y : MessageValue). Some y) (sym (get_or-reverse xs k x small) ∙ is),
+    )
+
+-- each message that was sent is one of the board, where the history says it of its own
+pub sent_of_board : (b : BoardValue) (sent history messages : List MessageValue)
+    → sent ≡ history
+    → ((k : ℕ) (m : MessageValue) → slice_get history k ≡ Some m → IsSound b m)
+    → messages ≡ reverse sent
+    → (k : ℕ) (m : MessageValue) → slice_get messages k ≡ Some m → IsOfBoard b m
+sent_of_board b sent history messages same sound sends k m at =
+    let one = from_the_end sent k m
+    (ap (λ (l : List MessageValue). slice_get l k) (sym sends) ∙ at) in
+    let s = sound one.0 m (ap (λ (l : List MessageValue). slice_get l one.0) (sym same) ∙ one.1) in
+    record { core = s.core; levels = s.few }

@@ -1,5 +1,5 @@
--- Worked examples: which messages are answered as the world settles, and pasts that it does not
--- settle by or come to rest by.
+-- Worked examples: which messages are answered as the world settles, pasts that it does not settle
+-- by or come to rest by, and pasts that are on the way to others, or not.
 use Rattle.std.proofs.lemmas.List.Sums.{AllPass-from_list_all, list_all-from_AllPass}
 use Rattle.std.proofs.Common.{◌≡◌, ◌≤◌, ◌+◌, ◌++◌, ◌&&◌, ℕ, true, false, List, [], ◌∷◌, length}
 use Rattle.std.proofs.Common.{length-append, map, refl, arith, ap, ◌∙◌}
@@ -10,7 +10,7 @@ use Rattle.psci_headline.specs.Drained.{is_settling}
 use Rattle.psci_world.specs.declared.outstanding.Which.TheVariants.{All, Starts}
 use Rattle.psci_world.specs.declared.settling.Settled.{Settled}
 use Rattle.psci_world.specs.declared.settling.Settled.TheVariants.{Halting, Quiet}
-use Rattle.psci_world.specs.Settles.{ComesToRest, SettlesBy, serves_kind}
+use Rattle.psci_world.specs.Settles.{ComesToRest, IsOnTheWay, SettlesBy, serves_kind}
 use Rattle.psci_machine.proofs.world_spec.Scripts.{board}
 use Rattle.psci_machine.specs.psci_world_spec.declared.event.Event.{Event}
 use Rattle.psci_machine.specs.psci_world_spec.declared.event.Event.TheVariants.{Enter, Take, Wake}
@@ -129,3 +129,16 @@ rests_by_a_wake_up : (said : Said) (s : Settled)
     → ComesToRest board [] (record { event = Wake 1; said = said } ∷ []) s → ⊥
 rests_by_a_wake_up said s is =
     adds_a_wake_up said is.added is.more (list_all-from_AllPass _ is.added is.settled.events)
+
+-- On the way -------------------------------------------------------------------------------------
+
+-- before any record, after the first of three, and after the last
+on_the_way : (r s t : Record) → let whole = t ∷ s ∷ r ∷ [] in
+    IsOnTheWay [] whole × IsOnTheWay (r ∷ []) whole × IsOnTheWay whole whole
+on_the_way r s t = ((t ∷ s ∷ r ∷ [], refl), (t ∷ s ∷ [], refl), ([], refl))
+
+-- a record more than there shall be
+beyond : (r s : Record) → IsOnTheWay (s ∷ r ∷ []) (r ∷ []) → ⊥
+beyond r s way =
+    let lengths : 1 ≡ length way.0 + 2 = ap length way.1 ∙ length-append way.0 (s ∷ r ∷ []) in
+    omega (arith, lengths)

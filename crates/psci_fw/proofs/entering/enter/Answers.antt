@@ -1,6 +1,4 @@
-use Rattle.std.proofs.Common.{◌≡◌, ◌<◌, None, false, sym, subst, ap, ◌∙◌}
-use Rattle.psci_board.specs.Board.{BoardValue, cores}
-use Rattle.psci_messages.specs.Message.{AreClaims}
+use Rattle.std.proofs.Common.{◌≡◌, None, false, sym, ap, ◌∙◌}
 use Rattle.psci_fw_spec.specs.Changes.{with_arrival}
 use Rattle.psci_fw_spec.specs.Lives.{in_life}
 use Rattle.psci_fw_spec.specs.Values.{Values}
@@ -8,7 +6,7 @@ use Rattle.psci_fw_state.specs.Seen.{values_in}
 use Rattle.psci_fw.specs.Reactions.{outcome_in}
 use Rattle.psci_fw.specs.Ways.{way_on}
 use Rattle.psci_fw.proofs.Answered.{arrived_away, fault_inside, halted_outcome, left_may}
-use Rattle.psci_fw.proofs.Answered.{leaving_off, no_opening, no_resume, parked, way_outcome}
+use Rattle.psci_fw.proofs.Answered.{leaving_off, no_way, parked, way_outcome}
 use Rattle.psci_fw.proofs.Stopping.{park_outcome}
 use Rattle.psci_fw.proofs.entering.enter.Goals as goal
 
@@ -37,15 +35,14 @@ send_down-requires g c =
     let same = leaving_off b _ (with_arrival b core s v) _ core _ at away
     c.leaving_wish-wish.ensures in
     let inside = fault_inside b v core s c.requires.fault in
-    let opens = no_opening (in_life b s.life v) core s none in
+    let parks = no_way (in_life b s.life v) core s none in
     record {
-      inside = subst (λ (x : BoardValue). core < cores x) (sym at) inside;
-      claims = subst AreClaims (sym same) (c.law_stops.ensures.parks b v core s
-          c.requires.firmware.board inside c.requires.firmware.values awake opens);
+      inside = rw at inside;
+      claims = rw same (c.law_stops.ensures.parks b v core s
+          c.requires.firmware.board inside c.requires.firmware.values awake parks.0);
       may = left_may b _ (with_arrival b core s v) _ core _ _ at away same
           (c.law_may_claim.ensures.parks b v core s c.requires.firmware.board inside
-          c.requires.firmware.values c.requires.fault awake opens
-          (no_resume (in_life b s.life v) core s none));
+          c.requires.firmware.values c.requires.fault awake parks.0 parks.1);
     }
 
 pub returns-in-Some-clause-answer : goal.returns-in-Some-clause-answer
@@ -73,6 +70,6 @@ returns-in-None-clause-answer g c =
     c.arrive_away-in-None.ensures.after in
     let same = leaving_off b _ (with_arrival b core s v) _ core _ at away
     c.leaving_wish-wish.ensures in
+    let parks = no_way (in_life b s.life v) core s none in
     parked b (with_arrival b core s v) _ core _ _ away same c.send_down.ensures.answer
-    ∙ sym (park_outcome b v core s awake (no_opening (in_life b s.life v) core s none)
-    (no_resume (in_life b s.life v) core s none))
+    ∙ sym (park_outcome b v core s awake parks.0 parks.1)

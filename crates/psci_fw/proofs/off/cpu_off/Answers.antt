@@ -1,6 +1,3 @@
-use Rattle.std.proofs.Common.{◌<◌, sym, subst}
-use Rattle.psci_board.specs.Board.{BoardValue, cores}
-use Rattle.psci_messages.specs.Message.{AreClaims}
 use Rattle.psci_fw_state.specs.Seen.{values_in}
 use Rattle.psci_fw.proofs.Answered.{leaving_off, left_may, off_answered}
 use Rattle.psci_fw.proofs.off.cpu_off.Goals as goal
@@ -13,9 +10,8 @@ send_down-requires c =
     let same = leaving_off board _ v _ core _ c.leave.ensures.board c.leave.ensures.after
     c.leaving_wish-wish.ensures in
     record {
-      inside = subst (λ (b : BoardValue). core < cores b) (sym c.leave.ensures.board)
-          c.requires.inside;
-      claims = subst AreClaims (sym same) (c.law_stops.ensures.off board v core c.requires.board
+      inside = rw c.leave.ensures.board c.requires.inside;
+      claims = rw same (c.law_stops.ensures.off board v core c.requires.board
           c.requires.inside c.requires.values c.requires.running);
       may = left_may board _ v _ core _ _ c.leave.ensures.board c.leave.ensures.after same
           (c.law_may_claim.ensures.off board v core c.requires.board c.requires.inside

@@ -1,8 +1,4 @@
-use Rattle.std.proofs.Common.{◌≡◌, ap, subst, sym, ◌∙◌, rules}
-use Rattle.psci_abi.specs.declared.request.Request.TheVariants as requests
-use Rattle.psci_fw_spec.specs.declared.outcome.Outcome.{Outcome}
-use Rattle.psci_fw_spec.specs.After.{change}
-use Rattle.psci_fw_spec.specs.Effects.{function_effect}
+use Rattle.std.proofs.Common.{ap, ◌∙◌}
 use Rattle.psci_fw_spec.specs.Outcomes.{returns}
 use Rattle.psci_fw_state.specs.Seen.{values_in}
 use Rattle.psci_fw.specs.Reactions.{outcome_in}
@@ -17,16 +13,8 @@ pub returns-in-Features-clause-answer : goal.returns-in-Features-clause-answer
 returns-in-Features-clause-answer g c =
     let b = c.args.state.now.board in
     let v = values_in c.args.state.now in
-    let core = c.args.caller.number in
-    let asked = requests.Features c.in-Features.word in
     rw c.in-Features.is (record {
       answer = ap (outcome_in b v) c.returns-in-Features.ensures
           ∙ ap returns (rw c.board.ensures.same at c.feature_code.ensures);
-      after = subst
-          (λ (o : Outcome). v ≡ change b (function_effect b core asked o.act o.message) v)
-          (sym (ap (outcome_in b v) c.returns-in-Features.ensures))
-          (goes_on v core c.requires.running);
+      after = rw c.returns-in-Features.ensures (goes_on v c.args.caller.number c.requires.running);
     })
-
-pub returns-in-Unknown-clause-answer : goal.returns-in-Unknown-clause-answer
-returns-in-Unknown-clause-answer g c = search rules

@@ -1,8 +1,7 @@
-use Rattle.std.proofs.Math.Nat.{min-le_left, min-le_right}
-use Rattle.psci_fw_state.proofs.Words.{◌&&◌, ◌+◌, ◌<◌, ◌==◌, ◌∙◌, ◌≡◌, ◌≤◌, ap, arith, Bool, cond}
+use Rattle.psci_fw_state.proofs.Words.{◌&&◌, ◌<◌, ◌==◌, ◌∙◌, ◌≡◌, ◌≤◌, ap, arith, Bool, cond}
 use Rattle.psci_fw_state.proofs.Words.{get_or, granted_at, HasNodeIn, height, is_confirmed_at}
-use Rattle.psci_fw_state.proofs.Words.{is_made_at, length, min, nat_lt, Node, Part}
-use Rattle.psci_fw_state.proofs.Words.{slice_get-get_or, Some, subst, sym, true, up, ℕ}
+use Rattle.psci_fw_state.proofs.Words.{is_made_at, length, nat_lt, Node, Part, slice_get-get_or}
+use Rattle.psci_fw_state.proofs.Words.{Some, subst, sym, true, up, ℕ}
 use Rattle.psci_tree.specs.Standing.{on_path as path_node}
 use Rattle.psci_tree.specs.Recount.{known}
 use Rattle.psci_fw_state.proofs.Confirming.{confirmed_all, confirmed_more, known_stays}
@@ -15,13 +14,7 @@ abbrev here : In-loop-level → Node
 here c = node_at c.loop-level.level (get_or c.places-places.result c.loop-level.level 0)
 
 low : (c : In-loop-level) → c.loop-level.level ≤ height c.args.board.now
-low c = omega (
-  arith,
-  c.loop-level-test.true,
-  c.min-most.ensures,
-  min-le_right (length c.args.parts.now) (c.height.result + 1),
-  c.height.ensures.height,
-)
+low c = omega (arith, c.loop-level-test.true, c.min-most.ensures, c.height.ensures.height)
 
 placed : (c : In-loop-level)
     → here c ≡ path_node c.loop-level.tree.levels c.args.core.number c.loop-level.level
@@ -67,12 +60,8 @@ loop-level-preserved c =
     let at = (goal.at.loop-level-preserved c).In-loop-level in
     let unused : Part = record { level = 0; depth = 0; generation = 0 } in
     let part : Part = get_or c.args.parts.now c.loop-level.level unused in
-    let inside : c.loop-level.level < length c.args.parts.now = omega (
-      arith,
-      c.loop-level-test.true,
-      c.min-most.ensures,
-      min-le_left (length c.args.parts.now) (c.height.result + 1),
-    ) in
+    let inside : c.loop-level.level < length c.args.parts.now =
+    omega (arith, c.loop-level-test.true, c.min-most.ensures) in
     confirmed_more c.args.board.now c.args.core.number c.args.parts.now c.args.tree.now
     c.loop-level.tree c.confirm_last.new.tree c.loop-level.level (Some part)
     (sym (slice_get-get_or c.args.parts.now c.loop-level.level unused inside))
@@ -92,10 +81,5 @@ pub returns-clause-confirmed : goal.returns-clause-confirmed
 returns-clause-confirmed c = λ l p.
     confirmed_all c.args.board.now c.args.core.number c.args.parts.now c.args.tree.now
     c.loop-level.tree c.loop-level.level c.requires.tree.tree c.requires.tree.levels
-    (omega (
-      arith,
-      c.loop-level-test.false,
-      c.min-most.ensures,
-      ap (λ h. min (length c.args.parts.now) (h + 1)) c.height.ensures.height,
-    ))
+    (omega (arith, c.loop-level-test.false, c.min-most.ensures, c.height.ensures.height))
     c.loop-level.invariant l p

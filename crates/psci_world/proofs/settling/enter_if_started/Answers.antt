@@ -3,4 +3,4 @@ use Rattle.psci_world.proofs.Settles.{settles_none}
 use Rattle.psci_world.proofs.settling.enter_if_started.Goals as goal
 
 pub returns-else-eq-clause-events : goal.returns-else-eq-clause-events
-returns-else-eq-clause-events c = settles_none c.args.world.now.board c.args.world.now.past
+returns-else-eq-clause-events c = settles_none

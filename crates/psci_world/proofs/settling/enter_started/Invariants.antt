@@ -1,16 +1,7 @@
 -- What is left of the cores leads to what all of them do.
-use Rattle.std.proofs.Common.{◌≡◌, ◌-◌}
-use Rattle.std.specs.List.{range_with_len}
-use Rattle.psci_machine.specs.psci_board.Board.{cores}
-use Rattle.psci_headline.specs.Settling.{all_cores, each_core, entering}
-use Rattle.psci_world.specs.Settles.{SettlesBy}
+use Rattle.psci_headline.specs.Settling.{entering}
+use Rattle.psci_world.proofs.Settles.{IsAt}
 use Rattle.psci_world.proofs.settling.enter_started.Given as goal
 
 abbrev pub invariant-loop-number : goal.invariant-loop-number
-invariant-loop-number l = record {
-  board : l.world.board ≡ l.fn.world.board;
-  events : SettlesBy l.fn.world.board l.fn.world.past l.world.past;
-  rest : each_core (entering l.fn.world.board)
-      (range_with_len l.number (cores l.fn.world.board - l.number)) l.world.past
-      ≡ each_core (entering l.fn.world.board) (all_cores l.fn.world.board) l.fn.world.past;
-}
+invariant-loop-number l = IsAt entering l.fn.world.board l.fn.world.past l.world l.number

@@ -1,14 +1,12 @@
 -- One event happened, or none.
 use Rattle.std.proofs.Common.{◌∷◌, ap, ◌∙◌}
 use Rattle.psci_machine.specs.psci_world_spec.declared.said.Record.{Record}
-use Rattle.psci_world.proofs.Settles.{settles_one, settles_same}
+use Rattle.psci_world.proofs.Settles.{settles_none, settles_one}
 use Rattle.psci_world.proofs.OnTheWay.{on_err, stops_step}
 use Rattle.psci_world.proofs.settling.happen.Goals as goal
 
 pub returns-in_err-step-clause-events : goal.returns-in_err-step-clause-events
-returns-in_err-step-clause-events c =
-    settles_same c.args.world.now.board c.args.world.now.past c.step.new.self.past
-    (ap (λ w. w.past) c.in_err-step.ensures.memory)
+returns-in_err-step-clause-events c = rw c.in_err-step.ensures.memory settles_none
 
 pub returns-clause-events : goal.returns-clause-events
 returns-clause-events c =

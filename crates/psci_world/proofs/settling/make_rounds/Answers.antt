@@ -2,15 +2,15 @@
 use Rattle.std.proofs.Common.{◌∙◌, ◌+◌, ap, refl, sym, arith}
 use Rattle.psci_machine.specs.psci_board.Board.{height}
 use Rattle.psci_headline.specs.Settling.{rounds}
-use Rattle.psci_world.proofs.Beginning.{round_more, rounds_done, rounds_first, rounds_over}
 use Rattle.psci_world.proofs.Settles.{settles_both, settles_none}
-use Rattle.psci_world.proofs.OnTheWay.{on_err, stops_round, way_to}
+use Rattle.psci_world.proofs.OnTheWay.{on_err, round_more, rounds_done, rounds_first, rounds_over}
+use Rattle.psci_world.proofs.OnTheWay.{stops_round}
 use Rattle.psci_world.proofs.settling.make_rounds.Goals as goal
 
 pub loop-made-init : goal.loop-made-init
 loop-made-init c = record {
   board = refl;
-  events = settles_none c.args.world.now.board c.args.world.now.past;
+  events = settles_none;
   rest = rounds_first c.args.world.now.board (c.height-most.result + 1)
       c.args.world.now.past;
 }
@@ -21,9 +21,7 @@ loop-made-preserved c =
     let at = c.loop-made in
     record {
       board = c.answer_each.ensures.board ∙ at.invariant.board;
-      events = settles_both old.board at.world.board old.past at.world.past
-          c.answer_each.new.world.past at.invariant.board at.invariant.events
-          c.answer_each.ensures.events;
+      events = settles_both at.invariant.board at.invariant.events c.answer_each.ensures.events;
       rest = round_more old.board at.world.board at.made (c.height-most.result + 1) at.world.past
           c.answer_each.new.world.past _ c.loop-made-test.true at.invariant.board
           (sym (c.if-not-is_waiting.ensures {u = tt}))
@@ -32,10 +30,7 @@ loop-made-preserved c =
 
 pub returns-in_err-answer_each-clause-events : goal.returns-in_err-answer_each-clause-events
 returns-in_err-answer_each-clause-events c =
-    let old = c.args.world.now in
-    let at = c.loop-made in
-    settles_both old.board at.world.board old.past at.world.past
-    c.answer_each.new.world.past at.invariant.board at.invariant.events
+    settles_both c.loop-made.invariant.board c.loop-made.invariant.events
     c.answer_each.ensures.events
 
 pub returns-then-not-is_waiting-clause-ok : goal.returns-then-not-is_waiting-clause-ok
@@ -62,9 +57,7 @@ returns-in_err-answer_each-clause-front c =
     let old = c.args.world.now in
     let at = c.loop-made in
     on_err c.from_residual.result _
-    (way_to c.answer_each.new.world.past _ _
-    (ap (λ k. (rounds old.board (k + 1) old.past 0).past)
-    (c.height-most.ensures.height ∙ ap height c.board.ensures))
+    (rw (← (c.height-most.ensures.height ∙ ap height c.board.ensures))
     (stops_round old.board at.world.board at.made (c.height-most.result + 1) at.world.past
     c.answer_each.new.world.past _ c.loop-made-test.true at.invariant.board
     (sym (c.if-not-is_waiting.ensures {u = tt})) c.in_err-answer_each.ensures.front

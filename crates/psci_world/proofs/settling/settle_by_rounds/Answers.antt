@@ -1,26 +1,20 @@
 -- A halting world is as it was; any other settles.
 use Rattle.std.proofs.Common.{ap}
 use Rattle.psci_world.specs.declared.settling.Settled.TheVariants.{Quiet}
-use Rattle.psci_world.proofs.Beginning.{all_settled}
 use Rattle.psci_world.proofs.Settles.{settles_both, settles_none}
-use Rattle.psci_world.proofs.OnTheWay.{on_err, stops_beginning, stops_rounds}
+use Rattle.psci_world.proofs.OnTheWay.{all_settled, on_err, stops_beginning, stops_rounds}
 use Rattle.psci_world.proofs.settling.settle_by_rounds.Goals as goal
 
 pub returns-then-is_halting-clause-events : goal.returns-then-is_halting-clause-events
-returns-then-is_halting-clause-events c =
-    settles_none c.args.world.now.board c.args.world.now.past
+returns-then-is_halting-clause-events c = settles_none
 
 pub returns-in_err-make_rounds-clause-events : goal.returns-in_err-make_rounds-clause-events
 returns-in_err-make_rounds-clause-events c =
-    settles_both c.args.world.now.board c.begin.new.world.board c.args.world.now.past
-    c.begin.new.world.past c.make_rounds.new.world.past c.begin.ensures.board
-    c.begin.ensures.events c.make_rounds.ensures.events
+    settles_both c.begin.ensures.board c.begin.ensures.events c.make_rounds.ensures.events
 
 pub returns-clause-events : goal.returns-clause-events
 returns-clause-events c =
-    settles_both c.args.world.now.board c.begin.new.world.board c.args.world.now.past
-    c.begin.new.world.past c.make_rounds.new.world.past c.begin.ensures.board
-    c.begin.ensures.events c.make_rounds.ensures.events
+    settles_both c.begin.ensures.board c.begin.ensures.events c.make_rounds.ensures.events
 
 pub returns-clause-quiet : goal.returns-clause-quiet
 returns-clause-quiet c = λ quiet.

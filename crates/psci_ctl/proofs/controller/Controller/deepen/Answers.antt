@@ -1,14 +1,11 @@
-use Rattle.std.proofs.Common.{◌≡◌, ℕ, ◌<◌, ◌≤◌, List, [], length, get_or, ap, sym, ◌∙◌, arith}
-use Rattle.std.proofs.Common.{subst, refl}
+use Rattle.std.proofs.Common.{◌≡◌, ℕ, ◌<◌, ◌≤◌, [], length, get_or, ap, ◌∙◌, arith, refl}
 use Rattle.std.specs.Vec.{with_items}
 use Rattle.std.proofs.lemmas.List.{with_items_is}
 use Rattle.psci_board.specs.Board.{height, nodes}
 use Rattle.psci_ctl.specs.declared.level.DomainRow.{DomainRow}
-use Rattle.psci_ctl.specs.Rows.{HasRows, deepened, depth_in, domain_at, values_in}
-use Rattle.psci_ctl.specs.Seen.{ControllerValue}
+use Rattle.psci_ctl.specs.Rows.{HasRows, domain_at, values_in}
 use Rattle.psci_ctl.proofs.Kept.{IsDeepened, deepened_kept, is_deepened, whole}
 use Rattle.psci_ctl.proofs.Looked.{set_row, shape_set}
-use Rattle.psci_ctl_spec.proofs.OneMore.{same_values}
 use Rattle.psci_ctl.proofs.controller.Controller.deepen.Goals as goal
 
 -- what was written
@@ -28,30 +25,20 @@ written c =
     let place : ℕ = c.args.node.place in
     let same : whole b c.self.inside.life c.self.inside.cores.items ds.items ≡ c.args.self.now =
     c.self.view_is in
-    let low : k ≤ height b =
-    subst (λ (v : ControllerValue). k ≤ height v.board) (sym same) c.requires.node.level in
-    let inside : place < nodes b k =
-    subst (λ (v : ControllerValue). place < nodes v.board k) (sym same) c.requires.node.place in
-    let row : DomainRow = record {
-      depth = c.args.depth;
-      starts = c.domain.result.starts;
-    } in
-    let full : length new_ds ≡ ds.len = c.set_domain.auto.levels ∙ c.deref_mut.ensures.len in
+    let low : k ≤ height b = rw (← same) at c.requires.node.level in
+    let inside : place < nodes b k = rw (← same) at c.requires.node.place in
+    let row : DomainRow = record { depth = c.args.depth; starts = c.domain.result.starts } in
     let set : new_ds ≡ set_row ds.items k place row =
-    c.set_domain.ensures
-    ∙ ap (λ (xs : List (List DomainRow)). set_row xs k place row) c.deref_mut.ensures.value in
+    rw c.deref_mut.ensures.value at c.set_domain.ensures in
     let was : row.starts ≡ (domain_at ds.items k place).starts =
-    ap (λ (r : DomainRow). r.starts) (c.domain.ensures
-    ∙ ap (λ (xs : List (List DomainRow)). domain_at xs k place) c.deref.ensures.value) in
+    ap (λ (r : DomainRow). r.starts) (rw c.deref.ensures.value at c.domain.ensures) in
     let shape : HasRows b ds.items = c.self.invariant.shape in
     let fits : place < length (get_or ds.items k []) =
     omega (arith, shape.places k low, inside) in
     record {
-      items = with_items_is ds new_ds full;
-      shape = subst (HasRows b) (sym set) (shape_set b ds.items k place row shape);
-      deep = subst (λ (xs : List (List DomainRow)). IsDeepened ds.items xs k place
-          c.args.depth) (sym set)
-          (is_deepened ds.items k place c.args.depth row
+      items = with_items_is ds new_ds (c.set_domain.auto.levels ∙ c.deref_mut.ensures.len);
+      shape = rw set (shape_set b ds.items k place row shape);
+      deep = rw set (is_deepened ds.items k place c.args.depth row
           (omega (arith, shape.levels)) fits refl was);
     }
 
@@ -67,15 +54,11 @@ invariant_of-self c =
 pub returns : goal.returns
 returns c =
     let is = written c in
-    let b = c.self.inside.board in
     let o = c.self.inside.life in
     let cs = c.self.inside.cores.items in
     let ds = c.self.inside.domains.items in
-    let new_ds = c.set_domain.new.levels in
     rw (← c.self.view_is, is.items)
     (record {
       board = refl;
-      values = same_values (values_in o cs new_ds)
-          (record (values_in o cs ds) { depth = deepened c.args.node c.args.depth (depth_in ds) })
-          refl (λ k. refl) (λ k. refl) is.deep.depths;
+      values = λ i. record (values_in o cs ds) { depth = λ l p. is.deep.depths l p i };
     })

@@ -1,4 +1,3 @@
-use Rattle.std.proofs.Common.{sym, subst}
 use Rattle.psci_board.specs.Board.{IsBoard}
 use Rattle.psci_fw.proofs.firmware.Firmware.new.Goals as goal
 
@@ -8,7 +7,7 @@ invariant_of-result c =
     let values = c.in_ok-state.ensures.values in
     let valid : IsBoard c.args.board.now = c.in_ok-state.ensures.valid in
     record {
-      board = subst IsBoard (sym same) valid;
+      board = rw same valid;
       values = rw (values, same) (c.law_invariant.ensures.first c.args.board.now 0 valid);
       fresh = rw (values, same) (c.law_fresh.ensures.first c.args.board.now);
     }

@@ -31,8 +31,7 @@ invariant_of-self g c =
     let left = c.dispatch.ensures.after in
     let before : IsFirmware s = subst IsFirmware (sym c.deref_mut.ensures.value) c.self.invariant in
     let fault : call_fault b v core ≡ None =
-    subst (λ (x : StateValue). call_fault x.board (values_in x) core ≡ None)
-    (c.deref.ensures ∙ sym c.deref_mut.ensures.value) c.in_ok-check_caller.ensures in
+    rw (c.deref.ensures ∙ sym c.deref_mut.ensures.value) at c.in_ok-check_caller.ensures in
     record {
       board = subst IsBoard at before.board;
       values = subst (λ (x : BoardValue). AreValues x w) at (subst (AreValues b)

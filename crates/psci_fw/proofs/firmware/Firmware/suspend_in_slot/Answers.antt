@@ -1,4 +1,4 @@
-use Rattle.std.proofs.Common.{◌∙◌, subst, sym}
+use Rattle.std.proofs.Common.{◌∙◌}
 use Rattle.psci_fw_spec.specs.declared.call.FwCall.TheVariants.{Smc}
 use Rattle.psci_fw.specs.Reactions.{outcome_in}
 use Rattle.psci_fw.specs.Seen.{FirmwareValue, IsFirmware, seen}
@@ -9,7 +9,7 @@ use Rattle.psci_fw.proofs.firmware.Firmware.suspend_in_slot.Goals as goal
 pub suspend_with-requires-clause-call : goal.suspend_with-requires-clause-call
 suspend_with-requires-clause-call c =
     may_calls c.deref_mut.result.now c.args.core.number
-    (subst IsFirmware (sym c.deref_mut.ensures.value) c.self.invariant)
+    (rw c.deref_mut.ensures.value c.self.invariant)
     (may_seen _ (c.deref_mut.ensures.value ∙ c.self.view_is) c.requires.call)
 
 pub invariant_of-self : goal.invariant_of-self
@@ -18,7 +18,7 @@ invariant_of-self c =
     let g : FirmwareValue = c.suspend_with.new.state in
     let core = c.args.core.number in
     let o = outcome_in g.board (seen g) c.suspend_with.result in
-    let before : IsFirmware f = subst IsFirmware (sym c.deref_mut.ensures.value) c.self.invariant in
+    let before : IsFirmware f = rw c.deref_mut.ensures.value c.self.invariant in
     let may = may_seen {f = f} core (c.deref_mut.ensures.value ∙ c.self.view_is) c.requires.call in
     firmware_left f g core c.args.regs o may c.suspend_with.ensures.answer
     c.suspend_with.ensures.after c.suspend_with.ensures.reaction.board before

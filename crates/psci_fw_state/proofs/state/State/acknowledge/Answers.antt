@@ -1,12 +1,10 @@
-use Rattle.std.specs.Borrow.{Bor}
-use Rattle.std.specs.Prelude.{Option, Some, option_map}
+use Rattle.std.specs.Prelude.{Some}
 use Rattle.psci_fw_state.proofs.Words.{◌<◌, ◌∙◌, ◌≡◌, Acknowledge, AckValue, answered, arith, false}
-use Rattle.psci_fw_state.proofs.Words.{length, message_in, MessageValue, row_at, slot_of}
-use Rattle.psci_fw_state.proofs.Words.{StateValue, subst, sym, taken, the_view, true, turns_off}
-use Rattle.psci_fw_state.proofs.Words.{Used, values_in}
-use Rattle.psci_fw_state.proofs.Acked.{answered_used, down_has_slot, off_changed, IsAcked, acked_by}
-use Rattle.psci_fw_state.proofs.Acked.{sent_parts, used_changed}
-use Rattle.psci_fw_state.proofs.Changed.{row_set}
+use Rattle.psci_fw_state.proofs.Words.{length, message_in, refl, row_at, slot_of, StateValue, subst}
+use Rattle.psci_fw_state.proofs.Words.{sym, taken, the_view, true, turns_off, Used, values_in}
+use Rattle.psci_fw_state.proofs.Acked.{acked_by, acked_changed, answered_used, down_has_slot}
+use Rattle.psci_fw_state.proofs.Acked.{IsAcked, sent_parts}
+use Rattle.psci_fw_state.proofs.Changed.{row_set, updated_same}
 use Rattle.psci_fw_state.proofs.Moved.{rows_set}
 use Rattle.psci_fw_state.proofs.state.State.acknowledge.Goals.{After-confirm_parts}
 use Rattle.psci_messages.specs.contracts.ack.Ack.{the_view as the_ack}
@@ -16,11 +14,7 @@ use Rattle.psci_fw_state.proofs.state.State.acknowledge.Goals as goal
 -- the message that is acknowledged
 sent : (c : After-confirm_parts) → Some c.in-Some.message.now ≡ answered c.args.ack
     (message_in c.self.inside.slots (slot_of c.args.ack.kind c.args.ack.core))
-sent c =
-    subst (λ (o : Option (Bor MessageValue)). option_map (λ message. message.now) o
-    ≡ answered c.args.ack
-    (message_in c.self.inside.slots (slot_of c.args.ack.kind c.args.ack.core)))
-    c.in-Some.is c.answered.ensures
+sent c = rw c.in-Some.is at c.answered.ensures
 
 acked : (c : After-confirm_parts)
     → IsAcked (the_view c.self.inside) c.confirm_parts.new.tree (the_ack c.ack.inside)
@@ -38,11 +32,10 @@ returns-then-is_off-clause-used c = λ used.
     let s : StateValue = the_view c.self.inside in
     let a : AckValue = the_ack c.ack.inside in
     let off : turns_off (values_in c.args.self.now) a ≡ true =
-    subst (λ (x : AckValue). turns_off (values_in c.args.self.now) x ≡ true) (sym c.ack.view_is)
-    (sym c.turns_off-is_off.ensures ∙ c.if-is_off.true) in
+    rw (← c.ack.view_is) at (sym c.turns_off-is_off.ensures ∙ c.if-is_off.true) in
     let used_up : taken a (message_in s.slots (slot_of a.kind a.core)) ≡ Used =
     subst (λ (x : AckValue). taken x (message_in s.slots (slot_of x.kind x.core)) ≡ Used)
-    (sym c.ack.view_is) (answered_used c.args.ack _ _ (sent at)) in
+    (sym c.ack.view_is) (answered_used c.args.ack _ _ (sent at)).1 in
     let inside : a.core.number < length s.slots.cores =
     down_has_slot a s.slots (values_in c.args.self.now) off used_up in
     let row_inside : a.core.number < length s.rows =
@@ -52,7 +45,7 @@ returns-then-is_off-clause-used c = λ used.
     (record (row_at c.deref_mut-then-is_off.result.now a.core.number) { status = statuses.Off })
     c.deref_mut-then-is_off.ensures.value c.put_status.ensures.rows in
     rw (← c.ack.view_is)
-    (off_changed s _ c.confirm_parts.new.tree _ _ c.finish.new.self a c.self.view_is off
+    (acked_changed s _ c.confirm_parts.new.tree _ _ c.finish.new.self a true c.self.view_is off
     (acked at)
     (rw (rows, c.deref_mut-then-is_off.ensures.value) (row_set s.rows a.core.number _ row_inside))
     (λ slot. rw (c.finish.ensures.slots, ← c.ack.view_is)
@@ -63,10 +56,10 @@ returns-else-is_off-clause-used c = λ used.
     let s : StateValue = the_view c.self.inside in
     let a : AckValue = the_ack c.ack.inside in
     let off : turns_off (values_in c.args.self.now) a ≡ false =
-    subst (λ (x : AckValue). turns_off (values_in c.args.self.now) x ≡ false) (sym c.ack.view_is)
-    (sym c.turns_off-is_off.ensures ∙ c.if-is_off.false) in
+    rw (← c.ack.view_is) at (sym c.turns_off-is_off.ensures ∙ c.if-is_off.false) in
     rw (← c.ack.view_is)
-    (used_changed s _ c.confirm_parts.new.tree c.finish.new.self a c.self.view_is off
-    (acked (goal.at.returns-else-is_off-clause-used c).After-confirm_parts)
+    (acked_changed s _ c.confirm_parts.new.tree s.rows s.counts c.finish.new.self a false
+    c.self.view_is off (acked (goal.at.returns-else-is_off-clause-used c).After-confirm_parts)
+    (λ k. sym (updated_same (row_at s.rows) a.core.number _ refl k))
     (λ slot. rw (c.finish.ensures.slots, ← c.ack.view_is)
     (c.law_slots.ensures.changed s.slots (Acknowledge a) tt slot)))

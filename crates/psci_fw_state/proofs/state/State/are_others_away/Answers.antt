@@ -1,5 +1,5 @@
-use Rattle.psci_fw_state.proofs.Words.{◌∙◌, ◌≡◌, ◌≤◌, ap, arith, Bool, cond, false, height, is_away}
-use Rattle.psci_fw_state.proofs.Words.{not, off, refl, StateValue, sym, the_view, true, ℕ}
+use Rattle.psci_fw_state.proofs.Words.{◌∙◌, ◌≡◌, ◌≤◌, ap, arith, Bool, cond, false, is_away, not}
+use Rattle.psci_fw_state.proofs.Words.{refl, StateValue, the_view, true, ℕ}
 use Rattle.psci_fw_state.specs.Seen.{values_in}
 use Rattle.psci_fw_state.proofs.AllCores.{away, few_off, others_away}
 use mir.Val.{bool_byte}
@@ -18,9 +18,7 @@ overflow_add-result c =
     let s : StateValue = the_view c.self.inside in
     let laws = c.law_spans.ensures s.board.levels c.self.invariant.board.tree in
     let few = few_off s c.self.invariant laws c.off-off.result c.from-own.result
-    (c.off-off.ensures ∙ ap (λ t. off t c.system.result) c.deref.ensures
-    ∙ ap (off s.tree) (c.system.ensures
-    ∙ ap (λ (x : StateValue). record { level = height x.board; place = 0 }) (sym c.self.view_is)))
+    (rw (c.deref.ensures, c.system.ensures, ← c.self.view_is) at c.off-off.ensures)
     (rw c.from-own.ensures (small _)) in
     omega (arith, few)
 
@@ -31,12 +29,9 @@ returns c =
     let laws = c.law_spans.ensures s.board.levels c.self.invariant.board.tree in
     let number : ℕ = c.args.core.number in
     let is : c.is_away.result ≡ away s c.self.invariant laws number =
-    c.is_away.ensures
-    ∙ ap (λ (x : StateValue). is_away ((values_in x).phase number)) (sym c.self.view_is) in
+    rw (← c.self.view_is) at c.is_away.ensures in
     rw (← c.self.view_is)
     (others_away s c.self.invariant laws number c.off-off.result c.from-own.result c.from.result
-    (c.off-off.ensures ∙ ap (λ t. off t c.system.result) c.deref.ensures
-    ∙ ap (off s.tree) (c.system.ensures
-    ∙ ap (λ (x : StateValue). record { level = height x.board; place = 0 }) (sym c.self.view_is)))
+    (rw (c.deref.ensures, c.system.ensures, ← c.self.view_is) at c.off-off.ensures)
     (c.from-own.ensures ∙ byte _ ∙ ap (λ b. cond (not b) 1 0) is)
     (c.from.ensures ∙ c.cores.ensures.cores))

@@ -2,7 +2,7 @@ use Rattle.psci_fw_state.proofs.Words.{◌∙◌, ◌≡◌, ap, Clear, length, 
 use Rattle.psci_fw_state.proofs.Words.{StateValue, the_view, TreeValue}
 use Rattle.psci_fw_state.proofs.Changed.{in_rows, row_set}
 use Rattle.psci_fw_state.proofs.Moved.{counts_stay, path_cleared, path_unconfirmed, rows_set}
-use Rattle.psci_fw_state.proofs.Arrived.{stopped_changed}
+use Rattle.psci_fw_state.proofs.Moved.{stopped_changed}
 use Rattle.psci_fw_state.proofs.state.State.arrive_away.Goals as goal
 
 pub returns-clause-after : goal.returns-clause-after
@@ -14,7 +14,7 @@ returns-clause-after c =
       opening = None;
     }) c.deref_mut-2.ensures.value c.set_row.ensures in
     let row : c.row_of.result ≡ row_at s.rows c.args.core.number =
-    c.row_of.ensures ∙ ap (λ xs. row_at xs c.args.core.number) c.deref.ensures.value in
+    rw c.deref.ensures.value at c.row_of.ensures in
     stopped_changed s _ c.stop.new.tree _ c.clear.new.self
     c.args.core.number c.args.start c.is_pending-pending.result c.self.view_is c.requires.life
     c.is_pending-pending.ensures
@@ -37,7 +37,7 @@ invariant_of-self c =
       opening = None;
     }) c.deref_mut-2.ensures.value c.set_row.ensures in
     let row : c.row_of.result ≡ row_at s.rows c.args.core.number =
-    c.row_of.ensures ∙ ap (λ xs. row_at xs c.args.core.number) c.deref.ensures.value in
+    rw c.deref.ensures.value at c.row_of.ensures in
     record {
       board = c.self.invariant.board;
       tree = c.stop.ensures.path.tree;

@@ -1,7 +1,6 @@
 use Rattle.psci_fw_state.proofs.Words.{◌<◌, Clear, length, None, StateValue, the_view}
 use Rattle.psci_fw_state.proofs.Changed.{in_rows, row_set, within}
-use Rattle.psci_fw_state.proofs.Moved.{path_cleared, path_unconfirmed, rows_set}
-use Rattle.psci_fw_state.proofs.Arrived.{running_changed}
+use Rattle.psci_fw_state.proofs.Moved.{path_cleared, path_unconfirmed, rows_set, running_changed}
 use Rattle.psci_fw_spec.specs.declared.status.Status.TheVariants as statuses
 use Rattle.psci_fw_state.proofs.state.State.arrive_running.Goals as goal
 

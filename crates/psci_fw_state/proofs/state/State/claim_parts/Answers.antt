@@ -3,7 +3,7 @@ use Rattle.psci_fw_state.proofs.Words.{MessageValue, Put, slot_of, StateValue, t
 use Rattle.psci_fw_spec.specs.Outcomes.{message_for}
 use Rattle.psci_fw_state.specs.Seen.{values_in}
 use Rattle.psci_fw_state.proofs.Changed.{in_rows}
-use Rattle.psci_fw_state.proofs.Claimed.{claimed_of}
+use Rattle.psci_fw_state.proofs.Moved.{claimed_of}
 use Rattle.psci_messages.specs.declared.kind.Kind.TheVariants as kinds
 use Rattle.psci_fw_state.proofs.state.State.claim_parts.Goals as goal
 

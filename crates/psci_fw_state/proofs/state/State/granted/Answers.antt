@@ -1,5 +1,4 @@
-use Rattle.psci_fw_state.proofs.Words.{arith, rules}
-use Rattle.psci_fw_state.specs.Seen.{values_in}
+use Rattle.psci_fw_state.proofs.Words.{arith}
 use Rattle.psci_fw_state.proofs.Begun.{granted_shown}
 use Rattle.psci_fw_state.proofs.state.State.granted.Goals as goal
 
@@ -7,7 +6,3 @@ pub returns-else-node-nodes : goal.returns-else-node-nodes
 returns-else-node-nodes c =
     granted_shown _ _ c.args.node.level c.args.node.place c.self.view_is c.self.invariant
     (λ h k. omega (arith, c.nodes.ensures.there h, c.if-node-nodes.false))
-
-pub returns-then-node-nodes : goal.returns-then-node-nodes
-unfolding values_in
-returns-then-node-nodes c = search rules

@@ -1,6 +1,5 @@
-use Rattle.psci_fw_state.proofs.Words.{◌<◌, ◌∙◌, ◌≡◌, ap, arith, cores, IsOfCores, length}
-use Rattle.psci_fw_state.proofs.Words.{MessageValue, Put, slot_of, Some, StateValue, subst, sym}
-use Rattle.psci_fw_state.proofs.Words.{the_view}
+use Rattle.psci_fw_state.proofs.Words.{◌<◌, ◌≡◌, arith, cores, IsOfCores, length, MessageValue, Put}
+use Rattle.psci_fw_state.proofs.Words.{slot_of, Some, StateValue, the_view}
 use Rattle.psci_fw_state.proofs.Changed.{core_set, in_rows, row_set, within}
 use Rattle.psci_fw_state.proofs.Moved.{path_cleared, path_unconfirmed, pending_of, rows_set}
 use Rattle.psci_messages.specs.contracts.message.Message.{the_view as the_message}
@@ -13,15 +12,12 @@ returns-clause-after c =
     let s : StateValue = the_view c.self.inside in
     let m : MessageValue = the_message c.message.inside in
     let there : m.core.number < cores c.args.self.now.board =
-    subst (λ (n : MessageValue). n.core.number < cores c.args.self.now.board)
-    (sym c.message.view_is)
-    c.requires.inside in
+    rw (← c.message.view_is) at c.requires.inside in
     let inside : m.core.number < length s.tree.cores =
     within _ _ _ c.self.view_is c.self.invariant there in
     let row_inside : m.core.number < length s.rows =
     in_rows _ _ _ c.self.view_is c.self.invariant there in
-    let start : m.kind ≡ kinds.Start =
-    ap (λ (n : MessageValue). n.kind) c.message.view_is ∙ c.requires.start in
+    let start : m.kind ≡ kinds.Start = rw (← c.message.view_is) at c.requires.start in
     let slot_inside : m.core.number < length s.slots.cores =
     omega (arith, c.self.invariant.rows, c.self.invariant.slots) in
     let has_slot : IsOfCores (length s.slots.cores) (slot_of m.kind m.core) =

@@ -1,6 +1,6 @@
 use Rattle.psci_fw_state.proofs.Words.{◌<◌, ◌∙◌, ◌≡◌, ap, length, length-set, None, refl, row_at}
 use Rattle.psci_fw_state.proofs.Words.{Some, StateValue, sym, the_view, TreeValue}
-use Rattle.psci_fw_state.proofs.Changed.{in_rows, row_set, same_set, within}
+use Rattle.psci_fw_state.proofs.Changed.{in_rows, row_set, updated_same, within}
 use Rattle.psci_fw_state.proofs.Moved.{counts_stay, rows_set, suspended_changed}
 use Rattle.psci_fw_state.proofs.state.State.set_suspended.Goals as goal
 
@@ -15,7 +15,7 @@ returns-then-deep-clause-after c =
       opening = Some c.args.opening;
     }) c.deref_mut-then-deep.ensures.value c.set_row.ensures in
     let row : c.row_of.result ≡ row_at s.rows c.args.core.number =
-    c.row_of.ensures ∙ ap (λ xs. row_at xs c.args.core.number) c.deref.ensures.value in
+    rw c.deref.ensures.value at c.row_of.ensures in
     suspended_changed s _ c.set_ask.new.self _ c.args.core.number c.args.ask c.args.opening
     (Some c.args.opening) c.self.view_is c.requires.running
     (λ k. rw (c.set_ask.ensures.value, c.deref_mut.ensures.value)
@@ -37,7 +37,7 @@ returns-else-deep-clause-after c =
     None c.self.view_is c.requires.running
     (λ k. rw (c.set_ask.ensures.value, c.deref_mut.ensures.value)
     (c.law_cores.ensures.suspended s.tree c.args.core.number k c.args.ask inside))
-    (same_set (row_at s.rows) c.args.core.number)
+    (λ k. sym (updated_same (row_at s.rows) c.args.core.number _ refl k))
     (λ l p. rw (c.set_ask.ensures.value, c.deref_mut.ensures.value)
     (c.law_granted.ensures.suspended s.tree c.args.core.number l p c.args.ask))
     (λ l p. rw (c.set_ask.ensures.value, c.deref_mut.ensures.value)
@@ -53,7 +53,7 @@ invariant_of-self c =
       opening = Some c.args.opening;
     }) c.deref_mut-then-deep.ensures.value c.set_row.ensures in
     let row : c.row_of.result ≡ row_at s.rows c.args.core.number =
-    c.row_of.ensures ∙ ap (λ xs. row_at xs c.args.core.number) c.deref.ensures.value in
+    rw c.deref.ensures.value at c.row_of.ensures in
     record {
       board = c.self.invariant.board;
       tree = c.set_ask.ensures.tree;

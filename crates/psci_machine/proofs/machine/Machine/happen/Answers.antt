@@ -1,10 +1,8 @@
 -- What is said of an event is what is legal.
-use Rattle.std.proofs.Common.{length, ap, sym, subst, ◌∙◌}
+use Rattle.std.proofs.Common.{length, ap, sym, ◌∙◌}
 use Rattle.std.proofs.lemmas.List.{length-reverse}
 use Rattle.psci_world_spec.specs.Histories.{acks, sent}
 use Rattle.psci_world_spec.specs.Legal.{legal}
-use Rattle.psci_world_spec.specs.declared.event.Event.{Event}
-use Rattle.psci_machine.specs.Next.{IsNext}
 use Rattle.psci_machine.proofs.Events.{call_legal, deliver_legal, enter_legal, reset_legal}
 use Rattle.psci_machine.proofs.Events.{take_legal, wake_legal}
 use Rattle.psci_machine.proofs.machine.Machine.happen.Goals as goal
@@ -50,36 +48,24 @@ returns-in-Take-clause-said c = λ b past is sends makes.
 
 pub returns-in-Call-clause-next : goal.returns-in-Call-clause-next
 returns-in-Call-clause-next c =
-    subst (λ (e : Event). IsNext c.args.messages.now c.args.made.now c.args.self.now e
-    c.call.result c.call.new.self) (sym c.in-Call.is)
-    (c.call.ensures.next c.args.messages.now c.args.made.now)
+    rw c.in-Call.is (c.call.ensures.next c.args.messages.now c.args.made.now)
 
 pub returns-in-Enter-clause-next : goal.returns-in-Enter-clause-next
 returns-in-Enter-clause-next c =
-    subst (λ (e : Event). IsNext c.args.messages.now c.args.made.now c.args.self.now e
-    c.enter.result c.enter.new.self) (sym c.in-Enter.is)
-    (c.enter.ensures.next c.args.messages.now c.args.made.now)
+    rw c.in-Enter.is (c.enter.ensures.next c.args.messages.now c.args.made.now)
 
 pub returns-in-Wake-clause-next : goal.returns-in-Wake-clause-next
 returns-in-Wake-clause-next c =
-    subst (λ (e : Event). IsNext c.args.messages.now c.args.made.now c.args.self.now e
-    c.wake.result c.wake.new.self) (sym c.in-Wake.is)
-    (c.wake.ensures.next c.args.messages.now c.args.made.now)
+    rw c.in-Wake.is (c.wake.ensures.next c.args.messages.now c.args.made.now)
 
 pub returns-in-Reset-clause-next : goal.returns-in-Reset-clause-next
 returns-in-Reset-clause-next c =
-    subst (λ (e : Event). IsNext c.args.messages.now c.args.made.now c.args.self.now e
-    c.reset.result c.reset.new.self) (sym c.in-Reset.is)
-    (c.reset.ensures.next c.args.messages.now c.args.made.now)
+    rw c.in-Reset.is (c.reset.ensures.next c.args.messages.now c.args.made.now)
 
 pub returns-in-Deliver-clause-next : goal.returns-in-Deliver-clause-next
 returns-in-Deliver-clause-next c =
-    subst (λ (e : Event). IsNext c.args.messages.now c.args.made.now c.args.self.now e
-    c.deliver.result c.deliver.new.self) (sym c.in-Deliver.is)
-    (c.deliver.ensures.next c.args.made.now)
+    rw c.in-Deliver.is (c.deliver.ensures.next c.args.made.now)
 
 pub returns-in-Take-clause-next : goal.returns-in-Take-clause-next
 returns-in-Take-clause-next c =
-    subst (λ (e : Event). IsNext c.args.messages.now c.args.made.now c.args.self.now e
-    c.take.result c.take.new.self) (sym c.in-Take.is)
-    (c.take.ensures.next c.args.messages.now)
+    rw c.in-Take.is (c.take.ensures.next c.args.messages.now)

@@ -1,11 +1,9 @@
 -- After an event it is the present of one record more.
-use Rattle.std.proofs.Common.{◌∙◌, subst, sym}
+use Rattle.std.proofs.Common.{◌∙◌}
 use Rattle.psci_fw.specs.psci_fw_spec.Sent.{sent_messages}
 use Rattle.psci_machine.specs.Seen.{machine_board}
 use Rattle.psci_world_spec.specs.Histories.{firmware_history, sent}
-use Rattle.psci_machine.specs.Present.{IsPresent}
-use Rattle.psci_machine.proofs.Booked.{sent_of_board}
-use Rattle.psci_machine.proofs.Presents.{happens, has_past}
+use Rattle.psci_machine.proofs.Presents.{happens, has_past, sent_of_board}
 use Rattle.psci_machine.proofs.present.Present.happen.Goals as goal
 
 pub step-said-requires : goal.step-said-requires
@@ -34,4 +32,4 @@ returns-clause-next c = λ b past is.
     c.deref-2.result.now c.reserve-2.new.self.items c.step-said.ensures.said
     c.step-said.ensures.after c.deref.ensures.value c.reserve.ensures.items
     c.in_ok-keep_message.ensures.items c.deref-2.ensures.value c.reserve-2.ensures.items
-    c.in_ok-keep_ack.ensures.items b past (subst (IsPresent b past) (sym c.self.view_is) is)
+    c.in_ok-keep_ack.ensures.items b past (rw c.self.view_is is)

@@ -1,8 +1,16 @@
 -- The record that is copied is the newest.
-use Rattle.std.proofs.Common.{◌≡◌, ◌∷◌, ap, reverse, sym, ◌∙◌}
+use Rattle.std.proofs.Common.{◌≡◌, [], ◌∷◌, List, get_or, length, ap, reverse, sym, ◌∙◌}
+use Rattle.std.proofs.Math.Seq.{get_or-append_seam}
+use Rattle.std.proofs.lemmas.List.{reverse-append}
+use Rattle.psci_machine.specs.psci_world_spec.declared.said.Record.{Record}
 use Rattle.psci_machine.specs.psci_world_spec.Legal.{legal_record}
-use Rattle.psci_world.proofs.Newest.{newest}
 use Rattle.psci_world.proofs.world.World.step.Goals as goal
+
+-- what is read behind the older records, whatever would stand for a place that is none
+newest : (lent older past : List Record) (r d : Record) → older ≡ reverse past
+    → lent ≡ reverse (r ∷ past) → get_or lent (length older) d ≡ r
+newest lent older past r d was is =
+    rw (is, was, reverse-append (r ∷ []) past) (get_or-append_seam (reverse past) r [] d)
 
 pub returns-clause-ok : goal.returns-clause-ok
 returns-clause-ok c =
