@@ -109,8 +109,7 @@ text_is_kept t =
 
 pub decided : (t : BoardText) → IsFull t.tree
     → verdict t ≡ said (fault_in (text_summary t)) (summary_board (text_summary t))
-decided t full = subst (λ (s : TextSummary). verdict t ≡ said (fault_in s) (summary_board s))
-    (sym (text_is_kept t)) (decided_by t full)
+decided t full = grind (arith, nat_tests, said, text_is_kept, decided_by)
 
 -- the board of the bytes of a text is a board
 pub board_of_text : (bytes : List ℕ) (b : BoardValue) → board_of bytes ≡ Ok b → IsBoard b

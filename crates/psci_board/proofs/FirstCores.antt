@@ -38,8 +38,7 @@ group_from w i k h l = elim (cases_lt (group_of w i) k) [ inl q ↦ absurd (late
         )
 
 group_back : (w : List ℕ) (i k : ℕ) → i < sum w → k ≤ group_of w i → sum (take k w) ≤ i
-group_back w i k h l = let c = counted w i h in
-    omega (arith, c.whole, sum_take_grows w k (group_of w i) l)
+group_back w i k h l = grind (arith, nat_tests, counted, sum_take_grows)
 
 -- All levels ----------------------------------------------------------------------------------
 
@@ -74,10 +73,7 @@ pub first_end : (levels : List (List ℕ)) (l : ℕ) → IsTree levels → l ≤
     → first_core levels l (size_below (drop l levels)) ≡ size_below levels
 first_end levels zero t h = refl
 first_end [] (suc l) t h = absurd (omega arith)
-first_end (w ∷ ws) (suc l) t h =
-    first_up w ws l (size_below (drop l ws))
-    ∙ ap (λ k. sum (take k w)) (first_end ws l t.3 (omega arith))
-    ∙ ap sum (take_all (size_below ws) w (omega (arith, t.0)))
+first_end (w ∷ ws) (suc l) t h = grind (arith, nat_tests, first_up, take_all, first_end ws l)
 
 pub first_within : (levels : List (List ℕ)) (l p : ℕ) → IsTree levels → l ≤ length levels
     → p ≤ size_below (drop l levels) → first_core levels l p ≤ size_below levels

@@ -88,8 +88,7 @@ same_tests false true f g = g refl
 same_tests false false f g = refl
 
 full_then_more : (n l k m : ℕ) → k ≡ min n l → m ≡ l + 1 → nat_le n k ≡ nat_lt n m
-full_then_more n l k m e f = same_tests (nat_le n k) (nat_lt n m) (λ h. grind (arith, nat_tests))
-    (λ h. grind (arith, nat_tests))
+full_then_more n l k m e f = grind (arith, nat_tests, same_tests)
 
 over_then_full : (n l k : ℕ) → k ≡ min n l → nat_lt n l ≡ true → nat_le n k ≡ true
 over_then_full n l k e h = grind (arith, nat_tests)
@@ -105,8 +104,7 @@ one_more n is_bad xs k x e =
 kept_sizes : (ms : List Member) (m : Member)
     → take 16 (take 16 (map (λ m. capped (size m)) ms) ++ capped (size m) ∷ [])
     ≡ take 16 (map (λ m. capped (size m)) (ms ++ m ∷ []))
-kept_sizes ms m = take_more 16 (map (λ m. capped (size m)) ms) (capped (size m) ∷ [])
-    ∙ ap (take 16) (sym (map-append (λ m. capped (size m)) ms (m ∷ [])))
+kept_sizes ms m = grind (arith, nat_tests, take_more, capped, size, map-append)
 
 pub how_many : {A B : Type 0} (n : ℕ) (f : A → B) (xs : List A)
     → length (take n (map f xs)) ≡ min n (length xs)

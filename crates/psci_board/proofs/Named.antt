@@ -108,8 +108,7 @@ child_at : (b : BoardValue) → IsBoard b → (n m : Node) (k level : ℕ)
     → record { level = level - 1; place = first_child b level n.place + k } ≡ m
     → address b m.level m.place ≡ k + 256 * address b level n.place
 child_at b h n m k zero i d = absurd (omega arith)
-child_at b h n m k (suc l) i d =
-    rw (← d, sub-one) (child_place b l n.place k (child_inside b h l n.place k i).0 i)
+child_at b h n m k (suc l) i d = grind (arith, nat_tests, sub-one, child_place, child_inside)
 
 child_fields : (b : BoardValue) → IsBoard b → (n m : Node) (k : ℕ) → child b n k ≡ Some m
     → address b m.level m.place ≡ k + 256 * address b n.level n.place
@@ -135,14 +134,7 @@ some_word b h n k =
 core_node : (b : BoardValue) (word : ℕ)
     → node_of b word 0 ≡ option_map (λ c. on 0 c.number) (core_of b word)
 unfolding core_of
-core_node b word =
-    rw (node_of-within b word 0 (omega arith), div-one) (by_place (index_named b.levels word))
-  where
-    by_place : (o : Option ℕ) → option_map (on 0) o
-        ≡ option_map {T = Core} {U = Node} (λ c. on 0 c.number)
-        (option_map (λ i. record { number = i }) o)
-    by_place None = refl
-    by_place (Some i) = refl
+core_node b word = grind (arith, nat_tests, node_of-within, div-one, on)
 
 pub word_laws : (b : BoardValue) → IsBoard b → WordLaws b
 unfolding up

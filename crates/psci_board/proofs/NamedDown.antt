@@ -20,9 +20,7 @@ next_field word k =
 -- where no place is named above, none is below
 none_up : (levels : List (List ℕ)) (word k : ℕ) → IsTree levels → k ≤ length levels
     → index_named (drop k levels) (word / 2 ^ (8 * k)) ≡ None → index_named levels word ≡ None
-none_up levels word zero t h e =
-    let same : word / 2 ^ (8 * 0) ≡ word = div-one word in
-    ap (index_named levels) (sym same) ∙ e
+none_up levels word zero t h e = grind (arith, nat_tests, div-one)
 none_up [] word (suc k) t h e = absurd (omega arith)
 none_up (w ∷ ws) word (suc k) t h e =
     named_below_none w ws word t (none_up ws (word / 256) k t.3 (omega arith)
@@ -93,8 +91,7 @@ named_top w word t h = named_at (w ∷ []) word word t h (lone w word t.0 h)
 -- a word names none, where there is no such child
 named_past : (w : List ℕ) (word : ℕ) → IsTree (w ∷ []) → sum w ≤ word
     → index_named (w ∷ []) word ≡ None
-named_past w word t h =
-    none_named (w ∷ []) word (λ i j a. absurd (omega (arith, a, lone w i t.0 j)))
+named_past w word t h = grind (arith, nat_tests, none_named, lone)
 
 -- the highest level stands alone
 highest : (levels : List (List ℕ)) (k : ℕ) → k + 1 ≡ length levels
@@ -106,8 +103,7 @@ pub none_above : (levels : List (List ℕ)) (word low k : ℕ) → IsTree levels
     → k ≤ length levels
     → index_named (drop k levels) (word / 2 ^ (8 * k)) ≡ None
     → index_named (drop low levels) (word / 2 ^ (8 * low)) ≡ None
-none_above levels word zero k t l h e =
-    ap (index_named levels) (div-one word) ∙ none_up levels word k t h e
+none_above levels word zero k t l h e = grind (arith, nat_tests, div-one, none_up)
 none_above [] word (suc low) k t l h e = absurd (omega (arith, l, h))
 none_above (w ∷ ws) word (suc low) zero t l h e = absurd (omega (arith, l))
 none_above (w ∷ ws) word (suc low) (suc k) t l h e =

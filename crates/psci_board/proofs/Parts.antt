@@ -16,8 +16,7 @@ same_kept p q (suc n) a e = grind (arith, nat_tests, same_kept p q n (a + 1))
 
 none_kept : (p : ℕ → Bool) (n a : ℕ) → ((j : ℕ) → a ≤ j → p j ≡ false) → kept p n a ≡ []
 none_kept p zero a e = refl
-none_kept p (suc n) a e =
-    rw (e a (omega arith)) (none_kept p n (a + 1) (λ j l. e j (omega arith)))
+none_kept p (suc n) a e = grind (arith, nat_tests, none_kept p n)
 
 -- r passes where p or q does, and nothing that passes p stands after what passes q
 record Parts (r p q : ℕ → Bool) : Type 0 where
@@ -29,8 +28,7 @@ record Parts (r p q : ℕ → Bool) : Type 0 where
 parts_by : (r p q : ℕ → Bool) → Parts r p q → (n a : ℕ) (s t : Bool) → p a ≡ s → q a ≡ t
     → kept r n (a + 1) ≡ kept p n (a + 1) ++ kept q n (a + 1)
     → kept r (suc n) a ≡ kept p (suc n) a ++ kept q (suc n) a
-parts_by r p q h n a true true e d later =
-    let apart : p a ≡ false = h.before a a d (omega arith) in cc
+parts_by r p q h n a true true e d later = grind (arith, nat_tests)
 parts_by r p q h n a true false e d later = rw (e, d, h.left a e, later) refl
 parts_by r p q h n a false true e d later = grind (arith, nat_tests, none_kept)
 parts_by r p q h n a false false e d later = rw (e, d, h.neither a e d) later
@@ -55,19 +53,13 @@ among a n q = leb a q && ltb q (a + n)
 
 one_more_part : (f : ℕ → ℕ) → ((i j : ℕ) → i ≤ j → f i ≤ f j) → (a n : ℕ)
     → Parts (λ x. among a (suc n) (f x)) (λ x. among a n (f x)) (λ x. f x == a + n)
-one_more_part f ordered a n = record {
-  left = λ j e. grind (arith, nat_tests);
-  right = λ j e. grind (arith, nat_tests);
-  neither = λ j d e. grind (arith, nat_tests);
-  before = λ i j e l. let o = ordered i j l in grind (arith, nat_tests);
-}
+one_more_part f ordered a n = grind (arith, nat_tests)
 
 -- what lies at the places of a range, place by place
 pub place_by_place : (f : ℕ → ℕ) → ((i j : ℕ) → i ≤ j → f i ≤ f j) → (a n m : ℕ)
     → filter (λ x. among a n (f x)) (range_with_len 0 m)
     ≡ flat_map (λ k. filter (λ x. f x == a + k) (range_with_len 0 m)) (range_with_len 0 n)
-place_by_place f ordered a zero m =
-    none_kept (λ x. among a 0 (f x)) m 0 (λ j l. grind (arith, nat_tests))
+place_by_place f ordered a zero m = grind (arith, nat_tests, none_kept, among)
 place_by_place f ordered a (suc n) m =
     let whole = parts _ _ _ (one_more_part f ordered a n) m 0 in
     rw (whole, place_by_place f ordered a n m)

@@ -22,12 +22,8 @@ pub record Found (p : ℕ → Bool) (a n i : ℕ) : Type 0 where
 found_by : (p : ℕ → Bool) (n a i : ℕ) (b : Bool) → p a ≡ b
     → find p (range_with_len a (suc n)) ≡ Some i
     → (find p (range_with_len (a + 1) n) ≡ Some i → Found p (a + 1) n i) → Found p a (suc n) i
-found_by p n a i true t e later =
-    let same : a ≡ i = same_Some _ _ (rw t at e) in
-    record { from = omega arith; below = omega arith; passes = rw (← same) t }
-found_by p n a i false t e later =
-    let f = later (rw t at e) in
-    record { from = omega (arith, f.from); below = omega (arith, f.below); passes = f.passes }
+found_by p n a i true t e later = grind (arith, nat_tests, same_Some)
+found_by p n a i false t e later = grind (arith, nat_tests)
 
 pub found : (p : ℕ → Bool) (n a i : ℕ) → find p (range_with_len a n) ≡ Some i → Found p a n i
 found p zero a i e = absurd (none-some i e)
@@ -42,5 +38,4 @@ passes_by p n a i false q e t l later = grind (arith, nat_tests)
 pub none_passes : (p : ℕ → Bool) (n a i : ℕ) → find p (range_with_len a n) ≡ None
     → a ≤ i → i < a + n → p i ≡ true → ⊥
 none_passes p zero a i e l h t = absurd (omega arith)
-none_passes p (suc n) a i e l h t =
-    passes_by p n a i (p a) refl e t l (λ f m. none_passes p n (a + 1) i f m (omega arith) t)
+none_passes p (suc n) a i e l h t = grind (arith, nat_tests, passes_by, none_passes p n)

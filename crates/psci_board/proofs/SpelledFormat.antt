@@ -3,7 +3,7 @@ use Rattle.std.proofs.lemmas.List.{nil_from_length}
 use Rattle.std.proofs.lemmas.Slice.Eq.{bytes_eq-Decides}
 use Rattle.psci_board.proofs.Terms.{◌≡◌, [], arith, Bool, codes, cond, Ends, eqb-true, false}
 use Rattle.psci_board.proofs.Terms.{Format, format_at, format_part, is_ascii_digit, List, nat_tests}
-use Rattle.psci_board.proofs.Terms.{None, Option, refl, same_Some, Some, subst, true, ℕ}
+use Rattle.psci_board.proofs.Terms.{None, Option, refl, same_Some, Some, true, ℕ}
 use Rattle.psci_board.specs.psci_abi.declared.format.Format.TheVariants.{Original, Extended}
 
 pub format_again : (f : Option Format) → format_at (format_part f) ≡ Some f
@@ -22,12 +22,9 @@ chosen : (a b c : Bool) (bytes : List ℕ) (f : Option Format)
     → (c ≡ true → bytes ≡ codes " format extended")
     → cond a (Some None) (cond b (Some (Some Original)) (cond c (Some (Some Extended)) None))
     ≡ Some f → bytes ≡ format_part f
-chosen true b c bytes f none original extended e =
-    subst (λ (g : Option Format). bytes ≡ format_part g) (same_Some _ _ e) (none refl)
-chosen false true c bytes f none original extended e =
-    subst (λ (g : Option Format). bytes ≡ format_part g) (same_Some _ _ e) (original refl)
-chosen false false true bytes f none original extended e =
-    subst (λ (g : Option Format). bytes ≡ format_part g) (same_Some _ _ e) (extended refl)
+chosen true b c bytes f none original extended e = grind (arith, nat_tests, same_Some)
+chosen false true c bytes f none original extended e = grind (arith, nat_tests, same_Some)
+chosen false false true bytes f none original extended e = grind (arith, nat_tests, same_Some)
 chosen false false false bytes f none original extended e = cc
 
 pub format_takes : (bytes : List ℕ) (f : Option Format) → format_at bytes ≡ Some f

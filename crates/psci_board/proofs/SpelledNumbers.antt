@@ -27,8 +27,7 @@ kind_then : (kind : ℕ → Bool) (ds rest : List ℕ) → AllOfKind kind ds →
     → prefix_len kind (ds ++ rest) ≡ length ds
 kind_then kind [] [] h e = refl
 kind_then kind [] (b ∷ bs) h e = rw e refl
-kind_then kind (d ∷ ds) rest h e =
-    rw (h.0) (ap (λ n. 1 + n) (kind_then kind ds rest h.1 e) ∙ omega arith)
+kind_then kind (d ∷ ds) rest h e = grind (arith, nat_tests, kind_then kind ds rest)
 
 kind_front_by : (kind : ℕ → Bool) (b : ℕ) (bs : List ℕ) (n : ℕ) (t : Bool) → kind b ≡ t
     → AllOfKind kind (take n bs) → AllOfKind kind (take (cond t (1 + n) 0) (b ∷ bs))

@@ -1,7 +1,9 @@
 -- Ranges are read as they are spelled, and in no other way.
+use Rattle.psci_board.proofs.Terms.{arith}
+use Rattle.psci_board.proofs.Terms.{nat_tests}
 use Rattle.psci_board.proofs.Terms.{◌++◌, ◌∷◌, ◌≡◌, [], append_assoc, Ends, hex, hex_at}
 use Rattle.psci_board.proofs.Terms.{is_ascii_hexdigit, IsRange, List, option_and_then_some, range}
-use Rattle.psci_board.proofs.Terms.{Reads, refl, same_Some, Some, subst, ℕ}
+use Rattle.psci_board.proofs.Terms.{Reads, same_Some, Some, subst, ℕ}
 use Rattle.psci_board.specs.ReadWords.{literal_at}
 use Rattle.psci_board.specs.Reading.{range_at}
 use Rattle.psci_board.proofs.SpelledLiterals.{literal_takes}
@@ -11,11 +13,7 @@ range_again : (r : List ℕ × List ℕ) (rest : List ℕ) → IsRange r
     → Ends is_ascii_hexdigit rest
     → range_at (range r ++ rest) ≡ Some (r, rest)
 unfolding range_at literal_at
-range_again r rest h e =
-    let to : hex_at (hex r.1 ++ rest) ≡ Some (r.1, rest) = hex_reads.again r.1 rest h.end e in
-    let from : hex_at (hex r.0 ++ (45 ∷ hex r.1 ++ rest)) ≡ Some (r.0, 45 ∷ hex r.1 ++ rest) =
-    hex_reads.again r.0 (45 ∷ hex r.1 ++ rest) h.start refl in
-    rw (append_assoc, from, to) refl
+range_again r rest h e = grind (arith, nat_tests, hex_reads, append_assoc)
 
 range_joined : (bytes from dash after to rest : List ℕ) → bytes ≡ from ++ dash → dash ≡ 45 ∷ after
     → after ≡ to ++ rest → bytes ≡ (from ++ 45 ∷ to) ++ rest

@@ -1,4 +1,5 @@
 -- A board text is read as it is spelled, and in no other way.
+use Rattle.psci_board.proofs.Terms.{nat_tests}
 use Rattle.psci_board.proofs.Terms.{◌++◌, ◌∙◌, ◌∷◌, ◌≡◌, [], AllByRecursion, ap, append_assoc}
 use Rattle.psci_board.proofs.Terms.{arith, BoardText, codes, decimal, Format, format_at}
 use Rattle.psci_board.proofs.Terms.{format_part, hex, IsHex, IsNumber, IsRange, IsTreeText, List}
@@ -30,9 +31,7 @@ no_range rest = refl
 others_again : (rs : List (List ℕ × List ℕ)) (rest : List ℕ)
     → AllByRecursion IsRange rs
     → more_at range_at (spaced range rs ++ (codes " boot " ++ rest)) ≡ (rs, codes " boot " ++ rest)
-others_again rs rest h =
-    more_again range_reads refl rs (codes " boot " ++ rest) h refl
-    (no_range rest)
+others_again rs rest h = grind (arith, nat_tests, more_again, range_reads, no_range)
 
 parts_again : (t : TreeText) (r : List ℕ × List ℕ) (rs : List (List ℕ × List ℕ))
     (boot : List ℕ)

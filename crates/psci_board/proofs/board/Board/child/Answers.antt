@@ -1,11 +1,11 @@
+use Rattle.psci_board.proofs.Terms.{arith}
+use Rattle.psci_board.proofs.Terms.{nat_tests}
 use Rattle.psci_board.proofs.Terms.{refl, sym}
 use Rattle.psci_board.proofs.Readers.{child-none, child-some}
 use Rattle.psci_board.proofs.board.Board.child.Goals as goal
 
 pub returns-in_err-level : goal.returns-in_err-level
-returns-in_err-level c =
-    let none = child-none c.args.self.now c.args.node c.args.number in
-    rw c.from_residual.ensures (sym (none (sym c.in_err-level.ensures)))
+returns-in_err-level c = grind (arith, nat_tests, child-none)
 
 pub returns-in_err-place : goal.returns-in_err-place
 returns-in_err-place c =
