@@ -9,7 +9,7 @@ use Rattle.psci_board.specs.Board.{up}
 use Rattle.psci_board.specs.Laws.{ChildLaws}
 use Rattle.psci_board.proofs.Groups.{counted, in_group, group_inside, width, few_at}
 use Rattle.psci_board.proofs.Levels.{level}
-use Rattle.psci_board.proofs.Parts.{among, same_kept, place_by_place}
+use Rattle.psci_board.proofs.Ranges.{among, same_kept, place_by_place}
 use Rattle.psci_board.proofs.Paths.{place_above-suc, inside, ordered}
 
 -- the numbers of children of the level above this one

@@ -6,7 +6,7 @@ use Rattle.psci_board.proofs.Terms.{Bool, child_in, cond, eq-eqb, eqb, false, ge
 use Rattle.psci_board.proofs.Terms.{index_in, index_named, IsTree, List, ltb, nat_tests, None, refl}
 use Rattle.psci_board.proofs.Terms.{size_below, Some, sum, take, true, ℕ}
 use Rattle.psci_board.proofs.Groups.{stands_at, counted, few_at}
-use Rattle.psci_board.proofs.Search.{found_first, found_none, found, none_passes}
+use Rattle.psci_board.proofs.Ranges.{found_first, found_none, found, none_passes}
 
 pub record Digit (p a word : ℕ) : Type 0 where
   pub low : p ≡ word % 256

@@ -1,11 +1,11 @@
 -- The number of the first core below a node, level by level.
+use Rattle.psci_board.proofs.Terms.{◌++◌, ◌+◌, ◌<◌, ◌∙◌, ◌∷◌, ◌≡◌, ◌≤◌, [], ap, arith, cases_lt}
+use Rattle.psci_board.proofs.Terms.{common_steps, drop, first_core, get_or, get_or_append_left}
+use Rattle.psci_board.proofs.Terms.{get_or_past, group_of, inl, inr, IsTree, length, length_push}
+use Rattle.psci_board.proofs.Terms.{List, nat_tests, place_above, refl, size_below, suc, sum}
+use Rattle.psci_board.proofs.Terms.{sum_by_more, sym, take, take-append-drop, take_all, zero, ℕ}
 use Rattle.std.proofs.lemmas.List.{length-take-le}
 use Rattle.std.proofs.Math.Seq.{get_or-append_seam}
-use Rattle.psci_board.proofs.Terms.{◌++◌, ◌+◌, ◌<◌, ◌∙◌, ◌∷◌, ◌≡◌, ◌≤◌, [], ap, arith, cases_lt}
-use Rattle.psci_board.proofs.Terms.{drop, first_core, get_or, get_or_append_left, get_or_past}
-use Rattle.psci_board.proofs.Terms.{group_of, inl, inr, IsTree, length, length_push, List}
-use Rattle.psci_board.proofs.Terms.{nat_tests, place_above, refl, size_below, suc, sum, sum_by_more}
-use Rattle.psci_board.proofs.Terms.{sym, take, take-append-drop, take_all, zero, ℕ}
 use Rattle.psci_board.proofs.Groups.{sum-cons, counted}
 use Rattle.psci_board.proofs.Fields.{fits}
 
@@ -16,26 +16,14 @@ sum_take_grows w zero k h = omega arith
 sum_take_grows [] (suc j) zero h = omega arith
 sum_take_grows [] (suc j) (suc k) h = omega arith
 sum_take_grows (n ∷ ns) (suc j) zero h = absurd (omega arith)
-sum_take_grows (n ∷ ns) (suc j) (suc k) h =
-    grind (arith, nat_tests, sum-cons, sum_take_grows ns j k)
+sum_take_grows (n ∷ ns) (suc j) (suc k) h = omega (arith, sum-cons, sum_take_grows ns j k)
 
 pub sum_take_more : (w : List ℕ) (k : ℕ) → sum (take (k + 1) w) ≡ sum (take k w) + get_or w k 0
 sum_take_more w k = grind (arith, nat_tests, sum_by_more, take_all, get_or_past)
 
 -- what stands from the first child on is in the group or in a later one
 group_from : (w : List ℕ) (i k : ℕ) → i < sum w → sum (take k w) ≤ i → k ≤ group_of w i
-group_from w i k h l = elim (cases_lt (group_of w i) k) [ inl q ↦ absurd (late q) | inr q ↦ q ]
-  where
-    late : group_of w i < k → ⊥
-    late q =
-        let c = counted w i h in
-        omega (
-          arith,
-          c.whole,
-          c.place,
-          sum_by_more (λ x. x) w (group_of w i) 0 c.group,
-          sum_take_grows w (group_of w i + 1) k (omega arith),
-        )
+group_from w i k h l = grind (arith, common_steps, cases_lt, counted, sum_by_more, sum_take_grows)
 
 group_back : (w : List ℕ) (i k : ℕ) → i < sum w → k ≤ group_of w i → sum (take k w) ≤ i
 group_back w i k h l = grind (arith, nat_tests, counted, sum_take_grows)

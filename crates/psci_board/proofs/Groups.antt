@@ -1,10 +1,12 @@
 -- Places counted through groups.
-use Rattle.psci_board.proofs.Terms.{◌++◌, ◌+◌, ◌-◌, ◌<◌, ◌∷◌, ◌≡◌, ◌≤◌, [], add-one, AllPass, arith}
-use Rattle.psci_board.proofs.Terms.{Bool, cases_lt, false, get_or, get_or_append_left}
-use Rattle.psci_board.proofs.Terms.{get_or_default, get_or_past, get_or_push, group_of, index_in}
-use Rattle.psci_board.proofs.Terms.{inl, inr, is_width, length, length_push, List, ltb, nat_tests}
-use Rattle.psci_board.proofs.Terms.{refl, suc, sum, sum_by-cons, sym, take, true, zero, ℕ}
+use Rattle.psci_board.proofs.Terms.{◌++◌, ◌+◌, ◌-◌, ◌<◌, ◌∷◌, ◌≡◌, ◌≤◌, [], add-one, AllPass}
+use Rattle.psci_board.proofs.Terms.{append_assoc, arith, Bool, cases_lt, common_steps, false}
+use Rattle.psci_board.proofs.Terms.{get_or, get_or_append_left, get_or_default, get_or_past}
+use Rattle.psci_board.proofs.Terms.{get_or_push, group_of, index_in, inl, inr, is_width, length}
+use Rattle.psci_board.proofs.Terms.{length_push, List, ltb, nat_tests, refl, suc, sum, sum_by-cons}
+use Rattle.psci_board.proofs.Terms.{sym, take, true, zero, ℕ}
 use Rattle.psci_board.specs.Level.{IsIndexed}
+use Rattle.psci_board.proofs.Levels.{drop_level}
 
 pub sum-cons : (n : ℕ) (ns : List ℕ) → sum (n ∷ ns) ≡ n + sum ns
 sum-cons n ns = sum_by-cons (λ x. x) n ns
@@ -25,9 +27,7 @@ later_stands n ns i j g p e h = grind (arith, nat_tests, ltb, sum-cons)
 pub stands_at : (w : List ℕ) (g p i : ℕ) → g < length w → p < get_or w g 0
     → i ≡ sum (take g w) + p → Stands w i g p
 stands_at [] g p i a b e = absurd (omega arith)
-stands_at (n ∷ ns) zero p i a b e =
-    let same : p ≡ i = omega arith in
-    rw (← same) (first_stands n p ns b)
+stands_at (n ∷ ns) zero p i a b e = grind (arith, common_steps, first_stands)
 stands_at (n ∷ ns) (suc g) p i a b e =
     let j = sum (take g ns) + p in
     later_stands n ns i j g p (omega (arith, sum-cons n (take g ns)))
@@ -42,15 +42,7 @@ pub record Counted (w : List ℕ) (i : ℕ) : Type 0 where
 counted_by : (n : ℕ) (ns : List ℕ) (i : ℕ) (t : Bool) → ltb i n ≡ t → i < n + sum ns
     → (i - n < sum ns → Counted ns (i - n)) → Counted (n ∷ ns) i
 counted_by n ns i true e h later = grind (arith, nat_tests)
-counted_by n ns i false e h later =
-    let l : n ≤ i = grind (arith, nat_tests) in
-    let c = later (omega arith) in
-    let before = sum-cons n (take (group_of ns (i - n)) ns) in
-    record {
-      group = rw (e, add-one) (omega (arith, c.group));
-      place = rw (e, add-one) c.place;
-      whole = rw (e, add-one) (omega (arith, c.whole, before));
-    }
+counted_by n ns i false e h later = grind (arith, common_steps, sum-cons, add-one)
 
 pub counted : (w : List ℕ) (i : ℕ) → i < sum w → Counted w i
 counted [] i h = absurd (omega arith)
@@ -64,10 +56,7 @@ in_group w p q a b = elim (cases_lt p (length w)) [
 ]
 
 pub group_inside : (w : List ℕ) (p k : ℕ) → k < get_or w p 0 → sum (take p w) + k < sum w
-group_inside w p k h = elim (cases_lt p (length w)) [
-  | inl m ↦ (stands_at w p k (sum (take p w) + k) m h refl).inside
-  | inr m ↦ let none : get_or w p 0 ≡ 0 = get_or_past w p 0 m in absurd (omega arith)
-]
+group_inside w p k h = grind (arith, common_steps, cases_lt, stands_at, get_or_past)
 
 pub group_of-ordered : (w : List ℕ) (i j : ℕ) → i ≤ j → group_of w i ≤ group_of w j
 group_of-ordered [] i j h = omega arith
@@ -110,3 +99,5 @@ pub numbered : (w counts first parent : List ℕ) (i p : ℕ) → counts ≡ w
     → IsIndexed counts first parent → i < sum w → p ≡ group_of w i → Numbered w first i p
 numbered w counts first parent i p same indexed h e =
     grind (arith, nat_tests, counted, get_or_default)
+
+pub ruleset rising = (nat_tests, drop_level, counted, append_assoc)

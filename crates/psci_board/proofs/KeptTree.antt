@@ -1,15 +1,15 @@
 -- What is kept of a tree decides what is said of it, and is the tree where no fault is said.
+use Rattle.psci_board.proofs.Terms.{◌&&◌, ◌+◌, ◌<◌, ◌||◌, ◌∙◌, ◌∷◌, ◌≡◌, ◌≤◌, [], AllPass, ap}
+use Rattle.psci_board.proofs.Terms.{arith, Bool, Cluster, clusters, common_steps, cond, false}
+use Rattle.psci_board.proofs.Terms.{flat_map, Group, is_group, is_out_of_width, is_width, IsTree}
+use Rattle.psci_board.proofs.Terms.{length, length-map, List, list_any, lit<, map, Member, Members}
+use Rattle.psci_board.proofs.Terms.{min, MOST_CORES, nat_lt, nat_tests, numbers_in, One, or_parts}
+use Rattle.psci_board.proofs.Terms.{refl, sum, sum_by-cons, sym, take, take_all, tree_summary}
+use Rattle.psci_board.proofs.Terms.{TreeSummaryValue, TreeText, true, ℕ}
 use Rattle.std.proofs.Common.{lit≤}
 use Rattle.std.specs.List.{list_all}
 use Rattle.std.proofs.lemmas.List.Sums.{sum-map, AllPass-from_list_all}
 use Rattle.std.proofs.lemmas.List.Concat.{length-flat_map}
-use Rattle.psci_board.proofs.Terms.{◌&&◌, ◌+◌, ◌<◌, ◌||◌, ◌∙◌, ◌∷◌, ◌≡◌, ◌≤◌, [], AllPass, ap}
-use Rattle.psci_board.proofs.Terms.{arith, Bool, Cluster, clusters, cond, false, flat_map, Group}
-use Rattle.psci_board.proofs.Terms.{is_group, is_out_of_width, is_width, IsTree, length, length-map}
-use Rattle.psci_board.proofs.Terms.{List, list_any, lit<, map, Member, Members, min, MOST_CORES}
-use Rattle.psci_board.proofs.Terms.{nat_lt, nat_tests, numbers_in, One, or_parts, refl, sum}
-use Rattle.psci_board.proofs.Terms.{sum_by-cons, sym, take, take_all, tree_summary}
-use Rattle.psci_board.proofs.Terms.{TreeSummaryValue, TreeText, true, ℕ}
 use Rattle.psci_board.specs.Summary.{no_members}
 use Rattle.psci_board.specs.SummaryVerdict.{summary_levels}
 use Rattle.psci_board.specs.Verdict.{levels_of, is_uneven, is_too_wide}
@@ -42,9 +42,7 @@ pass_width ns h = AllPass-from_list_all is_width ns (all_width ns h)
 fewer_than_sum : (ns : List ℕ) → list_any is_out_of_width ns ≡ false → length ns ≤ sum ns
 fewer_than_sum [] h = omega arith
 fewer_than_sum (n ∷ ns) h =
-    let p = or_parts (is_out_of_width n) (list_any is_out_of_width ns) h in
-    let w = is_out n p.0 in
-    omega (arith, sum_by-cons (λ x. x) n ns, fewer_than_sum ns p.1)
+    grind (arith, common_steps, or_parts, is_out, sum_by-cons, fewer_than_sum ns)
 
 -- sum at most, as the test says it
 pub within : (most n : ℕ) → nat_lt most n ≡ false → n ≤ most
@@ -148,9 +146,7 @@ member_count : (ms : List Member) → Narrow ms
 member_count ms h = how_many 16 (λ m. capped (size m)) ms ∙ omega (arith, outer_size ms h)
 
 whole_sizes : (ms : List Member) → Narrow ms → take 16 (map (λ m. capped (size m)) ms) ≡ map size ms
-whole_sizes ms h =
-    rw (cap_sizes ms h.sizes)
-    (take_all 16 (map size ms) (omega (arith, length-map ms size, outer_size ms h)))
+whole_sizes ms h = grind (arith, common_steps, cap_sizes, take_all, size, length-map, outer_size)
 
 levels_kept_by : (ms : List Member) → 0 < length ms → (g : Bool) → list_any is_group ms ≡ g
     → Narrow ms

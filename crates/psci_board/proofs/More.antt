@@ -1,10 +1,9 @@
 -- Items that follow one another: reading them one at a time.
 use Rattle.std.specs.Prelude.{IfSome}
-use Rattle.psci_board.proofs.Terms.{◌<◌, ◌∙◌, ◌∷◌, ◌≡◌, ◌≤◌, [], ap, arith, Bool, cond}
-use Rattle.psci_board.proofs.Terms.{cond_some, eqb, false, length, length-drop, List}
-use Rattle.psci_board.proofs.Terms.{nat_tests, None, Option, option_and_then, option_and_then_some}
-use Rattle.psci_board.proofs.Terms.{option_map, refl, Some, subst, suc, then_more}
-use Rattle.psci_board.proofs.Terms.{true, zero, ℕ}
+use Rattle.psci_board.proofs.Terms.{◌<◌, ◌∙◌, ◌∷◌, ◌≡◌, ◌≤◌, [], ap, arith, Bool, cond, cond_some}
+use Rattle.psci_board.proofs.Terms.{eqb, false, length, length-drop, List, nat_tests, None, Option}
+use Rattle.psci_board.proofs.Terms.{option_and_then, option_and_then_some, option_map, refl, Some}
+use Rattle.psci_board.proofs.Terms.{subst, suc, then_more, true, zero, ℕ}
 use Rattle.psci_board.specs.ReadWords.{literal_at, spaced_at, number_at}
 use Rattle.psci_board.specs.Reading.{at_most, more_at, list_at, member_at, bytes_after}
 

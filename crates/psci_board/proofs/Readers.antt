@@ -41,3 +41,12 @@ pub node_of-within : (b : BoardValue) (word level : ℕ) → level ≤ height b 
     ≡ option_map (on level) (index_named (drop level b.levels) (word / 2 ^ (8 * level)))
 unfolding node_of
 node_of-within b word level h = grind (arith, nat_tests)
+
+pub ruleset reading = (
+  nat_tests,
+  children-none,
+  child-none,
+  child-some,
+  node_of-above,
+  node_of-within,
+)

@@ -1,14 +1,13 @@
 -- What is spelled is read, whatever follows it, and what is read is spelled so: lists.
-use Rattle.psci_board.proofs.Terms.{nat_tests}
 use Rattle.psci_board.proofs.Terms.{◌++◌, ◌∙◌, ◌∷◌, ◌≡◌, [], All-from_recursion, AllByRecursion, ap}
 use Rattle.psci_board.proofs.Terms.{append_assoc, arith, Bool, bracketed, Ends, false, IsListOf}
-use Rattle.psci_board.proofs.Terms.{length, length-append, List, None, Option, option_and_then_some}
-use Rattle.psci_board.proofs.Terms.{Reads, recursion_from_All, refl, same_Some, Some, spaced, subst}
-use Rattle.psci_board.proofs.Terms.{suc, then_more, zero, ℕ}
+use Rattle.psci_board.proofs.Terms.{length, length-append, List, nat_tests, None, Option}
+use Rattle.psci_board.proofs.Terms.{option_and_then_some, Reads, recursion_from_All, refl}
+use Rattle.psci_board.proofs.Terms.{same_Some, Some, spaced, subst, suc, then_more, zero, ℕ}
 use Rattle.psci_board.specs.ReadWords.{literal_at, spaced_at}
 use Rattle.psci_board.specs.Reading.{at_most, more_at, list_at}
 use Rattle.psci_board.proofs.More.{Shortens, more_some, more_none}
-use Rattle.psci_board.proofs.SpelledLiterals.{literal_takes}
+use Rattle.psci_board.proofs.SpelledParts.{literal_takes}
 
 -- the items are spelled so, and this stands after them
 abbrev Taken : {A : Type 0} → (A → List ℕ) → (A → Type 0) → List ℕ → List A × List ℕ → Type 0

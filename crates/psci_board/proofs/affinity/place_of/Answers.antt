@@ -1,9 +1,8 @@
-use Rattle.psci_board.proofs.Terms.{nat_tests}
 use Rattle.psci_board.proofs.Terms.{◌*◌, ◌+◌, ◌-◌, ◌/◌, ◌<◌, ◌^◌, ◌∙◌, ◌≡◌, [], ap, arith, child_in}
-use Rattle.psci_board.proofs.Terms.{drop, get_or, get_or_default, index_named, length, List, Some}
-use Rattle.psci_board.proofs.Terms.{subst, sum, sym, to_le_bytes, w64, ℕ}
-use Rattle.psci_board.proofs.NamedDown.{none_above, field_step, none_highest, named_highest}
-use Rattle.psci_board.proofs.NamedDown.{inside_step}
+use Rattle.psci_board.proofs.Terms.{drop, get_or, get_or_default, index_named, length, List}
+use Rattle.psci_board.proofs.Terms.{nat_tests, Some, subst, sum, sym, to_le_bytes, w64, ℕ}
+use Rattle.psci_board.proofs.Named.{none_above, field_step, none_highest, named_highest}
+use Rattle.psci_board.proofs.Named.{inside_step}
 use Rattle.psci_board.proofs.affinity.place_of.Goals as goal
 
 pub returns-then-highest-from : goal.returns-then-highest-from

@@ -1,7 +1,5 @@
-use Rattle.psci_board.proofs.Terms.{arith}
-use Rattle.psci_board.proofs.Terms.{nat_tests}
+use Rattle.psci_board.proofs.Terms.{arith, nat_tests, take_all}
 use Rattle.std.proofs.lemmas.List.{take_more}
-use Rattle.psci_board.proofs.Terms.{take_all}
 use Rattle.psci_board.proofs.level.copies.Goals as goal
 
 pub loop-level-preserved : goal.loop-level-preserved

@@ -1,7 +1,6 @@
-use Rattle.psci_board.proofs.Terms.{nat_tests}
 use Rattle.psci_board.proofs.Terms.{◌++◌, ◌+◌, ◌<◌, ◌∷◌, ◌≡◌, [], arith, cases_lt, get_or}
-use Rattle.psci_board.proofs.Terms.{get_or_append_left, get_or_push, length, length_push}
-use Rattle.psci_board.proofs.Terms.{List, sum, sum_by_more, take, ℕ}
+use Rattle.psci_board.proofs.Terms.{get_or_append_left, get_or_push, length, length_push, List}
+use Rattle.psci_board.proofs.Terms.{nat_tests, sum, sum_by_more, take, ℕ}
 use Rattle.psci_board.proofs.level.firsts_of.Goals as goal
 
 -- one more first place, in the list of those of all nodes before

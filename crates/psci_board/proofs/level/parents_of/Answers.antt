@@ -1,5 +1,4 @@
-use Rattle.psci_board.proofs.Terms.{nat_tests}
-use Rattle.psci_board.proofs.Terms.{arith, length_push, sum_by_more, take_all}
+use Rattle.psci_board.proofs.Terms.{arith, length_push, nat_tests, sum_by_more, take_all}
 use Rattle.psci_board.proofs.Groups.{one_more_child}
 use Rattle.psci_board.proofs.level.parents_of.Goals as goal
 

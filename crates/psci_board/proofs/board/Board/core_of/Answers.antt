@@ -1,7 +1,5 @@
-use Rattle.psci_board.proofs.Terms.{arith}
-use Rattle.psci_board.proofs.Terms.{nat_tests}
-use Rattle.psci_board.proofs.Terms.{◌*◌, ◌/◌, ◌^◌, ◌≡◌, ap, div-one, drop, index_named, List}
-use Rattle.psci_board.proofs.Terms.{sym, ℕ}
+use Rattle.psci_board.proofs.Terms.{◌*◌, ◌/◌, ◌^◌, ◌≡◌, ap, arith, div-one, drop, index_named, List}
+use Rattle.psci_board.proofs.Terms.{nat_tests, sym, ℕ}
 use Rattle.psci_board.specs.Board.{core_of}
 use Rattle.psci_board.proofs.Named.{core_inside}
 use Rattle.psci_board.proofs.board.Board.core_of.Goals as goal

@@ -1,6 +1,4 @@
-use Rattle.psci_board.proofs.Terms.{arith}
-use Rattle.psci_board.proofs.Terms.{nat_tests}
-use Rattle.psci_board.proofs.Terms.{rules}
+use Rattle.psci_board.proofs.Terms.{arith, nat_tests, rules}
 use Rattle.psci_board.proofs.Groups.{Numbered, numbered}
 use Rattle.psci_board.proofs.level.Level.number.Goals as goal
 
