@@ -4,10 +4,10 @@ use Rattle.psci_board.proofs.Terms.{format_or_original, length, length-drop, Lis
 use Rattle.psci_board.proofs.Terms.{nat_tests, no_ranges, None, number_at, Option, option_and_then}
 use Rattle.psci_board.proofs.Terms.{option_and_then_some, option_map, refl, same_Some, Some, sym}
 use Rattle.psci_board.proofs.Terms.{text_summary, TextSummary, tree_at, tree_summary}
-use Rattle.psci_board.proofs.Terms.{value_and_rest, with_ranges, ℕ}
+use Rattle.psci_board.proofs.Terms.{value_and_rest, ℕ}
 use Rattle.psci_board.specs.ReadWords.{◌>>=◌, hex_at}
 use Rattle.psci_board.specs.Reading.{board_text, range_at}
-use Rattle.psci_board.specs.Summary.{ranges_at}
+use Rattle.psci_board.specs.Summary.{ranges_at, with_ranges}
 use Rattle.psci_board.proofs.More.{Shortens, literal_shortens, spaced_shortens, more_some}
 use Rattle.psci_board.proofs.More.{more_none}
 
@@ -84,6 +84,10 @@ range_shortens bytes x e =
     option_and_then_some _ (hex_at dash) x e2 (λ to d e3.
     let r : to.1 ≡ x.1 = cc in
     omega (arith, ap length r, hex_shortens _ _ a, literal_shortens _ _ _ b, hex_shortens _ _ d))))
+
+unfoldable pub ranging : Unit {0}
+unfolding ranges_at with_ranges
+ranging = tt
 
 pub ruleset reading = (
   nat_tests,

@@ -127,7 +127,6 @@ impl Board {
     /// The node of this level that an affinity word names, if there is one: fields below the level
     /// are not looked at. There is none on a level above the height. It takes one step for each
     /// level, however many nodes there are.
-    #[tactic(auto, using(crate::proofs::Readers::reading))]
     pub fn node_of(&self, word: u64, level: u32) -> Option<Node>
         ensures { result ≡ node_of self.now word level }
     {
@@ -156,7 +155,6 @@ impl Board {
 
     /// How many children a node has, 1 to 16 above a core. A core has none, nor has a node that is
     /// not of this board.
-    #[tactic(auto, using(crate::proofs::Readers::reading))]
     pub fn children(&self, node: Node) -> u32
         ensures { result ≡ children self.now node }
     {
@@ -167,7 +165,6 @@ impl Board {
     }
 
     /// The child of this number of a node, from left to right and from 0, if there is one.
-    #[tactic(auto, using(crate::proofs::Readers::reading))]
     pub fn child(&self, node: Node, number: u32) -> Option<Node>
         ensures { result ≡ child self.now node number }
     {
