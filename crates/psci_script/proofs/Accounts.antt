@@ -1,6 +1,6 @@
 -- How the lines that remain come out, by what the next one says.
 use Rattle.std.proofs.Common.{◌≡◌, ℕ, ◌+◌, ◌≤◌, ◌<◌, List, [], ◌∷◌, ◌++◌, length, refl, ap, sym}
-use Rattle.std.proofs.Common.{◌∙◌, append_assoc, Bool, true, false, cond, nat_lt, arith, Option}
+use Rattle.std.proofs.Common.{◌∙◌, append_assoc, true, false, nat_lt, arith, Option}
 use Rattle.std.proofs.Common.{Some, None, Result, Ok, Err, subst}
 use Rattle.std.proofs.lemmas.Bool.Decides.{nat_tests}
 use Rattle.psci_world_spec.specs.psci_board.Board.{BoardValue}

@@ -1,5 +1,5 @@
 -- The first line feed.
-use Rattle.std.proofs.Common.{◌≡◌, ℕ, suc, ◌+◌, ◌<◌, ◌≤◌, Bool, true, false, not, ◌||◌, cond}
+use Rattle.std.proofs.Common.{◌≡◌, ℕ, suc, ◌+◌, ◌<◌, ◌≤◌, Bool, true, false, not, cond}
 use Rattle.std.proofs.Common.{nat_lt, ◌==◌, List, [], ◌∷◌, ◌++◌, length, take, drop, refl, ap, sym}
 use Rattle.std.proofs.Common.{◌∙◌, arith, subst, Some, None, append_assoc, Option, get_or}
 use Rattle.std.specs.List.{position, position_or_len}

@@ -1,11 +1,11 @@
 -- A kept line is one of the grammar's event lines.
-use Rattle.std.proofs.Common.{◌≡◌, ◌∙◌, ◌<◌, ◌≤◌, ◌+◌, ◌/◌, ◌%◌, ◌^◌, ℕ, zero, suc, List, []}
-use Rattle.std.proofs.Common.{◌∷◌, Some, true, false, length, refl, ap, sym, arith}
+use Rattle.std.proofs.Common.{◌≡◌, ◌<◌, ◌≤◌, ◌+◌, ◌^◌, ℕ, zero, suc, List, []}
+use Rattle.std.proofs.Common.{◌∷◌, true, false, length, refl, arith}
 use Rattle.std.specs.List.{AllByRecursion}
 use Rattle.std.specs.Char.{digit_value, is_ascii_hexdigit}
-use Rattle.std.specs.Fmt.{digit_glyph, digits, digits_onto}
+use Rattle.std.specs.Fmt.{digits, digits_onto}
 use Rattle.std.specs.Str.Parse.{AllDigits, digits_value}
-use Rattle.std.specs.Prelude.{Bool, ◌==◌, if◌then◌else◌}
+use Rattle.std.specs.Prelude.{Bool, if◌then◌else◌}
 use Rattle.std.proofs.lemmas.Bool.Decides.{nat_tests}
 use Rattle.std.proofs.lemmas.Fmt.{digits_is_IsNumeral}
 use Rattle.std.proofs.lemmas.List.{append-nil}
@@ -15,8 +15,6 @@ use Rattle.psci_script.specs.EventText.{event_of, event_text, IsRegisterText}
 use Rattle.psci_script.specs.EventText.EventText.{CallText, NumberText}
 use Rattle.psci_script.specs.EventText.RegisterText.{Hexadecimal}
 use Rattle.psci_script.specs.EventText.Word.{EnterWord, WakeWord, ResetWord, DeliverWord, TakeWord}
-use Rattle.psci_script.specs.declared.grammar.Line.TheVariants.{Event as Says}
-use Rattle.psci_script.specs.Line.{line_of}
 use Rattle.psci_world_spec.specs.declared.event.Event.{Event}
 use Rattle.psci_world_spec.specs.declared.event.Event.TheVariants.{Call, Enter, Wake, Reset}
 use Rattle.psci_world_spec.specs.declared.event.Event.TheVariants.{Deliver, Take}

@@ -1,8 +1,7 @@
 -- What a read or a write in steps does to the known bytes.
-use Rattle.std.proofs.Common.{arith}
+use Rattle.std.proofs.Common.{arith, ℕ, ◌+◌, List, ◌++◌, take, drop, ap, sym, ◌∙◌, Option, Some}
+use Rattle.std.proofs.Common.{None, Result, Ok, Err, OnErr, append_assoc, refl, append-nil, []}
 use Rattle.std.proofs.lemmas.Bool.Decides.{nat_tests}
-use Rattle.std.proofs.Common.{ℕ, ◌+◌, List, ◌++◌, take, drop, ap, sym, ◌∙◌, Option, Some, None}
-use Rattle.std.proofs.Common.{Result, Ok, Err, OnErr, append_assoc, subst, refl, append-nil, []}
 use Rattle.std.proofs.Math.Seq.{take-add}
 use Rattle.std.specs.Prelude.{IfErr}
 use Rattle.std.specs.Io.KnownBytes.{Appends, Consumes, Keeps}

@@ -1,6 +1,5 @@
-use Rattle.std.proofs.Common.{arith, ℕ, take, ◌∙◌, ap}
+use Rattle.std.proofs.Common.{arith}
 use Rattle.std.proofs.lemmas.Bool.Decides.{nat_tests}
-use Rattle.std.specs.List.{position}
 use Rattle.std.proofs.lemmas.List.{take_min}
 use Rattle.psci_script.proofs.Cutting.{first_feed, feed}
 use Rattle.psci_script.proofs.lines.line_feed.Goals as goal

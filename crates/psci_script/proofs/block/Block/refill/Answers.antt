@@ -1,6 +1,5 @@
 use Rattle.std.proofs.lemmas.Bool.Decides.{nat_tests}
-use Rattle.std.proofs.Common.{◌-◌, ◌<◌, ◌∙◌, List, ℕ, ap, take, length, arith, sym}
-use Rattle.psci_script.specs.Block.{ReadAhead}
+use Rattle.std.proofs.Common.{arith}
 use Rattle.psci_script.proofs.Known.{on_err}
 use Rattle.psci_script.proofs.Moved.{moved, refilled, unfilled, some_came, none_came}
 use Rattle.psci_script.proofs.Moved.{waiting_length, counted, not_counted, end_came}
