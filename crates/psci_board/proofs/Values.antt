@@ -110,19 +110,3 @@ pub too_many : (n : ℕ) (x : ℕ × ℕ) → 16 < n
 too_many n x h = let t : nat_le n 16 ≡ false = grind (arith, nat_tests) in rw t refl
 
 pub ruleset steps = (prefix_len-le-length)
-
-pub ruleset counting = (
-  nat_tests,
-  digits_value_more,
-  one_more,
-  no_more,
-  all_of_them,
-  too_large,
-  fifteen_fit,
-  hexadecimal_yes,
-  hexadecimal_no,
-  fits,
-  fits_not,
-  few,
-  too_many,
-)

@@ -6,7 +6,6 @@ ghost use Rattle.std.specs.Char.{is_ascii_digit, is_ascii_hexdigit, digit_value}
 ghost use Rattle.psci_board.specs.Digits.{value_and_count};
 
 /// The value of the decimal digits and their number, where the value is below 2 to the 64.
-#[tactic(auto, using(crate::proofs::Values::counting))]
 pub fn decimal(text: &[u8]) -> Option<(u64, usize)>
     ensures { result ≡ (if nat_lt (value_and_count 10 is_ascii_digit text.now).0 (2 ^ 64)
         then Some (value_and_count 10 is_ascii_digit text.now) else None) }
@@ -24,7 +23,6 @@ pub fn decimal(text: &[u8]) -> Option<(u64, usize)>
 }
 
 /// The value of the hexadecimal digits and their number, where they are 16 at most.
-#[tactic(auto, using(crate::proofs::Values::counting))]
 pub fn hexadecimal(text: &[u8]) -> Option<(u64, usize)>
     ensures { result ≡ (if nat_le (value_and_count 16 is_ascii_hexdigit text.now).1 16
         then Some (value_and_count 16 is_ascii_hexdigit text.now) else None) }
