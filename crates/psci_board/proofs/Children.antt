@@ -1,15 +1,15 @@
 -- The children of a node, and the cores below them.
 use Rattle.std.proofs.lemmas.Bool.{cases_eq}
-use Rattle.psci_board.proofs.Terms.{◌+◌, ◌-◌, ◌<◌, ◌∙◌, ◌≡◌, ◌≤◌, [], arith, BoardValue, Bool}
+use Rattle.psci_board.proofs.Terms.{◌+◌, ◌-◌, ◌<◌, ◌∙◌, ◌≡◌, ◌≤◌, [], arith, BoardValue}
 use Rattle.psci_board.proofs.Terms.{cases_lt, child, children, children_at, cond_some, cores, eqb}
-use Rattle.psci_board.proofs.Terms.{false, first_child, get_or, get_or_past, group_of, HasNode}
+use Rattle.psci_board.proofs.Terms.{first_child, get_or, get_or_past, group_of, HasNode}
 use Rattle.psci_board.proofs.Terms.{height, inl, inr, IsBoard, List, ltb, nat_tests, Node, nodes}
-use Rattle.psci_board.proofs.Terms.{place_above, refl, Some, sub-one, suc, sum, take, true, zero, ℕ}
+use Rattle.psci_board.proofs.Terms.{place_above, refl, Some, sub-one, suc, sum, take, zero, ℕ}
 use Rattle.psci_board.specs.Board.{up}
 use Rattle.psci_board.specs.Laws.{ChildLaws}
 use Rattle.psci_board.proofs.Groups.{counted, in_group, group_inside, width, few_at}
 use Rattle.psci_board.proofs.Levels.{level}
-use Rattle.psci_board.proofs.Parts.{among, same_kept, place_by_place}
+use Rattle.psci_board.proofs.Ranges.{among, same_kept, place_by_place}
 use Rattle.psci_board.proofs.Paths.{place_above-suc, inside, ordered}
 
 -- the numbers of children of the level above this one
@@ -22,9 +22,7 @@ record Child (w : List ℕ) (p q : ℕ) : Type 0 where
   last : q < sum (take p w) + get_or w p 0
 
 child_of : (w : List ℕ) (q p : ℕ) → q < sum w → p ≡ group_of w q → Child w p q
-child_of w q p h e =
-    let c = counted w q h in
-    rw e (record { first = omega (arith, c.whole); last = omega (arith, c.whole, c.place) })
+child_of w q p h e = grind (arith, nat_tests, counted)
 
 of_parent : (b : BoardValue) → IsBoard b → (c l : ℕ) → c < cores b → l < height b
     → Child (counts b l) (place_above b.levels (suc l) c) (place_above b.levels l c)
@@ -34,24 +32,13 @@ parent : (b : BoardValue) (c l p : ℕ) → l < height b
     → sum (take p (counts b l)) ≤ place_above b.levels l c
     → place_above b.levels l c < sum (take p (counts b l)) + get_or (counts b l) p 0
     → place_above b.levels (suc l) c ≡ p
-parent b c l p m i j =
-    place_above-suc b.levels l c m ∙ in_group (counts b l) p (place_above b.levels l c) i j
+parent b c l p m i j = grind (arith, nat_tests, place_above-suc, in_group, counts)
 
 -- below the node of the level above is below one of its children
 child_test : (b : BoardValue) → IsBoard b → (c l p : ℕ) → c < cores b → l < height b
     → eqb (place_above b.levels (suc l) c) p
     ≡ among (sum (take p (counts b l))) (get_or (counts b l) p 0) (place_above b.levels l c)
-child_test b h c l p k m = elim (cases_eq (place_above b.levels (suc l) c) p) [
-  | inl e ↦ let x = rw e at (of_parent b h c l k m) in grind (arith, nat_tests)
-  | inr d ↦ apart _ d refl
-]
-  where
-    apart : (t : Bool) → (place_above b.levels (suc l) c ≡ p → ⊥)
-        → among (sum (take p (counts b l))) (get_or (counts b l) p 0) (place_above b.levels l c) ≡ t
-        → eqb (place_above b.levels (suc l) c) p ≡ t
-    apart false d e = grind (arith, nat_tests)
-    apart true d e =
-        absurd (d (parent b c l p m (grind (arith, nat_tests)) (grind (arith, nat_tests))))
+child_test b h c l p k m = grind (arith, nat_tests, cases_eq, of_parent, among, counts, eqb, parent)
 
 few : (b : BoardValue) → IsBoard b → (l p : ℕ) → children_at b l p ≤ 16
 few b h zero p = omega arith
@@ -79,12 +66,7 @@ child_at : (b : BoardValue) → IsBoard b → (n m : Node) (k level : ℕ) → n
     → k < children_at b level n.place
     → record { level = level - 1; place = first_child b level n.place + k } ≡ m → ChildOf b n m
 child_at b h n m k zero e i d = absurd (omega arith)
-child_at b h n m k (suc l) e i d =
-    let here = child_inside b h l n.place k i in
-    rw (← d) (record {
-      node = record { level = omega (arith, here.0); place = rw sub-one here.1 };
-      level = omega arith;
-    })
+child_at b h n m k (suc l) e i d = grind (arith, nat_tests, child_inside, level, sub-one)
 
 child_of_node : (b : BoardValue) → IsBoard b → (n m : Node) (k : ℕ) → child b n k ≡ Some m
     → ChildOf b n m

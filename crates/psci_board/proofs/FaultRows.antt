@@ -6,10 +6,7 @@ use Rattle.psci_board.specs.declared.fault.BoardFault.{BoardFault}
 use Rattle.psci_board.specs.declared.fault.BoardFault.TheVariants.{Grammar, Uneven, TooWide}
 use Rattle.psci_board.specs.declared.fault.BoardFault.TheVariants.{TooManyCores, BadRange, BadBoot}
 use Rattle.psci_board.specs.declared.fault.BoardFault.TheVariants.{BadLimit}
-use Rattle.psci_board.specs.ReadWords.{literal_at, number_at, hex_at, spaced_at}
-use Rattle.psci_board.specs.Reading.{range_at, at_most}
-use Rattle.psci_board.specs.Reading.{more_at, list_at, member_at, tree_at, board_text}
-use Rattle.psci_board.specs.Verdict.{board_of, verdict}
+use Rattle.psci_board.proofs.Readings.{judging}
 use Rattle.psci_board.proofs.Tables.{◌⇒◌, Gives}
 use Rattle.psci_board.proofs.VerdictRows.{of_text, with_tree, with_ranges, with_limits}
 use Rattle.psci_board.proofs.LargestRows.{widest_list}
@@ -27,8 +24,7 @@ pub all_at_once : Gives first_fault
     ∷ "16 exec 0x10-0x10 boot 0x1 starts 0 lives 0" ⇒ Some BadRange
     ∷ "16 exec 0x0-0x10 boot 0x1 starts 0 lives 0" ⇒ Some BadBoot
     ∷ "16 exec 0x0-0x10 boot 0x0 starts 0 lives 0" ⇒ Some BadLimit ∷ [])
-unfolding board_of verdict board_text tree_at member_at list_at more_at at_most spaced_at
-    range_at hex_at number_at literal_at
+unfolding judging
 all_at_once = refl
 
 -- two neighbours in that order, and nothing else
@@ -40,8 +36,7 @@ pub neighbours : Gives first_fault
     ∷ "16 exec 0x10-0x10 0x0-0x10 boot 0x1 starts 1 lives 1" ⇒ Some BadRange
     ∷ "16 exec 0x0-0x10 boot 0x1 starts 0 lives 1" ⇒ Some BadBoot
     ∷ "16 exec 0x0-0x10 boot 0x1 starts 1 lives 0" ⇒ Some BadBoot ∷ [])
-unfolding board_of verdict board_text tree_at member_at list_at more_at at_most spaced_at
-    range_at hex_at number_at literal_at
+unfolding judging
 neighbours = refl
 
 -- Limits ----------------------------------------------------------------------------------------
@@ -70,8 +65,7 @@ pub trees : Gives with_tree
     ∷ "(18446744073709551616)" ⇒ Some Grammar
     ∷ "((18446744073709551615))" ⇒ Some TooWide
     ∷ "((18446744073709551616))" ⇒ Some Grammar ∷ [])
-unfolding board_of verdict board_text tree_at member_at list_at more_at at_most spaced_at
-    range_at hex_at number_at literal_at
+unfolding judging
 trees = refl
 
 -- a text that begins with a group of sixteen full clusters, and goes on so
@@ -87,8 +81,7 @@ pub wide_groups : Gives of_text
     ∷ beside_full_group
     " (16 16 16 16 16 16 16 16 16 16 16 16 16 16 16 16)) exec 0x0-0x10 boot 0x0 starts 1 lives 1"
     ⇒ Some TooManyCores ∷ [])
-unfolding board_of verdict board_text tree_at member_at list_at more_at at_most spaced_at
-    range_at hex_at number_at literal_at
+unfolding judging
 wide_groups = refl
 
 pub limits : Gives with_limits
@@ -96,8 +89,7 @@ pub limits : Gives with_limits
     ∷ "starts 18446744073709551616 lives 1" ⇒ Some Grammar
     ∷ "starts 1 lives 65535" ⇒ None
     ∷ "starts 1 lives 18446744073709551615" ⇒ Some BadLimit ∷ [])
-unfolding board_of verdict board_text tree_at member_at list_at more_at at_most spaced_at
-    range_at hex_at number_at literal_at
+unfolding judging
 limits = refl
 
 -- four ranges and five; the boot address in a later range, at its start, at its last multiple of 4,
@@ -112,6 +104,5 @@ pub ranges : Gives with_ranges
     ∷ "0x0-0x8 0x10-0x18 0x20-0x28 0x30-0x39 0x40-0x48 boot 0x30" ⇒ Some BadRange
     ∷ "0x0-0x8 0x10-0x18 0x20-0x28 0x30-0x30 boot 0x0" ⇒ Some BadRange
     ∷ "0x0-0x8 0x10-0x18 0x20-0x28 0x31-0x30 boot 0x0" ⇒ Some BadRange ∷ [])
-unfolding board_of verdict board_text tree_at member_at list_at more_at at_most spaced_at
-    range_at hex_at number_at literal_at
+unfolding judging
 ranges = refl

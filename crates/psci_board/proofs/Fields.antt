@@ -6,7 +6,7 @@ use Rattle.psci_board.proofs.Terms.{Bool, child_in, cond, eq-eqb, eqb, false, ge
 use Rattle.psci_board.proofs.Terms.{index_in, index_named, IsTree, List, ltb, nat_tests, None, refl}
 use Rattle.psci_board.proofs.Terms.{size_below, Some, sum, take, true, ℕ}
 use Rattle.psci_board.proofs.Groups.{stands_at, counted, few_at}
-use Rattle.psci_board.proofs.Search.{found_first, found_none, found, none_passes}
+use Rattle.psci_board.proofs.Ranges.{found_first, found_none, found, none_passes}
 
 pub record Digit (p a word : ℕ) : Type 0 where
   pub low : p ≡ word % 256
@@ -61,9 +61,7 @@ pub record Names (ws : List (List ℕ)) (word i : ℕ) : Type 0 where
   pub address : address_up ws i ≡ word
 
 pub named_is : (ws : List (List ℕ)) (word i : ℕ) → index_named ws word ≡ Some i → Names ws word i
-named_is ws word i e =
-    let f = found (has_word ws word) (size_below ws) 0 i e in
-    record { inside = omega (arith, f.below); address = eqb-true _ _ f.passes }
+named_is ws word i e = grind (arith, nat_tests, found, has_word, eqb-true)
 
 pub named_none : (ws : List (List ℕ)) (word i : ℕ) → index_named ws word ≡ None → i < size_below ws
     → address_up ws i ≡ word → ⊥
@@ -73,14 +71,7 @@ named_none ws word i e h a =
 -- none, where each place has another word
 pub none_named : (ws : List (List ℕ)) (word : ℕ)
     → ((i : ℕ) → i < size_below ws → address_up ws i ≡ word → ⊥) → index_named ws word ≡ None
-none_named ws word other =
-    found_none (has_word ws word) (size_below ws) 0
-    (λ j l h. apart j (omega arith) (eqb (address_up ws j) word) refl)
-  where
-    apart : (j : ℕ) → j < size_below ws → (b : Bool) → eqb (address_up ws j) word ≡ b
-        → eqb (address_up ws j) word ≡ false
-    apart j h true q = absurd (other j h (eqb-true _ _ q))
-    apart j h false q = q
+none_named ws word other = grind (arith, nat_tests, found_none, has_word, eqb, eqb-true)
 
 -- One level up, a word without its lowest field ------------------------------------------------
 

@@ -1,11 +1,11 @@
 -- The number of the first core below a node, level by level.
+use Rattle.psci_board.proofs.Terms.{◌++◌, ◌+◌, ◌<◌, ◌∙◌, ◌∷◌, ◌≡◌, ◌≤◌, [], ap, arith, cases_lt}
+use Rattle.psci_board.proofs.Terms.{common_steps, drop, first_core, get_or, get_or_append_left}
+use Rattle.psci_board.proofs.Terms.{get_or_past, group_of, inl, inr, IsTree, length, length_push}
+use Rattle.psci_board.proofs.Terms.{List, nat_tests, place_above, refl, size_below, suc, sum}
+use Rattle.psci_board.proofs.Terms.{sum_by_more, sym, take, take-append-drop, take_all, zero, ℕ}
 use Rattle.std.proofs.lemmas.List.{length-take-le}
 use Rattle.std.proofs.Math.Seq.{get_or-append_seam}
-use Rattle.psci_board.proofs.Terms.{◌++◌, ◌+◌, ◌<◌, ◌∙◌, ◌∷◌, ◌≡◌, ◌≤◌, [], ap, arith, cases_lt}
-use Rattle.psci_board.proofs.Terms.{drop, first_core, get_or, get_or_append_left, get_or_past}
-use Rattle.psci_board.proofs.Terms.{group_of, inl, inr, IsTree, length, length_push, List}
-use Rattle.psci_board.proofs.Terms.{nat_tests, place_above, refl, size_below, suc, sum, sum_by_more}
-use Rattle.psci_board.proofs.Terms.{sym, take, take-append-drop, take_all, zero, ℕ}
 use Rattle.psci_board.proofs.Groups.{sum-cons, counted}
 use Rattle.psci_board.proofs.Fields.{fits}
 
@@ -16,30 +16,17 @@ sum_take_grows w zero k h = omega arith
 sum_take_grows [] (suc j) zero h = omega arith
 sum_take_grows [] (suc j) (suc k) h = omega arith
 sum_take_grows (n ∷ ns) (suc j) zero h = absurd (omega arith)
-sum_take_grows (n ∷ ns) (suc j) (suc k) h =
-    grind (arith, nat_tests, sum-cons, sum_take_grows ns j k)
+sum_take_grows (n ∷ ns) (suc j) (suc k) h = omega (arith, sum-cons, sum_take_grows ns j k)
 
 pub sum_take_more : (w : List ℕ) (k : ℕ) → sum (take (k + 1) w) ≡ sum (take k w) + get_or w k 0
 sum_take_more w k = grind (arith, nat_tests, sum_by_more, take_all, get_or_past)
 
 -- what stands from the first child on is in the group or in a later one
 group_from : (w : List ℕ) (i k : ℕ) → i < sum w → sum (take k w) ≤ i → k ≤ group_of w i
-group_from w i k h l = elim (cases_lt (group_of w i) k) [ inl q ↦ absurd (late q) | inr q ↦ q ]
-  where
-    late : group_of w i < k → ⊥
-    late q =
-        let c = counted w i h in
-        omega (
-          arith,
-          c.whole,
-          c.place,
-          sum_by_more (λ x. x) w (group_of w i) 0 c.group,
-          sum_take_grows w (group_of w i + 1) k (omega arith),
-        )
+group_from w i k h l = grind (arith, common_steps, cases_lt, counted, sum_by_more, sum_take_grows)
 
 group_back : (w : List ℕ) (i k : ℕ) → i < sum w → k ≤ group_of w i → sum (take k w) ≤ i
-group_back w i k h l = let c = counted w i h in
-    omega (arith, c.whole, sum_take_grows w k (group_of w i) l)
+group_back w i k h l = grind (arith, nat_tests, counted, sum_take_grows)
 
 -- All levels ----------------------------------------------------------------------------------
 
@@ -74,10 +61,7 @@ pub first_end : (levels : List (List ℕ)) (l : ℕ) → IsTree levels → l ≤
     → first_core levels l (size_below (drop l levels)) ≡ size_below levels
 first_end levels zero t h = refl
 first_end [] (suc l) t h = absurd (omega arith)
-first_end (w ∷ ws) (suc l) t h =
-    first_up w ws l (size_below (drop l ws))
-    ∙ ap (λ k. sum (take k w)) (first_end ws l t.3 (omega arith))
-    ∙ ap sum (take_all (size_below ws) w (omega (arith, t.0)))
+first_end (w ∷ ws) (suc l) t h = grind (arith, nat_tests, first_up, take_all, first_end ws l)
 
 pub first_within : (levels : List (List ℕ)) (l p : ℕ) → IsTree levels → l ≤ length levels
     → p ≤ size_below (drop l levels) → first_core levels l p ≤ size_below levels

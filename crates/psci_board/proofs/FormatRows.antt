@@ -10,10 +10,8 @@ use Rattle.psci_board.specs.declared.fault.BoardFault.TheVariants.{Grammar, BadL
 use Rattle.psci_board.specs.Board.{BoardValue}
 use Rattle.psci_board.specs.Grammar.{spelling}
 use Rattle.psci_board.specs.Grammar.TreeText.{One}
-use Rattle.psci_board.specs.ReadWords.{literal_at, number_at, hex_at, spaced_at}
-use Rattle.psci_board.specs.Reading.{range_at, at_most}
-use Rattle.psci_board.specs.Reading.{more_at, list_at, member_at, tree_at, board_text}
-use Rattle.psci_board.specs.Verdict.{board_of, verdict}
+use Rattle.psci_board.specs.Verdict.{board_of}
+use Rattle.psci_board.proofs.Readings.{judging}
 use Rattle.psci_board.proofs.Tables.{◌⇒◌, Gives}
 use Rattle.psci_board.proofs.VerdictRows.{with_limits}
 
@@ -38,8 +36,7 @@ formats : Gives format_of
     ∷ "4 exec 0x0-0x10 boot 0x0 starts 1 lives 1 format extended" ⇒ Some Extended
     ∷ "(2 2) exec 0x0-0x10 boot 0x0 starts 1 lives 1 format extended" ⇒ Some Extended
     ∷ "((1 1) (1 1)) exec 0x0-0x10 boot 0x0 starts 1 lives 1 format extended" ⇒ Some Extended ∷ [])
-unfolding board_of verdict board_text tree_at member_at list_at more_at at_most spaced_at
-    range_at hex_at number_at literal_at
+unfolding judging
 formats = refl
 
 faults : Gives with_limits
@@ -66,8 +63,7 @@ faults : Gives with_limits
     -- it is no fault, and hides none
     ∷ "starts 0 lives 1 format extended" ⇒ Some BadLimit
     ∷ "starts 1 lives 65536 format original" ⇒ Some BadLimit ∷ [])
-unfolding board_of verdict board_text tree_at member_at list_at more_at at_most spaced_at
-    range_at hex_at number_at literal_at
+unfolding judging
 faults = refl
 
 -- the spelling of one cluster of four cores with this part

@@ -1,10 +1,12 @@
 -- Places counted through groups.
-use Rattle.psci_board.proofs.Terms.{◌++◌, ◌+◌, ◌-◌, ◌<◌, ◌∷◌, ◌≡◌, ◌≤◌, [], add-one, AllPass, arith}
-use Rattle.psci_board.proofs.Terms.{Bool, cases_lt, false, get_or, get_or_append_left}
-use Rattle.psci_board.proofs.Terms.{get_or_default, get_or_past, get_or_push, group_of, index_in}
-use Rattle.psci_board.proofs.Terms.{inl, inr, is_width, length, length_push, List, ltb, nat_tests}
-use Rattle.psci_board.proofs.Terms.{refl, suc, sum, sum_by-cons, sym, take, true, zero, ℕ}
+use Rattle.psci_board.proofs.Terms.{◌++◌, ◌+◌, ◌-◌, ◌<◌, ◌∷◌, ◌≡◌, ◌≤◌, [], add-one, AllPass}
+use Rattle.psci_board.proofs.Terms.{append_assoc, arith, Bool, cases_lt, common_steps, false}
+use Rattle.psci_board.proofs.Terms.{get_or, get_or_append_left, get_or_default, get_or_past}
+use Rattle.psci_board.proofs.Terms.{get_or_push, group_of, index_in, inl, inr, is_width, length}
+use Rattle.psci_board.proofs.Terms.{length_push, List, ltb, nat_tests, refl, suc, sum, sum_by-cons}
+use Rattle.psci_board.proofs.Terms.{sym, take, true, zero, ℕ}
 use Rattle.psci_board.specs.Level.{IsIndexed}
+use Rattle.psci_board.proofs.Levels.{drop_level}
 
 pub sum-cons : (n : ℕ) (ns : List ℕ) → sum (n ∷ ns) ≡ n + sum ns
 sum-cons n ns = sum_by-cons (λ x. x) n ns
@@ -16,29 +18,16 @@ pub record Stands (w : List ℕ) (i g p : ℕ) : Type 0 where
   pub inside : i < sum w
 
 first_stands : (n p : ℕ) (ns : List ℕ) → p < n → Stands (n ∷ ns) p 0 p
-first_stands n p ns h = record {
-  group = grind (arith, nat_tests);
-  place = grind (arith, nat_tests);
-  inside = omega (arith, sum-cons n ns);
-}
+first_stands n p ns h = grind (arith, nat_tests, sum-cons)
 
 later_stands : (n : ℕ) (ns : List ℕ) (i j g p : ℕ) → i ≡ n + j → Stands ns j g p
     → Stands (n ∷ ns) i (suc g) p
-later_stands n ns i j g p e h =
-    let back : i - n ≡ j = omega arith in
-    let past : ltb i n ≡ false = grind (arith, nat_tests) in
-    record {
-      group = rw (past, back, h.group) (omega arith);
-      place = rw (past, back, h.place) refl;
-      inside = omega (arith, sum-cons n ns, h.inside);
-    }
+later_stands n ns i j g p e h = grind (arith, nat_tests, ltb, sum-cons)
 
 pub stands_at : (w : List ℕ) (g p i : ℕ) → g < length w → p < get_or w g 0
     → i ≡ sum (take g w) + p → Stands w i g p
 stands_at [] g p i a b e = absurd (omega arith)
-stands_at (n ∷ ns) zero p i a b e =
-    let same : p ≡ i = omega arith in
-    rw (← same) (first_stands n p ns b)
+stands_at (n ∷ ns) zero p i a b e = grind (arith, common_steps, first_stands)
 stands_at (n ∷ ns) (suc g) p i a b e =
     let j = sum (take g ns) + p in
     later_stands n ns i j g p (omega (arith, sum-cons n (take g ns)))
@@ -52,23 +41,12 @@ pub record Counted (w : List ℕ) (i : ℕ) : Type 0 where
 
 counted_by : (n : ℕ) (ns : List ℕ) (i : ℕ) (t : Bool) → ltb i n ≡ t → i < n + sum ns
     → (i - n < sum ns → Counted ns (i - n)) → Counted (n ∷ ns) i
-counted_by n ns i true e h later =
-    let l : i < n = grind (arith, nat_tests) in
-    record { group = rw e (omega arith); place = rw e l; whole = rw e (omega arith) }
-counted_by n ns i false e h later =
-    let l : n ≤ i = grind (arith, nat_tests) in
-    let c = later (omega arith) in
-    let before = sum-cons n (take (group_of ns (i - n)) ns) in
-    record {
-      group = rw (e, add-one) (omega (arith, c.group));
-      place = rw (e, add-one) c.place;
-      whole = rw (e, add-one) (omega (arith, c.whole, before));
-    }
+counted_by n ns i true e h later = grind (arith, nat_tests)
+counted_by n ns i false e h later = grind (arith, common_steps, sum-cons, add-one)
 
 pub counted : (w : List ℕ) (i : ℕ) → i < sum w → Counted w i
 counted [] i h = absurd (omega arith)
-counted (n ∷ ns) i h =
-    counted_by n ns i (ltb i n) refl (omega (arith, sum-cons n ns)) (counted ns (i - n))
+counted (n ∷ ns) i h = grind (arith, nat_tests, counted_by, ltb, sum-cons, counted ns)
 
 pub in_group : (w : List ℕ) (p q : ℕ) → sum (take p w) ≤ q → q < sum (take p w) + get_or w p 0
     → group_of w q ≡ p
@@ -78,25 +56,11 @@ in_group w p q a b = elim (cases_lt p (length w)) [
 ]
 
 pub group_inside : (w : List ℕ) (p k : ℕ) → k < get_or w p 0 → sum (take p w) + k < sum w
-group_inside w p k h = elim (cases_lt p (length w)) [
-  | inl m ↦ (stands_at w p k (sum (take p w) + k) m h refl).inside
-  | inr m ↦ let none : get_or w p 0 ≡ 0 = get_or_past w p 0 m in absurd (omega arith)
-]
+group_inside w p k h = grind (arith, common_steps, cases_lt, stands_at, get_or_past)
 
 pub group_of-ordered : (w : List ℕ) (i j : ℕ) → i ≤ j → group_of w i ≤ group_of w j
 group_of-ordered [] i j h = omega arith
-group_of-ordered (n ∷ ns) i j h =
-    by_tests (ltb i n) (ltb j n) refl refl (group_of-ordered ns (i - n) (j - n))
-  where
-    by_tests : (s t : Bool) → ltb i n ≡ s → ltb j n ≡ t
-        → (i - n ≤ j - n → group_of ns (i - n) ≤ group_of ns (j - n))
-        → group_of (n ∷ ns) i ≤ group_of (n ∷ ns) j
-    by_tests true t d e later = rw d (omega arith)
-    by_tests false true d e later =
-        let a : n ≤ i = grind (arith, nat_tests) in
-        let b : j < n = grind (arith, nat_tests) in
-        absurd (omega arith)
-    by_tests false false d e later = rw (d, e) (omega (arith, later (omega arith)))
+group_of-ordered (n ∷ ns) i j h = grind (arith, nat_tests, ltb, group_of-ordered ns)
 
 -- Numbers of children -----------------------------------------------------------------------------
 
@@ -105,9 +69,7 @@ pub record Width (n : ℕ) : Type 0 where
   pub few : n ≤ 16
 
 pub width : (w : List ℕ) (g : ℕ) → AllPass is_width w → g < length w → Width (get_or w g 0)
-width w g h l =
-    let e = h g 0 l in
-    record { some = grind (arith, nat_tests); few = grind (arith, nat_tests) }
+width w g h l = grind (arith, nat_tests)
 
 pub few_at : (w : List ℕ) (g : ℕ) → AllPass is_width w → get_or w g 0 ≤ 16
 few_at w g h = grind (arith, nat_tests, width, get_or_past)
@@ -136,13 +98,6 @@ pub record Numbered (w first : List ℕ) (i p : ℕ) : Type 0 where
 pub numbered : (w counts first parent : List ℕ) (i p : ℕ) → counts ≡ w
     → IsIndexed counts first parent → i < sum w → p ≡ group_of w i → Numbered w first i p
 numbered w counts first parent i p same indexed h e =
-    let c = counted w i h in
-    let here : p < length counts = rw same (omega (arith, c.group)) in
-    let inside : p < length first = omega (arith, indexed.nodes) in
-    let from : get_or first p 0 ≡ sum (take p w) = rw (← same) (indexed.firsts p here) in
-    let whole : sum (take p w) + index_in w i ≡ i = rw e c.whole in
-    record {
-      inside = inside;
-      starts = λ q d. omega (arith, get_or_default first p 0 q inside);
-      number = λ q d. omega (arith, get_or_default first p 0 q inside);
-    }
+    grind (arith, nat_tests, counted, get_or_default)
+
+pub ruleset rising = (nat_tests, drop_level, counted, append_assoc)

@@ -1,16 +1,16 @@
 -- What is kept of numbers, of members and of ranges, said at once of the whole list.
+use Rattle.psci_board.proofs.Terms.{◌++◌, ◌+◌, ◌||◌, ◌∙◌, ◌∷◌, ◌≡◌, [], AddressRange, ap}
+use Rattle.psci_board.proofs.Terms.{append_assoc, arith, Bool, Cluster, common_steps, false}
+use Rattle.psci_board.proofs.Terms.{flat_map, flat_map-append, Group, has_bad_range, is_group}
+use Rattle.psci_board.proofs.Terms.{is_out_of_width, length, length-append, length-map, List}
+use Rattle.psci_board.proofs.Terms.{list_any, map, Member, min, MOST_CORES, nat_le, nat_lt}
+use Rattle.psci_board.proofs.Terms.{nat_tests, not, numbers_in, range_of, refl, suc, sum, sym, take}
+use Rattle.psci_board.proofs.Terms.{TreeSummaryValue, true, zero, ℕ}
 use Rattle.std.proofs.Common.{length-take}
 use Rattle.std.proofs.lemmas.List.{map-append, append-nil}
 use Rattle.std.proofs.lemmas.List.Recursion.{or_push}
 use Rattle.std.proofs.Math.Bool.{or-false, or-true}
 use Rattle.std.proofs.lemmas.List.Sums.{sum_by-append}
-use Rattle.psci_board.proofs.Terms.{◌++◌, ◌+◌, ◌||◌, ◌∙◌, ◌∷◌, ◌≡◌, [], AddressRange, ap}
-use Rattle.psci_board.proofs.Terms.{append_assoc, arith, Bool, Cluster, false, flat_map}
-use Rattle.psci_board.proofs.Terms.{flat_map-append, Group, has_bad_range, is_group}
-use Rattle.psci_board.proofs.Terms.{is_out_of_width, length, length-append, length-map, List}
-use Rattle.psci_board.proofs.Terms.{list_any, map, Member, min, MOST_CORES, nat_le, nat_lt}
-use Rattle.psci_board.proofs.Terms.{nat_tests, not, numbers_in, range_of, refl, suc, sum, sym, take}
-use Rattle.psci_board.proofs.Terms.{TreeSummaryValue, true, zero, ℕ}
 use Rattle.psci_board.specs.Summary.{NumbersSummaryValue, with_number, with_numbers, with_member}
 use Rattle.psci_board.specs.Summary.{with_size, with_members, RangesSummaryValue, with_range}
 use Rattle.psci_board.specs.Summary.{with_ranges}
@@ -88,8 +88,7 @@ same_tests false true f g = g refl
 same_tests false false f g = refl
 
 full_then_more : (n l k m : ℕ) → k ≡ min n l → m ≡ l + 1 → nat_le n k ≡ nat_lt n m
-full_then_more n l k m e f = same_tests (nat_le n k) (nat_lt n m) (λ h. grind (arith, nat_tests))
-    (λ h. grind (arith, nat_tests))
+full_then_more n l k m e f = grind (arith, nat_tests, same_tests)
 
 over_then_full : (n l k : ℕ) → k ≡ min n l → nat_lt n l ≡ true → nat_le n k ≡ true
 over_then_full n l k e h = grind (arith, nat_tests)
@@ -105,8 +104,7 @@ one_more n is_bad xs k x e =
 kept_sizes : (ms : List Member) (m : Member)
     → take 16 (take 16 (map (λ m. capped (size m)) ms) ++ capped (size m) ∷ [])
     ≡ take 16 (map (λ m. capped (size m)) (ms ++ m ∷ []))
-kept_sizes ms m = take_more 16 (map (λ m. capped (size m)) ms) (capped (size m) ∷ [])
-    ∙ ap (take 16) (sym (map-append (λ m. capped (size m)) ms (m ∷ [])))
+kept_sizes ms m = grind (arith, nat_tests, take_more, capped, size, map-append)
 
 pub how_many : {A B : Type 0} (n : ℕ) (f : A → B) (xs : List A)
     → length (take n (map f xs)) ≡ min n (length xs)
@@ -166,10 +164,7 @@ kept_ranges rs = record { first = take 4 rs; faulty = has_bad_range rs }
 
 kept_range : (rs : List AddressRange) (r : AddressRange)
     → with_range (kept_ranges rs) r ≡ kept_ranges (rs ++ r ∷ [])
-kept_range rs r =
-    let first = take_more 4 rs (r ∷ []) in
-    let faulty = one_more 4 is_empty_range rs (length (take 4 rs)) r (length-take 4 rs) in
-    λ i. record { first = first i; faulty = faulty i }
+kept_range rs r = grind (arith, common_steps, take_more, one_more, is_empty_range, length-take)
 
 pub kept_all_ranges : (rs : List AddressRange) (qs : List (List ℕ × List ℕ))
     → with_ranges (kept_ranges rs) qs ≡ kept_ranges (rs ++ map range_of qs)

@@ -1,15 +1,15 @@
 -- What is kept of a tree decides what is said of it, and is the tree where no fault is said.
+use Rattle.psci_board.proofs.Terms.{◌&&◌, ◌+◌, ◌<◌, ◌||◌, ◌∙◌, ◌∷◌, ◌≡◌, ◌≤◌, [], AllPass, ap}
+use Rattle.psci_board.proofs.Terms.{arith, Bool, Cluster, clusters, common_steps, cond, false}
+use Rattle.psci_board.proofs.Terms.{flat_map, Group, is_group, is_out_of_width, is_width, IsTree}
+use Rattle.psci_board.proofs.Terms.{length, length-map, List, list_any, lit<, map, Member, Members}
+use Rattle.psci_board.proofs.Terms.{min, MOST_CORES, nat_lt, nat_tests, numbers_in, One, or_parts}
+use Rattle.psci_board.proofs.Terms.{refl, sum, sum_by-cons, sym, take, take_all, tree_summary}
+use Rattle.psci_board.proofs.Terms.{TreeSummaryValue, TreeText, true, ℕ}
 use Rattle.std.proofs.Common.{lit≤}
 use Rattle.std.specs.List.{list_all}
 use Rattle.std.proofs.lemmas.List.Sums.{sum-map, AllPass-from_list_all}
 use Rattle.std.proofs.lemmas.List.Concat.{length-flat_map}
-use Rattle.psci_board.proofs.Terms.{◌&&◌, ◌+◌, ◌<◌, ◌==◌, ◌||◌, ◌∙◌, ◌∷◌, ◌≡◌, ◌≤◌, [], AllPass, ap}
-use Rattle.psci_board.proofs.Terms.{arith, Bool, Cluster, clusters, cond, false, flat_map, Group}
-use Rattle.psci_board.proofs.Terms.{is_group, is_out_of_width, is_width, IsTree, length, length-map}
-use Rattle.psci_board.proofs.Terms.{List, list_any, lit<, map, Member, Members, min, MOST_CORES}
-use Rattle.psci_board.proofs.Terms.{nat_lt, nat_tests, numbers_in, One, or_parts, refl, sum}
-use Rattle.psci_board.proofs.Terms.{sum_by-cons, sym, take, take_all, tree_summary}
-use Rattle.psci_board.proofs.Terms.{TreeSummaryValue, TreeText, true, ℕ}
 use Rattle.psci_board.specs.Summary.{no_members}
 use Rattle.psci_board.specs.SummaryVerdict.{summary_levels}
 use Rattle.psci_board.specs.Verdict.{levels_of, is_uneven, is_too_wide}
@@ -42,9 +42,7 @@ pass_width ns h = AllPass-from_list_all is_width ns (all_width ns h)
 fewer_than_sum : (ns : List ℕ) → list_any is_out_of_width ns ≡ false → length ns ≤ sum ns
 fewer_than_sum [] h = omega arith
 fewer_than_sum (n ∷ ns) h =
-    let p = or_parts (is_out_of_width n) (list_any is_out_of_width ns) h in
-    let w = is_out n p.0 in
-    omega (arith, sum_by-cons (λ x. x) n ns, fewer_than_sum ns p.1)
+    grind (arith, common_steps, or_parts, is_out, sum_by-cons, fewer_than_sum ns)
 
 -- sum at most, as the test says it
 pub within : (most n : ℕ) → nat_lt most n ≡ false → n ≤ most
@@ -106,20 +104,15 @@ swapped : (a b : Bool) → (a || ((b || false) || false)) ≡ (b || a)
 swapped a b = grind arith
 
 long_list : (n : ℕ) → 0 < n → is_out_of_width n ≡ nat_lt 16 n
-long_list n h = let some : (n == 0) ≡ false = grind (arith, nat_tests) in
-    ap (λ b. b || nat_lt 16 n) some
+long_list n h = grind (arith, nat_tests)
 
 -- what the levels above the lowest one add
 wide_by : (ms : List Member) → 0 < length ms → (g : Bool) → list_any is_group ms ≡ g
     → list_any (λ w. list_any is_out_of_width w) (levels_by g ms)
     ≡ (list_any is_out_of_width (flat_map numbers_in ms)
     || (nat_lt 16 (length ms) || list_any (λ m. is_out_of_width (size m)) ms))
-wide_by ms some true e =
-    ap (λ b. list_any is_out_of_width (flat_map numbers_in ms) || b)
-    (rw (any_size ms, long_list (length ms) some) (swapped _ _))
-wide_by ms some false e =
-    ap (λ b. list_any is_out_of_width (flat_map numbers_in ms) || b)
-    (rw (alone ms e, long_list (length ms) some) (swapped false _))
+wide_by ms some true e = grind (arith, nat_tests, any_size, long_list, swapped)
+wide_by ms some false e = grind (arith, nat_tests, alone, long_list, swapped)
 
 pub wide_kept : (t : TreeText) → IsFull t
     → is_too_wide t ≡ ((kept_tree t).numbers.bad_width || (kept_tree t).bad_width)
@@ -142,13 +135,8 @@ pub record Narrow (ms : List Member) : Type 0 where
 
 narrow : (ms : List Member) (g : Bool) → list_any is_group ms ≡ g
     → list_any (λ w. list_any is_out_of_width w) (levels_by g ms) ≡ false → Narrow ms
-narrow ms true e h =
-    let p = or_parts _ _ h in
-    let q = or_parts _ _ p.1 in
-    record { flat = p.0; sizes = sym (any_size ms) ∙ q.0; outer = (or_parts _ _ q.1).0 }
-narrow ms false e h =
-    let p = or_parts _ _ h in
-    record { flat = p.0; sizes = alone ms e; outer = (or_parts _ _ p.1).0 }
+narrow ms true e h = grind (arith, nat_tests, or_parts, any_size)
+narrow ms false e h = grind (arith, nat_tests, or_parts, alone)
 
 outer_size : (ms : List Member) → Narrow ms → length ms ≤ 16
 outer_size ms h = (is_out (length ms) (or_parts _ _ h.outer).0).1
@@ -158,28 +146,20 @@ member_count : (ms : List Member) → Narrow ms
 member_count ms h = how_many 16 (λ m. capped (size m)) ms ∙ omega (arith, outer_size ms h)
 
 whole_sizes : (ms : List Member) → Narrow ms → take 16 (map (λ m. capped (size m)) ms) ≡ map size ms
-whole_sizes ms h =
-    rw (cap_sizes ms h.sizes)
-    (take_all 16 (map size ms) (omega (arith, length-map ms size, outer_size ms h)))
+whole_sizes ms h = grind (arith, common_steps, cap_sizes, take_all, size, length-map, outer_size)
 
 levels_kept_by : (ms : List Member) → 0 < length ms → (g : Bool) → list_any is_group ms ≡ g
     → Narrow ms
     → sum (flat_map numbers_in ms) ≤ MOST_CORES
     → summary_levels (record (kept_members ms) { has_group = g }) ≡ levels_by g ms
 levels_kept_by ms some true e h few =
-    let lowest = kept_whole (flat_map numbers_in ms) h.flat few in
-    let sizes = whole_sizes ms h in
-    let count = member_count ms h in
-    λ i. lowest i ∷ sizes i ∷ (count i ∷ []) ∷ []
+    grind (arith, nat_tests, kept_whole, whole_sizes, member_count)
 levels_kept_by ms some false e h few =
-    let lowest = kept_whole (flat_map numbers_in ms) h.flat few in
-    let count = member_count ms h in
-    rw (has_cluster ms some e) (λ i. lowest i ∷ (count i ∷ []) ∷ [])
+    grind (arith, nat_tests, kept_whole, member_count, has_cluster)
 
 pub levels_kept : (t : TreeText) → IsFull t → is_too_wide t ≡ false → sum (clusters t) ≤ MOST_CORES
     → summary_levels (kept_tree t) ≡ levels_of t
-levels_kept (One n) full wide few =
-    ap (λ m. (m ∷ []) ∷ []) (cap_same n ((or_parts _ _ (or_parts _ _ wide).0).0))
+levels_kept (One n) full wide few = grind (arith, nat_tests, cap_same, or_parts)
 levels_kept (Members ms) full wide few = grind (arith, nat_tests, levels_kept_by, narrow)
 
 -- The tree of a text is a tree of nodes ---------------------------------------------------------
@@ -209,23 +189,13 @@ tree_by ms true e h few =
         one_level (length ms) h.outer,
       ),
     )
-tree_by ms false e h few = (
-  omega (arith, flat_alone ms e, sum_by-cons (λ x. x) (length ms) []),
-  few,
-  pass_width (flat_map numbers_in ms) h.flat,
-  one_level (length ms) h.outer,
-)
+tree_by ms false e h few = grind (arith, nat_tests, flat_alone, sum_by-cons, pass_width, one_level)
 
 pub is_tree : (t : TreeText) → is_too_wide t ≡ false → sum (clusters t) ≤ MOST_CORES
     → IsTree (levels_of t)
 is_tree (One n) wide few = one_level n (or_parts _ _ wide).0
-is_tree (Members ms) wide few = tree_by ms (list_any is_group ms) refl
-    (narrow ms (list_any is_group ms) refl wide) few
+is_tree (Members ms) wide few = grind (arith, nat_tests, tree_by, narrow)
 
 pub heights : (t : TreeText) → (0 < length (levels_of t)) × (length (levels_of t) ≤ 3)
 heights (One n) = (lit< tt, lit≤ tt)
-heights (Members ms) = by (list_any is_group ms)
-  where
-    by : (g : Bool) → (0 < length (levels_by g ms)) × (length (levels_by g ms) ≤ 3)
-    by true = (lit< tt, lit≤ tt)
-    by false = (lit< tt, lit≤ tt)
+heights (Members ms) = grind (arith, nat_tests, levels_by, lit<, lit≤)

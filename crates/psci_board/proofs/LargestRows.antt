@@ -4,12 +4,10 @@ use Rattle.std.proofs.Common.{◌≡◌, ℕ, List, ◌∷◌, [], ◌++◌, ref
 use Rattle.std.specs.Prelude.{codes, Result, Ok, Option, Some, None, map, replicate}
 use Rattle.psci_board.specs.declared.fault.BoardFault.{BoardFault}
 use Rattle.psci_board.specs.declared.span.CoreSpan.{CoreSpan}
-use Rattle.psci_board.specs.ReadWords.{literal_at, number_at, hex_at, spaced_at}
-use Rattle.psci_board.specs.Reading.{range_at, at_most}
-use Rattle.psci_board.specs.Reading.{more_at, list_at, member_at, tree_at, board_text}
 use Rattle.psci_board.specs.Board.{BoardValue, core_at, core_of, node_of, nodes, path, parent}
 use Rattle.psci_board.specs.Board.{cores_below}
-use Rattle.psci_board.specs.Verdict.{board_of, verdict}
+use Rattle.psci_board.specs.Verdict.{board_of}
+use Rattle.psci_board.proofs.Readings.{judging}
 use Rattle.psci_board.proofs.AffinityRows.{board, cores_of, at, node}
 
 -- sixteen clusters of sixteen cores: the most of each that a list may have
@@ -31,14 +29,12 @@ of_tree text = board_of (text
     ++ codes " exec 0x40000000-0x40100000 boot 0x40000000 starts 1000 lives 3")
 
 pub sixteens_read : of_tree widest_list ≡ Ok by_sixteens
-unfolding board_of verdict board_text tree_at member_at list_at more_at at_most spaced_at
-    range_at hex_at number_at literal_at
+unfolding judging
 sixteens_read = refl
 
 pub fours_read :
     of_tree (codes "((16 16 16 16) (16 16 16 16) (16 16 16 16) (16 16 16 16))") ≡ Ok by_fours
-unfolding board_of verdict board_text tree_at member_at list_at more_at at_most spaced_at
-    range_at hex_at number_at literal_at
+unfolding judging
 fours_read = refl
 
 -- Cores and nodes -------------------------------------------------------------------------------

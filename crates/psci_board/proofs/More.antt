@@ -1,10 +1,9 @@
 -- Items that follow one another: reading them one at a time.
 use Rattle.std.specs.Prelude.{IfSome}
-use Rattle.psci_board.proofs.Terms.{◌<◌, ◌∙◌, ◌∷◌, ◌≡◌, ◌≤◌, [], ap, arith, Bool, Cluster, cond}
-use Rattle.psci_board.proofs.Terms.{cond_some, eqb, false, Group, length, length-drop, List}
-use Rattle.psci_board.proofs.Terms.{nat_tests, None, Option, option_and_then, option_and_then_some}
-use Rattle.psci_board.proofs.Terms.{option_map, refl, Some, starts_list, subst, suc, sym, then_more}
-use Rattle.psci_board.proofs.Terms.{true, zero, ℕ}
+use Rattle.psci_board.proofs.Terms.{◌<◌, ◌∙◌, ◌∷◌, ◌≡◌, ◌≤◌, [], ap, arith, Bool, cond, cond_some}
+use Rattle.psci_board.proofs.Terms.{eqb, false, length, length-drop, List, nat_tests, None, Option}
+use Rattle.psci_board.proofs.Terms.{option_and_then, option_and_then_some, option_map, refl, Some}
+use Rattle.psci_board.proofs.Terms.{subst, suc, then_more, true, zero, ℕ}
 use Rattle.psci_board.specs.ReadWords.{literal_at, spaced_at, number_at}
 use Rattle.psci_board.specs.Reading.{at_most, more_at, list_at, member_at, bytes_after}
 
@@ -19,12 +18,7 @@ unfolding literal_at
 literal_shortens [] bytes rest e = let same : bytes ≡ rest = cc in omega (arith, ap length same)
 literal_shortens (w ∷ ws) [] rest e = cc
 literal_shortens (w ∷ ws) (b ∷ bs) rest e =
-    omega (arith, literal_shortens ws bs rest (cond_some_or (eqb b w) (literal_at ws bs) rest e))
-  where
-    cond_some_or : (t : Bool) (o : Option (List ℕ)) (x : List ℕ) → cond t o None ≡ Some x
-        → o ≡ Some x
-    cond_some_or true o x h = h
-    cond_some_or false o x h = cc
+    grind (arith, nat_tests, eqb, literal_shortens ws bs rest)
 
 pub number_shortens : Shortens number_at
 unfolding number_at
@@ -59,19 +53,13 @@ module _ {A : Type 0} (item : List ℕ → Option (A × List ℕ)) (s : Shortens
   same_fuel (suc n) zero [] p q = refl
   same_fuel (suc n) zero (b ∷ bs) p q = absurd (omega arith)
   same_fuel (suc n) (suc m) bytes p q =
-      then_same bytes (at_most item n) (at_most item m) (spaced_at item bytes)
-      (λ x e. let less = spaced_shortens bytes x e in
-      same_fuel n m x.1 (omega arith) (omega arith))
+      grind (arith, nat_tests, then_same, spaced_shortens, same_fuel n m)
 
   -- one item, and then more
   more_unrolled : (bytes : List ℕ)
       → more_at item bytes ≡ then_more bytes (more_at item) (spaced_at item bytes)
   unfolding more_at at_most
-  more_unrolled bytes =
-      same_fuel (length bytes) (suc (length bytes)) bytes (omega arith) (omega arith)
-      ∙ then_same bytes (at_most item (length bytes)) (more_at item) (spaced_at item bytes)
-      (λ x e. same_fuel (length bytes) (length x.1) x.1 (omega (arith, spaced_shortens bytes x e))
-      (omega arith))
+  more_unrolled bytes = grind (arith, nat_tests, same_fuel, then_same, spaced_shortens)
 
   pub more_some : (bytes : List ℕ) (x : A) (rest : List ℕ) → spaced_at item bytes ≡ Some (x, rest)
       → more_at item bytes ≡ (x ∷ (more_at item rest).0, (more_at item rest).1)
@@ -87,30 +75,12 @@ module _ {A : Type 0} (item : List ℕ → Option (A × List ℕ)) (s : Shortens
       → list_at item bytes
       ≡ option_map (λ close. (first ∷ (more_at item rest0).0, close)) (literal_at (41 ∷ []) rest)
   unfolding list_at
-  list_ended bytes open_ rest0 rest first a b same none =
-      let last : rest ≡ (more_at item rest0).1 = sym (ap (λ r. r.1) (more_none rest none)) ∙ same in
-      rw (a, b, ← last) (by_close (literal_at (41 ∷ []) rest))
-    where
-      with_rest : List ℕ → List A × List ℕ
-      with_rest close = (first ∷ (more_at item rest0).0, close)
-
-      by_close : (o : Option (List ℕ))
-          → option_and_then (λ close. Some (with_rest close)) o ≡ option_map with_rest o
-      by_close None = refl
-      by_close (Some x) = refl
+  list_ended bytes open_ rest0 rest first a b same none = grind (arith, nat_tests, more_none)
 
   at_most_shortens : (n : ℕ) (bytes : List ℕ) → length (at_most item n bytes).1 ≤ length bytes
   unfolding at_most
   at_most_shortens zero bytes = omega arith
-  at_most_shortens (suc n) bytes =
-      by_first (spaced_at item bytes)
-      (λ x e. omega (arith, spaced_shortens bytes x e, at_most_shortens n x.1))
-    where
-      by_first : (o : Option (A × List ℕ))
-          → ((x : A × List ℕ) → o ≡ Some x → length (at_most item n x.1).1 ≤ length bytes)
-          → length (then_more bytes (at_most item n) o).1 ≤ length bytes
-      by_first None h = omega arith
-      by_first (Some x) h = h x refl
+  at_most_shortens (suc n) bytes = grind (arith, nat_tests, spaced_shortens, at_most_shortens n)
 
   pub list_shortens : Shortens (list_at item)
   unfolding list_at more_at
@@ -132,17 +102,8 @@ module _ {A : Type 0} (item : List ℕ → Option (A × List ℕ)) (s : Shortens
 
 pub member_shortens : Shortens member_at
 unfolding member_at
-member_shortens bytes x e = by_test (starts_list bytes) e
-  where
-    by_test : (t : Bool)
-        → cond t (option_and_then (λ ns. Some (Group ns.0, ns.1)) (list_at number_at bytes))
-        (option_and_then (λ n. Some (Cluster n.0, n.1)) (number_at bytes)) ≡ Some x
-        → length x.1 ≤ length bytes
-    by_test true h = option_and_then_some _ (list_at number_at bytes) x h
-        (λ ns a e1. let r : ns.1 ≡ x.1 = cc in
-        omega (arith, ap length r, list_shortens number_at number_shortens bytes ns a))
-    by_test false h = option_and_then_some _ (number_at bytes) x h
-        (λ n a e1. let r : n.1 ≡ x.1 = cc in omega (arith, ap length r, number_shortens bytes n a))
+member_shortens bytes x e =
+    grind (arith, nat_tests, option_and_then_some, list_shortens, number_shortens)
 
 -- what was read, where its rest and a fact on it are known
 pub read_some : {A : Type 0} (P : A × List ℕ → Type 0) (o : Option (A × List ℕ)) (rest : List ℕ)

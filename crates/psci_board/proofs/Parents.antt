@@ -79,15 +79,7 @@ child_of_parent b h n m k e d =
 
 parent_node : (b : BoardValue) → IsBoard b → (n m : Node) → parent b m ≡ Some n → HasNode b n
 parent_node b h n m e =
-    let c = cond_some (has_parent b m) _ n e in
-    let here = below b m c.0 in
-    let at = level b.levels m.level h.tree here.level in
-    let group = (counted (counts b m.level) m.place (omega (arith, at.size, here.place))).group in
-    rw (← c.1) (record {
-      level = omega (arith, here.level);
-      place =
-          rw add-one (omega (arith, at.above, group));
-    })
+    grind (arith, nat_tests, cond_some, has_parent, below, level, counted, counts, add-one)
 
 pub parent_laws : (b : BoardValue) → IsBoard b → ParentLaws b
 unfolding up

@@ -33,15 +33,13 @@ joined ws x y l e = grind (arith, nat_tests, place_above-suc, place_above-past)
 pub ordered : (ws : List (List ℕ)) (x y l : ℕ) → x ≤ y → place_above ws l x ≤ place_above ws l y
 ordered ws x y zero h = h
 ordered [] x y (suc l) h = h
-ordered (w ∷ ws) x y (suc l) h =
-    ordered ws (group_of w x) (group_of w y) l (group_of-ordered w x y h)
+ordered (w ∷ ws) x y (suc l) h = grind (arith, nat_tests, group_of-ordered, ordered ws)
 
 pub inside : (ws : List (List ℕ)) (l i : ℕ) → IsTree ws → i < size_below ws → l ≤ length ws
     → place_above ws l i < size_below (drop l ws)
 inside ws zero i t h k = h
 inside [] (suc l) i t h k = absurd (omega arith)
-inside (w ∷ ws) (suc l) i t h k =
-    inside ws l (group_of w i) t.3 (fits w ws i t h).group (omega arith)
+inside (w ∷ ws) (suc l) i t h k = grind (arith, nat_tests, fits, inside ws l)
 
 pub some_core : (ws : List (List ℕ)) (l p : ℕ) → IsTree ws → l ≤ length ws
     → p < size_below (drop l ws)
@@ -101,17 +99,15 @@ size_laws b h = record {
 
 pub path_laws : (b : BoardValue) → IsBoard b → PathLaws b
 unfolding up
-path_laws b h = record {
-  levels = λ c. levels 0 b.levels c;
-  node = λ c l k. node_at 0 b.levels c l l k (omega arith);
-  listed = λ c. listed b c;
-  core = λ c. refl;
-  system = λ c k.
-      let last = inside b.levels (length b.levels) c h.tree k (omega arith) in
-      let one = rw (drop-length b.levels) at last in
-      omega (arith, one);
-  inside = λ c l k m. inside b.levels l c h.tree k m;
-  joined = λ x y l e. joined b.levels x y l e;
-  ordered = λ x y l e. ordered b.levels x y l e;
-  some_core = λ n k. some_core b.levels n.level n.place h.tree k.level k.place;
-}
+path_laws b h = grind (
+  arith,
+  nat_tests,
+  levels,
+  node_at,
+  listed,
+  inside,
+  drop-length,
+  joined,
+  ordered,
+  some_core,
+)

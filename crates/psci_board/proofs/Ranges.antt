@@ -1,9 +1,12 @@
 -- Ranges of numbers: which part a test keeps, and a range within a range.
-use Rattle.std.proofs.Common.{add-zero}
+use Rattle.std.proofs.Common.{add-zero, ◌&&◌, leb}
 use Rattle.std.proofs.lemmas.List.Elements.{filter-append}
-use Rattle.psci_board.proofs.Terms.{◌++◌, ◌+◌, ◌-◌, ◌<◌, ◌∙◌, ◌∷◌, ◌≡◌, ◌≤◌, [], ap, append-nil}
-use Rattle.psci_board.proofs.Terms.{arith, Bool, drop, false, filter, nat_tests, range_with_len}
-use Rattle.psci_board.proofs.Terms.{refl, suc, sym, take, true, zero, zero-add, ℕ}
+use Rattle.std.specs.List.{find}
+use Rattle.psci_board.proofs.Terms.{◌++◌, ◌+◌, ◌-◌, ◌<◌, ◌==◌, ◌∙◌, ◌∷◌, ◌≡◌, ◌≤◌, [], ap}
+use Rattle.psci_board.proofs.Terms.{append-nil, arith, Bool, drop, false, filter, flat_map}
+use Rattle.psci_board.proofs.Terms.{flat_map-append, List, ltb, nat_tests, None, none-some, Option}
+use Rattle.psci_board.proofs.Terms.{range_with_len, refl, same_Some, Some, suc, sym, take, true}
+use Rattle.psci_board.proofs.Terms.{zero, zero-add, ℕ}
 
 range_split : (a m n : ℕ)
     → range_with_len a (m + n) ≡ range_with_len a m ++ range_with_len (a + m) n
@@ -66,3 +69,103 @@ cut_range a k n h =
     ap (λ m. drop a (range_with_len 0 m)) whole ∙ drop_range a 0 (n - a)
     ∙ ap (λ m. range_with_len m (n - a)) (zero-add a) in
     rw dropped (sym (take_range k a (n - a) (omega arith)))
+
+-- What a search for the first number that passes a test finds.
+
+pub found_first : (p : ℕ → Bool) (n a i : ℕ) → a ≤ i → i < a + n → p i ≡ true
+    → ((j : ℕ) → a ≤ j → j < i → p j ≡ false) → find p (range_with_len a n) ≡ Some i
+found_first p zero a i l h t fails = absurd (omega arith)
+found_first p (suc n) a i l h t fails = grind (arith, nat_tests, found_first p n (a + 1) i)
+
+pub found_none : (p : ℕ → Bool) (n a : ℕ) → ((j : ℕ) → a ≤ j → j < a + n → p j ≡ false)
+    → find p (range_with_len a n) ≡ None
+found_none p zero a fails = refl
+found_none p (suc n) a fails = grind (arith, nat_tests, found_none p n (a + 1))
+
+pub record Found (p : ℕ → Bool) (a n i : ℕ) : Type 0 where
+  pub from : a ≤ i
+  pub below : i < a + n
+  pub passes : p i ≡ true
+
+found_by : (p : ℕ → Bool) (n a i : ℕ) (b : Bool) → p a ≡ b
+    → find p (range_with_len a (suc n)) ≡ Some i
+    → (find p (range_with_len (a + 1) n) ≡ Some i → Found p (a + 1) n i) → Found p a (suc n) i
+found_by p n a i true t e later = grind (arith, nat_tests, same_Some)
+found_by p n a i false t e later = grind (arith, nat_tests)
+
+pub found : (p : ℕ → Bool) (n a i : ℕ) → find p (range_with_len a n) ≡ Some i → Found p a n i
+found p zero a i e = absurd (none-some i e)
+found p (suc n) a i e = found_by p n a i (p a) refl e (found p n (a + 1) i)
+
+passes_by : (p : ℕ → Bool) (n a i : ℕ) (b : Bool) → p a ≡ b
+    → find p (range_with_len a (suc n)) ≡ None
+    → p i ≡ true → a ≤ i → (find p (range_with_len (a + 1) n) ≡ None → a + 1 ≤ i → ⊥) → ⊥
+passes_by p n a i true q e t l later = let x : ◌≡◌ {A = Option ℕ} (Some a) None = rw q at e in cc
+passes_by p n a i false q e t l later = grind (arith, nat_tests)
+
+pub none_passes : (p : ℕ → Bool) (n a i : ℕ) → find p (range_with_len a n) ≡ None
+    → a ≤ i → i < a + n → p i ≡ true → ⊥
+none_passes p zero a i e l h t = absurd (omega arith)
+none_passes p (suc n) a i e l h t = grind (arith, nat_tests, passes_by, none_passes p n)
+
+-- Filters over the numbers from one on, which leave the numbers in their order.
+
+-- the numbers from a on, n of them, that pass
+abbrev kept : (ℕ → Bool) → ℕ → ℕ → List ℕ
+kept p n a = filter p (range_with_len a n)
+
+pub same_kept : (p q : ℕ → Bool) (n a : ℕ) → ((j : ℕ) → a ≤ j → j < a + n → p j ≡ q j)
+    → filter p (range_with_len a n) ≡ filter q (range_with_len a n)
+same_kept p q zero a e = refl
+same_kept p q (suc n) a e = grind (arith, nat_tests, same_kept p q n (a + 1))
+
+none_kept : (p : ℕ → Bool) (n a : ℕ) → ((j : ℕ) → a ≤ j → p j ≡ false) → kept p n a ≡ []
+none_kept p zero a e = refl
+none_kept p (suc n) a e = grind (arith, nat_tests, none_kept p n)
+
+-- r passes where p or q does, and nothing that passes p stands after what passes q
+record Parts (r p q : ℕ → Bool) : Type 0 where
+  left : (j : ℕ) → p j ≡ true → r j ≡ true
+  right : (j : ℕ) → q j ≡ true → r j ≡ true
+  neither : (j : ℕ) → p j ≡ false → q j ≡ false → r j ≡ false
+  before : (i j : ℕ) → q i ≡ true → i ≤ j → p j ≡ false
+
+parts_by : (r p q : ℕ → Bool) → Parts r p q → (n a : ℕ) (s t : Bool) → p a ≡ s → q a ≡ t
+    → kept r n (a + 1) ≡ kept p n (a + 1) ++ kept q n (a + 1)
+    → kept r (suc n) a ≡ kept p (suc n) a ++ kept q (suc n) a
+parts_by r p q h n a true true e d later = grind (arith, nat_tests)
+parts_by r p q h n a true false e d later = rw (e, d, h.left a e, later) refl
+parts_by r p q h n a false true e d later = grind (arith, nat_tests, none_kept)
+parts_by r p q h n a false false e d later = rw (e, d, h.neither a e d) later
+
+parts : (r p q : ℕ → Bool) → Parts r p q → (n a : ℕ) → kept r n a ≡ kept p n a ++ kept q n a
+parts r p q h zero a = refl
+parts r p q h (suc n) a = parts_by r p q h n a (p a) (q a) refl refl (parts r p q h n (a + 1))
+
+range-more : (n a : ℕ) → range_with_len a (suc n) ≡ range_with_len a n ++ (a + n) ∷ []
+range-more zero a = let e : a ≡ a + 0 = omega arith in ap (λ k. k ∷ []) e
+range-more (suc n) a = grind (arith, nat_tests, range-more n (a + 1))
+
+flat_map-more : (g : ℕ → List ℕ) (n : ℕ)
+    → flat_map g (range_with_len 0 (suc n)) ≡ flat_map g (range_with_len 0 n) ++ g n
+flat_map-more g n =
+    ap (flat_map g) (range-more n 0)
+    ∙ (flat_map-append g (range_with_len 0 n) ((0 + n) ∷ []) ∙ rw zero-add (simp append-nil))
+
+-- places from a on, before a + n
+abbrev pub among : ℕ → ℕ → ℕ → Bool
+among a n q = leb a q && ltb q (a + n)
+
+one_more_part : (f : ℕ → ℕ) → ((i j : ℕ) → i ≤ j → f i ≤ f j) → (a n : ℕ)
+    → Parts (λ x. among a (suc n) (f x)) (λ x. among a n (f x)) (λ x. f x == a + n)
+one_more_part f ordered a n = grind (arith, nat_tests)
+
+-- what lies at the places of a range, place by place
+pub place_by_place : (f : ℕ → ℕ) → ((i j : ℕ) → i ≤ j → f i ≤ f j) → (a n m : ℕ)
+    → filter (λ x. among a n (f x)) (range_with_len 0 m)
+    ≡ flat_map (λ k. filter (λ x. f x == a + k) (range_with_len 0 m)) (range_with_len 0 n)
+place_by_place f ordered a zero m = grind (arith, nat_tests, none_kept, among)
+place_by_place f ordered a (suc n) m =
+    let whole = parts _ _ _ (one_more_part f ordered a n) m 0 in
+    rw (whole, place_by_place f ordered a n m)
+    (sym (flat_map-more (λ k. kept (λ x. f x == a + k) m 0) n))

@@ -2,10 +2,8 @@
 use Rattle.std.proofs.Common.{◌≡◌, ◌∷◌, [], refl}
 use Rattle.std.specs.Prelude.{codes, Ok}
 use Rattle.psci_board.specs.psci_abi.declared.format.Format.TheVariants.{Original}
-use Rattle.psci_board.specs.ReadWords.{literal_at, number_at, hex_at, spaced_at}
-use Rattle.psci_board.specs.Reading.{range_at, at_most}
-use Rattle.psci_board.specs.Reading.{more_at, list_at, member_at, tree_at, board_text}
-use Rattle.psci_board.specs.Verdict.{board_of, verdict}
+use Rattle.psci_board.specs.Verdict.{board_of}
+use Rattle.psci_board.proofs.Readings.{judging}
 
 pub one_cluster : board_of
     (codes "3 exec 0x0-0x10 0x20-0x30 boot 0x2c starts 4294967295 lives 65535")
@@ -17,8 +15,7 @@ pub one_cluster : board_of
       lives = 65535;
       format = Original;
     })
-unfolding board_of verdict board_text tree_at member_at list_at more_at at_most spaced_at
-    range_at hex_at number_at literal_at
+unfolding judging
 one_cluster = refl
 
 pub two_clusters : board_of
@@ -31,8 +28,7 @@ pub two_clusters : board_of
       lives = 3;
       format = Original;
     })
-unfolding board_of verdict board_text tree_at member_at list_at more_at at_most spaced_at
-    range_at hex_at number_at literal_at
+unfolding judging
 two_clusters = refl
 
 pub two_groups : board_of (codes "((1 2) (3)) exec 0xA-0xfF boot 0xFc starts 1 lives 1")
@@ -44,6 +40,5 @@ pub two_groups : board_of (codes "((1 2) (3)) exec 0xA-0xfF boot 0xFc starts 1 l
       lives = 1;
       format = Original;
     })
-unfolding board_of verdict board_text tree_at member_at list_at more_at at_most spaced_at
-    range_at hex_at number_at literal_at
+unfolding judging
 two_groups = refl

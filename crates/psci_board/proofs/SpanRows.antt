@@ -4,8 +4,7 @@ use Rattle.std.specs.Prelude.{ℕ, Option, Some, None, map, replicate}
 use Rattle.psci_board.specs.declared.node.Core.{Core}
 use Rattle.psci_board.specs.declared.span.CoreSpan.{CoreSpan}
 use Rattle.psci_board.specs.Board.{BoardValue, cores_below, parent, child_number, child, path}
-use Rattle.psci_board.specs.Board.{below}
-use Rattle.psci_board.specs.Board.{address, core_of, node_of, may_enter}
+use Rattle.psci_board.specs.Board.{below, address, core_of, node_of, may_enter}
 use Rattle.psci_board.proofs.AffinityRows.{board, cluster, clusters, at, node}
 
 -- ((1 3) (2 1 4)): cores 0, 1 to 3, 4 and 5, 6, 7 to 10 in five clusters of two groups

@@ -1,10 +1,9 @@
 -- The cores below a node stand side by side: they are the cores of its span.
-use Rattle.std.proofs.Common.{◌==◌}
 use Rattle.std.proofs.lemmas.Bool.{ne_eqb}
 use Rattle.psci_board.proofs.Terms.{◌+◌, ◌-◌, ◌<◌, ◌∙◌, ◌≡◌, ◌≤◌, [], ap, arith, BoardValue}
 use Rattle.psci_board.proofs.Terms.{cases_lt, drop, drop-length, eq-eqb, first_core, get_or}
 use Rattle.psci_board.proofs.Terms.{HasNode, height, inl, inr, IsTree, length, List, nat_tests}
-use Rattle.psci_board.proofs.Terms.{Node, nodes, place_above, range_with_len, refl, size_below}
+use Rattle.psci_board.proofs.Terms.{Node, nodes, range_with_len, refl, size_below}
 use Rattle.psci_board.proofs.Terms.{Some, sum, take, ℕ}
 use Rattle.psci_board.specs.Board.{HasNodeIn, below_in, span, cores_below}
 use Rattle.psci_board.specs.Laws.{SpanLaws}
@@ -40,34 +39,17 @@ inside_of levels n t h =
 
 below_is : (levels : List (List ℕ)) (n : Node) → IsTree levels → HasNodeIn levels n
     → below_in levels n ≡ range_with_len (span levels n).first (span levels n).count
-below_is levels n t h =
-    let i = inside_of levels n t h in
-    keep_middle (λ c. place_above levels n.level c == n.place)
-    (first_core levels n.level n.place)
-    (first_core levels n.level (n.place + 1) - first_core levels n.level n.place)
-    (size_below levels) (omega (arith, i.grows, i.ends))
-    (λ c p. ne_eqb _ _ (λ e. absurd (omega (
-      arith,
-      above_back levels n.level c n.place t h.level (omega (arith, i.grows, i.ends)) (omega arith),
-    ))))
-    (λ c p q. eq-eqb _ _ (same i c p (omega (arith, i.grows))))
-    (λ c p q. ne_eqb _ _ (λ e. absurd (omega (
-      arith,
-      above_from levels n.level c (n.place + 1) t h.level q (omega (arith, i.grows)),
-    ))))
-  where
-    same : Inside levels n → (c : ℕ) → first_core levels n.level n.place ≤ c
-        → c < first_core levels n.level (n.place + 1) → place_above levels n.level c ≡ n.place
-    same i c p q =
-        let inside : c < size_below levels = omega (arith, i.ends) in
-        let least = above_from levels n.level c n.place t h.level inside p in
-        let most : place_above levels n.level c < n.place + 1 =
-        elim (cases_lt (place_above levels n.level c) (n.place + 1)) [
-          | inl x ↦ x
-          | inr x ↦
-              absurd (omega (arith, above_back levels n.level c (n.place + 1) t h.level inside x))
-        ] in
-        omega arith
+below_is levels n t h = grind (
+  arith,
+  nat_tests,
+  inside_of,
+  keep_middle,
+  ne_eqb,
+  above_back,
+  eq-eqb,
+  above_from,
+  cases_lt,
+)
 
 pub span_laws : (levels : List (List ℕ)) → IsTree levels → SpanLaws levels
 span_laws levels t = record {
@@ -104,10 +86,7 @@ pub record NodeCount (b : BoardValue) (n : Node) (count : ℕ) : Type 0 where
 
 pub on_board : (b : BoardValue) (n : Node) (count : ℕ) → NodeCount b n count → n.place < count
     → HasNode b n
-on_board b n count c h = elim (cases_lt (height b) n.level) [
-  | inl m ↦ absurd (omega (arith, c.above m))
-  | inr m ↦ record { level = m; place = omega (arith, c.on_board m) }
-]
+on_board b n count c h = grind (arith, nat_tests, cases_lt)
 
 pub span_some : (b : BoardValue) (n : Node) (front : List (List ℕ)) (first end : ℕ) → HasNode b n
     → front ≡ take n.level b.levels → first ≡ first_core front (length front) n.place
@@ -118,8 +97,7 @@ span_some b n front first end h e f g = grind (arith, nat_tests, first_cut)
 pub first_ordered : (front : List (List ℕ)) (p first end : ℕ)
     → first ≡ first_core front (length front) p → end ≡ first_core front (length front) (p + 1)
     → first ≤ end
-first_ordered front p first end f g =
-    omega (arith, f, g, first_grows front (length front) p (p + 1) (omega arith))
+first_ordered front p first end f g = grind (arith, nat_tests, first_grows)
 
 -- the two ends of a span, and the span between them
 pub ruleset walk = (first_ordered, span_some, on_board)

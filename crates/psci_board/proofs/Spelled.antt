@@ -1,13 +1,13 @@
 -- What is spelled is read, whatever follows it, and what is read is spelled so: lists.
 use Rattle.psci_board.proofs.Terms.{◌++◌, ◌∙◌, ◌∷◌, ◌≡◌, [], All-from_recursion, AllByRecursion, ap}
 use Rattle.psci_board.proofs.Terms.{append_assoc, arith, Bool, bracketed, Ends, false, IsListOf}
-use Rattle.psci_board.proofs.Terms.{length, length-append, List, None, Option, option_and_then_some}
-use Rattle.psci_board.proofs.Terms.{Reads, recursion_from_All, refl, same_Some, Some, spaced, subst}
-use Rattle.psci_board.proofs.Terms.{suc, sym, then_more, zero, ℕ}
+use Rattle.psci_board.proofs.Terms.{length, length-append, List, nat_tests, None, Option}
+use Rattle.psci_board.proofs.Terms.{option_and_then_some, Reads, recursion_from_All, refl}
+use Rattle.psci_board.proofs.Terms.{same_Some, Some, spaced, subst, suc, then_more, zero, ℕ}
 use Rattle.psci_board.specs.ReadWords.{literal_at, spaced_at}
 use Rattle.psci_board.specs.Reading.{at_most, more_at, list_at}
 use Rattle.psci_board.proofs.More.{Shortens, more_some, more_none}
-use Rattle.psci_board.proofs.SpelledLiterals.{literal_takes}
+use Rattle.psci_board.proofs.SpelledParts.{literal_takes}
 
 -- the items are spelled so, and this stands after them
 abbrev Taken : {A : Type 0} → (A → List ℕ) → (A → Type 0) → List ℕ → List A × List ℕ → Type 0
@@ -48,9 +48,7 @@ module _ {A : Type 0} {item : List ℕ → Option (A × List ℕ)} {spell : A �
   pub first_again : kind 32 ≡ false → (x : A) (xs : List A) (rest : List ℕ) → P x → Ends kind rest
       → spaced_at item (spaced spell (x ∷ xs) ++ rest) ≡ Some (x, spaced spell xs ++ rest)
   unfolding spaced_at literal_at
-  first_again space x xs rest p e =
-      rw (append_assoc (spell x) (spaced spell xs) rest)
-      (r.again x (spaced spell xs ++ rest) p (ends_there space xs rest e))
+  first_again space x xs rest p e = grind (arith, nat_tests, append_assoc, ends_there)
 
   pub more_again : kind 32 ≡ false → (xs : List A) (rest : List ℕ) → AllByRecursion P xs
       → Ends kind rest → spaced_at item rest ≡ None
@@ -64,20 +62,12 @@ module _ {A : Type 0} {item : List ℕ → Option (A × List ℕ)} {spell : A �
       → ((x : A × List ℕ) → o ≡ Some x → P x.0 × (bytes ≡ 32 ∷ spell x.0 ++ x.1))
       → ((bs : List ℕ) → Taken spell P bs (go bs)) → Taken spell P bytes (then_more bytes go o)
   then_takes bytes go None first others = (tt, refl)
-  then_takes bytes go (Some x) first others =
-      let f = first x refl in
-      let g = others x.1 in (
-        (f.0, g.0),
-        f.1 ∙ ap (λ bs. 32 ∷ spell x.0 ++ bs) g.1
-            ∙ sym (append_assoc (32 ∷ spell x.0) (spaced spell (go x.1).0) (go x.1).1),
-      )
+  then_takes bytes go (Some x) first others = grind (arith, nat_tests, append_assoc)
 
   at_most_takes : (n : ℕ) (bytes : List ℕ) → Taken spell P bytes (at_most item n bytes)
   unfolding at_most
   at_most_takes zero bytes = (tt, refl)
-  at_most_takes (suc n) bytes =
-      then_takes bytes (at_most item n) (spaced_at item bytes) (spaced_takes bytes)
-      (at_most_takes n)
+  at_most_takes (suc n) bytes = grind (arith, nat_tests, then_takes, spaced_takes, at_most_takes n)
 
   pub more_takes : (bytes : List ℕ) → Taken spell P bytes (more_at item bytes)
   unfolding more_at

@@ -6,9 +6,8 @@ use Rattle.std.specs.Fmt.{digits}
 use Rattle.psci_board.specs.Grammar.{BoardText, TreeText, spelling}
 use Rattle.psci_board.specs.Grammar.Member.{Cluster, Group}
 use Rattle.psci_board.specs.Grammar.TreeText.{One, Members}
-use Rattle.psci_board.specs.ReadWords.{literal_at, number_at, hex_at, spaced_at}
-use Rattle.psci_board.specs.Reading.{range_at, at_most}
-use Rattle.psci_board.specs.Reading.{more_at, list_at, member_at, tree_at, board_text}
+use Rattle.psci_board.specs.Reading.{board_text}
+use Rattle.psci_board.proofs.Readings.{reading}
 use Rattle.psci_board.proofs.Tables.{◌⇒◌, Gives}
 
 -- a board of this tree
@@ -63,6 +62,5 @@ pub not_texts : Gives read
     ∷ "4 exec 0x0-0x10 boot 0x0 starts 18446744073709551616 lives 1" ⇒ None
     ∷ "(((1))) exec 0x0-0x10 boot 0x0 starts 1 lives 1" ⇒ None
     ∷ "(1 ()) exec 0x0-0x10 boot 0x0 starts 1 lives 1" ⇒ None ∷ [])
-unfolding board_text tree_at member_at list_at more_at at_most spaced_at range_at hex_at number_at
-    literal_at
+unfolding reading
 not_texts = refl

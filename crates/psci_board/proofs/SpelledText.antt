@@ -2,17 +2,15 @@
 use Rattle.psci_board.proofs.Terms.{◌++◌, ◌∙◌, ◌∷◌, ◌≡◌, [], AllByRecursion, ap, append_assoc}
 use Rattle.psci_board.proofs.Terms.{arith, BoardText, codes, decimal, Format, format_at}
 use Rattle.psci_board.proofs.Terms.{format_part, hex, IsHex, IsNumber, IsRange, IsTreeText, List}
-use Rattle.psci_board.proofs.Terms.{more_at, None, number_at, Option, option_and_then_some, range}
-use Rattle.psci_board.proofs.Terms.{recursion_from_All, refl, same_Some, Some, spaced, subst, tree}
-use Rattle.psci_board.proofs.Terms.{tree_at, TreeText, ℕ}
+use Rattle.psci_board.proofs.Terms.{more_at, nat_tests, None, number_at, Option}
+use Rattle.psci_board.proofs.Terms.{option_and_then_some, range, recursion_from_All, refl}
+use Rattle.psci_board.proofs.Terms.{same_Some, Some, spaced, subst, tree, tree_at, TreeText, ℕ}
 use Rattle.psci_board.specs.Grammar.{IsBoardText, spelling}
 use Rattle.psci_board.specs.ReadWords.{literal_at, spaced_at, hex_at}
 use Rattle.psci_board.specs.Reading.{range_at, board_text}
 use Rattle.psci_board.proofs.Spelled.{first_again, spaced_takes, more_again, more_takes, list_of}
-use Rattle.psci_board.proofs.SpelledLiterals.{literal_takes}
-use Rattle.psci_board.proofs.SpelledNumbers.{number_reads, hex_reads}
-use Rattle.psci_board.proofs.SpelledFormat.{ends_number, format_again, format_takes}
-use Rattle.psci_board.proofs.SpelledRanges.{range_reads}
+use Rattle.psci_board.proofs.SpelledParts.{literal_takes, number_reads, hex_reads, ends_number}
+use Rattle.psci_board.proofs.SpelledParts.{format_again, format_takes, range_reads}
 use Rattle.psci_board.proofs.SpelledTree.{tree_reads}
 
 abbrev IsRead : BoardText → Type 0
@@ -30,9 +28,7 @@ no_range rest = refl
 others_again : (rs : List (List ℕ × List ℕ)) (rest : List ℕ)
     → AllByRecursion IsRange rs
     → more_at range_at (spaced range rs ++ (codes " boot " ++ rest)) ≡ (rs, codes " boot " ++ rest)
-others_again rs rest h =
-    more_again range_reads refl rs (codes " boot " ++ rest) h refl
-    (no_range rest)
+others_again rs rest h = grind (arith, nat_tests, more_again, range_reads, no_range)
 
 parts_again : (t : TreeText) (r : List ℕ × List ℕ) (rs : List (List ℕ × List ℕ))
     (boot : List ℕ)

@@ -1,15 +1,15 @@
 -- A tree is read as it is spelled, and in no other way.
 use Rattle.psci_board.proofs.Terms.{◌++◌, ◌<◌, ◌∷◌, ◌≡◌, [], AllDigits, arith, Bool, bracketed}
-use Rattle.psci_board.proofs.Terms.{Cluster, cond, decimal, decimal_is_IsNumeral, decimal_nonempty}
-use Rattle.psci_board.proofs.Terms.{digit_value, Ends, eqb, false, Group, is_ascii_digit, IsListOf}
-use Rattle.psci_board.proofs.Terms.{IsNumber, IsTreeText, length, List, Member, Members, nat_tests}
-use Rattle.psci_board.proofs.Terms.{number_at, One, Option, option_and_then, option_and_then_some}
-use Rattle.psci_board.proofs.Terms.{Reads, refl, same_Some, Some, starts_list, subst, tree}
-use Rattle.psci_board.proofs.Terms.{TreeText, true, ℕ}
+use Rattle.psci_board.proofs.Terms.{Cluster, common_steps, cond, decimal, decimal_is_IsNumeral}
+use Rattle.psci_board.proofs.Terms.{decimal_nonempty, digit_value, Ends, eqb, false, Group}
+use Rattle.psci_board.proofs.Terms.{is_ascii_digit, IsListOf, IsNumber, IsTreeText, length, List}
+use Rattle.psci_board.proofs.Terms.{Member, Members, nat_tests, number_at, One, Option}
+use Rattle.psci_board.proofs.Terms.{option_and_then, option_and_then_some, Reads, refl, same_Some}
+use Rattle.psci_board.proofs.Terms.{Some, starts_list, subst, tree, TreeText, true, ℕ}
 use Rattle.psci_board.specs.Grammar.{IsMember, member}
 use Rattle.psci_board.specs.Reading.{list_at, member_at, tree_at}
 use Rattle.psci_board.proofs.Spelled.{list_again, list_takes}
-use Rattle.psci_board.proofs.SpelledNumbers.{number_reads}
+use Rattle.psci_board.proofs.SpelledParts.{number_reads}
 
 -- A number, or a list of items. Both members of the outer list and trees are read so.
 number_or : {A B : Type 0} → (ℕ → B) → (List A → B) → (List ℕ → Option (A × List ℕ)) → List ℕ
@@ -48,8 +48,7 @@ many_again : {A B : Type 0} (one : ℕ → B) (many : List A → B) (item : List
     → (xs : List A) (rest : List ℕ) → IsListOf P xs
     → number_or one many item (bracketed spell xs ++ rest) true ≡ Some (many xs, rest)
 unfolding number_or
-many_again one many item spell P r xs rest h =
-    rw (list_again r refl refl xs rest h) refl
+many_again one many item spell P r xs rest h = grind (arith, common_steps, list_again)
 
 either_takes : {A B : Type 0} (one : ℕ → B) (many : List A → B)
     (item : List ℕ → Option (A × List ℕ)) (spell : A → List ℕ) (P : A → Type 0)
@@ -65,9 +64,7 @@ either_takes one many item spell P r bytes true x e C of_one of_many =
     let t = list_takes r bytes xs a in
     subst C (same_Some _ _ e1) (of_many xs.0 xs.1 t.0 t.1))
 either_takes one many item spell P r bytes false x e C of_one of_many =
-    option_and_then_some _ (number_at bytes) x e (λ n a e1.
-    let t = number_reads.takes bytes n a in
-    subst C (same_Some _ _ e1) (of_one n.0 n.1 t.0 t.1))
+    grind (arith, common_steps, option_and_then_some, number_reads, same_Some)
 
 -- Members of the outer list ---------------------------------------------------------------------
 

@@ -7,10 +7,8 @@ use Rattle.psci_board.specs.declared.fault.BoardFault.TheVariants.{Grammar, Unev
 use Rattle.psci_board.specs.declared.fault.BoardFault.TheVariants.{TooManyCores, BadRange, BadBoot}
 use Rattle.psci_board.specs.declared.fault.BoardFault.TheVariants.{BadLimit}
 use Rattle.psci_board.specs.Board.{BoardValue}
-use Rattle.psci_board.specs.ReadWords.{literal_at, number_at, hex_at, spaced_at}
-use Rattle.psci_board.specs.Reading.{range_at, at_most}
-use Rattle.psci_board.specs.Reading.{more_at, list_at, member_at, tree_at, board_text}
-use Rattle.psci_board.specs.Verdict.{board_of, verdict}
+use Rattle.psci_board.specs.Verdict.{board_of}
+use Rattle.psci_board.proofs.Readings.{judging}
 use Rattle.psci_board.proofs.Tables.{◌⇒◌, Gives}
 
 abbrev fault_in : Result BoardValue BoardFault → Option BoardFault
@@ -69,8 +67,7 @@ pub trees : Gives with_tree
     ∷ "(1 1 1 1 1 1 1 1 1 1 1 1 1 1 1 1 1)" ⇒ Some TooWide
     ∷ "((1) (1) (1) (1) (1) (1) (1) (1) (1) (1) (1) (1) (1) (1) (1) (1) (1))" ⇒ Some TooWide
     ∷ "((16 16 16 16 16 16 16 16 16 16 16 16 16 16 16 16) (1))" ⇒ Some TooManyCores ∷ [])
-unfolding board_of verdict board_text tree_at member_at list_at more_at at_most spaced_at
-    range_at hex_at number_at literal_at
+unfolding judging
 trees = refl
 
 pub ranges : Gives with_ranges
@@ -88,8 +85,7 @@ pub ranges : Gives with_ranges
     ∷ "0x0-0x10 boot 0x2" ⇒ Some BadBoot
     ∷ "0x4-0x10 boot 0x0" ⇒ Some BadBoot
     ∷ "0x0-0x10 0x20-0x30 boot 0x14" ⇒ Some BadBoot ∷ [])
-unfolding board_of verdict board_text tree_at member_at list_at more_at at_most spaced_at
-    range_at hex_at number_at literal_at
+unfolding judging
 ranges = refl
 
 pub limits : Gives with_limits
@@ -109,6 +105,5 @@ pub limits : Gives with_limits
     ∷ "starts 0x1 lives 1" ⇒ Some Grammar
     ∷ "Starts 1 lives 1" ⇒ Some Grammar
     ∷ "starts 1 lives 1\t" ⇒ Some Grammar ∷ [])
-unfolding board_of verdict board_text tree_at member_at list_at more_at at_most spaced_at
-    range_at hex_at number_at literal_at
+unfolding judging
 limits = refl

@@ -11,6 +11,7 @@
 #![tactic(auto)]
 
 mod affinity;
+#[tactic(auto, using(crate::proofs::Readers::reading))]
 mod board;
 mod build;
 mod digits;

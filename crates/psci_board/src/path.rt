@@ -9,6 +9,7 @@ use crate::node::Node;
 use arrayvec::ArrayVec;
 
 /// A place on the level below these, and the nodes above it.
+#[tactic(auto, using(crate::proofs::Groups::rising))]
 pub fn path_of(levels: &[Level], place: u16) -> ArrayVec<Node, MOST_ON_PATH>
     requires tree { IsTree levels.now }
     requires high { length levels.now ≤ MOST_LEVELS }

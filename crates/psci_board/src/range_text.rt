@@ -11,6 +11,7 @@ use crate::summary::RangesSummary;
 use crate::words::{hex, literal};
 
 /// What is kept of the ranges, each after a space, and the text after them.
+#[tactic(auto, using(crate::proofs::Fronts::reading), unfolding(crate::proofs::Fronts::ranging))]
 pub fn ranges(text: &[u8]) -> Option<(RangesSummary, &[u8])>
     ensures { option_map (λ x. (x.0, x.1.now)) result
         ≡ option_map (value_and_rest (with_ranges no_ranges)) (ranges_at text.now) }

@@ -18,6 +18,7 @@ impl Board {
     }
 
     /// The same of bytes, which are outside the grammar where they are no text.
+    #[tactic(auto, using(crate::proofs::Decided::saying))]
     pub fn read_bytes(alloc: Global, text: &[u8]) -> Result<Board, BoardFault>
         ensures { Answers result (board_of text.now) }
     {

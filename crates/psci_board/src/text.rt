@@ -34,7 +34,7 @@ pub struct TextSummary {
 }
 
 /// What is kept of the text, where it is of the grammar.
-#[tactic(auto, unfolding(crate::specs::Reading::board_text, crate::specs::Summary::ranges_at))]
+#[tactic(auto, using(crate::proofs::Fronts::parts))]
 pub fn whole_text(text: &[u8]) -> Option<TextSummary>
     ensures { result ≡ option_map text_summary (board_text text.now) }
 {

@@ -13,18 +13,21 @@ pub fn law_sizes()
 
 /// A path has one node of each level, and cores whose paths meet share them from there up. Each
 /// node is on the path of some core.
+#[tactic(auto, using(crate::proofs::Paths::path_laws))]
 pub fn law_paths()
     ensures { (b : BoardValue) → IsBoard b → PathLaws b }
 {}
 
 /// The children of a node part the cores below it: each is below exactly one child, and the cores
 /// below a node are those below its first child, then those below the second, and so on.
+#[tactic(auto, using(crate::proofs::Children::child_laws))]
 pub fn law_children()
     ensures { (b : BoardValue) → IsBoard b → ChildLaws b }
 {}
 
 /// One step up and one step down are each other's inverse: a node is the parent of its children,
 /// and each node below the system is the child of its parent that has its number.
+#[tactic(auto, using(crate::proofs::Parents::parent_laws))]
 pub fn law_parents()
     ensures { (b : BoardValue) → IsBoard b → ParentLaws b }
 {}

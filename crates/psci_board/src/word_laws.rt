@@ -8,6 +8,7 @@ ghost use Rattle.psci_board.specs.Spelling.{TextLaws};
 /// digits of either case or leading zeros of a hexadecimal number, or that takes one for another.
 /// That what is read is spelled so rules out a reading that accepts a word in another case, a
 /// leading zero or a number of 2 to the 64 or more, `0X` for `0x`, no digit, or more than 16.
+#[tactic(auto, using(crate::proofs::SpelledParts::reading))]
 pub fn law_text()
     ensures { TextLaws }
 {}

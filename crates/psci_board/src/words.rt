@@ -7,6 +7,7 @@ ghost use Rattle.psci_board.specs.ReadWords.{literal_at, number_at, hex_at, hex_
 use crate::digits::{decimal, hexadecimal};
 
 /// The text after `word`, where it begins with `word`. Upper and lower case differ.
+#[tactic(auto, using(crate::proofs::SpelledParts::stripped))]
 pub fn literal<'a>(text: &'a [u8], word: &[u8]) -> Option<&'a [u8]>
     ensures { option_map (λ rest. rest.now) result ≡ literal_at word.now text.now }
 {

@@ -1,6 +1,6 @@
 -- How the lines that remain come out, by what the next one says.
 use Rattle.std.proofs.Common.{◌≡◌, ℕ, ◌+◌, ◌≤◌, ◌<◌, List, [], ◌∷◌, ◌++◌, length, refl, ap, sym}
-use Rattle.std.proofs.Common.{◌∙◌, append_assoc, Bool, true, false, cond, nat_lt, arith, Option}
+use Rattle.std.proofs.Common.{◌∙◌, append_assoc, true, false, nat_lt, arith, Option}
 use Rattle.std.proofs.Common.{Some, None, Result, Ok, Err, subst}
 use Rattle.std.proofs.lemmas.Bool.Decides.{nat_tests}
 use Rattle.psci_world_spec.specs.psci_board.Board.{BoardValue}
@@ -80,21 +80,13 @@ is_lt m n h = grind (arith, nat_tests)
 
 line_read : (n : ℕ) (l : List ℕ) → n ≤ 1000000 → length l ≤ 256
     → line_said n l ≡ ok_or (line_of l) Line
-line_read n l h k =
-    ap (λ (t : Bool). cond t (Err TooMany) (cond (nat_lt 256 (length l)) (Err Long)
-    (ok_or (line_of l) Line))) (not_lt 1000000 n h)
-    ∙ ap (λ (t : Bool). cond t (Err Long) (ok_or (line_of l) Line)) (not_lt 256 (length l) k)
+line_read n l h k = grind (arith, nat_tests, nat_lt, not_lt)
 
 pub line_long : (n : ℕ) (l : List ℕ) → n ≤ 1000000 → 256 < length l → line_said n l ≡ Err Long
-line_long n l h k =
-    ap (λ (t : Bool). cond t (Err TooMany) (cond (nat_lt 256 (length l)) (Err Long)
-    (ok_or (line_of l) Line))) (not_lt 1000000 n h)
-    ∙ ap (λ (t : Bool). cond t (Err Long) (ok_or (line_of l) Line)) (is_lt 256 (length l) k)
+line_long n l h k = grind (arith, nat_tests, nat_lt, not_lt, is_lt)
 
 pub line_many : (n : ℕ) (l : List ℕ) → 1000000 < n → line_said n l ≡ Err TooMany
-line_many n l h =
-    ap (λ (t : Bool). cond t (Err TooMany) (cond (nat_lt 256 (length l)) (Err Long)
-    (ok_or (line_of l) Line))) (is_lt 1000000 n h)
+line_many n l h = grind (arith, nat_tests, nat_lt, is_lt)
 
 read_as : (n : ℕ) (l : List ℕ) (o : Option LineSays) → n ≤ 1000000 → length l ≤ 256
     → line_of l ≡ o → line_said n l ≡ ok_or o Line
@@ -104,19 +96,13 @@ read_as n l o h k e = line_read n l h k ∙ ap (λ (x : Option LineSays). ok_or 
 pub blank_remains : (run : ScriptRun) (n : ℕ) (l : List ℕ) (ls : List (List ℕ)) → n + 1 ≤ 1000000
     → length l ≤ 256 → line_of l ≡ Some Blank
     → remaining (Some run) n (l ∷ ls) ≡ remaining (Some run) (n + 1) ls
-blank_remains run n l ls h k e =
-    rest_is run n l ls
-    ∙ ap (λ (r : Result LineSays ScriptFault). after_said run (n + 1) r ls)
-    (read_as (n + 1) l (Some Blank) h k e)
+blank_remains run n l ls h k e = grind (arith, nat_tests, rest_is, after_said, read_as)
 
 pub event_remains : (run : ScriptRun) (n : ℕ) (l : List ℕ) (ls : List (List ℕ)) (event : Event)
     → n + 1 ≤ 1000000 → length l ≤ 256 → line_of l ≡ Some (Says event)
     → remaining (Some run) n (l ∷ ls) ≡ remaining (Some (with_record run event)) (n + 1) ls
 event_remains run n l ls event h k e =
-    rest_is run n l ls
-    ∙ ap (λ (r : Result LineSays ScriptFault). after_said run (n + 1) r ls)
-    (read_as (n + 1) l (Some (Says event)) h k e)
-    ∙ event_is run (n + 1) event ls
+    grind (arith, nat_tests, rest_is, after_said, read_as, event_is)
 
 pub fault_remains : (run : ScriptRun) (n : ℕ) (l : List ℕ) (ls : List (List ℕ))
     (fault : ScriptFault) → line_said (n + 1) l ≡ Err fault
@@ -157,5 +143,4 @@ goes_as run later other e k = subst (λ (r : Option ScriptRun). GoesOn run r) (s
 
 pub goes_self : (run later : Option ScriptRun) → later ≡ run → GoesOn run later
 goes_self None later e = tt
-goes_self (Some run) later e =
-    subst (λ (r : Option ScriptRun). GoesOn (Some run) r) (sym e) (refl, [], refl)
+goes_self (Some run) later e = grind (arith, nat_tests)

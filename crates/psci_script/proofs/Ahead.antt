@@ -1,8 +1,7 @@
 -- Reading ahead, step after step.
 use Rattle.std.proofs.Common.{◌≡◌, ℕ, ◌<◌, Bool, true, false, List, [], ◌++◌, length, take, refl}
-use Rattle.std.proofs.Common.{ap, sym, ◌∙◌, arith, Option, append_assoc, append-nil}
-use Rattle.std.proofs.Common.{Result, Ok, Err, IfOk, IfErr, OnErr, IsErr, IsErrAnd, length-append}
-use Rattle.std.proofs.Common.{subst}
+use Rattle.std.proofs.Common.{ap, sym, ◌∙◌, arith, Option, append_assoc, append-nil, Result, Ok}
+use Rattle.std.proofs.Common.{Err, IfOk, IfErr, OnErr, IsErr, IsErrAnd, length-append, subst}
 use Rattle.std.specs.Io.KnownBytes.{Appends, Keeps}
 use Rattle.psci_script.specs.declared.fault.ReplayFault.{ReplayFault}
 use Rattle.psci_script.specs.declared.fault.ReplayFault.TheVariants.{Read, Write}
@@ -11,8 +10,8 @@ use Rattle.psci_script.specs.Block.{ReadAhead, Refills}
 use Rattle.psci_script.specs.declared.progress.Progress.{Progress as Fields}
 use Rattle.psci_script.specs.Progress.{Progress, progress, SameDevices, StaySound, Ahead}
 use Rattle.psci_script.specs.Progress.{WriteFailed, ReadFailed, ReadsAhead, FailsAhead}
-use Rattle.psci_script.proofs.Known.{appends_more, consumes_more, consumes_keeps}
-use Rattle.psci_script.proofs.Known.{appends_none, consumes_none}
+use Rattle.psci_script.proofs.Known.{appends_more, consumes_more, consumes_keeps, appends_none}
+use Rattle.psci_script.proofs.Known.{consumes_none}
 
 -- the same devices, and none of them failed, from step to step
 pub same_more : {S K : Type 0} {s t u : Fields S K} → SameDevices s t → SameDevices t u

@@ -1,5 +1,5 @@
 -- The first line feed.
-use Rattle.std.proofs.Common.{◌≡◌, ℕ, suc, ◌+◌, ◌<◌, ◌≤◌, Bool, true, false, not, ◌||◌, cond}
+use Rattle.std.proofs.Common.{◌≡◌, ℕ, suc, ◌+◌, ◌<◌, ◌≤◌, Bool, true, false, not, cond}
 use Rattle.std.proofs.Common.{nat_lt, ◌==◌, List, [], ◌∷◌, ◌++◌, length, take, drop, refl, ap, sym}
 use Rattle.std.proofs.Common.{◌∙◌, arith, subst, Some, None, append_assoc, Option, get_or}
 use Rattle.std.specs.List.{position, position_or_len}
@@ -49,11 +49,7 @@ before_more : (x : ℕ) (xs : List ℕ) (t : Bool) → feed x ≡ t
     → has_line_feed (take (place xs) xs) ≡ false
     → has_line_feed (take (cond (not t) (1 + place xs) 0) (x ∷ xs)) ≡ false
 before_more x xs true e h = refl
-before_more x xs false e h =
-    let s : 1 + place xs ≡ suc (place xs) = omega arith in
-    ap (λ (n : ℕ). has_line_feed (take n (x ∷ xs))) s
-    ∙ ap (λ (b : Bool). b || has_line_feed (take (place xs) xs)) e
-    ∙ h
+before_more x xs false e h = grind (arith, nat_tests, place)
 
 before : (xs : List ℕ) → has_line_feed (take (place xs) xs) ≡ false
 before [] = refl
@@ -67,9 +63,7 @@ there_more : (x : ℕ) (xs : List ℕ) (t : Bool) → feed x ≡ t
     → (place xs < length xs → There xs (place xs)) → cond (not t) (1 + place xs) 0 < suc (length xs)
     → There (x ∷ xs) (cond (not t) (1 + place xs) 0)
 there_more x xs true e k h = ap (λ (y : ℕ). y ∷ xs) (eqb-true x 10 e)
-there_more x xs false e k h =
-    let s : suc (place xs) ≡ 1 + place xs = omega arith in
-    subst (λ (n : ℕ). There (x ∷ xs) n) s (ap (λ (ys : List ℕ). x ∷ ys) (k (omega arith)))
+there_more x xs false e k h = grind (arith, nat_tests, place)
 
 there : (xs : List ℕ) → place xs < length xs → There xs (place xs)
 there [] h = absurd (omega arith)

@@ -1,4 +1,5 @@
 -- Event lines are read in no other way than they are spelled.
+use Rattle.std.proofs.lemmas.Bool.Decides.{nat_tests}
 use Rattle.std.proofs.Common.{◌≡◌, ℕ, zero, suc, ◌<◌, ◌≤◌, Bool, true, false, cond, eqb, eqb-true}
 use Rattle.std.proofs.Common.{List, [], ◌∷◌, ◌++◌, length, Option, Some, None, refl, ap, sym, ◌∙◌}
 use Rattle.std.proofs.Common.{arith, subst}
@@ -37,27 +38,18 @@ record AreRegisters (n : ℕ) (bytes : List ℕ) : Type 0 where
 -- where none follows, none follows later
 stays : (n : ℕ) (bytes : List ℕ) → optional_register_at bytes ≡ (0, bytes) → after n bytes ≡ bytes
 stays zero bytes e = refl
-stays (suc n) bytes e =
-    ap (λ (x : ℕ × List ℕ). after n x.1) e ∙ stays n bytes e
+stays (suc n) bytes e = grind (arith, nat_tests, after, stays n bytes e)
 
 none_follow : (n : ℕ) (bytes : List ℕ) → optional_register_at bytes ≡ (0, bytes)
     → after n bytes ≡ [] → AreRegisters n bytes
-none_follow n bytes e h = record {
-  texts = [];
-  fit = tt;
-  few = omega arith;
-  spelled = sym (stays n bytes e) ∙ h;
-  values = λ i l. ap (λ (b : List ℕ). (optional_register_at b).0) (stays i bytes e)
-      ∙ ap (λ (x : ℕ × List ℕ). x.0) e;
-}
+none_follow n bytes e h = grind (arith, nat_tests, stays)
 
 values_more : (n : ℕ) (bytes : List ℕ) (y : ℕ × List ℕ) (r : RegisterText)
     (rs : List RegisterText) → optional_register_at bytes ≡ y → y.0 ≡ register_value r
     → ((i : ℕ) → i < n → (optional_register_at (after i y.1)).0 ≡ value_at rs i)
     → (i : ℕ) → i < suc n → (optional_register_at (after i bytes)).0 ≡ value_at (r ∷ rs) i
 values_more n bytes y r rs e v more zero l = ap (λ (x : ℕ × List ℕ). x.0) e ∙ v
-values_more n bytes y r rs e v more (suc i) l =
-    ap (λ (x : ℕ × List ℕ). (optional_register_at (after i x.1)).0) e ∙ more i (omega (arith, l))
+values_more n bytes y r rs e v more (suc i) l = grind (arith, nat_tests, after)
 
 spaced_takes : (w : TextLaws) (bytes : List ℕ) (x : ℕ × List ℕ)
     → spaced_at register_at bytes ≡ Some x
@@ -113,11 +105,7 @@ Spells bytes event =
 same_call : (core x0 y0 x1 y1 x2 y2 x3 y3 : ℕ) → x0 ≡ y0 → x1 ≡ y1 → x2 ≡ y2 → x3 ≡ y3
     → Call core (record { x0 = x0; x1 = x1; x2 = x2; x3 = x3 })
     ≡ Call core (record { x0 = y0; x1 = y1; x2 = y2; x3 = y3 })
-same_call core x0 y0 x1 y1 x2 y2 x3 y3 a b c d =
-    ap (λ (z : ℕ). Call core (record { x0 = z; x1 = x1; x2 = x2; x3 = x3 })) a
-    ∙ ap (λ (z : ℕ). Call core (record { x0 = y0; x1 = z; x2 = x2; x3 = x3 })) b
-    ∙ ap (λ (z : ℕ). Call core (record { x0 = y0; x1 = y1; x2 = z; x3 = x3 })) c
-    ∙ ap (λ (z : ℕ). Call core (record { x0 = y0; x1 = y1; x2 = y2; x3 = z })) d
+same_call core x0 y0 x1 y1 x2 y2 x3 y3 a b c d = grind (arith, nat_tests)
 
 call_spelled : (w : TextLaws) (bytes rest : List ℕ) (event : Event) (c x : ℕ × List ℕ)
     → bytes ≡ codes "call " ++ rest → number_at rest ≡ Some c
@@ -221,5 +209,4 @@ says_event false (Some x) event e = cc
 pub line_takes : TextLaws → SpellsWhatItSays
 unfolding line_of
 line_takes w [] event e = absurd (cc)
-line_takes w (b ∷ bs) event e =
-    event_takes w (b ∷ bs) event (says_event (eqb b 35) (event_at (b ∷ bs)) event e)
+line_takes w (b ∷ bs) event e = grind (arith, nat_tests, event_takes, says_event, eqb)

@@ -1,4 +1,5 @@
 -- What a call for the next line finds.
+use Rattle.std.proofs.lemmas.Bool.Decides.{nat_tests}
 use Rattle.std.proofs.Common.{◌≡◌, ℕ, ◌<◌, ◌≤◌, Bool, true, false, List, [], ◌∷◌, length, refl, ap}
 use Rattle.std.proofs.Common.{sym, ◌∙◌, arith, Option, Some, None, Result, Ok, Err, IsErr, IsErrAnd}
 use Rattle.std.proofs.Common.{subst, nat_lt, cond, inr}
@@ -14,8 +15,7 @@ use Rattle.psci_script.proofs.Ahead.{ahead_more, write_failed_more, read_failed_
 
 not_found : (e : ReplayFault) (n : ℕ) (s m t : Progress) → FailsAhead e m t → Ahead s m
     → IsLineFront n m.block.unread → FailsLine n e s t
-not_found Read n s m t h a f =
-    (read_failed_more s m t a h.0, subst (λ (x : List ℕ). IsLineFront n x) (sym h.1) f)
+not_found Read n s m t h a f = grind (arith, nat_tests, read_failed_more)
 not_found Write n s m t h a f = write_failed_more s m t a h
 not_found e n s m t h a f = absurd h
 
@@ -25,8 +25,7 @@ pub finds_fault : (r : Result (Option Extent) ReplayFault) (e : ReplayFault) (n 
     → IsLineFront n m.block.unread
     → FindsLine n r s t
 finds_fault (Ok o) e n s m t h k a f = absurd (h.1)
-finds_fault (Err x) e n s m t h k a f =
-    subst (λ (y : ReplayFault). FailsLine n y s t) (sym h.1) (not_found e n s m t k a f)
+finds_fault (Err x) e n s m t h k a f = grind (arith, nat_tests, not_found)
 
 last_by : (b : Bool) (n : ℕ) (s t : Progress) → nat_lt 0 (length t.block.unread) ≡ b → Ahead s t
     → t.block.ended ≡ true → length t.block.unread ≤ 256 → has_line_feed t.block.unread ≡ false

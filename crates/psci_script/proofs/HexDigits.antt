@@ -1,7 +1,6 @@
 -- The hexadecimal digits of a number, written from the last to the first.
-use Rattle.std.proofs.Common.{◌≡◌, ℕ, suc, ◌+◌, ◌-◌, ◌/◌, ◌%◌, ◌^◌, ◌<◌, ◌*◌, ◌==◌}
-use Rattle.std.proofs.Common.{Bool, true, false, cond, List, [], ◌∷◌, ◌++◌, length, drop, set}
-use Rattle.std.proofs.Common.{refl, sym, ap, subst, ◌∙◌, arith}
+use Rattle.std.proofs.Common.{◌≡◌, ℕ, suc, ◌+◌, ◌-◌, ◌/◌, ◌%◌, ◌^◌, ◌<◌, ◌*◌, ◌==◌, true, false}
+use Rattle.std.proofs.Common.{List, ◌∷◌, ◌++◌, length, drop, set, ap, subst, ◌∙◌, arith}
 use Rattle.std.proofs.Math.Nat.{pow-suc}
 use Rattle.std.proofs.lemmas.Bool.Decides.{nat_tests}
 use Rattle.std.proofs.lemmas.List.{drop-set}
@@ -15,16 +14,12 @@ not_zero n h = grind (arith, nat_tests)
 
 last_digit : (k n : ℕ) (acc : List ℕ) → n / 16 ≡ 0
     → digits_onto (suc k) 16 false n acc ≡ digit_glyph false (n % 16) ∷ acc
-last_digit k n acc e =
-    ap (λ (t : Bool). cond t (digit_glyph false (n % 16) ∷ acc)
-    (digits_onto k 16 false (n / 16) (digit_glyph false (n % 16) ∷ acc))) (is_zero (n / 16) e)
+last_digit k n acc e = grind (arith, nat_tests, is_zero)
 
 more_digits : (k n : ℕ) (acc : List ℕ) → (n / 16 ≡ 0 → ⊥)
     → digits_onto (suc k) 16 false n acc
     ≡ digits_onto k 16 false (n / 16) (digit_glyph false (n % 16) ∷ acc)
-more_digits k n acc h =
-    ap (λ (t : Bool). cond t (digit_glyph false (n % 16) ∷ acc)
-    (digits_onto k 16 false (n / 16) (digit_glyph false (n % 16) ∷ acc))) (not_zero (n / 16) h)
+more_digits k n acc h = grind (arith, nat_tests, not_zero)
 
 -- so far the bytes from here on are the last digits, with so many places left before them; unless
 -- none is written yet, the number that is left is not 0
@@ -37,13 +32,7 @@ pub record IsUnderWay (n : ℕ) (tail : List ℕ) (left rest : ℕ) (bytes : Lis
 
 pub none_yet : (n : ℕ) (tail : List ℕ) → n < 2 ^ 64 → IsUnderWay n tail 16 n tail
 unfolding digits
-none_yet n tail h = record {
-  done = [];
-  bytes_are = refl;
-  others = refl;
-  small = h;
-  some = λ l. absurd (omega (arith, l));
-}
+none_yet n tail h = grind (arith, nat_tests)
 
 same_glyph : (d x : ℕ) (bytes tail : List ℕ) → d ≡ x → bytes ≡ tail → d ∷ bytes ≡ x ∷ tail
 same_glyph d x bytes tail e f = ap (λ b. b ∷ bytes) e ∙ ap (λ l. x ∷ l) f
@@ -61,18 +50,10 @@ module _ (n : ℕ) (tail : List ℕ) (j rest digit : ℕ) (bytes room : List ℕ
   others = subst (λ k. digits_onto k 16 false rest w.done ≡ digits 16 false n) places w.others
 
   pub one_more : (rest / 16 ≡ 0 → ⊥) → IsUnderWay n tail j (rest / 16) room
-  one_more h = record {
-    done = digit_glyph false (rest % 16) ∷ w.done;
-    bytes_are = r ∙ same_glyph _ _ _ _ e w.bytes_are;
-    others = sym (more_digits (48 + j) rest w.done h) ∙ others;
-    small = less rest (16 ^ j) (subst (λ k. rest < k) (pow-suc 16 j) w.small);
-    some = λ l. grind (arith, h);
-  }
+  one_more h = grind (arith, nat_tests, same_glyph, others, more_digits, less, pow-suc)
 
   pub all_done : rest / 16 ≡ 0 → room ≡ digits 16 false n ++ tail
-  all_done h =
-      r ∙ same_glyph _ _ _ _ e w.bytes_are
-      ∙ ap (λ l. l ++ tail) (sym (last_digit (48 + j) rest w.done h) ∙ others)
+  all_done h = grind (arith, nat_tests, same_glyph, last_digit, others)
 
 pub never_none : (n : ℕ) (tail : List ℕ) (rest : ℕ) (bytes : List ℕ)
     → IsUnderWay n tail 0 rest bytes → ⊥
@@ -81,10 +62,8 @@ never_none n tail rest bytes w = omega (arith, w.small, w.some (omega arith))
 -- a byte is written before the others
 pub put_before : (room : List ℕ) (at next byte : ℕ) → at < length room → at + 1 ≡ next
     → drop at (set room at byte) ≡ byte ∷ drop next room
-put_before room at next byte h e =
-    drop-set room at byte h ∙ ap (λ k. byte ∷ drop k room) e
+put_before room at next byte h e = grind (arith, nat_tests, drop-set)
 
 pub one_left : (n : ℕ) (tail : List ℕ) (left rest : ℕ) (bytes : List ℕ) → 0 < left
     → IsUnderWay n tail left rest bytes → IsUnderWay n tail (suc (left - 1)) rest bytes
-one_left n tail left rest bytes some w =
-    subst (λ k. IsUnderWay n tail k rest bytes) (omega arith) w
+one_left n tail left rest bytes some w = grind (arith, nat_tests)

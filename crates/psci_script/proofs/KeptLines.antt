@@ -1,11 +1,11 @@
 -- A kept line is one of the grammar's event lines.
-use Rattle.std.proofs.Common.{◌≡◌, ◌∙◌, ◌<◌, ◌≤◌, ◌+◌, ◌/◌, ◌%◌, ◌^◌, ℕ, zero, suc, List, []}
-use Rattle.std.proofs.Common.{◌∷◌, Some, true, false, length, refl, ap, sym, arith}
+use Rattle.std.proofs.Common.{◌≡◌, ◌<◌, ◌≤◌, ◌+◌, ◌^◌, ℕ, zero, suc, List, []}
+use Rattle.std.proofs.Common.{◌∷◌, true, false, length, refl, arith}
 use Rattle.std.specs.List.{AllByRecursion}
 use Rattle.std.specs.Char.{digit_value, is_ascii_hexdigit}
-use Rattle.std.specs.Fmt.{digit_glyph, digits, digits_onto}
+use Rattle.std.specs.Fmt.{digits, digits_onto}
 use Rattle.std.specs.Str.Parse.{AllDigits, digits_value}
-use Rattle.std.specs.Prelude.{Bool, ◌==◌, if◌then◌else◌}
+use Rattle.std.specs.Prelude.{Bool, if◌then◌else◌}
 use Rattle.std.proofs.lemmas.Bool.Decides.{nat_tests}
 use Rattle.std.proofs.lemmas.Fmt.{digits_is_IsNumeral}
 use Rattle.std.proofs.lemmas.List.{append-nil}
@@ -15,8 +15,6 @@ use Rattle.psci_script.specs.EventText.{event_of, event_text, IsRegisterText}
 use Rattle.psci_script.specs.EventText.EventText.{CallText, NumberText}
 use Rattle.psci_script.specs.EventText.RegisterText.{Hexadecimal}
 use Rattle.psci_script.specs.EventText.Word.{EnterWord, WakeWord, ResetWord, DeliverWord, TakeWord}
-use Rattle.psci_script.specs.declared.grammar.Line.TheVariants.{Event as Says}
-use Rattle.psci_script.specs.Line.{line_of}
 use Rattle.psci_world_spec.specs.declared.event.Event.{Event}
 use Rattle.psci_world_spec.specs.declared.event.Event.TheVariants.{Call, Enter, Wake, Reset}
 use Rattle.psci_world_spec.specs.declared.event.Event.TheVariants.{Deliver, Take}
@@ -33,17 +31,8 @@ by_test false one more most holds fails = fails refl
 few_digits : (k i n : ℕ) (after : List ℕ) → k < i → n < 16 ^ suc k
     → length (digits_onto i 16 false n after) ≤ length after + suc k
 few_digits k zero n after high small = absurd (omega arith)
-few_digits zero (suc i) n after high small =
-    let none : n / 16 ≡ 0 = omega arith in
-    by_test (n / 16 == 0) _ _ _ (λ e. omega arith)
-    (λ e. let never : true ≡ false = sym (ap (λ (q : ℕ). q == 0) none) ∙ e in cc)
-few_digits (suc k) (suc i) n after high small =
-    by_test (n / 16 == 0) _ _ _ (λ e. omega arith)
-    (λ e. omega (
-      arith,
-      few_digits k i (n / 16) (digit_glyph false (n % 16) ∷ after) (omega arith)
-          (omega (arith, small)),
-    ))
+few_digits zero (suc i) n after high small = grind (arith, nat_tests, by_test)
+few_digits (suc k) (suc i) n after high small = grind (arith, nat_tests, by_test, few_digits k i)
 
 most_digits : (n : ℕ) → n < 2 ^ 64 → length (digits 16 false n) ≤ 16
 unfolding digits
@@ -89,28 +78,11 @@ spelled (Deliver number) = NumberText DeliverWord number
 spelled (Take number) = NumberText TakeWord number
 
 is_spelled : (e : Event) → HasWords e → IsEventText (spelled e)
-is_spelled (Call core regs) h = (
-  h.0,
-  (
-    hex_of regs.x0 h.1,
-    (
-      hex_of regs.x1 h.2,
-      (
-        hex_of regs.x2 h.3,
-        (
-          hex_of regs.x3 h.4,
-          tt,
-        ),
-      ),
-    ),
-  ),
-  omega arith,
-)
+is_spelled (Call core regs) h = grind (arith, nat_tests, hex_of)
 is_spelled e h = h
 
 says : (e : Event) → HasWords e → event_of (spelled e) ≡ e
-says (Call core regs) h =
-    rw (value_of regs.x0 h.1, value_of regs.x1 h.2, value_of regs.x2 h.3, value_of regs.x3 h.4) refl
+says (Call core regs) h = grind (arith, nat_tests, value_of)
 says e h = refl
 
 is_line : (e : Event) → event_text (spelled e) ≡ event_line e
@@ -118,6 +90,4 @@ is_line (Call core regs) = rw (append-nil (digits 16 false regs.x3)) refl
 is_line e = refl
 
 pub reads_as_kept : ReadsAsSpelled → ReadsAsKept
-reads_as_kept reads e words =
-    ap line_of (sym (is_line e)) ∙ reads (spelled e) (is_spelled e words)
-    ∙ ap (λ (x : Event). Some (Says x)) (says e words)
+reads_as_kept reads e words = grind (arith, nat_tests, is_line, spelled, is_spelled, says)

@@ -1,6 +1,7 @@
 -- What a read or a write in steps does to the known bytes.
-use Rattle.std.proofs.Common.{ℕ, ◌+◌, List, ◌++◌, take, drop, ap, sym, ◌∙◌, Option, Some, None}
-use Rattle.std.proofs.Common.{Result, Ok, Err, OnErr, append_assoc, subst, refl, append-nil, []}
+use Rattle.std.proofs.Common.{arith, ℕ, ◌+◌, List, ◌++◌, take, drop, ap, sym, ◌∙◌, Option, Some}
+use Rattle.std.proofs.Common.{None, Result, Ok, Err, OnErr, append_assoc, refl, append-nil, []}
+use Rattle.std.proofs.lemmas.Bool.Decides.{nat_tests}
 use Rattle.std.proofs.Math.Seq.{take-add}
 use Rattle.std.specs.Prelude.{IfErr}
 use Rattle.std.specs.Io.KnownBytes.{Appends, Consumes, Keeps}
@@ -11,16 +12,14 @@ pub appends_more : (a b c : Option (List ℕ)) (x y : List ℕ) → Appends a b 
 appends_more None b c x y f g = tt
 appends_more (Some p) None c x y f g = absurd f
 appends_more (Some p) (Some q) None x y f g = absurd g
-appends_more (Some p) (Some q) (Some r) x y f g = g ∙ ap (λ (z : List ℕ). z ++ y) f
-    ∙ append_assoc p x y
+appends_more (Some p) (Some q) (Some r) x y f g = grind (arith, nat_tests, append_assoc)
 
 pub consumes_more : (a b c : Option (List ℕ)) (x y : List ℕ) → Consumes a b x → Consumes b c y
     → Consumes a c (x ++ y)
 consumes_more None b c x y f g = tt
 consumes_more (Some p) None c x y f g = absurd f
 consumes_more (Some p) (Some q) None x y f g = absurd g
-consumes_more (Some p) (Some q) (Some r) x y f g = f ∙ ap (λ (z : List ℕ). x ++ z) g
-    ∙ sym (append_assoc x y r)
+consumes_more (Some p) (Some q) (Some r) x y f g = grind (arith, nat_tests, append_assoc)
 
 pub consumes_keeps : (a b c : Option (List ℕ)) (x : List ℕ) → Consumes a b x → Keeps b c
     → Consumes a c x
@@ -33,9 +32,7 @@ consumes_keeps (Some p) (Some q) (Some r) x f k = f ∙ ap (λ (z : List ℕ). x
 pub wrote : (done count : ℕ) (bytes : List ℕ) (a b c : Option (List ℕ))
     → Appends a b (take done bytes) → Appends b c (take count (drop done bytes))
     → Appends a c (take (done + count) bytes)
-wrote done count bytes a b c f g =
-    let P : List ℕ → Type 0 = λ x. Appends a c x in
-    subst P (sym (take-add done count bytes)) (appends_more a b c _ _ f g)
+wrote done count bytes a b c f g = grind (arith, nat_tests, take-add, appends_more)
 
 -- of what a fault is and why it came, what it is
 pub fault_alone : {A E : Type 0} (r : Result A E) (P : E → Type 0) (Q : Type 0)

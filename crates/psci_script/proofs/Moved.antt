@@ -27,38 +27,26 @@ moved xs i j h k =
 pub filled : (n count : ℕ) (xs buffer rest : List ℕ) → n ≤ length xs → count ≤ length buffer
     → take (n + count) (take n xs ++ (buffer ++ rest)) ≡ take n xs ++ take count buffer
 filled n count xs buffer rest h k =
-    let l : length (take n xs) ≡ n = length-take-le n xs h in
-    ap (λ (m : ℕ). take (m + count) (take n xs ++ (buffer ++ rest))) (sym l)
-    ∙ take-append-add (take n xs) (buffer ++ rest) count
-    ∙ ap (λ (x : List ℕ). take n xs ++ x) (take-append-le count buffer rest k)
+    grind (arith, nat_tests, length-take-le, take-append-add, take-append-le)
 
 -- the bytes of the room, of which the first n waited, after a read behind them
 pub refilled : (n k count most : ℕ) (xs buffer rest waiting : List ℕ) → n ≤ length xs
     → count ≤ length buffer → n + count ≤ most → take n xs ≡ waiting
     → take (n + count) (take most (put_mid n k xs buffer ++ rest)) ≡ waiting ++ take count buffer
 refilled n k count most xs buffer rest waiting h m l e =
-    let all = put_mid n k xs buffer ++ rest in
-    let post = post_of n k xs in
-    take-take (n + count) most all l
-    ∙ ap (λ (x : List ℕ). take (n + count) x) (append_assoc (take n xs) (buffer ++ post) rest
-    ∙ ap (λ (x : List ℕ). take n xs ++ x) (append_assoc buffer post rest))
-    ∙ filled n count xs buffer (post ++ rest) h m
-    ∙ ap (λ (x : List ℕ). x ++ take count buffer) e
+    grind (arith, nat_tests, put_mid, post_of, take-take, append_assoc, filled)
 
 pub some_came : (n : ℕ) (buffer : List ℕ) → n ≤ length buffer → nat_lt 0 n ≡ true
     → 0 < length (take n buffer)
 some_came n buffer h e = omega (arith, length-take-le n buffer h, ltb-true 0 n e)
 
 pub none_came : (n : ℕ) (buffer : List ℕ) → nat_lt 0 n ≡ false → take n buffer ≡ []
-none_came n buffer e =
-    let z : n ≡ 0 = (let b : n ≤ 0 = ltb-false 0 n e in omega arith) in
-    ap (λ (k : ℕ). take k buffer) z
+none_came n buffer e = grind (arith, nat_tests, ltb-false)
 
 -- how many bytes wait
 pub waiting_length : (xs waiting : List ℕ) (i j : ℕ) → i ≤ j → j ≤ length xs
     → drop i (take j xs) ≡ waiting → length waiting ≡ j - i
-waiting_length xs waiting i j h k e =
-    ap length (sym e) ∙ length-drop i (take j xs) ∙ ap (λ (n : ℕ). n - i) (length-take-le j xs k)
+waiting_length xs waiting i j h k e = grind (arith, nat_tests, length-drop, length-take-le)
 
 -- the same after a read that failed
 pub unfilled : (n k most : ℕ) (xs buffer rest waiting : List ℕ) → n ≤ length xs → n ≤ most

@@ -3,9 +3,7 @@ use Rattle.std.proofs.Common.{◌≡◌, ℕ, List, [], ◌∷◌, ◌++◌, Res
 use Rattle.std.specs.Prelude.{codes, Ok}
 use Rattle.std.specs.Fmt.{digits}
 use Rattle.psci_board.specs.ReadWords.{literal_at, number_at, hex_at, spaced_at}
-use Rattle.psci_board.specs.Reading.{range_at, at_most, more_at, list_at, member_at, tree_at}
-use Rattle.psci_board.specs.Reading.{board_text}
-use Rattle.psci_board.specs.Verdict.{board_of, verdict}
+use Rattle.psci_board.proofs.Readings.{judging}
 use Rattle.psci_world_spec.proofs.Scripts.{computing}
 use Rattle.psci_script.specs.declared.fault.Replayed.{Replayed}
 use Rattle.psci_script.specs.declared.fault.ReplayFault.{ReplayFault}
@@ -22,8 +20,7 @@ reading = tt
 
 -- what an example unfolds to answer a script that is written out
 unfoldable pub answering : Unit {0}
-unfolding transcript transcript_of_rest lines reading board_of verdict board_text tree_at member_at
-    list_at more_at at_most range_at computing digits
+unfolding transcript transcript_of_rest lines reading judging computing digits
 answering = tt
 
 -- lines, each with its line feed

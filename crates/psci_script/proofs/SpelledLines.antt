@@ -1,7 +1,8 @@
 -- Event lines are read as they are spelled.
-use Rattle.std.proofs.Common.{◌≡◌, ℕ, ◌≤◌, List, [], ◌∷◌, ◌++◌, length, Option, Some, refl, ap, ◌∙◌}
+use Rattle.std.proofs.lemmas.Bool.Decides.{nat_tests}
+use Rattle.std.proofs.Common.{◌≡◌, ℕ, ◌≤◌, List, [], ◌∷◌, ◌++◌, length, Some, refl, ap}
 use Rattle.std.proofs.Common.{arith, subst}
-use Rattle.std.specs.Prelude.{option_map, unwrap_or}
+use Rattle.std.specs.Prelude.{option_map}
 use Rattle.std.specs.Fmt.{decimal}
 use Rattle.std.proofs.lemmas.List.{append-nil}
 use Rattle.psci_board.specs.Spelling.{TextLaws, IsNumber}
@@ -29,8 +30,7 @@ spaced_again w r rs h = register_again w r (registers_text rs) h (registers_end 
 optional_again : (w : TextLaws) (r : RegisterText) (rs : List RegisterText) → IsRegisterText r
     → optional_register_at (registers_text (r ∷ rs)) ≡ (register_value r, registers_text rs)
 unfolding optional_register_at
-optional_again w r rs h = ap (λ (o : Option (ℕ × List ℕ)). unwrap_or o
-    (0, registers_text (r ∷ rs))) (spaced_again w r rs h)
+optional_again w r rs h = grind (arith, nat_tests, spaced_again)
 
 optional_none : optional_register_at [] ≡ (0, [])
 unfolding optional_register_at spaced_at literal_at
@@ -97,7 +97,5 @@ word_line word n = refl
 
 pub line_again : TextLaws → ReadsAsSpelled
 unfolding line_of event_at literal_at
-line_again w (NumberText word n) h =
-    word_line word n ∙ ap (option_map Says) (word_again w word n h)
-line_again w (CallText core x0 rs) h =
-    ap (option_map Says) (call_again w core x0 rs h.0 h.1.0 h.1.1 h.2)
+line_again w (NumberText word n) h = grind (arith, nat_tests, word_line, word_again)
+line_again w (CallText core x0 rs) h = grind (arith, nat_tests, call_again)

@@ -1,4 +1,5 @@
 -- The lines of bytes that begin with a line.
+use Rattle.std.proofs.lemmas.Bool.Decides.{nat_tests}
 use Rattle.std.proofs.Common.{◌≡◌, ℕ, ◌≤◌, Bool, true, false, ◌||◌, ◌==◌, cond, List, [], ◌∷◌, ◌++◌}
 use Rattle.std.proofs.Common.{length, refl, ap, ◌∙◌, arith}
 use Rattle.psci_script.specs.Lines.{lines, in_line, has_line_feed}
@@ -23,9 +24,7 @@ lines_none = refl
 pub lines_whole : (l rest : List ℕ) → has_line_feed l ≡ false
     → lines (l ++ 10 ∷ rest) ≡ l ∷ lines rest
 lines_whole [] rest h = lines_feed rest
-lines_whole (b ∷ bs) rest h =
-    let f = or_false (b == 10) (has_line_feed bs) h in
-    lines_more b (bs ++ 10 ∷ rest) f.0 ∙ ap (in_line b) (lines_whole bs rest f.1)
+lines_whole (b ∷ bs) rest h = grind (arith, nat_tests, or_false, lines_more, lines_whole bs rest)
 
 -- the front of a line, whatever follows
 pub record Longer (l : List ℕ) (all : List (List ℕ)) : Type 0 where
@@ -36,12 +35,7 @@ pub record Longer (l : List ℕ) (all : List (List ℕ)) : Type 0 where
 
 in_line_long : (b : ℕ) (bs : List ℕ) (all : List (List ℕ)) → Longer bs all
     → Longer (b ∷ bs) (in_line b all)
-in_line_long b bs all h = record {
-  first = b ∷ h.first;
-  others = h.others;
-  is = ap (in_line b) h.is;
-  long = (let k : length bs ≤ length h.first = h.long in omega arith);
-}
+in_line_long b bs all h = grind (arith, nat_tests)
 
 in_line_any : (b : ℕ) (all : List (List ℕ)) → Longer (b ∷ []) (in_line b all)
 in_line_any b [] = record { first = b ∷ []; others = []; is = refl; long = omega arith }
@@ -52,31 +46,20 @@ along l x y e h = record { first = h.first; others = h.others; is = e ∙ h.is; 
 
 pub lines_long : (b : ℕ) (bs rest : List ℕ) → has_line_feed (b ∷ bs) ≡ false
     → Longer (b ∷ bs) (lines ((b ∷ bs) ++ rest))
-lines_long b [] rest h =
-    let f = or_false (b == 10) false h in
-    along (b ∷ []) (lines (b ∷ rest)) (in_line b (lines rest)) (lines_more b rest f.0)
-    (in_line_any b (lines rest))
+lines_long b [] rest h = grind (arith, nat_tests, or_false, along, lines_more, in_line_any)
 lines_long b (c ∷ bs) rest h =
-    let f = or_false (b == 10) (has_line_feed (c ∷ bs)) h in
-    along (b ∷ c ∷ bs) (lines (b ∷ ((c ∷ bs) ++ rest))) (in_line b (lines ((c ∷ bs) ++ rest)))
-    (lines_more b ((c ∷ bs) ++ rest) f.0)
-    (in_line_long b (c ∷ bs) (lines ((c ∷ bs) ++ rest)) (lines_long c bs rest f.1))
+    grind (arith, nat_tests, or_false, along, lines_more, in_line_long, lines_long c bs rest)
 
 -- the last line, without a line feed
 pub lines_last : (b : ℕ) (bs : List ℕ) → has_line_feed (b ∷ bs) ≡ false
     → lines (b ∷ bs) ≡ (b ∷ bs) ∷ []
-lines_last b [] h =
-    let f = or_false (b == 10) false h in lines_more b [] f.0 ∙ ap (in_line b) lines_none
-lines_last b (c ∷ bs) h =
-    let f = or_false (b == 10) (has_line_feed (c ∷ bs)) h in
-    lines_more b (c ∷ bs) f.0 ∙ ap (in_line b) (lines_last c bs f.1)
+lines_last b [] h = grind (arith, nat_tests, or_false, lines_more, lines_none)
+lines_last b (c ∷ bs) h = grind (arith, nat_tests, or_false, lines_more, lines_last c bs)
 
 some_by : (b : ℕ) (bs : List ℕ) (t : Bool) → (b == 10) ≡ t
     → Longer [] (cond t ([] ∷ lines bs) (in_line b (lines bs)))
 some_by b bs true e = record { first = []; others = lines bs; is = refl; long = omega arith }
-some_by b bs false e =
-    let h = in_line_any b (lines bs) in
-    record { first = h.first; others = h.others; is = h.is; long = omega arith }
+some_by b bs false e = grind (arith, nat_tests, in_line_any)
 
 -- some bytes have a first line
 pub lines_some : (b : ℕ) (bs : List ℕ) → Longer [] (lines (b ∷ bs))

@@ -20,13 +20,12 @@ use Rattle.psci_script.specs.Progress.{Ahead, Progress, progress, IsLine, IsLine
 use Rattle.psci_script.specs.Progress.{FindsLine, first_progress}
 use Rattle.psci_script.specs.Run.{BoardRead, IsNoDevice, IsWithinBlock, LineRefused}
 use Rattle.psci_script.specs.ScriptRun.{ScriptRun, with_record}
-use Rattle.psci_script.specs.Told.{Ended, EndsBy, Goes, IsUnderWay, LineTold, Runs}
-use Rattle.psci_script.specs.Told.{remaining}
+use Rattle.psci_script.specs.Told.{Ended, EndsBy, Goes, IsUnderWay, LineTold, Runs, remaining}
 use Rattle.psci_script.proofs.Accounts.{account_is, blank_remains, event_remains, unread_remains}
+use Rattle.psci_script.proofs.Accounts.{by_board, by_first}
 use Rattle.psci_script.proofs.Ends.{ends_faulty, ends_line, stopped, failed}
 use Rattle.psci_script.proofs.Known.{appends_none, consumes_none}
 use Rattle.psci_script.proofs.Taking.{goes_ahead, goes_line, skipped}
-use Rattle.psci_script.proofs.Accounts.{by_board, by_first}
 
 pub if_err_so : {X : Type 0} (r : Result X ReplayFault) (e : ReplayFault) (P : ReplayFault → Type 0)
     → IsErr r × IsErrAnd r (λ f. f ≡ e) → P e → IfErr r P

@@ -52,16 +52,11 @@ no_prefix : (ds rest : List ℕ) → (1 < length ds → 48 < get_or ds 0 0) → 
 unfolding literal_at
 no_prefix [] [] h e = refl
 no_prefix [] (b ∷ bs) h e = rw e refl
-no_prefix (d ∷ []) rest h e =
-    none_either (d == 48) (literal_at (120 ∷ []) rest) (not_x rest e)
-no_prefix (d ∷ f ∷ fs) rest h e =
-    ap (λ (t : Bool). cond t (literal_at (120 ∷ []) ((f ∷ fs) ++ rest)) None)
-    (not_zero d (h (omega arith)))
+no_prefix (d ∷ []) rest h e = grind (arith, nat_tests, none_either, not_x)
+no_prefix (d ∷ f ∷ fs) rest h e = grind (arith, nat_tests, not_zero)
 
 first_digit : (n : ℕ) → IsNumber n → 1 < length (decimal n) → 48 < get_or (decimal n) 0 0
-first_digit zero h l =
-    let one : decimal 0 ≡ 48 ∷ [] = decimal_digit 0 (lit< tt) in
-    absurd (omega (arith, l, ap length one))
+first_digit zero h l = grind (arith, nat_tests, decimal_digit, lit<)
 first_digit (suc n) h l = first_decimal (suc n) (omega arith) h
 
 no_hex : (n : ℕ) (rest : List ℕ) → IsNumber n → IsEnd rest → hex_at (decimal n ++ rest) ≡ None
@@ -75,9 +70,7 @@ pub register_again : (w : TextLaws) (r : RegisterText) (rest : List ℕ) → IsR
     → register_at (register_text r ++ rest) ≡ Some (register_value r, rest)
 unfolding register_at
 register_again w (Decimal n) rest h e = rw (no_hex n rest h e, number_again w n rest h e) refl
-register_again w (Hexadecimal ds) rest h e =
-    ap (λ (o : Option (List ℕ × List ℕ)). or_else (option_map hex_value o)
-    (number_at (hex ds ++ rest))) (w.hexadecimals.again ds rest h (ends_hexdigits rest e))
+register_again w (Hexadecimal ds) rest h e = grind (arith, nat_tests, ends_hexdigits)
 
 -- the register that was read, and its spelling
 pub record IsRegister (bytes : List ℕ) (x : ℕ × List ℕ) : Type 0 where

@@ -1,8 +1,8 @@
 use Rattle.psci_board.proofs.Terms.{◌*◌, ◌+◌, ◌-◌, ◌/◌, ◌<◌, ◌^◌, ◌∙◌, ◌≡◌, [], ap, arith, child_in}
-use Rattle.psci_board.proofs.Terms.{drop, get_or, get_or_default, index_named, length, List, Some}
-use Rattle.psci_board.proofs.Terms.{subst, sum, sym, to_le_bytes, w64, ℕ}
-use Rattle.psci_board.proofs.NamedDown.{none_above, field_step, none_highest, named_highest}
-use Rattle.psci_board.proofs.NamedDown.{inside_step}
+use Rattle.psci_board.proofs.Terms.{drop, get_or, get_or_default, index_named, length, List}
+use Rattle.psci_board.proofs.Terms.{nat_tests, Some, subst, sum, sym, to_le_bytes, w64, ℕ}
+use Rattle.psci_board.proofs.Named.{none_above, field_step, none_highest, named_highest}
+use Rattle.psci_board.proofs.Named.{inside_step}
 use Rattle.psci_board.proofs.affinity.place_of.Goals as goal
 
 pub returns-then-highest-from : goal.returns-then-highest-from
@@ -23,40 +23,10 @@ returns-then-highest-from c =
     )))
 
 pub loop-level-init : goal.loop-level-init
-loop-level-init c =
-    let levels : List (List ℕ) = c.args.levels.now in
-    let m : ℕ = length levels - 1 in
-    let fits : m < length levels = omega (arith, c.if-low-count.false) in
-    let own : List ℕ = c.index-levels-top.result in
-    let level : own ≡ get_or levels m [] =
-    c.index-levels-top.is ∙ get_or_default levels m own [] fits in (
-      omega (arith, c.requires.low, c.if-low-count.false),
-      named_highest levels c.args.word m c.requires.tree (omega (arith, fits)) (omega (
-        arith,
-        c.if-highest-from.false,
-        c.from.ensures,
-        c.all_children.ensures,
-        ap (λ (w : List ℕ). sum w) level,
-      )),
-    )
+loop-level-init c = grind (arith, nat_tests, get_or_default, named_highest)
 
 pub own_child-requires : goal.own_child-requires
-own_child-requires c =
-    let levels : List (List ℕ) = c.args.levels.now in
-    let m : ℕ = c.loop-level.level - 1 in
-    let next : m + 1 ≡ c.loop-level.level = omega (arith, c.loop-level-test.true) in
-    let fits : m < length levels = omega (arith, c.loop-level-test.true) in
-    let own : List ℕ = c.index-levels-level.result in
-    let level : own ≡ get_or levels m [] =
-    c.index-levels-level.is ∙ get_or_default levels m own [] fits in
-    omega (
-      arith,
-      inside_step levels c.args.word m c.loop-level.place c.requires.tree fits
-          (subst
-          (λ j. index_named (drop j levels) (c.args.word / 2 ^ (8 * j)) ≡ Some c.loop-level.place)
-          (sym next) c.loop-level.invariant.1),
-      ap (λ (w : List ℕ). length w) level,
-    )
+own_child-requires c = grind (arith, nat_tests, get_or_default, inside_step)
 
 pub loop-level-preserved : goal.loop-level-preserved
 loop-level-preserved c =
@@ -106,10 +76,4 @@ returns-in_err-place c =
     ∙ sym c.in_err-place.ensures)))
 
 pub returns : goal.returns
-returns c =
-    let levels : List (List ℕ) = c.args.levels.now in
-    let last : c.loop-level.level ≡ c.args.low =
-    omega (arith, c.loop-level-test.false, c.loop-level.invariant.0) in
-    sym
-    (subst (λ j. index_named (drop j levels) (c.args.word / 2 ^ (8 * j)) ≡ Some c.loop-level.place)
-    last c.loop-level.invariant.1)
+returns c = grind (arith, nat_tests)

@@ -1,56 +1,21 @@
-use Rattle.psci_board.proofs.Terms.{◌*◌, ◌+◌, ◌<◌, ◌∙◌, ◌≡◌, ◌≤◌, arith, common_steps, digit_value}
-use Rattle.psci_board.proofs.Terms.{digits_value, digits_value_more, get_or, is_ascii_hexdigit}
-use Rattle.psci_board.proofs.Terms.{length, nat_tests, prefix_len, sym, take, value_and_count}
+use Rattle.psci_board.proofs.Terms.{◌≡◌, ◌≤◌, arith, common_steps, digit_value}
+use Rattle.psci_board.proofs.Terms.{digits_value_more, get_or, is_ascii_hexdigit}
+use Rattle.psci_board.proofs.Terms.{nat_tests, prefix_len}
 use Rattle.psci_board.proofs.Values.{one_more, no_more, all_of_them, fifteen_fit, few, too_many}
 use Rattle.psci_board.proofs.Values.{hexadecimal_yes, hexadecimal_no}
 use Rattle.psci_board.proofs.digits.hexadecimal.Goals as goal
 
 pub returns-then-count-eq16 : goal.returns-then-count-eq16
-returns-then-count-eq16 c =
-    let text = c.args.text.now in
-    let i = c.loop-byte.count in
-    let l : i < length text = grind (arith, common_steps) in
-    let small : digit_value (get_or text i 0) < 16 = grind (arith, common_steps) in
-    let more : i + 1 ≤ prefix_len is_ascii_hexdigit text =
-    one_more is_ascii_hexdigit text i (omega arith) l (hexadecimal_yes (get_or text i 0) small) in
-    let last : i ≡ 16 = grind (arith, nat_tests) in
-    too_many (prefix_len is_ascii_hexdigit text) (value_and_count 16 is_ascii_hexdigit text)
-    (omega arith)
+returns-then-count-eq16 c = grind (arith, nat_tests, one_more, hexadecimal_yes, too_many)
 
 pub overflow_mul-value : goal.overflow_mul-value
-overflow_mul-value c =
-    let text = c.args.text.now in
-    let i = c.loop-byte.count in
-    let v = c.loop-byte.invariant in
-    let l : i < length text = grind (arith, common_steps) in
-    let less : i ≤ 15 = grind (arith, nat_tests) in
-    let small = fifteen_fit text i v.2 l less in
-    omega (arith, small, v.3)
+overflow_mul-value c = grind (arith, nat_tests, fifteen_fit)
 
 pub overflow_add-value : goal.overflow_add-value
-overflow_add-value c =
-    let text = c.args.text.now in
-    let i = c.loop-byte.count in
-    let v = c.loop-byte.invariant in
-    let l : i < length text = grind (arith, common_steps) in
-    let less : i ≤ 15 = grind (arith, nat_tests) in
-    let small = fifteen_fit text i v.2 l less in
-    let digit : c.from.result < 16 = grind (arith, nat_tests) in
-    omega (arith, small, v.3, digit)
+overflow_add-value c = grind (arith, nat_tests, fifteen_fit)
 
 pub loop-byte-preserved : goal.loop-byte-preserved
-loop-byte-preserved c =
-    let text = c.args.text.now in
-    let i = c.loop-byte.count in
-    let l : i < length text = grind (arith, common_steps) in
-    let small : digit_value (get_or text i 0) < 16 = grind (arith, common_steps) in
-    let more : i + 1 ≤ prefix_len is_ascii_hexdigit text =
-    one_more is_ascii_hexdigit text i (omega arith) l (hexadecimal_yes (get_or text i 0) small) in
-    let value = digits_value_more 16 text i l in
-    let next : c.loop-byte.value * 16 + c.from.result
-    ≡ digits_value 16 (take i text) * 16 + digit_value (get_or text i 0) =
-    grind (arith, nat_tests) in
-    (omega arith, grind (arith, nat_tests), more, next ∙ sym value)
+loop-byte-preserved c = grind (arith, nat_tests, one_more, hexadecimal_yes, digits_value_more)
 
 pub returns-after-loop-byte : goal.returns-after-loop-byte
 returns-after-loop-byte c =

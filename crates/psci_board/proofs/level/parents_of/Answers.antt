@@ -1,4 +1,4 @@
-use Rattle.psci_board.proofs.Terms.{arith, length_push, sum_by_more, take_all, ℕ}
+use Rattle.psci_board.proofs.Terms.{arith, length_push, nat_tests, sum_by_more, take_all}
 use Rattle.psci_board.proofs.Groups.{one_more_child}
 use Rattle.psci_board.proofs.level.parents_of.Goals as goal
 
@@ -15,21 +15,13 @@ loop-child-preserved c =
     }
 
 pub loop-place-preserved : goal.loop-place-preserved
-loop-place-preserved c =
-    let at = c.loop-child in
-    let counts = c.args.counts.now in
-    let more = sum_by_more (λ (x : ℕ). x) counts c.loop-place.place 0 c.loop-place-test.true in
-    record { len = omega arith; each = at.invariant.each }
+loop-place-preserved c = grind (arith, nat_tests, sum_by_more)
 
 pub loop-child-init : goal.loop-child-init
 loop-child-init c = record { len = omega arith; each = c.loop-place.invariant.each }
 
 pub returns-clause-len : goal.returns-clause-len
-returns-clause-len c =
-    let all = take_all c.loop-place.place c.args.counts.now c.loop-place-test.false in
-    rw all at c.loop-place.invariant.len
+returns-clause-len c = grind (arith, nat_tests, take_all)
 
 pub returns-clause-each : goal.returns-clause-each
-returns-clause-each c =
-    let len = returns-clause-len c in
-    λ i h. c.loop-place.invariant.each i (omega arith)
+returns-clause-each c = grind (arith, nat_tests, returns-clause-len)

@@ -1,63 +1,6 @@
 use Rattle.psci_board.proofs.Terms.{◌∙◌, sym}
-use Rattle.psci_board.proofs.KeptText.{kept_text, some, none}
+use Rattle.psci_board.proofs.Fronts.{kept_text, some, none}
 use Rattle.psci_board.proofs.text.whole_text.Goals as goal
-
-pub returns-in_err-tree : goal.returns-in_err-tree
-returns-in_err-tree c =
-    c.from_residual.ensures ∙ sym (kept_text c.args.text.now ∙ none _ c.in_err-tree.ensures)
-
-pub returns-in_err-literal : goal.returns-in_err-literal
-returns-in_err-literal c =
-    c.from_residual-in_err-literal.ensures ∙ sym (kept_text c.args.text.now
-    ∙ some _ c.in_ok-tree.ensures ∙ none _ c.in_err-literal.ensures)
-
-pub returns-in_err-ranges : goal.returns-in_err-ranges
-returns-in_err-ranges c =
-    c.from_residual-in_err-ranges.ensures ∙ sym (kept_text c.args.text.now
-    ∙ some _ c.in_ok-tree.ensures ∙ some _ c.in_ok-literal.ensures
-    ∙ none _ c.in_err-ranges.ensures)
-
-pub returns-in_err-literal-2 : goal.returns-in_err-literal-2
-returns-in_err-literal-2 c =
-    c.from_residual-in_err-literal-2.ensures ∙ sym (kept_text c.args.text.now
-    ∙ some _ c.in_ok-tree.ensures ∙ some _ c.in_ok-literal.ensures ∙ some _ c.in_ok-ranges.ensures
-    ∙ none _ c.in_err-literal-2.ensures)
-
-pub returns-in_err-boot : goal.returns-in_err-boot
-returns-in_err-boot c =
-    c.from_residual-in_err-boot.ensures ∙ sym (kept_text c.args.text.now
-    ∙ some _ c.in_ok-tree.ensures ∙ some _ c.in_ok-literal.ensures ∙ some _ c.in_ok-ranges.ensures
-    ∙ some _ c.in_ok-literal-2.ensures ∙ none _ c.in_err-boot.ensures)
-
-pub returns-in_err-literal-3 : goal.returns-in_err-literal-3
-returns-in_err-literal-3 c =
-    c.from_residual-in_err-literal-3.ensures ∙ sym (kept_text c.args.text.now
-    ∙ some _ c.in_ok-tree.ensures ∙ some _ c.in_ok-literal.ensures ∙ some _ c.in_ok-ranges.ensures
-    ∙ some _ c.in_ok-literal-2.ensures ∙ some _ c.in_ok-boot.ensures
-    ∙ none _ c.in_err-literal-3.ensures)
-
-pub returns-in_err-starts : goal.returns-in_err-starts
-returns-in_err-starts c =
-    c.from_residual-in_err-starts.ensures ∙ sym (kept_text c.args.text.now
-    ∙ some _ c.in_ok-tree.ensures ∙ some _ c.in_ok-literal.ensures ∙ some _ c.in_ok-ranges.ensures
-    ∙ some _ c.in_ok-literal-2.ensures ∙ some _ c.in_ok-boot.ensures
-    ∙ some _ c.in_ok-literal-3.ensures ∙ none _ c.in_err-starts.ensures)
-
-pub returns-in_err-literal-4 : goal.returns-in_err-literal-4
-returns-in_err-literal-4 c =
-    c.from_residual-in_err-literal-4.ensures ∙ sym (kept_text c.args.text.now
-    ∙ some _ c.in_ok-tree.ensures ∙ some _ c.in_ok-literal.ensures ∙ some _ c.in_ok-ranges.ensures
-    ∙ some _ c.in_ok-literal-2.ensures ∙ some _ c.in_ok-boot.ensures
-    ∙ some _ c.in_ok-literal-3.ensures ∙ some _ c.in_ok-starts.ensures
-    ∙ none _ c.in_err-literal-4.ensures)
-
-pub returns-in_err-lives : goal.returns-in_err-lives
-returns-in_err-lives c =
-    c.from_residual-in_err-lives.ensures ∙ sym (kept_text c.args.text.now
-    ∙ some _ c.in_ok-tree.ensures ∙ some _ c.in_ok-literal.ensures ∙ some _ c.in_ok-ranges.ensures
-    ∙ some _ c.in_ok-literal-2.ensures ∙ some _ c.in_ok-boot.ensures
-    ∙ some _ c.in_ok-literal-3.ensures ∙ some _ c.in_ok-starts.ensures
-    ∙ some _ c.in_ok-literal-4.ensures ∙ none _ c.in_err-lives.ensures)
 
 pub returns-in_err-format : goal.returns-in_err-format
 returns-in_err-format c =

@@ -1,3 +1,4 @@
+use Rattle.psci_board.proofs.Terms.{nat_tests}
 use Rattle.psci_board.proofs.Terms.{◌∙◌, ◌∷◌, ◌≡◌, ap, arith, member_at, more_at, refl, sym}
 use Rattle.psci_board.specs.Summary.{with_members}
 use Rattle.psci_board.proofs.More.{member_shortens, spaced_shortens, more_some, more_none}
@@ -7,15 +8,10 @@ use Rattle.psci_board.proofs.More.{spaced_unclosed}
 use Rattle.psci_board.proofs.tree_text.members.Goals as goal
 
 pub returns-in_err-literal : goal.returns-in_err-literal
-returns-in_err-literal c =
-    let e = list_unopened member_at c.args.text.now (sym c.in_err-literal.ensures) in
-    record { read = rw (e, c.from_residual.ensures) refl; summary = rw e tt }
+returns-in_err-literal c = grind (arith, nat_tests, list_unopened)
 
 pub returns-in_err-rest : goal.returns-in_err-rest
-returns-in_err-rest c =
-    let e = list_empty member_at c.args.text.now _ (sym c.in_ok-literal.ensures)
-    (read_none _ c.in_err-rest.ensures.read) in
-    record { read = rw (e, c.from_residual-in_err-rest.ensures) refl; summary = rw e tt }
+returns-in_err-rest c = grind (arith, nat_tests, list_empty, read_none)
 
 pub loop-after-init : goal.loop-after-init
 loop-after-init c = record { summary = refl; rest = refl }

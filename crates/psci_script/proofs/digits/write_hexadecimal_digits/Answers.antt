@@ -1,42 +1,23 @@
+use Rattle.std.proofs.lemmas.Bool.Decides.{nat_tests}
 use Rattle.std.proofs.Common.{◌≡◌, ◌+◌, ◌-◌, drop, subst, arith}
 use Rattle.psci_script.proofs.HexDigits.{IsUnderWay, all_done, never_none, none_yet, one_left}
 use Rattle.psci_script.proofs.HexDigits.{one_more, put_before}
 use Rattle.psci_script.proofs.digits.write_hexadecimal_digits.Goals as goal
 
 pub loop-left-init : goal.loop-left-init
-loop-left-init c =
-    let n = c.args.number in
-    let tail = drop c.args.end c.args.room.now in
-    let front : c.args.end ≡ c.args.end - 16 + 16 = omega (arith, c.requires.least) in (
-      omega arith,
-      subst (λ at. IsUnderWay n tail 16 n (drop at c.args.room.now)) front
-          (none_yet n tail c.ranges.number.fits),
-    )
+loop-left-init c = grind (arith, nat_tests, none_yet)
 
 pub overflow_add-start : goal.overflow_add-start
-overflow_add-start c =
-    omega (arith, c.ranges.end.fits, c.requires.least, c.loop-left.invariant.0)
+overflow_add-start c = grind (arith, nat_tests)
 
 pub bounds-room-start : goal.bounds-room-start
-bounds-room-start c =
-    omega (arith, c.requires, c.loop-left.invariant.0, c.loop-left.auto.room, c.loop-left-test.true)
+bounds-room-start c = grind (arith, nat_tests)
 
 pub returns-then-rest-eq0-clause-within : goal.returns-then-rest-eq0-clause-within
-returns-then-rest-eq0-clause-within c =
-    omega (arith, c.requires.least, c.loop-left.invariant.0, c.loop-left-test.true)
+returns-then-rest-eq0-clause-within c = grind (arith, nat_tests)
 
 pub returns-then-rest-eq0-clause-written : goal.returns-then-rest-eq0-clause-written
-returns-then-rest-eq0-clause-written c =
-    let l = c.loop-left in
-    let tail = drop c.args.end c.args.room.now in
-    let bytes = drop (c.args.end - 16 + l.left) l.room in
-    let w = one_left c.args.number tail l.left l.rest bytes c.loop-left-test.true l.invariant.1 in
-    all_done c.args.number tail (l.left - 1) l.rest c.digit.result bytes _ w
-    (c.digit.ensures (omega arith))
-    (put_before l.room (c.args.end - 16 + (l.left - 1)) (c.args.end - 16 + l.left) c.digit.result
-    (omega (arith, c.requires, l.invariant.0, l.auto.room, c.loop-left-test.true))
-    (omega (arith, c.loop-left-test.true)))
-    c.if-rest-eq0.true
+returns-then-rest-eq0-clause-written c = grind (arith, nat_tests, one_left, all_done, put_before)
 
 pub loop-left-preserved : goal.loop-left-preserved
 loop-left-preserved c =

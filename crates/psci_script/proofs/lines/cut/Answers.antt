@@ -1,4 +1,5 @@
-use Rattle.std.proofs.Common.{sym}
+use Rattle.std.proofs.Common.{arith, sym}
+use Rattle.std.proofs.lemmas.Bool.Decides.{nat_tests}
 use Rattle.psci_script.proofs.Cutting.{whole_cut, part_cut, none_cut}
 use Rattle.psci_script.proofs.lines.cut.Goals as goal
 
@@ -10,5 +11,4 @@ returns-in-None c =
     (c.if-bytes-gt-LONGEST_LINE.true, none_cut c.args.bytes.now (sym (c.in-None.ensures {u = tt})))
 
 pub returns-in-None-2 : goal.returns-in-None-2
-returns-in-None-2 c =
-    part_cut c.args.bytes.now (sym (c.in-None.ensures {u = tt})) c.if-bytes-gt-LONGEST_LINE.false
+returns-in-None-2 c = grind (arith, nat_tests, part_cut)

@@ -1,5 +1,5 @@
-use Rattle.psci_board.proofs.Terms.{◌*◌, ◌/◌, ◌^◌, ◌≡◌, ap, div-one, drop, index_named, List, refl}
-use Rattle.psci_board.proofs.Terms.{sym, ℕ}
+use Rattle.psci_board.proofs.Terms.{◌*◌, ◌/◌, ◌^◌, ◌≡◌, ap, arith, div-one, drop, index_named, List}
+use Rattle.psci_board.proofs.Terms.{nat_tests, sym, ℕ}
 use Rattle.psci_board.specs.Board.{core_of}
 use Rattle.psci_board.proofs.Named.{core_inside}
 use Rattle.psci_board.proofs.board.Board.core_of.Goals as goal
@@ -11,15 +11,11 @@ whole levels word = ap (index_named levels) (div-one word)
 
 pub returns-in_err-place-clause-core : goal.returns-in_err-place-clause-core
 unfolding core_of
-returns-in_err-place-clause-core c =
-    let e = rw (c.deref.ensures.value, whole _ c.args.word) at c.in_err-place.ensures in
-    rw (c.from_residual.ensures, ← c.self.view_is) (rw (← e) refl)
+returns-in_err-place-clause-core c = grind (arith, nat_tests, whole)
 
 pub returns-clause-core : goal.returns-clause-core
 unfolding core_of
-returns-clause-core c =
-    let e = rw (c.deref.ensures.value, whole _ c.args.word) at c.in_ok-place.ensures in
-    rw (← c.self.view_is) (rw (← e) refl)
+returns-clause-core c = grind (arith, nat_tests, whole)
 
 pub returns-clause-inside : goal.returns-clause-inside
 returns-clause-inside c =

@@ -1,5 +1,0 @@
-use Rattle.psci_board.proofs.Terms.{rules}
-use Rattle.psci_board.proofs.board.Board.cores.Goals as goal
-
-pub returns : goal.returns
-returns c = search rules
