@@ -72,19 +72,19 @@ impl Activity {
     /// What is told of it.
     pub fn told(self) -> Told {
         match self {
-            Activity::Running => told("R", 32, "running", "runs"),
-            Activity::Started => told("S", 36, "started", "was started, and has not entered"),
-            Activity::Standby => told("b", 34, "standby", "is suspended to standby"),
-            Activity::Retention => told("r", 34, "retention", "is suspended to retention"),
-            Activity::PowerDown => told("d", 34, "power-down", "is suspended to power-down"),
-            Activity::GoingOff => told(
+            Activity::Running => row("R", 32, "running", "runs"),
+            Activity::Started => row("S", 36, "started", "was started, and has not entered"),
+            Activity::Standby => row("b", 34, "standby", "is suspended to standby"),
+            Activity::Retention => row("r", 34, "retention", "is suspended to retention"),
+            Activity::PowerDown => row("d", 34, "power-down", "is suspended to power-down"),
+            Activity::GoingOff => row(
                 "g",
                 33,
                 "going off",
                 "goes off, which is not acknowledged yet",
             ),
-            Activity::Off => told(".", 90, "off", "is off"),
-            Activity::Pending => told("P", 36, "pending", "is to be started by a CPU_ON"),
+            Activity::Off => row(".", 90, "off", "is off"),
+            Activity::Pending => row("P", 36, "pending", "is to be started by a CPU_ON"),
         }
     }
 }
@@ -103,7 +103,7 @@ pub struct Told {
 }
 
 /// A row of the table.
-fn told(letter: &'static str, color: u8, word: &'static str, meaning: &'static str) -> Told {
+fn row(letter: &'static str, color: u8, word: &'static str, meaning: &'static str) -> Told {
     Told {
         letter,
         color,
