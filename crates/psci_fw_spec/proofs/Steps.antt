@@ -1,11 +1,17 @@
 -- Worked examples are stated so: the calls of some cores in turn, and beside each its reply.
 use Rattle.std.proofs.Common.{pos, negsuc, map, reverse}
-use Rattle.psci_fw_spec.proofs.Words.{◌∷◌, ◌≡◌, [], BoardValue, Bool, claims_of, Enter, false}
-use Rattle.psci_fw_spec.proofs.Words.{Fault, FwCall, FwExchange, FwFault, FwReply, is_all_away}
-use Rattle.psci_fw_spec.proofs.Words.{Kind, last_core_check, least_ask, legal_reply, List}
+use Rattle.psci_fw_spec.proofs.Words.{◌∷◌, ◌≡◌, [], BoardValue, Bool, Enter, false}
+use Rattle.psci_fw_spec.proofs.Words.{Fault, FwCall, FwExchange, FwFault, FwReply}
+use Rattle.psci_fw_spec.proofs.Words.{Kind, legal_reply, List}
 use Rattle.psci_fw_spec.proofs.Words.{MessageValue, None, Out, Part, Smc, Some, start_of_life, suc}
-use Rattle.psci_fw_spec.proofs.Words.{suspend_parts, Take, Taken, true, up, Values, view, zero, ℕ}
+use Rattle.psci_fw_spec.proofs.Words.{Take, Taken, true, Values, zero, ℕ}
 use Rattle.psci_fw_spec.proofs.Words.{ℤ}
+use Rattle.psci_board.specs.Board.{up}
+use Rattle.psci_fw_spec.specs.Claims.{suspend_parts}
+use Rattle.psci_fw_spec.specs.Views.{view}
+use Rattle.psci_messages.specs.Claim.{claims_of}
+use Rattle.psci_messages.specs.LastCore.{last_core_check}
+use Rattle.psci_messages.specs.View.{is_all_away, least_ask}
 use Rattle.psci_abi.specs.declared.format.Format.TheVariants.{Original}
 use Rattle.psci_board.specs.Board.{core_of, node_of}
 use Rattle.psci_messages.specs.LastCore.{refusal, shallow, shallow_at}
