@@ -1,38 +1,8 @@
 //! The answer to an event, as an answer line has it.
 
-use psci_world_spec::{Act, Kind, Part, Said, Sent, Taken};
-use std::fmt;
-
-/// What a core does next, as an answer line has it.
-#[derive(Clone, Copy)]
-struct ActText<'a>(&'a Act);
-
-/// The parts of a message, as an answer line has them after it.
-#[derive(Clone, Copy)]
-struct PartsText<'a>(&'a [Part]);
-
-/// A message with its number.
-#[derive(Clone, Copy)]
-struct SentText<'a>(&'a Sent);
-
-/// What was said of an event.
-#[derive(Clone, Copy)]
-pub struct AnswerText<'a>(pub &'a Said);
-
-/// The word of a kind of message.
-fn kind_word(kind: Kind) -> &'static str {
-    match kind {
-        Kind::Down => "down",
-        Kind::Start => "start",
-        Kind::Off => "off",
-        Kind::Reset => "reset",
-    }
-}
-
-/// What stands behind an acknowledgement.
-fn stale_word(stale: bool) -> &'static str {
-    if stale { " stale" } else { "" }
-}
+use crate::json::kind_word;
+use psci_world_spec::{Act, Part, Said, Sent, Taken};
+use std::alloc::AllocError;
 
 /// What became of an acknowledgement.
 fn taken_word(taken: Taken) -> &'static str {
@@ -42,67 +12,63 @@ fn taken_word(taken: Taken) -> &'static str {
     }
 }
 
-impl fmt::Display for ActText<'_> {
-    fn fmt<W: fmt::Write>(&self, f: &mut fmt::Formatter<W>) -> fmt::Result {
-        match self.0 {
-            Act::Return(code) => write!(f, "return {}", code.0),
-            Act::Stop => f.write_str("stop"),
-            Act::Enter { address, context } => write!(f, "enter 0x{address:x} 0x{context:x}"),
-            Act::Resume => f.write_str("resume 0"),
-        }
+/// Writes what a core does next.
+fn write_act(out: &mut String, act: &Act) -> Result<(), AllocError> {
+    match act {
+        Act::Return(code) => write!(out, "return {}", code.0),
+        Act::Stop => write!(out, "stop"),
+        Act::Enter { address, context } => write!(out, "enter 0x{address:x} 0x{context:x}"),
+        Act::Resume => write!(out, "resume 0"),
     }
 }
 
-impl fmt::Display for PartsText<'_> {
-    fn fmt<W: fmt::Write>(&self, f: &mut fmt::Formatter<W>) -> fmt::Result {
-        if self.0.is_empty() {
-            return Ok(());
-        }
-        f.write_str(" parts")?;
-        for part in self.0 {
-            let Part {
-                level,
-                depth,
-                generation,
-            } = part;
-            write!(f, " {level}:{depth}:{generation}")?;
-        }
-        Ok(())
+/// Writes the parts of a message, which stand after it.
+fn write_parts(out: &mut String, parts: &[Part]) -> Result<(), AllocError> {
+    if parts.is_empty() {
+        return Ok(());
     }
+    write!(out, " parts")?;
+    for part in parts {
+        let Part {
+            level,
+            depth,
+            generation,
+        } = part;
+        write!(out, " {level}:{depth}:{generation}")?;
+    }
+    Ok(())
 }
 
-impl fmt::Display for SentText<'_> {
-    fn fmt<W: fmt::Write>(&self, f: &mut fmt::Formatter<W>) -> fmt::Result {
-        let message = &self.0.message;
-        let kind = kind_word(message.kind);
-        let core = message.core.number;
-        let life = message.life;
-        let number = message.number;
-        let parts = PartsText(message.parts.as_slice());
-        write!(
-            f,
-            "#{} {kind} {core} life {life} number {number}{parts}",
-            self.0.index
-        )
-    }
+/// Writes a message with its number.
+fn write_sent(out: &mut String, sent: &Sent) -> Result<(), AllocError> {
+    let message = &sent.message;
+    let (kind, core) = (kind_word(message.kind), message.core.number);
+    let (life, number) = (message.life, message.number);
+    write!(
+        out,
+        " #{} {kind} {core} life {life} number {number}",
+        sent.index
+    )?;
+    write_parts(out, message.parts.as_slice())
 }
 
-impl fmt::Display for AnswerText<'_> {
-    fn fmt<W: fmt::Write>(&self, f: &mut fmt::Formatter<W>) -> fmt::Result {
-        match self.0 {
-            Said::Fw { act, sent: None } => ActText(act).fmt(f),
-            Said::Fw {
-                act,
-                sent: Some(sent),
-            } => write!(f, "{} {}", ActText(act), SentText(sent)),
-            Said::Kick(start) => write!(f, "started {}", start.number),
-            Said::Acked { index, ack } => {
-                let (applied, stale) = (ack.applied, stale_word(ack.stale));
-                write!(f, "ack #{index} applied {applied}{stale}")
+/// Writes what was said of an event.
+pub fn write_answer(out: &mut String, said: &Said) -> Result<(), AllocError> {
+    match said {
+        Said::Fw { act, sent } => {
+            write_act(out, act)?;
+            match sent {
+                Some(sent) => write_sent(out, sent),
+                None => Ok(()),
             }
-            Said::Taken(taken) => f.write_str(taken_word(*taken)),
-            Said::Ignored => f.write_str("ignored"),
-            Said::Absent => f.write_str("absent"),
         }
+        Said::Kick(start) => write!(out, "started {}", start.number),
+        Said::Acked { index, ack } => {
+            let stale = if ack.stale { " stale" } else { "" };
+            write!(out, "ack #{index} applied {}{stale}", ack.applied)
+        }
+        Said::Taken(taken) => write!(out, "{}", taken_word(*taken)),
+        Said::Ignored => write!(out, "ignored"),
+        Said::Absent => write!(out, "absent"),
     }
 }

@@ -1,171 +1,135 @@
 //! Calls, in words.
 
-use crate::domain::{SharesText, TargetText};
+use crate::domain::{write_shares, write_target};
 use crate::names::mode_name;
 use psci_state::Ask;
 use psci_world::Board;
-use psci_world_spec::{Parameter, Regs, Request, read};
-use std::fmt;
-
-/// The function of a word.
-#[derive(Clone, Copy)]
-struct FunctionText(u64);
-
-/// Where a core enters.
-#[derive(Clone, Copy)]
-struct EntryText {
-    entry: u64,
-    context: u64,
-}
-
-/// The power state of a CPU_SUSPEND, and where the core enters again.
-#[derive(Clone, Copy)]
-struct StateText<'a> {
-    board: &'a Board,
-    state: u32,
-    back: EntryText,
-}
-
-/// The arguments of a call, by what its function takes.
-#[derive(Clone, Copy)]
-struct ArgumentsText<'a> {
-    board: &'a Board,
-    takes: [Parameter; 3],
-    carried: [u64; 3],
-}
-
-/// A mode of PSCI_SET_SUSPEND_MODE.
-#[derive(Clone, Copy)]
-struct ModeText(u32);
-
-/// The call of a core with these registers.
-#[derive(Clone, Copy)]
-pub struct CallText<'a> {
-    /// The board.
-    pub board: &'a Board,
-    /// The number of the core.
-    pub core: u64,
-    /// The registers.
-    pub regs: Regs,
-}
-
-impl fmt::Display for FunctionText {
-    fn fmt<W: fmt::Write>(&self, f: &mut fmt::Formatter<W>) -> fmt::Result {
-        let alone = Regs {
-            x0: self.0,
-            x1: 0,
-            x2: 0,
-            x3: 0,
-        };
-        match read(alone).function() {
-            Some(function) => write!(f, "{}", function.name()),
-            None => {
-                let word = self.0 % (1 << 32);
-                write!(f, "unknown function 0x{word:x}")
-            }
-        }
-    }
-}
-
-impl fmt::Display for EntryText {
-    fn fmt<W: fmt::Write>(&self, f: &mut fmt::Formatter<W>) -> fmt::Result {
-        let EntryText { entry, context } = *self;
-        if context == 0 {
-            write!(f, "entry 0x{entry:x}")
-        } else {
-            write!(f, "entry 0x{entry:x}, context 0x{context:x}")
-        }
-    }
-}
-
-impl fmt::Display for StateText<'_> {
-    fn fmt<W: fmt::Write>(&self, f: &mut fmt::Formatter<W>) -> fmt::Result {
-        let StateText { board, state, back } = *self;
-        let height = board.height();
-        let Ok(ask) = Ask::read(state, board.format(), height) else {
-            return write!(f, "to the faulty power state 0x{state:x}");
-        };
-        let depths = [ask.depth(0), ask.depth(1), ask.depth(2), ask.depth(3)];
-        let shares = SharesText { height, depths };
-        if ask.deep() {
-            write!(f, "to {shares}, {back}")
-        } else {
-            write!(f, "to {shares}")
-        }
-    }
-}
-
-impl fmt::Display for ModeText {
-    fn fmt<W: fmt::Write>(&self, f: &mut fmt::Formatter<W>) -> fmt::Result {
-        match mode_name(self.0) {
-            Some(name) => write!(f, "{name}"),
-            None => write!(f, "unknown mode 0x{:x}", self.0),
-        }
-    }
-}
-
-impl fmt::Display for ArgumentsText<'_> {
-    fn fmt<W: fmt::Write>(&self, f: &mut fmt::Formatter<W>) -> fmt::Result {
-        let ArgumentsText {
-            board,
-            takes: [first, second, _],
-            carried: [x1, x2, x3],
-        } = *self;
-        match (first, second) {
-            (Parameter::Target, Parameter::Entry) => {
-                let (target, back) = (target_text(board, x1, 0), entry_text(x2, x3));
-                write!(f, " of {target}, {back}")
-            }
-            (Parameter::Target, Parameter::Level) => {
-                write!(f, " of {}", target_text(board, x1, low(x2)))
-            }
-            (Parameter::Target, _) => write!(f, " of {}", target_text(board, x1, 0)),
-            (Parameter::PowerState, _) => {
-                let (state, back) = (low(x1), entry_text(x2, x3));
-                write!(f, " {}", StateText { board, state, back })
-            }
-            (Parameter::Entry, _) => write!(f, " {}", entry_text(x1, x2)),
-            (Parameter::Word, _) => write!(f, " of {}", FunctionText(x1)),
-            (Parameter::Mode, _) => write!(f, " {}", ModeText(low(x1))),
-            (Parameter::ResetType, _) => write!(f, " of type 0x{x1:x}"),
-            (Parameter::Level | Parameter::Context | Parameter::Cookie | Parameter::Nothing, _) =>
-                Ok(()),
-        }
-    }
-}
+use psci_world_spec::{Parameter, Regs, read};
+use std::alloc::AllocError;
 
 /// An argument of 32 bits.
 fn low(argument: u64) -> u32 {
     (argument % (1 << 32)) as u32
 }
 
-/// What an affinity word names at a level.
-fn target_text(board: &Board, word: u64, level: u32) -> TargetText<'_> {
-    TargetText { board, word, level }
-}
-
-/// Where a core enters, and what it finds in x0 there.
-fn entry_text(entry: u64, context: u64) -> EntryText {
-    EntryText { entry, context }
-}
-
-impl fmt::Display for CallText<'_> {
-    fn fmt<W: fmt::Write>(&self, f: &mut fmt::Formatter<W>) -> fmt::Result {
-        let request = read(self.regs);
-        let arguments = ArgumentsText {
-            board: self.board,
-            takes: takes(request),
-            carried: request.arguments(),
-        };
-        let function = FunctionText(self.regs.x0);
-        write!(f, "core {} {function}{arguments}", self.core)
+/// Writes the function of a word.
+fn write_function(out: &mut String, word: u64) -> Result<(), AllocError> {
+    let alone = Regs {
+        x0: word,
+        x1: 0,
+        x2: 0,
+        x3: 0,
+    };
+    match read(alone).function() {
+        Some(function) => write!(out, "{}", function.name()),
+        None => write!(out, "unknown function 0x{:x}", low(word)),
     }
 }
 
-/// What a call takes: nothing, where its function is unknown.
-fn takes(request: Request) -> [Parameter; 3] {
+/// Writes where a core enters, and what it finds in x0 there.
+fn write_entry(out: &mut String, entry: u64, context: u64) -> Result<(), AllocError> {
+    write!(out, "entry 0x{entry:x}")?;
+    if context != 0 {
+        write!(out, ", context 0x{context:x}")?;
+    }
+    Ok(())
+}
+
+/// Writes the power state of a CPU_SUSPEND, and where the core enters again after a power-down.
+fn write_state(
+    out: &mut String,
+    board: &Board,
+    state: u32,
+    entry: u64,
+    context: u64,
+) -> Result<(), AllocError> {
+    let height = board.height();
+    let Ok(ask) = Ask::read(state, board.format(), height) else {
+        return write!(out, "to the faulty power state 0x{state:x}");
+    };
+    let depths = [ask.depth(0), ask.depth(1), ask.depth(2), ask.depth(3)];
+    write!(out, "to ")?;
+    write_shares(out, height, depths)?;
+    if ask.deep() {
+        write!(out, ", ")?;
+        write_entry(out, entry, context)?;
+    }
+    Ok(())
+}
+
+/// Writes a mode of PSCI_SET_SUSPEND_MODE.
+fn write_mode(out: &mut String, mode: u32) -> Result<(), AllocError> {
+    match mode_name(mode) {
+        Some(name) => write!(out, "{name}"),
+        None => write!(out, "unknown mode 0x{mode:x}"),
+    }
+}
+
+/// Writes what an affinity word names, and where it enters if the call says that.
+fn write_named(
+    out: &mut String,
+    board: &Board,
+    second: Parameter,
+    carried: [u64; 3],
+) -> Result<(), AllocError> {
+    let [word, argument, context] = carried;
+    match second {
+        Parameter::Level => write_target(out, board, word, low(argument)),
+        Parameter::Entry => {
+            write_target(out, board, word, 0)?;
+            write!(out, ", ")?;
+            write_entry(out, argument, context)
+        }
+        _ => write_target(out, board, word, 0),
+    }
+}
+
+/// Writes the arguments of a call, by the first two things that its function takes.
+fn write_arguments(
+    out: &mut String,
+    board: &Board,
+    first: Parameter,
+    second: Parameter,
+    carried: [u64; 3],
+) -> Result<(), AllocError> {
+    let [x1, x2, x3] = carried;
+    write!(out, "{}", before(first))?;
+    match first {
+        Parameter::Target => write_named(out, board, second, carried),
+        Parameter::PowerState => write_state(out, board, low(x1), x2, x3),
+        Parameter::Entry => write_entry(out, x1, x2),
+        Parameter::Word => write_function(out, x1),
+        Parameter::Mode => write_mode(out, low(x1)),
+        Parameter::ResetType => write!(out, "0x{x1:x}"),
+        Parameter::Level | Parameter::Context | Parameter::Cookie | Parameter::Nothing => Ok(()),
+    }
+}
+
+/// What stands before the first argument.
+fn before(first: Parameter) -> &'static str {
+    match first {
+        Parameter::Target | Parameter::Word => " of ",
+        Parameter::PowerState | Parameter::Entry | Parameter::Mode => " ",
+        Parameter::ResetType => " of type ",
+        Parameter::Level | Parameter::Context | Parameter::Cookie | Parameter::Nothing => "",
+    }
+}
+
+/// Writes the call of a core with these registers.
+pub fn write_call(
+    out: &mut String,
+    board: &Board,
+    core: u64,
+    regs: Regs,
+) -> Result<(), AllocError> {
+    let request = read(regs);
+    write!(out, "core {core} ")?;
+    write_function(out, regs.x0)?;
     match request.function() {
-        Some(function) => function.takes(),
-        None => [Parameter::Nothing; 3],
+        Some(function) => {
+            let [first, second, _] = function.takes();
+            write_arguments(out, board, first, second, request.arguments())
+        }
+        None => Ok(()),
     }
 }

@@ -2,111 +2,54 @@
 
 use crate::names::{depth_name, level_name};
 use psci_world::{Board, Node};
-use std::fmt;
+use std::alloc::AllocError;
 
-/// A power domain of a board.
-#[derive(Clone, Copy)]
-pub struct NodeText<'a> {
-    /// The board.
-    pub board: &'a Board,
-    /// The power domain.
-    pub node: Node,
+/// Writes the name of a power domain.
+pub fn write_node(out: &mut String, board: &Board, node: Node) -> Result<(), AllocError> {
+    write!(out, "{}", level_name(board.height(), node.level))?;
+    if node.level == 0 || board.nodes(node.level) > 1 {
+        write!(out, " {}", node.place)?;
+    }
+    Ok(())
 }
 
-/// The power domain that an affinity word names, if it names one.
-#[derive(Clone, Copy)]
-pub struct TargetText<'a> {
-    /// The board.
-    pub board: &'a Board,
-    /// The affinity word.
-    pub word: u64,
-    /// The level.
-    pub level: u32,
-}
-
-/// The depths of the levels from 0 to 3, on a board of this height.
-#[derive(Clone, Copy)]
-pub struct SharesText {
-    /// The height of the board.
-    pub height: u32,
-    /// The depths.
-    pub depths: [u8; 4],
-}
-
-/// What is said of one level, between the depths of the levels below and above it.
-#[derive(Clone, Copy)]
-struct ShareText {
-    height: u32,
+/// Writes the power domain that an affinity word names at a level, if it names one.
+pub fn write_target(
+    out: &mut String,
+    board: &Board,
+    word: u64,
     level: u32,
+) -> Result<(), AllocError> {
+    match board.node_of(word, level) {
+        Some(node) => write_node(out, board, node),
+        None => write!(out, "no domain (0x{word:x}, level {level})"),
+    }
+}
+
+/// Writes what is said of a level: its depth, between those of the levels below and above it.
+fn write_share(
+    out: &mut String,
+    level: &str,
     below: u8,
     depth: u8,
     above: u8,
+) -> Result<(), AllocError> {
+    if depth == 0 {
+        return Ok(());
+    }
+    if depth == below {
+        let joint = if depth == above { ", " } else { " and " };
+        return write!(out, "{joint}{level}");
+    }
+    let joint = if below == 0 { "" } else { ", " };
+    write!(out, "{joint}{} of {level}", depth_name(depth))
 }
 
-impl fmt::Display for NodeText<'_> {
-    fn fmt<W: fmt::Write>(&self, f: &mut fmt::Formatter<W>) -> fmt::Result {
-        let name = level_name(self.board.height(), self.node.level);
-        if self.node.level == 0 || self.board.nodes(self.node.level) > 1 {
-            write!(f, "{name} {}", self.node.place)
-        } else {
-            write!(f, "{name}")
-        }
-    }
-}
-
-impl fmt::Display for TargetText<'_> {
-    fn fmt<W: fmt::Write>(&self, f: &mut fmt::Formatter<W>) -> fmt::Result {
-        let TargetText { board, word, level } = *self;
-        match board.node_of(word, level) {
-            Some(node) => write!(f, "{}", NodeText { board, node }),
-            None => write!(f, "no domain (0x{word:x}, level {level})"),
-        }
-    }
-}
-
-impl fmt::Display for ShareText {
-    fn fmt<W: fmt::Write>(&self, f: &mut fmt::Formatter<W>) -> fmt::Result {
-        let level = level_name(self.height, self.level);
-        let depth = depth_name(self.depth);
-        if self.depth == 0 {
-            Ok(())
-        } else if self.depth == self.below {
-            let joint = if self.depth == self.above {
-                ", "
-            } else {
-                " and "
-            };
-            write!(f, "{joint}{level}")
-        } else {
-            let joint = if self.below == 0 { "" } else { ", " };
-            write!(f, "{joint}{depth} of {level}")
-        }
-    }
-}
-
-impl SharesText {
-    /// What is said of one level.
-    fn share(self, level: u32, below: u8, depth: u8, above: u8) -> ShareText {
-        ShareText {
-            height: self.height,
-            level,
-            below,
-            depth,
-            above,
-        }
-    }
-}
-
-impl fmt::Display for SharesText {
-    fn fmt<W: fmt::Write>(&self, f: &mut fmt::Formatter<W>) -> fmt::Result {
-        let [core, first, second, third] = self.depths;
-        write!(
-            f,
-            "{}{}{}{}",
-            self.share(0, 0, core, first),
-            self.share(1, core, first, second),
-            self.share(2, first, second, third),
-            self.share(3, second, third, 0)
-        )
-    }
+/// Writes the depths of the levels from 0 to 3, on a board of this height.
+pub fn write_shares(out: &mut String, height: u32, depths: [u8; 4]) -> Result<(), AllocError> {
+    let [core, first, second, third] = depths;
+    write_share(out, level_name(height, 0), 0, core, first)?;
+    write_share(out, level_name(height, 1), core, first, second)?;
+    write_share(out, level_name(height, 2), first, second, third)?;
+    write_share(out, level_name(height, 3), second, third, 0)
 }

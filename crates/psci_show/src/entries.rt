@@ -1,77 +1,58 @@
 //! The columns after an event, by the names of the power domains.
 
-ghost use Rattle.std.specs.Prelude.{◌≤◌, ◌<◌};
-ghost use Rattle.psci_world.specs.psci_board.Board.{HasNode, cores, height};
+ghost use Rattle.std.specs.Prelude.{◌≤◌};
+ghost use Rattle.psci_world.specs.psci_board.Board.{HasNode, height};
 
 use crate::depth::Depths;
-use crate::domain::NodeText;
+use crate::domain::write_node;
 use crate::run::Run;
 use crate::state::Activity;
 use psci_world::{Core, Node};
 use std::alloc::AllocError;
-use std::fmt;
 
-/// A depth, with a mark behind it where another one was granted.
-#[derive(Clone, Copy)]
-struct MarkedText(Depths);
-
-impl fmt::Display for MarkedText {
-    fn fmt<W: fmt::Write>(&self, f: &mut fmt::Formatter<W>) -> fmt::Result {
-        let Depths { depth, granted } = self.0;
-        if depth == granted {
-            write!(f, "{depth}")
-        } else {
-            write!(f, "{depth}!")
-        }
-    }
+/// Writes the name of a core or power domain.
+fn write_name(out: &mut String, run: &Run, node: Node) -> Result<(), AllocError> {
+    write!(out, ";\n")?;
+    write_node(out, run.world().board(), node)?;
+    write!(out, ":")
 }
 
-/// Writes what is said of a core: its state if it is not off, and its depth where another one was
-/// granted.
-fn write_core(out: &mut String, run: &Run, core: Core) -> Result<(), AllocError>
-    requires { core.number < cores run.now.board }
-{
-    let node = core.node();
-    let name = NodeText {
-        board: run.world().board(),
-        node,
-    };
-    let state = run.state(core);
-    let letter = state.letter();
-    let depths = run.depths(node);
-    let marked = MarkedText(depths);
-    match (state, depths.depth == depths.granted) {
-        (Activity::Off, true) => Ok(()),
-        (Activity::Off, false) => write!(out, ";\n{name}: {marked}"),
-        (_, true) => write!(out, ";\n{name}: {letter}"),
-        (_, false) => write!(out, ";\n{name}: {letter} {marked}"),
-    }
-}
-
-/// Writes what is said of a power domain above the cores: its depth, if it is not powered down as
-/// granted.
-fn write_domain(out: &mut String, run: &Run, node: Node) -> Result<(), AllocError>
-    requires { HasNode run.now.board node }
-{
-    let name = NodeText {
-        board: run.world().board(),
-        node,
-    };
-    let depths = run.depths(node);
-    if depths.depth == 3 && depths.granted == 3 {
-        return Ok(());
-    }
-    write!(out, ";\n{name}: {}", MarkedText(depths))
-}
-
-/// Writes what is said of a core or power domain.
+/// Writes what is said of a core or power domain: the state of a core, unless it is off, and the
+/// depth where another one was granted, or of a power domain where it is not powered down.
 fn write_entry(out: &mut String, run: &Run, node: Node) -> Result<(), AllocError>
     requires { HasNode run.now.board node }
 {
-    if node.level == 0 {
-        write_core(out, run, Core { number: node.place })
+    let Depths { depth, granted } = run.depths(node);
+    let state = state_of(run, node);
+    let is_deep = if node.level == 0 {
+        depth == granted
     } else {
-        write_domain(out, run, node)
+        depth == 3 && granted == 3
+    };
+    if state.is_none() && is_deep {
+        return Ok(());
+    }
+    write_name(out, run, node)?;
+    if let Some(state) = state {
+        write!(out, " {}", state.told().letter)?;
+    }
+    if is_deep {
+        return Ok(());
+    }
+    let mark = if depth == granted { "" } else { "!" };
+    write!(out, " {depth}{mark}")
+}
+
+/// The state of a core that is not off.
+fn state_of(run: &Run, node: Node) -> Option<Activity>
+    requires { HasNode run.now.board node }
+{
+    if node.level > 0 {
+        return None;
+    }
+    match run.state(Core { number: node.place }) {
+        Activity::Off => None,
+        state => Some(state),
     }
 }
 

@@ -3,24 +3,9 @@
 ghost use Rattle.std.specs.Prelude.{◌≤◌};
 ghost use Rattle.psci_world.specs.psci_board.Board.{height};
 
-use crate::domain::NodeText;
-use crate::state::Activity;
+use crate::domain::write_node;
 use psci_world::{Board, Kind, Node, Place};
 use std::alloc::AllocError;
-
-/// The word of a state.
-pub fn state_word(state: Activity) -> &'static str {
-    match state {
-        Activity::Running => "running",
-        Activity::Started => "started",
-        Activity::Standby => "standby",
-        Activity::Retention => "retention",
-        Activity::PowerDown => "power-down",
-        Activity::GoingOff => "going off",
-        Activity::Off => "off",
-        Activity::Pending => "pending",
-    }
-}
 
 /// The word of a place.
 pub fn place_word(place: Place) -> &'static str {
@@ -64,34 +49,24 @@ fn write_span(out: &mut String, board: &Board, node: Node) -> Result<(), AllocEr
     Ok(())
 }
 
-/// Writes a power domain, behind this text.
-fn write_domain(
-    out: &mut String,
-    between: &str,
-    board: &Board,
-    node: Node,
-) -> Result<(), AllocError> {
-    let name = NodeText { board, node };
-    write!(out, "{between}{{\"name\": \"{name}\", \"cores\": [")?;
+/// Writes a power domain.
+fn write_domain(out: &mut String, board: &Board, node: Node) -> Result<(), AllocError> {
+    write!(out, "{{\"name\": \"")?;
+    write_node(out, board, node)?;
+    write!(out, "\", \"cores\": [")?;
     write_span(out, board, node)?;
     write!(out, "]}}")
 }
 
-/// Writes the power domains of a level, behind this text.
-fn write_domains(
-    out: &mut String,
-    between: &str,
-    board: &Board,
-    level: u32,
-) -> Result<(), AllocError>
+/// Writes the power domains of a level.
+fn write_domains(out: &mut String, board: &Board, level: u32) -> Result<(), AllocError>
     requires { level ≤ height board.now }
 {
-    write!(out, "{between}[")?;
     for place in 0..board.nodes(level) {
-        let node = Node { level, place };
-        write_domain(out, before(place as usize), board, node)?;
+        write!(out, "{}", before(place as usize))?;
+        write_domain(out, board, Node { level, place })?;
     }
-    write!(out, "]")
+    Ok(())
 }
 
 /// Writes the object of a board, behind its text.
@@ -99,7 +74,9 @@ pub fn write_board(text: &mut String, board: &Board) -> Result<(), AllocError> {
     let cores = board.cores();
     write!(text, "\", \"cores\": {cores}, \"domains\": [")?;
     for level in 0..board.height() + 1 {
-        write_domains(text, before(level as usize), board, level)?;
+        write!(text, "{}[", before(level as usize))?;
+        write_domains(text, board, level)?;
+        write!(text, "]")?;
     }
     writeln!(text, "]}}")
 }

@@ -7,6 +7,7 @@ use crate::entries::write_entries;
 use crate::form::Layout;
 use crate::row::{row_width, write_row};
 use crate::run::Run;
+use crate::words::{write_asked, write_said};
 use crate::wrap::{write_spaces, write_wrapped};
 use psci_world::Record;
 use std::alloc::AllocError;
@@ -47,10 +48,11 @@ fn width_of(layout: Layout) -> usize
 }
 
 /// Writes the words of a record, and nothing else.
-fn write_said(text: &mut String, run: &Run, item: &Record) -> Result<(), AllocError> {
-    let words = run.words(item);
+fn write_words(text: &mut String, run: &Run, item: &Record) -> Result<(), AllocError> {
     text.clear();
-    write!(text, "{words}")
+    write_asked(text, run, &item.event)?;
+    write!(text, " -> ")?;
+    write_said(text, run, item)
 }
 
 /// Writes an event with its columns in a row, and its words behind this indent.
@@ -67,7 +69,7 @@ fn write_beside(
     write_row(text, run, layout.color)?;
     write!(text, "  ")?;
     put(out, text)?;
-    write_said(text, run, item)?;
+    write_words(text, run, item)?;
     write_wrapped(out, text.as_bytes(), b' ', indent, room)
 }
 
@@ -82,7 +84,7 @@ fn write_above(
     let room = width_of(layout) - MARGIN;
     write!(text, "  ")?;
     put(out, text)?;
-    write_said(text, run, item)?;
+    write_words(text, run, item)?;
     write_wrapped(out, text.as_bytes(), b' ', MARGIN, room)?;
     text.clear();
     write_entries(text, run)?;

@@ -8,23 +8,12 @@ use crate::state::Activity;
 use psci_world::{Board, Core, Node};
 use std::alloc::AllocError;
 
-/// The color of a state, as a terminal counts them.
-fn color_of(state: Activity) -> u8 {
-    match state {
-        Activity::Running => 32,
-        Activity::GoingOff => 33,
-        Activity::Standby | Activity::Retention | Activity::PowerDown => 34,
-        Activity::Started | Activity::Pending => 36,
-        Activity::Off => 90,
-    }
-}
-
 /// Writes the letter of a state.
 fn write_letter(out: &mut String, state: Activity, color: bool) -> Result<(), AllocError> {
-    let letter = state.letter();
+    let told = state.told();
+    let letter = told.letter;
     if color {
-        let number = color_of(state);
-        write!(out, "\x1b[{number}m{letter}\x1b[0m")
+        write!(out, "\x1b[{}m{letter}\x1b[0m", told.color)
     } else {
         write!(out, "{letter}")
     }

@@ -3,7 +3,6 @@
 use crate::depth::Depths;
 use crate::sleep::{Sleep, note};
 use crate::state::Activity;
-use crate::words::Words;
 use psci_world::{Board, Core, Event, Memory, Node, Record, Said, World};
 use std::alloc::{AllocError, Global};
 use std::marker::Model;
@@ -66,11 +65,6 @@ impl Run {
         &self.world
     }
 
-    /// For each acknowledgement so far, the oldest first, the number of its message.
-    pub fn answered(&self) -> &[u64] {
-        &self.answered
-    }
-
     /// The number of the message of the acknowledgement of this number, if there is one.
     pub fn message_of(&self, number: u64) -> Option<u64> {
         self.answered.get(usize::try_from(number).ok()?).copied()
@@ -79,16 +73,6 @@ impl Run {
     /// The newest record, if there is one.
     pub fn newest(&self) -> Option<&Record> {
         self.world.records().last()
-    }
-
-    /// What a record says, after all records.
-    pub fn words<'a>(&'a self, item: &'a Record) -> Words<'a> {
-        Words {
-            board: self.world.board(),
-            messages: self.world.messages(),
-            answered: &self.answered,
-            item,
-        }
     }
 
     /// The state of a core.

@@ -10,7 +10,7 @@ use crate::event_json::write_event;
 use crate::form::Form;
 use crate::front::write_front;
 use crate::json::write_board;
-use crate::legend::Legend;
+use crate::legend::write_legend;
 use crate::lines::{put, write_lines};
 use crate::run::Run;
 use psci_script::{Answers, Event, ReplayFault, Replayed, Sink, Source, Teller, literal, tell};
@@ -45,7 +45,7 @@ impl Texts {
         self.clear();
         match form {
             Form::Lines(layout) if layout.legend => {
-                write!(self.text, "{}", Legend)?;
+                write_legend(&mut self.text)?;
                 put(&mut self.out, &mut self.text)
             }
             _ => Ok(()),

@@ -69,18 +69,46 @@ impl Activity {
         }
     }
 
-    /// Its letter.
-    pub fn letter(self) -> &'static str {
+    /// What is told of it.
+    pub fn told(self) -> Told {
         match self {
-            Activity::Running => "R",
-            Activity::Started => "S",
-            Activity::Standby => "b",
-            Activity::Retention => "r",
-            Activity::PowerDown => "d",
-            Activity::GoingOff => "g",
-            Activity::Off => ".",
-            Activity::Pending => "P",
+            Activity::Running => row("R", 32, "running", "runs"),
+            Activity::Started => row("S", 36, "started", "was started, and has not entered"),
+            Activity::Standby => row("b", 34, "standby", "is suspended to standby"),
+            Activity::Retention => row("r", 34, "retention", "is suspended to retention"),
+            Activity::PowerDown => row("d", 34, "power-down", "is suspended to power-down"),
+            Activity::GoingOff => row(
+                "g",
+                33,
+                "going off",
+                "goes off, which is not acknowledged yet",
+            ),
+            Activity::Off => row(".", 90, "off", "is off"),
+            Activity::Pending => row("P", 36, "pending", "is to be started by a CPU_ON"),
         }
+    }
+}
+
+/// What is told of a state.
+#[derive(Clone, Copy)]
+pub struct Told {
+    /// Its letter.
+    pub letter: &'static str,
+    /// Its color, as a terminal counts them.
+    pub color: u8,
+    /// Its word.
+    pub word: &'static str,
+    /// What a core does that is in it.
+    pub meaning: &'static str,
+}
+
+/// A row of the table.
+fn row(letter: &'static str, color: u8, word: &'static str, meaning: &'static str) -> Told {
+    Told {
+        letter,
+        color,
+        word,
+        meaning,
     }
 }
 
