@@ -30,13 +30,12 @@ pub use Rattle.psci_board.specs.Board.{address_up, BoardValue, child, children, 
 pub use Rattle.psci_board.specs.Board.{first_child, first_core, group_of, HasNode, height, index_in}
 pub use Rattle.psci_board.specs.Board.{is_in_some, is_width, IsBoard, IsTree, nodes, nodes_up}
 pub use Rattle.psci_board.specs.Board.{place_above, size_below}
-pub use Rattle.psci_board.specs.Digits.{value_and_count}
 pub use Rattle.psci_board.specs.Grammar.{BoardText, bracketed, format_part, IsListOf, IsRange}
 pub use Rattle.psci_board.specs.Grammar.{IsTreeText, Member, range, spaced, tree, TreeText}
 pub use Rattle.psci_board.specs.Grammar.Member.{Cluster, Group}
 pub use Rattle.psci_board.specs.Grammar.TreeText.{Members, One}
 pub use Rattle.psci_board.specs.Level.{child_in, index_named}
-pub use Rattle.psci_board.specs.ReadWords.{hex_at, literal_at, number_at}
+pub use Rattle.psci_board.specs.ReadWords.{literal_at, number_at}
 pub use Rattle.psci_board.specs.Reading.{format_at, member_at, more_at, range_at, starts_list}
 pub use Rattle.psci_board.specs.Reading.{then_more, tree_at}
 pub use Rattle.psci_board.specs.Spelling.{Ends, hex, IsHex, IsNumber, Reads}

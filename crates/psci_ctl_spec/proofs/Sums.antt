@@ -1,5 +1,5 @@
--- The sum of the starts below a domain, which domains are on the path of a core, and what a start of
--- a core changes of depths and generations.
+-- The sum of the starts below a domain, which domains are on the path of a core, and what a start
+-- of a core changes of depths and generations.
 use Rattle.std.proofs.Common.{◌*◌, ◌+◌, ◌<◌, ◌==◌, ◌∙◌, ◌∷◌, ◌≡◌, ◌≤◌, add-zero, ap, arith, Bool}
 use Rattle.std.proofs.Common.{cond, false, filter, inl, inr, List, refl, suc, sym, true, zero, ℕ}
 use Rattle.std.proofs.lemmas.Bool.{cases_eq, eq-eqb, eqb-true, ne_eqb}

@@ -1,15 +1,14 @@
 -- What a call, an entry or an acknowledgement is answered is allowed.
 use Rattle.std.proofs.Common.{is_some}
 use Rattle.psci_fw_laws.proofs.Words.{nat_tests, ◌==◌, ◌∙◌, ◌≡◌, ◌≤◌, AckValue, activity_of}
-use Rattle.psci_fw_laws.proofs.Words.{AreValues, arith, asks, Away, BoardValue, Bool}
-use Rattle.psci_fw_laws.proofs.Words.{call_fault, cond, cond_both, effect_of, Enter, enter_effect}
-use Rattle.psci_fw_laws.proofs.Words.{enter_fault, false, FwCall, FwFault, in_life, IsCalling}
-use Rattle.psci_fw_laws.proofs.Words.{IsEntering, MessageValue, None, off_message, off_parts}
-use Rattle.psci_fw_laws.proofs.Words.{Opening, Option, or_left, or_right, Outcome, outcome_at}
-use Rattle.psci_fw_laws.proofs.Words.{outcome_of, Parks, Pending, Phase, refl, reply_or, resumes}
-use Rattle.psci_fw_laws.proofs.Words.{slot_of, Smc, Some, Start, start_of_life, stops_with}
-use Rattle.psci_fw_laws.proofs.Words.{subst, sym, Take, taken, true, unless_pending, Values}
-use Rattle.psci_fw_laws.proofs.Words.{with_arrival, with_phase, ℕ}
+use Rattle.psci_fw_laws.proofs.Words.{AreValues, arith, asks, Away, BoardValue, Bool, call_fault}
+use Rattle.psci_fw_laws.proofs.Words.{cond, cond_both, effect_of, Enter, enter_effect, enter_fault}
+use Rattle.psci_fw_laws.proofs.Words.{false, FwCall, FwFault, in_life, IsCalling, IsEntering}
+use Rattle.psci_fw_laws.proofs.Words.{MessageValue, None, off_message, off_parts, Opening, Option}
+use Rattle.psci_fw_laws.proofs.Words.{or_left, or_right, Outcome, outcome_at, outcome_of, Parks}
+use Rattle.psci_fw_laws.proofs.Words.{Pending, Phase, refl, reply_or, resumes, slot_of, Smc, Some}
+use Rattle.psci_fw_laws.proofs.Words.{Start, start_of_life, stops_with, subst, sym, Take, taken}
+use Rattle.psci_fw_laws.proofs.Words.{true, unless_pending, Values, with_arrival, with_phase, ℕ}
 use Rattle.psci_fw_spec.specs.psci_abi.Calls.{request_of}
 use Rattle.psci_fw_spec.specs.psci_abi.declared.registers.Regs.{Regs}
 use Rattle.psci_fw_spec.specs.Answer.{answer}

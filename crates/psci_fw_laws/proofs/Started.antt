@@ -1,14 +1,13 @@
 -- A core that runs stops and sends what it claims; a core is asked on, the system is asked to go
 -- off, an acknowledgement is taken.
-use Rattle.psci_fw_laws.proofs.Words.{nat_tests, ◌<◌, ◌∙◌, ◌∷◌, ◌≡◌, ap, arith, BoardValue}
-use Rattle.psci_fw_laws.proofs.Words.{cores, Down, Holds, inr, is_system, IsNewClaim, IsOfCore}
-use Rattle.psci_fw_laws.proofs.Words.{IsSent, Kind, known_below, List, MessageValue, Part, PathLaws}
+use Rattle.psci_fw_laws.proofs.Words.{nat_tests, ◌<◌, ◌∙◌, ◌∷◌, ◌≡◌, ap, arith, BoardValue, cores}
+use Rattle.psci_fw_laws.proofs.Words.{Down, Holds, inr, is_system, IsNewClaim, IsOfCore, IsSent}
+use Rattle.psci_fw_laws.proofs.Words.{Kind, known_below, List, MessageValue, Part, PathLaws}
 use Rattle.psci_fw_laws.proofs.Words.{Pending, Phase, refl, Running, slice_get, slot_of, Some}
 use Rattle.psci_fw_laws.proofs.Words.{SpanLaws, subst, sym, true, unless_pending, up, Values}
-use Rattle.psci_fw_laws.proofs.Words.{with_claims, with_phase, ℕ, AckValue, Bool}
-use Rattle.psci_fw_laws.proofs.Words.{cond, cond_both, false, is_kind, is_on, IsOfLife, OfSystem}
-use Rattle.psci_fw_laws.proofs.Words.{PowerOn, turns_off, updated, with_acknowledgement, with_halt}
-use Rattle.psci_fw_laws.proofs.Words.{with_pending}
+use Rattle.psci_fw_laws.proofs.Words.{with_claims, with_phase, ℕ, AckValue, Bool, cond, cond_both}
+use Rattle.psci_fw_laws.proofs.Words.{false, is_kind, is_on, IsOfLife, OfSystem, PowerOn, turns_off}
+use Rattle.psci_fw_laws.proofs.Words.{updated, with_acknowledgement, with_halt, with_pending}
 use Rattle.psci_messages.specs.declared.kind.Kind.TheVariants.{Start}
 use Rattle.psci_fw_laws.proofs.Claiming.{IsNewDown, above_down, apart_new, quiet_new, quiet_phase}
 use Rattle.psci_fw_laws.proofs.Claiming.{NoneCurrent, above_other, quiet_other}

@@ -1,17 +1,16 @@
 -- Functions of renumbered cores: those that may stop their caller, and those that return.
 use Rattle.std.proofs.Common.{Result}
-use Rattle.psci_fw_laws.proofs.Words.{nat_tests, ◌==◌, ◌||◌, ◌∙◌, ◌≡◌, [], ap}
-use Rattle.psci_fw_laws.proofs.Words.{Away, BoardValue, Bool, cores, false, height}
-use Rattle.psci_fw_laws.proofs.Words.{if◌then◌else◌, invalid_address, Kind, leaving_claims, List}
-use Rattle.psci_fw_laws.proofs.Words.{list_all, may_enter, message_for, not}
-use Rattle.psci_fw_laws.proofs.Words.{OsInitiated, Outcome, outcome_by, Part, Phase, Platform}
+use Rattle.psci_fw_laws.proofs.Words.{nat_tests, ◌==◌, ◌||◌, ◌∙◌, ◌≡◌, [], ap, Away, BoardValue}
+use Rattle.psci_fw_laws.proofs.Words.{Bool, cores, false, height, if◌then◌else◌, invalid_address}
+use Rattle.psci_fw_laws.proofs.Words.{Kind, leaving_claims, List, list_all, may_enter, message_for}
+use Rattle.psci_fw_laws.proofs.Words.{not, OsInitiated, Outcome, outcome_by, Part, Phase, Platform}
 use Rattle.psci_fw_laws.proofs.Words.{PowerView, range_with_len, refl, returns, stops_with}
 use Rattle.psci_fw_laws.proofs.Words.{suspend_asked, suspend_claims, Suspended, SuspendMode}
 use Rattle.psci_fw_laws.proofs.Words.{system_reset2, system_suspend, unless_pending, updated}
 use Rattle.psci_fw_laws.proofs.Words.{Values, values_by, with_phase, ℕ, arith, below, Core, core_by}
 use Rattle.psci_fw_laws.proofs.Words.{core_of, has_node, is_away, is_on, ne_eqb, Node, node_by}
-use Rattle.psci_fw_laws.proofs.Words.{None, Option, option_map, Some, start_outcome}
-use Rattle.psci_fw_laws.proofs.Words.{Status, suc, target_among, zero}
+use Rattle.psci_fw_laws.proofs.Words.{None, Option, option_map, Some, start_outcome, Status, suc}
+use Rattle.psci_fw_laws.proofs.Words.{target_among, zero}
 use Rattle.psci_abi.specs.declared.code.Code.{Code}
 use Rattle.psci_abi.specs.Codes.{denied}
 use Rattle.psci_fw_spec.specs.psci_messages.psci_state.Ask.{deepest_of}

@@ -97,7 +97,8 @@ core_asked b v word entry_point t e = grind arith
 -- the target of a CPU_ON that is accepted is a core of the board
 target_within : (b : BoardValue) (v : Values) (word entry_point : ℕ) (t : Core) → Known b
     → target_of b v word entry_point ≡ Ok t → t.number < cores b
-target_within b v word entry_point t known e = known.words.core word t (core_asked b v word entry_point t e)
+target_within b v word entry_point t known e =
+    known.words.core word t (core_asked b v word entry_point t e)
 
 -- the caller runs on, unless it asked itself on
 runs_on : (v : Values) (c t : ℕ) → v.phase c ≡ Running

@@ -6,10 +6,9 @@ use Rattle.psci_fw_spec.proofs.Words.{deepest_of, Effect, effect_of, Enter, ente
 use Rattle.psci_fw_spec.proofs.Words.{false, Fault, first_granted, FwCall, FwExchange, FwFault}
 use Rattle.psci_fw_spec.proofs.Words.{FwReply, height, in_life, inl, inr, IsLegal, IsPhase, known}
 use Rattle.psci_fw_spec.proofs.Words.{life, List, nat_tests, None, off_message, Option, Out}
-use Rattle.psci_fw_spec.proofs.Words.{Outcome, outcome_of, Parks, reply_or, request_of}
-use Rattle.psci_fw_spec.proofs.Words.{Running, Smc, Start, start_of_life, StopsAtOnce, subst}
-use Rattle.psci_fw_spec.proofs.Words.{Suspended, sym, Take, true, true≢false, up, updated, Values}
-use Rattle.psci_fw_spec.proofs.Words.{with_arrival, ℕ}
+use Rattle.psci_fw_spec.proofs.Words.{Outcome, outcome_of, Parks, reply_or, request_of, Running}
+use Rattle.psci_fw_spec.proofs.Words.{Smc, Start, start_of_life, StopsAtOnce, subst, Suspended, sym}
+use Rattle.psci_fw_spec.proofs.Words.{Take, true, true≢false, up, updated, Values, with_arrival, ℕ}
 use Rattle.psci_fw_spec.specs.Lives.{first_phase}
 use Rattle.psci_fw_spec.proofs.Asked.{alone, asked_away, asked_running, asks_at, IsLeast, joined}
 use Rattle.psci_fw_spec.proofs.Asked.{Known}

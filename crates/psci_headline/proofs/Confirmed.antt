@@ -9,8 +9,7 @@ use Rattle.psci_headline.proofs.Words.{IsAllowed, IsLegalPast, KnownLaws, List, 
 use Rattle.psci_headline.proofs.Words.{nat_tests, Option, Parks, PathLaws, Record, refl, Rests}
 use Rattle.psci_headline.proofs.Words.{Said, sent, SetsMode, slice_get, Some, Start, start_of_life}
 use Rattle.psci_headline.proofs.Words.{Stops, StopsAtOnce, subst, sym, Values, Waiting, WasTold}
-use Rattle.psci_headline.proofs.Words.{with_pending, ℕ}
-use Rattle.psci_headline.proofs.Words.{◌==◌, inl, inr, one_more}
+use Rattle.psci_headline.proofs.Words.{with_pending, ℕ, ◌==◌, inl, inr, one_more}
 use Rattle.psci_ctl_spec.specs.Changes.{next_life}
 use Rattle.psci_headline.specs.psci_fw_spec.Changes.{with_mode}
 use Rattle.psci_headline.specs.psci_fw_spec.Effects.{Nothing}

@@ -1,6 +1,4 @@
-use Rattle.psci_board.proofs.Terms.{arith}
-use Rattle.psci_board.proofs.Terms.{digits_value_more}
-use Rattle.psci_board.proofs.Terms.{nat_tests}
+use Rattle.psci_board.proofs.Terms.{arith, digits_value_more, nat_tests}
 use Rattle.psci_board.proofs.Values.{one_more, no_more, too_large, fits, fits_not}
 use Rattle.psci_board.proofs.digits.decimal.Goals as goal
 

@@ -1,6 +1,5 @@
-use Rattle.psci_board.proofs.Terms.{◌≡◌, ◌≤◌, arith, common_steps, digit_value}
-use Rattle.psci_board.proofs.Terms.{digits_value_more, get_or, is_ascii_hexdigit}
-use Rattle.psci_board.proofs.Terms.{nat_tests, prefix_len}
+use Rattle.psci_board.proofs.Terms.{◌≡◌, ◌≤◌, arith, common_steps, digit_value, digits_value_more}
+use Rattle.psci_board.proofs.Terms.{get_or, is_ascii_hexdigit, nat_tests, prefix_len}
 use Rattle.psci_board.proofs.Values.{one_more, no_more, all_of_them, fifteen_fit, few, too_many}
 use Rattle.psci_board.proofs.Values.{hexadecimal_yes, hexadecimal_no}
 use Rattle.psci_board.proofs.digits.hexadecimal.Goals as goal

@@ -1,10 +1,9 @@
 use Rattle.std.proofs.Common.{get_or-set_other}
 use Rattle.psci_tree.proofs.Words.{◌+◌, ◌<◌, ◌∙◌, ◌≡◌, ◌≢◌, ◌≤◌, ap, AreKept, arith, branches}
-use Rattle.psci_tree.proofs.Words.{child_counts, cores_in, count_by, Domain, Domain-F}
-use Rattle.psci_tree.proofs.Words.{get_or, get_or_default, is_away, leaves, length}
-use Rattle.psci_tree.proofs.Words.{length-replicate, length-set, List, nat_tests, never_started}
-use Rattle.psci_tree.proofs.Words.{replicate, rules, set, subst, suc, sym, the_lemmas}
-use Rattle.psci_tree.proofs.Words.{with_item, ℕ}
+use Rattle.psci_tree.proofs.Words.{child_counts, cores_in, count_by, Domain, Domain-F, get_or}
+use Rattle.psci_tree.proofs.Words.{get_or_default, is_away, leaves, length, length-replicate}
+use Rattle.psci_tree.proofs.Words.{length-set, List, nat_tests, never_started, replicate, rules}
+use Rattle.psci_tree.proofs.Words.{set, subst, suc, sym, the_lemmas, with_item, ℕ}
 use Rattle.psci_tree.specs.declared.domain.Domain.TheViews.{out-Domain}
 use Rattle.psci_tree.proofs.Below.{children_roll, cores_le, cores_roll, length_of_domain}
 use Rattle.psci_tree.proofs.Keeping.{kept_roll, kept_roll_core}
