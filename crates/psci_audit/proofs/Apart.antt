@@ -33,15 +33,11 @@ next_one x y xs ys less rise = (there, λ apart t at. apart t (inr at))
 
 pub next_other : (x y : ℕ) (xs ys : List ℕ) → y < x → RiseAfter None (x ∷ xs)
     → AreApart (x ∷ xs) ys ↔ AreApart (x ∷ xs) (y ∷ ys)
-next_other x y xs ys less rise = (there, λ apart t at in_ys. apart t at (inr in_ys))
-  where
-    below : IsIn y (x ∷ xs) → ⊥
-    below (inl e) = absurd (omega (arith, less, e))
-    below (inr at) = let more : y ≤ x = omega (arith, less) in not_in y x xs rise.1 more at
-
-    there : AreApart (x ∷ xs) ys → AreApart (x ∷ xs) (y ∷ ys)
-    there apart t at (inl e) = below (subst (λ u. IsIn u (x ∷ xs)) e at)
-    there apart t at (inr in_ys) = apart t at in_ys
+next_other x y xs ys less rise =
+    let next = next_one y x ys xs less rise in (
+      λ apart t at on. next.0 (λ u p q. apart u q p) t on at,
+      λ apart t at on. next.1 (λ u p q. apart u q p) t on at,
+    )
 
 pub same : (x y : ℕ) (xs ys : List ℕ) → x ≡ y → AreApart (x ∷ xs) (y ∷ ys) → ⊥
 same x y xs ys e apart = apart x (inl refl) (inl e)

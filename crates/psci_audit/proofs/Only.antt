@@ -144,32 +144,23 @@ woken b past c halted said k e some is last =
 pub may_be : (b : BoardValue) (past : List Record) (event : Event) (said : Said) (e : Entry)
     → said ≡ legal b past event → IsTold b past event said e → MayBe b (now_of b past) e
 may_be b past (Call c regs) (Fw act sends) (Asked e) says is =
-    subst (λ (x : FwExchange). MayBe b (now_of b past) (Asked x)) (sym is)
-    (called b past c regs act sends says)
+    rw is (called b past c regs act sends says)
 may_be b past (Enter c) (Fw act sends) (Asked e) says is =
-    subst (λ (x : FwExchange). MayBe b (now_of b past) (Asked x)) (sym is.2)
-    (entered b past c act sends is.0 says is.1)
+    rw is.2 (entered b past c act sends is.0 says is.1)
 may_be b past (Take k) (Took t) (Asked e) says is =
-    subst (λ (x : FwExchange). MayBe b (now_of b past) (Asked x)) (sym is.2)
-    (taken b past k (Took t) is.0 (replies.Taken t) says is.1 refl)
+    rw is.2 (taken b past k (Took t) is.0 (replies.Taken t) says is.1 refl)
 may_be b past (Deliver k) (Acked index ack) (Controlled e) says is =
-    subst (λ (x : CtlExchange). MayBe b (now_of b past) (Controlled x)) (sym is.2)
-    (delivered b past k (Acked index ack) is.0 (deliveries.Applied ack) says is.1 refl)
+    rw is.2 (delivered b past k (Acked index ack) is.0 (deliveries.Applied ack) says is.1 refl)
 may_be b past (Deliver k) Ignored (Controlled e) says is =
-    subst (λ (x : CtlExchange). MayBe b (now_of b past) (Controlled x)) (sym is.2)
-    (delivered b past k Ignored is.0 deliveries.Ignored says is.1 refl)
+    rw is.2 (delivered b past k Ignored is.0 deliveries.Ignored says is.1 refl)
 may_be b past (Wake c) (Kick start) (Controlled e) says is =
-    subst (λ (x : CtlExchange). MayBe b (now_of b past) (Controlled x)) (sym is)
-    (woken b past c _ (Kick start) (kicks.Started start) says (λ no. cc) refl (λ at. refl))
+    rw is (woken b past c _ (Kick start) (kicks.Started start) says (λ no. cc) refl (λ at. refl))
 may_be b past (Wake c) Ignored (Controlled e) says is =
-    subst (λ (x : CtlExchange). MayBe b (now_of b past) (Controlled x)) (sym is.2)
-    (woken b past c is.0 Ignored kicks.Ignored says (λ no. cc) refl is.1)
+    rw is.2 (woken b past c is.0 Ignored kicks.Ignored says (λ no. cc) refl is.1)
 may_be b past (Reset c) (Kick start) (Controlled e) says is =
-    subst (λ (x : CtlExchange). MayBe b (now_of b past) (Controlled x)) (sym is)
-    (reset b past c (Kick start) (kicks.Started start) says (λ no. cc) refl)
+    rw is (reset b past c (Kick start) (kicks.Started start) says (λ no. cc) refl)
 may_be b past (Reset c) Ignored (Controlled e) says is =
-    subst (λ (x : CtlExchange). MayBe b (now_of b past) (Controlled x)) (sym is)
-    (reset b past c Ignored kicks.Ignored says (λ no. cc) refl)
+    rw is (reset b past c Ignored kicks.Ignored says (λ no. cc) refl)
 may_be b past event said e says is = absurd is
 
 -- what a legal run tells next may follow the entries that it tells

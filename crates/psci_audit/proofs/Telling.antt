@@ -40,11 +40,9 @@ Adds b past event said e =
 
 adds : (b : BoardValue) (past : List Record) (event : Event) (said : Said) (e : Entry)
     → IsTold b past event said e → Adds b past event said e
-adds b past (Call c regs) (Fw act sends) (Asked e) is =
-    subst (λ (x : FwExchange). Adds b past (Call c regs) (Fw act sends) (Asked x)) (sym is)
-    (refl, refl, refl, refl, λ d. refl)
+adds b past (Call c regs) (Fw act sends) (Asked e) is = rw is (refl, refl, refl, refl, λ d. refl)
 adds b past (Enter c) (Fw act sends) (Asked e) is =
-    subst (λ (x : FwExchange). Adds b past (Enter c) (Fw act sends) (Asked x)) (sym is.2) (
+    rw is.2 (
       ap (λ (s : Option Start). entered c s (outcome_in act sends)) is.1,
       refl,
       refl,
@@ -52,27 +50,14 @@ adds b past (Enter c) (Fw act sends) (Asked e) is =
       λ d. refl,
     )
 adds b past (Take k) (Took taken) (Asked e) is =
-    subst (λ (x : FwExchange). Adds b past (Take k) (Took taken) (Asked x)) (sym is.2)
-    (ap (λ (a : Option AckValue). took a taken) is.1, refl, refl, refl, λ d. refl)
+    rw is.2 (ap (λ (a : Option AckValue). took a taken) is.1, refl, refl, refl, λ d. refl)
 adds b past (Deliver k) (Acked index ack) (Controlled e) is =
-    subst (λ (x : CtlExchange). Adds b past (Deliver k) (Acked index ack) (Controlled x))
-    (sym is.2)
-    (refl, ap (λ (m : Option MessageValue). delivered m ack) is.1, refl, refl, λ d. refl)
-adds b past (Deliver k) Ignored (Controlled e) is =
-    subst (λ (x : CtlExchange). Adds b past (Deliver k) Ignored (Controlled x)) (sym is.2)
-    (refl, refl, refl, refl, λ d. refl)
-adds b past (Wake c) (Kick start) (Controlled e) is =
-    subst (λ (x : CtlExchange). Adds b past (Wake c) (Kick start) (Controlled x)) (sym is)
-    (refl, refl, refl, refl, λ d. refl)
-adds b past (Wake c) Ignored (Controlled e) is =
-    subst (λ (x : CtlExchange). Adds b past (Wake c) Ignored (Controlled x)) (sym is.2)
-    (refl, refl, refl, refl, λ d. refl)
-adds b past (Reset c) (Kick start) (Controlled e) is =
-    subst (λ (x : CtlExchange). Adds b past (Reset c) (Kick start) (Controlled x)) (sym is)
-    (refl, refl, refl, refl, λ d. refl)
-adds b past (Reset c) Ignored (Controlled e) is =
-    subst (λ (x : CtlExchange). Adds b past (Reset c) Ignored (Controlled x)) (sym is)
-    (refl, refl, refl, refl, λ d. refl)
+    rw is.2 (refl, ap (λ (m : Option MessageValue). delivered m ack) is.1, refl, refl, λ d. refl)
+adds b past (Deliver k) Ignored (Controlled e) is = rw is.2 (refl, refl, refl, refl, λ d. refl)
+adds b past (Wake c) (Kick start) (Controlled e) is = rw is (refl, refl, refl, refl, λ d. refl)
+adds b past (Wake c) Ignored (Controlled e) is = rw is.2 (refl, refl, refl, refl, λ d. refl)
+adds b past (Reset c) (Kick start) (Controlled e) is = rw is (refl, refl, refl, refl, λ d. refl)
+adds b past (Reset c) Ignored (Controlled e) is = rw is (refl, refl, refl, refl, λ d. refl)
 adds b past event said e is = absurd is
 
 -- All records ----------------------------------------------------------------------------------

@@ -1,7 +1,6 @@
 mod Apart
 mod CallRows
 mod CodeRows
-pub mod ControllerCrossing
 mod ControllerPlaceRows
 mod ControllerRows
 pub mod Crossing
@@ -10,14 +9,12 @@ mod FieldRows
 pub mod GivenBoards
 mod GivenRows
 mod MachineAxisRows
-pub mod MachineCrossing
 pub mod MachineMaking
 mod MachineRows
 pub mod NamedCalls
 mod NamedRows
 mod PollerRows
 mod ReaderRows
-pub mod SlotCrossing
 pub mod SlotEmpty
 pub mod SlotForm
 pub mod SlotForms

@@ -1,4 +1,5 @@
--- Worked examples of what the type of a book with two entries keeps, and what it does not.
+-- Worked examples of what the type of a book keeps, with two entries and without, and what it does
+-- not: of a controller that does not have the values of the entries.
 use Rattle.std.proofs.Common.{◌≡◌, ℕ, ◌<◌, List, [], ◌∷◌, refl, ap, arith, ◌∙◌, sym}
 use Rattle.psci_ctl.specs.Seen.{ControllerValue, seen}
 use Rattle.psci_ctl.specs.psci_ctl_spec.Effects.{effect_of}
@@ -64,3 +65,26 @@ other_start : (c : ControllerValue) → (seen c).starts 1 ≡ 1 → IsTied board
 unfolding computing
 other_start c one h =
     eqb-false 1 2 refl (sym one ∙ ap (λ (v : Values). v.starts 1) h.values)
+
+-- Books without entries ---------------------------------------------------------------------------
+
+no_history : history_of [] ≡ []
+unfolding history_of
+no_history = refl
+
+-- a core was started by its reset: a controller that has not counted that is not tied
+abbrev restarted : CtlEntry
+restarted = entry 0 (Reset (record { number = 1 }))
+    (Kick (kicks.Started (record { life = 1; number = 1; cause = causes.Reset })))
+
+start_not_counted : (c : ControllerValue) → (seen c).starts 1 ≡ 0
+    → IsTied board c (restarted ∷ []) 4 3 → ⊥
+unfolding computing
+start_not_counted c none h =
+    eqb-false 0 1 refl (sym none ∙ ap (λ (v : Values). v.starts 1) h.values)
+
+start_counted_too_soon : (c : ControllerValue) → (seen c).starts 1 ≡ 1
+    → IsTied board c [] 4 3 → ⊥
+unfolding computing
+start_counted_too_soon c one h =
+    eqb-false 1 0 refl (sym one ∙ ap (λ (v : Values). v.starts 1) h.values)

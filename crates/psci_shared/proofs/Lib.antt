@@ -6,18 +6,15 @@ pub mod ChangeRows
 pub mod Crossing
 pub mod CtlAgreeRows
 mod CtlAnsweredRows
-mod CtlBookRows
 pub mod CtlCallRows
 pub mod CtlHistories
 mod CtlTiedRows
 pub mod Histories
 pub mod OwnCalls
 pub mod Placed
-pub mod Places
 pub mod PollRows
 pub mod Polling
 mod RefusedRows
-pub mod Stays
 pub mod TwoCores
 pub mod Unnamed
 mod ViewRows

@@ -1,9 +1,8 @@
 -- What a pass has seen last, right after a call of its own.
-use Rattle.std.proofs.Common.{◌≡◌, ◌≢◌, ℕ, suc, ◌<◌, List, [], ◌∷◌, ◌++◌, length, Bool, true, false}
-use Rattle.std.proofs.Common.{refl, ap, ◌∙◌, subst, Option, Some}
-use Rattle.std.specs.Prelude.{◌==◌, if◌then◌else◌, unwrap_or}
-use Rattle.std.specs.Option.{option_or}
-use Rattle.std.proofs.lemmas.Bool.{ne_eqb}
+use Rattle.std.proofs.Common.{◌≡◌, ◌≢◌, ℕ, suc, ◌<◌, List, [], ◌∷◌, ◌++◌, length}
+use Rattle.std.proofs.Common.{refl, subst, Some}
+use Rattle.std.specs.Prelude.{◌==◌, if◌then◌else◌}
+use Rattle.std.proofs.lemmas.Bool.{cond_both, ne_eqb}
 use Rattle.psci_fw.specs.psci_board.Board.{BoardValue, cores}
 use Rattle.psci_fw.specs.psci_fw_spec.declared.status.Status.{Status}
 use Rattle.psci_fw.specs.psci_fw_spec.declared.status.Status.TheVariants.{On, Pending}
@@ -11,12 +10,11 @@ use Rattle.psci_fw.specs.psci_fw_spec.AffinityInfo.{status_code}
 use Rattle.psci_fw.specs.psci_fw_spec.Changes.{PowerOn, target}
 use Rattle.psci_fw.specs.psci_fw_spec.Effects.{AsksOn, Effect, Enters}
 use Rattle.psci_fw.specs.psci_fw_spec.Exchange.{FwExchange, effect}
-use Rattle.psci_fw.specs.psci_fw_spec.History.{begins, life, says_off, says_status, status}
+use Rattle.psci_fw.specs.psci_fw_spec.History.{begins, life, says_status, status}
 use Rattle.psci_fw.specs.psci_fw_spec.Lives.{first_status}
 use Rattle.psci_fw.specs.psci_fw_spec.Said.{arrived}
 use Rattle.psci_fw.specs.psci_fw_spec.Statuses.{added, statuses}
 use Rattle.psci_messages.specs.declared.start.Start.{Start}
-use Rattle.psci_messages.specs.OnlyIf.{only_if}
 use Rattle.psci_status.specs.Lists.{Begins, IsLast, Item, row}
 use Rattle.psci_shared.specs.Entries.{FwEntry}
 use Rattle.psci_shared.specs.Books.{exchange_of, history_of}
@@ -26,17 +24,13 @@ use Rattle.psci_status.proofs.Last.{same_code, same_status}
 
 -- the last status
 
-last_added_if : (s t : Status) (ts : List Status) (items : List Item) (b : Bool)
-    → (status_code s == status_code t) ≡ b → IsLast (if b then t ∷ ts else s ∷ t ∷ ts) items
-    → (n : ℕ) × Begins (n, s) items
-last_added_if s t ts items true e h =
-    (length ts, subst (λ (r : Status). Begins (length ts, r) items) (same_status s t e) h)
-last_added_if s t ts items false e h = (suc (length ts), h)
-
 last_added : (s : Status) (ss : List Status) (items : List Item) → IsLast (added s ss) items
     → (n : ℕ) × Begins (n, s) items
 last_added s [] items h = (0, h)
-last_added s (t ∷ ts) items h = last_added_if s t ts items (status_code s == status_code t) refl h
+last_added s (t ∷ ts) items h =
+    cond_both (status_code s == status_code t) (t ∷ ts) (s ∷ t ∷ ts)
+    (λ (ss : List Status). IsLast ss items → (n : ℕ) × Begins (n, s) items)
+    (λ e l. (length ts, rw (← same_status s t e) l)) (λ e l. (suc (length ts), l)) h
 
 last_seen : (b : BoardValue) (h : List FwExchange) (core : ℕ) (items : List Item)
     → IsLast (statuses b h core) items → life b h ≢ 0
@@ -44,11 +38,9 @@ last_seen : (b : BoardValue) (h : List FwExchange) (core : ℕ) (items : List It
 unfolding statuses
 last_seen b [] core items l ne = absurd (ne refl)
 last_seen b (e ∷ h) core items l ne =
-    let before : List Status = if begins (life b h) (arrived (effect b e))
-    then added (first_status core) (statuses b h core) else statuses b h core in
-    last_added (status b (e ∷ h) core) before items
-    (subst (λ (t : Bool). IsLast (if t then statuses b h core
-    else added (status b (e ∷ h) core) before) items) (ne_eqb (life b (e ∷ h)) 0 ne) l)
+    last_added (status b (e ∷ h) core) (if begins (life b h) (arrived (effect b e))
+    then added (first_status core) (statuses b h core) else statuses b h core) items
+    (rw (ne_eqb (life b (e ∷ h)) 0 ne) at l)
 
 pub has_seen : (b : BoardValue) (entries : List FwEntry) (seen : List (List Item)) (core : ℕ)
     → AllLast b entries seen → life b (history_of entries) ≢ 0 → core < cores b
@@ -60,22 +52,7 @@ has_seen b entries seen core last ne small =
 
 says : (b : BoardValue) (e : FwExchange) (h : List FwExchange) (core : ℕ) (f : Effect) (s : Status)
     → effect b e ≡ f → says_status b core h f ≡ Some s → status b (e ∷ h) core ≡ s
-says b e h core f s is said =
-    ap (λ (o : Option Status). unwrap_or o
-    (if begins (life b h) (arrived (effect b e)) then first_status core else status b h core))
-    (ap (λ (g : Effect). says_status b core h g) is ∙ said)
-
-says_pending : (b : BoardValue) (h : List FwExchange) (caller : ℕ) (asked : PowerOn)
-    → says_status b (target asked) h (AsksOn caller asked) ≡ Some Pending
-says_pending b h caller asked =
-    ap (λ (t : Bool). option_or (only_if t (Some Pending))
-    (says_off b (target asked) h (AsksOn caller asked))) (same_code (target asked))
-
-says_on : (b : BoardValue) (h : List FwExchange) (core : ℕ) (s : Start)
-    → says_status b core h (Enters core s) ≡ Some On
-says_on b h core s =
-    ap (λ (t : Bool). option_or (only_if t (Some On)) (says_off b core h (Enters core s)))
-    (same_code core)
+says b e h core f s is said = rw (is, said) refl
 
 -- after a call more
 
@@ -86,8 +63,7 @@ has_seen_more : (b : BoardValue) (entries : List FwEntry) (e : FwEntry) (seen : 
     → core < cores b → HasSeen seen core s
 has_seen_more b entries e seen core f s last ne is said small =
     subst (λ (t : Status). HasSeen seen core t)
-    (ap (λ (h : List FwExchange). status b h core) (history_more entries e)
-    ∙ says b (exchange_of e) (history_of entries) core f s is said)
+    (rw (history_more entries e) (says b (exchange_of e) (history_of entries) core f s is said))
     (has_seen b (entries ++ e ∷ []) seen core last ne small)
 
 pub asked : (b : BoardValue) (entries : List FwEntry) (e : FwEntry) (seen : List (List Item))
@@ -97,7 +73,7 @@ pub asked : (b : BoardValue) (entries : List FwEntry) (e : FwEntry) (seen : List
     → HasSeen seen (target on) Pending
 asked b entries e seen caller on last ne is small =
     has_seen_more b entries e seen (target on) (AsksOn caller on) Pending last ne is
-    (says_pending b (history_of entries) caller on) small
+    (rw (same_code (target on)) refl) small
 
 pub entered : (b : BoardValue) (entries : List FwEntry) (e : FwEntry) (seen : List (List Item))
     (core : ℕ) (start : Start)
@@ -105,4 +81,4 @@ pub entered : (b : BoardValue) (entries : List FwEntry) (e : FwEntry) (seen : Li
     → effect b (exchange_of e) ≡ Enters core start → core < cores b → HasSeen seen core On
 entered b entries e seen core start last ne is small =
     has_seen_more b entries e seen core (Enters core start) On last ne is
-    (says_on b (history_of entries) core start) small
+    (rw (same_code core) refl) small

@@ -1,9 +1,10 @@
--- A call that names no core has begun no life and changed no status, so nothing is to be written.
-use Rattle.std.proofs.Common.{◌≡◌, ◌≢◌, ℕ, zero, suc, List, ◌∷◌, true, false, cond, refl, sym}
-use Rattle.std.proofs.Common.{ap, ◌∙◌, Bool, Option, None, Some, arith}
+-- A core that the last call does not name has nothing more to be written; and a call that names no
+-- core has begun no life and changed no status, so nothing is to be written.
+use Rattle.std.proofs.Common.{◌≡◌, ◌≢◌, ℕ, List, ◌∷◌, false, refl, sym}
+use Rattle.std.proofs.Common.{◌∙◌, Option, None, Some}
 use Rattle.std.specs.Prelude.{◌<◌, ◌==◌, not, if◌then◌else◌}
 use Rattle.std.specs.Ordering.{int_eq}
-use Rattle.std.proofs.lemmas.Bool.Decides.{nat_tests}
+use Rattle.std.proofs.lemmas.Bool.{cond_both, eqb-false}
 use Rattle.std.proofs.lemmas.Option.{none-some}
 use Rattle.psci_fw.specs.psci_abi.Calls.{request_of}
 use Rattle.psci_fw.specs.psci_abi.Codes.{success}
@@ -20,22 +21,59 @@ use Rattle.psci_fw.specs.psci_fw_spec.declared.outcome.Act.TheVariants as acts
 use Rattle.psci_fw.specs.psci_fw_spec.declared.reply.FwReply.{FwReply}
 use Rattle.psci_fw.specs.psci_fw_spec.declared.reply.FwReply.TheVariants.{Out, Taken}
 use Rattle.psci_fw.specs.psci_fw_spec.declared.status.Status.{Status}
-use Rattle.psci_fw.specs.psci_fw_spec.Effects.{Effect, GoesOn, effect_of, function_effect}
+use Rattle.psci_fw.specs.psci_fw_spec.Effects.{Effect, effect_of, function_effect}
 use Rattle.psci_fw.specs.psci_fw_spec.Effects.{mode_effect, return_effect, sent_effect, stop_effect}
 use Rattle.psci_fw.specs.psci_fw_spec.Exchange.{FwExchange}
-use Rattle.psci_fw.specs.psci_fw_spec.History.{life, life_after, status, values_of}
+use Rattle.psci_fw.specs.psci_fw_spec.History.{life, status, values_of}
 use Rattle.psci_fw.specs.psci_fw_spec.Said.{arrived}
 use Rattle.psci_fw.specs.psci_fw_spec.Statuses.{added}
 use Rattle.psci_fw.specs.psci_fw_spec.SuspendMode.{mode_of}
 use Rattle.psci_messages.specs.Message.{MessageValue}
-use Rattle.psci_status.specs.Naming.{is_named}
-use Rattle.psci_status.specs.Writing.{one_more}
+use Rattle.psci_status.specs.Naming.{is_named, names}
+use Rattle.psci_status.specs.Writing.{one_more, written_then}
 use Rattle.psci_status.specs.Lists.{row}
 use Rattle.psci_shared.specs.Entries.{FwEntry}
 use Rattle.psci_shared.specs.Books.{exchange_of, history_of}
 use Rattle.psci_shared.specs.Writing.{IsOneBehind, named_by, written_after}
 use Rattle.psci_shared.proofs.Histories.{history_more}
-use Rattle.psci_shared.proofs.Stays.{others_stay}
+use Rattle.psci_fw.specs.psci_fw_spec.Values.{Values}
+use Rattle.psci_status.proofs.Last.{added_last, status_stays, same_code}
+use Rattle.psci_status.proofs.Past.{names_enter, names_smc, names_take}
+
+-- a call names no other core
+names_no_other : (b : BoardValue) (c : Core) (core : ℕ) (call : FwCall) (reply : FwReply)
+    → is_named (named_by c call reply) core ≡ false
+    → names (effect_of b c.number call reply) core ≡ false
+names_no_other b c core (Smc regs) (Out o) other = names_smc b c.number core regs o other
+names_no_other b c core (Enter start) (Out o) other = names_enter b c.number core start o other
+names_no_other b c core (Take ack) (Taken taken) other =
+    names_take b c.number core ack taken other
+names_no_other b c core call reply other = refl
+
+pub others_stay : (b : BoardValue) (log : List (List Status)) (entries : List FwEntry)
+    (before : ℕ) (changed : Option Core) (v : Values)
+    → IsOneBehind b log entries before changed → v ≡ values_of b (history_of entries)
+    → (core : ℕ) → core < cores b → is_named changed core ≡ false → v.life ≡ before
+    → v.life ≢ 0 → added (v.status core) (row log core) ≡ row log core
+unfolding values_of
+others_stay b log entries before changed v (past, last, is, was, named, wrote) at core small
+    other same some =
+    let h = history_of past in
+    let e = exchange_of last in
+    let more : history_of entries ≡ e ∷ h = rw is (history_more past last) in
+    let lives : life b (e ∷ h) ≡ life b h = rw (at, more, was) at same in
+    let begun : life b (e ∷ h) ≢ 0 = rw (at, more) at some in
+    let stays : v.status core ≡ status b h core = rw (at, more) (status_stays b e h core lives
+    (names_no_other b last.core core last.call last.reply (rw named at other))) in
+    rw (stays, wrote core small) (added_last b h core (rw lives at begun))
+
+-- what is written by the firmware's values is what is written by the entries
+pub written_by_values : (b : BoardValue) (entries : List FwEntry) (before : ℕ) (v : Values)
+    (core : ℕ) (ss : List Status) → v ≡ values_of b (history_of entries)
+    → written_then before v core ss ≡ written_after b entries before core ss
+unfolding values_of
+written_by_values b entries before v core ss at =
+    rw at refl
 
 -- No life begins ------------------------------------------------------------------------------
 
@@ -48,15 +86,14 @@ none_stops : (b : BoardValue) (c : ℕ) (r : Request) (m : MessageValue)
 none_stops b c requests.SystemOff m = refl
 none_stops b c r m = refl
 
-none_set : (c : ℕ) (mode : Option SuspendMode) (t : Bool)
-    → NobodyEntered (cond t (mode_effect c mode) (GoesOn c))
-none_set c None true = refl
-none_set c (Some mode) true = refl
-none_set c mode false = refl
+none_mode : (c : ℕ) (mode : Option SuspendMode) → NobodyEntered (mode_effect c mode)
+none_mode c None = refl
+none_mode c (Some mode) = refl
 
 none_returns : (c : ℕ) (r : Request) (code : Code) → NobodyEntered (return_effect c r code)
 none_returns c (requests.SetSuspendMode number) code =
-    none_set c (mode_of number) (int_eq code.0 success.0)
+    cond_both (int_eq code.0 success.0) _ _ NobodyEntered (λ set. none_mode c (mode_of number))
+    (λ other. refl)
 none_returns c r code = refl
 
 none_sends : (c : ℕ) (r : Request) (m : MessageValue) → NobodyEntered (sent_effect c r m)
@@ -82,21 +119,17 @@ same_life : (b : BoardValue) (last : FwEntry) (h : List FwExchange)
     → named_by last.core last.call last.reply ≡ None
     → life b (exchange_of last ∷ h) ≡ life b h
 same_life b last h none =
-    ap (λ a. life_after a (life b h)) (none_unnamed b last.core last.call last.reply none)
+    rw (none_unnamed b last.core last.call last.reply none) refl
 
 -- Nothing is to be written --------------------------------------------------------------------
 
 kept : (n before core : ℕ) (s : Status) (written : List Status) → n ≡ before
     → (n ≢ 0 → added s written ≡ written)
     → written ≡ (if n == 0 then written else one_more (not (n == before)) core s written)
-kept zero before core s written same last = refl
-kept (suc n) before core s written same last =
-    let some : (suc n == 0) ≡ false = grind (arith, nat_tests) in
-    let goes_on : not (suc n == before) ≡ false = grind (arith, nat_tests) in
-    sym (ap (λ (t : Bool). if t then written else one_more (not (suc n == before)) core s written)
-    some
-    ∙ ap (λ (t : Bool). one_more t core s written) goes_on
-    ∙ last (λ (zero : suc n ≡ 0). absurd (omega arith)))
+kept n before core s written same last =
+    cond_both (n == 0) written (one_more (not (n == before)) core s written)
+    (λ (ss : List Status). written ≡ ss) (λ none. refl)
+    (λ some. rw (← same, same_code n) (sym (last (eqb-false n 0 some))))
 
 pub nothing_to_write : (b : BoardValue) (log : List (List Status)) (entries : List FwEntry)
     (before : ℕ) (named : Option Core) → IsOneBehind b log entries before named → named ≡ None
@@ -105,12 +138,10 @@ pub nothing_to_write : (b : BoardValue) (log : List (List Status)) (entries : Li
 unfolding values_of
 nothing_to_write b log entries before named (past, last, is, was, name, wrote) none core small =
     let h = history_of past in
-    let more : history_of entries ≡ exchange_of last ∷ h =
-    ap history_of is ∙ history_more past last in
+    let more : history_of entries ≡ exchange_of last ∷ h = rw is (history_more past last) in
     let lives : life b (history_of entries) ≡ before =
-    ap (λ (x : List FwExchange). life b x) more ∙ same_life b last h (sym name ∙ none) ∙ sym was in
+    rw (more, same_life b last h (sym name ∙ none)) (sym was) in
     kept (life b (history_of entries)) before core (status b (history_of entries) core)
     (row log core) lives
     (λ some. others_stay b log entries before named (values_of b (history_of entries))
-    (past, last, is, was, name, wrote) refl core small
-    (ap (λ (k : Option Core). is_named k core) none) lives some)
+    (past, last, is, was, name, wrote) refl core small (rw none refl) lives some)
