@@ -1,7 +1,7 @@
 //! The answer to an event, as an answer line has it.
 
 use crate::json::kind_word;
-use psci_world_spec::{Act, Part, Said, Sent, Taken};
+use psci_world_spec::{Ack, Act, Part, Said, Sent, Taken};
 use std::alloc::AllocError;
 
 /// What became of an acknowledgement.
@@ -52,6 +52,12 @@ fn write_sent(out: &mut String, sent: &Sent) -> Result<(), AllocError> {
     write_parts(out, message.parts.as_slice())
 }
 
+/// Writes an acknowledgement with its number.
+fn write_ack(out: &mut String, index: u64, ack: &Ack) -> Result<(), AllocError> {
+    let stale = if ack.stale { " stale" } else { "" };
+    write!(out, "ack #{index} applied {}{stale}", ack.applied)
+}
+
 /// Writes what was said of an event.
 pub fn write_answer(out: &mut String, said: &Said) -> Result<(), AllocError> {
     match said {
@@ -63,10 +69,7 @@ pub fn write_answer(out: &mut String, said: &Said) -> Result<(), AllocError> {
             }
         }
         Said::Kick(start) => write!(out, "started {}", start.number),
-        Said::Acked { index, ack } => {
-            let stale = if ack.stale { " stale" } else { "" };
-            write!(out, "ack #{index} applied {}{stale}", ack.applied)
-        }
+        Said::Acked { index, ack } => write_ack(out, *index, ack),
         Said::Taken(taken) => write!(out, "{}", taken_word(*taken)),
         Said::Ignored => write!(out, "ignored"),
         Said::Absent => write!(out, "absent"),

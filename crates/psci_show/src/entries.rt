@@ -22,23 +22,31 @@ fn write_name(out: &mut String, run: &Run, node: Node) -> Result<(), AllocError>
 fn write_entry(out: &mut String, run: &Run, node: Node) -> Result<(), AllocError>
     requires { HasNode run.now.board node }
 {
-    let Depths { depth, granted } = run.depths(node);
+    let depths = run.depths(node);
     let state = state_of(run, node);
-    let is_deep = if node.level == 0 {
-        depth == granted
-    } else {
-        depth == 3 && granted == 3
-    };
-    if state.is_none() && is_deep {
+    let says_depth = is_said(node, depths);
+    if state.is_none() && !says_depth {
         return Ok(());
     }
     write_name(out, run, node)?;
     if let Some(state) = state {
         write!(out, " {}", state.told().letter)?;
     }
-    if is_deep {
-        return Ok(());
+    if says_depth {
+        write_depth(out, depths)?;
     }
+    Ok(())
+}
+
+/// Whether the depth of a core or power domain is said.
+fn is_said(node: Node, depths: Depths) -> bool {
+    let Depths { depth, granted } = depths;
+    depth != granted || (node.level > 0 && depth != 3)
+}
+
+/// Writes a depth, with a mark behind it where another one was granted.
+fn write_depth(out: &mut String, depths: Depths) -> Result<(), AllocError> {
+    let Depths { depth, granted } = depths;
     let mark = if depth == granted { "" } else { "!" };
     write!(out, " {depth}{mark}")
 }

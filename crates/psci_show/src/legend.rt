@@ -1,7 +1,7 @@
 //! What letters and depths mean.
 
 use crate::names::depth_name;
-use crate::state::{Activity, Told};
+use crate::state::Activity;
 use std::alloc::AllocError;
 
 /// The states, as their lines stand.
@@ -19,20 +19,13 @@ const STATES: [Activity; 8] = [
 /// Writes a line for each letter, each depth and the mark.
 pub fn write_legend(out: &mut String) -> Result<(), AllocError> {
     for state in STATES {
-        let Told {
-            letter,
-            meaning,
-            ..
-        } = state.told();
-        writeln!(out, "  {letter}  the core {meaning}")?;
+        let told = state.told();
+        writeln!(out, "  {}  the core {}", told.letter, told.meaning)?;
     }
     writeln!(out, "  0  the power domain is fully on")?;
     for depth in 1..4 {
-        writeln!(
-            out,
-            "  {depth}  the power domain is in {}",
-            depth_name(depth)
-        )?;
+        let name = depth_name(depth);
+        writeln!(out, "  {depth}  the power domain is in {name}")?;
     }
     writeln!(
         out,

@@ -11,6 +11,16 @@ pub fn depth_at(parts: &[Part], level: usize) -> u8 {
     parts.get(level).map(|part| part.depth).unwrap_or(0)
 }
 
+/// The depths that the parts ask of the levels from 0 to 3.
+fn depths_of(parts: &[Part]) -> [u8; 4] {
+    [
+        depth_at(parts, 0),
+        depth_at(parts, 1),
+        depth_at(parts, 2),
+        depth_at(parts, 3),
+    ]
+}
+
 /// Writes what the message of a number is, if there is one, and its core.
 pub fn write_message(
     out: &mut String,
@@ -33,14 +43,8 @@ pub fn write_sent(out: &mut String, height: u32, sent: &Sent) -> Result<(), Allo
     write!(out, "{} #{}", kind_name(message.kind), sent.index)?;
     match message.kind {
         Kind::Down => {
-            let parts = message.parts.as_slice();
-            let [core, first] = [depth_at(parts, 0), depth_at(parts, 1)];
             write!(out, ": ")?;
-            write_shares(
-                out,
-                height,
-                [core, first, depth_at(parts, 2), depth_at(parts, 3)],
-            )
+            write_shares(out, height, depths_of(message.parts.as_slice()))
         }
         Kind::Start => write!(out, " of core {}", message.core.number),
         Kind::Off | Kind::Reset => Ok(()),

@@ -2,7 +2,7 @@
 
 use crate::json::{before, kind_word, truth};
 use crate::run::Run;
-use psci_world::{Core, Event, Kind, Part, Record, Said};
+use psci_world::{Core, Event, Kind, Message, Part, Record, Said};
 use std::alloc::AllocError;
 
 /// Writes what a message and its acknowledgement have in common.
@@ -35,22 +35,22 @@ fn write_parts(out: &mut String, parts: &[Part]) -> Result<(), AllocError> {
 
 /// Writes the message that was sent, if one was.
 fn write_sent(out: &mut String, said: &Said) -> Result<(), AllocError> {
-    let Said::Fw {
-        sent: Some(sent),
-        ..
-    } = said
-    else {
-        return write!(out, "null");
-    };
-    let message = &sent.message;
-    write!(out, "{{\"index\": {}", sent.index)?;
-    write_name(
-        out,
-        message.kind,
-        message.core,
-        message.life,
-        message.number,
-    )?;
+    match said {
+        Said::Fw {
+            sent: Some(sent),
+            ..
+        } => {
+            write!(out, "{{\"index\": {}", sent.index)?;
+            write_message(out, &sent.message)
+        }
+        _ => write!(out, "null"),
+    }
+}
+
+/// Writes the members of a message, behind its number.
+fn write_message(out: &mut String, message: &Message) -> Result<(), AllocError> {
+    let (kind, core) = (message.kind, message.core);
+    write_name(out, kind, core, message.life, message.number)?;
     write!(out, ", \"parts\": [")?;
     write_parts(out, message.parts.as_slice())?;
     write!(out, "]}}")

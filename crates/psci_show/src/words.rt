@@ -4,7 +4,7 @@ use crate::call::write_call;
 use crate::message::{write_message, write_sent};
 use crate::names::returned_name;
 use crate::run::Run;
-use psci_world_spec::{Act, Code, Event, Record, Request, Said, Taken, read};
+use psci_world_spec::{Ack, Act, Code, Event, Record, Request, Said, Sent, Taken, read};
 use std::alloc::AllocError;
 
 /// Writes what the message of this number is, if there is one.
@@ -81,15 +81,16 @@ fn parts_in(run: &Run, event: &Event) -> usize {
     }
 }
 
-/// Writes how much of a message of so many parts was applied.
-fn write_applied(out: &mut String, parts: usize, applied: u8) -> Result<(), AllocError> {
+/// Writes how much of a message of so many parts was applied, and whether it is stale.
+fn write_applied(out: &mut String, parts: usize, ack: &Ack) -> Result<(), AllocError> {
     if parts > 0 {
-        write!(out, "{applied} of {parts} parts applied")
-    } else if applied > 0 {
-        write!(out, "applied")
+        write!(out, "{} of {parts} parts applied", ack.applied)?;
+    } else if ack.applied > 0 {
+        write!(out, "applied")?;
     } else {
-        write!(out, "not applied")
+        write!(out, "not applied")?;
     }
+    write!(out, "{}", if ack.stale { ", stale" } else { "" })
 }
 
 /// What became of an acknowledgement.
@@ -100,24 +101,28 @@ fn taken_words(taken: Taken) -> &'static str {
     }
 }
 
+/// Writes the message that was sent, if one was.
+fn write_with(out: &mut String, run: &Run, sent: Option<&Sent>) -> Result<(), AllocError> {
+    match sent {
+        Some(sent) => {
+            write!(out, "; ")?;
+            write_sent(out, run.world().board().height(), sent)
+        }
+        None => Ok(()),
+    }
+}
+
 /// Writes what an event of a run is answered.
 pub fn write_said(out: &mut String, run: &Run, item: &Record) -> Result<(), AllocError> {
     match &item.said {
         Said::Fw { act, sent } => {
             write_act(out, request_in(&item.event), act)?;
-            match sent {
-                Some(sent) => {
-                    write!(out, "; ")?;
-                    write_sent(out, run.world().board().height(), sent)
-                }
-                None => Ok(()),
-            }
+            write_with(out, run, sent.as_ref())
         }
         Said::Kick(start) => write!(out, "the core is started, number {}", start.number),
         Said::Acked { index, ack } => {
             write!(out, "acknowledgement {index}: ")?;
-            write_applied(out, parts_in(run, &item.event), ack.applied)?;
-            write!(out, "{}", if ack.stale { ", stale" } else { "" })
+            write_applied(out, parts_in(run, &item.event), ack)
         }
         Said::Taken(taken) => write!(out, "{}", taken_words(*taken)),
         Said::Ignored => write!(out, "ignored: it cannot happen now"),
