@@ -22,9 +22,7 @@ static unsigned char *next(unsigned char *place) {
     return place + sizeof(struct header) + at(place)->size;
 }
 
-/* By how the lists of a tree are made (docs/DECISIONS.md), not proved. The boards that take most are
- * tried at each number of cores. */
-size_t pool_size(uint16_t cores) { return 4096 + 1792u * cores + 32u * cores * cores; }
+size_t pool_size(uint16_t cores) { return POOL_SIZE(cores); }
 
 void pool_give(void *memory, size_t size) {
     first = memory;

@@ -7,6 +7,10 @@
 
 #include "psci_ctl.h"
 
+#ifdef __cplusplus
+extern "C" {
+#endif
+
 /* An event of one list, and how many a list has at most. Those of a story are a script for replay. */
 enum {
     PSCI_BESIDE_CALL = 0,    /* a call of a core that runs */
@@ -152,5 +156,9 @@ size_t psci_beside_story(const struct psci_beside *, char *text, size_t size);
 const char *psci_beside_name(uint64_t x0);
 bool psci_beside_runs(const struct psci_beside *, uint32_t core);
 bool psci_beside_is_started(const struct psci_beside *, uint32_t core);
+
+#ifdef __cplusplus
+}
+#endif
 
 #endif

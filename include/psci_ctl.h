@@ -6,6 +6,10 @@
 
 #include "psci.h"
 
+#ifdef __cplusplus
+extern "C" {
+#endif
+
 /* A place for a power controller; all zero is empty. Only the calls below read or write it, and it
  * is never copied. Each pointer that is given to a call is of valid memory of its own, never null. */
 struct psci_ctl_place {
@@ -51,10 +55,10 @@ struct psci_ctl_answer {
 };
 
 /* The library proves these of its own side, which is for machines of 64 bits. */
-_Static_assert(sizeof(struct psci_ctl_place) == 16, "a power controller's place");
-_Static_assert(sizeof(struct psci_ctl_start) == 16, "a start");
-_Static_assert(sizeof(struct psci_ctl_domain) == 8, "a domain");
-_Static_assert(sizeof(struct psci_ctl_answer) == 112, "a power controller's answer");
+PSCI_SIZE_IS(psci_ctl_place, 16);
+PSCI_SIZE_IS(psci_ctl_start, 16);
+PSCI_SIZE_IS(psci_ctl_domain, 8);
+PSCI_SIZE_IS(psci_ctl_answer, 112);
 
 /* Puts a new power controller of the board that the text describes into the place, and frees the
  * one that was there. Its first life has begun: the boot core is started, by the start that
@@ -92,5 +96,9 @@ void psci_ctl_started(struct psci_ctl_place *, uint16_t core, struct psci_ctl_st
 /* PSCI_CTL_ON to PSCI_CTL_POWER_DOWN; PSCI_CTL_NO_PLACE; PSCI_NO_CORE where the board has no such
  * domain; PSCI_NO_LIFE once the system is off. */
 uint32_t psci_ctl_depth(struct psci_ctl_place *, uint32_t level, uint16_t index);
+
+#ifdef __cplusplus
+}
+#endif
 
 #endif

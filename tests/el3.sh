@@ -92,6 +92,24 @@ wrong_records() {
     compared 4 "No such file" "$work/there-is-none"
 }
 
+# what hosts/el3/stress adds up says by which program events were answered
+stress_sums() {
+    (
+        eval "$(sed -n '/^sums() {/,/^}/p' hosts/el3/stress)"
+        printf '%s\n' "1.record: 22 events are answered as by the proved program (call 7, deliver 5)" \
+            "2.record: 3 events are answered as by an unproved program (call 3)" \
+            "3.record: 1 event is answered as by an unproved program (call 1)" > "$work/stress.compared"
+        sums "$work/stress.compared"
+    ) > "$work/out" 2>&1
+    printf '%s\n' "call: 11" "deliver: 5" "events answered as by an unproved program: 4" \
+        "events answered as by the proved program: 22" > "$work/lines"
+    answers "the sums of hosts/el3/stress"
+}
+
+# what compare, the judge and sweeps say at their end, by which program and of how much; faults that are planted there,
+# and sentences that are made elsewhere, are found
+sentences() { by_python sentences; }
+
 # each fault still fits the port's sources, and the port still compiles with it
 el3_faults() {
     local file copy=$work/el3-copy
@@ -106,14 +124,10 @@ el3_faults() {
     done
 }
 
-# compiles FOLDER: whether this port does, where there is a compiler, with its record and without
+# compiles FOLDER: whether this port does with its record, where there is a compiler
 compiles() {
-    local flags
     command -v aarch64-linux-gnu-gcc > /dev/null || return 0
-    for flags in "" "-DRECORD -DLOSE=5"; do
-        make -s -C "$1" TOP="$PWD" OUT="$work/el3-objects" FLAGS="$flags" clean objects \
-            >> "$work/out" 2>&1 || return
-    done
+    make -s -C "$1" TOP="$PWD" OUT="$work/el3-objects" FLAGS="-DRECORD -DLOSE=5" clean objects >> "$work/out" 2>&1
 }
 
 # el3_says TEXT WORD..: hosts/el3/run refuses these words with this text, with no more tools than are named
@@ -136,31 +150,63 @@ el3_words() {
     el3_says "run: there is no option --fast; --help lists them" --fast
 }
 
-# Linux on the firmware, from a built archive and with what was downloaded before
-el3_live() {
-    local tool name cache=${GUMDARTS_CACHE:-$HOME/.cache/gumdarts}
+# can_boot: whether there is what a machine at EL3 wants: tools, a built archive, and what was downloaded before
+can_boot() {
+    local tool name
     has_python "Linux at EL3" || return
     for tool in qemu-system-aarch64 aarch64-linux-gnu-gcc dtc make; do
-        command -v "$tool" > /dev/null || { skip "Linux at EL3" "$tool"; return; }
+        command -v "$tool" > /dev/null || { skip "Linux at EL3" "$tool"; return 1; }
     done
     for name in "$cache/packages/bin/busybox" "$PWD/out/lib/aarch64/libpsci_ffi.a"; do
-        [ -f "$name" ] || { skip "Linux at EL3" "$name"; return; }
+        [ -f "$name" ] || { skip "Linux at EL3" "$name"; return 1; }
     done
-    local rest="exec 0x40000000-0x60000000 boot 0x40200000 starts 4294967295"
+}
+
+cache=${GUMDARTS_CACHE:-$HOME/.cache/gumdarts}
+space="exec 0x40000000-0x60000000 boot 0x40200000 starts 4294967295"
+
+# Linux on the firmware: by boards, in both modes, on many cores
+el3_live_boards() {
+    can_boot || return
     live probe --payload probe
     live pc each boot-core idle suspend-5 vectors
     live osi --mode osi each boot-core idle suspend-5
-    live strict --strict each idle
-    live lost-frames --lose 5 each suspend-5
-    live extended --board "(2 2) $rest lives 65535 format extended" each idle
-    live three-lives --board "(2 2) $rest lives 3" each reboot
+    live extended --board "(2 2) $space lives 65535 format extended" each idle
+    live sixteen --board "((4 4) (4 4)) $space lives 65535" boot-core idle
+}
+
+# on a machine with words of its own, and with faults planted there
+el3_live_faults() {
+    can_boot || return
     live affinity-1 --machine hosts/el3/machines/affinity-1.machine each boot-core idle suspend-5
     live affinity-1-osi --machine hosts/el3/machines/affinity-1.machine --mode osi each boot-core idle
     live_fault wrong-boot-core "event 1, "
     live_fault wrong-mpidr "the proved program: return 0 #1 start 2 "
-    live sixteen --board "((4 4) (4 4)) $rest lives 65535" boot-core idle
+    live_slow
+}
+
+# with accesses that have to be aligned, frames that are lost, three lives, a reset that nobody has ordered, and a
+# kernel that begins another
+el3_live_more() {
+    can_boot || return
+    live strict --strict each idle
+    live lost-frames --lose 5 each suspend-5
+    live three-lives --board "(2 2) $space lives 3" each reboot
+    live cut --reset-at "guest: core 2 off" each idle
+    broken_off "$work/cut.record.before"
     [ -e "$cache/kexec/fetched" ] || { skip "kexec at EL3" "$cache/kexec"; return; }
     live kexec each kexec each boot-core idle suspend-5
+}
+
+# broken_off FILE: a record that a reset broke off, maybe between a start and its entry, is answered as by the program
+broken_off() {
+    local status=0
+    ./psci compare "$1" > "$work/out" 2> "$work/err" || status=$?
+    if grep -q "are answered as by the proved program" "$work/out" && { [ $status = 0 ] ||
+        { [ $status = 7 ] && grep -q "^started and never entered" "$work/out"; }; }; then pass; else
+        fail "./psci compare $1 (status $status)"
+        head -n 5 "$work/out" "$work/err"
+    fi
 }
 
 # live NAME WORD..: a run, which has to end well and to be answered as by the program
@@ -176,6 +222,20 @@ live() {
     fi
     ! grep -q "did not\|LOST" "$work/out" || fail "hosts/el3/run $*: $(grep "did not\|LOST" "$work/out" | head -n 1)"
     compared 0 "are answered as by the proved program" "$work/$name.record" --machine "$work/$name.record.machine"
+}
+
+# a port that is right and slow, in which cores are inside a call as a storm ends: the judge finds nothing
+live_slow() {
+    local board="4 exec 0x40000000-0x60000000 boot 0x40200000 starts 4294967295 lives 65535"
+    say "Lists at EL3: a CPU_ON takes 150 milliseconds"
+    if make -s -C hosts/payload "OUT=$work/payload" > "$work/out" 2>&1 && EL3_OUT=$work/el3-slow hosts/payload/run \
+        --payload "$work/payload/payload.bin" --seconds 300 --out "$work/slow" tests/lists/slow-storm.list \
+        --command "hosts/el3/run --fault slow-on --board '$board' --mode none --kernel IMAGE" > "$work/out" 2>&1
+    then pass; else
+        fail "hosts/payload/run --command 'hosts/el3/run --fault slow-on ..'"
+        tail -n 5 "$work/out"
+    fi
+    compared 0 "1 agrees" "$work/slow/slow-storm.record" --profile hosts/payload/profiles/el3
 }
 
 # live_fault NAME TEXT: a port with this fault on the same machine, whose record shows it, whatever Linux did

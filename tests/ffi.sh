@@ -75,15 +75,6 @@ c_archive() {
     for file in "$archive" "$plain" "$aligned"; do measured "$file"; done
 }
 
-# what the pages say of the library is so
-figures() {
-    has_cc "the figures of the C library" && has_python "the figures of the C library" || return
-    if bench/library --compare > "$work/out" 2>&1; then pass; else
-        fail "the figures of the C library; bench/library --write writes them"
-        cat "$work/out"
-    fi
-}
-
 # refused NAME WORD..: tests/plain-code does not let this pass
 refused() {
     local name=$1
@@ -131,11 +122,43 @@ c_stack() {
         ' add sp, sp, #2, lsl #12' ' ldp x29, x30, [sp], #16' ' ret'
     too_deep jump psci_call: ' b inner' inner: ' sub sp, sp, #3, lsl #12' ' add sp, sp, #3, lsl #12' \
         ' ret'
-    # as deep as a tree has levels
-    too_deep itself psci_call: "$page" ' bl psci_call' "$back" ' ret'
+    # one that calls itself stands there as often as a board has levels, where the sources say so
+    too_deep itself '"core::mem::drop::<#0a1b>":' "$page" ' bl "core::mem::drop::<#0a1b>"' "$back" ' ret' \
+        psci_call: ' sub sp, sp, #16' ' bl "core::mem::drop::<#0a1b>"' ' add sp, sp, #16' ' ret'
+    stack_of as_deep '"core::mem::drop::<#0a1b>":' ' sub sp, sp, #16' ' bl "core::mem::drop::<#0a1b>"' \
+        ' add sp, sp, #16' ' ret' psci_call: ' b "core::mem::drop::<#0a1b>"'
+    if [ "$stack" = 64 ]; then pass; else fail "tests/stack-need: '$stack' of four times 16"; fi
+    unbounded itself psci_call: ' bl psci_call' ' ret'
     unbounded pointer psci_call: ' blr x1' ' ret'
     unbounded register psci_call: ' sub sp, sp, x1' ' ret'
+    unbounded behind psci_call: ' str x0, [sp], #-16' ' ret'
     unbounded in_turn psci_call: ' bl inner' ' ret' inner: ' bl psci_call' ' ret'
+    # what can't be read: no instruction; into the middle of a function; to what is not there; a function's address,
+    # by which a jump through a register may leave its function
+    unbounded no_code psci_call: ' .inst 0xffffffff' ' ret'
+    unbounded middle psci_call: ' bl inner + 4' ' ret' inner: ' nop' ' ret'
+    unbounded nowhere psci_call: ' bl another' ' ret'
+    unbounded address psci_call: ' adrp x0, inner' ' add x0, x0, :lo12:inner' ' br x0' inner: ' ret'
+    unbounded table psci_call: ' br x0' inner: ' ret' ' .section .rodata.table, "a"' ' .xword inner'
+    c_recursion
+}
+
+# unlike_source FILE EDIT: where the sources say otherwise what calls itself, or which type holds itself, nothing is bounded
+unlike_source() {
+    rm -rf "$work/crates"
+    mkdir -p "$work/crates"
+    tar -C crates --exclude=out --exclude=proofs --exclude=specs --exclude=must-fail -cf - . | tar -C "$work/crates" -xf -
+    sed -i "$2" "$work/crates/$1"
+    if cmp -s "crates/$1" "$work/crates/$1" ||
+        tests/stack-need "$work/as_deep.o" "$work/crates" > "$work/out" 2> "$work/err" || [ ! -s "$work/err" ]; then
+        fail "tests/stack-need bounds what calls itself in spite of $1: $2"
+    else pass; fi
+}
+
+c_recursion() {
+    unlike_source psci_tree/src/domain.rt 's/pub children: Vec<Domain>,/pub children: Box<[Domain]>,/'
+    unlike_source psci_board/src/limits.rt 's/pub const MOST_LEVELS: usize = 3;/pub const MOST_LEVELS: usize = MOST;/'
+    unlike_source psci_state/src/cores.rt '$a pub struct Chain {\n    next: Option<Box<Chain>>,\n}'
 }
 
 # the archives for aarch64 are of general registers alone, the second one of aligned accesses
@@ -255,9 +278,33 @@ tested() {
         "$(awk '$1 == "stack" { print $2 }' "$work/out")" "$most_stack"
 }
 
-# what no script comes to, of the firmware and of the power controller
+# from_plus FOLDER TOOL..: this compiler of C++ makes a program that gives the library its heap and calls it by these
+# headers, and that is answered
+from_plus() {
+    "${@:2}" -std=c++11 -O2 -Wall -Wextra -pedantic -Werror "-I$1" -o "$work/plus" tests/programs/linked.cpp "$archive" \
+        2> "$work/err" && [ "$("$work/plus")" = $'2 0x40000000\n0 0x10001' ]
+}
+
+# calls from C++, which a header without the linkage of C does not have
+from_plus_plus() {
+    local tool fresh=$work/headers
+    mkdir -p "$fresh"
+    cp include/*.h "$fresh"
+    sed '/^extern "C" {/d; /^}$/d' include/psci.h > "$fresh/psci.h"
+    for tool in g++ clang++; do
+        command -v "$tool" > /dev/null || { skip "calls from C++" "$tool"; continue; }
+        if from_plus include "$tool"; then pass; else
+            fail "calls from C++ by $tool"
+            head -n 5 "$work/err"
+        fi
+        if from_plus "$fresh" "$tool"; then fail "$tool links calls that have no linkage of C"; else pass; fi
+    done
+}
+
+# what no script comes to, of the firmware and of the power controller; and calls from C++
 c_calls() {
     local name
+    from_plus_plus
     has_cc "calls from C" || return
     for name in library controller; do
         build_c "$name" "tests/programs/$name.c" || return
@@ -279,6 +326,49 @@ unlike() {
     done
 }
 
+# the compilers that are here, each with the languages in which it reads the headers
+languages() {
+    local tool standard
+    for tool in gcc clang; do
+        command -v "$tool" > /dev/null || continue
+        for standard in c99 c11 c17 c2x; do echo "$tool -x c -std=$standard"; done
+    done
+    for tool in g++ clang++; do
+        command -v "$tool" > /dev/null || continue
+        for standard in c++11 c++17 c++20; do echo "$tool -x c++ -std=$standard"; done
+    done
+}
+
+# reads FOLDER HEADER WORD..: a compiler takes a header of this folder that stands alone, and one that stands there twice
+reads() {
+    printf '#include "%s"\n' "$2" "$2" > "$work/alone.c"
+    "${@:3}" -Wall -Wextra -pedantic -Werror -fsyntax-only "-I$1" "$work/alone.c" 2> "$work/err"
+}
+
+# each header alone, in each language of each compiler that is here; a size that is another one is seen in each of them,
+# and a word of C alone in C++
+c_languages() {
+    local header line fresh=$work/headers
+    mkdir -p "$fresh"
+    while read -r line; do
+        for header in psci.h psci_ctl.h psci_beside.h; do
+            # shellcheck disable=SC2086
+            if reads include "$header" $line; then pass; else
+                fail "$header by $line"
+                head -n 5 "$work/err"
+            fi
+        done
+        cp include/*.h "$fresh"
+        sed -i 's/(psci_frame, 54)/(psci_frame, 55)/' "$fresh/psci.h"
+        # shellcheck disable=SC2086
+        if reads "$fresh" psci.h $line; then fail "$line takes a frame of 55 bytes"; else pass; fi
+        sed 's/PSCI_SIZE_IS(psci_place, 16)/_Static_assert(sizeof(struct psci_place) == 16, "a place")/' \
+            include/psci.h > "$fresh/psci.h"
+        # shellcheck disable=SC2086
+        case $line in *c++*) if reads "$fresh" psci.h $line; then fail "$line takes _Static_assert"; else pass; fi ;; esac
+    done < <(languages)
+}
+
 # the numbers, prototypes and structs of the headers are those of the crate
 c_header() {
     has_python "tests/header" || return
@@ -287,12 +377,13 @@ c_header() {
         head -n 20 "$work/out"
         return
     fi
+    c_languages
     unlike psci.h 's/BAD_BOOT = 6/BAD_BOOT = 7/; s/BAD_LIMIT = 7/BAD_LIMIT = 6/' \
         's/PSCI_WAKE = 2, PSCI_RESET = 3/PSCI_WAKE = 3, PSCI_RESET = 2/' 's/PSCI_STOP = 1/PSCI_STOP = 2/' \
         's/life, uint32_t number,/number, uint32_t life,/' 's/uint64_t x1, uint64_t x2/uint64_t x2, uint64_t x1/' \
         's/uint32_t level, uint16_t index/uint16_t index, uint32_t level/' 's/uint8_t kind; /uint16_t kind; /' \
         's/uint16_t core, uint64_t x0, struct psci_stop/uint64_t x0, uint16_t core, struct psci_stop/' \
-        's/^uint32_t psci_life/uint16_t psci_life/' 's/== 54/== 55/' '/uint32_t starts;/{h;d};/uint32_t lives;/G'
+        's/^uint32_t psci_life/uint16_t psci_life/' 's/frame, 54/frame, 55/' '/uint32_t starts;/{h;d};/uint32_t lives;/G'
     unlike psci_ctl.h 's/CTL_OFF = 3/CTL_OFF = 4/; s/CTL_RESTART = 4/CTL_RESTART = 3/' \
         's/life, number, cause;/number, life, cause;/' 's/STANDBY = 1, PSCI_CTL_RETENTION = 2/STANDBY = 2, PSCI_CTL_RETENTION = 1/' \
         's/NOT_A_MESSAGE = 42/NOT_A_MESSAGE = 41/' 's/uint16_t core, uint32_t halted/uint32_t halted, uint16_t core/' \

@@ -66,9 +66,9 @@ front() {
     front_of . --unproved replay
     expect "./psci --unproved replay, the second time" 3 "$unproved"$'\n'"$fault"
     answers "./psci --unproved replay, the second time"
-    # a section that clang makes where it checks each access
-    if readelf -SW "$XDG_CACHE_HOME"/gumdarts/unproved/psci_replay-* | grep -q asan_globals; then
-        fail "what was compiled unproved checks each access to memory"
+    # a section that clang makes where it checks each access, and what it calls there
+    if readelf -SsW "$XDG_CACHE_HOME"/gumdarts/unproved/psci_replay-* | grep -q asan_; then
+        fail "what was compiled unproved carries a sanitizer"
     else
         pass
     fi
@@ -81,6 +81,24 @@ front() {
     expect "./psci replay of other sources" 3 "$unproved"$'\n'"$compiled"$'\n'"$fault"
     unset XDG_CACHE_HOME
     whole_unproved
+}
+
+# ./psci try in a fresh clone with an empty HOME, in which nothing is proved, and of programs that fail; and a limit
+# of memory that the program does not fit is found
+served() {
+    local room=$work/served
+    has_python tests/served || return 0
+    mkdir -p "$room/fresh"
+    git ls-files -z | xargs -0 cp --parents -t "$room/fresh"
+    if tests/served "$program" "$room" > "$work/out" 2>&1; then pass; else
+        fail "./psci try in a fresh clone"
+        tail -n 20 "$work/out"
+    fi
+    if tests/served "$program" "$room" planted > "$work/out" 2>&1; then
+        fail "tests/served lets a limit of memory through that no program fits"
+    elif grep -q "the program failed, and not the script" "$work/out"; then pass; else
+        fail "tests/served, planted: $(head -n 1 "$work/out")"
+    fi
 }
 
 # the whole program is compiled once for every command, and answers as the proved one does

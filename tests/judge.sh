@@ -81,6 +81,9 @@ judged_words() {
     judged_as 6 "new group" --baseline /dev/null --profile $profile "$work/calls.record"
     judged_as 0 "| CPU_ON | -5 | 1 | 0 |" --tallies $short
     judged_as 7 "undecided" --bound 1 --profile $profile $short
+    sed 's/77 0 \.$/77 20010 ./' $short > "$work/calls.record"
+    { cat $profile; echo "keeps x4-x17"; } > "$work/keeps.profile"
+    judged_as 6 "x4 to x17 changed, which it says that it keeps" --profile "$work/keeps.profile" "$work/calls.record"
 }
 
 # records that the second model and the program make: none differs, and of changed ones nine in ten are

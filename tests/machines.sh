@@ -34,6 +34,23 @@ machine_records() {
             head -n 5 "$work/out" "$work/err"
         fi
     done < tests/records/spoiled-words.txt
+    named_machines
+}
+
+# a record that names its machine is in the words of that: its text stands beside it, by the name of the record or by
+# its own, or --machine has it
+named_machines() {
+    local record=$work/named/run.record beside
+    mkdir -p "$work/named"
+    { cat "$work/words.record"; echo "# machine machine.machine"; } > "$record"
+    compared 3 "it has the words of the machine machine.machine: --machine takes the text of that" "$record"
+    compared 0 "22 events are answered as by" "$record" --machine tests/records/machine.machine
+    for beside in "$record.machine" "$work/named/machine.machine"; do
+        cp tests/records/machine.machine "$beside"
+        compared 0 "22 events are answered as by" "$record"
+        compared 0 "has the words of the machine machine.machine: $beside" "$record"
+        rm "$beside"
+    done
 }
 
 # faults that are planted in what reads and translates, each of which has to be seen

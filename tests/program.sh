@@ -397,9 +397,10 @@ kept_threads() {
 }
 
 # threads that can't be made are a fault of its own, and soon: for a user who may have no process more,
-# and where memory has no room for their stacks
+# and where memory has no room for their stacks, or for all but some of them; those that were made wait
+# asleep meanwhile, and all together take less than a second of a processor
 no_threads() {
-    local folder size
+    local folder size begun took
     local -a limited=(prlimit --nproc=1)
     command -v prlimit > /dev/null || { skip "threads that can't be made" prlimit; return; }
     if [ "$(id -u)" = 0 ]; then
@@ -410,10 +411,14 @@ no_threads() {
     folder=$(mktemp -d)
     chmod 755 "$folder"
     cp "$program" "$folder/psci_cli"
+    begun=$(processor_time)
     timeout 60 "${limited[@]}" "$folder/psci_cli" threads --seed 1 --count 50 > "$work/out" 2> "$work/err"
     echo $? > "$work/got"
+    took=$(($(processor_time) - begun))
     expect "threads where no process may be made" 5 "out of threads"
+    [ $took -lt 100 ] || fail "threads where no process may be made: $took hundredths of a second of a processor"
     rm -rf "$folder"
+    some_threads
     : > "$work/lines"
     for size in 8192 6144; do
         (ulimit -v "$size" && exec timeout 60 "$program" threads --seed 1 --count 50 > "$work/out" 2> "$work/err")
@@ -423,6 +428,22 @@ no_threads() {
         fi
         answers "threads in $size KiB of memory"
     done
+}
+
+# some of the threads of 64 cores have no room for their stacks: the others sleep
+some_threads() {
+    local begun took size came=0
+    for size in 65536 131072 262144; do
+        begun=$(processor_time)
+        (ulimit -v "$size" && exec timeout 60 "$program" threads --board \
+            "(16 16 16 16) exec 0x0-0x1000 boot 0x0 starts 1000 lives 3" --seed 1 --count 5 > "$work/out" 2> "$work/err")
+        echo $? > "$work/got"
+        took=$(($(processor_time) - begun))
+        [ "$(cat "$work/got")" = 5 ] && [ "$(cat "$work/err")" = "out of threads" ] || continue
+        came=$((came + 1))
+        [ $took -lt 200 ] || fail "some threads in $size KiB: $took hundredths of a second of a processor"
+    done
+    if [ $came != 0 ]; then pass; else fail "no size of memory lets only some of the threads be made"; fi
 }
 
 # the counts of a storm: its line comes first as ever, then one line for each tally, and each event is in

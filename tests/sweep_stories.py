@@ -123,6 +123,44 @@ def spoiled(room):
     room.is_good(room.sweep("spoiled"))
 
 
+def exchanged(room):
+    """A program that is exchanged in mid sweep is noticed, by the chunk that it answered and by each report; what was
+    finished before stays, and once the program is there again the sweep goes on."""
+    other = room.path("another-program")
+    with open(other, "w", encoding="utf-8") as file:
+        file.write("#!/bin/sh\necho storm events 9 sent 1 quiet 0\necho enter enter 9\n")
+    os.chmod(other, 0o755)
+    program = room.wrapped(f'[ -e "$flag" ] || {{ : > "$flag"; cp -p "$0" "$0.was"; cp -p \'{other}\' "$0.new"; '
+                           'mv "$0.new" "$0"; }')
+    for out, more in (("exchanged", ("--chunk", "5", "--jobs", "1")), ("whole", ("--chunk", "24", "--jobs", "1"))):
+        if os.path.exists(f"{program}.flag"):
+            os.unlink(f"{program}.flag")
+        status, text, said = room.sweep(out, *more, program=program)
+        # the first seed is tried before the sweep begins, and seed 13 is in the third chunk of five
+        wants(status == 4 and not text, f"a program is exchanged, and it ends with {status}: {text}{said}")
+        wants(f"{out}/program: it is not what the sweep began with" in said, f"it says nothing of the program: {said}")
+        wants(list(room.finished(out)) == ["0.json", "1.json"][:2 * (out == "exchanged")],
+              f"results of another program: {list(room.finished(out))}")
+        status, _, said = room.report(out)
+        wants(status == 4 and "not what the sweep began with" in said, f"the report ends with {status}: {said}")
+        shutil.copy(room.path(f"{out}/program.was"), room.path(f"{out}/program"))
+        room.is_good(room.sweep(out, *more, program=program))
+
+
+def nothing(room):
+    """Where in no seed anything happened, nothing is said of them."""
+    program = room.wrapped('echo storm events 0 sent 0 quiet 0; exit', "storm")
+    status, text, said = room.sweep("nothing", program=program)
+    wants(status == 7 and not text and "there is no event in it" in said, f"of nothing it says {status}: {text}{said}")
+
+
+def by_whom(room):
+    """The report names what answered: of a wrapped program nothing is proved."""
+    text = room.sweep("by-whom", program=room.wrapped("true"))[1]
+    wants(text.startswith(f"sweep of storm by an unproved program: {SEEDS} of {SEEDS} seeds are done, 0 of them differ"),
+          f"it says {text[:100]}")
+
+
 def unwritten(room):
     """A file that cannot be written is as it was before."""
     path = room.path("file")
@@ -181,8 +219,9 @@ def model(room):
 def alone(room):
     """Two sweeps are not at one folder."""
     program, held = room.held("--seed 9 ")
-    process = subprocess.Popen(room.words("alone", program=program), stdout=subprocess.DEVNULL,
-                               stderr=subprocess.DEVNULL)
+    # who runs these tests behind may have them ignore an interrupt, and what they start with them
+    process = subprocess.Popen(room.words("alone", program=program), stdout=subprocess.DEVNULL, stderr=subprocess.DEVNULL,
+                               preexec_fn=lambda: signal.signal(signal.SIGINT, signal.SIG_DFL))
     waited(lambda: os.path.exists(room.path("alone/plan.json")))
     # where the second one is not refused, it has to end, too
     late = threading.Timer(60, os.unlink, [held])
@@ -255,5 +294,5 @@ def lists(room):
 
 
 TOGETHER = {it.__name__: it for it in (sums, cuts, killed_worker, killed_program, begun_again, full_disk, spoiled,
-                                       unwritten, parts, differs, model, alone, refused, terminal, threads,
+                                       exchanged, nothing, by_whom, unwritten, parts, differs, model, alone, refused, terminal, threads,
                                        lists)}

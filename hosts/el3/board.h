@@ -24,10 +24,6 @@ enum { SCP = CORES };
 static inline uint64_t own_mpidr(void) { return read_register("mpidr_el1") & AFFINITY; }
 
 /* The number that the firmware has for this core, at the end of its stack, where reset.S has left room. */
-static inline uint64_t *own_number(void) {
-    uint64_t *it;
-    __asm__("mrs %0, tpidr_el3" : "=r"(it));
-    return it;
-}
+static inline uint64_t *own_number(void) { return own_place(); }
 static inline unsigned this_core(void) { return *own_number(); }
 #endif

@@ -27,8 +27,8 @@ void wait_for_start(unsigned core, bool wakes) {
             STORE(door->woken, used[core]);
             gic_ring(SCP);
         }
-        __asm__ volatile("yield"); /* the WFI goes on where that interrupt is there */
-        wait_for_interrupt();
+        relax();
+        wait_for_interrupt(); /* the WFI goes on where that interrupt is there */
     }
 }
 
@@ -92,12 +92,12 @@ static _Noreturn void start_control(void) {
 }
 
 void on_reset(void) {
-    if (own_mpidr() == BOOT && LOAD(kept.boot) != READY) {
+    if (own_mpidr() == BOOT && !gic_is_started()) {
         start_machine();
         STORE(kept.boot, READY);
     }
-    while (LOAD(kept.boot) != READY) {
-    }
+    while (!gic_is_started() || LOAD(kept.boot) != READY)
+        relax();
     if (own_mpidr() == SCP_MPIDR)
         start_control();
     unsigned core = find_number();

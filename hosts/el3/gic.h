@@ -10,7 +10,8 @@ enum { BELL = 15, TIMER = 29 };
 /* Of the 32 interrupts that each core has for itself: all but SGIs 8 to 15 and the secure timer. */
 #define NORMAL_WORLD (~(0xff00u | 1u << TIMER))
 
-void gic_start(void);               /* once after a reset, by one core */
+void gic_start(void);               /* once after a reset, by one core, as the last thing before others go on */
+bool gic_is_started(void);          /* not since the machine was reset, whoever did that */
 void gic_start_core(unsigned core); /* by each core that comes out of reset, which can be rung then */
 void gic_ring(unsigned core);
 

@@ -36,7 +36,15 @@ void gic_start(void) {
         mmio32(GICD + 0x80 + 4 * at) = ~0u; /* IGROUPR: shared interrupts are the normal world's */
         mmio32(GICD + 0xd00 + 4 * at) = 0;  /* IGRPMODR */
     }
+    __asm__ volatile("dsb sy" ::: "memory");
     mmio32(GICD) = 0x37;
+}
+
+/* The bit of group 0, which the normal world can't write. */
+bool gic_is_started(void) {
+    bool is_on = mmio32(GICD) & 1;
+    __asm__ volatile("dsb sy" ::: "memory");
+    return is_on;
 }
 
 void gic_start_core(unsigned core) {

@@ -18,8 +18,8 @@ extern struct psci_machine_place own_machines[CORES];
 /* Around each call of the firmware. It works since a core turns its MMU and caches on before. */
 extern uint32_t taken;
 static inline void lock(void) {
-    while (__atomic_exchange_n(&taken, 1, __ATOMIC_ACQUIRE)) {
-    }
+    while (__atomic_exchange_n(&taken, 1, __ATOMIC_ACQUIRE))
+        relax();
 }
 static inline void unlock(void) { __atomic_store_n(&taken, 0, __ATOMIC_RELEASE); }
 

@@ -28,5 +28,20 @@
     __asm__ volatile("msr " name ", %0\n isb" ::"r"((uint64_t)(value)) : "memory")
 
 static inline void wait_for_interrupt(void) { __asm__ volatile("dsb sy\n wfi" ::: "memory"); }
+
+/* In a loop that waits for another core: it gives its turn away, where cores run in turn. */
+static inline void relax(void) { __asm__ volatile("yield"); }
+
+/* Of the stack of the core at this place in the list: its last word, at its lowest address. */
+static inline const volatile uint64_t *stack_end(unsigned at) {
+    return (const volatile uint64_t *)(uintptr_t)(STACKS + STACK * at);
+}
+
+/* The end of this core's stack, with room for a word. */
+static inline uint64_t *own_place(void) {
+    uint64_t *it;
+    __asm__("mrs %0, tpidr_el3" : "=r"(it));
+    return it;
+}
 #endif
 #endif

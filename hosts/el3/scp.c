@@ -49,13 +49,22 @@ static void switch_domain(const struct psci_ctl_domain *domain) {
         }
 }
 
+#define TOLD(what) PEEK(kept.tally.what)
 static void tell_tally(void) {
-    const struct tally *it = &kept.tally;
-    say("# stops %u, entries %u, resumes %u, parks %u\n", it->stops, it->entries, it->resumes,
-        it->parks);
+    say("# stops %u, entries %u, resumes %u, parks %u\n", TOLD(stops), TOLD(entries), TOLD(resumes),
+        TOLD(parks));
     say("# messages %u, acknowledgements %u, wakes %u, Downs that waited %u, sent again %u, lost %u\n",
-        it->messages, it->acks, it->wakes, it->waited, it->again, it->dropped);
-    say("# refused %u, power cuts %u\n", it->refused, it->cuts);
+        TOLD(messages), TOLD(acks), TOLD(wakes), TOLD(waited), TOLD(again), TOLD(dropped));
+    say("# refused %u, power cuts %u\n", TOLD(refused), TOLD(cuts));
+}
+
+/* The last word of a stack is 0 as long as nothing came so far: the stacks suffice. */
+static void look_at_stacks(void) {
+    for (unsigned at = 0; at <= CORES; at++)
+        if (*stack_end(at)) {
+            COUNT(refused);
+            say("# el3: stack %u is full\n", at);
+        }
 }
 
 /* The machine goes off or is reset, by a pin. */
@@ -63,6 +72,7 @@ static _Noreturn void end_life(bool resets) {
     unsigned pin = resets ? 1 : 0;
     while (record_tell()) {
     }
+    look_at_stacks();
     tell_tally();
     STORE(kept.boot, WARM);
     mmio32(PINS + 0x400) |= 1u << pin; /* DIR */

@@ -44,7 +44,7 @@ struct tally {
 
 /* What a reset of the machine leaves: the power controller counts lives on. */
 struct kept {
-    uint32_t boot; /* 0 as the power comes on, WARM as a reset begins, READY once the boot core is through */
+    uint32_t boot; /* 0 as the power comes on, WARM as a reset is ordered, READY once the boot core is through */
     struct psci_ctl_place controller;
     struct psci_place reader; /* the control processor's own: it reads frames by it, and makes no call */
     struct tally tally;

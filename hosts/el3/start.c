@@ -12,10 +12,10 @@ extern char data_start[], data_end[], data_load[], bss_start[], bss_end[], kept_
 
 struct kept kept __attribute__((section(".kept")));
 
-/* The heaps, which the library asks as it opens and at no other time. */
-enum { HEAP = 4096 + 1792 * CORES + 32 * CORES * CORES, MACHINE_HEAP = 2048 + 64 * CORES };
-static unsigned char heap[HEAP + (CORES + 1) * MACHINE_HEAP] __attribute__((aligned(16)));
-static unsigned char kept_heap[2 * HEAP] __attribute__((aligned(16), section(".kept")));
+/* The heaps, which the library asks as it opens and at no other time: of the firmware and of a machine for each
+ * core and one for the firmware; of the power controller and of the reader of frames. */
+static unsigned char heap[POOL_SIZE(CORES) + (CORES + 1) * POOL_MACHINE_SIZE(CORES)] __attribute__((aligned(16)));
+static unsigned char kept_heap[2 * POOL_SIZE(CORES)] __attribute__((aligned(16), section(".kept")));
 
 static void check(const char *what, uint32_t opened) {
     if (opened == PSCI_OPENED)
@@ -52,10 +52,15 @@ static void open_controller(void) {
     record_board();
 }
 
+/* A reset that the power controller has not ordered, by a button or a watchdog, finds READY in memory. It may have cut
+ * the controller, too, so both sides begin in life 1, as when the power comes on. */
 void start_machine(void) {
-    bool is_warm = kept.boot == WARM;
+    bool is_warm = kept.boot == WARM, is_cut = kept.boot == READY;
+    STORE(kept.boot, is_warm ? WARM : 0);
     memcpy(data_start, data_load, data_end - data_start);
     memset(bss_start, 0, bss_end - bss_start);
+    if (is_cut)
+        say("\n# el3: a reset that nobody here has ordered\n");
     if (!is_warm)
         open_controller();
     open_firmware();

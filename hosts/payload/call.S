@@ -93,3 +93,36 @@ conduit_call:
         ldp     x27, x28, [sp, #80]
         ldp     x29, x30, [sp], #112
         ret
+
+/* uint64_t hold_registers(uint64_t end): waits until the counter is there, and calls nobody. In what it returns there
+ * is a bit for each of x4 to x30 that somebody changed meanwhile, bit 4 for x4. */
+        .global hold_registers
+hold_registers:
+        stp     x29, x30, [sp, #-96]!
+        stp     x19, x20, [sp, #16]
+        stp     x21, x22, [sp, #32]
+        stp     x23, x24, [sp, #48]
+        stp     x25, x26, [sp, #64]
+        stp     x27, x28, [sp, #80]
+        mov     x2, x18
+        patterned
+1:      yield
+        isb
+        mrs     x1, cntpct_el0
+        cmp     x1, x0
+        b.ls    1b
+        mov     x0, #0
+        .irp    n, 4,5,6,7,8,9,10,11,12,13,14,15,16,17,18,19,20,21,22,23,24,25,26,27,28,29,30
+        mov     x1, #(0x5a00 + \n)
+        cmp     x1, x\n
+        cset    x3, ne
+        orr     x0, x0, x3, lsl #\n
+        .endr
+        mov     x18, x2
+        ldp     x19, x20, [sp, #16]
+        ldp     x21, x22, [sp, #32]
+        ldp     x23, x24, [sp, #48]
+        ldp     x25, x26, [sp, #64]
+        ldp     x27, x28, [sp, #80]
+        ldp     x29, x30, [sp], #96
+        ret

@@ -3,9 +3,12 @@
 #include "record.h"
 
 enum { STEP_TIME = 3000000, ENTRY_TIME = 300000, POLL_TIME = 300000 };
-enum { SYSTEM_OFF = 0x84000008 };
+enum { SYSTEM_OFF = 0x84000008, ALL_MASKED = 0x3c0, MMU_OR_CACHE = 5 };
+
+struct state { uint64_t level, masks, control; };
 
 uint64_t conduit_call(uint64_t x[4], uint32_t is_smc);
+uint64_t hold_registers(uint64_t end);
 void booted(const void *tree);
 void entered(uint64_t core, uint64_t at, uint64_t context);
 void exception(uint64_t syndrome, uint64_t address);
@@ -21,6 +24,15 @@ static void copy4(uint64_t *to, const uint64_t *from) {
     for (int at = 0; at < 4; at++) to[at] = from[at];
 }
 
+/* What a core was at has come about. Where the entries were written before, it comes too late for them, and is
+ * written now, in place of a line that says that it was open. */
+static void come_about(struct entry *entry, enum kept kind) {
+    __atomic_thread_fence(__ATOMIC_SEQ_CST);
+    entry->kind = kind;
+    __atomic_thread_fence(__ATOMIC_SEQ_CST);
+    if (!storm.is_on) write_entry(entry);
+}
+
 static void ask_in_storm(uint32_t core, const uint64_t x[4]) {
     struct entry *entry = new_entry();
     while (!entry) __asm__("wfi");
@@ -32,8 +44,7 @@ static void ask_in_storm(uint32_t core, const uint64_t x[4]) {
     entry->kind = KEPT_OPEN;
     entry->lost = conduit_call(entry->behind, machine.is_smc);
     entry->end = tick();
-    __atomic_thread_fence(__ATOMIC_SEQ_CST);
-    entry->kind = KEPT_CALL;
+    come_about(entry, KEPT_CALL);
 }
 
 void ask(uint32_t core, const uint64_t x[4], enum told told) {
@@ -90,9 +101,27 @@ static void await(uint32_t core, uint32_t target, uint32_t times) {
         LINE("lacks", core, cores[core].number++, tick(), target, times);
 }
 
-static void delay(uint64_t microseconds) {
-    uint64_t end = after(microseconds);
-    while (!is_past(end)) {}
+void delay(uint32_t core, uint64_t microseconds) {
+    uint64_t lost = hold_registers(after(microseconds));
+    if (lost) LINE("lost", core, lost);
+}
+
+static uint64_t boot_level;
+
+static struct state entry_state(void) {
+    struct state it;
+    __asm__ volatile("mrs %0, CurrentEL\n mrs %1, daif" : "=r"(it.level), "=r"(it.masks));
+    if (it.level == 8) __asm__ volatile("mrs %0, sctlr_el2" : "=r"(it.control));
+    else __asm__ volatile("mrs %0, sctlr_el1" : "=r"(it.control));
+    return it;
+}
+
+/* What the standard says of the state in which a core enters, where it is otherwise: the exception level is that at
+ * boot, all interrupts are masked, the MMU and the data cache are off. */
+static void look_at_state(uint64_t core) {
+    struct state state = entry_state();
+    if (state.level != boot_level || state.masks != ALL_MASKED || state.control & MMU_OR_CACHE)
+        LINE("state", core, state.level, state.masks, state.control);
 }
 
 static void suspend(uint32_t core, const uint64_t x[4], uint64_t microseconds) {
@@ -112,7 +141,7 @@ static void play(uint32_t core, const struct step *step) {
     case STOP: ask(core, x, GOING); return;
     case POLL: poll(core, x, step->more); break;
     case SUSPEND: suspend(core, x, step->more); break;
-    case DELAY: delay(step->more); break;
+    case DELAY: delay(core, step->more); break;
     case AWAIT: await(core, (uint32_t)x[0], (uint32_t)step->more); break;
     case STORM:
         storm.seed = x[0], storm.standby = x[1], storm.down = x[2], storm.is_wide = x[3];
@@ -164,6 +193,7 @@ void booted(const void *tree) {
         tree = (const void *)((uintptr_t)head & ~0x3ffffffful);
     if (!read_tree(tree)) return;
     int is_of_list = begin_life();
+    boot_level = entry_state().level;
     LINE("head", 1, (uintptr_t)head, (uintptr_t)entries, machine.is_smc, machine.cores, 0);
     interrupts_ready();
     cores[0].entries = 1;
@@ -177,11 +207,12 @@ void entered(uint64_t core, uint64_t at, uint64_t context) {
     if (entry) {
         *entry =
             (struct entry){0, (uint32_t)core, mine->number++, 0, tick(), {at, context}, {0}, 0};
-        entry->kind = KEPT_ENTER;
+        come_about(entry, KEPT_ENTER);
     } else {
         uint32_t time = tick();
         LINE("enter", core, mine->number++, time, at, context);
     }
+    look_at_state(core);
     add(&mine->entries, 1);
     interrupts_ready();
     mine->has_timer = 0;

@@ -32,6 +32,9 @@ void ask(uint32_t core, const uint64_t x[4], enum told told);
 /* The same, with the timer set. */
 void ask_with_timer(uint32_t core, const uint64_t x[4], uint64_t microseconds);
 
+/* Waits for so long, and looks whether the core keeps its registers meanwhile. */
+void delay(uint32_t core, uint64_t microseconds);
+
 /* A storm: each core draws so many calls by the seed, and goes off; core 0 then writes what was
  * kept. */
 struct storm {

@@ -54,10 +54,12 @@ void line(const char *kind, const uint64_t *numbers, uint32_t many) {
 
 struct entry *new_entry(void) {
     uint32_t at = add(&many_kept, 1);
-    return at < MOST_ENTRIES ? &kept[at] : 0;
+    if (at >= MOST_ENTRIES) return 0;
+    kept[at].kind = 0; /* as long as it is not filled: there may have been a storm before */
+    return &kept[at];
 }
 
-static void write_entry(const struct entry *it) {
+void write_entry(const struct entry *it) {
     const uint64_t *x = it->before, *y = it->behind;
     if (it->kind == KEPT_CALL)
         LINE("call", it->core, it->number, it->begin, it->end, 1, x[0], x[1], x[2], x[3], y[0],

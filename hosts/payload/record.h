@@ -23,6 +23,7 @@ struct entry {
 };
 /* The next entry; nothing where there is no more room. */
 struct entry *new_entry(void);
+void write_entry(const struct entry *);
 void write_entries(void);
 
 #endif

@@ -109,13 +109,13 @@ void storm_of(uint32_t core) {
 }
 
 void storm_ends(void) {
-    uint64_t end = after(100000);
-    while (!is_past(end)) {}
-    end = after(3000000);
+    delay(0, 100000);
+    uint64_t end = after(3000000);
     for (uint32_t core = 0; core < machine.cores; core++) {
         while (cores[core].has_timer && !is_past(end)) {}
         if (cores[core].has_timer) LINE("late", core, 0);
     }
     storm.is_on = 0;
+    __atomic_thread_fence(__ATOMIC_SEQ_CST);
     write_entries();
 }

@@ -84,10 +84,10 @@ static void __init enter_boot_core(unsigned int core)
     tell_running(core);
 }
 
-/* The opening takes 1,344 bytes with the frames of TF-A that it stands on. */
+/* The opening takes 1,680 bytes with the frames of TF-A that it stands on. */
 static void __init open_on_a_stack(void)
 {
-#if PLATFORM_STACK_SIZE < 0x600
+#if PLATFORM_STACK_SIZE < 0x700
     on_opening_stack(firmware_open);
 #else
     firmware_open();

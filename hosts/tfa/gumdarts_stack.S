@@ -5,11 +5,11 @@
 #include <asm_macros.S>
 #include <platform_def.h>
 
-#if PLATFORM_STACK_SIZE < 0x600
+#if PLATFORM_STACK_SIZE < 0x700
 
 	.globl	on_opening_stack
 
-#define OPENING_SIZE 0x600
+#define OPENING_SIZE 0x700
 
 	.if RECLAIM_INIT_CODE || (PLATFORM_CORE_COUNT - 1) * PLATFORM_STACK_SIZE < OPENING_SIZE
 	.section .bss.opening_stack, "aw", %nobits

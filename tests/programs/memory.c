@@ -1,7 +1,8 @@
 /* What a firmware keeps of memory, by board: `memory TREE..` prints for each tree of cores the bytes that
- * are kept and in how many requests, and the most bytes that were asked for at one time. */
+ * are kept and in how many requests, the most bytes that were asked for at one time, and the bytes that
+ * its power controller keeps. */
 #include "counted.h"
-#include "psci.h"
+#include "psci_ctl.h"
 
 #include <stdio.h>
 #include <string.h>
@@ -15,8 +16,13 @@ int main(int count, char **trees) {
         most_given = 0;
         if (psci_open(&place, (const uint8_t *)board, strlen(board)) != PSCI_OPENED)
             return 1;
-        printf("%zu %zu %zu\n", given, requests, most_given);
+        printf("%zu %zu %zu ", given, requests, most_given);
         psci_close(&place);
+        struct psci_ctl_place controller = {0};
+        if (given || psci_ctl_open(&controller, (const uint8_t *)board, strlen(board)) != PSCI_OPENED)
+            return 1;
+        printf("%zu\n", given);
+        psci_ctl_close(&controller);
         if (given || requests)
             return 1;
     }

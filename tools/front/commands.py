@@ -158,7 +158,8 @@ class Front:
         os.execv(f"{repo.TOP}/tools/try", ["try", "--program", self.program(), *words[1:]])
 
     def compare(self, words):
-        os.execv(f"{repo.TOP}/tools/compare", ["compare", *words[1:]])
+        unproved_too = ["--unproved"] if self.is_unproved else []
+        os.execv(f"{repo.TOP}/tools/compare", ["compare", *unproved_too, *words[1:]])
 
     def sweep(self, words):
         from sweep import command

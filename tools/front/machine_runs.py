@@ -26,7 +26,8 @@ CORE_EVENTS = ("call", "enter", "wake", "reset")
 def machine_in(path):
     """The machine of a file; raises why there is none, with the status."""
     try:
-        with open(path, encoding="ascii", errors="replace") as file:
+        # lines end with LF alone
+        with open(path, encoding="ascii", errors="replace", newline="\n") as file:
             text = file.read()
     except OSError as fault:
         raise Stopped(f"cannot read {path}: {fault.strerror}", 4) from fault
@@ -186,11 +187,12 @@ class Run:
             pass
         self.process.stdout.read()
         status = ended(self.process)
-        self.said.seek(0)
-        tell(self.said.read(), lambda number: self.last)
         if self.fault:
+            # the program had the lines before it, and may miss the first one
             complain("\n".join(self.fault) + "\n")
             return 3
+        self.said.seek(0)
+        tell(self.said.read(), lambda number: self.last)
         return status
 
 

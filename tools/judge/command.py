@@ -3,6 +3,8 @@ import argparse
 import os
 import sys
 
+import sentence
+
 from . import profile, record, report, tallies
 from .groups import grouped
 from .verdict import AGREES, DIFFERS, UNDECIDED, judged
@@ -87,6 +89,8 @@ def main(words):
         if not words.profile:
             end(COMMAND, "a record of calls needs --profile FILE; docs/JUDGE.md says what stands there")
         return judge(words, lives_of, profile.read(words.profile))
+    except sentence.Nothing as why:
+        end(STATUS[UNDECIDED], why)
     except (profile.Wrong, ValueError) as fault:
         end(RECORD, fault)
     except OSError as fault:

@@ -16,7 +16,7 @@ class Profile:
         self.name, self.board = name, board
         self.aligned, self.version, self.levels, self.zero = 4, 0x10001, 3, 0
         self.functions = None
-        self.reads_states, self.is_early = True, False
+        self.reads_states, self.is_early, self.keeps_early = True, False, False
         self.states = {}
 
     def has(self, word):
@@ -31,6 +31,12 @@ def yes(value):
     if value not in ("yes", "no"):
         raise ValueError
     return value == "yes"
+
+
+def kept(value):
+    if value != "x4-x17":
+        raise ValueError
+    return True
 
 
 def functions_of(value):
@@ -58,6 +64,7 @@ def read(path):
         "states-read": lambda value: setattr(profile, "reads_states", yes(value)),
         "zero": lambda value: setattr(profile, "zero", int(value, 16)),
         "state": lambda value: setattr(profile, "states", state(value, profile.states)),
+        "keeps": lambda value: setattr(profile, "keeps_early", kept(value)),
         "early": lambda value: setattr(profile, "is_early", yes(value)),
     }
     with open(path, encoding="ascii") as file:

@@ -6,10 +6,12 @@ from .words import ENDS, LOW, SLEEPS, STOPS, code_of, name_of
 MARK, END = "psci: ", " ."
 INFINITE = float("inf")
 # how many numbers each kind of line has
-FIELDS = {"head": 6, "call": 14, "open": 7, "enter": 5, "late": 2, "lacks": 5, "fault": 3}
+FIELDS = {"head": 6, "call": 14, "open": 7, "enter": 5, "late": 2, "lacks": 5, "fault": 3, "lost": 2, "state": 4}
 FORM = 1
 # registers that a call has to keep by every version of the calling convention: x18 to x30, v0 to v31
 KEPT = 0x7FFC0000 | 0xFFFFFFFF << 32
+# what each version of the convention but 1.0 has a call keep, too
+EARLY_REGISTERS = "x4 to x17 changed, as version 1.0 of the convention lets them"
 # what a record says that is no answer: kind is "fault" or "note"
 Remark = namedtuple("Remark", "kind what text")
 
@@ -108,6 +110,12 @@ def keep(life, raw, kind, numbers):
     elif kind == "fault":
         text = f"core {numbers[0]}: exception, syndrome {numbers[1]:#x}, at {numbers[2]:#x}"
         life.remarks.append(Remark("fault", "exception", text))
+    elif kind == "lost":
+        names = names_of(numbers[1], 4)
+        life.remarks.append(Remark("fault", "registers that changed without a call", f"core {numbers[0]}: {names}"))
+    elif kind == "state":
+        text = f"core {numbers[0]}: CurrentEL {numbers[1]:#x}, DAIF {numbers[2]:#x}, SCTLR {numbers[3]:#x}"
+        life.remarks.append(Remark("fault", "the state in which a core enters", text))
     else:
         key = numbers[0], numbers[1]
         if key not in raw or raw[key][0] == "open":
@@ -152,14 +160,17 @@ def called(life, numbers, _is_last):
     return [first]
 
 
+def names_of(lost, first):
+    """The registers that these bits stand for, from this one on."""
+    return ", ".join(f"x{it}" if it < 32 else f"v{it - 32}" for it in range(first, 64) if lost >> it & 1)
+
+
 def look_at_registers(life, operation, results, lost):
     regs = operation.regs
     if lost & KEPT:
-        names = ", ".join(f"x{it}" if it < 32 else f"v{it - 32}" for it in range(18, 64) if lost >> it & 1)
-        life.remarks.append(Remark("fault", "registers that are to be kept", f"{operation.text}: {names}"))
+        life.remarks.append(Remark("fault", "registers that are to be kept", f"{operation.text}: {names_of(lost, 18)}"))
     elif lost:
-        life.remarks.append(Remark("note", "x4 to x17 changed, as version 1.0 of the convention lets them",
-                                   operation.text))
+        life.remarks.append(Remark("note", EARLY_REGISTERS, operation.text))
     if results[1:] != regs[1:]:
         life.remarks.append(Remark("note", "x1 to x3 changed", operation.text))
     if not regs[0] & 1 << 30 and results[0] > LOW:

@@ -2,12 +2,11 @@
 from collections import Counter
 from xml.sax.saxutils import escape, quoteattr
 
+import sentence
+from sentence import counted
+
 from .groups import Group, group_of, theirs_of
 from .verdict import UNDECIDED
-
-
-def counted(number, word):
-    return f"{number} {word}{'' if number == 1 else 's'}"
 
 
 def summary(verdict, has_times):
@@ -53,8 +52,9 @@ def lines(verdicts, groups, has_each, has_times):
     yield from of_groups(groups)
     yield from of_notes(verdicts)
     words = Counter(verdict.word for verdict in verdicts)
-    yield (f"{counted(len(verdicts), 'record')}: " + ", ".join(f"{words[it]} {it}" for it in words)
-           + f"; {counted(sum(it.answers for it in verdicts), 'answer')}, {counted(len(groups), 'group')}")
+    records = f"{counted(len(verdicts), 'record')}: " + ", ".join(f"{words[it]} {it}" for it in words)
+    yield sentence.told(f"{records}; {{count}}, {counted(len(groups), 'group')}",
+                        sum(it.answers for it in verdicts), "answer")
 
 
 # ---- a baseline: a line for each group

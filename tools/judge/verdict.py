@@ -3,6 +3,7 @@ import time
 from collections import namedtuple
 
 from . import after
+from .record import EARLY_REGISTERS, Remark
 from .search import Search, Undecided
 
 # operation, what ours answers, and whether an earlier difference of the record came first
@@ -26,11 +27,18 @@ class Verdict:
         self.differences.append(Difference(operation, ours, bool(self.differences) and not is_first_of_life))
 
 
+def seen(remark, profile):
+    """A remark on a firmware that declares that it keeps more than it has to."""
+    if profile.keeps_early and remark.what == EARLY_REGISTERS:
+        return Remark("fault", "x4 to x17 changed, which it says that it keeps", remark.text)
+    return remark
+
+
 def judged(name, lives, profile, bound=20000, limit=60.0, is_whole=False, has_later=True):
     """The verdict on the lives of a record; without later differences it ends with the first one."""
     verdict, began = Verdict(name), time.monotonic()
     for life in lives:
-        verdict.remarks += life.remarks
+        verdict.remarks += [seen(it, profile) for it in life.remarks]
         if has_later or not verdict.differences:
             look_at_life(verdict, life, profile, bound, began + limit, is_whole, has_later)
     verdict.seconds = time.monotonic() - began

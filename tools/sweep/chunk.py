@@ -36,7 +36,7 @@ class Chunk:
 
 
 def done(plan, number):
-    """The result of a chunk."""
+    """The result of a chunk, where what made it is still what the sweep began with."""
     begun, used = time.time(), processor_seconds()
     found, seeds = Chunk(plan), plan.seeds_of(number)
     with tempfile.TemporaryDirectory(prefix="psci-sweep-") as room:
@@ -44,6 +44,7 @@ def done(plan, number):
         for seed in seeds:
             for run in kind.runs(seed, room):
                 found.add(seed, run)
+    plans.look_at_files(plan)
     cost = {"processor": round(processor_seconds() - used, 3), "seconds": round(time.time() - begun, 3),
             "machine": socket.gethostname()}
     return {"plan": plan.stamp, "first": seeds[0], "last": seeds[-1], "seeds": len(seeds), "sums": found.sums,

@@ -8,6 +8,8 @@ import sys
 import tempfile
 import time
 
+import sentence
+
 from . import kinds, plan as plans, report, whole
 from .engines import ENGINES
 from .far import Far
@@ -27,7 +29,8 @@ What is finished stays: the same words in the same folder go on where a sweep wa
 """
 ENDING = """
 Exit status: 0 where all seeds are done and none differs; 6 where one differs; 7 where some are left and none
-differs; 2 for a word at fault, 4 for what cannot be read or written. docs/SWEEP.md has more.
+differs, or nothing happened in them; 2 for a word at fault, 4 for what cannot be read or written, or is not what
+the sweep began with. docs/SWEEP.md has more.
 """
 
 
@@ -94,7 +97,8 @@ def begun(folder, words, settings, seeds):
     files = kind.gather(words, folder)
     # the first seed is tried in any case, which tells of faulty words
     size = guessed(kind(settings, folder), seeds, words)
-    return plans.make(folder, words.kind, settings, files, seeds, words.chunk or size)
+    by = sentence.by_whom(f"{folder}/program") if "program" in files else None
+    return plans.make(folder, words.kind, settings, files, seeds, words.chunk or size, by)
 
 
 def plan_of(words):
@@ -147,9 +151,15 @@ def ended(plan):
 
 
 def told(every, has_costs):
-    """Prints the report; its status."""
+    """Prints the report of what was made by what each sweep began with; its status."""
+    for plan in every:
+        plans.look_at_files(plan)
     found = report.Together(every)
-    print("\n".join(report.lines(found)), flush=True)
+    try:
+        print("\n".join(report.lines(found)), flush=True)
+    except sentence.Nothing as why:
+        say(f"{every[0].folder}: {why}")
+        return LEFT
     if has_costs:
         for line in report.costs(found):
             say(line)

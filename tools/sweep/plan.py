@@ -58,11 +58,12 @@ def sum_of(path):
         return hashlib.sha256(file.read()).hexdigest()
 
 
-def make(folder, kind, settings, files, seeds, size):
-    """Writes a plan into its folder, with the sums of the files that its chunks need."""
+def make(folder, kind, settings, files, seeds, size, by=None):
+    """Writes a plan into its folder, with the sums of the files that its chunks need, and what answers, where that is
+    our program: a proved one or not, as it is now."""
     sums = {name: sum_of(f"{folder}/{name}") for name in files}
     plan = Plan(folder, {"form": FORM, "kind": kind, "settings": settings, "files": sums, "first": seeds[0],
-                         "last": seeds[1], "size": size})
+                         "last": seeds[1], "size": size, "by": by})
     whole.write_summed(f"{folder}/plan.json", plan.text)
     return plan
 
@@ -76,7 +77,7 @@ def read(folder):
 
 
 def look_at_files(plan):
-    """Whether chunks still have what the sweep began with."""
+    """Holds that chunks still have what the sweep began with."""
     for name, wanted in plan.text["files"].items():
         if sum_of(f"{plan.folder}/{name}") != wanted:
             raise whole.Broken(f"{plan.folder}/{name}: it is not what the sweep began with")

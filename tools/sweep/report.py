@@ -1,5 +1,7 @@
 """The report of a sweep, or of several of one kind: a sum over the seeds that are done. Nothing of it hangs on
 chunks, engines, machines or time."""
+import sentence
+
 from . import kinds, plan as plans, sums
 from .sums import LINES
 
@@ -34,6 +36,16 @@ class Together:
     def seeds(self):
         return sum(last + 1 - first for first, last in self.done)
 
+    @property
+    def by(self):
+        """What answered, where that is our program: a proved one, if each of these sweeps had that."""
+        every = {plan.text.get("by") for plan in self.plans}
+        return every.pop() if len(every) == 1 else sentence.UNPROVED
+
+    def count(self, name):
+        """The sum of the numbers of this name over all boards."""
+        return sum(number for key, number in self.sums.items() if key.partition("\t")[2] == name)
+
 
 def joined(ranges):
     """These ranges in order, where those that follow each other are one."""
@@ -63,12 +75,22 @@ def ranges(them):
     return ", ".join(f"{first}..{last}" if first != last else str(first) for first, last in them)
 
 
+def first_line(found):
+    """How many seeds are done and differ, and by which program; where seeds are done, something happened in them."""
+    kind, by = kinds.every()[found.plans[0].kind], " by {by}" if found.by else ""
+    whole = sum(it.seeds for it in found.plans)
+    several = len({it["seed"] for it in found.differences})
+    if not found.seeds:
+        return f"sweep of {kind.NAME}: none of {whole} seeds is done"
+    number, what = kind.LOOKED_AT
+    return sentence.told(f"sweep of {kind.NAME}{by}: {found.seeds} of {whole} seeds are done, {several} of them differ",
+                         found.count(number) + several, what, by=found.by)
+
+
 def lines(found):
     """The report, line by line."""
     plan = found.plans[0]
-    whole = sum(it.seeds for it in found.plans)
-    several = len({it["seed"] for it in found.differences})
-    yield f"sweep of {plan.kind}: {found.seeds} of {whole} seeds are done, {several} of them differ"
+    yield first_line(found)
     yield f"seeds: {ranges(found.done)}"
     if found.left:
         yield f"left: {ranges(found.left)}"

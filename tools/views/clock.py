@@ -12,7 +12,7 @@ class BadClock(Exception):
 def read(path):
     """The times of a file, in nanoseconds, one an event."""
     try:
-        with open(path, encoding="ascii", errors="replace") as file:
+        with open(path, encoding="ascii", errors="replace", newline="\n") as file:
             return times_of(file, path)
     except OSError as fault:
         raise BadClock(f"{path}: {fault.strerror}") from fault

@@ -7,6 +7,9 @@ TOP = os.path.dirname(os.path.dirname(os.path.dirname(os.path.abspath(__file__))
 TABLES = {"board": "| Number | Fault | Where |", "script": "| Number | Script fault | Where |",
           "machine": "| Number | Machine fault | Where |"}
 
+# the statuses of the program where the script is at fault, and where there was too little memory
+SCRIPT_FAULT, NO_MEMORY = 3, 5
+
 
 def words_of(kind):
     """The faults of a table, by their numbers: the name, and where it comes."""
@@ -22,11 +25,15 @@ def fault(text, line=None):
 
 
 def fault_of(said, status):
-    """The fault that the program told of: its line if it has one, and its words."""
+    """The fault of a run that ended so: of a line of the script, in the words of its table; or the program's, of which
+    it is said that it is none of the script's. What a tool said is not shown as the script's fault."""
     if status == 0:
         return None
-    match = re.search(r"line (\d+): (script|board) fault (\d+)", said)
-    if match:
-        words = words_of(match[2]).get(int(match[3]), said.strip())
+    match = re.fullmatch(r"line (\d+): (script|board) fault (\d+)\n", said)
+    if status == SCRIPT_FAULT and match:
+        words = words_of(match[2])[int(match[3])]
         return fault(f"{match[2]} fault {match[3]}, {words}", int(match[1]))
-    return fault(said.strip() or f"the program ended with status {status}")
+    if (status, said) == (NO_MEMORY, "out of memory\n"):
+        return fault("the run needs more memory than it may have here: it stops after the last event that fitted")
+    how = f"with status {status}" if status > 0 else f"by signal {-status}"
+    return fault(f"the program failed, and not the script: it ended {how}. The terminal of psci try has what it said")

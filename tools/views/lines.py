@@ -48,7 +48,7 @@ class Lines:
         self.beside = MARGIN + 2 + self.row_width <= self.width // 2
 
     def written(self, row, last):
-        """The lines of a row; for changes, against the row before."""
+        """The lines of a row; for changes, against the row before, or without one whole."""
         before = last if self.changes else None
         words = row.words.split(" ")
         if not self.beside:
@@ -115,10 +115,12 @@ class Lines:
 
 
 def write(window, run, out, lines, screen):
-    """Writes the rows of a window; for changes with a heading on each screen of so many lines."""
-    left = 0
+    """Writes the rows of a window; for changes with a heading on each screen of so many lines. The first row has all
+    that is shown: no row stands before it."""
+    left, is_first = 0, True
     for row, last in window.rows(run):
-        text = lines.written(row, last)
+        text = lines.written(row, None if is_first else last)
+        is_first = False
         height = text.count("\n")
         if lines.changes and left < height:
             heading = lines.heading()

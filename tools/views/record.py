@@ -85,6 +85,10 @@ class Record:
         self.sent, self.acks = {}, {}
         self.many_sent = self.many_acks = 0
         self.life, self.starts, self.found = 1, {0: 1}, {0: (1, 1, BOOT)}
+        # each entry, by its core and start; of each life the cores that were started and did not enter
+        self.entered, self.absent = set(), []
+        # the cores that were started since some core called or entered
+        self.fresh = set()
         # of each core the start in whose stop it stands, if the record tells of that
         self.stops, self.tells_stops = {}, False
         for at, line in enumerate(lines, 1):
@@ -93,6 +97,7 @@ class Record:
                 break
         if self.board is None:
             raise Fault("line 1: the record names no board")
+        self.end_of_life()
 
     def read(self, at, line):
         """Whether the record goes on."""
@@ -181,6 +186,7 @@ class Record:
         return self.words.get(target >> 8 * level << 8 * level if level == self.highest else target, NOBODY)
 
     def call(self, core, x0, x1, x2, x3, answer, frame):
+        self.fresh.clear()
         word = int(x0, 16) % 2**32
         if self.translator:
             text = self.translator.call(f"call {core} {x0} {x1} {x2} {x3}")
@@ -214,6 +220,8 @@ class Record:
         if found and by != found:
             raise Impossible("it entered by start {1} of life {0}, cause {2}; ".format(*by) +
                              "its last one is start {1} of life {0}, cause {2}".format(*found))
+        self.entered.add((int(core), *by))
+        self.fresh.clear()
         return f"enter {core}", self.outcome(answer, frame)
 
     def take(self, frame, said):
@@ -251,12 +259,23 @@ class Record:
         if kind == 2 and said == 0x10:
             self.started(message[3], self.starts.get(message[3], 0) + 1, ON)
         elif kind in (3, 4):
+            self.end_of_life(self.fresh)
             self.life, self.starts, self.stops = self.life + 1, {0: 1}, {}
             self.found = {0: (self.life, 1, BOOT)}
         return f"ack #{self.many_acks - 1} applied {ack[12]}" + " stale" * (said == 0x20)
 
+    def end_of_life(self, late=()):
+        """Keeps which cores were started in this life, and have not entered by that start. Of a life that no core has
+        entered nothing is said: the machine may be off; and nothing of those that were started too late, as the life
+        was about to be ended."""
+        cores = [core for core, by in sorted(self.found.items())
+                 if (core, *by) not in self.entered and core not in late]
+        cores = cores if any(life == self.life for _, life, _, _ in self.entered) else []
+        self.absent += [(self.life, cores)] if cores else []
+
     def started(self, core, start, cause):
         self.starts[core], self.found[core] = start, (self.life, start, cause)
+        self.fresh.add(core)
 
     def kicked(self, core, said, cause):
         if said.startswith("started "):
@@ -276,6 +295,11 @@ class Record:
         return f"reset {core}", self.kicked(core, said, RESET)
 
     # ---- what is made of it
+
+    def never_entered(self):
+        """What is said of cores that were started and never entered; nothing where there is none."""
+        said = [f"core{'s' * (len(cores) > 1)} {', '.join(map(str, cores))} in life {life}" for life, cores in self.absent]
+        return said and f"started and never entered: {'; '.join(said)}"
 
     def script(self, many=None):
         events = self.events[:many]

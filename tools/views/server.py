@@ -7,26 +7,29 @@ import io
 import json
 import re
 import resource
+import signal
 import subprocess
+import sys
 import threading
 from http.server import BaseHTTPRequestHandler, ThreadingHTTPServer
 
 from . import clock, faults, page, shown, stories, window
 
-# the longest script in bytes and in lines, the seconds of a run, its bytes of memory and of output
+# the longest script in bytes and in lines, the processor seconds of a run, its bytes of memory and of output; where the
+# machine is busy it may take three times as long
 MOST_BYTES, MOST_LINES, SECONDS = 128 * 1024, 5000, 5
 MEMORY, MOST_OUTPUT = 1 << 30, 64 << 20
 # what the page may do: run its own scripts, and ask this server
 POLICY = ("default-src 'none'; style-src 'unsafe-inline'; script-src 'unsafe-inline'; "
           "connect-src 'self'; frame-ancestors 'none'")
+TOO_LONG = faults.fault(f"the run took more than {SECONDS} seconds")
 # runs at one time
 AT_ONCE = threading.Semaphore(2)
 
 
 def limit():
     """Sets the limits of a run, in its process."""
-    resource.setrlimit(resource.RLIMIT_CPU, (SECONDS, SECONDS))
-    # a program that is checked for bad accesses while it runs reserves more than it takes
+    resource.setrlimit(resource.RLIMIT_CPU, (SECONDS, SECONDS + 1))
     resource.setrlimit(resource.RLIMIT_DATA, (MEMORY, MEMORY))
 
 
@@ -37,12 +40,19 @@ def run_of(program, script):
     try:
         with AT_ONCE:
             ran = subprocess.run([program, "show", "--json"], input=script.encode(),
-                                 timeout=SECONDS, capture_output=True, check=False,
+                                 timeout=3 * SECONDS, capture_output=True, check=False,
                                  preexec_fn=limit)
     except subprocess.TimeoutExpired:
-        return None, faults.fault(f"the run took more than {SECONDS} seconds")
-    fault = faults.fault_of(ran.stderr.decode(), ran.returncode)
-    return packed(ran.stdout[:MOST_OUTPUT].decode()), fault
+        return None, TOO_LONG
+    except OSError as why:
+        return None, faults.fault(f"the program cannot be started: {why.strerror}")
+    if ran.returncode == -signal.SIGXCPU:
+        return None, TOO_LONG
+    said = ran.stderr.decode(errors="replace")
+    fault = faults.fault_of(said, ran.returncode)
+    if fault and fault["line"] is None:
+        print(f"psci try: the program ended with status {ran.returncode}, and said:\n{said}", file=sys.stderr, flush=True)
+    return packed(ran.stdout[:MOST_OUTPUT].decode(errors="replace")), fault
 
 
 def packed(text):

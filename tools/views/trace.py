@@ -55,20 +55,21 @@ class Trace:
         return DOMAINS, 1000 * (len(self.board.domains) - level) + index + 1
 
     def states(self, row):
-        """The slices of what changed end, and others begin."""
+        """The slices of what changed end, and others begin: of a slice the state and both depths hold for its whole
+        length."""
         if self.last is not None and row.is_like(self.last):
             return
         for node in self.window.nodes:
             state, depth, granted = row.look(node)
-            name = state or DEPTHS[depth]
-            if self.open.get(node, (None,))[0] != name:
+            looks = state or DEPTHS[depth], depth, granted
+            if node not in self.open or self.open[node][0] != looks:
                 self.close(node, self.time(row.number))
-                self.open[node] = name, self.time(row.number), depth, granted
+                self.open[node] = looks, self.time(row.number)
 
     def close(self, node, end):
         if node not in self.open:
             return
-        name, begin, depth, granted = self.open.pop(node)
+        (name, depth, granted), begin = self.open.pop(node)
         process, track = self.track(node)
         color = {"cname": COLORS[name]} if node[0] == 0 else {}
         self.put(ph="X", cat="state", name=name, pid=process, tid=track, ts=begin,

@@ -51,7 +51,7 @@ class Window:
         return self.cores is None or not self.cores.isdisjoint(self.board.cores_of(node))
 
     def rows(self, run):
-        """The rows inside, each with the row before it; what comes behind is only read."""
+        """The rows inside, each with the row of the run before it; what comes behind is only read."""
         last = None
         for row in run:
             if row.number > self.last:

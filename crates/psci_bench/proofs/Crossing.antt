@@ -7,12 +7,10 @@ use denote.Struct.Declared.{shape}
 use denote.Struct.Tuple.{TupleAt, field_at, type_at}
 use mathlib.Core.List.{List, [], ◌∷◌}
 use Prim.Native.Nat.{ℕ}
-use Rattle.std.proofs.Crossing as heap
 use Rattle.std.specs.declared.sync.ledger.Ledger as Ledger
 use Rattle.psci_board.proofs.board.Board.TheSendSync as board
 use Rattle.psci_shared.specs.declared.named.Named as Named
-use Rattle.psci_shared.proofs.Crossing.{shared}
-use Rattle.psci_shared.proofs.controller.shared.SharedController.TheSendSync as controller
+use Rattle.psci_shared.proofs.Crossing.{shared, controlled}
 use Rattle.psci_bench.proofs.wire.Wire.TheSendSync as wire
 use Rattle.psci_bench.specs.contracts.platform.Platform as Platform
 
@@ -27,7 +25,7 @@ module _ (N M : RattleType) (n : Named.Ghosts N.Denot) (m : Named.Ghosts M.Denot
         (
           shr_sync _ _ _ (shared N n l a),
           (
-            search (heap.crosses, controller.the_sync, sendable),
+            shr_sync _ _ _ (controlled M m k a),
             (search (wire.the_sync, sendable), (plain_sync _ _ _ _ _, tt)),
           ),
         ),

@@ -173,7 +173,7 @@ fn done<N: Named, M: Named, R: Wait, G: Gate>(
     gate: &G,
     job: Job<N, M>,
 ) -> Returned<N, M> {
-    if !platform.wire.starts_with_all() {
+    if !platform.wire.starts_with_all(rt) {
         return left(job);
     }
     match job {

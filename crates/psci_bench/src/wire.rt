@@ -5,14 +5,17 @@ use psci_board::Core;
 use psci_link::{FRAME_LEN, Frame, encode};
 use std::alloc::{AllocError, Global};
 use std::sync::Wait;
-use std::sync::atomic::{AtomicBool, AtomicU32, Ordering};
-use std::thread;
+use std::sync::atomic::{AtomicBool, AtomicU32, AtomicU64, Ordering};
+use std::time::Duration;
 
 /// The bytes of a frame.
 pub type Bytes = [u8; FRAME_LEN];
 
-/// A thread that has come waits so many turns at most for the others.
-const TURNS: u32 = 4_000_000;
+/// A thread that has come looks so often at most whether the others have.
+const LOOKS: u32 = 250;
+
+/// It sleeps so many milliseconds between two looks, unless a thread comes.
+const SLEEP: u64 = 20;
 
 /// So many workers at most step down at one moment.
 const AT_ONCE: u32 = 1000;
@@ -31,7 +34,7 @@ pub struct Wire {
     /// Workers that have not ended.
     at_work: AtomicU32,
     /// Threads that have come to the start.
-    come: AtomicU32,
+    come: AtomicU64,
     /// Whether the run is to end before all calls are made.
     is_over: AtomicBool,
 }
@@ -50,7 +53,7 @@ impl Wire {
             waiting,
             up: AtomicU32::new(1),
             at_work: AtomicU32::new(u32::from(workers)),
-            come: AtomicU32::new(0),
+            come: AtomicU64::new(0),
             is_over: AtomicBool::new(false),
         })
     }
@@ -72,20 +75,24 @@ impl Wire {
         }
     }
 
-    /// Comes to the start, where each thread waits for all the others; false if one of them doesn't
-    /// come, as where it can't be made.
-    pub fn starts_with_all(&self) -> bool {
+    /// Comes to the start, where each thread sleeps until all the others have come; false if one of
+    /// them doesn't come in some seconds, as where it can't be made.
+    pub fn starts_with_all<R: Wait>(&self, rt: &R) -> bool {
         let _before = self.come.fetch_add(1, Ordering::SeqCst);
+        self.come.wake_all();
         let all = self.waiting.len() as u64 + 1;
-        for _ in 0..TURNS {
+        for _ in 0..LOOKS {
             // looked at first: a run of few calls may be over before the last one looks
-            if u64::from(self.come.load(Ordering::SeqCst)) >= all {
+            let come = self.come.load(Ordering::SeqCst);
+            if come >= all {
                 return true;
             }
             if self.is_over() {
                 return false;
             }
-            thread::yield_now();
+            let seen = come.min(u64::from(u32::MAX)) as u32;
+            self.come
+                .park_timeout(rt, seen, Duration::from_millis(SLEEP));
         }
         self.give_up();
         false

@@ -8,11 +8,12 @@ pub mod FieldParts
 mod FieldRows
 pub mod GivenBoards
 mod GivenRows
-mod MachineAxisRows
+pub mod MachineAxisRows
 pub mod MachineMaking
 mod MachineRows
+mod MachineToldRows
 pub mod NamedCalls
-mod NamedRows
+pub mod NamedRows
 mod PollerRows
 mod ReaderRows
 pub mod SlotEmpty

@@ -78,8 +78,14 @@ described = record {
 }
 
 -- the last core boots, which has MPIDR 1 and stands at place 3
-abbrev last : PlatformValue
-last = record { description = described; board = paired_board; boot = 1; place = 3 }
+abbrev pub last : PlatformValue
+last = record {
+  description = described;
+  board = paired_board;
+  boot = 1;
+  place = 3;
+  ready = None;
+}
 
 last_boots : ◌≡◌ {A = Result PlatformValue MachineFault} (machine_on paired paired_board 1)
     (Ok last)
@@ -181,6 +187,8 @@ opens_not :
     -- a fault leaves what was there
     × ¬ (OpensMachine (Err Room) (Ok paired_board) (record paired { many_rows = 65 }) 1 kept None)
     × ¬ (OpensMachine (Ok tt) (Ok paired_board) paired 1 kept None)
+    -- a machine that is opened is in order
+    × ¬ (OpensMachine (Ok tt) (Ok paired_board) paired 1 None kept)
     × ¬ (OpensMachine (Ok tt) (Err boards.Uneven) paired 1 kept kept) × ¬ (IsFull None)
 unfolding checking
 opens_not = (
@@ -188,7 +196,8 @@ opens_not = (
   λ h. apart-by full h.1 refl,
   λ h. apart-by truth h.0 refl,
   λ h. apart-by full h.1 refl,
-  λ h. apart-by full h refl,
+  λ h. h,
+  λ h. let e : false ≡ true = h.ready in absurd cc,
   λ h. h,
   λ h. h,
 )

@@ -1,6 +1,6 @@
 -- What is made of a machine that C gives, and what an opening leaves, by what was said on the way.
 use Rattle.std.proofs.Common.{◌≡◌, ℕ, true, false, None, Some, refl, ap}
-use Rattle.std.specs.Prelude.{Result, Ok, Err}
+use Rattle.std.specs.Prelude.{Result, Ok, Err, IsSomeAnd}
 use Rattle.psci_board.specs.Board.{BoardValue}
 use Rattle.psci_board.specs.declared.fault.BoardFault.{BoardFault}
 use Rattle.psci_board.specs.declared.fault.BoardFault.TheVariants as boards
@@ -9,7 +9,7 @@ use Rattle.psci_platform.specs.Cores.{boot_place}
 use Rattle.psci_platform.specs.declared.fault.PlatformFault.{PlatformFault}
 use Rattle.psci_platform.specs.Described.{DescriptionValue}
 use Rattle.psci_platform.specs.Faults.{fault_of}
-use Rattle.psci_platform.specs.Platforms.{PlatformValue}
+use Rattle.psci_platform.specs.Platforms.{IsInOrder, PlatformValue}
 use Rattle.psci_ffi.specs.declared.machine_fault.MachineFault.{MachineFault}
 use Rattle.psci_ffi.specs.declared.machine_fault.MachineFault.TheVariants as faults
 use Rattle.psci_ffi.specs.declared.machine_given.GivenMachine.{GivenMachine}
@@ -46,7 +46,13 @@ bad_description said b g d boot fault is room same bad =
 pub made : (said : Said) (b : BoardValue) (g : GivenMachine) (d : DescriptionValue) (boot : ℕ)
     (m : PlatformValue) → Answers (Ok b) said → has_room g ≡ true → d ≡ machine_given g
     → fault_of d b boot ≡ None
-    → m ≡ record { description = d; board = b; boot = boot; place = boot_place d b boot }
+    → m ≡ record {
+      description = d;
+      board = b;
+      boot = boot;
+      place = boot_place d b boot;
+      ready = None;
+    }
     → IsMade (Ok m) said g boot
 made said b g d boot m is room same none whole =
     let here : fault_of (machine_given g) b boot ≡ None = rw same at none in
@@ -65,7 +71,7 @@ failed said (faults.Board fault) g boot old left is same = (is, same)
 failed said fault g boot old left is same = (is, same)
 
 pub opened : (said : Said) (m : PlatformValue) (g : GivenMachine) (boot : ℕ)
-    (old left : KeptMachine) → IsMade (Ok m) said g boot → left ≡ Some m
+    (old left : KeptMachine) → IsMade (Ok m) said g boot → IsSomeAnd left (IsInOrder m)
     → OpensMachine (Ok tt) said g boot old left
 opened said m g boot old left is same = rw is same
 

@@ -138,7 +138,13 @@ fault_in (Err fault) = fault ∷ []
 
 -- the third core boots: the tree looks the same from it
 third_boots : ◌≡◌ {A = Said} (machine_on mx8mm pine64_board 2)
-    (Ok (record { description = description; board = pine64_board; boot = 2; place = 2 }))
+    (Ok (record {
+      description = description;
+      board = pine64_board;
+      boot = 2;
+      place = 2;
+      ready = None;
+    }))
 unfolding checking
 third_boots = refl
 
@@ -181,7 +187,13 @@ regs x0 x1 = regs_given x0 x1 0x40000000 7
 
 -- the machine whose third core boots
 abbrev third : PlatformValue
-third = record { description = description; board = pine64_board; boot = 2; place = 2 }
+third = record {
+  description = description;
+  board = pine64_board;
+  boot = 2;
+  place = 2;
+  ready = None;
+}
 
 abbrev kept : KeptMachine
 kept = Some third

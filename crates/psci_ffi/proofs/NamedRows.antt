@@ -11,16 +11,15 @@ use Rattle.psci_board.specs.psci_abi.declared.format.Format.TheVariants.{Origina
 use Rattle.psci_fw_spec.specs.declared.mode.SuspendMode.TheVariants.{Platform}
 use Rattle.psci_fw_spec.specs.declared.status.Status.TheVariants.{Off, On, Pending}
 use Rattle.psci_fw_state.specs.Seen.{values_in}
-use Rattle.psci_platform.specs.declared.argument.Argument.TheVariants as arguments
-use Rattle.psci_platform.specs.Arguments.{names_nothing}
 use Rattle.psci_platform.specs.Kept.{IsOnCall}
 use Rattle.psci_state.specs.declared.cores.Activity.TheVariants as activities
 use Rattle.psci_status.specs.Polled.{PolledView}
 use Rattle.psci_ffi.specs.MachineNamed.{AsksSuspend, MayAskSuspend, MayTurnOn, is_node_word}
-use Rattle.psci_ffi.specs.Named.{AreWords, NamesCore}
+use Rattle.psci_ffi.specs.Named.{AreWords, NamesCore, is_word_of}
 use Rattle.psci_ffi.proofs.Apart.{apart-by, itself}
+use Rattle.psci_abi.proofs.Tables.{◌⇒◌, Gives}
 
-abbrev board : BoardValue
+abbrev pub board : BoardValue
 board = record {
   levels = (2 ∷ 2 ∷ []) ∷ (2 ∷ []) ∷ [];
   ranges = record { start = 0; end = 64 } ∷ [];
@@ -43,16 +42,6 @@ node_words = refl
 other_words : map is_node_word (0 ∷ 4 ∷ 0x04000004 ∷ 0x84000003 ∷ 0x84000005 ∷ 0xC400000D ∷ [])
     ≡ false ∷ false ∷ false ∷ false ∷ false ∷ false ∷ []
 other_words = refl
-
--- which first arguments a machine has no words of its own for
-named : map names_nothing (arguments.Missing ∷ arguments.Other ∷ [])
-    ≡ true ∷ true ∷ []
-named = refl
-
-has_words_for : map names_nothing (arguments.State ∷ arguments.Core ∷ arguments.Node
-    ∷ arguments.Function ∷ arguments.System ∷ arguments.Reset ∷ [])
-    ≡ false ∷ false ∷ false ∷ false ∷ false ∷ false ∷ []
-has_words_for = refl
 
 -- Names -----------------------------------------------------------------------------------------
 
@@ -79,6 +68,15 @@ names_core_2 : NamesCore board 0x100 (number 2)
 unfolding core_of
 names_core_2 = record { named = refl; inside = omega arith }
 
+-- the word of the core and that of another, and cores that the board does not have
+words_of_cores : Gives (λ (q : ℕ × ℕ). is_word_of board q.0 q.1)
+    ((0x100, 2) ⇒ true
+    ∷ (0x100, 3) ⇒ false
+    ∷ (0x101, 3) ⇒ true
+    ∷ (0x10100, 3) ⇒ false
+    ∷ (0x200, 4) ⇒ false ∷ [])
+words_of_cores = refl
+
 abbrev number_or : ℕ → Option Core → ℕ
 number_or n None = n
 number_or n (Some core) = core.number
@@ -104,7 +102,7 @@ calls_node h =
     let e : requests.AffinityInfo 48 0x100 ≡ requests.CpuOn 0x100 48 7 = h.request in absurd (cc)
 
 -- core 0 runs, core 1 is asked on, and the others are off; of what was written nothing is asked
-abbrev held : PolledView → PolledView
+abbrev pub held : PolledView → PolledView
 held f = record f {
   firmware = record {
     board = board;

@@ -1,7 +1,8 @@
 -- Calls that are told at once.
-use Rattle.std.proofs.Common.{◌≡◌, ◌∙◌, ℕ, Some, None, ap, refl, subst, sym}
+use Rattle.std.proofs.Common.{◌≡◌, ◌∙◌, ℕ, Bool, true, false, Some, None, ap, refl, subst, sym}
 use Rattle.psci_abi.specs.declared.code.Code.{Code}
 use Rattle.psci_abi.specs.declared.registers.Regs.{Regs}
+use Rattle.psci_fw.specs.Asking.{code_told}
 use Rattle.psci_fw.specs.Calls.{IsReturned}
 use Rattle.psci_fw.specs.Seen.{seen}
 use Rattle.psci_fw_spec.specs.declared.call.FwCall.TheVariants.{Smc}
@@ -17,6 +18,7 @@ use Rattle.psci_ffi.specs.MachineCalls.{regs_in}
 use Rattle.psci_ffi.specs.MachineSlot.{KeptMachine}
 use Rattle.psci_ffi.specs.Shown.{IsSameIf, IsTold, act_shown, no_frame, shown}
 use Rattle.psci_ffi.specs.Slot.{Kept}
+use Rattle.psci_ffi.specs.MachineTold.{asks_told, code_in, told_code}
 
 -- a firmware that returns a code tells it
 pub tells : (f : PolledView) (c : ℕ) (regs : Regs) (code : Code) → IsReturned f.firmware c regs code
@@ -48,3 +50,17 @@ told_so machine (Some f) core regs r code is asks told =
       refused = subst (λ (x : FwReply). IsSameIf x (Some f) (Some f)) (sym said) tt;
       asked = sym (ap asked_shown (asks mode));
     }
+
+-- a call is told its code by the registers that are said, and none where none are
+pub told_by : (machine : KeptMachine) (place : Kept) (core : ℕ) (regs r : Regs) (is_node : Bool)
+    → true ≡ asks_told machine regs is_node → ((mode : SuspendMode) → r ≡ regs_in machine mode regs)
+    → code_in place core r ≡ told_code machine place core regs is_node
+told_by machine None core regs r is_node asks is = refl
+told_by machine (Some f) core regs r is_node asks is =
+    rw (sym asks) (ap (code_told f.firmware core) (is (seen f.firmware).mode))
+
+pub not_told : (machine : KeptMachine) (place : Kept) (core : ℕ) (regs : Regs) (is_node : Bool)
+    → false ≡ asks_told machine regs is_node
+    → None ≡ told_code machine place core regs is_node
+not_told machine None core regs is_node asks = refl
+not_told machine (Some f) core regs is_node asks = rw (sym asks) refl

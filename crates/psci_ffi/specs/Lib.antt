@@ -11,6 +11,7 @@ pub mod MachineCalls
 pub mod MachineCodes
 pub mod MachineNamed
 pub mod MachineSlot
+pub mod MachineTold
 pub mod Machines
 pub mod Named
 pub mod PollerSlot

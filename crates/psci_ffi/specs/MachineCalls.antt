@@ -1,6 +1,6 @@
 -- What C is told of a machine, and what a call in its words is to the firmware.
 use Rattle.std.specs.Prelude.{◌≡◌, ℕ, ◌^◌, ◌-◌, [], ◌∷◌, None, Some, Result, Ok, Err, IsOk}
-use Rattle.std.specs.Prelude.{slice_get, unwrap_or}
+use Rattle.std.specs.Prelude.{IsSomeAnd, slice_get, unwrap_or}
 use Rattle.psci_abi.specs.declared.code.Code.{Code}
 use Rattle.psci_abi.specs.declared.registers.Regs.{Regs}
 use Rattle.psci_board.specs.Board.{BoardValue}
@@ -15,7 +15,7 @@ use Rattle.psci_platform.specs.declared.asked.Asked.{Asked}
 use Rattle.psci_platform.specs.declared.asked.Asked.TheVariants.{Nothing, States, Reset}
 use Rattle.psci_platform.specs.Calls.{asked_for, regs_for}
 use Rattle.psci_platform.specs.Cores.{number_named}
-use Rattle.psci_platform.specs.Platforms.{PlatformValue}
+use Rattle.psci_platform.specs.Platforms.{IsInOrder, PlatformValue}
 use Rattle.psci_platform.specs.Swaps.{moved, swap_for}
 use Rattle.psci_ffi.specs.declared.machine_calls.MachineAsked.{MachineAsked}
 use Rattle.psci_ffi.specs.declared.machine_fault.MachineFault.{MachineFault}
@@ -37,9 +37,9 @@ IsMade (Ok machine) board g boot = machine_by board g boot ≡ Ok machine
 IsMade (Err (Board Memory)) board g boot = IsOk board
 IsMade (Err fault) board g boot = machine_by board g boot ≡ Err fault
 
--- the place has the machine that was found
+-- the place has the machine that was found, in order
 abbrev pub HasMachine : Result PlatformValue MachineFault → KeptMachine → Type 0
-HasMachine (Ok machine) left = left ≡ Some machine
+HasMachine (Ok machine) left = IsSomeAnd left (IsInOrder machine)
 HasMachine (Err fault) left = ⊥
 
 -- what an opening with this end leaves in a place

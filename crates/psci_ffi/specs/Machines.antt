@@ -87,7 +87,13 @@ has_room g =
 abbrev pub unless_faulty : Option PlatformFault → DescriptionValue → BoardValue → ℕ
     → Result PlatformValue MachineFault
 unless_faulty None d b boot =
-    Ok (record { description = d; board = b; boot = boot; place = boot_place d b boot })
+    Ok (record {
+      description = d;
+      board = b;
+      boot = boot;
+      place = boot_place d b boot;
+      ready = None;
+    })
 unless_faulty (Some fault) d b boot = Err (faults.Description fault)
 
 -- the machine with this board, or the first fault of its description

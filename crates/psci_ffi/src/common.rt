@@ -4,7 +4,7 @@ ghost use Rattle.std.specs.Prelude.{◌≡◌, IfOk, true};
 ghost use Rattle.std.specs.Arc.{arc_value};
 ghost use Rattle.psci_board.specs.Board.{cores};
 ghost use Rattle.psci_status.specs.Seats.{table};
-ghost use Rattle.psci_ffi.specs.Named.{AreWords, NamesCore};
+ghost use Rattle.psci_ffi.specs.Named.{AreWords, NamesCore, is_word_of};
 
 use psci_board::{Board, Core, Memory, law_words};
 use psci_platform::affinity_word;
@@ -28,9 +28,10 @@ pub struct Common {
 impl Common {
     /// Whether an affinity word is that of this core, so that it names the core.
     #[inline(always)]
-    #[tactic(auto, using(crate::proofs::NamedCalls::names_core))]
+    #[tactic(auto, using(crate::proofs::NamedCalls::by_word))]
     pub fn names(&self, word: u64, core: Core) -> bool
-        ensures { result ≡ true → NamesCore self.now.board word core }
+        ensures own { result ≡ is_word_of self.now.board word core.number }
+        ensures named { result ≡ true → NamesCore self.now.board word core }
     {
         law_words();
         let _height = self.board.height();

@@ -33,6 +33,7 @@ impl Model for Held {
 }
 
 ghost use Rattle.std.specs.Prelude.{◌≡◌, ℕ, IfOk, IfSome, OnErr, option_map};
+ghost use Rattle.psci_fw.specs.Asking.{code_told};
 ghost use Rattle.psci_fw.specs.Reactions.{reply_in, sent_from};
 ghost use Rattle.psci_fw.specs.Seen.{hw_shown, life_shown, seen, status_shown};
 ghost use Rattle.psci_fw_spec.specs.Answer.{answer};
@@ -95,7 +96,8 @@ impl Held {
     /// `Firmware::code_at_once`.
     #[inline(always)]
     pub fn code_at_once(&self, core: Core, regs: Regs) -> Option<Code>
-        ensures { IfSome result (IsTold self.now core.number regs) }
+        ensures code { result ≡ code_told self.now.firmware core.number regs }
+        ensures told { IfSome result (IsTold self.now core.number regs) }
     {
         self.polled.code_at_once(core, regs)
     }

@@ -9,7 +9,7 @@ ghost use Rattle.psci_fw_spec.specs.declared.call.FwCall.TheVariants.{Smc};
 ghost use Rattle.psci_fw_spec.specs.declared.reply.FwReply.TheVariants.{Out};
 ghost use Rattle.psci_fw_spec.specs.Answer.{answer};
 ghost use Rattle.psci_status.specs.Polled.{IsNext, IsWrittenFrom};
-ghost use Rattle.psci_ffi.specs.Named.{NamesCore};
+ghost use Rattle.psci_ffi.specs.Named.{NamesCore, is_word_of};
 
 use crate::held::Held;
 use psci_board::Core;
@@ -35,7 +35,8 @@ impl Held {
     /// Whether an affinity word is that of this core, so that it names the core.
     #[inline(always)]
     pub fn names(&self, word: u64, core: Core) -> bool
-        ensures { result ≡ true → NamesCore self.now.firmware.board word core }
+        ensures own { result ≡ is_word_of self.now.firmware.board word core.number }
+        ensures named { result ≡ true → NamesCore self.now.firmware.board word core }
     {
         self.common.names(word, core)
     }

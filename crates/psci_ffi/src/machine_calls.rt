@@ -1,10 +1,11 @@
 //! The calls of the cores in the words of a machine.
 
-ghost use Rattle.std.specs.Prelude.{◌≡◌, IfSome, Some, option_map};
+ghost use Rattle.std.specs.Prelude.{◌≡◌, IfSome, Some, is_some, option_map};
 ghost use Rattle.psci_fw_spec.specs.declared.mode.SuspendMode.{SuspendMode};
 ghost use Rattle.psci_fw.specs.Seen.{seen};
 ghost use Rattle.psci_ffi.specs.MachineCalls.{IsCalledIn, asked_in, asked_shown, called_in};
 ghost use Rattle.psci_ffi.specs.MachineCalls.{regs_given, regs_in, told_in};
+ghost use Rattle.psci_ffi.specs.MachineTold.{says_in};
 ghost use Rattle.psci_platform.specs.declared.asked.Asked.TheVariants.{Nothing};
 ghost use Rattle.psci_ffi.specs.Shown.{IsAfter, IsSameRefused, answered};
 
@@ -225,6 +226,7 @@ pub fn at_once(place: &mut MachinePlace, regs: Regs) -> Option<Regs>
         → r ≡ regs_in place.old.slot.kept mode regs) }
     ensures asked { IfSome result (λ _. (mode : SuspendMode)
         → asked_in place.old.slot.kept mode regs ≡ Nothing) }
+    ensures said { is_some result ≡ says_in place.old.slot.kept regs }
     ensures same { place.new.slot.kept ≡ place.old.slot.kept }
 {
     if !place.full {

@@ -1,10 +1,11 @@
 //! Making what a machine calls its cores, power states and functions, and letting it go.
 
-ghost use Rattle.std.specs.Prelude.{◌≡◌, None, Some, IfErr, IfOk, map};
+ghost use Rattle.std.specs.Prelude.{◌≡◌, None, IfErr, IfOk, IsSomeAnd, map};
 ghost use Rattle.psci_ffi.specs.Given.{board_of_given};
 ghost use Rattle.psci_ffi.specs.MachineCalls.{IsMade, OpensMachine};
 ghost use Rattle.psci_ffi.specs.MachineCodes.{machine_said};
 ghost use Rattle.psci_ffi.specs.Machines.{machine_given, row_given};
+ghost use Rattle.psci_platform.specs.Platforms.{IsInOrder};
 
 use crate::given::GivenBoard;
 use crate::given_build::read_given;
@@ -63,7 +64,7 @@ fn open(
 
 /// Puts this machine into the place, if there is memory.
 fn renew(alloc: Global, place: &mut MachinePlace, machine: Platform) -> Result<(), Memory>
-    ensures done { IfOk result (λ _. place.new.slot.kept ≡ Some machine) }
+    ensures done { IfOk result (λ _. IsSomeAnd place.new.slot.kept (IsInOrder machine)) }
     ensures same { IfErr result (λ _. place.new.slot.kept ≡ place.old.slot.kept) }
 {
     let boxed = Box::new(alloc, machine.in_order(alloc)?)?;

@@ -1,11 +1,12 @@
 //! Calls in the words of a machine that are told at once.
 
-ghost use Rattle.std.specs.Prelude.{◌≡◌, IfSome};
+ghost use Rattle.std.specs.Prelude.{◌≡◌, IfSome, is_some};
 ghost use Rattle.psci_fw_spec.specs.declared.mode.SuspendMode.{SuspendMode};
 ghost use Rattle.psci_fw_spec.specs.declared.outcome.Act.TheVariants.{Return};
 ghost use Rattle.psci_ffi.specs.MachineCalls.{IsCalledIn, IsToldBy, asked_in, nothing_asked};
 ghost use Rattle.psci_ffi.specs.MachineCalls.{regs_in};
 ghost use Rattle.psci_ffi.specs.MachineNamed.{is_node_word};
+ghost use Rattle.psci_ffi.specs.MachineTold.{asks_told, code_in, told_code};
 ghost use Rattle.psci_platform.specs.declared.asked.Asked.TheVariants.{Nothing};
 ghost use Rattle.psci_ffi.specs.Shown.{act_shown, no_frame};
 
@@ -28,6 +29,8 @@ pub fn told_at_once(
     regs: Regs,
     is_node: bool,
 ) -> Option<Code>
+    ensures code { result
+        ≡ told_code machine.old.slot.kept place.old.slot.kept core regs is_node }
     ensures told { IfSome result (λ code. IsCalledIn machine.old.slot.kept place.old.slot.kept core
         regs (act_shown (Return code) no_frame) nothing_asked place.old.slot.kept) }
     ensures place { place.new.slot.kept ≡ place.old.slot.kept }
@@ -44,6 +47,7 @@ fn asks_at_once(place: &mut MachinePlace, regs: Regs, is_node: bool) -> Option<R
         → r ≡ regs_in place.old.slot.kept mode regs) }
     ensures asked { IfSome result (λ _. (mode : SuspendMode)
         → asked_in place.old.slot.kept mode regs ≡ Nothing) }
+    ensures said { is_some result ≡ asks_told place.old.slot.kept regs is_node }
     ensures same { place.new.slot.kept ≡ place.old.slot.kept }
 {
     if !is_node && is_same_everywhere(&regs) {
@@ -66,7 +70,8 @@ pub fn names_node(x0: u64) -> bool
 /// at once.
 #[inline(always)]
 fn code_of(place: &mut Place, core: u16, regs: Regs) -> Option<Code>
-    ensures code { IfSome result (IsToldBy place.old.slot.kept core regs) }
+    ensures code { result ≡ code_in place.old.slot.kept core regs }
+    ensures told { IfSome result (IsToldBy place.old.slot.kept core regs) }
     ensures same { place.new.slot.kept ≡ place.old.slot.kept }
 {
     if !place.full {

@@ -11,6 +11,7 @@ pub mod Endings
 mod Entered
 mod EntryRows
 mod ExamplesStories
+mod ExtentRows
 mod FormatRows
 mod Granting
 mod HardwareRows

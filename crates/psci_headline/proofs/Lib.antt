@@ -37,6 +37,7 @@ mod Once
 mod OpeningRows
 pub mod Outcomes
 pub mod Placing
+mod PairRows
 mod PowerRows
 pub mod Quiet
 mod Ranges
@@ -113,6 +114,8 @@ pub mod Whole
 pub mod Untold
 mod ConfirmingRows
 mod UntoldRows
+mod ToldWholeRows
+mod AtRestRows
 mod WholeRows
 pub use Rattle.psci_ctl_spec.proofs as ctl_spec
 pub use Rattle.psci_fw_laws.proofs.fw_spec

@@ -8,10 +8,11 @@ use Rattle.psci_world_spec.specs.declared.event.Event.{Event}
 use Rattle.psci_world_spec.specs.declared.event.Event.TheVariants.{Enter, Wake, Reset, Deliver}
 use Rattle.psci_world_spec.specs.declared.event.Event.TheVariants.{Take}
 use Rattle.psci_world_spec.proofs.Scripts.{acked, board, call, enters, goes_down, off, on_3, part}
-use Rattle.psci_world_spec.proofs.Scripts.{resumes, retention, value, version}
-use Rattle.psci_headline.proofs.Histories.{life_2, life_3, os_mode, Case, cases, extended}
-use Rattle.psci_headline.proofs.Histories.{on_in_life_2, on_in_life_3, on_in_start_2, on_in_start_3}
-use Rattle.psci_headline.proofs.Histories.{on_in_start_4, on_os_initiated, third_on}
+use Rattle.psci_world_spec.proofs.Scripts.{resumes, retention, system_reset, value, version}
+use Rattle.psci_headline.proofs.Histories.{life_2, life_3, os_mode, Case, cases, extended, first_on}
+use Rattle.psci_headline.proofs.Histories.{five, last_on, on_in_life_2, on_in_life_3, on_in_start_2}
+use Rattle.psci_headline.proofs.Histories.{on_in_start_3, on_in_start_4, on_os_initiated, second_on}
+use Rattle.psci_headline.proofs.Histories.{suspend, third_on}
 use Rattle.psci_headline.proofs.Checking.{◌⇒◌, AreSafe, Clause, Steps, each, Asked, Breaks}
 use Rattle.psci_headline.proofs.Checking.{failing_after, Legal, Once, One, Open, Powered}
 use Rattle.psci_headline.proofs.Checking.{PoweredDown, Real, Stopped, computing}
@@ -24,6 +25,12 @@ wrong (b, on, c, o, l, s, n) =
     -- off_in_retention: it goes off, is put in retention, and is OFF
     ∷ Breaks PoweredDown b (Legal on ∷ off c ⇒ goes_down n c l s (part 0 2 s ∷ [])
     ∷ Legal (Deliver n ∷ Take n ∷ []) ∷ [])
+    -- off_after_it_resumed: it was powered down and has resumed, goes off, is put in retention, and
+    -- is OFF
+    ∷ Breaks PoweredDown b (Legal on ∷ retention c ⇒ goes_down n c l s (part 0 3 s ∷ [])
+    ∷ Legal (Deliver n ∷ Wake c ∷ Enter c ∷ []) ∷ off c
+    ⇒ goes_down (n + 1) c l (s + 1) (part 0 2 (s + 1) ∷ [])
+    ∷ Legal (Deliver (n + 1) ∷ Take (n + 1) ∷ []) ∷ [])
     -- off_twice: it goes off twice in one start
     ∷ Breaks One b (Legal (on ++ off c ∷ []) ∷ off c ⇒ goes_down (n + 1) c l s (part 0 3 s ∷ [])
     ∷ [])
@@ -33,6 +40,9 @@ wrong (b, on, c, o, l, s, n) =
     -- acknowledged: it is said to be in standby, and nothing was carried out
     ∷ Breaks Real b (Legal (on ++ retention c ∷ []) ∷ Deliver 99 ⇒ acked n Down c l s 1 false
     ∷ Legal (Take n ∷ []) ∷ [])
+    -- acknowledged_after_it_resumed: it was in standby and has resumed, and is said to be so again
+    ∷ Breaks Real b (Legal (on ++ retention c ∷ Deliver n ∷ Wake c ∷ Enter c ∷ retention c ∷ [])
+    ∷ Deliver 99 ⇒ acked (n + 1) Down c l (s + 1) 1 false ∷ Legal (Take (n + 1) ∷ []) ∷ [])
     -- off_core_runs: it is OFF and was woken, and is answered before it has entered
     ∷ Breaks Stopped b (Legal (on ++ off c ∷ Deliver n ∷ Take n ∷ Wake c ∷ []) ∷ version c
     ⇒ value 65537 ∷ [])
@@ -42,29 +52,36 @@ each_wrong : Gives failing_after (each wrong cases)
 unfolding computing
 each_wrong = refl
 
--- core 3 is started once more, after these events
-abbrev wrong_entry : List Event → List (Row (BoardValue × List Steps) (List Clause))
-wrong_entry on =
+-- core c is started once more, after these events
+abbrev wrong_entry : (BoardValue × List Event × ℕ) → List (Row (BoardValue × List Steps)
+    (List Clause))
+wrong_entry (b, on, c) =
     -- other_context: it was suspended, and enters with another context id
-    Breaks Open board (Legal (on ++ call 3 0xc4000001 0x00010003 0x40004000 5 ∷ Wake 3 ∷ [])
-    ∷ Enter 3 ⇒ enters 0x40004000 6 ∷ [])
+    Breaks Open b (Legal (on ++ call c 0xc4000001 0x00010003 0x40004000 5 ∷ Wake c ∷ [])
+    ∷ Enter c ⇒ enters 0x40004000 6 ∷ [])
     -- enters_again: it was reset, and enters again where it was asked on
-    ∷ Breaks Once board (Legal (on ++ Reset 3 ∷ []) ∷ Enter 3 ⇒ enters 0x40001000 7 ∷ [])
+    ∷ Breaks Once b (Legal (on ++ Reset c ∷ []) ∷ Enter c ⇒ enters 0x40001000 7 ∷ [])
     ∷ []
 
 each_wrong_entry : Gives failing_after (each wrong_entry
-    -- to_start_2: from its first start
-    (third_on
+    -- to_start_2: core 3, from its first start
+    ((board, third_on, 3)
     -- to_start_3: from its second start
-    ∷ on_in_start_2
+    ∷ (board, on_in_start_2, 3)
     -- to_start_4: from its third start
-    ∷ on_in_start_3
+    ∷ (board, on_in_start_3, 3)
     -- from_life_2: in life 2
-    ∷ on_in_life_2
+    ∷ (board, on_in_life_2, 3)
     -- from_life_3: in life 3
-    ∷ on_in_life_3
+    ∷ (board, on_in_life_3, 3)
     -- from_os_initiated: in OS-initiated mode
-    ∷ on_os_initiated
+    ∷ (board, on_os_initiated, 3)
+    -- of_the_second: core 1, beside the boot core
+    ∷ (board, second_on, 1)
+    -- of_the_first_of_its_cluster: core 2, in another cluster
+    ∷ (board, first_on, 2)
+    -- of_the_last_of_five: core 4 of five
+    ∷ (five, last_on, 4)
     ∷ []))
 unfolding computing
 each_wrong_entry = refl
@@ -85,6 +102,11 @@ entries : Gives failing_after
     -- os_initiated_other_context: and in OS-initiated mode
     ∷ Breaks Open board (Legal (os_mode ++ on_3 ∷ Deliver 0 ∷ []) ∷ Enter 3 ⇒ enters 0x40001000 8
     ∷ [])
+    -- boot_core_elsewhere_in_life_2: the boot core at another address, in life 2
+    ∷ Breaks Open board (Legal (Enter 0 ∷ system_reset 0 ∷ Deliver 0 ∷ []) ∷ Enter 0
+    ⇒ enters 0x40000004 0 ∷ [])
+    -- boots_again_in_life_2: and once more at the boot address
+    ∷ Breaks Once board (Legal (life_2 ++ Reset 0 ∷ []) ∷ Enter 0 ⇒ enters 0x40000000 0 ∷ [])
     -- The extended format -------------------------------------------------------------------
     -- extended_off_core_runs: a core that was woken is answered before it has entered
     ∷ Breaks Stopped extended (Legal (Enter 0 ∷ Wake 3 ∷ []) ∷ version 3 ⇒ value 65537 ∷ [])
@@ -122,6 +144,12 @@ runs : AreSafe board
     ∷ whole on_in_life_3 3 on_3 3
     -- whole_boot_core: the boot core
     ∷ whole third_on 0 (call 3 0xc4000003 0x0 0x40006000 3) 1
+    -- whole_boot_core_in_life_2: the boot core in life 2
+    ∷ whole on_in_life_2 0 (call 3 0xc4000003 0x0 0x40006000 3) 2
+    -- whole_second_core: core 1, beside the boot core
+    ∷ whole second_on 1 (call 0 0xc4000003 0x1 0x40001000 7) 1
+    -- whole_first_of_its_cluster: core 2, in another cluster
+    ∷ whole first_on 2 (call 0 0xc4000003 0x100 0x40001000 7) 1
     -- whole_os_initiated: in OS-initiated mode
     ∷ whole on_os_initiated 3 on_3 1
     -- whole_start_2: a core goes off in its start 2, is OFF, and is asked on
@@ -130,9 +158,22 @@ runs : AreSafe board
     ∷ (on_in_start_3 ++ off 3 ∷ Deliver 3 ∷ Take 3 ∷ on_3 ∷ [])
     -- whole_start_4: and in its start 4
     ∷ (on_in_start_4 ++ off 3 ∷ Deliver 4 ∷ Take 4 ∷ on_3 ∷ [])
+    -- down_twice: a core is powered down, enters, goes off and is powered down again
+    ∷ (third_on ++ suspend board 3 ∷ Deliver 1 ∷ Take 1 ∷ Wake 3 ∷ Enter 3 ∷ off 3 ∷ Deliver 2
+    ∷ Take 2 ∷ [])
+    -- boot_core_down_twice: so is the boot core
+    ∷ (third_on ++ suspend board 0 ∷ Deliver 1 ∷ Take 1 ∷ Wake 0 ∷ Enter 0 ∷ off 0 ∷ Deliver 2
+    ∷ Take 2 ∷ [])
     ∷ [])
 unfolding computing
 runs = refl
+
+runs_of_five_cores : AreSafe five
+    -- whole_last_of_five: the last one of five cores
+    (whole last_on 4 (call 0 0xc4000003 0x101 0x40001000 7) 1
+    ∷ [])
+unfolding computing
+runs_of_five_cores = refl
 
 runs_in_the_extended_format : AreSafe extended
     -- whole_extended: a core comes on, sleeps, wakes, goes off, is OFF and comes on again

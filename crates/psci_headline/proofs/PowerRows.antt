@@ -42,10 +42,10 @@ moments : Gives failing_after
     ∷ BreakAll (PoweredDown ∷ Real ∷ []) board (Legal (third_on
     ++ call 3 0xc4000001 0x00010003 0x40004000 2 ∷ Deliver 1 ∷ Wake 3 ∷ Enter 3 ∷ off 3 ∷ [])
     ∷ Take 1 ⇒ used ∷ [])
-    -- powered_down_before_it_resumed: a core was powered down before it resumed, and not since
-    ∷ Breaks PoweredDown board (Legal third_on ∷ retention 3 ⇒ goes_down 1 3 1 1 (part 0 3 1 ∷ [])
-    ∷ Legal (Deliver 1 ∷ Wake 3 ∷ Enter 3 ∷ []) ∷ off 3 ⇒ goes_down 2 3 1 2 (part 0 2 2 ∷ [])
-    ∷ Legal (Deliver 2 ∷ Take 2 ∷ []) ∷ [])
+    -- old_acknowledgement_of_the_boot_core_used: so is the boot core
+    ∷ BreakAll (PoweredDown ∷ Real ∷ []) board (Legal (third_on
+    ++ call 0 0xc4000001 0x00010003 0x40004000 2 ∷ Deliver 1 ∷ Wake 0 ∷ Enter 0 ∷ off 0 ∷ [])
+    ∷ Take 1 ⇒ used ∷ [])
     -- powered_down_in_another_life: a core was powered down in the life before, and not in this one
     ∷ Breaks PoweredDown board (Legal (Enter 0 ∷ call 0 0xc400000e 0x40000200 9 0 ∷ Deliver 0
     ∷ Wake 0 ∷ Enter 0 ∷ system_reset 0 ∷ Deliver 1 ∷ []) ∷ Enter 0 ⇒ value 0 ∷ off 0

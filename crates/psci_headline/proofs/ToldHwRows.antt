@@ -18,7 +18,8 @@ use Rattle.psci_world_spec.proofs.Scripts.{status_3, stops, system_off, system_r
 use Rattle.psci_headline.specs.Hardware.{known_starts, said_hw}
 use Rattle.psci_headline.specs.ToldHw.{is_off_depth, is_standby_depth, told_hw, was_so_deep}
 use Rattle.psci_headline.proofs.Checking.{each}
-use Rattle.psci_headline.proofs.Histories.{Case, cases, after, at, extended, on_in_group, third_on}
+use Rattle.psci_headline.proofs.Histories.{Case, cases, after, at, extended, life_2, on_in_group}
+use Rattle.psci_headline.proofs.Histories.{os_mode, third_on}
 
 -- Told -------------------------------------------------------------------------------------------
 
@@ -127,32 +128,59 @@ sleeps (b, on, c, o, l, s, n) =
     -- never_slept: it is said to be, and never was
     ∷ (b, at 0 c, told b (on ++ retention c ∷ []) (acked n Down c l s 1 false) n)
     ⇒ record { said = 2; was = false }
+    -- slept_before: it is said to be, and was before it resumed alone
+    ∷ (
+      b,
+      at 0 c,
+      told b (on ++ retention c ∷ Deliver n ∷ Wake c ∷ Enter c ∷ retention c ∷ [])
+          (acked (n + 1) Down c l (s + 1) 1 false) (n + 1),
+    ) ⇒ record { said = 2; was = false }
+    -- slept_again: it was before it resumed, and after it
+    ∷ (
+      b,
+      at 0 c,
+      after b (on ++ retention c ∷ Deliver n ∷ Wake c ∷ Enter c ∷ retention c
+          ∷ Deliver (n + 1) ∷ Take (n + 1) ∷ []),
+    ) ⇒ record { said = 2; was = true }
     ∷ []
 
 each_sleeps : Gives stands (each sleeps cases)
 unfolding computing was_so_deep
 each_sleeps = refl
 
--- core c, which is on by its first start, asks by this event for standby of a domain, by message n
-abbrev sleeps_with : (BoardValue × List Event × ℕ × Event × ℕ × Node)
+-- core c, which is on by its first start of life l, asks by this event for standby of a domain, by
+-- message n
+abbrev sleeps_with : (BoardValue × List Event × ℕ × ℕ × Event × ℕ × Node)
     → List (Row (BoardValue × Node × List Record) Stands)
-sleeps_with (b, on, c, asks, n, d) =
+sleeps_with (b, on, c, l, asks, n, d) =
     -- slept: the domain was in standby
     (b, d, after b (on ++ asks ∷ Deliver n ∷ Take n ∷ [])) ⇒ record { said = 2; was = true }
     -- never_slept: it is said to be, and never was
-    ∷ (b, d, told b (on ++ asks ∷ []) (acked n Down c 1 1 (d.level + 1) false) n)
+    ∷ (b, d, told b (on ++ asks ∷ []) (acked n Down c l 1 (d.level + 1) false) n)
     ⇒ record { said = 2; was = false }
     ∷ []
 
 each_sleeps_with : Gives stands (each sleeps_with
     -- cluster: a cluster
-    ((board, third_on, 3, call 3 0xc4000001 0x01000022 0 0, 1, at 1 1)
+    ((board, third_on, 3, 1, call 3 0xc4000001 0x01000022 0 0, 1, at 1 1)
     -- group: a group
-    ∷ (tall, on_in_group, 3, call 3 0xc4000001 0x02000222 0 0, 1, at 2 1)
+    ∷ (tall, on_in_group, 3, 1, call 3 0xc4000001 0x02000222 0 0, 1, at 2 1)
     -- system: the system
-    ∷ (tall, Enter 0 ∷ [], 0, call 0 0xc4000001 0x03002222 0 0, 0, at 3 0)
+    ∷ (tall, Enter 0 ∷ [], 0, 1, call 0 0xc4000001 0x03002222 0 0, 0, at 3 0)
     -- extended_cluster: a cluster on a board of the extended format
-    ∷ (extended, third_on, 3, call 3 0xc4000001 0x22 0 0, 1, at 1 1)
+    ∷ (extended, third_on, 3, 1, call 3 0xc4000001 0x22 0 0, 1, at 1 1)
+    -- cluster_in_life_2: a cluster in life 2
+    ∷ (tall, life_2, 0, 2, call 0 0xc4000001 0x01000022 0 0, 1, at 1 0)
+    -- group_in_life_2: a group
+    ∷ (tall, life_2, 0, 2, call 0 0xc4000001 0x02000222 0 0, 1, at 2 0)
+    -- system_in_life_2: the system
+    ∷ (tall, life_2, 0, 2, call 0 0xc4000001 0x03002222 0 0, 1, at 3 0)
+    -- cluster_os_initiated: a cluster in OS-initiated mode
+    ∷ (tall, os_mode, 0, 1, call 0 0xc4000001 0x01000022 0 0, 0, at 1 0)
+    -- group_os_initiated: a group
+    ∷ (tall, os_mode, 0, 1, call 0 0xc4000001 0x02000222 0 0, 0, at 2 0)
+    -- system_os_initiated: the system
+    ∷ (tall, os_mode, 0, 1, call 0 0xc4000001 0x03002222 0 0, 0, at 3 0)
     ∷ []))
 unfolding computing was_so_deep
 each_sleeps_with = refl

@@ -1,12 +1,12 @@
 -- Worked examples: what a record says is OFF, domains of which all cores are off, and domains of
 -- which one is not.
-use Rattle.std.proofs.Common.{◌++◌, ◌≡◌, ℕ, Bool, true, false, List, [], ◌∷◌, Option, None, Some}
-use Rattle.std.proofs.Common.{refl, arith}
+use Rattle.std.proofs.Common.{◌++◌, ◌+◌, ◌≡◌, ℕ, Bool, true, false, List, [], ◌∷◌, Option, None}
+use Rattle.std.proofs.Common.{Some, refl, arith}
 use Rattle.psci_board.specs.Board.{BoardValue}
 use Rattle.psci_board.specs.declared.node.Node.{Node}
 use Rattle.psci_board.proofs.Tables.{◌⇒◌, Gives, Row}
 use Rattle.psci_world_spec.specs.declared.event.Event.{Event}
-use Rattle.psci_world_spec.specs.declared.event.Event.TheVariants.{Deliver, Enter, Take}
+use Rattle.psci_world_spec.specs.declared.event.Event.TheVariants.{Deliver, Enter, Take, Wake}
 use Rattle.psci_world_spec.specs.declared.said.Record.{Record}
 use Rattle.psci_world_spec.specs.declared.said.Said.{Said}
 use Rattle.psci_world_spec.specs.Legal.{run_from}
@@ -15,7 +15,8 @@ use Rattle.psci_world_spec.proofs.Scripts.{status_3, stops, system_off, system_r
 use Rattle.psci_headline.specs.Moments.{was_powered_down}
 use Rattle.psci_headline.specs.ToldOff.{AllOff, told_off}
 use Rattle.psci_headline.proofs.Checking.{by_core, each}
-use Rattle.psci_headline.proofs.Histories.{Case, cases, after, at, on_in_group, third_on}
+use Rattle.psci_headline.proofs.Histories.{Case, cases, after, at, on_in_group, suspend}
+use Rattle.psci_headline.proofs.Histories.{life_2, os_mode, third_on}
 use Rattle.psci_headline.proofs.ToldOff.{is_all_off}
 
 -- a core asks for the status of a word at a level
@@ -106,11 +107,42 @@ goes_off (b, on, c, o, l, s, n) =
     (b, at 0 c, on ++ off c ∷ Deliver n ∷ []) ⇒ true
     -- going_off: it is not yet
     ∷ (b, at 0 c, on ++ off c ∷ []) ⇒ false
+    -- going_off_again: it was before it entered, and is not yet
+    ∷ (b, at 0 c, on ++ suspend b c ∷ Deliver n ∷ Wake c ∷ Enter c ∷ off c ∷ []) ⇒ false
+    -- off_again: it was before it entered, and is again
+    ∷ (b, at 0 c, on ++ suspend b c ∷ Deliver n ∷ Wake c ∷ Enter c ∷ off c ∷ Deliver (n + 1) ∷ [])
+    ⇒ true
     ∷ []
 
 each_goes_off : Gives all_off (each goes_off cases)
 unfolding computing was_powered_down
 each_goes_off = refl
+
+-- on three levels the boot core goes off with all domains, and its Down is message i
+abbrev domain_goes_off : (List Event × ℕ × ℕ) → List (Row (BoardValue × Node × List Event) Bool)
+domain_goes_off (on, i, n) =
+    -- off: its domain of a level is powered down
+    (tall, at n 0, on ++ off 0 ∷ Deliver i ∷ []) ⇒ true
+    -- going_off: it is not yet
+    ∷ (tall, at n 0, on ++ off 0 ∷ []) ⇒ false
+    ∷ []
+
+each_domain_goes_off : Gives all_off (each domain_goes_off
+    -- cluster_in_life_2: its cluster, in life 2
+    ((life_2, 1, 1)
+    -- group_in_life_2: its group
+    ∷ (life_2, 1, 2)
+    -- system_in_life_2: the system
+    ∷ (life_2, 1, 3)
+    -- cluster_os_initiated: its cluster, in OS-initiated mode
+    ∷ (os_mode, 0, 1)
+    -- group_os_initiated: its group
+    ∷ (os_mode, 0, 2)
+    -- system_os_initiated: the system
+    ∷ (os_mode, 0, 3)
+    ∷ []))
+unfolding computing was_powered_down
+each_domain_goes_off = refl
 
 domains : Gives all_off
     -- off_cluster: a cluster is powered down

@@ -1,11 +1,12 @@
 -- What the firmware is asked along the axes: in the other format, in the other mode, and where
 -- another core boots than the first one.
-use Rattle.std.proofs.Common.{◌≡◌, ◌∙◌, [], ◌∷◌, ap, refl}
+use Rattle.std.proofs.Common.{◌≡◌, ◌∙◌, [], ◌∷◌, ap, refl, None}
 use Rattle.psci_abi.specs.declared.registers.Regs.{Regs}
 use Rattle.psci_fw.specs.Seen.{seen}
 use Rattle.psci_fw_spec.specs.declared.mode.SuspendMode.{SuspendMode}
 use Rattle.psci_fw_spec.specs.declared.mode.SuspendMode.TheVariants.{Platform, OsInitiated}
-use Rattle.psci_platform.specs.Calls.{regs_for}
+use Rattle.psci_platform.specs.declared.asked.Asked.TheVariants as asks
+use Rattle.psci_platform.specs.Calls.{asked_for, regs_for}
 use Rattle.psci_platform.specs.Cores.{boot_place}
 use Rattle.psci_platform.specs.Described.{DescriptionValue}
 use Rattle.psci_platform.specs.Platforms.{PlatformFirmwareValue, PlatformValue, called}
@@ -43,6 +44,26 @@ called_for_resets : Gives (regs_for rk3399 rk3399_board 0 Platform)
 unfolding calling
 called_for_resets = refl
 
+-- RK3399 with several resets of the vendor: each of them counts, and none between two of them
+abbrev several_resets : DescriptionValue
+several_resets = record rk3399 { resets = 0x80000005 ∷ 0x80000001 ∷ 0xFFFFFFFF ∷ [] }
+
+called_for_several : Gives (regs_for several_resets rk3399_board 0 Platform)
+    (regs 0x84000012 0x80000005 9 0 ⇒ regs 0x84000012 0 9 0
+    ∷ regs 0xC4000012 0x80000001 9 0 ⇒ regs 0xC4000012 0 9 0
+    ∷ regs 0xC4000012 0xFFFFFFFF 9 0 ⇒ regs 0xC4000012 0 9 0
+    ∷ regs 0x84000012 0x80000003 9 0 ⇒ regs 0x84000012 0x80000003 9 0 ∷ [])
+unfolding calling
+called_for_several = refl
+
+asked_for_several : Gives (asked_for several_resets OsInitiated)
+    (regs 0x84000012 0x80000005 9 0 ⇒ asks.Reset 0x80000005
+    ∷ regs 0xC4000012 0x80000001 9 0 ⇒ asks.Reset 0x80000001
+    ∷ regs 0xC4000012 0xFFFFFFFF 9 0 ⇒ asks.Reset 0xFFFFFFFF
+    ∷ regs 0x84000012 0x80000003 9 0 ⇒ asks.Nothing ∷ [])
+unfolding asked_for
+asked_for_several = refl
+
 -- Another boot core -----------------------------------------------------------------------------
 
 third_of_its_cluster : boot_place by_mpidr sda660_board 0x102 ≡ 6
@@ -51,7 +72,13 @@ third_of_its_cluster = refl
 -- Called ----------------------------------------------------------------------------------------
 
 abbrev platform : PlatformValue
-platform = record { description = by_mpidr; board = sda660_board; boot = 0x100; place = 4 }
+platform = record {
+  description = by_mpidr;
+  board = sda660_board;
+  boot = 0x100;
+  place = 4;
+  ready = None;
+}
 
 -- the firmware of a platform is called in the mode that it is in, and for the core that boots
 called_by : (f : PlatformFirmwareValue) (r : Regs) (m : SuspendMode) → f.platform ≡ platform

@@ -19,6 +19,8 @@ pub mod OwnCores
 pub mod OwnStates
 pub mod Reading
 pub mod Requests
+pub mod Said
+mod SaidRows
 mod SameRows
 mod StateRows
 mod SwapRows

@@ -9,7 +9,8 @@ use Rattle.psci_platform.proofs.Words.{◌*◌, ◌/◌, ◌<◌, ◌==◌, ◌^
 use Rattle.psci_platform.proofs.Words.{AreNames, arith, BoardValue, core_word, cores}
 use Rattle.psci_platform.proofs.Words.{DescriptionValue, IfSome, IsName, length, List, Name}
 use Rattle.psci_platform.proofs.Words.{nat_tests, no_core, None, number_named, Option}
-use Rattle.psci_platform.proofs.Words.{position_or_len, replicate, Some, subst, sym, true, word_if}
+use Rattle.psci_platform.proofs.Words.{option_map, position_or_len, replicate, Some, subst, sym}
+use Rattle.psci_platform.proofs.Words.{true, word_if}
 use Rattle.psci_platform.proofs.Words.{ℕ}
 use Rattle.psci_platform.specs.Names.{are_found, HasNames, name_in, own_name, slot_of}
 use Rattle.psci_platform.specs.declared.names.Table.{Table}
@@ -102,6 +103,13 @@ module _ (d : DescriptionValue) (b : BoardValue) (boot level mpidr : ℕ) (t : T
       → name_in t.slots.items t.factor t.mask fields ≡ None
       → no_core ≡ core_word d b boot mpidr level
   word_missed has none = sym (ap (word_if b) (number_missed has none))
+
+  -- and one is found exactly where it names a core
+  pub kept_core : {A : Type 0} (o : Option A) (v : A → Name) → HasNames d b boot level t
+      → option_map v o ≡ name_in t.slots.items t.factor t.mask fields
+      → is_some o ≡ is_some (number_named d b boot mpidr level)
+  kept_core None v has e = sym (ap is_some (number_missed has (sym e)))
+  kept_core (Some x) v has e = sym (ap is_some (number_found (v x) has (sym e)))
 
 -- which core is named, by a table
 pub ruleset by_name = (inside, number_found, number_missed)

@@ -25,7 +25,6 @@ use Rattle.psci_platform.proofs.OwnStates.{StateLaws, state_same, states_are}
 use Rattle.psci_platform.proofs.Unmoved.{BoardLaws}
 use Rattle.psci_platform.proofs.Requests.{half_of, request_with, short, with_first}
 use Rattle.psci_abi.specs.declared.request.Request.TheVariants as requests
-use Rattle.psci_fw_spec.specs.declared.outcome.Act.TheVariants as acts
 use Rattle.psci_fw_spec.specs.declared.reply.FwReply.TheVariants as replies
 
 -- What the proofs stand on.

@@ -6,7 +6,7 @@ use Rattle.std.proofs.lemmas.List.FromFn.{get_or-map-range_with_len}
 use Rattle.std.proofs.lemmas.Nat.{and_mask}
 use Rattle.std.specs.Prelude.{filter, IfOk, Some, None}
 use Rattle.std.specs.Result.{result_ok}
-use Rattle.psci_platform.proofs.Words.{◌%◌, ◌&&◌, ◌*◌, ◌+◌, ◌-◌, ◌/◌, ◌<◌, ◌==◌, ◌^◌, ◌↔◌, ◌∙◌, ◌∷◌}
+use Rattle.psci_platform.proofs.Words.{◌%◌, ◌&&◌, ◌*◌, ◌+◌, ◌/◌, ◌<◌, ◌==◌, ◌^◌, ◌↔◌, ◌∙◌, ◌∷◌}
 use Rattle.psci_platform.proofs.Words.{◌≡◌, ◌≤◌, [], ap, arith, ask_of, BadState, BoardValue, Bool}
 use Rattle.psci_platform.proofs.Words.{can_ask, cond, depth_at, depths_at, depths_of, eq-eqb}
 use Rattle.psci_platform.proofs.Words.{eqb-true, Err, Extended, false, find, Format, height}

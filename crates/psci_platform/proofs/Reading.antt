@@ -95,6 +95,10 @@ module _ (d : DescriptionValue) (format : Format) (height : ℕ) where
           sym (ap (states_if d mode) row.0
           ∙ ap (λ (t : Bool). if t then Some r.row.states else None) may)
 
+      -- it asks something where the board reads its word for the row's states
+      pub is_read : r.is_ask ≡ is_ok (ask_of format height (word_for d format (Some r.row.states)))
+      is_read = ap (λ (x : Reading). x.is_ask) row_read.1
+
       pub word_found : (mode : SuspendMode) → can_ask_by r mode ≡ true
           → r.word ≡ word_for d format (states_of d mode word)
       word_found mode can =

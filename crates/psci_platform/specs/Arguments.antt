@@ -1,5 +1,5 @@
 -- What the first argument of a call is to a platform, by the function word alone.
-use Rattle.std.specs.Prelude.{ℕ, Bool, true, false, ◌==◌, ◌||◌, if◌then◌else◌}
+use Rattle.std.specs.Prelude.{ℕ, Bool, ◌==◌, ◌||◌, if◌then◌else◌}
 use Rattle.psci_abi.specs.Calls.{argument, low_half}
 use Rattle.psci_abi.specs.declared.registers.Regs.{Regs}
 use Rattle.psci_board.specs.Board.{BoardValue}
@@ -21,12 +21,6 @@ use Rattle.psci_platform.specs.States.{states_of, word_for}
 -- PSCI_VERSION and MIGRATE_INFO_TYPE
 abbrev pub is_same : ℕ → Bool
 is_same word = word == 0x84000000 || word == 0x84000006
-
--- whether a first argument is none that a platform has words of its own for
-abbrev pub names_nothing : Argument → Bool
-names_nothing Missing = true
-names_nothing Other = true
-names_nothing a = false
 
 -- the argument of a function that may not be there
 abbrev pub there : Bool → Argument → Argument

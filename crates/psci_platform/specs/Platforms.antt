@@ -1,5 +1,5 @@
 -- A platform whose description has no fault, and the firmware of its board.
-use Rattle.std.specs.Prelude.{◌≡◌, ◌<◌, ℕ, true, None}
+use Rattle.std.specs.Prelude.{◌≡◌, ◌<◌, ℕ, true, Option, None, is_some}
 use Rattle.psci_abi.specs.declared.registers.Regs.{Regs}
 use Rattle.psci_board.specs.Board.{BoardValue, cores}
 use Rattle.psci_fw.specs.Seen.{FirmwareValue, seen}
@@ -17,6 +17,8 @@ pub record PlatformValue : Type 0 where
   pub boot : ℕ
   -- its place in the order of the tree
   pub place : ℕ
+  -- what is found out once: what the rows are, and the names of so many levels, from the cores up
+  pub ready : Option ℕ
 
 -- The description has no fault. So the boot core is one of the board, and is swapped with core 0.
 pub record IsPlatform (p : PlatformValue) : Type 0 where
@@ -24,6 +26,11 @@ pub record IsPlatform (p : PlatformValue) : Type 0 where
   pub place : p.place ≡ boot_place p.description p.board p.boot
   pub inside : p.place < cores p.board
   pub symmetric : is_symmetric p.board p.place ≡ true
+
+-- the same platform, in order: what is found out once is there
+pub record IsInOrder (p ordered : PlatformValue) : Type 0 where
+  pub same : ordered ≡ record p { ready = ordered.ready }
+  pub ready : is_some ordered.ready ≡ true
 
 -- The firmware of a platform as contracts see it.
 pub record PlatformFirmwareValue : Type 0 where

@@ -1,14 +1,15 @@
 //! Calls whose registers can be said at once, without a look at the firmware.
 
-ghost use Rattle.std.specs.Prelude.{◌≡◌, ℕ, true, IfSome, is_some};
+ghost use Rattle.std.specs.Prelude.{◌≡◌, ℕ, true, IfSome, is_some, length, option_map};
 ghost use Rattle.psci_abi.specs.Calls.{low_half};
 ghost use Rattle.psci_board.specs.Board.{BoardValue};
 ghost use Rattle.psci_fw_spec.specs.declared.mode.SuspendMode.{SuspendMode};
 ghost use Rattle.psci_platform.specs.declared.asked.Asked.TheVariants as asks;
-ghost use Rattle.psci_platform.specs.Arguments.{argument_by, is_same, names_nothing, regs_by};
+ghost use Rattle.psci_platform.specs.Arguments.{argument_by, is_same, regs_by};
 ghost use Rattle.psci_platform.specs.Arguments.{told_by};
 ghost use Rattle.psci_platform.specs.Calls.{asked_for, regs_for};
 ghost use Rattle.psci_platform.specs.Described.{DescriptionValue};
+ghost use Rattle.psci_platform.specs.Kept.{says_by};
 ghost use Rattle.psci_platform.specs.Names.{IsReady};
 
 use crate::argument::Argument;
@@ -36,8 +37,9 @@ impl Description {
             → r ≡ regs_for self.now board.now boot.number mode regs) }
         ensures asked { IfSome result (λ _. (mode : SuspendMode)
             → asked_for self.now mode regs ≡ asks.Nothing) }
-        ensures said { names_nothing (argument_by self.now.functions (low_half regs.x0)) ≡ true
-            → is_some result ≡ true }
+        ensures said { is_some result
+            ≡ says_by (option_map (λ r. length r.now.tables.items) ready.entry) regs
+            (argument_by self.now.functions (low_half regs.x0)) }
     {
         let argument = self.functions.argument_at_once(low(regs.x0));
         self.at_once_by(board, boot, ready, regs, argument)
@@ -58,7 +60,8 @@ impl Description {
             → r ≡ regs_by self.now board.now boot.number mode regs argument) }
         ensures asked { IfSome result (λ _. (mode : SuspendMode)
             → told_by self.now mode regs argument ≡ asks.Nothing) }
-        ensures said { names_nothing argument ≡ true → is_some result ≡ true }
+        ensures said { is_some result
+            ≡ says_by (option_map (λ r. length r.now.tables.items) ready.entry) regs argument }
     {
         let first = regs.argument(regs.x1);
         match argument {

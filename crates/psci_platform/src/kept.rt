@@ -1,7 +1,8 @@
 //! What a platform's words are by what was found out once.
 
-ghost use Rattle.std.specs.Prelude.{◌≡◌, ◌<◌, IfSome};
+ghost use Rattle.std.specs.Prelude.{◌≡◌, ◌<◌, IfSome, is_some, length, option_map};
 ghost use Rattle.psci_platform.specs.Cores.{core_word};
+ghost use Rattle.psci_platform.specs.Kept.{has_level};
 ghost use Rattle.psci_platform.specs.Names.{HasNames, IsReady};
 ghost use Rattle.psci_platform.specs.States.{states_of, word_for};
 
@@ -29,8 +30,10 @@ impl Description {
         level: u32,
     ) -> Option<u64>
         requires ready { IfSome ready (λ r. IsReady self.now board.now boot.number r.now) }
-        ensures { IfSome result (λ word. word
+        ensures word { IfSome result (λ word. word
             ≡ core_word self.now board.now boot.number mpidr level) }
+        ensures said { is_some result
+            ≡ has_level (option_map (λ r. length r.now.tables.items) ready.entry) level }
     {
         let table = self.table_kept(board, boot, ready, level)?;
         match table.name(mpidr >> (8 * level)) {
@@ -53,6 +56,8 @@ impl Description {
         ensures low { IfSome result (λ _. level < 4) }
         ensures names { IfSome result
             (λ table. HasNames self.now board.now boot.number level table.now) }
+        ensures said { is_some result
+            ≡ has_level (option_map (λ r. length r.now.tables.items) ready.entry) level }
     {
         ready?.tables.get(level as usize)
     }

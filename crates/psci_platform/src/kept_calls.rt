@@ -1,13 +1,14 @@
 //! Calls whose first argument is kept as the firmware reads it.
 
-ghost use Rattle.std.specs.Prelude.{◌≡◌, ◌<◌, ◌^◌, Some, IfSome, map, true};
+ghost use Rattle.std.specs.Prelude.{◌≡◌, ◌<◌, ◌^◌, ◌&&◌, Some, IfSome, is_some, map, true};
 ghost use Rattle.psci_abi.specs.Calls.{argument};
 ghost use Rattle.psci_board.specs.Board.{height};
 ghost use Rattle.psci_fw_spec.specs.declared.mode.SuspendMode.{SuspendMode};
 ghost use Rattle.psci_platform.specs.declared.asked.Asked.TheVariants.{Nothing, States};
 ghost use Rattle.psci_platform.specs.Calls.{asked_for, regs_for};
 ghost use Rattle.psci_platform.specs.Cores.{core_word, number_named};
-ghost use Rattle.psci_platform.specs.Kept.{Asks, IsOnCall, is_on, is_suspend};
+ghost use Rattle.psci_platform.specs.Kept.{Asks, IsOnCall, is_on, is_suspend, keeps_core, says_on};
+ghost use Rattle.psci_platform.specs.Kept.{says_suspend};
 ghost use Rattle.psci_platform.specs.States.{no_state, reading_of};
 
 use crate::asked::Asked;
@@ -34,6 +35,7 @@ impl Platform {
         ensures call { IfSome result (λ r. IsOnCall r.0) }
         ensures core { IfSome result (λ r. number_named self.now.description self.now.board
             self.now.place (argument regs regs.x1) 0 ≡ Some r.1.number) }
+        ensures said { is_some result ≡ says_on self.now regs }
     {
         if !is_on(low(regs.x0)) || !self.has_on() {
             return None;
@@ -61,6 +63,7 @@ impl Platform {
             self.now.place mpidr 0 ≡ Some n.now.core.number) }
         ensures word { IfSome result (λ n. n.now.word
             ≡ core_word self.now.description self.now.board self.now.place mpidr 0) }
+        ensures said { is_some result ≡ keeps_core self.now mpidr }
     {
         let level = 0;
         let table = self
@@ -78,6 +81,7 @@ impl Platform {
         ensures asked { IfSome result (λ r. r.0.asked
             ≡ asked_for self.now.description mode regs) }
         ensures ask { IfSome result (λ r. Asks self.now.board r.0.regs r.1) }
+        ensures said { is_some result ≡ says_suspend self.now mode regs }
     {
         if !is_suspend(low(regs.x0)) {
             return None;
@@ -97,6 +101,8 @@ impl Platform {
         ensures rows { IfSome result (λ readings. readings.now
             ≡ map (reading_of self.now.description self.now.board.format (height self.now.board))
             self.now.description.rows) }
+        ensures said { is_some result
+            ≡ (self.now.description.functions.cpu_suspend && is_some self.now.ready) }
     {
         if !self.description.functions.cpu_suspend {
             return None;
@@ -130,6 +136,7 @@ fn asks_row(regs: Regs, reading: &Reading) -> Option<(Call, Option<Ask>)>
     ensures ask { IfSome result (λ r. r.1 ≡ Some reading.now.ask) }
     ensures is_ask { IfSome result (λ _. reading.now.is_ask ≡ true) }
     ensures small { IfSome result (λ _. reading.now.word < 2 ^ 32) }
+    ensures said { is_some result ≡ reading.now.is_ask }
 {
     if !reading.is_ask {
         return None;

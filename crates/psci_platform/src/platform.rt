@@ -25,7 +25,7 @@ pub struct Platform {
 }
 
 impl Model for Platform {
-    ghost use Rattle.std.specs.Prelude.{IfSome};
+    ghost use Rattle.std.specs.Prelude.{IfSome, length, option_map};
     ghost use Rattle.psci_platform.specs.Names.{IsReady};
     ghost use Rattle.psci_platform.specs.Platforms.{IsPlatform, PlatformValue};
 
@@ -36,6 +36,7 @@ impl Model for Platform {
       board = p.board;
       boot = p.boot;
       place = p.boot_core.number;
+      ready = option_map (λ r. length r.tables.items) p.ready;
     } };
 
     ghost invariant = { λ p. IsPlatform (record {
@@ -43,19 +44,20 @@ impl Model for Platform {
       board = p.board;
       boot = p.boot;
       place = p.boot_core.number;
+      ready = option_map (λ r. length r.tables.items) p.ready;
     }) × IfSome p.ready (IsReady p.description p.board p.boot_core.number) };
 }
 
 ghost use Rattle.std.specs.Prelude.{◌≡◌, ◌<◌, None, Some, IfOk, IfSome, MatchResult, option_map};
-ghost use Rattle.std.specs.Prelude.{is_some, slice_get, true};
-ghost use Rattle.psci_abi.specs.Calls.{low_half};
+ghost use Rattle.std.specs.Prelude.{is_some, length, slice_get};
 ghost use Rattle.psci_board.specs.Board.{cores};
 ghost use Rattle.psci_platform.specs.Cores.{boot_place, number_named};
 ghost use Rattle.psci_platform.specs.Names.{IsReady};
 ghost use Rattle.psci_platform.specs.declared.asked.Asked.TheVariants.{Nothing};
-ghost use Rattle.psci_platform.specs.Arguments.{argument_by, names_nothing};
 ghost use Rattle.psci_platform.specs.Calls.{asked_for, regs_for};
 ghost use Rattle.psci_platform.specs.Faults.{fault_of};
+ghost use Rattle.psci_platform.specs.Kept.{says};
+ghost use Rattle.psci_platform.specs.Platforms.{IsInOrder};
 ghost use Rattle.psci_platform.specs.Swaps.{moved, swap_for};
 
 impl Platform {
@@ -70,6 +72,7 @@ impl Platform {
           board = board;
           boot = boot;
           place = boot_place description board boot;
+          ready = None;
         }) }
     {
         law_boot_core();
@@ -91,7 +94,7 @@ impl Platform {
     /// The same platform, which finds a core, a power domain or a row at once.
     #[tactic(auto, using(crate::proofs::Checked::some_count))]
     pub fn in_order(self, alloc: Global) -> Result<Platform, Memory>
-        ensures { IfOk result (λ p. p ≡ self) }
+        ensures { IfOk result (IsInOrder self) }
     {
         let tables = self.description.tables(alloc, &self.board, self.boot_core)?;
         let readings = self
@@ -106,8 +109,9 @@ impl Platform {
     /// What was found out once.
     #[inline(always)]
     pub(crate) fn ready(&self) -> Option<&Ready>
-        ensures { IfSome result
+        ensures ready { IfSome result
             (λ r. IsReady self.now.description self.now.board self.now.place r.now) }
+        ensures levels { option_map (λ r. length r.now.tables.items) result ≡ self.now.ready }
     {
         self.ready.as_ref()
     }
@@ -172,16 +176,15 @@ impl Platform {
     }
 
     /// The registers of `translate`, if they can be said at once, are the same in each mode, and
-    /// nothing is asked beside.
+    /// nothing is asked beside. They are of each call whose first argument names nothing here, or a
+    /// core or power domain of a level whose names are kept.
     #[inline(always)]
     pub fn at_once(&self, regs: Regs) -> Option<Regs>
         ensures regs { IfSome result (λ r. (mode : SuspendMode) → r
             ≡ regs_for self.now.description self.now.board self.now.place mode regs) }
         ensures asked { IfSome result (λ _. (mode : SuspendMode)
             → asked_for self.now.description mode regs ≡ Nothing) }
-        ensures said { names_nothing
-            (argument_by self.now.description.functions (low_half regs.x0)) ≡ true
-            → is_some result ≡ true }
+        ensures said { is_some result ≡ says self.now regs }
     {
         self.description
             .at_once(&self.board, self.boot_core, self.ready(), regs)

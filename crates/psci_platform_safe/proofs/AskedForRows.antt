@@ -92,6 +92,19 @@ system_was_asked =
     all_ask tall (run_on tall [] system_retained) 0x300 3 2 3
     (inr yes, (inr yes, (inr yes, (inr own, tt)))))
 
+-- and the boot core itself
+boot_core_was_asked : WasAskedFor tall (run_on tall [] (system_retained ++ Deliver 0 ∷ [])) 0x100 0
+    1 2
+unfolding computing
+boot_core_was_asked =
+    was_asked tall (told tall (run_on tall [] (system_retained)) (Deliver 0) ∷ [])
+    (run_on tall [] boot_on)
+    (told tall (run_on tall [] boot_on) (suspend 0x100 0x03001112)) 0x100 0 1
+    (down 0 1 (part 0 2 1 ∷ part 1 2 1 ∷ part 2 2 1 ∷ part 3 2 1 ∷ [])) (part 0 2 1) refl refl refl
+    (let own : 2 ≤ 2 = omega arith in
+    all_ask tall (run_on tall [] system_retained) 0x100 0 2 0
+    (inl refl, (inl refl, (inl refl, (inr own, tt)))))
+
 -- a core, in standby
 core_was_asked : WasAskedFor tall (run_on tall [] (core_in_standby ++ Deliver 1 ∷ [])) 0x10100 0 1 1
 unfolding computing

@@ -1,47 +1,23 @@
 -- Worked examples: for each sentence histories that break it: at each level, in both modes, in life
 -- 2 and in a life that is halting. None of them is legal: in each one thing is said that is not so.
-use Rattle.std.proofs.Common.{◌≡◌, ◌++◌, ℕ, pos, List, [], ◌∷◌, true, false, Option, Some, refl}
-use Rattle.std.proofs.Common.{arith, ap, ◌∙◌, inl, inr}
-use Rattle.psci_headline.specs.psci_abi.Calls.{request_of}
-use Rattle.psci_headline.specs.psci_abi.declared.registers.Regs.{Regs}
-use Rattle.psci_headline.specs.psci_abi.declared.request.Request.{Request}
+-- `OffRows` has those of what is said to be OFF.
+use Rattle.std.proofs.Common.{◌≡◌, ◌≤◌, ◌++◌, List, [], ◌∷◌, false, Some, refl, arith, ap}
+use Rattle.std.proofs.Common.{◌∙◌, inl, inr, true}
 use Rattle.psci_headline.specs.psci_fw_spec.declared.opening.Opening.{Opening}
-use Rattle.psci_headline.specs.psci_fw_spec.declared.outcome.Act.TheVariants as acts
 use Rattle.psci_headline.specs.psci_messages.declared.kind.Kind.TheVariants.{Down}
-use Rattle.psci_headline.specs.psci_world_spec.declared.event.Event.TheVariants.{Call, Deliver}
-use Rattle.psci_headline.specs.psci_world_spec.declared.event.Event.TheVariants.{Enter, Wake}
+use Rattle.psci_headline.specs.psci_world_spec.declared.event.Event.TheVariants.{Deliver, Enter}
+use Rattle.psci_headline.specs.psci_world_spec.declared.event.Event.TheVariants.{Wake}
 use Rattle.psci_headline.specs.psci_world_spec.declared.said.Record.{Record}
-use Rattle.psci_headline.specs.psci_world_spec.declared.said.Said.TheVariants.{Fw}
-use Rattle.psci_headline.specs.psci_world_spec.declared.said.Sent.{Sent}
 use Rattle.psci_headline.proofs.world_spec.Scripts.{acked, call, enters, goes_down, off, part}
 use Rattle.psci_headline.proofs.world_spec.Scripts.{resumes, sends, stops, system_off, value}
 use Rattle.psci_headline.specs.Openings.{Made, OfCall, TakenUp}
-use Rattle.psci_platform_safe.specs.Names.{IsAskedOf}
 use Rattle.psci_platform_safe.specs.Opened.{OneEntryEach}
-use Rattle.psci_platform_safe.specs.Safe.{Answers, NoneBelowSleeping, OffIsDown, OneLiveClaim}
-use Rattle.psci_platform_safe.specs.Safe.{SafeOn, StatesWereReal}
+use Rattle.psci_platform_safe.specs.Safe.{NoneBelowSleeping, OneLiveClaim, SafeOn, StatesWereReal}
 use Rattle.psci_platform_safe.proofs.Histories.{after, computing, core_1_off, core_1_on}
 use Rattle.psci_platform_safe.proofs.Histories.{on_by_the_system, on_in_life_2, says, state_of}
-use Rattle.psci_platform_safe.proofs.Histories.{status_of, suspend, tall, tall_after, tall_on, two}
-
--- a call that was answered with a number
-answers : {caller code : ℕ} {regs : Regs} {sent : Option Sent} {request : Request}
-    → request_of regs ≡ request
-    → Answers (record {
-      event = Call caller regs;
-      said = Fw (acts.Return (record { 0 = pos code })) sent;
-    }) request code
-answers asks =
-    record { caller = _; regs = _; sent = _; event = refl; asks = asks; said = refl }
-
--- of core 1, itself or by its cluster
-core_1 : IsAskedOf two 1 0 1
-unfolding computing
-core_1 = record { core = (1, refl); domain = refl }
-
-its_cluster : IsAskedOf two 1 1 1
-unfolding computing
-its_cluster = record { core = (1, refl); domain = refl }
+use Rattle.psci_platform_safe.proofs.Histories.{suspend, tall, tall_after, tall_in_life_2, tall_on}
+use Rattle.psci_platform_safe.proofs.Histories.{two}
+use Rattle.psci_platform_safe.proofs.OffRows.{answers, core_1, its_cluster}
 
 -- 1 ----------------------------------------------------------------------------------------------
 
@@ -83,47 +59,6 @@ none_below_sleeping = (
   λ none. omega (arith, none 1 1 (1, refl) (omega arith) refl),
 )
 
--- what is said to be OFF while a core below runs
-off_is_stopped :
-    -- off_and_runs: core 1 by itself
-    (OffIsDown two (says (after core_1_on) (status_of 0x200 1 0) (value 1)) → ⊥)
-    -- cluster_off_and_runs: its cluster
-    × (OffIsDown two (says (after core_1_on) (status_of 0x203 0xff 1) (value 1)) → ⊥)
-    -- group_off_and_runs: a group
-    × (OffIsDown tall (says (tall_after tall_on) (status_of 0x100 0x10000 2) (value 1)) → ⊥)
-    -- system_off_and_runs: the system
-    × (OffIsDown tall (says (tall_after tall_on) (status_of 0x10100 0 3) (value 1)) → ⊥)
-unfolding computing
-off_is_stopped = (
-  λ down. (down 1 0 1 (answers refl) core_1).stopped refl,
-  λ down. (down 0xff 1 1 (answers refl) (record { core = (1, refl); domain = refl })).stopped refl,
-  λ down. (down 0x10000 2 0x10100 (answers refl)
-      (record { core = (0, refl); domain = refl })).stopped refl,
-  λ down. (down 0 3 0x100 (answers refl)
-      (record { core = (3, refl); domain = refl })).stopped refl,
-)
-
--- core 1 is said to be OFF before its Down was delivered
-off_is_down :
-    -- off_not_down: once it has gone off
-    (OffIsDown two (says (after (core_1_on ++ off 1 ∷ [])) (status_of 0x200 1 0) (value 1)) → ⊥)
-    -- off_not_down_in_life_2: where it had been so in life 1
-    × (OffIsDown two (says (after (on_in_life_2 ++ off 1 ∷ [])) (status_of 0x200 1 0) (value 1))
-    → ⊥)
-    -- off_not_down_by_the_system: in OS-initiated mode
-    × (OffIsDown two (says (after (on_by_the_system ++ off 1 ∷ [])) (status_of 0x200 1 0)
-    (value 1)) → ⊥)
-    -- off_not_down_while_halting: while the life is halting
-    × (OffIsDown two (says (after (core_1_on ++ off 1 ∷ system_off 0x200 ∷ []))
-    (status_of 0x200 1 0) (value 1)) → ⊥)
-unfolding computing
-off_is_down = (
-  λ down. let no : false ≡ true = (down 1 0 1 (answers refl) core_1).down in cc,
-  λ down. let no : false ≡ true = (down 1 0 1 (answers refl) core_1).down in cc,
-  λ down. let no : false ≡ true = (down 1 0 1 (answers refl) core_1).down in cc,
-  λ down. let no : false ≡ true = (down 1 0 1 (answers refl) core_1).down in cc,
-)
-
 -- 2 ----------------------------------------------------------------------------------------------
 
 -- a domain is claimed twice in one start
@@ -151,15 +86,33 @@ one_live_claim :
     -- claims_twice_by_the_system: in OS-initiated mode
     × (OneLiveClaim two (says (after (on_by_the_system ++ off 1 ∷ [])) (suspend 1 1)
     (goes_down 2 1 1 1 (part 0 2 1 ∷ []))) → ⊥)
+    -- boot_core_claims_twice: the boot core by itself
+    × (OneLiveClaim tall (says (tall_after (tall_on ++ off 0x100 ∷ [])) (suspend 0x100 1)
+    (goes_down 2 0x100 1 1 (part 0 2 1 ∷ []))) → ⊥)
+    -- cluster_claimed_twice_in_life_2: the cluster of core 1 alone, in life 2
+    × (OneLiveClaim two (says (after (on_in_life_2 ++ off 1 ∷ [])) (suspend 1 0x01010032)
+    (goes_down 3 1 2 1 (part 0 3 9 ∷ part 1 3 1 ∷ []))) → ⊥)
+    -- group_claimed_twice_in_life_2: the boot core's group alone
+    × (OneLiveClaim tall (says (tall_after (tall_in_life_2 ++ off 0x100 ∷ []))
+    (suspend 0x100 0x02010223)
+    (goes_down 2 0x100 2 1 (part 0 3 9 ∷ part 1 3 9 ∷ part 2 3 1 ∷ []))) → ⊥)
+    -- system_claimed_twice_in_life_2: the system alone
+    × (OneLiveClaim tall (says (tall_after (tall_in_life_2 ++ off 0x100 ∷ []))
+    (suspend 0x100 0x03012223)
+    (goes_down 2 0x100 2 1 (part 0 3 9 ∷ part 1 3 9 ∷ part 2 3 9 ∷ part 3 3 1 ∷ []))) → ⊥)
 unfolding computing
 one_live_claim = (
-  λ one. omega (arith, one 1 0 (1, refl) (omega arith)),
-  λ one. omega (arith, one 0 1 (0, refl) (omega arith)),
-  λ one. omega (arith, one 0x10000 2 (1, refl) (omega arith)),
-  λ one. omega (arith, one 0x10000 3 (1, refl) (omega arith)),
-  λ one. omega (arith, one 1 0 (1, refl) (omega arith)),
-  λ one. omega (arith, one 1 0 (1, refl) (omega arith)),
-  λ one. omega (arith, one 1 0 (1, refl) (omega arith)),
+  λ one. let no : 2 ≤ 1 = one 1 0 (1, refl) (omega arith) in omega (arith, no),
+  λ one. let no : 2 ≤ 1 = one 0 1 (0, refl) (omega arith) in omega (arith, no),
+  λ one. let no : 2 ≤ 1 = one 0x10000 2 (1, refl) (omega arith) in omega (arith, no),
+  λ one. let no : 2 ≤ 1 = one 0x10000 3 (1, refl) (omega arith) in omega (arith, no),
+  λ one. let no : 2 ≤ 1 = one 1 0 (1, refl) (omega arith) in omega (arith, no),
+  λ one. let no : 2 ≤ 1 = one 1 0 (1, refl) (omega arith) in omega (arith, no),
+  λ one. let no : 2 ≤ 1 = one 1 0 (1, refl) (omega arith) in omega (arith, no),
+  λ one. let no : 2 ≤ 1 = one 0x100 0 (3, refl) (omega arith) in omega (arith, no),
+  λ one. let no : 2 ≤ 1 = one 1 1 (1, refl) (omega arith) in omega (arith, no),
+  λ one. let no : 2 ≤ 1 = one 0x100 2 (3, refl) (omega arith) in omega (arith, no),
+  λ one. let no : 2 ≤ 1 = one 0x100 3 (3, refl) (omega arith) in omega (arith, no),
 )
 
 -- 4 ----------------------------------------------------------------------------------------------

@@ -1,7 +1,7 @@
 -- A platform and its histories, for worked examples: four cores with MPIDRs in two fields and with
 -- gaps, of which one of the second cluster boots.
 use Rattle.psci_platform_safe.proofs.Words.{◌++◌, ◌∷◌, [], Deliver, DescriptionValue, Enter, Event}
-use Rattle.psci_platform_safe.proofs.Words.{legal_for, List, PlatformValue, Record, Said}
+use Rattle.psci_platform_safe.proofs.Words.{legal_for, List, None, PlatformValue, Record, Said}
 use Rattle.psci_platform_safe.proofs.Words.{system_reset, Take, ℕ}
 use Rattle.psci_platform.specs.declared.class.Class.TheVariants.{Retention, Standby}
 use Rattle.psci_platform.proofs.Machines.{all_functions, calling, checking, describes, down, level}
@@ -36,7 +36,13 @@ description = record (describes (0 ∷ 1 ∷ 0x200 ∷ 0x203 ∷ []) 2
 -- the core with MPIDR 0x200 boots: the firmware has 0 and 1 for the cores 0x200 and 0x203, and 2
 -- and 3 for the cores 0 and 1
 abbrev pub two : PlatformValue
-two = record { description = description; board = board; boot = 0x200; place = 2 }
+two = record {
+  description = description;
+  board = board;
+  boot = 0x200;
+  place = 2;
+  ready = None;
+}
 
 -- two groups of two clusters of one core, whose MPIDRs fall in the order of the tree: words for
 -- standby, retention and power-down of the core, and for two states or one of each domain above
@@ -56,7 +62,13 @@ tall_description = record (describes (0x10100 ∷ 0x10000 ∷ 0x300 ∷ 0x100 �
 -- 0x300,
 -- 2 for 0x10000 and 3 for 0x10100
 abbrev pub tall : PlatformValue
-tall = record { description = tall_description; board = tall_board; boot = 0x100; place = 3 }
+tall = record {
+  description = tall_description;
+  board = tall_board;
+  boot = 0x100;
+  place = 3;
+  ready = None;
+}
 
 -- the boot core asks core 1 on
 abbrev pub on_1 : Event
@@ -105,6 +117,10 @@ tall_on =
 -- in life 2 the boot core has entered
 abbrev pub life_2 : List Event
 life_2 = Enter 0x200 ∷ system_reset 0x200 ∷ Deliver 0 ∷ Enter 0x200 ∷ []
+
+-- and on the platform of three levels
+abbrev pub tall_in_life_2 : List Event
+tall_in_life_2 = Enter 0x100 ∷ system_reset 0x100 ∷ Deliver 0 ∷ Enter 0x100 ∷ []
 
 -- core 1 is on in OS-initiated mode, and in life 2
 abbrev pub on_by_the_system : List Event

@@ -11,7 +11,7 @@ use Rattle.psci_platform_safe.specs.Safe.{IsOff, NoneBelowSleeping, OneLiveClaim
 use Rattle.psci_platform_safe.specs.Words.{numbered}
 use Rattle.psci_platform_safe.proofs.Histories.{after, computing, core_1_off, core_1_on}
 use Rattle.psci_platform_safe.proofs.Histories.{on_by_the_system, on_in_life_2, suspend, tall}
-use Rattle.psci_platform_safe.proofs.Histories.{tall_after, tall_on, two}
+use Rattle.psci_platform_safe.proofs.Histories.{tall_after, tall_in_life_2, tall_on, two}
 use Rattle.psci_platform_safe.proofs.Moments.{claims_are, cores_are}
 
 -- the group of the far core is off, and the system is in retention
@@ -39,6 +39,10 @@ suspended = after (on_by_the_system ++ suspend 1 0x01010022 ∷ [])
 
 abbrev gone_while_halting : List Record
 gone_while_halting = after (core_1_off ++ system_off 0x200 ∷ [])
+
+-- the boot core has gone off with the system in life 2
+abbrev system_gone_in_life_2 : List Record
+system_gone_in_life_2 = tall_after (tall_in_life_2 ++ off 0x100 ∷ [])
 
 -- 1 ----------------------------------------------------------------------------------------------
 
@@ -74,8 +78,16 @@ off_is_down :
     × IsOff two (after (on_in_life_2 ++ off 1 ∷ Deliver 2 ∷ [])) 1
     -- off_while_halting: while the life is halting
     × IsOff two (after (core_1_on ++ off 1 ∷ system_off 0x200 ∷ Deliver 1 ∷ [])) 1
+    -- off_again: also where it was powered down before it entered
+    × IsOff two (after (core_1_on ++ suspend 1 0x00010002 ∷ Deliver 1 ∷ Wake 1 ∷ Enter 1 ∷ off 1
+    ∷ Deliver 2 ∷ [])) 1
+    -- boot_core_is_off_again: so the boot core
+    × IsOff tall (tall_after (tall_on ++ suspend 0x100 0x00010003 ∷ Deliver 1 ∷ Wake 0x100
+    ∷ Enter 0x100 ∷ off 0x100 ∷ Deliver 2 ∷ [])) 0x100
 unfolding computing
 off_is_down = (
+  record { stopped = λ runs. absurd (cc); down = refl },
+  record { stopped = λ runs. absurd (cc); down = refl },
   record { stopped = λ runs. absurd (cc); down = refl },
   record { stopped = λ runs. absurd (cc); down = refl },
   record { stopped = λ runs. absurd (cc); down = refl },
@@ -97,6 +109,8 @@ one_live_claim :
     × OneLiveClaim two suspended
     -- claims_while_halting: while the life is halting
     × OneLiveClaim two gone_while_halting
+    -- claims_of_the_system_in_life_2: of each level, in life 2
+    × OneLiveClaim tall system_gone_in_life_2
 unfolding computing
 one_live_claim = (
   claims_are tall group_off (omega arith),
@@ -104,6 +118,7 @@ one_live_claim = (
   claims_are two gone_in_life_2 (omega arith),
   claims_are two suspended (omega arith),
   claims_are two gone_while_halting (omega arith),
+  claims_are tall system_gone_in_life_2 (omega arith),
 )
 
 -- 5 ----------------------------------------------------------------------------------------------
@@ -118,6 +133,9 @@ states_were_real :
     -- system_was_retained: the system
     × WasSoDeep tall.board is_standby_depth (numbered tall system_retained)
     (domain_above tall 0x300 3)
+    -- boot_core_was_retained: and the boot core
+    × WasSoDeep tall.board is_standby_depth (numbered tall system_retained)
+    (domain_above tall 0x100 0)
     -- cluster_was_retained_by_the_system: in OS-initiated mode
     × WasSoDeep two.board is_standby_depth
     (numbered two (after (on_by_the_system ++ suspend 1 0x01010022 ∷ Deliver 1 ∷ [])))
@@ -130,4 +148,4 @@ states_were_real :
     (numbered two (after (core_1_on ++ off 1 ∷ system_off 0x200 ∷ Deliver 1 ∷ [])))
     (domain_above two 1 0)
 unfolding computing
-states_were_real = (refl, refl, refl, refl, refl, refl, refl)
+states_were_real = (refl, refl, refl, refl, refl, refl, refl, refl)

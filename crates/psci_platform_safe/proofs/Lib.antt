@@ -23,6 +23,7 @@ mod WaitRows
 mod AskedRows
 mod AskedForRows
 mod StartRows
+mod OffRows
 mod BrokenRows
 mod DeeperRows
 pub mod Words

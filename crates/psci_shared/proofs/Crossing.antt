@@ -1,8 +1,10 @@
--- Why a firmware that threads share may cross threads, layer by layer.
+-- Why a firmware and a power controller that threads share may cross threads, layer by layer.
 use denote.Param.Send.{IsSend, IsSync, sendable, view_send, recorded_send, struct_send}
-use denote.Param.Send.{recorded_sync, struct_sync, plain_send, plain_sync}
+use denote.Param.Send.{recorded_sync, struct_sync, view_sync, part_keyless}
+use denote.Param.Send.{plain_send, plain_sync}
 use denote.Ref.{NamedLft}
 use Rattle.psci_shared.specs.contracts.shared.SharedFirmware as Shared
+use Rattle.psci_shared.specs.contracts.controller.shared.SharedController as Controlled
 use denote.Struct.Declared.{shape}
 use Rattle.std.specs.contracts.vec.Vec as Vec
 use Rattle.std.specs.contracts.alloc.Global as Heap
@@ -24,6 +26,7 @@ use Rattle.psci_fw_state.specs.contracts.state.State as State
 use Rattle.psci_fw.specs.contracts.firmware.Firmware as Firmware
 use denote.RattleType.{RattleType}
 use Rattle.std.specs.declared.sync.ledger.Ledger as Ledger
+use Rattle.std.specs.contracts.sync.ledger.Share as Share
 use Rattle.std.proofs.marker.PhantomData.TheSendSync as phantom
 use Rattle.std.proofs.sync.ledger.Book.TheSendSync as total
 use Rattle.std.proofs.sync.ledger.Share.TheSendSync as share
@@ -36,9 +39,12 @@ use Rattle.psci_shared.specs.contracts.pass.PassOf as PassOf
 use Rattle.psci_shared.specs.contracts.seen.Seen as Seen
 use Rattle.psci_shared.specs.contracts.tally.Tally as Tally
 use Rattle.psci_shared.specs.contracts.tally.Tally.TheInside as Counted
+use Rattle.psci_shared.specs.contracts.made.Made as Made
+use Rattle.psci_shared.specs.contracts.made.Made.TheInside as MadeOf
 use Rattle.psci_board.proofs.node.Core.TheSendSync as core_at
 use Rattle.psci_fw_spec.proofs.call.FwCall.TheSendSync as call
 use Rattle.psci_fw_spec.proofs.reply.FwReply.TheSendSync as reply
+use Rattle.psci_shared.proofs.controller.locked.CtlLocked.TheSendSync as controller
 use Rattle.psci_shared.proofs.entry.Entry.TheSendSync as entry
 use Rattle.psci_shared.proofs.pass.PassOf.TheSendSync as passes
 use Rattle.psci_shared.proofs.seen.Seen.TheSendSync as seen
@@ -93,7 +99,7 @@ module _ (N : RattleType) (named : Named.Ghosts N.Denot) (ledger : Ledger.Ghosts
       recorded_send (Counted.the_field N named ledger).row _ _
       (Counted.the_type N named ledger).to_one
       (struct_send (shape (Counted.the_type N named ledger))
-      (total.the_send N ledger, (share.the_send N ledger, tt)))
+      (total.the_send N ledger, tt))
 
   tally : IsSend (Tally.the_row N named ledger)
   tally = view_send _ _ _ _ _ counted
@@ -104,17 +110,24 @@ module _ (N : RattleType) (named : Named.Ghosts N.Denot) (ledger : Ledger.Ghosts
       (Locked.the_type N named ledger).to_one
       (struct_send (shape (Locked.the_type N named ledger)) (
         book,
-        (
-          plain_send _ _ _ _ _,
-          (
-            writer.the_field_send,
-            (
-              plain_send _ _ _ _ _,
-              (tally, tt),
-            ),
-          ),
-        ),
+        (writer.the_field_send, (plain_send _ _ _ _ _, (tally, tt))),
       ))
+
+  -- by a `&` to a share nothing is known but that it lies there, and that goes for every thread
+  rest : IsSync (Share.the_row N ledger)
+  rest = record {
+    shared = λ d b o κ q. part_keyless (Share.the_row N ledger) (share.the_send N ledger) q d b o;
+  }
+
+  parts : IsSync (MadeOf.the_row N named ledger)
+  parts =
+      recorded_sync (MadeOf.the_field N named ledger).row _ _
+      (MadeOf.the_type N named ledger).to_one
+      (struct_sync (shape (MadeOf.the_type N named ledger))
+      (plain_sync _ _ _ _ _, (rest, tt)))
+
+  made : IsSync (Made.the_row N named ledger)
+  made = view_sync _ _ _ _ _ parts
 
   pub shared : (a : NamedLft) → IsSync (Shared.the_row a N named ledger)
   shared a =
@@ -130,9 +143,24 @@ module _ (N : RattleType) (named : Named.Ghosts N.Denot) (ledger : Ledger.Ghosts
               board.the_sync,
               (
                 search (heap.crosses, sendable),
-                (plain_sync _ _ _ _ _, (plain_sync _ _ _ _ _, tt)),
+                (plain_sync _ _ _ _ _, (made, tt)),
               ),
             ),
+          ),
+        ),
+      ))
+
+  pub controlled : (a : NamedLft) → IsSync (Controlled.the_row a N named ledger)
+  controlled a =
+      recorded_sync (Controlled.the_field a N named ledger).row _ _
+      (Controlled.the_type a N named ledger).to_one
+      (struct_sync (shape (Controlled.the_type a N named ledger)) (
+        search (heap.crosses, controller.the_send, sendable),
+        (
+          search (tickets.the_sync, sendable),
+          (
+            search (heap.crosses, sendable),
+            (plain_sync _ _ _ _ _, (made, tt)),
           ),
         ),
       ))

@@ -13,6 +13,7 @@ pub mod Histories
 pub mod OwnCalls
 pub mod Placed
 pub mod PollRows
+mod PolledRows
 pub mod Polling
 mod RefusedRows
 pub mod TwoCores

@@ -78,7 +78,7 @@ one_status_more : Gives more
 one_status_more = refl
 
 -- the same, and core 0 asks core 1 on
-abbrev asked_on : List FwEntry
+abbrev pub asked_on : List FwEntry
 asked_on =
     entry 1 (record { number = 0 }) (Enter (record { life = 1; number = 1; cause = Boot }))
     (Out (record { act = acts.Enter 0 0; message = None }))
@@ -164,14 +164,14 @@ nothing_is_read_of_nobody : IsAffinity None before
 nothing_is_read_of_nobody h = eqb-false 2 1 refl (ap (λ (p : PassView). length (row p.seen 0)) h.1)
 
 -- the number of a status, or 9
-abbrev status_in : Code → ℕ
+abbrev pub status_in : Code → ℕ
 status_in code = elim code.0 [ pos n ↦ n | negsuc n ↦ 9 ]
 
 no_status_of_nobody : IsAffinity None before before (record { 0 = pos 1 }) → ⊥
 no_status_of_nobody h = eqb-false 1 9 refl (ap status_in h.0)
 
 -- the status of the last item
-abbrev last_code : List Item → ℕ
+abbrev pub last_code : List Item → ℕ
 last_code [] = 9
 last_code (i ∷ is) = status_code i.1
 

@@ -43,8 +43,3 @@ called p i seen = record p { items = p.items ++ i ∷ []; seen = seen }
 -- a pass that was told that the book is full
 abbrev pub told : {W S C R : Type 0} → AnyPass W S C R → AnyPass W S C R
 told p = record p { told_full = true }
-
--- the ledger of a lock: how many items its passes have in all, and how many parts no pass has
-pub record TallyView : Type 0 where
-  pub total : ℕ
-  pub parts : ℕ

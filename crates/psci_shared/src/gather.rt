@@ -12,6 +12,7 @@ use crate::book::FwBook;
 use crate::fault::GatherCause;
 use crate::gathered::{BooksOf, GatherFaultOf};
 use crate::locked::FwLocked;
+use crate::made::Made;
 use crate::named::Named;
 use crate::seen::Pass;
 use crate::shared::SharedFirmware;
@@ -27,10 +28,16 @@ impl<'t, N: Named> SharedFirmware<'t, N> {
     /// Gathers the passes with the book, in which each place then stands in one of them.
     pub fn gather(self, passes: Vec<Pass<N>>) -> Result<Books<N>, GatherFault<N>>
         ensures fault { IfErr result (λ f. IsCause f.cause (Agree f.locked.book f.passes.items)
-            (length f.passes.items) f.locked.made) }
+            (length f.passes.items) self.entry.made) }
+        ensures made { IfErr result (λ f. f.made ≡ self.entry.made) }
+        ensures words { IfErr result
+            (λ f. (f.words ≡ self.entry.words) × (table f.words ≡ N.table)) }
+        ensures all { IfOk result (λ b. length b.passes.items ≡ self.entry.made) }
         ensures books { IfOk result (λ b. Agree b.book b.passes.items
             × (length b.book.entries ≡ items_of b.passes.items)) }
         ensures placed { IfOk result (λ b. AllPlaced b.book b.passes.items) }
+        ensures room { MatchResult result
+            (λ b. b.book.room ≡ N.room) (λ f. f.locked.book.room ≡ N.room) }
         ensures stand { IfOk result (λ b. AllStand N.board b.book.entries b.passes.items) }
         ensures stood { MatchResult result
             (λ b. AllStand N.board b.book.entries passes.items)
@@ -39,11 +46,11 @@ impl<'t, N: Named> SharedFirmware<'t, N> {
             (λ b. AreMet passes.items b.passes.items)
             (λ f. AreMet passes.items f.passes.items) }
     {
-        let (mut locked, words) = self.into_parts();
+        let (mut locked, words, mut made) = self.into_parts();
         let mut passes = passes;
         locked.meet(&words, &mut passes);
-        if let Some(cause) = locked.cause(&mut passes) {
-            return Err(GatherFault::of(cause, locked, words, passes));
+        if let Some(cause) = locked.cause(&mut made, &mut passes) {
+            return Err(GatherFault::of(cause, locked, words, made.count(), passes));
         }
         let book = locked.into_book();
         Ok(Books { book, passes })
@@ -52,23 +59,23 @@ impl<'t, N: Named> SharedFirmware<'t, N> {
 
 impl<N: Named> FwLocked<N> {
     /// Why the passes are not gathered, if they are not.
-    fn cause(&mut self, passes: &mut Vec<Pass<N>>) -> Option<GatherCause>
-        ensures same { (self.new.book ≡ self.old.book) × (self.new.made ≡ self.old.made) }
+    fn cause(&mut self, made: &mut Made<N>, passes: &mut Vec<Pass<N>>) -> Option<GatherCause>
+        ensures same { (self.new.book ≡ self.old.book) × (made.new ≡ made.old) }
         ensures passes { passes.new.items ≡ passes.old.items }
         ensures cause { IfSome result (λ c. IsCause c (Agree self.old.book passes.old.items)
-            (length passes.old.items) self.old.made) }
+            (length passes.old.items) made.old) }
+        ensures all { IfNone result (length passes.old.items ≡ made.old) }
         ensures agree { IfNone result (Agree self.old.book passes.old.items
             × (length self.old.book.entries ≡ items_of passes.old.items)) }
         ensures placed { IfNone result (AllPlaced self.old.book passes.old.items) }
     {
         let FwLocked {
             book,
-            made,
             writer: _,
             count: _,
             tally,
         } = self;
-        tally.cause(book, *made, passes)
+        tally.cause(book, made, passes)
     }
 
     /// The book alone.
@@ -77,7 +84,6 @@ impl<N: Named> FwLocked<N> {
     {
         let FwLocked {
             book,
-            made: _,
             writer: _,
             count: _,
             tally: _,
@@ -88,7 +94,7 @@ impl<N: Named> FwLocked<N> {
     /// The writer is told what each pass has seen.
     pub(crate) fn meet(&mut self, words: &StatusWords, passes: &mut Vec<Pass<N>>)
         requires { table words.now ≡ N.table }
-        ensures book { (self.new.book ≡ self.old.book) × (self.new.made ≡ self.old.made) }
+        ensures book { self.new.book ≡ self.old.book }
         ensures passes { AreMet passes.old.items passes.new.items }
         ensures stand { AllStand N.board self.new.book.entries passes.new.items }
         ensures stood { AllStand N.board self.old.book.entries passes.old.items }

@@ -18,25 +18,36 @@ pub struct BooksOf<B, P> {
 pub struct GatherFaultOf<L, X, P> {
     /// Why.
     pub cause: GatherCause,
-    /// What the lock guarded; it says how many passes were made.
+    /// What the lock guarded.
     pub locked: L,
     /// The status words, or `()` where there are none.
     pub words: X,
+    /// How many passes were made.
+    pub made: u32,
     /// The passes.
     pub passes: Vec<P>,
 }
 
 impl<L: Drop, X: Drop, P: Drop> GatherFaultOf<L, X, P> {
     /// The passes were not gathered for this cause.
-    pub fn of(cause: GatherCause, locked: L, words: X, passes: Vec<P>) -> GatherFaultOf<L, X, P>
+    pub fn of(
+        cause: GatherCause,
+        locked: L,
+        words: X,
+        made: u32,
+        passes: Vec<P>,
+    ) -> GatherFaultOf<L, X, P>
         ensures cause { result.cause ≡ cause }
         ensures locked { result.locked ≡ locked }
+        ensures words { result.words ≡ words }
+        ensures made { result.made ≡ made }
         ensures passes { result.passes ≡ passes }
     {
         GatherFaultOf {
             cause,
             locked,
             words,
+            made,
             passes,
         }
     }

@@ -1,24 +1,20 @@
 //! What the lock guards.
 
-ghost use Rattle.std.specs.Prelude.{◌≡◌, ◌≤◌, ◌+◌, [], ◌∷◌, length, replicate};
-ghost use Rattle.std.specs.Prelude.{IfOk, IfSome, OnErr, OnSome};
+ghost use Rattle.std.specs.Prelude.{◌≡◌, [], ◌∷◌, length, replicate, IfOk, OnErr};
 ghost use Rattle.psci_fw.specs.psci_board.Board.{cores};
 ghost use Rattle.psci_fw.specs.psci_fw_spec.declared.status.Status.TheVariants.{Off};
 ghost use Rattle.psci_status.specs.Seats.{table, table_of_writer, written};
 ghost use Rattle.psci_shared.specs.Locked.{IsEntered, IsReply, IsTurnedAway};
-ghost use Rattle.psci_shared.specs.Passes.{IsFirst};
 ghost use Rattle.psci_shared.specs.Writing.{IsWritten};
 
 use crate::book::FwBook;
 use crate::entry::BookFull;
 use crate::named::Named;
 use crate::seen::{Pass, Seen};
-use crate::tally::{MOST_PASSES, Tally};
+use crate::tally::Tally;
 use crate::writing::write_all;
 use psci_fw::{FwCall, FwReply};
-use psci_status::{Core, StatusWords, Writer};
-use std::alloc::Global;
-use std::sync::ledger::Blank;
+use psci_status::{StatusWords, Writer};
 
 /// The firmware with its book, the writer of its status words, and the ledger, whose total is the
 /// number of its entries.
@@ -26,14 +22,10 @@ use std::sync::ledger::Blank;
 pub struct FwLocked<N: Named> {
     /// The firmware with its book.
     pub book: FwBook<N>,
-    /// How many passes were made.
-    pub made: u32,
     pub(crate) writer: Writer,
     pub(crate) count: u16,
     pub(crate) tally: Tally<N>,
-    ghost counted: { length book.entries ≡ tally.total },
-    ghost few: { made ≤ 1000 },
-    ghost parts: { tally.parts + made ≡ 1001 },
+    ghost counted: { length book.entries ≡ tally },
     ghost table: { table_of_writer writer ≡ N.table },
     ghost words: { N.table.words ≡ cores N.board },
     ghost room: { book.room ≡ N.room },
@@ -58,7 +50,6 @@ impl<N: Named> FwLocked<N> {
             self.new.book pass.old pass.new call reply) }
         ensures full { OnErr result (IsTurnedAway N.board N.room self.old.book self.new.book
             pass.old pass.new) }
-        ensures made { self.new.made ≡ self.old.made }
     {
         self.call_of::<FwCall>(words, ticket, pass, call)
     }
@@ -78,11 +69,9 @@ impl<N: Named> FwLocked<N> {
             self.new.book pass.old pass.new call reply) }
         ensures full { OnErr result (IsTurnedAway N.board N.room self.old.book self.new.book
             pass.old pass.new) }
-        ensures made { self.new.made ≡ self.old.made }
     {
         let FwLocked {
             book,
-            made: _,
             writer,
             count,
             tally,
@@ -95,6 +84,13 @@ impl<N: Named> FwLocked<N> {
         words.meet(writer, &mut pass.seen.reader);
         Ok(book.reply_of(done.said))
     }
+
+    /// What a new pass has seen: the last status of each core.
+    pub(crate) fn seen(&mut self, words: &StatusWords) -> Seen<N>
+        requires { table words.now ≡ N.table }
+    {
+        Seen::of(words, &mut self.writer)
+    }
 }
 
 /// What the lock of a new firmware guards.
@@ -103,50 +99,18 @@ pub(crate) fn locked_of<N: Named>(
     book: FwBook<N>,
     writer: Writer,
     count: u16,
-    blank: Blank,
+    tally: Tally<N>,
 ) -> FwLocked<N>
     requires book { (book.entries ≡ []) × (book.room ≡ N.room) }
-    requires name { blank.name ≡ N.name }
-    requires parts { (blank.parts ≡ N.parts) × (N.parts ≡ 1001) }
+    requires tally { tally ≡ 0 }
     requires cores { (count ≡ cores N.board) × (N.table.words ≡ cores N.board) }
     requires writer { (table_of_writer writer ≡ N.table)
         × (written writer ≡ replicate (cores N.board) (Off ∷ [])) }
 {
     FwLocked {
         book,
-        made: 0,
         writer,
         count,
-        tally: Tally::open(blank),
-    }
-}
-
-/// One pass more, where there is memory for it and a part of the ledger. There always is such a
-/// part while fewer than 1,000 passes were made, which the count beside the lock says as well.
-pub(crate) fn new_pass<N: Named>(
-    alloc: Global,
-    words: &StatusWords,
-    locked: &mut FwLocked<N>,
-    core: Core,
-    room: u32,
-) -> Option<Pass<N>>
-    requires words { table words.now ≡ N.table }
-    requires room { room ≡ N.room }
-    ensures pass { IfSome result (λ p. IsFirst core N.room p) }
-    ensures made { OnSome result (locked.new.made ≡ locked.old.made + 1) }
-{
-    if locked.made == MOST_PASSES {
-        return None;
-    }
-    let items = Vec::with_capacity(alloc, room as usize).ok()?;
-    let FwLocked {
-        book: _,
-        made,
-        writer,
-        count: _,
         tally,
-    } = locked;
-    let seen = Seen::of(words, writer);
-    *made += 1;
-    Some(tally.pass(core, room, items, seen))
+    }
 }

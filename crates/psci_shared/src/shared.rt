@@ -20,11 +20,12 @@ ghost use Rattle.psci_shared.specs.Polls.{IsPolled};
 use crate::book::FwBook;
 use crate::entry::{BookFull, FwEntry};
 use crate::fault::{CallFault, PassFault};
-use crate::locked::{FwLocked, locked_of, new_pass};
+use crate::locked::{FwLocked, locked_of};
+use crate::made::{MOST_PASSES, Made};
 use crate::named::Named;
 use crate::seen::Pass;
 use crate::sighting::Sighting;
-use crate::tally::MOST_PASSES;
+use crate::tally::Tally;
 use crate::tickets::Tickets;
 use psci_fw::{Code, FwCall, FwReply, Outcome, Regs, Start, Taken};
 use psci_messages::Ack;
@@ -43,18 +44,18 @@ pub struct SharedFirmware<'t, N: Named> {
     board: Board,
     alloc: Global,
     room: u32,
-    /// How many passes were made.
-    made: u32,
+    made: Made<N>,
     ghost named: { board ≡ N.board },
     ghost table: { table words ≡ N.table },
     ghost count: { N.table.words ≡ cores N.board },
     ghost whole: { room ≡ N.room },
-    ghost few: { made ≤ 1000 },
 }
 
 impl<'t, N: Named> SharedFirmware<'t, N> {
-    /// A firmware of this board, over status words that nothing was written to, with a book of so
-    /// much room. Tickets are drawn of these.
+    /// A firmware of this board, over status words that nothing was written to, with an empty book
+    /// of so much room. Tickets are drawn of these. Where no pass was made, nothing is entered: the
+    /// ledger, whose total is the number of entries, has all its parts beside the lock, and none of
+    /// them counts an item.
     pub fn new(
         alloc: Global,
         board: &Board,
@@ -71,11 +72,12 @@ impl<'t, N: Named> SharedFirmware<'t, N> {
         requires writer { (table_of_writer writer ≡ N.table)
             × (written writer ≡ replicate (cores N.board) (Off ∷ [])) }
         requires room { room ≡ N.room }
-        ensures { IfOk result (λ f. f.made ≡ 0) }
+        ensures empty { IfOk result (λ f. f.made ≡ 0) }
     {
         let book = FwBook::new(alloc, board, room)?;
         let board = board.copy(alloc)?;
-        let locked = locked_of(book, writer, board.cores(), blank);
+        let (tally, made) = Tally::open(blank);
+        let locked = locked_of(book, writer, board.cores(), tally);
         Ok(SharedFirmware {
             locked: Mutex::new(locked),
             words,
@@ -83,7 +85,7 @@ impl<'t, N: Named> SharedFirmware<'t, N> {
             board,
             alloc,
             room,
-            made: 0,
+            made,
         })
     }
 
@@ -98,13 +100,13 @@ impl<'t, N: Named> SharedFirmware<'t, N> {
     pub fn made(&self) -> u32
         ensures { result ≡ self.now.made }
     {
-        self.made
+        self.made.count()
     }
 
     /// Writes to the memory of all entries to come, before the firmware is shared, so that no call
     /// is the first to touch it under the lock. [`Pass::touch`] does the same for a pass.
     pub fn touch(&mut self)
-        ensures { self.new.made ≡ self.old.made }
+        ensures nothing { self.new.made ≡ self.old.made }
     {
         self.locked.get_mut().book.touch();
     }
@@ -120,15 +122,14 @@ impl<'t, N: Named> SharedFirmware<'t, N> {
         if core.number >= self.board.cores() {
             return Err(PassFault::NoCore);
         }
-        if self.made == MOST_PASSES {
+        if self.made.count() == MOST_PASSES {
             return Err(PassFault::TooMany);
         }
-        let locked = self.locked.get_mut();
-        let Some(pass) = new_pass(self.alloc, &self.words, locked, core, self.room) else {
+        let Ok(items) = Vec::with_capacity(self.alloc, self.room as usize) else {
             return Err(PassFault::Memory);
         };
-        self.made += 1;
-        Ok(pass)
+        let seen = self.locked.get_mut().seen(&self.words);
+        Ok(self.made.pass(core, self.room, items, seen))
     }
 
     /// A secure monitor call of the pass's core.
@@ -225,9 +226,11 @@ impl<'t, N: Named> SharedFirmware<'t, N> {
         f(locked.book.entries())
     }
 
-    /// What the lock guarded, and the status words, once no thread has the firmware any more.
-    pub(crate) fn into_parts(self) -> (FwLocked<N>, StatusWords)
-        ensures { table result.1 ≡ N.table }
+    /// What the lock guarded, the status words and how many passes were made, once no thread has
+    /// the firmware any more.
+    pub(crate) fn into_parts(self) -> (FwLocked<N>, StatusWords, Made<N>)
+        ensures words { (result.1 ≡ self.entry.words) × (table result.1 ≡ N.table) }
+        ensures made { result.2 ≡ self.entry.made }
     {
         let SharedFirmware {
             locked,
@@ -236,9 +239,9 @@ impl<'t, N: Named> SharedFirmware<'t, N> {
             board: _,
             alloc: _,
             room: _,
-            made: _,
+            made,
         } = self;
-        (locked.into_inner(), words)
+        (locked.into_inner(), words, made)
     }
 
     /// A call for the pass's core, under the lock. Where nobody holds it, it is taken at once. `A`

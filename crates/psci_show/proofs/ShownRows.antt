@@ -1,19 +1,24 @@
 -- Worked examples: how a row begins, and what a run is shown as; and for each clause something that
 -- breaks it.
-use Rattle.std.proofs.Common.{◌≡◌, ℕ, true, false, List, [], ◌∷◌, ◌++◌, length, ap, refl}
+use Rattle.std.proofs.Common.{◌≡◌, ◌∙◌, ℕ, true, false, List, [], ◌∷◌, ◌++◌, length, ap, refl}
 use Rattle.std.proofs.Common.{None, Some}
-use Rattle.std.specs.Prelude.{codes}
-use Rattle.std.specs.Fmt.{digits}
+use Rattle.std.specs.Prelude.{codes, slice_index_or}
+use Rattle.std.specs.Fmt.{decimal, digits}
 use Rattle.psci_script.specs.psci_board.Board.{BoardValue}
-use Rattle.psci_world.specs.psci_world_spec.declared.event.Event.TheVariants.{Take, Wake}
+use Rattle.psci_world.specs.psci_world_spec.declared.event.Event.{Event}
+use Rattle.psci_world.specs.psci_world_spec.declared.event.Event.TheVariants.{Call, Enter, Wake}
+use Rattle.psci_world.specs.psci_world_spec.declared.event.Event.TheVariants.{Reset, Deliver, Take}
 use Rattle.psci_world.specs.psci_world_spec.declared.said.Record.{Record}
 use Rattle.psci_world.specs.psci_world_spec.declared.said.Said.TheVariants.{Absent, Ignored}
+use Rattle.psci_world.specs.psci_world_spec.declared.said.Said.TheVariants.{Kick}
+use Rattle.psci_world_spec.specs.psci_messages.declared.start.Cause.TheVariants.{Wake as ByWake}
 use Rattle.psci_script.specs.Line.{line_of}
 use Rattle.psci_script.specs.declared.grammar.Line.TheVariants.{Event as Says}
 use Rattle.psci_script.proofs.Scripts.{reading}
 use Rattle.psci_show.specs.declared.form.Form.{Form}
 use Rattle.psci_show.specs.declared.form.Form.TheVariants.{Lines, Json}
-use Rattle.psci_show.specs.Shown.{HasRows, IsEventRow, IsHeading, IsShown, front, number_text}
+use Rattle.psci_show.specs.Shown.{HasRows, IsEventRow, IsHeading, IsShown, event_object, front}
+use Rattle.psci_show.specs.Shown.{number_text}
 use Rattle.psci_script.proofs.Tables.{◌⇒◌, Gives}
 use Rattle.std.proofs.lemmas.Bool.{eqb-false}
 
@@ -26,6 +31,13 @@ plain = Lines (record { width = 80; color = false; legend = false })
 
 abbrev wake : Record
 wake = record { event = Wake 3; said = Ignored }
+
+-- the same, and the core is started
+abbrev kicked : Record
+kicked = record { event = Wake 3; said = Kick (record { life = 1; number = 2; cause = ByWake }) }
+
+abbrev call : Event
+call = Call 2 (record { x0 = 0xc4000003; x1 = 1; x2 = 0x40001000; x3 = 0 })
 
 abbrev take : Record
 take = record { event = Take 7; said = Absent }
@@ -42,22 +54,62 @@ number_texts : Gives number_text
 unfolding digits
 number_texts = refl
 
-front_of_a_row : front plain 7 (codes "wake 3") ≡ codes "   7"
+event_objects : Gives event_object
+    (call ⇒ (codes "{\"kind\": \"call\", \"number\": 2, \"registers\": [\"0xc4000003\", \"0x1\", "
+    ++ codes "\"0x40001000\", \"0x0\"]}")
+    ∷ Enter 1 ⇒ codes "{\"kind\": \"enter\", \"number\": 1}"
+    ∷ Wake 3 ⇒ codes "{\"kind\": \"wake\", \"number\": 3}"
+    ∷ Reset 0 ⇒ codes "{\"kind\": \"reset\", \"number\": 0}"
+    ∷ Deliver 12 ⇒ codes "{\"kind\": \"deliver\", \"number\": 12}"
+    ∷ Take 7 ⇒ codes "{\"kind\": \"take\", \"number\": 7}" ∷ [])
+unfolding digits
+event_objects = refl
+
+front_of_a_row : front plain 7 (codes "wake 3") (Wake 3) (codes "ignored") ≡ codes "   7"
 unfolding digits
 front_of_a_row = refl
 
-front_in_json : front Json 7 (codes "wake 3") ≡ codes "{\"number\": 7, \"line\": \"wake 3"
+-- how the row of a wake-up of core 3 begins in JSON
+abbrev woken : ℕ → List ℕ → List ℕ
+woken number answer =
+    codes "{\"number\": " ++ (decimal number ++ (codes ", \"line\": \"wake 3\", \"event\": "
+    ++ (codes "{\"kind\": \"wake\", \"number\": 3}, \"answer\": \"" ++ (answer ++ codes "\""))))
+
+front_in_json : front Json 7 (codes "wake 3") (Wake 3) (codes "ignored") ≡ woken 7 (codes "ignored")
 unfolding digits
 front_in_json = refl
 
 -- A row -------------------------------------------------------------------------------------------
 
 rows : IsEventRow plain 7 wake (codes "   7  R.. a wake-up\n")
-    × IsEventRow Json 7 wake (codes "{\"number\": 7, \"line\": \"wake 3\"}\n")
+    × IsEventRow Json 7 wake (woken 7 (codes "ignored") ++ codes "}\n")
+    × IsEventRow Json 7 kicked (woken 7 (codes "started 2") ++ codes ", \"life\": 1}\n")
 unfolding digits reading
 rows = (
-  record { line = codes "wake 3"; says = refl; more = codes "  R.. a wake-up\n"; is = refl },
-  record { line = codes "wake 3"; says = refl; more = codes "\"}\n"; is = refl },
+  record {
+    line = codes "wake 3";
+    says = refl;
+    answer = codes "ignored";
+    answered = refl;
+    more = codes "  R.. a wake-up\n";
+    is = refl;
+  },
+  record {
+    line = codes "wake 3";
+    says = refl;
+    answer = codes "ignored";
+    answered = refl;
+    more = codes "}\n";
+    is = refl;
+  },
+  record {
+    line = codes "wake 3";
+    says = refl;
+    answer = codes "started 2";
+    answered = refl;
+    more = codes ", \"life\": 1}\n";
+    is = refl;
+  },
 )
 
 fourth : List ℕ → ℕ
@@ -67,6 +119,21 @@ fourth other = 0
 row_of_another_number : IsEventRow plain 7 wake (codes "   8  R.. a wake-up\n") → ⊥
 unfolding digits fourth
 row_of_another_number k = eqb-false 56 55 refl (ap fourth k.is)
+
+-- the byte at a place
+abbrev place : ℕ → List ℕ → ℕ
+place n text = slice_index_or text n 0
+
+object_of_another_number : IsEventRow Json 7 wake (woken 8 (codes "ignored")) → ⊥
+unfolding digits
+object_of_another_number k = eqb-false 56 55 refl (ap (place 11) k.is)
+
+row_of_another_answer : (text : List ℕ) (k : IsEventRow Json 7 wake text)
+    → k.answer ≡ codes "started 2" → ⊥
+unfolding digits
+row_of_another_answer text k e =
+    eqb-false 105 115 refl
+    (ap (place 2) k.answered ∙ ap (λ (a : List ℕ). place 2 (codes "7 " ++ (a ++ 10 ∷ []))) e)
 
 row_of_another_event : (text : List ℕ) (k : IsEventRow Json 7 wake text)
     → ¬ (line_of k.line ≡ Some (Says (Wake 3))) → ⊥
@@ -113,12 +180,21 @@ two_rows b = (
     record {
       line = codes "wake 3";
       says = refl;
+      answer = codes "ignored";
+      answered = refl;
       more = codes "  a wake-up\n";
       is = refl;
     },
     refl,
   ),
-  record { line = codes "take 7"; says = refl; more = codes "  an acknowledgement\n"; is = refl },
+  record {
+    line = codes "take 7";
+    says = refl;
+    answer = codes "absent";
+    answered = refl;
+    more = codes "  an acknowledgement\n";
+    is = refl;
+  },
   refl,
 )
 
@@ -126,7 +202,7 @@ row_is_missing : HasRows plain (wake ∷ []) [] → ⊥
 unfolding digits
 row_is_missing h = no_row h.0 h.1 h.4 (ap length h.3.is) where
   no_row : (before row : List ℕ) → (let none : List ℕ = [] in none ≡ before ++ row)
-      → length row ≡ length (front plain 1 h.3.line ++ h.3.more) → ⊥
+      → length row ≡ length (front plain 1 h.3.line wake.event h.3.answer ++ h.3.more) → ⊥
   no_row [] [] e f = absurd (cc)
   no_row [] (x ∷ row) e f = absurd (cc)
   no_row (x ∷ before) row e f = absurd (cc)

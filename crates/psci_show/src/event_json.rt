@@ -1,52 +1,20 @@
-//! An event as a JSON object.
+//! What stands in the JSON object of an event behind its answer.
 
 ghost use Rattle.std.specs.Prelude.{◌≤◌};
 ghost use Rattle.psci_world.specs.psci_board.Board.{height};
 
-use crate::answer_text::write_answer;
 use crate::json::{before, place_word, truth};
 use crate::message_json::write_messages;
 use crate::run::Run;
 use crate::state::is_told;
 use crate::words::{write_asked, write_said};
-use psci_world::{Core, Event, Node, Record, Regs};
+use psci_world::{Core, Node, Record};
 use std::alloc::AllocError;
 
-/// What an event is, and of which number.
-fn kind_of(event: &Event) -> (&'static str, u64) {
-    match event {
-        Event::Call(core, _) => ("call", *core),
-        Event::Enter(core) => ("enter", *core),
-        Event::Wake(core) => ("wake", *core),
-        Event::Reset(core) => ("reset", *core),
-        Event::Deliver(number) => ("deliver", *number),
-        Event::Take(number) => ("take", *number),
-    }
-}
-
-/// Writes the registers of a call, if the event is one.
-fn write_registers(out: &mut String, event: &Event) -> Result<(), AllocError> {
-    let Event::Call(_, Regs { x0, x1, x2, x3 }) = event else {
-        return Ok(());
-    };
-    write!(
-        out,
-        ", \"registers\": [\"0x{x0:x}\", \"0x{x1:x}\", \"0x{x2:x}\", \"0x{x3:x}\"]"
-    )
-}
-
-/// Writes an event, and the words of it and of its answer.
+/// Writes an event and its answer in words.
 fn write_words(out: &mut String, run: &Run, item: &Record) -> Result<(), AllocError> {
-    let (kind, number) = kind_of(&item.event);
-    write!(
-        out,
-        "\", \"event\": {{\"kind\": \"{kind}\", \"number\": {number}"
-    )?;
-    write_registers(out, &item.event)?;
-    write!(out, "}}, \"asked\": \"")?;
+    write!(out, ", \"asked\": \"")?;
     write_asked(out, run, &item.event)?;
-    write!(out, "\", \"answer\": \"")?;
-    write_answer(out, &item.said)?;
     write!(out, "\", \"said\": \"")?;
     write_said(out, run, item)?;
     write!(out, "\"")
@@ -124,11 +92,8 @@ fn write_life(out: &mut String, run: &Run) -> Result<(), AllocError> {
     writeln!(out, ", \"live\": {live}}}")
 }
 
-/// Writes the members of the newest event behind its line.
-pub fn write_event(text: &mut String, run: &Run) -> Result<(), AllocError> {
-    let Some(item) = run.newest() else {
-        return Ok(());
-    };
+/// Writes the members of the newest event behind its answer.
+pub fn write_event(text: &mut String, run: &Run, item: &Record) -> Result<(), AllocError> {
     write_words(text, run, item)?;
     write_states(text, run)?;
     write_places(text, run)?;

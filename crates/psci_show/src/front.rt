@@ -1,11 +1,16 @@
-//! What the row of an event begins with: its number, and in JSON its line.
+//! What the row of an event begins with: its number, and in JSON its line, the event and its
+//! answer.
 
-ghost use Rattle.std.specs.Prelude.{◌≡◌, ◌++◌, [], OnOk, length, string_bytes};
-ghost use Rattle.psci_show.specs.Shown.{front, object_start};
+ghost use Rattle.std.specs.Prelude.{◌≡◌, ◌++◌, [], OnOk, codes, length, string_bytes};
+ghost use Rattle.psci_script.specs.Text.{said_text};
+ghost use Rattle.psci_show.specs.Shown.{event_object, front, object_start};
 
+use crate::answer::put_answer;
+use crate::event_object::write_event_object;
 use crate::form::Form;
 use crate::lines::put;
 use crate::run::Run;
+use psci_world::{Event, Record};
 use std::alloc::AllocError;
 use std::fmt;
 
@@ -40,11 +45,14 @@ pub fn write_front(
     text: &mut String,
     form: Form,
     run: &Run,
+    item: &Record,
     line: &[u8],
 ) -> Result<(), AllocError>
     requires { string_bytes text.old ≡ [] }
     ensures out { OnOk result (out.new.items
-        ≡ out.old.items ++ front form (length run.now.past) line.now) }
+        ≡ out.old.items ++ front form (length run.now.past) line.now item.now.event
+        (said_text item.now.said)) }
+    ensures text { OnOk result (string_bytes text.new ≡ []) }
 {
     match form {
         Form::Lines(_) => {
@@ -53,7 +61,10 @@ pub fn write_front(
         }
         Form::Json => {
             write_start(out, text, run)?;
-            out.extend_from_slice(line)
+            out.extend_from_slice(line)?;
+            write_answered(out, text, &item.event)?;
+            put_answer(out, &item.said)?;
+            out.extend_from_slice(b"\"")
         }
     }
 }
@@ -61,10 +72,24 @@ pub fn write_front(
 /// Writes what stands before the line of the newest event.
 fn write_start(out: &mut Vec<u8>, text: &mut String, run: &Run) -> Result<(), AllocError>
     requires { string_bytes text.old ≡ [] }
-    ensures { OnOk result (out.new.items
+    ensures out { OnOk result (out.new.items
         ≡ out.old.items ++ object_start (length run.now.past)) }
+    ensures text { OnOk result (string_bytes text.new ≡ []) }
 {
     let number = run.world().records().len();
     write!(text, "{{\"number\": {number}, \"line\": \"")?;
+    put(out, text)
+}
+
+/// Writes what stands between the line of an event and its answer.
+fn write_answered(out: &mut Vec<u8>, text: &mut String, event: &Event) -> Result<(), AllocError>
+    requires { string_bytes text.old ≡ [] }
+    ensures out { OnOk result (out.new.items ≡ out.old.items ++ (codes "\", \"event\": "
+        ++ (event_object event.now ++ codes ", \"answer\": \""))) }
+    ensures text { OnOk result (string_bytes text.new ≡ []) }
+{
+    write!(text, "\", \"event\": ")?;
+    write_event_object(text, event)?;
+    write!(text, ", \"answer\": \"")?;
     put(out, text)
 }

@@ -2,8 +2,9 @@
 //!
 //! - A *run* is a world with the sleep of each core, and of each acknowledgement the number of its
 //!   message: what its words need.
-//! - The *row* of an event begins with its *front*, its number. Contracts say that each event has
-//!   its row, in order; what else stands in it is tested, text for text.
+//! - The *row* of an event begins with its *front*: its number, and in JSON the event and its
+//!   answer. Contracts say that each event has its row, in order; what else stands in it is tested,
+//!   text for text.
 //! - The *names* stand in one table: of functions, of what they return, of levels, depths and kinds
 //!   of messages. The *words* of a record are made of them.
 //! - The *columns* are the state of each core and the depths of each power domain, in a row or as
@@ -11,12 +12,13 @@
 //! - A *wrapped* text stands in lines of a width.
 #![tactic(auto)]
 
-mod answer_text;
+mod answer;
 mod call;
 mod depth;
 mod domain;
 mod entries;
 mod event_json;
+mod event_object;
 mod form;
 mod front;
 mod json;

@@ -99,11 +99,9 @@ pub fn write_lines(
     out: &mut Vec<u8>,
     text: &mut String,
     run: &Run,
+    item: &Record,
     layout: Layout,
 ) -> Result<(), AllocError> {
-    let Some(item) = run.newest() else {
-        return Ok(());
-    };
     let indent = MARGIN + row_width(run.world().board()) + 2;
     if indent <= width_of(layout) / 2 {
         write_beside(out, text, run, item, layout, indent)

@@ -26,7 +26,7 @@ impl Model for Run {
     ghost view = { λ r. r.world };
 }
 
-ghost use Rattle.std.specs.Prelude.{◌≡◌, ◌<◌, [], ◌∷◌, IfOk, OnOk};
+ghost use Rattle.std.specs.Prelude.{◌≡◌, ◌<◌, [], ◌∷◌, IfOk};
 ghost use Rattle.psci_world.specs.psci_board.Board.{HasNode, cores};
 ghost use Rattle.psci_world.specs.psci_world_spec.Legal.{legal_record};
 
@@ -43,19 +43,17 @@ impl Run {
         })
     }
 
-    /// Makes the event happen in the world; or is out of memory.
-    pub fn happen(&mut self, event: Event) -> Result<(), Memory>
-        ensures ok { OnOk result (self.new.past
-            ≡ legal_record self.old.board self.old.past event ∷ self.old.past) }
+    /// Makes the event happen in the world, and says what came of it; or is out of memory.
+    pub fn happen(&mut self, event: Event) -> Result<Record, Memory>
+        ensures ok { IfOk result (λ r. (r ≡ legal_record self.old.board self.old.past event)
+            × (self.new.past ≡ r ∷ self.old.past)) }
         ensures board { self.new.board ≡ self.old.board }
     {
         self.answered.reserve(1)?;
-        self.world.happen(event)?;
-        if let Some(record) = self.world.records().last() {
-            note(&mut self.sleeps, record);
-            keep_answered(&mut self.answered, record)?;
-        }
-        Ok(())
+        let record = self.world.step(event)?;
+        note(&mut self.sleeps, &record);
+        keep_answered(&mut self.answered, &record)?;
+        Ok(record)
     }
 
     /// The world.
@@ -68,11 +66,6 @@ impl Run {
     /// The number of the message of the acknowledgement of this number, if there is one.
     pub fn message_of(&self, number: u64) -> Option<u64> {
         self.answered.get(usize::try_from(number).ok()?).copied()
-    }
-
-    /// The newest record, if there is one.
-    pub fn newest(&self) -> Option<&Record> {
-        self.world.records().last()
     }
 
     /// The state of a core.

@@ -3,6 +3,7 @@
 ghost use Rattle.std.specs.Prelude.{◌≡◌, ◌++◌, ℕ, List, [], None, false, length, IfErr, OnOk};
 ghost use Rattle.std.specs.Prelude.{string_bytes};
 ghost use Rattle.psci_script.specs.Progress.{OnlyGivenUp};
+ghost use Rattle.psci_script.specs.Text.{said_text};
 ghost use Rattle.psci_script.specs.Told.{Tells};
 ghost use Rattle.psci_show.specs.Shown.{IsHeading, IsShown, front};
 
@@ -14,7 +15,7 @@ use crate::legend::write_legend;
 use crate::lines::{put, write_lines};
 use crate::run::Run;
 use psci_script::{Answers, Event, ReplayFault, Replayed, Sink, Source, Teller, literal, tell};
-use psci_world::{Board, Memory};
+use psci_world::{Board, Memory, Record};
 use std::alloc::{AllocError, Global};
 
 /// Room for what is written next.
@@ -71,16 +72,17 @@ impl Texts {
     }
 
     /// The row of the newest event, which this line says.
-    fn row(&mut self, form: Form, run: &Run, line: &[u8]) -> Result<(), AllocError>
+    fn row(&mut self, form: Form, run: &Run, item: &Record, line: &[u8]) -> Result<(), AllocError>
         ensures { OnOk result ((more : List ℕ) × (self.new.out.items
-            ≡ front form (length run.now.past) line.now ++ more)) }
+            ≡ front form (length run.now.past) line.now item.now.event
+            (said_text item.now.said) ++ more)) }
     {
         self.clear();
-        write_front(&mut self.out, &mut self.text, form, run, line)?;
+        write_front(&mut self.out, &mut self.text, form, run, item, line)?;
         match form {
-            Form::Lines(layout) => write_lines(&mut self.more, &mut self.text, run, layout)?,
+            Form::Lines(layout) => write_lines(&mut self.more, &mut self.text, run, item, layout)?,
             Form::Json => {
-                write_event(&mut self.text, run)?;
+                write_event(&mut self.text, run, item)?;
                 put(&mut self.more, &mut self.text)?;
             }
         }
@@ -137,15 +139,17 @@ impl Teller<Form> for Showing {
 
     /// Makes the event happen, and adds its row.
     fn tell(&mut self, event: Event, line: &[u8], answers: &mut Answers) -> Result<(), Memory> {
-        self.run.happen(event)?;
-        self.texts.row(self.form, &self.run, line)?;
+        let item = self.run.happen(event)?;
+        self.texts.row(self.form, &self.run, &item, line)?;
         answers.add_text(&self.texts.out)?;
         Ok(())
     }
 }
 
 /// Shows the script that comes from the source in this form, into the sink: its events happen one
-/// after another in the world of its board, and each is shown by the world after it.
+/// after another in the world of its board, and each is shown by the world after it. Its row begins
+/// with its number; in JSON with the line of the event too, the event itself, and its answer, which
+/// is that of its answer line.
 ///
 /// It ends as a replay of the script does, at the same line with the same fault. Where it ends well
 /// or at a script or board fault, exactly what is shown of the script's run was written: a row for

@@ -17,6 +17,8 @@ mod counted;
 #[cfg(test)]
 mod forged;
 #[cfg(test)]
+mod fresh;
+#[cfg(test)]
 mod held;
 #[cfg(test)]
 mod lossy;
@@ -39,6 +41,7 @@ mod tests {
     use crate::controller::{told_of_starts, told_of_threads};
     use crate::counted::is_counted;
     use crate::forged::{is_illegal_at, is_ticket_twice, judged};
+    use crate::fresh::{entries_of_controller, entries_of_firmware};
     use crate::lossy::Travel;
     use crate::named::{Story, told};
     use crate::starting::starts_after_the_end;
@@ -47,6 +50,7 @@ mod tests {
 
     #[test]
     fn passes_call_and_are_gathered(rt: HostRuntime) -> Result<(), Fail> {
+        assert_eq!(rt; entries_of_firmware(rt.alloc()), Some(0));
         assert_eq!(rt; told(&rt, rt.alloc(), Story::ThreeCalls), Some(true));
         assert_eq!(rt; told(&rt, rt.alloc(), Story::OneIsMissing), Some(true));
         assert_eq!(rt; told(&rt, rt.alloc(), Story::FullBooks), Some(true));
@@ -65,6 +69,7 @@ mod tests {
 
     #[test]
     fn power_controllers_are_shared(rt: HostRuntime) -> Result<(), Fail> {
+        assert_eq!(rt; entries_of_controller(rt.alloc()), Some(0));
         assert_eq!(rt; told_of_starts(&rt, rt.alloc()), Some(true));
         assert_eq!(rt; told_of_threads(&rt, rt.alloc()), Some(true));
         Ok(())
@@ -111,8 +116,8 @@ mod tests {
 
     #[test]
     fn the_last_to_come_starts(rt: HostRuntime) -> Result<(), Fail> {
-        assert_eq!(rt; starts_after_the_end(rt.alloc(), 0), Ok(true));
-        assert_eq!(rt; starts_after_the_end(rt.alloc(), 1), Ok(false));
+        assert_eq!(rt; starts_after_the_end(&rt, rt.alloc(), 0), Ok(true));
+        assert_eq!(rt; starts_after_the_end(&rt, rt.alloc(), 1), Ok(false));
         Ok(())
     }
 

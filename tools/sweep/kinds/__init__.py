@@ -1,6 +1,7 @@
 """The kinds of work, a file and a class each. A class has
 
     NAME                        what `./psci sweep` calls it
+    LOOKED_AT                   the name of the number that says how much was looked at, and what one of it is called
     options(add)                adds its own words to the command line (as argparse's add_argument)
     settings(words)             its settings, of which JSON can be made; Wrong where a word is at fault
     gather(words, folder)       puts the files that chunks need into the folder of the sweep; their names

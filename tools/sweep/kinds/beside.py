@@ -26,7 +26,7 @@ def has_target(words):
 
 class Beside:
     """Some lists of each seed, by a target that hosts/beside/build has made without a fuzzer."""
-    NAME = "beside"
+    NAME, LOOKED_AT = "beside", ("events", "event")
 
     @staticmethod
     def options(add):

@@ -31,7 +31,7 @@ def is_led(target):
 
 class Fuzz(Beside):
     """Inputs by libFuzzer from each seed, led by the branches of a target, and all corpora merged at the end."""
-    NAME = "fuzz"
+    NAME, LOOKED_AT = "fuzz", ("inputs", "input")
 
     @staticmethod
     def options(add):

@@ -30,7 +30,7 @@ def text_of(path):
 
 class Lists:
     """A list of each seed, with power-downs too where these are asked for."""
-    NAME = "lists"
+    NAME, LOOKED_AT = "lists", ("answers", "answer")
 
     @staticmethod
     def options(add):

@@ -10,7 +10,7 @@ LINE = re.compile(rb"storm events ([0-9]+) sent ([0-9]+) (?:quiet [0-9]+|(haltin
 
 class Storm(program.Program):
     """A storm of each seed on each board."""
-    NAME = "storm"
+    NAME, LOOKED_AT = "storm", ("events", "event")
 
     @staticmethod
     def options(add):

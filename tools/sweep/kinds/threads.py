@@ -11,7 +11,7 @@ NUMBERS = ("calls", "entries", "polls", "firmware", "controller", "audited")
 
 class Threads(program.Program):
     """A run of threads of each seed on each board, audited."""
-    NAME = "threads"
+    NAME, LOOKED_AT = "threads", ("audited", "audited entry")
 
     @staticmethod
     def options(add):

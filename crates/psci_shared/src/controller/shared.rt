@@ -20,8 +20,8 @@ ghost use Rattle.psci_shared.specs.CtlPasses.{Fits, IsCalled, IsNoPass};
 use crate::controller::book::CtlBook;
 use crate::controller::entry::CtlPass;
 use crate::controller::gather::{CtlBooks, CtlGatherFault};
-use crate::controller::locked::{CtlLocked, locked_of, new_pass};
-use crate::{Board, BookFull, Core, MOST_PASSES, Memory, Named, PassFault, Tickets};
+use crate::controller::locked::{CtlLocked, locked_of};
+use crate::{Board, BookFull, Core, MOST_PASSES, Made, Memory, Named, PassFault, Tally, Tickets};
 use psci_ctl::{CtlCall, CtlReply, Delivery, Kick, Message, Start};
 use std::alloc::Global;
 use std::sync::ledger::Blank;
@@ -34,14 +34,13 @@ pub struct SharedController<'t, N: Named> {
     tickets: &'t Tickets,
     alloc: Global,
     room: u32,
-    /// How many passes were made.
-    made: u32,
+    made: Made<N>,
     ghost whole: { room ≡ N.room },
-    ghost few: { made ≤ 1000 },
 }
 
 impl<'t, N: Named> SharedController<'t, N> {
-    /// A power controller of this board, with a book of so much room. Tickets are drawn of these.
+    /// A power controller of this board, with an empty book of so much room. Tickets are drawn of
+    /// these. Where no pass was made, nothing is entered, as in a firmware.
     pub fn new(
         alloc: Global,
         board: &Board,
@@ -53,16 +52,17 @@ impl<'t, N: Named> SharedController<'t, N> {
         requires name { blank.name ≡ N.name }
         requires parts { (blank.parts ≡ N.parts) × (N.parts ≡ 1001) }
         requires room { room ≡ N.room }
-        ensures { IfOk result (λ c. c.made ≡ 0) }
+        ensures empty { IfOk result (λ c. c.made ≡ 0) }
     {
         let book = CtlBook::new(alloc, board, room)?;
-        let locked = locked_of(book, blank);
+        let (tally, made) = Tally::open(blank);
+        let locked = locked_of(book, tally);
         Ok(SharedController {
             locked: Mutex::new(locked),
             tickets,
             alloc,
             room,
-            made: 0,
+            made,
         })
     }
 
@@ -77,7 +77,7 @@ impl<'t, N: Named> SharedController<'t, N> {
     pub fn made(&self) -> u32
         ensures { result ≡ self.now.made }
     {
-        self.made
+        self.made.count()
     }
 
     /// A pass, before the power controller is shared. It takes the memory of all its calls here.
@@ -87,21 +87,13 @@ impl<'t, N: Named> SharedController<'t, N> {
         ensures err { IfErr result (λ fault. IsNoPass self.old.made fault) }
         ensures same { OnErr result (self.new.made ≡ self.old.made) }
     {
-        let SharedController {
-            locked,
-            tickets: _,
-            alloc,
-            room,
-            made,
-        } = self;
-        if *made == MOST_PASSES {
+        if self.made.count() == MOST_PASSES {
             return Err(PassFault::TooMany);
         }
-        let Some(pass) = new_pass(*alloc, locked.get_mut(), *room) else {
+        let Ok(items) = Vec::with_capacity(self.alloc, self.room as usize) else {
             return Err(PassFault::Memory);
         };
-        *made += 1;
-        Ok(pass)
+        Ok(self.made.pass((), self.room, items, ()))
     }
 
     /// A message that can be sent on this board is delivered.
@@ -184,17 +176,21 @@ impl<'t, N: Named> SharedController<'t, N> {
     /// Gathers the passes with the book, in which each place then stands in one of them.
     pub fn gather(self, passes: Vec<CtlPass<N>>) -> Result<CtlBooks<N>, CtlGatherFault<N>>
         ensures fault { IfErr result (λ f. IsCause f.cause (Agree f.locked.book f.passes.items)
-            (length f.passes.items) f.locked.made) }
+            (length f.passes.items) self.entry.made) }
+        ensures made { IfErr result (λ f. f.made ≡ self.entry.made) }
+        ensures all { IfOk result (λ b. length b.passes.items ≡ self.entry.made) }
         ensures books { IfOk result (λ b. Agree b.book b.passes.items
             × (length b.book.entries ≡ items_of b.passes.items)) }
         ensures placed { IfOk result (λ b. AllPlaced b.book b.passes.items) }
+        ensures room { MatchResult result
+            (λ b. b.book.room ≡ N.room) (λ f. f.locked.book.room ≡ N.room) }
         ensures passes { MatchResult result
             (λ b. b.passes.items ≡ passes.items) (λ f. f.passes.items ≡ passes.items) }
     {
+        let (mut locked, mut made) = self.into_parts();
         let mut passes = passes;
-        let mut locked = self.into_locked();
-        if let Some(cause) = locked.cause(&mut passes) {
-            return Err(CtlGatherFault::of(cause, locked, (), passes));
+        if let Some(cause) = locked.cause(&mut made, &mut passes) {
+            return Err(CtlGatherFault::of(cause, locked, (), made.count(), passes));
         }
         Ok(CtlBooks {
             book: locked.into_book(),
@@ -220,15 +216,17 @@ impl<'t, N: Named> SharedController<'t, N> {
         locked.call(ticket, pass, call)
     }
 
-    /// What the lock guarded.
-    fn into_locked(self) -> CtlLocked<N> {
+    /// What the lock guarded, and how many passes were made.
+    fn into_parts(self) -> (CtlLocked<N>, Made<N>)
+        ensures { result.1 ≡ self.entry.made }
+    {
         let SharedController {
             locked,
             tickets: _,
             alloc: _,
             room: _,
-            made: _,
+            made,
         } = self;
-        locked.into_inner()
+        (locked.into_inner(), made)
     }
 }

@@ -6,8 +6,8 @@ use Rattle.psci_ffi.specs.Shown.{IsTold}
 use Rattle.psci_ffi.proofs.Telling.{tells}
 use Rattle.psci_ffi.proofs.held.Held.code_at_once.Goals as goal
 
-pub returns : goal.returns
-returns c =
+pub returns-clause-told : goal.returns-clause-told
+returns-clause-told c =
     subst (λ (p : PolledView). IfSome c.code_at_once.result
     (IsTold p c.args.core.number c.args.regs)) c.self.view_is
     (IfSome_then c.code_at_once.result c.code_at_once.ensures.returned (λ code returned.

@@ -4,7 +4,12 @@ use Rattle.psci_platform.proofs.platform.Platform.in_order.Goals as goal
 
 pub invariant_of-result : goal.invariant_of-result
 invariant_of-result c = (
-  c.self.invariant.0,
+  record {
+    faultless = c.self.invariant.0.faultless;
+    place = c.self.invariant.0.place;
+    inside = c.self.invariant.0.inside;
+    symmetric = c.self.invariant.0.symmetric;
+  },
   record {
     few = c.in_ok-tables.ensures.few;
     names = c.in_ok-tables.ensures.names;

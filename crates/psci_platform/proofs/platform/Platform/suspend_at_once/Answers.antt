@@ -1,11 +1,15 @@
 use Rattle.std.proofs.Common.{find}
+use Rattle.std.specs.Prelude.{is_some}
 use Rattle.psci_platform.proofs.Words.{◌<◌, ◌^◌, ◌∙◌, ◌≡◌, ap, Asked, asked_for, Asks, asks_states}
 use Rattle.psci_platform.proofs.Words.{Bool, can_ask_by, false, height, IfSome_then, if◌then◌else◌}
 use Rattle.psci_platform.proofs.Words.{is_suspend, List, low_half, no_state, None, Option, Reading}
 use Rattle.psci_platform.proofs.Words.{reads, Regs, regs_for, Some, states_of, sym, true, word_for}
-use Rattle.psci_platform.proofs.Words.{ℕ}
+use Rattle.psci_platform.proofs.Words.{refl, ℕ}
 use Rattle.psci_platform.proofs.ByWord.{asks_something, if_all, suspend_asked, suspend_regs}
-use Rattle.psci_platform.proofs.Reading.{ask_found, no_word, states_missed, states_read, word_found}
+use Rattle.psci_platform.proofs.Reading.{ask_found, is_read, no_word, states_missed, states_read}
+use Rattle.psci_platform.proofs.Reading.{word_found}
+use Rattle.psci_platform.proofs.Said.{is_ready, suspend_said}
+use Rattle.psci_platform.specs.Kept.{are_read, says_suspend}
 use Rattle.psci_platform.proofs.platform.Platform.suspend_at_once.Goals.{After-low-2}
 use Rattle.psci_platform.proofs.platform.Platform.suspend_at_once.Goals as goal
 
@@ -115,3 +119,37 @@ returns-in-None-clause-asked c =
     let at = (goal.at.returns-in-None-clause-asked c).After-low-2 in
     asked_so at None c.asks_nothing-in-None.result.asked (missed at (sym c.in-None.ensures))
     c.asks_nothing-in-None.ensures.asked
+
+-- and the call is said exactly where the definitions say so
+said_so : (c : After-low-2) (t : Bool) (states : Option (List ℕ))
+    → states ≡ states_of c.args.self.now.description c.args.mode c.low-2.result
+    → t ≡ are_read c.args.self.now states
+    → t ≡ says_suspend c.args.self.now c.args.mode c.args.regs
+said_so c t states is e =
+    let p = c.args.self.now in
+    let own = c.low-2.ensures ∙ ap low_half c.argument.ensures in
+    suspend_said p c.args.mode c.args.regs t states (suspends c) c.in_ok-readings.ensures.there
+    (is_ready p.description.functions.cpu_suspend (is_some p.ready) c.in_ok-readings.ensures.there
+    c.in_ok-readings.ensures.said) (is ∙ ap (states_of p.description c.args.mode) own) e
+
+pub returns-in-Some-clause-said : goal.returns-in-Some-clause-said
+returns-in-Some-clause-said c =
+    let at = (goal.at.returns-in-Some-clause-said c).After-low-2 in
+    let p = c.args.self.now in
+    let row = c.in-Some.reading.now in
+    said_so at (is_some c.asks_row.result) (Some row.row.states)
+    (read at row (sym c.in-Some.ensures) true (sym c.if-can_ask.ensures))
+    (c.asks_row.ensures.said
+    ∙ is_read p.description p.board.format (height p.board) c.low-2.result _
+    c.in_ok-readings.ensures.rows row (sym c.in-Some.ensures))
+
+pub returns-in-Some-2-clause-said : goal.returns-in-Some-2-clause-said
+returns-in-Some-2-clause-said c =
+    let at = (goal.at.returns-in-Some-2-clause-said c).After-low-2 in
+    said_so at true None
+    (read at c.in-Some.reading.now (sym c.in-Some.ensures) false (sym c.if-can_ask.ensures)) refl
+
+pub returns-in-None-clause-said : goal.returns-in-None-clause-said
+returns-in-None-clause-said c =
+    let at = (goal.at.returns-in-None-clause-said c).After-low-2 in
+    said_so at true None (missed at (sym c.in-None.ensures)) refl

@@ -1,0 +1,11 @@
+use denote.Exit as Exit
+use denote.Param.{param}
+use denote.Param.Send.{param_send, arg_send}
+use Rattle.psci_threads_tests.proofs.Crossing.{captured_wakes}
+use Rattle.psci_threads_tests.proofs.controller.wake_in_two_threads.Goals as goal
+
+pub join-first-requires-send-F : goal.join-first-requires-send-F
+join-first-requires-send-F g c κs within =
+    param_send 1 _ (arg_send _ Exit.no _
+    (captured_wakes (param 0 g.row.N) g.N.Named g.N.Ledger _ _ _ _
+    (param 1 g.row.R) c.type_bounds.sync-R))

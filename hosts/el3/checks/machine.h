@@ -1,0 +1,33 @@
+/* In the place of ../machine.h: a machine that is played. A core is a thread of this one, or there is one core
+ * alone; registers and devices are functions of the host that plays it. */
+#ifndef MACHINE_H
+#define MACHINE_H
+
+#define AFFINITY 0xff00ffffff
+#define PINS 0x090b0000
+#define DEVICE_TREE 0x47000000
+#define RECORD_START 0x0e400000
+#define RECORD_END 0x12000000
+
+#include <stdint.h>
+
+volatile uint32_t *host_device(uintptr_t address);
+uint64_t host_read(const char *name);
+void host_write(const char *name, uint64_t value);
+void host_wait(void);
+void host_relax(void);
+uint64_t *host_place(void);
+
+#define mmio32(address) (*host_device(address))
+#define read_register(name) host_read(name)
+#define write_register(name, value) host_write(name, value)
+
+static inline const volatile uint64_t *stack_end(unsigned at) {
+    static const volatile uint64_t nothing;
+    (void)at;
+    return &nothing;
+}
+static inline void wait_for_interrupt(void) { host_wait(); }
+static inline void relax(void) { host_relax(); }
+static inline uint64_t *own_place(void) { return host_place(); }
+#endif

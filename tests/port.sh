@@ -1,0 +1,170 @@
+# The C of the port at EL3 without the emulated machine (hosts/el3/checks), sourced by ../test after tests/ffi.sh: its
+# heaps, its doors, its cores as threads, and which of the planted faults each of these sees (tests/port-faults.txt).
+
+checks=hosts/el3/checks
+race=(-fsanitize=thread -fno-builtin)
+
+# port_built OUT KIND FLAG..: the port's own files as a program of this machine
+port_built() {
+    ARCHIVE=$archive "$checks/build" "$@" > "$work/err" 2>&1 ||
+        { fail "$checks/build ${*:2}"; head -n 20 "$work/err"; false; }
+}
+
+# what the port opens has room in its heaps, on each machine that is stored and each board of its page, which says how
+# much it takes. What pool.h says of machines is enough at each number of cores
+port_heaps() {
+    has_cc "the heaps of hosts/el3" && has_python "the heaps of hosts/el3" || return
+    if ARCHIVE=$archive "$checks/heaps" > "$work/out" 2>&1; then pass; else fail "$checks/heaps"; fi
+    sed -n 's/^    \(.*: firmware [0-9]*, machines .*\)/\1/p' hosts/el3/README.md > "$work/lines"
+    if cmp -s "$work/out" "$work/lines"; then pass; else
+        fail "hosts/el3/README.md says of the heaps what $checks/heaps does not print"
+        cat "$work/out"
+    fi
+    build_c machine-sizes tests/programs/machine-sizes.c || return
+    if "$work/machine-sizes" > "$work/out"; then pass; else
+        fail tests/programs/machine-sizes.c
+        cat "$work/out"
+    fi
+}
+
+# as_threads KIND MACHINE SEED: the port, in which FAULT may be planted, as a drawn run, and what is found of it is in
+# $work/out. `threads` are watched by ThreadSanitizer, in two lives and one more after a press of the reset button; a
+# `record` is held to the program; in one that is `lossy` each second frame is lost. Some 5 seconds each
+as_threads() {
+    local status=0 flags=(-DRECORD) calls=(400 2 0)
+    [ "$1" != threads ] || flags=("${race[@]}") calls=(500 2 1)
+    [ "$1" != lossy ] || { flags+=(-DLOSE=2) calls=(400 3 0); }
+    TABLE=hosts/el3/machines/$2.h port_built "$work/port" threads "${flags[@]}" || return
+    TSAN_OPTIONS=exitcode=66 timeout 120 setarch -R "$work/port" "$3" "${calls[@]}" "$work/port.told" \
+        > "$work/out" 2>&1 || status=$?
+    [ "$1" != threads ] || return $status
+    grep -v '^#' "$work/port.told" > "$work/port.record"
+    ./psci compare --machine "hosts/el3/machines/$2.machine" "$work/port.record" >> "$work/out" 2>&1 || status=$?
+    return $status
+}
+
+# the port as it is: nothing is wrong in any run of its threads
+port_threads() {
+    local way
+    has_cc "hosts/el3 as threads" || return
+    for way in "threads four 1" "threads four 2" "threads sixteen 3" "record four 4" "lossy four 5" \
+        "record affinity-1 6"; do
+        # shellcheck disable=SC2086
+        if as_threads $way; then pass; else
+            fail "hosts/el3 as threads: $way"
+            tail -n 20 "$work/out"
+        fi
+    done
+}
+
+# a core at its door
+port_doors() {
+    has_cc "the doors of hosts/el3" || return
+    port_built "$work/door" door || return
+    if "$work/door" > "$work/out"; then pass; else
+        fail "$checks/door.c"
+        cat "$work/out"
+    fi
+}
+
+# seen_by CHECK MACHINE: whether this check lets the port with the planted FAULT through, of threads by three seeds; what
+# it says is in $work/out
+seen_by() {
+    case $1 in
+        heaps) ARCHIVE=$archive "$checks/heaps" > "$work/out" 2>&1 ;;
+        door) port_built "$work/door" door && "$work/door" > "$work/out" ;;
+        *) as_threads "$1" "$2" 1 && as_threads "$1" "$2" 2 && as_threads "$1" "$2" 3 ;;
+    esac
+}
+
+# each planted fault is seen by the check that its line names, and says what the line has; each stands in a line, and in
+# the tables of the page. Those of `lists` are tried where QEMU is (port_lists)
+port_faults() {
+    local name check machine text known=" "
+    has_cc "faults of hosts/el3" && has_python "faults of hosts/el3" || return
+    while IFS='|' read -r name check machine text; do
+        known+="$name "
+        if [ -f "hosts/el3/faults/$name.patch" ] && grep -qF "\`$name\`" hosts/el3/README.md; then pass; else
+            fail "tests/port-faults.txt: $name is no fault, or hosts/el3/README.md does not have it"
+        fi
+        [[ $check != lists && $check != nobody && $check != right ]] || continue
+        export FAULT=$name
+        if seen_by "$check" "$machine"; then fail "$name is not seen by $check"
+        elif grep -q -- "$text" "$work/out"; then pass; else
+            fail "$name is seen by $check, which does not say '$text'"
+            tail -n 5 "$work/out"
+        fi
+        unset FAULT
+    done < tests/port-faults.txt
+    for name in hosts/el3/faults/*.patch; do
+        name=$(basename "$name" .patch)
+        [[ $known == *" $name "* ]] || fail "tests/port-faults.txt has no line of $name"
+    done
+}
+
+# listed FAULT: what cores get of the port on QEMU, in which this fault may be planted, and what the judge and the port
+# itself say of it is in $work/out
+listed() {
+    local status=0 option="--fault $1"
+    local board="4 exec 0x40000000-0x60000000 boot 0x40200000 starts 4294967295 lives 65535"
+    [ -n "$1" ] || option=
+    # compiling counts, too, beside what other parts do; some faults end only so
+    rm -f "$work/el3-lists/el3.log"
+    EL3_OUT=$work/el3-lists hosts/payload/run --payload "$work/payload/payload.bin" --seconds 150 --out "$work/lists" \
+        --command "hosts/el3/run $option --board '$board' --mode none --kernel IMAGE" tests/lists/port.list \
+        > "$work/said" 2>&1
+    ./psci compare --profile hosts/payload/profiles/el3 "$work/lists/port.record" > "$work/out" 2>&1 || status=$?
+    grep -s "^# el3: " "$work/el3-lists/el3.log" | grep -v "of the" >> "$work/out" && status=1
+    grep "did not end" "$work/said" >> "$work/out" && status=1
+    return $status
+}
+
+# on the emulated machine: the port as it is, and the faults of which its own C says nothing
+port_lists() {
+    local tool name check _ text
+    for tool in qemu-system-aarch64 aarch64-linux-gnu-gcc dtc make; do
+        command -v "$tool" > /dev/null || { skip "lists at EL3" "$tool"; return; }
+    done
+    [ -f "$PWD/out/lib/aarch64/libpsci_ffi.a" ] || { skip "lists at EL3" "$PWD/out/lib/aarch64/libpsci_ffi.a"; return; }
+    make -s -C hosts/payload "OUT=$work/payload" > "$work/out" 2>&1 || { fail "make -C hosts/payload"; return; }
+    if listed ""; then pass; else
+        fail "hosts/el3 by tests/lists/port.list"
+        head -n 5 "$work/out"
+    fi
+    while IFS='|' read -r name check _ text; do
+        [ "$check" = lists ] || continue
+        say "lists at EL3: the fault $name"
+        if listed "$name"; then fail "$name is not seen by lists"
+        elif grep -q -- "$text" "$work/out"; then pass; else
+            fail "$name is seen by lists, which do not say '$text'"
+            head -n 5 "$work/out"
+        fi
+    done < tests/port-faults.txt
+}
+
+# a reset after each single instruction of a call
+port_steps() {
+    [ "$(uname -m)" = x86_64 ] || { skip "resets after each instruction" "x86-64 processor"; return; }
+    has_cc "resets after each instruction" || return
+    build_c steps hosts/steps.c hosts/machine.c || return
+    told steps
+    sed '/^    open_anew(&two_by_two);$/d' hosts/steps.c > "$work/kept.c"
+    build_c kept "$work/kept.c" hosts/machine.c || return
+    if timeout 60 "$work/kept" > "$work/out" 2> "$work/err"; then
+        fail "hosts/steps.c: a firmware that is not made anew is not told"
+    else pass; fi
+}
+
+# what the payload says of registers that change while a core waits, by an emulator of programs
+port_registers() {
+    local tool
+    for tool in aarch64-linux-gnu-gcc qemu-aarch64-static; do
+        command -v "$tool" > /dev/null || { skip "registers that change" "$tool"; return; }
+    done
+    sed 's/cntpct_el0/cntvct_el0/' hosts/payload/call.S > "$work/call.S"
+    if aarch64-linux-gnu-gcc -O1 -static -Wall -Wextra -Werror -o "$work/hold" tests/programs/hold.c "$work/call.S" \
+        > "$work/out" 2>&1 && timeout 60 qemu-aarch64-static "$work/hold" > "$work/out" 2>&1; then pass; else
+        fail tests/programs/hold.c
+        head -n 5 "$work/out"
+    fi
+}
