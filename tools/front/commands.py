@@ -5,7 +5,7 @@ import sys
 
 import repo
 
-from . import machine_runs, plain, running, storms, wording
+from . import machine_runs, plain, running, scripts, storms, wording
 from .programs import REPLAYER, WHOLE, Stopped, built, complain, is_current, kit, say, unproved
 from .running import write
 
@@ -105,11 +105,22 @@ class Front:
         return running.run(program, words, script)
 
     def show(self, words):
+        words, path = machine_of(words)
         words, script = script_of(words)
         if is_one_of(words, VIEWS):
-            return self.viewed(f"{repo.TOP}/tools/show", terminal_words(words)[1:], script)
+            return self.viewed(f"{repo.TOP}/tools/show", terminal_words(words)[1:], script, path)
         said(words)
-        return running.run(self.program(), terminal_words(words), script)
+        script, status = self.plain_of(path, script)
+        return running.run(self.program(), terminal_words(words), script) or status
+
+    def plain_of(self, path, script):
+        """A script in the words of the machine that this file describes, made plain, and the status of that."""
+        if path is None:
+            return script, 0
+        file = os.fdopen(os.memfd_create("plain"), "w+b")
+        status = machine_runs.run(self.program(REPLAYER), machine_runs.machine_in(path), script, file)
+        os.lseek(file.fileno(), 0, os.SEEK_SET)
+        return os.dup(file.fileno()), status
 
     def storm(self, words):
         if is_one_of(words, ("--seeds",)):
@@ -133,24 +144,26 @@ class Front:
 
     # ---- views
 
-    def viewed(self, tool, words, script):
+    def viewed(self, tool, words, script, path=None):
         """What a tool makes of the rows of a run; a fault of its words is found first."""
         tried = subprocess.run([tool, *words], stdin=subprocess.DEVNULL, stdout=subprocess.DEVNULL,
                                check=False).returncode
         if tried:
             return tried
         program = self.program()
+        script, made = self.plain_of(path, script)
         read, write = os.pipe()
         view = subprocess.Popen([tool, *words], stdin=read)
         os.close(read)
         status = running.run(program, ["show", "--json"], script, output=os.fdopen(write, "wb"))
-        return running.ended(view) or status
+        return running.ended(view) or status or made
 
     def draw(self, words):
         if "--help" in words or "-h" in words:
             os.execv(f"{repo.TOP}/tools/draw", ["draw", "--help"])
+        words, path = machine_of(words)
         words, script = script_of(words)
-        return self.viewed(f"{repo.TOP}/tools/draw", words[1:], script)
+        return self.viewed(f"{repo.TOP}/tools/draw", words[1:], script, path)
 
     def serve(self, words):
         if "--help" in words or "-h" in words:
@@ -177,10 +190,10 @@ class Front:
             raise Stopped("plain takes no word but a file", 2)
         if path:
             machine = machine_runs.machine_in(path)
-            return machine_runs.run(self.program(REPLAYER), machine, script, is_plain=True)
+            return machine_runs.run(self.program(REPLAYER), machine, script, sys.stdout.buffer)
         try:
-            return write("\n".join(plain.lines(running.text_of(script), plain.plain_call)))
-        except plain.Fault as fault:
+            return write("\n".join(scripts.lines(running.text_of(script), plain.plain_call)))
+        except scripts.Fault as fault:
             raise Stopped("\n".join(fault.lines), 3) from fault
 
     def prove(self, words):

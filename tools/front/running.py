@@ -1,5 +1,6 @@
 """Runs the program on a script, and says in words which fault it named."""
 import errno
+import mmap
 import os
 import select
 import signal
@@ -9,6 +10,7 @@ import sys
 import tempfile
 
 from . import told
+from .scripts import NAMED, Names
 from .programs import Stopped, complain, say
 
 # how many of the last bytes that came by a pipe are kept, to tell of a line
@@ -16,43 +18,55 @@ KEPT = 1 << 20
 
 
 class Script:
-    """The script that a program reads, by a file or by a pipe."""
+    """The script that a program reads, by a file or by a pipe. A file without calls by name the program reads itself."""
 
     def __init__(self, file):
-        self.file, self.gone, self.last = file, 0, b""
+        self.file, self.gone, self.last, self.names = file, 0, b"", Names()
         try:
             mode = os.fstat(file).st_mode
         except OSError:
             mode = 0
         self.is_file = stat.S_ISREG(mode)
-        self.comes_by = stat.S_ISFIFO(mode) or stat.S_ISSOCK(mode) or (mode and os.isatty(file))
         self.start = os.lseek(file, 0, os.SEEK_CUR) if self.is_file else 0
+        self.comes_by = stat.S_ISFIFO(mode) or stat.S_ISSOCK(mode) or (mode and os.isatty(file)) or self.has_names()
+
+    def has_names(self):
+        """Whether this is a file with calls by name."""
+        if not self.is_file or os.fstat(self.file).st_size <= self.start:
+            return False
+        with mmap.mmap(self.file, 0, access=mmap.ACCESS_READ) as text:
+            return NAMED.search(text, self.start) is not None
 
     def feed(self, process):
-        """Hands what comes on to the program, until one of them ends."""
+        """Hands what comes on to the program, with its calls plain, until one of them ends."""
         while process.poll() is None:
             if not select.select([self.file], [], [], 0.05)[0]:
                 continue
             some = os.read(self.file, 1 << 16)
-            whole = self.last + some
-            cut = max(len(whole) - KEPT, 0)
-            self.gone += whole[:cut].count(b"\n")
-            self.last = whole[cut:]
+            self.keep(some)
             try:
-                if some:
-                    process.stdin.write(some)
-                    continue
+                process.stdin.write(self.names.plain(some))
             except OSError:
-                pass
-            break
+                break
+            if not some:
+                break
         try:
             process.stdin.close()
         except OSError:
             pass
 
+    def keep(self, some):
+        """Keeps the last bytes that came."""
+        whole = self.last + some
+        cut = max(len(whole) - KEPT, 0)
+        self.gone += whole[:cut].count(b"\n")
+        self.last = whole[cut:]
+
     def line(self, number):
         """A line of the script, or nothing where it is not known any more."""
         text = self.last
+        if number == 1 and self.gone:
+            return self.names.first.partition(b"\n")[0].decode(errors="replace")
         if self.is_file:
             os.lseek(self.file, self.start, os.SEEK_SET)
             with os.fdopen(os.dup(self.file), "rb") as file:
