@@ -1,8 +1,7 @@
 """Reads a line of a script by the grammar of docs/FORMATS.md."""
 import re
 
-from .reader import Reader, Wrong, end_of, strange
-from .wording import near
+from .reader import Reader, Wrong, end_of, near, strange
 
 CORE, REGISTER, INDEX = "CORE", "REGISTER", "INDEX"
 EVENTS = {"call": (CORE, REGISTER), "enter": (CORE,), "wake": (CORE,), "reset": (CORE,),

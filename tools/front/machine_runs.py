@@ -17,8 +17,8 @@ from .programs import Stopped, complain
 from .machine_faults import checked
 from .machine_swap import other_core
 from .machines import Fault
-from .reader import Wrong
-from .running import ended, tell
+from .reader import Wrong, pointed
+from .running import ended, not_written, tell
 
 CORE_EVENTS = ("call", "enter", "wake", "reset")
 
@@ -159,7 +159,7 @@ class Run:
         except Wrong as wrong:
             self.fault = [f"line {number}: script fault {1 if number == 1 else 2}",
                           f"psci: line {number}, column {wrong.at + 1}: {wrong.text}",
-                          *told.pointed(line, wrong.at)]
+                          *pointed(line, wrong.at)]
             return False
         try:
             self.process.stdin.write(f"{text}\n".encode("latin-1"))
@@ -199,15 +199,14 @@ class Run:
 
 def run(program, machine, file, out=None):
     """Answers the script of this file in the machine's words; or makes it plain, into a file. The status."""
+    going = Run(program, machine, out or sys.stdout.buffer, out is not None)
     try:
-        going = Run(program, machine, out or sys.stdout.buffer, out is not None)
         with os.fdopen(os.dup(file), "rb") as lines:
             for number, line in enumerate(lines, 1):
                 if not going.feed(number, line.rstrip(b"\n").decode("latin-1")):
                     break
-    except (OSError, AttributeError):
+    except OSError as fault:
         going.process.kill()
         going.process.wait()
-        complain("write fault\n")
-        return 4
+        return not_written(fault=fault)
     return going.end()

@@ -10,8 +10,7 @@ import functions
 
 from . import boards
 from .events import read_event
-from .reader import Wrong, number_fault, strange
-from .wording import near
+from .reader import Wrong, near, number_fault, strange
 
 # A function: its words by SMC32 and SMC64 (None where there is none), and the kinds of its arguments.
 Function = namedtuple("Function", "smc32 smc64 takes")

@@ -2,7 +2,7 @@
 import re
 
 from . import plain, told
-from .reader import Wrong
+from .reader import Wrong, pointed
 
 # a line with a call by name, as bytes
 NAMED = re.compile(rb"^call [0-9]+ [A-Za-z][^\n]*", re.M)
@@ -42,6 +42,12 @@ class Names:
             return match[0]
 
 
+def plain_of(script):
+    """A whole script with its calls plain."""
+    names = Names()
+    return names.plain(script) + names.plain(b"")
+
+
 def lines(text, change):
     """Each line of a script, changed by this of the board and the line; raises a fault with the
     number of its line."""
@@ -65,4 +71,4 @@ class Fault(Exception):
 
     def __init__(self, number, at, line, text):
         super().__init__(text)
-        self.lines = [f"line {number}, column {at + 1}: {text}", *told.pointed(line, at)]
+        self.lines = [f"line {number}, column {at + 1}: {text}", *pointed(line, at)]

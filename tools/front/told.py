@@ -9,7 +9,7 @@ from views import faults
 
 from . import boards, plain
 from .events import EVENTS, read_event, unknown
-from .reader import Wrong, strange
+from .reader import Wrong, pointed, strange
 
 FORMS = {"call": "call CORE X0 [X1 [X2 [X3]]]", "deliver": "deliver K", "take": "take K"}
 MOST_BYTES = 256
@@ -50,28 +50,29 @@ def place_of(kind, number, line, first):
     return 0, faults.words_of("script")[number].partition(": ")[2]
 
 
-def words(said, line_of):
-    """The lines that say in words what the program said; none where it told of no such fault.
+def place(said, line_of):
+    """Of what the program said: the number of the line, 0 for a board in the command line; that line; the place of the
+    fault in it, and the words. Nothing where it told of no such fault.
 
     line_of(N) is line N of the script, or nothing where it is not known; of a board that stands in the
     command line, it is asked for line 0."""
     match = re.search(r"^(?:line (\d+): )?(script|board) fault (\d+)$", said, re.M)
-    if not match:
-        return []
-    number, kind, fault = int(match[1] or 0), match[2], int(match[3])
-    line = line_of(number)
+    number = int(match[1] or 0) if match else 0
+    line = line_of(number) if match else None
     if line is None:
+        return None
+    found = place_of(match[2], int(match[3]), line, line_of(1)) if number else boards.fault(int(match[3]), line)
+    return (number, line, *found)
+
+
+def words(said, line_of):
+    """The lines that say in words what the program said; none where it told of no such fault."""
+    found = place(said, line_of)
+    if found is None:
         return []
-    at, why = place_of(kind, fault, line, line_of(1)) if number else boards.fault(fault, line)
+    number, line, at, why = found
     lines = [f"psci: {f'line {number}' if number else 'the board'}, column {at + 1}: {why}", *pointed(line, at)]
     word = line.partition(" ")[0].lower()
-    if kind == "script" and fault == 2 and word in EVENTS:
+    if "script fault 2" in said and word in EVENTS:
         lines.append(f"psci: expected `{plain.form_of(line) or FORMS.get(word, f'{word} CORE')}`")
     return lines
-
-
-def pointed(line, at):
-    """The line, or the part of it round this place, and a caret below it."""
-    begin = max(at - 60, 0)
-    part = "".join(it if " " <= it <= "~" else "?" for it in line[begin:begin + 100])
-    return [f"    {part}", " " * (4 + at - begin) + "^"] if part else []
