@@ -33,7 +33,7 @@ front() {
     has_python ./psci || return 0
     fault=$(cat tests/scripts/lines/event-of-no-form.err)$'\n'$(cat tests/texts/event-of-no-form.told)
     unproved="psci: nothing of this run is proved; ./psci prove proves and builds the program"
-    compiled="psci: compiling it, which takes about half a minute and is kept for the next run"
+    compiled="psci: compiling it, which takes about a minute and is kept for the next run"
     front_of . replay
     expect "./psci replay" 3 "$fault"
     answers "./psci replay"
