@@ -249,7 +249,7 @@ psci storm --se|--seed --seeds
 psci show --color a|always auto
 psci replay LIC|LICENSE
 psci replay --machine LIC|LICENSE
-psci sweep t|threads
+psci prove l|lib
 EOF
 }
 
@@ -263,7 +263,7 @@ by_zsh() {
         answers "completion of $line by zsh"
     done << 'EOF'
 psci swe|psci sweep 
-psci storm --keep=LIC|psci storm --keep=LICENSE 
+psci storm --keep LIC|psci storm --keep LICENSE 
 psci show --color=ne|psci show --color=never 
 psci replay LIC|psci replay LICENSE 
 psci draw --pa|psci draw --page 
