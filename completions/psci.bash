@@ -1,4 +1,4 @@
-# Completion of `psci` and `./psci` for bash, which tools/completions writes:
+# Completion of `psci` and `./psci` for bash, which tools/completions.py writes:
 #   source completions/psci.bash
 
 _psci_words() { mapfile -t -O ${#COMPREPLY[@]} COMPREPLY < <(compgen -W "$*" -- "$word"); }

@@ -1,4 +1,4 @@
-# Completion of `psci` for fish, which tools/completions writes: ~/.config/fish/completions has this file.
+# Completion of `psci` for fish, which tools/completions.py writes: ~/.config/fish/completions has this file.
 
 complete -c psci -f
 complete -c psci -n __fish_use_subcommand -a replay

@@ -194,7 +194,7 @@ options() {
 completed() {
     local option line wanted
     has_python completed || return
-    if tools/completions --check > "$work/out"; then pass; else fail "$(head -n 1 "$work/out")"; fi
+    if tools/completions.py --check > "$work/out"; then pass; else fail "$(head -n 1 "$work/out")"; fi
     while IFS='|' read -r line wanted; do
         bash -c '. completions/psci.bash; COMP_WORDS=($1); COMP_CWORD=$((${#COMP_WORDS[@]} - 1))
             _psci; echo "${COMPREPLY[*]}"' bash "$line" > "$work/out"

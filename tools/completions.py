@@ -1,9 +1,9 @@
 #!/usr/bin/env python3
 """Writes completions/ for bash, zsh and fish, of what tools/front/words.py says that each command takes.
 
-    tools/completions [--check]     writes them; or says which are not as they should be
+    tools/completions.py [--check]     writes them; or says which are not as they should be
 
-Of the program alone, which a release has, `texts` makes them with the commands that it has.
+A release has the program alone, and so other ones, which `tools/release` makes by `texts`.
 """
 import os
 import sys
@@ -46,6 +46,21 @@ def every():
     return found
 
 
+# what the program alone takes, of its own words and of those that have its names here
+OF_PROGRAM = {"replay": (), "show": ("--json", "--legend", "--width", "--color"),
+              "storm": ("--board", "--seed", "--count", "--counts", "--keep"),
+              "threads": ("--board", "--seed", "--count", "--counts", "--keep")}
+
+
+def of_program():
+    """What each command of the program takes, which reads scripts from standard input alone."""
+    found = {name: Taken(words.COMMANDS[name][0]()) for name in OF_PROGRAM}
+    for name, it in found.items():
+        it.options = {option: kind for option, kind in it.options.items() if option in ("--help", *OF_PROGRAM[name])}
+        it.has_files = False
+    return {**found, "help": Taken(more=list(OF_PROGRAM))}
+
+
 def first_words(taken, is_whole):
     return [*taken, *(["--unproved"] if is_whole else []), "--help", "--version"]
 
@@ -64,7 +79,7 @@ def bash(taken, is_whole):
     cases = [f'        {name}) _psci_words {" ".join([*it.words, *it.options])}{"; _psci_files" * it.has_files} ;;'
              for name, it in taken.items()]
     return "\n".join([
-        "# Completion of `psci` and `./psci` for bash, which tools/completions writes:", "#   source completions/psci.bash",
+        "# Completion of `psci` and `./psci` for bash, which tools/completions.py writes:", "#   source completions/psci.bash",
         "", "_psci_words() { mapfile -t -O ${#COMPREPLY[@]} COMPREPLY < <(compgen -W \"$*\" -- \"$word\"); }",
         "_psci_files() {", "    [[ $word == -* ]] && return", "    compopt -o filenames 2> /dev/null",
         "    mapfile -t -O ${#COMPREPLY[@]} COMPREPLY < <(compgen -f -- \"$word\")", "}", "", "_psci() {",
@@ -81,7 +96,7 @@ def quoted(text):
 
 
 def zsh(taken, is_whole):
-    lines = ["#compdef psci", "# Completion of `psci` for zsh, which tools/completions writes: a folder of fpath has this",
+    lines = ["#compdef psci", "# Completion of `psci` for zsh, which tools/completions.py writes: a folder of fpath has this",
              "# file, before compinit runs.", "", "_psci() {", "    local at=2",
              "    [[ $words[2] == --unproved ]] && at=3",
              f"    if (( CURRENT == at )); then compadd -- {' '.join(first_words(taken, is_whole))}; return; fi",
@@ -102,7 +117,7 @@ def zsh(taken, is_whole):
 
 
 def fish(taken, is_whole):
-    lines = ["# Completion of `psci` for fish, which tools/completions writes: ~/.config/fish/completions has this file.", "",
+    lines = ["# Completion of `psci` for fish, which tools/completions.py writes: ~/.config/fish/completions has this file.", "",
              "complete -c psci -f"]
     for name in first_words(taken, is_whole):
         lines.append(f"complete -c psci -n __fish_use_subcommand -a {name}")
@@ -129,7 +144,7 @@ def main(given):
         path = f"{FOLDER}/{NAMES[shell]}"
         if given == ["--check"]:
             if not os.path.exists(path) or repo.text_of(path) != text:
-                print(f"completions/{NAMES[shell]} is not what tools/completions writes")
+                print(f"completions/{NAMES[shell]} is not what tools/completions.py writes")
                 wrong = 1
         else:
             repo.write(FOLDER, {NAMES[shell]: text})
