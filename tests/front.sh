@@ -239,6 +239,27 @@ files_and_streams() {
     done
     unread
     interrupted
+    lacking
+}
+
+# what is not here is said, and no line of Python
+lacking() {
+    local room=$work/lacking
+    mkdir -p "$room"
+    PATH=$room ./psci help > "$work/out" 2> "$work/err"
+    echo $? > "$work/got"
+    expect "./psci without python3" 1 "psci: there is no python3 here, which ./psci is written in (3.9 or later)"
+    ln -s "$(python3 -c 'import sys; print(sys.executable)')" "$room/python3"
+    PATH=$room ./psci --unproved replay examples/lost-message.psci > "$work/out" 2> "$work/err"
+    echo $? > "$work/got"
+    sed -i 1d "$work/err"
+    expect "./psci without rt" 1 "psci: no program is proved here, and to make one needs the Rattle kit's command rt \
+on the path. README says what one has without the kit"
+    XDG_CACHE_HOME=/dev/null/cache ./psci --unproved replay examples/lost-message.psci > "$work/out" 2> "$work/err"
+    echo $? > "$work/got"
+    sed -i 1,2d "$work/err"
+    expect "./psci without a cache" 1 "psci: what is compiled is kept in /dev/null/cache/gumdarts/unproved: Not a directory; \
+XDG_CACHE_HOME names another folder"
 }
 
 # closed_or_full NAME STATUS FILE REASON: a write fault was told, with the file and why
