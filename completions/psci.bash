@@ -20,6 +20,9 @@ _psci() {
         "show --color") _psci_words auto always never; return ;;
         "prove --target") _psci_words x86_64 aarch64; return ;;
         "sweep --engine") _psci_words local slurm parallel; return ;;
+        "prove prove") _psci_words all lib --help; return ;;
+        "sweep sweep") _psci_words storm threads lists beside fuzz report --help; return ;;
+        "help help") _psci_words replay show draw try plain storm threads compare sweep prove --help; return ;;
     esac
     case $command in
         "") _psci_words replay show draw try plain storm threads compare prove sweep help --unproved --help --version ;;

@@ -75,6 +75,8 @@ def bash(taken, is_whole):
             kinds.setdefault(does.get(kind, f"_psci_words {' '.join(kind)}; "), []).append(f'"{name} {option}"')
     kinds["_psci_files; "] += ['*" <"', '*" >"']
     lines = [f"        {' | '.join(places)}) {what}return ;;" for what, places in kinds.items() if what is not None]
+    lines += [f'        "{name} {name}") _psci_words {" ".join([*it.words, "--help"])}; return ;;'
+              for name, it in taken.items() if it.words]
     names = " | ".join(taken)
     cases = [f'        {name}) _psci_words {" ".join([*it.words, *it.options])}{"; _psci_files" * it.has_files} ;;'
              for name, it in taken.items()]
