@@ -272,7 +272,7 @@ closed_or_full() {
 # long runs of which a reader takes a line and goes: that is no fault
 unread() {
     local words
-    ./psci storm --seed 1 --count 3000 --keep "$work/long" > "$work/out"
+    ./psci storm --seed 1 --count 10000 --keep "$work/long" > "$work/out"
     for words in replay show "show --changes" "show --trace" plain; do
         # shellcheck disable=SC2086
         { ./psci $words "$work/long" 2> "$work/err"; echo $? > "$work/got"; } | head -n 1 > "$work/out"
