@@ -171,9 +171,10 @@ def tell(text, line_of):
 
 def write(text):
     """Writes on standard output; the status, which tells of a write fault."""
+    rest = text.encode(errors="surrogateescape")
     try:
-        sys.stdout.buffer.write(text.encode(errors="surrogateescape"))
-        sys.stdout.flush()
+        while rest:
+            rest = rest[os.write(1, rest):]
         return 0
     except OSError as fault:
         return not_written(fault=fault)
