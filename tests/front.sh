@@ -297,58 +297,6 @@ interrupted() {
     exec 9>&-
 }
 
-# what is not here is said, and no line of Python
-lacking() {
-    local room=$work/lacking
-    mkdir -p "$room"
-    PATH=$room ./psci help > "$work/out" 2> "$work/err"
-    echo $? > "$work/got"
-    expect "./psci without python3" 1 "psci: there is no python3 here, which ./psci is written in (3.9 or later)"
-    ln -s "$(python3 -c 'import sys; print(sys.executable)')" "$room/python3"
-    PATH=$room ./psci --unproved replay examples/lost-message.psci > "$work/out" 2> "$work/err"
-    echo $? > "$work/got"
-    sed -i 1d "$work/err"
-    expect "./psci without rt" 1 "psci: no program is proved here, and to make one needs the Rattle kit's command rt \
-on the path. README says what one has without the kit"
-    XDG_CACHE_HOME=/dev/null/cache ./psci --unproved replay examples/lost-message.psci > "$work/out" 2> "$work/err"
-    echo $? > "$work/got"
-    sed -i 1,2d "$work/err"
-    expect "./psci without a cache" 1 "psci: what is compiled is kept in /dev/null/cache/gumdarts/unproved: Not a directory; \
-XDG_CACHE_HOME names another folder"
-}
-
-# closed_or_full NAME STATUS FILE REASON: a write fault was told, with the file and why
-closed_or_full() {
-    if [ "$2" = 4 ] && [ "$(cat "$work/err")" = "write fault"$'\n'"psci: $3 is not written whole: $4" ]; then pass; else
-        fail "$1 (status $2): $(head -n 2 "$work/err")"
-    fi
-}
-
-# long runs of which a reader takes a line and goes: that is no fault
-unread() {
-    local words
-    ./psci storm --seed 1 --count 10000 --keep "$work/long" > "$work/out"
-    for words in replay show "show --changes" "show --trace" plain; do
-        # shellcheck disable=SC2086
-        { ./psci $words "$work/long" 2> "$work/err"; echo $? > "$work/got"; } | head -n 1 > "$work/out"
-        if [ "$(cat "$work/got")" = 141 ] && [ ! -s "$work/err" ] && [ -s "$work/out" ]; then pass; else
-            fail "./psci $words, of which a line is read (status $(cat "$work/got")): $(head -n 2 "$work/err")"
-        fi
-    done
-}
-
-# Ctrl-C ends each command that waits for its script, without a word; it goes to all that a terminal runs
-interrupted() {
-    local words
-    for words in replay show draw "draw --page" "show --trace" plain \
-        "replay --machine examples/boards/rk3399.machine"; do
-        # shellcheck disable=SC2086
-        head -n 2 examples/boards/rk3399.calls | (cat; sleep 20) |
-            setsid -w timeout -s INT 2 ./psci $words > "$work/out" 2> "$work/err"
-        if [ ! -s "$work/err" ]; then pass; else fail "./psci $words, interrupted: $(tail -n 1 "$work/err")"; fi
-    done
-}
-
 # boards whose line in a script would be too long: the longest that is kept is replayed
 long_boards() {
     local range=0x0000000000000000-0x0000000000001000 limits board
