@@ -285,16 +285,17 @@ unread() {
 # Ctrl-C ends each command that waits for its script, without a word; it goes to all that a terminal runs
 interrupted() {
     local words
-    mkfifo "$work/never"
-    exec 9<> "$work/never"
     for words in replay show draw "draw --page" "show --trace" plain \
         "replay --machine examples/boards/rk3399.machine"; do
+        rm -f "$work/never"
+        mkfifo "$work/never"
+        exec 9<> "$work/never"
         head -n 2 examples/boards/rk3399.calls >&9
         # shellcheck disable=SC2086
         timeout -s INT 5 ./psci $words < "$work/never" > "$work/out" 2> "$work/err"
         if [ ! -s "$work/err" ]; then pass; else fail "./psci $words, interrupted: $(tail -n 1 "$work/err")"; fi
+        exec 9>&-
     done
-    exec 9>&-
 }
 
 # boards whose line in a script would be too long: the longest that is kept is replayed
