@@ -78,20 +78,79 @@ tfa_says() {
     fi
 }
 
-# each function and hook of the chapter on PSCI of TF-A's porting guide has a line in the page's table
+# TF-A's sources, of each release that is here: 2.8 and 2.12
+tfa_cache=${GUMDARTS_CACHE:-$HOME/.cache/gumdarts}
+tfa_2_8=$tfa_cache/tfa/source
+tfa_2_12=$tfa_cache/trixie/tfa/source
+
+# tfa_guide SOURCE MANY: each function and hook of the chapter on PSCI of TF-A's porting guide has a line in the page's
+# table
 tfa_guide() {
-    local name guide=${GUMDARTS_CACHE:-$HOME/.cache/gumdarts}/tfa/source/docs/getting_started/porting-guide.rst
-    [ -f "$guide" ] || { skip "hooks of TF-A's porting guide" "$guide"; return; }
+    local name guide
+    guide=$(find "$1/docs" -name porting-guide.rst 2> /dev/null)
+    [ -f "$guide" ] || { skip "hooks of TF-A's porting guide" "$1"; return; }
     sed -n '/^Power State Coordination Interface (in BL31)/,/^Interrupt Management framework (in BL31)/p' "$guide" |
         sed -nE 's/^(Function : |plat_psci_ops\.)(\w+)\(\).*/\2/p' > "$work/hooks"
-    [ "$(wc -l < "$work/hooks")" = 27 ] || fail "TF-A's porting guide has $(wc -l < "$work/hooks") hooks, and not 27"
+    [ "$(wc -l < "$work/hooks")" = "$2" ] || fail "TF-A's porting guide has $(wc -l < "$work/hooks") hooks, and not $2"
     while read -r name; do
         if grep -q "^|.*\`$name\`.*| \(kept\|replaced\|lost\)" docs/TFA.md; then pass; else fail "docs/TFA.md: $name"; fi
     done < "$work/hooks"
 }
 
+# tfa_accounted FOLDER SOURCE TEXT: of the adaptor in this folder its tool says this of what TF-A's lib/psci does
+tfa_accounted() {
+    "$1/accounted" "$2" > "$work/out" 2>&1
+    if grep -qF -- "$3" "$work/out"; then pass; else
+        fail "hosts/tfa/accounted $2, wanted '$3'"
+        head -n 5 "$work/out"
+    fi
+}
+
+# each call and hook of the functions that the adaptor replaces is made, or listed with a reason; one that is missing is
+# told, and a line too many
+tfa_calls() {
+    local copy=$work/tfa-copy
+    has_python "hosts/tfa/accounted" || return
+    [ -d "$tfa_2_8" ] || { skip "calls of TF-A 2.8" "$tfa_2_8"; return; }
+    [ -d "$tfa_2_12" ] || { skip "calls of TF-A 2.12" "$tfa_2_12"; return; }
+    tfa_accounted hosts/tfa "$tfa_2_8" "TF-A 2.8: all but 23 are made"
+    tfa_accounted hosts/tfa "$tfa_2_12" "TF-A 2.12: all but 27 are made"
+    rm -rf "$copy"
+    cp -r hosts/tfa "$copy"
+    sed -i 's/cm_manage_extensions_el3();//; s/pwr_domain_off_early(asked)/pwr_domain_off(asked)/' "$copy"/gumdarts_*.c
+    echo '2.12 | psci_cpu_off | plat_my_core_pos | none' >> "$copy/accounted.list"
+    tfa_accounted "$copy" "$tfa_2_12" "psci_warmboot_entrypoint: cm_manage_extensions_el3: TF-A 2.12 has it"
+    tfa_accounted "$copy" "$tfa_2_12" "psci_cpu_off: ->pwr_domain_off_early(): TF-A 2.12 has it"
+    tfa_accounted "$copy" "$tfa_2_12" "psci_cpu_off: plat_my_core_pos: accounted.list has it"
+    sed -i 's/GUMDARTS_TFA_MINOR > 8/GUMDARTS_TFA_MINOR > 12/' "$copy"/gumdarts_stops.c
+    tfa_accounted "$copy" "$tfa_2_12" "psci_pwrdown_cpu: spe_stop: TF-A 2.12 has it"
+}
+
+# tfa_makes MINOR TEXT: the adaptor's makefile ends with this text in this version of TF-A
+tfa_makes() {
+    make -f hosts/tfa/adaptor.mk ARCH=aarch64 USE_COHERENT_MEM=1 HW_ASSISTED_COHERENCY=0 VERSION_MAJOR=2 \
+        VERSION_MINOR="$1" > "$work/out" 2>&1
+    if grep -qF -- "$2" "$work/out"; then pass; else
+        fail "hosts/tfa/adaptor.mk in TF-A 2.$1, wanted '$2'"
+        head -n 3 "$work/out"
+    fi
+}
+
+# a version that is not known is refused
+tfa_versions() {
+    command -v make > /dev/null || { skip "hosts/tfa/adaptor.mk" make; return; }
+    tfa_makes 8 "No targets"
+    tfa_makes 12 "No targets"
+    tfa_makes 11 "GUMDARTS knows TF-A 2.8 2.12, and not 2.11"
+    tfa_makes 13 "GUMDARTS knows TF-A 2.8 2.12, and not 2.13"
+}
+
 tfa_words() {
-    tfa_guide
+    tfa_guide "$tfa_2_8" 27
+    tfa_guide "$tfa_2_12" 29
+    tfa_calls
+    tfa_versions
+    tfa_says "run: there is no release sid; there are bookworm and trixie" --release sid
     tfa_says "run: there is no qemu-system-aarch64 aarch64-linux-gnu-gcc" each
     tfa_says "run: there is no option --fast; --help lists them" --fast
 }

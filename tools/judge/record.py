@@ -49,6 +49,10 @@ class Life:
         # whether a core ended it, by a call from which none comes back
         self.is_ended = False
 
+    def ends_by(self, words):
+        """Whether the last call of a core is one of these, and did not come back."""
+        return any(mine and mine[-1].want == ("any",) and mine[-1].word in words for mine in self.operations.values())
+
     def ordered(self):
         """The operations that came to an end, as their ends follow each other."""
         every = [it for mine in self.operations.values() for it in mine if it.end < INFINITE]

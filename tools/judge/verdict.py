@@ -5,6 +5,7 @@ from collections import namedtuple
 from . import after
 from .record import EARLY_REGISTERS, Remark
 from .search import Search, Undecided
+from .words import SYSTEM_OFF2
 
 # operation, what ours answers, and whether an earlier difference of the record came first
 Difference = namedtuple("Difference", "operation ours is_later")
@@ -70,7 +71,7 @@ def look_at_life(verdict, life, profile, bound, until, is_whole, has_later):
             at += 1
     except Undecided as why:
         verdict.undecided = f"{why}, at {ordered[at].text}"
-    if not life.is_ended:
+    if not life.is_ended and not life.ends_by([it for it in SYSTEM_OFF2 if profile.has(it)]):
         verdict.undecided = verdict.undecided or "the record breaks off"
     verdict.answers += at
     verdict.tried = max(verdict.tried, search.tried)
