@@ -84,6 +84,14 @@ judged_words() {
     sed 's/77 0 \.$/77 20010 ./' $short > "$work/calls.record"
     { cat $profile; echo "keeps x4-x17"; } > "$work/keeps.profile"
     judged_as 6 "x4 to x17 changed, which it says that it keeps" --profile "$work/keeps.profile" "$work/calls.record"
+    # one record of a firmware tells its version of the calling convention for all
+    sed 's/8400000a 84000000 0 0 0/80000000 84000000 0 0 10002/;/^psci: open 0 0 /d' $short > "$work/version.record"
+    { cat $profile; echo "functions ours 80000000"; } > "$work/version.profile"
+    judged_as 0 "agrees    version" --profile "$work/version.profile" "$work/version.record" $short
+    judged_as 6 "2 records: 1 agrees, 1 differs" --profile "$work/version.profile" "$work/version.record" \
+        "$work/calls.record"
+    judged_as 6 "by version 1.2 of the convention" --profile "$work/version.profile" "$work/version.record" \
+        "$work/calls.record"
     judged_later
 }
 
@@ -121,6 +129,16 @@ judged_model() {
             tail -n 10 "$work/out"
         fi
     done
+}
+
+# stored records with lines lost, doubled, moved or of another one: each is told
+judged_broken() {
+    has_python tests/broken-records || return
+    has_xz "broken records of calls" || return
+    if tests/broken-records 1000 > "$work/out" 2>&1; then pass; else
+        fail tests/broken-records
+        tail -n 10 "$work/out"
+    fi
 }
 
 # is_gone PROCESS: whether it executes no more, soon

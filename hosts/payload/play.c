@@ -3,7 +3,8 @@
 #include "record.h"
 
 enum { STEP_TIME = 3000000, ENTRY_TIME = 300000, POLL_TIME = 300000 };
-enum { SYSTEM_OFF = 0x84000008, ALL_MASKED = 0x3c0, MMU_OR_CACHE = 5 };
+enum { SYSTEM_OFF = 0x84000008, SYSTEM_RESET = 0x84000009, SYSTEM_RESET2 = 0x84000012 };
+enum { SMC64 = 0x40000000, ALL_MASKED = 0x3c0, MMU_OR_CACHE = 5 };
 
 struct state { uint64_t level, masks, control; };
 
@@ -47,6 +48,10 @@ static void ask_in_storm(uint32_t core, const uint64_t x[4]) {
     come_about(entry, KEPT_CALL);
 }
 
+static int may_end_life(uint32_t word) {
+    return word == SYSTEM_OFF || word == SYSTEM_RESET || (word & ~(uint32_t)SMC64) == SYSTEM_RESET2;
+}
+
 void ask(uint32_t core, const uint64_t x[4], enum told told) {
     uint64_t y[4], lost;
     uint32_t number, begin, end;
@@ -54,6 +59,7 @@ void ask(uint32_t core, const uint64_t x[4], enum told told) {
         ask_in_storm(core, x);
         return;
     }
+    if (may_end_life((uint32_t)x[0])) line_told();
     copy4(y, x);
     number = cores[core].number++;
     begin = tick();
@@ -206,7 +212,7 @@ void entered(uint64_t core, uint64_t at, uint64_t context) {
     struct entry *entry = storm.is_on ? new_entry() : 0;
     if (entry) {
         *entry =
-            (struct entry){0, (uint32_t)core, mine->number++, 0, tick(), {at, context}, {0}, 0};
+            (struct entry){0, 0, (uint32_t)core, mine->number++, 0, tick(), {at, context}, {0}, 0};
         come_about(entry, KEPT_ENTER);
     } else {
         uint32_t time = tick();

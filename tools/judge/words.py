@@ -9,6 +9,8 @@ NAMES = ("VERSION", "CPU_SUSPEND", "CPU_OFF", "CPU_ON", "AFFINITY_INFO", "MIGRAT
          "SET_SUSPEND_MODE", "STAT_RESIDENCY", "STAT_COUNT", "SYSTEM_RESET2", "MEM_PROTECT",
          "MEM_PROTECT_CHECK_RANGE", "SYSTEM_OFF2", "CLEAN_INV_MEMREGION", "CLEAN_INV_MEMREGION_ATTRIBUTES")
 LOW = 2**32 - 1
+# what asks for the version of the calling convention, and the first one by which a call keeps x4 to x17
+CONVENTION, KEEPS_EARLY = 0x80000000, 0x10001
 # calls from which a core comes back by a wake-up, or not at all
 SLEEPS = fw.CPU_SUSPEND + fw.SYSTEM_SUSPEND
 ENDS = fw.SYSTEM_OFF + fw.SYSTEM_RESET + fw.SYSTEM_RESET2
