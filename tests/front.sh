@@ -1,26 +1,6 @@
 # Tests of ./psci beside the program, sourced by ../test: which program it runs, what it says at once, how
 # it tells faults, and its own commands.
 
-# the name that was typed stands in help and in what is said of a faulty command line
-typed_name() {
-    ./psci --help > "$work/out" 2> "$work/err"
-    echo $? > "$work/got"
-    expect "./psci --help" 0
-    ./psci storm --seed 1 > "$work/all" 2>&1
-    ./psci storm --seeds 1..2 >> "$work/all" 2>&1
-    grep -h '^Usage: ' "$work/out" "$work/all" > "$work/usage"
-    cat > "$work/lines" << 'END'
-Usage: psci <COMMAND>
-Usage: psci storm --seed <seed> --count <count>
-Usage: psci storm --seed <seed> --count <count>
-END
-    for word in "storm --seeds" show draw try plain prove; do
-        if grep -q "^  $word " "$work/out"; then pass; else fail "./psci --help without $word"; fi
-    done
-    mv "$work/usage" "$work/out"
-    answers "the name in usages"
-}
-
 # front_of FOLDER WORD..: runs a faulty script by the command ./psci of this folder
 front_of() {
     local at=$1 lines=tests/scripts/lines/event-of-no-form
@@ -157,7 +137,7 @@ processor_time() {
     spent=$((fields[15] + fields[16]))
 }
 
-# what is said at once, without a program, is what the program says; and it is said at once
+# what is said of words, and each help; without a program, and at once
 wording() {
     local word begun
     by_python wording
@@ -171,12 +151,6 @@ wording() {
     done
     processor_time
     [ $((spent - begun)) -le 800 ] || fail "help and wrong words take more than a second each"
-    if ./psci help show | grep -q -- --changes && ./psci show --help | grep -q -- --changes; then pass; else
-        fail "./psci help show without the options of views"
-    fi
-    ./psci --version > "$work/out"
-    echo "psci 0.1.0" > "$work/lines"
-    answers "./psci --version"
 }
 
 # faults in words, and scripts by name
@@ -220,28 +194,53 @@ files_and_streams() {
     ./psci storm --seed 1 --count 1 --keep "$work/none/kept" > "$work/out" 2> "$work/err"
     echo $? > "$work/got"
     expect "./psci storm --keep in no folder" 4 \
-        "write fault"$'\n'"psci: --keep $work/none/kept: No such file or directory"
+        "write fault"$'\n'"psci: --keep $work/none/kept is not written whole: No such file or directory"
     for words in "draw examples/late-acknowledgement.psci" "draw --page examples/late-acknowledgement.psci" \
-        "storm --seeds 1..3 --count 5" "show --changes examples/late-acknowledgement.psci" --help \
-        "replay examples/late-acknowledgement.psci"; do
+        "storm --seeds 1..3 --count 5" "show --changes examples/late-acknowledgement.psci" --help "help draw" \
+        "replay examples/late-acknowledgement.psci" "plain examples/late-acknowledgement.psci" \
+        "replay --machine examples/boards/rk3399.machine examples/boards/rk3399.calls"; do
         # shellcheck disable=SC2086
         ./psci $words 2> "$work/err" >&-
-        echo $? > "$work/got"
-        closed_or_full "./psci $words, closed"
+        closed_or_full "./psci $words, closed" $? "standard output" "Bad file descriptor"
         has_full "./psci $words, full" || continue
         # shellcheck disable=SC2086
         ./psci $words 2> "$work/err" > /dev/full
-        echo $? > "$work/got"
-        closed_or_full "./psci $words, full"
+        closed_or_full "./psci $words, full" $? /dev/full "No space left on device"
+    done
+    unread
+    interrupted
+}
+
+# closed_or_full NAME STATUS FILE REASON: a write fault was told, with the file and why
+closed_or_full() {
+    if [ "$2" = 4 ] && [ "$(cat "$work/err")" = "write fault"$'\n'"psci: $3 is not written whole: $4" ]; then pass; else
+        fail "$1 (status $2): $(head -n 2 "$work/err")"
+    fi
+}
+
+# long runs of which a reader takes a line and goes: that is no fault
+unread() {
+    local words
+    ./psci storm --seed 1 --count 3000 --keep "$work/long" > "$work/out"
+    for words in replay show "show --changes" "show --trace" plain; do
+        # shellcheck disable=SC2086
+        { ./psci $words "$work/long" 2> "$work/err"; echo $? > "$work/got"; } | head -n 1 > "$work/out"
+        if [ "$(cat "$work/got")" = 141 ] && [ ! -s "$work/err" ] && [ -s "$work/out" ]; then pass; else
+            fail "./psci $words, of which a line is read (status $(cat "$work/got")): $(head -n 2 "$work/err")"
+        fi
     done
 }
 
-# closed_or_full NAME: a write fault was told, in one line
-closed_or_full() {
-    if [ "$(cat "$work/got")" = 4 ] && grep -qxE "(psci [a-z]+: )?write fault" "$work/err" &&
-        [ "$(wc -l < "$work/err")" = 1 ]; then pass; else
-        fail "$1 (status $(cat "$work/got")): $(head -n 1 "$work/err")"
-    fi
+# Ctrl-C ends each command that waits for its script, without a word; it goes to all that a terminal runs
+interrupted() {
+    local words
+    for words in replay show draw "draw --page" "show --trace" plain \
+        "replay --machine examples/boards/rk3399.machine"; do
+        # shellcheck disable=SC2086
+        head -n 2 examples/boards/rk3399.calls | (cat; sleep 20) |
+            setsid -w timeout -s INT 2 ./psci $words > "$work/out" 2> "$work/err"
+        if [ ! -s "$work/err" ]; then pass; else fail "./psci $words, interrupted: $(tail -n 1 "$work/err")"; fi
+    done
 }
 
 # boards whose line in a script would be too long: the longest that is kept is replayed
@@ -256,8 +255,9 @@ long_boards() {
     expect "a kept storm on a board of ${#board} bytes" 0
     ./psci storm --seed 1 --count 5 --board "${board/ 1 / 16 }" --keep "$work/kept" > "$work/out" 2> "$work/err"
     echo $? > "$work/got"
+    sed -i '2,$d' "$work/err"
     expect "a kept storm on a board of $((${#board} + 1)) bytes" 2 \
-        "psci: --keep: the board's text has $((${#board} + 1)) bytes, and a line of a script takes a board of 250"
+        "psci: word 7: --keep is a script, and takes a board of 250 bytes: this has $((${#board} + 1))"
     [ "${#board}" = 250 ] || fail "the longest board of the test has ${#board} bytes"
 }
 

@@ -122,28 +122,31 @@ terminal_words() {
     cat > "$work/asks" << 'END'
 import os, sys
 sys.path.insert(0, "tools")
-from front import commands
+from front import commands, words
 if sys.argv[2] != "-":
     os.system(f"stty cols {sys.argv[2]} <&1 2> /dev/null")
 with open(sys.argv[1], "w") as file:
-    print(*commands.terminal_words(sys.argv[3:]), file=file)
+    print(*commands.terminal_words(words.show().read(sys.argv[3:])), file=file)
 END
     python3 -B "$work/asks" "$work/out" - --color auto --json > /dev/null
-    echo "--color never --json" > "$work/lines"
+    echo "--color=never" > "$work/lines"
     answers "./psci show beside a terminal"
     [ -n "$(type -P script)" ] || { skip "./psci show on a terminal" script; return; }
     while IFS='|' read -r words wanted; do
-        command script -qec "python3 -B $work/asks $work/out $words" /dev/null < /dev/null > /dev/null
+        TERM=xterm command script -qec "python3 -B $work/asks $work/out $words" /dev/null < /dev/null > /dev/null
         echo "$wanted" > "$work/lines"
         answers "./psci show $words on a terminal"
     done << 'EOF'
-97|--width 97 --color always
-97 --json|--json --width 97 --color always
-97 --width 50|--width 50 --color always
-97 --color auto|--color always --width 97
-97 --color=never|--color=never --width 97
-0 --json|--json --color always
+97|--width=97 --color=always
+97 --json|--width=97 --color=always
+97 --width 50|--width=50 --color=always
+97 --color auto|--width=97 --color=always
+97 --color=never|--width=97 --color=never
+0 --json|--color=always
 EOF
+    TERM=dumb command script -qec "python3 -B $work/asks $work/out 97" /dev/null < /dev/null > /dev/null
+    echo "--width=97 --color=never" > "$work/lines"
+    answers "./psci show on a dumb terminal"
 }
 
 # as JSON each example has its answers, and its lines are objects

@@ -17,25 +17,3 @@ texts() {
         fi
     done
 }
-
-# ./psci says the same at once, without any program, under its own name
-said_texts() {
-    local name
-    local -a words
-    has_python ./psci || return 0
-    for name in tests/texts/*.args; do
-        name=${name%.args}
-        # there the word is a file's name
-        [ "$name" != tests/texts/one-word-too-many ] || continue
-        mapfile -t words < "$name.args"
-        ./psci "${words[@]}" > "$work/said" 2> "$work/err" < /dev/null
-        echo $? > "$work/got"
-        sed 's/psci_cli/psci/g' "$name".[oe]* > "$work/lines"
-        # behind some texts ./psci has more of its own
-        cat "$work/said" "$work/err" | head -n "$(wc -l < "$work/lines")" > "$work/out"
-        answers "./psci ${words[*]}"
-        if [ "$(cat "$work/got")" = "$([ -f "$name.out" ] && echo 0 || echo 2)" ]; then pass; else
-            fail "./psci ${words[*]} (status $(cat "$work/got"))"
-        fi
-    done
-}

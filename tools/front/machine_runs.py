@@ -17,8 +17,8 @@ from .programs import Stopped, complain
 from .machine_faults import checked
 from .machine_swap import other_core
 from .machines import Fault
-from .reader import Wrong
-from .running import ended, tell
+from .reader import Wrong, pointed
+from .running import ended, not_written, tell
 
 CORE_EVENTS = ("call", "enter", "wake", "reset")
 
@@ -75,7 +75,7 @@ class Translator:
             return line
         words = Words(line)
         self.named_core(words)
-        match = re.match(r"call \S+ ([a-z][^ ]*)", words.line)
+        match = re.match(r"call \S+ ([A-Za-z][^ ]*)", words.line)
         if match:
             word = plain.called(match[1], words.place(match.start(1)))
             words.replace(match, 1, f"0x{word:X}")
@@ -144,8 +144,9 @@ class Translator:
 class Run:
     """A run of the program, fed line by line."""
 
-    def __init__(self, program, machine, is_plain):
+    def __init__(self, program, machine, out, is_plain):
         self.translator, self.is_plain, self.last, self.fault = Translator(machine), is_plain, "", None
+        self.out = out
         self.said = tempfile.TemporaryFile()
         self.process = subprocess.Popen(["psci", "replay"], executable=program, stdin=subprocess.PIPE,
                                         stdout=subprocess.PIPE, stderr=self.said)
@@ -158,7 +159,7 @@ class Run:
         except Wrong as wrong:
             self.fault = [f"line {number}: script fault {1 if number == 1 else 2}",
                           f"psci: line {number}, column {wrong.at + 1}: {wrong.text}",
-                          *told.pointed(line, wrong.at)]
+                          *pointed(line, wrong.at)]
             return False
         try:
             self.process.stdin.write(f"{text}\n".encode("latin-1"))
@@ -176,8 +177,8 @@ class Run:
 
     def write(self, text):
         if text or self.is_plain:
-            sys.stdout.buffer.write(f"{text}\n".encode("latin-1"))
-            sys.stdout.buffer.flush()
+            self.out.write(f"{text}\n".encode("latin-1"))
+            self.out.flush()
 
     def end(self):
         """The status, once what was wrong is told."""
@@ -196,17 +197,16 @@ class Run:
         return status
 
 
-def run(program, machine, file, is_plain=False):
-    """Answers the script of this file in the machine's words, or makes it plain; the status."""
-    going = Run(program, machine, is_plain)
+def run(program, machine, file, out=None):
+    """Answers the script of this file in the machine's words; or makes it plain, into a file. The status."""
+    going = Run(program, machine, out or sys.stdout.buffer, out is not None)
     try:
         with os.fdopen(os.dup(file), "rb") as lines:
             for number, line in enumerate(lines, 1):
                 if not going.feed(number, line.rstrip(b"\n").decode("latin-1")):
                     break
-    except (OSError, AttributeError):
+    except OSError as fault:
         going.process.kill()
         going.process.wait()
-        complain("write fault\n")
-        return 4
+        return not_written(fault=fault)
     return going.end()

@@ -9,8 +9,7 @@ from collections import namedtuple
 from views import faults
 
 from . import boards, plain, told
-from .reader import Reader, Wrong, end_of
-from .wording import near
+from .reader import Reader, Wrong, end_of, near, pointed
 
 CLASSES = ("running", "standby", "retention", "power-down")
 FUNCTIONS = ("cpu_suspend", "cpu_off", "cpu_on", "system_off", "system_reset", "node_hw_state",
@@ -38,7 +37,7 @@ class Fault(Exception):
         shown = text.split("\n")[self.where.line - 1] if text else ""
         return [f"{name}: line {self.where.line}: {self.kind} fault {self.number}",
                 f"psci: {name}, line {self.where.line}, column {self.where.at + 1}: {self.text}",
-                *told.pointed(shown, self.where.at)]
+                *pointed(shown, self.where.at)]
 
 
 class Machine:

@@ -1,17 +1,16 @@
 """Scripts by name: calls whose registers are names, made plain, and plain calls said by name.
 
-In a line `call CORE NAME ..` the name of a function stands for its word, and arguments may be names,
-too, as docs/FORMATS.md has them. Every line keeps its place, so the number of a line is the same in
-the plain script.
+In a line `call CORE NAME ..` the name of a function stands for its word, and arguments may be names, too, as
+docs/FORMATS.md has them, in capitals or small letters.
 """
 import re
 from collections import namedtuple
 
 import functions
 
-from . import boards, told
-from .reader import Wrong, number_fault
-from .wording import near
+from . import boards
+from .events import read_event
+from .reader import Wrong, near, number_fault, strange
 
 # A function: its words by SMC32 and SMC64 (None where there is none), and the kinds of its arguments.
 Function = namedtuple("Function", "smc32 smc64 takes")
@@ -35,6 +34,8 @@ EXPECTED = {
     "mode": "platform or os",
     "function": "a function",
 }
+# the beginning of a call by name
+NAMED = re.compile(r"call ([0-9]+) ([A-Za-z][^ ]*)")
 DEPTHS = ("on", "standby", "retention", "power-down")
 LEVELS = {1: ("core", "cluster"), 2: ("core", "cluster", "system"),
           3: ("core", "cluster", "group", "system")}
@@ -56,12 +57,12 @@ class Board:
     """What names need of a board: its levels, the affinity words of its domains, and the format."""
 
     def __init__(self, text):
+        number = boards.number(text)
+        if number:
+            raise Wrong(*boards.fault(number, text))
         tree = boards.read_board(text)[0]
         members = tree.members or [tree.single]
-        kinds = {isinstance(it, list) for _, it in members}
-        if len(kinds) > 1:
-            raise Wrong(*boards.fault(2, text))
-        height = 1 if tree.members is None else 3 if True in kinds else 2
+        height = 1 if tree.members is None else 3 if isinstance(members[0][1], list) else 2
         groups = [it for _, it in members] if height == 3 else [members]
         self.levels, self.is_extended = LEVELS[height], text.endswith(" format extended")
         # of each level its domains' affinity words, in order
@@ -136,7 +137,7 @@ def argument(board, kind, word, at):
                              number_fault(word, "a register", None)[1])
         return [word]
     found = {"core": board.domain, "domain": board.domain, "state": board.state, "mode": MODES.get,
-             "function": word_of}.get(kind, lambda name: None)(word)
+             "function": word_of_any}.get(kind, lambda name: None)(word.lower())
     if found is None or (kind == "core" and found[1] != 0):
         raise Wrong(at, f"'{word}', and {EXPECTED.get(kind, 'a number')} was expected")
     if kind == "domain":
@@ -144,22 +145,41 @@ def argument(board, kind, word, at):
     return [f"{found[0] if kind == 'core' else found:#x}"]
 
 
+def word_of_any(name):
+    """The function word of a name in small letters, as the standard has it or shorter; nothing if it is none."""
+    name = f"cpu_{name}" if name in ("suspend", "suspend.32") else name
+    return word_of(name[5:] if name.startswith("psci_") else name)
+
+
 def called(name, at):
     """The function word of a name in a call, which stands at this place."""
-    if name in ("suspend", "suspend.32"):
-        name = f"cpu_{name}"
-    word = word_of(name[5:] if name.startswith("psci_") else name)
+    name = name.lower()
+    word = word_of_any(name)
     if word is None:
         like = near(name, list(FUNCTIONS))
         raise Wrong(at, f"unknown function '{name}'" + (f": is {like[-1]} meant?" if like else ""))
     return word
 
 
+def form_of(line):
+    """What a call of this name takes, if the line names a function."""
+    match = NAMED.match(line)
+    word = word_of_any(match[2].lower()) if match else None
+    if word is None:
+        return None
+    takes = next(it.takes for it in functions.TABLE if it.short == NAMES[word].partition(".")[0])
+    words = [re.sub("(?<=[a-z])(?=[A-Z])", "-", it).upper() for it in takes]
+    return f"call CORE {match[2]}" + "".join(f" [{it}" for it in words) + "]" * len(words)
+
+
 def plain_call(board, line):
     """The plain line of a call by name; one that is plain already, or faulty, as it is."""
-    match = re.match(r"call ([0-9]+) ([a-z][^ ]*)", line)
+    match = NAMED.match(line)
     if not match:
         return line
+    bad = re.search(r"[^ -~]", line)
+    if bad:
+        raise Wrong(bad.start(), f"{strange(bad[0])}, where only letters and blanks are allowed")
     word, at = called(match[2], match.start(2)), match.end()
     name, takes, registers = NAMES[word], FUNCTIONS[NAMES[word].partition(".")[0]].takes, []
     for given in line[at:].split(" ")[1:]:
@@ -189,7 +209,7 @@ def argument_name(board, kind, word, given):
 def named_call(board, line):
     """A plain call said by name, as far as its words have names; any other line as it is."""
     try:
-        told.read_event(line)
+        read_event(line)
     except Wrong:
         return line
     words = line.split(" ")
@@ -201,29 +221,3 @@ def named_call(board, line):
     if said and takes[0] == "domain" and len(given) > 1:
         said = said[:1] if said[0] else [f"{int(given[0], 0):#x}", given[1]]
     return " ".join([*words[:2], name, *said])
-
-
-def lines(text, change):
-    """Each line of a script, changed by this of the board and the line; raises a fault with the
-    number of its line."""
-    board = None
-    for number, line in enumerate(text.split("\n"), 1):
-        try:
-            if number == 1:
-                if not line.startswith("board "):
-                    raise Wrong(*told.no_board(line))
-                board = Board(line[len("board "):])
-                yield line
-            else:
-                yield change(board, line)
-        except Wrong as wrong:
-            at = wrong.at + (len("board ") if number == 1 and line.startswith("board ") else 0)
-            raise Fault(number, at, line, wrong.text) from wrong
-
-
-class Fault(Exception):
-    """A fault of a script by name, at a line and a place in it."""
-
-    def __init__(self, number, at, line, text):
-        super().__init__(text)
-        self.lines = [f"line {number}, column {at + 1}: {text}", *told.pointed(line, at)]

@@ -1,4 +1,5 @@
 """Reads a line of a script from left to right, up to the first byte that does not fit."""
+import difflib
 import re
 
 NUMBER = "a number in decimal"
@@ -98,3 +99,15 @@ def end_of(reader):
     if reader.word().startswith("#"):
         raise Wrong(reader.at, "a comment needs a line of its own, and cannot follow an event")
     raise Wrong(reader.at, "a word too many: the line was expected to end")
+
+
+def near(word, names):
+    """The name that is most like a word, alone in a list; an empty one where none is."""
+    return difflib.get_close_matches(word, names, 1)
+
+
+def pointed(line, at):
+    """The line, or the part of it round this place, and a caret below it."""
+    begin = max(at - 60, 0)
+    part = "".join(it if " " <= it <= "~" else "?" for it in line[begin:begin + 100])
+    return [f"    {part}", " " * (4 + at - begin) + "^"] if part else []

@@ -1,5 +1,7 @@
 """Runs the program on a script, and says in words which fault it named."""
 import errno
+import fcntl
+import mmap
 import os
 import select
 import signal
@@ -7,52 +9,88 @@ import stat
 import subprocess
 import sys
 import tempfile
+import time
 
 from . import told
-from .programs import Stopped, complain, say
+from .programs import Progress, Stopped, complain, say
+from .scripts import NAMED, Names
 
 # how many of the last bytes that came by a pipe are kept, to tell of a line
 KEPT = 1 << 20
 
 
 class Script:
-    """The script that a program reads, by a file or by a pipe."""
+    """The script that a program reads, by a file or by a pipe. A file without calls by name the program reads itself."""
 
     def __init__(self, file):
-        self.file, self.gone, self.last = file, 0, b""
+        self.file, self.gone, self.last, self.names = file, 0, b"", Names()
         try:
-            mode = os.fstat(file).st_mode
+            mode = 0 if file is None else os.fstat(file).st_mode
         except OSError:
             mode = 0
         self.is_file = stat.S_ISREG(mode)
-        self.comes_by = stat.S_ISFIFO(mode) or stat.S_ISSOCK(mode) or (mode and os.isatty(file))
         self.start = os.lseek(file, 0, os.SEEK_CUR) if self.is_file else 0
+        self.comes_by = stat.S_ISFIFO(mode) or stat.S_ISSOCK(mode) or (mode and os.isatty(file)) or self.has_names()
+
+    def source(self):
+        """What the program has for its standard input."""
+        if self.file is None:
+            return subprocess.DEVNULL
+        return subprocess.PIPE if self.comes_by else self.file or None
+
+    def has_names(self):
+        """Whether this is a file with calls by name."""
+        if not self.is_file or os.fstat(self.file).st_size <= self.start:
+            return False
+        with mmap.mmap(self.file, 0, access=mmap.ACCESS_READ) as text:
+            return NAMED.search(text, self.start) is not None
 
     def feed(self, process):
-        """Hands what comes on to the program, until one of them ends."""
+        """Hands what comes on to the program, with its calls plain, until one of them ends."""
+        progress = Progress()
         while process.poll() is None:
+            self.look(progress)
             if not select.select([self.file], [], [], 0.05)[0]:
                 continue
             some = os.read(self.file, 1 << 16)
-            whole = self.last + some
-            cut = max(len(whole) - KEPT, 0)
-            self.gone += whole[:cut].count(b"\n")
-            self.last = whole[cut:]
+            self.keep(some)
             try:
-                if some:
-                    process.stdin.write(some)
-                    continue
+                process.stdin.write(self.names.plain(some))
             except OSError:
-                pass
-            break
+                break
+            if not some:
+                break
+        progress.end()
         try:
             process.stdin.close()
         except OSError:
             pass
 
+    def watch(self, process):
+        """Waits for a program that reads the file itself, and says how far it is."""
+        progress = Progress()
+        while progress.is_heard and process.poll() is None:
+            self.look(progress)
+            time.sleep(0.05)
+        progress.end()
+
+    def look(self, progress):
+        """Says how much of a file was read: the program reads on where this does."""
+        size = os.fstat(self.file).st_size - self.start if self.is_file else 0
+        progress.tell((os.lseek(self.file, 0, os.SEEK_CUR) - self.start) / size if size else 0)
+
+    def keep(self, some):
+        """Keeps the last bytes that came."""
+        whole = self.last + some
+        cut = max(len(whole) - KEPT, 0)
+        self.gone += whole[:cut].count(b"\n")
+        self.last = whole[cut:]
+
     def line(self, number):
         """A line of the script, or nothing where it is not known any more."""
         text = self.last
+        if number == 1 and self.gone:
+            return self.names.first.partition(b"\n")[0].decode(errors="replace")
         if self.is_file:
             os.lseek(self.file, self.start, os.SEEK_SET)
             with os.fdopen(os.dup(self.file), "rb") as file:
@@ -65,8 +103,8 @@ class Script:
 
 
 def opened(path):
-    """The script of this name, where - is standard input."""
-    if path == "-":
+    """The script of this name; standard input without one, or where it is -."""
+    if path in (None, "-"):
         return 0
     try:
         if os.path.isdir(path):
@@ -85,12 +123,6 @@ def text_of(file):
         raise Stopped(f"cannot read the script: {fault.strerror}", 4) from fault
 
 
-def become(program, words):
-    """Becomes the program, which calls itself psci."""
-    signal.signal(signal.SIGPIPE, signal.SIG_DFL)
-    os.execv(program, ["psci", *words])
-
-
 def ended(process):
     """The status of a program that has ended, as a shell has it. Ctrl-C is the program's."""
     while True:
@@ -101,26 +133,30 @@ def ended(process):
             continue
 
 
-def run(program, words, file=0, output=None, board=None):
-    """Runs the program with these words on the script of this file; its status. Where it names a
+def run(program, words, file=0, output=None, board=None, keep=None):
+    """Runs the program with these words on the script of this file, if there is one; its status. Where it names a
     fault, of the script or of a board in the words, its own line comes first."""
     script = Script(file)
     if script.comes_by and os.isatty(script.file):
         say("the script comes from the terminal, and Ctrl-D ends it")
     with tempfile.TemporaryFile() as said:
-        process = subprocess.Popen(["psci", *words], executable=program, stdout=output, stderr=said,
-                                   bufsize=0,
-                                   stdin=subprocess.PIPE if script.comes_by else script.file or None)
+        process = subprocess.Popen(["psci", *words], executable=program, stdout=output, stderr=said, bufsize=0,
+                                   stdin=script.source())
         if output is not None:
             output.close()
         try:
             if script.comes_by:
                 script.feed(process)
+            else:
+                script.watch(process)
         except KeyboardInterrupt:
             pass
         status = ended(process)
         said.seek(0)
         text = said.read()
+    if status == 4 and text == b"write fault\n":
+        # who reads rows that a tool makes a view of says itself why it ended
+        return not_written(keep) if output is None else 4
     tell(text, lambda number: script.line(number) if number else board)
     return status
 
@@ -131,15 +167,79 @@ def tell(text, line_of):
     complain("".join(f"{line}\n" for line in told.words(text.decode(errors="replace"), line_of)))
 
 
+# ---- what is not written
+
 def write(text):
     """Writes on standard output; the status, which tells of a write fault."""
     try:
         sys.stdout.buffer.write(text.encode(errors="surrogateescape"))
         sys.stdout.flush()
         return 0
-    except (OSError, AttributeError):
-        if sys.stdout:
-            # what is still to be written goes nowhere
-            os.dup2(os.open(os.devnull, os.O_WRONLY), 1)
-        complain("write fault\n")
-        return 4
+    except OSError as fault:
+        return not_written(fault=fault)
+
+
+def not_written(keep=None, fault=None):
+    """Says which file is not written, and why, as far as that is known; the status. A pipe that nobody reads any more
+    is no fault."""
+    name, why = place_of(1), getattr(fault, "strerror", None) or reason(1)
+    is_closed = isinstance(fault, BrokenPipeError) if fault else is_unread(1)
+    if fault:
+        # what is still to be written goes nowhere
+        os.dup2(os.open(os.devnull, os.O_WRONLY), 1)
+    if is_closed:
+        return 128 + signal.SIGPIPE
+    if keep is not None and why is None:
+        name, why = f"--keep {keep}", reason_of(keep)
+    complain(f"write fault\npsci: {name} is not written whole: {why or 'the file takes no more'}\n")
+    return 4
+
+
+def open_streams():
+    """Fills the places of streams that are closed with such as cannot be read or written: a file that is opened later
+    would stand there."""
+    for file, how in ((0, os.O_WRONLY), (1, os.O_RDONLY), (2, os.O_WRONLY)):
+        try:
+            os.fstat(file)
+        except OSError:
+            os.open(os.devnull, how)
+    sys.stdout = sys.stdout or os.fdopen(1, "w", closefd=False)
+
+
+def is_unread(file):
+    """Whether this is a pipe that nobody reads."""
+    poll = select.poll()
+    poll.register(file, select.POLLOUT)
+    return any(event & select.POLLERR for _, event in poll.poll(0))
+
+
+def place_of(file):
+    """The name of an open file."""
+    try:
+        name = os.readlink(f"/proc/self/fd/{file}")
+        return name if name.startswith("/") and name != os.devnull else "standard output"
+    except OSError:
+        return "standard output"
+
+
+def reason(file):
+    """Why an open file cannot be written, if one sees that."""
+    try:
+        if fcntl.fcntl(file, fcntl.F_GETFL) & os.O_ACCMODE == os.O_RDONLY:
+            return os.strerror(errno.EBADF)
+        is_full = os.fstat(file).st_rdev == os.makedev(1, 7) or os.fstatvfs(file).f_bavail == 0
+        return os.strerror(errno.ENOSPC) if is_full else None
+    except OSError as fault:
+        return fault.strerror
+
+
+def reason_of(path):
+    """Why a file cannot be written, if one sees that."""
+    try:
+        file = os.open(path, os.O_WRONLY)
+    except OSError as fault:
+        return fault.strerror
+    try:
+        return reason(file)
+    finally:
+        os.close(file)

@@ -1,9 +1,9 @@
 """The command line of the judge."""
-import argparse
 import os
 import sys
 
 import sentence
+from front.words import Words, number
 
 from . import profile, record, report, tallies
 from .groups import grouped
@@ -11,32 +11,28 @@ from .verdict import AGREES, DIFFERS, UNDECIDED, judged
 
 STATUS = {AGREES: 0, DIFFERS: 6, UNDECIDED: 7}
 COMMAND, RECORD, READ = 2, 3, 4
-ENDING = """
-Exit status: 0 where all agree, or where a baseline has just the groups that were seen; 6 where a record
-differs, or otherwise than the baseline; 7 where one is undecided and none differs; 2, 3 and 4 for the
-words, a record or profile of no form, and a file that cannot be read or written.
+ENDING = """It ends with 0 where all agree, or where a baseline has just the groups that were seen; with 6 where a record
+differs, or otherwise than the baseline; with 7 where one is undecided and none differs.
 """
 
 
 def words_of(words):
-    parser = argparse.ArgumentParser(prog="psci compare", allow_abbrev=False, epilog=ENDING,
-                                     formatter_class=argparse.RawDescriptionHelpFormatter,
-                                     description="Judges records of the calls of any PSCI firmware.")
+    parser = Words("compare", "Judges records of the calls of any PSCI firmware.", "--profile FILE [OPTIONS] RECORD..", ENDING)
     add = parser.add_argument
     add("records", metavar="RECORD", nargs="+", help="docs/JUDGE.md has its lines")
     add("--profile", metavar="FILE", help="what the firmware declares of itself")
-    add("--declare", action="store_true", help="print the profile's line of functions, as PSCI_FEATURES has it")
-    add("--tallies", action="store_true", help="print how often each function had each answer, and in which lists")
-    add("--each", action="store_true", help="print each difference")
-    add("--times", action="store_true", help="print the seconds and states of each search")
+    parser.flag("--declare", help="print the profile's line of functions, as PSCI_FEATURES has it")
+    parser.flag("--tallies", help="print how often each function had each answer, and in which lists")
+    parser.flag("--each", help="print each difference")
+    parser.flag("--times", help="print the seconds and states of each search")
     add("--baseline", metavar="FILE", help="groups that are known; new and vanished ones fail")
     add("--write-baseline", metavar="FILE", help="keep the groups that were seen")
-    add("--tap", action="store_true", help="print TAP alone")
+    parser.flag("--tap", help="print TAP alone")
     add("--junit", metavar="FILE", help="write JUnit's XML")
-    add("--bound", metavar="N", type=int, default=20000, help="states for one answer, 20000")
+    add("--bound", metavar="N", type=number(1, 10 ** 9), default=20000, help="states for one answer, 20000")
     add("--limit", metavar="SECONDS", type=float, default=60, help="seconds for one record, 60")
-    add("--whole", action="store_true", help="search without reductions from the start")
-    return parser.parse_args(words)
+    parser.flag("--whole", help="search without reductions from the start")
+    return parser.read(words)
 
 
 def end(status, text):

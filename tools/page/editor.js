@@ -24,7 +24,8 @@ class Editor {
     script.addEventListener("click", () => this.pickLine());
     script.addEventListener("keyup", (it) => it.key.startsWith("Arrow") && this.pickLine());
     scripts.addEventListener("change", () => this.choose(Number(scripts.value)));
-    this.choose(Math.max(this.scripts.findIndex((it) => it.title === "late acknowledgement"), 0));
+    const first = this.scripts.findIndex((it) => it.title === "late acknowledgement");
+    this.choose(groups[0].group === "yours" ? 0 : Math.max(first, 0));
   }
 
   fill(groups) {

@@ -2,13 +2,13 @@
 import argparse
 import fcntl
 import os
-import re
 import signal
 import sys
 import tempfile
 import time
 
 import sentence
+from front.words import Words, fault, number, one_of, seeds
 
 from . import kinds, plan as plans, report, whole
 from .engines import ENGINES
@@ -27,39 +27,47 @@ What is finished stays: the same words in the same folder go on where a sweep wa
   ./psci sweep storm   --seeds 1..100000 --out out/night --engine slurm --engine-words '--partition=all'
   ./psci sweep report out/night out/another
 """
-ENDING = """
-Exit status: 0 where all seeds are done and none differs; 6 where one differs; 7 where some are left and none
-differs, or nothing happened in them; 2 for a word at fault, 4 for what cannot be read or written, or is not what
-the sweep began with. docs/SWEEP.md has more.
+ENDING = """It ends with 0 where all seeds are done and none differs; with 6 where one differs; with 7 where some are left
+and none differs, or nothing happened in them. docs/SWEEP.md has more.
 """
 
 
 def parsed(words):
-    form = {"allow_abbrev": False, "formatter_class": argparse.RawDescriptionHelpFormatter}
-    parser = argparse.ArgumentParser(prog="psci sweep", description=TEXT, epilog=ENDING, **form)
-    commands = parser.add_subparsers(dest="kind", metavar="KIND", required=True)
-    for name, kind in kinds.every().items():
-        one = commands.add_parser(name, help=kind.__doc__.strip(), description=kind.__doc__, epilog=ENDING, **form)
-        add = one.add_argument
-        add("--seeds", metavar="FIRST..LAST", required=True, help="each of at most 18 digits")
-        add("--out", metavar="FOLDER", required=True, help="where results go, and where a sweep goes on")
-        add("--engine", choices=ENGINES, default="local", help="who does it: local (without it), slurm, parallel")
-        add("--engine-words", metavar="TEXT", default="", help="further words of sbatch or parallel")
-        add("--jobs", metavar="N", type=int, help="chunks at the same time")
-        add("--minutes", metavar="N", type=float, default=3, help="about how long a chunk takes, 3")
-        add("--chunk", metavar="N", type=int, help="seeds of a chunk, in place of a guess")
-        kind.options(add)
-    one = commands.add_parser("report", help="print the report of what is done", epilog=ENDING, **form)
-    one.add_argument("folders", metavar="FOLDER", nargs="+", help="of sweeps of one kind, without a seed in common")
-    one.add_argument("--costs", action="store_true", help="say what it took, too")
-    return parser.parse_args(words)
+    """The words of a kind of work, or of the report."""
+    every = kinds.every()
+    if words[:1] in ([], ["--help"], ["-h"]):
+        parser = Words("sweep", TEXT, f"{' | '.join([*every, 'report'])} [OPTIONS]", ENDING)
+        parser.add_argument("kind", metavar="KIND", help="psci sweep KIND --help says what it takes")
+        return parser.read(words)
+    kind = one_of(*every, "report")
+    try:
+        kind(words[0])
+    except argparse.ArgumentTypeError as why:
+        fault(["sweep", *words], 1, why, f"`psci sweep {' | '.join([*every, 'report'])}`; `psci sweep --help` says more")
+    if words[0] == "report":
+        one = Words("sweep report", "Prints the report of what is done.", "[--costs] FOLDER..", ENDING)
+        one.add_argument("folders", metavar="FOLDER", nargs="+", help="of sweeps of one kind, without a seed in common")
+        one.flag("--costs", help="say what it took, too")
+    else:
+        one = of_kind(every[words[0]])
+    found = one.read(words[1:])
+    found.kind = words[0]
+    return found
 
 
-def seeds_of(text):
-    match = re.fullmatch(r"([0-9]{1,18})\.\.([0-9]{1,18})", text)
-    if not match or int(match[1]) > int(match[2]):
-        raise Wrong("--seeds takes FIRST..LAST, the lower seed first, each of at most 18 digits")
-    return int(match[1]), int(match[2])
+def of_kind(kind):
+    """What a kind of work takes."""
+    one = Words(f"sweep {kind.NAME}", kind.__doc__, "--seeds FIRST..LAST --out FOLDER [OPTIONS]", ENDING)
+    add = one.add_argument
+    add("--seeds", metavar="FIRST..LAST", type=seeds, required=True, help="each of at most 18 digits")
+    add("--out", metavar="FOLDER", required=True, help="where results go, and where a sweep goes on")
+    add("--engine", metavar="NAME", type=one_of(*ENGINES), default="local", help="local (without it), slurm, parallel")
+    add("--engine-words", metavar="TEXT", default="", help="further words of sbatch or parallel")
+    add("--jobs", metavar="N", type=number(1, 10 ** 6), help="chunks at the same time")
+    add("--minutes", metavar="N", type=float, default=3, help="about how long a chunk takes, 3")
+    add("--chunk", metavar="N", type=number(1, 10 ** 18), help="seeds of a chunk, in place of a guess")
+    kind.options(add)
+    return one
 
 
 def say(text):
@@ -103,9 +111,9 @@ def begun(folder, words, settings, seeds):
 
 def plan_of(words):
     """The plan of these words: that of the folder, if it is the same."""
-    seeds, settings = seeds_of(words.seeds), kinds.every()[words.kind].settings(words)
-    if any(it is not None and it < 1 for it in (words.jobs, words.chunk)) or words.minutes <= 0:
-        raise Wrong("--jobs, --chunk and --minutes take numbers above 0")
+    settings = kinds.every()[words.kind].settings(words)
+    if not words.minutes > 0:
+        raise Wrong("--minutes takes a number above 0")
     folder = os.path.abspath(words.out)
     for name in ("results", "failed", "logs"):
         os.makedirs(f"{folder}/{name}", exist_ok=True)
@@ -113,9 +121,9 @@ def plan_of(words):
     for name in ("", "/results", "/failed"):
         whole.clear(folder + name)
     if not plans.is_there(folder):
-        return begun(folder, words, settings, seeds), lock
+        return begun(folder, words, settings, words.seeds), lock
     plan = plans.read(folder)
-    if (plan.kind, plan.settings, plan.first, plan.last) != (words.kind, settings, *seeds):
+    if (plan.kind, plan.settings, plan.first, plan.last) != (words.kind, settings, *words.seeds):
         raise Wrong(f"{folder} has another sweep: {plan.kind}, seeds {plan.first}..{plan.last}, "
                     f"{plan.settings}; take another folder")
     plans.look_at_files(plan)

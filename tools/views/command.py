@@ -1,14 +1,10 @@
-"""What the commands of views have in common: their options, what they read, how they fail."""
+"""What the commands of views have in common: what they read, how they fail."""
 import os
 import sys
 
+from front import running
+
 from . import clock, shown, window
-
-
-def add_words(parser):
-    """The options of a window, and the clock."""
-    window.add_words(parser)
-    parser.add_argument("--clock", metavar="FILE", help="when each event happened, in nanoseconds")
 
 
 def opened(words):
@@ -32,17 +28,23 @@ def screen_lines():
         return 24
 
 
+# the status where nothing was there to look at
+NOTHING = 7
+
+
 class Refused(Exception):
     """What the words of the command ask for cannot be had, and why."""
 
 
 def run(main, name):
-    """Runs a command: what it cannot do is said in a line, with the statuses of the program."""
-    if not sys.stdout:
-        end(name, "write fault", 4)
+    """Runs a command, which gives the window that it has looked at: what it cannot do is said in a line, with the
+    statuses of the program."""
+    running.open_streams()
     try:
-        main()
+        window = main()
         sys.stdout.flush()
+        if not window.count:
+            end(name, "there is no event in this part of the run", NOTHING)
     except Refused as fault:
         # the program is heard to its end, and has no write fault to tell of
         for _ in sys.stdin:
@@ -52,10 +54,10 @@ def run(main, name):
         end(name, fault, 3)
     except shown.NotShown:
         end(name, "standard input is not what `./psci show --json` writes", 3)
-    except OSError:
-        # what is still to be written goes nowhere
-        os.dup2(os.open(os.devnull, os.O_WRONLY), sys.stdout.fileno())
-        end(name, "write fault", 4)
+    except OSError as fault:
+        sys.exit(running.not_written(fault=fault))
+    except KeyboardInterrupt:
+        sys.exit(130)
 
 
 def end(name, said, status):

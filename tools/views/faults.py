@@ -24,15 +24,15 @@ def fault(text, line=None):
     return {"line": line, "text": text}
 
 
-def fault_of(said, status):
-    """The fault of a run that ended so: of a line of the script, in the words of its table; or the program's, of which
-    it is said that it is none of the script's. What a tool said is not shown as the script's fault."""
+def fault_of(said, status, found):
+    """The fault of a run that ended so: of a line of the script, in the words of the command line, which `found` are as
+    front.told has them; or the program's, of which it is said that it is none of the script's. What a tool said is not
+    shown as the script's fault."""
     if status == 0:
         return None
-    match = re.fullmatch(r"line (\d+): (script|board) fault (\d+)\n", said)
-    if status == SCRIPT_FAULT and match:
-        words = words_of(match[2])[int(match[3])]
-        return fault(f"{match[2]} fault {match[3]}, {words}", int(match[1]))
+    match = re.fullmatch(r"line (\d+): ((?:script|board) fault \d+)\n", said)
+    if status == SCRIPT_FAULT and match and found:
+        return fault(f"{match[2]}, column {found[2] + 1}: {found[3]}", int(match[1]))
     if (status, said) == (NO_MEMORY, "out of memory\n"):
         return fault("the run needs more memory than it may have here: it stops after the last event that fitted")
     how = f"with status {status}" if status > 0 else f"by signal {-status}"

@@ -145,8 +145,7 @@ def assembled(title, data, start="opened", editor=False):
 
 
 def write(window, run, out, clock):
-    """Writes the page of a window; 1 if there is no event to look at."""
+    """Writes the page of a window, if there is an event to look at."""
     packed = Packed(window, clock).read(run)
     if packed.count:
         out.write(assembled(f"board {window.board.text}", packed.value()))
-    return packed.count

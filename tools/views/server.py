@@ -13,6 +13,8 @@ import sys
 import threading
 from http.server import BaseHTTPRequestHandler, ThreadingHTTPServer
 
+from front import scripts, told
+
 from . import clock, faults, page, shown, stories, window
 
 # the longest script in bytes and in lines, the processor seconds of a run, its bytes of memory and of output; where the
@@ -39,7 +41,7 @@ def run_of(program, script):
         return None, faults.fault(f"here a script has at most {MOST_LINES} lines", MOST_LINES + 1)
     try:
         with AT_ONCE:
-            ran = subprocess.run([program, "show", "--json"], input=script.encode(),
+            ran = subprocess.run([program, "show", "--json"], input=scripts.plain_of(script.encode()),
                                  timeout=3 * SECONDS, capture_output=True, check=False,
                                  preexec_fn=limit)
     except subprocess.TimeoutExpired:
@@ -49,7 +51,8 @@ def run_of(program, script):
     if ran.returncode == -signal.SIGXCPU:
         return None, TOO_LONG
     said = ran.stderr.decode(errors="replace")
-    fault = faults.fault_of(said, ran.returncode)
+    lines = script.split("\n")
+    fault = faults.fault_of(said, ran.returncode, told.place(said, lambda at: lines[at - 1]))
     if fault and fault["line"] is None:
         print(f"psci try: the program ended with status {ran.returncode}, and said:\n{said}", file=sys.stderr, flush=True)
     return packed(ran.stdout[:MOST_OUTPUT].decode(errors="replace")), fault
@@ -124,11 +127,11 @@ class Page(BaseHTTPRequestHandler):
         """Says nothing of each request."""
 
 
-def opened(program, port):
-    """The server, which listens; 0 is any port that is free."""
+def opened(program, port, path=None):
+    """The server, which listens; 0 is any port that is free. It begins with the script of this file."""
     server = ThreadingHTTPServer(("127.0.0.1", port), Page)
     server.daemon_threads = True
     server.program = program
-    text = page.assembled("psci try", stories.found(), start="edited", editor=True)
+    text = page.assembled("psci try", stories.found(path), start="edited", editor=True)
     server.text = text.encode()
     return server

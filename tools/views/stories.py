@@ -6,9 +6,10 @@ import re
 from .faults import TOP
 
 
-def found():
-    """Groups of scripts, each with its title, its text, and what to look at."""
-    return [{"group": "examples", "scripts": [script(path) for path in paths("examples/*.psci")]},
+def found(path=None):
+    """Groups of scripts, each with its title, its text, and what to look at; that of this file comes first."""
+    yours = [{"group": "yours", "scripts": [script(path, os.path.basename(path))]}] if path else []
+    return [*yours, {"group": "examples", "scripts": [script(path) for path in paths("examples/*.psci")]},
             {"group": "stories of other firmware", "scripts": peers()},
             {"group": "Linux", "scripts": [script(f"{TOP}/examples/linux/{name}.psci")
                                            for name in ("boot", "hotplug")]}]

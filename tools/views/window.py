@@ -8,7 +8,7 @@ LARGEST = 10 ** 9
 def number_from_one(text):
     """The number of an event."""
     if not re.fullmatch(r"[1-9][0-9]{0,8}", text):
-        raise argparse.ArgumentTypeError(f"'{text}' is no number of an event, which is 1 or more")
+        raise argparse.ArgumentTypeError(f"'{text}', and the number of an event, 1 or more, was expected")
     return int(text)
 
 
@@ -18,7 +18,7 @@ def core_list(text):
     for part in text.split(","):
         match = re.fullmatch(r"(\d{1,3})(?:-(\d{1,3}))?", part)
         if not match or int(match[2] or match[1]) < int(match[1]):
-            raise argparse.ArgumentTypeError(f"'{text}' is no list of cores, as 0-3,8")
+            raise argparse.ArgumentTypeError(f"'{text}', and a list of cores, as 0-3,8, was expected")
         cores |= set(range(int(match[1]), int(match[2] or match[1]) + 1))
     return frozenset(cores)
 
@@ -42,7 +42,7 @@ class Window:
 
     def __init__(self, board, words):
         self.board, self.first, self.last = board, words.first, words.last
-        self.cores = words.cores
+        self.cores, self.count = words.cores, 0
         self.nodes = [node for node in board.nodes if self.has_node(node)]
         # the core of each message, and of the message of each acknowledgement
         self.messages, self.replies = {}, {}
@@ -60,6 +60,7 @@ class Window:
                 return
             is_of = self.is_of(row)
             if row.number >= self.first and (is_of or self.shows_change(row, last)):
+                self.count += 1
                 yield row, last
             last = row
 

@@ -1,0 +1,350 @@
+"""The words of ./psci: what each command takes, its help, and what is said of a word that is at fault.
+
+One parser reads them all, also those of the tools that ./psci calls. What is wrong is said as of a script: which
+word, the line with a caret below it, what was expected and what to do.
+"""
+import argparse
+import re
+import shlex
+import sys
+import textwrap
+
+import repo
+from views import window
+
+from .programs import complain
+from .reader import near, pointed
+from .running import write
+
+BOARD = "(2 2) exec 0x40000000-0x40100000 boot 0x40000000 starts 1000 lives 3"
+STATUS = """Exit status: 0 done, 1 not proved or not run, 2 command line, 3 script, record or machine, 4 read or write,
+5 memory, 6 what threads, a port or a seed did, 7 what is undecided or left
+"""
+MINUTES = "The minutes are those of four processors with 3 GiB each."
+COMMAND_FAULT = 2
+# what a board's text has at most, so that `board TEXT` is a line of a script
+MOST_OF_BOARD = 250
+
+
+def fault(words, at, why, expected):
+    """Ends with what is wrong with a word, counted from 0, of a command line."""
+    line, place = "psci", 0
+    for number, word in enumerate(words):
+        place = len(line) + 1 if number == at else place
+        line += " " + shlex.quote(word)
+    place = place or len(line) + 1
+    complain("\n".join([f"psci: word {at + 1}: {why}", *pointed(line, place), f"psci: expected {expected}", ""]))
+    sys.exit(COMMAND_FAULT)
+
+
+class Once(argparse.Action):
+    """An option that stands there once; a flag, where it takes no value."""
+
+    def __call__(self, parser, found, values, option_string=None):
+        seen = found.__dict__.setdefault("seen", set())
+        if self.dest in seen:
+            raise argparse.ArgumentError(self, "stands here a second time")
+        seen.add(self.dest)
+        setattr(found, self.dest, True if self.nargs == 0 else values)
+
+
+class Words(argparse.ArgumentParser):
+    """What a command takes, behind what was typed before its words."""
+
+    def __init__(self, name, about, form, more=""):
+        super().__init__(prog=f"psci {name}", add_help=False, allow_abbrev=False, exit_on_error=False)
+        self.name, self.words, self.actions, self.rules = name, [], [], []
+        self.about, self.form, self.more = about, f"psci {name} {form}", f"{more}\n" if more else ""
+        for name in (None, "store"):
+            self.register("action", name, Once)
+        self.flag("--help", "-h", help="print this")
+
+    def add_argument(self, *names, **how):
+        action = super().add_argument(*names, **how)
+        self.actions.append(action)
+        return action
+
+    def flag(self, *names, **how):
+        """An option without a value."""
+        self.add_argument(*names, action=Once, nargs=0, default=False, **how)
+
+    def help_text(self):
+        """What --help prints."""
+        rows = [(", ".join(it.option_strings) or it.metavar, it) for it in self.actions if it.help != argparse.SUPPRESS]
+        rows = [(f"{name} {it.metavar}" if it.option_strings and it.metavar else name, it.help) for name, it in rows]
+        wide = max(len(name) for name, _ in rows)
+        lines = [textwrap.fill(text or "", 100, initial_indent=f"  {name:{wide}}  ", subsequent_indent=" " * (wide + 4))
+                 for name, text in sorted(rows, key=lambda row: row[0].startswith("-"))]
+        return f"{self.about}\n\nUsage: {self.form}\n\n" + "\n".join(lines) + f"\n\n{self.more}{STATUS}"
+
+    def rule(self, is_broken, option, why):
+        """What may not be of the values of the words; the option stands where it is told, or the words end there."""
+        self.rules.append((is_broken, option, why))
+
+    def read(self, words):
+        """The values of these words; ends with help where they ask for it, and at the first fault."""
+        self.words = list(words)
+        before = self.words[:self.words.index("--")] if "--" in self.words else self.words
+        if {"-h", "--help"} & set(before):
+            sys.exit(write(self.help_text()))
+        known = [it for action in self.actions for it in action.option_strings]
+        unknown = [it for it in before if re.match("-[^-0-9]|--.", it) and it.partition("=")[0] not in known]
+        if unknown:
+            self.no_option(unknown[0], known)
+        try:
+            found, more = self.parse_known_args(self.words)
+        except argparse.ArgumentError as wrong:
+            self.wrong_value(wrong)
+        for word in more:
+            if word != "--":
+                self.fault(self.place(word), f"one word too many: {shown(word)}")
+        for is_broken, option, why in self.rules:
+            if is_broken(found):
+                at = self.place(option)
+                self.fault(at if at >= 0 else len(self.words), f"{option} {why(found) if callable(why) else why}")
+        return found
+
+    def fault(self, at, why, expected=None):
+        name = self.name.split()
+        fault([*name, *self.words], at + len(name), why,
+              f"{expected or f'`{self.form}`'}; `psci {self.name} --help` says more")
+
+    def place(self, word):
+        """The last word that is this one, or begins with this one and =."""
+        return max((at for at, it in enumerate(self.words) if it == word or it.startswith(f"{word}=")), default=-1)
+
+    def wrong_value(self, wrong):
+        """An option without a value, or with a wrong one."""
+        names = (wrong.argument_name or "").split("/")
+        name, at = max(((it, self.place(it)) for it in names), key=lambda it: it[1])
+        why = wrong.message
+        if why.startswith("expected "):
+            self.fault(at + 1, f"{name} needs a value")
+        if why.startswith("ignored explicit argument"):
+            self.fault(at, f"{name} takes no value")
+        why = why.replace("not allowed with argument", "does not go with")
+        is_value = "=" not in self.words[at] and "was expected" in why
+        self.fault(at + is_value, f"{name}{':' if ' was expected' in why else ''} {why}" if at >= 0 else why)
+
+    def no_option(self, word, known):
+        """An option that there is not."""
+        at = self.words.index(word)
+        if word == "--unproved":
+            self.fault(at, "--unproved stands before the command", "`psci --unproved " + self.name + " ..`")
+        name = word.partition("=")[0]
+        like = near(name, [it for it in known if it.startswith("--")])
+        tip = f": is {like[0]} meant?" if like else ""
+        self.fault(at, f"{self.name} has no option {shown(name)}{tip}")
+
+    def error(self, message):
+        """What argparse finds in the end: a word that is not there, or two that do not go together."""
+        self.fault(len(self.words), message.replace("the following arguments are required: ", "the line ends without "))
+
+
+def shown(word):
+    """A word in what is said of it."""
+    return "'" + re.sub(r"[^ -~]", "?", word) + "'"
+
+
+# ---- values
+
+def number(low, high):
+    """A number in decimal, as it was typed."""
+    def read(text):
+        if not re.fullmatch(r"\+?[0-9]{1,40}", text) or not low <= int(text) <= high:
+            raise argparse.ArgumentTypeError(f"{shown(text)}, and a number from {low} to {high} was expected")
+        return int(text)
+    return read
+
+
+def one_of(*names):
+    def read(text):
+        if text not in names:
+            like = near(text, names)
+            raise argparse.ArgumentTypeError(f"{shown(text)}, and {', '.join(names[:-1])} or {names[-1]} was expected"
+                                             + (f": is {like[0]} meant?" if like else ""))
+        return text
+    read.names = names
+    return read
+
+
+def seeds(text):
+    """The first and the last one of a range of seeds."""
+    match = re.fullmatch(r"([0-9]{1,18})\.\.([0-9]{1,18})", text)
+    if not match or int(match[1]) > int(match[2]):
+        raise argparse.ArgumentTypeError(f"{shown(text)}, and FIRST..LAST was expected, the lower seed first, each of "
+                                         "at most 18 digits")
+    return int(match[1]), int(match[2])
+
+
+# ---- what the commands of scripts and runs take
+
+def script(words, text="the script; without it, or as -, standard input"):
+    words.add_argument("file", metavar="FILE", nargs="?", help=text)
+
+
+def machine(words):
+    words.add_argument("--machine", metavar="FILE",
+                       help="the calls are those of the machine that this file describes (docs/BOARDS.md)")
+
+
+def replay():
+    words = Words("replay", "Answers each event of a script by a line.", "[--machine FILE] [FILE]",
+                  "A script has a board in line 1, and events behind it: `call CORE X0 ..`, or by name as\n"
+                  "`call 0 CPU_ON 3 0x40001000 0x7`, `enter CORE`, `wake CORE`, `reset CORE`, `deliver K`, `take K`.\n\n"
+                  "Example:\n"
+                  f"  printf '%s\\n' 'board {BOARD}' \\\n"
+                  "      'enter 0' 'call 0 PSCI_VERSION' | ./psci replay\nwrites\n"
+                  "  1 enter 0x40000000 0x0\n  2 return 65537\n\ndocs/FORMATS.md has every line and name.\n")
+    machine(words)
+    script(words)
+    return words
+
+
+def storm_of(words, seeds_too):
+    words.add_argument("--board", metavar="TEXT", help=f"without it {BOARD}")
+    words.add_argument("--seed", metavar="N", type=number(0, 2 ** 64 - 1), required=not seeds_too,
+                       help="what is drawn comes from it, 0 to 18446744073709551615")
+    words.add_argument("--count", metavar="N", type=number(0, 10000), required=True,
+                       help="events, or calls of each core, 0 to 10000")
+    words.flag("--counts", help="a line more for each tally, or for each core")
+    words.add_argument("--keep", metavar="FILE", help="write the run into this file, as a script")
+    words.rule(lambda it: it.keep and it.board and len(it.board.encode(errors="replace")) > MOST_OF_BOARD, "--keep",
+               lambda it: f"is a script, and takes a board of {MOST_OF_BOARD} bytes: this has {len(it.board.encode())}")
+
+
+def storm():
+    words = Words("storm", "Makes random events happen on a board, and lets it settle. A seed has one storm.",
+                  "(--seed N | --seeds FIRST..LAST) --count N [--board TEXT] [--counts] [--keep FILE]")
+    storm_of(words, seeds_too=True)
+    words.add_argument("--seeds", metavar="FIRST..LAST", type=seeds, help="a storm of each of these, a line for each")
+    words.rule(lambda it: it.seed is None and it.seeds is None, "--seed", "is not there, and no --seeds")
+    for name in ("seed", "counts", "keep"):
+        words.rule(lambda it, name=name: it.seeds and getattr(it, name) not in (None, False), f"--{name}",
+                   "is of one storm, and not of --seeds")
+    return words
+
+
+def threads():
+    words = Words("threads", "Starts a thread for each core, and audits what they did.",
+                  "--seed N --count N [--board TEXT] [--counts] [--keep FILE]")
+    storm_of(words, seeds_too=False)
+    return words
+
+
+def view(words):
+    """A part of a run, and when its events happened."""
+    window.add_words(words)
+    words.add_argument("--clock", metavar="FILE", help="when each event happened, in nanoseconds, an event a line")
+
+
+def show():
+    words = Words("show", "Says the run of a script in words, with the state of each core and power domain.",
+                  "[OPTIONS] [FILE]")
+    forms = words.add_mutually_exclusive_group()
+    for name, text in (("json", "an object for the board, and one for each event"),
+                       ("changes", "of each event what changed"), ("script", "the run as a script by name"),
+                       ("trace", "a JSON trace, which Perfetto and the browser's viewer open"),
+                       ("vcd", "value changes, which wave viewers open")):
+        words.actions.append(forms.add_argument(f"--{name}", action=Once, nargs=0, default=False, help=text))
+    words.flag("--legend", help="say first what letters and marks mean")
+    words.add_argument("--width", metavar="COLUMNS", type=number(0, 65535), help="how wide lines are, from 40")
+    words.add_argument("--color", metavar="WHEN", type=one_of("auto", "always", "never"), default="auto",
+                       help="auto, always or never")
+    view(words)
+    words.rule(lambda it: it.clock and not (it.trace or it.vcd), "--clock", "goes with --trace or --vcd")
+    machine(words)
+    script(words)
+    return words
+
+
+def draw():
+    words = Words("draw", "Draws the run of a script as SVG, or as a page of HTML.", "[OPTIONS] [FILE] > PICTURE")
+    words.flag("--page", help="a page for runs of any size, to zoom, step and search in")
+    view(words)
+    words.rule(lambda it: it.clock and not it.page, "--clock", "goes with --page")
+    machine(words)
+    script(words)
+    return words
+
+
+def serve():
+    words = Words("try", "Serves a page on 127.0.0.1 that runs scripts as one types. Ctrl-C ends it.",
+                  "[--port N] [FILE]")
+    words.add_argument("--port", metavar="N", type=number(0, 65535), default=0,
+                       help="the port of the page; without it any that is free")
+    script(words, "the script to begin with")
+    return words
+
+
+def plain():
+    words = Words("plain", "Makes a script by name one of registers, line for line.", "[--machine FILE] [FILE]",
+                  "Of `call 0 CPU_ON 3 0x40001000 0x7` it makes `call 0 0xC4000003 0x101 0x40001000 0x7`, on a board\n"
+                  "(2 2). docs/FORMATS.md has every name.\n")
+    machine(words)
+    script(words)
+    return words
+
+
+def compare():
+    words = Words("compare", "Holds the record of a port's run (docs/RECORD.md) to the program.",
+                  "[--quick] [--machine FILE] [--script FILE] RECORD",
+                  "A record of the calls of any firmware, with a line 'psci: head', is judged instead (docs/JUDGE.md):\n"
+                  "`psci compare --declare --help` has the options for that.\n")
+    words.flag("--quick", help="leave the second model out")
+    machine(words)
+    words.add_argument("--script", metavar="FILE", help="keep the run as a script, and the port's answers in FILE.out")
+    words.add_argument("record", metavar="RECORD")
+    return words
+
+
+def prove():
+    words = Words("prove", "Proves what ./psci runs, and builds it; what was proved is kept in ~/.cache/gumdarts.",
+                  "[all | lib [--target MACHINE]]",
+                  "prove        the program of replay: from nothing about 12 minutes\n"
+                  "prove all    the program of every command: 20 to 30 minutes\n"
+                  f"prove lib    the C library into out/lib\n\n{MINUTES}\n")
+    words.add_argument("what", metavar="WHAT", nargs="?", type=one_of("all", "lib"), help="all, or lib")
+    words.add_argument("--target", metavar="MACHINE", type=one_of("x86_64", "aarch64"), help="of lib: x86_64, or aarch64")
+    words.rule(lambda it: it.target and it.what != "lib", "--target", "goes with lib")
+    return words
+
+
+COMMANDS = {
+    "replay": (replay, "answer a script, a line for each event"),
+    "show": (show, "say its run in words, with the state of each core and power domain"),
+    "draw": (draw, "draw it, or with --page make a page of it, for runs of any size"),
+    "try": (serve, "serve a page on this machine that runs scripts as one types"),
+    "plain": (plain, "make a script by name, as `call 0 CPU_ON 3`, one of registers"),
+    "storm": (storm, "make random events, and let the board settle"),
+    "threads": (threads, "start a thread for each core, and audit what they did"),
+    "compare": (compare, "hold the record of a port's run to the program, or judge any firmware's calls"),
+    "sweep": (None, "make runs from many seeds, on all processors or on many machines"),
+    "prove": (prove, "prove and build the program, or the C library"),
+}
+FIRST = ("help", "--help", "--version", "--unproved")
+
+
+def help_text():
+    """The help of ./psci."""
+    rows = "".join(f"  {name:8} {text}\n" for name, (_, text) in COMMANDS.items())
+    return ("Power firmware whose answers are proved: runs of scripts of PSCI calls.\n\n"
+            "Usage: psci [--unproved] COMMAND [WORDS] [FILE]\n\n"
+            f"Commands:\n{rows}  help     print this, or the help of a command: psci help show\n\n"
+            "Before a command:\n  --unproved    run the program unproved in any case\n  --version\n\n"
+            "A script comes from a FILE that is named, or from standard input; its calls have registers or names.\n\n"
+            f"{STATUS}")
+
+
+def no_command(words, at):
+    """Ends where a word is no command."""
+    like = near(words[at], [*COMMANDS, *FIRST]) if at < len(words) else []
+    why = f"{shown(words[at])} is no command" if at < len(words) else "the line ends"
+    fault(words, at, why + (f": is {like[0]} meant?" if like else ""),
+          f"a command: {', '.join(COMMANDS)}; `psci --help` says what each does")
+
+
+def version():
+    """The version that the program names."""
+    text = repo.text_of(f"{repo.TOP}/crates/psci_command/src/commands.rt")
+    return re.search(r'^const VERSION: &str = "(.*)";$', text, re.M)[1]
