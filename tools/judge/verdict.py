@@ -45,7 +45,8 @@ def judged(name, lives, profile, bound=20000, limit=60.0, is_whole=False, has_la
     version = max(version, convention(lives))
     for life in lives:
         if life.head[4] > len(profile.board.cores):
-            raise Unreadable(f"its head has {life.head[4]} cores, and the board of the profile {len(profile.board.cores)}")
+            many = len(profile.board.cores)
+            raise Unreadable(f"its head has {life.head[4]} cores, and the board of the profile {many}")
         verdict.remarks += [seen(it, profile, version) for it in life.remarks]
         if has_later or not verdict.differences:
             look_at_life(verdict, life, profile, bound, began + limit, is_whole, has_later)
