@@ -44,7 +44,7 @@ _psci() {
             case $word in
                 -*) mapfile -t COMPREPLY < <(compgen -W "--seeds --out --engine --engine-words --jobs --minutes \
                     --chunk --count --board --boards --model --program --on --command --profile --baseline --down \
-                    --one-thread --payload --target --corpus --length --costs --help" -- "$word") ;;
+                    --one-thread --payload --target --corpus --length --costs --page --help" -- "$word") ;;
                 *) mapfile -t COMPREPLY < <(compgen -f -- "$word") ;;
             esac ;;
         try) mapfile -t COMPREPLY < <(compgen -W "--port --help" -- "$word") ;;

@@ -87,7 +87,7 @@ judged_words() {
     # one record of a firmware tells its version of the calling convention for all
     sed 's/8400000a 84000000 0 0 0/80000000 84000000 0 0 10002/;/^psci: open 0 0 /d' $short > "$work/version.record"
     { cat $profile; echo "functions ours 80000000"; } > "$work/version.profile"
-    judged_as 0 "agrees    version" --profile "$work/version.profile" "$work/version.record" $short
+    judged_as 0 "2 records: 2 agrees" --profile "$work/version.profile" "$work/version.record" $short
     judged_as 6 "2 records: 1 agrees, 1 differs" --profile "$work/version.profile" "$work/version.record" \
         "$work/calls.record"
     judged_as 6 "by version 1.2 of the convention" --profile "$work/version.profile" "$work/version.record" \

@@ -43,7 +43,9 @@ static void ask_in_storm(uint32_t core, const uint64_t x[4]) {
     copy4(entry->behind, x);
     entry->begin = tick();
     entry->kind = KEPT_OPEN;
+    before_call(core, x);
     entry->lost = conduit_call(entry->behind, machine.is_smc);
+    after_call(core, x, entry->behind[0]);
     entry->end = tick();
     come_about(entry, KEPT_CALL);
 }
@@ -66,7 +68,9 @@ void ask(uint32_t core, const uint64_t x[4], enum told told) {
     LINE("open", core, number, begin, x[0], x[1], x[2], x[3]);
     if (told == GOING) add(&done, 1);
     if (told == TOLD) begin = tick();
+    before_call(core, x);
     lost = conduit_call(y, machine.is_smc);
+    after_call(core, x, y[0]);
     end = tick();
     LINE("call", core, number, begin, end, 1, x[0], x[1], x[2], x[3], y[0], y[1], y[2], y[3], lost);
 }
@@ -202,7 +206,7 @@ void booted(const void *tree) {
     boot_level = entry_state().level;
     LINE("head", 1, (uintptr_t)head, (uintptr_t)entries, machine.is_smc, machine.cores, 0);
     interrupts_ready();
-    cores[0].entries = 1;
+    cores[0].entries = cores[0].is_up = 1;
     if (is_of_list) play_all(0);
     else ask(0, (uint64_t[]){SYSTEM_OFF, 0, 0, 0}, ANNOUNCED);
 }
@@ -219,6 +223,8 @@ void entered(uint64_t core, uint64_t at, uint64_t context) {
         LINE("enter", core, mine->number++, time, at, context);
     }
     look_at_state(core);
+    if (!mine->is_up) add(&mine->taken, 1);
+    mine->is_up = 1;
     add(&mine->entries, 1);
     interrupts_ready();
     mine->has_timer = 0;

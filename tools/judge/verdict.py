@@ -5,6 +5,7 @@ from collections import namedtuple
 from . import after
 from .record import EARLY_REGISTERS, Remark, Unreadable, convention
 from .search import Search, Undecided
+from .starts import never_entered
 from .words import KEEPS_EARLY, SYSTEM_OFF2
 
 # operation, what ours answers, and whether an earlier difference of the record came first
@@ -45,8 +46,10 @@ def judged(name, lives, profile, bound=20000, limit=60.0, is_whole=False, has_la
     version = max(version, convention(lives))
     for life in lives:
         if life.head[4] > len(profile.board.cores):
-            raise Unreadable(f"its head has {life.head[4]} cores, and the board of the profile {len(profile.board.cores)}")
+            many = len(profile.board.cores)
+            raise Unreadable(f"its head has {life.head[4]} cores, and the board of the profile {many}")
         verdict.remarks += [seen(it, profile, version) for it in life.remarks]
+        verdict.remarks += never_entered(life, profile.board)
         if has_later or not verdict.differences:
             look_at_life(verdict, life, profile, bound, began + limit, is_whole, has_later)
     verdict.seconds = time.monotonic() - began
