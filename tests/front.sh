@@ -33,7 +33,7 @@ front() {
     has_python ./psci || return 0
     fault=$(cat tests/scripts/lines/event-of-no-form.err)$'\n'$(cat tests/texts/event-of-no-form.told)
     unproved="psci: nothing of this run is proved; ./psci prove proves and builds the program"
-    compiled="psci: compiling it, which takes about half a minute and is kept for the next run"
+    compiled="psci: compiling it, which takes about a minute and is kept for the next run"
     front_of . replay
     expect "./psci replay" 3 "$fault"
     answers "./psci replay"
@@ -157,9 +157,48 @@ wording() {
 by_names() {
     by_python faults-told
     by_python scripts-by-name
+    named_scripts
 }
 
-# scripts by name of a file, a link to ./psci, and streams that are closed or full
+# each word takes a script by name, of a file and by a pipe, and says the same of a fault in it
+named_scripts() {
+    local words script=$work/named
+    has_python ./psci || return 0
+    ./psci show --script examples/start-second-core.psci | sed 's/cpu_on/CPU_ON/' > "$script"
+    grep -q "call 0 CPU_ON core3" "$script" || fail "show --script has no name"
+    cp examples/start-second-core.out "$work/lines"
+    for words in "replay $script" "replay -- $script" "replay - < $script" "replay < $script" "replay < <(cat $script)"; do
+        eval "./psci $words" > "$work/out" 2> "$work/err"
+        answers "./psci $words"
+    done
+    for words in show "show --json" "show --changes" draw "draw --page"; do
+        # shellcheck disable=SC2086
+        ./psci $words examples/start-second-core.psci | sed 's/"line": [^"]*"[^"]*"//' > "$work/lines"
+        # shellcheck disable=SC2086
+        ./psci $words < "$script" | sed 's/"line": [^"]*"[^"]*"//' > "$work/out"
+        [ "${words#*page}" != "$words" ] || answers "./psci $words of a script by name"
+        if [ -s "$work/out" ]; then pass; else fail "./psci $words of a script by name says nothing"; fi
+    done
+    echo "call 0 CPU_OFFF" >> "$script"
+    for words in replay show draw "show --trace"; do
+        # shellcheck disable=SC2086
+        ./psci $words "$script" > "$work/out" 2> "$work/err"
+        echo $? > "$work/got"
+        expect "./psci $words of a faulty name" 3 "line $(wc -l < "$script"): script fault 2
+psci: line $(wc -l < "$script"), column 8: unknown function 'CPU_OFFF': is cpu_off meant?
+    call 0 CPU_OFFF
+           ^
+psci: expected \`call CORE X0 [X1 [X2 [X3]]]\`"
+    done
+    ./psci show --machine examples/boards/rk3399.machine examples/boards/rk3399.calls > "$work/out" 2> "$work/err"
+    echo $? > "$work/got"
+    ./psci plain --machine examples/boards/rk3399.machine < examples/boards/rk3399.calls > "$work/plain"
+    ./psci show "$work/plain" > "$work/lines"
+    expect "./psci show --machine" 0
+    answers "./psci show --machine"
+}
+
+# a file that is named, a link to ./psci, and streams that are closed or full
 files_and_streams() {
     local words
     has_python ./psci || return 0
@@ -209,6 +248,27 @@ files_and_streams() {
     done
     unread
     interrupted
+    lacking
+}
+
+# what is not here is said, and no line of Python
+lacking() {
+    local room=$work/lacking
+    mkdir -p "$room"
+    PATH=$room ./psci help > "$work/out" 2> "$work/err"
+    echo $? > "$work/got"
+    expect "./psci without python3" 1 "psci: there is no python3 here, which ./psci is written in (3.9 or later)"
+    ln -s "$(python3 -c 'import sys; print(sys.executable)')" "$room/python3"
+    PATH=$room ./psci --unproved replay examples/lost-message.psci > "$work/out" 2> "$work/err"
+    echo $? > "$work/got"
+    sed -i 1d "$work/err"
+    expect "./psci without rt" 1 "psci: no program is proved here, and to make one needs the Rattle kit's command rt \
+on the path. README says what one has without the kit"
+    XDG_CACHE_HOME=/dev/null/cache ./psci --unproved replay examples/lost-message.psci > "$work/out" 2> "$work/err"
+    echo $? > "$work/got"
+    sed -i 1,2d "$work/err"
+    expect "./psci without a cache" 1 "psci: what is compiled is kept in /dev/null/cache/gumdarts/unproved: Not a directory; \
+XDG_CACHE_HOME names another folder"
 }
 
 # closed_or_full NAME STATUS FILE REASON: a write fault was told, with the file and why
@@ -257,7 +317,7 @@ long_boards() {
     echo $? > "$work/got"
     sed -i '2,$d' "$work/err"
     expect "a kept storm on a board of $((${#board} + 1)) bytes" 2 \
-        "psci: word 7: --keep is a script, and takes a board of 250 bytes: this has $((${#board} + 1))"
+        "psci: word 8: --keep is a script, and takes a board of 250 bytes: this has $((${#board} + 1))"
     [ "${#board}" = 250 ] || fail "the longest board of the test has ${#board} bytes"
 }
 

@@ -46,7 +46,7 @@ END
         answers "./psci replay after ./psci prove $word"
     done
     front_of "$fresh" threads --seed 1 --count 1
-    echo "psci_cli built of threads --seed 1 --count 1" > "$work/lines"
+    echo "psci_cli built of threads --seed=1 --count=1" > "$work/lines"
     answers "./psci after ./psci prove all"
     tools/repo.py below psci_cli | tr ' ' '\n' | grep -vx psci_cli | sort > "$work/lines"
     find "$work/cache/gumdarts/proved" -name '*.rlib' | sed 's|.*/||; s|\.rlib$||' | sort > "$work/names"

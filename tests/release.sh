@@ -22,15 +22,58 @@ release() {
     (cd "$top_of" && sha256sum -c --quiet SHA256SUMS) > "$work/out" 2>&1 || fail "the sums in the archive"
     (cd "$top_of" && find . -type f ! -name SHA256SUMS ! -path './licenses/*' | sed 's|^\./||' | LC_ALL=C sort) > "$work/out"
     {
-        printf '%s\n' LICENSE README bin/psci lib/x86_64/libpsci_ffi.a lib/aarch64/libpsci_ffi{,-strict-align}.a \
-            share/man/man1/psci.1 share/bash-completion/completions/psci include/psci.h include/psci_ctl.h
+        printf '%s\n' LICENSE README VERSION bin/psci lib/x86_64/libpsci_ffi.a lib/aarch64/libpsci_ffi{,-strict-align}.a \
+            share/man/man1/psci.1 share/bash-completion/completions/psci include/psci.h include/psci_ctl.h \
+            share/zsh/site-functions/_psci share/fish/vendor_completions.d/psci.fish \
+            share/doc/gumdarts/{FORMATS,PORTING,BOARDS,CHANGELOG}.md examples/host/{README,loop.c,pool.c,pool.h}
+        git ls-files 'examples/*.psci' 'examples/*.out' 'examples/boards/*' | grep -E '^examples/[^/]*$|[^d]$' |
+            grep -v '^examples/.*/.*psci'
     } | LC_ALL=C sort > "$work/lines"
     answers "the files of the archive"
     for name in clap itoa memchr; do
         if [ -n "$(find "$top_of/licenses/$name" -type f)" ]; then pass; else fail "the license of $name is not there"; fi
     done
     in_an_empty_folder "$top_of"
-    library_of_the_archive "$top_of"
+    as_said "the archive, unpacked" "$top_of" tests/release-alone "$top_of"
+    own_words "$top_of"
+    in_debian bookworm
+    in_debian trixie
+}
+
+# as_said NAME FOLDER COMMAND..: what the README of the archive says works there
+as_said() {
+    cp tests/programs/linked.cpp "$2/.."
+    if "${@:3}" > "$work/out" 2>&1 && [ "$(tail -n 1 "$work/out")" = "all is as the README says" ]; then pass; else
+        fail "$1: $(tail -n 1 "$work/out")"
+    fi
+}
+
+# the manual page has each option that the program's help names, and no other; so have the completions
+own_words() {
+    local name file
+    for name in "" replay show storm threads; do
+        # shellcheck disable=SC2086
+        "$1/bin/psci" $name --help
+    done | grep -oE -- '^ +(-[hV], )?--[a-z]+' | grep -oE -- '--[a-z]+' | sort -u > "$work/lines"
+    sed 's/\\-/-/g' "$1/share/man/man1/psci.1" | grep -oE -- '--[a-z]+' | sort -u > "$work/out"
+    answers "the options of the archive's manual page"
+    for file in bash-completion/completions/psci zsh/site-functions/_psci; do
+        grep -v '^ *#' "$1/share/$file" | grep -oE -- '[ "]?--[a-z]+' | grep -oE -- '--[a-z]+' | sort -u > "$work/out"
+        answers "the options of the archive's $file"
+    done
+    if man -l --warnings "$1/share/man/man1/psci.1" 2>&1 > /dev/null | grep -q .; then fail "the archive's manual page"; fi
+}
+
+# in_debian SUITE: the archive in a Debian of this suite that has a compiler and nothing else
+in_debian() {
+    local root=$work/$1 kept=${GUMDARTS_CACHE:-$HOME/.cache/gumdarts}/debian/$1.tar
+    [ -e "$kept" ] || { skip "the archive in Debian $1" "$kept"; return; }
+    [ "$(id -u)" = 0 ] || { skip "the archive in Debian $1" "right to be root"; return; }
+    mkdir -p "$root"
+    tar -C "$root" -xf "$kept"
+    tar -C "$root/opt" -xzf "$work/release"/*.tar.gz
+    cp tests/release-alone "$root/opt"
+    as_said "the archive in Debian $1" "$root/opt/." chroot "$root" /opt/release-alone "/opt/$(ls "$root/opt" | grep gumdarts)"
 }
 
 # in_an_empty_folder ARCHIVE: the program answers where there is nothing but it, and the loader and the C
@@ -59,14 +102,4 @@ in_an_empty_folder() {
     if grep -qvE '/(ld-linux-x86-64|libc|libm|libgcc_s)\.so' "$work/needed"; then
         fail "the program needs more than the C library: $(tr '\n' ' ' < "$work/needed")"
     fi
-}
-
-# library_of_the_archive ARCHIVE: a host of this machine is built of what is in it
-library_of_the_archive() {
-    [ -n "$(type -P cc)" ] || { skip "a host of the archive" cc; return; }
-    cp examples/lost-message.out "$work/lines"
-    : > "$work/out"
-    cc -O2 -pthread -I"$1/include" -Ihosts -o "$work/host" hosts/loop.c hosts/pool.c "$1/lib/x86_64/libpsci_ffi.a" \
-        2> "$work/err" && "$work/host" examples/lost-message.psci > "$work/out"
-    answers "a host of the archive"
 }

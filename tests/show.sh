@@ -182,51 +182,90 @@ drawn() {
 
 # the long options that the help of each command names
 options() {
-    { "$program" --help; "$program" storm --help; "$program" threads --help; "$program" show --help; } |
-        grep -oE -- '--[a-z]+' | sort -u
+    local name
+    for name in replay storm threads show draw try plain compare sweep prove "sweep storm" "sweep report"; do
+        # shellcheck disable=SC2086
+        ./psci $name --help
+    done | grep -oE -- '^  --[a-z-]+' | grep -oE -- '--[a-z-]+' | sort -u
 }
 
-# the long options that the help of each view names
-view_options() { for tool in show draw try; do "tools/$tool" --help; done | grep -oE -- '--[a-z]+' | sort -u; }
-
-# bash completes commands and options, and the manual page has every option
+# bash, zsh and fish complete commands, options and paths, by what the commands themselves say that they take, and the
+# manual page has every option
 completed() {
     local option line wanted
     has_python completed || return
+    if tools/completions.py --check > "$work/out"; then pass; else fail "$(head -n 1 "$work/out")"; fi
     while IFS='|' read -r line wanted; do
         bash -c '. completions/psci.bash; COMP_WORDS=($1); COMP_CWORD=$((${#COMP_WORDS[@]} - 1))
             _psci; echo "${COMPREPLY[*]}"' bash "$line" > "$work/out"
         echo "$wanted" > "$work/lines"
         answers "completion of $line"
     done << 'EOF'
-./psci s|storm show sweep
-./psci t|threads try
-./psci threads --|--board --seed --count --counts --keep --help
+./psci s|show storm sweep
+./psci t|try threads
+./psci threads --|--help --board --seed --count --counts --keep
 ./psci storm --se|--seed --seeds
 ./psci storm --seed 1 --co|--count --counts
+./psci storm --keep LIC|LICENSE
 ./psci show --color a|auto always
-./psci draw --|--page --from --to --cores --clock --help
-./psci show --c|--color --cores --changes --clock
+./psci draw --|--help --page --from --to --cores --clock --machine
+./psci show --c|--changes --color --cores --clock
 ./psci show --s|--script
 ./psci replay LIC|LICENSE
+./psci replay --machine examples/boards/rk3399.m|examples/boards/rk3399.machine
+./psci draw x --page > LIC|LICENSE
 ./psci pl|plain
 ./psci help d|draw
 ./psci tr|try
 ./psci c|compare
-./psci compare --|--quick --machine --script --profile --declare --tallies --each --times --baseline --write-baseline --tap --junit --bound --limit --whole --help
+./psci compare --b|--baseline --bound
 ./psci compare --q|--quick
-./psci replay --|--machine --help
+./psci replay --|--help --machine
 ./psci sweep t|threads
 ./psci sweep storm --en|--engine --engine-words
 ./psci sweep storm --engine p|parallel
 ./psci prove l|lib
 ./psci prove lib --target a|aarch64
 EOF
-    for option in $(options) $(view_options) --seeds --unproved --target --quick --script \
-        --out --engine --engine-words --jobs --minutes --chunk --boards --model --costs; do
-        if grep -q -- "$option" completions/psci.bash &&
-            sed 's/\\-/-/g' docs/psci.1 | grep -- "$option" > /dev/null; then pass; else
-            fail "$option is not in completions/psci.bash, or not in docs/psci.1"
-        fi
+    by_fish
+    by_zsh
+    for option in $(options); do
+        if sed 's/\\-/-/g' docs/psci.1 | grep -q -- "$option"; then pass; else fail "$option is not in docs/psci.1"; fi
     done
+}
+
+# what fish completes, without what it says of each
+by_fish() {
+    local line wanted
+    [ -n "$(type -P fish)" ] || { skip "completion by fish" fish; return; }
+    while IFS='|' read -r line wanted; do
+        HOME=$work fish --no-config -c 'source completions/psci.fish; complete -C $argv[1]' "$line" 2> "$work/err" |
+            cut -f 1 | LC_ALL=C sort | tr '\n' ' ' > "$work/out"
+        echo "$wanted " | tr -d '\n' > "$work/lines"
+        answers "completion of $line by fish"
+    done << 'EOF'
+psci s|show storm sweep
+psci storm --se|--seed --seeds
+psci show --color a|always auto
+psci replay LIC|LICENSE
+psci replay --machine LIC|LICENSE
+psci prove l|lib
+EOF
+}
+
+# what zsh completes on a terminal of its own
+by_zsh() {
+    local line wanted
+    [ -n "$(type -P zsh)" ] || { skip "completion by zsh" zsh; return; }
+    while IFS='|' read -r line wanted; do
+        timeout 120 zsh -f tests/completed-by-zsh "$line" > "$work/out" 2> "$work/err"
+        echo "$wanted" > "$work/lines"
+        answers "completion of $line by zsh"
+    done << 'EOF'
+psci swe|psci sweep 
+psci storm --keep LIC|psci storm --keep LICENSE 
+psci show --color=ne|psci show --color=never 
+psci replay LIC|psci replay LICENSE 
+psci draw --pa|psci draw --page 
+EOF
 }

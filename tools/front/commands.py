@@ -197,5 +197,8 @@ def main(given):
     except Stopped as why:
         say(why.text)
         sys.exit(why.status)
+    except OSError as fault:
+        say(f"{fault.filename or 'read or write'}: {fault.strerror}")
+        sys.exit(4)
     except KeyboardInterrupt:
         sys.exit(130)

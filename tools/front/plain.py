@@ -153,10 +153,9 @@ def word_of_any(name):
 
 def called(name, at):
     """The function word of a name in a call, which stands at this place."""
-    name = name.lower()
-    word = word_of_any(name)
+    word = word_of_any(name.lower())
     if word is None:
-        like = near(name, list(FUNCTIONS))
+        like = near(name.lower(), list(FUNCTIONS))
         raise Wrong(at, f"unknown function '{name}'" + (f": is {like[-1]} meant?" if like else ""))
     return word
 

@@ -202,7 +202,7 @@ def replay():
 
 
 def storm_of(words, seeds_too):
-    words.add_argument("--board", metavar="TEXT", help=f"without it {BOARD}")
+    words.add_argument("--board", metavar="TEXT", help="the board; without it two clusters of two cores")
     words.add_argument("--seed", metavar="N", type=number(0, 2 ** 64 - 1), required=not seeds_too,
                        help="what is drawn comes from it, 0 to 18446744073709551615")
     words.add_argument("--count", metavar="N", type=number(0, 10000), required=True,

@@ -16,23 +16,24 @@ differs, or otherwise than the baseline; with 7 where one is undecided and none 
 """
 
 
-def words_of(words):
-    parser = Words("compare", "Judges records of the calls of any PSCI firmware.", "--profile FILE [OPTIONS] RECORD..", ENDING)
-    add = parser.add_argument
+def parser():
+    """What is taken."""
+    found = Words("compare", "Judges records of the calls of any PSCI firmware.", "--profile FILE [OPTIONS] RECORD..", ENDING)
+    add = found.add_argument
     add("records", metavar="RECORD", nargs="+", help="docs/JUDGE.md has its lines")
     add("--profile", metavar="FILE", help="what the firmware declares of itself")
-    parser.flag("--declare", help="print the profile's line of functions, as PSCI_FEATURES has it")
-    parser.flag("--tallies", help="print how often each function had each answer, and in which lists")
-    parser.flag("--each", help="print each difference")
-    parser.flag("--times", help="print the seconds and states of each search")
+    found.flag("--declare", help="print the profile's line of functions, as PSCI_FEATURES has it")
+    found.flag("--tallies", help="print how often each function had each answer, and in which lists")
+    found.flag("--each", help="print each difference")
+    found.flag("--times", help="print the seconds and states of each search")
     add("--baseline", metavar="FILE", help="groups that are known; new and vanished ones fail")
     add("--write-baseline", metavar="FILE", help="keep the groups that were seen")
-    parser.flag("--tap", help="print TAP alone")
+    found.flag("--tap", help="print TAP alone")
     add("--junit", metavar="FILE", help="write JUnit's XML")
     add("--bound", metavar="N", type=number(1, 10 ** 9), default=20000, help="states for one answer, 20000")
     add("--limit", metavar="SECONDS", type=float, default=60, help="seconds for one record, 60")
-    parser.flag("--whole", help="search without reductions from the start")
-    return parser.read(words)
+    found.flag("--whole", help="search without reductions from the start")
+    return found
 
 
 def end(status, text):
@@ -78,7 +79,7 @@ def judge(words, lives_of, peer):
 
 
 def main(words):
-    words = words_of(words)
+    words = parser().read(words)
     try:
         lives_of = []
         for name, path in zip(names_of(words.records), words.records):

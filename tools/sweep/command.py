@@ -44,16 +44,18 @@ def parsed(words):
         kind(words[0])
     except argparse.ArgumentTypeError as why:
         fault(["sweep", *words], 1, why, f"`psci sweep {' | '.join([*every, 'report'])}`; `psci sweep --help` says more")
-    if words[0] == "report":
-        one = Words("sweep report", "Prints the report of what is done.", "[--costs] FOLDER..", ENDING)
-        one.add_argument("folders", metavar="FOLDER", nargs="+", help="of sweeps of one kind, without a seed in common")
-        one.flag("--costs", help="say what it took, too")
-        one.add_argument("--page", metavar="FILE", help="write a page of it, to look at")
-    else:
-        one = of_kind(every[words[0]])
-    found = one.read(words[1:])
+    found = (of_report() if words[0] == "report" else of_kind(every[words[0]])).read(words[1:])
     found.kind = words[0]
     return found
+
+
+def of_report():
+    """What the report takes."""
+    one = Words("sweep report", "Prints the report of what is done.", "[--costs] [--page FILE] FOLDER..", ENDING)
+    one.add_argument("folders", metavar="FOLDER", nargs="+", help="of sweeps of one kind, without a seed in common")
+    one.flag("--costs", help="say what it took, too")
+    one.add_argument("--page", metavar="FILE", help="write a page of it, to look at")
+    return one
 
 
 def of_kind(kind):

@@ -1,0 +1,110 @@
+# Completion of `psci` for fish, which tools/completions.py writes: ~/.config/fish/completions has this file.
+
+complete -c psci -f
+complete -c psci -n __fish_use_subcommand -a replay
+complete -c psci -n __fish_use_subcommand -a show
+complete -c psci -n __fish_use_subcommand -a draw
+complete -c psci -n __fish_use_subcommand -a try
+complete -c psci -n __fish_use_subcommand -a plain
+complete -c psci -n __fish_use_subcommand -a storm
+complete -c psci -n __fish_use_subcommand -a threads
+complete -c psci -n __fish_use_subcommand -a compare
+complete -c psci -n __fish_use_subcommand -a prove
+complete -c psci -n __fish_use_subcommand -a sweep
+complete -c psci -n __fish_use_subcommand -a help
+complete -c psci -n __fish_use_subcommand -a --unproved
+complete -c psci -n __fish_use_subcommand -a --help
+complete -c psci -n __fish_use_subcommand -a --version
+complete -c psci -n '__fish_seen_subcommand_from replay' -F
+complete -c psci -n '__fish_seen_subcommand_from replay' -l help -d 'print this'
+complete -c psci -n '__fish_seen_subcommand_from replay' -l machine -r -F -d 'the calls are those of the machine that this file describes (docs/BOARDS.md)'
+complete -c psci -n '__fish_seen_subcommand_from show' -F
+complete -c psci -n '__fish_seen_subcommand_from show' -l help -d 'print this'
+complete -c psci -n '__fish_seen_subcommand_from show' -l json -d 'an object for the board, and one for each event'
+complete -c psci -n '__fish_seen_subcommand_from show' -l changes -d 'of each event what changed'
+complete -c psci -n '__fish_seen_subcommand_from show' -l script -d 'the run as a script by name'
+complete -c psci -n '__fish_seen_subcommand_from show' -l trace -d 'a JSON trace, which Perfetto and the browser'\''s viewer open'
+complete -c psci -n '__fish_seen_subcommand_from show' -l vcd -d 'value changes, which wave viewers open'
+complete -c psci -n '__fish_seen_subcommand_from show' -l legend -d 'say first what letters and marks mean'
+complete -c psci -n '__fish_seen_subcommand_from show' -l width -x -d 'how wide lines are, from 40'
+complete -c psci -n '__fish_seen_subcommand_from show' -l color -x -a 'auto always never' -d 'auto, always or never'
+complete -c psci -n '__fish_seen_subcommand_from show' -l from -x -d 'begins with event N'
+complete -c psci -n '__fish_seen_subcommand_from show' -l to -x -d 'ends with event N'
+complete -c psci -n '__fish_seen_subcommand_from show' -l cores -x -d 'these cores, as 0-3,8, what is above them, and the events of these'
+complete -c psci -n '__fish_seen_subcommand_from show' -l clock -r -F -d 'when each event happened, in nanoseconds, an event a line'
+complete -c psci -n '__fish_seen_subcommand_from show' -l machine -r -F -d 'the calls are those of the machine that this file describes (docs/BOARDS.md)'
+complete -c psci -n '__fish_seen_subcommand_from draw' -F
+complete -c psci -n '__fish_seen_subcommand_from draw' -l help -d 'print this'
+complete -c psci -n '__fish_seen_subcommand_from draw' -l page -d 'a page for runs of any size, to zoom, step and search in'
+complete -c psci -n '__fish_seen_subcommand_from draw' -l from -x -d 'begins with event N'
+complete -c psci -n '__fish_seen_subcommand_from draw' -l to -x -d 'ends with event N'
+complete -c psci -n '__fish_seen_subcommand_from draw' -l cores -x -d 'these cores, as 0-3,8, what is above them, and the events of these'
+complete -c psci -n '__fish_seen_subcommand_from draw' -l clock -r -F -d 'when each event happened, in nanoseconds, an event a line'
+complete -c psci -n '__fish_seen_subcommand_from draw' -l machine -r -F -d 'the calls are those of the machine that this file describes (docs/BOARDS.md)'
+complete -c psci -n '__fish_seen_subcommand_from try' -F
+complete -c psci -n '__fish_seen_subcommand_from try' -l help -d 'print this'
+complete -c psci -n '__fish_seen_subcommand_from try' -l port -x -d 'the port of the page; without it any that is free'
+complete -c psci -n '__fish_seen_subcommand_from plain' -F
+complete -c psci -n '__fish_seen_subcommand_from plain' -l help -d 'print this'
+complete -c psci -n '__fish_seen_subcommand_from plain' -l machine -r -F -d 'the calls are those of the machine that this file describes (docs/BOARDS.md)'
+complete -c psci -n '__fish_seen_subcommand_from storm' -l help -d 'print this'
+complete -c psci -n '__fish_seen_subcommand_from storm' -l board -x -d 'the board; without it two clusters of two cores'
+complete -c psci -n '__fish_seen_subcommand_from storm' -l seed -x -d 'what is drawn comes from it, 0 to 18446744073709551615'
+complete -c psci -n '__fish_seen_subcommand_from storm' -l count -x -d 'events, or calls of each core, 0 to 10000'
+complete -c psci -n '__fish_seen_subcommand_from storm' -l counts -d 'a line more for each tally, or for each core'
+complete -c psci -n '__fish_seen_subcommand_from storm' -l keep -r -F -d 'write the run into this file, as a script'
+complete -c psci -n '__fish_seen_subcommand_from storm' -l seeds -x -d 'a storm of each of these, a line for each'
+complete -c psci -n '__fish_seen_subcommand_from threads' -l help -d 'print this'
+complete -c psci -n '__fish_seen_subcommand_from threads' -l board -x -d 'the board; without it two clusters of two cores'
+complete -c psci -n '__fish_seen_subcommand_from threads' -l seed -x -d 'what is drawn comes from it, 0 to 18446744073709551615'
+complete -c psci -n '__fish_seen_subcommand_from threads' -l count -x -d 'events, or calls of each core, 0 to 10000'
+complete -c psci -n '__fish_seen_subcommand_from threads' -l counts -d 'a line more for each tally, or for each core'
+complete -c psci -n '__fish_seen_subcommand_from threads' -l keep -r -F -d 'write the run into this file, as a script'
+complete -c psci -n '__fish_seen_subcommand_from compare' -F
+complete -c psci -n '__fish_seen_subcommand_from compare' -l help -d 'print this'
+complete -c psci -n '__fish_seen_subcommand_from compare' -l quick -d 'leave the second model out'
+complete -c psci -n '__fish_seen_subcommand_from compare' -l machine -r -F -d 'the calls are those of the machine that this file describes (docs/BOARDS.md)'
+complete -c psci -n '__fish_seen_subcommand_from compare' -l script -r -F -d 'keep the run as a script, and the port'\''s answers in FILE.out'
+complete -c psci -n '__fish_seen_subcommand_from compare' -l profile -r -F -d 'what the firmware declares of itself'
+complete -c psci -n '__fish_seen_subcommand_from compare' -l declare -d 'print the profile'\''s line of functions, as PSCI_FEATURES has it'
+complete -c psci -n '__fish_seen_subcommand_from compare' -l tallies -d 'print how often each function had each answer, and in which lists'
+complete -c psci -n '__fish_seen_subcommand_from compare' -l each -d 'print each difference'
+complete -c psci -n '__fish_seen_subcommand_from compare' -l times -d 'print the seconds and states of each search'
+complete -c psci -n '__fish_seen_subcommand_from compare' -l baseline -r -F -d 'groups that are known; new and vanished ones fail'
+complete -c psci -n '__fish_seen_subcommand_from compare' -l write-baseline -r -F -d 'keep the groups that were seen'
+complete -c psci -n '__fish_seen_subcommand_from compare' -l tap -d 'print TAP alone'
+complete -c psci -n '__fish_seen_subcommand_from compare' -l junit -r -F -d 'write JUnit'\''s XML'
+complete -c psci -n '__fish_seen_subcommand_from compare' -l bound -x -d 'states for one answer, 20000'
+complete -c psci -n '__fish_seen_subcommand_from compare' -l limit -x -d 'seconds for one record, 60'
+complete -c psci -n '__fish_seen_subcommand_from compare' -l whole -d 'search without reductions from the start'
+complete -c psci -n '__fish_seen_subcommand_from prove' -a 'all lib'
+complete -c psci -n '__fish_seen_subcommand_from prove' -l help -d 'print this'
+complete -c psci -n '__fish_seen_subcommand_from prove' -l target -x -a 'x86_64 aarch64' -d 'of lib: x86_64, or aarch64'
+complete -c psci -n '__fish_seen_subcommand_from sweep' -F
+complete -c psci -n '__fish_seen_subcommand_from sweep' -a 'storm threads lists beside fuzz report'
+complete -c psci -n '__fish_seen_subcommand_from sweep' -l help -d 'print this'
+complete -c psci -n '__fish_seen_subcommand_from sweep' -l seeds -x -d 'each of at most 18 digits'
+complete -c psci -n '__fish_seen_subcommand_from sweep' -l out -r -F -d 'where results go, and where a sweep goes on'
+complete -c psci -n '__fish_seen_subcommand_from sweep' -l engine -x -a 'local slurm parallel' -d 'local (without it), slurm, parallel'
+complete -c psci -n '__fish_seen_subcommand_from sweep' -l engine-words -x -d 'further words of sbatch or parallel'
+complete -c psci -n '__fish_seen_subcommand_from sweep' -l jobs -x -d 'chunks at the same time'
+complete -c psci -n '__fish_seen_subcommand_from sweep' -l minutes -x -d 'about how long a chunk takes, 3'
+complete -c psci -n '__fish_seen_subcommand_from sweep' -l chunk -x -d 'seeds of a chunk, in place of a guess'
+complete -c psci -n '__fish_seen_subcommand_from sweep' -l count -x -d 'inputs of a seed: 100000'
+complete -c psci -n '__fish_seen_subcommand_from sweep' -l board -x -d 'a board; may stand more than once'
+complete -c psci -n '__fish_seen_subcommand_from sweep' -l boards -r -F -d 'boards, with lines '\''board NAME TEXT'\'''
+complete -c psci -n '__fish_seen_subcommand_from sweep' -l model -d 'hold each run to the second model, answer by answer'
+complete -c psci -n '__fish_seen_subcommand_from sweep' -l program -r -F -d 'a program in place of ours'
+complete -c psci -n '__fish_seen_subcommand_from sweep' -l on -x -d 'a machine of hosts/payload/run, as qemu'
+complete -c psci -n '__fish_seen_subcommand_from sweep' -l command -x -d 'what boots the payload; IMAGE stands for its file'
+complete -c psci -n '__fish_seen_subcommand_from sweep' -l profile -r -F -d 'what the firmware declares of itself (docs/JUDGE.md)'
+complete -c psci -n '__fish_seen_subcommand_from sweep' -l baseline -r -F -d 'groups that are known, and no difference'
+complete -c psci -n '__fish_seen_subcommand_from sweep' -l down -d 'lists with power-downs, too'
+complete -c psci -n '__fish_seen_subcommand_from sweep' -l one-thread -d 'QEMU runs all cores in turn, and counts instructions for a clock'
+complete -c psci -n '__fish_seen_subcommand_from sweep' -l payload -r -F -d 'what make -C hosts/payload built'
+complete -c psci -n '__fish_seen_subcommand_from sweep' -l target -r -F -d 'a target with libFuzzer, as hosts/beside/build makes it'
+complete -c psci -n '__fish_seen_subcommand_from sweep' -l length -x -d 'bytes of an input at most: 400'
+complete -c psci -n '__fish_seen_subcommand_from sweep' -l corpus -r -F -d 'inputs that each seed begins with; may stand more than once'
+complete -c psci -n '__fish_seen_subcommand_from sweep' -l costs -d 'say what it took, too'
+complete -c psci -n '__fish_seen_subcommand_from sweep' -l page -r -F -d 'write a page of it, to look at'
+complete -c psci -n '__fish_seen_subcommand_from help' -a 'replay show draw try plain storm threads compare sweep prove'
