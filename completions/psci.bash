@@ -15,7 +15,7 @@ _psci() {
     done
     COMPREPLY=()
     case "$command $before" in
-        "replay --machine" | "show --clock" | "show --machine" | "draw --clock" | "draw --machine" | "plain --machine" | "storm --keep" | "threads --keep" | "compare --machine" | "compare --script" | "compare --profile" | "compare --baseline" | "compare --write-baseline" | "compare --junit" | "sweep --out" | "sweep --boards" | "sweep --program" | "sweep --profile" | "sweep --baseline" | "sweep --payload" | "sweep --target" | "sweep --corpus" | *" <" | *" >") _psci_files; return ;;
+        "replay --machine" | "show --clock" | "show --machine" | "draw --clock" | "draw --machine" | "plain --machine" | "storm --keep" | "threads --keep" | "compare --machine" | "compare --script" | "compare --profile" | "compare --baseline" | "compare --write-baseline" | "compare --junit" | "sweep --out" | "sweep --boards" | "sweep --program" | "sweep --profile" | "sweep --baseline" | "sweep --payload" | "sweep --target" | "sweep --corpus" | "sweep --page" | *" <" | *" >") _psci_files; return ;;
         "show --width" | "show --from" | "show --to" | "show --cores" | "draw --from" | "draw --to" | "draw --cores" | "try --port" | "storm --board" | "storm --seed" | "storm --count" | "storm --seeds" | "threads --board" | "threads --seed" | "threads --count" | "compare --bound" | "compare --limit" | "sweep --seeds" | "sweep --engine-words" | "sweep --jobs" | "sweep --minutes" | "sweep --chunk" | "sweep --count" | "sweep --board" | "sweep --on" | "sweep --command" | "sweep --length") return ;;
         "show --color") _psci_words auto always never; return ;;
         "prove --target") _psci_words x86_64 aarch64; return ;;
@@ -35,7 +35,7 @@ _psci() {
         threads) _psci_words --help --board --seed --count --counts --keep ;;
         compare) _psci_words --help --quick --machine --script --profile --declare --tallies --each --times --baseline --write-baseline --tap --junit --bound --limit --whole; _psci_files ;;
         prove) _psci_words all lib --help --target ;;
-        sweep) _psci_words storm threads lists beside fuzz report --help --seeds --out --engine --engine-words --jobs --minutes --chunk --count --board --boards --model --program --on --command --profile --baseline --down --one-thread --payload --target --length --corpus --costs; _psci_files ;;
+        sweep) _psci_words storm threads lists beside fuzz report --help --seeds --out --engine --engine-words --jobs --minutes --chunk --count --board --boards --model --program --on --command --profile --baseline --down --one-thread --payload --target --length --corpus --costs --page; _psci_files ;;
         help) _psci_words replay show draw try plain storm threads compare sweep prove ;;
     esac
 }

@@ -106,4 +106,5 @@ complete -c psci -n '__fish_seen_subcommand_from sweep' -l target -r -F -d 'a ta
 complete -c psci -n '__fish_seen_subcommand_from sweep' -l length -x -d 'bytes of an input at most: 400'
 complete -c psci -n '__fish_seen_subcommand_from sweep' -l corpus -r -F -d 'inputs that each seed begins with; may stand more than once'
 complete -c psci -n '__fish_seen_subcommand_from sweep' -l costs -d 'say what it took, too'
+complete -c psci -n '__fish_seen_subcommand_from sweep' -l page -r -F -d 'write a page of it, to look at'
 complete -c psci -n '__fish_seen_subcommand_from help' -a 'replay show draw try plain storm threads compare sweep prove'

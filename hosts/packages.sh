@@ -1,14 +1,24 @@
 # Debian packages for guests, sourced by qemu/run, el3/run and tfa/run, which have `say`, `stop` and `cache`.
 # It installs nothing and needs no rights: apt gets lists of its own, in the folder $cache/apt.
 mirror=http://deb.debian.org/debian
+release=bookworm kernels='6.1.0-[0-9]+' xen=4.17
+
+# of_release NAME: the packages of this release of Debian: bookworm's, as without, or trixie's, in a folder of their own
+of_release() {
+    case $1 in
+        bookworm) ;;
+        trixie) release=trixie kernels='6.12.[0-9]+[+]deb13' xen=4.20 cache=${cache%/trixie}/trixie ;;
+        *) stop "there is no release $1; there are bookworm and trixie" ;;
+    esac
+}
 
 own_apt() {
     local apt=$cache/apt
     mkdir -p "$apt/lists/partial" "$apt/archives/partial"
     : > "$apt/status"
     cat > "$apt/sources" <<LIST
-deb [signed-by=/usr/share/keyrings/debian-archive-keyring.gpg] $mirror bookworm main
-deb-src [signed-by=/usr/share/keyrings/debian-archive-keyring.gpg] $mirror bookworm main
+deb [signed-by=/usr/share/keyrings/debian-archive-keyring.gpg] $mirror $release main
+deb-src [signed-by=/usr/share/keyrings/debian-archive-keyring.gpg] $mirror $release main
 LIST
     cat > "$apt/conf" <<CONF
 Dir::Etc::SourceList "$apt/sources"; Dir::Etc::SourceParts "-";
@@ -25,15 +35,17 @@ has_guest() {
 
 # A kernel and busybox for arm64, unpacked into $cache/packages.
 fetch_guest() {
-    local image kernels='^linux-image-6.1.0-[0-9]+-cloud-arm64$'
+    local image wanted="^linux-image-$kernels-cloud-arm64\$"
     mkdir -p "$cache"
     cd "$cache"
     own_apt
-    say "downloading a kernel (21 MB) and busybox"
-    image=$(apt-cache search --names-only "$kernels" | sort -V | tail -n 1)
-    apt-get download -qq "${image%% *}" || stop "no package $kernels can be had"
+    say "downloading a kernel of $release (21 MB) and busybox"
+    image=$(apt-cache search --names-only "$wanted" | sort -V | tail -n 1)
+    apt-get download -qq "${image%% *}" || stop "no package $wanted can be had"
     apt-get download -qq busybox-static || stop "no package busybox-static of arm64 can be had"
     for image in linux-image-*.deb busybox-static*.deb; do dpkg-deb -x "$image" packages; done
+    mkdir -p packages/bin
+    [ -e packages/bin/busybox ] || ln -s ../usr/bin/busybox packages/bin/busybox # there it is from trixie on
     cd - > /dev/null
 }
 
@@ -41,7 +53,7 @@ has_kexec() { [ -e "$cache/kexec/fetched" ]; }
 
 # The command kexec of the guest, with the libraries that it names, into $cache/kexec.
 fetch_kexec() {
-    local package packages=(kexec-tools libc6 zlib1g libxenmisc4.17 libxencall1 libxentoolcore1
+    local package packages=(kexec-tools libc6 zlib1g "libxenmisc$xen" libxencall1 libxentoolcore1
         libxendevicemodel1 libxenevtchn1 libxenforeignmemory1 libxengnttab1 libxentoollog1)
     mkdir -p "$cache/kexec"
     cd "$cache/kexec"
@@ -58,9 +70,9 @@ fetch_kexec() {
 # for_kexec KERNEL INITRAMFS [NAME=FILE..]: makes the guest's file system anew with what it needs for
 # kexec: the command, its libraries, the kernel, and the file system as it was. NAMEs are in both.
 for_kexec() {
-    local hosts library libraries=(ld-linux-aarch64.so.1 libc.so.6 libz.so.1 libxenctrl.so.4.17) further
+    local hosts library libraries=(ld-linux-aarch64.so.1 libc.so.6 libz.so.1 "libxenctrl.so.$xen") further
     libraries+=(libxen{call,toolcore,devicemodel,evtchn,foreignmemory,gnttab,toollog}.so.1)
-    further=(kernel="$1" initramfs="$2" bin/kexec="$cache/kexec/sbin/kexec" "${@:3}")
+    further=(kernel="$1" initramfs="$2" bin/kexec="$(find "$cache/kexec" -path "*/sbin/kexec" -print -quit)" "${@:3}")
     for library in "${libraries[@]}"; do
         further+=("lib/$library=$(find "$cache/kexec" -name "$library" -print -quit)")
     done
@@ -71,12 +83,17 @@ for_kexec() {
 
 has_tfa() { [ -d "$cache/tfa/source" ]; }
 
+# Which version it is of.
+tfa_version() {
+    sed -nE 's/^VERSION_(MAJOR|MINOR)\s*:=\s*//p' "$cache/tfa/source/Makefile" | paste -s -d .
+}
+
 # The source of TF-A, into $cache/tfa/source.
 fetch_tfa() {
     mkdir -p "$cache/tfa"
     cd "$cache/tfa"
     own_apt
-    say "downloading TF-A's source (5 MB)"
+    say "downloading TF-A's source of $release (5 MB)"
     apt-get source -qq --download-only arm-trusted-firmware ||
         stop "the source package arm-trusted-firmware can't be had"
     dpkg-source -x arm-trusted-firmware_*.dsc unpacked > unpacked.log 2>&1 ||

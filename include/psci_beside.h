@@ -30,10 +30,11 @@ struct psci_beside_event {
     uint64_t x[4];   /* of a call */
 };
 
-/* What a side did. `what` is PSCI_RETURN to PSCI_RESUME of psci.h, or one of these two. */
+/* What a side did. `what` is PSCI_RETURN to PSCI_RESUME of psci.h, or one of these. */
 enum {
     PSCI_BESIDE_ENDS = 4,    /* the system goes off or is reset */
     PSCI_BESIDE_NOTHING = 5, /* the core does not execute; a message or a wake-up has no effect */
+    PSCI_BESIDE_LOOPS = 6,   /* the peer did not come back: psci_beside_loops has ended it */
 };
 
 struct psci_beside_did {
@@ -95,23 +96,26 @@ struct psci_beside_profile {
     struct psci_beside_state states[PSCI_BESIDE_MOST];
 };
 
-/* A difference. `key` is its group: function, cause, and both answers, where the cause is what is left of
- * the call once all is taken out of it that doesn't matter. */
+/* A difference. `key` is its group: function, mode, cause, and what both did, with the states that were told.
+ * The cause is what is left of the call once all is taken out of it that doesn't matter; a side that would
+ * have answered a call without its one odd argument alike is said to do "as without it". */
 struct psci_beside_difference {
     struct psci_beside_event event;
     const char *function; /* the name of the function that was called; null of another event or function */
     struct psci_beside_did ours, theirs;
-    char key[160];
+    char key[200];
     const char *clause; /* the definition that our answer follows from, in crates/psci_fw_spec/specs */
     bool is_undone;     /* neither side did it, and the list goes on */
 };
 
 /* What a list has come to: what is kept beside the library, and put back where a call is undone. */
 struct psci_beside_now {
-    uint32_t life, events, messages, acks, differences;
+    uint32_t life, events, messages, acks, differences, mode;
     bool lacks;
     uint8_t place[PSCI_MOST_CORES], wakes[PSCI_MOST_CORES], waits[PSCI_MOST_CORES];
-    uint8_t low[PSCI_MOST_CORES], odd[PSCI_MOST_CORES], status[PSCI_MOST_CORES];
+    uint8_t low[PSCI_MOST_CORES], status[PSCI_MOST_CORES];
+    uint8_t asks[PSCI_MOST_CORES][4];   /* of a core that stopped: the depths that it asked for */
+    uint16_t opening[PSCI_MOST_CORES];  /* which event said where the core enters next; 0 none, counted from 1 */
 };
 
 struct psci_beside {
@@ -126,6 +130,9 @@ struct psci_beside {
     struct psci_beside_event events[PSCI_BESIDE_EVENTS];
     struct psci_frame messages[PSCI_BESIDE_EVENTS], acks[PSCI_BESIDE_EVENTS];
     struct psci_beside_difference difference;
+    struct psci_beside_event at; /* the event that the peer is at, what ours did of it, and why a core enters */
+    struct psci_beside_did ours;
+    uint32_t why;
 };
 
 /* How many bytes it takes for a board of so many cores, and the opening, over memory that is aligned to
@@ -147,6 +154,14 @@ enum {
     PSCI_BESIDE_PARTED = 4,  /* they differ, and can't be brought together again */
 };
 uint32_t psci_beside_do(struct psci_beside *, const struct psci_beside_event *);
+
+/* The peer did not come back from the event of the last psci_beside_do, which the caller has left by a jump:
+ * that is a difference, which undoes the event if the peer has `save`. */
+uint32_t psci_beside_loops(struct psci_beside *);
+
+/* What a side did of an event, in words. */
+void psci_beside_say(const struct psci_beside *, const struct psci_beside_event *,
+                     const struct psci_beside_did *, char *text, size_t size);
 
 /* The story up to here as a script, with the event of the last difference at its end if that was undone.
  * Returns the length; what does not fit is left out. */

@@ -75,6 +75,16 @@ static void difference(const char *key, const char *function, const char *clause
     holds(d->is_undone, "it is not undone");
 }
 
+/* What both did, in words. */
+static void says(const char *ours, const char *theirs) {
+    const struct psci_beside_difference *d = &side.difference;
+    char text[200];
+    psci_beside_say(&side, &d->event, &d->ours, text, sizeof text);
+    holds(strcmp(text, ours) == 0, text);
+    psci_beside_say(&side, &d->event, &d->theirs, text, sizeof text);
+    holds(strcmp(text, theirs) == 0, text);
+}
+
 static void plays(void) {
     char story[1024];
     psci_beside_begin(&side);
@@ -84,7 +94,8 @@ static void plays(void) {
     holds(does(PSCI_BESIDE_CALL, 0, CPU_ON, 0x101, 0x40000400, 7) == PSCI_BESIDE_ALIKE, "CPU_ON");
     holds(psci_beside_is_started(&side, 3), "core 3 is not started");
     holds(does(PSCI_BESIDE_ENTER, 3, 0, 0, 0, 0) == PSCI_BESIDE_DIFFERS, "the context id is not missed");
-    difference("entry by CPU_ON: another context id", NULL, "Entering.outcome_at");
+    difference("entry by CPU_ON: the context id is 0", NULL, "Entering.outcome_at");
+    says("enters at 0x40000400 with the context id 0x7", "enters at 0x40000400 with the context id 0x0");
     holds(side.difference.ours.context == 7 && side.difference.theirs.context == 0, "both context ids");
     psci_beside_story(&side, story, sizeof story);
     holds(strcmp(story, "board " BOARD "\nenter 0\ncall 0 0x84000000 0x0 0x0 0x0\n"
@@ -93,6 +104,7 @@ static void plays(void) {
     holds(does(PSCI_BESIDE_CALL, 0, CPU_ON, 0x101, 0x40000400, 7) == PSCI_BESIDE_DIFFERS, "a pending core");
     difference("CPU_ON of what is ON_PENDING: ours -5, theirs -4", "CPU_ON", "CpuOn.cpu_on");
     holds((int32_t)side.difference.ours.x0 == -5 && (int32_t)side.difference.theirs.x0 == ALREADY_ON, "both codes");
+    says("returns -5 (ON_PENDING)", "returns -4 (ALREADY_ON)");
     holds(does(PSCI_BESIDE_CALL, 0, CPU_OFF, 0, 0, 0) == PSCI_BESIDE_ALIKE, "a function that neither has");
 }
 

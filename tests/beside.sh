@@ -33,6 +33,80 @@ own_beside() {
     done < "$beside/peers/own/faults"
 }
 
+# each bit of each register, by the commit one of 64 parts of the faults that hosts/beside/bits plants, in the library and
+# in each peer whose sources are here; draws without upper halves have to be told
+bits_beside() {
+    local part peers=(own) peer
+    part=$((16#$(git rev-parse --short=6 HEAD 2> /dev/null || echo 0) % 64 + 1))
+    for peer in kvm qemu tfa xen; do ! has_sources "$peer" || peers+=("$peer"); done
+    if "$beside/bits" --part "$part/64" "${peers[@]}" > "$work/out" 2>&1; then pass; else
+        fail "$beside/bits --part $part/64 ${peers[*]}"
+        tail -n 20 "$work/out"
+    fi
+    sed 's/rarely(8) ? wild() >> 32 << 32 : 0/0/' "$beside/draws.c" > "$work/draws.c"
+    DRAWS=$work/draws.c "$beside/bits" --seconds 1 --only 'CPU_ON: bit 4[0-2] of x1' own > "$work/out" 2>&1
+    if [ $? = 1 ] && [ "$(grep -c '^own: not found: ' "$work/out")" = 3 ]; then pass; else
+        fail "$beside/bits: draws without upper halves are not told"
+        tail -n 5 "$work/out"
+    fi
+}
+
+has_sources() {
+    [ -d "${GUMDARTS_CACHE:-$HOME/.cache/gumdarts}/beside/$(sed -n 's/^package=//p' "$beside/peers/$1/build")" ]
+}
+
+# a report is there from the first group on, though the process is killed; a call that never comes back is ended
+report_beside() {
+    local loops='s/^    obey(core, x\[0\], &answer, did);/    while ((uint32_t)x[0] == 0x84000008) __asm__ volatile("");\n&/'
+    echo "$loops" > "$work/edit"
+    build_beside own loops "$work/edit" || return
+    { BESIDE_REPORT=$work/loops timeout -s KILL 6 "$work/beside/loops" --draws 1000000 > "$work/out" 2>&1 || true; } 2> /dev/null
+    if grep -q '^+ SYSTEM_OFF: ours stops, theirs does not come back$' "$work/loops" &&
+        grep -q '^  theirs: does not come back$' "$work/loops" && grep -q '^  by: SystemCalls.system_message: the core' "$work/loops"
+    then pass; else
+        fail "$beside: a port that loops"
+        tail -n 5 "$work/out"
+    fi
+}
+
+# baseline_beside NAME EDIT EDIT: what a port with the first edit differs in is known then; so it shows nothing new,
+# and one with the other edit does
+baseline_beside() {
+    echo "$2" > "$work/edit"
+    build_beside own first "$work/edit" || return
+    BESIDE_REPORT=$work/known "$work/beside/first" --draws 4000 > "$work/out" 2>&1
+    export REPORT=$work/known
+    if build_beside own first "$work/edit" && "$work/beside/first" --draws 4000 > "$work/out" 2>&1; then pass; else
+        fail "$beside: what is known is told: $1"
+        tail -n 3 "$work/out"
+    fi
+    echo "$3" > "$work/edit"
+    build_beside own second "$work/edit" && { "$work/beside/second" --draws 4000 > "$work/out" 2>&1 || true; } 2> /dev/null
+    unset REPORT
+    if grep -q '^beside: a new group' "$work/out"; then pass; else
+        fail "$beside: a known group hides this: $1"
+        tail -n 3 "$work/out"
+    fi
+}
+
+# what is known hides nothing else: other states, and the same in the other mode; and what has vanished is told
+known_beside() {
+    local call='^    obey(core, x\[0\], &answer, did);' mode
+    mode='if ((uint32_t)x[0] == 0x8400000f \&\& answer.code == 0) mode = (uint32_t)x[1];'
+    baseline_beside "CPU_OFF claims cluster and system" \
+        "s/$call/&\\n    if (x[0] == 0x84000002) did->depths[2] = 3;/" \
+        "s/$call/&\\n    if (x[0] == 0x84000002) did->depths[1] = did->depths[2] = 3;/"
+    baseline_beside "a suspend is refused in OS-initiated mode" \
+        "s/^struct port port;/&\\nstatic uint32_t mode;/;s/$call/    $mode\\n&\\n    if (x[0] == 0xc4000001 \\&\\& !mode) did->what = 0, did->x0 = -3ul;/" \
+        "s/$call/&\\n    if (x[0] == 0xc4000001) did->what = 0, did->x0 = -3ul;/"
+    printf '= never seen\n  seen: in 900 of 1000 lists\n= seldom seen\n  seen: in 1 of 1000 lists\n' > "$work/known"
+    REPORT=$work/known build_beside own first &&
+        BESIDE_REPORT=$work/vanished "$work/beside/first" --draws 100 > "$work/out" 2>&1
+    if grep -q '^beside: a group has vanished: never seen$' "$work/out" && [ "$(grep -c '^- ' "$work/vanished")" = 1 ]; then pass; else
+        fail "$beside: a group that has vanished is not told"
+    fi
+}
+
 # the same on boards of many cores, of many levels and of the extended format, with a fault for each that has
 # to show there
 boards_beside() {
@@ -80,7 +154,7 @@ compiled_beside() {
         pass || fail "the library as it is compiled without a proof, beside itself"
     built_archive rattle && OTHER=$archives/rattle.a build_beside own by-rattle && has_own_stories by-rattle && pass ||
         fail "the library as the kit's other compiler makes it, beside itself"
-    has_clang_runtime || { skip "the library with a sanitizer" "clang with libclang-rt-14-dev"; return; }
+    has_clang_runtime || { skip "the library with a sanitizer" "clang with libclang-rt-dev"; return; }
     built_archive sanitized && sanitized_beside "$archives/sanitized.a"
 }
 
@@ -177,7 +251,7 @@ swept_beside() {
 
 # what was found of a peer stays found: each story is a script, whether its sources are here or not
 stories_beside() {
-    local peer cache=${GUMDARTS_CACHE:-$HOME/.cache/gumdarts}/beside
+    local peer
     if "$beside/scripts" --check kvm qemu tfa xen > "$work/out"; then pass; else
         fail "$beside/scripts --check"
         cat "$work/out"
@@ -187,7 +261,7 @@ stories_beside() {
         fail "$beside/scripts --check: a story without a script is not told"
     fi
     for peer in kvm qemu tfa xen; do
-        if [ ! -d "$cache/$(sed -n 's/^package=//p' "$beside/peers/$peer/build")" ]; then
+        if ! has_sources "$peer"; then
             skip "the stories of $peer" "source package of it"
             continue
         fi
@@ -196,6 +270,12 @@ stories_beside() {
         if "$work/beside/$peer" --stories "$beside/peers/$peer/report" > "$work/out" 2>&1 &&
             "$work/beside/$peer" "$work/beside/inputs-$peer"/* >> "$work/out" 2>&1; then pass; else
             fail "$beside/peers/$peer/report"
+            tail -n 5 "$work/out"
+        fi
+        sed 's/^  | enter 0$/&\n  | call 0 0x84000000 0x0 0x0 0x0/' "$beside/peers/$peer/report" > "$work/report"
+        if ! "$work/beside/$peer" --stories "$work/report" > "$work/out" 2>&1 &&
+            [ "$(grep -c '^event . can go: ' "$work/out")" = "$(grep -c '^= ' "$work/report")" ]; then pass; else
+            fail "$beside: an event that a story of $peer doesn't need is not told"
             tail -n 5 "$work/out"
         fi
     done
@@ -220,6 +300,9 @@ in_one_process() {
     has_cc "peers in one process" && has_python "peers in one process" && has_xz "peers in one process" || return
     unit_beside
     own_beside
+    bits_beside
+    report_beside
+    known_beside
     boards_beside
     swept_beside
     bytes_beside

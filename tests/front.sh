@@ -42,7 +42,8 @@ front() {
     front_of "$fresh" replay
     expect "./psci replay without a proved program" 3 "$unproved"$'\n'"$compiled"$'\n'"$fault"
     answers "./psci replay without a proved program"
-    begun=$(processor_time)
+    processor_time
+    begun=$spent
     front_of . --unproved replay
     expect "./psci --unproved replay, the second time" 3 "$unproved"$'\n'"$fault"
     answers "./psci --unproved replay, the second time"
@@ -52,7 +53,8 @@ front() {
     else
         pass
     fi
-    [ $(($(processor_time) - begun)) -le 500 ] || fail "the second unproved run took more than 5 seconds"
+    processor_time
+    [ $((spent - begun)) -le 500 ] || fail "the second unproved run took more than 5 seconds"
     touch "$fresh/crates/psci_replay/src/main.rt"
     front_of "$fresh" replay
     expect "./psci replay of the same sources" 3 "$unproved"$'\n'"$fault"
@@ -127,21 +129,28 @@ replaying() {
     fi
 }
 
-# processor_time: what all that this script ran has taken so far, in hundredths of a second
-processor_time() { awk '{ sub(/.*\) /, ""); print $14 + $15 }' "/proc/$$/stat"; }
+# processor_time: leaves in $spent what all that this part ran has taken so far, in hundredths of a second. A part is a
+# shell of its own, which `$$` does not name, and in `$(..)` this would be another one.
+processor_time() {
+    local -a fields
+    read -ra fields < "/proc/$BASHPID/stat"
+    spent=$((fields[15] + fields[16]))
+}
 
 # what is said of words, and each help; without a program, and at once
 wording() {
     local word begun
     by_python wording
-    begun=$(processor_time)
+    processor_time
+    begun=$spent
     for word in --help "help show" stom "storm --sead 1" drwa "help draw" "prove --help" --version; do
         # shellcheck disable=SC2086
         PATH=$(dirname "$(type -P python3)"):/usr/bin:/bin ./psci --unproved $word > "$work/out" 2> "$work/err"
         if [ -s "$work/out" ] || [ -s "$work/err" ]; then pass; else fail "./psci $word says nothing"; fi
         if grep -q "nothing of this run" "$work/err"; then fail "./psci $word runs the program"; fi
     done
-    [ $(($(processor_time) - begun)) -le 800 ] || fail "help and wrong words take more than a second each"
+    processor_time
+    [ $((spent - begun)) -le 800 ] || fail "help and wrong words take more than a second each"
 }
 
 # faults in words, and scripts by name

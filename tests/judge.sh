@@ -84,6 +84,37 @@ judged_words() {
     sed 's/77 0 \.$/77 20010 ./' $short > "$work/calls.record"
     { cat $profile; echo "keeps x4-x17"; } > "$work/keeps.profile"
     judged_as 6 "x4 to x17 changed, which it says that it keeps" --profile "$work/keeps.profile" "$work/calls.record"
+    # one record of a firmware tells its version of the calling convention for all
+    sed 's/8400000a 84000000 0 0 0/80000000 84000000 0 0 10002/;/^psci: open 0 0 /d' $short > "$work/version.record"
+    { cat $profile; echo "functions ours 80000000"; } > "$work/version.profile"
+    judged_as 0 "2 records: 2 agrees" --profile "$work/version.profile" "$work/version.record" $short
+    judged_as 6 "2 records: 1 agrees, 1 differs" --profile "$work/version.profile" "$work/version.record" \
+        "$work/calls.record"
+    judged_as 6 "by version 1.2 of the convention" --profile "$work/version.profile" "$work/version.record" \
+        "$work/calls.record"
+    judged_later
+}
+
+# later STATUS TEXT FUNCTIONS CHANGE: the short record with a call of PSCI 1.2 or 1.3, of a firmware that has these
+later() {
+    sed "$4" tests/records/calls.record > "$work/calls.record"
+    { cat tests/records/calls.profile; echo "version 10003"; echo "functions ours $3"; } > "$work/later.profile"
+    judged_as "$1" "$2" --profile "$work/later.profile" "$work/calls.record"
+}
+
+# functions of PSCI 1.2 and 1.3 have names, and SYSTEM_OFF2 ends a system that has it
+judged_later() {
+    local call='s/^psci: call 0 a .*/psci: call 0 a 28 29 1' off2='s/^psci: open 0 b .*/psci: open 0 b 2a c4000015 1 0 0 ./'
+    has_python "calls of PSCI 1.2 and 1.3" || return
+    later 0 "agrees" "" "$call c4000015 1 0 0 ffffffffffffffff 1 0 0 0 ./"
+    later 6 "1 x SYSTEM_OFF2: theirs 0; ours -1" "" "$call c4000015 1 0 0 0 1 0 0 0 ./"
+    later 6 "1 x CLEAN_INV_MEMREGION: theirs 0; ours -1" "" "$call c4000016 0 40 0 0 0 40 0 0 ./"
+    later 6 "1 x CLEAN_INV_MEMREGION_ATTRIBUTES: theirs 1" "" "$call c4000017 0 0 0 1 0 0 0 0 ./"
+    later 0 "agrees" CLEAN_INV_MEMREGION_ATTRIBUTES_64 "$call c4000017 0 0 0 1 0 0 0 0 ./"
+    later 0 "agrees" SYSTEM_OFF2_64 "$call 8400000a c4000015 0 0 1 c4000015 0 0 0 ./"
+    later 6 "FEATURES of SYSTEM_OFF2_64: theirs 1; ours -1" "" "$call 8400000a c4000015 0 0 1 c4000015 0 0 0 ./"
+    later 0 "agrees" "SYSTEM_OFF2 SYSTEM_OFF2_64" "$off2"
+    later 7 "the record breaks off" "" "$off2"
 }
 
 # records that the second model and the program make: none differs, and of changed ones nine in ten are
@@ -98,6 +129,16 @@ judged_model() {
             tail -n 10 "$work/out"
         fi
     done
+}
+
+# stored records with lines lost, doubled, moved or of another one: each is told
+judged_broken() {
+    has_python tests/broken-records || return
+    has_xz "broken records of calls" || return
+    if tests/broken-records 1000 > "$work/out" 2>&1; then pass; else
+        fail tests/broken-records
+        tail -n 10 "$work/out"
+    fi
 }
 
 # is_gone PROCESS: whether it executes no more, soon

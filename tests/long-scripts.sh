@@ -129,8 +129,7 @@ memory_of_messages() {
     local status=0
     turns 2 150000 > "$work/script"
     turned 2 150000 > "$work/lines"
-    (ulimit -v 24576 && exec "$program" replay < "$work/script" > "$work/out" 2> "$work/err") \
-        > /dev/null 2>&1 || status=$?
+    in_room 24576 "$program" replay < "$work/script" > "$work/out" 2> "$work/err" || status=$?
     echo "$status" > "$work/got"
     expect "150,000 turns in 24 MiB" 5 "out of memory"
     # whole lines, some and not all, and the right ones

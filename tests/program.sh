@@ -33,13 +33,15 @@ one_entry() {
     echo "1 enter 0x0 0x0" > "$work/lines"
 }
 
+# in_room KIB COMMAND..: runs it with so much address space at most. The limit is not this shell's, which may need more.
+in_room() { prlimit --as=$(($1 * 1024)) "${@:2}"; }
+
 # in_memory KIB WORD..: a run with so much address space, and how it ended; 1 if it ended wrongly.
 # Its status is in $work/got.
 in_memory() {
     local size=$1 status=0
     shift
-    (ulimit -v "$size" && exec "$program" "$@" < "$work/script" > "$work/out" 2> "$work/err") \
-        > /dev/null 2>&1 || status=$?
+    in_room "$size" "$program" "$@" < "$work/script" > "$work/out" 2> "$work/err" || status=$?
     echo "$status" > "$work/got"
     case $status in
         0) cmp -s "$work/lines" "$work/out" && [ ! -s "$work/err" ] && echo enough ;;
@@ -411,17 +413,19 @@ no_threads() {
     folder=$(mktemp -d)
     chmod 755 "$folder"
     cp "$program" "$folder/psci_cli"
-    begun=$(processor_time)
+    processor_time
+    begun=$spent
     timeout 60 "${limited[@]}" "$folder/psci_cli" threads --seed 1 --count 50 > "$work/out" 2> "$work/err"
     echo $? > "$work/got"
-    took=$(($(processor_time) - begun))
+    processor_time
+    took=$((spent - begun))
     expect "threads where no process may be made" 5 "out of threads"
     [ $took -lt 100 ] || fail "threads where no process may be made: $took hundredths of a second of a processor"
     rm -rf "$folder"
     some_threads
     : > "$work/lines"
     for size in 8192 6144; do
-        (ulimit -v "$size" && exec timeout 60 "$program" threads --seed 1 --count 50 > "$work/out" 2> "$work/err")
+        in_room "$size" timeout 60 "$program" threads --seed 1 --count 50 > "$work/out" 2> "$work/err"
         echo $? > "$work/got"
         if [ "$(cat "$work/got")" = 5 ] && grep -qxE 'out of (threads|memory)' "$work/err"; then pass; else
             fail "threads in $size KiB of memory (status $(cat "$work/got")): $(cat "$work/err")"
@@ -434,11 +438,13 @@ no_threads() {
 some_threads() {
     local begun took size came=0
     for size in 65536 131072 262144; do
-        begun=$(processor_time)
-        (ulimit -v "$size" && exec timeout 60 "$program" threads --board \
-            "(16 16 16 16) exec 0x0-0x1000 boot 0x0 starts 1000 lives 3" --seed 1 --count 5 > "$work/out" 2> "$work/err")
+        processor_time
+        begun=$spent
+        in_room "$size" timeout 60 "$program" threads --seed 1 --count 5 --board \
+            "(16 16 16 16) exec 0x0-0x1000 boot 0x0 starts 1000 lives 3" > "$work/out" 2> "$work/err"
         echo $? > "$work/got"
-        took=$(($(processor_time) - begun))
+        processor_time
+        took=$((spent - begun))
         [ "$(cat "$work/got")" = 5 ] && [ "$(cat "$work/err")" = "out of threads" ] || continue
         came=$((came + 1))
         [ $took -lt 200 ] || fail "some threads in $size KiB: $took hundredths of a second of a processor"

@@ -9,7 +9,9 @@ statement S counts as false in two ways alone:
                and no variable
     shown      the prover admits `(S) → ⊥`, which `Negations` puts behind the theorem on a copy, by
                one of a few searches or by a term that the case brings; or a search for S itself
-               ends with values at which S fails, which the kernel has checked
+               ends with values at which S fails, which the kernel has checked. What a long table
+               comes to is not printed: there the lemmas of tests/apart/CRATE.antt tell its two
+               sides apart, where the crate has them
 
 Nothing is said where neither is so: the statement may hold.
 """
@@ -156,8 +158,13 @@ def differ_there(failure):
 
 # ---- shown
 
+# of a crate the lemmas by which two of its values are told apart that are too long to be printed; each
+# takes that they are equal, and two proofs by `refl`, and gives ⊥
+APART_LEMMAS = f"{repo.TOP}/tests/apart"
+TOO_LONG = re.compile(r"computing it took more than \d+ steps")
+
 # what each search may use, beside what stands in the statement
-LAWS = "JudgedLaws"
+LAWS, LEMMAS = "JudgedLaws", "JudgedLemmas"
 USED = """\
 use Rattle.std.proofs.Common.{{arith as {0}arith, ap as {0}ap, slice_get as {0}get}}
 use Rattle.std.specs.List.{{flat_map as {0}flat}}
@@ -180,8 +187,11 @@ class Negations:
         # of each theorem the terms that the case brings
         self.folder, self.given = folder, given
         self.bare, self.texts, self.files = {}, {}, {}
+        self.crate = os.path.basename(folder)
+        path = f"{APART_LEMMAS}/{self.crate}.antt"
+        self.lemmas = repo.text_of(path) if os.path.exists(path) else ""
         # of each theorem or clause the names of its negations, with their proofs
-        self.tried = {}
+        self.tried, self.long = {}, set()
 
     def add(self, failure):
         """Puts the negation of a theorem in, once for each way in which it may be shown."""
@@ -198,13 +208,20 @@ class Negations:
         opened = re.match(r"unfolding .*(?:\n .*)*\n", body)
         opened = opened[0].rstrip() if opened else None
         key = failure.path, failure.name
-        proofs = [*self.given.get(item.name, []), *ways(failure, item, self.bare[failure.path])]
+        by_refl = BY_REFL.fullmatch(body.strip() + "\n")
+        way = way_of(failure, item, self.bare[failure.path])[0] if by_refl else ""
+        # (a check says so at the first of a theorem's parts alone)
+        is_long = by_refl and self.lemmas and (TOO_LONG.search(failure.words) or key in self.long)
+        self.long |= {key} if is_long else set()
+        proofs = self.given.get(item.name, []) + (
+            [f"λ {MARK}h. {MARK}{it} {MARK}h{way} refl refl" for it in self.names_of_lemmas()]
+            if is_long else list(ways(failure, item, self.bare[failure.path])))
         if key not in self.tried:
             self.tried[key] = {}
             again = f"{MARK}{list(self.tried).index(key)}_again"
-            self.put(failure.path, again, statement[stated.end():], opened, SEARCH)
-            if BY_REFL.fullmatch(body.strip() + "\n"):
-                way = way_of(failure, item, self.bare[failure.path])[0]
+            if not is_long:
+                self.put(failure.path, again, statement[stated.end():], opened, SEARCH)
+            if by_refl and not is_long:
                 for count, probe in enumerate(AT_PLACE * PLACES):
                     self.put(failure.path, f"{again}_{count}", f" ({statement[stated.end():]}\n    ) → ⊥",
                              opened, probe.format(MARK, count // 2, way))
@@ -213,6 +230,17 @@ class Negations:
                 name = f"{MARK}{list(self.tried).index(key)}_{len(self.tried[key])}"
                 self.tried[key][name] = proof
                 self.put(failure.path, name, f" ({statement[stated.end():]}\n    ) → ⊥", opened, proof)
+
+    def names_of_lemmas(self):
+        return re.findall(r"^pub (\w+) :", self.lemmas, re.M)
+
+    def bring(self, module, text):
+        """Puts a file in among the proofs, if it is not there."""
+        if f"proofs/{module}.antt" not in self.texts:
+            lib = "proofs/Lib.antt"
+            self.texts.setdefault(lib, repo.text_of(f"{self.folder}/{lib}"))
+            self.texts[lib] += f"mod {module}\n"
+            self.texts[f"proofs/{module}.antt"] = text
 
     def put(self, path, name, statement, opened, proof):
         lines = ["", f"{name} :{statement}", opened, f"{name} = {proof}", ""]
@@ -223,21 +251,23 @@ class Negations:
         statement, uses = clause_of(self.folder, name)
         if not statement:
             return
-        path, lib = f"proofs/{LAWS}.antt", "proofs/Lib.antt"
-        self.texts.setdefault(path, "".join(f"use {it}\n" for it in uses))
-        self.texts.setdefault(lib, repo.text_of(f"{self.folder}/{lib}") + f"mod {LAWS}\n")
-        number = len(self.tried)
+        path, number = f"proofs/{LAWS}.antt", len(self.tried)
+        self.bring(LAWS, "".join(f"use {it}\n" for it in uses))
         self.tried[path, name] = {f"{MARK}{number}_{at}": it for at, it in enumerate(terms)}
         for it, term in self.tried[path, name].items():
             self.put(path, it, f" ({statement}\n    ) → ⊥", None, term)
 
     def written(self):
         """The files with what was put in, by their paths."""
-        texts = {}
+        texts, used = {}, USED.format(MARK)
+        if self.lemmas:
+            names = ", ".join(f"{it} as {MARK}{it}" for it in self.names_of_lemmas())
+            used += f"use Rattle.{self.crate}.proofs.{LEMMAS}.{{{names}}}\n"
+            self.bring(LEMMAS, self.lemmas)
         for path, _ in self.tried:
             lines = self.texts[path].splitlines()
             last = max(at for at, it in enumerate(lines) if re.match(r"(pub )?use ", it))
-            lines[last + 1:last + 1] = [*USED.format(MARK).splitlines()]
+            lines[last + 1:last + 1] = used.splitlines()
             texts[path] = "\n".join([*lines, "", f"{HEARD} : Unit {{0}} → ⊥", f"{HEARD} u = u", ""])
         self.files = {**self.texts, **texts}
         return self.files

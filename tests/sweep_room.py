@@ -69,8 +69,9 @@ class Room:
         return ran.returncode, ran.stdout, ran.stderr
 
     def report(self, *outs):
-        ran = subprocess.run([f"{self.top}/psci", "sweep", "report", *map(self.path, outs)], capture_output=True,
-                             text=True, check=False)
+        paths = [it if it.startswith("--") else self.path(it) for it in outs]
+        ran = subprocess.run([f"{self.top}/psci", "sweep", "report", *paths], capture_output=True, text=True,
+                             check=False)
         return ran.returncode, ran.stdout, ran.stderr
 
     def results(self, out):

@@ -78,42 +78,130 @@ tfa_says() {
     fi
 }
 
-# each function and hook of the chapter on PSCI of TF-A's porting guide has a line in the page's table
+# TF-A's sources, of each release that is here: 2.8 and 2.12
+tfa_cache=${GUMDARTS_CACHE:-$HOME/.cache/gumdarts}
+tfa_2_8=$tfa_cache/tfa/source
+tfa_2_12=$tfa_cache/trixie/tfa/source
+
+# tfa_guide SOURCE MANY: each function and hook of the chapter on PSCI of TF-A's porting guide has a line in the page's
+# table
 tfa_guide() {
-    local name guide=${GUMDARTS_CACHE:-$HOME/.cache/gumdarts}/tfa/source/docs/getting_started/porting-guide.rst
-    [ -f "$guide" ] || { skip "hooks of TF-A's porting guide" "$guide"; return; }
+    local name guide
+    guide=$(find "$1/docs" -name porting-guide.rst 2> /dev/null)
+    [ -f "$guide" ] || { skip "hooks of TF-A's porting guide" "$1"; return; }
     sed -n '/^Power State Coordination Interface (in BL31)/,/^Interrupt Management framework (in BL31)/p' "$guide" |
         sed -nE 's/^(Function : |plat_psci_ops\.)(\w+)\(\).*/\2/p' > "$work/hooks"
-    [ "$(wc -l < "$work/hooks")" = 27 ] || fail "TF-A's porting guide has $(wc -l < "$work/hooks") hooks, and not 27"
+    [ "$(wc -l < "$work/hooks")" = "$2" ] || fail "$guide has $(wc -l < "$work/hooks") hooks, and not $2"
     while read -r name; do
         if grep -q "^|.*\`$name\`.*| \(kept\|replaced\|lost\)" docs/TFA.md; then pass; else fail "docs/TFA.md: $name"; fi
     done < "$work/hooks"
 }
 
+# tfa_accounted FOLDER SOURCE TEXT: of the adaptor in this folder its tool says this of what TF-A's lib/psci does
+tfa_accounted() {
+    "$1/accounted" "$2" > "$work/out" 2>&1
+    if grep -qF -- "$3" "$work/out"; then pass; else
+        fail "hosts/tfa/accounted $2, wanted '$3'"
+        head -n 5 "$work/out"
+    fi
+}
+
+# each call and hook of the functions that the adaptor replaces is made, or listed with a reason; one that is missing
+# is told, and a line too many
+tfa_calls() {
+    local copy=$work/tfa-copy
+    has_python "hosts/tfa/accounted" || return
+    [ -d "$tfa_2_8" ] || { skip "calls of TF-A 2.8" "$tfa_2_8"; return; }
+    [ -d "$tfa_2_12" ] || { skip "calls of TF-A 2.12" "$tfa_2_12"; return; }
+    tfa_accounted hosts/tfa "$tfa_2_8" "TF-A 2.8: all but 23 are made"
+    tfa_accounted hosts/tfa "$tfa_2_12" "TF-A 2.12: all but 27 are made"
+    rm -rf "$copy"
+    cp -r hosts/tfa "$copy"
+    sed -i 's/cm_manage_extensions_el3();//; s/pwr_domain_off_early(asked)/pwr_domain_off(asked)/' "$copy"/gumdarts_*.c
+    echo '2.12 | psci_cpu_off | plat_my_core_pos | none' >> "$copy/accounted.list"
+    tfa_accounted "$copy" "$tfa_2_12" "psci_warmboot_entrypoint: cm_manage_extensions_el3: TF-A 2.12 has it"
+    tfa_accounted "$copy" "$tfa_2_12" "psci_cpu_off: ->pwr_domain_off_early(): TF-A 2.12 has it"
+    tfa_accounted "$copy" "$tfa_2_12" "psci_cpu_off: plat_my_core_pos: accounted.list has it"
+    sed -i 's/GUMDARTS_TFA_MINOR > 8/GUMDARTS_TFA_MINOR > 12/' "$copy"/gumdarts_stops.c
+    tfa_accounted "$copy" "$tfa_2_12" "psci_pwrdown_cpu: spe_stop: TF-A 2.12 has it"
+}
+
+# tfa_makes MINOR TEXT: the adaptor's makefile ends with this text in this version of TF-A
+tfa_makes() {
+    make -f hosts/tfa/adaptor.mk ARCH=aarch64 USE_COHERENT_MEM=1 HW_ASSISTED_COHERENCY=0 VERSION_MAJOR=2 \
+        VERSION_MINOR="$1" > "$work/out" 2>&1
+    if grep -qF -- "$2" "$work/out"; then pass; else
+        fail "hosts/tfa/adaptor.mk in TF-A 2.$1, wanted '$2'"
+        head -n 3 "$work/out"
+    fi
+}
+
+# a version that is not known is refused
+tfa_versions() {
+    command -v make > /dev/null || { skip "hosts/tfa/adaptor.mk" make; return; }
+    tfa_makes 8 "No targets"
+    tfa_makes 12 "No targets"
+    tfa_makes 11 "GUMDARTS knows TF-A 2.8 2.12, and not 2.11"
+    tfa_makes 13 "GUMDARTS knows TF-A 2.8 2.12, and not 2.13"
+}
+
 tfa_words() {
-    tfa_guide
+    tfa_guide "$tfa_2_8" 27
+    tfa_guide "$tfa_2_12" 29
+    tfa_calls
+    tfa_versions
+    tfa_says "run: there is no release sid; there are bookworm and trixie" --release sid
     tfa_says "run: there is no qemu-system-aarch64 aarch64-linux-gnu-gcc" each
     tfa_says "run: there is no option --fast; --help lists them" --fast
 }
 
-# Linux on the firmware inside TF-A, from a built archive and with what was downloaded before
-tfa_live() {
-    local tool name cache=${GUMDARTS_CACHE:-$HOME/.cache/gumdarts}
-    has_python "Linux on TF-A" || return
+# has_for_tfa WHAT CACHE: whether there is what builds and boots TF-A, of downloads in this folder
+has_for_tfa() {
+    local tool name
+    has_python "$1" || return
     for tool in qemu-system-aarch64 aarch64-linux-gnu-gcc gcc dtc make patch; do
-        command -v "$tool" > /dev/null || { skip "Linux on TF-A" "$tool"; return; }
+        command -v "$tool" > /dev/null || { skip "$1" "$tool"; return 1; }
     done
-    for name in "$cache/packages/bin/busybox" "$cache/tfa/source/Makefile" /usr/include/openssl/sha.h \
+    for name in "$2/packages/bin/busybox" "$2/tfa/source/Makefile" /usr/include/openssl/sha.h \
         "$PWD/out/lib/aarch64/libpsci_ffi-strict-align.a"; do
-        [ -f "$name" ] || { skip "Linux on TF-A" "$name"; return; }
+        [ -f "$name" ] || { skip "$1" "$name"; return 1; }
     done
-    say "Linux on TF-A"
-    if TFA_OUT=$work/tfa hosts/tfa/run --seconds 1800 --record "$work/tfa.record" each boot-core idle \
+}
+
+# tfa_boots OPTION..: Linux on TF-A, all that it does there, and its record
+tfa_boots() {
+    if TFA_OUT=$work/tfa hosts/tfa/run --seconds 1800 --record "$work/tfa.record" "$@" each boot-core idle \
         suspend-5 > "$work/out" 2>&1; then pass; else
-        fail "hosts/tfa/run"
+        fail "hosts/tfa/run $*"
         tail -n 20 "$work/out"
         return
     fi
-    ! grep -q "did not" "$work/out" || fail "hosts/tfa/run: $(grep "did not" "$work/out" | head -n 1)"
+    ! grep -q "did not" "$work/out" || fail "hosts/tfa/run $*: $(grep "did not" "$work/out" | head -n 1)"
     compared 0 "are answered as by the proved program" "$work/tfa.record"
+}
+
+# Linux on the firmware inside TF-A, from a built archive and with what was downloaded before
+tfa_live() {
+    has_for_tfa "Linux on TF-A" "$tfa_cache" || return
+    say "Linux on TF-A"
+    tfa_boots
+}
+
+# tfa_registers STATUS TEXT OPTION..: EL3's registers in TF-A 2.12, beside TF-A as it is
+tfa_registers() {
+    local status=0
+    TFA_OUT=$work/registers hosts/tfa/registers --release trixie "${@:3}" > "$work/out" 2> "$work/err" || status=$?
+    if [ "$status" = "$1" ] && grep -q -- "$2" "$work/out"; then pass; else
+        fail "hosts/tfa/registers ${*:3} (status $status, wanted $1 with '$2')"
+        head -n 5 "$work/out" "$work/err"
+    fi
+}
+
+# the same in TF-A 2.12 with Linux 6.12, in OS-initiated mode; and what EL3 sets for each core is what it sets by itself
+tfa_2_12_live() {
+    has_for_tfa "Linux on TF-A 2.12" "$tfa_cache/trixie" || return
+    say "Linux on TF-A 2.12"
+    tfa_boots --release trixie --mode osi
+    tfa_registers 0 " of each core after 3 stages: 0 differ$"
+    tfa_registers 1 "^after CPU_ON, core 1, SMCR_EL3: TF-A 0x8000000f, ours 0x0$" --fault core-setup
 }

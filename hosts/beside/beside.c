@@ -64,10 +64,13 @@ bool psci_beside_runs(const beside *b, uint32_t core) { return b->now.place[core
 bool psci_beside_is_started(const beside *b, uint32_t core) { return b->now.place[core] == STARTED; }
 
 static void record(beside *b, const event *e) { b->events[b->now.events++] = *e; }
+static void begin(beside *b);
 
 #include "driver/ours.h"
 #include "driver/theirs.h"
+#include "driver/words.h"
 #include "driver/causes.h"
+#include "driver/states.h"
 #include "driver/groups.h"
 
 /* ---- Events */
@@ -136,7 +139,7 @@ static uint32_t end_life(beside *b) {
     return PSCI_BESIDE_ALIKE;
 }
 
-void psci_beside_begin(beside *b) {
+static void begin(beside *b) {
     did d;
     memcpy(b->memory, b->fresh, b->size);
     memset(&b->now, 0, sizeof b->now);
@@ -145,6 +148,8 @@ void psci_beside_begin(beside *b) {
     b->peer->open(b->peer->self, &b->board);
     ours_alone(b, PSCI_BESIDE_ENTER, 0, &d);
 }
+
+void psci_beside_begin(beside *b) { begin(b); }
 
 uint32_t psci_beside_do(beside *b, const event *e) {
     did ours, theirs;
@@ -156,13 +161,13 @@ uint32_t psci_beside_do(beside *b, const event *e) {
     keep(b, false);
     record(b, e);
     our_side(b, e, &ours);
+    b->at = *e;
+    b->ours = ours;
+    b->why = cause;
     their_side(b, e, cause, &theirs);
     bool early = is_early(b, e, &ours, &theirs);
     if (!agree(b, e, &ours, &theirs) && !refuses_as_well(b, e, &ours, &theirs))
         return differs(b, e, cause, &ours, &theirs);
-    if (e->kind == PSCI_BESIDE_CALL && ours.sent && plain_word(e->x[0]) == CPU_ON)
-        b->now.odd[core_of(b, is_narrow(e->x[0], 1) ? (uint32_t)e->x[1] : e->x[1])] =
-            is_narrow(e->x[0], 2) && (e->x[2] | e->x[3]) >> 32;
     if (ours.sent && e->kind <= PSCI_BESIDE_ENTER)
         settle(b);
     forget(b, e);
@@ -170,7 +175,7 @@ uint32_t psci_beside_do(beside *b, const event *e) {
         come_back(b, e->number);
     if (ours.what == PSCI_BESIDE_ENDS && end_life(b) == PSCI_BESIDE_OVER)
         return PSCI_BESIDE_OVER;
-    return compare_statuses(b);
+    return compare_statuses(b, e);
 }
 
 /* ---- The story */

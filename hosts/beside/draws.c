@@ -1,7 +1,6 @@
 /* What a list is made of: each event is drawn from the bytes of an input. */
-#include "fuzz.h"
+#include "lists.h"
 
-static const struct psci_beside *side;
 static const uint8_t *in, *end;
 
 void draw_from(const uint8_t *data, size_t size) {
@@ -17,48 +16,87 @@ static uint32_t below(uint32_t many) { return byte() % many; }
 /* one in so many, when the bytes are over none */
 static bool rarely(uint32_t many) { return byte() >= 256 - 256 / many; }
 
+/* ---- Values, of which each bit is drawn */
+
+static uint64_t word(void) {
+    uint64_t drawn = 0;
+    for (int at = 0; at < 8; at++)
+        drawn = drawn << 8 | byte();
+    return drawn;
+}
+
+static uint64_t one_bit(void) { return UINT64_C(1) << below(64); }
+
+/* One bit alone, all bits but one, or any word. */
+static uint64_t wild(void) {
+    uint32_t drawn = below(4);
+    return drawn == 0 ? one_bit() : drawn == 1 ? ~one_bit() : word();
+}
+
+/* What a register carries that counts by its low half alone: the other half is 0 mostly. */
+static uint64_t half(uint64_t value) { return (uint32_t)value | (rarely(8) ? wild() >> 32 << 32 : 0); }
+
 static uint64_t target(void) {
     uint32_t drawn = byte();
-    if (side->board.cores > 128)
+    if (beside_side.board.cores > 128)
         drawn = drawn % 128 + 128 * below(2);
-    uint64_t affinity = side->board.affinity[drawn % side->board.cores];
-    if (!rarely(6))
+    uint64_t affinity = beside_side.board.affinity[drawn % beside_side.board.cores];
+    if (!rarely(5))
         return affinity;
-    switch (below(6)) {
-    case 0: return affinity | 1u << 16 << below(8);
-    case 1: return affinity | UINT64_C(1) << (32 + below(8));
-    case 2: return affinity | 1u << (24 + below(8));
-    case 3: return affinity | UINT64_C(1) << (40 + below(24));
-    case 4: return (affinity & ~UINT64_C(0xff)) | below(256);
-    default: return (affinity & ~UINT64_C(0xff00)) | (uint64_t)below(256) << 8;
+    switch (below(4)) {
+    case 0: return (affinity & ~UINT64_C(0xff)) | below(256);
+    case 1: return wild();
+    default: return affinity ^ one_bit();
     }
+}
+
+/* Beside an end of a range of the board. */
+static uint64_t edge(const struct psci_range *range) {
+    static const int8_t beside[] = {0, -4, 4, -1, -2, 1, 2, -8};
+    return (below(2) ? range->end : range->start) + (uint64_t)beside[below(8)];
 }
 
 static uint64_t entry(void) {
+    const struct psci_range *range = &profile.ranges[below(profile.many_ranges)];
     uint32_t drawn = byte();
-    uint64_t last = profile.ranges[profile.many_ranges - 1].start;
-    uint64_t good = 4 * drawn + (drawn < 224 ? profile.boot : last);
-    return drawn < 240 ? good : drawn < 244 ? 0x100 : drawn < 248 ? good + 2 : good + 1;
+    uint64_t near = profile.boot + 4 * byte();
+    if (drawn < 112)
+        return near;
+    if (drawn < 176)
+        return range->start + (word() % (range->end - range->start) & ~UINT64_C(3));
+    if (drawn < 208)
+        return near ^ one_bit();
+    if (drawn < 224)
+        return range->start ^ one_bit();
+    return drawn < 236 ? edge(range) : drawn < 244 ? wild() : near + 1 + drawn % 3;
+}
+
+static uint64_t context(void) { return below(2) ? wild() : byte(); }
+
+/* The power state of some depths, in the format of the board. */
+static uint32_t state_of_depths(void) {
+    static const uint8_t depths[] = {1, 3, 2, 3, 3, 1, 3, 0};
+    uint32_t drawn = byte(), made = 0, level = 0, depth = depths[drawn & 7];
+    for (uint32_t at = 0; at <= beside_side.board.height; at++) {
+        uint32_t next = at == 0 ? depth : drawn >> (3 + at) & 1 ? depth : 0;
+        depth = next;
+        made |= depth << 4 * at;
+        level = depth ? at : level;
+    }
+    return made | (profile.is_extended ? ((made & 15) == 3) << 30 : ((made & 15) == 3) << 16 | level << 24);
 }
 
 static uint64_t state(void) {
-    static const uint8_t depths[] = {1, 3, 2, 3, 3, 1, 3, 0};
-    uint32_t drawn = byte(), word = 0, level = 0, depth = depths[drawn & 7];
+    uint64_t drawn = state_of_depths();
     if (profile.many_states && !rarely(8))
-        return profile.states[drawn % profile.many_states].word;
-    for (uint32_t at = 0; at <= side->board.height; at++) {
-        uint32_t next = at == 0 ? depth : drawn >> (3 + at) & 1 ? depth : 0;
-        depth = next;
-        word |= depth << 4 * at;
-        level = depth ? at : level;
-    }
-    word |= profile.is_extended ? ((word & 15) == 3) << 30 : ((word & 15) == 3) << 16 | level << 24;
-    return rarely(16) ? word ^ 1u << below(32) : word;
+        drawn = profile.states[byte() % profile.many_states].word;
+    return half(rarely(6) ? drawn ^ 1u << below(32) : rarely(16) ? wild() : drawn);
 }
 
-static uint32_t level_drawn(void) {
-    uint32_t drawn = byte();
-    return drawn < 128 ? 0 : drawn < 224 ? 1 + drawn % side->board.height : side->board.height + 1 + drawn % 3;
+static uint64_t level_drawn(void) {
+    uint32_t drawn = byte(), height = beside_side.board.height;
+    uint32_t near = drawn < 128 ? 0 : drawn < 208 ? 1 + drawn % height : drawn < 224 ? height + 1 + drawn % 3 : below(3);
+    return half(drawn < 224 ? near : drawn < 248 ? near ^ 1u << below(32) : wild());
 }
 
 /* half of the draws are these */
@@ -71,45 +109,52 @@ static const uint32_t words[] = {
     0x95c1ba5f, 0x95c1ba60, 0x95c1ba61, 0,          1,          2};
 
 static uint32_t any_word(void) { return words[below(sizeof words / sizeof *words)]; }
+static uint32_t near_word(void) { return rarely(8) ? any_word() ^ 1u << below(32) : any_word(); }
 
 static void arguments(uint64_t x[4]) {
     switch ((uint32_t)x[0] & ~0x40000000u) {
-    case 0x84000001: x[1] = state(); x[2] = entry(); x[3] = byte(); break;
-    case 0x84000003: x[1] = target(); x[2] = entry(); x[3] = byte() * (x[0] >> 30 & 1 ? 0x10000000001 : 1); break;
+    case 0x84000001: x[1] = state(); x[2] = entry(); x[3] = context(); break;
+    case 0x84000003: x[1] = target(); x[2] = entry(); x[3] = context(); break;
     case 0x84000004:
     case 0x8400000d: x[1] = target(); x[2] = level_drawn(); break;
-    case 0x8400000a: x[1] = any_word(); break;
-    case 0x8400000e: x[1] = entry(); x[2] = byte(); break;
-    case 0x8400000f: x[1] = below(3); break;
-    case 0x84000012: x[1] = below(4) == 0 ? 0x80000000u >> below(32) : 0; x[2] = byte(); break;
-    default: x[1] = byte(); break;
+    case 0x8400000a: x[1] = half(near_word()); break;
+    case 0x8400000e: x[1] = entry(); x[2] = context(); break;
+    case 0x8400000f: x[1] = half(rarely(4) ? wild() : below(3)); break;
+    case 0x84000012: x[1] = half(rarely(4) ? wild() : rarely(3) ? 0x80000000u >> below(32) : 0); x[2] = wild(); break;
+    default: x[1] = context(); break;
     }
-    if (rarely(16))
-        x[below(4)] |= UINT64_C(0xabcd) << 32;
+}
+
+static void call_drawn(uint64_t x[4]) {
+    x[0] = byte() < 128 ? often[below(sizeof often / sizeof *often)] : any_word();
+    arguments(x);
+    if (!(x[0] & 0x40000000))
+        for (int at = 1; at < 4; at++)
+            x[at] = x[at] >> 32 ? half(x[at]) : x[at];
+    x[0] = rarely(16) ? half(x[0] ^ 1u << below(32)) : x[0];
+    x[0] |= rarely(32) ? wild() >> 32 << 32 : 0;
 }
 
 /* the first core from a drawn one on that is so; a number that is none, where there is no such */
 static uint32_t core_that(bool (*is)(const struct psci_beside *, uint32_t)) {
     uint32_t from = byte();
-    for (uint32_t at = 0; at < side->board.cores; at++)
-        if (is(side, (from + at) % side->board.cores))
-            return (from + at) % side->board.cores;
-    return side->board.cores;
+    for (uint32_t at = 0; at < beside_side.board.cores; at++)
+        if (is(&beside_side, (from + at) % beside_side.board.cores))
+            return (from + at) % beside_side.board.cores;
+    return beside_side.board.cores;
 }
 
 static bool is_asleep(const struct psci_beside *b, uint32_t core) {
     return !psci_beside_runs(b, core) && !psci_beside_is_started(b, core) && b->now.wakes[core];
 }
 
-struct psci_beside_event draw_event(const struct psci_beside *b) {
+struct psci_beside_event draw_event(void) {
     bool links = psci_beside_target.deliver;
-    side = b;
     uint32_t kind = below(links ? 24 : 16);
     struct psci_beside_event e = {.kind = PSCI_BESIDE_CALL};
     if (kind < 10) {
         e.number = core_that(psci_beside_runs);
-        e.x[0] = byte() < 128 ? often[below(sizeof often / sizeof *often)] : any_word();
-        arguments(e.x);
+        call_drawn(e.x);
     } else if (kind < 13) {
         e = (struct psci_beside_event){PSCI_BESIDE_ENTER, core_that(psci_beside_is_started), {0}};
     } else if (kind == 13) {
@@ -120,9 +165,9 @@ struct psci_beside_event draw_event(const struct psci_beside *b) {
         e.kind = links ? PSCI_BESIDE_RESET : PSCI_BESIDE_LACKS;
         e.number = byte();
     } else if (kind < 20) {
-        e = (struct psci_beside_event){PSCI_BESIDE_DELIVER, side->now.messages - 1 - below(4) / 2, {0}};
+        e = (struct psci_beside_event){PSCI_BESIDE_DELIVER, beside_side.now.messages - 1 - below(4) / 2, {0}};
     } else {
-        e = (struct psci_beside_event){PSCI_BESIDE_TAKE, side->now.acks - 1 - below(4) / 2, {0}};
+        e = (struct psci_beside_event){PSCI_BESIDE_TAKE, beside_side.now.acks - 1 - below(4) / 2, {0}};
     }
     return e;
 }

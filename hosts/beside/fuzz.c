@@ -1,217 +1,88 @@
 /* The shared driver of the targets, in the convention that fuzzers share: a list of events is drawn from
- * bytes (draws.c), and differences are put into groups, of which the shortest story is kept. A difference whose
- * group is not in the stored report ends the process, as fuzzers expect it. With BESIDE_REPORT=FILE it
- * goes on, and writes all groups there at its end; `+` stands before those that are new. */
-#include "fuzz.h"
-#include "psci_beside.h"
+ * bytes (draws.c), and differences are put into groups (report.c). */
+#include "lists.h"
 
-#include <inttypes.h>
+#include <setjmp.h>
+#include <signal.h>
 #include <stdio.h>
 #include <stdlib.h>
-#include <string.h>
+#include <sys/time.h>
 #include <time.h>
+#include <unistd.h>
 
-enum { MOST_GROUPS = 512, MOST_STORY = 1 << 16 };
-
-static struct psci_beside side;
-static const char *report;
-
-/* ---- Groups */
-
-static struct group {
-    char key[sizeof side.difference.key];
-    const char *clause;
-    bool is_new;
-    double first;
-    uint64_t seen;
-    uint32_t length;
-    struct psci_beside_event *events;
-} groups[MOST_GROUPS];
-static uint32_t many_groups;
-static uint64_t lists, events;
+struct psci_beside beside_side;
+uint64_t beside_lists, beside_events;
+bool is_drawn_blindly;
 static struct timespec began;
-static char story[MOST_STORY];
 
 /* Of this process's processor, so that other work on the machine counts for nothing. */
-static double seconds(void) {
+double seconds(void) {
     struct timespec now;
     clock_gettime(CLOCK_PROCESS_CPUTIME_ID, &now);
     return (double)(now.tv_sec - began.tv_sec) + (double)(now.tv_nsec - began.tv_nsec) / 1e9;
 }
 
-/* Not strcmp, which a fuzzer would look at. */
-static bool is_same(const char *one, const char *other) {
-    while (*one && *one == *other)
-        one++, other++;
-    return *one == *other;
-}
+/* ---- A peer that does not come back */
 
-static bool is_known(const char *key) {
-    for (const char *const *at = known; *at; at++)
-        if (is_same(*at, key))
-            return true;
-    return false;
-}
+int most_tenths = 10;
+static volatile sig_atomic_t tenths, place;
+static sigjmp_buf away;
+enum { OUTSIDE, OPENING, EVENT };
 
-static struct group *group_of(const char *key) {
-    struct group *group = groups;
-    while (group < groups + many_groups && !is_same(group->key, key))
-        group++;
-    if (group == groups + many_groups) {
-        if (many_groups == MOST_GROUPS)
-            return NULL;
-        many_groups++;
-        memcpy(group->key, key, sizeof group->key);
-        group->clause = side.difference.clause;
-        group->is_new = !is_known(key);
-        group->first = seconds();
-        group->length = UINT32_MAX;
-    }
-    return group;
-}
-
-static void tell(FILE *to, const struct group *group) {
-    fprintf(to, "%c %s\n  ours: %s\n", group->is_new ? '+' : '=', group->key,
-            group->clause ? group->clause : "Calls.function_outcome");
-    for (char *line = story; *line; line = strchr(line, '\n') + 1)
-        fprintf(to, "  | %.*s\n", (int)strcspn(line, "\n"), line);
-    fputc('\n', to);
-}
-
-/* The events of a group once more, without one: whether its difference still comes. */
-static bool comes(const struct group *group, uint32_t without) {
-    psci_beside_begin(&side);
-    for (uint32_t at = 0; at < group->length; at++) {
-        uint32_t what = at == without ? PSCI_BESIDE_IGNORED : psci_beside_do(&side, &group->events[at]);
-        if (what == PSCI_BESIDE_OVER)
-            return false;
-        if (what >= PSCI_BESIDE_DIFFERS && is_same(side.difference.key, group->key))
-            return true;
-        if (what == PSCI_BESIDE_PARTED)
-            return false;
-    }
-    return false;
-}
-
-/* Leaves out what its difference doesn't need. */
-static void shorten(struct group *group) {
-    for (uint32_t at = group->length; at-- > 0;)
-        if (comes(group, at)) {
-            memmove(group->events + at, group->events + at + 1, (group->length - at - 1) * sizeof *group->events);
-            group->length--;
-        }
-    comes(group, UINT32_MAX);
-    psci_beside_story(&side, story, sizeof story);
-}
-
-static int by_key(const void *one, const void *other) {
-    return strcmp(((const struct group *)one)->key, ((const struct group *)other)->key);
-}
-
-static void write_report(void) {
-    FILE *to = report ? fopen(report, "w") : NULL;
-    uint32_t fresh = 0;
-    for (uint32_t at = 0; at < many_groups; at++)
-        fresh += groups[at].is_new;
-    fprintf(stderr, "beside: %s: %" PRIu64 " lists, %" PRIu64 " events, %.1f s, %" PRIu32 " groups, %" PRIu32
-            " of them new\n", psci_beside_target.name, lists, events, seconds(), many_groups, fresh);
-    if (!to)
+static void tick(int signal) {
+    static const char words[] = "beside: the peer does not come back as it is opened\n";
+    (void)signal;
+    if (place == OUTSIDE || ++tenths <= most_tenths)
         return;
-    qsort(groups, many_groups, sizeof *groups, by_key);
-    for (uint32_t at = 0; at < many_groups; at++) {
-        shorten(&groups[at]);
-        tell(to, &groups[at]);
+    if (place == OPENING) {
+        if (write(STDERR_FILENO, words, sizeof words - 1) < 0)
+            _exit(2);
+        _exit(1);
     }
-    fclose(to);
+    place = OUTSIDE;
+    siglongjmp(away, 1);
 }
 
-/* Keeps the list up to here as the story of its group, where it is the shortest so far. */
-static void differ(void) {
-    struct group *group = group_of(side.difference.key);
-    uint32_t length = side.now.events + side.difference.is_undone;
-    if (!group)
-        return;
-    if (!group->seen++ && group->is_new) {
-        psci_beside_story(&side, story, sizeof story);
-        fprintf(stderr, "beside: a new group after %.2f s, %" PRIu64 " lists: %s\n", group->first, lists, group->key);
-        if (!report) {
-            tell(stderr, group);
-            abort();
-        }
-    }
-    if (length >= group->length)
-        return;
-    group->events = realloc(group->events, length * sizeof *group->events);
-    memcpy(group->events, side.events, side.now.events * sizeof *group->events);
-    if (side.difference.is_undone)
-        group->events[length - 1] = side.difference.event;
-    group->length = length;
+static void watch(void) {
+    struct sigaction action = {.sa_handler = tick, .sa_flags = SA_RESTART | SA_NODEFER};
+    struct itimerval tenth = {{0, 100000}, {0, 100000}};
+    sigaction(SIGVTALRM, &action, NULL);
+    setitimer(ITIMER_VIRTUAL, &tenth, NULL);
+}
+
+void begin_list(void) {
+    tenths = 0;
+    place = OPENING;
+    psci_beside_begin(&beside_side);
+    place = OUTSIDE;
+}
+
+uint32_t do_event(const struct psci_beside_event *e) {
+    if (sigsetjmp(away, 0))
+        return psci_beside_loops(&beside_side);
+    tenths = 0;
+    place = EVENT;
+    uint32_t what = psci_beside_do(&beside_side, e);
+    place = OUTSIDE;
+    return what;
 }
 
 /* ---- The opening */
 
-static void open_once(void) {
-    if (lists++)
+void open_once(void) {
+    if (beside_side.peer)
         return;
     clock_gettime(CLOCK_PROCESS_CPUTIME_ID, &began);
-    report = getenv("BESIDE_REPORT");
+    watch();
     size_t size = psci_beside_size(PSCI_MOST_CORES);
     void *memory = aligned_alloc(16, size);
-    if (!memory || psci_beside_open(&side, &psci_beside_target, &profile, memory, size) != PSCI_OPENED) {
+    place = OPENING;
+    if (!memory || psci_beside_open(&beside_side, planted(&psci_beside_target), &profile, memory, size) != PSCI_OPENED) {
         fprintf(stderr, "beside: the board does not open\n");
         exit(1);
     }
+    place = OUTSIDE;
     atexit(write_report);
-}
-
-/* ---- Stored stories */
-
-/* An event of a line of a story, or false. */
-static bool read_event(const char *line, struct psci_beside_event *e) {
-    static const char *const forms[] = {"call %" SCNu32 " %" SCNx64 " %" SCNx64 " %" SCNx64 " %" SCNx64,
-        "enter %" SCNu32, "wake %" SCNu32, "reset %" SCNu32, "deliver %" SCNu32, "take %" SCNu32,
-        "# a wake-up waits for core %" SCNu32};
-    *e = (struct psci_beside_event){.kind = PSCI_BESIDE_LACKS};
-    if (strncmp(line, "# memory", 8) == 0)
-        return true;
-    for (uint32_t kind = PSCI_BESIDE_CALL; kind <= PSCI_BESIDE_WAITS; kind++)
-        if (sscanf(line, forms[kind], &e->number, &e->x[0], &e->x[1], &e->x[2], &e->x[3]) >= 1) {
-            e->kind = kind;
-            return true;
-        }
-    return false;
-}
-
-/* Whether an event came to this group. */
-static bool ends_in(const char *key, uint32_t what) {
-    return (what == PSCI_BESIDE_DIFFERS || what == PSCI_BESIDE_PARTED) && is_same(side.difference.key, key);
-}
-
-int stories(const char *path) {
-    static char line[512], key[sizeof line];
-    FILE *from = fopen(path, "r");
-    int many = 0, missed = 0;
-    bool found = true;
-    open_once();
-    while (from && fgets(line, sizeof line, from)) {
-        struct psci_beside_event e;
-        line[strcspn(line, "\n")] = 0;
-        if (*line == '=' || *line == '+') {
-            missed += !found;
-            many++;
-            strcpy(key, line + 2);
-            found = false;
-            psci_beside_begin(&side);
-        } else if (*line == ' ' && strlen(line) > 4 && read_event(line + 4, &e)) {
-            found |= ends_in(key, psci_beside_do(&side, &e));
-        } else if (*line == 0 && !found) {
-            printf("it no longer comes: %s\n", key);
-        }
-    }
-    if (from)
-        fclose(from);
-    printf("%d of %d stories come\n", many - missed - !found, many);
-    return missed || !found || !many;
 }
 
 /* ---- The convention of fuzzers */
@@ -220,19 +91,19 @@ int stories(const char *path) {
 static const struct psci_beside_event version = {.kind = PSCI_BESIDE_CALL, .x = {0x84000000}};
 
 int LLVMFuzzerTestOneInput(const uint8_t *data, size_t size) {
+    uint32_t what;
     open_once();
+    beside_lists++;
     draw_from(data, size);
-    psci_beside_begin(&side);
-    if (psci_beside_do(&side, &version) >= PSCI_BESIDE_DIFFERS)
-        differ();
-    while (!is_drawn()) {
-        struct psci_beside_event e = draw_event(&side);
-        uint32_t what = psci_beside_do(&side, &e);
-        events++;
-        if (what == PSCI_BESIDE_DIFFERS || what == PSCI_BESIDE_PARTED)
-            differ();
-        if (what >= PSCI_BESIDE_OVER)
-            break;
-    }
+    begin_list();
+    if (do_event(&version) >= PSCI_BESIDE_DIFFERS && differ())
+        return 0;
+    do {
+        struct psci_beside_event e = draw_event();
+        what = do_event(&e);
+        beside_events++;
+        if ((what == PSCI_BESIDE_DIFFERS || what == PSCI_BESIDE_PARTED) && differ())
+            return 0;
+    } while (!is_drawn() && what < PSCI_BESIDE_OVER);
     return 0;
 }

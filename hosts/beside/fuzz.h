@@ -7,17 +7,21 @@
 /* The peer of this target: its file has this. */
 extern const struct psci_beside_peer psci_beside_target;
 
-/* What it declares of itself, and the groups of the report that is stored of it, with a null pointer at
- * their end: hosts/beside/profile writes these. */
+/* What it declares of itself; the groups of the report that is stored of it, each with how many lists of how many
+ * it was seen in; and by function and code the sentence that decides, of code 0 for all but refusals. Each ends with
+ * a null pointer. hosts/beside/profile writes these. */
 extern const struct psci_beside_profile profile;
-extern const char *const known[];
+extern const struct known {
+    const char *key;
+    uint64_t seen, lists;
+} known[];
+extern const struct rule {
+    const char *function;
+    int32_t code;
+    const char *words;
+} rules[];
 
-/* The bytes that events are drawn from, the next event, and whether none is left. */
-void draw_from(const uint8_t *data, size_t size);
-struct psci_beside_event draw_event(const struct psci_beside *);
-bool is_drawn(void);
-
-/* Each story of a stored report once more: 0 where each comes to its group. */
+/* Each story of a stored report once more: 0 where each comes to its group, and no event of it can go. */
 int stories(const char *path);
 
 /* One input, which is a list of events. */

@@ -3,7 +3,7 @@
  *   TARGET FILE..              runs stored inputs, one a file
  *   TARGET --draws N [SEED]    inputs that are drawn blindly
  *   TARGET --stories REPORT    each story of a stored report once more */
-#include "fuzz.h"
+#include "lists.h"
 
 #include <stdio.h>
 #include <stdlib.h>
@@ -19,6 +19,7 @@ static uint64_t draw(uint64_t *seed) {
 
 static void draws(uint64_t many, uint64_t seed) {
     static uint8_t input[DRAWN];
+    is_drawn_blindly = true;
     for (uint64_t at = 0; at < many; at++) {
         for (size_t i = 0; i < DRAWN; i++)
             input[i] = (uint8_t)(draw(&seed) >> 24);

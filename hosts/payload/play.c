@@ -3,7 +3,8 @@
 #include "record.h"
 
 enum { STEP_TIME = 3000000, ENTRY_TIME = 300000, POLL_TIME = 300000 };
-enum { SYSTEM_OFF = 0x84000008, ALL_MASKED = 0x3c0, MMU_OR_CACHE = 5 };
+enum { SYSTEM_OFF = 0x84000008, SYSTEM_RESET = 0x84000009, SYSTEM_RESET2 = 0x84000012 };
+enum { SMC64 = 0x40000000, ALL_MASKED = 0x3c0, MMU_OR_CACHE = 5 };
 
 struct state { uint64_t level, masks, control; };
 
@@ -42,9 +43,15 @@ static void ask_in_storm(uint32_t core, const uint64_t x[4]) {
     copy4(entry->behind, x);
     entry->begin = tick();
     entry->kind = KEPT_OPEN;
+    before_call(core, x);
     entry->lost = conduit_call(entry->behind, machine.is_smc);
+    after_call(core, x, entry->behind[0]);
     entry->end = tick();
     come_about(entry, KEPT_CALL);
+}
+
+static int may_end_life(uint32_t word) {
+    return word == SYSTEM_OFF || word == SYSTEM_RESET || (word & ~(uint32_t)SMC64) == SYSTEM_RESET2;
 }
 
 void ask(uint32_t core, const uint64_t x[4], enum told told) {
@@ -54,13 +61,16 @@ void ask(uint32_t core, const uint64_t x[4], enum told told) {
         ask_in_storm(core, x);
         return;
     }
+    if (may_end_life((uint32_t)x[0])) line_told();
     copy4(y, x);
     number = cores[core].number++;
     begin = tick();
     LINE("open", core, number, begin, x[0], x[1], x[2], x[3]);
     if (told == GOING) add(&done, 1);
     if (told == TOLD) begin = tick();
+    before_call(core, x);
     lost = conduit_call(y, machine.is_smc);
+    after_call(core, x, y[0]);
     end = tick();
     LINE("call", core, number, begin, end, 1, x[0], x[1], x[2], x[3], y[0], y[1], y[2], y[3], lost);
 }
@@ -196,7 +206,7 @@ void booted(const void *tree) {
     boot_level = entry_state().level;
     LINE("head", 1, (uintptr_t)head, (uintptr_t)entries, machine.is_smc, machine.cores, 0);
     interrupts_ready();
-    cores[0].entries = 1;
+    cores[0].entries = cores[0].is_up = 1;
     if (is_of_list) play_all(0);
     else ask(0, (uint64_t[]){SYSTEM_OFF, 0, 0, 0}, ANNOUNCED);
 }
@@ -206,13 +216,15 @@ void entered(uint64_t core, uint64_t at, uint64_t context) {
     struct entry *entry = storm.is_on ? new_entry() : 0;
     if (entry) {
         *entry =
-            (struct entry){0, (uint32_t)core, mine->number++, 0, tick(), {at, context}, {0}, 0};
+            (struct entry){0, 0, (uint32_t)core, mine->number++, 0, tick(), {at, context}, {0}, 0};
         come_about(entry, KEPT_ENTER);
     } else {
         uint32_t time = tick();
         LINE("enter", core, mine->number++, time, at, context);
     }
     look_at_state(core);
+    if (!mine->is_up) add(&mine->taken, 1);
+    mine->is_up = 1;
     add(&mine->entries, 1);
     interrupts_ready();
     mine->has_timer = 0;

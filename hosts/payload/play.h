@@ -19,9 +19,11 @@ struct list {
 };
 extern struct list list;
 
-/* of each core: its next step, the number of its next line, and how often it entered */
+/* of each core: its next step, the number of its next line, and how often it entered; how often it was asked on with
+ * success, how often it entered by that, and whether it has entered and did not go off since */
 struct core {
     volatile uint32_t next, number, entries, is_asleep, has_timer;
+    volatile uint32_t asked, taken, is_up;
 };
 extern struct core cores[MOST_CORES];
 
@@ -43,6 +45,9 @@ struct storm {
 };
 extern struct storm storm;
 void storm_begins(void);
+/* What a call means for starts that somebody has to take up: before it is made, and once it was answered. */
+void before_call(uint32_t core, const uint64_t x[4]);
+void after_call(uint32_t core, const uint64_t x[4], uint64_t answer);
 void storm_of(uint32_t core);
 void storm_ends(void);
 

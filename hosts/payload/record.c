@@ -12,6 +12,8 @@ enum {
 
 static struct entry kept[MOST_ENTRIES];
 static volatile uint32_t many_kept, is_writing;
+/* how many lines of this life were written, and the CRC-32 of their texts */
+static uint32_t many_told, sum;
 
 static void put(char letter) {
     if (!machine.uart) {
@@ -25,8 +27,16 @@ static void put(char letter) {
     }
 }
 
+/* A letter of a line, which counts in its sum. */
+static void put_summed(char letter) {
+    uint32_t rest = ~sum ^ (uint8_t)letter;
+    for (int bit = 0; bit < 8; bit++) rest = rest >> 1 ^ (0xedb88320 & -(rest & 1));
+    sum = ~rest;
+    put(letter);
+}
+
 static void text(const char *it) {
-    while (*it) put(*it++);
+    while (*it) put_summed(*it++);
 }
 
 static void number(uint64_t value) {
@@ -36,37 +46,61 @@ static void number(uint64_t value) {
         uint32_t digit = value & 15;
         digits[many++] = (char)(digit < 10 ? '0' + digit : 'a' + digit - 10);
     }
-    while (many) put(digits[--many]);
+    while (many) put_summed(digits[--many]);
+}
+
+static void end_of_line(void) {
+    put('\r');
+    put('\n');
 }
 
 void line_alone(const char *kind, const uint64_t *numbers, uint32_t many) {
-    text("\r\npsci: ");
+    end_of_line();
+    text("psci: ");
     text(kind);
-    for (uint32_t at = 0; at < many; at++) put(' '), number(numbers[at]);
-    text(" .\r\n");
+    for (uint32_t at = 0; at < many; at++) put_summed(' '), number(numbers[at]);
+    text(" .");
+    end_of_line();
+    many_told++;
+}
+
+static void take(void) {
+    while (__atomic_exchange_n(&is_writing, 1, __ATOMIC_ACQUIRE)) __asm__("yield");
+}
+
+static void give(void) {
+    __atomic_store_n(&is_writing, 0, __ATOMIC_RELEASE);
 }
 
 void line(const char *kind, const uint64_t *numbers, uint32_t many) {
-    while (__atomic_exchange_n(&is_writing, 1, __ATOMIC_ACQUIRE)) __asm__("yield");
+    take();
     line_alone(kind, numbers, many);
-    __atomic_store_n(&is_writing, 0, __ATOMIC_RELEASE);
+    give();
+}
+
+void line_told(void) {
+    take();
+    line_alone("told", (const uint64_t[]){many_told, sum}, 2);
+    give();
 }
 
 struct entry *new_entry(void) {
     uint32_t at = add(&many_kept, 1);
     if (at >= MOST_ENTRIES) return 0;
-    kept[at].kind = 0; /* as long as it is not filled: there may have been a storm before */
+    kept[at].kind = kept[at].written = 0; /* as long as it is not filled: there may have been a storm before */
     return &kept[at];
 }
 
-void write_entry(const struct entry *it) {
+void write_entry(struct entry *it) {
     const uint64_t *x = it->before, *y = it->behind;
-    if (it->kind == KEPT_CALL)
+    uint32_t kind = it->kind;
+    if (__atomic_exchange_n(&it->written, kind, __ATOMIC_SEQ_CST) == kind) return;
+    if (kind == KEPT_CALL)
         LINE("call", it->core, it->number, it->begin, it->end, 1, x[0], x[1], x[2], x[3], y[0],
              y[1], y[2], y[3], it->lost);
-    if (it->kind == KEPT_OPEN)
+    if (kind == KEPT_OPEN)
         LINE("open", it->core, it->number, it->begin, x[0], x[1], x[2], x[3]);
-    if (it->kind == KEPT_ENTER) LINE("enter", it->core, it->number, it->end, x[0], x[1]);
+    if (kind == KEPT_ENTER) LINE("enter", it->core, it->number, it->end, x[0], x[1]);
 }
 
 void write_entries(void) {

@@ -7,6 +7,8 @@
 void line(const char *kind, const uint64_t *numbers, uint32_t many);
 /* As before, when nobody else can write: from an exception. */
 void line_alone(const char *kind, const uint64_t *numbers, uint32_t many);
+/* Writes how many lines there were so far, and the sum of their texts: before what may end the life. */
+void line_told(void);
 #define LINE(kind, ...) \
     do { \
         const uint64_t numbers_[] = {__VA_ARGS__}; \
@@ -17,13 +19,14 @@ void line_alone(const char *kind, const uint64_t *numbers, uint32_t many);
  * storm. */
 enum kept { KEPT_OPEN = 1, KEPT_CALL, KEPT_ENTER };
 struct entry {
-    volatile uint32_t kind;
+    /* what it is, and as what it was written last: its core and the one that ends the storm may both come to it */
+    volatile uint32_t kind, written;
     uint32_t core, number, begin, end;
     uint64_t before[4], behind[4], lost;
 };
 /* The next entry; nothing where there is no more room. */
 struct entry *new_entry(void);
-void write_entry(const struct entry *);
+void write_entry(struct entry *);
 void write_entries(void);
 
 #endif

@@ -31,6 +31,27 @@ static uint64_t draw(uint32_t core) {
     return state[core] = x;
 }
 
+static uint32_t function_of(const uint64_t x[4]) {
+    return (uint32_t)x[0] & ~(uint32_t)SMC64;
+}
+
+void before_call(uint32_t core, const uint64_t x[4]) {
+    if (function_of(x) == CPU_OFF) cores[core].is_up = 0;
+}
+
+void after_call(uint32_t core, const uint64_t x[4], uint64_t answer) {
+    uint64_t target = x[0] & SMC64 ? x[1] : (uint32_t)x[1], entry = x[2] - (uintptr_t)entries;
+    cores[core].is_up = 1;
+    if (function_of(x) != CPU_ON || (uint32_t)answer || entry >= 16 * 8 || entry % 8) return;
+    for (uint32_t it = 0; it < machine.cores; it++)
+        if (affinities[it] == target) add(&cores[it].asked, 1);
+}
+
+/* Whether a start of this core was granted that it has not taken up. */
+static int is_awaited(uint32_t core) {
+    return cores[core].asked > cores[core].taken;
+}
+
 void storm_begins(void) {
     for (uint32_t core = 0; core < machine.cores; core++) {
         state[core] = storm.seed * 0x9e3779b97f4a7c15ul + (core + 1) * 0xbf58476d1ce4e5b9ul;
@@ -114,6 +135,10 @@ void storm_ends(void) {
     for (uint32_t core = 0; core < machine.cores; core++) {
         while (cores[core].has_timer && !is_past(end)) {}
         if (cores[core].has_timer) LINE("late", core, 0);
+    }
+    for (uint32_t core = 0; core < machine.cores; core++) {
+        while (is_awaited(core) && !is_past(end)) {}
+        if (is_awaited(core)) LINE("lacks", 0, cores[0].number++, tick(), core, cores[core].entries + 1);
     }
     storm.is_on = 0;
     __atomic_thread_fence(__ATOMIC_SEQ_CST);

@@ -7,6 +7,13 @@ GUMDARTS_ARCHIVE	?=	${GUMDARTS}/out/lib/aarch64/libpsci_ffi-strict-align.a
 GUMDARTS_FOLDER		?=	${GUMDARTS}/hosts/tfa
 GUMDARTS_RECORD		?=	0
 
+# Another version may do more as a core comes up or goes down, and nothing would say that it is missing.
+# hosts/tfa/accounted says what it does.
+GUMDARTS_VERSIONS	:=	2.8 2.12
+ifeq ($(filter ${VERSION_MAJOR}.${VERSION_MINOR},${GUMDARTS_VERSIONS}),)
+$(error GUMDARTS knows TF-A ${GUMDARTS_VERSIONS}, and not ${VERSION_MAJOR}.${VERSION_MINOR})
+endif
+GUMDARTS_TFA_MINOR	:=	${VERSION_MINOR}
 ifneq (${ARCH},aarch64)
 $(error GUMDARTS is for AArch64)
 endif
@@ -33,3 +40,4 @@ PSCI_LIB_SOURCES	:=	$(filter-out lib/psci/psci_%.c,${PSCI_LIB_SOURCES})	\
 INCLUDES		+=	-Ilib/psci -I${GUMDARTS}/include -I${GUMDARTS}/hosts -I${GUMDARTS_FOLDER}
 BL31_LIBS		+=	${GUMDARTS_ARCHIVE}
 $(eval $(call add_define,GUMDARTS_RECORD))
+$(eval $(call add_define,GUMDARTS_TFA_MINOR))

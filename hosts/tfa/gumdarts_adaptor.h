@@ -15,7 +15,9 @@
 #define SET_SUSPEND_MODE 0x8400000fU
 
 /* What a core reads and writes with its caches off: on its way down, and before its caches are on. */
-#if USE_COHERENT_MEM
+#if USE_COHERENT_MEM && GUMDARTS_TFA_MINOR > 8
+#define SEEN_UNCACHED __section(".tzfw_coherent_mem")
+#elif USE_COHERENT_MEM
 #define SEEN_UNCACHED __section("tzfw_coherent_mem")
 #else
 #define SEEN_UNCACHED

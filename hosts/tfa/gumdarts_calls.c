@@ -173,19 +173,47 @@ static u_register_t stopped(const uint64_t *x, const psci_power_state_t *asked, 
     return code_register(answer->code, (uint32_t)x[0]);
 }
 
+/* Before the firmware, which takes back nothing that it has granted. In OS-initiated mode it grants what is asked. */
+static int suspend_refused(const psci_power_state_t *asked)
+{
+#if GUMDARTS_TFA_MINOR > 8 && PSCI_OS_INIT_MODE
+    if (psci_plat_pm_ops->pwr_domain_validate_suspend != NULL)
+        return psci_plat_pm_ops->pwr_domain_validate_suspend(asked);
+#endif
+    (void)asked;
+    return PSCI_E_SUCCESS;
+}
+
 /* As in lib/psci, none are locked for the suspend of a core alone. */
 static u_register_t suspend(const uint64_t *x, const psci_power_state_t *asked)
 {
     unsigned int core = plat_my_core_pos(), level = psci_find_target_suspend_lvl(asked);
     struct psci_answer answer;
     struct psci_stop stop;
+    int refused;
 
     domains_lock(core, firmware_level(level));
+    refused = suspend_refused(asked);
+    if (refused != PSCI_E_SUCCESS) {
+        domains_unlock(core);
+        return code_register(refused, (uint32_t)x[0]);
+    }
     while (!firmware_call_locked(core, x, level, &answer, &stop)) {
         domains_unlock(core);
         domains_lock(core, firmware_level(level));
     }
     return stopped(x, asked, &answer, &stop);
+}
+
+/* The platform's word comes before any lock. */
+static bool off_refused(const psci_power_state_t *asked)
+{
+#if GUMDARTS_TFA_MINOR > 8
+    if (psci_plat_pm_ops->pwr_domain_off_early != NULL)
+        return psci_plat_pm_ops->pwr_domain_off_early(asked) == PSCI_E_DENIED;
+#endif
+    (void)asked;
+    return false;
 }
 
 static u_register_t cpu_off(const uint64_t *x)
@@ -196,6 +224,8 @@ static u_register_t cpu_off(const uint64_t *x)
     struct psci_stop stop;
     int refused = 0;
 
+    if (off_refused(&asked))
+        return code_register(PSCI_E_DENIED, (uint32_t)x[0]);
     domains_lock(core, PLAT_MAX_PWR_LVL);
     if (psci_spd_pm != NULL && psci_spd_pm->svc_off != NULL)
         refused = (int)psci_spd_pm->svc_off(0);

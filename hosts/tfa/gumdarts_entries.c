@@ -4,7 +4,11 @@
 #include <arch_helpers.h>
 #include <common/debug.h>
 #include <context.h>
+#if GUMDARTS_TFA_MINOR > 8
+#include <lib/cpus/errata.h>
+#else
 #include <lib/cpus/errata_report.h>
+#endif
 #include <lib/el3_runtime/context_mgmt.h>
 #include <lib/el3_runtime/pubsub_events.h>
 
@@ -82,6 +86,9 @@ void psci_warmboot_entrypoint(void)
     struct psci_stop stop;
     bool woken = doors[core].wakes;
 
+#if GUMDARTS_TFA_MINOR > 8
+    cm_manage_extensions_el3();
+#endif
     domains_lock(core, changed_level(core));
     states = told_states(core);
 #if ENABLE_PSCI_STAT

@@ -46,9 +46,9 @@ uint64_t firmware_word(const psci_power_state_t *states, unsigned int type)
 
 psci_power_state_t all_off(void)
 {
-    psci_power_state_t states;
+    psci_power_state_t states = {{PSCI_LOCAL_STATE_RUN}};
 
-    memset(&states, PLAT_MAX_OFF_STATE, sizeof(states));
+    memset(states.pwr_domain_state, PLAT_MAX_OFF_STATE, sizeof(states.pwr_domain_state));
     return states;
 }
 
@@ -76,9 +76,10 @@ static plat_local_state_t chosen(unsigned int core, unsigned int level, unsigned
 psci_power_state_t states_of(unsigned int core, const struct psci_stop *stop,
                              const psci_power_state_t *asked)
 {
-    psci_power_state_t states = {{PSCI_LOCAL_STATE_RUN}};
+    psci_power_state_t states = *asked;
     unsigned int node = psci_cpu_pd_nodes[core].parent_node;
 
+    memset(states.pwr_domain_state, PSCI_LOCAL_STATE_RUN, sizeof(states.pwr_domain_state));
     states.pwr_domain_state[0] = depth_of(asked->pwr_domain_state[0]) == stop->depths[0] ?
         asked->pwr_domain_state[0] : deepest_of(stop->depths[0]);
     for (unsigned int level = 1U; level <= doors[core].level; level++) {

@@ -5,6 +5,10 @@
 #include <drivers/console.h>
 #include <drivers/delay_timer.h>
 #include <lib/el3_runtime/pubsub_events.h>
+#if GUMDARTS_TFA_MINOR > 8
+#include <arch_features.h>
+#include <lib/extensions/spe.h>
+#endif
 
 #include "gumdarts_adaptor.h"
 
@@ -130,8 +134,28 @@ void __dead2 end_system(uint32_t function)
 
 /* ---- what the rest of BL31 asks */
 
+#if GUMDARTS_TFA_MINOR > 8
+/* What writes to memory by itself stops before the caches go. */
+void psci_do_manage_extensions(void)
+{
+    if (is_feat_spe_supported())
+        spe_stop();
+}
+
+bool psci_are_all_cpus_on_safe(void)
+{
+    for (unsigned int core = 0U; core < psci_plat_core_count; core++)
+        if (firmware_status(core) == AFF_STATE_OFF)
+            return false;
+    return true;
+}
+#endif
+
 void psci_pwrdown_cpu(unsigned int level)
 {
+#if GUMDARTS_TFA_MINOR > 8
+    psci_do_manage_extensions();
+#endif
 #if HW_ASSISTED_COHERENCY
     prepare_cpu_pwr_dwn(level);
 #else

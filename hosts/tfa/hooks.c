@@ -1,8 +1,9 @@
-/* What PLAT=qemu of TF-A 2.8 lacks, without a change of it: the linker puts these in the place of its own
+/* What PLAT=qemu of TF-A lacks, without a change of it: the linker puts these in the place of its own
  * functions. Suspend to power-down, of cores, clusters and the system; retention of a cluster; and with
  * HOOKS_CLUSTER two clusters of so many cores, since QEMU numbers its cores in a row. */
 #include <assert.h>
 
+#include <arch_features.h>
 #include <arch_helpers.h>
 #include <common/debug.h>
 #include <lib/psci/psci.h>
@@ -17,7 +18,9 @@ int __wrap_plat_core_pos_by_mpidr(u_register_t mpidr);
 
 #define CLUSTER_RETENTION U(0x1000011)
 
-#if USE_COHERENT_MEM
+#if USE_COHERENT_MEM && HOOKS_TFA_MINOR > 8
+static volatile bool suspended[PLATFORM_CORE_COUNT] __section(".tzfw_coherent_mem");
+#elif USE_COHERENT_MEM
 static volatile bool suspended[PLATFORM_CORE_COUNT] __section("tzfw_coherent_mem");
 #else
 static volatile bool suspended[PLATFORM_CORE_COUNT];
@@ -58,11 +61,24 @@ static void suspend_finish(const psci_power_state_t *states)
     assert(is_local_state_run(states->pwr_domain_state[0]) == 0);
 }
 
-/* QEMU's cores keep their power: this one waits with its MMU off, and enters as from reset. */
+/* QEMU's cores keep their power. What EL3 sets once in the life of a core, this one has lost all the same. */
+static void forget(void)
+{
+#if HOOKS_TFA_MINOR > 8
+    if (is_feat_sme_supported()) {
+        write_cptr_el3(read_cptr_el3() | ESM_BIT);
+        isb();
+        write_smcr_el3(0U);
+    }
+#endif
+}
+
+/* This core waits with its MMU off, and enters as from reset. */
 static void __dead2 wait_for_power(const psci_power_state_t *states)
 {
     unsigned int core = plat_my_core_pos();
 
+    forget();
     if (!suspended[core])
         platform->pwr_domain_pwr_down_wfi(states);
     suspended[core] = false;

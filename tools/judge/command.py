@@ -46,8 +46,18 @@ def names_of(paths):
     return ["/".join(os.path.splitext(os.path.abspath(it))[0].split("/")[-2:]) for it in paths]
 
 
+def verdicts_on(words, lives_of, peer):
+    """The verdicts, by the version of the calling convention that some record tells."""
+    version = max(record.convention(lives) for _, lives in lives_of)
+    for path, (name, lives) in zip(words.records, lives_of):
+        try:
+            yield judged(name, lives, peer, words.bound, words.limit, words.whole, version=version)
+        except record.Unreadable as fault:
+            end(RECORD, f"{path}: {fault}")
+
+
 def judge(words, lives_of, peer):
-    verdicts = [judged(name, lives, peer, words.bound, words.limit, words.whole) for name, lives in lives_of]
+    verdicts = list(verdicts_on(words, lives_of, peer))
     groups = grouped(verdicts)
     known = report.read_baseline(words.baseline) if words.baseline else None
     if words.write_baseline:

@@ -1,23 +1,17 @@
 """Reads a record of calls: the operations of each core, life by life."""
 from collections import namedtuple
 
-from .words import ENDS, LOW, SLEEPS, STOPS, code_of, name_of
+from . import lines
+from .lines import Unreadable, is_of_calls  # noqa: F401
+from .words import CONVENTION, ENDS, LOW, SLEEPS, STOPS, code_of, name_of
 
-MARK, END = "psci: ", " ."
 INFINITE = float("inf")
-# how many numbers each kind of line has
-FIELDS = {"head": 6, "call": 14, "open": 7, "enter": 5, "late": 2, "lacks": 5, "fault": 3, "lost": 2, "state": 4}
-FORM = 1
 # registers that a call has to keep by every version of the calling convention: x18 to x30, v0 to v31
 KEPT = 0x7FFC0000 | 0xFFFFFFFF << 32
 # what each version of the convention but 1.0 has a call keep, too
 EARLY_REGISTERS = "x4 to x17 changed, as version 1.0 of the convention lets them"
 # what a record says that is no answer: kind is "fault" or "note"
 Remark = namedtuple("Remark", "kind what text")
-
-
-class Unreadable(Exception):
-    """This is no record of calls; the text says why."""
 
 
 class Operation:
@@ -49,62 +43,35 @@ class Life:
         # whether a core ended it, by a call from which none comes back
         self.is_ended = False
 
+    def ends_by(self, words):
+        """Whether the last call of a core is one of these, and did not come back."""
+        return any(mine and mine[-1].want == ("any",) and mine[-1].word in words for mine in self.operations.values())
+
     def ordered(self):
         """The operations that came to an end, as their ends follow each other."""
         every = [it for mine in self.operations.values() for it in mine if it.end < INFINITE]
         return sorted(every, key=lambda it: (it.end, it.core, it.at))
 
 
-def lines_of(file):
-    """The kinds and numbers of the lines that are the record's."""
-    for number, text in enumerate(file, 1):
-        text = text.strip()
-        if not (text.startswith(MARK) and text.endswith(END)):
-            continue
-        kind, *numbers = text[len(MARK):-len(END)].split(" ")
-        try:
-            numbers = [int(it, 16) for it in numbers]
-        except ValueError:
-            raise Unreadable(f"line {number}: a number is none") from None
-        if len(numbers) != FIELDS.get(kind):
-            raise Unreadable(f"line {number}: no line of a record has this form")
-        yield kind, numbers
-
-
-def is_of_calls(path):
-    """Whether a file is a record of calls."""
-    with open(path, encoding="ascii", errors="replace") as file:
-        return any(line.startswith(MARK + "head ") for line in file)
-
-
 def read(path):
     """The lives of a record."""
-    lives, raw = [], None
-    with open(path, encoding="ascii", errors="replace") as file:
-        for kind, numbers in lines_of(file):
-            if kind == "head":
-                if numbers[0] != FORM:
-                    raise Unreadable(f"the record has form {numbers[0]}, and this reads form {FORM}")
-                if numbers[5] != 0:
-                    raise Unreadable("the core that booted is not core 0")
-                raw = {}
-                lives.append((Life(numbers), raw))
-            elif raw is None:
-                raise Unreadable("no line psci: head stands before the first other one")
-            else:
-                keep(lives[-1][0], raw, kind, numbers)
-    if not lives:
-        raise Unreadable("it has no line psci: head")
-    for life, raw in lives:
-        gather(life, raw)
-        # a suspend that is open as the system goes off may just have begun: a step has to be late, too
-        if not any(it.what == "late" for it in life.remarks):
-            life.broken = []
-    return [life for life, _ in lives]
+    return [life_of(it) for it in lines.read(path)]
 
 
-def keep(life, raw, kind, numbers):
-    """Keeps a line by its core and number; an open call gives way to what came of it."""
+def life_of(found):
+    """A life, by its lines."""
+    life = Life(found.head)
+    for line in found.others:
+        remark(life, line.kind, line.numbers)
+    gather(life, {core: [(it.kind, it.numbers) for it in mine] for core, mine in sorted(found.of_core.items())})
+    # a suspend that is open as the system goes off may just have begun: a step has to be late, too
+    if not any(it.what == "late" for it in life.remarks):
+        life.broken = []
+    return life
+
+
+def remark(life, kind, numbers):
+    """Keeps what a line says that is no answer."""
     if kind == "late":
         life.remarks.append(Remark("note", "late", f"core {numbers[0]}: step {numbers[1]} did not end in time"))
     elif kind == "fault":
@@ -113,32 +80,31 @@ def keep(life, raw, kind, numbers):
     elif kind == "lost":
         names = names_of(numbers[1], 4)
         life.remarks.append(Remark("fault", "registers that changed without a call", f"core {numbers[0]}: {names}"))
-    elif kind == "state":
+    else:
         text = f"core {numbers[0]}: CurrentEL {numbers[1]:#x}, DAIF {numbers[2]:#x}, SCTLR {numbers[3]:#x}"
         life.remarks.append(Remark("fault", "the state in which a core enters", text))
-    else:
-        key = numbers[0], numbers[1]
-        if key not in raw or raw[key][0] == "open":
-            raw[key] = kind, numbers
 
 
-def gather(life, raw):
-    """Makes operations of the lines."""
-    of_core = {}
-    for core, number in sorted(raw):
-        of_core.setdefault(core, []).append(raw[core, number])
-        if raw[core, number][0] == "enter":
-            life.last_entry[core] = raw[core, number][1][2]
-    for core, lines in of_core.items():
+def gather(life, of_core):
+    """Makes operations of the lines of each core."""
+    life.last_entry = {core: max(it[2] for kind, it in mine if kind == "enter") for core, mine in of_core.items()
+                       if any(kind == "enter" for kind, _ in mine)}
+    for core, every in of_core.items():
         mine = life.operations[core] = []
-        for at, (kind, numbers) in enumerate(lines):
-            is_last = at + 1 == len(lines)
+        for at, (kind, numbers) in enumerate(every):
+            is_last = at + 1 == len(every)
             mine += {"call": called, "open": opened, "enter": entered, "lacks": lacked}[kind](life, numbers, is_last)
         for at, it in enumerate(mine):
             it.at = at
             if it.want == ("stop",) and at + 1 < len(mine):
                 it.end = mine[at + 1].end
         life.is_ended |= bool(mine) and mine[-1].want == ("any",) and mine[-1].word in ENDS
+
+
+def convention(lives):
+    """The highest version of the calling convention that was told, 0 where none was asked for."""
+    return max((it.want[1] for life in lives for mine in life.operations.values() for it in mine
+                if it.word == CONVENTION and it.want[0] == "return"), default=0)
 
 
 def told(core, regs):

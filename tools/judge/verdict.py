@@ -3,8 +3,10 @@ import time
 from collections import namedtuple
 
 from . import after
-from .record import EARLY_REGISTERS, Remark
+from .record import EARLY_REGISTERS, Remark, Unreadable, convention
 from .search import Search, Undecided
+from .starts import never_entered
+from .words import KEEPS_EARLY, SYSTEM_OFF2
 
 # operation, what ours answers, and whether an earlier difference of the record came first
 Difference = namedtuple("Difference", "operation ours is_later")
@@ -27,18 +29,27 @@ class Verdict:
         self.differences.append(Difference(operation, ours, bool(self.differences) and not is_first_of_life))
 
 
-def seen(remark, profile):
-    """A remark on a firmware that declares that it keeps more than it has to."""
-    if profile.keeps_early and remark.what == EARLY_REGISTERS:
-        return Remark("fault", "x4 to x17 changed, which it says that it keeps", remark.text)
-    return remark
+def seen(remark, profile, version):
+    """A remark on a firmware that keeps more than it has to by each version of the convention: as it declares, or by
+    the version that it tells."""
+    if remark.what != EARLY_REGISTERS or not profile.keeps_early and version < KEEPS_EARLY:
+        return remark
+    why = "which it says that it keeps" if profile.keeps_early else (
+        f"which a call keeps by version {version >> 16}.{version % 2**16} of the convention, as it says")
+    return Remark("fault", f"x4 to x17 changed, {why}", remark.text)
 
 
-def judged(name, lives, profile, bound=20000, limit=60.0, is_whole=False, has_later=True):
-    """The verdict on the lives of a record; without later differences it ends with the first one."""
+def judged(name, lives, profile, bound=20000, limit=60.0, is_whole=False, has_later=True, version=0):
+    """The verdict on the lives of a record; without later differences it ends with the first one. Another record of
+    the same firmware may tell the version of the calling convention."""
     verdict, began = Verdict(name), time.monotonic()
+    version = max(version, convention(lives))
     for life in lives:
-        verdict.remarks += [seen(it, profile) for it in life.remarks]
+        if life.head[4] > len(profile.board.cores):
+            many = len(profile.board.cores)
+            raise Unreadable(f"its head has {life.head[4]} cores, and the board of the profile {many}")
+        verdict.remarks += [seen(it, profile, version) for it in life.remarks]
+        verdict.remarks += never_entered(life, profile.board)
         if has_later or not verdict.differences:
             look_at_life(verdict, life, profile, bound, began + limit, is_whole, has_later)
     verdict.seconds = time.monotonic() - began
@@ -70,7 +81,7 @@ def look_at_life(verdict, life, profile, bound, until, is_whole, has_later):
             at += 1
     except Undecided as why:
         verdict.undecided = f"{why}, at {ordered[at].text}"
-    if not life.is_ended:
+    if not life.is_ended and not life.ends_by([it for it in SYSTEM_OFF2 if profile.has(it)]):
         verdict.undecided = verdict.undecided or "the record breaks off"
     verdict.answers += at
     verdict.tried = max(verdict.tried, search.tried)

@@ -7,12 +7,16 @@ NAMES = ("VERSION", "CPU_SUSPEND", "CPU_OFF", "CPU_ON", "AFFINITY_INFO", "MIGRAT
          "MIGRATE_INFO_TYPE", "MIGRATE_INFO_UP_CPU", "SYSTEM_OFF", "SYSTEM_RESET", "FEATURES",
          "CPU_FREEZE", "CPU_DEFAULT_SUSPEND", "NODE_HW_STATE", "SYSTEM_SUSPEND",
          "SET_SUSPEND_MODE", "STAT_RESIDENCY", "STAT_COUNT", "SYSTEM_RESET2", "MEM_PROTECT",
-         "MEM_PROTECT_CHECK_RANGE")
+         "MEM_PROTECT_CHECK_RANGE", "SYSTEM_OFF2", "CLEAN_INV_MEMREGION", "CLEAN_INV_MEMREGION_ATTRIBUTES")
 LOW = 2**32 - 1
+# what asks for the version of the calling convention, and the first one by which a call keeps x4 to x17
+CONVENTION, KEEPS_EARLY = 0x80000000, 0x10001
 # calls from which a core comes back by a wake-up, or not at all
 SLEEPS = fw.CPU_SUSPEND + fw.SYSTEM_SUSPEND
 ENDS = fw.SYSTEM_OFF + fw.SYSTEM_RESET + fw.SYSTEM_RESET2
 STOPS = SLEEPS + ENDS + fw.CPU_OFF
+# of PSCI 1.3, which ends the system where the firmware has it
+SYSTEM_OFF2 = (0x84000015, 0xC4000015)
 # calls about a domain of a level
 LEVELED = tuple(word for it in functions.TABLE if "Level" in it.takes for word in (it.smc32, it.smc64) if word)
 

@@ -61,16 +61,17 @@ def say(number, why):
 
 def main(folder, number):
     """Does a chunk whose result is not there yet; the status says whether it is then."""
+    plan = None
     try:
         plan = plans.read(os.path.abspath(folder))
         if number not in plan.chunks:
             raise whole.Broken(f"{folder}: it has no chunk {number}")
         if plans.result(plan, number) is None:
             whole.write_summed(plan.path_of(number), done(plan, number))
+        plans.hinder(plan, number, None)
         return DONE
-    except (OSError, whole.Broken) as fault:
-        say(number, fault)
-        return WRITE_FAULT
-    except (Unfinished, kinds.Wrong) as why:
+    except (OSError, whole.Broken, Unfinished, kinds.Wrong) as why:
         say(number, why)
-        return UNFINISHED
+        if plan:
+            plans.hinder(plan, number, why)
+        return WRITE_FAULT if isinstance(why, (OSError, whole.Broken)) else UNFINISHED

@@ -10,7 +10,7 @@ import time
 import sentence
 from front.words import Words, fault, number, one_of, seeds
 
-from . import kinds, plan as plans, report, whole
+from . import kinds, page, plan as plans, report, whole
 from .engines import ENGINES
 from .far import Far
 from .kinds import Wrong
@@ -51,9 +51,10 @@ def parsed(words):
 
 def of_report():
     """What the report takes."""
-    one = Words("sweep report", "Prints the report of what is done.", "[--costs] FOLDER..", ENDING)
+    one = Words("sweep report", "Prints the report of what is done.", "[--costs] [--page FILE] FOLDER..", ENDING)
     one.add_argument("folders", metavar="FOLDER", nargs="+", help="of sweeps of one kind, without a seed in common")
     one.flag("--costs", help="say what it took, too")
+    one.add_argument("--page", metavar="FILE", help="write a page of it, to look at")
     return one
 
 
@@ -108,7 +109,7 @@ def begun(folder, words, settings, seeds):
     # the first seed is tried in any case, which tells of faulty words
     size = guessed(kind(settings, folder), seeds, words)
     by = sentence.by_whom(f"{folder}/program") if "program" in files else None
-    return plans.make(folder, words.kind, settings, files, seeds, words.chunk or size, by)
+    return plans.make(folder, words.kind, settings, files, seeds, words.chunk or size, by, words.typed)
 
 
 def plan_of(words):
@@ -120,7 +121,7 @@ def plan_of(words):
     for name in ("results", "failed", "logs"):
         os.makedirs(f"{folder}/{name}", exist_ok=True)
     lock = locked(folder)
-    for name in ("", "/results", "/failed"):
+    for name in ("", "/results", "/failed", "/logs"):
         whole.clear(folder + name)
     if not plans.is_there(folder):
         return begun(folder, words, settings, words.seeds), lock
@@ -147,9 +148,9 @@ def swept(words):
         far.end()
     try:
         ended(plan)
+        return told([plan], True, f"{plan.folder}/{page.NAME}")
     finally:
         lock.close()
-    return told([plan], True)
 
 
 def ended(plan):
@@ -160,11 +161,13 @@ def ended(plan):
         say(said)
 
 
-def told(every, has_costs):
-    """Prints the report of what was made by what each sweep began with; its status."""
+def told(every, has_costs, path=None):
+    """Prints the report of what was made by what each sweep began with, and writes its page; its status."""
     for plan in every:
         plans.look_at_files(plan)
     found = report.Together(every)
+    if path:
+        whole.write(os.path.abspath(path), page.page(found, path).encode())
     try:
         print("\n".join(report.lines(found)), flush=True)
     except sentence.Nothing as why:
@@ -174,7 +177,10 @@ def told(every, has_costs):
         for line in report.costs(found):
             say(line)
     if found.left:
-        say(f"{found.unfinished} chunks are not finished; {every[0].folder}/logs says why, and the same words go on")
+        say(f"{found.unfinished} chunks are not finished, seeds {report.ranges(found.left)}; "
+            f"{every[0].folder}/logs says why, and the same words go on")
+    if path:
+        say(f"{path} is a page of it")
     return DIFFERS if found.differences else LEFT if found.left else SAME
 
 
@@ -183,7 +189,7 @@ def reported(words):
     why = report.misfit(every)
     if why:
         raise Wrong(why)
-    return told(every, words.costs)
+    return told(every, words.costs, words.page)
 
 
 def interrupted(*_):
@@ -192,8 +198,8 @@ def interrupted(*_):
 
 def main(words, ours=None):
     """Runs ./psci sweep with these words; `ours` makes the path of the program, once it is needed."""
-    words = parsed(words)
-    words.ours = ours
+    typed, words = list(words), parsed(words)
+    words.typed, words.ours = typed, ours
     signal.signal(signal.SIGTERM, interrupted)
     try:
         return reported(words) if words.kind == "report" else swept(words)

@@ -9,6 +9,7 @@ import shlex
 import subprocess
 import sys
 import time
+from collections import Counter
 
 from . import plan as plans
 from .chunk import DONE, WRITE_FAULT
@@ -110,6 +111,8 @@ class Farm:
             for at in range(0, len(left), most):
                 self.hand_out(left[at:at + most])
             left = plans.left(self.plan)
+            if left:
+                self.far.say(f"{len(left)} chunks have no result after this round")
 
     def numbers(self, left):
         # a job array of a sweep that was ended may still read its own
@@ -132,6 +135,14 @@ class Farm:
                 process.terminate()
                 end(process)
                 raise
+        if process.returncode:
+            self.far.say(f"{command[0]} ended with status {process.returncode}{self.last_line()}")
+
+    def last_line(self):
+        """What an engine said last."""
+        with open(f"{self.plan.folder}/logs/engine", encoding="utf-8", errors="replace") as log:
+            said = log.read().strip().splitlines()
+        return f": {said[-1]}" if said else ""
 
 
 class Slurm(Farm):
@@ -154,6 +165,7 @@ class Slurm(Farm):
         name = f"psci-sweep-{os.getpid()}-{time.time_ns()}"
         command = ["sbatch", "--wait", f"--job-name={name}", f"--array=0-{len(left) - 1}{limit}",
                    f"--output={folder}/logs/slurm-%A-%a", *self.words]
+        self.far.more = lambda: self.queued(name)
         with open(f"{folder}/logs/job", "w+", encoding="utf-8") as script:
             script.write(job)
             script.seek(0)
@@ -162,6 +174,14 @@ class Slurm(Farm):
             except BaseException:
                 subprocess.run(["scancel", f"--name={name}"], check=False)
                 raise
+
+    @staticmethod
+    def queued(name):
+        """How the tasks of a job array are, and what they wait for."""
+        said = subprocess.run(["squeue", "-h", "-r", f"--name={name}", "-o", "%T %r"], capture_output=True, text=True,
+                              check=False).stdout.splitlines()
+        counts = Counter(it.removesuffix(" None") for it in said)
+        return "".join(f"; {count} {what}" for what, count in sorted(counts.items()))
 
 
 class Parallel(Farm):

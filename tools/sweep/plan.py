@@ -5,7 +5,8 @@ It stands in the folder of the sweep, beside all that a chunk needs (the program
     plan.json        this plan, written last of what begins a sweep; the same words go on with it
     results/N.json   what came of chunk N: there once the chunk is finished, and whole
     failed/          the scripts or records of runs that differ
-    logs/            what engines and chunks said
+    logs/            what engines and chunks said; logs/why-N says why chunk N could not be finished
+    sweep.html       a page of it, to look at
 """
 import hashlib
 import json
@@ -13,7 +14,7 @@ import os
 
 from . import whole
 
-FORM = 1
+FORM, WHY = 1, "why-"
 
 
 class Plan:
@@ -58,12 +59,12 @@ def sum_of(path):
         return hashlib.sha256(file.read()).hexdigest()
 
 
-def make(folder, kind, settings, files, seeds, size, by=None):
-    """Writes a plan into its folder, with the sums of the files that its chunks need, and what answers, where that is
-    our program: a proved one or not, as it is now."""
+def make(folder, kind, settings, files, seeds, size, by=None, words=None):
+    """Writes a plan into its folder, with the sums of the files that its chunks need; what answers, where that is our
+    program: a proved one or not, as it is now; and the words by which it was begun."""
     sums = {name: sum_of(f"{folder}/{name}") for name in files}
     plan = Plan(folder, {"form": FORM, "kind": kind, "settings": settings, "files": sums, "first": seeds[0],
-                         "last": seeds[1], "size": size, "by": by})
+                         "last": seeds[1], "size": size, "by": by, "words": words, "in": os.getcwd()})
     whole.write_summed(f"{folder}/plan.json", plan.text)
     return plan
 
@@ -97,6 +98,34 @@ def result(plan, number):
     seeds = plan.seeds_of(number)
     wanted = {"plan": plan.stamp, "first": seeds[0], "last": seeds[-1], "seeds": len(seeds)}
     return found if all(found.get(name) == value for name, value in wanted.items()) else None
+
+
+def hindered(plan):
+    """The chunks that could not be finished, and why: what a chunk said when it was tried last."""
+    found = []
+    for name in os.listdir(f"{plan.folder}/logs"):
+        number = name.removeprefix(WHY)
+        if name != number and number.isdigit():
+            try:
+                with open(f"{plan.folder}/logs/{name}", encoding="utf-8", errors="replace") as file:
+                    found.append((int(number), file.read().strip()))
+            except FileNotFoundError:
+                # it is done by now
+                pass
+    return sorted(found)
+
+
+def hinder(plan, number, why):
+    """Keeps why a chunk is not finished; nothing, where it is."""
+    path = f"{plan.folder}/logs/{WHY}{number}"
+    try:
+        if why is not None:
+            whole.write(path, f"{why}\n".encode(errors="replace"))
+        elif os.path.exists(path):
+            os.unlink(path)
+    except OSError:
+        # where nothing can be written, the log has it, or nothing has
+        pass
 
 
 def left(plan):

@@ -1,9 +1,16 @@
 """The report of a sweep, or of several of one kind: a sum over the seeds that are done. Nothing of it hangs on
 chunks, engines, machines or time."""
+import os
+from collections import namedtuple
+
 import sentence
 
 from . import kinds, plan as plans, sums
 from .sums import LINES
+
+
+# a chunk, how many of its seeds differ, what it took, and when it ended: nothing of that where it is not finished
+Piece = namedtuple("Piece", "plan first last differs cost ended")
 
 
 class Together:
@@ -11,7 +18,7 @@ class Together:
 
     def __init__(self, every):
         self.plans, self.sums, self.differences = every, {}, []
-        self.cost, self.done, self.left, self.unfinished = {}, [], [], 0
+        self.cost, self.done, self.left, self.unfinished, self.chunks = {}, [], [], 0, []
         for plan in every:
             for number in plan.chunks:
                 self.take(plan, number)
@@ -23,10 +30,13 @@ class Together:
         if found is None:
             self.left.append((seeds[0], seeds[-1]))
             self.unfinished += 1
+            self.chunks.append(Piece(plan, seeds[0], seeds[-1], 0, None, None))
             return
         self.done.append((seeds[0], seeds[-1]))
         sums.add(self.sums, found["sums"])
         self.differences += [{**it, "folder": plan.folder} for it in found["differences"]]
+        self.chunks.append(Piece(plan, seeds[0], seeds[-1], len(found["differences"]), found["cost"],
+                                 os.stat(plan.path_of(number)).st_mtime))
         cost = self.cost.setdefault(found["cost"]["machine"], [0, 0.0, 0.0])
         cost[0] += 1
         cost[1] += found["cost"]["processor"]
@@ -87,16 +97,21 @@ def first_line(found):
                          found.count(number) + several, what, by=found.by)
 
 
+def of_sums(found):
+    """What the report says of the sums."""
+    plan = found.plans[0]
+    if LINES in found.sums:
+        yield f"all that was printed comes to {found.sums[LINES] % 2 ** 64:016x}"
+    yield from kinds.every()[plan.kind].lines(plan.settings, found.sums)
+
+
 def lines(found):
     """The report, line by line."""
-    plan = found.plans[0]
     yield first_line(found)
     yield f"seeds: {ranges(found.done)}"
     if found.left:
         yield f"left: {ranges(found.left)}"
-    if LINES in found.sums:
-        yield f"all that was printed comes to {found.sums[LINES] % 2 ** 64:016x}"
-    yield from kinds.every()[plan.kind].lines(plan.settings, found.sums)
+    yield from of_sums(found)
     for what, runs in sums.by_seed(found.differences):
         yield f"differs: {len(runs)} x {what}"
         yield f"  the first: seed {runs[0]['seed']}, {runs[0]['board']}: failed/ has {', '.join(runs[0]['kept'])}"

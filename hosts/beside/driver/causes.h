@@ -1,23 +1,6 @@
 /* Part of beside.c: what may be odd about a call, and what is left of one that differs once all is
  * taken out of it that does not matter. */
 
-static void put(char *text, size_t size, const char *form, ...) {
-    size_t length = strlen(text);
-    va_list values;
-    va_start(values, form);
-    if (length < size)
-        vsnprintf(text + length, size - length, form, values);
-    va_end(values);
-}
-
-static void say(char *key, size_t size, const did *d) {
-    static const char *const words[] = {"", "stops", "enters", "goes on", "ends", "nothing"};
-    if (d->what == PSCI_RETURN)
-        put(key, size, "%" PRId32, (int32_t)d->x0);
-    else
-        put(key, size, "%s", d->what < 6 ? words[d->what] : "refused");
-}
-
 /* What may be odd about a call, each with a way to make it plain. Each returns its words, or null where
  * there is nothing of the kind. */
 static const char *plain_upper(const beside *b, uint64_t x[4], int at) {
@@ -62,7 +45,7 @@ static const char *plain_entry(const beside *b, uint64_t x[4], int kind) {
     for (uint32_t i = 0; i < b->profile->many_ranges; i++)
         if (b->profile->ranges[i].start <= entry && entry < b->profile->ranges[i].end)
             return NULL;
-    x[at] = b->profile->boot;
+    x[at] = b->profile->boot | (entry & 3);
     return "an entry out of range";
 }
 
@@ -110,52 +93,146 @@ static bool is_same(const did *a, const did *b) {
     return a->what == b->what && (a->what != PSCI_RETURN || (int32_t)a->x0 == (int32_t)b->x0);
 }
 
+/* The same, in all that they told, too. */
+static bool is_equal(const beside *b, const did *one, const did *other) {
+    bool tells = one->what == PSCI_STOP && (one->told || other->told);
+    return is_same(one, other) && (one->what != PSCI_RETURN || one->x0 == other->x0) &&
+           (!tells || (one->told == other->told && !memcmp(one->depths, other->depths, b->board.height + 1)));
+}
+
 /* This call in place of the one that differs, with memory or without: whether both agree, but for the
  * states that are told. */
 static bool agree_on(beside *b, const event *e, bool lacks, did *ours, did *theirs) {
+    did untold;
     keep(b, true);
     if (b->now.lacks && !lacks)
         b->peer->lacks(b->peer->self, false);
     our_side(b, e, ours);
     their_side(b, e, 0, theirs);
-    theirs->told = false;
-    return agree(b, e, ours, theirs);
+    untold = *theirs;
+    untold.told = false;
+    return agree(b, e, ours, &untold);
 }
 
-/* The one thing without which there is no difference, or null. */
-static const char *one_odd(beside *b, const event *e) {
+/* What is left of a call that differs: what both do of it, whether anything is odd about it; and where it is one
+ * thing without which they agree, whether a side does the same without that, whatever core is the target. */
+struct cause {
     did ours, theirs;
-    for (size_t at = 0; at < sizeof odds / sizeof *odds; at++) {
+    bool is_odd, our_same, their_same;
+};
+
+enum { ODDS = sizeof odds / sizeof *odds, MOST_TARGETS = 8 };
+
+/* This call of core 0 as the first one of a list. */
+static void first_on(beside *b, const event *e, did *ours, did *theirs) {
+    event first = *e;
+    first.number = 0;
+    begin(b);
+    our_side(b, &first, ours);
+    their_side(b, &first, 0, theirs);
+}
+
+/* Whether a call and a plain one have the same outcome on each side. */
+static void compare_plain(beside *b, const event *e, const event *plain, struct cause *cause) {
+    did ours, theirs, our_plain, their_plain;
+    agree_on(b, e, false, &ours, &theirs);
+    agree_on(b, plain, false, &our_plain, &their_plain);
+    cause->our_same &= is_equal(b, &ours, &our_plain);
+    cause->their_same &= is_equal(b, &theirs, &their_plain);
+    if (!has_target(e->x[0]))
+        return;
+    first_on(b, e, &ours, &theirs);
+    first_on(b, plain, &our_plain, &their_plain);
+    cause->our_same &= is_equal(b, &ours, &our_plain);
+    cause->their_same &= is_equal(b, &theirs, &their_plain);
+}
+
+/* That of a call that has one odd thing and of the same without it, for each target that it can have. */
+static void compare_all(beside *b, const event *e, const event *plain, size_t odd, struct cause *cause) {
+    uint64_t mask = e->x[1] ^ plain->x[1];
+    cause->our_same = cause->their_same = true;
+    compare_plain(b, e, plain, cause);
+    for (uint32_t core = 0; has_target(e->x[0]) && core < b->board.cores && core < MOST_TARGETS; core++) {
+        event one = *e, other = *plain, tried;
+        other.x[1] = b->board.affinity[core];
+        one.x[1] = b->board.affinity[core] ^ mask;
+        tried = one;
+        if (odds[odd].plain(b, tried.x, odds[odd].which) && tried.x[1] == other.x[1])
+            compare_plain(b, &one, &other, cause);
+    }
+}
+
+/* The one thing without which there is no difference; or else the one that they don't look at, and we do; or null. */
+static const char *one_odd(beside *b, const event *e, bool is_unseen, struct cause *cause) {
+    did ours, theirs;
+    for (size_t at = 0; at < ODDS; at++) {
         event less = *e;
         const char *words = odds[at].plain(b, less.x, odds[at].which);
-        if (words && agree_on(b, &less, b->then.lacks, &ours, &theirs))
+        if (!words || (!is_unseen && !agree_on(b, &less, false, &ours, &theirs)))
+            continue;
+        compare_all(b, e, &less, at, cause);
+        if (!is_unseen || (cause->their_same && !cause->our_same))
             return words;
     }
-    return b->then.lacks && agree_on(b, e, false, &ours, &theirs) ? "memory is short" : NULL;
+    cause->our_same = cause->their_same = false;
+    return NULL;
 }
 
-/* Takes out of a call all that doesn't matter, and adds what is left to the key. `theirs` becomes their
- * answer to what is left. */
-static bool put_odds(beside *b, event *e, did *theirs) {
+/* Takes out of a call each odd thing that doesn't matter. */
+static void take_out(beside *b, event *e, struct cause *cause) {
+    for (size_t at = 0; at < ODDS; at++) {
+        event less = *e;
+        did ours, theirs;
+        if (!odds[at].plain(b, less.x, odds[at].which) || agree_on(b, &less, false, &ours, &theirs) ||
+            !is_same(&ours, &b->difference.ours))
+            continue;
+        *e = less;
+        cause->ours = ours;
+        cause->theirs = theirs;
+    }
+}
+
+static void put_all_odds(beside *b, const event *e, struct cause *cause) {
     struct psci_beside_difference *d = &b->difference;
-    const char *one = one_odd(b, e);
-    bool some = one;
+    for (size_t at = 0; at < ODDS; at++) {
+        event less = *e;
+        const char *words = odds[at].plain(b, less.x, odds[at].which);
+        if (words)
+            put(d->key, sizeof d->key, "%s %s", cause->is_odd ? "," : ":", words);
+        cause->is_odd |= words != NULL;
+    }
+}
+
+/* Whether it differs for want of memory alone; where not, what both do with memory. */
+static bool is_for_memory(beside *b, const event *e, struct cause *cause) {
+    did ours, theirs;
+    if (!b->then.lacks)
+        return false;
+    if (!agree_on(b, e, false, &ours, &theirs)) {
+        cause->ours = ours;
+        cause->theirs = theirs;
+        return false;
+    }
+    cause->our_same = is_equal(b, &cause->ours, &ours);
+    cause->their_same = is_equal(b, &cause->theirs, &theirs);
+    return true;
+}
+
+/* Adds to the key what is odd about a call, and leaves of it what matters. */
+static void put_odds(beside *b, event *e, struct cause *cause) {
+    struct psci_beside_difference *d = &b->difference;
+    const char *one = is_for_memory(b, e, cause) ? "memory is short" : one_odd(b, e, false, cause);
+    if (!one) {
+        take_out(b, e, cause);
+        one = one_odd(b, e, false, cause);
+        one = one ? one : one_odd(b, e, true, cause);
+    }
     if (one && strcmp(one, "an upper half of x0") == 0)
         *d->key = 0;
     if (one)
         put(d->key, sizeof d->key, "%s%s", *d->key ? ": " : "any function: ", one);
-    for (size_t at = 0; !one && at < sizeof odds / sizeof *odds; at++) {
-        event less = *e;
-        did ours, other;
-        const char *words = odds[at].plain(b, less.x, odds[at].which);
-        if (words && !agree_on(b, &less, b->then.lacks, &ours, &other) && is_same(&ours, &d->ours)) {
-            *e = less;
-            *theirs = other;
-        } else if (words) {
-            put(d->key, sizeof d->key, "%s %s", some ? "," : ":", words);
-            some = true;
-        }
-    }
+    else
+        put_all_odds(b, e, cause);
+    cause->is_odd |= one != NULL;
     keep(b, true);
-    return some;
 }

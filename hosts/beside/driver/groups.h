@@ -18,13 +18,6 @@ static bool refuses_as_well(beside *b, const event *e, const did *ours, const di
     return so;
 }
 
-static bool is_any_pending(beside *b) {
-    for (uint32_t core = 0; core < b->board.cores; core++)
-        if (psci_status(&b->firmware, 0, core) == 2)
-            return true;
-    return false;
-}
-
 static void put_name(char *key, size_t size, uint64_t x0) {
     const char *name = psci_beside_name(x0);
     if (name)
@@ -33,97 +26,170 @@ static void put_name(char *key, size_t size, uint64_t x0) {
         put(key, size, "0x%" PRIx32, (uint32_t)x0);
 }
 
-/* The core stops on both sides, and the platform is told other states. */
-static bool is_told_otherwise(const did *ours, const did *theirs) {
-    return ours->what == PSCI_STOP && theirs->what == PSCI_STOP && theirs->told;
+/* Whether the profile offers no such function, or PSCI_FEATURES is asked for one that it does not offer. */
+static bool is_lacking(const beside *b, const uint64_t x[4]) {
+    return !has(b->profile, x[0]) || (plain_word(x[0]) == FEATURES && !has(b->profile, x[1]));
 }
 
-static bool put_call(beside *b, did *theirs) {
+/* The function, all that the profile lacks being one; and the mode, where it decides what a function does. */
+static void put_function(beside *b, const event *e) {
+    struct psci_beside_difference *d = &b->difference;
+    uint32_t word = plain_word(e->x[0]);
+    size_t size = sizeof d->key;
+    if (!has(b->profile, e->x[0]))
+        put(d->key, size, "a function that the profile lacks");
+    else
+        put_name(d->key, size, e->x[0]);
+    if (b->now.mode && (word == CPU_SUSPEND || word == CPU_OFF || word == SET_SUSPEND_MODE))
+        put(d->key, size, " in OS-initiated mode");
+}
+
+/* What the call asks of, where nothing is odd about it. */
+static void put_object(beside *b, const event *e) {
     static const char *const statuses[] = {"ON", "OFF", "ON_PENDING"};
     struct psci_beside_difference *d = &b->difference;
     size_t size = sizeof d->key;
-    event e = d->event;
-    put_name(d->key, size, e.x[0]);
-    bool some = d->is_undone && !is_told_otherwise(&d->ours, theirs) && put_odds(b, &e, theirs);
-    uint32_t level = plain_word(e.x[0]) == CPU_ON ? 0 : e.x[2], target = core_of(b, (uint32_t)e.x[1]);
-    if (plain_word(e.x[0]) == FEATURES && !some) {
+    uint32_t level = plain_word(e->x[0]) == CPU_ON ? 0 : e->x[2], target = core_of(b, (uint32_t)e->x[1]);
+    if (!has(b->profile, e->x[0]))
+        return;
+    if (plain_word(e->x[0]) == FEATURES && is_lacking(b, e->x))
+        put(d->key, size, " of what the profile lacks");
+    else if (plain_word(e->x[0]) == FEATURES) {
         put(d->key, size, " of ");
-        put_name(d->key, size, e.x[1]);
-    } else if (has_target(e.x[0]) && level && !some)
+        put_name(d->key, size, e->x[1]);
+    } else if (has_target(e->x[0]) && level)
         put(d->key, size, " of level %" PRIu32, level);
-    else if (has_target(e.x[0]) && target < b->board.cores && !some)
+    else if (has_target(e->x[0]) && target < b->board.cores)
         put(d->key, size, " of what is %s", statuses[psci_status(&b->firmware, 0, target) % 3]);
-    return some;
+}
+
+static void put_call(beside *b, struct cause *cause) {
+    event e = b->difference.event;
+    put_function(b, &e);
+    if (b->difference.is_undone && cause->theirs.what != PSCI_BESIDE_LOOPS &&
+        !is_told_otherwise(&cause->ours, &cause->theirs))
+        put_odds(b, &e, cause);
+    if (!cause->is_odd)
+        put_object(b, &e);
+}
+
+/* How a value of theirs is another one than ours; `asked` is what some call has in that register. */
+static const char *how_other(const beside *b, uint64_t ours, uint64_t theirs, uint64_t asked, int at) {
+    if (theirs == asked && (uint32_t)theirs == ours)
+        return "keeps its upper half";
+    for (uint32_t i = 0; i < b->now.events; i++)
+        if (b->events[i].kind == PSCI_BESIDE_CALL && theirs && b->events[i].x[at] == theirs)
+            return "is that of another call";
+    return !theirs                       ? "is 0"
+           : (ours & theirs) == theirs   ? "has lost bits"
+           : (ours & theirs) == ours     ? "has more bits"
+                                         : "is another one";
+}
+
+/* Where the core enters and with what, by the call that opened it. */
+static void put_place(beside *b) {
+    struct psci_beside_difference *d = &b->difference;
+    uint32_t opened = b->now.opening[d->event.number];
+    const uint64_t *x = opened ? b->events[opened - 1].x : (const uint64_t[4]){0};
+    int at = opened ? entry_at(x[0]) : 2;
+    const char *address = d->ours.address == d->theirs.address ? "" :
+        how_other(b, d->ours.address, d->theirs.address, x[at], at);
+    const char *context = d->ours.context == d->theirs.context ? "" :
+        how_other(b, d->ours.context, d->theirs.context, x[at + 1], at + 1);
+    if (*address)
+        put(d->key, sizeof d->key, ": the address %s", address);
+    if (*context && strcmp(address, context))
+        put(d->key, sizeof d->key, ": the context id %s", context);
 }
 
 static void put_entry(beside *b, uint32_t cause) {
     static const char *const causes[] = {"at boot", "by CPU_ON", "by a wake-up", "after a reset"};
     struct psci_beside_difference *d = &b->difference;
-    put(d->key, sizeof d->key, "entry %s%s", causes[cause % 4],
-        b->then.odd[d->event.number] ? ", asked with an upper half" : "");
+    put(d->key, sizeof d->key, "entry %s", causes[cause % 4]);
     if (d->ours.what == PSCI_ENTER && d->theirs.what == PSCI_ENTER)
-        put(d->key, sizeof d->key, ": another %s",
-            d->ours.address != d->theirs.address ? "address" : "context id");
+        put_place(b);
 }
 
-/* Of a call that is odd it counts whether they take it. */
-static void say_theirs(char *key, size_t size, const did *theirs, bool is_odd) {
-    if (!is_odd)
-        say(key, size, theirs);
+/* One side's part at the end of the key. */
+static void put_side(beside *b, const did *it, bool is_as_without, bool with_states) {
+    struct psci_beside_difference *d = &b->difference;
+    if (is_as_without)
+        put(d->key, sizeof d->key, "as without it");
     else
-        put(key, size, theirs->what == PSCI_RETURN && (int32_t)theirs->x0 < 0 ? "another refusal" : "takes it");
+        say(b, &d->event, it, with_states, d->key, sizeof d->key);
 }
 
-/* The answers of both, at the end of the key. */
-static void put_answers(beside *b, const did *theirs, bool is_odd) {
+/* What both did, at the end of the key. */
+static void put_answers(beside *b, const struct cause *cause) {
     struct psci_beside_difference *d = &b->difference;
     size_t size = sizeof d->key;
-    if (is_told_otherwise(&d->ours, theirs))
-        put(d->key, size, ": other states are told%s", is_any_pending(b) ? ", while a core is ON_PENDING" : "");
-    else if (b->peer->deliver && d->ours.what == theirs->what && d->ours.sent != theirs->sent)
-        put(d->key, size, ": a message of %s alone", d->ours.sent ? "ours" : "theirs");
-    else if (!(d->ours.what == PSCI_ENTER && theirs->what == PSCI_ENTER) && !strstr(d->key, "upper half")) {
+    const did *ours = &cause->ours, *theirs = &cause->theirs;
+    if (d->event.kind == PSCI_BESIDE_CALL && is_told_otherwise(ours, theirs))
+        put_told(b, &d->event, ours, theirs);
+    else if (b->peer->deliver && ours->what == theirs->what && ours->sent != theirs->sent)
+        put(d->key, size, ": a message of %s alone", ours->sent ? "ours" : "theirs");
+    else if (!(ours->what == PSCI_ENTER && theirs->what == PSCI_ENTER)) {
         put(d->key, size, ": ours ");
-        say(d->key, size, &d->ours);
+        put_side(b, ours, cause->our_same, theirs->what == PSCI_STOP);
         put(d->key, size, ", theirs ");
-        say_theirs(d->key, size, theirs, is_odd);
+        put_side(b, theirs, cause->their_same, true);
     }
 }
 
-/* The beginning of the key: whether it names what is odd about a call. */
-static bool put_cause(beside *b, uint32_t kind, uint32_t cause, did *theirs) {
+/* The beginning of the key. */
+static void put_cause(beside *b, uint32_t kind, uint32_t why, struct cause *cause) {
     static const char *const kinds[] = {[PSCI_BESIDE_WAKE] = "wake-up", [PSCI_BESIDE_RESET] = "reset",
-                                        [PSCI_BESIDE_DELIVER] = "delivery"};
+                                        [PSCI_BESIDE_DELIVER] = "delivery", [PSCI_BESIDE_TAKE] = "acknowledgement"};
     if (kind == PSCI_BESIDE_CALL)
-        return put_call(b, theirs);
-    if (kind == PSCI_BESIDE_ENTER)
-        put_entry(b, cause);
+        put_call(b, cause);
+    else if (kind == PSCI_BESIDE_ENTER)
+        put_entry(b, why);
     else
         put(b->difference.key, sizeof b->difference.key, "%s", kinds[kind]);
-    return false;
+}
+
+static void open_difference(beside *b, const event *e, const did *ours, const did *theirs) {
+    bool is_call = e->kind == PSCI_BESIDE_CALL;
+    b->difference = (struct psci_beside_difference){
+        .event = *e, .ours = *ours, .theirs = *theirs, .is_undone = b->peer->save != NULL};
+    b->difference.function = is_call ? psci_beside_name(e->x[0]) : NULL;
+    b->difference.clause = is_call ? clause_of(e->x[0]) : "Entering.outcome_at";
+    if (b->difference.is_undone)
+        keep(b, true);
 }
 
 /* A difference of an event, after which both sides are as before it if the peer can be brought back. */
-static uint32_t differs(beside *b, const event *e, uint32_t cause, const did *ours, const did *theirs) {
+static uint32_t differs(beside *b, const event *e, uint32_t why, const did *ours, const did *theirs) {
     bool is_over = is_overslept(b, e, ours) && is_same(ours, theirs);
-    did reduced = *theirs;
-    b->difference = (struct psci_beside_difference){
-        .event = *e, .ours = *ours, .theirs = *theirs, .is_undone = b->peer->save != NULL};
-    b->difference.function = e->kind == PSCI_BESIDE_CALL ? psci_beside_name(e->x[0]) : NULL;
-    b->difference.clause = e->kind == PSCI_BESIDE_CALL ? clause_of(e->x[0]) : "Entering.outcome_at";
-    if (b->difference.is_undone)
-        keep(b, true);
-    bool is_odd = put_cause(b, e->kind, cause, &reduced);
+    struct cause cause = {.ours = *ours, .theirs = *theirs};
+    open_difference(b, e, ours, theirs);
+    put_cause(b, e->kind, why, &cause);
     if (is_over)
         put(b->difference.key, sizeof b->difference.key, ": a wake-up that waits is not seen");
     else
-        put_answers(b, &reduced, is_odd);
+        put_answers(b, &cause);
     b->now.differences++;
     return b->difference.is_undone ? PSCI_BESIDE_DIFFERS : PSCI_BESIDE_PARTED;
 }
 
+uint32_t psci_beside_loops(beside *b) {
+    event e = b->at;
+    did ours = b->ours;
+    return differs(b, &e, b->why, &ours, &(did){.what = PSCI_BESIDE_LOOPS});
+}
+
+/* What came before a status: a call by its function. */
+static void put_event_name(beside *b, const event *e) {
+    static const char *const kinds[] = {"", "an entry", "a wake-up", "a reset", "a delivery", "an acknowledgement"};
+    struct psci_beside_difference *d = &b->difference;
+    if (e->kind == PSCI_BESIDE_CALL)
+        put_name(d->key, sizeof d->key, e->x[0]);
+    else
+        put(d->key, sizeof d->key, "%s", kinds[e->kind % 6]);
+}
+
 /* The status of each core, by both; a difference is told once. */
-static uint32_t compare_statuses(beside *b) {
+static uint32_t compare_statuses(beside *b, const event *e) {
     for (uint32_t core = 0; b->peer->status && core < b->board.cores; core++) {
         uint32_t ours = psci_status(&b->firmware, 0, core);
         uint32_t theirs = b->peer->status(b->peer->self, core), pair = ours == theirs ? 0 : 1 + 4 * ours + theirs;
@@ -131,10 +197,12 @@ static uint32_t compare_statuses(beside *b) {
         b->now.status[core] = pair;
         if (!pair || !is_new)
             continue;
-        b->difference = (struct psci_beside_difference){.event = b->events[b->now.events - 1]};
-        b->difference.clause = "AffinityInfo.status_code";
-        put(b->difference.key, sizeof b->difference.key, "status of a core: ours %" PRIu32 ", theirs %" PRIu32,
-            ours, theirs);
+        b->difference = (struct psci_beside_difference){
+            .event = {PSCI_BESIDE_CALL, core, {AFFINITY_INFO, b->board.affinity[core]}},
+            .ours = {.x0 = ours}, .theirs = {.x0 = theirs}, .clause = "AffinityInfo.status_code"};
+        put(b->difference.key, sizeof b->difference.key, "status of a core after ");
+        put_event_name(b, e);
+        put(b->difference.key, sizeof b->difference.key, ": ours %" PRIu32 ", theirs %" PRIu32, ours, theirs);
         b->now.differences++;
         return ours == 2 ? PSCI_BESIDE_DIFFERS : PSCI_BESIDE_PARTED;
     }

@@ -87,6 +87,28 @@ static uint32_t align(const beside *b, uint64_t x[4]) {
     return low;
 }
 
+/* The depths that a stop asks for: those of its power state, or power-down of every level. */
+static void asked_by(const beside *b, const event *e, uint8_t depths[4]) {
+    uint64_t x[4];
+    memcpy(x, e->x, sizeof x);
+    narrow(x);
+    memset(depths, 3, 4);
+    if (plain_word(x[0]) == CPU_SUSPEND && state_by_profile(b, x))
+        for (uint32_t level = 0; level < 4; level++)
+            depths[level] = x[1] >> 4 * level & 15;
+}
+
+/* What is kept of a call that was taken, so that differences of later events can be said to come of it. */
+static void remember(beside *b, const event *e, const uint64_t x[4], const struct psci_answer *answer) {
+    uint32_t word = plain_word(x[0]), whose = word == CPU_ON ? core_of(b, x[1]) : e->number;
+    if (word == SET_SUSPEND_MODE && answer->what == PSCI_RETURN && answer->code == 0)
+        b->now.mode = x[1];
+    if (answer->what == PSCI_STOP)
+        asked_by(b, e, b->now.asks[e->number]);
+    if (answer->message.some && entry_at(x[0]))
+        b->now.opening[whose] = b->now.events;
+}
+
 static void our_call(beside *b, const event *e, did *d) {
     struct psci_answer answer = {.what = PSCI_RETURN};
     uint64_t x[4];
@@ -100,6 +122,7 @@ static void our_call(beside *b, const event *e, did *d) {
             b->now.low[whose] = low;
         if (x[0] == FEATURES && plain_word(x[1]) == CPU_SUSPEND && !has(b->profile, SET_SUSPEND_MODE))
             answer.code &= ~1;
+        remember(b, e, x, &answer);
     }
     answered(b, e->number, e->x[0], &answer, d);
 }
@@ -110,6 +133,8 @@ static void carry_out(beside *b, const struct psci_ctl_answer *done) {
         memset(b->now.wakes, false, sizeof b->now.wakes);
         memset(b->now.waits, false, sizeof b->now.waits);
         b->now.life = psci_ctl_life(&b->controller);
+        b->now.mode = 0;
+        memset(b->now.opening, 0, sizeof b->now.opening);
     }
     if (done->what == PSCI_CTL_START || done->what == PSCI_CTL_RESTART)
         b->now.place[done->start.core] = STARTED;

@@ -101,9 +101,9 @@ class Lists:
         found = {f"{name}\truns": 1}
         try:
             lives = self.record.read(path)
+            verdict = self.verdict.judged(name, lives, self.profile, STATES, JUDGE)
         except self.record.Unreadable as fault:
             return found, [f"no record: {fault}"]
-        verdict = self.verdict.judged(name, lives, self.profile, STATES, JUDGE)
         found.update({f"{name}\tanswers": verdict.answers, f"{name}\t{verdict.word}": 1})
         for life in lives:
             for it in life.ordered():

@@ -1,0 +1,162 @@
+-- What a core does itself keeps what holds of it.
+use Rattle.std.proofs.Common.{◌<◌, ◌==◌, ◌∙◌, ◌≡◌, ◌≤◌, ap, arith, false}
+use Rattle.std.proofs.Common.{Option, None, Some, refl, sym, true, ℕ}
+use Rattle.std.proofs.lemmas.Bool.{false≢true}
+use Rattle.std.proofs.lemmas.Bool.Decides.{nat_tests}
+use Rattle.psci_ctl_spec.specs.psci_messages.declared.start.Start.{Start}
+use Rattle.psci_world_spec.specs.declared.said.Record.{Record}
+use Rattle.psci_port.specs.Stages.{Stage, Standing, AtDoor}
+use Rattle.psci_port.specs.Stages.{has_stopped, is_inside, stage_in}
+use Rattle.psci_port.specs.Port.{Row, stopping}
+use Rattle.psci_port.proofs.Rows.{IsRow, entering_by, enters_not}
+
+-- A core's own acts ------------------------------------------------------------------------------
+
+module _ (s : ℕ) (l : Option Start) (r : Row) (is : IsRow s l r) where
+  -- it begins a call
+  pub begins_is : (call : Option Record) → IsRow s l (record r { begun = call })
+  begins_is call = record {
+    stood = is.stood;
+    used = is.used;
+    opened = is.opened;
+    shows = is.shows;
+    last = is.last;
+    still = is.still;
+    stands = is.stands;
+    inside = is.inside;
+    taken = is.taken;
+  }
+
+  -- it goes from one stage inside to another one
+  pub goes_is : (y : Stage) → is_inside r.stage ≡ true → has_stopped r.stage ≡ false
+      → has_stopped y ≡ false → entering_by y ≡ None
+      → IsRow s l (record r { begun = None; stage = y })
+  goes_is y inside moves goes none = record {
+    stood = is.stood;
+    used = is.used;
+    opened = is.opened;
+    shows = is.shows;
+    last = is.last;
+    still = λ e. absurd (false≢true (sym goes ∙ e));
+    stands = λ e. absurd (false≢true (sym moves ∙ is.stands e));
+    inside = λ e. is.inside inside;
+    taken = λ t e. absurd (enters_not y t none e);
+  }
+
+  -- it says that it stands
+  pub stops_is : (y : Stage) → is_inside r.stage ≡ true → has_stopped y ≡ true
+      → is_inside y ≡ false → entering_by y ≡ None → IsRow s l (stopping y r)
+  stops_is y inside stopped out none = record {
+    stood = omega arith;
+    used = is.used;
+    opened = is.opened;
+    shows = is.shows;
+    last = is.last;
+    still = λ e. is.inside inside;
+    stands = λ e. stopped;
+    inside = λ e. absurd (false≢true (sym out ∙ e));
+    taken = λ t e. absurd (enters_not y t none e);
+  }
+
+  -- and comes to its WFI
+  pub sleeps_is : has_stopped r.stage ≡ true → IsRow s l (record r { stage = Standing })
+  sleeps_is stopped = record {
+    stood = is.stood;
+    used = is.used;
+    opened = is.opened;
+    shows = is.shows;
+    last = is.last;
+    still = λ e. is.still stopped;
+    stands = λ e. refl;
+    inside = λ e. absurd (false≢true e);
+    taken = λ t e. absurd (enters_not Standing t refl e);
+  }
+
+  -- its start is written at its door, and that is opened
+  pub writes_is : IsRow s l (record r { door = l })
+  writes_is = record {
+    stood = is.stood;
+    used = is.used;
+    opened = is.opened;
+    shows = λ e. refl;
+    last = is.last;
+    still = is.still;
+    stands = is.stands;
+    inside = is.inside;
+    taken = is.taken;
+  }
+
+  pub opens_is : r.door ≡ l → IsRow s l (record r { opened = s; held = false })
+  opens_is shows = record {
+    stood = is.stood;
+    used = let a = is.used in let b = is.opened in omega (arith, a, b);
+    opened = omega arith;
+    shows = λ e. shows;
+    last = λ free differs. refl;
+    still = is.still;
+    stands = is.stands;
+    inside = is.inside;
+    taken = is.taken;
+  }
+
+  differs : (o u : ℕ) → (o == u) ≡ false → o ≡ u → ⊥
+  differs o u e same = grind (arith, nat_tests)
+
+  -- what is open and not used is its last start
+  pub open_last : r.held ≡ false → (r.opened == r.used) ≡ false → r.opened ≡ s
+  open_last free new = is.last free (differs r.opened r.used new)
+
+  pub open_new : r.held ≡ false → (r.opened == r.used) ≡ false → r.used < s
+  open_new free new =
+      less r.used r.opened s is.used (open_last free new) (differs r.opened r.used new)
+    where
+      less : (u o n : ℕ) → u ≤ o → o ≡ n → (o ≡ u → ⊥) → u < n
+      less u o n few same never = grind arith
+
+  -- the core of such a door has not stopped
+  pub open_moves : (r.opened == r.used) ≡ false → has_stopped r.stage ≡ true → ⊥
+  open_moves new stopped =
+      let a = is.stood in let b = is.used in let c = is.opened in let e = is.still stopped in
+      differs r.opened r.used new (omega (arith, a, b, c, e))
+
+  -- it takes that start up
+  pub takes_up : (d : Option Start) → r.door ≡ d → r.held ≡ false
+      → (r.opened == r.used) ≡ false
+      → IsRow s l (record r { used = r.opened; stage = stage_in d })
+  takes_up d at free new = by d at
+    where
+      same : r.opened ≡ s
+      same = open_last free new
+
+      not_stood : r.stopped ≡ s → ⊥
+      not_stood e =
+          let a = is.stood in let b = is.used in let f = same in
+          differs r.opened r.used new (omega (arith, a, b, e, f))
+
+      below : r.stopped ≤ r.opened
+      below = let a = is.stood in let b = is.used in omega (arith, a, b)
+
+      by : (d : Option Start) → r.door ≡ d
+          → IsRow s l (record r { used = r.opened; stage = stage_in d })
+      by None at = record {
+        stood = below;
+        used = omega arith;
+        opened = is.opened;
+        shows = is.shows;
+        last = λ no alike. absurd (alike refl);
+        still = λ e. absurd (false≢true e);
+        stands = λ e. absurd (not_stood e);
+        inside = λ e. absurd (false≢true e);
+        taken = λ t e. absurd (enters_not AtDoor t refl e);
+      }
+      by (Some t) at = record {
+        stood = below;
+        used = omega arith;
+        opened = is.opened;
+        shows = is.shows;
+        last = λ no alike. absurd (alike refl);
+        still = λ e. absurd (false≢true e);
+        stands = λ e. absurd (not_stood e);
+        inside = λ e. same;
+        taken = λ u e. sym (is.shows same) ∙ at ∙ ap entering_by e;
+      }

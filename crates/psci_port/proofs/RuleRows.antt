@@ -1,0 +1,150 @@
+-- Worked examples: acts that the rules of a port refuse, one for each rule, and some that they
+-- allow.
+use Rattle.std.proofs.Common.{◌<◌, ◌≡◌, ◌∷◌, ◌++◌, [], ap, arith, Bool, false, true, refl}
+use Rattle.std.proofs.Common.{List, Some, sym, ℕ}
+use Rattle.std.proofs.lemmas.Bool.{false≢true}
+use Rattle.std.proofs.lemmas.Option.{none-some}
+use Rattle.psci_ctl_spec.specs.psci_messages.Message.{MessageValue}
+use Rattle.psci_ctl_spec.specs.psci_messages.declared.kind.Kind.{Kind}
+use Rattle.psci_ctl_spec.specs.psci_messages.declared.kind.Kind.TheVariants.{Down, Start}
+use Rattle.psci_ctl_spec.specs.psci_messages.declared.part.Part.{Part}
+use Rattle.psci_world_spec.specs.declared.said.Said.TheVariants.{Absent}
+use Rattle.psci_world_spec.proofs.Scripts.{board, part}
+use Rattle.psci_port.specs.Stages.{Stage, Standing, AtDoor, Entering, Normal, Leaving, Armed}
+use Rattle.psci_port.specs.Stages.{has_stopped}
+use Rattle.psci_port.specs.Port.{Locks, Unlocks, Calls, Takes, TakesUp, Stands}
+use Rattle.psci_port.specs.Port.{Arms, Sleeps, Delivers, Wakes, Resets, Writes, Opens, Cuts}
+use Rattle.psci_port.specs.Rules.{AreTrue, IsPortRun, IsTrue, May}
+use Rattle.psci_port.proofs.Playing.{after, asks, delivers, door, off_3, off_called, on_3}
+use Rattle.psci_port.proofs.Playing.{playing}
+
+-- a message of life 1, of core 3 in its start
+abbrev of_3 : Kind → ℕ → List Part → MessageValue
+of_3 kind number parts =
+    record { kind = kind; core = record { number = 3 }; life = 1; number = number; parts = parts }
+
+abbrev down_3 : MessageValue
+down_3 = of_3 Down 1 (part 0 3 1 ∷ part 1 3 1 ∷ [])
+
+abbrev is_normal : Stage → Bool
+is_normal Normal = true
+is_normal Standing = false
+is_normal AtDoor = false
+is_normal (Entering s) = false
+is_normal Leaving = false
+is_normal Armed = false
+
+-- The lock ---------------------------------------------------------------------------------------
+
+no_second_holder : May board (after off_called) (Locks 0) → ⊥
+unfolding playing
+no_second_holder may = none-some _ (sym may.0)
+
+no_unlock_inside : May board (after (on_3 ++ (Locks 0 ∷ asks 0 0x84000000 0 0 0 ∷ [])))
+    (Unlocks 0) → ⊥
+unfolding playing
+no_unlock_inside may = none-some _ (sym may.1)
+
+no_call_without_the_lock : May board (after on_3) (Takes 0 0 Absent) → ⊥
+unfolding playing
+no_call_without_the_lock may = none-some _ may.0
+
+no_call_of_a_leaving_core : May board (after off_called)
+    (Calls 3 (record { x0 = 0x84000000; x1 = 0; x2 = 0; x3 = 0 }) Absent) → ⊥
+unfolding playing
+no_call_of_a_leaving_core may = leaving_is_not may.2
+  where
+    leaving_is_not : Leaving ≡ Normal → ⊥
+    leaving_is_not e = false≢true (ap is_normal e)
+
+-- Starts -----------------------------------------------------------------------------------------
+
+no_start_twice : May board (after off_3) (TakesUp 3) → ⊥
+unfolding playing
+no_start_twice may = false≢true (sym may.2)
+
+no_start_while_held : May board (after (on_3 ++ door 3 ++ (Resets 3 ∷ []))) (TakesUp 3) → ⊥
+unfolding playing
+no_start_while_held may = false≢true (sym may.1)
+
+no_open_door_first : May board (after on_3) (Opens 3) → ⊥
+unfolding playing
+no_open_door_first shows = none-some _ shows
+
+no_second_text_at_an_open_door : May board (after (on_3 ++ door 3)) (Writes 3) → ⊥
+unfolding playing
+no_second_text_at_an_open_door may = false≢true (sym may)
+
+no_wake_of_a_core_that_runs : May board (after off_called) (Wakes 3) → ⊥
+unfolding playing
+no_wake_of_a_core_that_runs may = false≢true may.1
+
+-- Stops and power --------------------------------------------------------------------------------
+
+no_stop_with_the_lock : May board (after off_called) (Stands 3) → ⊥
+unfolding playing
+no_stop_with_the_lock may = may.1 refl
+
+no_second_stop : May board (after (off_3 ++ (delivers 1 ∷ []))) (Stands 3) → ⊥
+unfolding playing
+no_second_stop may = stopped may.0
+  where
+    stopped : Standing ≡ Leaving → ⊥
+    stopped e = false≢true (sym (ap has_stopped e))
+
+no_sleep_with_the_lock : May board (after (off_called ++ (Arms 3 ∷ []))) (Sleeps 3) → ⊥
+unfolding playing
+no_sleep_with_the_lock may = may.1 refl
+
+no_down_of_a_core_that_runs : May board (after off_called) (Delivers 1 down_3) → ⊥
+unfolding playing
+no_down_of_a_core_that_runs may = false≢true (sym may.1)
+
+no_start_of_a_core_that_runs : May board (after off_called) (Delivers 9 (of_3 Start 1 [])) → ⊥
+unfolding playing
+no_start_of_a_core_that_runs may = false≢true (sym may.1)
+
+no_start_with_the_lock : May board (after (off_called ++ (Arms 3 ∷ [])))
+    (Delivers 9 (of_3 Start 1 [])) → ⊥
+unfolding playing
+no_start_with_the_lock may = may.2 refl refl
+
+no_wake_with_the_lock : May board (after (off_called ++ (Arms 3 ∷ []))) (Wakes 3) → ⊥
+unfolding playing
+no_wake_with_the_lock may = may.2 refl
+
+no_reset_with_the_lock : May board (after off_called) (Resets 3) → ⊥
+unfolding playing
+no_reset_with_the_lock may = may.1 refl
+
+no_cut_of_what_is_on : May board (after off_3) (Cuts 0 3) → ⊥
+unfolding playing
+no_cut_of_what_is_on may = none_below (may.0)
+  where
+    none_below : 0 < 0 → ⊥
+    none_below e = omega (arith, e)
+
+no_cut_above_an_armed_core : May board (after (off_called ++ (Arms 3 ∷ delivers 1 ∷ [])))
+    (Cuts 1 1) → ⊥
+unfolding playing
+no_cut_above_an_armed_core may = false≢true (sym (may.1 3 (omega arith) refl))
+
+-- What is allowed --------------------------------------------------------------------------------
+
+opens_its_door : IsPortRun board (TakesUp 0 ∷ Opens 0 ∷ Writes 0 ∷ [])
+unfolding playing
+opens_its_door = ((refl, refl, refl), (refl, (refl, tt)))
+
+is_true_so : AreTrue board (TakesUp 0 ∷ Opens 0 ∷ Writes 0 ∷ [])
+unfolding playing
+is_true_so = (tt, (tt, (tt, tt)))
+
+invents_nothing : IsTrue board (after off_3) (Delivers 1 (of_3 Start 1 [])) → ⊥
+unfolding playing
+invents_nothing e = kinds_differ (kind_of e)
+  where
+    kind_of : Some down_3 ≡ Some (of_3 Start 1 []) → Down ≡ Start
+    kind_of e = grind arith
+
+    kinds_differ : Down ≡ Start → ⊥
+    kinds_differ e = grind arith

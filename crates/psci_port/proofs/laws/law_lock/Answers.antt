@@ -1,0 +1,5 @@
+use Rattle.psci_port.proofs.Keeping.{run_locked}
+use Rattle.psci_port.proofs.laws.law_lock.Goals as goal
+
+pub returns : goal.returns
+returns c = run_locked

@@ -1,0 +1,5 @@
+use Rattle.psci_port.proofs.Keeping.{run_takes, run_words}
+use Rattle.psci_port.proofs.laws.law_starts.Goals as goal
+
+pub returns : goal.returns
+returns c = record { each = run_takes; words = run_words }

@@ -1,0 +1,5 @@
+pub mod Waiting
+pub mod Stages
+pub mod Port
+pub mod Rules
+pub mod Kept
