@@ -85,13 +85,14 @@ class Nodes:
     def slow(self, program):
         """A program that takes a while, and on node n2 until that goes away."""
         os.makedirs(f"{self.room}/slow")
-        waits = f"while [ ! -e {self.room}/is-down ]; do sleep 0.1; done"
+        waits = f": > {self.room}/is-on; while [ ! -e {self.room}/is-down ]; do sleep 0.1; done"
         return write(f"{self.room}/slow/{os.path.basename(program)}", "#!/bin/sh\nsleep 0.1\n"
                      f"if {self.ON_NODE.format(self)}; then {waits}; fi\nexec '{program}' \"$@\"\n", 0o755)
 
     def break_down(self):
-        """A node goes away in the middle: its daemon, and what it has started of jobs."""
-        waited(lambda: self.jobs(), "node n2 has no job")
+        """A node goes away in the middle: its daemon, and what it has started of jobs. These are at a seed by then: a
+        shell that begins to work may hold what others of this machine wait for."""
+        waited(lambda: os.path.exists(f"{self.room}/is-on"), "node n2 has no job")
         self.nodes[1].kill()
         for it in self.jobs():
             try:
@@ -99,6 +100,11 @@ class Nodes:
             except ProcessLookupError:
                 pass
         write(f"{self.room}/is-down", "")
+
+    def begin_anew(self):
+        """Nothing runs on node n2 any more: it goes away once something does again."""
+        if os.path.exists(f"{self.room}/is-on"):
+            os.unlink(f"{self.room}/is-on")
 
     def jobs(self):
         """The processes of jobs of our node n2, each behind the one that looks after it, where there is one."""
