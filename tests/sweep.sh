@@ -28,18 +28,20 @@ wrong_sweeps() {
     missing_stories
 }
 
-# Slurm with a node that goes away, and GNU parallel with a worker that is killed, here and over ssh
+# Slurm and logins over ssh with a node that goes away, by each kind that needs no peer; GNU parallel with a worker
+# that is killed
 swept_farms() {
-    local farm status
-    for farm in parallel ssh slurm; do
-        has_python "tests/swept-farm $farm" || continue
+    local way status
+    for way in parallel {ssh,slurm}{,\ threads,\ lists,\ fuzz}; do
+        has_python "tests/swept-farm $way" || continue
         status=0
-        tests/swept-farm "$program" "$work/farm-$farm" "$farm" > "$work/out" 2>&1 || status=$?
+        # shellcheck disable=SC2086
+        tests/swept-farm "$program" "$work/farm-${way/ /-}" $way > "$work/out" 2>&1 || status=$?
         case $status in
             0) pass ;;
-            77) skip "a sweep by $farm" "$(tail -n 1 "$work/out")" ;;
+            77) skip "a sweep by $way" "$(tail -n 1 "$work/out")" ;;
             *)
-                fail "tests/swept-farm $farm (status $status)"
+                fail "tests/swept-farm $way (status $status)"
                 tail -n 20 "$work/out"
                 ;;
         esac

@@ -3,6 +3,7 @@ import os
 import re
 import subprocess
 import threading
+import time
 
 import browser
 from sweep_room import COUNT, Missing, wants
@@ -20,6 +21,19 @@ def failing(room, name):
     return room.wrapped(FAILING.format(held=held), "--seed"), held
 
 
+def waited_for(process, folder, said, wanted):
+    """How many lines were said once all that is wanted was; nothing, if it is not some time after all chunks but two
+    are done, or where the sweep ends before."""
+    since = None
+    while not all(any(re.search(it, line) for line in said) for it in wanted):
+        is_all = os.path.isdir(folder) and len([it for it in os.listdir(folder) if it.endswith(".json")]) >= 6
+        since = since or (time.monotonic() if is_all else None)
+        if process.poll() is not None or since and time.monotonic() - since > 30:
+            return None
+        time.sleep(0.1)
+    return len(said)
+
+
 def told(room):
     """Also where there is no terminal a sweep says how far it is, what differs, and why a chunk is not finished, while
     it runs; and at its end what is left."""
@@ -29,14 +43,17 @@ def told(room):
     wanted = [r"psci sweep: [0-7] of 8 chunks are done, [1-8] left",
               r"differs: seed 2, default: status 6: audit fault 1 <b>: \S+/failed/default-2\.txt",
               r"chunk 4 is not finished: storm: status 5: no memory"]
-    late, said, seen_all = threading.Timer(900, os.unlink, [held]), [], None
-    late.start()
-    for line in process.stderr:
-        said.append(line)
-        if os.path.exists(held) and all(any(re.search(it, one) for one in said) for it in wanted):
-            late.cancel()
-            os.unlink(held)
-            seen_all = len(said)
+    said = []
+
+    def read_on():
+        for line in process.stderr:
+            said.append(line)
+
+    reader = threading.Thread(target=read_on)
+    reader.start()
+    seen_all = waited_for(process, room.path("told/results"), said, wanted)
+    os.unlink(held)
+    reader.join()
     wants(process.wait() == 6, f"status {process.returncode}: {said}")
     wants(seen_all, f"it says nothing while it runs: {said}")
     wants(len([it for it in said if "no memory" in it]) == 1, f"one failure is told more than once: {said}")
