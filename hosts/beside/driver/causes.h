@@ -51,10 +51,11 @@ static const char *plain_entry(const beside *b, uint64_t x[4], int kind) {
 
 static const char *plain_level(const beside *b, uint64_t x[4], int unused) {
     (void)unused;
-    if (!has_target(x[0]) || plain_word(x[0]) == CPU_ON || (uint32_t)x[2] <= b->board.height)
+    uint32_t level = x[2];
+    if (!has_target(x[0]) || plain_word(x[0]) == CPU_ON || level <= b->board.height)
         return NULL;
     x[2] = 0;
-    return "a level that is not there";
+    return level > 3 ? "a level above 3" : "a level above the board";
 }
 
 static const char *plain_state(const beside *b, uint64_t x[4], int kind) {
