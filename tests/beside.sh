@@ -80,7 +80,7 @@ compiled_beside() {
         pass || fail "the library as it is compiled without a proof, beside itself"
     built_archive rattle && OTHER=$archives/rattle.a build_beside own by-rattle && has_own_stories by-rattle && pass ||
         fail "the library as the kit's other compiler makes it, beside itself"
-    has_clang_runtime || { skip "the library with a sanitizer" "clang with libclang-rt-14-dev"; return; }
+    has_clang_runtime || { skip "the library with a sanitizer" "clang with libclang-rt-dev"; return; }
     built_archive sanitized && sanitized_beside "$archives/sanitized.a"
 }
 

@@ -91,7 +91,7 @@ tfa_guide() {
     [ -f "$guide" ] || { skip "hooks of TF-A's porting guide" "$1"; return; }
     sed -n '/^Power State Coordination Interface (in BL31)/,/^Interrupt Management framework (in BL31)/p' "$guide" |
         sed -nE 's/^(Function : |plat_psci_ops\.)(\w+)\(\).*/\2/p' > "$work/hooks"
-    [ "$(wc -l < "$work/hooks")" = "$2" ] || fail "TF-A's porting guide has $(wc -l < "$work/hooks") hooks, and not $2"
+    [ "$(wc -l < "$work/hooks")" = "$2" ] || fail "$guide has $(wc -l < "$work/hooks") hooks, and not $2"
     while read -r name; do
         if grep -q "^|.*\`$name\`.*| \(kept\|replaced\|lost\)" docs/TFA.md; then pass; else fail "docs/TFA.md: $name"; fi
     done < "$work/hooks"
@@ -106,8 +106,8 @@ tfa_accounted() {
     fi
 }
 
-# each call and hook of the functions that the adaptor replaces is made, or listed with a reason; one that is missing is
-# told, and a line too many
+# each call and hook of the functions that the adaptor replaces is made, or listed with a reason; one that is missing
+# is told, and a line too many
 tfa_calls() {
     local copy=$work/tfa-copy
     has_python "hosts/tfa/accounted" || return
@@ -155,24 +155,53 @@ tfa_words() {
     tfa_says "run: there is no option --fast; --help lists them" --fast
 }
 
-# Linux on the firmware inside TF-A, from a built archive and with what was downloaded before
-tfa_live() {
-    local tool name cache=${GUMDARTS_CACHE:-$HOME/.cache/gumdarts}
-    has_python "Linux on TF-A" || return
+# has_for_tfa WHAT CACHE: whether there is what builds and boots TF-A, of downloads in this folder
+has_for_tfa() {
+    local tool name
+    has_python "$1" || return
     for tool in qemu-system-aarch64 aarch64-linux-gnu-gcc gcc dtc make patch; do
-        command -v "$tool" > /dev/null || { skip "Linux on TF-A" "$tool"; return; }
+        command -v "$tool" > /dev/null || { skip "$1" "$tool"; return 1; }
     done
-    for name in "$cache/packages/bin/busybox" "$cache/tfa/source/Makefile" /usr/include/openssl/sha.h \
+    for name in "$2/packages/bin/busybox" "$2/tfa/source/Makefile" /usr/include/openssl/sha.h \
         "$PWD/out/lib/aarch64/libpsci_ffi-strict-align.a"; do
-        [ -f "$name" ] || { skip "Linux on TF-A" "$name"; return; }
+        [ -f "$name" ] || { skip "$1" "$name"; return 1; }
     done
-    say "Linux on TF-A"
-    if TFA_OUT=$work/tfa hosts/tfa/run --seconds 1800 --record "$work/tfa.record" each boot-core idle \
+}
+
+# tfa_boots OPTION..: Linux on TF-A, all that it does there, and its record
+tfa_boots() {
+    if TFA_OUT=$work/tfa hosts/tfa/run --seconds 1800 --record "$work/tfa.record" "$@" each boot-core idle \
         suspend-5 > "$work/out" 2>&1; then pass; else
-        fail "hosts/tfa/run"
+        fail "hosts/tfa/run $*"
         tail -n 20 "$work/out"
         return
     fi
-    ! grep -q "did not" "$work/out" || fail "hosts/tfa/run: $(grep "did not" "$work/out" | head -n 1)"
+    ! grep -q "did not" "$work/out" || fail "hosts/tfa/run $*: $(grep "did not" "$work/out" | head -n 1)"
     compared 0 "are answered as by the proved program" "$work/tfa.record"
+}
+
+# Linux on the firmware inside TF-A, from a built archive and with what was downloaded before
+tfa_live() {
+    has_for_tfa "Linux on TF-A" "$tfa_cache" || return
+    say "Linux on TF-A"
+    tfa_boots
+}
+
+# tfa_registers STATUS TEXT OPTION..: EL3's registers in TF-A 2.12, beside TF-A as it is
+tfa_registers() {
+    local status=0
+    TFA_OUT=$work/registers hosts/tfa/registers --release trixie "${@:3}" > "$work/out" 2> "$work/err" || status=$?
+    if [ "$status" = "$1" ] && grep -q -- "$2" "$work/out"; then pass; else
+        fail "hosts/tfa/registers ${*:3} (status $status, wanted $1 with '$2')"
+        head -n 5 "$work/out" "$work/err"
+    fi
+}
+
+# the same in TF-A 2.12 with Linux 6.12, in OS-initiated mode; and what EL3 sets for each core is what it sets by itself
+tfa_2_12_live() {
+    has_for_tfa "Linux on TF-A 2.12" "$tfa_cache/trixie" || return
+    say "Linux on TF-A 2.12"
+    tfa_boots --release trixie --mode osi
+    tfa_registers 0 " of each core after 3 stages: 0 differ$"
+    tfa_registers 1 "^after CPU_ON, core 1, SMCR_EL3: TF-A 0x8000000f, ours 0x0$" --fault core-setup
 }
