@@ -26,8 +26,7 @@ release() {
             share/man/man1/psci.1 share/bash-completion/completions/psci include/psci.h include/psci_ctl.h \
             share/zsh/site-functions/_psci share/fish/vendor_completions.d/psci.fish \
             share/doc/gumdarts/{FORMATS,PORTING,BOARDS,CHANGELOG}.md examples/host/{README,loop.c,pool.c,pool.h}
-        git ls-files 'examples/*.psci' 'examples/*.out' 'examples/boards/*' | grep -E '^examples/[^/]*$|[^d]$' |
-            grep -v '^examples/.*/.*psci'
+        git ls-files examples | grep -E '^examples/[^/]*\.(psci|out)$|^examples/boards/.*\.(machine|calls|answers)$'
     } | LC_ALL=C sort > "$work/lines"
     answers "the files of the archive"
     for name in clap itoa memchr; do
@@ -66,14 +65,15 @@ own_words() {
 
 # in_debian SUITE: the archive in a Debian of this suite that has a compiler and nothing else
 in_debian() {
-    local root=$work/$1 kept=${GUMDARTS_CACHE:-$HOME/.cache/gumdarts}/debian/$1.tar
+    local folder root=$work/$1 kept=${GUMDARTS_CACHE:-$HOME/.cache/gumdarts}/debian/$1.tar
     [ -e "$kept" ] || { skip "the archive in Debian $1" "$kept"; return; }
     [ "$(id -u)" = 0 ] || { skip "the archive in Debian $1" "right to be root"; return; }
     mkdir -p "$root"
     tar -C "$root" -xf "$kept"
     tar -C "$root/opt" -xzf "$work/release"/*.tar.gz
     cp tests/release-alone "$root/opt"
-    as_said "the archive in Debian $1" "$root/opt/." chroot "$root" /opt/release-alone "/opt/$(ls "$root/opt" | grep gumdarts)"
+    folder=$(basename "$root"/opt/gumdarts-*)
+    as_said "the archive in Debian $1" "$root/opt/$folder" chroot "$root" /opt/release-alone "/opt/$folder"
 }
 
 # in_an_empty_folder ARCHIVE: the program answers where there is nothing but it, and the loader and the C

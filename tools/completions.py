@@ -100,7 +100,7 @@ def quoted(text):
 def zsh(taken, is_whole):
     lines = ["#compdef psci", "# Completion of `psci` for zsh, which tools/completions.py writes: a folder of fpath has this",
              "# file, before compinit runs.", "", "_psci() {", "    local at=2",
-             "    [[ $words[2] == --unproved ]] && at=3",
+             *(["    [[ $words[2] == --unproved ]] && at=3"] if is_whole else []),
              f"    if (( CURRENT == at )); then compadd -- {' '.join(first_words(taken, is_whole))}; return; fi",
              "    case $words[at] in"]
     for name, it in taken.items():

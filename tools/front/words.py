@@ -42,7 +42,7 @@ class Once(argparse.Action):
 
     def __call__(self, parser, found, values, option_string=None):
         seen = found.__dict__.setdefault("seen", set())
-        if self.dest in seen:
+        if self.dest in seen and not parser.may_repeat:
             raise argparse.ArgumentError(self, "stands here a second time")
         seen.add(self.dest)
         setattr(found, self.dest, True if self.nargs == 0 else values)
@@ -51,9 +51,11 @@ class Once(argparse.Action):
 class Words(argparse.ArgumentParser):
     """What a command takes, behind what was typed before its words."""
 
-    def __init__(self, name, about, form, more=""):
+    def __init__(self, name, about, form, more="", may_repeat=False):
         super().__init__(prog=f"psci {name}", add_help=False, allow_abbrev=False, exit_on_error=False)
         self.name, self.words, self.actions, self.rules = name, [], [], []
+        # whether the last one counts of an option that stands there several times
+        self.may_repeat = may_repeat
         self.about, self.form, self.more = about, f"psci {name} {form}", f"{more}\n" if more else ""
         for name in (None, "store"):
             self.register("action", name, Once)
@@ -87,12 +89,13 @@ class Words(argparse.ArgumentParser):
         before = self.words[:self.words.index("--")] if "--" in self.words else self.words
         if {"-h", "--help"} & set(before):
             sys.exit(write(self.help_text()))
+        joined = self.joined(before)
         known = [it for action in self.actions for it in action.option_strings]
-        unknown = [it for it in before if re.match("-[^-0-9]|--.", it) and it.partition("=")[0] not in known]
+        unknown = [it for it in joined if re.match("-[^-0-9]|--.", it) and it.partition("=")[0] not in known]
         if unknown:
             self.no_option(unknown[0], known)
         try:
-            found, more = self.parse_known_args(self.words)
+            found, more = self.parse_known_args([*joined, *self.words[len(before):]])
         except argparse.ArgumentError as wrong:
             self.wrong_value(wrong)
         for word in more:
@@ -103,6 +106,16 @@ class Words(argparse.ArgumentParser):
                 at = self.place(option)
                 self.fault(at if at >= 0 else len(self.words), f"{option} {why(found) if callable(why) else why}")
         return found
+
+    def joined(self, words):
+        """The words, of which an option that takes any text has that behind =, also where the text begins with -."""
+        texts, made = [it for action in self.actions if action.metavar == "TEXT" for it in action.option_strings], []
+        for word in words:
+            if made and made[-1] in texts:
+                made[-1] += f"={word}"
+            else:
+                made.append(word)
+        return made
 
     def fault(self, at, why, expected=None):
         name = self.name.split()

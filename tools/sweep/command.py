@@ -60,7 +60,8 @@ def of_report():
 
 def of_kind(kind):
     """What a kind of work takes."""
-    one = Words(f"sweep {kind.NAME}", kind.__doc__, "--seeds FIRST..LAST --out FOLDER [OPTIONS]", ENDING)
+    one = Words(f"sweep {kind.NAME}", kind.__doc__, "--seeds FIRST..LAST --out FOLDER [OPTIONS]", ENDING,
+                may_repeat=True)
     add = one.add_argument
     add("--seeds", metavar="FIRST..LAST", type=seeds, required=True, help="each of at most 18 digits")
     add("--out", metavar="FOLDER", required=True, help="where results go, and where a sweep goes on")
