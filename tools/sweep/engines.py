@@ -180,7 +180,7 @@ class Slurm(Farm):
         """How the tasks of a job array are, and what they wait for."""
         said = subprocess.run(["squeue", "-h", "-r", f"--name={name}", "-o", "%T %r"], capture_output=True, text=True,
                               check=False).stdout.splitlines()
-        counts = Counter(it.removesuffix(" None") for it in said)
+        counts = Counter(it if it.startswith("PENDING") else it.split()[0] for it in said if it)
         return "".join(f"; {count} {what}" for what, count in sorted(counts.items()))
 
 
