@@ -167,8 +167,6 @@ def told(every, has_costs, path=None):
     for plan in every:
         plans.look_at_files(plan)
     found = report.Together(every)
-    if path:
-        whole.write(os.path.abspath(path), page.page(found, path).encode())
     try:
         print("\n".join(report.lines(found)), flush=True)
     except sentence.Nothing as why:
@@ -180,9 +178,19 @@ def told(every, has_costs, path=None):
     if found.left:
         say(f"{found.unfinished} chunks are not finished, seeds {report.ranges(found.left)}; "
             f"{every[0].folder}/logs says why, and the same words go on")
-    if path:
-        say(f"{path} is a page of it")
-    return DIFFERS if found.differences else LEFT if found.left else SAME
+    status = DIFFERS if found.differences else LEFT if found.left else SAME
+    return status or READ if path and not written(path, found) else status
+
+
+def written(path, found):
+    """Whether the page of it could be written; says so, or why not."""
+    try:
+        whole.write(os.path.abspath(path), page.page(found, path).encode())
+    except OSError as fault:
+        say(f"{path}: {fault.strerror}")
+        return False
+    say(f"{path} is a page of it")
+    return True
 
 
 def reported(words):
