@@ -1,8 +1,18 @@
 # The C of the port at EL3 without the emulated machine (hosts/el3/checks), sourced by ../test after tests/ffi.sh: its
-# heaps, its doors, its cores as threads, and which of the planted faults each of these sees (tests/port-faults.txt).
+# heaps, its doors, its cores as threads, and which of the planted faults each of these sees (tests/port-faults.txt). And
+# a search of what crates/psci_port proves of a port.
 
 checks=hosts/el3/checks
 race=(-fsanitize=thread -fno-builtin)
+
+# a port of two cores is searched to its end, and each fault that is planted in it is found
+port_search() {
+    has_python tests/port-search || return
+    if tests/port-search > "$work/out" 2>&1; then pass; else
+        fail tests/port-search
+        cat "$work/out"
+    fi
+}
 
 # port_built OUT KIND FLAG..: the port's own files as a program of this machine
 port_built() {
