@@ -72,6 +72,33 @@ static void off(const psci_power_state_t *states)
     platform->pwr_domain_off(states);
 }
 
+#if HOOKS_TFA_MINOR > 8
+static unsigned int early_denials = 1U;
+
+/* The first CPU_OFF of core 1 is denied. */
+static int off_early(const psci_power_state_t *states)
+{
+    tell_states("pwr_domain_off_early", states);
+    return me() == 1U && early_denials != 0U ? (early_denials--, PSCI_E_DENIED) : PSCI_E_SUCCESS;
+}
+
+static int validate_entry(uintptr_t entry)
+{
+    return entry >= NS_DRAM0_BASE && entry - NS_DRAM0_BASE < NS_DRAM0_SIZE ? PSCI_E_SUCCESS : PSCI_E_INVALID_ADDRESS;
+}
+
+#if PSCI_OS_INIT_MODE
+static unsigned int suspend_denials = 1U;
+
+/* The first suspend of core 2 is denied. */
+static int validate_suspend(const psci_power_state_t *states)
+{
+    tell_states("pwr_domain_validate_suspend", states);
+    return me() == 2U && suspend_denials != 0U ? (suspend_denials--, PSCI_E_DENIED) : PSCI_E_SUCCESS;
+}
+#endif
+#endif
+
 static void suspend_early(const psci_power_state_t *states)
 {
     tell_states("pwr_domain_suspend_pwrdown_early", states);
@@ -200,4 +227,11 @@ void hooks_probe(plat_psci_ops_t *hooks, const plat_psci_ops_t *below)
     hooks->write_mem_protect = write_protect;
     hooks->mem_protect_chk = check_range;
     hooks->system_reset2 = reset2;
+#if HOOKS_TFA_MINOR > 8
+    hooks->pwr_domain_off_early = off_early;
+    hooks->validate_ns_entrypoint = validate_entry;
+#if PSCI_OS_INIT_MODE
+    hooks->pwr_domain_validate_suspend = validate_suspend;
+#endif
+#endif
 }
