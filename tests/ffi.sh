@@ -262,7 +262,7 @@ END
         # shellcheck disable=SC2086
         lib_of "$kit" "$fresh" $words
         expect "./psci prove lib $words" 2 \
-            "psci: prove lib takes --target x86_64 or aarch64, and no other word"
+            'psci: expected `psci prove [all | lib [--target MACHINE]]`; `psci prove --help` says more'
     done
 }
 
