@@ -1,5 +1,5 @@
--- Lists of replies that a test tells apart are not equal. Whatever the test says, it says the same of
--- equal lists: so it need not be right, and a case may change it.
+-- Lists of replies that a test tells apart are not equal. Whatever the test says, it says the same
+-- of equal lists: so it need not be right, and a case may change it.
 use Rattle.std.proofs.Common.{◌≡◌, ◌&&◌, ◌∷◌, List, [], Bool, true, false, ap}
 use Rattle.psci_fw_spec.specs.declared.reply.FwReply.{FwReply}
 use Rattle.psci_fw_spec.specs.Same.{is_same_reply}
