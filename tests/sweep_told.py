@@ -78,6 +78,7 @@ def page(room):
     wants(room.sweep("page", program=program)[0] == 6, "it does not go on")
     text = read(room.path("page/sweep.html"))
     wants("<b>24 of 24</b>" in text and "no memory" not in text and "All seeds are done" in text, "an old page stays")
+    wants(not os.path.exists(room.path("page/logs/why-4")), "a chunk that is finished still has a reason why it is not")
     status, out, said = room.report("page", "--page", "elsewhere.html")
     elsewhere = read(room.path("elsewhere.html"))
     wants(status == 6 and 'href="page/failed/default-2.txt"' in elsewhere, f"status {status}: {said}")
