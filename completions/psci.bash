@@ -49,7 +49,7 @@ _psci() {
             esac ;;
         try) mapfile -t COMPREPLY < <(compgen -W "--port --help" -- "$word") ;;
         help) mapfile -t COMPREPLY < <(compgen -W "replay storm threads show draw try plain compare sweep prove" -- "$word") ;;
-        prove) mapfile -t COMPREPLY < <(compgen -W "all lib --target --help" -- "$word") ;;
+        prove) mapfile -t COMPREPLY < <(compgen -W "all lib --target --unproved --help" -- "$word") ;;
         replay | plain) mapfile -t COMPREPLY < <(compgen -W "--machine --help" -- "$word"; compgen -f -- "$word") ;;
     esac
 }

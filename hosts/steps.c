@@ -69,7 +69,7 @@ static const struct {
 
 /* Another core has asked for the reset of this life, and it is carried out. */
 static void end_life(uint32_t life) {
-    struct psci_message message = {.kind = PSCI_RESET_SYSTEM, .life = life, .number = psci_ctl_starts(&controller, 0)};
+    struct psci_message message = {.kind = PSCI_MESSAGE_RESET, .life = life, .number = psci_ctl_starts(&controller, 0)};
     struct psci_frame frame;
     psci_encode(&message, &frame);
     psci_ctl_deliver(&controller, frame.bytes, PSCI_FRAME_LEN, &done);

@@ -28,7 +28,8 @@ More commands of ./psci:
   sweep                      Make runs from many seeds, on all processors or on many machines
   prove                      Prove and build the program of replay
   prove all                  Prove and build the program of every command
-  prove lib                  Prove the C library, and build it into out/lib, for --target x86_64 or aarch64
+  prove lib                  Prove the C library, and build it into out/lib, for --target x86_64 or aarch64;
+                             with --unproved compile it, in a minute
 replay, show, draw and plain take the script from standard input, or from a FILE that is named.
 --unproved before a command runs the program unproved in any case.
 """
@@ -52,6 +53,8 @@ PROVE_HELP = """Proves what ./psci runs, and builds it. What was proved is kept 
 Usage: psci prove                           the program of replay: from nothing about 12 minutes
        psci prove all                       the program of every command: 20 to 30 minutes
        psci prove lib [--target MACHINE]    the C library into out/lib: of x86_64, or aarch64
+       psci prove lib --unproved [--target MACHINE]    the same into out/lib/unproved, in a minute, and nothing is
+                                            proved: psci_version_of_library says so
 
 The minutes are those of four processors with 3 GiB each.
 """
@@ -190,7 +193,9 @@ class Front:
         if "--help" in words or "-h" in words:
             return write(PROVE_HELP)
         if words[:1] == ["lib"]:
-            return self.by_prover(words, "built; the library is in out/lib")
+            where = "built unproved; the library is in out/lib/unproved" if "--unproved" in words \
+                else "built; the library is in out/lib"
+            return self.by_prover(words, where)
         if words not in ([], ["all"]):
             raise Stopped("prove takes no word but all, or lib", 2)
         name = WHOLE if words else REPLAYER

@@ -49,4 +49,5 @@ mod polling;
 mod readers;
 mod slot;
 mod stop;
+mod version;
 mod watch;
