@@ -500,9 +500,9 @@ c_rules() {
         's/|| stands\[message.core\] == message.number/|| stands[message.core] != 0/' \
         's/ || message.number != psci_ctl_starts(&controller, message.core)//' \
         's/^    if (pending)$/    if (false)/' '/a later try/d'
-    unheeded resets '/^        open_anew(&two_by_two);$/d' 's/open_anew(&two_by_two);/cold_reset(\&two_by_two);/' \
-        's/^    if (cleans)$/    if (false)/' 's/^    if (!invalidates)$/    if (true)/' \
-        's/box\[0\].some = kept;/box[0].some = true;/' 's/if (is_waited_for)/if (false)/'
+    unheeded resets '/^        memset(&poller, 0, sizeof poller);$/d' \
+        's/open_anew(&two_by_two);/cold_reset(\&two_by_two);/' 's/^    if (cleans)$/    if (false)/' \
+        's/^    if (!invalidates)$/    if (true)/' 's/box\[0\].some = kept;/box[0].some = true;/'
     unheeded boot 's/return word & 0x40000000 ?.*/return (uint64_t)(int64_t)code;/'
     unheeded link 's/if (round % 4 == 0)/if (false)/; s/has_timer \&\& round/false \&\& round/' \
         's/^    post();$//' 's/done.ack.some)/false)/'

@@ -378,6 +378,10 @@ static void each_size(void *memory) {
 static void refusals(void) {
     want("opened", PSCI_OPENED, open_text(small));
     want("no life", PSCI_NO_LIFE, smc(0, 0x84000000, 0, 0, 0));
+    want("no such cluster", PSCI_NO_CORE, psci_status(&place.it, 1, 2));
+    want("hardware of no cluster", PSCI_NO_CORE, psci_hw(&place.it, 1, 2));
+    want("granted to no cluster", PSCI_NO_CORE, psci_granted(&place.it, 1, 2));
+    want("no such level", PSCI_NO_CORE, psci_status(&place.it, 3, 0));
     want("status without a life", PSCI_NO_LIFE, psci_status(&place.it, 0, 0));
     want("hardware without a life", PSCI_NO_LIFE, psci_hw(&place.it, 0, 0));
     want("no such core", PSCI_NO_CORE, enter(4, 1, 1, PSCI_CAUSE_BOOT));

@@ -33,7 +33,6 @@ mod lending;
 mod machine_calls;
 mod machine_fault;
 mod machine_given;
-mod machine_lending;
 mod machine_named;
 mod machine_names;
 mod machine_opening;
