@@ -2,7 +2,8 @@
 //! parameter.
 
 ghost use Rattle.std.specs.Prelude.{◌≡◌, None, Some};
-ghost use Rattle.psci_ffi.specs.ControllerSlot.{IsFull, KeptController, kept_coded, slot_owns};
+ghost use Rattle.psci_ffi.specs.ControllerSlot.{KeptController, kept_coded, slot_owns};
+ghost use Rattle.psci_ffi.specs.Slots.{IsFilled};
 
 use crate::parts::Parts;
 use psci_ctl::Controller;
@@ -13,7 +14,7 @@ use std::marker::Model;
 #[repr(C)]
 #[derive(Drop)]
 pub struct ControllerSlot {
-    ptr: *mut u8,
+    pub(crate) ptr: *mut u8,
     alloc: Global,
     pub ghost kept: { KeptController } by { kept_coded },
 }
@@ -39,7 +40,7 @@ impl ControllerSlot {
 
     /// What is in it.
     pub fn into_box(self) -> Box<Controller>
-        requires { IsFull self.kept }
+        requires { IsFilled self.kept }
         ensures { self.kept ≡ Some result.value }
     {
         self.into_parts().into_box()
@@ -56,7 +57,7 @@ impl ControllerSlot {
     }
 
     fn into_parts(self) -> Parts<Controller, Global>
-        requires { IsFull self.kept }
+        requires { IsFilled self.kept }
         ensures { self.kept ≡ Some result.value }
     {
         let ControllerSlot { ptr, alloc } = self;

@@ -68,8 +68,7 @@ fn renew(alloc: Global, place: &mut MachinePlace, machine: Platform) -> Result<(
     ensures same { IfErr result (λ _. place.new.slot.kept ≡ place.old.slot.kept) }
 {
     let boxed = Box::new(alloc, machine.in_order(alloc)?)?;
-    drop(place.take(alloc));
-    place.put(boxed);
+    drop(place.exchange(boxed));
     Ok(())
 }
 

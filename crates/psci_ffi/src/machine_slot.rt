@@ -1,7 +1,8 @@
 //! The same for a machine: C can hold no type with a parameter, so each has a slot of its own.
 
 ghost use Rattle.std.specs.Prelude.{◌≡◌, None, Some};
-ghost use Rattle.psci_ffi.specs.MachineSlot.{IsFull, KeptMachine, kept_coded, slot_owns};
+ghost use Rattle.psci_ffi.specs.MachineSlot.{KeptMachine, kept_coded, slot_owns};
+ghost use Rattle.psci_ffi.specs.Slots.{IsFilled};
 
 use crate::parts::Parts;
 use psci_platform::Platform;
@@ -38,7 +39,7 @@ impl MachineSlot {
 
     /// What is in it.
     pub fn into_box(self) -> Box<Platform>
-        requires { IsFull self.kept }
+        requires { IsFilled self.kept }
         ensures { self.kept ≡ Some result.value }
     {
         self.into_parts().into_box()
@@ -55,7 +56,7 @@ impl MachineSlot {
     }
 
     fn into_parts(self) -> Parts<Platform, Global>
-        requires { IsFull self.kept }
+        requires { IsFilled self.kept }
         ensures { self.kept ≡ Some result.value }
     {
         let MachineSlot { ptr, alloc } = self;

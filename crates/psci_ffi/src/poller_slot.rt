@@ -1,7 +1,8 @@
 //! The same for one who polls: C can hold no type with a parameter, so each has a slot of its own.
 
 ghost use Rattle.std.specs.Prelude.{◌≡◌, None, Some};
-ghost use Rattle.psci_ffi.specs.PollerSlot.{IsFull, KeptWatch, kept_coded, slot_owns};
+ghost use Rattle.psci_ffi.specs.PollerSlot.{KeptWatch, kept_coded, slot_owns};
+ghost use Rattle.psci_ffi.specs.Slots.{IsFilled};
 
 use crate::parts::Parts;
 use crate::watch::Watch;
@@ -12,7 +13,7 @@ use std::marker::Model;
 #[repr(C)]
 #[derive(Drop)]
 pub struct PollerSlot {
-    ptr: *mut u8,
+    pub(crate) ptr: *mut u8,
     alloc: Global,
     pub ghost kept: { KeptWatch } by { kept_coded },
 }
@@ -38,7 +39,7 @@ impl PollerSlot {
 
     /// What is in it.
     pub fn into_box(self) -> Box<Watch>
-        requires { IsFull self.kept }
+        requires { IsFilled self.kept }
         ensures { self.kept ≡ Some result.value }
     {
         self.into_parts().into_box()
@@ -55,7 +56,7 @@ impl PollerSlot {
     }
 
     fn into_parts(self) -> Parts<Watch, Global>
-        requires { IsFull self.kept }
+        requires { IsFilled self.kept }
         ensures { self.kept ≡ Some result.value }
     {
         let PollerSlot { ptr, alloc } = self;

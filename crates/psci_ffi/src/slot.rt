@@ -1,7 +1,8 @@
 //! A place for a boxed value, that C can hold.
 
 ghost use Rattle.std.specs.Prelude.{◌≡◌, None, Some};
-ghost use Rattle.psci_ffi.specs.Slot.{IsFull, Kept, kept_coded, slot_owns};
+ghost use Rattle.psci_ffi.specs.Slot.{Kept, kept_coded, slot_owns};
+ghost use Rattle.psci_ffi.specs.Slots.{IsFilled};
 
 use crate::held::Held;
 use crate::parts::Parts;
@@ -38,7 +39,7 @@ impl Slot {
 
     /// What is in it.
     pub fn into_box(self) -> Box<Held>
-        requires { IsFull self.kept }
+        requires { IsFilled self.kept }
         ensures { self.kept ≡ Some result.value }
     {
         self.into_parts().into_box()
@@ -55,7 +56,7 @@ impl Slot {
     }
 
     fn into_parts(self) -> Parts<Held, Global>
-        requires { IsFull self.kept }
+        requires { IsFilled self.kept }
         ensures { self.kept ≡ Some result.value }
     {
         let Slot { ptr, alloc } = self;
