@@ -97,6 +97,20 @@ static bool can_have(struct list *list, uint64_t *reg, uint64_t value, const cha
     return false;
 }
 
+/* The first core makes each call that it can make. */
+static void call_by_first(struct list *list, const char *key) {
+    static struct list other;
+    for (uint32_t at = 0; at < list->length; at++) {
+        struct psci_beside_event *e = &list->events[at];
+        uint32_t was = e->number;
+        if (e->kind != PSCI_BESIDE_CALL || !was)
+            continue;
+        e->number = 0;
+        if (!plays(list, 0, 0, NONE, key, &other) || other.length != list->length)
+            e->number = was;
+    }
+}
+
 /* Each register has 0 in it, or the boot address, or what it has in its lower half. */
 static void make_plain(struct list *list, const char *key) {
     for (uint32_t at = 0; at < list->length; at++)
@@ -116,6 +130,7 @@ void make_least(struct list *list, const char *key) {
     if (plays(list, 0, 0, NONE, key, &other))
         *list = other;
     leave_out_all(list, key);
+    call_by_first(list, key);
     make_plain(list, key);
     leave_out_all(list, key);
     plays(list, 0, 0, NONE, key, &other);
