@@ -1,5 +1,6 @@
 """The commands of ./psci: those of the program, and its own."""
 import os
+import signal
 import subprocess
 import sys
 
@@ -193,6 +194,8 @@ def view_words(tool, asked):
 def main(given):
     """Runs ./psci with these words, and ends with its status."""
     running.open_streams()
+    if signal.getsignal(signal.SIGINT) == signal.SIG_DFL:
+        signal.signal(signal.SIGINT, signal.default_int_handler)
     try:
         is_unproved = given[:1] == ["--unproved"]
         sys.exit(Front(is_unproved).run(given[is_unproved:], given[:is_unproved]))

@@ -56,8 +56,6 @@ def run(main, name):
         end(name, "standard input is not what `./psci show --json` writes", 3)
     except OSError as fault:
         sys.exit(running.not_written(fault=fault))
-    except KeyboardInterrupt:
-        sys.exit(130)
 
 
 def end(name, said, status):
