@@ -7,6 +7,7 @@ import subprocess
 import refusers
 import refuted
 import repo
+import together
 
 
 def said(folder, *words):
@@ -49,15 +50,18 @@ def checked(crate, *words):
     return text, None
 
 
-def shown_false(crate, found, given, words):
+def shown_false(crate, found, edit, words):
     """Yields which theorems and clauses of laws are shown to be false, by their negations on the copy."""
-    negations = refuted.Negations(crate, given)
+    negations = refuted.Negations(crate, edit, [f"use {it}" for it in edit.words.get("use", [])])
     for _, it in found.open:
         negations.add(it)
-    for name in given:
-        if name.partition(".")[0] in found.laws:
-            negations.add_law(name, given[name])
+    laws = refuted.laws_of(crate, edit)
+    for name in laws:
+        negations.add_law(name, laws[name], f"proofs/{refuted.LAWS}.antt")
     after = negations.written()
+    if laws:
+        lib = after.get("proofs/Lib.antt") or repo.text_of(f"{crate}/proofs/Lib.antt")
+        after["proofs/Lib.antt"] = lib + f"mod {refuted.LAWS}\n"
     before = {path: repo.text_of(f"{crate}/{path}") for path in after
               if os.path.exists(f"{crate}/{path}")}
     repo.write(crate, after)
@@ -83,7 +87,7 @@ def refused_by(crate, edit, words):
     found = refusers.Refusals(crate, text)
     counts = found.counts
     if not counts and (found.open or found.laws):
-        counts = shown_false(crate, found, refuted.terms(edit.words.get("false", [])), words)
+        counts = shown_false(crate, found, edit, words)
     counts = list(dict.fromkeys(counts))
     if found.open or found.laws:
         lost = listed([*(f"{kind} {it}" for kind, it in found.open), *found.laws], 4)
@@ -95,12 +99,9 @@ def refused_by(crate, edit, words):
 
 
 def judged(crate, edit, changed, is_quick):
-    """Whether the crate, in which the case is made, is refused, and what is to be said of it. The files
-    of worked examples that the case names are asked first, then all such files, which is soon done."""
-    all_files = examples(crate)
-    words = edit.words.get("refused", [])
-    named = [it for it in refusers.files_named(os.path.basename(crate), words) if it in all_files]
-    for files in [named, all_files] if named else [all_files]:
+    """Whether the crate, in which the case is made, is refused, and what is to be said of it. The files that
+    the case names are asked first, then all files of examples, and then the whole crate."""
+    for files in rounds(crate, edit):
         bring(crate, files)
         counts, what = refused_by(crate, edit, ["--only", EXAMPLES])
         if counts or what.startswith(("BAD", "NOT TRIED")):
@@ -110,6 +111,14 @@ def judged(crate, edit, changed, is_quick):
     if not counts and any(path.startswith("src/") for path in changed):
         counts = [f"test {it}" for it in failing_tests(crate)]
     return bool(counts), f"refused by {listed(counts)}" if counts else what
+
+
+def rounds(crate, edit):
+    """The files to be asked, in turn: those with a theorem that the case names, and all with examples."""
+    words = edit.words.get("refused", [])
+    named = [it for it in refusers.files_named(os.path.basename(crate), words)
+             if os.path.exists(f"{crate}/proofs/{it}.antt")]
+    return [named, examples(crate)] if named else [examples(crate)]
 
 
 def examples(crate):
@@ -134,26 +143,103 @@ def changes_code(path):
     return bool(re.search(r"^file: src/", repo.text_of(path), re.M))
 
 
-def tried(folder, cases_of, is_quick=False):
-    """Yields of each case, by its name and file, whether the crate in the folder is refused with it, and
-    what is to be said of it."""
+def ready(folder, beside):
+    """Makes the copy of a crate one that examples are asked of, with the files of lemmas that lie beside
+    its cases; why that cannot be, or None."""
+    lemmas = {f"proofs/{os.path.basename(it)}": repo.text_of(it)
+              for it in sorted(glob.glob(f"{beside}/{refusers.JUDGES}*.antt"))}
+    names = [os.path.basename(it).removesuffix(".antt") for it in lemmas]
+    repo.write(folder, {**lemmas, "proofs/Lib.antt": repo.text_of(f"{folder}/proofs/Lib.antt")
+                        + "".join(f"pub mod {it}\n" for it in names)})
     root = next(it for it in ("src/lib.rt", "src/main.rt") if os.path.exists(f"{folder}/{it}"))
     repo.write(folder, {root: repo.text_of(f"{folder}/{root}") + f"\nfn {EXAMPLES}() {{}}\n"})
     bring(folder, examples(folder))
     status, text = said(folder, "rt", "check", "--jobs", "1", "--only", EXAMPLES)
+    return f"NOT TRIED: the crate itself is not proved: {text[-400:]}" if status else None
+
+
+def tried(folder, cases_of, is_quick=False):
+    """Yields of each case, by its name and file, whether the crate in the folder is refused with it, and
+    what is to be said of it."""
+    beside = os.path.dirname(next(iter(cases_of.values())))
+    hindered, edits = ready(folder, beside), {}
     for name, path in cases_of.items():
-        if status:
-            yield name, False, f"NOT TRIED: the crate itself is not proved: {text[-400:]}"
-            continue
         try:
             edit = repo.read_edit(path)
-            before, after = repo.edited(edit.changes, folder)
+            edits[name] = edit, *repo.edited(edit.changes, folder)
         except repo.BadEdit as error:
             yield name, False, f"BAD CASE: {error}"
-            continue
+    if hindered:
+        yield from ((name, False, hindered) for name in edits)
+        return
+    for name, counts, what in together_tried(folder, edits, is_quick):
+        yield name, bool(counts), f"refused by {listed(counts)}" if counts else what
+        del edits[name]
+    for name, (edit, before, after) in edits.items():
         repo.write(folder, after)
         try:
             is_refused, what = judged(folder, edit, after, is_quick)
         finally:
             repo.write(folder, before)
         yield name, is_refused, what
+
+
+# how many lines of copies one check reads, beyond those of one case
+AT_ONCE = 4000
+
+
+def together_tried(folder, edits, is_quick):
+    """Yields of the cases that are asked in common what refuses them, or what is to be said where nothing
+    does."""
+    modules, waiting, lost_of = together.Modules(folder), [], {}
+    others = [] if is_quick else together.with_theorems(folder, modules)
+    for number, (name, (edit, _, after)) in enumerate(edits.items()):
+        if all(path in modules.texts for path in after):
+            names = [it for line in edit.words.get("refused", []) for it, _ in refusers.named_by(line)]
+            waiting.append((name, edit, number, after, names, turns(modules, folder, edit, after, others)))
+            lost_of[name] = []
+
+    def check(names):
+        bring(folder, names)
+        return said(folder, "rt", "check", "--jobs", "1", "--only", EXAMPLES)[1]
+
+    while waiting:
+        now, lines = [], 0
+        while waiting and (not now or lines < AT_ONCE):
+            name, edit, number, after, names, files = waiting.pop(0)
+            copies = together.Copies(modules, name, edit, number, after, files[0], names)
+            now.append((copies, (name, edit, number, after, (), files[1:])))
+            lines += sum(text.count("\n") for text in copies.texts.values())
+        counts, lost = together.Together(folder, check, [it for it, _ in now if it.is_all]).refused()
+        for copies, it in now:
+            name, left = it[0], it[-1]
+            if not copies.is_all:
+                continue
+            lost_of[name] = lost[name] if isinstance(lost[name], str) else [*lost_of[name], *lost[name]]
+            if not counts[name] and left and not isinstance(lost[name], str):
+                waiting.append(it)
+            else:
+                yield name, list(dict.fromkeys(counts[name])), told(lost_of[name])
+
+
+def turns(modules, folder, edit, after, others):
+    """The files to be asked in turn, by their paths, of those that the change reaches: those with the theorems
+    that the case names, then others with examples, first those that name what is changed, then the small
+    ones, and then these other ones. The named ones are asked for these theorems first, and again among all."""
+    paths = [[f"proofs/{it}.antt" for it in files] for files in rounds(folder, edit)]
+    reached, _ = modules.reached(after, [*(it for files in paths for it in files), *others])
+    named = [it for it in paths[0] if paths[1:] and it in reached]
+    rest = sorted((it for it in paths[-1] if it in reached), key=lambda it: modules.texts[it].count("\n"))
+    near = [it for it in rest if modules.named_in(modules.texts[it]) & after.keys()]
+    far = [it for it in rest if it not in near]
+    more = [it for it in others if it in reached and it not in rest]
+    return [it for it in [named, near, far[:4], far[4:12], far[12:], more] if it] or [[]]
+
+
+def told(lost):
+    """What is to be said of a case that nothing refuses."""
+    if isinstance(lost, str):
+        return lost
+    if lost:
+        return f"NOT REFUSED: what broke may hold, as nothing shows it to be false: {listed(lost, 4)}"
+    return "NOT REFUSED: each example and theorem holds"

@@ -25,6 +25,10 @@ def cited_above(crate):
     return found
 
 
+# how files begin in which lemmas of the cases, or negations, stand on a copy
+JUDGES = "Judged"
+
+
 class Texts:
     """The texts of a crate, by their paths in it."""
 
@@ -44,17 +48,23 @@ class Texts:
         word = re.compile(rf"(?<![\w.'-]){re.escape(name)}(?![\w'-])")
         own = re.compile(rf"^(?:pub )?{re.escape(name)}\b", re.M)
         module = re.compile(rf"\.{re.escape(path.removesuffix('.antt').replace('/', '.'))}\b")
-        for at, text in self.texts.items():
-            text = COMMENT.sub("", text)
+        for at, text in self.plain().items():
+            if name not in text:
+                continue
             if at == path and word.search(own.sub("", text)):
                 return True
             if at != path and module.search(text) and word.search(text):
                 return True
         return False
 
+    @functools.cache
+    def plain(self):
+        """The texts without their comments."""
+        return {path: COMMENT.sub("", text) for path, text in self.texts.items()}
+
     def kind_of(self, path, name):
         """What sort of theorem it is, or None where it counts for nothing."""
-        if os.path.dirname(path) != "proofs":
+        if os.path.dirname(path) != "proofs" or os.path.basename(path).startswith(JUDGES):
             return None
         if re.search(rf"^{re.escape(name)} =\s+refl$", self.texts[path], re.M):
             return "example"

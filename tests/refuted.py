@@ -183,20 +183,24 @@ HEARD = f"{MARK}heard"
 class Negations:
     """The negations of some theorems, put into their files on a copy, each with several proofs."""
 
-    def __init__(self, folder, given):
-        # of each theorem the terms that the case brings
-        self.folder, self.given = folder, given
+    def __init__(self, folder, edit, uses, texts=None):
+        # of each theorem the terms that the case brings, and what these bring in and unfold; the texts of
+        # the copy that do not lie in the folder
+        self.folder, self.lying, self.uses = folder, texts or {}, uses
+        self.given = terms(edit.words.get("false", []))
+        self.unfolds = " ".join(edit.words.get("unfolding", []))
         self.bare, self.texts, self.files = {}, {}, {}
         self.crate = os.path.basename(folder)
         path = f"{APART_LEMMAS}/{self.crate}.antt"
-        self.lemmas = repo.text_of(path) if os.path.exists(path) else ""
+        # (copies of a file have no place for further lemmas)
+        self.lemmas = repo.text_of(path) if texts is None and os.path.exists(path) else ""
         # of each theorem or clause the names of its negations, with their proofs
         self.tried, self.long = {}, set()
 
     def add(self, failure):
         """Puts the negation of a theorem in, once for each way in which it may be shown."""
         if failure.path not in self.bare:
-            text = repo.text_of(f"{self.folder}/{failure.path}")
+            text = self.lying.get(failure.path) or repo.text_of(f"{self.folder}/{failure.path}")
             self.bare[failure.path] = self.texts[failure.path] = text
         item = theorem(self.bare[failure.path], failure.name)
         if item is None:
@@ -229,7 +233,9 @@ class Negations:
             if proof not in self.tried[key].values():
                 name = f"{MARK}{list(self.tried).index(key)}_{len(self.tried[key])}"
                 self.tried[key][name] = proof
-                self.put(failure.path, name, f" ({statement[stated.end():]}\n    ) → ⊥", opened, proof)
+                own = proof in self.given.get(item.name, []) and self.unfolds
+                self.put(failure.path, name, f" ({statement[stated.end():]}\n    ) → ⊥",
+                         f"{opened or 'unfolding'} {self.unfolds}" if own else opened, proof)
 
     def names_of_lemmas(self):
         return re.findall(r"^pub (\w+) :", self.lemmas, re.M)
@@ -246,28 +252,31 @@ class Negations:
         lines = ["", f"{name} :{statement}", opened, f"{name} = {proof}", ""]
         self.texts[path] += "\n".join(it for it in lines if it is not None)
 
-    def add_law(self, name, terms):
-        """Puts the negation of a law's clause in, by its name and label, by the terms of the case."""
-        statement, uses = clause_of(self.folder, name)
-        if not statement:
-            return
-        path, number = f"proofs/{LAWS}.antt", len(self.tried)
-        self.bring(LAWS, "".join(f"use {it}\n" for it in uses))
-        self.tried[path, name] = {f"{MARK}{number}_{at}": it for at, it in enumerate(terms)}
-        for it, term in self.tried[path, name].items():
-            self.put(path, it, f" ({statement}\n    ) → ⊥", None, term)
+    def add_law(self, name, law, path):
+        """Puts the negation of a law's clause in, by its name with the label, what it says and what that brings
+        in, by the terms of the case; into this file."""
+        statement, uses = law
+        self.texts.setdefault(path, "")
+        missing = [it for it in uses if it not in self.texts[path].splitlines()]
+        self.texts[path] = "".join(f"{it}\n" for it in missing) + self.texts[path]
+        number, self.tried[path, name] = len(self.tried), {}
+        opened = f"unfolding {self.unfolds}" if self.unfolds else None
+        for at, term in enumerate(self.given[name]):
+            self.tried[path, name][f"{MARK}{number}_{at}"] = term
+            self.put(path, f"{MARK}{number}_{at}", f" ({statement}\n    ) → ⊥", opened, term)
 
     def written(self):
         """The files with what was put in, by their paths."""
-        texts, used = {}, USED.format(MARK)
+        texts, used = {}, USED.format(MARK).splitlines()
         if self.lemmas:
             names = ", ".join(f"{it} as {MARK}{it}" for it in self.names_of_lemmas())
-            used += f"use Rattle.{self.crate}.proofs.{LEMMAS}.{{{names}}}\n"
+            used.append(f"use Rattle.{self.crate}.proofs.{LEMMAS}.{{{names}}}")
             self.bring(LEMMAS, self.lemmas)
-        for path, _ in self.tried:
+        brought = {path for path, name in self.tried if name in self.given}
+        for path in {path for path, _ in self.tried}:
             lines = self.texts[path].splitlines()
             last = max(at for at, it in enumerate(lines) if re.match(r"(pub )?use ", it))
-            lines[last + 1:last + 1] = used.splitlines()
+            lines[last + 1:last + 1] = [*used, *(self.uses if path in brought else [])]
             texts[path] = "\n".join([*lines, "", f"{HEARD} : Unit {{0}} → ⊥", f"{HEARD} u = u", ""])
         self.files = {**self.texts, **texts}
         return self.files
@@ -291,9 +300,15 @@ class Negations:
         return shown
 
 
-def clause_of(folder, name):
-    """What the clause of a law says, by its name and label, as law_safe.always; and what its file names."""
-    law, _, label = name.partition(".")
+def laws_of(folder, edit):
+    """Of each law that the case says to be false, by its name with the label of its clause, as
+    law_safe.always, what it says and the lines that its file brings that in by."""
+    found = {name: clause_of(folder, *name.partition(".")[::2]) for name in terms(edit.words.get("false", []))
+             if name.startswith("law_")}
+    return {name: law for name, law in found.items() if law}
+
+
+def clause_of(folder, law, label):
     for path in sorted(glob.glob(f"{folder}/src/**/*.rt", recursive=True)):
         text = repo.text_of(path)
         contract = re.search(rf"^ *pub fn {law}\(.*?^\{{", text, re.M | re.S)
@@ -301,8 +316,8 @@ def clause_of(folder, name):
                                         r"(?=ensures|//|\{)", contract[0], re.S)
         if clause:
             uses = re.findall(r"^ *ghost use ([^;]*);", text, re.M)
-            return re.sub(r"//.*", "", clause[1]), [" ".join(it.split()) for it in uses]
-    return None, None
+            return re.sub(r"//.*", "", clause[1]), [f"use {' '.join(it.split())}" for it in uses]
+    return None
 
 
 def terms(lines):
