@@ -81,8 +81,8 @@ def bash(taken, is_whole):
     cases = [f'        {name}) _psci_words {" ".join([*it.words, *it.options])}{"; _psci_files" * it.has_files} ;;'
              for name, it in taken.items()]
     return "\n".join([
-        "# Completion of `psci` and `./psci` for bash, which tools/completions.py writes:", "#   source completions/psci.bash",
-        "", "_psci_words() { mapfile -t -O ${#COMPREPLY[@]} COMPREPLY < <(compgen -W \"$*\" -- \"$word\"); }",
+        "# Completion of `psci` and `./psci` for bash, which tools/completions.py writes:",
+        "#   source completions/psci.bash", "", "_psci_words() { mapfile -t -O ${#COMPREPLY[@]} COMPREPLY < <(compgen -W \"$*\" -- \"$word\"); }",
         "_psci_files() {", "    [[ $word == -* ]] && return", "    compopt -o filenames 2> /dev/null",
         "    mapfile -t -O ${#COMPREPLY[@]} COMPREPLY < <(compgen -f -- \"$word\")", "}", "", "_psci() {",
         "    local word=${COMP_WORDS[COMP_CWORD]} before=${COMP_WORDS[COMP_CWORD - 1]} command= at",

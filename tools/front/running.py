@@ -20,7 +20,7 @@ KEPT = 1 << 20
 
 
 class Script:
-    """The script that a program reads, by a file or by a pipe. A file without calls by name the program reads itself."""
+    """The script that a program reads, by a file or by a pipe. A file without names the program reads itself."""
 
     def __init__(self, file):
         self.file, self.gone, self.last, self.names = file, 0, b"", Names()

@@ -204,7 +204,7 @@ def machine(words):
 def replay():
     words = Words("replay", "Answers each event of a script by a line.", "[--machine FILE] [FILE]",
                   "A script has a board in line 1, and events behind it: `call CORE X0 ..`, or by name as\n"
-                  "`call 0 CPU_ON 3 0x40001000 0x7`, `enter CORE`, `wake CORE`, `reset CORE`, `deliver K`, `take K`.\n\n"
+                  "`call 0 CPU_ON 3 0x40001000 0x7`, `enter CORE`, `wake CORE`, `reset CORE`, `deliver K`,\n`take K`.\n\n"
                   "Example:\n"
                   f"  printf '%s\\n' 'board {BOARD}' \\\n"
                   "      'enter 0' 'call 0 PSCI_VERSION' | ./psci replay\nwrites\n"
@@ -302,8 +302,8 @@ def plain():
 def compare():
     words = Words("compare", "Holds the record of a port's run (docs/RECORD.md) to the program.",
                   "[--quick] [--machine FILE] [--script FILE] RECORD",
-                  "A record of the calls of any firmware, with a line 'psci: head', is judged instead (docs/JUDGE.md):\n"
-                  "`psci compare --declare --help` has the options for that.\n")
+                  "A record of the calls of any firmware, with a line 'psci: head', is judged instead\n"
+                  "(docs/JUDGE.md): `psci compare --declare --help` has the options for that.\n")
     words.flag("--quick", help="leave the second model out")
     machine(words)
     words.add_argument("--script", metavar="FILE", help="keep the run as a script, and the port's answers in FILE.out")
@@ -319,7 +319,8 @@ def prove():
                   "prove lib    the C library into out/lib; with --unproved into out/lib/unproved, in a minute, and nothing "
                   f"is\n             proved: psci_version_of_library says so\n\n{MINUTES}\n")
     words.add_argument("what", metavar="WHAT", nargs="?", type=one_of("all", "lib"), help="all, or lib")
-    words.add_argument("--target", metavar="MACHINE", type=one_of("x86_64", "aarch64"), help="of lib: x86_64, or aarch64")
+    words.add_argument("--target", metavar="MACHINE", type=one_of("x86_64", "aarch64"),
+                       help="of lib: x86_64, or aarch64")
     words.flag("--unproved", help="of lib: compile it alone")
     for option in ("target", "unproved"):
         words.rule(lambda it, name=option: getattr(it, name) and it.what != "lib", f"--{option}", "goes with lib")
