@@ -3,7 +3,7 @@
  *   TARGET FILE..              runs stored inputs, one a file
  *   TARGET --draws N [SEED]    inputs that are drawn blindly
  *   TARGET --stories REPORT    each story of a stored report once more */
-#include "lists.h"
+#include "fuzz.h"
 
 #include <stdio.h>
 #include <stdlib.h>
