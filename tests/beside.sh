@@ -22,6 +22,8 @@ own_beside() {
         fail "the library beside itself"
         tail -n 20 "$work/out"
     fi
+    "$work/beside/own" > "$work/out" 2>&1
+    if [ $? = 2 ] && grep -q 'TARGET --draws N' "$work/out"; then pass; else fail "$beside: a target that is run bare"; fi
     while IFS='|' read -r name edit; do
         echo "$edit" > "$work/edit"
         build_beside own faulty "$work/edit" || continue
