@@ -22,6 +22,8 @@ own_beside() {
         fail "the library beside itself"
         tail -n 20 "$work/out"
     fi
+    "$work/beside/own" > "$work/out" 2>&1
+    if [ $? = 2 ] && grep -q 'TARGET --draws N' "$work/out"; then pass; else fail "$beside: a target that is run bare"; fi
     while IFS='|' read -r name edit; do
         echo "$edit" > "$work/edit"
         build_beside own faulty "$work/edit" || continue
@@ -61,7 +63,7 @@ report_beside() {
     local loops='s/^    obey(core, x\[0\], &answer, did);/    while ((uint32_t)x[0] == 0x84000008) __asm__ volatile("");\n&/'
     echo "$loops" > "$work/edit"
     build_beside own loops "$work/edit" || return
-    { BESIDE_REPORT=$work/loops timeout -s KILL 6 "$work/beside/loops" --draws 1000000 > "$work/out" 2>&1 || true; } 2> /dev/null
+    { (ulimit -t 4; BESIDE_REPORT=$work/loops exec "$work/beside/loops" --draws 1000000) > "$work/out" 2>&1 || true; } 2> /dev/null
     if grep -q '^+ SYSTEM_OFF: ours stops, theirs does not come back$' "$work/loops" &&
         grep -q '^  theirs: does not come back$' "$work/loops" && grep -q '^  by: SystemCalls.system_message: the core' "$work/loops"
     then pass; else

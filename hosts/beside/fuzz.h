@@ -24,6 +24,9 @@ extern const struct rule {
 /* Each story of a stored report once more: 0 where each comes to its group, and no event of it can go. */
 int stories(const char *path);
 
+/* Whether inputs are drawn blindly: main.c says so. */
+extern bool is_drawn_blindly;
+
 /* One input, which is a list of events. */
 int LLVMFuzzerTestOneInput(const uint8_t *data, size_t size);
 

@@ -13,7 +13,6 @@ bool is_drawn(void);
  * psci_beside_do, where a peer that does not come back within some tenths of a second of a processor is ended. */
 extern struct psci_beside beside_side;
 extern uint64_t beside_lists, beside_events;
-extern bool is_drawn_blindly;
 extern int most_tenths;
 void open_once(void);
 void begin_list(void);

@@ -275,6 +275,7 @@ int LLVMFuzzerTestOneInput(const uint8_t *data, size_t size) {
 }
 
 /* No peer, and so no report. */
+bool is_drawn_blindly;
 int stories(const char *path) {
     fprintf(stderr, "machines: there are no stories: %s\n", path);
     return 2;

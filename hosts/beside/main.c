@@ -3,7 +3,7 @@
  *   TARGET FILE..              runs stored inputs, one a file
  *   TARGET --draws N [SEED]    inputs that are drawn blindly
  *   TARGET --stories REPORT    each story of a stored report once more */
-#include "lists.h"
+#include "fuzz.h"
 
 #include <stdio.h>
 #include <stdlib.h>
@@ -39,7 +39,18 @@ static void stored(const char *path) {
     LLVMFuzzerTestOneInput(input, size);
 }
 
+static int explain(void) {
+    fputs("a target without a fuzzer, which has to be told what to run (docs/BESIDE.md):\n"
+          "  TARGET FILE..              stored inputs, one a file\n"
+          "  TARGET --draws N [SEED]    N inputs that are drawn blindly\n"
+          "  TARGET --stories REPORT    each story of a stored report once more\n"
+          "BESIDE_REPORT=FILE has all groups; without it the first new one ends the target.\n", stderr);
+    return 2;
+}
+
 int main(int count, char **words) {
+    if (count == 1)
+        return explain();
     if (count == 3 && strcmp(words[1], "--stories") == 0)
         return stories(words[2]);
     if (count > 2 && strcmp(words[1], "--draws") == 0) {
