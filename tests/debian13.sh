@@ -31,7 +31,7 @@ debian_13() {
     for step in "${debian_13_archives[@]}"; do
         [ -f "$step" ] || { skip "Debian 13" "$step"; return; }
     done
-    in_13 "$folder" timeout 900 /gumdarts/tests/on-debian-13 "${debian_13_archives[@]}" \
+    in_13 "$folder" timeout 1800 /gumdarts/tests/on-debian-13 "${debian_13_archives[@]}" \
         > "$work/out" 2>&1 || echo "status $?" >> "$work/out"
     while read -r step; do
         if grep -q "^debian 13: $step" "$work/out"; then pass; else
