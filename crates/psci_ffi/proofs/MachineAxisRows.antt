@@ -190,7 +190,7 @@ opens_not :
     × ¬ (OpensMachine (Ok tt) (Ok paired_board) paired 1 kept None)
     -- a machine that is opened is in order
     × ¬ (OpensMachine (Ok tt) (Ok paired_board) paired 1 None kept)
-    × ¬ (OpensMachine (Ok tt) (Err boards.Uneven) paired 1 kept kept) × ¬ (IsFilled {A = Unit {0}} None)
+    × ¬ (OpensMachine (Ok tt) (Err boards.Uneven) paired 1 kept kept) × ¬ (IsFilled None)
 unfolding checking
 opens_not = (
   λ h. apart-by truth h refl,

@@ -109,9 +109,9 @@ reads-now p is was = (
   ap (λ (v : Values). v.known 0 ∷ v.known 1 ∷ v.known 3 ∷ []) was,
   ap (λ (v : Values). is_running (v.phase 0) ∷ is_running (v.phase 3) ∷ []) was,
   both (λ b v. granted_said b v (node 0 3) ∷ granted_said b v (node 1 1)
-      ∷ granted_said b v (node 1 0) ∷ granted_said b v (node 2 0) ∷ []) p.firmware now is was,
+      ∷ granted_said b v (node 1 0) ∷ granted_said b v (node 2 0) ∷ []) p.firmware is was,
   both (λ b v. hw_said b v (node 0 0) ∷ hw_said b v (node 0 3) ∷ hw_said b v (node 1 1) ∷ [])
-      p.firmware now is was,
+      p.firmware is was,
 )
 
 -- no cluster 2, no core 4, and nothing above the system: alike in each reader of nodes
