@@ -119,7 +119,7 @@ static bool agree(void) {
     for (uint32_t level = 0; level < LEVELS; level++)
         for (unsigned index = 0; index < (unsigned)CORES >> level; index++) {
             uint32_t depth = psci_ctl_depth(&controller, level, index), hw = psci_hw(&firmware, level, index);
-            if (hw != (depth == PSCI_DEPTH_POWER_DOWN ? 1 : depth == PSCI_DEPTH_ON ? 0 : 2))
+            if (hw != (depth == PSCI_CTL_POWER_DOWN ? 1 : depth == PSCI_CTL_ON ? 0 : 2))
                 return false;
         }
     return true;

@@ -17,7 +17,7 @@ static void carry_out(const struct psci_ctl_answer *answer) {
         depths[answer->domains[k].level][answer->domains[k].index] = answer->domains[k].depth;
     if (answer->what == PSCI_CTL_START)
         for (uint32_t level = 0; level < LEVELS; level++)
-            depths[level][answer->start.core >> level] = PSCI_DEPTH_ON;
+            depths[level][answer->start.core >> level] = PSCI_CTL_ON;
 }
 
 /* Core 1 suspends, and is woken just behind its Down. The domains are switched before the wake-up is told

@@ -22,48 +22,78 @@ static void cut(int number) {
     siglongjmp(reset, 1);
 }
 
-/* A core calls and reads until the reset cuts it. */
-static void call_until_cut(unsigned core, long microseconds) {
+/* The lock, where the reset takes it before it stops the cores: it waits until the call has returned. */
+static void hold(bool held) {
+    sigset_t alarm;
+    sigemptyset(&alarm);
+    sigaddset(&alarm, SIGALRM);
+    sigprocmask(held ? SIG_BLOCK : SIG_UNBLOCK, &alarm, NULL);
+}
+
+/* A core calls and reads until the reset cuts it: a reader that is cut leaves the place empty. */
+static void call_until_cut(unsigned core, long microseconds, bool is_waited_for) {
     struct itimerval after = {{0, 0}, {0, microseconds}};
     if (sigsetjmp(reset, 1))
         return;
     setitimer(ITIMER_REAL, &after, NULL);
     for (;;) {
+        if (is_waited_for)
+            hold(true);
         smc(core, INFO, word_of(0), 0, 0);
         for (unsigned level = 0; level < 4; level++)
             psci_status(&firmware, level, 0);
+        if (is_waited_for)
+            hold(false);
     }
 }
 
-/* So many lives, each ended by a reset while another core is in a call. In each the firmware is made anew, or it is
- * kept, with its poller; and the power controller counts on. */
-static void try_cuts(bool is_kept) {
-    unsigned entered = 0;
-    struct psci_poller poller = {0};
+/* So many lives, each ended by a reset while another core is in a call. In each the firmware is made
+ * anew, and the power controller counts on. */
+static void try_cuts(void) {
+    unsigned empty = 0, entered = 0;
+    struct psci_poller poller;
     struct sigaction on_alarm = {.sa_handler = cut};
     sigaction(SIGALRM, &on_alarm, NULL);
     cold_reset(&two_by_two);
     for (unsigned turn = 1; turn <= RESETS; turn++) {
-        if (!poller.full && psci_open_poller(&firmware, &poller) != PSCI_OPENED)
+        memset(&poller, 0, sizeof poller);
+        if (psci_open_poller(&firmware, &poller) != PSCI_OPENED)
             fail("no poller", turn);
         entered += enter(0) == PSCI_ENTER && psci_life(&firmware) == turn && psci_poll(&poller, 0) == 0;
         smc(0, ON, word_of(1), 0x40001000, 0);
         serve();
         entered += enter(1) == PSCI_ENTER;
         smc(0, SYSTEM_RESET, 0, 0, 0);
-        call_until_cut(1, 20 + turn % 50);
+        call_until_cut(1, 20 + turn % 50, false);
+        empty += smc(1, INFO, 0, 0, 0) == PSCI_NO_FIRMWARE && smc(0, INFO, 0, 0, 0) == PSCI_NO_FIRMWARE;
         psci_ctl_deliver(&controller, box[SYSTEM].bytes, PSCI_FRAME_LEN, &done);
         if (done.what != PSCI_CTL_RESTART)
             fail("no reset", done.what);
         memset(box, 0, sizeof box);
-        memset(runs, 0, sizeof runs);
-        if (is_kept)
-            continue;
-        memset(&poller, 0, sizeof poller);
         open_anew(&two_by_two);
     }
-    printf("resets in mid-call, the firmware %s: of %d lives, %u cores entered\n", is_kept ? "kept" : "made anew",
+    printf("resets in mid-call: some left an empty place: %d; of %d lives, %u cores entered\n", empty > 0,
            RESETS, entered);
+}
+
+/* The same where the firmware's memory outlives the resets: it is kept, and they take its lock first. */
+static void try_kept(void) {
+    unsigned empty = 0, entered = 0;
+    cold_reset(&two_by_two);
+    for (unsigned turn = 1; turn <= RESETS; turn++) {
+        entered += enter(0) == PSCI_ENTER && psci_life(&firmware) == turn;
+        smc(0, ON, word_of(1), 0x40001000, 0);
+        serve();
+        entered += enter(1) == PSCI_ENTER;
+        smc(0, SYSTEM_RESET, 0, 0, 0);
+        call_until_cut(1, 20 + turn % 50, true);
+        empty += smc(1, INFO, 0, 0, 0) == PSCI_NO_FIRMWARE;
+        deliver(SYSTEM);
+        memset(box, 0, sizeof box);
+        memset(runs, 0, sizeof runs);
+    }
+    printf("resets that take the lock first: some left an empty place: %d; of %d lives, %u cores entered\n",
+           empty > 0, RESETS, entered);
 }
 
 /* Before the first entry of its life a new firmware answers no call, and takes nothing. */
@@ -146,8 +176,8 @@ static void try_caches(bool cleans, bool invalidates) {
 }
 
 int main(void) {
-    try_cuts(false);
-    try_cuts(true);
+    try_cuts();
+    try_kept();
     try_new();
     try_old_frame(false, true);
     try_old_frame(true, true);

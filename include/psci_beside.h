@@ -60,7 +60,7 @@ struct psci_beside_peer {
     void (*open)(void *self, const struct psci_beside_board *);
     /* A core calls. */
     void (*call)(void *self, uint32_t core, const uint64_t x[4], struct psci_beside_did *);
-    /* A core enters, by CPU_ON (PSCI_CAUSE_ON), out of a suspend (PSCI_CAUSE_WAKE), or reset (PSCI_CAUSE_RESET). */
+    /* A core enters, by CPU_ON (PSCI_ON), out of a suspend (PSCI_WAKE), or reset (PSCI_RESET). */
     void (*enter)(void *self, uint32_t core, uint32_t cause, struct psci_beside_did *);
     /* 0 ON, 1 OFF, 2 ON_PENDING. */
     uint32_t (*status)(void *self, uint32_t core);

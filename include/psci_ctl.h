@@ -17,33 +17,33 @@ struct psci_ctl_place {
     bool full;
 };
 
-/* What the power hardware does next, before the acknowledgement goes back. */
-enum psci_ctl_act {
+/* What the power hardware does next, before the acknowledgement goes back. From PSCI_CTL_NO_PLACE
+ * on the call was refused, and nothing changed; other refusals have the names of psci.h:
+ * PSCI_NO_CORE, and PSCI_FRAME_LENGTH to PSCI_FRAME_LEVEL. */
+enum {
     PSCI_CTL_NOTHING = 0, /* nothing: what came is ignored, or came too late */
     PSCI_CTL_START = 1,   /* the core of `start` is powered up, with all above it */
     PSCI_CTL_SWITCH = 2,  /* so many domains go to their depths, which may be none */
     PSCI_CTL_OFF = 3,     /* the system goes off */
     PSCI_CTL_RESTART = 4, /* the system is reset, and the core of `start`, the boot core, starts */
-};
-
-/* Why a call was refused: nothing changed. Other refusals have the names of psci.h: PSCI_NO_CORE, and
- * PSCI_FRAME_LENGTH to PSCI_FRAME_LEVEL. */
-enum psci_ctl_refusal {
     PSCI_CTL_NO_PLACE = PSCI_NO_FIRMWARE, /* the place is empty */
     PSCI_CTL_NOT_A_MESSAGE = 42,          /* the frame is an acknowledgement's */
 };
 
+/* How deep a domain is. */
+enum { PSCI_CTL_ON = 0, PSCI_CTL_STANDBY = 1, PSCI_CTL_RETENTION = 2, PSCI_CTL_POWER_DOWN = 3 };
+
 /* The start that a core finds, for psci_enter. Zeros are none: a start has a number from 1 on. */
 struct psci_ctl_start {
     uint16_t core;
-    uint32_t life, number, cause; /* PSCI_CAUSE_BOOT to PSCI_CAUSE_RESET */
+    uint32_t life, number, cause; /* PSCI_BOOT to PSCI_RESET */
 };
 
 /* A core's own domain at level 0, or a power domain above it, counted from 0 from left to right. */
 struct psci_ctl_domain {
     uint32_t level;
     uint16_t index;
-    uint8_t depth; /* PSCI_DEPTH_ON to PSCI_DEPTH_POWER_DOWN */
+    uint8_t depth;
 };
 
 struct psci_ctl_answer {
@@ -93,7 +93,7 @@ uint32_t psci_ctl_starts(struct psci_ctl_place *, uint16_t core); /* in this lif
 /* The start that a core finds: its last one in this life; zeros where there is none. */
 void psci_ctl_started(struct psci_ctl_place *, uint16_t core, struct psci_ctl_start *);
 
-/* PSCI_DEPTH_ON to PSCI_DEPTH_POWER_DOWN; PSCI_CTL_NO_PLACE; PSCI_NO_CORE where the board has no such
+/* PSCI_CTL_ON to PSCI_CTL_POWER_DOWN; PSCI_CTL_NO_PLACE; PSCI_NO_CORE where the board has no such
  * domain; PSCI_NO_LIFE once the system is off. */
 uint32_t psci_ctl_depth(struct psci_ctl_place *, uint32_t level, uint16_t index);
 

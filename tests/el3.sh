@@ -83,9 +83,6 @@ wrong_records() {
     local status text change
     has_python "wrong records" || return
     compared 0 "22 events are answered as by the proved program" tests/records/short.record
-    # the version that a library answers which ./psci prove lib --unproved compiles, and a proved one
-    spoiled 0 "the port's library is 1.0, compiled unproved" '3a library 0x80010000'
-    spoiled 0 "the port's library is 1.0, proved" '3a library 0x10000'
     while IFS='|' read -r status text change; do
         spoiled "$status" "$text" "$change"
     done < tests/records/spoiled.txt

@@ -243,8 +243,9 @@ proving_lib() {
         lib_of "$kit" "$fresh" ${machine:+--target $machine}
         expect "./psci prove lib for ${machine:-no machine}" 0 "psci: built; the library is in out/lib"
     done
-    printf '%s\n' aarch64/{SHA256SUMS,libpsci_ffi-strict-align.a,libpsci_ffi.a,psci_ffi-strict-align.pc} \
-        x86_64/{SHA256SUMS,libpsci_ffi.a} {aarch64,x86_64}/{psci.h,psci_ctl.h,psci_ffi.pc} > "$work/lines"
+    printf '%s\n' aarch64/{SHA256SUMS,libpsci_ffi-strict-align.a,libpsci_ffi.a} \
+        x86_64/{SHA256SUMS,libpsci_ffi.a} > "$work/lines"
+    printf '%s\n' {aarch64,x86_64}/{psci,psci_ctl}.h >> "$work/lines"
     LC_ALL=C sort -o "$work/lines" "$work/lines"
     (cd "$fresh/out/lib" && find . -type f | sed 's|^\./||' | LC_ALL=C sort) > "$work/out"
     answers "the files of ./psci prove lib"
@@ -261,42 +262,7 @@ END
         # shellcheck disable=SC2086
         lib_of "$kit" "$fresh" $words
         expect "./psci prove lib $words" 2 \
-            'psci: expected `psci prove [all | lib [--target MACHINE] [--unproved]]`; `psci prove --help` says more'
-    done
-}
-
-# packaged FOLDER: by what pkg-config says of an archive there, of this version, a program is linked
-packaged() {
-    PKG_CONFIG_PATH=$1 pkg-config --modversion psci_ffi > "$work/out" 2> "$work/err"
-    echo "1.0" > "$work/lines"
-    answers "the version by pkg-config"
-    # shellcheck disable=SC2046
-    if cc -std=c11 -o "$work/packaged" tests/programs/version.c -Wl,--gc-sections \
-        $(PKG_CONFIG_PATH=$1 pkg-config --cflags --libs psci_ffi) \
-        2> "$work/err"; then pass; else
-        fail "tests/programs/version.c by pkg-config in $1"
-        head -n 5 "$work/err"
-    fi
-}
-
-# the archives that nothing is proved of, which say so; and a proved one does not
-c_unproved() {
-    local machine
-    has_cc "archives that are not proved" && has_python "archives that are not proved" || return
-    for machine in x86_64 aarch64; do
-        if ./psci prove lib --unproved --target "$machine" < /dev/null > "$work/lib" 2>&1 &&
-            (cd "out/lib/unproved/$machine" && sha256sum --quiet -c SHA256SUMS) >> "$work/lib" 2>&1; then pass; else
-            fail "./psci prove lib --unproved --target $machine"
-            tail -n 5 "$work/lib"
-            return
-        fi
-    done
-    command -v pkg-config > /dev/null || { skip "the versions of archives" pkg-config; return; }
-    for machine in x86_64:1.0 unproved/x86_64:"1.0, compiled unproved"; do
-        packaged "out/lib/${machine%%:*}" || return
-        "$work/packaged" > "$work/out"
-        echo "${machine#*:}" > "$work/lines"
-        answers "the version of out/lib/${machine%%:*}"
+            'psci: expected `psci prove [all | lib [--target MACHINE]]`; `psci prove --help` says more'
     done
 }
 
@@ -363,11 +329,11 @@ unlike() {
 # the compilers that are here, each with the languages in which it reads the headers
 languages() {
     local tool standard
-    for tool in gcc clang clang-19; do
+    for tool in gcc clang; do
         command -v "$tool" > /dev/null || continue
         for standard in c99 c11 c17 c2x; do echo "$tool -x c -std=$standard"; done
     done
-    for tool in g++ clang++ clang++-19; do
+    for tool in g++ clang++; do
         command -v "$tool" > /dev/null || continue
         for standard in c++11 c++17 c++20; do echo "$tool -x c++ -std=$standard"; done
     done
@@ -413,15 +379,13 @@ c_header() {
     fi
     c_languages
     unlike psci.h 's/BAD_BOOT = 6/BAD_BOOT = 7/; s/BAD_LIMIT = 7/BAD_LIMIT = 6/' \
-        's/PSCI_CAUSE_WAKE = 2, PSCI_CAUSE_RESET = 3/PSCI_CAUSE_WAKE = 3, PSCI_CAUSE_RESET = 2/' 's/PSCI_STOP = 1/PSCI_STOP = 2/' \
+        's/PSCI_WAKE = 2, PSCI_RESET = 3/PSCI_WAKE = 3, PSCI_RESET = 2/' 's/PSCI_STOP = 1/PSCI_STOP = 2/' \
         's/life, uint32_t number,/number, uint32_t life,/' 's/uint64_t x1, uint64_t x2/uint64_t x2, uint64_t x1/' \
         's/uint32_t level, uint16_t index/uint16_t index, uint32_t level/' 's/uint8_t kind; /uint16_t kind; /' \
         's/uint16_t core, uint64_t x0, struct psci_stop/uint64_t x0, uint16_t core, struct psci_stop/' \
         's/^uint32_t psci_life/uint16_t psci_life/' 's/frame, 54/frame, 55/' '/uint32_t starts;/{h;d};/uint32_t lives;/G'
-    unlike psci.h 's/UINT32_C(0x00010000)/UINT32_C(0x00010001)/' 's/CODE_DENIED = -3/CODE_DENIED = -4/' \
-        's/STATUS_OFF = 1/STATUS_OFF = 2/' 's/HW_STANDBY = 2/HW_STANDBY = 3/' 's/DEPTH_STANDBY = 1/DEPTH_STANDBY = 2/'
     unlike psci_ctl.h 's/CTL_OFF = 3/CTL_OFF = 4/; s/CTL_RESTART = 4/CTL_RESTART = 3/' \
-        's/life, number, cause;/number, life, cause;/' \
+        's/life, number, cause;/number, life, cause;/' 's/STANDBY = 1, PSCI_CTL_RETENTION = 2/STANDBY = 2, PSCI_CTL_RETENTION = 1/' \
         's/NOT_A_MESSAGE = 42/NOT_A_MESSAGE = 41/' 's/uint16_t core, uint32_t halted/uint32_t halted, uint16_t core/' \
         's/domains\[4\]/domains[3]/' 's/NO_PLACE = PSCI_NO_FIRMWARE/NO_PLACE = PSCI_NO_CORE/'
 }
@@ -496,13 +460,13 @@ c_rules() {
     unheeded rules 's/<= 0xc400001f/<= 0xc400000f/' 's/|| word == 0x80000001;/;/' \
         's/features || standby ||/features ||/' 's/ && said.code == 0)/)/' \
         's/x0 == SUSPEND && what == PSCI_STOP/false/' \
-        's/start.cause == PSCI_CAUSE_BOOT ? device_tree : said.context/said.context/' \
+        's/start.cause == PSCI_BOOT ? device_tree : said.context/said.context/' \
         's/|| stands\[message.core\] == message.number/|| stands[message.core] != 0/' \
         's/ || message.number != psci_ctl_starts(&controller, message.core)//' \
         's/^    if (pending)$/    if (false)/' '/a later try/d'
-    unheeded resets '/^        memset(&poller, 0, sizeof poller);$/d' \
-        's/open_anew(&two_by_two);/cold_reset(\&two_by_two);/' 's/^    if (cleans)$/    if (false)/' \
-        's/^    if (!invalidates)$/    if (true)/' 's/box\[0\].some = kept;/box[0].some = true;/'
+    unheeded resets '/^        open_anew(&two_by_two);$/d' 's/open_anew(&two_by_two);/cold_reset(\&two_by_two);/' \
+        's/^    if (cleans)$/    if (false)/' 's/^    if (!invalidates)$/    if (true)/' \
+        's/box\[0\].some = kept;/box[0].some = true;/' 's/if (is_waited_for)/if (false)/'
     unheeded boot 's/return word & 0x40000000 ?.*/return (uint64_t)(int64_t)code;/'
     unheeded link 's/if (round % 4 == 0)/if (false)/; s/has_timer \&\& round/false \&\& round/' \
         's/^    post();$//' 's/done.ack.some)/false)/'

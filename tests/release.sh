@@ -23,7 +23,6 @@ release() {
     (cd "$top_of" && find . -type f ! -name SHA256SUMS ! -path './licenses/*' | sed 's|^\./||' | LC_ALL=C sort) > "$work/out"
     {
         printf '%s\n' LICENSE README VERSION bin/psci lib/x86_64/libpsci_ffi.a lib/aarch64/libpsci_ffi{,-strict-align}.a \
-            lib/x86_64/psci_ffi.pc lib/aarch64/psci_ffi{,-strict-align}.pc \
             share/man/man1/psci.1 share/bash-completion/completions/psci include/psci.h include/psci_ctl.h \
             share/zsh/site-functions/_psci share/fish/vendor_completions.d/psci.fish \
             share/doc/gumdarts/{FORMATS,PORTING,BOARDS,CHANGELOG}.md examples/host/{README,loop.c,pool.c,pool.h}

@@ -7,8 +7,8 @@ are built of it:
     aarch64   libpsci_ffi.a                of general registers alone
               libpsci_ffi-strict-align.a   of these, and each access is aligned as it is wide
 
-They come into out/lib/MACHINE/, with the headers of what is in them, a file of each for pkg-config, and
-SHA256SUMS, which `sha256sum -c` reads. The same sources give the same bytes.
+They come into out/lib/MACHINE/, with the headers of what is in them and with SHA256SUMS, which
+`sha256sum -c` reads. The same sources give the same bytes.
 
 The compiler has no words for the flags of an archive: it calls the clang of its toolchain's folder.
 So an archive with flags has a folder of its own, of links to what the toolchain has, where clang is
@@ -17,7 +17,6 @@ a script of one line that calls the toolchain's with these flags before all word
 import glob
 import hashlib
 import os
-import re
 import shutil
 import sys
 from collections import namedtuple
@@ -47,28 +46,16 @@ ARCHIVES = {
 }
 
 
-# what pkg-config is told of an archive, which stands beside it
-PACKAGE = """prefix=${{pcfiledir}}
-
-Name: {name}
-Description: PSCI firmware and power controller
-Version: {version}
-Cflags: -I${{prefix}}{include}
-Libs: -L${{prefix}} -l{name}
-"""
-
-
 def machine_of(words):
-    """The machine that these words ask for, --target MACHINE or none for x86_64, and whether it is to be proved."""
-    is_proved = "--unproved" not in words
-    words = [part for word in words if word != "--unproved" for part in word.split("=", 1)]
+    """The machine that these words ask for: --target MACHINE, or none for x86_64."""
+    words = [part for word in words for part in word.split("=", 1)]
     if not words:
-        return "x86_64", is_proved
+        return "x86_64"
     if len(words) != 2 or words[0] != "--target" or words[1] not in ARCHIVES:
         names = " or ".join(ARCHIVES)
-        sys.stderr.write(f"psci: prove lib takes --target {names}, --unproved, and no other word\n")
+        sys.stderr.write(f"psci: prove lib takes --target {names}, and no other word\n")
         sys.exit(2)
-    return words[1], is_proved
+    return words[1]
 
 
 def toolchain(folder, flags):
@@ -97,26 +84,6 @@ def sums(folder):
         file.writelines(lines)
 
 
-def package(file, include=""):
-    """What pkg-config is told of this archive, whose headers stand beside it, or in another folder."""
-    found = re.search(r"#define PSCI_VERSION_OF_LIBRARY UINT32_C\((\w+)\)", repo.text_of(f"{repo.TOP}/include/psci.h"))
-    version = f"{int(found[1], 16) >> 16}.{int(found[1], 16) & 0xffff}"
-    return PACKAGE.format(name=file.removeprefix("lib").removesuffix(".a"), version=version, include=include)
-
-
-def hand_out(made, name):
-    """Puts these archives into out/lib, with what stands beside them."""
-    folder = f"{repo.TOP}/out/lib/{name}"
-    for archive in glob.glob(f"{made}/lib*.a"):
-        file = os.path.basename(archive)
-        repo.write(made, {f"{file[3:-2]}.pc": package(file)})
-    for header in HEADERS:
-        shutil.copyfile(f"{repo.TOP}/include/{header}", f"{made}/{header}")
-    sums(made)
-    shutil.rmtree(folder, ignore_errors=True)
-    shutil.copytree(made, folder)
-
-
 def check(proving, words, checked):
     """Proves the crate, unless that is kept of the libraries as they are now."""
     sources = proving.sources
@@ -132,7 +99,7 @@ def check(proving, words, checked):
 
 def build(proving, machine):
     """Builds the archives of a machine, once what they stand on is proved."""
-    sources = proving.sources
+    sources, top = proving.sources, proving.sources.crates.top
     words = [*sources.words(CRATE, "src/lib.rt"), "--crate-type", "staticlib",
              "--target", f"{machine}-unknown-linux-gnu"]
     checked = f"{os.path.dirname(sources.place(CRATE))}/checked-{machine}"
@@ -146,4 +113,9 @@ def build(proving, machine):
         proving.call(CRATE, [f"{KIT}/bin/rattle", "build", *words, "--crate-checked", checked,
                              "--toolchain", tools, "--backend", "llvm",
                              "-o", f"{made}/{archive.file}"])
-    hand_out(made, machine)
+    for header in HEADERS:
+        shutil.copyfile(f"{top}/include/{header}", f"{made}/{header}")
+    sums(made)
+    folder = f"{top}/out/lib/{machine}"
+    shutil.rmtree(folder, ignore_errors=True)
+    shutil.copytree(made, folder)

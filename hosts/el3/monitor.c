@@ -33,7 +33,7 @@ static uint64_t register_of(int32_t code, uint64_t word) {
 /* In standby and retention a core keeps its registers. A core that stops without a message has nothing
  * to come back to. */
 static bool keeps_registers(const struct psci_stop *how) {
-    return how->depths[0] == PSCI_DEPTH_STANDBY || how->depths[0] == PSCI_DEPTH_RETENTION;
+    return how->depths[0] == PSCI_CTL_STANDBY || how->depths[0] == PSCI_CTL_RETENTION;
 }
 
 /* Caches are cleaned here, as deep as the core goes. QEMU has none. */

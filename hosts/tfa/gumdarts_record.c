@@ -103,7 +103,6 @@ void record_board(const struct psci_board *board)
         say(" %x-%x", board->ranges[range].start, board->ranges[range].end);
     say(" boot %x starts %u lives %u", board->boot, board->starts, board->lives);
     say(board->format == PSCI_EXTENDED_FORMAT ? " format extended\n" : "\n");
-    say("library %x\n", (uint64_t)psci_version_of_library());
     say("tells stands\n");
 }
 

@@ -125,9 +125,7 @@ class Front:
         library, in any case."""
         asked = words.prove().read(given)
         if asked.what == "lib":
-            where = "built unproved; the library is in out/lib/unproved" if asked.unproved else \
-                "built; the library is in out/lib"
-            return self.by_prover(["lib", *flags(asked, "unproved"), *values(asked, "target")], where)
+            return self.by_prover(["lib", *values(asked, "target")], "built; the library is in out/lib")
         name = WHOLE if asked.what else REPLAYER
         if is_current(name):
             return 0

@@ -313,17 +313,14 @@ def compare():
 
 def prove():
     words = Words("prove", "Proves what ./psci runs, and builds it; what was proved is kept in ~/.cache/gumdarts.",
-                  "[all | lib [--target MACHINE] [--unproved]]",
+                  "[all | lib [--target MACHINE]]",
                   "prove        the program of replay: from nothing about 12 minutes\n"
                   "prove all    the program of every command: 20 to 30 minutes\n"
-                  "prove lib    the C library into out/lib; with --unproved into out/lib/unproved, in a minute, and nothing "
-                  f"is\n             proved: psci_version_of_library says so\n\n{MINUTES}\n")
+                  f"prove lib    the C library into out/lib\n\n{MINUTES}\n")
     words.add_argument("what", metavar="WHAT", nargs="?", type=one_of("all", "lib"), help="all, or lib")
     words.add_argument("--target", metavar="MACHINE", type=one_of("x86_64", "aarch64"),
                        help="of lib: x86_64, or aarch64")
-    words.flag("--unproved", help="of lib: compile it alone")
-    for option in ("target", "unproved"):
-        words.rule(lambda it, name=option: getattr(it, name) and it.what != "lib", f"--{option}", "goes with lib")
+    words.rule(lambda it: it.target and it.what != "lib", "--target", "goes with lib")
     return words
 
 

@@ -80,7 +80,6 @@ class Record:
         """The record of these lines. Where there is a translator (tools/front/machine_runs.py), its calls
         are in the words of that machine."""
         self.board, self.words, self.events, self.impossible = None, None, [], None
-        self.library = None
         self.translator = translator
         self.polls, self.at = Polls(), 0
         self.sent, self.acks = {}, {}
@@ -103,7 +102,7 @@ class Record:
     def read(self, at, line):
         """Whether the record goes on."""
         word = line.partition(" ")[0]
-        if word in ("board", "mpidr", "tells", "library"):
+        if word in ("board", "mpidr", "tells"):
             self.head(at, line)
             return True
         match = PATTERNS[word].fullmatch(line) if word in PATTERNS else None
@@ -130,8 +129,6 @@ class Record:
             self.board = line
         elif not self.events and self.board is not None and line == "tells stands":
             self.tells_stops = True
-        elif not self.events and self.board is not None and re.fullmatch(f"library {HEX}", line):
-            self.library = int(line.split()[1], 16)
         elif not self.events and self.board is not None and re.fullmatch(f"mpidr( {HEX})+", line):
             words = [int(it, 16) for it in line.split()[1:]]
             if len(words) != len(self.cores):

@@ -296,7 +296,6 @@ static void stacks(const char *name) {
     REFUSED("psci_close_machine", psci_close_machine(&machine));
     REFUSED("psci_close_poller", psci_close_poller(&poller));
     REFUSED("psci_ctl_close", psci_ctl_close(&controller));
-    REFUSED("psci_version_of_library", psci_version_of_library());
 }
 
 int main(int count, char **given) {

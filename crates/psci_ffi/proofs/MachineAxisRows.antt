@@ -29,8 +29,7 @@ use Rattle.psci_ffi.specs.declared.machine_given.GivenRow.{GivenRow}
 use Rattle.psci_ffi.specs.MachineCalls.{IsMade, IsToldBy, OpensMachine, asked_in, asked_shown}
 use Rattle.psci_ffi.specs.MachineCalls.{called_in, core_read, mpidr_read, place_read, regs_given}
 use Rattle.psci_ffi.specs.MachineCalls.{regs_in, told_in}
-use Rattle.psci_ffi.specs.MachineSlot.{KeptMachine}
-use Rattle.psci_ffi.specs.Slots.{IsFilled}
+use Rattle.psci_ffi.specs.MachineSlot.{IsFull, KeptMachine}
 use Rattle.psci_ffi.specs.Machines.{machine_on}
 use Rattle.psci_ffi.specs.Shown.{act_shown, answered, no_frame, shown}
 use Rattle.psci_ffi.proofs.Apart.{apart-by}
@@ -190,7 +189,7 @@ opens_not :
     × ¬ (OpensMachine (Ok tt) (Ok paired_board) paired 1 kept None)
     -- a machine that is opened is in order
     × ¬ (OpensMachine (Ok tt) (Ok paired_board) paired 1 None kept)
-    × ¬ (OpensMachine (Ok tt) (Err boards.Uneven) paired 1 kept kept) × ¬ (IsFilled None)
+    × ¬ (OpensMachine (Ok tt) (Err boards.Uneven) paired 1 kept kept) × ¬ (IsFull None)
 unfolding checking
 opens_not = (
   λ h. apart-by truth h refl,

@@ -1,9 +1,9 @@
 -- Worked examples: what each reader says of a firmware, and of an empty place.
 use Rattle.std.proofs.Common.{◌≡◌, ℕ, true, false, List, [], ◌∷◌, map, refl, ap, ◌∙◌}
 use Rattle.std.specs.Prelude.{None, Some, ◌==◌, nat_le, if◌then◌else◌}
-use Rattle.psci_board.specs.Board.{BoardValue, children, cores, has_node, height, nodes}
+use Rattle.psci_board.specs.Board.{BoardValue, children, cores, height, nodes}
 use Rattle.psci_board.specs.declared.node.Node.{Node}
-use Rattle.psci_fw.specs.Seen.{FirmwareValue, hw_shown, seen, status_shown}
+use Rattle.psci_fw.specs.Seen.{FirmwareValue, seen}
 use Rattle.psci_fw_spec.specs.History.{values_of}
 use Rattle.psci_fw_spec.specs.NodeHwState.{node_hw}
 use Rattle.psci_fw_spec.specs.AffinityInfo.{node_status}
@@ -58,19 +58,11 @@ no-board = (refl, refl, refl, refl)
 
 -- What is said of values --------------------------------------------------------------------------
 
--- of a node that the board does not have it is refused
-abbrev said : BoardValue → Node → ℕ → ℕ
-said b n what = if has_node b n then what else 17
-
 abbrev status_said : BoardValue → Values → Node → ℕ
-status_said b v n =
-    said b n (status_code (if v.life == 0 then None else Some (node_status b v.status n)))
+status_said b v n = status_code (if v.life == 0 then None else Some (node_status b v.status n))
 
-abbrev hw_said : BoardValue → Values → Node → ℕ
-hw_said b v n = said b n (hw_number (if v.life == 0 then None else Some (node_hw v n)))
-
-abbrev granted_said : BoardValue → Values → Node → ℕ
-granted_said b v n = said b n (v.granted n.level n.place)
+abbrev hw_said : Values → Node → ℕ
+hw_said v n = hw_number (if v.life == 0 then None else Some (node_hw v n))
 
 abbrev nodes_said : BoardValue → ℕ → ℕ
 nodes_said b level = if nat_le level (height b) then nodes b level else 0
@@ -90,7 +82,7 @@ halting : (p : PolledView) → seen p.firmware ≡ halted → halting_read (Some
 unfolding computing
 halting p was = ap (λ (v : Values). v.halting) was
 
-reads-now : (p : PolledView) → p.firmware.board ≡ board → seen p.firmware ≡ now
+reads-now : (p : PolledView) → seen p.firmware ≡ now
     → (life_read (Some p) ≡ 2) × (halting_read (Some p) ≡ false)
     -- the known starts: of core 3 its fourth one, and none of core 1
     × (known_read (Some p) 0 ∷ known_read (Some p) 1 ∷ known_read (Some p) 3 ∷ [] ≡ 1 ∷ 0 ∷ 4 ∷ [])
@@ -103,29 +95,14 @@ reads-now : (p : PolledView) → p.firmware.board ≡ board → seen p.firmware 
     × (hw_read (Some p) (node 0 0) ∷ hw_read (Some p) (node 0 3) ∷ hw_read (Some p) (node 1 1) ∷ []
     ≡ 0 ∷ 1 ∷ 0 ∷ [])
 unfolding computing
-reads-now p is was = (
+reads-now p was = (
   ap (λ (v : Values). v.life) was,
   ap (λ (v : Values). v.halting) was,
   ap (λ (v : Values). v.known 0 ∷ v.known 1 ∷ v.known 3 ∷ []) was,
   ap (λ (v : Values). is_running (v.phase 0) ∷ is_running (v.phase 3) ∷ []) was,
-  both (λ b v. granted_said b v (node 0 3) ∷ granted_said b v (node 1 1)
-      ∷ granted_said b v (node 1 0) ∷ granted_said b v (node 2 0) ∷ []) p.firmware is was,
-  both (λ b v. hw_said b v (node 0 0) ∷ hw_said b v (node 0 3) ∷ hw_said b v (node 1 1) ∷ [])
-      p.firmware is was,
+  ap (λ (v : Values). v.granted 0 3 ∷ v.granted 1 1 ∷ v.granted 1 0 ∷ v.granted 2 0 ∷ []) was,
+  ap (λ (v : Values). hw_said v (node 0 0) ∷ hw_said v (node 0 3) ∷ hw_said v (node 1 1) ∷ []) was,
 )
-
--- no cluster 2, no core 4, and nothing above the system: alike in each reader of nodes
-no-such-node : (p : PolledView) → p.firmware.board ≡ board
-    → map (status_read (Some p)) (node 1 2 ∷ node 0 4 ∷ node 3 0 ∷ []) ≡ 17 ∷ 17 ∷ 17 ∷ []
-no-such-node p is =
-    ap (λ (b : BoardValue). map (λ n. said b n (status_code (status_shown p.firmware n)))
-    (node 1 2 ∷ node 0 4 ∷ node 3 0 ∷ [])) is
-
-no-such-domain : (p : PolledView) → p.firmware.board ≡ board
-    → hw_read (Some p) (node 1 2) ∷ granted_read (Some p) (node 1 2) ∷ [] ≡ 17 ∷ 17 ∷ []
-no-such-domain p is =
-    ap (λ (b : BoardValue). said b (node 1 2) (hw_number (hw_shown p.firmware (node 1 2)))
-    ∷ said b (node 1 2) ((seen p.firmware).granted 1 2) ∷ []) is
 
 -- ON, OFF and ON_PENDING, of cores and of a cluster; before any core has entered none of these
 statuses : (p : PolledView) → p.firmware.board ≡ board → seen p.firmware ≡ asked
@@ -136,14 +113,9 @@ statuses p is was =
     both (λ b v. status_said b v (node 0 0) ∷ status_said b v (node 0 1)
     ∷ status_said b v (node 0 3) ∷ status_said b v (node 1 1) ∷ []) p.firmware asked is was
 
-before-any-entry : (p : PolledView) → p.firmware.board ≡ board → (seen p.firmware).life ≡ 0
+before-any-entry : (p : PolledView) → (seen p.firmware).life ≡ 0
     → (status_read (Some p) (node 0 0) ≡ 18) × (hw_read (Some p) (node 0 0) ≡ 18)
-before-any-entry p is none = (
-  ap (λ (b : BoardValue). said b (node 0 0) (status_code (status_shown p.firmware (node 0 0)))) is
-      ∙ rw none refl,
-  ap (λ (b : BoardValue). said b (node 0 0) (hw_number (hw_shown p.firmware (node 0 0)))) is
-      ∙ rw none refl,
-)
+before-any-entry p none = (rw none refl, rw none refl)
 
 -- the Start of core 3 waits for its acknowledgement; nothing of core 0, nor of the system
 waiting : (p : PolledView) → p.firmware.board ≡ board → seen p.firmware ≡ asked

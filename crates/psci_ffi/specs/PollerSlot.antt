@@ -5,7 +5,7 @@ use denote.RawPtr.{Ptr}
 use Rattle.std.specs.Prelude.{Option}
 use Rattle.std.specs.Coded.{coded_option}
 use Rattle.std.specs.Global.{Global}
-use Rattle.psci_ffi.specs.Slots.{owns_kept}
+use Rattle.psci_ffi.specs.Slots.{IsFilled, owns_kept}
 use Rattle.psci_ffi.specs.contracts.watch.Watch.{the_row}
 
 -- what a slot keeps: what one who polls reads the status words by, or nothing
@@ -19,3 +19,7 @@ slot_owns = owns_kept the_row
 -- how the logic codes what is kept
 abbrev pub kept_coded : Coded KeptWatch
 kept_coded = coded_option the_row.coded
+
+-- a slot is full
+abbrev pub IsFull : KeptWatch → Type 0
+IsFull = IsFilled

@@ -5,7 +5,7 @@ use denote.RawPtr.{Ptr}
 use Rattle.std.specs.Prelude.{Option}
 use Rattle.std.specs.Coded.{coded_option}
 use Rattle.std.specs.Global.{Global}
-use Rattle.psci_ffi.specs.Slots.{owns_kept}
+use Rattle.psci_ffi.specs.Slots.{IsFilled, owns_kept}
 use Rattle.psci_ffi.specs.contracts.held.Held.{the_row}
 
 -- what a slot keeps: a firmware, or nothing
@@ -19,3 +19,7 @@ slot_owns = owns_kept the_row
 -- how the logic codes what is kept
 abbrev pub kept_coded : Coded Kept
 kept_coded = coded_option the_row.coded
+
+-- a slot is full
+abbrev pub IsFull : Kept → Type 0
+IsFull = IsFilled

@@ -11,9 +11,6 @@ use psci_link::FrameFault;
 /// The place is empty.
 pub const NO_FIRMWARE: u32 = 16;
 
-/// The board has no such core or power domain.
-pub const NO_CORE: u32 = 17;
-
 /// Memory lacks.
 pub const NO_MEMORY: u32 = 8;
 
@@ -48,7 +45,7 @@ pub fn refusal(fault: FwFault) -> u32
     ensures { result ≡ refusal fault }
 {
     match fault {
-        FwFault::NoCore => NO_CORE,
+        FwFault::NoCore => 17,
         FwFault::NoLife => 18,
         FwFault::NotRunning => 19,
         FwFault::OldStart => 20,

@@ -1,6 +1,6 @@
 //! Making a power controller, and letting it go.
 
-ghost use Rattle.std.specs.Prelude.{◌≡◌, None, Some, IfErr, IfOk, IsSomeAnd, option_map};
+ghost use Rattle.std.specs.Prelude.{◌≡◌, None, IfErr, IfOk, IsSomeAnd, option_map};
 ghost use Rattle.psci_board.specs.Verdict.{board_of};
 ghost use Rattle.psci_ffi.specs.Codes.{opened_said};
 ghost use Rattle.psci_ffi.specs.ControllerCalls.{IsFirst, Opens};
@@ -45,7 +45,7 @@ pub extern "C" fn psci_ctl_open_board(
 pub extern "C" fn psci_ctl_close(alloc: Global, place: &mut ControllerPlace)
     ensures { place.new.slot.kept ≡ None }
 {
-    free(taken(alloc, place));
+    empty(alloc, place);
 }
 
 /// Puts a new power controller into the place, if the text is a board's and there is memory.
@@ -78,7 +78,8 @@ fn renew(alloc: Global, place: &mut ControllerPlace, board: &Board) -> Result<()
     ensures same { IfErr result (λ _. place.new.slot.kept ≡ place.old.slot.kept) }
 {
     let controller = made(alloc, board)?;
-    free(exchanged(place, controller));
+    empty(alloc, place);
+    place.put(controller);
     Ok(())
 }
 
@@ -94,22 +95,14 @@ fn made(alloc: Global, board: &Board) -> Result<Box<Controller>, Memory>
     }
 }
 
-/// Frees a power controller, if there was one. It has a frame of its own.
+/// Frees the power controller in the place. It has a frame of its own.
 #[inline(never)]
-fn free(controller: Option<Box<Controller>>) {
-    if let Some(controller) = controller {
+fn empty(alloc: Global, place: &mut ControllerPlace)
+    ensures { place.new.slot.kept ≡ None }
+{
+    if let Some(controller) = taken(alloc, place) {
         drop(left_board(controller));
     }
-}
-
-/// The power controller that was in the place, which holds this one from now on. It has a frame of
-/// its own.
-#[inline(never)]
-fn exchanged(place: &mut ControllerPlace, controller: Box<Controller>) -> Option<Box<Controller>>
-    ensures was { place.old.slot.kept ≡ option_map (λ b. b.value) result }
-    ensures now { place.new.slot.kept ≡ Some controller.value }
-{
-    place.exchange(controller)
 }
 
 /// The power controller of the place, which is empty then. It has a frame of its own.

@@ -40,17 +40,14 @@ impl ControllerPlace {
         if full { Some(slot.into_box()) } else { None }
     }
 
-    /// Holds this power controller from now on, in place of the one that was there.
-    pub fn exchange(&mut self, controller: Box<Controller>) -> Option<Box<Controller>>
-        ensures was { self.old.slot.kept ≡ option_map (λ b. b.value) result }
-        ensures now { self.new.slot.kept ≡ Some controller.value }
+    /// Holds this power controller from now on.
+    pub fn put(&mut self, controller: Box<Controller>)
+        ensures { self.new.slot.kept ≡ Some controller.value }
     {
-        let new = ControllerPlace {
+        *self = ControllerPlace {
             slot: ControllerSlot::of(controller),
             full: true,
         };
-        let ControllerPlace { slot, full } = mem::replace(self, new);
-        if full { Some(slot.into_box()) } else { None }
     }
 }
 

@@ -2,8 +2,7 @@
 //! parameter.
 
 ghost use Rattle.std.specs.Prelude.{◌≡◌, None, Some};
-ghost use Rattle.psci_ffi.specs.ControllerSlot.{KeptController, kept_coded, slot_owns};
-ghost use Rattle.psci_ffi.specs.Slots.{IsFilled};
+ghost use Rattle.psci_ffi.specs.ControllerSlot.{IsFull, KeptController, kept_coded, slot_owns};
 
 use crate::parts::Parts;
 use psci_ctl::Controller;
@@ -14,7 +13,7 @@ use std::marker::Model;
 #[repr(C)]
 #[derive(Drop)]
 pub struct ControllerSlot {
-    pub(crate) ptr: *mut u8,
+    ptr: *mut u8,
     alloc: Global,
     pub ghost kept: { KeptController } by { kept_coded },
 }
@@ -40,7 +39,7 @@ impl ControllerSlot {
 
     /// What is in it.
     pub fn into_box(self) -> Box<Controller>
-        requires { IsFilled self.kept }
+        requires { IsFull self.kept }
         ensures { self.kept ≡ Some result.value }
     {
         self.into_parts().into_box()
@@ -57,7 +56,7 @@ impl ControllerSlot {
     }
 
     fn into_parts(self) -> Parts<Controller, Global>
-        requires { IsFilled self.kept }
+        requires { IsFull self.kept }
         ensures { self.kept ≡ Some result.value }
     {
         let ControllerSlot { ptr, alloc } = self;

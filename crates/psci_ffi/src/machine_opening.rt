@@ -68,7 +68,8 @@ fn renew(alloc: Global, place: &mut MachinePlace, machine: Platform) -> Result<(
     ensures same { IfErr result (λ _. place.new.slot.kept ≡ place.old.slot.kept) }
 {
     let boxed = Box::new(alloc, machine.in_order(alloc)?)?;
-    drop(place.exchange(boxed));
+    drop(place.take(alloc));
+    place.put(boxed);
     Ok(())
 }
 

@@ -41,17 +41,14 @@ impl MachinePlace {
         if full { Some(slot.into_box()) } else { None }
     }
 
-    /// Holds this machine from now on, in place of the one that was there.
-    pub fn exchange(&mut self, machine: Box<Platform>) -> Option<Box<Platform>>
-        ensures was { self.old.slot.kept ≡ option_map (λ b. b.value) result }
-        ensures now { self.new.slot.kept ≡ Some machine.value }
+    /// Holds this machine from now on.
+    pub fn put(&mut self, machine: Box<Platform>)
+        ensures { self.new.slot.kept ≡ Some machine.value }
     {
-        let new = MachinePlace {
+        *self = MachinePlace {
             slot: MachineSlot::of(machine),
             full: true,
         };
-        let MachinePlace { slot, full } = mem::replace(self, new);
-        if full { Some(slot.into_box()) } else { None }
     }
 }
 

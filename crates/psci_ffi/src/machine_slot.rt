@@ -1,8 +1,7 @@
 //! The same for a machine: C can hold no type with a parameter, so each has a slot of its own.
 
 ghost use Rattle.std.specs.Prelude.{◌≡◌, None, Some};
-ghost use Rattle.psci_ffi.specs.MachineSlot.{KeptMachine, kept_coded, slot_owns};
-ghost use Rattle.psci_ffi.specs.Slots.{IsFilled};
+ghost use Rattle.psci_ffi.specs.MachineSlot.{IsFull, KeptMachine, kept_coded, slot_owns};
 
 use crate::parts::Parts;
 use psci_platform::Platform;
@@ -39,7 +38,7 @@ impl MachineSlot {
 
     /// What is in it.
     pub fn into_box(self) -> Box<Platform>
-        requires { IsFilled self.kept }
+        requires { IsFull self.kept }
         ensures { self.kept ≡ Some result.value }
     {
         self.into_parts().into_box()
@@ -56,7 +55,7 @@ impl MachineSlot {
     }
 
     fn into_parts(self) -> Parts<Platform, Global>
-        requires { IsFilled self.kept }
+        requires { IsFull self.kept }
         ensures { self.kept ≡ Some result.value }
     {
         let MachineSlot { ptr, alloc } = self;

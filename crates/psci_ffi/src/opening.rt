@@ -1,6 +1,6 @@
 //! Making a firmware, and letting it go.
 
-ghost use Rattle.std.specs.Prelude.{◌≡◌, Err, None, Ok, Some, IfErr, IfOk, IsSomeAnd, option_map};
+ghost use Rattle.std.specs.Prelude.{◌≡◌, Err, None, Ok, IfErr, IfOk, IsSomeAnd, option_map};
 ghost use Rattle.psci_board.specs.Verdict.{Answers, board_of};
 ghost use Rattle.psci_ffi.specs.Codes.{opened_said};
 ghost use Rattle.psci_ffi.specs.Given.{board_of_given};
@@ -43,7 +43,7 @@ pub extern "C" fn psci_open_board(alloc: Global, place: &mut Place, board: &Give
 pub extern "C" fn psci_close(alloc: Global, place: &mut Place)
     ensures { place.new.slot.kept ≡ None }
 {
-    free(taken(alloc, place));
+    empty(alloc, place);
 }
 
 /// Puts a new firmware into the place, if the text is a board's and there is memory.
@@ -80,7 +80,8 @@ fn renew(alloc: Global, place: &mut Place, board: Box<Board>) -> Result<(), Memo
 {
     let held = Held::new(alloc, board)?;
     let boxed = boxed(alloc, held)?;
-    free(exchanged(place, boxed));
+    empty(alloc, place);
+    place.put(boxed);
     Ok(())
 }
 
@@ -98,21 +99,14 @@ fn boxed(alloc: Global, held: Held) -> Result<Box<Held>, Memory>
     }
 }
 
-/// Frees a firmware, if there was one. It has a frame of its own.
+/// Frees the firmware in the place. It has a frame of its own.
 #[inline(never)]
-fn free(held: Option<Box<Held>>) {
-    if let Some(held) = held {
+fn empty(alloc: Global, place: &mut Place)
+    ensures { place.new.slot.kept ≡ None }
+{
+    if let Some(held) = taken(alloc, place) {
         drop(Held::unboxed(held));
     }
-}
-
-/// The firmware that was in the place, which holds this one from now on. It has a frame of its own.
-#[inline(never)]
-fn exchanged(place: &mut Place, held: Box<Held>) -> Option<Box<Held>>
-    ensures was { place.old.slot.kept ≡ option_map (λ b. b.value) result }
-    ensures now { place.new.slot.kept ≡ Some held.value }
-{
-    place.exchange(held)
 }
 
 /// The firmware of the place, which is empty then. It has a frame of its own.

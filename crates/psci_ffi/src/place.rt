@@ -40,17 +40,14 @@ impl Place {
         if full { Some(slot.into_box()) } else { None }
     }
 
-    /// Holds this firmware from now on, in place of the one that was there.
-    pub fn exchange(&mut self, held: Box<Held>) -> Option<Box<Held>>
-        ensures was { self.old.slot.kept ≡ option_map (λ b. b.value) result }
-        ensures now { self.new.slot.kept ≡ Some held.value }
+    /// Holds this firmware from now on.
+    pub fn put(&mut self, held: Box<Held>)
+        ensures { self.new.slot.kept ≡ Some held.value }
     {
-        let new = Place {
+        *self = Place {
             slot: Slot::of(held),
             full: true,
         };
-        let Place { slot, full } = mem::replace(self, new);
-        if full { Some(slot.into_box()) } else { None }
     }
 }
 

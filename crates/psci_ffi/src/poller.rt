@@ -40,17 +40,14 @@ impl Poller {
         if full { Some(slot.into_box()) } else { None }
     }
 
-    /// Holds this one from now on, in place of the one that was there.
-    pub fn exchange(&mut self, watch: Box<Watch>) -> Option<Box<Watch>>
-        ensures was { self.old.slot.kept ≡ option_map (λ b. b.value) result }
-        ensures now { self.new.slot.kept ≡ Some watch.value }
+    /// Holds this one from now on.
+    pub fn put(&mut self, watch: Box<Watch>)
+        ensures { self.new.slot.kept ≡ Some watch.value }
     {
-        let new = Poller {
+        *self = Poller {
             slot: PollerSlot::of(watch),
             full: true,
         };
-        let Poller { slot, full } = mem::replace(self, new);
-        if full { Some(slot.into_box()) } else { None }
     }
 }
 

@@ -1,8 +1,7 @@
 //! The same for one who polls: C can hold no type with a parameter, so each has a slot of its own.
 
 ghost use Rattle.std.specs.Prelude.{◌≡◌, None, Some};
-ghost use Rattle.psci_ffi.specs.PollerSlot.{KeptWatch, kept_coded, slot_owns};
-ghost use Rattle.psci_ffi.specs.Slots.{IsFilled};
+ghost use Rattle.psci_ffi.specs.PollerSlot.{IsFull, KeptWatch, kept_coded, slot_owns};
 
 use crate::parts::Parts;
 use crate::watch::Watch;
@@ -13,7 +12,7 @@ use std::marker::Model;
 #[repr(C)]
 #[derive(Drop)]
 pub struct PollerSlot {
-    pub(crate) ptr: *mut u8,
+    ptr: *mut u8,
     alloc: Global,
     pub ghost kept: { KeptWatch } by { kept_coded },
 }
@@ -39,7 +38,7 @@ impl PollerSlot {
 
     /// What is in it.
     pub fn into_box(self) -> Box<Watch>
-        requires { IsFilled self.kept }
+        requires { IsFull self.kept }
         ensures { self.kept ≡ Some result.value }
     {
         self.into_parts().into_box()
@@ -56,7 +55,7 @@ impl PollerSlot {
     }
 
     fn into_parts(self) -> Parts<Watch, Global>
-        requires { IsFilled self.kept }
+        requires { IsFull self.kept }
         ensures { self.kept ≡ Some result.value }
     {
         let PollerSlot { ptr, alloc } = self;

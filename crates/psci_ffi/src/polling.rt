@@ -19,10 +19,12 @@ pub extern "C" fn psci_open_poller(alloc: Global, place: &mut Place, poller: &mu
         poller.new.slot.kept }
     ensures same { place.new.slot.kept ≡ place.old.slot.kept }
 {
-    if !place.full {
+    let Some(mut held) = place.take(alloc) else {
         return NO_FIRMWARE;
-    }
-    match place.slot.held().watch() {
+    };
+    let watch = held.watch();
+    place.put(held);
+    match watch {
         Ok(watch) => fill(alloc, poller, watch),
         Err(Memory) => NO_MEMORY,
     }
@@ -40,13 +42,15 @@ pub extern "C" fn psci_close_poller(alloc: Global, poller: &mut Poller)
 /// word: 0 ON, 1 OFF, 2 ON_PENDING, or -2 exactly where the word names no core; 16 where the poller
 /// is empty. No lock is taken.
 #[unsafe(no_mangle)]
-pub extern "C" fn psci_poll(poller: &mut Poller, affinity: u64) -> i32
+pub extern "C" fn psci_poll(alloc: Global, poller: &mut Poller, affinity: u64) -> i32
     ensures { HasPolledIn poller.old.slot.kept affinity result poller.new.slot.kept }
 {
-    if !poller.full {
+    let Some(mut watch) = poller.take(alloc) else {
         return NO_FIRMWARE as i32;
-    }
-    poller.slot.watch().poll(affinity).0
+    };
+    let code = watch.poll(affinity);
+    poller.put(watch);
+    code.0
 }
 
 /// Puts one who polls into a poller, where there is memory.
@@ -56,6 +60,7 @@ fn fill(alloc: Global, poller: &mut Poller, watch: Watch) -> u32
     let Ok(boxed) = Box::new(alloc, watch) else {
         return NO_MEMORY;
     };
-    drop(poller.exchange(boxed));
+    drop(poller.take(alloc));
+    poller.put(boxed);
     0
 }

@@ -1,8 +1,7 @@
 //! A place for a boxed value, that C can hold.
 
 ghost use Rattle.std.specs.Prelude.{◌≡◌, None, Some};
-ghost use Rattle.psci_ffi.specs.Slot.{Kept, kept_coded, slot_owns};
-ghost use Rattle.psci_ffi.specs.Slots.{IsFilled};
+ghost use Rattle.psci_ffi.specs.Slot.{IsFull, Kept, kept_coded, slot_owns};
 
 use crate::held::Held;
 use crate::parts::Parts;
@@ -39,7 +38,7 @@ impl Slot {
 
     /// What is in it.
     pub fn into_box(self) -> Box<Held>
-        requires { IsFilled self.kept }
+        requires { IsFull self.kept }
         ensures { self.kept ≡ Some result.value }
     {
         self.into_parts().into_box()
@@ -56,7 +55,7 @@ impl Slot {
     }
 
     fn into_parts(self) -> Parts<Held, Global>
-        requires { IsFilled self.kept }
+        requires { IsFull self.kept }
         ensures { self.kept ≡ Some result.value }
     {
         let Slot { ptr, alloc } = self;
