@@ -146,9 +146,10 @@ def changes_code(path):
 def ready(folder, beside):
     """Makes the copy of a crate one that examples are asked of, with the files of lemmas that lie beside
     its cases; why that cannot be, or None."""
-    lemmas = {f"proofs/{os.path.basename(it)}": repo.text_of(it)
-              for it in sorted(glob.glob(f"{beside}/{refusers.JUDGES}*.antt"))}
-    names = [os.path.basename(it).removesuffix(".antt") for it in lemmas]
+    # (they are not called .antt, since the gate takes no such file outside a crate)
+    paths = sorted(glob.glob(f"{beside}/{refusers.JUDGES}*.lemmas"))
+    names = [os.path.basename(it).removesuffix(".lemmas") for it in paths]
+    lemmas = {f"proofs/{name}.antt": repo.text_of(it) for name, it in zip(names, paths)}
     repo.write(folder, {**lemmas, "proofs/Lib.antt": repo.text_of(f"{folder}/proofs/Lib.antt")
                         + "".join(f"pub mod {it}\n" for it in names)})
     root = next(it for it in ("src/lib.rt", "src/main.rt") if os.path.exists(f"{folder}/{it}"))

@@ -10,7 +10,7 @@ statement S counts as false in two ways alone:
     shown      the prover admits `(S) → ⊥`, which `Negations` puts behind the theorem on a copy, by
                one of a few searches or by a term that the case brings; or a search for S itself
                ends with values at which S fails, which the kernel has checked. What a long table
-               comes to is not printed: there the lemmas of tests/apart/CRATE.antt tell its two
+               comes to is not printed: there the lemmas of tests/apart/CRATE.lemmas tell its two
                sides apart, where the crate has them
 
 Nothing is said where neither is so: the statement may hold.
@@ -191,7 +191,7 @@ class Negations:
         self.unfolds = " ".join(edit.words.get("unfolding", []))
         self.bare, self.texts, self.files = {}, {}, {}
         self.crate = os.path.basename(folder)
-        path = f"{APART_LEMMAS}/{self.crate}.antt"
+        path = f"{APART_LEMMAS}/{self.crate}.lemmas"
         # (copies of a file have no place for further lemmas)
         self.lemmas = repo.text_of(path) if texts is None and os.path.exists(path) else ""
         # of each theorem or clause the names of its negations, with their proofs
