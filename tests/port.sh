@@ -41,7 +41,7 @@ port_heaps() {
 # $work/out. `threads` are watched by ThreadSanitizer, in two lives and one more after a press of the reset button; a
 # `record` is held to the program; in one that is `lossy` each second frame is lost. Some 5 seconds each
 as_threads() {
-    local status=0 flags=(-DRECORD) calls=(400 2 0)
+    local status=0 compared=0 flags=(-DRECORD) calls=(400 2 0)
     [ "$1" != threads ] || flags=("${race[@]}") calls=(500 2 1)
     [ "$1" != lossy ] || { flags+=(-DLOSE=2) calls=(400 3 0); }
     TABLE=hosts/el3/machines/$2.h port_built "$work/port" threads "${flags[@]}" || return
@@ -49,7 +49,10 @@ as_threads() {
         > "$work/out" 2>&1 || status=$?
     [ "$1" != threads ] || return $status
     grep -v '^#' "$work/port.told" > "$work/port.record"
-    ./psci compare --machine "hosts/el3/machines/$2.machine" "$work/port.record" >> "$work/out" 2>&1 || status=$?
+    ./psci compare --machine "hosts/el3/machines/$2.machine" "$work/port.record" >> "$work/out" 2>&1 || compared=$?
+    # core 0 ends a life once it has made its calls, whichever core is on the way to its entry then
+    [ $compared != 7 ] || ! tail -n 1 "$work/out" | grep "^started and never entered: " > /dev/null || compared=0
+    [ $status != 0 ] || status=$compared
     return $status
 }
 
