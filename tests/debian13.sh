@@ -25,7 +25,7 @@ in_13() {
 # each step of tests/on-debian-13 comes to its end there; the bound is for a busy machine
 debian_13() {
     local step folder=$tfa_cache/trixie/machine
-    [ -e "$folder/made" ] || { skip "Debian 13" "$folder/made"; return; }
+    [ -e "$folder/made" ] || { skip "Debian 13" "root of it, made by debootstrap,"; return; }
     [ "$(id -u)" = 0 ] || { skip "Debian 13" "right to change the root folder"; return; }
     command -v rt > /dev/null || { skip "Debian 13" rt; return; }
     for step in "${debian_13_archives[@]}"; do

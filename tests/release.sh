@@ -66,7 +66,7 @@ own_words() {
 # in_debian SUITE: the archive in a Debian of this suite that has a compiler and nothing else
 in_debian() {
     local folder root=$work/$1 kept=${GUMDARTS_CACHE:-$HOME/.cache/gumdarts}/debian/$1.tar
-    [ -e "$kept" ] || { skip "the archive in Debian $1" "$kept"; return; }
+    [ -e "$kept" ] || { skip "the archive in Debian $1" "root of it, made by debootstrap,"; return; }
     [ "$(id -u)" = 0 ] || { skip "the archive in Debian $1" "right to be root"; return; }
     mkdir -p "$root"
     tar -C "$root" -xf "$kept"
