@@ -1,6 +1,6 @@
 -- A power controller and a firmware of a board of two cores, each of them new. What an example says of
 -- each one that a book is tied to is false where it is false of these.
-use Rattle.std.proofs.Common.{◌≡◌, ℕ, zero, suc, false, List, [], ◌∷◌, None, Some, refl, arith}
+use Rattle.std.proofs.Common.{◌≡◌, ℕ, zero, suc, pos, false, List, [], ◌∷◌, None, Some, refl, arith}
 use Rattle.std.proofs.lemmas.Bool.Decides.{nat_tests}
 use Rattle.psci_board.specs.Board.{up}
 use Rattle.psci_board.specs.declared.node.Core.{Core}
@@ -23,7 +23,7 @@ use Rattle.psci_fw.specs.psci_fw_spec.Legal.{IsLegal}
 use Rattle.psci_fw.specs.psci_fw_spec.Lives.{first_confirmed, first_granted, first_opening}
 use Rattle.psci_fw.specs.psci_fw_spec.Lives.{first_phase, first_status}
 use Rattle.psci_fw.specs.psci_fw_spec.Values.{Values}
-use Rattle.psci_fw.specs.psci_fw_spec.declared.call.FwCall.TheVariants.{Enter}
+use Rattle.psci_fw.specs.psci_fw_spec.declared.call.FwCall.TheVariants.{Enter, Smc}
 use Rattle.psci_fw.specs.psci_fw_spec.declared.mode.SuspendMode.TheVariants.{Platform}
 use Rattle.psci_fw.specs.psci_fw_spec.declared.outcome.Act.TheVariants as acts
 use Rattle.psci_fw.specs.psci_fw_spec.declared.reply.FwReply.TheVariants.{Out}
@@ -193,6 +193,51 @@ elsewhere = record firmware { board = record board { starts = 8 } }
 pub new_elsewhere : seen elsewhere ≡ values_of board (history_of [])
 unfolding values_in
 new_elsewhere = new_firmware
+
+-- An answer while a core is off ------------------------------------------------------------------
+
+-- core 1 was told the version before it was on; the firmware of which that would be so
+abbrev pub told_early : List FwEntry
+told_early = firmware_entry 0 (record { number = 1 })
+    (Smc (record { x0 = 0x84000000; x1 = 0; x2 = 0; x3 = 0 }))
+    (Out (record { act = acts.Return (record { 0 = pos 0x10001 }); message = None })) ∷ []
+
+abbrev pub goes_on : FirmwareValue
+goes_on = record firmware {
+  tree = record firmware.tree {
+    cores = record { activity = Active; known = 0 } ∷ record { activity = Active; known = 0 } ∷ [];
+  };
+}
+
+abbrev after_early : Values
+after_early = values_of board (history_of told_early)
+
+known_early : (c : ℕ) → (seen goes_on).known c ≡ after_early.known c
+unfolding values_in values_of history_of after
+known_early zero = refl
+known_early (suc zero) = refl
+known_early (suc (suc c)) = refl
+
+phases_early : (c : ℕ) → (seen goes_on).phase c ≡ after_early.phase c
+unfolding values_in values_of history_of after
+phases_early zero = refl
+phases_early (suc zero) = refl
+phases_early (suc (suc c)) = grind (arith, nat_tests)
+
+pub tied_early : seen goes_on ≡ after_early
+unfolding values_in values_of history_of after
+tied_early = λ i. record {
+  life = 0;
+  halting = false;
+  mode = Platform;
+  known = λ c. known_early c i;
+  status = λ c. statuses_are c i;
+  phase = λ c. phases_early c i;
+  opening = λ c. openings_are c i;
+  granted = λ level place. granted_are level place i;
+  confirmed = λ level place. confirmed_are level place i;
+  outstanding = λ slot. none_waits slot i;
+}
 
 -- Two lives -------------------------------------------------------------------------------------
 
