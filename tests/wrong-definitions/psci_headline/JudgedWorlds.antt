@@ -1,5 +1,5 @@
--- Worlds of which just one thing is not so that is said of a world that has settled. `not_settled` is
--- false of them, where a wrong definition does not say it.
+-- Worlds of which just one thing is not so that is said of a world that has settled. `not_settled`
+-- is false of them, where a wrong definition does not say it.
 use Rattle.std.proofs.Common.{◌++◌, ◌+◌, ◌<◌, ◌≤◌, ℕ, zero, suc, List, [], ◌∷◌, refl, arith}
 use Rattle.std.proofs.lemmas.List.Sums.{AllPass-from_list_all}
 use Rattle.psci_headline.specs.psci_board.Board.{IsBoard}
@@ -68,7 +68,8 @@ pub by_taken : (k : ℕ) → deliveries k taken ≤ 1
 unfolding scripts.computing
 by_taken k = omega arith
 
--- core 3, and then core 0, are suspended with all their domains, and the last Down is delivered twice
+-- core 3, and then core 0, are suspended with all their domains, and the last Down is delivered
+-- twice
 abbrev pub both : List Record
 both = run_from board [] (third_on ++ call 3 0xc4000001 0x02010333 0x40004000 2
     ∷ call 0 0xc4000001 0x02010333 0x40000100 0 ∷ [])

@@ -1,5 +1,5 @@
--- A power controller and a firmware of a board of two cores, each of them new. What an example says of
--- each one that a book is tied to is false where it is false of these.
+-- A power controller and a firmware of a board of two cores, each of them new. What an example says
+-- of each one that a book is tied to is false where it is false of these.
 use Rattle.std.proofs.Common.{◌≡◌, ℕ, zero, suc, pos, false, List, [], ◌∷◌, None, Some, refl, arith}
 use Rattle.std.proofs.lemmas.Bool.Decides.{nat_tests}
 use Rattle.psci_board.specs.Board.{up}
