@@ -24,6 +24,7 @@ mod AskedRows
 mod AskedForRows
 mod StartRows
 mod OffRows
+mod GoneRows
 mod BrokenRows
 mod DeeperRows
 pub mod Words
