@@ -51,6 +51,11 @@ void begin(void) {
         both(14, entries[e], 0, 0);
     both(15, 2, 0, 0);
     say("guest: probe: calls ", many);
+    /* the cores that were asked on come to their entry, which on a busy machine takes some time */
+    for (unsigned t = 0; t < COUNT_OF(targets); t++)
+        while (smc(0xc4000004, targets[t], 0, 0) == 2)
+            for (volatile unsigned turns = 0; turns < 1000000; turns++) {
+            }
     smc(0x84000008, 0, 0, 0);
     for (;;) {
     }
