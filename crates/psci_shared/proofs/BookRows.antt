@@ -28,6 +28,7 @@ use Rattle.psci_shared.specs.Gathers.{AllSeen, AllStand}
 use Rattle.psci_shared.specs.Inside.{IsTied}
 use Rattle.psci_shared.specs.Passes.{PassView}
 use Rattle.psci_shared.specs.Writing.{Stand}
+use Rattle.psci_shared.proofs.AnsweredRows.{kind}
 use Rattle.psci_shared.proofs.TwoCores.{board, of_two}
 use Rattle.std.proofs.lemmas.Bool.{eqb-false}
 use Rattle.psci_board.proofs.Tables.{◌⇒◌, Gives}
@@ -167,6 +168,12 @@ illegal : (f : FirmwareValue)
     → IsTied board f (entry 0 (record { number = 1 }) version told ∷ []) 4 3 → ⊥
 unfolding computing history_of
 illegal f h = eqb-false 1 3 refl (ap is_out h.legal.0)
+
+-- core 1 was refused since it does not run, before there was a life
+refused_early : (f : FirmwareValue)
+    → IsTied board f (entry 0 (record { number = 1 }) version (Fault NotRunning) ∷ []) 4 3 → ⊥
+unfolding computing history_of
+refused_early f h = eqb-false 5 4 refl (ap kind h.legal.0)
 
 -- the firmware is of another board; it has another life than the entries say
 other_board : (f : FirmwareValue) → f.board.starts ≡ 8 → IsTied board f [] 4 3 → ⊥

@@ -1,10 +1,8 @@
 -- Worked examples of how a call through a pass was answered, of a book that is full, of a new pass
 -- and of why none is made.
 use Rattle.std.proofs.Common.{◌≡◌, ℕ, ◌<◌, List, [], ◌∷◌, length, false, true, refl, ap, arith}
-use Rattle.std.proofs.Common.{subst, ◌∙◌, sym}
 use Rattle.psci_ctl.specs.psci_ctl_spec.Effects.{effect_of}
 use Rattle.psci_ctl.specs.psci_ctl_spec.History.{values_of}
-use Rattle.psci_ctl.specs.psci_ctl_spec.Legal.{IsLegal}
 use Rattle.psci_ctl.specs.psci_ctl_spec.Replies.{delivery_of, reply, reset_of, wake_of}
 use Rattle.psci_ctl.specs.psci_ctl_spec.declared.call.CtlCall.{CtlCall}
 use Rattle.psci_ctl.specs.psci_ctl_spec.declared.call.CtlCall.TheVariants.{Deliver, Reset, Wake}
@@ -16,13 +14,13 @@ use Rattle.psci_ctl.specs.psci_ctl_spec.psci_messages.declared.kind.Kind.TheVari
 use Rattle.psci_ctl.specs.psci_ctl_spec.psci_messages.declared.start.Cause.TheVariants as causes
 use Rattle.psci_shared.specs.declared.fault.PassFault.TheVariants.{NoCore, TooMany, Memory}
 use Rattle.psci_shared.specs.CtlEntries.{CtlEntry, CtlItem}
-use Rattle.psci_shared.specs.CtlAnswered.{IsAnswered, IsAnsweredAfter, IsFull}
+use Rattle.psci_shared.specs.CtlAnswered.{Fill, IsAnswered, IsAnsweredAfter, IsFull}
 use Rattle.psci_shared.specs.CtlBooks.{BookView, entry, history_of}
 use Rattle.psci_shared.specs.CtlLocked.{IsTurnedAway}
-use Rattle.psci_shared.specs.Views.{first, item}
+use Rattle.psci_shared.specs.Views.{first, item, told}
 use Rattle.psci_shared.specs.CtlPasses.{IsNoPass, PassView}
 use Rattle.psci_shared.proofs.TwoCores.{board}
-use Rattle.std.proofs.lemmas.Bool.{eqb-false}
+use Rattle.std.proofs.lemmas.Bool.{eqb-false, false≢true}
 
 -- what an example unfolds to compute a reply
 unfoldable computing : Unit {0}
@@ -161,13 +159,25 @@ first_is_illegal h = eqb-false 2 1 refl (ap number_in h.0.2.0)
 
 -- A book that is full ----------------------------------------------------------------------------
 
-full_with_two : IsFull board 2
+full_with_two : IsFull board 2 (told (pass []))
 unfolding computing
-full_with_two = (entries, (refl, omega arith, (refl, omega arith, tt)), refl)
+full_with_two = (refl, (entries, ((refl, omega arith, (refl, omega arith, tt)), refl)))
 
-full_without_room : IsFull board 0
+full_without_room : IsFull board 0 (told (pass []))
 unfolding computing
-full_without_room = ([], tt, refl)
+full_without_room = (refl, ([], (tt, refl)))
+
+-- there is room for one more, or there was for one less; the entries are not legal
+do_not_fill : ¬ (Fill board 3 entries) × ¬ (Fill board 1 entries) × ¬ (Fill board 1 (resets 2 ∷ []))
+unfolding computing
+do_not_fill = (
+  λ h. eqb-false 2 3 refl h.1,
+  λ h. eqb-false 2 1 refl h.1,
+  λ h. eqb-false 2 1 refl (ap number_in h.0.0),
+)
+
+not_told : IsFull board 2 (pass []) → ⊥
+not_told h = false≢true h.0
 
 -- what a call leaves then
 abbrev full_book : BookView
@@ -184,18 +194,6 @@ turned_away = (refl, refl, refl, (refl, omega arith, (refl, omega arith, tt)))
 turned_away_early : IsTurnedAway board 3 full_book full_book (new_pass 2)
     (record (new_pass 2) { told_full = true }) → ⊥
 turned_away_early h = eqb-false 2 3 refl h.2
-
-room_for_one_more : (h : IsFull board 3) → h.0 ≡ entries → ⊥
-room_for_one_more h is = eqb-false 3 2 refl (sym h.2 ∙ ap length is)
-
-one_too_many : (h : IsFull board 1) → h.0 ≡ entries → ⊥
-one_too_many h is = eqb-false 1 2 refl (sym h.2 ∙ ap length is)
-
-full_of_illegal_entries : (h : IsFull board 1) → h.0 ≡ resets 2 ∷ [] → ⊥
-unfolding computing
-full_of_illegal_entries h is =
-    eqb-false 2 1 refl (ap number_in
-    (subst (λ (es : List CtlEntry). IsLegal board (history_of es)) is h.1).0)
 
 -- Passes -----------------------------------------------------------------------------------------
 

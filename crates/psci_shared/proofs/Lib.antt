@@ -16,6 +16,8 @@ pub mod PollRows
 mod PolledRows
 pub mod Polling
 mod RefusedRows
+pub mod Telling
+mod ToldRows
 pub mod TwoCores
 pub mod Unnamed
 mod ViewRows

@@ -1,8 +1,7 @@
 -- Worked examples of calls through a pass that were refused or came first, and of a book that is
 -- full.
 use Rattle.std.proofs.Common.{◌≡◌, inl, inr, ℕ, List, [], ◌∷◌, length, refl, ap}
-use Rattle.std.proofs.Common.{arith, subst, true, ◌∙◌, sym}
-use Rattle.psci_fw.specs.psci_fw_spec.Legal.{IsLegal}
+use Rattle.std.proofs.Common.{arith, true}
 use Rattle.psci_fw.specs.psci_fw_spec.declared.fault.FwFault.TheVariants.{NoLife, NotRunning}
 use Rattle.psci_fw.specs.psci_fw_spec.declared.reply.FwReply.{FwReply}
 use Rattle.psci_fw.specs.psci_fw_spec.declared.reply.FwReply.TheVariants.{Out, Taken, Fault}
@@ -11,16 +10,17 @@ use Rattle.psci_messages.specs.declared.taken.Taken.TheVariants as takens
 use Rattle.psci_status.specs.Lists.{Item}
 use Rattle.psci_shared.specs.Entries.{FwEntry, FwItem}
 use Rattle.psci_shared.specs.declared.fault.CallFault.TheVariants.{BookFull, Fw}
-use Rattle.psci_shared.specs.Answered.{IsAnswered, IsAnsweredAfter, IsAnsweredFault, IsFull}
+use Rattle.psci_shared.specs.Answered.{Fill, IsAnswered, IsAnsweredAfter, IsAnsweredFault, IsFull}
 use Rattle.psci_shared.specs.Books.{BookView, entry, history_of}
 use Rattle.psci_shared.specs.Locked.{IsTurnedAway}
-use Rattle.psci_shared.specs.Views.{item}
+use Rattle.psci_shared.specs.Passes.{PassView}
+use Rattle.psci_shared.specs.Views.{item, told}
 use Rattle.psci_shared.specs.Writing.{AllLast, Stand}
 use Rattle.psci_shared.proofs.AnsweredRows.{accepted, booted, boots, computing, enters}
 use Rattle.psci_shared.proofs.AnsweredRows.{fresh, kind, on, pass, seen_on, starts, take, version}
 use Rattle.psci_shared.proofs.AnsweredRows.{version_told, was_old}
 use Rattle.psci_shared.proofs.TwoCores.{board, of_two}
-use Rattle.std.proofs.lemmas.Bool.{eqb-false}
+use Rattle.std.proofs.lemmas.Bool.{eqb-false, false≢true}
 
 -- Core 1 is refused, in life 2 -------------------------------------------------------------------
 
@@ -145,33 +145,34 @@ first_is_illegal h = eqb-false 1 4 refl (ap kind h.0.1.0)
 
 -- A book that is full ----------------------------------------------------------------------------
 
-full_with_two : IsFull board 2
-unfolding computing
-full_with_two = (twice, (refl, (refl, tt)), refl)
+abbrev told_pass : PassView
+told_pass = told (fresh 1)
 
-full_without_room : IsFull board 0
+full_with_two : IsFull board 2 told_pass
 unfolding computing
-full_without_room = ([], tt, refl)
+full_with_two = (refl, (twice, ((refl, (refl, tt)), refl)))
 
-so_the_book_was_full : IsAnsweredFault board 2 (fresh 1) (fresh 1) version BookFull
+full_without_room : IsFull board 0 told_pass
 unfolding computing
-so_the_book_was_full = (twice, (refl, (refl, tt)), refl)
+full_without_room = (refl, ([], (tt, refl)))
+
+so_the_book_was_full : IsAnsweredFault board 2 (fresh 1) told_pass version BookFull
+unfolding computing
+so_the_book_was_full = (refl, (twice, ((refl, (refl, tt)), refl)))
 
 -- there is room for one more, or there was for one less; the entries are not legal
-room_for_one_more : (h : IsFull board 3) → h.0 ≡ twice → ⊥
-room_for_one_more h is = eqb-false 3 2 refl (sym h.2 ∙ ap length is)
-
-one_too_many : (h : IsFull board 1) → h.0 ≡ twice → ⊥
-one_too_many h is = eqb-false 1 2 refl (sym h.2 ∙ ap length is)
-
-full_of_illegal_entries : (h : IsFull board 1) → h.0 ≡ early ∷ [] → ⊥
+do_not_fill : ¬ (Fill board 3 twice) × ¬ (Fill board 1 twice) × ¬ (Fill board 1 (early ∷ []))
 unfolding computing
-full_of_illegal_entries h is =
-    eqb-false 1 4 refl (ap kind
-    (subst (λ (entries : List FwEntry). IsLegal board (history_of entries)) is h.1).0)
+do_not_fill = (
+  λ h. eqb-false 2 3 refl h.1,
+  λ h. eqb-false 2 1 refl h.1,
+  λ h. eqb-false 1 4 refl (ap kind h.0.0),
+)
 
-not_full_yet : (h : IsAnsweredFault board 3 (fresh 1) (fresh 1) version BookFull) → h.0 ≡ twice → ⊥
-not_full_yet h is = eqb-false 3 2 refl (sym h.2 ∙ ap length is)
+-- nobody told the pass; it was told before, and not by this call
+not_told : ¬ (IsFull board 2 (fresh 1))
+    × ¬ (IsAnsweredFault board 2 told_pass (fresh 1) version BookFull)
+not_told = (λ h. false≢true h.0, λ h. false≢true h.0)
 
 abbrev book_of : ℕ → BookView
 book_of room = record { entries = twice; room = room }

@@ -1,5 +1,5 @@
 -- How a call through a pass was answered.
-use Rattle.std.specs.Prelude.{◌≡◌, ℕ, List, [], ◌∷◌, ◌++◌, length}
+use Rattle.std.specs.Prelude.{◌≡◌, ℕ, List, [], ◌∷◌, ◌++◌, length, true}
 use Rattle.psci_fw.specs.psci_board.Board.{BoardValue}
 use Rattle.psci_fw.specs.psci_fw_spec.declared.call.FwCall.{FwCall}
 use Rattle.psci_fw.specs.psci_fw_spec.declared.reply.FwReply.{FwReply}
@@ -30,12 +30,16 @@ abbrev pub IsAnswered : BoardValue → PassView → PassView → FwCall → FwRe
 IsAnswered b p p' call reply =
     (entries : List FwEntry) × (ticket : ℕ) × IsAnsweredAfter b entries ticket p p' call reply
 
--- a book had no room for one call more: there are as many entries, and their history is legal
-abbrev pub IsFull : BoardValue → ℕ → Type 0
-IsFull b room =
-    (entries : List FwEntry) × IsLegal b (history_of entries) × (length entries ≡ room)
+-- these entries fill a book of that room: they are as many, and their history is legal
+abbrev pub Fill : BoardValue → ℕ → List FwEntry → Type 0
+Fill b room entries = IsLegal b (history_of entries) × (length entries ≡ room)
 
--- so was what the firmware refuses; or the book is full
+-- the book was full: the pass has it from the lock, and there are entries that fill one. As long as
+-- a pass was told so, the book is full that it is gathered with, or fails to be
+abbrev pub IsFull : BoardValue → ℕ → PassView → Type 0
+IsFull b room p = (p.told_full ≡ true) × ((entries : List FwEntry) × Fill b room entries)
+
+-- so was what the firmware refuses; or the book was full
 abbrev pub IsAnsweredFault : BoardValue → ℕ → PassView → PassView → FwCall → CallFault → Type 0
-IsAnsweredFault b room p p' call BookFull = IsFull b room
+IsAnsweredFault b room p p' call BookFull = IsFull b room p'
 IsAnsweredFault b room p p' call (Fw fault) = IsAnswered b p p' call (Fault fault)

@@ -15,5 +15,6 @@ pub mod Names
 pub mod Passes
 pub mod Places
 pub mod Polls
+pub mod Told
 pub mod Views
 pub mod Writing

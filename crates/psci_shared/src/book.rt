@@ -177,6 +177,7 @@ impl<N: Named> FwBook<N> {
     /// The entries. Each reply is the answer after the entries before it.
     pub fn entries(&self) -> &[FwEntry]
         ensures entries { result.now ≡ self.now.entries }
+        ensures within { length self.now.entries ≤ self.now.room }
         ensures legal { IsLegal N.board (history_of self.now.entries) }
     {
         self.entries.as_slice()

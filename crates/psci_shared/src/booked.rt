@@ -5,7 +5,7 @@ use crate::pass::PassOf;
 
 /// A book, with which passes are compared: of what its machine was asked by whom, and replied.
 pub trait Booked {
-    ghost use Rattle.std.specs.Prelude.{◌≡◌, ◌↔◌, IsTrue};
+    ghost use Rattle.std.specs.Prelude.{◌≡◌, ◌≤◌, ◌↔◌, IsTrue, length};
     ghost use Rattle.psci_shared.specs.Agree.{IsOf};
     ghost use Rattle.psci_shared.specs.Views.{AnyBook};
 
@@ -22,7 +22,8 @@ pub trait Booked {
 
     /// The entries.
     fn listed(&self) -> &[Entry<Self::Core, Self::Call, Self::Reply>]
-        ensures { result.now ≡ (book self.now).entries };
+        ensures entries { result.now ≡ (book self.now).entries }
+        ensures within { length (book self.now).entries ≤ (book self.now).room };
 
     /// How many entries there is room for.
     fn most(&self) -> u32

@@ -7,6 +7,7 @@ ghost use Rattle.psci_status.specs.Lists.{newest};
 ghost use Rattle.psci_shared.specs.Agree.{Agree};
 ghost use Rattle.psci_shared.specs.Gathers.{AllSeen, AllStand, AreMet, IsCause, items_of, met};
 ghost use Rattle.psci_shared.specs.Places.{AllPlaced};
+ghost use Rattle.psci_shared.specs.Told.{FullIfTold};
 
 use crate::book::FwBook;
 use crate::fault::GatherCause;
@@ -25,7 +26,9 @@ pub type Books<N> = BooksOf<FwBook<N>, Pass<N>>;
 pub type GatherFault<N> = GatherFaultOf<FwLocked<N>, StatusWords, Pass<N>>;
 
 impl<'t, N: Named> SharedFirmware<'t, N> {
-    /// Gathers the passes with the book, in which each place then stands in one of them.
+    /// Gathers the passes with the book, in which each place then stands in one of them. Gathered
+    /// or not, the book is full if one of them was told so.
+    #[tactic(auto, using(crate::proofs::Telling::told_before))]
     pub fn gather(self, passes: Vec<Pass<N>>) -> Result<Books<N>, GatherFault<N>>
         ensures fault { IfErr result (λ f. IsCause f.cause (Agree f.locked.book f.passes.items)
             (length f.passes.items) self.entry.made) }
@@ -38,6 +41,9 @@ impl<'t, N: Named> SharedFirmware<'t, N> {
         ensures placed { IfOk result (λ b. AllPlaced b.book b.passes.items) }
         ensures room { MatchResult result
             (λ b. b.book.room ≡ N.room) (λ f. f.locked.book.room ≡ N.room) }
+        ensures full { MatchResult result
+            (λ b. FullIfTold (length b.book.entries) N.room passes.items)
+            (λ f. FullIfTold (length f.locked.book.entries) N.room passes.items) }
         ensures stand { IfOk result (λ b. AllStand N.board b.book.entries b.passes.items) }
         ensures stood { MatchResult result
             (λ b. AllStand N.board b.book.entries passes.items)
@@ -68,6 +74,7 @@ impl<N: Named> FwLocked<N> {
         ensures agree { IfNone result (Agree self.old.book passes.old.items
             × (length self.old.book.entries ≡ items_of passes.old.items)) }
         ensures placed { IfNone result (AllPlaced self.old.book passes.old.items) }
+        ensures full { FullIfTold (length self.old.book.entries) N.room passes.old.items }
     {
         let FwLocked {
             book,

@@ -5,6 +5,7 @@ ghost use Rattle.psci_fw.specs.psci_board.Board.{cores};
 ghost use Rattle.psci_fw.specs.psci_fw_spec.declared.status.Status.TheVariants.{Off};
 ghost use Rattle.psci_status.specs.Seats.{table, table_of_writer, written};
 ghost use Rattle.psci_shared.specs.Locked.{IsEntered, IsReply, IsTurnedAway};
+ghost use Rattle.psci_shared.specs.Told.{IsTotal};
 ghost use Rattle.psci_shared.specs.Writing.{IsWritten};
 
 use crate::book::FwBook;
@@ -16,8 +17,8 @@ use crate::writing::write_all;
 use psci_fw::{FwCall, FwReply};
 use psci_status::{StatusWords, Writer};
 
-/// The firmware with its book, the writer of its status words, and the ledger, whose total is the
-/// number of its entries.
+/// The firmware with its book, the writer of its status words, and the ledger, which counts the
+/// entries, and each pass that was told that the book is full.
 #[derive(Drop)]
 pub struct FwLocked<N: Named> {
     /// The firmware with its book.
@@ -25,7 +26,7 @@ pub struct FwLocked<N: Named> {
     pub(crate) writer: Writer,
     pub(crate) count: u16,
     pub(crate) tally: Tally<N>,
-    ghost counted: { length book.entries ≡ tally },
+    ghost counted: { IsTotal (length book.entries) book.room tally },
     ghost table: { table_of_writer writer ≡ N.table },
     ghost words: { N.table.words ≡ cores N.board },
     ghost room: { book.room ≡ N.room },

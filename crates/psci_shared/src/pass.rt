@@ -5,6 +5,9 @@ use crate::named::Named;
 use std::marker::Model;
 use std::sync::ledger::Share;
 
+/// What a pass counts in the ledger that was told that the book is full, beside its items.
+pub(crate) const TOLD: u64 = 1 << 48;
+
 /// A pass for one core, or for none. It keeps what the thread asked and was answered, and what it
 /// has seen.
 #[derive(Drop)]
@@ -19,6 +22,7 @@ pub struct PassOf<N: Named, W, S, C, R> {
 
 impl<N: Named, W, S, C, R> Model for PassOf<N, W, S, C, R> {
     ghost use Rattle.std.specs.Prelude.{◌≡◌, ◌≤◌, vec_len, vec_capacity};
+    ghost use Rattle.psci_shared.specs.Told.{counted};
     ghost use Rattle.psci_shared.specs.Views.{AnyPass};
 
     ghost Value = { AnyPass W S C R };
@@ -32,11 +36,12 @@ impl<N: Named, W, S, C, R> Model for PassOf<N, W, S, C, R> {
     } };
 
     ghost invariant = { λ p.
-        (p.share.parts ≡ 1) × (p.share.amount ≡ vec_len p.items) × (vec_len p.items ≤ p.room)
-        × (p.room ≤ vec_capacity p.items) × (p.room ≡ N.room) };
+        (p.share.parts ≡ 1) × (p.share.amount ≡ counted (vec_len p.items) p.told_full)
+        × (vec_len p.items ≤ p.room) × (p.room ≤ vec_capacity p.items) × (p.room ≡ N.room) };
 }
 
-ghost use Rattle.std.specs.Prelude.{◌≡◌, ◌≤◌, [], vec_capacity};
+ghost use Rattle.std.specs.Prelude.{◌≡◌, ◌≤◌, [], length, vec_capacity};
+ghost use Rattle.psci_shared.specs.Told.{counted};
 ghost use Rattle.psci_shared.specs.Views.{first};
 
 impl<N: Named, W: Drop, S: Drop, C: Drop, R: Drop> PassOf<N, W, S, C, R> {
@@ -68,6 +73,14 @@ impl<N: Named, W: Drop, S: Drop, C: Drop, R: Drop> PassOf<N, W, S, C, R> {
         ensures { result ≡ self.now.told_full }
     {
         self.told_full
+    }
+
+    /// What it counts in the ledger.
+    pub(crate) fn counted(&self) -> u64
+        ensures { result ≡ counted (length self.now.items) self.now.told_full }
+    {
+        let told = if self.told_full { TOLD } else { 0 };
+        self.items.len() as u64 + told
     }
 
     /// Its calls, the first first.

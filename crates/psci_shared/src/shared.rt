@@ -180,7 +180,7 @@ impl<'t, N: Named> SharedFirmware<'t, N> {
             IsCalled pass.old pass.new (calls.Take ack) (replies.Taken taken)) }
         ensures answered { IfOk result (λ taken.
             IsAnswered N.board pass.old pass.new (calls.Take ack) (replies.Taken taken)) }
-        ensures full { OnErr result (IsFull N.board N.room) }
+        ensures full { OnErr result (IsFull N.board N.room pass.new) }
         ensures err { OnErr result (pass.new ≡ told pass.old) }
     {
         match self.call::<R, Ack>(rt, pass, FwCall::Take(ack)) {
@@ -256,7 +256,7 @@ impl<'t, N: Named> SharedFirmware<'t, N> {
         ensures ok { IfOk result (λ reply. IsCalled pass.old pass.new call reply) }
         ensures answered { IfOk result (λ reply.
             IsAnswered N.board pass.old pass.new call reply) }
-        ensures full { OnErr result (IsFull N.board N.room) }
+        ensures full { OnErr result (IsFull N.board N.room pass.new) }
         ensures fits { IfOk result (λ reply. Fits call reply) }
         ensures err { OnErr result (pass.new ≡ told pass.old) }
     {

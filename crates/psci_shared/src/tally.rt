@@ -1,4 +1,4 @@
-//! How many items passes have in all, by a ledger.
+//! How many items passes have in all, and which of them were told that the book is full.
 
 use crate::agreement::agree;
 use crate::booked::{Booked, PassBy};
@@ -6,11 +6,12 @@ use crate::entry::{BookFull, Item};
 use crate::fault::GatherCause;
 use crate::made::Made;
 use crate::named::Named;
-use crate::pass::PassOf;
+use crate::pass::{PassOf, TOLD};
 use std::marker::Model;
 use std::sync::ledger::{Blank, Book, Share};
 
-/// The ledger of a lock, whose total is how many items its passes have in all.
+/// The ledger of a lock, whose total is how many items its passes have in all, and 2^48 for each
+/// pass that was told that the book is full.
 #[derive(Drop)]
 pub struct Tally<N: Named> {
     total: Book<N>,
@@ -24,11 +25,12 @@ impl<N: Named> Model for Tally<N> {
     ghost view = { λ t. t.total.total };
 }
 
-ghost use Rattle.std.specs.Prelude.{◌≡◌, ◌≢◌, ◌≤◌, ◌<◌, ◌+◌, ◌^◌, length};
-ghost use Rattle.std.specs.Prelude.{IfOk, OnErr, IfSome, IfNone};
+ghost use Rattle.std.specs.Prelude.{◌≡◌, ◌≢◌, ◌⊎◌, ◌≤◌, ◌<◌, ◌+◌, ◌*◌, ◌^◌, length};
+ghost use Rattle.std.specs.Prelude.{IfOk, OnOk, OnErr, IfSome, IfNone};
 ghost use Rattle.psci_shared.specs.Agree.{Agree};
 ghost use Rattle.psci_shared.specs.Gathers.{IsCause, items_of};
 ghost use Rattle.psci_shared.specs.Places.{AllPlaced};
+ghost use Rattle.psci_shared.specs.Told.{FullIfTold, IsTotal, told_of};
 ghost use Rattle.psci_shared.specs.Views.{called, told};
 
 impl<N: Named> Tally<N> {
@@ -52,18 +54,30 @@ impl<N: Named> Tally<N> {
         room: u32,
         pass: &mut PassOf<N, W, S, C, R>,
     ) -> Result<u32, BookFull>
-        requires { len ≡ self.old }
-        ensures tally { self.new ≡ self.old }
+        requires { IsTotal len room self.old }
+        ensures tally { OnOk result (self.new ≡ self.old) }
+        ensures total { IsTotal len room self.new }
         ensures ok { IfOk result (λ place. (place ≡ len) × (place < 2 ^ 32) × (len ≢ room)
             × (length pass.old.items ≤ place) × (pass.new ≡ pass.old)) }
         ensures full { OnErr result ((len ≡ room) × (pass.new ≡ told pass.old)) }
     {
         self.total.audit(&mut pass.share);
         if len == room {
-            pass.told_full = true;
+            self.tell(pass);
             return Err(BookFull);
         }
         Ok(len)
+    }
+
+    /// A pass is told that the book is full, and that is counted once.
+    fn tell<W: Drop, S: Drop, C: Drop, R: Drop>(&mut self, pass: &mut PassOf<N, W, S, C, R>)
+        ensures pass { pass.new ≡ told pass.old }
+        ensures tally { (self.new ≡ self.old) ⊎ (self.new ≡ self.old + 2 ^ 48) }
+    {
+        if !pass.told_full {
+            self.total.add(&mut pass.share, TOLD);
+            pass.told_full = true;
+        }
     }
 
     /// One item more is counted.
@@ -92,7 +106,7 @@ impl<N: Named> Tally<N> {
     }
 
     /// Why passes are not gathered with a book. Where they are, as many came as were made, and each
-    /// place stands in one of them.
+    /// place stands in one of them. The book is full if one of them was told so.
     #[tactic(auto, using(crate::proofs::Placed::all_placed))]
     pub fn cause<B: Booked, S: Drop>(
         &mut self,
@@ -100,7 +114,7 @@ impl<N: Named> Tally<N> {
         made: &mut Made<N>,
         passes: &mut Vec<PassBy<N, B, S>>,
     ) -> Option<GatherCause>
-        requires { length (B.book book.now).entries ≡ self.old }
+        requires { IsTotal (length (B.book book.now).entries) (B.book book.now).room self.old }
         ensures tally { (self.new ≡ self.old) × (made.new ≡ made.old) }
         ensures passes { passes.new.items ≡ passes.old.items }
         ensures cause { IfSome result (λ c. IsCause c (Agree (B.book book.now) passes.old.items)
@@ -109,11 +123,22 @@ impl<N: Named> Tally<N> {
         ensures agree { IfNone result (Agree (B.book book.now) passes.old.items
             × (length (B.book book.now).entries ≡ items_of passes.old.items)) }
         ensures placed { IfNone result (AllPlaced (B.book book.now) passes.old.items) }
+        ensures full { FullIfTold (length (B.book book.now).entries) (B.book book.now).room
+            passes.old.items }
     {
-        if !agree(book, passes) {
+        let all_agree = agree(book, passes);
+        let room = book.most();
+        let len = book.listed().len() as u32;
+        count_all(
+            &mut self.total,
+            passes.as_mut_slice(),
+            &mut made.rest,
+            len,
+            room,
+        );
+        if !all_agree {
             return Some(GatherCause::Astray);
         }
-        count_all(&mut self.total, passes.as_mut_slice(), &mut made.rest);
         if (passes.len() as u64) < u64::from(made.count()) {
             return Some(GatherCause::Missing);
         }
@@ -121,19 +146,26 @@ impl<N: Named> Tally<N> {
     }
 }
 
-/// Lends the shares of all passes to one that has a part, and compares the sum with the total.
+/// Lends the shares of all passes to one that has a part, and compares the sum with the total. Each
+/// of them is no more, so none was told of a book of so many entries that is not full.
 fn count_all<N: Named, W: Drop, S: Drop, C: Drop, R: Drop>(
     total: &mut Book<N>,
     passes: &mut [PassOf<N, W, S, C, R>],
     seen: &mut Share<N>,
+    len: u32,
+    room: u32,
 )
-    requires { 0 < seen.old.parts }
+    requires parts { 0 < seen.old.parts }
+    requires total { IsTotal len room total.old.total }
     ensures ledger { (total.new.total ≡ total.old.total) × (seen.new.parts ≡ seen.old.parts)
         × (seen.new.amount ≡ seen.old.amount) }
     ensures passes { passes.new ≡ passes.old }
     ensures few { seen.old.parts + length passes.old ≤ N.parts }
     ensures all { seen.old.parts + length passes.old ≡ N.parts
-        → seen.old.amount + items_of passes.old ≡ total.old.total }
+        → seen.old.amount + items_of passes.old + 2 ^ 48 * told_of passes.old
+        ≡ total.old.total }
+    ensures small { items_of passes.old ≤ length passes.old * 2 ^ 32 }
+    ensures full { FullIfTold len room passes.old }
 {
     let Some((first, rest)) = passes.split_first_mut() else {
         let none = seen.empty();
@@ -141,8 +173,9 @@ fn count_all<N: Named, W: Drop, S: Drop, C: Drop, R: Drop>(
         total.audit(seen);
         return;
     };
-    let count = first.items.len() as u64;
+    total.audit(&mut first.share);
+    let count = first.counted();
     first.share.give(seen, 1, count);
-    count_all(total, rest, seen);
+    count_all(total, rest, seen, len, room);
     seen.give(&mut first.share, 1, count);
 }

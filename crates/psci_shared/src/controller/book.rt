@@ -128,6 +128,7 @@ impl<N: Named> CtlBook<N> {
     /// The entries. Each reply is the one reply after the entries before it.
     pub fn entries(&self) -> &[CtlEntry]
         ensures entries { result.now ≡ self.now.entries }
+        ensures within { length self.now.entries ≤ self.now.room }
         ensures legal { IsLegal N.board (history_of self.now.entries) }
     {
         self.entries.as_slice()

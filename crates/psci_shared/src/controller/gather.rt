@@ -4,6 +4,7 @@ ghost use Rattle.std.specs.Prelude.{◌≡◌, length, IfSome, IfNone};
 ghost use Rattle.psci_shared.specs.Agree.{Agree};
 ghost use Rattle.psci_shared.specs.Gathers.{IsCause, items_of};
 ghost use Rattle.psci_shared.specs.Places.{AllPlaced};
+ghost use Rattle.psci_shared.specs.Told.{FullIfTold};
 
 use crate::controller::book::CtlBook;
 use crate::controller::entry::CtlPass;
@@ -31,6 +32,7 @@ impl<N: Named> CtlLocked<N> {
         ensures agree { IfNone result (Agree self.old.book passes.old.items
             × (length self.old.book.entries ≡ items_of passes.old.items)) }
         ensures placed { IfNone result (AllPlaced self.old.book passes.old.items) }
+        ensures full { FullIfTold (length self.old.book.entries) N.room passes.old.items }
     {
         let CtlLocked { book, tally } = self;
         tally.cause(book, made, passes)

@@ -3,19 +3,21 @@
 ghost use Rattle.std.specs.Prelude.{◌≡◌, [], length, IfOk, OnErr};
 ghost use Rattle.psci_ctl.specs.psci_ctl_spec.Legal.{IsCall};
 ghost use Rattle.psci_shared.specs.CtlLocked.{IsEntered, IsReply, IsTurnedAway};
+ghost use Rattle.psci_shared.specs.Told.{IsTotal};
 
 use crate::controller::book::CtlBook;
 use crate::controller::entry::{CtlItem, CtlPass};
 use crate::{BookFull, Named, Tally};
 use psci_ctl::{CtlCall, CtlReply};
 
-/// The power controller with its book, and the ledger, whose total is the number of its entries.
+/// The power controller with its book, and the ledger, which counts the entries, and each pass that
+/// was told that the book is full.
 #[derive(Drop)]
 pub struct CtlLocked<N: Named> {
     /// The power controller with its book.
     pub book: CtlBook<N>,
     pub(crate) tally: Tally<N>,
-    ghost counted: { length book.entries ≡ tally },
+    ghost counted: { IsTotal (length book.entries) book.room tally },
     ghost room: { book.room ≡ N.room },
 }
 

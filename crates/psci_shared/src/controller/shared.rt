@@ -12,6 +12,7 @@ ghost use Rattle.psci_shared.specs.CtlEntries.{CtlEntry};
 ghost use Rattle.psci_shared.specs.Agree.{Agree};
 ghost use Rattle.psci_shared.specs.Gathers.{IsCause, items_of};
 ghost use Rattle.psci_shared.specs.Places.{AllPlaced};
+ghost use Rattle.psci_shared.specs.Told.{FullIfTold};
 ghost use Rattle.psci_shared.specs.Views.{first, told};
 ghost use Rattle.psci_shared.specs.CtlAnswered.{IsAnswered, IsFull};
 ghost use Rattle.psci_shared.specs.CtlBooks.{history_of};
@@ -108,7 +109,7 @@ impl<'t, N: Named> SharedController<'t, N> {
             (calls.Deliver message.now) (replies.Delivery delivery)) }
         ensures answered { IfOk result (λ delivery. IsAnswered N.board pass.old pass.new
             (calls.Deliver message.now) (replies.Delivery delivery)) }
-        ensures full { OnErr result (IsFull N.board N.room) }
+        ensures full { OnErr result (IsFull N.board N.room pass.new) }
         ensures err { OnErr result (pass.new ≡ told pass.old) }
     {
         match self.call(rt, pass, CtlCall::Deliver(message.copy())) {
@@ -131,7 +132,7 @@ impl<'t, N: Named> SharedController<'t, N> {
             (calls.Wake core halted) (replies.Kick kick)) }
         ensures answered { IfOk result (λ kick. IsAnswered N.board pass.old pass.new
             (calls.Wake core halted) (replies.Kick kick)) }
-        ensures full { OnErr result (IsFull N.board N.room) }
+        ensures full { OnErr result (IsFull N.board N.room pass.new) }
         ensures err { OnErr result (pass.new ≡ told pass.old) }
     {
         match self.call(rt, pass, CtlCall::Wake(core, halted)) {
@@ -153,7 +154,7 @@ impl<'t, N: Named> SharedController<'t, N> {
             (calls.Reset core) (replies.Kick kick)) }
         ensures answered { IfOk result (λ kick. IsAnswered N.board pass.old pass.new
             (calls.Reset core) (replies.Kick kick)) }
-        ensures full { OnErr result (IsFull N.board N.room) }
+        ensures full { OnErr result (IsFull N.board N.room pass.new) }
         ensures err { OnErr result (pass.new ≡ told pass.old) }
     {
         match self.call(rt, pass, CtlCall::Reset(core)) {
@@ -173,7 +174,8 @@ impl<'t, N: Named> SharedController<'t, N> {
         locked.book.started(core)
     }
 
-    /// Gathers the passes with the book, in which each place then stands in one of them.
+    /// Gathers the passes with the book, in which each place then stands in one of them. Gathered
+    /// or not, the book is full if one of them was told so.
     pub fn gather(self, passes: Vec<CtlPass<N>>) -> Result<CtlBooks<N>, CtlGatherFault<N>>
         ensures fault { IfErr result (λ f. IsCause f.cause (Agree f.locked.book f.passes.items)
             (length f.passes.items) self.entry.made) }
@@ -184,6 +186,9 @@ impl<'t, N: Named> SharedController<'t, N> {
         ensures placed { IfOk result (λ b. AllPlaced b.book b.passes.items) }
         ensures room { MatchResult result
             (λ b. b.book.room ≡ N.room) (λ f. f.locked.book.room ≡ N.room) }
+        ensures full { MatchResult result
+            (λ b. FullIfTold (length b.book.entries) N.room passes.items)
+            (λ f. FullIfTold (length f.locked.book.entries) N.room passes.items) }
         ensures passes { MatchResult result
             (λ b. b.passes.items ≡ passes.items) (λ f. f.passes.items ≡ passes.items) }
     {
@@ -209,7 +214,7 @@ impl<'t, N: Named> SharedController<'t, N> {
         ensures ok { IfOk result (λ reply. IsCalled pass.old pass.new call reply) }
         ensures answered { IfOk result (λ reply. IsAnswered N.board pass.old pass.new call reply) }
         ensures fits { IfOk result (λ reply. Fits call reply) }
-        ensures full { OnErr result (IsFull N.board N.room × (pass.new ≡ told pass.old)) }
+        ensures full { OnErr result (IsFull N.board N.room pass.new × (pass.new ≡ told pass.old)) }
     {
         let mut locked = self.locked.lock(rt);
         let ticket = self.tickets.draw();
