@@ -100,7 +100,7 @@ port_faults() {
         if [ -f "hosts/el3/faults/$name.patch" ] && grep -qF "\`$name\`" hosts/el3/README.md; then pass; else
             fail "tests/port-faults.txt: $name is no fault, or hosts/el3/README.md does not have it"
         fi
-        [[ $check != lists && $check != nobody && $check != right ]] || continue
+        [[ $check != lists && $check != linux && $check != nobody && $check != right ]] || continue
         export FAULT=$name
         if seen_by "$check" "$machine"; then fail "$name is not seen by $check"
         elif grep -q -- "$text" "$work/out"; then pass; else
@@ -161,11 +161,15 @@ port_steps() {
     has_cc "resets after each instruction" || return
     build_c steps hosts/steps.c hosts/machine.c || return
     told steps
-    sed '/^    open_anew(&two_by_two);$/d' hosts/steps.c > "$work/kept.c"
-    build_c kept "$work/kept.c" hosts/machine.c || return
-    if timeout 60 "$work/kept" > "$work/out" 2> "$work/err"; then
-        fail "hosts/steps.c: a firmware that is not made anew is not told"
-    else pass; fi
+    # a reader that takes its firmware out of the place and puts it back
+    sed 's/^READS(call_hw, \(psci_hw.*\))$/READS(call_hw, firmware.full = false, \1, firmware.full = true)/' \
+        hosts/steps.c > "$work/taken.c"
+    build_c taken "$work/taken.c" hosts/machine.c || return
+    if timeout 60 "$work/taken" > "$work/out" 2> "$work/err"; then
+        fail "hosts/steps.c: a place that a call leaves empty is not told"
+    elif grep -q "^psci_hw left a place empty" "$work/err"; then pass; else
+        fail "hosts/steps.c does not say which call left a place empty: $(cat "$work/err")"
+    fi
 }
 
 # what the payload says of registers that change while a core waits, by an emulator of programs

@@ -5,10 +5,67 @@ use Rattle.std.proofs.lemmas.Bool.{false≢true}
 use Rattle.std.proofs.lemmas.Bool.Decides.{nat_tests}
 use Rattle.psci_ctl_spec.specs.psci_messages.declared.start.Start.{Start}
 use Rattle.psci_world_spec.specs.declared.said.Record.{Record}
-use Rattle.psci_port.specs.Stages.{Stage, Standing, AtDoor}
-use Rattle.psci_port.specs.Stages.{has_stopped, is_inside, stage_in}
+use Rattle.psci_port.specs.Stages.{Stage, Standing, AtDoor, Entering, Normal, Leaving, Armed}
+use Rattle.psci_port.specs.Stages.{Woken, has_stopped, is_armed, is_inside, place_of, risen}
+use Rattle.psci_port.specs.Stages.{stage_in}
 use Rattle.psci_port.specs.Port.{Row, stopping}
-use Rattle.psci_port.proofs.Rows.{IsRow, entering_by, enters_not}
+use Rattle.psci_port.proofs.Rows.{IsRow, entering_by, enters_not, is_started}
+
+-- Its own wake-up --------------------------------------------------------------------------------
+
+pub risen_stops : (y : Stage) → has_stopped (risen y) ≡ has_stopped y
+risen_stops Standing = refl
+risen_stops AtDoor = refl
+risen_stops (Entering s) = refl
+risen_stops Normal = refl
+risen_stops Leaving = refl
+risen_stops Armed = refl
+risen_stops Woken = refl
+
+pub risen_inside : (y : Stage) → is_inside (risen y) ≡ is_inside y
+risen_inside Standing = refl
+risen_inside AtDoor = refl
+risen_inside (Entering s) = refl
+risen_inside Normal = refl
+risen_inside Leaving = refl
+risen_inside Armed = refl
+risen_inside Woken = refl
+
+pub risen_arms : (y : Stage) → is_armed (risen y) ≡ is_armed y
+risen_arms Standing = refl
+risen_arms AtDoor = refl
+risen_arms (Entering s) = refl
+risen_arms Normal = refl
+risen_arms Leaving = refl
+risen_arms Armed = refl
+risen_arms Woken = refl
+
+pub risen_place : (y : Stage) → place_of y ≡ place_of (risen y)
+risen_place Standing = refl
+risen_place AtDoor = refl
+risen_place (Entering s) = refl
+risen_place Normal = refl
+risen_place Leaving = refl
+risen_place Armed = refl
+risen_place Woken = refl
+
+risen_starts : (y : Stage) → is_started (risen y) ≡ is_started y
+risen_starts Standing = refl
+risen_starts AtDoor = refl
+risen_starts (Entering s) = refl
+risen_starts Normal = refl
+risen_starts Leaving = refl
+risen_starts Armed = refl
+risen_starts Woken = refl
+
+risen_enters : (y : Stage) (t : Start) → risen y ≡ Entering t → y ≡ Entering t
+risen_enters Standing t e = e
+risen_enters AtDoor t e = absurd (enters_not Woken t refl e)
+risen_enters (Entering s) t e = e
+risen_enters Normal t e = e
+risen_enters Leaving t e = e
+risen_enters Armed t e = e
+risen_enters Woken t e = e
 
 -- A core's own acts ------------------------------------------------------------------------------
 
@@ -25,13 +82,15 @@ module _ (s : ℕ) (l : Option Start) (r : Row) (is : IsRow s l r) where
     stands = is.stands;
     inside = is.inside;
     taken = is.taken;
+    ahead = is.ahead;
+    closed = is.closed;
   }
 
   -- it goes from one stage inside to another one
   pub goes_is : (y : Stage) → is_inside r.stage ≡ true → has_stopped r.stage ≡ false
-      → has_stopped y ≡ false → entering_by y ≡ None
+      → has_stopped y ≡ false → entering_by y ≡ None → is_started y ≡ false
       → IsRow s l (record r { begun = None; stage = y })
-  goes_is y inside moves goes none = record {
+  goes_is y inside moves goes none gone = record {
     stood = is.stood;
     used = is.used;
     opened = is.opened;
@@ -41,12 +100,15 @@ module _ (s : ℕ) (l : Option Start) (r : Row) (is : IsRow s l r) where
     stands = λ e. absurd (false≢true (sym moves ∙ is.stands e));
     inside = λ e. is.inside inside;
     taken = λ t e. absurd (enters_not y t none e);
+    ahead = λ e some. absurd (false≢true (sym gone ∙ e));
+    closed = is.closed;
   }
 
   -- it says that it stands
   pub stops_is : (y : Stage) → is_inside r.stage ≡ true → has_stopped y ≡ true
-      → is_inside y ≡ false → entering_by y ≡ None → IsRow s l (stopping y r)
-  stops_is y inside stopped out none = record {
+      → is_inside y ≡ false → entering_by y ≡ None → is_started y ≡ false
+      → IsRow s l (stopping y r)
+  stops_is y inside stopped out none gone = record {
     stood = omega arith;
     used = is.used;
     opened = is.opened;
@@ -56,6 +118,8 @@ module _ (s : ℕ) (l : Option Start) (r : Row) (is : IsRow s l r) where
     stands = λ e. stopped;
     inside = λ e. absurd (false≢true (sym out ∙ e));
     taken = λ t e. absurd (enters_not y t none e);
+    ahead = λ e some. absurd (false≢true (sym gone ∙ e));
+    closed = is.closed;
   }
 
   -- and comes to its WFI
@@ -70,6 +134,56 @@ module _ (s : ℕ) (l : Option Start) (r : Row) (is : IsRow s l r) where
     stands = λ e. refl;
     inside = λ e. absurd (false≢true e);
     taken = λ t e. absurd (enters_not Standing t refl e);
+    ahead = λ e some. absurd (false≢true e);
+    closed = is.closed;
+  }
+
+  -- it comes back out of its wait
+  pub rouses_is : r.stage ≡ Standing → IsRow s l (record r { stage = Armed })
+  rouses_is at = record {
+    stood = is.stood;
+    used = is.used;
+    opened = is.opened;
+    shows = is.shows;
+    last = is.last;
+    still = λ e. is.still (ap has_stopped at);
+    stands = λ e. refl;
+    inside = λ e. absurd (false≢true e);
+    taken = λ t e. absurd (enters_not Armed t refl e);
+    ahead = λ e some. absurd (false≢true e);
+    closed = is.closed;
+  }
+
+  -- it woke itself, and goes to its door
+  pub turns_is : r.stage ≡ Woken → IsRow s l (record r { stage = AtDoor })
+  turns_is at = record {
+    stood = is.stood;
+    used = is.used;
+    opened = is.opened;
+    shows = is.shows;
+    last = is.last;
+    still = λ e. absurd (false≢true e);
+    stands = λ e. absurd (false≢true (sym (ap has_stopped at) ∙ is.stands e));
+    inside = λ e. absurd (false≢true e);
+    taken = λ t e. absurd (enters_not AtDoor t refl e);
+    ahead = λ e. is.ahead (ap is_started at);
+    closed = is.closed;
+  }
+
+  -- it wakes itself
+  pub rises_is : IsRow s l (record r { stage = risen r.stage })
+  rises_is = record {
+    stood = is.stood;
+    used = is.used;
+    opened = is.opened;
+    shows = is.shows;
+    last = is.last;
+    still = λ e. is.still (sym (risen_stops r.stage) ∙ e);
+    stands = λ e. risen_stops r.stage ∙ is.stands e;
+    inside = λ e. is.inside (sym (risen_inside r.stage) ∙ e);
+    taken = λ t e. is.taken t (risen_enters r.stage t e);
+    ahead = λ e. is.ahead (sym (risen_starts r.stage) ∙ e);
+    closed = is.closed;
   }
 
   -- its start is written at its door, and that is opened
@@ -84,6 +198,8 @@ module _ (s : ℕ) (l : Option Start) (r : Row) (is : IsRow s l r) where
     stands = is.stands;
     inside = is.inside;
     taken = is.taken;
+    ahead = is.ahead;
+    closed = is.closed;
   }
 
   pub opens_is : r.door ≡ l → IsRow s l (record r { opened = s; held = false })
@@ -97,6 +213,8 @@ module _ (s : ℕ) (l : Option Start) (r : Row) (is : IsRow s l r) where
     stands = is.stands;
     inside = is.inside;
     taken = is.taken;
+    ahead = is.ahead;
+    closed = λ e. absurd (false≢true e);
   }
 
   differs : (o u : ℕ) → (o == u) ≡ false → o ≡ u → ⊥
@@ -148,6 +266,8 @@ module _ (s : ℕ) (l : Option Start) (r : Row) (is : IsRow s l r) where
         stands = λ e. absurd (not_stood e);
         inside = λ e. absurd (false≢true e);
         taken = λ t e. absurd (enters_not AtDoor t refl e);
+        ahead = λ e some. absurd (some (sym (is.shows same) ∙ at));
+        closed = λ e. absurd (false≢true (sym free ∙ e));
       }
       by (Some t) at = record {
         stood = below;
@@ -159,4 +279,6 @@ module _ (s : ℕ) (l : Option Start) (r : Row) (is : IsRow s l r) where
         stands = λ e. absurd (not_stood e);
         inside = λ e. same;
         taken = λ u e. sym (is.shows same) ∙ at ∙ ap entering_by e;
+        ahead = λ e some. absurd (false≢true e);
+        closed = λ e. absurd (false≢true (sym free ∙ e));
       }

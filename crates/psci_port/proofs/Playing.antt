@@ -2,7 +2,7 @@
 -- breaks a rule is played as any other.
 use Rattle.std.proofs.Common.{◌∷◌, ◌++◌, ◌==◌, [], true, false, ℕ, Bool, List}
 use Rattle.std.proofs.Common.{Option, None, Some}
-use Rattle.std.specs.Prelude.{not, ◌&&◌, ◌||◌, if◌then◌else◌}
+use Rattle.std.specs.Prelude.{not, ◌&&◌, ◌||◌, if◌then◌else◌, nat_lt}
 use Rattle.psci_board.specs.Board.{BoardValue, up}
 use Rattle.psci_ctl_spec.specs.psci_messages.Message.{AckValue, MessageValue}
 use Rattle.psci_ctl_spec.specs.psci_messages.declared.kind.Kind.TheVariants as kinds
@@ -16,6 +16,7 @@ use Rattle.psci_world_spec.specs.Histories.{acks, sent}
 use Rattle.psci_world_spec.specs.Legal.{asked_firmware}
 use Rattle.psci_world_spec.specs.Lists.{indexed}
 use Rattle.psci_world_spec.proofs.Scripts.{board, computing}
+use Rattle.psci_port.specs.Rebooted.{rebooted}
 use Rattle.psci_port.specs.Waiting.{waits}
 use Rattle.psci_port.specs.Stages.{Stage, Entering}
 use Rattle.psci_port.specs.Stages.{executes, has_stopped, may_hold}
@@ -77,7 +78,7 @@ after acts = play (cold board []) acts
 
 -- what an example unfolds
 unfoldable pub playing : Unit {0}
-unfolding computing step state play
+unfolding computing step state play rebooted
 playing = tt
 
 -- Clauses ----------------------------------------------------------------------------------------
@@ -143,6 +144,17 @@ failing_of p (k ∷ ks) = if holds p k then failing_of p ks else (k ∷ failing_
 abbrev pub failing : List Act → List Clause
 failing acts = failing_of (after acts)
     (Powered ∷ Awake ∷ Holder ∷ Alone ∷ Free ∷ Whole ∷ ByWord ∷ Stood ∷ Entered ∷ [])
+
+abbrev same_door : Option Start → Option Start → Bool
+same_door None last = false
+same_door (Some s) last = same_start s last
+
+-- whether what this core takes up after these acts is its last start, and was not used
+abbrev pub takes_last_start : (List Act × ℕ) → Bool
+takes_last_start (acts, c) =
+    let p = after acts in
+    same_door (p.row c).door (last_start p.values c)
+    && (p.row c).opened == p.values.starts c && nat_lt (p.row c).used (p.values.starts c)
 
 -- What is seen -----------------------------------------------------------------------------------
 

@@ -14,7 +14,7 @@ use Rattle.psci_world_spec.proofs.Scripts.{part}
 use Rattle.psci_port.specs.Waiting.{waits}
 use Rattle.psci_port.specs.Stages.{Stage, Standing, AtDoor, Leaving}
 use Rattle.psci_port.specs.Port.{Port, Act, Locks, Unlocks, Finishes, TakesUp, Stands, Arms}
-use Rattle.psci_port.specs.Port.{Sleeps, Delivers, Wakes, Resets, Writes, Opens, Cuts, Restarts}
+use Rattle.psci_port.specs.Port.{Delivers, Wakes, Resets, Writes, Opens, Cuts, Restarts}
 use Rattle.psci_port.specs.Port.{stage_at, words}
 use Rattle.psci_port.specs.Kept.{EachTakesItsLast, IsLocked, NoneCut, TakesItsLast, WordsTell}
 use Rattle.psci_port.proofs.Playing.{Powered, Awake, Holder, Alone, Free, Whole, ByWord, Stood}
@@ -35,7 +35,7 @@ pub record Shown : Type 0 where
   pub cut : Bool
   pub lock : Option ℕ
 
-abbrev shown : List Act → Shown
+abbrev pub shown : List Act → Shown
 shown acts =
     let p = after acts in
     record {
@@ -88,22 +88,6 @@ dark_in_the_monitor : failing (off_called ++ (delivers 1 ∷ Cuts 0 3 ∷ []))
 unfolding playing
 dark_in_the_monitor = refl
 
--- a core that is armed loses its power before its WFI, and so does its cluster
-armed_and_cut : failing (off_called ++ (Arms 3 ∷ delivers 1 ∷ Cuts 0 3 ∷ [])) ≡ Powered ∷ []
-unfolding playing
-armed_and_cut = refl
-
-armed_below_a_cut : failing (off_called ++ (Arms 3 ∷ delivers 1 ∷ Cuts 1 1 ∷ []))
-    ≡ Powered ∷ []
-unfolding playing
-armed_below_a_cut = refl
-
--- it may have its Down carried out by itself, with the lock in hand, and sleep then
-armed_and_asleep : failing (off_called
-    ++ (Arms 3 ∷ delivers 1 ∷ Unlocks 3 ∷ Sleeps 3 ∷ Cuts 0 3 ∷ Cuts 1 1 ∷ [])) ≡ []
-unfolding playing
-armed_and_asleep = refl
-
 -- it stands with the lock in hand
 stands_in_the_lock : failing (off_called ++ (Stands 3 ∷ [])) ≡ Holder ∷ []
 unfolding playing
@@ -155,6 +139,8 @@ torn_by_a_system_reset : failing (on_3 ++ door 3 ++ comes 3
     ∷ asks 3 0x84000002 0 0 0 ∷ delivers 1 ∷ [])) ≡ []
 unfolding playing
 torn_by_a_system_reset = refl
+
+-- Starts -----------------------------------------------------------------------------------------
 
 -- a core takes up again the start that it used
 entered_twice : failing (off_3 ++ (TakesUp 3 ∷ [])) ≡ ByWord ∷ []

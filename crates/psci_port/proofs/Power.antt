@@ -17,7 +17,7 @@ use Rattle.psci_ctl_spec.specs.Parts.{depth_or, laid}
 use Rattle.psci_ctl_spec.specs.Values.{Values, first_depth}
 use Rattle.psci_ctl_spec.proofs.Sums.{path_place}
 use Rattle.psci_port.specs.Stages.{Stage, Standing, AtDoor, Entering, Normal, Leaving, Armed}
-use Rattle.psci_port.specs.Stages.{executes, has_stopped, is_armed}
+use Rattle.psci_port.specs.Stages.{Woken, executes, has_stopped, is_armed}
 use Rattle.psci_port.specs.Port.{Row, blank, cut_by, first_cut, first_row, row_by, started}
 use Rattle.psci_port.proofs.Started.{down_core, down_parts}
 
@@ -96,7 +96,7 @@ start_told : (t e : Bool) (n : ℕ) → (e ≡ true → 0 < n) → cond t false 
 start_told true e n told is = absurd (false≢true is)
 start_told false e n told is = told is
 
-start_spared : (t e : Bool) → e ≡ false → cond t false e ≡ false
+pub start_spared : (t e : Bool) → e ≡ false → cond t false e ≡ false
 start_spared true e is = refl
 start_spared false e is = is
 
@@ -254,6 +254,8 @@ module _ (b : BoardValue) (v : Values) (row : ℕ → Row) (cut : ℕ → ℕ �
   by_stage Normal c k at has low e =
       moving_powered c k has low (subst (λ y. not (has_stopped y) ≡ true) (sym at) refl)
   by_stage Leaving c k at has low e =
+      moving_powered c k has low (subst (λ y. not (has_stopped y) ≡ true) (sym at) refl)
+  by_stage Woken c k at has low e =
       moving_powered c k has low (subst (λ y. not (has_stopped y) ≡ true) (sym at) refl)
   by_stage Armed c k at has low e =
       is.spared c k has low (subst (λ y. is_armed y ≡ true) (sym at) refl)

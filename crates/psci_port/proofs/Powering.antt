@@ -2,14 +2,16 @@
 use Rattle.std.proofs.Common.{◌<◌, ◌==◌, ◌∙◌, ◌∷◌, ◌≡◌, ◌≤◌, [], ap, arith, Bool, cond, false, List}
 use Rattle.std.proofs.Common.{Option, None, Some, refl, subst, sym, true, ℕ}
 use Rattle.std.specs.Prelude.{not, ◌&&◌}
-use Rattle.std.proofs.lemmas.Bool.{eqb-true, false≢true}
+use Rattle.std.proofs.lemmas.Bool.{eq-eqb, eqb-true, false≢true}
 use Rattle.std.proofs.lemmas.Bool.Decides.{nat_tests}
 use Rattle.psci_board.specs.Board.{BoardValue, cores, height, up}
 use Rattle.psci_board.specs.Laws.{PathLaws}
+use Rattle.psci_board.specs.Paths.{is_on_path}
 use Rattle.psci_ctl_spec.specs.psci_messages.declared.start.Start.{Start}
 use Rattle.psci_ctl_spec.specs.declared.call.CtlCall.{CtlCall}
 use Rattle.psci_ctl_spec.specs.declared.call.CtlCall.TheVariants as asked
-use Rattle.psci_ctl_spec.specs.Effects.{Effect, effect_of}
+use Rattle.psci_ctl_spec.specs.Changes.{change}
+use Rattle.psci_ctl_spec.specs.Effects.{Effect, Begins, effect_of}
 use Rattle.psci_ctl_spec.specs.Follows.{MayFollow}
 use Rattle.psci_ctl_spec.specs.Legal.{IsCall}
 use Rattle.psci_ctl_spec.specs.Replies.{reply}
@@ -24,20 +26,22 @@ use Rattle.psci_world_spec.specs.declared.said.Said.{Said}
 use Rattle.psci_world_spec.specs.declared.said.Said.TheVariants.{Fw, Kick, Acked, Ignored, Absent}
 use Rattle.psci_world_spec.specs.declared.said.Said.TheVariants.{Taken as Took}
 use Rattle.psci_port.specs.Waiting.{waits}
-use Rattle.psci_port.specs.Stages.{Standing, Armed}
-use Rattle.psci_port.specs.Stages.{has_stopped, is_armed, stage_after, stage_in}
+use Rattle.psci_port.specs.Stages.{AtDoor, Standing, Armed}
+use Rattle.psci_port.specs.Stages.{has_stopped, is_armed, risen, stage_after, stage_in}
 use Rattle.psci_port.specs.Port.{Port, Row, Act, Locks, Unlocks, Calls, Enters, Takes, Finishes}
 use Rattle.psci_port.specs.Port.{TakesUp, Stands, Arms, Sleeps, Delivers, Wakes, Resets, Writes}
-use Rattle.psci_port.specs.Port.{Opens, Cuts, Restarts, cold, commanded, ended, finished, step}
-use Rattle.psci_port.specs.Port.{stage_at, state, stopping, taking_up, with_row, words}
+use Rattle.psci_port.specs.Port.{Rouses, Rises, Turns, Opens, Cuts, Restarts, Reboots, cold}
+use Rattle.psci_port.specs.Port.{commanded, ended, finished, gone_to, rising, roused, stage_at}
+use Rattle.psci_port.specs.Port.{state, step, stopping, taking_up, with_row, woken, words}
 use Rattle.psci_port.specs.Rules.{IsPortRun, May, NoneArmed}
 use Rattle.psci_port.specs.Kept.{NoneCut}
-use Rattle.psci_port.proofs.Own.{open_moves}
+use Rattle.psci_port.proofs.Own.{open_moves, risen_arms, risen_stops}
 use Rattle.psci_port.proofs.Started.{all_down, down_core}
 use Rattle.psci_port.proofs.Locks.{Fits}
 use Rattle.psci_port.proofs.Power.{IsPowered, all_awake, arms, effect_powered, executing_powered}
-use Rattle.psci_port.proofs.Power.{first_powered, moves, moving_powered}
-use Rattle.psci_port.proofs.Keeping.{IsKept, run_kept}
+use Rattle.psci_port.proofs.Power.{first_powered, moves, moving_powered, start_spared}
+use Rattle.psci_port.proofs.Keeping.{IsKept}
+use Rattle.psci_port.proofs.Running.{run_kept}
 
 abbrev pub Powered : BoardValue → Port → Type 0
 Powered b p = IsPowered b p.values (moves p.row) (arms p.row) p.cut
@@ -101,6 +105,45 @@ module _ (b : BoardValue) (p : Port) (is : Powered b p) where
       (λ e. off (has_stopped r.stage) stopped)
       (λ k has low a. moving_powered b p.values p.row p.cut is c k has low
       (on (has_stopped (stage_at p c)) moving))
+
+  risen_powered : (c : ℕ) → Powered b (gone_to p c (risen (stage_at p c)))
+  risen_powered c = row_powered c (record (p.row c) { stage = risen (stage_at p c) })
+      (λ e. ap not (risen_stops (stage_at p c)) ∙ e)
+      (λ k has low a. is.spared c k has low (sym (risen_arms (stage_at p c)) ∙ a))
+
+  -- it comes back out of its wait
+  roused_spared : (c x k : ℕ) (t : Bool) → (x == c) ≡ t → x < cores b → k ≤ height b
+      → is_armed (cond t (record (p.row c) { stage = Armed }) (p.row x)).stage ≡ true
+      → cond (is_on_path b c k (up b k x)) false (p.cut k (up b k x)) ≡ false
+  roused_spared c x k true e has low a =
+      let same : x ≡ c = eqb-true x c e in
+      let on_path : is_on_path b c k (up b k x) ≡ true = grind (arith, nat_tests, same) in
+      whole (is_on_path b c k (up b k x)) (p.cut k (up b k x)) on_path
+    where
+      whole : (t e : Bool) → t ≡ true → cond t false e ≡ false
+      whole true e is = refl
+      whole false e is = absurd (false≢true is)
+  roused_spared c x k false e has low a =
+      start_spared (is_on_path b c k (up b k x)) (p.cut k (up b k x)) (is.spared x k has low a)
+
+  roused_told : (t e : Bool) (n : ℕ) → (e ≡ true → 0 < n) → cond t false e ≡ true → 0 < n
+  roused_told true e n told cut = absurd (false≢true cut)
+  roused_told false e n told cut = told cut
+
+  roused_powered : (c : ℕ) → Powered b (roused b p c)
+  roused_powered c = record {
+    alone = λ x has deep. roused_alone x (x == c) (is.alone x has deep);
+    nested = is.nested;
+    told = λ k place cut.
+        roused_told (is_on_path b c k place) (p.cut k place) (p.values.depth k place)
+        (is.told k place) cut;
+    spared = λ x k has low a. roused_spared c x k (x == c) refl has low a;
+  }
+    where
+      roused_alone : (x : ℕ) (t : Bool) → moves p.row x ≡ false
+          → not (has_stopped (cond t (record (p.row c) { stage = Armed }) (p.row x)).stage) ≡ false
+      roused_alone x true stopped = refl
+      roused_alone x false stopped = stopped
 
   sleeps_powered : (c : ℕ) → Powered b (with_row p c (record (p.row c) { stage = Standing }))
   sleeps_powered c = row_powered c (record (p.row c) { stage = Standing }) (λ e. refl)
@@ -178,6 +221,15 @@ module _ (b : BoardValue) (laws : PathLaws b)
       ((kept.rows (down_core f)).stands
       (all_down b p.values (words p) call (follows p.values call can) wait q at)))
 
+  -- an armed core wakes itself
+  rises_powered : (p : Port) (c : ℕ) → IsKept p → Powered b p → c < cores b
+      → stage_at p c ≡ Armed → Powered b (rising b p c)
+  rises_powered p c kept is has at =
+      risen_powered b (woken b p c)
+      (commanded_powered p (Wake c) (asked.Wake (record { number = c }) (words p c)) kept is has
+      (off (words p c == p.values.starts c)
+      (eq-eqb _ _ ((kept.rows c).still (ap has_stopped at))))) c
+
   first_all : (before : List (List Record)) → Powered b (cold b before)
   first_all before = first_powered b (start_of_life b) laws refl
 
@@ -209,6 +261,10 @@ module _ (b : BoardValue) (laws : PathLaws b)
       (off (words p c == p.values.starts c) may.1)
   step_powered p (Resets c) kept is may =
       commanded_powered p (Reset c) (asked.Reset (record { number = c })) kept is may.0 refl
+  step_powered p (Rouses c) kept is may = roused_powered b p is c
+  step_powered p (Rises c) kept is may = rises_powered p c kept is may.0 may.1
+  step_powered p (Turns c) kept is may =
+      goes_powered b p is c (record (p.row c) { stage = AtDoor }) (ap has_stopped may.0) refl
   step_powered p (Writes c) kept is may = stays_powered b p is c _ refl
   step_powered p (Opens c) kept is may = stays_powered b p is c _ refl
   step_powered p (Cuts level place) kept is may = record {
@@ -220,6 +276,8 @@ module _ (b : BoardValue) (laws : PathLaws b)
         cut_spared b p is level place c k (k == level && up b k c == place) refl may.1 has low a;
   }
   step_powered p Restarts kept is may = first_all (p.past ∷ p.before)
+  step_powered p Reboots kept is may =
+      first_powered b (change b Begins p.values) laws refl
 
   run_powered : (acts : List Act) → IsPortRun b acts → Powered b (state b acts)
   unfolding state

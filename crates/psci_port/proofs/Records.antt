@@ -179,7 +179,7 @@ pub record Spares (b : BoardValue) (past : List Record) (r : Record) : Type 0 wh
   pub acks : (k : ℕ) (a : AckValue) → indexed (acks past) k ≡ Some a
       → indexed (acks (r ∷ past)) k ≡ Some a
 
-sends_none : (n : ℕ) (r : CtlReply) → sent_in (said_by n r) ≡ None
+pub sends_none : (n : ℕ) (r : CtlReply) → sent_in (said_by n r) ≡ None
 sends_none n (replies.Delivery (deliveries.Applied ack)) = refl
 sends_none n (replies.Delivery deliveries.Ignored) = refl
 sends_none n (replies.Kick (kicks.Started s)) = refl

@@ -1,6 +1,6 @@
 -- What holds of each core between any two acts, by its starts and its last start, and that each act
 -- keeps it.
-use Rattle.std.proofs.Common.{◌+◌, ◌==◌, ◌∙◌, ◌≡◌, ◌≤◌, ap, arith, Bool, cond, false}
+use Rattle.std.proofs.Common.{◌+◌, ◌<◌, ◌==◌, ◌∙◌, ◌≡◌, ◌≤◌, ap, arith, Bool, cond, false}
 use Rattle.std.proofs.Common.{Option, None, Some, refl, subst, sym, true, ℕ}
 use Rattle.std.proofs.lemmas.Option.{none-some}
 use Rattle.std.proofs.lemmas.Bool.{eqb-true, false≢true}
@@ -13,8 +13,18 @@ use Rattle.psci_ctl_spec.specs.Effects.{Effect, Nothing, Starts, Deepens, Ends, 
 use Rattle.psci_ctl_spec.specs.Replies.{last_start, start_shown}
 use Rattle.psci_ctl_spec.specs.Values.{Values, first_starts}
 use Rattle.psci_port.specs.Stages.{Stage, Standing, AtDoor, Entering, Normal, Leaving, Armed}
-use Rattle.psci_port.specs.Stages.{has_stopped, is_inside}
+use Rattle.psci_port.specs.Stages.{Woken, has_stopped, is_inside}
 use Rattle.psci_port.specs.Port.{Row, blank, first_row, held_by, row_by, started}
+
+-- it was started, and has not taken its start up
+abbrev pub is_started : Stage → Bool
+is_started Standing = false
+is_started AtDoor = true
+is_started (Entering s) = false
+is_started Normal = false
+is_started Leaving = false
+is_started Armed = false
+is_started Woken = true
 
 pub record IsRow (s : ℕ) (last_one : Option Start) (r : Row) : Type 0 where
   -- it stood in a start that it used, which was opened for it, and counted
@@ -31,6 +41,10 @@ pub record IsRow (s : ℕ) (last_one : Option Start) (r : Row) : Type 0 where
   -- inside it used its last start, and what it enters by is that
   pub inside : is_inside r.stage ≡ true → r.used ≡ s
   pub taken : (t : Start) → r.stage ≡ Entering t → last_one ≡ Some t
+  -- one that was started has its start before it
+  pub ahead : is_started r.stage ≡ true → (last_one ≡ None → ⊥) → r.used < s
+  -- and one that is held has its door closed
+  pub closed : r.held ≡ true → r.opened < s
 
 -- Which start a core enters by -------------------------------------------------------------------
 
@@ -41,6 +55,7 @@ entering_by (Entering s) = Some s
 entering_by Normal = None
 entering_by Leaving = None
 entering_by Armed = None
+entering_by Woken = None
 
 pub enters_not : (y : Stage) (t : Start) → entering_by y ≡ None → y ≡ Entering t → ⊥
 enters_not y t none e = none-some t (sym none ∙ ap entering_by e)
@@ -58,6 +73,8 @@ blank_row l is = record {
   stands = λ e. refl;
   inside = λ e. absurd (false≢true e);
   taken = λ t e. absurd (enters_not Standing t refl e);
+  ahead = λ e some. absurd (false≢true e);
+  closed = λ e. absurd (false≢true e);
 }
 
 boot_row : (l : Option Start) → IsRow 1 l (blank AtDoor)
@@ -71,6 +88,8 @@ boot_row l = record {
   stands = λ e. absurd (omega (arith, e));
   inside = λ e. absurd (false≢true e);
   taken = λ t e. absurd (enters_not AtDoor t refl e);
+  ahead = λ e some. omega arith;
+  closed = λ e. absurd (false≢true e);
 }
 
 shows_none : (life : Option ℕ) (cause : Cause) → start_shown life 0 cause ≡ None
@@ -106,6 +125,8 @@ started_is s l m r cause stood is = record {
       absurd (omega (arith, a, b, c, e));
   inside = λ e. absurd (false≢true e);
   taken = λ t e. absurd (enters_not AtDoor t refl e);
+  ahead = λ e some. let a = is.used in let b = is.opened in omega (arith, a, b);
+  closed = λ e. let b = is.opened in omega (arith, b);
 }
 
 -- the core that an effect starts in its stop

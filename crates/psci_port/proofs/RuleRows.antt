@@ -1,7 +1,7 @@
 -- Worked examples: acts that the rules of a port refuse, one for each rule, and some that they
 -- allow.
 use Rattle.std.proofs.Common.{◌<◌, ◌≡◌, ◌∷◌, ◌++◌, [], ap, arith, Bool, false, true, refl}
-use Rattle.std.proofs.Common.{List, Some, sym, ℕ}
+use Rattle.std.proofs.Common.{List, None, Some, sym, ℕ}
 use Rattle.std.proofs.lemmas.Bool.{false≢true}
 use Rattle.std.proofs.lemmas.Option.{none-some}
 use Rattle.psci_ctl_spec.specs.psci_messages.Message.{MessageValue}
@@ -11,9 +11,10 @@ use Rattle.psci_ctl_spec.specs.psci_messages.declared.part.Part.{Part}
 use Rattle.psci_world_spec.specs.declared.said.Said.TheVariants.{Absent}
 use Rattle.psci_world_spec.proofs.Scripts.{board, part}
 use Rattle.psci_port.specs.Stages.{Stage, Standing, AtDoor, Entering, Normal, Leaving, Armed}
-use Rattle.psci_port.specs.Stages.{has_stopped}
+use Rattle.psci_port.specs.Stages.{Woken, has_stopped}
 use Rattle.psci_port.specs.Port.{Locks, Unlocks, Calls, Takes, TakesUp, Stands}
 use Rattle.psci_port.specs.Port.{Arms, Sleeps, Delivers, Wakes, Resets, Writes, Opens, Cuts}
+use Rattle.psci_port.specs.Port.{Reboots, Rouses, Rises, Turns}
 use Rattle.psci_port.specs.Rules.{AreTrue, IsPortRun, IsTrue, May}
 use Rattle.psci_port.proofs.Playing.{after, asks, delivers, door, off_3, off_called, on_3}
 use Rattle.psci_port.proofs.Playing.{playing}
@@ -33,12 +34,13 @@ is_normal AtDoor = false
 is_normal (Entering s) = false
 is_normal Leaving = false
 is_normal Armed = false
+is_normal Woken = false
 
 -- The lock ---------------------------------------------------------------------------------------
 
 no_second_holder : May board (after off_called) (Locks 0) → ⊥
 unfolding playing
-no_second_holder may = none-some _ (sym may.0)
+no_second_holder may = none-some _ (sym may.1)
 
 no_unlock_inside : May board (after (on_3 ++ (Locks 0 ∷ asks 0 0x84000000 0 0 0 ∷ [])))
     (Unlocks 0) → ⊥
@@ -109,6 +111,28 @@ no_start_with_the_lock : May board (after (off_called ++ (Arms 3 ∷ [])))
 unfolding playing
 no_start_with_the_lock may = may.2 refl refl
 
+no_rise_of_a_core_that_runs : May board (after off_called) (Rises 3) → ⊥
+unfolding playing
+no_rise_of_a_core_that_runs may = false≢true (ap has_stopped may.1)
+
+no_rouse_of_a_core_that_runs : May board (after off_called) (Rouses 3) → ⊥
+unfolding playing
+no_rouse_of_a_core_that_runs may = false≢true (ap has_stopped may.1)
+
+no_rise_without_the_lock : May board (after (off_called ++ (Arms 3 ∷ Unlocks 3 ∷ []))) (Rises 3)
+    → ⊥
+unfolding playing
+no_rise_without_the_lock may = none-some _ may.2.0
+
+no_turn_with_the_lock : May board (after (off_called ++ (Arms 3 ∷ Rises 3 ∷ []))) (Turns 3) → ⊥
+unfolding playing
+no_turn_with_the_lock may = may.1 refl
+
+no_start_taken_up_with_the_lock : May board
+    (after (off_called ++ (Arms 3 ∷ Rises 3 ∷ []) ++ door 3)) (TakesUp 3) → ⊥
+unfolding playing
+no_start_taken_up_with_the_lock may = false≢true may.0
+
 no_wake_with_the_lock : May board (after (off_called ++ (Arms 3 ∷ []))) (Wakes 3) → ⊥
 unfolding playing
 no_wake_with_the_lock may = may.2 refl
@@ -128,6 +152,21 @@ no_cut_above_an_armed_core : May board (after (off_called ++ (Arms 3 ∷ deliver
     (Cuts 1 1) → ⊥
 unfolding playing
 no_cut_above_an_armed_core may = false≢true (sym (may.1 3 (omega arith) refl))
+
+no_life_after_none : May board (record (after []) {
+  values = record ((after []).values) { life = None };
+}) Reboots → ⊥
+unfolding playing
+no_life_after_none may = none-some _ may.1.1.0
+
+no_life_after_the_last : May board (record (after []) {
+  values = record ((after []).values) { life = Some 3 };
+}) Reboots → ⊥
+unfolding playing
+no_life_after_the_last may = beyond may.1.0 may.1.1.0 may.1.1.1
+  where
+    beyond : (l : ℕ) → Some 3 ≡ Some l → l < 3 → ⊥
+    beyond l e low = let same : 3 ≡ l = grind arith in omega (arith, same, low)
 
 -- What is allowed --------------------------------------------------------------------------------
 

@@ -1,9 +1,9 @@
 -- A true run of a port, seen through its calls, is a legal run of the world.
-use Rattle.std.proofs.Common.{◌==◌, ◌∙◌, ◌∷◌, ◌≡◌, [], ap, Bool, cond, false, List, length}
-use Rattle.std.proofs.Common.{Option, None, Some, refl, subst, sym, true, ℕ}
+use Rattle.std.proofs.Common.{◌<◌, ◌==◌, ◌∙◌, ◌∷◌, ◌≡◌, [], ap, Bool, cond, false, List}
+use Rattle.std.proofs.Common.{length, Option, None, Some, refl, subst, suc, sym, true, ℕ}
 use Rattle.std.proofs.lemmas.Option.{none-some}
 use Rattle.std.proofs.lemmas.Bool.{eqb-true, false≢true}
-use Rattle.psci_board.specs.Board.{BoardValue}
+use Rattle.psci_board.specs.Board.{BoardValue, IsBoard, cores}
 use Rattle.psci_ctl_spec.specs.psci_messages.declared.start.Start.{Start}
 use Rattle.psci_ctl_spec.specs.declared.call.CtlCall.{CtlCall}
 use Rattle.psci_ctl_spec.specs.declared.call.CtlCall.TheVariants as asked
@@ -14,6 +14,9 @@ use Rattle.psci_ctl_spec.specs.History.{values_of}
 use Rattle.psci_ctl_spec.specs.Replies.{reply}
 use Rattle.psci_ctl_spec.specs.Values.{Values, start_of_life}
 use Rattle.psci_world_spec.specs.psci_fw_spec.declared.call.FwCall.TheVariants as calls
+use Rattle.psci_world_spec.specs.psci_fw_spec.After as later
+use Rattle.psci_world_spec.specs.psci_fw_spec.Exchange.{FwExchange}
+use Rattle.psci_world_spec.specs.psci_fw_spec.History as firmware
 use Rattle.psci_world_spec.specs.declared.event.Event.{Event}
 use Rattle.psci_world_spec.specs.declared.event.Event.TheVariants.{Call, Enter, Wake, Reset}
 use Rattle.psci_world_spec.specs.declared.event.Event.TheVariants.{Deliver, Take}
@@ -25,20 +28,25 @@ use Rattle.psci_world_spec.specs.Legal.{said_by}
 use Rattle.psci_world_spec.specs.Places.{place}
 use Rattle.psci_headline.specs.Safe.{AlwaysSafe}
 use Rattle.psci_port.specs.Stages.{Stage, Standing, AtDoor, Entering, Normal, Leaving, Armed}
-use Rattle.psci_port.specs.Stages.{has_stopped, looks, place_of, stage_in}
+use Rattle.psci_port.specs.Stages.{Woken, has_stopped, looks, may_hold, place_of, risen, stage_in}
 use Rattle.psci_port.specs.Port.{Port, Act, Locks, Unlocks, Calls, Enters, Takes, Finishes}
 use Rattle.psci_port.specs.Port.{TakesUp, Stands, Arms, Sleeps, Delivers, Wakes, Resets, Writes}
-use Rattle.psci_port.specs.Port.{Opens, Cuts, Restarts, cold, commanded}
-use Rattle.psci_port.specs.Port.{finished, row_by, stage_at, started, state, step}
-use Rattle.psci_port.specs.Port.{stopping, taking_up, told, words}
+use Rattle.psci_port.specs.Port.{Rouses, Rises, Turns, Opens, Cuts, Restarts, Reboots, Row}
+use Rattle.psci_port.specs.Port.{cold, commanded, finished, going_on, gone_to, lives_of, rising}
+use Rattle.psci_port.specs.Port.{row_by, stage_at, started, state, step, stopping, taking_up}
+use Rattle.psci_port.specs.Port.{told, woken, words}
+use Rattle.psci_port.specs.Rebooted.{rebooted}
 use Rattle.psci_port.specs.Rules.{AreTrue, IsPortRun, IsTrue, May}
 use Rattle.psci_port.specs.Kept.{AreLegal, AreSafe, runs}
-use Rattle.psci_port.proofs.Own.{open_moves}
+use Rattle.psci_port.proofs.Own.{open_moves, risen_place}
 use Rattle.psci_port.proofs.Locks.{first_begun, not_inside}
 use Rattle.psci_port.proofs.Records.{Moves, Names, Spares, deliver_legal}
 use Rattle.psci_port.proofs.Records.{first_place_is, moves, reset_legal, told_spares}
 use Rattle.psci_port.proofs.Records.{wake_legal}
-use Rattle.psci_port.proofs.Keeping.{IsKept, looks_apart, run_kept}
+use Rattle.psci_port.proofs.Keeping.{IsKept, looks_apart}
+use Rattle.psci_port.proofs.Running.{run_kept}
+use Rattle.psci_port.proofs.Rebooting.{IsRebooted, are_rebooted, goes_on, life_values}
+use Rattle.psci_port.proofs.Rebooting.{rebooted_legal}
 use Rattle.psci_port.proofs.Mirrors.{IsDue, IsMirror, begin_world, end_world, goes_world}
 use Rattle.psci_port.proofs.Mirrors.{stays_world}
 
@@ -127,6 +135,18 @@ stopped_place (Entering s) e = absurd (false≢true e)
 stopped_place Normal e = absurd (false≢true e)
 stopped_place Leaving e = absurd (false≢true e)
 stopped_place Armed e = refl
+stopped_place Woken e = absurd (false≢true e)
+
+none_begun : (c : ℕ) (f : Effect) (r : Row) → r.begun ≡ None → (row_by c f r).begun ≡ None
+none_begun c Nothing r none = none
+none_begun c (Starts k cause) r none = by (c == k)
+  where
+    by : (t : Bool) → (cond t (started cause r) r).begun ≡ None
+    by true = refl
+    by false = none
+none_begun c (Deepens k ps) r none = none
+none_begun c Ends r none = refl
+none_begun c Begins r none = first_begun c
 
 door_place : (y : Stage) (d : Option Start) → looks y ≡ true → (has_stopped y ≡ true → ⊥)
     → place_of y ≡ place_of (stage_in d)
@@ -137,6 +157,7 @@ door_place (Entering s) d at moving = absurd (false≢true at)
 door_place Normal d at moving = absurd (false≢true at)
 door_place Leaving d at moving = absurd (false≢true at)
 door_place Armed d at moving = absurd (false≢true at)
+door_place Woken d at moving = absurd (false≢true at)
 
 first_world : (b : BoardValue) (before : List (List Record)) → values_of b [] ≡ start_of_life b
     → AreLegal b before → IsMirror b (cold b before)
@@ -148,13 +169,53 @@ first_world b before begin legal = record {
   due = λ c q e. absurd (none-some q (sym (first_begun c) ∙ e));
 }
 
+-- the power controller goes on, after a run that only reset the system
+onward_world : (b : BoardValue) (p : Port) (n : ℕ) → IsRebooted b n (rebooted b n)
+    → p.values.life ≡ Some n → AreLegal b (runs p) → IsMirror b (going_on b p)
+onward_world b p n is life legal =
+    let at : lives_of p.values.life ≡ n = ap lives_of life in
+    let so : IsRebooted b (lives_of p.values.life) (rebooted b (lives_of p.values.life)) =
+    subst (λ k. IsRebooted b k (rebooted b k)) (sym at) is in
+    record {
+      values = so.values ∙ ap (λ k. life_values b (suc k)) at ∙ goes_on b p.values n life;
+      legal = (rebooted_legal b (lives_of p.values.life), legal);
+      places = so.places;
+      due = λ c q e. absurd (none-some q (sym (first_begun c) ∙ e));
+    }
+
 module _ (b : BoardValue) (begin : values_of b [] ≡ start_of_life b)
     (more : (e : CtlExchange) (h : List CtlExchange)
-    → values_of b (e ∷ h) ≡ after b e.call e.reply (values_of b h)) where
+    → values_of b (e ∷ h) ≡ after b e.call e.reply (values_of b h))
+    (remembers : (e : FwExchange) (h : List FwExchange)
+    → firmware.values_of b (e ∷ h) ≡ later.after b e.core e.call e.reply (firmware.values_of b h))
+    (some : IsBoard b → 0 < cores b) where
   -- who has not the lock is inside no call
   apart : (p : Port) (c : ℕ) → IsKept p → (p.lock ≡ Some c → ⊥) → (q : Record)
       → (p.row c).begun ≡ Some q → ⊥
   apart p c kept lacks q e = not_inside p.lock p.row p.whole kept.held c q lacks e
+
+  -- an armed core wakes itself
+  rises_world : (p : Port) (c : ℕ) → IsKept p → IsMirror b p → c < cores b
+      → stage_at p c ≡ Armed → (p.row c).begun ≡ None → IsMirror b (rising b p c)
+  rises_world p c kept is has at none =
+      let stands : words p c ≡ p.values.starts c = (kept.rows c).still (ap has_stopped at) in
+      let world : IsMirror b (woken b p c) =
+      command_world b more p is (Wake c) (asked.Wake (record { number = c }) (words p c)) refl
+      (wake_legal b p.past c (words p c) has (is.places c ∙ ap place_of at)
+      (stands ∙ ap (λ (v : Values). v.starts c) (sym is.values))) in
+      let gone : IsMirror b (gone_to (woken b p c) c (risen (stage_at (woken b p c) c))) =
+      goes_world b (woken b p c) world c
+      (record ((woken b p c).row c) { stage = risen (stage_at (woken b p c) c) })
+      (risen_place (stage_at (woken b p c) c))
+      (λ q e. none-some q (sym (none_begun c (effect_of b
+      (asked.Wake (record { number = c }) (words p c))
+      (reply b p.values (asked.Wake (record { number = c }) (words p c)))) (p.row c) none) ∙ e)) in
+      record {
+        values = gone.values;
+        legal = gone.legal;
+        places = gone.places;
+        due = gone.due;
+      }
 
   step_world : (p : Port) (act : Act) → IsKept p → IsMirror b p → May b p act → IsTrue b p act
       → IsMirror b (step b p act)
@@ -196,13 +257,32 @@ module _ (b : BoardValue) (begin : values_of b [] ≡ start_of_life b)
   step_world p (Resets c) kept is may so =
       command_world b more p is (Reset c) (asked.Reset (record { number = c })) refl
       (reset_legal b p.past c may.0)
+  step_world p (Rouses c) kept is may so =
+      let gone : IsMirror b (gone_to p c Armed) =
+      goes_world b p is c (record (p.row c) { stage = Armed }) (ap place_of may.1)
+      (apart p c kept (λ has. false≢true (sym (ap may_hold may.1) ∙ kept.held.holder c has))) in
+      record {
+        values = gone.values;
+        legal = gone.legal;
+        places = gone.places;
+        due = gone.due;
+      }
+  step_world p (Rises c) kept is may so =
+      rises_world p c kept is may.0 may.1 may.2.1
+  step_world p (Turns c) kept is may so =
+      goes_world b p is c (record (p.row c) { stage = AtDoor }) (ap place_of may.0)
+      (apart p c kept may.1)
   step_world p (Writes c) kept is may so = stays_world b p is c _ refl refl
   step_world p (Opens c) kept is may so = stays_world b p is c _ refl refl
   step_world p (Cuts level place) kept is may so =
       record { values = is.values; legal = is.legal; places = is.places; due = is.due }
   step_world p Restarts kept is may so = first_world b (p.past ∷ p.before) begin is.legal
+  step_world p Reboots kept is may so =
+      onward_world b p may.1.0
+      (are_rebooted b more remembers (some may.0) may.0.some_starts begin may.1.0 may.1.1.1)
+      may.1.1.0 is.legal
 
-  run_world : (acts : List Act) → IsPortRun b acts → AreTrue b acts → IsMirror b (state b acts)
+  pub run_world : (acts : List Act) → IsPortRun b acts → AreTrue b acts → IsMirror b (state b acts)
   unfolding state
   run_world [] run so = first_world b [] begin tt
   run_world (act ∷ acts) run so =

@@ -9,7 +9,8 @@ use Rattle.psci_world_spec.specs.Legal.{IsLegalPast}
 use Rattle.psci_port.specs.Stages.{Entering, executes, has_stopped, may_hold}
 use Rattle.psci_port.specs.Port.{Port, Act, Locks, Unlocks, Calls, Enters, Takes, Finishes}
 use Rattle.psci_port.specs.Port.{TakesUp, Stands, Arms, Sleeps, Delivers, Wakes, Resets, Writes}
-use Rattle.psci_port.specs.Port.{Opens, Cuts, Restarts, stage_at, state, words}
+use Rattle.psci_port.specs.Port.{Rouses, Rises, Turns, Opens, Cuts, Restarts, Reboots, stage_at}
+use Rattle.psci_port.specs.Port.{state, words}
 
 -- Power goes under no core that executes anything, the monitor included.
 pub record NoneCut (b : BoardValue) (p : Port) : Type 0 where
@@ -54,10 +55,14 @@ TakesItsLast p (Sleeps c) = Unit {0}
 TakesItsLast p (Delivers k m) = Unit {0}
 TakesItsLast p (Wakes c) = Unit {0}
 TakesItsLast p (Resets c) = Unit {0}
+TakesItsLast p (Rouses c) = Unit {0}
+TakesItsLast p (Rises c) = Unit {0}
+TakesItsLast p (Turns c) = Unit {0}
 TakesItsLast p (Writes c) = Unit {0}
 TakesItsLast p (Opens c) = Unit {0}
 TakesItsLast p (Cuts level place) = Unit {0}
 TakesItsLast p Restarts = Unit {0}
+TakesItsLast p Reboots = Unit {0}
 
 -- the same of each act of a run
 abbrev pub EachTakesItsLast : BoardValue → List Act → Type 0

@@ -22,7 +22,8 @@ use Rattle.psci_world_spec.specs.declared.said.Record.{Record}
 use Rattle.psci_world_spec.specs.declared.said.Said.{Said}
 use Rattle.psci_world_spec.specs.Histories.{acks}
 use Rattle.psci_world_spec.specs.Legal.{said_by}
-use Rattle.psci_port.specs.Stages.{Stage, Standing, AtDoor, Armed, stage_in, stage_said}
+use Rattle.psci_port.specs.Rebooted.{rebooted}
+use Rattle.psci_port.specs.Stages.{Stage, Standing, AtDoor, Armed, risen, stage_in, stage_said}
 
 -- The state --------------------------------------------------------------------------------------
 
@@ -123,12 +124,19 @@ pub data Act : Type 0 where
   Delivers : (index : ℕ) → (message : MessageValue) → Act
   Wakes : (core : ℕ) → Act
   Resets : (core : ℕ) → Act
+  -- an interrupt ends the WFI of a core, or brings its power back: it is armed again
+  Rouses : (core : ℕ) → Act
+  -- an armed core hears its own wake-up, as the power controller, and comes to its door later
+  Rises : (core : ℕ) → Act
+  Turns : (core : ℕ) → Act
   Writes : (core : ℕ) → Act
   Opens : (core : ℕ) → Act
   -- the power of a domain goes
   Cuts : (level : ℕ) → (place : ℕ) → Act
   -- all is reset, the power controller included, and nobody asked for it
   Restarts : Act
+  -- all but the power controller is, which goes on to its next life
+  Reboots : Act
 
 -- What the power controller leaves ---------------------------------------------------------------
 
@@ -198,6 +206,19 @@ abbrev pub commanded : BoardValue → Port → Event → CtlCall → Port
 commanded b p event call =
     moved b p (effect_of b call (reply b p.values call)) (told b p event call)
 
+-- how many lives there were
+abbrev pub lives_of : Option ℕ → ℕ
+lives_of None = 0
+lives_of (Some life) = life
+
+-- All but the power controller was reset: it goes on to its next life. A firmware that is made anew
+-- then is one that knows of as many lives, each of which its boot core ended (`law_new_life`).
+abbrev pub going_on : BoardValue → Port → Port
+going_on b p = record (cold b (p.past ∷ p.before)) {
+  past = rebooted b (lives_of p.values.life);
+  values = change b Begins p.values;
+}
+
 -- What a core leaves -----------------------------------------------------------------------------
 
 -- of one core there is this
@@ -226,6 +247,25 @@ taking_up r = record r { used = r.opened; stage = stage_in r.door }
 abbrev pub stopping : Stage → Row → Row
 stopping stage r = record r { stopped = r.used; stage = stage }
 
+-- it is elsewhere
+abbrev pub gone_to : Port → ℕ → Stage → Port
+gone_to p c stage = with_row p c (record (p.row c) { stage = stage })
+
+-- it is armed, and its path has power
+abbrev pub roused : BoardValue → Port → ℕ → Port
+roused b p c = record (gone_to p c Armed) {
+  cut = λ level place. if is_on_path b c level place then false else p.cut level place;
+}
+
+-- it hears its own wake-up, as the power controller, and has the lock as before
+abbrev pub woken : BoardValue → Port → ℕ → Port
+woken b p c = commanded b p (Wake c) (asked.Wake (record { number = c }) (words p c))
+
+-- the same, and it is at the stage to which that brings it, with the lock in hand
+abbrev pub rising : BoardValue → Port → ℕ → Port
+rising b p c =
+    record (gone_to (woken b p c) c (risen (stage_at (woken b p c) c))) { lock = p.lock }
+
 -- All acts ---------------------------------------------------------------------------------------
 
 -- what an act leaves
@@ -239,16 +279,20 @@ step b p (Finishes c) = finished p c (p.row c).begun
 step b p (TakesUp c) = with_row p c (taking_up (p.row c))
 step b p (Stands c) = with_row p c (stopping Standing (p.row c))
 step b p (Arms c) = with_row p c (stopping Armed (p.row c))
-step b p (Sleeps c) = with_row p c (record (p.row c) { stage = Standing })
+step b p (Sleeps c) = gone_to p c Standing
 step b p (Delivers k m) = commanded b p (Deliver k) (asked.Deliver m)
-step b p (Wakes c) = commanded b p (Wake c) (asked.Wake (record { number = c }) (words p c))
+step b p (Wakes c) = woken b p c
 step b p (Resets c) = commanded b p (Reset c) (asked.Reset (record { number = c }))
+step b p (Rouses c) = roused b p c
+step b p (Rises c) = rising b p c
+step b p (Turns c) = gone_to p c AtDoor
 step b p (Writes c) = with_row p c (record (p.row c) { door = last_start p.values c })
 step b p (Opens c) =
     with_row p c (record (p.row c) { opened = p.values.starts c; held = false })
 step b p (Cuts level place) =
     record p { cut = λ l q. if l == level && q == place then true else p.cut l q }
 step b p Restarts = cold b (p.past ∷ p.before)
+step b p Reboots = going_on b p
 
 -- the state after these acts, the newest first
 unfoldable pub state : BoardValue → List Act → Port

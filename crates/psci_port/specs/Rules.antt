@@ -1,6 +1,6 @@
 -- The rules of a port, and what it takes its machine to do.
 use Rattle.std.specs.Prelude.{◌≡◌, ℕ, ◌<◌, true, false, ◌==◌, List, [], ◌∷◌, None, Some}
-use Rattle.psci_board.specs.Board.{BoardValue, cores, up}
+use Rattle.psci_board.specs.Board.{BoardValue, IsBoard, cores, up}
 use Rattle.psci_ctl_spec.specs.psci_messages.Message.{AckValue}
 use Rattle.psci_ctl_spec.specs.psci_messages.declared.kind.Kind.TheVariants as kinds
 use Rattle.psci_ctl_spec.specs.psci_messages.declared.start.Start.{Start}
@@ -13,11 +13,12 @@ use Rattle.psci_world_spec.specs.Histories.{acks, sent}
 use Rattle.psci_world_spec.specs.Legal.{asked_firmware}
 use Rattle.psci_world_spec.specs.Lists.{indexed}
 use Rattle.psci_port.specs.Waiting.{stands, waits}
-use Rattle.psci_port.specs.Stages.{Entering, Normal, Leaving, Armed, is_armed, looks}
-use Rattle.psci_port.specs.Stages.{may_hold}
+use Rattle.psci_port.specs.Stages.{Standing, Entering, Normal, Leaving, Armed, Woken, is_armed}
+use Rattle.psci_port.specs.Stages.{looks, may_hold}
 use Rattle.psci_port.specs.Port.{Port, Act, Locks, Unlocks, Calls, Enters, Takes, Finishes}
 use Rattle.psci_port.specs.Port.{TakesUp, Stands, Arms, Sleeps, Delivers, Wakes, Resets, Writes}
-use Rattle.psci_port.specs.Port.{Opens, Cuts, Restarts, stage_at, state, words}
+use Rattle.psci_port.specs.Port.{Rouses, Rises, Turns, Opens, Cuts, Restarts, Reboots, stage_at}
+use Rattle.psci_port.specs.Port.{state, words}
 
 -- this core has the lock, and is inside no call of the firmware
 abbrev pub HasLock : Port → ℕ → Type 0
@@ -35,7 +36,7 @@ NoneArmed b p level place =
 -- What each act waits for.
 abbrev pub May : BoardValue → Port → Act → Type 0
 -- the lock has one holder, who gives it back once its call has ended
-May b p (Locks c) = (p.lock ≡ None) × (may_hold (stage_at p c) ≡ true)
+May b p (Locks c) = (c < cores b) × (p.lock ≡ None) × (may_hold (stage_at p c) ≡ true)
 May b p (Unlocks c) = HasLock p c
 -- the firmware is asked with the lock in hand: by a core of the normal world, by one that took a
 -- start up, with an acknowledgement by any
@@ -59,6 +60,11 @@ May b p (Delivers k m) =
     × (m.kind ≡ kinds.Start → LacksLock p m.core.number)
 May b p (Wakes c) = (c < cores b) × (stands p.values (words p) c ≡ true) × LacksLock p c
 May b p (Resets c) = (c < cores b) × LacksLock p c
+-- but for its own wake-up: a core that stands comes back, hears that with the lock in hand, and
+-- goes to its door once it has given the lock back
+May b p (Rouses c) = (c < cores b) × (stage_at p c ≡ Standing)
+May b p (Rises c) = (c < cores b) × (stage_at p c ≡ Armed) × HasLock p c
+May b p (Turns c) = (stage_at p c ≡ Woken) × LacksLock p c
 -- a start is written before its door is opened for it, and not once that is open
 May b p (Writes c) = ((p.row c).opened == p.values.starts c) ≡ false
 May b p (Opens c) = (p.row c).door ≡ last_start p.values c
@@ -66,6 +72,8 @@ May b p (Opens c) = (p.row c).door ≡ last_start p.values c
 -- below has come to its WFI
 May b p (Cuts level place) = (0 < p.values.depth level place) × NoneArmed b p level place
 May b p Restarts = Unit {0}
+-- in its last life the power controller does not go on
+May b p Reboots = IsBoard b × ((life : ℕ) × ((p.values.life ≡ Some life) × (life < b.lives)))
 
 -- acts each of which waited for what it has to wait for, newest first
 abbrev pub IsPortRun : BoardValue → List Act → Type 0
@@ -90,10 +98,14 @@ IsTrue b p (Sleeps c) = Unit {0}
 IsTrue b p (Delivers k m) = indexed (sent p.past) k ≡ Some m
 IsTrue b p (Wakes c) = Unit {0}
 IsTrue b p (Resets c) = Unit {0}
+IsTrue b p (Rouses c) = Unit {0}
+IsTrue b p (Rises c) = Unit {0}
+IsTrue b p (Turns c) = Unit {0}
 IsTrue b p (Writes c) = Unit {0}
 IsTrue b p (Opens c) = Unit {0}
 IsTrue b p (Cuts level place) = Unit {0}
 IsTrue b p Restarts = Unit {0}
+IsTrue b p Reboots = Unit {0}
 
 -- the same of each act of a run
 abbrev pub AreTrue : BoardValue → List Act → Type 0

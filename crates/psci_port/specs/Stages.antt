@@ -24,6 +24,8 @@ pub data Stage : Type 0 where
   Leaving : Stage
   -- it said that it stands, and still executes: its power goes at its WFI, and no earlier
   Armed : Stage
+  -- it was armed and woke itself: it was started, and has the lock to give back
+  Woken : Stage
 
 -- What holds of a stage --------------------------------------------------------------------------
 
@@ -35,6 +37,7 @@ executes (Entering s) = true
 executes Normal = true
 executes Leaving = true
 executes Armed = true
+executes Woken = true
 
 -- its WFI is still to come
 abbrev pub is_armed : Stage → Bool
@@ -44,6 +47,7 @@ is_armed (Entering s) = false
 is_armed Normal = false
 is_armed Leaving = false
 is_armed Armed = true
+is_armed Woken = false
 
 -- it has said that it stands
 abbrev pub has_stopped : Stage → Bool
@@ -53,6 +57,7 @@ has_stopped (Entering s) = false
 has_stopped Normal = false
 has_stopped Leaving = false
 has_stopped Armed = true
+has_stopped Woken = false
 
 -- it is inside a start that it took up, and has not said that it stands
 abbrev pub is_inside : Stage → Bool
@@ -62,6 +67,7 @@ is_inside (Entering s) = true
 is_inside Normal = true
 is_inside Leaving = true
 is_inside Armed = false
+is_inside Woken = false
 
 -- it may have the lock: from where it took its start up until it stands
 abbrev pub may_hold : Stage → Bool
@@ -71,6 +77,7 @@ may_hold (Entering s) = true
 may_hold Normal = true
 may_hold Leaving = true
 may_hold Armed = true
+may_hold Woken = true
 
 -- it looks at its door
 abbrev pub looks : Stage → Bool
@@ -80,6 +87,7 @@ looks (Entering s) = false
 looks Normal = false
 looks Leaving = false
 looks Armed = false
+looks Woken = false
 
 -- the place of the world's definitions, which know nothing of the monitor
 abbrev pub place_of : Stage → Place
@@ -89,8 +97,19 @@ place_of (Entering s) = Started
 place_of Normal = Running
 place_of Leaving = Stopped
 place_of Armed = Stopped
+place_of Woken = Started
 
 -- What leaves a core where -----------------------------------------------------------------------
+
+-- its own wake-up, if that started it
+abbrev pub risen : Stage → Stage
+risen Standing = Standing
+risen AtDoor = Woken
+risen (Entering s) = Entering s
+risen Normal = Normal
+risen Leaving = Leaving
+risen Armed = Armed
+risen Woken = Woken
 
 -- the start that it reads at its door, if it reads one
 abbrev pub stage_in : Option Start → Stage

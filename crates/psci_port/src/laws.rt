@@ -1,15 +1,18 @@
 //! What holds of each run of a port: each law is the contract of a function that does nothing.
 
-ghost use Rattle.std.specs.Prelude.{List};
+ghost use Rattle.std.specs.Prelude.{◌≡◌, ◌<◌, ℕ, ◌∷◌, List};
 ghost use Rattle.psci_board.specs.Board.{BoardValue, IsBoard};
 ghost use Rattle.psci_port.specs.Kept.{AreLegal, AreSafe, EachTakesItsLast, IsLocked, NoneCut};
 ghost use Rattle.psci_port.specs.Kept.{WordsTell, runs};
 ghost use Rattle.psci_port.specs.Port.{Act, state};
+ghost use Rattle.psci_port.specs.Rebooted.{rebooted};
+ghost use Rattle.psci_port.specs.Resting.{IsAtRest, IsDue, left};
 ghost use Rattle.psci_port.specs.Rules.{AreTrue, IsPortRun};
+ghost use Rattle.psci_world_spec.specs.Histories.{firmware_values};
 
-use psci_board::law_paths;
-use psci_ctl_spec::{law_replies, law_values};
-use psci_headline::{law_controlled, law_safe};
+use psci_board::{law_paths, law_sizes};
+use psci_ctl_spec::{law_limits, law_replies, law_values};
+use psci_headline::{law_never_refused, law_safe};
 
 /// Power goes under no core that executes anything, the monitor included: whatever messages are
 /// delivered, and whatever the firmware answers.
@@ -38,13 +41,37 @@ pub fn law_starts()
 {}
 
 /// What the firmware and the power controller were asked and said is a legal run of the world, from
-/// each cold reset to the next and since the last one; so each was safe at every moment.
+/// each reset that nobody asked for to the next and since the last one; so each was safe at every
+/// moment. After a reset that the power controller outlives, the run follows as many lives that
+/// their boot core ended at once. The firmware of these has the last one as its life: one that is
+/// made anew answers the next entry as it does (`law_new_life`).
 pub fn law_port()
     ensures legal { (b : BoardValue) (acts : List Act) → IsPortRun b acts → AreTrue b acts
         → AreLegal b (runs (state b acts)) }
     ensures safe { (b : BoardValue) (acts : List Act) → IsBoard b → IsPortRun b acts
         → AreTrue b acts → AreSafe b (runs (state b acts)) }
+    ensures anew { (b : BoardValue) (life : ℕ) → IsBoard b → life < b.lives
+        → (firmware_values b (rebooted b life)).life ≡ life }
 {
     law_values();
+    psci_headline::law_values();
+    law_sizes();
     law_safe();
+}
+
+/// Nothing waits for ever inside a port: each act that is due leaves less to do, so that no run of
+/// such acts is longer than what there is. Where none is due the port is at rest, and what waits
+/// there, waits for a core that is in the normal world.
+pub fn law_rests()
+    ensures lowers { (b : BoardValue) (acts : List Act) (act : Act) → IsBoard b
+        → IsPortRun b acts → AreTrue b acts → IsDue b (state b acts) act
+        → left b (state b (act ∷ acts)) < left b (state b acts) }
+    ensures rests { (b : BoardValue) (acts : List Act) → IsBoard b → IsPortRun b acts
+        → ((act : Act) → IsDue b (state b acts) act → ⊥) → IsAtRest b (state b acts) }
+{
+    law_values();
+    psci_headline::law_values();
+    law_sizes();
+    law_limits();
+    law_never_refused();
 }

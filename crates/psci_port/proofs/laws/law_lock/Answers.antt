@@ -1,4 +1,4 @@
-use Rattle.psci_port.proofs.Keeping.{run_locked}
+use Rattle.psci_port.proofs.Running.{run_locked}
 use Rattle.psci_port.proofs.laws.law_lock.Goals as goal
 
 pub returns : goal.returns

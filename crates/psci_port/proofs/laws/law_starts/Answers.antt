@@ -1,4 +1,4 @@
-use Rattle.psci_port.proofs.Keeping.{run_takes, run_words}
+use Rattle.psci_port.proofs.Running.{run_takes, run_words}
 use Rattle.psci_port.proofs.laws.law_starts.Goals as goal
 
 pub returns : goal.returns

@@ -1,0 +1,100 @@
+-- Worked examples: a core that is armed carries out what there is with the lock in hand, its own
+-- Down, what another core left of one, and its own wake-up.
+use Rattle.std.proofs.Common.{◌≡◌, ◌∷◌, ◌++◌, [], false, refl, List, None, Some}
+use Rattle.psci_port.specs.Stages.{AtDoor, Armed, Woken}
+use Rattle.psci_port.specs.Port.{Act, Locks, Unlocks, Finishes, Stands, Arms, Sleeps, Cuts, Rouses}
+use Rattle.psci_port.specs.Port.{Rises, Turns}
+use Rattle.psci_port.proofs.Playing.{Powered, after, asks, comes, delivers, door, failing, off_3}
+use Rattle.psci_port.proofs.Playing.{off_called, on_3, playing}
+use Rattle.psci_port.proofs.PortRows.{shown}
+
+-- a core that is armed loses its power before its WFI, and so does its cluster
+armed_and_cut : failing (off_called ++ (Arms 3 ∷ delivers 1 ∷ Cuts 0 3 ∷ [])) ≡ Powered ∷ []
+unfolding playing
+armed_and_cut = refl
+
+armed_below_a_cut : failing (off_called ++ (Arms 3 ∷ delivers 1 ∷ Cuts 1 1 ∷ []))
+    ≡ Powered ∷ []
+unfolding playing
+armed_below_a_cut = refl
+
+-- it may have its Down carried out by itself, with the lock in hand, and sleep then
+armed_and_asleep : failing (off_called
+    ++ (Arms 3 ∷ delivers 1 ∷ Unlocks 3 ∷ Sleeps 3 ∷ Cuts 0 3 ∷ Cuts 1 1 ∷ [])) ≡ []
+unfolding playing
+armed_and_asleep = refl
+
+-- the same of what another core left of its Down: core 3 was the last one of its cluster, and
+-- core 2 had not stood
+abbrev leaves_its_cluster : List Act
+leaves_its_cluster = on_3 ++ door 3 ++ comes 3
+    ++ (Locks 0 ∷ asks 0 0xc4000003 0x100 0x40002000 1 ∷ Finishes 0 ∷ Unlocks 0 ∷ delivers 1 ∷ [])
+    ++ door 2 ++ comes 2
+    ++ (Locks 2 ∷ asks 2 0x84000002 0 0 0 ∷ Finishes 2 ∷ Unlocks 2 ∷ [])
+    ++ (Locks 3 ∷ asks 3 0x84000002 0 0 0 ∷ Finishes 3 ∷ Unlocks 3 ∷ Stands 3 ∷ delivers 3 ∷ [])
+
+-- core 2 carries out its own Down, and then the rest of that one
+abbrev carried_out_by_2 : List Act
+carried_out_by_2 = leaves_its_cluster ++ (Locks 2 ∷ Arms 2 ∷ delivers 2 ∷ delivers 3 ∷ [])
+
+the_cluster_is_left : ((after leaves_its_cluster).values.depth 0 3 ≡ 3)
+    × ((after leaves_its_cluster).values.depth 1 1 ≡ 0)
+unfolding playing
+the_cluster_is_left = (refl, refl)
+
+and_carried_out : (after carried_out_by_2).values.depth 1 1 ≡ 3
+unfolding playing
+and_carried_out = refl
+
+cut_by_a_leftover : failing (carried_out_by_2 ++ (Cuts 1 1 ∷ [])) ≡ Powered ∷ []
+unfolding playing
+cut_by_a_leftover = refl
+
+cut_at_its_wait : failing (carried_out_by_2 ++ (Unlocks 2 ∷ Sleeps 2 ∷ Cuts 1 1 ∷ [])) ≡ []
+unfolding playing
+cut_at_its_wait = refl
+
+-- Its own wake-up --------------------------------------------------------------------------------
+
+-- before it carried its Down out, or after
+rises_with_the_lock : shown (off_called ++ (Arms 3 ∷ Rises 3 ∷ []))
+    ≡ record { stage = Woken; depth = 0; cut = false; lock = Some 3 }
+unfolding playing
+rises_with_the_lock = refl
+
+rises_after_its_down : shown (off_called ++ (Arms 3 ∷ delivers 1 ∷ Rises 3 ∷ []))
+    ≡ record { stage = Woken; depth = 0; cut = false; lock = Some 3 }
+unfolding playing
+rises_after_its_down = refl
+
+turns_to_its_door : shown (off_called ++ (Arms 3 ∷ delivers 1 ∷ Rises 3 ∷ Unlocks 3 ∷ Turns 3 ∷ []))
+    ≡ record { stage = AtDoor; depth = 0; cut = false; lock = None }
+unfolding playing
+turns_to_its_door = refl
+
+-- and enters by its next start; it parks, since nobody asked it on
+comes_of_itself : failing (off_called
+    ++ (Arms 3 ∷ delivers 1 ∷ Rises 3 ∷ Unlocks 3 ∷ Turns 3 ∷ []) ++ door 3 ++ comes 3) ≡ []
+unfolding playing
+comes_of_itself = refl
+
+-- it comes back out of its wait, in the dark: it is armed, and its path has power though it is down
+abbrev roused : List Act
+roused = off_3 ++ (delivers 1 ∷ Cuts 0 3 ∷ Cuts 1 1 ∷ Rouses 3 ∷ [])
+
+comes_back_armed : shown roused ≡ record { stage = Armed; depth = 3; cut = false; lock = None }
+unfolding playing
+comes_back_armed = refl
+
+nothing_fails_then : failing roused ≡ []
+unfolding playing
+nothing_fails_then = refl
+
+cut_once_more : failing (roused ++ (Cuts 1 1 ∷ [])) ≡ Powered ∷ []
+unfolding playing
+cut_once_more = refl
+
+rises_in_the_dark : shown (roused ++ (Locks 3 ∷ Rises 3 ∷ []))
+    ≡ record { stage = Woken; depth = 0; cut = false; lock = Some 3 }
+unfolding playing
+rises_in_the_dark = refl
