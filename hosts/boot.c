@@ -126,7 +126,7 @@ static void on_start(unsigned core, uint32_t life, uint32_t number, uint32_t cau
     psci_stop(&firmware, core, 0, &stop);
     post(&answer.message);
     unlock();
-    if (cause == PSCI_BOOT) /* whoever boots wants this in x0: Linux its device tree */
+    if (cause == PSCI_CAUSE_BOOT) /* whoever boots wants this in x0: Linux its device tree */
         answer.context = DEVICE_TREE;
     obey(core, &answer, &stop);
 }

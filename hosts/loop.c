@@ -65,7 +65,7 @@ static void stop_all(void) {
 
 static void begin_life(void) {
     stop_all();
-    start(0, 1, PSCI_BOOT);
+    start(0, 1, PSCI_CAUSE_BOOT);
     life++;
 }
 
@@ -269,7 +269,7 @@ static void deliver(uint64_t k) {
 /* A wake-up of a core that is stopped, or a reset of any. */
 static void kick(unsigned core, uint32_t cause) {
     struct psci_ctl_answer answer = {0};
-    if (cause == PSCI_RESET)
+    if (cause == PSCI_CAUSE_RESET)
         psci_ctl_reset(&controller, core, &answer);
     else if (cores[core].place == STOPPED)
         psci_ctl_wake(&controller, core, psci_ctl_starts(&controller, core), &answer);
@@ -296,7 +296,7 @@ static void event(char *line) {
     else if (*line == 'd')
         deliver(number);
     else
-        kick(number, *line == 'w' ? PSCI_WAKE : PSCI_RESET);
+        kick(number, *line == 'w' ? PSCI_CAUSE_WAKE : PSCI_CAUSE_RESET);
     putchar('\n');
     poll_all();
     if (readings)

@@ -55,7 +55,7 @@ static unsigned place_of(const struct psci_frame *message) {
     struct psci_message fields;
     if (psci_decode(&firmware, message->bytes, PSCI_FRAME_LEN, &fields) != PSCI_USED)
         fail("a message is no frame", 0);
-    return fields.kind <= PSCI_START ? fields.core : SYSTEM;
+    return fields.kind <= PSCI_MESSAGE_START ? fields.core : SYSTEM;
 }
 
 /* What follows on an answer: the message goes into the mailbox, then the core goes on or not. */

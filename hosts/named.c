@@ -48,7 +48,7 @@ static void begin_life(void) {
     if (psci_core_of(&machine, words.boot) != 0)
         fail("the boot core has another number");
     stop_all();
-    start(0, 1, PSCI_BOOT);
+    start(0, 1, PSCI_CAUSE_BOOT);
     life++;
 }
 

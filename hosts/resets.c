@@ -30,7 +30,10 @@ static void hold(bool held) {
     sigprocmask(held ? SIG_BLOCK : SIG_UNBLOCK, &alarm, NULL);
 }
 
-/* A core calls and reads until the reset cuts it: a reader that is cut leaves the place empty. */
+/* Whether a core has the lock; one that is cut keeps it. */
+static volatile bool taken;
+
+/* A core calls and reads, each time under the lock, until the reset cuts it. */
 static void call_until_cut(unsigned core, long microseconds, bool is_waited_for) {
     struct itimerval after = {{0, 0}, {0, microseconds}};
     if (sigsetjmp(reset, 1))
@@ -39,18 +42,20 @@ static void call_until_cut(unsigned core, long microseconds, bool is_waited_for)
     for (;;) {
         if (is_waited_for)
             hold(true);
+        taken = true;
         smc(core, INFO, word_of(0), 0, 0);
-        for (unsigned level = 0; level < 4; level++)
+        for (unsigned level = 0; level < 3; level++)
             psci_status(&firmware, level, 0);
+        taken = false;
         if (is_waited_for)
             hold(false);
     }
 }
 
-/* So many lives, each ended by a reset while another core is in a call. In each the firmware is made
- * anew, and the power controller counts on. */
+/* So many lives, each ended by a reset while another core is in a call. In each the lock is free again, the
+ * firmware is made anew, so that it knows of no life, and the power controller counts on. */
 static void try_cuts(void) {
-    unsigned empty = 0, entered = 0;
+    unsigned held = 0, empty = 0, entered = 0, made = 0;
     struct psci_poller poller;
     struct sigaction on_alarm = {.sa_handler = cut};
     sigaction(SIGALRM, &on_alarm, NULL);
@@ -65,20 +70,23 @@ static void try_cuts(void) {
         entered += enter(1) == PSCI_ENTER;
         smc(0, SYSTEM_RESET, 0, 0, 0);
         call_until_cut(1, 20 + turn % 50, false);
-        empty += smc(1, INFO, 0, 0, 0) == PSCI_NO_FIRMWARE && smc(0, INFO, 0, 0, 0) == PSCI_NO_FIRMWARE;
+        held += taken;
+        taken = false;
+        empty += !firmware.full || !controller.full;
         psci_ctl_deliver(&controller, box[SYSTEM].bytes, PSCI_FRAME_LEN, &done);
         if (done.what != PSCI_CTL_RESTART)
             fail("no reset", done.what);
         memset(box, 0, sizeof box);
         open_anew(&two_by_two);
+        made += psci_life(&firmware) == 0;
     }
-    printf("resets in mid-call: some left an empty place: %d; of %d lives, %u cores entered\n", empty > 0,
-           RESETS, entered);
+    printf("resets in mid-call: some left the lock taken: %d, empty places: %u; of %d lives, %u cores entered, and %u "
+           "times a firmware was made anew\n", held > 0, empty, RESETS, entered, made);
 }
 
 /* The same where the firmware's memory outlives the resets: it is kept, and they take its lock first. */
 static void try_kept(void) {
-    unsigned empty = 0, entered = 0;
+    unsigned held = 0, entered = 0;
     cold_reset(&two_by_two);
     for (unsigned turn = 1; turn <= RESETS; turn++) {
         entered += enter(0) == PSCI_ENTER && psci_life(&firmware) == turn;
@@ -87,13 +95,14 @@ static void try_kept(void) {
         entered += enter(1) == PSCI_ENTER;
         smc(0, SYSTEM_RESET, 0, 0, 0);
         call_until_cut(1, 20 + turn % 50, true);
-        empty += smc(1, INFO, 0, 0, 0) == PSCI_NO_FIRMWARE;
+        held += taken;
+        taken = false;
         deliver(SYSTEM);
         memset(box, 0, sizeof box);
         memset(runs, 0, sizeof runs);
     }
-    printf("resets that take the lock first: some left an empty place: %d; of %d lives, %u cores entered\n",
-           empty > 0, RESETS, entered);
+    printf("resets that take the lock first: some left the lock taken: %d; of %d lives, %u cores entered\n", held > 0,
+           RESETS, entered);
 }
 
 /* Before the first entry of its life a new firmware answers no call, and takes nothing. */

@@ -116,7 +116,7 @@ static void begin(unsigned core) {
     if (enter(core) != PSCI_ENTER)
         fail("a core did not enter", said.what);
     cpus[core].big_endian = cpus[core].entry_big_endian;
-    cpus[core].x0 = start.cause == PSCI_BOOT ? device_tree : said.context;
+    cpus[core].x0 = start.cause == PSCI_CAUSE_BOOT ? device_tree : said.context;
     printf("entry: core %u at 0x%" PRIx64 ", context 0x%" PRIx64 ", x0 0x%" PRIx64 ", big-endian %d\n", core,
            said.address, said.context, cpus[core].x0, cpus[core].big_endian);
 }
@@ -221,7 +221,7 @@ static uint32_t stands[CORES];
 static bool may_deliver(unsigned place) {
     struct psci_message message;
     psci_decode(&firmware, box[place].bytes, PSCI_FRAME_LEN, &message);
-    return message.kind != PSCI_DOWN || message.number != psci_ctl_starts(&controller, message.core)
+    return message.kind != PSCI_MESSAGE_DOWN || message.number != psci_ctl_starts(&controller, message.core)
         || stands[message.core] == message.number;
 }
 

@@ -53,7 +53,7 @@ static void *run_core(void *turns) {
     for (uint32_t number = 1; number <= *(uint32_t *)turns; number++) {
         wait_for(&opened, number); /* the reset vector */
         take_lock();
-        psci_enter(&firmware, 0, 1, number, number == 1 ? PSCI_BOOT : PSCI_WAKE, &answer);
+        psci_enter(&firmware, 0, 1, number, number == 1 ? PSCI_CAUSE_BOOT : PSCI_CAUSE_WAKE, &answer);
         give_lock();
         if (answer.what != PSCI_ENTER)
             fail("the core did not enter", answer.what);

@@ -60,7 +60,7 @@ struct psci_beside_peer {
     void (*open)(void *self, const struct psci_beside_board *);
     /* A core calls. */
     void (*call)(void *self, uint32_t core, const uint64_t x[4], struct psci_beside_did *);
-    /* A core enters, by CPU_ON (PSCI_ON), out of a suspend (PSCI_WAKE), or reset (PSCI_RESET). */
+    /* A core enters, by CPU_ON (PSCI_CAUSE_ON), out of a suspend (PSCI_CAUSE_WAKE), or reset (PSCI_CAUSE_RESET). */
     void (*enter)(void *self, uint32_t core, uint32_t cause, struct psci_beside_did *);
     /* 0 ON, 1 OFF, 2 ON_PENDING. */
     uint32_t (*status)(void *self, uint32_t core);
@@ -96,9 +96,10 @@ struct psci_beside_profile {
     struct psci_beside_state states[PSCI_BESIDE_MOST];
 };
 
-/* A difference. `key` is its group: function, mode, cause, and what both did, with the states that were told.
- * The cause is what is left of the call once all is taken out of it that doesn't matter; a side that would
- * have answered a call without its one odd argument alike is said to do "as without it". */
+/* A difference. `key` is its group: function, mode, cause, and what both did, with the states that were told;
+ * where these hang on it, also how awake the cores are beside the caller. The cause is what is left of the call
+ * once all is taken out of it that doesn't matter; a side that would have answered a call without its one odd
+ * argument alike is said to do "as without it". */
 struct psci_beside_difference {
     struct psci_beside_event event;
     const char *function; /* the name of the function that was called; null of another event or function */

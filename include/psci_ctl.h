@@ -20,7 +20,7 @@ struct psci_ctl_place {
 /* What the power hardware does next, before the acknowledgement goes back. From PSCI_CTL_NO_PLACE
  * on the call was refused, and nothing changed; other refusals have the names of psci.h:
  * PSCI_NO_CORE, and PSCI_FRAME_LENGTH to PSCI_FRAME_LEVEL. */
-enum {
+enum psci_ctl_act {
     PSCI_CTL_NOTHING = 0, /* nothing: what came is ignored, or came too late */
     PSCI_CTL_START = 1,   /* the core of `start` is powered up, with all above it */
     PSCI_CTL_SWITCH = 2,  /* so many domains go to their depths, which may be none */
@@ -31,12 +31,12 @@ enum {
 };
 
 /* How deep a domain is. */
-enum { PSCI_CTL_ON = 0, PSCI_CTL_STANDBY = 1, PSCI_CTL_RETENTION = 2, PSCI_CTL_POWER_DOWN = 3 };
+enum psci_depth { PSCI_CTL_ON = 0, PSCI_CTL_STANDBY = 1, PSCI_CTL_RETENTION = 2, PSCI_CTL_POWER_DOWN = 3 };
 
 /* The start that a core finds, for psci_enter. Zeros are none: a start has a number from 1 on. */
 struct psci_ctl_start {
     uint16_t core;
-    uint32_t life, number, cause; /* PSCI_BOOT to PSCI_RESET */
+    uint32_t life, number, cause; /* PSCI_CAUSE_BOOT to PSCI_CAUSE_RESET */
 };
 
 /* A core's own domain at level 0, or a power domain above it, counted from 0 from left to right. */

@@ -75,6 +75,43 @@ c_archive() {
     for file in "$archive" "$plain" "$aligned"; do measured "$file"; done
 }
 
+# marked FILE: an archive says that it was not proved
+marked() { nm --defined-only "$1" 2> /dev/null | grep -q " psci_unproved$"; }
+
+# archives before any proof: the same calls and registers, by their symbol told from proved ones, also in a record
+c_unproved() {
+    local file folder=out/lib/aarch64-unproved
+    has_cc "unproved archives" && has_python "unproved archives" || return
+    for file in "--target aarch64" ""; do
+        # shellcheck disable=SC2086
+        if ./psci prove lib --unproved $file < /dev/null > "$work/out" 2>&1; then pass; else
+            fail "./psci prove lib --unproved $file"
+            tail -n 5 "$work/out"
+            return
+        fi
+    done
+    if (cd "$folder" && sha256sum --quiet -c SHA256SUMS); then pass; else fail "$folder/SHA256SUMS"; fi
+    for file in "$plain" "$aligned" "$archive"; do
+        if marked "${file%/*}-unproved/${file##*/}" && ! marked "$file"; then pass; else fail "psci_unproved of $file"; fi
+        nm --defined-only "$file" | awk '$2 == "T" && $3 ~ /^psci_/ { print $3 }' | sort > "$work/lines"
+        nm --defined-only "${file%/*}-unproved/${file##*/}" | awk '$2 == "T" && $3 ~ /^psci_/ { print $3 }' | sort > "$work/out"
+        answers "the calls of ${file%/*}-unproved/${file##*/}"
+    done
+    if tests/plain-code "$folder/libpsci_ffi-strict-align.a" --aligned > "$work/out" 2>&1; then pass; else
+        fail "tests/plain-code $folder/libpsci_ffi-strict-align.a --aligned"
+    fi
+    for file in out/lib/x86_64-unproved/libpsci_ffi.a "$archive"; do
+        cc -std=c11 -O2 -Wall -Wextra -Werror -Iinclude -o "$work/marks" tests/programs/marks.c hosts/pool.c -Ihosts \
+            "$file" 2> "$work/err" && "$work/marks" > "$work/record" || fail "tests/programs/marks.c over $file"
+        cat tests/records/short.record >> "$work/record"
+        ./psci compare "$work/record" > "$work/out" 2>&1 || fail "a record over $file"
+        grep -c "the port was linked with a library that has no proof" "$work/out"
+    done > "$work/told"
+    if [ "$(tr '\n' ' ' < "$work/told")" = "1 0 " ]; then pass; else
+        fail "what ./psci compare says of an archive without a proof: $(tr '\n' ' ' < "$work/told")"
+    fi
+}
+
 # refused NAME WORD..: tests/plain-code does not let this pass
 refused() {
     local name=$1
@@ -245,7 +282,8 @@ proving_lib() {
     done
     printf '%s\n' aarch64/{SHA256SUMS,libpsci_ffi-strict-align.a,libpsci_ffi.a} \
         x86_64/{SHA256SUMS,libpsci_ffi.a} > "$work/lines"
-    printf '%s\n' {aarch64,x86_64}/{psci,psci_ctl}.h >> "$work/lines"
+    printf '%s\n' {aarch64,x86_64}/{psci,psci_ctl,psci_heap}.h {aarch64/psci-strict-align,{aarch64,x86_64}/psci}.pc \
+        >> "$work/lines"
     LC_ALL=C sort -o "$work/lines" "$work/lines"
     (cd "$fresh/out/lib" && find . -type f | sed 's|^\./||' | LC_ALL=C sort) > "$work/out"
     answers "the files of ./psci prove lib"
@@ -262,7 +300,7 @@ END
         # shellcheck disable=SC2086
         lib_of "$kit" "$fresh" $words
         expect "./psci prove lib $words" 2 \
-            'psci: expected `psci prove [all | lib [--target MACHINE]]`; `psci prove --help` says more'
+            'psci: expected `psci prove [all | lib [--target MACHINE] [--unproved]]`; `psci prove --help` says more'
     done
 }
 
@@ -301,11 +339,27 @@ from_plus_plus() {
     done
 }
 
-# what no script comes to, of the firmware and of the power controller; and calls from C++
+# a program that is built as pkg-config says of the archive beside it
+by_pkg_config() {
+    local words
+    command -v pkg-config > /dev/null || { skip "calls by pkg-config" pkg-config; return; }
+    words=$(PKG_CONFIG_PATH=${archive%/*} pkg-config --cflags --libs "psci >= 1.0.0") &&
+        cc -std=c11 -Wall -Wextra -Werror -Ihosts -o "$work/by" tests/programs/marks.c hosts/pool.c $words 2> "$work/err" &&
+        "$work/by" > "$work/out" && [ ! -s "$work/out" ] && pass || fail "calls by pkg-config"
+}
+
+# what no script comes to, of the firmware and of the power controller; calls from C++, and by pkg-config
 c_calls() {
     local name
     from_plus_plus
+    by_pkg_config
     has_cc "calls from C" || return
+    if cc -std=c11 -O2 -Wall -Wextra -Werror -Iinclude -o "$work/heaps" tests/programs/heaps.c "$archive" 2> "$work/err"; then
+        tested "$work/heaps"
+    else
+        fail "tests/programs/heaps.c"
+        head -n 5 "$work/err"
+    fi
     for name in library controller; do
         build_c "$name" "tests/programs/$name.c" || return
         tested "$work/$name"
@@ -351,7 +405,7 @@ c_languages() {
     local header line fresh=$work/headers
     mkdir -p "$fresh"
     while read -r line; do
-        for header in psci.h psci_ctl.h psci_beside.h; do
+        for header in psci.h psci_ctl.h psci_heap.h psci_beside.h; do
             # shellcheck disable=SC2086
             if reads include "$header" $line; then pass; else
                 fail "$header by $line"
@@ -379,7 +433,8 @@ c_header() {
     fi
     c_languages
     unlike psci.h 's/BAD_BOOT = 6/BAD_BOOT = 7/; s/BAD_LIMIT = 7/BAD_LIMIT = 6/' \
-        's/PSCI_WAKE = 2, PSCI_RESET = 3/PSCI_WAKE = 3, PSCI_RESET = 2/' 's/PSCI_STOP = 1/PSCI_STOP = 2/' \
+        's/CAUSE_WAKE = 2, PSCI_CAUSE_RESET = 3/CAUSE_WAKE = 3, PSCI_CAUSE_RESET = 2/' 's/PSCI_STOP = 1/PSCI_STOP = 2/' \
+        's/STATUS_OFF = 1, PSCI_STATUS_PENDING = 2/STATUS_OFF = 2, PSCI_STATUS_PENDING = 1/' 's/LIBRARY 0x010000/LIBRARY 0x010001/' \
         's/life, uint32_t number,/number, uint32_t life,/' 's/uint64_t x1, uint64_t x2/uint64_t x2, uint64_t x1/' \
         's/uint32_t level, uint16_t index/uint16_t index, uint32_t level/' 's/uint8_t kind; /uint16_t kind; /' \
         's/uint16_t core, uint64_t x0, struct psci_stop/uint64_t x0, uint16_t core, struct psci_stop/' \
@@ -460,7 +515,7 @@ c_rules() {
     unheeded rules 's/<= 0xc400001f/<= 0xc400000f/' 's/|| word == 0x80000001;/;/' \
         's/features || standby ||/features ||/' 's/ && said.code == 0)/)/' \
         's/x0 == SUSPEND && what == PSCI_STOP/false/' \
-        's/start.cause == PSCI_BOOT ? device_tree : said.context/said.context/' \
+        's/start.cause == PSCI_CAUSE_BOOT ? device_tree : said.context/said.context/' \
         's/|| stands\[message.core\] == message.number/|| stands[message.core] != 0/' \
         's/ || message.number != psci_ctl_starts(&controller, message.core)//' \
         's/^    if (pending)$/    if (false)/' '/a later try/d'

@@ -7,8 +7,11 @@ are built of it:
     aarch64   libpsci_ffi.a                of general registers alone
               libpsci_ffi-strict-align.a   of these, and each access is aligned as it is wide
 
-They come into out/lib/MACHINE/, with the headers of what is in them and with SHA256SUMS, which
-`sha256sum -c` reads. The same sources give the same bytes.
+They come into out/lib/MACHINE/, with the headers of what is in them, with a file of each for
+pkg-config and with SHA256SUMS, which `sha256sum -c` reads. The same sources give the same bytes.
+
+Before any proof the same sources come into out/lib/MACHINE-unproved/, by hosts/beside/archives, in a
+minute. Such an archive has the symbol psci_unproved, by which a port says so in its record.
 
 The compiler has no words for the flags of an archive: it calls the clang of its toolchain's folder.
 So an archive with flags has a folder of its own, of links to what the toolchain has, where clang is
@@ -17,8 +20,11 @@ a script of one line that calls the toolchain's with these flags before all word
 import glob
 import hashlib
 import os
+import re
 import shutil
+import subprocess
 import sys
+import tempfile
 from collections import namedtuple
 
 import repo
@@ -26,7 +32,7 @@ from sources import KIT
 
 CRATE = "psci_ffi"
 # what is declared there is in the archives; include/psci_beside.h goes with hosts/beside/beside.c
-HEADERS = ("psci.h", "psci_ctl.h")
+HEADERS = ("psci.h", "psci_ctl.h", "psci_heap.h")
 
 # A file of the library, and the flags of clang that it is compiled with besides those of a build.
 Archive = namedtuple("Archive", "file flags")
@@ -46,16 +52,21 @@ ARCHIVES = {
 }
 
 
-def machine_of(words):
-    """The machine that these words ask for: --target MACHINE, or none for x86_64."""
+# what hosts/beside/archives calls these archives where they are not proved
+UNPROVED = {"x86_64": ("unchecked",), "aarch64": ("aarch64", "aarch64-strict-align")}
+
+
+def asked(words):
+    """The machine that these words ask for, by --target MACHINE, or none for x86_64; and whether --unproved is there."""
+    is_unproved, words = "--unproved" in words, [it for it in words if it != "--unproved"]
     words = [part for word in words for part in word.split("=", 1)]
     if not words:
-        return "x86_64"
+        return "x86_64", is_unproved
     if len(words) != 2 or words[0] != "--target" or words[1] not in ARCHIVES:
         names = " or ".join(ARCHIVES)
-        sys.stderr.write(f"psci: prove lib takes --target {names}, and no other word\n")
+        sys.stderr.write(f"psci: prove lib takes --target {names} and --unproved, and no other word\n")
         sys.exit(2)
-    return words[1]
+    return words[1], is_unproved
 
 
 def toolchain(folder, flags):
@@ -72,6 +83,17 @@ def toolchain(folder, flags):
         file.write(f"#!/bin/sh\nexec '{kit}/bin/clang' {' '.join(flags)} \"$@\"\n")
     os.chmod(f"{folder}/bin/clang", 0o755)
     return folder
+
+
+def pkg_config(archive, headers="${pcfiledir}", libraries="${pcfiledir}"):
+    """The file that tells pkg-config of an archive, and its name: headers and archive are in these folders."""
+    library = archive.file.removeprefix("lib").removesuffix(".a")
+    name = library.replace("psci_ffi", "psci")
+    version = re.search(r"PSCI_VERSION_OF_LIBRARY 0x(..)(..)(..)", repo.text_of(f"{repo.TOP}/include/psci.h"))
+    return f"{name}.pc", "\n".join([
+        f"Name: {name}", "Description: firmware and power controller of PSCI 1.1",
+        f"Version: {'.'.join(str(int(it, 16)) for it in version.groups())}",
+        f"Cflags: -I{headers}", f"Libs: -L{libraries} -l{library}", ""])
 
 
 def sums(folder):
@@ -99,7 +121,7 @@ def check(proving, words, checked):
 
 def build(proving, machine):
     """Builds the archives of a machine, once what they stand on is proved."""
-    sources, top = proving.sources, proving.sources.crates.top
+    sources = proving.sources
     words = [*sources.words(CRATE, "src/lib.rt"), "--crate-type", "staticlib",
              "--target", f"{machine}-unknown-linux-gnu"]
     checked = f"{os.path.dirname(sources.place(CRATE))}/checked-{machine}"
@@ -113,9 +135,27 @@ def build(proving, machine):
         proving.call(CRATE, [f"{KIT}/bin/rattle", "build", *words, "--crate-checked", checked,
                              "--toolchain", tools, "--backend", "llvm",
                              "-o", f"{made}/{archive.file}"])
+    hand_out(machine, made)
+
+
+def hand_out(machine, made, more=""):
+    """Puts what was made of the archives of a machine into its folder of out/lib, with what goes with them."""
     for header in HEADERS:
-        shutil.copyfile(f"{top}/include/{header}", f"{made}/{header}")
+        shutil.copyfile(f"{repo.TOP}/include/{header}", f"{made}/{header}")
+    repo.write(made, dict(pkg_config(it) for it in ARCHIVES[machine]))
     sums(made)
-    folder = f"{top}/out/lib/{machine}"
+    folder = f"{repo.TOP}/out/lib/{machine}{more}"
     shutil.rmtree(folder, ignore_errors=True)
     shutil.copytree(made, folder)
+
+
+def unproved(machine):
+    """Compiles the archives of a machine before any proof."""
+    kinds = UNPROVED[machine]
+    with tempfile.TemporaryDirectory(prefix="psci-unproved-") as made:
+        if subprocess.run([f"{repo.TOP}/hosts/beside/archives", "--unproved", *kinds], stdout=subprocess.DEVNULL,
+                          stdin=subprocess.DEVNULL, check=False).returncode:
+            sys.exit(1)
+        for kind, archive in zip(kinds, ARCHIVES[machine]):
+            shutil.copyfile(f"{repo.TOP}/out/beside/archives/{kind}.a", f"{made}/{archive.file}")
+        hand_out(machine, made, "-unproved")

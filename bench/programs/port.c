@@ -50,7 +50,7 @@ static void *turns(void *which) {
     uint16_t core = (uint16_t)(uintptr_t)which;
     for (unsigned long k = 0; k < pairs_of_each; k++)
         if (smc(core, 0xc4000001, 0x02010333, 0x40001000, 7) != PSCI_STOP
-            || enter(core, PSCI_WAKE) != PSCI_ENTER)
+            || enter(core, PSCI_CAUSE_WAKE) != PSCI_ENTER)
             exit(1);
     return NULL;
 }
@@ -74,10 +74,10 @@ static void open_cores(unsigned count) {
     memset(starts, 0, sizeof starts);
     if (psci_open(&firmware, (const uint8_t *)board, strlen(board)) != PSCI_OPENED)
         exit(1);
-    enter(0, PSCI_BOOT);
+    enter(0, PSCI_CAUSE_BOOT);
     for (uint16_t core = 1; core < count; core++) {
         smc(0, 0xc4000003, words[core], 0x40001000, 7);
-        enter(core, PSCI_ON);
+        enter(core, PSCI_CAUSE_ON);
     }
 }
 

@@ -145,7 +145,7 @@ static void faults(void) {
     want("a text with a fault", PSCI_BOARD_BAD_LIMIT,
          open_text("2 exec 0x0-0x8 boot 0x0 starts 0 lives 1"));
     want("still on", PSCI_CTL_ON, psci_ctl_depth(&place.it, 0, 0));
-    want("still its first start", 1 << 16 | 1 << 8 | PSCI_BOOT, found(0));
+    want("still its first start", 1 << 16 | 1 << 8 | PSCI_CAUSE_BOOT, found(0));
 }
 
 /* A life with each answer, up to its end. */
@@ -153,7 +153,7 @@ static void lives(void) {
     message(2, 3, 1, 0, 0);
     want("core 3 is started", PSCI_CTL_START, deliver(PSCI_FRAME_LEN));
     want("its core", 3, answer.it.start.core);
-    want("its start", 1 << 16 | 1 << 8 | PSCI_ON, found(3));
+    want("its start", 1 << 16 | 1 << 8 | PSCI_CAUSE_ON, found(3));
     want("late", PSCI_CTL_NOTHING, deliver(PSCI_FRAME_LEN));
     want("said to be stale", 0x22, answer.it.ack.bytes[2]);
     message(1, 3, 1, 1, 2);
@@ -164,18 +164,18 @@ static void lives(void) {
     want("no such cluster", PSCI_NO_CORE, psci_ctl_depth(&place.it, 1, 2));
     want("no such level", PSCI_NO_CORE, psci_ctl_depth(&place.it, 3, 0));
     want("it is woken", PSCI_CTL_START, wake(3, 1));
-    want("by its next start", 1 << 16 | 2 << 8 | PSCI_WAKE, found(3));
+    want("by its next start", 1 << 16 | 2 << 8 | PSCI_CAUSE_WAKE, found(3));
     want("woken too late", PSCI_CTL_NOTHING, wake(3, 1));
     want("its starts are used up", PSCI_CTL_NOTHING, reset(3));
     want("another is reset", PSCI_CTL_START, reset(1));
-    want("by this start", 1 << 16 | 1 << 8 | PSCI_RESET, found(1));
+    want("by this start", 1 << 16 | 1 << 8 | PSCI_CAUSE_RESET, found(1));
     message(4, 0, 2, 1, 0);
     want("of no life", PSCI_CTL_NOTHING, deliver(PSCI_FRAME_LEN));
     want("ignored", 0, answer.it.ack.some);
     message(4, 0, 1, 1, 0);
     want("the next life", PSCI_CTL_RESTART, deliver(PSCI_FRAME_LEN));
     want("is life 2", 2, psci_ctl_life(&place.it));
-    want("with the boot core", 2 << 16 | 1 << 8 | PSCI_BOOT, found(0));
+    want("with the boot core", 2 << 16 | 1 << 8 | PSCI_CAUSE_BOOT, found(0));
     want("alone", 0, psci_ctl_starts(&place.it, 3));
     message(4, 0, 2, 1, 0);
     want("no life after the last", PSCI_CTL_OFF, deliver(PSCI_FRAME_LEN));

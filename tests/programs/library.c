@@ -174,11 +174,13 @@ static const char *const large = "((16 16 16 16) (16 16 16 16) (16 16 16 16) (16
 static void empty_place(void) {
     struct psci_place none = {0};
     want("an empty place, smc", PSCI_NO_FIRMWARE, smc(0, 0x84000000, 0, 0, 0));
-    want("an empty place, enter", PSCI_NO_FIRMWARE, enter(0, 1, 1, PSCI_BOOT));
+    want("an empty place, enter", PSCI_NO_FIRMWARE, enter(0, 1, 1, PSCI_CAUSE_BOOT));
     want("an empty place, a start of no cause", PSCI_NO_CAUSE, enter(0, 1, 1, 4));
     want("an empty place, take", PSCI_NO_FIRMWARE, take_changed(0, 0, 0));
     want("an empty place, status", PSCI_NO_FIRMWARE, psci_status(&none, 0, 0));
     want("an empty place, hardware", PSCI_NO_FIRMWARE, psci_hw(&none, 0, 0));
+    want("an empty place, granted", PSCI_NO_FIRMWARE, psci_granted(&none, 0, 0));
+    want("the version of the headers", PSCI_VERSION_OF_LIBRARY, psci_version_of_library());
     want("an empty place, life", 0, psci_life(&none));
     want("an empty place, a stop", 0, stop_of(0, 0xc4000001));
     psci_close(&none);
@@ -225,7 +227,7 @@ static void boards(void) {
     want("clusters of a group", 2, psci_children(&place.it, 2, 1));
     want("of no group", 0, psci_children(&place.it, 2, 2));
     want("of a core", 0, psci_children(&place.it, 0, 0));
-    want("enters at the boot address", PSCI_ENTER, enter(0, 1, 1, PSCI_BOOT));
+    want("enters at the boot address", PSCI_ENTER, enter(0, 1, 1, PSCI_CAUSE_BOOT));
     want("which is", 0x40000000, answer.it.address);
     want("in the extended format", 3, smc(0, 0x8400000a, 0xc4000001, 0, 0) ? 0 : answer.it.code);
 #define FAULT(name, wanted, change) \
@@ -264,7 +266,7 @@ static void boards(void) {
 /* What a stop is, by the message of its core and the word of its call. */
 static void stops(void) {
     want("opened", PSCI_OPENED, open_text(small));
-    enter(0, 1, 1, PSCI_BOOT);
+    enter(0, 1, 1, PSCI_CAUSE_BOOT);
     want("a core that runs", 0, stop_of(0, 0xc4000001));
     want("all go down", PSCI_STOP, smc(0, 0xc4000001, 0x02010333, 0x40000000, 0));
     want("by CPU_SUSPEND of 64 bits", 0x33301, stop_of(0, 0xc4000001));
@@ -281,7 +283,7 @@ static void stops(void) {
 /* Frames and their fields, one from the other. */
 static void frames(void) {
     want("opened", PSCI_OPENED, open_text(small));
-    fields = (struct psci_message){.kind = PSCI_DOWN, .count = 2, .core = 3, .life = 0x01020304,
+    fields = (struct psci_message){.kind = PSCI_MESSAGE_DOWN, .count = 2, .core = 3, .life = 0x01020304,
                                    .number = 7, .parts = {{0, 3, 7}, {1, 2, 19}, {9, 9, 9}}};
     make(do_encode);
     want("a frame", 1, frame.it.some);
@@ -292,7 +294,7 @@ static void frames(void) {
     length = PSCI_FRAME_LEN;
     make(do_decode);
     want("read", PSCI_USED, code);
-    want("a Down", PSCI_DOWN, fields.kind);
+    want("a Down", PSCI_MESSAGE_DOWN, fields.kind);
     want("of core 3", 3, fields.core);
     want("in its life", 0x01020304, fields.life);
     want("by its number", 7, fields.number);
@@ -305,16 +307,16 @@ static void frames(void) {
     length = 52;
     make(do_decode);
     want("a short frame", PSCI_FRAME_LENGTH, code);
-    want("reads nothing", PSCI_DOWN, fields.kind);
-    fields.kind = PSCI_START + PSCI_STALE_ACK, fields.count = 0;
+    want("reads nothing", PSCI_MESSAGE_DOWN, fields.kind);
+    fields.kind = PSCI_MESSAGE_START + PSCI_STALE_ACK, fields.count = 0;
     make(do_encode);
     want("a stale acknowledgement", 0x22, frame.it.some ? frame.it.bytes[2] : 0);
     want("without parts", 0, frame.it.bytes[13] + frame.it.bytes[14]);
 #define NONE(name, change) change, make(do_encode), want(name, 0, frame.it.some)
     NONE("applied twice", fields.count = 2);
     NONE("no such kind", fields.kind = 5);
-    NONE("a Start with parts", (fields.kind = PSCI_START, fields.count = 1));
-    NONE("a Down without parts", (fields.kind = PSCI_DOWN, fields.count = 0));
+    NONE("a Start with parts", (fields.kind = PSCI_MESSAGE_START, fields.count = 1));
+    NONE("a Down without parts", (fields.kind = PSCI_MESSAGE_DOWN, fields.count = 0));
     NONE("five parts", fields.count = 5);
     NONE("no core in a byte", (fields.count = 1, fields.core = 256));
     NONE("a depth of 4", (fields.core = 3, fields.parts[0].depth = 4));
@@ -374,18 +376,33 @@ static void each_size(void *memory) {
     }
 }
 
+/* A core or domain that the board does not have is the same to each reader of nodes. */
+static void no_such_node(const char *what, uint32_t level, uint16_t index) {
+    want(what, PSCI_NO_CORE, psci_status(&place.it, level, index));
+    want(what, PSCI_NO_CORE, psci_hw(&place.it, level, index));
+    want(what, PSCI_NO_CORE, psci_granted(&place.it, level, index));
+}
+
 /* What is wrong with a call, and with bytes that are given as an acknowledgement. */
 static void refusals(void) {
     want("opened", PSCI_OPENED, open_text(small));
     want("no life", PSCI_NO_LIFE, smc(0, 0x84000000, 0, 0, 0));
     want("status without a life", PSCI_NO_LIFE, psci_status(&place.it, 0, 0));
     want("hardware without a life", PSCI_NO_LIFE, psci_hw(&place.it, 0, 0));
-    want("no such core", PSCI_NO_CORE, enter(4, 1, 1, PSCI_BOOT));
-    want("no such life", PSCI_NO_LIFE, enter(0, 4, 1, PSCI_BOOT));
+    no_such_node("without a life", 0, 4);
+    want("no such core", PSCI_NO_CORE, enter(4, 1, 1, PSCI_CAUSE_BOOT));
+    want("no such life", PSCI_NO_LIFE, enter(0, 4, 1, PSCI_CAUSE_BOOT));
     want("no such cause", PSCI_NO_CAUSE, enter(0, 1, 1, 4));
-    want("enters", PSCI_ENTER, enter(0, 1, 1, PSCI_BOOT));
+    want("enters", PSCI_ENTER, enter(0, 1, 1, PSCI_CAUSE_BOOT));
     want("at its entry point", 0x40000000, answer.it.address);
-    want("a used start", PSCI_OLD_START, enter(0, 1, 1, PSCI_BOOT));
+    no_such_node("a fifth core", 0, 4);
+    no_such_node("a third cluster", 1, 2);
+    no_such_node("above the system", 3, 0);
+    want("the status of the boot core", PSCI_STATUS_ON, psci_status(&place.it, 0, 0));
+    want("of another one", PSCI_STATUS_OFF, psci_status(&place.it, 0, 3));
+    want("its hardware", PSCI_HW_ON, psci_hw(&place.it, 0, 0));
+    want("its grant", 0, psci_granted(&place.it, 0, 0));
+    want("a used start", PSCI_OLD_START, enter(0, 1, 1, PSCI_CAUSE_BOOT));
     want("not running", PSCI_NOT_RUNNING, smc(1, 0x84000000, 0, 0, 0));
     want("on", PSCI_RETURN, smc(0, 0xc4000003, 0x1, 0x40001000, 7));
     want("its message", 2, answer.it.message.some ? answer.it.message.bytes[2] : 0);
@@ -409,20 +426,20 @@ static void pollers(void) {
     want("before any has entered", 1, poll_core(0));
     want("no core", (uint32_t)-2, (uint32_t)poll_core(0x002));
     want("no core, above", (uint32_t)-2, (uint32_t)poll_core(0x100000000));
-    enter(0, 1, 1, PSCI_BOOT);
+    enter(0, 1, 1, PSCI_CAUSE_BOOT);
     want("the core that entered", 0, poll_core(0));
     want("another one", 1, poll_core(0x101));
     smc(0, 0xc4000003, 0x101, 0x40001000, 7);
     want("asked on", 2, poll_core(0x101));
     want("its neighbour", 1, poll_core(0x100));
-    enter(3, 1, 1, PSCI_ON);
+    enter(3, 1, 1, PSCI_CAUSE_ON);
     want("entered", 0, poll_core(0x101));
     smc(3, 0x84000002, 0, 0, 0);
     want("going off", 0, poll_core(0x101));
     want("used", PSCI_USED, take_changed(12, 2, PSCI_FRAME_LEN));
     want("off", 1, poll_core(0x101));
     smc(0, 0xc4000003, 0x001, 0x40001000, 7);
-    enter(3, 2, 1, PSCI_WAKE);
+    enter(3, 2, 1, PSCI_CAUSE_WAKE);
     want("the boot core of the next life", 2, poll_core(0));
     want("a core of the last life", 1, poll_core(0x001));
     make(do_close);
@@ -475,13 +492,13 @@ static void polled_by_a_thread(void) {
     pthread_t thread;
     want("opened", PSCI_OPENED, open_text("(2 2) exec 0x40000000-0x40100000 boot 0x40000000 "
                                           "starts 1000000 lives 3"));
-    enter(0, 1, 1, PSCI_BOOT);
+    enter(0, 1, 1, PSCI_CAUSE_BOOT);
     want("a poller", PSCI_OPENED, psci_open_poller(&place.it, &its));
     if (pthread_create(&thread, NULL, keep_polling, &its))
         return;
     for (uint32_t start = 1; seen_by_polls != 7 && start < 1000000; start++) {
         smc(0, 0xc4000003, 0x101, 0x40001000, 7);
-        enter(3, 1, start, PSCI_ON);
+        enter(3, 1, start, PSCI_CAUSE_ON);
         smc(3, 0x84000002, 0, 0, 0);
         take_changed(12, 2, PSCI_FRAME_LEN);
     }
@@ -496,10 +513,10 @@ static void polled_by_a_thread(void) {
 /* The last core of the largest board comes and goes in each way. */
 static void largest_board(void) {
     want("opened", PSCI_OPENED, open_text(large));
-    enter(0, 1, 1, PSCI_BOOT);
+    enter(0, 1, 1, PSCI_CAUSE_BOOT);
     for (uint32_t start = 1; start <= 3; start++) {
         want("on", PSCI_RETURN, smc(0, 0xc4000003, 0x3030f, 0x40001000, 7));
-        want("entered", PSCI_ENTER, enter(255, 1, start, PSCI_ON));
+        want("entered", PSCI_ENTER, enter(255, 1, start, PSCI_CAUSE_ON));
         smc(255, 0xc4000004, 0, 3, 0);
         smc(255, 0xc400000d, 0, 3, 0);
         want("off", PSCI_STOP, smc(255, 0x84000002, 0, 0, 0));
@@ -509,12 +526,12 @@ static void largest_board(void) {
         make(do_read);
     }
     want("suspended", PSCI_STOP, smc(0, 0xc4000001, 0x03013333, 0x40002000, 8));
-    want("woken", PSCI_ENTER, enter(0, 1, 2, PSCI_WAKE));
+    want("woken", PSCI_ENTER, enter(0, 1, 2, PSCI_CAUSE_WAKE));
     want("initiated by the system", PSCI_RETURN, smc(0, 0x8400000f, 1, 0, 0));
     want("suspended again", PSCI_STOP, smc(0, 0xc400000e, 0x40002000, 8, 0));
-    want("woken again", PSCI_ENTER, enter(0, 1, 3, PSCI_WAKE));
+    want("woken again", PSCI_ENTER, enter(0, 1, 3, PSCI_CAUSE_WAKE));
     want("reset", PSCI_STOP, smc(0, 0x84000009, 0, 0, 0));
-    want("the next life", PSCI_ENTER, enter(0, 2, 1, PSCI_BOOT));
+    want("the next life", PSCI_ENTER, enter(0, 2, 1, PSCI_CAUSE_BOOT));
     make(do_close);
 }
 

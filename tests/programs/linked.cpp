@@ -29,7 +29,7 @@ int main() {
     board.levels[0].children[0] = 2;
     if (psci_open_board(&firmware, &board) != PSCI_OPENED || psci_ctl_open_board(&controller, &board) != PSCI_OPENED)
         return 1;
-    psci_enter(&firmware, 0, psci_ctl_life(&controller), 1, PSCI_BOOT, &answer);
+    psci_enter(&firmware, 0, psci_ctl_life(&controller), 1, PSCI_CAUSE_BOOT, &answer);
     std::printf("%u 0x%llx\n", answer.what, static_cast<unsigned long long>(answer.address));
     psci_smc(&firmware, 0, 0x84000000, 0, 0, 0, &answer);
     std::printf("%u 0x%x\n", answer.what, static_cast<unsigned>(answer.code));

@@ -36,7 +36,7 @@ static bool down(uint16_t core, uint32_t number) {
 static uint32_t on_and_off(uint16_t last, uint64_t word, uint32_t turns) {
     uint32_t done = 0;
     for (uint32_t number = 1; number < turns; number++) {
-        bool on = call(0, 0xc4000003, word, ENTRY), entered = enter(last, number, PSCI_ON);
+        bool on = call(0, 0xc4000003, word, ENTRY), entered = enter(last, number, PSCI_CAUSE_ON);
         bool off = call(last, 0x84000002, 0, 0), gone = down(last, number);
         done += on && entered && off && gone;
     }
@@ -47,7 +47,7 @@ static uint32_t suspend(uint16_t last, uint64_t state, uint32_t turns) {
     uint32_t done = 0;
     for (uint32_t number = 2; number < turns; number++) {
         bool stopped = call(last, 0xc4000001, state, ENTRY);
-        done += stopped && enter(last, number, PSCI_WAKE);
+        done += stopped && enter(last, number, PSCI_CAUSE_WAKE);
     }
     return done;
 }
@@ -63,7 +63,7 @@ static uint32_t suspend_system(uint16_t last, uint32_t turns) {
     uint32_t done = 0;
     for (uint32_t number = 2; number < turns; number++) {
         bool stopped = call(last, 0xc400000e, ENTRY, 0);
-        done += stopped && enter(last, number, PSCI_WAKE);
+        done += stopped && enter(last, number, PSCI_CAUSE_WAKE);
     }
     return done;
 }
@@ -87,17 +87,17 @@ static uint32_t poll_core(uint64_t word, uint32_t turns) {
 static uint32_t measured(uint16_t last, unsigned height, uint64_t word, const char *what,
                          uint32_t turns) {
     uint64_t state = height == 2 ? 0x02010333 : 0x03013333;
-    enter(0, 1, PSCI_BOOT);
+    enter(0, 1, PSCI_CAUSE_BOOT);
     if (strcmp(what, "on") == 0)
         return on_and_off(last, word, turns);
     if (strcmp(what, "refusal") == 0) {
         call(0, 0x8400000f, 1, 0);
         call(0, 0xc4000003, word, ENTRY);
-        enter(last, 1, PSCI_ON);
+        enter(last, 1, PSCI_CAUSE_ON);
         return ask(last, 0xc4000001, state, ENTRY, turns);
     }
     call(0, 0xc4000003, word, ENTRY);
-    enter(last, 1, PSCI_ON);
+    enter(last, 1, PSCI_CAUSE_ON);
     call(0, 0x84000002, 0, 0);
     down(0, 1);
     if (strcmp(what, "core") == 0)

@@ -136,6 +136,7 @@ static bool reader(const char *what, const char *text, struct probed *it) {
     READER("hw", psci_hw(&firmware, level, index))
     READER("cores", psci_cores(&firmware))
     READER("height", psci_height(&firmware))
+    READER("version_of_library", psci_version_of_library())
     READER("nodes", psci_nodes(&firmware, level))
     READER("children", psci_children(&firmware, level, index))
     READER("stop", psci_stop(&firmware, core, b, &stop))
@@ -167,9 +168,9 @@ static bool any(const char *what, const char *text, struct probed *it) {
 }
 
 bool probe(const char *text, struct probed *it) {
-    char what[16];
+    char what[24];
     int read = 0;
-    bool known = sscanf(text, " %15[a-z_]%n", what, &read) == 1 && any(what, text + read, it);
+    bool known = sscanf(text, " %23[a-z_]%n", what, &read) == 1 && any(what, text + read, it);
     it->steps = steps;
     return known;
 }
@@ -225,7 +226,7 @@ static void each_call(unsigned core) {
 static const char *const of_cores[] = {"known", "running", "outstanding", "decode", "encode", "mpidr_of", "ctl_starts",
                                        "ctl_started"};
 static const char *const of_nodes[] = {"granted", "status", "hw", "children", "place_of", "ctl_depth", "nodes"};
-static const char *const of_all[] = {"life", "halting", "cores", "height", "ctl_life"};
+static const char *const of_all[] = {"life", "halting", "cores", "height", "ctl_life", "version_of_library"};
 enum { CORES = sizeof of_cores / sizeof *of_cores, NODES = sizeof of_nodes / sizeof *of_nodes,
        ALL = sizeof of_all / sizeof *of_all };
 

@@ -1,9 +1,9 @@
 -- Worked examples: what each reader says of a firmware, and of an empty place.
 use Rattle.std.proofs.Common.{◌≡◌, ℕ, true, false, List, [], ◌∷◌, map, refl, ap, ◌∙◌}
 use Rattle.std.specs.Prelude.{None, Some, ◌==◌, nat_le, if◌then◌else◌}
-use Rattle.psci_board.specs.Board.{BoardValue, children, cores, height, nodes}
+use Rattle.psci_board.specs.Board.{BoardValue, children, cores, has_node, height, nodes}
 use Rattle.psci_board.specs.declared.node.Node.{Node}
-use Rattle.psci_fw.specs.Seen.{FirmwareValue, seen}
+use Rattle.psci_fw.specs.Seen.{FirmwareValue, hw_shown, seen, status_shown}
 use Rattle.psci_fw_spec.specs.History.{values_of}
 use Rattle.psci_fw_spec.specs.NodeHwState.{node_hw}
 use Rattle.psci_fw_spec.specs.AffinityInfo.{node_status}
@@ -18,7 +18,8 @@ use Rattle.psci_status.proofs.Calls.{system_off}
 use Rattle.psci_status.proofs.Calls.{takes}
 use Rattle.psci_ffi.specs.Readers.{children_read, cores_read, granted_read, halting_read}
 use Rattle.psci_ffi.specs.Readers.{height_read}
-use Rattle.psci_ffi.specs.Readers.{hw_read, known_read, life_read, nodes_read, outstanding_read}
+use Rattle.psci_ffi.specs.Readers.{hw_read, known_read, life_read, node_said, nodes_read}
+use Rattle.psci_ffi.specs.Readers.{outstanding_read}
 use Rattle.psci_ffi.specs.Readers.{running_read, status_read}
 use Rattle.psci_ffi.specs.Codes.{hw_number, status_code}
 use Rattle.psci_ffi.specs.Shown.{frame_shown, no_frame}
@@ -47,7 +48,7 @@ abbrev none : Kept
 none = None
 
 empty-place : (life_read none ≡ 0) × (halting_read none ≡ false)
-    × (status_read none (node 0 0) ≡ 16) × (granted_read none (node 0 0) ≡ 0)
+    × (status_read none (node 0 0) ≡ 16) × (granted_read none (node 0 0) ≡ 16)
     × (hw_read none (node 0 0) ≡ 16) × (known_read none 0 ≡ 0)
     × (running_read none 0 ≡ false) × (outstanding_read none 0 ≡ no_frame)
 empty-place = (refl, refl, refl, refl, refl, refl, refl, refl)
@@ -59,10 +60,15 @@ no-board = (refl, refl, refl, refl)
 -- What is said of values --------------------------------------------------------------------------
 
 abbrev status_said : BoardValue → Values → Node → ℕ
-status_said b v n = status_code (if v.life == 0 then None else Some (node_status b v.status n))
+status_said b v n = node_said (has_node b n)
+    (status_code (if v.life == 0 then None else Some (node_status b v.status n)))
 
-abbrev hw_said : Values → Node → ℕ
-hw_said v n = hw_number (if v.life == 0 then None else Some (node_hw v n))
+abbrev hw_said : BoardValue → Values → Node → ℕ
+hw_said b v n =
+    node_said (has_node b n) (hw_number (if v.life == 0 then None else Some (node_hw v n)))
+
+abbrev granted_said : BoardValue → Values → Node → ℕ
+granted_said b v n = node_said (has_node b n) (v.granted n.level n.place)
 
 abbrev nodes_said : BoardValue → ℕ → ℕ
 nodes_said b level = if nat_le level (height b) then nodes b level else 0
@@ -82,7 +88,7 @@ halting : (p : PolledView) → seen p.firmware ≡ halted → halting_read (Some
 unfolding computing
 halting p was = ap (λ (v : Values). v.halting) was
 
-reads-now : (p : PolledView) → seen p.firmware ≡ now
+reads-now : (p : PolledView) → p.firmware.board ≡ board → seen p.firmware ≡ now
     → (life_read (Some p) ≡ 2) × (halting_read (Some p) ≡ false)
     -- the known starts: of core 3 its fourth one, and none of core 1
     × (known_read (Some p) 0 ∷ known_read (Some p) 1 ∷ known_read (Some p) 3 ∷ [] ≡ 1 ∷ 0 ∷ 4 ∷ [])
@@ -95,13 +101,14 @@ reads-now : (p : PolledView) → seen p.firmware ≡ now
     × (hw_read (Some p) (node 0 0) ∷ hw_read (Some p) (node 0 3) ∷ hw_read (Some p) (node 1 1) ∷ []
     ≡ 0 ∷ 1 ∷ 0 ∷ [])
 unfolding computing
-reads-now p was = (
+reads-now p is was = (
   ap (λ (v : Values). v.life) was,
   ap (λ (v : Values). v.halting) was,
   ap (λ (v : Values). v.known 0 ∷ v.known 1 ∷ v.known 3 ∷ []) was,
   ap (λ (v : Values). is_running (v.phase 0) ∷ is_running (v.phase 3) ∷ []) was,
-  ap (λ (v : Values). v.granted 0 3 ∷ v.granted 1 1 ∷ v.granted 1 0 ∷ v.granted 2 0 ∷ []) was,
-  ap (λ (v : Values). hw_said v (node 0 0) ∷ hw_said v (node 0 3) ∷ hw_said v (node 1 1) ∷ []) was,
+  both (λ b v. map (granted_said b v) (node 0 3 ∷ node 1 1 ∷ node 1 0 ∷ node 2 0 ∷ []))
+      p.firmware now is was,
+  both (λ b v. map (hw_said b v) (node 0 0 ∷ node 0 3 ∷ node 1 1 ∷ [])) p.firmware now is was,
 )
 
 -- ON, OFF and ON_PENDING, of cores and of a cluster; before any core has entered none of these
@@ -113,9 +120,31 @@ statuses p is was =
     both (λ b v. status_said b v (node 0 0) ∷ status_said b v (node 0 1)
     ∷ status_said b v (node 0 3) ∷ status_said b v (node 1 1) ∷ []) p.firmware asked is was
 
-before-any-entry : (p : PolledView) → (seen p.firmware).life ≡ 0
+before-any-entry : (p : PolledView) → p.firmware.board ≡ board → (seen p.firmware).life ≡ 0
     → (status_read (Some p) (node 0 0) ≡ 18) × (hw_read (Some p) (node 0 0) ≡ 18)
-before-any-entry p none = (rw none refl, rw none refl)
+before-any-entry p is none = (
+  ap (λ b. node_said (has_node b (node 0 0)) (status_code (status_shown p.firmware (node 0 0)))) is
+      ∙ rw none refl,
+  ap (λ b. node_said (has_node b (node 0 0)) (hw_number (hw_shown p.firmware (node 0 0)))) is
+      ∙ rw none refl,
+)
+
+-- The board has no fifth core, no third cluster, and nothing above the system: that is said, and no
+-- state of it, also before any core has entered.
+abbrev nowhere : List Node
+nowhere = node 0 4 ∷ node 1 2 ∷ node 3 0 ∷ []
+
+no-such-node : (p : PolledView) → p.firmware.board ≡ board
+    → (map (status_read (Some p)) nowhere ≡ 17 ∷ 17 ∷ 17 ∷ [])
+    × (map (hw_read (Some p)) nowhere ≡ 17 ∷ 17 ∷ 17 ∷ [])
+    × (map (granted_read (Some p)) nowhere ≡ 17 ∷ 17 ∷ 17 ∷ [])
+no-such-node p is = (
+  ap (λ b. map (λ n. node_said (has_node b n) (status_code (status_shown p.firmware n))) nowhere)
+      is,
+  ap (λ b. map (λ n. node_said (has_node b n) (hw_number (hw_shown p.firmware n))) nowhere) is,
+  ap (λ b. map (λ n. node_said (has_node b n) ((seen p.firmware).granted n.level n.place)) nowhere)
+      is,
+)
 
 -- the Start of core 3 waits for its acknowledgement; nothing of core 0, nor of the system
 waiting : (p : PolledView) → p.firmware.board ≡ board → seen p.firmware ≡ asked

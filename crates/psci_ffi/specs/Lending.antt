@@ -3,9 +3,13 @@ use base.Fml.{Fml}
 use denote.Ref.{MutBor}
 use Rattle.std.specs.Prelude.{Some}
 use Rattle.std.specs.Borrow.{Lends}
+use Rattle.psci_ctl.specs.contracts.controller.Controller as Controller
+use Rattle.psci_ffi.specs.contracts.controller_slot.ControllerSlot as ControllerSlot
 use Rattle.psci_ffi.specs.contracts.held.Held as Held
 use Rattle.psci_ffi.specs.contracts.machine_slot.MachineSlot as MachineSlot
+use Rattle.psci_ffi.specs.contracts.poller_slot.PollerSlot as PollerSlot
 use Rattle.psci_ffi.specs.contracts.slot.Slot as Slot
+use Rattle.psci_ffi.specs.contracts.watch.Watch as Watch
 use Rattle.psci_platform.specs.contracts.platform.Platform as Platform
 
 -- the slot with this in it
@@ -24,3 +28,21 @@ with_machine s m = record s { kept = Some m }
 -- the slot of a machine ends with what was last written through the borrow
 abbrev pub LendsMachine : MutBor MachineSlot.the_row.Denot → MutBor Platform.the_row.Denot → Fml
 LendsMachine s r = Lends MachineSlot.the_row Platform.the_row s r (with_machine s.now)
+
+-- the slot of a power controller with this in it
+abbrev pub with_controller : ControllerSlot.the_row.Denot → Controller.the_row.Denot
+    → ControllerSlot.the_row.Denot
+with_controller s c = record s { kept = Some c }
+
+-- the slot of a power controller ends with what was last written through the borrow
+abbrev pub LendsController : MutBor ControllerSlot.the_row.Denot → MutBor Controller.the_row.Denot
+    → Fml
+LendsController s r = Lends ControllerSlot.the_row Controller.the_row s r (with_controller s.now)
+
+-- the slot of one who polls with this in it
+abbrev pub with_watch : PollerSlot.the_row.Denot → Watch.the_row.Denot → PollerSlot.the_row.Denot
+with_watch s w = record s { kept = Some w }
+
+-- the slot of one who polls ends with what was last written through the borrow
+abbrev pub LendsWatch : MutBor PollerSlot.the_row.Denot → MutBor Watch.the_row.Denot → Fml
+LendsWatch s r = Lends PollerSlot.the_row Watch.the_row s r (with_watch s.now)

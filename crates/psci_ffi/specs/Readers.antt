@@ -1,12 +1,13 @@
 -- What C reads of a place; an empty one is as a firmware before any core has entered.
-use Rattle.std.specs.Prelude.{ℕ, nat_le, if◌then◌else◌, Bool, false, None, Some}
-use Rattle.psci_board.specs.Board.{children, cores, height, nodes}
+use Rattle.std.specs.Prelude.{ℕ, nat_le, if◌then◌else◌, Bool, true, false, None, Some}
+use Rattle.psci_board.specs.Board.{children, cores, has_node, height, nodes}
 use Rattle.psci_board.specs.declared.node.Node.{Node}
 use Rattle.psci_fw.specs.Seen.{hw_shown, seen, status_shown}
+use Rattle.psci_fw_spec.specs.declared.fault.FwFault.TheVariants.{NoCore}
 use Rattle.psci_fw_spec.specs.Phases.{is_running}
 use Rattle.psci_fw_state.specs.Seen.{message_shown}
 use Rattle.psci_ffi.specs.declared.answer.SomeFrame.{SomeFrame}
-use Rattle.psci_ffi.specs.Codes.{hw_number, no_firmware, status_code}
+use Rattle.psci_ffi.specs.Codes.{hw_number, no_firmware, refusal, status_code}
 use Rattle.psci_ffi.specs.Shown.{frame_shown, no_frame}
 use Rattle.psci_ffi.specs.Slot.{Kept}
 
@@ -20,20 +21,28 @@ abbrev pub halting_read : Kept → Bool
 halting_read None = false
 halting_read (Some f) = (seen f.firmware).halting
 
+-- what is said of a core or power domain, by whether the board has it
+abbrev pub node_said : Bool → ℕ → ℕ
+node_said false said = refusal NoCore
+node_said true said = said
+
 -- the status of a core or power domain
 abbrev pub status_read : Kept → Node → ℕ
 status_read None node = no_firmware
-status_read (Some f) node = status_code (status_shown f.firmware node)
+status_read (Some f) node =
+    node_said (has_node f.firmware.board node) (status_code (status_shown f.firmware node))
 
 -- the granted depth of a power domain
 abbrev pub granted_read : Kept → Node → ℕ
-granted_read None node = 0
-granted_read (Some f) node = (seen f.firmware).granted node.level node.place
+granted_read None node = no_firmware
+granted_read (Some f) node = node_said (has_node f.firmware.board node)
+    ((seen f.firmware).granted node.level node.place)
 
 -- the hardware state of a core or power domain
 abbrev pub hw_read : Kept → Node → ℕ
 hw_read None node = no_firmware
-hw_read (Some f) node = hw_number (hw_shown f.firmware node)
+hw_read (Some f) node =
+    node_said (has_node f.firmware.board node) (hw_number (hw_shown f.firmware node))
 
 -- the known start of a core
 abbrev pub known_read : Kept → ℕ → ℕ

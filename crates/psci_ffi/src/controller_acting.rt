@@ -1,7 +1,7 @@
 //! What a power controller does with a message, a wake-up or a reset, and what it comes down to.
 
 ghost use Rattle.std.specs.Prelude.{◌≡◌, ◌<◌, ◌≤◌, length, true, slice_get, take};
-ghost use Rattle.psci_board.specs.Board.{cores, domain_of, height};
+ghost use Rattle.psci_board.specs.Board.{cores, domain_of, height, path};
 ghost use Rattle.psci_ctl.specs.Seen.{seen};
 ghost use Rattle.psci_ctl_spec.specs.declared.call.CtlCall.TheVariants as calls;
 ghost use Rattle.psci_ctl_spec.specs.Effects.{kick_effect, message_effect};
@@ -131,22 +131,31 @@ fn write_switched(answer: &mut ControllerAnswer, board: &Board, core: Core, part
     requires levels { is_within (height board.now) parts.now ≡ true }
     ensures { answer.new ≡ switched board.now core.number parts.now answer.old.ack }
 {
+    let path = board.path(core);
+    let on_path = path.as_slice();
     answer.what = SWITCH;
     answer.start = NO_START;
     answer.many = parts.len() as u32;
     answer.domains = [
-        domain_of(board, core, parts, 0),
-        domain_of(board, core, parts, 1),
-        domain_of(board, core, parts, 2),
-        domain_of(board, core, parts, 3),
+        domain_of(board, core, on_path, parts, 0),
+        domain_of(board, core, on_path, parts, 1),
+        domain_of(board, core, on_path, parts, 2),
+        domain_of(board, core, on_path, parts, 3),
     ];
 }
 
 /// The domain of the part of this number on the path of a core, with its depth, if there is such a
 /// part.
 #[tactic(auto, using(crate::proofs::Switching::within_at))]
-fn domain_of(board: &Board, core: Core, parts: &[Part], number: usize) -> DomainDepth
+fn domain_of(
+    board: &Board,
+    core: Core,
+    on_path: &[Node],
+    parts: &[Part],
+    number: usize,
+) -> DomainDepth
     requires core { core.number < cores board.now }
+    requires path { on_path.now ≡ path board.now core.number }
     requires levels { is_within (height board.now) parts.now ≡ true }
     ensures { result ≡ domain_shown board.now core.number (slice_get parts.now number) }
 {
@@ -155,20 +164,21 @@ fn domain_of(board: &Board, core: Core, parts: &[Part], number: usize) -> Domain
     };
     DomainDepth {
         level: part.level,
-        index: domain_on_path(board, core, part.level).place,
+        index: domain_on_path(board, core, on_path, part.level).place,
         depth: part.depth,
     }
 }
 
-/// The domain of a core at this level.
-fn domain_on_path(board: &Board, core: Core, level: u32) -> Node
+/// The domain of a core at this level, of those on its path.
+fn domain_on_path(board: &Board, core: Core, on_path: &[Node], level: u32) -> Node
     requires core { core.number < cores board.now }
+    requires path { on_path.now ≡ path board.now core.number }
     requires level { level ≤ height board.now }
     ensures { result ≡ domain_of board.now core.number level }
 {
     law_paths();
     let height = board.height();
     prove!(level <= height);
-    let path = board.path(core);
-    path[level as usize]
+    let _core = core;
+    on_path[level as usize]
 }

@@ -10,32 +10,29 @@ use crate::controller_answer::{ControllerAnswer, refuse};
 use crate::controller_place::ControllerPlace;
 use psci_board::Core;
 use psci_fw::FwFault;
-use std::alloc::Global;
 
 /// Delivers the message whose frame these bytes are. From 16 on it was refused, and nothing
 /// changed: 33 to 40 are the faults of frames, 42 says the frame of an acknowledgement.
 #[unsafe(no_mangle)]
 pub extern "C" fn psci_ctl_deliver(
-    alloc: Global,
     place: &mut ControllerPlace,
     frame: &[u8],
     answer: &mut ControllerAnswer,
 )
     ensures { IsGivenTo place.old.slot.kept frame.now answer.new place.new.slot.kept }
 {
-    let Some(mut controller) = place.take(alloc) else {
+    if !place.full {
         refuse(answer, NO_FIRMWARE);
         return;
-    };
-    give(&mut controller, frame, answer);
-    place.put(controller);
+    }
+    let controller = place.slot.controller();
+    give(controller, frame, answer);
 }
 
 /// A core has a wake-up event, after it stopped in its start of number `halted` (0 where it was not
 /// started in this life): it is started, unless it was started since or can't be once more.
 #[unsafe(no_mangle)]
 pub extern "C" fn psci_ctl_wake(
-    alloc: Global,
     place: &mut ControllerPlace,
     core: u16,
     halted: u32,
@@ -44,21 +41,20 @@ pub extern "C" fn psci_ctl_wake(
     ensures { IsKicked place.old.slot.kept core (Wake (record { number = core }) halted) answer.new
         place.new.slot.kept }
 {
-    let Some(mut controller) = place.take(alloc) else {
+    if !place.full {
         refuse(answer, NO_FIRMWARE);
         return;
-    };
+    }
+    let controller = place.slot.controller();
     match controller.board().core(core) {
-        Some(core) => wake(&mut controller, core, halted, answer),
+        Some(core) => wake(controller, core, halted, answer),
         None => refuse(answer, refusal(FwFault::NoCore)),
     }
-    place.put(controller);
 }
 
 /// A core is reset by itself: it is started, unless it can't be once more.
 #[unsafe(no_mangle)]
 pub extern "C" fn psci_ctl_reset(
-    alloc: Global,
     place: &mut ControllerPlace,
     core: u16,
     answer: &mut ControllerAnswer,
@@ -66,13 +62,13 @@ pub extern "C" fn psci_ctl_reset(
     ensures { IsKicked place.old.slot.kept core (Reset (record { number = core })) answer.new
         place.new.slot.kept }
 {
-    let Some(mut controller) = place.take(alloc) else {
+    if !place.full {
         refuse(answer, NO_FIRMWARE);
         return;
-    };
+    }
+    let controller = place.slot.controller();
     match controller.board().core(core) {
-        Some(core) => reset(&mut controller, core, answer),
+        Some(core) => reset(controller, core, answer),
         None => refuse(answer, refusal(FwFault::NoCore)),
     }
-    place.put(controller);
 }

@@ -14,40 +14,35 @@ use crate::controller_place::ControllerPlace;
 use psci_board::{Core, Node};
 use psci_ctl::{Controller, Start};
 use psci_fw::FwFault;
-use std::alloc::Global;
 
 /// The present life, counted from 1; 0 once the system is off.
 #[unsafe(no_mangle)]
-pub extern "C" fn psci_ctl_life(alloc: Global, place: &mut ControllerPlace) -> u32
+pub extern "C" fn psci_ctl_life(place: &mut ControllerPlace) -> u32
     ensures life { result ≡ life_read place.old.slot.kept }
     ensures same { place.new.slot.kept ≡ place.old.slot.kept }
 {
-    let Some(controller) = place.take(alloc) else {
+    if !place.full {
         return 0;
-    };
-    let life = controller.life();
-    place.put(controller);
-    life.unwrap_or(0)
+    }
+    place.slot.controller().life().unwrap_or(0)
 }
 
 /// How many times a core was started in this life. One that the board does not have never was.
 #[unsafe(no_mangle)]
-pub extern "C" fn psci_ctl_starts(alloc: Global, place: &mut ControllerPlace, core: u16) -> u32
+pub extern "C" fn psci_ctl_starts(place: &mut ControllerPlace, core: u16) -> u32
     ensures starts { result ≡ starts_read place.old.slot.kept core }
     ensures same { place.new.slot.kept ≡ place.old.slot.kept }
 {
-    let Some(controller) = place.take(alloc) else {
+    if !place.full {
         return 0;
-    };
-    let starts = starts_of(&controller, core);
-    place.put(controller);
-    starts
+    }
+    let controller = place.slot.controller();
+    starts_of(controller, core)
 }
 
 /// The start that a core finds: its last one in this life. Zeros where there is none.
 #[unsafe(no_mangle)]
 pub extern "C" fn psci_ctl_started(
-    alloc: Global,
     place: &mut ControllerPlace,
     core: u16,
     start: &mut ControllerStart,
@@ -55,40 +50,34 @@ pub extern "C" fn psci_ctl_started(
     ensures start { start.new ≡ start_shown core (started_read place.old.slot.kept core) }
     ensures same { place.new.slot.kept ≡ place.old.slot.kept }
 {
-    let Some(controller) = place.take(alloc) else {
+    if !place.full {
         *start = start_of(Core { number: core }, None);
         return;
-    };
-    *start = start_of(Core { number: core }, started_of(&controller, core));
-    place.put(controller);
+    }
+    let controller = place.slot.controller();
+    *start = start_of(Core { number: core }, started_of(controller, core));
 }
 
 /// How deep a core's domain (level 0) or a power domain is: 0 fully on, 1 standby, 2 retention, 3
 /// power-down. 16 where there is no power controller, 17 where the board has no such domain, 18
 /// once the system is off.
 #[unsafe(no_mangle)]
-pub extern "C" fn psci_ctl_depth(
-    alloc: Global,
-    place: &mut ControllerPlace,
-    level: u32,
-    index: u16,
-) -> u32
+pub extern "C" fn psci_ctl_depth(place: &mut ControllerPlace, level: u32, index: u16) -> u32
     ensures depth { result
         ≡ depth_read place.old.slot.kept (record { level = level; place = index }) }
     ensures same { place.new.slot.kept ≡ place.old.slot.kept }
 {
-    let Some(controller) = place.take(alloc) else {
+    if !place.full {
         return NO_FIRMWARE;
-    };
-    let depth = depth_of(
-        &controller,
+    }
+    let controller = place.slot.controller();
+    depth_of(
+        controller,
         Node {
             level,
             place: index,
         },
-    );
-    place.put(controller);
-    depth
+    )
 }
 
 /// The starts of a core, 0 of one that the board does not have.

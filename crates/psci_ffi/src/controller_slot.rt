@@ -13,7 +13,7 @@ use std::marker::Model;
 #[repr(C)]
 #[derive(Drop)]
 pub struct ControllerSlot {
-    ptr: *mut u8,
+    pub(crate) ptr: *mut u8,
     alloc: Global,
     pub ghost kept: { KeptController } by { kept_coded },
 }

@@ -8,27 +8,20 @@ use crate::fields::{Fields, fields_of};
 use crate::held::Held;
 use crate::place::Place;
 use psci_link::decode;
-use std::alloc::Global;
 
 /// Reads the fields of the frame that these bytes are on the board of the firmware, of a message or
 /// of an acknowledgement: 0. Else 33 to 40, the number of the frame's first fault, or 16 where
 /// there is no firmware, and nothing is written.
 #[unsafe(no_mangle)]
-pub extern "C" fn psci_decode(
-    alloc: Global,
-    place: &mut Place,
-    frame: &[u8],
-    fields: &mut Fields,
-) -> u32
+pub extern "C" fn psci_decode(place: &mut Place, frame: &[u8], fields: &mut Fields) -> u32
     ensures read { IsDecodedIn place.old.slot.kept frame.now result fields.old fields.new }
     ensures same { place.new.slot.kept ≡ place.old.slot.kept }
 {
-    let Some(held) = place.take(alloc) else {
+    if !place.full {
         return NO_FIRMWARE;
-    };
-    let code = read(&held, frame, fields);
-    place.put(held);
-    code
+    }
+    let held = place.slot.held();
+    read(held, frame, fields)
 }
 
 /// The same of a firmware.

@@ -12,7 +12,7 @@ use std::marker::Model;
 #[repr(C)]
 #[derive(Drop)]
 pub struct PollerSlot {
-    ptr: *mut u8,
+    pub(crate) ptr: *mut u8,
     alloc: Global,
     pub ghost kept: { KeptWatch } by { kept_coded },
 }

@@ -19,12 +19,10 @@ pub extern "C" fn psci_open_poller(alloc: Global, place: &mut Place, poller: &mu
         poller.new.slot.kept }
     ensures same { place.new.slot.kept ≡ place.old.slot.kept }
 {
-    let Some(mut held) = place.take(alloc) else {
+    if !place.full {
         return NO_FIRMWARE;
-    };
-    let watch = held.watch();
-    place.put(held);
-    match watch {
+    }
+    match place.slot.held().watch() {
         Ok(watch) => fill(alloc, poller, watch),
         Err(Memory) => NO_MEMORY,
     }
@@ -42,15 +40,13 @@ pub extern "C" fn psci_close_poller(alloc: Global, poller: &mut Poller)
 /// word: 0 ON, 1 OFF, 2 ON_PENDING, or -2 exactly where the word names no core; 16 where the poller
 /// is empty. No lock is taken.
 #[unsafe(no_mangle)]
-pub extern "C" fn psci_poll(alloc: Global, poller: &mut Poller, affinity: u64) -> i32
+pub extern "C" fn psci_poll(poller: &mut Poller, affinity: u64) -> i32
     ensures { HasPolledIn poller.old.slot.kept affinity result poller.new.slot.kept }
 {
-    let Some(mut watch) = poller.take(alloc) else {
+    if !poller.full {
         return NO_FIRMWARE as i32;
-    };
-    let code = watch.poll(affinity);
-    poller.put(watch);
-    code.0
+    }
+    poller.slot.watch().poll(affinity).0
 }
 
 /// Puts one who polls into a poller, where there is memory.

@@ -7,7 +7,6 @@ ghost use Rattle.psci_ffi.specs.Stops.{stop_sent};
 use crate::place::Place;
 use psci_abi::words::{CPU_SUSPEND_32, CPU_SUSPEND_64, SYSTEM_SUSPEND_32, SYSTEM_SUSPEND_64};
 use psci_messages::{Kind, Message, Part};
-use std::alloc::Global;
 use std::mem::size_of;
 
 /// A stop of a core.
@@ -28,22 +27,16 @@ const _: () = prove!(size_of::<Stopping>() == 5);
 /// or after an entry with 0. Zeros where nothing was sent, as where the system is to end, and where
 /// there is no firmware.
 #[unsafe(no_mangle)]
-pub extern "C" fn psci_stop(
-    alloc: Global,
-    place: &mut Place,
-    core: u16,
-    x0: u64,
-    stop: &mut Stopping,
-)
+pub extern "C" fn psci_stop(place: &mut Place, core: u16, x0: u64, stop: &mut Stopping)
     ensures stop { stop.new ≡ stop_read place.old.slot.kept core x0 }
     ensures same { place.new.slot.kept ≡ place.old.slot.kept }
 {
-    let Some(held) = place.take(alloc) else {
+    if !place.full {
         write_stop(stop, None, x0);
         return;
-    };
+    }
+    let held = place.slot.held();
     write_stop(stop, held.message(core), x0);
-    place.put(held);
 }
 
 /// Writes the stop by which this message was sent, if one was.
