@@ -7,6 +7,9 @@ A list has a line for each step:
     CORE sleep X0 [..] for MICROSECONDS
                                        a suspend with the core's timer set, until it returns, or the core enters
     CORE poll  X0 [..] until CODE      asks until it gets this code, for 300 ms at most
+    CORE visit X0 [..] [by WORD]
+                                       a CPU_ON whose target goes off as soon as it enters, by CPU_OFF or first by this
+                                       word, until AFFINITY_INFO says so
     CORE await CORE TIMES              until that core has entered so often, for 300 ms at most
     CORE delay MICROSECONDS
     CORE storm SEED MANY STANDBY DOWN [1]
@@ -14,8 +17,8 @@ A list has a line for each step:
                                        every second is one of the calls that are seldom made, good or bad
     reset                              what follows is played after the reset of the system
 A step begins when all before it are over, for 3 s at most; one that begins with + runs beside the one before.
-Words are numbers, E0 to E15 (the payload's entry points), E1+2, B+16 or B-16 (beside where it is loaded), and names
-of functions, as CPU_ON_64.
+Words are numbers, E0 to E15 (the payload's entry points), E1+2, B+16 or B-16 (beside where it is loaded), P+16 (beside
+its entry points far from it, places.c), and names of functions, as CPU_ON_64.
 """
 import os
 import struct
@@ -27,9 +30,11 @@ TOP = os.path.dirname(os.path.dirname(os.path.dirname(os.path.abspath(__file__))
 sys.path[:0] = [f"{TOP}/tools", f"{TOP}/model"]
 from judge.words import word_of
 
-KINDS = ("call", "stop", "poll", "sleep", "delay", "await", "storm")
+KINDS = ("call", "stop", "poll", "sleep", "delay", "await", "storm", "visit")
 # a word that counts from the entry points, or from where the image is
 FROM_ENTRIES, FROM_IMAGE = 1, 16
+# where the far entry points are, from the image
+PLACES = 0x1000000
 # a list has this room in the image
 MOST = 0x10000
 
@@ -39,8 +44,8 @@ def word(text):
     if text[0] == "E" and text[1:2].isdigit():
         entry, _, more = text[1:].partition("+")
         return 8 * int(entry) + int(more or "0", 0), FROM_ENTRIES
-    if text[0] == "B":
-        return int(text[1:], 0) % 2**64, FROM_IMAGE
+    if text[0] in "BP":
+        return (int(text[1:] or "0", 0) + PLACES * (text[0] == "P")) % 2**64, FROM_IMAGE
     try:
         return int(text, 0) % 2**64, 0
     except ValueError:
@@ -49,8 +54,8 @@ def word(text):
 
 def step(core, kind, words, need, life):
     """The bytes of a step."""
-    more = 0
-    if kind in ("sleep", "poll"):
+    more = word("CPU_OFF")[0] if kind == "visit" else 0
+    if kind in ("sleep", "poll") or "by" in words:
         more = word(words[-1])[0]
         words = words[:-2]
     elif kind in ("await", "delay", "storm"):

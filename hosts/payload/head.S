@@ -20,6 +20,17 @@ entries:                                /* sixteen entry points, eight bytes apa
         b       from_entry
         .endr
 
+        .global place, place_beside     /* what places.c writes elsewhere, with from_entry behind it, in two words */
+place:
+        adr     x21, .
+        ldr     w22, place + 20
+        ldr     w23, place + 24
+        add     x22, x22, x23, lsl #32
+        br      x22
+place_beside:
+        b       place_beside + 64
+
+        .global from_entry
 from_entry:
         mov     x20, x0
         bl      at_any

@@ -3,8 +3,8 @@
 #include "record.h"
 
 enum { STEP_TIME = 3000000, ENTRY_TIME = 300000, POLL_TIME = 300000 };
-enum { SYSTEM_OFF = 0x84000008, SYSTEM_RESET = 0x84000009, SYSTEM_RESET2 = 0x84000012 };
-enum { SMC64 = 0x40000000, ALL_MASKED = 0x3c0, MMU_OR_CACHE = 5 };
+enum { CPU_OFF = 0x84000002, SYSTEM_OFF = 0x84000008, SYSTEM_RESET, SYSTEM_RESET2 = 0x84000012 };
+enum { SMC64 = 0x40000000, AFFINITY_INFO = 0x84000004 | SMC64, IS_OFF = 1, ALL_MASKED = 0x3c0, MMU_OR_CACHE = 5 };
 
 struct state { uint64_t level, masks, control; };
 
@@ -34,7 +34,7 @@ static void come_about(struct entry *entry, enum kept kind) {
     if (!storm.is_on) write_entry(entry);
 }
 
-static void ask_in_storm(uint32_t core, const uint64_t x[4]) {
+static uint64_t ask_in_storm(uint32_t core, const uint64_t x[4]) {
     struct entry *entry = new_entry();
     while (!entry) __asm__("wfi");
     entry->core = core;
@@ -48,19 +48,17 @@ static void ask_in_storm(uint32_t core, const uint64_t x[4]) {
     after_call(core, x, entry->behind[0]);
     entry->end = tick();
     come_about(entry, KEPT_CALL);
+    return entry->behind[0];
 }
 
 static int may_end_life(uint32_t word) {
     return word == SYSTEM_OFF || word == SYSTEM_RESET || (word & ~(uint32_t)SMC64) == SYSTEM_RESET2;
 }
 
-void ask(uint32_t core, const uint64_t x[4], enum told told) {
+uint64_t ask(uint32_t core, const uint64_t x[4], enum told told) {
     uint64_t y[4], lost;
     uint32_t number, begin, end;
-    if (storm.is_on) {
-        ask_in_storm(core, x);
-        return;
-    }
+    if (storm.is_on) return ask_in_storm(core, x);
     if (may_end_life((uint32_t)x[0])) line_told();
     copy4(y, x);
     number = cores[core].number++;
@@ -73,6 +71,7 @@ void ask(uint32_t core, const uint64_t x[4], enum told told) {
     after_call(core, x, y[0]);
     end = tick();
     LINE("call", core, number, begin, end, 1, x[0], x[1], x[2], x[3], y[0], y[1], y[2], y[3], lost);
+    return y[0];
 }
 
 void ask_with_timer(uint32_t core, const uint64_t x[4], uint64_t microseconds) {
@@ -109,6 +108,24 @@ static void await(uint32_t core, uint32_t target, uint32_t times) {
     while (cores[target].entries < times && !is_past(end)) {}
     if (cores[target].entries < times)
         LINE("lacks", core, cores[core].number++, tick(), target, times);
+}
+
+/* Asks a core on that goes off as soon as it has entered, by this word, and waits until it is. */
+static void visit(uint32_t core, const uint64_t x[4], uint64_t leaves) {
+    uint32_t target = target_of(x);
+    if (target < machine.cores) cores[target].leaves = leaves;
+    uint32_t entries = cores[target % MOST_CORES].entries;
+    if ((uint32_t)ask(core, x, TOLD) || target == machine.cores) return;
+    await(core, target, entries + 1);
+    poll(core, (uint64_t[]){AFFINITY_INFO, affinities[target], 0, 0}, IS_OFF);
+}
+
+/* Where the word is none by which a core goes off, it takes the right one. */
+static void leave(uint32_t core) {
+    uint64_t word = cores[core].leaves;
+    cores[core].leaves = 0;
+    ask(core, (uint64_t[]){word, 0, 0, 0}, ANNOUNCED);
+    ask(core, (uint64_t[]){CPU_OFF, 0, 0, 0}, ANNOUNCED);
 }
 
 void delay(uint32_t core, uint64_t microseconds) {
@@ -153,6 +170,7 @@ static void play(uint32_t core, const struct step *step) {
     case SUSPEND: suspend(core, x, step->more); break;
     case DELAY: delay(core, step->more); break;
     case AWAIT: await(core, (uint32_t)x[0], (uint32_t)step->more); break;
+    case VISIT: visit(core, x, step->more); break;
     case STORM:
         storm.seed = x[0], storm.standby = x[1], storm.down = x[2], storm.is_wide = x[3];
         storm.many = step->more;
@@ -206,6 +224,7 @@ void booted(const void *tree) {
     boot_level = entry_state().level;
     LINE("head", 1, (uintptr_t)head, (uintptr_t)entries, machine.is_smc, machine.cores, 0);
     interrupts_ready();
+    places_ready();
     cores[0].entries = cores[0].is_up = 1;
     if (is_of_list) play_all(0);
     else ask(0, (uint64_t[]){SYSTEM_OFF, 0, 0, 0}, ANNOUNCED);
@@ -237,6 +256,7 @@ void entered(uint64_t core, uint64_t at, uint64_t context) {
         storm_ends();
         add(&done, 1);
     }
+    if (mine->leaves) leave((uint32_t)core);
     play_all((uint32_t)core);
 }
 

@@ -3,7 +3,7 @@
 #define PAYLOAD_PLAY_H
 #include "machine.h"
 
-enum kind { CALL, STOP, POLL, SUSPEND, DELAY, AWAIT, STORM };
+enum kind { CALL, STOP, POLL, SUSPEND, DELAY, AWAIT, STORM, VISIT };
 
 /* assemble.py writes it so: behind the image stand a `list`, and its steps */
 struct step {
@@ -24,13 +24,14 @@ extern struct list list;
 struct core {
     volatile uint32_t next, number, entries, is_asleep, has_timer;
     volatile uint32_t asked, taken, is_up;
+    volatile uint64_t leaves; /* by this word it goes off as soon as it enters, where there is one */
 };
 extern struct core cores[MOST_CORES];
 
-/* Makes a call and tells of it. ANNOUNCED ones are told before, since they may not come back; with
+/* Makes a call, tells of it, and returns its x0. ANNOUNCED ones are told before, since they may not come back; with
  * those that are GOING the next step begins at once. */
 enum told { TOLD, ANNOUNCED, GOING };
-void ask(uint32_t core, const uint64_t x[4], enum told told);
+uint64_t ask(uint32_t core, const uint64_t x[4], enum told told);
 /* The same, with the timer set. */
 void ask_with_timer(uint32_t core, const uint64_t x[4], uint64_t microseconds);
 
@@ -45,6 +46,8 @@ struct storm {
 };
 extern struct storm storm;
 void storm_begins(void);
+/* The core that a call names; the number of cores where it names none. */
+uint32_t target_of(const uint64_t x[4]);
 /* What a call means for starts that somebody has to take up: before it is made, and once it was answered. */
 void before_call(uint32_t core, const uint64_t x[4]);
 void after_call(uint32_t core, const uint64_t x[4], uint64_t answer);

@@ -31,8 +31,20 @@ static uint64_t draw(uint32_t core) {
     return state[core] = x;
 }
 
+/* All bits of a word, by those that were drawn. */
+static uint64_t spread(uint64_t bits) {
+    return bits * 0x9e3779b97f4a7c15ul;
+}
+
 static uint32_t function_of(const uint64_t x[4]) {
     return (uint32_t)x[0] & ~(uint32_t)SMC64;
+}
+
+uint32_t target_of(const uint64_t x[4]) {
+    uint64_t target = x[0] & SMC64 ? x[1] : (uint32_t)x[1];
+    uint32_t core = 0;
+    while (core < machine.cores && affinities[core] != target) core++;
+    return core;
 }
 
 void before_call(uint32_t core, const uint64_t x[4]) {
@@ -40,11 +52,11 @@ void before_call(uint32_t core, const uint64_t x[4]) {
 }
 
 void after_call(uint32_t core, const uint64_t x[4], uint64_t answer) {
-    uint64_t target = x[0] & SMC64 ? x[1] : (uint32_t)x[1], entry = x[2] - (uintptr_t)entries;
+    uint64_t entry = x[2] - (uintptr_t)entries;
+    uint32_t target = target_of(x);
     cores[core].is_up = 1;
     if (function_of(x) != CPU_ON || (uint32_t)answer || entry >= 16 * 8 || entry % 8) return;
-    for (uint32_t it = 0; it < machine.cores; it++)
-        if (affinities[it] == target) add(&cores[it].asked, 1);
+    if (target < machine.cores) add(&cores[target].asked, 1);
 }
 
 /* Whether a start of this core was granted that it has not taken up. */
@@ -72,7 +84,7 @@ static void asleep(uint32_t core, uint64_t waits, uint64_t x0, uint64_t x1, uint
 /* One of the calls that are seldom made otherwise. */
 static void rare_call(uint32_t core, uint64_t bits) {
     uint64_t width = bits >> 63 ? SMC64 : 0, target = affinities[(bits >> 8 & 15) % machine.cores];
-    uint64_t entry = (uintptr_t)entries + 8 * (bits >> 40 & 15), context = bits >> 20 & 0xffff;
+    uint64_t entry = (uintptr_t)entries + 8 * (bits >> 40 & 15), context = spread(bits);
     uint64_t waits = 20 + (bits >> 8 & 255), some = bits >> 44 & 3, kind = bits % 16;
     /* what looks at all cores at once is drawn seldom: the judge has to, too */
     if (kind >= 13 && bits >> 51 & 3) kind -= 13;
@@ -98,7 +110,7 @@ static void rare_call(uint32_t core, uint64_t bits) {
 
 static void drawn_call(uint32_t core, uint64_t bits) {
     uint64_t width = bits >> 63 ? SMC64 : 0, target = affinities[(bits >> 8 & 15) % machine.cores];
-    uint64_t entry = (uintptr_t)entries + 8 * (bits >> 40 & 15), context = bits >> 20 & 0xffff;
+    uint64_t entry = (uintptr_t)entries + 8 * (bits >> 40 & 15), context = spread(bits);
     uint64_t waits = 20 + (bits >> 8 & 255);
     uint32_t kind = bits % 16;
     if (kind < 4) ask(core, (uint64_t[]){CPU_ON | width, target, entry, context}, TOLD);

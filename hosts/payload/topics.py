@@ -5,6 +5,8 @@
 """
 import sys
 
+import bit_topics
+
 # bits that belong to no core or level, and values at the edges of a register
 TARGETS = ("0", "1", "3", "4", "7", "0x100", "0x101", "0x10000", "0x1000000", "0x40000000", "0x80000000", "0x80000001",
            "0xffffff", "0xffffffff", "0x100000000", "0x100000001", "0xffffffff00000000", "-1")
@@ -171,6 +173,7 @@ def topics():
     made = {it.__name__.replace("_", "-"): it() for it in whole}
     made.update({f"on-entry-{at:02}": on_entry(it) for at, it in enumerate(ENTRIES)})
     made.update({f"down-{at:02}": down(it) for at, it in enumerate(DOWNS)})
+    made.update(bit_topics.topics())
     made["lives"], made["lives-warm"] = lives("SYSTEM_RESET"), lives("SYSTEM_RESET2_64 0 0")
     for kind, many in zip(STORMS, (5, 3, 6)):
         made.update({f"{kind}-{seed}": storm(kind, seed) for seed in range(1, many + 1)})

@@ -47,11 +47,18 @@ static void keep_gic(const struct node *node, const struct node *above, uint32_t
     machine.gic_of_core = cells(node->reg + step, above->address_cells);
 }
 
+static void keep_memory(const struct node *node, const struct node *above, uint64_t at) {
+    if (machine.memory_end || !node->device_type || !same(node->device_type, "memory")) return;
+    machine.memory = at;
+    machine.memory_end = at + cells(node->reg + above->address_cells, above->size_cells);
+}
+
 /* A node is over: keeps what it says. */
 static void keep(const struct node *node, const struct node *above) {
     if (node->status && same(node->status, "disabled")) return; /* as what is the secure world's */
     uint64_t at = node->reg ? cells(node->reg, above->address_cells) : 0;
     if (node->device_type && same(node->device_type, "cpu") && node->reg) keep_core(at);
+    if (node->reg) keep_memory(node, above, at);
     if (node->method) machine.is_smc = same(node->method, "smc");
     if (is_compatible(node, "arm,pl011") && !machine.uart) machine.uart = at;
     if (is_compatible(node, "ns16550a") && !machine.uart)

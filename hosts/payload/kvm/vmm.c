@@ -16,7 +16,7 @@
 
 enum { CORES = 4, UART = 0x09000000, PAGE = 0x1000 };
 #define MEMORY 0x40000000ul
-#define SIZE 0x4000000ul
+#define SIZE 0x40000000ul
 #define KERNEL 0x200000ul
 #define TREE 0x3000000ul
 #define DISTRIBUTOR 0x08000000ul
@@ -57,9 +57,11 @@ static void set_register(int core, uint64_t number, uint64_t value) {
     ask(cores[core], KVM_SET_ONE_REG, &it, "a register");
 }
 
-/* Core 0 is at the kernel's first instruction, the others are off. */
+/* Core 0 is at the kernel's first instruction, the others are off. KVM_RUN begins with what is left of the last access:
+ * one of the life before would put the core 4 bytes further. */
 static void begin(int core) {
     struct kvm_vcpu_init it = target;
+    runs[core]->exit_reason = KVM_EXIT_UNKNOWN;
     it.features[0] |= 1u << KVM_ARM_VCPU_PSCI_0_2 | (core ? 1u << KVM_ARM_VCPU_POWER_OFF : 0);
     ask(cores[core], KVM_ARM_VCPU_INIT, &it, "a core");
     if (core) return;
@@ -74,7 +76,7 @@ static void attribute(int device, uint32_t group, uint64_t number, uint64_t valu
 
 /* Memory of the machine, from this address on. */
 static void *give_memory(uint32_t slot, uint64_t at, size_t size, uint32_t flags) {
-    void *mine = mmap(0, size, PROT_READ | PROT_WRITE, MAP_PRIVATE | MAP_ANONYMOUS, -1, 0);
+    void *mine = mmap(0, size, PROT_READ | PROT_WRITE, MAP_PRIVATE | MAP_ANONYMOUS | MAP_NORESERVE, -1, 0);
     struct kvm_userspace_memory_region region = {slot, flags, at, size, (uintptr_t)mine};
     if (mine == MAP_FAILED) stop("memory");
     ask(machine, KVM_SET_USER_MEMORY_REGION, &region, "memory");

@@ -1,0 +1,138 @@
+/* Runs an Image until it turns its system off:
+ *     vmm [-b BOARD] [-r RECORD] IMAGE TREE [INITRD] */
+#include "vmm.h"
+
+#include <errno.h>
+#include <inttypes.h>
+#include <signal.h>
+#include <stdio.h>
+#include <stdlib.h>
+#include <sys/ioctl.h>
+#include <unistd.h>
+
+static const char *image, *tree, *initrd;
+static pthread_barrier_t all;
+
+static void load_all(void) {
+    load(image, KERNEL);
+    load(tree, TREE);
+    if (initrd)
+        load(initrd, INITRD);
+}
+
+/* All cores have left the guest. Then memory is as at the beginning, and the boot core finds its start. */
+static bool next_life(struct core *core) {
+    bool boots = core == cores;
+    pthread_barrier_wait(&all);
+    if (life == IS_OFF)
+        return false;
+    core->run->immediate_exit = 0;
+    core->executes = false;
+    core->is_open = boots;
+    pthread_barrier_wait(&all);
+    if (boots) {
+        load_all();
+        life = GOES_ON;
+    }
+    pthread_barrier_wait(&all);
+    return true;
+}
+
+/* The boot core's first entry in a life gets what Linux wants in x0: nobody has asked for it. */
+static void begin(struct core *core, const struct psci_answer *answer) {
+    if (answer->what == PSCI_RESUME) {
+        set_state(core, KVM_MP_STATE_RUNNABLE);
+        set_x0(core, 0);
+    } else if (answer->what == PSCI_ENTER) {
+        go_on_at(core, answer->address);
+        set_x0(core, core->start.cause == PSCI_CAUSE_BOOT ? MEMORY + TREE : answer->context);
+    }
+}
+
+static bool is_woken(const struct kvm_run *run) {
+    return run->exit_reason == KVM_EXIT_SYSTEM_EVENT && run->system_event.type == KVM_SYSTEM_EVENT_WAKEUP;
+}
+
+/* One stay in the guest, or in a sleep that an interrupt ends: KVM waits for it, and says so. */
+static void run_once(struct core *core) {
+    struct kvm_run *run = core->run;
+    if (ioctl(core->vcpu, KVM_RUN, 0) < 0) {
+        if (errno != EINTR && errno != EAGAIN)
+            fail("KVM_RUN");
+    } else if (run->exit_reason == KVM_EXIT_HYPERCALL) {
+        call(core);
+    } else if (run->exit_reason == KVM_EXIT_MMIO) {
+        access_memory(run);
+    } else if (is_woken(run)) {
+        wake(core);
+    } else if (run->exit_reason != KVM_EXIT_INTR) {
+        fprintf(stderr, "vmm: core 0x%" PRIx64 ": exit %u\n", core->mpidr, run->exit_reason);
+        exit(1);
+    }
+}
+
+/* A core that is off, or in a stop that no interrupt ends, waits for its bell. */
+static void *play(void *argument) {
+    struct core *core = argument;
+    struct psci_answer answer;
+    for (;;) {
+        pthread_mutex_lock(&lock);
+        bool is_over = life != GOES_ON, enters = core->is_open && !is_over;
+        bool waits = !is_over && !enters && !core->executes && !core->how.wakes;
+        if (waits)
+            pthread_cond_wait(&core->bell, &lock);
+        if (enters)
+            enter(core, &answer);
+        pthread_mutex_unlock(&lock);
+        if (is_over && !next_life(core))
+            return 0;
+        if (enters)
+            begin(core, &answer);
+        else if (!is_over && !waits)
+            run_once(core);
+    }
+}
+
+static void nothing(int signal) { (void)signal; }
+
+static void start_cores(void) {
+    pthread_barrier_init(&all, 0, many_cores);
+    pthread_mutex_lock(&lock);
+    for (struct core *core = cores; core < cores + many_cores; core++)
+        if (pthread_create(&core->thread, 0, play, core))
+            fail("a thread");
+    pthread_mutex_unlock(&lock);
+}
+
+int main(int many, char **words) {
+    const char *board = "(2 2) exec 0x40000000-0x50000000 boot 0x40200000 starts 4294967295 lives 65535", *record = 0;
+    struct sigaction action = {.sa_handler = nothing};
+    for (int letter; (letter = getopt(many, words, "b:r:")) != -1;) {
+        if (letter == 'b')
+            board = optarg;
+        else if (letter == 'r')
+            record = optarg;
+        else
+            return 2;
+    }
+    if (many - optind < 2)
+        return 2;
+    image = words[optind];
+    tree = words[optind + 1];
+    initrd = words[optind + 2];
+    sigaction(SIGUSR1, &action, 0);
+    open_library(board);
+    open_machine();
+    load_all();
+    record_into(record, board);
+    start_cores();
+    while (__atomic_load_n(&life, __ATOMIC_SEQ_CST) != IS_OFF) {
+        usleep(50000);
+        access_memory(0);
+    }
+    for (struct core *core = cores; core < cores + many_cores; core++)
+        pthread_join(core->thread, 0);
+    access_memory(0);
+    end_record();
+    return was_refused();
+}

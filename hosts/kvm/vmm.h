@@ -1,0 +1,73 @@
+/* A virtual machine monitor on KVM whose guests' PSCI calls the proved library decides. */
+#ifndef VMM_H
+#define VMM_H
+
+#include "psci_ctl.h"
+
+#include <linux/kvm.h>
+#include <pthread.h>
+#include <stdbool.h>
+#include <stddef.h>
+#include <stdint.h>
+
+/* Where the guest finds what. */
+#define MEMORY 0x40000000ul
+#define MEMORY_SIZE 0x10000000ul
+#define KERNEL 0x200000ul /* these three from MEMORY on */
+#define TREE 0x7000000ul
+#define INITRD 0x8000000ul
+#define DISTRIBUTOR 0x08000000ul
+#define REDISTRIBUTORS 0x080a0000ul
+enum { MOST_CORES = 64, UART = 0x09000000, CLOCK = 0x09010000, CLOCK_LINE = 2, PAGE = 0x1000 };
+
+/* A core is its vCPU's thread. It executes while it is in KVM_RUN; in the monitor it stands. */
+struct core {
+    int vcpu;
+    struct kvm_run *run;
+    pthread_t thread;
+    pthread_cond_t bell;
+    uint64_t affinity, mpidr;
+    struct psci_ctl_start start; /* its last one, by which it is to enter while the door is open */
+    bool is_open, executes;
+    struct psci_stop how; /* of its last stop */
+};
+extern struct core cores[MOST_CORES];
+extern unsigned many_cores;
+
+/* One lock for firmware, power controller, doors, record and the end of a life. */
+extern pthread_mutex_t lock;
+extern enum life { GOES_ON, RESTARTS, IS_OFF } life;
+
+/* cores.c: what the library decides. All but call and wake are called with the lock in hand. */
+void open_library(const char *board);
+void enter(struct core *core, struct psci_answer *answer);
+void call(struct core *core);
+void wake(struct core *core);
+bool was_refused(void);
+
+/* guest.c: the machine, its memory and the registers of a vCPU, which its own thread alone asks for. */
+extern int machine;
+_Noreturn void fail(const char *what);
+int ask(int file, unsigned long request, void *argument, const char *what);
+void open_machine(void);
+void load(const char *name, uint64_t at);
+uint64_t get_x(struct core *core, unsigned number);
+void set_x0(struct core *core, uint64_t value);
+void set_state(struct core *core, uint32_t state);
+void go_on_at(struct core *core, uint64_t address);
+
+/* devices.c: a console and a clock with an alarm. No access asks for what waits in the ring alone. */
+void open_devices(void);
+void access_memory(struct kvm_run *run);
+
+/* record.c: docs/RECORD.md, written under the lock, so its order is that of the lock. */
+void record_into(const char *name, const char *board);
+void record_call(const struct core *core, const uint64_t *x, const struct psci_answer *answer);
+void record_enter(const struct core *core, const struct psci_answer *answer);
+void record_stands(const struct core *core);
+void record_deliver(const struct psci_frame *message, const struct psci_ctl_answer *answer);
+void record_wake(const struct core *core, const struct psci_ctl_answer *answer);
+void record_take(const struct psci_frame *ack, uint32_t what);
+void end_record(void);
+
+#endif

@@ -1,0 +1,63 @@
+# The library as the PSCI of KVM's guests (hosts/kvm), sourced by ../test after tests/judge.sh: stored records of Linux,
+# and guests on QEMU where it, the kernels and the archive are here.
+
+# each stored record of a Linux guest, asked again
+kvm_records() {
+    local file
+    has_python "records of hosts/kvm" || return
+    for file in hosts/kvm/runs/*.record.xz; do
+        has_xz "$file" || continue
+        xz -dc "$file" > "$work/run.record"
+        compared 0 "safe after each of them" "$work/run.record"
+    done
+}
+
+# each fault still fits the monitor's sources, and its page has it
+kvm_faults() {
+    local file copy=$work/kvm
+    command -v patch > /dev/null || { skip "faults of hosts/kvm" patch; return; }
+    for file in hosts/kvm/faults/*.patch; do
+        rm -rf "$copy"
+        cp -r hosts/kvm "$copy"
+        if patch -s -d "$copy" -p1 < "$file" && grep -qF "\`$(basename "$file" .patch)\`" hosts/kvm/README.md
+        then pass; else fail "$file"; fi
+    done
+}
+
+# guest_of WORD..: what hosts/kvm/run ends with
+guest_of() {
+    say "KVM: $*"
+    hosts/kvm/run "$@" > "$work/out" 2>&1
+}
+
+# lists that are judged, whose ports are compared; Linux; and one of the planted faults, another with each commit
+kvm_live() {
+    local list faults fault played text
+    local lists=(affinity down-01 lives mode off on-race on-twice refusals standby storm-1 storm-down-1 system-suspend)
+    can_boot && [ -e "$cache/trixie/packages/bin/busybox" ] || { skip "guests of KVM" "$cache/trixie"; return; }
+    guest_of --lists "$work/lists" "${lists[@]}" || fail "hosts/kvm/run --lists: $(tail -n 1 "$work/out")"
+    judged_as 0 "${#lists[@]} records: ${#lists[@]} agrees" --profile "$payload/profiles/ours-on-kvm" "$work"/lists/*.record
+    for list in "${lists[@]}"; do
+        compared 0 "are answered as by the proved program" "$work/lists/$list.port"
+    done
+    guest_of --record "$work/linux.record" each idle suspend-5 || fail "hosts/kvm/run: $(tail -n 1 "$work/out")"
+    compared 0 "are answered as by the proved program" "$work/linux.record"
+    mapfile -t faults < tests/kvm-faults.txt
+    IFS='|' read -r fault played text <<< "${faults[$(git rev-list --count HEAD 2> /dev/null || echo 0) % ${#faults[@]}]}"
+    kvm_fault "$fault" "$played" "$text"
+}
+
+# kvm_fault NAME LISTS TEXT: what the monitor, compare or the judge says of lists that are played with this fault
+kvm_fault() {
+    local port lists
+    read -ra lists <<< "$2"
+    rm -rf "$work/faulty"
+    guest_of --seconds 40 --fault "$1" --lists "$work/faulty" "${lists[@]}" || true
+    cp "$work/out" "$work/told"
+    ./psci compare --profile "$payload/profiles/ours-on-kvm" "$work"/faulty/*.record >> "$work/told" 2>&1
+    for port in "$work"/faulty/*.port; do ./psci compare --quick "$port" >> "$work/told" 2>&1; done
+    if grep -q -- "$3" "$work/told"; then pass; else
+        fail "hosts/kvm/run --fault $1 --lists .. $2: nobody says '$3'"
+        tail -n 5 "$work/told"
+    fi
+}
