@@ -172,6 +172,8 @@ el3_live_boards() {
     live pc each boot-core idle suspend-5 vectors
     live osi --mode osi each boot-core idle suspend-5
     live extended --board "(2 2) $space lives 65535 format extended" each idle
+    live max --cpu max each vectors
+    live a64fx --cpu a64fx --gic 3 each
     live sixteen --board "((4 4) (4 4)) $space lives 65535" boot-core idle
 }
 
@@ -180,6 +182,7 @@ el3_live_faults() {
     can_boot || return
     live affinity-1 --machine hosts/el3/machines/affinity-1.machine each boot-core idle suspend-5
     live affinity-1-osi --machine hosts/el3/machines/affinity-1.machine --mode osi each boot-core idle
+    live_shut
     live_fault wrong-boot-core "event 1, "
     live_fault wrong-mpidr "the proved program: return 0 #1 start 2 "
     live_slow
@@ -236,6 +239,17 @@ live_slow() {
         tail -n 5 "$work/out"
     fi
     compared 0 "1 agrees" "$work/slow/slow-storm.record" --profile hosts/payload/profiles/el3
+}
+
+# a processor with SVE, which EL3 does not let through: its first use is told, once, and Linux goes no further
+live_shut() {
+    say "Linux at EL3: the fault shut-features"
+    if EL3_OUT=$work/el3-shut hosts/el3/run --cpu max --seconds 60 --fault shut-features > "$work/out" 2>&1; then
+        fail "hosts/el3/run --cpu max --fault shut-features ends well"
+    elif [ "$(grep -c "exception 8, esr 0x66000000" "$work/out")" = 1 ]; then pass; else
+        fail "hosts/el3/run --cpu max --fault shut-features does not tell one exception"
+        tail -n 5 "$work/out"
+    fi
 }
 
 # live_fault NAME TEXT: a port with this fault on the same machine, whose record shows it, whatever Linux did

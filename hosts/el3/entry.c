@@ -36,7 +36,7 @@ void wait_for_start(unsigned core, bool wakes) {
 static _Noreturn void begin(const struct psci_ctl_start *start, const struct psci_answer *answer) {
     COUNT(entries);
     begin_normal_world();
-    leave_for(answer->address, start->cause == PSCI_BOOT ? DEVICE_TREE : answer->context);
+    leave_for(answer->address, start->cause == PSCI_CAUSE_BOOT ? DEVICE_TREE : answer->context);
 }
 
 /* The entry by the start that stands at the core's door. */
@@ -92,6 +92,7 @@ static _Noreturn void start_control(void) {
 }
 
 void on_reset(void) {
+    open_features();
     if (own_mpidr() == BOOT && !gic_is_started()) {
         start_machine();
         STORE(kept.boot, READY);

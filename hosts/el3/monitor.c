@@ -87,10 +87,13 @@ static uint64_t on_poll(unsigned core, const uint64_t *x) {
     return register_of(code, x[0]);
 }
 
-void on_unexpected(uint64_t vector, uint64_t esr, uint64_t elr, uint64_t far) {
+/* What nobody can answer ends the core's work: after it the same instruction would come here again, for ever. */
+_Noreturn void on_unexpected(uint64_t vector, uint64_t esr, uint64_t elr, uint64_t far) {
     COUNT(refused);
     say("# el3: core %x: exception %u, esr %x, elr %x, far %x\n", own_mpidr(), (unsigned)vector, esr,
         elr, far);
+    for (;;)
+        wait_for_interrupt();
 }
 
 void on_exception(struct context *context, uint64_t esr) {

@@ -3,6 +3,7 @@
 #define MONITOR_H
 
 #include "context.h"
+#include "machine.h"
 
 #include <stdbool.h>
 #include <stdint.h>
@@ -11,6 +12,9 @@
 _Noreturn void cold(void);
 void begin_normal_world(void);
 _Noreturn void leave_for(uint64_t address, uint64_t x0);
+
+/* features.c */
+void open_features(void);
 
 /* entry.c: an entry comes back where the core resumes, with the registers that it kept. */
 _Noreturn void on_reset(void);

@@ -29,6 +29,8 @@
         ldp     x18, x30, [sp, #144]
         ldp     x0, x1, [sp], #CONTEXT_SIZE
         eret
+        dsb     nsh             /* nothing behind it is done ahead of it */
+        isb
         .endm
 
         .macro  own_stack a     /* the stack of this core, whose end is in TPIDR_EL3 */
@@ -78,14 +80,14 @@ leave_for:
         mov     x\n, #0
         .endr
         eret
+        dsb     nsh
+        isb
 
 unexpected:
         mrs     x1, esr_el3
         mrs     x2, elr_el3
         mrs     x3, far_el3
         bl      on_unexpected
-0:      wfi
-        b       0b
 
 /* The machine was reset, or a core whose power was away comes back: EL3, and all else unknown. */
         .global cold
@@ -130,6 +132,10 @@ cold:
 
         .balign 8
 listed: .quad   MPIDRS, SCP_MPIDR
+
+        .if STACKS + STACK * (CORES + 1) > RECORD_START
+        .error "the stacks of so many cores run into the record"
+        .endif
 
 #ifdef STRICT                           /* SCTLR_EL3.A: an access that is not aligned is a fault */
         .set    SCTLR, 0x30c5183f

@@ -129,7 +129,7 @@ static bool get_message(struct message *message) {
 /* Off and Reset are carried out with the lock in hand: no core is inside a call then, nor makes one. */
 static void deliver(const struct message *message) {
     struct psci_ctl_answer answer;
-    bool ends = message->fields.kind == PSCI_OFF || message->fields.kind == PSCI_RESET_SYSTEM;
+    bool ends = message->fields.kind == PSCI_MESSAGE_OFF || message->fields.kind == PSCI_MESSAGE_RESET;
     if (ends)
         lock();
     psci_ctl_deliver(&kept.controller, message->frame, PSCI_FRAME_LEN, &answer);
@@ -143,7 +143,7 @@ static void deliver(const struct message *message) {
 /* The rule that a Down waits: one of its core's present start is delivered only once the core stands in
  * its stop of that start. One of an earlier start is stale, and goes at once, as all else does. */
 static bool has_to_wait(const struct psci_message *it) {
-    return it->kind == PSCI_DOWN && !stands_still(it->core)
+    return it->kind == PSCI_MESSAGE_DOWN && !stands_still(it->core)
         && start_word(it->life, it->number) == present_start(it->core);
 }
 

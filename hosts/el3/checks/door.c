@@ -25,6 +25,7 @@ void start_machine(void) { abort(); }
 void control_power(void) { abort(); }
 void cold(void) { abort(); }
 void begin_normal_world(void) {}
+void open_features(void) {}
 void leave_for(uint64_t address, uint64_t x0) { (void)address, (void)x0, abort(); }
 void gic_start_core(unsigned core) { (void)core; }
 bool gic_is_started(void) { return true; }

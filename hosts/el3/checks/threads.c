@@ -95,7 +95,7 @@ static void drawn_call(uint64_t target, uint64_t context) {
 
 /* It enters with what was asked: the boot core at first with its device tree. */
 static void look_at_entry(void) {
-    bool is_boot = me->cause == PSCI_BOOT;
+    bool is_boot = me->cause == PSCI_CAUSE_BOOT;
     if (me->answer.what != PSCI_ENTER || me->address != me->answer.address)
         is_wrong("the address of an entry", me->address);
     if (me->context != (is_boot ? DEVICE_TREE : me->answer.context))
@@ -125,7 +125,7 @@ static void begin_life(void) {
 
 static void world(void) {
     look_at_entry();
-    if (me->cause == PSCI_BOOT)
+    if (me->cause == PSCI_CAUSE_BOOT)
         begin_life();
     me->is_irq_on = true;
     PUT(me->irq, 0);
@@ -152,6 +152,7 @@ _Noreturn void cold(void) {
 }
 
 void begin_normal_world(void) { me->has_begun = true; }
+void open_features(void) {}
 
 _Noreturn void leave_for(uint64_t address, uint64_t x0) {
     me->address = address;
