@@ -39,7 +39,7 @@ static void mine_call(void *self, uint32_t core, const uint64_t x[4], struct psc
 
 static void mine_enter(void *self, uint32_t core, uint32_t cause, struct psci_beside_did *did) {
     struct firmware *mine = self;
-    did->what = cause == PSCI_ON ? PSCI_ENTER : PSCI_BESIDE_NOTHING;
+    did->what = cause == PSCI_CAUSE_ON ? PSCI_ENTER : PSCI_BESIDE_NOTHING;
     did->address = mine->entry[core];
 }
 

@@ -4,6 +4,8 @@
 # are here the stored inputs and each story of its report.
 
 beside=hosts/beside
+# of which sources can be had: those of Debian 12, and of what is newer
+peers_beside=(kvm kvm-7.1 qemu qemu-10.0 tfa tfa-2.12 xen stm32 stm32-2025.01 optee)
 
 # build_beside PEER NAME [EDIT]: a target without a fuzzer; PROFILE is another profile
 build_beside() {
@@ -36,15 +38,20 @@ own_beside() {
 }
 
 # each bit of each register: by the commit a 64th of the faults that hosts/beside/bits plants in the library, and a 512th
-# of those in each peer whose sources are here; draws without upper halves have to be told
+# of those in each peer of Debian 12 with registers of 64 bits whose sources are here; draws without upper halves have to
+# be told
 bits_beside() {
     local part peers=() peer
     part=$((16#$(git rev-parse --short=6 HEAD 2> /dev/null || echo 0) % 512 + 1))
-    for peer in kvm qemu tfa xen; do ! has_sources "$peer" || peers+=("$peer"); done
+    for peer in kvm qemu tfa tfa-2.12 xen; do ! has_sources "$peer" || peers+=("$peer"); done
     if "$beside/bits" --part $((part % 64 + 1))/64 own > "$work/out" 2>&1 &&
         { [ ${#peers[@]} = 0 ] || "$beside/bits" --part "$part/512" "${peers[@]}" >> "$work/out" 2>&1; }; then pass; else
         fail "$beside/bits, part $part"
         tail -n 20 "$work/out"
+    fi
+    # a refusal of SMC64 that is no whole register shows in this alone
+    if "$beside/bits" --only 'SYSTEM_RESET2(_64)?: bit 30 of the function word' own > "$work/out" 2>&1; then pass; else
+        fail "$beside/bits: a refusal in 32 bits is not told"
     fi
     sed 's/rarely(8) ? wild() >> 32 << 32 : 0/0/' "$beside/draws.c" > "$work/draws.c"
     DRAWS=$work/draws.c "$beside/bits" --seconds 1 --only 'CPU_ON: bit 4[0-2] of x1' own > "$work/out" 2>&1
@@ -55,7 +62,9 @@ bits_beside() {
 }
 
 has_sources() {
-    [ -d "${GUMDARTS_CACHE:-$HOME/.cache/gumdarts}/beside/$(sed -n 's/^package=//p' "$beside/peers/$1/build")" ]
+    local package= from= version files more here=$beside
+    . "$beside/peers/$1/build"
+    [ -d "${GUMDARTS_CACHE:-$HOME/.cache/gumdarts}${from:+/$from}/beside/$package" ]
 }
 
 # a report is there from the first group on, though the process is killed; a call that never comes back is ended
@@ -255,7 +264,8 @@ swept_beside() {
 # what was found of a peer stays found: each story is a script, whether its sources are here or not
 stories_beside() {
     local peer
-    if "$beside/scripts" --check kvm qemu tfa xen > "$work/out"; then pass; else
+    local -a inputs
+    if "$beside/scripts" --check "${peers_beside[@]}" > "$work/out"; then pass; else
         fail "$beside/scripts --check"
         cat "$work/out"
     fi
@@ -263,15 +273,17 @@ stories_beside() {
     if ! REPORT=$work/report "$beside/scripts" --check tfa > "$work/out" && grep -q 'never seen' "$work/out"; then pass; else
         fail "$beside/scripts --check: a story without a script is not told"
     fi
-    for peer in kvm qemu tfa xen; do
+    for peer in "${peers_beside[@]}"; do
         if ! has_sources "$peer"; then
             skip "the stories of $peer" "source package of it"
             continue
         fi
         build_beside "$peer" "$peer" || continue
         "$beside/corpus" --unpack "$peer" "$work/beside/inputs-$peer"
+        mapfile -t inputs < <(compgen -G "$work/beside/inputs-$peer/*")
+        [ ${#inputs[@]} != 0 ] || inputs=(--draws 2000)
         if "$work/beside/$peer" --stories "$beside/peers/$peer/report" > "$work/out" 2>&1 &&
-            "$work/beside/$peer" "$work/beside/inputs-$peer"/* >> "$work/out" 2>&1; then pass; else
+            "$work/beside/$peer" "${inputs[@]}" >> "$work/out" 2>&1; then pass; else
             fail "$beside/peers/$peer/report"
             tail -n 5 "$work/out"
         fi
@@ -282,6 +294,38 @@ stories_beside() {
             tail -n 5 "$work/out"
         fi
     done
+}
+
+# the lines of TF-A's source that the page for its maintainers names are those that stand there
+lines_beside() {
+    local folder=$beside/peers/tfa-2.12 source=${GUMDARTS_CACHE:-$HOME/.cache/gumdarts}/trixie/beside/arm-trusted-firmware
+    local where text
+    grep -o 'psci_[a-z]*\.c:[0-9]*' "$folder/README.md" | sort -u > "$work/named"
+    cut -d ' ' -f 1 "$folder/lines" | sort -u | diff - "$work/named" > "$work/out" || fail "$folder/lines: $(cat "$work/out")"
+    while read -r where text; do
+        if sed -n "${where#*:}p" "$source/lib/psci/${where%:*}" | grep -qF "$text"; then pass; else
+            fail "$folder/README.md: $where is not $text"
+        fi
+    done < "$folder/lines"
+}
+
+# what is known of TF-A 2.12, whose OS-initiated mode differs in many ways, hides no fault in that mode
+modes_beside() {
+    local name edit
+    has_sources tfa-2.12 || return 0
+    lines_beside
+    if "$work/beside/tfa-2.12" --draws 20000 > "$work/out" 2>&1; then pass; else
+        fail "$beside/peers/tfa-2.12: it differs as it is from what its report has"
+        tail -n 3 "$work/out"
+    fi
+    while IFS='|' read -r name edit; do
+        echo "$edit" > "$work/edit"
+        build_beside tfa-2.12 faulty-modes "$work/edit" || continue
+        { "$work/beside/faulty-modes" --draws 300000 > "$work/out" 2>&1 || true; } 2> /dev/null
+        if grep -q '^beside: a new group' "$work/out"; then pass; else
+            fail "$beside/peers/tfa-2.12: what is known hides this: $name"
+        fi
+    done < <(grep -E '^(a suspend skips|CPU_OFF always claims)' "$beside/peers/tfa-2.12/faults")
 }
 
 # what TF-A does within a call, where its sources are here; a TF-A that never says OFF does not do it
@@ -312,5 +356,6 @@ in_one_process() {
     machines_beside
     compiled_beside
     stories_beside
+    modes_beside
     moments_beside
 }

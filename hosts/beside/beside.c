@@ -69,8 +69,8 @@ static void begin(beside *b);
 #include "driver/ours.h"
 #include "driver/theirs.h"
 #include "driver/words.h"
-#include "driver/causes.h"
 #include "driver/states.h"
+#include "driver/causes.h"
 #include "driver/groups.h"
 
 /* ---- Events */
@@ -100,9 +100,9 @@ static bool can_happen(const beside *b, const event *e) {
 }
 
 static uint32_t cause_of(beside *b, const event *e) {
-    struct psci_ctl_start start = {.cause = PSCI_WAKE};
+    struct psci_ctl_start start = {.cause = PSCI_CAUSE_WAKE};
     if (e->kind == PSCI_BESIDE_RESET)
-        return PSCI_RESET;
+        return PSCI_CAUSE_RESET;
     if (e->kind == PSCI_BESIDE_ENTER)
         psci_ctl_started(&b->controller, e->number, &start);
     return start.cause;

@@ -42,7 +42,7 @@ static void begin(void) {
     struct psci_answer answer;
     psci_open(&firmware, (const uint8_t *)text, sizeof text - 1);
     psci_ctl_open(&controller, (const uint8_t *)text, sizeof text - 1);
-    psci_enter(&firmware, 0, 1, 1, PSCI_BOOT, &answer);
+    psci_enter(&firmware, 0, 1, 1, PSCI_CAUSE_BOOT, &answer);
     psci_smc(&firmware, 0, 0xc4000003, 0x101, 0x100, 7, &answer);
     hold(answer.what == PSCI_RETURN && answer.code == 0 && answer.message.some, "CPU_ON is not answered");
 }

@@ -73,13 +73,14 @@ static uint64_t entry(void) {
 
 static uint64_t context(void) { return below(2) ? wild() : byte(); }
 
-/* The power state of some depths, in the format of the board. */
+/* The power state of some depths, in the format of the board; of four one is less deep above the core. */
 static uint32_t state_of_depths(void) {
     static const uint8_t depths[] = {1, 3, 2, 3, 3, 1, 3, 0};
-    uint32_t drawn = byte(), made = 0, level = 0, depth = depths[drawn & 7];
+    uint32_t drawn = byte(), made = 0, level = 0, depth = depths[drawn & 7], above = depth;
+    if ((drawn & 0x88) == 0x88 && depth > 1)
+        above--;
     for (uint32_t at = 0; at <= beside_side.board.height; at++) {
-        uint32_t next = at == 0 ? depth : drawn >> (3 + at) & 1 ? depth : 0;
-        depth = next;
+        depth = at == 0 ? depth : depth && drawn >> (3 + at) & 1 ? above : 0;
         made |= depth << 4 * at;
         level = depth ? at : level;
     }
@@ -99,8 +100,9 @@ static uint64_t level_drawn(void) {
     return half(drawn < 224 ? near : drawn < 248 ? near ^ 1u << below(32) : wild());
 }
 
-/* half of the draws are these */
+/* half of the draws are these; of eight of them one sets the mode */
 static const uint32_t often[] = {0x84000003, 0xc4000003, 0x84000002, 0x84000001, 0xc4000001, 0x84000004, 0xc4000004};
+enum { SET_SUSPEND_MODE = 0x8400000f };
 static const uint32_t words[] = {
     0x84000000, 0x84000001, 0xc4000001, 0x84000002, 0x84000003, 0xc4000003, 0x84000004, 0xc4000004, 0x84000005,
     0xc4000005, 0x84000006, 0x84000007, 0x84000008, 0x84000009, 0x8400000a, 0x8400000b, 0x8400000c, 0xc400000c,
@@ -110,6 +112,11 @@ static const uint32_t words[] = {
 
 static uint32_t any_word(void) { return words[below(sizeof words / sizeof *words)]; }
 static uint32_t near_word(void) { return rarely(8) ? any_word() ^ 1u << below(32) : any_word(); }
+
+static uint32_t often_word(void) {
+    uint32_t drawn = byte();
+    return drawn >= 224 ? SET_SUSPEND_MODE : often[drawn % (sizeof often / sizeof *often)];
+}
 
 static void arguments(uint64_t x[4]) {
     switch ((uint32_t)x[0] & ~0x40000000u) {
@@ -126,7 +133,7 @@ static void arguments(uint64_t x[4]) {
 }
 
 static void call_drawn(uint64_t x[4]) {
-    x[0] = byte() < 128 ? often[below(sizeof often / sizeof *often)] : any_word();
+    x[0] = byte() < 128 ? often_word() : any_word();
     arguments(x);
     if (!(x[0] & 0x40000000))
         for (int at = 1; at < 4; at++)

@@ -138,7 +138,7 @@ static void enter(uint16_t core) {
     psci_enter(&by_board, core, start.life, start.number, start.cause, &other);
     hold(one.what == other.what && one.message.some == other.message.some, "an entry");
     runs[core] = one.what != PSCI_STOP;
-    initiated = initiated && start.cause != PSCI_BOOT;
+    initiated = initiated && start.cause != PSCI_CAUSE_BOOT;
 }
 
 static void settle(const struct psci_frame *message) {

@@ -6,26 +6,28 @@
 #include <stdlib.h>
 
 /* The linker names the ends of a section whose name is a word, and no ends where there is none. */
-#define END extern __attribute__((weak)) uint64_t
+#define END extern __attribute__((weak)) uint8_t
 END __start_peer_data[];
 END __stop_peer_data[];
 END __start_peer_bss[];
 END __stop_peer_bss[];
 
-enum { MOST = 1 << 17 };
-static uint64_t fresh[MOST], kept[MOST];
+enum { MOST = 1 << 20 };
+static uint8_t fresh[MOST], kept[MOST];
 static bool is_kept;
 
-/* Word by word, since between two variables there may be what a sanitizer guards. */
-__attribute__((no_sanitize("address"))) static void copy(volatile uint64_t *to, volatile uint64_t *from, size_t many) {
-    for (size_t at = 0; at < many; at++)
+/* By hand, since between two variables there may be what a sanitizer guards: words, and the bytes behind the last one. */
+__attribute__((no_sanitize("address"))) static void copy(volatile uint8_t *to, volatile uint8_t *from, size_t bytes) {
+    for (size_t at = 0; at < bytes / 8; at++)
+        ((volatile uint64_t *)to)[at] = ((volatile uint64_t *)from)[at];
+    for (size_t at = bytes & ~(size_t)7; at < bytes; at++)
         to[at] = from[at];
 }
 
-static void both(uint64_t *copies, bool back) {
+static void both(uint8_t *copies, bool back) {
     size_t data = __stop_peer_data - __start_peer_data, bss = __stop_peer_bss - __start_peer_bss;
     if (data + bss > MOST) {
-        fprintf(stderr, "beside: the peer has more than %d words of static variables\n", MOST);
+        fprintf(stderr, "beside: the peer has more than %d bytes of static variables\n", MOST);
         exit(1);
     }
     if (back) {

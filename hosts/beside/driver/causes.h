@@ -219,6 +219,12 @@ static bool is_for_memory(beside *b, const event *e, struct cause *cause) {
     return true;
 }
 
+/* Whether what is odd about a suspend are its states, or nothing is. */
+static bool is_of_states(const char *odd) {
+    return !odd || !strcmp(odd, "a level above the core") || !strcmp(odd, "a power-down state") ||
+           !strcmp(odd, "a state");
+}
+
 /* Adds to the key what is odd about a call, and leaves of it what matters. */
 static void put_odds(beside *b, event *e, struct cause *cause) {
     struct psci_beside_difference *d = &b->difference;
@@ -236,4 +242,6 @@ static void put_odds(beside *b, event *e, struct cause *cause) {
         put_all_odds(b, e, cause);
     cause->is_odd |= one != NULL;
     keep(b, true);
+    if (is_of_states(one))
+        put_beside(b, e);
 }

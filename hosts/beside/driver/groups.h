@@ -1,13 +1,13 @@
 /* Part of beside.c: the group of a difference, which is named by its cause. */
 
 /* Whether both refuse a call with an odd entry point, and they as we would with another one: where two
- * refusals apply either is right. Both sides are as after the call. */
+ * refusals apply either is right, in a whole register. Both sides are as after the call. */
 static bool refuses_as_well(beside *b, const event *e, const did *ours, const did *theirs) {
     struct psci_beside_now after = b->now;
     event less = *e;
     did other;
     if (e->kind != PSCI_BESIDE_CALL || ours->what != PSCI_RETURN || (int32_t)ours->x0 >= 0 ||
-        theirs->what != PSCI_RETURN || (int32_t)theirs->x0 >= 0)
+        theirs->what != PSCI_RETURN || (int32_t)theirs->x0 >= 0 || is_cut(e, theirs))
         return false;
     for (int kind = 0; kind < 2; kind++)
         plain_entry(b, less.x, kind);

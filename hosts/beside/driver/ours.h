@@ -20,7 +20,7 @@ static void answered(beside *b, uint32_t core, uint64_t x0, const struct psci_an
         memcpy(d->depths, stop.depths, sizeof d->depths);
         d->told = answer->message.some;
         b->now.wakes[core] = stop.wakes;
-        if (answer->message.some && kind_of(b, &answer->message) >= PSCI_OFF && !b->peer->deliver)
+        if (answer->message.some && kind_of(b, &answer->message) >= PSCI_MESSAGE_OFF && !b->peer->deliver)
             d->what = PSCI_BESIDE_ENDS;
     }
     b->now.place[core] = answer->what == PSCI_STOP ? STOPPED : RUNNING;

@@ -26,13 +26,23 @@ static void say_return(char *text, size_t size, const event *e, const did *d) {
         put(text, size, d->x0 >> 32 ? " below another upper half" : " in 32 bits");
 }
 
+/* Whether a suspend is told what it asks for. */
+static bool is_as_asked(const beside *b, const event *e, const did *d) {
+    uint8_t asked[4];
+    asked_by(b, e, asked);
+    return e->kind == PSCI_BESIDE_CALL && plain_word(e->x[0]) == CPU_SUSPEND &&
+           memcmp(asked, d->depths, b->board.height + 1) == 0;
+}
+
 static void say(const beside *b, const event *e, const did *d, bool with_states, char *key, size_t size) {
     static const char *const words[] = {"", "stops", "enters", "goes on", "ends", "nothing", "does not come back"};
     if (d->what == PSCI_RETURN)
         say_return(key, size, e, d);
     else
         put(key, size, "%s", d->what <= PSCI_BESIDE_LOOPS ? words[d->what] : "refused");
-    if (d->what == PSCI_STOP && d->told && with_states)
+    if (d->what == PSCI_STOP && d->told && with_states && is_as_asked(b, e, d))
+        put(key, size, " as asked");
+    else if (d->what == PSCI_STOP && d->told && with_states)
         put_depths(b, key, size, d->depths);
     if (d->what == PSCI_RESUME && d->x0)
         put(key, size, " with %" PRId32, (int32_t)d->x0);

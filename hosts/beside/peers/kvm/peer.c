@@ -32,7 +32,7 @@ static void kvm_enter(void *self, uint32_t core, uint32_t cause, struct psci_bes
     if (v->requests & BIT(KVM_REQ_VCPU_RESET))
         kvm_reset_vcpu(v);
     v->requests = 0;
-    did->what = kvm_arm_vcpu_stopped(v) ? PSCI_BESIDE_NOTHING : cause == PSCI_WAKE ? PSCI_RESUME : PSCI_ENTER;
+    did->what = kvm_arm_vcpu_stopped(v) ? PSCI_BESIDE_NOTHING : cause == PSCI_CAUSE_WAKE ? PSCI_RESUME : PSCI_ENTER;
     did->address = *vcpu_pc(v);
     did->x0 = did->context = vcpu_get_reg(v, 0);
 }

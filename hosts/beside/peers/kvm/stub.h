@@ -7,6 +7,7 @@
 #include <string.h>
 
 typedef uint8_t u8;
+typedef uint16_t u16;
 typedef uint32_t u32, __u32;
 typedef int32_t s32;
 typedef uint64_t u64, __u64;
@@ -27,9 +28,9 @@ struct lock { int held; };
 #define MPIDR_LEVEL_SHIFT(level) (((1 << level) >> 1) << 3)
 enum { KVM_MP_STATE_RUNNABLE, KVM_MP_STATE_STOPPED, KVM_EXIT_SYSTEM_EVENT };
 enum { KVM_SYSTEM_EVENT_SHUTDOWN = 1, KVM_SYSTEM_EVENT_RESET, KVM_SYSTEM_EVENT_SUSPEND };
-enum { KVM_SYSTEM_EVENT_RESET_FLAG_PSCI_RESET2 = 1, KVM_REQ_SLEEP = 0, KVM_REQ_VCPU_RESET };
+enum { KVM_SYSTEM_EVENT_RESET_FLAG_PSCI_RESET2 = 1, KVM_SYSTEM_EVENT_SHUTDOWN_FLAG_PSCI_OFF2 = 1, KVM_REQ_SLEEP = 0, KVM_REQ_VCPU_RESET };
 enum { KVM_ARM_VCPU_PSCI_0_2, KVM_ARM_VCPU_SVE, KVM_ARM_VCPU_PTRAUTH_ADDRESS, KVM_ARM_VCPU_PTRAUTH_GENERIC };
-enum { KVM_ARCH_FLAG_SYSTEM_SUSPEND_ENABLED, VCPU_RESET_PSTATE_EL1 = 0x3c5, VCPU_RESET_PSTATE_SVC = 0x1d3 };
+enum { KVM_ARCH_FLAG_SYSTEM_SUSPEND_ENABLED, VCPU_RESET_PSTATE_EL1 = 0x3c5, VCPU_RESET_PSTATE_SVC = 0x1d3, VCPU_RESET_PSTATE_EL2 = 0x3c9 };
 enum { KVM_PSCI_FN_CPU_OFF, KVM_PSCI_FN_CPU_ON };
 struct vcpu_reset_state { unsigned long pc, r0; bool be, reset; };
 struct kvm_run { u32 exit_reason; struct { u32 type, ndata; u64 data[16]; } system_event; };
@@ -50,12 +51,19 @@ struct kvm_vcpu {
     } arch;
 };
 enum { MOST = 64 };
+/* of newer ones: a table of processors, which is not made yet */
+struct kvm_mpidr_data { u16 cmpidr_to_idx[MOST]; };
+#define rcu_dereference(p) (p)
+#define kvm_mpidr_index(d, m) 0
+#define kvm_get_vcpu(k, i) (&(k)->vcpus[i])
+typedef struct { u8 b[16]; } uuid_t;
 struct kvm {
-    struct { u32 psci_version; unsigned long flags; struct lock config_lock; } arch;
+    struct { u32 psci_version; unsigned long flags; struct lock config_lock; struct kvm_mpidr_data *mpidr_data; } arch;
     unsigned many;
     struct kvm_vcpu vcpus[MOST];
 };
 struct sys_reg_desc;
+#define vcpu_has_feature(v, n) test_bit(n, (v)->arch.features)
 #define kvm_for_each_vcpu(i, v, k) for ((i) = 0; (i) < (k)->many && ((v) = &(k)->vcpus[i]); (i)++)
 #define kvm_make_request(r, v) ((v)->requests |= BIT(r))
 #define kvm_vcpu_wfi(v) ((v)->sleeps = !(v)->event)
@@ -66,7 +74,7 @@ struct sys_reg_desc;
 #define vcpu_write_sys_reg(v, x, r) ((v)->arch.ctxt.mpidr = (x))
 #define kvm_vcpu_get_mpidr_aff(v) ((v)->arch.ctxt.mpidr & MPIDR_HWID_BITMASK)
 #define kvm_reset_sys_regs(v) reset_mpidr(v, NULL)
-int kvm_reset_vcpu(struct kvm_vcpu *);
+#include "reset.h" /* what kvm_reset_vcpu returns, cut out of reset.c by build */
 void kvm_arm_vcpu_power_off(struct kvm_vcpu *);
 bool kvm_arm_vcpu_stopped(struct kvm_vcpu *);
 struct kvm_vcpu *kvm_mpidr_to_vcpu(struct kvm *, unsigned long);

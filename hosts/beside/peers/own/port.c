@@ -55,7 +55,7 @@ void port_take(uint32_t acknowledgement) {
 
 bool port_wake(uint16_t core, uint32_t cause) {
     struct psci_ctl_answer done;
-    if (cause == PSCI_RESET)
+    if (cause == PSCI_CAUSE_RESET)
         psci_ctl_reset(&port.controller, core, &done);
     else
         psci_ctl_wake(&port.controller, core, psci_ctl_starts(&port.controller, core), &done);

@@ -70,7 +70,7 @@ static void qemu_enter(void *self, uint32_t core, uint32_t cause, struct psci_be
     ARMCPU *cpu = &cpus[core];
     cpu->parent.halted = cpu->power_state == QEMU_OFF;
     work(cpu);
-    did->what = cpu->parent.halted ? PSCI_BESIDE_NOTHING : cause == PSCI_WAKE ? PSCI_RESUME : PSCI_ENTER;
+    did->what = cpu->parent.halted ? PSCI_BESIDE_NOTHING : cause == PSCI_CAUSE_WAKE ? PSCI_RESUME : PSCI_ENTER;
     did->address = cpu->env.pc;
     did->x0 = did->context = cpu->env.xregs[0];
 }

@@ -42,6 +42,11 @@ extern uint32_t many_cpus, is_ending;
 #define arm_current_el(env) ((env)->pstate)
 #define aarch64_pstate_mode(el, handler) (el)
 #define qemu_mutex_iothread_locked() true
+/* what these are called in QEMU 10 */
+#define bql_locked() true
+#define tcg_enabled() true
+#define arm_cpu_mp_affinity(cpu) ((cpu)->mp_affinity)
+#define arm_emulate_firmware_reset(cpu, el) (ARM_CPU(cpu)->env.pstate = (el))
 #define g_assert assert
 extern uint64_t next_block[4];
 #define g_new(type, many) ((type *)next_block)

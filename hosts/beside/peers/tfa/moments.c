@@ -34,7 +34,7 @@ static void begin(uint64_t address) {
     struct psci_beside_did did;
     tfa_open(NULL, NULL);
     call(0, CPU_ON, 1, address, 7);
-    tfa_enter(NULL, 1, PSCI_ON, &did);
+    tfa_enter(NULL, 1, PSCI_CAUSE_ON, &did);
 }
 
 static void look_at_core_1(void) { status = tfa_status(NULL, 1); }
@@ -58,11 +58,11 @@ int main(void) {
     call(1, CPU_OFF, 0, 0, 0);
     saw(1, status == OFF, "core 1 is OFF while it still executes its CPU_OFF");
     begin(0x40200800);
-    tfa_enter(NULL, 1, PSCI_RESET, &did);
+    tfa_enter(NULL, 1, PSCI_CAUSE_RESET, &did);
     saw(3, did.what == PSCI_ENTER && did.address == 0x40200800, "core 1 runs, is reset, and enters at the address of its "
                                                                "CPU_ON once more");
     begin(0x40200400);
-    tfa_enter(NULL, 3, PSCI_RESET, &did);
+    tfa_enter(NULL, 3, PSCI_CAUSE_RESET, &did);
     saw(4, did.what == PSCI_BESIDE_NOTHING, "core 3, which nobody asked on, starts, and TF-A panics");
     begin(0x40200400);
     before_it_stops = suspend_the_system;

@@ -29,11 +29,15 @@ void cm_prepare_el3_exit_ns(void) {
     out = (struct psci_beside_did){.what = PSCI_ENTER, .address = entries[me].pc, .context = entries[me].args.arg0};
 }
 
+void cm_manage_extensions_el3(unsigned int core) {}
+int is_feat_spe_supported(void) { return 0; }
+
 u_register_t mpidr_of(unsigned int core) { return (core / PER_CLUSTER) << 8 | core % PER_CLUSTER; }
 int plat_core_pos_by_mpidr(u_register_t mpidr) {
     unsigned int core = (mpidr >> 8) * PER_CLUSTER + (uint8_t)mpidr;
     return core < PLATFORM_CORE_COUNT && mpidr_of(core) == mpidr ? core : -1;
 }
+bool is_valid_mpidr(u_register_t mpidr) { return plat_core_pos_by_mpidr(mpidr) >= 0; }
 
 const unsigned char *plat_get_power_domain_tree_desc(void) {
     static const unsigned char tree[] = {1, CLUSTERS, PER_CLUSTER, PER_CLUSTER};
@@ -50,6 +54,9 @@ static int validate(unsigned int word, psci_power_state_t *asked) {
         asked->pwr_domain_state[level] = below = state;
         highest = state ? level : highest;
     }
+#if PSCI_OS_INIT_MODE
+    asked->last_at_pwrlvl = psci_get_pstate_pwrlvl(word);
+#endif
     bool is_down = (word & 15) == PLAT_MAX_OFF_STATE;
     return (word & 15) && !(word & 0xf000) && highest == psci_get_pstate_pwrlvl(word) &&
                    is_down == psci_get_pstate_type(word) ? PSCI_E_SUCCESS : PSCI_E_INVALID_PARAMS;
@@ -60,7 +67,12 @@ static int on(u_register_t mpidr) { return PSCI_E_SUCCESS; }
 static void tell(const psci_power_state_t *state) { told = *state; }
 static void finish(const psci_power_state_t *state) {}
 static void standby(plat_local_state_t state) {}
-static void whole_system(psci_power_state_t *asked) { memset(asked, PLAT_MAX_OFF_STATE, sizeof *asked); }
+static void whole_system(psci_power_state_t *asked) {
+    memset(asked->pwr_domain_state, PLAT_MAX_OFF_STATE, sizeof asked->pwr_domain_state);
+#if PSCI_OS_INIT_MODE
+    asked->last_at_pwrlvl = PLAT_MAX_PWR_LVL;
+#endif
+}
 int plat_setup_psci_ops(uintptr_t entry, const plat_psci_ops_t **ops) {
     static const plat_psci_ops_t operations = {standby, on, tell, .pwr_domain_suspend = tell, .system_off = end,
         .pwr_domain_on_finish = finish, .pwr_domain_suspend_finish = finish, .system_reset = end,

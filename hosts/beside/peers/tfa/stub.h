@@ -24,7 +24,8 @@ u_register_t mpidr_of(unsigned int core);
 
 #include <lib/psci/psci.h>
 void panic(void), cm_init_context_by_index(unsigned int core, const entry_point_info_t *entry), cm_prepare_el3_exit_ns(void);
-int plat_core_pos_by_mpidr(u_register_t mpidr), plat_setup_psci_ops(uintptr_t entry, const plat_psci_ops_t **ops);
+bool is_valid_mpidr(u_register_t mpidr);
+int is_feat_spe_supported(void), plat_core_pos_by_mpidr(u_register_t mpidr), plat_setup_psci_ops(uintptr_t entry, const plat_psci_ops_t **ops);
 const unsigned char *plat_get_power_domain_tree_desc(void);
 plat_local_state_t plat_get_target_pwr_state(unsigned int level, const plat_local_state_t *, unsigned int many);
 extern struct cpu_data { struct psci_cpu_data psci_svc_cpu_data; } cpus[PLATFORM_CORE_COUNT];

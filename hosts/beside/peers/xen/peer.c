@@ -37,7 +37,7 @@ static void xen_call(void *self, uint32_t core, const uint64_t x[4], struct psci
 static void xen_enter(void *self, uint32_t core, uint32_t cause, struct psci_beside_did *did) {
     struct vcpu *v = &vcpus[core];
     v->pause_flags &= ~(1ul << _VPF_blocked);
-    *did = (struct psci_beside_did){v->pause_flags ? PSCI_BESIDE_NOTHING : cause == PSCI_WAKE ? PSCI_RESUME : PSCI_ENTER,
+    *did = (struct psci_beside_did){v->pause_flags ? PSCI_BESIDE_NOTHING : cause == PSCI_CAUSE_WAKE ? PSCI_RESUME : PSCI_ENTER,
                                     v->arch.regs.x0, v->arch.regs.pc64, v->arch.regs.x0};
 }
 

@@ -1,0 +1,1 @@
+#include "../kvm/peer.c"

@@ -1,0 +1,1 @@
+#include "../qemu/peer.c"

@@ -1,0 +1,1 @@
+#include "../tfa/peer.c"
