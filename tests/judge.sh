@@ -5,7 +5,8 @@ payload=hosts/payload
 
 # profile_of PEER: records of one firmware by another conduit or loader have one profile
 profile_of() {
-    local peer=${1%-smc}
+    local peer=${1%-bits}
+    peer=${peer%-smc}
     echo "$payload/profiles/${peer%-uboot}"
 }
 
@@ -34,7 +35,7 @@ judged_records() {
 # end a life
 judged_ours() {
     local peer
-    for peer in el3 ours-in-tfa; do
+    for peer in el3 el3-bits ours-in-tfa ours-on-kvm; do
         if grep -q "^differs\|^undecided" "$payload/reports/$peer.txt"; then fail "records of $peer"; else pass; fi
     done
     ./psci compare --tallies "$work"/calls/el3/*.record > "$work/out"
@@ -141,6 +142,23 @@ judged_broken() {
     fi
 }
 
+# the payload's lists reach each bit: by the commit a 64th of the faults that hosts/payload/bits plants; without the lists
+# of bits that is told
+judged_bits() {
+    local part
+    has_python "$payload/bits" || return
+    part=$((16#$(git rev-parse --short=6 HEAD 2> /dev/null || echo 0) % 64 + 1))
+    if "$payload/bits" --part "$part/64" > "$work/out" 2>&1; then pass; else
+        fail "$payload/bits, part $part"
+        tail -n 10 "$work/out"
+    fi
+    "$payload/bits" --without 'storm|bits' --only 'AFFINITY_INFO_64: bit (9|1[0-5]) of x1' > "$work/out" 2>&1
+    if [ $? = 1 ] && [ "$(grep -c '^not found: ' "$work/out")" = 7 ]; then pass; else
+        fail "$payload/bits: lists without a bit are not told"
+        tail -n 5 "$work/out"
+    fi
+}
+
 # is_gone PROCESS: whether it executes no more, soon
 is_gone() {
     for _ in {1..100}; do
@@ -187,9 +205,26 @@ judged_live() {
     judged_as 6 "1 x FEATURES of CPU_ON: theirs -1; ours 0" --profile "$profile" "$work"/live/*.record
     judged_as 0 "agrees    live/lives:" --profile "$profile" "$work/live/lives.record"
     judged_as 0 "agrees    live/standby" --profile "$profile" "$work/live/standby.record"
+    judged_places
     judged_again "$profile"
     judged_virtio "$profile"
     judged_kvm
+}
+
+# a core enters at each entry point far from the image; where these are not written, it doesn't
+judged_places() {
+    played --on qemu --one-thread --out "$work/live" bits-on-64
+    if [ "$(grep -c '^psci: enter 1 ' "$work/live/bits-on-64.record")" = 64 ] &&
+        ! grep -q '^psci: \(lacks\|late\|fault\)' "$work/live/bits-on-64.record"; then pass; else
+        fail "$payload/places.c"
+    fi
+    cp -r "$payload" "$work/without" && sed -i '/^    places_ready();/d' "$work/without/play.c" &&
+        make -s -C "$work/without" "OUT=$work/without/made" > "$work/out" 2>&1 || fail "$payload without places"
+    "$payload/run" --seconds 5 --payload "$work/without/made/payload.bin" --on qemu --out "$work/without" \
+        bits-on-64 > "$work/out" 2>&1
+    if [ "$(grep -c '^psci: enter 1 ' "$work/without/bits-on-64.record")" -lt 64 ]; then pass; else
+        fail "$payload/places.c: entry points that are not written are not told"
+    fi
 }
 
 # the monitor for KVM compiles; booting it takes minutes

@@ -186,7 +186,7 @@ def tried(folder, cases_of, is_quick=False):
 
 
 # how many lines of copies one check reads, beyond those of one case
-AT_ONCE = 4000
+AT_ONCE = 16000
 
 
 def together_tried(folder, edits, is_quick):

@@ -42,10 +42,11 @@ class Texts:
 
     def is_cited(self, path, name):
         """Whether anything but its own statement and proof names the theorem: its own file, or one
-        that names this file, of this crate or of one above. What a comment says does not count."""
+        that names this file, of this crate or of one above. What a comment says does not count, nor a
+        field that is called so."""
         if (os.path.basename(path).removesuffix(".antt"), name) in self.above:
             return True
-        word = re.compile(rf"(?<![\w.'-]){re.escape(name)}(?![\w'-])")
+        word = re.compile(rf"(?<![\w.'-]){re.escape(name)}(?![\w'-]| [=:]\s)")
         own = re.compile(rf"^(?:pub )?{re.escape(name)}\b", re.M)
         module = re.compile(rf"\.{re.escape(path.removesuffix('.antt').replace('/', '.'))}\b")
         for at, text in self.plain().items():
@@ -82,7 +83,7 @@ class Refusals:
     def __init__(self, crate, text):
         texts, without_lemma = Texts(crate), set()
         self.counts, self.open, self.laws, self.broken = [], [], [], []
-        for it in refuted.failures(text):
+        for it in refuted.all_failures(text, lambda path: texts.texts.get(path, "")):
             # the proof of a law stands in a folder of the law's name
             law = next((word for word in it.path.split("/") if word.startswith("law_")), None)
             if AFTER_ANOTHER in it.words:

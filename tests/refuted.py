@@ -55,6 +55,35 @@ def failures(text):
             for path, line, column, name, words in found]
 
 
+# what rests on a declaration that was refused is not checked, and not named to its end
+DEPENDS = re.compile(r"declarations? that depends? on `([^`]*)`, which was rejected, w\w+ not checked")
+DECLARES = re.compile(r"^(?:(?:pub|abbrev|unfoldable|record|data) )*([^\s(){}:]+)(?= :\s| \(| \{)", re.M)
+
+
+def all_failures(text, text_of):
+    """The errors in what a check wrote, and one of each declaration that may not have been checked since it
+    names what was refused, itself or by others; by the texts of the files."""
+    found = failures(text)
+    rejected = [(it, DEPENDS.search(it.words)) for it in found]
+    return found + [Failure(it.path, it.line, it.column, name, it.words) for it, by in rejected if by
+                    for name in sorted(dependents(text_of(it.path), by[1]))]
+
+
+def dependents(text, word):
+    """What a file declares that names this word, itself or by others."""
+    blocks = [({*DECLARES.findall(it)}, {*WORD.findall(NO_NAME.sub("", it))})
+              for it in re.split(r"\n\n(?=\S)", text)]
+    found, more = {word}, True
+    while more:
+        more = {name for names, words in blocks if words & found for name in names} - found
+        found |= more
+    return found - {word}
+
+
+WORD = re.compile(r"[^\s(){}\[\],;.:]+")
+# what names nothing: a comment, a field that is set, or taken
+NO_NAME = re.compile(r"^ *--.*$|\.[\w'-]+|(?<![\w'-])[\w'-]+ =(?=\s)", re.M)
+
 # ---- computed
 
 APART = re.compile(r"computed as far as they go, the two types (?:differ only|first differ) where one has"
@@ -176,24 +205,25 @@ MARK = "judged_"
 SEARCH = f"grind ({MARK}arith, {MARK}tests, {MARK}ne, {MARK}same)"
 # what a search says that has found such values
 FAILS = "`grind`: the goal does not follow. The hypotheses hold, and the goal fails"
-# a false statement that is put in with them: where no error is told of it, nothing was read
-HEARD = f"{MARK}heard"
+# behind each proof stands a false statement that names it: an error is told of that only where the proof
+# was admitted, since what rests on a refused one is not checked
+HEARD = "_heard"
 
 
 class Negations:
-    """The negations of some theorems, put into their files on a copy, each with several proofs."""
+    """The negations of some theorems, put into their files on a copy, each with several proofs. Of many cases
+    they are put in twice: first without what asks each place of a table, which costs the most."""
 
-    def __init__(self, folder, edit, uses, texts=None):
+    def __init__(self, folder, edit, uses, texts=None, is_first=None):
         # of each theorem the terms that the case brings, and what these bring in and unfold; the texts of
         # the copy that do not lie in the folder
-        self.folder, self.lying, self.uses = folder, texts or {}, uses
+        self.folder, self.lying, self.uses, self.is_first = folder, texts or {}, uses, is_first
         self.given = terms(edit.words.get("false", []))
         self.unfolds = " ".join(edit.words.get("unfolding", []))
         self.bare, self.texts, self.files = {}, {}, {}
         self.crate = os.path.basename(folder)
         path = f"{APART_LEMMAS}/{self.crate}.lemmas"
-        # (copies of a file have no place for further lemmas)
-        self.lemmas = repo.text_of(path) if texts is None and os.path.exists(path) else ""
+        self.lemmas = repo.text_of(path) if os.path.exists(path) else ""
         # of each theorem or clause the names of its negations, with their proofs
         self.tried, self.long = {}, set()
 
@@ -214,9 +244,13 @@ class Negations:
         key = failure.path, failure.name
         by_refl = BY_REFL.fullmatch(body.strip() + "\n")
         way = way_of(failure, item, self.bare[failure.path])[0] if by_refl else ""
+        if self.is_first is False and not by_refl:
+            return
         # (a check says so at the first of a theorem's parts alone)
         is_long = by_refl and self.lemmas and (TOO_LONG.search(failure.words) or key in self.long)
         self.long |= {key} if is_long else set()
+        if self.is_first is not None:
+            is_long = by_refl and self.lemmas and self.is_first
         proofs = self.given.get(item.name, []) + (
             [f"λ {MARK}h. {MARK}{it} {MARK}h{way} refl refl" for it in self.names_of_lemmas()]
             if is_long else list(ways(failure, item, self.bare[failure.path])))
@@ -225,7 +259,7 @@ class Negations:
             again = f"{MARK}{list(self.tried).index(key)}_again"
             if not is_long:
                 self.put(failure.path, again, statement[stated.end():], opened, SEARCH)
-            if by_refl and not is_long:
+            if by_refl and not is_long and not self.is_first:
                 for count, probe in enumerate(AT_PLACE * PLACES):
                     self.put(failure.path, f"{again}_{count}", f" ({statement[stated.end():]}\n    ) → ⊥",
                              opened, probe.format(MARK, count // 2, way))
@@ -236,16 +270,18 @@ class Negations:
                 own = proof in self.given.get(item.name, []) and self.unfolds
                 self.put(failure.path, name, f" ({statement[stated.end():]}\n    ) → ⊥",
                          f"{opened or 'unfolding'} {self.unfolds}" if own else opened, proof)
+                self.hear(failure.path, name)
 
     def names_of_lemmas(self):
         return re.findall(r"^pub (\w+) :", self.lemmas, re.M)
 
     def bring(self, module, text):
-        """Puts a file in among the proofs, if it is not there."""
+        """Puts a file in among the proofs, if it is not there; of many cases the check lists it."""
         if f"proofs/{module}.antt" not in self.texts:
             lib = "proofs/Lib.antt"
-            self.texts.setdefault(lib, repo.text_of(f"{self.folder}/{lib}"))
-            self.texts[lib] += f"mod {module}\n"
+            if self.is_first is None:
+                self.texts.setdefault(lib, repo.text_of(f"{self.folder}/{lib}"))
+                self.texts[lib] += f"mod {module}\n"
             self.texts[f"proofs/{module}.antt"] = text
 
     def put(self, path, name, statement, opened, proof):
@@ -264,6 +300,10 @@ class Negations:
         for at, term in enumerate(self.given[name]):
             self.tried[path, name][f"{MARK}{number}_{at}"] = term
             self.put(path, f"{MARK}{number}_{at}", f" ({statement}\n    ) → ⊥", opened, term)
+            self.hear(path, f"{MARK}{number}_{at}")
+
+    def hear(self, path, name):
+        self.put(path, f"{name}{HEARD}", " Unit {0} → ⊥", None, f"λ u. let n = {name} in u")
 
     def written(self):
         """The files with what was put in, by their paths."""
@@ -277,7 +317,7 @@ class Negations:
             lines = self.texts[path].splitlines()
             last = max(at for at, it in enumerate(lines) if re.match(r"(pub )?use ", it))
             lines[last + 1:last + 1] = [*used, *(self.uses if path in brought else [])]
-            texts[path] = "\n".join([*lines, "", f"{HEARD} : Unit {{0}} → ⊥", f"{HEARD} u = u", ""])
+            texts[path] = "\n".join([*lines, ""])
         self.files = {**self.texts, **texts}
         return self.files
 
@@ -289,13 +329,14 @@ class Negations:
 
     def shown(self, text):
         """The theorems whose negation the check has admitted, by what it wrote."""
-        said, shown = {(it.path, self.name_at(it)): it for it in failures(text)}, []
+        said = {(it.path, self.name_at(it)): it for it in failures(text) if not DEPENDS.search(it.words)}
+        shown = []
         for number, ((path, name), names) in enumerate(self.tried.items()):
             again = f"{MARK}{number}_again"
             fails = (path, again) in said and said[path, again].words.startswith(FAILS)
             apart = any(differ_there(it) for (at, place), it in said.items()
                         if at == path and place and place.startswith(f"{again}_"))
-            if (path, HEARD) in said and (fails or apart or any((path, it) not in said for it in names)):
+            if fails or apart or any((path, f"{it}{HEARD}") in said for it in names):
                 shown.append((path, name))
         return shown
 

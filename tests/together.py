@@ -135,8 +135,7 @@ def with_theorems(folder, modules):
 
 
 THEOREM = re.compile(r"^(?:pub )?([^\s(){}:]+) :(?=\s)", re.M)
-WORD = re.compile(r"[^\s(){}\[\],;.:]+")
-DECLARES = re.compile(r"^(?:(?:pub|abbrev|unfoldable|record|data) )*([^\s(){}:]+)(?= :\s| \(| \{)", re.M)
+WORD, DECLARES = refuted.WORD, refuted.DECLARES
 # within a type, or a section
 INSIDE = re.compile(r"^  (?:(?:pub|abbrev) )*([^\s(){}:]+)(?= :\s)", re.M)
 HOLDS = re.compile(r"^(?:pub )?(?:record|data|module) ", re.M)
@@ -206,12 +205,12 @@ class Copies:
                 break
             words |= more
 
-    def negations(self, folder, failures):
-        """The negations of these theorems, and of the laws that the case says to be false."""
-        found = refuted.Negations(folder, self.edit, self.uses, self.texts)
+    def negations(self, folder, failures, is_first):
+        """The negations of these theorems, and at first of the laws that the case says to be false."""
+        found = refuted.Negations(folder, self.edit, self.uses, self.texts, is_first)
         for failure in failures:
             found.add(failure)
-        for law, said in self.laws.items():
+        for law, said in self.laws.items() if is_first else ():
             found.add_law(law, said, f"proofs/{refuted.LAWS}{self.tag}.antt")
         return found
 
@@ -227,9 +226,9 @@ class Together:
     def refused(self):
         """Of each case, by its name, what refuses it, and what broke and may hold, or an error in its
         definitions; all as words."""
-        counts, negations = {it.name: [] for it in self.copies}, {}
+        counts = {it.name: [] for it in self.copies}
         lost = {it.name: [] for it in self.copies}
-        text = self.said({})
+        text = self.said({}, self.copies)
         bad = self.unread(text)
         for it, failure, kind in self.failing(text):
             values = refuted.computed(failure, self.theorem(it, failure))
@@ -237,19 +236,24 @@ class Together:
                 counts[it.name].append(f"{kind} {self.at(it, failure)}, where {values}")
             else:
                 lost[it.name].append((kind, failure))
-        for it in self.copies:
-            if (lost[it.name] or it.laws) and not counts[it.name]:
-                negations[it] = it.negations(self.folder, [failure for _, failure in lost[it.name]])
-        written = {path: text for some in negations.values() for path, text in some.written().items()}
-        text = self.said(written) if written else ""
-        for it, some in negations.items():
+        for is_first in (True, False):
+            self.count_negations(counts, lost, is_first)
+        said = {it.name: [f"{kind} {self.at(it, failure)}" for kind, failure in lost[it.name]]
+                for it in self.copies}
+        return {**counts, **dict.fromkeys(bad, [])}, {**said, **bad}
+
+    def count_negations(self, counts, lost, is_first):
+        """Counts what is lost, and the laws of cases, where its negation is proved; of cases that have none."""
+        asked = {it: it.negations(self.folder, [failure for _, failure in lost[it.name]], is_first)
+                 for it in self.copies if (lost[it.name] or it.laws) and not counts[it.name]}
+        tried = {it: some for it, some in asked.items() if some.tried}
+        written = {path: text for some in tried.values() for path, text in some.written().items()}
+        text = self.said(written, list(tried)) if written else ""
+        for it, some in asked.items():
             shown = some.shown(text)
             counts[it.name] = [f"{kind} {self.at(it, failure)}, whose negation is proved"
                                for kind, failure in lost[it.name] if (failure.path, failure.name) in shown]
             counts[it.name] += [f"law {law}, whose negation is proved" for _, law in shown if law in it.laws]
-        said = {it.name: [f"{kind} {self.at(it, failure)}" for kind, failure in lost[it.name]]
-                for it in self.copies}
-        return {**counts, **dict.fromkeys(bad, [])}, {**said, **bad}
 
     def unread(self, text):
         """The cases of which a definition is refused, with what is said of it."""
@@ -260,7 +264,7 @@ class Together:
     def failing(self, text):
         """Yields of what failed the case, what was said, and which sort of theorem it is, where it counts."""
         of = {path: it for it in self.copies for path in it.texts}
-        for failure in refuted.failures(text):
+        for failure in refuted.all_failures(text, lambda path: of[path].texts[path] if path in of else ""):
             it = of.get(failure.path)
             kind = it and failure.name and self.texts.kind_of(it.of[failure.path], failure.name)
             if kind:
@@ -273,16 +277,16 @@ class Together:
     def at(it, failure):
         return f"{failure.name} ({os.path.basename(it.of[failure.path])[:-5]})"
 
-    def said(self, texts):
-        """What the check says of all copies, some of them with these texts."""
-        all_texts = {path: text for it in self.copies for path, text in it.texts.items()} | texts
+    def said(self, texts, copies):
+        """What the check says of these copies, some of them with these texts."""
+        all_texts = {path: text for it in copies for path, text in it.texts.items()} | texts
         libs = {f"{part}/Lib.antt": repo.text_of(f"{self.folder}/{part}/Lib.antt") for part in ("specs", "proofs")}
         listed = {path: text + "".join(
             f"pub mod {os.path.basename(it)[:-5]}\n" for it in sorted(all_texts)
             if os.path.dirname(it) == os.path.dirname(path)) for path, text in libs.items()}
         repo.write(self.folder, {**all_texts, **listed})
         try:
-            asked = {at for it in self.copies for at in it.asked} | {at for at in texts if refuted.LAWS in at}
+            asked = {at for it in copies for at in it.asked} | {at for at in texts if refuted.LAWS in at}
             return self.check(sorted(os.path.basename(at)[:-5] for at in asked)) if asked else ""
         finally:
             repo.write(self.folder, libs)

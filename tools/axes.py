@@ -2,6 +2,7 @@
 
     uses(axis, clause, happens, is_break, of_platform)    why it does not; None if it does
     shows(axis, statement)                                the same where only words are looked at
+    acts(axis, statement)                                 the same of a port's acts
 """
 import re
 
@@ -17,7 +18,8 @@ PAIRS = (*(f"level {level} in {value}" for value in ("life 2", "OS-initiated mod
            for level in (1, 2, 3)),
          "boot core in life 2", "caller in life 2", "bystander in life 2",
          "boot core after an entry", "another core after an entry")
-NAMED_AXES = {"pairs": PAIRS, "two cores": TWO_CORES}
+PORT = ("life 1", "life 2", "boot core", "another core", "boot core in life 2")
+NAMED_AXES = {"pairs": PAIRS, "two cores": TWO_CORES, "port": PORT}
 # the numbers of cores on a board
 CORES = {"boot core": 0, "second core": 1, "first of another cluster": 2, "last of five": 4}
 # the clauses that speak of cores that are powered down: retention is no sleep to them
@@ -38,6 +40,24 @@ def shows(axis, text):
             "halting": "system_off" in text or resets > 0,
             "extended format": "Extended" in text,
             "original format": "Extended" not in text}.get(axis, True)
+
+
+# an act of a core of a port
+ACT = re.compile(r"\b(?:Locks|Unlocks|asks|Finishes|TakesUp|Stands|Arms|Sleeps|Resets|Writes|Opens"
+                 r"|door|comes) (\d+)")
+
+
+def acts(axis, text):
+    """Whether the last act of a port's example is of this core, level and life."""
+    if " in " in axis:
+        return all(acts(it, text) for it in axis.split(" in "))
+    word, _, value = axis.partition(" ")
+    if word == "level":
+        return re.findall(r"\bCuts (\d+)", text)[-1:] == [value]
+    if word == "life":
+        return len(re.findall(r"\b0x84000009 ", text)) == int(value) - 1
+    last = ACT.findall(text)[-1:]
+    return last != [] and (last == ["0"]) == (axis == "boot core")
 
 
 def core_of(axis, happens, of_platform):

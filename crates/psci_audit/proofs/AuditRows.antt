@@ -100,6 +100,13 @@ past_the_last is =
     let d = length-append (reverse is.before) (is.entry ∷ is.since) in
     let s = length-reverse is.before in omega (arith, e, d, s, is.at)
 
+-- nor a third one in a list of two, of which the second may not follow
+past_the_second : IsFirstIllegal board (boots ∷ boots ∷ []) 2 → ⊥
+past_the_second is =
+    let e : length (reverse is.before ++ (is.entry ∷ is.since)) ≡ 2 = ap length is.parts in
+    let d = length-append (reverse is.before) (is.entry ∷ is.since) in
+    let s = length-reverse is.before in omega (arith, e, d, s, is.at)
+
 -- tickets that fall come before an entry that may not follow
 falling : IsFault board (returns 2 ∷ enters 1 ∷ []) [] Ticket
 falling fit = let less = fit.firmware.1.0 in omega (arith, less)

@@ -138,16 +138,19 @@ unsound_by_kind = (
 
 not_of_this_life :
     -- a number that is not known yet, an Off in a life that is not halting
-    (IsOfThisLife board false (each 0) (each Away) down_3 → ⊥)
+    (IsOfThisLife board false (each 0) (each Away) start_3 → ⊥)
     × (IsOfThisLife board false (each 1) (each Away) off_3 → ⊥)
     -- a Start of a core that is not pending, a Down that is not what its core asks of itself
     × (IsOfThisLife board false (each 1) (each Away) start_3 → ⊥)
     × (IsOfThisLife board false (each 1) (each Running) down_3 → ⊥)
+    -- a generation above the known starts
+    × (IsOfThisLife board false (each 0) (each Away) down_3 → ⊥)
 not_of_this_life = (
   λ h. omega (arith, h.number),
   λ h. let halts : false ≡ true = h.halts refl in cc,
   λ h. let pending = h.pending refl refl in cc,
   λ h. omega (arith, h.asked refl refl (λ e. absurd (cc)) (part 0 3 1) refl),
+  λ h. omega (arith, h.number),
 )
 
 -- Sums ----------------------------------------------------------------------------------------

@@ -111,6 +111,21 @@ group_of_both = record {
   last = refl;
 }
 
+-- and its first part alone says so of core 3 itself
+itself_of_both : IsCarriedOut tall both_entered (acked Down 3) 0 3
+unfolding up
+itself_of_both = record {
+  message = sent_after;
+  part = part 0 1;
+  kind = refl;
+  outstanding = refl;
+  path = refl;
+  granted = omega arith;
+  applied = omega arith;
+  at = refl;
+  last = refl;
+}
+
 -- not where two parts were applied; the group is not on the core's path; it is of no Down; nothing
 -- is granted any more, nothing waits, or core 3 has entered
 -- since

@@ -6,12 +6,12 @@ use Rattle.std.proofs.lemmas.Option.{same_Some}
 use Rattle.std.proofs.lemmas.Bool.Decides.{nat_tests}
 use Rattle.psci_ctl_spec.specs.psci_messages.declared.kind.Kind.TheVariants.{Down}
 use Rattle.psci_ctl_spec.specs.psci_messages.Message.{AckValue}
-use Rattle.psci_world_spec.specs.declared.event.Event.TheVariants.{Deliver, Enter, Take}
+use Rattle.psci_world_spec.specs.declared.event.Event.TheVariants.{Deliver, Enter, Take, Wake}
 use Rattle.psci_world_spec.specs.declared.said.Record.{Record}
 use Rattle.psci_world_spec.specs.Histories.{firmware_values}
 use Rattle.psci_world_spec.specs.Legal.{run_from}
-use Rattle.psci_world_spec.proofs.Scripts.{acked, board, computing, off, on_3, retention}
-use Rattle.psci_world_spec.proofs.Scripts.{system_reset, used}
+use Rattle.psci_world_spec.proofs.Scripts.{acked, board, computing, nothing, off, on_3, resumes}
+use Rattle.psci_world_spec.proofs.Scripts.{retention, stops, system_reset, used, version}
 use Rattle.psci_headline.specs.Moments.{was_powered_down}
 use Rattle.psci_headline.specs.PoweredDown.{AreDown, IsDownBy}
 
@@ -55,6 +55,14 @@ off_and_not_down_in_life_2 : AreDown board
     ∷ on_3 ∷ Deliver 3 ∷ Enter 3 ∷ off 3 ∷ [])) → ⊥
 unfolding computing was_powered_down
 off_and_not_down_in_life_2 down = let no : false ≡ true = down.off 3 refl in absurd (cc)
+
+-- in life 2 it is OFF since the life began, and goes on where a function told it to, as none shall
+off_and_went_on_in_life_2 : AreDown board
+    (record { event = version 3; said = stops nothing }
+    ∷ record { event = version 3; said = resumes }
+    ∷ run_from board [] (Enter 0 ∷ system_reset 0 ∷ Deliver 0 ∷ Enter 0 ∷ Wake 3 ∷ [])) → ⊥
+unfolding computing was_powered_down
+off_and_went_on_in_life_2 down = let no : false ≡ true = down.off 3 refl in absurd (cc)
 
 -- Acknowledged --------------------------------------------------------------------------------
 

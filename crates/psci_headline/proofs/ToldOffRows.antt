@@ -12,6 +12,7 @@ use Rattle.psci_world_spec.specs.declared.said.Said.{Said}
 use Rattle.psci_world_spec.specs.Legal.{run_from}
 use Rattle.psci_world_spec.proofs.Scripts.{board, call, computing, nothing, off, on_3, retention}
 use Rattle.psci_world_spec.proofs.Scripts.{status_3, stops, system_off, system_reset, tall, value}
+use Rattle.psci_world_spec.proofs.Scripts.{version}
 use Rattle.psci_headline.specs.Moments.{was_powered_down}
 use Rattle.psci_headline.specs.ToldOff.{AllOff, told_off}
 use Rattle.psci_headline.proofs.Checking.{by_core, each}
@@ -78,6 +79,12 @@ system_runs all = (all 0 (omega arith) refl).0 refl
 cluster_runs : AllOff board (after board third_on) (at 1 1) → ⊥
 unfolding computing was_powered_down
 cluster_runs all = (all 3 (omega arith) refl).0 refl
+
+-- core 3 was powered down and woken, and it runs before it has entered
+off_and_runs : AllOff board (record { event = version 3; said = value 65537 }
+    ∷ after board (Enter 0 ∷ Wake 3 ∷ [])) (at 0 3) → ⊥
+unfolding computing was_powered_down
+off_and_runs all = (all 3 (omega arith) refl).0 refl
 
 -- core 3 goes off and was not powered down yet; it is in retention, and was not since it entered
 going_off : AllOff board (after board (third_on ++ off 3 ∷ [])) (at 0 3) → ⊥

@@ -14,10 +14,12 @@ use Rattle.psci_headline.specs.psci_messages.declared.kind.Kind.TheVariants.{Dow
 use Rattle.psci_headline.specs.psci_messages.Message.{MessageValue}
 use Rattle.psci_headline.specs.psci_world_spec.declared.event.Event.{Event}
 use Rattle.psci_headline.specs.psci_world_spec.declared.event.Event.TheVariants.{Deliver, Enter}
-use Rattle.psci_headline.proofs.world_spec.Scripts.{call, off, part, system_off}
-use Rattle.psci_platform_safe.proofs.Histories.{computing, life_2, on_1, suspend, tall, tall_on}
-use Rattle.psci_platform_safe.proofs.Histories.{told, two}
-use Rattle.psci_platform_safe.proofs.Moments.{all_ask}
+use Rattle.psci_headline.specs.psci_world_spec.declared.event.Event.TheVariants.{Wake}
+use Rattle.psci_headline.proofs.world_spec.Scripts.{call, goes_down, off, part, system_off}
+use Rattle.psci_headline.proofs.world_spec.Scripts.{system_reset}
+use Rattle.psci_platform_safe.proofs.Histories.{after, computing, core_1_on, life_2, on_1, says}
+use Rattle.psci_platform_safe.proofs.Histories.{suspend, tall, tall_on, told, two}
+use Rattle.psci_platform_safe.proofs.Moments.{all_ask, not_asked_for}
 
 -- a Down as the firmware sends it: its core, its life and its parts
 abbrev down : ℕ → ℕ → List Part → MessageValue
@@ -176,3 +178,34 @@ group_was_asked_before_halting =
     (let yes : 3 ≤ 3 = omega arith in
     all_ask tall (run_on tall [] group_down) 0x10100 2 3 2
     (inr yes, (inr yes, (inl refl, (inl refl, tt)))))
+
+-- Not asked for ----------------------------------------------------------------------------------
+
+-- core 1 is suspended by a word, and its Down has these parts
+abbrev says_down : ℕ → List Part → List Record
+says_down word parts = says (after core_1_on) (suspend 1 word) (goes_down 1 1 1 1 parts)
+
+-- its Down was sent before it was started again, or before life 2
+abbrev started_again : List Record
+started_again = after (core_1_on ++ off 1 ∷ Wake 1 ∷ [])
+
+abbrev off_in_life_1 : List Record
+off_in_life_1 = after (core_1_on ++ off 1 ∷ system_reset 0x200 ∷ Deliver 2 ∷ Enter 0x200 ∷ on_1
+    ∷ Deliver 3 ∷ [])
+
+was_not_asked :
+    -- has_no_part: the Down by which core 1 asks for its cluster has no part for it
+    (WasAskedFor two (says_down 0x01010032 (part 0 3 1 ∷ [])) 1 1 1 3 → ⊥)
+    -- says_less: its part says less
+    × (WasAskedFor two (says_down 0x00010002 (part 0 2 1 ∷ [])) 1 0 1 3 → ⊥)
+    -- of_an_older_start: it was sent before core 1 was started again
+    × (WasAskedFor two started_again 1 0 1 3 → ⊥)
+    -- of_the_life_before: it was sent in life 1
+    × (WasAskedFor two off_in_life_1 1 0 2 3 → ⊥)
+unfolding computing
+was_not_asked = (
+  not_asked_for _ _ _ _ _ _ (search arith),
+  not_asked_for _ _ _ _ _ _ (search arith),
+  not_asked_for _ _ _ _ _ _ (search arith),
+  not_asked_for _ _ _ _ _ _ (search arith),
+)

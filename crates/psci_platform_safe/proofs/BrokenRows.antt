@@ -47,6 +47,10 @@ none_below_sleeping :
     -- resumes_while_halting: while the life is halting
     × (NoneBelowSleeping two (says (after (core_1_on ++ off 1 ∷ Deliver 1 ∷ system_off 0x200 ∷ []))
     (Enter 1) resumes) → ⊥)
+    -- cluster_sleeps: its cluster alone is in retention
+    × (NoneBelowSleeping two (says (says (says (after core_1_on) (off 1)
+    (goes_down 1 1 1 1 (part 0 0 1 ∷ part 1 2 1 ∷ []))) (Deliver 1) (acked 1 Down 1 1 1 2 false))
+    (Enter 1) resumes) → ⊥)
 unfolding computing
 none_below_sleeping = (
   λ none. omega (arith, none 1 1 (1, refl) (omega arith) refl),
@@ -54,6 +58,7 @@ none_below_sleeping = (
   λ none. omega (arith, none 0x10100 2 (0, refl) (omega arith) refl),
   λ none. omega (arith, none 0x100 3 (3, refl) (omega arith) refl),
   λ none. omega (arith, none 1 0 (1, refl) (omega arith) refl),
+  λ none. omega (arith, none 1 1 (1, refl) (omega arith) refl),
   λ none. omega (arith, none 1 1 (1, refl) (omega arith) refl),
   λ none. omega (arith, none 1 1 (1, refl) (omega arith) refl),
   λ none. omega (arith, none 1 1 (1, refl) (omega arith) refl),

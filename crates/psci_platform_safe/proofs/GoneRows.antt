@@ -2,10 +2,11 @@
 use Rattle.std.proofs.Common.{◌≡◌, ◌++◌, [], ◌∷◌, true, false, refl}
 use Rattle.psci_headline.specs.psci_world_spec.declared.event.Event.TheVariants.{Deliver, Enter}
 use Rattle.psci_headline.specs.psci_world_spec.declared.event.Event.TheVariants.{Wake}
-use Rattle.psci_headline.proofs.world_spec.Scripts.{off}
+use Rattle.psci_headline.proofs.world_spec.Scripts.{off, value}
 use Rattle.psci_platform_safe.specs.Safe.{IsOff}
 use Rattle.psci_platform_safe.proofs.Histories.{after, computing, core_1_on, on_in_life_2}
-use Rattle.psci_platform_safe.proofs.Histories.{suspend, tall, tall_after, tall_on, two}
+use Rattle.psci_platform_safe.proofs.Histories.{says, status_of, suspend, tall, tall_after, tall_on}
+use Rattle.psci_platform_safe.proofs.Histories.{two}
 
 is_not_off :
     -- boot_core_not_down: the boot core has gone off, and its Down was not delivered
@@ -22,6 +23,8 @@ is_not_off :
     ∷ off 1 ∷ [])) 1 → ⊥)
     -- far_core_runs: another one runs
     × (IsOff tall (tall_after tall_on) 0x10100 → ⊥)
+    -- runs_unentered: core 1, which was powered down and woken, runs before it has entered
+    × (IsOff two (says (after (Enter 0x200 ∷ Wake 1 ∷ [])) (status_of 1 1 0) (value 0)) 1 → ⊥)
 unfolding computing
 is_not_off = (
   λ gone. let no : false ≡ true = gone.down in cc,
@@ -29,5 +32,6 @@ is_not_off = (
   λ gone. let no : false ≡ true = gone.down in cc,
   λ gone. let no : false ≡ true = gone.down in cc,
   λ gone. let no : false ≡ true = gone.down in cc,
+  λ gone. gone.stopped refl,
   λ gone. gone.stopped refl,
 )

@@ -10,7 +10,7 @@ use Rattle.psci_headline.specs.psci_world_spec.declared.said.Said.{Said}
 use Rattle.psci_headline.proofs.world_spec.Scripts.{acked, asks_on, call, enters, error}
 use Rattle.psci_headline.proofs.world_spec.Scripts.{goes_down, off, on_3, part, used, value}
 use Rattle.psci_headline.proofs.Tables.{◌⇒◌, Gives}
-use Rattle.psci_platform_safe.specs.Names.{IsAskedOf, mpidr_of, node_asked, number}
+use Rattle.psci_platform_safe.specs.Names.{IsAskedOf, IsCore, mpidr_of, node_asked, number}
 use Rattle.psci_platform_safe.specs.Words.{IsLegalOn, numbered}
 use Rattle.psci_platform_safe.proofs.Histories.{after, computing, core_1_off, core_1_on, on_1, says}
 use Rattle.psci_platform_safe.proofs.Histories.{status_of, two}
@@ -30,6 +30,11 @@ numbers = refl
 mpidrs : Gives (mpidr_of two) (0 ⇒ 0x200 ∷ 1 ⇒ 0x203 ∷ 2 ⇒ 0 ∷ 3 ⇒ 1 ∷ [])
 unfolding computing
 mpidrs = refl
+
+-- gaps in the two clusters
+no_cores : (IsCore two 0x201 → ⊥) × (IsCore two 2 → ⊥)
+unfolding computing
+no_cores = search arith
 
 -- What is asked of ------------------------------------------------------------------------------
 

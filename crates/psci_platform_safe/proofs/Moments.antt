@@ -9,7 +9,7 @@ use Rattle.psci_platform_safe.proofs.Words.{Node, NoDeeperThanAsked, None, NoneB
 use Rattle.psci_platform_safe.proofs.Words.{numbered, OneLiveClaim, Option, Part, part_for}
 use Rattle.psci_platform_safe.proofs.Words.{PlatformValue, Record, refl, said_in_numbers, sent_in}
 use Rattle.psci_platform_safe.proofs.Words.{slice_index, Some, starts_below, subst, suc, zero, ℕ}
-use Rattle.psci_platform_safe.specs.Asked.{IsFromStart, asks}
+use Rattle.psci_platform_safe.specs.Asked.{IsFromStart, WasAskedFor, asks}
 use Rattle.psci_platform_safe.specs.Safe.{place_of}
 use Rattle.psci_headline.specs.Claims.{live_claims}
 use Rattle.psci_headline.specs.Moments.{executes}
@@ -62,6 +62,21 @@ pub record Counts (p : PlatformValue) (past : List Record) (mpidr level life dep
       (controller_values p.board (numbered p past)).starts (domain_above p mpidr level)
   pub asked : AskFor (mode_of p now) p now (mpidr_of p m.core.number) mpidr level depth
 
+-- no message was asked for where none counts
+pub not_asked_for : (p : PlatformValue) (past : List Record) (mpidr level life depth : ℕ)
+    → OfNone p (Counts p past mpidr level life depth) past
+    → WasAskedFor p past mpidr level life depth → ⊥
+not_asked_for p past mpidr level life depth none was =
+    of_none p (Counts p past mpidr level life depth) past was.later was.before was.r was.message
+    was.split was.sent none
+    (record {
+      one = was.part;
+      has = was.has;
+      deep = was.deep;
+      live = was.live;
+      asked = was.asked;
+    })
+
 -- A domain is not as deep as it was asked: no message counts, nor does the start of the life.
 pub deeper : (p : PlatformValue) (past : List Record) (mpidr level life : ℕ) → IsCore p mpidr
     → level ≤ height p.board
@@ -72,16 +87,7 @@ pub deeper : (p : PlatformValue) (past : List Record) (mpidr level life : ℕ) �
     → NoDeeperThanAsked p past → ⊥
 deeper p past mpidr level life is low present deep none other asked =
     elim (asked mpidr level life is low present deep) [
-      | inl was ↦
-          of_none p (Counts p past mpidr level life (depth_above p past mpidr level)) past was.later
-          was.before was.r was.message was.split was.sent none
-          (record {
-            one = was.part;
-            has = was.has;
-            deep = was.deep;
-            live = was.live;
-            asked = was.asked;
-          })
+      | inl was ↦ not_asked_for p past mpidr level life (depth_above p past mpidr level) none was
       | inr start ↦ other start
     ]
 

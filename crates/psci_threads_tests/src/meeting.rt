@@ -4,7 +4,7 @@ use psci_bench::{Core, Gate};
 use std::sync::atomic::{AtomicBool, Ordering};
 use std::thread;
 
-/// Lets call 1 of core 0 and call 1 of core 1 go on once both are asked. Each waits a million turns
+/// Lets call 1 of core 0 and call 1 of core 1 go on once both are asked. Each waits 250,000 turns
 /// at most, and then the answer is no. All other calls may be made.
 #[derive(Drop)]
 pub(crate) struct Meeting {
@@ -40,7 +40,7 @@ impl Gate for Meeting {
 /// Says that one has come, and whether the other comes in time.
 fn meets(one: &AtomicBool, other: &AtomicBool) -> bool {
     one.store(true, Ordering::SeqCst);
-    for _ in 0..1_000_000u32 {
+    for _ in 0..250_000u32 {
         if other.load(Ordering::SeqCst) {
             return true;
         }

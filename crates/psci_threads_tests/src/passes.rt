@@ -1,5 +1,7 @@
 //! Stories of one thread with its passes.
 
+ghost use Rattle.std.specs.Prelude.{◌≡◌, IfSome};
+
 use psci_fw::{Act, Cause, Code, FwFault, Regs, Start};
 use psci_shared::{Books, CallFault, Core, GatherCause, Named, Pass, PassFault, SharedFirmware};
 use std::alloc::Global;
@@ -106,12 +108,31 @@ pub(crate) fn full_books<N: Named, R: Wait>(
     let none = shared.pass(Core { number: 9 }).err()?;
     let mut first = shared.pass(Core { number: 0 }).ok()?;
     let entered = shared.enter(rt, &mut first, FIRST).is_ok();
-    let refused = shared.smc(rt, &mut first, VERSION).err()?;
-    let right = none == PassFault::NoCore && entered && refused == CallFault::BookFull;
+    let right = none == PassFault::NoCore && entered;
+    let entries = book_told_full(rt, alloc, shared, first)?;
+    Some(right && entries == 1)
+}
+
+/// How many entries the book has that a call was told is full. By the public clauses alone they are
+/// as many as there is room for, gathered or not.
+fn book_told_full<N: Named, R: Wait>(
+    rt: &R,
+    alloc: Global,
+    shared: SharedFirmware<'_, N>,
+    pass: Pass<N>,
+) -> Option<u32>
+    ensures { IfSome result (λ entries. entries ≡ N.room) }
+{
+    let mut pass = pass;
+    let Err(CallFault::BookFull) = shared.smc(rt, &mut pass, VERSION) else {
+        return None;
+    };
     let mut passes = Vec::with_capacity(alloc, 1).ok()?;
-    passes.push(first).ok()?;
-    let books = shared.gather(passes).ok()?;
-    Some(right && books.book.len() == 1)
+    passes.push(pass).ok()?;
+    match shared.gather(passes) {
+        Ok(books) => Some(books.book.len()),
+        Err(fault) => Some(fault.locked.book.len()),
+    }
 }
 
 /// A book without room refuses each call, and there are 1,000 passes at most.
