@@ -34,7 +34,7 @@ _psci() {
         storm) _psci_words --help --board --seed --count --counts --keep --seeds ;;
         threads) _psci_words --help --board --seed --count --counts --keep ;;
         compare) _psci_words --help --quick --machine --script --profile --declare --tallies --each --times --baseline --write-baseline --tap --junit --bound --limit --whole; _psci_files ;;
-        prove) _psci_words all lib --help --target ;;
+        prove) _psci_words all lib --help --target --unproved ;;
         sweep) _psci_words storm threads lists beside fuzz report --help --seeds --out --engine --engine-words --jobs --minutes --chunk --count --board --boards --model --program --on --command --profile --baseline --down --one-thread --payload --target --length --corpus --costs --page; _psci_files ;;
         help) _psci_words replay show draw try plain storm threads compare sweep prove ;;
     esac

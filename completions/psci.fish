@@ -80,6 +80,7 @@ complete -c psci -n '__fish_seen_subcommand_from compare' -l whole -d 'search wi
 complete -c psci -n '__fish_seen_subcommand_from prove' -a 'all lib'
 complete -c psci -n '__fish_seen_subcommand_from prove' -l help -d 'print this'
 complete -c psci -n '__fish_seen_subcommand_from prove' -l target -x -a 'x86_64 aarch64' -d 'of lib: x86_64, or aarch64'
+complete -c psci -n '__fish_seen_subcommand_from prove' -l unproved -d 'of lib: compile it before any proof, into out/lib/MACHINE-unproved'
 complete -c psci -n '__fish_seen_subcommand_from sweep' -F
 complete -c psci -n '__fish_seen_subcommand_from sweep' -a 'storm threads lists beside fuzz report'
 complete -c psci -n '__fish_seen_subcommand_from sweep' -l help -d 'print this'

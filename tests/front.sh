@@ -63,6 +63,30 @@ front() {
     expect "./psci replay of other sources" 3 "$unproved"$'\n'"$compiled"$'\n'"$fault"
     unset XDG_CACHE_HOME
     whole_unproved
+    how_far
+}
+
+# what a fresh clone has, unproved, makes a large page in time, and says on a terminal how far it is; a slower one, and
+# one that says nothing or leaves what it says, are found
+how_far() {
+    local edit fresh=$work/far
+    export XDG_CACHE_HOME=$work/cache
+    if timeout 600 tests/progress "$work/progress" ./psci --unproved > "$work/out" 2>&1; then pass; else
+        fail "tests/progress: $(tail -n 1 "$work/out")"
+    fi
+    mkdir -p "$fresh/tests"
+    cp -r tools psci crates.txt "$fresh"
+    cp tests/progress tests/busy-script "$fresh/tests"
+    ln -s "$top"/{crates,docs,examples} "$fresh"
+    for edit in 's/spent < 2 or/spent < 200 or/' 's/complain("\\r\\033\[K")/pass/' 's/!= "dumb"$/!= "smart"/' \
+        's/about {int(spent .*} s more" if/{part} more" if/'; do
+        sed "$edit" tools/front/programs.py > "$fresh/tools/front/programs.py"
+        if cmp -s tools/front/programs.py "$fresh/tools/front/programs.py" ||
+            (cd "$fresh" && timeout 600 tests/progress "$work/progress" ./psci --unproved) > "$work/out" 2>&1; then
+            fail "tests/progress lets this through: $edit"
+        else pass; fi
+    done
+    unset XDG_CACHE_HOME
 }
 
 # ./psci try in a fresh clone with an empty HOME, in which nothing is proved, and of programs that fail; and a limit
@@ -248,6 +272,7 @@ files_and_streams() {
     done
     unread
     interrupted
+    nothing_there
     lacking
 }
 
@@ -269,6 +294,18 @@ on the path. README says what one has without the kit"
     sed -i 1,2d "$work/err"
     expect "./psci without a cache" 1 "psci: what is compiled is kept in /dev/null/cache/gumdarts/unproved: Not a directory; \
 XDG_CACHE_HOME names another folder"
+    PATH=$room XDG_CACHE_HOME=/dev/null/cache "$room/python3" "$top/psci" plain examples/lost-message.psci > "$work/out"
+    cp examples/lost-message.psci "$work/lines"
+    answers "./psci plain, which needs neither git nor a cache"
+    mkdir -p "$work/full"
+    (unshare -rm mount -t tmpfs none "$work/full") 2> /dev/null ||
+        { skip "./psci with a full cache" "unshare that may mount"; return; }
+    unshare -rm sh -c 'mount -t tmpfs -o size=1m none "$1" && XDG_CACHE_HOME=$1 ./psci --unproved replay \
+        examples/lost-message.psci' sh "$work/full" > "$work/out" 2> "$work/err"
+    echo $? > "$work/got"
+    sed -i 1,2d "$work/err"
+    expect "./psci with a full cache" 1 "psci: what is compiled is kept in $work/full/gumdarts/unproved: No space left on \
+device; XDG_CACHE_HOME names another folder"
 }
 
 # closed_or_full NAME STATUS FILE REASON: a write fault was told, with the file and why
@@ -291,10 +328,10 @@ unread() {
     done
 }
 
-# Ctrl-C ends each command that waits for its script, without a word; it goes to all that a terminal runs
+# Ctrl-C ends each command that waits for its script, or works, without a word; it goes to all that a terminal runs
 interrupted() {
     local words
-    for words in replay show draw "draw --page" "show --trace" plain \
+    for words in replay show draw "draw --page" "show --trace" "show --vcd" "show --script" plain \
         "replay --machine examples/boards/rk3399.machine"; do
         rm -f "$work/never"
         mkfifo "$work/never"
@@ -305,6 +342,38 @@ interrupted() {
         if [ ! -s "$work/err" ]; then pass; else fail "./psci $words, interrupted: $(tail -n 1 "$work/err")"; fi
         exec 9>&-
     done
+    # a page of a long run, which is at work when it is interrupted, and threads and storms
+    ./psci storm --seed 1 --count 10000 --board "((16 16) (16 16)) exec 0x0-0x4 boot 0x0 starts 9999 lives 9" \
+        --keep "$work/long" > "$work/out"
+    for words in "draw --page $work/long" "threads --seed 1 --count 10000" "storm --seeds 1..100000 --count 10000"; do
+        # shellcheck disable=SC2086
+        timeout -s INT 1 ./psci $words > "$work/out" 2> "$work/err"
+        if [ $? = 124 ] && [ ! -s "$work/err" ]; then pass; else
+            fail "./psci $words, interrupted: $(tail -n 1 "$work/err")"
+        fi
+    done
+}
+
+# what has no event says so: a view of it ends with 7, in one line; the program answers an empty script by nothing
+nothing_there() {
+    local words
+    head -n 1 examples/lost-message.psci > "$work/board"
+    for words in "show --changes" "show --trace" "show --vcd" "show --script" draw "draw --page" "show --json --from 99" \
+        "show --from 99" "draw --from 99" "show --trace --from 99"; do
+        # shellcheck disable=SC2086
+        ./psci $words "$work/board" > "$work/out" 2> "$work/err"
+        echo $? > "$work/got"
+        expect "./psci $words of a board" 7 "psci ${words%% *}: there is no event in this part of the run"
+    done
+    for words in replay show; do
+        ./psci "$words" "$work/board" > "$work/out" 2> "$work/err"
+        echo $? > "$work/got"
+        : > "$work/lines"
+        expect "./psci $words of a board" 0
+        answers "./psci $words of a board"
+    done
+    ./psci compare "$work/board" > "$work/out" 2> "$work/err"
+    if [ $? = 7 ] && grep -q "there is no event in it" "$work/out"; then pass; else fail "./psci compare of a board"; fi
 }
 
 # boards whose line in a script would be too long: the longest that is kept is replayed

@@ -25,6 +25,35 @@ pages() {
     by_python pages
 }
 
+# sums, selections, names that are read aloud, paper and screens; what is planted in a copy of the pages is found
+page_parts() {
+    local path edit fresh=$work/parts
+    has_browser "parts of pages" || return
+    by_python page-parts
+    while read -r path edit; do
+        rm -rf "$fresh"
+        mkdir -p "$fresh/tests"
+        cp tests/browser.py tests/page-parts "$fresh/tests"
+        cp -r tools "$fresh"
+        ln -s "$top"/{examples,docs,crates,crates.txt} "$fresh"
+        sed -i "$edit" "$fresh/tools/page/$path"
+        if cmp -s "tools/page/$path" "$fresh/tools/page/$path" ||
+            timeout 300 "$fresh/tests/page-parts" "$program" "$work/planted" < /dev/null > "$work/out" 2>&1; then
+            fail "tests/page-parts lets this through: $path, $edit"
+        else pass; fi
+    done << 'EOF'
+sums.js s/last + 1)/last)/
+sums.js s/=== 1 ? ""/=== 0 ? ""/
+sums.js s/wake-up/entry/
+controls.js s/event.shiftKey \&\& place.x/event.altKey \&\& place.x/
+page.html s/ aria-label="zoom out"//
+page.css s/height: 188mm/height: 388mm/
+view.js s/"beforeprint"/"afterprint"/
+page.css s/^#depths th { white-space: normal; }//
+page.css s/^  #editor ~ #view .*//
+EOF
+}
+
 # the words of ./psci that lead to these, by the built program
 view_words() {
     has_python "words of views" || return

@@ -14,8 +14,10 @@ release() {
         return
     fi
     cp "$folder"/*.tar.gz "$work/first.tar.gz"
+    cp "$folder"/*.deb "$work/first.deb"
     tools/release --into "$folder" > "$work/out" 2>&1
     if cmp -s "$work/first.tar.gz" "$folder"/*.tar.gz; then pass; else fail "two archives of the same files differ"; fi
+    if cmp -s "$work/first.deb" "$folder"/*.deb; then pass; else fail "two packages of the same files differ"; fi
     if (cd "$folder" && sha256sum -c --quiet ./*.sha256) > /dev/null 2>&1; then pass; else fail "the sum of the archive"; fi
     tar -C "$folder/room" -xzf "$folder"/*.tar.gz
     top_of=$(echo "$folder"/room/*)
@@ -23,7 +25,8 @@ release() {
     (cd "$top_of" && find . -type f ! -name SHA256SUMS ! -path './licenses/*' | sed 's|^\./||' | LC_ALL=C sort) > "$work/out"
     {
         printf '%s\n' LICENSE README VERSION bin/psci lib/x86_64/libpsci_ffi.a lib/aarch64/libpsci_ffi{,-strict-align}.a \
-            share/man/man1/psci.1 share/bash-completion/completions/psci include/psci.h include/psci_ctl.h \
+            lib/x86_64/pkgconfig/psci.pc lib/aarch64/pkgconfig/psci{,-strict-align}.pc \
+            share/man/man1/psci.1 share/bash-completion/completions/psci include/psci{,_ctl,_heap}.h \
             share/zsh/site-functions/_psci share/fish/vendor_completions.d/psci.fish \
             share/doc/gumdarts/{FORMATS,PORTING,BOARDS,CHANGELOG}.md examples/host/{README,loop.c,pool.c,pool.h}
         git ls-files examples | grep -E '^examples/[^/]*\.(psci|out)$|^examples/boards/.*\.(machine|calls|answers)$'
@@ -34,9 +37,24 @@ release() {
     done
     in_an_empty_folder "$top_of"
     as_said "the archive, unpacked" "$top_of" tests/release-alone "$top_of"
+    released_by_pkg_config "$top_of"
     own_words "$top_of"
     in_debian bookworm
     in_debian trixie
+}
+
+# released_by_pkg_config ARCHIVE: the host is built by what pkg-config says
+released_by_pkg_config() {
+    local words
+    command -v pkg-config > /dev/null || { skip "the archive by pkg-config" pkg-config; return; }
+    words=$(PKG_CONFIG_PATH=$1/lib/x86_64/pkgconfig pkg-config --cflags --libs "psci >= 1.0.0")
+    # shellcheck disable=SC2086
+    if cc "$1"/examples/host/{loop,pool}.c $words -o "$work/loop" 2> "$work/err"; then pass; else
+        fail "the archive by pkg-config: $(head -n 1 "$work/err")"
+    fi
+    "$work/loop" examples/lost-message.psci > "$work/out"
+    cp examples/lost-message.out "$work/lines"
+    answers "the host by pkg-config"
 }
 
 # as_said NAME FOLDER COMMAND..: what the README of the archive says works there
@@ -74,6 +92,28 @@ in_debian() {
     cp tests/release-alone "$root/opt"
     folder=$(basename "$root"/opt/gumdarts-*)
     as_said "the archive in Debian $1" "$root/opt/$folder" chroot "$root" /opt/release-alone "/opt/$folder"
+    rm -rf "$root/opt/$folder"
+    installed "$1" "$root"
+}
+
+# installed SUITE ROOT: the package, installed, used and removed there
+installed() {
+    cp "$work/release"/*.deb "$2/opt"
+    chroot "$2" sh -euc 'dpkg -i /opt/gumdarts_*.deb > /dev/null
+        [ -z "$(dpkg --verify gumdarts)" ]
+        psci --version | grep -qF " $(dpkg-query -f "\${Version}" -W gumdarts)"
+        for script in /usr/share/doc/gumdarts/examples/*.psci; do psci replay < "$script" | cmp - "${script%.psci}.out"; done
+        cd /usr/share/doc/gumdarts/examples
+        cc host/loop.c host/pool.c -lpsci_ffi -o /opt/loop
+        /opt/loop lost-message.psci | cmp - lost-message.out
+        for file in man/man1/psci.1 bash-completion/completions/psci doc/gumdarts/copyright; do [ -s "/usr/share/$file" ]; done
+        [ -s /usr/lib/aarch64-linux-gnu/libpsci_ffi.a ]
+        dpkg -r gumdarts > /dev/null
+        [ ! -e /usr/bin/psci ] && [ ! -e /usr/share/doc/gumdarts ]
+        echo "it is installed, used and removed"' > "$work/out" 2>&1
+    if [ "$(tail -n 1 "$work/out")" = "it is installed, used and removed" ]; then pass; else
+        fail "the package in Debian $1: $(tail -n 1 "$work/out")"
+    fi
 }
 
 # in_an_empty_folder ARCHIVE: the program answers where there is nothing but it, and the loader and the C

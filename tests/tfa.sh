@@ -150,7 +150,7 @@ tfa_words() {
     tfa_guide "$tfa_2_12" 29
     tfa_calls
     tfa_versions
-    tfa_says "run: there is no release sid; there are bookworm and trixie" --release sid
+    tfa_says "run: there is no release buster; there are bookworm, trixie, trixie-backports and sid" --release buster
     tfa_says "run: there is no qemu-system-aarch64 aarch64-linux-gnu-gcc" each
     tfa_says "run: there is no option --fast; --help lists them" --fast
 }

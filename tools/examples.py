@@ -140,10 +140,10 @@ class Examples:
         parameters; each with what it stands for."""
         if at not in self.kept:
             text = f"{self.shared}\n{self.files[at][0]}"
-            kinds = rf"(?:List (?:Event|Record|Entry)|{self.named})"
+            kinds = rf"(?:List (?:Event|Record|Entry|Act)|{self.named})"
             named = re.findall(rf"^abbrev (?:pub )?(\w+) : {kinds}\n\1 =\s+(.*?)\n(?:\n|\Z)", text,
                                re.M | re.S)
-            calls = re.findall(r"^abbrev (?:pub )?(\w+) : [^\n=]*→ List Event\n\1 ([\w ]+) =\s+"
+            calls = re.findall(r"^abbrev (?:pub )?(\w+) : [^\n=]*→ List (?:Event|Act)\n\1 ([\w ]+) =\s+"
                                r"(.*?)\n(?:\n|\Z)", text, re.M | re.S)
             self.kept[at] = ({name: " ".join(body.split()) for name, body in named},
                              {name: (words.split(), " ".join(body.split()))

@@ -2,14 +2,13 @@
 import glob
 import hashlib
 import os
-import re
 import shutil
 
 import repo
 
 KIT = os.path.dirname(os.path.dirname(os.path.realpath(shutil.which("rt") or "rt")))
 CACHE = f"{os.environ.get('XDG_CACHE_HOME') or os.path.expanduser('~/.cache')}/gumdarts/proved"
-COSTS = f"{repo.TOP}/docs/COSTS.md"
+MEASURED = f"{repo.TOP}/bench/proof-seconds"
 
 
 class Sources:
@@ -19,9 +18,8 @@ class Sources:
         self.crates = repo.Crates()
         self.names = self.crates.below(program)
         # how long each took in the last gate that was measured, of one processor
-        table = repo.text_of(COSTS) if os.path.exists(COSTS) else ""
-        measured = re.findall(r"^\| `(\w+)` \| (\d+) ", table, re.M)
-        seconds = {name: int(proof) for name, proof in measured}
+        measured = repo.text_of(MEASURED) if os.path.exists(MEASURED) else ""
+        seconds = {name: int(it) for name, it in map(str.split, measured.splitlines())}
         self.stamps, self.work = {}, {}
         kit = repo.text_of(f"{KIT}/KIT-ID")
         for name in self.names:

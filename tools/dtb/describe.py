@@ -27,6 +27,8 @@ class Description:
 
     def __init__(self, facts, boot=None, ranges=(), is_first=False):
         self.facts, self.unknown, self.ranges = facts, [], list(ranges)
+        if facts.method != "psci":
+            self.unknown.append(f"PSCI: the cores of the tree are started by {facts.method}")
         self.cores = self.in_order(boot, is_first)
         self.boot = self.cores[0].mpidr if boot is None else boot
         self.made_up = 0
@@ -249,13 +251,13 @@ def is_late(text):
     return False
 
 
-def described(data, boot=None, ranges=()):
-    """The text of the machine of a device tree's bytes, in its order where the boot core may stand there;
-    raises why there is none."""
+def described(data, boot=None, ranges=(), method="psci"):
+    """The text of the machine of a device tree's bytes, whose cores are started by this method there, in its order where
+    the boot core may stand there; raises why there is none."""
     try:
-        text = Description(Facts(data), boot, ranges).text()
+        text = Description(Facts(data, method), boot, ranges).text()
         if boot is not None and is_late(text):
-            text = Description(Facts(data), boot, ranges, True).text()
+            text = Description(Facts(data, method), boot, ranges, True).text()
         return text
     except Fault as fault:
         raise NoBoard(f"it is no device tree that can be read: {fault}") from fault

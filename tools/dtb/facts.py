@@ -22,8 +22,8 @@ class Core:
 class Facts:
     """The facts of a device tree, and beside them what is odd."""
 
-    def __init__(self, data):
-        self.tree, self.odd = Tree(data), []
+    def __init__(self, data, method="psci"):
+        self.tree, self.odd, self.method = Tree(data), [], method
         root = self.tree.root
         self.model = root.string("model") or ", ".join(root.strings("compatible")) or "a machine without a name"
         self.psci = [it for it in root if it.is_there()
@@ -43,9 +43,10 @@ class Facts:
         kept = [it for it in nodes if not (it.string("status") or "").startswith("fail")]
         self.odd += [f"{it.name} has failed, and is left out" for it in nodes if it not in kept]
         methods = {it.string("enable-method") or "no enable-method" for it in kept}
-        if methods != {"psci"}:
-            raise NoBoard("its cores are started by " + " and ".join(sorted(methods)) if kept else "it has no core")
-        if not self.psci:
+        if methods != {self.method}:
+            hint = "; --spin-table describes it" if methods == {"spin-table"} else ""
+            raise NoBoard(f"its cores are started by {' and '.join(sorted(methods))}{hint}" if kept else "it has no core")
+        if not self.psci and self.method == "psci":
             self.odd.append("the tree has no node of PSCI, which a bootloader has to add")
         width = (cpus.cells("#address-cells") or [1])[0]
         return [Core(self.mpidr(it, width), it, self.domains_of(it)) for it in kept]

@@ -8,7 +8,7 @@ import repo
 from views import window
 
 from . import machine_runs, plain, running, scripts, storms, words
-from .programs import REPLAYER, WHOLE, Stopped, built, is_current, kit, say, unproved
+from .programs import REPLAYER, WHOLE, Progress, Stopped, built, is_current, kit, say, unproved
 from .running import write
 
 # the options of show that tools/show answers
@@ -81,7 +81,8 @@ class Front:
         script, made = self.plain_of(asked.machine, script)
         program = self.program()
         read, write_end = os.pipe()
-        view = subprocess.Popen([f"{repo.TOP}/tools/{tool}", *view_words(tool, asked)], stdin=read)
+        view = subprocess.Popen([f"{repo.TOP}/tools/{tool}", *view_words(tool, asked)], stdin=read,
+                                preexec_fn=running.hold)
         os.close(read)
         status = running.run(program, ["show", "--json"], script, output=os.fdopen(write_end, "wb"))
         seen = running.ended(view)
@@ -115,8 +116,10 @@ class Front:
         if asked.machine:
             machine = machine_runs.machine_in(asked.machine)
             return machine_runs.run(self.program(REPLAYER), machine, script, sys.stdout.buffer)
+        text = running.text_of(script)
+        lines = Progress().over(scripts.lines(text, plain.plain_call), text.count("\n") + 1)
         try:
-            return write("\n".join(scripts.lines(running.text_of(script), plain.plain_call)))
+            return write("\n".join(lines))
         except scripts.Fault as fault:
             raise Stopped("\n".join(fault.lines), 3) from fault
 
@@ -125,7 +128,9 @@ class Front:
         library, in any case."""
         asked = words.prove().read(given)
         if asked.what == "lib":
-            return self.by_prover(["lib", *values(asked, "target")], "built; the library is in out/lib")
+            made = "compiled, and not proved" if asked.unproved else "built"
+            return self.by_prover(["lib", *values(asked, "target"), *flags(asked, "unproved")],
+                                  f"{made}; the library is in out/lib")
         name = WHOLE if asked.what else REPLAYER
         if is_current(name):
             return 0

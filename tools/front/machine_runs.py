@@ -13,12 +13,12 @@ import tempfile
 
 from . import plain, told
 from .machine_calls import PLATFORM, function_of, translated
-from .programs import Stopped, complain
+from .programs import Progress, Stopped, complain
 from .machine_faults import checked
 from .machine_swap import other_core
 from .machines import Fault
 from .reader import Wrong, pointed
-from .running import ended, not_written, tell
+from .running import Script, ended, not_written, tell
 
 CORE_EVENTS = ("call", "enter", "wake", "reset")
 
@@ -200,13 +200,17 @@ class Run:
 def run(program, machine, file, out=None):
     """Answers the script of this file in the machine's words; or makes it plain, into a file. The status."""
     going = Run(program, machine, out or sys.stdout.buffer, out is not None)
+    script, progress = Script(file), Progress(is_silent=False)
     try:
         with os.fdopen(os.dup(file), "rb") as lines:
             for number, line in enumerate(lines, 1):
+                script.look(progress)
                 if not going.feed(number, line.rstrip(b"\n").decode("latin-1")):
                     break
     except OSError as fault:
         going.process.kill()
         going.process.wait()
         return not_written(fault=fault)
+    finally:
+        progress.end()
     return going.end()

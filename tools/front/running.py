@@ -47,7 +47,7 @@ class Script:
 
     def feed(self, process):
         """Hands what comes on to the program, with its calls plain, until one of them ends."""
-        progress = Progress()
+        progress = Progress(is_silent=False)
         while process.poll() is None:
             self.look(progress)
             if not select.select([self.file], [], [], 0.05)[0]:
@@ -68,7 +68,7 @@ class Script:
 
     def watch(self, process):
         """Waits for a program that reads the file itself, and says how far it is."""
-        progress = Progress()
+        progress = Progress(is_silent=False)
         while progress.is_heard and process.poll() is None:
             self.look(progress)
             time.sleep(0.05)
@@ -121,6 +121,11 @@ def text_of(file):
             return opened_file.read().decode(errors="surrogateescape")
     except OSError as fault:
         raise Stopped(f"cannot read the script: {fault.strerror}", 4) from fault
+
+
+def hold():
+    """Holds Ctrl-C back, until a tool that begins says what becomes of it."""
+    signal.pthread_sigmask(signal.SIG_BLOCK, {signal.SIGINT})
 
 
 def ended(process):

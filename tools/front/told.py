@@ -52,7 +52,7 @@ def place_of(kind, number, line, first):
 
 def place(said, line_of):
     """Of what the program said: the number of the line, 0 for a board in the command line; that line; the place of the
-    fault in it, and the words. Nothing where it told of no such fault.
+    fault in it, the words, and the form that was expected, if it is of an event. Nothing where it told of no such fault.
 
     line_of(N) is line N of the script, or nothing where it is not known; of a board that stands in the
     command line, it is asked for line 0."""
@@ -62,7 +62,9 @@ def place(said, line_of):
     if line is None:
         return None
     found = place_of(match[2], int(match[3]), line, line_of(1)) if number else boards.fault(int(match[3]), line)
-    return (number, line, *found)
+    word = line.partition(" ")[0].lower()
+    is_event = match[2] == "script" and match[3] == "2" and word in EVENTS
+    return (number, line, *found, plain.form_of(line) or FORMS.get(word, f"{word} CORE") if is_event else None)
 
 
 def words(said, line_of):
@@ -70,9 +72,6 @@ def words(said, line_of):
     found = place(said, line_of)
     if found is None:
         return []
-    number, line, at, why = found
+    number, line, at, why, form = found
     lines = [f"psci: {f'line {number}' if number else 'the board'}, column {at + 1}: {why}", *pointed(line, at)]
-    word = line.partition(" ")[0].lower()
-    if "script fault 2" in said and word in EVENTS:
-        lines.append(f"psci: expected `{plain.form_of(line) or FORMS.get(word, f'{word} CORE')}`")
-    return lines
+    return lines + [f"psci: expected `{form}`"] * bool(form)

@@ -136,8 +136,10 @@ class Words(argparse.ArgumentParser):
         if why.startswith("ignored explicit argument"):
             self.fault(at, f"{name} takes no value")
         why = why.replace("not allowed with argument", "does not go with")
+        if at < 0:
+            self.fault(next((it for it, word in enumerate(self.words) if why.startswith(shown(word))), 0), why)
         is_value = "=" not in self.words[at] and "was expected" in why
-        self.fault(at + is_value, f"{name}{':' if ' was expected' in why else ''} {why}" if at >= 0 else why)
+        self.fault(at + is_value, f"{name}{':' if ' was expected' in why else ''} {why}")
 
     def no_option(self, word, known):
         """An option that there is not."""
@@ -313,14 +315,17 @@ def compare():
 
 def prove():
     words = Words("prove", "Proves what ./psci runs, and builds it; what was proved is kept in ~/.cache/gumdarts.",
-                  "[all | lib [--target MACHINE]]",
+                  "[all | lib [--target MACHINE] [--unproved]]",
                   "prove        the program of replay: from nothing about 12 minutes\n"
                   "prove all    the program of every command: 20 to 30 minutes\n"
-                  f"prove lib    the C library into out/lib\n\n{MINUTES}\n")
+                  "prove lib    the C library into out/lib; with --unproved in a minute, marked so\n\n"
+                  f"{MINUTES}\n")
     words.add_argument("what", metavar="WHAT", nargs="?", type=one_of("all", "lib"), help="all, or lib")
     words.add_argument("--target", metavar="MACHINE", type=one_of("x86_64", "aarch64"),
                        help="of lib: x86_64, or aarch64")
+    words.flag("--unproved", help="of lib: compile it before any proof, into out/lib/MACHINE-unproved")
     words.rule(lambda it: it.target and it.what != "lib", "--target", "goes with lib")
+    words.rule(lambda it: it.unproved and it.what != "lib", "--unproved", "goes with lib")
     return words
 
 

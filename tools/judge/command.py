@@ -3,6 +3,7 @@ import os
 import sys
 
 import sentence
+from front.programs import Progress
 from front.words import Words, number
 
 from . import profile, record, report, tallies
@@ -57,7 +58,7 @@ def verdicts_on(words, lives_of, peer):
 
 
 def judge(words, lives_of, peer):
-    verdicts = list(verdicts_on(words, lives_of, peer))
+    verdicts = list(Progress("the records").over(verdicts_on(words, lives_of, peer), len(lives_of)))
     groups = grouped(verdicts)
     known = report.read_baseline(words.baseline) if words.baseline else None
     if words.write_baseline:

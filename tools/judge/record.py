@@ -3,7 +3,7 @@ from collections import namedtuple
 
 from . import lines
 from .lines import Unreadable, is_of_calls  # noqa: F401
-from .words import CONVENTION, ENDS, LOW, SLEEPS, STOPS, code_of, name_of
+from .words import CONVENTION, LOW, SLEEPS, STOPS, code_of, name_of
 
 INFINITE = float("inf")
 # registers that a call has to keep by every version of the calling convention: x18 to x30, v0 to v31
@@ -40,12 +40,6 @@ class Life:
         self.last_entry = {}
         # suspends from which no core came back
         self.broken = []
-        # whether a core ended it, by a call from which none comes back
-        self.is_ended = False
-
-    def ends_by(self, words):
-        """Whether the last call of a core is one of these, and did not come back."""
-        return any(mine and mine[-1].want == ("any",) and mine[-1].word in words for mine in self.operations.values())
 
     def ordered(self):
         """The operations that came to an end, as their ends follow each other."""
@@ -98,7 +92,6 @@ def gather(life, of_core):
             it.at = at
             if it.want == ("stop",) and at + 1 < len(mine):
                 it.end = mine[at + 1].end
-        life.is_ended |= bool(mine) and mine[-1].want == ("any",) and mine[-1].word in ENDS
 
 
 def convention(lives):

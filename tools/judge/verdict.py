@@ -2,11 +2,11 @@
 import time
 from collections import namedtuple
 
-from . import after
+from . import after, ends
 from .record import EARLY_REGISTERS, Remark, Unreadable, convention
 from .search import Search, Undecided
 from .starts import never_entered
-from .words import KEEPS_EARLY, SYSTEM_OFF2
+from .words import KEEPS_EARLY
 
 # operation, what ours answers, and whether an earlier difference of the record came first
 Difference = namedtuple("Difference", "operation ours is_later")
@@ -52,6 +52,8 @@ def judged(name, lives, profile, bound=20000, limit=60.0, is_whole=False, has_la
         verdict.remarks += never_entered(life, profile.board)
         if has_later or not verdict.differences:
             look_at_life(verdict, life, profile, bound, began + limit, is_whole, has_later)
+        if has_later or not verdict.differences:
+            look_at_end(verdict, life, profile, life is lives[-1])
     verdict.seconds = time.monotonic() - began
     return verdict
 
@@ -81,9 +83,17 @@ def look_at_life(verdict, life, profile, bound, until, is_whole, has_later):
             at += 1
     except Undecided as why:
         verdict.undecided = f"{why}, at {ordered[at].text}"
-    if not life.is_ended and not life.ends_by([it for it in SYSTEM_OFF2 if profile.has(it)]):
-        verdict.undecided = verdict.undecided or "the record breaks off"
     verdict.answers += at
     verdict.tried = max(verdict.tried, search.tried)
     for operation in life.broken:
         verdict.add(operation, ["a wake-up"], not has_differed)
+
+
+def look_at_end(verdict, life, profile, is_last):
+    """A life ends by a call that ends the system by ours, too. By any other one the last life may just break off, and
+    behind a reset another one begins."""
+    by = None if is_last else ends.taken(life, profile)
+    if by:
+        verdict.add(by[0], [str(by[1])])
+    elif not ends.is_ended(life, profile, is_last):
+        verdict.undecided = verdict.undecided or "the record breaks off"

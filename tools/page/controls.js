@@ -109,7 +109,9 @@ class Controls {
   press(event) {
     this.view.canvas.setPointerCapture(event.pointerId);
     this.view.canvas.focus();
-    this.pointers.set(event.pointerId, { ...this.place(event), moved: 0 });
+    const place = this.place(event);
+    const begun = event.shiftKey && place.x >= 0 ? this.view.scale.eventAt(place.x) : null;
+    this.pointers.set(event.pointerId, { ...place, begun, moved: 0 });
   }
 
   move(event) {
@@ -118,14 +120,16 @@ class Controls {
       this.view.hover(now);
       return;
     }
-    if (this.pointers.size === 2)
+    if (before.begun !== null)
+      this.view.select(before.begun, this.view.scale.eventAt(now.x));
+    else if (this.pointers.size === 2)
       this.pinch(event.pointerId, now);
     else {
       this.pan(before.x - now.x);
       this.scroll(before.y - now.y);
     }
     const moved = before.moved + Math.abs(now.x - before.x) + Math.abs(now.y - before.y);
-    this.pointers.set(event.pointerId, { ...now, moved });
+    this.pointers.set(event.pointerId, { ...now, begun: before.begun, moved });
   }
 
   /** Two fingers zoom. */
@@ -188,6 +192,10 @@ class Controls {
       N: () => search.step(-1),
       "/": () => search.field.focus(),
       m: () => this.follow(),
+      c: () => view.pickCore(view.run.cores[view.run.coreAt.get(view.run.coreOf(view.event))]),
+      b: () => view.select(view.event, Math.max(view.range?.[1] ?? view.run.count - 1, view.event)),
+      e: () => view.select(Math.min(view.range?.[0] ?? 0, view.event), view.event),
+      Escape: () => view.select(),
       f: () => this.fold(),
       t: () => view.toggleClock(),
       l: () => view.toggleTheme(),

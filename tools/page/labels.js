@@ -188,7 +188,7 @@ class Labels {
   markWords(event, row, x, room, isWrong) {
     const [asked, said] = callWords(this.run, event), y = this.y(row);
     const code = this.run.cells[this.run.coreAt.get(row.node.index)].at(event);
-    const isLow = STATES[code].height < 0.6;
+    const isLow = STATES[code].height < 0.7;
     const ink = isLow                                     ? this.palette.ink :
         this.palette.theme === "dark" || code !== RUNNING ? "#14181c" :
                                                             "#ffffff";
@@ -196,6 +196,17 @@ class Labels {
     this.text(asked, x + 5, y + 9, ink, room);
     if (row.height >= 38)
       this.text(said, x + 5, y + 19, isWrong && isLow ? this.palette.wrong : ink, room);
+  }
+
+  /** What is selected: between two lines. */
+  selected(top, height) {
+    if (!this.view.range) return;
+    const [first, last] = this.view.range, { context, palette } = this;
+    const from = this.scale.x(first), to = this.scale.x(last + 1);
+    context.fillStyle = palette.shadow;
+    context.fillRect(from, top, to - from, height);
+    context.fillStyle = palette.message;
+    for (const x of [from, to]) context.fillRect(Math.round(x) - 1, top, 2, height);
   }
 
   /** The picked event: a line through all rows. */

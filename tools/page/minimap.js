@@ -87,7 +87,7 @@ class Minimap {
     context.font = `11px ${FONT}`;
     context.fillStyle = palette.faint;
     context.fillText("all", 8, 14);
-    context.fillText(`${view.run.count} events`, 8, 28);
+    context.fillText(eventsText(view.run.count), 8, 28);
     this.drawSeen(context, height);
   }
 
@@ -102,6 +102,10 @@ class Minimap {
       if (at !== before) context.fillRect(at, height - 6, 1, 6);
       before = at;
     }
+    const [first, last] = view.range ?? [0, -1];
+    context.fillStyle = palette.message;
+    const from = x(scale.places[first]);
+    context.fillRect(from, 0, x(scale.places[last + 1]) - from, 3);
     const left = x(scale.left);
     const wide = Math.max(x(scale.left + scale.perPixel * scale.width) - left, 3);
     context.fillStyle = palette.shadow;

@@ -12,11 +12,14 @@ class View {
     this.setTheme(matchMedia("(prefers-color-scheme: dark)").matches ? "dark" : "light");
     this.search = new Search(this);
     this.details = new Details(this);
+    this.sums = new Sums(this);
     this.minimap = new Minimap(document.getElementById("minimap"), this);
     this.show(run);
     new Controls(this);
     new ResizeObserver(() => this.resize()).observe(this.canvas.parentElement);
     addEventListener("hashchange", () => this.follow());
+    addEventListener("beforeprint", () => this.print(true));
+    addEventListener("afterprint", () => this.print(false));
   }
 
   /** Shows this run in place of another, from its first event. */
@@ -24,11 +27,15 @@ class View {
     this.run = run;
     this.event = 0;
     this.pickedCore = null;
+    this.range = null;
     this.scale = new Scale(run);
     this.rows = new Rows(run);
     this.minimap.key = null;
     document.getElementById("board").textContent = run.head.board;
     document.getElementById("clock").hidden = !run.times;
+    this.canvas.setAttribute("aria-label",
+        `the run, ${eventsText(run.count)}: cores, messages and power domains over time`);
+    this.sums.show();
     this.resize();
     this.search.look();
   }
@@ -44,6 +51,16 @@ class View {
     this.scale.resize(clientWidth - this.gutter);
     this.rows.resize(clientHeight - AXIS_HEIGHT);
     this.draw();
+  }
+
+  /** As it is on paper, light and on one page; or as it was before. */
+  print(isPrinted) {
+    const before = this.palette.theme, root = document.documentElement;
+    root.toggleAttribute("data-print", isPrinted);
+    this.setTheme(isPrinted ? "light" : this.themeBefore ?? before);
+    this.themeBefore = before;
+    this.details.show();
+    this.resize();
   }
 
   setTheme(theme) {
@@ -63,6 +80,7 @@ class View {
     this.scale.byClock = !this.scale.byClock;
     document.getElementById("clock").setAttribute("aria-pressed", this.scale.byClock);
     this.scale.place();
+    this.sums.show();
     this.redraw();
   }
 
@@ -82,6 +100,13 @@ class View {
     this.redraw();
   }
 
+  /** Selects the events from one to another, in any order; or all, without any. */
+  select(first, last = first) {
+    this.range = first === undefined ? null : [Math.min(first, last), Math.max(first, last)];
+    this.sums.show();
+    this.redraw();
+  }
+
   /** Hears which event was picked; the editor of scripts does. */
   picked() {}
 
@@ -95,8 +120,10 @@ class View {
 
   /** Picks a core, whose name is marked, and whose events shift and the arrows step through. */
   pickCore(node) {
+    if (!node) return;
     this.pickedCore = node.level === 0 && this.pickedCore !== node.index ? node.index : null;
     if (this.pickedCore !== null) this.rows.reveal(node.index);
+    this.sums.show();
     this.redraw();
   }
 
@@ -185,6 +212,7 @@ class View {
     context.clip();
     context.translate(gutter, 0);
     labels.axis(AXIS_HEIGHT);
+    labels.selected(0, height);
     labels.picked(0, height);
     context.beginPath();
     context.rect(0, AXIS_HEIGHT, width - gutter, height - AXIS_HEIGHT);

@@ -32,7 +32,8 @@ def fault_of(said, status, found):
         return None
     match = re.fullmatch(r"line (\d+): ((?:script|board) fault \d+)\n", said)
     if status == SCRIPT_FAULT and match and found:
-        return fault(f"{match[2]}, column {found[2] + 1}: {found[3]}", int(match[1]))
+        expected = f"; expected `{found[4]}`" if found[4] else ""
+        return fault(f"{match[2]}, column {found[2] + 1}: {found[3]}{expected}", int(match[1]))
     if (status, said) == (NO_MEMORY, "out of memory\n"):
         return fault("the run needs more memory than it may have here: it stops after the last event that fitted")
     how = f"with status {status}" if status > 0 else f"by signal {-status}"

@@ -5,22 +5,25 @@ the words, and the times where there is a clock. tools/page/unpack.js and run.js
 """
 import html
 import json
+import operator
 import os
 import re
-from itertools import chain
+from itertools import compress
 
 from .packing import Stream
-from .shown import STATES
+from .shown import CORES, DEPTHS, GRANTED, STATES
 
 FOLDER = os.path.join(os.path.dirname(os.path.dirname(os.path.abspath(__file__))), "page")
 # the scripts of a page, each after those that it uses
 SCRIPTS = ("unpack", "run", "palette", "scale", "rows", "paint", "labels", "link", "minimap",
-           "details", "search", "controls", "view")
+           "details", "sums", "search", "controls", "view")
 KINDS = ("call", "enter", "wake", "reset", "deliver", "take")
 MESSAGE_KINDS = ("down", "start", "off", "reset")
 CODES = {state: code for code, state in enumerate(STATES)}
 # the granted depth while none is known
 UNKNOWN = 4
+# of the text of depths, which are digits, makes their numbers
+NUMBERS = bytes(it - ord("0") & 255 for it in range(256))
 # rows between two times that the streams are compressed
 FLUSHED = 4096
 
@@ -40,8 +43,9 @@ class Packed:
         # the places of what is shown among all cores, and among all nodes
         self.cores = [index for level, index in window.nodes if level == 0]
         self.nodes = [self.board.nodes.index(node) for node in window.nodes]
+        self.is_whole = len(self.nodes) == len(self.board.nodes)
         # what the cells of a row are made of, and the cells of the last row
-        self.picks = {"cores": self.states, "depths": self.depths, "granted": self.depths}
+        self.picks = {CORES: self.states, DEPTHS: self.depths, GRANTED: self.depths}
         self.values, self.last = {}, None
         self.events, self.changes, self.texts, self.times = (Stream() for _ in range(4))
         self.count, self.number, self.time = 0, 0, 0
@@ -89,14 +93,14 @@ class Packed:
         """Each cell that is not as in the row before: how far behind the last, and its value."""
         found, first, last = [], 0, self.last
         for name, pick in self.picks.items():
-            new = getattr(row, name)
+            listed = row.lists[name]
             if last is None:
-                self.values[name] = pick(new)
+                self.values[name] = pick(listed)
                 found += enumerate(self.values[name], first)
-            elif new is not getattr(last, name):
-                old, self.values[name] = self.values[name], pick(new)
-                found += [(first + at, value) for at, (before, value)
-                          in enumerate(zip(old, self.values[name])) if before != value]
+            elif listed is not last.lists[name]:
+                old, new = self.values[name], pick(listed)
+                self.values[name] = new
+                found += [(first + at, new[at]) for at in compress(range(len(old)), map(operator.ne, old, new))]
             first += len(self.values[name])
         self.changes.number(len(found))
         at = 0
@@ -106,16 +110,17 @@ class Packed:
             at = cell
         self.last = row
 
-    def states(self, cores):
+    def states(self, listed):
         """The codes of the states of the cores that are shown."""
-        return bytes(CODES[cores[index]] for index in self.cores)
+        codes = bytes(map(CODES.__getitem__, listed.value))
+        return codes if self.is_whole else bytes(map(codes.__getitem__, self.cores))
 
-    def depths(self, levels):
+    def depths(self, listed):
         """The depths of what is shown, or the granted ones."""
-        if levels is None:
+        if listed.text == "null":
             return bytes([UNKNOWN] * len(self.nodes))
-        flat = list(chain.from_iterable(levels))
-        return bytes(map(flat.__getitem__, self.nodes))
+        flat = listed.text.encode().translate(NUMBERS, b"[], ")
+        return flat if self.is_whole else bytes(map(flat.__getitem__, self.nodes))
 
     def head(self):
         """What the page has to know first."""

@@ -1,7 +1,7 @@
 """A run as `./psci show --json` writes it: the board, and then a row for each event.
 
 A row of a large board is long, and most of it is as in the row before. So the lists of a line are
-compared as text, and read only where they changed.
+compared as text, and read only where they changed and somebody asks.
 """
 import json
 
@@ -18,6 +18,8 @@ STATES = {
 }
 # what stands in a line before the states, the places, the depths, the granted depths, and behind
 MARKS = (', "cores": ', ', "places": ', ', "depths": ', ', "granted": ', ', "sent": ')
+
+CORES, _, DEPTHS, GRANTED = range(4)
 
 # reads the value at the beginning of a text, faster than json.loads
 read_value = json.JSONDecoder().raw_decode
@@ -60,30 +62,54 @@ class Board:
         return below(len(self.domains) - 1, 0, 0)
 
 
+class Listed:
+    """A list of a line: its text, which is read once."""
+
+    def __init__(self, text):
+        self.text, self.read = text, []
+
+    @property
+    def value(self):
+        if not self.read:
+            try:
+                self.read.append(read_json(self.text))
+            except ValueError as fault:
+                raise NotShown from fault
+        return self.read[0]
+
+
 class Row:
     """An event, and what holds after it: the members of its object, by their names."""
 
     def __init__(self, text, last=None):
-        at = [text.find(mark) for mark in MARKS]
-        if min(at) < 0:
-            raise NotShown
+        at = [-1]
+        for mark in MARKS:
+            at.append(text.find(mark, at[-1] + 1))
+            if at[-1] < 0:
+                raise NotShown
+        del at[0]
         head, tail = read_json(text[:at[0]] + "}"), read_json("{" + text[at[4] + 2:])
         self.text = text
         self.number, self.line, self.event = head["number"], head["line"], head["event"]
         self.asked, self.answer, self.said = head["asked"], head["answer"], head["said"]
         self.sent, self.acknowledged, self.taken = tail["sent"], tail["acknowledged"], tail["taken"]
         self.life, self.live = tail["life"], tail["live"]
-        self.lists = [text[begin + len(mark):end]
-                      for mark, begin, end in zip(MARKS, at, at[1:])]
-        self.cores = self.kept(0, last, "cores")
-        self.depths = self.kept(2, last, "depths")
-        self.granted = self.kept(3, last, "granted")
+        # a list is that of the last row where nothing in it changed
+        texts = [text[begin + len(mark):end] for mark, begin, end in zip(MARKS, at, at[1:])]
+        lists = last.lists if last else [None] * len(texts)
+        self.lists = [old if old and old.text == new else Listed(new) for old, new in zip(lists, texts)]
 
-    def kept(self, at, last, name):
-        """A list of this row, which is that of the last row where nothing in it changed."""
-        if last and last.lists[at] == self.lists[at]:
-            return getattr(last, name)
-        return read_json(self.lists[at])
+    @property
+    def cores(self):
+        return self.lists[CORES].value
+
+    @property
+    def depths(self):
+        return self.lists[DEPTHS].value
+
+    @property
+    def granted(self):
+        return self.lists[GRANTED].value
 
     @property
     def words(self):
@@ -102,8 +128,7 @@ class Row:
 
     def is_like(self, last):
         """Whether all that is shown of the board is as it was."""
-        return self.cores is last.cores and self.depths is last.depths and \
-            self.granted is last.granted
+        return all(self.lists[at] is last.lists[at] for at in (CORES, DEPTHS, GRANTED))
 
 
 class Run:
