@@ -1,25 +1,29 @@
 # Debian packages for guests, sourced by qemu/run, el3/run and tfa/run, which have `say`, `stop` and `cache`.
 # It installs nothing and needs no rights: apt gets lists of its own, in the folder $cache/apt.
 mirror=http://deb.debian.org/debian
-release=bookworm kernels='6.1.0-[0-9]+' xen=4.17
+release=bookworm kernels='image-6.1.0-[0-9]+' xen=4.17
 
-# of_release NAME: the packages of this release of Debian: bookworm's, as without, or trixie's, in a folder of their own
+# of_release NAME: the packages of this release of Debian: bookworm's, as without, or those of another one, in a folder of
+# their own
 of_release() {
     case $1 in
-        bookworm) ;;
-        trixie) release=trixie kernels='6.12.[0-9]+[+]deb13' xen=4.20 cache=${cache%/trixie}/trixie ;;
-        *) stop "there is no release $1; there are bookworm and trixie" ;;
+        bookworm) return ;;
+        trixie) kernels='image-6.12.[0-9]+[+]deb13' xen=4.20 ;;
+        trixie-backports) kernels='binary-7.[0-9]+.[0-9]+[+]deb13' xen=4.20 ;;
+        sid) ;;
+        *) stop "there is no release $1; there are bookworm, trixie, trixie-backports and sid" ;;
     esac
+    release=$1 cache=${cache%/"$1"}/$1
 }
 
 own_apt() {
-    local apt=$cache/apt
+    local apt=$cache/apt it suites=("$release")
+    [ "$release" = "${release%-backports}" ] || suites+=("${release%-backports}")
     mkdir -p "$apt/lists/partial" "$apt/archives/partial"
     : > "$apt/status"
-    cat > "$apt/sources" <<LIST
-deb [signed-by=/usr/share/keyrings/debian-archive-keyring.gpg] $mirror $release main
-deb-src [signed-by=/usr/share/keyrings/debian-archive-keyring.gpg] $mirror $release main
-LIST
+    for it in deb deb-src; do
+        printf "$it [signed-by=/usr/share/keyrings/debian-archive-keyring.gpg] $mirror %s main\n" "${suites[@]}"
+    done > "$apt/sources"
     cat > "$apt/conf" <<CONF
 Dir::Etc::SourceList "$apt/sources"; Dir::Etc::SourceParts "-";
 Dir::State::Lists "$apt/lists"; Dir::State::Status "$apt/status"; Dir::Cache "$apt";
@@ -35,17 +39,22 @@ has_guest() {
 
 # A kernel and busybox for arm64, unpacked into $cache/packages.
 fetch_guest() {
-    local image wanted="^linux-image-$kernels-cloud-arm64\$"
+    local image wanted="^linux-$kernels-cloud-arm64\$" have=
     mkdir -p "$cache"
     cd "$cache"
     own_apt
     say "downloading a kernel of $release (21 MB) and busybox"
-    image=$(apt-cache search --names-only "$wanted" | sort -V | tail -n 1)
-    apt-get download -qq "${image%% *}" || stop "no package $wanted can be had"
+    for image in $(apt-cache search --names-only "$wanted" | sed 's/ .*//' | sort -rV); do
+        ! apt-get download -qq "$image" 2> /dev/null || { have=$image; break; } # a mirror may lack what its lists name
+    done
+    [ -n "$have" ] || stop "no package $wanted can be had"
     apt-get download -qq busybox-static || stop "no package busybox-static of arm64 can be had"
-    for image in linux-image-*.deb busybox-static*.deb; do dpkg-deb -x "$image" packages; done
-    mkdir -p packages/bin
+    for image in "$have"_*.deb busybox-static*.deb; do dpkg-deb -x "$image" packages; done
+    mkdir -p packages/bin packages/boot
     [ -e packages/bin/busybox ] || ln -s ../usr/bin/busybox packages/bin/busybox # there it is from trixie on
+    for image in packages/usr/lib/modules/*/vmlinuz; do # and there from 7.3 on
+        [ ! -e "$image" ] || ln -s "../${image#packages/}" "packages/boot/vmlinuz-$(basename "$(dirname "$image")")"
+    done
     cd - > /dev/null
 }
 

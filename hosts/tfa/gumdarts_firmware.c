@@ -138,7 +138,7 @@ static void send(unsigned int core, const struct psci_frame *message)
     if (!message->some)
         return;
     if (psci_decode(&firmware, message->bytes, PSCI_FRAME_LEN, &fields) == 0U &&
-        fields.kind == PSCI_DOWN)
+        fields.kind == PSCI_MESSAGE_DOWN)
         wait_for_stop(core, message);
     else
         (void)deliver(core, message->bytes);

@@ -104,6 +104,8 @@ void record_board(const struct psci_board *board)
     say(" boot %x starts %u lives %u", board->boot, board->starts, board->lives);
     say(board->format == PSCI_EXTENDED_FORMAT ? " format extended\n" : "\n");
     say("tells stands\n");
+    if (PSCI_IS_UNPROVED)
+        say("# library unproved\n");
 }
 
 /* ---- events */
