@@ -1,4 +1,4 @@
-"""Whether a run is safe, sentence by sentence (docs/SAFETY.md), looked at after every event."""
+"""Whether a run is safe, sentence by sentence (docs/HEADLINE.md), looked at after every event."""
 from collections import namedtuple
 
 import firmware as fw

@@ -2,7 +2,7 @@
 shows it.
 
 Each is a method in place of the right one. With it the run's first wrong line is the one that the
-comment in the script says, and the sentence of docs/SAFETY.md is broken, or none by this alone.
+comment in the script says, and the sentence of docs/HEADLINE.md is broken, or none by this alone.
 """
 from collections import namedtuple
 
