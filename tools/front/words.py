@@ -302,7 +302,7 @@ def plain():
 
 
 def compare():
-    words = Words("compare", "Holds the record of a port's run (docs/RECORD.md) to the program.",
+    words = Words("compare", "Compares the record of a port's run (docs/RECORD.md) with the program.",
                   "[--quick] [--machine FILE] [--script FILE] RECORD",
                   "A record of the calls of any firmware, with a line 'psci: head', is judged instead\n"
                   "(docs/JUDGE.md): `psci compare --declare --help` has the options for that.\n")
@@ -337,7 +337,7 @@ COMMANDS = {
     "plain": (plain, "make a script by name, as `call 0 CPU_ON 3`, one of registers"),
     "storm": (storm, "make random events, and let the board settle"),
     "threads": (threads, "start a thread for each core, and audit what they did"),
-    "compare": (compare, "hold the record of a port's run to the program, or judge any firmware's calls"),
+    "compare": (compare, "compare the record of a port's run with the program, or judge any firmware's calls"),
     "sweep": (None, "make runs from many seeds, on all processors or on many machines"),
     "prove": (prove, "prove and build the program, or the C library"),
 }
