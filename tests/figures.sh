@@ -57,6 +57,15 @@ figures() {
     overlooked "a turn takes less" COSTS.md 's/^\(| SYSTEM_SUSPEND, wake-up | \)[0-9,]*/\1600/' 'wake-up, 4 cores: .* says 600'
     overlooked "a stack is smaller" PORTING.md 's/^| `psci_close` | [0-9,]*/| `psci_close` | 432/' '`psci_close`, x86-64: .* says 432'
     overlooked "memory is less" PORTING.md 's/^| `(2 2)` | [0-9,]*/| `(2 2)` | 2,849/' '`(2 2)`, kept, bytes: .* says 2,849'
+    for tool in 2.8 2.12; do
+        if grep -qF "SYSTEM_SUSPEND, wake-up: TF-A $tool\", null" "$work/figures/fixed"; then
+            skip "the turns of TF-A $tool" "source package of it, or no gcc 12,"
+        else
+            overlooked "TF-A $tool takes more" COSTS.md \
+                "s/^\\(| SYSTEM_SUSPEND, wake-up: TF-A $tool | [0-9,]* | [0-9,]* | \\)[0-9,]*/\\19,999/" \
+                "SYSTEM_SUSPEND, wake-up: TF-A $tool, 256: .* says 9,999"
+        fi
+    done
     overlooked "a sentence says less" TFA.md 's/`psci_open_board` takes [0-9,]*/`psci_open_board` takes 960/' 'TFA.md says 960'
     unseen "a state that was chosen" replayed \
         's/^\[[0-9]*, \(0, "psci_smc", "CPU_SUSPEND, OS-initiated", "2x2", "board"\)/[428, \1/' \

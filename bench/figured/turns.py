@@ -16,6 +16,8 @@ ENTRY = "0x40001000"
 TURNS = {"on": "CPU_ON, entry, CPU_OFF, acknowledgement", "suspend": "CPU_SUSPEND to the system, wake-up",
          "core": "AFFINITY_INFO of a core", "system": "AFFINITY_INFO of the system", "version": "PSCI_VERSION",
          "poll": "a poll"}
+SLEEP, MODES = "SYSTEM_SUSPEND, wake-up", "OS-initiated mode and back"
+INITIATED, DENIED = (f"CPU_SUSPEND to the system, OS-initiated, {it}" for it in ("wake-up", "denied"))
 
 
 def lists(board):
@@ -33,10 +35,10 @@ def lists(board):
                       (on, f"smc {last} 0x84000002 0 0 7"), (f"{on}; off {last}-{last}", f"take {last} 0x11 1 4")],
         TURNS["suspend"]: [(alone, f"smc {last} 0xc4000001 {deep} {ENTRY} 7"),
                            (f"{alone}; suspend {last}-{last} {deep}", f"enter {last} 1 2 2")],
-        "SYSTEM_SUSPEND, wake-up": [(alone, f"smc {last} 0xc400000e {ENTRY} 7 7"),
-                                    (f"{alone}; sleep {last}-{last}", f"enter {last} 1 2 2")],
-        "OS-initiated mode and back": [(alone, f"smc {last} 0x8400000f 1 0 7"),
-                                       (f"{alone}; mode 1", f"smc {last} 0x8400000f 0 0 7")],
+        SLEEP: [(alone, f"smc {last} 0xc400000e {ENTRY} 7 7"),
+                (f"{alone}; sleep {last}-{last}", f"enter {last} 1 2 2")],
+        MODES: [(alone, f"smc {last} 0x8400000f 1 0 7"),
+                (f"{alone}; mode 1", f"smc {last} 0x8400000f 0 0 7")],
         TURNS["core"]: [(alone, f"smc {last} 0xc4000004 {word:#x} 0 7")],
         TURNS["system"]: [(alone, f"smc {last} 0xc4000004 0 {height} 7")],
         TURNS["version"]: [(alone, f"smc {last} 0x84000000 0 0 7")],

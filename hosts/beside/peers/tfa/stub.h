@@ -9,8 +9,10 @@ typedef uint64_t u_register_t;
 typedef int64_t register_t;
 typedef struct cpu_context { int none; } cpu_context_t;
 
+#ifndef PLATFORM_CORE_COUNT /* bench/programs/tfa has other ones */
 enum { CLUSTERS = 2, PER_CLUSTER = 2, PLATFORM_CORE_COUNT = 4, PLAT_NUM_PWR_DOMAINS = 7 };
 #define PLAT_MAX_PWR_LVL 2U
+#endif
 #define PLAT_MAX_RET_STATE 2U
 #define PLAT_MAX_OFF_STATE 3U
 #define read_scr_el3() ((u_register_t)(SCR_RW_BIT | SCR_HCE_BIT))

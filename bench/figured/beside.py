@@ -1,0 +1,48 @@
+"""Turns of TF-A's lib/psci of each release beside those of the library: step by step, of its own code alone."""
+import subprocess
+import sys
+
+from figured.calls import BOARD, PAGE
+from figured.pages import TOP, Table, grouped
+from figured.turns import DENIED, INITIATED, MODES, SHAPES, SLEEP, TURNS
+
+HEAD = "Instructions, turns beside TF-A"
+PEERS = {"TF-A 2.8": "tfa", "TF-A 2.12": "tfa-2.12"}
+# by their names in bench/programs/tfa/turns.c; nobody acknowledges to TF-A
+NAMES = {"on": TURNS["on"], "suspend": TURNS["suspend"], "sleep": SLEEP, "initiated": INITIATED, "denied": DENIED,
+         "modes": MODES, "core": TURNS["core"], "version": TURNS["version"]}
+NOT_IN_2_8 = ("initiated", "denied", "modes")
+# the page's figures are those of this version of gcc
+COMPILER = "12"
+NO_SOURCES = 3
+
+
+def is_compiled_here():
+    ran = subprocess.run(["cc", "-dumpversion"], text=True, capture_output=True, check=False)
+    return ran.stdout.split(".")[0].strip() == COMPILER
+
+
+def counted(peer, shape, room):
+    """The instructions of each turn; none where they can't be counted here."""
+    path = f"{room}/{peer}"
+    built = subprocess.run([f"{TOP}/bench/programs/tfa/build", peer, "turns", path, *map(str, shape)], check=False)
+    if built.returncode == NO_SOURCES:
+        return {}
+    ran = subprocess.run([path], text=True, capture_output=True, check=False) if built.returncode == 0 else built
+    if ran.returncode:
+        sys.exit(f"bench/figures: {peer}: {ran.stderr or 'it cannot be built'}")
+    return {name: grouped(number) for name, number in map(str.split, ran.stdout.splitlines())}
+
+
+def table(turns, room):
+    """Each turn on each board: that of the library, as its own table has it, and those of TF-A."""
+    ours = {row[0]: row[1:] for row in turns.rows}
+    found = {who: [counted(peer, SHAPES[board], room) if is_compiled_here() else {} for board, _ in BOARD.values()]
+             for who, peer in PEERS.items()}
+    rows = []
+    for name, turn in NAMES.items():
+        rows += [[f"{turn}: the library", *ours[turn]]] if turn in ours else []
+        turn = turn.removesuffix(", acknowledgement")
+        rows += [[f"{turn}: {who}", *(it.get(name) for it in boards)] for who, boards in found.items()
+                 if name not in NOT_IN_2_8 or PEERS[who] != "tfa"]
+    return Table(PAGE, [HEAD, *BOARD], rows)
