@@ -66,26 +66,32 @@ front() {
     how_far
 }
 
-# what a fresh clone has, unproved, makes a large page in time, and says on a terminal how far it is; a slower one, and
-# one that says nothing or leaves what it says, are found
+# what a fresh clone has, unproved, makes a large page in time, and says on a terminal how far it is; one that says
+# nothing, says it too early, leaves what it says, or says it where there is no such terminal, is found by its part
 how_far() {
-    local edit fresh=$work/far
+    local part edit fresh=$work/far
     export XDG_CACHE_HOME=$work/cache
-    if timeout 600 tests/progress "$work/progress" ./psci --unproved > "$work/out" 2>&1; then pass; else
+    if timeout "$patience" tests/progress "$work/progress" all ./psci --unproved > "$work/out" 2>&1; then pass; else
         fail "tests/progress: $(tail -n 1 "$work/out")"
     fi
     mkdir -p "$fresh/tests"
     cp -r tools psci crates.txt "$fresh"
     cp tests/progress tests/busy-script "$fresh/tests"
     ln -s "$top"/{crates,docs,examples} "$fresh"
-    for edit in 's/spent < 2 or/spent < 200 or/' 's/complain("\\r\\033\[K")/pass/' 's/!= "dumb"$/!= "smart"/' \
-        's/about {int(spent .*} s more" if/{part} more" if/'; do
+    while read -r part edit; do
         sed "$edit" tools/front/programs.py > "$fresh/tools/front/programs.py"
         if cmp -s tools/front/programs.py "$fresh/tools/front/programs.py" ||
-            (cd "$fresh" && timeout 600 tests/progress "$work/progress" ./psci --unproved) > "$work/out" 2>&1; then
+            (cd "$fresh" && timeout "$patience" tests/progress "$work/progress" "$part" ./psci --unproved) \
+                < /dev/null > "$work/out" 2>&1; then
             fail "tests/progress lets this through: $edit"
         else pass; fi
-    done
+    done << 'EOF'
+pipe s/spent < 2 or/spent < 2000000 or/
+pipe s/complain("\\r\\033\[K")/pass/
+pipe s/spent < 2 or/spent < 0 or/
+silent s/!= "dumb"$/!= "smart"/
+seeds s/about {int(spent .*} s more" if/{part} more" if/
+EOF
     unset XDG_CACHE_HOME
 }
 
@@ -328,30 +334,11 @@ unread() {
     done
 }
 
-# Ctrl-C ends each command that waits for its script, or works, without a word; it goes to all that a terminal runs
+# Ctrl-C ends each command that waits for its script, or works, without a word
 interrupted() {
-    local words
-    for words in replay show draw "draw --page" "show --trace" "show --vcd" "show --script" plain \
-        "replay --machine examples/boards/rk3399.machine"; do
-        rm -f "$work/never"
-        mkfifo "$work/never"
-        exec 9<> "$work/never"
-        head -n 2 examples/boards/rk3399.calls >&9
-        # shellcheck disable=SC2086
-        timeout -s INT 5 ./psci $words < "$work/never" > "$work/out" 2> "$work/err"
-        if [ ! -s "$work/err" ]; then pass; else fail "./psci $words, interrupted: $(tail -n 1 "$work/err")"; fi
-        exec 9>&-
-    done
-    # a page of a long run, which is at work when it is interrupted, and threads and storms
-    ./psci storm --seed 1 --count 10000 --board "((16 16) (16 16)) exec 0x0-0x4 boot 0x0 starts 9999 lives 9" \
-        --keep "$work/long" > "$work/out"
-    for words in "draw --page $work/long" "threads --seed 1 --count 10000" "storm --seeds 1..100000 --count 10000"; do
-        # shellcheck disable=SC2086
-        timeout -s INT 1 ./psci $words > "$work/out" 2> "$work/err"
-        if [ $? = 124 ] && [ ! -s "$work/err" ]; then pass; else
-            fail "./psci $words, interrupted: $(tail -n 1 "$work/err")"
-        fi
-    done
+    if tests/interrupts "$work/interrupts" ./psci > "$work/out" 2>&1; then pass; else
+        fail "tests/interrupts: $(tail -n 1 "$work/out")"
+    fi
 }
 
 # what has no event says so: a view of it ends with 7, in one line; the program answers an empty script by nothing
