@@ -29,7 +29,7 @@ fresh_copy() {
 # ./psci hands words, streams and status on. Where no program is proved, or by --unproved, it does the
 # same, and first says what that is worth; what it compiled for that, it does not compile again.
 front() {
-    local fault unproved compiled begun fresh=$work/fresh
+    local fault unproved compiled begun first fresh=$work/fresh
     has_python ./psci || return 0
     fault=$(cat tests/scripts/lines/event-of-no-form.err)$'\n'$(cat tests/texts/event-of-no-form.told)
     unproved="psci: nothing of this run is proved; ./psci prove proves and builds the program"
@@ -39,7 +39,11 @@ front() {
     answers "./psci replay"
     fresh_copy "$fresh"
     export XDG_CACHE_HOME=$work/cache
+    processor_time
+    begun=$spent
     front_of "$fresh" replay
+    processor_time
+    first=$((spent - begun))
     expect "./psci replay without a proved program" 3 "$unproved"$'\n'"$compiled"$'\n'"$fault"
     answers "./psci replay without a proved program"
     processor_time
@@ -54,7 +58,8 @@ front() {
         pass
     fi
     processor_time
-    [ $((spent - begun)) -le 500 ] || fail "the second unproved run took more than 5 seconds"
+    [ $((spent - begun)) -le $((first / 10)) ] || fail "the second unproved run took $((spent - begun)) hundredths of a \
+second of a processor, and the first one, which compiles, $first"
     touch "$fresh/crates/psci_replay/src/main.rt"
     front_of "$fresh" replay
     expect "./psci replay of the same sources" 3 "$unproved"$'\n'"$fault"
@@ -167,20 +172,24 @@ processor_time() {
     spent=$((fields[15] + fields[16]))
 }
 
-# what is said of words, and each help; without a program, and at once
+# what is said of words, and each help; without a program, and at once: in a few times what Python takes to begin
 wording() {
-    local word begun
+    local word begun took words=(--help "help show" stom "storm --sead 1" drwa "help draw" "prove --help" --version)
     by_python wording
     processor_time
     begun=$spent
-    for word in --help "help show" stom "storm --sead 1" drwa "help draw" "prove --help" --version; do
+    for word in "${words[@]}"; do
         # shellcheck disable=SC2086
         PATH=$(dirname "$(type -P python3)"):/usr/bin:/bin ./psci --unproved $word > "$work/out" 2> "$work/err"
         if [ -s "$work/out" ] || [ -s "$work/err" ]; then pass; else fail "./psci $word says nothing"; fi
         if grep -q "nothing of this run" "$work/err"; then fail "./psci $word runs the program"; fi
     done
     processor_time
-    [ $((spent - begun)) -le 800 ] || fail "help and wrong words take more than a second each"
+    took=$((spent - begun)) begun=$spent
+    for word in "${words[@]}"; do python3 -c "import argparse, subprocess, tempfile"; done
+    processor_time
+    [ $took -le $((5 * (spent - begun))) ] || fail "help and wrong words take $took hundredths of a second of a \
+processor, and Python takes $((spent - begun)) to begin as often"
 }
 
 # faults in words, and scripts by name
