@@ -242,7 +242,7 @@ live_slow() {
         fail "hosts/payload/run --command 'hosts/el3/run --fault slow-on ..'"
         tail -n 5 "$work/out"
     fi
-    compared 0 "1 agrees" "$work/slow/slow-storm.record" --profile hosts/payload/profiles/el3
+    compared 0 "1 agrees" "$work/slow/slow-storm.record" --limit "$patience" --profile hosts/payload/profiles/el3
 }
 
 # a processor with SVE, which EL3 does not let through: its first use is told, once, and Linux goes no further

@@ -47,11 +47,13 @@ judged_ours() {
     fi
 }
 
-# judged_as STATUS TEXT WORD..: what ./psci compare ends with, and a text in what it says
+# judged_as STATUS TEXT WORD..: what ./psci compare ends with, and a text in what it says; a search may take as long as
+# it does here
 judged_as() {
-    local want=$1 text=$2 status=0
+    local want=$1 text=$2 status=0 limit=()
     shift 2
-    ./psci compare "$@" > "$work/out" 2> "$work/err" || status=$?
+    [[ " $* " != *" --profile "* ]] || limit=(--limit "$patience")
+    ./psci compare "${limit[@]}" "$@" > "$work/out" 2> "$work/err" || status=$?
     if [ "$status" = "$want" ] && grep -qF -- "$text" "$work/out" "$work/err"; then pass; else
         fail "./psci compare $* (status $status, wanted $want with '$text')"
         head -n 5 "$work/out" "$work/err"

@@ -56,7 +56,7 @@ kvm_fault() {
     rm -rf "$work/faulty"
     guest_of --seconds $((40 + took)) --fault "$1" --lists "$work/faulty" "${lists[@]}" || true
     cp "$work/out" "$work/told"
-    ./psci compare --profile "$payload/profiles/ours-on-kvm" "$work"/faulty/*.record >> "$work/told" 2>&1
+    ./psci compare --limit "$patience" --profile "$payload/profiles/ours-on-kvm" "$work"/faulty/*.record >> "$work/told" 2>&1
     for port in "$work"/faulty/*.port; do ./psci compare --quick "$port" >> "$work/told" 2>&1; done
     if grep -q -- "$3" "$work/told"; then pass; else
         fail "hosts/kvm/run --fault $1 --lists .. $2: nobody says '$3'"

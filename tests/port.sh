@@ -125,7 +125,7 @@ listed() {
     EL3_OUT=$work/el3-lists hosts/payload/run --payload "$work/payload/payload.bin" --seconds "$2" --out "$work/lists" \
         --command "hosts/el3/run --seconds $patience $option --board '$board' --mode none --kernel IMAGE" tests/lists/port.list \
         > "$work/said" 2>&1
-    ./psci compare --profile hosts/payload/profiles/el3 "$work/lists/port.record" > "$work/out" 2>&1 || status=$?
+    ./psci compare --limit "$patience" --profile hosts/payload/profiles/el3 "$work/lists/port.record" > "$work/out" 2>&1 || status=$?
     grep -s "^# el3: " "$work/el3-lists/el3.log" | grep -v "of the" >> "$work/out" && status=1
     grep "did not end" "$work/said" >> "$work/out" && status=1
     return $status
