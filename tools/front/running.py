@@ -117,15 +117,10 @@ def opened(path):
 def text_of(file):
     """All that a file has, whose bytes may be of any kind."""
     try:
-        with os.fdopen(os.dup(file), "rb") as opened_file:
-            return opened_file.read().decode(errors="surrogateescape")
+        # piece by piece: within one long reading Python does not hear Ctrl-C
+        return b"".join(iter(lambda: os.read(file, 1 << 20), b"")).decode(errors="surrogateescape")
     except OSError as fault:
         raise Stopped(f"cannot read the script: {fault.strerror}", 4) from fault
-
-
-def hold():
-    """Holds Ctrl-C back, until a tool that begins says what becomes of it."""
-    signal.pthread_sigmask(signal.SIG_BLOCK, {signal.SIGINT})
 
 
 def ended(process):
