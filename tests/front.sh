@@ -343,11 +343,32 @@ unread() {
     done
 }
 
-# Ctrl-C ends each command that waits for its script, or works, without a word
+# Ctrl-C ends each command as Python begins, at any moment, and where it waits for its script or works, without a word;
+# tools that tell where they were are found by their part
 interrupted() {
-    if tests/interrupts "$work/interrupts" ./psci > "$work/out" 2>&1; then pass; else
+    local part path edit fresh=$work/pressed
+    if tests/interrupts "$work/interrupts" all ./psci > "$work/out" 2>&1; then pass; else
         fail "tests/interrupts: $(tail -n 1 "$work/out")"
     fi
+    while read -r part path edit; do
+        rm -rf "$fresh"
+        mkdir -p "$fresh/tests"
+        cp -r tools psci crates.txt "$fresh"
+        cp tests/interrupts "$fresh/tests"
+        ln -s "$top/tests/records" "$fresh/tests"
+        ln -s "$top"/{crates,docs,examples,model,hosts,include} "$fresh"
+        sed -i "$edit" "$fresh/$path"
+        if cmp -s "$path" "$fresh/$path" ||
+            (cd "$fresh" && tests/interrupts "$work/interrupts" "$part" ./psci) < /dev/null > "$work/out" 2>&1; then
+            fail "tests/interrupts lets this through: $path, $edit"
+        else pass; fi
+    done << 'EOF'
+begins psci /^if env --block-signal/d
+begins tools/front/commands.py s/preexec_fn=interrupts.hold/preexec_fn=None/
+begins tools/front/commands.py /^        interrupts.hold()$/d
+works tools/front/interrupts.py s/sys.excepthook, sys.unraisablehook = uncaught, ignored/pass/
+waits tools/draw s/signal.signal(signal.SIGINT, signal.SIG_DFL)/pass/
+EOF
 }
 
 # what has no event says so: a view of it ends with 7, in one line; the program answers an empty script by nothing

@@ -123,14 +123,15 @@ def text_of(file):
         raise Stopped(f"cannot read the script: {fault.strerror}", 4) from fault
 
 
-def ended(process):
-    """The status of a program that has ended, as a shell has it. Ctrl-C is the program's."""
+def ended(process, was_interrupted=False):
+    """The status of a program that has ended, as a shell has it. Ctrl-C is the program's, whose status may be lost by
+    that."""
     while True:
         try:
             status = process.wait()
-            return 128 - status if status < 0 else status
+            return 128 - status if status < 0 else status or (128 + signal.SIGINT) * was_interrupted
         except KeyboardInterrupt:
-            continue
+            was_interrupted = True
 
 
 def run(program, words, file=0, output=None, board=None, keep=None):
@@ -144,14 +145,15 @@ def run(program, words, file=0, output=None, board=None, keep=None):
                                    stdin=script.source())
         if output is not None:
             output.close()
+        was_interrupted = False
         try:
             if script.comes_by:
                 script.feed(process)
             else:
                 script.watch(process)
         except KeyboardInterrupt:
-            pass
-        status = ended(process)
+            was_interrupted = True
+        status = ended(process, was_interrupted)
         said.seek(0)
         text = said.read()
     if status == 4 and text == b"write fault\n":
