@@ -64,8 +64,10 @@ second of a processor, and the first one, which compiles, $first"
     front_of "$fresh" replay
     expect "./psci replay of the same sources" 3 "$unproved"$'\n'"$fault"
     echo "// Nothing." >> "$fresh/crates/psci_replay/src/main.rt"
-    front_of "$fresh" replay
-    expect "./psci replay of other sources" 3 "$unproved"$'\n'"$compiled"$'\n'"$fault"
+    # other sources are compiled again, and on a terminal stands how far that is
+    if tests/progress "$work/progress" fresh "$fresh/psci" > "$work/out" 2>&1; then pass; else
+        fail "tests/progress, of a fresh clone: $(tail -n 1 "$work/out")"
+    fi
     unset XDG_CACHE_HOME
     whole_unproved
     how_far
@@ -371,9 +373,9 @@ waits tools/draw s/signal.signal(signal.SIGINT, signal.SIG_DFL)/pass/
 EOF
 }
 
-# what has no event says so: a view of it ends with 7, in one line; the program answers an empty script by nothing
+# what looks at a run without an event says so, in one line, and ends with 7; what answers or translates one does that
 nothing_there() {
-    local words
+    local words by
     head -n 1 examples/lost-message.psci > "$work/board"
     for words in "show --changes" "show --trace" "show --vcd" "show --script" draw "draw --page" "show --json --from 99" \
         "show --from 99" "draw --from 99" "show --trace --from 99"; do
@@ -382,13 +384,29 @@ nothing_there() {
         echo $? > "$work/got"
         expect "./psci $words of a board" 7 "psci ${words%% *}: there is no event in this part of the run"
     done
-    for words in replay show; do
-        ./psci "$words" "$work/board" > "$work/out" 2> "$work/err"
-        echo $? > "$work/got"
-        : > "$work/lines"
-        expect "./psci $words of a board" 0
-        answers "./psci $words of a board"
+    printf '\n# nothing\n' | cat "$work/board" - > "$work/nothing"
+    for words in show "show --legend" "show --json"; do
+        for by in "$work/board" "$work/nothing" "< $work/nothing" "< <(cat $work/nothing)"; do
+            eval "./psci $words $by" > "$work/out" 2> "$work/err"
+            echo $? > "$work/got"
+            expect "./psci $words of nothing, $by" 7 "psci show: there is no event in this part of the run"
+        done
     done
+    for words in "enter 0" $'# nothing\nenter 0'; do
+        (cat "$work/board"; sleep 0.1; echo "$words") | ./psci show > "$work/out" 2> "$work/err"
+        echo $? > "$work/got"
+        expect "./psci show of one event" 0
+    done
+    : > "$work/lines"
+    ./psci replay "$work/nothing" > "$work/out" 2> "$work/err"
+    echo $? > "$work/got"
+    expect "./psci replay of nothing" 0
+    answers "./psci replay of nothing"
+    ./psci plain "$work/nothing" > "$work/out" 2> "$work/err"
+    echo $? > "$work/got"
+    cp "$work/nothing" "$work/lines"
+    expect "./psci plain of nothing" 0
+    answers "./psci plain of nothing"
     ./psci compare "$work/board" > "$work/out" 2> "$work/err"
     if [ $? = 7 ] && grep -q "there is no event in it" "$work/out"; then pass; else fail "./psci compare of a board"; fi
 }

@@ -47,7 +47,7 @@ class Front:
             return self.viewed("show", asked, script)
         script, status = self.plain_of(asked.machine, script)
         return running.run(self.program(), ["show", *terminal_words(asked), *flags(asked, "json", "legend")],
-                           script) or status
+                           script, looks=True) or status
 
     def plain_of(self, path, script):
         """A script in the words of the machine that this file describes, made plain, and the status of that."""
@@ -70,8 +70,10 @@ class Front:
 
     def drawn(self, name, asked):
         """A storm or threads: a board in the words may be at fault, or the file that is to be kept."""
-        return running.run(self.program(), [name, *values(asked, "board", "seed", "count", "keep"),
-                                            *flags(asked, "counts")], None, board=asked.board, keep=asked.keep)
+        program, words_of = self.program(), [name, *values(asked, "board", "seed")]
+        guess = running.Guess(program, words_of, asked.count) if name == "threads" else None
+        return running.run(program, [*words_of, *values(asked, "count", "keep"), *flags(asked, "counts")], None,
+                           board=asked.board, keep=asked.keep, guess=guess)
 
     # ---- views
 

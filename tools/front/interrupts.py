@@ -2,6 +2,7 @@
 import os
 import signal
 import sys
+from traceback import clear_frames
 
 
 def hold():
@@ -19,6 +20,8 @@ def heed():
 
 def uncaught(kind, fault, trace):
     if issubclass(kind, KeyboardInterrupt):
+        # what stands on a terminal is wiped as generators end, which these frames hold
+        clear_frames(trace)
         end()
     sys.__excepthook__(kind, fault, trace)
 
