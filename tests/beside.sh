@@ -72,7 +72,7 @@ report_beside() {
     local loops='s/^    obey(core, x\[0\], &answer, did);/    while ((uint32_t)x[0] == 0x84000008) __asm__ volatile("");\n&/'
     echo "$loops" > "$work/edit"
     build_beside own loops "$work/edit" || return
-    { (ulimit -t 4; BESIDE_REPORT=$work/loops exec "$work/beside/loops" --draws 1000000) > "$work/out" 2>&1 || true; } 2> /dev/null
+    { (ulimit -t 20; BESIDE_REPORT=$work/loops exec "$work/beside/loops" --draws 1000000) > "$work/out" 2>&1 || true; } 2> /dev/null
     if grep -q '^+ SYSTEM_OFF: ours stops, theirs does not come back$' "$work/loops" &&
         grep -q '^  theirs: does not come back$' "$work/loops" && grep -q '^  by: SystemCalls.system_message: the core' "$work/loops"
     then pass; else

@@ -88,7 +88,7 @@ class Browser:
             raise RuntimeError(said["exceptionDetails"]["exception"].get("description", expression))
         return said["result"].get("value")
 
-    def until(self, expression, seconds=60):
+    def until(self, expression, seconds=600):
         """Waits until an expression holds in the page."""
         end = time.monotonic() + seconds
         while not self.value(expression):

@@ -167,6 +167,7 @@ space="exec 0x40000000-0x60000000 boot 0x40200000 starts 4294967295"
 
 # Linux on the firmware: by boards, in both modes, on many cores
 el3_live_boards() {
+    local took
     can_boot || return
     live probe --payload probe
     live pc each boot-core idle suspend-5 vectors
@@ -179,6 +180,7 @@ el3_live_boards() {
 
 # on a machine with words of its own, and with faults planted there
 el3_live_faults() {
+    local took=0
     can_boot || return
     live affinity-1 --machine hosts/el3/machines/affinity-1.machine each boot-core idle suspend-5
     live affinity-1-osi --machine hosts/el3/machines/affinity-1.machine --mode osi each boot-core idle
@@ -191,6 +193,7 @@ el3_live_faults() {
 # with accesses that have to be aligned, frames that are lost, three lives, a reset that nobody has ordered, and a
 # kernel that begins another
 el3_live_more() {
+    local took
     can_boot || return
     live strict --strict each idle
     live lost-frames --lose 5 each suspend-5
@@ -212,17 +215,18 @@ broken_off() {
     fi
 }
 
-# live NAME WORD..: a run, which has to end well and to be answered as by the program
+# live NAME WORD..: a run, which has to end well and to be answered as by the program; leaves in $took what it took
 live() {
-    local name=$1
+    local name=$1 begun=$SECONDS
     shift
     say "Linux at EL3: $name"
-    if EL3_OUT=$work/el3-$name hosts/el3/run --seconds 1800 --record "$work/$name.record" "$@" \
+    if EL3_OUT=$work/el3-$name hosts/el3/run --seconds "$patience" --record "$work/$name.record" "$@" \
         > "$work/out" 2>&1; then pass; else
         fail "hosts/el3/run $*"
         tail -n 20 "$work/out"
         return
     fi
+    took=$((SECONDS - begun))
     ! grep -q "did not\|LOST" "$work/out" || fail "hosts/el3/run $*: $(grep "did not\|LOST" "$work/out" | head -n 1)"
     compared 0 "are answered as by the proved program" "$work/$name.record" --machine "$work/$name.record.machine"
 }
@@ -232,19 +236,19 @@ live_slow() {
     local board="4 exec 0x40000000-0x60000000 boot 0x40200000 starts 4294967295 lives 65535"
     say "Lists at EL3: a CPU_ON takes 150 milliseconds"
     if make -s -C hosts/payload "OUT=$work/payload" > "$work/out" 2>&1 && EL3_OUT=$work/el3-slow hosts/payload/run \
-        --payload "$work/payload/payload.bin" --seconds 300 --out "$work/slow" tests/lists/slow-storm.list \
-        --command "hosts/el3/run --fault slow-on --board '$board' --mode none --kernel IMAGE" > "$work/out" 2>&1
+        --payload "$work/payload/payload.bin" --seconds "$patience" --out "$work/slow" tests/lists/slow-storm.list \
+        --command "hosts/el3/run --seconds $patience --fault slow-on --board '$board' --mode none --kernel IMAGE" > "$work/out" 2>&1
     then pass; else
         fail "hosts/payload/run --command 'hosts/el3/run --fault slow-on ..'"
         tail -n 5 "$work/out"
     fi
-    compared 0 "1 agrees" "$work/slow/slow-storm.record" --profile hosts/payload/profiles/el3
+    compared 0 "1 agrees" "$work/slow/slow-storm.record" --limit "$patience" --profile hosts/payload/profiles/el3
 }
 
 # a processor with SVE, which EL3 does not let through: its first use is told, once, and Linux goes no further
 live_shut() {
     say "Linux at EL3: the fault shut-features"
-    if EL3_OUT=$work/el3-shut hosts/el3/run --cpu max --seconds 60 --fault shut-features > "$work/out" 2>&1; then
+    if EL3_OUT=$work/el3-shut hosts/el3/run --cpu max --seconds $((30 + 2 * took)) --fault shut-features > "$work/out" 2>&1; then
         fail "hosts/el3/run --cpu max --fault shut-features ends well"
     elif [ "$(grep -c "exception 8, esr 0x66000000" "$work/out")" = 1 ]; then pass; else
         fail "hosts/el3/run --cpu max --fault shut-features does not tell one exception"
@@ -252,11 +256,12 @@ live_shut() {
     fi
 }
 
-# live_fault NAME TEXT: a port with this fault on the same machine, whose record shows it, whatever Linux did
+# live_fault NAME TEXT: a port with this fault on the same machine, whose record shows it, whatever Linux did; it may
+# hang, and gets more time than what ran before
 live_fault() {
     local machine=hosts/el3/machines/affinity-1.machine
     say "Linux at EL3: the fault $1"
-    EL3_OUT=$work/el3-fault hosts/el3/run --seconds 600 --record "$work/fault.record" --fault "$1" \
+    EL3_OUT=$work/el3-fault hosts/el3/run --seconds $((300 + 5 * took)) --record "$work/fault.record" --fault "$1" \
         --machine $machine > "$work/out" 2>&1
     compared 6 "$2" "$work/fault.record" --quick --machine $machine
 }

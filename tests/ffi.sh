@@ -235,7 +235,7 @@ on_bare_machine() {
         -Wl,--build-id=none -Wall -Wextra -Werror "$@" -Iinclude -Ihosts -o "$work/$name" \
         hosts/boot.c hosts/pool.c tests/programs/bare.c tests/programs/bare.S "$file" \
         > "$work/err" 2>&1 || { fail "$name"; head -n 20 "$work/err"; return; }
-    timeout 60 qemu-system-aarch64 -M virt -cpu cortex-a57 -m 64 -nic none -display none -monitor none \
+    timeout "$patience" qemu-system-aarch64 -M virt -cpu cortex-a57 -m 64 -nic none -display none -monitor none \
         -serial stdio -kernel "$work/$name" < /dev/null > "$work/out" 2> "$work/err"
 }
 
@@ -475,7 +475,7 @@ read_as_by_the_model() {
 
 # told NAME: this host tells what stands beside it
 told() {
-    if timeout 60 "$work/$1" > "$work/out" && cmp -s "hosts/$1.out" "$work/out"; then pass; else
+    if timeout "$patience" "$work/$1" > "$work/out" && cmp -s "hosts/$1.out" "$work/out"; then pass; else
         fail "hosts/$1.c"
         diff "hosts/$1.out" "$work/out" | head -n 5
     fi

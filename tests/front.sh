@@ -29,7 +29,7 @@ fresh_copy() {
 # ./psci hands words, streams and status on. Where no program is proved, or by --unproved, it does the
 # same, and first says what that is worth; what it compiled for that, it does not compile again.
 front() {
-    local fault unproved compiled begun fresh=$work/fresh
+    local fault unproved compiled begun first fresh=$work/fresh
     has_python ./psci || return 0
     fault=$(cat tests/scripts/lines/event-of-no-form.err)$'\n'$(cat tests/texts/event-of-no-form.told)
     unproved="psci: nothing of this run is proved; ./psci prove proves and builds the program"
@@ -39,7 +39,11 @@ front() {
     answers "./psci replay"
     fresh_copy "$fresh"
     export XDG_CACHE_HOME=$work/cache
+    processor_time
+    begun=$spent
     front_of "$fresh" replay
+    processor_time
+    first=$((spent - begun))
     expect "./psci replay without a proved program" 3 "$unproved"$'\n'"$compiled"$'\n'"$fault"
     answers "./psci replay without a proved program"
     processor_time
@@ -54,38 +58,47 @@ front() {
         pass
     fi
     processor_time
-    [ $((spent - begun)) -le 500 ] || fail "the second unproved run took more than 5 seconds"
+    [ $((spent - begun)) -le $((first / 10)) ] || fail "the second unproved run took $((spent - begun)) hundredths of a \
+second of a processor, and the first one, which compiles, $first"
     touch "$fresh/crates/psci_replay/src/main.rt"
     front_of "$fresh" replay
     expect "./psci replay of the same sources" 3 "$unproved"$'\n'"$fault"
     echo "// Nothing." >> "$fresh/crates/psci_replay/src/main.rt"
-    front_of "$fresh" replay
-    expect "./psci replay of other sources" 3 "$unproved"$'\n'"$compiled"$'\n'"$fault"
+    # other sources are compiled again, and on a terminal stands how far that is
+    if tests/progress "$work/progress" fresh "$fresh/psci" > "$work/out" 2>&1; then pass; else
+        fail "tests/progress, of a fresh clone: $(tail -n 1 "$work/out")"
+    fi
     unset XDG_CACHE_HOME
     whole_unproved
     how_far
 }
 
-# what a fresh clone has, unproved, makes a large page in time, and says on a terminal how far it is; a slower one, and
-# one that says nothing or leaves what it says, are found
+# what a fresh clone has, unproved, makes a large page in time, and says on a terminal how far it is; one that says
+# nothing, says it too early, leaves what it says, or says it where there is no such terminal, is found by its part
 how_far() {
-    local edit fresh=$work/far
+    local part edit fresh=$work/far
     export XDG_CACHE_HOME=$work/cache
-    if timeout 600 tests/progress "$work/progress" ./psci --unproved > "$work/out" 2>&1; then pass; else
+    if timeout "$patience" tests/progress "$work/progress" all ./psci --unproved > "$work/out" 2>&1; then pass; else
         fail "tests/progress: $(tail -n 1 "$work/out")"
     fi
     mkdir -p "$fresh/tests"
     cp -r tools psci crates.txt "$fresh"
     cp tests/progress tests/busy-script "$fresh/tests"
     ln -s "$top"/{crates,docs,examples} "$fresh"
-    for edit in 's/spent < 2 or/spent < 200 or/' 's/complain("\\r\\033\[K")/pass/' 's/!= "dumb"$/!= "smart"/' \
-        's/about {int(spent .*} s more" if/{part} more" if/'; do
+    while read -r part edit; do
         sed "$edit" tools/front/programs.py > "$fresh/tools/front/programs.py"
         if cmp -s tools/front/programs.py "$fresh/tools/front/programs.py" ||
-            (cd "$fresh" && timeout 600 tests/progress "$work/progress" ./psci --unproved) > "$work/out" 2>&1; then
+            (cd "$fresh" && timeout "$patience" tests/progress "$work/progress" "$part" ./psci --unproved) \
+                < /dev/null > "$work/out" 2>&1; then
             fail "tests/progress lets this through: $edit"
         else pass; fi
-    done
+    done << 'EOF'
+pipe s/spent < 2 or/spent < 2000000 or/
+pipe s/complain("\\r\\033\[K")/pass/
+pipe s/spent < 2 or/spent < 0 or/
+silent s/!= "dumb"$/!= "smart"/
+seeds s/about {int(spent .*} s more" if/{part} more" if/
+EOF
     unset XDG_CACHE_HOME
 }
 
@@ -161,20 +174,24 @@ processor_time() {
     spent=$((fields[15] + fields[16]))
 }
 
-# what is said of words, and each help; without a program, and at once
+# what is said of words, and each help; without a program, and at once: in a few times what Python takes to begin
 wording() {
-    local word begun
+    local word begun took words=(--help "help show" stom "storm --sead 1" drwa "help draw" "prove --help" --version)
     by_python wording
     processor_time
     begun=$spent
-    for word in --help "help show" stom "storm --sead 1" drwa "help draw" "prove --help" --version; do
+    for word in "${words[@]}"; do
         # shellcheck disable=SC2086
         PATH=$(dirname "$(type -P python3)"):/usr/bin:/bin ./psci --unproved $word > "$work/out" 2> "$work/err"
         if [ -s "$work/out" ] || [ -s "$work/err" ]; then pass; else fail "./psci $word says nothing"; fi
         if grep -q "nothing of this run" "$work/err"; then fail "./psci $word runs the program"; fi
     done
     processor_time
-    [ $((spent - begun)) -le 800 ] || fail "help and wrong words take more than a second each"
+    took=$((spent - begun)) begun=$spent
+    for word in "${words[@]}"; do python3 -c "import argparse, subprocess, tempfile"; done
+    processor_time
+    [ $took -le $((5 * (spent - begun))) ] || fail "help and wrong words take $took hundredths of a second of a \
+processor, and Python takes $((spent - begun)) to begin as often"
 }
 
 # faults in words, and scripts by name
@@ -328,35 +345,37 @@ unread() {
     done
 }
 
-# Ctrl-C ends each command that waits for its script, or works, without a word; it goes to all that a terminal runs
+# Ctrl-C ends each command as Python begins, at any moment, and where it waits for its script or works, without a word;
+# tools that tell where they were are found by their part
 interrupted() {
-    local words
-    for words in replay show draw "draw --page" "show --trace" "show --vcd" "show --script" plain \
-        "replay --machine examples/boards/rk3399.machine"; do
-        rm -f "$work/never"
-        mkfifo "$work/never"
-        exec 9<> "$work/never"
-        head -n 2 examples/boards/rk3399.calls >&9
-        # shellcheck disable=SC2086
-        timeout -s INT 5 ./psci $words < "$work/never" > "$work/out" 2> "$work/err"
-        if [ ! -s "$work/err" ]; then pass; else fail "./psci $words, interrupted: $(tail -n 1 "$work/err")"; fi
-        exec 9>&-
-    done
-    # a page of a long run, which is at work when it is interrupted, and threads and storms
-    ./psci storm --seed 1 --count 10000 --board "((16 16) (16 16)) exec 0x0-0x4 boot 0x0 starts 9999 lives 9" \
-        --keep "$work/long" > "$work/out"
-    for words in "draw --page $work/long" "threads --seed 1 --count 10000" "storm --seeds 1..100000 --count 10000"; do
-        # shellcheck disable=SC2086
-        timeout -s INT 1 ./psci $words > "$work/out" 2> "$work/err"
-        if [ $? = 124 ] && [ ! -s "$work/err" ]; then pass; else
-            fail "./psci $words, interrupted: $(tail -n 1 "$work/err")"
-        fi
-    done
+    local part path edit fresh=$work/pressed
+    if tests/interrupts "$work/interrupts" all ./psci > "$work/out" 2>&1; then pass; else
+        fail "tests/interrupts: $(tail -n 1 "$work/out")"
+    fi
+    while read -r part path edit; do
+        rm -rf "$fresh"
+        mkdir -p "$fresh/tests"
+        cp -r tools psci crates.txt "$fresh"
+        cp tests/interrupts "$fresh/tests"
+        ln -s "$top/tests/records" "$fresh/tests"
+        ln -s "$top"/{crates,docs,examples,model,hosts,include} "$fresh"
+        sed -i "$edit" "$fresh/$path"
+        if cmp -s "$path" "$fresh/$path" ||
+            (cd "$fresh" && tests/interrupts "$work/interrupts" "$part" ./psci) < /dev/null > "$work/out" 2>&1; then
+            fail "tests/interrupts lets this through: $path, $edit"
+        else pass; fi
+    done << 'EOF'
+begins psci /^if env --block-signal/d
+begins tools/front/commands.py s/preexec_fn=interrupts.hold/preexec_fn=None/
+begins tools/front/commands.py /^        interrupts.hold()$/d
+works tools/front/interrupts.py s/sys.excepthook, sys.unraisablehook = uncaught, ignored/pass/
+waits tools/draw s/signal.signal(signal.SIGINT, signal.SIG_DFL)/pass/
+EOF
 }
 
-# what has no event says so: a view of it ends with 7, in one line; the program answers an empty script by nothing
+# what looks at a run without an event says so, in one line, and ends with 7; what answers or translates one does that
 nothing_there() {
-    local words
+    local words by
     head -n 1 examples/lost-message.psci > "$work/board"
     for words in "show --changes" "show --trace" "show --vcd" "show --script" draw "draw --page" "show --json --from 99" \
         "show --from 99" "draw --from 99" "show --trace --from 99"; do
@@ -365,13 +384,29 @@ nothing_there() {
         echo $? > "$work/got"
         expect "./psci $words of a board" 7 "psci ${words%% *}: there is no event in this part of the run"
     done
-    for words in replay show; do
-        ./psci "$words" "$work/board" > "$work/out" 2> "$work/err"
-        echo $? > "$work/got"
-        : > "$work/lines"
-        expect "./psci $words of a board" 0
-        answers "./psci $words of a board"
+    printf '\n# nothing\n' | cat "$work/board" - > "$work/nothing"
+    for words in show "show --legend" "show --json"; do
+        for by in "$work/board" "$work/nothing" "< $work/nothing" "< <(cat $work/nothing)"; do
+            eval "./psci $words $by" > "$work/out" 2> "$work/err"
+            echo $? > "$work/got"
+            expect "./psci $words of nothing, $by" 7 "psci show: there is no event in this part of the run"
+        done
     done
+    for words in "enter 0" $'# nothing\nenter 0'; do
+        (cat "$work/board"; sleep 0.1; echo "$words") | ./psci show > "$work/out" 2> "$work/err"
+        echo $? > "$work/got"
+        expect "./psci show of one event" 0
+    done
+    : > "$work/lines"
+    ./psci replay "$work/nothing" > "$work/out" 2> "$work/err"
+    echo $? > "$work/got"
+    expect "./psci replay of nothing" 0
+    answers "./psci replay of nothing"
+    ./psci plain "$work/nothing" > "$work/out" 2> "$work/err"
+    echo $? > "$work/got"
+    cp "$work/nothing" "$work/lines"
+    expect "./psci plain of nothing" 0
+    answers "./psci plain of nothing"
     ./psci compare "$work/board" > "$work/out" 2> "$work/err"
     if [ $? = 7 ] && grep -q "there is no event in it" "$work/out"; then pass; else fail "./psci compare of a board"; fi
 }

@@ -47,11 +47,13 @@ judged_ours() {
     fi
 }
 
-# judged_as STATUS TEXT WORD..: what ./psci compare ends with, and a text in what it says
+# judged_as STATUS TEXT WORD..: what ./psci compare ends with, and a text in what it says; a search may take as long as
+# it does here
 judged_as() {
-    local want=$1 text=$2 status=0
+    local want=$1 text=$2 status=0 limit=()
     shift 2
-    ./psci compare "$@" > "$work/out" 2> "$work/err" || status=$?
+    [[ " $* " != *" --profile "* ]] || limit=(--limit "$patience")
+    ./psci compare "${limit[@]}" "$@" > "$work/out" 2> "$work/err" || status=$?
     if [ "$status" = "$want" ] && grep -qF -- "$text" "$work/out" "$work/err"; then pass; else
         fail "./psci compare $* (status $status, wanted $want with '$text')"
         head -n 5 "$work/out" "$work/err"
@@ -161,7 +163,7 @@ judged_bits() {
 
 # is_gone PROCESS: whether it executes no more, soon
 is_gone() {
-    for _ in {1..100}; do
+    for _ in {1..6000}; do
         [ -e "/proc/$1" ] && ! grep -q "^State:.[ZX]" "/proc/$1/status" || return 0
         sleep 0.1
     done
@@ -172,9 +174,9 @@ is_gone() {
 judged_ended() {
     local short=tests/records/calls.record
     has_python "machines that do not end" || return
-    if "$payload/run" --seconds 2 --payload $short --out "$work/ended" features --command \
+    if "$payload/run" --seconds 20 --payload $short --out "$work/ended" features --command \
         "sh -c 'cat $short; sleep 900 & echo \$! > $work/started; wait'" > "$work/out" 2>&1 &&
-        grep -q "^features: 20 lines, it did not end in 2 seconds$" "$work/out" &&
+        grep -q "^features: 20 lines, it did not end in 20 seconds$" "$work/out" &&
         cmp -s "$work/ended/features.record" <(grep "^psci: " $short) &&
         is_gone "$(cat "$work/started")"; then pass; else
         fail "$payload/run, a machine that does not end"
@@ -254,7 +256,7 @@ judged_virtio() {
 
 # played WORD..: a run of the payload, which ends by itself long before the limit
 played() {
-    "$payload/run" --seconds 1800 --payload "$work/payload/payload.bin" "$@" > "$work/out" 2>&1 &&
+    "$payload/run" --seconds "$patience" --payload "$work/payload/payload.bin" "$@" > "$work/out" 2>&1 &&
         ! grep -q "did not end" "$work/out" || { fail "$payload/run $*"; tail -n 3 "$work/out"; }
 }
 

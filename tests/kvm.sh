@@ -32,15 +32,17 @@ guest_of() {
 
 # lists that are judged, whose ports are compared; Linux; and one of the planted faults, another with each commit
 kvm_live() {
-    local list faults fault played text
+    local list faults fault played text took begun=$SECONDS
     local lists=(affinity down-01 lives mode off on-race on-twice refusals standby storm-1 storm-down-1 system-suspend)
     can_boot && [ -e "$cache/trixie/packages/bin/busybox" ] || { skip "guests of KVM" "$cache/trixie"; return; }
-    guest_of --lists "$work/lists" "${lists[@]}" || fail "hosts/kvm/run --lists: $(tail -n 1 "$work/out")"
+    guest_of --seconds "$patience" --lists "$work/lists" "${lists[@]}" || fail "hosts/kvm/run --lists: $(tail -n 1 "$work/out")"
+    # a fault may hang, and gets more time than all lists took without one
+    took=$((SECONDS - begun))
     judged_as 0 "${#lists[@]} records: ${#lists[@]} agrees" --profile "$payload/profiles/ours-on-kvm" "$work"/lists/*.record
     for list in "${lists[@]}"; do
         compared 0 "are answered as by the proved program" "$work/lists/$list.port"
     done
-    guest_of --record "$work/linux.record" each idle suspend-5 || fail "hosts/kvm/run: $(tail -n 1 "$work/out")"
+    guest_of --seconds "$patience" --record "$work/linux.record" each idle suspend-5 || fail "hosts/kvm/run: $(tail -n 1 "$work/out")"
     compared 0 "are answered as by the proved program" "$work/linux.record"
     mapfile -t faults < tests/kvm-faults.txt
     IFS='|' read -r fault played text <<< "${faults[$(git rev-list --count HEAD 2> /dev/null || echo 0) % ${#faults[@]}]}"
@@ -52,9 +54,9 @@ kvm_fault() {
     local port lists
     read -ra lists <<< "$2"
     rm -rf "$work/faulty"
-    guest_of --seconds 40 --fault "$1" --lists "$work/faulty" "${lists[@]}" || true
+    guest_of --seconds $((40 + took)) --fault "$1" --lists "$work/faulty" "${lists[@]}" || true
     cp "$work/out" "$work/told"
-    ./psci compare --profile "$payload/profiles/ours-on-kvm" "$work"/faulty/*.record >> "$work/told" 2>&1
+    ./psci compare --limit "$patience" --profile "$payload/profiles/ours-on-kvm" "$work"/faulty/*.record >> "$work/told" 2>&1
     for port in "$work"/faulty/*.port; do ./psci compare --quick "$port" >> "$work/told" 2>&1; done
     if grep -q -- "$3" "$work/told"; then pass; else
         fail "hosts/kvm/run --fault $1 --lists .. $2: nobody says '$3'"

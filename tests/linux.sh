@@ -76,7 +76,7 @@ faulty_traces() {
 # the host of hosts/qemu: its protocol, its link, and a firmware that is wrong
 qemu_host() {
     has_python tests/qemu-host || return
-    if timeout 120 tests/qemu-host "$program" > "$work/out" 2>&1; then pass; else
+    if timeout "$patience" tests/qemu-host "$program" > "$work/out" 2>&1; then pass; else
         fail tests/qemu-host
         tail -n 20 "$work/out"
     fi

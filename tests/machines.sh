@@ -62,7 +62,7 @@ device_trees() {
     has_python "device trees" || return
     tests/device-trees "$program" "$work" --found ||
         { skip "device trees" "package of Debian's kernel for arm64"; return; }
-    if timeout 1800 tests/device-trees "$program" "$work" > "$work/out" 2>&1; then pass; else
+    if timeout "$patience" tests/device-trees "$program" "$work" > "$work/out" 2>&1; then pass; else
         fail tests/device-trees
         tail -n 20 "$work/out"
     fi

@@ -10,7 +10,7 @@ has_browser() {
 # by_python NAME: tests/NAME over the program, with a folder of its own
 by_python() {
     has_python "tests/$1" || return
-    if timeout 300 "tests/$1" "$program" "$work/$1" > "$work/out" 2>&1; then pass; else
+    if timeout "$patience" "tests/$1" "$program" "$work/$1" > "$work/out" 2>&1; then pass; else
         fail "tests/$1"
         tail -n 20 "$work/out"
     fi
@@ -38,7 +38,7 @@ page_parts() {
         ln -s "$top"/{examples,docs,crates,crates.txt} "$fresh"
         sed -i "$edit" "$fresh/tools/page/$path"
         if cmp -s "tools/page/$path" "$fresh/tools/page/$path" ||
-            timeout 300 "$fresh/tests/page-parts" "$program" "$work/planted" < /dev/null > "$work/out" 2>&1; then
+            timeout "$patience" "$fresh/tests/page-parts" "$program" "$work/planted" < /dev/null > "$work/out" 2>&1; then
             fail "tests/page-parts lets this through: $path, $edit"
         else pass; fi
     done << 'EOF'

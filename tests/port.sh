@@ -45,7 +45,7 @@ as_threads() {
     [ "$1" != threads ] || flags=("${race[@]}") calls=(500 2 1)
     [ "$1" != lossy ] || { flags+=(-DLOSE=2) calls=(400 3 0); }
     TABLE=hosts/el3/machines/$2.h port_built "$work/port" threads "${flags[@]}" || return
-    TSAN_OPTIONS=exitcode=66 timeout 120 setarch -R "$work/port" "$3" "${calls[@]}" "$work/port.told" \
+    TSAN_OPTIONS=exitcode=66 timeout "$patience" setarch -R "$work/port" "$3" "${calls[@]}" "$work/port.told" \
         > "$work/out" 2>&1 || status=$?
     [ "$1" != threads ] || return $status
     grep -v '^#' "$work/port.told" > "$work/port.record"
@@ -115,18 +115,17 @@ port_faults() {
     done
 }
 
-# listed FAULT: what cores get of the port on QEMU, in which this fault may be planted, and what the judge and the port
-# itself say of it is in $work/out
+# listed FAULT SECONDS: what cores get of the port on QEMU, in which this fault may be planted, and what the judge and
+# the port itself say of it is in $work/out; it is ended after so long, compiling included
 listed() {
     local status=0 option="--fault $1"
     local board="4 exec 0x40000000-0x60000000 boot 0x40200000 starts 4294967295 lives 65535"
     [ -n "$1" ] || option=
-    # compiling counts, too, beside what other parts do; some faults end only so
     rm -f "$work/el3-lists/el3.log"
-    EL3_OUT=$work/el3-lists hosts/payload/run --payload "$work/payload/payload.bin" --seconds 150 --out "$work/lists" \
-        --command "hosts/el3/run $option --board '$board' --mode none --kernel IMAGE" tests/lists/port.list \
+    EL3_OUT=$work/el3-lists hosts/payload/run --payload "$work/payload/payload.bin" --seconds "$2" --out "$work/lists" \
+        --command "hosts/el3/run --seconds $patience $option --board '$board' --mode none --kernel IMAGE" tests/lists/port.list \
         > "$work/said" 2>&1
-    ./psci compare --profile hosts/payload/profiles/el3 "$work/lists/port.record" > "$work/out" 2>&1 || status=$?
+    ./psci compare --limit "$patience" --profile hosts/payload/profiles/el3 "$work/lists/port.record" > "$work/out" 2>&1 || status=$?
     grep -s "^# el3: " "$work/el3-lists/el3.log" | grep -v "of the" >> "$work/out" && status=1
     grep "did not end" "$work/said" >> "$work/out" && status=1
     return $status
@@ -134,20 +133,22 @@ listed() {
 
 # on the emulated machine: the port as it is, and the faults of which its own C says nothing
 port_lists() {
-    local tool name check _ text
+    local tool name check _ text begun=$SECONDS most
     for tool in qemu-system-aarch64 aarch64-linux-gnu-gcc dtc make; do
         command -v "$tool" > /dev/null || { skip "lists at EL3" "$tool"; return; }
     done
     [ -f "$PWD/out/lib/aarch64/libpsci_ffi.a" ] || { skip "lists at EL3" "$PWD/out/lib/aarch64/libpsci_ffi.a"; return; }
     make -s -C hosts/payload "OUT=$work/payload" > "$work/out" 2>&1 || { fail "make -C hosts/payload"; return; }
-    if listed ""; then pass; else
+    if listed "" "$patience"; then pass; else
         fail "hosts/el3 by tests/lists/port.list"
         head -n 5 "$work/out"
     fi
+    # some faults end by their time alone, which is more than the port took without one
+    most=$((100 + 3 * (SECONDS - begun)))
     while IFS='|' read -r name check _ text; do
         [ "$check" = lists ] || continue
         say "lists at EL3: the fault $name"
-        if listed "$name"; then fail "$name is not seen by lists"
+        if listed "$name" "$most"; then fail "$name is not seen by lists"
         elif grep -q -- "$text" "$work/out"; then pass; else
             fail "$name is seen by lists, which do not say '$text'"
             head -n 5 "$work/out"
@@ -165,7 +166,7 @@ port_steps() {
     sed 's/^READS(call_hw, \(psci_hw.*\))$/READS(call_hw, firmware.full = false, \1, firmware.full = true)/' \
         hosts/steps.c > "$work/taken.c"
     build_c taken "$work/taken.c" hosts/machine.c || return
-    if timeout 60 "$work/taken" > "$work/out" 2> "$work/err"; then
+    if timeout "$patience" "$work/taken" > "$work/out" 2> "$work/err"; then
         fail "hosts/steps.c: a place that a call leaves empty is not told"
     elif grep -q "^psci_hw left a place empty" "$work/err"; then pass; else
         fail "hosts/steps.c does not say which call left a place empty: $(cat "$work/err")"
@@ -180,7 +181,7 @@ port_registers() {
     done
     sed 's/cntpct_el0/cntvct_el0/' hosts/payload/call.S > "$work/call.S"
     if aarch64-linux-gnu-gcc -O1 -static -Wall -Wextra -Werror -o "$work/hold" tests/programs/hold.c "$work/call.S" \
-        > "$work/out" 2>&1 && timeout 60 qemu-aarch64-static "$work/hold" > "$work/out" 2>&1; then pass; else
+        > "$work/out" 2>&1 && timeout "$patience" qemu-aarch64-static "$work/hold" > "$work/out" 2>&1; then pass; else
         fail tests/programs/hold.c
         head -n 5 "$work/out"
     fi

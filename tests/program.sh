@@ -20,10 +20,10 @@ answers() {
     fi
 }
 
-# run WORD..: the program with these words, for a minute or $limit seconds; its output, error text and
+# run WORD..: the program with these words; its output, error text and
 # status are kept
 run() {
-    timeout "${limit:-60}" "$program" "$@" > "$work/out" 2> "$work/err"
+    timeout "$patience" "$program" "$@" > "$work/out" 2> "$work/err"
     echo $? > "$work/got"
 }
 
@@ -123,7 +123,7 @@ slow_pipe() {
     for ((at = 0; at < ${#text}; at++)); do
         printf '%s' "${text:at:1}"
         sleep 0.002
-    done | { timeout 60 "$program" replay > "$work/out" 2> "$work/err"; echo $? > "$work/got"; }
+    done | { timeout "$patience" "$program" replay > "$work/out" 2> "$work/err"; echo $? > "$work/got"; }
     expect "a pipe byte by byte" 0
     answers "a pipe byte by byte"
 }
@@ -134,7 +134,7 @@ by_hand() {
     coproc talk { "$program" replay 2> /dev/null; }
     pid=$talk_PID output=${talk[0]} input=${talk[1]}
     printf '%s\n' "$board" "enter 0" >&"$input"
-    read -r -t 20 answer <&"$output"
+    read -r -t "$patience" answer <&"$output"
     if [ "$answer" = "1 enter 0x0 0x0" ]; then pass; else fail "a line by hand"; fi
     exec {input}>&-
     wait "$pid" 2> /dev/null || true
@@ -350,7 +350,6 @@ thread_counts() {
 # a run of threads as long as one may be, on as many cores as there may be: it comes to its end, and each
 # core makes all its calls
 long_threads() {
-    local limit=900
     run threads --board "(16 16 16 16) exec 0x0-0x1000 boot 0x0 starts 100000 lives 3" --seed 1 \
         --count 10000 --counts
     expect "threads of 64 cores with 10,000 calls each" 0
@@ -415,7 +414,7 @@ no_threads() {
     cp "$program" "$folder/psci_cli"
     processor_time
     begun=$spent
-    timeout 60 "${limited[@]}" "$folder/psci_cli" threads --seed 1 --count 50 > "$work/out" 2> "$work/err"
+    timeout "$patience" "${limited[@]}" "$folder/psci_cli" threads --seed 1 --count 50 > "$work/out" 2> "$work/err"
     echo $? > "$work/got"
     processor_time
     took=$((spent - begun))
@@ -425,7 +424,7 @@ no_threads() {
     some_threads
     : > "$work/lines"
     for size in 8192 6144; do
-        in_room "$size" timeout 60 "$program" threads --seed 1 --count 50 > "$work/out" 2> "$work/err"
+        in_room "$size" timeout "$patience" "$program" threads --seed 1 --count 50 > "$work/out" 2> "$work/err"
         echo $? > "$work/got"
         if [ "$(cat "$work/got")" = 5 ] && grep -qxE 'out of (threads|memory)' "$work/err"; then pass; else
             fail "threads in $size KiB of memory (status $(cat "$work/got")): $(cat "$work/err")"
@@ -440,7 +439,7 @@ some_threads() {
     for size in 65536 131072 262144; do
         processor_time
         begun=$spent
-        in_room "$size" timeout 60 "$program" threads --seed 1 --count 5 --board \
+        in_room "$size" timeout "$patience" "$program" threads --seed 1 --count 5 --board \
             "(16 16 16 16) exec 0x0-0x1000 boot 0x0 starts 1000 lives 3" > "$work/out" 2> "$work/err"
         echo $? > "$work/got"
         processor_time

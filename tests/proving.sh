@@ -1,9 +1,9 @@
 # Tests of ./psci prove, sourced by ../test: which crates it proves, what it keeps and builds.
 
-# ./psci prove proves each crate that a program stands on, once, and builds it. Here commands stand
-# for those of the kit, which make what they are asked for.
+# ./psci prove proves each crate that a program stands on, once, and builds it, where there is neither git nor a
+# repository, too. Here commands stand for those of the kit, which make what they are asked for.
 proving() {
-    local name word kit=$work/kit fresh=$work/proving
+    local name word kit=$work/kit fresh=$work/proving few=$work/few
     has_python "./psci prove" || return 0
     mkdir -p "$kit/bin" "$kit/toolchain/bin" "$fresh/tools" "$fresh/include"
     echo "no kit" > "$kit/KIT-ID"
@@ -29,11 +29,15 @@ END
     cp psci crates.txt HANDLES "$fresh"
     cp include/*.h "$fresh/include"
     cp -r tools "$fresh"
+    mkdir "$few"
+    for name in sh env cp mkdir chmod; do ln -s "$(type -P "$name")" "$few/$name"; done
+    ln -s "$(python3 -c 'import sys; print(sys.executable)')" "$few/python3"
+    if (PATH=$kit/bin:$few; type -P git) > "$work/out"; then fail "there is git among a few commands"; fi
     for name in psci_replay psci_cli; do
         word=all
         [ "$name" = psci_cli ] || word=
         # shellcheck disable=SC2086
-        XDG_CACHE_HOME=$work/cache PATH=$kit/bin:$PATH "$fresh/psci" prove $word < /dev/null \
+        XDG_CACHE_HOME=$work/cache PATH=$kit/bin:$few "$fresh/psci" prove $word < /dev/null \
             > "$work/out" 2> "$work/proved"
         echo $? > "$work/got"
         tail -n 1 "$work/proved" > "$work/err"

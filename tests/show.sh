@@ -260,7 +260,7 @@ by_zsh() {
     local line wanted
     [ -n "$(type -P zsh)" ] || { skip "completion by zsh" zsh; return; }
     while IFS='|' read -r line wanted; do
-        timeout 120 zsh -f tests/completed-by-zsh "$line" > "$work/out" 2> "$work/err"
+        timeout "$patience" zsh -f tests/completed-by-zsh "$line" > "$work/out" 2> "$work/err"
         echo "$wanted" > "$work/lines"
         answers "completion of $line by zsh"
     done << 'EOF'

@@ -28,7 +28,7 @@ def waited_for(process, folder, said, wanted):
     while not all(any(re.search(it, line) for line in said) for it in wanted):
         is_all = os.path.isdir(folder) and len([it for it in os.listdir(folder) if it.endswith(".json")]) >= 6
         since = since or (time.monotonic() if is_all else None)
-        if process.poll() is not None or since and time.monotonic() - since > 30:
+        if process.poll() is not None or since and time.monotonic() - since > 120:
             return None
         time.sleep(0.1)
     return len(said)

@@ -29,7 +29,7 @@ tfa_faults() {
 downs_of() {
     cc -std=gnu11 -O2 -Wall -Wextra -Werror -I"$work/stand-in" -Iinclude -Ihosts -I"$1" -o "$work/downs" \
         "$1/downs.c" "$1/gumdarts_firmware.c" hosts/pool.c "$archive" > "$work/out" 2>&1 &&
-        timeout 60 "$work/downs" > "$work/out" 2>&1
+        timeout "$patience" "$work/downs" > "$work/out" 2>&1
 }
 
 # downs_fail FAULT TEXT: with this fault the try ends with this text
@@ -170,7 +170,7 @@ has_for_tfa() {
 
 # tfa_boots OPTION..: Linux on TF-A, all that it does there, and its record
 tfa_boots() {
-    if TFA_OUT=$work/tfa hosts/tfa/run --seconds 1800 --record "$work/tfa.record" "$@" each boot-core idle \
+    if TFA_OUT=$work/tfa hosts/tfa/run --seconds "$patience" --record "$work/tfa.record" "$@" each boot-core idle \
         suspend-5 > "$work/out" 2>&1; then pass; else
         fail "hosts/tfa/run $*"
         tail -n 20 "$work/out"

@@ -1,13 +1,12 @@
 """The commands of ./psci: those of the program, and its own."""
 import os
-import signal
 import subprocess
 import sys
 
 import repo
 from views import window
 
-from . import machine_runs, plain, running, scripts, storms, words
+from . import interrupts, machine_runs, plain, running, scripts, storms, words
 from .programs import REPLAYER, WHOLE, Progress, Stopped, built, is_current, kit, say, unproved
 from .running import write
 
@@ -48,7 +47,7 @@ class Front:
             return self.viewed("show", asked, script)
         script, status = self.plain_of(asked.machine, script)
         return running.run(self.program(), ["show", *terminal_words(asked), *flags(asked, "json", "legend")],
-                           script) or status
+                           script, looks=True) or status
 
     def plain_of(self, path, script):
         """A script in the words of the machine that this file describes, made plain, and the status of that."""
@@ -71,8 +70,10 @@ class Front:
 
     def drawn(self, name, asked):
         """A storm or threads: a board in the words may be at fault, or the file that is to be kept."""
-        return running.run(self.program(), [name, *values(asked, "board", "seed", "count", "keep"),
-                                            *flags(asked, "counts")], None, board=asked.board, keep=asked.keep)
+        program, words_of = self.program(), [name, *values(asked, "board", "seed")]
+        guess = running.Guess(program, words_of, asked.count) if name == "threads" else None
+        return running.run(program, [*words_of, *values(asked, "count", "keep"), *flags(asked, "counts")], None,
+                           board=asked.board, keep=asked.keep, guess=guess)
 
     # ---- views
 
@@ -82,7 +83,7 @@ class Front:
         program = self.program()
         read, write_end = os.pipe()
         view = subprocess.Popen([f"{repo.TOP}/tools/{tool}", *view_words(tool, asked)], stdin=read,
-                                preexec_fn=running.hold)
+                                preexec_fn=interrupts.hold)
         os.close(read)
         status = running.run(program, ["show", "--json"], script, output=os.fdopen(write_end, "wb"))
         seen = running.ended(view)
@@ -97,10 +98,13 @@ class Front:
         asked = words.serve().read(given)
         os.close(running.opened(asked.file)) if asked.file else None
         file = ["--", asked.file] if asked.file else []
-        os.execv(f"{repo.TOP}/tools/try", ["try", "--program", self.program(), f"--port={asked.port}", *file])
+        program = self.program()
+        interrupts.hold()
+        os.execv(f"{repo.TOP}/tools/try", ["try", "--program", program, f"--port={asked.port}", *file])
 
     def compare(self, given):
         unproved_too = ["--unproved"] if self.is_unproved else []
+        interrupts.hold()
         os.execv(f"{repo.TOP}/tools/compare", ["compare", *unproved_too, *given])
 
     def sweep(self, given):
@@ -141,7 +145,7 @@ class Front:
     @staticmethod
     def by_prover(asked, done):
         kit()
-        status = running.ended(subprocess.Popen([f"{repo.TOP}/tools/prove", *asked]))
+        status = running.ended(subprocess.Popen([f"{repo.TOP}/tools/prove", *asked], preexec_fn=interrupts.hold))
         if not status:
             say(done)
         return status
@@ -197,8 +201,7 @@ def view_words(tool, asked):
 def main(given):
     """Runs ./psci with these words, and ends with its status."""
     running.open_streams()
-    if signal.getsignal(signal.SIGINT) == signal.SIG_DFL:
-        signal.signal(signal.SIGINT, signal.default_int_handler)
+    interrupts.heed()
     try:
         is_unproved = given[:1] == ["--unproved"]
         sys.exit(Front(is_unproved).run(given[is_unproved:], given[:is_unproved]))
@@ -208,5 +211,3 @@ def main(given):
     except OSError as fault:
         say(f"{fault.filename or 'read or write'}: {fault.strerror}")
         sys.exit(4)
-    except KeyboardInterrupt:
-        sys.exit(130)

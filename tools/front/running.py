@@ -3,6 +3,7 @@ import errno
 import fcntl
 import mmap
 import os
+import re
 import select
 import signal
 import stat
@@ -15,6 +16,8 @@ from . import told
 from .programs import Progress, Stopped, complain, say
 from .scripts import NAMED, Names
 
+# behind the board a line that is neither empty nor a comment
+EVENT = re.compile(rb"\n[a-z]")
 # how many of the last bytes that came by a pipe are kept, to tell of a line
 KEPT = 1 << 20
 
@@ -23,7 +26,7 @@ class Script:
     """The script that a program reads, by a file or by a pipe. A file without names the program reads itself."""
 
     def __init__(self, file):
-        self.file, self.gone, self.last, self.names = file, 0, b"", Names()
+        self.file, self.gone, self.last, self.names, self.had_event = file, 0, b"", Names(), False
         try:
             mode = 0 if file is None else os.fstat(file).st_mode
         except OSError:
@@ -47,32 +50,30 @@ class Script:
 
     def feed(self, process):
         """Hands what comes on to the program, with its calls plain, until one of them ends."""
-        progress = Progress(is_silent=False)
-        while process.poll() is None:
-            self.look(progress)
-            if not select.select([self.file], [], [], 0.05)[0]:
-                continue
-            some = os.read(self.file, 1 << 16)
-            self.keep(some)
-            try:
-                process.stdin.write(self.names.plain(some))
-            except OSError:
-                break
-            if not some:
-                break
-        progress.end()
+        with Progress(is_silent=False) as progress:
+            while process.poll() is None:
+                self.look(progress)
+                if not select.select([self.file], [], [], 0.05)[0]:
+                    continue
+                some = os.read(self.file, 1 << 16)
+                self.keep(some)
+                try:
+                    process.stdin.write(self.names.plain(some))
+                except OSError:
+                    break
+                if not some:
+                    break
         try:
             process.stdin.close()
         except OSError:
             pass
 
-    def watch(self, process):
-        """Waits for a program that reads the file itself, and says how far it is."""
-        progress = Progress(is_silent=False)
-        while progress.is_heard and process.poll() is None:
-            self.look(progress)
-            time.sleep(0.05)
-        progress.end()
+    def watch(self, process, guess=None):
+        """Waits for a program that reads the file itself, or none, and says how far it is."""
+        with Progress(guess.what if guess else "the script", is_silent=False) as progress:
+            while progress.is_heard and process.poll() is None:
+                progress.tell(guess.part(progress.begun)) if guess else self.look(progress)
+                time.sleep(0.05)
 
     def look(self, progress):
         """Says how much of a file was read: the program reads on where this does."""
@@ -82,9 +83,17 @@ class Script:
     def keep(self, some):
         """Keeps the last bytes that came."""
         whole = self.last + some
+        self.had_event = self.had_event or EVENT.search(whole, max(len(self.last) - 1, 0)) is not None
         cut = max(len(whole) - KEPT, 0)
         self.gone += whole[:cut].count(b"\n")
         self.last = whole[cut:]
+
+    def has_event(self):
+        """Whether there is an event in it, once it was read to its end."""
+        if not self.is_file or os.fstat(self.file).st_size <= self.start:
+            return self.had_event
+        with mmap.mmap(self.file, 0, access=mmap.ACCESS_READ) as text:
+            return EVENT.search(text, self.start) is not None
 
     def line(self, number):
         """A line of the script, or nothing where it is not known any more."""
@@ -102,6 +111,23 @@ class Script:
         return lines[at].decode(errors="replace")
 
 
+class Guess:
+    """How far a run of threads is, which says nothing before its end: by the time that a part of its calls takes."""
+    what, PARTS = "the calls", 20
+
+    def __init__(self, program, words, count):
+        self.command, self.program, self.whole = ["psci", *words, f"--count={count // self.PARTS}"], program, 0.0
+
+    def part(self, begun):
+        """How much of it may be done. What takes no second is not guessed."""
+        if not self.whole and time.time() - begun > 1:
+            now = time.time()
+            subprocess.run(self.command, executable=self.program, stdin=subprocess.DEVNULL, stdout=subprocess.DEVNULL,
+                           stderr=subprocess.DEVNULL, check=False)
+            self.whole = self.PARTS * (time.time() - now)
+        return min((time.time() - begun) / self.whole, 0.99) if self.whole else 0
+
+
 def opened(path):
     """The script of this name; standard input without one, or where it is -."""
     if path in (None, "-"):
@@ -117,30 +143,27 @@ def opened(path):
 def text_of(file):
     """All that a file has, whose bytes may be of any kind."""
     try:
-        with os.fdopen(os.dup(file), "rb") as opened_file:
-            return opened_file.read().decode(errors="surrogateescape")
+        # piece by piece: within one long reading Python does not hear Ctrl-C
+        return b"".join(iter(lambda: os.read(file, 1 << 20), b"")).decode(errors="surrogateescape")
     except OSError as fault:
         raise Stopped(f"cannot read the script: {fault.strerror}", 4) from fault
 
 
-def hold():
-    """Holds Ctrl-C back, until a tool that begins says what becomes of it."""
-    signal.pthread_sigmask(signal.SIG_BLOCK, {signal.SIGINT})
-
-
-def ended(process):
-    """The status of a program that has ended, as a shell has it. Ctrl-C is the program's."""
+def ended(process, was_interrupted=False):
+    """The status of a program that has ended, as a shell has it. Ctrl-C is the program's, whose status may be lost by
+    that."""
     while True:
         try:
             status = process.wait()
-            return 128 - status if status < 0 else status
+            return 128 - status if status < 0 else status or (128 + signal.SIGINT) * was_interrupted
         except KeyboardInterrupt:
-            continue
+            was_interrupted = True
 
 
-def run(program, words, file=0, output=None, board=None, keep=None):
+def run(program, words, file=0, output=None, board=None, keep=None, looks=False, guess=None):
     """Runs the program with these words on the script of this file, if there is one; its status. Where it names a
-    fault, of the script or of a board in the words, its own line comes first."""
+    fault, of the script or of a board in the words, its own line comes first. One that looks at a run has to find an
+    event there. A guess says how far it is where nothing else does."""
     script = Script(file)
     if script.comes_by and os.isatty(script.file):
         say("the script comes from the terminal, and Ctrl-D ends it")
@@ -149,21 +172,34 @@ def run(program, words, file=0, output=None, board=None, keep=None):
                                    stdin=script.source())
         if output is not None:
             output.close()
+        was_interrupted = False
         try:
             if script.comes_by:
                 script.feed(process)
             else:
-                script.watch(process)
+                script.watch(process, guess)
         except KeyboardInterrupt:
-            pass
-        status = ended(process)
+            was_interrupted = True
+        status = ended(process, was_interrupted)
         said.seek(0)
         text = said.read()
     if status == 4 and text == b"write fault\n":
         # who reads rows that a tool makes a view of says itself why it ended
         return not_written(keep) if output is None else 4
     tell(text, lambda number: script.line(number) if number else board)
+    if looks and status == 0 and not script.has_event():
+        return nothing_there(words[0])
     return status
+
+
+# the status where nothing was there to look at
+NOTHING = 7
+
+
+def nothing_there(name):
+    """Says that there was nothing to look at; the status."""
+    complain(f"psci {name}: there is no event in this part of the run\n")
+    return NOTHING
 
 
 def tell(text, line_of):

@@ -18,7 +18,7 @@ from .running import write
 
 BOARD = "(2 2) exec 0x40000000-0x40100000 boot 0x40000000 starts 1000 lives 3"
 STATUS = """Exit status: 0 done, 1 not proved or not run, 2 command line, 3 script, record or machine, 4 read or write,
-5 memory, 6 what threads, a port or a seed did, 7 what is undecided or left
+5 memory, 6 what threads, a port or a seed did, 7 what is undecided or left, or no event to look at
 """
 MINUTES = "The minutes are those of four processors with 3 GiB each."
 COMMAND_FAULT = 2

@@ -28,10 +28,6 @@ def screen_lines():
         return 24
 
 
-# the status where nothing was there to look at
-NOTHING = 7
-
-
 class Refused(Exception):
     """What the words of the command ask for cannot be had, and why."""
 
@@ -44,7 +40,7 @@ def run(main, name):
         window = main()
         sys.stdout.flush()
         if not window.count:
-            end(name, "there is no event in this part of the run", NOTHING)
+            sys.exit(running.nothing_there(name))
     except Refused as fault:
         # the program is heard to its end, and has no write fault to tell of
         for _ in sys.stdin:

@@ -8,7 +8,7 @@
 #include <unistd.h>
 
 /* How long nobody is waited for, in nanoseconds. */
-enum { MOST_WAIT = 4000000000ull };
+enum { MOST_WAIT = 20000000000ull };
 
 /* Of each core, which it writes before it says that it stands: whether a wake-up may end its stop. The control
  * processor reads these once it has seen that the core stands, so the port's own words have to order the two. */
@@ -182,7 +182,7 @@ UNSEEN static bool is_forgotten(unsigned cpu) {
 
 UNSEEN void look_at_doors(void) {
     for (unsigned cpu = 0; cpu < CORES; cpu++) {
-        uint64_t end = now() + 1000000000;
+        uint64_t end = now() + MOST_WAIT;
         while (is_forgotten(cpu) && now() < end)
             nap(1000);
         if (is_forgotten(cpu))
