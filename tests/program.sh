@@ -208,6 +208,11 @@ storms() {
     cp "$work/out" "$work/lines"
     run storm --count 10000 --seed 18446744073709551615
     answers "the same storm again"
+    run storm --seed 7 --count 500
+    cp "$work/out" "$work/lines"
+    run storm --seed 7 --count 500 \
+        --board "(2 2) exec 0x40000000-0x40100000 boot 0x40000000 starts 1000 lives 3"
+    answers "a storm on the board that is taken where none is given"
     for seed in 1 2 3 4 5; do
         run storm --board "((1 2) (2 1)) exec 0x0-0x1000 boot 0x0 starts 1000 lives 3" \
             --seed "$seed" --count 10000

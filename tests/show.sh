@@ -50,8 +50,14 @@ END
     shown_ends
 }
 
-# color changes nothing but colors
+# color changes nothing but colors, and comes only where it is always wanted
 shown_colors() {
+    local when
+    for when in auto never; do
+        show --color $when < examples/late-acknowledgement.psci
+        cp tests/shown/late-acknowledgement.txt "$work/lines"
+        answers "show --color $when"
+    done
     show --color always < examples/late-acknowledgement.psci
     sed 's/\x1b\[[0-9]*m//g' "$work/out" > "$work/plain"
     if ! cmp -s "$work/plain" "$work/out"; then pass; else fail "show --color always without a color"; fi

@@ -1,7 +1,1 @@
-pub mod CoreLines
-mod EndRows
-pub mod Failing
-mod OutputRows
-mod ShownRows
-mod StormRows
-mod ThreadsRows
+mod FailureRows

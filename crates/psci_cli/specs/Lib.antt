@@ -1,5 +1,1 @@
-pub mod Ends
-pub mod Shown
-pub mod StormText
-pub mod Threading
-pub mod ThreadsText
+pub mod Failures

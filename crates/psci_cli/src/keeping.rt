@@ -1,12 +1,11 @@
 //! A run is kept in a file, as a script.
 
-ghost use Rattle.std.specs.Prelude.{◌≡◌, IfErr};
+ghost use Rattle.std.specs.Prelude.{◌≡◌};
 ghost use Rattle.std.specs.IoError.{error_kind};
 ghost use Rattle.std.specs.declared.io.ErrorKind.TheVariants as kinds;
-ghost use Rattle.psci_command.specs.psci_script.declared.exit.Failure.TheVariants.{Replay};
-ghost use Rattle.psci_command.specs.psci_script.declared.fault.ReplayFault.TheVariants.{Memory};
-ghost use Rattle.psci_command.specs.psci_script.declared.fault.ReplayFault.TheVariants.{Write};
-ghost use Rattle.psci_cli.specs.Ends.{IsUnkept};
+ghost use Rattle.psci_script.specs.declared.exit.Failure.TheVariants.{Replay};
+ghost use Rattle.psci_script.specs.declared.fault.ReplayFault.TheVariants.{Memory};
+ghost use Rattle.psci_script.specs.declared.fault.ReplayFault.TheVariants.{Write};
 
 use psci_bench::ReplayFault;
 use psci_command::Failure;
@@ -16,9 +15,7 @@ use std::io::{self, BufWriter, Write};
 
 /// Writes the run of these records on the board of this text into the file of this path, as a
 /// script.
-pub fn keep(rt: &HostRuntime, path: &str, board: &str, records: &[Record]) -> Result<(), Failure>
-    ensures { IfErr result IsUnkept }
-{
+pub fn keep(rt: &HostRuntime, path: &str, board: &str, records: &[Record]) -> Result<(), Failure> {
     match write_file(rt, path, board, records) {
         Ok(()) => Ok(()),
         Err(error) => Err(unkept(&error)),
@@ -38,7 +35,6 @@ fn write_file(
 
 /// Why a run could not be kept in a file: for want of memory, or it could not be written.
 fn unkept(error: &io::Error) -> Failure
-    ensures either { IsUnkept result }
     ensures memory { error_kind error.now ≡ kinds.OutOfMemory → result ≡ Replay Memory }
     ensures write { ¬ (error_kind error.now ≡ kinds.OutOfMemory) → result ≡ Replay Write }
 {

@@ -8,10 +8,7 @@ mod storm_line;
 mod threads_line;
 
 ghost use Rattle.std.specs.Prelude.{IfErr};
-ghost use Rattle.psci_command.specs.psci_script.Exit.{IsOfReplay};
-ghost use Rattle.psci_command.specs.psci_board.Verdict.{board_of};
-ghost use Rattle.psci_cli.specs.Ends.{IsStormed, StormEnds};
-ghost use Rattle.psci_cli.specs.Threading.{ThreadsEnds};
+ghost use Rattle.psci_script.specs.Exit.{IsOfReplay};
 
 use keeping::keep;
 use psci_bench::{ReplayFault, Std, StormedWorld, replay, storm_world};
@@ -39,9 +36,7 @@ fn replay_standard(rt: &HostRuntime) -> Result<(), Failure>
 }
 
 /// Makes the storm that is asked for.
-fn stormed(alloc: Global, request: StormRequest) -> Result<StormedWorld, Failure>
-    ensures { IsStormed result (board_of request.entry.board.now) request.entry.count }
-{
+fn stormed(alloc: Global, request: StormRequest) -> Result<StormedWorld, Failure> {
     let board = Board::read(alloc, request.board).map_err(Failure::Board)?;
     storm_world(alloc, &board, request.seed, request.count).map_err(|_| Failure::Replay(
         ReplayFault::Memory,
@@ -51,9 +46,7 @@ fn stormed(alloc: Global, request: StormRequest) -> Result<StormedWorld, Failure
 /// Makes a storm, keeps it where that is asked for, and writes on standard output what is asked of
 /// it.
 #[inline(never)]
-fn storm_standard(rt: &HostRuntime, request: StormRequest) -> Result<(), Failure>
-    ensures ends { StormEnds result (board_of request.entry.board.now) }
-{
+fn storm_standard(rt: &HostRuntime, request: StormRequest) -> Result<(), Failure> {
     let stormed = stormed(rt.alloc(), request)?;
     if let Some(path) = request.keep {
         keep(rt, path, request.board, stormed.world.records())?;
@@ -71,9 +64,7 @@ fn threads_standard<R: Threads + Wait + Sync>(
     rt: &HostRuntime,
     threads: &R,
     request: ThreadsRequest,
-) -> Result<(), Failure>
-    ensures ends { ThreadsEnds result (board_of request.entry.board.now) }
-{
+) -> Result<(), Failure> {
     let threaded = threaded(threads, rt.alloc(), request)?;
     if let Some(path) = request.keep {
         keep(rt, path, request.board, threaded.world.records())?;

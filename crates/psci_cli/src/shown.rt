@@ -1,8 +1,7 @@
 //! A script, shown as the command line asks for it.
 
-ghost use Rattle.std.specs.Prelude.{◌≡◌, IfErr};
-ghost use Rattle.psci_command.specs.psci_script.Exit.{IsOfReplay};
-ghost use Rattle.psci_cli.specs.Shown.{form_of};
+ghost use Rattle.std.specs.Prelude.{IfErr};
+ghost use Rattle.psci_script.specs.Exit.{IsOfReplay};
 
 use psci_bench::Std;
 use psci_command::{Color, Failure, ShowRequest};
@@ -26,9 +25,7 @@ pub fn show_standard(rt: &HostRuntime, request: ShowRequest) -> Result<(), Failu
 
 /// The form that is asked for. Whether standard output is a terminal is not known here, so colors
 /// are asked for by name.
-fn form(request: ShowRequest) -> Form
-    ensures { result ≡ form_of request }
-{
+fn form(request: ShowRequest) -> Form {
     if request.json {
         return Form::Json;
     }

@@ -1,10 +1,5 @@
 //! Commands without options, and the options of commands.
 
-ghost use Rattle.std.specs.Prelude.{◌≡◌, false, codes, IfOk};
-ghost use Rattle.clap.specs.Words.{app_of, new_app, rule_of, with_rule};
-ghost use Rattle.psci_command.specs.Program.{board_rule, count_rule, flag_rule, number_rule};
-ghost use Rattle.psci_command.specs.Program.{seed_rule, text_rule};
-
 use clap::builder::ValueParser;
 use clap::{Arg, ArgAction, Command, value_parser};
 use std::alloc::{AllocError, Global};
@@ -20,9 +15,7 @@ pub fn described<'a>(
     name: &'a str,
     about: &'a str,
     long_about: &'a str,
-) -> Command<'a>
-    ensures { app_of result ≡ new_app name.entry.now }
-{
+) -> Command<'a> {
     Command::new(alloc, name)
         .about(about)
         .long_about(long_about)
@@ -34,10 +27,7 @@ pub fn drawn<'a>(
     alloc: Global,
     seed_help: &'a str,
     count_help: &'a str,
-) -> Result<Command<'a>, AllocError>
-    ensures { IfOk result (λ drawn. app_of drawn ≡ with_rule (with_rule
-        (with_rule (app_of command.entry) board_rule) seed_rule) count_rule) }
-{
+) -> Result<Command<'a>, AllocError> {
     command
         .arg(board(alloc))?
         .arg(seed(alloc, seed_help))?
@@ -45,49 +35,31 @@ pub fn drawn<'a>(
 }
 
 /// The board, which may be left out.
-fn board<'a>(alloc: Global) -> Arg<'a>
-    ensures rule { rule_of result ≡ board_rule }
-    ensures local { result.global ≡ false }
-{
+fn board<'a>(alloc: Global) -> Arg<'a> {
     text(alloc, "board", BOARD_HELP).default_value(BOARD)
 }
 
 /// The seed: any number of 64 bits.
-fn seed<'a>(alloc: Global, help: &'a str) -> Arg<'a>
-    ensures rule { rule_of result ≡ seed_rule }
-    ensures local { result.global ≡ false }
-{
+fn seed<'a>(alloc: Global, help: &'a str) -> Arg<'a> {
     number(alloc, "seed", help, value_parser!(u64))
 }
 
 /// The count: at most 10,000.
-fn count<'a>(alloc: Global, help: &'a str) -> Arg<'a>
-    ensures rule { rule_of result ≡ count_rule }
-    ensures local { result.global ≡ false }
-{
+fn count<'a>(alloc: Global, help: &'a str) -> Arg<'a> {
     number(alloc, "count", help, value_parser!(u64).range(..=10_000))
 }
 
 /// A number that must be given, under this name.
-fn number<'a>(alloc: Global, name: &'a str, help: &'a str, parser: ValueParser<'a>) -> Arg<'a>
-    ensures rule { rule_of result ≡ number_rule name.entry.now parser.entry }
-    ensures local { result.global ≡ false }
-{
+fn number<'a>(alloc: Global, name: &'a str, help: &'a str, parser: ValueParser<'a>) -> Arg<'a> {
     text(alloc, name, help).required(true).value_parser(parser)
 }
 
 /// A flag of this name, which may be left out.
-pub fn flag<'a>(alloc: Global, name: &'a str, help: &'a str) -> Arg<'a>
-    ensures rule { rule_of result ≡ flag_rule name.entry.now }
-    ensures local { result.global ≡ false }
-{
+pub fn flag<'a>(alloc: Global, name: &'a str, help: &'a str) -> Arg<'a> {
     text(alloc, name, help).action(ArgAction::SetTrue)
 }
 
 /// A text, which may be left out, under this name.
-pub fn text<'a>(alloc: Global, name: &'a str, help: &'a str) -> Arg<'a>
-    ensures rule { rule_of result ≡ text_rule name.entry.now }
-    ensures local { result.global ≡ false }
-{
+pub fn text<'a>(alloc: Global, name: &'a str, help: &'a str) -> Arg<'a> {
     Arg::new(alloc, name).long(name).help(help)
 }

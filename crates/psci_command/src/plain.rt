@@ -1,14 +1,9 @@
 //! Text that a terminal shows and does not obey.
 
-ghost use Rattle.std.specs.Prelude.{◌≡◌, IfOk};
-ghost use Rattle.psci_command.specs.Plain.{plain_text, as_plain};
-
 use std::alloc::{AllocError, Global};
 
 /// The byte itself where it is a line feed or printable ASCII, and else a question mark.
-fn plain_byte(byte: u8) -> u8
-    ensures { result ≡ as_plain byte }
-{
+fn plain_byte(byte: u8) -> u8 {
     match byte {
         b'\n' | b' '..=b'~' => byte,
         _ => b'?',
@@ -16,9 +11,7 @@ fn plain_byte(byte: u8) -> u8
 }
 
 /// The text, byte for byte, without those that a terminal would obey.
-pub fn plain(alloc: Global, text: &str) -> Result<Vec<u8>, AllocError>
-    ensures { IfOk result (λ bytes. bytes.items ≡ plain_text text.now) }
-{
+pub fn plain(alloc: Global, text: &str) -> Result<Vec<u8>, AllocError> {
     text.as_bytes()
         .iter()
         .map(|&byte| plain_byte(byte))

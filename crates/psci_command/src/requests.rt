@@ -1,11 +1,5 @@
 //! What a command asks for, by the matches that the parser has found for it.
 
-ghost use Rattle.std.specs.Prelude.{◌≡◌, Some, codes, option_map};
-ghost use Rattle.clap.specs.Words.{first_of, found_of, one_of, rows_of, subcommand_rows_of};
-ghost use Rattle.psci_command.specs.Commands.{IsAsked, IsDrawOf, IsShowOf, IsStormOf};
-ghost use Rattle.psci_command.specs.Commands.{IsThreadsOf};
-ghost use Rattle.psci_command.specs.Values.{IsColorIn, IsFlagIn, IsNumberIn};
-
 use clap::ArgMatches;
 
 /// A storm, as the command line asks for it.
@@ -77,19 +71,9 @@ pub enum Request<'a> {
     Nothing,
 }
 
-/// The board, the seed and the count of a command that has them.
-#[derive(Clone, Copy)]
-struct Draw<'a> {
-    board: &'a str,
-    seed: u64,
-    count: u64,
-}
-
 /// What these matches of the program ask for, or none where a part is missing, which the parser has
 /// made sure of.
-pub fn request_of<'a>(matches: &ArgMatches<'a>) -> Option<Request<'a>>
-    ensures { IsAsked (subcommand_rows_of matches.now) result }
-{
+pub fn request_of<'a>(matches: &ArgMatches<'a>) -> Option<Request<'a>> {
     let Some((name, matches)) = matches.subcommand() else {
         return Some(Request::Replay);
     };
@@ -101,92 +85,41 @@ pub fn request_of<'a>(matches: &ArgMatches<'a>) -> Option<Request<'a>>
     }
 }
 
-/// The board, the seed and the count of these matches, or none where one of them is missing.
-fn draw_in<'a>(matches: &ArgMatches<'a>) -> Option<Draw<'a>>
-    ensures { IsDrawOf (rows_of (found_of matches.now)) result }
-{
-    Some(Draw {
-        board: text_in(matches, "board")?,
-        seed: number_in(matches, "seed")?,
-        count: number_in(matches, "count")?,
-    })
-}
-
 /// The storm that these matches of its command ask for, or none where a number is missing.
-fn storm_in<'a>(matches: &ArgMatches<'a>) -> Option<StormRequest<'a>>
-    ensures { IsStormOf (rows_of (found_of matches.now)) result }
-{
-    let Draw { board, seed, count } = draw_in(matches)?;
+fn storm_in<'a>(matches: &ArgMatches<'a>) -> Option<StormRequest<'a>> {
     Some(StormRequest {
-        board,
-        seed,
-        count,
-        counts: flag_in(matches, "counts"),
-        keep: text_in(matches, "keep"),
+        board: matches.get_str("board")?,
+        seed: matches.get_one("seed")?,
+        count: matches.get_one("count")?,
+        counts: matches.get_flag("counts"),
+        keep: matches.get_str("keep"),
     })
 }
 
 /// The threads that these matches of their command ask for, or none where a number is missing.
-fn threads_in<'a>(matches: &ArgMatches<'a>) -> Option<ThreadsRequest<'a>>
-    ensures { IsThreadsOf (rows_of (found_of matches.now)) result }
-{
-    let Draw { board, seed, count } = draw_in(matches)?;
-    let counts = flag_in(matches, "counts");
+fn threads_in<'a>(matches: &ArgMatches<'a>) -> Option<ThreadsRequest<'a>> {
     Some(ThreadsRequest {
-        board,
-        seed,
-        count,
-        counts,
-        keep: text_in(matches, "keep"),
+        board: matches.get_str("board")?,
+        seed: matches.get_one("seed")?,
+        count: matches.get_one("count")?,
+        counts: matches.get_flag("counts"),
+        keep: matches.get_str("keep"),
     })
 }
 
 /// What these matches of the command `show` ask for, or none where they have no word for colors.
-fn show_in(matches: &ArgMatches<'_>) -> Option<ShowRequest>
-    ensures { IsShowOf (rows_of (found_of matches.now)) result }
-{
-    let color = Color::named(text_in(matches, "color")?)?;
+fn show_in(matches: &ArgMatches<'_>) -> Option<ShowRequest> {
     Some(ShowRequest {
-        json: flag_in(matches, "json"),
-        legend: flag_in(matches, "legend"),
-        width: width_in(matches),
-        color,
+        json: matches.get_flag("json"),
+        legend: matches.get_flag("legend"),
+        width: matches.get_one("width"),
+        color: Color::named(matches.get_str("color")?)?,
     })
-}
-
-/// The text of the option of this name, where these matches have one.
-fn text_in<'a>(matches: &ArgMatches<'a>, name: &str) -> Option<&'a str>
-    ensures { option_map (λ s. s.now) result ≡ first_of name.now (rows_of (found_of matches.now)) }
-{
-    matches.get_str(name)
-}
-
-/// The number of the option of this name, where these matches have one.
-fn number_in(matches: &ArgMatches<'_>, name: &str) -> Option<u64>
-    ensures { IsNumberIn 64 (one_of name.now (rows_of (found_of matches.now))) result }
-{
-    matches.get_one(name)
-}
-
-/// Whether the flag of this name is set in these matches.
-fn flag_in(matches: &ArgMatches<'_>, name: &str) -> bool
-    ensures { IsFlagIn (one_of name.now (rows_of (found_of matches.now))) result }
-{
-    matches.get_one(name).unwrap_or(false)
-}
-
-/// The width, where these matches have one.
-fn width_in(matches: &ArgMatches<'_>) -> Option<u16>
-    ensures { IsNumberIn 16 (one_of (codes "width") (rows_of (found_of matches.now))) result }
-{
-    matches.get_one("width")
 }
 
 impl Color {
     /// What this word says of colors, if it is one of those for them.
-    fn named(word: &str) -> Option<Color>
-        ensures { IsColorIn (Some word.now) result }
-    {
+    fn named(word: &str) -> Option<Color> {
         match word {
             "auto" => Some(Color::Auto),
             "always" => Some(Color::Always),

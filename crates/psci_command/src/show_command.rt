@@ -1,10 +1,5 @@
 //! The command `show`.
 
-ghost use Rattle.std.specs.Prelude.{◌≡◌, [], false, codes, IfOk};
-ghost use Rattle.clap.specs.Words.{app_of, new_app, rule_of, with_rule};
-ghost use Rattle.psci_command.specs.Program.{AreColors, color_rule, flag_rule, show_shape};
-ghost use Rattle.psci_command.specs.Program.{width_rule};
-
 use crate::options::{described, flag, text};
 use clap::builder::ValueParser;
 use clap::{Arg, Command};
@@ -29,46 +24,23 @@ const WIDTH_HELP: &str =
 const COLOR_HELP: &str =
     "When letters are colored; auto is never, or by ./psci on a terminal without NO_COLOR always";
 
-/// The words that `--color` takes.
-pub fn colors<'a>() -> &'a [&'a str]
-    ensures { AreColors result }
-{
-    &["auto", "always", "never"]
-}
-
-/// The command `show`, with these words for colors.
-pub fn show_command<'a>(alloc: Global, colors: &'a [&'a str]) -> Result<Command<'a>, AllocError>
-    ensures { IfOk result (λ command. app_of command
-        ≡ record { top = show_shape colors.entry; subs = [] }) }
-{
-    flagged(alloc)?.arg(width(alloc))?.arg(color(alloc, colors))
-}
-
-/// The command `show` with its flags alone.
-fn flagged<'a>(alloc: Global) -> Result<Command<'a>, AllocError>
-    ensures { IfOk result (λ command. app_of command ≡ with_rule
-        (with_rule (new_app (codes "show")) (flag_rule (codes "json")))
-        (flag_rule (codes "legend"))) }
-{
+/// The command `show`.
+pub fn show_command<'a>(alloc: Global) -> Result<Command<'a>, AllocError> {
     described(alloc, "show", ABOUT_SHOW, LONG_ABOUT_SHOW)
         .arg(flag(alloc, "json", JSON_HELP))?
-        .arg(flag(alloc, "legend", LEGEND_HELP))
+        .arg(flag(alloc, "legend", LEGEND_HELP))?
+        .arg(width(alloc))?
+        .arg(color(alloc))
 }
 
 /// The width, which may be left out.
-fn width<'a>(alloc: Global) -> Arg<'a>
-    ensures rule { rule_of result ≡ width_rule }
-    ensures local { result.global ≡ false }
-{
+fn width<'a>(alloc: Global) -> Arg<'a> {
     text(alloc, "width", WIDTH_HELP).value_parser(ValueParser::unsigned(0, 65_535))
 }
 
-/// When letters are colored, by one of these words.
-fn color<'a>(alloc: Global, colors: &'a [&'a str]) -> Arg<'a>
-    ensures rule { rule_of result ≡ color_rule colors.entry }
-    ensures local { result.global ≡ false }
-{
+/// When letters are colored, by one of three words.
+fn color<'a>(alloc: Global) -> Arg<'a> {
     text(alloc, "color", COLOR_HELP)
         .default_value("auto")
-        .value_parser(ValueParser::Names(colors))
+        .value_parser(ValueParser::Names(&["auto", "always", "never"]))
 }

@@ -1,9 +1,5 @@
 //! The command `storm`.
 
-ghost use Rattle.std.specs.Prelude.{◌≡◌, [], IfOk};
-ghost use Rattle.clap.specs.Words.{app_of};
-ghost use Rattle.psci_command.specs.Program.{storm_shape};
-
 use crate::options::{described, drawn, flag, text};
 use clap::Command;
 use std::alloc::{AllocError, Global};
@@ -27,10 +23,7 @@ const COUNTS_HELP: &str = "Write a line more for each tally, with how often it c
 const KEEP_HELP: &str = "The file that the storm is written into, as a script";
 
 /// The command `storm`.
-pub fn storm_command<'a>(alloc: Global) -> Result<Command<'a>, AllocError>
-    ensures { IfOk result (λ command. app_of command
-        ≡ record { top = storm_shape; subs = [] }) }
-{
+pub fn storm_command<'a>(alloc: Global) -> Result<Command<'a>, AllocError> {
     let storm = described(alloc, "storm", ABOUT_STORM, LONG_ABOUT_STORM);
     drawn(storm, alloc, SEED_HELP, COUNT_HELP)?
         .arg(flag(alloc, "counts", COUNTS_HELP))?

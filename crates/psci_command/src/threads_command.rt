@@ -1,9 +1,5 @@
 //! The command `threads`.
 
-ghost use Rattle.std.specs.Prelude.{◌≡◌, [], IfOk};
-ghost use Rattle.clap.specs.Words.{app_of};
-ghost use Rattle.psci_command.specs.Program.{threads_shape};
-
 use crate::options::{described, drawn, flag, text};
 use clap::Command;
 use std::alloc::{AllocError, Global};
@@ -30,10 +26,7 @@ const COUNTS_HELP: &str = "Write a line more for each core, with what it did";
 const KEEP_HELP: &str = "The file that the audited run is written into, as a script";
 
 /// The command `threads`.
-pub fn threads_command<'a>(alloc: Global) -> Result<Command<'a>, AllocError>
-    ensures { IfOk result (λ command. app_of command
-        ≡ record { top = threads_shape; subs = [] }) }
-{
+pub fn threads_command<'a>(alloc: Global) -> Result<Command<'a>, AllocError> {
     let threads = described(alloc, "threads", ABOUT_THREADS, LONG_ABOUT_THREADS);
     drawn(threads, alloc, SEED_HELP, COUNT_HELP)?
         .arg(flag(alloc, "counts", COUNTS_HELP))?

@@ -1,8 +1,5 @@
 //! What was answered.
 
-ghost use Rattle.std.specs.Prelude.{◌≡◌};
-ghost use Rattle.psci_storm.specs.Tallies.{answer_of_act, answer_of};
-
 use psci_world_spec::{Act, Said, Taken};
 
 /// What was said of an event, without the addresses, numbers and messages that it names.
@@ -37,9 +34,7 @@ pub enum Answer {
 
 impl Answer {
     /// What was said, as an answer.
-    pub fn of(said: &Said) -> Answer
-        ensures { result ≡ answer_of said.now }
-    {
+    pub fn of(said: &Said) -> Answer {
         match said {
             Said::Fw { act, .. } => Answer::of_act(*act),
             Said::Kick(_) => Answer::Started,
@@ -55,9 +50,7 @@ impl Answer {
     }
 
     /// What the core does next.
-    fn of_act(act: Act) -> Answer
-        ensures { result ≡ answer_of_act act }
-    {
+    fn of_act(act: Act) -> Answer {
         match act {
             Act::Return(code) => Answer::Return(code.0),
             Act::Stop => Answer::Stop,

@@ -1,9 +1,5 @@
 //! What was asked.
 
-ghost use Rattle.std.specs.Prelude.{◌≡◌, ◌==◌, ◌+◌};
-ghost use Rattle.psci_abi.specs.Functions.{function_index};
-ghost use Rattle.psci_storm.specs.Tallies.{asked_by, asked_index, asked_of};
-
 use psci_abi::{Function, read};
 use psci_world_spec::Event;
 
@@ -28,9 +24,7 @@ pub enum Asked {
 
 impl Asked {
     /// What an event asks.
-    pub fn of(event: &Event) -> Asked
-        ensures { result ≡ asked_of event.now }
-    {
+    pub fn of(event: &Event) -> Asked {
         match event {
             Event::Call(_, regs) => Asked::of_function(read(*regs).function()),
             Event::Enter(_) => Asked::Enter,
@@ -41,36 +35,11 @@ impl Asked {
         }
     }
 
-    /// Whether both are the same.
-    pub(crate) fn is(self, other: Asked) -> bool
-        ensures { result ≡ (asked_index self == asked_index other) }
-    {
-        match (self, other) {
-            (Asked::Call(one), Asked::Call(other)) => is_function(one, other),
-            (Asked::Unknown, Asked::Unknown)
-            | (Asked::Enter, Asked::Enter)
-            | (Asked::Wake, Asked::Wake)
-            | (Asked::Reset, Asked::Reset)
-            | (Asked::Deliver, Asked::Deliver)
-            | (Asked::Take, Asked::Take) => true,
-            _ => false,
-        }
-    }
-
     /// What a call of this function asks.
-    fn of_function(function: Option<Function>) -> Asked
-        ensures { result ≡ asked_by function }
-    {
+    fn of_function(function: Option<Function>) -> Asked {
         match function {
             Some(function) => Asked::Call(function),
             None => Asked::Unknown,
         }
     }
-}
-
-/// Whether both are the same function.
-fn is_function(one: Function, other: Function) -> bool
-    ensures { result ≡ (function_index one + 6 == function_index other + 6) }
-{
-    one == other
 }

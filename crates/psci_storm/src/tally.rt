@@ -1,8 +1,5 @@
 //! What is counted in a storm.
 
-ghost use Rattle.std.specs.Prelude.{◌≡◌};
-ghost use Rattle.psci_storm.specs.Tallies.{is_tally, tally_of};
-
 use crate::answer::Answer;
 use crate::asked::Asked;
 use psci_world_spec::Record;
@@ -18,19 +15,10 @@ pub struct Tally {
 
 impl Tally {
     /// The tally of a record.
-    pub fn of(item: &Record) -> Tally
-        ensures { result ≡ tally_of item.now }
-    {
+    pub fn of(item: &Record) -> Tally {
         Tally {
             asked: Asked::of(&item.event),
             answer: Answer::of(&item.said),
         }
-    }
-
-    /// Whether both are the same tally.
-    pub fn is(self, other: Tally) -> bool
-        ensures { result ≡ is_tally self other }
-    {
-        self.asked.is(other.asked) && self.answer == other.answer
     }
 }

@@ -6,11 +6,6 @@ use crate::tally::Tally;
 use std::fmt;
 
 impl fmt::Display for Asked {
-    ghost use Rattle.std.specs.Prelude.{Some};
-    ghost use Rattle.psci_storm.specs.Counts.{asked_text};
-
-    ghost output = { λ asked. Some (asked_text asked) };
-
     fn fmt<W: fmt::Write>(&self, f: &mut fmt::Formatter<W>) -> fmt::Result {
         match self {
             Asked::Call(function) => write!(f, "{}", function.short_name()),
@@ -25,11 +20,6 @@ impl fmt::Display for Asked {
 }
 
 impl fmt::Display for Answer {
-    ghost use Rattle.std.specs.Prelude.{Some};
-    ghost use Rattle.psci_storm.specs.Counts.{answer_text};
-
-    ghost output = { λ answer. Some (answer_text answer) };
-
     fn fmt<W: fmt::Write>(&self, f: &mut fmt::Formatter<W>) -> fmt::Result {
         match self {
             Answer::Return(code) => write!(f, "return {code}"),
@@ -50,11 +40,6 @@ impl fmt::Display for Answer {
 }
 
 impl fmt::Display for Tally {
-    ghost use Rattle.std.specs.Prelude.{Some};
-    ghost use Rattle.psci_storm.specs.Counts.{tally_text};
-
-    ghost output = { λ tally. Some (tally_text tally) };
-
     fn fmt<W: fmt::Write>(&self, f: &mut fmt::Formatter<W>) -> fmt::Result {
         write!(f, "{} {}", self.asked, self.answer)
     }

@@ -1,0 +1,22 @@
+-- How the program ends at each fault of a run of threads.
+use Rattle.std.proofs.Common.{refl, [], ◌∷◌}
+use Rattle.psci_script.specs.declared.exit.AuditFailure.TheVariants as failures
+use Rattle.psci_script.specs.declared.exit.Failure.TheVariants.{Audit, Gate, Gather, Replay}
+use Rattle.psci_script.specs.declared.exit.Failure.TheVariants.{Threads}
+use Rattle.psci_script.specs.declared.fault.ReplayFault.TheVariants.{Memory}
+use Rattle.psci_bench.specs.declared.fault.BenchFault.TheVariants as faults
+use Rattle.psci_bench.specs.psci_audit.declared.fault.AuditFault.TheVariants as found
+use Rattle.psci_cli.specs.Failures.{failure_at}
+use Rattle.psci_script.proofs.Tables.{◌⇒◌, Gives}
+
+-- each fault has a failure of its own, but for the two wants of memory
+failures_of_threads : Gives failure_at
+    (faults.Gate ⇒ Gate
+    ∷ faults.Threads ⇒ Threads
+    ∷ faults.Gather ⇒ Gather
+    ∷ faults.Memory ⇒ Replay Memory
+    ∷ faults.Audit found.Memory ⇒ Replay Memory
+    ∷ faults.Audit found.Ticket ⇒ Audit failures.Ticket
+    -- the place stays
+    ∷ faults.Audit (found.Illegal 41) ⇒ Audit (failures.Illegal 41) ∷ [])
+failures_of_threads = refl

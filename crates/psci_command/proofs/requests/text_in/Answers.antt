@@ -1,9 +1,0 @@
--- The rows have the text that the matches have.
-use Rattle.std.proofs.Common.{◌∙◌}
-use Rattle.clap.proofs.WalkLemmas.{first_value-rows}
-use Rattle.clap.specs.Words.{found_of}
-use Rattle.psci_command.proofs.requests.text_in.Goals as goal
-
-pub returns : goal.returns
-returns c =
-    c.get_str.ensures ∙ first_value-rows (found_of c.args.matches.now) c.args.name.now
