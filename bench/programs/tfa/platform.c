@@ -94,7 +94,7 @@ int plat_setup_psci_ops(uintptr_t entry, const plat_psci_ops_t **ops) {
 }
 
 /* what EL3 sets once for each core, of a newer TF-A */
-void cm_manage_extensions_el3(unsigned int core) {}
+void cm_manage_extensions_el3(void) {}
 int is_feat_spe_supported(void) { return 0; }
 
 int call(uint32_t function, u_register_t x1, u_register_t x2, u_register_t x3, int64_t *answer) {

@@ -29,7 +29,7 @@ void cm_prepare_el3_exit_ns(void) {
     out = (struct psci_beside_did){.what = PSCI_ENTER, .address = entries[me].pc, .context = entries[me].args.arg0};
 }
 
-void cm_manage_extensions_el3(unsigned int core) {}
+void cm_manage_extensions_el3(void) {}
 int is_feat_spe_supported(void) { return 0; }
 
 u_register_t mpidr_of(unsigned int core) { return (core / PER_CLUSTER) << 8 | core % PER_CLUSTER; }

@@ -27,6 +27,7 @@ u_register_t mpidr_of(unsigned int core);
 #include <lib/psci/psci.h>
 void panic(void), cm_init_context_by_index(unsigned int core, const entry_point_info_t *entry), cm_prepare_el3_exit_ns(void);
 bool is_valid_mpidr(u_register_t mpidr);
+void cm_manage_extensions_el3(void);
 int is_feat_spe_supported(void), plat_core_pos_by_mpidr(u_register_t mpidr), plat_setup_psci_ops(uintptr_t entry, const plat_psci_ops_t **ops);
 const unsigned char *plat_get_power_domain_tree_desc(void);
 plat_local_state_t plat_get_target_pwr_state(unsigned int level, const plat_local_state_t *, unsigned int many);
