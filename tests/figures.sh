@@ -59,7 +59,7 @@ figures() {
     overlooked "memory is less" PORTING.md 's/^| `(2 2)` | [0-9,]*/| `(2 2)` | 2,849/' '`(2 2)`, kept, bytes: .* says 2,849'
     for tool in 2.8 2.12; do
         if grep -qF "SYSTEM_SUSPEND, wake-up: TF-A $tool\", null" "$work/figures/fixed"; then
-            skip "the turns of TF-A $tool" "source package of it, or no gcc 12,"
+            skip "the turns of TF-A $tool" "source package of it, or no gcc 12.2,"
         else
             overlooked "TF-A $tool takes more" COSTS.md \
                 "s/^\\(| SYSTEM_SUSPEND, wake-up: TF-A $tool | [0-9,]* | [0-9,]* | \\)[0-9,]*/\\19,999/" \

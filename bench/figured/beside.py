@@ -13,13 +13,13 @@ NAMES = {"on": TURNS["on"], "suspend": TURNS["suspend"], "sleep": SLEEP, "initia
          "modes": MODES, "core": TURNS["core"], "version": TURNS["version"]}
 NOT_IN_2_8 = ("initiated", "denied", "modes")
 # the page's figures are those of this version of gcc
-COMPILER = "12"
+COMPILER = "12.2.0"
 NO_SOURCES = 3
 
 
 def is_compiled_here():
-    ran = subprocess.run(["cc", "-dumpversion"], text=True, capture_output=True, check=False)
-    return ran.stdout.split(".")[0].strip() == COMPILER
+    ran = subprocess.run(["cc", "-dumpfullversion"], text=True, capture_output=True, check=False)
+    return ran.stdout.strip() == COMPILER
 
 
 def counted(peer, shape, room):
