@@ -291,6 +291,7 @@ files_and_streams() {
     interrupted
     nothing_there
     lacking
+    origins
 }
 
 # what is not here is said, and no line of Python
@@ -323,6 +324,40 @@ XDG_CACHE_HOME names another folder"
     sed -i 1,2d "$work/err"
     expect "./psci with a full cache" 1 "psci: what is compiled is kept in $work/full/gumdarts/unproved: No space left on \
 device; XDG_CACHE_HOME names another folder"
+}
+
+# Where things come from, as README says it: the standards by title, the kit, how a fault is reported, and the least
+# Python, with which all tools can be read, and an older one than which is refused; CHANGELOG has the version.
+origins() {
+    local least text
+    least=$(sed -n 's/.*`python3` (\([0-9.]*\) or later).*/\1/p' README.md)
+    mkdir -p "$work/older"
+    for text in "3, ${least#3.}, 0" "3, $((${least#3.} - 1)), 18"; do
+        echo "import sys; sys.version_info, sys.version = ($text), '${text//, /.} (a test)'" > "$work/older/sitecustomize.py"
+        PYTHONPATH=$work/older ./psci --version > "$work/out" 2> "$work/err"
+        echo $? >> "$work/older/got"
+    done
+    tail -n 1 "$work/older/got" > "$work/got"
+    expect "./psci by an older python3" 1 "psci: this is python ${text//, /.}, and ./psci needs $least or later"
+    if [ "$(head -n 1 "$work/older/got")" = 0 ]; then pass; else fail "./psci by python $least"; fi
+    if python3 - "$least" > "$work/out" 2>&1 << 'END'; then pass; else
+import ast, glob, sys
+for path in ["psci", *glob.glob("tools/**/*", recursive=True)]:
+    try:
+        with open(path, encoding="utf-8") as file:
+            text = file.read()
+    except (IsADirectoryError, UnicodeDecodeError):
+        continue
+    if path.endswith(".py") or "python3" in text[:200]:
+        ast.parse(text, path, feature_version=tuple(map(int, sys.argv[1].split("."))))
+END
+        fail "tools that python $least cannot read: $(tail -n 1 "$work/out")"
+    fi
+    for text in '*Power State Coordination Interface* (DEN0022D)' '*SMC Calling Convention* (DEN0028)' 'the Rattle kit' \
+        '`git` (2.13 or later)' 'A report of a fault has `./psci --version`' 'Without the kit'; do
+        if grep -qF "$text" README.md; then pass; else fail "README does not say $text"; fi
+    done
+    if grep -q "^## $(./psci --version | cut -d ' ' -f 2)\(,\|$\)" CHANGELOG.md; then pass; else fail "the version in CHANGELOG"; fi
 }
 
 # closed_or_full NAME STATUS FILE REASON: a write fault was told, with the file and why
