@@ -12,7 +12,7 @@ use Rattle.psci_port.proofs.Playing.{playing}
 
 -- How much is due --------------------------------------------------------------------------------
 
-unfoldable counting : Unit {0}
+unfoldable pub counting : Unit {0}
 unfolding playing total
 counting = tt
 
