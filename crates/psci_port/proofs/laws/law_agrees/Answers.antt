@@ -1,5 +1,8 @@
 use Rattle.std.proofs.Common.{subst, sym}
+use Rattle.psci_ctl_spec.specs.Legal.{IsSendable}
+use Rattle.psci_ctl_spec.specs.psci_messages.Message.{MessageValue}
 use Rattle.psci_world_spec.specs.Histories.{controller_history, firmware_history, firmware_values}
+use Rattle.psci_headline.specs.psci_fw_laws.Messages.{IsSound}
 use Rattle.psci_headline.proofs.world_spec.Answered.{controller_answered, firmware_legal}
 use Rattle.psci_headline.proofs.BoardLaws.{BoardLaws, is_given}
 use Rattle.psci_headline.proofs.Sending.{sendable}
@@ -65,7 +68,8 @@ returns c = λ b acts board run so still.
             present some;
       };
     } in
-    let can = λ m sound. sendable b m ((c.law_sizes.ensures b board).most 0) sound in (
+    let can : (m : MessageValue) → IsSound b m → IsSendable b m =
+    λ m sound. sendable b m ((c.law_sizes.ensures b board).most 0) sound in (
       λ k m at out. heard b p mirror (settles.past p.past mirror.legal.0) rest can k m at out,
       λ awake none.
           let agree = agreed b p settles mirror rest can awake none in
