@@ -117,7 +117,7 @@ each_taken = refl
 -- Cuts at each level -----------------------------------------------------------------------------
 
 -- core 3 is off, and the boot core's CPU_OFF is answered: it is the last one
-abbrev last_off : List Act
+abbrev pub last_off : List Act
 last_off = both_come 0 ++ off_by 3 ++ (Unlocks 3 ∷ Stands 3 ∷ delivers 1 ∷ []) ++ off_by 0
 
 cuts : Gives failing

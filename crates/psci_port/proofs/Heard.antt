@@ -1,7 +1,8 @@
 -- Where a port is at rest, each outstanding message may be delivered: its core stands.
-use Rattle.std.proofs.Common.{◌<◌, ◌==◌, ◌∙◌, ◌≡◌, ap, arith, Bool, false, length, List, Option}
+use Rattle.std.proofs.Common.{◌<◌, ◌∙◌, ◌∷◌, ◌≡◌, [], ap, arith, Bool, false, length, List}
+use Rattle.std.proofs.Common.{Option}
 use Rattle.std.proofs.Common.{None, Some, refl, subst, sym, true, ℕ}
-use Rattle.std.specs.Prelude.{not, ◌&&◌, slice_get}
+use Rattle.std.specs.Prelude.{slice_get}
 use Rattle.std.proofs.lemmas.Option.{none-some}
 use Rattle.std.proofs.lemmas.Bool.{and_parts, eqb-true, false≢true}
 use Rattle.psci_board.specs.Board.{BoardValue, cores}
@@ -17,7 +18,7 @@ use Rattle.psci_ctl_spec.specs.Replies.{is_this_life}
 use Rattle.psci_ctl_spec.specs.Values as controlled
 use Rattle.psci_world_spec.specs.psci_fw_spec.Phases as phases
 use Rattle.psci_world_spec.specs.psci_fw_spec.Values.{Values}
-use Rattle.psci_world_spec.specs.Histories.{controller_values, firmware_values, sent}
+use Rattle.psci_world_spec.specs.Histories.{firmware_values, sent}
 use Rattle.psci_world_spec.specs.Lists.{indexed}
 use Rattle.psci_headline.proofs.Agreeing.{found_own}
 use Rattle.psci_headline.proofs.Items.{at_number}

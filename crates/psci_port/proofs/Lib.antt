@@ -24,6 +24,7 @@ mod Playing
 mod PortRows
 mod DueRows
 mod LifeRows
+mod QuietRows
 mod RebootRows
 mod ServedRows
 mod ArmedRows

@@ -15,7 +15,7 @@ use Rattle.psci_port.specs.Stages.{Woken, has_stopped}
 use Rattle.psci_port.specs.Port.{Locks, Unlocks, Calls, Takes, TakesUp, Stands}
 use Rattle.psci_port.specs.Port.{Arms, Sleeps, Delivers, Wakes, Resets, Writes, Opens, Cuts}
 use Rattle.psci_port.specs.Port.{Act, Reboots, Rouses, Rises, Turns, cold}
-use Rattle.psci_port.proofs.CellRows.{both_come, life_1, off_by}
+use Rattle.psci_port.proofs.CellRows.{both_come, last_off, life_1, off_by}
 use Rattle.psci_port.specs.Rules.{AreTrue, IsPortRun, IsTrue, May}
 use Rattle.psci_port.proofs.Playing.{after, asks, comes, delivers, door, off_3}
 use Rattle.psci_port.proofs.Playing.{off_called, on_3}
@@ -154,6 +154,22 @@ no_cut_above_an_armed_core : May board (after (off_called ++ (Arms 3 ∷ deliver
     (Cuts 1 1) → ⊥
 unfolding playing
 no_cut_above_an_armed_core may = false≢true (sym (may.1 3 (omega arith) refl))
+
+-- at each level above the boot core, the last one
+abbrev armed_0 : List Act
+armed_0 = last_off ++ (Arms 0 ∷ delivers 2 ∷ [])
+
+no_cut_of_an_armed_core : May board (after armed_0) (Cuts 0 0) → ⊥
+unfolding playing
+no_cut_of_an_armed_core may = false≢true (sym (may.1 0 (omega arith) refl))
+
+no_cut_of_the_first_cluster_above_it : May board (after armed_0) (Cuts 1 0) → ⊥
+unfolding playing
+no_cut_of_the_first_cluster_above_it may = false≢true (sym (may.1 0 (omega arith) refl))
+
+no_cut_of_the_system_above_it : May board (after armed_0) (Cuts 2 0) → ⊥
+unfolding playing
+no_cut_of_the_system_above_it may = false≢true (sym (may.1 0 (omega arith) refl))
 
 no_life_after_none : May board (record (after []) {
   values = record ((after []).values) { life = None };

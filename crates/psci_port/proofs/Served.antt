@@ -1,5 +1,5 @@
 -- Where a port is at rest and no message is to be served, firmware and power controller agree.
-use Rattle.std.proofs.Common.{◌+◌, ◌<◌, ◌∙◌, ◌∷◌, ◌≡◌, ◌≤◌, [], ap, arith, Bool, cond, cond-true}
+use Rattle.std.proofs.Common.{◌<◌, ◌∙◌, ◌∷◌, ◌≡◌, ◌≤◌, [], ap, arith, Bool, cond}
 use Rattle.std.proofs.Common.{false, inl, inr, length, List, None, Option, refl, Some, subst, suc}
 use Rattle.std.proofs.Common.{sym, true, zero, ℕ}
 use Rattle.std.specs.Prelude.{slice_get}
@@ -7,9 +7,9 @@ use Rattle.std.proofs.lemmas.Bool.{cases_eq, eq-eqb, false≢true}
 use Rattle.std.proofs.lemmas.Bool.Decides.{nat_tests}
 use Rattle.std.proofs.lemmas.Option.{slice_get_within}
 use Rattle.psci_board.specs.Board.{BoardValue, cores, height, up}
-use Rattle.psci_ctl_spec.specs.psci_messages.Message.{AckValue, MessageValue}
+use Rattle.psci_ctl_spec.specs.psci_messages.Message.{MessageValue}
 use Rattle.psci_ctl_spec.specs.psci_messages.Slots.{is_done, OfCore, slot_of}
-use Rattle.psci_ctl_spec.specs.psci_messages.declared.kind.Kind.TheVariants.{Down, Start}
+use Rattle.psci_ctl_spec.specs.psci_messages.declared.kind.Kind.TheVariants.{Start}
 use Rattle.psci_ctl_spec.specs.psci_messages.declared.part.Part.{Part}
 use Rattle.psci_ctl_spec.specs.declared.call.CtlCall.TheVariants as asked
 use Rattle.psci_ctl_spec.specs.declared.delivery.Delivery.TheVariants as deliveries
@@ -37,14 +37,14 @@ use Rattle.psci_headline.proofs.Downs.{IsDownAnswered, down_answered, same_down}
 use Rattle.psci_headline.proofs.Finding.{finds, HasNumber, numbered_new, numbered_old}
 use Rattle.psci_headline.proofs.Going.{IsGoing, IsOut, out_now}
 use Rattle.psci_headline.proofs.Rounds.{DeepAt, deep_or_out, out_at}
-use Rattle.psci_headline.proofs.Serving.{ack_to, empties, IsEmptying}
+use Rattle.psci_headline.proofs.Serving.{empties, IsEmptying}
 use Rattle.psci_headline.proofs.Settled as settling
 use Rattle.psci_headline.proofs.Slots.{core_slot}
 use Rattle.psci_headline.proofs.Standing.{AreSettled, IsPast, settled_life, SettleLaws}
 use Rattle.psci_headline.proofs.Whole.{going_life, LifeGoesOn}
 use Rattle.psci_port.specs.Stages.{place_of}
 use Rattle.psci_port.specs.Port.{Port}
-use Rattle.psci_port.specs.Resting.{IsAtRest, IsQuiet}
+use Rattle.psci_port.specs.Resting.{IsAtRest}
 use Rattle.psci_port.specs.Served.{ends, IsSpent, IsToServe}
 use Rattle.psci_port.proofs.Heard.{heard}
 use Rattle.psci_port.proofs.Mirrors.{IsMirror}
