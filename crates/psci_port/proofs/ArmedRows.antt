@@ -1,9 +1,11 @@
 -- Worked examples: a core that is armed carries out what there is with the lock in hand, its own
 -- Down, what another core left of one, and its own wake-up.
-use Rattle.std.proofs.Common.{◌≡◌, ◌∷◌, ◌++◌, [], false, refl, List, None, Some}
-use Rattle.psci_port.specs.Stages.{AtDoor, Armed, Woken}
+use Rattle.std.proofs.Common.{◌≡◌, ◌∷◌, ◌++◌, [], Bool, false, refl, List, None, Option, Some}
+use Rattle.std.proofs.Common.{true, ℕ}
+use Rattle.psci_port.specs.Stages.{Stage, Standing, AtDoor, Normal, Leaving, Armed, Woken, risen}
 use Rattle.psci_port.specs.Port.{Act, Locks, Unlocks, Finishes, Stands, Arms, Sleeps, Cuts, Rouses}
-use Rattle.psci_port.specs.Port.{Rises, Turns}
+use Rattle.psci_port.specs.Port.{Rises, Turns, Wakes, stage_at}
+use Rattle.psci_port.proofs.CellRows.{both_come, life_1, off_by}
 use Rattle.psci_port.proofs.Playing.{Powered, after, asks, comes, delivers, door, failing, off_3}
 use Rattle.psci_port.proofs.Playing.{off_called, on_3, playing}
 use Rattle.psci_port.proofs.PortRows.{shown}
@@ -98,3 +100,78 @@ rises_in_the_dark : shown (roused ++ (Locks 3 ∷ Rises 3 ∷ []))
     ≡ record { stage = Woken; depth = 0; cut = false; lock = Some 3 }
 unfolding playing
 rises_in_the_dark = refl
+
+-- Each of the four acts, of both cores and in both lives -----------------------------------------
+
+-- where a core is, whether it has power, and who has the lock
+abbrev seen : ℕ → List Act → Stage × Bool × Option ℕ
+seen c acts = let p = after acts in (stage_at p c, p.cut 0 c, p.lock)
+
+-- A core stands in the dark, comes back armed, hears its wake-up with the lock in hand, gives it
+-- back, and is at its door.
+record ComesBack (on : List Act) (c k : ℕ) : Type 0 where
+  pub dark : seen c (on ++ off_by c ++ (Unlocks c ∷ Stands c ∷ delivers k ∷ Cuts 0 c ∷ []))
+      ≡ (Standing, true, None)
+  pub armed : seen c
+      (on ++ off_by c ++ (Unlocks c ∷ Stands c ∷ delivers k ∷ Cuts 0 c ∷ Rouses c ∷ []))
+      ≡ (Armed, false, None)
+  pub woken : seen c (on ++ off_by c
+      ++ (Unlocks c ∷ Stands c ∷ delivers k ∷ Cuts 0 c ∷ Rouses c ∷ Locks c ∷ Rises c ∷ []))
+      ≡ (Woken, false, Some c)
+  pub turned : seen c (on ++ off_by c
+      ++ (Unlocks c ∷ Stands c ∷ delivers k ∷ Cuts 0 c ∷ Rouses c ∷ Locks c ∷ Rises c ∷ Unlocks c
+      ∷ Turns c ∷ []))
+      ≡ (AtDoor, false, None)
+  pub enters : failing (on ++ off_by c
+      ++ (Unlocks c ∷ Stands c ∷ delivers k ∷ Cuts 0 c ∷ Rouses c ∷ Locks c ∷ Rises c ∷ Unlocks c
+      ∷ Turns c ∷ []) ++ door c ++ comes c) ≡ []
+
+core_3_comes_back : ComesBack (both_come 0) 3 1
+unfolding playing
+core_3_comes_back =
+    record { dark = refl; armed = refl; woken = refl; turned = refl; enters = refl }
+
+boot_core_comes_back : ComesBack (both_come 0) 0 1
+unfolding playing
+boot_core_comes_back =
+    record { dark = refl; armed = refl; woken = refl; turned = refl; enters = refl }
+
+core_3_comes_back_in_life_2 : ComesBack (life_1 ++ both_come 1) 3 2
+unfolding playing
+core_3_comes_back_in_life_2 =
+    record { dark = refl; armed = refl; woken = refl; turned = refl; enters = refl }
+
+boot_core_comes_back_in_life_2 : ComesBack (life_1 ++ both_come 1) 0 2
+unfolding playing
+boot_core_comes_back_in_life_2 =
+    record { dark = refl; armed = refl; woken = refl; turned = refl; enters = refl }
+
+-- the power of each core and cluster
+abbrev powers : List Act → List Bool
+powers acts =
+    let p = after acts in
+    p.cut 0 0 ∷ p.cut 0 1 ∷ p.cut 0 2 ∷ p.cut 0 3 ∷ p.cut 1 0 ∷ p.cut 1 1 ∷ p.cut 2 0 ∷ []
+
+-- an interrupt brings back the power of its core's path, and so does a start
+brings_its_path : (powers (off_3 ++ (delivers 1 ∷ Cuts 0 3 ∷ Cuts 1 1 ∷ []))
+    ≡ false ∷ true ∷ true ∷ true ∷ false ∷ true ∷ false ∷ [])
+    × (powers (off_3 ++ (delivers 1 ∷ Cuts 0 3 ∷ Cuts 1 1 ∷ Rouses 3 ∷ []))
+    ≡ false ∷ true ∷ true ∷ false ∷ false ∷ false ∷ false ∷ [])
+    × (powers (off_3 ++ (delivers 1 ∷ Cuts 0 3 ∷ Cuts 1 1 ∷ Wakes 3 ∷ []))
+    ≡ false ∷ true ∷ true ∷ false ∷ false ∷ false ∷ false ∷ [])
+unfolding playing
+brings_its_path = (refl, refl, refl)
+
+-- a core whose word is of an earlier stop is not woken, by itself either
+abbrev runs_3 : List Act
+runs_3 = on_3 ++ door 3 ++ comes 3
+
+not_woken_while_it_runs : (seen 3 (runs_3 ++ (Wakes 3 ∷ [])) ≡ (Normal, false, None))
+    × (seen 3 (runs_3 ++ (Locks 3 ∷ Rises 3 ∷ [])) ≡ (Normal, false, Some 3))
+unfolding playing
+not_woken_while_it_runs = (refl, refl)
+
+-- what its own wake-up leaves of each stage
+each_risen : (risen Standing ≡ Standing) × (risen AtDoor ≡ Woken) × (risen Normal ≡ Normal)
+    × (risen Leaving ≡ Leaving) × (risen Armed ≡ Armed) × (risen Woken ≡ Woken)
+each_risen = (refl, refl, refl, refl, refl, refl)

@@ -14,18 +14,18 @@ each of [] = []
 each of (x ∷ xs) = of x ++ each of xs
 
 -- the boot core comes, has core 3 started by the message of this number, and core 3 comes
-abbrev both_come : ℕ → List Act
+abbrev pub both_come : ℕ → List Act
 both_come k = door 0 ++ comes 0
     ++ (Locks 0 ∷ asks 0 0xc4000003 0x101 0x40001000 7 ∷ Finishes 0 ∷ Unlocks 0 ∷ delivers k ∷ [])
     ++ door 3 ++ comes 3
 
 -- the boot core comes, and has the system reset
-abbrev life_1 : List Act
+abbrev pub life_1 : List Act
 life_1 = door 0 ++ comes 0
     ++ (Locks 0 ∷ asks 0 0x84000009 0 0 0 ∷ Finishes 0 ∷ Unlocks 0 ∷ delivers 0 ∷ [])
 
 -- a core's CPU_OFF is answered: it is in the monitor, with the lock
-abbrev off_by : ℕ → List Act
+abbrev pub off_by : ℕ → List Act
 off_by c = Locks c ∷ asks c 0x84000002 0 0 0 ∷ Finishes c ∷ []
 
 -- acts after which a core runs beside another one, and the number of the next message
@@ -117,7 +117,7 @@ each_taken = refl
 -- Cuts at each level -----------------------------------------------------------------------------
 
 -- core 3 is off, and the boot core's CPU_OFF is answered: it is the last one
-abbrev last_off : List Act
+abbrev pub last_off : List Act
 last_off = both_come 0 ++ off_by 3 ++ (Unlocks 3 ∷ Stands 3 ∷ delivers 1 ∷ []) ++ off_by 0
 
 cuts : Gives failing

@@ -16,11 +16,17 @@ pub mod Weighing
 pub mod Lowering
 pub mod Valued
 pub mod Quiet
+pub mod Heard
+pub mod Served
 -- Worked examples.
 mod CellRows
 mod Playing
 mod PortRows
+mod DueRows
+mod LifeRows
+mod QuietRows
 mod RebootRows
+mod ServedRows
 mod ArmedRows
 mod RestRows
 mod RuleRows

@@ -12,7 +12,7 @@ use Rattle.psci_port.proofs.Playing.{playing}
 
 -- How much is due --------------------------------------------------------------------------------
 
-unfoldable counting : Unit {0}
+unfoldable pub counting : Unit {0}
 unfolding playing total
 counting = tt
 
@@ -64,7 +64,7 @@ stopped = refl
 
 -- Which start stands at a door -------------------------------------------------------------------
 
-abbrev start_of : ℕ → ℕ → Start
+abbrev pub start_of : ℕ → ℕ → Start
 start_of life number = record { life = life; number = number; cause = Wake }
 
 shown_there : is_shown (Some (start_of 2 3)) (Some (start_of 2 3)) ≡ true

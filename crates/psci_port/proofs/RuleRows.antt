@@ -9,22 +9,24 @@ use Rattle.psci_ctl_spec.specs.psci_messages.declared.kind.Kind.{Kind}
 use Rattle.psci_ctl_spec.specs.psci_messages.declared.kind.Kind.TheVariants.{Down, Start}
 use Rattle.psci_ctl_spec.specs.psci_messages.declared.part.Part.{Part}
 use Rattle.psci_world_spec.specs.declared.said.Said.TheVariants.{Absent}
-use Rattle.psci_world_spec.proofs.Scripts.{board, part}
+use Rattle.psci_world_spec.proofs.Scripts.{board, limited, part}
 use Rattle.psci_port.specs.Stages.{Stage, Standing, AtDoor, Entering, Normal, Leaving, Armed}
 use Rattle.psci_port.specs.Stages.{Woken, has_stopped}
 use Rattle.psci_port.specs.Port.{Locks, Unlocks, Calls, Takes, TakesUp, Stands}
 use Rattle.psci_port.specs.Port.{Arms, Sleeps, Delivers, Wakes, Resets, Writes, Opens, Cuts}
-use Rattle.psci_port.specs.Port.{Reboots, Rouses, Rises, Turns}
+use Rattle.psci_port.specs.Port.{Act, Reboots, Rouses, Rises, Turns, cold}
+use Rattle.psci_port.proofs.CellRows.{both_come, last_off, life_1, off_by}
 use Rattle.psci_port.specs.Rules.{AreTrue, IsPortRun, IsTrue, May}
-use Rattle.psci_port.proofs.Playing.{after, asks, delivers, door, off_3, off_called, on_3}
+use Rattle.psci_port.proofs.Playing.{after, asks, comes, delivers, door, off_3}
+use Rattle.psci_port.proofs.Playing.{off_called, on_3}
 use Rattle.psci_port.proofs.Playing.{playing}
 
 -- a message of life 1, of core 3 in its start
-abbrev of_3 : Kind → ℕ → List Part → MessageValue
+abbrev pub of_3 : Kind → ℕ → List Part → MessageValue
 of_3 kind number parts =
     record { kind = kind; core = record { number = 3 }; life = 1; number = number; parts = parts }
 
-abbrev down_3 : MessageValue
+abbrev pub down_3 : MessageValue
 down_3 = of_3 Down 1 (part 0 3 1 ∷ part 1 3 1 ∷ [])
 
 abbrev is_normal : Stage → Bool
@@ -153,6 +155,22 @@ no_cut_above_an_armed_core : May board (after (off_called ++ (Arms 3 ∷ deliver
 unfolding playing
 no_cut_above_an_armed_core may = false≢true (sym (may.1 3 (omega arith) refl))
 
+-- at each level above the boot core, the last one
+abbrev armed_0 : List Act
+armed_0 = last_off ++ (Arms 0 ∷ delivers 2 ∷ [])
+
+no_cut_of_an_armed_core : May board (after armed_0) (Cuts 0 0) → ⊥
+unfolding playing
+no_cut_of_an_armed_core may = false≢true (sym (may.1 0 (omega arith) refl))
+
+no_cut_of_the_first_cluster_above_it : May board (after armed_0) (Cuts 1 0) → ⊥
+unfolding playing
+no_cut_of_the_first_cluster_above_it may = false≢true (sym (may.1 0 (omega arith) refl))
+
+no_cut_of_the_system_above_it : May board (after armed_0) (Cuts 2 0) → ⊥
+unfolding playing
+no_cut_of_the_system_above_it may = false≢true (sym (may.1 0 (omega arith) refl))
+
 no_life_after_none : May board (record (after []) {
   values = record ((after []).values) { life = None };
 }) Reboots → ⊥
@@ -167,6 +185,62 @@ no_life_after_the_last may = beyond may.1.0 may.1.1.0 may.1.1.1
   where
     beyond : (l : ℕ) → Some 3 ≡ Some l → l < 3 → ⊥
     beyond l e low = let same : 3 ≡ l = grind arith in omega (arith, same, low)
+
+-- The four newest acts, of the boot core and in a later life --------------------------------------
+
+abbrev off_0 : List Act
+off_0 = door 0 ++ comes 0 ++ off_by 0
+
+no_rise_of_the_boot_core_without_the_lock : May board (after (off_0 ++ (Arms 0 ∷ Unlocks 0 ∷ [])))
+    (Rises 0) → ⊥
+unfolding playing
+no_rise_of_the_boot_core_without_the_lock may = none-some _ may.2.0
+
+no_turn_of_the_boot_core_with_the_lock : May board (after (off_0 ++ (Arms 0 ∷ Rises 0 ∷ [])))
+    (Turns 0) → ⊥
+unfolding playing
+no_turn_of_the_boot_core_with_the_lock may = may.1 refl
+
+no_rouse_of_the_boot_core_that_runs : May board (after off_0) (Rouses 0) → ⊥
+unfolding playing
+no_rouse_of_the_boot_core_that_runs may = false≢true (ap has_stopped may.1)
+
+abbrev off_in_life_2 : List Act
+off_in_life_2 = life_1 ++ both_come 1 ++ off_by 3
+
+no_rise_in_life_2_without_the_lock : May board
+    (after (off_in_life_2 ++ (Arms 3 ∷ Unlocks 3 ∷ []))) (Rises 3) → ⊥
+unfolding playing
+no_rise_in_life_2_without_the_lock may = none-some _ may.2.0
+
+no_turn_in_life_2_with_the_lock : May board (after (off_in_life_2 ++ (Arms 3 ∷ Rises 3 ∷ [])))
+    (Turns 3) → ⊥
+unfolding playing
+no_turn_in_life_2_with_the_lock may = may.1 refl
+
+no_turn_of_a_core_that_runs : May board (after on_3) (Turns 0) → ⊥
+unfolding playing
+no_turn_of_a_core_that_runs may = false≢true (ap is_woken may.0)
+  where
+    is_woken : Stage → Bool
+    is_woken Woken = true
+    is_woken Standing = false
+    is_woken AtDoor = false
+    is_woken (Entering s) = false
+    is_woken Normal = false
+    is_woken Leaving = false
+    is_woken Armed = false
+
+-- core 4 is none of the board
+no_rouse_beyond_the_board : May board (after []) (Rouses 4) → ⊥
+no_rouse_beyond_the_board may = let on = may.0 in omega (arith, on)
+
+no_rise_beyond_the_board : May board (after []) (Rises 4) → ⊥
+no_rise_beyond_the_board may = let on = may.0 in omega (arith, on)
+
+-- a board without starts is none
+no_life_of_no_board : May (limited 0 3) (cold (limited 0 3) []) Reboots → ⊥
+no_life_of_no_board may = let some = may.0.some_starts in omega (arith, some)
 
 -- What is allowed --------------------------------------------------------------------------------
 

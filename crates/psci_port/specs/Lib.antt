@@ -5,3 +5,4 @@ pub mod Port
 pub mod Rules
 pub mod Kept
 pub mod Resting
+pub mod Served

@@ -12,4 +12,4 @@
 
 mod laws;
 
-pub use laws::{law_lock, law_port, law_power, law_rests, law_starts};
+pub use laws::{law_agrees, law_lock, law_port, law_power, law_rests, law_starts};
