@@ -32,9 +32,10 @@ struct psci_beside_event {
 
 /* What a side did. `what` is PSCI_RETURN to PSCI_RESUME of psci.h, or one of these. */
 enum {
-    PSCI_BESIDE_ENDS = 4,    /* the system goes off or is reset */
+    PSCI_BESIDE_ENDS = 4,    /* the system goes off */
     PSCI_BESIDE_NOTHING = 5, /* the core does not execute; a message or a wake-up has no effect */
     PSCI_BESIDE_LOOPS = 6,   /* the peer did not come back: psci_beside_loops has ended it */
+    PSCI_BESIDE_RESETS = 7,  /* the system is reset */
 };
 
 struct psci_beside_did {

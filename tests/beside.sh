@@ -26,6 +26,11 @@ own_beside() {
     fi
     "$work/beside/own" > "$work/out" 2>&1
     if [ $? = 2 ] && grep -q 'TARGET --draws N' "$work/out"; then pass; else fail "$beside: a target that is run bare"; fi
+    for name in bits build corpus faults scripts; do
+        if "$beside/$name" --help > "$work/out" 2> "$work/err" && grep -q "hosts/beside/$name " "$work/out" && [ ! -s "$work/err" ]; then pass; else
+            fail "$beside/$name --help"
+        fi
+    done
     while IFS='|' read -r name edit; do
         echo "$edit" > "$work/edit"
         build_beside own faulty "$work/edit" || continue
@@ -47,6 +52,12 @@ bits_beside() {
     if "$beside/bits" --part $((part % 64 + 1))/64 own > "$work/out" 2>&1 &&
         { [ ${#peers[@]} = 0 ] || "$beside/bits" --part "$part/512" "${peers[@]}" >> "$work/out" 2>&1; }; then pass; else
         fail "$beside/bits, part $part"
+        tail -n 20 "$work/out"
+    fi
+    # a peer that is reset where it has to go off, or the other way
+    if [ ${#peers[@]} = 0 ]; then :; elif "$beside/bits" --only 'SYSTEM_(OFF|RESET): bit 0 of the' "${peers[@]}" > "$work/out" 2>&1 &&
+        grep -q "^$((2 * ${#peers[@]})) planted faults: each is seen" "$work/out"; then pass; else
+        fail "$beside/bits: a system that ends in another way is not told"
         tail -n 20 "$work/out"
     fi
     # a refusal of SMC64 that is no whole register shows in this alone
@@ -263,7 +274,7 @@ swept_beside() {
 
 # what was found of a peer stays found: each story is a script, whether its sources are here or not
 stories_beside() {
-    local peer
+    local peer lists
     local -a inputs
     if "$beside/scripts" --check "${peers_beside[@]}" > "$work/out"; then pass; else
         fail "$beside/scripts --check"
@@ -286,6 +297,12 @@ stories_beside() {
             "$work/beside/$peer" "${inputs[@]}" >> "$work/out" 2>&1; then pass; else
             fail "$beside/peers/$peer/report"
             tail -n 5 "$work/out"
+        fi
+        lists=$(grep -m 1 -o 'of [0-9]* lists' "$beside/peers/$peer/report" | tr -cd 0-9)
+        BESIDE_REPORT=$work/made "$work/beside/$peer" --draws "$lists" > "$work/out" 2>&1
+        if diff "$beside/peers/$peer/report" "$work/made" > "$work/out"; then pass; else
+            fail "$beside/peers/$peer/report: made anew by $lists blind lists it is another one"
+            head -n 5 "$work/out"
         fi
         sed 's/^  | enter 0$/&\n  | call 0 0x84000000 0x0 0x0 0x0/' "$beside/peers/$peer/report" > "$work/report"
         if ! "$work/beside/$peer" --stories "$work/report" > "$work/out" 2>&1 &&

@@ -173,7 +173,8 @@ uint32_t psci_beside_do(beside *b, const event *e) {
     forget(b, e);
     if (early)
         come_back(b, e->number);
-    if (ours.what == PSCI_BESIDE_ENDS && end_life(b) == PSCI_BESIDE_OVER)
+    bool is_end = ours.what == PSCI_BESIDE_ENDS || ours.what == PSCI_BESIDE_RESETS;
+    if (is_end && end_life(b) == PSCI_BESIDE_OVER)
         return PSCI_BESIDE_OVER;
     return compare_statuses(b, e);
 }

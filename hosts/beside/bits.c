@@ -5,6 +5,7 @@
  *                                         function word it is one that no function has
  *   BESIDE_BIT="entry REGISTER BIT"       an entry loses a bit of the address (0) or of the context id (1)
  *   BESIDE_BIT="none"                     none
+ *   BESIDE_OFTEN="WORD REGISTER BIT"      beside it: half of the calls are of WORD, and BIT is set in half of these
  *
  * At its end it says in how many events the bit was set, and a sum of all that the peer did. */
 #include "lists.h"
@@ -16,7 +17,8 @@
 
 static struct psci_beside_peer faulty;
 static const struct psci_beside_peer *sound;
-static uint32_t word, at, bit, to = 4, is_of_entry;
+static uint32_t word, at, bit, to = 4, is_of_entry, often_at, often_bit;
+uint32_t drawn_often;
 static uint64_t met, sum = UINT64_C(0xcbf29ce484222325);
 
 static void add(uint64_t value) { sum = (sum ^ value) * UINT64_C(0x100000001b3); }
@@ -56,12 +58,23 @@ static void faulty_enter(void *self, uint32_t core, uint32_t cause, struct psci_
     add_did(d);
 }
 
+void set_often(uint64_t x[4]) {
+    static bool is_set;
+    uint64_t mask = UINT64_C(1) << often_bit;
+    if (!drawn_often || (uint32_t)x[0] != drawn_often)
+        return;
+    is_set = !is_set;
+    x[often_at] = is_set ? x[often_at] | mask : x[often_at] & ~mask;
+}
+
 static void say_met(void) { printf("bits: met %" PRIu64 ", sum %016" PRIx64 "\n", met, sum); }
 
 const struct psci_beside_peer *planted(const struct psci_beside_peer *peer) {
-    const char *what = getenv("BESIDE_BIT");
+    const char *what = getenv("BESIDE_BIT"), *often = getenv("BESIDE_OFTEN");
     if (!what)
         return peer;
+    if (often && sscanf(often, "%" SCNx32 " %" SCNu32 " %" SCNu32, &drawn_often, &often_at, &often_bit) != 3)
+        exit(2);
     sound = peer;
     faulty = *peer;
     faulty.call = faulty_call;

@@ -33,8 +33,23 @@ static uint64_t wild(void) {
     return drawn == 0 ? one_bit() : drawn == 1 ? ~one_bit() : word();
 }
 
-/* What a register carries that counts by its low half alone: the other half is 0 mostly. */
-static uint64_t half(uint64_t value) { return (uint32_t)value | (rarely(8) ? wild() >> 32 << 32 : 0); }
+/* Where the upper half is one bit, the one 32 below it is another one. */
+static uint64_t twin(uint64_t value) {
+    uint32_t upper = value >> 32;
+    return upper & (upper - 1) ? value : value ^ upper;
+}
+
+/* What a register carries that counts by its low half alone: the other half is as it was mostly. */
+static uint64_t half(uint64_t value) {
+    uint64_t more = rarely(8) ? wild() : 0;
+    return !more ? value : more >> 32 ? (uint32_t)value | more >> 32 << 32 : twin((uint32_t)value | more << 32);
+}
+
+/* The same of one that has an upper half, which may stay. */
+static uint64_t narrowed(uint64_t value) {
+    uint32_t drawn = byte();
+    return drawn >= 224 ? (uint32_t)value | wild() >> 32 << 32 : drawn >= 144 ? twin(value) : drawn >= 64 ? value : (uint32_t)value;
+}
 
 static uint64_t target(void) {
     uint32_t drawn = byte();
@@ -111,7 +126,10 @@ static const uint32_t words[] = {
     0x95c1ba5f, 0x95c1ba60, 0x95c1ba61, 0,          1,          2};
 
 static uint32_t any_word(void) { return words[below(sizeof words / sizeof *words)]; }
-static uint32_t near_word(void) { return rarely(8) ? any_word() ^ 1u << below(32) : any_word(); }
+static uint64_t near_word(void) {
+    uint64_t bit = rarely(8) ? one_bit() : 0, drawn = any_word();
+    return bit >> 32 ? twin(drawn | bit) : drawn ^ bit;
+}
 
 static uint32_t often_word(void) {
     uint32_t drawn = byte();
@@ -133,13 +151,14 @@ static void arguments(uint64_t x[4]) {
 }
 
 static void call_drawn(uint64_t x[4]) {
-    x[0] = byte() < 128 ? often_word() : any_word();
+    x[0] = drawn_often && below(2) ? drawn_often : byte() < 128 ? often_word() : any_word();
     arguments(x);
     if (!(x[0] & 0x40000000))
         for (int at = 1; at < 4; at++)
-            x[at] = x[at] >> 32 ? half(x[at]) : x[at];
+            x[at] = x[at] >> 32 ? narrowed(x[at]) : x[at];
     x[0] = rarely(16) ? half(x[0] ^ 1u << below(32)) : x[0];
     x[0] |= rarely(32) ? wild() >> 32 << 32 : 0;
+    set_often(x);
 }
 
 /* the first core from a drawn one on that is so; a number that is none, where there is no such */

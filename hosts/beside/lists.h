@@ -19,7 +19,10 @@ void begin_list(void);
 uint32_t do_event(const struct psci_beside_event *);
 double seconds(void); /* of this process's processor */
 
-/* The peer with a fault of one bit, where BESIDE_BIT names one (bits.c). */
+/* The peer with a fault of one bit, where BESIDE_BIT names one (bits.c). With BESIDE_OFTEN, too, the word that half of the
+ * calls have, else 0, and what sets the bit in half of these. */
+extern uint32_t drawn_often;
+void set_often(uint64_t x[4]);
 const struct psci_beside_peer *planted(const struct psci_beside_peer *);
 
 /* A list that leads to a difference; which message and acknowledgement each event sends, or NONE. */

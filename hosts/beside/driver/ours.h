@@ -20,8 +20,9 @@ static void answered(beside *b, uint32_t core, uint64_t x0, const struct psci_an
         memcpy(d->depths, stop.depths, sizeof d->depths);
         d->told = answer->message.some;
         b->now.wakes[core] = stop.wakes;
-        if (answer->message.some && kind_of(b, &answer->message) >= PSCI_MESSAGE_OFF && !b->peer->deliver)
-            d->what = PSCI_BESIDE_ENDS;
+        uint32_t kind = answer->message.some && !b->peer->deliver ? kind_of(b, &answer->message) : 0;
+        if (kind >= PSCI_MESSAGE_OFF)
+            d->what = kind == PSCI_MESSAGE_OFF ? PSCI_BESIDE_ENDS : PSCI_BESIDE_RESETS;
     }
     b->now.place[core] = answer->what == PSCI_STOP ? STOPPED : RUNNING;
     if (answer->message.some)

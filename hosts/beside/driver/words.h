@@ -35,11 +35,12 @@ static bool is_as_asked(const beside *b, const event *e, const did *d) {
 }
 
 static void say(const beside *b, const event *e, const did *d, bool with_states, char *key, size_t size) {
-    static const char *const words[] = {"", "stops", "enters", "goes on", "ends", "nothing", "does not come back"};
+    static const char *const words[] = {"",     "stops",   "enters",             "goes on",
+                                        "ends", "nothing", "does not come back", "resets"};
     if (d->what == PSCI_RETURN)
         say_return(key, size, e, d);
     else
-        put(key, size, "%s", d->what <= PSCI_BESIDE_LOOPS ? words[d->what] : "refused");
+        put(key, size, "%s", d->what <= PSCI_BESIDE_RESETS ? words[d->what] : "refused");
     if (d->what == PSCI_STOP && d->told && with_states && is_as_asked(b, e, d))
         put(key, size, " as asked");
     else if (d->what == PSCI_STOP && d->told && with_states)
@@ -69,7 +70,7 @@ static void say_stop(const beside *b, const did *d, char *text, size_t size) {
 }
 
 void psci_beside_say(const beside *b, const event *e, const did *d, char *text, size_t size) {
-    static const char *const others[] = {"ends the system", "does nothing", "does not come back"};
+    static const char *const others[] = {"ends the system", "does nothing", "does not come back", "resets the system"};
     const char *name = d->what == PSCI_RETURN ? code_name(e, d->x0) : NULL;
     *text = 0;
     switch (d->what) {
@@ -83,7 +84,7 @@ void psci_beside_say(const beside *b, const event *e, const did *d, char *text, 
         put(text, size, "enters at 0x%" PRIx64 " with the context id 0x%" PRIx64, d->address, d->context);
         break;
     case PSCI_RESUME: put(text, size, "goes on behind its call with %" PRId32, (int32_t)d->x0); break;
-    default: put(text, size, "%s", d->what <= PSCI_BESIDE_LOOPS ? others[d->what - 4] : "is refused");
+    default: put(text, size, "%s", d->what <= PSCI_BESIDE_RESETS ? others[d->what - 4] : "is refused");
     }
     if (b->peer->deliver && d->sent)
         put(text, size, "; a message goes out");

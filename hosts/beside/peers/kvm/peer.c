@@ -21,9 +21,9 @@ static void kvm_open(void *self, const struct psci_beside_board *board) {
 static void kvm_call(void *self, uint32_t core, const uint64_t x[4], struct psci_beside_did *did) {
     struct kvm_vcpu *v = &machine.vcpus[core];
     memcpy(v->arch.ctxt.regs.regs, x, 4 * sizeof *x);
-    bool ends = kvm_psci_call(v) == 0;
+    bool ends = kvm_psci_call(v) == 0, resets = v->run->system_event.type == KVM_SYSTEM_EVENT_RESET;
     did->x0 = vcpu_get_reg(v, 0);
-    did->what = ends ? PSCI_BESIDE_ENDS : v->sleeps || kvm_arm_vcpu_stopped(v) ? PSCI_STOP : PSCI_RETURN;
+    did->what = ends ? resets ? PSCI_BESIDE_RESETS : PSCI_BESIDE_ENDS : v->sleeps || kvm_arm_vcpu_stopped(v) ? PSCI_STOP : PSCI_RETURN;
 }
 
 static void kvm_enter(void *self, uint32_t core, uint32_t cause, struct psci_beside_did *did) {

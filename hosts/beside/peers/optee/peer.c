@@ -21,7 +21,7 @@ static void leave(uint32_t what) {
 
 void wfi(void) { leave(PSCI_STOP); }
 void panic(void) { leave(PSCI_BESIDE_NOTHING); }
-void rstctrl_assert(int what) { leave(PSCI_BESIDE_ENDS); }
+void rstctrl_assert(int what) { leave(PSCI_BESIDE_RESETS); }
 void stpmic1_switch_off(void) { leave(PSCI_BESIDE_ENDS); }
 size_t get_core_pos(void) { return me; }
 

@@ -8,7 +8,7 @@
 #include <setjmp.h>
 
 ARMCPU cpus[MOST];
-uint32_t many_cpus, is_ending;
+uint32_t many_cpus, is_ending, is_reset;
 uint64_t next_block[4];
 static jmp_buf halt;
 
@@ -63,7 +63,9 @@ static void qemu_call(void *self, uint32_t core, const uint64_t x[4], struct psc
         arm_handle_psci_call(cpu);
     did->x0 = cpu->env.xregs[0];
     work(cpu);
-    did->what = is_ending ? PSCI_BESIDE_ENDS : cpu->parent.halted ? PSCI_STOP : PSCI_RETURN;
+    did->what = cpu->parent.halted ? PSCI_STOP : PSCI_RETURN;
+    if (is_ending)
+        did->what = is_reset ? PSCI_BESIDE_RESETS : PSCI_BESIDE_ENDS;
 }
 
 static void qemu_enter(void *self, uint32_t core, uint32_t cause, struct psci_beside_did *did) {

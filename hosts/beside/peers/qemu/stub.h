@@ -31,7 +31,7 @@ enum { QEMU_ON, QEMU_OFF, PSCI_ON_PENDING };
 enum { EXCP_HVC = 11, EXCP_SMC = 13, EXCP_HLT = 0x10001 };
 enum { ARM_FEATURE_EL2, ARM_FEATURE_EL3, ARM_FEATURE_AARCH64, ARM_CPU_MODE_SVC, ARM_CPU_MODE_HYP, CPSR_M, CPSRWriteRaw, SCR_NS, SCR_HCE, SCR_RW, HCR_RW };
 extern ARMCPU cpus[];
-extern uint32_t many_cpus, is_ending;
+extern uint32_t many_cpus, is_ending, is_reset;
 #define ARM_CPU(cpu) ((ARMCPU *)(cpu))
 #define CPU_FOREACH(cpu) for (uint32_t i_ = 0; i_ < many_cpus && ((cpu) = &cpus[i_].parent, true); i_++)
 #define RUN_ON_CPU_HOST_PTR(p) ((run_on_cpu_data){p})
@@ -50,7 +50,7 @@ extern uint32_t many_cpus, is_ending;
 #define g_assert assert
 extern uint64_t next_block[4];
 #define g_new(type, many) ((type *)next_block)
-#define qemu_system_reset_request(cause) (is_ending = true)
-#define qemu_system_shutdown_request qemu_system_reset_request
+#define qemu_system_reset_request(cause) (is_ending = is_reset = true)
+#define qemu_system_shutdown_request(cause) (is_ending = true)
 #define cpu_set_pc(cpu, to) (ARM_CPU(cpu)->env.pc = (to))
 void async_run_on_cpu(CPUState *, run_on_cpu_func, run_on_cpu_data), cpu_reset(CPUState *), helper_wfi(CPUARMState *, uint32_t), arm_handle_psci_call(ARMCPU *);

@@ -40,7 +40,7 @@ void writel(u32 value, uintptr_t at) {
     if ((at & 0xfff) == GICD_SGIR) /* the ROM of the core that is asked */
         magic = magic == 0xca7face0 || magic == 0xca7face1 ? magic : 0;
     if (at == RESETS && value & 1)
-        leave(PSCI_BESIDE_ENDS);
+        leave(PSCI_BESIDE_RESETS);
     if (at == __secure_stack_end - (me << ARM_PSCI_STACK_SHIFT) - 8) { /* where the call goes back to */
         resumes_at = value;
         has_entry = true;

@@ -20,7 +20,8 @@ static void leave(uint32_t what) {
 
 void psci_power_down_wfi(void) { leave(PSCI_STOP); }
 void panic(void) { leave(PSCI_BESIDE_NOTHING); }
-static void end(void) { leave(PSCI_BESIDE_ENDS); }
+static void off(void) { leave(PSCI_BESIDE_ENDS); }
+static void reset(void) { leave(PSCI_BESIDE_RESETS); }
 void zeromem(void *at, u_register_t length) { memset(at, 0, length); }
 void spin_lock(spinlock_t *lock) { lock->lock++ ? panic() : (void)0; }
 void spin_unlock(spinlock_t *lock) { lock->lock = 0; }
@@ -74,8 +75,8 @@ static void whole_system(psci_power_state_t *asked) {
 #endif
 }
 int plat_setup_psci_ops(uintptr_t entry, const plat_psci_ops_t **ops) {
-    static const plat_psci_ops_t operations = {standby, on, tell, .pwr_domain_suspend = tell, .system_off = end,
-        .pwr_domain_on_finish = finish, .pwr_domain_suspend_finish = finish, .system_reset = end,
+    static const plat_psci_ops_t operations = {standby, on, tell, .pwr_domain_suspend = tell, .system_off = off,
+        .pwr_domain_on_finish = finish, .pwr_domain_suspend_finish = finish, .system_reset = reset,
         .validate_power_state = validate, .validate_ns_entrypoint = validate_entry, .get_sys_suspend_power_state = whole_system};
     *ops = &operations;
     return 0;

@@ -31,7 +31,9 @@ static void xen_call(void *self, uint32_t core, const uint64_t x[4], struct psci
     current = &vcpus[core];
     do_trap_hvc_smccc(&regs);
     did->x0 = current->arch.regs.x0 = regs.x[0];
-    did->what = domain.shut ? PSCI_BESIDE_ENDS : current->pause_flags ? PSCI_STOP : PSCI_RETURN;
+    did->what = current->pause_flags ? PSCI_STOP : PSCI_RETURN;
+    if (domain.shut)
+        did->what = domain.why == SHUTDOWN_reboot ? PSCI_BESIDE_RESETS : PSCI_BESIDE_ENDS;
 }
 
 static void xen_enter(void *self, uint32_t core, uint32_t cause, struct psci_beside_did *did) {

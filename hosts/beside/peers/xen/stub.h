@@ -26,7 +26,7 @@ struct vcpu {
     struct { register_t vmpidr; struct core_regs regs; } arch;
 };
 struct domain {
-    unsigned max_vcpus, shut;
+    unsigned max_vcpus, shut, why;
     struct vcpu **vcpu;
     struct { struct { bool privileged_call_enabled; } monitor; } arch;
 };
@@ -49,7 +49,7 @@ static struct vcpu_guest_context context;
 int arch_set_info_guest(struct vcpu *, struct vcpu_guest_context *);
 #define vgic_clear_pending_irqs(v) ((v)->event = false)
 #define vcpu_block_unless_event_pending(v) ((v)->pause_flags |= (unsigned long)!(v)->event << _VPF_blocked)
-#define domain_shutdown(d, why) ((d)->shut = true)
+#define domain_shutdown(d, what) ((d)->shut = true, (d)->why = (what))
 
 /* of vsmc.c */
 union hsr { uint32_t bits; struct { uint32_t iss : 25, len : 1, ec : 6; }; };
