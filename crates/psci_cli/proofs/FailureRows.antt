@@ -1,12 +1,12 @@
 -- How the program ends at each fault of a run of threads.
 use Rattle.std.proofs.Common.{refl, [], ◌∷◌}
-use Rattle.psci_script.specs.declared.exit.AuditFailure.TheVariants as failures
-use Rattle.psci_script.specs.declared.exit.Failure.TheVariants.{Audit, Gate, Gather, Replay}
-use Rattle.psci_script.specs.declared.exit.Failure.TheVariants.{Threads}
-use Rattle.psci_script.specs.declared.fault.ReplayFault.TheVariants.{Memory}
+use Rattle.psci_command.specs.psci_script.declared.exit.AuditFailure.TheVariants as failures
+use Rattle.psci_command.specs.psci_script.declared.exit.Failure.TheVariants.{Audit, Gate, Gather}
+use Rattle.psci_command.specs.psci_script.declared.exit.Failure.TheVariants.{Replay, Threads}
+use Rattle.psci_command.specs.psci_script.declared.fault.ReplayFault.TheVariants.{Memory}
 use Rattle.psci_bench.specs.declared.fault.BenchFault.TheVariants as faults
 use Rattle.psci_bench.specs.psci_audit.declared.fault.AuditFault.TheVariants as found
-use Rattle.psci_cli.specs.Failures.{failure_at}
+use Rattle.psci_cli.specs.Threading.{failure_at}
 use Rattle.psci_script.proofs.Tables.{◌⇒◌, Gives}
 
 -- each fault has a failure of its own, but for the two wants of memory

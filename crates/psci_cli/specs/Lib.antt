@@ -1,1 +1,1 @@
-pub mod Failures
+pub mod Threading

@@ -3,9 +3,9 @@
 ghost use Rattle.std.specs.Prelude.{◌≡◌};
 ghost use Rattle.std.specs.IoError.{error_kind};
 ghost use Rattle.std.specs.declared.io.ErrorKind.TheVariants as kinds;
-ghost use Rattle.psci_script.specs.declared.exit.Failure.TheVariants.{Replay};
-ghost use Rattle.psci_script.specs.declared.fault.ReplayFault.TheVariants.{Memory};
-ghost use Rattle.psci_script.specs.declared.fault.ReplayFault.TheVariants.{Write};
+ghost use Rattle.psci_command.specs.psci_script.declared.exit.Failure.TheVariants.{Replay};
+ghost use Rattle.psci_command.specs.psci_script.declared.fault.ReplayFault.TheVariants.{Memory};
+ghost use Rattle.psci_command.specs.psci_script.declared.fault.ReplayFault.TheVariants.{Write};
 
 use psci_bench::ReplayFault;
 use psci_command::Failure;

@@ -8,7 +8,7 @@ mod storm_line;
 mod threads_line;
 
 ghost use Rattle.std.specs.Prelude.{IfErr};
-ghost use Rattle.psci_script.specs.Exit.{IsOfReplay};
+ghost use Rattle.psci_command.specs.psci_script.Exit.{IsOfReplay};
 
 use keeping::keep;
 use psci_bench::{ReplayFault, Std, StormedWorld, replay, storm_world};

@@ -1,7 +1,7 @@
 //! A script, shown as the command line asks for it.
 
 ghost use Rattle.std.specs.Prelude.{IfErr};
-ghost use Rattle.psci_script.specs.Exit.{IsOfReplay};
+ghost use Rattle.psci_command.specs.psci_script.Exit.{IsOfReplay};
 
 use psci_bench::Std;
 use psci_command::{Color, Failure, ShowRequest};

@@ -1,7 +1,7 @@
 //! Threads for the cores of a board, the line that says what came of them, and what each core did.
 
 ghost use Rattle.std.specs.Prelude.{◌≡◌};
-ghost use Rattle.psci_cli.specs.Failures.{failure_at};
+ghost use Rattle.psci_cli.specs.Threading.{failure_at};
 
 use psci_bench::{
     AuditFault, BenchFault, Core, FwEntry, OpenGate, Polled, ReplayFault, Threaded, calls_of,

@@ -1,9 +1,9 @@
 -- How the program ends at each fault of a run of threads.
-use Rattle.psci_script.specs.declared.exit.AuditFailure.TheVariants as failures
-use Rattle.psci_script.specs.declared.exit.Failure.{Failure}
-use Rattle.psci_script.specs.declared.exit.Failure.TheVariants.{Audit, Gate, Gather, Replay}
-use Rattle.psci_script.specs.declared.exit.Failure.TheVariants.{Threads}
-use Rattle.psci_script.specs.declared.fault.ReplayFault.TheVariants.{Memory}
+use Rattle.psci_command.specs.psci_script.declared.exit.AuditFailure.TheVariants as failures
+use Rattle.psci_command.specs.psci_script.declared.exit.Failure.{Failure}
+use Rattle.psci_command.specs.psci_script.declared.exit.Failure.TheVariants.{Audit, Gate, Gather}
+use Rattle.psci_command.specs.psci_script.declared.exit.Failure.TheVariants.{Replay, Threads}
+use Rattle.psci_command.specs.psci_script.declared.fault.ReplayFault.TheVariants.{Memory}
 use Rattle.psci_bench.specs.declared.fault.BenchFault.{BenchFault}
 use Rattle.psci_bench.specs.declared.fault.BenchFault.TheVariants as faults
 use Rattle.psci_bench.specs.psci_audit.declared.fault.AuditFault.{AuditFault}

@@ -1,0 +1,1 @@
+pub use Rattle.psci_script.specs as psci_script
