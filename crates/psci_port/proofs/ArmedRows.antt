@@ -171,6 +171,15 @@ not_woken_while_it_runs : (seen 3 (runs_3 ++ (Wakes 3 ∷ [])) ≡ (Normal, fals
 unfolding playing
 not_woken_while_it_runs = (refl, refl)
 
+-- until it has turned to its door it executes, with power and the lock
+cut_while_it_wakes : failing (off_called ++ (Arms 3 ∷ Rises 3 ∷ Cuts 0 3 ∷ [])) ≡ Powered ∷ []
+unfolding playing
+cut_while_it_wakes = refl
+
+nothing_fails_while_it_wakes : failing (off_called ++ (Arms 3 ∷ Rises 3 ∷ [])) ≡ []
+unfolding playing
+nothing_fails_while_it_wakes = refl
+
 -- what its own wake-up leaves of each stage
 each_risen : (risen Standing ≡ Standing) × (risen AtDoor ≡ Woken) × (risen Normal ≡ Normal)
     × (risen Leaving ≡ Leaving) × (risen Armed ≡ Armed) × (risen Woken ≡ Woken)

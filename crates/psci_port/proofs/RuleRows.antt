@@ -14,7 +14,7 @@ use Rattle.psci_port.specs.Stages.{Stage, Standing, AtDoor, Entering, Normal, Le
 use Rattle.psci_port.specs.Stages.{Woken, has_stopped}
 use Rattle.psci_port.specs.Port.{Locks, Unlocks, Calls, Takes, TakesUp, Stands}
 use Rattle.psci_port.specs.Port.{Arms, Sleeps, Delivers, Wakes, Resets, Writes, Opens, Cuts}
-use Rattle.psci_port.specs.Port.{Act, Reboots, Rouses, Rises, Turns, cold}
+use Rattle.psci_port.specs.Port.{Act, Reboots, Rouses, Rises, Turns, blank, cold, with_row}
 use Rattle.psci_port.proofs.CellRows.{both_come, last_off, life_1, off_by}
 use Rattle.psci_port.specs.Rules.{AreTrue, IsPortRun, IsTrue, May}
 use Rattle.psci_port.proofs.Playing.{after, asks, comes, delivers, door, off_3}
@@ -233,9 +233,13 @@ no_turn_of_a_core_that_runs may = false≢true (ap is_woken may.0)
 
 -- core 4 is none of the board
 no_rouse_beyond_the_board : May board (after []) (Rouses 4) → ⊥
+unfolding playing
 no_rouse_beyond_the_board may = let on = may.0 in omega (arith, on)
 
-no_rise_beyond_the_board : May board (after []) (Rises 4) → ⊥
+no_rise_beyond_the_board : May board (record (with_row (after []) 4 (blank Armed)) {
+  lock = Some 4;
+}) (Rises 4) → ⊥
+unfolding playing
 no_rise_beyond_the_board may = let on = may.0 in omega (arith, on)
 
 -- a board without starts is none
