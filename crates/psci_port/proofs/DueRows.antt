@@ -1,8 +1,6 @@
 -- Worked examples: which acts are due, of the boot core and of another one, in life 1 and in life
 -- 2; and which never are.
-use Rattle.std.proofs.Common.{◌≡◌, ◌∷◌, ◌++◌, [], arith}
-use Rattle.std.proofs.Common.{List}
-use Rattle.std.proofs.Common.{None, Option, Some, refl, ℕ}
+use Rattle.std.proofs.Common.{◌≡◌, ◌∷◌, ◌++◌, [], arith, List, None, Option, Some, refl, ℕ}
 use Rattle.std.proofs.lemmas.Option.{none-some}
 use Rattle.psci_ctl_spec.specs.psci_messages.declared.start.Cause.TheVariants as causes
 use Rattle.psci_ctl_spec.specs.psci_messages.declared.start.Start.{Start}

@@ -1,7 +1,6 @@
 -- Worked examples: how far a core is from its rest, and what breaks each clause of a port at rest.
-use Rattle.std.proofs.Common.{◌<◌, ◌∙◌, ◌≡◌, ◌∷◌, ◌++◌, [], ap, arith, Bool, false, inl, inr}
-use Rattle.std.proofs.Common.{List, map}
-use Rattle.std.proofs.Common.{None, Some, refl, sym, true, ℕ}
+use Rattle.std.proofs.Common.{◌<◌, ◌∙◌, ◌≡◌, ◌∷◌, ◌++◌, [], ap, arith, Bool, false, inl, inr, List}
+use Rattle.std.proofs.Common.{map, None, Some, refl, sym, true, ℕ}
 use Rattle.std.proofs.lemmas.Bool.{false≢true}
 use Rattle.std.proofs.lemmas.Option.{none-some}
 use Rattle.psci_board.specs.Board.{cores}
