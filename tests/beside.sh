@@ -64,7 +64,7 @@ bits_beside() {
     if "$beside/bits" --only 'SYSTEM_RESET2(_64)?: bit 30 of the function word' own > "$work/out" 2>&1; then pass; else
         fail "$beside/bits: a refusal in 32 bits is not told"
     fi
-    sed 's/rarely(8) ? wild() >> 32 << 32 : 0/0/' "$beside/draws.c" > "$work/draws.c"
+    sed 's/x\[at\] >> 32 ? narrowed(x\[at\]) : x\[at\]/(uint32_t)x[at]/' "$beside/draws.c" > "$work/draws.c"
     DRAWS=$work/draws.c "$beside/bits" --seconds 1 --only 'CPU_ON: bit 4[0-2] of x1' own > "$work/out" 2>&1
     if [ $? = 1 ] && [ "$(grep -c '^own: not found: ' "$work/out")" = 3 ]; then pass; else
         fail "$beside/bits: draws without upper halves are not told"
