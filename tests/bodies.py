@@ -124,7 +124,7 @@ def judged(text, where):
         name = next((it for it in where if f"::{name}".endswith(f"::{it}")), name)
         placed = PLACED.findall(text[last:said.start()])
         is_gone = placed and all(GONE.match(it) for it in placed)
-        fault = "" if said[2] == "proved" else CALLS.sub("", said[2])
+        fault = "" if said[2].startswith("proved") else CALLS.sub("", said[2])
         found[name] = None if fault and is_gone else fault, bool(CALLS.search(said[2]))
         last = said.end()
     return found
