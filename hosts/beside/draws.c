@@ -48,7 +48,9 @@ static uint64_t half(uint64_t value) {
 /* The same of one that has an upper half, which may stay. */
 static uint64_t narrowed(uint64_t value) {
     uint32_t drawn = byte();
-    return drawn >= 224 ? (uint32_t)value | wild() >> 32 << 32 : drawn >= 144 ? twin(value) : drawn >= 64 ? value : (uint32_t)value;
+    if (drawn >= 224)
+        return (uint32_t)value | wild() >> 32 << 32;
+    return drawn >= 144 ? twin(value) : drawn >= 64 ? value : (uint32_t)value;
 }
 
 static uint64_t target(void) {
