@@ -43,17 +43,20 @@ own_beside() {
 }
 
 # each bit of each register: by the commit a 64th of the faults that hosts/beside/bits plants in the library, and a 512th
-# of those in each peer of Debian 12 with registers of 64 bits whose sources are here; draws without upper halves have to
-# be told
+# of those in TF-A; of the peers of Debian 12 whose whole was not played, a part that was; draws without upper halves
+# have to be told
 bits_beside() {
-    local part peers=() peer
+    local part peers=() peer which
     part=$((16#$(git rev-parse --short=6 HEAD 2> /dev/null || echo 0) % 512 + 1))
-    for peer in kvm qemu tfa tfa-2.12 xen; do ! has_sources "$peer" || peers+=("$peer"); done
-    if "$beside/bits" --part $((part % 64 + 1))/64 own > "$work/out" 2>&1 &&
-        { [ ${#peers[@]} = 0 ] || "$beside/bits" --part "$part/512" "${peers[@]}" >> "$work/out" 2>&1; }; then pass; else
-        fail "$beside/bits, part $part"
-        tail -n 20 "$work/out"
-    fi
+    for which in $((part % 64 + 1))/64:own $part/512:tfa $part/512:tfa-2.12 2/512:kvm 3/512:xen 1/512:qemu; do
+        peer=${which#*:}
+        [ "$peer" = own ] || has_sources "$peer" || continue
+        [ "$peer" = own ] || peers+=("$peer")
+        if "$beside/bits" --part "${which%:*}" "$peer" > "$work/out" 2>&1; then pass; else
+            fail "$beside/bits --part ${which%:*} $peer"
+            tail -n 20 "$work/out"
+        fi
+    done
     # a peer that is reset where it has to go off, or the other way
     if [ ${#peers[@]} = 0 ]; then :; elif "$beside/bits" --only 'SYSTEM_(OFF|RESET): bit 0 of the' "${peers[@]}" > "$work/out" 2>&1 &&
         grep -q "^$((2 * ${#peers[@]})) planted faults: each is seen" "$work/out"; then pass; else
