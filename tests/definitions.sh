@@ -30,7 +30,7 @@ docs/EXAMPLES.md: there is no down_is_nmaed
 psci_abi: Calls.low_half has no comment
 docs/definitions/psci_abi.md is another page than tools/definitions writes
 docs/definitions/psci_none.md is another page than tools/definitions writes
-31 pages
+30 pages
 END
     answers "what tools/definitions tells"
     expect "what tools/definitions tells" 1
