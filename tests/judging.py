@@ -148,6 +148,7 @@ def ready(folder, beside):
     its cases; why that cannot be, or None."""
     # (they are not called .antt, since the gate takes no such file outside a crate)
     paths = sorted(glob.glob(f"{beside}/{refusers.JUDGES}*.lemmas"))
+    name_libraries(folder, "".join(map(repo.text_of, paths)))
     names = [os.path.basename(it).removesuffix(".lemmas") for it in paths]
     lemmas = {f"proofs/{name}.antt": repo.text_of(it) for name, it in zip(names, paths)}
     repo.write(folder, {**lemmas, "proofs/Lib.antt": repo.text_of(f"{folder}/proofs/Lib.antt")
@@ -157,6 +158,16 @@ def ready(folder, beside):
     bring(folder, examples(folder))
     status, text = said(folder, "rt", "check", "--jobs", "1", "--only", EXAMPLES)
     return f"NOT TRIED: the crate itself is not proved: {text[-400:]}" if status else None
+
+
+def name_libraries(folder, text):
+    """Has the line of a copied crate name those crates below it, too, that the text names."""
+    room = os.path.dirname(os.path.dirname(folder))
+    crates, crate = repo.Crates(room), os.path.basename(folder)
+    below = {it for it in re.findall(r"\bRattle\.(\w+)\.", text)} & {*crates.below(crate)[:-1]}
+    more = sorted(below - {*crates.named[crate]})
+    lines = {**crates.lines, crate: " ".join([crates.lines[crate], *more])}
+    repo.write(room, {"crates.txt": "".join(f"{it}\n" for it in lines.values())})
 
 
 def tried(folder, cases_of, is_quick=False):
