@@ -56,7 +56,7 @@ def failures(text):
 
 
 # what rests on a declaration that was refused is not checked, and not named to its end
-DEPENDS = re.compile(r"declarations? that depends? on `([^`]*)`, which was rejected, w\w+ not checked")
+DEPENDS = re.compile(r"declarations? that depends? on `([^`]*)`, which was (?:rejected|not admitted), w\w+ not checked")
 DECLARES = re.compile(r"^(?:(?:pub|abbrev|unfoldable|record|data) )*([^\s(){}:]+)(?= :\s| \(| \{)", re.M)
 
 
