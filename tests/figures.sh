@@ -17,7 +17,7 @@ recounted() {
 overlooked() {
     rm -rf "$work/pages"
     mkdir -p "$work/pages/docs"
-    cp docs/COSTS.md docs/PORTING.md docs/TFA.md "$work/pages/docs"
+    cp docs/COSTS.md docs/REFERENCE.md docs/TFA.md "$work/pages/docs"
     sed -i "$3" "$work/pages/docs/$2"
     if cmp -s "docs/$2" "$work/pages/docs/$2"; then fail "docs/$2 has no such line: $3"; return; fi
     recounted "$1" "$work/figures" --pages "$work/pages" -- "$4"
@@ -55,8 +55,8 @@ figures() {
     overlooked "a call is not there" COSTS.md '/^| SYSTEM_SUSPEND, stops |/d' 'SYSTEM_SUSPEND, stops: docs/COSTS.md does not say'
     overlooked "a call that there is not" COSTS.md 's/^| CPU_OFF, stops |/| CPU_GONE, stops |/' 'CPU_GONE, stops: .* there is none'
     overlooked "a turn takes less" COSTS.md 's/^\(| SYSTEM_SUSPEND, wake-up | \)[0-9,]*/\1600/' 'wake-up, 4 cores: .* says 600'
-    overlooked "a stack is smaller" PORTING.md 's/^| `psci_close` | [0-9,]*/| `psci_close` | 432/' '`psci_close`, x86-64: .* says 432'
-    overlooked "memory is less" PORTING.md 's/^| `(2 2)` | [0-9,]*/| `(2 2)` | 2,849/' '`(2 2)`, kept, bytes: .* says 2,849'
+    overlooked "a stack is smaller" REFERENCE.md 's/^| `psci_close` | [0-9,]*/| `psci_close` | 432/' '`psci_close`, x86-64: .* says 432'
+    overlooked "memory is less" REFERENCE.md 's/^| `(2 2)` | [0-9,]*/| `(2 2)` | 2,849/' '`(2 2)`, kept, bytes: .* says 2,849'
     for tool in 2.8 2.12; do
         if grep -qF "SYSTEM_SUSPEND, wake-up: TF-A $tool\", null" "$work/figures/fixed"; then
             skip "the turns of TF-A $tool" "source package of it, or no gcc 12.2,"
