@@ -86,7 +86,9 @@ def replayed():
 
 
 def passed():
-    """Instructions of calls through a pass on three boards, with the loop that measures."""
+    """Instructions of calls through a pass on three boards, with the loop that measures, by a program that is made anew."""
+    if os.path.exists(made := f"{TOP}/out/bench/shared/passes"):
+        os.remove(made)
     ran = subprocess.run([f"{TOP}/bench/shared", "counts"], stdout=subprocess.PIPE, text=True, check=True)
     found = {}
     for tree, what, count in re.findall(r"^  (\(.*\)): (\w+) (\d+) ", ran.stdout, re.M):
