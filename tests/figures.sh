@@ -73,3 +73,25 @@ figures() {
     unseen "a bound without what calls itself" bounds 's/^\(\["psci_close", {"x86-64": \)[0-9]*/\1432/' \
         'psci_close: [0-9]* bytes of stack were taken, and the code is said to take 432'
 }
+
+# What the page says of the program and of a firmware that threads share is so; a table with another figure, and one with
+# a row that the page has not, are refused
+program_figures() {
+    local edit
+    has_python "the figures of the program" || return
+    command -v valgrind > /dev/null || { skip "the figures of the program" valgrind; return; }
+    if bench/program --keep "$work/counted" > "$work/out" 2>&1 && bench/program --compare "$work/counted" > "$work/out" 2>&1; then
+        pass
+    else
+        fail "the figures of the program; bench/program --write writes them"
+        head -n 20 "$work/out"
+    fi
+    [ -f "$work/counted" ] || return
+    for edit in '/"instructions a line"/{n;s/[0-9]/&9/}' 's/sixteen clusters of 16/sixteen clusters of 15/' \
+        '/"`(2 2)`"/{n;s/[0-9]/&0/}'; do
+        sed "$edit" "$work/counted" > "$work/edited"
+        if cmp -s "$work/counted" "$work/edited" || bench/program --compare "$work/edited" > "$work/out" 2>&1; then
+            fail "bench/program lets this through: $edit"
+        else pass; fi
+    done
+}
