@@ -1,15 +1,10 @@
-/* The lock, and the mailbox with its bell. */
+/* The mailbox of a power controller that has a core of its own, with its bell. */
 #include "console.h"
 #include "gic.h"
 #include "link.h"
+#include "power.h"
 #include "record.h"
 #include "string.h"
-
-struct shared shared;
-struct psci_place firmware;
-struct psci_machine_place machine, own_machines[CORES];
-struct psci_poller pollers[CORES];
-uint32_t taken;
 
 /* A bad link, for trials: of so many frames one is lost. */
 static bool is_lost(void) {
@@ -54,6 +49,18 @@ void send(const struct psci_frame *message) {
     put_frame(&shared.messages, message->bytes);
     gic_ring(SCP);
     start_timer();
+}
+
+/* The last thing that a core writes in a start. */
+void tell_stop(unsigned core, uint64_t used) {
+    record_stands(used);
+    STORE(shared.doors[core].stopped, used);
+    gic_ring(SCP);
+}
+
+void tell_wake_up(unsigned core, uint64_t used) {
+    STORE(shared.doors[core].woken, used);
+    gic_ring(SCP);
 }
 
 void take_ack(void) {

@@ -97,7 +97,7 @@ cold:
         msr     vbar_el3, x0
         mov     x0, #0x04ff             /* MAIR: 0 is normal, write-back; 1 is a device, nGnRE */
         msr     mair_el3, x0
-        ldr     x0, =0x80803520         /* TCR: 4 GB in pages of 4 KB, inner shareable, write-back */
+        ldr     x0, =TCR                /* as wide as the map, pages of 4 KB, inner shareable, write-back */
         msr     tcr_el3, x0
         adrp    x0, map
         msr     ttbr0_el3, x0
@@ -107,6 +107,8 @@ cold:
         ldr     x0, =SCTLR              /* the MMU and both caches are on, before any shared memory */
         msr     sctlr_el3, x0
         isb
+        ldr     x0, =FREQUENCY          /* what counts beside, and nobody has set before */
+        msr     cntfrq_el0, x0
         mov     x0, #0x535              /* SCR: NS, HCE, RW, FIQs come here, SMD clear */
         msr     scr_el3, x0
         msr     cptr_el3, xzr
@@ -117,7 +119,7 @@ cold:
         and     x0, x0, x1
         adr     x1, listed
         ldr     x2, =STACKS - 16
-        mov     x3, #CORES + 1
+        mov     x3, #STACKED
 1:      add     x2, x2, #STACK
         ldr     x4, [x1], #8
         cmp     x4, x0
@@ -131,9 +133,15 @@ cold:
         bl      on_reset
 
         .balign 8
+#ifdef SCP_MPIDR
 listed: .quad   MPIDRS, SCP_MPIDR
+        .set    STACKED, CORES + 1
+#else
+listed: .quad   MPIDRS
+        .set    STACKED, CORES
+#endif
 
-        .if STACKS + STACK * (CORES + 1) > RECORD_START
+        .if STACKS <= RECORD_START && STACKS + STACK * STACKED > RECORD_START
         .error "the stacks of so many cores run into the record"
         .endif
 
