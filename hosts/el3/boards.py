@@ -98,6 +98,8 @@ class Map:
         for at in range(many):
             first = base + at * size
             entry = entry_of(self.ranges, first, size)
+            if entry is None and level == LEVELS - 1:
+                sys.exit(f"boards.py: the page at {first:#x} is half in a range")
             if entry is None or (entry and level == 0):
                 under = f"map_{len(self.tables)}"
                 self.table(under, level + 1, first, 512)
