@@ -17,7 +17,7 @@ import sys
 
 sys.dont_write_bytecode = True
 HERE = os.path.dirname(os.path.abspath(__file__))
-MOST, STAGE = 200, 1 << 20
+MOST, STAGE, GUARD = 200, 1 << 20, 1 << 12
 
 PAGE, LEVELS = 12, 4
 # attributes of a block, whose descriptor ends with 1; a page's ends with 3. 0x40.. is never executed
@@ -79,8 +79,9 @@ def entry_of(ranges, first, size):
 class Map:
     """The tables of a translation, each with the entries in it."""
 
-    def __init__(self, ranges):
+    def __init__(self, ranges, stacks):
         self.ranges = list(ranges)
+        self.stacks, self.size, self.end = stacks
         top = max(end for _, end, _ in self.ranges) - 1
         self.width, size = next((it for it in WIDTHS if top >> it[0] == 0))
         self.tcr = 0x80803500 | size << 16 | 64 - self.width
@@ -92,12 +93,19 @@ class Map:
     def shift(level):
         return PAGE + 9 * (LEVELS - 1 - level)
 
+    def entry(self, first, size):
+        """Of the stacks the lowest page of each has no memory."""
+        entry = entry_of(self.ranges, first, size)
+        if not entry or first + size <= self.stacks or self.end <= first:
+            return entry
+        return None if size > GUARD else 0 if (first - self.stacks) % self.size < GUARD else entry
+
     def table(self, name, level, base, many):
         lines, size = [], 1 << self.shift(level)
         self.tables.append((name, lines))
         for at in range(many):
             first = base + at * size
-            entry = entry_of(self.ranges, first, size)
+            entry = self.entry(first, size)
             if entry is None and level == LEVELS - 1:
                 sys.exit(f"boards.py: the page at {first:#x} is half in a range")
             if entry is None or (entry and level == 0):
@@ -118,27 +126,41 @@ class Map:
         else:
             lines.append((first, 1, size, kind))
 
+    def guarded(self, lines):
+        """How many stacks stand at the head of these lines, a page without memory and then the stack of each."""
+        pages, many = self.size // GUARD - 1, 0
+        while lines[2 * many:] and lines[2 * many][1:] == (1, 0, 0) and lines[2 * many + 1:] \
+                and lines[2 * many + 1][1:3] == (pages, GUARD):
+            many += 1
+        return many
+
     def text(self):
         for name, lines in self.tables:
             yield "        .balign 4096"
             yield f"{name}:"
-            for first, many, size, kind in lines:
-                if size is None:
+            while lines:
+                many = self.guarded(lines)
+                first, count, size, kind = lines[many > 0]
+                if many:
+                    yield f"        guarded {many}, {first:#x}, {count}, {kind:#x}"
+                elif size is None:
                     yield f"        .quad   {first}"
                 elif not kind:
-                    yield f"        .zero   {8 * many}"
+                    yield f"        .zero   {8 * count}"
                 else:
-                    yield f"        entries {many}, {first:#x}, {size:#x}, {kind:#x}"
+                    yield f"        entries {count}, {first:#x}, {size:#x}, {kind:#x}"
+                lines = lines[2 * many or 1:]
 
 
 # ---- place.h
 
 def place_of(board):
-    map_ = Map(board.ranges())
+    stacks = board.numbers("stacks")
+    map_ = Map(board.ranges(), stacks)
     yield "/* What stands where on this board, of its `board`, by hosts/el3/boards.py. */"
-    stacks, record = board.numbers("stacks"), board.numbers("record")
+    record = board.numbers("record")
     fixed = {"IMAGE": board.numbers("image")[0], "DATA": board.numbers("data")[0], "STACKS": stacks[0],
-             "STACK": stacks[1], "RECORD_START": record[0], "RECORD_END": record[1],
+             "STACK": stacks[1], "STACKS_END": stacks[2], "GUARD": GUARD, "RECORD_START": record[0], "RECORD_END": record[1],
              "DEVICE_TREE": board.numbers("tree")[0], "UART": board.numbers("uart")[0],
              "FREQUENCY": int(board.get("frequency")), "TCR": map_.tcr}
     for version in board.gics():

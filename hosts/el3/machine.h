@@ -20,9 +20,10 @@ static inline void wait_for_interrupt(void) { __asm__ volatile("dsb sy\n wfi" ::
 /* In a loop that waits for another core: it gives its turn away, where cores run in turn. */
 static inline void relax(void) { __asm__ volatile("yield"); }
 
-/* Of the stack of the core at this place in the list: its last word, at its lowest address. */
+/* Of the stack of the core at this place in the list: its last word, at its lowest address. The page below it has no
+ * memory (place.h), so that what is deeper is an exception. */
 static inline const volatile uint64_t *stack_end(unsigned at) {
-    return (const volatile uint64_t *)(uintptr_t)(STACKS + STACK * at);
+    return (const volatile uint64_t *)(uintptr_t)(STACKS + STACK * at + GUARD);
 }
 
 /* The end of this core's stack, with room for a word. */

@@ -83,7 +83,8 @@ leave_for:
         dsb     nsh
         isb
 
-unexpected:
+unexpected:                             /* it ends the core's work, so its stack is empty again */
+        own_stack x1
         mrs     x1, esr_el3
         mrs     x2, elr_el3
         mrs     x3, far_el3
@@ -95,6 +96,7 @@ cold:
         msr     daifset, #15
         adr     x0, vectors
         msr     vbar_el3, x0
+        bl      before_caches
         mov     x0, #0x04ff             /* MAIR: 0 is normal, write-back; 1 is a device, nGnRE */
         msr     mair_el3, x0
         ldr     x0, =TCR                /* as wide as the map, pages of 4 KB, inner shareable, write-back */
@@ -141,8 +143,8 @@ listed: .quad   MPIDRS
         .set    STACKED, CORES
 #endif
 
-        .if STACKS <= RECORD_START && STACKS + STACK * STACKED > RECORD_START
-        .error "the stacks of so many cores run into the record"
+        .if STACKS + STACK * STACKED > STACKS_END
+        .error "there are not so many stacks"
         .endif
 
 #ifdef STRICT                           /* SCTLR_EL3.A: an access that is not aligned is a fault */

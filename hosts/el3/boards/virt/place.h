@@ -3,6 +3,8 @@
 #define DATA 0xe000000
 #define STACKS 0xe200000
 #define STACK 0x4000
+#define STACKS_END 0xe400000
+#define GUARD 0x1000
 #define RECORD_START 0xe400000
 #define RECORD_END 0xf000000
 #define DEVICE_TREE 0x47000000
@@ -24,6 +26,11 @@ map:
 map_1:
         entries 64, 0x0, 0x200000, 0x781
         entries 48, 0x8000000, 0x200000, 0x40000000000405
-        entries 8, 0xe000000, 0x200000, 0x40000000000701
+        entries 1, 0xe000000, 0x200000, 0x40000000000701
+        .quad   map_2 + 3
+        entries 6, 0xe400000, 0x200000, 0x40000000000701
         .zero   3136
+        .balign 4096
+map_2:
+        guarded 128, 0xe201000, 3, 0x40000000000703
 #endif

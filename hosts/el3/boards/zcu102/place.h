@@ -1,8 +1,10 @@
 /* What stands where on this board, of its `board`, by hosts/el3/boards.py. */
 #define IMAGE 0xfffc0000
 #define DATA 0xfffe0000
-#define STACKS 0xffff8000
-#define STACK 0x2000
+#define STACKS 0xffff4000
+#define STACK 0x3000
+#define STACKS_END 0x100000000
+#define GUARD 0x1000
 #define RECORD_START 0x70000000
 #define RECORD_END 0x7ff00000
 #define DEVICE_TREE 0x10000000
@@ -31,5 +33,6 @@ map_1:
 map_2:
         entries 448, 0xffe00000, 0x1000, 0x40000000000407
         entries 32, 0xfffc0000, 0x1000, 0x783
-        entries 32, 0xfffe0000, 0x1000, 0x40000000000703
+        entries 20, 0xfffe0000, 0x1000, 0x40000000000703
+        guarded 4, 0xffff5000, 2, 0x40000000000703
 #endif

@@ -1,5 +1,4 @@
-/* Xilinx ZCU102: a core is started by its reset line, and waits at a gate until its door is open. A reset of the system is
- * one of all cores by their lines, and leaves all else as it was. */
+/* Xilinx ZCU102: a core is started by its reset line, and waits at a gate until its door is open. */
 #include "board.h"
 #include "console.h"
 #include "gic.h"
@@ -82,27 +81,26 @@ void board_begins(void) {
     place_images();
 }
 
-/* No other core runs on, whatever it was at. */
-static void hold_others(void) {
-    mmio32(RST_FPD_APU) |= 0x3c0fu & ~(0x401u << place_of(own_mpidr()));
-}
-
+/* No other core runs on, whatever it was at; the emulator ends, where a power controller would switch. */
 static _Noreturn void switch_off(void) {
-    static uint64_t block[2] = {0x20026, 0}; /* the emulator ends, as a power controller would do it */
+    static uint64_t block[2] = {0x20026, 0};
     register uint64_t w0 __asm__("x0") = 0x18, x1 __asm__("x1") = (uint64_t)block;
-    hold_others();
+    mmio32(RST_FPD_APU) |= 0x3c0fu & ~(0x401u << place_of(own_mpidr()));
     __asm__ volatile("dsb sy\n hlt #0xf000" ::"r"(w0), "r"(x1) : "memory");
     for (;;)
         wait_for_interrupt();
 }
 
-/* All others are reset, and wait at their gates; then the boot core finds the controller off, and begins. */
+/* All others are reset until they are seen at their gates, and held there in reset but for the boot core, which finds
+ * the controller off, and begins. */
 static _Noreturn void begin_anew(void) {
     _Noreturn void cold(void);
     unsigned own = place_of(own_mpidr()), first = place_of(BOOT);
     for (unsigned at = 0; at < CORES; at++)
-        if (at != own && (gates[at].pulsed || at == first))
+        if (at != own && (gates[at].pulsed || at == first)) {
             pulse(at);
+            mmio32(RST_FPD_APU) |= at == first ? 0 : 0x401u << at;
+        }
     mmio32(GICD) = 0;
     if (own == first)
         cold();
