@@ -11,16 +11,15 @@
 static uint64_t used[CORES];
 
 /* The last thing that a core does in a start. On a machine its power goes here, and it comes back
- * through its reset vector; an emulated core keeps its power, and waits in this loop instead. Its timer
- * rings on in it: on a machine another one, which never loses power, has to have others send again. */
+ * through its reset vector; an emulated core keeps its power, and waits in this loop instead. It takes no lock in it,
+ * with which its power could go, but where the controller is in the monitors. */
 void wait_for_start(unsigned core, bool wakes) {
     struct door *door = &shared.doors[core];
     if (!wakes)
         gic_bell_alone();
     tell_stop(core, used[core]);
     for (;;) {
-        if (gic_answer())
-            serve_link(true);
+        gic_answer();
         if (LOAD(door->opened) != used[core])
             return;
         if (wakes && gic_wakes() && door->woken != used[core])

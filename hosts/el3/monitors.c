@@ -45,4 +45,4 @@ void tell_wake_up(unsigned core, uint64_t used) {
 
 /* There are no rings, and no timer sends again. */
 void take_ack(void) {}
-void serve_link(bool is_time) { (void)is_time; }
+void serve_link(void) {}

@@ -60,10 +60,33 @@ static bool serve_wake(void) {
     return false;
 }
 
+/* Its timer: 20 milliseconds after something came, and as long as something is outstanding. No power-off of a core
+ * stops it. */
+static void start_timer(void) {
+    write_register("cntps_tval_el1", FREQUENCY / 50);
+    write_register("cntps_ctl_el1", 1);
+}
+
+static bool is_outstanding(void) {
+    lock();
+    bool some = send_again();
+    unlock();
+    return some;
+}
+
+/* It has come out of its sleep: by the timer, or since somebody rang. */
+static void keep_time(void) {
+    static bool runs;
+    bool is_time = gic_answer(), goes_on = is_time ? is_outstanding() : !runs;
+    runs = is_time ? goes_on : true;
+    if (goes_on)
+        start_timer();
+}
+
 void control_power(void) {
     open_first_door();
     for (;;) {
-        gic_answer();
+        keep_time();
         while (serve_message() || serve_waiting() || serve_wake() || record_tell()) {
         }
         wait_for_interrupt();

@@ -22,7 +22,7 @@ void open_first_door(void) { abort(); }
 void board_comes_out(void) {}
 void board_waits(void) { wait_for_interrupt(); }
 void send(const struct psci_frame *message) { (void)message; }
-void serve_link(bool is_time) { (void)is_time; }
+void serve_link(void) {}
 void say(const char *form, ...) { (void)form; }
 void start_machine(void) { abort(); }
 void control_power(void) { abort(); }
