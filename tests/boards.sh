@@ -12,7 +12,7 @@ el3_boards() {
     sed -n '/^| Board | UART/,/^$/p' hosts/el3/README.md | sed '$d' > "$work/lines"
     answers "the table of boards in hosts/el3/README.md"
     cp -r hosts/el3 "$fresh"
-    told_of_board "boards/zcu102/place.h is not that of its board" zcu102 's/^stacks 0xffff8000/stacks 0xffff7000/'
+    told_of_board "boards/zcu102/place.h is not that of its board" zcu102 's/^stacks 0xffff4000/stacks 0xffff1000/'
     told_of_board "more than 200" raspi3b '$r hosts/el3/README.md'
     told_of_board "is half in a range" sbsa-ref 's/^range 0x20000000/range 0x20000800/'
     command -v aarch64-linux-gnu-gcc > /dev/null || { skip "compiling boards of hosts/el3" aarch64-linux-gnu-gcc; return; }
