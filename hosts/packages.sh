@@ -58,6 +58,24 @@ fetch_guest() {
     cd - > /dev/null
 }
 
+has_trees() { compgen -G "$cache/trees/boot/vmlinuz-*" > /dev/null; }
+
+# Debian's kernel for arm64 that has drivers of boards, and the device trees of these, into $cache/trees.
+fetch_trees() {
+    local image
+    mkdir -p "$cache/trees/packages"
+    cd "$cache/trees/packages"
+    own_apt
+    image=$(apt-cache search --names-only '^linux-image-6.1.0-[0-9]+-arm64$' | sort -V | tail -n 1)
+    say "downloading ${image%% *} with its device trees (70 MB)"
+    apt-get download -qq "${image%% *}" && dpkg-deb -x "${image%% *}"_*.deb unpacked ||
+        stop "the package ${image%% *} can't be had"
+    rm -rf ../usr ../boot
+    mv unpacked/usr unpacked/boot ..
+    cd - > /dev/null
+    rm -rf "$cache/trees/packages"
+}
+
 has_kexec() { [ -e "$cache/kexec/fetched" ]; }
 
 # The command kexec of the guest, with the libraries that it names, into $cache/kexec.

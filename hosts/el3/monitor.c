@@ -108,4 +108,7 @@ void on_exception(struct context *context, uint64_t esr) {
         x[0] = on_call(this_core(), x);
 }
 
-void on_fiq(void) { serve_link(gic_answer()); }
+void on_fiq(void) {
+    gic_answer();
+    serve_link();
+}

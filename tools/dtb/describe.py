@@ -207,6 +207,7 @@ class Description:
                 "the memory of the tree is taken" if 0 < len(found) <= MOST_RANGES else
                 f"the tree has {len(found)} pieces of memory, and a board four ranges" if found else
                 "the tree has no memory, and a range is made up"))
+        self.unknown.append("where the boot core enters: the first of these addresses is taken")
         ranges = found if 0 < len(found) <= MOST_RANGES else [ANYWHERE]
         text = " ".join(f"{first:#x}-{end:#x}" for first, end in ranges)
         entry = ranges[0][0] + 3 & ~3
