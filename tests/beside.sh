@@ -125,6 +125,9 @@ known_beside() {
     baseline_beside "a suspend is refused in OS-initiated mode" \
         "s/^struct port port;/&\\nstatic uint32_t mode;/;s/$call/    $mode\\n&\\n    if (x[0] == 0xc4000001 \\&\\& !mode) did->what = 0, did->x0 = -3ul;/" \
         "s/$call/&\\n    if (x[0] == 0xc4000001) did->what = 0, did->x0 = -3ul;/"
+    baseline_beside "a CPU_ON is refused otherwise, and with an upper half once more" \
+        "s/$call/&\\n    if ((uint32_t)x[0] == 0x84000003 \\&\\& did->x0 == -9u) did->x0 = -6u;/" \
+        "s/$call/&\\n    if ((uint32_t)x[0] == 0x84000003 \\&\\& did->x0 == -9u)\\n        did->x0 = x[2] >> 32 \\&\\& x[2] \\& 3 \\&\\& (uint32_t)x[2] >> 29 != 2 ? -3u : -6u;/"
     printf '= never seen\n  seen: in 900 of 1000 lists\n= seldom seen\n  seen: in 1 of 1000 lists\n' > "$work/known"
     REPORT=$work/known build_beside own first &&
         BESIDE_REPORT=$work/vanished "$work/beside/first" --draws 100 > "$work/out" 2>&1
