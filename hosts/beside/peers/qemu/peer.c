@@ -6,7 +6,6 @@
 #include "statics.h"
 
 #include <setjmp.h>
-#include <stdlib.h>
 
 ARMCPU cpus[MOST];
 uint32_t many_cpus, is_ending, is_reset;
@@ -49,8 +48,7 @@ void helper_wfi(CPUARMState *env, uint32_t length) {
 
 static void qemu_open(void *self, const struct psci_beside_board *board) {
     statics_fresh();
-    if (board->cores > MOST)
-        abort();
+    statics_hold(board->cores, MOST);
     many_cpus = board->cores;
     for (uint32_t i = 0; i < many_cpus; i++) {
         cpus[i].mp_affinity = board->affinity[i];

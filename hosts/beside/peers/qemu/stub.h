@@ -5,7 +5,6 @@
 #include <stdio.h>
 #include <string.h>
 
-/* all of it is kept and brought back with each event: cores that no board has cost time */
 enum { MOST = 8, MOST_WORK = 8 };
 typedef uint64_t target_ulong;
 typedef struct CPUState { int halted, exception_index; } CPUState;
