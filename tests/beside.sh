@@ -136,6 +136,29 @@ known_beside() {
     fi
 }
 
+# one_group NAME EDIT GROUP: all that a port with this edit does otherwise is this group
+one_group() {
+    echo "$2" > "$work/edit"
+    build_beside own caused "$work/edit" || return
+    BESIDE_REPORT=$work/caused "$work/beside/caused" --draws 4000 > "$work/out" 2>&1
+    if [ "$(grep '^[+=-]' "$work/caused")" = "+ $3" ]; then pass; else
+        fail "$beside: one cause is several groups: $1"
+        grep '^[+=-]' "$work/caused"
+    fi
+}
+
+# one cause is one group: what a profile lacks, in either mode; and a half of a register that a later event shows
+caused_beside() {
+    local call='^    obey(core, x\[0\], &answer, did);' entry='^    obey(core, 0, &answer, did);'
+    one_group "an unknown function" \
+        "s/$call/&\\n    if ((uint32_t)x[0] != 0x8400000a \\&\\& (did->x0 == -1u || did->x0 == -1ul)) did->x0--;/" \
+        "a function that the profile lacks: ours -1, theirs -2"
+    one_group "an upper half" "s/^struct port port;/&\\nstatic uint64_t upper[4];/
+        s/$call/    if (((uint32_t)x[0] | 1 << 30) == 0xc4000003 \\&\\& answer.code == 0)\\n        upper[(x[1] >> 7 \\& 2) | (x[1] \\& 1)] = x[0] >> 30 \\& 1 ? 0 : x[2] >> 32;\\n&/
+        s/$entry/&\\n    if (start.cause == PSCI_CAUSE_ON) did->address |= upper[core] << 32;\\n    upper[core] = 0;/" \
+        "entry by CPU_ON: the address keeps its upper half"
+}
+
 # the same on boards of many cores, of many levels and of the extended format, with a fault for each that has
 # to show there
 boards_beside() {
@@ -373,6 +396,7 @@ in_one_process() {
     bits_beside
     report_beside
     known_beside
+    caused_beside
     boards_beside
     swept_beside
     bytes_beside
