@@ -43,12 +43,11 @@ own_beside() {
 }
 
 # each bit of each register: by the commit a 64th of the faults that hosts/beside/bits plants in the library, and a 512th
-# of those in TF-A; of the peers of Debian 12 whose whole was not played, a part that was; draws without upper halves
-# have to be told
+# of those in the peers of Debian 12 and in TF-A 2.12; draws without upper halves have to be told
 bits_beside() {
     local part peers=() peer which
     part=$((16#$(git rev-parse --short=6 HEAD 2> /dev/null || echo 0) % 512 + 1))
-    for which in $((part % 64 + 1))/64:own $part/512:tfa $part/512:tfa-2.12 2/512:kvm 3/512:xen 1/512:qemu; do
+    for which in $((part % 64 + 1))/64:own $part/512:{kvm,xen,qemu,tfa,tfa-2.12}; do
         peer=${which#*:}
         [ "$peer" = own ] || has_sources "$peer" || continue
         [ "$peer" = own ] || peers+=("$peer")
@@ -128,6 +127,9 @@ known_beside() {
     baseline_beside "a CPU_ON is refused otherwise, and with an upper half once more" \
         "s/$call/&\\n    if ((uint32_t)x[0] == 0x84000003 \\&\\& did->x0 == -9u) did->x0 = -6u;/" \
         "s/$call/&\\n    if ((uint32_t)x[0] == 0x84000003 \\&\\& did->x0 == -9u)\\n        did->x0 = x[2] >> 32 \\&\\& x[2] \\& 3 \\&\\& (uint32_t)x[2] >> 29 != 2 ? -3u : -6u;/"
+    baseline_beside "AFFINITY_INFO passes over Aff2 of a core" \
+        's/core, x\[0\], x\[1\],/core, x[0], x[0] == 0xc4000004 \&\& (uint32_t)x[2] ? x[1] \& ~0xff0000ul : x[1],/' \
+        's/core, x\[0\], x\[1\],/core, x[0], x[0] == 0xc4000004 ? x[1] \& ~0xff0000ul : x[1],/'
     printf '= never seen\n  seen: in 900 of 1000 lists\n= seldom seen\n  seen: in 1 of 1000 lists\n' > "$work/known"
     REPORT=$work/known build_beside own first &&
         BESIDE_REPORT=$work/vanished "$work/beside/first" --draws 100 > "$work/out" 2>&1

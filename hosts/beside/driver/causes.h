@@ -199,11 +199,26 @@ static void take_out(beside *b, event *e, const struct cause *cause) {
     }
 }
 
+/* Whether what is odd about a call is its target. */
+static bool is_of_target(const char *odd) {
+    return !strncmp(odd, "no such Aff", 11) || !strcmp(odd, "Aff3 set") || !strncmp(odd, "a bit outside", 13);
+}
+
+/* A target may count otherwise, or not at all, for a peer that is asked about more than a core. */
+static void put_level(beside *b, const event *e, const char *odd) {
+    uint32_t level = e->x[2];
+    bool has_level = has_target(e->x[0]) && plain_word(e->x[0]) != CPU_ON;
+    if (has_level && is_of_target(odd) && level && level <= b->board.height)
+        put(b->difference.key, sizeof b->difference.key, " above the core");
+}
+
 static void put_all_odds(beside *b, const event *e, struct cause *cause) {
     struct psci_beside_difference *d = &b->difference;
     for (size_t at = 0; at < ODDS; at++) {
         event less = *e;
         const char *words = odds[at].plain(b, less.x, odds[at].which);
+        if (words && !cause->is_odd)
+            put_level(b, e, words);
         if (words)
             put(d->key, sizeof d->key, "%s %s", cause->is_odd ? "," : ":", words);
         cause->is_odd |= words != NULL;
@@ -242,6 +257,8 @@ static void put_odds(beside *b, event *e, struct cause *cause) {
     }
     if (one && strcmp(one, "an upper half of x0") == 0)
         *d->key = 0;
+    if (one)
+        put_level(b, e, one);
     if (one)
         put(d->key, sizeof d->key, "%s%s", *d->key ? ": " : "any function: ", one);
     else
