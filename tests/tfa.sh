@@ -201,7 +201,7 @@ tfa_registers() {
 tfa_in_no_run() {
     TFA_OUT=$work/tfa hosts/tfa/run --seconds "$patience" --record "$work/tfa.record" --fault "$1" "${@:3}" each \
         > "$work/out" 2>&1
-    compared 3 "$2" "$work/tfa.record"
+    compared 6 "$2" "$work/tfa.record"
 }
 
 # the same in TF-A 2.12 with Linux 6.12, in both modes; a fault shows; and what EL3 sets for each core is what it sets by
