@@ -47,9 +47,9 @@ def place(words, name):
 def built(words, name, more):
     """The folder of TF-A, built with these words for hosts/tfa/run."""
     ran = subprocess.run([f"{HERE}/run", "--release", words.release, "--archive", os.path.abspath(words.archive),
-                          "--build-only", *more], check=True, text=True, stdout=subprocess.PIPE,
+                          "--build-only", *more], check=False, text=True, stdout=subprocess.PIPE,
                          env={**os.environ, "TFA_OUT": place(words, name)})
-    return ran.stdout.strip()
+    return ran.stdout.strip() or sys.exit(1)
 
 
 def flash(tree, steps, folder, payload=None):
