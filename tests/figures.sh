@@ -55,6 +55,9 @@ figures() {
     overlooked "a call is not there" COSTS.md '/^| SYSTEM_SUSPEND, stops |/d' 'SYSTEM_SUSPEND, stops: docs/COSTS.md does not say'
     overlooked "a call that there is not" COSTS.md 's/^| CPU_OFF, stops |/| CPU_GONE, stops |/' 'CPU_GONE, stops: .* there is none'
     overlooked "a turn takes less" COSTS.md 's/^\(| SYSTEM_SUSPEND, wake-up | \)[0-9,]*/\1600/' 'wake-up, 4 cores: .* says 600'
+    overlooked "a turn beside TF-A takes less" COSTS.md \
+        's/^\(| CPU_SUSPEND to the system, OS-initiated, denied: the library | \)[0-9,]*/\1399/' \
+        'denied: the library, 4 cores: .* says 399'
     overlooked "a stack is smaller" REFERENCE.md 's/^| `psci_close` | [0-9,]*/| `psci_close` | 432/' '`psci_close`, x86-64: .* says 432'
     overlooked "memory is less" REFERENCE.md 's/^| `(2 2)` | [0-9,]*/| `(2 2)` | 2,849/' '`(2 2)`, kept, bytes: .* says 2,849'
     for tool in 2.8 2.12; do
