@@ -226,7 +226,7 @@ named_scripts() {
         ./psci $words "$script" > "$work/out" 2> "$work/err"
         echo $? > "$work/got"
         expect "./psci $words of a faulty name" 3 "line $(wc -l < "$script"): script fault 2
-psci: line $(wc -l < "$script"), column 8: unknown function 'CPU_OFFF': is cpu_off meant?
+psci: line $(wc -l < "$script"), column 8: unknown function 'CPU_OFFF': did you mean cpu_off?
     call 0 CPU_OFFF
            ^
 psci: expected \`call CORE X0 [X1 [X2 [X3]]]\`"
@@ -257,7 +257,7 @@ files_and_streams() {
     : > "$work/empty"
     ./psci show "$work/empty" > "$work/out" 2> "$work/err"
     echo $? > "$work/got"
-    if [ "$(cat "$work/got")" = 3 ] && grep -q "line 1 has to be the board" "$work/err"; then pass; else
+    if [ "$(cat "$work/got")" = 3 ] && grep -q "line 1 must be the board" "$work/err"; then pass; else
         fail "./psci show of an empty script"
     fi
     ./psci replay "$work/none" > "$work/out" 2> "$work/err"

@@ -238,7 +238,7 @@ def alone(room):
 def refused(room):
     """Words at fault are told before anything is begun."""
     for more, text in ((("--board", "(2 2"), "board fault 1"), (("--count", "10001"), "--count takes"),
-                       (("--seeds", "5..1"), "FIRST..LAST was expected"), (("--jobs", "0"), "from 1 to"),
+                       (("--seeds", "5..1"), "expected FIRST..LAST"), (("--jobs", "0"), "from 1 to"),
                        (("--boards", "/dev/null"), "no lines 'board"), (("--minutes", "0"), "above 0")):
         status, _, said = room.sweep("refused", *more)
         wants(status == 2 and text in said, f"{more}: status {status}: {said}")

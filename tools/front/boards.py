@@ -50,7 +50,7 @@ def read_board(text, at=0):
         reader.blank("a range, or boot")
         place = reader.at
         if ranges and not re.match("[0-9]", reader.text[place:]):
-            raise Wrong(place, f"{reader.here()}, and a range or 'boot' was expected")
+            raise Wrong(place, f"{reader.here()}; expected a range or 'boot'")
         first = reader.number("the first address of a range", True, " -")
         reader.fixed("-", "- and the address behind the range")
         ranges.append((place, first, reader.number("the address behind the range", True)))
@@ -64,7 +64,7 @@ def read_board(text, at=0):
         reader.fixed("format")
         reader.blank("original or extended")
         if reader.word() not in ("original", "extended"):
-            raise Wrong(reader.at, f"{reader.here()}, and original or extended was expected")
+            raise Wrong(reader.at, f"{reader.here()}; expected original or extended")
         reader.at += len(reader.word())
         end_of(reader)
     return tree, ranges, limits

@@ -73,8 +73,8 @@ class Lines:
         word = reader.word()
         if word not in WORDS:
             like = near(word.lower(), list(WORDS))
-            raise Wrong(0, f"{reader.here()}" + (f": is {like[-1]} meant?" if like else
-                                                 f": the words are {', '.join(WORDS)}"))
+            raise Wrong(0, f"{reader.here()}" + (f": did you mean {like[-1]}?" if like else
+                                                 f": expected one of {', '.join(WORDS)}"))
         if word in (*ONCE, "system-suspend") and self.machine.places[word]:
             raise Wrong(0, f"a second line '{word}'")
         reader.at = len(word)
@@ -103,7 +103,7 @@ class Lines:
         word = reader.word()
         if word not in names:
             like = near(word.lower(), list(names))
-            tip = f"is {like[-1]} meant?" if like else f"{what} was expected: {', '.join(names)}"
+            tip = f"did you mean {like[-1]}?" if like else f"expected {what}: {', '.join(names)}"
             raise Wrong(reader.at, f"{reader.here()}: {tip}")
         reader.at += len(word)
         return word
