@@ -32,8 +32,8 @@ front() {
     local fault unproved compiled begun first fresh=$work/fresh
     has_python ./psci || return 0
     fault=$(cat tests/scripts/lines/event-of-no-form.err)$'\n'$(cat tests/texts/event-of-no-form.told)
-    unproved="psci: nothing of this run is proved; ./psci prove proves and builds the program"
-    compiled="psci: compiling it, which takes about a minute and is kept for the next run"
+    unproved="psci: this run is unproved; ./psci prove proves and builds the program"
+    compiled="psci: compiling it takes about a minute; the program is kept for the next run"
     front_of . replay
     expect "./psci replay" 3 "$fault"
     answers "./psci replay"
@@ -161,7 +161,7 @@ replaying() {
     answers "./psci replay by the program that only replays"
     touch -d "1 minute" "$fresh/crates/psci_machine/src/lib.rt"
     PATH=$fresh/kit/bin:$PATH front_of "$fresh" replay
-    if head -n 1 "$work/err" | grep -q "^psci: nothing of this run is proved"; then pass; else
+    if head -n 1 "$work/err" | grep -q "^psci: this run is unproved"; then pass; else
         fail "./psci replay by a program that is older than a source: $(head -n 1 "$work/err")"
     fi
 }
@@ -274,7 +274,7 @@ files_and_streams() {
     ./psci storm --seed 1 --count 1 --keep "$work/none/kept" > "$work/out" 2> "$work/err"
     echo $? > "$work/got"
     expect "./psci storm --keep in no folder" 4 \
-        "write fault"$'\n'"psci: --keep $work/none/kept is not written whole: No such file or directory"
+        "write fault"$'\n'"psci: --keep $work/none/kept is incomplete: No such file or directory"
     for words in "draw examples/late-acknowledgement.psci" "draw --page examples/late-acknowledgement.psci" \
         "storm --seeds 1..3 --count 5" "show --changes examples/late-acknowledgement.psci" --help "help draw" \
         "replay examples/late-acknowledgement.psci" "plain examples/late-acknowledgement.psci" \
@@ -300,18 +300,18 @@ lacking() {
     mkdir -p "$room"
     PATH=$room ./psci help > "$work/out" 2> "$work/err"
     echo $? > "$work/got"
-    expect "./psci without python3" 1 "psci: there is no python3 here, which ./psci is written in (3.9 or later)"
+    expect "./psci without python3" 1 "psci: ./psci needs python3 (3.9 or later), which is not here"
     ln -s "$(python3 -c 'import sys; print(sys.executable)')" "$room/python3"
     PATH=$room ./psci --unproved replay examples/lost-message.psci > "$work/out" 2> "$work/err"
     echo $? > "$work/got"
     sed -i 1d "$work/err"
-    expect "./psci without rt" 1 "psci: no program is proved here, and to make one needs the Rattle kit's command rt \
-on the path. README says what one has without the kit"
+    expect "./psci without rt" 1 "psci: no proved program is here, and building one needs the Rattle kit's command rt \
+on the path. README says what works without the kit"
     XDG_CACHE_HOME=/dev/null/cache ./psci --unproved replay examples/lost-message.psci > "$work/out" 2> "$work/err"
     echo $? > "$work/got"
     sed -i 1,2d "$work/err"
-    expect "./psci without a cache" 1 "psci: what is compiled is kept in /dev/null/cache/gumdarts/unproved: Not a directory; \
-XDG_CACHE_HOME names another folder"
+    expect "./psci without a cache" 1 "psci: cannot keep the compiled program in /dev/null/cache/gumdarts/unproved: Not a directory; \
+set XDG_CACHE_HOME to another folder"
     PATH=$room XDG_CACHE_HOME=/dev/null/cache "$room/python3" "$top/psci" plain examples/lost-message.psci > "$work/out"
     cp examples/lost-message.psci "$work/lines"
     answers "./psci plain, which needs neither git nor a cache"
@@ -322,8 +322,8 @@ XDG_CACHE_HOME names another folder"
         examples/lost-message.psci' sh "$work/full" > "$work/out" 2> "$work/err"
     echo $? > "$work/got"
     sed -i 1,2d "$work/err"
-    expect "./psci with a full cache" 1 "psci: what is compiled is kept in $work/full/gumdarts/unproved: No space left on \
-device; XDG_CACHE_HOME names another folder"
+    expect "./psci with a full cache" 1 "psci: cannot keep the compiled program in $work/full/gumdarts/unproved: No space left on \
+device; set XDG_CACHE_HOME to another folder"
 }
 
 # Where things come from, as README says it: the standards by title, the kit, how a fault is reported, and the least
@@ -362,7 +362,7 @@ END
 
 # closed_or_full NAME STATUS FILE REASON: a write fault was told, with the file and why
 closed_or_full() {
-    if [ "$2" = 4 ] && [ "$(cat "$work/err")" = "write fault"$'\n'"psci: $3 is not written whole: $4" ]; then pass; else
+    if [ "$2" = 4 ] && [ "$(cat "$work/err")" = "write fault"$'\n'"psci: $3 is incomplete: $4" ]; then pass; else
         fail "$1 (status $2): $(head -n 2 "$work/err")"
     fi
 }
