@@ -62,7 +62,7 @@ class Lists:
     @staticmethod
     def gather(words, folder):
         if not os.path.isfile(words.payload):
-            raise Wrong(f"there is no {words.payload}; make -C hosts/payload builds it")
+            raise Wrong(f"no {words.payload}; make -C hosts/payload builds it")
         shutil.copy(words.payload, f"{folder}/payload.bin")
         return ["payload.bin"]
 
