@@ -232,7 +232,7 @@ class Description:
         for word in self.words:
             yield f"word {word.word:#010x} {' '.join(map(str, self.rows[word.word]))}"
         yield " ".join(["functions", *functions])
-        yield from (f"# not told: {it}" for it in dict.fromkeys(self.unknown))
+        yield from (f"# not in the tree: {it}" for it in dict.fromkeys(self.unknown))
         yield from (f"# odd: {it}" for it in dict.fromkeys(self.facts.odd))
 
     def text(self):
