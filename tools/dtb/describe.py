@@ -260,4 +260,4 @@ def described(data, boot=None, ranges=(), method="psci"):
             text = Description(Facts(data, method), boot, ranges, True).text()
         return text
     except Fault as fault:
-        raise NoBoard(f"it is no device tree that can be read: {fault}") from fault
+        raise NoBoard(f"not a readable device tree: {fault}") from fault
