@@ -184,7 +184,7 @@ wording() {
         # shellcheck disable=SC2086
         PATH=$(dirname "$(type -P python3)"):/usr/bin:/bin ./psci --unproved $word > "$work/out" 2> "$work/err"
         if [ -s "$work/out" ] || [ -s "$work/err" ]; then pass; else fail "./psci $word says nothing"; fi
-        if grep -q "nothing of this run" "$work/err"; then fail "./psci $word runs the program"; fi
+        if grep -q "this run is unproved" "$work/err"; then fail "./psci $word runs the program"; fi
     done
     processor_time
     took=$((spent - begun)) begun=$spent
