@@ -274,7 +274,7 @@ files_and_streams() {
     ./psci storm --seed 1 --count 1 --keep "$work/none/kept" > "$work/out" 2> "$work/err"
     echo $? > "$work/got"
     expect "./psci storm --keep in no folder" 4 \
-        "write fault"$'\n'"psci: --keep $work/none/kept is incomplete: No such file or directory"
+        "write fault"$'\n'"psci: --keep $work/none/kept was not written completely: No such file or directory"
     for words in "draw examples/late-acknowledgement.psci" "draw --page examples/late-acknowledgement.psci" \
         "storm --seeds 1..3 --count 5" "show --changes examples/late-acknowledgement.psci" --help "help draw" \
         "replay examples/late-acknowledgement.psci" "plain examples/late-acknowledgement.psci" \
@@ -362,7 +362,7 @@ END
 
 # closed_or_full NAME STATUS FILE REASON: a write fault was told, with the file and why
 closed_or_full() {
-    if [ "$2" = 4 ] && [ "$(cat "$work/err")" = "write fault"$'\n'"psci: $3 is incomplete: $4" ]; then pass; else
+    if [ "$2" = 4 ] && [ "$(cat "$work/err")" = "write fault"$'\n'"psci: $3 was not written completely: $4" ]; then pass; else
         fail "$1 (status $2): $(head -n 2 "$work/err")"
     fi
 }
@@ -460,7 +460,7 @@ long_boards() {
     echo $? > "$work/got"
     sed -i '2,$d' "$work/err"
     expect "a kept storm on a board of $((${#board} + 1)) bytes" 2 \
-        "psci: word 8: --keep is a script, and takes a board of 250 bytes: this has $((${#board} + 1))"
+        "psci: word 8: --keep writes a script, whose board has at most 250 bytes: this has $((${#board} + 1))"
     [ "${#board}" = 250 ] || fail "the longest board of the test has ${#board} bytes"
 }
 

@@ -233,7 +233,7 @@ def not_written(keep=None, fault=None):
         return 128 + signal.SIGPIPE
     if keep is not None and why is None:
         name, why = f"--keep {keep}", reason_of(keep)
-    complain(f"write fault\npsci: {name} is incomplete: {why or 'the file takes no more'}\n")
+    complain(f"write fault\npsci: {name} was not written completely: {why or 'the file takes no more'}\n")
     return 4
 
 
