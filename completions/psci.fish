@@ -27,7 +27,7 @@ complete -c psci -n '__fish_seen_subcommand_from show' -l trace -d 'print a JSON
 complete -c psci -n '__fish_seen_subcommand_from show' -l vcd -d 'print value changes, for wave viewers'
 complete -c psci -n '__fish_seen_subcommand_from show' -l legend -d 'explain letters and marks first'
 complete -c psci -n '__fish_seen_subcommand_from show' -l width -x -d 'the width of lines, 40 or more'
-complete -c psci -n '__fish_seen_subcommand_from show' -l color -x -a 'auto always never' -d 'auto (colour on a terminal unless NO_COLOR is set), always or never'
+complete -c psci -n '__fish_seen_subcommand_from show' -l color -x -a 'auto always never' -d 'auto (color on a terminal unless NO_COLOR is set), always or never'
 complete -c psci -n '__fish_seen_subcommand_from show' -l from -x -d 'begin with event N'
 complete -c psci -n '__fish_seen_subcommand_from show' -l to -x -d 'end with event N'
 complete -c psci -n '__fish_seen_subcommand_from show' -l cores -x -d 'only these cores, as 0-3,8, the domains above them, and their events'

@@ -18,7 +18,7 @@ from .running import write
 
 BOARD = "(2 2) exec 0x40000000-0x40100000 boot 0x40000000 starts 1000 lives 3"
 STATUS = """Exit status: 0 done, 1 not proved or not run, 2 wrong command line, 3 wrong script, record or machine,
-4 read or write failed, 5 out of memory, 6 threads, a port or a seed differ, 7 undecided, unfinished or no event
+4 read or write failed, 5 out of memory, 6 threads at fault, or a port or seed differs, 7 undecided, unfinished or no event
 """
 MINUTES = "Times are for a first run on four processors with 3 GiB each."
 COMMAND_FAULT = 2
@@ -265,7 +265,7 @@ def show():
     words.flag("--legend", help="explain letters and marks first")
     words.add_argument("--width", metavar="COLUMNS", type=number(0, 65535), help="the width of lines, 40 or more")
     words.add_argument("--color", metavar="WHEN", type=one_of("auto", "always", "never"), default="auto",
-                       help="auto (colour on a terminal unless NO_COLOR is set), always or never")
+                       help="auto (color on a terminal unless NO_COLOR is set), always or never")
     view(words)
     words.rule(lambda it: it.clock and not (it.trace or it.vcd), "--clock", "goes with --trace or --vcd")
     machine(words)
