@@ -18,7 +18,8 @@ from .running import write
 
 BOARD = "(2 2) exec 0x40000000-0x40100000 boot 0x40000000 starts 1000 lives 3"
 STATUS = """Exit status: 0 done, 1 not proved or not run, 2 wrong command line, 3 wrong script, record or machine,
-4 read or write failed, 5 out of memory, 6 threads at fault, or a port or seed differs, 7 undecided, unfinished or no event
+4 read or write failed, 5 out of memory, 6 threads at fault, or a port or seed differs,
+7 undecided, unfinished or no event
 """
 MINUTES = "Times are for a first run on four processors with 3 GiB each."
 COMMAND_FAULT = 2
@@ -225,14 +226,16 @@ def storm_of(words, seeds_too):
     words.flag("--counts", help="print one more line for each tally, or for each core")
     words.add_argument("--keep", metavar="FILE", help="write the run to FILE, as a script")
     words.rule(lambda it: it.keep and it.board and len(it.board.encode(errors="replace")) > MOST_OF_BOARD, "--keep",
-               lambda it: f"writes a script, whose board has at most {MOST_OF_BOARD} bytes: this has {len(it.board.encode())}")
+               lambda it: f"writes a script, whose board has at most {MOST_OF_BOARD} bytes: this has "
+                          f"{len(it.board.encode())}")
 
 
 def storm():
     words = Words("storm", "Makes random events on a board, then lets it settle. The same seed makes the same storm.",
                   "(--seed N | --seeds FIRST..LAST) --count N [--board TEXT] [--counts] [--keep FILE]")
     storm_of(words, seeds_too=True)
-    words.add_argument("--seeds", metavar="FIRST..LAST", type=seeds, help="make a storm of each seed, with a line for each")
+    words.add_argument("--seeds", metavar="FIRST..LAST", type=seeds,
+                       help="make a storm of each seed, with a line for each")
     words.rule(lambda it: it.seed is None and it.seeds is None, "--seed", "or --seeds is missing")
     for name in ("seed", "counts", "keep"):
         words.rule(lambda it, name=name: it.seeds and getattr(it, name) not in (None, False), f"--{name}",
@@ -293,7 +296,8 @@ def serve():
 
 
 def plain():
-    words = Words("plain", "Turns the calls by name of a script into calls by register, line for line.", "[--machine FILE] [FILE]",
+    words = Words("plain", "Turns the calls by name of a script into calls by register, line for line.",
+                  "[--machine FILE] [FILE]",
                   "On a board (2 2) it turns `call 0 CPU_ON 3 0x40001000 0x7` into `call 0 0xC4000003 0x101 0x40001000 0x7`.\n"
                   "docs/FORMATS.md has every name.\n")
     machine(words)
@@ -320,7 +324,8 @@ def prove():
                   "prove all    the program of every command: 20 to 30 minutes\n"
                   "prove lib    the C library, into out/lib; with --unproved in a minute, marked as unproved\n\n"
                   f"{MINUTES}\n")
-    words.add_argument("what", metavar="WHAT", nargs="?", type=one_of("all", "lib"), help="all or lib; the program of replay if left out")
+    words.add_argument("what", metavar="WHAT", nargs="?", type=one_of("all", "lib"),
+                       help="all or lib; the program of replay if left out")
     words.add_argument("--target", metavar="MACHINE", type=one_of("x86_64", "aarch64"),
                        help="for lib: x86_64 or aarch64")
     words.flag("--unproved", help="for lib: compile it without a proof, into out/lib/MACHINE-unproved")
@@ -350,7 +355,8 @@ def help_text():
     return ("Power firmware whose answers are proved: runs scripts of PSCI calls.\n\n"
             "Usage: psci [--unproved] COMMAND [OPTIONS] [FILE]\n\n"
             f"Commands:\n{rows}  help     print this, or the help of a command: psci help show\n\n"
-            "Before a command:\n  --unproved    run an unproved program, even if a proved one is there\n  --version     print the version\n\n"
+            "Before a command:\n  --unproved    run an unproved program, even if a proved one is there\n"
+            "  --version     print the version\n\n"
             "A script is read from FILE, or from standard input; its calls have registers or names.\n\n"
             f"{STATUS}")
 
