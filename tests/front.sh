@@ -115,7 +115,7 @@ served() {
     fi
     if tests/served "$program" "$room" planted > "$work/out" 2>&1; then
         fail "tests/served lets a limit of memory through that no program fits"
-    elif grep -q "the program failed, and not the script" "$work/out"; then pass; else
+    elif grep -q "the program failed, not the script" "$work/out"; then pass; else
         fail "tests/served, planted: $(head -n 1 "$work/out")"
     fi
 }
