@@ -1,7 +1,7 @@
 -- Worked examples of what the power controller keeps, row by row. Two clusters of two cores; core 3
 -- was started twice, by a wake-up, and its cluster is in retention.
 use Rattle.std.proofs.Common.{◌≡◌, ℕ, ◌+◌, ◌*◌, List, [], ◌∷◌, map, Some, true, false, refl, ap}
-use Rattle.std.proofs.Common.{arith}
+use Rattle.std.proofs.Common.{◌++◌, arith}
 use Rattle.psci_board.proofs.Tables.{◌⇒◌, Gives}
 use Rattle.psci_board.specs.Board.{BoardValue, up}
 use Rattle.psci_board.specs.declared.node.Node.{Node}
@@ -146,6 +146,11 @@ rows_of clusters system = row_of_cores ∷ clusters ∷ system ∷ []
 
 level_is_missing : HasRows board (row_of_cores ∷ (at 0 1 ∷ at 2 2 ∷ []) ∷ []) → ⊥
 level_is_missing h = let e : ◌≡◌ {A = ℕ} 2 3 = h.levels in omega arith
+
+-- one more above the system, while each level of the board has its rows
+level_too_many :
+    HasRows board (rows_of (at 0 1 ∷ at 2 2 ∷ []) (at 0 3 ∷ []) ++ (at 0 3 ∷ []) ∷ []) → ⊥
+level_too_many h = let e : ◌≡◌ {A = ℕ} 4 3 = h.levels in omega arith
 
 cluster_is_missing : HasRows board (rows_of (at 0 1 ∷ []) (at 0 3 ∷ [])) → ⊥
 cluster_is_missing h = let e : ◌≡◌ {A = ℕ} 1 2 = h.places 1 (omega arith) in omega arith

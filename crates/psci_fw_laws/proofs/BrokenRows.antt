@@ -1,7 +1,7 @@
 -- Worked examples: what is outstanding, who has entered, the limits and messages, each clause with
 -- a state that breaks it.
 use Rattle.std.proofs.Common.{◌≡◌, ◌+◌, ℕ, true, false, [], ◌∷◌, Option, None, Some, refl, arith}
-use Rattle.std.proofs.Common.{List}
+use Rattle.std.proofs.Common.{◌==◌, if◌then◌else◌, List}
 use Rattle.psci_messages.specs.declared.kind.Kind.TheVariants.{Down, Start, Off}
 use Rattle.psci_messages.specs.Message.{MessageValue}
 use Rattle.psci_messages.specs.Slots.{Slot, OfCore, OfSystem}
@@ -95,14 +95,21 @@ not_entered = (
 
 -- Limits --------------------------------------------------------------------------------------
 
+-- so many starts of core 3, and none of another
+abbrev of_core_3 : ℕ → ℕ → ℕ
+of_core_3 starts c = if c == 3 then starts else 0
+
 beyond_limits :
-    -- a fourth life, start 1001, and a sum of 4001 starts
+    -- a fourth life; start 1001 of each core, and of core 3 alone, so that no sum is too large
     (AreWithin board 4 (each 0) [] → ⊥)
     × (AreWithin board 1 (each 1001) [] → ⊥)
+    × (AreWithin board 1 (of_core_3 1001) [] → ⊥)
+    -- a message with number 1001, and a part with a sum of 4001 starts
     × (AreWithin board 1 (each 1) (message Start 3 1 1001 [] ∷ []) → ⊥)
     × (AreWithin board 1 (each 1) (message Down 3 1 1 (part 0 3 4001 ∷ []) ∷ []) → ⊥)
 beyond_limits = (
   λ h. omega (arith, h.lives),
+  λ h. omega (arith, h.starts 3),
   λ h. omega (arith, h.starts 3),
   λ h. omega (arith, h.number 0 (message Start 3 1 1001 []) refl),
   λ h. omega (arith, h.generation 0 0 _ (part 0 3 4001) refl refl),
