@@ -146,8 +146,8 @@ el3_words() {
     local tool
     mkdir -p "$work/few"
     for tool in bash dirname env; do ln -sf "$(command -v $tool)" "$work/few/$tool"; done
-    el3_says "run: there is no qemu-system-aarch64 aarch64-linux-gnu-gcc make dtc python3 apt-get here" each
-    el3_says "run: there is no option --fast; --help lists them" --fast
+    el3_says "run: missing qemu-system-aarch64 aarch64-linux-gnu-gcc make dtc python3 apt-get" each
+    el3_says "run: unknown option --fast; see --help" --fast
 }
 
 # can_boot: whether there is what a machine at EL3 wants: tools, a built archive, and what was downloaded before

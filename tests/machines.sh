@@ -43,12 +43,12 @@ named_machines() {
     local record=$work/named/run.record beside
     mkdir -p "$work/named"
     { cat "$work/words.record"; echo "# machine machine.machine"; } > "$record"
-    compared 3 "it has the words of the machine machine.machine: --machine takes the text of that" "$record"
+    compared 3 "its calls are those of the machine machine.machine: give its text by --machine" "$record"
     compared 0 "22 events are answered as by" "$record" --machine tests/records/machine.machine
     for beside in "$record.machine" "$work/named/machine.machine"; do
         cp tests/records/machine.machine "$beside"
         compared 0 "22 events are answered as by" "$record"
-        compared 0 "has the words of the machine machine.machine: $beside" "$record"
+        compared 0 "are those of the machine machine.machine: $beside" "$record"
         rm "$beside"
     done
 }

@@ -150,9 +150,9 @@ tfa_words() {
     tfa_guide "$tfa_2_12" 29
     tfa_calls
     tfa_versions
-    tfa_says "run: there is no release buster; there are bookworm, trixie, trixie-backports and sid" --release buster
-    tfa_says "run: there is no qemu-system-aarch64 aarch64-linux-gnu-gcc" each
-    tfa_says "run: there is no option --fast; --help lists them" --fast
+    tfa_says "run: unknown release buster; expected bookworm, trixie, trixie-backports or sid" --release buster
+    tfa_says "run: missing qemu-system-aarch64 aarch64-linux-gnu-gcc" each
+    tfa_says "run: unknown option --fast; see --help" --fast
 }
 
 # has_for_tfa WHAT CACHE: whether there is what builds and boots TF-A, of downloads in this folder

@@ -233,7 +233,7 @@ class Description:
         for word in self.words:
             yield f"word {word.word:#010x} {' '.join(map(str, self.rows[word.word]))}"
         yield " ".join(["functions", *functions])
-        yield from (f"# not told: {it}" for it in dict.fromkeys(self.unknown))
+        yield from (f"# not in the tree: {it}" for it in dict.fromkeys(self.unknown))
         yield from (f"# odd: {it}" for it in dict.fromkeys(self.facts.odd))
 
     def text(self):
@@ -261,4 +261,4 @@ def described(data, boot=None, ranges=(), method="psci"):
             text = Description(Facts(data, method), boot, ranges, True).text()
         return text
     except Fault as fault:
-        raise NoBoard(f"it is no device tree that can be read: {fault}") from fault
+        raise NoBoard(f"not a readable device tree: {fault}") from fault

@@ -75,11 +75,11 @@ def read(path):
             try:
                 setters[word](value.strip())
             except (KeyError, ValueError):
-                raise Wrong(f"{path}: line {number}: no line of a profile has this form") from None
+                raise Wrong(f"{path}: line {number}: not a line of a profile") from None
             except Fault as fault:
                 raise Wrong(f"{path}: line {number}: {str(fault).removeprefix('line 1: ')}") from None
     if profile.board is None:
-        raise Wrong(f"{path}: it has no line 'board'")
+        raise Wrong(f"{path}: missing line 'board'")
     return profile
 
 

@@ -35,6 +35,6 @@ def fault_of(said, status, found):
         expected = f"; expected `{found[4]}`" if found[4] else ""
         return fault(f"{match[2]}, column {found[2] + 1}: {found[3]}{expected}", int(match[1]))
     if (status, said) == (NO_MEMORY, "out of memory\n"):
-        return fault("the run needs more memory than it may have here: it stops after the last event that fitted")
+        return fault("the run needs more memory than is allowed here: it stops after the last event that fitted")
     how = f"with status {status}" if status > 0 else f"by signal {-status}"
-    return fault(f"the program failed, and not the script: it ended {how}. The terminal of psci try has what it said")
+    return fault(f"the program failed, not the script: it ended {how}. See the terminal of psci try")
