@@ -504,7 +504,7 @@ unheeded() {
 c_rules() {
     local name
     if tests/tried > "$work/out"; then pass; else
-        fail "the table of docs/PORTING.md"
+        fail "hosts/tried.txt"
         cat "$work/out"
     fi
     has_cc "the rules of a port" || return

@@ -17,7 +17,7 @@ recounted() {
 overlooked() {
     rm -rf "$work/pages"
     mkdir -p "$work/pages/docs"
-    cp docs/COSTS.md docs/PORTING.md docs/TFA.md "$work/pages/docs"
+    cp docs/COSTS.md docs/REFERENCE.md docs/TFA.md "$work/pages/docs"
     sed -i "$3" "$work/pages/docs/$2"
     if cmp -s "docs/$2" "$work/pages/docs/$2"; then fail "docs/$2 has no such line: $3"; return; fi
     recounted "$1" "$work/figures" --pages "$work/pages" -- "$4"
@@ -55,8 +55,8 @@ figures() {
     overlooked "a call is not there" COSTS.md '/^| SYSTEM_SUSPEND, stops |/d' 'SYSTEM_SUSPEND, stops: docs/COSTS.md does not say'
     overlooked "a call that there is not" COSTS.md 's/^| CPU_OFF, stops |/| CPU_GONE, stops |/' 'CPU_GONE, stops: .* there is none'
     overlooked "a turn takes less" COSTS.md 's/^\(| SYSTEM_SUSPEND, wake-up | \)[0-9,]*/\1600/' 'wake-up, 4 cores: .* says 600'
-    overlooked "a stack is smaller" PORTING.md 's/^| `psci_close` | [0-9,]*/| `psci_close` | 432/' '`psci_close`, x86-64: .* says 432'
-    overlooked "memory is less" PORTING.md 's/^| `(2 2)` | [0-9,]*/| `(2 2)` | 2,849/' '`(2 2)`, kept, bytes: .* says 2,849'
+    overlooked "a stack is smaller" REFERENCE.md 's/^| `psci_close` | [0-9,]*/| `psci_close` | 432/' '`psci_close`, x86-64: .* says 432'
+    overlooked "memory is less" REFERENCE.md 's/^| `(2 2)` | [0-9,]*/| `(2 2)` | 2,849/' '`(2 2)`, kept, bytes: .* says 2,849'
     for tool in 2.8 2.12; do
         if grep -qF "SYSTEM_SUSPEND, wake-up: TF-A $tool\", null" "$work/figures/fixed"; then
             skip "the turns of TF-A $tool" "source package of it, or no gcc 12.2,"
@@ -72,4 +72,26 @@ figures() {
         'CPU_SUSPEND, OS-initiated on 2x2, board: .* and the stored list comes to 428'
     unseen "a bound without what calls itself" bounds 's/^\(\["psci_close", {"x86-64": \)[0-9]*/\1432/' \
         'psci_close: [0-9]* bytes of stack were taken, and the code is said to take 432'
+}
+
+# What the page says of the program and of a firmware that threads share is so; a table with another figure, and one with
+# a row that the page has not, are refused
+program_figures() {
+    local edit
+    has_python "the figures of the program" || return
+    command -v valgrind > /dev/null || { skip "the figures of the program" valgrind; return; }
+    if bench/program --keep "$work/counted" > "$work/out" 2>&1 && bench/program --compare "$work/counted" > "$work/out" 2>&1; then
+        pass
+    else
+        fail "the figures of the program; bench/program --write writes them"
+        head -n 20 "$work/out"
+    fi
+    [ -f "$work/counted" ] || return
+    for edit in '/"instructions a line"/{n;s/[0-9]/&9/}' 's/sixteen clusters of 16/sixteen clusters of 15/' \
+        '/"`(2 2)`"/{n;s/[0-9]/&0/}'; do
+        sed "$edit" "$work/counted" > "$work/edited"
+        if cmp -s "$work/counted" "$work/edited" || bench/program --compare "$work/edited" > "$work/out" 2>&1; then
+            fail "bench/program lets this through: $edit"
+        else pass; fi
+    done
 }

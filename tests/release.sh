@@ -28,7 +28,7 @@ release() {
             lib/x86_64/pkgconfig/psci.pc lib/aarch64/pkgconfig/psci{,-strict-align}.pc \
             share/man/man1/psci.1 share/bash-completion/completions/psci include/psci{,_ctl,_heap}.h \
             share/zsh/site-functions/_psci share/fish/vendor_completions.d/psci.fish \
-            share/doc/gumdarts/{FORMATS,PORTING,BOARDS,CHANGELOG}.md examples/host/{README,loop.c,pool.c,pool.h}
+            share/doc/gumdarts/{FORMATS,PORTING,REFERENCE,BOARDS,CHANGELOG}.md examples/host/{README,loop.c,pool.c,pool.h}
         git ls-files examples | grep -E '^examples/[^/]*\.(psci|out)$|^examples/boards/.*\.(machine|calls|answers)$'
     } | LC_ALL=C sort > "$work/lines"
     answers "the files of the archive"

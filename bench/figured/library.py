@@ -9,7 +9,7 @@ from figured.pages import TOP, Sentence, Table, grouped
 sys.path.insert(0, f"{TOP}/tools")
 from sources import KIT
 
-PAGE = "docs/PORTING.md"
+PAGE = "docs/REFERENCE.md"
 # the columns of the table of code: what each is called, and its archive
 COLUMNS = {
     "x86-64": "x86_64/libpsci_ffi.a",
@@ -98,9 +98,12 @@ class Archives:
 
 
 def stack_table(bounds, stepped):
-    """The bound of each call in each archive, and what was seen of it at most."""
-    return Table(PAGE, STACK, [[f"`{name}`", *(grouped(most[it]) for it in COLUMNS), grouped(stepped.get(name, 0))]
-                               for name, most in sorted(bounds.items())])
+    """The bound of each call in each archive, and what was seen of it at most. Calls of the same figures share a row."""
+    rows = {}
+    for name, most in sorted(bounds.items()):
+        figures = (*(grouped(most[it]) for it in COLUMNS), grouped(stepped.get(name, 0)))
+        rows.setdefault(figures, []).append(f"`{name}`")
+    return Table(PAGE, STACK, [[", ".join(names), *figures] for figures, names in rows.items()])
 
 
 def sentences(bounds):

@@ -1,10 +1,7 @@
-//! Words and numbers, and board texts whose answers are known; the layers stand on each board,
-//! where there is memory. `tests/growths` refuses each growth in turn.
+//! Boards are read and copied, and the layers stand on each, where there is memory. `tests/growths`
+//! refuses each growth in turn.
 
-ghost use Rattle.std.specs.Prelude.{IsTrue};
-ghost use Rattle.psci_board.specs.Board.{HasNodeIn};
-
-use psci_board::{Board, Core, CoreSpan, Node, hex, literal, number};
+use psci_board::Board;
 use psci_ctl::Controller;
 use psci_messages::Slots;
 use psci_tree::Tree;
@@ -68,26 +65,6 @@ const BOARDS: [(&str, u32, u16); 17] = [
     (LARGEST, 3, 256),
 ];
 
-/// Whether the board has a node.
-pub fn has(board: &Board, node: Node) -> bool
-    ensures { IsTrue result → HasNodeIn board.now.levels node }
-{
-    board.cores_below(node).is_some()
-}
-
-#[test]
-fn words_and_numbers(rt: HostRuntime) {
-    let text = b"call 18446744073709551615 0x00000000fFfFfFfF";
-    let read = literal(text, b"call ").and_then(|rest| number(rest));
-    assert!(rt; matches!(read, Some((u64::MAX, b" 0x00000000fFfFfFfF"))));
-    assert!(rt; matches!(hex(b"0x00000000fFfFfFfF 1"), Some((0xffff_ffff, b" 1"))));
-    assert!(rt; literal(b"cal", b"call").is_none());
-    assert!(rt; number(b"18446744073709551616").is_none());
-    assert!(rt; number(b"00").is_none());
-    assert!(rt; hex(b"0X1").is_none());
-    assert!(rt; hex(b"0x00000000000000000").is_none());
-}
-
 /// The layers stand on a board.
 fn layers_stand(rt: &impl Abort, alloc: Global, text: &str, board: &Board) {
     assert!(rt; Tree::new(alloc, board).is_ok(), "{text}");
@@ -110,25 +87,5 @@ fn boards_are_read_and_copied(rt: HostRuntime) -> Result<(), Fail> {
         (board.boot(), board.start_limit(), board.life_limit()),
         (0x4000_0000, 1000, 3)
     );
-    Ok(())
-}
-
-#[test]
-fn cores_spans_and_parents(rt: HostRuntime) -> Result<(), Fail> {
-    let text = "((1 2) (3)) exec 0x40000000-0x40100000 boot 0x40000000 starts 1 lives 1";
-    let copy = Board::read(rt.alloc(), text)?.copy(rt.alloc())?;
-    assert_eq!(rt; copy.core_of(0x10002), Some(Core { number: 5 }));
-
-    let text = "((1 3) (2 1 4)) exec 0x0-0x1 boot 0x0 starts 1 lives 1";
-    let board = Board::read(rt.alloc(), text)?;
-    let group = Node { level: 2, place: 1 };
-    let cluster = Node { level: 1, place: 4 };
-    let span = CoreSpan { first: 4, count: 7 };
-    assert_eq!(rt; board.cores_below(group), Some(span));
-    let span = CoreSpan { first: 7, count: 4 };
-    assert_eq!(rt; board.cores_below(cluster), Some(span));
-    assert_eq!(rt; board.parent(cluster), Some(group));
-    assert_eq!(rt; board.child_number(cluster), Some(2));
-    assert_eq!(rt; (board.nodes(1), board.nodes(3), board.nodes(4)), (5, 1, 0));
     Ok(())
 }

@@ -1,13 +1,9 @@
-//! Scripts replayed between devices in memory that give little, stop and fail, with every kind of
-//! event, and whole: many messages, many cores and many events.
+//! Scripts replayed between devices in memory that give little, stop and fail.
 
 use crate::devices::{Page, Script};
 use crate::scripts::{CUT, ENTRY, FIRST, FIRST_TEXT, MESSAGE_TEXT, MESSAGES, SCRIPT, TEXT, WHOLE};
 use psci_answers::{ReplayFault, Replayed, ScriptFault, replay};
-use std::alloc::{AllocError, Global};
-
-/// How many calls the long script has after its entry.
-const CALLS: usize = 10_001;
+use std::alloc::Global;
 
 /// A script, how its devices behave, and what comes of it. Bytes come and go one by one.
 #[derive(Clone, Copy)]
@@ -151,29 +147,4 @@ fn scripts_are_replayed(rt: HostRuntime) {
     for wanted in &REPLAYS {
         assert!(rt; is_replayed(rt.alloc(), wanted), "{}", wanted.name);
     }
-}
-
-#[test]
-fn ten_thousand_events(rt: HostRuntime) -> Result<(), AllocError> {
-    let mut bytes = Vec::new(rt.alloc());
-    bytes.extend_from_slice(b"board 1 exec 0x0-0x4 boot 0x0 starts 1 lives 1\nenter 0\n")?;
-    for _ in 0..CALLS {
-        bytes.extend_from_slice(b"call 0 0\n")?;
-    }
-    let mut script = Script::new(bytes.as_slice());
-    script.most = 4096;
-    let mut page = Page::new(rt.alloc());
-    page.most = 4096;
-    page.room = 1_000_000;
-    let ended = replay(rt.alloc(), &mut script, &mut page);
-    let answer = Ok(Replayed {
-        lines: 10_003,
-        events: 10_002,
-    });
-    assert_eq!(rt; ended, answer);
-    let lines = page.taken.iter().filter(|byte| **byte == b'\n').count();
-    assert_eq!(rt; lines, 10_002);
-    assert!(rt; page.taken.starts_with(b"1 enter 0x0 0x0\n2 return -1\n"));
-    assert!(rt; page.taken.ends_with(b"10001 return -1\n10002 return -1\n"));
-    Ok(())
 }

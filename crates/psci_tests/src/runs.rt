@@ -1,9 +1,8 @@
-//! Runs over lists of events, and a machine that takes single events.
+//! A run has a record for each event.
 
 use psci_abi::Regs;
-use psci_board::{Board, Core};
-use psci_machine::Machine;
-use psci_world::{Act, Event, Place, Said, run};
+use psci_board::Board;
+use psci_world::{Event, Said, run};
 use std::test::Fail;
 
 /// Two clusters of two cores, of which each may be started three times in each of two lives.
@@ -48,29 +47,5 @@ fn runs_have_a_record_for_each_event(rt: HostRuntime) -> Result<(), Fail> {
     }
     let last = records.last().map(|record| record.said.copy());
     assert!(rt; matches!(last, Some(Said::Acked { index: 1, ack }) if ack.applied == 2));
-    Ok(())
-}
-
-/// Whether the core is there.
-fn is_at(machine: &Machine, number: u16, place: Place) -> bool {
-    number < machine.controller().board().cores() && machine.place(Core { number }) == place
-}
-
-#[test]
-fn machines_step(rt: HostRuntime) -> Result<(), Fail> {
-    let board = Board::read(rt.alloc(), BOARD)?;
-    let mut machine = Machine::new(rt.alloc(), &board)?;
-    assert!(rt; is_at(&machine, 0, Place::Started) && is_at(&machine, 3, Place::Stopped));
-    assert!(rt; matches!(machine.step(Event::Wake(3), &[], &[]), Said::Kick(_)));
-    assert!(rt; matches!(machine.step(Event::Wake(3), &[], &[]), Said::Ignored));
-    assert!(rt; matches!(machine.step(Event::Take(0), &[], &[]), Said::Absent));
-    let entered = machine.step(Event::Enter(0), &[], &[]);
-    let boots = Act::Enter {
-        address: 0x4000_0000,
-        context: 0,
-    };
-    assert!(rt; matches!(entered, Said::Fw { act, sent: None } if act == boots));
-    assert!(rt; is_at(&machine, 0, Place::Running) && is_at(&machine, 3, Place::Started));
-    assert_eq!(rt; machine.firmware().life(), Some(1));
     Ok(())
 }

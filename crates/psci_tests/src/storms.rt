@@ -2,7 +2,7 @@
 
 use crate::worlds::agrees;
 use psci_board::Board;
-use psci_storm::{Answer, Settled, Storm, TALLIES, Tally, blow, count, storm};
+use psci_storm::{Answer, Settled, TALLIES, Tally, blow, count};
 use psci_world::World;
 use std::process::Abort;
 use std::test::Fail;
@@ -57,18 +57,6 @@ fn is_tall(tally: Tally) -> bool {
         Answer::Acked { applied, .. } => applied > 3,
         _ => false,
     }
-}
-
-#[test]
-fn no_event_is_drawn(rt: HostRuntime) -> Result<(), Fail> {
-    let board = Board::read(rt.alloc(), BOARD)?;
-    let calm = Storm {
-        events: 1,
-        sent: 0,
-        settled: Settled::Quiet(0),
-    };
-    assert_eq!(rt; storm(rt.alloc(), &board, 1, 0)?, calm);
-    Ok(())
 }
 
 /// All tallies. Named here alone, since the prover reads the whole table wherever it is named.

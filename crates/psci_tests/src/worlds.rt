@@ -6,6 +6,7 @@ use psci_fw::Firmware;
 use psci_machine::Machine;
 use psci_world::{Event, Place, Settled, World, settle};
 use std::alloc::Global;
+use std::process::Abort;
 use std::test::Fail;
 
 /// Two clusters of two cores.
@@ -243,12 +244,12 @@ fn first_unanswered(alloc: Global, steps: &[Step]) -> Result<Option<usize>, Fail
 }
 
 #[test]
-fn worlds_are_read_and_settle(rt: HostRuntime) -> Result<(), Fail> {
+fn worlds_are_read_settle_and_stand(rt: HostRuntime) -> Result<(), Fail> {
     for story in &STORIES {
         let wrong = first_unanswered(rt.alloc(), story.1)?;
         assert_eq!(rt; wrong, None, "{}", story.0);
     }
-    Ok(())
+    worlds_stand(&rt, rt.alloc())
 }
 
 /// Boards of each height, and the largest number of cores.
@@ -260,13 +261,13 @@ const BOARDS: [&str; 5] = [
     "((16 16) (16 16)) exec 0x0-0x10 boot 0x0 starts 1 lives 1",
 ];
 
-#[test]
-fn worlds_stand_on_boards_of_each_height(rt: HostRuntime) -> Result<(), Fail> {
+/// On each of these boards a firmware, a machine and a world are made.
+fn worlds_stand(rt: &impl Abort, alloc: Global) -> Result<(), Fail> {
     for text in BOARDS {
-        let board = Board::read(rt.alloc(), text)?;
-        assert!(rt; Firmware::new(rt.alloc(), &board).is_ok(), "{text}");
-        assert!(rt; Machine::new(rt.alloc(), &board).is_ok(), "{text}");
-        assert!(rt; World::new(rt.alloc(), &board).is_ok(), "{text}");
+        let board = Board::read(alloc, text)?;
+        assert!(rt; Firmware::new(alloc, &board).is_ok(), "{text}");
+        assert!(rt; Machine::new(alloc, &board).is_ok(), "{text}");
+        assert!(rt; World::new(alloc, &board).is_ok(), "{text}");
     }
     Ok(())
 }

@@ -49,26 +49,16 @@ mod tests {
     use std::test::*;
 
     #[test]
-    fn passes_call_and_are_gathered(rt: HostRuntime) -> Result<(), Fail> {
+    fn firmware_and_power_controllers_are_shared(rt: HostRuntime) -> Result<(), Fail> {
         assert_eq!(rt; entries_of_firmware(rt.alloc()), Some(0));
         assert_eq!(rt; told(&rt, rt.alloc(), Story::ThreeCalls), Some(true));
         assert_eq!(rt; told(&rt, rt.alloc(), Story::OneIsMissing), Some(true));
         assert_eq!(rt; told(&rt, rt.alloc(), Story::FullBooks), Some(true));
         assert_eq!(rt; told(&rt, rt.alloc(), Story::TooMany), Some(true));
         assert_eq!(rt; told(&rt, rt.alloc(), Story::Statuses), Some(true));
-        Ok(())
-    }
-
-    #[test]
-    fn threads_call_and_poll(rt: HostRuntime) -> Result<(), Fail> {
         assert_eq!(rt; told(&rt, rt.alloc(), Story::TwoThreads(49)), Some(true));
         assert_eq!(rt; told(&rt, rt.alloc(), Story::Polled), Some(true));
         assert_eq!(rt; told(&rt, rt.alloc(), Story::PolledWhileHeld), Some(true));
-        Ok(())
-    }
-
-    #[test]
-    fn power_controllers_are_shared(rt: HostRuntime) -> Result<(), Fail> {
         assert_eq!(rt; entries_of_controller(rt.alloc()), Some(0));
         assert_eq!(rt; told_of_starts(&rt, rt.alloc()), Some(true));
         assert_eq!(rt; told_of_threads(&rt, rt.alloc()), Some(true));
@@ -91,11 +81,6 @@ mod tests {
     #[test]
     fn seeds_are_audited(rt: HostRuntime) -> Result<(), Fail> {
         assert_eq!(rt; travels(&rt, rt.alloc(), BOARD, 20, 200, FLOOR), Ok(true));
-        Ok(())
-    }
-
-    #[test]
-    fn boards_are_audited(rt: HostRuntime) -> Result<(), Fail> {
         assert_eq!(rt; is_audited(&rt, rt.alloc(), TALL, 1, 200), Ok(true));
         assert_eq!(rt; is_audited(&rt, rt.alloc(), ONE, 1, 200), Ok(true));
         assert_eq!(rt; is_audited(&rt, rt.alloc(), LARGE, 1, 50), Ok(true));
@@ -105,17 +90,12 @@ mod tests {
     }
 
     #[test]
-    fn cores_meet_in_threads_alone(rt: HostRuntime) -> Result<(), Fail> {
+    fn the_last_to_come_starts(rt: HostRuntime) -> Result<(), Fail> {
         assert_eq!(rt; met(&rt, rt.alloc(), BOARD), Ok(true));
         assert_eq!(rt; served(rt.alloc(), BOARD, [0, 1], 1), Err(BenchFault::Gate));
         assert_eq!(rt; served(rt.alloc(), BOARD, [1, 0], 1), Err(BenchFault::Gate));
         assert_eq!(rt; served(rt.alloc(), BOARD, [0, 1], 2), Err(BenchFault::Gate));
         assert_eq!(rt; served(rt.alloc(), BOARD, [1, 0], 2), Err(BenchFault::Gate));
-        Ok(())
-    }
-
-    #[test]
-    fn the_last_to_come_starts(rt: HostRuntime) -> Result<(), Fail> {
         assert_eq!(rt; starts_after_the_end(&rt, rt.alloc(), 0), Ok(true));
         assert_eq!(rt; starts_after_the_end(&rt, rt.alloc(), 1), Ok(false));
         Ok(())
