@@ -2,6 +2,8 @@
 # its file, each is built, and Linux and the payload on one of them, by the commit.
 
 places=(sbsa-ref zcu102 raspi3b)
+# by a QEMU that Debian 12 does not have
+newer=(raspi4b)
 
 # what stands where, the lines of each folder, and the table of the page; each board's firmware is compiled
 el3_boards() {
@@ -16,7 +18,7 @@ el3_boards() {
     told_of_board "more than 200" raspi3b '$r hosts/el3/README.md'
     told_of_board "is half in a range" sbsa-ref 's/^range 0x20000000/range 0x20000800/'
     command -v aarch64-linux-gnu-gcc > /dev/null || { skip "compiling boards of hosts/el3" aarch64-linux-gnu-gcc; return; }
-    for name in virt "${places[@]}"; do
+    for name in virt "${places[@]}" "${newer[@]}"; do
         if board_compiles "$name" > "$work/out" 2>&1; then pass; else fail "hosts/el3/boards/$name"; cat "$work/out"; fi
     done
 }
@@ -53,6 +55,27 @@ el3_live_places() {
     name=${places[$(($(git rev-list --count HEAD 2> /dev/null || echo 0) % ${#places[@]}))]}
     [ "$name" != raspi3b ] || [ -e "$cache/trees/boot" ] || { skip "the board raspi3b" "$cache/trees/boot"; return; }
     on_board "$name"
+}
+
+# processors and a board that QEMU has since version 10: that of Debian 13, where its root is here; at every third commit
+el3_live_newer() {
+    local took name root=${cache}/debian/user-trixie
+    can_boot || return
+    [ $(($(git rev-list --count HEAD 2> /dev/null || echo 0) % 3)) = 0 ] || return 0
+    [ -x "$root/usr/bin/qemu-system-aarch64" ] || { skip "boards of QEMU 10" "$root/usr/bin/qemu-system-aarch64"; return; }
+    qemu_of "$root" > "$work/qemu"
+    chmod +x "$work/qemu"
+    export QEMU=$work/qemu
+    for name in neoverse-v1 neoverse-n2; do live "$name" --cpu "$name" --gic 3 each vectors; done
+    for name in "${newer[@]}"; do on_board "$name"; done
+    unset QEMU
+}
+
+# a program of another root with its own libraries
+qemu_of() {
+    echo '#!/bin/sh'
+    echo "QEMU_MODULE_DIR=$1/usr/lib/x86_64-linux-gnu/qemu exec $1/lib64/ld-linux-x86-64.so.2" \
+        "--library-path $1/usr/lib/x86_64-linux-gnu $1/usr/bin/qemu-system-aarch64 -L $1/usr/share/qemu \"\$@\""
 }
 
 on_board() {

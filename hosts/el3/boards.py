@@ -226,7 +226,7 @@ def rows():
     for name in every():
         board = Board(name)
         gic = ", ".join(f"GICv{it}" for it in board.gics())
-        print(f"| `{name}` | {board.get('uart').split()[0]} | {gic or 'its own, no GIC'} | "
+        print(f"| `{name}` | {board.get('uart').split()[0]} | {gic or 'by its hooks'} | "
               f"{'on the last core' if board.has_core() else 'in the monitors, under the lock'} | {board.get('wakes')} | {lines_of(name)} |")
 
 
