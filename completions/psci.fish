@@ -17,7 +17,7 @@ complete -c psci -n __fish_use_subcommand -a --help
 complete -c psci -n __fish_use_subcommand -a --version
 complete -c psci -n '__fish_seen_subcommand_from replay' -F
 complete -c psci -n '__fish_seen_subcommand_from replay' -l help -d 'print this'
-complete -c psci -n '__fish_seen_subcommand_from replay' -l machine -r -F -d 'read calls in the words of the machine that FILE describes (docs/BOARDS.md)'
+complete -c psci -n '__fish_seen_subcommand_from replay' -l machine -r -F -d 'read calls in the words of the machine that FILE describes (docs/port/BOARDS.md)'
 complete -c psci -n '__fish_seen_subcommand_from show' -F
 complete -c psci -n '__fish_seen_subcommand_from show' -l help -d 'print this'
 complete -c psci -n '__fish_seen_subcommand_from show' -l json -d 'print JSON: an object for the board, and one for each event'
@@ -32,7 +32,7 @@ complete -c psci -n '__fish_seen_subcommand_from show' -l from -x -d 'begin with
 complete -c psci -n '__fish_seen_subcommand_from show' -l to -x -d 'end with event N'
 complete -c psci -n '__fish_seen_subcommand_from show' -l cores -x -d 'only these cores, as 0-3,8, the domains above them, and their events'
 complete -c psci -n '__fish_seen_subcommand_from show' -l clock -r -F -d 'the time of each event in nanoseconds, one line each'
-complete -c psci -n '__fish_seen_subcommand_from show' -l machine -r -F -d 'read calls in the words of the machine that FILE describes (docs/BOARDS.md)'
+complete -c psci -n '__fish_seen_subcommand_from show' -l machine -r -F -d 'read calls in the words of the machine that FILE describes (docs/port/BOARDS.md)'
 complete -c psci -n '__fish_seen_subcommand_from draw' -F
 complete -c psci -n '__fish_seen_subcommand_from draw' -l help -d 'print this'
 complete -c psci -n '__fish_seen_subcommand_from draw' -l page -d 'make a page, to zoom, step and search in runs of any size'
@@ -40,13 +40,13 @@ complete -c psci -n '__fish_seen_subcommand_from draw' -l from -x -d 'begin with
 complete -c psci -n '__fish_seen_subcommand_from draw' -l to -x -d 'end with event N'
 complete -c psci -n '__fish_seen_subcommand_from draw' -l cores -x -d 'only these cores, as 0-3,8, the domains above them, and their events'
 complete -c psci -n '__fish_seen_subcommand_from draw' -l clock -r -F -d 'the time of each event in nanoseconds, one line each'
-complete -c psci -n '__fish_seen_subcommand_from draw' -l machine -r -F -d 'read calls in the words of the machine that FILE describes (docs/BOARDS.md)'
+complete -c psci -n '__fish_seen_subcommand_from draw' -l machine -r -F -d 'read calls in the words of the machine that FILE describes (docs/port/BOARDS.md)'
 complete -c psci -n '__fish_seen_subcommand_from try' -F
 complete -c psci -n '__fish_seen_subcommand_from try' -l help -d 'print this'
 complete -c psci -n '__fish_seen_subcommand_from try' -l port -x -d 'the port of the page; any free one if left out'
 complete -c psci -n '__fish_seen_subcommand_from plain' -F
 complete -c psci -n '__fish_seen_subcommand_from plain' -l help -d 'print this'
-complete -c psci -n '__fish_seen_subcommand_from plain' -l machine -r -F -d 'read calls in the words of the machine that FILE describes (docs/BOARDS.md)'
+complete -c psci -n '__fish_seen_subcommand_from plain' -l machine -r -F -d 'read calls in the words of the machine that FILE describes (docs/port/BOARDS.md)'
 complete -c psci -n '__fish_seen_subcommand_from storm' -l help -d 'print this'
 complete -c psci -n '__fish_seen_subcommand_from storm' -l board -x -d 'the board; two clusters of two cores if left out'
 complete -c psci -n '__fish_seen_subcommand_from storm' -l seed -x -d 'the seed of all random choices, 0 to 18446744073709551615'
@@ -63,7 +63,7 @@ complete -c psci -n '__fish_seen_subcommand_from threads' -l keep -r -F -d 'writ
 complete -c psci -n '__fish_seen_subcommand_from compare' -F
 complete -c psci -n '__fish_seen_subcommand_from compare' -l help -d 'print this'
 complete -c psci -n '__fish_seen_subcommand_from compare' -l quick -d 'leave out the second model'
-complete -c psci -n '__fish_seen_subcommand_from compare' -l machine -r -F -d 'read calls in the words of the machine that FILE describes (docs/BOARDS.md)'
+complete -c psci -n '__fish_seen_subcommand_from compare' -l machine -r -F -d 'read calls in the words of the machine that FILE describes (docs/port/BOARDS.md)'
 complete -c psci -n '__fish_seen_subcommand_from compare' -l script -r -F -d 'keep the run as a script, and the port'\''s answers in FILE.out'
 complete -c psci -n '__fish_seen_subcommand_from compare' -l profile -r -F -d 'the profile of the firmware: its board, functions, power states'
 complete -c psci -n '__fish_seen_subcommand_from compare' -l declare -d 'print a profile'\''s line of functions, from the answers to PSCI_FEATURES'
@@ -98,7 +98,7 @@ complete -c psci -n '__fish_seen_subcommand_from sweep' -l model -d 'compare eac
 complete -c psci -n '__fish_seen_subcommand_from sweep' -l program -r -F -d 'another program than ours'
 complete -c psci -n '__fish_seen_subcommand_from sweep' -l on -x -d 'a machine of hosts/payload/run, as qemu'
 complete -c psci -n '__fish_seen_subcommand_from sweep' -l command -x -d 'what boots the payload; IMAGE stands for its file'
-complete -c psci -n '__fish_seen_subcommand_from sweep' -l profile -r -F -d 'the profile of the firmware (docs/JUDGE.md)'
+complete -c psci -n '__fish_seen_subcommand_from sweep' -l profile -r -F -d 'the profile of the firmware (docs/compare/JUDGE.md)'
 complete -c psci -n '__fish_seen_subcommand_from sweep' -l baseline -r -F -d 'known groups, which are no difference'
 complete -c psci -n '__fish_seen_subcommand_from sweep' -l down -d 'lists with power-downs, too'
 complete -c psci -n '__fish_seen_subcommand_from sweep' -l one-thread -d 'QEMU runs all cores in turn, with a clock that counts instructions'

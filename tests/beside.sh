@@ -1,4 +1,4 @@
-# Peers beside the library in one process (docs/BESIDE.md), sourced by ../test after tests/ffi.sh: our own
+# Peers beside the library in one process (docs/compare/BESIDE.md), sourced by ../test after tests/ffi.sh: our own
 # library behind the edge of a port, without a fault and with each that is planted; the library with a sanitizer
 # and by the kit's other compiler; what it reads, and what machines call their things; and of a peer whose sources
 # are here the stored inputs and each story of its report.

@@ -18,10 +18,10 @@ fresh_copy() {
         mkdir -p "$1/${name%/*}"
         cp -r "$name" "$1/${name%/*}"
     done
-    mkdir -p "$1/docs" "$1/tests"
+    mkdir -p "$1/docs/port" "$1/tests"
     cp psci crates.txt HANDLES "$1"
     cp -r tools "$1"
-    cp docs/FORMATS.md "$1/docs"
+    cp docs/port/FORMATS.md "$1/docs/port"
     cp -r tests/texts "$1/tests"
     git init -q "$1"
 }

@@ -1,4 +1,4 @@
-# Records of the calls of other firmware (docs/JUDGE.md), sourced by ../test after tests/program.sh: the
+# Records of the calls of other firmware (docs/compare/JUDGE.md), sourced by ../test after tests/program.sh: the
 # stored ones, those that the second model makes, and live ones where QEMU is here.
 
 payload=hosts/payload

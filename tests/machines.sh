@@ -1,4 +1,4 @@
-# Tests of machines that have words of their own (docs/BOARDS.md), beside the built program, sourced by ../test:
+# Tests of machines that have words of their own (docs/port/BOARDS.md), beside the built program, sourced by ../test:
 # their texts and calls, stored ones of twelve boards, records, and descriptions from device trees.
 
 # each fault of a text, calls as they are made and answered, wrong words

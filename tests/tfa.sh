@@ -93,7 +93,7 @@ tfa_guide() {
         sed -nE 's/^(Function : |plat_psci_ops\.)(\w+)\(\).*/\2/p' > "$work/hooks"
     [ "$(wc -l < "$work/hooks")" = "$2" ] || fail "$guide has $(wc -l < "$work/hooks") hooks, and not $2"
     while read -r name; do
-        if grep -q "^|.*\`$name\`.*| \(kept\|replaced\|lost\)" docs/TFA.md; then pass; else fail "docs/TFA.md: $name"; fi
+        if grep -q "^|.*\`$name\`.*| \(kept\|replaced\|lost\)" docs/port/TFA.md; then pass; else fail "docs/port/TFA.md: $name"; fi
     done < "$work/hooks"
 }
 
@@ -238,12 +238,12 @@ tfa_figures() {
     [ "$(aarch64-linux-gnu-gcc -dumpfullversion)" = 12.2.0 ] || { skip "$what" "aarch64-linux-gnu-gcc 12.2"; return; }
     say "counting what calls take inside TF-A, some minutes"
     if hosts/tfa/figures --check --told "$work/counted" > "$work/out" 2>&1; then pass; else
-        fail "the figures of docs/TFA.md; hosts/tfa/figures --write writes them"
+        fail "the figures of docs/port/TFA.md; hosts/tfa/figures --write writes them"
         head -n 20 "$work/out"
     fi
     [ -e "$work/counted/waits-trixie" ] || return
     tfa_count parts 's/^ours: 0 call VERSION: [0-9]*/ours: 0 call VERSION: 999/' \
-        'PSCI_VERSION, with the firmware inside: docs/TFA.md says [0-9,]*, it is 999'
+        'PSCI_VERSION, with the firmware inside: docs/port/TFA.md says [0-9,]*, it is 999'
     tfa_count measure '/^ours: held: CPU_OFF, firmware/d' "the firmware's, CPU_OFF, with the firmware inside: .*, it is nothing"
     tfa_count waits 's/CPU_ON: \(.*\); ours \([0-9,]*\) times: [0-9,]*,/CPU_ON: \1; ours \2 times: 9,999,/' 'CPU_ON, with .* it is 9,999'
     tfa_count sizes 's/^stock: code and constants: .*/stock: code and constants: 4096/' 'code and constants, TF-A 2.12: .* it is 4,096'

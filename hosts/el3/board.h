@@ -1,6 +1,6 @@
 /* The machine as the library is told of it: its board, and what it calls its cores, power states and
  * functions. All of it is listed in table.h, which `machine table` writes of a machine's text
- * (docs/FORMATS.md). Nothing is reckoned here: which core a register names is the library's to say. */
+ * (docs/port/FORMATS.md). Nothing is reckoned here: which core a register names is the library's to say. */
 #ifndef BOARD_H
 #define BOARD_H
 

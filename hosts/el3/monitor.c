@@ -1,4 +1,4 @@
-/* The monitor: what EL3 does with a call, and with the bell. docs/PORTING.md is its contract. */
+/* The monitor: what EL3 does with a call, and with the bell. docs/port/PORTING.md is its contract. */
 #include "console.h"
 #include "gic.h"
 #include "link.h"

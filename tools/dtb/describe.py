@@ -1,4 +1,4 @@
-"""The text of a machine (docs/FORMATS.md) from the facts of its device tree, with what these do not say.
+"""The text of a machine (docs/port/FORMATS.md) from the facts of its device tree, with what these do not say.
 
 The tree of power domains is that of the PSCI power domains where there are some, else that of the
 affinity fields; a cpu-map, which is the scheduler's, is not looked at. A power state word is taken as

@@ -1,4 +1,4 @@
-"""Reads a line of a script by the grammar of docs/FORMATS.md."""
+"""Reads a line of a script by the grammar of docs/port/FORMATS.md."""
 import re
 
 from .reader import Reader, Wrong, end_of, near, strange

@@ -1,6 +1,6 @@
 """The text of a machine: its board, and what the machine calls its cores, states and functions.
 
-docs/FORMATS.md has its lines. What is read is what psci_platform calls a description, and beside it
+docs/port/FORMATS.md has its lines. What is read is what psci_platform calls a description, and beside it
 where each number stands, so that a fault can be shown.
 """
 import re
@@ -211,5 +211,5 @@ def read(text):
 
 
 def words_of(number):
-    """The words of a fault, as docs/FORMATS.md has them."""
+    """The words of a fault, as docs/port/FORMATS.md has them."""
     return re.sub("`", "", faults.words_of("machine")[number].partition(": ")[2])

@@ -1,7 +1,7 @@
 """Scripts by name: calls whose registers are names, made plain, and plain calls said by name.
 
 In a line `call CORE NAME ..` the name of a function stands for its word, and arguments may be names, too, as
-docs/FORMATS.md has them, in capitals or small letters.
+docs/port/FORMATS.md has them, in capitals or small letters.
 """
 import re
 from collections import namedtuple

@@ -1,7 +1,7 @@
 """The fault of a script or a board in words: which column, and what was expected there.
 
 The program's own line names the fault by its number. Here the line is read again, by the grammar of
-docs/FORMATS.md, up to the first byte that does not fit it; a call by name as it was written.
+docs/port/FORMATS.md, up to the first byte that does not fit it; a call by name as it was written.
 """
 import re
 

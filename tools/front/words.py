@@ -201,7 +201,7 @@ def script(words, text="the script; standard input if left out or -"):
 
 def machine(words):
     words.add_argument("--machine", metavar="FILE",
-                       help="read calls in the words of the machine that FILE describes (docs/BOARDS.md)")
+                       help="read calls in the words of the machine that FILE describes (docs/port/BOARDS.md)")
 
 
 def replay():
@@ -211,7 +211,7 @@ def replay():
                   "Example:\n"
                   f"  printf '%s\\n' 'board {BOARD}' \\\n"
                   "      'enter 0' 'call 0 PSCI_VERSION' | ./psci replay\nwrites\n"
-                  "  1 enter 0x40000000 0x0\n  2 return 65537\n\ndocs/FORMATS.md has every line and name.\n")
+                  "  1 enter 0x40000000 0x0\n  2 return 65537\n\ndocs/port/FORMATS.md has every line and name.\n")
     machine(words)
     script(words)
     return words
@@ -299,16 +299,16 @@ def plain():
     words = Words("plain", "Turns the calls by name of a script into calls by register, line for line.",
                   "[--machine FILE] [FILE]",
                   "On a board (2 2) it turns `call 0 CPU_ON 3 0x40001000 0x7` into `call 0 0xC4000003 0x101 0x40001000 0x7`.\n"
-                  "docs/FORMATS.md has every name.\n")
+                  "docs/port/FORMATS.md has every name.\n")
     machine(words)
     script(words)
     return words
 
 
 def compare():
-    words = Words("compare", "Compares the record of a port's run (docs/RECORD.md) with the program.",
+    words = Words("compare", "Compares the record of a port's run (docs/compare/RECORD.md) with the program.",
                   "[--quick] [--machine FILE] [--script FILE] RECORD",
-                  "Judges a record of any firmware's calls, which has a line 'psci: head' (docs/JUDGE.md):\n"
+                  "Judges a record of any firmware's calls, which has a line 'psci: head' (docs/compare/JUDGE.md):\n"
                   "see `psci compare --declare --help`.\n")
     words.flag("--quick", help="leave out the second model")
     machine(words)

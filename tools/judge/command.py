@@ -21,7 +21,7 @@ def parser():
     """What is taken."""
     found = Words("compare", "Judges records of the calls of any PSCI firmware.", "--profile FILE [OPTIONS] RECORD..", ENDING)
     add = found.add_argument
-    add("records", metavar="RECORD", nargs="+", help="a record of calls (docs/JUDGE.md)")
+    add("records", metavar="RECORD", nargs="+", help="a record of calls (docs/compare/JUDGE.md)")
     add("--profile", metavar="FILE", help="the profile of the firmware: its board, functions, power states")
     found.flag("--declare", help="print a profile's line of functions, from the answers to PSCI_FEATURES")
     found.flag("--tallies", help="print how often each function had each answer, and in which lists")
@@ -95,7 +95,7 @@ def main(words):
             print("\n".join(tallies.lines(*zip(*lives_of))))
             return 0
         if not words.profile:
-            end(COMMAND, "a record of calls needs --profile FILE (docs/JUDGE.md)")
+            end(COMMAND, "a record of calls needs --profile FILE (docs/compare/JUDGE.md)")
         return judge(words, lives_of, profile.read(words.profile))
     except sentence.Nothing as why:
         end(STATUS[UNDECIDED], why)

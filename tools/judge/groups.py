@@ -1,6 +1,6 @@
 """Differences of one kind: function, their answer, ours, and what it is.
 
-What the standard says is told in the words of docs/SUPPORT.md, by the name of the function's
+What the standard says is told in the words of docs/port/SUPPORT.md, by the name of the function's
 section (DEN0022D; the calling convention is DEN0028), and not by a number.
 """
 from collections import namedtuple

@@ -1,4 +1,4 @@
-"""The lines of a record of calls, and whether all of them are there: each once, by one clock (docs/JUDGE.md)."""
+"""The lines of a record of calls, and whether all of them are there: each once, by one clock (docs/compare/JUDGE.md)."""
 import re
 import zlib
 from collections import namedtuple

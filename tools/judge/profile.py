@@ -1,4 +1,4 @@
-"""What a firmware declares of itself: the standard leaves these to it (docs/JUDGE.md)."""
+"""What a firmware declares of itself: the standard leaves these to it (docs/compare/JUDGE.md)."""
 import os
 
 import firmware as fw

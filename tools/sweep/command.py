@@ -28,7 +28,7 @@ The same command continues an interrupted sweep: finished seeds are kept in its 
   ./psci sweep report out/night out/another
 """
 ENDING = """Status 0: all seeds are done and none differs; 6: a seed differs; 7: seeds are left and none differs, or nothing
-happened in them. See docs/SWEEP.md.
+happened in them. See docs/compare/SWEEP.md.
 """
 
 

@@ -1,6 +1,6 @@
 """The clock of a run: when each event happened, in nanoseconds, an event a line.
 
-docs/FORMATS.md has the form. The script of the run stays as it is, and the clock lies beside it.
+docs/port/FORMATS.md has the form. The script of the run stays as it is, and the clock lies beside it.
 """
 import re
 

@@ -1,9 +1,9 @@
-"""The faults of scripts and boards in words, which are those of docs/FORMATS.md."""
+"""The faults of scripts and boards in words, which are those of docs/port/FORMATS.md."""
 import os
 import re
 
 TOP = os.path.dirname(os.path.dirname(os.path.dirname(os.path.abspath(__file__))))
-# what the tables of faults in docs/FORMATS.md begin with
+# what the tables of faults in docs/port/FORMATS.md begin with
 TABLES = {"board": "| Number | Fault | Where |", "script": "| Number | Script fault | Where |",
           "machine": "| Number | Machine fault | Where |"}
 
@@ -13,7 +13,7 @@ SCRIPT_FAULT, NO_MEMORY = 3, 5
 
 def words_of(kind):
     """The faults of a table, by their numbers: the name, and where it comes."""
-    with open(f"{TOP}/docs/FORMATS.md", encoding="utf-8") as file:
+    with open(f"{TOP}/docs/port/FORMATS.md", encoding="utf-8") as file:
         rows = file.read().partition(TABLES[kind])[2].partition("\n\n")[0]
     found = re.findall(r"^\| (\d+) \| (\w+) \| (.*) \|$", rows, re.M)
     return {int(number): f"{name}: {where}" for number, name, where in found}

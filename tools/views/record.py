@@ -1,4 +1,4 @@
-"""The record of a port's run (docs/RECORD.md): its script, and what the port answered to each event."""
+"""The record of a port's run (docs/compare/RECORD.md): its script, and what the port answered to each event."""
 import re
 from collections import namedtuple
 from functools import cached_property

@@ -1,4 +1,4 @@
-"""Lists of events that are drawn blindly, for a peer beside the library in one process (docs/BESIDE.md)."""
+"""Lists of events that are drawn blindly, for a peer beside the library in one process (docs/compare/BESIDE.md)."""
 import os
 import re
 import shutil

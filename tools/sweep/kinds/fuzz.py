@@ -1,4 +1,4 @@
-"""A fuzz target that libFuzzer leads by its branches: from each seed, over the same inputs (docs/BESIDE.md)."""
+"""A fuzz target that libFuzzer leads by its branches: from each seed, over the same inputs (docs/compare/BESIDE.md)."""
 import glob
 import os
 import re

@@ -36,7 +36,7 @@ class Lists:
     def options(add):
         add("--on", metavar="MACHINE", help="a machine of hosts/payload/run, as qemu")
         add("--command", metavar="TEXT", help="what boots the payload; IMAGE stands for its file")
-        add("--profile", metavar="FILE", help="the profile of the firmware (docs/JUDGE.md)")
+        add("--profile", metavar="FILE", help="the profile of the firmware (docs/compare/JUDGE.md)")
         add("--baseline", metavar="FILE", help="known groups, which are no difference")
         add("--down", action="store_true", help="lists with power-downs, too")
         add("--one-thread", action="store_true", help="QEMU runs all cores in turn, with a clock that counts instructions")
@@ -47,7 +47,7 @@ class Lists:
         if (words.on is None) == (words.command is None):
             raise Wrong("lists take --on MACHINE or --command TEXT")
         if words.profile is None:
-            raise Wrong("lists take --profile FILE (docs/JUDGE.md)")
+            raise Wrong("lists take --profile FILE (docs/compare/JUDGE.md)")
         groups, profile, _, report, _, _ = judge()
         try:
             profile.read(words.profile)
